@@ -1,0 +1,6 @@
+//! The text of a trace, as a whole.
+#![tactic(auto)]
+
+mod trace;
+
+pub use trace::{CellList, CellRun, Own, OwnList, ScriptList, Trace, TraceFault, TurnList, TurnRun};

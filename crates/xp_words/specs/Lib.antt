@@ -1,0 +1,7 @@
+pub mod ContextWords
+pub mod Entries
+pub mod KindWords
+pub mod Machine
+pub mod PageTypes
+pub mod Places
+pub mod RefWords

@@ -1,0 +1,91 @@
+ghost use Rattle.std.specs.Prelude.{◌≡◌};
+ghost use Rattle.xp_words.specs.Entries.{is_bit, frame_of, is_reserved, demand_of, fixed};
+
+use crate::kind::PageType;
+
+/// What an entry asks of the frame that it names.
+#[derive(Clone, Copy, Debug, PartialEq, Eq)]
+pub enum Demand {
+    Nothing,
+    /// A present entry with a reserved bit set.
+    Bad,
+    /// A general reference alone.
+    Read { frame: u64 },
+    /// A general reference and one type count.
+    Typed { frame: u64, kind: PageType },
+}
+
+/// An entry of a page table, in the processor's layout.
+#[derive(Clone, Copy, Debug, PartialEq, Eq)]
+pub struct Entry {
+    pub word: u64,
+}
+
+impl Entry {
+    pub fn present(&self) -> bool
+        ensures { result ≡ is_bit 0 self.now.word }
+    {
+        self.word & 1 == 1
+    }
+
+    pub fn writable(&self) -> bool
+        ensures { result ≡ is_bit 1 self.now.word }
+    {
+        (self.word >> 1) & 1 == 1
+    }
+
+    /// The frame number, bits 12 to 51. It may be out of the machine's range.
+    pub fn frame(&self) -> u64
+        ensures { result ≡ frame_of self.now.word }
+    {
+        (self.word >> 12) & 0xff_ffff_ffff
+    }
+
+    /// What it asks as an entry of a table of that type, L1 to L4.
+    #[tactic(auto, unfolding(crate::specs::Entries::demand_of), using(std::proofs::lemmas::Bool::Decides::nat_tests))]
+    pub fn demand(&self, table: PageType) -> Demand
+        ensures { result ≡ demand_of table self.now.word }
+    {
+        let lowest = matches!(table, PageType::L1);
+        if !self.present() {
+            Demand::Nothing
+        } else if self.reserved(lowest) {
+            Demand::Bad
+        } else if lowest && !self.writable() {
+            Demand::Read { frame: self.frame() }
+        } else {
+            let kind = match table {
+                PageType::L4 => PageType::L3,
+                PageType::L3 => PageType::L2,
+                PageType::L2 => PageType::L1,
+                _ => PageType::Writable,
+            };
+            Demand::Typed { frame: self.frame(), kind }
+        }
+    }
+
+    fn reserved(&self, lowest: bool) -> bool
+        ensures { result ≡ is_reserved lowest self.now.word }
+    {
+        (self.word >> 3) & 3 != 0
+            || (self.word >> 7) & 1 == 1
+            || (!lowest && (self.word >> 8) & 1 == 1)
+            || (self.word >> 52) & 0x7ff != 0
+    }
+}
+
+/// The fixed form of a descriptor, as it may stand in a GDT or an LDT: None where it may not stand there.
+#[tactic(auto, unfolding(crate::specs::Entries::fixed), using(std::proofs::lemmas::Bool::Decides::nat_tests))]
+pub fn fix(word: u64) -> Option<u64>
+    ensures { result ≡ fixed word }
+{
+    if (word >> 47) & 1 == 0 {
+        Some(word)
+    } else if (word >> 44) & 1 == 1 {
+        Some(word + ((3 - ((word >> 45) & 3)) << 45))
+    } else if (word >> 40) & 31 == 0 {
+        Some(word)
+    } else {
+        None
+    }
+}

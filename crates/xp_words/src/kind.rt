@@ -1,0 +1,164 @@
+ghost use Rattle.std.specs.Prelude.{◌≡◌, IsTrue, IfSome};
+ghost use Rattle.xp_words.specs.KindWords.{is_kind, kind_read, kind_write, has_form, is_live, is_partial, is_work, is_dead, is_marked_number};
+ghost use Rattle.xp_words.specs.PageTypes.{is_none, is_table, type_number};
+
+/// The type of a frame (`PGT_` of Xen's `mm.h`). A frame has one exclusive type at a time.
+#[derive(Clone, Copy, Debug, PartialEq, Eq)]
+pub enum PageType {
+    None,
+    L1,
+    L2,
+    L3,
+    L4,
+    Desc,
+    Writable,
+}
+
+impl PageType {
+    pub fn is_none(self) -> bool
+        ensures { result ≡ is_none self }
+    {
+        matches!(self, PageType::None)
+    }
+
+    /// L1 to L4.
+    pub fn is_table(self) -> bool
+        ensures { result ≡ is_table self }
+    {
+        matches!(self, PageType::L1 | PageType::L2 | PageType::L3 | PageType::L4)
+    }
+
+    /// The number that a kind word has for it.
+    pub fn number(self) -> u64
+        ensures { result ≡ type_number self }
+    {
+        match self {
+            PageType::None => 0,
+            PageType::L1 => 1,
+            PageType::L2 => 2,
+            PageType::L3 => 3,
+            PageType::L4 => 4,
+            PageType::Desc => 5,
+            PageType::Writable => 7,
+        }
+    }
+}
+
+/// The second word of a frame: its type, its form and marks. `number` is the type count where the frame
+/// is validated, else a stamp.
+#[derive(Clone, Copy, Debug, PartialEq, Eq)]
+pub struct KindWord {
+    pub kind: PageType,
+    pub pinned: bool,
+    pub validated: bool,
+    pub partial: bool,
+    pub locked: bool,
+    pub kept: bool,
+    pub unflushed: bool,
+    pub progress: u16,
+    pub number: u64,
+}
+
+impl KindWord {
+    #[tactic(auto, unfolding(crate::specs::KindWords::kind_write), using(std::proofs::lemmas::Bool::Decides::nat_tests))]
+    pub fn write(&self) -> u64
+        requires { IsTrue (is_kind self.now) }
+        ensures { result ≡ kind_write self.now }
+    {
+        self.number
+            + ((self.progress as u64) << 36)
+            + ((self.unflushed as u64) << 46)
+            + ((self.kept as u64) << 47)
+            + ((self.locked as u64) << 48)
+            + ((self.partial as u64) << 49)
+            + ((self.validated as u64) << 50)
+            + ((self.pinned as u64) << 51)
+            + (self.kind.number() << 52)
+    }
+
+    /// None exactly where the word is no spelling of a kind word.
+    #[tactic(auto, unfolding(crate::specs::KindWords::kind_read, crate::specs::KindWords::kind_fields), using(std::proofs::lemmas::Bool::Decides::nat_tests))]
+    pub fn read(word: u64) -> Option<Self>
+        ensures { result ≡ kind_read word }
+    {
+        let kind = match word >> 52 {
+            0 => PageType::None,
+            1 => PageType::L1,
+            2 => PageType::L2,
+            3 => PageType::L3,
+            4 => PageType::L4,
+            5 => PageType::Desc,
+            7 => PageType::Writable,
+            _ => return None,
+        };
+        let fields = KindWord {
+            kind,
+            pinned: (word >> 51) % 2 == 1,
+            validated: (word >> 50) % 2 == 1,
+            partial: (word >> 49) % 2 == 1,
+            locked: (word >> 48) % 2 == 1,
+            kept: (word >> 47) % 2 == 1,
+            unflushed: (word >> 46) % 2 == 1,
+            progress: ((word >> 36) % 1024) as u16,
+            number: word % (1 << 36),
+        };
+        if fields.has_form() { Some(fields) } else { None }
+    }
+
+    #[tactic(auto, unfolding(crate::specs::KindWords::has_form))]
+    fn has_form(&self) -> bool
+        ensures { result ≡ has_form self.now }
+    {
+        if self.validated {
+            self.is_live()
+        } else if self.partial {
+            self.is_partial()
+        } else if self.locked {
+            self.is_work()
+        } else {
+            self.is_dead()
+        }
+    }
+
+    fn is_live(&self) -> bool
+        ensures { result ≡ is_live self.now }
+    {
+        !self.partial
+            && !self.kept
+            && !self.unflushed
+            && self.progress == 0
+            && !self.kind.is_none()
+            && self.number < 1 << 26
+            && (!(self.pinned || self.locked) || (self.kind.is_table() && 0 < self.number))
+    }
+
+    fn is_marked_number(&self) -> bool
+        ensures { result ≡ is_marked_number self.now }
+    {
+        self.unflushed || self.number == 0
+    }
+
+    fn is_partial(&self) -> bool
+        ensures { result ≡ is_partial self.now }
+    {
+        !self.locked
+            && !self.pinned
+            && !self.kind.is_none()
+            && self.progress < 513
+            && self.is_marked_number()
+            && (if self.unflushed || !self.kind.is_table() { self.progress == 0 && self.unflushed } else { true })
+            && (!matches!(self.kind, PageType::Desc) || self.kept)
+    }
+
+    fn is_work(&self) -> bool
+        ensures { result ≡ is_work self.now }
+    {
+        !self.kept && !self.pinned && self.progress == 0 && !self.kind.is_none() && self.is_marked_number()
+    }
+
+    fn is_dead(&self) -> bool
+        ensures { result ≡ is_dead self.now }
+    {
+        !self.kept && !self.pinned && self.progress == 0 && !(self.unflushed && self.kind.is_none())
+    }
+}

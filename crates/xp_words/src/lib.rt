@@ -1,0 +1,19 @@
+//! The words of a simulated Xen x86-64 paravirtual machine: how each is spelled, where it stands, and
+//! the operations, replies and log lines that speak of them.
+#![tactic(auto)]
+
+mod context;
+mod entry;
+mod kind;
+mod layout;
+mod ops;
+mod refs;
+mod reply;
+
+pub use context::{ContextWord, LdtBase};
+pub use entry::{Demand, Entry, fix};
+pub use kind::{KindWord, PageType};
+pub use layout::{Domains, Layout, Limits, Masks};
+pub use ops::{Call, CallList, ExtList, ExtOp, Numbers, Op, Pair, Pairs, Script};
+pub use refs::RefWord;
+pub use reply::{Log, LogLine, Pause, Refusal, Reply, Stop};

@@ -1,0 +1,348 @@
+ghost use Rattle.std.specs.Prelude.{◌≡◌, ◌<◌, ◌^◌, ◌++◌, ◌∷◌, ◌↔◌, [], length, IsTrue, OnOk, OnErr};
+
+use std::alloc::AllocError;
+use std::marker::Model;
+
+/// One element of `mmu_update` (`struct mmu_update` of `xen.h`): the low two bits of `ptr` are the command.
+#[derive(Clone, Copy, Debug, PartialEq, Eq)]
+pub struct Pair {
+    pub ptr: u64,
+    pub val: u64,
+}
+
+/// One element of `mmuext_op` (`struct mmuext_op` of `xen.h`): a command and its two arguments.
+#[derive(Clone, Copy, Debug, PartialEq, Eq)]
+pub struct ExtOp {
+    pub command: u64,
+    pub first: u64,
+    pub second: u64,
+}
+
+/// The pairs of one `mmu_update`, in order. Contracts see the list of its items.
+#[derive(Drop)]
+pub struct Pairs {
+    items: Vec<Pair>,
+}
+
+impl Model for Pairs {
+    ghost use Rattle.std.specs.Prelude.{List};
+    ghost use Rattle.xp_words.specs.declared.ops.Pair.{Pair};
+
+    ghost Value = { List Pair };
+
+    ghost view = { λ s. s.items.items };
+}
+
+impl Pairs {
+    pub fn new(items: Vec<Pair>) -> Pairs
+        ensures { result ≡ items.items }
+    {
+        Pairs { items }
+    }
+
+    pub fn as_slice(&self) -> &[Pair]
+        ensures { result.now ≡ self.now }
+    {
+        &self.items
+    }
+
+    pub fn len(&self) -> usize
+        ensures value { result ≡ length self.now }
+        ensures room { result < 2 ^ 63 }
+    {
+        self.items.len()
+    }
+
+    pub fn is_empty(&self) -> bool
+        ensures { IsTrue result ↔ (self.now ≡ []) }
+    {
+        self.items.is_empty()
+    }
+
+    /// One more item at the end. After want of memory the list is as it was.
+    pub fn push(&mut self, item: Pair) -> Result<(), AllocError>
+        ensures ok { OnOk result (self.new ≡ self.old ++ item ∷ []) }
+        ensures err { OnErr result (self.new ≡ self.old) }
+    {
+        self.items.push(item)?;
+        Ok(())
+    }
+
+    pub fn into_items(self) -> Vec<Pair>
+        ensures { result.items ≡ self }
+    {
+        self.items
+    }
+}
+
+/// The elements of one `mmuext_op`, in order. Contracts see the list of its items.
+#[derive(Drop)]
+pub struct ExtList {
+    items: Vec<ExtOp>,
+}
+
+impl Model for ExtList {
+    ghost use Rattle.std.specs.Prelude.{List};
+    ghost use Rattle.xp_words.specs.declared.ops.ExtOp.{ExtOp};
+
+    ghost Value = { List ExtOp };
+
+    ghost view = { λ s. s.items.items };
+}
+
+impl ExtList {
+    pub fn new(items: Vec<ExtOp>) -> ExtList
+        ensures { result ≡ items.items }
+    {
+        ExtList { items }
+    }
+
+    pub fn as_slice(&self) -> &[ExtOp]
+        ensures { result.now ≡ self.now }
+    {
+        &self.items
+    }
+
+    pub fn len(&self) -> usize
+        ensures value { result ≡ length self.now }
+        ensures room { result < 2 ^ 63 }
+    {
+        self.items.len()
+    }
+
+    pub fn is_empty(&self) -> bool
+        ensures { IsTrue result ↔ (self.now ≡ []) }
+    {
+        self.items.is_empty()
+    }
+
+    /// One more item at the end. After want of memory the list is as it was.
+    pub fn push(&mut self, item: ExtOp) -> Result<(), AllocError>
+        ensures ok { OnOk result (self.new ≡ self.old ++ item ∷ []) }
+        ensures err { OnErr result (self.new ≡ self.old) }
+    {
+        self.items.push(item)?;
+        Ok(())
+    }
+
+    pub fn into_items(self) -> Vec<ExtOp>
+        ensures { result.items ≡ self }
+    {
+        self.items
+    }
+}
+
+/// Frames of a GDT, extents of a `memory_op`, or what else is a plain list of numbers. Contracts see the list of its items.
+#[derive(Drop)]
+pub struct Numbers {
+    items: Vec<u64>,
+}
+
+impl Model for Numbers {
+    ghost use Rattle.std.specs.Prelude.{ℕ, List};
+
+    ghost Value = { List ℕ };
+
+    ghost view = { λ s. s.items.items };
+}
+
+impl Numbers {
+    pub fn new(items: Vec<u64>) -> Numbers
+        ensures { result ≡ items.items }
+    {
+        Numbers { items }
+    }
+
+    pub fn as_slice(&self) -> &[u64]
+        ensures { result.now ≡ self.now }
+    {
+        &self.items
+    }
+
+    pub fn len(&self) -> usize
+        ensures value { result ≡ length self.now }
+        ensures room { result < 2 ^ 63 }
+    {
+        self.items.len()
+    }
+
+    pub fn is_empty(&self) -> bool
+        ensures { IsTrue result ↔ (self.now ≡ []) }
+    {
+        self.items.is_empty()
+    }
+
+    /// One more item at the end. After want of memory the list is as it was.
+    pub fn push(&mut self, item: u64) -> Result<(), AllocError>
+        ensures ok { OnOk result (self.new ≡ self.old ++ item ∷ []) }
+        ensures err { OnErr result (self.new ≡ self.old) }
+    {
+        self.items.push(item)?;
+        Ok(())
+    }
+
+    pub fn into_items(self) -> Vec<u64>
+        ensures { result.items ≡ self }
+    {
+        self.items
+    }
+}
+
+/// A hypercall that may also be a call of a `multicall`.
+#[derive(Drop)]
+pub enum Call {
+    /// `mmu_update`. Bits 0 to 15 of `foreign` name the owner of mapped frames, bits 16 to 31 are 0 or
+    /// one more than the owner of the tables.
+    Mmu { foreign: u64, pairs: Pairs },
+    /// `mmuext_op`.
+    Ext { list: ExtList },
+    /// `update_va_mapping`.
+    Va { va: u64, val: u64, flags: u64 },
+    /// `update_va_mapping_otherdomain`.
+    VaOther { va: u64, val: u64, flags: u64, domain: u64 },
+    /// `set_gdt`, with the number of entries.
+    Gdt { entries: u64, frames: Numbers },
+    /// `update_descriptor`.
+    Desc { address: u64, word: u64 },
+    /// `memory_op`: the low six bits of `command` are the command, the bits above are the first extent
+    /// that is still to be done.
+    Mem { command: u64, order: u64, items: Numbers },
+}
+
+/// The calls of one `multicall`, in order. Contracts see the list of its items.
+#[derive(Drop)]
+pub struct CallList {
+    items: Vec<Call>,
+}
+
+impl Model for CallList {
+    ghost use Rattle.std.specs.Prelude.{List};
+    ghost use Rattle.xp_words.specs.declared.ops.Call.{Call};
+
+    ghost Value = { List Call };
+
+    ghost view = { λ s. s.items.items };
+}
+
+impl CallList {
+    pub fn new(items: Vec<Call>) -> CallList
+        ensures { result ≡ items.items }
+    {
+        CallList { items }
+    }
+
+    pub fn as_slice(&self) -> &[Call]
+        ensures { result.now ≡ self.now }
+    {
+        &self.items
+    }
+
+    pub fn len(&self) -> usize
+        ensures value { result ≡ length self.now }
+        ensures room { result < 2 ^ 63 }
+    {
+        self.items.len()
+    }
+
+    pub fn is_empty(&self) -> bool
+        ensures { IsTrue result ↔ (self.now ≡ []) }
+    {
+        self.items.is_empty()
+    }
+
+    /// One more item at the end. After want of memory the list is as it was.
+    pub fn push(&mut self, item: Call) -> Result<(), AllocError>
+        ensures ok { OnOk result (self.new ≡ self.old ++ item ∷ []) }
+        ensures err { OnErr result (self.new ≡ self.old) }
+    {
+        self.items.push(item)?;
+        Ok(())
+    }
+
+    pub fn into_items(self) -> Vec<Call>
+        ensures { result.items ≡ self }
+    {
+        self.items
+    }
+}
+
+/// One operation of a vCPU's script: a hypercall, an access of the guest, or a tool's command.
+#[derive(Drop)]
+pub enum Op {
+    One { call: Call },
+    /// `multicall`, of one call or more.
+    Multi { calls: CallList },
+    /// The guest's load of 8 bytes by its kernel or user base.
+    Read { user: bool, va: u64 },
+    /// The guest's store of 8 bytes.
+    Write { user: bool, va: u64, val: u64 },
+    /// The guest's first touch of that page of its LDT.
+    TouchLdt { page: u64 },
+    Destroy { domain: u64 },
+    /// Gives domain `to` the privilege over domain `over`; a trace of version 2 alone.
+    Grant { to: u64, over: u64 },
+    /// Takes that privilege away; a trace of version 2 alone.
+    Revoke { to: u64, over: u64 },
+    /// A guest's store to its own L1 table through a read-only mapping; a trace of version 2 alone.
+    Ptwr { user: bool, va: u64, val: u64 },
+    /// `memory_op` command 11 (`XENMEM_exchange`), from extents of one order to extents of another; a
+    /// trace of version 2 alone.
+    Xchg { first: u64, from: u64, to: u64, items: Numbers },
+}
+
+/// The operations of one vCPU, in order. Contracts see the list of its items.
+#[derive(Drop)]
+pub struct Script {
+    items: Vec<Op>,
+}
+
+impl Model for Script {
+    ghost use Rattle.std.specs.Prelude.{List};
+    ghost use Rattle.xp_words.specs.declared.ops.Op.{Op};
+
+    ghost Value = { List Op };
+
+    ghost view = { λ s. s.items.items };
+}
+
+impl Script {
+    pub fn new(items: Vec<Op>) -> Script
+        ensures { result ≡ items.items }
+    {
+        Script { items }
+    }
+
+    pub fn as_slice(&self) -> &[Op]
+        ensures { result.now ≡ self.now }
+    {
+        &self.items
+    }
+
+    pub fn len(&self) -> usize
+        ensures value { result ≡ length self.now }
+        ensures room { result < 2 ^ 63 }
+    {
+        self.items.len()
+    }
+
+    pub fn is_empty(&self) -> bool
+        ensures { IsTrue result ↔ (self.now ≡ []) }
+    {
+        self.items.is_empty()
+    }
+
+    /// One more item at the end. After want of memory the list is as it was.
+    pub fn push(&mut self, item: Op) -> Result<(), AllocError>
+        ensures ok { OnOk result (self.new ≡ self.old ++ item ∷ []) }
+        ensures err { OnErr result (self.new ≡ self.old) }
+    {
+        self.items.push(item)?;
+        Ok(())
+    }
+
+    pub fn into_items(self) -> Vec<Op>
+        ensures { result.items ≡ self }
+    {
+        self.items
+    }
+}

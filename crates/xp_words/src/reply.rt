@@ -1,0 +1,130 @@
+ghost use Rattle.std.specs.Prelude.{◌≡◌, ◌<◌, ◌^◌, ◌++◌, ◌∷◌, ◌↔◌, [], length, IsTrue, OnOk, OnErr};
+
+use crate::kind::PageType;
+use std::alloc::AllocError;
+use std::marker::Model;
+
+/// Why an operation or an element of one was refused. Each carries what was found.
+#[derive(Clone, Copy, Debug, PartialEq, Eq)]
+pub enum Refusal {
+    NoFrame { frame: u64 },
+    WrongOwner { frame: u32, found: u64 },
+    OtherType { frame: u32, want: PageType, found: u64 },
+    Reserved { frame: u32, index: u16, entry: u64 },
+    CountFull { frame: u32, found: u64 },
+    AlreadyPinned { found: u64 },
+    NotPinned { found: u64 },
+    Slot { index: u16 },
+    NotMapped { level: u8, entry: u64 },
+    ReadOnly { entry: u64 },
+    NonCanonical,
+    NoPrivilege { caller: u16, domain: u16 },
+    NoDomain,
+    Dying { domain: u16, found: u64 },
+    DomainFull { found: u64 },
+    NoFree,
+    BadRange,
+    BadDescriptor { frame: u32, index: u16, word: u64 },
+    BadCommand,
+    Clock { found: u64 },
+    BatchLong,
+    InUse { frame: u32, found: u64 },
+}
+
+/// Why an operation goes on in a later turn.
+#[derive(Clone, Copy, Debug, PartialEq, Eq)]
+pub enum Pause {
+    /// The gate said yes in this turn.
+    Due,
+    /// An exchange found another word than was loaded before it.
+    Lost { place: u32, expected: u64, found: u64 },
+    /// The frame was found locked or closing.
+    Busy { frame: u32, found: u64 },
+    /// A running vCPU's flush is not later than the stamp.
+    Flush { vcpu: u32, stamp: u64, found: u64 },
+    /// Destruction found the vCPU running.
+    Alive { vcpu: u32, found: u64 },
+}
+
+/// How a call that did not succeed ended.
+#[derive(Clone, Copy, Debug, PartialEq, Eq)]
+pub enum Stop {
+    Refused(Refusal),
+    Paused(Pause),
+}
+
+/// The answer of an operation or of a call of a `multicall`: `done` elements were done, `value` is what
+/// a read found or destruction left.
+#[derive(Clone, Copy, Debug, PartialEq, Eq)]
+pub struct Reply {
+    pub done: u32,
+    pub value: u64,
+    pub refusal: Option<Refusal>,
+}
+
+/// One line of a vCPU's log. Operations and calls count from 1; call 0 is the operation itself.
+#[derive(Clone, Copy, Debug, PartialEq, Eq)]
+pub enum LogLine {
+    Answer { op: u32, call: u32, reply: Reply },
+    /// That extent of the list got the block that begins at that frame.
+    Given { op: u32, call: u32, extent: u32, frame: u32 },
+    /// Destruction left that frame, with the reference word found.
+    Left { op: u32, frame: u32, found: u64 },
+}
+
+/// What one vCPU's operations answered, in order. Contracts see the list of its items.
+#[derive(Drop)]
+pub struct Log {
+    items: Vec<LogLine>,
+}
+
+impl Model for Log {
+    ghost use Rattle.std.specs.Prelude.{List};
+    ghost use Rattle.xp_words.specs.declared.reply.LogLine.{LogLine};
+
+    ghost Value = { List LogLine };
+
+    ghost view = { λ s. s.items.items };
+}
+
+impl Log {
+    pub fn new(items: Vec<LogLine>) -> Log
+        ensures { result ≡ items.items }
+    {
+        Log { items }
+    }
+
+    pub fn as_slice(&self) -> &[LogLine]
+        ensures { result.now ≡ self.now }
+    {
+        &self.items
+    }
+
+    pub fn len(&self) -> usize
+        ensures value { result ≡ length self.now }
+        ensures room { result < 2 ^ 63 }
+    {
+        self.items.len()
+    }
+
+    pub fn is_empty(&self) -> bool
+        ensures { IsTrue result ↔ (self.now ≡ []) }
+    {
+        self.items.is_empty()
+    }
+
+    /// One more item at the end. After want of memory the list is as it was.
+    pub fn push(&mut self, item: LogLine) -> Result<(), AllocError>
+        ensures ok { OnOk result (self.new ≡ self.old ++ item ∷ []) }
+        ensures err { OnErr result (self.new ≡ self.old) }
+    {
+        self.items.push(item)?;
+        Ok(())
+    }
+
+    pub fn into_items(self) -> Vec<LogLine>
+        ensures { result.items ≡ self }
+    {
+        self.items
+    }
+}
