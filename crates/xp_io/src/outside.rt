@@ -1,0 +1,66 @@
+ghost use Rattle.std.specs.Prelude.{None};
+
+use crate::streams::{Failed, Sink, Source};
+use std::io::{Read, Write};
+
+/// A reader of std, such as standard input, as a source. It tells what the reader tells, and counts its errors.
+#[derive(Drop)]
+pub struct StdSource<R: Read + Drop> {
+    from: R,
+    faults: u64,
+}
+
+impl<R: Read + Drop> StdSource<R> {
+    pub fn new(from: R) -> StdSource<R> {
+        StdSource { from, faults: 0 }
+    }
+}
+
+impl<R: Read + Drop> Source for StdSource<R> {
+    ghost left = { λ s. R.remaining s.from };
+
+    ghost faults = { λ s. s.faults };
+
+    fn read(&mut self, into: &mut [u8]) -> Result<usize, Failed> {
+        match self.from.read(into) {
+            Ok(count) => Ok(count),
+            Err(_) => {
+                self.faults = self.faults.saturating_add(1);
+                Err(Failed)
+            }
+        }
+    }
+}
+
+/// A writer of std, such as standard output, as a sink. A writer that takes nothing is at fault too.
+#[derive(Drop)]
+pub struct StdSink<W: Write + Drop> {
+    to: W,
+    faults: u64,
+}
+
+impl<W: Write + Drop> StdSink<W> {
+    pub fn new(to: W) -> StdSink<W> {
+        StdSink { to, faults: 0 }
+    }
+}
+
+impl<W: Write + Drop> Sink for StdSink<W> {
+    ghost taken = { λ s. W.contents s.to };
+
+    ghost faults = { λ s. s.faults };
+
+    fn write(&mut self, bytes: &[u8]) -> Result<usize, Failed> {
+        match self.to.write(bytes) {
+            Ok(0) => {
+                self.faults = self.faults.saturating_add(1);
+                Err(Failed)
+            }
+            Ok(count) => Ok(count),
+            Err(_) => {
+                self.faults = self.faults.saturating_add(1);
+                Err(Failed)
+            }
+        }
+    }
+}

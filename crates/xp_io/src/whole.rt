@@ -1,0 +1,83 @@
+ghost use Rattle.std.specs.Prelude.{◌≡◌, ◌≤◌, ◌<◌, length, vec_len, IfOk, OnErr, OnOk, IsErrOf};
+ghost use Rattle.std.specs.Io.KnownBytes.{Appends};
+ghost use Rattle.xp_io.specs.Causes.{Rose, ReadToEnd, TookMore, AppendsFront, HasCause};
+ghost use Rattle.xp_io.specs.declared.whole.ReadAllError.TheVariants.{Memory, Failed};
+
+use crate::streams;
+use crate::streams::{Sink, Source};
+use std::alloc::{AllocError, Global};
+
+/// Why not all was read.
+#[derive(Clone, Copy, Debug, PartialEq, Eq)]
+pub enum ReadAllError {
+    /// The source failed.
+    Failed,
+    /// More bytes were taken than are allowed.
+    Large,
+    Memory,
+}
+
+impl From<AllocError> for ReadAllError {
+    ghost from_gives = { λ _ e. e ≡ Memory };
+
+    fn from(_e: AllocError) -> ReadAllError {
+        ReadAllError::Memory
+    }
+}
+
+impl From<streams::Failed> for ReadAllError {
+    ghost from_gives = { λ _ e. e ≡ Failed };
+
+    fn from(_e: streams::Failed) -> ReadAllError {
+        ReadAllError::Failed
+    }
+}
+
+const PIECE: usize = 65536;
+
+// So many zeros. (The length stays a variable here: at a numeral the list of zeros would be computed.)
+fn zeros(alloc: Global, len: usize) -> Result<Vec<u8>, AllocError>
+    ensures { IfOk result (λ v. vec_len v ≡ len) }
+{
+    vec![in alloc; 0u8; len]
+}
+
+/// Reads to the end, at most `limit` bytes.
+pub fn read_all<S: Source>(
+    alloc: Global,
+    source: &mut S,
+    limit: usize,
+) -> Result<Vec<u8>, ReadAllError>
+    ensures whole { IfOk result (λ v. ReadToEnd (S.left source.old) (S.left source.new) v.items) }
+    ensures within { IfOk result (λ v. vec_len v ≤ limit) }
+    ensures large { IsErrOf result ReadAllError.Large → TookMore (S.left source.old) (S.left source.new) limit }
+    ensures failed { IsErrOf result ReadAllError.Failed → Rose (S.faults source.old) (S.faults source.new) }
+    ensures later { S.faults source.old ≤ S.faults source.new }
+{
+    let mut bytes = Vec::new(alloc);
+    let mut piece = zeros(alloc, PIECE)?;
+    loop {
+        let count = source.read(&mut piece)?;
+        if count == 0 {
+            return Ok(bytes);
+        }
+        if count > limit - bytes.len() {
+            return Err(ReadAllError::Large);
+        }
+        bytes.extend_from_slice(&piece[..count])?;
+    }
+}
+
+/// Writes all of the bytes, in as many pieces as the sink takes.
+pub fn write_whole<K: Sink>(sink: &mut K, bytes: &[u8]) -> Result<(), streams::Failed>
+    ensures whole { OnOk result (Appends (K.taken sink.old) (K.taken sink.new) bytes.now) }
+    ensures front { OnErr result (AppendsFront (K.taken sink.old) (K.taken sink.new) bytes.now) }
+    ensures cause { HasCause (K.faults sink.old) (K.faults sink.new) result }
+{
+    let mut rest = bytes;
+    while !rest.is_empty() {
+        let count = sink.write(rest)?;
+        rest = &rest[count..];
+    }
+    Ok(())
+}
