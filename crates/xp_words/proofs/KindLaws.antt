@@ -66,7 +66,7 @@ bit_back false = refl
 bit_of : (n : ℕ) → n < 2 → bit (n == 1) ≡ n
 bit_of n h = grind (arith, nat_tests)
 
-type_back : (t : PageType) → type_of (type_number t) ≡ t
+pub type_back : (t : PageType) → type_of (type_number t) ≡ t
 type_back kinds.None = refl
 type_back kinds.L1 = refl
 type_back kinds.L2 = refl
@@ -75,7 +75,7 @@ type_back kinds.L4 = refl
 type_back kinds.Desc = refl
 type_back kinds.Writable = refl
 
-type_number_of : (n : ℕ) → n < 8 → n ≢ 6 → type_number (type_of n) ≡ n
+pub type_number_of : (n : ℕ) → n < 8 → n ≢ 6 → type_number (type_of n) ≡ n
 type_number_of n h k = grind (arith, nat_tests)
 
 type_top : (t : PageType) → (nat_lt (type_number t) 8 && not (type_number t == 6)) ≡ true

@@ -5,6 +5,7 @@
 mod context;
 mod entry;
 mod kind;
+pub mod laws;
 mod layout;
 mod ops;
 mod refs;
