@@ -1,13 +1,44 @@
-// A library with one function.
+//! The words with which a machine opens, from a trace.
 #![tactic(auto)]
 
-ghost use Rattle.std.specs.Prelude.{◌≡◌};
-ghost use Rattle.machine_build.specs.Echo.{echo_of};
+ghost use Rattle.std.specs.Prelude.{◌≡◌, IfOk, All, length};
+ghost use Rattle.xp_words.specs.Places.{sizes_of, size};
+ghost use Rattle.trace_text.specs.WellFormed.{IsWellFormed};
+ghost use Rattle.machine_build.specs.Opening.{IsOpening};
 
-// The `ensures` clause is the contract: what `echo` returns is `echo_of` of its argument, a definition
-// in `specs/Echo.antt`, which a caller's clause can cite too.
-pub fn echo(x: usize) -> usize
-    ensures { result ≡ echo_of x }
+mod map;
+mod rows;
+mod runs;
+
+use std::alloc::{AllocError, Global};
+use trace_text::Trace;
+
+/// The words of the trace's machine as it opens, one for each place of its layout.
+pub fn opening(alloc: Global, trace: &Trace) -> Result<Vec<u64>, AllocError>
+    requires { IsWellFormed trace.now }
+    ensures { IfOk result (λ v. IsOpening trace.now v.items) }
 {
-    x
+    let mut words = Vec::new(alloc);
+    words.resize(trace.layout.words() as usize, 0)?;
+    put_words(trace, words.as_mut_slice());
+    Ok(words)
 }
+
+fn put_words(trace: &Trace, words: &mut [u64])
+    requires formed { IsWellFormed trace.now }
+    requires count { length words.old ≡ size (sizes_of trace.now.layout) }
+    requires zero { All (λ w. w ≡ 0) words.old }
+    ensures { IsOpening trace.now words.new }
+{
+    let layout = &trace.layout;
+    words[0] = trace.clock;
+    rows::put_domains(trace, words);
+    rows::put_vcpus(layout, trace.clock, words);
+    rows::put_m2p(layout, words);
+    runs::put_owned(layout, trace.owned.as_slice(), words);
+    runs::put_cells(layout, trace.cells.as_slice(), words);
+    map::put_map(layout, words);
+}
+
+#[cfg(test)]
+mod tests;

@@ -1,4 +1,4 @@
-use Rattle.std.proofs.Common.{◌≡◌, ℕ, ◌+◌, ◌*◌, ◌/◌, ◌%◌, ◌^◌, ◌<◌, ◌≤◌, ◌≢◌, ◌==◌, ◌&&◌, not, nat_lt, lit<, if◌then◌else◌, Bool, true, false, Option, Some, None, refl, sym, ◌∙◌, ap, subst, arith, rules, IsTrue}
+use Rattle.std.proofs.Common.{◌≡◌, ℕ, ◌+◌, ◌*◌, ◌/◌, ◌%◌, ◌^◌, ◌<◌, ◌≢◌, ◌==◌, ◌&&◌, not, nat_lt, lit<, if◌then◌else◌, Bool, true, false, Some, None, refl, arith, IsTrue}
 use Rattle.std.proofs.lemmas.Bool.{and_parts}
 use Rattle.std.proofs.lemmas.Bool.Decides.{nat_tests}
 use Rattle.xp_words.specs.declared.kind.PageType.{PageType}
@@ -66,7 +66,7 @@ bit_back false = refl
 bit_of : (n : ℕ) → n < 2 → bit (n == 1) ≡ n
 bit_of n h = grind (arith, nat_tests)
 
-type_back : (t : PageType) → type_of (type_number t) ≡ t
+pub type_back : (t : PageType) → type_of (type_number t) ≡ t
 type_back kinds.None = refl
 type_back kinds.L1 = refl
 type_back kinds.L2 = refl
@@ -75,7 +75,7 @@ type_back kinds.L4 = refl
 type_back kinds.Desc = refl
 type_back kinds.Writable = refl
 
-type_number_of : (n : ℕ) → n < 8 → n ≢ 6 → type_number (type_of n) ≡ n
+pub type_number_of : (n : ℕ) → n < 8 → n ≢ 6 → type_number (type_of n) ≡ n
 type_number_of n h k = grind (arith, nat_tests)
 
 type_top : (t : PageType) → (nat_lt (type_number t) 8 && not (type_number t == 6)) ≡ true

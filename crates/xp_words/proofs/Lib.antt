@@ -1,2 +1,5 @@
+pub mod ContextLaws
+pub mod EntryLaws
 pub mod KindLaws
+pub mod PlaceLaws
 pub mod RefLaws

@@ -1,4 +1,4 @@
-use Rattle.std.specs.Prelude.{◌≡◌, ℕ, ◌+◌, ◌*◌, ◌/◌, ◌%◌, ◌^◌, ◌<◌, ◌==◌, ◌&&◌, ◌||◌, not, nat_lt, nat_le, if◌then◌else◌, Bool, true, false, Option, Some, None, IsTrue}
+use Rattle.std.specs.Prelude.{ℕ, ◌+◌, ◌*◌, ◌/◌, ◌%◌, ◌^◌, ◌==◌, ◌&&◌, ◌||◌, not, nat_lt, if◌then◌else◌, Bool, true, Option, Some, None}
 use Rattle.xp_words.specs.declared.kind.KindWord.{KindWord}
 use Rattle.xp_words.specs.RefWords.{bit}
 use Rattle.xp_words.specs.PageTypes.{type_number, type_of, is_none, is_table}
@@ -7,7 +7,7 @@ use Rattle.xp_words.specs.PageTypes.{type_number, type_of, is_none, is_table}
 abbrev pub is_live : KindWord → Bool
 is_live k =
     not k.partial && not k.kept && not k.unflushed && (k.progress == 0) && not (is_none k.kind) && nat_lt k.number (2 ^ 26)
-        && (not (k.pinned || k.locked) || (is_table k.kind && nat_lt 0 k.number))
+    && (not (k.pinned || k.locked) || (is_table k.kind && nat_lt 0 k.number))
 
 -- a stamp where it is not flushed yet, else 0
 abbrev pub is_marked_number : KindWord → Bool
@@ -16,8 +16,8 @@ is_marked_number k = k.unflushed || (k.number == 0)
 abbrev pub is_partial : KindWord → Bool
 is_partial k =
     not k.locked && not k.pinned && not (is_none k.kind) && nat_lt k.progress 513 && is_marked_number k
-        && (if k.unflushed || not (is_table k.kind) then (k.progress == 0) && k.unflushed else true)
-        && (not (type_number k.kind == 5) || k.kept)
+    && (if k.unflushed || not (is_table k.kind) then (k.progress == 0) && k.unflushed else true)
+    && (not (type_number k.kind == 5) || k.kept)
 
 abbrev pub is_work : KindWord → Bool
 is_work k = not k.kept && not k.pinned && (k.progress == 0) && not (is_none k.kind) && is_marked_number k
@@ -35,7 +35,7 @@ is_kind k = nat_lt k.number (2 ^ 36) && (nat_lt k.progress (2 ^ 10) && has_form 
 unfoldable pub kind_write : KindWord → ℕ
 kind_write k =
     k.number + 2 ^ 36 * k.progress + 2 ^ 46 * bit k.unflushed + 2 ^ 47 * bit k.kept + 2 ^ 48 * bit k.locked + 2 ^ 49 * bit k.partial
-        + 2 ^ 50 * bit k.validated + 2 ^ 51 * bit k.pinned + 2 ^ 52 * type_number k.kind
+    + 2 ^ 50 * bit k.validated + 2 ^ 51 * bit k.pinned + 2 ^ 52 * type_number k.kind
 
 -- the fields of a word
 unfoldable pub kind_fields : ℕ → KindWord

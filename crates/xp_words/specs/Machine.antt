@@ -1,5 +1,5 @@
 -- The fixed numbers of a machine.
-use Rattle.std.specs.Prelude.{◌≡◌, ℕ, ◌+◌, ◌*◌, ◌/◌, ◌^◌, ◌<◌, ◌≤◌, ◌==◌, ◌&&◌, not, nat_lt, nat_le, List, length, slice_index, All, EachIndex, Bool, IsTrue}
+use Rattle.std.specs.Prelude.{◌≡◌, ℕ, ◌^◌, ◌<◌, ◌≤◌, not, List, length, slice_index, All, IsTrue}
 use Rattle.xp_words.specs.Entries.{is_bit}
 
 pub record Machine : Type 0 where

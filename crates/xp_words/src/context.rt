@@ -18,7 +18,9 @@ impl ContextWord {
             return Some(ContextWord { frame: None });
         }
         if word <= 1 << 32 {
-            return Some(ContextWord { frame: Some((word - 1) as u32) });
+            return Some(ContextWord {
+                frame: Some((word - 1) as u32),
+            });
         }
         None
     }
@@ -52,7 +54,10 @@ impl LdtBase {
     {
         let entries = word % (1 << 14);
         if word < 1 << 50 && entries <= 8192 {
-            Some(LdtBase { page: word >> 14, entries: entries as u16 })
+            Some(LdtBase {
+                page: word >> 14,
+                entries: entries as u16,
+            })
         } else {
             None
         }

@@ -52,7 +52,9 @@ impl Entry {
         } else if self.reserved(lowest) {
             Demand::Bad
         } else if lowest && !self.writable() {
-            Demand::Read { frame: self.frame() }
+            Demand::Read {
+                frame: self.frame(),
+            }
         } else {
             let kind = match table {
                 PageType::L4 => PageType::L3,
@@ -60,7 +62,10 @@ impl Entry {
                 PageType::L2 => PageType::L1,
                 _ => PageType::Writable,
             };
-            Demand::Typed { frame: self.frame(), kind }
+            Demand::Typed {
+                frame: self.frame(),
+                kind,
+            }
         }
     }
 

@@ -25,7 +25,10 @@ impl PageType {
     pub fn is_table(self) -> bool
         ensures { result ≡ is_table self }
     {
-        matches!(self, PageType::L1 | PageType::L2 | PageType::L3 | PageType::L4)
+        matches!(
+            self,
+            PageType::L1 | PageType::L2 | PageType::L3 | PageType::L4
+        )
     }
 
     /// The number that a kind word has for it.
@@ -102,7 +105,11 @@ impl KindWord {
             progress: ((word >> 36) % 1024) as u16,
             number: word % (1 << 36),
         };
-        if fields.has_form() { Some(fields) } else { None }
+        if fields.has_form() {
+            Some(fields)
+        } else {
+            None
+        }
     }
 
     #[tactic(auto, unfolding(crate::specs::KindWords::has_form))]
@@ -146,14 +153,22 @@ impl KindWord {
             && !self.kind.is_none()
             && self.progress < 513
             && self.is_marked_number()
-            && (if self.unflushed || !self.kind.is_table() { self.progress == 0 && self.unflushed } else { true })
+            && (if self.unflushed || !self.kind.is_table() {
+                self.progress == 0 && self.unflushed
+            } else {
+                true
+            })
             && (!matches!(self.kind, PageType::Desc) || self.kept)
     }
 
     fn is_work(&self) -> bool
         ensures { result ≡ is_work self.now }
     {
-        !self.kept && !self.pinned && self.progress == 0 && !self.kind.is_none() && self.is_marked_number()
+        !self.kept
+            && !self.pinned
+            && self.progress == 0
+            && !self.kind.is_none()
+            && self.is_marked_number()
     }
 
     fn is_dead(&self) -> bool

@@ -273,7 +273,11 @@ impl Layout {
         requires { domain < length self.now.page_limit }
         ensures { result ≡ number (sizes_of self.now) (Priv domain) }
     {
-        1 + 2 * self.domains() + 38 * self.vcpus() + 515 * self.frames + self.map_words() + u32::from(domain)
+        1 + 2 * self.domains()
+            + 38 * self.vcpus()
+            + 515 * self.frames
+            + self.map_words()
+            + u32::from(domain)
     }
 
     /// The number of words. A machine of 4,096 frames has 16.9 MB of them, one of 65,536 frames 270 MB.

@@ -5,6 +5,7 @@
 mod context;
 mod entry;
 mod kind;
+pub mod laws;
 mod layout;
 mod ops;
 mod refs;
@@ -17,3 +18,8 @@ pub use layout::{Domains, Layout, Limits, Masks};
 pub use ops::{Call, CallList, ExtList, ExtOp, Numbers, Op, Pair, Pairs, Script};
 pub use refs::RefWord;
 pub use reply::{Log, LogLine, Pause, Refusal, Reply, Stop};
+
+#[cfg(test)]
+mod layout_tests;
+#[cfg(test)]
+mod tests;

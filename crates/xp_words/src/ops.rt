@@ -193,20 +193,44 @@ impl Numbers {
 pub enum Call {
     /// `mmu_update`. Bits 0 to 15 of `foreign` name the owner of mapped frames, bits 16 to 31 are 0 or
     /// one more than the owner of the tables.
-    Mmu { foreign: u64, pairs: Pairs },
+    Mmu {
+        foreign: u64,
+        pairs: Pairs,
+    },
     /// `mmuext_op`.
-    Ext { list: ExtList },
+    Ext {
+        list: ExtList,
+    },
     /// `update_va_mapping`.
-    Va { va: u64, val: u64, flags: u64 },
+    Va {
+        va: u64,
+        val: u64,
+        flags: u64,
+    },
     /// `update_va_mapping_otherdomain`.
-    VaOther { va: u64, val: u64, flags: u64, domain: u64 },
+    VaOther {
+        va: u64,
+        val: u64,
+        flags: u64,
+        domain: u64,
+    },
     /// `set_gdt`, with the number of entries.
-    Gdt { entries: u64, frames: Numbers },
+    Gdt {
+        entries: u64,
+        frames: Numbers,
+    },
     /// `update_descriptor`.
-    Desc { address: u64, word: u64 },
+    Desc {
+        address: u64,
+        word: u64,
+    },
     /// `memory_op`: the low six bits of `command` are the command, the bits above are the first extent
     /// that is still to be done.
-    Mem { command: u64, order: u64, items: Numbers },
+    Mem {
+        command: u64,
+        order: u64,
+        items: Numbers,
+    },
 }
 
 /// The calls of one `multicall`, in order. Contracts see the list of its items.
@@ -269,25 +293,55 @@ impl CallList {
 /// One operation of a vCPU's script: a hypercall, an access of the guest, or a tool's command.
 #[derive(Drop)]
 pub enum Op {
-    One { call: Call },
+    One {
+        call: Call,
+    },
     /// `multicall`, of one call or more.
-    Multi { calls: CallList },
+    Multi {
+        calls: CallList,
+    },
     /// The guest's load of 8 bytes by its kernel or user base.
-    Read { user: bool, va: u64 },
+    Read {
+        user: bool,
+        va: u64,
+    },
     /// The guest's store of 8 bytes.
-    Write { user: bool, va: u64, val: u64 },
+    Write {
+        user: bool,
+        va: u64,
+        val: u64,
+    },
     /// The guest's first touch of that page of its LDT.
-    TouchLdt { page: u64 },
-    Destroy { domain: u64 },
+    TouchLdt {
+        page: u64,
+    },
+    Destroy {
+        domain: u64,
+    },
     /// Gives domain `to` the privilege over domain `over`; a trace of version 2 alone.
-    Grant { to: u64, over: u64 },
+    Grant {
+        to: u64,
+        over: u64,
+    },
     /// Takes that privilege away; a trace of version 2 alone.
-    Revoke { to: u64, over: u64 },
+    Revoke {
+        to: u64,
+        over: u64,
+    },
     /// A guest's store to its own L1 table through a read-only mapping; a trace of version 2 alone.
-    Ptwr { user: bool, va: u64, val: u64 },
+    Ptwr {
+        user: bool,
+        va: u64,
+        val: u64,
+    },
     /// `memory_op` command 11 (`XENMEM_exchange`), from extents of one order to extents of another; a
     /// trace of version 2 alone.
-    Xchg { first: u64, from: u64, to: u64, items: Numbers },
+    Xchg {
+        first: u64,
+        from: u64,
+        to: u64,
+        items: Numbers,
+    },
 }
 
 /// The operations of one vCPU, in order. Contracts see the list of its items.

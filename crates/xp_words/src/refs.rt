@@ -4,11 +4,19 @@ ghost use Rattle.xp_words.specs.RefWords.{ref_read, ref_write, IsRef};
 /// The first word of a frame: who owns it, and how many references there are to it.
 #[derive(Clone, Copy, Debug, PartialEq, Eq)]
 pub enum RefWord {
-    Free { stamp: u64 },
+    Free {
+        stamp: u64,
+    },
     /// `allocated` says that one of the references is the owner's own.
-    Owned { owner: u16, allocated: bool, count: u32 },
+    Owned {
+        owner: u16,
+        allocated: bool,
+        count: u32,
+    },
     /// The count is 0, and the frame is in one vCPU's hand.
-    Dying { owner: u16 },
+    Dying {
+        owner: u16,
+    },
 }
 
 impl RefWord {
@@ -28,7 +36,11 @@ impl RefWord {
         let allocated = (word >> 31) % 2 == 1;
         let count = (word % (1 << 26)) as u32;
         if count != 0 {
-            Some(RefWord::Owned { owner, allocated, count })
+            Some(RefWord::Owned {
+                owner,
+                allocated,
+                count,
+            })
         } else if allocated {
             None
         } else {
@@ -43,7 +55,11 @@ impl RefWord {
     {
         match *self {
             RefWord::Free { stamp } => stamp,
-            RefWord::Owned { owner, allocated, count } => {
+            RefWord::Owned {
+                owner,
+                allocated,
+                count,
+            } => {
                 let top = (1 << 63) + ((owner as u64) << 32);
                 let mark = if allocated { 1 << 31 } else { 0 };
                 top + mark + count as u64

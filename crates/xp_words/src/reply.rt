@@ -7,28 +7,72 @@ use std::marker::Model;
 /// Why an operation or an element of one was refused. Each carries what was found.
 #[derive(Clone, Copy, Debug, PartialEq, Eq)]
 pub enum Refusal {
-    NoFrame { frame: u64 },
-    WrongOwner { frame: u32, found: u64 },
-    OtherType { frame: u32, want: PageType, found: u64 },
-    Reserved { frame: u32, index: u16, entry: u64 },
-    CountFull { frame: u32, found: u64 },
-    AlreadyPinned { found: u64 },
-    NotPinned { found: u64 },
-    Slot { index: u16 },
-    NotMapped { level: u8, entry: u64 },
-    ReadOnly { entry: u64 },
+    NoFrame {
+        frame: u64,
+    },
+    WrongOwner {
+        frame: u32,
+        found: u64,
+    },
+    OtherType {
+        frame: u32,
+        want: PageType,
+        found: u64,
+    },
+    Reserved {
+        frame: u32,
+        index: u16,
+        entry: u64,
+    },
+    CountFull {
+        frame: u32,
+        found: u64,
+    },
+    AlreadyPinned {
+        found: u64,
+    },
+    NotPinned {
+        found: u64,
+    },
+    Slot {
+        index: u16,
+    },
+    NotMapped {
+        level: u8,
+        entry: u64,
+    },
+    ReadOnly {
+        entry: u64,
+    },
     NonCanonical,
-    NoPrivilege { caller: u16, domain: u16 },
+    NoPrivilege {
+        caller: u16,
+        domain: u16,
+    },
     NoDomain,
-    Dying { domain: u16, found: u64 },
-    DomainFull { found: u64 },
+    Dying {
+        domain: u16,
+        found: u64,
+    },
+    DomainFull {
+        found: u64,
+    },
     NoFree,
     BadRange,
-    BadDescriptor { frame: u32, index: u16, word: u64 },
+    BadDescriptor {
+        frame: u32,
+        index: u16,
+        word: u64,
+    },
     BadCommand,
-    Clock { found: u64 },
+    Clock {
+        found: u64,
+    },
     BatchLong,
-    InUse { frame: u32, found: u64 },
+    InUse {
+        frame: u32,
+        found: u64,
+    },
 }
 
 /// Why an operation goes on in a later turn.
@@ -37,13 +81,27 @@ pub enum Pause {
     /// The gate said yes in this turn.
     Due,
     /// An exchange found another word than was loaded before it.
-    Lost { place: u32, expected: u64, found: u64 },
+    Lost {
+        place: u32,
+        expected: u64,
+        found: u64,
+    },
     /// The frame was found locked or closing.
-    Busy { frame: u32, found: u64 },
+    Busy {
+        frame: u32,
+        found: u64,
+    },
     /// A running vCPU's flush is not later than the stamp.
-    Flush { vcpu: u32, stamp: u64, found: u64 },
+    Flush {
+        vcpu: u32,
+        stamp: u64,
+        found: u64,
+    },
     /// Destruction found the vCPU running.
-    Alive { vcpu: u32, found: u64 },
+    Alive {
+        vcpu: u32,
+        found: u64,
+    },
 }
 
 /// How a call that did not succeed ended.
@@ -65,11 +123,24 @@ pub struct Reply {
 /// One line of a vCPU's log. Operations and calls count from 1; call 0 is the operation itself.
 #[derive(Clone, Copy, Debug, PartialEq, Eq)]
 pub enum LogLine {
-    Answer { op: u32, call: u32, reply: Reply },
+    Answer {
+        op: u32,
+        call: u32,
+        reply: Reply,
+    },
     /// That extent of the list got the block that begins at that frame.
-    Given { op: u32, call: u32, extent: u32, frame: u32 },
+    Given {
+        op: u32,
+        call: u32,
+        extent: u32,
+        frame: u32,
+    },
     /// Destruction left that frame, with the reference word found.
-    Left { op: u32, frame: u32, found: u64 },
+    Left {
+        op: u32,
+        frame: u32,
+        found: u64,
+    },
 }
 
 /// What one vCPU's operations answered, in order. Contracts see the list of its items.

@@ -1,0 +1,7 @@
+use Rattle.std.proofs.Common.{◌≡◌}
+use Rattle.xp_words.specs.Places.{Place, sizes_of, memory}
+use Rattle.machine_build.specs.Puts.{with_map}
+use Rattle.machine_build.proofs.map.put_map.Given as goal
+
+abbrev pub invariant-loop-number : goal.invariant-loop-number
+invariant-loop-number l = (p : Place) → memory (sizes_of l.layout) l.words p ≡ with_map l.number l.layout.frames (memory (sizes_of l.layout) l.initial.words) p

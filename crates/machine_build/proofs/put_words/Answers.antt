@@ -1,0 +1,22 @@
+use Rattle.std.proofs.Common.{◌≡◌, ◌<◌, ◌∙◌, length, reverse, ap, arith}
+use Rattle.std.proofs.Math.ListN.{length-set}
+use Rattle.xp_words.specs.Places.{Place, sizes_of, size, memory, number, Clock}
+use Rattle.machine_build.specs.Puts.{with_owned, with_cells}
+use Rattle.machine_build.proofs.Steps.{clock-inside}
+use Rattle.machine_build.proofs.Whole.{only_clock, all_words}
+use Rattle.machine_build.proofs.put_words.Goals as goal
+
+pub bounds-words-0 : goal.bounds-words-0
+unfolding number
+bounds-words-0 c = let inside : 0 < size (sizes_of c.args.trace.now.layout) = clock-inside _ in omega arith
+
+pub returns : goal.returns
+unfolding number
+returns c =
+    record {
+      count = omega (arith, length-set c.args.words.now 0 c.args.trace.now.clock);
+      places = all_words c.args.trace.now _ _ _ _ _ _ _ (only_clock _ _ _ c.requires.count c.requires.zero) c.put_domains.ensures c.put_vcpus.ensures c.put_m2p.ensures
+        (rw c.as_slice.ensures at c.put_owned.ensures)
+        (rw c.as_slice-2.ensures at c.put_cells.ensures)
+        c.put_map.ensures;
+    }

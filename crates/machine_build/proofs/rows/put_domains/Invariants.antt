@@ -1,0 +1,7 @@
+use Rattle.std.proofs.Common.{◌≡◌}
+use Rattle.xp_words.specs.Places.{Place, sizes_of, memory}
+use Rattle.machine_build.specs.Puts.{with_domains}
+use Rattle.machine_build.proofs.rows.put_domains.Given as goal
+
+abbrev pub invariant-loop-domain : goal.invariant-loop-domain
+invariant-loop-domain l = (p : Place) → memory (sizes_of l.layout) l.words p ≡ with_domains l.domain l.trace (memory (sizes_of l.layout) l.initial.words) p

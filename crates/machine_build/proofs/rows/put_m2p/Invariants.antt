@@ -1,0 +1,7 @@
+use Rattle.std.proofs.Common.{◌≡◌}
+use Rattle.xp_words.specs.Places.{Place, sizes_of, memory}
+use Rattle.machine_build.specs.Puts.{with_m2p}
+use Rattle.machine_build.proofs.rows.put_m2p.Given as goal
+
+abbrev pub invariant-loop-frame : goal.invariant-loop-frame
+invariant-loop-frame l = (p : Place) → memory (sizes_of l.layout) l.words p ≡ with_m2p l.frame (memory (sizes_of l.layout) l.initial.words) p

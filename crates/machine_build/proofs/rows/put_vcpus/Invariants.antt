@@ -1,0 +1,7 @@
+use Rattle.std.proofs.Common.{◌≡◌}
+use Rattle.xp_words.specs.Places.{Place, sizes_of, memory}
+use Rattle.machine_build.specs.Puts.{with_vcpus}
+use Rattle.machine_build.proofs.rows.put_vcpus.Given as goal
+
+abbrev pub invariant-loop-vcpu : goal.invariant-loop-vcpu
+invariant-loop-vcpu l = (p : Place) → memory (sizes_of l.layout) l.words p ≡ with_vcpus l.vcpu l.clock (memory (sizes_of l.layout) l.initial.words) p

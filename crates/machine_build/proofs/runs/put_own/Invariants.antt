@@ -1,0 +1,8 @@
+use Rattle.std.proofs.Common.{◌≡◌, ◌-◌, ◌∷◌, []}
+use Rattle.xp_words.specs.Places.{Place, sizes_of, memory}
+use Rattle.machine_build.specs.Puts.{with_owned}
+use Rattle.machine_build.proofs.runs.put_own.Given as goal
+
+abbrev pub invariant-loop-frame : goal.invariant-loop-frame
+invariant-loop-frame l =
+    (p : Place) → memory (sizes_of l.layout) l.words p ≡ with_owned (record l.fn.own { count = l.frame - l.fn.own.first } ∷ []) (memory (sizes_of l.layout) l.initial.words) p

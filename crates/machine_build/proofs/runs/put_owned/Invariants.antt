@@ -1,0 +1,9 @@
+use Rattle.std.proofs.Common.{◌≡◌, reverse, map, List}
+use Rattle.xp_words.specs.Places.{Place, sizes_of, memory}
+use Rattle.trace_text.specs.declared.trace.Own.{Own}
+use Rattle.machine_build.specs.Puts.{with_owned}
+use Rattle.machine_build.proofs.runs.put_owned.Given as goal
+
+abbrev pub invariant-loop-own : goal.invariant-loop-own
+invariant-loop-own l =
+    (p : Place) → memory (sizes_of l.layout) l.words p ≡ with_owned (reverse (map (λ b. b.now) l.yielded)) (memory (sizes_of l.layout) l.initial.words) p

@@ -1,0 +1,54 @@
+//! What each domain, each vCPU and each frame opens with.
+#![tactic(auto, using(crate::proofs::Steps::inside))]
+ghost use Rattle.std.specs.Prelude.{◌≡◌, ◌≤◌, ◌<◌, ◌^◌, ℕ, length};
+ghost use Rattle.xp_words.specs.Places.{Place, sizes_of, size, memory};
+ghost use Rattle.trace_text.specs.Counted.{pages_of};
+ghost use Rattle.trace_text.specs.WellFormed.{IsWellFormed};
+ghost use Rattle.machine_build.specs.Puts.{with_domains, with_vcpus, with_m2p};
+
+use trace_text::{Own, Trace};
+use xp_words::Layout;
+
+/// The number of the flush word among the words of a vCPU.
+const FLUSHED: u32 = 5;
+/// The machine-to-physical word that means none.
+const NO_NUMBER: u64 = u64::MAX;
+
+fn pages_of_domain(owned: &[Own], domain: u16) -> u64
+    requires { pages_of domain owned.now ≤ 65536 }
+    ensures { result ≡ pages_of domain owned.now }
+{
+    owned.iter().map(|own| if own.domain == domain { u64::from(own.count) } else { 0 }).sum()
+}
+
+pub fn put_domains(trace: &Trace, words: &mut [u64])
+    requires formed { IsWellFormed trace.now }
+    requires count { length words.old ≡ size (sizes_of trace.now.layout) }
+    ensures { (p : Place) → memory (sizes_of trace.now.layout) words.new p ≡ with_domains (length trace.now.layout.page_limit) trace.now (memory (sizes_of trace.now.layout) words.old) p }
+{
+    let layout = &trace.layout;
+    let masks = layout.privilege.as_slice();
+    for domain in 0..layout.domains() as u16 {
+        let mask = u64::from(masks[domain as usize]);
+        words[layout.pages_place(domain) as usize] = pages_of_domain(trace.owned.as_slice(), domain);
+        words[layout.priv_place(domain) as usize] = mask + (mask << 16);
+    }
+}
+
+pub fn put_vcpus(layout: &Layout, clock: u64, words: &mut [u64])
+    requires count { length words.old ≡ size (sizes_of layout.now) }
+    ensures { (p : Place) → memory (sizes_of layout.now) words.new p ≡ with_vcpus (length layout.now.vcpu_domain) clock (memory (sizes_of layout.now) words.old) p }
+{
+    for vcpu in 0..layout.vcpus() {
+        words[layout.vcpu_place(vcpu, FLUSHED) as usize] = clock;
+    }
+}
+
+pub fn put_m2p(layout: &Layout, words: &mut [u64])
+    requires count { length words.old ≡ size (sizes_of layout.now) }
+    ensures { (p : Place) → memory (sizes_of layout.now) words.new p ≡ with_m2p layout.now.frames (memory (sizes_of layout.now) words.old) p }
+{
+    for frame in 0..layout.frames {
+        words[layout.m2p_place(frame) as usize] = NO_NUMBER;
+    }
+}

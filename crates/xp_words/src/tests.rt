@@ -1,0 +1,89 @@
+//! Examples from the format's description.
+use crate::{ContextWord, Demand, Entry, KindWord, LdtBase, PageType, RefWord, fix};
+
+#[test]
+#[tactic(auto, unfolding(crate::specs::RefWords::IsRef))]
+fn spells_references(rt: HostRuntime) {
+    let one = RefWord::Owned {
+        owner: 0,
+        allocated: true,
+        count: 1,
+    };
+    let three = RefWord::Owned {
+        owner: 1,
+        allocated: true,
+        count: 3,
+    };
+    assert_eq!(rt; one.write(), 0x8000000080000001);
+    assert_eq!(rt; three.write(), 0x8000000180000003);
+    assert_eq!(rt; RefWord::read(0x8000000180000003), Some(three));
+    assert_eq!(rt; RefWord::read(0x8000000080000000), None);
+}
+
+#[test]
+#[tactic(auto, unfolding(crate::specs::KindWords::has_form))]
+fn spells_kinds(rt: HostRuntime) {
+    let pinned = KindWord {
+        kind: PageType::L1,
+        pinned: true,
+        validated: true,
+        partial: false,
+        locked: false,
+        kept: false,
+        unflushed: false,
+        progress: 0,
+        number: 1,
+    };
+    assert_eq!(rt; pinned.write(), 0x001c000000000001);
+    assert_eq!(rt; KindWord::read(0x001c000000000001), Some(pinned));
+    let partial = KindWord {
+        pinned: false,
+        validated: false,
+        partial: true,
+        kept: true,
+        progress: 3,
+        number: 0,
+        ..pinned
+    };
+    assert_eq!(rt; partial.write(), 0x0012803000000000);
+    assert_eq!(rt; KindWord::read(0x0060000000000000), None);
+}
+
+#[test]
+#[tactic(auto, unfolding(crate::specs::ContextWords::IsContext))]
+fn spells_words_of_processors(rt: HostRuntime) {
+    assert_eq!(rt; ContextWord { frame: Some(0) }.write(), 1);
+    assert_eq!(rt; ContextWord::read(0), Some(ContextWord { frame: None }));
+    let base = LdtBase {
+        page: 3,
+        entries: 8192,
+    };
+    assert_eq!(rt; base.write(), 0xe000);
+    assert_eq!(rt; LdtBase::read(0x2001), None);
+}
+
+#[test]
+fn asks_what_entries_say(rt: HostRuntime) {
+    let entry = Entry { word: 0x40003 };
+    assert!(rt; entry.present());
+    assert!(rt; entry.writable());
+    assert_eq!(rt; entry.frame(), 64);
+    assert_eq!(rt;
+        entry.demand(PageType::L1),
+        Demand::Typed {
+            frame: 64,
+            kind: PageType::Writable
+        }
+    );
+    assert_eq!(rt;
+        Entry { word: 0x40001 }.demand(PageType::L1),
+        Demand::Read { frame: 64 }
+    );
+    assert_eq!(rt; Entry { word: 0x40103 }.demand(PageType::L2), Demand::Bad);
+}
+
+#[test]
+fn fixes_descriptors(rt: HostRuntime) {
+    assert_eq!(rt; fix(0x00af9a000000ffff), Some(0x00affa000000ffff));
+    assert_eq!(rt; fix(0x0000890000000000), None);
+}
