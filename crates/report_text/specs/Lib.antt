@@ -1,0 +1,3 @@
+pub mod LogTexts
+pub mod ReportOf
+pub mod WordTexts

@@ -1,0 +1,97 @@
+-- The text of a report, over the words of a machine by name.
+use Rattle.std.specs.Prelude.{◌≡◌, ℕ, ◌==◌, not, if◌then◌else◌, Bool, true, false, List, [], ◌∷◌, ◌++◌, length, slice_index, slice_index_or, count_by, Option, Some, None, codes, decimal}
+use Rattle.std.specs.List.{flat_map, range_with_len}
+use Rattle.xp_words.specs.declared.kind.KindWord.{KindWord}
+use Rattle.xp_words.specs.declared.refs.RefWord.{RefWord}
+use Rattle.xp_words.specs.declared.refs.RefWord.TheVariants.{Free, Owned, Dying}
+use Rattle.xp_words.specs.declared.reply.LogLine.{LogLine}
+use Rattle.xp_words.specs.KindWords.{kind_read}
+use Rattle.xp_words.specs.Machine.{Machine}
+use Rattle.xp_words.specs.Places.{Place, Pages, Life, Vcpu, Refs, Kind, M2p, sizes_of, memory}
+use Rattle.xp_words.specs.RefWords.{ref_read}
+use Rattle.report_text.specs.LogTexts.{log_lines}
+use Rattle.report_text.specs.WordTexts.{hex, context_text, type_text, type_count, flags_text, life_text, m2p_text}
+
+-- the domain of a vCPU, and the words that name its frames
+unfoldable pub vcpu_line : List ℕ → (Place → ℕ) → ℕ → List ℕ
+vcpu_line domains word v =
+    codes "vcpu " ++ (decimal v ++ (codes " domain " ++ (decimal (slice_index domains v) ++ (codes " base " ++ (context_text (word (Vcpu v 0)) ++ (codes " user " ++ (context_text (word (Vcpu v 1)) ++ (codes " old " ++ (context_text (word (Vcpu v 2)) ++ (codes " " ++ (context_text (word (Vcpu v 3)) ++ codes "\n")))))))))))
+
+-- nothing where no operation is unanswered
+unfoldable pub pending_line : ℕ → List ℕ
+pending_line n = if n == 0 then [] else codes "pending " ++ (decimal n ++ codes "\n")
+
+-- what is printed of one vCPU
+unfoldable pub vcpu_text : List ℕ → (Place → ℕ) → List LogLine → ℕ → ℕ → List ℕ
+vcpu_text domains word log pending v = vcpu_line domains word v ++ (log_lines log ++ pending_line pending)
+
+unfoldable pub vcpu_texts : List ℕ → (Place → ℕ) → List (List LogLine) → List ℕ → ℕ → List ℕ
+vcpu_texts domains word logs pending vcpus =
+    flat_map (λ v. vcpu_text domains word (slice_index_or logs v []) (slice_index pending v) v) (range_with_len 0 vcpus)
+
+unfoldable pub domain_line : (Place → ℕ) → ℕ → List ℕ
+domain_line word d =
+    codes "domain " ++ (decimal d ++ (codes " " ++ (life_text (word (Life d)) ++ (codes " pages " ++ (decimal (word (Pages d)) ++ codes "\n")))))
+
+unfoldable pub domain_lines : (Place → ℕ) → ℕ → List ℕ
+domain_lines word domains = flat_map (domain_line word) (range_with_len 0 domains)
+
+abbrev pub is_free_ref : Option RefWord → Bool
+is_free_ref None = false
+is_free_ref (Some (Free stamp)) = true
+is_free_ref (Some (Owned owner allocated count)) = false
+is_free_ref (Some (Dying owner)) = false
+
+-- whether a reference word is that of a free frame
+unfoldable pub is_free : ℕ → Bool
+is_free w = is_free_ref (ref_read w)
+
+abbrev pub alloc_text : Bool → List ℕ
+alloc_text true = codes "alloc"
+alloc_text false = codes "-"
+
+abbrev pub holder_by : ℕ → Option RefWord → List ℕ
+holder_by w None = codes "refs " ++ hex w
+holder_by w (Some (Free stamp)) = codes "free"
+holder_by w (Some (Owned owner allocated count)) =
+    codes "owner " ++ (decimal owner ++ (codes " refs " ++ (decimal count ++ (codes " " ++ alloc_text allocated))))
+holder_by w (Some (Dying owner)) = codes "owner " ++ (decimal owner ++ codes " refs 0 -")
+
+-- the owner and the references of a frame
+unfoldable pub holder_text : ℕ → List ℕ
+holder_text w = holder_by w (ref_read w)
+
+abbrev pub form_by : ℕ → Option KindWord → List ℕ
+form_by w None = codes "kind " ++ hex w
+form_by w (Some k) =
+    codes "type " ++ (type_text k.kind ++ (codes " count " ++ (decimal (type_count k) ++ (codes " flags " ++ (flags_text k ++ (codes " at " ++ decimal k.progress))))))
+
+-- the type of a frame, its count, flags and progress
+unfoldable pub form_text : ℕ → List ℕ
+form_text w = form_by w (kind_read w)
+
+unfoldable pub frame_line : (Place → ℕ) → ℕ → List ℕ
+frame_line word f =
+    codes "frame " ++ (decimal f ++ (codes " " ++ (holder_text (word (Refs f)) ++ (codes " " ++ (form_text (word (Kind f)) ++ (codes " m2p " ++ (m2p_text (word (M2p f)) ++ codes "\n")))))))
+
+-- a free frame has no line
+unfoldable pub frame_text : (Place → ℕ) → ℕ → List ℕ
+frame_text word f = if is_free (word (Refs f)) then [] else frame_line word f
+
+unfoldable pub frame_texts : (Place → ℕ) → ℕ → List ℕ
+frame_texts word frames = flat_map (frame_text word) (range_with_len 0 frames)
+
+-- how many of the frames are free
+unfoldable pub free_frames : (Place → ℕ) → ℕ → ℕ
+free_frames word frames = count_by (λ f. is_free (word (Refs f))) (range_with_len 0 frames)
+
+-- the vCPUs with their logs, the domains, the frames that are not free, and how many are free
+abbrev pub report_by : Machine → (Place → ℕ) → List (List LogLine) → List ℕ → List ℕ
+report_by m word logs pending =
+    vcpu_texts m.vcpu_domain word logs pending (length m.vcpu_domain)
+        ++ (domain_lines word (length m.page_limit)
+            ++ (frame_texts word m.frames ++ (codes "free " ++ (decimal (free_frames word m.frames) ++ codes "\nend\n"))))
+
+-- the report of a machine with these words, whose vCPUs have these logs and so many unanswered operations
+abbrev pub report_of : Machine → List ℕ → List (List LogLine) → List ℕ → List ℕ
+report_of m words logs pending = report_by m (memory (sizes_of m) words) logs pending
