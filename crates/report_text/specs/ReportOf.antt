@@ -70,13 +70,14 @@ form_by w (Some k) =
 unfoldable pub form_text : ℕ → List ℕ
 form_text w = form_by w (kind_read w)
 
-unfoldable pub frame_line : (Place → ℕ) → ℕ → List ℕ
-frame_line word f =
-    codes "frame " ++ (decimal f ++ (codes " " ++ (holder_text (word (Refs f)) ++ (codes " " ++ (form_text (word (Kind f)) ++ (codes " m2p " ++ (m2p_text (word (M2p f)) ++ codes "\n")))))))
+-- the line of a frame with these words
+unfoldable pub frame_by : ℕ → ℕ → ℕ → ℕ → List ℕ
+frame_by f refs kind m2p =
+    codes "frame " ++ (decimal f ++ (codes " " ++ (holder_text refs ++ (codes " " ++ (form_text kind ++ (codes " m2p " ++ (m2p_text m2p ++ codes "\n")))))))
 
 -- a free frame has no line
 unfoldable pub frame_text : (Place → ℕ) → ℕ → List ℕ
-frame_text word f = if is_free (word (Refs f)) then [] else frame_line word f
+frame_text word f = if is_free (word (Refs f)) then [] else frame_by f (word (Refs f)) (word (Kind f)) (word (M2p f))
 
 unfoldable pub frame_texts : (Place → ℕ) → ℕ → List ℕ
 frame_texts word frames = flat_map (frame_text word) (range_with_len 0 frames)

@@ -2,4 +2,6 @@
 #![tactic(auto)]
 
 mod log;
+mod memory;
+mod report;
 mod words;

@@ -1,0 +1,107 @@
+ghost use Rattle.std.specs.Prelude.{◌≡◌, ◌<◌, ◌++◌, Some, [], slice_index, slice_index_or, length, OnOk, IfOk, string_bytes};
+ghost use Rattle.xp_words.specs.Places.{sizes_of, size, memory, Vcpu, Pages, Life, Refs, Kind, M2p};
+ghost use Rattle.report_text.specs.ReportOf.{vcpu_line, vcpu_text, vcpu_texts, pending_line, domain_line, domain_lines, is_free, holder_text, form_text, frame_by, frame_text, frame_texts, free_frames, report_by, report_of};
+
+use crate::log::put_lines;
+use crate::memory::Memory;
+use crate::words::{ContextText, FlagsText, LifeText, M2pText, TypeText, type_count};
+use std::alloc::{AllocError, Global};
+use std::fmt;
+use xp_words::{KindWord, Layout, Log, LogLine, RefWord};
+
+#[tactic(auto, unfolding(crate::specs::ReportOf::vcpu_line))]
+fn put_vcpu_line(out: &mut String, machine: &Memory<'_>, vcpu: u32) -> Result<(), AllocError>
+    requires { vcpu < length machine.now.layout.now.vcpu_domain }
+    ensures { OnOk result (string_bytes out.new ≡ string_bytes out.old ++ vcpu_line machine.now.layout.now.vcpu_domain (memory (sizes_of machine.now.layout.now) machine.now.words.now) vcpu) }
+{
+    let layout = machine.layout;
+    let domain = layout.vcpu_domain.as_slice()[vcpu as usize];
+    let base = ContextText(machine.vcpu(vcpu, 0));
+    let user = ContextText(machine.vcpu(vcpu, 1));
+    let old0 = ContextText(machine.vcpu(vcpu, 2));
+    let old1 = ContextText(machine.vcpu(vcpu, 3));
+    writeln!(out, "vcpu {vcpu} domain {domain} base {base} user {user} old {old0} {old1}")
+}
+
+#[tactic(auto, unfolding(crate::specs::ReportOf::pending_line))]
+fn put_pending(out: &mut String, pending: u32) -> Result<(), AllocError>
+    ensures { OnOk result (string_bytes out.new ≡ string_bytes out.old ++ pending_line pending) }
+{
+    if pending == 0 {
+        return Ok(());
+    }
+    writeln!(out, "pending {pending}")
+}
+
+#[tactic(auto, unfolding(crate::specs::ReportOf::vcpu_text))]
+fn put_vcpu(out: &mut String, machine: &Memory<'_>, log: &[LogLine], pending: u32, vcpu: u32) -> Result<(), AllocError>
+    requires { vcpu < length machine.now.layout.now.vcpu_domain }
+    ensures { OnOk result (string_bytes out.new ≡ string_bytes out.old ++ vcpu_text machine.now.layout.now.vcpu_domain (memory (sizes_of machine.now.layout.now) machine.now.words.now) log.now pending vcpu) }
+{
+    put_vcpu_line(out, machine, vcpu)?;
+    put_lines(out, log)?;
+    put_pending(out, pending)?;
+    Ok(())
+}
+
+#[tactic(auto, unfolding(crate::specs::ReportOf::domain_line))]
+fn put_domain(out: &mut String, machine: &Memory<'_>, domain: u16) -> Result<(), AllocError>
+    requires { domain < length machine.now.layout.now.page_limit }
+    ensures { OnOk result (string_bytes out.new ≡ string_bytes out.old ++ domain_line (memory (sizes_of machine.now.layout.now) machine.now.words.now) domain) }
+{
+    let life = LifeText(machine.life(domain));
+    let pages = machine.pages(domain);
+    writeln!(out, "domain {domain} {life} pages {pages}")
+}
+
+/// The owner and the references of a frame.
+#[derive(Clone, Copy)]
+struct HolderText(u64);
+
+#[tactic(auto, unfolding(crate::specs::ReportOf::holder_text))]
+impl fmt::Display for HolderText {
+    ghost output = { λ s. Some (holder_text s.0) };
+
+    fn fmt<W: fmt::Write>(&self, f: &mut fmt::Formatter<W>) -> fmt::Result {
+        let word = self.0;
+        match RefWord::read(word) {
+            Some(RefWord::Owned { owner, allocated: true, count }) => write!(f, "owner {owner} refs {count} alloc"),
+            Some(RefWord::Owned { owner, allocated: false, count }) => write!(f, "owner {owner} refs {count} -"),
+            Some(RefWord::Dying { owner }) => write!(f, "owner {owner} refs 0 -"),
+            Some(RefWord::Free { .. }) => f.write_str("free"),
+            None => write!(f, "refs 0x{word:x}"),
+        }
+    }
+}
+
+/// The type of a frame, its count, flags and progress.
+#[derive(Clone, Copy)]
+struct FormText(u64);
+
+#[tactic(auto, unfolding(crate::specs::ReportOf::form_text))]
+impl fmt::Display for FormText {
+    ghost output = { λ s. Some (form_text s.0) };
+
+    fn fmt<W: fmt::Write>(&self, f: &mut fmt::Formatter<W>) -> fmt::Result {
+        let word = self.0;
+        let Some(kind) = KindWord::read(word) else {
+            return write!(f, "kind 0x{word:x}");
+        };
+        let progress = kind.progress;
+        write!(f, "type {} count {} flags {} at {progress}", TypeText(kind.kind), type_count(&kind), FlagsText(kind))
+    }
+}
+
+#[tactic(auto, unfolding(crate::specs::ReportOf::is_free))]
+fn is_free(refs: u64) -> bool
+    ensures { result ≡ is_free refs }
+{
+    matches!(RefWord::read(refs), Some(RefWord::Free { .. }))
+}
+
+#[tactic(auto, unfolding(crate::specs::ReportOf::frame_by))]
+fn put_frame(out: &mut String, frame: u32, refs: u64, kind: u64, m2p: u64) -> Result<(), AllocError>
+    ensures { OnOk result (string_bytes out.new ≡ string_bytes out.old ++ frame_by frame refs kind m2p) }
+{
+    writeln!(out, "frame {frame} {} {} m2p {}", HolderText(refs), FormText(kind), M2pText(m2p))
+}
