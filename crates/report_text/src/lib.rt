@@ -3,5 +3,7 @@
 
 mod log;
 mod memory;
-mod report;
+mod whole;
 mod words;
+
+pub use whole::report;

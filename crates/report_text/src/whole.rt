@@ -105,3 +105,67 @@ fn put_frame(out: &mut String, frame: u32, refs: u64, kind: u64, m2p: u64) -> Re
 {
     writeln!(out, "frame {frame} {} {} m2p {}", HolderText(refs), FormText(kind), M2pText(m2p))
 }
+
+fn log_of(logs: &[Log], vcpu: u32) -> &[LogLine]
+    requires { vcpu < length logs.now }
+    ensures { result.now ≡ slice_index_or logs.now vcpu [] }
+{
+    logs[vcpu as usize].as_slice()
+}
+
+fn put_vcpus(out: &mut String, machine: &Memory<'_>, logs: &[Log], pending: &[u32]) -> Result<(), AllocError>
+    requires logs { length logs.now ≡ length machine.now.layout.now.vcpu_domain }
+    requires pending { length pending.now ≡ length machine.now.layout.now.vcpu_domain }
+    ensures { OnOk result (string_bytes out.new ≡ string_bytes out.old ++ vcpu_texts machine.now.layout.now.vcpu_domain (memory (sizes_of machine.now.layout.now) machine.now.words.now) logs.now pending.now (length machine.now.layout.now.vcpu_domain)) }
+{
+    let vcpus = machine.layout.vcpus();
+    for vcpu in 0..vcpus {
+        put_vcpu(out, machine, log_of(logs, vcpu), pending[vcpu as usize], vcpu)?;
+    }
+    Ok(())
+}
+
+fn put_domains(out: &mut String, machine: &Memory<'_>) -> Result<(), AllocError>
+    ensures { OnOk result (string_bytes out.new ≡ string_bytes out.old ++ domain_lines (memory (sizes_of machine.now.layout.now) machine.now.words.now) (length machine.now.layout.now.page_limit)) }
+{
+    let domains = machine.layout.domains() as u16;
+    for domain in 0..domains {
+        put_domain(out, machine, domain)?;
+    }
+    Ok(())
+}
+
+/// Appends the lines of the frames that are not free, and returns how many are.
+fn put_frames(out: &mut String, machine: &Memory<'_>) -> Result<u32, AllocError>
+    ensures text { OnOk result (string_bytes out.new ≡ string_bytes out.old ++ frame_texts (memory (sizes_of machine.now.layout.now) machine.now.words.now) machine.now.layout.now.frames) }
+    ensures free { IfOk result (λ n. n ≡ free_frames (memory (sizes_of machine.now.layout.now) machine.now.words.now) machine.now.layout.now.frames) }
+{
+    let layout = machine.layout;
+    let mut free = 0;
+    for frame in 0..layout.frames {
+        let refs = machine.refs(frame);
+        if is_free(refs) {
+            free += 1;
+        } else {
+            put_frame(out, frame, refs, machine.kind(frame), machine.m2p(frame))?;
+        }
+    }
+    Ok(free)
+}
+
+/// The text of the report: each vCPU with its log and the number of its unanswered operations, each
+/// domain, each frame that is not free, and how many are. `logs` and `pending` have one item per vCPU.
+pub fn report(alloc: Global, layout: &Layout, words: &[u64], logs: &[Log], pending: &[u32]) -> Result<Vec<u8>, AllocError>
+    requires words { length words.now ≡ size (sizes_of layout.now) }
+    requires logs { length logs.now ≡ length layout.now.vcpu_domain }
+    requires pending { length pending.now ≡ length layout.now.vcpu_domain }
+    ensures { IfOk result (λ v. v.items ≡ report_of layout.now words.now logs.now pending.now) }
+{
+    let machine = Memory { layout, words };
+    let mut out = String::new(alloc);
+    put_vcpus(&mut out, &machine, logs, pending)?;
+    put_domains(&mut out, &machine)?;
+    let free = put_frames(&mut out, &machine)?;
+    write!(out, "free {free}\nend\n")?;
+    Ok(out.into_bytes())
+}
