@@ -1,3 +1,4 @@
 pub mod LogTexts
+pub mod Memories
 pub mod ReportOf
 pub mod WordTexts

@@ -7,34 +7,36 @@ use Rattle.xp_words.specs.declared.refs.RefWord.TheVariants.{Free, Owned, Dying}
 use Rattle.xp_words.specs.declared.reply.LogLine.{LogLine}
 use Rattle.xp_words.specs.KindWords.{kind_read}
 use Rattle.xp_words.specs.Machine.{Machine}
-use Rattle.xp_words.specs.Places.{Place, Pages, Life, Vcpu, Refs, Kind, M2p, sizes_of, memory}
+use Rattle.xp_words.specs.Places.{Pages, Life, Vcpu, Refs, Kind, M2p}
 use Rattle.xp_words.specs.RefWords.{ref_read}
 use Rattle.report_text.specs.LogTexts.{log_lines}
+use Rattle.report_text.specs.Memories.{Memory, word}
 use Rattle.report_text.specs.WordTexts.{hex, context_text, type_text, type_count, flags_text, life_text, m2p_text}
 
 -- the domain of a vCPU, and the words that name its frames
-unfoldable pub vcpu_line : List ℕ → (Place → ℕ) → ℕ → List ℕ
-vcpu_line domains word v =
-    codes "vcpu " ++ (decimal v ++ (codes " domain " ++ (decimal (slice_index domains v) ++ (codes " base " ++ (context_text (word (Vcpu v 0)) ++ (codes " user " ++ (context_text (word (Vcpu v 1)) ++ (codes " old " ++ (context_text (word (Vcpu v 2)) ++ (codes " " ++ (context_text (word (Vcpu v 3)) ++ codes "\n")))))))))))
+unfoldable pub vcpu_line : Memory → ℕ → List ℕ
+vcpu_line m v =
+    codes "vcpu " ++ (decimal v ++ (codes " domain " ++ (decimal (slice_index m.machine.vcpu_domain v) ++ (codes " base " ++ (context_text (word m (Vcpu v 0)) ++ (codes " user " ++ (context_text (word m (Vcpu v 1)) ++ (codes " old " ++ (context_text (word m (Vcpu v 2)) ++ (codes " " ++ (context_text (word m (Vcpu v 3)) ++ codes "\n")))))))))))
 
 -- nothing where no operation is unanswered
 unfoldable pub pending_line : ℕ → List ℕ
 pending_line n = if n == 0 then [] else codes "pending " ++ (decimal n ++ codes "\n")
 
 -- what is printed of one vCPU
-unfoldable pub vcpu_text : List ℕ → (Place → ℕ) → List LogLine → ℕ → ℕ → List ℕ
-vcpu_text domains word log pending v = vcpu_line domains word v ++ (log_lines log ++ pending_line pending)
+unfoldable pub vcpu_text : Memory → List LogLine → ℕ → ℕ → List ℕ
+vcpu_text m log pending v = vcpu_line m v ++ (log_lines log ++ pending_line pending)
 
-unfoldable pub vcpu_texts : List ℕ → (Place → ℕ) → List (List LogLine) → List ℕ → ℕ → List ℕ
-vcpu_texts domains word logs pending vcpus =
-    flat_map (λ v. vcpu_text domains word (slice_index_or logs v []) (slice_index pending v) v) (range_with_len 0 vcpus)
+-- what is printed of the first vCPUs
+unfoldable pub vcpu_texts : Memory → List (List LogLine) → List ℕ → ℕ → List ℕ
+vcpu_texts m logs pending vcpus =
+    flat_map (λ v. vcpu_text m (slice_index_or logs v []) (slice_index pending v) v) (range_with_len 0 vcpus)
 
-unfoldable pub domain_line : (Place → ℕ) → ℕ → List ℕ
-domain_line word d =
-    codes "domain " ++ (decimal d ++ (codes " " ++ (life_text (word (Life d)) ++ (codes " pages " ++ (decimal (word (Pages d)) ++ codes "\n")))))
+unfoldable pub domain_line : Memory → ℕ → List ℕ
+domain_line m d =
+    codes "domain " ++ (decimal d ++ (codes " " ++ (life_text (word m (Life d)) ++ (codes " pages " ++ (decimal (word m (Pages d)) ++ codes "\n")))))
 
-unfoldable pub domain_lines : (Place → ℕ) → ℕ → List ℕ
-domain_lines word domains = flat_map (domain_line word) (range_with_len 0 domains)
+unfoldable pub domain_lines : Memory → ℕ → List ℕ
+domain_lines m domains = flat_map (domain_line m) (range_with_len 0 domains)
 
 abbrev pub is_free_ref : Option RefWord → Bool
 is_free_ref None = false
@@ -76,23 +78,23 @@ frame_by f refs kind m2p =
     codes "frame " ++ (decimal f ++ (codes " " ++ (holder_text refs ++ (codes " " ++ (form_text kind ++ (codes " m2p " ++ (m2p_text m2p ++ codes "\n")))))))
 
 -- a free frame has no line
-unfoldable pub frame_text : (Place → ℕ) → ℕ → List ℕ
-frame_text word f = if is_free (word (Refs f)) then [] else frame_by f (word (Refs f)) (word (Kind f)) (word (M2p f))
+unfoldable pub frame_text : Memory → ℕ → List ℕ
+frame_text m f = if is_free (word m (Refs f)) then [] else frame_by f (word m (Refs f)) (word m (Kind f)) (word m (M2p f))
 
-unfoldable pub frame_texts : (Place → ℕ) → ℕ → List ℕ
-frame_texts word frames = flat_map (frame_text word) (range_with_len 0 frames)
+unfoldable pub frame_texts : Memory → ℕ → List ℕ
+frame_texts m frames = flat_map (frame_text m) (range_with_len 0 frames)
 
 -- how many of the frames are free
-unfoldable pub free_frames : (Place → ℕ) → ℕ → ℕ
-free_frames word frames = count_by (λ f. is_free (word (Refs f))) (range_with_len 0 frames)
+unfoldable pub free_frames : Memory → ℕ → ℕ
+free_frames m frames = count_by (λ f. is_free (word m (Refs f))) (range_with_len 0 frames)
 
 -- the vCPUs with their logs, the domains, the frames that are not free, and how many are free
-abbrev pub report_by : Machine → (Place → ℕ) → List (List LogLine) → List ℕ → List ℕ
-report_by m word logs pending =
-    vcpu_texts m.vcpu_domain word logs pending (length m.vcpu_domain)
-        ++ (domain_lines word (length m.page_limit)
-            ++ (frame_texts word m.frames ++ (codes "free " ++ (decimal (free_frames word m.frames) ++ codes "\nend\n"))))
+unfoldable pub text_of : Memory → List (List LogLine) → List ℕ → List ℕ
+text_of m logs pending =
+    vcpu_texts m logs pending (length m.machine.vcpu_domain)
+        ++ (domain_lines m (length m.machine.page_limit)
+            ++ (frame_texts m m.machine.frames ++ (codes "free " ++ (decimal (free_frames m m.machine.frames) ++ codes "\nend\n"))))
 
 -- the report of a machine with these words, whose vCPUs have these logs and so many unanswered operations
 abbrev pub report_of : Machine → List ℕ → List (List LogLine) → List ℕ → List ℕ
-report_of m words logs pending = report_by m (memory (sizes_of m) words) logs pending
+report_of m words logs pending = text_of (record { machine = m; words = words }) logs pending

@@ -1,6 +1,6 @@
 ghost use Rattle.std.specs.Prelude.{◌≡◌, ◌<◌, ◌++◌, Some, [], slice_index, slice_index_or, length, OnOk, IfOk, string_bytes};
-ghost use Rattle.xp_words.specs.Places.{sizes_of, size, memory, Vcpu, Pages, Life, Refs, Kind, M2p};
-ghost use Rattle.report_text.specs.ReportOf.{vcpu_line, vcpu_text, vcpu_texts, pending_line, domain_line, domain_lines, is_free, holder_text, form_text, frame_by, frame_text, frame_texts, free_frames, report_by, report_of};
+ghost use Rattle.xp_words.specs.Places.{sizes_of, size};
+ghost use Rattle.report_text.specs.ReportOf.{vcpu_line, vcpu_text, vcpu_texts, pending_line, domain_line, domain_lines, is_free, holder_text, form_text, frame_by, frame_text, frame_texts, free_frames, report_of, text_of};
 
 use crate::log::put_lines;
 use crate::memory::Memory;
@@ -11,10 +11,10 @@ use xp_words::{KindWord, Layout, Log, LogLine, RefWord};
 
 #[tactic(auto, unfolding(crate::specs::ReportOf::vcpu_line))]
 fn put_vcpu_line(out: &mut String, machine: &Memory<'_>, vcpu: u32) -> Result<(), AllocError>
-    requires { vcpu < length machine.now.layout.now.vcpu_domain }
-    ensures { OnOk result (string_bytes out.new ≡ string_bytes out.old ++ vcpu_line machine.now.layout.now.vcpu_domain (memory (sizes_of machine.now.layout.now) machine.now.words.now) vcpu) }
+    requires { vcpu < length machine.now.machine.vcpu_domain }
+    ensures { OnOk result (string_bytes out.new ≡ string_bytes out.old ++ vcpu_line machine.now vcpu) }
 {
-    let layout = machine.layout;
+    let layout = machine.layout();
     let domain = layout.vcpu_domain.as_slice()[vcpu as usize];
     let base = ContextText(machine.vcpu(vcpu, 0));
     let user = ContextText(machine.vcpu(vcpu, 1));
@@ -35,8 +35,8 @@ fn put_pending(out: &mut String, pending: u32) -> Result<(), AllocError>
 
 #[tactic(auto, unfolding(crate::specs::ReportOf::vcpu_text))]
 fn put_vcpu(out: &mut String, machine: &Memory<'_>, log: &[LogLine], pending: u32, vcpu: u32) -> Result<(), AllocError>
-    requires { vcpu < length machine.now.layout.now.vcpu_domain }
-    ensures { OnOk result (string_bytes out.new ≡ string_bytes out.old ++ vcpu_text machine.now.layout.now.vcpu_domain (memory (sizes_of machine.now.layout.now) machine.now.words.now) log.now pending vcpu) }
+    requires { vcpu < length machine.now.machine.vcpu_domain }
+    ensures { OnOk result (string_bytes out.new ≡ string_bytes out.old ++ vcpu_text machine.now log.now pending vcpu) }
 {
     put_vcpu_line(out, machine, vcpu)?;
     put_lines(out, log)?;
@@ -46,8 +46,8 @@ fn put_vcpu(out: &mut String, machine: &Memory<'_>, log: &[LogLine], pending: u3
 
 #[tactic(auto, unfolding(crate::specs::ReportOf::domain_line))]
 fn put_domain(out: &mut String, machine: &Memory<'_>, domain: u16) -> Result<(), AllocError>
-    requires { domain < length machine.now.layout.now.page_limit }
-    ensures { OnOk result (string_bytes out.new ≡ string_bytes out.old ++ domain_line (memory (sizes_of machine.now.layout.now) machine.now.words.now) domain) }
+    requires { domain < length machine.now.machine.page_limit }
+    ensures { OnOk result (string_bytes out.new ≡ string_bytes out.old ++ domain_line machine.now domain) }
 {
     let life = LifeText(machine.life(domain));
     let pages = machine.pages(domain);
@@ -114,11 +114,11 @@ fn log_of(logs: &[Log], vcpu: u32) -> &[LogLine]
 }
 
 fn put_vcpus(out: &mut String, machine: &Memory<'_>, logs: &[Log], pending: &[u32]) -> Result<(), AllocError>
-    requires logs { length logs.now ≡ length machine.now.layout.now.vcpu_domain }
-    requires pending { length pending.now ≡ length machine.now.layout.now.vcpu_domain }
-    ensures { OnOk result (string_bytes out.new ≡ string_bytes out.old ++ vcpu_texts machine.now.layout.now.vcpu_domain (memory (sizes_of machine.now.layout.now) machine.now.words.now) logs.now pending.now (length machine.now.layout.now.vcpu_domain)) }
+    requires logs { length logs.now ≡ length machine.now.machine.vcpu_domain }
+    requires pending { length pending.now ≡ length machine.now.machine.vcpu_domain }
+    ensures { OnOk result (string_bytes out.new ≡ string_bytes out.old ++ vcpu_texts machine.now logs.now pending.now (length machine.now.machine.vcpu_domain)) }
 {
-    let vcpus = machine.layout.vcpus();
+    let vcpus = machine.layout().vcpus();
     for vcpu in 0..vcpus {
         put_vcpu(out, machine, log_of(logs, vcpu), pending[vcpu as usize], vcpu)?;
     }
@@ -126,9 +126,9 @@ fn put_vcpus(out: &mut String, machine: &Memory<'_>, logs: &[Log], pending: &[u3
 }
 
 fn put_domains(out: &mut String, machine: &Memory<'_>) -> Result<(), AllocError>
-    ensures { OnOk result (string_bytes out.new ≡ string_bytes out.old ++ domain_lines (memory (sizes_of machine.now.layout.now) machine.now.words.now) (length machine.now.layout.now.page_limit)) }
+    ensures { OnOk result (string_bytes out.new ≡ string_bytes out.old ++ domain_lines machine.now (length machine.now.machine.page_limit)) }
 {
-    let domains = machine.layout.domains() as u16;
+    let domains = machine.layout().domains() as u16;
     for domain in 0..domains {
         put_domain(out, machine, domain)?;
     }
@@ -137,10 +137,10 @@ fn put_domains(out: &mut String, machine: &Memory<'_>) -> Result<(), AllocError>
 
 /// Appends the lines of the frames that are not free, and returns how many are.
 fn put_frames(out: &mut String, machine: &Memory<'_>) -> Result<u32, AllocError>
-    ensures text { OnOk result (string_bytes out.new ≡ string_bytes out.old ++ frame_texts (memory (sizes_of machine.now.layout.now) machine.now.words.now) machine.now.layout.now.frames) }
-    ensures free { IfOk result (λ n. n ≡ free_frames (memory (sizes_of machine.now.layout.now) machine.now.words.now) machine.now.layout.now.frames) }
+    ensures text { OnOk result (string_bytes out.new ≡ string_bytes out.old ++ frame_texts machine.now machine.now.machine.frames) }
+    ensures free { IfOk result (λ n. n ≡ free_frames machine.now machine.now.machine.frames) }
 {
-    let layout = machine.layout;
+    let layout = machine.layout();
     let mut free = 0;
     for frame in 0..layout.frames {
         let refs = machine.refs(frame);
@@ -155,13 +155,14 @@ fn put_frames(out: &mut String, machine: &Memory<'_>) -> Result<u32, AllocError>
 
 /// The text of the report: each vCPU with its log and the number of its unanswered operations, each
 /// domain, each frame that is not free, and how many are. `logs` and `pending` have one item per vCPU.
+#[tactic(auto, unfolding(crate::specs::ReportOf::text_of))]
 pub fn report(alloc: Global, layout: &Layout, words: &[u64], logs: &[Log], pending: &[u32]) -> Result<Vec<u8>, AllocError>
     requires words { length words.now ≡ size (sizes_of layout.now) }
     requires logs { length logs.now ≡ length layout.now.vcpu_domain }
     requires pending { length pending.now ≡ length layout.now.vcpu_domain }
     ensures { IfOk result (λ v. v.items ≡ report_of layout.now words.now logs.now pending.now) }
 {
-    let machine = Memory { layout, words };
+    let machine = Memory::new(layout, words);
     let mut out = String::new(alloc);
     put_vcpus(&mut out, &machine, logs, pending)?;
     put_domains(&mut out, &machine)?;
