@@ -92,8 +92,8 @@ free_frames m frames = count_by (λ f. is_free (word m (Refs f))) (range_with_le
 unfoldable pub text_of : Memory → List (List LogLine) → List ℕ → List ℕ
 text_of m logs pending =
     vcpu_texts m logs pending (length m.machine.vcpu_domain)
-        ++ (domain_lines m (length m.machine.page_limit)
-            ++ (frame_texts m m.machine.frames ++ (codes "free " ++ (decimal (free_frames m m.machine.frames) ++ codes "\nend\n"))))
+    ++ (domain_lines m (length m.machine.page_limit)
+    ++ (frame_texts m m.machine.frames ++ (codes "free " ++ (decimal (free_frames m m.machine.frames) ++ codes "\nend\n"))))
 
 -- the report of a machine with these words, whose vCPUs have these logs and so many unanswered operations
 abbrev pub report_of : Machine → List ℕ → List (List LogLine) → List ℕ → List ℕ

@@ -63,7 +63,7 @@ unfoldable pub flags_text : KindWord → List ℕ
 flags_text k =
     if is_marked k
     then letter k.pinned (codes "p")
-        ++ (letter k.validated (codes "v") ++ (letter k.partial (codes "h") ++ (letter k.locked (codes "l") ++ (letter k.kept (codes "k") ++ letter k.unflushed (codes "u")))))
+    ++ (letter k.validated (codes "v") ++ (letter k.partial (codes "h") ++ (letter k.locked (codes "l") ++ (letter k.kept (codes "k") ++ letter k.unflushed (codes "u")))))
     else codes "-"
 
 abbrev pub kind_by : ℕ → Option KindWord → List ℕ

@@ -7,3 +7,6 @@ mod whole;
 mod words;
 
 pub use whole::report;
+
+#[cfg(test)]
+mod tests;

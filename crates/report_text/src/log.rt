@@ -46,31 +46,65 @@ impl fmt::Display for RefusalText {
     fn fmt<W: fmt::Write>(&self, f: &mut fmt::Formatter<W>) -> fmt::Result {
         match self.0 {
             Refusal::NoFrame { frame } => write!(f, "NoFrame frame={frame}"),
-            Refusal::WrongOwner { frame, found } => write!(f, "WrongOwner frame={frame} found={}", RefText(found)),
+            Refusal::WrongOwner { frame, found } => write!(
+                f,
+                "WrongOwner frame={frame} found={}",
+                RefText(found)
+            ),
             Refusal::OtherType { frame, want, found } => {
-                write!(f, "OtherType frame={frame} want={} found={}", TypeText(want), KindText(found))
+                write!(
+                    f,
+                    "OtherType frame={frame} want={} found={}",
+                    TypeText(want),
+                    KindText(found)
+                )
             }
-            Refusal::Reserved { frame, index, entry } => write!(f, "Reserved frame={frame} index={index} entry=0x{entry:x}"),
-            Refusal::CountFull { frame, found } => write!(f, "CountFull frame={frame} found={}", RefText(found)),
-            Refusal::AlreadyPinned { found } => write!(f, "AlreadyPinned found={}", KindText(found)),
+            Refusal::Reserved {
+                frame,
+                index,
+                entry,
+            } => write!(f, "Reserved frame={frame} index={index} entry=0x{entry:x}"),
+            Refusal::CountFull { frame, found } => write!(
+                f,
+                "CountFull frame={frame} found={}",
+                RefText(found)
+            ),
+            Refusal::AlreadyPinned { found } => write!(
+                f,
+                "AlreadyPinned found={}",
+                KindText(found)
+            ),
             Refusal::NotPinned { found } => write!(f, "NotPinned found={}", KindText(found)),
             Refusal::Slot { index } => write!(f, "Slot index={index}"),
-            Refusal::NotMapped { level, entry } => write!(f, "NotMapped level={level} entry=0x{entry:x}"),
+            Refusal::NotMapped { level, entry } => write!(
+                f,
+                "NotMapped level={level} entry=0x{entry:x}"
+            ),
             Refusal::ReadOnly { entry } => write!(f, "ReadOnly entry=0x{entry:x}"),
             Refusal::NonCanonical => f.write_str("NonCanonical"),
-            Refusal::NoPrivilege { caller, domain } => write!(f, "NoPrivilege caller={caller} domain={domain}"),
+            Refusal::NoPrivilege { caller, domain } => write!(
+                f,
+                "NoPrivilege caller={caller} domain={domain}"
+            ),
             Refusal::NoDomain => f.write_str("NoDomain"),
             Refusal::Dying { domain, found } => write!(f, "Dying domain={domain} found={found}"),
             Refusal::DomainFull { found } => write!(f, "DomainFull found={found}"),
             Refusal::NoFree => f.write_str("NoFree"),
             Refusal::BadRange => f.write_str("BadRange"),
             Refusal::BadDescriptor { frame, index, word } => {
-                write!(f, "BadDescriptor frame={frame} index={index} word=0x{word:x}")
+                write!(
+                    f,
+                    "BadDescriptor frame={frame} index={index} word=0x{word:x}"
+                )
             }
             Refusal::BadCommand => f.write_str("BadCommand"),
             Refusal::Clock { found } => write!(f, "Clock found={found}"),
             Refusal::BatchLong => f.write_str("BatchLong"),
-            Refusal::InUse { frame, found } => write!(f, "InUse frame={frame} found={}", RefText(found)),
+            Refusal::InUse { frame, found } => write!(
+                f,
+                "InUse frame={frame} found={}",
+                RefText(found)
+            ),
         }
     }
 }
@@ -89,7 +123,11 @@ impl fmt::Display for StepText {
     fn fmt<W: fmt::Write>(&self, f: &mut fmt::Formatter<W>) -> fmt::Result {
         let op = self.op;
         let call = self.call;
-        if call == 0 { write!(f, "op {op}") } else { write!(f, "op {op} call {call}") }
+        if call == 0 {
+            write!(f, "op {op}")
+        } else {
+            write!(f, "op {op} call {call}")
+        }
     }
 }
 
@@ -104,14 +142,28 @@ fn put_line(out: &mut String, line: LogLine) -> Result<(), AllocError>
             let value = reply.value;
             match reply.refusal {
                 None => writeln!(out, "{step} ok done {done} value 0x{value:x}"),
-                Some(refusal) => writeln!(out, "{step} refused {} done {done} {}", number(refusal), RefusalText(refusal)),
+                Some(refusal) => writeln!(
+                    out,
+                    "{step} refused {} done {done} {}",
+                    number(refusal),
+                    RefusalText(refusal)
+                ),
             }
         }
-        LogLine::Given { op, call, extent, frame } => {
+        LogLine::Given {
+            op,
+            call,
+            extent,
+            frame,
+        } => {
             let step = StepText { op, call };
             writeln!(out, "{step} given {extent} {frame}")
         }
-        LogLine::Left { op, frame, found } => writeln!(out, "op {op} left {frame} refs {}", RefText(found)),
+        LogLine::Left { op, frame, found } => writeln!(
+            out,
+            "op {op} left {frame} refs {}",
+            RefText(found)
+        ),
     }
 }
 

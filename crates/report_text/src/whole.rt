@@ -20,7 +20,10 @@ fn put_vcpu_line(out: &mut String, machine: &Memory<'_>, vcpu: u32) -> Result<()
     let user = ContextText(machine.vcpu(vcpu, 1));
     let old0 = ContextText(machine.vcpu(vcpu, 2));
     let old1 = ContextText(machine.vcpu(vcpu, 3));
-    writeln!(out, "vcpu {vcpu} domain {domain} base {base} user {user} old {old0} {old1}")
+    writeln!(
+        out,
+        "vcpu {vcpu} domain {domain} base {base} user {user} old {old0} {old1}"
+    )
 }
 
 #[tactic(auto, unfolding(crate::specs::ReportOf::pending_line))]
@@ -34,7 +37,13 @@ fn put_pending(out: &mut String, pending: u32) -> Result<(), AllocError>
 }
 
 #[tactic(auto, unfolding(crate::specs::ReportOf::vcpu_text))]
-fn put_vcpu(out: &mut String, machine: &Memory<'_>, log: &[LogLine], pending: u32, vcpu: u32) -> Result<(), AllocError>
+fn put_vcpu(
+    out: &mut String,
+    machine: &Memory<'_>,
+    log: &[LogLine],
+    pending: u32,
+    vcpu: u32,
+) -> Result<(), AllocError>
     requires { vcpu < length machine.now.machine.vcpu_domain }
     ensures { OnOk result (string_bytes out.new ≡ string_bytes out.old ++ vcpu_text machine.now log.now pending vcpu) }
 {
@@ -65,8 +74,20 @@ impl fmt::Display for HolderText {
     fn fmt<W: fmt::Write>(&self, f: &mut fmt::Formatter<W>) -> fmt::Result {
         let word = self.0;
         match RefWord::read(word) {
-            Some(RefWord::Owned { owner, allocated: true, count }) => write!(f, "owner {owner} refs {count} alloc"),
-            Some(RefWord::Owned { owner, allocated: false, count }) => write!(f, "owner {owner} refs {count} -"),
+            Some(
+                RefWord::Owned {
+                    owner,
+                    allocated: true,
+                    count,
+                },
+            ) => write!(f, "owner {owner} refs {count} alloc"),
+            Some(
+                RefWord::Owned {
+                    owner,
+                    allocated: false,
+                    count,
+                },
+            ) => write!(f, "owner {owner} refs {count} -"),
             Some(RefWord::Dying { owner }) => write!(f, "owner {owner} refs 0 -"),
             Some(RefWord::Free { .. }) => f.write_str("free"),
             None => write!(f, "refs 0x{word:x}"),
@@ -88,7 +109,13 @@ impl fmt::Display for FormText {
             return write!(f, "kind 0x{word:x}");
         };
         let progress = kind.progress;
-        write!(f, "type {} count {} flags {} at {progress}", TypeText(kind.kind), type_count(&kind), FlagsText(kind))
+        write!(
+            f,
+            "type {} count {} flags {} at {progress}",
+            TypeText(kind.kind),
+            type_count(&kind),
+            FlagsText(kind)
+        )
     }
 }
 
@@ -103,7 +130,13 @@ fn is_free(refs: u64) -> bool
 fn put_frame(out: &mut String, frame: u32, refs: u64, kind: u64, m2p: u64) -> Result<(), AllocError>
     ensures { OnOk result (string_bytes out.new ≡ string_bytes out.old ++ frame_by frame refs kind m2p) }
 {
-    writeln!(out, "frame {frame} {} {} m2p {}", HolderText(refs), FormText(kind), M2pText(m2p))
+    writeln!(
+        out,
+        "frame {frame} {} {} m2p {}",
+        HolderText(refs),
+        FormText(kind),
+        M2pText(m2p)
+    )
 }
 
 fn log_of(logs: &[Log], vcpu: u32) -> &[LogLine]
@@ -113,14 +146,25 @@ fn log_of(logs: &[Log], vcpu: u32) -> &[LogLine]
     logs[vcpu as usize].as_slice()
 }
 
-fn put_vcpus(out: &mut String, machine: &Memory<'_>, logs: &[Log], pending: &[u32]) -> Result<(), AllocError>
+fn put_vcpus(
+    out: &mut String,
+    machine: &Memory<'_>,
+    logs: &[Log],
+    pending: &[u32],
+) -> Result<(), AllocError>
     requires logs { length logs.now ≡ length machine.now.machine.vcpu_domain }
     requires pending { length pending.now ≡ length machine.now.machine.vcpu_domain }
     ensures { OnOk result (string_bytes out.new ≡ string_bytes out.old ++ vcpu_texts machine.now logs.now pending.now (length machine.now.machine.vcpu_domain)) }
 {
     let vcpus = machine.layout().vcpus();
     for vcpu in 0..vcpus {
-        put_vcpu(out, machine, log_of(logs, vcpu), pending[vcpu as usize], vcpu)?;
+        put_vcpu(
+            out,
+            machine,
+            log_of(logs, vcpu),
+            pending[vcpu as usize],
+            vcpu,
+        )?;
     }
     Ok(())
 }
@@ -156,7 +200,13 @@ fn put_frames(out: &mut String, machine: &Memory<'_>) -> Result<u32, AllocError>
 /// The text of the report: each vCPU with its log and the number of its unanswered operations, each
 /// domain, each frame that is not free, and how many are. `logs` and `pending` have one item per vCPU.
 #[tactic(auto, unfolding(crate::specs::ReportOf::text_of))]
-pub fn report(alloc: Global, layout: &Layout, words: &[u64], logs: &[Log], pending: &[u32]) -> Result<Vec<u8>, AllocError>
+pub fn report(
+    alloc: Global,
+    layout: &Layout,
+    words: &[u64],
+    logs: &[Log],
+    pending: &[u32],
+) -> Result<Vec<u8>, AllocError>
     requires words { length words.now ≡ size (sizes_of layout.now) }
     requires logs { length logs.now ≡ length layout.now.vcpu_domain }
     requires pending { length pending.now ≡ length layout.now.vcpu_domain }

@@ -34,8 +34,20 @@ impl fmt::Display for RefText {
         let word = self.0;
         match RefWord::read(word) {
             Some(RefWord::Free { .. }) => f.write_str("free"),
-            Some(RefWord::Owned { owner, allocated: true, count }) => write!(f, "d{owner},{count},a"),
-            Some(RefWord::Owned { owner, allocated: false, count }) => write!(f, "d{owner},{count}"),
+            Some(
+                RefWord::Owned {
+                    owner,
+                    allocated: true,
+                    count,
+                },
+            ) => write!(f, "d{owner},{count},a"),
+            Some(
+                RefWord::Owned {
+                    owner,
+                    allocated: false,
+                    count,
+                },
+            ) => write!(f, "d{owner},{count}"),
             Some(RefWord::Dying { owner }) => write!(f, "d{owner},0"),
             None => write!(f, "0x{word:x}"),
         }
@@ -92,7 +104,13 @@ impl fmt::Display for FlagsText {
 
     fn fmt<W: fmt::Write>(&self, f: &mut fmt::Formatter<W>) -> fmt::Result {
         let kind = &self.0;
-        if !(kind.pinned || kind.validated || kind.partial || kind.locked || kind.kept || kind.unflushed) {
+        if !(kind.pinned
+            || kind.validated
+            || kind.partial
+            || kind.locked
+            || kind.kept
+            || kind.unflushed)
+        {
             return f.write_str("-");
         }
         let pinned = letter(kind.pinned, "p");
@@ -116,7 +134,13 @@ impl fmt::Display for KindText {
     fn fmt<W: fmt::Write>(&self, f: &mut fmt::Formatter<W>) -> fmt::Result {
         let word = self.0;
         match KindWord::read(word) {
-            Some(kind) => write!(f, "{},{},{}", TypeText(kind.kind), type_count(&kind), FlagsText(kind)),
+            Some(kind) => write!(
+                f,
+                "{},{},{}",
+                TypeText(kind.kind),
+                type_count(&kind),
+                FlagsText(kind)
+            ),
             None => write!(f, "0x{word:x}"),
         }
     }
@@ -149,6 +173,10 @@ impl fmt::Display for M2pText {
 
     fn fmt<W: fmt::Write>(&self, f: &mut fmt::Formatter<W>) -> fmt::Result {
         let word = self.0;
-        if word == u64::MAX { f.write_str("-") } else { write!(f, "0x{word:x}") }
+        if word == u64::MAX {
+            f.write_str("-")
+        } else {
+            write!(f, "0x{word:x}")
+        }
     }
 }

@@ -5,4 +5,4 @@ use Rattle.report_text.proofs.whole.put_domains.Given as goal
 abbrev pub invariant-loop-domain : goal.invariant-loop-domain
 invariant-loop-domain l =
     string_bytes l.out
-        ≡ string_bytes l.initial.out ++ domain_lines l.machine l.domain
+    ≡ string_bytes l.initial.out ++ domain_lines l.machine l.domain
