@@ -1,6 +1,6 @@
 -- One more number of a range.
-use Rattle.std.proofs.Common.{◌≡◌, ℕ, zero, suc, ◌+◌, List, [], ◌∷◌, ◌++◌, refl, sym, ap, ◌∙◌, append-nil, Bool, true, false, cond, arith}
-use Rattle.std.specs.List.{flat_map, range_with_len, count_by, sum_by}
+use Rattle.std.proofs.Common.{◌≡◌, ℕ, zero, suc, ◌+◌, List, [], ◌∷◌, ◌++◌, ap, ◌∙◌, append-nil, Bool, cond, arith}
+use Rattle.std.specs.List.{flat_map, range_with_len, count_by}
 use Rattle.std.proofs.lemmas.Grind.{flat_map-append}
 use Rattle.std.proofs.lemmas.List.Sums.{sum_by_push}
 

@@ -1,11 +1,10 @@
 -- The lines of a vCPU's log.
-use Rattle.std.specs.Prelude.{◌≡◌, ℕ, ◌==◌, if◌then◌else◌, Bool, List, [], ◌∷◌, ◌++◌, Option, Some, None, codes, decimal}
+use Rattle.std.specs.Prelude.{ℕ, ◌==◌, if◌then◌else◌, List, [], ◌++◌, Option, Some, None, codes, decimal}
 use Rattle.std.specs.List.{flat_map}
 use Rattle.xp_words.specs.declared.reply.LogLine.{LogLine}
 use Rattle.xp_words.specs.declared.reply.LogLine.TheVariants.{Answer, Given, Left}
 use Rattle.xp_words.specs.declared.reply.Refusal.{Refusal}
 use Rattle.xp_words.specs.declared.reply.Refusal.TheVariants as refusals
-use Rattle.xp_words.specs.declared.reply.Reply.{Reply}
 use Rattle.report_text.specs.WordTexts.{hex, ref_text, kind_text, type_text}
 
 abbrev pub refusal_number : Refusal → ℕ

@@ -1,5 +1,5 @@
 -- How words are printed. A number that is no spelling of a word is printed in hex.
-use Rattle.std.specs.Prelude.{◌≡◌, ℕ, ◌+◌, ◌-◌, ◌^◌, ◌==◌, ◌&&◌, ◌||◌, nat_lt, nat_le, if◌then◌else◌, Bool, true, false, List, [], ◌∷◌, ◌++◌, Option, Some, None, codes, decimal}
+use Rattle.std.specs.Prelude.{ℕ, ◌-◌, ◌^◌, ◌==◌, ◌||◌, if◌then◌else◌, Bool, true, false, List, [], ◌++◌, Option, Some, None, codes, decimal}
 use Rattle.std.specs.Fmt.{digits}
 use Rattle.xp_words.specs.declared.context.ContextWord.{ContextWord}
 use Rattle.xp_words.specs.declared.kind.KindWord.{KindWord}
