@@ -7,6 +7,7 @@ use Rattle.xp_words.specs.declared.reply.Refusal.{Refusal}
 use Rattle.xp_words.specs.declared.reply.Refusal.TheVariants as refusals
 use Rattle.report_text.specs.WordTexts.{hex, ref_text, kind_text, type_text}
 
+-- the number of a refusal
 abbrev pub refusal_number : Refusal → ℕ
 refusal_number (refusals.NoFrame frame) = 1
 refusal_number (refusals.WrongOwner frame found) = 2
@@ -60,14 +61,17 @@ refusal_text (refusals.InUse frame found) = codes "InUse frame=" ++ (decimal fra
 unfoldable pub step_text : ℕ → ℕ → List ℕ
 step_text op call = codes "op " ++ (decimal op ++ (if call == 0 then [] else codes " call " ++ decimal call))
 
+-- how an operation or a call ended
 abbrev pub answer_text : ℕ → ℕ → Option Refusal → List ℕ
 answer_text done value None = codes " ok done " ++ (decimal done ++ (codes " value " ++ hex value))
 answer_text done value (Some r) = codes " refused " ++ (decimal (refusal_number r) ++ (codes " done " ++ (decimal done ++ (codes " " ++ refusal_text r))))
 
+-- one line of a log
 unfoldable pub log_line : LogLine → List ℕ
 log_line (Answer op call reply) = step_text op call ++ (answer_text reply.done reply.value reply.refusal ++ codes "\n")
 log_line (Given op call extent frame) = step_text op call ++ (codes " given " ++ (decimal extent ++ (codes " " ++ (decimal frame ++ codes "\n"))))
 log_line (Left op frame found) = codes "op " ++ (decimal op ++ (codes " left " ++ (decimal frame ++ (codes " refs " ++ (ref_text found ++ codes "\n")))))
 
+-- a whole log
 unfoldable pub log_lines : List LogLine → List ℕ
 log_lines lines = flat_map log_line lines

@@ -18,7 +18,7 @@ unfoldable pub vcpu_line : Memory → ℕ → List ℕ
 vcpu_line m v =
     codes "vcpu " ++ (decimal v ++ (codes " domain " ++ (decimal (slice_index m.machine.vcpu_domain v) ++ (codes " base " ++ (context_text (word m (Vcpu v 0)) ++ (codes " user " ++ (context_text (word m (Vcpu v 1)) ++ (codes " old " ++ (context_text (word m (Vcpu v 2)) ++ (codes " " ++ (context_text (word m (Vcpu v 3)) ++ codes "\n")))))))))))
 
--- nothing where no operation is unanswered
+-- how many operations are unanswered; nothing where none is
 unfoldable pub pending_line : ℕ → List ℕ
 pending_line n = if n == 0 then [] else codes "pending " ++ (decimal n ++ codes "\n")
 
@@ -31,27 +31,32 @@ unfoldable pub vcpu_texts : Memory → List (List LogLine) → List ℕ → ℕ 
 vcpu_texts m logs pending vcpus =
     flat_map (λ v. vcpu_text m (slice_index_or logs v []) (slice_index pending v) v) (range_with_len 0 vcpus)
 
+-- the life of a domain and the number of its pages
 unfoldable pub domain_line : Memory → ℕ → List ℕ
 domain_line m d =
     codes "domain " ++ (decimal d ++ (codes " " ++ (life_text (word m (Life d)) ++ (codes " pages " ++ (decimal (word m (Pages d)) ++ codes "\n")))))
 
+-- the lines of the first domains
 unfoldable pub domain_lines : Memory → ℕ → List ℕ
 domain_lines m domains = flat_map (domain_line m) (range_with_len 0 domains)
 
+-- whether a reference word that is read so is that of a free frame
 abbrev pub is_free_ref : Option RefWord → Bool
 is_free_ref None = false
 is_free_ref (Some (Free stamp)) = true
 is_free_ref (Some (Owned owner allocated count)) = false
 is_free_ref (Some (Dying owner)) = false
 
--- whether a reference word is that of a free frame
+-- the same of the word itself
 unfoldable pub is_free : ℕ → Bool
 is_free w = is_free_ref (ref_read w)
 
+-- whether one of the references is the owner's own
 abbrev pub alloc_text : Bool → List ℕ
 alloc_text true = codes "alloc"
 alloc_text false = codes "-"
 
+-- the owner and the references in a word that is read so
 abbrev pub holder_by : ℕ → Option RefWord → List ℕ
 holder_by w None = codes "refs " ++ hex w
 holder_by w (Some (Free stamp)) = codes "free"
@@ -59,16 +64,17 @@ holder_by w (Some (Owned owner allocated count)) =
     codes "owner " ++ (decimal owner ++ (codes " refs " ++ (decimal count ++ (codes " " ++ alloc_text allocated))))
 holder_by w (Some (Dying owner)) = codes "owner " ++ (decimal owner ++ codes " refs 0 -")
 
--- the owner and the references of a frame
+-- the same of the word itself
 unfoldable pub holder_text : ℕ → List ℕ
 holder_text w = holder_by w (ref_read w)
 
+-- the type, the type count, the flags and the progress in a word that is read so
 abbrev pub form_by : ℕ → Option KindWord → List ℕ
 form_by w None = codes "kind " ++ hex w
 form_by w (Some k) =
     codes "type " ++ (type_text k.kind ++ (codes " count " ++ (decimal (type_count k) ++ (codes " flags " ++ (flags_text k ++ (codes " at " ++ decimal k.progress))))))
 
--- the type of a frame, its count, flags and progress
+-- the same of the word itself
 unfoldable pub form_text : ℕ → List ℕ
 form_text w = form_by w (kind_read w)
 
@@ -77,14 +83,15 @@ unfoldable pub frame_by : ℕ → ℕ → ℕ → ℕ → List ℕ
 frame_by f refs kind m2p =
     codes "frame " ++ (decimal f ++ (codes " " ++ (holder_text refs ++ (codes " " ++ (form_text kind ++ (codes " m2p " ++ (m2p_text m2p ++ codes "\n")))))))
 
--- a free frame has no line
+-- the line of a frame; a free one has none
 unfoldable pub frame_text : Memory → ℕ → List ℕ
 frame_text m f = if is_free (word m (Refs f)) then [] else frame_by f (word m (Refs f)) (word m (Kind f)) (word m (M2p f))
 
+-- the lines of the first frames
 unfoldable pub frame_texts : Memory → ℕ → List ℕ
 frame_texts m frames = flat_map (frame_text m) (range_with_len 0 frames)
 
--- how many of the frames are free
+-- how many of the first frames are free
 unfoldable pub free_frames : Memory → ℕ → ℕ
 free_frames m frames = count_by (λ f. is_free (word m (Refs f))) (range_with_len 0 frames)
 

@@ -15,10 +15,12 @@ use Rattle.xp_words.specs.RefWords.{ref_read}
 abbrev pub hex : ℕ → List ℕ
 hex n = codes "0x" ++ digits 16 false n
 
+-- a frame's number, `-` for none
 abbrev pub frame_or_dash : Option ℕ → List ℕ
 frame_or_dash None = codes "-"
 frame_or_dash (Some f) = decimal f
 
+-- the text of a context word that is read so
 abbrev pub context_by : ℕ → Option ContextWord → List ℕ
 context_by w None = hex w
 context_by w (Some c) = frame_or_dash c.frame
@@ -27,6 +29,7 @@ context_by w (Some c) = frame_or_dash c.frame
 unfoldable pub context_text : ℕ → List ℕ
 context_text w = context_by w (context_read w)
 
+-- the text of a reference word that is read so
 abbrev pub ref_by : ℕ → Option RefWord → List ℕ
 ref_by w None = hex w
 ref_by w (Some (Free stamp)) = codes "free"
@@ -38,6 +41,7 @@ ref_by w (Some (Dying owner)) = codes "d" ++ (decimal owner ++ codes ",0")
 unfoldable pub ref_text : ℕ → List ℕ
 ref_text w = ref_by w (ref_read w)
 
+-- the name of a type
 unfoldable pub type_text : PageType → List ℕ
 type_text kinds.None = codes "none"
 type_text kinds.L1 = codes "L1"
@@ -55,6 +59,7 @@ type_count k = if k.validated then k.number else if k.locked || k.partial then 1
 abbrev pub letter : Bool → List ℕ → List ℕ
 letter set text = if set then text else []
 
+-- whether any mark is set
 abbrev pub is_marked : KindWord → Bool
 is_marked k = k.pinned || k.validated || k.partial || k.locked || k.kept || k.unflushed
 
@@ -66,6 +71,7 @@ flags_text k =
     ++ (letter k.validated (codes "v") ++ (letter k.partial (codes "h") ++ (letter k.locked (codes "l") ++ (letter k.kept (codes "k") ++ letter k.unflushed (codes "u")))))
     else codes "-"
 
+-- the text of a kind word that is read so
 abbrev pub kind_by : ℕ → Option KindWord → List ℕ
 kind_by w None = hex w
 kind_by w (Some k) = type_text k.kind ++ (codes "," ++ (decimal (type_count k) ++ (codes "," ++ flags_text k)))

@@ -1,6 +1,6 @@
-ghost use Rattle.std.specs.Prelude.{◌≡◌, ◌<◌, ◌++◌, Some, [], slice_index, slice_index_or, length, OnOk, IfOk, string_bytes};
+ghost use Rattle.std.specs.Prelude.{◌≡◌, ◌<◌, ◌++◌, Some, [], slice_index_or, length, OnOk, IfOk, string_bytes};
 ghost use Rattle.xp_words.specs.Places.{sizes_of, size};
-ghost use Rattle.report_text.specs.ReportOf.{vcpu_line, vcpu_text, vcpu_texts, pending_line, domain_line, domain_lines, is_free, holder_text, form_text, frame_by, frame_text, frame_texts, free_frames, report_of, text_of};
+ghost use Rattle.report_text.specs.ReportOf.{vcpu_line, vcpu_text, vcpu_texts, pending_line, domain_line, domain_lines, is_free, holder_text, form_text, frame_by, frame_texts, free_frames, report_of};
 
 use crate::log::put_lines;
 use crate::memory::Memory;

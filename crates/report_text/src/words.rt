@@ -1,5 +1,5 @@
-ghost use Rattle.std.specs.Prelude.{◌≡◌, Some, ◌^◌, if◌then◌else◌, []};
-ghost use Rattle.report_text.specs.WordTexts.{context_text, ref_text, type_text, type_count, letter, is_marked, flags_text, kind_text, life_text, m2p_text};
+ghost use Rattle.std.specs.Prelude.{◌≡◌, Some};
+ghost use Rattle.report_text.specs.WordTexts.{context_text, ref_text, type_text, type_count, letter, flags_text, kind_text, life_text, m2p_text};
 
 use std::fmt;
 use xp_words::{ContextWord, KindWord, PageType, RefWord};
