@@ -1,0 +1,4 @@
+pub mod LogTexts
+pub mod Memories
+pub mod ReportOf
+pub mod WordTexts

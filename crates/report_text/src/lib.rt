@@ -1,13 +1,12 @@
-// A library with one function.
+//! The report: the text of a machine's words and of its vCPUs' logs.
 #![tactic(auto)]
 
-ghost use Rattle.std.specs.Prelude.{◌≡◌};
-ghost use Rattle.report_text.specs.Echo.{echo_of};
+mod log;
+mod memory;
+mod whole;
+mod words;
 
-// The `ensures` clause is the contract: what `echo` returns is `echo_of` of its argument, a definition
-// in `specs/Echo.antt`, which a caller's clause can cite too.
-pub fn echo(x: usize) -> usize
-    ensures { result ≡ echo_of x }
-{
-    x
-}
+pub use whole::report;
+
+#[cfg(test)]
+mod tests;
