@@ -1,3 +1,6 @@
 pub mod Acts
 pub mod Lists
 pub mod Steps
+pub mod Hands
+pub mod Knowledge
+pub mod Readings
