@@ -4,3 +4,8 @@ pub mod Steps
 pub mod Hands
 pub mod Knowledge
 pub mod Readings
+pub mod Flushes
+pub mod RefSteps
+pub mod Spelling
+pub mod KindSteps
+pub mod Settling
