@@ -9,3 +9,10 @@ pub mod RefSteps
 pub mod Spelling
 pub mod KindSteps
 pub mod Settling
+pub mod CellSteps
+pub mod ContextSteps
+pub mod FillSteps
+pub mod GuestSteps
+pub mod M2pSteps
+pub mod PagesSteps
+pub mod TouchSteps
