@@ -1,13 +1,11 @@
-// A library with one function.
+//! The machine: the atomic steps of its vCPUs, what a seat holds, when a step is legal and what it leaves.
 #![tactic(auto)]
 
-ghost use Rattle.std.specs.Prelude.{◌≡◌};
-ghost use Rattle.xp_board.specs.Echo.{echo_of};
+mod holdings;
+mod step;
 
-// The `ensures` clause is the contract: what `echo` returns is `echo_of` of its argument, a definition
-// in `specs/Echo.antt`, which a caller's clause can cite too.
-pub fn echo(x: usize) -> usize
-    ensures { result ≡ echo_of x }
-{
-    x
-}
+pub use holdings::{
+    Claimed, Ending, Holdings, Liveness, Lock, Looking, Made, OwnerFound, Reached, Reference, Seen, Touching, TypedReference, Unsettled,
+    Walk, Work,
+};
+pub use step::{Act, Item, Mark, Step, StepKind};
