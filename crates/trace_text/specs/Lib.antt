@@ -1,2 +1,4 @@
 pub mod Counted
+pub mod Fronts
+pub mod Parts
 pub mod WellFormed

@@ -1,0 +1,223 @@
+//! What the lines so far say, one line after another.
+
+ghost use Rattle.std.specs.Prelude.{◌≡◌, ◌+◌, ◌^◌, ◌<◌, ◌≤◌, length, nat_le, IsTrue, slice_set, slice_index, bit_or};
+ghost use Rattle.trace_lines.specs.Steps.{Gives};
+ghost use Rattle.trace_lines.specs.declared.fault.LineError.TheVariants.{At};
+ghost use Rattle.trace_lines.specs.declared.fault.LineFault.TheVariants.{Passed};
+ghost use Rattle.trace_text.specs.Fronts.{nothing, is_between, most_frames as most_frames_lem, after_header, after_frames, after_limit, after_clock, after_domain, after_priv, after_vcpu};
+ghost use Rattle.trace_text.specs.Parts.{is_of};
+ghost use Rattle.trace_lines.specs.declared.line.Line.TheVariants.{Header};
+
+use crate::trace::{CellRun, Own, TurnRun};
+use arrayvec::ArrayVec;
+use std::alloc::Global;
+use std::marker::Model;
+use trace_lines::{LineError, LineFault, What};
+use xp_words::Script;
+
+/// What the lines so far say. Beside that it keeps which frames are owned, how many each domain owns, and
+/// the sums of what is counted, so that no line looks at the ones before it.
+#[derive(Drop)]
+pub(crate) struct Part {
+    place: u8,
+    version: u8,
+    frames: u32,
+    limit: u32,
+    clock: u64,
+    domains: ArrayVec<u32, 16>,
+    masks: ArrayVec<u16, 16>,
+    vcpus: ArrayVec<u16, 16>,
+    owned: Vec<Own>,
+    cells: Vec<CellRun>,
+    scripts: Vec<Script>,
+    turns: Vec<TurnRun>,
+    taken: Vec<bool>,
+    pages: [u32; 16],
+    ops: u32,
+    destroys: u32,
+    extents: u32,
+    turned: u32,
+}
+
+impl Model for Part {
+    ghost use Rattle.trace_text.specs.Fronts.{Front};
+
+    ghost Value = { Front };
+
+    ghost use Rattle.trace_text.specs.Parts.{Tallies, HasMachine, HasOpening};
+
+    ghost view = { λ s. record { place = s.place; version = s.version; frames = s.frames; limit = s.limit; clock = s.clock; domains = s.domains.items; masks = s.masks.items; vcpus = s.vcpus.items; owned = s.owned.items; cells = s.cells.items; scripts = s.scripts.items; turns = s.turns.items } };
+
+    ghost invariant = { λ s. let front : Front = record { place = s.place; version = s.version; frames = s.frames; limit = s.limit; clock = s.clock; domains = s.domains.items; masks = s.masks.items; vcpus = s.vcpus.items; owned = s.owned.items; cells = s.cells.items; scripts = s.scripts.items; turns = s.turns.items } in HasMachine front × HasOpening front × Tallies front s.taken.items s.pages s.ops s.destroys s.extents s.turned };
+}
+
+fn is_in(low: u8, high: u8, place: u8) -> bool
+    ensures { result ≡ is_between low high place }
+{
+    low <= place && place <= high
+}
+
+// How many frames a trace of that version may have.
+fn most_frames(version: u8) -> u64
+    ensures { result ≡ most_frames_lem version }
+{
+    if version == 2 { 65_536 } else { 4_096 }
+}
+
+// Gives that domain the privilege over another.
+fn give(masks: &mut ArrayVec<u16, 16>, domain: usize, over: u64)
+    requires inside { domain < length masks.old.items }
+    requires few { over < 16 }
+    ensures { masks.new.items ≡ slice_set masks.old.items domain (bit_or (slice_index masks.old.items domain) (2 ^ over)) }
+{
+    masks[domain] |= 1 << over;
+}
+
+fn passed(what: What, number: u64) -> LineError
+    ensures { result ≡ At (Passed what number) }
+{
+    LineError::At(LineFault::Passed { what, number })
+}
+
+impl Part {
+    pub(crate) fn new(alloc: Global) -> Part
+        ensures { result ≡ nothing }
+    {
+        Part {
+            place: 0,
+            version: 0,
+            frames: 0,
+            limit: 67_108_863,
+            clock: 1,
+            domains: ArrayVec::new(),
+            masks: ArrayVec::new(),
+            vcpus: ArrayVec::new(),
+            owned: Vec::new(alloc),
+            cells: Vec::new(alloc),
+            scripts: Vec::new(alloc),
+            turns: Vec::new(alloc),
+            taken: Vec::new(alloc),
+            pages: [0; 16],
+            ops: 0,
+            destroys: 0,
+            extents: 0,
+            turned: 0,
+        }
+    }
+
+    #[tactic(auto, unfolding(crate::specs::Fronts::after_header))]
+    fn header(&mut self, version: u8) -> Result<(), LineError>
+        requires { IsTrue (is_of self.old.version (Header version)) }
+        ensures { Gives (λ _. self.new) result (after_header self.old version) }
+    {
+        if self.place != 0 {
+            return Err(LineError::PLACE);
+        }
+        self.place = 1;
+        self.version = version;
+        Ok(())
+    }
+
+    #[tactic(auto, unfolding(crate::specs::Fronts::after_frames))]
+    fn frames(&mut self, count: u64) -> Result<(), LineError>
+        ensures { Gives (λ _. self.new) result (after_frames self.old count) }
+    {
+        if self.place != 1 {
+            return Err(LineError::PLACE);
+        }
+        if count < 1 {
+            return Err(LineError::RANGE);
+        }
+        if count > most_frames(self.version) {
+            return Err(passed(What::Frames, count));
+        }
+        self.taken.resize(count as usize, false)?;
+        self.place = 2;
+        self.frames = count as u32;
+        Ok(())
+    }
+
+    #[tactic(auto, unfolding(crate::specs::Fronts::after_limit))]
+    fn limit(&mut self, count: u64) -> Result<(), LineError>
+        ensures { Gives (λ _. self.new) result (after_limit self.old count) }
+    {
+        if self.place != 2 {
+            return Err(LineError::PLACE);
+        }
+        if count < 2 || count > 67_108_863 {
+            return Err(LineError::RANGE);
+        }
+        self.place = 3;
+        self.limit = count as u32;
+        Ok(())
+    }
+
+    #[tactic(auto, unfolding(crate::specs::Fronts::after_clock))]
+    fn clock(&mut self, start: u64) -> Result<(), LineError>
+        ensures { Gives (λ _. self.new) result (after_clock self.old start) }
+    {
+        if !is_in(2, 3, self.place) {
+            return Err(LineError::PLACE);
+        }
+        if start < 1 || start > 68_719_476_734 {
+            return Err(LineError::RANGE);
+        }
+        self.place = 4;
+        self.clock = start;
+        Ok(())
+    }
+
+    #[tactic(auto, unfolding(crate::specs::Fronts::after_domain))]
+    fn domain(&mut self, limit: u64) -> Result<(), LineError>
+        ensures { Gives (λ _. self.new) result (after_domain self.old limit) }
+    {
+        if !is_in(2, 5, self.place) {
+            return Err(LineError::PLACE);
+        }
+        if limit > 65_536 {
+            return Err(LineError::RANGE);
+        }
+        if self.domains.len() >= 16 {
+            return Err(passed(What::Domains, self.domains.len() as u64 + 1));
+        }
+        self.domains.push(limit as u32);
+        self.masks.push(0);
+        self.place = 5;
+        Ok(())
+    }
+
+    #[tactic(auto, unfolding(crate::specs::Fronts::after_priv))]
+    fn privilege(&mut self, domain: u64, over: u64) -> Result<(), LineError>
+        ensures { Gives (λ _. self.new) result (after_priv self.old domain over) }
+    {
+        if !is_in(5, 6, self.place) {
+            return Err(LineError::PLACE);
+        }
+        let domains = self.domains.len() as u64;
+        if domain >= domains || over >= domains || domain == over {
+            return Err(LineError::RANGE);
+        }
+        give(&mut self.masks, domain as usize, over);
+        self.place = 6;
+        Ok(())
+    }
+
+    #[tactic(auto, unfolding(crate::specs::Fronts::after_vcpu))]
+    fn vcpu(&mut self, alloc: Global, domain: u64) -> Result<(), LineError>
+        ensures { Gives (λ _. self.new) result (after_vcpu self.old domain) }
+    {
+        if !is_in(5, 7, self.place) {
+            return Err(LineError::PLACE);
+        }
+        if domain >= self.domains.len() as u64 {
+            return Err(LineError::RANGE);
+        }
+        if self.vcpus.len() >= 16 {
+            return Err(passed(What::Vcpus, self.vcpus.len() as u64 + 1));
+        }
+        self.scripts.push(Script::new(Vec::new(alloc)))?;
+        self.vcpus.push(domain as u16);
+        self.place = 7;
+        Ok(())
+    }
+}
