@@ -1,1 +1,3 @@
 mod Masks
+mod OneMore
+mod Runs

@@ -51,15 +51,15 @@ pub record HasMachine (f : Front) : Type 0 where
   pub of_domains : All (λ d. d < length f.domains) f.vcpus
 
 -- frames of one of the domains, one or more
-pub record IsRun (f : Front) (o : Own) : Type 0 where
-  pub domain : o.domain < length f.domains
+pub record IsRun (domains frames : ℕ) (o : Own) : Type 0 where
+  pub domain : o.domain < domains
   pub some : 1 ≤ o.count
-  pub inside : o.first + o.count ≤ f.frames
+  pub inside : o.first + o.count ≤ frames
 
 -- so is what the machine opens with, and what its vCPUs do
 pub record HasOpening (f : Front) : Type 0 where
   pub unowned : f.place < 8 → f.owned ≡ []
-  pub owned : All (IsRun f) f.owned
+  pub owned : All (IsRun (length f.domains) f.frames) f.owned
   pub apart : AllPairs (λ a b. IsTrue (is_apart a b)) f.owned
   pub pages : (d : ℕ) → d < length f.domains → pages_of d f.owned ≤ slice_index f.domains d
   pub unfilled : f.place < 9 → f.cells ≡ []

@@ -3,6 +3,7 @@
 
 mod counts;
 mod part;
+mod taken;
 mod trace;
 
 pub use trace::{CellList, CellRun, Own, OwnList, ScriptList, Trace, TraceFault, TurnList, TurnRun};

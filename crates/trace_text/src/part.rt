@@ -4,10 +4,14 @@ ghost use Rattle.std.specs.Prelude.{◌≡◌, ◌+◌, ◌^◌, ◌<◌, ◌≤
 ghost use Rattle.trace_lines.specs.Steps.{Gives};
 ghost use Rattle.trace_lines.specs.declared.fault.LineError.TheVariants.{At};
 ghost use Rattle.trace_lines.specs.declared.fault.LineFault.TheVariants.{Passed};
-ghost use Rattle.trace_text.specs.Fronts.{nothing, is_between, most_frames as most_frames_lem, after_header, after_frames, after_limit, after_clock, after_domain, after_priv, after_vcpu};
+ghost use Rattle.trace_text.specs.Fronts.{nothing, is_between, most_frames as most_frames_lem, after_header, after_frames, after_limit, after_clock, after_domain, after_priv, after_vcpu, after_own, may_own as may_own_lem};
+ghost use Rattle.trace_text.specs.Counted.{pages_of, is_apart};
+ghost use Rattle.std.specs.Bool.{OnTrue};
+ghost use Rattle.std.specs.List.{list_all};
 ghost use Rattle.trace_text.specs.Parts.{is_of};
 ghost use Rattle.trace_lines.specs.declared.line.Line.TheVariants.{Header};
 
+use crate::taken::{is_free, take};
 use crate::trace::{CellRun, Own, TurnRun};
 use arrayvec::ArrayVec;
 use std::alloc::Global;
@@ -220,4 +224,56 @@ impl Part {
         self.place = 7;
         Ok(())
     }
+
+    // Whether no frame of the run is owned yet. Its domain does not matter.
+    fn is_free(&self, first: u64, count: u64) -> bool
+        requires some { 1 ≤ count }
+        requires inside { first + count ≤ self.now.frames }
+        ensures { result ≡ list_all (is_apart (record { domain = 0; first = first; count = count })) self.now.owned }
+    {
+        let _frames = self.frames;
+        is_free(&self.taken, first as usize, count as usize)
+    }
+
+    #[tactic(auto, unfolding(crate::specs::Fronts::may_own))]
+    fn may_own(&self, domain: u64, first: u64, count: u64) -> bool
+        ensures value { result ≡ may_own_lem self.now (record { domain = domain; first = first; count = count }) }
+        ensures inside { OnTrue result (domain < 16) }
+        ensures room { OnTrue result (pages_of domain self.now.owned + count < 2 ^ 32) }
+    {
+        let frames = u64::from(self.frames);
+        if domain >= self.domains.len() as u64 || count < 1 || !fits(first, count, frames) {
+            return false;
+        }
+        let at = domain as usize;
+        self.is_free(first, count)
+            && u64::from(self.pages[at]) + count <= u64::from(self.domains[at])
+    }
+
+    #[tactic(auto, unfolding(crate::specs::Fronts::after_own, crate::specs::Fronts::may_own))]
+    fn own(&mut self, domain: u64, first: u64, count: u64) -> Result<(), LineError>
+        ensures { Gives (λ _. self.new) result (after_own self.old (record { domain = domain; first = first; count = count })) }
+    {
+        if !is_in(7, 8, self.place) {
+            return Err(LineError::PLACE);
+        }
+        if !self.may_own(domain, first, count) {
+            return Err(LineError::RANGE);
+        }
+        self.owned.push(Own {
+            domain: domain as u16,
+            first: first as u32,
+            count: count as u32,
+        })?;
+        self.pages[domain as usize] += count as u32;
+        take(&mut self.taken, first as usize, count as usize);
+        self.place = 8;
+        Ok(())
+    }
+}
+
+fn fits(first: u64, count: u64, most: u64) -> bool
+    ensures { result ≡ nat_le (first + count) most }
+{
+    first <= most && count <= most - first
 }
