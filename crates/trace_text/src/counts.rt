@@ -1,6 +1,6 @@
 //! What an operation counts towards the limits of a trace.
 
-ghost use Rattle.std.specs.Prelude.{◌≡◌, sum_by, take};
+ghost use Rattle.std.specs.Prelude.{◌≡◌, ◌≤◌, sum_by, take};
 ghost use Rattle.trace_text.specs.Counted.{numbers_in_call, numbers_in, extents_in_call, extents_in, destroys_in};
 ghost use Rattle.trace_text.specs.Fronts.{capped};
 
@@ -81,7 +81,8 @@ pub(crate) fn extents_of(op: &Op) -> u64
 /// 1 where the operation destroys a domain.
 #[tactic(auto, unfolding(crate::specs::Counted::destroys_in))]
 pub(crate) fn destroys_of(op: &Op) -> u32
-    ensures { result ≡ destroys_in op.now }
+    ensures destroys { result ≡ destroys_in op.now }
+    ensures few { result ≤ 1 }
 {
     match op {
         Op::Destroy { domain: _ } => 1,

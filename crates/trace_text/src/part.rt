@@ -4,20 +4,21 @@ ghost use Rattle.std.specs.Prelude.{◌≡◌, ◌+◌, ◌^◌, ◌<◌, ◌≤
 ghost use Rattle.trace_lines.specs.Steps.{Gives};
 ghost use Rattle.trace_lines.specs.declared.fault.LineError.TheVariants.{At};
 ghost use Rattle.trace_lines.specs.declared.fault.LineFault.TheVariants.{Passed};
-ghost use Rattle.trace_text.specs.Fronts.{nothing, is_between, most_frames as most_frames_lem, after_header, after_frames, after_limit, after_clock, after_domain, after_priv, after_vcpu, after_own, may_own as may_own_lem};
+ghost use Rattle.trace_text.specs.Fronts.{nothing, is_between, most_frames as most_frames_lem, after_header, after_frames, after_limit, after_clock, after_domain, after_priv, after_vcpu, after_own, may_own as may_own_lem, after_cell, may_fill as may_fill_lem, after_op, after_turn, after_end};
 ghost use Rattle.trace_text.specs.Counted.{pages_of, is_apart};
 ghost use Rattle.std.specs.Bool.{OnTrue};
 ghost use Rattle.std.specs.List.{list_all};
 ghost use Rattle.trace_text.specs.Parts.{is_of};
-ghost use Rattle.trace_lines.specs.declared.line.Line.TheVariants.{Header};
+ghost use Rattle.trace_lines.specs.declared.line.Line.TheVariants.{Header, Op as OpLine};
 
+use crate::counts::{destroys_of, extents_of, numbers_of};
 use crate::taken::{is_free, take};
 use crate::trace::{CellRun, Own, TurnRun};
 use arrayvec::ArrayVec;
 use std::alloc::Global;
 use std::marker::Model;
 use trace_lines::{LineError, LineFault, What};
-use xp_words::Script;
+use xp_words::{Op, Script};
 
 /// What the lines so far say. Beside that it keeps which frames are owned, how many each domain owns, and
 /// the sums of what is counted, so that no line looks at the ones before it.
@@ -268,6 +269,101 @@ impl Part {
         self.pages[domain as usize] += count as u32;
         take(&mut self.taken, first as usize, count as usize);
         self.place = 8;
+        Ok(())
+    }
+
+    fn may_fill(&self, frame: u64, first: u64, count: u64) -> bool
+        ensures { result ≡ may_fill_lem self.now (record { frame = frame; first = first; count = count; value = 0 }) }
+    {
+        frame < u64::from(self.frames) && 1 <= count && fits(first, count, 512)
+    }
+
+    #[tactic(auto, unfolding(crate::specs::Fronts::after_cell))]
+    fn cell(&mut self, frame: u64, first: u64, count: u64, value: u64) -> Result<(), LineError>
+        ensures { Gives (λ _. self.new) result (after_cell self.old (record { frame = frame; first = first; count = count; value = value })) }
+    {
+        if !is_in(7, 9, self.place) {
+            return Err(LineError::PLACE);
+        }
+        if !self.may_fill(frame, first, count) {
+            return Err(LineError::RANGE);
+        }
+        self.cells.push(CellRun {
+            frame: frame as u32,
+            first: first as u16,
+            count: count as u16,
+            value,
+        })?;
+        self.place = 9;
+        Ok(())
+    }
+
+    #[tactic(auto, unfolding(crate::specs::Fronts::after_op))]
+    fn op(&mut self, vcpu: u64, op: Op) -> Result<(), LineError>
+        requires { IsTrue (is_of self.old.version (OpLine vcpu op)) }
+        ensures { Gives (λ _. self.new) result (after_op self.old vcpu op) }
+    {
+        if !is_in(7, 10, self.place) {
+            return Err(LineError::PLACE);
+        }
+        if vcpu >= self.vcpus.len() as u64 {
+            return Err(LineError::RANGE);
+        }
+        if self.ops >= 65_536 {
+            return Err(passed(What::Ops, u64::from(self.ops) + 1));
+        }
+        let destroys = self.destroys + destroys_of(&op);
+        if destroys > 16 {
+            return Err(passed(What::Destroys, u64::from(destroys)));
+        }
+        let numbers = numbers_of(&op);
+        if numbers > 8_192 {
+            return Err(passed(What::Numbers, numbers));
+        }
+        let extents = u64::from(self.extents).saturating_add(extents_of(&op));
+        if extents > 1_000_000 {
+            return Err(passed(What::Extents, extents));
+        }
+        let script = &mut self.scripts[vcpu as usize];
+        script.push(op)?;
+        self.ops += 1;
+        self.destroys = destroys;
+        self.extents = extents as u32;
+        self.place = 10;
+        Ok(())
+    }
+
+    #[tactic(auto, unfolding(crate::specs::Fronts::after_turn))]
+    fn turn(&mut self, vcpu: u64, count: u64) -> Result<(), LineError>
+        ensures { Gives (λ _. self.new) result (after_turn self.old (record { vcpu = vcpu; count = count })) }
+    {
+        if !is_in(7, 10, self.place) {
+            return Err(LineError::PLACE);
+        }
+        if vcpu >= self.vcpus.len() as u64 {
+            return Err(LineError::RANGE);
+        }
+        let turned = u64::from(self.turned).saturating_add(count);
+        if turned > 1_000_000 {
+            return Err(passed(What::Turns, turned));
+        }
+        self.turns.push(TurnRun {
+            vcpu: vcpu as u32,
+            count: count as u32,
+        })?;
+        self.turned = turned as u32;
+        self.place = 10;
+        Ok(())
+    }
+
+    #[tactic(auto, unfolding(crate::specs::Fronts::after_end))]
+    fn end(&mut self) -> Result<(), LineError>
+        ensures { Gives (λ _. self.new) result (after_end self.old) }
+    {
+        if !is_in(7, 10, self.place) {
+            return Err(LineError::PLACE);
+        }
+        self.place = 11;
         Ok(())
     }
 }
