@@ -4,7 +4,9 @@ ghost use Rattle.std.specs.Prelude.{◌≡◌, ◌+◌, ◌^◌, ◌<◌, ◌≤
 ghost use Rattle.trace_lines.specs.Steps.{Gives};
 ghost use Rattle.trace_lines.specs.declared.fault.LineError.TheVariants.{At};
 ghost use Rattle.trace_lines.specs.declared.fault.LineFault.TheVariants.{Passed};
-ghost use Rattle.trace_text.specs.Fronts.{nothing, is_between, most_frames as most_frames_lem, after_header, after_frames, after_limit, after_clock, after_domain, after_priv, after_vcpu, after_own, may_own as may_own_lem, after_cell, may_fill as may_fill_lem, after_op, after_turn, after_end};
+ghost use Rattle.trace_text.specs.Fronts.{nothing, is_between, most_frames as most_frames_lem, after_header, after_frames, after_limit, after_clock, after_domain, after_priv, after_vcpu, after_own, may_own as may_own_lem, after_cell, may_fill as may_fill_lem, after_op, after_turn, after_end, after};
+ghost use Rattle.trace_text.specs.TraceOf.{is_ended, told};
+ghost use Rattle.trace_text.specs.WellFormed.{IsWellFormed};
 ghost use Rattle.trace_text.specs.Counted.{pages_of, is_apart};
 ghost use Rattle.std.specs.Bool.{OnTrue};
 ghost use Rattle.std.specs.List.{list_all};
@@ -13,12 +15,12 @@ ghost use Rattle.trace_lines.specs.declared.line.Line.TheVariants.{Header, Op as
 
 use crate::counts::{destroys_of, extents_of, numbers_of};
 use crate::taken::{is_free, take};
-use crate::trace::{CellRun, Own, TurnRun};
+use crate::trace::{CellList, CellRun, Own, OwnList, ScriptList, Trace, TurnList, TurnRun};
 use arrayvec::ArrayVec;
 use std::alloc::Global;
 use std::marker::Model;
-use trace_lines::{LineError, LineFault, What};
-use xp_words::{Op, Script};
+use trace_lines::{Line, LineError, LineFault, What};
+use xp_words::{Domains, Layout, Limits, Masks, Op, Script};
 
 /// What the lines so far say. Beside that it keeps which frames are owned, how many each domain owns, and
 /// the sums of what is counted, so that no line looks at the ones before it.
@@ -365,6 +367,82 @@ impl Part {
         }
         self.place = 11;
         Ok(())
+    }
+
+    /// One more line, which is one of a trace of that version.
+    #[tactic(auto, unfolding(crate::specs::Fronts::after))]
+    pub(crate) fn add(&mut self, alloc: Global, line: Line) -> Result<(), LineError>
+        requires { IsTrue (is_of self.old.version line) }
+        ensures { Gives (λ _. self.new) result (after self.old line) }
+    {
+        match line {
+            Line::Header { version } => self.header(version),
+            Line::Frames { count } => self.frames(count),
+            Line::Limit { count } => self.limit(count),
+            Line::Clock { start } => self.clock(start),
+            Line::Domain { limit } => self.domain(limit),
+            Line::Priv { domain, over } => self.privilege(domain, over),
+            Line::Vcpu { domain } => self.vcpu(alloc, domain),
+            Line::Own { domain, first, count } => self.own(domain, first, count),
+            Line::Cell { frame, first, count, value } => self.cell(frame, first, count, value),
+            Line::Op { vcpu, op } => self.op(vcpu, op),
+            Line::Turn { vcpu, count } => self.turn(vcpu, count),
+            Line::End => self.end(),
+        }
+    }
+
+    pub(crate) fn version(&self) -> u8
+        ensures { result ≡ self.now.version }
+    {
+        self.version
+    }
+
+    pub(crate) fn is_ended(&self) -> bool
+        ensures { result ≡ is_ended self.now }
+    {
+        self.place == 11
+    }
+
+    pub(crate) fn into_trace(self) -> Trace
+        requires { IsTrue (is_ended self) }
+        ensures told { result ≡ told self }
+        ensures well { IsWellFormed result }
+    {
+        let Part {
+            place: _,
+            version,
+            frames,
+            limit,
+            clock,
+            domains,
+            masks,
+            vcpus,
+            owned,
+            cells,
+            scripts,
+            turns,
+            taken: _,
+            pages: _,
+            ops: _,
+            destroys: _,
+            extents: _,
+            turned: _,
+        } = self;
+        Trace {
+            version,
+            layout: Layout {
+                frames,
+                limit,
+                page_limit: Limits::new(domains),
+                privilege: Masks::new(masks),
+                vcpu_domain: Domains::new(vcpus),
+            },
+            clock,
+            owned: OwnList::new(owned),
+            cells: CellList::new(cells),
+            scripts: ScriptList::new(scripts),
+            turns: TurnList::new(turns),
+        }
     }
 }
 
