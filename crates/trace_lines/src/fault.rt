@@ -49,7 +49,9 @@ pub enum LineError {
 
 impl LineError {
     pub const LINE: LineError = LineError::At(LineFault::Bad(Cause::Line));
+
     pub const PLACE: LineError = LineError::At(LineFault::Bad(Cause::Place));
+
     pub const RANGE: LineError = LineError::At(LineFault::Bad(Cause::Range));
 }
 

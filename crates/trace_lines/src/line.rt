@@ -4,21 +4,51 @@ use xp_words::Op;
 #[derive(Drop)]
 pub enum Line {
     /// The first line, with the version, 1 or 2.
-    Header { version: u8 },
-    Frames { count: u64 },
-    Limit { count: u64 },
-    Clock { start: u64 },
+    Header {
+        version: u8,
+    },
+    Frames {
+        count: u64,
+    },
+    Limit {
+        count: u64,
+    },
+    Clock {
+        start: u64,
+    },
     /// One more domain, with its page limit.
-    Domain { limit: u64 },
+    Domain {
+        limit: u64,
+    },
     /// Domain `domain` has foreign privilege over domain `over`.
-    Priv { domain: u64, over: u64 },
+    Priv {
+        domain: u64,
+        over: u64,
+    },
     /// One more vCPU, of that domain.
-    Vcpu { domain: u64 },
+    Vcpu {
+        domain: u64,
+    },
     /// Frames that a domain owns at the opening.
-    Own { domain: u64, first: u64, count: u64 },
+    Own {
+        domain: u64,
+        first: u64,
+        count: u64,
+    },
     /// Cells of a frame, and what they hold at the opening.
-    Cell { frame: u64, first: u64, count: u64, value: u64 },
-    Op { vcpu: u64, op: Op },
-    Turn { vcpu: u64, count: u64 },
+    Cell {
+        frame: u64,
+        first: u64,
+        count: u64,
+        value: u64,
+    },
+    Op {
+        vcpu: u64,
+        op: Op,
+    },
+    Turn {
+        vcpu: u64,
+        count: u64,
+    },
     End,
 }

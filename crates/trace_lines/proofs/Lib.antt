@@ -1,0 +1,6 @@
+pub mod Splits
+pub mod Digits
+pub mod ListLoop
+pub mod Chunks
+pub mod Separators
+pub mod CallLoop
