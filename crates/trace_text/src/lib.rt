@@ -3,7 +3,9 @@
 
 mod counts;
 mod part;
+mod read;
 mod taken;
 mod trace;
 
+pub use read::{MAX_BYTES, read_trace};
 pub use trace::{CellList, CellRun, Own, OwnList, ScriptList, Trace, TraceFault, TurnList, TurnRun};
