@@ -1,2 +1,5 @@
 pub mod Counted
+pub mod Fronts
+pub mod Parts
+pub mod TraceOf
 pub mod WellFormed

@@ -1,0 +1,5 @@
+mod Known
+mod LineLoop
+mod Masks
+mod OneMore
+mod Runs
