@@ -1,0 +1,5 @@
+pub mod Boards
+pub mod Outcome
+pub mod Ran
+pub mod Texts
+pub mod Turns

@@ -1,13 +1,14 @@
-// A library with one function.
+//! A whole run of the machine: from the bytes of a trace to the bytes of a report.
 #![tactic(auto)]
 
-ghost use Rattle.std.specs.Prelude.{◌≡◌};
-ghost use Rattle.xp_machine.specs.Echo.{echo_of};
+mod board;
+mod cpu;
+mod execute;
+mod status;
+mod texts;
+mod top;
+mod turns;
+mod update;
 
-// The `ensures` clause is the contract: what `echo` returns is `echo_of` of its argument, a definition
-// in `specs/Echo.antt`, which a caller's clause can cite too.
-pub fn echo(x: usize) -> usize
-    ensures { result ≡ echo_of x }
-{
-    x
-}
+pub use top::run;
+pub use status::Status;

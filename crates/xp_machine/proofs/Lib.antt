@@ -1,0 +1,5 @@
+pub mod Boarding
+pub mod Counting
+pub mod Turning
+pub mod Starting
+pub mod Statuses

@@ -1,0 +1,32 @@
+-- The statuses that come with a text.
+use Rattle.std.proofs.Common.{◌≡◌, ◌≢◌, ℕ, List, Result, Ok, Err, Option, refl, sym, ◌∙◌, subst}
+use Rattle.trace_lines.specs.declared.fault.LineFault.{LineFault}
+use Rattle.trace_lines.specs.declared.fault.LineFault.TheVariants.{Passed, Bad}
+use Rattle.trace_text.specs.declared.trace.Trace.{Trace}
+use Rattle.trace_text.specs.TraceOf.{Fault, trace_of}
+use Rattle.xp_machine.specs.declared.status.Status.{Status}
+use Rattle.xp_machine.specs.declared.status.Status.TheVariants as status
+use Rattle.xp_machine.specs.Texts.{fault_status}
+use Rattle.xp_machine.specs.Outcome.{Wrote, Outcome, IsDue, IsAnswer}
+
+-- a status that says of source and sink that its text was written, and that is none of the others
+pub record HasText (s : Status) : Type 0 where
+  pub wrote : (from from' to to' : Option (List ℕ)) → Wrote from from' to to' s → Outcome from from' to to' s
+  pub no_words : s ≢ status.BadWords
+  pub no_read : s ≢ status.ReadFault
+  pub no_write : s ≢ status.WriteFault
+
+of_fault : (f : LineFault) → HasText (fault_status f)
+unfolding fault_status
+of_fault (Bad cause) = record { wrote = λ from from' to to' h. h; no_words = λ e. cc; no_read = λ e. cc; no_write = λ e. cc }
+of_fault (Passed what number) = record { wrote = λ from from' to to' h. h; no_words = λ e. cc; no_read = λ e. cc; no_write = λ e. cc }
+
+of_done : HasText status.Done
+of_done = record { wrote = λ from from' to to' h. h; no_words = λ e. cc; no_read = λ e. cc; no_write = λ e. cc }
+
+of_answer : (r : Result Trace Fault) (s : Status) (text : List ℕ) → IsAnswer r s text → HasText s
+of_answer (Ok t) s text h = subst HasText (sym h.0) of_done
+of_answer (Err e) s text h = subst HasText (sym h.0) (of_fault e.cause)
+
+pub due_has_text : (from from' : Option (List ℕ)) (s : Status) (text : List ℕ) → IsDue from from' s text → HasText s
+due_has_text from from' s text due = of_answer (trace_of due.0) s text due.2

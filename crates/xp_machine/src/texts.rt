@@ -1,0 +1,74 @@
+ghost use Rattle.std.specs.Prelude.{◌≡◌, Some, IfOk, map, string_bytes};
+ghost use Rattle.xp_machine.specs.Texts.{cause_text, what_text, fault_text, are_turns};
+ghost use Rattle.trace_lines.specs.declared.fault.LineFault.TheVariants.{Passed, Bad};
+
+use std::alloc::{AllocError, Global};
+use std::fmt;
+use trace_lines::{Cause, What};
+
+#[derive(Drop)]
+struct CauseText(Cause);
+
+impl fmt::Display for CauseText {
+    ghost output = { λ c. Some (cause_text c.0) };
+
+    fn fmt<W: fmt::Write>(&self, f: &mut fmt::Formatter<W>) -> fmt::Result {
+        match self.0 {
+            Cause::End => write!(f, "end"),
+            Cause::Line => write!(f, "line"),
+            Cause::Place => write!(f, "place"),
+            Cause::Range => write!(f, "range"),
+        }
+    }
+}
+
+#[derive(Drop)]
+struct WhatText(What);
+
+impl fmt::Display for WhatText {
+    ghost output = { λ w. Some (what_text w.0) };
+
+    fn fmt<W: fmt::Write>(&self, f: &mut fmt::Formatter<W>) -> fmt::Result {
+        match self.0 {
+            What::Bytes => write!(f, "bytes"),
+            What::Frames => write!(f, "frames"),
+            What::Domains => write!(f, "domains"),
+            What::Vcpus => write!(f, "vcpus"),
+            What::Ops => write!(f, "ops"),
+            What::Destroys => write!(f, "destroys"),
+            What::Numbers => write!(f, "numbers"),
+            What::Extents => write!(f, "extents"),
+            What::Turns => write!(f, "turns"),
+        }
+    }
+}
+
+// What is written for a line at fault.
+#[tactic(auto, unfolding(crate::specs::Texts::fault_text))]
+pub fn bad_text(alloc: Global, line: u32, cause: Cause) -> Result<Vec<u8>, AllocError>
+    ensures { IfOk result (λ v. v.items ≡ fault_text line (Bad cause)) }
+{
+    let cause = CauseText(cause);
+    let text = format!(in alloc; "bad trace line {line}: {cause}\n")?;
+    Ok(text.into_bytes())
+}
+
+// What is written for a quantity that passes its limit.
+#[tactic(auto, unfolding(crate::specs::Texts::fault_text))]
+pub fn large_text(alloc: Global, line: u32, what: What, number: u64) -> Result<Vec<u8>, AllocError>
+    ensures { IfOk result (λ v. v.items ≡ fault_text line (Passed what number)) }
+{
+    let what = WhatText(what);
+    let text = format!(in alloc; "too large line {line}: {what} {number}\n")?;
+    Ok(text.into_bytes())
+}
+
+// Whether the words of the command line are `turns` alone.
+pub fn are_turns(words: &[String]) -> bool
+    ensures { result ≡ are_turns (map string_bytes words.now) }
+{
+    match words {
+        [word] => word.as_bytes() == b"turns".as_slice(),
+        _ => false,
+    }
+}
