@@ -22,10 +22,12 @@ fn move_next(bytes: &[u8], at: usize, into: &mut [u8]) -> usize
 pub struct MemorySource {
     bytes: Vec<u8>,
     at: usize,
+    most: usize,
     calls: u64,
     fails: Vec<u64>,
     faults: u64,
     ghost within: { at ≤ vec_len bytes },
+    ghost some: { 0 < most },
 }
 
 impl MemorySource {
@@ -37,9 +39,20 @@ impl MemorySource {
         ensures fails { source_fails result ≡ fails.items }
         ensures calls { source_calls result ≡ 0 }
     {
+        MemorySource::in_pieces(bytes, usize::MAX, fails)
+    }
+
+    /// The same, of which a read gives at most `most` bytes.
+    pub fn in_pieces(bytes: Vec<u8>, most: usize, fails: Vec<u64>) -> MemorySource
+        requires { 0 < most }
+        ensures left { source_left result ≡ bytes.items }
+        ensures fails { source_fails result ≡ fails.items }
+        ensures calls { source_calls result ≡ 0 }
+    {
         MemorySource {
             bytes,
             at: 0,
+            most,
             calls: 0,
             fails,
             faults: 0,
@@ -58,7 +71,8 @@ impl Source for MemorySource {
             self.faults = self.faults.saturating_add(1);
             return Err(Failed);
         }
-        let count = move_next(&self.bytes, self.at, into);
+        let room = into.len().min(self.most);
+        let count = move_next(&self.bytes, self.at, &mut into[..room]);
         self.at += count;
         Ok(count)
     }

@@ -53,7 +53,7 @@ taken_and_back a b c d f w g h taken stored given =
       machine = given.machine ∙ stored.machine ∙ taken.machine;
       here = given.others (M2p f) (λ e. cc) ∙ stored.here;
       others = λ q n. elim (is_refs f q) [
-        inl at ↦ subst (λ p. word_of d p ≡ word_of a p) (sym at) back
-      | inr off ↦ given.others q off ∙ stored.others q n ∙ taken.others q off
+        | inl at ↦ subst (λ p. word_of d p ≡ word_of a p) (sym at) back
+        | inr off ↦ given.others q off ∙ stored.others q n ∙ taken.others q off
       ];
     }

@@ -51,7 +51,7 @@ pub order_more : (runs : List TurnRun) (i : ℕ) (d : TurnRun) → i < length ru
 unfolding order
 order_more runs i d h =
     ap (flat_map turns_in) (take-suc runs i d h) ∙ flat_map-append turns_in (take i runs) (slice_index_or runs i d ∷ [])
-        ∙ ap (λ (us : List ℕ). flat_map turns_in (take i runs) ++ us) (flat_map-cons turns_in (slice_index_or runs i d) [] ∙ append-nil (turns_in (slice_index_or runs i d)))
+    ∙ ap (λ (us : List ℕ). flat_map turns_in (take i runs) ++ us) (flat_map-cons turns_in (slice_index_or runs i d) [] ∙ append-nil (turns_in (slice_index_or runs i d)))
 
 pub order_none : order [] ≡ []
 unfolding order

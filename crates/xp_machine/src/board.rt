@@ -57,13 +57,7 @@ impl PlainBoard {
         let found = self.words[place];
         self.words[place] = match step.act {
             Act::Load => found,
-            Act::Cas { expected, new } => {
-                if found == expected {
-                    new
-                } else {
-                    found
-                }
-            }
+            Act::Cas { expected, new } => { if found == expected { new } else { found } }
             Act::Store { new } => new,
             Act::Add { by } => found.wrapping_add(by),
             Act::Max { value } => found.max(value),

@@ -34,7 +34,9 @@ fn m2p_update(op: &Op) -> Option<Pair>
     ensures { result ≡ m2p_update op.now }
 {
     match op {
-        Op::One { call: Call::Mmu { foreign, pairs } } => match pairs.as_slice() {
+        Op::One {
+            call: Call::Mmu { foreign, pairs },
+        } => match pairs.as_slice() {
             [pair] if *foreign == DOMID_SELF && pair.ptr % 4 == 1 => Some(*pair),
             _ => None,
         },
@@ -45,7 +47,11 @@ fn m2p_update(op: &Op) -> Option<Pair>
 fn refused(refusal: Refusal) -> Reply
     ensures { result ≡ refused refusal }
 {
-    Reply { done: 0, value: 0, refusal: Some(refusal) }
+    Reply {
+        done: 0,
+        value: 0,
+        refusal: Some(refusal),
+    }
 }
 
 // One operation, from its beginning to its answer.
@@ -55,7 +61,11 @@ fn answer(board: &mut PlainBoard, domain: u16, op: &Op) -> Reply
     match m2p_update(op) {
         None => refused(Refusal::BadCommand),
         Some(pair) => match set_m2p(board, pair.ptr / 4096, domain, pair.val) {
-            Ok(()) => Reply { done: 1, value: 0, refusal: None },
+            Ok(()) => Reply {
+                done: 1,
+                value: 0,
+                refusal: None,
+            },
             Err(refusal) => refused(refusal),
         },
     }
@@ -67,7 +77,11 @@ impl Cpu {
         ensures { IfOk result (λ c. c ≡ record { domain = domain; script = script; log = [] }) }
     {
         let log = Vec::with_capacity(alloc, script.len())?;
-        Ok(Cpu { domain, script, log })
+        Ok(Cpu {
+            domain,
+            script,
+            log,
+        })
     }
 
     /// Answers the next operation, where there is one. It takes no memory.
@@ -78,7 +92,11 @@ impl Cpu {
         let next = self.log.len();
         if let Some(op) = self.script.as_slice().get(next) {
             let reply = answer(board, self.domain, op);
-            let line = LogLine::Answer { op: next as u32 + 1, call: 0, reply };
+            let line = LogLine::Answer {
+                op: next as u32 + 1,
+                call: 0,
+                reply,
+            };
             self.log.push(line).unwrap();
         }
     }

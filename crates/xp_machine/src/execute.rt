@@ -53,7 +53,15 @@ pub fn execute(alloc: Global, trace: Trace) -> Result<Vec<u8>, AllocError>
     ensures { IfOk result (λ v. Ran trace v.items) }
 {
     let words = opening(alloc, &trace)?;
-    let Trace { version: _, layout, clock: _, owned: _, cells: _, scripts, turns } = trace;
+    let Trace {
+        version: _,
+        layout,
+        clock: _,
+        owned: _,
+        cells: _,
+        scripts,
+        turns,
+    } = trace;
     let cpus = first_cpus(alloc, domains_of(&layout), scripts)?;
     let board = PlainBoard::make(layout, words);
     let (board, cpus) = run_all(board, cpus, turns.as_slice());

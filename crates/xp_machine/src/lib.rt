@@ -5,10 +5,12 @@ mod board;
 mod cpu;
 mod execute;
 mod status;
+#[cfg(test)]
+mod tests;
 mod texts;
 mod top;
 mod turns;
 mod update;
 
-pub use top::run;
 pub use status::Status;
+pub use top::run;

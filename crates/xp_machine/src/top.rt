@@ -27,15 +27,24 @@ fn answer(alloc: Global, bytes: &[u8]) -> Result<Due, AllocError>
     match read_trace(alloc, bytes) {
         Ok(trace) => {
             let text = execute(alloc, trace)?;
-            Ok(Due { status: Status::Done, text })
+            Ok(Due {
+                status: Status::Done,
+                text,
+            })
         }
         Err(TraceFault::Bad { line, cause }) => {
             let text = bad_text(alloc, line, cause)?;
-            Ok(Due { status: Status::BadTrace, text })
+            Ok(Due {
+                status: Status::BadTrace,
+                text,
+            })
         }
         Err(TraceFault::Large { line, what, number }) => {
             let text = large_text(alloc, line, what, number)?;
-            Ok(Due { status: Status::TooLarge, text })
+            Ok(Due {
+                status: Status::TooLarge,
+                text,
+            })
         }
         Err(TraceFault::Memory) => Err(AllocError),
     }
@@ -47,7 +56,10 @@ fn too_long(alloc: Global) -> Result<Due, AllocError>
     ensures { IfOk result (λ d. (bytes : List ℕ) → 67108864 < length bytes → IsAnswer (trace_of bytes) d.status d.text.items) }
 {
     let text = large_text(alloc, 0, What::Bytes, 67_108_865)?;
-    Ok(Due { status: Status::TooLarge, text })
+    Ok(Due {
+        status: Status::TooLarge,
+        text,
+    })
 }
 
 /// Why nothing is to be written.
@@ -79,7 +91,12 @@ fn gather<S: Source>(alloc: Global, source: &mut S) -> Result<Due, Early>
 /// Runs a trace: reads it to its end, runs it, and writes what is due. `words` are the words of the
 /// command line without the program's name: `turns` alone is known. Where they are others, nothing is
 /// read. Every call returns.
-pub fn run<S: Source, K: Sink>(alloc: Global, words: &[String], source: &mut S, sink: &mut K) -> Status
+pub fn run<S: Source, K: Sink>(
+    alloc: Global,
+    words: &[String],
+    source: &mut S,
+    sink: &mut K,
+) -> Status
     // Which bytes were taken, what they spell, and what was written of the text that is due for it.
     ensures outcome { Outcome (S.left source.old) (S.left source.new) (K.taken sink.old) (K.taken sink.new) result }
 

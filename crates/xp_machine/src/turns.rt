@@ -40,7 +40,11 @@ fn take_turns(board: &mut PlainBoard, cpus: &mut [Cpu], runs: &[TurnRun])
 }
 
 /// The board and the vCPUs after all turns.
-pub fn run_all(mut board: PlainBoard, mut cpus: Vec<Cpu>, runs: &[TurnRun]) -> (PlainBoard, Vec<Cpu>)
+pub fn run_all(
+    mut board: PlainBoard,
+    mut cpus: Vec<Cpu>,
+    runs: &[TurnRun],
+) -> (PlainBoard, Vec<Cpu>)
     requires known { All (λ r. r.vcpu < length cpus.items) runs.now }
     requires short { AreShort cpus.items }
     ensures { Turns (order runs.now) (state board cpus.items) (state result.0 result.1.items) }

@@ -66,14 +66,24 @@ fn one_more(found: u64, frame: u32, owner: u16, limit: u32) -> Result<u64, Refus
     ensures cause { IfErr result (RefusesWord frame owner limit found) }
 {
     match RefWord::read(found) {
-        Some(RefWord::Owned { owner: domain, allocated, count }) => {
+        Some(
+            RefWord::Owned {
+                owner: domain,
+                allocated,
+                count,
+            },
+        ) => {
             if domain != owner {
                 return Err(Refusal::WrongOwner { frame, found });
             }
             if count >= limit {
                 return Err(Refusal::CountFull { frame, found });
             }
-            let more = RefWord::Owned { owner: domain, allocated, count: count + 1 };
+            let more = RefWord::Owned {
+                owner: domain,
+                allocated,
+                count: count + 1,
+            };
             Ok(more.write())
         }
         _ => Err(Refusal::WrongOwner { frame, found }),
@@ -97,7 +107,14 @@ fn get_ref(board: &mut PlainBoard, frame: u64, owner: u16) -> Result<u32, Refusa
     let frame = frame as u32;
     let found = look_refs(board, frame);
     let more = one_more(found, frame, owner, limit)?;
-    on_refs(board, frame, Act::Cas { expected: found, new: more });
+    on_refs(
+        board,
+        frame,
+        Act::Cas {
+            expected: found,
+            new: more,
+        },
+    );
     Ok(frame)
 }
 

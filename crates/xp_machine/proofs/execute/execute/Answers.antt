@@ -17,7 +17,7 @@ pub closing-requires-clause-each : goal.closing-requires-clause-each
 closing-requires-clause-each c =
     let kept = turns_keep _ _ _ c.run_all-board.ensures in
     let first : length c.in_ok-cpus.cpus.items ≡ length c.args.trace.layout.vcpu_domain =
-        ap length (c.in_ok-cpus.ensures ∙ ap (λ (ds : List ℕ). first_cpus ds c.args.trace.scripts) c.domains_of.ensures) ∙ length_first _ c.args.trace.scripts c.requires.scripts in
+    ap length (c.in_ok-cpus.ensures ∙ ap (λ (ds : List ℕ). first_cpus ds c.args.trace.scripts) c.domains_of.ensures) ∙ length_first _ c.args.trace.scripts c.requires.scripts in
     length_kept _ _ kept ∙ first ∙ sym (ap (λ m. length m.vcpu_domain) (kept.machine ∙ ap (λ b. b.machine) c.make-board.ensures))
 
 pub closing-requires-clause-short : goal.closing-requires-clause-short

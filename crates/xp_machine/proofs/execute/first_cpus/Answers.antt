@@ -18,4 +18,4 @@ returns c =
     let road = YieldsList-from_zip (YieldsList-at c.zip-domain-items.ensures.first (YieldsList-from_copied (YieldsList-at c.copied.ensures.source (YieldsList-from_slice c.args.domains.now c.iter.ensures.rest)))) (YieldsList-from_vec {s = zip_second c.zip-domain-items.result} c.into_items.result.items (search rules) (search rules)) in
     let end = YieldsList-end (YieldsList-at c.into_iter-domain-iterator.ensures.into_iter_gives road) c.cpus.yielded c.cpus.domain-iterator c.cpus.yielded_by c.next.result c.next.new.self c.in-None.is c.next.ensures.steps in
     c.cpus.invariant ∙ ap (map in_processing) (sym (map-id c.cpus.yielded) ∙ end.0)
-        ∙ ap (λ (scripts : List (List Op)). map in_processing (zip c.args.domains.now scripts)) c.into_items.ensures
+    ∙ ap (λ (scripts : List (List Op)). map in_processing (zip c.args.domains.now scripts)) c.into_items.ensures

@@ -7,10 +7,10 @@ returns-in-Ok-write_whole-clause-outcome g c =
     (due_has_text _ _ _ _ c.in-Ok.ensures.due).wrote _ _ _ _ (c.in-Ok.due.text.items, c.in-Ok.ensures.due, rw (← c.deref.ensures.value) c.in-Ok-write_whole.ensures.whole)
 
 pub returns-in-Ok-write_whole-clause-words : goal.returns-in-Ok-write_whole-clause-words
-returns-in-Ok-write_whole-clause-words g c =
-    (
-    λ e. absurd ((due_has_text _ _ _ _ c.in-Ok.ensures.due).no_words e),
-    λ e. search (e, rules))
+returns-in-Ok-write_whole-clause-words g c = (
+  λ e. absurd ((due_has_text _ _ _ _ c.in-Ok.ensures.due).no_words e),
+  λ e. search (e, rules),
+)
 
 pub returns-in-Ok-write_whole-clause-read : goal.returns-in-Ok-write_whole-clause-read
 returns-in-Ok-write_whole-clause-read g c e = absurd ((due_has_text _ _ _ _ c.in-Ok.ensures.due).no_read e)
