@@ -32,3 +32,8 @@ pub mod Valid
 pub mod Fresh
 pub mod Reach
 pub mod Safe
+pub mod Found
+pub mod WellFormed
+pub mod Sound
+pub mod Lawful
+pub mod Runs
