@@ -39,9 +39,13 @@ abbrev pub StartsWalk : Option Mark → Type 0
 StartsWalk (Some (marks.Walk write)) = Unit {0}
 StartsWalk _ = ⊥
 
+abbrev pub GoesOn : Option Mark → Type 0
+GoesOn (Some (marks.Walk write)) = ⊥
+GoesOn _ = Unit {0}
+
 abbrev pub LegalFill : ℕ → Holdings → Place → Act → Option Mark → Type 0
 LegalFill s h (Vcpu v k) Load mark = MayStartWalk s v k h × StartsWalk mark
-LegalFill s h (Cell f i) Load mark = (walk : Walk) × MayWalkOn f i walk h
+LegalFill s h (Cell f i) Load mark = ((walk : Walk) × MayWalkOn f i walk h) × GoesOn mark
 LegalFill s h _ _ mark = ⊥
 
 -- ---- after

@@ -10,10 +10,14 @@ use Rattle.xp_board.specs.Steps.{some_since}
 use Rattle.xp_board.specs.Readings.{domain_of, has_ever}
 use Rattle.xp_board.specs.Knowledge.{knows_owner}
 
+-- a run word: stopped, or off
+abbrev pub is_idle : ℕ → Bool
+is_idle w = (w == 1) || (w == 2)
+
 -- from step n on the vCPU was found stopped or off, or flushed later than the stamp
 abbrev pub is_past : Sizes → ℕ → ℕ → ℕ → List Made → Bool
 is_past z n stamp v steps =
-    some_since z n (Vcpu v 6) (λ w. not (w == 0)) steps || some_since z n (Vcpu v 5) (λ w. nat_lt stamp w) steps
+    some_since z n (Vcpu v 6) is_idle steps || some_since z n (Vcpu v 5) (λ w. nat_lt stamp w) steps
 
 -- from step n on the vCPU's domain was found never to have had privilege over the frame's owner
 pub record PassedOver (m : Machine) (n f v : ℕ) (h : Holdings) : Type 0 where

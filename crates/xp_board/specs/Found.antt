@@ -7,17 +7,16 @@ use Rattle.xp_words.specs.KindWords.{kind_fields}
 use Rattle.xp_words.specs.RefWords.{ref_write}
 use Rattle.xp_words.specs.declared.refs.RefWord.TheVariants.{Dying}
 use Rattle.xp_words.specs.Machine.{Machine}
-use Rattle.xp_words.specs.Places.{Sizes, sizes_of, Place, Clock, Vcpu, Refs, Kind, Cell, Priv, place_at}
+use Rattle.xp_words.specs.Places.{Sizes, sizes_of, Place, Clock, Life, Vcpu, Refs, Kind, Cell, Priv, place_at}
 use Rattle.xp_board.specs.declared.holdings.Made.{Made}
 use Rattle.xp_board.specs.declared.holdings.Work.{Work}
 use Rattle.xp_board.specs.declared.holdings.Lock.{Lock}
 use Rattle.xp_board.specs.declared.holdings.Ending.{Ending}
 use Rattle.xp_board.specs.declared.holdings.Claimed.{Claimed}
 use Rattle.xp_board.specs.declared.holdings.Holdings.{Holdings}
-use Rattle.xp_board.specs.Steps.{left_of, is_at, EachStep, EachSince, last_since, steps_before}
+use Rattle.xp_board.specs.Steps.{left_of, is_at, some_since, EachStep, EachSince, last_since, steps_before}
 use Rattle.xp_board.specs.Readings.{kind_at, is_live, is_type, owner_of, domain_of, told_value, has_now, has_ever}
 use Rattle.xp_board.specs.Knowledge.{knows_owner, knows_live, knows_partial}
-use Rattle.xp_board.specs.Flushes.{PassedOver}
 use Rattle.xp_board.specs.After.{is_fixed}
 use Rattle.xp_board.specs.Reach.{Use, Reads, Reach}
 
@@ -38,6 +37,10 @@ StoppedFound z m u = (v : ℕ) → EachSince z 0 (Vcpu v 6) (λ w. w ≡ 1 → m
 -- each clock value that it found or left after its last flush is at least its own `flushed`
 abbrev pub ClockSinceAck : Sizes → (Place → ℕ) → ℕ → Holdings → Type 0
 ClockSinceAck z m s u = EachSince z u.acked Clock (λ w. m (Vcpu s 5) ≤ w) u.steps
+
+-- a domain that it found or left dying is dying by the same seat, or dead
+abbrev pub LifeFound : Sizes → (Place → ℕ) → Holdings → Type 0
+LifeFound z m u = (d : ℕ) → EachSince z 0 (Life d) (λ w. w ≢ 0 → (m (Life d) ≡ w) ⊎ (m (Life d) ≡ 255)) u.steps
 
 -- ---- vCPUs that were found off
 -- each clock value and stamp that these steps found or left passes
@@ -72,12 +75,12 @@ PartialsFound z m u = (f : ℕ) (t : PageType) → IsTrue (knows_partial z f t u
 abbrev pub WorksFound : (Place → ℕ) → Holdings → Type 0
 WorksFound m u = (e : Work) → Contains u.works e → m (Kind e.frame) ≡ e.word
 
--- a frame that is ending or claimed has the reference word that it left there
+-- a frame that is ending or claimed has the reference word that it left there; no stamp is later than the clock
 abbrev pub EndingsFound : (Place → ℕ) → Holdings → Type 0
 EndingsFound m u = (e : Ending) → Contains u.ending e → m (Refs e.frame) ≡ ref_write (Dying e.owner)
 
 abbrev pub ClaimsFound : (Place → ℕ) → ℕ → Holdings → Type 0
-ClaimsFound m d u = (e : Claimed) → Contains u.claimed e → m (Refs e.frame) ≡ ref_write (Dying d)
+ClaimsFound m d u = (e : Claimed) → Contains u.claimed e → (m (Refs e.frame) ≡ ref_write (Dying d)) × (e.stamp ≤ m Clock)
 
 -- ---- cells
 -- the same word but for bits 5 and 6, which a walk may set
@@ -118,10 +121,13 @@ abbrev pub PrivilegesFound : Sizes → (Place → ℕ) → Holdings → Type 0
 PrivilegesFound z m u = (d o : ℕ) → o < 16 →
     EachSince z 0 (Priv d) (λ w. IsTrue (has_now o w || has_ever o w) → IsTrue (has_ever o (m (Priv d)))) u.steps
 
--- a vCPU that was passed over for a marked frame in work can but read it
-abbrev pub PassedFound : Machine → (Place → ℕ) → (ℕ → Holdings) → Holdings → Type 0
-PassedFound n m h u = (e : Work) (v : ℕ) (p : Use) → Contains u.works e → (kind_fields e.word).unflushed ≡ true → v < (sizes_of n).vcpus →
-    PassedOver n e.since e.frame v u → Reach (sizes_of n) m (h v) e.frame p → p ≡ Reads
+-- A vCPU of another domain, that was found without privilege over the owner of a marked frame since the frame
+-- came into work, can but read it.
+pub record PassedFound (n : Machine) (m : Place → ℕ) (h : ℕ → Holdings) (u : Holdings) : Type 0 where
+  pub reads : (e : Work) (v o : ℕ) (p : Use) → Contains u.works e → (kind_fields e.word).unflushed ≡ true → v < (sizes_of n).vcpus →
+      owner_of (m (Refs e.frame)) ≡ Some o → domain_of n v ≢ o →
+      IsTrue (some_since (sizes_of n) e.since (Priv (domain_of n v)) (λ w. not (has_ever o w)) u.steps) →
+      Reach (sizes_of n) m (h v) e.frame p → p ≡ Reads
 
 -- ---- the own words
 -- While the vCPU is not stopped, no other seat writes its old words.
@@ -135,6 +141,7 @@ pub record Found (n : Machine) (m : Place → ℕ) (h : ℕ → Holdings) (s : �
   pub clock : ClockFound (sizes_of n) m (h s)
   pub flushed : FlushedFound (sizes_of n) m (h s)
   pub stopped : StoppedFound (sizes_of n) m (h s)
+  pub life : LifeFound (sizes_of n) m (h s)
   pub since_ack : ClockSinceAck (sizes_of n) m s (h s)
   pub since_off : (v : ℕ) → v < (sizes_of n).vcpus → FlushedSinceOff (sizes_of n) m h v (h s)
   pub cold_off : (v : ℕ) → v < (sizes_of n).vcpus → ColdSinceOff (sizes_of n) m h v (h s)

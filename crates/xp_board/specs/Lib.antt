@@ -37,3 +37,4 @@ pub mod WellFormed
 pub mod Sound
 pub mod Lawful
 pub mod Runs
+pub mod Told

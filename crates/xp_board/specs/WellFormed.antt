@@ -7,7 +7,7 @@ use Rattle.xp_words.specs.declared.kind.KindWord.{KindWord}
 use Rattle.xp_words.specs.PageTypes.{is_table}
 use Rattle.xp_words.specs.KindWords.{kind_fields, kind_read}
 use Rattle.xp_words.specs.Machine.{Machine}
-use Rattle.xp_words.specs.Places.{Sizes, sizes_of, Place, Vcpu, Cell, place_at, is_place}
+use Rattle.xp_words.specs.Places.{Sizes, sizes_of, Place, Vcpu, Kind, Cell, place_at, is_place}
 use Rattle.xp_board.specs.declared.step.Item.{Item}
 use Rattle.xp_board.specs.declared.holdings.Made.{Made}
 use Rattle.xp_board.specs.declared.holdings.Seen.{Seen}
@@ -21,7 +21,7 @@ use Rattle.xp_board.specs.declared.holdings.Reached.{Reached}
 use Rattle.xp_board.specs.declared.holdings.Walk.{Walk}
 use Rattle.xp_board.specs.declared.holdings.Holdings.{Holdings}
 use Rattle.xp_board.specs.Lists.{times}
-use Rattle.xp_board.specs.Steps.{last_since}
+use Rattle.xp_board.specs.Steps.{last_since, some_before}
 use Rattle.xp_board.specs.Readings.{is_live, is_closing, is_work, is_partial, is_type, domain_of}
 use Rattle.xp_board.specs.Hands.{endings_of, claims_of, IsEmptyHand}
 use Rattle.xp_board.specs.Reach.{reached_by}
@@ -43,6 +43,7 @@ pub record IsWorkFormed (n : Machine) (u : Holdings) (e : Work) : Type 0 where
   pub seen : SeenIs (sizes_of n) e.unmarked e.frame u.steps e.seen
   pub last : LastIs (sizes_of n) e u.steps e.unsettled
   pub unsettled : (x : Unsettled) → e.unsettled ≡ Some x → (0 < e.recorded) × (x.since ≤ length u.steps)
+  pub told : (kind_fields e.word).unflushed ≡ true → IsTrue (some_before (sizes_of n) e.since (Kind e.frame) (λ w. w == e.word) u.steps)
   pub order : e.since ≤ e.unmarked
   pub past : e.unmarked ≤ length u.steps
 

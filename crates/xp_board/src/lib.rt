@@ -2,10 +2,12 @@
 #![tactic(auto)]
 
 mod holdings;
+mod port;
 mod step;
 
 pub use holdings::{
     Claimed, Ending, Holdings, Liveness, Lock, Looking, Made, OwnerFound, Reached, Reference, Seen, Touching, TypedReference, Unsettled,
     Walk, Work,
 };
+pub use port::Port;
 pub use step::{Act, Item, Mark, Step, StepKind};
