@@ -1,5 +1,5 @@
 -- A vCPU is asked to flush its translations.
-use Rattle.std.specs.Prelude.{◌≡◌, ℕ, ◌+◌, ◌<◌, ◌≤◌, ◌==◌, ◌⊎◌, nat_le, Bool, true, List, length, Contains, IsTrue}
+use Rattle.std.specs.Prelude.{◌≡◌, ℕ, ◌+◌, ◌<◌, ◌≤◌, ◌==◌, ◌⊎◌, nat_le, Bool, true, List, length, Some, IsTrue}
 use Rattle.xp_words.specs.Machine.{Machine}
 use Rattle.xp_words.specs.KindWords.{kind_fields}
 use Rattle.xp_words.specs.Places.{Place, Clock, Vcpu, Refs, Priv, sizes_of}
@@ -9,12 +9,13 @@ use Rattle.xp_board.specs.declared.holdings.Work.{Work}
 use Rattle.xp_board.specs.declared.holdings.Holdings.{Holdings}
 use Rattle.xp_board.specs.Steps.{some_since, some_before}
 use Rattle.xp_board.specs.Readings.{domain_of, has_ever}
+use Rattle.xp_board.specs.Hands.{work_on}
 use Rattle.xp_board.specs.Knowledge.{knows_owner}
 
 -- the stamp of a marked frame in the own work, which that vCPU's domain owns or has had privilege over
 pub record AwaitsFrame (m : Machine) (since v stamp : ℕ) (h : Holdings) : Type 0 where
   pub work : Work
-  pub here : Contains h.works work
+  pub here : work_on work.frame h.works ≡ Some work
   pub marked : (kind_fields work.word).unflushed ≡ true
   pub stamped : (kind_fields work.word).number ≡ stamp
   pub locked : work.since ≤ since

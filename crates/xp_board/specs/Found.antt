@@ -1,7 +1,8 @@
 -- What each seat found stays true: the facts on which legality lets a seat rely.
-use Rattle.std.specs.Prelude.{◌≡◌, ◌≢◌, ℕ, ◌+◌, ◌/◌, ◌%◌, ◌<◌, ◌≤◌, ◌==◌, ◌&&◌, ◌||◌, ◌*◌, ◌⊎◌, not, nat_le, if◌then◌else◌, Bool, true, false, List, [], ◌∷◌, Option, Some, None, Contains, All, IsTrue}
+use Rattle.std.specs.Prelude.{◌≡◌, ◌≢◌, ℕ, ◌+◌, ◌/◌, ◌%◌, ◌<◌, ◌≤◌, ◌==◌, ◌&&◌, ◌||◌, ◌*◌, ◌⊎◌, not, nat_le, if◌then◌else◌, Bool, true, false, List, [], ◌∷◌, Option, Some, None, IsTrue}
 use Rattle.xp_words.specs.declared.kind.PageType.{PageType}
 use Rattle.xp_words.specs.declared.kind.PageType.TheVariants as kinds
+use Rattle.xp_words.specs.declared.kind.KindWord.{KindWord}
 use Rattle.xp_words.specs.PageTypes.{is_table}
 use Rattle.xp_words.specs.KindWords.{kind_fields}
 use Rattle.xp_words.specs.RefWords.{ref_write}
@@ -14,6 +15,7 @@ use Rattle.xp_board.specs.declared.holdings.Lock.{Lock}
 use Rattle.xp_board.specs.declared.holdings.Ending.{Ending}
 use Rattle.xp_board.specs.declared.holdings.Claimed.{Claimed}
 use Rattle.xp_board.specs.declared.holdings.Holdings.{Holdings}
+use Rattle.xp_board.specs.Lists.{EachOf}
 use Rattle.xp_board.specs.Steps.{left_of, is_at, some_since, EachStep, EachSince, last_since, steps_before}
 use Rattle.xp_board.specs.Readings.{kind_at, is_live, is_type, owner_of, domain_of, told_value, has_now, has_ever}
 use Rattle.xp_board.specs.Knowledge.{knows_owner, knows_live, knows_partial}
@@ -24,7 +26,7 @@ use Rattle.xp_board.specs.Reach.{Use, Reads, Reach}
 -- the clock is at least each clock value and stamp that the seat found or left
 abbrev pub ClockFound : Sizes → (Place → ℕ) → Holdings → Type 0
 ClockFound z m u =
-    All (λ x. (told_value (place_at z x.step.place) x.found ≤ m Clock) × (told_value (place_at z x.step.place) (left_of x) ≤ m Clock)) u.steps
+    EachOf (λ x. (told_value (place_at z x.step.place) x.found ≤ m Clock) × (told_value (place_at z x.step.place) (left_of x) ≤ m Clock)) u.steps
 
 -- a vCPU's `flushed` is at least each value that the seat found or left there
 abbrev pub FlushedFound : Sizes → (Place → ℕ) → Holdings → Type 0
@@ -45,7 +47,7 @@ LifeFound z m u = (d : ℕ) → EachSince z 0 (Life d) (λ w. w ≢ 0 → (m (Li
 -- ---- vCPUs that were found off
 -- each clock value and stamp that these steps found or left passes
 abbrev pub EachTold : Sizes → (ℕ → Type 0) → List Made → Type 0
-EachTold z P steps = All (λ x. P (told_value (place_at z x.step.place) x.found) × P (told_value (place_at z x.step.place) (left_of x))) steps
+EachTold z P steps = EachOf (λ x. P (told_value (place_at z x.step.place) x.found) × P (told_value (place_at z x.step.place) (left_of x))) steps
 
 -- what the seat had found before it last found the vCPU off
 abbrev pub before_off : Sizes → ℕ → Holdings → List Made
@@ -70,18 +72,6 @@ LivesFound z m u = (f : ℕ) (t : PageType) → IsTrue (knows_live z f t u) → 
 abbrev pub PartialsFound : Sizes → (Place → ℕ) → Holdings → Type 0
 PartialsFound z m u = (f : ℕ) (t : PageType) → IsTrue (knows_partial z f t u) → (kind_at m f).kind ≡ t
 
--- ---- frames in its hand alone
--- a frame in its works has the kind word that the seat last found or left there
-abbrev pub WorksFound : (Place → ℕ) → Holdings → Type 0
-WorksFound m u = (e : Work) → Contains u.works e → m (Kind e.frame) ≡ e.word
-
--- a frame that is ending or claimed has the reference word that it left there; no stamp is later than the clock
-abbrev pub EndingsFound : (Place → ℕ) → Holdings → Type 0
-EndingsFound m u = (e : Ending) → Contains u.ending e → m (Refs e.frame) ≡ ref_write (Dying e.owner)
-
-abbrev pub ClaimsFound : (Place → ℕ) → ℕ → Holdings → Type 0
-ClaimsFound m d u = (e : Claimed) → Contains u.claimed e → (m (Refs e.frame) ≡ ref_write (Dying d)) × (e.stamp ≤ m Clock)
-
 -- ---- cells
 -- the same word but for bits 5 and 6, which a walk may set
 abbrev pub without_bits : ℕ → ℕ
@@ -90,44 +80,52 @@ without_bits w = w / 128 * 128 + w % 32
 abbrev pub is_same_entry : ℕ → ℕ → Bool
 is_same_entry w x = without_bits w == without_bits x
 
+-- of a table a walk may set bits; of a descriptor page it is the very word
+abbrev pub is_same_cell : PageType → ℕ → ℕ → Bool
+is_same_cell kind w x = if is_table kind then is_same_entry w x else w == x
+
 -- the word that stands in a cell is that which the seat last found or left there from step n on
 abbrev pub CellsFound : Sizes → (Place → ℕ) → ℕ → ℕ → (ℕ → ℕ → Bool) → List Made → Type 0
 CellsFound z m n f same steps = (i w : ℕ) → last_since z n (Cell f i) steps ≡ Some w → IsTrue (same (m (Cell f i)) w)
 
-abbrev pub cell_test : PageType → ℕ → ℕ → Bool
-cell_test kind w x = if is_table kind then is_same_entry w x else w == x
+-- ---- frames in its hand alone
+-- a table or descriptor page, flushed
+abbrev pub is_known_inside : KindWord → Bool
+is_known_inside k = not k.unflushed && not (is_type k.kind kinds.Writable)
 
--- of an unmarked table or descriptor page in its works, of a table under its entry lock, and of a claimed frame
-abbrev pub WorkCells : Sizes → (Place → ℕ) → Holdings → Type 0
-WorkCells z m u = (e : Work) → Contains u.works e → (kind_fields e.word).unflushed ≡ false → IsTrue (not (is_type (kind_fields e.word).kind kinds.Writable)) →
-    CellsFound z m e.unmarked e.frame (cell_test (kind_fields e.word).kind) u.steps
+-- A frame in its works has the kind word that the seat last found or left there, and the cells; the first words
+-- of a descriptor page are those found fixed. A vCPU of another domain, that was found without privilege over the
+-- owner of a marked frame since the frame came into work, can but read it.
+pub record WorkFound (n : Machine) (m : Place → ℕ) (h : ℕ → Holdings) (u : Holdings) (e : Work) : Type 0 where
+  pub word : m (Kind e.frame) ≡ e.word
+  pub cells : IsTrue (is_known_inside (kind_fields e.word)) →
+      CellsFound (sizes_of n) m e.unmarked e.frame (is_same_cell (kind_fields e.word).kind) u.steps
+  pub fixed : (i : ℕ) → (kind_fields e.word).kind ≡ kinds.Desc → i < e.fixed → IsTrue (is_fixed (m (Cell e.frame i)))
+  pub passed : (v o : ℕ) (p : Use) → (kind_fields e.word).unflushed ≡ true → v < (sizes_of n).vcpus →
+      owner_of (m (Refs e.frame)) ≡ Some o → domain_of n v ≢ o →
+      IsTrue (some_since (sizes_of n) e.since (Priv (domain_of n v)) (λ w. not (has_ever o w)) u.steps) →
+      Reach (sizes_of n) m (h v) e.frame p → p ≡ Reads
 
-abbrev pub LockCells : Sizes → (Place → ℕ) → Holdings → Type 0
-LockCells z m u = (e : Lock) → Contains u.locks e → CellsFound z m e.since e.frame is_same_entry u.steps
+-- a table under its entry lock has the cells that it last found or left there
+abbrev pub LockFound : Sizes → (Place → ℕ) → Holdings → Lock → Type 0
+LockFound z m u e = CellsFound z m e.since e.frame is_same_entry u.steps
 
-abbrev pub ClaimCells : Sizes → (Place → ℕ) → Holdings → Type 0
-ClaimCells z m u = (e : Claimed) → Contains u.claimed e → CellsFound z m e.since e.frame (λ w x. w == x) u.steps
+-- a frame that is ending has the reference word that the seat left there
+abbrev pub EndingFound : (Place → ℕ) → Ending → Type 0
+EndingFound m e = m (Refs e.frame) ≡ ref_write (Dying e.owner)
 
--- the first words of a descriptor page in its works that it found fixed, and the first cells that it scrubbed
-abbrev pub FixedFound : (Place → ℕ) → Holdings → Type 0
-FixedFound m u = (e : Work) (i : ℕ) → Contains u.works e → (kind_fields e.word).kind ≡ kinds.Desc → i < e.fixed → IsTrue (is_fixed (m (Cell e.frame i)))
-
-abbrev pub ScrubbedFound : (Place → ℕ) → Holdings → Type 0
-ScrubbedFound m u = (e : Claimed) (i : ℕ) → Contains u.claimed e → i < e.scrubbed → m (Cell e.frame i) ≡ 0
+-- so has one that it claimed for its own domain d, and its cells; the first ones are scrubbed
+pub record ClaimFound (z : Sizes) (m : Place → ℕ) (d : ℕ) (u : Holdings) (e : Claimed) : Type 0 where
+  pub word : m (Refs e.frame) ≡ ref_write (Dying d)
+  pub stamp : e.stamp ≤ m Clock
+  pub cells : CellsFound z m e.since e.frame (λ w x. w == x) u.steps
+  pub scrubbed : (i : ℕ) → i < e.scrubbed → m (Cell e.frame i) ≡ 0
 
 -- ---- privileges
 -- each privilege that it found in a word of a domain, now or ever, was had
 abbrev pub PrivilegesFound : Sizes → (Place → ℕ) → Holdings → Type 0
 PrivilegesFound z m u = (d o : ℕ) → o < 16 →
     EachSince z 0 (Priv d) (λ w. IsTrue (has_now o w || has_ever o w) → IsTrue (has_ever o (m (Priv d)))) u.steps
-
--- A vCPU of another domain, that was found without privilege over the owner of a marked frame since the frame
--- came into work, can but read it.
-pub record PassedFound (n : Machine) (m : Place → ℕ) (h : ℕ → Holdings) (u : Holdings) : Type 0 where
-  pub reads : (e : Work) (v o : ℕ) (p : Use) → Contains u.works e → (kind_fields e.word).unflushed ≡ true → v < (sizes_of n).vcpus →
-      owner_of (m (Refs e.frame)) ≡ Some o → domain_of n v ≢ o →
-      IsTrue (some_since (sizes_of n) e.since (Priv (domain_of n v)) (λ w. not (has_ever o w)) u.steps) →
-      Reach (sizes_of n) m (h v) e.frame p → p ≡ Reads
 
 -- ---- the own words
 -- While the vCPU is not stopped, no other seat writes its old words.
@@ -148,14 +146,9 @@ pub record Found (n : Machine) (m : Place → ℕ) (h : ℕ → Holdings) (s : �
   pub owners : OwnersFound (sizes_of n) m (h s)
   pub lives : LivesFound (sizes_of n) m (h s)
   pub partials : PartialsFound (sizes_of n) m (h s)
-  pub works : WorksFound m (h s)
-  pub endings : EndingsFound m (h s)
-  pub claims : ClaimsFound m (domain_of n s) (h s)
-  pub work_cells : WorkCells (sizes_of n) m (h s)
-  pub lock_cells : LockCells (sizes_of n) m (h s)
-  pub claim_cells : ClaimCells (sizes_of n) m (h s)
-  pub fixed : FixedFound m (h s)
-  pub scrubbed : ScrubbedFound m (h s)
+  pub works : EachOf (WorkFound n m h (h s)) (h s).works
+  pub locks : EachOf (LockFound (sizes_of n) m (h s)) (h s).locks
+  pub endings : EachOf (EndingFound m) (h s).ending
+  pub claims : EachOf (ClaimFound (sizes_of n) m (domain_of n s) (h s)) (h s).claimed
   pub privileges : PrivilegesFound (sizes_of n) m (h s)
-  pub passed : PassedFound n m h (h s)
   pub own : OwnFound m s (h s)

@@ -8,6 +8,7 @@ use Rattle.xp_words.specs.Places.{Sizes, sizes_of, Place, Clock, Vcpu, Refs, Kin
 use Rattle.xp_board.specs.declared.holdings.Ending.{Ending}
 use Rattle.xp_board.specs.declared.holdings.Work.{Work}
 use Rattle.xp_board.specs.declared.holdings.Holdings.{Holdings}
+use Rattle.xp_board.specs.Lists.{EachOf}
 use Rattle.xp_board.specs.Steps.{EachSince}
 use Rattle.xp_board.specs.Readings.{kind_at, is_dead, is_free, free_stamp, owner_of, domain_of}
 use Rattle.xp_board.specs.Hands.{claims_of}
@@ -34,8 +35,8 @@ pub record Bears (flushed : ℕ) (k : KindWord) (u : Use) : Type 0 where
 
 -- the vCPU was not flushed since any clock value that a seat has found while the frame was ending, or in work, in its hand
 pub record Awaited (z : Sizes) (flushed g : ℕ) (u : Use) (h : Holdings) : Type 0 where
-  pub ending : (e : Ending) → Contains h.ending e → e.frame ≡ g → EachSince z e.since Clock (λ w. flushed ≤ w) h.steps
-  pub work : u ≢ Reads → (e : Work) → Contains h.works e → e.frame ≡ g → EachSince z e.since Clock (λ w. flushed ≤ w) h.steps
+  pub ending : EachOf (λ e. e.frame ≡ g → EachSince z e.since Clock (λ w. flushed ≤ w) h.steps) h.ending
+  pub work : u ≢ Reads → EachOf (λ e. e.frame ≡ g → EachSince z e.since Clock (λ w. flushed ≤ w) h.steps) h.works
 
 -- one frame that vCPU v can come to
 pub record FreshAt (n : Machine) (m : Place → ℕ) (h : ℕ → Holdings) (v g : ℕ) (u : Use) : Type 0 where

@@ -8,7 +8,7 @@ use Rattle.xp_words.specs.PageTypes.{is_table}
 use Rattle.xp_words.specs.Machine.{Machine}
 use Rattle.xp_words.specs.Places.{sizes_of, Place, Refs, Kind, Cell}
 use Rattle.xp_board.specs.Sums.{sum_below}
-use Rattle.xp_board.specs.Lists.{one_at}
+use Rattle.xp_board.specs.Lists.{one_at, Member}
 use Rattle.xp_board.specs.Readings.{kind_at, is_dead, owner_of, ref_count}
 use Rattle.xp_board.specs.Recorded.{names}
 
@@ -35,13 +35,13 @@ node_demands m x (e ∷ es) = sum_below 512 (λ i. names x (demand_at e.1 i (m (
 
 abbrev pub IsOnce : List (ℕ × PageType) → Type 0
 IsOnce [] = Unit {0}
-IsOnce (e ∷ es) = (Contains es e → ⊥) × IsOnce es
+IsOnce (e ∷ es) = (Member e es → ⊥) × IsOnce es
 
 -- the tables of the tree, each once
 pub record ListsNodes (m : Place → ℕ) (f : ℕ) (t : PageType) (nodes : List (ℕ × PageType)) : Type 0 where
   pub once : IsOnce nodes
-  pub each : (e : ℕ × PageType) → Contains nodes e → IsNode m f t e.0 e.1
-  pub all : (g : ℕ) (u : PageType) → IsNode m f t g u → Contains nodes (g, u)
+  pub each : (e : ℕ × PageType) → Member e nodes → IsNode m f t e.0 e.1
+  pub all : (g : ℕ) (u : PageType) → IsNode m f t g u → Member (g, u) nodes
 
 -- in range, and owned by the owner of the top
 pub record IsOwned (n : Machine) (m : Place → ℕ) (f g : ℕ) : Type 0 where

@@ -8,6 +8,7 @@ use Rattle.xp_board.specs.declared.step.Item.{Item}
 use Rattle.xp_board.specs.declared.holdings.Reached.{Reached}
 use Rattle.xp_board.specs.declared.holdings.Walk.{Walk}
 use Rattle.xp_board.specs.declared.holdings.Holdings.{Holdings}
+use Rattle.xp_board.specs.Lists.{Member}
 use Rattle.xp_board.specs.Readings.{is_live, is_work, is_partial}
 use Rattle.xp_board.specs.FillSteps.{is_walked}
 
@@ -61,8 +62,8 @@ reached_by None = []
 
 -- the frames that a vCPU with these holdings can come to, with the use it makes of them
 pub data Reach (z : Sizes) (m : Place → ℕ) (h : Holdings) : ℕ → Use → Type 0 where
-  cached : (x : Item) → Contains h.cache x → Reach z m h x.frame (use_of x)
-  walked : (x : Reached) → Contains (reached_by h.walk) x → Reach z m h x.table (Table x.level)
+  cached : (x : Item) → Member x h.cache → Reach z m h x.frame (use_of x)
+  walked : (x : Reached) → Member x (reached_by h.walk) → Reach z m h x.table (Table x.level)
   entry : (f level i : ℕ) → Reach z m h f (Table level) → IsTrue (is_walked level i) → IsTrue (is_bit 0 (m (Cell f i))) →
       frame_of (m (Cell f i)) < z.frames → Reach z m h (frame_of (m (Cell f i))) (use_below level (m (Cell f i)))
 

@@ -14,7 +14,7 @@ use Rattle.xp_board.specs.declared.holdings.Work.{Work}
 use Rattle.xp_board.specs.declared.holdings.TypedReference.{TypedReference}
 use Rattle.xp_board.specs.declared.holdings.Lock.{Lock}
 use Rattle.xp_board.specs.declared.holdings.Holdings.{Holdings}
-use Rattle.xp_board.specs.Lists.{one_at, times}
+use Rattle.xp_board.specs.Lists.{one_at, times, EachOf}
 use Rattle.xp_board.specs.Sums.{sum_below}
 use Rattle.xp_board.specs.Readings.{kind_at, ref_count, allocated_mark, type_count, is_context, is_owned_by}
 use Rattle.xp_board.specs.Hands.{work_on, hand, typed_hand}
@@ -103,8 +103,8 @@ HasType m g None = Unit {0}
 pub record TypesAgree (z : Sizes) (m : Place → ℕ) (h : ℕ → Holdings) : Type 0 where
   pub entries : (f i g : ℕ) (t : PageType) → i < held z m h f → entry_demand m f i ≡ Typed g t → (kind_at m g).kind ≡ t
   pub contexts : (v k g : ℕ) → v < z.vcpus → k < 38 → IsTrue (is_context k) → m (Vcpu v k) ≡ g + 1 → HasType m g (context_type k)
-  pub typed : (s : ℕ) (e : TypedReference) → s < z.vcpus → Contains (h s).typed e → HasType m e.frame e.kind
-  pub locks : (s : ℕ) (e : Lock) → s < z.vcpus → Contains (h s).locks e → HasType m e.frame (Some e.kind)
+  pub typed : (s : ℕ) → s < z.vcpus → EachOf (λ e. HasType m e.frame e.kind) (h s).typed
+  pub locks : (s : ℕ) → s < z.vcpus → EachOf (λ e. HasType m e.frame (Some e.kind)) (h s).locks
 
 -- ---- counts
 -- 1 where the domain owns the frame

@@ -5,6 +5,7 @@ use Rattle.xp_words.specs.Machine.{Machine}
 use Rattle.xp_words.specs.Places.{sizes_of, Place}
 use Rattle.xp_board.specs.declared.step.Item.{Item}
 use Rattle.xp_board.specs.declared.holdings.Holdings.{Holdings}
+use Rattle.xp_board.specs.Lists.{Member}
 use Rattle.xp_board.specs.Readings.{kind_at, domain_of}
 use Rattle.xp_board.specs.Recorded.{CountsAgree}
 use Rattle.xp_board.specs.Valid.{Permits}
@@ -17,5 +18,5 @@ pub record SafeAt (n : Machine) (m : Place → ℕ) (v : ℕ) (writable : Bool) 
 
 pub record Safe (n : Machine) (m : Place → ℕ) (h : ℕ → Holdings) : Type 0 where
   pub paths : (v g : ℕ) (writable : Bool) → v < (sizes_of n).vcpus → Path (sizes_of n) m v writable g → SafeAt n m v writable g
-  pub items : (v : ℕ) (x : Item) → v < (sizes_of n).vcpus → Contains (h v).cache x → SafeAt n m v x.writable x.frame
+  pub items : (v : ℕ) (x : Item) → v < (sizes_of n).vcpus → Member x (h v).cache → SafeAt n m v x.writable x.frame
   pub counts : CountsAgree (sizes_of n) m h

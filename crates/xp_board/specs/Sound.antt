@@ -9,7 +9,7 @@ use Rattle.xp_words.specs.Places.{Sizes, sizes_of, Place, Clock, Pages, Life, Vc
 use Rattle.xp_board.specs.declared.holdings.Work.{Work}
 use Rattle.xp_board.specs.declared.holdings.Looking.{Looking}
 use Rattle.xp_board.specs.declared.holdings.Holdings.{Holdings}
-use Rattle.xp_board.specs.Lists.{times, some_of}
+use Rattle.xp_board.specs.Lists.{times, EachOf, Member}
 use Rattle.xp_board.specs.Steps.{some_since, some_before, some_between}
 use Rattle.xp_board.specs.Readings.{kind_at, is_work, is_closing, is_locked, is_dying, is_free, is_context, is_owned_by, owner_of, domain_of, free_stamp, kind_stamp, allocated_mark}
 use Rattle.xp_board.specs.Hands.{refs_to, works_on, locks_on, endings_of, claims_of, IsEmptyHand, empty}
@@ -40,9 +40,9 @@ pub record HeldAlone (n : Machine) (m : Place → ℕ) (h : ℕ → Holdings) : 
   pub dying : (f : ℕ) → hands (λ u. endings_of f u.ending + claims_of f u.claimed) (sizes_of n) h ≡ bit (is_dying (m (Refs f)))
 
 -- nothing is recorded of a marked frame, and a closing one keeps an untyped reference
-pub record WorksAgree (m : Place → ℕ) (u : Holdings) : Type 0 where
-  pub marked : (e : Work) → Contains u.works e → (kind_fields e.word).unflushed ≡ true → e.recorded ≡ 0
-  pub closing : (e : Work) → Contains u.works e → IsTrue (is_closing (kind_fields e.word)) → 0 < refs_to e.frame u.refs
+pub record WorkAgrees (u : Holdings) (e : Work) : Type 0 where
+  pub marked : (kind_fields e.word).unflushed ≡ true → e.recorded ≡ 0
+  pub closing : IsTrue (is_closing (kind_fields e.word)) → 0 < refs_to e.frame u.refs
 
 -- ---- 5: stamps, and vCPUs that do not run
 pub record Stamped (n : Machine) (m : Place → ℕ) : Type 0 where
@@ -63,7 +63,7 @@ pub record IsLookedAt (n : Machine) (m : Place → ℕ) (h : ℕ → Holdings) (
   pub seat : ℕ
   pub real : seat < (sizes_of n).vcpus
   pub looking : Looking
-  pub here : Contains (h seat).looking looking
+  pub here : Member looking (h seat).looking
   pub frame : looking.frame ≡ f
   pub owner : looking.owner ≡ d
   pub word : looking.word ≡ m (Kind f)
@@ -121,7 +121,7 @@ pub record Sound (n : Machine) (m : Place → ℕ) (h : ℕ → Holdings) : Type
   pub permitted : Permitted n m h
   -- 4
   pub alone : HeldAlone n m h
-  pub works : (s : ℕ) → s < (sizes_of n).vcpus → WorksAgree m (h s)
+  pub works : (s : ℕ) → s < (sizes_of n).vcpus → EachOf (WorkAgrees (h s)) (h s).works
   pub found : (s : ℕ) → s < (sizes_of n).vcpus → Found n m h s
   pub formed : (s : ℕ) → s < (sizes_of n).vcpus → WellFormed n s (h s)
   -- 5

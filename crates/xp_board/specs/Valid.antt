@@ -12,6 +12,7 @@ use Rattle.xp_board.specs.declared.holdings.Work.{Work}
 use Rattle.xp_board.specs.declared.holdings.Holdings.{Holdings}
 use Rattle.xp_board.specs.Steps.{some_since}
 use Rattle.xp_board.specs.Readings.{kind_at, is_live, is_partial, is_work, is_live_word, is_context, is_free, owner_of, domain_of, has_ever}
+use Rattle.xp_board.specs.Hands.{work_on}
 use Rattle.xp_board.specs.Recorded.{held, entry_demand}
 use Rattle.xp_board.specs.After.{is_fixed}
 
@@ -21,8 +22,7 @@ pub record IsUnsettled (z : Sizes) (h : ℕ → Holdings) (f i g : ℕ) : Type 0
   pub seat : ℕ
   pub real : seat < z.vcpus
   pub work : Work
-  pub here : Contains (h seat).works work
-  pub frame : work.frame ≡ f
+  pub here : work_on f (h seat).works ≡ Some work
   pub last : i + 1 ≡ work.recorded
   pub unsettled : Unsettled
   pub kept : work.unsettled ≡ Some unsettled

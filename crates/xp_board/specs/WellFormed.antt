@@ -20,7 +20,7 @@ use Rattle.xp_board.specs.declared.holdings.Looking.{Looking}
 use Rattle.xp_board.specs.declared.holdings.Reached.{Reached}
 use Rattle.xp_board.specs.declared.holdings.Walk.{Walk}
 use Rattle.xp_board.specs.declared.holdings.Holdings.{Holdings}
-use Rattle.xp_board.specs.Lists.{times}
+use Rattle.xp_board.specs.Lists.{times, EachOf}
 use Rattle.xp_board.specs.Steps.{last_since, some_before}
 use Rattle.xp_board.specs.Readings.{is_live, is_closing, is_work, is_partial, is_type, domain_of}
 use Rattle.xp_board.specs.Hands.{endings_of, claims_of, IsEmptyHand}
@@ -39,7 +39,7 @@ LastIs z e steps None = Unit {0}
 pub record IsWorkFormed (n : Machine) (u : Holdings) (e : Work) : Type 0 where
   pub recorded : e.recorded ≤ 512
   pub none : is_table (kind_fields e.word).kind ≡ false → e.recorded ≡ 0
-  pub marked : (kind_fields e.word).unflushed ≡ true → (e.recorded ≡ 0) × (e.seen ≡ None)
+  pub marked : (kind_fields e.word).unflushed ≡ true → e.seen ≡ None
   pub seen : SeenIs (sizes_of n) e.unmarked e.frame u.steps e.seen
   pub last : LastIs (sizes_of n) e u.steps e.unsettled
   pub unsettled : (x : Unsettled) → e.unsettled ≡ Some x → (0 < e.recorded) × (x.since ≤ length u.steps)
@@ -89,15 +89,15 @@ pub record IsOwnFormed (n : Machine) (s : ℕ) (u : Holdings) : Type 0 where
 
 -- ---- all of it
 pub record WellFormed (n : Machine) (s : ℕ) (u : Holdings) : Type 0 where
-  pub works : (e : Work) → Contains u.works e → IsWorkFormed n u e
-  pub locks : (e : Lock) → Contains u.locks e → IsLockFormed n u e
-  pub ending : (e : Ending) → Contains u.ending e → e.since ≤ length u.steps
-  pub claimed : (e : Claimed) → Contains u.claimed e → e.since ≤ length u.steps
+  pub works : EachOf (IsWorkFormed n u) u.works
+  pub locks : EachOf (IsLockFormed n u) u.locks
+  pub ending : EachOf (λ e. e.since ≤ length u.steps) u.ending
+  pub claimed : EachOf (λ e. e.since ≤ length u.steps) u.claimed
   pub raised : IsRaisedFormed u
-  pub looking : (e : Looking) → Contains u.looking e → IsLookingFormed n s e
+  pub looking : EachOf (IsLookingFormed n s) u.looking
   pub cache : IsCacheFormed u
   pub own : IsOwnFormed n s u
-  pub places : All (λ x. IsTrue (is_place (sizes_of n) (place_at (sizes_of n) x.step.place))) u.steps
+  pub places : EachOf (λ x. IsTrue (is_place (sizes_of n) (place_at (sizes_of n) x.step.place))) u.steps
   pub turn : u.turn ≤ length u.steps
   pub acked : u.acked ≤ length u.steps
   pub ran : u.ran ≤ length u.steps

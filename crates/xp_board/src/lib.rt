@@ -3,6 +3,7 @@
 
 mod holdings;
 mod port;
+mod sanity;
 mod step;
 
 pub use holdings::{
@@ -10,4 +11,5 @@ pub use holdings::{
     Walk, Work,
 };
 pub use port::Port;
+pub use sanity::{a_load_leaves_the_word, a_look_is_legal, empty_hands_are_well_formed, what_is_lowered_is_in_hand};
 pub use step::{Act, Item, Mark, Step, StepKind};
