@@ -1,5 +1,5 @@
 -- A seat that has made no step.
-use Rattle.std.proofs.Common.{◌≡◌, ◌≤◌, ℕ, IsTrue, refl, None, [], arith}
+use Rattle.std.proofs.Common.{ℕ, refl, arith}
 use Rattle.xp_words.specs.Machine.{Machine}
 use Rattle.xp_board.specs.Hands.{empty}
 use Rattle.xp_board.specs.Lists.{times_by, EachOf}

@@ -1,5 +1,5 @@
 -- A vCPU is asked to flush its translations.
-use Rattle.std.specs.Prelude.{◌≡◌, ℕ, ◌+◌, ◌<◌, ◌≤◌, ◌==◌, ◌⊎◌, nat_le, Bool, true, List, length, Some, IsTrue}
+use Rattle.std.specs.Prelude.{◌≡◌, ℕ, ◌≤◌, ◌==◌, ◌⊎◌, nat_le, true, Some, IsTrue}
 use Rattle.xp_words.specs.Machine.{Machine}
 use Rattle.xp_words.specs.KindWords.{kind_fields}
 use Rattle.xp_words.specs.Places.{Place, Clock, Vcpu, Refs, Priv, sizes_of}
@@ -32,7 +32,7 @@ pub record AwaitsFree (m : Machine) (since stamp : ℕ) (h : Holdings) : Type 0 
 abbrev pub Awaits : Machine → ℕ → ℕ → ℕ → Holdings → Type 0
 Awaits m since v stamp h =
     AwaitsFrame m since v stamp h
-        ⊎ (AwaitsFree m since stamp h ⊎ IsTrue (some_before (sizes_of m) since Clock (λ w. w == stamp) h.steps))
+    ⊎ (AwaitsFree m since stamp h ⊎ IsTrue (some_before (sizes_of m) since Clock (λ w. w == stamp) h.steps))
 
 -- the vCPU was found running, and flushed no later than the stamp, after the stamp was found
 pub record MayAsk (m : Machine) (v stamp : ℕ) (h : Holdings) : Type 0 where

@@ -1,5 +1,5 @@
 -- Which translations are gone: what a seat has found of each vCPU after it had found a stamp.
-use Rattle.std.specs.Prelude.{◌≡◌, ◌≢◌, ℕ, ◌+◌, ◌<◌, ◌==◌, ◌||◌, ◌⊎◌, not, nat_lt, Bool, List, length, IsTrue}
+use Rattle.std.specs.Prelude.{◌≢◌, ℕ, ◌<◌, ◌==◌, ◌||◌, ◌⊎◌, not, nat_lt, Bool, List, length, IsTrue}
 use Rattle.xp_words.specs.Machine.{Machine}
 use Rattle.xp_words.specs.Places.{Sizes, sizes_of, Vcpu, Priv}
 use Rattle.xp_words.specs.KindWords.{kind_fields}
@@ -30,4 +30,4 @@ pub record PassedOver (m : Machine) (n f v : ℕ) (h : Holdings) : Type 0 where
 abbrev pub IsPastFlush : Machine → Holdings → Work → Type 0
 IsPastFlush m h e =
     (v : ℕ) → v < length m.vcpu_domain →
-      IsTrue (is_past (sizes_of m) e.since (kind_fields e.word).number v h.steps) ⊎ PassedOver m e.since e.frame v h
+    IsTrue (is_past (sizes_of m) e.since (kind_fields e.word).number v h.steps) ⊎ PassedOver m e.since e.frame v h

@@ -1,5 +1,5 @@
 -- What each seat found stays true: the facts on which legality lets a seat rely.
-use Rattle.std.specs.Prelude.{◌≡◌, ◌≢◌, ℕ, ◌+◌, ◌/◌, ◌%◌, ◌<◌, ◌≤◌, ◌==◌, ◌&&◌, ◌||◌, ◌*◌, ◌⊎◌, not, nat_le, if◌then◌else◌, Bool, true, false, List, [], ◌∷◌, Option, Some, None, IsTrue}
+use Rattle.std.specs.Prelude.{◌≡◌, ◌≢◌, ℕ, ◌+◌, ◌/◌, ◌%◌, ◌<◌, ◌≤◌, ◌==◌, ◌&&◌, ◌||◌, ◌*◌, ◌⊎◌, not, if◌then◌else◌, Bool, true, List, Some, IsTrue}
 use Rattle.xp_words.specs.declared.kind.PageType.{PageType}
 use Rattle.xp_words.specs.declared.kind.PageType.TheVariants as kinds
 use Rattle.xp_words.specs.declared.kind.KindWord.{KindWord}
@@ -16,7 +16,7 @@ use Rattle.xp_board.specs.declared.holdings.Ending.{Ending}
 use Rattle.xp_board.specs.declared.holdings.Claimed.{Claimed}
 use Rattle.xp_board.specs.declared.holdings.Holdings.{Holdings}
 use Rattle.xp_board.specs.Lists.{EachOf}
-use Rattle.xp_board.specs.Steps.{left_of, is_at, some_since, EachStep, EachSince, last_since, steps_before}
+use Rattle.xp_board.specs.Steps.{left_of, some_since, EachSince, last_since, steps_before}
 use Rattle.xp_board.specs.Readings.{kind_at, is_live, is_type, owner_of, domain_of, told_value, has_now, has_ever}
 use Rattle.xp_board.specs.Knowledge.{knows_owner, knows_live, knows_partial}
 use Rattle.xp_board.specs.After.{is_fixed}

@@ -1,12 +1,12 @@
 -- When a whole tree of page tables may be validated, as a plain property of the words.
-use Rattle.std.specs.Prelude.{◌≡◌, ◌≢◌, ℕ, ◌+◌, ◌<◌, ◌≤◌, ◌==◌, ◌⊎◌, Bool, true, false, List, [], ◌∷◌, Option, Some, None, Contains, IsTrue}
+use Rattle.std.specs.Prelude.{◌≡◌, ℕ, ◌+◌, ◌<◌, ◌≤◌, ◌⊎◌, List, [], ◌∷◌, IsTrue}
 use Rattle.xp_words.specs.declared.kind.PageType.{PageType}
 use Rattle.xp_words.specs.declared.entry.Demand.{Demand}
-use Rattle.xp_words.specs.declared.entry.Demand.TheVariants.{Nothing, Bad, Read, Typed}
+use Rattle.xp_words.specs.declared.entry.Demand.TheVariants.{Bad, Read, Typed}
 use Rattle.xp_words.specs.Entries.{demand_at}
 use Rattle.xp_words.specs.PageTypes.{is_table}
 use Rattle.xp_words.specs.Machine.{Machine}
-use Rattle.xp_words.specs.Places.{sizes_of, Place, Refs, Kind, Cell}
+use Rattle.xp_words.specs.Places.{Place, Refs, Cell}
 use Rattle.xp_board.specs.Sums.{sum_below}
 use Rattle.xp_board.specs.Lists.{one_at, Member}
 use Rattle.xp_board.specs.Readings.{kind_at, is_dead, owner_of, ref_count}

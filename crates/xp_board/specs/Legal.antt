@@ -1,6 +1,6 @@
 -- When a seat may make a step, by its own holdings alone. A mark is judged first, and the act by the hand
 -- that the mark leaves.
-use Rattle.std.specs.Prelude.{◌≡◌, ℕ, ◌+◌, ◌^◌, ◌<◌, Bool, true, false, Option, Some, None, IsTrue}
+use Rattle.std.specs.Prelude.{◌≡◌, ℕ, ◌^◌, ◌<◌, Bool, true, false, Option, Some, None, IsTrue}
 use Rattle.xp_words.specs.Machine.{Machine}
 use Rattle.xp_words.specs.Places.{Place, place_at, is_place, sizes_of}
 use Rattle.xp_board.specs.declared.step.Act.{Act}

@@ -1,5 +1,5 @@
 -- Counts, searches and changes in the lists of a hand, by the number (a frame, a domain) of each element.
-use Rattle.std.specs.Prelude.{◌≡◌, ◌⊎◌, ℕ, zero, suc, ◌+◌, ◌==◌, ◌||◌, if◌then◌else◌, Bool, true, false, List, [], ◌∷◌, Option, Some, None}
+use Rattle.std.specs.Prelude.{◌≡◌, ◌⊎◌, ℕ, zero, suc, ◌+◌, ◌==◌, ◌||◌, if◌then◌else◌, Bool, false, List, [], ◌∷◌, Option, Some, None}
 
 -- 1 where the two are equal
 abbrev pub one_at : ℕ → ℕ → ℕ

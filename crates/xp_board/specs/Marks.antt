@@ -1,6 +1,5 @@
 -- Marks: what goes with a step beside its act.
-use Rattle.std.specs.Prelude.{◌≡◌, ℕ, ◌+◌, ◌<◌, ◌==◌, ◌⊎◌, not, if◌then◌else◌, Bool, true, false, length, Option, Some, None, IsTrue}
-use Rattle.xp_words.specs.declared.kind.PageType.{PageType}
+use Rattle.std.specs.Prelude.{◌≡◌, ℕ, ◌+◌, ◌<◌, ◌==◌, not, if◌then◌else◌, Bool, false, length, Option, Some, None, IsTrue}
 use Rattle.xp_words.specs.declared.entry.Demand.{Demand}
 use Rattle.xp_words.specs.declared.entry.Demand.TheVariants as demands
 use Rattle.xp_words.specs.Entries.{demand_at}
@@ -78,7 +77,7 @@ unsettled_by z e h =
 abbrev pub recorded : Machine → ℕ → Option Work → Holdings → Holdings
 recorded m f (Some e) h =
     demand_out (demand_seen e.recorded e)
-      (record h { works = changed_work f (λ x. record x { recorded = e.recorded + 1; unsettled = unsettled_by (sizes_of m) e h }) h.works })
+    (record h { works = changed_work f (λ x. record x { recorded = e.recorded + 1; unsettled = unsettled_by (sizes_of m) e h }) h.works })
 recorded m f None h = h
 
 abbrev pub shed : ℕ → ℕ → Option Work → Holdings → Holdings

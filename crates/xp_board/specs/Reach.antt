@@ -1,5 +1,5 @@
 -- What a vCPU's page tables and its translations lead to.
-use Rattle.std.specs.Prelude.{◌≡◌, ℕ, ◌+◌, ◌-◌, ◌<◌, ◌==◌, ◌&&◌, ◌||◌, ◌⊎◌, not, nat_lt, if◌then◌else◌, Bool, true, false, List, [], Option, Some, None, Contains, IsTrue}
+use Rattle.std.specs.Prelude.{◌≡◌, ℕ, ◌+◌, ◌-◌, ◌<◌, ◌==◌, ◌&&◌, ◌||◌, not, nat_lt, if◌then◌else◌, Bool, List, [], Option, Some, None, IsTrue}
 use Rattle.xp_words.specs.declared.kind.KindWord.{KindWord}
 use Rattle.xp_words.specs.PageTypes.{is_table, type_number}
 use Rattle.xp_words.specs.Entries.{is_bit, frame_of}

@@ -1,18 +1,15 @@
 -- The references that are recorded: by entries of tables, words of vCPUs, marks of frames and hands of seats.
 -- Each frame's two counts are the numbers of those that name it.
-use Rattle.std.specs.Prelude.{◌≡◌, ℕ, zero, suc, ◌+◌, ◌<◌, ◌==◌, ◌&&◌, nat_lt, nat_le, if◌then◌else◌, Bool, true, false, List, [], ◌∷◌, length, Option, Some, None, Contains, IsTrue}
+use Rattle.std.specs.Prelude.{◌≡◌, ℕ, zero, suc, ◌+◌, ◌<◌, if◌then◌else◌, List, Option, Some, None, IsTrue}
 use Rattle.xp_words.specs.declared.kind.PageType.{PageType}
-use Rattle.xp_words.specs.declared.kind.PageType.TheVariants as kinds
 use Rattle.xp_words.specs.declared.kind.KindWord.{KindWord}
 use Rattle.xp_words.specs.declared.entry.Demand.{Demand}
 use Rattle.xp_words.specs.declared.entry.Demand.TheVariants.{Nothing, Bad, Read, Typed}
 use Rattle.xp_words.specs.Entries.{demand_at}
 use Rattle.xp_words.specs.PageTypes.{is_table}
 use Rattle.xp_words.specs.RefWords.{bit}
-use Rattle.xp_words.specs.Places.{Sizes, Place, Pages, Vcpu, Refs, Kind, Cell}
+use Rattle.xp_words.specs.Places.{Sizes, Place, Pages, Vcpu, Refs, Cell}
 use Rattle.xp_board.specs.declared.holdings.Work.{Work}
-use Rattle.xp_board.specs.declared.holdings.TypedReference.{TypedReference}
-use Rattle.xp_board.specs.declared.holdings.Lock.{Lock}
 use Rattle.xp_board.specs.declared.holdings.Holdings.{Holdings}
 use Rattle.xp_board.specs.Lists.{one_at, times, EachOf}
 use Rattle.xp_board.specs.Sums.{sum_below}

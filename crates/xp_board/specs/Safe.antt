@@ -1,6 +1,6 @@
 -- What the whole product stands for: no guest writes a page table or descriptor page, or comes to a frame
 -- that its domain is not permitted, and the counts are right.
-use Rattle.std.specs.Prelude.{◌≡◌, ℕ, ◌<◌, Bool, true, false, Contains, IsTrue}
+use Rattle.std.specs.Prelude.{◌≡◌, ℕ, ◌<◌, Bool, true, false}
 use Rattle.xp_words.specs.Machine.{Machine}
 use Rattle.xp_words.specs.Places.{sizes_of, Place}
 use Rattle.xp_board.specs.declared.step.Item.{Item}

@@ -1,21 +1,20 @@
 -- The machine between any two steps of any vCPUs: what every legal step keeps.
-use Rattle.std.specs.Prelude.{◌≡◌, ◌≢◌, ℕ, ◌+◌, ◌-◌, ◌*◌, ◌/◌, ◌%◌, ◌^◌, ◌<◌, ◌≤◌, ◌==◌, ◌&&◌, ◌||◌, ◌⊎◌, not, nat_lt, nat_le, if◌then◌else◌, Bool, true, false, List, [], length, replicate, slice_index_or, Option, Some, None, Contains, IsTrue}
+use Rattle.std.specs.Prelude.{◌≡◌, ◌≢◌, ℕ, ◌+◌, ◌/◌, ◌%◌, ◌^◌, ◌<◌, ◌≤◌, ◌==◌, ◌||◌, ◌⊎◌, not, Bool, true, false, List, [], length, replicate, slice_index_or, Some, None, IsTrue}
 use Rattle.xp_words.specs.declared.kind.KindWord.{KindWord}
 use Rattle.xp_words.specs.KindWords.{kind_fields}
 use Rattle.xp_words.specs.RefWords.{bit}
 use Rattle.xp_words.specs.Entries.{is_bit}
 use Rattle.xp_words.specs.Machine.{Machine, IsMachine}
-use Rattle.xp_words.specs.Places.{Sizes, sizes_of, Place, Clock, Pages, Life, Vcpu, Refs, Kind, M2p, Cell, Map, Priv, is_place, memory, size}
+use Rattle.xp_words.specs.Places.{sizes_of, Place, Clock, Life, Vcpu, Refs, Kind, Map, is_place, memory, size}
 use Rattle.xp_board.specs.declared.holdings.Work.{Work}
 use Rattle.xp_board.specs.declared.holdings.Looking.{Looking}
 use Rattle.xp_board.specs.declared.holdings.Holdings.{Holdings}
 use Rattle.xp_board.specs.Lists.{times, EachOf, Member}
 use Rattle.xp_board.specs.Steps.{some_since, some_before, some_between}
-use Rattle.xp_board.specs.Readings.{kind_at, is_work, is_closing, is_locked, is_dying, is_free, is_context, is_owned_by, owner_of, domain_of, free_stamp, kind_stamp, allocated_mark}
+use Rattle.xp_board.specs.Readings.{kind_at, is_work, is_closing, is_locked, is_dying, is_free, is_context, is_owned_by, owner_of, domain_of, free_stamp, kind_stamp}
 use Rattle.xp_board.specs.Hands.{refs_to, works_on, locks_on, endings_of, claims_of, IsEmptyHand, empty}
 use Rattle.xp_board.specs.Spelling.{IsSpelling}
 use Rattle.xp_board.specs.LifeSteps.{HasStopped, is_unallocated, is_unpinned, is_unkept}
-use Rattle.xp_board.specs.HintSteps.{map_bit}
 use Rattle.xp_board.specs.Recorded.{CountsAgree, hands}
 use Rattle.xp_board.specs.Valid.{Valid, Permitted}
 use Rattle.xp_board.specs.Fresh.{Fresh}

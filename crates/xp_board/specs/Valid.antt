@@ -1,9 +1,8 @@
 -- What recorded entries and words of vCPUs lead to.
-use Rattle.std.specs.Prelude.{◌≡◌, ◌≢◌, ℕ, ◌+◌, ◌<◌, ◌==◌, ◌&&◌, ◌||◌, ◌⊎◌, not, nat_lt, Bool, true, false, Option, Some, None, Contains, IsTrue}
+use Rattle.std.specs.Prelude.{◌≡◌, ◌≢◌, ℕ, ◌+◌, ◌<◌, ◌&&◌, ◌||◌, ◌⊎◌, not, nat_lt, Bool, false, Option, Some, None, IsTrue}
 use Rattle.xp_words.specs.declared.kind.PageType.{PageType}
 use Rattle.xp_words.specs.declared.kind.PageType.TheVariants as kinds
-use Rattle.xp_words.specs.declared.entry.Demand.{Demand}
-use Rattle.xp_words.specs.declared.entry.Demand.TheVariants.{Nothing, Bad, Read, Typed}
+use Rattle.xp_words.specs.declared.entry.Demand.TheVariants.{Bad, Read, Typed}
 use Rattle.xp_words.specs.Entries.{is_lowest}
 use Rattle.xp_words.specs.Machine.{Machine}
 use Rattle.xp_words.specs.Places.{Sizes, sizes_of, Place, Vcpu, Refs, Kind, Cell, Priv}
@@ -11,7 +10,7 @@ use Rattle.xp_board.specs.declared.holdings.Unsettled.{Unsettled}
 use Rattle.xp_board.specs.declared.holdings.Work.{Work}
 use Rattle.xp_board.specs.declared.holdings.Holdings.{Holdings}
 use Rattle.xp_board.specs.Steps.{some_since}
-use Rattle.xp_board.specs.Readings.{kind_at, is_live, is_partial, is_work, is_live_word, is_context, is_free, owner_of, domain_of, has_ever}
+use Rattle.xp_board.specs.Readings.{kind_at, is_live, is_partial, is_work, is_live_word, is_context, owner_of, domain_of, has_ever}
 use Rattle.xp_board.specs.Hands.{work_on}
 use Rattle.xp_board.specs.Recorded.{held, entry_demand}
 use Rattle.xp_board.specs.After.{is_fixed}
@@ -37,7 +36,7 @@ pub record IsLastOfPartial (m : Place → ℕ) (f i : ℕ) : Type 0 where
 abbrev pub LeadsWell : Sizes → (Place → ℕ) → (ℕ → Holdings) → ℕ → ℕ → ℕ → Type 0
 LeadsWell z m h f i g =
     IsTrue (is_live (kind_at m g))
-        ⊎ (IsTrue (is_partial (kind_at m g) || is_work (kind_at m g)) × (IsLastOfPartial m f i ⊎ IsUnsettled z h f i g))
+    ⊎ (IsTrue (is_partial (kind_at m g) || is_work (kind_at m g)) × (IsLastOfPartial m f i ⊎ IsUnsettled z h f i g))
 
 -- a word of a vCPU whose frame has to be live
 abbrev pub is_live_context : ℕ → Bool

@@ -1,30 +1,23 @@
 -- What holdings are by themselves, beside what they say of the words: they come of a list of steps that were
 -- legal on sound words, and so their parts fit one another.
-use Rattle.std.specs.Prelude.{◌≡◌, ◌≢◌, ℕ, ◌+◌, ◌-◌, ◌<◌, ◌≤◌, ◌==◌, ◌&&◌, ◌||◌, ◌⊎◌, not, nat_lt, Bool, true, false, List, [], ◌∷◌, length, All, Option, Some, None, Contains, IsTrue, MatchOption}
-use Rattle.xp_words.specs.declared.kind.PageType.{PageType}
-use Rattle.xp_words.specs.declared.kind.PageType.TheVariants as kinds
-use Rattle.xp_words.specs.declared.kind.KindWord.{KindWord}
+use Rattle.std.specs.Prelude.{◌≡◌, ◌≢◌, ℕ, ◌+◌, ◌-◌, ◌<◌, ◌≤◌, ◌==◌, true, false, List, [], ◌∷◌, length, Option, Some, None, IsTrue}
 use Rattle.xp_words.specs.PageTypes.{is_table}
-use Rattle.xp_words.specs.KindWords.{kind_fields, kind_read}
+use Rattle.xp_words.specs.KindWords.{kind_fields}
 use Rattle.xp_words.specs.Machine.{Machine}
-use Rattle.xp_words.specs.Places.{Sizes, sizes_of, Place, Vcpu, Kind, Cell, place_at, is_place}
-use Rattle.xp_board.specs.declared.step.Item.{Item}
+use Rattle.xp_words.specs.Places.{Sizes, sizes_of, Vcpu, Kind, Cell, place_at, is_place}
 use Rattle.xp_board.specs.declared.holdings.Made.{Made}
 use Rattle.xp_board.specs.declared.holdings.Seen.{Seen}
 use Rattle.xp_board.specs.declared.holdings.Unsettled.{Unsettled}
 use Rattle.xp_board.specs.declared.holdings.Work.{Work}
 use Rattle.xp_board.specs.declared.holdings.Lock.{Lock}
-use Rattle.xp_board.specs.declared.holdings.Ending.{Ending}
-use Rattle.xp_board.specs.declared.holdings.Claimed.{Claimed}
 use Rattle.xp_board.specs.declared.holdings.Looking.{Looking}
 use Rattle.xp_board.specs.declared.holdings.Reached.{Reached}
 use Rattle.xp_board.specs.declared.holdings.Walk.{Walk}
 use Rattle.xp_board.specs.declared.holdings.Holdings.{Holdings}
 use Rattle.xp_board.specs.Lists.{times, EachOf}
 use Rattle.xp_board.specs.Steps.{last_since, some_before}
-use Rattle.xp_board.specs.Readings.{is_live, is_closing, is_work, is_partial, is_type, domain_of}
-use Rattle.xp_board.specs.Hands.{endings_of, claims_of, IsEmptyHand}
-use Rattle.xp_board.specs.Reach.{reached_by}
+use Rattle.xp_board.specs.Readings.{is_partial, domain_of}
+use Rattle.xp_board.specs.Hands.{endings_of, claims_of}
 
 -- ---- frames in work and under a lock
 -- what is noted of a cell is the word last found or left there

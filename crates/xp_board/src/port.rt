@@ -1,8 +1,7 @@
 ghost use Rattle.std.specs.Prelude.{◌≡◌, ◌<◌, length};
 
-use xp_words::Layout;
-
 use crate::step::{Item, Step};
+use xp_words::Layout;
 
 /// One vCPU's access to the board. Each step is one event of the machine.
 pub trait Port {
