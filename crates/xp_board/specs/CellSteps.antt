@@ -1,15 +1,15 @@
 -- Steps that store into a cell of a frame, but for accesses of the guest.
-use Rattle.std.specs.Prelude.{◌≡◌, ℕ, ◌<◌, ◌==◌, ◌&&◌, ◌⊎◌, if◌then◌else◌, Bool, true, false, Option, Some, None, IsTrue}
+use Rattle.std.specs.Prelude.{◌≡◌, ℕ, ◌<◌, ◌==◌, ◌⊎◌, if◌then◌else◌, Bool, true, false, Option, Some, None, IsTrue}
 use Rattle.xp_words.specs.declared.kind.PageType.{PageType}
 use Rattle.xp_words.specs.declared.kind.PageType.TheVariants as kinds
 use Rattle.xp_words.specs.declared.entry.Demand.{Demand}
-use Rattle.xp_words.specs.declared.entry.Demand.TheVariants.{Nothing, Bad, Read, Typed}
+use Rattle.xp_words.specs.declared.entry.Demand.TheVariants.{Nothing, Read, Typed}
 use Rattle.xp_words.specs.Entries.{demand_at, fixed}
 use Rattle.xp_words.specs.KindWords.{kind_fields}
 use Rattle.xp_words.specs.Machine.{Machine}
 use Rattle.xp_words.specs.Places.{Place, Cell, sizes_of}
 use Rattle.xp_board.specs.declared.step.Act.{Act}
-use Rattle.xp_board.specs.declared.step.Act.TheVariants.{Load, Cas, Store, Add, Max}
+use Rattle.xp_board.specs.declared.step.Act.TheVariants.{Cas, Store}
 use Rattle.xp_board.specs.declared.holdings.Lock.{Lock}
 use Rattle.xp_board.specs.declared.holdings.Seen.{Seen}
 use Rattle.xp_board.specs.declared.holdings.Work.{Work}

@@ -1,5 +1,5 @@
 -- Loads of the own page-table walk, and the cache of translations.
-use Rattle.std.specs.Prelude.{◌≡◌, ℕ, ◌+◌, ◌*◌, ◌-◌, ◌^◌, ◌<◌, ◌==◌, ◌&&◌, not, nat_lt, nat_le, if◌then◌else◌, Bool, true, false, List, [], ◌∷◌, take, Option, Some, None, IsTrue}
+use Rattle.std.specs.Prelude.{◌≡◌, ℕ, ◌+◌, ◌*◌, ◌-◌, ◌^◌, ◌==◌, ◌&&◌, not, nat_lt, nat_le, if◌then◌else◌, Bool, true, false, List, [], ◌∷◌, take, Option, Some, None, IsTrue}
 use Rattle.xp_words.specs.Entries.{is_bit, frame_of}
 use Rattle.xp_words.specs.Machine.{Machine}
 use Rattle.xp_words.specs.Places.{Place, Vcpu, Cell}
@@ -9,7 +9,6 @@ use Rattle.xp_board.specs.declared.step.Item.{Item}
 use Rattle.xp_board.specs.declared.step.Mark.{Mark}
 use Rattle.xp_board.specs.declared.step.Mark.TheVariants as marks
 use Rattle.xp_board.specs.declared.holdings.Reached.{Reached}
-use Rattle.xp_board.specs.declared.holdings.Touching.{Touching}
 use Rattle.xp_board.specs.declared.holdings.Walk.{Walk}
 use Rattle.xp_board.specs.declared.holdings.Holdings.{Holdings}
 
@@ -39,9 +38,13 @@ abbrev pub StartsWalk : Option Mark → Type 0
 StartsWalk (Some (marks.Walk write)) = Unit {0}
 StartsWalk _ = ⊥
 
+abbrev pub GoesOn : Option Mark → Type 0
+GoesOn (Some (marks.Walk write)) = ⊥
+GoesOn _ = Unit {0}
+
 abbrev pub LegalFill : ℕ → Holdings → Place → Act → Option Mark → Type 0
 LegalFill s h (Vcpu v k) Load mark = MayStartWalk s v k h × StartsWalk mark
-LegalFill s h (Cell f i) Load mark = (walk : Walk) × MayWalkOn f i walk h
+LegalFill s h (Cell f i) Load mark = ((walk : Walk) × MayWalkOn f i walk h) × GoesOn mark
 LegalFill s h _ _ mark = ⊥
 
 -- ---- after

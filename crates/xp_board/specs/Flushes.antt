@@ -1,5 +1,5 @@
 -- Which translations are gone: what a seat has found of each vCPU after it had found a stamp.
-use Rattle.std.specs.Prelude.{◌≡◌, ◌≢◌, ℕ, ◌+◌, ◌<◌, ◌==◌, ◌||◌, ◌⊎◌, not, nat_lt, Bool, List, length, IsTrue}
+use Rattle.std.specs.Prelude.{◌≢◌, ℕ, ◌<◌, ◌==◌, ◌||◌, ◌⊎◌, not, nat_lt, Bool, List, length, IsTrue}
 use Rattle.xp_words.specs.Machine.{Machine}
 use Rattle.xp_words.specs.Places.{Sizes, sizes_of, Vcpu, Priv}
 use Rattle.xp_words.specs.KindWords.{kind_fields}
@@ -10,10 +10,14 @@ use Rattle.xp_board.specs.Steps.{some_since}
 use Rattle.xp_board.specs.Readings.{domain_of, has_ever}
 use Rattle.xp_board.specs.Knowledge.{knows_owner}
 
+-- a run word: stopped, or off
+abbrev pub is_idle : ℕ → Bool
+is_idle w = (w == 1) || (w == 2)
+
 -- from step n on the vCPU was found stopped or off, or flushed later than the stamp
 abbrev pub is_past : Sizes → ℕ → ℕ → ℕ → List Made → Bool
 is_past z n stamp v steps =
-    some_since z n (Vcpu v 6) (λ w. not (w == 0)) steps || some_since z n (Vcpu v 5) (λ w. nat_lt stamp w) steps
+    some_since z n (Vcpu v 6) is_idle steps || some_since z n (Vcpu v 5) (λ w. nat_lt stamp w) steps
 
 -- from step n on the vCPU's domain was found never to have had privilege over the frame's owner
 pub record PassedOver (m : Machine) (n f v : ℕ) (h : Holdings) : Type 0 where
@@ -26,4 +30,4 @@ pub record PassedOver (m : Machine) (n f v : ℕ) (h : Holdings) : Type 0 where
 abbrev pub IsPastFlush : Machine → Holdings → Work → Type 0
 IsPastFlush m h e =
     (v : ℕ) → v < length m.vcpu_domain →
-      IsTrue (is_past (sizes_of m) e.since (kind_fields e.word).number v h.steps) ⊎ PassedOver m e.since e.frame v h
+    IsTrue (is_past (sizes_of m) e.since (kind_fields e.word).number v h.steps) ⊎ PassedOver m e.since e.frame v h

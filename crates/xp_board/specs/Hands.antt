@@ -1,5 +1,5 @@
 -- The parts of a hand, by frame.
-use Rattle.std.specs.Prelude.{◌≡◌, ℕ, ◌+◌, ◌==◌, ◌&&◌, if◌then◌else◌, Bool, true, false, List, [], ◌∷◌, length, Option, Some, None}
+use Rattle.std.specs.Prelude.{◌≡◌, ℕ, ◌+◌, false, List, [], length, Option, Some, None}
 use Rattle.xp_words.specs.declared.kind.PageType.{PageType}
 use Rattle.xp_board.specs.declared.holdings.Holdings.{Holdings}
 use Rattle.xp_board.specs.declared.holdings.Reference.{Reference}
@@ -11,7 +11,7 @@ use Rattle.xp_board.specs.declared.holdings.Claimed.{Claimed}
 use Rattle.xp_board.specs.declared.holdings.OwnerFound.{OwnerFound}
 use Rattle.xp_board.specs.declared.holdings.OwnerFound.TheVariants as owners
 use Rattle.xp_board.specs.declared.holdings.Liveness.TheVariants as lives
-use Rattle.xp_board.specs.Lists.{times_by, first_by, without_by, changed_by, times}
+use Rattle.xp_board.specs.Lists.{times_by, first_by, without_by, changed_by}
 
 -- ---- untyped references
 abbrev pub refs_to : ℕ → List Reference → ℕ

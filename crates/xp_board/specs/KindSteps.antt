@@ -1,19 +1,17 @@
 -- Steps on a frame's kind word.
-use Rattle.std.specs.Prelude.{◌≡◌, ◌≢◌, ℕ, ◌+◌, ◌-◌, ◌^◌, ◌<◌, ◌≤◌, ◌==◌, ◌&&◌, ◌||◌, ◌⊎◌, not, if◌then◌else◌, Bool, true, false, List, [], ◌∷◌, length, Option, Some, None, IsTrue}
+use Rattle.std.specs.Prelude.{◌≡◌, ℕ, ◌+◌, ◌<◌, ◌==◌, ◌&&◌, ◌||◌, ◌⊎◌, not, if◌then◌else◌, Bool, true, false, List, ◌∷◌, length, Option, Some, None, IsTrue}
 use Rattle.xp_words.specs.declared.kind.KindWord.{KindWord}
 use Rattle.xp_words.specs.declared.kind.PageType.{PageType}
 use Rattle.xp_words.specs.declared.kind.PageType.TheVariants as kinds
 use Rattle.xp_words.specs.KindWords.{kind_read, kind_fields}
-use Rattle.xp_words.specs.PageTypes.{type_number, is_none, is_table}
+use Rattle.xp_words.specs.PageTypes.{is_none, is_table}
 use Rattle.xp_words.specs.Machine.{Machine}
-use Rattle.xp_words.specs.Places.{Place, Clock, Kind, Sizes, sizes_of}
+use Rattle.xp_words.specs.Places.{Place, Clock, Kind, sizes_of}
 use Rattle.xp_board.specs.declared.step.Act.{Act}
-use Rattle.xp_board.specs.declared.step.Act.TheVariants.{Load, Cas, Store, Add, Max}
+use Rattle.xp_board.specs.declared.step.Act.TheVariants.{Cas, Store, Add}
 use Rattle.xp_board.specs.declared.holdings.Work.{Work}
 use Rattle.xp_board.specs.declared.holdings.Unsettled.{Unsettled}
-use Rattle.xp_board.specs.declared.holdings.Lock.{Lock}
 use Rattle.xp_board.specs.declared.holdings.Looking.{Looking}
-use Rattle.xp_board.specs.declared.holdings.Reference.{Reference}
 use Rattle.xp_board.specs.declared.holdings.TypedReference.{TypedReference}
 use Rattle.xp_board.specs.declared.holdings.OwnerFound.{OwnerFound}
 use Rattle.xp_board.specs.declared.holdings.OwnerFound.TheVariants as owners
@@ -129,9 +127,9 @@ abbrev pub kind_row : KindWord → KindWord → KindRow
 kind_row k l =
     if k.validated
     then (if l.locked && not k.locked then Locks
-        else if l.pinned && not k.pinned then Pin
-        else if k.pinned && not l.pinned then Unpin
-        else Count)
+    else if l.pinned && not k.pinned then Pin
+    else if k.pinned && not l.pinned then Unpin
+    else Count)
     else if k.partial then (if l.partial then TakeBack else Resume)
     else Begin
 
@@ -179,7 +177,7 @@ pub record MayMakeLive (m : Machine) (f : ℕ) (e : Work) (l : KindWord) (h : Ho
 abbrev pub KeepsMark : Machine → Work → KindWord → Holdings → Type 0
 KeepsMark m e l h =
     ((l.unflushed ≡ (kind_fields e.word).unflushed) × (l.unflushed ≡ true → l.number ≡ (kind_fields e.word).number))
-        ⊎ (((kind_fields e.word).unflushed ≡ true) × (l.unflushed ≡ false) × IsPastFlush m h e)
+    ⊎ (((kind_fields e.word).unflushed ≡ true) × (l.unflushed ≡ false) × IsPastFlush m h e)
 
 -- what is known of the owner by the reference that goes into a `kept` mark
 abbrev pub kept_owner : ℕ → Work → Holdings → OwnerFound
@@ -284,8 +282,8 @@ abbrev pub resumed : ℕ → KindWord → ℕ → Holdings → Holdings
 resumed f k new h =
     record h {
       typed = if k.kept
-        then (record { frame = f; kind = Some k.kind; owner = ref_owner f h; live = lives.Since (length h.steps) } ∷ h.typed)
-        else h.typed;
+          then (record { frame = f; kind = Some k.kind; owner = ref_owner f h; live = lives.Since (length h.steps) } ∷ h.typed)
+          else h.typed;
       works = new_work f new k.progress (unsettled_from k.progress h) h ∷ h.works;
     }
 
@@ -317,7 +315,7 @@ abbrev pub after_kind_cas : ℕ → ℕ → ℕ → ℕ → Holdings → Holding
 after_kind_cas f expected new w h =
     if w == expected
     then after_kind_row (kind_row (kind_fields expected) (kind_fields new)) f (kind_fields expected) (kind_fields new) new
-        (record h { looking = still_looking f new h.looking })
+    (record h { looking = still_looking f new h.looking })
     else record h { looking = still_looking f w h.looking }
 
 -- ---- after a sum

@@ -1,6 +1,6 @@
 -- What a seat knows of a frame by the references in its hand: what it found or made so at or after the step
 -- that brought one of them.
-use Rattle.std.specs.Prelude.{ℕ, ◌==◌, ◌&&◌, ◌||◌, Bool, true, false, List, Option, Some, None}
+use Rattle.std.specs.Prelude.{ℕ, ◌==◌, ◌&&◌, ◌||◌, Bool, false, List, Option, Some, None}
 use Rattle.xp_words.specs.declared.kind.PageType.{PageType}
 use Rattle.xp_words.specs.Places.{Sizes, Refs, Kind}
 use Rattle.xp_board.specs.declared.holdings.Made.{Made}
@@ -8,7 +8,6 @@ use Rattle.xp_board.specs.declared.holdings.OwnerFound.{OwnerFound}
 use Rattle.xp_board.specs.declared.holdings.OwnerFound.TheVariants as owners
 use Rattle.xp_board.specs.declared.holdings.Liveness.{Liveness}
 use Rattle.xp_board.specs.declared.holdings.Liveness.TheVariants as lives
-use Rattle.xp_board.specs.declared.holdings.TypedReference.{TypedReference}
 use Rattle.xp_board.specs.declared.holdings.Holdings.{Holdings}
 use Rattle.xp_board.specs.Lists.{some_of}
 use Rattle.xp_board.specs.Steps.{some_since, last_since}
@@ -23,8 +22,8 @@ tells_owner z steps f o (owners.Since n) = some_since z n (Refs f) (is_owned_by 
 unfoldable pub knows_owner : Sizes → ℕ → ℕ → Holdings → Bool
 knows_owner z f o h =
     some_of (λ e. (e.frame == f) && tells_owner z h.steps f o e.owner) h.refs
-        || (some_of (λ e. (e.frame == f) && tells_owner z h.steps f o e.owner) h.typed
-                || some_of (λ e. (e.frame == f) && tells_owner z h.steps f o e.owner) h.locks)
+    || (some_of (λ e. (e.frame == f) && tells_owner z h.steps f o e.owner) h.typed
+    || some_of (λ e. (e.frame == f) && tells_owner z h.steps f o e.owner) h.locks)
 
 -- ---- that it is live with a type
 abbrev pub is_kind_found : Option PageType → PageType → Bool

@@ -1,5 +1,5 @@
 -- Counts, searches and changes in the lists of a hand, by the number (a frame, a domain) of each element.
-use Rattle.std.specs.Prelude.{ℕ, zero, suc, ◌+◌, ◌==◌, ◌||◌, if◌then◌else◌, Bool, true, false, List, [], ◌∷◌, Option, Some, None}
+use Rattle.std.specs.Prelude.{◌≡◌, ◌⊎◌, ℕ, zero, suc, ◌+◌, ◌==◌, ◌||◌, if◌then◌else◌, Bool, false, List, [], ◌∷◌, Option, Some, None}
 
 -- 1 where the two are equal
 abbrev pub one_at : ℕ → ℕ → ℕ
@@ -39,6 +39,16 @@ first_of test (x ∷ xs) = if test x then Some x else first_of test xs
 unfoldable pub kept_of : {A : Type 0} → (A → Bool) → List A → List A
 kept_of test [] = []
 kept_of test (x ∷ xs) = if test x then (x ∷ kept_of test xs) else kept_of test xs
+
+-- P holds of each element
+unfoldable pub EachOf : {A : Type 0} → (A → Type 0) → List A → Type 0
+EachOf P [] = Unit {0}
+EachOf P (x ∷ xs) = P x × EachOf P xs
+
+-- x is an element
+unfoldable pub Member : {A : Type 0} → A → List A → Type 0
+Member x [] = ⊥
+Member x (y ∷ ys) = (y ≡ x) ⊎ Member x ys
 
 -- the list with n more of that number
 unfoldable pub with_more : ℕ → ℕ → List ℕ → List ℕ

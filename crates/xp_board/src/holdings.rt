@@ -1,10 +1,9 @@
 //! What a seat holds, as contracts see it. No value of these types is made: only the cache is kept by the
 //! running program. Lists have the newest first. A number of steps says when: it is how many steps the seat
 //! had made by then.
+use crate::step::{Item, Step};
 use std::collections::LinkedList;
 use xp_words::PageType;
-
-use crate::step::{Item, Step};
 
 /// A step with the word that it found.
 pub struct Made {

@@ -2,10 +2,17 @@
 #![tactic(auto)]
 
 mod holdings;
+mod port;
+mod sanity;
 mod step;
 
 pub use holdings::{
-    Claimed, Ending, Holdings, Liveness, Lock, Looking, Made, OwnerFound, Reached, Reference, Seen, Touching, TypedReference, Unsettled,
-    Walk, Work,
+    Claimed, Ending, Holdings, Liveness, Lock, Looking, Made, OwnerFound, Reached, Reference, Seen,
+    Touching, TypedReference, Unsettled, Walk, Work,
+};
+pub use port::Port;
+pub use sanity::{
+    a_load_leaves_the_word, a_look_is_legal, empty_hands_are_well_formed,
+    what_is_lowered_is_in_hand,
 };
 pub use step::{Act, Item, Mark, Step, StepKind};

@@ -1,0 +1,90 @@
+-- A port as contracts see it: whose it is, what its seat holds, and the whole state where its board tells it.
+use Rattle.std.specs.Prelude.{◌≡◌, ℕ, ◌==◌, ◌<◌, ◌&&◌, ◌⊎◌, not, Bool, true, false, List, [], ◌∷◌, slice_set, Option, Some, None}
+use Rattle.atomic_table.specs.Seated.{TableId}
+use Rattle.xp_words.specs.Machine.{Machine}
+use Rattle.xp_words.specs.Places.{sizes_of, Place, memory}
+use Rattle.xp_board.specs.declared.step.Step.{Step}
+use Rattle.xp_board.specs.declared.step.Item.{Item}
+use Rattle.xp_board.specs.declared.holdings.Made.{Made}
+use Rattle.xp_board.specs.declared.holdings.Holdings.{Holdings}
+use Rattle.xp_board.specs.Acts.{left_by}
+use Rattle.xp_board.specs.Lists.{first_of}
+use Rattle.xp_board.specs.Legal.{LegalNow}
+use Rattle.xp_board.specs.After.{after}
+use Rattle.xp_board.specs.Sound.{Sound}
+use Rattle.xp_board.specs.Runs.{place_of}
+
+-- which port it is: of which machine, vCPU and table, and the name of the borrow that it holds
+pub record Post : Type 0 where
+  pub machine : Machine
+  pub seat : ℕ
+  pub lender : ℕ
+  pub table : TableId
+
+-- all steps, the newest first, the words and the hands of all seats
+pub record Story : Type 0 where
+  pub log : List (ℕ × Step)
+  pub words : List ℕ
+  pub seats : List Holdings
+
+pub record PortValue : Type 0 where
+  pub post : Post
+  pub holdings : Holdings
+  pub told : Option Story
+
+-- what a board tells after a step, after which the seat holds h
+abbrev pub tells : ℕ → Step → ℕ → Holdings → Option Story → Option Story
+tells s x found h None = None
+tells s x found h (Some story) =
+    Some (record {
+      log = (s, x) ∷ story.log;
+      words = slice_set story.words x.place (left_by x.act found);
+      seats = slice_set story.seats s h;
+    })
+
+-- a port after a step that found this word
+abbrev pub stepped : PortValue → Step → ℕ → PortValue
+stepped v x found =
+    let h = after v.post.machine v.post.seat v.holdings x found in
+    record { post = v.post; holdings = h; told = tells v.post.seat x found h v.told }
+
+-- the word found is that which the board told
+abbrev pub IsTold : Machine → Option Story → Place → ℕ → Type 0
+IsTold n None p found = Unit {0}
+IsTold n (Some story) p found = memory (sizes_of n) story.words p ≡ found
+
+-- There is a sound state in which this seat has these holdings, and the word at that place is the one found.
+-- This is all that a seat learns of the other seats.
+pub record Finds (n : Machine) (s : ℕ) (h : Holdings) (p : Place) (found : ℕ) : Type 0 where
+  pub words : Place → ℕ
+  pub seats : ℕ → Holdings
+  pub real : s < (sizes_of n).vcpus
+  pub sound : Sound n words seats
+  pub mine : seats s ≡ h
+  pub word : words p ≡ found
+
+-- the newest cached translation of the page
+abbrev pub is_item : Bool → ℕ → Item → Bool
+is_item true page x = x.user && (x.page == page)
+is_item false page x = not x.user && (x.page == page)
+
+abbrev pub cached_item : Bool → ℕ → List Item → Option Item
+cached_item user page xs = first_of (is_item user page) xs
+
+-- from v the port may come to w by legal steps, the newest first
+abbrev pub Went : PortValue → List Made → PortValue → Type 0
+Went v [] w = w ≡ v
+Went v (x ∷ xs) w =
+    (u : PortValue) × Went v xs u × LegalNow u.post.machine u.post.seat u.holdings x.step × (w ≡ stepped u x.step x.found)
+
+-- the port came from v to w by legal steps
+unfoldable pub Goes : PortValue → PortValue → Type 0
+Goes v w = (made : List Made) × Went v made w
+
+abbrev pub Had : Machine → Place → ℕ → List Made → Type 0
+Had n p word [] = ⊥
+Had n p word (x ∷ xs) = ((place_of n x.step ≡ p) × (x.found ≡ word)) ⊎ Had n p word xs
+
+-- the port came from v to w by legal steps, one of which found this word at that place
+unfoldable pub Saw : PortValue → PortValue → Place → ℕ → Type 0
+Saw v w p word = (made : List Made) × Went v made w × Had v.post.machine p word made

@@ -1,0 +1,35 @@
+ghost use Rattle.std.specs.Prelude.{◌≡◌, ◌<◌, length};
+
+use crate::step::{Item, Step};
+use xp_words::Layout;
+
+/// One vCPU's access to the board. Each step is one event of the machine.
+pub trait Port {
+    ghost use Rattle.xp_words.specs.Places.{place_at, sizes_of};
+    ghost use Rattle.xp_board.specs.Legal.{LegalNow};
+    ghost use Rattle.xp_board.specs.Told.{PortValue, stepped, IsTold, Finds, Goes, Saw, cached_item};
+
+    /// The port as contracts see it.
+    ghost value: { Self → PortValue };
+
+    fn layout(&self) -> &Layout
+        ensures { result.now ≡ (value self.now).post.machine };
+
+    /// The number of the vCPU.
+    fn seat(&self) -> u32
+        ensures seat { result ≡ (value self.now).post.seat }
+        ensures real { result < length (value self.now).post.machine.vcpu_domain };
+
+    /// The newest cached translation of a page, which is bits 12 to 47 of the address.
+    fn cached(&self, user: bool, page: u64) -> Option<Item>
+        ensures { result ≡ cached_item user page (value self.now).holdings.cache };
+
+    /// Makes one step, and answers the word that it found.
+    fn step(&mut self, step: Step) -> u64
+        requires { LegalNow (value self.old).post.machine (value self.old).post.seat (value self.old).holdings step }
+        ensures value { value self.new ≡ stepped (value self.old) step result }
+        ensures goes { Goes (value self.old) (value self.new) }
+        ensures saw { Saw (value self.old) (value self.new) (place_at (sizes_of (value self.old).post.machine) step.place) result }
+        ensures found { Finds (value self.old).post.machine (value self.old).post.seat (value self.old).holdings (place_at (sizes_of (value self.old).post.machine) step.place) result }
+        ensures told { IsTold (value self.old).post.machine (value self.old).told (place_at (sizes_of (value self.old).post.machine) step.place) result };
+}
