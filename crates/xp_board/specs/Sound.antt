@@ -1,5 +1,5 @@
 -- The machine between any two steps of any vCPUs: what every legal step keeps.
-use Rattle.std.specs.Prelude.{◌≡◌, ◌≢◌, ℕ, ◌+◌, ◌/◌, ◌%◌, ◌^◌, ◌<◌, ◌≤◌, ◌==◌, ◌||◌, ◌⊎◌, not, Bool, true, false, List, [], length, replicate, slice_index_or, Some, None, IsTrue}
+use Rattle.std.specs.Prelude.{◌≡◌, ◌≢◌, ℕ, ◌+◌, ◌/◌, ◌%◌, ◌^◌, ◌<◌, ◌≤◌, ◌==◌, ◌||◌, ◌⊎◌, not, Bool, true, false, List, [], length, slice_index_or, Some, None, IsTrue}
 use Rattle.xp_words.specs.declared.kind.KindWord.{KindWord}
 use Rattle.xp_words.specs.KindWords.{kind_fields}
 use Rattle.xp_words.specs.RefWords.{bit}
@@ -143,6 +143,7 @@ pub record SoundState (n : Machine) (words : List ℕ) (seats : List Holdings) :
   pub all_seats : length seats ≡ (sizes_of n).vcpus
   pub sound : Sound n (memory (sizes_of n) words) (seat_of seats)
 
--- with empty hands and caches, and no step made
-abbrev pub SoundWords : Machine → List ℕ → Type 0
-SoundWords n words = SoundState n words (replicate (sizes_of n).vcpus empty)
+-- words that are sound with empty hands and caches, and no step made
+pub record SoundWords (n : Machine) (words : List ℕ) : Type 0 where
+  pub all_words : length words ≡ size (sizes_of n)
+  pub sound : Sound n (memory (sizes_of n) words) (λ s. empty)

@@ -2,6 +2,7 @@
 -- legal on sound words, and so their parts fit one another.
 use Rattle.std.specs.Prelude.{◌≡◌, ◌≢◌, ℕ, ◌+◌, ◌-◌, ◌<◌, ◌≤◌, ◌==◌, true, false, List, [], ◌∷◌, length, Option, Some, None, IsTrue}
 use Rattle.xp_words.specs.PageTypes.{is_table}
+use Rattle.xp_words.specs.Entries.{is_bit}
 use Rattle.xp_words.specs.KindWords.{kind_fields}
 use Rattle.xp_words.specs.Machine.{Machine}
 use Rattle.xp_words.specs.Places.{Sizes, sizes_of, Vcpu, Kind, Cell, place_at, is_place}
@@ -12,8 +13,10 @@ use Rattle.xp_board.specs.declared.holdings.Work.{Work}
 use Rattle.xp_board.specs.declared.holdings.Lock.{Lock}
 use Rattle.xp_board.specs.declared.holdings.Looking.{Looking}
 use Rattle.xp_board.specs.declared.holdings.Reached.{Reached}
+use Rattle.xp_board.specs.declared.holdings.Touching.{Touching}
 use Rattle.xp_board.specs.declared.holdings.Walk.{Walk}
 use Rattle.xp_board.specs.declared.holdings.Holdings.{Holdings}
+use Rattle.xp_board.specs.FillSteps.{is_walked}
 use Rattle.xp_board.specs.Lists.{times, EachOf}
 use Rattle.xp_board.specs.Steps.{last_since, some_before}
 use Rattle.xp_board.specs.Readings.{is_partial, domain_of}
@@ -63,11 +66,24 @@ abbrev pub IsDescent : ℕ → List Reached → Type 0
 IsDescent level [] = level ≡ 5
 IsDescent level (x ∷ xs) = (x.level ≡ level) × IsDescent (level + 1) xs
 
+-- the entry whose bits the walk has still to set: a present one of the table reached last
+pub record IsTouchFormed (walk : Walk) (x : Reached) (t : Touching) : Type 0 where
+  pub frame : t.frame ≡ x.table
+  pub walked : IsTrue (is_walked x.level t.index)
+  pub present : IsTrue (is_bit 0 t.word)
+  pub writable : walk.writable ≡ true → IsTrue (is_bit 1 t.word)
+
+abbrev pub TouchesIn : Walk → List Reached → Option Touching → Type 0
+TouchesIn walk (x ∷ xs) (Some t) = IsTouchFormed walk x t
+TouchesIn walk _ None = Unit {0}
+TouchesIn walk [] (Some t) = ⊥
+
 pub record IsWalkFormed (walk : Walk) : Type 0 where
   pub level : ℕ
   pub low : 1 ≤ level
   pub high : level ≤ 4
   pub descent : IsDescent level walk.reached
+  pub touching : TouchesIn walk walk.reached walk.touching
 
 pub record IsCacheFormed (u : Holdings) : Type 0 where
   pub few : length u.cache ≤ 64
