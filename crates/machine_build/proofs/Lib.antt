@@ -1,2 +1,4 @@
+pub mod MapLaws
+pub mod RefLaws
 pub mod Steps
 pub mod Whole

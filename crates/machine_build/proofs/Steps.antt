@@ -1,11 +1,11 @@
-use Rattle.std.proofs.Common.{◌≡◌, ◌≢◌, ℕ, zero, suc, ◌+◌, ◌*◌, ◌-◌, ◌^◌, ◌%◌, ◌<◌, ◌≤◌, ◌==◌, ◌&&◌, nat_lt, nat_le, cond, Bool, true, false, List, [], ◌∷◌, length, get_or, IsTrue, refl, sym, ◌∙◌, ap, arith, rules, if◌then◌else◌, ◌⊎◌, inl, inr, Option, Some, None, find, slice_index, map, reverse, take, ◌++◌, lit<, add-one, pow-suc}
+use Rattle.std.proofs.Common.{◌≡◌, ◌≢◌, ℕ, zero, suc, ◌+◌, ◌*◌, ◌-◌, ◌^◌, ◌%◌, ◌<◌, ◌≤◌, ◌==◌, ◌&&◌, nat_lt, cond, Bool, true, false, List, [], ◌∷◌, length, get_or, IsTrue, refl, sym, ◌∙◌, ap, arith, if◌then◌else◌, inl, inr, Option, Some, None, find, slice_index, map, reverse, take, ◌++◌, lit<, add-one, pow-suc}
 use Rattle.std.proofs.lemmas.Nat.{one_shl}
 use Rattle.std.proofs.Math.Nat.{pow-le-pow_right}
 use Rattle.std.proofs.lemmas.List.{map-append, reverse-append, take_more}
 use Rattle.std.proofs.Math.ListN.{set, length-set}
 use Rattle.std.proofs.lemmas.Bool.{cases_eq}
 use Rattle.std.proofs.lemmas.Bool.Decides.{nat_tests}
-use Rattle.xp_words.specs.Places.{Sizes, Place, Clock, Pages, Life, Vcpu, Refs, Kind, M2p, Cell, Map, Priv, is_place, number, memory, size, map_words}
+use Rattle.xp_words.specs.Places.{Sizes, Place, Clock, Pages, Vcpu, Refs, M2p, Cell, Map, Priv, is_place, number, memory, size, map_words}
 use Rattle.xp_words.proofs.PlaceLaws.{memory_same, memory_other, number-lt}
 use Rattle.xp_words.specs.RefWords.{ref_write}
 use Rattle.xp_words.specs.declared.refs.RefWord.TheVariants.{Owned}
@@ -27,11 +27,11 @@ put_vcpu z words m v clock l b h (Vcpu u k) =
     let place : IsTrue (is_place z (Vcpu v 5)) = grind (arith, nat_tests) in
     let was = h (Vcpu u k) in
     elim (cases_eq u v) [
-      inl e ↦ elim (cases_eq k 5) [
-          inl f ↦ here z words (Vcpu u k) (Vcpu v 5) clock place l (cc) ∙ grind (arith, nat_tests)
+      | inl e ↦ elim (cases_eq k 5) [
+        | inl f ↦ here z words (Vcpu u k) (Vcpu v 5) clock place l (cc) ∙ grind (arith, nat_tests)
         | inr f ↦ memory_other z words (Vcpu v 5) (Vcpu u k) clock place (λ s. f (cc)) ∙ was ∙ grind (arith, nat_tests)
-        ]
-    | inr e ↦ memory_other z words (Vcpu v 5) (Vcpu u k) clock place (λ s. e (cc)) ∙ was ∙ grind (arith, nat_tests)
+      ]
+      | inr e ↦ memory_other z words (Vcpu v 5) (Vcpu u k) clock place (λ s. e (cc)) ∙ was ∙ grind (arith, nat_tests)
     ]
 put_vcpu z words m v clock l b h p =
     let place : IsTrue (is_place z (Vcpu v 5)) = grind (arith, nat_tests) in memory_other z words (Vcpu v 5) p clock place (λ s. cc) ∙ h p
@@ -79,8 +79,8 @@ put_frame z words m f l b h (M2p g) =
     let place : IsTrue (is_place z (M2p f)) = grind (arith, nat_tests) in
     let was = h (M2p g) in
     elim (cases_eq g f) [
-      inl e ↦ here z words (M2p g) (M2p f) _ place l (cc) ∙ grind (arith, nat_tests)
-    | inr e ↦ memory_other z words (M2p f) (M2p g) _ place (λ s. e (cc)) ∙ was ∙ grind (arith, nat_tests)
+      | inl e ↦ here z words (M2p g) (M2p f) _ place l (cc) ∙ grind (arith, nat_tests)
+      | inr e ↦ memory_other z words (M2p f) (M2p g) _ place (λ s. e (cc)) ∙ was ∙ grind (arith, nat_tests)
     ]
 put_frame z words m f l b h p =
     let place : IsTrue (is_place z (M2p f)) = grind (arith, nat_tests) in memory_other z words (M2p f) p _ place (λ s. cc) ∙ h p
@@ -96,19 +96,19 @@ put_domain z words m t d a b l i ea eb h (Pages e) =
     let was = h (Pages e) in
     memory_other z (set words (number z (Pages d)) a) (Priv d) (Pages e) b second (λ s. cc)
     ∙ elim (cases_eq e d) [
-        inl s ↦ here z words (Pages e) (Pages d) a first l (cc) ∙ grind (arith, nat_tests)
+      | inl s ↦ here z words (Pages e) (Pages d) a first l (cc) ∙ grind (arith, nat_tests)
       | inr s ↦ memory_other z words (Pages d) (Pages e) a first (λ r. s (cc)) ∙ was ∙ grind (arith, nat_tests)
-      ]
+    ]
 put_domain z words m t d a b l i ea eb h (Priv e) =
     let first : IsTrue (is_place z (Pages d)) = grind (arith, nat_tests) in
     let second : IsTrue (is_place z (Priv d)) = grind (arith, nat_tests) in
     let count : length (set words (number z (Pages d)) a) ≡ size z = length-set words (number z (Pages d)) a ∙ l in
     let was = h (Priv e) in
     elim (cases_eq e d) [
-      inl s ↦ here z (set words (number z (Pages d)) a) (Priv e) (Priv d) b second count (cc) ∙ grind (arith, nat_tests)
-    | inr s ↦
-        memory_other z (set words (number z (Pages d)) a) (Priv d) (Priv e) b second (λ r. s (cc))
-        ∙ memory_other z words (Pages d) (Priv e) a first (λ r. cc) ∙ was ∙ grind (arith, nat_tests)
+      | inl s ↦ here z (set words (number z (Pages d)) a) (Priv e) (Priv d) b second count (cc) ∙ grind (arith, nat_tests)
+      | inr s ↦
+          memory_other z (set words (number z (Pages d)) a) (Priv d) (Priv e) b second (λ r. s (cc))
+          ∙ memory_other z words (Pages d) (Priv e) a first (λ r. cc) ∙ was ∙ grind (arith, nat_tests)
     ]
 put_domain z words m t d a b l i ea eb h p =
     let first : IsTrue (is_place z (Pages d)) = grind (arith, nat_tests) in
@@ -151,10 +151,10 @@ put_own z words m o f w l b lo hi ew h (Refs g) =
     let place : IsTrue (is_place z (Refs f)) = grind (arith, nat_tests) in
     let was = h (Refs g) in
     elim (cases_eq g f) [
-      inl e ↦
-        here z words (Refs g) (Refs f) w place l (cc) ∙ ew
-        ∙ (let has : has_frame g (record o { count = f + 1 - o.first }) ≡ true = grind (arith, nat_tests) in rw has refl)
-    | inr e ↦ memory_other z words (Refs f) (Refs g) w place (λ s. e (cc)) ∙ was ∙ same_run _ _ _ _ (m (Refs g)) (sym (only_frame g f o lo hi e)) refl
+      | inl e ↦
+          here z words (Refs g) (Refs f) w place l (cc) ∙ ew
+          ∙ (let has : has_frame g (record o { count = f + 1 - o.first }) ≡ true = grind (arith, nat_tests) in rw has refl)
+      | inr e ↦ memory_other z words (Refs f) (Refs g) w place (λ s. e (cc)) ∙ was ∙ same_run _ _ _ _ (m (Refs g)) (sym (only_frame g f o lo hi e)) refl
     ]
 put_own z words m o f w l b lo hi ew h p =
     let place : IsTrue (is_place z (Refs f)) = grind (arith, nat_tests) in memory_other z words (Refs f) p w place (λ s. cc) ∙ h p
@@ -177,17 +177,17 @@ put_cell z words m c i l b lo hi few h (Cell g j) =
     let place : IsTrue (is_place z (Cell c.frame i)) = grind (arith, nat_tests) in
     let was = h (Cell g j) in
     elim (cases_eq g c.frame) [
-      inl e ↦ elim (cases_eq j i) [
-          inl s ↦
+      | inl e ↦ elim (cases_eq j i) [
+        | inl s ↦
             here z words (Cell g j) (Cell c.frame i) c.value place l (cc)
             ∙ (let has : has_cell g j (record c { count = i + 1 - c.first }) ≡ true = grind (arith, nat_tests) in rw has refl)
         | inr s ↦
             memory_other z words (Cell c.frame i) (Cell g j) c.value place (λ r. s (cc)) ∙ was
             ∙ same_value _ _ _ _ (m (Cell g j)) (sym (only_cell g j i c lo hi (λ r. s))) refl
-        ]
-    | inr e ↦
-        memory_other z words (Cell c.frame i) (Cell g j) c.value place (λ r. e (cc)) ∙ was
-        ∙ same_value _ _ _ _ (m (Cell g j)) (sym (only_cell g j i c lo hi (λ r. absurd (e r)))) refl
+      ]
+      | inr e ↦
+          memory_other z words (Cell c.frame i) (Cell g j) c.value place (λ r. e (cc)) ∙ was
+          ∙ same_value _ _ _ _ (m (Cell g j)) (sym (only_cell g j i c lo hi (λ r. absurd (e r)))) refl
     ]
 put_cell z words m c i l b lo hi few h p =
     let place : IsTrue (is_place z (Cell c.frame i)) = grind (arith, nat_tests) in memory_other z words (Cell c.frame i) p c.value place (λ s. cc) ∙ h p
@@ -308,11 +308,11 @@ put_word z words m k w l b ew h (Map j) =
     let place : IsTrue (is_place z (Map k)) = grind (arith, nat_tests) in
     let was = h (Map j) in
     elim (cases_eq j k) [
-      inl e ↦
-        here z words (Map j) (Map k) w place l (cc) ∙ ew
-        ∙ bits_below-same 64 _ _ (λ i r. same_zero z.frames (memory z words) m (64 * k + i) (h (Refs (64 * k + i))))
-        ∙ (let now : nat_lt j (k + 1) ≡ true = grind (arith, nat_tests) in rw (now, e) refl)
-    | inr e ↦ memory_other z words (Map k) (Map j) w place (λ s. e (cc)) ∙ was ∙ (let same : nat_lt j k ≡ nat_lt j (k + 1) = grind (arith, nat_tests) in rw same refl)
+      | inl e ↦
+          here z words (Map j) (Map k) w place l (cc) ∙ ew
+          ∙ bits_below-same 64 _ _ (λ i r. same_zero z.frames (memory z words) m (64 * k + i) (h (Refs (64 * k + i))))
+          ∙ (let now : nat_lt j (k + 1) ≡ true = grind (arith, nat_tests) in rw (now, e) refl)
+      | inr e ↦ memory_other z words (Map k) (Map j) w place (λ s. e (cc)) ∙ was ∙ (let same : nat_lt j k ≡ nat_lt j (k + 1) = grind (arith, nat_tests) in rw same refl)
     ]
 put_word z words m k w l b ew h p =
     let place : IsTrue (is_place z (Map k)) = grind (arith, nat_tests) in memory_other z words (Map k) p w place (λ s. cc) ∙ h p

@@ -1,18 +1,17 @@
-use Rattle.std.proofs.Common.{◌≡◌, ℕ, ◌+◌, ◌*◌, ◌-◌, ◌^◌, ◌<◌, ◌==◌, ◌&&◌, nat_lt, Bool, true, false, List, length, get_or, All, find, reverse, is_none, IsTrue, inl, inr, refl, sym, ◌∙◌, ap, arith, if◌then◌else◌, Option, Some, None}
+use Rattle.std.proofs.Common.{◌≡◌, ℕ, ◌+◌, ◌*◌, ◌==◌, ◌&&◌, nat_lt, Bool, true, List, length, get_or, All, find, reverse, is_none, IsTrue, inl, inr, refl, ◌∙◌, ap, arith, Option, Some, None}
 use Rattle.std.proofs.Math.ListN.{set}
 use Rattle.std.proofs.lemmas.Bool.{cases_lt}
 use Rattle.std.proofs.lemmas.List.Elements.{All-get_or}
 use Rattle.std.proofs.lemmas.List.{get_or_past}
 use Rattle.std.proofs.lemmas.Bool.Decides.{nat_tests}
 use Rattle.xp_words.specs.RefWords.{ref_write}
-use Rattle.xp_words.specs.declared.refs.RefWord.TheVariants.{Free, Owned}
 use Rattle.xp_words.specs.Places.{Sizes, Place, Clock, Pages, Life, Vcpu, Refs, Kind, M2p, Cell, Map, Priv, sizes_of, is_place, number, memory, size, map_words}
 use Rattle.xp_words.proofs.PlaceLaws.{memory_same, memory_other}
 use Rattle.trace_text.specs.declared.trace.Trace.{Trace}
 use Rattle.trace_text.specs.declared.trace.Own.{Own}
 use Rattle.trace_text.specs.declared.trace.CellRun.{CellRun}
 use Rattle.machine_build.specs.Puts.{with_domains, with_vcpus, with_m2p, with_owned, with_cells, with_map, or_word, or_value, is_zero}
-use Rattle.machine_build.specs.Opening.{has_frame, has_cell, refs_in, value_in, bits_below, is_free, opening_at}
+use Rattle.machine_build.specs.Opening.{has_frame, has_cell, refs_in, value_in, opening_at}
 use Rattle.machine_build.proofs.Steps.{bits_below-same}
 
 -- the clock, and 0 elsewhere
@@ -23,8 +22,8 @@ clock_alone clock p = 0
 zero_at : (words : List ℕ) (n : ℕ) → All (λ w. w ≡ 0) words → get_or words n 0 ≡ 0
 zero_at words n h =
     elim (cases_lt n (length words)) [
-      inl k ↦ All-get_or (λ (w : ℕ). w ≡ 0) words n 0 k h
-    | inr k ↦ get_or_past words n 0 k
+      | inl k ↦ All-get_or (λ (w : ℕ). w ≡ 0) words n 0 k h
+      | inr k ↦ get_or_past words n 0 k
     ]
 
 zero_memory : (z : Sizes) (words : List ℕ) (p : Place) → All (λ w. w ≡ 0) words → memory z words p ≡ 0
@@ -62,7 +61,6 @@ module _ (t : Trace) (a b c d e f g : Place → ℕ)
     (he : (p : Place) → e p ≡ with_owned t.owned d p)
     (hf : (p : Place) → f p ≡ with_cells (reverse t.cells) e p)
     (hg : (p : Place) → g p ≡ with_map (map_words (sizes_of t.layout)) t.layout.frames f p) where
-
   pub all_words : (p : Place) → IsTrue (is_place (sizes_of t.layout) p) → g p ≡ opening_at t p
   unfolding is_place opening_at clock_alone with_domains with_vcpus with_m2p with_owned with_cells with_map
   all_words Clock k = hg Clock ∙ hf Clock ∙ he Clock ∙ hd Clock ∙ hc Clock ∙ hb Clock ∙ ha Clock
@@ -76,9 +74,9 @@ module _ (t : Trace) (a b c d e f g : Place → ℕ)
   all_words (Map i) k =
       hg (Map i) ∙ rw k refl
       ∙ bits_below-same 64 _ _
-        (λ j r.
-        let n = 64 * i + j in
-        let zero : d (Refs n) ≡ 0 = hd (Refs n) ∙ hc (Refs n) ∙ hb (Refs n) ∙ ha (Refs n) in
-        let word : f (Refs n) ≡ or_word (find (has_frame n) t.owned) 0 = hf (Refs n) ∙ he (Refs n) ∙ ap (or_word (find (has_frame n) t.owned)) zero in
-        free_bits t.layout.frames f (λ q. find (has_frame q) t.owned) n word)
+      (λ j r.
+      let n = 64 * i + j in
+      let zero : d (Refs n) ≡ 0 = hd (Refs n) ∙ hc (Refs n) ∙ hb (Refs n) ∙ ha (Refs n) in
+      let word : f (Refs n) ≡ or_word (find (has_frame n) t.owned) 0 = hf (Refs n) ∙ he (Refs n) ∙ ap (or_word (find (has_frame n) t.owned)) zero in
+      free_bits t.layout.frames f (λ q. find (has_frame q) t.owned) n word)
   all_words (Priv i) k = hg (Priv i) ∙ hf (Priv i) ∙ he (Priv i) ∙ hd (Priv i) ∙ hc (Priv i) ∙ hb (Priv i) ∙ rw k refl

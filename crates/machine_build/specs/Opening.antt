@@ -1,6 +1,7 @@
 -- The words with which a machine opens, by name.
 use Rattle.std.specs.Prelude.{◌≡◌, ℕ, zero, suc, ◌+◌, ◌-◌, ◌*◌, ◌^◌, ◌==◌, ◌&&◌, nat_le, nat_lt, if◌then◌else◌, Bool, List, length, reverse, find, slice_index, is_none, IsTrue, true, Option, Some, None}
 use Rattle.xp_words.specs.RefWords.{ref_write}
+use Rattle.xp_words.specs.declared.refs.RefWord.{RefWord}
 use Rattle.xp_words.specs.declared.refs.RefWord.TheVariants.{Free, Owned}
 use Rattle.xp_words.specs.Places.{Place, Clock, Pages, Life, Vcpu, Refs, Kind, M2p, Cell, Map, Priv, sizes_of, size, is_place, memory}
 use Rattle.trace_text.specs.declared.trace.Own.{Own}
@@ -16,10 +17,13 @@ has_frame f o = nat_le o.first f && nat_lt f (o.first + o.count)
 abbrev pub has_cell : ℕ → ℕ → CellRun → Bool
 has_cell f i c = (c.frame == f) && (nat_le c.first i && nat_lt i (c.first + c.count))
 
--- the reference word of a frame of that run: its domain's, allocated, with one reference; free where there is no run
+-- how a frame of that run is referenced: its domain's, allocated, with one reference; free where there is no run
+abbrev pub reference_in : Option Own → RefWord
+reference_in None = Free 0
+reference_in (Some o) = Owned o.domain true 1
+
 abbrev pub refs_in : Option Own → ℕ
-refs_in None = ref_write (Free 0)
-refs_in (Some o) = ref_write (Owned o.domain true 1)
+refs_in x = ref_write (reference_in x)
 
 -- what a cell of that run holds; 0 where there is no run
 abbrev pub value_in : Option CellRun → ℕ

@@ -6,6 +6,7 @@ ghost use Rattle.xp_words.specs.Places.{sizes_of, size};
 ghost use Rattle.trace_text.specs.WellFormed.{IsWellFormed};
 ghost use Rattle.machine_build.specs.Opening.{IsOpening};
 
+pub mod laws;
 mod map;
 mod rows;
 mod runs;

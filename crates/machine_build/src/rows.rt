@@ -1,5 +1,6 @@
 //! What each domain, each vCPU and each frame opens with.
 #![tactic(auto, using(crate::proofs::Steps::inside))]
+
 ghost use Rattle.std.specs.Prelude.{◌≡◌, ◌≤◌, ◌<◌, ◌^◌, ℕ, length};
 ghost use Rattle.xp_words.specs.Places.{Place, sizes_of, size, memory};
 ghost use Rattle.trace_text.specs.Counted.{pages_of};
@@ -18,7 +19,14 @@ fn pages_of_domain(owned: &[Own], domain: u16) -> u64
     requires { pages_of domain owned.now ≤ 65536 }
     ensures { result ≡ pages_of domain owned.now }
 {
-    owned.iter().map(|own| if own.domain == domain { u64::from(own.count) } else { 0 }).sum()
+    owned
+        .iter()
+        .map(|own| if own.domain == domain {
+            u64::from(own.count)
+        } else {
+            0
+        })
+        .sum()
 }
 
 pub fn put_domains(trace: &Trace, words: &mut [u64])
@@ -28,9 +36,10 @@ pub fn put_domains(trace: &Trace, words: &mut [u64])
 {
     let layout = &trace.layout;
     let masks = layout.privilege.as_slice();
+    let owned = trace.owned.as_slice();
     for domain in 0..layout.domains() as u16 {
         let mask = u64::from(masks[domain as usize]);
-        words[layout.pages_place(domain) as usize] = pages_of_domain(trace.owned.as_slice(), domain);
+        words[layout.pages_place(domain) as usize] = pages_of_domain(owned, domain);
         words[layout.priv_place(domain) as usize] = mask + (mask << 16);
     }
 }

@@ -1,5 +1,6 @@
 //! The frames that domains own and the cells that hold something.
 #![tactic(auto, using(crate::proofs::Steps::inside))]
+
 ghost use Rattle.std.specs.Prelude.{◌≡◌, ◌≤◌, ◌<◌, ◌+◌, ◌∷◌, [], ℕ, List, length, reverse, All};
 ghost use Rattle.xp_words.specs.Places.{Place, sizes_of, size, memory};
 ghost use Rattle.xp_words.specs.Machine.{IsMachine};
@@ -16,7 +17,12 @@ fn put_own(layout: &Layout, own: Own, words: &mut [u64])
     requires count { length words.old ≡ size (sizes_of layout.now) }
     ensures { (p : Place) → memory (sizes_of layout.now) words.new p ≡ with_owned (own ∷ []) (memory (sizes_of layout.now) words.old) p }
 {
-    let word = RefWord::Owned { owner: own.domain, allocated: true, count: 1 }.write();
+    let word = RefWord::Owned {
+        owner: own.domain,
+        allocated: true,
+        count: 1,
+    }
+    .write();
     for frame in own.first..own.first + own.count {
         words[layout.refs_place(frame) as usize] = word;
     }

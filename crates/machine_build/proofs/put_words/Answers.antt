@@ -1,7 +1,6 @@
-use Rattle.std.proofs.Common.{◌≡◌, ◌<◌, ◌∙◌, length, reverse, ap, arith}
+use Rattle.std.proofs.Common.{ℕ, ◌<◌, arith}
 use Rattle.std.proofs.Math.ListN.{length-set}
-use Rattle.xp_words.specs.Places.{Place, sizes_of, size, memory, number, Clock}
-use Rattle.machine_build.specs.Puts.{with_owned, with_cells}
+use Rattle.xp_words.specs.Places.{sizes_of, size, number}
 use Rattle.machine_build.proofs.Steps.{clock-inside}
 use Rattle.machine_build.proofs.Whole.{only_clock, all_words}
 use Rattle.machine_build.proofs.put_words.Goals as goal
@@ -14,9 +13,9 @@ pub returns : goal.returns
 unfolding number
 returns c =
     record {
-      count = omega (arith, length-set c.args.words.now 0 c.args.trace.now.clock);
+      count = omega (arith, length-set {A = ℕ});
       places = all_words c.args.trace.now _ _ _ _ _ _ _ (only_clock _ _ _ c.requires.count c.requires.zero) c.put_domains.ensures c.put_vcpus.ensures c.put_m2p.ensures
-        (rw c.as_slice.ensures at c.put_owned.ensures)
-        (rw c.as_slice-2.ensures at c.put_cells.ensures)
-        c.put_map.ensures;
+          (rw c.as_slice.ensures at c.put_owned.ensures)
+          (rw c.as_slice-2.ensures at c.put_cells.ensures)
+          c.put_map.ensures;
     }

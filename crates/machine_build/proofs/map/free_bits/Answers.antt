@@ -15,6 +15,6 @@ overflow_add-bits c = Fits-bits 64 tt (bit_fits c.loop-bit.bit _ _ c.loop-bit-te
 pub loop-bit-preserved : goal.loop-bit-preserved
 loop-bit-preserved c =
     elim c.if-is_free.branch [
-      then-is_free w ↦ w.bits-is ∙ bit_set c.loop-bit.bit _ _ c.loop-bit-test.true c.loop-bit.invariant (sym c.is_free.ensures ∙ w.if-is_free.true)
-    | else-is_free w ↦ w.bits-is ∙ bit_clear c.loop-bit.bit _ _ c.loop-bit.invariant (sym c.is_free.ensures ∙ w.if-is_free.false)
+      | then-is_free w ↦ w.bits-is ∙ bit_set c.loop-bit.bit _ _ c.loop-bit-test.true c.loop-bit.invariant (sym c.is_free.ensures ∙ w.if-is_free.true)
+      | else-is_free w ↦ w.bits-is ∙ bit_clear c.loop-bit.bit _ _ c.loop-bit.invariant (sym c.is_free.ensures ∙ w.if-is_free.false)
     ]

@@ -1,4 +1,4 @@
-use Rattle.std.proofs.Common.{◌≡◌, ◌+◌, ◌*◌, ◌%◌, ◌^◌, ◌<◌, arith, length, slice_index, get_or, ap, ◌∙◌}
+use Rattle.std.proofs.Common.{◌≡◌, ◌+◌, ◌*◌, ◌%◌, ◌^◌, ◌<◌, arith, length, slice_index, ap, ◌∙◌}
 use Rattle.std.proofs.Math.ListN.{length-set}
 use Rattle.xp_words.specs.Places.{sizes_of, size}
 use Rattle.trace_text.specs.Counted.{pages_of}
@@ -18,6 +18,6 @@ loop-domain-preserved c =
     let mask : c.from-mask.result ≡ slice_index c.args.trace.now.layout.privilege c.loop-domain.domain = grind arith in
     let fits : c.from-mask.result < 2 ^ 16 = let t = c.type_inv.masks c.loop-domain.domain in grind arith in
     let halves : c.from-mask.result + c.from-mask.result * 65536 % 18446744073709551616 ≡ both_halves (slice_index c.args.trace.now.layout.privilege c.loop-domain.domain) = omega arith in
-    let pages : c.pages_of_domain.result ≡ pages_of c.loop-domain.domain c.args.trace.now.owned = c.pages_of_domain.ensures ∙ ap (pages_of c.loop-domain.domain) c.as_slice.ensures in
+    let pages : c.pages_of_domain.result ≡ pages_of c.loop-domain.domain c.args.trace.now.owned = c.pages_of_domain.ensures ∙ ap (pages_of c.loop-domain.domain) c.as_slice-owned.ensures in
     let count : length c.loop-domain.words ≡ size (sizes_of c.args.trace.now.layout) = omega arith in
     λ p. rw (c.pages_place.ensures, c.priv_place.ensures) (put_domain _ _ _ _ _ _ _ count below pages halves c.loop-domain.invariant p)

@@ -1,4 +1,4 @@
-use Rattle.std.proofs.Common.{◌≡◌, ◌<◌, ◌≤◌, ◌∙◌, length, arith}
+use Rattle.std.proofs.Common.{◌≡◌, ◌∙◌, length, arith}
 use Rattle.xp_words.specs.Places.{sizes_of, size}
 use Rattle.machine_build.proofs.Steps.{put_own, no_own, whole_own}
 use Rattle.machine_build.proofs.runs.put_own.Goals as goal

@@ -1,6 +1,5 @@
-use Rattle.std.proofs.Common.{◌≡◌, reverse, map, List}
+use Rattle.std.proofs.Common.{◌≡◌, reverse, map}
 use Rattle.xp_words.specs.Places.{Place, sizes_of, memory}
-use Rattle.trace_text.specs.declared.trace.Own.{Own}
 use Rattle.machine_build.specs.Puts.{with_owned}
 use Rattle.machine_build.proofs.runs.put_owned.Given as goal
 

@@ -1,4 +1,4 @@
-use Rattle.std.proofs.Common.{◌≡◌, ◌<◌, ◌≤◌, ◌∙◌, length, arith}
+use Rattle.std.proofs.Common.{◌≡◌, ◌∙◌, length, arith}
 use Rattle.xp_words.specs.Places.{sizes_of, size}
 use Rattle.machine_build.proofs.Steps.{put_cell, no_run, whole_run}
 use Rattle.machine_build.proofs.runs.put_run.Goals as goal
