@@ -4,3 +4,4 @@ pub mod ListLoop
 pub mod Chunks
 pub mod Separators
 pub mod CallLoop
+pub mod CallTexts

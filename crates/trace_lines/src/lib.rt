@@ -7,9 +7,14 @@ mod form;
 mod line;
 mod numbers;
 mod operation;
+mod put;
 mod words;
 
 pub use fault::{Cause, LineError, LineFault, What};
 pub use form::line_of;
 pub use line::Line;
+pub use put::{
+    put_cell, put_clock, put_domain, put_end, put_frames, put_header, put_limit, put_op, put_own,
+    put_priv, put_turn, put_vcpu,
+};
 pub use words::split_off;
