@@ -5,3 +5,8 @@ pub mod Chunks
 pub mod Separators
 pub mod CallLoop
 pub mod CallTexts
+pub mod Decimals
+pub mod WordsAgain
+pub mod CallsAgain
+pub mod MultiAgain
+pub mod LineAgain

@@ -1,5 +1,5 @@
 -- The text of a line.
-use Rattle.std.specs.Prelude.{ℕ, List, [], ◌∷◌, map, Bool, if◌then◌else◌, codes, decimal}
+use Rattle.std.specs.Prelude.{◌≡◌, ℕ, ◌<◌, ◌^◌, List, [], ◌∷◌, map, length, Bool, if◌then◌else◌, ◌⊎◌, codes, decimal, All}
 use Rattle.std.specs.List.{flat_map, join_by}
 use Rattle.xp_words.specs.declared.ops.Pair.{Pair}
 use Rattle.xp_words.specs.declared.ops.ExtOp.{ExtOp}
@@ -72,3 +72,50 @@ line_words lines.End = codes "end" ∷ []
 -- a line without its line feed, every number in decimal
 unfoldable pub line_text : Line → List ℕ
 line_text l = text_of (line_words l)
+
+-- ---- the lines that their text says: every number is a word of the machine
+
+abbrev pub IsSpellablePair : Pair → Type 0
+IsSpellablePair p = (p.ptr < 2 ^ 64) × (p.val < 2 ^ 64)
+
+abbrev pub IsSpellableExt : ExtOp → Type 0
+IsSpellableExt x = (x.command < 2 ^ 64) × (x.first < 2 ^ 64) × (x.second < 2 ^ 64)
+
+abbrev pub AreWords : List ℕ → Type 0
+AreWords ns = All (λ n. n < 2 ^ 64) ns
+
+abbrev pub IsSpellableCall : Call → Type 0
+IsSpellableCall (calls.Mmu foreign pairs) = (foreign < 2 ^ 64) × All IsSpellablePair pairs
+IsSpellableCall (calls.Ext list) = All IsSpellableExt list
+IsSpellableCall (calls.Va va val flags) = (va < 2 ^ 64) × (val < 2 ^ 64) × (flags < 2 ^ 64)
+IsSpellableCall (calls.VaOther va val flags domain) = (va < 2 ^ 64) × (val < 2 ^ 64) × (flags < 2 ^ 64) × (domain < 2 ^ 64)
+IsSpellableCall (calls.Gdt entries frames) = (entries < 2 ^ 64) × AreWords frames
+IsSpellableCall (calls.Desc address word) = (address < 2 ^ 64) × (word < 2 ^ 64)
+IsSpellableCall (calls.Mem command order items) = (command < 2 ^ 64) × (order < 2 ^ 64) × AreWords items
+
+-- an operation that the version has; a multi has a call
+abbrev pub IsSpellableOp : ℕ → Op → Type 0
+IsSpellableOp version (ops.One call) = IsSpellableCall call
+IsSpellableOp version (ops.Multi list) = (0 < length list) × All IsSpellableCall list
+IsSpellableOp version (ops.Read user va) = va < 2 ^ 64
+IsSpellableOp version (ops.Write user va val) = (va < 2 ^ 64) × (val < 2 ^ 64)
+IsSpellableOp version (ops.TouchLdt page) = page < 2 ^ 64
+IsSpellableOp version (ops.Destroy domain) = domain < 2 ^ 64
+IsSpellableOp version (ops.Grant to over) = (version ≡ 2) × (to < 2 ^ 64) × (over < 2 ^ 64)
+IsSpellableOp version (ops.Revoke to over) = (version ≡ 2) × (to < 2 ^ 64) × (over < 2 ^ 64)
+IsSpellableOp version (ops.Ptwr user va val) = (version ≡ 2) × (va < 2 ^ 64) × (val < 2 ^ 64)
+IsSpellableOp version (ops.Xchg first before after items) = (version ≡ 2) × (first < 2 ^ 64) × (before < 2 ^ 64) × (after < 2 ^ 64) × AreWords items
+
+abbrev pub IsSpellable : ℕ → Line → Type 0
+IsSpellable version (lines.Header own) = (own ≡ 1) ⊎ (own ≡ 2)
+IsSpellable version (lines.Frames count) = count < 2 ^ 64
+IsSpellable version (lines.Limit count) = count < 2 ^ 64
+IsSpellable version (lines.Clock start) = start < 2 ^ 64
+IsSpellable version (lines.Domain limit) = limit < 2 ^ 64
+IsSpellable version (lines.Priv domain over) = (domain < 2 ^ 64) × (over < 2 ^ 64)
+IsSpellable version (lines.Vcpu domain) = domain < 2 ^ 64
+IsSpellable version (lines.Own domain first count) = (domain < 2 ^ 64) × (first < 2 ^ 64) × (count < 2 ^ 64)
+IsSpellable version (lines.Cell frame first count value) = (frame < 2 ^ 64) × (first < 2 ^ 64) × (count < 2 ^ 64) × (value < 2 ^ 64)
+IsSpellable version (lines.Op vcpu op) = (vcpu < 2 ^ 64) × IsSpellableOp version op
+IsSpellable version (lines.Turn vcpu count) = (vcpu < 2 ^ 64) × (count < 2 ^ 64)
+IsSpellable version lines.End = Unit {0}

@@ -1,6 +1,7 @@
 //! The lines of a trace: words, numbers, and the forms that a line of words may have.
 #![tactic(auto)]
 
+mod again;
 mod call;
 mod fault;
 mod form;
@@ -10,6 +11,7 @@ mod operation;
 mod put;
 mod words;
 
+pub use again::is_read_again;
 pub use fault::{Cause, LineError, LineFault, What};
 pub use form::line_of;
 pub use line::Line;
