@@ -1,1 +1,3 @@
 mod Empty
+mod Picture
+mod Rows

@@ -1,5 +1,5 @@
 -- What a seat holds after a step that found this word.
-use Rattle.std.specs.Prelude.{ℕ, ◌+◌, ◌==◌, ◌&&◌, not, if◌then◌else◌, Bool, false, ◌∷◌, Option, Some, None}
+use Rattle.std.specs.Prelude.{ℕ, ◌+◌, ◌==◌, ◌&&◌, not, if◌then◌else◌, Bool, false, List, [], ◌∷◌, Option, Some, None}
 use Rattle.xp_words.specs.Entries.{fixed}
 use Rattle.xp_words.specs.KindWords.{kind_fields}
 use Rattle.xp_words.specs.Machine.{Machine}
@@ -13,10 +13,11 @@ use Rattle.xp_board.specs.declared.holdings.Unsettled.{Unsettled}
 use Rattle.xp_board.specs.declared.holdings.Work.{Work}
 use Rattle.xp_board.specs.declared.holdings.Lock.{Lock}
 use Rattle.xp_board.specs.declared.holdings.Claimed.{Claimed}
+use Rattle.xp_board.specs.declared.holdings.Made.{Made}
 use Rattle.xp_board.specs.declared.holdings.Holdings.{Holdings}
 use Rattle.xp_board.specs.Acts.{left_by}
 use Rattle.xp_board.specs.Lists.{kept_of}
-use Rattle.xp_board.specs.Hands.{changed_work, changed_lock, changed_claim}
+use Rattle.xp_board.specs.Hands.{changed_work, changed_lock, changed_claim, empty}
 use Rattle.xp_board.specs.Marks.{after_mark}
 use Rattle.xp_board.specs.RefSteps.{after_ref}
 use Rattle.xp_board.specs.KindSteps.{after_kind}
@@ -114,3 +115,8 @@ after_move m s h p a kind mark found = learned s p found (left_by a found) (afte
 
 abbrev pub after : Machine → ℕ → Holdings → Step → ℕ → Holdings
 after m s h x found = noted x found (after_move m s h (place_at (sizes_of m) x.place) x.act x.kind x.mark found)
+
+-- the holdings of a seat are a function of its own steps and of the words that they found
+unfoldable pub hands_of : Machine → ℕ → List Made → Holdings
+hands_of m s [] = empty
+hands_of m s (x ∷ xs) = after m s (hands_of m s xs) x.step x.found
