@@ -1,3 +1,5 @@
 mod Empty
+mod EntryPicture
 mod Picture
 mod Rows
+mod WalkPicture
