@@ -1,5 +1,7 @@
+mod ClaimPicture
 mod Empty
 mod EntryPicture
 mod Picture
+mod ReleasePicture
 mod Rows
 mod WalkPicture
