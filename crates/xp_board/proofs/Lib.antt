@@ -1,6 +1,7 @@
 mod ClaimPicture
 mod Empty
 mod EntryPicture
+mod FlushPicture
 mod Picture
 mod ReleasePicture
 mod Rows
