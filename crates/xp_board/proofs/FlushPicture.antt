@@ -1,29 +1,24 @@
 -- A worked picture: a frame changes its type, and the mark goes off once no vCPU can have an old translation.
 -- vCPUs 0 and 1 are of domain 0, which owns the frame; vCPU 2 is of domain 1.
-use Rattle.std.proofs.Common.{◌≡◌, ◌<◌, ◌≤◌, ◌+◌, ◌*◌, ◌^◌, ℕ, Bool, true, false, IsTrue, refl, Option, None, Some, List, [], ◌∷◌, length, arith, inl, inr, zero, suc}
+use Rattle.std.proofs.Common.{◌≡◌, ℕ, refl, Option, None, Some, List, [], ◌∷◌, arith, inl, inr, zero, suc}
 use Rattle.xp_words.specs.Machine.{Machine}
-use Rattle.xp_words.specs.Places.{Priv, Place, Clock, Vcpu, Refs, Kind, Cell, is_place, place_at, number, sizes_of}
-use Rattle.xp_words.specs.RefWords.{ref_read, ref_write}
+use Rattle.xp_words.specs.Places.{Vcpu, Kind, is_place, place_at}
+use Rattle.xp_words.specs.RefWords.{ref_read}
 use Rattle.xp_words.specs.KindWords.{kind_read, kind_fields, has_form}
 use Rattle.xp_words.specs.Entries.{demand_of, demand_at}
-use Rattle.xp_words.specs.declared.kind.PageType.TheVariants as kinds
 use Rattle.xp_board.specs.declared.step.Step.{Step}
 use Rattle.xp_board.specs.declared.step.Act.{Act}
 use Rattle.xp_board.specs.declared.step.Act.TheVariants.{Load, Cas, Store, Max}
 use Rattle.xp_board.specs.declared.step.Mark.{Mark}
-use Rattle.xp_board.specs.declared.step.Mark.TheVariants as marks
 use Rattle.xp_board.specs.declared.step.StepKind.{StepKind}
 use Rattle.xp_board.specs.declared.step.StepKind.TheVariants as steps
 use Rattle.xp_board.specs.declared.holdings.Made.{Made}
 use Rattle.xp_board.specs.declared.holdings.Seen.{Seen}
 use Rattle.xp_board.specs.declared.holdings.Work.{Work}
-use Rattle.xp_board.specs.declared.holdings.Holdings.{Holdings}
-use Rattle.xp_board.specs.declared.holdings.OwnerFound.TheVariants as owners
-use Rattle.xp_board.specs.declared.holdings.Liveness.TheVariants as lives
 use Rattle.xp_board.specs.Acts.{left_by}
 use Rattle.xp_board.specs.Lists.{times_by, first_by, without_by, changed_by, some_of, first_of, kept_of}
 use Rattle.xp_board.specs.Steps.{some_step, last_since}
-use Rattle.xp_board.specs.Hands.{hand, typed_hand, empty}
+use Rattle.xp_board.specs.Hands.{hand, typed_hand}
 use Rattle.xp_board.specs.Readings.{owner_of, ref_count}
 use Rattle.xp_board.specs.Knowledge.{knows_owner, knows_live, knows_partial}
 use Rattle.xp_board.specs.Flushes.{IsPastFlush, PassedOver}
@@ -167,7 +162,7 @@ legal6 =
           });
           running = refl;
           flushed = refl;
-        }
+        },
       );
     }
 

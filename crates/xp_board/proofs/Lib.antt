@@ -2,7 +2,9 @@ mod ClaimPicture
 mod Empty
 mod EntryPicture
 mod FlushPicture
+mod KeptPicture
 mod Picture
+mod ProcessorPicture
 mod ReleasePicture
 mod Rows
 mod WalkPicture

@@ -1,27 +1,26 @@
 -- A worked picture: the first entry of a level 1 table, frame 5, is validated, with a writable frame 9 below
 -- it; then the work is put down with the `kept` mark. Each step is legal, and leaves the hand that it should.
-use Rattle.std.proofs.Common.{◌≡◌, ◌<◌, ◌≤◌, ◌+◌, ◌*◌, ◌^◌, ℕ, Bool, true, false, IsTrue, refl, Option, None, Some, List, [], ◌∷◌, length, arith, inl, inr, zero, suc}
+use Rattle.std.proofs.Common.{◌≡◌, ℕ, refl, Option, None, Some, List, [], ◌∷◌, arith, inl}
 use Rattle.xp_words.specs.Machine.{Machine}
-use Rattle.xp_words.specs.Places.{Place, Clock, Vcpu, Refs, Kind, Cell, is_place, place_at, number, sizes_of}
-use Rattle.xp_words.specs.RefWords.{ref_read, ref_write}
+use Rattle.xp_words.specs.Places.{Refs, Kind, Cell, is_place, place_at}
+use Rattle.xp_words.specs.RefWords.{ref_read}
 use Rattle.xp_words.specs.KindWords.{kind_read, kind_fields, has_form}
 use Rattle.xp_words.specs.Entries.{demand_of, demand_at}
 use Rattle.xp_words.specs.declared.kind.PageType.TheVariants as kinds
 use Rattle.xp_board.specs.declared.step.Step.{Step}
 use Rattle.xp_board.specs.declared.step.Act.{Act}
-use Rattle.xp_board.specs.declared.step.Act.TheVariants.{Load, Cas, Store, Add}
+use Rattle.xp_board.specs.declared.step.Act.TheVariants.{Load, Cas, Store}
 use Rattle.xp_board.specs.declared.step.Mark.{Mark}
 use Rattle.xp_board.specs.declared.step.Mark.TheVariants as marks
 use Rattle.xp_board.specs.declared.step.StepKind.{StepKind}
 use Rattle.xp_board.specs.declared.step.StepKind.TheVariants as steps
 use Rattle.xp_board.specs.declared.holdings.Made.{Made}
-use Rattle.xp_board.specs.declared.holdings.Holdings.{Holdings}
 use Rattle.xp_board.specs.declared.holdings.OwnerFound.TheVariants as owners
 use Rattle.xp_board.specs.declared.holdings.Liveness.TheVariants as lives
 use Rattle.xp_board.specs.Acts.{left_by}
 use Rattle.xp_board.specs.Lists.{times_by, first_by, without_by, changed_by, some_of, first_of, kept_of}
 use Rattle.xp_board.specs.Steps.{some_step, last_since}
-use Rattle.xp_board.specs.Hands.{hand, typed_hand, empty}
+use Rattle.xp_board.specs.Hands.{hand, typed_hand}
 use Rattle.xp_board.specs.Readings.{owner_of, ref_count}
 use Rattle.xp_board.specs.Knowledge.{knows_owner, knows_live, knows_partial}
 use Rattle.xp_board.specs.Settling.{is_settled}
@@ -171,9 +170,9 @@ legal9 =
           seen = refl;
           in_hand = (
             record { in_hand = omega arith; owners = record { table = 0; frame = 0; table_known = refl; frame_known = refl; meet = inl refl } },
-            inl refl
+            inl refl,
           );
-        }
+        },
       );
       running = λ needs. absurd (cc);
       spelling = tt;

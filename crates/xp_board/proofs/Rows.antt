@@ -1,9 +1,9 @@
 -- Steps that are legal as they should be.
-use Rattle.std.proofs.Common.{◌≡◌, ◌<◌, ◌≤◌, ◌+◌, ◌^◌, ℕ, Bool, true, false, IsTrue, refl, None, Some, length, arith, inl, inr}
+use Rattle.std.proofs.Common.{◌≡◌, ◌<◌, ◌≤◌, ◌+◌, ◌^◌, ℕ, Bool, IsTrue, refl, None, Some, length, arith, inl}
 use Rattle.std.proofs.lemmas.Bool.Decides.{nat_tests}
 use Rattle.xp_words.specs.declared.refs.RefWord.TheVariants.{Owned}
 use Rattle.xp_words.specs.Machine.{Machine}
-use Rattle.xp_words.specs.Places.{Refs, M2p, is_place, sizes_of}
+use Rattle.xp_words.specs.Places.{Refs, M2p, is_place}
 use Rattle.xp_words.specs.RefWords.{ref_write, ref_read, IsRef}
 use Rattle.xp_words.proofs.RefLaws.{ref_read-write}
 use Rattle.xp_board.specs.declared.step.Act.TheVariants.{Cas, Store}

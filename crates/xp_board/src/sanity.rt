@@ -30,19 +30,15 @@ pub fn what_is_lowered_is_in_hand()
 
 /// The exchange that counts a reference to an owned frame one up is legal below the limit, with nothing in hand.
 pub fn a_raise_is_legal()
-    ensures {
-        (n : Machine) (s f owner count : ℕ) (allocated : Bool) (h : Holdings) → n.limit < 2 ^ 26 → length n.page_limit ≤ 16 → f < n.frames → h.run ≡ Some 0 →
+    ensures { (n : Machine) (s f owner count : ℕ) (allocated : Bool) (h : Holdings) → n.limit < 2 ^ 26 → length n.page_limit ≤ 16 → f < n.frames → h.run ≡ Some 0 →
         owner < length n.page_limit → 0 < count → count < n.limit →
-        LegalMove n s h (Refs f) (Cas (ref_write (Owned owner allocated count)) (ref_write (Owned owner allocated (count + 1)))) steps.Ref None
-    }
-{
-}
+        LegalMove n s h (Refs f) (Cas (ref_write (Owned owner allocated count)) (ref_write (Owned owner allocated (count + 1)))) steps.Ref None }
+{}
 
 /// A reference in hand is all that a store of a machine-to-physical word needs.
 pub fn a_map_is_legal()
     ensures { (n : Machine) (s f new : ℕ) (h : Holdings) → f < n.frames → h.run ≡ Some 0 → new < 2 ^ 64 → 0 < hand f h → LegalMove n s h (M2p f) (Store new) steps.M2p None }
-{
-}
+{}
 
 /// A seat that has made no step holds nothing, and that is well formed.
 pub fn empty_hands_are_well_formed()
