@@ -7,4 +7,5 @@ mod Picture
 mod ProcessorPicture
 mod ReleasePicture
 mod Rows
+mod SafeItems
 mod WalkPicture
