@@ -32,7 +32,7 @@ pub record Serves (m : Place → ℕ) (d level f : ℕ) : Type 0 where
 not_busy : (k : KindWord) → k.validated ≡ true → 0 < k.number → bit (is_busy k) ≡ 0
 not_busy k v c = let e : (k.number == 0) ≡ false = grind (arith, nat_tests) in rw (v, e)
 
-live_count : (k : KindWord) → k.validated ≡ true → type_count k ≡ k.number
+pub live_count : (k : KindWord) → k.validated ≡ true → type_count k ≡ k.number
 unfolding type_count
 live_count k v = rw v
 
