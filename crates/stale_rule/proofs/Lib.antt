@@ -1,5 +1,6 @@
 pub mod Counted
 pub mod Demands
 pub mod Items
+pub mod Like
 pub mod Paths
 pub mod Tables
