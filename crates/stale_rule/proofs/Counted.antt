@@ -1,5 +1,5 @@
 -- What is counted stands in the sums.
-use Rattle.std.proofs.Common.{◌≡◌, ◌≢◌, ℕ, zero, suc, ◌+◌, ◌<◌, ◌≤◌, ◌==◌, inl, inr, Bool, true, false, List, [], ◌∷◌, refl, sym, ◌∙◌, ap, arith, IsTrue, if◌then◌else◌, Option, Some, None}
+use Rattle.std.proofs.Common.{◌≡◌, ◌≢◌, ℕ, zero, suc, ◌+◌, ◌<◌, ◌≤◌, ◌==◌, inl, inr, true, false, List, [], ◌∷◌, refl, ap, arith, if◌then◌else◌, None}
 use Rattle.std.proofs.lemmas.Bool.Decides.{nat_tests}
 use Rattle.std.proofs.lemmas.Bool.{cases_eq}
 use Rattle.xp_words.specs.declared.entry.Demand.{Demand}
@@ -9,8 +9,8 @@ use Rattle.xp_board.specs.declared.holdings.Holdings.{Holdings}
 use Rattle.xp_board.specs.Lists.{one_at, times_by, first_by}
 use Rattle.xp_board.specs.Sums.{sum_below}
 use Rattle.xp_board.specs.Readings.{is_context}
-use Rattle.xp_board.specs.Hands.{works_on, work_on}
-use Rattle.xp_board.specs.Recorded.{recorded_in, or_else, work_of, held, entry_demand, table_entries, entries, contexts, hands}
+use Rattle.xp_board.specs.Hands.{work_on}
+use Rattle.xp_board.specs.Recorded.{recorded_in, work_of, held, entry_demand, table_entries, entries, contexts, hands}
 
 -- each part is at most the sum
 pub sum_below-part : (n : ℕ) (p : ℕ → ℕ) (j : ℕ) → j < n → p j ≤ sum_below n p
@@ -18,8 +18,8 @@ unfolding sum_below
 sum_below-part zero p j b = absurd (omega arith)
 sum_below-part (suc n) p j b =
     elim (cases_eq j n) [
-      inl at ↦ let e = ap p at in omega arith
-    | inr off ↦ let rest = sum_below-part n p j (let k : j ≢ n = off in omega arith) in omega arith
+      | inl at ↦ let e = ap p at in omega arith
+      | inr off ↦ let rest = sum_below-part n p j (let k : j ≢ n = off in omega arith) in omega arith
     ]
 
 -- a recorded entry is counted
@@ -50,8 +50,8 @@ unfolding times_by first_by
 first_by-none key g [] e = refl
 first_by-none key g (x ∷ xs) e =
     elim (cases_eq (key x) g) [
-      inl at ↦ absurd (let one : one_at g (key x) ≡ 1 = grind (arith, nat_tests) in omega arith)
-    | inr off ↦ let no : (key x == g) ≡ false = grind (arith, nat_tests) in rw no (first_by-none key g xs (omega arith))
+      | inl at ↦ absurd (let one : one_at g (key x) ≡ 1 = grind (arith, nat_tests) in omega arith)
+      | inr off ↦ let no : (key x == g) ≡ false = grind (arith, nat_tests) in rw no (first_by-none key g xs (omega arith))
     ]
 
 recorded_in-none : (xs : List Work) (f : ℕ) → work_on f xs ≡ None → recorded_in xs f ≡ None

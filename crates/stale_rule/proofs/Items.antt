@@ -1,9 +1,8 @@
 -- Where a cached translation leads, and that a sound machine is safe.
-use Rattle.std.proofs.Common.{◌≡◌, ◌≢◌, ℕ, ◌+◌, ◌-◌, ◌<◌, ◌≤◌, ◌==◌, ◌&&◌, ◌||◌, ◌⊎◌, inl, inr, Bool, true, false, not, nat_lt, nat_le, List, refl, sym, ◌∙◌, ap, subst, arith, IsTrue, if◌then◌else◌, Option, Some, None}
+use Rattle.std.proofs.Common.{◌≡◌, ℕ, ◌<◌, ◌≤◌, ◌&&◌, inl, inr, Bool, true, false, nat_lt, List, refl, ◌∙◌, ap, subst, arith, IsTrue, if◌then◌else◌, Some, None}
 use Rattle.std.proofs.lemmas.Bool.Decides.{nat_tests}
-use Rattle.std.proofs.lemmas.Bool.{cases_eq, cases_Bool}
 use Rattle.xp_words.specs.declared.kind.KindWord.{KindWord}
-use Rattle.xp_words.specs.PageTypes.{type_number, is_table}
+use Rattle.xp_words.specs.PageTypes.{type_number}
 use Rattle.xp_words.specs.KindWords.{kind_fields, kind_read, has_form, has_type}
 use Rattle.xp_words.specs.Machine.{Machine}
 use Rattle.xp_words.specs.Places.{Sizes, sizes_of, is_place, memory, Place, Vcpu, Kind}
@@ -12,7 +11,7 @@ use Rattle.xp_board.specs.declared.holdings.Holdings.{Holdings}
 use Rattle.xp_board.specs.Lists.{Member}
 use Rattle.xp_board.specs.Readings.{kind_at, domain_of}
 use Rattle.xp_board.specs.Valid.{Permits}
-use Rattle.xp_board.specs.Reach.{Use, Writes, Reads, use_of, Reach, cached, is_in_use, is_protected}
+use Rattle.xp_board.specs.Reach.{Writes, Reads, use_of, cached, is_in_use, is_protected}
 use Rattle.xp_board.specs.Fresh.{Bears, Belongs, FreshAt}
 use Rattle.xp_board.specs.Safe.{Safe, SafeAt}
 use Rattle.xp_board.specs.Spelling.{IsSpelling, is_kind_in}
@@ -30,8 +29,8 @@ marked_free k u v = grind arith
 bears_unused : (flushed : ℕ) (k : KindWord) → (k.unflushed ≡ true → k.validated ≡ false) → Bears flushed k Writes → is_in_use k ≡ false
 bears_unused flushed k unlive bears =
     elim (bears.typed (λ e. cc)) [
-      inl old ↦ writable_free k old.1
-    | inr marked ↦ marked_free k marked.0 (unlive marked.0)
+      | inl old ↦ writable_free k old.1
+      | inr marked ↦ marked_free k marked.0 (unlive marked.0)
     ]
 
 form_unlive : (k : KindWord) → has_form k ≡ true → k.unflushed ≡ true → k.validated ≡ false
@@ -58,7 +57,6 @@ item_permits m d g false b = b
 
 module _ (n : Machine) (m : Place → ℕ) (h : ℕ → Holdings) (sound : Sound n m h)
     (outside : (g : ℕ) → (sizes_of n).frames ≤ g → is_in_use (kind_at m g) ≡ false) where
-
   item_unused : (g flushed : ℕ) (b : Bool) → nat_lt g (sizes_of n).frames ≡ b → Bears flushed (kind_at m g) Writes → is_in_use (kind_at m g) ≡ false
   item_unused g flushed true e bears =
       let inside : g < (sizes_of n).frames = grind (arith, nat_tests) in

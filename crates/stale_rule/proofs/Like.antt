@@ -1,17 +1,15 @@
 -- What a step that is legal today leaves of a hand, as far as old translations go.
-use Rattle.std.proofs.Common.{◌≡◌, ◌≢◌, ℕ, zero, suc, ◌+◌, ◌<◌, ◌≤◌, ◌==◌, inl, inr, Bool, true, false, List, [], ◌∷◌, length, refl, sym, ◌∙◌, ap, subst, arith, if◌then◌else◌, Option, Some, None}
-use Rattle.std.proofs.lemmas.Bool.Decides.{nat_tests}
+use Rattle.std.proofs.Common.{◌≡◌, ℕ, ◌+◌, ◌==◌, Bool, true, false, List, [], ◌∷◌, length, refl, sym, ◌∙◌, ap, subst, if◌then◌else◌, Option, Some}
 use Rattle.xp_words.specs.KindWords.{kind_fields}
 use Rattle.xp_words.specs.Places.{Place, Clock, Pages, Life, Vcpu, Refs, Kind, M2p, Cell, Map, Priv}
 use Rattle.xp_board.specs.declared.holdings.Work.{Work}
-use Rattle.xp_board.specs.declared.holdings.Claimed.{Claimed}
 use Rattle.xp_board.specs.declared.holdings.Ending.{Ending}
 use Rattle.xp_board.specs.declared.holdings.Holdings.{Holdings}
 use Rattle.xp_board.specs.Lists.{one_at, times_by, changed_by, EachOf}
 use Rattle.xp_board.specs.Readings.{ref_count}
 use Rattle.xp_board.specs.Hands.{claims_of}
 use Rattle.xp_board.specs.RefSteps.{took_ref, gave_ref}
-use Rattle.xp_board.specs.After.{learned, learned_cell, learned_own, learned_life, learned_work, learned_claim}
+use Rattle.xp_board.specs.After.{learned, learned_cell, learned_own, learned_work, learned_claim}
 use Rattle.xp_board.proofs.Effects.{SameParts}
 
 -- ---- lists

@@ -1,5 +1,5 @@
 -- A reference word that goes one up or one down keeps its owner, and is free neither before nor after.
-use Rattle.std.proofs.Common.{◌≡◌, ◌≢◌, ℕ, zero, suc, ◌+◌, ◌-◌, ◌*◌, ◌/◌, ◌%◌, ◌^◌, ◌<◌, ◌≤◌, Bool, true, false, refl, sym, ◌∙◌, ap, subst, arith, Option, Some, None}
+use Rattle.std.proofs.Common.{◌≡◌, ℕ, zero, suc, ◌+◌, ◌-◌, ◌%◌, ◌^◌, ◌<◌, ◌≤◌, Bool, true, false, refl, ◌∙◌, arith, Option, Some, None}
 use Rattle.xp_words.specs.declared.refs.RefWord.{RefWord}
 use Rattle.xp_words.specs.declared.refs.RefWord.TheVariants.{Free, Owned, Dying}
 use Rattle.xp_words.specs.RefWords.{bit, IsRef, ref_write, ref_read}

@@ -1,21 +1,21 @@
 -- Where a path from a vCPU's base leads.
-use Rattle.std.proofs.Common.{◌≡◌, ◌≢◌, ℕ, ◌+◌, ◌-◌, ◌<◌, ◌≤◌, ◌==◌, ◌&&◌, ◌||◌, ◌⊎◌, inl, inr, Bool, true, false, not, nat_lt, nat_le, refl, sym, ◌∙◌, ap, subst, arith, IsTrue, if◌then◌else◌, Option, Some, None}
+use Rattle.std.proofs.Common.{◌≡◌, ℕ, ◌+◌, ◌<◌, ◌≤◌, ◌&&◌, inl, inr, Bool, true, false, nat_lt, nat_le, refl, sym, ◌∙◌, ap, subst, arith, IsTrue, Option, Some, None}
 use Rattle.std.proofs.lemmas.Bool.Decides.{nat_tests}
 use Rattle.xp_words.specs.declared.kind.PageType.{PageType}
 use Rattle.xp_words.specs.declared.kind.PageType.TheVariants as kinds
 use Rattle.xp_words.specs.declared.kind.KindWord.{KindWord}
-use Rattle.xp_words.specs.declared.entry.Demand.TheVariants.{Bad, Read, Typed}
-use Rattle.xp_words.specs.PageTypes.{type_number, is_table}
-use Rattle.xp_words.specs.Entries.{is_bit, frame_of, below, is_lowest}
+use Rattle.xp_words.specs.declared.entry.Demand.TheVariants.{Typed}
+use Rattle.xp_words.specs.PageTypes.{type_number}
+use Rattle.xp_words.specs.Entries.{is_bit, below, is_lowest}
 use Rattle.xp_words.specs.Machine.{Machine}
-use Rattle.xp_words.specs.Places.{sizes_of, is_place, Place, Vcpu, Refs, Kind, Cell}
+use Rattle.xp_words.specs.Places.{sizes_of, is_place, Place, Vcpu, Refs, Cell}
 use Rattle.xp_board.specs.declared.holdings.Holdings.{Holdings}
 use Rattle.xp_board.specs.FillSteps.{is_walked}
 use Rattle.xp_board.specs.Readings.{kind_at, is_context, owner_of, domain_of}
-use Rattle.xp_board.specs.Recorded.{held, entry_demand, contexts, HasType}
+use Rattle.xp_board.specs.Recorded.{held, entry_demand, HasType}
 use Rattle.xp_board.specs.ContextSteps.{context_type}
 use Rattle.xp_board.specs.Valid.{Permits, PermitsOwner, EntryPermitted, is_live_context}
-use Rattle.xp_board.specs.Reach.{LeadsTo, Path, is_in_use, is_protected, is_writable_entry}
+use Rattle.xp_board.specs.Reach.{LeadsTo, Path, is_in_use, is_writable_entry}
 use Rattle.xp_board.specs.Safe.{SafeAt}
 use Rattle.xp_board.specs.Spelling.{IsSpelling}
 use Rattle.xp_board.specs.Sound.{Sound}
@@ -42,7 +42,6 @@ writable_unused k e = rw e
 
 -- ---- along a path
 module _ (n : Machine) (m : Place → ℕ) (h : ℕ → Holdings) (sound : Sound n m h) where
-
   held_there : (d level f i : ℕ) → 1 ≤ level → level ≤ 4 → Serves m d level f → IsTrue (is_walked level i) → i < held (sizes_of n) m h f
   held_there d level f i lo hi serves walked =
       let all = table_held n m h sound f serves.live serves.counted (let e = serves.level_is in omega arith) (let e = serves.level_is in omega arith) in
@@ -74,15 +73,17 @@ module _ (n : Machine) (m : Place → ℕ) (h : ℕ → Holdings) (sound : Sound
   leaf_safe d f i g inside serves entry =
       let recorded = held_there d 1 f i (omega arith) (omega arith) serves entry.walked in
       let asks : LeafAsks (entry_demand m f i) (is_bit 1 (m (Cell f i))) g =
-          subst (λ x. LeafAsks (entry_demand m f i) (is_bit 1 (m (Cell f i))) x) entry.target
-          (asks_leaf (kind_at m f).kind i (m (Cell f i)) serves.level_is entry.present (sound.valid.allowed f i recorded)) in
+      subst (λ x. LeafAsks (entry_demand m f i) (is_bit 1 (m (Cell f i))) x) entry.target
+      (asks_leaf (kind_at m f).kind i (m (Cell f i)) serves.level_is entry.present (sound.valid.allowed f i recorded)) in
       elim asks [
-        inl read ↦
-          ((λ w. absurd (let k = read.1 in cc)),
-          leaf_permits m (kind_at m f).kind (owner_of (m (Refs f))) d g serves.owner (sound.permitted.plain f i g recorded read.0))
-      | inr typed ↦
-          ((λ w. writable_unused (kind_at m g) (sound.counts.kinds.entries f i g kinds.Writable recorded typed)),
-          leaf_permits m (kind_at m f).kind (owner_of (m (Refs f))) d g serves.owner (sound.permitted.typed f i g kinds.Writable recorded typed))
+        | inl read ↦ (
+          (λ w. absurd (let k = read.1 in cc)),
+          leaf_permits m (kind_at m f).kind (owner_of (m (Refs f))) d g serves.owner (sound.permitted.plain f i g recorded read.0),
+        )
+        | inr typed ↦ (
+          (λ w. writable_unused (kind_at m g) (sound.counts.kinds.entries f i g kinds.Writable recorded typed)),
+          leaf_permits m (kind_at m f).kind (owner_of (m (Refs f))) d g serves.owner (sound.permitted.typed f i g kinds.Writable recorded typed),
+        )
       ]
 
 -- ---- the base
@@ -114,7 +115,6 @@ last_writable a b c true w p e = refl
 last_writable a b c false w p e = grind arith
 
 module _ (n : Machine) (m : Place → ℕ) (h : ℕ → Holdings) (sound : Sound n m h) where
-
   pub base_serves : (v k g : ℕ) → v < (sizes_of n).vcpus → k < 2 → m (Vcpu v k) ≡ g + 1 → Serves m (domain_of n v) 4 g × (g < (sizes_of n).frames)
   base_serves v k g real b names =
       let live = sound.valid.contexts v k g real (omega arith) (base_live k b) names in
@@ -122,14 +122,15 @@ module _ (n : Machine) (m : Place → ℕ) (h : ℕ → Holdings) (sound : Sound
       let number = live_count (kind_at m g) live in
       let context = context_counted (sizes_of n) m v k g real (omega arith) (base_context k b) names in
       let kind = has_type m g (context_type k) kinds.L4 (base_type k b) (sound.counts.kinds.contexts v k g real (omega arith) (base_context k b) names) in
-      let spelled = subst (λ w. IsSpelling n (Vcpu v k) w) names (sound.spelled.spelled (Vcpu v k) (base_place n v k real b)) in
-      (record {
-        live = live;
-        counted = omega arith;
-        level_is = ap type_number kind;
-        owner = sound.permitted.contexts v k g real (omega arith) (base_live k b) names;
-      },
-      base_inside n v k g b spelled)
+      let spelled = subst (λ w. IsSpelling n (Vcpu v k) w) names (sound.spelled.spelled (Vcpu v k) (base_place n v k real b)) in (
+        record {
+          live = live;
+          counted = omega arith;
+          level_is = ap type_number kind;
+          owner = sound.permitted.contexts v k g real (omega arith) (base_live k b) names;
+        },
+        base_inside n v k g b spelled,
+      )
 
   pub path_safe : (v g : ℕ) (writable : Bool) → v < (sizes_of n).vcpus → Path (sizes_of n) m v writable g → SafeAt n m v writable g
   path_safe v g writable real path =

@@ -1,18 +1,16 @@
 -- Fresh holds on where no cell, kind word or flush changes, and reference words keep their owners.
-use Rattle.std.proofs.Common.{◌≡◌, ◌≢◌, ℕ, ◌+◌, ◌<◌, ◌≤◌, ◌⊎◌, inl, inr, Bool, true, false, List, refl, sym, ◌∙◌, ap, subst, arith, IsTrue, Option, Some, None}
+use Rattle.std.proofs.Common.{◌≡◌, ◌≢◌, ℕ, ◌<◌, ◌≤◌, inl, inr, refl, sym, ◌∙◌, ap, subst, arith, IsTrue, Option, Some, None}
 use Rattle.std.proofs.lemmas.Bool.{cases_eq}
 use Rattle.xp_words.specs.Entries.{is_bit, frame_of}
 use Rattle.xp_words.specs.Machine.{Machine}
 use Rattle.xp_words.specs.Places.{Sizes, sizes_of, Place, Clock, Vcpu, Refs, Kind, Cell, Priv}
-use Rattle.xp_board.specs.declared.step.Item.{Item}
-use Rattle.xp_board.specs.declared.holdings.Reached.{Reached}
 use Rattle.xp_board.specs.declared.holdings.Holdings.{Holdings}
 use Rattle.xp_board.specs.Lists.{Member}
-use Rattle.xp_board.specs.Readings.{kind_at, is_free, free_stamp, owner_of, domain_of, has_ever}
+use Rattle.xp_board.specs.Readings.{is_free, free_stamp, owner_of, domain_of, has_ever}
 use Rattle.xp_board.specs.Hands.{claims_of}
 use Rattle.xp_board.specs.Valid.{Permits, PermitsOwner}
 use Rattle.xp_board.specs.Reach.{Use, Table, Writes, Reads, use_below, reached_by, Reach, cached, walked, entry}
-use Rattle.xp_board.specs.Fresh.{Belongs, Bears, Awaited, FreshAt, Fresh}
+use Rattle.xp_board.specs.Fresh.{Belongs, Awaited, FreshAt, Fresh}
 
 -- a reference word has the owner that it had, and is free as it was
 pub record RefKept (w w2 : ℕ) : Type 0 where
@@ -61,12 +59,11 @@ module _ (n : Machine) (s : ℕ) (m m2 : Place → ℕ) (h h2 : ℕ → Holdings
     (flushes : (v : ℕ) → m2 (Vcpu v 5) ≡ m (Vcpu v 5)) (privileges : (d : ℕ) → m2 (Priv d) ≡ m (Priv d))
     (refs : (f : ℕ) → RefKept (m (Refs f)) (m2 (Refs f))) (stamped : (v : ℕ) → m (Vcpu v 5) ≤ m Clock)
     (mine : HandKept (sizes_of n) (m Clock) (h s) (h2 s)) (others : (t : ℕ) → t ≢ s → h2 t ≡ h t) where
-
   each_hand : (t : ℕ) → HandKept (sizes_of n) (m Clock) (h t) (h2 t)
   each_hand t =
       elim (cases_eq t s) [
-        inl at ↦ subst (λ k. HandKept (sizes_of n) (m Clock) (h k) (h2 k)) (sym at) mine
-      | inr off ↦ subst (λ b. HandKept (sizes_of n) (m Clock) (h t) b) (sym (others t off)) (hand_same (sizes_of n) (m Clock) (h t))
+        | inl at ↦ subst (λ k. HandKept (sizes_of n) (m Clock) (h k) (h2 k)) (sym at) mine
+        | inr off ↦ subst (λ b. HandKept (sizes_of n) (m Clock) (h t) b) (sym (others t off)) (hand_same (sizes_of n) (m Clock) (h t))
       ]
 
   before : (v g : ℕ) (u : Use) → Reach (sizes_of n) m2 (h2 v) g u → Reach (sizes_of n) m (h v) g u

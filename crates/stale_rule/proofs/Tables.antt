@@ -1,26 +1,21 @@
 -- The tables to which a vCPU's base leads.
-use Rattle.std.proofs.Common.{◌≡◌, ◌≢◌, ℕ, ◌+◌, ◌-◌, ◌<◌, ◌≤◌, ◌==◌, ◌&&◌, ◌||◌, ◌⊎◌, inl, inr, Bool, true, false, not, nat_lt, nat_le, refl, sym, ◌∙◌, ap, subst, arith, IsTrue, if◌then◌else◌, Option, Some, None}
+use Rattle.std.proofs.Common.{◌≡◌, ℕ, ◌<◌, ◌≤◌, ◌==◌, inl, inr, true, false, arith, IsTrue, Some, None}
 use Rattle.std.proofs.lemmas.Bool.Decides.{nat_tests}
 use Rattle.xp_words.specs.declared.kind.PageType.{PageType}
-use Rattle.xp_words.specs.declared.kind.PageType.TheVariants as kinds
 use Rattle.xp_words.specs.declared.kind.KindWord.{KindWord}
 use Rattle.xp_words.specs.declared.entry.Demand.{Demand}
-use Rattle.xp_words.specs.declared.entry.Demand.TheVariants.{Bad, Read, Typed}
+use Rattle.xp_words.specs.declared.entry.Demand.TheVariants.{Typed}
 use Rattle.xp_words.specs.PageTypes.{type_number, is_table}
-use Rattle.xp_words.specs.Entries.{is_bit, frame_of, below, is_lowest}
 use Rattle.xp_words.specs.RefWords.{bit}
 use Rattle.xp_words.specs.Machine.{Machine}
-use Rattle.xp_words.specs.Places.{sizes_of, Place, Refs, Kind, Cell}
+use Rattle.xp_words.specs.Places.{sizes_of, Place, Refs}
 use Rattle.xp_board.specs.declared.holdings.Holdings.{Holdings}
-use Rattle.xp_board.specs.Lists.{one_at}
-use Rattle.xp_board.specs.Readings.{kind_at, is_live, is_partial, is_work, type_count, owner_of}
+use Rattle.xp_board.specs.Readings.{kind_at, is_partial, type_count, owner_of}
 use Rattle.xp_board.specs.Hands.{works_on, work_on}
-use Rattle.xp_board.specs.Recorded.{held, held_of, work_of, entry_demand, names_typed, entries, contexts, named_typed, hands}
-use Rattle.xp_board.specs.Valid.{LeadsWell, IsLastOfPartial, IsUnsettled, Permits, EntryPermitted}
-use Rattle.xp_board.specs.Reach.{LeadsTo}
+use Rattle.xp_board.specs.Recorded.{held, held_of, entry_demand, names_typed}
+use Rattle.xp_board.specs.Valid.{LeadsWell}
 use Rattle.xp_board.specs.Sound.{Sound, is_busy}
 use Rattle.stale_rule.proofs.Counted.{entry_counted, hands-part, first_by-none, work_of-none}
-use Rattle.stale_rule.proofs.Demands.{asks_table, asks_leaf, LeafAsks, walked_inside}
 
 -- a live and counted table of that level, of that domain
 pub record Serves (m : Place → ℕ) (d level f : ℕ) : Type 0 where
@@ -49,7 +44,6 @@ names_it g t d e = rw e (grind (arith, nat_tests))
 
 -- ---- a frame that is in nobody's works
 module _ (n : Machine) (m : Place → ℕ) (h : ℕ → Holdings) (sound : Sound n m h) where
-
   pub no_work : (f s : ℕ) → (kind_at m f).validated ≡ true → 0 < (kind_at m f).number → s < (sizes_of n).vcpus → work_on f (h s).works ≡ None
   no_work f s v c real =
       let one = sound.alone.works f in
