@@ -1,11 +1,11 @@
 -- Where a cached translation leads, and that a sound machine is safe.
-use Rattle.std.proofs.Common.{◌≡◌, ℕ, ◌<◌, ◌≤◌, ◌&&◌, inl, inr, Bool, true, false, nat_lt, List, refl, ◌∙◌, ap, subst, arith, IsTrue, if◌then◌else◌, Some, None}
+use Rattle.std.proofs.Common.{◌≡◌, ℕ, ◌<◌, ◌&&◌, inl, inr, Bool, true, false, refl, ◌∙◌, ap, subst, arith, if◌then◌else◌, Some, None}
 use Rattle.std.proofs.lemmas.Bool.Decides.{nat_tests}
 use Rattle.xp_words.specs.declared.kind.KindWord.{KindWord}
 use Rattle.xp_words.specs.PageTypes.{type_number}
 use Rattle.xp_words.specs.KindWords.{kind_fields, kind_read, has_form, has_type}
 use Rattle.xp_words.specs.Machine.{Machine}
-use Rattle.xp_words.specs.Places.{Sizes, sizes_of, is_place, memory, Place, Vcpu, Kind}
+use Rattle.xp_words.specs.Places.{sizes_of, is_place, Place, Vcpu, Kind}
 use Rattle.xp_board.specs.declared.step.Item.{Item}
 use Rattle.xp_board.specs.declared.holdings.Holdings.{Holdings}
 use Rattle.xp_board.specs.Lists.{Member}
@@ -15,7 +15,7 @@ use Rattle.xp_board.specs.Reach.{Writes, Reads, use_of, cached, is_in_use, is_pr
 use Rattle.xp_board.specs.Fresh.{Bears, Belongs, FreshAt}
 use Rattle.xp_board.specs.Safe.{Safe, SafeAt}
 use Rattle.xp_board.specs.Spelling.{IsSpelling, is_kind_in}
-use Rattle.xp_board.specs.Sound.{Sound, SoundState, seat_of}
+use Rattle.xp_board.specs.Sound.{Sound, Spelled}
 use Rattle.stale_rule.proofs.Paths.{path_safe}
 
 -- ---- kind words
@@ -46,46 +46,32 @@ spelled_unlive : (n : Machine) (f w : ℕ) → IsSpelling n (Kind f) w → (kind
 unfolding IsSpelling kind_read
 spelled_unlive n f w s u = form_unlive (kind_fields w) (spelled_form n w (has_type w && has_form (kind_fields w)) refl s) u
 
-kind_place : (n : Machine) (g : ℕ) → g < (sizes_of n).frames → IsTrue (is_place (sizes_of n) (Kind g))
-unfolding is_place
-kind_place n g inside = grind (arith, nat_tests)
+zero_dead : (kind_fields 0).validated ≡ false
+unfolding kind_fields
+zero_dead = refl
+
+-- a marked frame is not live, and so is one that the machine has not
+marked_unlive : (n : Machine) (m : Place → ℕ) (g : ℕ) (b : Bool) → Spelled n m → is_place (sizes_of n) (Kind g) ≡ b → (kind_at m g).unflushed ≡ true →
+    (kind_at m g).validated ≡ false
+marked_unlive n m g true spelled e marked = spelled_unlive n g (m (Kind g)) (spelled.spelled (Kind g) e) marked
+marked_unlive n m g false spelled e marked = ap (λ w. (kind_fields w).validated) (spelled.outside (Kind g) e) ∙ zero_dead
 
 -- ---- items
 item_permits : (m : Place → ℕ) (d g : ℕ) (w : Bool) → Belongs m d g (if w then Writes else Reads) → Permits m d g
 item_permits m d g true b = b
 item_permits m d g false b = b
 
-module _ (n : Machine) (m : Place → ℕ) (h : ℕ → Holdings) (sound : Sound n m h)
-    (outside : (g : ℕ) → (sizes_of n).frames ≤ g → is_in_use (kind_at m g) ≡ false) where
-  item_unused : (g flushed : ℕ) (b : Bool) → nat_lt g (sizes_of n).frames ≡ b → Bears flushed (kind_at m g) Writes → is_in_use (kind_at m g) ≡ false
-  item_unused g flushed true e bears =
-      let inside : g < (sizes_of n).frames = grind (arith, nat_tests) in
-      bears_unused flushed (kind_at m g) (spelled_unlive n g (m (Kind g)) (sound.spelled.spelled (Kind g) (kind_place n g inside))) bears
-  item_unused g flushed false e bears = outside g (grind (arith, nat_tests))
-
+module _ (n : Machine) (m : Place → ℕ) (h : ℕ → Holdings) (sound : Sound n m h) where
   item_safe : (v : ℕ) (x : Item) → v < (sizes_of n).vcpus → Member x (h v).cache → SafeAt n m v x.writable x.frame
   item_safe v x real member =
       let fresh : FreshAt n m h v x.frame (use_of x) = sound.fresh.each v real x.frame (use_of x) (cached x member) in
       record {
         unused = λ w.
             let writes : use_of x ≡ Writes = rw w in
-            item_unused x.frame (m (Vcpu v 5)) (nat_lt x.frame (sizes_of n).frames) refl (subst (λ u. Bears (m (Vcpu v 5)) (kind_at m x.frame) u) writes fresh.bears);
+            bears_unused (m (Vcpu v 5)) (kind_at m x.frame) (marked_unlive n m x.frame (is_place (sizes_of n) (Kind x.frame)) sound.spelled refl)
+            (subst (λ u. Bears (m (Vcpu v 5)) (kind_at m x.frame) u) writes fresh.bears);
         permitted = item_permits m (domain_of n v) x.frame x.writable fresh.owner;
       }
 
   pub sound_safe : Safe n m h
   sound_safe = record { paths = path_safe n m h sound; items = item_safe; counts = sound.counts }
-
--- ---- words of a list
-no_kind : (z : Sizes) (words : List ℕ) (g : ℕ) → z.frames ≤ g → memory z words (Kind g) ≡ 0
-unfolding memory is_place
-no_kind z words g out = let e : nat_lt g z.frames ≡ false = grind (arith, nat_tests) in rw e
-
-zero_unused : is_in_use (kind_fields 0) ≡ false
-unfolding kind_fields
-zero_unused = refl
-
-pub state_safe : (n : Machine) (words : List ℕ) (seats : List Holdings) → SoundState n words seats → Safe n (memory (sizes_of n) words) (seat_of seats)
-state_safe n words seats state =
-    sound_safe n (memory (sizes_of n) words) (seat_of seats) state.sound
-    (λ g out. ap (λ w. is_in_use (kind_fields w)) (no_kind (sizes_of n) words g out) ∙ zero_unused)
