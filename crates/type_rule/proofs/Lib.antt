@@ -1,3 +1,4 @@
 pub mod Changes
+pub mod DomainLaw
 pub mod StepFacts
 pub mod ValidLaw
