@@ -1,4 +1,5 @@
 pub mod Changes
 pub mod DomainLaw
+pub mod RefWordLaws
 pub mod StepFacts
 pub mod ValidLaw
