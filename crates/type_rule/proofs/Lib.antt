@@ -1,5 +1,6 @@
 pub mod Changes
 pub mod DomainLaw
+pub mod HandLaws
 pub mod RefWordLaws
 pub mod StepFacts
 pub mod ValidLaw
