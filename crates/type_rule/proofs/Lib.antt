@@ -1,3 +1,4 @@
+pub mod ChangeLaw
 pub mod Changes
 pub mod DomainLaw
 pub mod HandLaws
