@@ -142,6 +142,11 @@ module _ (n : Machine) (s : ℕ) (x : Step) (m m2 : Place → ℕ) (h h2 : ℕ �
             ];
         }
 
+  pub all_dead_law : ((d : ℕ) → d < (sizes_of n).domains → m (Life d) ≡ 255 → DeadDomain n m h d) →
+      (d : ℕ) → d < (sizes_of n).domains → m2 (Life d) ≡ 255 → DeadDomain n m2 h2 d
+  all_dead_law y d b e = let was : m (Life d) ≡ 255 = sym (c.lives d) ∙ e in dead_law d (λ z. absurd (cc)) (y d b was)
+
+  -- the seat stored the life word no later than it found the vCPUs of the domain stopped
   module _ (order : (d a : ℕ) (k : HasStopped n s d a (h2 s)) → k.since ≤ a) where
     dying_law : (d t : ℕ) → m (Life d) ≢ 0 → DyingDomain n m h d t → DyingDomain n m2 h2 d t
     dying_law d t gone y =
@@ -153,6 +158,6 @@ module _ (n : Machine) (s : ℕ) (x : Step) (m m2 : Place → ℕ) (h h2 : ℕ �
     pub domains_law : Domains n m h → Domains n m2 h2
     domains_law y =
         record {
-          dead = λ d b e. let was : m (Life d) ≡ 255 = sym (c.lives d) ∙ e in dead_law d (λ z. absurd (cc)) (y.dead d b was);
+          dead = all_dead_law y.dead;
           dying = λ d t b u e. let was : m (Life d) ≡ t + 1 = sym (c.lives d) ∙ e in dying_law d t (λ z. absurd (omega arith)) (y.dying d t b u was);
         }
