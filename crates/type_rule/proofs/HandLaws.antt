@@ -34,28 +34,24 @@ since_last : (i recorded w : ℕ) (o : Option Unsettled) → SinceKept o (learne
 since_last i recorded w None = tt
 since_last i recorded w (Some u) = since_by (i + 1 == recorded) w u
 
--- what is learned of a cell
-abbrev learned_more : ℕ → ℕ → Work → Work
-learned_more i w e =
-    record e {
-      seen = Some (record { index = i; word = w });
-      unsettled = learned_last i e.recorded w e.unsettled;
-      fixed = if (i == e.fixed) && is_fixed w then e.fixed + 1 else e.fixed;
-    }
+-- what is learned of a cell, where the first `fixed` words are known to be fixed then
+abbrev learned_more : ℕ → ℕ → ℕ → Work → Work
+learned_more i w fixed e =
+    record e { seen = Some (record { index = i; word = w }); unsettled = learned_last i e.recorded w e.unsettled; fixed = fixed }
 
-kept_by : (t : Bool) (i w : ℕ) (e : Work) → WorkKept e (if t then e else learned_more i w e)
-kept_by true i w e = work_same e
-kept_by false i w e = record { recorded = refl; unsettled = since_last i e.recorded w e.unsettled }
+kept_by : (t : Bool) (i w fixed : ℕ) (e : Work) → WorkKept e (if t then e else learned_more i w fixed e)
+kept_by true i w fixed e = work_same e
+kept_by false i w fixed e = record { recorded = refl; unsettled = since_last i e.recorded w e.unsettled }
 
-frame_by : (t : Bool) (i w : ℕ) (e : Work) → (if t then e else learned_more i w e).frame ≡ e.frame
-frame_by true i w e = refl
-frame_by false i w e = refl
+frame_by : (t : Bool) (i w fixed : ℕ) (e : Work) → (if t then e else learned_more i w fixed e).frame ≡ e.frame
+frame_by true i w fixed e = refl
+frame_by false i w fixed e = refl
 
 learned_kept : (i w : ℕ) (e : Work) → WorkKept e (learned_work i w e)
-learned_kept i w e = kept_by (kind_fields e.word).unflushed i w e
+learned_kept i w e = kept_by (kind_fields e.word).unflushed i w _ e
 
 learned_frame : (i w : ℕ) (e : Work) → (learned_work i w e).frame ≡ e.frame
-learned_frame i w e = frame_by (kind_fields e.word).unflushed i w e
+learned_frame i w e = frame_by (kind_fields e.word).unflushed i w _ e
 
 either : (t : Bool) (a b c d : Option Work) → WorkKeptIn a b → WorkKeptIn c d → WorkKeptIn (if t then a else c) (if t then b else d)
 either true a b c d k l = k
