@@ -64,9 +64,9 @@ counted_kept m m2 f e here =
       privs = λ d. e (Priv d) (λ k. cc);
       lives = λ d. e (Life d) (λ k. cc);
       refs = λ g. elim (cases_eq g f) [
-          inl at ↦ rw at here
+        | inl at ↦ rw at here
         | inr off ↦ rw (e (Refs g) (λ k. off (cc))) (same_owner (m (Refs g)))
-        ];
+      ];
     }
 
 module _ (n : Machine) (s : ℕ) (x : Step) (m m2 : Place → ℕ) (h h2 : ℕ → Holdings) (others : (t : ℕ) → t ≢ s → h2 t ≡ h t) where

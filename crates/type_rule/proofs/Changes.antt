@@ -77,8 +77,8 @@ module _ (n : Machine) (s : ℕ) (x : Step) (m m2 : Place → ℕ) (h h2 : ℕ �
   works_same : (f t : ℕ) → recorded_in (h2 t).works f ≡ recorded_in (h t).works f
   works_same f t =
       elim (cases_eq t s) [
-        inl at ↦ rw at (recorded_same (h s).works (h2 s).works f (c.works f))
-      | inr off ↦ rw (c.others t off)
+        | inl at ↦ rw at (recorded_same (h s).works (h2 s).works f (c.works f))
+        | inr off ↦ rw (c.others t off)
       ]
 
   pub work_same : (f : ℕ) → work_of (sizes_of n).vcpus h2 f ≡ work_of (sizes_of n).vcpus h f

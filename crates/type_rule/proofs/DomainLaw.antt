@@ -34,9 +34,9 @@ module _ (n : Machine) (s : ℕ) (x : Step) (m m2 : Place → ℕ) (h h2 : ℕ �
         real = l.real;
         looking = l.looking;
         here = elim (cases_eq l.seat s) [
-            inl at ↦ rw at (c.looking l.looking (rw at at l.here) (λ e. gone (ap (λ o. m (Life o)) (sym l.owner) ∙ e)))
+          | inl at ↦ rw at (c.looking l.looking (rw at at l.here) (λ e. gone (ap (λ o. m (Life o)) (sym l.owner) ∙ e)))
           | inr off ↦ rw (c.others l.seat off) l.here
-          ];
+        ];
         frame = l.frame;
         owner = l.owner;
         word = l.word ∙ sym (c.kinds f);
@@ -70,13 +70,14 @@ module _ (n : Machine) (s : ℕ) (x : Step) (m m2 : Place → ℕ) (h h2 : ℕ �
       record {
         since = k.since;
         stored = elim (before_more (sizes_of n) k.since (Life d) (λ w. w == s + 1) made (h s).steps (rw c.steps at k.stored)) [
-            inl here ↦ absurd (let l = here.1 in omega arith)
+          | inl here ↦ absurd (let l = here.1 in omega arith)
           | inr there ↦ there
-          ];
+        ];
         stopped = λ v b e. elim (between_more (sizes_of n) k.since a (Vcpu v 6) (λ w. w == 1) made (h s).steps (rw c.steps at (k.stopped v b e))) [
-            inl here ↦ absurd (let l = here.1 in omega arith)
+          | inl here ↦ absurd (let l = here.1 in omega arith)
           | inr there ↦ there
-          ];
+        ];
+        order = order;
       }
 
   is_zero : (w : ℕ) → (w == 0) ≡ true → w ≡ 0
@@ -93,71 +94,69 @@ module _ (n : Machine) (s : ℕ) (x : Step) (m m2 : Place → ℕ) (h h2 : ℕ �
       IsTrue (some_since (sizes_of n) b (Vcpu v k) (λ w. w == 0) (h2 s).steps) → m2 (Vcpu v k) ≡ 0
   empty_after d y v k a b e l u stored order stopped found =
       elim (since_more (sizes_of n) b (Vcpu v k) (λ w. w == 0) made (h s).steps (rw c.steps at found)) [
-        inl now ↦ is_zero (m2 (Vcpu v k)) (left_there (Vcpu v k) (λ w. w == 0) now.0)
-      | inr old ↦
-          let within = since_within (sizes_of n) b (Vcpu v k) (λ w. w == 0) (h s).steps old in
-          c.vcpus v k
-          ∙ y.empty v k a b e l u
+        | inl now ↦ is_zero (m2 (Vcpu v k)) (left_there (Vcpu v k) (λ w. w == 0) now.0)
+        | inr old ↦
+            let within = since_within (sizes_of n) b (Vcpu v k) (λ w. w == 0) (h s).steps old in
+            c.vcpus v k
+            ∙ y.empty v k a b e l u
             (elim (before_more (sizes_of n) a (Life d) (λ w. w == s + 1) made (h s).steps (rw c.steps at stored)) [
-              inl here ↦ absurd (let g = here.1 in omega arith)
-            | inr there ↦ there
+              | inl here ↦ absurd (let g = here.1 in omega arith)
+              | inr there ↦ there
             ])
             order
             (elim (between_more (sizes_of n) a b (Vcpu v 6) (λ w. w == 1) made (h s).steps (rw c.steps at stopped)) [
-              inl here ↦ absurd (let g = here.1 in omega arith)
-            | inr there ↦ there
+              | inl here ↦ absurd (let g = here.1 in omega arith)
+              | inr there ↦ there
             ])
             old
       ]
 
   -- the seat that makes the step destroys it
-  module _ (d : ℕ) (order : (a : ℕ) (k : HasStopped n s d a (h2 s)) → k.since ≤ a) where
+  module _ (d : ℕ) where
     -- what was found before, by the findings of then
     older : (a : ℕ) (p : Place) (test : ℕ → Bool) → HasStopped n s d a (h2 s) → IsTrue (some_since (sizes_of n) a p test (h s).steps) → HasStopped n s d a (h s)
-    older a p test k old = stopped_before d a k (order a k) (since_within (sizes_of n) a p test (h s).steps old)
+    older a p test k old = stopped_before d a k k.order (since_within (sizes_of n) a p test (h s).steps old)
 
     mine_law : m (Life d) ≢ 0 → DyingDomain n m h d s → DyingDomain n m2 h2 d s
     mine_law gone y =
         record {
           empty = empty_after d y;
           unallocated = λ f a k o found.
-            elim (since_more (sizes_of n) a (Refs f) is_unallocated made (h s).steps (rw c.steps at found)) [
-              inl now ↦ left_there (Refs f) is_unallocated now.0
-            | inr old ↦ rw (c.allocated f) (y.unallocated f a (older a (Refs f) is_unallocated k old) (rw (c.owners f) at o) old)
-            ];
+              elim (since_more (sizes_of n) a (Refs f) is_unallocated made (h s).steps (rw c.steps at found)) [
+                | inl now ↦ left_there (Refs f) is_unallocated now.0
+                | inr old ↦ rw (c.allocated f) (y.unallocated f a (older a (Refs f) is_unallocated k old) (rw (c.owners f) at o) old)
+              ];
           unpinned = λ f a k o found.
-            elim (since_more (sizes_of n) a (Kind f) is_unpinned made (h s).steps (rw c.steps at found)) [
-              inl now ↦ left_there (Kind f) is_unpinned now.0
-            | inr old ↦ rw (c.kinds f) (y.unpinned f a (older a (Kind f) is_unpinned k old) (rw (c.owners f) at o) old)
-            ];
+              elim (since_more (sizes_of n) a (Kind f) is_unpinned made (h s).steps (rw c.steps at found)) [
+                | inl now ↦ left_there (Kind f) is_unpinned now.0
+                | inr old ↦ rw (c.kinds f) (y.unpinned f a (older a (Kind f) is_unpinned k old) (rw (c.owners f) at o) old)
+              ];
           unkept = λ f a k o found.
-            elim (since_more (sizes_of n) a (Kind f) is_unkept made (h s).steps (rw c.steps at found)) [
-              inl now ↦ inl (left_there (Kind f) is_unkept now.0)
-            | inr old ↦ kept_after d f gone (y.unkept f a (older a (Kind f) is_unkept k old) (rw (c.owners f) at o) old)
-            ];
+              elim (since_more (sizes_of n) a (Kind f) is_unkept made (h s).steps (rw c.steps at found)) [
+                | inl now ↦ inl (left_there (Kind f) is_unkept now.0)
+                | inr old ↦ kept_after d f gone (y.unkept f a (older a (Kind f) is_unkept k old) (rw (c.owners f) at o) old)
+              ];
           other = λ f a k found.
-            elim (since_more (sizes_of n) a (Refs f) (λ w. not (is_owned_by d w)) made (h s).steps (rw c.steps at found)) [
-              inl now ↦ is_other (is_owned_by d (m2 (Refs f))) (left_there (Refs f) (λ w. not (is_owned_by d w)) now.0)
-            | inr old ↦ rw (c.owners f) (y.other f a (older a (Refs f) (λ w. not (is_owned_by d w)) k old) old)
-            ];
+              elim (since_more (sizes_of n) a (Refs f) (λ w. not (is_owned_by d w)) made (h s).steps (rw c.steps at found)) [
+                | inl now ↦ is_other (is_owned_by d (m2 (Refs f))) (left_there (Refs f) (λ w. not (is_owned_by d w)) now.0)
+                | inr old ↦ rw (c.owners f) (y.other f a (older a (Refs f) (λ w. not (is_owned_by d w)) k old) old)
+              ];
         }
 
   pub all_dead_law : ((d : ℕ) → d < (sizes_of n).domains → m (Life d) ≡ 255 → DeadDomain n m h d) →
       (d : ℕ) → d < (sizes_of n).domains → m2 (Life d) ≡ 255 → DeadDomain n m2 h2 d
   all_dead_law y d b e = let was : m (Life d) ≡ 255 = sym (c.lives d) ∙ e in dead_law d (λ z. absurd (cc)) (y d b was)
 
-  -- the seat stored the life word no later than it found the vCPUs of the domain stopped
-  module _ (order : (d a : ℕ) (k : HasStopped n s d a (h2 s)) → k.since ≤ a) where
-    dying_law : (d t : ℕ) → m (Life d) ≢ 0 → DyingDomain n m h d t → DyingDomain n m2 h2 d t
-    dying_law d t gone y =
-        elim (cases_eq t s) [
-          inl at ↦ rw at (mine_law d (order d) gone (rw at at y))
+  dying_law : (d t : ℕ) → m (Life d) ≢ 0 → DyingDomain n m h d t → DyingDomain n m2 h2 d t
+  dying_law d t gone y =
+      elim (cases_eq t s) [
+        | inl at ↦ rw at (mine_law d gone (rw at at y))
         | inr off ↦ others_law d t off gone y
-        ]
+      ]
 
-    pub domains_law : Domains n m h → Domains n m2 h2
-    domains_law y =
-        record {
-          dead = all_dead_law y.dead;
-          dying = λ d t b u e. let was : m (Life d) ≡ t + 1 = sym (c.lives d) ∙ e in dying_law d t (λ z. absurd (omega arith)) (y.dying d t b u was);
-        }
+  pub domains_law : Domains n m h → Domains n m2 h2
+  domains_law y =
+      record {
+        dead = all_dead_law y.dead;
+        dying = λ d t b u e. let was : m (Life d) ≡ t + 1 = sym (c.lives d) ∙ e in dying_law d t (λ z. absurd (omega arith)) (y.dying d t b u was);
+      }

@@ -62,8 +62,8 @@ unfolding sum_below
 sum_below-part zero p j b = absurd (omega arith)
 sum_below-part (suc n) p j b =
     elim (cases_eq j n) [
-      inl at ↦ let e = ap p at in omega arith
-    | inr off ↦ let rest = sum_below-part n p j (let k : j ≢ n = off in omega arith) in omega arith
+      | inl at ↦ let e = ap p at in omega arith
+      | inr off ↦ let rest = sum_below-part n p j (let k : j ≢ n = off in omega arith) in omega arith
     ]
 
 hands-part : (c : Holdings → ℕ) (z : Sizes) (h : ℕ → Holdings) (s : ℕ) → s < z.vcpus → c (h s) ≤ hands c z h

@@ -44,38 +44,38 @@ module _ (n : Machine) (s : ℕ) (x : Step) (m m2 : Place → ℕ) (h h2 : ℕ �
       let k = e.2 in
       let v = kept_since _ _ u.unsettled k.unsettled u.kept in
       elim (since_false (sizes_of n) u.unsettled.since (Kind g) is_live_word made (h s).steps (rw at at u.unfound)) [
-        inl found ↦ inl (stands (Kind g) is_live_word found)
-      | inr unfound ↦
-          inr
-          (record {
-            seat = s;
-            real = rw at at u.real;
-            work = e.0;
-            here = e.1;
-            last = u.last ∙ sym k.recorded;
-            unsettled = v.0;
-            kept = v.1;
-            unfound = rw (c.steps, v.2) unfound;
-          })
+        | inl found ↦ inl (stands (Kind g) is_live_word found)
+        | inr unfound ↦
+            inr
+            (record {
+              seat = s;
+              real = rw at at u.real;
+              work = e.0;
+              here = e.1;
+              last = u.last ∙ sym k.recorded;
+              unsettled = v.0;
+              kept = v.1;
+              unfound = rw (c.steps, v.2) unfound;
+            })
       ]
 
   unsettled_after : (f i g : ℕ) → IsUnsettled (sizes_of n) h f i g → IsTrue (is_live (kind_at m2 g)) ⊎ IsUnsettled (sizes_of n) h2 f i g
   unsettled_after f i g u =
       elim (cases_eq u.seat s) [
-        inl at ↦ still_unfound f i g u at
-      | inr off ↦
-          let same = c.others u.seat off in
-          inr
-          (record {
-            seat = u.seat;
-            real = u.real;
-            work = u.work;
-            here = rw same u.here;
-            last = u.last;
-            unsettled = u.unsettled;
-            kept = u.kept;
-            unfound = rw same u.unfound;
-          })
+        | inl at ↦ still_unfound f i g u at
+        | inr off ↦
+            let same = c.others u.seat off in
+            inr
+            (record {
+              seat = u.seat;
+              real = u.real;
+              work = u.work;
+              here = rw same u.here;
+              last = u.last;
+              unsettled = u.unsettled;
+              kept = u.kept;
+              unfound = rw same u.unfound;
+            })
       ]
 
   leads_after : (f i g : ℕ) → LeadsWell (sizes_of n) m h f i g → LeadsWell (sizes_of n) m2 h2 f i g
@@ -83,8 +83,8 @@ module _ (n : Machine) (s : ℕ) (x : Step) (m m2 : Place → ℕ) (h h2 : ℕ �
   leads_after f i g (inr (form, inl last)) = inr (rw (c.kinds g) form, inl (record { partial = rw (c.kinds f) last.partial; last = rw (c.kinds f) last.last }))
   leads_after f i g (inr (form, inr unsettled)) =
       elim (unsettled_after f i g unsettled) [
-        inl live ↦ inl live
-      | inr after ↦ inr (rw (c.kinds g) form, inr after)
+        | inl live ↦ inl live
+        | inr after ↦ inr (rw (c.kinds g) form, inr after)
       ]
 
   pub valid_law : Valid (sizes_of n) m h → Valid (sizes_of n) m2 h2
