@@ -1,18 +1,17 @@
 -- Dying and dead domains after a step.
-use Rattle.std.proofs.Common.{◌≡◌, ◌≢◌, ℕ, ◌+◌, ◌<◌, ◌≤◌, ◌==◌, ◌⊎◌, not, Bool, true, false, length, IsTrue, refl, sym, ◌∙◌, ap, inl, inr, arith}
+use Rattle.std.proofs.Common.{◌≡◌, ◌≢◌, ℕ, ◌+◌, ◌<◌, ◌≤◌, ◌==◌, not, Bool, true, false, length, IsTrue, refl, sym, ◌∙◌, ap, inl, inr, arith}
 use Rattle.std.proofs.lemmas.Bool.{cases_eq}
 use Rattle.std.proofs.lemmas.Bool.Decides.{nat_tests}
-use Rattle.xp_words.specs.KindWords.{kind_fields}
 use Rattle.xp_words.specs.Machine.{Machine}
 use Rattle.xp_words.specs.Places.{Place, Life, Vcpu, Refs, Kind, sizes_of}
 use Rattle.xp_board.specs.declared.step.Step.{Step}
 use Rattle.xp_board.specs.declared.holdings.Made.{Made}
 use Rattle.xp_board.specs.declared.holdings.Holdings.{Holdings}
 use Rattle.xp_board.specs.Steps.{some_since, some_before, some_between}
-use Rattle.xp_board.specs.Readings.{owner_of, is_owned_by, is_number, is_context, domain_of, allocated_mark}
+use Rattle.xp_board.specs.Readings.{is_owned_by, is_context, domain_of}
 use Rattle.xp_board.specs.LifeSteps.{HasStopped, is_unallocated, is_unpinned, is_unkept}
-use Rattle.xp_board.specs.Sound.{Domains, DeadDomain, DyingDomain, KeptForNobody, IsLookedAt}
-use Rattle.type_rule.proofs.StepFacts.{Hit, since_more, before_more, between_more, since_within, between_within}
+use Rattle.xp_board.specs.Sound.{Domains, DeadDomain, DyingDomain, KeptForNobody}
+use Rattle.type_rule.proofs.StepFacts.{Hit, since_more, before_more, between_more, since_within}
 use Rattle.type_rule.proofs.Changes.{Change}
 use Rattle.type_rule.proofs.ValidLaw.{stands}
 

@@ -1,17 +1,16 @@
 -- What a step learns leaves the works, the looking and the steps of a hand as far as these laws read them.
-use Rattle.std.proofs.Common.{◌≡◌, ◌≢◌, ℕ, ◌+◌, ◌==◌, ◌&&◌, not, if◌then◌else◌, Bool, true, false, List, [], ◌∷◌, Option, Some, None, IsTrue, refl, sym, ◌∙◌, ap, inl, inr, arith}
+use Rattle.std.proofs.Common.{◌≡◌, ◌≢◌, ℕ, ◌+◌, ◌==◌, not, if◌then◌else◌, Bool, true, false, List, [], ◌∷◌, Option, Some, None, refl, sym, ◌∙◌, ap, inl, inr, arith}
 use Rattle.std.proofs.lemmas.Bool.{cases_eq, cases_Bool}
 use Rattle.std.proofs.lemmas.Bool.Decides.{nat_tests}
 use Rattle.xp_words.specs.KindWords.{kind_fields}
 use Rattle.xp_words.specs.Places.{Place, Clock, Pages, Life, Vcpu, Refs, Kind, M2p, Cell, Map, Priv}
-use Rattle.xp_board.specs.declared.holdings.Made.{Made}
 use Rattle.xp_board.specs.declared.holdings.Unsettled.{Unsettled}
 use Rattle.xp_board.specs.declared.holdings.Work.{Work}
 use Rattle.xp_board.specs.declared.holdings.Looking.{Looking}
 use Rattle.xp_board.specs.declared.holdings.Holdings.{Holdings}
 use Rattle.xp_board.specs.Lists.{first_by, changed_by, kept_of, Member}
 use Rattle.xp_board.specs.Hands.{work_on, changed_work}
-use Rattle.xp_board.specs.After.{learned, learned_own, learned_life, learned_cell, learned_work, learned_last, is_fixed}
+use Rattle.xp_board.specs.After.{learned, learned_life, learned_work, learned_last}
 use Rattle.type_rule.proofs.Changes.{SinceKept, WorkKept, WorkKeptIn}
 
 -- ---- works

@@ -1,5 +1,4 @@
 -- The laws of steps that are legal today.
-use Rattle.std.proofs.Common.{ℕ}
 use Rattle.xp_words.specs.Places.{sizes_of}
 use Rattle.xp_board.specs.Valid.{Valid, Permitted}
 use Rattle.xp_board.specs.Sound.{Domains}

@@ -1,24 +1,17 @@
 -- What recorded entries and words of vCPUs lead to, and whom they are permitted, after a step.
-use Rattle.std.proofs.Common.{◌≡◌, ◌≢◌, ℕ, ◌+◌, ◌<◌, ◌⊎◌, ◌||◌, Bool, true, false, Option, Some, None, IsTrue, refl, sym, ◌∙◌, ap, subst, inl, inr}
+use Rattle.std.proofs.Common.{◌≡◌, ℕ, ◌⊎◌, Bool, true, Option, Some, None, IsTrue, refl, sym, ◌∙◌, ap, subst, inl, inr}
 use Rattle.std.proofs.lemmas.Bool.{cases_eq}
 use Rattle.xp_words.specs.declared.kind.PageType.{PageType}
-use Rattle.xp_words.specs.declared.entry.Demand.TheVariants.{Bad, Read, Typed}
-use Rattle.xp_words.specs.Entries.{is_lowest}
-use Rattle.xp_words.specs.KindWords.{kind_fields}
 use Rattle.xp_words.specs.Machine.{Machine}
-use Rattle.xp_words.specs.Places.{Place, Vcpu, Refs, Kind, Cell, Priv, sizes_of}
+use Rattle.xp_words.specs.Places.{Place, Refs, Kind, sizes_of}
 use Rattle.xp_board.specs.declared.step.Step.{Step}
 use Rattle.xp_board.specs.declared.holdings.Made.{Made}
 use Rattle.xp_board.specs.declared.holdings.Holdings.{Holdings}
-use Rattle.xp_board.specs.Steps.{some_since, left_of}
-use Rattle.xp_board.specs.Readings.{kind_at, is_live, is_live_word, is_context, owner_of, has_ever}
-use Rattle.xp_board.specs.Hands.{work_on}
-use Rattle.xp_board.specs.Recorded.{held, held_of, work_of, entry_demand}
-use Rattle.xp_board.specs.After.{is_fixed}
-use Rattle.xp_board.specs.Valid.{Valid, LeadsWell, IsUnsettled, IsLastOfPartial, PermitsOwner, Permits, EntryPermitted, Permitted, is_live_context}
-use Rattle.xp_board.specs.Runs.{place_of}
+use Rattle.xp_board.specs.Readings.{kind_at, is_live, is_live_word, owner_of}
+use Rattle.xp_board.specs.Recorded.{held, entry_demand}
+use Rattle.xp_board.specs.Valid.{Valid, LeadsWell, IsUnsettled, PermitsOwner, EntryPermitted, Permitted}
 use Rattle.type_rule.proofs.StepFacts.{Hit, since_false}
-use Rattle.type_rule.proofs.Changes.{WorkKept, Change, kept_work, kept_since, work_same}
+use Rattle.type_rule.proofs.Changes.{Change, kept_work, kept_since, work_same}
 
 module _ (n : Machine) (s : ℕ) (x : Step) (m m2 : Place → ℕ) (h h2 : ℕ → Holdings) (c : Change n s x m m2 h h2) where
   -- the words that are read here
