@@ -10,6 +10,14 @@ pub refs_there : (z : Sizes) (f : ℕ) → f < z.frames → IsTrue (is_place z (
 unfolding is_place
 refs_there z f h = grind (arith, nat_tests)
 
+pub own_there : (z : Sizes) (v k : ℕ) → v < z.vcpus → k < 38 → IsTrue (is_place z (Vcpu v k))
+unfolding is_place
+own_there z v k h l = grind (arith, nat_tests)
+
+pub size_some : (z : Sizes) → 0 < size z
+unfolding size
+size_some z = omega arith
+
 pub m2p_there : (z : Sizes) (f : ℕ) → f < z.frames → IsTrue (is_place z (M2p f))
 unfolding is_place
 m2p_there z f h = grind (arith, nat_tests)

@@ -17,10 +17,11 @@ use Rattle.xp_board.specs.declared.step.StepKind.TheVariants as steps
 use Rattle.xp_board.specs.declared.holdings.Reference.{Reference}
 use Rattle.xp_board.specs.declared.holdings.Holdings.{Holdings}
 use Rattle.xp_board.specs.Acts.{left_by}
-use Rattle.xp_board.specs.Readings.{ref_count}
+use Rattle.xp_board.specs.declared.holdings.OwnerFound.TheVariants as owners
+use Rattle.xp_board.specs.Readings.{ref_count, owner_of}
 use Rattle.xp_board.specs.Lists.{times_by, first_by, without_by}
-use Rattle.xp_board.specs.Hands.{hand, typed_hand, refs_to, IsEmptyHand}
-use Rattle.xp_board.specs.RefSteps.{one_down, took_ref, gave_ref, MayLower, ref_row}
+use Rattle.xp_board.specs.Hands.{hand, typed_hand, refs_to, work_on, IsEmptyHand}
+use Rattle.xp_board.specs.RefSteps.{one_down, owner_number, took_ref, gave_ref, MayLower, Raise, ref_row, after_ref_row, is_closing_on}
 use Rattle.xp_board.specs.After.{after, noted, after_move}
 use Rattle.xp_board.specs.Legal.{LegalMove, LegalNow, is_proved, is_proved_mark, is_raise}
 use Rattle.xp_board.specs.Runs.{place_of}
@@ -192,3 +193,72 @@ raise_is_legal n v f w owner count allocated h o limit few frame run domain belo
     let here : LegalMove n v h (Refs f) (Cas w (w + 1)) steps.Ref None =
         subst (λ y. LegalMove n v h (Refs f) (Cas w y) steps.Ref None) o.more (subst (λ y. LegalMove n v h (Refs f) (Cas y (ref_write (Owned owner allocated (count + 1)))) steps.Ref None) o.written legal) in
     legal_at n v h (Refs f) (Cas w (w + 1)) steps.Ref None here (rw (o.read, next) (raise_row owner count allocated)) refl
+
+-- the reference that the exchange brings
+pub new_ref : ℕ → ℕ → Reference
+new_ref f w = record { frame = f; owner = owners.Of (owner_number (owner_of w)) }
+
+row_is : (o c : ℕ) (a : Bool) → ref_row (Some (Owned o a c)) (Some (Owned o a (c + 1))) ≡ Raise
+row_is o c true = refl
+row_is o c false = refl
+
+took : (n : Machine) (v f w owner count : ℕ) (allocated : Bool) (h : Holdings) → Open w owner allocated count → count + 1 < 2 ^ 26 → IsTrue (is_place (sizes_of n) (Refs f)) →
+    after n v h (raise_at n f w) w ≡ noted (raise_at n f w) w (took_ref f w h)
+took n v f w owner count allocated h o below real =
+    let row : ref_row (ref_read w) (ref_read (w + 1)) ≡ Raise = ap (λ y. ref_row y (ref_read (w + 1))) o.read ∙ ap (λ y. ref_row (Some (Owned owner allocated count)) y) (open_next w owner count allocated o below) ∙ row_is owner count allocated in
+    after_at n v h (Refs f) (Cas w (w + 1)) steps.Ref None w real
+        ∙ ap (λ x. noted (raise_at n f w) w x) (when_same w (after_ref_row (ref_row (ref_read w) (ref_read (w + 1))) n v f w h) h ∙ ap (λ r. after_ref_row r n v f w h) row)
+
+pub raise_hand : (n : Machine) (v f w owner count : ℕ) (allocated : Bool) (h : Holdings) → Open w owner allocated count → count + 1 < 2 ^ 26 → IsTrue (is_place (sizes_of n) (Refs f)) →
+    HandIs [] h → h.run ≡ Some 0 → HandIs (new_ref f w ∷ []) (after n v h (raise_at n f w) w) × ((after n v h (raise_at n f w) w).run ≡ Some 0)
+unfolding new_ref
+raise_hand n v f w owner count allocated h o below real e run =
+    let at = took n v f w owner count allocated h o below real in
+    (
+    subst (λ x. HandIs (new_ref f w ∷ []) x) (sym at) (with_refs [] (new_ref f w ∷ []) h _ e (ap (λ (rs : List Reference). new_ref f w ∷ rs) e.refs) refl refl refl refl refl refl refl refl),
+    ap (λ x. x.run) at ∙ run)
+
+-- ---- the machine-to-physical word
+one_held : (f w : ℕ) → refs_to f (new_ref f w ∷ []) ≡ 1
+unfolding times_by new_ref
+one_held f w = grind (arith, nat_tests)
+
+pub map_is_legal : (n : Machine) (v f w g : ℕ) (h : Holdings) → f < n.frames → h.run ≡ Some 0 → g < 2 ^ 64 → HandIs (new_ref f w ∷ []) h → LegalNow n v h (map_at n f g)
+unfolding hand
+map_is_legal n v f w g h frame run small e =
+    let held : 0 < refs_to f h.refs = rw (e.refs, one_held f w) (lit< tt) in
+    legal_at n v h (M2p f) (Store g) steps.M2p None (map_legal n v f g h frame run small (omega arith)) refl refl
+
+pub map_hand : (n : Machine) (v f g w : ℕ) (h : Holdings) (rs : List Reference) → IsTrue (is_place (sizes_of n) (M2p f)) → HandIs rs h → h.run ≡ Some 0 →
+    HandIs rs (after n v h (map_at n f g) w) × ((after n v h (map_at n f g) w).run ≡ Some 0)
+map_hand n v f g w h rs real e run =
+    let at = after_at n v h (M2p f) (Store g) steps.M2p None w real in
+    (subst (λ x. HandIs rs x) (sym at) (with_refs rs rs h _ e e.refs refl refl refl refl refl refl refl refl), ap (λ x. x.run) at ∙ run)
+
+-- ---- the reference is given back
+no_work : (f : ℕ) (h : Holdings) → h.works ≡ [] → is_closing_on (work_on f h.works) ≡ false
+unfolding first_by
+no_work f h e = rw e refl
+
+pub lower_is_legal : (n : Machine) (v f w : ℕ) (h : Holdings) → IsTrue (is_place (sizes_of n) (Refs f)) → h.run ≡ Some 0 → HandIs (new_ref f w ∷ []) h → LegalNow n v h (lower_at n f)
+lower_is_legal n v f w h real run e =
+    legal_at n v h (Refs f) (Add one_down) steps.Ref None
+    (record {
+      place = real; marked = tt; running = λ needs. run; spelling = lit< tt;
+      act = record { one = refl; in_hand = rw (e.refs, one_held f w) (lit< tt); spares = λ closing. absurd (let t = subst IsTrue (no_work f h e.works) closing in cc) }
+    })
+    refl refl
+
+none_left : (f w : ℕ) → without_by (λ (r : Reference). r.frame) f (new_ref f w ∷ []) ≡ []
+unfolding without_by new_ref
+none_left f w = grind (arith, nat_tests)
+
+not_last : {A : Type 0} (c : ℕ) (y z : A) → 2 ≤ c → (if c == 1 then y else z) ≡ z
+not_last c y z h = grind (arith, nat_tests)
+
+pub lower_hand : (n : Machine) (v f w u : ℕ) (h : Holdings) → IsTrue (is_place (sizes_of n) (Refs f)) → 2 ≤ ref_count u → HandIs (new_ref f w ∷ []) h →
+    HandIs [] (after n v h (lower_at n f) u)
+lower_hand n v f w u h real many e =
+    let at = after_at n v h (Refs f) (Add one_down) steps.Ref None u real in
+    subst (λ x. HandIs [] x) (sym at)
+    (with_refs (new_ref f w ∷ []) [] h _ e (ap (λ (rs : List Reference). without_by (λ (r : Reference). r.frame) f rs) e.refs ∙ none_left f w) refl refl refl (not_last (ref_count u) _ h.ending many) refl refl refl refl)

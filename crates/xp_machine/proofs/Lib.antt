@@ -5,3 +5,5 @@ pub mod Starting
 pub mod Statuses
 pub mod Walking
 pub mod Handling
+pub mod Stepping
+pub mod Fitting

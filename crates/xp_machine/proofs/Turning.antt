@@ -36,6 +36,9 @@ scripts_after cpus v d c' e = map-set_same script_of cpus v c' d e
 pub short_after : (xs ys : List Processing) → map script_of ys ≡ map script_of xs → AreShort xs → AreShort ys
 short_after xs ys e h = let P : List (List Op) → Type 0 = λ scripts. All (λ (script : List Op). length script < 2 ^ 32) scripts in subst P (sym e) h
 
+pub same_lengths : (xs ys : List Processing) → map script_of ys ≡ map script_of xs → length ys ≡ length xs
+same_lengths xs ys e = sym (length-map ys script_of) ∙ ap length e ∙ length-map xs script_of
+
 -- one turn more of the same vCPU
 pub one_more_turn : (n v : ℕ) (s m s' : State) → Turns (replicate n v) s m → IsTurn v m s' → Turns (replicate (n + 1) v) s s'
 one_more_turn n v s m s' t u = subst (λ vs. Turns vs s s') (replicate-append-replicate n 1 v) (more (replicate n v) v s m s' t u)
@@ -68,7 +71,7 @@ no_runs s = subst (λ vs. Turns vs s s) (sym order_none) (none s)
 -- ---- what turns leave as it was
 
 fits_machine : (p : Pair) (domain : ℕ) (b b' : Told) (o : Option Refusal) → FitsUpdate domain (p.ptr / 4096) p.val b o b' → b'.machine ≡ b.machine
-fits_machine p domain b b' None f = ap (λ (x : Told). x.machine) f.2
+fits_machine p domain b b' None f = ap (λ (x : Told). x.machine) f.3
 fits_machine p domain b b' (Some r) f = ap (λ (x : Told). x.machine) f.1
 
 built_machine : (domain : ℕ) (o : Option Pair) (b b' : Told) (reply : Reply) → FitsBuilt domain o b reply b' → b'.machine ≡ b.machine

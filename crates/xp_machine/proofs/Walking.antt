@@ -14,7 +14,7 @@ use Rattle.xp_board.specs.Runs.{State, next, word_at, place_of, Moves}
 use Rattle.xp_machine.specs.Pieces.{Piece}
 
 -- the state after steps, the newest first
-pub reached : Machine → ℕ → State → List Step → State
+unfoldable pub reached : Machine → ℕ → State → List Step → State
 reached n v a [] = a
 reached n v a (x ∷ xs) = next n (reached n v a xs) v x
 

@@ -1,3 +1,4 @@
+pub mod Answers
 pub mod Boards
 pub mod Outcome
 pub mod Pieces

@@ -26,10 +26,10 @@ Piece n v a (x ∷ xs) b =
 -- ---- deeds: the steps that a guest can see
 pub data Deed : Type 0 where
   -- the machine-to-physical word of frame f is set
-  Map : (f w : ℕ) → Deed
+  SetsM2p : (f w : ℕ) → Deed
 
 abbrev pub deeds_by : Place → Act → List Deed
-deeds_by (M2p f) (Store w) = Map f w ∷ []
+deeds_by (M2p f) (Store w) = SetsM2p f w ∷ []
 deeds_by _ _ = []
 
 -- the newest first
@@ -63,5 +63,5 @@ CauseIn n domain f made _ = ⊥
 -- Ok: the word was set, and nothing else done; the frame was found the domain's own. Refused: nothing was done.
 abbrev pub UpdateFits : Machine → ℕ → ℕ → ℕ → List Made → Option Refusal → Type 0
 UpdateFits n domain f w made None =
-    (f < n.frames) × (deeds n made ≡ Map f w ∷ []) × Saw n (Refs f) (λ x. IsOpen domain n.limit (ref_read x)) made
+    (f < n.frames) × (deeds n made ≡ SetsM2p f w ∷ []) × Saw n (Refs f) (λ x. IsOpen domain n.limit (ref_read x)) made
 UpdateFits n domain f w made (Some r) = (deeds n made ≡ []) × CauseIn n domain f made r

@@ -49,7 +49,7 @@ refused r = record { done = 0; value = 0; refusal = Some r }
 -- reference that the frame had room for; or a refusal with its cause, and everything as it was.
 abbrev pub FitsUpdate : ℕ → ℕ → ℕ → Told → Option Refusal → Told → Type 0
 FitsUpdate domain frame gpfn b None b' =
-    (frame < b.machine.frames) × IsOpen domain b.machine.limit (ref_read (word_of b (Refs frame))) × (b' ≡ updated b frame gpfn)
+    (frame < b.machine.frames) × (gpfn < 2 ^ 64) × IsOpen domain b.machine.limit (ref_read (word_of b (Refs frame))) × (b' ≡ updated b frame gpfn)
 FitsUpdate domain frame gpfn b (Some r) b' = Refuses b frame domain r × (b' ≡ b)
 
 -- how many elements of an update of one element are done

@@ -2,7 +2,7 @@ ghost use Rattle.std.specs.Prelude.{◌≡◌, ◌+◌, ◌∷◌, ◌++◌, ◌
 ghost use Rattle.xp_machine.specs.Turns.{Fits, CpuTurn, FitsUpdate, m2p_update, pending_of, refused};
 
 use crate::board::PlainBoard;
-use crate::update::set_m2p;
+use crate::update::{begin_turn, end_answer, set_m2p};
 use std::alloc::{AllocError, Global};
 use std::marker::Model;
 use xp_words::{Call, Log, LogLine, Op, Pair, Refusal, Reply, Script};
@@ -85,13 +85,16 @@ impl Cpu {
     }
 
     /// Answers the next operation, where there is one. It takes no memory.
-    pub fn turn(&mut self, board: &mut PlainBoard)
-        requires { length self.old.script < 2 ^ 32 }
+    pub fn turn(&mut self, board: &mut PlainBoard, vcpu: u32)
+        requires short { length self.old.script < 2 ^ 32 }
+        requires vcpu { vcpu < length board.old.machine.vcpu_domain }
         ensures { CpuTurn self.old (slice_get self.old.script (length self.old.log)) board.old self.new board.new }
     {
         let next = self.log.len();
         if let Some(op) = self.script.as_slice().get(next) {
+            begin_turn(board, vcpu);
             let reply = answer(board, self.domain, op);
+            end_answer(board);
             let line = LogLine::Answer {
                 op: next as u32 + 1,
                 call: 0,

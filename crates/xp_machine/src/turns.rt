@@ -6,22 +6,26 @@ use crate::cpu::Cpu;
 use trace_text::TurnRun;
 
 // One turn of one vCPU.
-fn turn_of(board: &mut PlainBoard, cpus: &mut [Cpu], vcpu: usize)
+fn turn_of(board: &mut PlainBoard, cpus: &mut [Cpu], vcpu: u32)
     requires known { vcpu < length cpus.old }
+    requires all { length cpus.old ≡ length board.old.machine.vcpu_domain }
     requires short { AreShort cpus.old }
     ensures turn { IsTurn vcpu (state board.old cpus.old) (state board.new cpus.new) }
     ensures scripts { map script_of cpus.new ≡ map script_of cpus.old }
+    ensures machine { board.new.machine ≡ board.old.machine }
 {
-    let cpu = &mut cpus[vcpu];
-    cpu.turn(board);
+    let cpu = &mut cpus[vcpu as usize];
+    cpu.turn(board, vcpu);
 }
 
 // So many turns of one vCPU in a row.
-fn turns_of(board: &mut PlainBoard, cpus: &mut [Cpu], vcpu: usize, count: u32)
+fn turns_of(board: &mut PlainBoard, cpus: &mut [Cpu], vcpu: u32, count: u32)
     requires known { vcpu < length cpus.old }
+    requires all { length cpus.old ≡ length board.old.machine.vcpu_domain }
     requires short { AreShort cpus.old }
     ensures turns { Turns (replicate count vcpu) (state board.old cpus.old) (state board.new cpus.new) }
     ensures scripts { map script_of cpus.new ≡ map script_of cpus.old }
+    ensures machine { board.new.machine ≡ board.old.machine }
 {
     'turns: for _turn in 0..count {
         turn_of(board, cpus, vcpu);
@@ -31,11 +35,12 @@ fn turns_of(board: &mut PlainBoard, cpus: &mut [Cpu], vcpu: usize, count: u32)
 // The turns of the vCPUs, in the order of the runs.
 fn take_turns(board: &mut PlainBoard, cpus: &mut [Cpu], runs: &[TurnRun])
     requires known { All (λ r. r.vcpu < length cpus.old) runs.now }
+    requires all { length cpus.old ≡ length board.old.machine.vcpu_domain }
     requires short { AreShort cpus.old }
     ensures { Turns (order runs.now) (state board.old cpus.old) (state board.new cpus.new) }
 {
     'runs: for run in runs {
-        turns_of(board, cpus, run.vcpu as usize, run.count);
+        turns_of(board, cpus, run.vcpu, run.count);
     }
 }
 
@@ -46,6 +51,7 @@ pub fn run_all(
     runs: &[TurnRun],
 ) -> (PlainBoard, Vec<Cpu>)
     requires known { All (λ r. r.vcpu < length cpus.items) runs.now }
+    requires all { length cpus.items ≡ length board.machine.vcpu_domain }
     requires short { AreShort cpus.items }
     ensures { Turns (order runs.now) (state board cpus.items) (state result.0 result.1.items) }
 {

@@ -1,12 +1,17 @@
-ghost use Rattle.std.specs.Prelude.{◌≡◌, ◌<◌, ◌+◌, ◌^◌, ◌%◌, IfOk, IfErr, OnOk, OnErr};
+ghost use Rattle.std.specs.Prelude.{◌≡◌, ◌<◌, ◌+◌, ◌^◌, ◌%◌, length, IfOk, IfErr, OnOk, OnErr};
 ghost use Rattle.xp_words.specs.RefWords.{ref_read};
-ghost use Rattle.xp_words.specs.Places.{Refs, M2p};
+ghost use Rattle.xp_words.specs.Places.{Vcpu, Refs, M2p};
 ghost use Rattle.xp_board.specs.Acts.{left_by};
 ghost use Rattle.xp_machine.specs.Boards.{word_of, with_word, taken, updated, IsOpen, Refuses, RefusesWord};
 
 use crate::board::PlainBoard;
-use xp_board::{Act, Step, StepKind};
+use xp_board::{Act, Mark, Step, StepKind};
 use xp_words::{RefWord, Refusal};
+
+// The clock's place, and two words of a vCPU.
+const CLOCK: u32 = 0;
+const ASKED: u32 = 4;
+const RUN: u32 = 6;
 
 // Minus one, for an addition that wraps.
 const ONE_LESS: u64 = 0xffff_ffff_ffff_ffff;
@@ -25,6 +30,45 @@ fn look_refs(board: &mut PlainBoard, frame: u32) -> u64
         kind: StepKind::Look,
         mark: None,
     })
+}
+
+// A word of a vCPU.
+#[tactic(auto, unfolding(xp_board::specs::Acts::left_by))]
+fn look_own(board: &mut PlainBoard, vcpu: u32, word: u32, mark: Option<Mark>) -> u64
+    requires vcpu { vcpu < length board.old.machine.vcpu_domain }
+    requires word { word < 38 }
+    ensures found { result ≡ word_of board.old (Vcpu vcpu word) }
+    ensures same { board.new ≡ board.old }
+{
+    let place = board.layout().vcpu_place(vcpu, word);
+    board.step(Step {
+        place,
+        act: Act::Load,
+        kind: StepKind::Look,
+        mark,
+    })
+}
+
+/// A turn of a vCPU begins: it looks whether it was asked to flush, and whether it runs.
+pub fn begin_turn(board: &mut PlainBoard, vcpu: u32)
+    requires { vcpu < length board.old.machine.vcpu_domain }
+    ensures { board.new ≡ board.old }
+{
+    look_own(board, vcpu, ASKED, Some(Mark::Turn));
+    look_own(board, vcpu, RUN, None);
+}
+
+/// An answer ends with a look at the clock.
+#[tactic(auto, unfolding(xp_board::specs::Acts::left_by))]
+pub fn end_answer(board: &mut PlainBoard)
+    ensures { board.new ≡ board.old }
+{
+    board.step(Step {
+        place: CLOCK,
+        act: Act::Load,
+        kind: StepKind::Look,
+        mark: Some(Mark::Cut { call: 0 }),
+    });
 }
 
 // One act on the reference word of a frame.
@@ -130,6 +174,7 @@ fn put_ref(board: &mut PlainBoard, frame: u32)
 pub fn set_m2p(board: &mut PlainBoard, frame: u64, owner: u16, gpfn: u64) -> Result<(), Refusal>
     ensures open { OnOk result (IsOpen owner board.old.machine.limit (ref_read (word_of board.old (Refs frame)))) }
     ensures inside { OnOk result (frame < board.old.machine.frames) }
+    ensures word { gpfn < 2 ^ 64 }
     ensures set { OnOk result (board.new ≡ updated board.old frame gpfn) }
     ensures same { OnErr result (board.new ≡ board.old) }
     ensures cause { IfErr result (Refuses board.old frame owner) }

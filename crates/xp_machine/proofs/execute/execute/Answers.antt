@@ -25,3 +25,8 @@ closing-requires-clause-short c =
     let kept = turns_keep _ _ _ c.run_all-board.ensures in
     short_after c.in_ok-cpus.cpus.items _ kept.scripts
     (rw (c.in_ok-cpus.ensures, c.domains_of.ensures) (short_first _ c.args.trace.scripts c.requires.scripts c.requires.few_ops))
+
+pub run_all-board-requires-clause-all : goal.run_all-board-requires-clause-all
+run_all-board-requires-clause-all c =
+    ap length (c.in_ok-cpus.ensures ∙ ap (λ (ds : List ℕ). first_cpus ds c.args.trace.scripts) c.domains_of.ensures) ∙ length_first _ c.args.trace.scripts c.requires.scripts
+        ∙ sym (ap (λ b. length b.machine.vcpu_domain) c.make-board.ensures)
