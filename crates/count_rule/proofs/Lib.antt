@@ -1,2 +1,4 @@
 mod Sums
 mod Lists
+mod Twins
+mod Entries
