@@ -2,3 +2,5 @@ mod Sums
 mod Lists
 mod Twins
 mod Entries
+mod Moves
+mod Parts
