@@ -4,3 +4,6 @@ mod Twins
 mod Entries
 mod Moves
 mod Parts
+mod Words
+mod Learning
+mod Turns
