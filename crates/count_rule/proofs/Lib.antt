@@ -7,3 +7,4 @@ mod Parts
 mod Words
 mod Learning
 mod Turns
+mod Outcomes

@@ -83,7 +83,7 @@ module _ (s f : ℕ) (m m2 : Place → ℕ) (h h2 : ℕ → Holdings) (running :
       }
 
   -- one reference less, and others are left
-  turned_down : (o c : ℕ) (a : Bool) → ref_read (m (Refs f)) ≡ Some (Owned o a (suc (suc c))) → ref_read (m2 (Refs f)) ≡ Some (Owned o a (suc c)) →
+  pub turned_down : (o c : ℕ) (a : Bool) → ref_read (m (Refs f)) ≡ Some (Owned o a (suc (suc c))) → ref_read (m2 (Refs f)) ≡ Some (Owned o a (suc c)) →
       ((g : ℕ) → refs_to g (h2 s).refs + one_at g f ≡ refs_to g (h s).refs) → SparesClosing f (h s) → (h2 s).ending ≡ (h s).ending → Turned s m m2 h h2
   turned_down o c a was is down spares ending =
       let w = owned_says _ o a (suc (suc c)) was in
@@ -103,7 +103,7 @@ module _ (s f : ℕ) (m m2 : Place → ℕ) (h h2 : ℕ → Holdings) (running :
       }
 
   -- the last reference
-  turned_last : (o : ℕ) (e : Ending) → ref_read (m (Refs f)) ≡ Some (Owned o false 1) → ref_read (m2 (Refs f)) ≡ Some (Dying o) →
+  pub turned_last : (o : ℕ) (e : Ending) → ref_read (m (Refs f)) ≡ Some (Owned o false 1) → ref_read (m2 (Refs f)) ≡ Some (Dying o) →
       ((g : ℕ) → refs_to g (h2 s).refs + one_at g f ≡ refs_to g (h s).refs) → SparesClosing f (h s) → e.frame ≡ f → (h2 s).ending ≡ e ∷ (h s).ending → Turned s m m2 h h2
   turned_last o e was is down spares of_f ending =
       let w = owned_says _ o false 1 was in

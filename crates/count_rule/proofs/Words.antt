@@ -78,3 +78,10 @@ fits_owned n o c a h k = grind (arith, nat_tests)
 
 pub fits_dying : (n : Machine) (o : ℕ) → o < length n.page_limit → IsTrue (is_ref_in n (Some (Dying o)))
 fits_dying n o h = grind (arith, nat_tests)
+
+pub read_small : (w : ℕ) (r : RefWord) → ref_read w ≡ Some r → w < 2 ^ 64
+unfolding ref_read
+read_small w r e = grind (arith, nat_tests)
+
+pub one_down_moves : (w : ℕ) → w < 2 ^ 64 → (w + one_down) % 2 ^ 64 ≢ w
+one_down_moves w b e = omega arith
