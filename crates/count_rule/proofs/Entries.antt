@@ -1,9 +1,9 @@
 -- What recorded entries and context words count on.
-use Rattle.std.proofs.Common.{◌≡◌, ℕ, zero, suc, ◌+◌, ◌<◌, Option, Some, None, refl, ap, arith}
+use Rattle.std.proofs.Common.{◌≡◌, ℕ, zero, suc, Option, refl}
 use Rattle.xp_words.specs.declared.entry.Demand.{Demand}
 use Rattle.xp_words.specs.Places.{Sizes, Place, Vcpu, Kind, Cell}
 use Rattle.xp_board.specs.declared.holdings.Holdings.{Holdings}
-use Rattle.xp_board.specs.Recorded.{recorded_in, or_else, work_of, table_entries, entries, contexts}
+use Rattle.xp_board.specs.Recorded.{recorded_in, work_of, table_entries, entries, contexts}
 use Rattle.count_rule.proofs.Sums.{sum_below-same}
 
 pub work_of-same : (n : ℕ) (h h2 : ℕ → Holdings) (f : ℕ) → ((s : ℕ) → recorded_in (h2 s).works f ≡ recorded_in (h s).works f) → work_of n h2 f ≡ work_of n h f

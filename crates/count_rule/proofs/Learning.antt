@@ -1,14 +1,13 @@
 -- What a hand keeps as it learns a word.
-use Rattle.std.proofs.Common.{◌≡◌, ℕ, ◌+◌, ◌==◌, ◌&&◌, Bool, true, false, if◌then◌else◌, List, [], ◌∷◌, Option, Some, None, refl, sym, ◌∙◌, ap, subst}
+use Rattle.std.proofs.Common.{◌≡◌, ℕ, ◌==◌, Bool, true, false, if◌then◌else◌, List, [], refl}
 use Rattle.xp_words.specs.KindWords.{kind_fields}
 use Rattle.xp_words.specs.Places.{Place, Clock, Pages, Life, Vcpu, Refs, Kind, M2p, Cell, Map, Priv}
 use Rattle.xp_board.specs.declared.holdings.Holdings.{Holdings}
 use Rattle.xp_board.specs.declared.holdings.Work.{Work}
 use Rattle.xp_board.specs.declared.holdings.Lock.{Lock}
 use Rattle.xp_board.specs.declared.holdings.Claimed.{Claimed}
-use Rattle.xp_board.specs.declared.step.Step.{Step}
 use Rattle.xp_board.specs.Lists.{kept_of}
-use Rattle.xp_board.specs.After.{learned, learned_work, learned_lock, learned_claim, learned_life, learned_own, noted}
+use Rattle.xp_board.specs.After.{learned, learned_work, learned_lock, learned_claim, learned_life, learned_own}
 use Rattle.count_rule.proofs.Twins.{EachTwo, EachTwo-same, EachTwo-changed, SameWork, SameLock, SameClaim}
 
 same_work : (e : Work) → SameWork e e

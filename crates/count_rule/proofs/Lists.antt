@@ -1,7 +1,7 @@
 -- The lists of a hand.
-use Rattle.std.proofs.Common.{◌≡◌, ◌≢◌, ℕ, zero, suc, ◌+◌, ◌<◌, ◌≤◌, ◌==◌, Bool, true, false, List, [], ◌∷◌, Option, Some, None, refl, sym, ◌∙◌, ap, subst, arith, if◌then◌else◌, ◌⊎◌, inl, inr}
+use Rattle.std.proofs.Common.{◌≡◌, ℕ, ◌+◌, ◌<◌, ◌≤◌, List, [], ◌∷◌, Some, refl, ap, arith, inl, inr}
 use Rattle.std.proofs.lemmas.Bool.{cases_eq}
-use Rattle.xp_board.specs.Lists.{one_at, times_by, first_by, without_by, changed_by, EachOf, Member}
+use Rattle.xp_board.specs.Lists.{one_at, times_by, first_by, without_by, changed_by, EachOf}
 use Rattle.count_rule.proofs.Sums.{when_eq, when_ne}
 
 pub times_by-cons : {A : Type 0} (key : A → ℕ) (g : ℕ) (x : A) (xs : List A) → times_by key g (x ∷ xs) ≡ one_at g (key x) + times_by key g xs
@@ -15,12 +15,12 @@ unfolding times_by without_by
 times_by-without key g f [] b = absurd (omega arith)
 times_by-without key g f (x ∷ xs) b =
     elim (cases_eq (key x) f) [
-      inl at ↦ rw (when_eq (key x) f at) (let k : one_at g (key x) ≡ one_at g f = ap (one_at g) at in omega arith)
-    | inr off ↦
-        let e = when_ne (key x) f off in
-        let inside : 0 < times_by key f xs = let n : 0 < 0 + times_by key f xs = rw e at b in omega arith in
-        let rest = times_by-without key g f xs inside in
-        rw e (rw times_by-cons (omega arith))
+      | inl at ↦ rw (when_eq (key x) f at) (let k : one_at g (key x) ≡ one_at g f = ap (one_at g) at in omega arith)
+      | inr off ↦
+          let e = when_ne (key x) f off in
+          let inside : 0 < times_by key f xs = let n : 0 < 0 + times_by key f xs = rw e at b in omega arith in
+          let rest = times_by-without key g f xs inside in
+          rw e (rw times_by-cons (omega arith))
     ]
 
 -- a change that keeps the frame
@@ -30,8 +30,8 @@ unfolding times_by changed_by
 times_by-changed key g f change [] e = refl
 times_by-changed key g f change (x ∷ xs) e =
     elim (cases_eq (key x) f) [
-      inl at ↦ rw (when_eq (key x) f at) (rw times_by-cons (rw (e x)))
-    | inr off ↦ rw (when_ne (key x) f off) (rw times_by-cons (rw (times_by-changed key g f change xs e)))
+      | inl at ↦ rw (when_eq (key x) f at) (rw times_by-cons (rw (e x)))
+      | inr off ↦ rw (when_ne (key x) f off) (rw times_by-cons (rw (times_by-changed key g f change xs e)))
     ]
 
 pub EachOf-map : {A : Type 0} (P Q : A → Type 0) (xs : List A) → ((x : A) → P x → Q x) → EachOf P xs → EachOf Q xs
@@ -45,8 +45,8 @@ unfolding EachOf changed_by
 EachOf-changed key f change P [] k e = tt
 EachOf-changed key f change P (x ∷ xs) k e =
     elim (cases_eq (key x) f) [
-      inl at ↦ rw (when_eq (key x) f at) (k x e.0, e.1)
-    | inr off ↦ rw (when_ne (key x) f off) (e.0, EachOf-changed key f change P xs k e.1)
+      | inl at ↦ rw (when_eq (key x) f at) (k x e.0, e.1)
+      | inr off ↦ rw (when_ne (key x) f off) (e.0, EachOf-changed key f change P xs k e.1)
     ]
 
 pub EachOf-both : {A : Type 0} (P Q : A → Type 0) (xs : List A) → EachOf P xs → EachOf Q xs → EachOf (λ x. P x × Q x) xs
@@ -59,8 +59,8 @@ unfolding first_by times_by
 first_by-counts key g [] e k = absurd (cc)
 first_by-counts key g (x ∷ xs) e k =
     elim (cases_eq (key x) g) [
-      inl at ↦ let one : one_at g (key x) ≡ 1 = rw (when_eq (key x) g at) in omega arith
-    | inr off ↦ let rest = first_by-counts key g xs e (rw (when_ne (key x) g off) at k) in omega arith
+      | inl at ↦ let one : one_at g (key x) ≡ 1 = rw (when_eq (key x) g at) in omega arith
+      | inr off ↦ let rest = first_by-counts key g xs e (rw (when_ne (key x) g off) at k) in omega arith
     ]
 
 first_by-further : {A : Type 0} (key : A → ℕ) (x : A) (xs : List A) → ((g : ℕ) → times_by key g (x ∷ xs) ≤ 1) → (e : A) →
@@ -68,12 +68,12 @@ first_by-further : {A : Type 0} (key : A → ℕ) (x : A) (xs : List A) → ((g 
 unfolding first_by times_by
 first_by-further key x xs few e k =
     elim (cases_eq (key x) (key e)) [
-      inl at ↦
-        let some = first_by-counts key (key e) xs e k in
-        let one : one_at (key e) (key x) ≡ 1 = rw (when_eq (key x) (key e) at) in
-        let most = few (key e) in
-        absurd (omega arith)
-    | inr off ↦ rw (when_ne (key x) (key e) off) k
+      | inl at ↦
+          let some = first_by-counts key (key e) xs e k in
+          let one : one_at (key e) (key x) ≡ 1 = rw (when_eq (key x) (key e) at) in
+          let most = few (key e) in
+          absurd (omega arith)
+      | inr off ↦ rw (when_ne (key x) (key e) off) k
     ]
 
 -- where no number stands twice, each element is the first one of its number

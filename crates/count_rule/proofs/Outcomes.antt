@@ -1,11 +1,11 @@
 -- What a step of today leaves, from its effect.
-use Rattle.std.proofs.Common.{◌≡◌, ◌≢◌, ℕ, zero, suc, ◌+◌, ◌%◌, ◌^◌, ◌<◌, ◌≤◌, ◌==◌, Bool, true, false, if◌then◌else◌, List, [], ◌∷◌, length, Option, Some, None, IsTrue, refl, sym, ◌∙◌, ap, subst, arith, ◌⊎◌, inl, inr}
+use Rattle.std.proofs.Common.{◌≡◌, ◌≢◌, ℕ, suc, ◌+◌, ◌^◌, ◌<◌, ◌≤◌, ◌==◌, Bool, true, false, if◌then◌else◌, ◌∷◌, length, Option, Some, IsTrue, refl, sym, ◌∙◌, ap, subst, arith, inl, inr}
 use Rattle.std.proofs.lemmas.Bool.Decides.{nat_tests}
 use Rattle.xp_words.specs.declared.refs.RefWord.{RefWord}
-use Rattle.xp_words.specs.declared.refs.RefWord.TheVariants.{Free, Owned, Dying}
-use Rattle.xp_words.specs.RefWords.{ref_read, bit}
+use Rattle.xp_words.specs.declared.refs.RefWord.TheVariants.{Owned, Dying}
+use Rattle.xp_words.specs.RefWords.{ref_read}
 use Rattle.xp_words.specs.Machine.{Machine}
-use Rattle.xp_words.specs.Places.{sizes_of, Place, Clock, Pages, Life, Vcpu, Refs, Kind, M2p, Cell, Map, Priv, is_place}
+use Rattle.xp_words.specs.Places.{sizes_of, Place, Vcpu, Refs, M2p, is_place}
 use Rattle.xp_board.specs.declared.holdings.Holdings.{Holdings}
 use Rattle.xp_board.specs.declared.holdings.Ending.{Ending}
 use Rattle.xp_board.specs.declared.holdings.OwnerFound.TheVariants as owners
@@ -19,14 +19,13 @@ use Rattle.xp_board.specs.declared.step.StepKind.TheVariants as steps
 use Rattle.xp_board.specs.Acts.{left_by}
 use Rattle.xp_board.specs.Lists.{one_at}
 use Rattle.xp_board.specs.Readings.{ref_count, allocated_mark, owner_of}
-use Rattle.xp_board.specs.Hands.{refs_to, without_ref, work_on, hand, typed_hand}
-use Rattle.xp_board.specs.RefSteps.{is_closing_on, SparesClosing, MayLower, one_down, owner_number}
-use Rattle.xp_board.specs.Recorded.{hands}
+use Rattle.xp_board.specs.Hands.{refs_to, without_ref, work_on, hand}
+use Rattle.xp_board.specs.RefSteps.{is_closing_on, SparesClosing, owner_number}
 use Rattle.xp_board.specs.Spelling.{IsSpelling, is_ref_in}
 use Rattle.xp_board.specs.Legal.{LegalMove, LegalNow, is_proved, WritesSpelling}
 use Rattle.xp_board.specs.Sound.{Spelled, Sound}
 use Rattle.xp_board.specs.Runs.{place_of, Stepped}
-use Rattle.xp_board.proofs.Effects.{SameParts, Looked, Raised, Lowered, Mapped, Effect, looked, raised, lowered, mapped, effect_of, same_or_other}
+use Rattle.xp_board.proofs.Effects.{SameParts, Looked, Raised, Lowered, Mapped, looked, raised, lowered, mapped, effect_of, same_or_other}
 use Rattle.count_rule.proofs.Sums.{hands-part, when_eq, when_ne}
 use Rattle.count_rule.proofs.Lists.{times_by-without}
 use Rattle.count_rule.proofs.Moves.{is_written, Alike, Turned}
@@ -85,7 +84,6 @@ pub record Outcome (n : Machine) (s : ℕ) (m m2 : Place → ℕ) (h h2 : ℕ �
 
 module _ (n : Machine) (s : ℕ) (x : Step) (m m2 : Place → ℕ) (h h2 : ℕ → Holdings) (b : Holdings) (seat : s < (sizes_of n).vcpus) (sound : Sound n m h)
     (others : (t : ℕ) → t ≢ s → h2 t ≡ h t) (marked : SameParts (h s) b) where
-
   -- the parts that stay, where the hand is one of this form
   kept_but : (c : Holdings) → c.works ≡ b.works → c.locks ≡ b.locks → c.claimed ≡ b.claimed → c.typed ≡ b.typed → c.raised ≡ b.raised → c.credits ≡ b.credits → c.cache ≡ b.cache →
       c.walk ≡ b.walk → c.cold ≡ b.cold → c.looking ≡ b.looking → Kept b c
@@ -108,21 +106,21 @@ module _ (n : Machine) (s : ℕ) (x : Step) (m m2 : Place → ℕ) (h h2 : ℕ �
   looked_outcome p l =
       let k = learnt s p (m p) (m p) b in
       let parts : Learnt b (h2 s) = subst (Learnt b) (sym l.hand) (record {
-            kept = record {
-              works = k.kept.works;
-              locks = k.kept.locks;
-              claimed = k.kept.claimed;
-              typed = k.kept.typed;
-              raised = k.kept.raised;
-              credits = k.kept.credits;
-              cache = k.kept.cache;
-              walk = k.kept.walk;
-              cold = k.kept.cold;
-              looking = k.kept.looking;
-            };
-            refs = k.refs;
-            ending = k.ending;
-          })
+        kept = record {
+          works = k.kept.works;
+          locks = k.kept.locks;
+          claimed = k.kept.claimed;
+          typed = k.kept.typed;
+          raised = k.kept.raised;
+          credits = k.kept.credits;
+          cache = k.kept.cache;
+          walk = k.kept.walk;
+          cold = k.kept.cold;
+          looking = k.kept.looking;
+        };
+        refs = k.refs;
+        ending = k.ending;
+      })
       in
       record {
         like = alike_by n s m m2 h h2 b seat (λ q e. l.words q) others marked parts.kept;
@@ -138,7 +136,7 @@ module _ (n : Machine) (s : ℕ) (x : Step) (m m2 : Place → ℕ) (h h2 : ℕ �
       record {
         like = alike_by n s m m2 h h2 b seat (λ q k. e.others q (λ at. let y : is_written (M2p f) ≡ false = subst (λ r. is_written r ≡ false) at k in cc)) others marked
             (kept_but (h2 s) (ap (λ u. u.works) e.hand) (ap (λ u. u.locks) e.hand) (ap (λ u. u.claimed) e.hand) (ap (λ u. u.typed) e.hand) (ap (λ u. u.raised) e.hand)
-              (ap (λ u. u.credits) e.hand) (ap (λ u. u.cache) e.hand) (ap (λ u. u.walk) e.hand) (ap (λ u. u.cold) e.hand) (ap (λ u. u.looking) e.hand));
+            (ap (λ u. u.credits) e.hand) (ap (λ u. u.cache) e.hand) (ap (λ u. u.walk) e.hand) (ap (λ u. u.cold) e.hand) (ap (λ u. u.looking) e.hand));
         turn = turned_same s m m2 h h2 (λ g. e.others (Refs g) (λ at. cc)) (ap (λ u. u.refs) e.hand ∙ marked.refs) (ap (λ u. u.ending) e.hand ∙ marked.ending);
         spelled = spelled_by n m m2 (M2p f) e.others small small sound.spelled;
       }
@@ -178,7 +176,7 @@ module _ (n : Machine) (s : ℕ) (x : Step) (m m2 : Place → ℕ) (h h2 : ℕ �
       record {
         like = alike_by n s m m2 h h2 b seat (unwritten f legal e.place e.real e.left e.others) others marked
             (kept_but (h2 s) (ap (λ u. u.works) e.hand) (ap (λ u. u.locks) e.hand) (ap (λ u. u.claimed) e.hand) (ap (λ u. u.typed) e.hand) (ap (λ u. u.raised) e.hand)
-              (ap (λ u. u.credits) e.hand) (ap (λ u. u.cache) e.hand) (ap (λ u. u.walk) e.hand) (ap (λ u. u.cold) e.hand) (ap (λ u. u.looking) e.hand));
+            (ap (λ u. u.credits) e.hand) (ap (λ u. u.cache) e.hand) (ap (λ u. u.walk) e.hand) (ap (λ u. u.cold) e.hand) (ap (λ u. u.looking) e.hand));
         turn = turned_up s f m m2 h h2 run (refs_elsewhere f legal e.place e.real e.left e.others) e.owner e.count e.allocated (raised_ref f) e.was e.is refl
             (ap (λ u. u.refs) e.hand ∙ ap (λ xs. raised_ref f ∷ xs) marked.refs) (ap (λ u. u.ending) e.hand ∙ marked.ending);
         spelled = spelled_as f legal e.place e.real e.left e.others (Owned e.owner e.allocated (e.count + 1)) e.is (fits_owned n e.owner (e.count + 1) e.allocated fits.0 (let y = e.below in omega arith));
@@ -251,8 +249,8 @@ pub outcome : (n : Machine) (s : ℕ) (x : Step) (m m2 : Place → ℕ) (h h2 : 
 outcome n s x m m2 h h2 seat legal stepped sound =
     let e = effect_of n s x m m2 h h2 legal stepped in
     elim e.0 [
-      looked p l ↦ looked_outcome n s x m m2 h h2 _ seat sound stepped.others e.1 p l
-    | raised f r ↦ raised_outcome n s x m m2 h h2 _ seat sound stepped.others e.1 legal f r
-    | lowered f l ↦ lowered_outcome n s x m m2 h h2 _ seat sound stepped.others e.1 f legal l
-    | mapped f k ↦ mapped_outcome n s x m m2 h h2 _ seat sound stepped.others e.1 f k
+      | looked p l ↦ looked_outcome n s x m m2 h h2 _ seat sound stepped.others e.1 p l
+      | raised f r ↦ raised_outcome n s x m m2 h h2 _ seat sound stepped.others e.1 legal f r
+      | lowered f l ↦ lowered_outcome n s x m m2 h h2 _ seat sound stepped.others e.1 f legal l
+      | mapped f k ↦ mapped_outcome n s x m m2 h h2 _ seat sound stepped.others e.1 f k
     ]

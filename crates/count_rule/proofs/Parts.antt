@@ -1,28 +1,27 @@
 -- Each part of a sound machine after such a step.
-use Rattle.std.proofs.Common.{◌≡◌, ◌≢◌, ℕ, ◌+◌, ◌/◌, ◌<◌, ◌≤◌, Bool, true, false, List, [], ◌∷◌, Option, Some, None, refl, sym, ◌∙◌, ap, subst, arith, IsTrue, ◌⊎◌, inl, inr}
+use Rattle.std.proofs.Common.{◌≡◌, ◌≢◌, ℕ, ◌+◌, ◌/◌, ◌<◌, ◌≤◌, Bool, true, false, Option, Some, None, refl, sym, ◌∙◌, ap, subst, arith, IsTrue, inl, inr}
 use Rattle.std.proofs.lemmas.Bool.{cases_eq}
 use Rattle.xp_words.specs.declared.kind.PageType.{PageType}
 use Rattle.xp_words.specs.KindWords.{kind_fields}
 use Rattle.xp_words.specs.RefWords.{bit}
 use Rattle.xp_words.specs.Machine.{Machine}
-use Rattle.xp_words.specs.Places.{sizes_of, Place, Clock, Pages, Life, Vcpu, Refs, Kind, M2p, Cell, Map, Priv}
+use Rattle.xp_words.specs.Places.{sizes_of, Place, Clock, Pages, Vcpu, Refs, Kind, Cell, Map}
 use Rattle.xp_board.specs.declared.holdings.Holdings.{Holdings}
 use Rattle.xp_board.specs.declared.holdings.Work.{Work}
-use Rattle.xp_board.specs.Lists.{times, times_by, first_by, EachOf}
-use Rattle.xp_board.specs.Readings.{kind_at, ref_count, allocated_mark, type_count, owner_of, is_free, free_stamp, kind_stamp, is_dying, is_number, is_closing, is_locked}
+use Rattle.xp_board.specs.Lists.{times, EachOf}
+use Rattle.xp_board.specs.Readings.{kind_at, ref_count, allocated_mark, type_count, is_number, is_closing, is_locked}
 use Rattle.xp_board.specs.Hands.{refs_to, typed_to, locks_on, works_on, endings_of, claims_of, work_on, hand, typed_hand, IsEmptyHand}
-use Rattle.xp_board.specs.RefSteps.{is_closing_on}
 use Rattle.xp_words.specs.declared.entry.Demand.TheVariants.{Typed}
 use Rattle.xp_words.specs.Entries.{demand_at}
 use Rattle.xp_board.specs.ContextSteps.{context_type}
 use Rattle.xp_board.specs.Sums.{sum_below}
-use Rattle.xp_board.specs.Recorded.{recorded_in, work_of, held_of, names, names_typed, entries, contexts, marks, hands, HasType, TypesAgree, is_page_of, CountsAgree}
-use Rattle.xp_board.specs.Sound.{Spelled, is_busy, HeldAlone, WorkAgrees, Stamped, Idle, is_hinted, FreeMap, Sound}
+use Rattle.xp_board.specs.Recorded.{recorded_in, work_of, held_of, names, names_typed, entries, contexts, marks, hands, HasType, is_page_of, CountsAgree}
+use Rattle.xp_board.specs.Sound.{is_busy, HeldAlone, WorkAgrees, Stamped, Idle, FreeMap}
 use Rattle.count_rule.proofs.Sums.{sum_below-same, hands-one, hands-same, hands-part}
 use Rattle.count_rule.proofs.Lists.{EachOf-map, EachOf-both, EachOf-first}
-use Rattle.count_rule.proofs.Twins.{EachTwo, EachTwo-times, EachTwo-each, EachTwo-none, SameWork, SameLock, SameClaim, recorded_in-same}
+use Rattle.count_rule.proofs.Twins.{EachTwo-times, EachTwo-each, EachTwo-none, SameWork, SameLock, SameClaim, recorded_in-same}
 use Rattle.count_rule.proofs.Entries.{work_of-same, entries-same, contexts-same}
-use Rattle.count_rule.proofs.Moves.{is_written, Alike, Turned}
+use Rattle.count_rule.proofs.Moves.{Alike, Turned}
 
 HasType-same : (m m2 : Place → ℕ) (g : ℕ) (o : Option PageType) → m2 (Kind g) ≡ m (Kind g) → HasType m g o → HasType m2 g o
 HasType-same m m2 g (Some t) e k = rw e k
@@ -54,8 +53,8 @@ module _ (n : Machine) (s : ℕ) (m m2 : Place → ℕ) (h h2 : ℕ → Holdings
   recorded_same : (t f : ℕ) → recorded_in (h2 t).works f ≡ recorded_in (h t).works f
   recorded_same t f =
       elim (cases_eq t s) [
-        inl at ↦ rw at (recorded_in-same f _ _ like.works)
-      | inr off ↦ rw (like.others t off)
+        | inl at ↦ rw at (recorded_in-same f _ _ like.works)
+        | inr off ↦ rw (like.others t off)
       ]
 
   typed_same : (g : ℕ) → typed_hand g (h2 s) ≡ typed_hand g (h s)
@@ -70,8 +69,8 @@ module _ (n : Machine) (s : ℕ) (m m2 : Place → ℕ) (h h2 : ℕ → Holdings
   each_seat : (P : ℕ → Holdings → Type 0) → P s (h2 s) → ((t : ℕ) → t < (sizes_of n).vcpus → P t (h t)) → (t : ℕ) → t < (sizes_of n).vcpus → P t (h2 t)
   each_seat P mine old t b =
       elim (cases_eq t s) [
-        inl at ↦ subst (λ x. P x (h2 x)) (sym at) mine
-      | inr off ↦ subst (P t) (sym (like.others t off)) (old t b)
+        | inl at ↦ subst (λ x. P x (h2 x)) (sym at) mine
+        | inr off ↦ subst (P t) (sym (like.others t off)) (old t b)
       ]
 
   -- ---- counts
@@ -123,12 +122,12 @@ module _ (n : Machine) (s : ℕ) (m m2 : Place → ℕ) (h h2 : ℕ → Holdings
                 (λ t b. EachOf-map (λ e. HasType m e.frame (Some e.kind)) _ _ (λ e k. HasType-same m m2 e.frame (Some e.kind) (kind_same e.frame) k) (old.kinds.locks t b));
           };
           pages = λ d b.
-            let w : m2 (Pages d) ≡ m (Pages d) = like.words (Pages d) refl in
-            let was = old.pages d b in
-            let f : sum_below (sizes_of n).frames (λ f. is_page_of d (m2 (Refs f))) ≡ sum_below (sizes_of n).frames (λ f. is_page_of d (m (Refs f)))
-                = sum_below-same _ _ _ (λ f l. ap (λ o. bit (is_number o d)) (turn.owners f)) in
-            let c = hands-same (λ u. times d u.credits) (sizes_of n) h h2 s like.seat like.others (ap (times d) like.credits) in
-            omega arith;
+              let w : m2 (Pages d) ≡ m (Pages d) = like.words (Pages d) refl in
+              let was = old.pages d b in
+              let f : sum_below (sizes_of n).frames (λ f. is_page_of d (m2 (Refs f))) ≡ sum_below (sizes_of n).frames (λ f. is_page_of d (m (Refs f)))
+              = sum_below-same _ _ _ (λ f l. ap (λ o. bit (is_number o d)) (turn.owners f)) in
+              let c = hands-same (λ u. times d u.credits) (sizes_of n) h h2 s like.seat like.others (ap (times d) like.credits) in
+              omega arith;
         }
 
   -- ---- frames in one hand
@@ -136,17 +135,17 @@ module _ (n : Machine) (s : ℕ) (m m2 : Place → ℕ) (h h2 : ℕ → Holdings
   alone_after turn old =
       record {
         works = λ f.
-          hands-same (λ u. works_on f u.works) (sizes_of n) h h2 s like.seat like.others (works_same f)
-          ∙ (old.works f ∙ ap (λ w. bit (is_busy (kind_fields w))) (sym (kind_same f)));
+            hands-same (λ u. works_on f u.works) (sizes_of n) h h2 s like.seat like.others (works_same f)
+            ∙ (old.works f ∙ ap (λ w. bit (is_busy (kind_fields w))) (sym (kind_same f)));
         locks = λ f.
-          hands-same (λ u. locks_on f u.locks) (sizes_of n) h h2 s like.seat like.others (locks_same f)
-          ∙ (old.locks f ∙ ap (λ w. bit (is_locked (kind_fields w))) (sym (kind_same f)));
+            hands-same (λ u. locks_on f u.locks) (sizes_of n) h h2 s like.seat like.others (locks_same f)
+            ∙ (old.locks f ∙ ap (λ w. bit (is_locked (kind_fields w))) (sym (kind_same f)));
         dying = λ f.
-          let o = hands-one (λ u. endings_of f u.ending + claims_of f u.claimed) (sizes_of n) h h2 s like.seat like.others in
-          let c = claims_same f in
-          let d = turn.dying f in
-          let was = old.dying f in
-          omega arith;
+            let o = hands-one (λ u. endings_of f u.ending + claims_of f u.claimed) (sizes_of n) h h2 s like.seat like.others in
+            let c = claims_same f in
+            let d = turn.dying f in
+            let was = old.dying f in
+            omega arith;
       }
 
   -- ---- stamps
@@ -164,8 +163,8 @@ module _ (n : Machine) (s : ℕ) (m m2 : Place → ℕ) (h h2 : ℕ → Holdings
   map_after turn old =
       record {
         bits = λ f b.
-          let c = hands-same (λ u. times f u.raised) (sizes_of n) h h2 s like.seat like.others (ap (times f) like.raised) in
-          rw (like.words (Map (f / 64)) refl, turn.free f, c) (old.bits f b);
+            let c = hands-same (λ u. times f u.raised) (sizes_of n) h h2 s like.seat like.others (ap (times f) like.raised) in
+            rw (like.words (Map (f / 64)) refl, turn.free f, c) (old.bits f b);
       }
 
   -- ---- works
@@ -181,8 +180,8 @@ module _ (n : Machine) (s : ℕ) (m m2 : Place → ℕ) (h h2 : ℕ → Holdings
       record {
         marked = λ u. r.recorded ∙ k.0.marked (rw r.word at u);
         closing = λ c.
-          let closing : IsTrue (is_closing (kind_fields x.word)) = rw r.word at c in
-          rw r.frame (turn.spares x.frame (rw k.1 closing) (k.0.closing closing));
+            let closing : IsTrue (is_closing (kind_fields x.word)) = rw r.word at c in
+            rw r.frame (turn.spares x.frame (rw k.1 closing) (k.0.closing closing));
       }
 
   pub works_after : Turned s m m2 h h2 → HeldAlone n m h → ((t : ℕ) → t < (sizes_of n).vcpus → EachOf (WorkAgrees (h t)) (h t).works) →
@@ -190,7 +189,7 @@ module _ (n : Machine) (s : ℕ) (m m2 : Place → ℕ) (h h2 : ℕ → Holdings
   works_after turn alone old =
       each_seat (λ t u. EachOf (WorkAgrees u) u.works)
       (EachTwo-each SameWork (λ e. WorkAgrees (h s) e × (work_on e.frame (h s).works ≡ Some e)) (WorkAgrees (h2 s)) _ _ (work_after turn) like.works
-        (EachOf-both (WorkAgrees (h s)) _ _ (old s like.seat) (EachOf-first (λ e. e.frame) (h s).works (few_works alone))))
+      (EachOf-both (WorkAgrees (h s)) _ _ (old s like.seat) (EachOf-first (λ e. e.frame) (h s).works (few_works alone))))
       old
 
   -- ---- vCPUs that do not run
@@ -234,6 +233,6 @@ module _ (n : Machine) (s : ℕ) (m m2 : Place → ℕ) (h h2 : ℕ → Holdings
   pub idle_after : Turned s m m2 h h2 → ((v : ℕ) → v < (sizes_of n).vcpus → Idle n m h v) → (v : ℕ) → v < (sizes_of n).vcpus → Idle n m2 h2 v
   idle_after turn old v b =
       elim (cases_eq v s) [
-        inl at ↦ subst (Idle n m2 h2) (sym at) (idle_mine turn (old s like.seat))
-      | inr off ↦ idle_other v off (old v b)
+        | inl at ↦ subst (Idle n m2 h2) (sym at) (idle_mine turn (old s like.seat))
+        | inr off ↦ idle_other v off (old v b)
       ]

@@ -1,5 +1,5 @@
 -- Sums, and tests of numbers.
-use Rattle.std.proofs.Common.{◌≡◌, ◌≢◌, ℕ, zero, suc, ◌+◌, ◌<◌, ◌≤◌, ◌==◌, Bool, true, false, refl, sym, ap, arith, if◌then◌else◌, inl, inr}
+use Rattle.std.proofs.Common.{◌≡◌, ◌≢◌, ℕ, zero, suc, ◌+◌, ◌<◌, ◌≤◌, ◌==◌, true, false, refl, sym, ap, arith, inl, inr}
 use Rattle.std.proofs.lemmas.Bool.{cases_eq}
 use Rattle.std.proofs.lemmas.Bool.Decides.{nat_tests}
 use Rattle.xp_words.specs.Places.{Sizes}
@@ -34,15 +34,15 @@ unfolding sum_below
 sum_below-one zero p q j b e = absurd (omega arith)
 sum_below-one (suc n) p q j b e =
     elim (cases_eq j n) [
-      inl at ↦
-        let same = sum_below-same n p q (λ k l. e k (λ i. absurd (omega arith))) in
-        let pj = ap p at in
-        let qj = ap q at in
-        omega arith
-    | inr off ↦
-        let here : p n ≡ q n = e n (λ i. off (sym i)) in
-        let rest = sum_below-one n p q j (omega arith) e in
-        omega arith
+      | inl at ↦
+          let same = sum_below-same n p q (λ k l. e k (λ i. absurd (omega arith))) in
+          let pj = ap p at in
+          let qj = ap q at in
+          omega arith
+      | inr off ↦
+          let here : p n ≡ q n = e n (λ i. off (sym i)) in
+          let rest = sum_below-one n p q j (omega arith) e in
+          omega arith
     ]
 
 -- each part is at most the sum
@@ -51,8 +51,8 @@ unfolding sum_below
 sum_below-part zero p j b = absurd (omega arith)
 sum_below-part (suc n) p j b =
     elim (cases_eq j n) [
-      inl at ↦ let e = ap p at in omega arith
-    | inr off ↦ let rest = sum_below-part n p j (let k : j ≢ n = off in omega arith) in omega arith
+      | inl at ↦ let e = ap p at in omega arith
+      | inr off ↦ let rest = sum_below-part n p j (let k : j ≢ n = off in omega arith) in omega arith
     ]
 
 -- ---- the hands of all seats

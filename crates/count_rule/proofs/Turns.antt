@@ -1,24 +1,23 @@
 -- What each step of today moves.
-use Rattle.std.proofs.Common.{◌≡◌, ◌≢◌, ℕ, zero, suc, ◌+◌, ◌%◌, ◌^◌, ◌<◌, ◌≤◌, ◌==◌, Bool, true, false, if◌then◌else◌, List, [], ◌∷◌, Option, Some, None, IsTrue, refl, sym, ◌∙◌, ap, subst, arith, ◌⊎◌, inl, inr}
+use Rattle.std.proofs.Common.{◌≡◌, ◌≢◌, ℕ, suc, ◌+◌, ◌<◌, Bool, false, ◌∷◌, Some, refl, sym, ◌∙◌, ap, subst, arith, inl, inr}
 use Rattle.std.proofs.lemmas.Bool.{cases_eq}
-use Rattle.xp_words.specs.declared.refs.RefWord.TheVariants.{Free, Owned, Dying}
+use Rattle.xp_words.specs.declared.refs.RefWord.TheVariants.{Owned, Dying}
 use Rattle.xp_words.specs.RefWords.{ref_read, bit}
 use Rattle.xp_words.specs.Machine.{Machine}
-use Rattle.xp_words.specs.Places.{sizes_of, Place, Clock, Pages, Life, Vcpu, Refs, Kind, M2p, Cell, Map, Priv}
+use Rattle.xp_words.specs.Places.{sizes_of, Place, Vcpu, Refs}
 use Rattle.xp_board.specs.declared.holdings.Holdings.{Holdings}
 use Rattle.xp_board.specs.declared.holdings.Reference.{Reference}
 use Rattle.xp_board.specs.declared.holdings.Ending.{Ending}
-use Rattle.xp_board.specs.declared.step.Step.{Step}
 use Rattle.xp_board.specs.Lists.{one_at}
-use Rattle.xp_board.specs.Readings.{ref_count, allocated_mark, owner_of, is_free, free_stamp, is_dying}
-use Rattle.xp_board.specs.Hands.{refs_to, without_ref, endings_of, work_on}
-use Rattle.xp_board.specs.RefSteps.{is_closing_on, SparesClosing}
+use Rattle.xp_board.specs.Readings.{owner_of, is_free, free_stamp, is_dying}
+use Rattle.xp_board.specs.Hands.{refs_to, endings_of}
+use Rattle.xp_board.specs.RefSteps.{SparesClosing}
 use Rattle.xp_board.proofs.Effects.{SameParts}
-use Rattle.count_rule.proofs.Sums.{one_at-same, one_at-other, when_eq, when_ne}
-use Rattle.count_rule.proofs.Lists.{times_by-cons, times_by-without}
+use Rattle.count_rule.proofs.Sums.{one_at-same, one_at-other}
+use Rattle.count_rule.proofs.Lists.{times_by-cons}
 use Rattle.count_rule.proofs.Moves.{is_written, Alike, Turned}
-use Rattle.count_rule.proofs.Learning.{Kept, Learnt}
-use Rattle.count_rule.proofs.Words.{SaysOwned, owned_says, SaysDying, dying_says, OneLess, more, last}
+use Rattle.count_rule.proofs.Learning.{Kept}
+use Rattle.count_rule.proofs.Words.{owned_says, dying_says}
 
 -- the hand after the mark is b
 pub alike_by : (n : Machine) (s : ℕ) (m m2 : Place → ℕ) (h h2 : ℕ → Holdings) (b : Holdings) → s < (sizes_of n).vcpus →

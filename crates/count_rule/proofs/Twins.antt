@@ -1,13 +1,12 @@
 -- Two lists whose elements agree one by one.
-use Rattle.std.proofs.Common.{◌≡◌, ◌≢◌, ℕ, zero, suc, ◌+◌, ◌<◌, ◌≤◌, ◌==◌, Bool, true, false, List, [], ◌∷◌, Option, Some, None, refl, sym, ◌∙◌, ap, subst, arith, if◌then◌else◌, ◌⊎◌, inl, inr}
+use Rattle.std.proofs.Common.{◌≡◌, ℕ, List, [], ◌∷◌, Some, refl, sym, ◌∙◌, ap, inl, inr}
 use Rattle.std.proofs.lemmas.Bool.{cases_eq}
 use Rattle.xp_board.specs.declared.holdings.Work.{Work}
 use Rattle.xp_board.specs.declared.holdings.Lock.{Lock}
 use Rattle.xp_board.specs.declared.holdings.Claimed.{Claimed}
-use Rattle.xp_board.specs.Lists.{one_at, times_by, first_by, changed_by, EachOf}
+use Rattle.xp_board.specs.Lists.{times_by, first_by, changed_by, EachOf}
 use Rattle.xp_board.specs.Recorded.{recorded_in}
 use Rattle.count_rule.proofs.Sums.{when_eq, when_ne}
-use Rattle.count_rule.proofs.Lists.{times_by-cons}
 
 unfoldable pub EachTwo : {A : Type 0} → (A → A → Type 0) → List A → List A → Type 0
 EachTwo R [] [] = Unit {0}
@@ -26,8 +25,8 @@ unfolding EachTwo changed_by
 EachTwo-changed R key f change [] same new = tt
 EachTwo-changed R key f change (x ∷ xs) same new =
     elim (cases_eq (key x) f) [
-      inl at ↦ rw (when_eq (key x) f at) (new x, EachTwo-same R xs same)
-    | inr off ↦ rw (when_ne (key x) f off) (same x, EachTwo-changed R key f change xs same new)
+      | inl at ↦ rw (when_eq (key x) f at) (new x, EachTwo-same R xs same)
+      | inr off ↦ rw (when_ne (key x) f off) (same x, EachTwo-changed R key f change xs same new)
     ]
 
 pub EachTwo-times : {A : Type 0} (R : A → A → Type 0) (key : A → ℕ) (g : ℕ) (xs ys : List A) → ((x y : A) → R x y → key y ≡ key x) → EachTwo R xs ys →
@@ -70,8 +69,8 @@ recorded_in-same f [] [] e = refl
 recorded_in-same f (x ∷ xs) (y ∷ ys) e =
     let here = e.0.frame in
     elim (cases_eq x.frame f) [
-      inl at ↦ rw (when_eq x.frame f at, when_eq y.frame f (here ∙ at)) (ap Some e.0.recorded)
-    | inr off ↦ rw (when_ne x.frame f off, when_ne y.frame f (λ k. off (sym here ∙ k))) (recorded_in-same f xs ys e.1)
+      | inl at ↦ rw (when_eq x.frame f at, when_eq y.frame f (here ∙ at)) (ap Some e.0.recorded)
+      | inr off ↦ rw (when_ne x.frame f off, when_ne y.frame f (λ k. off (sym here ∙ k))) (recorded_in-same f xs ys e.1)
     ]
 recorded_in-same f [] (y ∷ ys) e = absurd e
 recorded_in-same f (x ∷ xs) [] e = absurd e
