@@ -69,10 +69,14 @@ left_small n f w (Add v) b k = omega arith
 left_small n f w (Max v) b k = omega arith
 
 -- one word alone changes
-spelled_by : (n : Machine) (m m2 : Place → ℕ) (p : Place) → ((q : Place) → q ≢ p → m2 q ≡ m q) → m2 p < 2 ^ 64 → IsSpelling n p (m2 p) → Spelled n m → Spelled n m2
-spelled_by n m m2 p others small spelled old =
+spelled_by : (n : Machine) (m m2 : Place → ℕ) (p : Place) → IsTrue (is_place (sizes_of n) p) → ((q : Place) → q ≢ p → m2 q ≡ m q) → m2 p < 2 ^ 64 → IsSpelling n p (m2 p) → Spelled n m → Spelled n m2
+spelled_by n m m2 p real others small spelled old =
     record {
       small = λ q. elim (same_or_other q p) [ inl at ↦ rw at small | inr off ↦ rw (others q off) (old.small q) ];
+      outside = λ q k. elim (same_or_other q p) [
+          | inl at ↦ let there : is_place (sizes_of n) p ≡ false = rw at at k in absurd cc
+          | inr off ↦ rw (others q off) (old.outside q k)
+        ];
       spelled = λ q b. elim (same_or_other q p) [ inl at ↦ rw at spelled | inr off ↦ rw (others q off) (old.spelled q b) ];
     }
 
@@ -125,7 +129,11 @@ module _ (n : Machine) (s : ℕ) (x : Step) (m m2 : Place → ℕ) (h h2 : ℕ �
       record {
         like = alike_by n s m m2 h h2 b seat (λ q e. l.words q) others marked parts.kept;
         turn = turned_same s m m2 h h2 (λ g. l.words (Refs g)) (parts.refs ∙ marked.refs) (parts.ending ∙ marked.ending);
-        spelled = record { small = λ q. rw (l.words q) (sound.spelled.small q); spelled = λ q r. rw (l.words q) (sound.spelled.spelled q r) };
+        spelled = record {
+          small = λ q. rw (l.words q) (sound.spelled.small q);
+          outside = λ q k. rw (l.words q) (sound.spelled.outside q k);
+          spelled = λ q r. rw (l.words q) (sound.spelled.spelled q r);
+        };
       }
 
   -- ---- a machine-to-physical word
@@ -138,7 +146,7 @@ module _ (n : Machine) (s : ℕ) (x : Step) (m m2 : Place → ℕ) (h h2 : ℕ �
             (kept_but (h2 s) (ap (λ u. u.works) e.hand) (ap (λ u. u.locks) e.hand) (ap (λ u. u.claimed) e.hand) (ap (λ u. u.typed) e.hand) (ap (λ u. u.raised) e.hand)
             (ap (λ u. u.credits) e.hand) (ap (λ u. u.cache) e.hand) (ap (λ u. u.walk) e.hand) (ap (λ u. u.cold) e.hand) (ap (λ u. u.looking) e.hand));
         turn = turned_same s m m2 h h2 (λ g. e.others (Refs g) (λ at. cc)) (ap (λ u. u.refs) e.hand ∙ marked.refs) (ap (λ u. u.ending) e.hand ∙ marked.ending);
-        spelled = spelled_by n m m2 (M2p f) e.others small small sound.spelled;
+        spelled = spelled_by n m m2 (M2p f) e.real e.others small small sound.spelled;
       }
 
   -- ---- a reference word
@@ -160,7 +168,7 @@ module _ (n : Machine) (s : ℕ) (x : Step) (m m2 : Place → ℕ) (h h2 : ℕ �
 
     spelled_as : (r : RefWord) → ref_read (m2 (Refs f)) ≡ Some r → IsTrue (is_ref_in n (Some r)) → Spelled n m2
     unfolding IsSpelling
-    spelled_as r is fits = spelled_by n m m2 (Refs f) elsewhere (read_small _ r is) (subst (λ y. IsTrue (is_ref_in n y)) (sym is) fits) sound.spelled
+    spelled_as r is fits = spelled_by n m m2 (Refs f) real elsewhere (read_small _ r is) (subst (λ y. IsTrue (is_ref_in n y)) (sym is) fits) sound.spelled
 
   -- the reference that comes into the hand
   abbrev raised_ref : ℕ → Reference
