@@ -1,5 +1,5 @@
 -- What a step of today leaves, from its effect.
-use Rattle.std.proofs.Common.{◌≡◌, ◌≢◌, ℕ, suc, ◌+◌, ◌^◌, ◌<◌, ◌≤◌, ◌==◌, Bool, true, false, if◌then◌else◌, ◌∷◌, length, Option, Some, IsTrue, refl, sym, ◌∙◌, ap, subst, arith, inl, inr}
+use Rattle.std.proofs.Common.{◌≡◌, ◌≢◌, ℕ, suc, ◌+◌, ◌^◌, ◌<◌, ◌≤◌, ◌==◌, Bool, true, false, if◌then◌else◌, List, ◌∷◌, length, Option, Some, IsTrue, refl, sym, ◌∙◌, ap, subst, arith, inl, inr}
 use Rattle.std.proofs.lemmas.Bool.Decides.{nat_tests}
 use Rattle.xp_words.specs.declared.refs.RefWord.{RefWord}
 use Rattle.xp_words.specs.declared.refs.RefWord.TheVariants.{Owned, Dying}
@@ -24,7 +24,8 @@ use Rattle.xp_board.specs.RefSteps.{is_closing_on, SparesClosing, owner_number}
 use Rattle.xp_board.specs.Spelling.{IsSpelling, is_ref_in}
 use Rattle.xp_board.specs.Legal.{LegalMove, LegalNow, is_proved, WritesSpelling}
 use Rattle.xp_board.specs.Sound.{Spelled, Sound}
-use Rattle.xp_board.specs.Runs.{place_of, Stepped}
+use Rattle.xp_board.specs.After.{noted}
+use Rattle.xp_board.specs.Runs.{Stepped}
 use Rattle.xp_board.proofs.Effects.{SameParts, Looked, Raised, Lowered, Mapped, looked, raised, lowered, mapped, effect_of, same_or_other}
 use Rattle.count_rule.proofs.Sums.{hands-part, when_eq, when_ne}
 use Rattle.count_rule.proofs.Lists.{times_by-without}
@@ -74,9 +75,9 @@ spelled_by n m m2 p real others small spelled old =
     record {
       small = λ q. elim (same_or_other q p) [ inl at ↦ rw at small | inr off ↦ rw (others q off) (old.small q) ];
       outside = λ q k. elim (same_or_other q p) [
-          | inl at ↦ let there : is_place (sizes_of n) p ≡ false = rw at at k in absurd cc
-          | inr off ↦ rw (others q off) (old.outside q k)
-        ];
+        | inl at ↦ let there : is_place (sizes_of n) p ≡ false = rw at at k in absurd cc
+        | inr off ↦ rw (others q off) (old.outside q k)
+      ];
       spelled = λ q b. elim (same_or_other q p) [ inl at ↦ rw at spelled | inr off ↦ rw (others q off) (old.spelled q b) ];
     }
 
@@ -88,21 +89,20 @@ pub record Outcome (n : Machine) (s : ℕ) (m m2 : Place → ℕ) (h h2 : ℕ �
 
 module _ (n : Machine) (s : ℕ) (x : Step) (m m2 : Place → ℕ) (h h2 : ℕ → Holdings) (b : Holdings) (seat : s < (sizes_of n).vcpus) (sound : Sound n m h)
     (others : (t : ℕ) → t ≢ s → h2 t ≡ h t) (marked : SameParts (h s) b) where
-  -- the parts that stay, where the hand is one of this form
-  kept_but : (c : Holdings) → c.works ≡ b.works → c.locks ≡ b.locks → c.claimed ≡ b.claimed → c.typed ≡ b.typed → c.raised ≡ b.raised → c.credits ≡ b.credits → c.cache ≡ b.cache →
-      c.walk ≡ b.walk → c.cold ≡ b.cold → c.looking ≡ b.looking → Kept b c
-  kept_but c w l k t r d i y o g =
+  -- where no more than the references and the endings of the hand change
+  kept_by : (w : ℕ) (refs : List Reference) (ending : List Ending) → h2 s ≡ noted x w (record b { refs = refs; ending = ending }) → Kept b (h2 s)
+  kept_by w refs ending hand =
       record {
-        works = rw w (works_kept b.works);
-        locks = rw l (locks_kept b.locks);
-        claimed = rw k (claims_kept b.claimed);
-        typed = t;
-        raised = r;
-        credits = d;
-        cache = i;
-        walk = y;
-        cold = o;
-        looking = λ e. g ∙ e;
+        works = rw (ap (λ u. u.works) hand) (works_kept b.works);
+        locks = rw (ap (λ u. u.locks) hand) (locks_kept b.locks);
+        claimed = rw (ap (λ u. u.claimed) hand) (claims_kept b.claimed);
+        typed = ap (λ u. u.typed) hand;
+        raised = ap (λ u. u.raised) hand;
+        credits = ap (λ u. u.credits) hand;
+        cache = ap (λ u. u.cache) hand;
+        walk = ap (λ u. u.walk) hand;
+        cold = ap (λ u. u.cold) hand;
+        looking = λ e. ap (λ u. u.looking) hand ∙ e;
       }
 
   -- ---- no word changes
@@ -143,32 +143,36 @@ module _ (n : Machine) (s : ℕ) (x : Step) (m m2 : Place → ℕ) (h h2 : ℕ �
       let small : m2 (M2p f) < 2 ^ 64 = subst (λ w. w < 2 ^ 64) e.left (left_small n f (m (M2p f)) x.act (sound.spelled.small (M2p f)) e.spelling) in
       record {
         like = alike_by n s m m2 h h2 b seat (λ q k. e.others q (λ at. let y : is_written (M2p f) ≡ false = subst (λ r. is_written r ≡ false) at k in cc)) others marked
-            (kept_but (h2 s) (ap (λ u. u.works) e.hand) (ap (λ u. u.locks) e.hand) (ap (λ u. u.claimed) e.hand) (ap (λ u. u.typed) e.hand) (ap (λ u. u.raised) e.hand)
-            (ap (λ u. u.credits) e.hand) (ap (λ u. u.cache) e.hand) (ap (λ u. u.walk) e.hand) (ap (λ u. u.cold) e.hand) (ap (λ u. u.looking) e.hand));
+            (kept_by (m (M2p f)) b.refs b.ending e.hand);
         turn = turned_same s m m2 h h2 (λ g. e.others (Refs g) (λ at. cc)) (ap (λ u. u.refs) e.hand ∙ marked.refs) (ap (λ u. u.ending) e.hand ∙ marked.ending);
         spelled = spelled_by n m m2 (M2p f) e.real e.others small small sound.spelled;
       }
 
   -- ---- a reference word
-  module _ (f : ℕ) (legal : LegalNow n s (h s) x) (place : place_of n x ≡ Refs f) (real : IsTrue (is_place (sizes_of n) (Refs f)))
-      (left : left_by x.act (m (Refs f)) ≡ m2 (Refs f)) (elsewhere : (q : Place) → q ≢ Refs f → m2 q ≡ m q) where
+  -- that of frame f changes, and no other word
+  record OneWord (f : ℕ) : Type 0 where
+    real : IsTrue (is_place (sizes_of n) (Refs f))
+    left : left_by x.act (m (Refs f)) ≡ m2 (Refs f)
+    elsewhere : (q : Place) → q ≢ Refs f → m2 q ≡ m q
+
+  module _ (f : ℕ) (legal : LegalNow n s (h s) x) (one : OneWord f) where
     -- its vCPU is not stopped
     running : m2 (Refs f) ≢ m (Refs f) → m (Vcpu s 6) ≡ 0
-    running moves = (sound.found s seat).own.run 0 (runs_by n s (h s) _ x.act x.kind x.mark (m (Refs f)) legal.legal legal.kind (λ e. moves (sym left ∙ e)))
+    running moves = (sound.found s seat).own.run 0 (runs_by n s (h s) _ x.act x.kind x.mark (m (Refs f)) legal.legal legal.kind (λ e. moves (sym one.left ∙ e)))
 
     unwritten : (q : Place) → is_written q ≡ false → m2 q ≡ m q
-    unwritten q k = elsewhere q (λ at. let y : is_written (Refs f) ≡ false = subst (λ r. is_written r ≡ false) at k in cc)
+    unwritten q k = one.elsewhere q (λ at. let y : is_written (Refs f) ≡ false = subst (λ r. is_written r ≡ false) at k in cc)
 
     refs_elsewhere : (g : ℕ) → g ≢ f → m2 (Refs g) ≡ m (Refs g)
-    refs_elsewhere g off = elsewhere (Refs g) (λ at. off (cc))
+    refs_elsewhere g off = one.elsewhere (Refs g) (λ at. off (cc))
 
     was_fits : (o c : ℕ) (a : Bool) → ref_read (m (Refs f)) ≡ Some (Owned o a c) → (o < length n.page_limit) × (c ≤ n.limit)
     unfolding IsSpelling
-    was_fits o c a was = owned_fits n o c a (subst (λ r. IsTrue (is_ref_in n r)) was (sound.spelled.spelled (Refs f) real))
+    was_fits o c a was = owned_fits n o c a (subst (λ r. IsTrue (is_ref_in n r)) was (sound.spelled.spelled (Refs f) one.real))
 
     spelled_as : (r : RefWord) → ref_read (m2 (Refs f)) ≡ Some r → IsTrue (is_ref_in n (Some r)) → Spelled n m2
     unfolding IsSpelling
-    spelled_as r is fits = spelled_by n m m2 (Refs f) real elsewhere (read_small _ r is) (subst (λ y. IsTrue (is_ref_in n y)) (sym is) fits) sound.spelled
+    spelled_as r is fits = spelled_by n m m2 (Refs f) one.real one.elsewhere (read_small _ r is) (subst (λ y. IsTrue (is_ref_in n y)) (sym is) fits) sound.spelled
 
   -- the reference that comes into the hand
   abbrev raised_ref : ℕ → Reference
@@ -176,18 +180,18 @@ module _ (n : Machine) (s : ℕ) (x : Step) (m m2 : Place → ℕ) (h h2 : ℕ �
 
   pub raised_outcome : LegalNow n s (h s) x → (f : ℕ) → Raised n x f m m2 b (h2 s) → Outcome n s m m2 h h2
   raised_outcome legal f e =
+      let one : OneWord f = record { real = e.real; left = e.left; elsewhere = e.others } in
       let w = owned_says _ e.owner e.allocated e.count e.was in
       let v = owned_says _ e.owner e.allocated (e.count + 1) e.is in
       let moves : m2 (Refs f) ≢ m (Refs f) = λ k. let y = ap ref_count k in let p = w.counts in let q = v.counts in omega arith in
-      let run = running f legal e.place e.real e.left e.others moves in
-      let fits = was_fits f legal e.place e.real e.left e.others e.owner e.count e.allocated e.was in
+      let run = running f legal one moves in
+      let fits = was_fits f legal one e.owner e.count e.allocated e.was in
       record {
-        like = alike_by n s m m2 h h2 b seat (unwritten f legal e.place e.real e.left e.others) others marked
-            (kept_but (h2 s) (ap (λ u. u.works) e.hand) (ap (λ u. u.locks) e.hand) (ap (λ u. u.claimed) e.hand) (ap (λ u. u.typed) e.hand) (ap (λ u. u.raised) e.hand)
-            (ap (λ u. u.credits) e.hand) (ap (λ u. u.cache) e.hand) (ap (λ u. u.walk) e.hand) (ap (λ u. u.cold) e.hand) (ap (λ u. u.looking) e.hand));
-        turn = turned_up s f m m2 h h2 run (refs_elsewhere f legal e.place e.real e.left e.others) e.owner e.count e.allocated (raised_ref f) e.was e.is refl
+        like = alike_by n s m m2 h h2 b seat (unwritten f legal one) others marked
+            (kept_by (m (Refs f)) (raised_ref f ∷ b.refs) b.ending e.hand);
+        turn = turned_up s f m m2 h h2 run (refs_elsewhere f legal one) e.owner e.count e.allocated (raised_ref f) e.was e.is refl
             (ap (λ u. u.refs) e.hand ∙ ap (λ xs. raised_ref f ∷ xs) marked.refs) (ap (λ u. u.ending) e.hand ∙ marked.ending);
-        spelled = spelled_as f legal e.place e.real e.left e.others (Owned e.owner e.allocated (e.count + 1)) e.is (fits_owned n e.owner (e.count + 1) e.allocated fits.0 (let y = e.below in omega arith));
+        spelled = spelled_as f legal one (Owned e.owner e.allocated (e.count + 1)) e.is (fits_owned n e.owner (e.count + 1) e.allocated fits.0 (let y = e.below in omega arith));
       }
 
   -- the count is more than the mark where a reference is in hand
@@ -199,6 +203,9 @@ module _ (n : Machine) (s : ℕ) (x : Step) (m m2 : Place → ℕ) (h h2 : ℕ �
       omega arith
 
   module _ (f : ℕ) (legal : LegalNow n s (h s) x) (e : Lowered n x f m m2 b (h2 s)) where
+    one : OneWord f
+    one = record { real = e.real; left = e.left; elsewhere = e.others }
+
     in_hand : 0 < refs_to f (h s).refs
     in_hand = subst (λ r. 0 < refs_to f r) marked.refs e.may.in_hand
 
@@ -211,15 +218,14 @@ module _ (n : Machine) (s : ℕ) (x : Step) (m m2 : Place → ℕ) (h h2 : ℕ �
         rw now (times_by-without (λ y. y.frame) g f (h s).refs in_hand)
 
     run : m (Vcpu s 6) ≡ 0
-    run = running f legal e.place e.real e.left e.others (λ k. one_down_moves (m (Refs f)) (sound.spelled.small (Refs f)) (sym e.is ∙ k))
+    run = running f legal one (λ k. one_down_moves (m (Refs f)) (sound.spelled.small (Refs f)) (sym e.is ∙ k))
 
-    kept : Kept b (h2 s)
-    kept =
-        kept_but (h2 s) (ap (λ u. u.works) e.hand) (ap (λ u. u.locks) e.hand) (ap (λ u. u.claimed) e.hand) (ap (λ u. u.typed) e.hand) (ap (λ u. u.raised) e.hand)
-        (ap (λ u. u.credits) e.hand) (ap (λ u. u.cache) e.hand) (ap (λ u. u.walk) e.hand) (ap (λ u. u.cold) e.hand) (ap (λ u. u.looking) e.hand)
-
+    -- the frame as it ends
     abbrev ended : Ending
     ended = record { frame = f; owner = owner_number (owner_of (m (Refs f))); since = length b.steps + 1 }
+
+    kept : Kept b (h2 s)
+    kept = kept_by (m (Refs f)) (without_ref f b.refs) (if ref_count (m (Refs f)) == 1 then (ended ∷ b.ending) else b.ending) e.hand
 
     ending_now : (t : Bool) → (ref_count (m (Refs f)) == 1) ≡ t → (h2 s).ending ≡ (if t then (ended ∷ (h s).ending) else (h s).ending)
     ending_now t k = ap (λ u. u.ending) e.hand ∙ rw (k, marked.ending) refl
@@ -229,22 +235,22 @@ module _ (n : Machine) (s : ℕ) (x : Step) (m m2 : Place → ℕ) (h h2 : ℕ �
 
     lowered_by : OneLess (m (Refs f)) (m2 (Refs f)) → Outcome n s m m2 h h2
     lowered_by (more o c a was is) =
-        let fits = was_fits f legal e.place e.real e.left e.others o (suc (suc c)) a was in
+        let fits = was_fits f legal one o (suc (suc c)) a was in
         let w = owned_says _ o a (suc (suc c)) was in
         record {
-          like = alike_by n s m m2 h h2 b seat (unwritten f legal e.place e.real e.left e.others) others marked kept;
-          turn = turned_down s f m m2 h h2 run (refs_elsewhere f legal e.place e.real e.left e.others) o c a was is down spares
+          like = alike_by n s m m2 h h2 b seat (unwritten f legal one) others marked kept;
+          turn = turned_down s f m m2 h h2 run (refs_elsewhere f legal one) o c a was is down spares
               (ending_now false (let y = w.counts in when_ne _ 1 (λ k. absurd (omega arith))));
-          spelled = spelled_as f legal e.place e.real e.left e.others (Owned o a (suc c)) is (fits_owned n o (suc c) a fits.0 (let y = fits.1 in omega arith));
+          spelled = spelled_as f legal one (Owned o a (suc c)) is (fits_owned n o (suc c) a fits.0 (let y = fits.1 in omega arith));
         }
     lowered_by (last o was is) =
-        let fits = was_fits f legal e.place e.real e.left e.others o 1 false was in
+        let fits = was_fits f legal one o 1 false was in
         let w = owned_says _ o false 1 was in
         record {
-          like = alike_by n s m m2 h h2 b seat (unwritten f legal e.place e.real e.left e.others) others marked kept;
-          turn = turned_last s f m m2 h h2 run (refs_elsewhere f legal e.place e.real e.left e.others) o ended was is down spares of_ended
+          like = alike_by n s m m2 h h2 b seat (unwritten f legal one) others marked kept;
+          turn = turned_last s f m m2 h h2 run (refs_elsewhere f legal one) o ended was is down spares of_ended
               (ending_now true (when_eq _ 1 w.counts));
-          spelled = spelled_as f legal e.place e.real e.left e.others (Dying o) is (fits_dying n o fits.0);
+          spelled = spelled_as f legal one (Dying o) is (fits_dying n o fits.0);
         }
 
     pub lowered_outcome : Outcome n s m m2 h h2
