@@ -1,0 +1,10 @@
+mod Sums
+mod Lists
+mod Twins
+mod Entries
+mod Moves
+mod Parts
+mod Words
+mod Learning
+mod Turns
+mod Outcomes

@@ -1,0 +1,64 @@
+-- The lists of a hand.
+use Rattle.std.proofs.Common.{◌≡◌, ℕ, ◌+◌, ◌<◌, ◌≤◌, List, [], ◌∷◌, Some, refl, ap, arith, inl, inr}
+use Rattle.std.proofs.lemmas.Bool.{cases_eq}
+use Rattle.xp_board.specs.Lists.{one_at, times_by, first_by, without_by, EachOf}
+use Rattle.count_rule.proofs.Sums.{when_eq, when_ne}
+
+pub times_by-cons : {A : Type 0} (key : A → ℕ) (g : ℕ) (x : A) (xs : List A) → times_by key g (x ∷ xs) ≡ one_at g (key x) + times_by key g xs
+unfolding times_by
+times_by-cons key g x xs = refl
+
+-- the newest one goes out
+pub times_by-without : {A : Type 0} (key : A → ℕ) (g f : ℕ) (xs : List A) → 0 < times_by key f xs →
+    times_by key g (without_by key f xs) + one_at g f ≡ times_by key g xs
+unfolding times_by without_by
+times_by-without key g f [] b = absurd (omega arith)
+times_by-without key g f (x ∷ xs) b =
+    elim (cases_eq (key x) f) [
+      | inl at ↦ rw (when_eq (key x) f at) (let k : one_at g (key x) ≡ one_at g f = ap (one_at g) at in omega arith)
+      | inr off ↦
+          let e = when_ne (key x) f off in
+          let inside : 0 < times_by key f xs = let n : 0 < 0 + times_by key f xs = rw e at b in omega arith in
+          let rest = times_by-without key g f xs inside in
+          rw e (omega arith)
+    ]
+
+pub EachOf-map : {A : Type 0} (P Q : A → Type 0) (xs : List A) → ((x : A) → P x → Q x) → EachOf P xs → EachOf Q xs
+unfolding EachOf
+EachOf-map P Q [] k e = tt
+EachOf-map P Q (x ∷ xs) k e = (k x e.0, EachOf-map P Q xs k e.1)
+
+pub EachOf-both : {A : Type 0} (P Q : A → Type 0) (xs : List A) → EachOf P xs → EachOf Q xs → EachOf (λ x. P x × Q x) xs
+unfolding EachOf
+EachOf-both P Q [] a b = tt
+EachOf-both P Q (x ∷ xs) a b = ((a.0, b.0), EachOf-both P Q xs a.1 b.1)
+
+first_by-counts : {A : Type 0} (key : A → ℕ) (g : ℕ) (xs : List A) (e : A) → first_by key g xs ≡ Some e → 0 < times_by key g xs
+unfolding first_by times_by
+first_by-counts key g [] e k = absurd (cc)
+first_by-counts key g (x ∷ xs) e k =
+    elim (cases_eq (key x) g) [
+      | inl at ↦ let one : one_at g (key x) ≡ 1 = rw (when_eq (key x) g at) in omega arith
+      | inr off ↦ let rest = first_by-counts key g xs e (rw (when_ne (key x) g off) at k) in omega arith
+    ]
+
+first_by-further : {A : Type 0} (key : A → ℕ) (x : A) (xs : List A) → ((g : ℕ) → times_by key g (x ∷ xs) ≤ 1) → (e : A) →
+    first_by key (key e) xs ≡ Some e → first_by key (key e) (x ∷ xs) ≡ Some e
+unfolding first_by times_by
+first_by-further key x xs few e k =
+    elim (cases_eq (key x) (key e)) [
+      | inl at ↦
+          let some = first_by-counts key (key e) xs e k in
+          let one : one_at (key e) (key x) ≡ 1 = rw (when_eq (key x) (key e) at) in
+          let most = few (key e) in
+          absurd (omega arith)
+      | inr off ↦ rw (when_ne (key x) (key e) off) k
+    ]
+
+-- where no number stands twice, each element is the first one of its number
+pub EachOf-first : {A : Type 0} (key : A → ℕ) (xs : List A) → ((g : ℕ) → times_by key g xs ≤ 1) → EachOf (λ e. first_by key (key e) xs ≡ Some e) xs
+unfolding EachOf first_by
+EachOf-first key [] few = tt
+EachOf-first key (x ∷ xs) few =
+    let rest = EachOf-first key xs (λ g. let most = few g in let here = times_by-cons key g x xs in omega arith) in
+    (rw (when_eq (key x) (key x) refl), EachOf-map (λ e. first_by key (key e) xs ≡ Some e) _ xs (first_by-further key x xs few) rest)

@@ -1,0 +1,70 @@
+-- Sums, and tests of numbers.
+use Rattle.std.proofs.Common.{◌≡◌, ◌≢◌, ℕ, zero, suc, ◌+◌, ◌<◌, ◌≤◌, ◌==◌, true, false, refl, sym, ap, arith, inl, inr}
+use Rattle.std.proofs.lemmas.Bool.{cases_eq}
+use Rattle.std.proofs.lemmas.Bool.Decides.{nat_tests}
+use Rattle.xp_words.specs.Places.{Sizes}
+use Rattle.xp_board.specs.declared.holdings.Holdings.{Holdings}
+use Rattle.xp_board.specs.Sums.{sum_below}
+use Rattle.xp_board.specs.Lists.{one_at}
+use Rattle.xp_board.specs.Recorded.{hands}
+
+pub when_eq : (x y : ℕ) → x ≡ y → (x == y) ≡ true
+when_eq x y e = grind (arith, nat_tests)
+
+pub when_ne : (x y : ℕ) → x ≢ y → (x == y) ≡ false
+when_ne x y n = grind (arith, nat_tests)
+
+pub one_at-same : (g : ℕ) → one_at g g ≡ 1
+one_at-same g = rw (when_eq g g refl)
+
+pub one_at-other : (g f : ℕ) → g ≢ f → one_at g f ≡ 0
+one_at-other g f n = rw (when_ne f g (λ e. n (sym e)))
+
+pub sum_below-same : (n : ℕ) (p q : ℕ → ℕ) → ((k : ℕ) → k < n → p k ≡ q k) → sum_below n p ≡ sum_below n q
+unfolding sum_below
+sum_below-same zero p q e = refl
+sum_below-same (suc n) p q e =
+    let here : p n ≡ q n = e n (omega arith) in
+    let rest = sum_below-same n p q (λ k b. e k (omega arith)) in
+    omega arith
+
+-- a sum changes by what changes at one number
+pub sum_below-one : (n : ℕ) (p q : ℕ → ℕ) (j : ℕ) → j < n → ((k : ℕ) → k ≢ j → p k ≡ q k) → sum_below n p + q j ≡ sum_below n q + p j
+unfolding sum_below
+sum_below-one zero p q j b e = absurd (omega arith)
+sum_below-one (suc n) p q j b e =
+    elim (cases_eq j n) [
+      | inl at ↦
+          let same = sum_below-same n p q (λ k l. e k (λ i. absurd (omega arith))) in
+          let pj = ap p at in
+          let qj = ap q at in
+          omega arith
+      | inr off ↦
+          let here : p n ≡ q n = e n (λ i. off (sym i)) in
+          let rest = sum_below-one n p q j (omega arith) e in
+          omega arith
+    ]
+
+-- each part is at most the sum
+pub sum_below-part : (n : ℕ) (p : ℕ → ℕ) (j : ℕ) → j < n → p j ≤ sum_below n p
+unfolding sum_below
+sum_below-part zero p j b = absurd (omega arith)
+sum_below-part (suc n) p j b =
+    elim (cases_eq j n) [
+      | inl at ↦ let e = ap p at in omega arith
+      | inr off ↦ let rest = sum_below-part n p j (let k : j ≢ n = off in omega arith) in omega arith
+    ]
+
+-- ---- the hands of all seats
+pub hands-one : (c : Holdings → ℕ) (z : Sizes) (h h2 : ℕ → Holdings) (s : ℕ) → s < z.vcpus → ((t : ℕ) → t ≢ s → h2 t ≡ h t) →
+    hands c z h2 + c (h s) ≡ hands c z h + c (h2 s)
+unfolding hands
+hands-one c z h h2 s b e = sum_below-one z.vcpus (λ t. c (h2 t)) (λ t. c (h t)) s b (λ t n. ap c (e t n))
+
+pub hands-same : (c : Holdings → ℕ) (z : Sizes) (h h2 : ℕ → Holdings) (s : ℕ) → s < z.vcpus → ((t : ℕ) → t ≢ s → h2 t ≡ h t) →
+    c (h2 s) ≡ c (h s) → hands c z h2 ≡ hands c z h
+hands-same c z h h2 s b e k = let one = hands-one c z h h2 s b e in omega arith
+
+pub hands-part : (c : Holdings → ℕ) (z : Sizes) (h : ℕ → Holdings) (s : ℕ) → s < z.vcpus → c (h s) ≤ hands c z h
+unfolding hands
+hands-part c z h s b = sum_below-part z.vcpus (λ t. c (h t)) s b

@@ -1,0 +1,87 @@
+-- Reference words: what they say, and one up and one down.
+use Rattle.std.proofs.Common.{◌≡◌, ◌≢◌, ℕ, zero, suc, ◌+◌, ◌-◌, ◌%◌, ◌^◌, ◌<◌, ◌≤◌, Bool, true, false, length, Option, Some, None, IsTrue, refl, ◌∙◌, arith}
+use Rattle.std.proofs.lemmas.Bool.Decides.{nat_tests}
+use Rattle.xp_words.specs.declared.refs.RefWord.{RefWord}
+use Rattle.xp_words.specs.declared.refs.RefWord.TheVariants.{Free, Owned, Dying}
+use Rattle.xp_words.specs.RefWords.{ref_read, ref_write, IsRef, bit}
+use Rattle.xp_words.specs.Machine.{Machine}
+use Rattle.xp_words.proofs.RefLaws.{ref_read-write, ref_write-read}
+use Rattle.xp_board.specs.RefSteps.{one_down}
+use Rattle.xp_board.specs.Readings.{ref_count, allocated_mark, owner_of, is_free, free_stamp, is_dying}
+use Rattle.xp_board.specs.Spelling.{is_ref_in}
+
+-- a word that is owned
+pub record SaysOwned (w owner : ℕ) (allocated : Bool) (count : ℕ) : Type 0 where
+  pub counts : ref_count w ≡ count
+  pub mark : allocated_mark w ≡ bit allocated
+  pub owned : owner_of w ≡ Some owner
+  pub free : is_free w ≡ false
+  pub stamp : free_stamp w ≡ 0
+  pub dying : is_dying w ≡ false
+
+pub owned_says : (w o : ℕ) (a : Bool) (c : ℕ) → ref_read w ≡ Some (Owned o a c) → SaysOwned w o a c
+unfolding ref_count allocated_mark owner_of is_free free_stamp is_dying
+owned_says w o a c e = record { counts = rw e refl; mark = rw e refl; owned = rw e refl; free = rw e refl; stamp = rw e refl; dying = rw e refl }
+
+-- a word that is dying
+pub record SaysDying (w owner : ℕ) : Type 0 where
+  pub counts : ref_count w ≡ 0
+  pub mark : allocated_mark w ≡ 0
+  pub owned : owner_of w ≡ Some owner
+  pub free : is_free w ≡ false
+  pub stamp : free_stamp w ≡ 0
+  pub dying : is_dying w ≡ true
+
+pub dying_says : (w o : ℕ) → ref_read w ≡ Some (Dying o) → SaysDying w o
+unfolding ref_count allocated_mark owner_of is_free free_stamp is_dying
+dying_says w o e = record { counts = rw e refl; mark = rw e refl; owned = rw e refl; free = rw e refl; stamp = rw e refl; dying = rw e refl }
+
+-- ---- one down
+one_less : (w : ℕ) → w < 2 ^ 64 → 0 < w → (w + one_down) % 2 ^ 64 ≡ w - 1
+one_less w b n = omega arith
+
+lower_more : (w o c : ℕ) (a : Bool) → w < 2 ^ 64 → ref_read w ≡ Some (Owned o a (suc (suc c))) → ref_read ((w + one_down) % 2 ^ 64) ≡ Some (Owned o a (suc c))
+unfolding IsRef ref_write
+lower_more w o c a b e =
+    let r = ref_write-read w (Owned o a (suc (suc c))) b e in
+    let n : (w + one_down) % 2 ^ 64 ≡ ref_write (Owned o a (suc c)) = one_less w b (omega arith) ∙ (let k = r.1 in omega arith) in
+    rw n (ref_read-write (Owned o a (suc c)) (let k = r.0 in (omega arith, omega arith, omega arith)))
+
+lower_last : (w o : ℕ) → w < 2 ^ 64 → ref_read w ≡ Some (Owned o false 1) → ref_read ((w + one_down) % 2 ^ 64) ≡ Some (Dying o)
+unfolding IsRef ref_write
+lower_last w o b e =
+    let r = ref_write-read w (Owned o false 1) b e in
+    let n : (w + one_down) % 2 ^ 64 ≡ ref_write (Dying o) = one_less w b (omega arith) ∙ (let k = r.1 in omega arith) in
+    rw n (ref_read-write (Dying o) (let k = r.0 in omega arith))
+
+-- what one down leaves of a word that counts more than its mark: one reference less, or none
+pub data OneLess (w v : ℕ) : Type 0 where
+  more : (o c : ℕ) (a : Bool) → ref_read w ≡ Some (Owned o a (suc (suc c))) → ref_read v ≡ Some (Owned o a (suc c)) → OneLess w v
+  last : (o : ℕ) → ref_read w ≡ Some (Owned o false 1) → ref_read v ≡ Some (Dying o) → OneLess w v
+
+pub one_down_leaves : (w : ℕ) (r : Option RefWord) → w < 2 ^ 64 → ref_read w ≡ r → allocated_mark w < ref_count w → OneLess w ((w + one_down) % 2 ^ 64)
+unfolding ref_count allocated_mark
+one_down_leaves w (Some (Owned o a zero)) b e k = let n : ref_count w ≡ 0 = rw e in absurd (omega arith)
+one_down_leaves w (Some (Owned o true (suc zero))) b e k = let n : ref_count w ≡ 1 = rw e in let p : allocated_mark w ≡ 1 = rw e in absurd (omega arith)
+one_down_leaves w (Some (Owned o false (suc zero))) b e k = last o e (lower_last w o b e)
+one_down_leaves w (Some (Owned o a (suc (suc c)))) b e k = more o c a e (lower_more w o c a b e)
+one_down_leaves w (Some (Free stamp)) b e k = let n : ref_count w ≡ 0 = rw e in absurd (omega arith)
+one_down_leaves w (Some (Dying o)) b e k = let n : ref_count w ≡ 0 = rw e in absurd (omega arith)
+one_down_leaves w None b e k = let n : ref_count w ≡ 0 = rw e in absurd (omega arith)
+
+-- ---- spellings
+pub owned_fits : (n : Machine) (o c : ℕ) (a : Bool) → IsTrue (is_ref_in n (Some (Owned o a c))) → (o < length n.page_limit) × (c ≤ n.limit)
+owned_fits n o c a h = grind (arith, nat_tests)
+
+pub fits_owned : (n : Machine) (o c : ℕ) (a : Bool) → o < length n.page_limit → c ≤ n.limit → IsTrue (is_ref_in n (Some (Owned o a c)))
+fits_owned n o c a h k = grind (arith, nat_tests)
+
+pub fits_dying : (n : Machine) (o : ℕ) → o < length n.page_limit → IsTrue (is_ref_in n (Some (Dying o)))
+fits_dying n o h = grind (arith, nat_tests)
+
+pub read_small : (w : ℕ) (r : RefWord) → ref_read w ≡ Some r → w < 2 ^ 64
+unfolding ref_read
+read_small w r e = grind (arith, nat_tests)
+
+pub one_down_moves : (w : ℕ) → w < 2 ^ 64 → (w + one_down) % 2 ^ 64 ≢ w
+one_down_moves w b e = omega arith
