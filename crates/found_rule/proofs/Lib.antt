@@ -1,0 +1,4 @@
+pub mod PlaceTests
+pub mod StepLists
+pub mod MoreSteps
+pub mod Moves

@@ -1,0 +1,2 @@
+//! What seats have found stays true, and holdings stay well formed, under each step that is legal today.
+#![tactic(auto)]
