@@ -2,3 +2,8 @@ pub mod PlaceTests
 pub mod StepLists
 pub mod MoreSteps
 pub mod Moves
+pub mod StepFacts
+pub mod KnownFacts
+pub mod ReachSame
+pub mod CellFacts
+pub mod FoundLaw

@@ -3,10 +3,11 @@
 use Rattle.std.proofs.Common.{◌≡◌, ◌≢◌, ℕ, suc, ◌+◌, ◌<◌, ◌≤◌, ◌==◌, ◌&&◌, nat_le, Bool, true, false, List, [], ◌∷◌, length, Option, Some, None, IsTrue, refl, sym, ap, subst, ◌∙◌, ◌⊎◌, inl, inr, arith}
 use Rattle.xp_words.specs.RefWords.{ref_write}
 use Rattle.xp_words.specs.declared.refs.RefWord.TheVariants.{Dying}
-use Rattle.xp_words.specs.Places.{Sizes, Place, Clock, Life, Vcpu, Refs, Kind, Cell, Priv, place_at}
+use Rattle.xp_words.specs.Places.{Sizes, Place, Clock, Life, Vcpu, Refs, Kind, Cell, Priv, is_place, place_at}
 use Rattle.xp_board.specs.declared.holdings.Made.{Made}
 use Rattle.xp_board.specs.declared.holdings.Reference.{Reference}
 use Rattle.xp_board.specs.declared.holdings.Ending.{Ending}
+use Rattle.xp_board.specs.declared.holdings.Lock.{Lock}
 use Rattle.xp_board.specs.declared.holdings.Holdings.{Holdings}
 use Rattle.xp_board.specs.declared.holdings.OwnerFound.TheVariants as owners
 use Rattle.xp_board.specs.Lists.{EachOf}
@@ -14,7 +15,7 @@ use Rattle.xp_board.specs.Steps.{left_of, some_since, last_since, EachStep, Each
 use Rattle.xp_board.specs.Readings.{owner_of, told_value}
 use Rattle.xp_board.specs.Hands.{without_ref, changed_work, changed_lock, changed_claim}
 use Rattle.xp_board.specs.After.{learned_work, learned_lock, learned_claim}
-use Rattle.found_rule.proofs.StepLists.{EachOf-more, EachOf-without}
+use Rattle.found_rule.proofs.StepLists.{EachOf-more, EachOf-without, EachOf-changes}
 use Rattle.found_rule.proofs.MoreSteps.{some_since-cases, last_since-cases, EachSince-more, steps_before-cases}
 
 -- the words that facts read
@@ -33,6 +34,7 @@ pub record Keeps (m m2 : Place → ℕ) : Type 0 where
 -- a step at p that found the word that stood there, and left that which stands there
 pub record Added (z : Sizes) (m m2 : Place → ℕ) (x : Made) (p : Place) : Type 0 where
   pub place : place_at z x.step.place ≡ p
+  pub real : IsTrue (is_place z p)
   pub found : x.found ≡ m p
   pub left : left_of x ≡ m2 p
 
@@ -42,12 +44,15 @@ pub data Grown (z : Sizes) (m m2 : Place → ℕ) (xs ys : List Made) : Type 0 w
   added : (x : Made) (p : Place) → Added z m m2 x p → ys ≡ x ∷ xs → Grown z m m2 xs ys
 
 pub grown_each : (z : Sizes) (m m2 : Place → ℕ) (xs ys : List Made) (n : ℕ) (p : Place) (P : ℕ → Type 0) → Grown z m m2 xs ys →
-    P (m p) → P (m2 p) → EachSince z n p P xs → EachSince z n p P ys
+    (IsTrue (is_place z p) → P (m p)) → (IsTrue (is_place z p) → P (m2 p)) → EachSince z n p P xs → EachSince z n p P ys
 grown_each z m m2 xs ys n p P (stayed e) was is h = rw e h
 grown_each z m m2 xs ys n p P (added x q a e) was is h =
     rw e
     (EachSince-more z n p P x xs
-      (λ at. let k = sym a.place ∙ at in (subst P (sym (a.found ∙ ap m k)) was, subst P (sym (a.left ∙ ap m2 k)) is)) h)
+      (λ at.
+        let k = sym a.place ∙ at in
+        let r = subst (λ y. IsTrue (is_place z y)) k a.real in
+        (subst P (sym (a.found ∙ ap m k)) (was r), subst P (sym (a.left ∙ ap m2 k)) (is r))) h)
 
 pub grown_some : (z : Sizes) (m m2 : Place → ℕ) (xs ys : List Made) (n : ℕ) (p : Place) (test : ℕ → Bool) → Grown z m m2 xs ys →
     IsTrue (some_since z n p test ys) → IsTrue (test (m2 p)) ⊎ IsTrue (some_since z n p test xs)
@@ -85,3 +90,60 @@ grown_told z m m2 xs ys P (added x q a e) was is h =
     rw e
     (EachOf-more (λ y. P (told_value (place_at z y.step.place) y.found) × P (told_value (place_at z y.step.place) (left_of y))) x xs
       (rw (a.place, a.left, a.found) (was q, is q)) h)
+
+-- ---- the lists of a hand
+pub data RefsMoved (m2 : Place → ℕ) (xs ys : List Reference) : Type 0 where
+  refs_stayed : ys ≡ xs → RefsMoved m2 xs ys
+  ref_came : (f d : ℕ) → owner_of (m2 (Refs f)) ≡ Some d → ys ≡ record { frame = f; owner = owners.Of d } ∷ xs → RefsMoved m2 xs ys
+  ref_went : (f : ℕ) → ys ≡ without_ref f xs → RefsMoved m2 xs ys
+
+pub refs_each : (m2 : Place → ℕ) (xs ys : List Reference) (P : Reference → Type 0) → RefsMoved m2 xs ys →
+    ((f d : ℕ) → owner_of (m2 (Refs f)) ≡ Some d → P (record { frame = f; owner = owners.Of d })) → EachOf P xs → EachOf P ys
+refs_each m2 xs ys P (refs_stayed e) f h = rw e h
+refs_each m2 xs ys P (ref_came g d o e) f h = rw e (EachOf-more P (record { frame = g; owner = owners.Of d }) xs (f g d o) h)
+refs_each m2 xs ys P (ref_went g e) f h = rw e (EachOf-without P (λ x. x.frame) g xs h)
+
+pub data EndingsMoved (m2 : Place → ℕ) (now : ℕ) (xs ys : List Ending) : Type 0 where
+  endings_stayed : ys ≡ xs → EndingsMoved m2 now xs ys
+  ending_came : (f d since : ℕ) → since ≤ now → m2 (Refs f) ≡ ref_write (Dying d) → ys ≡ record { frame = f; owner = d; since = since } ∷ xs → EndingsMoved m2 now xs ys
+
+pub endings_each : (m2 : Place → ℕ) (now : ℕ) (xs ys : List Ending) (P : Ending → Type 0) → EndingsMoved m2 now xs ys →
+    ((f d since : ℕ) → since ≤ now → m2 (Refs f) ≡ ref_write (Dying d) → P (record { frame = f; owner = d; since = since })) → EachOf P xs → EachOf P ys
+endings_each m2 now xs ys P (endings_stayed e) f h = rw e h
+endings_each m2 now xs ys P (ending_came g d since l w e) f h = rw e (EachOf-more P (record { frame = g; owner = d; since = since }) xs (f g d since l w) h)
+
+-- what is known of cells: nothing new, or the word of one cell
+pub data CellsMoved (z : Sizes) (m2 : Place → ℕ) (a b : Holdings) : Type 0 where
+  cells_stayed : ((n f i : ℕ) → n ≤ length a.steps → last_since z n (Cell f i) b.steps ≡ last_since z n (Cell f i) a.steps) →
+      b.works ≡ a.works → b.locks ≡ a.locks → b.claimed ≡ a.claimed → CellsMoved z m2 a b
+  cell_found : (f i : ℕ) → ((n : ℕ) → n ≤ length a.steps → last_since z n (Cell f i) b.steps ≡ Some (m2 (Cell f i))) →
+      ((n g j : ℕ) → n ≤ length a.steps → Cell f i ≢ Cell g j → last_since z n (Cell g j) b.steps ≡ last_since z n (Cell g j) a.steps) →
+      b.works ≡ changed_work f (learned_work i (m2 (Cell f i))) a.works → b.locks ≡ changed_lock f (learned_lock i (m2 (Cell f i))) a.locks →
+      b.claimed ≡ changed_claim f (learned_claim i (m2 (Cell f i))) a.claimed → CellsMoved z m2 a b
+
+pub locks_each : (z : Sizes) (m2 : Place → ℕ) (a b : Holdings) (P : Lock → Type 0) → CellsMoved z m2 a b →
+    ((i w : ℕ) (e : Lock) → P e → P (learned_lock i w e)) → EachOf P a.locks → EachOf P b.locks
+locks_each z m2 a b P (cells_stayed l w k c) f h = rw k h
+locks_each z m2 a b P (cell_found g i l o w k c) f h =
+    rw k (EachOf-changes P P (λ e. e.frame) g (learned_lock i (m2 (Cell g i))) a.locks (λ e at t. f i (m2 (Cell g i)) e t) (λ e t. t) h)
+
+-- what is known of a word of the own
+pub data OwnMoved (z : Sizes) (m2 : Place → ℕ) (p : Place) (a b : Holdings) (x y : Option ℕ) : Type 0 where
+  own_stayed : y ≡ x → last_since z 0 p b.steps ≡ last_since z 0 p a.steps → OwnMoved z m2 p a b x y
+  own_found : y ≡ Some (m2 p) → last_since z 0 p b.steps ≡ Some (m2 p) → OwnMoved z m2 p a b x y
+
+-- ---- all of a seat's holdings
+pub record Moved (z : Sizes) (m m2 : Place → ℕ) (s : ℕ) (a b : Holdings) : Type 0 where
+  pub steps : Grown z m m2 a.steps b.steps
+  pub refs : RefsMoved m2 a.refs b.refs
+  pub typed : b.typed ≡ a.typed
+  pub ending : EndingsMoved m2 (length b.steps) a.ending b.ending
+  pub cells : CellsMoved z m2 a b
+  pub run : OwnMoved z m2 (Vcpu s 6) a b a.run b.run
+  pub old0 : OwnMoved z m2 (Vcpu s 2) a b a.old0 b.old0
+  pub old1 : OwnMoved z m2 (Vcpu s 3) a b a.old1 b.old1
+  pub acked : b.acked ≡ a.acked
+  pub ran : b.ran ≡ a.ran
+  pub cold : b.cold ≡ a.cold
+  pub cache : b.cache ≡ a.cache
+  pub walk : b.walk ≡ a.walk
