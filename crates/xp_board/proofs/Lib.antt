@@ -1,1 +1,12 @@
+mod ClaimPicture
+pub mod Effects
 mod Empty
+mod EntryPicture
+mod FlushPicture
+mod KeptPicture
+mod Picture
+mod ProcessorPicture
+mod ReleasePicture
+mod Rows
+mod SafeItems
+mod WalkPicture

@@ -1,5 +1,6 @@
 -- What a seat holds after a step that found this word.
-use Rattle.std.specs.Prelude.{ℕ, ◌+◌, ◌==◌, ◌&&◌, not, if◌then◌else◌, Bool, false, ◌∷◌, Option, Some, None}
+use Rattle.std.specs.Prelude.{ℕ, ◌+◌, ◌==◌, ◌&&◌, not, if◌then◌else◌, Bool, false, List, [], ◌∷◌, Option, Some, None}
+use Rattle.xp_words.specs.declared.kind.PageType.TheVariants as kinds
 use Rattle.xp_words.specs.Entries.{fixed}
 use Rattle.xp_words.specs.KindWords.{kind_fields}
 use Rattle.xp_words.specs.Machine.{Machine}
@@ -13,10 +14,12 @@ use Rattle.xp_board.specs.declared.holdings.Unsettled.{Unsettled}
 use Rattle.xp_board.specs.declared.holdings.Work.{Work}
 use Rattle.xp_board.specs.declared.holdings.Lock.{Lock}
 use Rattle.xp_board.specs.declared.holdings.Claimed.{Claimed}
+use Rattle.xp_board.specs.declared.holdings.Made.{Made}
 use Rattle.xp_board.specs.declared.holdings.Holdings.{Holdings}
 use Rattle.xp_board.specs.Acts.{left_by}
 use Rattle.xp_board.specs.Lists.{kept_of}
-use Rattle.xp_board.specs.Hands.{changed_work, changed_lock, changed_claim}
+use Rattle.xp_board.specs.Readings.{is_type}
+use Rattle.xp_board.specs.Hands.{changed_work, changed_lock, changed_claim, empty}
 use Rattle.xp_board.specs.Marks.{after_mark}
 use Rattle.xp_board.specs.RefSteps.{after_ref}
 use Rattle.xp_board.specs.KindSteps.{after_kind}
@@ -63,6 +66,10 @@ abbrev pub learned_last : ℕ → ℕ → ℕ → Option Unsettled → Option Un
 learned_last i recorded w (Some u) = if i + 1 == recorded then Some (record u { word = Some w }) else Some u
 learned_last i recorded w None = None
 
+-- the next word of a descriptor page, and it is fixed
+abbrev pub counts_fixed : ℕ → ℕ → Work → Bool
+counts_fixed i w e = is_type (kind_fields e.word).kind kinds.Desc && ((i == e.fixed) && is_fixed w)
+
 -- a cell of a frame in the own work tells nothing while the frame is marked
 abbrev pub learned_work : ℕ → ℕ → Work → Work
 learned_work i w e =
@@ -70,7 +77,7 @@ learned_work i w e =
     else record e {
       seen = Some (record { index = i; word = w });
       unsettled = learned_last i e.recorded w e.unsettled;
-      fixed = if (i == e.fixed) && is_fixed w then e.fixed + 1 else e.fixed;
+      fixed = if counts_fixed i w e then e.fixed + 1 else e.fixed;
     }
 
 abbrev pub learned_lock : ℕ → ℕ → Lock → Lock
@@ -114,3 +121,8 @@ after_move m s h p a kind mark found = learned s p found (left_by a found) (afte
 
 abbrev pub after : Machine → ℕ → Holdings → Step → ℕ → Holdings
 after m s h x found = noted x found (after_move m s h (place_at (sizes_of m) x.place) x.act x.kind x.mark found)
+
+-- the holdings of a seat are a function of its own steps and of the words that they found
+unfoldable pub hands_of : Machine → ℕ → List Made → Holdings
+hands_of m s [] = empty
+hands_of m s (x ∷ xs) = after m s (hands_of m s xs) x.step x.found

@@ -100,7 +100,7 @@ pub record WorkFound (n : Machine) (m : Place → ℕ) (h : ℕ → Holdings) (u
   pub word : m (Kind e.frame) ≡ e.word
   pub cells : IsTrue (is_known_inside (kind_fields e.word)) →
       CellsFound (sizes_of n) m e.unmarked e.frame (is_same_cell (kind_fields e.word).kind) u.steps
-  pub fixed : (i : ℕ) → (kind_fields e.word).kind ≡ kinds.Desc → i < e.fixed → IsTrue (is_fixed (m (Cell e.frame i)))
+  pub fixed : (i : ℕ) → i < e.fixed → IsTrue (is_fixed (m (Cell e.frame i)))
   pub passed : (v o : ℕ) (p : Use) → (kind_fields e.word).unflushed ≡ true → v < (sizes_of n).vcpus →
       owner_of (m (Refs e.frame)) ≡ Some o → domain_of n v ≢ o →
       IsTrue (some_since (sizes_of n) e.since (Priv (domain_of n v)) (λ w. not (has_ever o w)) u.steps) →

@@ -22,9 +22,10 @@ use Rattle.xp_board.specs.Found.{Found}
 use Rattle.xp_board.specs.WellFormed.{WellFormed}
 
 -- ---- 1: spellings (and the counts)
--- each word is a spelling; no word is above 64 bits
+-- Each word is a spelling, and no word is above 64 bits. Places that the machine has not read as 0.
 pub record Spelled (n : Machine) (m : Place → ℕ) : Type 0 where
   pub small : (p : Place) → m p < 2 ^ 64
+  pub outside : (p : Place) → is_place (sizes_of n) p ≡ false → m p ≡ 0
   pub spelled : (p : Place) → IsTrue (is_place (sizes_of n) p) → IsSpelling n p (m p)
 
 -- ---- 4: who has a frame in its hand alone

@@ -12,7 +12,7 @@ pub use holdings::{
 };
 pub use port::Port;
 pub use sanity::{
-    a_load_leaves_the_word, a_look_is_legal, empty_hands_are_well_formed,
-    what_is_lowered_is_in_hand,
+    a_load_leaves_the_word, a_look_is_legal, a_map_is_legal, a_raise_is_legal,
+    empty_hands_are_well_formed, what_is_lowered_is_in_hand,
 };
 pub use step::{Act, Item, Mark, Step, StepKind};

@@ -68,7 +68,7 @@ no_runs s = subst (λ vs. Turns vs s s) (sym order_none) (none s)
 -- ---- what turns leave as it was
 
 fits_machine : (p : Pair) (domain : ℕ) (b b' : Told) (o : Option Refusal) → FitsUpdate domain (p.ptr / 4096) p.val b o b' → b'.machine ≡ b.machine
-fits_machine p domain b b' None f = f.2.machine
+fits_machine p domain b b' None f = ap (λ (x : Told). x.machine) f.2
 fits_machine p domain b b' (Some r) f = ap (λ (x : Told). x.machine) f.1
 
 built_machine : (domain : ℕ) (o : Option Pair) (b b' : Told) (reply : Reply) → FitsBuilt domain o b reply b' → b'.machine ≡ b.machine

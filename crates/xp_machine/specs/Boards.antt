@@ -1,7 +1,7 @@
 -- What a board in memory holds.
-use Rattle.std.specs.Prelude.{◌≡◌, ◌≢◌, ℕ, ◌+◌, ◌<◌, ◌≤◌, ◌^◌, List, length, slice_index, slice_set, Option, Some, None}
+use Rattle.std.specs.Prelude.{◌≡◌, ◌≢◌, ℕ, ◌+◌, ◌<◌, ◌≤◌, ◌%◌, ◌^◌, List, length, slice_index, slice_set, Option, Some, None}
 use Rattle.xp_words.specs.Machine.{Machine}
-use Rattle.xp_words.specs.Places.{Place, Refs, M2p, size, sizes_of, memory}
+use Rattle.xp_words.specs.Places.{Place, Refs, M2p, size, sizes_of, number, memory}
 use Rattle.xp_words.specs.RefWords.{ref_read}
 use Rattle.xp_words.specs.declared.refs.RefWord.{RefWord}
 use Rattle.xp_words.specs.declared.refs.RefWord.TheVariants.{Free, Owned, Dying}
@@ -19,6 +19,21 @@ IsWhole b = length b.words ≡ size (sizes_of b.machine)
 -- the word that stands at a place
 abbrev pub word_of : Told → Place → ℕ
 word_of b p = memory (sizes_of b.machine) b.words p
+
+-- the board with another word there
+abbrev pub with_word : Told → Place → ℕ → Told
+with_word b p w = record b { words = slice_set b.words (number (sizes_of b.machine) p) w }
+
+-- The board after an update of the machine-to-physical word of frame f: a reference to f is taken, the word is
+-- stored, and the reference is given back.
+abbrev pub taken : Told → ℕ → Told
+taken b f = with_word b (Refs f) (word_of b (Refs f) + 1)
+
+abbrev pub stored : Told → ℕ → ℕ → Told
+stored b f gpfn = with_word (taken b f) (M2p f) gpfn
+
+abbrev pub updated : Told → ℕ → ℕ → Told
+updated b f gpfn = with_word (stored b f gpfn) (Refs f) ((word_of (stored b f gpfn) (Refs f) + 18446744073709551615) % 2 ^ 64)
 
 -- the word at that place is this one now, and every other is as it was
 pub record Changes (old new : Told) (p : Place) (w : ℕ) : Type 0 where

@@ -14,7 +14,7 @@ use Rattle.xp_words.specs.declared.reply.LogLine.TheVariants as lines
 use Rattle.xp_words.specs.Places.{Refs, M2p}
 use Rattle.xp_words.specs.RefWords.{ref_read}
 use Rattle.trace_text.specs.declared.trace.TurnRun.{TurnRun}
-use Rattle.xp_machine.specs.Boards.{Told, word_of, Changes, IsOpen, Refuses}
+use Rattle.xp_machine.specs.Boards.{Told, word_of, updated, IsOpen, Refuses}
 
 -- a vCPU: its domain, its operations, and what they answered
 pub record Processing : Type 0 where
@@ -49,7 +49,7 @@ refused r = record { done = 0; value = 0; refusal = Some r }
 -- reference that the frame had room for; or a refusal with its cause, and everything as it was.
 abbrev pub FitsUpdate : ℕ → ℕ → ℕ → Told → Option Refusal → Told → Type 0
 FitsUpdate domain frame gpfn b None b' =
-    (frame < b.machine.frames) × IsOpen domain b.machine.limit (ref_read (word_of b (Refs frame))) × Changes b b' (M2p frame) gpfn
+    (frame < b.machine.frames) × IsOpen domain b.machine.limit (ref_read (word_of b (Refs frame))) × (b' ≡ updated b frame gpfn)
 FitsUpdate domain frame gpfn b (Some r) b' = Refuses b frame domain r × (b' ≡ b)
 
 -- how many elements of an update of one element are done

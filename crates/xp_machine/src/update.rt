@@ -1,8 +1,8 @@
-ghost use Rattle.std.specs.Prelude.{◌≡◌, ◌<◌, ◌+◌, ◌^◌, ◌%◌, ◌-◌, IfOk, IfErr, OnOk, OnErr};
+ghost use Rattle.std.specs.Prelude.{◌≡◌, ◌<◌, ◌+◌, ◌^◌, ◌%◌, IfOk, IfErr, OnOk, OnErr};
 ghost use Rattle.xp_words.specs.RefWords.{ref_read};
 ghost use Rattle.xp_words.specs.Places.{Refs, M2p};
 ghost use Rattle.xp_board.specs.Acts.{left_by};
-ghost use Rattle.xp_machine.specs.Boards.{word_of, Changes, IsOpen, Refuses, RefusesWord};
+ghost use Rattle.xp_machine.specs.Boards.{word_of, with_word, taken, updated, IsOpen, Refuses, RefusesWord};
 
 use crate::board::PlainBoard;
 use xp_board::{Act, Step, StepKind};
@@ -31,7 +31,7 @@ fn look_refs(board: &mut PlainBoard, frame: u32) -> u64
 fn on_refs(board: &mut PlainBoard, frame: u32, act: Act) -> u64
     requires { frame < board.old.machine.frames }
     ensures found { result ≡ word_of board.old (Refs frame) }
-    ensures left { Changes board.old board.new (Refs frame) (left_by act result) }
+    ensures left { board.new ≡ with_word board.old (Refs frame) (left_by act result) }
 {
     let place = board.layout().refs_place(frame);
     board.step(Step {
@@ -46,7 +46,7 @@ fn on_refs(board: &mut PlainBoard, frame: u32, act: Act) -> u64
 #[tactic(auto, unfolding(xp_board::specs::Acts::left_by))]
 fn store_m2p(board: &mut PlainBoard, frame: u32, gpfn: u64)
     requires { frame < board.old.machine.frames }
-    ensures { Changes board.old board.new (M2p frame) gpfn }
+    ensures { board.new ≡ with_word board.old (M2p frame) gpfn }
 {
     let place = board.layout().m2p_place(frame);
     board.step(Step {
@@ -95,8 +95,7 @@ fn one_more(found: u64, frame: u32, owner: u16, limit: u32) -> Result<u64, Refus
 fn get_ref(board: &mut PlainBoard, frame: u64, owner: u16) -> Result<u32, Refusal>
     ensures frame { IfOk result (λ f. (f ≡ frame) × (f < board.old.machine.frames)) }
     ensures open { OnOk result (IsOpen owner board.old.machine.limit (ref_read (word_of board.old (Refs frame)))) }
-    ensures taken { OnOk result (Changes board.old board.new (Refs frame) (word_of board.old (Refs frame) + 1)) }
-    ensures room { OnOk result (word_of board.old (Refs frame) + 1 < 2 ^ 64) }
+    ensures taken { OnOk result (board.new ≡ taken board.old frame) }
     ensures same { OnErr result (board.new ≡ board.old) }
     ensures cause { IfErr result (Refuses board.old frame owner) }
 {
@@ -122,7 +121,7 @@ fn get_ref(board: &mut PlainBoard, frame: u64, owner: u16) -> Result<u32, Refusa
 #[tactic(auto, unfolding(xp_board::specs::Acts::left_by))]
 fn put_ref(board: &mut PlainBoard, frame: u32)
     requires { frame < board.old.machine.frames }
-    ensures { Changes board.old board.new (Refs frame) ((word_of board.old (Refs frame) + (2 ^ 64 - 1)) % 2 ^ 64) }
+    ensures { board.new ≡ with_word board.old (Refs frame) ((word_of board.old (Refs frame) + 18446744073709551615) % 2 ^ 64) }
 {
     on_refs(board, frame, Act::Add { by: ONE_LESS });
 }
@@ -131,7 +130,7 @@ fn put_ref(board: &mut PlainBoard, frame: u32)
 pub fn set_m2p(board: &mut PlainBoard, frame: u64, owner: u16, gpfn: u64) -> Result<(), Refusal>
     ensures open { OnOk result (IsOpen owner board.old.machine.limit (ref_read (word_of board.old (Refs frame)))) }
     ensures inside { OnOk result (frame < board.old.machine.frames) }
-    ensures set { OnOk result (Changes board.old board.new (M2p frame) gpfn) }
+    ensures set { OnOk result (board.new ≡ updated board.old frame gpfn) }
     ensures same { OnErr result (board.new ≡ board.old) }
     ensures cause { IfErr result (Refuses board.old frame owner) }
 {

@@ -15,5 +15,4 @@ returns-clause-found c =
     rw c.step.ensures.found (rw c.refs_place-place.ensures (rw c.layout.ensures.layout (sym (word_there (sizes_of c.args.board.now.machine) c.args.board.now.words (Refs c.args.frame) (refs_there (sizes_of c.args.board.now.machine) c.args.frame c.requires)))))
 
 pub returns-clause-left : goal.returns-clause-left
-returns-clause-left c =
-    rw c.step.ensures.left (rw c.refs_place-place.ensures (rw c.layout.ensures.layout (changes c.args.board.now (Refs c.args.frame) (left_by c.args.act c.step.result) (refs_there (sizes_of c.args.board.now.machine) c.args.frame c.requires) c.layout.ensures.whole)))
+returns-clause-left c = rw c.step.ensures.left (rw c.refs_place-place.ensures (rw c.layout.ensures.layout refl))

@@ -12,5 +12,4 @@ step-requires c =
 
 pub returns : goal.returns
 unfolding left_by
-returns c =
-    rw c.step.ensures.left (rw c.m2p_place-place.ensures (rw c.layout.ensures.layout (changes c.args.board.now (M2p c.args.frame) c.args.gpfn (m2p_there (sizes_of c.args.board.now.machine) c.args.frame c.requires) c.layout.ensures.whole)))
+returns c = rw c.step.ensures.left (rw c.m2p_place-place.ensures (rw c.layout.ensures.layout refl))
