@@ -18,8 +18,8 @@ use Rattle.xp_board.specs.declared.holdings.Claimed.{Claimed}
 use Rattle.xp_board.specs.declared.holdings.Holdings.{Holdings}
 use Rattle.xp_board.specs.Lists.{EachOf}
 use Rattle.xp_board.specs.Steps.{last_since}
-use Rattle.xp_board.specs.Readings.{owner_of, domain_of, has_ever}
-use Rattle.xp_board.specs.After.{is_fixed, learned_work, learned_lock, learned_claim, learned_last}
+use Rattle.xp_board.specs.Readings.{is_type, owner_of, domain_of, has_ever}
+use Rattle.xp_board.specs.After.{is_fixed, counts_fixed, learned_work, learned_lock, learned_claim, learned_last}
 use Rattle.xp_board.specs.Reach.{Use, Reach}
 use Rattle.xp_board.specs.Fresh.{FreshFor}
 use Rattle.xp_board.specs.Found.{CellsFound, WorkFound, LockFound, EndingFound, ClaimFound, OwnFound, is_same_cell, is_same_entry, without_bits}
@@ -60,7 +60,7 @@ module _ (n : Machine) (m m2 : Place → ℕ) (k : Keeps m m2) (a b : Holdings) 
       record {
         word = k.kind e.frame ∙ c.word;
         cells = λ t. cells_law (sizes_of n) m m2 k a b g e.unmarked e.frame (is_same_cell (kind_fields e.word).kind) (λ w. cell_refl (is_table (kind_fields e.word).kind) w) (c.cells t);
-        fixed = λ i d l. rw (k.cell e.frame i) (c.fixed i d l);
+        fixed = λ i l. rw (k.cell e.frame i) (c.fixed i l);
         passed = λ v o p u l own other found r.
           let was : owner_of (m (Refs e.frame)) ≡ Some o = sym (k.owner e.frame) ∙ own in
           let past = reach v e.frame p r in
@@ -73,13 +73,14 @@ module _ (n : Machine) (m m2 : Place → ℕ) (k : Keeps m m2) (a b : Holdings) 
       }
 
 -- ---- one cell is found
-fixed_if : (m2 : Place → ℕ) (f i w bound : ℕ) (b : Bool) → b ≡ ((i == bound) && is_fixed w) → m2 (Cell f i) ≡ w →
+fixed_if : (m2 : Place → ℕ) (f i w bound : ℕ) (t b : Bool) → b ≡ (t && ((i == bound) && is_fixed w)) → m2 (Cell f i) ≡ w →
     ((j : ℕ) → j < bound → IsTrue (is_fixed (m2 (Cell f j)))) → (j : ℕ) → j < (if b then bound + 1 else bound) → IsTrue (is_fixed (m2 (Cell f j)))
-fixed_if m2 f i w bound true e now h j l =
-    let p = and_parts (i == bound) (is_fixed w) (sym e) in
+fixed_if m2 f i w bound t true e now h j l =
+    let o = and_parts t ((i == bound) && is_fixed w) (sym e) in
+    let p = and_parts (i == bound) (is_fixed w) o.1 in
     let q = eqb-true i bound p.0 in
     elim (cases_lt j bound) [ inl below ↦ h j below | inr above ↦ (let r : i ≡ j = omega arith in rw (← r, now) p.1) ]
-fixed_if m2 f i w bound false e now h j l = h j l
+fixed_if m2 f i w bound t false e now h j l = h j l
 
 scrubbed_if : (m2 : Place → ℕ) (f i w bound : ℕ) (b : Bool) → b ≡ ((i == bound) && (w == 0)) → m2 (Cell f i) ≡ w →
     ((j : ℕ) → j < bound → m2 (Cell f j) ≡ 0) → (j : ℕ) → j < (if b then bound + 1 else bound) → m2 (Cell f j) ≡ 0
@@ -100,13 +101,13 @@ learned_work_law n m2 h2 b f i e at c =
       (record e {
         seen = Some (record { index = i; word = w });
         unsettled = learned_last i e.recorded w e.unsettled;
-        fixed = if (i == e.fixed) && is_fixed w then e.fixed + 1 else e.fixed;
+        fixed = if counts_fixed i w e then e.fixed + 1 else e.fixed;
       })
       c
       (record {
         word = c.word;
         cells = c.cells;
-        fixed = λ j d l. fixed_if m2 e.frame i w e.fixed ((i == e.fixed) && is_fixed w) refl (ap (λ x. m2 (Cell x i)) at) (λ q r. c.fixed q d r) j l;
+        fixed = λ j l. fixed_if m2 e.frame i w e.fixed (is_type (kind_fields e.word).kind kinds.Desc) (counts_fixed i w e) refl (ap (λ x. m2 (Cell x i)) at) c.fixed j l;
         passed = c.passed;
       })
 

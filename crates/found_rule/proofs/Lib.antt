@@ -7,3 +7,5 @@ pub mod KnownFacts
 pub mod ReachSame
 pub mod CellFacts
 pub mod FoundLaw
+pub mod FormedWorks
+pub mod FormedLaw

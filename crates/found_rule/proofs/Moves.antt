@@ -1,6 +1,6 @@
 -- What a step that is legal today may change of what a seat's facts speak of. The words that facts read stay,
 -- and what a reference word says of its owner; the lists of a hand change by one element.
-use Rattle.std.proofs.Common.{◌≡◌, ◌≢◌, ℕ, suc, ◌+◌, ◌<◌, ◌≤◌, ◌==◌, ◌&&◌, nat_le, Bool, true, false, List, [], ◌∷◌, length, Option, Some, None, IsTrue, refl, sym, ap, subst, ◌∙◌, ◌⊎◌, inl, inr, arith}
+use Rattle.std.proofs.Common.{◌≡◌, ◌≢◌, ℕ, suc, ◌+◌, ◌<◌, ◌≤◌, ◌==◌, ◌&&◌, nat_lt, nat_le, Bool, true, false, List, [], ◌∷◌, length, Option, Some, None, IsTrue, refl, sym, ap, subst, ◌∙◌, ◌⊎◌, inl, inr, arith}
 use Rattle.xp_words.specs.RefWords.{ref_write}
 use Rattle.xp_words.specs.declared.refs.RefWord.TheVariants.{Dying}
 use Rattle.xp_words.specs.Places.{Sizes, Place, Clock, Life, Vcpu, Refs, Kind, Cell, Priv, is_place, place_at}
@@ -8,15 +8,16 @@ use Rattle.xp_board.specs.declared.holdings.Made.{Made}
 use Rattle.xp_board.specs.declared.holdings.Reference.{Reference}
 use Rattle.xp_board.specs.declared.holdings.Ending.{Ending}
 use Rattle.xp_board.specs.declared.holdings.Lock.{Lock}
+use Rattle.xp_board.specs.declared.holdings.Looking.{Looking}
 use Rattle.xp_board.specs.declared.holdings.Holdings.{Holdings}
 use Rattle.xp_board.specs.declared.holdings.OwnerFound.TheVariants as owners
-use Rattle.xp_board.specs.Lists.{EachOf}
-use Rattle.xp_board.specs.Steps.{left_of, some_since, last_since, EachStep, EachSince, steps_before}
+use Rattle.xp_board.specs.Lists.{kept_of, EachOf}
+use Rattle.xp_board.specs.Steps.{is_at, left_of, some_since, some_before, last_since, EachStep, EachSince, steps_before}
 use Rattle.xp_board.specs.Readings.{owner_of, told_value}
 use Rattle.xp_board.specs.Hands.{without_ref, changed_work, changed_lock, changed_claim}
 use Rattle.xp_board.specs.After.{learned_work, learned_lock, learned_claim}
-use Rattle.found_rule.proofs.StepLists.{EachOf-more, EachOf-without, EachOf-changes}
-use Rattle.found_rule.proofs.MoreSteps.{some_since-cases, last_since-cases, EachSince-more, steps_before-cases}
+use Rattle.found_rule.proofs.StepLists.{EachOf-more, EachOf-without, EachOf-changes, EachOf-kept}
+use Rattle.found_rule.proofs.MoreSteps.{some_step-more, some_since-cases, last_since-cases, EachSince-more, steps_before-cases}
 
 -- the words that facts read
 pub record Keeps (m m2 : Place → ℕ) : Type 0 where
@@ -91,6 +92,22 @@ grown_told z m m2 xs ys P (added x q a e) was is h =
     (EachOf-more (λ y. P (told_value (place_at z y.step.place) y.found) × P (told_value (place_at z y.step.place) (left_of y))) x xs
       (rw (a.place, a.left, a.found) (was q, is q)) h)
 
+pub grown_longer : (z : Sizes) (m m2 : Place → ℕ) (xs ys : List Made) → Grown z m m2 xs ys → length xs ≤ length ys
+grown_longer z m m2 xs ys (stayed e) = let k = ap length e in omega arith
+grown_longer z m m2 xs ys (added x p a e) = let k : length ys ≡ suc (length xs) = ap length e in omega arith
+
+-- what was found before some step was found before it
+pub grown_once : (z : Sizes) (m m2 : Place → ℕ) (xs ys : List Made) → Grown z m m2 xs ys → (n : ℕ) (p : Place) (test : ℕ → Bool) →
+    IsTrue (some_before z n p test xs) → IsTrue (some_before z n p test ys)
+grown_once z m m2 xs ys (stayed e) n p test h = subst (λ l. IsTrue (some_before z n p test l)) (sym e) h
+grown_once z m m2 xs ys (added x q a e) n p test h =
+    subst (λ l. IsTrue (some_before z n p test l)) (sym e) (some_step-more (λ k y. nat_lt k n && (is_at z p y && test (left_of y))) x xs h)
+
+pub grown_places : (z : Sizes) (m m2 : Place → ℕ) (xs ys : List Made) → Grown z m m2 xs ys →
+    EachOf (λ x. IsTrue (is_place z (place_at z x.step.place))) xs → EachOf (λ x. IsTrue (is_place z (place_at z x.step.place))) ys
+grown_places z m m2 xs ys (stayed e) h = rw e h
+grown_places z m m2 xs ys (added x p a e) h = rw e (EachOf-more (λ y. IsTrue (is_place z (place_at z y.step.place))) x xs (subst (λ q. IsTrue (is_place z q)) (sym a.place) a.real) h)
+
 -- ---- the lists of a hand
 pub data RefsMoved (m2 : Place → ℕ) (xs ys : List Reference) : Type 0 where
   refs_stayed : ys ≡ xs → RefsMoved m2 xs ys
@@ -132,6 +149,14 @@ pub data OwnMoved (z : Sizes) (m2 : Place → ℕ) (p : Place) (a b : Holdings) 
   own_stayed : y ≡ x → last_since z 0 p b.steps ≡ last_since z 0 p a.steps → OwnMoved z m2 p a b x y
   own_found : y ≡ Some (m2 p) → last_since z 0 p b.steps ≡ Some (m2 p) → OwnMoved z m2 p a b x y
 
+pub data LookingMoved (xs ys : List Looking) : Type 0 where
+  looking_stayed : ys ≡ xs → LookingMoved xs ys
+  looking_went : (test : Looking → Bool) → ys ≡ kept_of test xs → LookingMoved xs ys
+
+pub looking_each : (xs ys : List Looking) (P : Looking → Type 0) → LookingMoved xs ys → EachOf P xs → EachOf P ys
+looking_each xs ys P (looking_stayed e) h = rw e h
+looking_each xs ys P (looking_went test e) h = rw e (EachOf-kept P test xs h)
+
 -- ---- all of a seat's holdings
 pub record Moved (z : Sizes) (m m2 : Place → ℕ) (s : ℕ) (a b : Holdings) : Type 0 where
   pub steps : Grown z m m2 a.steps b.steps
@@ -142,6 +167,9 @@ pub record Moved (z : Sizes) (m m2 : Place → ℕ) (s : ℕ) (a b : Holdings) :
   pub run : OwnMoved z m2 (Vcpu s 6) a b a.run b.run
   pub old0 : OwnMoved z m2 (Vcpu s 2) a b a.old0 b.old0
   pub old1 : OwnMoved z m2 (Vcpu s 3) a b a.old1 b.old1
+  pub raised : b.raised ≡ a.raised
+  pub looking : LookingMoved a.looking b.looking
+  pub turn : a.turn ≤ length a.steps → b.turn ≤ length b.steps
   pub acked : b.acked ≡ a.acked
   pub ran : b.ran ≡ a.ran
   pub cold : b.cold ≡ a.cold

@@ -80,3 +80,20 @@ EachOf-changes P Q key g change (x ∷ xs) f o h =
       inl at ↦ (let t : (key x == g) ≡ true = grind (arith, nat_tests) in rw t (f x at h.0, EachOf-map P Q xs o h.1))
     | inr off ↦ (let t : (key x == g) ≡ false = grind (arith, nat_tests) in rw t (o x h.0, EachOf-changes P Q key g change xs f o h.1))
     ]
+
+times_if : {A : Type 0} (key : A → ℕ) (g f : ℕ) (change : A → A) (x : A) (xs : List A) (b : Bool) → ((e : A) → key (change e) ≡ key e) →
+    times_by key f (changed_by key g change xs) ≡ times_by key f xs → times_by key f (if b then (change x ∷ xs) else (x ∷ changed_by key g change xs)) ≡ times_by key f (x ∷ xs)
+unfolding times_by
+times_if key g f change x xs true k h = let e = ap (λ y. one_at f y) (k x) in omega arith
+times_if key g f change x xs false k h = omega arith
+
+-- a change that keeps numbers keeps how many there are
+pub times_by-changed : {A : Type 0} (key : A → ℕ) (g f : ℕ) (change : A → A) (xs : List A) → ((e : A) → key (change e) ≡ key e) →
+    times_by key f (changed_by key g change xs) ≡ times_by key f xs
+unfolding changed_by
+times_by-changed key g f change [] k = refl
+times_by-changed key g f change (x ∷ xs) k = times_if key g f change x xs (key x == g) k (times_by-changed key g f change xs k)
+
+pub times_by-more : {A : Type 0} (key : A → ℕ) (f : ℕ) (x : A) (xs : List A) → times_by key f xs ≤ times_by key f (x ∷ xs)
+unfolding times_by
+times_by-more key f x xs = omega arith
