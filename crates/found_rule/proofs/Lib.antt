@@ -9,3 +9,4 @@ pub mod CellFacts
 pub mod FoundLaw
 pub mod FormedWorks
 pub mod FormedLaw
+pub mod StepMoves
