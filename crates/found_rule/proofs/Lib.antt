@@ -10,3 +10,6 @@ pub mod FoundLaw
 pub mod FormedWorks
 pub mod FormedLaw
 pub mod StepMoves
+pub mod RefChanges
+pub mod WordsKept
+pub mod StepLaw
