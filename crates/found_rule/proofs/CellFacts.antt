@@ -1,43 +1,36 @@
 -- What a seat knows of the frames in its hand alone, and of its own words.
-use Rattle.std.proofs.Common.{◌≡◌, ◌≢◌, ℕ, ◌+◌, ◌<◌, ◌≤◌, ◌==◌, ◌&&◌, not, if◌then◌else◌, Bool, true, false, List, Option, Some, None, IsTrue, refl, sym, ap, subst, ◌∙◌, ◌⊎◌, inl, inr, arith}
-use Rattle.std.proofs.lemmas.Bool.{cases_lt, cases_Bool, eqb-true, and_parts, not-true}
-use Rattle.xp_words.specs.declared.kind.PageType.{PageType}
+use Rattle.std.proofs.Common.{◌≡◌, ℕ, ◌+◌, ◌<◌, ◌==◌, ◌&&◌, not, if◌then◌else◌, Bool, true, false, Option, Some, IsTrue, refl, sym, ap, subst, ◌∙◌, inl, inr, arith}
+use Rattle.std.proofs.lemmas.Bool.{cases_lt, eqb-true, and_parts, not-true}
 use Rattle.xp_words.specs.declared.kind.PageType.TheVariants as kinds
 use Rattle.xp_words.specs.PageTypes.{is_table}
 use Rattle.xp_words.specs.KindWords.{kind_fields}
-use Rattle.xp_words.specs.RefWords.{ref_write}
-use Rattle.xp_words.specs.declared.refs.RefWord.TheVariants.{Dying}
 use Rattle.xp_words.specs.Machine.{Machine}
-use Rattle.xp_words.specs.Places.{Sizes, sizes_of, Place, Clock, Vcpu, Refs, Kind, Cell, Priv}
-use Rattle.xp_board.specs.declared.holdings.Made.{Made}
-use Rattle.xp_board.specs.declared.holdings.Seen.{Seen}
+use Rattle.xp_words.specs.Places.{Sizes, sizes_of, Place, Vcpu, Refs, Cell, Priv}
 use Rattle.xp_board.specs.declared.holdings.Work.{Work}
 use Rattle.xp_board.specs.declared.holdings.Lock.{Lock}
-use Rattle.xp_board.specs.declared.holdings.Ending.{Ending}
 use Rattle.xp_board.specs.declared.holdings.Claimed.{Claimed}
 use Rattle.xp_board.specs.declared.holdings.Holdings.{Holdings}
 use Rattle.xp_board.specs.Lists.{EachOf}
-use Rattle.xp_board.specs.Steps.{last_since}
 use Rattle.xp_board.specs.Readings.{is_type, owner_of, domain_of, has_ever}
-use Rattle.xp_board.specs.After.{is_fixed, counts_fixed, learned_work, learned_lock, learned_claim, learned_last}
+use Rattle.xp_board.specs.After.{is_fixed, counts_fixed, learned_work, learned_claim, learned_last}
 use Rattle.xp_board.specs.Reach.{Use, Reach}
 use Rattle.xp_board.specs.Fresh.{FreshFor}
 use Rattle.xp_board.specs.Found.{CellsFound, WorkFound, LockFound, EndingFound, ClaimFound, OwnFound, is_same_cell, is_same_entry, without_bits}
 use Rattle.found_rule.proofs.PlaceTests.{equal_refl}
 use Rattle.found_rule.proofs.StepLists.{EachOf-map, EachOf-changes}
-use Rattle.found_rule.proofs.Moves.{Keeps, Grown, grown_some, grown_last, endings_each, locks_each, CellsMoved, cells_stayed, cell_found, OwnMoved, own_stayed, own_found, Moved}
+use Rattle.found_rule.proofs.Moves.{SameWords, Grown, grown_some, grown_last, endings_each, locks_each, CellsMoved, cells_stayed, cell_found, OwnMoved, own_stayed, own_found, Moved}
 use Rattle.found_rule.proofs.ReachSame.{reads_only}
 
 cell_refl : (t : Bool) (w : ℕ) → IsTrue (if t then is_same_entry w w else w == w)
 cell_refl true w = equal_refl (without_bits w)
 cell_refl false w = equal_refl w
 
-module _ (z : Sizes) (m m2 : Place → ℕ) (k : Keeps m m2) (a b : Holdings) (g : Grown z m m2 a.steps b.steps) where
+module _ (z : Sizes) (m m2 : Place → ℕ) (k : SameWords m m2) (a b : Holdings) (g : Grown z m m2 a.steps b.steps) where
   cells_law : (n f : ℕ) (same : ℕ → ℕ → Bool) → ((w : ℕ) → IsTrue (same w w)) → CellsFound z m n f same a.steps → CellsFound z m2 n f same b.steps
   cells_law n f same r c i w h =
       elim (grown_last z m m2 a.steps b.steps n (Cell f i) w g h) [
-        inl new ↦ subst (λ x. IsTrue (same (m2 (Cell f i)) x)) new (r (m2 (Cell f i)))
-      | inr old ↦ subst (λ x. IsTrue (same x w)) (sym (k.cell f i)) (c i w old)
+        | inl new ↦ subst (λ x. IsTrue (same (m2 (Cell f i)) x)) new (r (m2 (Cell f i)))
+        | inr old ↦ subst (λ x. IsTrue (same x w)) (sym (k.cell f i)) (c i w old)
       ]
 
   lock_law : (e : Lock) → LockFound z m a e → LockFound z m2 b e
@@ -52,7 +45,7 @@ module _ (z : Sizes) (m m2 : Place → ℕ) (k : Keeps m m2) (a b : Holdings) (g
         scrubbed = λ i l. k.cell e.frame i ∙ c.scrubbed i l;
       }
 
-module _ (n : Machine) (m m2 : Place → ℕ) (k : Keeps m m2) (a b : Holdings) (g : Grown (sizes_of n) m m2 a.steps b.steps) (h h2 : ℕ → Holdings)
+module _ (n : Machine) (m m2 : Place → ℕ) (k : SameWords m m2) (a b : Holdings) (g : Grown (sizes_of n) m m2 a.steps b.steps) (h h2 : ℕ → Holdings)
     (fresh : (v : ℕ) → v < (sizes_of n).vcpus → FreshFor n m h v)
     (reach : (v f : ℕ) (p : Use) → Reach (sizes_of n) m2 (h2 v) f p → Reach (sizes_of n) m (h v) f p) where
   work_law : (e : Work) → WorkFound n m h a e → WorkFound n m2 h2 b e
@@ -62,14 +55,14 @@ module _ (n : Machine) (m m2 : Place → ℕ) (k : Keeps m m2) (a b : Holdings) 
         cells = λ t. cells_law (sizes_of n) m m2 k a b g e.unmarked e.frame (is_same_cell (kind_fields e.word).kind) (λ w. cell_refl (is_table (kind_fields e.word).kind) w) (c.cells t);
         fixed = λ i l. rw (k.cell e.frame i) (c.fixed i l);
         passed = λ v o p u l own other found r.
-          let was : owner_of (m (Refs e.frame)) ≡ Some o = sym (k.owner e.frame) ∙ own in
-          let past = reach v e.frame p r in
-          elim (grown_some (sizes_of n) m m2 a.steps b.steps e.since (Priv (domain_of n v)) (λ w. not (has_ever o w)) g found) [
-            inl new ↦
-              reads_only m (domain_of n v) e.frame o p (fresh v l e.frame p past).owner was other
-              (ap (has_ever o) (sym (k.priv (domain_of n v))) ∙ not-true (has_ever o (m2 (Priv (domain_of n v)))) new)
-          | inr old ↦ c.passed v o p u l was other old past
-          ];
+            let was : owner_of (m (Refs e.frame)) ≡ Some o = sym (k.owner e.frame) ∙ own in
+            let past = reach v e.frame p r in
+            elim (grown_some (sizes_of n) m m2 a.steps b.steps e.since (Priv (domain_of n v)) (λ w. not (has_ever o w)) g found) [
+              | inl new ↦
+                  reads_only m (domain_of n v) e.frame o p (fresh v l e.frame p past).owner was other
+                  (ap (has_ever o) (sym (k.priv (domain_of n v))) ∙ not-true (has_ever o (m2 (Priv (domain_of n v)))) new)
+              | inr old ↦ c.passed v o p u l was other old past
+            ];
       }
 
 -- ---- one cell is found
@@ -98,18 +91,18 @@ learned_work_law : (n : Machine) (m2 : Place → ℕ) (h2 : ℕ → Holdings) (b
 learned_work_law n m2 h2 b f i e at c =
     let w = m2 (Cell f i) in
     work_if (λ x. WorkFound n m2 h2 b x) (kind_fields e.word).unflushed e
-      (record e {
-        seen = Some (record { index = i; word = w });
-        unsettled = learned_last i e.recorded w e.unsettled;
-        fixed = if counts_fixed i w e then e.fixed + 1 else e.fixed;
-      })
-      c
-      (record {
-        word = c.word;
-        cells = c.cells;
-        fixed = λ j l. fixed_if m2 e.frame i w e.fixed (is_type (kind_fields e.word).kind kinds.Desc) (counts_fixed i w e) refl (ap (λ x. m2 (Cell x i)) at) c.fixed j l;
-        passed = c.passed;
-      })
+    (record e {
+      seen = Some (record { index = i; word = w });
+      unsettled = learned_last i e.recorded w e.unsettled;
+      fixed = if counts_fixed i w e then e.fixed + 1 else e.fixed;
+    })
+    c
+    (record {
+      word = c.word;
+      cells = c.cells;
+      fixed = λ j l. fixed_if m2 e.frame i w e.fixed (is_type (kind_fields e.word).kind kinds.Desc) (counts_fixed i w e) refl (ap (λ x. m2 (Cell x i)) at) c.fixed j l;
+      passed = c.passed;
+    })
 
 learned_claim_law : (z : Sizes) (m2 : Place → ℕ) (d : ℕ) (b : Holdings) (f i : ℕ) (e : Claimed) → e.frame ≡ f → ClaimFound z m2 d b e → ClaimFound z m2 d b (learned_claim i (m2 (Cell f i)) e)
 learned_claim_law z m2 d b f i e at c =
@@ -121,13 +114,13 @@ learned_claim_law z m2 d b f i e at c =
     }
 
 -- ---- all that the hand has
-module _ (n : Machine) (m m2 : Place → ℕ) (k : Keeps m m2) (s : ℕ) (a b : Holdings) (v : Moved (sizes_of n) m m2 s a b) (h h2 : ℕ → Holdings) where
+module _ (n : Machine) (m m2 : Place → ℕ) (k : SameWords m m2) (s : ℕ) (a b : Holdings) (v : Moved (sizes_of n) m m2 s a b) (h h2 : ℕ → Holdings) where
   works_by : CellsMoved (sizes_of n) m2 a b → ((e : Work) → WorkFound n m h a e → WorkFound n m2 h2 b e) → EachOf (WorkFound n m h a) a.works → EachOf (WorkFound n m2 h2 b) b.works
   works_by (cells_stayed l w o c) f t = subst (λ x. EachOf (WorkFound n m2 h2 b) x) (sym w) (EachOf-map (WorkFound n m h a) (WorkFound n m2 h2 b) a.works f t)
   works_by (cell_found g i l r w o c) f t =
       subst (λ x. EachOf (WorkFound n m2 h2 b) x) (sym w)
       (EachOf-changes (WorkFound n m h a) (WorkFound n m2 h2 b) (λ e. e.frame) g (learned_work i (m2 (Cell g i))) a.works
-        (λ e at u. learned_work_law n m2 h2 b g i e at (f e u)) f t)
+      (λ e at u. learned_work_law n m2 h2 b g i e at (f e u)) f t)
 
   pub works_law : ((w : ℕ) → w < (sizes_of n).vcpus → FreshFor n m h w) →
       ((w f : ℕ) (p : Use) → Reach (sizes_of n) m2 (h2 w) f p → Reach (sizes_of n) m (h w) f p) →
@@ -151,7 +144,7 @@ module _ (n : Machine) (m m2 : Place → ℕ) (k : Keeps m m2) (s : ℕ) (a b : 
   claims_by d (cell_found g i l r w o c) t =
       subst (λ x. EachOf (ClaimFound (sizes_of n) m2 d b) x) (sym c)
       (EachOf-changes (ClaimFound (sizes_of n) m d a) (ClaimFound (sizes_of n) m2 d b) (λ e. e.frame) g (learned_claim i (m2 (Cell g i))) a.claimed
-        (λ e at u. learned_claim_law (sizes_of n) m2 d b g i e at (claim_law (sizes_of n) m m2 k a b v.steps d e u)) (claim_law (sizes_of n) m m2 k a b v.steps d) t)
+      (λ e at u. learned_claim_law (sizes_of n) m2 d b g i e at (claim_law (sizes_of n) m m2 k a b v.steps d e u)) (claim_law (sizes_of n) m m2 k a b v.steps d) t)
 
   pub claims_law : (d : ℕ) → EachOf (ClaimFound (sizes_of n) m d a) a.claimed → EachOf (ClaimFound (sizes_of n) m2 d b) b.claimed
   claims_law d t = claims_by d v.cells t

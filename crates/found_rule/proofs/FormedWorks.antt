@@ -1,7 +1,6 @@
 -- Frames in work and under a lock stay well formed: what is noted of a cell is the word found there last.
-use Rattle.std.proofs.Common.{◌≡◌, ◌≢◌, ℕ, ◌+◌, ◌-◌, ◌<◌, ◌≤◌, ◌==◌, ◌&&◌, if◌then◌else◌, Bool, true, false, List, length, Option, Some, None, IsTrue, refl, sym, ap, subst, ◌∙◌, ◌⊎◌, inl, inr, arith}
-use Rattle.std.proofs.lemmas.Bool.{cases_eq, eqb-true, eqb-false}
-use Rattle.std.proofs.lemmas.Bool.Decides.{nat_tests}
+use Rattle.std.proofs.Common.{◌≡◌, ◌≢◌, ℕ, ◌+◌, ◌-◌, ◌<◌, ◌≤◌, ◌==◌, if◌then◌else◌, Bool, true, false, List, length, Option, Some, None, IsTrue, refl, sym, ap, ◌∙◌, arith}
+use Rattle.std.proofs.lemmas.Bool.{eqb-true, eqb-false}
 use Rattle.xp_words.specs.KindWords.{kind_fields}
 use Rattle.xp_words.specs.Machine.{Machine}
 use Rattle.xp_words.specs.Places.{Sizes, sizes_of, Place, Kind, Cell}
@@ -14,7 +13,6 @@ use Rattle.xp_board.specs.declared.holdings.Holdings.{Holdings}
 use Rattle.xp_board.specs.Steps.{last_since, some_before}
 use Rattle.xp_board.specs.After.{learned_work, learned_lock, learned_last, counts_fixed}
 use Rattle.xp_board.specs.WellFormed.{SeenIs, LastIs, IsWorkFormed, IsLockFormed}
-use Rattle.found_rule.proofs.Moves.{Keeps, Grown}
 
 -- what is well formed, and nothing is recorded of it while it is marked
 pub record FormedWork (n : Machine) (a : Holdings) (e : Work) : Type 0 where

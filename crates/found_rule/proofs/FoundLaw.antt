@@ -1,26 +1,25 @@
 -- All that seats have found stays true.
-use Rattle.std.proofs.Common.{◌≡◌, ◌≢◌, ℕ, ◌+◌, ◌<◌, ◌≤◌, IsTrue, refl, sym, ap, subst, ◌∙◌}
+use Rattle.std.proofs.Common.{ℕ, ◌+◌, ◌<◌, ◌≤◌, IsTrue}
 use Rattle.xp_words.specs.Entries.{is_bit}
 use Rattle.xp_words.specs.Machine.{Machine}
-use Rattle.xp_words.specs.Places.{Sizes, sizes_of, Place, Clock, Vcpu, Priv, is_place}
+use Rattle.xp_words.specs.Places.{sizes_of, Place, Clock, Vcpu, Priv, is_place}
 use Rattle.xp_board.specs.declared.holdings.Holdings.{Holdings}
 use Rattle.xp_board.specs.Readings.{domain_of}
 use Rattle.xp_board.specs.Reach.{Use, Reach}
 use Rattle.xp_board.specs.Fresh.{FreshFor}
 use Rattle.xp_board.specs.Found.{Found}
-use Rattle.found_rule.proofs.Moves.{Keeps, Grown, Moved}
+use Rattle.found_rule.proofs.Moves.{SameWords, Moved}
 use Rattle.found_rule.proofs.StepFacts.{clock_law, flushed_law, stopped_law, life_law, since_ack_law, privileges_law, since_off_law, cold_off_law}
 use Rattle.found_rule.proofs.KnownFacts.{owners_law, lives_law, partials_law}
 use Rattle.found_rule.proofs.CellFacts.{works_law, locks_law, endings_law, claims_law, own_law}
 use Rattle.found_rule.proofs.ReachSame.{reach_same}
 
 -- seat t of which this moved, where each seat keeps what others speak of
-module _ (n : Machine) (m m2 : Place → ℕ) (h h2 : ℕ → Holdings) (k : Keeps m m2)
+module _ (n : Machine) (m m2 : Place → ℕ) (h h2 : ℕ → Holdings) (k : SameWords m m2)
     (flushed : (v : ℕ) → m (Vcpu v 5) ≤ m Clock)
     (priv : (d : ℕ) → IsTrue (is_place (sizes_of n) (Priv d)) → (o : ℕ) → o < 16 → IsTrue (is_bit o (m (Priv d))) → IsTrue (is_bit (16 + o) (m (Priv d))))
     (fresh : (v : ℕ) → v < (sizes_of n).vcpus → FreshFor n m h v)
     (moves : (v : ℕ) → Moved (sizes_of n) m m2 v (h v) (h2 v)) where
-
   reach : (v f : ℕ) (p : Use) → Reach (sizes_of n) m2 (h2 v) f p → Reach (sizes_of n) m (h v) f p
   reach v f p r = reach_same (sizes_of n) m m2 (h v) (h2 v) k.cell (moves v).cache (moves v).walk r
 

@@ -1,11 +1,11 @@
 -- Facts over a list of steps, with one step more.
-use Rattle.std.proofs.Common.{◌≡◌, ◌≢◌, ℕ, zero, suc, ◌+◌, ◌<◌, ◌≤◌, ◌==◌, ◌&&◌, ◌||◌, nat_lt, nat_le, if◌then◌else◌, Bool, true, false, List, [], ◌∷◌, length, Option, Some, None, IsTrue, refl, sym, ap, subst, ◌∙◌, ◌⊎◌, inl, inr, arith}
-use Rattle.std.proofs.lemmas.Bool.{cases_Bool, or_cases, or_left, or_right, and_parts, and_from}
+use Rattle.std.proofs.Common.{◌≡◌, ◌≢◌, ℕ, ◌≤◌, ◌&&◌, nat_le, if◌then◌else◌, Bool, true, false, List, [], ◌∷◌, length, Option, Some, None, IsTrue, refl, ◌⊎◌, inl, inr, arith}
+use Rattle.std.proofs.lemmas.Bool.{or_cases, or_right, and_parts}
 use Rattle.std.proofs.lemmas.Bool.Decides.{nat_tests}
 use Rattle.xp_words.specs.Places.{Sizes, Place, place_at}
 use Rattle.xp_board.specs.declared.holdings.Made.{Made}
 use Rattle.xp_board.specs.Lists.{EachOf}
-use Rattle.xp_board.specs.Steps.{is_same, is_at, left_of, some_step, some_since, some_before, last_since, EachStep, EachSince, steps_before}
+use Rattle.xp_board.specs.Steps.{is_at, left_of, some_step, some_since, last_since, EachStep, EachSince, steps_before}
 use Rattle.found_rule.proofs.PlaceTests.{is_same-refl, is_same-by, same_place, is_same-other}
 
 -- ---- some step
@@ -22,11 +22,11 @@ pub some_since-cases : (z : Sizes) (n : ℕ) (p : Place) (test : ℕ → Bool) (
     ((place_at z x.step.place ≡ p) × IsTrue (test (left_of x))) ⊎ IsTrue (some_since z n p test xs)
 some_since-cases z n p test x xs h =
     elim (some_step-cases (λ k y. nat_le n k && (is_at z p y && test (left_of y))) x xs h) [
-      inl new ↦
-        let a = and_parts (nat_le n (length xs)) (is_at z p x && test (left_of x)) new in
-        let b = and_parts (is_at z p x) (test (left_of x)) a.1 in
-        inl (same_place (place_at z x.step.place) p b.0, b.1)
-    | inr old ↦ inr old
+      | inl new ↦
+          let a = and_parts (nat_le n (length xs)) (is_at z p x && test (left_of x)) new in
+          let b = and_parts (is_at z p x) (test (left_of x)) a.1 in
+          inl (same_place (place_at z x.step.place) p b.0, b.1)
+      | inr old ↦ inr old
     ]
 
 -- ---- the word found last
@@ -40,8 +40,8 @@ pub last_since-cases : (z : Sizes) (n : ℕ) (p : Place) (w : ℕ) (x : Made) (x
 unfolding last_since
 last_since-cases z n p w x xs h =
     elim (last_if (nat_le n (length xs)) (is_at z p x) (left_of x) w (last_since z n p xs) h) [
-      inl new ↦ inl (same_place (place_at z x.step.place) p new.0, new.1)
-    | inr old ↦ inr ((λ e. let k = is_same-by (place_at z x.step.place) p e in let o = old.0 in cc), old.1)
+      | inl new ↦ inl (same_place (place_at z x.step.place) p new.0, new.1)
+      | inr old ↦ inr ((λ e. let k = is_same-by (place_at z x.step.place) p e in let o = old.0 in cc), old.1)
     ]
 
 pub last_since-here : (z : Sizes) (n : ℕ) (p : Place) (x : Made) (xs : List Made) → n ≤ length xs → place_at z x.step.place ≡ p → last_since z n p (x ∷ xs) ≡ Some (left_of x)
@@ -95,6 +95,6 @@ pub steps_before-cases : (z : Sizes) (p : Place) (test : ℕ → Bool) (x : Made
 unfolding steps_before
 steps_before-cases z p test x xs =
     elim (first_if (is_at z p x && test (left_of x)) xs (steps_before z p test xs)) [
-      inl e ↦ (let b = and_parts (is_at z p x) (test (left_of x)) e in inl (same_place (place_at z x.step.place) p b.0, b.1))
-    | inr e ↦ inr e
+      | inl e ↦ (let b = and_parts (is_at z p x) (test (left_of x)) e in inl (same_place (place_at z x.step.place) p b.0, b.1))
+      | inr e ↦ inr e
     ]

@@ -1,6 +1,6 @@
 -- What a step that is legal today may change of what a seat's facts speak of. The words that facts read stay,
 -- and what a reference word says of its owner; the lists of a hand change by one element.
-use Rattle.std.proofs.Common.{◌≡◌, ◌≢◌, ℕ, suc, ◌+◌, ◌<◌, ◌≤◌, ◌==◌, ◌&&◌, nat_lt, nat_le, Bool, true, false, List, [], ◌∷◌, length, Option, Some, None, IsTrue, refl, sym, ap, subst, ◌∙◌, ◌⊎◌, inl, inr, arith}
+use Rattle.std.proofs.Common.{◌≡◌, ◌≢◌, ℕ, suc, ◌≤◌, ◌&&◌, nat_lt, Bool, List, ◌∷◌, length, Option, Some, IsTrue, sym, ap, subst, ◌∙◌, ◌⊎◌, inl, inr, arith}
 use Rattle.xp_words.specs.RefWords.{ref_write}
 use Rattle.xp_words.specs.declared.refs.RefWord.TheVariants.{Dying}
 use Rattle.xp_words.specs.Places.{Sizes, Place, Clock, Life, Vcpu, Refs, Kind, Cell, Priv, is_place, place_at}
@@ -12,7 +12,7 @@ use Rattle.xp_board.specs.declared.holdings.Looking.{Looking}
 use Rattle.xp_board.specs.declared.holdings.Holdings.{Holdings}
 use Rattle.xp_board.specs.declared.holdings.OwnerFound.TheVariants as owners
 use Rattle.xp_board.specs.Lists.{kept_of, EachOf}
-use Rattle.xp_board.specs.Steps.{is_at, left_of, some_since, some_before, last_since, EachStep, EachSince, steps_before}
+use Rattle.xp_board.specs.Steps.{is_at, left_of, some_since, some_before, last_since, EachSince, steps_before}
 use Rattle.xp_board.specs.Readings.{owner_of, told_value}
 use Rattle.xp_board.specs.Hands.{without_ref, changed_work, changed_lock, changed_claim}
 use Rattle.xp_board.specs.After.{learned_work, learned_lock, learned_claim}
@@ -20,7 +20,7 @@ use Rattle.found_rule.proofs.StepLists.{EachOf-more, EachOf-without, EachOf-chan
 use Rattle.found_rule.proofs.MoreSteps.{some_step-more, some_since-cases, last_since-cases, EachSince-more, steps_before-cases}
 
 -- the words that facts read
-pub record Keeps (m m2 : Place → ℕ) : Type 0 where
+pub record SameWords (m m2 : Place → ℕ) : Type 0 where
   pub clock : m2 Clock ≡ m Clock
   pub life : (d : ℕ) → m2 (Life d) ≡ m (Life d)
   pub vcpu : (v k : ℕ) → m2 (Vcpu v k) ≡ m (Vcpu v k)
@@ -50,18 +50,18 @@ grown_each z m m2 xs ys n p P (stayed e) was is h = rw e h
 grown_each z m m2 xs ys n p P (added x q a e) was is h =
     rw e
     (EachSince-more z n p P x xs
-      (λ at.
-        let k = sym a.place ∙ at in
-        let r = subst (λ y. IsTrue (is_place z y)) k a.real in
-        (subst P (sym (a.found ∙ ap m k)) (was r), subst P (sym (a.left ∙ ap m2 k)) (is r))) h)
+    (λ at.
+    let k = sym a.place ∙ at in
+    let r = subst (λ y. IsTrue (is_place z y)) k a.real in
+    (subst P (sym (a.found ∙ ap m k)) (was r), subst P (sym (a.left ∙ ap m2 k)) (is r))) h)
 
 pub grown_some : (z : Sizes) (m m2 : Place → ℕ) (xs ys : List Made) (n : ℕ) (p : Place) (test : ℕ → Bool) → Grown z m m2 xs ys →
     IsTrue (some_since z n p test ys) → IsTrue (test (m2 p)) ⊎ IsTrue (some_since z n p test xs)
 grown_some z m m2 xs ys n p test (stayed e) h = inr (rw (← e) h)
 grown_some z m m2 xs ys n p test (added x q a e) h =
     elim (some_since-cases z n p test x xs (subst (λ l. IsTrue (some_since z n p test l)) e h)) [
-      inl new ↦ inl (ap test (sym (a.left ∙ ap m2 (sym a.place ∙ new.0))) ∙ new.1)
-    | inr old ↦ inr old
+      | inl new ↦ inl (ap test (sym (a.left ∙ ap m2 (sym a.place ∙ new.0))) ∙ new.1)
+      | inr old ↦ inr old
     ]
 
 pub grown_last : (z : Sizes) (m m2 : Place → ℕ) (xs ys : List Made) (n : ℕ) (p : Place) (w : ℕ) → Grown z m m2 xs ys →
@@ -69,8 +69,8 @@ pub grown_last : (z : Sizes) (m m2 : Place → ℕ) (xs ys : List Made) (n : ℕ
 grown_last z m m2 xs ys n p w (stayed e) h = inr (ap (last_since z n p) (sym e) ∙ h)
 grown_last z m m2 xs ys n p w (added x q a e) h =
     elim (last_since-cases z n p w x xs (ap (last_since z n p) (sym e) ∙ h)) [
-      inl new ↦ inl (sym (a.left ∙ ap m2 (sym a.place ∙ new.0)) ∙ new.1)
-    | inr old ↦ inr old.1
+      | inl new ↦ inl (sym (a.left ∙ ap m2 (sym a.place ∙ new.0)) ∙ new.1)
+      | inr old ↦ inr old.1
     ]
 
 pub grown_before : (z : Sizes) (m m2 : Place → ℕ) (xs ys : List Made) (p : Place) (test : ℕ → Bool) → Grown z m m2 xs ys →
@@ -78,8 +78,8 @@ pub grown_before : (z : Sizes) (m m2 : Place → ℕ) (xs ys : List Made) (p : P
 grown_before z m m2 xs ys p test (stayed e) = inr (ap (steps_before z p test) e)
 grown_before z m m2 xs ys p test (added x q a e) =
     elim (steps_before-cases z p test x xs) [
-      inl new ↦ inl (ap test (sym (a.left ∙ ap m2 (sym a.place ∙ new.0))) ∙ new.1)
-    | inr old ↦ inr (ap (steps_before z p test) e ∙ old)
+      | inl new ↦ inl (ap test (sym (a.left ∙ ap m2 (sym a.place ∙ new.0))) ∙ new.1)
+      | inr old ↦ inr (ap (steps_before z p test) e ∙ old)
     ]
 
 pub grown_told : (z : Sizes) (m m2 : Place → ℕ) (xs ys : List Made) (P : ℕ → Type 0) → Grown z m m2 xs ys →
@@ -90,7 +90,7 @@ grown_told z m m2 xs ys P (stayed e) was is h = rw e h
 grown_told z m m2 xs ys P (added x q a e) was is h =
     rw e
     (EachOf-more (λ y. P (told_value (place_at z y.step.place) y.found) × P (told_value (place_at z y.step.place) (left_of y))) x xs
-      (rw (a.place, a.left, a.found) (was q, is q)) h)
+    (rw (a.place, a.left, a.found) (was q, is q)) h)
 
 pub grown_longer : (z : Sizes) (m m2 : Place → ℕ) (xs ys : List Made) → Grown z m m2 xs ys → length xs ≤ length ys
 grown_longer z m m2 xs ys (stayed e) = let k = ap length e in omega arith

@@ -1,6 +1,6 @@
 -- What a vCPU comes to, where neither cells nor what it has cached and walked changed; and of a frame of another
 -- domain over whose owner its domain never had privilege.
-use Rattle.std.proofs.Common.{◌≡◌, ◌≢◌, ℕ, ◌+◌, ◌<◌, ◌≤◌, Bool, true, false, List, Option, Some, None, IsTrue, refl, sym, ap, subst, ◌∙◌, ◌⊎◌, inl, inr}
+use Rattle.std.proofs.Common.{◌≡◌, ◌≢◌, ℕ, ◌<◌, true, false, Option, Some, None, IsTrue, refl, sym, subst, ◌∙◌, inl, inr}
 use Rattle.xp_words.specs.Entries.{is_bit, frame_of}
 use Rattle.xp_words.specs.RefWords.{ref_read}
 use Rattle.xp_words.specs.declared.refs.RefWord.{RefWord}
@@ -10,7 +10,6 @@ use Rattle.xp_board.specs.declared.holdings.Holdings.{Holdings}
 use Rattle.xp_board.specs.Lists.{Member}
 use Rattle.xp_board.specs.Readings.{is_free_in, is_free, owner_in, owner_of, has_ever}
 use Rattle.xp_board.specs.Reach.{Use, Table, Writes, Reads, Reach, cached, walked, entry, use_below, reached_by}
-use Rattle.xp_board.specs.FillSteps.{is_walked}
 use Rattle.xp_board.specs.Valid.{PermitsOwner}
 use Rattle.xp_board.specs.Fresh.{Belongs}
 

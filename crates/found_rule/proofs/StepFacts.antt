@@ -1,21 +1,17 @@
 -- The facts that speak of a seat's steps alone: the clock, flushes, run words, life words and privileges.
-use Rattle.std.proofs.Common.{◌≡◌, ◌≢◌, ℕ, ◌+◌, ◌<◌, ◌≤◌, ◌==◌, ◌&&◌, ◌||◌, Bool, true, false, List, [], ◌∷◌, IsTrue, refl, sym, ap, subst, ◌∙◌, ◌⊎◌, inl, inr, arith}
+use Rattle.std.proofs.Common.{◌≡◌, ◌≢◌, ℕ, ◌+◌, ◌<◌, ◌≤◌, ◌==◌, ◌||◌, true, IsTrue, refl, sym, subst, ◌∙◌, ◌⊎◌, inl, inr, arith}
 use Rattle.std.proofs.lemmas.Bool.{eqb-true, or_cases}
-use Rattle.std.proofs.lemmas.Bool.Decides.{nat_tests}
 use Rattle.xp_words.specs.Entries.{is_bit}
-use Rattle.xp_words.specs.Places.{Sizes, Place, Clock, Life, Vcpu, Refs, Kind, Cell, Priv, is_place, place_at}
-use Rattle.xp_board.specs.declared.holdings.Made.{Made}
+use Rattle.xp_words.specs.Places.{Sizes, Place, Clock, Life, Vcpu, Priv, is_place, place_at}
 use Rattle.xp_board.specs.declared.holdings.Holdings.{Holdings}
-use Rattle.xp_board.specs.Lists.{EachOf}
-use Rattle.xp_board.specs.Steps.{left_of, EachSince, steps_before}
+use Rattle.xp_board.specs.Steps.{left_of, EachSince}
 use Rattle.xp_board.specs.Readings.{told_value, has_now, has_ever}
-use Rattle.xp_board.specs.Spelling.{IsPriv}
-use Rattle.xp_board.specs.Found.{ClockFound, FlushedFound, StoppedFound, ClockSinceAck, LifeFound, EachTold, before_off, FlushedSinceOff, ColdSinceOff, PrivilegesFound}
+use Rattle.xp_board.specs.Found.{ClockFound, FlushedFound, StoppedFound, ClockSinceAck, LifeFound, before_off, FlushedSinceOff, ColdSinceOff, PrivilegesFound}
 use Rattle.found_rule.proofs.StepLists.{EachOf-map, EachOf-all, EachOf-both}
-use Rattle.found_rule.proofs.MoreSteps.{EachSince-map, EachOf-before}
-use Rattle.found_rule.proofs.Moves.{Keeps, Grown, grown_each, grown_told, grown_before}
+use Rattle.found_rule.proofs.MoreSteps.{EachOf-before}
+use Rattle.found_rule.proofs.Moves.{SameWords, Grown, grown_each, grown_told, grown_before}
 
-module _ (z : Sizes) (m m2 : Place → ℕ) (k : Keeps m m2) (a b : Holdings) (g : Grown z m m2 a.steps b.steps) where
+module _ (z : Sizes) (m m2 : Place → ℕ) (k : SameWords m m2) (a b : Holdings) (g : Grown z m m2 a.steps b.steps) where
   pub clock_law : ClockFound z m a → ClockFound z m2 b
   clock_law c = rw (k.clock) (grown_told z m m2 a.steps b.steps (λ y. y ≤ m Clock) g k.told_was k.told_is c)
 
@@ -45,21 +41,21 @@ module _ (z : Sizes) (m m2 : Place → ℕ) (k : Keeps m m2) (a b : Holdings) (g
   privileges_law f c d o l =
       let e = k.priv d in
       let h : IsTrue (is_place z (Priv d)) → IsTrue (has_now o (m (Priv d)) || has_ever o (m (Priv d))) → IsTrue (has_ever o (m (Priv d))) =
-          λ r t. elim (or_cases (has_now o (m (Priv d))) (has_ever o (m (Priv d))) t) [ inl now ↦ f d r o l now | inr ever ↦ ever ] in
+      λ r t. elim (or_cases (has_now o (m (Priv d))) (has_ever o (m (Priv d))) t) [ inl now ↦ f d r o l now | inr ever ↦ ever ] in
       rw e
       (grown_each z m m2 a.steps b.steps 0 (Priv d) (λ w. IsTrue (has_now o w || has_ever o w) → IsTrue (has_ever o (m (Priv d)))) g h
-        (λ r t. h r (subst (λ w. IsTrue (has_now o w || has_ever o w)) e t)) (c d o l))
+      (λ r t. h r (subst (λ w. IsTrue (has_now o w || has_ever o w)) e t)) (c d o l))
 
   module _ (h h2 : ℕ → Holdings) (cold : (v : ℕ) → (h2 v).cold ≡ (h v).cold) where
     pub since_off_law : (v : ℕ) → FlushedSinceOff z m h v a → FlushedSinceOff z m2 h2 v b
     since_off_law v c =
         let e = k.vcpu v 6 in
         elim (grown_before z m m2 a.steps b.steps (Vcpu v 6) (λ w. w == 2) g) [
-          inl now ↦
-            (let t : m2 (Vcpu v 6) ≢ 0 = (λ o. let x = eqb-true (m2 (Vcpu v 6)) 2 now in omega arith) in
-            EachOf-all (λ x. ((m2 (Vcpu v 6) ≢ 0) ⊎ (((h2 v).cold ≡ true) ⊎ (told_value (place_at z x.step.place) x.found < m2 (Vcpu v 5)))) × ((m2 (Vcpu v 6) ≢ 0) ⊎ (((h2 v).cold ≡ true) ⊎ (told_value (place_at z x.step.place) (left_of x) < m2 (Vcpu v 5)))))
+          | inl now ↦
+              (let t : m2 (Vcpu v 6) ≢ 0 = (λ o. let x = eqb-true (m2 (Vcpu v 6)) 2 now in omega arith) in
+              EachOf-all (λ x. ((m2 (Vcpu v 6) ≢ 0) ⊎ (((h2 v).cold ≡ true) ⊎ (told_value (place_at z x.step.place) x.found < m2 (Vcpu v 5)))) × ((m2 (Vcpu v 6) ≢ 0) ⊎ (((h2 v).cold ≡ true) ⊎ (told_value (place_at z x.step.place) (left_of x) < m2 (Vcpu v 5)))))
               (before_off z v b) (λ x. (inl t, inl t)))
-        | inr old ↦ rw (old, cold v, k.vcpu v 6, k.vcpu v 5) c
+          | inr old ↦ rw (old, cold v, k.vcpu v 6, k.vcpu v 5) c
         ]
 
     -- of a cold vCPU: the clock that it finds now is at least each value that was found before
@@ -68,21 +64,22 @@ module _ (z : Sizes) (m m2 : Place → ℕ) (k : Keeps m m2) (a b : Holdings) (g
         let e = k.vcpu v 6 in
         let o = k.clock in
         elim (grown_before z m m2 a.steps b.steps (Vcpu v 6) (λ w. w == 2) g) [
-          inl now ↦ absurd (let x = eqb-true (m2 (Vcpu v 6)) 2 now in omega arith)
-        | inr old ↦
-            (rw (old, ran)
-            (EachOf-map
+          | inl now ↦ absurd (let x = eqb-true (m2 (Vcpu v 6)) 2 now in omega arith)
+          | inr old ↦
+              (rw (old, ran)
+              (EachOf-map
               (λ x. ((told_value (place_at z x.step.place) x.found ≤ m Clock) × (told_value (place_at z x.step.place) (left_of x) ≤ m Clock))
-                × (EachSince z (h v).ran Clock (λ w. told_value (place_at z x.step.place) x.found ≤ w) (h v).steps × EachSince z (h v).ran Clock (λ w. told_value (place_at z x.step.place) (left_of x) ≤ w) (h v).steps))
+              × (EachSince z (h v).ran Clock (λ w. told_value (place_at z x.step.place) x.found ≤ w) (h v).steps × EachSince z (h v).ran Clock (λ w. told_value (place_at z x.step.place) (left_of x) ≤ w) (h v).steps))
               (λ x. EachSince z (h v).ran Clock (λ w. told_value (place_at z x.step.place) x.found ≤ w) (h2 v).steps × EachSince z (h v).ran Clock (λ w. told_value (place_at z x.step.place) (left_of x) ≤ w) (h2 v).steps)
               (before_off z v a)
-              (λ x t.
-                (grown_each z m m2 (h v).steps (h2 v).steps (h v).ran Clock (λ w. told_value (place_at z x.step.place) x.found ≤ w) grown (λ r. (t.0).0) (λ r. rw o (t.0).0) (t.1).0,
-                  grown_each z m m2 (h v).steps (h2 v).steps (h v).ran Clock (λ w. told_value (place_at z x.step.place) (left_of x) ≤ w) grown (λ r. (t.0).1) (λ r. rw o (t.0).1) (t.1).1))
+              (λ x t. (
+                grown_each z m m2 (h v).steps (h2 v).steps (h v).ran Clock (λ w. told_value (place_at z x.step.place) x.found ≤ w) grown (λ r. (t.0).0) (λ r. rw o (t.0).0) (t.1).0,
+                grown_each z m m2 (h v).steps (h2 v).steps (h v).ran Clock (λ w. told_value (place_at z x.step.place) (left_of x) ≤ w) grown (λ r. (t.0).1) (λ r. rw o (t.0).1) (t.1).1,
+              ))
               (EachOf-both
-                (λ x. (told_value (place_at z x.step.place) x.found ≤ m Clock) × (told_value (place_at z x.step.place) (left_of x) ≤ m Clock))
-                (λ x. EachSince z (h v).ran Clock (λ w. told_value (place_at z x.step.place) x.found ≤ w) (h v).steps × EachSince z (h v).ran Clock (λ w. told_value (place_at z x.step.place) (left_of x) ≤ w) (h v).steps)
-                (before_off z v a)
-                (EachOf-before z (Vcpu v 6) (λ w. w == 2) (λ x. (told_value (place_at z x.step.place) x.found ≤ m Clock) × (told_value (place_at z x.step.place) (left_of x) ≤ m Clock)) a.steps found)
-                (c (sym (cold v) ∙ is) (sym e ∙ run)))))
+              (λ x. (told_value (place_at z x.step.place) x.found ≤ m Clock) × (told_value (place_at z x.step.place) (left_of x) ≤ m Clock))
+              (λ x. EachSince z (h v).ran Clock (λ w. told_value (place_at z x.step.place) x.found ≤ w) (h v).steps × EachSince z (h v).ran Clock (λ w. told_value (place_at z x.step.place) (left_of x) ≤ w) (h v).steps)
+              (before_off z v a)
+              (EachOf-before z (Vcpu v 6) (λ w. w == 2) (λ x. (told_value (place_at z x.step.place) x.found ≤ m Clock) × (told_value (place_at z x.step.place) (left_of x) ≤ m Clock)) a.steps found)
+              (c (sym (cold v) ∙ is) (sym e ∙ run)))))
         ]

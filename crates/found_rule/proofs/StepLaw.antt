@@ -1,20 +1,18 @@
 -- A step that is legal today, from a sound machine: what it leaves of the words, and what it moves in the hand of
 -- its seat. Then all that was found stays true, and holdings stay well formed.
-use Rattle.std.proofs.Common.{◌≡◌, ◌≢◌, ℕ, suc, ◌+◌, ◌%◌, ◌^◌, ◌<◌, ◌≤◌, ◌==◌, if◌then◌else◌, Bool, true, false, List, ◌∷◌, length, Option, Some, None, IsTrue, refl, sym, ap, subst, ◌∙◌, ◌⊎◌, inl, inr, arith}
+use Rattle.std.proofs.Common.{◌≡◌, ℕ, suc, ◌+◌, ◌<◌, ◌≤◌, ◌==◌, if◌then◌else◌, Bool, true, false, ◌∷◌, length, Option, Some, None, IsTrue, refl, sym, ap, subst, ◌∙◌, inl, inr, arith}
 use Rattle.std.proofs.lemmas.Bool.{cases_eq, eqb-true}
 use Rattle.xp_words.specs.Entries.{is_bit}
 use Rattle.xp_words.specs.KindWords.{kind_fields}
 use Rattle.xp_words.specs.RefWords.{bit, ref_write, ref_read}
 use Rattle.xp_words.specs.declared.refs.RefWord.TheVariants.{Dying}
 use Rattle.xp_words.specs.Machine.{Machine}
-use Rattle.xp_words.specs.Places.{Sizes, sizes_of, Place, Clock, Vcpu, Refs, Kind, M2p, Cell, Priv, is_place}
+use Rattle.xp_words.specs.Places.{sizes_of, Place, Refs, M2p, Priv}
 use Rattle.xp_board.specs.declared.step.Mark.{Mark}
 use Rattle.xp_board.specs.declared.step.Mark.TheVariants as marks
 use Rattle.xp_board.specs.declared.step.Step.{Step}
-use Rattle.xp_board.specs.declared.holdings.Ending.{Ending}
 use Rattle.xp_board.specs.declared.holdings.Holdings.{Holdings}
 use Rattle.xp_board.specs.declared.holdings.OwnerFound.TheVariants as owners
-use Rattle.xp_board.specs.Lists.{EachOf}
 use Rattle.xp_board.specs.Readings.{kind_at, is_locked, owner_of, ref_count}
 use Rattle.xp_board.specs.Hands.{works_on, locks_on, refs_to}
 use Rattle.xp_board.specs.RefSteps.{took_ref, gave_ref, owner_number}
@@ -22,14 +20,12 @@ use Rattle.xp_board.specs.Spelling.{IsSpelling}
 use Rattle.xp_board.specs.Marks.{after_mark}
 use Rattle.xp_board.specs.Found.{Found}
 use Rattle.xp_board.specs.WellFormed.{WellFormed}
-use Rattle.xp_board.specs.Sound.{Spelled, WorkAgrees, HeldAlone, Sound, is_busy}
+use Rattle.xp_board.specs.Sound.{WorkAgrees, Sound, is_busy}
 use Rattle.xp_board.specs.Legal.{LegalNow, is_proved_mark}
 use Rattle.xp_board.specs.Runs.{Stepped}
-use Rattle.xp_board.specs.After.{noted}
 use Rattle.xp_board.proofs.Effects.{SameParts, Looked, Raised, Lowered, Mapped, Effect, looked, raised, lowered, mapped, effect_of}
-use Rattle.found_rule.specs.Parts.{AllFound, AllFormed}
 use Rattle.found_rule.proofs.StepLists.{EachOf-map}
-use Rattle.found_rule.proofs.Moves.{Keeps, RefsMoved, refs_stayed, ref_came, ref_went, EndingsMoved, endings_stayed, ending_came, looking_stayed, Moved}
+use Rattle.found_rule.proofs.Moves.{SameWords, ref_came, ref_went, EndingsMoved, endings_stayed, ending_came, looking_stayed, Moved}
 use Rattle.found_rule.proofs.StepMoves.{Rest, Own, Cells, not_moved, moved_by, own_off, cells_off, quiet, looked_moved}
 use Rattle.found_rule.proofs.RefChanges.{owned_word, not_dying, LoweredWord, lowered_word}
 use Rattle.found_rule.proofs.WordsKept.{hands-part, count_above, told_within, all_kept, map_kept, ref_kept}
@@ -47,7 +43,7 @@ turn_kept n (Some (marks.Walk write)) h p t = absurd cc
 
 -- what the step did
 record Done (n : Machine) (s : ℕ) (m m2 : Place → ℕ) (a c : Holdings) : Type 0 where
-  words : Keeps m m2
+  words : SameWords m m2
   hand : Moved (sizes_of n) m m2 s a c
 
 owner_numbered : (o : Option ℕ) (d : ℕ) → o ≡ Some d → o ≡ Some (owner_number o)
@@ -87,13 +83,13 @@ module _ (n : Machine) (s : ℕ) (x : Step) (m m2 : Place → ℕ) (h : ℕ → 
         hand =
             subst (λ v. Moved (sizes_of n) m m2 s (h s) v) (sym k.hand)
             (moved_by n s x m m2 (Refs f) k.place k.real k.left a u rest
-              (ref_came f (owner_number (owner_of (m (Refs f)))) ((now.owner ∙ sym was.owner) ∙ owner_numbered (owner_of (m (Refs f))) k.owner was.owner)
-                (ap (λ y. record { frame = f; owner = owners.Of (owner_number (owner_of (m (Refs f)))) } ∷ y) parts.refs))
-              (endings_stayed parts.ending) (looking_stayed parts.looking)
-              (cells_off n s x m m2 (Refs f) k.place k.real k.left a u parts.steps (λ g i e. cc) cells)
-              (own_off n s x m m2 (Refs f) k.place k.real k.left a u parts.steps 6 a.run u.run (λ e. cc) own.0)
-              (own_off n s x m m2 (Refs f) k.place k.real k.left a u parts.steps 2 a.old0 u.old0 (λ e. cc) own.1)
-              (own_off n s x m m2 (Refs f) k.place k.real k.left a u parts.steps 3 a.old1 u.old1 (λ e. cc) own.2));
+            (ref_came f (owner_number (owner_of (m (Refs f)))) ((now.owner ∙ sym was.owner) ∙ owner_numbered (owner_of (m (Refs f))) k.owner was.owner)
+            (ap (λ y. record { frame = f; owner = owners.Of (owner_number (owner_of (m (Refs f)))) } ∷ y) parts.refs))
+            (endings_stayed parts.ending) (looking_stayed parts.looking)
+            (cells_off n s x m m2 (Refs f) k.place k.real k.left a u parts.steps (λ g i e. cc) cells)
+            (own_off n s x m m2 (Refs f) k.place k.real k.left a u parts.steps 6 a.run u.run (λ e. cc) own.0)
+            (own_off n s x m m2 (Refs f) k.place k.real k.left a u parts.steps 2 a.old0 u.old0 (λ e. cc) own.1)
+            (own_off n s x m m2 (Refs f) k.place k.real k.left a u parts.steps 3 a.old1 u.old1 (λ e. cc) own.2));
       }
 
   ending_by : (f w now : ℕ) (t : Bool) → (ref_count w == 1) ≡ t → b.ending ≡ (h s).ending → length b.steps ≡ length (h s).steps →
@@ -116,13 +112,13 @@ module _ (n : Machine) (s : ℕ) (x : Step) (m m2 : Place → ℕ) (h : ℕ → 
         hand =
             subst (λ v. Moved (sizes_of n) m m2 s (h s) v) (sym k.hand)
             (moved_by n s x m m2 (Refs f) k.place k.real k.left a u rest
-              (ref_went f (rw (parts.refs) refl))
-              (ending_by f w 0 (ref_count w == 1) refl parts.ending (ap length parts.steps) low.last)
-              (looking_stayed parts.looking)
-              (cells_off n s x m m2 (Refs f) k.place k.real k.left a u parts.steps (λ g i e. cc) cells)
-              (own_off n s x m m2 (Refs f) k.place k.real k.left a u parts.steps 6 a.run u.run (λ e. cc) own.0)
-              (own_off n s x m m2 (Refs f) k.place k.real k.left a u parts.steps 2 a.old0 u.old0 (λ e. cc) own.1)
-              (own_off n s x m m2 (Refs f) k.place k.real k.left a u parts.steps 3 a.old1 u.old1 (λ e. cc) own.2));
+            (ref_went f (rw (parts.refs) refl))
+            (ending_by f w 0 (ref_count w == 1) refl parts.ending (ap length parts.steps) low.last)
+            (looking_stayed parts.looking)
+            (cells_off n s x m m2 (Refs f) k.place k.real k.left a u parts.steps (λ g i e. cc) cells)
+            (own_off n s x m m2 (Refs f) k.place k.real k.left a u parts.steps 6 a.run u.run (λ e. cc) own.0)
+            (own_off n s x m m2 (Refs f) k.place k.real k.left a u parts.steps 2 a.old0 u.old0 (λ e. cc) own.1)
+            (own_off n s x m m2 (Refs f) k.place k.real k.left a u parts.steps 3 a.old1 u.old1 (λ e. cc) own.2));
       }
 
   mapped_done : (f : ℕ) → Mapped n x f m m2 b c → Done n s m m2 (h s) c
@@ -158,22 +154,22 @@ module _ (n : Machine) (s : ℕ) (x : Step) (m m2 : Place → ℕ) (h h2 : ℕ �
   moves : (v : ℕ) → Moved (sizes_of n) m m2 v (h v) (h2 v)
   moves v = elim (cases_eq v s) [ inl at ↦ rw at done.hand | inr off ↦ not_moved (sizes_of n) m m2 v (h v) (h2 v) (stepped.others v off) ]
 
-  pub all_found : AllFound n m2 h2
+  pub all_found : (t : ℕ) → t < (sizes_of n).vcpus → Found n m2 h2 t
   all_found t k =
       found_law n m m2 h h2 done.words (λ v. sound.stamped.flushed v) (λ d r. had n m d (sound.spelled.spelled (Priv d) r)) sound.fresh.each moves t (sound.found t k)
 
-  pub all_formed : AllFormed n m2 h2
+  pub all_formed : (t : ℕ) → t < (sizes_of n).vcpus → WellFormed n t (h2 t)
   all_formed t k =
       formed_law n m m2 t (h t) (h2 t) (moves t)
       (λ f.
-        let p = hands-part (λ u. works_on f u.works) (sizes_of n) h t k in
-        let q = sound.alone.works f in
-        let r = bit_within (is_busy (kind_at m f)) in
-        omega arith)
+      let p = hands-part (λ u. works_on f u.works) (sizes_of n) h t k in
+      let q = sound.alone.works f in
+      let r = bit_within (is_busy (kind_at m f)) in
+      omega arith)
       (λ f.
-        let p = hands-part (λ u. locks_on f u.locks) (sizes_of n) h t k in
-        let q = sound.alone.locks f in
-        let r = bit_within (is_locked (kind_at m f)) in
-        omega arith)
+      let p = hands-part (λ u. locks_on f u.locks) (sizes_of n) h t k in
+      let q = sound.alone.locks f in
+      let r = bit_within (is_locked (kind_at m f)) in
+      omega arith)
       (EachOf-map (WorkAgrees (h t)) (λ e. (kind_fields e.word).unflushed ≡ true → e.recorded ≡ 0) (h t).works (λ e w. w.marked) (sound.works t k))
       (sound.formed t k)

@@ -1,12 +1,8 @@
 -- Lists of steps with one more step, and lists of a hand.
-use Rattle.std.proofs.Common.{◌≡◌, ◌≢◌, ℕ, zero, suc, ◌+◌, ◌<◌, ◌≤◌, ◌==◌, ◌&&◌, ◌||◌, nat_lt, nat_le, if◌then◌else◌, Bool, true, false, List, [], ◌∷◌, length, Option, Some, None, IsTrue, refl, sym, ap, subst, ◌∙◌, ◌⊎◌, inl, inr, arith}
-use Rattle.std.proofs.lemmas.Bool.{cases_eq, cases_lt, or_cases, and_parts}
+use Rattle.std.proofs.Common.{◌≡◌, ◌≢◌, ℕ, ◌≤◌, ◌==◌, if◌then◌else◌, Bool, true, false, List, [], ◌∷◌, refl, ap, inl, inr, arith}
+use Rattle.std.proofs.lemmas.Bool.{cases_eq}
 use Rattle.std.proofs.lemmas.Bool.Decides.{nat_tests}
-use Rattle.xp_words.specs.Places.{Sizes, Place, place_at}
-use Rattle.xp_board.specs.declared.holdings.Made.{Made}
-use Rattle.xp_board.specs.Lists.{one_at, times_by, without_by, changed_by, some_of, kept_of, EachOf, Member}
-use Rattle.xp_board.specs.Steps.{is_same, is_at, left_of, some_step, some_since, some_before, last_since, EachStep, EachSince, steps_before}
-use Rattle.found_rule.proofs.PlaceTests.{is_same-refl, same_place, is_same-other}
+use Rattle.xp_board.specs.Lists.{one_at, times_by, without_by, changed_by, kept_of, EachOf}
 
 -- ---- lists of a hand
 pub EachOf-map : {A : Type 0} (P Q : A → Type 0) (xs : List A) → ((e : A) → P e → Q e) → EachOf P xs → EachOf Q xs
@@ -61,13 +57,13 @@ unfolding EachOf times_by changed_by
 EachOf-changed P Q key g change [] n f o h = tt
 EachOf-changed P Q key g change (x ∷ xs) n f o h =
     elim (cases_eq (key x) g) [
-      inl at ↦
-        let t : (key x == g) ≡ true = grind (arith, nat_tests) in
-        let k : one_at g (key x) ≡ 1 = rw t in
-        rw t (f x at h.0, EachOf-absent P Q key g xs (omega arith) o h.1)
-    | inr off ↦
-        let t : (key x == g) ≡ false = grind (arith, nat_tests) in
-        rw t (o x off h.0, EachOf-changed P Q key g change xs (omega arith) f o h.1)
+      | inl at ↦
+          let t : (key x == g) ≡ true = grind (arith, nat_tests) in
+          let k : one_at g (key x) ≡ 1 = rw t in
+          rw t (f x at h.0, EachOf-absent P Q key g xs (omega arith) o h.1)
+      | inr off ↦
+          let t : (key x == g) ≡ false = grind (arith, nat_tests) in
+          rw t (o x off h.0, EachOf-changed P Q key g change xs (omega arith) f o h.1)
     ]
 
 -- each element may be changed
@@ -77,8 +73,8 @@ unfolding EachOf changed_by
 EachOf-changes P Q key g change [] f o h = tt
 EachOf-changes P Q key g change (x ∷ xs) f o h =
     elim (cases_eq (key x) g) [
-      inl at ↦ (let t : (key x == g) ≡ true = grind (arith, nat_tests) in rw t (f x at h.0, EachOf-map P Q xs o h.1))
-    | inr off ↦ (let t : (key x == g) ≡ false = grind (arith, nat_tests) in rw t (o x h.0, EachOf-changes P Q key g change xs f o h.1))
+      | inl at ↦ (let t : (key x == g) ≡ true = grind (arith, nat_tests) in rw t (f x at h.0, EachOf-map P Q xs o h.1))
+      | inr off ↦ (let t : (key x == g) ≡ false = grind (arith, nat_tests) in rw t (o x h.0, EachOf-changes P Q key g change xs f o h.1))
     ]
 
 times_if : {A : Type 0} (key : A → ℕ) (g f : ℕ) (change : A → A) (x : A) (xs : List A) (b : Bool) → ((e : A) → key (change e) ≡ key e) →

@@ -1,5 +1,5 @@
 -- What a step that is legal today moves in the hand of its seat.
-use Rattle.std.proofs.Common.{◌≡◌, ◌≢◌, ℕ, zero, suc, ◌+◌, ◌%◌, ◌^◌, ◌<◌, ◌≤◌, ◌==◌, not, if◌then◌else◌, Bool, true, false, List, [], ◌∷◌, length, Option, Some, None, IsTrue, refl, sym, ap, subst, ◌∙◌, ◌⊎◌, inl, inr, arith}
+use Rattle.std.proofs.Common.{◌≡◌, ◌≢◌, ℕ, suc, ◌≤◌, ◌==◌, not, if◌then◌else◌, Bool, true, false, ◌∷◌, length, Option, Some, IsTrue, refl, sym, ap, subst, ◌∙◌, arith}
 use Rattle.std.proofs.lemmas.Bool.{eqb-true, eqb-false}
 use Rattle.xp_words.specs.Machine.{Machine}
 use Rattle.xp_words.specs.Places.{Sizes, sizes_of, Place, Clock, Pages, Life, Vcpu, Refs, Kind, M2p, Cell, Map, Priv, is_place}
@@ -9,10 +9,10 @@ use Rattle.xp_board.specs.declared.holdings.Holdings.{Holdings}
 use Rattle.xp_board.specs.Acts.{left_by}
 use Rattle.xp_board.specs.Lists.{kept_of}
 use Rattle.xp_board.specs.Steps.{last_since}
-use Rattle.xp_board.specs.After.{noted, learned, learned_own, learned_life, learned_cell}
+use Rattle.xp_board.specs.After.{noted, learned, learned_own, learned_cell}
 use Rattle.xp_board.specs.Runs.{place_of}
 use Rattle.found_rule.proofs.MoreSteps.{last_since-here, last_since-elsewhere}
-use Rattle.found_rule.proofs.Moves.{Added, Grown, stayed, added, RefsMoved, refs_stayed, EndingsMoved, endings_stayed, CellsMoved, cells_stayed, cell_found, OwnMoved, own_stayed, own_found, LookingMoved, looking_stayed, looking_went, Moved}
+use Rattle.found_rule.proofs.Moves.{Added, stayed, added, RefsMoved, refs_stayed, EndingsMoved, endings_stayed, CellsMoved, cells_stayed, cell_found, OwnMoved, own_stayed, own_found, LookingMoved, looking_stayed, looking_went, Moved}
 
 -- the parts that no such step moves, but for the turn
 abbrev pub Rest : Holdings → Holdings → Type 0
@@ -124,7 +124,7 @@ module _ (n : Machine) (s : ℕ) (x : Step) (m m2 : Place → ℕ) (a b : Holdin
       let u = learned_cell f i (m (Cell f i)) b in
       moved_by n s x m m2 p place real left a u r (refs_stayed refs) (endings_stayed ending) (looking_stayed looking)
       (cell_found f i (found_here n s x m m2 p place real left a u r.7) (λ k g j l off. found_off n s x m m2 p place real left a u r.7 k (Cell g j) l off)
-        (rw (same, cells.0) refl) (rw (same, cells.1) refl) (rw (same, cells.2) refl))
+      (rw (same, cells.0) refl) (rw (same, cells.1) refl) (rw (same, cells.2) refl))
       (own_off n s x m m2 p place real left a u r.7 6 a.run u.run (λ e. cc) own.0)
       (own_off n s x m m2 p place real left a u r.7 2 a.old0 u.old0 (λ e. cc) own.1)
       (own_off n s x m m2 p place real left a u r.7 3 a.old1 u.old1 (λ e. cc) own.2)
@@ -164,7 +164,7 @@ module _ (n : Machine) (s : ℕ) (x : Step) (m m2 : Place → ℕ) (a b : Holdin
     own_moved : (t2 t3 t6 : Bool) → (k == 2) ≡ t2 → (k == 3) ≡ t3 → (k == 6) ≡ t6 →
         Moved (sizes_of n) m m2 s a
         (noted x (m (Vcpu s k))
-          (if t2 then record b { old0 = Some (m (Vcpu s k)) } else if t3 then record b { old1 = Some (m (Vcpu s k)) } else if t6 then record b { run = Some (m (Vcpu s k)) } else b))
+        (if t2 then record b { old0 = Some (m (Vcpu s k)) } else if t3 then record b { old1 = Some (m (Vcpu s k)) } else if t6 then record b { run = Some (m (Vcpu s k)) } else b))
     own_moved true t3 t6 e2 e3 e6 =
         let u = record b { old0 = Some (m (Vcpu s k)) } in
         let at = eqb-true k 2 e2 in
@@ -189,8 +189,8 @@ module _ (n : Machine) (s : ℕ) (x : Step) (m m2 : Place → ℕ) (a b : Holdin
   vcpu_moved w k true e place real left same =
       let at = eqb-true w s e in
       (subst (λ y. place_of n x ≡ Vcpu y k → IsTrue (is_place (sizes_of n) (Vcpu y k)) → left_by x.act (m (Vcpu y k)) ≡ m2 (Vcpu y k) → m2 (Vcpu y k) ≡ m (Vcpu y k) →
-          Moved (sizes_of n) m m2 s a (noted x (m (Vcpu y k)) (learned_own k (m (Vcpu y k)) b))) (sym at)
-        (λ q t l o. own_moved k q t l o (k == 2) (k == 3) (k == 6) refl refl refl)) place real left same
+      Moved (sizes_of n) m m2 s a (noted x (m (Vcpu y k)) (learned_own k (m (Vcpu y k)) b))) (sym at)
+      (λ q t l o. own_moved k q t l o (k == 2) (k == 3) (k == 6) refl refl refl)) place real left same
   vcpu_moved w k false e place real left same =
       quiet n s x m m2 (Vcpu w k) place real left a b r refs ending looking cells own (λ f i q. cc) (λ j q. eqb-false w s e (cc))
 

@@ -1,18 +1,18 @@
 -- The words that facts read stay.
-use Rattle.std.proofs.Common.{◌≡◌, ◌≢◌, ℕ, zero, suc, ◌+◌, ◌%◌, ◌^◌, ◌<◌, ◌≤◌, ◌==◌, if◌then◌else◌, Bool, true, false, Option, Some, None, IsTrue, refl, sym, ap, subst, ◌∙◌, ◌⊎◌, inl, inr, arith}
+use Rattle.std.proofs.Common.{◌≡◌, ◌≢◌, ℕ, zero, suc, ◌<◌, ◌≤◌, ◌==◌, if◌then◌else◌, Bool, true, false, refl, sym, ap, subst, ◌∙◌, inl, inr, arith}
 use Rattle.std.proofs.lemmas.Bool.{cases_eq, eqb-true}
 use Rattle.xp_words.specs.RefWords.{ref_write}
 use Rattle.xp_words.specs.declared.refs.RefWord.TheVariants.{Dying}
 use Rattle.xp_words.specs.Machine.{Machine}
-use Rattle.xp_words.specs.Places.{Sizes, sizes_of, Place, Clock, Pages, Life, Vcpu, Refs, Kind, M2p, Cell, Map, Priv}
+use Rattle.xp_words.specs.Places.{Sizes, Place, Clock, Pages, Life, Vcpu, Refs, Kind, M2p, Cell, Map, Priv}
 use Rattle.xp_board.specs.declared.holdings.Holdings.{Holdings}
 use Rattle.xp_board.specs.Sums.{sum_below}
 use Rattle.xp_board.specs.Readings.{owner_of, free_stamp, told_value, ref_count, allocated_mark}
-use Rattle.xp_board.specs.Hands.{refs_to, typed_hand, hand}
+use Rattle.xp_board.specs.Hands.{refs_to, hand}
 use Rattle.xp_board.specs.Recorded.{hands, CountsAgree}
 use Rattle.xp_board.specs.Sound.{Stamped}
 use Rattle.xp_board.proofs.Effects.{same_or_other}
-use Rattle.found_rule.proofs.Moves.{Keeps}
+use Rattle.found_rule.proofs.Moves.{SameWords}
 
 -- ---- what one seat counts is within what all count
 sum_below-part : (n : ℕ) (c : ℕ → ℕ) (j : ℕ) → j < n → c j ≤ sum_below n c
@@ -53,7 +53,7 @@ told_within n m s (Priv d) = omega arith
 
 -- ---- words
 -- no word changes
-pub all_kept : (m m2 : Place → ℕ) → ((p : Place) → told_value p (m p) ≤ m Clock) → ((q : Place) → m2 q ≡ m q) → Keeps m m2
+pub all_kept : (m m2 : Place → ℕ) → ((p : Place) → told_value p (m p) ≤ m Clock) → ((q : Place) → m2 q ≡ m q) → SameWords m m2
 all_kept m m2 told same =
     record {
       clock = same Clock;
@@ -73,11 +73,11 @@ map_told : (m m2 : Place → ℕ) (f : ℕ) → ((p : Place) → told_value p (m
 unfolding told_value
 map_told m m2 f told others p =
     elim (same_or_other p (M2p f)) [
-      inl at ↦ subst (λ q. told_value q (m2 q) ≤ m Clock) (sym at) (omega arith)
-    | inr off ↦ subst (λ w. told_value p w ≤ m Clock) (sym (others p off)) (told p)
+      | inl at ↦ subst (λ q. told_value q (m2 q) ≤ m Clock) (sym at) (omega arith)
+      | inr off ↦ subst (λ w. told_value p w ≤ m Clock) (sym (others p off)) (told p)
     ]
 
-pub map_kept : (m m2 : Place → ℕ) (f : ℕ) → ((p : Place) → told_value p (m p) ≤ m Clock) → ((q : Place) → q ≢ M2p f → m2 q ≡ m q) → Keeps m m2
+pub map_kept : (m m2 : Place → ℕ) (f : ℕ) → ((p : Place) → told_value p (m p) ≤ m Clock) → ((q : Place) → q ≢ M2p f → m2 q ≡ m q) → SameWords m m2
 map_kept m m2 f told others =
     record {
       clock = others Clock (λ e. cc);
@@ -98,12 +98,12 @@ ref_told : (m m2 : Place → ℕ) (f : ℕ) → ((p : Place) → told_value p (m
 unfolding told_value
 ref_told m m2 f told others stamp p =
     elim (same_or_other p (Refs f)) [
-      inl at ↦ subst (λ q. told_value q (m2 q) ≤ m Clock) (sym at) (omega arith)
-    | inr off ↦ subst (λ w. told_value p w ≤ m Clock) (sym (others p off)) (told p)
+      | inl at ↦ subst (λ q. told_value q (m2 q) ≤ m Clock) (sym at) (omega arith)
+      | inr off ↦ subst (λ w. told_value p w ≤ m Clock) (sym (others p off)) (told p)
     ]
 
 pub ref_kept : (m m2 : Place → ℕ) (f : ℕ) → ((p : Place) → told_value p (m p) ≤ m Clock) → ((q : Place) → q ≢ Refs f → m2 q ≡ m q) →
-    owner_of (m2 (Refs f)) ≡ owner_of (m (Refs f)) → free_stamp (m2 (Refs f)) ≡ 0 → ((d : ℕ) → m (Refs f) ≡ ref_write (Dying d) → ⊥) → Keeps m m2
+    owner_of (m2 (Refs f)) ≡ owner_of (m (Refs f)) → free_stamp (m2 (Refs f)) ≡ 0 → ((d : ℕ) → m (Refs f) ≡ ref_write (Dying d) → ⊥) → SameWords m m2
 ref_kept m m2 f told others owner stamp live =
     record {
       clock = others Clock (λ e. cc);
