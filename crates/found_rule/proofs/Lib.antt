@@ -1,0 +1,15 @@
+pub mod PlaceTests
+pub mod StepLists
+pub mod MoreSteps
+pub mod Moves
+pub mod StepFacts
+pub mod KnownFacts
+pub mod ReachSame
+pub mod CellFacts
+pub mod FoundLaw
+pub mod FormedWorks
+pub mod FormedLaw
+pub mod StepMoves
+pub mod RefChanges
+pub mod WordsKept
+pub mod StepLaw

@@ -1,0 +1,95 @@
+-- Lists of steps with one more step, and lists of a hand.
+use Rattle.std.proofs.Common.{◌≡◌, ◌≢◌, ℕ, ◌≤◌, ◌==◌, if◌then◌else◌, Bool, true, false, List, [], ◌∷◌, refl, ap, inl, inr, arith}
+use Rattle.std.proofs.lemmas.Bool.{cases_eq}
+use Rattle.std.proofs.lemmas.Bool.Decides.{nat_tests}
+use Rattle.xp_board.specs.Lists.{one_at, times_by, without_by, changed_by, kept_of, EachOf}
+
+-- ---- lists of a hand
+pub EachOf-map : {A : Type 0} (P Q : A → Type 0) (xs : List A) → ((e : A) → P e → Q e) → EachOf P xs → EachOf Q xs
+unfolding EachOf
+EachOf-map P Q [] f h = tt
+EachOf-map P Q (x ∷ xs) f h = (f x h.0, EachOf-map P Q xs f h.1)
+
+pub EachOf-all : {A : Type 0} (P : A → Type 0) (xs : List A) → ((e : A) → P e) → EachOf P xs
+unfolding EachOf
+EachOf-all P [] f = tt
+EachOf-all P (x ∷ xs) f = (f x, EachOf-all P xs f)
+
+pub EachOf-both : {A : Type 0} (P Q : A → Type 0) (xs : List A) → EachOf P xs → EachOf Q xs → EachOf (λ e. P e × Q e) xs
+unfolding EachOf
+EachOf-both P Q [] h k = tt
+EachOf-both P Q (x ∷ xs) h k = ((h.0, k.0), EachOf-both P Q xs h.1 k.1)
+
+pub EachOf-more : {A : Type 0} (P : A → Type 0) (x : A) (xs : List A) → P x → EachOf P xs → EachOf P (x ∷ xs)
+unfolding EachOf
+EachOf-more P x xs f h = (f, h)
+
+without_if : {A : Type 0} (P : A → Type 0) (x : A) (xs ys : List A) (b : Bool) → EachOf P (x ∷ xs) → EachOf P ys → EachOf P (if b then xs else (x ∷ ys))
+unfolding EachOf
+without_if P x xs ys true h k = h.1
+without_if P x xs ys false h k = (h.0, k)
+
+pub EachOf-without : {A : Type 0} (P : A → Type 0) (key : A → ℕ) (g : ℕ) (xs : List A) → EachOf P xs → EachOf P (without_by key g xs)
+unfolding EachOf without_by
+EachOf-without P key g [] h = tt
+EachOf-without P key g (x ∷ xs) h = without_if P x xs (without_by key g xs) (key x == g) h (EachOf-without P key g xs h.1)
+
+kept_if : {A : Type 0} (P : A → Type 0) (x : A) (ys : List A) (b : Bool) → P x → EachOf P ys → EachOf P (if b then (x ∷ ys) else ys)
+unfolding EachOf
+kept_if P x ys true h k = (h, k)
+kept_if P x ys false h k = k
+
+pub EachOf-kept : {A : Type 0} (P : A → Type 0) (test : A → Bool) (xs : List A) → EachOf P xs → EachOf P (kept_of test xs)
+unfolding EachOf kept_of
+EachOf-kept P test [] h = tt
+EachOf-kept P test (x ∷ xs) h = kept_if P x (kept_of test xs) (test x) h.0 (EachOf-kept P test xs h.1)
+
+-- where no element has that number
+pub EachOf-absent : {A : Type 0} (P Q : A → Type 0) (key : A → ℕ) (g : ℕ) (xs : List A) → times_by key g xs ≡ 0 → ((e : A) → key e ≢ g → P e → Q e) → EachOf P xs → EachOf Q xs
+unfolding EachOf times_by
+EachOf-absent P Q key g [] n f h = tt
+EachOf-absent P Q key g (x ∷ xs) n f h = (f x (λ e. let k : one_at g (key x) ≡ 1 = grind (arith, nat_tests) in omega arith) h.0, EachOf-absent P Q key g xs (omega arith) f h.1)
+
+-- one element is changed
+pub EachOf-changed : {A : Type 0} (P Q : A → Type 0) (key : A → ℕ) (g : ℕ) (change : A → A) (xs : List A) → times_by key g xs ≤ 1 →
+    ((e : A) → key e ≡ g → P e → Q (change e)) → ((e : A) → key e ≢ g → P e → Q e) → EachOf P xs → EachOf Q (changed_by key g change xs)
+unfolding EachOf times_by changed_by
+EachOf-changed P Q key g change [] n f o h = tt
+EachOf-changed P Q key g change (x ∷ xs) n f o h =
+    elim (cases_eq (key x) g) [
+      | inl at ↦
+          let t : (key x == g) ≡ true = grind (arith, nat_tests) in
+          let k : one_at g (key x) ≡ 1 = rw t in
+          rw t (f x at h.0, EachOf-absent P Q key g xs (omega arith) o h.1)
+      | inr off ↦
+          let t : (key x == g) ≡ false = grind (arith, nat_tests) in
+          rw t (o x off h.0, EachOf-changed P Q key g change xs (omega arith) f o h.1)
+    ]
+
+-- each element may be changed
+pub EachOf-changes : {A : Type 0} (P Q : A → Type 0) (key : A → ℕ) (g : ℕ) (change : A → A) (xs : List A) →
+    ((e : A) → key e ≡ g → P e → Q (change e)) → ((e : A) → P e → Q e) → EachOf P xs → EachOf Q (changed_by key g change xs)
+unfolding EachOf changed_by
+EachOf-changes P Q key g change [] f o h = tt
+EachOf-changes P Q key g change (x ∷ xs) f o h =
+    elim (cases_eq (key x) g) [
+      | inl at ↦ (let t : (key x == g) ≡ true = grind (arith, nat_tests) in rw t (f x at h.0, EachOf-map P Q xs o h.1))
+      | inr off ↦ (let t : (key x == g) ≡ false = grind (arith, nat_tests) in rw t (o x h.0, EachOf-changes P Q key g change xs f o h.1))
+    ]
+
+times_if : {A : Type 0} (key : A → ℕ) (g f : ℕ) (change : A → A) (x : A) (xs : List A) (b : Bool) → ((e : A) → key (change e) ≡ key e) →
+    times_by key f (changed_by key g change xs) ≡ times_by key f xs → times_by key f (if b then (change x ∷ xs) else (x ∷ changed_by key g change xs)) ≡ times_by key f (x ∷ xs)
+unfolding times_by
+times_if key g f change x xs true k h = let e = ap (λ y. one_at f y) (k x) in omega arith
+times_if key g f change x xs false k h = omega arith
+
+-- a change that keeps numbers keeps how many there are
+pub times_by-changed : {A : Type 0} (key : A → ℕ) (g f : ℕ) (change : A → A) (xs : List A) → ((e : A) → key (change e) ≡ key e) →
+    times_by key f (changed_by key g change xs) ≡ times_by key f xs
+unfolding changed_by
+times_by-changed key g f change [] k = refl
+times_by-changed key g f change (x ∷ xs) k = times_if key g f change x xs (key x == g) k (times_by-changed key g f change xs k)
+
+pub times_by-more : {A : Type 0} (key : A → ℕ) (f : ℕ) (x : A) (xs : List A) → times_by key f xs ≤ times_by key f (x ∷ xs)
+unfolding times_by
+times_by-more key f x xs = omega arith
