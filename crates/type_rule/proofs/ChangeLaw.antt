@@ -1,23 +1,20 @@
 -- A step that is legal today is such a change.
-use Rattle.std.proofs.Common.{◌≡◌, ◌≢◌, ℕ, ◌<◌, ◌==◌, List, ◌∷◌, refl, sym, ◌∙◌, ap, inl, inr}
+use Rattle.std.proofs.Common.{◌≡◌, ◌≢◌, ℕ, ◌<◌, ◌∷◌, refl, sym, ◌∙◌, ap, inl, inr}
 use Rattle.std.proofs.lemmas.Bool.{cases_eq}
 use Rattle.xp_words.specs.Machine.{Machine}
 use Rattle.xp_words.specs.Places.{Place, Life, Vcpu, Refs, Kind, M2p, Cell, Priv, sizes_of}
 use Rattle.xp_board.specs.declared.step.Step.{Step}
-use Rattle.xp_board.specs.declared.holdings.Looking.{Looking}
 use Rattle.xp_board.specs.declared.holdings.Holdings.{Holdings}
 use Rattle.xp_board.specs.Acts.{left_by}
-use Rattle.xp_board.specs.Lists.{Member}
-use Rattle.xp_board.specs.Readings.{owner_of, allocated_mark, ref_count}
-use Rattle.xp_board.specs.Hands.{work_on, refs_to}
-use Rattle.xp_board.specs.RefSteps.{one_down, took_ref, gave_ref}
+use Rattle.xp_board.specs.Hands.{refs_to}
+use Rattle.xp_board.specs.RefSteps.{took_ref, gave_ref}
 use Rattle.xp_board.specs.After.{noted, learned}
 use Rattle.xp_board.specs.Legal.{LegalNow}
 use Rattle.xp_board.specs.Marks.{after_mark}
 use Rattle.xp_board.specs.Sound.{Sound}
 use Rattle.xp_board.specs.Runs.{Stepped, place_of}
 use Rattle.xp_board.proofs.Effects.{SameParts, Effect, looked, raised, lowered, mapped, effect_of}
-use Rattle.type_rule.proofs.Changes.{Change, WorkKeptIn}
+use Rattle.type_rule.proofs.Changes.{Change}
 use Rattle.type_rule.proofs.HandLaws.{Learned, from_three, learned_parts}
 use Rattle.type_rule.proofs.RefWordLaws.{SameOwner, one_more_keeps, one_less_keeps, in_hand_counted}
 
@@ -64,9 +61,9 @@ counted_kept m m2 f e here =
       privs = λ d. e (Priv d) (λ k. cc);
       lives = λ d. e (Life d) (λ k. cc);
       refs = λ g. elim (cases_eq g f) [
-          inl at ↦ rw at here
+        | inl at ↦ rw at here
         | inr off ↦ rw (e (Refs g) (λ k. off (cc))) (same_owner (m (Refs g)))
-        ];
+      ];
     }
 
 module _ (n : Machine) (s : ℕ) (x : Step) (m m2 : Place → ℕ) (h h2 : ℕ → Holdings) (others : (t : ℕ) → t ≢ s → h2 t ≡ h t) where

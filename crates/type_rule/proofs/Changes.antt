@@ -1,5 +1,5 @@
 -- What a step that is legal today changes, as far as these laws read it.
-use Rattle.std.proofs.Common.{◌≡◌, ◌≢◌, ℕ, zero, suc, ◌<◌, ◌==◌, not, List, ◌∷◌, Option, Some, None, refl, sym, ◌∙◌, ap, inl, inr}
+use Rattle.std.proofs.Common.{◌≡◌, ◌≢◌, ℕ, zero, suc, List, ◌∷◌, Option, Some, None, refl, ap, inl, inr}
 use Rattle.std.proofs.lemmas.Bool.{cases_eq}
 use Rattle.xp_words.specs.Machine.{Machine}
 use Rattle.xp_words.specs.Places.{Place, Life, Vcpu, Refs, Kind, Cell, Priv, sizes_of}
@@ -12,7 +12,7 @@ use Rattle.xp_board.specs.Acts.{left_by}
 use Rattle.xp_board.specs.Lists.{Member}
 use Rattle.xp_board.specs.Readings.{owner_of, allocated_mark}
 use Rattle.xp_board.specs.Hands.{work_on}
-use Rattle.xp_board.specs.Recorded.{recorded_number, recorded_in, or_else, work_of}
+use Rattle.xp_board.specs.Recorded.{recorded_number, recorded_in, work_of}
 use Rattle.xp_board.specs.Runs.{place_of}
 
 -- unsettled since the same step, or settled before and after
@@ -77,8 +77,8 @@ module _ (n : Machine) (s : ℕ) (x : Step) (m m2 : Place → ℕ) (h h2 : ℕ �
   works_same : (f t : ℕ) → recorded_in (h2 t).works f ≡ recorded_in (h t).works f
   works_same f t =
       elim (cases_eq t s) [
-        inl at ↦ rw at (recorded_same (h s).works (h2 s).works f (c.works f))
-      | inr off ↦ rw (c.others t off)
+        | inl at ↦ rw at (recorded_same (h s).works (h2 s).works f (c.works f))
+        | inr off ↦ rw (c.others t off)
       ]
 
   pub work_same : (f : ℕ) → work_of (sizes_of n).vcpus h2 f ≡ work_of (sizes_of n).vcpus h f

@@ -1,18 +1,17 @@
 -- Dying and dead domains after a step.
-use Rattle.std.proofs.Common.{◌≡◌, ◌≢◌, ℕ, ◌+◌, ◌<◌, ◌≤◌, ◌==◌, ◌⊎◌, not, Bool, true, false, length, IsTrue, refl, sym, ◌∙◌, ap, inl, inr, arith}
+use Rattle.std.proofs.Common.{◌≡◌, ◌≢◌, ℕ, ◌+◌, ◌<◌, ◌≤◌, ◌==◌, not, Bool, true, false, length, IsTrue, refl, sym, ◌∙◌, ap, inl, inr, arith}
 use Rattle.std.proofs.lemmas.Bool.{cases_eq}
 use Rattle.std.proofs.lemmas.Bool.Decides.{nat_tests}
-use Rattle.xp_words.specs.KindWords.{kind_fields}
 use Rattle.xp_words.specs.Machine.{Machine}
 use Rattle.xp_words.specs.Places.{Place, Life, Vcpu, Refs, Kind, sizes_of}
 use Rattle.xp_board.specs.declared.step.Step.{Step}
 use Rattle.xp_board.specs.declared.holdings.Made.{Made}
 use Rattle.xp_board.specs.declared.holdings.Holdings.{Holdings}
 use Rattle.xp_board.specs.Steps.{some_since, some_before, some_between}
-use Rattle.xp_board.specs.Readings.{owner_of, is_owned_by, is_number, is_context, domain_of, allocated_mark}
+use Rattle.xp_board.specs.Readings.{is_owned_by, is_context, domain_of}
 use Rattle.xp_board.specs.LifeSteps.{HasStopped, is_unallocated, is_unpinned, is_unkept}
-use Rattle.xp_board.specs.Sound.{Domains, DeadDomain, DyingDomain, KeptForNobody, IsLookedAt}
-use Rattle.type_rule.proofs.StepFacts.{Hit, since_more, before_more, between_more, since_within, between_within}
+use Rattle.xp_board.specs.Sound.{Domains, DeadDomain, DyingDomain, KeptForNobody}
+use Rattle.type_rule.proofs.StepFacts.{Hit, since_more, before_more, between_more, since_within}
 use Rattle.type_rule.proofs.Changes.{Change}
 use Rattle.type_rule.proofs.ValidLaw.{stands}
 
@@ -34,9 +33,9 @@ module _ (n : Machine) (s : ℕ) (x : Step) (m m2 : Place → ℕ) (h h2 : ℕ �
         real = l.real;
         looking = l.looking;
         here = elim (cases_eq l.seat s) [
-            inl at ↦ rw at (c.looking l.looking (rw at at l.here) (λ e. gone (ap (λ o. m (Life o)) (sym l.owner) ∙ e)))
+          | inl at ↦ rw at (c.looking l.looking (rw at at l.here) (λ e. gone (ap (λ o. m (Life o)) (sym l.owner) ∙ e)))
           | inr off ↦ rw (c.others l.seat off) l.here
-          ];
+        ];
         frame = l.frame;
         owner = l.owner;
         word = l.word ∙ sym (c.kinds f);
@@ -70,13 +69,13 @@ module _ (n : Machine) (s : ℕ) (x : Step) (m m2 : Place → ℕ) (h h2 : ℕ �
       record {
         since = k.since;
         stored = elim (before_more (sizes_of n) k.since (Life d) (λ w. w == s + 1) made (h s).steps (rw c.steps at k.stored)) [
-            inl here ↦ absurd (let l = here.1 in omega arith)
+          | inl here ↦ absurd (let l = here.1 in omega arith)
           | inr there ↦ there
-          ];
+        ];
         stopped = λ v b e. elim (between_more (sizes_of n) k.since a (Vcpu v 6) (λ w. w == 1) made (h s).steps (rw c.steps at (k.stopped v b e))) [
-            inl here ↦ absurd (let l = here.1 in omega arith)
+          | inl here ↦ absurd (let l = here.1 in omega arith)
           | inr there ↦ there
-          ];
+        ];
       }
 
   is_zero : (w : ℕ) → (w == 0) ≡ true → w ≡ 0
@@ -93,19 +92,19 @@ module _ (n : Machine) (s : ℕ) (x : Step) (m m2 : Place → ℕ) (h h2 : ℕ �
       IsTrue (some_since (sizes_of n) b (Vcpu v k) (λ w. w == 0) (h2 s).steps) → m2 (Vcpu v k) ≡ 0
   empty_after d y v k a b e l u stored order stopped found =
       elim (since_more (sizes_of n) b (Vcpu v k) (λ w. w == 0) made (h s).steps (rw c.steps at found)) [
-        inl now ↦ is_zero (m2 (Vcpu v k)) (left_there (Vcpu v k) (λ w. w == 0) now.0)
-      | inr old ↦
-          let within = since_within (sizes_of n) b (Vcpu v k) (λ w. w == 0) (h s).steps old in
-          c.vcpus v k
-          ∙ y.empty v k a b e l u
+        | inl now ↦ is_zero (m2 (Vcpu v k)) (left_there (Vcpu v k) (λ w. w == 0) now.0)
+        | inr old ↦
+            let within = since_within (sizes_of n) b (Vcpu v k) (λ w. w == 0) (h s).steps old in
+            c.vcpus v k
+            ∙ y.empty v k a b e l u
             (elim (before_more (sizes_of n) a (Life d) (λ w. w == s + 1) made (h s).steps (rw c.steps at stored)) [
-              inl here ↦ absurd (let g = here.1 in omega arith)
-            | inr there ↦ there
+              | inl here ↦ absurd (let g = here.1 in omega arith)
+              | inr there ↦ there
             ])
             order
             (elim (between_more (sizes_of n) a b (Vcpu v 6) (λ w. w == 1) made (h s).steps (rw c.steps at stopped)) [
-              inl here ↦ absurd (let g = here.1 in omega arith)
-            | inr there ↦ there
+              | inl here ↦ absurd (let g = here.1 in omega arith)
+              | inr there ↦ there
             ])
             old
       ]
@@ -121,25 +120,25 @@ module _ (n : Machine) (s : ℕ) (x : Step) (m m2 : Place → ℕ) (h h2 : ℕ �
         record {
           empty = empty_after d y;
           unallocated = λ f a k o found.
-            elim (since_more (sizes_of n) a (Refs f) is_unallocated made (h s).steps (rw c.steps at found)) [
-              inl now ↦ left_there (Refs f) is_unallocated now.0
-            | inr old ↦ rw (c.allocated f) (y.unallocated f a (older a (Refs f) is_unallocated k old) (rw (c.owners f) at o) old)
-            ];
+              elim (since_more (sizes_of n) a (Refs f) is_unallocated made (h s).steps (rw c.steps at found)) [
+                | inl now ↦ left_there (Refs f) is_unallocated now.0
+                | inr old ↦ rw (c.allocated f) (y.unallocated f a (older a (Refs f) is_unallocated k old) (rw (c.owners f) at o) old)
+              ];
           unpinned = λ f a k o found.
-            elim (since_more (sizes_of n) a (Kind f) is_unpinned made (h s).steps (rw c.steps at found)) [
-              inl now ↦ left_there (Kind f) is_unpinned now.0
-            | inr old ↦ rw (c.kinds f) (y.unpinned f a (older a (Kind f) is_unpinned k old) (rw (c.owners f) at o) old)
-            ];
+              elim (since_more (sizes_of n) a (Kind f) is_unpinned made (h s).steps (rw c.steps at found)) [
+                | inl now ↦ left_there (Kind f) is_unpinned now.0
+                | inr old ↦ rw (c.kinds f) (y.unpinned f a (older a (Kind f) is_unpinned k old) (rw (c.owners f) at o) old)
+              ];
           unkept = λ f a k o found.
-            elim (since_more (sizes_of n) a (Kind f) is_unkept made (h s).steps (rw c.steps at found)) [
-              inl now ↦ inl (left_there (Kind f) is_unkept now.0)
-            | inr old ↦ kept_after d f gone (y.unkept f a (older a (Kind f) is_unkept k old) (rw (c.owners f) at o) old)
-            ];
+              elim (since_more (sizes_of n) a (Kind f) is_unkept made (h s).steps (rw c.steps at found)) [
+                | inl now ↦ inl (left_there (Kind f) is_unkept now.0)
+                | inr old ↦ kept_after d f gone (y.unkept f a (older a (Kind f) is_unkept k old) (rw (c.owners f) at o) old)
+              ];
           other = λ f a k found.
-            elim (since_more (sizes_of n) a (Refs f) (λ w. not (is_owned_by d w)) made (h s).steps (rw c.steps at found)) [
-              inl now ↦ is_other (is_owned_by d (m2 (Refs f))) (left_there (Refs f) (λ w. not (is_owned_by d w)) now.0)
-            | inr old ↦ rw (c.owners f) (y.other f a (older a (Refs f) (λ w. not (is_owned_by d w)) k old) old)
-            ];
+              elim (since_more (sizes_of n) a (Refs f) (λ w. not (is_owned_by d w)) made (h s).steps (rw c.steps at found)) [
+                | inl now ↦ is_other (is_owned_by d (m2 (Refs f))) (left_there (Refs f) (λ w. not (is_owned_by d w)) now.0)
+                | inr old ↦ rw (c.owners f) (y.other f a (older a (Refs f) (λ w. not (is_owned_by d w)) k old) old)
+              ];
         }
 
   pub all_dead_law : ((d : ℕ) → d < (sizes_of n).domains → m (Life d) ≡ 255 → DeadDomain n m h d) →
@@ -151,8 +150,8 @@ module _ (n : Machine) (s : ℕ) (x : Step) (m m2 : Place → ℕ) (h h2 : ℕ �
     dying_law : (d t : ℕ) → m (Life d) ≢ 0 → DyingDomain n m h d t → DyingDomain n m2 h2 d t
     dying_law d t gone y =
         elim (cases_eq t s) [
-          inl at ↦ rw at (mine_law d (order d) gone (rw at at y))
-        | inr off ↦ others_law d t off gone y
+          | inl at ↦ rw at (mine_law d (order d) gone (rw at at y))
+          | inr off ↦ others_law d t off gone y
         ]
 
     pub domains_law : Domains n m h → Domains n m2 h2

@@ -1,17 +1,16 @@
 -- What a step learns leaves the works, the looking and the steps of a hand as far as these laws read them.
-use Rattle.std.proofs.Common.{◌≡◌, ◌≢◌, ℕ, ◌+◌, ◌==◌, ◌&&◌, not, if◌then◌else◌, Bool, true, false, List, [], ◌∷◌, Option, Some, None, IsTrue, refl, sym, ◌∙◌, ap, inl, inr, arith}
+use Rattle.std.proofs.Common.{◌≡◌, ◌≢◌, ℕ, ◌+◌, ◌==◌, not, if◌then◌else◌, Bool, true, false, List, [], ◌∷◌, Option, Some, None, refl, sym, ◌∙◌, ap, inl, inr, arith}
 use Rattle.std.proofs.lemmas.Bool.{cases_eq, cases_Bool}
 use Rattle.std.proofs.lemmas.Bool.Decides.{nat_tests}
 use Rattle.xp_words.specs.KindWords.{kind_fields}
 use Rattle.xp_words.specs.Places.{Place, Clock, Pages, Life, Vcpu, Refs, Kind, M2p, Cell, Map, Priv}
-use Rattle.xp_board.specs.declared.holdings.Made.{Made}
 use Rattle.xp_board.specs.declared.holdings.Unsettled.{Unsettled}
 use Rattle.xp_board.specs.declared.holdings.Work.{Work}
 use Rattle.xp_board.specs.declared.holdings.Looking.{Looking}
 use Rattle.xp_board.specs.declared.holdings.Holdings.{Holdings}
 use Rattle.xp_board.specs.Lists.{first_by, changed_by, kept_of, Member}
 use Rattle.xp_board.specs.Hands.{work_on, changed_work}
-use Rattle.xp_board.specs.After.{learned, learned_own, learned_life, learned_cell, learned_work, learned_last, is_fixed}
+use Rattle.xp_board.specs.After.{learned, learned_life, learned_work, learned_last}
 use Rattle.type_rule.proofs.Changes.{SinceKept, WorkKept, WorkKeptIn}
 
 -- ---- works
@@ -66,8 +65,8 @@ unfolding first_by changed_by
 cell_kept f g i w [] = tt
 cell_kept f g i w (e ∷ es) =
     elim (cases_Bool (e.frame == f)) [
-      inl at ↦ rw at (rw (learned_frame i w e) (either (e.frame == g) (Some e) (Some (learned_work i w e)) _ _ (learned_kept i w e) (works_kept (work_on g es))))
-    | inr off ↦ rw off (either (e.frame == g) (Some e) (Some e) _ _ (work_same e) (cell_kept f g i w es))
+      | inl at ↦ rw at (rw (learned_frame i w e) (either (e.frame == g) (Some e) (Some (learned_work i w e)) _ _ (learned_kept i w e) (works_kept (work_on g es))))
+      | inr off ↦ rw off (either (e.frame == g) (Some e) (Some e) _ _ (work_same e) (cell_kept f g i w es))
     ]
 
 -- ---- looking
@@ -77,8 +76,8 @@ kept_member test e [] k t = k
 kept_member test e (y ∷ ys) (inl at) t = let here : test y ≡ true = ap test at ∙ t in rw here (inl at)
 kept_member test e (y ∷ ys) (inr there) t =
     elim (cases_Bool (test y)) [
-      inl in_it ↦ rw in_it (inr (kept_member test e ys there t))
-    | inr out ↦ rw out (kept_member test e ys there t)
+      | inl in_it ↦ rw in_it (inr (kept_member test e ys there t))
+      | inr out ↦ rw out (kept_member test e ys there t)
     ]
 
 -- ---- the three parts
@@ -116,13 +115,13 @@ learned_alive : (d w : ℕ) (b : Holdings) (e : Looking) → Member e b.looking 
     Member e (learned_life d w b).looking
 learned_alive d w b e there alive =
     elim (cases_eq w 0) [
-      inl zero_found ↦
-        let other : (e.owner == d) ≡ false = elim (cases_eq e.owner d) [
-            inl at ↦ absurd (alive (ap Life (sym at)) zero_found)
-          | inr off ↦ grind (arith, nat_tests)
+      | inl zero_found ↦
+          let other : (e.owner == d) ≡ false = elim (cases_eq e.owner d) [
+            | inl at ↦ absurd (alive (ap Life (sym at)) zero_found)
+            | inr off ↦ grind (arith, nat_tests)
           ] in
-        rw zero_found (kept_member (λ y. not (y.owner == d)) e b.looking there (rw other refl))
-    | inr found ↦ (let t : (w == 0) ≡ false = grind (arith, nat_tests) in rw t there)
+          rw zero_found (kept_member (λ y. not (y.owner == d)) e b.looking there (rw other refl))
+      | inr found ↦ (let t : (w == 0) ≡ false = grind (arith, nat_tests) in rw t there)
     ]
 
 life_by : (t : Bool) (d : ℕ) (b : Holdings) → ((if t then record b { looking = kept_of (λ e. not (e.owner == d)) b.looking } else b).works ≡ b.works)

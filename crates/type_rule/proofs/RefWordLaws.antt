@@ -1,5 +1,5 @@
 -- A reference word that has one reference more or one less keeps its owner and its allocated mark.
-use Rattle.std.proofs.Common.{◌≡◌, ◌≢◌, ℕ, zero, suc, ◌+◌, ◌*◌, ◌%◌, ◌^◌, ◌<◌, ◌≤◌, Bool, true, false, Option, Some, None, refl, sym, ◌∙◌, ap, inl, inr, arith}
+use Rattle.std.proofs.Common.{◌≡◌, ◌≢◌, ℕ, zero, suc, ◌+◌, ◌%◌, ◌^◌, ◌<◌, ◌≤◌, Bool, true, false, Option, Some, None, refl, ap, inl, inr, arith}
 use Rattle.std.proofs.lemmas.Bool.{cases_eq}
 use Rattle.xp_words.specs.declared.refs.RefWord.{RefWord}
 use Rattle.xp_words.specs.declared.refs.RefWord.TheVariants.{Free, Owned, Dying}
@@ -9,8 +9,8 @@ use Rattle.xp_words.proofs.RefLaws.{ref_read-write, ref_write-read}
 use Rattle.xp_board.specs.declared.holdings.Holdings.{Holdings}
 use Rattle.xp_board.specs.Sums.{sum_below}
 use Rattle.xp_board.specs.Readings.{owner_of, allocated_mark, ref_count}
-use Rattle.xp_board.specs.Hands.{hand, typed_hand, refs_to}
-use Rattle.xp_board.specs.Recorded.{hands, named, CountsAgree}
+use Rattle.xp_board.specs.Hands.{hand, refs_to}
+use Rattle.xp_board.specs.Recorded.{hands, CountsAgree}
 use Rattle.xp_board.specs.RefSteps.{one_down}
 
 -- the word v has the owner and the mark of w
@@ -62,8 +62,8 @@ unfolding sum_below
 sum_below-part zero p j b = absurd (omega arith)
 sum_below-part (suc n) p j b =
     elim (cases_eq j n) [
-      inl at ↦ let e = ap p at in omega arith
-    | inr off ↦ let rest = sum_below-part n p j (let k : j ≢ n = off in omega arith) in omega arith
+      | inl at ↦ let e = ap p at in omega arith
+      | inr off ↦ let rest = sum_below-part n p j (let k : j ≢ n = off in omega arith) in omega arith
     ]
 
 hands-part : (c : Holdings → ℕ) (z : Sizes) (h : ℕ → Holdings) (s : ℕ) → s < z.vcpus → c (h s) ≤ hands c z h

@@ -1,5 +1,5 @@
 -- What is known of a list of steps that has one more.
-use Rattle.std.proofs.Common.{◌≡◌, ◌≢◌, ℕ, ◌<◌, ◌≤◌, ◌==◌, ◌&&◌, ◌||◌, ◌⊎◌, nat_lt, nat_le, Bool, true, false, List, [], ◌∷◌, length, IsTrue, refl, sym, ap, ◌∙◌, inl, inr, arith}
+use Rattle.std.proofs.Common.{◌≡◌, ℕ, ◌<◌, ◌≤◌, ◌&&◌, ◌⊎◌, nat_lt, nat_le, Bool, true, false, List, [], ◌∷◌, length, IsTrue, refl, inl, inr, arith}
 use Rattle.std.proofs.lemmas.Bool.{and_parts, or_cases, cases_Bool}
 use Rattle.std.proofs.lemmas.Bool.Decides.{nat_tests}
 use Rattle.xp_words.specs.Places.{Sizes, Place, Clock, Pages, Life, Vcpu, Refs, Kind, M2p, Cell, Map, Priv, place_at}
@@ -51,27 +51,27 @@ pub since_more : (z : Sizes) (n : ℕ) (p : Place) (test : ℕ → Bool) (x : Ma
     (Hit z p test x × (n ≤ length xs)) ⊎ IsTrue (some_since z n p test xs)
 since_more z n p test x xs h =
     elim (head_or_tail (λ k y. nat_le n k && (is_at z p y && test (left_of y))) x xs h) [
-      inl here ↦ (let a = and_parts (nat_le n (length xs)) (is_at z p x && test (left_of x)) here in inl (hit z p test x a.1, from_le n (length xs) a.0))
-    | inr there ↦ inr there
+      | inl here ↦ (let a = and_parts (nat_le n (length xs)) (is_at z p x && test (left_of x)) here in inl (hit z p test x a.1, from_le n (length xs) a.0))
+      | inr there ↦ inr there
     ]
 
 pub before_more : (z : Sizes) (n : ℕ) (p : Place) (test : ℕ → Bool) (x : Made) (xs : List Made) → IsTrue (some_before z n p test (x ∷ xs)) →
     (Hit z p test x × (length xs < n)) ⊎ IsTrue (some_before z n p test xs)
 before_more z n p test x xs h =
     elim (head_or_tail (λ k y. nat_lt k n && (is_at z p y && test (left_of y))) x xs h) [
-      inl here ↦ (let a = and_parts (nat_lt (length xs) n) (is_at z p x && test (left_of x)) here in inl (hit z p test x a.1, from_lt (length xs) n a.0))
-    | inr there ↦ inr there
+      | inl here ↦ (let a = and_parts (nat_lt (length xs) n) (is_at z p x && test (left_of x)) here in inl (hit z p test x a.1, from_lt (length xs) n a.0))
+      | inr there ↦ inr there
     ]
 
 pub between_more : (z : Sizes) (n o : ℕ) (p : Place) (test : ℕ → Bool) (x : Made) (xs : List Made) → IsTrue (some_between z n o p test (x ∷ xs)) →
     (Hit z p test x × (length xs < o)) ⊎ IsTrue (some_between z n o p test xs)
 between_more z n o p test x xs h =
     elim (head_or_tail (λ k y. (nat_le n k && nat_lt k o) && (is_at z p y && test (left_of y))) x xs h) [
-      inl here ↦
-        (let a = and_parts (nat_le n (length xs) && nat_lt (length xs) o) (is_at z p x && test (left_of x)) here in
-         let b = and_parts (nat_le n (length xs)) (nat_lt (length xs) o) a.0 in
-         inl (hit z p test x a.1, from_lt (length xs) o b.1))
-    | inr there ↦ inr there
+      | inl here ↦
+          (let a = and_parts (nat_le n (length xs) && nat_lt (length xs) o) (is_at z p x && test (left_of x)) here in
+          let b = and_parts (nat_le n (length xs)) (nat_lt (length xs) o) a.0 in
+          inl (hit z p test x a.1, from_lt (length xs) o b.1))
+      | inr there ↦ inr there
     ]
 
 -- ---- where the numbers are
@@ -80,8 +80,8 @@ unfolding some_step
 since_within z n p test [] h = absurd (cc)
 since_within z n p test (x ∷ xs) h =
     elim (since_more z n p test x xs h) [
-      inl here ↦ (let b = here.1 in omega arith)
-    | inr there ↦ (let r = since_within z n p test xs there in omega arith)
+      | inl here ↦ (let b = here.1 in omega arith)
+      | inr there ↦ (let r = since_within z n p test xs there in omega arith)
     ]
 
 pub between_within : (z : Sizes) (n o : ℕ) (p : Place) (test : ℕ → Bool) (xs : List Made) → IsTrue (some_between z n o p test xs) → n < o
@@ -89,13 +89,13 @@ unfolding some_step
 between_within z n o p test [] h = absurd (cc)
 between_within z n o p test (x ∷ xs) h =
     elim (head_or_tail (λ k y. (nat_le n k && nat_lt k o) && (is_at z p y && test (left_of y))) x xs h) [
-      inl here ↦
-        (let a = and_parts (nat_le n (length xs) && nat_lt (length xs) o) (is_at z p x && test (left_of x)) here in
-         let b = and_parts (nat_le n (length xs)) (nat_lt (length xs) o) a.0 in
-         let l = from_le n (length xs) b.0 in
-         let r = from_lt (length xs) o b.1 in
-         omega arith)
-    | inr there ↦ between_within z n o p test xs there
+      | inl here ↦
+          (let a = and_parts (nat_le n (length xs) && nat_lt (length xs) o) (is_at z p x && test (left_of x)) here in
+          let b = and_parts (nat_le n (length xs)) (nat_lt (length xs) o) a.0 in
+          let l = from_le n (length xs) b.0 in
+          let r = from_lt (length xs) o b.1 in
+          omega arith)
+      | inr there ↦ between_within z n o p test xs there
     ]
 
 -- what was not found before, and is now, this step found
@@ -103,10 +103,10 @@ pub since_false : (z : Sizes) (n : ℕ) (p : Place) (test : ℕ → Bool) (x : M
     Hit z p test x ⊎ (some_since z n p test (x ∷ xs) ≡ false)
 since_false z n p test x xs h =
     elim (cases_Bool (some_since z n p test (x ∷ xs))) [
-      inl yes_now ↦
-        elim (since_more z n p test x xs yes_now) [
-          inl here ↦ inl here.0
-        | inr there ↦ absurd (cc)
-        ]
-    | inr not_now ↦ inr not_now
+      | inl yes_now ↦
+          elim (since_more z n p test x xs yes_now) [
+            | inl here ↦ inl here.0
+            | inr there ↦ absurd (cc)
+          ]
+      | inr not_now ↦ inr not_now
     ]

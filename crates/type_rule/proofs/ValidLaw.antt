@@ -1,24 +1,17 @@
 -- What recorded entries and words of vCPUs lead to, and whom they are permitted, after a step.
-use Rattle.std.proofs.Common.{◌≡◌, ◌≢◌, ℕ, ◌+◌, ◌<◌, ◌⊎◌, ◌||◌, Bool, true, false, Option, Some, None, IsTrue, refl, sym, ◌∙◌, ap, subst, inl, inr}
+use Rattle.std.proofs.Common.{◌≡◌, ℕ, ◌⊎◌, Bool, true, Option, Some, None, IsTrue, refl, sym, ◌∙◌, ap, subst, inl, inr}
 use Rattle.std.proofs.lemmas.Bool.{cases_eq}
 use Rattle.xp_words.specs.declared.kind.PageType.{PageType}
-use Rattle.xp_words.specs.declared.entry.Demand.TheVariants.{Bad, Read, Typed}
-use Rattle.xp_words.specs.Entries.{is_lowest}
-use Rattle.xp_words.specs.KindWords.{kind_fields}
 use Rattle.xp_words.specs.Machine.{Machine}
-use Rattle.xp_words.specs.Places.{Place, Vcpu, Refs, Kind, Cell, Priv, sizes_of}
+use Rattle.xp_words.specs.Places.{Place, Refs, Kind, sizes_of}
 use Rattle.xp_board.specs.declared.step.Step.{Step}
 use Rattle.xp_board.specs.declared.holdings.Made.{Made}
 use Rattle.xp_board.specs.declared.holdings.Holdings.{Holdings}
-use Rattle.xp_board.specs.Steps.{some_since, left_of}
-use Rattle.xp_board.specs.Readings.{kind_at, is_live, is_live_word, is_context, owner_of, has_ever}
-use Rattle.xp_board.specs.Hands.{work_on}
-use Rattle.xp_board.specs.Recorded.{held, held_of, work_of, entry_demand}
-use Rattle.xp_board.specs.After.{is_fixed}
-use Rattle.xp_board.specs.Valid.{Valid, LeadsWell, IsUnsettled, IsLastOfPartial, PermitsOwner, Permits, EntryPermitted, Permitted, is_live_context}
-use Rattle.xp_board.specs.Runs.{place_of}
+use Rattle.xp_board.specs.Readings.{kind_at, is_live, is_live_word, owner_of}
+use Rattle.xp_board.specs.Recorded.{held, entry_demand}
+use Rattle.xp_board.specs.Valid.{Valid, LeadsWell, IsUnsettled, PermitsOwner, EntryPermitted, Permitted}
 use Rattle.type_rule.proofs.StepFacts.{Hit, since_false}
-use Rattle.type_rule.proofs.Changes.{WorkKept, Change, kept_work, kept_since, work_same}
+use Rattle.type_rule.proofs.Changes.{Change, kept_work, kept_since, work_same}
 
 module _ (n : Machine) (s : ℕ) (x : Step) (m m2 : Place → ℕ) (h h2 : ℕ → Holdings) (c : Change n s x m m2 h h2) where
   -- the words that are read here
@@ -44,38 +37,38 @@ module _ (n : Machine) (s : ℕ) (x : Step) (m m2 : Place → ℕ) (h h2 : ℕ �
       let k = e.2 in
       let v = kept_since _ _ u.unsettled k.unsettled u.kept in
       elim (since_false (sizes_of n) u.unsettled.since (Kind g) is_live_word made (h s).steps (rw at at u.unfound)) [
-        inl found ↦ inl (stands (Kind g) is_live_word found)
-      | inr unfound ↦
-          inr
-          (record {
-            seat = s;
-            real = rw at at u.real;
-            work = e.0;
-            here = e.1;
-            last = u.last ∙ sym k.recorded;
-            unsettled = v.0;
-            kept = v.1;
-            unfound = rw (c.steps, v.2) unfound;
-          })
+        | inl found ↦ inl (stands (Kind g) is_live_word found)
+        | inr unfound ↦
+            inr
+            (record {
+              seat = s;
+              real = rw at at u.real;
+              work = e.0;
+              here = e.1;
+              last = u.last ∙ sym k.recorded;
+              unsettled = v.0;
+              kept = v.1;
+              unfound = rw (c.steps, v.2) unfound;
+            })
       ]
 
   unsettled_after : (f i g : ℕ) → IsUnsettled (sizes_of n) h f i g → IsTrue (is_live (kind_at m2 g)) ⊎ IsUnsettled (sizes_of n) h2 f i g
   unsettled_after f i g u =
       elim (cases_eq u.seat s) [
-        inl at ↦ still_unfound f i g u at
-      | inr off ↦
-          let same = c.others u.seat off in
-          inr
-          (record {
-            seat = u.seat;
-            real = u.real;
-            work = u.work;
-            here = rw same u.here;
-            last = u.last;
-            unsettled = u.unsettled;
-            kept = u.kept;
-            unfound = rw same u.unfound;
-          })
+        | inl at ↦ still_unfound f i g u at
+        | inr off ↦
+            let same = c.others u.seat off in
+            inr
+            (record {
+              seat = u.seat;
+              real = u.real;
+              work = u.work;
+              here = rw same u.here;
+              last = u.last;
+              unsettled = u.unsettled;
+              kept = u.kept;
+              unfound = rw same u.unfound;
+            })
       ]
 
   leads_after : (f i g : ℕ) → LeadsWell (sizes_of n) m h f i g → LeadsWell (sizes_of n) m2 h2 f i g
@@ -83,8 +76,8 @@ module _ (n : Machine) (s : ℕ) (x : Step) (m m2 : Place → ℕ) (h h2 : ℕ �
   leads_after f i g (inr (form, inl last)) = inr (rw (c.kinds g) form, inl (record { partial = rw (c.kinds f) last.partial; last = rw (c.kinds f) last.last }))
   leads_after f i g (inr (form, inr unsettled)) =
       elim (unsettled_after f i g unsettled) [
-        inl live ↦ inl live
-      | inr after ↦ inr (rw (c.kinds g) form, inr after)
+        | inl live ↦ inl live
+        | inr after ↦ inr (rw (c.kinds g) form, inr after)
       ]
 
   pub valid_law : Valid (sizes_of n) m h → Valid (sizes_of n) m2 h2

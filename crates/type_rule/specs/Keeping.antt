@@ -12,4 +12,4 @@ use Rattle.xp_board.specs.Sound.{Sound}
 abbrev pub Keeps : (Machine → (Place → ℕ) → (ℕ → Holdings) → Type 0) → Type 0
 Keeps P =
     (n : Machine) (s : ℕ) (x : Step) (m m2 : Place → ℕ) (h h2 : ℕ → Holdings) → s < (sizes_of n).vcpus → LegalNow n s (h s) x →
-        Stepped n s x m m2 h h2 → Sound n m h → P n m2 h2
+    Stepped n s x m m2 h h2 → Sound n m h → P n m2 h2
