@@ -14,7 +14,8 @@ pub fn entries_still_lead_well()
     ensures { Keeps (λ n m h. Valid (sizes_of n) m h) }
 {}
 
-/// Each entry of a table, and each word of a vCPU, leads to a frame to which its domain is permitted.
+/// A recorded entry leads to a frame of the table's owner; at the lowest level also to a free one, or to one of a domain over which
+/// the owner has or had privilege. A word of a vCPU leads to a frame of its own domain.
 pub fn entries_stay_permitted()
     ensures { Keeps (λ n m h. Permitted n m h) }
 {}
