@@ -76,6 +76,7 @@ module _ (n : Machine) (s : ℕ) (x : Step) (m m2 : Place → ℕ) (h h2 : ℕ �
           | inl here ↦ absurd (let l = here.1 in omega arith)
           | inr there ↦ there
         ];
+        order = order;
       }
 
   is_zero : (w : ℕ) → (w == 0) ≡ true → w ≡ 0
@@ -110,10 +111,10 @@ module _ (n : Machine) (s : ℕ) (x : Step) (m m2 : Place → ℕ) (h h2 : ℕ �
       ]
 
   -- the seat that makes the step destroys it
-  module _ (d : ℕ) (order : (a : ℕ) (k : HasStopped n s d a (h2 s)) → k.since ≤ a) where
+  module _ (d : ℕ) where
     -- what was found before, by the findings of then
     older : (a : ℕ) (p : Place) (test : ℕ → Bool) → HasStopped n s d a (h2 s) → IsTrue (some_since (sizes_of n) a p test (h s).steps) → HasStopped n s d a (h s)
-    older a p test k old = stopped_before d a k (order a k) (since_within (sizes_of n) a p test (h s).steps old)
+    older a p test k old = stopped_before d a k k.order (since_within (sizes_of n) a p test (h s).steps old)
 
     mine_law : m (Life d) ≢ 0 → DyingDomain n m h d s → DyingDomain n m2 h2 d s
     mine_law gone y =
@@ -145,18 +146,16 @@ module _ (n : Machine) (s : ℕ) (x : Step) (m m2 : Place → ℕ) (h h2 : ℕ �
       (d : ℕ) → d < (sizes_of n).domains → m2 (Life d) ≡ 255 → DeadDomain n m2 h2 d
   all_dead_law y d b e = let was : m (Life d) ≡ 255 = sym (c.lives d) ∙ e in dead_law d (λ z. absurd (cc)) (y d b was)
 
-  -- the seat stored the life word no later than it found the vCPUs of the domain stopped
-  module _ (order : (d a : ℕ) (k : HasStopped n s d a (h2 s)) → k.since ≤ a) where
-    dying_law : (d t : ℕ) → m (Life d) ≢ 0 → DyingDomain n m h d t → DyingDomain n m2 h2 d t
-    dying_law d t gone y =
-        elim (cases_eq t s) [
-          | inl at ↦ rw at (mine_law d (order d) gone (rw at at y))
-          | inr off ↦ others_law d t off gone y
-        ]
+  dying_law : (d t : ℕ) → m (Life d) ≢ 0 → DyingDomain n m h d t → DyingDomain n m2 h2 d t
+  dying_law d t gone y =
+      elim (cases_eq t s) [
+        | inl at ↦ rw at (mine_law d gone (rw at at y))
+        | inr off ↦ others_law d t off gone y
+      ]
 
-    pub domains_law : Domains n m h → Domains n m2 h2
-    domains_law y =
-        record {
-          dead = all_dead_law y.dead;
-          dying = λ d t b u e. let was : m (Life d) ≡ t + 1 = sym (c.lives d) ∙ e in dying_law d t (λ z. absurd (omega arith)) (y.dying d t b u was);
-        }
+  pub domains_law : Domains n m h → Domains n m2 h2
+  domains_law y =
+      record {
+        dead = all_dead_law y.dead;
+        dying = λ d t b u e. let was : m (Life d) ≡ t + 1 = sym (c.lives d) ∙ e in dying_law d t (λ z. absurd (omega arith)) (y.dying d t b u was);
+      }

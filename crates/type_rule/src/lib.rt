@@ -2,10 +2,10 @@
 //! and dying domains. These functions do nothing: their contracts are laws.
 #![tactic(auto)]
 
-ghost use Rattle.std.specs.Prelude.{◌≡◌, ℕ, ◌<◌};
-ghost use Rattle.xp_words.specs.Places.{sizes_of, Life};
+ghost use Rattle.std.specs.Prelude.{ℕ};
+ghost use Rattle.xp_words.specs.Places.{sizes_of};
 ghost use Rattle.xp_board.specs.Valid.{Valid, Permitted};
-ghost use Rattle.xp_board.specs.Sound.{DeadDomain};
+ghost use Rattle.xp_board.specs.Sound.{Domains};
 ghost use Rattle.type_rule.specs.Keeping.{Keeps};
 
 /// A recorded entry asks nothing that is refused, and leads to a live frame; but the last one of a partial table, or one that is not
@@ -20,7 +20,8 @@ pub fn entries_stay_permitted()
     ensures { Keeps (λ n m h. Permitted n m h) }
 {}
 
-/// A dead domain has no frame that is allocated, pinned or kept, and its vCPUs are stopped and name no frame.
+/// A dead domain has no frame that is allocated, pinned or kept, and its vCPUs are stopped and name no frame. While a domain is dying,
+/// what its destroying seat has found so is so.
 pub fn the_dead_stay_dead()
-    ensures { Keeps (λ n m h. (d : ℕ) → d < (sizes_of n).domains → m (Life d) ≡ 255 → DeadDomain n m h d) }
+    ensures { Keeps (λ n m h. Domains n m h) }
 {}
