@@ -14,13 +14,14 @@ pub fn entries_still_lead_well()
     ensures { Keeps (λ n m h. Valid (sizes_of n) m h) }
 {}
 
-/// Each entry of a table, and each word of a vCPU, leads to a frame to which its domain is permitted.
+/// A recorded entry leads to a frame of the table's owner; at the lowest level also to a free one, or to one of a domain over which
+/// the owner has or had privilege. A word of a vCPU leads to a frame of its own domain.
 pub fn entries_stay_permitted()
     ensures { Keeps (λ n m h. Permitted n m h) }
 {}
 
-/// A dead domain has no frame that is allocated, pinned or kept, and its vCPUs are stopped and name no frame. While a domain is dying,
-/// what its destroying seat has found so is so.
+/// A dead domain has no frame that is allocated or pinned, and none that is kept but where a seat has still to look whether the domain
+/// lives; its vCPUs are stopped and name no frame. While a domain is dying, what its destroying seat has found so is so.
 pub fn the_dead_stay_dead()
     ensures { Keeps (λ n m h. Domains n m h) }
 {}
