@@ -7,6 +7,6 @@ mod KeptPicture
 mod Picture
 mod ProcessorPicture
 mod ReleasePicture
-mod Rows
+pub mod Rows
 mod SafeItems
 mod WalkPicture

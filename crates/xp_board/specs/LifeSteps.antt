@@ -1,5 +1,5 @@
 -- Whether a domain lives.
-use Rattle.std.specs.Prelude.{◌≡◌, ℕ, ◌+◌, ◌<◌, ◌==◌, ◌⊎◌, not, Bool, length, IsTrue}
+use Rattle.std.specs.Prelude.{◌≡◌, ℕ, ◌+◌, ◌<◌, ◌≤◌, ◌==◌, ◌⊎◌, not, Bool, length, IsTrue}
 use Rattle.xp_words.specs.Machine.{Machine}
 use Rattle.xp_words.specs.KindWords.{kind_fields}
 use Rattle.xp_words.specs.Places.{Place, Life, Vcpu, Refs, Kind, sizes_of}
@@ -21,6 +21,7 @@ pub record HasStopped (m : Machine) (s d upto : ℕ) (h : Holdings) : Type 0 whe
   pub stored : IsTrue (some_before (sizes_of m) since (Life d) (λ w. w == s + 1) h.steps)
   pub stopped : (v : ℕ) → v < length m.vcpu_domain → domain_of m v ≡ d →
       IsTrue (some_between (sizes_of m) since upto (Vcpu v 6) (λ w. w == 1) h.steps)
+  pub order : since ≤ upto
 
 -- after that, below `upto`: each word of those vCPUs that may name a frame empty, or emptied
 pub record HasEmptied (m : Machine) (s d upto : ℕ) (h : Holdings) : Type 0 where
@@ -28,6 +29,7 @@ pub record HasEmptied (m : Machine) (s d upto : ℕ) (h : Holdings) : Type 0 whe
   pub stopped : HasStopped m s d since h
   pub empty : (v k : ℕ) → v < length m.vcpu_domain → domain_of m v ≡ d → k < 38 → IsTrue (is_context k) →
       IsTrue (some_between (sizes_of m) since upto (Vcpu v k) (λ w. w == 0) h.steps)
+  pub order : since ≤ upto
 
 abbrev pub is_unallocated : ℕ → Bool
 is_unallocated w = allocated_mark w == 0

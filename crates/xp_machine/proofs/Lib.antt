@@ -3,3 +3,5 @@ pub mod Counting
 pub mod Turning
 pub mod Starting
 pub mod Statuses
+pub mod Walking
+pub mod Handling

@@ -1,5 +1,6 @@
 pub mod Boards
 pub mod Outcome
+pub mod Pieces
 pub mod Ran
 pub mod Texts
 pub mod Turns

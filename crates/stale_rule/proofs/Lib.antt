@@ -1,0 +1,10 @@
+pub mod Awaits
+pub mod Counted
+pub mod Demands
+pub mod Items
+pub mod Like
+pub mod Lowers
+pub mod Paths
+pub mod Rows
+pub mod Stays
+pub mod Tables

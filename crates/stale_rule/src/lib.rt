@@ -1,0 +1,22 @@
+//! What old translations lead to: a sound machine is safe, and the steps that are legal today leave no
+//! translation that leads where it may not. These functions do nothing: their contracts are laws.
+#![tactic(auto)]
+
+ghost use Rattle.std.specs.Prelude.{ℕ};
+ghost use Rattle.xp_words.specs.Machine.{Machine};
+ghost use Rattle.xp_words.specs.Places.{Place};
+ghost use Rattle.xp_board.specs.declared.holdings.Holdings.{Holdings};
+ghost use Rattle.xp_board.specs.Fresh.{Fresh};
+ghost use Rattle.xp_board.specs.Safe.{Safe};
+ghost use Rattle.xp_board.specs.Sound.{Sound};
+ghost use Rattle.stale_rule.specs.Keeps.{Keeps};
+
+/// A sound machine is safe.
+pub fn a_sound_machine_is_safe()
+    ensures { (n : Machine) (m : Place → ℕ) (h : ℕ → Holdings) → Sound n m h → Safe n m h }
+{}
+
+/// A step that is legal today leaves no translation of any vCPU that leads where it may not.
+pub fn a_legal_step_keeps_translations_fresh()
+    ensures { Keeps Fresh }
+{}

@@ -1,0 +1,112 @@
+-- What is known of a list of steps that has one more.
+use Rattle.std.proofs.Common.{◌≡◌, ℕ, ◌<◌, ◌≤◌, ◌&&◌, ◌⊎◌, nat_lt, nat_le, Bool, true, false, List, [], ◌∷◌, length, IsTrue, refl, inl, inr, arith}
+use Rattle.std.proofs.lemmas.Bool.{and_parts, or_cases, cases_Bool}
+use Rattle.std.proofs.lemmas.Bool.Decides.{nat_tests}
+use Rattle.xp_words.specs.Places.{Sizes, Place, Clock, Pages, Life, Vcpu, Refs, Kind, M2p, Cell, Map, Priv, place_at}
+use Rattle.xp_board.specs.declared.holdings.Made.{Made}
+use Rattle.xp_board.specs.Steps.{is_same, is_at, left_of, some_step, some_since, some_before, some_between}
+
+-- two places that pass the test are one
+pub same_place : (p q : Place) → is_same p q ≡ true → p ≡ q
+same_place Clock Clock h = refl
+same_place (Pages d) (Pages e) h = grind (arith, nat_tests)
+same_place (Life d) (Life e) h = grind (arith, nat_tests)
+same_place (Vcpu v k) (Vcpu w j) h = grind (arith, nat_tests)
+same_place (Refs f) (Refs g) h = grind (arith, nat_tests)
+same_place (Kind f) (Kind g) h = grind (arith, nat_tests)
+same_place (M2p f) (M2p g) h = grind (arith, nat_tests)
+same_place (Cell f i) (Cell g j) h = grind (arith, nat_tests)
+same_place (Map k) (Map j) h = grind (arith, nat_tests)
+same_place (Priv d) (Priv e) h = grind (arith, nat_tests)
+same_place _ _ h = absurd (cc)
+
+-- the head passes, or one of the others
+pub head_or_tail : (test : ℕ → Made → Bool) (x : Made) (xs : List Made) → IsTrue (some_step test (x ∷ xs)) →
+    IsTrue (test (length xs) x) ⊎ IsTrue (some_step test xs)
+unfolding some_step
+head_or_tail test x xs h = or_cases (test (length xs) x) (some_step test xs) h
+
+pub one_more : (test : ℕ → Made → Bool) (x : Made) (xs : List Made) → IsTrue (some_step test xs) → IsTrue (some_step test (x ∷ xs))
+unfolding some_step
+one_more test x xs h = grind arith
+
+-- the step is at that place, and the word that it left passes
+pub record Hit (z : Sizes) (p : Place) (test : ℕ → Bool) (x : Made) : Type 0 where
+  pub place : place_at z x.step.place ≡ p
+  pub passes : test (left_of x) ≡ true
+
+hit : (z : Sizes) (p : Place) (test : ℕ → Bool) (x : Made) → (is_at z p x && test (left_of x)) ≡ true → Hit z p test x
+hit z p test x h =
+    let a = and_parts (is_at z p x) (test (left_of x)) h in
+    record { place = same_place (place_at z x.step.place) p a.0; passes = a.1 }
+
+from_le : (a b : ℕ) → nat_le a b ≡ true → a ≤ b
+from_le a b h = grind (arith, nat_tests)
+
+from_lt : (a b : ℕ) → nat_lt a b ≡ true → a < b
+from_lt a b h = grind (arith, nat_tests)
+
+-- ---- one more step at the head
+pub since_more : (z : Sizes) (n : ℕ) (p : Place) (test : ℕ → Bool) (x : Made) (xs : List Made) → IsTrue (some_since z n p test (x ∷ xs)) →
+    (Hit z p test x × (n ≤ length xs)) ⊎ IsTrue (some_since z n p test xs)
+since_more z n p test x xs h =
+    elim (head_or_tail (λ k y. nat_le n k && (is_at z p y && test (left_of y))) x xs h) [
+      | inl here ↦ (let a = and_parts (nat_le n (length xs)) (is_at z p x && test (left_of x)) here in inl (hit z p test x a.1, from_le n (length xs) a.0))
+      | inr there ↦ inr there
+    ]
+
+pub before_more : (z : Sizes) (n : ℕ) (p : Place) (test : ℕ → Bool) (x : Made) (xs : List Made) → IsTrue (some_before z n p test (x ∷ xs)) →
+    (Hit z p test x × (length xs < n)) ⊎ IsTrue (some_before z n p test xs)
+before_more z n p test x xs h =
+    elim (head_or_tail (λ k y. nat_lt k n && (is_at z p y && test (left_of y))) x xs h) [
+      | inl here ↦ (let a = and_parts (nat_lt (length xs) n) (is_at z p x && test (left_of x)) here in inl (hit z p test x a.1, from_lt (length xs) n a.0))
+      | inr there ↦ inr there
+    ]
+
+pub between_more : (z : Sizes) (n o : ℕ) (p : Place) (test : ℕ → Bool) (x : Made) (xs : List Made) → IsTrue (some_between z n o p test (x ∷ xs)) →
+    (Hit z p test x × (length xs < o)) ⊎ IsTrue (some_between z n o p test xs)
+between_more z n o p test x xs h =
+    elim (head_or_tail (λ k y. (nat_le n k && nat_lt k o) && (is_at z p y && test (left_of y))) x xs h) [
+      | inl here ↦
+          (let a = and_parts (nat_le n (length xs) && nat_lt (length xs) o) (is_at z p x && test (left_of x)) here in
+          let b = and_parts (nat_le n (length xs)) (nat_lt (length xs) o) a.0 in
+          inl (hit z p test x a.1, from_lt (length xs) o b.1))
+      | inr there ↦ inr there
+    ]
+
+-- ---- where the numbers are
+pub since_within : (z : Sizes) (n : ℕ) (p : Place) (test : ℕ → Bool) (xs : List Made) → IsTrue (some_since z n p test xs) → n < length xs
+unfolding some_step
+since_within z n p test [] h = absurd (cc)
+since_within z n p test (x ∷ xs) h =
+    elim (since_more z n p test x xs h) [
+      | inl here ↦ (let b = here.1 in omega arith)
+      | inr there ↦ (let r = since_within z n p test xs there in omega arith)
+    ]
+
+pub between_within : (z : Sizes) (n o : ℕ) (p : Place) (test : ℕ → Bool) (xs : List Made) → IsTrue (some_between z n o p test xs) → n < o
+unfolding some_step
+between_within z n o p test [] h = absurd (cc)
+between_within z n o p test (x ∷ xs) h =
+    elim (head_or_tail (λ k y. (nat_le n k && nat_lt k o) && (is_at z p y && test (left_of y))) x xs h) [
+      | inl here ↦
+          (let a = and_parts (nat_le n (length xs) && nat_lt (length xs) o) (is_at z p x && test (left_of x)) here in
+          let b = and_parts (nat_le n (length xs)) (nat_lt (length xs) o) a.0 in
+          let l = from_le n (length xs) b.0 in
+          let r = from_lt (length xs) o b.1 in
+          omega arith)
+      | inr there ↦ between_within z n o p test xs there
+    ]
+
+-- what was not found before, and is now, this step found
+pub since_false : (z : Sizes) (n : ℕ) (p : Place) (test : ℕ → Bool) (x : Made) (xs : List Made) → some_since z n p test xs ≡ false →
+    Hit z p test x ⊎ (some_since z n p test (x ∷ xs) ≡ false)
+since_false z n p test x xs h =
+    elim (cases_Bool (some_since z n p test (x ∷ xs))) [
+      | inl yes_now ↦
+          elim (since_more z n p test x xs yes_now) [
+            | inl here ↦ inl here.0
+            | inr there ↦ absurd (cc)
+          ]
+      | inr not_now ↦ inr not_now
+    ]

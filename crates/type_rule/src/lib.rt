@@ -1,0 +1,26 @@
+//! Each step that is legal today keeps what entries and words of vCPUs lead to, whom they are permitted, and what holds of dead
+//! and dying domains. These functions do nothing: their contracts are laws.
+#![tactic(auto)]
+
+ghost use Rattle.std.specs.Prelude.{ℕ};
+ghost use Rattle.xp_words.specs.Places.{sizes_of};
+ghost use Rattle.xp_board.specs.Valid.{Valid, Permitted};
+ghost use Rattle.xp_board.specs.Sound.{Domains};
+ghost use Rattle.type_rule.specs.Keeping.{Keeps};
+
+/// A recorded entry asks nothing that is refused, and leads to a live frame; but the last one of a partial table, or one that is not
+/// settled, may lead to a frame that is partial or in work. Descriptor pages hold fixed words, and the words of vCPUs name live frames.
+pub fn entries_still_lead_well()
+    ensures { Keeps (λ n m h. Valid (sizes_of n) m h) }
+{}
+
+/// Each entry of a table, and each word of a vCPU, leads to a frame to which its domain is permitted.
+pub fn entries_stay_permitted()
+    ensures { Keeps (λ n m h. Permitted n m h) }
+{}
+
+/// A dead domain has no frame that is allocated, pinned or kept, and its vCPUs are stopped and name no frame. While a domain is dying,
+/// what its destroying seat has found so is so.
+pub fn the_dead_stay_dead()
+    ensures { Keeps (λ n m h. Domains n m h) }
+{}
