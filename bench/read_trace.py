@@ -3,7 +3,7 @@
 
     python3 bench/read_trace.py [PROGRAM] [--runs N]
 
-PROGRAM is the built program, by default crates/ptmac/out/ptmac (`rt run` in crates/ptmac leaves it there).
+PROGRAM is the built program, by default crates/ptmac/out/ptmac, where `rt run` leaves it.
 The trace has 32 MiB: cells, and operations with long lists, all well formed and within the limits. It has no
 `turn` line, so next to nothing is run. The C loop reads the same bytes and adds up the numbers of each line; it checks
 nothing and keeps nothing. Both are run N times in turn, and the medians are compared. Nothing is kept afterwards.
@@ -113,7 +113,8 @@ def main():
     parser.add_argument("--runs", type=int, default=5)
     arguments = parser.parse_args()
     if not os.path.exists(arguments.program):
-        sys.exit(f"{arguments.program} is not there; build it with: (cd crates/ptmac && rt run)")
+        sys.exit(f"{arguments.program} is not there; build it with: "
+                 "(cd crates/ptmac && rt run -- turns < ../../examples/first-update.trace)")
     with tempfile.TemporaryDirectory() as folder:
         trace = os.path.join(folder, "long.trace")
         size = write_trace(trace)
