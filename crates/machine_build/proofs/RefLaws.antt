@@ -1,11 +1,12 @@
-use Rattle.std.proofs.Common.{◌≡◌, ℕ, suc, ◌<◌, ◌^◌, Bool, true, false, cond, List, [], ◌∷◌, All, find, Option, Some, arith, lit<}
+use Rattle.std.proofs.Common.{◌≡◌, ℕ, suc, ◌<◌, ◌^◌, Bool, true, false, cond, List, [], ◌∷◌, All, find, Option, Some, arith, lit<, refl}
 use Rattle.xp_words.specs.RefWords.{ref_read, IsRef}
-use Rattle.xp_words.specs.Places.{Refs}
+use Rattle.xp_words.specs.Places.{Refs, Kind}
+use Rattle.xp_words.specs.KindWords.{kind_read, kind_fields, has_form}
 use Rattle.xp_words.proofs.RefLaws.{ref_read-write}
 use Rattle.trace_text.specs.declared.trace.Own.{Own}
 use Rattle.trace_text.specs.declared.trace.Trace.{Trace}
 use Rattle.trace_text.specs.WellFormed.{IsWellFormed}
-use Rattle.machine_build.specs.Opening.{has_frame, reference_in, opening_at}
+use Rattle.machine_build.specs.Opening.{has_frame, reference_in, opening_at, untyped}
 
 found_first : (b : Bool) (x : Own) (y : Option Own) → x.domain < 2 ^ 16 → IsRef (reference_in y) → IsRef (reference_in (cond b (Some x) y))
 unfolding IsRef
@@ -22,3 +23,7 @@ unfolding opening_at
 reads_as t f w =
     let domains : All (λ o. o.domain < 2 ^ 16) t.owned = λ k d b. (let o = w.owned k d b in let m = o.domain in let few = w.machine.few_domains in omega arith) in
     ref_read-write (reference_in (find (has_frame f) t.owned)) (found (has_frame f) t.owned domains)
+
+pub kind_reads_as : (t : Trace) (f : ℕ) → kind_read (opening_at t (Kind f)) ≡ Some untyped
+unfolding opening_at kind_read kind_fields has_form
+kind_reads_as t f = refl

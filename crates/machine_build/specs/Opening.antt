@@ -1,9 +1,11 @@
 -- The words with which a machine opens, by name.
-use Rattle.std.specs.Prelude.{◌≡◌, ℕ, zero, suc, ◌+◌, ◌-◌, ◌*◌, ◌^◌, ◌==◌, ◌&&◌, nat_le, nat_lt, if◌then◌else◌, Bool, List, length, reverse, find, slice_index, is_none, IsTrue, true, Option, Some, None}
+use Rattle.std.specs.Prelude.{◌≡◌, ℕ, zero, suc, ◌+◌, ◌-◌, ◌*◌, ◌^◌, ◌==◌, ◌&&◌, nat_le, nat_lt, if◌then◌else◌, Bool, List, length, reverse, find, slice_index, is_none, IsTrue, true, false, Option, Some, None}
 use Rattle.xp_words.specs.RefWords.{ref_write}
 use Rattle.xp_words.specs.declared.refs.RefWord.{RefWord}
 use Rattle.xp_words.specs.declared.refs.RefWord.TheVariants.{Free, Owned}
 use Rattle.xp_words.specs.Places.{Place, Clock, Pages, Life, Vcpu, Refs, Kind, M2p, Cell, Map, Priv, sizes_of, size, is_place, memory}
+use Rattle.xp_words.specs.declared.kind.KindWord.{KindWord}
+use Rattle.xp_words.specs.declared.kind.PageType.TheVariants as kinds
 use Rattle.trace_text.specs.declared.trace.Own.{Own}
 use Rattle.trace_text.specs.declared.trace.CellRun.{CellRun}
 use Rattle.trace_text.specs.declared.trace.Trace.{Trace}
@@ -38,6 +40,21 @@ is_free t f = nat_lt f t.layout.frames && is_none (find (has_frame f) t.owned)
 unfoldable pub bits_below : ℕ → (ℕ → Bool) → ℕ
 bits_below zero p = 0
 bits_below (suc n) p = bits_below n p + (if p n then 2 ^ n else 0)
+
+-- a dead frame of no type
+abbrev pub untyped : KindWord
+untyped =
+    record {
+      kind = kinds.None;
+      pinned = false;
+      validated = false;
+      partial = false;
+      locked = false;
+      kept = false;
+      unflushed = false;
+      progress = 0;
+      number = 0;
+    }
 
 -- over which domains it opens with privilege: now, and ever
 abbrev pub both_halves : ℕ → ℕ

@@ -3,10 +3,11 @@
 ghost use Rattle.std.specs.Prelude.{◌≡◌, ◌<◌, ◌^◌, ◌+◌, ◌*◌, ℕ, Some, find};
 ghost use Rattle.xp_words.specs.RefWords.{ref_read};
 ghost use Rattle.xp_words.specs.Entries.{is_bit};
-ghost use Rattle.xp_words.specs.Places.{Refs, Map};
+ghost use Rattle.xp_words.specs.KindWords.{kind_read};
+ghost use Rattle.xp_words.specs.Places.{Refs, Kind, Map};
 ghost use Rattle.trace_text.specs.declared.trace.Trace.{Trace};
 ghost use Rattle.trace_text.specs.WellFormed.{IsWellFormed};
-ghost use Rattle.machine_build.specs.Opening.{opening_at, is_free, has_frame, reference_in};
+ghost use Rattle.machine_build.specs.Opening.{opening_at, is_free, has_frame, reference_in, untyped};
 
 /// In a word of the map of free frames each bit is set exactly where its frame is the machine's and nobody owns it.
 pub fn each_bit_is_its_frame()
@@ -17,4 +18,9 @@ pub fn each_bit_is_its_frame()
 /// Each reference word is read as owned, allocated and referenced once, or as free with stamp 0.
 pub fn each_frame_opens_owned_or_free()
     ensures { (t : Trace) (f : ℕ) → IsWellFormed t → ref_read (opening_at t (Refs f)) ≡ Some (reference_in (find (has_frame f) t.owned)) }
+{}
+
+/// Each kind word is read as dead, of no type, with stamp 0.
+pub fn each_frame_opens_untyped()
+    ensures { (t : Trace) (f : ℕ) → kind_read (opening_at t (Kind f)) ≡ Some untyped }
 {}

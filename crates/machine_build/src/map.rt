@@ -21,7 +21,8 @@ fn free_bits(layout: &Layout, number: u32, words: &[u64]) -> u64
     requires count { length words.now ≡ size (sizes_of layout.now) }
     ensures { result ≡ bits_below 64 (λ b. is_zero layout.now.frames (memory (sizes_of layout.now) words.now) (64 * number + b)) }
 {
-    let _limit = layout.domains();
+    // So the prover knows that there are few frames, and that their numbers fit.
+    let _domains = layout.domains();
     let mut bits = 0;
     for bit in 0..64 {
         if is_free(layout, 64 * number + bit, words) {

@@ -22,4 +22,6 @@ pub use reply::{Log, LogLine, Pause, Refusal, Reply, Stop};
 #[cfg(test)]
 mod layout_tests;
 #[cfg(test)]
+mod list_tests;
+#[cfg(test)]
 mod tests;
