@@ -74,7 +74,7 @@ ops_counted scripts vcpu op within = grind (arith, common_steps)
 all_ops : (version : ℕ) (scripts : List (List Op)) (vcpu : ℕ) (op : Op) → vcpu < length scripts → All (λ script. All (IsOp version) script) scripts → IsOp version op → All (λ script. All (IsOp version) script) (longer scripts vcpu op)
 all_ops version scripts vcpu op within all is =
     All-set (λ script. All (IsOp version) script) scripts vcpu (slice_index_or scripts vcpu [] ++ op ∷ [])
-        (All-push (IsOp version) (slice_index_or scripts vcpu []) op (all vcpu [] within) is) all
+    (All-push (IsOp version) (slice_index_or scripts vcpu []) op (all vcpu [] within) is) all
 
 both : (a b : Bool) → IsTrue (a && b) → IsTrue a × IsTrue b
 both true b is = (refl, is)

@@ -22,7 +22,11 @@ fn fault_at(line: u32, error: LineError) -> TraceFault
     match error {
         LineError::Memory => TraceFault::Memory,
         LineError::At(LineFault::Bad(cause)) => TraceFault::Bad { line, cause },
-        LineError::At(LineFault::Passed { what, number }) => TraceFault::Large { line, what, number },
+        LineError::At(LineFault::Passed { what, number }) => TraceFault::Large {
+            line,
+            what,
+            number,
+        },
     }
 }
 

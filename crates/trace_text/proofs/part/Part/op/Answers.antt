@@ -12,7 +12,8 @@ invariant_of-self-2 c =
     let one : IsOp c.self.inside.version c.args.op = op_is _ c.args.vcpu c.args.op (rw version c.requires) (omega (arith, c.numbers_of-numbers.ensures)) in
     let within : c.args.vcpu < length c.self.inside.scripts.items = grind (arith, common_steps) in
     let extents : c.saturating_add-extents.result ≡ c.self.inside.extents + extents_in c.args.op = grind (arith, common_steps) in
-    let script : c.push.new.self ≡ slice_index_or c.self.inside.scripts.items c.args.vcpu [] ++ c.args.op ∷ [] = grind (arith, common_steps) in
-    (search rules,
-        rw script (op_opening _ c.args.vcpu c.args.op c.self.invariant.1 within one),
-        rw script (op_tallies _ c.args.vcpu c.args.op _ _ _ _ _ _ _ _ c.self.invariant.2 within (omega arith) (ap (λ n. c.self.inside.destroys + n) c.destroys_of.ensures.destroys) (omega arith) extents (omega arith)))
+    let script : c.push.new.self ≡ slice_index_or c.self.inside.scripts.items c.args.vcpu [] ++ c.args.op ∷ [] = grind (arith, common_steps) in (
+      search rules,
+      rw script (op_opening _ c.args.vcpu c.args.op c.self.invariant.1 within one),
+      rw script (op_tallies _ c.args.vcpu c.args.op _ _ _ _ _ _ _ _ c.self.invariant.2 within (omega arith) (ap (λ n. c.self.inside.destroys + n) c.destroys_of.ensures.destroys) (omega arith) extents (omega arith)),
+    )
