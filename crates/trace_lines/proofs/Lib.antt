@@ -4,3 +4,9 @@ pub mod ListLoop
 pub mod Chunks
 pub mod Separators
 pub mod CallLoop
+pub mod CallTexts
+pub mod Decimals
+pub mod WordsAgain
+pub mod CallsAgain
+pub mod MultiAgain
+pub mod LineAgain
