@@ -3,3 +3,4 @@ mod LineLoop
 mod Masks
 mod OneMore
 mod Runs
+mod Texts
