@@ -1,11 +1,9 @@
 -- A line that was read is one of a trace of its version.
-use Rattle.std.proofs.Common.{◌≡◌, ℕ, ◌+◌, ◌<◌, ◌≤◌, List, [], ◌∷◌, length, Option, Some, None, Result, Ok, Err, Bool, true, false, ◌==◌, ◌||◌, ◌&&◌, not, nat_lt, if◌then◌else◌, IsTrue, codes, refl, sym, ap, ◌∙◌, arith, IfOk, inl, inr}
+use Rattle.std.proofs.Common.{ℕ, ◌<◌, List, [], ◌∷◌, length, Option, Some, None, Result, Ok, Err, Bool, true, false, ◌==◌, ◌||◌, ◌&&◌, not, nat_lt, if◌then◌else◌, IsTrue, arith, IfOk, inl, inr}
 use Rattle.std.proofs.lemmas.Bool.Decides.{eqb_tells}
 use Rattle.std.proofs.lemmas.Grind.{common_steps}
 use Rattle.std.specs.List.{slice_split}
-use Rattle.std.specs.Str.{bytes_eq}
 use Rattle.std.proofs.lemmas.List.Splits.{length-slice_split}
-use Rattle.xp_words.specs.declared.ops.Call.{Call}
 use Rattle.xp_words.specs.declared.ops.Op.{Op}
 use Rattle.xp_words.specs.declared.ops.Op.TheVariants as ops
 use Rattle.trace_lines.specs.declared.fault.LineFault.{LineFault}
@@ -14,8 +12,8 @@ use Rattle.trace_lines.specs.declared.call.Hypercall.{Hypercall}
 use Rattle.trace_lines.specs.declared.line.Line.{Line}
 use Rattle.trace_lines.specs.declared.line.Line.TheVariants as lines
 use Rattle.trace_lines.specs.Steps.{◌>>=◌, bad_line, Gives}
-use Rattle.trace_lines.specs.Words.{words_of, word_at, number_at, end_at, is_separator, each}
-use Rattle.trace_lines.specs.Grammar.{line_of, form_by, opening_by, header_of, frames_of, limit_of, clock_of, domain_of, priv_of, vcpu_of, own_of, cell_of, op_of, turn_of, last_of, operation_of, operation_by, one_by, other_by, newer_by, multi_of, calls_of, read_of, write_of, touch_ldt_of, destroy_of, grant_of, revoke_of, ptwr_of, xchg_of, call_of, call_by, hypercall_of, base_at, numbers_of}
+use Rattle.trace_lines.specs.Words.{words_of, word_at, number_at, is_separator, each}
+use Rattle.trace_lines.specs.Grammar.{line_of, form_by, opening_by, header_of, frames_of, limit_of, clock_of, domain_of, priv_of, vcpu_of, own_of, cell_of, op_of, turn_of, last_of, operation_of, operation_by, one_by, other_by, newer_by, multi_of, calls_of, read_of, write_of, touch_ldt_of, destroy_of, grant_of, revoke_of, ptwr_of, xchg_of, call_of, hypercall_of}
 use Rattle.trace_text.specs.Counted.{is_newer, has_calls}
 use Rattle.trace_text.specs.Parts.{is_of}
 

@@ -1,14 +1,14 @@
 -- What stays true of the lines so far with one more line.
-use Rattle.std.proofs.Common.{◌≡◌, ◌≢◌, ℕ, ◌+◌, ◌-◌, ◌<◌, ◌≤◌, ◌||◌, ◌&&◌, ◌==◌, not, nat_le, nat_lt, List, [], ◌∷◌, ◌++◌, length, get_or, set, slice_index, slice_index_or, slice_set, Bool, true, false, IsTrue, refl, sym, ap, ◌∙◌, arith, sum_by, length-set}
-use Rattle.std.specs.List.{list_all, list_any, All, AllPairs}
+use Rattle.std.proofs.Common.{◌≡◌, ℕ, ◌+◌, ◌<◌, ◌≤◌, ◌||◌, ◌&&◌, ◌==◌, not, nat_le, nat_lt, List, [], ◌∷◌, ◌++◌, length, slice_index, slice_index_or, slice_set, Bool, true, false, IsTrue, refl, ◌∙◌, arith, sum_by, length-set}
+use Rattle.std.specs.List.{list_all, All}
 use Rattle.std.proofs.lemmas.List.Elements.{All-push, All-set}
 use Rattle.std.proofs.lemmas.Grind.{common_steps}
 use Rattle.trace_lines.specs.declared.line.Line.TheVariants as lines
 use Rattle.xp_words.specs.declared.ops.Op.{Op}
 use Rattle.trace_text.specs.declared.trace.Own.{Own}
-use Rattle.trace_text.specs.Counted.{is_apart, pages_of, pages_in, ops_of, numbers_in, destroys_in, extents_in, is_newer, has_calls}
+use Rattle.trace_text.specs.Counted.{is_apart, pages_of, ops_of, numbers_in, destroys_in, extents_in, is_newer, has_calls}
 use Rattle.trace_text.specs.Fronts.{Front, may_own, capped}
-use Rattle.trace_text.specs.Parts.{Tallies, HasOpening, IsRun, has_frame, is_of}
+use Rattle.trace_text.specs.Parts.{Tallies, HasOpening, IsRun, is_of}
 use Rattle.trace_text.specs.WellFormed.{IsOp}
 use Rattle.trace_text.proofs.Runs.{apart_with, taken_with}
 

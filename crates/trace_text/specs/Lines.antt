@@ -1,5 +1,5 @@
 -- The lines of a trace, in the order of their forms, and their text.
-use Rattle.std.specs.Prelude.{ℕ, zero, suc, if◌then◌else◌, List, [], ◌∷◌, ◌++◌, length, map, Bool}
+use Rattle.std.specs.Prelude.{ℕ, zero, suc, if◌then◌else◌, List, [], ◌∷◌, ◌++◌, length, map}
 use Rattle.std.specs.List.{flat_map, enumerate_from}
 use Rattle.xp_words.specs.Entries.{is_bit}
 use Rattle.xp_words.specs.declared.ops.Op.{Op}

@@ -5,7 +5,6 @@ use Rattle.xp_words.specs.Machine.{IsMask}
 use Rattle.trace_lines.specs.declared.line.Line.{Line}
 use Rattle.trace_lines.specs.declared.line.Line.TheVariants as lines
 use Rattle.trace_text.specs.declared.trace.Own.{Own}
-use Rattle.trace_text.specs.declared.trace.TurnRun.{TurnRun}
 use Rattle.trace_text.specs.Counted.{extents_of, destroys_of, ops_of, turns_of, pages_of, is_apart, is_newer, has_calls}
 use Rattle.trace_text.specs.Fronts.{Front, most_frames}
 use Rattle.trace_text.specs.WellFormed.{IsCellRun, IsOp}

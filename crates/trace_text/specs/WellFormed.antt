@@ -1,10 +1,9 @@
 -- The traces that a text can spell.
-use Rattle.std.specs.Prelude.{◌≡◌, ℕ, ◌+◌, ◌^◌, ◌-◌, ◌<◌, ◌≤◌, ◌==◌, ◌||◌, not, Bool, List, length, slice_index, All, AllPairs, IsTrue}
+use Rattle.std.specs.Prelude.{◌≡◌, ℕ, ◌+◌, ◌^◌, ◌-◌, ◌<◌, ◌≤◌, ◌==◌, ◌||◌, not, length, slice_index, All, AllPairs, IsTrue}
 use Rattle.xp_words.specs.Machine.{Machine, IsMachine}
 use Rattle.xp_words.specs.declared.ops.Op.{Op}
 use Rattle.trace_text.specs.declared.trace.Own.{Own}
 use Rattle.trace_text.specs.declared.trace.CellRun.{CellRun}
-use Rattle.trace_text.specs.declared.trace.TurnRun.{TurnRun}
 use Rattle.trace_text.specs.declared.trace.Trace.{Trace}
 use Rattle.trace_text.specs.Counted.{numbers_in, extents_of, destroys_of, ops_of, turns_of, pages_of, is_apart, is_newer, has_calls}
 

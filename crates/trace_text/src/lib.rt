@@ -10,8 +10,8 @@ mod tests;
 mod trace;
 mod write;
 
-pub use write::write_trace;
 pub use read::{MAX_BYTES, read_trace};
 pub use trace::{
     CellList, CellRun, Own, OwnList, ScriptList, Trace, TraceFault, TurnList, TurnRun,
 };
+pub use write::write_trace;

@@ -1,6 +1,6 @@
 //! Examples, worked by hand from the table of lines.
 
-use crate::{TraceFault, read_trace};
+use crate::{TraceFault, read_trace, write_trace};
 use std::alloc::{AllocError, Global};
 use std::test::Fail;
 use trace_lines::{Cause, What};
@@ -175,11 +175,62 @@ fn long_limits(rt: HostRuntime) -> Result<(), Fail> {
     Ok(())
 }
 
+// One line of each form, some out of the order in which they are written.
+const TRACE: &str = "# any
+#é
+xen-pv-trace 2
+frames 0x10
+#
+limit 9
+clock 5
+domain 8
+domain 0
+domain 65536
+priv 2 1
+priv 2 0
+priv 2 1
+priv 0 1
+vcpu 2
+vcpu 0
+own 2 4 12
+own 0 0 4
+cell 15 511 1 18446744073709551615
+cell 0 0 512 0
+op 1 read k 0
+turn 0 3
+op 1 grant 0 1
+op 0 destroy 1
+turn 1 0
+end
+";
+
+const WRITTEN: &str = "xen-pv-trace 2
+frames 16
+limit 9
+clock 5
+domain 8
+domain 0
+domain 65536
+priv 0 1
+priv 2 0
+priv 2 1
+vcpu 2
+vcpu 0
+own 2 4 12
+own 0 0 4
+cell 15 511 1 18446744073709551615
+cell 0 0 512 0
+op 0 destroy 1
+op 1 read k 0
+op 1 grant 0 1
+turn 0 3
+turn 1 0
+end
+";
+
 #[test]
-fn reads_each_form(rt: HostRuntime) -> Result<(), Fail> {
-    let text =
-        "# any\n#é\t\nxen-pv-trace 2\nframes 0x10\n#\nlimit 9\nclock 5\ndomain 8\ndomain 0\ndomain 65536\npriv 2 1\npriv 2 0\npriv 2 1\npriv 0 1\nvcpu 2\nvcpu 0\nown 2 4 12\nown 0 0 4\ncell 15 511 1 18446744073709551615\ncell 0 0 512 0\nop 1 read k 0\nturn 0 3\nop 1 grant 0 1\nop 0 destroy 1\nturn 1 0\nend\n";
-    let trace = read_trace(rt.alloc(), text.as_bytes())?;
+fn reads_and_writes_each_form(rt: HostRuntime) -> Result<(), Fail> {
+    let trace = read_trace(rt.alloc(), TRACE.as_bytes())?;
     assert_eq!(rt; trace.version, 2);
     assert_eq!(rt; trace.clock, 5);
     assert_eq!(rt; trace.layout.frames, 16);
@@ -197,6 +248,8 @@ fn reads_each_form(rt: HostRuntime) -> Result<(), Fail> {
     assert_eq!(rt; scripts.len(), 2);
     assert_eq!(rt; scripts[0].len(), 1);
     assert_eq!(rt; scripts[1].len(), 2);
+    let text = write_trace(rt.alloc(), &trace)?;
+    assert_eq!(rt; text.as_slice(), WRITTEN.as_bytes());
     Ok(())
 }
 

@@ -36,7 +36,12 @@ fn put_owned(out: &mut String, owned: &[Own]) -> Result<(), AllocError>
     ensures { OnOk result (string_bytes out.new ≡ string_bytes out.old ++ spelling (map own_line owned.now)) }
 {
     for o in owned {
-        put_own(out, u64::from(o.domain), u64::from(o.first), u64::from(o.count))?;
+        put_own(
+            out,
+            u64::from(o.domain),
+            u64::from(o.first),
+            u64::from(o.count),
+        )?;
     }
     Ok(())
 }
@@ -45,7 +50,13 @@ fn put_cells(out: &mut String, cells: &[CellRun]) -> Result<(), AllocError>
     ensures { OnOk result (string_bytes out.new ≡ string_bytes out.old ++ spelling (map cell_line cells.now)) }
 {
     for c in cells {
-        put_cell(out, u64::from(c.frame), u64::from(c.first), u64::from(c.count), c.value)?;
+        put_cell(
+            out,
+            u64::from(c.frame),
+            u64::from(c.first),
+            u64::from(c.count),
+            c.value,
+        )?;
     }
     Ok(())
 }

@@ -1,6 +1,6 @@
 use Rattle.std.proofs.Common.{◌≡◌, ◌++◌, take, map, string_bytes}
 use Rattle.trace_lines.specs.declared.line.Line.TheVariants as lines
-use Rattle.trace_text.specs.Lines.{spelling, own_line, cell_line, turn_line, script_lines}
+use Rattle.trace_text.specs.Lines.{spelling}
 use Rattle.trace_text.proofs.write.put_vcpus.Given as goal
 
 abbrev pub invariant-loop-domain : goal.invariant-loop-domain

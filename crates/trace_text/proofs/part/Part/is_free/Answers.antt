@@ -1,4 +1,4 @@
-use Rattle.std.proofs.Common.{◌≡◌, ◌≤◌, ◌+◌, length, ap, arith}
+use Rattle.std.proofs.Common.{◌≡◌, ap, arith}
 use Rattle.trace_text.specs.Fronts.{Front}
 use Rattle.trace_text.proofs.Runs.{AreTaken, free_is_apart}
 use Rattle.trace_text.proofs.part.Part.is_free.Goals as goal

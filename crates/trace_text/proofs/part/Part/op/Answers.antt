@@ -1,6 +1,6 @@
-use Rattle.std.proofs.Common.{◌≡◌, ◌∙◌, ◌+◌, ◌<◌, ◌≤◌, ◌++◌, ◌∷◌, [], slice_index_or, slice_set, sym, ap, rules, arith, length}
+use Rattle.std.proofs.Common.{◌≡◌, ◌+◌, ◌<◌, ◌++◌, ◌∷◌, [], slice_index_or, ap, rules, arith, length}
 use Rattle.std.proofs.lemmas.Grind.{common_steps}
-use Rattle.trace_text.specs.Counted.{extents_in, destroys_in}
+use Rattle.trace_text.specs.Counted.{extents_in}
 use Rattle.trace_text.specs.Fronts.{Front}
 use Rattle.trace_text.specs.WellFormed.{IsOp}
 use Rattle.trace_text.proofs.OneMore.{op_is, op_opening, op_tallies}
