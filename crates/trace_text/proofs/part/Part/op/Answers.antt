@@ -9,7 +9,7 @@ use Rattle.trace_text.proofs.part.Part.op.Goals as goal
 pub invariant_of-self-2 : goal.invariant_of-self-2
 invariant_of-self-2 c =
     let version : c.self.inside.version ≡ c.args.self.now.version = ap (λ (f : Front). f.version) c.self.view_is in
-    let one : IsOp c.self.inside.version c.args.op = op_is _ c.args.vcpu c.args.op (rw version c.requires) (omega (arith, c.numbers_of-numbers.ensures)) in
+    let one : IsOp c.self.inside.version c.args.op = op_is _ c.args.op (rw version c.requires.1) (omega (arith, c.numbers_of-numbers.ensures)) in
     let within : c.args.vcpu < length c.self.inside.scripts.items = grind (arith, common_steps) in
     let extents : c.saturating_add-extents.result ≡ c.self.inside.extents + extents_in c.args.op = grind (arith, common_steps) in
     let script : c.push.new.self ≡ slice_index_or c.self.inside.scripts.items c.args.vcpu [] ++ c.args.op ∷ [] = grind (arith, common_steps) in (
