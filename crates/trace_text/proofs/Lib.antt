@@ -1,6 +1,8 @@
 mod Known
+mod Leads
 mod LineLoop
 mod Masks
 mod OneMore
 mod Runs
+mod Sections
 mod Texts
