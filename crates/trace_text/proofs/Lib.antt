@@ -3,6 +3,8 @@ mod Leads
 mod LineLoop
 mod Masks
 mod OneMore
+mod PrivSection
 mod Runs
+mod ScriptSection
 mod Sections
 mod Texts
