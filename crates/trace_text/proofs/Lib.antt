@@ -8,3 +8,4 @@ mod Runs
 mod ScriptSection
 mod Sections
 mod Texts
+mod TraceAgain
