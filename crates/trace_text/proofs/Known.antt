@@ -1,5 +1,5 @@
 -- A line that was read can be spelled: its numbers are words, and its operation is one of the version.
-use Rattle.std.proofs.Common.{◌≡◌, ℕ, ◌+◌, ◌^◌, ◌<◌, ◌≤◌, List, [], ◌∷◌, length, drop, slice_index, Option, Some, None, Result, Ok, Err, Bool, true, false, ◌==◌, ◌&&◌, nat_lt, if◌then◌else◌, codes, refl, arith, IfOk, inl, inr, ltb, ◌⊎◌}
+use Rattle.std.proofs.Common.{◌≡◌, ℕ, ◌^◌, ◌<◌, List, [], ◌∷◌, length, drop, slice_index, Option, Some, None, Result, Ok, Err, Bool, true, false, ◌==◌, ◌&&◌, nat_lt, if◌then◌else◌, codes, refl, arith, IfOk, inl, inr}
 use Rattle.std.specs.List.{All, slice_split}
 use Rattle.std.specs.Str.{bytes_eq}
 use Rattle.std.proofs.lemmas.Bool.Decides.{eqb_tells}
@@ -8,12 +8,9 @@ use Rattle.std.specs.List.{list_all}
 use Rattle.std.specs.Str.Parse.{digits_value_after}
 use Rattle.std.proofs.lemmas.List.Elements.{All-nil, All-cons, All-head, All-tail}
 use Rattle.std.proofs.lemmas.List.Splits.{length-slice_split}
-use Rattle.std.proofs.lemmas.Grind.{common_steps}
 use Rattle.xp_words.specs.declared.ops.Pair.{Pair}
 use Rattle.xp_words.specs.declared.ops.ExtOp.{ExtOp}
 use Rattle.xp_words.specs.declared.ops.Call.{Call}
-use Rattle.xp_words.specs.declared.ops.Call.TheVariants as calls
-use Rattle.xp_words.specs.declared.ops.Op.{Op}
 use Rattle.xp_words.specs.declared.ops.Op.TheVariants as ops
 use Rattle.trace_lines.specs.declared.fault.LineFault.{LineFault}
 use Rattle.trace_lines.specs.declared.fault.LineError.{LineError}
@@ -24,7 +21,7 @@ use Rattle.trace_lines.specs.declared.line.Line.TheVariants as lines
 use Rattle.trace_lines.specs.Steps.{◌>>=◌, bad_line, Gives}
 use Rattle.trace_lines.specs.Numbers.{number_of, is_digit, numeral, numeral_after, is_proper}
 use Rattle.trace_lines.specs.Words.{words_of, word_at, number_at, end_at, ok_or_line, is_separator, each}
-use Rattle.trace_lines.specs.Grammar.{line_of, form_by, opening_by, header_of, frames_of, limit_of, clock_of, domain_of, priv_of, vcpu_of, own_of, cell_of, op_of, turn_of, last_of, operation_of, operation_by, one_by, other_by, newer_by, multi_of, calls_of, read_of, write_of, touch_ldt_of, destroy_of, grant_of, revoke_of, ptwr_of, xchg_of, call_of, call_by, hypercall_of, base_at, numbers_of, pairs_of, triples_of, mmu_of, ext_of, va_of, va_other_of, gdt_of, desc_of, mem_of}
+use Rattle.trace_lines.specs.Grammar.{line_of, form_by, opening_by, header_of, frames_of, limit_of, clock_of, domain_of, priv_of, vcpu_of, own_of, cell_of, op_of, turn_of, last_of, operation_of, operation_by, other_by, newer_by, multi_of, calls_of, read_of, write_of, touch_ldt_of, destroy_of, grant_of, revoke_of, ptwr_of, xchg_of, call_of, call_by, hypercall_of, base_at, numbers_of, pairs_of, triples_of, mmu_of, ext_of, va_of, va_other_of, gdt_of, desc_of, mem_of}
 use Rattle.trace_lines.specs.Spelling.{IsSpellable, IsSpellableOp, IsSpellableCall, IsSpellablePair, IsSpellableExt, AreWords}
 
 abbrev always : {A : Type 0} → (A → Type 0) → Result A LineFault → Type 0

@@ -1,18 +1,13 @@
 -- Lines that lead from one front to another, and their text.
-use Rattle.std.proofs.Common.{◌≡◌, ◌≢◌, ℕ, ◌+◌, ◌<◌, ◌≤◌, List, [], ◌∷◌, ◌++◌, length, map, slice_index, Result, Ok, Err, Bool, true, false, ◌==◌, refl, sym, ap, ◌∙◌, subst, arith, append_assoc, append-nil}
-use Rattle.std.specs.List.{flat_map, slice_split, All}
+use Rattle.std.proofs.Common.{◌≡◌, ◌≢◌, ℕ, ◌+◌, ◌≤◌, List, [], ◌∷◌, ◌++◌, map, slice_index, Ok, true, false, ◌==◌, refl, sym, ap, ◌∙◌, subst, arith, append_assoc}
 use Rattle.std.proofs.lemmas.List.Splits.{slice_split_at}
-use Rattle.std.proofs.lemmas.Bool.Decides.{eqb_tells}
 use Rattle.std.proofs.lemmas.Grind.{common_steps}
-use Rattle.trace_lines.specs.declared.fault.LineFault.{LineFault}
 use Rattle.trace_lines.specs.declared.line.Line.{Line}
-use Rattle.trace_lines.specs.Steps.{◌>>=◌}
-use Rattle.trace_lines.specs.Grammar.{line_of}
 use Rattle.trace_lines.specs.Spelling.{IsSpellable, line_text}
 use Rattle.trace_lines.proofs.LineAgain.{again, feedless, uncommented}
 use Rattle.trace_text.specs.Fronts.{Front, after}
 use Rattle.trace_text.specs.Lines.{spelling}
-use Rattle.trace_text.specs.TraceOf.{step, is_comment, is_ended, lines_of, trace_from, told, is_empty, at_line}
+use Rattle.trace_text.specs.TraceOf.{step, is_comment, is_ended, lines_of, trace_from, told}
 use Rattle.trace_text.proofs.LineLoop.{by_line}
 
 -- one line that can be spelled, behind a front that is not ended

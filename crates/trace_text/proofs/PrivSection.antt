@@ -1,20 +1,18 @@
 -- The section of the privileges.
-use Rattle.std.proofs.Common.{◌≡◌, ◌≢◌, ℕ, zero, suc, ◌+◌, ◌*◌, ◌/◌, ◌%◌, ◌^◌, ◌<◌, ◌≤◌, List, [], ◌∷◌, ◌++◌, length, map, slice_index, slice_set, bit_or, Result, Ok, Bool, true, false, ◌==◌, not, IsTrue, if◌then◌else◌, refl, sym, ap, ◌∙◌, subst, arith, append_assoc, append-nil, get_or, set, replicate, length-append, length-set, add-one, zero-add}
+use Rattle.std.proofs.Common.{◌≡◌, ◌≢◌, ℕ, zero, suc, ◌+◌, ◌*◌, ◌/◌, ◌%◌, ◌^◌, ◌<◌, ◌≤◌, List, [], ◌∷◌, ◌++◌, length, slice_index, slice_set, bit_or, Bool, true, false, not, IsTrue, if◌then◌else◌, refl, sym, ap, ◌∙◌, subst, arith, append_assoc, replicate, length-append, length-set, add-one}
 use Rattle.std.specs.List.{flat_map, enumerate_from}
 use Rattle.std.specs.Int.Bits.{or_shifted_r}
 use Rattle.std.proofs.Math.Seq.{get_or-append_seam, set-append_seam}
 use Rattle.std.proofs.Math.Nat.{mod-eq_of_lt, mod-lt}
 use Rattle.std.proofs.lemmas.Nat.{mod-pow-add, pow_pos}
 use Rattle.std.proofs.lemmas.List.{length-replicate, set-set, set-get_or, get_or-set_same}
-use Rattle.std.proofs.lemmas.Bool.Decides.{eqb_tells}
 use Rattle.std.proofs.lemmas.Grind.{common_steps}
 use Rattle.xp_words.specs.Entries.{is_bit}
 use Rattle.xp_words.specs.Machine.{IsMask}
-use Rattle.trace_lines.specs.declared.line.Line.{Line}
 use Rattle.trace_lines.specs.declared.line.Line.TheVariants as lines
 use Rattle.trace_text.specs.Fronts.{Front, after, after_priv}
 use Rattle.trace_text.specs.Lines.{mask_lines}
-use Rattle.trace_text.proofs.Leads.{Step, Leads, Reaches, reaches_both}
+use Rattle.trace_text.proofs.Leads.{Step, Reaches, reaches_both}
 
 -- ---- a mask, bit by bit
 
@@ -71,9 +69,9 @@ mask_lead f domain mask (suc n) low high few known long within own here =
     let reads : slice_index (slice_set f.masks domain (mask % 2 ^ n)) domain ≡ mask % 2 ^ n = get_or-set_same f.masks domain (mask % 2 ^ n) 0 inside in
     let twice : slice_set (slice_set f.masks domain (mask % 2 ^ n)) domain (mask % 2 ^ (n + 1)) ≡ slice_set f.masks domain (mask % 2 ^ suc n) = set-set f.masks domain (mask % 2 ^ n) (mask % 2 ^ (n + 1)) ∙ ap (λ k. slice_set f.masks domain (mask % 2 ^ k)) (add-one n) in
     reaches_both 5 6 5 6 f h (low_mask f domain mask (suc n)) (mask_lines n domain mask) (if is_bit n mask then lines.Priv domain n ∷ [] else [])
-        (mask_lead f domain mask n low high few known long (omega arith) own here)
-        (λ p from until. subst (λ ms. Reaches 5 6 (record h { place = p }) (if is_bit n mask then lines.Priv domain n ∷ [] else []) (record f { masks = ms })) twice
-            (bit_lead (record h { place = p }) domain mask n (is_bit n mask) refl from until few known (length-set f.masks domain (mask % 2 ^ n) ∙ long) (omega arith) own reads))
+    (mask_lead f domain mask n low high few known long (omega arith) own here)
+    (λ p from until. subst (λ ms. Reaches 5 6 (record h { place = p }) (if is_bit n mask then lines.Priv domain n ∷ [] else []) (record f { masks = ms })) twice
+    (bit_lead (record h { place = p }) domain mask n (is_bit n mask) refl from until few known (length-set f.masks domain (mask % 2 ^ n) ∙ long) (omega arith) own reads))
 
 -- ---- the lines of all domains
 
@@ -97,5 +95,5 @@ masks_lead f done (mask ∷ rest) here low high few long are =
     let same : (done ++ mask ∷ []) ++ rest ≡ done ++ mask ∷ rest = append_assoc done (mask ∷ []) rest in
     let h : Front = record f { masks = done ++ mask ∷ replicate (length rest) 0 } in
     reaches_both 5 6 5 6 f h (record f { masks = done ++ mask ∷ rest }) (mask_lines (length f.domains) (length done) mask) (flat_map (λ p. mask_lines (length f.domains) p.0 p.1) (enumerate_from (length done + 1) rest))
-        (subst (λ ms. Reaches 5 6 f (mask_lines (length f.domains) (length done) mask) (record f { masks = ms })) made (mask_lead f (length done) mask (length f.domains) low high few known all (omega arith) own.1 zero_there))
-        (λ p from until. rw (← longer, ← same) (masks_lead (record h { place = p }) (done ++ mask ∷ []) rest (sym (append_assoc done (mask ∷ []) (replicate (length rest) 0))) from until few (rw same long) (rw same are)))
+    (subst (λ ms. Reaches 5 6 f (mask_lines (length f.domains) (length done) mask) (record f { masks = ms })) made (mask_lead f (length done) mask (length f.domains) low high few known all (omega arith) own.1 zero_there))
+    (λ p from until. rw (← longer, ← same) (masks_lead (record h { place = p }) (done ++ mask ∷ []) rest (sym (append_assoc done (mask ∷ []) (replicate (length rest) 0))) from until few (rw same long) (rw same are)))

@@ -1,5 +1,5 @@
 -- The section of the operations.
-use Rattle.std.proofs.Common.{◌≡◌, ℕ, ◌+◌, ◌*◌, ◌^◌, ◌<◌, ◌≤◌, List, [], ◌∷◌, ◌++◌, length, map, slice_index_or, slice_set, Result, Ok, Bool, true, false, ◌==◌, refl, sym, ap, ◌∙◌, subst, arith, append_assoc, append-nil, get_or, set, sum_by, replicate, mul-zero, length-append, zero-add}
+use Rattle.std.proofs.Common.{◌≡◌, ℕ, ◌+◌, ◌<◌, ◌≤◌, List, [], ◌∷◌, ◌++◌, length, slice_index_or, slice_set, refl, sym, ap, ◌∙◌, subst, arith, append_assoc, append-nil, sum_by, replicate, mul-zero, length-append}
 use Rattle.std.specs.List.{flat_map, enumerate_from, All}
 use Rattle.std.proofs.Math.Seq.{get_or-append_seam, set-append_seam}
 use Rattle.std.proofs.lemmas.List.Elements.{All-head, All-tail}
@@ -7,10 +7,8 @@ use Rattle.std.proofs.lemmas.List.Sums.{sum_by-append, sum_by-cons}
 use Rattle.std.proofs.lemmas.List.Folds.{sum_by-replicate}
 use Rattle.std.proofs.lemmas.Grind.{common_steps}
 use Rattle.xp_words.specs.declared.ops.Op.{Op}
-use Rattle.trace_lines.specs.declared.line.Line.{Line}
 use Rattle.trace_lines.specs.declared.line.Line.TheVariants as lines
-use Rattle.trace_lines.specs.Spelling.{IsSpellableOp}
-use Rattle.trace_text.specs.Counted.{ops_of, destroys_of, destroys_in, extents_of, extents_in, numbers_in}
+use Rattle.trace_text.specs.Counted.{ops_of, destroys_of, destroys_in, extents_of, extents_in}
 use Rattle.trace_text.specs.Fronts.{Front, after, after_op, with_op}
 use Rattle.trace_text.specs.Lines.{script_lines}
 use Rattle.trace_text.specs.WellFormed.{IsOp}
@@ -89,5 +87,5 @@ scripts_lead f done (script ∷ rest) here low high few known are within =
     let same : (done ++ script ∷ []) ++ rest ≡ done ++ script ∷ rest = append_assoc done (script ∷ []) rest in
     let h : Front = record f { scripts = done ++ script ∷ replicate (length rest) [] } in
     reaches_both 7 10 7 10 f h (record f { scripts = done ++ script ∷ rest }) (script_lines (length done) script) (flat_map (λ p. script_lines p.0 p.1) (enumerate_from (length done + 1) rest))
-        (script_lead f done (replicate (length rest) []) [] script here low high few (omega arith) (All-head (λ s. All (IsOp f.version) s) script rest are) (few_before done rest script within))
-        (λ p from until. rw (← long, ← same) (scripts_lead (record h { place = p }) (done ++ script ∷ []) rest (sym (append_assoc done (script ∷ []) (replicate (length rest) []))) from until few (omega (arith, long)) (All-tail (λ s. All (IsOp f.version) s) script rest are) (rw same within)))
+    (script_lead f done (replicate (length rest) []) [] script here low high few (omega arith) (All-head (λ s. All (IsOp f.version) s) script rest are) (few_before done rest script within))
+    (λ p from until. rw (← long, ← same) (scripts_lead (record h { place = p }) (done ++ script ∷ []) rest (sym (append_assoc done (script ∷ []) (replicate (length rest) []))) from until few (omega (arith, long)) (All-tail (λ s. All (IsOp f.version) s) script rest are) (rw same within)))

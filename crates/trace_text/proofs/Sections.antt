@@ -1,13 +1,12 @@
 -- The sections of a trace's lines, each from the front before it.
-use Rattle.std.proofs.Common.{◌≡◌, ◌≢◌, ℕ, ◌+◌, ◌^◌, ◌<◌, ◌≤◌, List, [], ◌∷◌, ◌++◌, length, map, slice_index, slice_index_or, Result, Ok, Err, Bool, true, false, ◌==◌, refl, sym, ap, ◌∙◌, subst, arith, append_assoc, append-nil, rules, get_or, sum_by, IsTrue, ◌||◌, replicate}
-use Rattle.std.specs.List.{flat_map, All, AllPairs, list_all}
-use Rattle.std.proofs.Math.Seq.{get_or-append_seam, set-append_seam}
+use Rattle.std.proofs.Common.{◌≡◌, ℕ, ◌+◌, ◌<◌, ◌≤◌, List, [], ◌∷◌, ◌++◌, length, map, slice_index, true, refl, subst, arith, append_assoc, append-nil, get_or, IsTrue, replicate}
+use Rattle.std.specs.List.{All, AllPairs, list_all}
+use Rattle.std.proofs.Math.Seq.{get_or-append_seam}
 use Rattle.std.proofs.lemmas.List.{get_or_append_left}
 use Rattle.std.proofs.lemmas.List.Elements.{All-head, All-tail}
-use Rattle.std.proofs.lemmas.List.Sums.{sum_by-append, sum_by-cons, list_all-from_AllPass}
+use Rattle.std.proofs.lemmas.List.Sums.{list_all-from_AllPass}
 use Rattle.std.proofs.lemmas.Grind.{common_steps}
 use Rattle.xp_words.specs.declared.ops.Op.{Op}
-use Rattle.trace_lines.specs.declared.line.Line.{Line}
 use Rattle.trace_lines.specs.declared.line.Line.TheVariants as lines
 use Rattle.trace_text.specs.declared.trace.Own.{Own}
 use Rattle.trace_text.specs.declared.trace.CellRun.{CellRun}
@@ -78,7 +77,7 @@ apart_at domains frames before os o is = list_all-from_AllPass (is_apart o) befo
     grind (arith, common_steps))
 
 room_at : (domains : List ℕ) (frames : ℕ) (before os : List Own) (o : Own) → Ownable domains frames (before ++ o ∷ os) → o.domain < length domains → pages_of o.domain before + o.count ≤ slice_index domains o.domain
-room_at domains frames before os o is known = 
+room_at domains frames before os o is known =
     let all = is.pages o.domain known in
     grind (arith, common_steps)
 

@@ -1,5 +1,5 @@
 -- What is counted over the lines of a trace.
-use Rattle.std.specs.Prelude.{ℕ, ◌+◌, ◌*◌, ◌%◌, ◌==◌, ◌&&◌, ◌||◌, nat_le, nat_lt, if◌then◌else◌, Bool, true, false, List, length, sum_by, slice_index}
+use Rattle.std.specs.Prelude.{ℕ, ◌+◌, ◌*◌, ◌%◌, ◌==◌, ◌&&◌, ◌||◌, nat_le, if◌then◌else◌, Bool, List, length, sum_by, slice_index}
 use Rattle.xp_words.specs.declared.ops.Call.{Call}
 use Rattle.xp_words.specs.declared.ops.Call.TheVariants as calls
 use Rattle.xp_words.specs.declared.ops.Op.{Op}

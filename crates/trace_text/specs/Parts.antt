@@ -1,9 +1,7 @@
 -- What stays true while the lines of a trace are read.
-use Rattle.std.specs.Prelude.{◌≡◌, ℕ, ◌+◌, ◌<◌, ◌≤◌, ◌==◌, ◌||◌, ◌&&◌, not, nat_le, nat_lt, Bool, true, false, List, [], length, slice_index, slice_index_or, All, AllPairs, IsTrue}
+use Rattle.std.specs.Prelude.{◌≡◌, ℕ, ◌+◌, ◌<◌, ◌≤◌, ◌==◌, ◌||◌, ◌&&◌, nat_le, nat_lt, Bool, false, List, [], length, slice_index, slice_index_or, All, AllPairs, IsTrue}
 use Rattle.std.specs.List.{list_any}
 use Rattle.xp_words.specs.Machine.{IsMask}
-use Rattle.trace_lines.specs.declared.line.Line.{Line}
-use Rattle.trace_lines.specs.declared.line.Line.TheVariants as lines
 use Rattle.trace_text.specs.declared.trace.Own.{Own}
 use Rattle.trace_text.specs.Counted.{extents_of, destroys_of, ops_of, turns_of, pages_of, is_apart}
 use Rattle.trace_text.specs.Fronts.{Front, most_frames}

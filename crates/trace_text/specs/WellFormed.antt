@@ -1,5 +1,5 @@
 -- The traces that a text can spell.
-use Rattle.std.specs.Prelude.{◌≡◌, ℕ, ◌+◌, ◌^◌, ◌-◌, ◌<◌, ◌≤◌, ◌==◌, ◌||◌, not, length, slice_index, All, AllPairs, IsTrue}
+use Rattle.std.specs.Prelude.{◌≡◌, ℕ, ◌+◌, ◌^◌, ◌-◌, ◌<◌, ◌≤◌, ◌==◌, ◌||◌, length, slice_index, All, AllPairs, IsTrue}
 use Rattle.xp_words.specs.Machine.{Machine, IsMachine}
 use Rattle.xp_words.specs.declared.ops.Op.{Op}
 use Rattle.trace_lines.specs.Spelling.{IsSpellableOp}

@@ -4,8 +4,10 @@ ghost use Rattle.std.specs.Prelude.{◌≡◌, ◌<◌, ◌≤◌, ◌++◌, ◌
 ghost use Rattle.trace_lines.specs.declared.line.Line.TheVariants as lines;
 ghost use Rattle.trace_text.specs.Lines.{mask_lines, priv_lines, own_line, cell_line, turn_line, script_lines, op_lines, head_lines, machine_lines, opening_lines, run_lines, lines_for, spelling};
 ghost use Rattle.xp_words.specs.Entries.{is_bit};
+ghost use Rattle.trace_text.specs.TraceOf.{trace_of};
 ghost use Rattle.trace_text.specs.WellFormed.{IsWellFormed};
 
+use crate::read::MAX_BYTES;
 use crate::trace::{CellRun, Own, Trace, TurnRun};
 use std::alloc::{AllocError, Global};
 use trace_lines::{
@@ -157,9 +159,7 @@ fn put_run(out: &mut String, trace: &Trace) -> Result<(), AllocError>
     Ok(())
 }
 
-/// The text of a well-formed trace.
-pub fn write_trace(alloc: Global, trace: &Trace) -> Result<Vec<u8>, AllocError>
-    requires { IsWellFormed trace.now }
+fn spell(alloc: Global, trace: &Trace) -> Result<Vec<u8>, AllocError>
     ensures { IfOk result (λ v. v.items ≡ spelling (lines_for trace.now)) }
 {
     let mut out = String::new(alloc);
@@ -168,4 +168,14 @@ pub fn write_trace(alloc: Global, trace: &Trace) -> Result<Vec<u8>, AllocError>
     put_opening(&mut out, trace)?;
     put_run(&mut out, trace)?;
     Ok(out.into_bytes())
+}
+
+/// The text of a well-formed trace, of which `read_trace` makes an equal trace where it is not too long.
+#[tactic(auto, using(crate::proofs::TraceAgain::trace_again))]
+pub fn write_trace(alloc: Global, trace: &Trace) -> Result<Vec<u8>, AllocError>
+    requires { IsWellFormed trace.now }
+    ensures spelled { IfOk result (λ v. v.items ≡ spelling (lines_for trace.now)) }
+    ensures again { IfOk result (λ v. length v.items ≤ MAX_BYTES → trace_of v.items ≡ Ok trace.now) }
+{
+    spell(alloc, trace)
 }
