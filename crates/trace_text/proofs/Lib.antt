@@ -1,5 +1,11 @@
 mod Known
+mod Leads
 mod LineLoop
 mod Masks
 mod OneMore
+mod PrivSection
 mod Runs
+mod ScriptSection
+mod Sections
+mod Texts
+mod TraceAgain

@@ -1,6 +1,5 @@
 -- The lines of a text, one by one.
-use Rattle.std.proofs.Common.{◌≡◌, ℕ, ◌+◌, ◌<◌, ◌≤◌, List, [], ◌∷◌, length, Result, Ok, Err, Bool, true, false, ◌==◌, refl, sym, ap, ◌∙◌, arith}
-use Rattle.std.specs.List.{slice_split}
+use Rattle.std.proofs.Common.{◌≡◌, ℕ, ◌+◌, ◌≤◌, List, [], ◌∷◌, length, Ok, Err, ◌==◌, refl, sym, ap, ◌∙◌, arith}
 use Rattle.std.proofs.lemmas.List.Splits.{length-slice_split}
 use Rattle.trace_lines.specs.declared.fault.LineFault.TheVariants.{Passed, Bad}
 use Rattle.trace_lines.specs.declared.fault.LineError.{LineError}
@@ -12,7 +11,7 @@ use Rattle.trace_text.specs.TraceOf.{Reads, step, at_line, lines_of, trace_from,
 some_line : (bytes : List ℕ) → 1 ≤ length (lines_of bytes)
 some_line bytes = omega (arith, length-slice_split (λ b. b == 10) bytes)
 
-by_line : (f : Front) (n : ℕ) (line : List ℕ) (lines : List (List ℕ)) → 1 ≤ length lines → trace_from f n (line ∷ lines) ≡ at_line n (step f line) (λ g. trace_from g (n + 1) lines)
+pub by_line : (f : Front) (n : ℕ) (line : List ℕ) (lines : List (List ℕ)) → 1 ≤ length lines → trace_from f n (line ∷ lines) ≡ at_line n (step f line) (λ g. trace_from g (n + 1) lines)
 unfolding trace_from
 by_line f n line [] some = absurd (omega arith)
 by_line f n line (next ∷ lines) some = refl

@@ -1,5 +1,5 @@
 -- Masks of privileges with one more bit.
-use Rattle.std.proofs.Common.{◌≡◌, ◌≢◌, ℕ, ◌+◌, ◌^◌, ◌/◌, ◌%◌, ◌<◌, List, length, slice_index, slice_set, bit_or, not, Bool, true, false, ◌==◌, IsTrue, refl, sym, ap, ◌∙◌, arith, eqb, max, get_or, set, get_or-set_same, get_or-set_other, ◌⊎◌, inl, inr, length-set}
+use Rattle.std.proofs.Common.{◌≡◌, ◌≢◌, ℕ, ◌^◌, ◌<◌, List, length, slice_index, slice_set, bit_or, not, ◌==◌, IsTrue, refl, ap, ◌∙◌, arith, get_or-set_same, get_or-set_other, ◌⊎◌, inl, inr, length-set}
 use Rattle.std.specs.Int.{bit_at}
 use Rattle.std.proofs.lemmas.Nat.{or_lt}
 use Rattle.std.proofs.lemmas.Nat.Bits.{bit_at_or, bit_at-pow_other}

@@ -1,14 +1,14 @@
 -- What stays true of the lines so far with one more line.
-use Rattle.std.proofs.Common.{◌≡◌, ◌≢◌, ℕ, ◌+◌, ◌-◌, ◌<◌, ◌≤◌, ◌||◌, ◌&&◌, ◌==◌, not, nat_le, nat_lt, List, [], ◌∷◌, ◌++◌, length, get_or, set, slice_index, slice_index_or, slice_set, Bool, true, false, IsTrue, refl, sym, ap, ◌∙◌, arith, sum_by, length-set}
-use Rattle.std.specs.List.{list_all, list_any, All, AllPairs}
+use Rattle.std.proofs.Common.{◌≡◌, ℕ, ◌+◌, ◌<◌, ◌≤◌, ◌||◌, ◌&&◌, nat_le, nat_lt, List, [], ◌∷◌, ◌++◌, length, slice_index, slice_index_or, slice_set, Bool, true, false, ◌∙◌, arith, sum_by, length-set}
+use Rattle.std.specs.List.{list_all, All}
 use Rattle.std.proofs.lemmas.List.Elements.{All-push, All-set}
 use Rattle.std.proofs.lemmas.Grind.{common_steps}
-use Rattle.trace_lines.specs.declared.line.Line.TheVariants as lines
+use Rattle.trace_lines.specs.Spelling.{IsSpellableOp}
 use Rattle.xp_words.specs.declared.ops.Op.{Op}
 use Rattle.trace_text.specs.declared.trace.Own.{Own}
-use Rattle.trace_text.specs.Counted.{is_apart, pages_of, pages_in, ops_of, numbers_in, destroys_in, extents_in, is_newer, has_calls}
+use Rattle.trace_text.specs.Counted.{is_apart, pages_of, ops_of, numbers_in, destroys_in, extents_in}
 use Rattle.trace_text.specs.Fronts.{Front, may_own, capped}
-use Rattle.trace_text.specs.Parts.{Tallies, HasOpening, IsRun, has_frame, is_of}
+use Rattle.trace_text.specs.Parts.{Tallies, HasOpening, IsRun}
 use Rattle.trace_text.specs.WellFormed.{IsOp}
 use Rattle.trace_text.proofs.Runs.{apart_with, taken_with}
 
@@ -74,16 +74,10 @@ ops_counted scripts vcpu op within = grind (arith, common_steps)
 all_ops : (version : ℕ) (scripts : List (List Op)) (vcpu : ℕ) (op : Op) → vcpu < length scripts → All (λ script. All (IsOp version) script) scripts → IsOp version op → All (λ script. All (IsOp version) script) (longer scripts vcpu op)
 all_ops version scripts vcpu op within all is =
     All-set (λ script. All (IsOp version) script) scripts vcpu (slice_index_or scripts vcpu [] ++ op ∷ [])
-        (All-push (IsOp version) (slice_index_or scripts vcpu []) op (all vcpu [] within) is) all
+    (All-push (IsOp version) (slice_index_or scripts vcpu []) op (all vcpu [] within) is) all
 
-both : (a b : Bool) → IsTrue (a && b) → IsTrue a × IsTrue b
-both true b is = (refl, is)
-both false b is = absurd cc
-
-pub op_is : (version vcpu : ℕ) (op : Op) → IsTrue (is_of version (lines.Op vcpu op)) → capped (numbers_in op) ≤ 8192 → IsOp version op
-op_is version vcpu op is few =
-    let parts = both (not (is_newer op) || (version == 2)) (has_calls op) is in
-    record { known = parts.0; calls = parts.1; numbers = omega arith }
+pub op_is : (version : ℕ) (op : Op) → IsSpellableOp version op → capped (numbers_in op) ≤ 8192 → IsOp version op
+op_is version op is few = record { spelled = is; numbers = omega arith }
 
 pub op_opening : (f : Front) (vcpu : ℕ) (op : Op) → HasOpening f → vcpu < length f.scripts → IsOp f.version op → HasOpening (record f { place = 10; scripts = longer f.scripts vcpu op })
 op_opening f vcpu op is within one = record {

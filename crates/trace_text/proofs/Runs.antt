@@ -1,5 +1,5 @@
 -- Frames that are taken, and runs of frames that are apart.
-use Rattle.std.proofs.Common.{◌≡◌, ◌≢◌, ℕ, ◌+◌, ◌-◌, ◌<◌, ◌≤◌, ◌||◌, ◌&&◌, not, nat_le, nat_lt, max, List, [], ◌∷◌, ◌++◌, length, take, drop, get_or, slice_index_or, slice_range, Bool, true, false, IsTrue, refl, sym, ap, ◌∙◌, arith}
+use Rattle.std.proofs.Common.{◌≡◌, ℕ, ◌+◌, ◌-◌, ◌<◌, ◌≤◌, ◌||◌, ◌&&◌, not, nat_le, nat_lt, max, List, [], ◌∷◌, ◌++◌, length, drop, get_or, slice_index_or, slice_range, Bool, true, false, IsTrue, refl, sym, ap, ◌∙◌, arith}
 use Rattle.std.specs.List.{list_all, list_any, All, AllPairs, AllPass}
 use Rattle.std.proofs.lemmas.List.Sums.{list_all-from_AllPass, AllPass-from_list_all}
 use Rattle.std.proofs.lemmas.List.Folds.{list_any_none, list_any_at}
@@ -36,7 +36,7 @@ range_length taken first count inside = grind (arith, common_steps)
 
 -- a frame of the run is not taken
 free_frame : (taken : List Bool) (o : Own) (k : ℕ) → o.first + o.count ≤ length taken → AllPass not (slice_range taken o.first (o.first + o.count)) → has_frame k o ≡ true → get_or taken k false ≡ false
-free_frame taken o k inside free has = 
+free_frame taken o k inside free has =
     let from : o.first ≤ k = grind (arith, common_steps) in
     let until : k < o.first + o.count = grind (arith, common_steps) in
     let there : o.first + (k - o.first) ≡ k = omega arith in
@@ -52,13 +52,13 @@ pick a b some_a some_b never false is = let k = shared a b some_a some_b is in a
 is_apart_at : (taken : List Bool) (owned : List Own) (o : Own) → AreTaken taken owned → 1 ≤ o.count → o.first + o.count ≤ length taken → AllPass not (slice_range taken o.first (o.first + o.count)) → (j : ℕ) (d : Own) → j < length owned → is_apart o (get_or owned j d) ≡ true
 is_apart_at taken owned o all some inside free j d within =
     pick o (get_or owned j d) some (all.some j d within)
-        (λ k has_o has_a.
-            let is_taken = list_any_at (has_frame k) owned j d within has_a in
-            let is_free = free_frame taken o k inside free has_o in
-            let small : k < length taken = grind (arith, common_steps) in
-            let told = all.are k small in
-            cc)
-        (is_apart o (get_or owned j d)) refl
+    (λ k has_o has_a.
+    let is_taken = list_any_at (has_frame k) owned j d within has_a in
+    let is_free = free_frame taken o k inside free has_o in
+    let small : k < length taken = grind (arith, common_steps) in
+    let told = all.are k small in
+    cc)
+    (is_apart o (get_or owned j d)) refl
 
 is_free_at : (taken : List Bool) (owned : List Own) (o : Own) → AreTaken taken owned → o.first + o.count ≤ length taken → AllPass (is_apart o) owned → (k : ℕ) (d : Bool) → k < length (slice_range taken o.first (o.first + o.count)) → not (get_or (slice_range taken o.first (o.first + o.count)) k d) ≡ true
 is_free_at taken owned o all inside apart k d within =
@@ -72,14 +72,14 @@ is_free_at taken owned o all inside apart k d within =
 pub free_is_apart : (taken : List Bool) (owned : List Own) (o : Own) → AreTaken taken owned → 1 ≤ o.count → o.first + o.count ≤ length taken → list_all not (slice_range taken o.first (o.first + o.count)) ≡ list_all (is_apart o) owned
 free_is_apart taken owned o all some inside =
     both_ways (list_all not (slice_range taken o.first (o.first + o.count))) (list_all (is_apart o) owned)
-        (λ free. list_all-from_AllPass (is_apart o) owned (is_apart_at taken owned o all some inside (AllPass-from_list_all not _ free)))
-        (λ apart. list_all-from_AllPass not (slice_range taken o.first (o.first + o.count)) (is_free_at taken owned o all inside (AllPass-from_list_all (is_apart o) owned apart)))
+    (λ free. list_all-from_AllPass (is_apart o) owned (is_apart_at taken owned o all some inside (AllPass-from_list_all not _ free)))
+    (λ apart. list_all-from_AllPass not (slice_range taken o.first (o.first + o.count)) (is_free_at taken owned o all inside (AllPass-from_list_all (is_apart o) owned apart)))
 
 -- one more run that is apart from all before it
 pub apart_with : (owned : List Own) (o : Own) → AllPairs (λ a b. IsTrue (is_apart a b)) owned → list_all (is_apart o) owned ≡ true → AllPairs (λ a b. IsTrue (is_apart a b)) (owned ++ o ∷ [])
 apart_with owned o apart all =
     all_pairs_push (λ a b. IsTrue (is_apart a b)) owned o apart
-        (λ k d lt. let other = AllPass-from_list_all (is_apart o) owned all k d lt in grind (arith, common_steps))
+    (λ k d lt. let other = AllPass-from_list_all (is_apart o) owned all k d lt in grind (arith, common_steps))
 
 pub taken_with : (owned : List Own) (o : Own) (k : ℕ) (was is : Bool) → was ≡ list_any (has_frame k) owned → is ≡ (was || (nat_le o.first k && nat_lt k (o.first + o.count))) → is ≡ list_any (has_frame k) (owned ++ o ∷ [])
 taken_with owned o k was is before now = grind (arith, common_steps)

@@ -1,5 +1,5 @@
 -- What is counted over the lines of a trace.
-use Rattle.std.specs.Prelude.{ℕ, ◌+◌, ◌*◌, ◌%◌, ◌==◌, ◌&&◌, ◌||◌, nat_le, nat_lt, if◌then◌else◌, Bool, true, false, List, length, sum_by, slice_index}
+use Rattle.std.specs.Prelude.{ℕ, ◌+◌, ◌*◌, ◌%◌, ◌==◌, ◌&&◌, ◌||◌, nat_le, if◌then◌else◌, Bool, List, length, sum_by, slice_index}
 use Rattle.xp_words.specs.declared.ops.Call.{Call}
 use Rattle.xp_words.specs.declared.ops.Call.TheVariants as calls
 use Rattle.xp_words.specs.declared.ops.Op.{Op}
@@ -65,32 +65,6 @@ destroys_in (ops.Grant to over) = 0
 destroys_in (ops.Revoke to over) = 0
 destroys_in (ops.Ptwr user va val) = 0
 destroys_in (ops.Xchg first from to items) = 0
-
--- an operation that a trace of version 1 has not
-unfoldable pub is_newer : Op → Bool
-is_newer (ops.One call) = false
-is_newer (ops.Multi list) = false
-is_newer (ops.Read user va) = false
-is_newer (ops.Write user va val) = false
-is_newer (ops.TouchLdt page) = false
-is_newer (ops.Destroy domain) = false
-is_newer (ops.Grant to over) = true
-is_newer (ops.Revoke to over) = true
-is_newer (ops.Ptwr user va val) = true
-is_newer (ops.Xchg first from to items) = true
-
--- whether a multicall has a call
-unfoldable pub has_calls : Op → Bool
-has_calls (ops.One call) = true
-has_calls (ops.Multi list) = nat_lt 0 (length list)
-has_calls (ops.Read user va) = true
-has_calls (ops.Write user va val) = true
-has_calls (ops.TouchLdt page) = true
-has_calls (ops.Destroy domain) = true
-has_calls (ops.Grant to over) = true
-has_calls (ops.Revoke to over) = true
-has_calls (ops.Ptwr user va val) = true
-has_calls (ops.Xchg first from to items) = true
 
 abbrev pub ops_of : List (List Op) → ℕ
 ops_of scripts = sum_by length scripts

@@ -1,5 +1,5 @@
 -- What the lines so far say, and what one more line makes of it.
-use Rattle.std.specs.Prelude.{◌≡◌, ℕ, ◌+◌, ◌-◌, ◌^◌, min, bit_or, List, [], ◌∷◌, ◌++◌, length, slice_index, slice_index_or, slice_set, Result, Ok, Err, Bool, true, false, ◌==◌, nat_lt, nat_le, not, ◌&&◌, if◌then◌else◌}
+use Rattle.std.specs.Prelude.{ℕ, ◌+◌, ◌-◌, ◌^◌, min, bit_or, List, [], ◌∷◌, ◌++◌, length, slice_index, slice_index_or, slice_set, Result, Ok, Err, Bool, ◌==◌, nat_lt, nat_le, not, ◌&&◌, if◌then◌else◌}
 use Rattle.std.specs.List.{list_all}
 use Rattle.trace_lines.specs.declared.fault.LineFault.{LineFault}
 use Rattle.trace_lines.specs.declared.fault.LineFault.TheVariants.{Passed}

@@ -1,5 +1,6 @@
 pub mod Counted
 pub mod Fronts
+pub mod Lines
 pub mod Parts
 pub mod TraceOf
 pub mod WellFormed

@@ -1,12 +1,9 @@
 -- What stays true while the lines of a trace are read.
-use Rattle.std.specs.Prelude.{◌≡◌, ℕ, ◌+◌, ◌<◌, ◌≤◌, ◌==◌, ◌||◌, ◌&&◌, not, nat_le, nat_lt, Bool, true, false, List, [], length, slice_index, slice_index_or, All, AllPairs, IsTrue}
+use Rattle.std.specs.Prelude.{◌≡◌, ℕ, ◌+◌, ◌<◌, ◌≤◌, ◌==◌, ◌||◌, ◌&&◌, nat_le, nat_lt, Bool, false, List, [], length, slice_index, slice_index_or, All, AllPairs, IsTrue}
 use Rattle.std.specs.List.{list_any}
 use Rattle.xp_words.specs.Machine.{IsMask}
-use Rattle.trace_lines.specs.declared.line.Line.{Line}
-use Rattle.trace_lines.specs.declared.line.Line.TheVariants as lines
 use Rattle.trace_text.specs.declared.trace.Own.{Own}
-use Rattle.trace_text.specs.declared.trace.TurnRun.{TurnRun}
-use Rattle.trace_text.specs.Counted.{extents_of, destroys_of, ops_of, turns_of, pages_of, is_apart, is_newer, has_calls}
+use Rattle.trace_text.specs.Counted.{extents_of, destroys_of, ops_of, turns_of, pages_of, is_apart}
 use Rattle.trace_text.specs.Fronts.{Front, most_frames}
 use Rattle.trace_text.specs.WellFormed.{IsCellRun, IsOp}
 
@@ -68,9 +65,3 @@ pub record HasOpening (f : Front) : Type 0 where
   pub scripts : length f.scripts ≡ length f.vcpus
   pub ops : All (λ script. All (IsOp f.version) script) f.scripts
   pub turns : All (λ t. t.vcpu < length f.vcpus) f.turns
-
--- what the text of a line alone makes sure of: its version is known, and its operation is one of the version
-abbrev pub is_of : ℕ → Line → Bool
-is_of version (lines.Header v) = (v == 1) || (v == 2)
-is_of version (lines.Op vcpu op) = (not (is_newer op) || (version == 2)) && has_calls op
-is_of version _ = true

@@ -1,12 +1,12 @@
 -- The traces that a text can spell.
-use Rattle.std.specs.Prelude.{◌≡◌, ℕ, ◌+◌, ◌^◌, ◌-◌, ◌<◌, ◌≤◌, ◌==◌, ◌||◌, not, Bool, List, length, slice_index, All, AllPairs, IsTrue}
+use Rattle.std.specs.Prelude.{◌≡◌, ℕ, ◌+◌, ◌^◌, ◌-◌, ◌<◌, ◌≤◌, ◌==◌, ◌||◌, length, slice_index, All, AllPairs, IsTrue}
 use Rattle.xp_words.specs.Machine.{Machine, IsMachine}
 use Rattle.xp_words.specs.declared.ops.Op.{Op}
+use Rattle.trace_lines.specs.Spelling.{IsSpellableOp}
 use Rattle.trace_text.specs.declared.trace.Own.{Own}
 use Rattle.trace_text.specs.declared.trace.CellRun.{CellRun}
-use Rattle.trace_text.specs.declared.trace.TurnRun.{TurnRun}
 use Rattle.trace_text.specs.declared.trace.Trace.{Trace}
-use Rattle.trace_text.specs.Counted.{numbers_in, extents_of, destroys_of, ops_of, turns_of, pages_of, is_apart, is_newer, has_calls}
+use Rattle.trace_text.specs.Counted.{numbers_in, extents_of, destroys_of, ops_of, turns_of, pages_of, is_apart}
 
 -- frames of the machine, of one of its domains
 pub record IsOwn (m : Machine) (o : Own) : Type 0 where
@@ -21,10 +21,9 @@ pub record IsCellRun (frames : ℕ) (c : CellRun) : Type 0 where
   pub inside : c.first + c.count ≤ 512
   pub word : c.value < 2 ^ 64
 
--- an operation that a trace of that version may have
+-- An operation that a trace of that version may have: every number is below 2^64, and a multicall has a call.
 pub record IsOp (version : ℕ) (op : Op) : Type 0 where
-  pub known : IsTrue (not (is_newer op) || (version == 2))
-  pub calls : IsTrue (has_calls op)
+  pub spelled : IsSpellableOp version op
   pub numbers : numbers_in op ≤ 8192
 
 pub record IsWellFormed (t : Trace) : Type 0 where

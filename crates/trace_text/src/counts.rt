@@ -14,7 +14,11 @@ fn numbers_of_call(call: &Call) -> u64
         Call::Mmu { foreign: _, pairs } => 2 * pairs.len() as u64,
         Call::Ext { list } => (list.len() as u64).saturating_mul(3),
         Call::Gdt { entries: _, frames } => frames.len() as u64,
-        Call::Mem { command: _, order: _, items } => items.len() as u64,
+        Call::Mem {
+            command: _,
+            order: _,
+            items,
+        } => items.len() as u64,
         Call::Va { .. } | Call::VaOther { .. } | Call::Desc { .. } => 0,
     }
 }
@@ -37,7 +41,12 @@ pub(crate) fn numbers_of(op: &Op) -> u64
     match op {
         Op::One { call } => numbers_of_call(call),
         Op::Multi { calls } => numbers_of_calls(calls),
-        Op::Xchg { first: _, from: _, to: _, items } => items.len() as u64,
+        Op::Xchg {
+            first: _,
+            from: _,
+            to: _,
+            items,
+        } => items.len() as u64,
         _ => 0,
     }
 }
@@ -47,7 +56,11 @@ fn extents_of_call(call: &Call) -> u64
     ensures { result ≡ capped (extents_in_call call.now) }
 {
     match call {
-        Call::Mem { command, order: _, items } => match items.as_slice() {
+        Call::Mem {
+            command,
+            order: _,
+            items,
+        } => match items.as_slice() {
             [extents] if *command % 64 == 0 => *extents,
             items => items.len() as u64,
         },
@@ -73,7 +86,12 @@ pub(crate) fn extents_of(op: &Op) -> u64
     match op {
         Op::One { call } => extents_of_call(call),
         Op::Multi { calls } => extents_of_calls(calls),
-        Op::Xchg { first: _, from: _, to: _, items } => items.len() as u64,
+        Op::Xchg {
+            first: _,
+            from: _,
+            to: _,
+            items,
+        } => items.len() as u64,
         _ => 0,
     }
 }

@@ -5,7 +5,13 @@ mod counts;
 mod part;
 mod read;
 mod taken;
+#[cfg(test)]
+mod tests;
 mod trace;
+mod write;
 
 pub use read::{MAX_BYTES, read_trace};
-pub use trace::{CellList, CellRun, Own, OwnList, ScriptList, Trace, TraceFault, TurnList, TurnRun};
+pub use trace::{
+    CellList, CellRun, Own, OwnList, ScriptList, Trace, TraceFault, TurnList, TurnRun,
+};
+pub use write::write_trace;

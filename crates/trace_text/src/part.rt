@@ -10,7 +10,7 @@ ghost use Rattle.trace_text.specs.WellFormed.{IsWellFormed};
 ghost use Rattle.trace_text.specs.Counted.{pages_of, is_apart};
 ghost use Rattle.std.specs.Bool.{OnTrue};
 ghost use Rattle.std.specs.List.{list_all};
-ghost use Rattle.trace_text.specs.Parts.{is_of};
+ghost use Rattle.trace_lines.specs.Spelling.{IsSpellable};
 ghost use Rattle.trace_lines.specs.declared.line.Line.TheVariants.{Header, Op as OpLine};
 
 use crate::counts::{destroys_of, extents_of, numbers_of};
@@ -114,7 +114,7 @@ impl Part {
 
     #[tactic(auto, unfolding(crate::specs::Fronts::after_header))]
     fn header(&mut self, version: u8) -> Result<(), LineError>
-        requires { IsTrue (is_of self.old.version (Header version)) }
+        requires { IsSpellable self.old.version (Header version) }
         ensures { Gives (λ _. self.new) result (after_header self.old version) }
     {
         if self.place != 0 {
@@ -302,7 +302,7 @@ impl Part {
 
     #[tactic(auto, unfolding(crate::specs::Fronts::after_op))]
     fn op(&mut self, vcpu: u64, op: Op) -> Result<(), LineError>
-        requires { IsTrue (is_of self.old.version (OpLine vcpu op)) }
+        requires { IsSpellable self.old.version (OpLine vcpu op) }
         ensures { Gives (λ _. self.new) result (after_op self.old vcpu op) }
     {
         if !is_in(7, 10, self.place) {
@@ -369,10 +369,10 @@ impl Part {
         Ok(())
     }
 
-    /// One more line, which is one of a trace of that version.
+    /// One more line, which the text of a line of that version can say.
     #[tactic(auto, unfolding(crate::specs::Fronts::after))]
     pub(crate) fn add(&mut self, alloc: Global, line: Line) -> Result<(), LineError>
-        requires { IsTrue (is_of self.old.version line) }
+        requires { IsSpellable self.old.version line }
         ensures { Gives (λ _. self.new) result (after self.old line) }
     {
         match line {
@@ -383,8 +383,17 @@ impl Part {
             Line::Domain { limit } => self.domain(limit),
             Line::Priv { domain, over } => self.privilege(domain, over),
             Line::Vcpu { domain } => self.vcpu(alloc, domain),
-            Line::Own { domain, first, count } => self.own(domain, first, count),
-            Line::Cell { frame, first, count, value } => self.cell(frame, first, count, value),
+            Line::Own {
+                domain,
+                first,
+                count,
+            } => self.own(domain, first, count),
+            Line::Cell {
+                frame,
+                first,
+                count,
+                value,
+            } => self.cell(frame, first, count, value),
             Line::Op { vcpu, op } => self.op(vcpu, op),
             Line::Turn { vcpu, count } => self.turn(vcpu, count),
             Line::End => self.end(),

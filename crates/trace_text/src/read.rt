@@ -4,7 +4,7 @@ ghost use Rattle.std.specs.Prelude.{◌≡◌, ◌≤◌, [], ◌∷◌, length,
 ghost use Rattle.trace_lines.specs.Steps.{Gives};
 ghost use Rattle.trace_lines.specs.Grammar.{line_of as line_of_lem};
 ghost use Rattle.trace_text.specs.Fronts.{nothing};
-ghost use Rattle.trace_text.specs.Parts.{is_of};
+ghost use Rattle.trace_lines.specs.Spelling.{IsSpellable};
 ghost use Rattle.trace_text.specs.TraceOf.{step as step_lem, trace_of, trace_from, lines_of, Reads, fault_of};
 ghost use Rattle.trace_text.specs.WellFormed.{IsWellFormed};
 
@@ -22,13 +22,17 @@ fn fault_at(line: u32, error: LineError) -> TraceFault
     match error {
         LineError::Memory => TraceFault::Memory,
         LineError::At(LineFault::Bad(cause)) => TraceFault::Bad { line, cause },
-        LineError::At(LineFault::Passed { what, number }) => TraceFault::Large { line, what, number },
+        LineError::At(LineFault::Passed { what, number }) => TraceFault::Large {
+            line,
+            what,
+            number,
+        },
     }
 }
 
 fn read_line(alloc: Global, version: u8, line: &[u8]) -> Result<Line, LineError>
     ensures gives { Gives (λ l. l) result (line_of_lem version line.now) }
-    ensures known { IfOk result (λ l. IsTrue (is_of version l)) }
+    ensures known { IfOk result (λ l. IsSpellable version l) }
 {
     line_of(alloc, version, line)
 }

@@ -1,4 +1,4 @@
-use Rattle.std.proofs.Common.{◌≡◌, ℕ, ◌<◌, ◌≤◌, ◌||◌, ◌&&◌, nat_le, nat_lt, false, length, slice_index_or}
+use Rattle.std.proofs.Common.{◌≡◌, ℕ, ◌<◌, ◌||◌, ◌&&◌, nat_le, nat_lt, false, length, slice_index_or}
 use Rattle.trace_text.proofs.taken.take.Given as goal
 
 abbrev pub invariant-loop-at : goal.invariant-loop-at

@@ -1,5 +1,4 @@
 use Rattle.std.proofs.Common.{rules, arith, length}
-use Rattle.std.proofs.lemmas.Grind.{common_steps}
 use Rattle.trace_text.specs.Parts.{HasMasks}
 use Rattle.trace_text.proofs.Masks.{masks_with}
 use Rattle.trace_text.proofs.part.Part.privilege.Goals as goal
