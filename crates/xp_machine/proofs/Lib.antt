@@ -7,3 +7,6 @@ pub mod Walking
 pub mod Handling
 pub mod Stepping
 pub mod Fitting
+pub mod Lifting
+pub mod Running
+pub mod Reaching

@@ -110,6 +110,12 @@ pub record Stands (n : Machine) (v : ℕ) (a : State) (xs : List Step) (words : 
   pub hand : HandIs rs (hand_of n v a xs)
   pub run : (hand_of n v a xs).run ≡ Some 0
 
+-- an answer is ready: these steps are legal, and leave those words and an empty hand
+pub record Done (n : Machine) (v : ℕ) (a : State) (xs : List Step) (words : List ℕ) : Type 0 where
+  pub legal : AllLegal n v a xs
+  pub standing : Standing n v words (reached n v a xs)
+  pub hand : HandIs [] (hand_of n v a xs)
+
 module _ (n : Machine) (v : ℕ) (a : State) (real : v < length n.vcpu_domain) (seats : v < length a.seats) where
   -- a turn begins
   pub begins : IsEmptyHand (seat_of a.seats v) → memory (sizes_of n) a.words (Vcpu v 6) ≡ 0 → Stands n v a (begun n v) a.words []
@@ -188,18 +194,12 @@ module _ (n : Machine) (v : ℕ) (a : State) (real : v < length n.vcpu_domain) (
         run = ap (λ h. h.run) here ∙ both.1;
       }
 
-  -- an answer is ready: these steps are legal, and leave those words and an empty hand
-  pub record Done (xs : List Step) (words : List ℕ) : Type 0 where
-    legal : AllLegal n v a xs
-    standing : Standing n v words (reached n v a xs)
-    hand : HandIs [] (hand_of n v a xs)
-
-  pub done : (xs : List Step) (words : List ℕ) → Stands n v a xs words [] → Done xs words
+  pub done : (xs : List Step) (words : List ℕ) → Stands n v a xs words [] → Done n v a xs words
   done xs words s = record { legal = s.legal; standing = s.standing; hand = s.hand }
 
   -- the reference is given back
   pub lowers : (xs : List Step) (f w u : ℕ) (words : List ℕ) → f < n.frames → memory (sizes_of n) words (Refs f) ≡ u → 2 ≤ ref_count u → Stands n v a xs words (new_ref f w ∷ []) →
-      Done (lower_at n f ∷ xs) (slice_set words (number (sizes_of n) (Refs f)) ((u + one_down) % 2 ^ 64))
+      Done n v a (lower_at n f ∷ xs) (slice_set words (number (sizes_of n) (Refs f)) ((u + one_down) % 2 ^ 64))
   unfolding reached left_by
   lowers xs f w u words frame is many s =
       let there = refs_real n f frame in
@@ -217,7 +217,7 @@ module _ (n : Machine) (v : ℕ) (a : State) (real : v < length n.vcpu_domain) (
       }
 
   -- the answer ends
-  pub ends : (xs : List Step) (words : List ℕ) → Done xs words → Done (ended n xs) words
+  pub ends : (xs : List Step) (words : List ℕ) → Done n v a xs words → Done n v a (ended n xs) words
   unfolding reached ended
   ends xs words d =
       let there = clock_there n in

@@ -78,7 +78,7 @@ built_machine : (domain : ℕ) (o : Option Pair) (b b' : Told) (reply : Reply) �
 built_machine domain None b b' reply f = ap (λ (x : Told). x.machine) f.1
 built_machine domain (Some p) b b' reply f = fits_machine p domain b b' reply.refusal f.2
 
-cpu_machine : (c c' : Processing) (o : Option Op) (b b' : Told) → CpuTurn c o b c' b' → b'.machine ≡ b.machine
+pub cpu_machine : (c c' : Processing) (o : Option Op) (b b' : Told) → CpuTurn c o b c' b' → b'.machine ≡ b.machine
 cpu_machine c c' None b b' t = ap (λ (x : Told). x.machine) t.1
 cpu_machine c c' (Some op) b b' t = built_machine c.domain (m2p_update op) b b' t.0 t.2
 

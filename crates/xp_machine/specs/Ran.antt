@@ -1,10 +1,16 @@
 -- A whole run of a trace.
-use Rattle.std.specs.Prelude.{◌≡◌, ℕ, List, length, map}
+use Rattle.std.specs.Prelude.{◌≡◌, ℕ, ◌<◌, List, length, map}
 use Rattle.xp_words.specs.declared.reply.LogLine.{LogLine}
 use Rattle.trace_text.specs.declared.trace.Trace.{Trace}
 use Rattle.machine_build.specs.Opening.{IsOpening}
 use Rattle.report_text.specs.ReportOf.{report_of}
+use Rattle.xp_board.specs.declared.step.Step.{Step}
+use Rattle.xp_board.specs.Hands.{IsEmptyHand}
+use Rattle.xp_board.specs.Sound.{seat_of}
+use Rattle.xp_board.specs.Runs as runs
 use Rattle.xp_machine.specs.Boards.{Told}
+use Rattle.xp_machine.specs.Answers as answers
+use Rattle.xp_machine.specs.Answers.{Stage}
 use Rattle.xp_machine.specs.Turns.{Processing, State, Turns, order, first_cpus, pending_of}
 
 abbrev pub log_of : Processing → List LogLine
@@ -14,10 +20,23 @@ log_of c = c.log
 abbrev pub report_at : State → List ℕ
 report_at s = report_of s.board.machine s.board.words (map log_of s.cpus) (map pending_of s.cpus)
 
--- The text is the report of what the trace's turns, in their order, make of its opening words.
-pub record Ran (t : Trace) (text : List ℕ) : Type 0 where
+-- what the code makes of the opening words, by whole operations
+pub record RanTold (t : Trace) (text : List ℕ) : Type 0 where
   pub opened : List ℕ
   pub opening : IsOpening t opened
   pub closed : State
   pub turns : Turns (order t.turns) (record { board = record { machine = t.layout; words = opened }; cpus = first_cpus t.layout.vcpu_domain t.scripts }) closed
   pub report : text ≡ report_at closed
+
+-- The text is the report of words that legal steps lead to. From the opening words, with empty hands, each turn
+-- that the trace asks for answers one operation by a piece of these steps, and the reply fits its piece; the
+-- steps leave all hands empty.
+pub record Ran (t : Trace) (text : List ℕ) : Type 0 where
+  pub opened : List ℕ
+  pub opening : IsOpening t opened
+  pub closed : Stage
+  pub turns : answers.Turns t.layout (order t.turns) (record { at = runs.start t.layout opened; cpus = first_cpus t.layout.vcpu_domain t.scripts }) closed
+  pub log : List (ℕ × Step)
+  pub run : runs.RunNow t.layout (runs.start t.layout opened) log closed.at
+  pub empty : (v : ℕ) → v < length t.layout.vcpu_domain → IsEmptyHand (seat_of closed.at.seats v)
+  pub report : text ≡ report_of t.layout closed.at.words (map log_of closed.cpus) (map pending_of closed.cpus)

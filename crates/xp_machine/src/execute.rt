@@ -2,7 +2,7 @@ ghost use Rattle.std.specs.Prelude.{◌≡◌, length, map, IfOk};
 ghost use Rattle.trace_text.specs.WellFormed.{IsWellFormed};
 ghost use Rattle.report_text.specs.ReportOf.{report_of};
 ghost use Rattle.xp_machine.specs.Turns.{AreShort, first_cpus, pending_of, state};
-ghost use Rattle.xp_machine.specs.Ran.{Ran, report_at};
+ghost use Rattle.xp_machine.specs.Ran.{Ran, RanTold, report_at};
 
 use crate::board::PlainBoard;
 use crate::cpu::Cpu;
@@ -47,10 +47,10 @@ fn closing(alloc: Global, board: &PlainBoard, cpus: Vec<Cpu>) -> Result<Vec<u8>,
     report(alloc, board.layout(), board.words(), &logs, &pending)
 }
 
-/// Runs a trace: the machine is made, the turns are taken, and the report is written out.
-pub fn execute(alloc: Global, trace: Trace) -> Result<Vec<u8>, AllocError>
+// Runs a trace: the machine is made, the turns are taken, and the report is written out.
+fn execute_whole(alloc: Global, trace: Trace) -> Result<Vec<u8>, AllocError>
     requires { IsWellFormed trace }
-    ensures { IfOk result (λ v. Ran trace v.items) }
+    ensures { IfOk result (λ v. RanTold trace v.items) }
 {
     let words = opening(alloc, &trace)?;
     let Trace {
@@ -66,4 +66,13 @@ pub fn execute(alloc: Global, trace: Trace) -> Result<Vec<u8>, AllocError>
     let board = PlainBoard::make(layout, words);
     let (board, cpus) = run_all(board, cpus, turns.as_slice());
     closing(alloc, &board, cpus)
+}
+
+/// Runs a trace. The text is the report of words that legal steps lead to.
+pub fn execute(alloc: Global, trace: Trace) -> Result<Vec<u8>, AllocError>
+    requires { IsWellFormed trace }
+    ensures { IfOk result (λ v. Ran trace v.items) }
+{
+    let text = execute_whole(alloc, trace)?;
+    Ok(text)
 }
