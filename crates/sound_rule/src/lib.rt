@@ -2,15 +2,16 @@
 //! leads to is safe. These functions do nothing: their contracts are laws.
 #![tactic(auto)]
 
-ghost use Rattle.std.specs.Prelude.{ℕ, ◌<◌, List};
+ghost use Rattle.std.specs.Prelude.{◌≡◌, ℕ, ◌<◌, List, [], None};
 ghost use Rattle.xp_words.specs.Machine.{Machine};
 ghost use Rattle.xp_words.specs.Places.{Place, sizes_of, memory};
 ghost use Rattle.xp_board.specs.declared.step.Step.{Step};
 ghost use Rattle.xp_board.specs.declared.holdings.Holdings.{Holdings};
+ghost use Rattle.xp_board.specs.Hands.{IsEmptyHand};
 ghost use Rattle.xp_board.specs.Legal.{LegalNow};
 ghost use Rattle.xp_board.specs.Runs.{State, Stepped, RunNow};
 ghost use Rattle.xp_board.specs.Safe.{Safe};
-ghost use Rattle.xp_board.specs.Sound.{Sound, SoundState, seat_of};
+ghost use Rattle.xp_board.specs.Sound.{Sound, SoundState, SoundWords, seat_of};
 
 use count_rule::{
     counts_stay_right, frames_stay_held_alone, idle_hands_stay_empty, stamps_stay_below_the_clock,
@@ -19,6 +20,7 @@ use count_rule::{
 use found_rule::{holdings_stay_well_formed, what_was_found_stays_true};
 use stale_rule::{a_legal_step_keeps_translations_fresh, a_sound_machine_is_safe};
 use type_rule::{entries_stay_permitted, entries_still_lead_well, the_dead_stay_dead};
+use xp_board::empty_hands_are_well_formed;
 
 /// A step that is legal today keeps the machine sound.
 pub fn a_legal_step_keeps_the_machine_sound()
@@ -55,4 +57,13 @@ pub fn a_run_leaves_it_safe()
 {
     every_run_stays_sound();
     a_sound_machine_is_safe();
+}
+
+/// Where no seat holds anything, and none has translations, the words are sound by themselves: a machine may begin with them.
+pub fn rested_words_are_sound()
+    ensures { (n : Machine) (words : List ℕ) (seats : List Holdings) → SoundState n words seats →
+        ((s : ℕ) → s < (sizes_of n).vcpus → IsEmptyHand (seat_of seats s) × ((seat_of seats s).cache ≡ []) × ((seat_of seats s).walk ≡ None)) →
+        SoundWords n words }
+{
+    empty_hands_are_well_formed();
 }
