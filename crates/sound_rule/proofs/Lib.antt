@@ -1,0 +1,3 @@
+mod RestCounts
+mod RestParts
+mod RunLaws

@@ -1,0 +1,69 @@
+//! The machine stays sound: each step that is legal today keeps all that Sound says, so each run of such steps does, and what it
+//! leads to is safe. These functions do nothing: their contracts are laws.
+#![tactic(auto)]
+
+ghost use Rattle.std.specs.Prelude.{◌≡◌, ℕ, ◌<◌, List, [], None};
+ghost use Rattle.xp_words.specs.Machine.{Machine};
+ghost use Rattle.xp_words.specs.Places.{Place, sizes_of, memory};
+ghost use Rattle.xp_board.specs.declared.step.Step.{Step};
+ghost use Rattle.xp_board.specs.declared.holdings.Holdings.{Holdings};
+ghost use Rattle.xp_board.specs.Hands.{IsEmptyHand};
+ghost use Rattle.xp_board.specs.Legal.{LegalNow};
+ghost use Rattle.xp_board.specs.Runs.{State, Stepped, RunNow};
+ghost use Rattle.xp_board.specs.Safe.{Safe};
+ghost use Rattle.xp_board.specs.Sound.{Sound, SoundState, SoundWords, seat_of};
+
+use count_rule::{
+    counts_stay_right, frames_stay_held_alone, idle_hands_stay_empty, stamps_stay_below_the_clock,
+    the_map_stays_right, words_stay_spelled, works_stay_right,
+};
+use found_rule::{holdings_stay_well_formed, what_was_found_stays_true};
+use stale_rule::{a_legal_step_keeps_translations_fresh, a_sound_machine_is_safe};
+use type_rule::{entries_stay_permitted, entries_still_lead_well, the_dead_stay_dead};
+use xp_board::empty_hands_are_well_formed;
+
+/// A step that is legal today keeps the machine sound.
+pub fn a_legal_step_keeps_the_machine_sound()
+    ensures { (n : Machine) (s : ℕ) (x : Step) (m m2 : Place → ℕ) (h h2 : ℕ → Holdings) → s < (sizes_of n).vcpus → LegalNow n s (h s) x →
+        Stepped n s x m m2 h h2 → Sound n m h → Sound n m2 h2 }
+{
+    words_stay_spelled();
+    counts_stay_right();
+    entries_still_lead_well();
+    entries_stay_permitted();
+    frames_stay_held_alone();
+    works_stay_right();
+    what_was_found_stays_true();
+    holdings_stay_well_formed();
+    stamps_stay_below_the_clock();
+    idle_hands_stay_empty();
+    a_legal_step_keeps_translations_fresh();
+    the_dead_stay_dead();
+    the_map_stays_right();
+}
+
+/// A run of such steps, of any seats in any order, leads from a sound state to a sound one.
+pub fn every_run_stays_sound()
+    ensures { (n : Machine) (a b : State) (log : List (ℕ × Step)) → RunNow n a log b → SoundState n a.words a.seats → SoundState n b.words b.seats }
+{
+    a_legal_step_keeps_the_machine_sound();
+}
+
+/// After each such run no guest writes a page table or descriptor page, or comes to a frame that its domain is not permitted, and
+/// the counts are right.
+pub fn a_run_leaves_it_safe()
+    ensures { (n : Machine) (a b : State) (log : List (ℕ × Step)) → RunNow n a log b → SoundState n a.words a.seats →
+        Safe n (memory (sizes_of n) b.words) (seat_of b.seats) }
+{
+    every_run_stays_sound();
+    a_sound_machine_is_safe();
+}
+
+/// Where no seat holds anything, and none has translations, the words are sound by themselves: a machine may begin with them.
+pub fn rested_words_are_sound()
+    ensures { (n : Machine) (words : List ℕ) (seats : List Holdings) → SoundState n words seats →
+        ((s : ℕ) → s < (sizes_of n).vcpus → IsEmptyHand (seat_of seats s) × ((seat_of seats s).cache ≡ []) × ((seat_of seats s).walk ≡ None)) →
+        SoundWords n words }
+{
+    empty_hands_are_well_formed();
+}
