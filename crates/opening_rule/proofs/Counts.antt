@@ -1,16 +1,15 @@
 -- The counts of references, types and pages.
-use Rattle.std.proofs.Common.{◌≡◌, ◌≢◌, ℕ, zero, suc, ◌+◌, ◌<◌, ◌==◌, ◌&&◌, if◌then◌else◌, Bool, true, false, List, [], ◌∷◌, find, IsTrue, Option, Some, None, refl, sym, ◌∙◌, ap, arith}
+use Rattle.std.proofs.Common.{◌≡◌, ℕ, ◌+◌, ◌<◌, if◌then◌else◌, Bool, true, false, find, IsTrue, Option, refl, arith}
 use Rattle.std.proofs.lemmas.Bool.Decides.{nat_tests}
 use Rattle.xp_words.specs.declared.kind.KindWord.{KindWord}
 use Rattle.xp_words.specs.declared.entry.Demand.{Demand}
-use Rattle.xp_words.specs.RefWords.{bit}
-use Rattle.xp_words.specs.Places.{Sizes, Place, Pages, Vcpu, Refs, Kind, sizes_of, is_place}
+use Rattle.xp_words.specs.Places.{Sizes, Place, Pages, Vcpu, Refs, sizes_of, is_place}
 use Rattle.xp_board.specs.declared.holdings.Holdings.{Holdings}
 use Rattle.xp_board.specs.Sums.{sum_below}
 use Rattle.xp_board.specs.Lists.{one_at, times, times_by, EachOf}
-use Rattle.xp_board.specs.Readings.{kind_at, ref_count, allocated_mark, type_count, is_context}
+use Rattle.xp_board.specs.Readings.{kind_at, ref_count, type_count, is_context}
 use Rattle.xp_board.specs.Hands.{empty, hand, typed_hand}
-use Rattle.xp_board.specs.Recorded.{held, held_of, work_of, table_entries, entries, entry_demand, contexts, marks, hands, names, names_typed, named, named_typed, TypesAgree, CountsAgree, is_page_of}
+use Rattle.xp_board.specs.Recorded.{held, held_of, work_of, table_entries, entries, contexts, marks, hands, names, names_typed, named, named_typed, TypesAgree, CountsAgree, is_page_of}
 use Rattle.trace_text.specs.declared.trace.Trace.{Trace}
 use Rattle.machine_build.specs.Opening.{has_frame, opening_at, untyped}
 use Rattle.opening_rule.proofs.Words.{Opens, vcpu_word, run_inside}

@@ -1,10 +1,9 @@
 -- What entries and words of vCPUs lead to: nothing is recorded, and each such word is 0.
-use Rattle.std.proofs.Common.{◌≡◌, ◌≢◌, ℕ, ◌+◌, ◌<◌, Bool, true, false, IsTrue, Some, None, refl, arith}
+use Rattle.std.proofs.Common.{◌≡◌, ℕ, false, IsTrue, refl, arith}
 use Rattle.std.proofs.lemmas.Bool.{and_parts}
-use Rattle.std.proofs.lemmas.Bool.Decides.{nat_tests}
-use Rattle.xp_words.specs.Places.{Place, Vcpu, Refs, Kind, Cell, sizes_of}
+use Rattle.xp_words.specs.Places.{Place, Vcpu, sizes_of}
 use Rattle.xp_board.specs.Hands.{empty}
-use Rattle.xp_board.specs.Readings.{kind_at, is_live, is_context}
+use Rattle.xp_board.specs.Readings.{kind_at, is_live}
 use Rattle.xp_board.specs.Valid.{Valid, Permitted, is_live_context}
 use Rattle.trace_text.specs.declared.trace.Trace.{Trace}
 use Rattle.opening_rule.proofs.Words.{Opens}

@@ -1,21 +1,16 @@
 -- What holds of empty hands on the opening words.
-use Rattle.std.proofs.Common.{◌≡◌, ◌≢◌, ℕ, ◌+◌, ◌<◌, ◌≤◌, Bool, true, false, List, [], IsTrue, Option, Some, None, refl, arith}
-use Rattle.std.proofs.lemmas.Bool.Decides.{nat_tests}
-use Rattle.xp_words.specs.RefWords.{bit}
+use Rattle.std.proofs.Common.{◌≡◌, ℕ, ◌+◌, false, refl, arith}
 use Rattle.xp_words.specs.Machine.{Machine}
-use Rattle.xp_words.specs.Places.{Sizes, Place, Clock, Life, Vcpu, Refs, Kind, Cell, sizes_of}
-use Rattle.xp_board.specs.declared.holdings.Holdings.{Holdings}
+use Rattle.xp_words.specs.Places.{Sizes, Place, sizes_of}
 use Rattle.xp_board.specs.Lists.{times_by, some_of, Member, EachOf}
-use Rattle.xp_board.specs.Steps.{last_since, some_step, EachStep, steps_before}
+use Rattle.xp_board.specs.Steps.{last_since, EachStep, steps_before}
 use Rattle.xp_board.specs.Knowledge.{knows_owner, knows_live, knows_partial}
-use Rattle.xp_board.specs.Readings.{kind_at, is_dying}
-use Rattle.xp_board.specs.Hands.{empty, works_on, locks_on, endings_of, claims_of, IsEmptyHand}
-use Rattle.xp_board.specs.Recorded.{hands}
+use Rattle.xp_board.specs.Hands.{empty, works_on, locks_on, endings_of, claims_of}
 use Rattle.xp_board.specs.Reach.{Use, Reach, cached, walked, entry}
 use Rattle.xp_board.specs.Fresh.{Fresh}
 use Rattle.xp_board.specs.Found.{Found, OwnFound}
 use Rattle.xp_board.specs.WellFormed.{WellFormed, IsRaisedFormed, IsCacheFormed, IsOwnFormed}
-use Rattle.xp_board.specs.Sound.{HeldAlone, Stamped, Idle, Domains, is_busy}
+use Rattle.xp_board.specs.Sound.{HeldAlone, Stamped, Idle, Domains}
 use Rattle.trace_text.specs.declared.trace.Trace.{Trace}
 use Rattle.opening_rule.proofs.Words.{Opens, life_word, flushed_word}
 use Rattle.opening_rule.proofs.Readings.{kind_is, not_dying, stamp_zero, kind_stamp_zero}

@@ -5,3 +5,5 @@ mod Counts
 mod Hands
 mod Entries
 mod Map
+mod Bounds
+mod Spelled

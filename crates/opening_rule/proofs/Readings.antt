@@ -1,10 +1,9 @@
 -- What the opening words of a frame say.
-use Rattle.std.proofs.Common.{◌≡◌, ◌≢◌, ℕ, ◌+◌, ◌==◌, ◌&&◌, if◌then◌else◌, Bool, true, false, find, is_none, IsTrue, Option, Some, None, refl, sym, ◌∙◌, ap, arith}
-use Rattle.xp_words.specs.declared.kind.KindWord.{KindWord}
+use Rattle.std.proofs.Common.{◌≡◌, ℕ, false, find, is_none, Option, Some, None, refl, ◌∙◌, ap}
 use Rattle.xp_words.specs.KindWords.{kind_fields}
-use Rattle.xp_words.specs.RefWords.{ref_read, bit}
+use Rattle.xp_words.specs.RefWords.{ref_read}
 use Rattle.xp_words.specs.Places.{Place, Refs, Kind}
-use Rattle.xp_board.specs.Readings.{kind_at, ref_count, allocated_mark, count_in, allocated_in, owner_of, owner_in, is_owned_by, free_stamp, stamp_in, is_free, is_free_in, is_dying, is_dying_in, kind_stamp, type_count}
+use Rattle.xp_board.specs.Readings.{kind_at, ref_count, allocated_mark, count_in, allocated_in, owner_of, free_stamp, stamp_in, is_free, is_free_in, is_dying, is_dying_in, kind_stamp}
 use Rattle.xp_board.specs.Recorded.{is_page_of}
 use Rattle.trace_text.specs.declared.trace.Own.{Own}
 use Rattle.trace_text.specs.declared.trace.Trace.{Trace}

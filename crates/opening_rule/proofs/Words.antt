@@ -1,12 +1,11 @@
 -- The opening words by name, in the machine and outside.
-use Rattle.std.proofs.Common.{◌≡◌, ◌≢◌, ◌⊎◌, ℕ, suc, ◌+◌, ◌^◌, ◌<◌, ◌≤◌, ◌==◌, ◌&&◌, nat_lt, if◌then◌else◌, cond, Bool, true, false, List, [], ◌∷◌, length, All, find, slice_index, IsTrue, Option, Some, None, inl, inr, refl, sym, ◌∙◌, ap, arith}
+use Rattle.std.proofs.Common.{◌≡◌, ◌≢◌, ◌⊎◌, ℕ, suc, ◌+◌, ◌≤◌, nat_lt, cond, Bool, true, false, List, [], ◌∷◌, All, find, IsTrue, Option, Some, None, inl, inr, refl, ◌∙◌, arith}
 use Rattle.std.proofs.lemmas.Bool.Decides.{nat_tests}
-use Rattle.xp_words.specs.Machine.{IsMachine}
 use Rattle.xp_words.specs.RefWords.{ref_read, ref_write}
-use Rattle.xp_words.specs.Places.{Sizes, Place, Clock, Pages, Life, Vcpu, Refs, Kind, M2p, Cell, Map, Priv, sizes_of, is_place, memory, number}
+use Rattle.xp_words.specs.Places.{Sizes, Place, Clock, Life, Vcpu, Refs, Kind, sizes_of, is_place, memory}
 use Rattle.trace_text.specs.declared.trace.Own.{Own}
 use Rattle.trace_text.specs.declared.trace.Trace.{Trace}
-use Rattle.trace_text.specs.WellFormed.{IsWellFormed, IsOwn}
+use Rattle.trace_text.specs.WellFormed.{IsWellFormed}
 use Rattle.machine_build.specs.Opening.{IsOpening, has_frame, refs_in, reference_in, opening_at}
 use Rattle.machine_build.proofs.RefLaws.{reads_as}
 

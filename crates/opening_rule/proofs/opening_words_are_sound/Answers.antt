@@ -2,6 +2,7 @@ use Rattle.opening_rule.proofs.Words.{opens}
 use Rattle.opening_rule.proofs.Counts.{counts_open}
 use Rattle.opening_rule.proofs.Entries.{valid_open, permitted_open}
 use Rattle.opening_rule.proofs.Hands.{alone_open, found_open, formed_open, stamped_open, idle_open, fresh_open, domains_open}
+use Rattle.opening_rule.proofs.Spelled.{spelled_open}
 use Rattle.opening_rule.proofs.Map.{map_open}
 use Rattle.xp_board.specs.Lists.{EachOf}
 use Rattle.opening_rule.proofs.opening_words_are_sound.Goals as goal
@@ -15,7 +16,7 @@ returns c t words w o =
       sound =
           record {
             machine = w.machine;
-            spelled = ?;
+            spelled = spelled_open t _ h;
             counts = counts_open t _ h;
             valid = valid_open t _ h;
             permitted = permitted_open t _ h;
