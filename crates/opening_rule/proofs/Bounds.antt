@@ -57,7 +57,6 @@ few_bits (suc n) c p h =
           rw off (omega arith)
     ]
 
-
 pub free_bits_few : (frames k : ℕ) (q : ℕ → Bool) → bits_below 64 (λ b. nat_lt (64 * k + b) frames && q (64 * k + b)) < 2 ^ map_bits frames k
 free_bits_few frames k q =
     elim (cases_lt frames (64 * k + 64)) [
@@ -71,12 +70,13 @@ free_bits_few frames k q =
 
 -- ---- privileges
 pub priv_word : (mask : ℕ) → mask < 2 ^ 16 → IsPriv (both_halves mask)
-priv_word mask h =
-    (omega arith,
-    λ o b e. (
-        let cat : both_halves mask ≡ mask * 2 ^ 16 + mask = omega arith in
-        let low = bit_at_cat_low mask 16 mask o b in
-        let high = bit_at_cat_high mask 16 mask (16 + o) h (omega arith) in
-        let at : 16 + o - 16 ≡ o = omega arith in
-        let same : bit_at (both_halves mask) (16 + o) ≡ bit_at (both_halves mask) o = rw (cat, low, high, at) refl in
-        ap (λ n. n == 1) same ∙ e))
+priv_word mask h = (
+  omega arith,
+  λ o b e. (
+      let cat : both_halves mask ≡ mask * 2 ^ 16 + mask = omega arith in
+      let low = bit_at_cat_low mask 16 mask o b in
+      let high = bit_at_cat_high mask 16 mask (16 + o) h (omega arith) in
+      let at : 16 + o - 16 ≡ o = omega arith in
+      let same : bit_at (both_halves mask) (16 + o) ≡ bit_at (both_halves mask) o = rw (cat, low, high, at) refl in
+      ap (λ n. n == 1) same ∙ e),
+)

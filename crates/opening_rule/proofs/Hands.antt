@@ -1,5 +1,5 @@
 -- What holds of empty hands on the opening words.
-use Rattle.std.proofs.Common.{◌≡◌, ℕ, ◌+◌, false, refl, arith}
+use Rattle.std.proofs.Common.{◌≡◌, ℕ, ◌+◌, refl, arith}
 use Rattle.xp_words.specs.Machine.{Machine}
 use Rattle.xp_words.specs.Places.{Sizes, Place, sizes_of}
 use Rattle.xp_board.specs.Lists.{times_by, some_of, Member, EachOf}
@@ -56,10 +56,6 @@ module _ (t : Trace) (m : Place → ℕ) (o : Opens t m) where
 -- ---- nothing found
 found_own : (m : Place → ℕ) (s : ℕ) → OwnFound m s empty
 found_own m s = record { run = λ w e. absurd (cc); old0 = λ w n e. absurd (cc); old1 = λ w n e. absurd (cc) }
-
-owner_unknown : (z : Sizes) (f o : ℕ) → knows_owner z f o empty ≡ false
-unfolding knows_owner some_of
-owner_unknown z f o = refl
 
 pub found_open : (n : Machine) (m : Place → ℕ) (s : ℕ) → Found n m (λ s. empty) s
 unfolding EachOf EachStep steps_before knows_owner knows_live knows_partial some_of

@@ -13,7 +13,7 @@ use Rattle.machine_build.specs.Opening.{has_frame, opening_at}
 use Rattle.machine_build.specs.Opening.{is_free as opens_free}
 use Rattle.machine_build.proofs.MapLaws.{each_bit}
 use Rattle.opening_rule.proofs.Words.{Opens}
-use Rattle.opening_rule.proofs.Readings.{free_is_no_run}
+use Rattle.opening_rule.proofs.Readings.{free_is_unowned}
 use Rattle.opening_rule.proofs.Counts.{hands_none}
 
 raised_none : (f : ℕ) → times f empty.raised ≡ 0
@@ -36,7 +36,7 @@ module _ (t : Trace) (m : Place → ℕ) (o : Opens t m) where
   hinted f b =
       let there : nat_lt f t.layout.frames ≡ true = grind (arith, nat_tests) in
       ap (is_bit (f % 64)) (map_word f b) ∙ opens_hinted f b ∙ ap (λ (c : Bool). c && is_none (find (has_frame f) t.owned)) there
-      ∙ sym (free_is_no_run t m o f)
+      ∙ sym (free_is_unowned t m o f)
 
   pub map_open : FreeMap t.layout m (λ s. empty)
   map_open =

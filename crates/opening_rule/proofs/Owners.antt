@@ -87,7 +87,7 @@ frames_of_runs d n (o ∷ os) h apart =
     let rest = frames_of_runs d n os (λ k e c. h (suc k) e (omega arith)) (λ i j e a b. apart (suc i) (suc j) e (omega arith) (omega arith)) in
     let others : All (λ x. IsTrue (is_apart o x)) os = λ k e c. apart 0 (suc k) e (omega arith) (omega arith) in
     let each = sum_below-same n (λ f. owner_in_run d (find (has_frame f) (o ∷ os))) (λ f. in_run d o f + owner_in_run d (find (has_frame f) os))
-        (λ f b. one_more d f o (has_frame f o) (find (has_frame f) os) refl (no_other f o os others)) in
+    (λ f b. one_more d f o (has_frame f o) (find (has_frame f) os) refl (no_other f o os others)) in
     let both = sum_below-both n (in_run d o) (λ f. owner_in_run d (find (has_frame f) os)) in
     let here = by_domain d n o (o.domain == d) refl fits in
     let total = sum_by-cons (pages_in d) o os in

@@ -24,9 +24,9 @@ no_stamp : (x : Option Own) → stamp_in (Some (reference_in x)) ≡ 0
 no_stamp None = refl
 no_stamp (Some o) = refl
 
-free_without_run : (x : Option Own) → is_free_in (Some (reference_in x)) ≡ is_none x
-free_without_run None = refl
-free_without_run (Some o) = refl
+free_without_owner : (x : Option Own) → is_free_in (Some (reference_in x)) ≡ is_none x
+free_without_owner None = refl
+free_without_owner (Some o) = refl
 
 module _ (t : Trace) (m : Place → ℕ) (o : Opens t m) where
   pub count_is_mark : (f : ℕ) → ref_count (m (Refs f)) ≡ allocated_mark (m (Refs f))
@@ -41,9 +41,9 @@ module _ (t : Trace) (m : Place → ℕ) (o : Opens t m) where
   unfolding free_stamp
   stamp_zero f = rw (refs_read t m o f) (no_stamp (find (has_frame f) t.owned))
 
-  pub free_is_no_run : (f : ℕ) → is_free (m (Refs f)) ≡ is_none (find (has_frame f) t.owned)
+  pub free_is_unowned : (f : ℕ) → is_free (m (Refs f)) ≡ is_none (find (has_frame f) t.owned)
   unfolding is_free
-  free_is_no_run f = rw (refs_read t m o f) (free_without_run (find (has_frame f) t.owned))
+  free_is_unowned f = rw (refs_read t m o f) (free_without_owner (find (has_frame f) t.owned))
 
 -- ---- its owner
 page_in : (d : ℕ) (x : Option Own) (w : ℕ) → ref_read w ≡ Some (reference_in x) → is_page_of d w ≡ owner_in_run d x

@@ -27,7 +27,7 @@ is_there true = inl refl
 is_there false = inr refl
 
 -- a word that the machine has or has not
-pub word_at : (t : Trace) (m : Place → ℕ) → Opens t m → (p : Place) → (m p ≡ opening_at t p) ⊎ (m p ≡ 0)
+word_at : (t : Trace) (m : Place → ℕ) → Opens t m → (p : Place) → (m p ≡ opening_at t p) ⊎ (m p ≡ 0)
 word_at t m o p =
     elim (is_there (is_place (sizes_of t.layout) p)) [
       | inl e ↦ inl (o.inside p e)
@@ -35,7 +35,7 @@ word_at t m o p =
     ]
 
 -- where it opens with 0 it is 0
-pub zero_at : (t : Trace) (m : Place → ℕ) → Opens t m → (p : Place) → opening_at t p ≡ 0 → m p ≡ 0
+zero_at : (t : Trace) (m : Place → ℕ) → Opens t m → (p : Place) → opening_at t p ≡ 0 → m p ≡ 0
 zero_at t m o p e =
     elim (word_at t m o p) [
       | inl w ↦ w ∙ e
