@@ -47,8 +47,8 @@ unused_marked k marked live = elim (cases_Bool k.validated) [ inl hit ↦ absurd
 unused_by : (flushed : ℕ) (k : KindWord) → Bears flushed k Writes → (k.validated ≡ true → k.unflushed ≡ false) → is_in_use k ≡ false
 unused_by flushed k bears live =
     elim (bears.typed (λ e. cc)) [
-      inl fits ↦ let t = fits.1 in grind (arith, t, nat_tests)
-    | inr marked ↦ let u = marked.0 in unused_marked k u live
+      | inl fits ↦ let t = fits.1 in grind (arith, t, nat_tests)
+      | inr marked ↦ let u = marked.0 in unused_marked k u live
     ]
 
 permits_by : (m : Place → ℕ) (d g : ℕ) (b : Bool) (x : Item) → x.writable ≡ b → Belongs m d g (use_of x) → Permits m d g

@@ -65,8 +65,8 @@ pub lowered_deeds : (n : Machine) (v f w g : ℕ) (a : State) → f < n.frames �
 unfolding lowered mapped raised
 lowered_deeds n v f w g a frame =
     deeds_more n v a (Refs f) _ steps.Ref None (mapped n v f w g) (refs_real n f frame)
-        ∙ deeds_more n v a (M2p f) (Store g) steps.M2p None (raised n v f w) (m2p_real n f frame)
-        ∙ ap (λ (ds : List Deed). SetsM2p f g ∷ ds) (deeds_more n v a (Refs f) (Cas w (w + 1)) steps.Ref None (looked n v f) (refs_real n f frame) ∙ looked_deeds n v f a)
+    ∙ deeds_more n v a (M2p f) (Store g) steps.M2p None (raised n v f w) (m2p_real n f frame)
+    ∙ ap (λ (ds : List Deed). SetsM2p f g ∷ ds) (deeds_more n v a (Refs f) (Cas w (w + 1)) steps.Ref None (looked n v f) (refs_real n f frame) ∙ looked_deeds n v f a)
 
 -- ---- where a turn begins and an answer ends
 pub ended_ends : (n : Machine) (v : ℕ) (a : State) (xs : List Step) → EndsWith (Some (marks.Cut 0)) (made_by n v a (ended n xs))
@@ -82,7 +82,7 @@ unfolding begun
 begun_begins n v a = refl
 
 pub more_begins : (n : Machine) (v : ℕ) (a : State) (x : Step) (xs : List Step) → BeginsWith (Some marks.Turn) (made_by n v a xs) → BeginsWith (Some marks.Turn) (made_by n v a (x ∷ xs))
-more_begins n v a x xs b = begin_more (Some marks.Turn) _ (made_by n v a xs) b
+more_begins n v a x xs b = begin_more (Some marks.Turn) (record { step = x; found = word_at n (reached n v a xs) (place_of n x) }) (made_by n v a xs) b
 
 -- ---- what the looks found
 -- the look at the reference word found the word that stood there

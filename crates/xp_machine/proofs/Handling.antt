@@ -72,15 +72,29 @@ pub record HandIs (rs : List Reference) (h : Holdings) : Type 0 where
 pub from_empty : (h : Holdings) → IsEmptyHand h → HandIs [] h
 from_empty h e =
     record {
-      refs = e.refs; typed = e.typed; works = e.works; locks = e.locks; ending = e.ending; claimed = e.claimed; raised = e.raised;
-      credits = e.credits; looking = e.looking
+      refs = e.refs;
+      typed = e.typed;
+      works = e.works;
+      locks = e.locks;
+      ending = e.ending;
+      claimed = e.claimed;
+      raised = e.raised;
+      credits = e.credits;
+      looking = e.looking;
     }
 
 pub to_empty : (h : Holdings) → HandIs [] h → IsEmptyHand h
 to_empty h e =
     record {
-      refs = e.refs; typed = e.typed; works = e.works; locks = e.locks; ending = e.ending; claimed = e.claimed; raised = e.raised;
-      credits = e.credits; looking = e.looking
+      refs = e.refs;
+      typed = e.typed;
+      works = e.works;
+      locks = e.locks;
+      ending = e.ending;
+      claimed = e.claimed;
+      raised = e.raised;
+      credits = e.credits;
+      looking = e.looking;
     }
 
 -- a hand of those parts
@@ -91,8 +105,15 @@ with_refs : (rs ss : List Reference) (a b : Holdings) → HandIs rs a → b.refs
     b.ending ≡ a.ending → b.claimed ≡ a.claimed → b.raised ≡ a.raised → b.credits ≡ a.credits → b.looking ≡ a.looking → HandIs ss b
 with_refs rs ss a b e r t w l n c u d k =
     record {
-      refs = r; typed = t ∙ e.typed; works = w ∙ e.works; locks = l ∙ e.locks; ending = n ∙ e.ending; claimed = c ∙ e.claimed;
-      raised = u ∙ e.raised; credits = d ∙ e.credits; looking = k ∙ e.looking
+      refs = r;
+      typed = t ∙ e.typed;
+      works = w ∙ e.works;
+      locks = l ∙ e.locks;
+      ending = n ∙ e.ending;
+      claimed = c ∙ e.claimed;
+      raised = u ∙ e.raised;
+      credits = d ∙ e.credits;
+      looking = k ∙ e.looking;
     }
 
 -- ---- looks
@@ -167,7 +188,11 @@ open_word w owner count allocated e =
     let small = read_small w owner count allocated e in
     let law = ref_write-read w (Owned owner allocated count) (omega arith) e in
     record {
-      small = small; read = e; written = law.1; more = written_more owner count allocated ∙ ap (λ x. x + 1) law.1; some = some_count owner count allocated law.0
+      small = small;
+      read = e;
+      written = law.1;
+      more = written_more owner count allocated ∙ ap (λ x. x + 1) law.1;
+      some = some_count owner count allocated law.0;
     }
 
 in_range : (o c : ℕ) (a : Bool) → IsRef (Owned o a c) → c + 1 < 2 ^ 26 → IsRef (Owned o a (c + 1))
@@ -191,7 +216,7 @@ raise_is_legal n v f w owner count allocated h o limit few frame run domain belo
     let legal = raise_legal n v f owner count allocated h limit few frame run domain o.some below in
     let next : ref_read (w + 1) ≡ Some (Owned owner allocated (count + 1)) = open_next w owner count allocated o (omega arith) in
     let here : LegalMove n v h (Refs f) (Cas w (w + 1)) steps.Ref None =
-        subst (λ y. LegalMove n v h (Refs f) (Cas w y) steps.Ref None) o.more (subst (λ y. LegalMove n v h (Refs f) (Cas y (ref_write (Owned owner allocated (count + 1)))) steps.Ref None) o.written legal) in
+    subst (λ y. LegalMove n v h (Refs f) (Cas w y) steps.Ref None) o.more (subst (λ y. LegalMove n v h (Refs f) (Cas y (ref_write (Owned owner allocated (count + 1)))) steps.Ref None) o.written legal) in
     legal_at n v h (Refs f) (Cas w (w + 1)) steps.Ref None here (rw (o.read, next) (raise_row owner count allocated)) refl
 
 -- the reference that the exchange brings
@@ -207,16 +232,16 @@ took : (n : Machine) (v f w owner count : ℕ) (allocated : Bool) (h : Holdings)
 took n v f w owner count allocated h o below real =
     let row : ref_row (ref_read w) (ref_read (w + 1)) ≡ Raise = ap (λ y. ref_row y (ref_read (w + 1))) o.read ∙ ap (λ y. ref_row (Some (Owned owner allocated count)) y) (open_next w owner count allocated o below) ∙ row_is owner count allocated in
     after_at n v h (Refs f) (Cas w (w + 1)) steps.Ref None w real
-        ∙ ap (λ x. noted (raise_at n f w) w x) (when_same w (after_ref_row (ref_row (ref_read w) (ref_read (w + 1))) n v f w h) h ∙ ap (λ r. after_ref_row r n v f w h) row)
+    ∙ ap (λ x. noted (raise_at n f w) w x) (when_same w (after_ref_row (ref_row (ref_read w) (ref_read (w + 1))) n v f w h) h ∙ ap (λ r. after_ref_row r n v f w h) row)
 
 pub raise_hand : (n : Machine) (v f w owner count : ℕ) (allocated : Bool) (h : Holdings) → Open w owner allocated count → count + 1 < 2 ^ 26 → IsTrue (is_place (sizes_of n) (Refs f)) →
     HandIs [] h → h.run ≡ Some 0 → HandIs (new_ref f w ∷ []) (after n v h (raise_at n f w) w) × ((after n v h (raise_at n f w) w).run ≡ Some 0)
 unfolding new_ref
 raise_hand n v f w owner count allocated h o below real e run =
-    let at = took n v f w owner count allocated h o below real in
-    (
-    subst (λ x. HandIs (new_ref f w ∷ []) x) (sym at) (with_refs [] (new_ref f w ∷ []) h _ e (ap (λ (rs : List Reference). new_ref f w ∷ rs) e.refs) refl refl refl refl refl refl refl refl),
-    ap (λ x. x.run) at ∙ run)
+    let at = took n v f w owner count allocated h o below real in (
+      subst (λ x. HandIs (new_ref f w ∷ []) x) (sym at) (with_refs [] (new_ref f w ∷ []) h _ e (ap (λ (rs : List Reference). new_ref f w ∷ rs) e.refs) refl refl refl refl refl refl refl refl),
+      ap (λ x. x.run) at ∙ run,
+    )
 
 -- ---- the machine-to-physical word
 one_held : (f w : ℕ) → refs_to f (new_ref f w ∷ []) ≡ 1
@@ -244,8 +269,11 @@ pub lower_is_legal : (n : Machine) (v f w : ℕ) (h : Holdings) → IsTrue (is_p
 lower_is_legal n v f w h real run e =
     legal_at n v h (Refs f) (Add one_down) steps.Ref None
     (record {
-      place = real; marked = tt; running = λ needs. run; spelling = lit< tt;
-      act = record { one = refl; in_hand = rw (e.refs, one_held f w) (lit< tt); spares = λ closing. absurd (let t = subst IsTrue (no_work f h e.works) closing in cc) }
+      place = real;
+      marked = tt;
+      running = λ needs. run;
+      spelling = lit< tt;
+      act = record { one = refl; in_hand = rw (e.refs, one_held f w) (lit< tt); spares = λ closing. absurd (let t = subst IsTrue (no_work f h e.works) closing in cc) };
     })
     refl refl
 

@@ -38,7 +38,7 @@ pub look_words : (n : Machine) (v : ℕ) (a : State) (p : Place) (mark : Option 
 unfolding left_by
 look_words n v a p mark real =
     act_words n v a p Load steps.Look mark real ∙ ap (λ w. slice_set a.words (number (sizes_of n) p) w) (word_there (sizes_of n) a.words p real)
-        ∙ set-get_or a.words (number (sizes_of n) p) 0
+    ∙ set-get_or a.words (number (sizes_of n) p) 0
 
 -- ---- the hand after a step
 pub hand_next : (n : Machine) (v : ℕ) (a : State) (x : Step) → v < length a.seats → seat_of (next n a v x).seats v ≡ after n v (seat_of a.seats v) x (word_at n a (place_of n x))
@@ -85,22 +85,22 @@ unfolding is_place
 m2p_real n f h = grind (arith, nat_tests)
 
 -- ---- the steps of an answer, the newest first
-pub begun : Machine → ℕ → List Step
+unfoldable pub begun : Machine → ℕ → List Step
 begun n v = look_at n (Vcpu v 6) None ∷ look_at n (Vcpu v 4) (Some marks.Turn) ∷ []
 
-pub looked : Machine → ℕ → ℕ → List Step
+unfoldable pub looked : Machine → ℕ → ℕ → List Step
 looked n v f = look_at n (Refs f) None ∷ begun n v
 
-pub raised : Machine → ℕ → ℕ → ℕ → List Step
+unfoldable pub raised : Machine → ℕ → ℕ → ℕ → List Step
 raised n v f w = raise_at n f w ∷ looked n v f
 
-pub mapped : Machine → ℕ → ℕ → ℕ → ℕ → List Step
+unfoldable pub mapped : Machine → ℕ → ℕ → ℕ → ℕ → List Step
 mapped n v f w g = map_at n f g ∷ raised n v f w
 
-pub lowered : Machine → ℕ → ℕ → ℕ → ℕ → List Step
+unfoldable pub lowered : Machine → ℕ → ℕ → ℕ → ℕ → List Step
 lowered n v f w g = lower_at n f ∷ mapped n v f w g
 
-pub ended : Machine → List Step → List Step
+unfoldable pub ended : Machine → List Step → List Step
 ended n xs = look_at n Clock (Some (marks.Cut 0)) ∷ xs
 
 -- these steps are legal from state a, and leave those words, those references in hand, and the run word found 0
@@ -121,8 +121,8 @@ module _ (n : Machine) (v : ℕ) (a : State) (real : v < length n.vcpu_domain) (
       let b : State = next n a v (look_at n (Vcpu v 4) (Some marks.Turn)) in
       let at1 : Standing n v a.words b = stands_on n v a.words a (Vcpu v 4) (Some marks.Turn) asked at0 in
       let hand1 : HandIs [] (seat_of b.seats v) =
-          subst (λ h. HandIs [] h) (sym (hand_at n v a.words a (Vcpu v 4) Load steps.Look (Some marks.Turn) asked at0))
-          (asked_hand n v (seat_of a.seats v) (memory (sizes_of n) a.words (Vcpu v 4)) [] asked (from_empty (seat_of a.seats v) empty_hand)) in
+      subst (λ h. HandIs [] h) (sym (hand_at n v a.words a (Vcpu v 4) Load steps.Look (Some marks.Turn) asked at0))
+      (asked_hand n v (seat_of a.seats v) (memory (sizes_of n) a.words (Vcpu v 4)) [] asked (from_empty (seat_of a.seats v) empty_hand)) in
       let both = run_hand n v (seat_of b.seats v) (memory (sizes_of n) a.words (Vcpu v 6)) [] run running hand1 in
       let here = hand_at n v a.words b (Vcpu v 6) Load steps.Look None run at1 in
       record {
@@ -163,7 +163,7 @@ module _ (n : Machine) (v : ℕ) (a : State) (real : v < length n.vcpu_domain) (
         standing = record {
           seats = rw length-set s.standing.seats;
           words_are = act_words n v b (Refs f) (Cas w (w + 1)) steps.Ref None there ∙ ap (λ (ws : List ℕ). slice_set ws (number (sizes_of n) (Refs f)) (left_by (Cas w (w + 1)) (memory (sizes_of n) ws (Refs f)))) s.standing.words_are
-              ∙ ap (λ y. slice_set words (number (sizes_of n) (Refs f)) (left_by (Cas w (w + 1)) y)) is ∙ ap (λ y. slice_set words (number (sizes_of n) (Refs f)) y) (when_same w (w + 1) w)
+              ∙ ap (λ y. slice_set words (number (sizes_of n) (Refs f)) (left_by (Cas w (w + 1)) y)) is ∙ ap (λ y. slice_set words (number (sizes_of n) (Refs f)) y) (when_same w (w + 1) w);
         };
         hand = subst (λ h. HandIs (new_ref f w ∷ []) h) (sym here) both.0;
         run = ap (λ h. h.run) here ∙ both.1;
@@ -182,7 +182,7 @@ module _ (n : Machine) (v : ℕ) (a : State) (real : v < length n.vcpu_domain) (
         legal = (map_is_legal n v f w g (seat_of b.seats v) frame s.run small s.hand, s.legal);
         standing = record {
           seats = rw length-set s.standing.seats;
-          words_are = act_words n v b (M2p f) (Store g) steps.M2p None there ∙ ap (λ (ws : List ℕ). slice_set ws (number (sizes_of n) (M2p f)) g) s.standing.words_are
+          words_are = act_words n v b (M2p f) (Store g) steps.M2p None there ∙ ap (λ (ws : List ℕ). slice_set ws (number (sizes_of n) (M2p f)) g) s.standing.words_are;
         };
         hand = subst (λ h. HandIs (new_ref f w ∷ []) h) (sym here) both.0;
         run = ap (λ h. h.run) here ∙ both.1;
@@ -211,7 +211,7 @@ module _ (n : Machine) (v : ℕ) (a : State) (real : v < length n.vcpu_domain) (
         standing = record {
           seats = rw length-set s.standing.seats;
           words_are = act_words n v b (Refs f) (Add one_down) steps.Ref None there ∙ ap (λ (ws : List ℕ). slice_set ws (number (sizes_of n) (Refs f)) ((memory (sizes_of n) ws (Refs f) + one_down) % 2 ^ 64)) s.standing.words_are
-              ∙ ap (λ y. slice_set words (number (sizes_of n) (Refs f)) ((y + one_down) % 2 ^ 64)) is
+              ∙ ap (λ y. slice_set words (number (sizes_of n) (Refs f)) ((y + one_down) % 2 ^ 64)) is;
         };
         hand = subst (λ h. HandIs [] h) (sym here) hand;
       }

@@ -2,8 +2,11 @@ use crate::{Status, run};
 use std::process::Abort;
 use xp_io::{HonestSink, HonestSource, MemorySink, MemorySource};
 
-const FIRST_UPDATE: &str = "xen-pv-trace 1\nframes 1\ndomain 1\nvcpu 0\nown 0 0 1\nop 0 mmu 0x7ff0 0x1 7\nturn 0 2\nend\n";
-const FIRST_REPORT: &str = "vcpu 0 domain 0 base - user - old - -\nop 1 ok done 1 value 0x0\ndomain 0 live pages 1\nframe 0 owner 0 refs 1 alloc type none count 0 flags - at 0 m2p 0x7\nfree 0\nend\n";
+const FIRST_UPDATE: &str =
+    "xen-pv-trace 1\nframes 1\ndomain 1\nvcpu 0\nown 0 0 1\nop 0 mmu 0x7ff0 0x1 7\nturn 0 2\nend\n";
+
+const FIRST_REPORT: &str =
+    "vcpu 0 domain 0 base - user - old - -\nop 1 ok done 1 value 0x0\ndomain 0 live pages 1\nframe 0 owner 0 refs 1 alloc type none count 0 flags - at 0 m2p 0x7\nfree 0\nend\n";
 
 fn word(rt: &(impl Abort + AllocGlobal), text: &str) -> String {
     let mut word = String::new(rt.alloc());
@@ -17,7 +20,9 @@ fn turns(rt: &(impl Abort + AllocGlobal)) -> Vec<String> {
 
 fn bytes(rt: &(impl Abort + AllocGlobal), text: &str) -> Vec<u8> {
     let mut bytes = Vec::new(rt.alloc());
-    bytes.extend_from_slice(text.as_bytes()).expect(rt, "memory");
+    bytes
+        .extend_from_slice(text.as_bytes())
+        .expect(rt, "memory");
     bytes
 }
 
@@ -25,7 +30,9 @@ fn bytes(rt: &(impl Abort + AllocGlobal), text: &str) -> Vec<u8> {
 fn runs_to(rt: &(impl Abort + AllocGlobal), trace: &str, most: usize, status: Status, text: &str) {
     let most = most.max(1);
     let mut source = MemorySource::in_pieces(bytes(rt, trace), most, Vec::new(rt.alloc()));
-    let mut sink = MemorySink::new(rt.alloc(), 4096, most, Vec::new(rt.alloc())).expect(rt, "memory");
+    let mut sink = MemorySink::new(rt.alloc(), 4096, most, Vec::new(rt.alloc())).expect(
+        rt, "memory",
+    );
     let answer = run(rt.alloc(), &turns(rt), &mut source, &mut sink);
     assert!(rt; answer == status);
     assert!(rt; sink.bytes() == text.as_bytes());
@@ -41,15 +48,29 @@ fn the_first_update_is_reported_whatever_the_pieces(rt: HostRuntime) {
 #[test]
 fn a_bad_trace_and_a_large_one_are_named_with_their_line(rt: HostRuntime) {
     runs_to(&rt, "", 7, Status::BadTrace, "bad trace line 1: end\n");
-    runs_to(&rt, "xen-pv-trace 1\nframes 0\n", 7, Status::BadTrace, "bad trace line 2: range\n");
-    runs_to(&rt, "xen-pv-trace 1\nframes 4097\n", 7, Status::TooLarge, "too large line 2: frames 4097\n");
+    runs_to(
+        &rt,
+        "xen-pv-trace 1\nframes 0\n",
+        7,
+        Status::BadTrace,
+        "bad trace line 2: range\n",
+    );
+    runs_to(
+        &rt,
+        "xen-pv-trace 1\nframes 4097\n",
+        7,
+        Status::TooLarge,
+        "too large line 2: frames 4097\n",
+    );
 }
 
 #[test]
 fn a_failing_read_writes_nothing(rt: HostRuntime) {
     let fails = vec![in rt.alloc(); 1u64].expect(&rt, "memory");
     let mut source = MemorySource::new(bytes(&rt, FIRST_UPDATE), fails);
-    let mut sink = MemorySink::new(rt.alloc(), 4096, 4096, Vec::new(rt.alloc())).expect(&rt, "memory");
+    let mut sink = MemorySink::new(rt.alloc(), 4096, 4096, Vec::new(rt.alloc())).expect(
+        &rt, "memory",
+    );
     let answer = run(rt.alloc(), &turns(&rt), &mut source, &mut sink);
     assert!(rt; answer == Status::ReadFault);
     assert!(rt; sink.bytes().is_empty());
@@ -75,7 +96,9 @@ fn a_failing_write_leaves_a_front_of_the_report(rt: HostRuntime) {
 fn other_words_are_refused_before_anything_is_read(rt: HostRuntime) {
     let words = vec![in rt.alloc(); word(&rt, "dance")].expect(&rt, "memory");
     let mut source = MemorySource::new(bytes(&rt, FIRST_UPDATE), Vec::new(rt.alloc()));
-    let mut sink = MemorySink::new(rt.alloc(), 4096, 4096, Vec::new(rt.alloc())).expect(&rt, "memory");
+    let mut sink = MemorySink::new(rt.alloc(), 4096, 4096, Vec::new(rt.alloc())).expect(
+        &rt, "memory",
+    );
     assert!(rt; run(rt.alloc(), &words, &mut source, &mut sink) == Status::BadWords);
     assert!(rt; run(rt.alloc(), &[], &mut source, &mut sink) == Status::BadWords);
     assert!(rt; sink.bytes().is_empty());

@@ -10,7 +10,9 @@ use xp_words::{RefWord, Refusal};
 
 // The clock's place, and two words of a vCPU.
 const CLOCK: u32 = 0;
+
 const ASKED: u32 = 4;
+
 const RUN: u32 = 6;
 
 // Minus one, for an addition that wraps.

@@ -29,4 +29,4 @@ closing-requires-clause-short c =
 pub run_all-board-requires-clause-all : goal.run_all-board-requires-clause-all
 run_all-board-requires-clause-all c =
     ap length (c.in_ok-cpus.ensures ∙ ap (λ (ds : List ℕ). first_cpus ds c.args.trace.scripts) c.domains_of.ensures) ∙ length_first _ c.args.trace.scripts c.requires.scripts
-        ∙ sym (ap (λ b. length b.machine.vcpu_domain) c.make-board.ensures)
+    ∙ sym (ap (λ b. length b.machine.vcpu_domain) c.make-board.ensures)
