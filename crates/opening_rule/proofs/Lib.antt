@@ -1,0 +1,9 @@
+mod Words
+mod Owners
+mod Readings
+mod Counts
+mod Hands
+mod Entries
+mod Map
+mod Bounds
+mod Spelled
