@@ -23,9 +23,11 @@ use Rattle.trace_lines.specs.Words.{words_of, word_at, number_at, end_at, ok_or_
 abbrev pub numbers_of : List (List ℕ) → Result (List ℕ) LineFault
 numbers_of ws = each (λ w. ok_or_line (number_of w)) ws
 
+-- the pair that two numbers make
 abbrev pub pair_from : List ℕ → Pair
 pair_from ns = record { ptr = slice_index ns 0; val = slice_index ns 1 }
 
+-- the element that three numbers make
 abbrev pub triple_from : List ℕ → ExtOp
 triple_from ns = record { command = slice_index ns 0; first = slice_index ns 1; second = slice_index ns 2 }
 
@@ -48,6 +50,7 @@ triples_of (a ∷ b ∷ c ∷ ns) = do
 
 -- ---- the calls that may stand in a multi, each up to its last word
 
+-- mmu FOREIGN and pairs PTR VAL
 unfoldable pub mmu_of : List (List ℕ) → Result Call LineFault
 mmu_of ws = do
   foreign ← number_at ws
@@ -55,12 +58,14 @@ mmu_of ws = do
   pairs ← pairs_of numbers
   Ok (calls.Mmu foreign.0 pairs)
 
+-- ext and triples COMMAND FIRST SECOND
 unfoldable pub ext_of : List (List ℕ) → Result Call LineFault
 ext_of ws = do
   numbers ← numbers_of ws
   list ← triples_of numbers
   Ok (calls.Ext list)
 
+-- va VA VAL FLAGS
 unfoldable pub va_of : List (List ℕ) → Result Call LineFault
 va_of ws = do
   va ← number_at ws
@@ -69,6 +74,7 @@ va_of ws = do
   e ← end_at flags.1
   Ok (calls.Va va.0 val.0 flags.0)
 
+-- vaother VA VAL FLAGS DOMAIN
 unfoldable pub va_other_of : List (List ℕ) → Result Call LineFault
 va_other_of ws = do
   va ← number_at ws
@@ -78,12 +84,14 @@ va_other_of ws = do
   e ← end_at domain.1
   Ok (calls.VaOther va.0 val.0 flags.0 domain.0)
 
+-- gdt ENTRIES and frames
 unfoldable pub gdt_of : List (List ℕ) → Result Call LineFault
 gdt_of ws = do
   entries ← number_at ws
   frames ← numbers_of entries.1
   Ok (calls.Gdt entries.0 frames)
 
+-- desc ADDRESS WORD
 unfoldable pub desc_of : List (List ℕ) → Result Call LineFault
 desc_of ws = do
   address ← number_at ws
@@ -91,6 +99,7 @@ desc_of ws = do
   e ← end_at word.1
   Ok (calls.Desc address.0 word.0)
 
+-- mem COMMAND ORDER and items
 unfoldable pub mem_of : List (List ℕ) → Result Call LineFault
 mem_of ws = do
   command ← number_at ws
@@ -98,6 +107,7 @@ mem_of ws = do
   items ← numbers_of order.1
   Ok (calls.Mem command.0 order.0 items)
 
+-- the hypercall of a name
 unfoldable pub hypercall_of : List ℕ → Option Hypercall
 hypercall_of w = if bytes_eq w (codes "mmu") then Some hypercalls.Mmu
     else if bytes_eq w (codes "ext") then Some hypercalls.Ext
@@ -108,6 +118,7 @@ hypercall_of w = if bytes_eq w (codes "mmu") then Some hypercalls.Mmu
     else if bytes_eq w (codes "desc") then Some hypercalls.Desc
     else None
 
+-- a call of that hypercall, with all the words as its numbers
 unfoldable pub call_by : Hypercall → List (List ℕ) → Result Call LineFault
 call_by hypercalls.Mmu ws = mmu_of ws
 call_by hypercalls.Ext ws = ext_of ws
@@ -130,6 +141,7 @@ call_of ws = do
 abbrev pub calls_of : List (List ℕ) → Result (List Call) LineFault
 calls_of ws = each call_of (slice_split is_separator ws)
 
+-- multi and its calls
 unfoldable pub multi_of : List (List ℕ) → Result Op LineFault
 multi_of ws = do
   list ← calls_of ws
@@ -141,6 +153,7 @@ base_at ws = do
   word ← word_at ws
   if bytes_eq word.0 (codes "k") then Ok (false, word.1) else if bytes_eq word.0 (codes "u") then Ok (true, word.1) else Err bad_line
 
+-- read k VA or read u VA
 unfoldable pub read_of : List (List ℕ) → Result Op LineFault
 read_of ws = do
   user ← base_at ws
@@ -148,6 +161,7 @@ read_of ws = do
   e ← end_at va.1
   Ok (ops.Read user.0 va.0)
 
+-- write k VA VAL or write u VA VAL
 unfoldable pub write_of : List (List ℕ) → Result Op LineFault
 write_of ws = do
   user ← base_at ws
@@ -156,18 +170,21 @@ write_of ws = do
   e ← end_at val.1
   Ok (ops.Write user.0 va.0 val.0)
 
+-- ldt PAGE
 unfoldable pub touch_ldt_of : List (List ℕ) → Result Op LineFault
 touch_ldt_of ws = do
   page ← number_at ws
   e ← end_at page.1
   Ok (ops.TouchLdt page.0)
 
+-- destroy DOMAIN
 unfoldable pub destroy_of : List (List ℕ) → Result Op LineFault
 destroy_of ws = do
   domain ← number_at ws
   e ← end_at domain.1
   Ok (ops.Destroy domain.0)
 
+-- grant TO OVER
 unfoldable pub grant_of : List (List ℕ) → Result Op LineFault
 grant_of ws = do
   domain ← number_at ws
@@ -175,6 +192,7 @@ grant_of ws = do
   e ← end_at over.1
   Ok (ops.Grant domain.0 over.0)
 
+-- revoke TO OVER
 unfoldable pub revoke_of : List (List ℕ) → Result Op LineFault
 revoke_of ws = do
   domain ← number_at ws
@@ -182,6 +200,7 @@ revoke_of ws = do
   e ← end_at over.1
   Ok (ops.Revoke domain.0 over.0)
 
+-- ptwr k VA VAL or ptwr u VA VAL
 unfoldable pub ptwr_of : List (List ℕ) → Result Op LineFault
 ptwr_of ws = do
   user ← base_at ws
@@ -190,6 +209,7 @@ ptwr_of ws = do
   e ← end_at val.1
   Ok (ops.Ptwr user.0 va.0 val.0)
 
+-- xchg FIRST IN OUT and items
 unfoldable pub xchg_of : List (List ℕ) → Result Op LineFault
 xchg_of ws = do
   first ← number_at ws
@@ -216,6 +236,7 @@ other_by version name ws = if bytes_eq name (codes "multi") then multi_of ws
     else if version == 2 then newer_by name ws
     else Err bad_line
 
+-- a call as an operation of its own
 abbrev pub one_by : Hypercall → List (List ℕ) → Result Op LineFault
 one_by hypercall ws = do
   call ← call_by hypercall ws
@@ -226,6 +247,7 @@ unfoldable pub operation_by : ℕ → Option Hypercall → List ℕ → List (Li
 operation_by version None name ws = other_by version name ws
 operation_by version (Some hypercall) name ws = one_by hypercall ws
 
+-- an operation, by its first word and all the others
 unfoldable pub operation_of : ℕ → List (List ℕ) → Result Op LineFault
 operation_of version ws = do
   name ← word_at ws
@@ -233,36 +255,42 @@ operation_of version ws = do
 
 -- ---- lines
 
+-- xen-pv-trace 1 or xen-pv-trace 2
 unfoldable pub header_of : List (List ℕ) → Result Line LineFault
 header_of ws = do
   version ← word_at ws
   e ← end_at version.1
   if bytes_eq version.0 (codes "1") then Ok (lines.Header 1) else if bytes_eq version.0 (codes "2") then Ok (lines.Header 2) else Err bad_line
 
+-- frames F
 unfoldable pub frames_of : List (List ℕ) → Result Line LineFault
 frames_of ws = do
   count ← number_at ws
   e ← end_at count.1
   Ok (lines.Frames count.0)
 
+-- limit N
 unfoldable pub limit_of : List (List ℕ) → Result Line LineFault
 limit_of ws = do
   count ← number_at ws
   e ← end_at count.1
   Ok (lines.Limit count.0)
 
+-- clock N
 unfoldable pub clock_of : List (List ℕ) → Result Line LineFault
 clock_of ws = do
   start ← number_at ws
   e ← end_at start.1
   Ok (lines.Clock start.0)
 
+-- domain LIMIT
 unfoldable pub domain_of : List (List ℕ) → Result Line LineFault
 domain_of ws = do
   limit ← number_at ws
   e ← end_at limit.1
   Ok (lines.Domain limit.0)
 
+-- priv A B
 unfoldable pub priv_of : List (List ℕ) → Result Line LineFault
 priv_of ws = do
   domain ← number_at ws
@@ -270,12 +298,14 @@ priv_of ws = do
   e ← end_at over.1
   Ok (lines.Priv domain.0 over.0)
 
+-- vcpu D
 unfoldable pub vcpu_of : List (List ℕ) → Result Line LineFault
 vcpu_of ws = do
   domain ← number_at ws
   e ← end_at domain.1
   Ok (lines.Vcpu domain.0)
 
+-- own D FIRST COUNT
 unfoldable pub own_of : List (List ℕ) → Result Line LineFault
 own_of ws = do
   domain ← number_at ws
@@ -284,6 +314,7 @@ own_of ws = do
   e ← end_at count.1
   Ok (lines.Own domain.0 first.0 count.0)
 
+-- cell F FIRST COUNT VALUE
 unfoldable pub cell_of : List (List ℕ) → Result Line LineFault
 cell_of ws = do
   frame ← number_at ws
@@ -293,12 +324,14 @@ cell_of ws = do
   e ← end_at value.1
   Ok (lines.Cell frame.0 first.0 count.0 value.0)
 
+-- op V OPERATION
 unfoldable pub op_of : ℕ → List (List ℕ) → Result Line LineFault
 op_of version ws = do
   vcpu ← number_at ws
   op ← operation_of version vcpu.1
   Ok (lines.Op vcpu.0 op)
 
+-- turn V COUNT
 unfoldable pub turn_of : List (List ℕ) → Result Line LineFault
 turn_of ws = do
   vcpu ← number_at ws
@@ -306,6 +339,7 @@ turn_of ws = do
   e ← end_at count.1
   Ok (lines.Turn vcpu.0 count.0)
 
+-- end
 unfoldable pub last_of : List (List ℕ) → Result Line LineFault
 last_of ws = do
   e ← end_at ws

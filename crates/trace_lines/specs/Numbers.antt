@@ -18,6 +18,7 @@ is_proper [] = false
 is_proper (c ∷ []) = true
 is_proper (c ∷ d ∷ cs) = not (c == 48)
 
+-- the number that a word of digits spells in a base
 unfoldable pub numeral : ℕ → List ℕ → Option ℕ
 numeral base ds = if is_proper ds then numeral_after base 0 ds else None
 

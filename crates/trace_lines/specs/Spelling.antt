@@ -18,15 +18,19 @@ spaced ws = flat_map (λ w. 32 ∷ w) ws
 abbrev pub text_of : List (List ℕ) → List ℕ
 text_of ws = join_by (λ w. w) (32 ∷ []) ws
 
+-- a list of numbers
 abbrev pub number_words : List ℕ → List (List ℕ)
 number_words ns = map decimal ns
 
+-- a list of pairs
 abbrev pub pair_words : List Pair → List (List ℕ)
 pair_words ps = flat_map (λ p. decimal p.ptr ∷ decimal p.val ∷ []) ps
 
+-- a list of triples
 abbrev pub triple_words : List ExtOp → List (List ℕ)
 triple_words list = flat_map (λ x. decimal x.command ∷ decimal x.first ∷ decimal x.second ∷ []) list
 
+-- a call: its name and its numbers
 abbrev pub call_words : Call → List (List ℕ)
 call_words (calls.Mmu foreign pairs) = codes "mmu" ∷ decimal foreign ∷ pair_words pairs
 call_words (calls.Ext list) = codes "ext" ∷ triple_words list
@@ -40,9 +44,11 @@ call_words (calls.Mem command order items) = codes "mem" ∷ decimal command ∷
 abbrev pub calls_words : List Call → List (List ℕ)
 calls_words list = join_by call_words (codes ";" ∷ []) list
 
+-- the word for one of the two bases
 abbrev pub base_word : Bool → List ℕ
 base_word user = if user then codes "u" else codes "k"
 
+-- an operation: its name, and its numbers or calls
 abbrev pub op_words : Op → List (List ℕ)
 op_words (ops.One call) = call_words call
 op_words (ops.Multi list) = codes "multi" ∷ calls_words list
@@ -55,6 +61,7 @@ op_words (ops.Revoke to over) = codes "revoke" ∷ decimal to ∷ decimal over �
 op_words (ops.Ptwr user va val) = codes "ptwr" ∷ base_word user ∷ decimal va ∷ decimal val ∷ []
 op_words (ops.Xchg first before after items) = codes "xchg" ∷ decimal first ∷ decimal before ∷ decimal after ∷ number_words items
 
+-- a line: its keyword and what stands behind it
 abbrev pub line_words : Line → List (List ℕ)
 line_words (lines.Header version) = codes "xen-pv-trace" ∷ decimal version ∷ []
 line_words (lines.Frames count) = codes "frames" ∷ decimal count ∷ []
@@ -75,15 +82,19 @@ line_text l = text_of (line_words l)
 
 -- ---- the lines that their text says: every number is a word of the machine
 
+-- both numbers of a pair are words
 abbrev pub IsSpellablePair : Pair → Type 0
 IsSpellablePair p = (p.ptr < 2 ^ 64) × (p.val < 2 ^ 64)
 
+-- all three numbers of an element are words
 abbrev pub IsSpellableExt : ExtOp → Type 0
 IsSpellableExt x = (x.command < 2 ^ 64) × (x.first < 2 ^ 64) × (x.second < 2 ^ 64)
 
+-- each number of a list is a word
 abbrev pub AreWords : List ℕ → Type 0
 AreWords ns = All (λ n. n < 2 ^ 64) ns
 
+-- each number of a call is a word
 abbrev pub IsSpellableCall : Call → Type 0
 IsSpellableCall (calls.Mmu foreign pairs) = (foreign < 2 ^ 64) × All IsSpellablePair pairs
 IsSpellableCall (calls.Ext list) = All IsSpellableExt list
@@ -106,6 +117,7 @@ IsSpellableOp version (ops.Revoke to over) = (version ≡ 2) × (to < 2 ^ 64) ×
 IsSpellableOp version (ops.Ptwr user va val) = (version ≡ 2) × (va < 2 ^ 64) × (val < 2 ^ 64)
 IsSpellableOp version (ops.Xchg first before after items) = (version ≡ 2) × (first < 2 ^ 64) × (before < 2 ^ 64) × (after < 2 ^ 64) × AreWords items
 
+-- a line of a trace of that version
 abbrev pub IsSpellable : ℕ → Line → Type 0
 IsSpellable version (lines.Header own) = (own ≡ 1) ⊎ (own ≡ 2)
 IsSpellable version (lines.Frames count) = count < 2 ^ 64

@@ -20,3 +20,6 @@ pub use put::{
     put_priv, put_turn, put_vcpu,
 };
 pub use words::split_off;
+
+#[cfg(test)]
+mod tests;

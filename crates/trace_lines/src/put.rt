@@ -6,6 +6,7 @@ ghost use Rattle.trace_lines.specs.declared.line.Line.TheVariants as lines;
 use std::alloc::AllocError;
 use xp_words::{Call, ExtOp, Op, Pair};
 
+/// The first line, of a trace of that version.
 #[tactic(auto, unfolding(crate::specs::Spelling::line_text))]
 pub fn put_header(out: &mut String, version: u8) -> Result<(), AllocError>
     ensures { OnOk result (string_bytes out.new ≡ string_bytes out.old ++ (line_text (lines.Header version) ++ 10 ∷ [])) }
@@ -13,6 +14,7 @@ pub fn put_header(out: &mut String, version: u8) -> Result<(), AllocError>
     writeln!(out, "xen-pv-trace {version}")
 }
 
+/// The number of frames.
 #[tactic(auto, unfolding(crate::specs::Spelling::line_text))]
 pub fn put_frames(out: &mut String, count: u64) -> Result<(), AllocError>
     ensures { OnOk result (string_bytes out.new ≡ string_bytes out.old ++ (line_text (lines.Frames count) ++ 10 ∷ [])) }
@@ -20,6 +22,7 @@ pub fn put_frames(out: &mut String, count: u64) -> Result<(), AllocError>
     writeln!(out, "frames {count}")
 }
 
+/// The greatest count of a frame.
 #[tactic(auto, unfolding(crate::specs::Spelling::line_text))]
 pub fn put_limit(out: &mut String, count: u64) -> Result<(), AllocError>
     ensures { OnOk result (string_bytes out.new ≡ string_bytes out.old ++ (line_text (lines.Limit count) ++ 10 ∷ [])) }
@@ -27,6 +30,7 @@ pub fn put_limit(out: &mut String, count: u64) -> Result<(), AllocError>
     writeln!(out, "limit {count}")
 }
 
+/// The clock at the opening.
 #[tactic(auto, unfolding(crate::specs::Spelling::line_text))]
 pub fn put_clock(out: &mut String, start: u64) -> Result<(), AllocError>
     ensures { OnOk result (string_bytes out.new ≡ string_bytes out.old ++ (line_text (lines.Clock start) ++ 10 ∷ [])) }
@@ -34,6 +38,7 @@ pub fn put_clock(out: &mut String, start: u64) -> Result<(), AllocError>
     writeln!(out, "clock {start}")
 }
 
+/// One more domain, with its page limit.
 #[tactic(auto, unfolding(crate::specs::Spelling::line_text))]
 pub fn put_domain(out: &mut String, limit: u64) -> Result<(), AllocError>
     ensures { OnOk result (string_bytes out.new ≡ string_bytes out.old ++ (line_text (lines.Domain limit) ++ 10 ∷ [])) }
@@ -41,6 +46,7 @@ pub fn put_domain(out: &mut String, limit: u64) -> Result<(), AllocError>
     writeln!(out, "domain {limit}")
 }
 
+/// Domain `domain` has foreign privilege over domain `over`.
 #[tactic(auto, unfolding(crate::specs::Spelling::line_text))]
 pub fn put_priv(out: &mut String, domain: u64, over: u64) -> Result<(), AllocError>
     ensures { OnOk result (string_bytes out.new ≡ string_bytes out.old ++ (line_text (lines.Priv domain over) ++ 10 ∷ [])) }
@@ -48,6 +54,7 @@ pub fn put_priv(out: &mut String, domain: u64, over: u64) -> Result<(), AllocErr
     writeln!(out, "priv {domain} {over}")
 }
 
+/// One more vCPU, of that domain.
 #[tactic(auto, unfolding(crate::specs::Spelling::line_text))]
 pub fn put_vcpu(out: &mut String, domain: u64) -> Result<(), AllocError>
     ensures { OnOk result (string_bytes out.new ≡ string_bytes out.old ++ (line_text (lines.Vcpu domain) ++ 10 ∷ [])) }
@@ -55,6 +62,7 @@ pub fn put_vcpu(out: &mut String, domain: u64) -> Result<(), AllocError>
     writeln!(out, "vcpu {domain}")
 }
 
+/// Frames that a domain owns at the opening.
 #[tactic(auto, unfolding(crate::specs::Spelling::line_text))]
 pub fn put_own(out: &mut String, domain: u64, first: u64, count: u64) -> Result<(), AllocError>
     ensures { OnOk result (string_bytes out.new ≡ string_bytes out.old ++ (line_text (lines.Own domain first count) ++ 10 ∷ [])) }
@@ -62,6 +70,7 @@ pub fn put_own(out: &mut String, domain: u64, first: u64, count: u64) -> Result<
     writeln!(out, "own {domain} {first} {count}")
 }
 
+/// Cells of a frame, and what they hold at the opening.
 #[tactic(auto, unfolding(crate::specs::Spelling::line_text))]
 pub fn put_cell(
     out: &mut String,
@@ -75,6 +84,7 @@ pub fn put_cell(
     writeln!(out, "cell {frame} {first} {count} {value}")
 }
 
+/// Turns of one vCPU in a row.
 #[tactic(auto, unfolding(crate::specs::Spelling::line_text))]
 pub fn put_turn(out: &mut String, vcpu: u64, count: u64) -> Result<(), AllocError>
     ensures { OnOk result (string_bytes out.new ≡ string_bytes out.old ++ (line_text (lines.Turn vcpu count) ++ 10 ∷ [])) }
@@ -82,6 +92,7 @@ pub fn put_turn(out: &mut String, vcpu: u64, count: u64) -> Result<(), AllocErro
     writeln!(out, "turn {vcpu} {count}")
 }
 
+/// The last line.
 #[tactic(auto, unfolding(crate::specs::Spelling::line_text))]
 pub fn put_end(out: &mut String) -> Result<(), AllocError>
     ensures { OnOk result (string_bytes out.new ≡ string_bytes out.old ++ (line_text lines.End ++ 10 ∷ [])) }
@@ -243,6 +254,7 @@ fn base(user: bool) -> &'static str
     if user { "u" } else { "k" }
 }
 
+/// One more operation of that vCPU.
 #[tactic(auto, unfolding(crate::specs::Spelling::line_text))]
 pub fn put_op(out: &mut String, vcpu: u64, op: &Op) -> Result<(), AllocError>
     ensures { OnOk result (string_bytes out.new ≡ string_bytes out.old ++ (line_text (lines.Op vcpu op.now) ++ 10 ∷ [])) }

@@ -11,22 +11,22 @@ opened : (ds : List ℕ) (i : ℕ) → i < length ds → drop i ds ≡ get_or ds
 opened ds i lt = rw (add-one, drop-cons ds i 0) refl
 
 pub returns-in_err-value : goal.returns-in_err-value
-returns-in_err-value c =
+returns-in_err-value g c =
     let ds = c.args.ds.now in
     let i = c.loop-c.c-index in
-    let stopped = stops c.args.base c.loop-c.value (get_or ds i 0) (drop (i + 1) ds) c.requires.low (sym c.with_digit.ensures ∙ c.in_err-value.was) in
-    c.from_residual.ensures ∙ sym stopped ∙ ap (λ s. numeral_after c.args.base c.loop-c.value s) (sym (opened ds i c.loop-c-test.true)) ∙ c.loop-c.invariant.same
+    let stopped = stops g.row.BASE c.loop-c.value (get_or ds i 0) (drop (i + 1) ds) c.requires.low (sym c.with_digit.ensures ∙ c.in_err-value.was) in
+    c.from_residual.ensures ∙ sym stopped ∙ ap (λ s. numeral_after g.row.BASE c.loop-c.value s) (sym (opened ds i c.loop-c-test.true)) ∙ c.loop-c.invariant.same
 
 pub loop-c-preserved : goal.loop-c-preserved
-loop-c-preserved c =
+loop-c-preserved g c =
     let ds = c.args.ds.now in
     let i = c.loop-c.c-index in
     record {
-      same = goes_on c.args.base c.loop-c.value (get_or ds i 0) _ (drop (i + 1) ds) (sym c.in_ok-value.ensures) ∙ ap (λ s. numeral_after c.args.base c.loop-c.value s) (sym (opened ds i c.loop-c-test.true)) ∙ c.loop-c.invariant.same;
+      same = goes_on g.row.BASE c.loop-c.value (get_or ds i 0) _ (drop (i + 1) ds) (sym c.in_ok-value.ensures) ∙ ap (λ s. numeral_after g.row.BASE c.loop-c.value s) (sym (opened ds i c.loop-c-test.true)) ∙ c.loop-c.invariant.same;
       small = search rules;
     }
 
 pub returns : goal.returns
-returns c =
+returns g c =
     let nil : drop c.loop-c.c-index c.args.ds.now ≡ [] = drop_of_length-le c.args.ds.now c.loop-c-test.false in
-    sym (kept c.args.base c.loop-c.value c.loop-c.invariant.small) ∙ ap (λ s. numeral_after c.args.base c.loop-c.value s) (sym nil) ∙ c.loop-c.invariant.same
+    sym (kept g.row.BASE c.loop-c.value c.loop-c.invariant.small) ∙ ap (λ s. numeral_after g.row.BASE c.loop-c.value s) (sym nil) ∙ c.loop-c.invariant.same
