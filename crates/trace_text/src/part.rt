@@ -234,7 +234,6 @@ impl Part {
         requires inside { first + count ≤ self.now.frames }
         ensures { result ≡ list_all (is_apart (record { domain = 0; first = first; count = count })) self.now.owned }
     {
-        let _frames = self.frames;
         is_free(&self.taken, first as usize, count as usize)
     }
 
