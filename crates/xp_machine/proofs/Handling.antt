@@ -68,19 +68,14 @@ pub record HandIs (rs : List Reference) (h : Holdings) : Type 0 where
   pub raised : h.raised ≡ []
   pub credits : h.credits ≡ []
   pub looking : h.looking ≡ []
+  pub cache : h.cache ≡ []
+  pub walk : h.walk ≡ None
 
-pub from_empty : (h : Holdings) → IsEmptyHand h → HandIs [] h
-from_empty h e =
+pub from_empty : (h : Holdings) → IsEmptyHand h → h.cache ≡ [] → h.walk ≡ None → HandIs [] h
+from_empty h e cache walk =
     record {
-      refs = e.refs;
-      typed = e.typed;
-      works = e.works;
-      locks = e.locks;
-      ending = e.ending;
-      claimed = e.claimed;
-      raised = e.raised;
-      credits = e.credits;
-      looking = e.looking;
+      refs = e.refs; typed = e.typed; works = e.works; locks = e.locks; ending = e.ending; claimed = e.claimed; raised = e.raised;
+      credits = e.credits; looking = e.looking; cache = cache; walk = walk
     }
 
 pub to_empty : (h : Holdings) → HandIs [] h → IsEmptyHand h
@@ -102,18 +97,11 @@ abbrev SameHand : Holdings → Holdings → Type 0
 SameHand a b = (rs : List Reference) → HandIs rs a → HandIs rs b
 
 with_refs : (rs ss : List Reference) (a b : Holdings) → HandIs rs a → b.refs ≡ ss → b.typed ≡ a.typed → b.works ≡ a.works → b.locks ≡ a.locks →
-    b.ending ≡ a.ending → b.claimed ≡ a.claimed → b.raised ≡ a.raised → b.credits ≡ a.credits → b.looking ≡ a.looking → HandIs ss b
-with_refs rs ss a b e r t w l n c u d k =
+    b.ending ≡ a.ending → b.claimed ≡ a.claimed → b.raised ≡ a.raised → b.credits ≡ a.credits → b.looking ≡ a.looking → b.cache ≡ a.cache → b.walk ≡ a.walk → HandIs ss b
+with_refs rs ss a b e r t w l n c u d k h g =
     record {
-      refs = r;
-      typed = t ∙ e.typed;
-      works = w ∙ e.works;
-      locks = l ∙ e.locks;
-      ending = n ∙ e.ending;
-      claimed = c ∙ e.claimed;
-      raised = u ∙ e.raised;
-      credits = d ∙ e.credits;
-      looking = k ∙ e.looking;
+      refs = r; typed = t ∙ e.typed; works = w ∙ e.works; locks = l ∙ e.locks; ending = n ∙ e.ending; claimed = c ∙ e.claimed;
+      raised = u ∙ e.raised; credits = d ∙ e.credits; looking = k ∙ e.looking; cache = h ∙ e.cache; walk = g ∙ e.walk
     }
 
 -- ---- looks
@@ -139,7 +127,7 @@ same_number v = grind (arith, nat_tests)
 pub asked_hand : (n : Machine) (v : ℕ) (h : Holdings) (w : ℕ) (rs : List Reference) → IsTrue (is_place (sizes_of n) (Vcpu v 4)) → HandIs rs h →
     HandIs rs (after n v h (look_at n (Vcpu v 4) (Some marks.Turn)) w)
 asked_hand n v h w rs real e =
-    rw (after_at n v h (Vcpu v 4) Load steps.Look (Some marks.Turn) w real, same_number v) (with_refs rs rs h _ e e.refs refl refl refl refl refl refl refl refl)
+    rw (after_at n v h (Vcpu v 4) Load steps.Look (Some marks.Turn) w real, same_number v) (with_refs rs rs h _ e e.refs refl refl refl refl refl refl refl refl refl refl)
 
 -- a look at the own run word
 pub run_hand : (n : Machine) (v : ℕ) (h : Holdings) (w : ℕ) (rs : List Reference) → IsTrue (is_place (sizes_of n) (Vcpu v 6)) → w ≡ 0 → HandIs rs h →
@@ -147,20 +135,20 @@ pub run_hand : (n : Machine) (v : ℕ) (h : Holdings) (w : ℕ) (rs : List Refer
 unfolding left_by
 run_hand n v h w rs real zero e =
     let at = after_at n v h (Vcpu v 6) Load steps.Look None w real ∙ ap (λ x. noted (look_at n (Vcpu v 6) None) w x) (when_same v (record h { run = Some w }) h) in
-    (subst (λ x. HandIs rs x) (sym at) (with_refs rs rs h _ e e.refs refl refl refl refl refl refl refl refl), ap (λ x. x.run) at ∙ ap Some zero)
+    (subst (λ x. HandIs rs x) (sym at) (with_refs rs rs h _ e e.refs refl refl refl refl refl refl refl refl refl refl), ap (λ x. x.run) at ∙ ap Some zero)
 
 -- a look at a reference word
 pub refs_hand : (n : Machine) (v : ℕ) (h : Holdings) (f w : ℕ) (rs : List Reference) → IsTrue (is_place (sizes_of n) (Refs f)) → HandIs rs h → h.run ≡ Some 0 →
     HandIs rs (after n v h (look_at n (Refs f) None) w) × ((after n v h (look_at n (Refs f) None) w).run ≡ Some 0)
 refs_hand n v h f w rs real e run =
     let at = after_at n v h (Refs f) Load steps.Look None w real in
-    (subst (λ x. HandIs rs x) (sym at) (with_refs rs rs h _ e e.refs refl refl refl refl refl refl refl refl), ap (λ x. x.run) at ∙ run)
+    (subst (λ x. HandIs rs x) (sym at) (with_refs rs rs h _ e e.refs refl refl refl refl refl refl refl refl refl refl), ap (λ x. x.run) at ∙ run)
 
 -- a look at the clock ends the answer
 pub clock_hand : (n : Machine) (v : ℕ) (h : Holdings) (w : ℕ) (rs : List Reference) → IsTrue (is_place (sizes_of n) Clock) → HandIs rs h →
     HandIs rs (after n v h (look_at n Clock (Some (marks.Cut 0))) w)
 clock_hand n v h w rs real e =
-    rw (after_at n v h Clock Load steps.Look (Some (marks.Cut 0)) w real) (with_refs rs rs h _ e e.refs refl refl refl refl refl refl refl refl)
+    rw (after_at n v h Clock Load steps.Look (Some (marks.Cut 0)) w real) (with_refs rs rs h _ e e.refs refl refl refl refl refl refl refl refl refl refl)
 
 -- ---- the words of a frame whose count goes up
 -- an owned word, and the same with one reference more
@@ -239,7 +227,7 @@ pub raise_hand : (n : Machine) (v f w owner count : ℕ) (allocated : Bool) (h :
 unfolding new_ref
 raise_hand n v f w owner count allocated h o below real e run =
     let at = took n v f w owner count allocated h o below real in (
-      subst (λ x. HandIs (new_ref f w ∷ []) x) (sym at) (with_refs [] (new_ref f w ∷ []) h _ e (ap (λ (rs : List Reference). new_ref f w ∷ rs) e.refs) refl refl refl refl refl refl refl refl),
+      subst (λ x. HandIs (new_ref f w ∷ []) x) (sym at) (with_refs [] (new_ref f w ∷ []) h _ e (ap (λ (rs : List Reference). new_ref f w ∷ rs) e.refs) refl refl refl refl refl refl refl refl refl refl),
       ap (λ x. x.run) at ∙ run,
     )
 
@@ -258,7 +246,7 @@ pub map_hand : (n : Machine) (v f g w : ℕ) (h : Holdings) (rs : List Reference
     HandIs rs (after n v h (map_at n f g) w) × ((after n v h (map_at n f g) w).run ≡ Some 0)
 map_hand n v f g w h rs real e run =
     let at = after_at n v h (M2p f) (Store g) steps.M2p None w real in
-    (subst (λ x. HandIs rs x) (sym at) (with_refs rs rs h _ e e.refs refl refl refl refl refl refl refl refl), ap (λ x. x.run) at ∙ run)
+    (subst (λ x. HandIs rs x) (sym at) (with_refs rs rs h _ e e.refs refl refl refl refl refl refl refl refl refl refl), ap (λ x. x.run) at ∙ run)
 
 -- ---- the reference is given back
 no_work : (f : ℕ) (h : Holdings) → h.works ≡ [] → is_closing_on (work_on f h.works) ≡ false
@@ -289,4 +277,4 @@ pub lower_hand : (n : Machine) (v f w u : ℕ) (h : Holdings) → IsTrue (is_pla
 lower_hand n v f w u h real many e =
     let at = after_at n v h (Refs f) (Add one_down) steps.Ref None u real in
     subst (λ x. HandIs [] x) (sym at)
-    (with_refs (new_ref f w ∷ []) [] h _ e (ap (λ (rs : List Reference). without_by (λ (r : Reference). r.frame) f rs) e.refs ∙ none_left f w) refl refl refl (not_last (ref_count u) _ h.ending many) refl refl refl refl)
+    (with_refs (new_ref f w ∷ []) [] h _ e (ap (λ (rs : List Reference). without_by (λ (r : Reference). r.frame) f rs) e.refs ∙ none_left f w) refl refl refl (not_last (ref_count u) _ h.ending many) refl refl refl refl refl refl)

@@ -33,6 +33,8 @@ pub record May (n : Machine) (v domain : ℕ) (a : State) : Type 0 where
   pub seats : v < length a.seats
   pub whole : length a.words ≡ size (sizes_of n)
   pub empty : IsEmptyHand (seat_of a.seats v)
+  pub cache : (seat_of a.seats v).cache ≡ []
+  pub walk : (seat_of a.seats v).walk ≡ None
   pub running : memory (sizes_of n) a.words (Vcpu v 6) ≡ 0
   pub known : domain < length n.page_limit
 
@@ -76,7 +78,7 @@ module _ (n : Machine) (v domain : ℕ) (op : Op) (reply : Reply) (a : State) (m
       }
 
   start : Stands n v a (begun n v) a.words []
-  start = begins n v a may.real may.seats may.empty may.running
+  start = begins n v a may.real may.seats may.empty may.cache may.walk may.running
 
   -- nothing is done, and nothing more is looked at
   lift_begun : FitsSteps n domain (m2p_update op) (made_by n v a (ended n (begun n v))) reply → Lifted n v domain op reply a a.words

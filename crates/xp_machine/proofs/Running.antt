@@ -12,6 +12,7 @@ use Rattle.xp_words.specs.declared.ops.Op.{Op}
 use Rattle.xp_words.specs.declared.reply.Reply.{Reply}
 use Rattle.xp_board.specs.declared.step.Step.{Step}
 use Rattle.xp_board.specs.declared.holdings.Made.{Made}
+use Rattle.xp_board.specs.declared.holdings.Holdings.{Holdings}
 use Rattle.xp_board.specs.Hands.{empty, IsEmptyHand}
 use Rattle.xp_board.specs.Sound.{seat_of}
 use Rattle.xp_board.specs.Runs as runs
@@ -58,6 +59,8 @@ pub record Fit (n : Machine) (s : told_turns.State) (a : runs.State) : Type 0 wh
   pub whole : length a.words ≡ size (sizes_of n)
   pub seats : length a.seats ≡ length n.vcpu_domain
   pub empty : (v : ℕ) → v < length n.vcpu_domain → IsEmptyHand (seat_of a.seats v)
+  pub cache : (v : ℕ) → v < length n.vcpu_domain → (seat_of a.seats v).cache ≡ []
+  pub walk : (v : ℕ) → v < length n.vcpu_domain → (seat_of a.seats v).walk ≡ None
   pub running : (v : ℕ) → v < length n.vcpu_domain → memory (sizes_of n) a.words (Vcpu v 6) ≡ 0
   pub cpus : length s.cpus ≡ length n.vcpu_domain
   pub domains : All (λ d. d < length n.page_limit) (map domain_of s.cpus)
@@ -89,18 +92,21 @@ may_turn n v s a c fit here =
       seats = subst (λ k. v < k) (sym fit.seats) real;
       whole = fit.whole;
       empty = fit.empty v real;
+      cache = fit.cache v real;
+      walk = fit.walk v real;
       running = fit.running v real;
       known =
           subst (λ d. d < length n.page_limit) (get_or-map domain_of s.cpus v c (domain_of c) within ∙ ap domain_of (get_or_from_slice_get s.cpus v c c here))
           (All-get_or (λ d. d < length n.page_limit) (map domain_of s.cpus) v (domain_of c) (rw length-map within) fit.domains)
     }
 
-seat_empty : (n : Machine) (v t : ℕ) (s : told_turns.State) (a : runs.State) (xs : List Step) → Fit n s a → IsEmptyHand (seat_of (reached n v a xs).seats v) → t < length n.vcpu_domain →
-    IsEmptyHand (seat_of (reached n v a xs).seats t)
-seat_empty n v t s a xs fit mine real =
+-- what holds of a vCPU's own hand after its turn, and of all hands before it, holds of all hands after it
+each_seat : (Q : Holdings → Type 0) (n : Machine) (v t : ℕ) (a : runs.State) (xs : List Step) → Q (seat_of a.seats t) → Q (seat_of (reached n v a xs).seats v) →
+    Q (seat_of (reached n v a xs).seats t)
+each_seat Q n v t a xs before mine =
     elim (cases_eq t v) [
-      inl at ↦ subst (λ k. IsEmptyHand (seat_of (reached n v a xs).seats k)) (sym at) mine
-    | inr off ↦ subst IsEmptyHand (sym (other_seat n v t a xs off)) (fit.empty t real)
+      inl at ↦ subst (λ k. Q (seat_of (reached n v a xs).seats k)) (sym at) mine
+    | inr off ↦ subst Q (sym (other_seat n v t a xs off)) before
     ]
 
 turn_answered : (n : Machine) (v : ℕ) (s s' : told_turns.State) (a : runs.State) (c c' : Processing) (op : Op) (reply : Reply) → Fit n s a → slice_get s.cpus v ≡ Some c →
@@ -120,7 +126,9 @@ turn_answered n v s s' a c c' op reply fit here next cpus answered kept l =
         is = fit.is;
         whole = ap length l.done.standing.words_are ∙ l.whole;
         seats = seats_length n v a l.steps ∙ fit.seats;
-        empty = λ t real. seat_empty n v t s a l.steps fit l.answers.empty real;
+        empty = λ t real. each_seat IsEmptyHand n v t a l.steps (fit.empty t real) l.answers.empty;
+        cache = λ t real. each_seat (λ (h : Holdings). h.cache ≡ []) n v t a l.steps (fit.cache t real) l.done.hand.cache;
+        walk = λ t real. each_seat (λ (h : Holdings). h.walk ≡ None) n v t a l.steps (fit.walk t real) l.done.hand.walk;
         running = λ t real. ap (λ (ws : List ℕ). memory (sizes_of n) ws (Vcpu t 6)) l.done.standing.words_are ∙ l.own t 6 ∙ fit.running t real;
         cpus = ap length cpus ∙ length-set s.cpus v c' ∙ fit.cpus;
         domains = subst (λ (ds : List ℕ). All (λ d. d < length n.page_limit) ds)
@@ -147,6 +155,8 @@ turn_idle n v s s' a c c' fit here next cpus kept board =
         whole = fit.whole;
         seats = fit.seats;
         empty = fit.empty;
+        cache = fit.cache;
+        walk = fit.walk;
         running = fit.running;
         cpus = ap length same ∙ fit.cpus;
         domains = subst (λ (cs : List Processing). All (λ d. d < length n.page_limit) (map domain_of cs)) (sym same) fit.domains;

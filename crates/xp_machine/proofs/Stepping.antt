@@ -118,9 +118,9 @@ pub record Done (n : Machine) (v : ℕ) (a : State) (xs : List Step) (words : Li
 
 module _ (n : Machine) (v : ℕ) (a : State) (real : v < length n.vcpu_domain) (seats : v < length a.seats) where
   -- a turn begins
-  pub begins : IsEmptyHand (seat_of a.seats v) → memory (sizes_of n) a.words (Vcpu v 6) ≡ 0 → Stands n v a (begun n v) a.words []
+  pub begins : IsEmptyHand (seat_of a.seats v) → (seat_of a.seats v).cache ≡ [] → (seat_of a.seats v).walk ≡ None → memory (sizes_of n) a.words (Vcpu v 6) ≡ 0 → Stands n v a (begun n v) a.words []
   unfolding reached begun
-  begins empty_hand running =
+  begins empty_hand cache walk running =
       let asked = own_there n v 4 real (lit< tt) in
       let run = own_there n v 6 real (lit< tt) in
       let at0 : Standing n v a.words a = record { seats = seats; words_are = refl } in
@@ -128,7 +128,7 @@ module _ (n : Machine) (v : ℕ) (a : State) (real : v < length n.vcpu_domain) (
       let at1 : Standing n v a.words b = stands_on n v a.words a (Vcpu v 4) (Some marks.Turn) asked at0 in
       let hand1 : HandIs [] (seat_of b.seats v) =
       subst (λ h. HandIs [] h) (sym (hand_at n v a.words a (Vcpu v 4) Load steps.Look (Some marks.Turn) asked at0))
-      (asked_hand n v (seat_of a.seats v) (memory (sizes_of n) a.words (Vcpu v 4)) [] asked (from_empty (seat_of a.seats v) empty_hand)) in
+      (asked_hand n v (seat_of a.seats v) (memory (sizes_of n) a.words (Vcpu v 4)) [] asked (from_empty (seat_of a.seats v) empty_hand cache walk)) in
       let both = run_hand n v (seat_of b.seats v) (memory (sizes_of n) a.words (Vcpu v 6)) [] run running hand1 in
       let here = hand_at n v a.words b (Vcpu v 6) Load steps.Look None run at1 in
       record {

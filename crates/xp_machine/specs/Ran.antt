@@ -5,8 +5,9 @@ use Rattle.trace_text.specs.declared.trace.Trace.{Trace}
 use Rattle.machine_build.specs.Opening.{IsOpening}
 use Rattle.report_text.specs.ReportOf.{report_of}
 use Rattle.xp_board.specs.declared.step.Step.{Step}
-use Rattle.xp_board.specs.Hands.{IsEmptyHand}
-use Rattle.xp_board.specs.Sound.{seat_of}
+use Rattle.xp_words.specs.Places.{sizes_of, memory}
+use Rattle.xp_board.specs.Safe.{Safe}
+use Rattle.xp_board.specs.Sound.{seat_of, SoundWords}
 use Rattle.xp_board.specs.Runs as runs
 use Rattle.xp_machine.specs.Boards.{Told}
 use Rattle.xp_machine.specs.Answers as answers
@@ -29,8 +30,7 @@ pub record RanTold (t : Trace) (text : List ℕ) : Type 0 where
   pub report : text ≡ report_at closed
 
 -- The text is the report of words that legal steps lead to. From the opening words, with empty hands, each turn
--- that the trace asks for answers one operation by a piece of these steps, and the reply fits its piece; the
--- steps leave all hands empty.
+-- that the trace asks for answers one operation by a piece of these steps, and the reply fits its piece.
 pub record Ran (t : Trace) (text : List ℕ) : Type 0 where
   pub opened : List ℕ
   pub opening : IsOpening t opened
@@ -38,5 +38,7 @@ pub record Ran (t : Trace) (text : List ℕ) : Type 0 where
   pub turns : answers.Turns t.layout (order t.turns) (record { at = runs.start t.layout opened; cpus = first_cpus t.layout.vcpu_domain t.scripts }) closed
   pub log : List (ℕ × Step)
   pub run : runs.RunNow t.layout (runs.start t.layout opened) log closed.at
-  pub empty : (v : ℕ) → v < length t.layout.vcpu_domain → IsEmptyHand (seat_of closed.at.seats v)
+  -- the words that are printed are sound with empty hands, and the machine is safe
+  pub sound : SoundWords t.layout closed.at.words
+  pub safe : Safe t.layout (memory (sizes_of t.layout) closed.at.words) (seat_of closed.at.seats)
   pub report : text ≡ report_of t.layout closed.at.words (map log_of closed.cpus) (map pending_of closed.cpus)

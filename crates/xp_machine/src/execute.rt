@@ -8,7 +8,9 @@ use crate::board::PlainBoard;
 use crate::cpu::Cpu;
 use crate::turns::run_all;
 use machine_build::opening;
+use opening_rule::opening_words_are_sound;
 use report_text::report;
+use sound_rule::{a_run_leaves_it_safe, every_run_stays_sound, rested_words_are_sound};
 use std::alloc::{AllocError, Global};
 use trace_text::{ScriptList, Trace};
 use xp_words::Layout;
@@ -73,6 +75,11 @@ pub fn execute(alloc: Global, trace: Trace) -> Result<Vec<u8>, AllocError>
     requires { IsWellFormed trace }
     ensures { IfOk result (λ v. Ran trace v.items) }
 {
+    // What the steps keep is law: these calls do nothing.
+    opening_words_are_sound();
+    every_run_stays_sound();
+    a_run_leaves_it_safe();
+    rested_words_are_sound();
     let text = execute_whole(alloc, trace)?;
     Ok(text)
 }
