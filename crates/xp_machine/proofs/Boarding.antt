@@ -1,9 +1,9 @@
 -- One act on a board changes one named word.
-use Rattle.std.proofs.Common.{◌≡◌, ◌≢◌, ℕ, ◌<◌, List, length, refl, sym, ap, ◌∙◌, subst, IsTrue, ◌+◌, ◌-◌, ◌^◌, ◌%◌, ◌⊎◌, inl, inr, arith, slice_index, slice_set}
+use Rattle.std.proofs.Common.{◌≡◌, ◌≢◌, ℕ, ◌<◌, List, refl, sym, ap, ◌∙◌, subst, IsTrue, ◌+◌, ◌-◌, ◌^◌, ◌%◌, ◌⊎◌, inl, inr, arith, slice_index, slice_set}
 use Rattle.xp_words.specs.Places.{Place, Clock, Pages, Life, Vcpu, Refs, Kind, M2p, Cell, Map, Priv, Sizes, is_place, number, size, sizes_of, memory}
 use Rattle.std.proofs.lemmas.Bool.{cases_eq}
 use Rattle.std.proofs.lemmas.Bool.Decides.{nat_tests}
-use Rattle.xp_words.proofs.PlaceLaws.{number-lt, memory_same, memory_other}
+use Rattle.xp_words.proofs.PlaceLaws.{memory_same, memory_other}
 use Rattle.xp_machine.specs.Boards.{Told, IsWhole, Changes, word_of}
 
 pub refs_there : (z : Sizes) (f : ℕ) → f < z.frames → IsTrue (is_place z (Refs f))

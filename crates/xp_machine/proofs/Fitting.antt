@@ -1,17 +1,12 @@
 -- The reply of an operation fits the steps that answer it.
-use Rattle.std.proofs.Common.{◌≡◌, ◌≢◌, ℕ, ◌+◌, ◌*◌, ◌/◌, ◌%◌, ◌^◌, ◌<◌, ◌≤◌, ◌⊎◌, Bool, List, [], ◌∷◌, ◌++◌, length, Option, Some, None, IsTrue, refl, sym, ap, ◌∙◌, subst, inl, inr, arith, rules, slice_set}
-use Rattle.xp_words.specs.Machine.{Machine, IsMachine}
+use Rattle.std.proofs.Common.{◌≡◌, ℕ, ◌+◌, ◌<◌, Bool, List, [], ◌∷◌, ◌++◌, Option, Some, None, IsTrue, refl, sym, ap, ◌∙◌, subst, inl, inr}
+use Rattle.xp_words.specs.Machine.{Machine}
 use Rattle.xp_words.specs.RefWords.{ref_read}
 use Rattle.xp_words.specs.declared.refs.RefWord.{RefWord}
 use Rattle.xp_words.specs.declared.refs.RefWord.TheVariants.{Free, Owned, Dying}
-use Rattle.xp_words.specs.declared.ops.Pair.{Pair}
-use Rattle.xp_words.specs.declared.reply.Reply.{Reply}
-use Rattle.xp_words.specs.declared.reply.Refusal.{Refusal}
-use Rattle.xp_words.specs.declared.reply.Refusal.TheVariants as refusals
-use Rattle.xp_words.specs.Places.{Place, Clock, Pages, Life, Vcpu, Refs, Kind, M2p, Cell, Map, Priv, is_place, number, size, sizes_of, memory}
-use Rattle.xp_words.proofs.PlaceLaws.{memory_same, memory_other}
+use Rattle.xp_words.specs.Places.{Place, Clock, Pages, Life, Vcpu, Refs, Kind, M2p, Cell, Map, Priv, is_place, sizes_of, memory}
 use Rattle.xp_board.specs.declared.step.Act.{Act}
-use Rattle.xp_board.specs.declared.step.Act.TheVariants.{Load, Cas, Store, Add}
+use Rattle.xp_board.specs.declared.step.Act.TheVariants.{Load, Cas, Store}
 use Rattle.xp_board.specs.declared.step.Mark.{Mark}
 use Rattle.xp_board.specs.declared.step.Mark.TheVariants as marks
 use Rattle.xp_board.specs.declared.step.Step.{Step}
@@ -19,13 +14,11 @@ use Rattle.xp_board.specs.declared.step.StepKind.{StepKind}
 use Rattle.xp_board.specs.declared.step.StepKind.TheVariants as steps
 use Rattle.xp_board.specs.declared.holdings.Made.{Made}
 use Rattle.xp_board.specs.Readings.{ref_count}
-use Rattle.xp_board.specs.Hands.{IsEmptyHand}
-use Rattle.xp_board.specs.Sound.{seat_of}
 use Rattle.xp_board.specs.Runs.{State, word_at, place_of}
-use Rattle.xp_machine.specs.Boards.{Told, updated, stored, taken, IsOpen, IsOwnedBy, IsFull, Refuses, RefusesWord}
-use Rattle.xp_machine.specs.Pieces.{Piece, Deed, SetsM2p, deeds, deeds_by, Saw, BeginsWith, EndsWith, CauseIn, UpdateFits}
-use Rattle.xp_machine.proofs.Walking.{reached, made_by, AllLegal, piece_by}
-use Rattle.xp_machine.proofs.Handling.{step_at, look_at, raise_at, map_at, lower_at, placed}
+use Rattle.xp_machine.specs.Boards.{IsOpen}
+use Rattle.xp_machine.specs.Pieces.{Deed, SetsM2p, deeds, deeds_by, Saw, BeginsWith, EndsWith}
+use Rattle.xp_machine.proofs.Walking.{reached, made_by}
+use Rattle.xp_machine.proofs.Handling.{step_at, look_at, placed}
 use Rattle.xp_machine.proofs.Stepping.{begun, looked, raised, mapped, lowered, ended, Standing, found_at, refs_real, m2p_real}
 
 -- ---- deeds

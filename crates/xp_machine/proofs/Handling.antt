@@ -1,14 +1,14 @@
 -- What a vCPU holds after each step of an update.
-use Rattle.std.proofs.Common.{◌≡◌, ℕ, ◌+◌, ◌*◌, ◌/◌, ◌%◌, ◌^◌, ◌<◌, ◌≤◌, ◌==◌, ◌&&◌, if◌then◌else◌, Bool, true, false, List, [], ◌∷◌, length, Option, Some, None, IsTrue, refl, sym, ap, ◌∙◌, subst, inl, inr, arith, rules, lit<}
+use Rattle.std.proofs.Common.{◌≡◌, ℕ, ◌+◌, ◌^◌, ◌<◌, ◌≤◌, ◌==◌, if◌then◌else◌, Bool, true, false, List, [], ◌∷◌, length, Option, Some, None, IsTrue, refl, sym, ap, ◌∙◌, subst, arith, lit<}
 use Rattle.std.proofs.lemmas.Bool.Decides.{nat_tests}
 use Rattle.xp_words.specs.Machine.{Machine}
 use Rattle.xp_words.specs.RefWords.{ref_read, ref_write, IsRef}
-use Rattle.xp_words.specs.declared.refs.RefWord.TheVariants.{Free, Owned, Dying}
+use Rattle.xp_words.specs.declared.refs.RefWord.TheVariants.{Owned}
 use Rattle.xp_words.specs.Places.{Place, Clock, Vcpu, Refs, M2p, is_place, number, sizes_of}
 use Rattle.xp_words.proofs.PlaceLaws.{place_back}
 use Rattle.xp_words.proofs.RefLaws.{ref_read-write, ref_write-read}
 use Rattle.xp_board.specs.declared.step.Act.{Act}
-use Rattle.xp_board.specs.declared.step.Act.TheVariants.{Load, Cas, Store, Add, Max}
+use Rattle.xp_board.specs.declared.step.Act.TheVariants.{Load, Cas, Store, Add}
 use Rattle.xp_board.specs.declared.step.Mark.{Mark}
 use Rattle.xp_board.specs.declared.step.Mark.TheVariants as marks
 use Rattle.xp_board.specs.declared.step.Step.{Step}
@@ -20,8 +20,8 @@ use Rattle.xp_board.specs.Acts.{left_by}
 use Rattle.xp_board.specs.declared.holdings.OwnerFound.TheVariants as owners
 use Rattle.xp_board.specs.Readings.{ref_count, owner_of}
 use Rattle.xp_board.specs.Lists.{times_by, first_by, without_by}
-use Rattle.xp_board.specs.Hands.{hand, typed_hand, refs_to, work_on, IsEmptyHand}
-use Rattle.xp_board.specs.RefSteps.{one_down, owner_number, took_ref, gave_ref, MayLower, Raise, ref_row, after_ref_row, is_closing_on}
+use Rattle.xp_board.specs.Hands.{hand, refs_to, work_on, IsEmptyHand}
+use Rattle.xp_board.specs.RefSteps.{one_down, owner_number, took_ref, Raise, ref_row, after_ref_row, is_closing_on}
 use Rattle.xp_board.specs.After.{after, noted, after_move}
 use Rattle.xp_board.specs.Legal.{LegalMove, LegalNow, is_proved, is_proved_mark, is_raise}
 use Rattle.xp_board.specs.Runs.{place_of}
@@ -74,8 +74,17 @@ pub record HandIs (rs : List Reference) (h : Holdings) : Type 0 where
 pub from_empty : (h : Holdings) → IsEmptyHand h → h.cache ≡ [] → h.walk ≡ None → HandIs [] h
 from_empty h e cache walk =
     record {
-      refs = e.refs; typed = e.typed; works = e.works; locks = e.locks; ending = e.ending; claimed = e.claimed; raised = e.raised;
-      credits = e.credits; looking = e.looking; cache = cache; walk = walk
+      refs = e.refs;
+      typed = e.typed;
+      works = e.works;
+      locks = e.locks;
+      ending = e.ending;
+      claimed = e.claimed;
+      raised = e.raised;
+      credits = e.credits;
+      looking = e.looking;
+      cache = cache;
+      walk = walk;
     }
 
 pub to_empty : (h : Holdings) → HandIs [] h → IsEmptyHand h
@@ -100,8 +109,17 @@ with_refs : (rs ss : List Reference) (a b : Holdings) → HandIs rs a → b.refs
     b.ending ≡ a.ending → b.claimed ≡ a.claimed → b.raised ≡ a.raised → b.credits ≡ a.credits → b.looking ≡ a.looking → b.cache ≡ a.cache → b.walk ≡ a.walk → HandIs ss b
 with_refs rs ss a b e r t w l n c u d k h g =
     record {
-      refs = r; typed = t ∙ e.typed; works = w ∙ e.works; locks = l ∙ e.locks; ending = n ∙ e.ending; claimed = c ∙ e.claimed;
-      raised = u ∙ e.raised; credits = d ∙ e.credits; looking = k ∙ e.looking; cache = h ∙ e.cache; walk = g ∙ e.walk
+      refs = r;
+      typed = t ∙ e.typed;
+      works = w ∙ e.works;
+      locks = l ∙ e.locks;
+      ending = n ∙ e.ending;
+      claimed = c ∙ e.claimed;
+      raised = u ∙ e.raised;
+      credits = d ∙ e.credits;
+      looking = k ∙ e.looking;
+      cache = h ∙ e.cache;
+      walk = g ∙ e.walk;
     }
 
 -- ---- looks

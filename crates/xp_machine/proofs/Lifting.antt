@@ -1,6 +1,5 @@
 -- What the code leaves of the words is what legal steps lead to.
-use Rattle.std.proofs.Common.{◌≡◌, ◌≢◌, ℕ, ◌+◌, ◌*◌, ◌/◌, ◌%◌, ◌^◌, ◌<◌, ◌≤◌, Bool, List, [], ◌∷◌, ◌++◌, length, Option, Some, None, IsTrue, refl, sym, ap, ◌∙◌, subst, inl, inr, arith, rules, slice_set, All}
-use Rattle.std.specs.Prelude.{slice_get, map}
+use Rattle.std.proofs.Common.{◌≡◌, ℕ, ◌+◌, ◌/◌, ◌^◌, ◌<◌, ◌≤◌, Bool, List, [], length, Option, Some, None, refl, sym, ◌∙◌, subst, arith}
 use Rattle.xp_words.specs.Machine.{Machine, IsMachine}
 use Rattle.xp_words.specs.RefWords.{ref_read}
 use Rattle.xp_words.specs.declared.ops.Pair.{Pair}
@@ -8,7 +7,7 @@ use Rattle.xp_words.specs.declared.ops.Op.{Op}
 use Rattle.xp_words.specs.declared.reply.Reply.{Reply}
 use Rattle.xp_words.specs.declared.reply.Refusal.{Refusal}
 use Rattle.xp_words.specs.declared.reply.Refusal.TheVariants as refusals
-use Rattle.xp_words.specs.Places.{Place, Clock, Vcpu, Refs, M2p, is_place, number, size, sizes_of, memory}
+use Rattle.xp_words.specs.Places.{Clock, Vcpu, Refs, M2p, number, size, sizes_of, memory}
 use Rattle.xp_words.proofs.PlaceLaws.{memory_same, memory_other}
 use Rattle.xp_board.specs.declared.step.Mark.TheVariants as marks
 use Rattle.xp_board.specs.declared.step.Step.{Step}
@@ -16,13 +15,13 @@ use Rattle.xp_board.specs.Readings.{ref_count}
 use Rattle.xp_board.specs.Hands.{IsEmptyHand}
 use Rattle.xp_board.specs.Sound.{seat_of}
 use Rattle.xp_board.specs.Runs.{State}
-use Rattle.xp_machine.specs.Boards.{Told, word_of, updated, stored, taken, IsOpen, IsOwnedBy, IsFull, Refuses, RefusesWord}
+use Rattle.xp_machine.specs.Boards.{Told, word_of, updated, stored, taken, IsOpen, IsOwnedBy, IsFull, Refuses}
 use Rattle.xp_machine.specs.Pieces.{deeds, BeginsWith, Saw, CauseIn, UpdateFits}
 use Rattle.xp_machine.specs.Turns.{m2p_update, refused, done_of, FitsUpdate, FitsBuilt}
 use Rattle.xp_machine.specs.Answers.{Answers, FitsSteps}
 use Rattle.xp_machine.proofs.Walking.{reached, made_by, piece_by}
 use Rattle.std.proofs.lemmas.List.{length-set}
-use Rattle.xp_machine.proofs.Handling.{look_at, raise_at, map_at, lower_at, to_empty, Open, open_word, open_next, new_ref}
+use Rattle.xp_machine.proofs.Handling.{look_at, raise_at, map_at, lower_at, to_empty, Open, open_word, open_next}
 use Rattle.xp_machine.proofs.Stepping.{Stands, Done, begun, looked, raised, mapped, lowered, ended, begins, looks, raises, maps, lowers, ends, done, refs_real, m2p_real}
 use Rattle.xp_machine.proofs.Fitting.{begun_deeds, looked_deeds, lowered_deeds, ended_deeds, begun_begins, more_begins, ended_ends, looked_saw, ended_saw, lowered_saw, Opened, opened, count_is}
 
@@ -71,10 +70,10 @@ module _ (n : Machine) (v domain : ℕ) (op : Op) (reply : Reply) (a : State) (m
           begins = ended_begins xs b;
           ends = ended_ends n v a xs;
           fits = fits;
-          empty = to_empty _ e.hand
+          empty = to_empty _ e.hand;
         };
         whole = whole;
-        own = own
+        own = own;
       }
 
   start : Stands n v a (begun n v) a.words []
@@ -107,7 +106,7 @@ module _ (n : Machine) (v domain : ℕ) (op : Op) (reply : Reply) (a : State) (m
       let real = refs_real n f frame in
       let len : length (taken (told n a) f).words ≡ size (sizes_of n) = length-set a.words (number (sizes_of n) (Refs f)) (w + 1) ∙ may.whole in
       let here : word_of (stored (told n a) f g) (Refs f) ≡ w + 1 =
-          memory_other (sizes_of n) (taken (told n a) f).words (M2p f) (Refs f) g (m2p_real n f frame) (λ e. cc) ∙ memory_same (sizes_of n) a.words (Refs f) (w + 1) real may.whole in
+      memory_other (sizes_of n) (taken (told n a) f).words (M2p f) (Refs f) g (m2p_real n f frame) (λ e. cc) ∙ memory_same (sizes_of n) a.words (Refs f) (w + 1) real may.whole in
       let limit = may.machine.few_counts in
       let next = count_is (w + 1) domain (count + 1) allocated (open_next w domain count allocated o (omega arith)) in
       let some = o.some in
@@ -128,13 +127,13 @@ module _ (n : Machine) (v domain : ℕ) (op : Op) (reply : Reply) (a : State) (m
   update_whole : (f g : ℕ) → length (updated (told n a) f g).words ≡ size (sizes_of n)
   update_whole f g =
       length-set (stored (told n a) f g).words (number (sizes_of n) (Refs f)) _ ∙ length-set (taken (told n a) f).words (number (sizes_of n) (M2p f)) g
-          ∙ length-set a.words (number (sizes_of n) (Refs f)) _ ∙ may.whole
+      ∙ length-set a.words (number (sizes_of n) (Refs f)) _ ∙ may.whole
 
   update_own : (f g : ℕ) → f < n.frames → (t k : ℕ) → memory (sizes_of n) (updated (told n a) f g).words (Vcpu t k) ≡ memory (sizes_of n) a.words (Vcpu t k)
   update_own f g frame t k =
       memory_other (sizes_of n) (stored (told n a) f g).words (Refs f) (Vcpu t k) _ (refs_real n f frame) (λ e. cc)
-          ∙ memory_other (sizes_of n) (taken (told n a) f).words (M2p f) (Vcpu t k) g (m2p_real n f frame) (λ e. cc)
-          ∙ memory_other (sizes_of n) a.words (Refs f) (Vcpu t k) _ (refs_real n f frame) (λ e. cc)
+      ∙ memory_other (sizes_of n) (taken (told n a) f).words (M2p f) (Vcpu t k) g (m2p_real n f frame) (λ e. cc)
+      ∙ memory_other (sizes_of n) a.words (Refs f) (Vcpu t k) _ (refs_real n f frame) (λ e. cc)
 
   lift_update : (f g : ℕ) → f < n.frames → g < 2 ^ 64 → IsOpen domain n.limit (ref_read (memory (sizes_of n) a.words (Refs f))) →
       FitsSteps n domain (m2p_update op) (made_by n v a (ended n (lowered n v f (memory (sizes_of n) a.words (Refs f)) g))) reply → Lifted n v domain op reply a (updated (told n a) f g).words
@@ -203,16 +202,16 @@ module _ (n : Machine) (v domain : ℕ) (op : Op) (reply : Reply) (a : State) (m
       let xs = lowered n v f w p.val in
       let deed = ended_deeds n v a xs ∙ lowered_deeds n v f w p.val a fits.0 in
       let saw = ended_saw n v a (Refs f) (λ x. IsOpen domain n.limit (ref_read x)) xs
-          (lowered_saw n v f w p.val a (Refs f) (λ x. IsOpen domain n.limit (ref_read x)) (looked_saw n v f a (λ x. IsOpen domain n.limit (ref_read x)) fits.0 start.standing fits.2)) in
+      (lowered_saw n v f w p.val a (Refs f) (λ x. IsOpen domain n.limit (ref_read x)) (looked_saw n v f a (λ x. IsOpen domain n.limit (ref_read x)) fits.0 start.standing fits.2)) in
       let all : FitsSteps n domain (m2p_update op) (made_by n v a (ended n xs)) reply =
-          subst (λ o. FitsSteps n domain o (made_by n v a (ended n xs)) reply) (sym is)
-          (done, value, subst (λ x. UpdateFits n domain (p.ptr / 4096) p.val (made_by n v a (ended n xs)) x) (sym ok) (fits.0, deed, saw)) in
+      subst (λ o. FitsSteps n domain o (made_by n v a (ended n xs)) reply) (sym is)
+      (done, value, subst (λ x. UpdateFits n domain (p.ptr / 4096) p.val (made_by n v a (ended n xs)) x) (sym ok) (fits.0, deed, saw)) in
       subst (λ (c : Told). Lifted n v domain op reply a c.words) (sym fits.3) (lift_update f p.val fits.0 fits.1 fits.2 all)
 
   lift_built : (o : Option Pair) (b : Told) → m2p_update op ≡ o → FitsBuilt domain o (told n a) reply b → Lifted n v domain op reply a b.words
   lift_built None b is fits =
       let all : FitsSteps n domain (m2p_update op) (made_by n v a (ended n (begun n v))) reply =
-          subst (λ o. FitsSteps n domain o (made_by n v a (ended n (begun n v))) reply) (sym is) (fits.0, begun_nothing) in
+      subst (λ o. FitsSteps n domain o (made_by n v a (ended n (begun n v))) reply) (sym is) (fits.0, begun_nothing) in
       subst (λ (c : Told). Lifted n v domain op reply a c.words) (sym fits.1) (lift_begun all)
   lift_built (Some p) b is fits = lift_pair p b reply.refusal is refl fits.0 fits.1 fits.2
 

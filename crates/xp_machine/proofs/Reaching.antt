@@ -1,12 +1,11 @@
 -- What the code makes of a trace is what legal steps make of it.
-use Rattle.std.proofs.Common.{◌≡◌, ℕ, ◌<◌, Option, None, List, [], ◌∷◌, length, map, refl, sym, ap, ◌∙◌, subst, inl, inr, arith, All, rules, lit<}
+use Rattle.std.proofs.Common.{◌≡◌, ℕ, ◌<◌, None, List, [], ◌∷◌, length, map, refl, sym, ap, ◌∙◌, subst, inl, inr, arith, All, lit<}
 use Rattle.std.specs.Prelude.{replicate}
-use Rattle.std.specs.List.{zip}
 use Rattle.std.proofs.Math.ListN.{get_or-eq_default}
 use Rattle.std.proofs.lemmas.Bool.{cases_lt}
 use Rattle.std.proofs.lemmas.List.{length-replicate, get_or-replicate}
 use Rattle.xp_words.specs.Machine.{Machine}
-use Rattle.xp_words.specs.Places.{Vcpu, is_place, sizes_of, memory}
+use Rattle.xp_words.specs.Places.{Vcpu, sizes_of, memory}
 use Rattle.xp_words.specs.declared.ops.Op.{Op}
 use Rattle.xp_board.specs.Hands.{empty, IsEmptyHand}
 use Rattle.xp_board.specs.declared.step.Step.{Step}
@@ -18,11 +17,11 @@ use Rattle.trace_text.specs.declared.trace.Trace.{Trace}
 use Rattle.trace_text.specs.WellFormed.{IsWellFormed}
 use Rattle.machine_build.specs.Opening.{IsOpening, opening_at}
 use Rattle.report_text.specs.ReportOf.{report_of}
-use Rattle.xp_machine.specs.Turns.{Processing, State, order, first_cpus, pending_of}
+use Rattle.xp_machine.specs.Turns.{Processing, order, first_cpus, pending_of}
 use Rattle.xp_machine.specs.Ran.{RanTold, Ran, log_of}
 use Rattle.xp_machine.proofs.Boarding.{own_there}
 use Rattle.xp_machine.proofs.Starting.{length_first}
-use Rattle.xp_machine.proofs.Running.{Fit, Lifts, turns_lift}
+use Rattle.xp_machine.proofs.Running.{Fit, turns_lift}
 
 empty_hand : IsEmptyHand empty
 empty_hand =
@@ -83,8 +82,8 @@ RestsSound =
 all_empty : (k s : ℕ) → seat_of (replicate k empty) s ≡ empty
 all_empty k s =
     elim (cases_lt s k) [
-      inl below ↦ get_or-replicate k s empty empty below
-    | inr above ↦ get_or-eq_default (replicate k empty) empty (rw length-replicate above)
+      | inl below ↦ get_or-replicate k s empty empty below
+      | inr above ↦ get_or-eq_default (replicate k empty) empty (rw length-replicate above)
     ]
 
 -- words that are sound with empty hands, as the state in which a run starts
@@ -94,7 +93,7 @@ start_sound n words w =
     record {
       all_words = w.all_words;
       all_seats = length-replicate (sizes_of n).vcpus empty;
-      sound = subst (λ (h : ℕ → Holdings). Sound n (memory (sizes_of n) words) h) same w.sound
+      sound = subst (λ (h : ℕ → Holdings). Sound n (memory (sizes_of n) words) h) same w.sound;
     }
 
 pub ran : OpensSound → RunsSound → RunsSafe → RestsSound → (t : Trace) (text : List ℕ) → IsWellFormed t → RanTold t text → Ran t text

@@ -1,5 +1,5 @@
 -- The turns of a trace are a run of legal steps.
-use Rattle.std.proofs.Common.{◌≡◌, ◌≢◌, ℕ, ◌+◌, ◌/◌, ◌<◌, ◌≤◌, List, [], ◌∷◌, ◌++◌, length, map, Option, Some, None, refl, sym, ap, ◌∙◌, subst, inl, inr, arith, slice_index_or, slice_set, All}
+use Rattle.std.proofs.Common.{◌≡◌, ◌≢◌, ℕ, ◌<◌, List, [], ◌∷◌, ◌++◌, length, map, Option, Some, None, refl, sym, ap, ◌∙◌, subst, inl, inr, slice_set, All}
 use Rattle.std.specs.Prelude.{slice_get}
 use Rattle.std.proofs.lemmas.Bool.{cases_eq}
 use Rattle.std.proofs.lemmas.List.{length-set, length-map, get_or-map, get_or-set_other, set-get_or}
@@ -20,7 +20,7 @@ use Rattle.xp_machine.specs.Boards.{Told}
 use Rattle.xp_machine.specs.Pieces.{Piece}
 use Rattle.xp_machine.specs.Turns as told_turns
 use Rattle.xp_machine.specs.Turns.{Processing, with_answer, Fits}
-use Rattle.xp_machine.specs.Answers.{Stage, Answers, TurnBy, TurnOf, IsTurn, Turns, none, more}
+use Rattle.xp_machine.specs.Answers.{TurnBy, TurnOf, IsTurn, Turns, none, more}
 use Rattle.xp_machine.proofs.Turning.{cpu_machine}
 use Rattle.xp_machine.proofs.Walking.{reached}
 use Rattle.xp_machine.proofs.Lifting.{May, Lifted, told, lift_answer}
@@ -97,7 +97,7 @@ may_turn n v s a c fit here =
       running = fit.running v real;
       known =
           subst (λ d. d < length n.page_limit) (get_or-map domain_of s.cpus v c (domain_of c) within ∙ ap domain_of (get_or_from_slice_get s.cpus v c c here))
-          (All-get_or (λ d. d < length n.page_limit) (map domain_of s.cpus) v (domain_of c) (rw length-map within) fit.domains)
+          (All-get_or (λ d. d < length n.page_limit) (map domain_of s.cpus) v (domain_of c) (rw length-map within) fit.domains);
     }
 
 -- what holds of a vCPU's own hand after its turn, and of all hands before it, holds of all hands after it
@@ -105,8 +105,8 @@ each_seat : (Q : Holdings → Type 0) (n : Machine) (v t : ℕ) (a : runs.State)
     Q (seat_of (reached n v a xs).seats t)
 each_seat Q n v t a xs before mine =
     elim (cases_eq t v) [
-      inl at ↦ subst (λ k. Q (seat_of (reached n v a xs).seats k)) (sym at) mine
-    | inr off ↦ subst Q (sym (other_seat n v t a xs off)) before
+      | inl at ↦ subst (λ k. Q (seat_of (reached n v a xs).seats k)) (sym at) mine
+      | inr off ↦ subst Q (sym (other_seat n v t a xs off)) before
     ]
 
 turn_answered : (n : Machine) (v : ℕ) (s s' : told_turns.State) (a : runs.State) (c c' : Processing) (op : Op) (reply : Reply) → Fit n s a → slice_get s.cpus v ≡ Some c →
@@ -116,7 +116,7 @@ turn_answered n v s s' a c c' op reply fit here next cpus answered kept l =
     let b : runs.State = reached n v a l.steps in
     let cpus_are : s'.cpus ≡ slice_set s.cpus v (with_answer c reply) = cpus ∙ ap (λ x. slice_set s.cpus v x) answered in
     let by : TurnBy n v c (slice_get c.script (length c.log)) (record { at = a; cpus = s.cpus }) (record { at = b; cpus = s'.cpus }) =
-        subst (λ o. TurnBy n v c o (record { at = a; cpus = s.cpus }) (record { at = b; cpus = s'.cpus })) (sym next) (reply, cpus_are, l.answers) in
+    subst (λ o. TurnBy n v c o (record { at = a; cpus = s.cpus }) (record { at = b; cpus = s'.cpus })) (sym next) (reply, cpus_are, l.answers) in
     record {
       after = b;
       turn = subst (λ o. TurnOf n v o (record { at = a; cpus = s.cpus }) (record { at = b; cpus = s'.cpus })) (sym here) by;
@@ -144,7 +144,7 @@ turn_idle : (n : Machine) (v : ℕ) (s s' : told_turns.State) (a : runs.State) (
 turn_idle n v s s' a c c' fit here next cpus kept board =
     let same : s'.cpus ≡ s.cpus = cpus ∙ ap (λ x. slice_set s.cpus v x) kept ∙ same_cpus s.cpus v c here in
     let stays : TurnBy n v c (slice_get c.script (length c.log)) (record { at = a; cpus = s.cpus }) (record { at = a; cpus = s'.cpus }) =
-        subst (λ o. TurnBy n v c o (record { at = a; cpus = s.cpus }) (record { at = a; cpus = s'.cpus })) (sym next) (ap (λ (cs : List Processing). record { at = a; cpus = cs }) same) in
+    subst (λ o. TurnBy n v c o (record { at = a; cpus = s.cpus }) (record { at = a; cpus = s'.cpus })) (sym next) (ap (λ (cs : List Processing). record { at = a; cpus = cs }) same) in
     record {
       after = a;
       turn = subst (λ o. TurnOf n v o (record { at = a; cpus = s.cpus }) (record { at = a; cpus = s'.cpus })) (sym here) stays;

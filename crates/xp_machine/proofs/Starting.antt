@@ -1,14 +1,12 @@
 -- The vCPUs of a trace before their first turn.
-use Rattle.std.proofs.Common.{◌≡◌, ℕ, suc, ◌+◌, ◌^◌, ◌<◌, ◌≤◌, List, [], ◌∷◌, length, map, refl, sym, ap, ◌∙◌, subst, arith, All, slice_index_or, lit<}
+use Rattle.std.proofs.Common.{◌≡◌, ℕ, suc, ◌^◌, ◌<◌, ◌≤◌, List, [], ◌∷◌, length, map, refl, sym, ap, ◌∙◌, subst, arith, All}
 use Rattle.std.specs.Prelude.{sum_by}
-use Rattle.std.specs.List.{zip}
 use Rattle.std.proofs.lemmas.List.{length-map}
 use Rattle.std.proofs.lemmas.List.Elements.{All-from_get_or}
 use Rattle.std.proofs.lemmas.List.Sums.{get_or-le-sum_by}
 use Rattle.xp_words.specs.declared.ops.Op.{Op}
-use Rattle.xp_machine.specs.Boards.{Told}
-use Rattle.xp_machine.specs.Turns.{Processing, AreShort, State, script_of, first_cpus}
-use Rattle.xp_machine.proofs.Turning.{Keeps, short_after}
+use Rattle.xp_machine.specs.Turns.{AreShort, State, script_of, first_cpus}
+use Rattle.xp_machine.proofs.Turning.{Keeps}
 
 suc_is : (m n : ℕ) → suc m ≡ suc n → m ≡ n
 suc_is m n e = omega arith

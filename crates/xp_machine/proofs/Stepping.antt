@@ -1,33 +1,27 @@
 -- The steps of one answer, from the words and hands before it to those after it.
-use Rattle.std.proofs.Common.{◌≡◌, ◌≢◌, ℕ, ◌+◌, ◌*◌, ◌/◌, ◌%◌, ◌^◌, ◌<◌, ◌≤◌, ◌==◌, if◌then◌else◌, Bool, List, [], ◌∷◌, ◌++◌, length, Option, Some, None, IsTrue, refl, sym, ap, ◌∙◌, subst, inl, inr, arith, rules, slice_index, slice_index_or, slice_set, lit<}
+use Rattle.std.proofs.Common.{◌≡◌, ℕ, ◌+◌, ◌%◌, ◌^◌, ◌<◌, ◌≤◌, ◌==◌, if◌then◌else◌, Bool, List, [], ◌∷◌, length, Option, Some, None, IsTrue, refl, sym, ap, ◌∙◌, subst, arith, slice_set, lit<}
 use Rattle.std.proofs.lemmas.Bool.Decides.{nat_tests}
 use Rattle.std.proofs.lemmas.List.{get_or-set_same, set-get_or, length-set}
 use Rattle.xp_words.specs.Machine.{Machine, IsMachine}
-use Rattle.xp_words.specs.RefWords.{ref_read}
-use Rattle.xp_words.specs.declared.refs.RefWord.TheVariants.{Owned}
 use Rattle.xp_words.specs.Places.{Place, Clock, Vcpu, Refs, M2p, is_place, number, size, sizes_of, memory}
-use Rattle.xp_words.proofs.PlaceLaws.{number-lt, memory_same, memory_other}
 use Rattle.xp_board.specs.declared.step.Act.{Act}
-use Rattle.xp_board.specs.declared.step.Act.TheVariants.{Load, Cas, Store, Add, Max}
+use Rattle.xp_board.specs.declared.step.Act.TheVariants.{Load, Cas, Store, Add}
 use Rattle.xp_board.specs.declared.step.Mark.{Mark}
 use Rattle.xp_board.specs.declared.step.Mark.TheVariants as marks
 use Rattle.xp_board.specs.declared.step.Step.{Step}
 use Rattle.xp_board.specs.declared.step.StepKind.{StepKind}
 use Rattle.xp_board.specs.declared.step.StepKind.TheVariants as steps
-use Rattle.xp_board.specs.declared.holdings.Holdings.{Holdings}
 use Rattle.xp_board.specs.declared.holdings.Reference.{Reference}
 use Rattle.xp_board.specs.Acts.{left_by}
 use Rattle.xp_board.specs.Readings.{ref_count}
 use Rattle.xp_board.specs.RefSteps.{one_down}
 use Rattle.xp_board.specs.Hands.{empty, IsEmptyHand}
 use Rattle.xp_board.specs.After.{after}
-use Rattle.xp_board.specs.Legal.{LegalNow}
 use Rattle.xp_board.specs.Sound.{seat_of}
 use Rattle.xp_board.specs.Runs.{State, next, word_at, place_of}
-use Rattle.xp_machine.specs.Boards.{Told, with_word, taken, stored, updated}
 use Rattle.xp_machine.proofs.Boarding.{word_there}
-use Rattle.xp_machine.proofs.Walking.{reached, made_by, hand_of, AllLegal, piece_by}
-use Rattle.xp_machine.proofs.Handling.{step_at, look_at, raise_at, map_at, lower_at, placed, HandIs, new_ref, from_empty, to_empty, look_is_legal, asked_hand, run_hand, refs_hand, clock_hand, Open, open_word, open_next, raise_is_legal, raise_hand, map_is_legal, map_hand, lower_is_legal, lower_hand}
+use Rattle.xp_machine.proofs.Walking.{reached, hand_of, AllLegal}
+use Rattle.xp_machine.proofs.Handling.{step_at, look_at, raise_at, map_at, lower_at, placed, HandIs, new_ref, from_empty, look_is_legal, asked_hand, run_hand, refs_hand, clock_hand, Open, raise_is_legal, raise_hand, map_is_legal, map_hand, lower_is_legal, lower_hand}
 
 -- ---- the words after a step
 pub act_words : (n : Machine) (v : ℕ) (a : State) (p : Place) (act : Act) (k : StepKind) (mark : Option Mark) → IsTrue (is_place (sizes_of n) p) →

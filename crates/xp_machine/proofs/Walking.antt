@@ -1,16 +1,13 @@
 -- Steps of one vCPU, one behind the other.
-use Rattle.std.proofs.Common.{◌≡◌, ℕ, ◌+◌, ◌<◌, List, [], ◌∷◌, length, refl, sym, ap, ◌∙◌, subst, slice_index_or, slice_set}
-use Rattle.std.proofs.lemmas.List.{get_or-set_same}
+use Rattle.std.proofs.Common.{ℕ, ◌<◌, List, [], ◌∷◌, refl}
 use Rattle.xp_words.specs.Machine.{Machine}
 use Rattle.xp_words.specs.Places.{sizes_of}
 use Rattle.xp_board.specs.declared.step.Step.{Step}
 use Rattle.xp_board.specs.declared.holdings.Made.{Made}
 use Rattle.xp_board.specs.declared.holdings.Holdings.{Holdings}
 use Rattle.xp_board.specs.Legal.{LegalNow}
-use Rattle.xp_board.specs.After.{after}
-use Rattle.xp_board.specs.Hands.{empty}
 use Rattle.xp_board.specs.Sound.{seat_of}
-use Rattle.xp_board.specs.Runs.{State, next, word_at, place_of, Moves}
+use Rattle.xp_board.specs.Runs.{State, next, word_at, place_of}
 use Rattle.xp_machine.specs.Pieces.{Piece}
 
 -- the state after steps, the newest first

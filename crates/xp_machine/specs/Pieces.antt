@@ -1,16 +1,13 @@
 -- The steps that answer one operation: a piece of the run, by one vCPU.
-use Rattle.std.specs.Prelude.{◌≡◌, ℕ, ◌+◌, ◌/◌, ◌<◌, ◌≤◌, ◌⊎◌, List, [], ◌∷◌, ◌++◌, Option, Some, None}
+use Rattle.std.specs.Prelude.{◌≡◌, ℕ, ◌<◌, ◌≤◌, ◌⊎◌, List, [], ◌∷◌, ◌++◌, Option, Some, None}
 use Rattle.xp_words.specs.Machine.{Machine}
 use Rattle.xp_words.specs.Places.{Place, Refs, M2p}
 use Rattle.xp_words.specs.RefWords.{ref_read}
-use Rattle.xp_words.specs.declared.ops.Pair.{Pair}
-use Rattle.xp_words.specs.declared.reply.Reply.{Reply}
 use Rattle.xp_words.specs.declared.reply.Refusal.{Refusal}
 use Rattle.xp_words.specs.declared.reply.Refusal.TheVariants as refusals
 use Rattle.xp_board.specs.declared.step.Act.{Act}
 use Rattle.xp_board.specs.declared.step.Act.TheVariants.{Store}
 use Rattle.xp_board.specs.declared.step.Mark.{Mark}
-use Rattle.xp_board.specs.declared.step.Mark.TheVariants.{Cut, Turn}
 use Rattle.xp_board.specs.declared.holdings.Made.{Made}
 use Rattle.xp_board.specs.Legal.{LegalNow}
 use Rattle.xp_board.specs.Runs as runs

@@ -1,5 +1,5 @@
 -- A whole run of a trace.
-use Rattle.std.specs.Prelude.{◌≡◌, ℕ, ◌<◌, List, length, map}
+use Rattle.std.specs.Prelude.{◌≡◌, ℕ, List, map}
 use Rattle.xp_words.specs.declared.reply.LogLine.{LogLine}
 use Rattle.trace_text.specs.declared.trace.Trace.{Trace}
 use Rattle.machine_build.specs.Opening.{IsOpening}
@@ -9,7 +9,6 @@ use Rattle.xp_words.specs.Places.{sizes_of, memory}
 use Rattle.xp_board.specs.Safe.{Safe}
 use Rattle.xp_board.specs.Sound.{seat_of, SoundWords}
 use Rattle.xp_board.specs.Runs as runs
-use Rattle.xp_machine.specs.Boards.{Told}
 use Rattle.xp_machine.specs.Answers as answers
 use Rattle.xp_machine.specs.Answers.{Stage}
 use Rattle.xp_machine.specs.Turns.{Processing, State, Turns, order, first_cpus, pending_of}

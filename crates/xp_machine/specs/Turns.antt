@@ -11,7 +11,7 @@ use Rattle.xp_words.specs.declared.reply.Refusal.{Refusal}
 use Rattle.xp_words.specs.declared.reply.Refusal.TheVariants as refusals
 use Rattle.xp_words.specs.declared.reply.LogLine.{LogLine}
 use Rattle.xp_words.specs.declared.reply.LogLine.TheVariants as lines
-use Rattle.xp_words.specs.Places.{Refs, M2p}
+use Rattle.xp_words.specs.Places.{Refs}
 use Rattle.xp_words.specs.RefWords.{ref_read}
 use Rattle.trace_text.specs.declared.trace.TurnRun.{TurnRun}
 use Rattle.xp_machine.specs.Boards.{Told, word_of, updated, IsOpen, Refuses}

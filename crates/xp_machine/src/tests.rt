@@ -64,6 +64,30 @@ fn a_bad_trace_and_a_large_one_are_named_with_their_line(rt: HostRuntime) {
     );
 }
 
+// A free frame, a frame that the machine has not, and a command that is not built; the last frame, and one past it.
+#[test]
+fn each_refusal_of_an_update_names_what_was_found(rt: HostRuntime) {
+    runs_to(
+        &rt,
+        "xen-pv-trace 1\nframes 16\ndomain 16\nvcpu 0\nown 0 0 8\nop 0 mmu 0x7ff0 0xc001 1\nop 0 mmu 0x7ff0 0x10001 1\nop 0 mmu 0x7ff0 0x0 1\nturn 0 3\nend\n",
+        usize::MAX,
+        Status::Done,
+        "vcpu 0 domain 0 base - user - old - -\nop 1 refused 2 done 0 WrongOwner frame=12 found=free\nop 2 refused 1 done 0 NoFrame frame=16\nop 3 refused 19 done 0 BadCommand\ndomain 0 live pages 8\nframe 0 owner 0 refs 1 alloc type none count 0 flags - at 0 m2p -\nframe 1 owner 0 refs 1 alloc type none count 0 flags - at 0 m2p -\nframe 2 owner 0 refs 1 alloc type none count 0 flags - at 0 m2p -\nframe 3 owner 0 refs 1 alloc type none count 0 flags - at 0 m2p -\nframe 4 owner 0 refs 1 alloc type none count 0 flags - at 0 m2p -\nframe 5 owner 0 refs 1 alloc type none count 0 flags - at 0 m2p -\nframe 6 owner 0 refs 1 alloc type none count 0 flags - at 0 m2p -\nframe 7 owner 0 refs 1 alloc type none count 0 flags - at 0 m2p -\nfree 8\nend\n",
+    );
+}
+
+// Two domains take turns in the order of the lines; the second has a turn too few for its script.
+#[test]
+fn turns_are_taken_in_the_order_of_their_lines(rt: HostRuntime) {
+    runs_to(
+        &rt,
+        "xen-pv-trace 1\nframes 2\ndomain 1\ndomain 1\nvcpu 0\nvcpu 1\nown 0 0 1\nown 1 1 1\nop 0 mmu 0x7ff0 0x1 7\nop 1 mmu 0x7ff0 0x1001 8\nop 1 mmu 0x7ff0 0x1 9\nop 1 mmu 0x7ff0 0x1001 10\nturn 1 2\nturn 0 5\nend\n",
+        usize::MAX,
+        Status::Done,
+        "vcpu 0 domain 0 base - user - old - -\nop 1 ok done 1 value 0x0\nvcpu 1 domain 1 base - user - old - -\nop 1 ok done 1 value 0x0\nop 2 refused 2 done 0 WrongOwner frame=0 found=d0,1,a\npending 1\ndomain 0 live pages 1\ndomain 1 live pages 1\nframe 0 owner 0 refs 1 alloc type none count 0 flags - at 0 m2p 0x7\nframe 1 owner 1 refs 1 alloc type none count 0 flags - at 0 m2p 0x8\nfree 0\nend\n",
+    );
+}
+
 #[test]
 fn a_failing_read_writes_nothing(rt: HostRuntime) {
     let fails = vec![in rt.alloc(); 1u64].expect(&rt, "memory");

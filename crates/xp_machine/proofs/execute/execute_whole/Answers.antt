@@ -1,6 +1,5 @@
-use Rattle.std.proofs.Common.{◌≡◌, ◌<◌, ℕ, List, length, ap, sym, subst, ◌∙◌, All}
-use Rattle.trace_text.specs.declared.trace.TurnRun.{TurnRun}
-use Rattle.xp_machine.specs.Turns.{Processing, AreShort, State, state, first_cpus}
+use Rattle.std.proofs.Common.{◌≡◌, ℕ, List, length, ap, sym, ◌∙◌}
+use Rattle.xp_machine.specs.Turns.{first_cpus}
 use Rattle.xp_machine.proofs.Turning.{turns_keep, short_after}
 use Rattle.xp_machine.proofs.Starting.{length_first, short_first, length_kept}
 use Rattle.xp_machine.proofs.execute.execute_whole.Goals as goal

@@ -1,4 +1,4 @@
-use Rattle.std.proofs.Common.{◌≡◌, ◌∙◌, sym, subst, List, ℕ, Bool, true, false, rules}
+use Rattle.std.proofs.Common.{rules}
 use Rattle.xp_machine.proofs.Statuses.{due_has_text}
 use Rattle.xp_machine.proofs.top.run.Goals as goal
 

@@ -1,4 +1,4 @@
-use Rattle.std.proofs.Common.{◌≡◌, ◌<◌, refl, ◌∙◌, sym, ap, length}
+use Rattle.std.proofs.Common.{refl, ◌∙◌, sym, ap, length}
 use Rattle.xp_machine.proofs.Turning.{more_runs, no_runs, same_lengths}
 use Rattle.xp_machine.proofs.turns.take_turns.Goals as goal
 

@@ -1,4 +1,4 @@
-use Rattle.std.proofs.Common.{◌≡◌, ◌<◌, subst}
+use Rattle.std.proofs.Common.{◌<◌, subst}
 use Rattle.xp_machine.proofs.Turning.{short_at, same_script, turn_at, scripts_after}
 use Rattle.xp_machine.proofs.turns.turn_of.Goals as goal
 

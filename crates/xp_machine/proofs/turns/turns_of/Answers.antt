@@ -1,4 +1,4 @@
-use Rattle.std.proofs.Common.{◌≡◌, refl, sym, ap, length, ◌∙◌}
+use Rattle.std.proofs.Common.{refl, sym, ap, length, ◌∙◌}
 use Rattle.xp_machine.specs.Turns.{none}
 use Rattle.xp_machine.proofs.Turning.{one_more_turn, short_after, same_lengths}
 use Rattle.xp_machine.proofs.turns.turns_of.Goals as goal

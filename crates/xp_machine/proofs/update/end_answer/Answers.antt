@@ -1,4 +1,4 @@
-use Rattle.std.proofs.Common.{◌≡◌, ◌<◌, ℕ, List, ap, ◌∙◌}
+use Rattle.std.proofs.Common.{ℕ, List, ap}
 use Rattle.std.proofs.lemmas.List.{set-get_or}
 use Rattle.xp_words.specs.Places.{sizes_of}
 use Rattle.xp_board.specs.Acts.{left_by}

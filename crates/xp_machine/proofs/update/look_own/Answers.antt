@@ -1,10 +1,9 @@
-use Rattle.std.proofs.Common.{◌≡◌, ◌<◌, ℕ, sym, ◌∙◌, ap, subst, slice_set, refl, List}
+use Rattle.std.proofs.Common.{ℕ, sym, ap, List}
 use Rattle.std.proofs.lemmas.List.{set-get_or}
-use Rattle.xp_words.specs.Places.{Vcpu, sizes_of, number, size}
+use Rattle.xp_words.specs.Places.{Vcpu, sizes_of}
 use Rattle.xp_words.proofs.PlaceLaws.{number-lt}
 use Rattle.xp_board.specs.Acts.{left_by}
-use Rattle.xp_machine.specs.Boards.{Changes, Told}
-use Rattle.xp_machine.proofs.Boarding.{own_there, word_there, changes}
+use Rattle.xp_machine.proofs.Boarding.{own_there, word_there}
 use Rattle.xp_machine.proofs.update.look_own.Goals as goal
 
 pub step-requires : goal.step-requires

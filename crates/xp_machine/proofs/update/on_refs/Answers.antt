@@ -1,9 +1,7 @@
-use Rattle.std.proofs.Common.{◌≡◌, ◌<◌, ℕ, sym, ◌∙◌, ap, subst, slice_set, refl}
-use Rattle.xp_words.specs.Places.{Refs, sizes_of, number, size}
+use Rattle.std.proofs.Common.{sym, refl}
+use Rattle.xp_words.specs.Places.{Refs, sizes_of}
 use Rattle.xp_words.proofs.PlaceLaws.{number-lt}
-use Rattle.xp_board.specs.Acts.{left_by}
-use Rattle.xp_machine.specs.Boards.{Changes, Told}
-use Rattle.xp_machine.proofs.Boarding.{refs_there, word_there, changes}
+use Rattle.xp_machine.proofs.Boarding.{refs_there, word_there}
 use Rattle.xp_machine.proofs.update.on_refs.Goals as goal
 
 pub step-requires : goal.step-requires

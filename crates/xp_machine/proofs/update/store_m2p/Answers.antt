@@ -1,9 +1,8 @@
-use Rattle.std.proofs.Common.{◌≡◌, ◌<◌, ℕ, sym, ◌∙◌, ap, subst, slice_set, refl}
-use Rattle.xp_words.specs.Places.{M2p, sizes_of, number, size}
+use Rattle.std.proofs.Common.{refl}
+use Rattle.xp_words.specs.Places.{M2p, sizes_of}
 use Rattle.xp_words.proofs.PlaceLaws.{number-lt}
 use Rattle.xp_board.specs.Acts.{left_by}
-use Rattle.xp_machine.specs.Boards.{Changes, Told}
-use Rattle.xp_machine.proofs.Boarding.{m2p_there, word_there, changes}
+use Rattle.xp_machine.proofs.Boarding.{m2p_there}
 use Rattle.xp_machine.proofs.update.store_m2p.Goals as goal
 
 pub step-requires : goal.step-requires
