@@ -110,7 +110,7 @@ ran opens keeps guards rests t text formed told =
       log = lifts.log;
       run = lifts.run;
       sound = rests t.layout lifts.after.words lifts.after.seats sound (λ s real. (lifts.fit.empty s real, lifts.fit.cache s real, lifts.fit.walk s real));
-      safe = guards t.layout (runs.start t.layout told.opened) lifts.after lifts.log lifts.run begins;
+      safe = λ newer older a parts run. guards t.layout (runs.start t.layout told.opened) a older run begins;
       report = told.report ∙ ap (λ (m : Machine). report_of m told.closed.board.words (map log_of told.closed.cpus) (map pending_of told.closed.cpus)) lifts.fit.machine
           ∙ ap (λ (ws : List ℕ). report_of t.layout ws (map log_of told.closed.cpus) (map pending_of told.closed.cpus)) (sym lifts.fit.words);
     }

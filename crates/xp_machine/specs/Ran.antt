@@ -1,5 +1,5 @@
 -- A whole run of a trace.
-use Rattle.std.specs.Prelude.{◌≡◌, ℕ, List, map}
+use Rattle.std.specs.Prelude.{◌++◌, ◌≡◌, ℕ, List, map}
 use Rattle.xp_words.specs.declared.reply.LogLine.{LogLine}
 use Rattle.trace_text.specs.declared.trace.Trace.{Trace}
 use Rattle.machine_build.specs.Opening.{IsOpening}
@@ -37,7 +37,9 @@ pub record Ran (t : Trace) (text : List ℕ) : Type 0 where
   pub turns : answers.Turns t.layout (order t.turns) (record { at = runs.start t.layout opened; cpus = first_cpus t.layout.vcpu_domain t.scripts }) closed
   pub log : List (ℕ × Step)
   pub run : runs.RunNow t.layout (runs.start t.layout opened) log closed.at
-  -- the words that are printed are sound with empty hands, and the machine is safe
+  -- between any two of these steps, and behind the last, the machine is safe
+  pub safe : (newer older : List (ℕ × Step)) (a : runs.State) → log ≡ newer ++ older → runs.RunNow t.layout (runs.start t.layout opened) older a →
+      Safe t.layout (memory (sizes_of t.layout) a.words) (seat_of a.seats)
+  -- the words that are printed are sound with empty hands
   pub sound : SoundWords t.layout closed.at.words
-  pub safe : Safe t.layout (memory (sizes_of t.layout) closed.at.words) (seat_of closed.at.seats)
   pub report : text ≡ report_of t.layout closed.at.words (map log_of closed.cpus) (map pending_of closed.cpus)
