@@ -3,23 +3,23 @@
 //! what the definitions say is said twice.
 #![tactic(auto)]
 
+mod after;
 mod cells;
 mod counts;
 mod hand;
 mod kinds;
 mod legal;
 mod machine;
-mod moved;
 mod references;
 mod sound;
 mod valid;
 
+pub use after::moved;
 pub use hand::{
     Claimed, Ending, Finding, Hand, Held, Live, Lock, Made, Owner, Seen, Unsettled, Work,
 };
 pub use legal::{Step, Verdict, judge};
 pub use machine::{CellWord, Frame, Place, State};
-pub use moved::moved;
 pub use sound::{PARTS, Part, keeps};
 
 #[cfg(test)]

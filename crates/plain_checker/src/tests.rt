@@ -3,38 +3,9 @@
 mod cases;
 mod edits;
 
-use crate::{PARTS, Part, Place, State, Step, Verdict, judge, keeps, moved};
-use cases::{StepCase, WordCase};
-use edits::{DOWN, Edit, ONE, TWO, edited};
-use xp_board::{Act, StepKind};
-
-const REFS: [StepCase; 2] = [
-    StepCase {
-        name: "one up",
-        edits: &[],
-        step: Step {
-            place: Place::Refs { frame: 0 },
-            act: Act::Cas {
-                expected: ONE,
-                new: TWO,
-            },
-            kind: StepKind::Ref,
-        },
-        verdict: Verdict::Legal,
-        broken: &[],
-    },
-    StepCase {
-        name: "one down",
-        edits: &[Edit::Refs(0, TWO), Edit::Untyped(0)],
-        step: Step {
-            place: Place::Refs { frame: 0 },
-            act: Act::Add { by: DOWN },
-            kind: StepKind::Ref,
-        },
-        verdict: Verdict::Legal,
-        broken: &[],
-    },
-];
+use crate::{PARTS, Part, State, judge, keeps, moved};
+use cases::{CELLS, KINDS, REFERENCES, WORDS};
+use edits::edited;
 
 fn is_in(part: Part, parts: &[Part]) -> bool {
     let mut inside = false;
@@ -44,21 +15,69 @@ fn is_in(part: Part, parts: &[Part]) -> bool {
     inside
 }
 
+/// The first part that fails where it is to hold, or holds where it is to fail.
+fn amiss(state: &State, broken: &[Part]) -> Option<Part> {
+    for part in &PARTS {
+        if keeps(state, *part) == is_in(*part, broken) {
+            return Some(*part);
+        }
+    }
+    None
+}
+
 #[test]
-fn references(rt: HostRuntime) {
-    for case in &REFS {
+fn judges_steps_of_references(rt: HostRuntime) {
+    for case in &REFERENCES {
         let state = edited(case.edits);
         assert_eq!(rt; judge(&state, 0, &case.step), case.verdict, "{}", case.name);
-        let next = moved(&state, 0, &case.step);
-        for part in &PARTS {
-            assert!(rt; keeps(&state, *part), "{}: before {:?}", case.name, part);
-            assert_eq!(rt;
-                keeps(&next, *part),
-                !is_in(*part, case.broken),
-                "{}: {:?}",
-                case.name,
-                part
-            );
-        }
+        assert_eq!(rt; amiss(&state, &[]), None, "before {}", case.name);
+        assert_eq!(rt;
+            amiss(&moved(&state, 0, &case.step), case.broken),
+            None,
+            "after {}",
+            case.name
+        );
+    }
+}
+
+#[test]
+fn judges_steps_of_kinds(rt: HostRuntime) {
+    for case in &KINDS {
+        let state = edited(case.edits);
+        assert_eq!(rt; judge(&state, 0, &case.step), case.verdict, "{}", case.name);
+        assert_eq!(rt; amiss(&state, &[]), None, "before {}", case.name);
+        assert_eq!(rt;
+            amiss(&moved(&state, 0, &case.step), case.broken),
+            None,
+            "after {}",
+            case.name
+        );
+    }
+}
+
+#[test]
+fn judges_steps_of_cells(rt: HostRuntime) {
+    for case in &CELLS {
+        let state = edited(case.edits);
+        assert_eq!(rt; judge(&state, 0, &case.step), case.verdict, "{}", case.name);
+        assert_eq!(rt; amiss(&state, &[]), None, "before {}", case.name);
+        assert_eq!(rt;
+            amiss(&moved(&state, 0, &case.step), case.broken),
+            None,
+            "after {}",
+            case.name
+        );
+    }
+}
+
+#[test]
+fn tells_the_part_that_fails(rt: HostRuntime) {
+    for case in &WORDS {
+        assert_eq!(rt;
+            amiss(&edited(case.edits), case.broken),
+            None,
+            "{}",
+            case.name
+        );
     }
 }

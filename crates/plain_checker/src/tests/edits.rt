@@ -15,6 +15,8 @@ pub const ONE: u64 = OWNED + ALLOCATED + 1;
 pub const TWO: u64 = OWNED + ALLOCATED + 2;
 
 pub const DOWN: u64 = u64::MAX;
+/// The lock and one count go off.
+pub const UNLOCK: u64 = u64::MAX - (1 << 48);
 
 pub const PROGRESS: u64 = 1 << 36;
 

@@ -380,6 +380,9 @@ fn moves_cell(hand: &mut Hand, table: u64, index: u64, found: u64, left: u64) {
     let Some(lock) = newest(&hand.locks, table) else {
         return;
     };
+    if demand_at(lock.kind, index, left) == demand_at(lock.kind, index, found) {
+        return;
+    }
     let owner = Owner::Since { steps: since(hand) };
     match demand_at(lock.kind, index, left) {
         Demand::Read { frame } => take(&mut hand.refs, frame),
