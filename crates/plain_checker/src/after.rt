@@ -182,7 +182,7 @@ pub fn moved(state: &State, seat: usize, step: &Step) -> State {
 fn moves(hand: &mut Hand, domain: u16, step: &Step, found: u64, left: u64) {
     match (step.kind, step.place) {
         (StepKind::Ref, Place::Refs { frame }) => moves_ref(hand, domain, frame, found, left),
-        (StepKind::Kind, Place::Kind { frame }) => moves_kind(hand, frame, found, left),
+        (StepKind::Kind, Place::Kind { frame }) => moves_kind(hand, frame, step.act, found, left),
         (StepKind::Cell, Place::Cell { frame, index }) => {
             moves_cell(hand, frame, index, found, left);
         }
@@ -292,12 +292,14 @@ fn brings(hand: &mut Hand, frame: u64, kind: PageType, found: bool) {
     put(&mut hand.typed, frame, live);
 }
 
-fn moves_kind(hand: &mut Hand, frame: u64, found: u64, left: u64) {
+fn moves_kind(hand: &mut Hand, frame: u64, act: Act, found: u64, left: u64) {
     let (Some(old), Some(new)) = (KindWord::read(found), KindWord::read(left)) else {
         return;
     };
-    if newest(&hand.works, frame).is_some() {
-        stores(hand, frame, &old, &new);
+    if matches!(act, Act::Store { .. }) {
+        if newest(&hand.works, frame).is_some() {
+            stores(hand, frame, &old, &new);
+        }
     } else if old.validated {
         counts(hand, frame, &old, &new, left);
     } else if old.partial {

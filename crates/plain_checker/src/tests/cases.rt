@@ -584,7 +584,7 @@ pub const REFERENCES: [StepCase; 40] = [
     },
 ];
 
-pub const KINDS: [StepCase; 36] = [
+pub const KINDS: [StepCase; 49] = [
     StepCase {
         name: "dead to work",
         edits: &[Edit::Refs(0, TWO), Edit::Untyped(0)],
@@ -770,7 +770,7 @@ pub const KINDS: [StepCase; 36] = [
             kind: StepKind::Kind,
         },
         verdict: Verdict::Illegal,
-        broken: &[Part::Works],
+        broken: &[Part::Types],
     },
     StepCase {
         name: "live with one count too many",
@@ -1132,6 +1132,25 @@ pub const KINDS: [StepCase; 36] = [
         broken: &[],
     },
     StepCase {
+        name: "one up of a closing frame",
+        edits: &[
+            Edit::Refs(0, TWO),
+            Edit::Kind(0, WRITABLE + LIVE),
+            Edit::Work(0, WRITABLE + LIVE, 0),
+            Edit::Untyped(0),
+        ],
+        step: Step {
+            place: Place::Kind { frame: 0 },
+            act: Act::Cas {
+                expected: WRITABLE + LIVE,
+                new: WRITABLE + LIVE + 1,
+            },
+            kind: StepKind::Kind,
+        },
+        verdict: Verdict::Illegal,
+        broken: &[Part::Works, Part::Bare],
+    },
+    StepCase {
         name: "a table is pinned",
         edits: &[
             Edit::Refs(0, TWO),
@@ -1165,7 +1184,7 @@ pub const KINDS: [StepCase; 36] = [
             kind: StepKind::Kind,
         },
         verdict: Verdict::Illegal,
-        broken: &[Part::Spelled],
+        broken: &[Part::Spelled, Part::Types, Part::Kinds],
     },
     StepCase {
         name: "a lock goes off",
@@ -1199,9 +1218,223 @@ pub const KINDS: [StepCase; 36] = [
         verdict: Verdict::Illegal,
         broken: &[Part::References, Part::Types, Part::Locks],
     },
+    StepCase {
+        name: "live with an unsettled entry",
+        edits: &[
+            Edit::Refs(0, TWO),
+            Edit::Kind(0, L2 + LOCKED),
+            Edit::Work(0, L2 + LOCKED, 512),
+            Edit::OwnTyped(0, PageType::L2),
+            Edit::Open(0, Some(0x1007)),
+            Edit::Refs(1, TWO),
+            Edit::Kind(1, L1 + PARTIAL),
+            Edit::Cell(0, 511, 0x1007),
+        ],
+        step: Step {
+            place: Place::Kind { frame: 0 },
+            act: Act::Store { new: L2 + LIVE + 1 },
+            kind: StepKind::Kind,
+        },
+        verdict: Verdict::Illegal,
+        broken: &[Part::Live],
+    },
+    StepCase {
+        name: "live with an unsettled entry that was not loaded",
+        edits: &[
+            Edit::Refs(0, TWO),
+            Edit::Kind(0, L2 + LOCKED),
+            Edit::Work(0, L2 + LOCKED, 512),
+            Edit::OwnTyped(0, PageType::L2),
+            Edit::Open(0, None),
+            Edit::Refs(1, TWO),
+            Edit::Kind(1, L1 + LIVE + 1),
+            Edit::Cell(0, 511, 0x1007),
+        ],
+        step: Step {
+            place: Place::Kind { frame: 0 },
+            act: Act::Store { new: L2 + LIVE + 1 },
+            kind: StepKind::Kind,
+        },
+        verdict: Verdict::Illegal,
+        broken: &[],
+    },
+    StepCase {
+        name: "live with an entry found live since",
+        edits: &[
+            Edit::Refs(0, TWO),
+            Edit::Kind(0, L2 + LOCKED),
+            Edit::Work(0, L2 + LOCKED, 512),
+            Edit::OwnTyped(0, PageType::L2),
+            Edit::Open(0, Some(0x1007)),
+            Edit::Found(Place::Kind { frame: 1 }, L1 + LIVE + 1),
+            Edit::Refs(1, TWO),
+            Edit::Kind(1, L1 + LIVE + 1),
+            Edit::Cell(0, 511, 0x1007),
+        ],
+        step: Step {
+            place: Place::Kind { frame: 0 },
+            act: Act::Store { new: L2 + LIVE + 1 },
+            kind: StepKind::Kind,
+        },
+        verdict: Verdict::Legal,
+        broken: &[],
+    },
+    StepCase {
+        name: "a live table is locked",
+        edits: &[
+            Edit::Refs(0, TWO + 1),
+            Edit::Kind(0, L1 + LIVE + 1),
+            Edit::Untyped(0),
+            Edit::OtherTyped(0, PageType::L1),
+        ],
+        step: Step {
+            place: Place::Kind { frame: 0 },
+            act: Act::Cas {
+                expected: L1 + LIVE + 1,
+                new: L1 + LIVE + LOCKED + 2,
+            },
+            kind: StepKind::Kind,
+        },
+        verdict: Verdict::Legal,
+        broken: &[],
+    },
+    StepCase {
+        name: "locked with no count more",
+        edits: &[
+            Edit::Refs(0, TWO + 1),
+            Edit::Kind(0, L1 + LIVE + 1),
+            Edit::Untyped(0),
+            Edit::OtherTyped(0, PageType::L1),
+        ],
+        step: Step {
+            place: Place::Kind { frame: 0 },
+            act: Act::Cas {
+                expected: L1 + LIVE + 1,
+                new: L1 + LIVE + LOCKED + 1,
+            },
+            kind: StepKind::Kind,
+        },
+        verdict: Verdict::Illegal,
+        broken: &[Part::Types],
+    },
+    StepCase {
+        name: "a table is unpinned",
+        edits: &[Edit::Refs(0, TWO), Edit::Kind(0, L1 + LIVE + PINNED + 1)],
+        step: Step {
+            place: Place::Kind { frame: 0 },
+            act: Act::Cas {
+                expected: L1 + LIVE + PINNED + 1,
+                new: L1 + LIVE + 1,
+            },
+            kind: StepKind::Kind,
+        },
+        verdict: Verdict::Legal,
+        broken: &[],
+    },
+    StepCase {
+        name: "a kept table is taken back",
+        edits: &[Edit::Refs(0, TWO), Edit::Kind(0, L1 + PARTIAL + KEPT)],
+        step: Step {
+            place: Place::Kind { frame: 0 },
+            act: Act::Cas {
+                expected: L1 + PARTIAL + KEPT,
+                new: L1 + PARTIAL,
+            },
+            kind: StepKind::Kind,
+        },
+        verdict: Verdict::Legal,
+        broken: &[],
+    },
+    StepCase {
+        name: "the mark goes off past the flush",
+        edits: &[
+            Edit::Refs(0, TWO),
+            Edit::Kind(0, L1 + LOCKED + UNFLUSHED + 7),
+            Edit::Work(0, L1 + LOCKED + UNFLUSHED + 7, 0),
+            Edit::OwnTyped(0, PageType::L1),
+            Edit::Found(Place::Vcpu { vcpu: 0, word: 6 }, 2),
+            Edit::Found(Place::Vcpu { vcpu: 1, word: 5 }, 8),
+        ],
+        step: Step {
+            place: Place::Kind { frame: 0 },
+            act: Act::Store { new: L1 + LOCKED },
+            kind: StepKind::Kind,
+        },
+        verdict: Verdict::Legal,
+        broken: &[],
+    },
+    StepCase {
+        name: "the mark goes off before the flush",
+        edits: &[
+            Edit::Refs(0, TWO),
+            Edit::Kind(0, L1 + LOCKED + UNFLUSHED + 7),
+            Edit::Work(0, L1 + LOCKED + UNFLUSHED + 7, 0),
+            Edit::OwnTyped(0, PageType::L1),
+            Edit::Found(Place::Vcpu { vcpu: 0, word: 6 }, 2),
+            Edit::Found(Place::Vcpu { vcpu: 1, word: 5 }, 7),
+        ],
+        step: Step {
+            place: Place::Kind { frame: 0 },
+            act: Act::Store { new: L1 + LOCKED },
+            kind: StepKind::Kind,
+        },
+        verdict: Verdict::Illegal,
+        broken: &[],
+    },
+    StepCase {
+        name: "partial from closing",
+        edits: &[
+            Edit::Refs(0, TWO),
+            Edit::Kind(0, L1 + LIVE),
+            Edit::Untyped(0),
+            Edit::Work(0, L1 + LIVE, 512),
+        ],
+        step: Step {
+            place: Place::Kind { frame: 0 },
+            act: Act::Store {
+                new: L1 + PARTIAL + 512 * PROGRESS,
+            },
+            kind: StepKind::Kind,
+        },
+        verdict: Verdict::Legal,
+        broken: &[],
+    },
+    StepCase {
+        name: "live from closing",
+        edits: &[
+            Edit::Refs(0, TWO),
+            Edit::Kind(0, L1 + LIVE),
+            Edit::Untyped(0),
+            Edit::Work(0, L1 + LIVE, 512),
+        ],
+        step: Step {
+            place: Place::Kind { frame: 0 },
+            act: Act::Store { new: L1 + LIVE + 2 },
+            kind: StepKind::Kind,
+        },
+        verdict: Verdict::Illegal,
+        broken: &[Part::Types],
+    },
+    StepCase {
+        name: "dead from closing",
+        edits: &[
+            Edit::Refs(0, TWO),
+            Edit::Kind(0, L1 + LIVE),
+            Edit::Untyped(0),
+            Edit::Work(0, L1 + LIVE, 0),
+            Edit::Found(Place::Clock, 20),
+        ],
+        step: Step {
+            place: Place::Kind { frame: 0 },
+            act: Act::Store { new: L1 + 20 },
+            kind: StepKind::Kind,
+        },
+        verdict: Verdict::Legal,
+        broken: &[],
+    },
 ];
 
-pub const CELLS: [StepCase; 20] = [
+pub const CELLS: [StepCase; 24] = [
     StepCase {
         name: "an entry that asks the same",
         edits: &[
@@ -1426,6 +1659,87 @@ pub const CELLS: [StepCase; 20] = [
         step: Step {
             place: Place::Cell { frame: 0, index: 0 },
             act: Act::Store { new: 0x1007 },
+            kind: StepKind::Cell,
+        },
+        verdict: Verdict::Illegal,
+        broken: &[],
+    },
+    StepCase {
+        name: "the same with privilege found before this turn",
+        edits: &[
+            Edit::Refs(0, TWO),
+            Edit::Kind(0, L1 + LIVE + LOCKED + 1),
+            Edit::Lock(0, 0, 0),
+            Edit::Turn(1),
+            Edit::Pages(2),
+            Edit::OtherPages(1),
+            Edit::Privileges(0x20002),
+            Edit::Found(Place::Priv { domain: 0 }, 0x20002),
+            Edit::Refs(1, OTHER + ALLOCATED + 2),
+            Edit::Kind(1, WRITABLE + LIVE + 1),
+            Edit::ForeignTyped(1, PageType::Writable),
+        ],
+        step: Step {
+            place: Place::Cell { frame: 0, index: 0 },
+            act: Act::Store { new: 0x1007 },
+            kind: StepKind::Cell,
+        },
+        verdict: Verdict::Illegal,
+        broken: &[],
+    },
+    StepCase {
+        name: "a word takes its fixed form",
+        edits: &[
+            Edit::Refs(0, TWO),
+            Edit::Kind(0, DESC + LOCKED),
+            Edit::Work(0, DESC + LOCKED, 0),
+            Edit::OwnTyped(0, PageType::Desc),
+            Edit::Cell(0, 0, 0x900000000000),
+            Edit::Seen(0, 0, 0x900000000000),
+        ],
+        step: Step {
+            place: Place::Cell { frame: 0, index: 0 },
+            act: Act::Store {
+                new: 0xf00000000000,
+            },
+            kind: StepKind::Cell,
+        },
+        verdict: Verdict::Legal,
+        broken: &[],
+    },
+    StepCase {
+        name: "a word takes another form",
+        edits: &[
+            Edit::Refs(0, TWO),
+            Edit::Kind(0, DESC + LOCKED),
+            Edit::Work(0, DESC + LOCKED, 0),
+            Edit::OwnTyped(0, PageType::Desc),
+            Edit::Cell(0, 0, 0x900000000000),
+            Edit::Seen(0, 0, 0x900000000000),
+        ],
+        step: Step {
+            place: Place::Cell { frame: 0, index: 0 },
+            act: Act::Store { new: 7 },
+            kind: StepKind::Cell,
+        },
+        verdict: Verdict::Illegal,
+        broken: &[],
+    },
+    StepCase {
+        name: "a fixed form in a marked frame",
+        edits: &[
+            Edit::Refs(0, TWO),
+            Edit::Kind(0, DESC + LOCKED + UNFLUSHED + 7),
+            Edit::Work(0, DESC + LOCKED + UNFLUSHED + 7, 0),
+            Edit::OwnTyped(0, PageType::Desc),
+            Edit::Cell(0, 0, 0x900000000000),
+            Edit::Seen(0, 0, 0x900000000000),
+        ],
+        step: Step {
+            place: Place::Cell { frame: 0, index: 0 },
+            act: Act::Store {
+                new: 0xf00000000000,
+            },
             kind: StepKind::Cell,
         },
         verdict: Verdict::Illegal,

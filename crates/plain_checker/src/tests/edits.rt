@@ -1,6 +1,7 @@
 //! How a case differs from the small machine. What a hand gets is seat 0's, but for `Other`.
 use crate::{
-    CellWord, Claimed, Ending, Frame, Hand, Held, Live, Lock, Made, Owner, Place, Seen, State, Work,
+    CellWord, Claimed, Ending, Frame, Hand, Held, Live, Lock, Made, Owner, Place, Seen, State,
+    Unsettled, Work,
 };
 use xp_words::PageType;
 
@@ -67,6 +68,11 @@ pub enum Edit {
     OtherTyped(u64, PageType),
     /// The frame's kind word and how many entries are recorded.
     Work(u64, u64, u64),
+    /// The cell of a frame in work that was loaded last.
+    Seen(u64, u64, u64),
+    /// The last recorded entry of a frame in work is unsettled.
+    Open(u64, Option<u64>),
+    Turn(u64),
     /// The entry of a locked table of level 1 that was seen last.
     Lock(u64, u64, u64),
     OtherLock(u64),
@@ -194,6 +200,25 @@ fn edit_references(hand: &mut Hand, edit: Edit) {
 fn edit_hand(hand: &mut Hand, edit: Edit) {
     match edit {
         Edit::Stopped => hand.run = None,
+        Edit::Turn(turn) => hand.turn = turn,
+        Edit::Seen(frame, index, word) => {
+            for slot in &mut hand.works {
+                if let Some(held) = slot {
+                    if held.frame == frame {
+                        held.is.seen = Some(Seen { index, word });
+                    }
+                }
+            }
+        }
+        Edit::Open(frame, word) => {
+            for slot in &mut hand.works {
+                if let Some(held) = slot {
+                    if held.frame == frame {
+                        held.is.unsettled = Some(Unsettled { since: 0, word });
+                    }
+                }
+            }
+        }
         Edit::Work(frame, word, recorded) => {
             let is = Work {
                 word,
