@@ -43,6 +43,24 @@ pub const DESC: u64 = 5 << 52;
 
 pub const WRITABLE: u64 = 7 << 52;
 
+pub const CLOCK: Place = Place::Clock;
+
+pub const FLUSHED_0: Place = Place::Vcpu { vcpu: 0, word: 5 };
+
+pub const FLUSHED_1: Place = Place::Vcpu { vcpu: 1, word: 5 };
+
+pub const RUN_0: Place = Place::Vcpu { vcpu: 0, word: 6 };
+
+pub const RUN_1: Place = Place::Vcpu { vcpu: 1, word: 6 };
+
+pub const PRIV_0: Place = Place::Priv { domain: 0 };
+
+pub const PRIV_1: Place = Place::Priv { domain: 1 };
+
+pub const REFS_3: Place = Place::Refs { frame: 3 };
+
+pub const KIND_1: Place = Place::Kind { frame: 1 };
+
 #[derive(Clone, Copy, Debug, PartialEq, Eq)]
 pub enum Edit {
     Limit(u32),
@@ -55,6 +73,18 @@ pub enum Edit {
     OtherPages(u64),
     Privileges(u64),
     Stopped,
+    /// A frame with the allocated mark and one reference more.
+    Two(u64),
+    /// The same, live and writable with one type count.
+    Writable(u64),
+    /// Frame 0 in the own work: its word, and how many entries are recorded.
+    InWork(u64, u64, PageType),
+    /// Frame 0 is a live table of level 1 under the own lock, with the word last seen in its cell 0.
+    Locked(u64),
+    /// Frame 1 is domain 1's, with two references.
+    Foreign,
+    /// A page is charged and its credit in hand.
+    Charged,
     /// An untyped reference whose owner, domain 0, is known.
     Untyped(u64),
     OtherUntyped(u64),
@@ -136,6 +166,17 @@ fn typed(kind: PageType, owner: Owner, found: bool) -> Live {
     }
 }
 
+fn work(word: u64, recorded: u64) -> Work {
+    Work {
+        word,
+        recorded,
+        fixed: 0,
+        seen: None,
+        unsettled: None,
+        since: 0,
+    }
+}
+
 fn lock(seen: Option<Seen>) -> Lock {
     Lock {
         kind: PageType::L1,
@@ -144,15 +185,20 @@ fn lock(seen: Option<Seen>) -> Lock {
     }
 }
 
+fn put_frame(state: &mut State, frame: u64, refs: u64, kind: Option<u64>) {
+    if let Some(words) = state.frames.get_mut(frame as usize) {
+        words.refs = refs;
+        if let Some(word) = kind {
+            words.kind = word;
+        }
+    }
+}
+
 fn edit_words(state: &mut State, edit: Edit) {
     match edit {
         Edit::Limit(limit) => state.limit = limit,
         Edit::Clock(clock) => state.clock = clock,
-        Edit::Refs(frame, word) => {
-            if let Some(words) = state.frames.get_mut(frame as usize) {
-                words.refs = word;
-            }
-        }
+        Edit::Refs(frame, word) => put_frame(state, frame, word, None),
         Edit::Kind(frame, word) => {
             if let Some(words) = state.frames.get_mut(frame as usize) {
                 words.kind = word;
@@ -167,6 +213,15 @@ fn edit_words(state: &mut State, edit: Edit) {
             }
         }
         Edit::Pages(pages) => state.pages[0] = pages,
+        Edit::Two(frame) => put_frame(state, frame, TWO, None),
+        Edit::Writable(frame) => put_frame(state, frame, TWO, Some(WRITABLE + LIVE + 1)),
+        Edit::InWork(word, _, _) => put_frame(state, 0, TWO, Some(word)),
+        Edit::Locked(_) => put_frame(state, 0, TWO, Some(L1 + LIVE + LOCKED + 1)),
+        Edit::Foreign => {
+            put_frame(state, 1, OTHER + ALLOCATED + 2, None);
+            state.pages = [2, 1];
+        }
+        Edit::Charged => state.pages[0] = 4,
         Edit::OtherPages(pages) => state.pages[1] = pages,
         Edit::Privileges(word) => state.privileges[0] = word,
         _ => {}
@@ -185,6 +240,10 @@ fn edit_references(hand: &mut Hand, edit: Edit) {
             let is = typed(kind, own, false);
             first_free(&mut hand.typed, Held { frame, is });
         }
+        Edit::InWork(_, _, kind) => {
+            let is = typed(kind, own, false);
+            first_free(&mut hand.typed, Held { frame: 0, is });
+        }
         Edit::ForeignTyped(frame, kind) => {
             let is = typed(kind, Owner::Of { domain: 1 }, true);
             first_free(&mut hand.typed, Held { frame, is });
@@ -197,42 +256,43 @@ fn edit_references(hand: &mut Hand, edit: Edit) {
     }
 }
 
+fn edit_works(hand: &mut Hand, edit: Edit) {
+    for slot in &mut hand.works {
+        if let Some(held) = slot {
+            match edit {
+                Edit::Seen(frame, index, word) if frame == held.frame => {
+                    held.is.seen = Some(Seen { index, word });
+                }
+                Edit::Open(frame, word) if frame == held.frame => {
+                    held.is.unsettled = Some(Unsettled { since: 0, word });
+                }
+                _ => {}
+            }
+        }
+    }
+}
+
 fn edit_hand(hand: &mut Hand, edit: Edit) {
     match edit {
         Edit::Stopped => hand.run = None,
         Edit::Turn(turn) => hand.turn = turn,
-        Edit::Seen(frame, index, word) => {
-            for slot in &mut hand.works {
-                if let Some(held) = slot {
-                    if held.frame == frame {
-                        held.is.seen = Some(Seen { index, word });
-                    }
-                }
-            }
-        }
-        Edit::Open(frame, word) => {
-            for slot in &mut hand.works {
-                if let Some(held) = slot {
-                    if held.frame == frame {
-                        held.is.unsettled = Some(Unsettled { since: 0, word });
-                    }
-                }
-            }
-        }
+        Edit::Seen(..) | Edit::Open(..) => edit_works(hand, edit),
         Edit::Work(frame, word, recorded) => {
-            let is = Work {
-                word,
-                recorded,
-                fixed: 0,
-                seen: None,
-                unsettled: None,
-                since: 0,
-            };
+            let is = work(word, recorded);
             first_free(&mut hand.works, Held { frame, is });
+        }
+        Edit::InWork(word, recorded, _) => {
+            let is = work(word, recorded);
+            first_free(&mut hand.works, Held { frame: 0, is });
+            edit_references(hand, edit);
         }
         Edit::Lock(frame, index, word) => {
             let is = lock(Some(Seen { index, word }));
             first_free(&mut hand.locks, Held { frame, is });
+        }
+        Edit::Locked(word) => {
+            let is = lock(Some(Seen { index: 0, word }));
+            first_free(&mut hand.locks, Held { frame: 0, is });
         }
         Edit::Ending(frame) => {
             let is = Ending { owner: 0, since: 0 };
@@ -243,7 +303,7 @@ fn edit_hand(hand: &mut Hand, edit: Edit) {
             first_free(&mut hand.claimed, Held { frame, is });
         }
         Edit::Raised(frame) => first_free(&mut hand.raised, frame),
-        Edit::Credit => first_free(&mut hand.credits, 0),
+        Edit::Credit | Edit::Charged => first_free(&mut hand.credits, 0),
         Edit::Found(place, left) => first_free(&mut hand.steps, Made { place, left }),
         _ => edit_references(hand, edit),
     }
