@@ -1,13 +1,13 @@
 //! Steps on types.
 use super::edits::{
     CLOCK, DOWN, Edit, FLUSHED_0, FLUSHED_1, KEPT, KIND_1, L1, L2, LIVE, LOCKED, PARTIAL, PINNED,
-    PRIV_1, PROGRESS, RUN_0, TWO, UNFLUSHED, UNLOCK, WRITABLE,
+    PRIV_0, PRIV_1, PROGRESS, RUN_0, TWO, UNFLUSHED, UNLOCK, WRITABLE,
 };
 use super::{Do, StepCase, Try};
 use crate::Part;
 use xp_words::PageType;
 
-pub const KINDS: [StepCase; 49] = [
+pub const KINDS: [StepCase; 50] = [
     StepCase {
         name: "dead to work",
         edits: &[Edit::Two(0), Edit::Untyped(0)],
@@ -350,6 +350,17 @@ pub const KINDS: [StepCase; 49] = [
         step: Try::Kind(0, Do::Add(UNLOCK)),
         legal: false,
         broken: &[Part::References, Part::Types, Part::Locks],
+    },
+    StepCase {
+        name: "live past a flush of a vCPU of the owner's domain",
+        edits: &[
+            Edit::InWork(WRITABLE + LOCKED + UNFLUSHED + 7, 0, PageType::Writable),
+            Edit::Found(PRIV_0, 0),
+            Edit::Found(PRIV_1, 0),
+        ],
+        step: Try::Kind(0, Do::Store(WRITABLE + LIVE + 1)),
+        legal: false,
+        broken: &[],
     },
     StepCase {
         name: "live with an unsettled entry",

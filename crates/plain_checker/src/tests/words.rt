@@ -1,13 +1,13 @@
 //! Words and hands.
 use super::WordCase;
 use super::edits::{
-    ALLOCATED, DESC, Edit, KEPT, L1, L2, L4, LIVE, LOCKED, ONE, OTHER, OWNED, PARTIAL, PINNED,
-    PROGRESS, UNFLUSHED, WRITABLE,
+    ALLOCATED, DESC, Edit, KEPT, KIND_1, L1, L2, L4, LIVE, LOCKED, ONE, OTHER, OWNED, PARTIAL,
+    PINNED, PROGRESS, UNFLUSHED, WRITABLE,
 };
 use crate::Part;
 use xp_words::PageType;
 
-pub const WORDS: [WordCase; 40] = [
+pub const WORDS: [WordCase; 42] = [
     WordCase {
         name: "the small machine",
         edits: &[],
@@ -145,6 +145,29 @@ pub const WORDS: [WordCase; 40] = [
             Edit::Typed(0, PageType::L2),
             Edit::Kind(1, L1 + PARTIAL),
             Edit::Cell(0, 0, 0x1007),
+        ],
+        broken: &[Part::Live],
+    },
+    WordCase {
+        name: "an unsettled entry leads to a partial one",
+        edits: &[
+            Edit::InWork(L2 + LOCKED, 512, PageType::L2),
+            Edit::Two(1),
+            Edit::Open(0, Some(0x1007)),
+            Edit::Kind(1, L1 + PARTIAL),
+            Edit::Cell(0, 511, 0x1007),
+        ],
+        broken: &[],
+    },
+    WordCase {
+        name: "the same where it was found live",
+        edits: &[
+            Edit::InWork(L2 + LOCKED, 512, PageType::L2),
+            Edit::Two(1),
+            Edit::Open(0, Some(0x1007)),
+            Edit::Found(KIND_1, L1 + LIVE + 1),
+            Edit::Kind(1, L1 + PARTIAL),
+            Edit::Cell(0, 511, 0x1007),
         ],
         broken: &[Part::Live],
     },
