@@ -1,6 +1,7 @@
-ghost use Rattle.std.specs.Prelude.{◌≡◌, ◌≤◌, ◌<◌, length, vec_len, IfOk, OnErr, OnOk, IsErrOf};
-ghost use Rattle.std.specs.Io.KnownBytes.{Appends};
-ghost use Rattle.xp_io.specs.Causes.{Rose, ReadToEnd, TookMore, AppendsFront, HasCause};
+ghost use Rattle.std.specs.Prelude.{◌≡◌, ◌≤◌, ◌<◌, ◌+◌, length, vec_len, IfOk, OnErr, OnOk, IsErrOf};
+ghost use Rattle.std.specs.Io.{ReadsAtMost};
+ghost use Rattle.std.specs.Io.KnownBytes.{Appends, ReadConsumes};
+ghost use Rattle.xp_io.specs.Causes.{Rose, ReadToEnd, TookOneMore, AppendsFront, HasCause};
 ghost use Rattle.xp_io.specs.declared.whole.ReadAllError.TheVariants.{Memory, Failed};
 
 use crate::streams;
@@ -42,7 +43,24 @@ fn zeros(alloc: Global, len: usize) -> Result<Vec<u8>, AllocError>
     vec![in alloc; 0u8; len]
 }
 
-/// Reads to the end, at most `limit` bytes.
+// Reads at the front of `piece`, at most one byte more than is allowed: that is enough to know that there are too many.
+fn read_piece<S: Source>(
+    source: &mut S,
+    piece: &mut [u8],
+    left: usize,
+) -> Result<usize, streams::Failed>
+    requires { 0 < length piece.old }
+    ensures bound { ReadsAtMost result piece.new }
+    ensures few { IfOk result (λ n. n ≤ left + 1) }
+    ensures bytes { ReadConsumes (S.left source.old) (S.left source.new) result piece.new }
+    ensures cause { HasCause (S.faults source.old) (S.faults source.new) result }
+{
+    let room = left.saturating_add(1).min(piece.len());
+    source.read(&mut piece[..room])
+}
+
+/// Reads to the end, at most `limit` bytes. Never more than `limit` and one more are taken, since each read is
+/// offered no more room than that.
 pub fn read_all<S: Source>(
     alloc: Global,
     source: &mut S,
@@ -50,14 +68,14 @@ pub fn read_all<S: Source>(
 ) -> Result<Vec<u8>, ReadAllError>
     ensures whole { IfOk result (λ v. ReadToEnd (S.left source.old) (S.left source.new) v.items) }
     ensures within { IfOk result (λ v. vec_len v ≤ limit) }
-    ensures large { IsErrOf result ReadAllError.Large → TookMore (S.left source.old) (S.left source.new) limit }
+    ensures large { IsErrOf result ReadAllError.Large → TookOneMore (S.left source.old) (S.left source.new) limit }
     ensures failed { IsErrOf result ReadAllError.Failed → Rose (S.faults source.old) (S.faults source.new) }
     ensures later { S.faults source.old ≤ S.faults source.new }
 {
     let mut bytes = Vec::new(alloc);
     let mut piece = zeros(alloc, PIECE)?;
     loop {
-        let count = source.read(&mut piece)?;
+        let count = read_piece(source, &mut piece, limit - bytes.len())?;
         if count == 0 {
             return Ok(bytes);
         }

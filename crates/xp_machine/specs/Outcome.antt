@@ -10,10 +10,10 @@ use Rattle.xp_machine.specs.declared.status.Status.TheVariants as status
 use Rattle.xp_machine.specs.Texts.{fault_text, fault_status}
 use Rattle.xp_machine.specs.Ran.{Ran}
 
--- these bytes were taken: all that were left, or more than a trace may have
+-- these bytes were taken: all that were left, or one more than a trace may have, and no further one
 pub record Took (old new : Option (List ℕ)) (bytes : List ℕ) : Type 0 where
   pub consumed : Consumes old new bytes
-  pub enough : IsAtEnd new ⊎ (67108864 < length bytes)
+  pub enough : IsAtEnd new ⊎ (length bytes ≡ 67108865)
 
 -- the status and the text that are due for what the bytes spell: a trace, which is run, or a fault
 abbrev pub IsAnswer : Result Trace Fault → Status → List ℕ → Type 0

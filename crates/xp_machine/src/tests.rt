@@ -1,5 +1,7 @@
 use crate::{Status, run};
 use std::process::Abort;
+use std::test::Fail;
+use trace_text::{read_trace, write_trace};
 use xp_io::{HonestSink, HonestSource, MemorySink, MemorySource};
 
 const FIRST_UPDATE: &str =
@@ -138,4 +140,62 @@ fn a_source_and_a_sink_that_cannot_fail_give_no_fault(rt: HostRuntime) {
     let fault = matches!(answer, Status::ReadFault | Status::WriteFault);
     prove!(!fault);
     assert!(rt; answer == Status::Done);
+}
+
+// A guest sets up its tables, uses them and gives pages back; then another domain destroys it.
+const GUEST: &str =
+    "xen-pv-trace 1\nframes 64\ndomain 8\ndomain 40\npriv 0 1\nvcpu 0\nvcpu 1\nown 0 0 8\nown 1 8 40\ncell 8 0 1 0x9007\ncell 9 0 1 0xa007\ncell 10 0 1 0xb007\ncell 11 0 1 0x8005\ncell 11 1 1 0x9005\ncell 11 2 1 0xa005\ncell 11 3 1 0xb005\ncell 11 4 1 0xc007\ncell 11 5 1 0xd007\ncell 11 6 1 0xe007\nop 1 ext 3 8 0 5 8 0\nop 1 write k 0x6000 0xf007\nop 1 va 0x6000 0xe005 2\nop 1 mmu 0x7ff0 0xa008 0xe007\nop 1 write k 0x200000 0x1234\nop 1 va 0x5000 0x0 2\nop 1 mem 1 0 13 47\nop 1 mem 6 0 5\nop 1 read k 0x200000\nop 0 ext 0 3 0\nop 0 mmu 0x1 0x3000 0xf001\nop 0 destroy 1\nturn 1 4\nturn 0 1\nturn 1 5\nturn 0 1\nturn 1 3\nturn 0 1\nend\n";
+
+// One operation of each form.
+const OPERATIONS: &str =
+    "xen-pv-trace 2\nframes 16\nlimit 9\nclock 5\ndomain 8\ndomain 8\npriv 0 1\nvcpu 0\nvcpu 1\nown 0 0 8\ncell 4 0 1 28673\nop 0 mmu 32752 1 2 3 4\nop 0 ext 4 5 0 3 6 0\nop 0 va 4096 3 1\nop 0 vaother 4096 3 1 2\nop 0 gdt 600 7 8\nop 0 desc 28672 9\nop 0 mem 6 0 4 5\nop 0 multi mmu 1 2 3 ; ext 4 5 6 ; gdt 0 ; va 1 2 3\nop 0 read k 4096\nop 0 read u 4096\nop 0 write k 1 2\nop 0 write u 1 2\nop 0 ldt 3\nop 1 destroy 1\nop 1 grant 0 1\nop 1 revoke 0 1\nop 1 ptwr u 1 2\nop 1 xchg 0 1 2 5 6 40\nturn 0 14\nturn 1 5\nend\n";
+
+// The report of a trace.
+fn report_of_text(rt: &(impl Abort + AllocGlobal), trace: Vec<u8>) -> Vec<u8> {
+    let mut source = HonestSource::new(trace);
+    let mut sink = MemorySink::new(rt.alloc(), 16384, 16384, Vec::new(rt.alloc())).expect(
+        rt, "memory",
+    );
+    let answer = run(rt.alloc(), &turns(rt), &mut source, &mut sink);
+    assert!(rt; answer == Status::Done);
+    let mut text = Vec::new(rt.alloc());
+    text.extend_from_slice(sink.bytes()).expect(rt, "memory");
+    text
+}
+
+#[test]
+fn a_trace_written_and_read_again_is_the_same_and_runs_alike(rt: HostRuntime) -> Result<(), Fail> {
+    for text in [GUEST, OPERATIONS] {
+        let trace = read_trace(rt.alloc(), text.as_bytes())?;
+        let written = write_trace(rt.alloc(), &trace)?;
+        let again = read_trace(rt.alloc(), &written)?;
+        let twice = write_trace(rt.alloc(), &again)?;
+        assert!(rt; twice == written);
+        let report = report_of_text(&rt, bytes(&rt, text));
+        assert!(rt; report_of_text(&rt, written) == report);
+    }
+    Ok(())
+}
+
+#[test]
+fn a_guest_cut_after_any_line_is_a_bad_trace_that_ends_there(rt: HostRuntime) -> Result<(), Fail> {
+    let mut front = String::new(rt.alloc());
+    let mut line = 1u32;
+    for next in GUEST.lines() {
+        if next == "end" {
+            break;
+        }
+        front.push_str(next)?;
+        front.push('\n')?;
+        line = line.saturating_add(1);
+        let want = format!(in rt.alloc(); "bad trace line {line}: end\n")?;
+        runs_to(
+            &rt,
+            front.as_str(),
+            usize::MAX,
+            Status::BadTrace,
+            want.as_str(),
+        );
+    }
+    Ok(())
 }

@@ -53,7 +53,7 @@ fn answer(alloc: Global, bytes: &[u8]) -> Result<Due, AllocError>
 // What is due for more bytes than a trace may have.
 #[tactic(auto, unfolding(crate::specs::Texts::fault_status, trace_text::specs::TraceOf::trace_of))]
 fn too_long(alloc: Global) -> Result<Due, AllocError>
-    ensures { IfOk result (λ d. (bytes : List ℕ) → 67108864 < length bytes → IsAnswer (trace_of bytes) d.status d.text.items) }
+    ensures { IfOk result (λ d. (bytes : List ℕ) → length bytes ≡ 67108865 → IsAnswer (trace_of bytes) d.status d.text.items) }
 {
     let text = large_text(alloc, 0, What::Bytes, 67_108_865)?;
     Ok(Due {
