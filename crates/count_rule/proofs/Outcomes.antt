@@ -26,7 +26,8 @@ use Rattle.xp_board.specs.Legal.{LegalMove, LegalNow, is_proved, WritesSpelling}
 use Rattle.xp_board.specs.Sound.{Spelled, Sound}
 use Rattle.xp_board.specs.After.{noted}
 use Rattle.xp_board.specs.Runs.{Stepped}
-use Rattle.xp_board.proofs.Effects.{SameParts, Looked, Raised, Lowered, Mapped, looked, raised, lowered, mapped, effect_of, same_or_other}
+use Rattle.xp_board.proofs.Effects.{SameParts, Looked, Raised, Lowered, Mapped, looked, raised, lowered, mapped, effect_of}
+use Rattle.xp_board.proofs.PlaceTests.{same_or_other}
 use Rattle.count_rule.proofs.Sums.{hands-part, when_eq, when_ne}
 use Rattle.count_rule.proofs.Lists.{times_by-without}
 use Rattle.count_rule.proofs.Moves.{is_written, Alike, Turned}

@@ -11,7 +11,7 @@ use Rattle.xp_board.specs.Readings.{owner_of, free_stamp, told_value, ref_count,
 use Rattle.xp_board.specs.Hands.{refs_to, hand}
 use Rattle.xp_board.specs.Recorded.{hands, CountsAgree}
 use Rattle.xp_board.specs.Sound.{Stamped}
-use Rattle.xp_board.proofs.Effects.{same_or_other}
+use Rattle.xp_board.proofs.PlaceTests.{same_or_other}
 use Rattle.found_rule.proofs.Moves.{SameWords}
 
 -- ---- what one seat counts is within what all count

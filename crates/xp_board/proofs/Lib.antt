@@ -1,4 +1,7 @@
 mod ClaimPicture
+pub mod PlaceTests
+pub mod ActEffects
+pub mod MarkEffects
 pub mod Effects
 mod Empty
 mod EntryPicture

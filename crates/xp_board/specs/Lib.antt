@@ -38,3 +38,4 @@ pub mod Sound
 pub mod Lawful
 pub mod Runs
 pub mod Told
+pub mod Keeping
