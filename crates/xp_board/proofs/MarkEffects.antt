@@ -50,13 +50,13 @@ shed_by n f upto h b e may hand =
     shed_entry f upto (record { e = e; may = may; hand = hand ∙ ap (λ o. shed f upto o h) may.here })
 
 mark_by : (n : Machine) (kind : StepKind) (mark : Option Mark) (h b : Holdings) → LegalMark n h kind mark → b ≡ after_mark n mark h → MarkEffect n h b
-mark_by n kind None h b legal hand = nothing hand
-mark_by n kind (Some (marks.Cut call)) h b legal hand = nothing hand
-mark_by n kind (Some (marks.Walk write)) h b legal hand = nothing hand
-mark_by n kind (Some marks.Turn) h b legal hand = turned hand
-mark_by n kind (Some (marks.Forget page)) h b legal hand = forgot page (record { landed = legal; hand = hand })
-mark_by n kind (Some (marks.Record f upto)) h b legal hand = record_by n f upto h b legal.0 legal.1 hand
-mark_by n kind (Some (marks.Shed f upto)) h b legal hand = shed_by n f upto h b legal.0 legal.1 hand
+mark_by n sort None h b legal hand = nothing hand
+mark_by n sort (Some (marks.Cut call)) h b legal hand = nothing hand
+mark_by n sort (Some (marks.Walk write)) h b legal hand = nothing hand
+mark_by n sort (Some marks.Turn) h b legal hand = turned hand
+mark_by n sort (Some (marks.Forget page)) h b legal hand = forgot page (record { landed = legal; hand = hand })
+mark_by n sort (Some (marks.Record f upto)) h b legal hand = record_by n f upto h b legal.0 legal.1 hand
+mark_by n sort (Some (marks.Shed f upto)) h b legal hand = shed_by n f upto h b legal.0 legal.1 hand
 
 pub mark_effect : (n : Machine) (s : ℕ) (x : Step) (h b : ℕ → Holdings) → MayMark n x (h s) → Marked n s x h b → MarkEffect n (h s) (b s)
 mark_effect n s x h b may marked = mark_by n x.kind x.mark (h s) (b s) may.legal marked.mine
