@@ -1,5 +1,6 @@
 mod ClaimPicture
 pub mod PlaceTests
+pub mod KindForms
 pub mod ActEffects
 pub mod Doing
 mod WordInversions
