@@ -1,10 +1,12 @@
 pub mod Awaits
+pub mod Came
 pub mod Counted
 pub mod Demands
 pub mod Items
 pub mod Like
+pub mod Lists
 pub mod Lowers
+pub mod Moves
 pub mod Paths
-pub mod Rows
 pub mod Stays
 pub mod Tables

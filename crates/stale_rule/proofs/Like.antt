@@ -1,147 +1,134 @@
--- What a step that is legal today leaves of a hand, as far as old translations go.
-use Rattle.std.proofs.Common.{◌≡◌, ℕ, ◌+◌, ◌==◌, Bool, true, false, List, [], ◌∷◌, length, refl, sym, ◌∙◌, ap, subst, if◌then◌else◌, Option, Some}
+-- What steps and marks leave of a hand, as far as old translations go.
+use Rattle.std.proofs.Common.{◌≡◌, ℕ, zero, suc, ◌+◌, ◌≤◌, ◌==◌, Bool, true, false, List, [], ◌∷◌, length, refl, sym, ◌∙◌, ap, subst, arith, if◌then◌else◌, Option, Some, None}
+use Rattle.xp_words.specs.declared.entry.Demand.{Demand}
+use Rattle.xp_words.specs.declared.entry.Demand.TheVariants.{Nothing, Bad, Read, Typed}
 use Rattle.xp_words.specs.KindWords.{kind_fields}
 use Rattle.xp_words.specs.Places.{Place, Clock, Pages, Life, Vcpu, Refs, Kind, M2p, Cell, Map, Priv}
+use Rattle.xp_board.specs.declared.step.Item.{Item}
 use Rattle.xp_board.specs.declared.holdings.Work.{Work}
-use Rattle.xp_board.specs.declared.holdings.Ending.{Ending}
+use Rattle.xp_board.specs.declared.holdings.Reached.{Reached}
 use Rattle.xp_board.specs.declared.holdings.Holdings.{Holdings}
-use Rattle.xp_board.specs.Lists.{one_at, times_by, changed_by, EachOf}
-use Rattle.xp_board.specs.Readings.{ref_count}
+use Rattle.xp_board.specs.Lists.{EachOf, Member}
 use Rattle.xp_board.specs.Hands.{claims_of}
-use Rattle.xp_board.specs.RefSteps.{took_ref, gave_ref}
+use Rattle.xp_board.specs.Reach.{reached_by}
+use Rattle.xp_board.specs.Settling.{demand_in, demand_out}
 use Rattle.xp_board.specs.After.{learned, learned_cell, learned_own, learned_work, learned_claim}
-use Rattle.xp_board.proofs.Effects.{SameParts}
-
--- ---- lists
-pub EachOf-map : {A : Type 0} (P Q : A → Type 0) (xs : List A) → ((x : A) → P x → Q x) → EachOf P xs → EachOf Q xs
-unfolding EachOf
-EachOf-map P Q [] f e = tt
-EachOf-map P Q (x ∷ xs) f e = (f x e.0, EachOf-map P Q xs f e.1)
-
-cond-EachOf : {A : Type 0} (P : A → Type 0) (c : Bool) (x y : A) (xs ys : List A) → P x × EachOf P xs → P y × EachOf P ys →
-    EachOf P (if c then (x ∷ xs) else (y ∷ ys))
-unfolding EachOf
-cond-EachOf P true x y xs ys a b = a
-cond-EachOf P false x y xs ys a b = b
-
-EachOf-changed : {A : Type 0} (P : A → Type 0) (key : A → ℕ) (g : ℕ) (change : A → A) (xs : List A) → ((x : A) → P x → P (change x)) →
-    EachOf P xs → EachOf P (changed_by key g change xs)
-unfolding EachOf changed_by
-EachOf-changed P key g change [] f e = tt
-EachOf-changed P key g change (x ∷ xs) f e =
-    cond-EachOf P (key x == g) (change x) x xs (changed_by key g change xs) (f x e.0, e.1) (e.0, EachOf-changed P key g change xs f e.1)
-
-cond-times : {A : Type 0} (key : A → ℕ) (g : ℕ) (c : Bool) (x y : A) (xs ys : List A) (n : ℕ) → one_at g (key x) + times_by key g xs ≡ n →
-    one_at g (key y) + times_by key g ys ≡ n → times_by key g (if c then (x ∷ xs) else (y ∷ ys)) ≡ n
-unfolding times_by
-cond-times key g true x y xs ys n a b = a
-cond-times key g false x y xs ys n a b = b
-
-times-changed : {A : Type 0} (key : A → ℕ) (g f : ℕ) (change : A → A) (xs : List A) → ((x : A) → key (change x) ≡ key x) →
-    times_by key g (changed_by key f change xs) ≡ times_by key g xs
-unfolding times_by changed_by
-times-changed key g f change [] e = refl
-times-changed key g f change (x ∷ xs) e =
-    let rest = times-changed key g f change xs e in
-    cond-times key g (key x == f) (change x) x xs (changed_by key f change xs) (one_at g (key x) + times_by key g xs) (rw (e x)) (rw rest)
+use Rattle.stale_rule.proofs.Lists.{EachOf-changed, times-changed}
 
 -- ---- hands
--- From hand a to hand b the cache, the walk and the steps are the same; frames in work are those of before, and
--- claimed ones; what is ending besides has been so for no step of these.
+-- From hand a to hand b the steps are the same; what is in work or ending besides the frames of before has been so
+-- for no step of these.
 pub record HandLike (a b : Holdings) : Type 1 where
-  pub cache : b.cache ≡ a.cache
-  pub walk : b.walk ≡ a.walk
   pub steps : b.steps ≡ a.steps
-  pub claims : (g : ℕ) → claims_of g b.claimed ≡ claims_of g a.claimed
-  pub works : (P : ℕ → ℕ → Type 0) → EachOf (λ e. P e.frame e.since) a.works → EachOf (λ e. P e.frame e.since) b.works
+  pub works : (P : ℕ → ℕ → Type 0) → ((f : ℕ) → P f (length a.steps + 1)) → EachOf (λ e. P e.frame e.since) a.works →
+      EachOf (λ e. P e.frame e.since) b.works
   pub ending : (P : ℕ → ℕ → Type 0) → ((f : ℕ) → P f (length a.steps + 1)) → EachOf (λ e. P e.frame e.since) a.ending →
       EachOf (λ e. P e.frame e.since) b.ending
 
+-- nothing more is claimed, cached, or reached by the walk
+pub record HandStays (a b : Holdings) : Type 1 where
+  pub like : HandLike a b
+  pub claims : (g : ℕ) → claims_of g a.claimed ≡ 0 → claims_of g b.claimed ≡ 0
+  pub cache : (x : Item) → Member x b.cache → Member x a.cache
+  pub walk : (x : Reached) → Member x (reached_by b.walk) → Member x (reached_by a.walk)
+
 pub same_like : (a : Holdings) → HandLike a a
-same_like a =
-    record { cache = refl; walk = refl; steps = refl; claims = λ g. refl; works = λ P e. e; ending = λ P new e. e }
+same_like a = record { steps = refl; works = λ P new e. e; ending = λ P new e. e }
+
+pub same_stays : (a : Holdings) → HandStays a a
+same_stays a = record { like = same_like a; claims = λ g e. e; cache = λ x e. e; walk = λ x e. e }
+
+-- the other parts of a hand play no part
+pub parts_like : (a b : Holdings) → b.steps ≡ a.steps → b.works ≡ a.works → b.ending ≡ a.ending → HandLike a b
+parts_like a b steps works ending =
+    record {
+      steps = steps;
+      works = λ P new e. subst (λ xs. EachOf (λ x. P x.frame x.since) xs) (sym works) e;
+      ending = λ P new e. subst (λ xs. EachOf (λ x. P x.frame x.since) xs) (sym ending) e;
+    }
+
+pub like_stays : (a b : Holdings) → HandLike a b → b.claimed ≡ a.claimed → b.cache ≡ a.cache → b.walk ≡ a.walk → HandStays a b
+like_stays a b like claimed cache walk =
+    record {
+      like = like;
+      claims = λ g e. ap (λ xs. claims_of g xs) claimed ∙ e;
+      cache = λ x e. subst (λ xs. Member x xs) cache e;
+      walk = λ x e. subst (λ w. Member x (reached_by w)) walk e;
+    }
+
+pub parts_stay : (a b : Holdings) → b.steps ≡ a.steps → b.works ≡ a.works → b.ending ≡ a.ending → b.claimed ≡ a.claimed → b.cache ≡ a.cache →
+    b.walk ≡ a.walk → HandStays a b
+parts_stay a b steps works ending claimed cache walk = like_stays a b (parts_like a b steps works ending) claimed cache walk
 
 pub then_like : (a b c : Holdings) → HandLike a b → HandLike b c → HandLike a c
 then_like a b c one two =
+    let new : (P : ℕ → ℕ → Type 0) → ((f : ℕ) → P f (length a.steps + 1)) → (f : ℕ) → P f (length b.steps + 1) =
+    λ P first f. subst (λ xs. P f (length xs + 1)) (sym one.steps) (first f) in
     record {
-      cache = two.cache ∙ one.cache;
-      walk = two.walk ∙ one.walk;
       steps = two.steps ∙ one.steps;
-      claims = λ g. two.claims g ∙ one.claims g;
-      works = λ P e. two.works P (one.works P e);
-      ending = λ P new e. two.ending P (λ f. subst (λ xs. P f (length xs + 1)) (sym one.steps) (new f)) (one.ending P new e);
+      works = λ P first e. two.works P (new P first) (one.works P first e);
+      ending = λ P first e. two.ending P (new P first) (one.ending P first e);
     }
 
-pub parts_like : (a b : Holdings) → SameParts a b → HandLike a b
-parts_like a b same =
+pub then_stays : (a b c : Holdings) → HandStays a b → HandStays b c → HandStays a c
+then_stays a b c one two =
     record {
-      cache = same.cache;
-      walk = same.walk;
-      steps = same.steps;
-      claims = λ g. ap (λ xs. claims_of g xs) same.claimed;
-      works = λ P e. subst (λ xs. EachOf (λ x. P x.frame x.since) xs) (sym same.works) e;
-      ending = λ P new e. subst (λ xs. EachOf (λ x. P x.frame x.since) xs) (sym same.ending) e;
+      like = then_like a b c one.like two.like;
+      claims = λ g e. two.claims g (one.claims g e);
+      cache = λ x e. one.cache x (two.cache x e);
+      walk = λ x e. one.walk x (two.walk x e);
     }
 
-if_like : (test : Bool) (a b c : Holdings) → HandLike a b → HandLike a c → HandLike a (if test then b else c)
-if_like true a b c one two = one
-if_like false a b c one two = two
+pub if_stays : (test : Bool) (a b c : Holdings) → HandStays a b → HandStays a c → HandStays a (if test then b else c)
+if_stays true a b c one two = one
+if_stays false a b c one two = two
 
 -- ---- what is learned of the word at a place
 if_work : (P : Work → Type 0) (c : Bool) (x y : Work) → P x → P y → P (if c then x else y)
 if_work P true x y p q = p
 if_work P false x y p q = q
 
-cell_like : (f i w : ℕ) (a : Holdings) → HandLike a (learned_cell f i w a)
-cell_like f i w a =
+pub cell_stays : (f i w : ℕ) (a : Holdings) → HandStays a (learned_cell f i w a)
+cell_stays f i w a =
     record {
-      cache = refl;
-      walk = refl;
-      steps = refl;
-      claims = λ g. times-changed (λ e. e.frame) g f (learned_claim i w) a.claimed (λ e. refl);
-      works = λ P e. EachOf-changed (λ x. P x.frame x.since) (λ x. x.frame) f (learned_work i w) a.works
-          (λ x p. if_work (λ y. P y.frame y.since) (kind_fields x.word).unflushed x _ p p) e;
-      ending = λ P new e. e;
+      like = record {
+        steps = refl;
+        works = λ P new e. EachOf-changed (λ x. P x.frame x.since) (λ x. x.frame) f (learned_work i w) a.works
+            (λ x p. if_work (λ y. P y.frame y.since) (kind_fields x.word).unflushed x _ p p) e;
+        ending = λ P new e. e;
+      };
+      claims = λ g e. times-changed (λ x. x.frame) g f (learned_claim i w) a.claimed (λ x. refl) ∙ e;
+      cache = λ x e. e;
+      walk = λ x e. e;
     }
 
-own_like : (k w : ℕ) (a : Holdings) → HandLike a (learned_own k w a)
-own_like k w a =
-    let parts : (o0 o1 r : Option ℕ) → HandLike a (record a { old0 = o0; old1 = o1; run = r }) =
-    λ o0 o1 r. record { cache = refl; walk = refl; steps = refl; claims = λ g. refl; works = λ P e. e; ending = λ P new e. e } in
-    if_like (k == 2) a _ _ (parts (Some w) a.old1 a.run)
-    (if_like (k == 3) a _ _ (parts a.old0 (Some w) a.run) (if_like (k == 6) a _ _ (parts a.old0 a.old1 (Some w)) (same_like a)))
+pub own_stays : (k w : ℕ) (a : Holdings) → HandStays a (learned_own k w a)
+own_stays k w a =
+    if_stays (k == 2) a _ _ (parts_stay a _ refl refl refl refl refl refl)
+    (if_stays (k == 3) a _ _ (parts_stay a _ refl refl refl refl refl refl)
+    (if_stays (k == 6) a _ _ (parts_stay a _ refl refl refl refl refl refl) (same_stays a)))
 
-pub learned_like : (s : ℕ) (p : Place) (found left : ℕ) (a : Holdings) → HandLike a (learned s p found left a)
-learned_like s (Cell f i) found left a = cell_like f i left a
-learned_like s (Vcpu v k) found left a = if_like (v == s) a (learned_own k left a) a (own_like k left a) (same_like a)
-learned_like s (Life d) found left a =
-    if_like (found == 0) a _ a
-    (record { cache = refl; walk = refl; steps = refl; claims = λ g. refl; works = λ P e. e; ending = λ P new e. e }) (same_like a)
-learned_like s Clock found left a = same_like a
-learned_like s (Pages d) found left a = same_like a
-learned_like s (Refs f) found left a = same_like a
-learned_like s (Kind f) found left a = same_like a
-learned_like s (M2p f) found left a = same_like a
-learned_like s (Map k) found left a = same_like a
-learned_like s (Priv d) found left a = same_like a
+pub learned_stays : (s : ℕ) (p : Place) (found left : ℕ) (a : Holdings) → HandStays a (learned s p found left a)
+learned_stays s (Cell f i) found left a = cell_stays f i left a
+learned_stays s (Vcpu v k) found left a = if_stays (v == s) a (learned_own k left a) a (own_stays k left a) (same_stays a)
+learned_stays s (Life d) found left a = if_stays (found == 0) a _ a (parts_stay a _ refl refl refl refl refl refl) (same_stays a)
+learned_stays s Clock found left a = same_stays a
+learned_stays s (Pages d) found left a = same_stays a
+learned_stays s (Refs f) found left a = same_stays a
+learned_stays s (Kind f) found left a = same_stays a
+learned_stays s (M2p f) found left a = same_stays a
+learned_stays s (Map k) found left a = same_stays a
+learned_stays s (Priv d) found left a = same_stays a
 
 -- ---- references
-pub took_like : (f w : ℕ) (a : Holdings) → HandLike a (took_ref f w a)
-took_like f w a =
-    record { cache = refl; walk = refl; steps = refl; claims = λ g. refl; works = λ P e. e; ending = λ P new e. e }
+pub out_stays : (d : Demand) (a : Holdings) → HandStays a (demand_out d a)
+out_stays (Read g) a = parts_stay a _ refl refl refl refl refl refl
+out_stays (Typed g t) a = parts_stay a _ refl refl refl refl refl refl
+out_stays Nothing a = same_stays a
+out_stays Bad a = same_stays a
 
-cond-ending : (P : Ending → Type 0) (c : Bool) (x : Ending) (xs : List Ending) → P x → EachOf P xs → EachOf P (if c then (x ∷ xs) else xs)
-unfolding EachOf
-cond-ending P true x xs p e = (p, e)
-cond-ending P false x xs p e = e
-
-pub gave_like : (f w : ℕ) (a : Holdings) → HandLike a (gave_ref f w a)
-gave_like f w a =
-    record {
-      cache = refl;
-      walk = refl;
-      steps = refl;
-      claims = λ g. refl;
-      works = λ P e. e;
-      ending = λ P new e. cond-ending (λ x. P x.frame x.since) (ref_count w == 1) _ a.ending (new f) e;
-    }
+pub in_stays : (d : Demand) (a : Holdings) → HandStays a (demand_in d a)
+in_stays (Read g) a = parts_stay a _ refl refl refl refl refl refl
+in_stays (Typed g t) a = parts_stay a _ refl refl refl refl refl refl
+in_stays Nothing a = same_stays a
+in_stays Bad a = same_stays a

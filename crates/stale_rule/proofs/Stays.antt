@@ -1,87 +1,88 @@
--- Fresh holds on where no cell, kind word or flush changes, and reference words keep their owners.
-use Rattle.std.proofs.Common.{◌≡◌, ◌≢◌, ℕ, ◌<◌, ◌≤◌, inl, inr, refl, sym, ◌∙◌, ap, subst, arith, IsTrue, Option, Some, None}
+-- Fresh holds on where no more is reached than before, and what is reached bears the change.
+use Rattle.std.proofs.Common.{◌≡◌, ◌≢◌, ℕ, ◌<◌, ◌≤◌, ◌⊎◌, inl, inr, true, refl, sym, ◌∙◌, ap, subst, arith, IsTrue, Option, Some, None}
 use Rattle.std.proofs.lemmas.Bool.{cases_eq}
-use Rattle.xp_words.specs.Entries.{is_bit, frame_of}
 use Rattle.xp_words.specs.Machine.{Machine}
-use Rattle.xp_words.specs.Places.{Sizes, sizes_of, Place, Clock, Vcpu, Refs, Kind, Cell, Priv}
+use Rattle.xp_words.specs.Places.{Sizes, sizes_of, Place, Clock, Vcpu, Refs, Kind, Priv}
+use Rattle.xp_board.specs.declared.step.Step.{Step}
 use Rattle.xp_board.specs.declared.holdings.Holdings.{Holdings}
-use Rattle.xp_board.specs.Lists.{Member}
-use Rattle.xp_board.specs.Readings.{is_free, free_stamp, owner_of, domain_of, has_ever}
+use Rattle.xp_board.specs.Readings.{kind_at, is_free, free_stamp, owner_of, domain_of, has_ever}
 use Rattle.xp_board.specs.Hands.{claims_of}
 use Rattle.xp_board.specs.Valid.{Permits, PermitsOwner}
-use Rattle.xp_board.specs.Reach.{Use, Table, Writes, Reads, use_below, reached_by, Reach, cached, walked, entry}
-use Rattle.xp_board.specs.Fresh.{Belongs, Awaited, FreshAt, Fresh}
+use Rattle.xp_board.specs.Reach.{Use, Table, Writes, Reads, Reach}
+use Rattle.xp_board.specs.Fresh.{Belongs, Bears, Awaited, FreshAt, Fresh}
 
--- a reference word has the owner that it had, and is free as it was
+-- ---- a reference word
+-- it has the owner that it had, and is free as it was
 pub record RefKept (w w2 : ℕ) : Type 0 where
   pub owner : owner_of w2 ≡ owner_of w
   pub free : is_free w2 ≡ is_free w
   pub stamp : free_stamp w2 ≡ free_stamp w
 
+-- or it is free now, with a stamp that the vCPU has not been flushed past
+pub record RefFreed (flushed w2 : ℕ) : Type 0 where
+  pub owner : owner_of w2 ≡ None
+  pub free : is_free w2 ≡ true
+  pub stamp : flushed ≤ free_stamp w2
+
+abbrev pub RefStays : ℕ → ℕ → ℕ → Type 0
+RefStays flushed w w2 = RefKept w w2 ⊎ RefFreed flushed w2
+
 pub ref_same : (w w2 : ℕ) → w2 ≡ w → RefKept w w2
 ref_same w w2 e = record { owner = ap owner_of e; free = ap is_free e; stamp = ap free_stamp e }
 
--- nothing more is reached where no cell and nothing that is cached changes
-pub Reach-same : {z : Sizes} {m m2 : Place → ℕ} {a b : Holdings} {g : ℕ} {u : Use} → ((f i : ℕ) → m2 (Cell f i) ≡ m (Cell f i)) →
-    b.cache ≡ a.cache → b.walk ≡ a.walk → Reach z m2 b g u → Reach z m a g u
-Reach-same cells cache walk (cached x c) = cached x (subst (λ xs. Member x xs) cache c)
-Reach-same cells cache walk (walked x c) = walked x (subst (λ w. Member x (reached_by w)) walk c)
-Reach-same {z} {m} {m2} {a} {b} cells cache walk (entry f level i r w p inside) =
-    subst (λ x. Reach z m a (frame_of x) (use_below level x)) (sym (cells f i))
-    (entry f level i (Reach-same cells cache walk r) w (subst (λ x. IsTrue (is_bit 0 x)) (cells f i) p) (subst (λ x. frame_of x < z.frames) (cells f i) inside))
+-- ---- permits
+-- a privilege that was had is had
+abbrev pub KeepsEver : (Place → ℕ) → (Place → ℕ) → Type 0
+KeepsEver m m2 = (d o : ℕ) → IsTrue (has_ever o (m (Priv d))) → IsTrue (has_ever o (m2 (Priv d)))
 
-permits_kept : (m m2 : Place → ℕ) (d : ℕ) (o : Option ℕ) → m2 (Priv d) ≡ m (Priv d) → PermitsOwner m d o → PermitsOwner m2 d o
+pub ever_same : (m m2 : Place → ℕ) → ((d : ℕ) → m2 (Priv d) ≡ m (Priv d)) → KeepsEver m m2
+ever_same m m2 e d o ever = subst (λ w. IsTrue (has_ever o w)) (sym (e d)) ever
+
+permits_kept : (m m2 : Place → ℕ) (d : ℕ) (o : Option ℕ) → KeepsEver m m2 → PermitsOwner m d o → PermitsOwner m2 d o
 permits_kept m m2 d (Some o) e (inl own) = inl own
-permits_kept m m2 d (Some o) e (inr ever) = inr (subst (λ w. IsTrue (has_ever o w)) (sym e) ever)
+permits_kept m m2 d (Some o) e (inr ever) = inr (e d o ever)
 permits_kept m m2 d None e p = tt
 
-frame_permits : (m m2 : Place → ℕ) (d g : ℕ) → m2 (Priv d) ≡ m (Priv d) → RefKept (m (Refs g)) (m2 (Refs g)) → Permits m d g → Permits m2 d g
-frame_permits m m2 d g e kept p = subst (λ o. PermitsOwner m2 d o) (sym kept.owner) (permits_kept m m2 d (owner_of (m (Refs g))) e p)
+frame_permits : (m m2 : Place → ℕ) (d g flushed : ℕ) → KeepsEver m m2 → RefStays flushed (m (Refs g)) (m2 (Refs g)) → Permits m d g → Permits m2 d g
+frame_permits m m2 d g flushed e (inl kept) p = subst (λ o. PermitsOwner m2 d o) (sym kept.owner) (permits_kept m m2 d (owner_of (m (Refs g))) e p)
+frame_permits m m2 d g flushed e (inr freed) p = subst (λ o. PermitsOwner m2 d o) (sym freed.owner) tt
 
-belongs_kept : (m m2 : Place → ℕ) (d g : ℕ) (u : Use) → m2 (Priv d) ≡ m (Priv d) → RefKept (m (Refs g)) (m2 (Refs g)) → Belongs m d g u → Belongs m2 d g u
-belongs_kept m m2 d g (Table level) e kept (inl free) = inl (kept.free ∙ free)
-belongs_kept m m2 d g (Table level) e kept (inr own) = inr (kept.owner ∙ own)
-belongs_kept m m2 d g Writes e kept p = frame_permits m m2 d g e kept p
-belongs_kept m m2 d g Reads e kept p = frame_permits m m2 d g e kept p
+belongs_kept : (m m2 : Place → ℕ) (d g flushed : ℕ) (u : Use) → KeepsEver m m2 → RefStays flushed (m (Refs g)) (m2 (Refs g)) → Belongs m d g u → Belongs m2 d g u
+belongs_kept m m2 d g flushed (Table level) e (inl kept) (inl free) = inl (kept.free ∙ free)
+belongs_kept m m2 d g flushed (Table level) e (inl kept) (inr own) = inr (kept.owner ∙ own)
+belongs_kept m m2 d g flushed (Table level) e (inr freed) old = inl freed.free
+belongs_kept m m2 d g flushed Writes e kept p = frame_permits m m2 d g flushed e kept p
+belongs_kept m m2 d g flushed Reads e kept p = frame_permits m m2 d g flushed e kept p
 
--- what changes in a hand: its cache, its walk and its claims are the same, and what was awaited is
-pub record HandKept (z : Sizes) (clock : ℕ) (a b : Holdings) : Type 0 where
-  pub cache : b.cache ≡ a.cache
-  pub walk : b.walk ≡ a.walk
-  pub claims : (g : ℕ) → claims_of g b.claimed ≡ claims_of g a.claimed
-  pub awaited : (flushed g : ℕ) (u : Use) → flushed ≤ clock → Awaited z flushed g u a → Awaited z flushed g u b
+stamp_kept : (flushed w w2 : ℕ) → RefStays flushed w w2 → (IsTrue (is_free w) → flushed ≤ free_stamp w) → IsTrue (is_free w2) → flushed ≤ free_stamp w2
+stamp_kept flushed w w2 (inl kept) old e = let was = old (sym kept.free ∙ e) in let stamp = kept.stamp in omega arith
+stamp_kept flushed w w2 (inr freed) old e = freed.stamp
 
-hand_same : (z : Sizes) (clock : ℕ) (a : Holdings) → HandKept z clock a a
-hand_same z clock a = record { cache = refl; walk = refl; claims = λ g. refl; awaited = λ flushed g u below e. e }
+-- ---- what a step leaves of one frame that a vCPU can come to
+pub record Bearable (n : Machine) (m m2 : Place → ℕ) (h h2 : ℕ → Holdings) (v g : ℕ) (u : Use) : Type 0 where
+  pub flush : m2 (Vcpu v 5) ≡ m (Vcpu v 5)
+  pub ref : RefStays (m (Vcpu v 5)) (m (Refs g)) (m2 (Refs g))
+  pub kind : Bears (m (Vcpu v 5)) (kind_at m g) u → Bears (m (Vcpu v 5)) (kind_at m2 g) u
+  pub claims : (t : ℕ) → t < (sizes_of n).vcpus → claims_of g (h t).claimed ≡ 0 → claims_of g (h2 t).claimed ≡ 0
+  pub awaits : (t : ℕ) → t < (sizes_of n).vcpus → Awaited (sizes_of n) (m (Vcpu v 5)) g u (h t) → Awaited (sizes_of n) (m (Vcpu v 5)) g u (h2 t)
 
-module _ (n : Machine) (s : ℕ) (m m2 : Place → ℕ) (h h2 : ℕ → Holdings)
-    (cells : (f i : ℕ) → m2 (Cell f i) ≡ m (Cell f i)) (kinds : (f : ℕ) → m2 (Kind f) ≡ m (Kind f))
-    (flushes : (v : ℕ) → m2 (Vcpu v 5) ≡ m (Vcpu v 5)) (privileges : (d : ℕ) → m2 (Priv d) ≡ m (Priv d))
-    (refs : (f : ℕ) → RefKept (m (Refs f)) (m2 (Refs f))) (stamped : (v : ℕ) → m (Vcpu v 5) ≤ m Clock)
-    (mine : HandKept (sizes_of n) (m Clock) (h s) (h2 s)) (others : (t : ℕ) → t ≢ s → h2 t ≡ h t) where
-  each_hand : (t : ℕ) → HandKept (sizes_of n) (m Clock) (h t) (h2 t)
-  each_hand t =
-      elim (cases_eq t s) [
-        | inl at ↦ subst (λ k. HandKept (sizes_of n) (m Clock) (h k) (h2 k)) (sym at) mine
-        | inr off ↦ subst (λ b. HandKept (sizes_of n) (m Clock) (h t) b) (sym (others t off)) (hand_same (sizes_of n) (m Clock) (h t))
-      ]
+pub fresh_at : (n : Machine) (m m2 : Place → ℕ) (h h2 : ℕ → Holdings) (v g : ℕ) (u : Use) → KeepsEver m m2 → Bearable n m m2 h h2 v g u →
+    FreshAt n m h v g u → FreshAt n m2 h2 v g u
+fresh_at n m m2 h h2 v g u ever bears old =
+    record {
+      owner = belongs_kept m m2 (domain_of n v) g (m (Vcpu v 5)) u ever bears.ref old.owner;
+      free = rw bears.flush (stamp_kept (m (Vcpu v 5)) (m (Refs g)) (m2 (Refs g)) bears.ref old.free);
+      unclaimed = λ t real. bears.claims t real (old.unclaimed t real);
+      bears = rw bears.flush (bears.kind old.bears);
+      awaited = λ t real. rw bears.flush (bears.awaits t real (old.awaited t real));
+    }
 
-  before : (v g : ℕ) (u : Use) → Reach (sizes_of n) m2 (h2 v) g u → Reach (sizes_of n) m (h v) g u
-  before v g u r = Reach-same cells (each_hand v).cache (each_hand v).walk r
-
-  at_after : (v g : ℕ) (u : Use) → FreshAt n m h v g u → FreshAt n m2 h2 v g u
-  at_after v g u old =
-      record {
-        owner = belongs_kept m m2 (domain_of n v) g u (privileges (domain_of n v)) (refs g) old.owner;
-        free = λ e. let was = old.free (sym (refs g).free ∙ e) in let stamp = (refs g).stamp in let flush = flushes v in omega arith;
-        unclaimed = λ t real. (each_hand t).claims g ∙ old.unclaimed t real;
-        bears = rw (flushes v, kinds g) old.bears;
-        awaited = λ t real. rw (flushes v) ((each_hand t).awaited (m (Vcpu v 5)) g u (stamped v) (old.awaited t real));
-      }
-
-  pub fresh_stays : Fresh n m h → Fresh n m2 h2
-  fresh_stays fresh =
-      record {
-        each = λ v real g u r. at_after v g u (fresh.each v real g u (before v g u r));
-        one_use = λ v w g t u real other r q. fresh.one_use v w g t u real other (before v g t r) (before w g u q);
-      }
+pub fresh_law : (n : Machine) (m m2 : Place → ℕ) (h h2 : ℕ → Holdings) → KeepsEver m m2 →
+    ((v g : ℕ) (u : Use) → v < (sizes_of n).vcpus → Reach (sizes_of n) m2 (h2 v) g u → Reach (sizes_of n) m (h v) g u) →
+    ((v g : ℕ) (u : Use) → v < (sizes_of n).vcpus → Reach (sizes_of n) m2 (h2 v) g u → Reach (sizes_of n) m (h v) g u → Bearable n m m2 h h2 v g u) →
+    Fresh n m h → Fresh n m2 h2
+fresh_law n m m2 h h2 ever before bears fresh =
+    record {
+      each = λ v real g u r. let old = before v g u real r in fresh_at n m m2 h h2 v g u ever (bears v g u real r old) (fresh.each v real g u old);
+      one_use = λ v w g t u real other r q. fresh.one_use v w g t u real other (before v g t real r) (before w g u other q);
+    }
