@@ -1,16 +1,15 @@
 -- What a vCPU can come to, before and after a step.
-use Rattle.std.proofs.Common.{◌≡◌, ◌≢◌, ℕ, ◌+◌, ◌-◌, ◌<◌, ◌≤◌, ◌==◌, ◌⊎◌, inl, inr, Bool, true, false, List, [], ◌∷◌, refl, sym, ◌∙◌, ap, subst, arith, IsTrue, if◌then◌else◌, Option, Some, None}
+use Rattle.std.proofs.Common.{◌≡◌, ◌≢◌, ℕ, ◌+◌, ◌-◌, ◌<◌, ◌≤◌, ◌==◌, inl, inr, Bool, true, false, List, [], ◌∷◌, refl, sym, subst, arith, IsTrue, if◌then◌else◌, Option, Some, None}
 use Rattle.std.proofs.lemmas.Bool.Decides.{nat_tests}
 use Rattle.xp_words.specs.Entries.{is_bit, frame_of}
-use Rattle.xp_words.specs.Machine.{Machine}
-use Rattle.xp_words.specs.Places.{Sizes, sizes_of, Place, Cell}
+use Rattle.xp_words.specs.Places.{Sizes, Place, Cell}
 use Rattle.xp_board.specs.declared.step.Item.{Item}
 use Rattle.xp_board.specs.declared.holdings.Reached.{Reached}
 use Rattle.xp_board.specs.declared.holdings.Walk.{Walk}
 use Rattle.xp_board.specs.declared.holdings.Holdings.{Holdings}
 use Rattle.xp_board.specs.Lists.{Member}
 use Rattle.xp_board.specs.FillSteps.{is_walked}
-use Rattle.xp_board.specs.WellFormed.{WellFormed, IsDescent, IsWalkFormed}
+use Rattle.xp_board.specs.WellFormed.{IsDescent, IsWalkFormed}
 use Rattle.xp_board.specs.Reach.{Use, Table, Writes, Reads, use_of, use_below, reached_by, Reach, cached, walked, entry}
 
 -- ---- all that is reached has a property that what is held has, and that entries pass on
@@ -35,8 +34,8 @@ pub Reach-same : {z : Sizes} {m m2 : Place → ℕ} {a b : Holdings} {g : ℕ} {
 Reach-same {z} {m} {m2} {a} cells cache walk r =
     Reach-all (λ g u. Reach z m a g u) (λ x c. cached x (cache x c)) (λ x c. walked x (walk x c))
     (λ f level i old w p inside.
-      subst (λ x. Reach z m a (frame_of x) (use_below level x)) (sym (cells f i))
-      (entry f level i old w (subst (λ x. IsTrue (is_bit 0 x)) (cells f i) p) (subst (λ x. frame_of x < z.frames) (cells f i) inside)))
+    subst (λ x. Reach z m a (frame_of x) (use_below level x)) (sym (cells f i))
+    (entry f level i old w (subst (λ x. IsTrue (is_bit 0 x)) (cells f i) p) (subst (λ x. frame_of x < z.frames) (cells f i) inside)))
     r
 
 -- ---- levels

@@ -2,7 +2,7 @@
 use Rattle.std.proofs.Common.{◌≡◌, ◌≢◌, ℕ, ◌<◌, ◌≤◌, inl, inr, refl, sym, ◌∙◌, ap, subst, arith}
 use Rattle.std.proofs.lemmas.Bool.{cases_eq}
 use Rattle.xp_words.specs.Machine.{Machine}
-use Rattle.xp_words.specs.Places.{sizes_of, place_at, Place, Clock, Vcpu, Refs, Kind, Cell, Priv}
+use Rattle.xp_words.specs.Places.{sizes_of, Place, Clock, Vcpu, Refs, Kind, Cell, Priv}
 use Rattle.xp_board.specs.declared.step.Step.{Step}
 use Rattle.xp_board.specs.declared.step.StepKind.{StepKind}
 use Rattle.xp_board.specs.declared.step.Item.{Item}
@@ -21,7 +21,7 @@ use Rattle.xp_board.proofs.ActEffects.{Wrote}
 use Rattle.stale_rule.proofs.Awaits.{awaited_same, awaited_more}
 use Rattle.stale_rule.proofs.Came.{Reach-same}
 use Rattle.stale_rule.proofs.Like.{HandLike, HandStays}
-use Rattle.stale_rule.proofs.Stays.{RefStays, ref_same, KeepsEver, ever_same, Bearable, fresh_law}
+use Rattle.stale_rule.proofs.Stays.{RefStays, ref_same, KeepsEver, ever_same, fresh_law}
 
 -- ---- of one seat and of the others
 pub by_seat : (P : ℕ → Holdings → Type 0) (s t : ℕ) (h h2 : ℕ → Holdings) → ((t : ℕ) → t ≢ s → h2 t ≡ h t) → P s (h2 s) → (t ≢ s → P t (h t)) → P t (h2 t)
@@ -36,19 +36,19 @@ pub mark_law : (n : Machine) (s : ℕ) (m : Place → ℕ) (h b : ℕ → Holdin
 mark_law n s m h b others stays fresh =
     fresh_law n m m h b (ever_same m m (λ d. refl))
     (λ v g u real r.
-      Reach-same (λ f i. refl)
-      (λ x. by_seat (λ t k. Member x k.cache → Member x (h t).cache) s v h b others (stays.cache x) (λ off e. e))
-      (λ x. by_seat (λ t k. Member x (reached_by k.walk) → Member x (reached_by (h t).walk)) s v h b others (stays.walk x) (λ off e. e)) r)
+    Reach-same (λ f i. refl)
+    (λ x. by_seat (λ t k. Member x k.cache → Member x (h t).cache) s v h b others (stays.cache x) (λ off e. e))
+    (λ x. by_seat (λ t k. Member x (reached_by k.walk) → Member x (reached_by (h t).walk)) s v h b others (stays.walk x) (λ off e. e)) r)
     (λ v g u real r old.
-      record {
-        flush = refl;
-        ref = inl (ref_same _ _ refl);
-        kind = λ e. e;
-        claims = λ t live. by_seat (λ t k. claims_of g (h t).claimed ≡ 0 → claims_of g k.claimed ≡ 0) s t h b others (stays.claims g) (λ off e. e);
-        awaits = λ t live.
-            by_seat (λ t k. Awaited (sizes_of n) (m (Vcpu v 5)) g u (h t) → Awaited (sizes_of n) (m (Vcpu v 5)) g u k) s t h b others
-            (awaited_same (sizes_of n) (m (Vcpu v 5)) g u (h s) (b s) stays.like) (λ off e. e);
-      })
+    record {
+      flush = refl;
+      ref = inl (ref_same _ _ refl);
+      kind = λ e. e;
+      claims = λ t live. by_seat (λ t k. claims_of g (h t).claimed ≡ 0 → claims_of g k.claimed ≡ 0) s t h b others (stays.claims g) (λ off e. e);
+      awaits = λ t live.
+          by_seat (λ t k. Awaited (sizes_of n) (m (Vcpu v 5)) g u (h t) → Awaited (sizes_of n) (m (Vcpu v 5)) g u k) s t h b others
+          (awaited_same (sizes_of n) (m (Vcpu v 5)) g u (h s) (b s) stays.like) (λ off e. e);
+    })
     fresh
 
 -- ---- an act
@@ -66,9 +66,9 @@ module _ (n : Machine) (s : ℕ) (x : Step) (found : ℕ) (m m2 : Place → ℕ)
   awaits_on v g t u =
       by_seat (λ t k. Awaited (sizes_of n) (m (Vcpu v 5)) g u (b t) → Awaited (sizes_of n) (m (Vcpu v 5)) g u k) s t b c others
       (λ old.
-        subst (λ k. Awaited (sizes_of n) (m (Vcpu v 5)) g u k) (sym hand)
-        (awaited_more (sizes_of n) (m (Vcpu v 5)) g u x found (b s) y like
-        (λ at. let e = told at in let below = sound.stamped.flushed v in let f = e.0 in let l = e.1 in (omega arith, omega arith)) old))
+      subst (λ k. Awaited (sizes_of n) (m (Vcpu v 5)) g u k) (sym hand)
+      (awaited_more (sizes_of n) (m (Vcpu v 5)) g u x found (b s) y like
+      (λ at. let e = told at in let below = sound.stamped.flushed v in let f = e.0 in let l = e.1 in (omega arith, omega arith)) old))
       (λ off e. e)
 
   -- no cell changes and nothing more is held
@@ -81,20 +81,20 @@ module _ (n : Machine) (s : ℕ) (x : Step) (found : ℕ) (m m2 : Place → ℕ)
   act_law cells ever flush cache walk claims refs kinds =
       fresh_law n m m2 b c ever
       (λ v g u real r.
-        Reach-same cells
-        (λ x. by_seat (λ t k. Member x k.cache → Member x (b t).cache) s v b c others (λ e. cache x (subst (λ k. Member x k.cache) hand e)) (λ off e. e))
-        (λ x. by_seat (λ t k. Member x (reached_by k.walk) → Member x (reached_by (b t).walk)) s v b c others
-        (λ e. walk x (subst (λ k. Member x (reached_by k.walk)) hand e)) (λ off e. e)) r)
+      Reach-same cells
+      (λ x. by_seat (λ t k. Member x k.cache → Member x (b t).cache) s v b c others (λ e. cache x (subst (λ k. Member x k.cache) hand e)) (λ off e. e))
+      (λ x. by_seat (λ t k. Member x (reached_by k.walk) → Member x (reached_by (b t).walk)) s v b c others
+      (λ e. walk x (subst (λ k. Member x (reached_by k.walk)) hand e)) (λ off e. e)) r)
       (λ v g u real r old.
-        record {
-          flush = flush v;
-          ref = refs v g u real old;
-          kind = kinds v g u real old;
-          claims = λ t live.
-              by_seat (λ t k. claims_of g (b t).claimed ≡ 0 → claims_of g k.claimed ≡ 0) s t b c others
-              (λ e. ap (λ k. claims_of g k.claimed) hand ∙ claims v g u real old e) (λ off e. e);
-          awaits = λ t live. awaits_on v g t u;
-        })
+      record {
+        flush = flush v;
+        ref = refs v g u real old;
+        kind = kinds v g u real old;
+        claims = λ t live.
+            by_seat (λ t k. claims_of g (b t).claimed ≡ 0 → claims_of g k.claimed ≡ 0) s t b c others
+            (λ e. ap (λ k. claims_of g k.claimed) hand ∙ claims v g u real old e) (λ off e. e);
+        awaits = λ t live. awaits_on v g t u;
+      })
       sound.fresh
 
 -- an act at a word that translations do not read, or that leaves its word as it was

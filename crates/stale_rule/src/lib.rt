@@ -9,14 +9,15 @@ ghost use Rattle.xp_board.specs.declared.holdings.Holdings.{Holdings};
 ghost use Rattle.xp_board.specs.Fresh.{Fresh};
 ghost use Rattle.xp_board.specs.Safe.{Safe};
 ghost use Rattle.xp_board.specs.Sound.{Sound};
-ghost use Rattle.stale_rule.specs.Keeps.{Keeps};
+ghost use Rattle.xp_board.specs.Keeping.{KeepsMark, KeepsAct};
 
 /// A sound machine is safe.
 pub fn a_sound_machine_is_safe()
     ensures { (n : Machine) (m : Place → ℕ) (h : ℕ → Holdings) → Sound n m h → Safe n m h }
 {}
 
-/// A step that is legal today leaves no translation of any vCPU that leads where it may not.
+/// A step that is legal today leaves no translation of any vCPU that leads where it may not: neither its mark nor its act does.
 pub fn a_legal_step_keeps_translations_fresh()
-    ensures { Keeps Fresh }
+    ensures marks { KeepsMark Fresh }
+    ensures acts { KeepsAct Fresh }
 {}
