@@ -33,7 +33,7 @@ bears_unused flushed k unlive bears =
       | inr marked ↦ marked_free k marked.0 (unlive marked.0)
     ]
 
-form_unlive : (k : KindWord) → has_form k ≡ true → k.unflushed ≡ true → k.validated ≡ false
+pub form_unlive : (k : KindWord) → has_form k ≡ true → k.unflushed ≡ true → k.validated ≡ false
 unfolding has_form
 form_unlive k f u = grind arith
 
@@ -51,7 +51,7 @@ unfolding kind_fields
 zero_dead = refl
 
 -- a marked frame is not live, and so is one that the machine has not
-marked_unlive : (n : Machine) (m : Place → ℕ) (g : ℕ) (b : Bool) → Spelled n m → is_place (sizes_of n) (Kind g) ≡ b → (kind_at m g).unflushed ≡ true →
+pub marked_unlive : (n : Machine) (m : Place → ℕ) (g : ℕ) (b : Bool) → Spelled n m → is_place (sizes_of n) (Kind g) ≡ b → (kind_at m g).unflushed ≡ true →
     (kind_at m g).validated ≡ false
 marked_unlive n m g true spelled e marked = spelled_unlive n g (m (Kind g)) (spelled.spelled (Kind g) e) marked
 marked_unlive n m g false spelled e marked = ap (λ w. (kind_fields w).validated) (spelled.outside (Kind g) e) ∙ zero_dead

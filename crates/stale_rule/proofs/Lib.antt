@@ -1,4 +1,5 @@
 pub mod Awaits
+pub mod Bearing
 pub mod Bits
 pub mod Came
 pub mod Counted
@@ -6,6 +7,8 @@ pub mod Demands
 pub mod FlushRow
 pub mod FreeRows
 pub mod Items
+pub mod KindHands
+pub mod KindRows
 pub mod Like
 pub mod Lists
 pub mod Lowers
@@ -17,4 +20,5 @@ pub mod Quiet
 pub mod RefRows
 pub mod Rows
 pub mod Stays
+pub mod StoreRows
 pub mod Tables

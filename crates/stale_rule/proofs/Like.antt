@@ -60,6 +60,19 @@ pub parts_stay : (a b : Holdings) → b.steps ≡ a.steps → b.works ≡ a.work
     b.walk ≡ a.walk → HandStays a b
 parts_stay a b steps works ending claimed cache walk = like_stays a b (parts_like a b steps works ending) claimed cache walk
 
+-- but for the frames in work
+pub works_stay : (a b : Holdings) → b.steps ≡ a.steps → b.ending ≡ a.ending → b.claimed ≡ a.claimed → b.cache ≡ a.cache → b.walk ≡ a.walk →
+    ((P : ℕ → ℕ → Type 0) → ((f : ℕ) → P f (length a.steps + 1)) → EachOf (λ e. P e.frame e.since) a.works → EachOf (λ e. P e.frame e.since) b.works) →
+    HandStays a b
+works_stay a b steps ending claimed cache walk works =
+    let rest = parts_stay a (record b { works = a.works }) steps refl ending claimed cache walk in
+    record {
+      like = record { steps = steps; works = works; ending = rest.like.ending };
+      claims = rest.claims;
+      cache = rest.cache;
+      walk = rest.walk;
+    }
+
 pub then_like : (a b c : Holdings) → HandLike a b → HandLike b c → HandLike a c
 then_like a b c one two =
     let new : (P : ℕ → ℕ → Type 0) → ((f : ℕ) → P f (length a.steps + 1)) → (f : ℕ) → P f (length b.steps + 1) =

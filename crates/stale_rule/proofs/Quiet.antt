@@ -5,7 +5,7 @@ use Rattle.xp_words.specs.Machine.{Machine}
 use Rattle.xp_words.specs.Places.{Place, Vcpu, Kind, Cell}
 use Rattle.xp_board.specs.declared.step.Step.{Step}
 use Rattle.xp_board.specs.declared.holdings.Holdings.{Holdings}
-use Rattle.xp_board.specs.Lists.{EachOf, Member}
+use Rattle.xp_board.specs.Lists.{Member}
 use Rattle.xp_board.specs.Readings.{is_context}
 use Rattle.xp_board.specs.ContextSteps.{named_in, named_out}
 use Rattle.xp_board.specs.RunSteps.{ran_now}
@@ -16,35 +16,24 @@ use Rattle.xp_board.specs.Sound.{Sound}
 use Rattle.xp_board.proofs.MarkEffects.{MarkEffect, nothing, turned, forgot, recorded_entry, shed_entry, Recorded, Shed, mark_effect}
 use Rattle.xp_board.proofs.ActEffects.{Looked, Missed, Stumbled, Mapped, Charged, Refunded, Named, Based, Asked, Ran, Ticked, Doomed, Buried, Hinted}
 use Rattle.stale_rule.proofs.Lists.{EachOf-changed, Member-kept}
-use Rattle.stale_rule.proofs.Like.{HandStays, same_stays, parts_like, parts_stay, then_stays, if_stays, learned_stays, cell_stays, own_stays, in_stays, out_stays}
+use Rattle.stale_rule.proofs.Like.{HandStays, same_stays, parts_like, parts_stay, works_stay, then_stays, if_stays, learned_stays, cell_stays, own_stays, in_stays, out_stays}
 use Rattle.stale_rule.proofs.Moves.{mark_law, still_law, aside_law, not_clock}
 
 -- ---- marks
-works_stay : (f : ℕ) (h y : Holdings) → y.steps ≡ h.steps → y.ending ≡ h.ending → y.claimed ≡ h.claimed → y.cache ≡ h.cache → y.walk ≡ h.walk →
-    ((P : ℕ → ℕ → Type 0) → EachOf (λ e. P e.frame e.since) h.works → EachOf (λ e. P e.frame e.since) y.works) → HandStays h y
-works_stay f h y steps ending claimed cache walk works =
-    let rest = parts_stay h (record y { works = h.works }) steps refl ending claimed cache walk in
-    record {
-      like = record { steps = steps; works = λ P new e. works P e; ending = rest.like.ending };
-      claims = rest.claims;
-      cache = rest.cache;
-      walk = rest.walk;
-    }
-
 recorded_stays : (n : Machine) (f upto : ℕ) (h b : Holdings) → Recorded n f upto h b → HandStays h b
 recorded_stays n f upto h b d =
     subst (λ y. HandStays h y) (sym d.hand)
     (then_stays _ _ _
-    (works_stay f h (record h { works = _ }) refl refl refl refl refl
-    (λ P e. EachOf-changed (λ x. P x.frame x.since) (λ x. x.frame) f _ h.works (λ x p. p) e))
+    (works_stay h (record h { works = _ }) refl refl refl refl refl
+    (λ P new e. EachOf-changed (λ x. P x.frame x.since) (λ x. x.frame) f _ h.works (λ x p. p) e))
     (out_stays (demand_seen d.e.recorded d.e) _))
 
 shed_stays : (f upto : ℕ) (h b : Holdings) → Shed f upto h b → HandStays h b
 shed_stays f upto h b d =
     subst (λ y. HandStays h y) (sym d.hand)
     (then_stays _ _ _
-    (works_stay f h (record h { works = _ }) refl refl refl refl refl
-    (λ P e. EachOf-changed (λ x. P x.frame x.since) (λ x. x.frame) f _ h.works (λ x p. p) e))
+    (works_stay h (record h { works = _ }) refl refl refl refl refl
+    (λ P new e. EachOf-changed (λ x. P x.frame x.since) (λ x. x.frame) f _ h.works (λ x p. p) e))
     (in_stays (demand_seen upto d.e) _))
 
 mark_stays : (n : Machine) (h b : Holdings) → MarkEffect n h b → HandStays h b

@@ -16,6 +16,8 @@ use Rattle.stale_rule.proofs.Quiet.{look_row, miss_row, stumble_row, map_row, ch
 use Rattle.stale_rule.proofs.RefRows.{raise_row, clear_row, lower_row, privilege_row}
 use Rattle.stale_rule.proofs.FreeRows.{take_row, free_row, give_row}
 use Rattle.stale_rule.proofs.FlushRow.{flush_row}
+use Rattle.stale_rule.proofs.KindRows.{turn_row, drop_row, unlock_row}
+use Rattle.stale_rule.proofs.StoreRows.{store_row}
 
 not_yet : (x : Step) (sort : StepKind) → x.kind ≡ sort → is_proved sort x.act ≡ false → IsTrue (is_proved x.kind x.act) → ⊥
 not_yet x sort e off t = absurd (let on : is_proved sort x.act ≡ true = subst (λ k. is_proved k x.act ≡ true) e t in cc)
@@ -30,11 +32,11 @@ module _ (n : Machine) (s : ℕ) (x : Step) (m m2 : Place → ℕ) (b c : ℕ �
   effect_row (lowered f d) = lower_row n s x m m2 b c real acted sound f d
   effect_row (freed_frame f d) = free_row n s x m m2 b c real acted sound f d
   effect_row (gave f d) = give_row n s x m m2 b c real acted sound f d
-  effect_row (turned f row d) = absurd (not_yet x steps.Kind d.wrote.kind_is refl proved)
+  effect_row (turned f row d) = turn_row n s x m m2 b c acted sound f row d
   effect_row (missed f d) = miss_row n s x m m2 b c acted sound f d
-  effect_row (dropped_type f d) = absurd (not_yet x steps.Kind d.wrote.kind_is refl proved)
-  effect_row (unlocked_table f d) = absurd (not_yet x steps.Kind d.wrote.kind_is refl proved)
-  effect_row (stored f form d) = absurd (not_yet x steps.Kind d.wrote.kind_is refl proved)
+  effect_row (dropped_type f d) = drop_row n s x m m2 b c real acted sound f d
+  effect_row (unlocked_table f d) = unlock_row n s x m m2 b c real acted sound f d
+  effect_row (stored f form d) = store_row n s x m m2 b c real acted sound f form d
   effect_row (exchanged f i d) = absurd (not_yet x steps.Cell d.wrote.kind_is refl proved)
   effect_row (rewrote f i d) = absurd (not_yet x steps.Cell d.wrote.kind_is refl proved)
   effect_row (filled f i d) = absurd (not_yet x steps.Cell d.wrote.kind_is refl proved)

@@ -1,0 +1,146 @@
+-- Fresh after a store over the kind word of a frame in work or closing.
+use Rattle.std.proofs.Common.{◌≡◌, ◌≢◌, ℕ, ◌<◌, ◌≤◌, ◌==◌, inl, inr, Bool, true, false, refl, sym, ◌∙◌, ap, subst, arith, IsTrue, if◌then◌else◌, Some}
+use Rattle.std.proofs.lemmas.Bool.Decides.{nat_tests}
+use Rattle.xp_words.specs.declared.kind.KindWord.{KindWord}
+use Rattle.xp_words.specs.KindWords.{kind_fields, kind_read}
+use Rattle.xp_words.specs.Machine.{Machine}
+use Rattle.xp_words.specs.Places.{sizes_of, is_place, Place, Clock, Vcpu, Kind}
+use Rattle.xp_board.specs.declared.step.Step.{Step}
+use Rattle.xp_board.specs.declared.holdings.Work.{Work}
+use Rattle.xp_board.specs.declared.holdings.Holdings.{Holdings}
+use Rattle.xp_board.specs.Readings.{kind_at, kind_stamp, told_value, is_dead}
+use Rattle.xp_board.specs.Steps.{some_since}
+use Rattle.xp_board.specs.Hands.{work_on}
+use Rattle.xp_board.specs.Flushes.{IsPastFlush}
+use Rattle.xp_board.specs.KindSteps.{Form, Live, Partial, InWork, Dead, form_of, AllowsForm, MayMakeDead}
+use Rattle.xp_board.specs.Reach.{Use, Reads, Reach}
+use Rattle.xp_board.specs.Fresh.{Bears, Fresh}
+use Rattle.xp_board.specs.Keeping.{Acted}
+use Rattle.xp_board.specs.Sound.{Sound}
+use Rattle.xp_board.proofs.ActEffects.{Stored}
+use Rattle.stale_rule.proofs.Bearing.{bears_read, bears_same, bears_dead, matches_same, read_unmarked}
+use Rattle.stale_rule.proofs.Items.{marked_unlive}
+use Rattle.stale_rule.proofs.KindHands.{form_stays}
+use Rattle.stale_rule.proofs.KindRows.{kind_law}
+use Rattle.stale_rule.proofs.Lists.{EachOf-first, first-key}
+use Rattle.stale_rule.proofs.Past.{since_each, past_gone, gone_unreached}
+
+-- ---- the forms
+live_by : (v p k : Bool) → (if v then Live else if p then Partial else if k then InWork else Dead) ≡ Live → v ≡ true
+live_by true p k e = refl
+live_by false true k e = absurd (cc)
+live_by false false true e = absurd (cc)
+live_by false false false e = absurd (cc)
+
+partial_by : (v p k : Bool) → (if v then Live else if p then Partial else if k then InWork else Dead) ≡ Partial → p ≡ true
+partial_by true p k e = absurd (cc)
+partial_by false true k e = refl
+partial_by false false true e = absurd (cc)
+partial_by false false false e = absurd (cc)
+
+-- the stamp that a marked word tells
+marked_tells : (f w x : ℕ) → (w == x) ≡ true → (kind_fields x).validated ≡ false → told_value (Kind f) w ≡ (kind_fields x).number
+unfolding told_value kind_stamp
+marked_tells f w x t dead = let e : w ≡ x = grind (arith, nat_tests) in rw (e, dead) refl
+
+module _ (n : Machine) (s : ℕ) (m : Place → ℕ) (b : ℕ → Holdings) (real : s < (sizes_of n).vcpus) (sound : Sound n m b) (f : ℕ) (e : Work)
+    (here : work_on f (b s).works ≡ Some e) where
+  its_frame : e.frame ≡ f
+  its_frame = first-key (λ y. y.frame) f e (b s).works here
+
+  -- the word that stands there
+  its_word : kind_at m f ≡ kind_fields e.word
+  its_word =
+      let found = EachOf-first _ (λ y. y.frame) f e (b s).works (sound.found s real).works here in
+      subst (λ g. kind_at m g ≡ kind_fields e.word) its_frame (ap kind_fields found.word)
+
+  -- past the flush a marked frame is only read
+  past_read : (v : ℕ) (u : Use) → v < (sizes_of n).vcpus → (kind_at m f).unflushed ≡ true → IsPastFlush n (b s) e → Reach (sizes_of n) m (b v) f u →
+      Bears (m (Vcpu v 5)) (kind_at m f) u → u ≢ Reads → ⊥
+  past_read v u live marked past r old other =
+      let formed = EachOf-first _ (λ y. y.frame) f e (b s).works (sound.formed s real).works here in
+      let found = EachOf-first _ (λ y. y.frame) f e (b s).works (sound.found s real).works here in
+      let mark : (kind_fields e.word).unflushed ≡ true = subst (λ k. k.unflushed ≡ true) its_word marked in
+      let dead : (kind_fields e.word).validated ≡ false =
+      subst (λ k. k.validated ≡ false) its_word (marked_unlive n m f (is_place (sizes_of n) (Kind f)) sound.spelled refl marked) in
+      elim (past v live) [
+        | inl flushed ↦
+            let gone = past_gone n m b sound s v e.since (kind_fields e.word).number (Kind e.frame) (λ w. w == e.word) real live
+            (λ w t. marked_tells e.frame w e.word t dead) (formed.told mark) flushed in
+            elim (old.typed other) [
+              | inl plain ↦ absurd (let p = plain.0 in cc)
+              | inr stamped ↦
+                  gone_unreached n m b sound v (kind_fields e.word).number f u live gone
+                  (subst (λ k. m (Vcpu v 5) ≤ k.number) its_word stamped.1) r
+            ]
+        | inr over ↦
+            other (found.passed v over.owner u mark live ((sound.found s real).owners e.frame over.owner over.known) over.other over.never
+            (subst (λ g. Reach (sizes_of n) m (b v) g u) (sym its_frame) r))
+      ]
+
+  -- ---- by the form that is left
+  -- a word that is neither marked nor dead bears the use by its type
+  plain_bears : (flushed : ℕ) (l : KindWord) (u : Use) → is_dead l ≡ false → l.unflushed ≡ false → l.kind ≡ (kind_at m f).kind →
+      ((kind_at m f).unflushed ≡ true → u ≢ Reads → ⊥) → Bears flushed (kind_at m f) u → Bears flushed l u
+  plain_bears flushed l u alive plain kind past old =
+      record {
+        typed = λ other. elim (old.typed other) [
+          | inl was ↦ inl (plain, matches_same (kind_at m f).kind l.kind u kind was.1)
+          | inr marked ↦ absurd (past marked.0 other)
+        ];
+        dead = λ other d. absurd (cc);
+      }
+
+  -- the stamp of a dead word is a clock value found since the frame came here
+  stamp_bound : (v : ℕ) (u : Use) (stamp : ℕ) → v < (sizes_of n).vcpus → u ≢ Reads → Reach (sizes_of n) m (b v) f u →
+      IsTrue (some_since (sizes_of n) e.since Clock (λ w. w == stamp) (b s).steps) → m (Vcpu v 5) ≤ stamp
+  stamp_bound v u stamp live other r told =
+      since_each (sizes_of n) e.since Clock (λ w. w == stamp) (λ w. m (Vcpu v 5) ≤ w) (m (Vcpu v 5) ≤ stamp) (b s).steps
+      (EachOf-first _ (λ y. y.frame) f e (b s).works (((sound.fresh.each v live f u r).awaited s real).work other) here its_frame) told
+      (λ w t below. let k : w ≡ stamp = grind (arith, nat_tests) in omega arith)
+
+  dead_bears : (v : ℕ) (l : KindWord) (u : Use) → v < (sizes_of n).vcpus → MayMakeDead n f e l (b s) → Reach (sizes_of n) m (b v) f u →
+      Bears (m (Vcpu v 5)) (kind_at m f) u → Bears (m (Vcpu v 5)) l u
+  dead_bears v l u live may r old =
+      let kind = subst (λ k. l.kind ≡ k.kind) (sym its_word) may.kind in
+      record {
+        typed = λ other. elim may.mark [
+          | inl same ↦
+              (bears_dead (m (Vcpu v 5)) (kind_at m f) l u kind (subst (λ k. l.unflushed ≡ k.unflushed) (sym its_word) same)
+              (stamp_bound v u l.number live other r may.stamp) old).typed other
+          | inr off ↦
+              elim (old.typed other) [
+                | inl was ↦ inl (off.0, matches_same (kind_at m f).kind l.kind u kind was.1)
+                | inr marked ↦ absurd (past_read v u live marked.0 off.1 r old other)
+              ]
+        ];
+        dead = λ other d. stamp_bound v u l.number live other r may.stamp;
+      }
+
+  form_bears : (form : Form) (v : ℕ) (w : ℕ) (l : KindWord) (u : Use) → v < (sizes_of n).vcpus → kind_read w ≡ Some l → form_of l ≡ form → AllowsForm form n f e l (b s) →
+      Reach (sizes_of n) m (b v) f u → Bears (m (Vcpu v 5)) (kind_at m f) u → Bears (m (Vcpu v 5)) l u
+  form_bears Live v w l u live reads is may r old =
+      let alive = live_by l.validated l.partial l.locked is in
+      plain_bears (m (Vcpu v 5)) l u (rw alive refl) (read_unmarked w l reads alive) (subst (λ k. l.kind ≡ k.kind) (sym its_word) may.kind)
+      (λ marked other. past_read v u live marked (may.past (subst (λ k. k.unflushed ≡ true) its_word marked)) r old other) old
+  form_bears Partial v w l u live reads is may r old =
+      let partial = partial_by l.validated l.partial l.locked is in
+      let alive : is_dead l ≡ false = grind arith in
+      let kind = subst (λ k. l.kind ≡ k.kind) (sym its_word) may.kind in
+      elim may.mark [
+        | inl same ↦
+            bears_same (m (Vcpu v 5)) (kind_at m f) l u kind (subst (λ k. l.unflushed ≡ k.unflushed) (sym its_word) same.0)
+            (λ marked. subst (λ k. l.number ≡ k.number) (sym its_word) (same.1 (same.0 ∙ subst (λ k. k.unflushed ≡ true) its_word marked))) alive old
+        | inr off ↦ plain_bears (m (Vcpu v 5)) l u alive off.1 kind (λ marked other. past_read v u live marked off.2 r old other) old
+      ]
+  form_bears InWork v w l u live reads is may r old =
+      bears_read (m (Vcpu v 5)) l u (λ other. past_read v u live (subst (λ k. k.unflushed ≡ true) (sym its_word) may.marked) may.past r old other)
+  form_bears Dead v w l u live reads is may r old = dead_bears v l u live may r old
+
+module _ (n : Machine) (s : ℕ) (x : Step) (m m2 : Place → ℕ) (b c : ℕ → Holdings) (real : s < (sizes_of n).vcpus) (acted : Acted n s x m m2 b c) (sound : Sound n m b) where
+  pub store_row : (f : ℕ) (form : Form) → Stored n s x f form m m2 (b s) (c s) → Fresh n m2 c
+  store_row f form d =
+      kind_law n s x m m2 b c acted sound f _ d.wrote d.hand (form_stays form n s f d.e d.l (m2 (Kind f)) (b s))
+      (λ v u live r old.
+      subst (λ k. Bears (m (Vcpu v 5)) k u) (sym d.fields_is)
+      (form_bears n s m b real sound f d.e d.here form v (m2 (Kind f)) d.l u live d.is d.form_is d.may r old))
