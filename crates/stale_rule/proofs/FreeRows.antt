@@ -52,7 +52,7 @@ claimed_other n s f w g a off none = let o = one_other g f off in omega arith
 unclaimed_more : (g f : ℕ) (a : Holdings) → claims_of g a.claimed ≡ 0 → claims_of g (given f a).claimed ≡ 0
 unclaimed_more g f a none = let less = times-without (λ x. x.frame) g f a.claimed in omega arith
 
-not_claimed : (f : ℕ) (e : Claimed) (a : Holdings) → claims_of f a.claimed ≡ 0 → claim_of f a.claimed ≡ Some e → ⊥
+pub not_claimed : (f : ℕ) (e : Claimed) (a : Holdings) → claims_of f a.claimed ≡ 0 → claim_of f a.claimed ≡ Some e → ⊥
 not_claimed f e a none here = absurd (let some = first-some (λ x. x.frame) f e a.claimed here in omega arith)
 
 module _ (n : Machine) (s : ℕ) (x : Step) (m m2 : Place → ℕ) (b c : ℕ → Holdings) (real : s < (sizes_of n).vcpus) (acted : Acted n s x m m2 b c) (sound : Sound n m b) where

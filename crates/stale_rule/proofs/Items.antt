@@ -46,7 +46,7 @@ spelled_unlive : (n : Machine) (f w : ℕ) → IsSpelling n (Kind f) w → (kind
 unfolding IsSpelling kind_read
 spelled_unlive n f w s u = form_unlive (kind_fields w) (spelled_form n w (has_type w && has_form (kind_fields w)) refl s) u
 
-zero_dead : (kind_fields 0).validated ≡ false
+pub zero_dead : (kind_fields 0).validated ≡ false
 unfolding kind_fields
 zero_dead = refl
 

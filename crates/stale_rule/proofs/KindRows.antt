@@ -29,7 +29,7 @@ use Rattle.stale_rule.proofs.Stays.{ref_same, ever_same}
 use Rattle.stale_rule.proofs.Tables.{live_count}
 
 -- a count that has a reference in hand is above 0
-bit_on : (b : Bool) → 0 < bit b → b ≡ true
+pub bit_on : (b : Bool) → 0 < bit b → b ≡ true
 bit_on true p = refl
 bit_on false p = absurd (omega arith)
 
@@ -91,14 +91,15 @@ module _ (n : Machine) (s : ℕ) (x : Step) (m m2 : Place → ℕ) (b c : ℕ �
       (λ e. absurd (let d = marked_unlive n m f (is_place (sizes_of n) (Kind f)) sound.spelled refl e in cc))
       (let v = less.validated in rw (v, live) refl) old
 
-module _ (n : Machine) (s : ℕ) (x : Step) (m m2 : Place → ℕ) (b c : ℕ → Holdings) (real : s < (sizes_of n).vcpus) (acted : Acted n s x m m2 b c) (sound : Sound n m b) where
-  counted_here : (f : ℕ) → (kind_at m f).validated ≡ true → 0 < typed_hand f (b s) → 0 < (kind_at m f).number
+module _ (n : Machine) (s : ℕ) (m : Place → ℕ) (b : ℕ → Holdings) (real : s < (sizes_of n).vcpus) (sound : Sound n m b) where
+  pub counted_here : (f : ℕ) → (kind_at m f).validated ≡ true → 0 < typed_hand f (b s) → 0 < (kind_at m f).number
   counted_here f live held =
       let count = sound.counts.types f in
       let number = live_count (kind_at m f) live in
       let part = hands-part (typed_hand f) (sizes_of n) b s real in
       omega arith
 
+module _ (n : Machine) (s : ℕ) (x : Step) (m m2 : Place → ℕ) (b c : ℕ → Holdings) (real : s < (sizes_of n).vcpus) (acted : Acted n s x m m2 b c) (sound : Sound n m b) where
   in_hand : (f : ℕ) → 0 < typed_to f (b s).typed + locks_on f (b s).locks → 0 < typed_hand f (b s)
   unfolding typed_hand
   in_hand f p = p
@@ -108,7 +109,7 @@ module _ (n : Machine) (s : ℕ) (x : Step) (m m2 : Place → ℕ) (b c : ℕ �
       kind_law n s x m m2 b c acted sound f _ d.wrote d.hand (dropped_stays f (m (Kind f)) (m2 (Kind f)) (b s))
       (λ v u live r old.
       let alive = (sound.found s real).lives f d.may.kind d.may.live in
-      let some = counted_here f alive.0 (in_hand f (let p = d.may.in_hand in omega arith)) in
+      let some = counted_here n s m b real sound f alive.0 (in_hand f (let p = d.may.in_hand in omega arith)) in
       let less = subst (λ w. OneLess (kind_at m f) (kind_fields w)) (sym d.is) (count_down (m (Kind f)) (sound.spelled.small (Kind f)) some) in
       less_bears n s x m m2 b c acted sound f (m (Vcpu v 5)) u (kind_at m2 f) alive.0 less old)
 
@@ -121,6 +122,6 @@ module _ (n : Machine) (s : ℕ) (x : Step) (m m2 : Place → ℕ) (b c : ℕ �
       let locked : is_locked (kind_at m f) ≡ true = bit_on _ (let p = d.may in omega arith) in
       let alive : (kind_at m f).validated ≡ true = grind arith in
       let shut : (kind_at m f).locked ≡ true = grind arith in
-      let some = counted_here f alive (in_hand f (let p = d.may in omega arith)) in
+      let some = counted_here n s m b real sound f alive (in_hand f (let p = d.may in omega arith)) in
       let less = subst (λ w. OneLess (kind_at m f) (kind_fields w)) (sym d.is) (lock_down (m (Kind f)) (sound.spelled.small (Kind f)) some shut) in
       less_bears n s x m m2 b c acted sound f (m (Vcpu v 5)) u (kind_at m2 f) alive less old)

@@ -2,8 +2,12 @@ pub mod Awaits
 pub mod Bearing
 pub mod Bits
 pub mod Came
+pub mod CameFresh
+pub mod CellLaw
+pub mod CellRows
 pub mod Counted
 pub mod Demands
+pub mod EntryBits
 pub mod FlushRow
 pub mod FreeRows
 pub mod Items
@@ -11,6 +15,7 @@ pub mod KindHands
 pub mod KindRows
 pub mod Like
 pub mod Lists
+pub mod LockRows
 pub mod Lowers
 pub mod Moves
 pub mod Past
@@ -19,6 +24,7 @@ pub mod Places
 pub mod Quiet
 pub mod RefRows
 pub mod Rows
+pub mod Served
 pub mod Stays
 pub mod StoreRows
 pub mod Tables

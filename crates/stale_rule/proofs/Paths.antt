@@ -24,7 +24,7 @@ use Rattle.stale_rule.proofs.Demands.{asks_table, asks_leaf, LeafAsks, walked_in
 use Rattle.stale_rule.proofs.Tables.{Serves, table_held, leads_live, named_counted, live_count}
 
 -- ---- permits
-permits_own : (m : Place → ℕ) (d g : ℕ) → owner_of (m (Refs g)) ≡ Some d → Permits m d g
+pub permits_own : (m : Place → ℕ) (d g : ℕ) → owner_of (m (Refs g)) ≡ Some d → Permits m d g
 permits_own m d g e = subst (λ o. PermitsOwner m d o) (sym e) (inl refl)
 
 leaf_permits : (m : Place → ℕ) (kind : PageType) (o : Option ℕ) (d g : ℕ) → o ≡ Some d → EntryPermitted m kind o g → Permits m d g

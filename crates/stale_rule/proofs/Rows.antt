@@ -15,6 +15,8 @@ use Rattle.xp_board.proofs.ActInversions.{act_effect}
 use Rattle.stale_rule.proofs.Quiet.{look_row, miss_row, stumble_row, map_row, charge_row, refund_row, name_row, base_row, ask_row, run_row, tick_row, doom_row, bury_row, hint_row}
 use Rattle.stale_rule.proofs.RefRows.{raise_row, clear_row, lower_row, privilege_row}
 use Rattle.stale_rule.proofs.FreeRows.{take_row, free_row, give_row}
+use Rattle.stale_rule.proofs.CellRows.{fill_row, guest_row}
+use Rattle.stale_rule.proofs.LockRows.{exchange_row, rewrite_row}
 use Rattle.stale_rule.proofs.FlushRow.{flush_row}
 use Rattle.stale_rule.proofs.KindRows.{turn_row, drop_row, unlock_row}
 use Rattle.stale_rule.proofs.StoreRows.{store_row}
@@ -37,10 +39,10 @@ module _ (n : Machine) (s : ℕ) (x : Step) (m m2 : Place → ℕ) (b c : ℕ �
   effect_row (dropped_type f d) = drop_row n s x m m2 b c real acted sound f d
   effect_row (unlocked_table f d) = unlock_row n s x m m2 b c real acted sound f d
   effect_row (stored f form d) = store_row n s x m m2 b c real acted sound f form d
-  effect_row (exchanged f i d) = absurd (not_yet x steps.Cell d.wrote.kind_is refl proved)
-  effect_row (rewrote f i d) = absurd (not_yet x steps.Cell d.wrote.kind_is refl proved)
-  effect_row (filled f i d) = absurd (not_yet x steps.Cell d.wrote.kind_is refl proved)
-  effect_row (guest_stored f i d) = absurd (not_yet x steps.Guest d.wrote.kind_is refl proved)
+  effect_row (exchanged f i d) = exchange_row n s x m m2 b c real acted sound f i d
+  effect_row (rewrote f i d) = rewrite_row n s x m m2 b c real acted sound f i d
+  effect_row (filled f i d) = fill_row n s x m m2 b c real acted sound f i d
+  effect_row (guest_stored f i d) = guest_row n s x m m2 b c real acted sound f i d
   effect_row (started_walk k d) = absurd (not_yet x steps.Fill d.kind_is refl proved)
   effect_row (went_on f i d) = absurd (not_yet x steps.Fill d.kind_is refl proved)
   effect_row (touched_entry f i d) = absurd (not_yet x steps.Touch d.wrote.kind_is refl proved)

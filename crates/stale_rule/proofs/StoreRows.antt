@@ -49,7 +49,7 @@ module _ (n : Machine) (s : ℕ) (m : Place → ℕ) (b : ℕ → Holdings) (rea
   its_frame = first-key (λ y. y.frame) f e (b s).works here
 
   -- the word that stands there
-  its_word : kind_at m f ≡ kind_fields e.word
+  pub its_word : kind_at m f ≡ kind_fields e.word
   its_word =
       let found = EachOf-first _ (λ y. y.frame) f e (b s).works (sound.found s real).works here in
       subst (λ g. kind_at m g ≡ kind_fields e.word) its_frame (ap kind_fields found.word)

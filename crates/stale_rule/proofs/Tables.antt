@@ -24,7 +24,7 @@ pub record Serves (m : Place → ℕ) (d level f : ℕ) : Type 0 where
   pub level_is : type_number (kind_at m f).kind ≡ level
   pub owner : owner_of (m (Refs f)) ≡ Some d
 
-not_busy : (k : KindWord) → k.validated ≡ true → 0 < k.number → bit (is_busy k) ≡ 0
+pub not_busy : (k : KindWord) → k.validated ≡ true → 0 < k.number → bit (is_busy k) ≡ 0
 not_busy k v c = let e : (k.number == 0) ≡ false = grind (arith, nat_tests) in rw (v, e)
 
 pub live_count : (k : KindWord) → k.validated ≡ true → type_count k ≡ k.number

@@ -1,0 +1,180 @@
+-- Fresh after a store into an entry of a table under the own lock.
+use Rattle.std.proofs.Common.{◌≡◌, ℕ, ◌<◌, ◌==◌, ◌||◌, inl, inr, Bool, true, false, length, refl, sym, ◌∙◌, ap, subst, arith, IsTrue, if◌then◌else◌, Option, Some, None}
+use Rattle.std.proofs.lemmas.Bool.Decides.{nat_tests}
+use Rattle.std.proofs.lemmas.Bool.{or_left}
+use Rattle.xp_words.specs.declared.kind.PageType.{PageType}
+use Rattle.xp_words.specs.declared.refs.RefWord.{RefWord}
+use Rattle.xp_words.specs.declared.refs.RefWord.TheVariants.{Free, Owned, Dying}
+use Rattle.xp_words.specs.declared.entry.Demand.{Demand}
+use Rattle.xp_words.specs.declared.entry.Demand.TheVariants.{Nothing, Bad, Read, Typed}
+use Rattle.xp_words.specs.RefWords.{ref_read}
+use Rattle.xp_words.specs.Entries.{demand_at}
+use Rattle.xp_words.specs.Machine.{Machine}
+use Rattle.xp_words.specs.Places.{sizes_of, is_place, Place, Refs, Cell, Priv}
+use Rattle.xp_board.specs.declared.step.Step.{Step}
+use Rattle.xp_board.specs.declared.step.StepKind.TheVariants as steps
+use Rattle.xp_board.specs.declared.holdings.Lock.{Lock}
+use Rattle.xp_board.specs.declared.holdings.Seen.{Seen}
+use Rattle.xp_board.specs.declared.holdings.Holdings.{Holdings}
+use Rattle.xp_board.specs.Steps.{some_since}
+use Rattle.xp_board.specs.Readings.{kind_at, is_locked, ref_count, owner_in, owner_of, domain_of, has_now, has_ever}
+use Rattle.xp_board.specs.Hands.{refs_to, typed_to, lock_on, locks_on, hand, typed_hand}
+use Rattle.xp_board.specs.Recorded.{entry_demand}
+use Rattle.xp_board.specs.Settling.{HasDemand, OwnersMeet}
+use Rattle.xp_board.specs.CellSteps.{is_same_as_seen, is_same_demand}
+use Rattle.xp_board.specs.Found.{LockFound, is_same_entry}
+use Rattle.xp_board.specs.WellFormed.{SeenIs}
+use Rattle.xp_board.specs.After.{noted}
+use Rattle.xp_board.specs.FillSteps.{is_walked}
+use Rattle.xp_board.specs.Valid.{PermitsOwner, EntryPermitted}
+use Rattle.xp_board.specs.Spelling.{IsSpelling, is_ref_in}
+use Rattle.xp_board.specs.Reach.{Table, cached, walked}
+use Rattle.xp_board.specs.Fresh.{Fresh}
+use Rattle.xp_board.specs.Keeping.{Acted}
+use Rattle.xp_board.specs.Sound.{Sound}
+use Rattle.xp_board.proofs.ActEffects.{Wrote, Exchanged, Rewrote}
+use Rattle.stale_rule.proofs.CameFresh.{Came, came_fresh, reach_level, live_matches}
+use Rattle.stale_rule.proofs.CellLaw.{written_law}
+use Rattle.stale_rule.proofs.Counted.{hands-part}
+use Rattle.stale_rule.proofs.EntryBits.{same_demand, entry_asks_same}
+use Rattle.stale_rule.proofs.KindRows.{bit_on, counted_here}
+use Rattle.stale_rule.proofs.Like.{HandStays, then_stays, cell_stays, in_stays, out_stays}
+use Rattle.stale_rule.proofs.Lists.{EachOf-first, first-key, first-some}
+use Rattle.stale_rule.proofs.Past.{since_each, since_later}
+use Rattle.stale_rule.proofs.Served.{Served, AsksWell, typed_counted, target_served, served_owner, not_reads, recorded_well}
+
+-- ---- owners
+owner_few : (n : Machine) (r : Option RefWord) (o : ℕ) → IsTrue (is_ref_in n r) → owner_in r ≡ Some o → o < length n.page_limit
+owner_few n (Some (Owned owner allocated count)) o t e = let k : owner ≡ o = cc in grind (arith, nat_tests)
+owner_few n (Some (Dying owner)) o t e = let k : owner ≡ o = cc in grind (arith, nat_tests)
+owner_few n (Some (Free stamp)) o t e = absurd (cc)
+owner_few n None o t e = absurd (cc)
+
+zero_free : (o : ℕ) → owner_of 0 ≡ Some o → ⊥
+unfolding owner_of ref_read
+zero_free o e = absurd (cc)
+
+some_is : (x y : ℕ) (o : Option ℕ) → o ≡ Some x → o ≡ Some y → x ≡ y
+some_is x y o a b = let e : Some x ≡ Some y = sym a ∙ b in cc
+
+when_on : (a b : Bool) → IsTrue (if a then b else false) → (a ≡ true) × IsTrue b
+when_on true b t = (refl, t)
+when_on false b t = absurd (cc)
+
+module _ (n : Machine) (s : ℕ) (m : Place → ℕ) (b : ℕ → Holdings) (real : s < (sizes_of n).vcpus) (sound : Sound n m b) where
+  owner_by : (g o : ℕ) (t : Bool) → is_place (sizes_of n) (Refs g) ≡ t → owner_of (m (Refs g)) ≡ Some o → o < length n.page_limit
+  unfolding owner_of IsSpelling
+  owner_by g o true e own = owner_few n (ref_read (m (Refs g))) o (sound.spelled.spelled (Refs g) e) own
+  owner_by g o false e own = absurd (zero_free o (subst (λ w. owner_of w ≡ Some o) (sound.spelled.outside (Refs g) e) own))
+
+  owner_below : (g o : ℕ) → owner_of (m (Refs g)) ≡ Some o → o < 16
+  owner_below g o own = let few = sound.machine.few_domains in let k = owner_by g o (is_place (sizes_of n) (Refs g)) refl own in omega arith
+
+  -- ---- a demand in hand
+  ever_had : (t o since : ℕ) → o < 16 → IsTrue (some_since (sizes_of n) since (Priv t) (has_now o) (b s).steps) → IsTrue (has_ever o (m (Priv t)))
+  ever_had t o since few told =
+      since_each (sizes_of n) since (Priv t) (has_now o) (λ w. IsTrue (has_now o w || has_ever o w) → IsTrue (has_ever o (m (Priv t)))) (IsTrue (has_ever o (m (Priv t)))) (b s).steps
+      (since_later (sizes_of n) 0 since (Priv t) _ (b s).steps (omega arith) ((sound.found s real).privileges t o few)) told
+      (λ w now had. had (or_left (has_now o w) (has_ever o w) now))
+
+  meets : (f g d : ℕ) (kind : PageType) → owner_of (m (Refs f)) ≡ Some d → OwnersMeet n f g kind (b s) → EntryPermitted m kind (Some d) g
+  meets f g d kind owner may =
+      let table = (sound.found s real).owners f may.table may.table_known in
+      let frame = (sound.found s real).owners g may.frame may.frame_known in
+      let same = some_is may.table d (owner_of (m (Refs f))) table owner in
+      elim may.meet [
+        | inl one ↦ inl (frame ∙ ap Some (one ∙ same))
+        | inr lowest ↦
+            inr (
+              lowest.0,
+              subst (λ o. PermitsOwner m d o) (sym frame)
+                  (inr (subst (λ k. IsTrue (has_ever may.frame (m (Priv k)))) same (ever_had may.table may.frame _ (owner_below g may.frame frame) lowest.1))),
+            )
+      ]
+
+  plain_counted : (g : ℕ) → 0 < refs_to g (b s).refs → 0 < ref_count (m (Refs g))
+  unfolding hand
+  plain_counted g held = let count = sound.counts.refs g in let part = hands-part (hand g) (sizes_of n) b s real in omega arith
+
+  typed_held : (g : ℕ) → 0 < typed_to g (b s).typed → 0 < typed_hand g (b s)
+  unfolding typed_hand
+  typed_held g p = omega arith
+
+  has_well : (f d : ℕ) (kind : PageType) (q : Demand) → owner_of (m (Refs f)) ≡ Some d → HasDemand n f kind (b s) q → AsksWell m kind d q
+  has_well f d kind Nothing owner may = tt
+  has_well f d kind Bad owner may = may
+  has_well f d kind (Read g) owner may = (plain_counted g may.in_hand, meets f g d kind owner may.owners)
+  has_well f d kind (Typed g t) owner may =
+      let alive = (sound.found s real).lives g t may.1 in
+      let number = counted_here n s m b real sound g alive.0 (typed_held g may.0.in_hand) in
+      (alive.0, number, alive.1, typed_counted n m b g sound alive.0 number, meets f g d kind owner may.0.owners)
+
+  -- ---- the locked table
+  pub locked_live : (f : ℕ) (e : Lock) → lock_on f (b s).locks ≡ Some e →
+      ((kind_at m f).validated ≡ true) × (0 < (kind_at m f).number) × ((kind_at m f).kind ≡ e.kind) × (e.frame ≡ f)
+  unfolding typed_hand
+  locked_live f e here =
+      let held = first-some (λ y. y.frame) f e (b s).locks here in
+      let at = first-key (λ y. y.frame) f e (b s).locks here in
+      let one = sound.alone.locks f in
+      let part = hands-part (λ u. locks_on f u.locks) (sizes_of n) b s real in
+      let locked : is_locked (kind_at m f) ≡ true = bit_on _ (omega arith) in
+      let live : (kind_at m f).validated ≡ true = grind arith in
+      let type = EachOf-first _ (λ y. y.frame) f e (b s).locks (sound.counts.kinds.locks s real) here in
+      (live, counted_here n s m b real sound f live (omega arith), subst (λ g. (kind_at m g).kind ≡ e.kind) at type, at)
+
+  -- a live and counted table that is come to serves
+  table_served : (v level f : ℕ) → v < (sizes_of n).vcpus → (kind_at m f).validated ≡ true → 0 < (kind_at m f).number → Came n m b v f (Table level) →
+      Served m (domain_of n v) f (Table level)
+  table_served v level f live alive number (inr (inl served)) = served
+  table_served v level f live alive number (inr (inr read)) = absurd (not_reads level read.0)
+  table_served v level f live alive number (inl r) =
+      record {
+        level = reach_level n m b sound v f (Table level) live r;
+        live = λ k. alive;
+        number = λ k. number;
+        matches = λ k. live_matches n m b sound v f (Table level) live alive (not_reads level) r;
+        counted = typed_counted n m b f sound alive number;
+        owner = (came_fresh n m b sound v f (Table level) live (inl r)).owner;
+      }
+
+  -- ---- the entry that the seat last found or left there asks what stands there
+  seen_asks : (f i new : ℕ) (e : Lock) (o : Option Seen) → e.frame ≡ f → (kind_at m f).kind ≡ e.kind → SeenIs (sizes_of n) e.since e.frame (b s).steps o →
+      LockFound (sizes_of n) m (b s) e → IsTrue (is_same_as_seen e.kind i new o) → demand_at (kind_at m f).kind i new ≡ entry_demand m f i
+  seen_asks f i new e None at type seen found same = absurd (cc)
+  seen_asks f i new e (Some k) at type seen found same =
+      let parts = when_on (k.index == i) (is_same_demand (demand_at e.kind i k.word) (demand_at e.kind i new)) same in
+      let index : k.index ≡ i = (let t = parts.0 in grind (arith, nat_tests)) in
+      let was : IsTrue (is_same_entry (m (Cell f i)) k.word) =
+      subst (λ g. IsTrue (is_same_entry (m (Cell g i)) k.word)) at (subst (λ j. IsTrue (is_same_entry (m (Cell e.frame j)) k.word)) index (found k.index k.word seen)) in
+      subst (λ t. demand_at t i new ≡ demand_at t i (m (Cell f i))) (sym type) (sym (same_demand _ _ parts.1) ∙ sym (entry_asks_same e.kind i (m (Cell f i)) k.word was))
+
+module _ (n : Machine) (s : ℕ) (x : Step) (m m2 : Place → ℕ) (b c : ℕ → Holdings) (real : s < (sizes_of n).vcpus) (acted : Acted n s x m m2 b c) (sound : Sound n m b) where
+  -- a store into an entry of a table under the own lock that asks what is there
+  entry_law : (f i : ℕ) (e : Lock) (y : Holdings) → Wrote n x (Cell f i) steps.Cell m m2 (b s) → lock_on f (b s).locks ≡ Some e → c s ≡ noted x (m (Cell f i)) y → HandStays (b s) y →
+      ((d level : ℕ) → Served m d f (Table level) → IsTrue (is_walked level i) → AsksWell m (kind_at m f).kind d (demand_at (kind_at m f).kind i (m2 (Cell f i)))) → Fresh n m2 c
+  entry_law f i e y wrote here hand stays asks =
+      let lock = locked_live n s m b real sound f e here in
+      written_law n s x f i steps.Cell m m2 b c y real sound acted.others wrote hand stays.like stays.claims
+      (λ k t. inl (cached k (stays.cache k t))) (λ k t. inl (walked k (stays.walk k t)))
+      (λ v live level came walks present inside.
+      let served = table_served n s m b real sound v level f live lock.0 lock.1 came in
+      inr (inl (target_served m (domain_of n v) f level i (m2 (Cell f i)) served walks present (asks (domain_of n v) level served walks))))
+
+  pub exchange_row : (f i : ℕ) → Exchanged n x f i m m2 (b s) (c s) → Fresh n m2 c
+  exchange_row f i d =
+      let lock = locked_live n s m b real sound f d.e d.here in
+      entry_law f i d.e _ d.wrote d.here d.hand
+      (then_stays _ _ _ (then_stays _ _ _ (out_stays (demand_at d.e.kind i (m2 (Cell f i))) (b s)) (in_stays (demand_at d.e.kind i (m (Cell f i))) _)) (cell_stays f i (m2 (Cell f i)) _))
+      (λ e level served walks.
+      has_well n s m b real sound f e (kind_at m f).kind (demand_at (kind_at m f).kind i (m2 (Cell f i))) (served_owner m e level f served)
+      (subst (λ t. HasDemand n f t (b s) (demand_at t i (m2 (Cell f i)))) (sym lock.2) d.may))
+
+  pub rewrite_row : (f i : ℕ) → Rewrote n x f i m m2 (b s) (c s) → Fresh n m2 c
+  rewrite_row f i d =
+      let lock = locked_live n s m b real sound f d.e d.here in
+      let same = seen_asks n s m b real sound f i (m2 (Cell f i)) d.e d.e.seen lock.3 lock.2
+      (EachOf-first _ (λ y. y.frame) f d.e (b s).locks (sound.formed s real).locks d.here).seen
+      (EachOf-first _ (λ y. y.frame) f d.e (b s).locks (sound.found s real).locks d.here) d.same in
+      entry_law f i d.e _ d.wrote d.here d.hand (cell_stays f i (m2 (Cell f i)) (b s))
+      (λ e level served walks. subst (λ q. AsksWell m (kind_at m f).kind e q) (sym same) (recorded_well n m b sound e level f i served walks))
