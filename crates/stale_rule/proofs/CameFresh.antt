@@ -133,7 +133,7 @@ pub record CellAlike (w w2 : ℕ) : Type 0 where
 pub alike_same : (w w2 : ℕ) → w2 ≡ w → CellAlike w w2
 alike_same w w2 e = record { present = ap (λ x. is_bit 0 x) e; writable = ap (λ x. is_bit 1 x) e; frame = ap frame_of e }
 
-use_alike : (level w w2 : ℕ) → CellAlike w w2 → use_below level w2 ≡ use_below level w
+pub use_alike : (level w w2 : ℕ) → CellAlike w w2 → use_below level w2 ≡ use_below level w
 use_alike level w w2 alike = rw alike.writable refl
 
 -- the targets of an entry are come to from a table that is come to

@@ -28,3 +28,4 @@ pub mod Served
 pub mod Stays
 pub mod StoreRows
 pub mod Tables
+pub mod WalkRows

@@ -1,5 +1,5 @@
 -- Lists of a hand: what holds of each element, and how often a number stands there.
-use Rattle.std.proofs.Common.{◌≡◌, ℕ, ◌+◌, ◌<◌, ◌≤◌, ◌==◌, ◌⊎◌, inl, inr, Bool, true, false, List, [], ◌∷◌, refl, subst, arith, if◌then◌else◌, Option, Some}
+use Rattle.std.proofs.Common.{◌≡◌, ℕ, zero, suc, ◌+◌, ◌<◌, ◌≤◌, ◌==◌, ◌⊎◌, inl, inr, Bool, true, false, List, [], ◌∷◌, take, refl, subst, arith, if◌then◌else◌, Option, Some}
 use Rattle.std.proofs.lemmas.Bool.Decides.{nat_tests}
 use Rattle.xp_board.specs.Lists.{one_at, times_by, first_by, without_by, changed_by, kept_of, EachOf, Member}
 
@@ -106,3 +106,12 @@ pub Member-kept : {A : Type 0} (test : A → Bool) (y : A) (xs : List A) → Mem
 unfolding Member kept_of
 Member-kept test y [] e = e
 Member-kept test y (x ∷ xs) e = kept-if y x (test x) (kept_of test xs) xs (λ k. Member-kept test y xs k) e
+
+pub Member-take : {A : Type 0} (n : ℕ) (y : A) (xs : List A) → Member y (take n xs) → Member y xs
+unfolding Member
+Member-take zero y xs e = absurd e
+Member-take (suc n) y [] e = e
+Member-take (suc n) y (x ∷ xs) e = elim e [
+  | inl at ↦ inl at
+  | inr rest ↦ inr (Member-take n y xs rest)
+]

@@ -1,12 +1,9 @@
 -- Each legal act leaves Fresh.
-use Rattle.std.proofs.Common.{◌≡◌, ℕ, ◌<◌, true, false, refl, subst, IsTrue}
+use Rattle.std.proofs.Common.{ℕ, ◌<◌}
 use Rattle.xp_words.specs.Machine.{Machine}
 use Rattle.xp_words.specs.Places.{sizes_of, Place}
 use Rattle.xp_board.specs.declared.step.Step.{Step}
-use Rattle.xp_board.specs.declared.step.StepKind.{StepKind}
-use Rattle.xp_board.specs.declared.step.StepKind.TheVariants as steps
 use Rattle.xp_board.specs.declared.holdings.Holdings.{Holdings}
-use Rattle.xp_board.specs.Legal.{is_proved}
 use Rattle.xp_board.specs.Fresh.{Fresh}
 use Rattle.xp_board.specs.Keeping.{Acted, KeepsAct}
 use Rattle.xp_board.specs.Sound.{Sound}
@@ -17,14 +14,12 @@ use Rattle.stale_rule.proofs.RefRows.{raise_row, clear_row, lower_row, privilege
 use Rattle.stale_rule.proofs.FreeRows.{take_row, free_row, give_row}
 use Rattle.stale_rule.proofs.CellRows.{fill_row, guest_row}
 use Rattle.stale_rule.proofs.LockRows.{exchange_row, rewrite_row}
+use Rattle.stale_rule.proofs.WalkRows.{start_row, walk_row, touch_row}
 use Rattle.stale_rule.proofs.FlushRow.{flush_row}
 use Rattle.stale_rule.proofs.KindRows.{turn_row, drop_row, unlock_row}
 use Rattle.stale_rule.proofs.StoreRows.{store_row}
 
-not_yet : (x : Step) (sort : StepKind) → x.kind ≡ sort → is_proved sort x.act ≡ false → IsTrue (is_proved x.kind x.act) → ⊥
-not_yet x sort e off t = absurd (let on : is_proved sort x.act ≡ true = subst (λ k. is_proved k x.act ≡ true) e t in cc)
-
-module _ (n : Machine) (s : ℕ) (x : Step) (m m2 : Place → ℕ) (b c : ℕ → Holdings) (real : s < (sizes_of n).vcpus) (proved : IsTrue (is_proved x.kind x.act))
+module _ (n : Machine) (s : ℕ) (x : Step) (m m2 : Place → ℕ) (b c : ℕ → Holdings) (real : s < (sizes_of n).vcpus)
     (acted : Acted n s x m m2 b c) (sound : Sound n m b) where
   effect_row : ActEffect n s x m m2 (b s) (c s) → Fresh n m2 c
   effect_row (looked p d) = look_row n s x m m2 b c acted sound p d
@@ -43,9 +38,9 @@ module _ (n : Machine) (s : ℕ) (x : Step) (m m2 : Place → ℕ) (b c : ℕ �
   effect_row (rewrote f i d) = rewrite_row n s x m m2 b c real acted sound f i d
   effect_row (filled f i d) = fill_row n s x m m2 b c real acted sound f i d
   effect_row (guest_stored f i d) = guest_row n s x m m2 b c real acted sound f i d
-  effect_row (started_walk k d) = absurd (not_yet x steps.Fill d.kind_is refl proved)
-  effect_row (went_on f i d) = absurd (not_yet x steps.Fill d.kind_is refl proved)
-  effect_row (touched_entry f i d) = absurd (not_yet x steps.Touch d.wrote.kind_is refl proved)
+  effect_row (started_walk k d) = start_row n s x m m2 b c real acted sound k d
+  effect_row (went_on f i d) = walk_row n s x m m2 b c real acted sound f i d
+  effect_row (touched_entry f i d) = touch_row n s x m m2 b c real acted sound f i d
   effect_row (stumbled f i d) = stumble_row n s x m m2 b c acted sound f i d
   effect_row (mapped f d) = map_row n s x m m2 b c acted sound f d
   effect_row (charged e d) = charge_row n s x m m2 b c acted sound e d
@@ -62,4 +57,4 @@ module _ (n : Machine) (s : ℕ) (x : Step) (m m2 : Place → ℕ) (b c : ℕ �
   effect_row (privileged e d) = privilege_row n s x m m2 b c acted sound e d
 
 pub act_row : KeepsAct Fresh
-act_row n s x m m2 b c real may acted sound = effect_row n s x m m2 b c real may.proved acted sound (act_effect n s x m m2 b c may acted)
+act_row n s x m m2 b c real may acted sound = effect_row n s x m m2 b c real acted sound (act_effect n s x m m2 b c may acted)
