@@ -1,8 +1,13 @@
-pub mod ChangeLaw
-pub mod Changes
-pub mod DomainLaw
-pub mod HandLaws
-pub mod Laws
-pub mod RefWordLaws
-pub mod StepFacts
-pub mod ValidLaw
+mod StepFacts
+mod DomainLaw
+mod DomainWords
+mod Counted
+mod RefWordLaws
+mod DomainFrames
+mod HandParts
+mod DomainKinds
+mod DomainStores
+mod DomainOthers
+mod DomainVcpus
+mod DomainLives
+mod DomainLaws
