@@ -83,7 +83,7 @@ locked_table n m h s f b k some =
     let all = k.locks f in
     locked_by (kind_at m f) (omega arith)
 
-bit_one : (t : Bool) → bit t ≤ 1
+pub bit_one : (t : Bool) → bit t ≤ 1
 bit_one true = omega arith
 bit_one false = omega arith
 

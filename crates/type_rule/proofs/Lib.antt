@@ -11,3 +11,8 @@ mod DomainOthers
 mod DomainVcpus
 mod DomainLives
 mod DomainLaws
+mod Works
+mod Held
+mod EntryChange
+mod WorkFacts
+mod ValidLaw
