@@ -23,7 +23,7 @@ use Rattle.type_rule.proofs.HandParts.{SameTwo, SameThree, two_of, three_then, t
 use Rattle.type_rule.proofs.DomainLaw.{AllStopped, DomainWords, DomainChange}
 use Rattle.type_rule.proofs.DomainWords.{LooksOn, kept_after, change_by, runs, not_stopped, same_words, learned_alive}
 
-own_if_by : (s : ℕ) (y z : Holdings) → (if s == s then y else z) ≡ y
+pub own_if_by : (s : ℕ) (y z : Holdings) → (if s == s then y else z) ≡ y
 own_if_by s y z = grind (arith, nat_tests)
 
 module _ (n : Machine) (s : ℕ) (x : Step) (m m2 : Place → ℕ) (b c : ℕ → Holdings) (real : s < (sizes_of n).vcpus) (sound : Sound n m b)

@@ -16,3 +16,5 @@ mod Held
 mod EntryChange
 mod WorkFacts
 mod ValidLaw
+mod QuietLaw
+mod QuietActs

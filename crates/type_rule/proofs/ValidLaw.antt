@@ -93,14 +93,15 @@ module _ (n : Machine) (s : ℕ) (m m2 : Place → ℕ) (b c : ℕ → Holdings)
         contexts = k.contexts;
       }
 
-  -- words of vCPUs that stay
-  live_is_context : (j : ℕ) → IsTrue (is_live_context j) → IsTrue (is_context j)
-  live_is_context j u = grind arith
+-- words of vCPUs that stay
+pub live_is_context : (j : ℕ) → IsTrue (is_live_context j) → IsTrue (is_context j)
+live_is_context j u = grind arith
 
-  pub contexts_permitted : ((v j : ℕ) → IsTrue (is_context j) → m2 (Vcpu v j) ≡ m (Vcpu v j)) → (v j g : ℕ) → v < (sizes_of n).vcpus → j < 38 → IsTrue (is_live_context j) →
-      m2 (Vcpu v j) ≡ g + 1 → owner_of (m2 (Refs g)) ≡ Some (domain_of n v)
-  contexts_permitted same v j g l h u e =
-      let was : m (Vcpu v j) ≡ g + 1 = sym (same v j (live_is_context j u)) ∙ e in
-      let counted = context_counted n m b s v j g sound.counts real l h (live_is_context j u) was in
-      let below = type_below (sizes_of n) m b g sound.counts in
-      k.owners.owner g (omega arith) ∙ sound.permitted.contexts v j g l h u was
+pub contexts_permitted : (n : Machine) (s : ℕ) (m m2 : Place → ℕ) (b : ℕ → Holdings) → s < (sizes_of n).vcpus → Sound n m b → OwnersStay m m2 →
+    ((v j : ℕ) → IsTrue (is_context j) → m2 (Vcpu v j) ≡ m (Vcpu v j)) → (v j g : ℕ) → v < (sizes_of n).vcpus → j < 38 → IsTrue (is_live_context j) →
+    m2 (Vcpu v j) ≡ g + 1 → owner_of (m2 (Refs g)) ≡ Some (domain_of n v)
+contexts_permitted n s m m2 b real sound owners same v j g l h u e =
+    let was : m (Vcpu v j) ≡ g + 1 = sym (same v j (live_is_context j u)) ∙ e in
+    let counted = context_counted n m b s v j g sound.counts real l h (live_is_context j u) was in
+    let below = type_below (sizes_of n) m b g sound.counts in
+    owners.owner g (omega arith) ∙ sound.permitted.contexts v j g l h u was
