@@ -18,3 +18,5 @@ mod WorkFacts
 mod ValidLaw
 mod QuietLaw
 mod QuietActs
+mod KindAct
+mod KindRows
