@@ -275,8 +275,8 @@ module _ (n : Machine) (s : ℕ) (x : Step) (m m2 : Place → ℕ) (b c : ℕ �
         live_stays n s x m m2 b c real sound one_more f same down_works idle live is kind
         (rw works_is (closing_held f (m (Kind f)) (m2 (Kind f)) (kind_at m2 f) is kind none ∙ live_held (kind_at m f) (kind_at m2 f) live is kind))
 
-    down_valid : Valid (sizes_of n) m2 c
+    pub down_valid : Valid (sizes_of n) m2 c
     down_valid = kind_valid n s x m m2 b c real sound one_more f same down_works down_act
 
-    down_permitted : Permitted n m2 c
+    pub down_permitted : Permitted n m2 c
     down_permitted = kind_permitted n s x m m2 b c real sound one_more f same down_works down_act

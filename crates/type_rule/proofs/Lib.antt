@@ -20,3 +20,6 @@ mod QuietLaw
 mod QuietActs
 mod KindAct
 mod KindRows
+mod KindDowns
+mod Settled
+mod KindStores
