@@ -23,3 +23,5 @@ mod KindRows
 mod KindDowns
 mod Settled
 mod KindStores
+mod CellAct
+mod CellRows

@@ -77,7 +77,7 @@ ref_in_hand : (f : ℕ) (u : Holdings) → refs_to f u.refs ≤ hand f u
 unfolding hand
 ref_in_hand f u = omega arith
 
-closing_counted : (n : Machine) (m : Place → ℕ) (h : ℕ → Holdings) (f : ℕ) → Sound n m h → is_closing (kind_at m f) ≡ true → is_busy (kind_at m f) ≡ true → 0 < ref_count (m (Refs f))
+pub closing_counted : (n : Machine) (m : Place → ℕ) (h : ℕ → Holdings) (f : ℕ) → Sound n m h → is_closing (kind_at m f) ≡ true → is_busy (kind_at m f) ≡ true → 0 < ref_count (m (Refs f))
 closing_counted n m h f sound closing busy =
     let t = someone_works n m h f sound.alone busy in
     let e = some_on f (h t.0).works t.2 in
@@ -93,7 +93,7 @@ some_form : (k : KindWord) → type_count k ≡ 0 → (is_closing k ≡ true) �
 unfolding type_count
 some_form k h = elim (cases_Bool (is_closing k)) [ inl c ↦ inl c | inr c ↦ inr (grind (arith, nat_tests)) ]
 
-closing_busy : (k : KindWord) → is_closing k ≡ true → is_busy k ≡ true
+pub closing_busy : (k : KindWord) → is_closing k ≡ true → is_busy k ≡ true
 closing_busy k h = grind (arith, nat_tests)
 
 dead_none : (k : KindWord) → type_count k ≡ 0 → is_closing k ≡ false → held_by_form k None ≡ 0
