@@ -49,19 +49,19 @@ use Rattle.type_rule.proofs.KindStores.{table_held}
 use Rattle.type_rule.proofs.CellAct.{CellAct, cell_valid, cell_permitted}
 
 -- ---- types
-desc_no_table : (t : PageType) → t ≡ kinds.Desc → is_table t ≡ true → ⊥
+pub desc_no_table : (t : PageType) → t ≡ kinds.Desc → is_table t ≡ true → ⊥
 desc_no_table t e h = let k : is_table t ≡ false = rw e refl in cc
 
 writable_no_table : (t : PageType) → t ≡ kinds.Writable → is_table t ≡ true → ⊥
 writable_no_table t e h = let k : is_table t ≡ false = rw e refl in cc
 
-seven_no_table : (t : PageType) → type_number t ≡ 7 → is_table t ≡ true → ⊥
+pub seven_no_table : (t : PageType) → type_number t ≡ 7 → is_table t ≡ true → ⊥
 seven_no_table t e h = let k : is_table t ≡ false = rw e refl in cc
 
-level_no_desc : (t : PageType) (l : ℕ) → type_number t ≡ l → l ≤ 4 → t ≡ kinds.Desc → ⊥
+pub level_no_desc : (t : PageType) (l : ℕ) → type_number t ≡ l → l ≤ 4 → t ≡ kinds.Desc → ⊥
 level_no_desc t l e few d = let k : type_number t ≡ 5 = rw d refl in absurd (omega arith)
 
-seven_no_desc : (t : PageType) → type_number t ≡ 7 → t ≡ kinds.Desc → ⊥
+pub seven_no_desc : (t : PageType) → type_number t ≡ 7 → t ≡ kinds.Desc → ⊥
 seven_no_desc t e d = let k : type_number t ≡ 5 = rw d refl in absurd (omega arith)
 
 -- a word that is a spelling is read as its fields

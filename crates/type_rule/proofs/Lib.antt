@@ -25,3 +25,6 @@ mod Settled
 mod KindStores
 mod CellAct
 mod CellRows
+mod GuestRows
+mod NewEntries
+mod LockRows

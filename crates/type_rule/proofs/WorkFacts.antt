@@ -100,7 +100,7 @@ dead_none : (k : KindWord) → type_count k ≡ 0 → is_closing k ≡ false →
 unfolding type_count
 dead_none k h c = grind (arith, nat_tests)
 
-none_all : (n : ℕ) (h : ℕ → Holdings) (f : ℕ) → ((t : ℕ) → t < n → work_on f (h t).works ≡ None) → work_of n h f ≡ None
+pub none_all : (n : ℕ) (h : ℕ → Holdings) (f : ℕ) → ((t : ℕ) → t < n → work_on f (h t).works ≡ None) → work_of n h f ≡ None
 unfolding work_of recorded_in
 none_all zero h f e = refl
 none_all (suc n) h f e = rw (e n (omega arith)) (none_all n h f (λ t b. e t (omega arith)))
