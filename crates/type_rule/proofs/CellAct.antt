@@ -1,12 +1,10 @@
 -- An act on a cell: what has to be shown of it, and what follows.
-use Rattle.std.proofs.Common.{◌≡◌, ◌≢◌, ℕ, ◌+◌, ◌<◌, ◌==◌, ◌&&◌, ◌⊎◌, not, if◌then◌else◌, Bool, true, false, List, [], ◌∷◌, Option, Some, None, IsTrue, refl, sym, ◌∙◌, ap, subst, inl, inr, rules, arith}
-use Rattle.std.proofs.lemmas.Bool.{cases_eq, cases_Bool, and_parts}
+use Rattle.std.proofs.Common.{◌≡◌, ◌≢◌, ℕ, ◌<◌, ◌⊎◌, ◌∷◌, IsTrue, refl, sym, ◌∙◌, ap, subst, inl, inr}
 use Rattle.xp_words.specs.declared.kind.PageType.TheVariants as kinds
 use Rattle.xp_words.specs.Entries.{demand_at}
 use Rattle.xp_words.specs.Machine.{Machine}
 use Rattle.xp_words.specs.Places.{Place, Vcpu, Refs, Kind, Cell, Priv, sizes_of}
 use Rattle.xp_board.specs.declared.step.Step.{Step}
-use Rattle.xp_board.specs.declared.holdings.Work.{Work}
 use Rattle.xp_board.specs.declared.holdings.Holdings.{Holdings}
 use Rattle.xp_board.specs.Acts.{left_by}
 use Rattle.xp_board.specs.Hands.{work_on, changed_work}
@@ -19,13 +17,12 @@ use Rattle.xp_board.specs.Sound.{Sound}
 use Rattle.xp_board.proofs.PlaceTests.{same_or_other}
 use Rattle.type_rule.proofs.HandParts.{SameThree}
 use Rattle.type_rule.proofs.Works.{WorkKeptIn, cell_kept}
-use Rattle.type_rule.proofs.EntryChange.{OldEntry, OneStep, quiet_entry, quiet_leads, quiet_held}
-use Rattle.type_rule.proofs.ValidLaw.{OwnersStay, NewEntry, EntriesAfter, valid_law, permitted_law, contexts_permitted, live_is_context}
+use Rattle.type_rule.proofs.EntryChange.{OneStep, quiet_entry, quiet_leads, quiet_held}
+use Rattle.type_rule.proofs.ValidLaw.{OwnersStay, NewEntry, EntriesAfter, valid_law, permitted_law, contexts_permitted}
 use Rattle.type_rule.proofs.QuietLaw.{same_owners}
 
 module _ (n : Machine) (s : ℕ) (x : Step) (m m2 : Place → ℕ) (b c : ℕ → Holdings) (real : s < (sizes_of n).vcpus) (sound : Sound n m b)
     (others : (t : ℕ) → t ≢ s → c t ≡ b t) (f i : ℕ) (same : (p : Place) → p ≢ Cell f i → m2 p ≡ m p) where
-
   -- the hand y with what is learned of the cell
   module _ (w : ℕ) (y : Holdings) (place : place_of n x ≡ Cell f i) (left : left_by x.act (m (Cell f i)) ≡ m2 (Cell f i))
       (hand : c s ≡ noted x (m (Cell f i)) (learned_cell f i w y)) (three : SameThree (b s) y) where
@@ -83,7 +80,7 @@ module _ (n : Machine) (s : ℕ) (x : Step) (m m2 : Place → ℕ) (b c : ℕ �
           valid_law n m m2 b c
           (record {
             entries = entries;
-            leads = λ g j h t l e leads. quiet_leads n s x m m2 b c one kinds_same works g j h leads;
+            leads = λ g j h t now l e leads. quiet_leads n s x m m2 b c one kinds_same works g j h leads;
             fixed = fixed_after;
             contexts = λ v j g l h u e. rw (kinds_same g) (sound.valid.contexts v j g l h u (sym (same (Vcpu v j) (λ r. cc)) ∙ e));
           })

@@ -1,6 +1,6 @@
 -- Stores into cells that ask the same as before, or that no recorded entry reads: what entries lead to stays.
-use Rattle.std.proofs.Common.{◌≡◌, ◌≢◌, ℕ, ◌+◌, ◌<◌, ◌≤◌, ◌==◌, ◌&&◌, ◌⊎◌, not, nat_lt, if◌then◌else◌, Bool, true, false, List, [], ◌∷◌, Option, Some, None, IsTrue, refl, sym, ◌∙◌, ap, subst, inl, inr, rules, arith}
-use Rattle.std.proofs.lemmas.Bool.{cases_eq, cases_Bool, and_parts}
+use Rattle.std.proofs.Common.{◌≡◌, ◌≢◌, ℕ, ◌<◌, ◌≤◌, ◌==◌, true, false, List, Option, Some, None, IsTrue, refl, sym, ◌∙◌, ap, subst, inl, inr, arith}
+use Rattle.std.proofs.lemmas.Bool.{cases_eq, cases_Bool}
 use Rattle.std.proofs.lemmas.Bool.Decides.{nat_tests}
 use Rattle.xp_words.specs.declared.kind.KindWord.{KindWord}
 use Rattle.xp_words.specs.declared.kind.PageType.{PageType}
@@ -9,9 +9,8 @@ use Rattle.xp_words.specs.PageTypes.{is_table, type_number}
 use Rattle.xp_words.specs.Entries.{demand_at, fixed}
 use Rattle.xp_words.specs.KindWords.{kind_read, kind_fields}
 use Rattle.xp_words.specs.Machine.{Machine}
-use Rattle.xp_words.specs.Places.{Sizes, Place, Vcpu, Refs, Kind, Cell, sizes_of, is_place}
+use Rattle.xp_words.specs.Places.{Sizes, Place, Refs, Kind, Cell, sizes_of, is_place}
 use Rattle.xp_board.specs.declared.step.Step.{Step}
-use Rattle.xp_board.specs.declared.step.Item.{Item}
 use Rattle.xp_board.specs.declared.holdings.Seen.{Seen}
 use Rattle.xp_board.specs.declared.holdings.Made.{Made}
 use Rattle.xp_board.specs.Spelling.{IsSpelling, is_kind_in}
@@ -19,31 +18,23 @@ use Rattle.xp_board.proofs.FrameInversions.{fields_of}
 use Rattle.xp_board.specs.declared.holdings.Work.{Work}
 use Rattle.xp_board.specs.declared.holdings.Lock.{Lock}
 use Rattle.xp_board.specs.declared.holdings.Claimed.{Claimed}
-use Rattle.xp_board.specs.declared.holdings.Reached.{Reached}
-use Rattle.xp_board.specs.declared.holdings.Touching.{Touching}
-use Rattle.xp_board.specs.declared.holdings.Walk.{Walk}
 use Rattle.xp_board.specs.declared.holdings.Holdings.{Holdings}
 use Rattle.xp_board.specs.Steps.{last_since}
-use Rattle.xp_board.specs.Lists.{Member, some_of}
-use Rattle.xp_board.specs.Hands.{lock_on, locks_on, claim_of, work_on}
-use Rattle.xp_board.specs.Readings.{kind_at, ref_count, type_count, is_live, is_locked, is_work, is_partial, is_closing}
-use Rattle.xp_board.specs.CellSteps.{keeps_demand, is_same_as_seen, AllowsPlain, MayFix, MayWrite}
-use Rattle.xp_board.specs.FillSteps.{touched}
+use Rattle.xp_board.specs.Hands.{lock_on, claim_of, work_on}
+use Rattle.xp_board.specs.Readings.{kind_at, ref_count, type_count, is_live, is_work, is_closing}
+use Rattle.xp_board.specs.CellSteps.{is_same_as_seen, AllowsPlain}
 use Rattle.xp_board.specs.Found.{LockFound}
-use Rattle.xp_board.specs.WellFormed.{IsLockFormed, SeenIs, IsWalkFormed, IsDescent, TouchesIn, IsTouchFormed}
+use Rattle.xp_board.specs.WellFormed.{IsLockFormed, SeenIs}
 use Rattle.xp_board.specs.After.{is_fixed}
-use Rattle.xp_board.specs.Reach.{Use, Table, Writes, Reads, Reach, cached, walked, use_of, reached_by}
-use Rattle.xp_board.specs.Fresh.{Matches, Bears}
-use Rattle.xp_board.specs.Recorded.{HasType, held, entry_demand}
+use Rattle.xp_board.specs.Recorded.{HasType, held}
 use Rattle.xp_board.specs.Valid.{Valid, Permitted}
-use Rattle.xp_board.specs.Sound.{Sound, is_busy}
-use Rattle.xp_board.proofs.KindForms.{live_form, partial_form}
-use Rattle.xp_board.proofs.EntryWords.{entry_asks_same, same_demand, touched_same, type_same}
-use Rattle.xp_board.proofs.ActEffects.{Rewrote, Filled, GuestStored, Touched}
-use Rattle.type_rule.proofs.Counted.{first_each, first_some, locked_table}
-use Rattle.type_rule.proofs.HandParts.{SameThree, three_descended}
-use Rattle.type_rule.proofs.Held.{type_below, nobody_works}
-use Rattle.type_rule.proofs.WorkFacts.{works_facts, idle_held, closing_counted, closing_busy, some_on}
+use Rattle.xp_board.specs.Sound.{Sound}
+use Rattle.xp_board.proofs.KindForms.{live_form}
+use Rattle.xp_board.proofs.EntryWords.{entry_asks_same, same_demand}
+use Rattle.xp_board.proofs.ActEffects.{Rewrote, Filled}
+use Rattle.type_rule.proofs.Counted.{first_each, first_some}
+use Rattle.type_rule.proofs.Held.{type_below}
+use Rattle.type_rule.proofs.WorkFacts.{works_facts, idle_held, closing_counted, closing_busy}
 use Rattle.type_rule.proofs.QuietActs.{dying_in_hand}
 use Rattle.type_rule.proofs.KindStores.{table_held}
 use Rattle.type_rule.proofs.CellAct.{CellAct, cell_valid, cell_permitted}
@@ -177,18 +168,21 @@ module _ (n : Machine) (s : ℕ) (x : Step) (m m2 : Place → ℕ) (b c : ℕ �
       (λ l. let z = free_held f none in absurd (omega arith), λ live desc. absurd (free_not_live f none live))
   filled_by f i None (Some e) claim work may =
       let k = works_facts n m b s f e sound real work in
-      let w : kind_at m f ≡ kind_fields e.word = ap kind_fields k.word in
-      (λ l. desc_no_table (kind_at m f).kind (rw w may.kind) (table_held (kind_at m f) _ i l),
-      λ live desc. absurd (work_not_live (kind_at m f) (rw w may.work) live))
+      let w : kind_at m f ≡ kind_fields e.word = ap kind_fields k.word in (
+        λ l. desc_no_table (kind_at m f).kind (rw w may.kind) (table_held (kind_at m f) _ i l),
+        λ live desc. absurd (work_not_live (kind_at m f) (rw w may.work) live),
+      )
   filled_by f i None None claim work may =
-      let live = (sound.found s real).lives f may.kind may.live in
-      (λ l. elim may.ordinary [
-        | inl writable ↦ writable_no_table (kind_at m f).kind (live.1 ∙ writable) (table_held (kind_at m f) _ i l)
-        | inr desc ↦ desc_no_table (kind_at m f).kind (live.1 ∙ desc.0) (table_held (kind_at m f) _ i l)
-      ], λ is desc. elim may.ordinary [
-        | inl writable ↦ absurd (let e : kinds.Desc ≡ kinds.Writable = sym desc ∙ live.1 ∙ writable in cc)
-        | inr fix ↦ own_fixed (m2 (Cell f i)) fix.1
-      ])
+      let live = (sound.found s real).lives f may.kind may.live in (
+        λ l. elim may.ordinary [
+          | inl writable ↦ writable_no_table (kind_at m f).kind (live.1 ∙ writable) (table_held (kind_at m f) _ i l)
+          | inr desc ↦ desc_no_table (kind_at m f).kind (live.1 ∙ desc.0) (table_held (kind_at m f) _ i l)
+        ],
+        λ is desc. elim may.ordinary [
+          | inl writable ↦ absurd (let e : kinds.Desc ≡ kinds.Writable = sym desc ∙ live.1 ∙ writable in cc)
+          | inr fix ↦ own_fixed (m2 (Cell f i)) fix.1
+        ],
+      )
 
   pub filled_valid : (f i : ℕ) → Filled n x f i m m2 (b s) (c s) → Valid (sizes_of n) m2 c
   filled_valid f i d =

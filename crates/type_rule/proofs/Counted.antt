@@ -1,20 +1,18 @@
 -- What a reference in hand, or a recorded one, says of the counts of its frame.
-use Rattle.std.proofs.Common.{◌≡◌, ◌≢◌, ℕ, zero, suc, ◌+◌, ◌<◌, ◌≤◌, ◌==◌, ◌&&◌, ◌⊎◌, if◌then◌else◌, Bool, true, false, List, [], ◌∷◌, Some, IsTrue, refl, sym, ◌∙◌, ap, subst, inl, inr, rules, arith}
-use Rattle.std.proofs.lemmas.Bool.{cases_eq, cases_Bool, and_parts}
+use Rattle.std.proofs.Common.{◌≡◌, ◌≢◌, ℕ, zero, suc, ◌+◌, ◌<◌, ◌≤◌, ◌==◌, Bool, true, false, List, [], ◌∷◌, Some, sym, ◌∙◌, ap, subst, inl, inr, arith}
+use Rattle.std.proofs.lemmas.Bool.{cases_eq}
 use Rattle.std.proofs.lemmas.Bool.Decides.{nat_tests}
 use Rattle.xp_words.specs.declared.kind.KindWord.{KindWord}
-use Rattle.xp_words.specs.declared.kind.PageType.{PageType}
 use Rattle.xp_words.specs.RefWords.{bit}
 use Rattle.xp_words.specs.Machine.{Machine}
-use Rattle.xp_words.specs.Places.{Sizes, sizes_of, Place, Refs, Kind}
-use Rattle.xp_board.specs.declared.holdings.Work.{Work}
+use Rattle.xp_words.specs.Places.{Sizes, sizes_of, Place}
 use Rattle.xp_board.specs.declared.holdings.Holdings.{Holdings}
 use Rattle.xp_board.specs.Sums.{sum_below}
-use Rattle.xp_board.specs.Lists.{times_by, first_by, EachOf, one_at}
-use Rattle.xp_board.specs.Readings.{kind_at, ref_count, type_count, is_live, is_locked, is_work, is_closing}
-use Rattle.xp_board.specs.Hands.{refs_to, typed_to, works_on, work_on, locks_on, hand, typed_hand}
-use Rattle.xp_board.specs.Recorded.{CountsAgree, hands, named, named_typed}
-use Rattle.xp_board.specs.Sound.{Sound, HeldAlone, is_busy}
+use Rattle.xp_board.specs.Lists.{times_by, first_by, EachOf}
+use Rattle.xp_board.specs.Readings.{kind_at, type_count, is_locked}
+use Rattle.xp_board.specs.Hands.{typed_to, works_on, locks_on, typed_hand}
+use Rattle.xp_board.specs.Recorded.{CountsAgree, hands}
+use Rattle.xp_board.specs.Sound.{HeldAlone, is_busy}
 
 -- ---- sums of hands
 pub sum_below-part : (n : ℕ) (p : ℕ → ℕ) (j : ℕ) → j < n → p j ≤ sum_below n p

@@ -1,28 +1,23 @@
 -- Dying and dead domains: acts on the reference word of a frame.
-use Rattle.std.proofs.Common.{◌≡◌, ◌≢◌, ℕ, ◌+◌, ◌<◌, ◌==◌, Bool, true, false, List, [], ◌∷◌, length, Option, Some, None, IsTrue, refl, sym, ◌∙◌, ap, subst, inl, inr, rules, arith}
-use Rattle.std.proofs.lemmas.Bool.{cases_eq, cases_Bool}
-use Rattle.std.proofs.lemmas.Bool.Decides.{nat_tests}
+use Rattle.std.proofs.Common.{◌≡◌, ◌≢◌, ℕ, ◌<◌, Bool, false, length, Some, None, IsTrue, refl, sym, ◌∙◌, ap, inl, inr, arith}
+use Rattle.std.proofs.lemmas.Bool.{cases_eq}
 use Rattle.xp_words.specs.declared.refs.RefWord.TheVariants.{Free, Owned, Dying}
 use Rattle.xp_words.specs.RefWords.{ref_read, ref_write, IsRef}
 use Rattle.xp_words.specs.Machine.{Machine, IsMachine}
-use Rattle.xp_words.specs.Places.{Place, Life, Vcpu, Refs, Kind, sizes_of}
+use Rattle.xp_words.specs.Places.{Place, Vcpu, Refs, Kind, sizes_of}
 use Rattle.xp_board.specs.declared.step.Step.{Step}
-use Rattle.xp_board.specs.declared.holdings.Looking.{Looking}
 use Rattle.xp_board.specs.declared.holdings.Holdings.{Holdings}
-use Rattle.xp_board.specs.Lists.{Member, EachOf, first_by}
 use Rattle.xp_board.specs.Readings.{owner_of, domain_of, allocated_mark}
 use Rattle.xp_board.specs.LifeSteps.{is_unallocated}
 use Rattle.xp_board.specs.Sound.{Sound}
 use Rattle.xp_board.specs.Found.{ClaimFound}
-use Rattle.xp_board.specs.Hands.{claim_of}
-use Rattle.xp_board.specs.declared.holdings.Claimed.{Claimed}
 use Rattle.type_rule.proofs.Counted.{first_each}
 use Rattle.xp_words.proofs.RefLaws.{ref_read-write}
 use Rattle.std.proofs.lemmas.List.Elements.{All-get_or}
 use Rattle.xp_board.proofs.ActEffects.{Raised, Cleared, Took, Lowered, Freed, Gave}
 use Rattle.type_rule.proofs.RefWordLaws.{SameOwner, one_more_keeps, one_less_keeps, in_hand_counted}
 use Rattle.type_rule.proofs.DomainLaw.{AllStopped, DomainWords, DomainChange}
-use Rattle.type_rule.proofs.DomainWords.{LooksOn, kept_after, change_by, runs, not_stopped}
+use Rattle.type_rule.proofs.DomainWords.{kept_after, change_by, not_stopped}
 
 pub owner_read : (w o c : ℕ) (a : Bool) → ref_read w ≡ Some (Owned o a c) → owner_of w ≡ Some o
 unfolding owner_of

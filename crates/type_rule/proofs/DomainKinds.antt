@@ -1,22 +1,19 @@
 -- Dying and dead domains: acts on the kind word of a frame.
-use Rattle.std.proofs.Common.{◌≡◌, ◌≢◌, ℕ, ◌+◌, ◌<◌, ◌==◌, ◌&&◌, ◌||◌, ◌⊎◌, not, if◌then◌else◌, Bool, true, false, List, [], ◌∷◌, Option, Some, None, IsTrue, refl, sym, ◌∙◌, ap, subst, inl, inr, rules, arith}
-use Rattle.std.proofs.lemmas.Bool.{cases_eq, cases_Bool, and_parts}
+use Rattle.std.proofs.Common.{◌≡◌, ◌≢◌, ℕ, ◌<◌, ◌==◌, ◌||◌, ◌⊎◌, not, Bool, true, false, List, [], ◌∷◌, Some, IsTrue, refl, sym, ◌∙◌, ap, subst, inl, inr, arith}
+use Rattle.std.proofs.lemmas.Bool.{cases_eq, and_parts}
 use Rattle.std.proofs.lemmas.Bool.Decides.{nat_tests}
 use Rattle.xp_words.specs.declared.kind.KindWord.{KindWord}
 use Rattle.xp_words.specs.KindWords.{kind_read, kind_fields}
 use Rattle.xp_words.specs.Machine.{Machine}
-use Rattle.xp_words.specs.Places.{Place, Life, Vcpu, Refs, Kind, sizes_of}
+use Rattle.xp_words.specs.Places.{Place, Vcpu, Refs, Kind, sizes_of}
 use Rattle.xp_board.specs.declared.step.Step.{Step}
 use Rattle.xp_board.specs.declared.holdings.Looking.{Looking}
-use Rattle.xp_board.specs.declared.holdings.OwnerFound.{OwnerFound}
-use Rattle.xp_board.specs.declared.holdings.OwnerFound.TheVariants as owners
 use Rattle.xp_board.specs.declared.holdings.Holdings.{Holdings}
-use Rattle.xp_board.specs.Lists.{Member, EachOf, kept_of}
-use Rattle.xp_board.specs.Readings.{kind_at, is_live, is_locked, is_partial, type_count, owner_of, domain_of}
-use Rattle.xp_board.specs.LifeSteps.{is_unpinned, is_unkept}
-use Rattle.xp_board.specs.KindSteps.{KindRow, Count, Locks, Pin, Unpin, Resume, TakeBack, Begin, AllowsKindRow, still_looking, Form, Live, Partial, InWork, Dead, form_of}
+use Rattle.xp_board.specs.Lists.{Member, EachOf}
+use Rattle.xp_board.specs.Readings.{kind_at, is_partial, type_count, owner_of, domain_of}
+use Rattle.xp_board.specs.KindSteps.{KindRow, Count, Locks, Pin, Unpin, Resume, TakeBack, Begin, AllowsKindRow, still_looking}
 use Rattle.xp_board.specs.WellFormed.{IsLookingFormed}
-use Rattle.xp_board.specs.Sound.{Sound, KeptForNobody, IsLookedAt}
+use Rattle.xp_board.specs.Sound.{Sound, KeptForNobody}
 use Rattle.xp_board.proofs.KindForms.{live_form, fields_down, fields_unlocked}
 use Rattle.xp_board.proofs.ActEffects.{Turned, Missed, Dropped, Unlocked}
 use Rattle.type_rule.proofs.Counted.{typed_counted, locked_table}

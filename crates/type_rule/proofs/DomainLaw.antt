@@ -8,13 +8,13 @@ use Rattle.xp_board.specs.declared.step.Step.{Step}
 use Rattle.xp_board.specs.declared.holdings.Made.{Made}
 use Rattle.xp_board.specs.declared.holdings.Holdings.{Holdings}
 use Rattle.xp_board.specs.Acts.{left_by}
-use Rattle.xp_board.specs.Steps.{EachSince, some_since, some_before, some_between}
+use Rattle.xp_board.specs.Steps.{some_since, some_before, some_between}
 use Rattle.xp_board.specs.Readings.{is_context, is_owned_by, owner_of, domain_of}
 use Rattle.xp_board.specs.LifeSteps.{HasStopped, is_unallocated, is_unpinned, is_unkept}
 use Rattle.xp_board.specs.Found.{StoppedFound}
 use Rattle.xp_board.specs.Runs.{place_of}
 use Rattle.xp_board.specs.Sound.{Sound, KeptForNobody, DeadDomain, DyingDomain, Domains}
-use Rattle.type_rule.proofs.StepFacts.{Hit, since_more, before_more, between_more, since_within, between_within, found_between}
+use Rattle.type_rule.proofs.StepFacts.{Hit, since_more, before_more, between_more, since_within, found_between}
 
 -- all vCPUs of the domain are stopped
 abbrev pub AllStopped : Machine → (Place → ℕ) → ℕ → Type 0

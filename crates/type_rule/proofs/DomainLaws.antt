@@ -1,19 +1,19 @@
 -- Dying and dead domains after each legal mark and after each legal act.
-use Rattle.std.proofs.Common.{◌≡◌, ◌≢◌, ℕ, ◌+◌, ◌<◌, IsTrue, refl, sym, ◌∙◌, ap, subst, inl, inr}
+use Rattle.std.proofs.Common.{◌≡◌, ◌≢◌, ℕ, ◌<◌, IsTrue, ◌∙◌, ap, inl, inr}
 use Rattle.std.proofs.lemmas.Bool.{cases_eq}
 use Rattle.std.proofs.lemmas.Bool.Decides.{nat_tests}
 use Rattle.std.proofs.Common.{arith}
 use Rattle.xp_words.specs.Machine.{Machine}
-use Rattle.xp_words.specs.Places.{Place, Life, Vcpu, Refs, Kind, sizes_of, is_place}
+use Rattle.xp_words.specs.Places.{Place, Life, sizes_of, is_place}
 use Rattle.xp_board.specs.declared.step.Step.{Step}
 use Rattle.xp_board.specs.declared.holdings.Holdings.{Holdings}
-use Rattle.xp_board.specs.Keeping.{KeepsMark, KeepsAct, MayMark, Marked, MayAct, Acted}
+use Rattle.xp_board.specs.Keeping.{KeepsMark, KeepsAct}
 use Rattle.xp_board.specs.LifeSteps.{HasStopped}
 use Rattle.xp_board.specs.Marks.{demand_seen}
 use Rattle.xp_board.specs.Sound.{Sound, KeptForNobody, DeadDomain, DyingDomain, Domains}
 use Rattle.xp_board.proofs.MarkEffects.{MarkEffect, nothing, turned as turned_mark, forgot, recorded_entry, shed_entry, mark_effect}
 use Rattle.xp_board.proofs.ActInversions.{act_effect}
-use Rattle.xp_board.proofs.ActEffects.{ActEffect, Wrote, looked, raised, cleared, took, lowered, freed_frame, gave, turned, missed, dropped_type, unlocked_table, stored, exchanged, rewrote, filled, guest_stored, started_walk, went_on, touched_entry, stumbled, mapped, charged, refunded, named_frame, based, asked, flushed, ran, ticked, doomed, buried, hinted, privileged}
+use Rattle.xp_board.proofs.ActEffects.{ActEffect, looked, raised, cleared, took, lowered, freed_frame, gave, turned, missed, dropped_type, unlocked_table, stored, exchanged, rewrote, filled, guest_stored, started_walk, went_on, touched_entry, stumbled, mapped, charged, refunded, named_frame, based, asked, flushed, ran, ticked, doomed, buried, hinted, privileged}
 use Rattle.type_rule.proofs.HandParts.{SameTwo, three_in, three_out}
 use Rattle.type_rule.proofs.DomainLaw.{DomainChange, domains_law}
 use Rattle.type_rule.proofs.DomainFrames.{raised_change, cleared_change, took_change, lowered_change, freed_change, gave_change}
@@ -24,7 +24,7 @@ use Rattle.type_rule.proofs.DomainVcpus.{named_change, based_change, ran_change}
 use Rattle.type_rule.proofs.DomainLives.{doomed_law, buried_law}
 
 -- ---- marks
-mark_two : (n : Machine) (h b : Holdings) → MarkEffect n h b → SameTwo h b
+pub mark_two : (n : Machine) (h b : Holdings) → MarkEffect n h b → SameTwo h b
 mark_two n h b (nothing e) = record { looking = ap (λ u. u.looking) e; steps = ap (λ u. u.steps) e }
 mark_two n h b (turned_mark e) = record { looking = ap (λ u. u.looking) e; steps = ap (λ u. u.steps) e }
 mark_two n h b (forgot page d) = record { looking = ap (λ u. u.looking) d.hand; steps = ap (λ u. u.steps) d.hand }

@@ -1,22 +1,20 @@
 -- A domain that a seat destroys from now on, and one that is dead from now on.
-use Rattle.std.proofs.Common.{◌≡◌, ◌≢◌, ℕ, ◌+◌, ◌<◌, ◌≤◌, ◌==◌, ◌⊎◌, not, nat_lt, if◌then◌else◌, Bool, true, false, ◌∷◌, length, Option, Some, None, IsTrue, refl, sym, ◌∙◌, ap, subst, inl, inr, rules, arith}
+use Rattle.std.proofs.Common.{◌≡◌, ◌≢◌, ℕ, ◌+◌, ◌<◌, ◌≤◌, ◌==◌, ◌⊎◌, not, nat_lt, if◌then◌else◌, Bool, true, false, ◌∷◌, length, Some, IsTrue, refl, sym, ◌∙◌, ap, subst, inl, inr, arith}
 use Rattle.std.proofs.lemmas.Bool.{cases_eq, cases_Bool}
 use Rattle.std.proofs.lemmas.Bool.Decides.{nat_tests}
 use Rattle.xp_words.specs.RefWords.{ref_read}
 use Rattle.xp_words.specs.Machine.{Machine}
 use Rattle.xp_words.specs.Places.{Place, Life, Vcpu, Refs, Kind, sizes_of, is_place}
 use Rattle.xp_board.specs.declared.step.Step.{Step}
-use Rattle.xp_board.specs.declared.holdings.Made.{Made}
-use Rattle.xp_board.specs.declared.holdings.Looking.{Looking}
 use Rattle.xp_board.specs.declared.holdings.Holdings.{Holdings}
-use Rattle.xp_board.specs.Lists.{Member, kept_of}
-use Rattle.xp_board.specs.Steps.{some_since, some_before, some_between}
-use Rattle.xp_board.specs.Readings.{is_context, is_owned_by, owner_of, domain_of}
-use Rattle.xp_board.specs.LifeSteps.{HasStopped, HasEmptied, HasCleared, MayBury, is_unallocated, is_unpinned, is_unkept}
-use Rattle.xp_board.specs.Sound.{Sound, KeptForNobody, DeadDomain, DyingDomain, Domains}
+use Rattle.xp_board.specs.Lists.{kept_of}
+use Rattle.xp_board.specs.Steps.{some_since, some_before}
+use Rattle.xp_board.specs.Readings.{is_owned_by, owner_of}
+use Rattle.xp_board.specs.LifeSteps.{HasStopped, HasCleared, MayBury, is_unallocated, is_unpinned, is_unkept}
+use Rattle.xp_board.specs.Sound.{Sound, DeadDomain, DyingDomain, Domains}
 use Rattle.xp_board.proofs.ActEffects.{Doomed, Buried}
-use Rattle.type_rule.proofs.StepFacts.{since_more, before_more, since_within, found_before, found_between, between_since, between_wider}
-use Rattle.type_rule.proofs.DomainLaw.{DomainWords, DomainChange, dead_law, dying_law, by_owner, is_one}
+use Rattle.type_rule.proofs.StepFacts.{before_more, since_within, found_before, found_between, between_since, between_wider}
+use Rattle.type_rule.proofs.DomainLaw.{DomainChange, dead_law, dying_law, by_owner, is_one}
 use Rattle.type_rule.proofs.DomainWords.{change_by, same_words, learned_alive}
 
 is_next : (s w : ℕ) → (w == s + 1) ≡ true → w ≡ s + 1

@@ -1,6 +1,5 @@
 -- Dying and dead domains: acts on words of vCPUs, on cells and on words of domains.
-use Rattle.std.proofs.Common.{◌≡◌, ◌≢◌, ℕ, ◌+◌, ◌<◌, ◌==◌, ◌⊎◌, not, if◌then◌else◌, Bool, true, false, ◌∷◌, Option, Some, None, IsTrue, refl, sym, ◌∙◌, ap, subst, inl, inr, rules, arith}
-use Rattle.std.proofs.lemmas.Bool.{cases_eq, cases_Bool}
+use Rattle.std.proofs.Common.{◌≡◌, ◌≢◌, ℕ, ◌<◌, ◌==◌, ◌⊎◌, not, if◌then◌else◌, Bool, true, false, refl, sym, ◌∙◌, ap, subst, inl, inr, arith}
 use Rattle.std.proofs.lemmas.Bool.Decides.{nat_tests}
 use Rattle.xp_words.specs.Machine.{Machine}
 use Rattle.xp_words.specs.Places.{Place, Clock, Pages, Life, Vcpu, Refs, Kind, M2p, Cell, Map, Priv, sizes_of}
@@ -10,18 +9,15 @@ use Rattle.xp_board.specs.declared.holdings.Looking.{Looking}
 use Rattle.xp_board.specs.declared.holdings.Holdings.{Holdings}
 use Rattle.xp_board.specs.Acts.{left_by}
 use Rattle.xp_board.specs.Lists.{Member, kept_of}
-use Rattle.xp_board.specs.Readings.{is_context, domain_of, owner_of}
-use Rattle.xp_board.specs.Settling.{demand_in, demand_out}
-use Rattle.xp_board.specs.ContextSteps.{MayName, MayEmpty, named_in, named_out}
-use Rattle.xp_board.specs.RunSteps.{AllowsRun, ran_now}
-use Rattle.xp_board.specs.FillSteps.{started, loaded, walked_by, descended, is_for_write}
-use Rattle.xp_board.specs.After.{noted, learned, learned_life, learned_own}
+use Rattle.xp_board.specs.Settling.{demand_out}
+use Rattle.xp_board.specs.FillSteps.{started, walked_by, is_for_write}
+use Rattle.xp_board.specs.After.{noted, learned, learned_own}
 use Rattle.xp_board.specs.Runs.{place_of}
 use Rattle.xp_board.specs.Sound.{Sound}
-use Rattle.xp_board.proofs.ActEffects.{Looked, Exchanged, Rewrote, Filled, GuestStored, Started, WentOn, Touched, Stumbled, Mapped, Charged, Refunded, Named, Based, Asked, Flushed, Ran, Ticked, Hinted, Privileged}
-use Rattle.type_rule.proofs.HandParts.{SameTwo, SameThree, two_of, three_then, three_in, three_out, three_name_in, three_name_out, three_own, three_ran, three_started, three_loaded, three_descended}
-use Rattle.type_rule.proofs.DomainLaw.{AllStopped, DomainWords, DomainChange}
-use Rattle.type_rule.proofs.DomainWords.{LooksOn, kept_after, change_by, runs, not_stopped, same_words, learned_alive}
+use Rattle.xp_board.proofs.ActEffects.{Looked, Exchanged, Rewrote, Filled, GuestStored, Started, WentOn, Touched, Stumbled, Mapped, Charged, Refunded, Asked, Flushed, Ticked, Hinted, Privileged}
+use Rattle.type_rule.proofs.HandParts.{SameTwo, two_of, three_in, three_out, three_own, three_started, three_loaded, three_descended}
+use Rattle.type_rule.proofs.DomainLaw.{DomainChange}
+use Rattle.type_rule.proofs.DomainWords.{change_by, same_words, learned_alive}
 
 pub own_if_by : (s : ℕ) (y z : Holdings) → (if s == s then y else z) ≡ y
 own_if_by s y z = grind (arith, nat_tests)

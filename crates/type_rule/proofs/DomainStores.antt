@@ -1,11 +1,11 @@
 -- Dying and dead domains: stores of the kind word of a frame in work or closing.
-use Rattle.std.proofs.Common.{◌≡◌, ◌≢◌, ℕ, ◌+◌, ◌<◌, ◌==◌, ◌&&◌, ◌||◌, ◌⊎◌, not, if◌then◌else◌, Bool, true, false, List, [], ◌∷◌, length, Option, Some, None, IsTrue, refl, sym, ◌∙◌, ap, subst, inl, inr, rules, arith}
-use Rattle.std.proofs.lemmas.Bool.{cases_eq, cases_Bool, and_parts}
+use Rattle.std.proofs.Common.{◌≡◌, ◌≢◌, ℕ, ◌<◌, ◌==◌, ◌&&◌, ◌||◌, if◌then◌else◌, Bool, true, false, List, [], ◌∷◌, length, Option, Some, None, IsTrue, refl, sym, ◌∙◌, ap, inl, inr, arith}
+use Rattle.std.proofs.lemmas.Bool.{cases_eq, cases_Bool}
 use Rattle.std.proofs.lemmas.Bool.Decides.{nat_tests}
 use Rattle.xp_words.specs.declared.kind.KindWord.{KindWord}
 use Rattle.xp_words.specs.KindWords.{kind_read, kind_fields}
 use Rattle.xp_words.specs.Machine.{Machine}
-use Rattle.xp_words.specs.Places.{Sizes, Place, Life, Vcpu, Refs, Kind, sizes_of}
+use Rattle.xp_words.specs.Places.{Sizes, Place, Refs, Kind, sizes_of}
 use Rattle.xp_board.specs.declared.step.Step.{Step}
 use Rattle.xp_board.specs.declared.holdings.Made.{Made}
 use Rattle.xp_board.specs.declared.holdings.Work.{Work}
@@ -19,14 +19,14 @@ use Rattle.xp_board.specs.Lists.{Member, first_by, some_of}
 use Rattle.xp_board.specs.Readings.{kind_at, is_closing, owner_of, domain_of}
 use Rattle.xp_board.specs.Hands.{ref_to, typed_on, ref_owner, typed_owner, owner_by, owner_by_typed}
 use Rattle.xp_board.specs.Knowledge.{knows_owner, tells_owner}
-use Rattle.xp_board.specs.KindSteps.{Form, Live, Partial, InWork, Dead, form_of, AllowsForm, after_form, kept_owner, looking_at, as_typed, MayMakePartial}
-use Rattle.xp_board.specs.Sound.{Sound, KeptForNobody, IsLookedAt}
+use Rattle.xp_board.specs.KindSteps.{Form, Live, Partial, InWork, Dead, form_of, AllowsForm, after_form, kept_owner, looking_at, as_typed}
+use Rattle.xp_board.specs.Sound.{Sound, KeptForNobody}
 use Rattle.xp_board.proofs.KindForms.{live_form, partial_form, work_form, dead_form}
 use Rattle.xp_board.proofs.ActEffects.{Stored}
 use Rattle.type_rule.proofs.HandParts.{SameTwo, two_live, two_dead, three_as_typed}
-use Rattle.type_rule.proofs.DomainLaw.{AllStopped, DomainWords, DomainChange}
-use Rattle.type_rule.proofs.DomainWords.{LooksOn, change_by, not_stopped}
-use Rattle.type_rule.proofs.DomainKinds.{KindKept, kind_words, by_kept, or_true}
+use Rattle.type_rule.proofs.DomainLaw.{AllStopped, DomainChange}
+use Rattle.type_rule.proofs.DomainWords.{change_by, not_stopped}
+use Rattle.type_rule.proofs.DomainKinds.{kind_words, by_kept, or_true}
 
 -- ---- the form that is left
 form_live : (v p q : Bool) → (if v then Live else if p then Partial else if q then InWork else Dead) ≡ Live → v ≡ true

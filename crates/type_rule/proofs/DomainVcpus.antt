@@ -1,21 +1,18 @@
 -- Dying and dead domains: acts on the words of a vCPU that count here.
-use Rattle.std.proofs.Common.{◌≡◌, ◌≢◌, ℕ, ◌+◌, ◌<◌, ◌==◌, ◌⊎◌, not, if◌then◌else◌, Bool, true, false, ◌∷◌, Option, Some, None, IsTrue, refl, sym, ◌∙◌, ap, subst, inl, inr, rules, arith}
-use Rattle.std.proofs.lemmas.Bool.{cases_eq, cases_Bool}
-use Rattle.std.proofs.lemmas.Bool.Decides.{nat_tests}
+use Rattle.std.proofs.Common.{◌≡◌, ◌≢◌, ℕ, ◌<◌, IsTrue, refl, sym, ◌∙◌, ap, inl, inr, arith}
 use Rattle.xp_words.specs.Machine.{Machine}
-use Rattle.xp_words.specs.Places.{Place, Life, Vcpu, Refs, Kind, sizes_of}
+use Rattle.xp_words.specs.Places.{Place, Vcpu, Refs, Kind, sizes_of}
 use Rattle.xp_board.specs.declared.step.Step.{Step}
 use Rattle.xp_board.specs.declared.holdings.Holdings.{Holdings}
 use Rattle.xp_board.specs.Readings.{is_context, owner_of}
-use Rattle.xp_board.specs.ContextSteps.{MayName, MayEmpty, named_in, named_out}
+use Rattle.xp_board.specs.ContextSteps.{named_in, named_out}
 use Rattle.xp_board.specs.RunSteps.{AllowsRun, ran_now}
-use Rattle.xp_board.specs.After.{learned, learned_own}
 use Rattle.xp_board.specs.Sound.{Sound}
 use Rattle.xp_board.proofs.PlaceTests.{same_or_other}
 use Rattle.xp_board.proofs.ActEffects.{Named, Based, Ran}
-use Rattle.type_rule.proofs.HandParts.{SameTwo, two_of, three_name_in, three_name_out, three_own, three_ran}
+use Rattle.type_rule.proofs.HandParts.{three_name_in, three_name_out, three_own, three_ran}
 use Rattle.type_rule.proofs.DomainLaw.{DomainWords, DomainChange}
-use Rattle.type_rule.proofs.DomainWords.{LooksOn, kept_after, change_by, runs}
+use Rattle.type_rule.proofs.DomainWords.{kept_after, change_by, runs}
 use Rattle.type_rule.proofs.DomainOthers.{own_two}
 
 not_six : (k : ℕ) → IsTrue (is_context k) → k ≡ 6 → ⊥

@@ -1,16 +1,15 @@
 -- Acts that change no mark of a frame, and no word of a vCPU that counts here.
-use Rattle.std.proofs.Common.{◌≡◌, ◌≢◌, ℕ, ◌+◌, ◌<◌, ◌==◌, ◌⊎◌, not, if◌then◌else◌, Bool, true, false, List, [], ◌∷◌, Some, IsTrue, refl, sym, ◌∙◌, ap, subst, inl, inr, rules, arith}
+use Rattle.std.proofs.Common.{◌≡◌, ◌≢◌, ℕ, ◌<◌, ◌==◌, ◌⊎◌, not, Bool, true, false, List, [], ◌∷◌, Some, IsTrue, refl, sym, ◌∙◌, ap, inl, inr, arith}
 use Rattle.std.proofs.lemmas.Bool.{cases_eq, cases_Bool}
 use Rattle.std.proofs.lemmas.Bool.Decides.{nat_tests}
 use Rattle.xp_words.specs.Machine.{Machine}
-use Rattle.xp_words.specs.Places.{Place, Clock, Life, Vcpu, Refs, Kind, sizes_of}
+use Rattle.xp_words.specs.Places.{Place, Life, Vcpu, Refs, Kind, sizes_of}
 use Rattle.xp_board.specs.declared.step.Step.{Step}
 use Rattle.xp_board.specs.declared.holdings.Looking.{Looking}
 use Rattle.xp_board.specs.declared.holdings.Holdings.{Holdings}
 use Rattle.xp_board.specs.Acts.{left_by}
 use Rattle.xp_board.specs.Lists.{kept_of, Member}
-use Rattle.xp_board.specs.Readings.{is_context, owner_of, domain_of}
-use Rattle.xp_board.specs.LifeSteps.{is_unallocated, is_unpinned, is_unkept}
+use Rattle.xp_board.specs.Readings.{is_context, domain_of}
 use Rattle.xp_board.specs.After.{noted, learned_life}
 use Rattle.xp_board.specs.Runs.{place_of}
 use Rattle.xp_board.specs.Sound.{Sound, KeptForNobody}

@@ -1,7 +1,6 @@
 -- Recorded entries after an act: those that were recorded before, and what they lead to.
-use Rattle.std.proofs.Common.{◌≡◌, ◌≢◌, ℕ, ◌+◌, ◌<◌, ◌==◌, ◌||◌, ◌⊎◌, Bool, true, false, List, [], ◌∷◌, Option, Some, None, IsTrue, refl, sym, ◌∙◌, ap, subst, inl, inr, rules, arith}
-use Rattle.std.proofs.lemmas.Bool.{cases_eq, cases_Bool}
-use Rattle.xp_words.specs.declared.kind.KindWord.{KindWord}
+use Rattle.std.proofs.Common.{◌≡◌, ◌≢◌, ℕ, ◌<◌, ◌||◌, ◌⊎◌, Bool, true, ◌∷◌, None, IsTrue, refl, sym, ◌∙◌, ap, subst, inl, inr, arith}
+use Rattle.std.proofs.lemmas.Bool.{cases_eq}
 use Rattle.xp_words.specs.declared.kind.PageType.{PageType}
 use Rattle.xp_words.specs.declared.entry.Demand.TheVariants.{Typed}
 use Rattle.xp_words.specs.Entries.{demand_at}
@@ -17,7 +16,7 @@ use Rattle.xp_board.specs.Recorded.{held, held_of, entry_demand, recorded_in, re
 use Rattle.xp_board.specs.Valid.{LeadsWell, IsUnsettled, IsLastOfPartial}
 use Rattle.xp_board.specs.Runs.{place_of}
 use Rattle.type_rule.proofs.StepFacts.{Hit, since_false}
-use Rattle.type_rule.proofs.Works.{WorkKept, WorkKeptIn, SinceKept, kept_work, kept_since, recorded_same}
+use Rattle.type_rule.proofs.Works.{WorkKeptIn, kept_work, kept_since, recorded_same}
 use Rattle.type_rule.proofs.Held.{work_of-same, work_of-mine}
 
 -- an entry that is recorded after the act was recorded before, and asks the same
@@ -111,7 +110,6 @@ module _ (n : Machine) (s : ℕ) (x : Step) (m m2 : Place → ℕ) (b c : ℕ �
   -- ---- the kind word of frame q changes
   module _ (q : ℕ) (kinds : (g : ℕ) → g ≢ q → m2 (Kind g) ≡ m (Kind g)) (cells : (f i : ℕ) → m2 (Cell f i) ≡ m (Cell f i))
       (works : (g : ℕ) → g ≢ q → WorkKeptIn (work_on g (b s).works) (work_on g (c s).works)) (real : s < (sizes_of n).vcpus) where
-
     -- what is to be shown of frame q: no other seat works on it, as many entries stay recorded, and its type stays where there are some
     pub record SameTable : Type 0 where
       pub alone : (t : ℕ) → t < (sizes_of n).vcpus → t ≢ s → work_on q (b t).works ≡ None
@@ -141,9 +139,9 @@ module _ (n : Machine) (s : ℕ) (x : Step) (m m2 : Place → ℕ) (b c : ℕ �
       same_type f i l =
           elim (cases_eq f q) [
             | inl at ↦ elim same.kind [
-                | inl kind ↦ rw at kind
-                | inr none ↦ absurd (let k : i < held (sizes_of n) m b q = rw at at l in let e = held_b in omega arith)
-              ]
+              | inl kind ↦ rw at kind
+              | inr none ↦ absurd (let k : i < held (sizes_of n) m b q = rw at at l in let e = held_b in omega arith)
+            ]
             | inr off ↦ rw (kinds f off) refl
           ]
 

@@ -1,12 +1,12 @@
 -- Stores of the guest, and bits set by a walk: what entries lead to stays.
-use Rattle.std.proofs.Common.{◌≡◌, ◌≢◌, ℕ, ◌+◌, ◌<◌, ◌≤◌, ◌==◌, ◌&&◌, ◌⊎◌, not, if◌then◌else◌, Bool, true, false, List, [], ◌∷◌, Option, Some, None, IsTrue, refl, sym, ◌∙◌, ap, subst, inl, inr, rules, arith}
-use Rattle.std.proofs.lemmas.Bool.{cases_eq, cases_Bool, and_parts, or_cases}
+use Rattle.std.proofs.Common.{◌≡◌, ◌≢◌, ℕ, ◌<◌, ◌≤◌, ◌==◌, ◌&&◌, true, false, List, [], ◌∷◌, Option, Some, None, IsTrue, refl, sym, ◌∙◌, ap, subst, inl, inr, arith}
+use Rattle.std.proofs.lemmas.Bool.{cases_Bool, and_parts, or_cases}
 use Rattle.std.proofs.lemmas.Bool.Decides.{nat_tests}
 use Rattle.xp_words.specs.declared.kind.KindWord.{KindWord}
 use Rattle.xp_words.specs.declared.kind.PageType.{PageType}
 use Rattle.xp_words.specs.declared.kind.PageType.TheVariants as kinds
-use Rattle.xp_words.specs.PageTypes.{is_table, type_number}
-use Rattle.xp_words.specs.KindWords.{kind_read, kind_fields}
+use Rattle.xp_words.specs.PageTypes.{is_table}
+use Rattle.xp_words.specs.KindWords.{kind_fields}
 use Rattle.xp_words.specs.Entries.{demand_at}
 use Rattle.xp_words.specs.Machine.{Machine}
 use Rattle.xp_words.specs.Places.{Place, Kind, Cell, sizes_of, is_place}
@@ -18,14 +18,11 @@ use Rattle.xp_board.specs.declared.holdings.Touching.{Touching}
 use Rattle.xp_board.specs.declared.holdings.Walk.{Walk}
 use Rattle.xp_board.specs.declared.holdings.Holdings.{Holdings}
 use Rattle.xp_board.specs.Lists.{Member, some_of}
-use Rattle.xp_board.specs.Hands.{work_on, works_on}
-use Rattle.xp_board.specs.Readings.{kind_at, type_count, is_live, is_work, is_partial, is_closing}
-use Rattle.xp_board.specs.FillSteps.{touched}
-use Rattle.xp_board.specs.TouchSteps.{MayTouch}
-use Rattle.xp_board.specs.WellFormed.{IsWalkFormed, IsDescent, TouchesIn, IsTouchFormed}
-use Rattle.xp_board.specs.Reach.{Use, Table, Writes, Reads, Reach, cached, walked, use_of, reached_by}
-use Rattle.xp_board.specs.Fresh.{Matches, Bears}
-use Rattle.xp_board.specs.Recorded.{held, held_of, held_by_form, recorded_in, recorded_number, work_of}
+use Rattle.xp_board.specs.Hands.{work_on}
+use Rattle.xp_board.specs.Readings.{kind_at, is_live}
+use Rattle.xp_board.specs.WellFormed.{IsDescent, TouchesIn}
+use Rattle.xp_board.specs.Reach.{Table, Writes, Reads, Reach, cached, walked, use_of, reached_by}
+use Rattle.xp_board.specs.Recorded.{held, held_of, recorded_in, recorded_number, work_of}
 use Rattle.xp_board.specs.Valid.{Valid, Permitted}
 use Rattle.xp_board.specs.Sound.{Sound, is_busy}
 use Rattle.xp_board.proofs.KindForms.{partial_form}
@@ -35,7 +32,7 @@ use Rattle.type_rule.proofs.HandParts.{three_descended}
 use Rattle.type_rule.proofs.Held.{nobody_works, someone_works, work_of-mine}
 use Rattle.type_rule.proofs.WorkFacts.{works_facts, others_none, some_on, none_all}
 use Rattle.type_rule.proofs.KindStores.{table_held}
-use Rattle.type_rule.proofs.CellAct.{CellAct, cell_valid, cell_permitted}
+use Rattle.type_rule.proofs.CellAct.{cell_valid, cell_permitted}
 use Rattle.type_rule.proofs.CellRows.{read_of, live_flushed, seven_no_table, seven_no_desc, level_no_desc}
 
 -- ---- a marked frame has no recorded entries
@@ -99,11 +96,13 @@ module _ (n : Machine) (s : ℕ) (x : Step) (m m2 : Place → ℕ) (b c : ℕ �
   written f reach there =
       elim (((sound.fresh.each s real f Writes reach).bears).typed writes_used) [
         | inl plain ↦ (λ i l. seven_no_table (kind_at m f).kind plain.1 (table_held (kind_at m f) _ i l), λ live desc. seven_no_desc (kind_at m f).kind plain.1 desc)
-        | inr marked ↦
-            (λ i l. elim (cases_Bool (kind_at m f).validated) [
-              | inl live ↦ (let k = live_flushed n s x m m2 b c real sound others f live in let q = marked.0 in cc)
-              | inr dead ↦ absurd (let z = marked_none n m b f sound marked.0 there dead in omega arith)
-            ], λ live desc. let k = live_flushed n s x m m2 b c real sound others f live in let q = marked.0 in cc)
+        | inr marked ↦ (
+          λ i l. elim (cases_Bool (kind_at m f).validated) [
+            | inl live ↦ (let k = live_flushed n s x m m2 b c real sound others f live in let q = marked.0 in cc)
+            | inr dead ↦ absurd (let z = marked_none n m b f sound marked.0 there dead in omega arith)
+          ],
+          λ live desc. let k = live_flushed n s x m m2 b c real sound others f live in let q = marked.0 in cc,
+        )
       ]
 
   item_reach : (f : ℕ) → IsTrue (some_of (λ y. (y.frame == f) && y.writable) (b s).cache) → Reach (sizes_of n) m (b s) f Writes

@@ -1,5 +1,5 @@
 -- Which parts of a hand an act leaves as they are.
-use Rattle.std.proofs.Common.{◌≡◌, ℕ, zero, suc, ◌==◌, not, nat_lt, if◌then◌else◌, Bool, true, false, Option, Some, None, refl}
+use Rattle.std.proofs.Common.{◌≡◌, ℕ, zero, suc, ◌==◌, not, nat_lt, if◌then◌else◌, Bool, true, false, Some, refl}
 use Rattle.xp_words.specs.declared.entry.Demand.{Demand}
 use Rattle.xp_words.specs.declared.entry.Demand.TheVariants.{Nothing, Bad, Read, Typed}
 use Rattle.xp_words.specs.declared.kind.KindWord.{KindWord}
@@ -7,13 +7,12 @@ use Rattle.xp_words.specs.Machine.{Machine}
 use Rattle.xp_words.specs.Places.{Vcpu}
 use Rattle.xp_board.specs.declared.holdings.Walk.{Walk}
 use Rattle.xp_board.specs.declared.holdings.Work.{Work}
-use Rattle.xp_board.specs.declared.holdings.OwnerFound.{OwnerFound}
 use Rattle.xp_board.specs.declared.holdings.Holdings.{Holdings}
 use Rattle.xp_board.specs.Settling.{demand_in, demand_out}
 use Rattle.xp_board.specs.ContextSteps.{named_in, named_out}
 use Rattle.xp_board.specs.FillSteps.{started, loaded, descended, touched, level_of}
 use Rattle.xp_board.specs.RunSteps.{ran_now}
-use Rattle.xp_board.specs.KindSteps.{KindRow, Count, Locks, Pin, Unpin, Resume, TakeBack, Begin, after_kind_row, Form, after_kind_add, made_live, made_dead, as_typed}
+use Rattle.xp_board.specs.KindSteps.{KindRow, Count, Locks, Pin, Unpin, Resume, TakeBack, Begin, after_kind_row, made_live, made_dead, as_typed}
 use Rattle.xp_board.specs.After.{learned}
 use Rattle.xp_words.specs.Entries.{frame_of, is_bit}
 use Rattle.xp_words.specs.KindWords.{kind_fields}

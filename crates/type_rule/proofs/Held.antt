@@ -1,24 +1,23 @@
 -- How many entries of a table are recorded, and what a recorded entry says of the counts of the frame that it names.
-use Rattle.std.proofs.Common.{◌≡◌, ◌≢◌, ℕ, zero, suc, ◌+◌, ◌<◌, ◌≤◌, ◌==◌, ◌&&◌, ◌||◌, ◌⊎◌, not, nat_lt, if◌then◌else◌, Bool, true, false, List, [], ◌∷◌, Option, Some, None, IsTrue, refl, sym, ◌∙◌, ap, subst, inl, inr, rules, arith}
-use Rattle.std.proofs.lemmas.Bool.{cases_eq, cases_Bool, and_parts}
+use Rattle.std.proofs.Common.{◌≡◌, ◌≢◌, ℕ, zero, suc, ◌+◌, ◌<◌, ◌≤◌, nat_lt, if◌then◌else◌, Bool, true, false, List, Option, Some, None, IsTrue, refl, ◌∙◌, ap, inl, inr, arith}
+use Rattle.std.proofs.lemmas.Bool.{cases_eq, cases_Bool}
 use Rattle.std.proofs.lemmas.Bool.Decides.{nat_tests}
-use Rattle.xp_words.specs.declared.kind.KindWord.{KindWord}
 use Rattle.xp_words.specs.declared.kind.PageType.{PageType}
 use Rattle.xp_words.specs.declared.entry.Demand.{Demand}
 use Rattle.xp_words.specs.declared.entry.Demand.TheVariants.{Nothing, Bad, Read, Typed}
-use Rattle.xp_words.specs.PageTypes.{is_table, type_of}
+use Rattle.xp_words.specs.PageTypes.{is_table}
 use Rattle.xp_words.specs.RefWords.{bit}
 use Rattle.xp_words.specs.KindWords.{kind_fields}
 use Rattle.xp_words.specs.Machine.{Machine}
-use Rattle.xp_words.specs.Places.{Sizes, sizes_of, Place, Vcpu, Refs, Kind, Cell, is_place}
+use Rattle.xp_words.specs.Places.{Sizes, sizes_of, Place, Vcpu, Refs, Kind, is_place}
 use Rattle.xp_board.specs.declared.holdings.Work.{Work}
 use Rattle.xp_board.specs.declared.holdings.Holdings.{Holdings}
 use Rattle.xp_board.specs.Sums.{sum_below}
-use Rattle.xp_board.specs.Lists.{one_at, EachOf}
-use Rattle.xp_board.specs.Readings.{kind_at, ref_count, allocated_mark, type_count, is_live, is_work, is_partial, is_closing, is_context}
-use Rattle.xp_board.specs.Hands.{refs_to, works_on, work_on, hand, typed_hand}
-use Rattle.xp_board.specs.Recorded.{CountsAgree, hands, named, named_typed, held, held_of, held_by_form, entry_demand, recorded_in, recorded_number, or_else, work_of, names, names_typed, table_entries, entries, contexts, marks}
-use Rattle.xp_board.specs.Sound.{Sound, HeldAlone, WorkAgrees, is_busy, Spelled}
+use Rattle.xp_board.specs.Lists.{one_at}
+use Rattle.xp_board.specs.Readings.{kind_at, ref_count, type_count, is_context}
+use Rattle.xp_board.specs.Hands.{works_on, work_on, hand, typed_hand}
+use Rattle.xp_board.specs.Recorded.{CountsAgree, hands, held, held_of, entry_demand, recorded_in, recorded_number, or_else, work_of, names, names_typed, table_entries, entries, contexts}
+use Rattle.xp_board.specs.Sound.{Sound, HeldAlone, is_busy, Spelled}
 use Rattle.type_rule.proofs.Counted.{sum_below-part, hands-part}
 use Rattle.type_rule.proofs.Works.{none_on}
 

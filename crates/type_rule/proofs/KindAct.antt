@@ -1,29 +1,22 @@
 -- An act on a kind word: what has to be shown of its frame, and what follows.
-use Rattle.std.proofs.Common.{◌≡◌, ◌≢◌, ℕ, ◌+◌, ◌<◌, ◌==◌, ◌&&◌, ◌||◌, ◌⊎◌, not, if◌then◌else◌, Bool, true, false, List, [], ◌∷◌, length, Option, Some, None, IsTrue, refl, sym, ◌∙◌, ap, subst, inl, inr, rules, arith}
-use Rattle.std.proofs.lemmas.Bool.{cases_eq, cases_Bool, and_parts}
-use Rattle.std.proofs.lemmas.Bool.Decides.{nat_tests}
+use Rattle.std.proofs.Common.{◌≡◌, ◌≢◌, ℕ, ◌+◌, ◌<◌, ◌||◌, false, None, IsTrue, refl, sym, ◌∙◌, ap, inl, inr}
+use Rattle.std.proofs.lemmas.Bool.{cases_eq}
 use Rattle.xp_words.specs.declared.kind.KindWord.{KindWord}
-use Rattle.xp_words.specs.declared.kind.PageType.{PageType}
 use Rattle.xp_words.specs.declared.kind.PageType.TheVariants as kinds
-use Rattle.xp_words.specs.declared.entry.Demand.TheVariants.{Typed}
-use Rattle.xp_words.specs.PageTypes.{is_table}
 use Rattle.xp_words.specs.Machine.{Machine}
 use Rattle.xp_words.specs.Places.{Place, Vcpu, Refs, Kind, Cell, Priv, sizes_of}
 use Rattle.xp_board.specs.declared.step.Step.{Step}
-use Rattle.xp_board.specs.declared.holdings.Work.{Work}
 use Rattle.xp_board.specs.declared.holdings.Holdings.{Holdings}
-use Rattle.xp_board.specs.Hands.{work_on, works_on}
-use Rattle.xp_board.specs.Readings.{kind_at, is_live, is_work, is_partial, is_closing, type_count}
+use Rattle.xp_board.specs.Hands.{work_on}
+use Rattle.xp_board.specs.Readings.{kind_at, is_live, is_work, is_partial}
 use Rattle.xp_board.specs.After.{is_fixed}
-use Rattle.xp_board.specs.KindSteps.{new_work, closing_works}
-use Rattle.xp_board.specs.Recorded.{held, held_of, held_by_form, entry_demand, recorded_number}
-use Rattle.xp_board.specs.Valid.{Valid, Permitted, LeadsWell, IsUnsettled, IsLastOfPartial, is_live_context}
+use Rattle.xp_board.specs.Recorded.{held_of, recorded_number}
+use Rattle.xp_board.specs.Valid.{Valid, Permitted, IsUnsettled, is_live_context}
 use Rattle.xp_board.specs.Sound.{Sound, is_busy}
-use Rattle.type_rule.proofs.Works.{WorkKeptIn, works_kept, added_here, added_other}
+use Rattle.type_rule.proofs.Works.{WorkKeptIn}
 use Rattle.type_rule.proofs.Held.{nobody_works}
-use Rattle.type_rule.proofs.WorkFacts.{Works, works_facts}
-use Rattle.type_rule.proofs.EntryChange.{OldEntry, OneStep, SameTable, LeadsStill, kind_entry, kind_leads}
-use Rattle.type_rule.proofs.ValidLaw.{OwnersStay, valid_law, permitted_law, contexts_permitted, live_is_context}
+use Rattle.type_rule.proofs.EntryChange.{OneStep, SameTable, LeadsStill, kind_entry, kind_leads}
+use Rattle.type_rule.proofs.ValidLaw.{valid_law, permitted_law, contexts_permitted}
 use Rattle.type_rule.proofs.QuietLaw.{same_owners}
 
 not_both : (k : KindWord) → IsTrue (is_live k) → IsTrue (is_partial k || is_work k) → ⊥
@@ -35,7 +28,6 @@ not_partial k live form = let t : is_partial k ≡ false = rw live refl in cc
 module _ (n : Machine) (s : ℕ) (x : Step) (m m2 : Place → ℕ) (b c : ℕ → Holdings) (real : s < (sizes_of n).vcpus) (sound : Sound n m b)
     (one : OneStep n s x m m2 b c) (q : ℕ) (same : (p : Place) → p ≢ Kind q → m2 p ≡ m p)
     (works : (g : ℕ) → g ≢ q → WorkKeptIn (work_on g (b s).works) (work_on g (c s).works)) where
-
   pub kinds_same : (g : ℕ) → g ≢ q → m2 (Kind g) ≡ m (Kind g)
   kinds_same g off = same (Kind g) (λ e. off (cc))
 
@@ -75,7 +67,7 @@ module _ (n : Machine) (s : ℕ) (x : Step) (m m2 : Place → ℕ) (b c : ℕ �
       valid_law n m m2 b c
       (record {
         entries = λ f i l. inl (kind_entry n s x m m2 b c one q kinds_same cells_same works real k.table f i l);
-        leads = λ f i g t l e leads. kind_leads n s x m m2 b c one q kinds_same cells_same works real k.leads f i g t l e leads;
+        leads = λ f i g t now l e leads. kind_leads n s x m m2 b c one q kinds_same cells_same works real k.leads f i g t l e leads;
         fixed = kind_fixed k;
         contexts = kind_named k;
       })

@@ -1,5 +1,5 @@
 -- Type counts and entry locks given back: what entries lead to stays.
-use Rattle.std.proofs.Common.{◌≡◌, ◌≢◌, ℕ, ◌+◌, ◌-◌, ◌<◌, ◌==◌, ◌&&◌, Bool, true, false, ◌∷◌, Some, IsTrue, refl, sym, ◌∙◌, ap, subst, rules, arith}
+use Rattle.std.proofs.Common.{◌≡◌, ◌≢◌, ℕ, ◌<◌, true, IsTrue, refl, ◌∙◌, ap, arith}
 use Rattle.std.proofs.lemmas.Bool.{and_parts}
 use Rattle.xp_words.specs.KindWords.{kind_fields}
 use Rattle.xp_words.specs.Machine.{Machine}

@@ -1,28 +1,26 @@
 -- Exchanges of a kind word, and type counts given back: what entries lead to stays.
-use Rattle.std.proofs.Common.{◌≡◌, ◌≢◌, ℕ, ◌+◌, ◌-◌, ◌<◌, ◌≤◌, ◌==◌, ◌&&◌, ◌||◌, ◌⊎◌, not, if◌then◌else◌, Bool, true, false, List, [], ◌∷◌, length, Option, Some, None, IsTrue, refl, sym, ◌∙◌, ap, subst, inl, inr, rules, arith}
-use Rattle.std.proofs.lemmas.Bool.{cases_eq, cases_Bool, and_parts}
+use Rattle.std.proofs.Common.{◌≡◌, ◌≢◌, ℕ, ◌+◌, ◌<◌, ◌≤◌, ◌==◌, ◌||◌, not, if◌then◌else◌, Bool, true, false, List, length, Some, None, IsTrue, refl, sym, ◌∙◌, ap, inl, inr, arith}
+use Rattle.std.proofs.lemmas.Bool.{cases_Bool, and_parts}
 use Rattle.std.proofs.lemmas.Bool.Decides.{nat_tests}
 use Rattle.xp_words.specs.declared.kind.KindWord.{KindWord}
 use Rattle.xp_words.specs.PageTypes.{is_table}
-use Rattle.xp_words.specs.KindWords.{kind_read, kind_fields}
+use Rattle.xp_words.specs.KindWords.{kind_fields}
 use Rattle.xp_words.specs.Machine.{Machine}
-use Rattle.xp_words.specs.Places.{Sizes, Place, Vcpu, Refs, Kind, Cell, sizes_of}
+use Rattle.xp_words.specs.Places.{Sizes, Place, Kind, sizes_of}
 use Rattle.xp_board.specs.declared.step.Step.{Step}
 use Rattle.xp_board.specs.declared.holdings.Made.{Made}
-use Rattle.xp_board.specs.declared.holdings.Unsettled.{Unsettled}
 use Rattle.xp_board.specs.declared.holdings.Work.{Work}
 use Rattle.xp_board.specs.declared.holdings.Holdings.{Holdings}
 use Rattle.xp_board.specs.Steps.{some_since}
 use Rattle.xp_board.specs.Hands.{work_on}
-use Rattle.xp_board.specs.Readings.{kind_at, is_live, is_work, is_partial, is_dead, is_closing, type_count, is_live_word}
-use Rattle.xp_board.specs.KindSteps.{KindRow, Count, Locks, Pin, Unpin, Resume, TakeBack, Begin, AllowsKindRow, MayCount, MayLock, MayPin, MayUnpin, MayResume, MayTakeBack, MayBegin, after_kind_row, still_looking, new_work, unsettled_from, closing_works}
-use Rattle.xp_board.specs.Recorded.{held_of, held_by_form, recorded_number}
-use Rattle.xp_board.specs.Valid.{Valid, Permitted, IsUnsettled, IsLastOfPartial}
+use Rattle.xp_board.specs.Readings.{kind_at, is_live, is_work, is_partial, is_dead, is_live_word}
+use Rattle.xp_board.specs.KindSteps.{KindRow, Count, Locks, Pin, Unpin, Resume, TakeBack, Begin, MayResume, after_kind_row, still_looking, new_work, unsettled_from, closing_works}
+use Rattle.xp_board.specs.Recorded.{held_of, recorded_number}
+use Rattle.xp_board.specs.Valid.{Valid, Permitted}
 use Rattle.xp_board.specs.Sound.{Sound, is_busy}
-use Rattle.xp_board.proofs.KindForms.{live_form, fields_down, fields_unlocked}
-use Rattle.xp_board.proofs.ActEffects.{Turned, Dropped, Unlocked}
+use Rattle.xp_board.proofs.KindForms.{live_form}
+use Rattle.xp_board.proofs.ActEffects.{Turned}
 use Rattle.type_rule.proofs.StepFacts.{since_within}
-use Rattle.type_rule.proofs.Counted.{typed_counted, locked_table}
 use Rattle.type_rule.proofs.HandParts.{two_row}
 use Rattle.type_rule.proofs.Works.{WorkKeptIn, works_kept, added_here, added_other}
 use Rattle.type_rule.proofs.EntryChange.{OneStep}
@@ -107,7 +105,7 @@ row_works TakeBack f g k l new h off = refl
 row_works Begin f g k l new h off = added_other f g _ h.works refl off
 
 -- nothing was found since a step that is still to be made
-unfound_yet : (z : Sizes) (k : ℕ) (p : Place) (test : ℕ → Bool) (xs : List Made) → length xs ≤ k → some_since z k p test xs ≡ false
+pub unfound_yet : (z : Sizes) (k : ℕ) (p : Place) (test : ℕ → Bool) (xs : List Made) → length xs ≤ k → some_since z k p test xs ≡ false
 unfound_yet z k p test xs l =
     elim (cases_Bool (some_since z k p test xs)) [
       | inl found ↦ absurd (let w = since_within z k p test xs found in omega arith)

@@ -1,13 +1,13 @@
 -- Stores of the kind word of a frame in work or closing: what entries lead to stays.
-use Rattle.std.proofs.Common.{◌≡◌, ◌≢◌, ℕ, ◌+◌, ◌-◌, ◌<◌, ◌≤◌, ◌==◌, ◌&&◌, ◌||◌, ◌⊎◌, not, if◌then◌else◌, Bool, true, false, List, [], ◌∷◌, length, Option, Some, None, IsTrue, refl, sym, ◌∙◌, ap, subst, inl, inr, rules, arith}
-use Rattle.std.proofs.lemmas.Bool.{cases_eq, cases_Bool, and_parts}
+use Rattle.std.proofs.Common.{◌≡◌, ◌≢◌, ℕ, ◌+◌, ◌<◌, ◌==◌, ◌||◌, ◌⊎◌, if◌then◌else◌, Bool, true, false, length, Option, Some, None, IsTrue, refl, sym, ◌∙◌, ap, subst, inl, inr, arith}
+use Rattle.std.proofs.lemmas.Bool.{cases_Bool}
 use Rattle.std.proofs.lemmas.Bool.Decides.{nat_tests}
 use Rattle.xp_words.specs.declared.kind.KindWord.{KindWord}
 use Rattle.xp_words.specs.declared.kind.PageType.{PageType}
 use Rattle.xp_words.specs.declared.kind.PageType.TheVariants as kinds
 use Rattle.xp_words.specs.declared.entry.Demand.TheVariants.{Typed}
 use Rattle.xp_words.specs.PageTypes.{is_table}
-use Rattle.xp_words.specs.KindWords.{kind_read, kind_fields}
+use Rattle.xp_words.specs.KindWords.{kind_fields}
 use Rattle.xp_words.specs.Machine.{Machine}
 use Rattle.xp_words.specs.Places.{Place, Vcpu, Kind, Cell, sizes_of}
 use Rattle.xp_board.specs.declared.step.Step.{Step}
@@ -15,15 +15,15 @@ use Rattle.xp_board.specs.declared.holdings.Unsettled.{Unsettled}
 use Rattle.xp_board.specs.declared.holdings.Work.{Work}
 use Rattle.xp_board.specs.declared.holdings.Holdings.{Holdings}
 use Rattle.xp_board.specs.Steps.{some_since}
-use Rattle.xp_board.specs.Hands.{work_on, works_on, without_work, changed_work, typed_to, typed_hand}
-use Rattle.xp_board.specs.Readings.{kind_at, is_live, is_work, is_partial, is_closing, type_count, is_live_word}
-use Rattle.xp_board.specs.KindSteps.{Form, Live, Partial, InWork, Dead, form_of, AllowsForm, after_form, made_live, made_dead, as_typed}
+use Rattle.xp_board.specs.Hands.{work_on, without_work, typed_to, typed_hand}
+use Rattle.xp_board.specs.Readings.{kind_at, is_live, is_work, is_partial, type_count, is_live_word}
+use Rattle.xp_board.specs.KindSteps.{Form, Live, Partial, InWork, Dead, after_form, made_live, made_dead}
 use Rattle.xp_board.specs.After.{is_fixed, noted}
 use Rattle.xp_board.specs.Recorded.{held, held_of, entry_demand, recorded_number}
 use Rattle.xp_board.specs.Valid.{Valid, Permitted, IsUnsettled, IsLastOfPartial, is_live_context}
 use Rattle.xp_board.specs.Sound.{Sound, is_busy}
 use Rattle.xp_board.proofs.ActEffects.{Stored}
-use Rattle.type_rule.proofs.Counted.{typed_counted, work_alone, first_some}
+use Rattle.type_rule.proofs.Counted.{work_alone, first_some}
 use Rattle.type_rule.proofs.HandParts.{two_live, two_dead, three_as_typed}
 use Rattle.type_rule.proofs.Works.{WorkKeptIn, works_kept, without_other, without_here, changed_other, changed_here}
 use Rattle.type_rule.proofs.Held.{entry_counted, context_counted}
@@ -72,7 +72,7 @@ busy_closed k h v = grind (arith, nat_tests)
 busy_working : (k : KindWord) → is_busy k ≡ true → IsTrue (is_partial k || is_work k) → is_work k ≡ true
 busy_working k h v = grind (arith, nat_tests)
 
-busy_partial : (k : KindWord) → is_busy k ≡ true → IsTrue (is_partial k) → ⊥
+pub busy_partial : (k : KindWord) → is_busy k ≡ true → IsTrue (is_partial k) → ⊥
 busy_partial k h p = let v : k.validated ≡ false = grind arith in let q : k.partial ≡ true = grind arith in let t : is_busy k ≡ false = rw (v, q) refl in cc
 
 work_count : (k : KindWord) → is_work k ≡ true → type_count k ≡ 1
@@ -171,11 +171,11 @@ module _ (n : Machine) (s : ℕ) (x : Step) (m m2 : Place → ℕ) (b c : ℕ �
         (rw (d.fields_is, w) d.may.kind)
         (λ g i t l e form. inl (rw d.fields_is is))
         (λ i g t l e u last some unfound.
-            absurd
-            (let t2 = subst (λ y. is_table y.kind ≡ true) w (table_held (kind_at m f) _ i l) in
-            let settled = (d.may.table (subst (λ y. IsTrue (is_table y)) (sym d.may.kind) t2)).1 in
-            let found = settled_found n m b s f i g t d.e u k t2 some last e settled in
-            cc))
+        absurd
+        (let t2 = subst (λ y. is_table y.kind ≡ true) w (table_held (kind_at m f) _ i l) in
+        let settled = (d.may.table (subst (λ y. IsTrue (is_table y)) (sym d.may.kind) t2)).1 in
+        let found = settled_found n m b s f i g t d.e u k t2 some last e settled in
+        cc))
         (λ i live desc l. rw (sym k.frame) (k.found.fixed i (let q = d.may.descriptors (ap (λ y. y.kind) (sym d.fields_is) ∙ desc) in omega arith)))
 
     pub live_valid : Stored n s x f Live m m2 (b s) (c s) → Valid (sizes_of n) m2 c

@@ -28,3 +28,6 @@ mod CellRows
 mod GuestRows
 mod NewEntries
 mod LockRows
+mod MarkRows
+mod EntryMarks
+mod EntryLaws

@@ -1,6 +1,6 @@
 -- An entry exchanged under the own lock, and a word of a vCPU that may name a frame.
-use Rattle.std.proofs.Common.{◌≡◌, ◌≢◌, ℕ, ◌+◌, ◌<◌, ◌==◌, ◌&&◌, ◌⊎◌, not, nat_lt, if◌then◌else◌, Bool, true, false, List, [], ◌∷◌, Option, Some, None, IsTrue, refl, sym, ◌∙◌, ap, subst, inl, inr, rules, arith}
-use Rattle.std.proofs.lemmas.Bool.{cases_eq, cases_Bool, and_parts}
+use Rattle.std.proofs.Common.{◌≡◌, ◌≢◌, ℕ, ◌+◌, ◌<◌, nat_lt, false, Option, Some, IsTrue, refl, sym, ◌∙◌, ap, inl, inr, arith}
+use Rattle.std.proofs.lemmas.Bool.{cases_Bool}
 use Rattle.std.proofs.lemmas.Bool.Decides.{nat_tests}
 use Rattle.xp_words.specs.declared.kind.PageType.{PageType}
 use Rattle.xp_words.specs.declared.kind.PageType.TheVariants as kinds
@@ -9,20 +9,20 @@ use Rattle.xp_words.specs.Machine.{Machine}
 use Rattle.xp_words.specs.Places.{Place, Vcpu, Refs, Kind, Cell, Priv, sizes_of}
 use Rattle.xp_board.specs.declared.step.Step.{Step}
 use Rattle.xp_board.specs.declared.holdings.Holdings.{Holdings}
-use Rattle.xp_board.specs.Hands.{work_on, lock_on}
-use Rattle.xp_board.specs.Readings.{kind_at, is_live, is_context, owner_of, domain_of}
+use Rattle.xp_board.specs.Hands.{work_on}
+use Rattle.xp_board.specs.Readings.{kind_at, is_live, owner_of, domain_of}
 use Rattle.xp_board.specs.Settling.{demand_in, demand_out}
-use Rattle.xp_board.specs.ContextSteps.{MayName, MayEmpty, NamesFrame, FitsWord, context_type, named_in, named_out}
+use Rattle.xp_board.specs.ContextSteps.{FitsWord, context_type, named_in, named_out}
 use Rattle.xp_board.specs.After.{learned}
 use Rattle.xp_board.specs.Valid.{Valid, Permitted, is_live_context}
-use Rattle.xp_board.specs.Recorded.{held, entry_demand}
+use Rattle.xp_board.specs.Recorded.{entry_demand}
 use Rattle.xp_board.specs.Sound.{Sound}
 use Rattle.xp_board.proofs.PlaceTests.{same_or_other}
 use Rattle.xp_board.proofs.ActEffects.{Exchanged, Named}
 use Rattle.type_rule.proofs.HandParts.{SameThree, three_in, three_out, three_then, three_name_in, three_name_out, three_own}
 use Rattle.type_rule.proofs.Works.{WorkKeptIn, works_kept}
 use Rattle.type_rule.proofs.EntryChange.{OneStep, quiet_entry, quiet_leads}
-use Rattle.type_rule.proofs.ValidLaw.{OwnersStay, EntriesAfter, valid_law, permitted_law, contexts_permitted, live_is_context}
+use Rattle.type_rule.proofs.ValidLaw.{OwnersStay, EntriesAfter, valid_law, permitted_law}
 use Rattle.type_rule.proofs.QuietLaw.{same_owners}
 use Rattle.type_rule.proofs.QuietActs.{one_by}
 use Rattle.type_rule.proofs.CellAct.{CellAct, cell_valid, cell_permitted}
@@ -88,15 +88,15 @@ module _ (n : Machine) (s : ℕ) (x : Step) (m m2 : Place → ℕ) (b c : ℕ �
         elim d.may [
           | inr empty ↦ absurd (let z = empty.none in omega arith)
           | inl name ↦ elim name.names [
-              | inl none ↦ absurd (omega arith)
-              | inr named ↦
-                  (let at : named.frame ≡ g = (let q = named.names in omega arith) in
-                  let t = fits_some k u in
-                  let fits = fits_at n s named.frame (b s) (context_type k) t.0 t.1 named.fits in
-                  let live = ((sound.found s real).lives named.frame t.0 fits.0).0 in
-                  let own = (sound.found s real).owners named.frame (domain_of n s) fits.1 in
-                  (rw (sym at) live, rw (sym at, name.own) own))
-            ]
+            | inl none ↦ absurd (omega arith)
+            | inr named ↦
+                (let at : named.frame ≡ g = (let q = named.names in omega arith) in
+                let t = fits_some k u in
+                let fits = fits_at n s named.frame (b s) (context_type k) t.0 t.1 named.fits in
+                let live = ((sound.found s real).lives named.frame t.0 fits.0).0 in
+                let own = (sound.found s real).owners named.frame (domain_of n s) fits.1 in
+                (rw (sym at) live, rw (sym at, name.own) own))
+          ]
         ]
 
     old_word : (w j : ℕ) → Vcpu w j ≢ Vcpu v k → m2 (Vcpu w j) ≡ m (Vcpu w j)
@@ -107,7 +107,7 @@ module _ (n : Machine) (s : ℕ) (x : Step) (m m2 : Place → ℕ) (b c : ℕ �
         valid_law n m m2 b c
         (record {
           entries = entries;
-          leads = λ f i g t l e leads. quiet_leads n s x m m2 b c one kinds_same works f i g leads;
+          leads = λ f i g t now l e leads. quiet_leads n s x m m2 b c one kinds_same works f i g leads;
           fixed = λ f i live desc l. rw (d.wrote.others (Cell f i) (λ e. cc)) (sound.valid.fixed f i (rw (kinds_same f) at live) (rw (kinds_same f) at desc) l);
           contexts = λ w j g l h u e. rw (kinds_same g) (elim (same_or_other (Vcpu w j) (Vcpu v k)) [
             | inl at ↦ (let p : w ≡ v = cc in let q : j ≡ k = cc in (new_name (rw q at u) g (rw (p, q) at e)).0)

@@ -1,6 +1,6 @@
 -- An entry that a seat makes or records: it is allowed, leads well, and its owner is permitted the frame.
-use Rattle.std.proofs.Common.{◌≡◌, ◌≢◌, ℕ, ◌+◌, ◌<◌, ◌≤◌, ◌==◌, ◌&&◌, ◌||◌, ◌⊎◌, not, nat_lt, nat_le, if◌then◌else◌, Bool, true, false, List, [], ◌∷◌, length, Option, Some, None, IsTrue, refl, sym, ◌∙◌, ap, subst, inl, inr, rules, arith}
-use Rattle.std.proofs.lemmas.Bool.{cases_eq, cases_Bool, and_parts}
+use Rattle.std.proofs.Common.{◌≡◌, ℕ, ◌<◌, ◌||◌, ◌⊎◌, nat_lt, nat_le, true, length, Option, Some, None, IsTrue, refl, sym, ◌∙◌, ap, inl, inr, arith}
+use Rattle.std.proofs.lemmas.Bool.{cases_Bool, and_parts}
 use Rattle.std.proofs.lemmas.Bool.Decides.{nat_tests}
 use Rattle.xp_words.specs.declared.refs.RefWord.{RefWord}
 use Rattle.xp_words.specs.declared.refs.RefWord.TheVariants.{Free, Owned, Dying}
@@ -8,17 +8,16 @@ use Rattle.xp_words.specs.declared.kind.PageType.{PageType}
 use Rattle.xp_words.specs.declared.entry.Demand.{Demand}
 use Rattle.xp_words.specs.declared.entry.Demand.TheVariants.{Nothing, Bad, Read, Typed}
 use Rattle.xp_words.specs.RefWords.{ref_read}
-use Rattle.xp_words.specs.Entries.{demand_at, is_lowest}
+use Rattle.xp_words.specs.Entries.{is_lowest}
 use Rattle.xp_words.specs.Machine.{Machine}
-use Rattle.xp_words.specs.Places.{Place, Refs, Kind, Cell, Priv, sizes_of, is_place}
-use Rattle.xp_board.specs.declared.step.Step.{Step}
+use Rattle.xp_words.specs.Places.{Place, Refs, Kind, Priv, sizes_of, is_place}
 use Rattle.xp_board.specs.declared.holdings.Holdings.{Holdings}
 use Rattle.xp_board.specs.Steps.{some_since}
-use Rattle.xp_board.specs.Readings.{kind_at, is_live, owner_of, owner_in, has_now, has_ever}
-use Rattle.xp_board.specs.Settling.{OwnersMeet, HasPlain, HasTyped, HasDemand}
+use Rattle.xp_board.specs.Readings.{kind_at, owner_of, owner_in, has_now, has_ever}
+use Rattle.xp_board.specs.Settling.{OwnersMeet, HasDemand}
 use Rattle.xp_board.specs.Spelling.{IsSpelling, is_ref_in}
 use Rattle.xp_board.specs.Recorded.{entry_demand}
-use Rattle.xp_board.specs.Valid.{LeadsWell, Permits, PermitsOwner, EntryPermitted}
+use Rattle.xp_board.specs.Valid.{EntryPermitted}
 use Rattle.xp_board.specs.Sound.{Sound}
 use Rattle.type_rule.proofs.StepFacts.{found_since}
 use Rattle.type_rule.proofs.ValidLaw.{NewEntry}
@@ -55,8 +54,8 @@ module _ (n : Machine) (s : ℕ) (m m2 : Place → ℕ) (b c : ℕ → Holdings)
       let few = owner_few n m b g k.frame sound known in
       let ever : IsTrue (has_ever k.frame (m (Priv k.table))) =
       found_since (sizes_of n) (b s).turn (Priv k.table) (has_now k.frame)
-          (λ w. IsTrue (has_now k.frame w || has_ever k.frame w) → IsTrue (has_ever k.frame (m (Priv k.table)))) (b s).steps
-          ((sound.found s real).privileges k.table k.frame few) lower.1 (λ w e p. p (had_by k.frame w e)) in
+      (λ w. IsTrue (has_now k.frame w || has_ever k.frame w) → IsTrue (has_ever k.frame (m (Priv k.table)))) (b s).steps
+      ((sound.found s real).privileges k.table k.frame few) lower.1 (λ w e p. p (had_by k.frame w e)) in
       inr (lower.0, rw (refs g, known) (inr (rw (privs k.table) ever)))
 
   pub owners_permit : (f g : ℕ) (t : PageType) → OwnersMeet n f g t (b s) → EntryPermitted m2 t (owner_of (m2 (Refs f))) g

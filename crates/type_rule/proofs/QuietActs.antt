@@ -1,7 +1,6 @@
 -- The acts that change no kind word, no cell and no word of a vCPU that names a frame, each by its effect.
-use Rattle.std.proofs.Common.{◌≡◌, ◌≢◌, ℕ, ◌+◌, ◌<◌, ◌≤◌, ◌==◌, ◌⊎◌, not, if◌then◌else◌, Bool, true, false, ◌∷◌, Option, Some, None, IsTrue, refl, sym, ◌∙◌, ap, subst, inl, inr, rules, arith}
-use Rattle.std.proofs.lemmas.Bool.{cases_eq, cases_Bool}
-use Rattle.std.proofs.lemmas.Bool.Decides.{nat_tests}
+use Rattle.std.proofs.Common.{◌≡◌, ◌≢◌, ℕ, ◌+◌, ◌<◌, ◌==◌, not, if◌then◌else◌, Bool, true, false, ◌∷◌, Option, Some, None, IsTrue, refl, sym, ◌∙◌, ap, subst, inl, inr, arith}
+use Rattle.std.proofs.lemmas.Bool.{cases_eq}
 use Rattle.xp_words.specs.declared.refs.RefWord.{RefWord}
 use Rattle.xp_words.specs.declared.refs.RefWord.TheVariants.{Free, Owned, Dying}
 use Rattle.xp_words.specs.RefWords.{ref_read, bit}
@@ -14,19 +13,18 @@ use Rattle.xp_board.specs.declared.holdings.Holdings.{Holdings}
 use Rattle.xp_board.specs.Acts.{left_by}
 use Rattle.xp_board.specs.Hands.{work_on, changed_work, ending_of, claim_of, endings_of, claims_of}
 use Rattle.xp_board.specs.Lists.{kept_of}
-use Rattle.xp_board.specs.Readings.{is_context, ref_count, owner_of, has_ever, is_dying, is_dying_in, count_in, allocated_mark}
+use Rattle.xp_board.specs.Readings.{is_context, ref_count, owner_of, has_ever, is_dying, is_dying_in, count_in}
 use Rattle.xp_board.specs.RefSteps.{IsFreeStamp}
-use Rattle.xp_board.specs.PrivSteps.{granted, revoked}
 use Rattle.xp_board.specs.FillSteps.{started, loaded, walked_by, is_for_write}
 use Rattle.xp_board.specs.RunSteps.{ran_now}
-use Rattle.xp_board.specs.After.{noted, learned, learned_own, learned_work}
+use Rattle.xp_board.specs.After.{noted, learned_own, learned_work}
 use Rattle.xp_board.specs.Runs.{place_of}
 use Rattle.xp_board.specs.Sound.{Sound, HeldAlone}
 use Rattle.xp_board.proofs.Bits.{granted-ever, revoked-ever}
 use Rattle.xp_board.proofs.ActEffects.{Looked, Raised, Cleared, Took, Lowered, Freed, Gave, Missed, Started, WentOn, Stumbled, Mapped, Charged, Refunded, Based, Asked, Flushed, Ran, Ticked, Doomed, Buried, Hinted, Privileged}
 use Rattle.type_rule.proofs.Counted.{first_some, hands-part}
 use Rattle.type_rule.proofs.HandParts.{SameThree, three_own, three_ran, three_started, three_loaded}
-use Rattle.type_rule.proofs.RefWordLaws.{SameOwner, one_more_keeps, one_less_keeps, in_hand_counted}
+use Rattle.type_rule.proofs.RefWordLaws.{one_less_keeps, in_hand_counted}
 use Rattle.type_rule.proofs.DomainFrames.{owner_read}
 use Rattle.type_rule.proofs.DomainOthers.{own_if_by}
 use Rattle.type_rule.proofs.Works.{WorkKeptIn, works_kept, cell_kept}

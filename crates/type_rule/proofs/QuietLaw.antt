@@ -1,36 +1,18 @@
 -- Acts that change no kind word, no cell and no word of a vCPU that names a frame.
-use Rattle.std.proofs.Common.{◌≡◌, ◌≢◌, ℕ, ◌+◌, ◌<◌, ◌==◌, ◌⊎◌, not, if◌then◌else◌, Bool, true, false, ◌∷◌, Option, Some, None, IsTrue, refl, sym, ◌∙◌, ap, subst, inl, inr, rules, arith}
-use Rattle.std.proofs.lemmas.Bool.{cases_eq, cases_Bool}
-use Rattle.std.proofs.lemmas.Bool.Decides.{nat_tests}
-use Rattle.xp_words.specs.declared.refs.RefWord.TheVariants.{Free, Owned, Dying}
-use Rattle.xp_words.specs.RefWords.{ref_read, ref_write, IsRef}
+use Rattle.std.proofs.Common.{◌≡◌, ◌≢◌, ℕ, ◌<◌, Some, IsTrue, refl, sym, ◌∙◌, inl, inr}
+use Rattle.std.proofs.lemmas.Bool.{cases_eq}
+use Rattle.xp_words.specs.declared.refs.RefWord.TheVariants.{Free}
+use Rattle.xp_words.specs.RefWords.{ref_read}
 use Rattle.xp_words.specs.Machine.{Machine}
-use Rattle.xp_words.specs.Places.{Place, Clock, Pages, Life, Vcpu, Refs, Kind, M2p, Cell, Map, Priv, sizes_of}
-use Rattle.xp_words.proofs.RefLaws.{ref_read-write}
+use Rattle.xp_words.specs.Places.{Place, Vcpu, Refs, Kind, Cell, Priv, sizes_of}
 use Rattle.xp_board.specs.declared.step.Step.{Step}
-use Rattle.xp_board.specs.declared.holdings.Ending.{Ending}
-use Rattle.xp_board.specs.declared.holdings.Claimed.{Claimed}
 use Rattle.xp_board.specs.declared.holdings.Holdings.{Holdings}
-use Rattle.xp_board.specs.Acts.{left_by}
-use Rattle.xp_board.specs.Hands.{work_on, ending_of, claim_of}
-use Rattle.xp_board.specs.Lists.{kept_of, first_by}
-use Rattle.xp_board.specs.Readings.{is_context, ref_count, owner_of, has_ever, domain_of}
-use Rattle.xp_board.specs.RefSteps.{IsFreeStamp}
-use Rattle.xp_board.specs.Found.{EndingFound, ClaimFound}
-use Rattle.xp_board.specs.FillSteps.{started, walked_by, is_for_write}
-use Rattle.xp_board.specs.RunSteps.{ran_now}
-use Rattle.xp_board.specs.After.{noted, learned}
-use Rattle.xp_board.specs.Runs.{place_of}
+use Rattle.xp_board.specs.Hands.{work_on}
+use Rattle.xp_board.specs.Readings.{is_context, ref_count, owner_of}
 use Rattle.xp_board.specs.Sound.{Sound}
-use Rattle.xp_board.specs.Valid.{Valid, Permitted, is_live_context}
-use Rattle.xp_board.proofs.Bits.{granted-ever, revoked-ever}
-use Rattle.xp_board.proofs.ActEffects.{Looked, Raised, Cleared, Took, Lowered, Freed, Gave, Missed, Started, WentOn, Stumbled, Mapped, Charged, Refunded, Based, Asked, Flushed, Ran, Ticked, Doomed, Buried, Hinted, Privileged}
-use Rattle.type_rule.proofs.Counted.{first_each}
-use Rattle.type_rule.proofs.HandParts.{SameThree, three_own, three_ran, three_started, three_loaded}
-use Rattle.type_rule.proofs.RefWordLaws.{SameOwner, one_more_keeps, one_less_keeps, in_hand_counted}
-use Rattle.type_rule.proofs.DomainFrames.{owner_read, domain_below}
-use Rattle.type_rule.proofs.Works.{WorkKeptIn, works_kept, cell_kept}
-use Rattle.type_rule.proofs.EntryChange.{OldEntry, OneStep, quiet_entry, quiet_leads}
+use Rattle.xp_board.specs.Valid.{Valid, Permitted}
+use Rattle.type_rule.proofs.Works.{WorkKeptIn}
+use Rattle.type_rule.proofs.EntryChange.{OneStep, quiet_entry, quiet_leads}
 use Rattle.type_rule.proofs.ValidLaw.{OwnersStay, valid_law, permitted_law, contexts_permitted, live_is_context}
 
 pub record QuietAct (n : Machine) (s : ℕ) (x : Step) (m m2 : Place → ℕ) (b c : ℕ → Holdings) : Type 0 where
@@ -47,7 +29,7 @@ module _ (n : Machine) (s : ℕ) (x : Step) (m m2 : Place → ℕ) (b c : ℕ �
       valid_law n m m2 b c
       (record {
         entries = λ f i l. inl (quiet_entry n s x m m2 b c k.one k.kinds k.works f i (λ was. rw (k.cells f i) refl) l);
-        leads = λ f i g t l e leads. quiet_leads n s x m m2 b c k.one k.kinds k.works f i g leads;
+        leads = λ f i g t now l e leads. quiet_leads n s x m m2 b c k.one k.kinds k.works f i g leads;
         fixed = λ f i live kind l. rw (k.cells f i) (sound.valid.fixed f i (rw (k.kinds f) at live) (rw (k.kinds f) at kind) l);
         contexts = λ v j g l h u e. rw (k.kinds g) (sound.valid.contexts v j g l h u (sym (k.contexts v j (live_is_context j u)) ∙ e));
       })

@@ -1,17 +1,15 @@
 -- A reference word that has one reference more or one less keeps its owner and its allocated mark.
-use Rattle.std.proofs.Common.{◌≡◌, ◌≢◌, ℕ, zero, suc, ◌+◌, ◌%◌, ◌^◌, ◌<◌, ◌≤◌, Bool, true, false, Option, Some, None, refl, ap, inl, inr, arith}
-use Rattle.std.proofs.lemmas.Bool.{cases_eq}
+use Rattle.std.proofs.Common.{◌≡◌, ℕ, zero, suc, ◌+◌, ◌%◌, ◌^◌, ◌<◌, ◌≤◌, Bool, true, false, Option, Some, None, refl, arith}
 use Rattle.xp_words.specs.declared.refs.RefWord.{RefWord}
 use Rattle.xp_words.specs.declared.refs.RefWord.TheVariants.{Free, Owned, Dying}
 use Rattle.xp_words.specs.RefWords.{ref_read, ref_write, IsRef, bit}
 use Rattle.xp_words.specs.Places.{Sizes, Place, Refs}
 use Rattle.xp_words.proofs.RefLaws.{ref_read-write, ref_write-read}
 use Rattle.xp_board.specs.declared.holdings.Holdings.{Holdings}
-use Rattle.xp_board.specs.Sums.{sum_below}
 use Rattle.xp_board.specs.Readings.{owner_of, allocated_mark, ref_count}
 use Rattle.xp_board.specs.Hands.{hand, refs_to}
 use Rattle.type_rule.proofs.Counted.{hands-part}
-use Rattle.xp_board.specs.Recorded.{hands, CountsAgree}
+use Rattle.xp_board.specs.Recorded.{CountsAgree}
 use Rattle.xp_board.specs.RefSteps.{one_down}
 
 -- the word v has the owner and the mark of w

@@ -1,14 +1,12 @@
 -- A seat that is settled on the last recorded entry of a table in its work has found the entry's frame live.
-use Rattle.std.proofs.Common.{◌≡◌, ◌≢◌, ℕ, ◌+◌, ◌-◌, ◌<◌, ◌==◌, ◌&&◌, not, if◌then◌else◌, Bool, true, false, List, ◌∷◌, Option, Some, None, IsTrue, refl, sym, ◌∙◌, ap, subst, inl, inr, rules, arith}
-use Rattle.std.proofs.lemmas.Bool.{cases_Bool, and_parts}
-use Rattle.std.proofs.lemmas.Bool.Decides.{nat_tests}
+use Rattle.std.proofs.Common.{◌≡◌, ◌≢◌, ℕ, ◌+◌, ◌-◌, true, false, List, Option, Some, None, IsTrue, refl, sym, ◌∙◌, inl, inr, arith}
+use Rattle.std.proofs.lemmas.Bool.{cases_Bool}
 use Rattle.xp_words.specs.declared.kind.KindWord.{KindWord}
 use Rattle.xp_words.specs.declared.kind.PageType.{PageType}
 use Rattle.xp_words.specs.declared.kind.PageType.TheVariants as kinds
-use Rattle.xp_words.specs.declared.entry.Demand.{Demand}
 use Rattle.xp_words.specs.declared.entry.Demand.TheVariants.{Typed}
 use Rattle.xp_words.specs.Entries.{demand_at}
-use Rattle.xp_words.specs.PageTypes.{is_table, type_number}
+use Rattle.xp_words.specs.PageTypes.{is_table}
 use Rattle.xp_words.specs.KindWords.{kind_fields}
 use Rattle.xp_words.specs.Machine.{Machine}
 use Rattle.xp_words.specs.Places.{Sizes, Place, Kind, Cell, sizes_of}
@@ -17,11 +15,11 @@ use Rattle.xp_board.specs.declared.holdings.Unsettled.{Unsettled}
 use Rattle.xp_board.specs.declared.holdings.Work.{Work}
 use Rattle.xp_board.specs.declared.holdings.Holdings.{Holdings}
 use Rattle.xp_board.specs.Steps.{some_since, last_since}
-use Rattle.xp_board.specs.Readings.{kind_at, is_type, is_live_word}
+use Rattle.xp_board.specs.Readings.{is_type, is_live_word}
 use Rattle.xp_board.specs.Found.{is_known_inside, is_same_cell, is_same_entry}
 use Rattle.xp_board.specs.Recorded.{entry_demand}
 use Rattle.xp_board.specs.WellFormed.{LastIs}
-use Rattle.xp_board.specs.Settling.{settles, settles_word, settles_last, is_settled}
+use Rattle.xp_board.specs.Settling.{settles_word, is_settled}
 use Rattle.xp_board.proofs.EntryWords.{entry_asks_same}
 use Rattle.type_rule.proofs.WorkFacts.{Works}
 
@@ -37,7 +35,7 @@ not_writable kinds.Writable e = absurd (cc)
 inside_by : (k : KindWord) → k.unflushed ≡ false → is_table k.kind ≡ true → IsTrue (is_known_inside k)
 inside_by k u t = let w = not_writable k.kind t in rw (u, w) refl
 
-unmarked_by : (k : KindWord) (r : ℕ) → (k.unflushed ≡ true → r ≡ 0) → r ≢ 0 → k.unflushed ≡ false
+pub unmarked_by : (k : KindWord) (r : ℕ) → (k.unflushed ≡ true → r ≡ 0) → r ≢ 0 → k.unflushed ≡ false
 unmarked_by k r h some = elim (cases_Bool k.unflushed) [ inl t ↦ absurd (some (h t)) | inr f ↦ f ]
 
 same_cell : (t : PageType) (w x : ℕ) → is_table t ≡ true → IsTrue (is_same_cell t w x) → IsTrue (is_same_entry w x)

@@ -174,4 +174,3 @@ between_wider z n o q p test (x ∷ xs) l h =
           rw (b.0, w, a.1) refl)
       | inr there ↦ one_more (λ k y. (nat_le n k && nat_lt k q) && (is_at z p y && test (left_of y))) x xs (between_wider z n o q p test xs l there)
     ]
-

@@ -1,17 +1,15 @@
 -- What recorded entries and words of vCPUs lead to, and whom they are permitted, after an act: what has to be shown.
-use Rattle.std.proofs.Common.{◌≡◌, ◌≢◌, ℕ, ◌+◌, ◌<◌, ◌⊎◌, Bool, true, Option, Some, None, IsTrue, refl, sym, ◌∙◌, ap, subst, inl, inr, rules, arith}
+use Rattle.std.proofs.Common.{◌≡◌, ◌≢◌, ℕ, ◌+◌, ◌<◌, ◌⊎◌, Option, Some, None, IsTrue, sym, ◌∙◌, inl, inr, arith}
 use Rattle.xp_words.specs.declared.kind.PageType.{PageType}
 use Rattle.xp_words.specs.declared.kind.PageType.TheVariants as kinds
-use Rattle.xp_words.specs.declared.entry.Demand.{Demand}
 use Rattle.xp_words.specs.declared.entry.Demand.TheVariants.{Bad, Read, Typed}
 use Rattle.xp_words.specs.Machine.{Machine}
-use Rattle.xp_words.specs.Places.{Place, Vcpu, Refs, Kind, Cell, Priv, sizes_of}
+use Rattle.xp_words.specs.Places.{Place, Vcpu, Refs, Cell, Priv, sizes_of}
 use Rattle.xp_board.specs.declared.holdings.Holdings.{Holdings}
 use Rattle.xp_board.specs.Readings.{kind_at, ref_count, owner_of, has_ever, domain_of}
 use Rattle.xp_board.specs.Recorded.{held, entry_demand}
-use Rattle.xp_board.specs.Valid.{Valid, LeadsWell, is_live_context, Permitted, Permits, PermitsOwner, EntryPermitted}
-use Rattle.xp_board.specs.Readings.{is_live, is_context, type_count}
-use Rattle.xp_board.specs.Hands.{typed_hand}
+use Rattle.xp_board.specs.Valid.{Valid, LeadsWell, is_live_context, Permitted, PermitsOwner, EntryPermitted}
+use Rattle.xp_board.specs.Readings.{is_live, is_context}
 use Rattle.xp_board.specs.After.{is_fixed}
 use Rattle.xp_board.specs.Sound.{Sound}
 use Rattle.type_rule.proofs.EntryChange.{OldEntry}
@@ -30,7 +28,7 @@ EntriesAfter n m m2 b c = (f i : ℕ) → i < held (sizes_of n) m2 c f → OldEn
 
 pub record ValidChange (n : Machine) (m m2 : Place → ℕ) (b c : ℕ → Holdings) : Type 0 where
   pub entries : EntriesAfter n m m2 b c
-  pub leads : (f i g : ℕ) (t : PageType) → i < held (sizes_of n) m b f → entry_demand m f i ≡ Typed g t → LeadsWell (sizes_of n) m b f i g → LeadsWell (sizes_of n) m2 c f i g
+  pub leads : (f i g : ℕ) (t : PageType) → i < held (sizes_of n) m2 c f → i < held (sizes_of n) m b f → entry_demand m f i ≡ Typed g t → LeadsWell (sizes_of n) m b f i g → LeadsWell (sizes_of n) m2 c f i g
   pub fixed : (f i : ℕ) → IsTrue (is_live (kind_at m2 f)) → (kind_at m2 f).kind ≡ kinds.Desc → i < 512 → IsTrue (is_fixed (m2 (Cell f i)))
   pub contexts : (v k g : ℕ) → v < (sizes_of n).vcpus → k < 38 → IsTrue (is_live_context k) → m2 (Vcpu v k) ≡ g + 1 → IsTrue (is_live (kind_at m2 g))
 
@@ -42,7 +40,7 @@ valid_law n m m2 b c k v =
         | inr new ↦ new.allowed bad
       ];
       live = λ f i g t l e. elim (k.entries f i l) [
-        | inl old ↦ (let was = sym old.demand ∙ e in k.leads f i g t old.was was (v.live f i g t old.was was))
+        | inl old ↦ (let was = sym old.demand ∙ e in k.leads f i g t l old.was was (v.live f i g t old.was was))
         | inr new ↦ new.leads g t e
       ];
       fixed = k.fixed;

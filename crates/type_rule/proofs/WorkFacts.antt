@@ -1,6 +1,6 @@
 -- What is known of a frame that a seat has in its works, and that the table of a recorded entry has a reference.
-use Rattle.std.proofs.Common.{◌≡◌, ◌≢◌, ℕ, zero, suc, ◌+◌, ◌<◌, ◌≤◌, ◌==◌, ◌&&◌, ◌⊎◌, not, if◌then◌else◌, Bool, true, false, List, [], ◌∷◌, Option, Some, None, IsTrue, refl, sym, ◌∙◌, ap, subst, inl, inr, rules, arith}
-use Rattle.std.proofs.lemmas.Bool.{cases_eq, cases_Bool, and_parts}
+use Rattle.std.proofs.Common.{◌≡◌, ◌≢◌, ℕ, zero, suc, ◌<◌, ◌≤◌, ◌==◌, ◌⊎◌, true, false, List, [], ◌∷◌, Some, None, IsTrue, refl, ◌∙◌, ap, subst, inl, inr, arith}
+use Rattle.std.proofs.lemmas.Bool.{cases_eq, cases_Bool}
 use Rattle.std.proofs.lemmas.Bool.Decides.{nat_tests}
 use Rattle.xp_words.specs.declared.kind.KindWord.{KindWord}
 use Rattle.xp_words.specs.PageTypes.{is_table}
@@ -10,15 +10,15 @@ use Rattle.xp_words.specs.Places.{Place, Refs, Kind, sizes_of}
 use Rattle.xp_board.specs.declared.holdings.Work.{Work}
 use Rattle.xp_board.specs.declared.holdings.Holdings.{Holdings}
 use Rattle.xp_board.specs.Lists.{times_by, first_by}
-use Rattle.xp_board.specs.Readings.{kind_at, ref_count, type_count, is_live, is_work, is_partial, is_closing}
+use Rattle.xp_board.specs.Readings.{kind_at, ref_count, type_count, is_closing}
 use Rattle.xp_board.specs.Hands.{refs_to, works_on, work_on, hand}
 use Rattle.xp_board.specs.Found.{WorkFound}
 use Rattle.xp_board.specs.WellFormed.{IsWorkFormed}
-use Rattle.xp_board.specs.Recorded.{held, held_of, held_by_form, recorded_in, recorded_number, work_of}
+use Rattle.xp_board.specs.Recorded.{held, held_of, held_by_form, recorded_in, work_of}
 use Rattle.xp_board.specs.Sound.{Sound, WorkAgrees, is_busy}
 use Rattle.type_rule.proofs.Counted.{first_each, first_some, hands-part, busy_work, work_alone, bit_one}
 use Rattle.type_rule.proofs.Works.{none_on}
-use Rattle.type_rule.proofs.Held.{nobody_works, someone_works, type_below, work_of-mine}
+use Rattle.type_rule.proofs.Held.{nobody_works, someone_works, type_below}
 
 pub some_on : (f : ℕ) (xs : List Work) → 0 < works_on f xs → (e : Work) × (work_on f xs ≡ Some e)
 unfolding times_by first_by

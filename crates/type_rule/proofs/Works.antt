@@ -1,21 +1,14 @@
 -- Frames in work: what a hand has of a frame after one is added, taken out or changed, and what all seats have of it.
-use Rattle.std.proofs.Common.{◌≡◌, ◌≢◌, ℕ, zero, suc, ◌+◌, ◌<◌, ◌≤◌, ◌==◌, ◌&&◌, not, if◌then◌else◌, Bool, true, false, List, [], ◌∷◌, Option, Some, None, IsTrue, refl, sym, ◌∙◌, ap, subst, inl, inr, rules, arith}
+use Rattle.std.proofs.Common.{◌≡◌, ◌≢◌, ℕ, ◌+◌, ◌<◌, ◌≤◌, ◌==◌, if◌then◌else◌, Bool, true, false, List, [], ◌∷◌, Option, Some, None, refl, sym, ◌∙◌, ap, inl, inr, arith}
 use Rattle.std.proofs.lemmas.Bool.{cases_eq, cases_Bool}
 use Rattle.std.proofs.lemmas.Bool.Decides.{nat_tests}
-use Rattle.xp_words.specs.RefWords.{bit}
 use Rattle.xp_words.specs.KindWords.{kind_fields}
-use Rattle.xp_words.specs.Machine.{Machine}
-use Rattle.xp_words.specs.Places.{Place, Kind, sizes_of}
 use Rattle.xp_board.specs.declared.holdings.Unsettled.{Unsettled}
 use Rattle.xp_board.specs.declared.holdings.Work.{Work}
-use Rattle.xp_board.specs.declared.holdings.Holdings.{Holdings}
 use Rattle.xp_board.specs.Lists.{first_by, times_by, without_by, changed_by}
 use Rattle.xp_board.specs.Hands.{work_on, works_on, without_work, changed_work}
-use Rattle.xp_board.specs.Readings.{kind_at}
 use Rattle.xp_board.specs.After.{learned_last, learned_work}
-use Rattle.xp_board.specs.Recorded.{recorded_in, recorded_number, or_else, work_of, held, held_of}
-use Rattle.xp_board.specs.Sound.{HeldAlone, is_busy}
-use Rattle.type_rule.proofs.Counted.{hands-part, hands-two, work_alone}
+use Rattle.xp_board.specs.Recorded.{recorded_in, recorded_number}
 
 -- ---- as many entries recorded, and unsettled since the same step or settled
 abbrev pub SinceKept : Option Unsettled → Option Unsettled → Type 0
