@@ -1,8 +1,33 @@
-pub mod ChangeLaw
-pub mod Changes
-pub mod DomainLaw
-pub mod HandLaws
-pub mod Laws
-pub mod RefWordLaws
-pub mod StepFacts
-pub mod ValidLaw
+mod StepFacts
+mod DomainLaw
+mod DomainWords
+mod Counted
+mod RefWordLaws
+mod DomainFrames
+mod HandParts
+mod DomainKinds
+mod DomainStores
+mod DomainOthers
+mod DomainVcpus
+mod DomainLives
+mod DomainLaws
+mod Works
+mod Held
+mod EntryChange
+mod WorkFacts
+mod ValidLaw
+mod QuietLaw
+mod QuietActs
+mod KindAct
+mod KindRows
+mod KindDowns
+mod Settled
+mod KindStores
+mod CellAct
+mod CellRows
+mod GuestRows
+mod NewEntries
+mod LockRows
+mod MarkRows
+mod EntryMarks
+mod EntryLaws

@@ -1,16 +1,15 @@
 -- A reference word that has one reference more or one less keeps its owner and its allocated mark.
-use Rattle.std.proofs.Common.{◌≡◌, ◌≢◌, ℕ, zero, suc, ◌+◌, ◌%◌, ◌^◌, ◌<◌, ◌≤◌, Bool, true, false, Option, Some, None, refl, ap, inl, inr, arith}
-use Rattle.std.proofs.lemmas.Bool.{cases_eq}
+use Rattle.std.proofs.Common.{◌≡◌, ℕ, zero, suc, ◌+◌, ◌%◌, ◌^◌, ◌<◌, ◌≤◌, Bool, true, false, Option, Some, None, refl, arith}
 use Rattle.xp_words.specs.declared.refs.RefWord.{RefWord}
 use Rattle.xp_words.specs.declared.refs.RefWord.TheVariants.{Free, Owned, Dying}
 use Rattle.xp_words.specs.RefWords.{ref_read, ref_write, IsRef, bit}
 use Rattle.xp_words.specs.Places.{Sizes, Place, Refs}
 use Rattle.xp_words.proofs.RefLaws.{ref_read-write, ref_write-read}
 use Rattle.xp_board.specs.declared.holdings.Holdings.{Holdings}
-use Rattle.xp_board.specs.Sums.{sum_below}
 use Rattle.xp_board.specs.Readings.{owner_of, allocated_mark, ref_count}
 use Rattle.xp_board.specs.Hands.{hand, refs_to}
-use Rattle.xp_board.specs.Recorded.{hands, CountsAgree}
+use Rattle.type_rule.proofs.Counted.{hands-part}
+use Rattle.xp_board.specs.Recorded.{CountsAgree}
 use Rattle.xp_board.specs.RefSteps.{one_down}
 
 -- the word v has the owner and the mark of w
@@ -57,19 +56,6 @@ pub one_less_keeps : (w : ℕ) → w < 2 ^ 64 → allocated_mark w + 1 ≤ ref_c
 one_less_keeps w small more = by_value w (ref_read w) small refl more
 
 -- ---- a reference in hand is counted
-sum_below-part : (n : ℕ) (p : ℕ → ℕ) (j : ℕ) → j < n → p j ≤ sum_below n p
-unfolding sum_below
-sum_below-part zero p j b = absurd (omega arith)
-sum_below-part (suc n) p j b =
-    elim (cases_eq j n) [
-      | inl at ↦ let e = ap p at in omega arith
-      | inr off ↦ let rest = sum_below-part n p j (let k : j ≢ n = off in omega arith) in omega arith
-    ]
-
-hands-part : (c : Holdings → ℕ) (z : Sizes) (h : ℕ → Holdings) (s : ℕ) → s < z.vcpus → c (h s) ≤ hands c z h
-unfolding hands
-hands-part c z h s b = sum_below-part z.vcpus (λ t. c (h t)) s b
-
 refs_in_hand : (f : ℕ) (u : Holdings) → refs_to f u.refs ≤ hand f u
 unfolding hand
 refs_in_hand f u = omega arith

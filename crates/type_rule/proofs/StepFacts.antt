@@ -4,7 +4,7 @@ use Rattle.std.proofs.lemmas.Bool.{and_parts, or_cases, cases_Bool}
 use Rattle.std.proofs.lemmas.Bool.Decides.{nat_tests}
 use Rattle.xp_words.specs.Places.{Sizes, Place, Clock, Pages, Life, Vcpu, Refs, Kind, M2p, Cell, Map, Priv, place_at}
 use Rattle.xp_board.specs.declared.holdings.Made.{Made}
-use Rattle.xp_board.specs.Steps.{is_same, is_at, left_of, some_step, some_since, some_before, some_between}
+use Rattle.xp_board.specs.Steps.{EachStep, EachSince, is_same, is_at, left_of, some_step, some_since, some_before, some_between}
 
 -- two places that pass the test are one
 pub same_place : (p q : Place) → is_same p q ≡ true → p ≡ q
@@ -109,4 +109,68 @@ since_false z n p test x xs h =
             | inr there ↦ absurd (cc)
           ]
       | inr not_now ↦ inr not_now
+    ]
+
+-- ---- what each word found or left there meets, one of them that was found meets
+at_zero : (z : Sizes) (p : Place) (k : ℕ) (x : Made) → is_at z p x ≡ true → IsTrue (nat_le 0 k && is_at z p x)
+at_zero z p k x h = rw h (grind (arith, nat_tests))
+
+found_step : {Q : Type 0} (z : Sizes) (p : Place) (test : ℕ → Bool) (P : ℕ → Type 0) (some : ℕ → Made → Bool) (xs : List Made) →
+    ((k : ℕ) (x : Made) → some k x ≡ true → (is_at z p x ≡ true) × (test (left_of x) ≡ true)) → EachSince z 0 p P xs →
+    IsTrue (some_step some xs) → ((w : ℕ) → test w ≡ true → P w → Q) → Q
+unfolding EachStep some_step
+found_step z p test P some [] tells each h goal = absurd (cc)
+found_step z p test P some (x ∷ xs) tells each h goal =
+    elim (head_or_tail some x xs h) [
+      | inl here ↦ (let t = tells (length xs) x here in goal (left_of x) t.1 ((each.0 (at_zero z p (length xs) x t.0)).1))
+      | inr there ↦ found_step z p test P some xs tells each.1 there goal
+    ]
+
+pub found_since : {Q : Type 0} (z : Sizes) (n : ℕ) (p : Place) (test : ℕ → Bool) (P : ℕ → Type 0) (xs : List Made) → EachSince z 0 p P xs →
+    IsTrue (some_since z n p test xs) → ((w : ℕ) → test w ≡ true → P w → Q) → Q
+found_since z n p test P xs each h goal =
+    found_step z p test P (λ k x. nat_le n k && (is_at z p x && test (left_of x))) xs
+    (λ k x t. let a = and_parts (nat_le n k) (is_at z p x && test (left_of x)) t in and_parts (is_at z p x) (test (left_of x)) a.1) each h goal
+
+pub found_before : {Q : Type 0} (z : Sizes) (n : ℕ) (p : Place) (test : ℕ → Bool) (P : ℕ → Type 0) (xs : List Made) → EachSince z 0 p P xs →
+    IsTrue (some_before z n p test xs) → ((w : ℕ) → test w ≡ true → P w → Q) → Q
+found_before z n p test P xs each h goal =
+    found_step z p test P (λ k x. nat_lt k n && (is_at z p x && test (left_of x))) xs
+    (λ k x t. let a = and_parts (nat_lt k n) (is_at z p x && test (left_of x)) t in and_parts (is_at z p x) (test (left_of x)) a.1) each h goal
+
+pub found_between : {Q : Type 0} (z : Sizes) (n o : ℕ) (p : Place) (test : ℕ → Bool) (P : ℕ → Type 0) (xs : List Made) → EachSince z 0 p P xs →
+    IsTrue (some_between z n o p test xs) → ((w : ℕ) → test w ≡ true → P w → Q) → Q
+found_between z n o p test P xs each h goal =
+    found_step z p test P (λ k x. (nat_le n k && nat_lt k o) && (is_at z p x && test (left_of x))) xs
+    (λ k x t. let a = and_parts (nat_le n k && nat_lt k o) (is_at z p x && test (left_of x)) t in and_parts (is_at z p x) (test (left_of x)) a.1) each h goal
+
+-- ---- ranges of numbers
+-- a step between two numbers is one from the first on
+pub between_since : (z : Sizes) (n o : ℕ) (p : Place) (test : ℕ → Bool) (xs : List Made) → IsTrue (some_between z n o p test xs) → IsTrue (some_since z n p test xs)
+unfolding some_step
+between_since z n o p test [] h = absurd (cc)
+between_since z n o p test (x ∷ xs) h =
+    elim (head_or_tail (λ k y. (nat_le n k && nat_lt k o) && (is_at z p y && test (left_of y))) x xs h) [
+      | inl here ↦
+          (let a = and_parts (nat_le n (length xs) && nat_lt (length xs) o) (is_at z p x && test (left_of x)) here in
+          let b = and_parts (nat_le n (length xs)) (nat_lt (length xs) o) a.0 in
+          rw (b.0, a.1) refl)
+      | inr there ↦ one_more (λ k y. nat_le n k && (is_at z p y && test (left_of y))) x xs (between_since z n o p test xs there)
+    ]
+
+wider_lt : (k o q : ℕ) → o ≤ q → nat_lt k o ≡ true → nat_lt k q ≡ true
+wider_lt k o q l h = grind (arith, nat_tests)
+
+-- and one between the first and a later second
+pub between_wider : (z : Sizes) (n o q : ℕ) (p : Place) (test : ℕ → Bool) (xs : List Made) → o ≤ q → IsTrue (some_between z n o p test xs) → IsTrue (some_between z n q p test xs)
+unfolding some_step
+between_wider z n o q p test [] l h = absurd (cc)
+between_wider z n o q p test (x ∷ xs) l h =
+    elim (head_or_tail (λ k y. (nat_le n k && nat_lt k o) && (is_at z p y && test (left_of y))) x xs h) [
+      | inl here ↦
+          (let a = and_parts (nat_le n (length xs) && nat_lt (length xs) o) (is_at z p x && test (left_of x)) here in
+          let b = and_parts (nat_le n (length xs)) (nat_lt (length xs) o) a.0 in
+          let w = wider_lt (length xs) o q l b.1 in
+          rw (b.0, w, a.1) refl)
+      | inr there ↦ one_more (λ k y. (nat_le n k && nat_lt k q) && (is_at z p y && test (left_of y))) x xs (between_wider z n o q p test xs l there)
     ]

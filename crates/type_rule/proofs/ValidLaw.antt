@@ -1,109 +1,105 @@
--- What recorded entries and words of vCPUs lead to, and whom they are permitted, after a step.
-use Rattle.std.proofs.Common.{◌≡◌, ℕ, ◌⊎◌, Bool, true, Option, Some, None, IsTrue, refl, sym, ◌∙◌, ap, subst, inl, inr}
-use Rattle.std.proofs.lemmas.Bool.{cases_eq}
+-- What recorded entries and words of vCPUs lead to, and whom they are permitted, after an act: what has to be shown.
+use Rattle.std.proofs.Common.{◌≡◌, ◌≢◌, ℕ, ◌+◌, ◌<◌, ◌⊎◌, Option, Some, None, IsTrue, sym, ◌∙◌, inl, inr, arith}
 use Rattle.xp_words.specs.declared.kind.PageType.{PageType}
+use Rattle.xp_words.specs.declared.kind.PageType.TheVariants as kinds
+use Rattle.xp_words.specs.declared.entry.Demand.TheVariants.{Bad, Read, Typed}
 use Rattle.xp_words.specs.Machine.{Machine}
-use Rattle.xp_words.specs.Places.{Place, Refs, Kind, sizes_of}
-use Rattle.xp_board.specs.declared.step.Step.{Step}
-use Rattle.xp_board.specs.declared.holdings.Made.{Made}
+use Rattle.xp_words.specs.Places.{Place, Vcpu, Refs, Cell, Priv, sizes_of}
 use Rattle.xp_board.specs.declared.holdings.Holdings.{Holdings}
-use Rattle.xp_board.specs.Readings.{kind_at, is_live, is_live_word, owner_of}
+use Rattle.xp_board.specs.Readings.{kind_at, ref_count, owner_of, has_ever, domain_of}
 use Rattle.xp_board.specs.Recorded.{held, entry_demand}
-use Rattle.xp_board.specs.Valid.{Valid, LeadsWell, IsUnsettled, PermitsOwner, EntryPermitted, Permitted}
-use Rattle.type_rule.proofs.StepFacts.{Hit, since_false}
-use Rattle.type_rule.proofs.Changes.{Change, kept_work, kept_since, work_same}
+use Rattle.xp_board.specs.Valid.{Valid, LeadsWell, is_live_context, Permitted, PermitsOwner, EntryPermitted}
+use Rattle.xp_board.specs.Readings.{is_live, is_context}
+use Rattle.xp_board.specs.After.{is_fixed}
+use Rattle.xp_board.specs.Sound.{Sound}
+use Rattle.type_rule.proofs.EntryChange.{OldEntry}
+use Rattle.type_rule.proofs.Held.{entry_counted, plain_counted, context_counted, type_below}
+use Rattle.type_rule.proofs.WorkFacts.{table_counted}
 
-module _ (n : Machine) (s : ℕ) (x : Step) (m m2 : Place → ℕ) (h h2 : ℕ → Holdings) (c : Change n s x m m2 h h2) where
-  -- the words that are read here
-  held_same : (f : ℕ) → held (sizes_of n) m2 h2 f ≡ held (sizes_of n) m h f
-  held_same f = rw (c.kinds f, work_same n s x m m2 h h2 c f) refl
+-- an entry that is new, or asks something else than before
+pub record NewEntry (n : Machine) (m2 : Place → ℕ) (c : ℕ → Holdings) (f i : ℕ) : Type 0 where
+  pub allowed : entry_demand m2 f i ≢ Bad
+  pub leads : (g : ℕ) (t : PageType) → entry_demand m2 f i ≡ Typed g t → LeadsWell (sizes_of n) m2 c f i g
+  pub typed : (g : ℕ) (t : PageType) → entry_demand m2 f i ≡ Typed g t → EntryPermitted m2 (kind_at m2 f).kind (owner_of (m2 (Refs f))) g
+  pub plain : (g : ℕ) → entry_demand m2 f i ≡ Read g → EntryPermitted m2 (kind_at m2 f).kind (owner_of (m2 (Refs f))) g
 
-  demand_same : (f i : ℕ) → entry_demand m2 f i ≡ entry_demand m f i
-  demand_same f i = rw (c.kinds f, c.cells f i) refl
+abbrev pub EntriesAfter : Machine → (Place → ℕ) → (Place → ℕ) → (ℕ → Holdings) → (ℕ → Holdings) → Type 0
+EntriesAfter n m m2 b c = (f i : ℕ) → i < held (sizes_of n) m2 c f → OldEntry n m m2 b f i ⊎ NewEntry n m2 c f i
 
-  -- the step that was made, with the word that it found
-  abbrev made : Made
-  made = record { step = x; found = c.found }
+pub record ValidChange (n : Machine) (m m2 : Place → ℕ) (b c : ℕ → Holdings) : Type 0 where
+  pub entries : EntriesAfter n m m2 b c
+  pub leads : (f i g : ℕ) (t : PageType) → i < held (sizes_of n) m2 c f → i < held (sizes_of n) m b f → entry_demand m f i ≡ Typed g t → LeadsWell (sizes_of n) m b f i g → LeadsWell (sizes_of n) m2 c f i g
+  pub fixed : (f i : ℕ) → IsTrue (is_live (kind_at m2 f)) → (kind_at m2 f).kind ≡ kinds.Desc → i < 512 → IsTrue (is_fixed (m2 (Cell f i)))
+  pub contexts : (v k g : ℕ) → v < (sizes_of n).vcpus → k < 38 → IsTrue (is_live_context k) → m2 (Vcpu v k) ≡ g + 1 → IsTrue (is_live (kind_at m2 g))
 
-  -- what this step left there stands there
-  pub stands : (p : Place) (test : ℕ → Bool) → Hit (sizes_of n) p test made → test (m2 p) ≡ true
-  stands p test a = subst (λ q. test (m2 q) ≡ true) a.place (ap test (sym c.left) ∙ a.passes)
+pub valid_law : (n : Machine) (m m2 : Place → ℕ) (b c : ℕ → Holdings) → ValidChange n m m2 b c → Valid (sizes_of n) m b → Valid (sizes_of n) m2 c
+valid_law n m m2 b c k v =
+    record {
+      allowed = λ f i l bad. elim (k.entries f i l) [
+        | inl old ↦ v.allowed f i old.was (sym old.demand ∙ bad)
+        | inr new ↦ new.allowed bad
+      ];
+      live = λ f i g t l e. elim (k.entries f i l) [
+        | inl old ↦ (let was = sym old.demand ∙ e in k.leads f i g t l old.was was (v.live f i g t old.was was))
+        | inr new ↦ new.leads g t e
+      ];
+      fixed = k.fixed;
+      contexts = k.contexts;
+    }
 
-  -- ---- an unsettled entry
-  -- of the seat that makes the step: it has found the frame live, or it has not yet
-  still_unfound : (f i g : ℕ) → (u : IsUnsettled (sizes_of n) h f i g) → u.seat ≡ s → IsTrue (is_live (kind_at m2 g)) ⊎ IsUnsettled (sizes_of n) h2 f i g
-  still_unfound f i g u at =
-      let e = kept_work _ _ u.work (c.works f) (rw at at u.here) in
-      let k = e.2 in
-      let v = kept_since _ _ u.unsettled k.unsettled u.kept in
-      elim (since_false (sizes_of n) u.unsettled.since (Kind g) is_live_word made (h s).steps (rw at at u.unfound)) [
-        | inl found ↦ inl (stands (Kind g) is_live_word found)
-        | inr unfound ↦
-            inr
-            (record {
-              seat = s;
-              real = rw at at u.real;
-              work = e.0;
-              here = e.1;
-              last = u.last ∙ sym k.recorded;
-              unsettled = v.0;
-              kept = v.1;
-              unfound = rw (c.steps, v.2) unfound;
-            })
-      ]
+-- owners of frames with a reference stay, and privileges that were had once
+pub record OwnersStay (m m2 : Place → ℕ) : Type 0 where
+  pub owner : (g : ℕ) → 0 < ref_count (m (Refs g)) → owner_of (m2 (Refs g)) ≡ owner_of (m (Refs g))
+  pub ever : (d o : ℕ) → IsTrue (has_ever o (m (Priv d))) → IsTrue (has_ever o (m2 (Priv d)))
 
-  unsettled_after : (f i g : ℕ) → IsUnsettled (sizes_of n) h f i g → IsTrue (is_live (kind_at m2 g)) ⊎ IsUnsettled (sizes_of n) h2 f i g
-  unsettled_after f i g u =
-      elim (cases_eq u.seat s) [
-        | inl at ↦ still_unfound f i g u at
-        | inr off ↦
-            let same = c.others u.seat off in
-            inr
-            (record {
-              seat = u.seat;
-              real = u.real;
-              work = u.work;
-              here = rw same u.here;
-              last = u.last;
-              unsettled = u.unsettled;
-              kept = u.kept;
-              unfound = rw same u.unfound;
-            })
-      ]
+permits_by : (m m2 : Place → ℕ) (d : ℕ) (o : Option ℕ) → OwnersStay m m2 → PermitsOwner m d o → PermitsOwner m2 d o
+permits_by m m2 d None k p = p
+permits_by m m2 d (Some o) k (inl own) = inl own
+permits_by m m2 d (Some o) k (inr ever) = inr (k.ever d o ever)
 
-  leads_after : (f i g : ℕ) → LeadsWell (sizes_of n) m h f i g → LeadsWell (sizes_of n) m2 h2 f i g
-  leads_after f i g (inl live) = inl (rw (c.kinds g) live)
-  leads_after f i g (inr (form, inl last)) = inr (rw (c.kinds g) form, inl (record { partial = rw (c.kinds f) last.partial; last = rw (c.kinds f) last.last }))
-  leads_after f i g (inr (form, inr unsettled)) =
-      elim (unsettled_after f i g unsettled) [
-        | inl live ↦ inl live
-        | inr after ↦ inr (rw (c.kinds g) form, inr after)
-      ]
+pub entry_permitted : (m m2 : Place → ℕ) (kind : PageType) (o : Option ℕ) (g : ℕ) → OwnersStay m m2 → 0 < ref_count (m (Refs g)) → EntryPermitted m kind o g → EntryPermitted m2 kind o g
+entry_permitted m m2 kind None g k some p = p
+entry_permitted m m2 kind (Some d) g k some (inl own) = inl (k.owner g some ∙ own)
+entry_permitted m m2 kind (Some d) g k some (inr (low, p)) = inr (low, rw (k.owner g some) (permits_by m m2 d (owner_of (m (Refs g))) k p))
 
-  pub valid_law : Valid (sizes_of n) m h → Valid (sizes_of n) m2 h2
-  valid_law v =
+pub record PermittedChange (n : Machine) (m m2 : Place → ℕ) (b c : ℕ → Holdings) : Type 0 where
+  pub entries : EntriesAfter n m m2 b c
+  pub owners : OwnersStay m m2
+  pub contexts : (v k g : ℕ) → v < (sizes_of n).vcpus → k < 38 → IsTrue (is_live_context k) → m2 (Vcpu v k) ≡ g + 1 →
+      owner_of (m2 (Refs g)) ≡ Some (domain_of n v)
+
+module _ (n : Machine) (s : ℕ) (m m2 : Place → ℕ) (b c : ℕ → Holdings) (real : s < (sizes_of n).vcpus) (sound : Sound n m b) (k : PermittedChange n m m2 b c) where
+  old_typed : (f i g : ℕ) (t : PageType) → OldEntry n m m2 b f i → entry_demand m2 f i ≡ Typed g t → EntryPermitted m2 (kind_at m2 f).kind (owner_of (m2 (Refs f))) g
+  old_typed f i g t old e =
+      let was = sym old.demand ∙ e in
+      let counted = entry_counted n m b s f i g t sound real old.was was in
+      let below = type_below (sizes_of n) m b g sound.counts in
+      rw (old.kind, k.owners.owner f (table_counted n m b f i sound old.was))
+      (entry_permitted m m2 _ _ g k.owners (omega arith) (sound.permitted.typed f i g t old.was was))
+
+  old_plain : (f i g : ℕ) → OldEntry n m m2 b f i → entry_demand m2 f i ≡ Read g → EntryPermitted m2 (kind_at m2 f).kind (owner_of (m2 (Refs f))) g
+  old_plain f i g old e =
+      let was = sym old.demand ∙ e in
+      rw (old.kind, k.owners.owner f (table_counted n m b f i sound old.was))
+      (entry_permitted m m2 _ _ g k.owners (plain_counted n m b f i g sound old.was was) (sound.permitted.plain f i g old.was was))
+
+  pub permitted_law : Permitted n m2 c
+  permitted_law =
       record {
-        allowed = λ f i b. rw (demand_same f i) (v.allowed f i (rw (held_same f) at b));
-        live = λ f i g t b e. leads_after f i g (v.live f i g t (rw (held_same f) at b) (rw (demand_same f i) at e));
-        fixed = λ f i l k b. rw (c.cells f i) (v.fixed f i (rw (c.kinds f) at l) (rw (c.kinds f) at k) b);
-        contexts = λ w k g b d l e. rw (c.kinds g) (v.contexts w k g b d l (rw (c.vcpus w k) at e));
+        typed = λ f i g t l e. elim (k.entries f i l) [ inl old ↦ old_typed f i g t old e | inr new ↦ new.typed g t e ];
+        plain = λ f i g l e. elim (k.entries f i l) [ inl old ↦ old_plain f i g old e | inr new ↦ new.plain g e ];
+        contexts = k.contexts;
       }
 
-  -- ---- permits
-  permits_after : (d g : ℕ) (o : Option ℕ) → PermitsOwner m d o → PermitsOwner m2 d o
-  permits_after d g None p = tt
-  permits_after d g (Some o) (inl own) = inl own
-  permits_after d g (Some o) (inr ever) = inr (rw (c.privs d) ever)
+-- words of vCPUs that stay
+pub live_is_context : (j : ℕ) → IsTrue (is_live_context j) → IsTrue (is_context j)
+live_is_context j u = grind arith
 
-  entry_after : (kind : PageType) (o : Option ℕ) (g : ℕ) → EntryPermitted m kind o g → EntryPermitted m2 kind o g
-  entry_after kind None g p = p
-  entry_after kind (Some d) g (inl own) = inl (c.owners g ∙ own)
-  entry_after kind (Some d) g (inr (low, p)) = inr (low, rw (c.owners g) (permits_after d g (owner_of (m (Refs g))) p))
-
-  pub permitted_law : Permitted n m h → Permitted n m2 h2
-  permitted_law p =
-      record {
-        typed = λ f i g t b e. rw (c.kinds f, c.owners f) (entry_after _ _ g (p.typed f i g t (rw (held_same f) at b) (rw (demand_same f i) at e)));
-        plain = λ f i g b e. rw (c.kinds f, c.owners f) (entry_after _ _ g (p.plain f i g (rw (held_same f) at b) (rw (demand_same f i) at e)));
-        contexts = λ v k g b d l e. c.owners g ∙ p.contexts v k g b d l (rw (c.vcpus v k) at e);
-      }
+pub contexts_permitted : (n : Machine) (s : ℕ) (m m2 : Place → ℕ) (b : ℕ → Holdings) → s < (sizes_of n).vcpus → Sound n m b → OwnersStay m m2 →
+    ((v j : ℕ) → IsTrue (is_context j) → m2 (Vcpu v j) ≡ m (Vcpu v j)) → (v j g : ℕ) → v < (sizes_of n).vcpus → j < 38 → IsTrue (is_live_context j) →
+    m2 (Vcpu v j) ≡ g + 1 → owner_of (m2 (Refs g)) ≡ Some (domain_of n v)
+contexts_permitted n s m m2 b real sound owners same v j g l h u e =
+    let was : m (Vcpu v j) ≡ g + 1 = sym (same v j (live_is_context j u)) ∙ e in
+    let counted = context_counted n m b s v j g sound.counts real l h (live_is_context j u) was in
+    let below = type_below (sizes_of n) m b g sound.counts in
+    owners.owner g (omega arith) ∙ sound.permitted.contexts v j g l h u was

@@ -1,6 +1,8 @@
 mod ClaimPicture
 pub mod PlaceTests
 pub mod KindForms
+pub mod Bits
+pub mod EntryWords
 pub mod ActEffects
 pub mod Doing
 mod WordInversions

@@ -1,5 +1,8 @@
-use Rattle.type_rule.proofs.Laws.{keeps_valid}
+use Rattle.type_rule.proofs.EntryLaws.{marks_keep_valid, acts_keep_valid}
 use Rattle.type_rule.proofs.entries_still_lead_well.Goals as goal
 
-pub returns : goal.returns
-returns c = keeps_valid
+pub returns-clause-marks : goal.returns-clause-marks
+returns-clause-marks c = marks_keep_valid
+
+pub returns-clause-acts : goal.returns-clause-acts
+returns-clause-acts c = acts_keep_valid

@@ -1,0 +1,197 @@
+-- Stores into cells that ask the same as before, or that no recorded entry reads: what entries lead to stays.
+use Rattle.std.proofs.Common.{◌≡◌, ◌≢◌, ℕ, ◌<◌, ◌≤◌, ◌==◌, true, false, List, Option, Some, None, IsTrue, refl, sym, ◌∙◌, ap, subst, inl, inr, arith}
+use Rattle.std.proofs.lemmas.Bool.{cases_eq, cases_Bool}
+use Rattle.std.proofs.lemmas.Bool.Decides.{nat_tests}
+use Rattle.xp_words.specs.declared.kind.KindWord.{KindWord}
+use Rattle.xp_words.specs.declared.kind.PageType.{PageType}
+use Rattle.xp_words.specs.declared.kind.PageType.TheVariants as kinds
+use Rattle.xp_words.specs.PageTypes.{is_table, type_number}
+use Rattle.xp_words.specs.Entries.{demand_at, fixed}
+use Rattle.xp_words.specs.KindWords.{kind_read, kind_fields}
+use Rattle.xp_words.specs.Machine.{Machine}
+use Rattle.xp_words.specs.Places.{Sizes, Place, Refs, Kind, Cell, sizes_of, is_place}
+use Rattle.xp_board.specs.declared.step.Step.{Step}
+use Rattle.xp_board.specs.declared.holdings.Seen.{Seen}
+use Rattle.xp_board.specs.declared.holdings.Made.{Made}
+use Rattle.xp_board.specs.Spelling.{IsSpelling, is_kind_in}
+use Rattle.xp_board.proofs.FrameInversions.{fields_of}
+use Rattle.xp_board.specs.declared.holdings.Work.{Work}
+use Rattle.xp_board.specs.declared.holdings.Lock.{Lock}
+use Rattle.xp_board.specs.declared.holdings.Claimed.{Claimed}
+use Rattle.xp_board.specs.declared.holdings.Holdings.{Holdings}
+use Rattle.xp_board.specs.Steps.{last_since}
+use Rattle.xp_board.specs.Hands.{lock_on, claim_of, work_on}
+use Rattle.xp_board.specs.Readings.{kind_at, ref_count, type_count, is_live, is_work, is_closing}
+use Rattle.xp_board.specs.CellSteps.{is_same_as_seen, AllowsPlain}
+use Rattle.xp_board.specs.Found.{LockFound}
+use Rattle.xp_board.specs.WellFormed.{IsLockFormed, SeenIs}
+use Rattle.xp_board.specs.After.{is_fixed}
+use Rattle.xp_board.specs.Recorded.{HasType, held}
+use Rattle.xp_board.specs.Valid.{Valid, Permitted}
+use Rattle.xp_board.specs.Sound.{Sound}
+use Rattle.xp_board.proofs.KindForms.{live_form}
+use Rattle.xp_board.proofs.EntryWords.{entry_asks_same, same_demand}
+use Rattle.xp_board.proofs.ActEffects.{Rewrote, Filled}
+use Rattle.type_rule.proofs.Counted.{first_each, first_some}
+use Rattle.type_rule.proofs.Held.{type_below}
+use Rattle.type_rule.proofs.WorkFacts.{works_facts, idle_held, closing_counted, closing_busy}
+use Rattle.type_rule.proofs.QuietActs.{dying_in_hand}
+use Rattle.type_rule.proofs.KindStores.{table_held}
+use Rattle.type_rule.proofs.CellAct.{CellAct, cell_valid, cell_permitted}
+
+-- ---- types
+pub desc_no_table : (t : PageType) → t ≡ kinds.Desc → is_table t ≡ true → ⊥
+desc_no_table t e h = let k : is_table t ≡ false = rw e refl in cc
+
+writable_no_table : (t : PageType) → t ≡ kinds.Writable → is_table t ≡ true → ⊥
+writable_no_table t e h = let k : is_table t ≡ false = rw e refl in cc
+
+pub seven_no_table : (t : PageType) → type_number t ≡ 7 → is_table t ≡ true → ⊥
+seven_no_table t e h = let k : is_table t ≡ false = rw e refl in cc
+
+pub level_no_desc : (t : PageType) (l : ℕ) → type_number t ≡ l → l ≤ 4 → t ≡ kinds.Desc → ⊥
+level_no_desc t l e few d = let k : type_number t ≡ 5 = rw d refl in absurd (omega arith)
+
+pub seven_no_desc : (t : PageType) → type_number t ≡ 7 → t ≡ kinds.Desc → ⊥
+seven_no_desc t e d = let k : type_number t ≡ 5 = rw d refl in absurd (omega arith)
+
+-- a word that is a spelling is read as its fields
+some_read : (o : Option KindWord) (n : Machine) (w : ℕ) → kind_read w ≡ o → IsTrue (is_kind_in n o) → kind_read w ≡ Some (kind_fields w)
+some_read (Some k) n w e h = e ∙ ap Some (sym (fields_of w k e))
+some_read None n w e h = absurd (cc)
+
+pub read_of : (n : Machine) (f w : ℕ) → IsSpelling n (Kind f) w → kind_read w ≡ Some (kind_fields w)
+unfolding IsSpelling
+read_of n f w h = some_read (kind_read w) n w refl h
+
+zero_flushed : (kind_fields 0).unflushed ≡ false
+unfolding kind_fields
+zero_flushed = refl
+
+-- ---- an entry that was seen
+seen_same : (t : PageType) (i new : ℕ) (o : Option Seen) → IsTrue (is_same_as_seen t i new o) → (w : ℕ) × (o ≡ Some (record { index = i; word = w })) × (demand_at t i w ≡ demand_at t i new)
+seen_same t i new None e = absurd (cc)
+seen_same t i new (Some y) e =
+    elim (cases_eq y.index i) [
+      | inl at ↦
+          (let b : (y.index == i) ≡ true = grind (arith, nat_tests) in
+          let k = rw b at e in
+          (y.word, rw at refl, same_demand (demand_at t i y.word) (demand_at t i new) k))
+      | inr off ↦ absurd (let b : (y.index == i) ≡ false = grind (arith, nat_tests) in let k = rw b at e in cc)
+    ]
+
+seen_is : (z : Sizes) (n f : ℕ) (xs : List Made) (o : Option Seen) (i w : ℕ) → SeenIs z n f xs o → o ≡ Some (record { index = i; word = w }) → last_since z n (Cell f i) xs ≡ Some w
+seen_is z n f xs o i w k at = rw at at k
+
+-- ---- forms
+unmarked_live : (w : ℕ) (n : Machine) (f : ℕ) {m : Place → ℕ} {b : ℕ → Holdings} → Sound n m b → IsTrue (is_live (kind_at m f)) → (kind_at m f).unflushed ≡ false
+unmarked_live w n f {m} {b} sound live =
+    elim (cases_Bool (is_place (sizes_of n) (Kind f))) [
+      | inl there ↦ (let k = read_of n f (m (Kind f)) (sound.spelled.spelled (Kind f) there) in (live_form (m (Kind f)) (kind_at m f) k live).flushed)
+      | inr out ↦ (let z : m (Kind f) ≡ 0 = sound.spelled.outside (Kind f) out in rw z zero_flushed)
+    ]
+
+live_closing : (k : KindWord) → IsTrue (is_live k) → type_count k ≡ 0 → is_closing k ≡ false → ⊥
+unfolding type_count
+live_closing k live none closed = let v : k.number ≡ 0 = (let q = rw live at none in q) in let t : is_closing k ≡ true = rw (live, v) refl in cc
+
+work_not_live : (k : KindWord) → IsTrue (is_work k) → IsTrue (is_live k) → ⊥
+work_not_live k work live = let t : is_work k ≡ false = rw live refl in cc
+
+own_fixed : (w : ℕ) → fixed w ≡ Some w → IsTrue (is_fixed w)
+own_fixed w e = rw e (grind (arith, nat_tests))
+
+module _ (n : Machine) (s : ℕ) (x : Step) (m m2 : Place → ℕ) (b c : ℕ → Holdings) (real : s < (sizes_of n).vcpus) (sound : Sound n m b)
+    (others : (t : ℕ) → t ≢ s → c t ≡ b t) where
+  -- a marked frame that is spelled is not live
+  pub live_flushed : (f : ℕ) → IsTrue (is_live (kind_at m f)) → (kind_at m f).unflushed ≡ false
+  live_flushed f live = unmarked_live (m (Kind f)) n f sound live
+
+  -- ---- a table under the own lock
+  pub lock_type : (f : ℕ) (e : Lock) → lock_on f (b s).locks ≡ Some e → (kind_at m f).kind ≡ e.kind
+  lock_type f e here =
+      let k = first_each (λ y. y.frame) (λ y. HasType m y.frame (Some y.kind)) f (b s).locks e (sound.counts.kinds.locks s real) here in
+      rw (← k.1) k.0
+
+  pub lock_table : (f : ℕ) (e : Lock) → lock_on f (b s).locks ≡ Some e → is_table (kind_at m f).kind ≡ true
+  lock_table f e here =
+      let k = first_each (λ y. y.frame) (IsLockFormed n (b s)) f (b s).locks e ((sound.formed s real).locks) here in
+      rw (lock_type f e here) k.0.table
+
+  rewrote_act : (f i : ℕ) (d : Rewrote n x f i m m2 (b s) (c s)) →
+      CellAct n s x m m2 b c real sound others f i d.wrote.others (m2 (Cell f i)) (b s) d.wrote.place d.wrote.left d.hand (record { works = refl; looking = refl; steps = refl })
+  rewrote_act f i d =
+      let seen = seen_same d.e.kind i (m2 (Cell f i)) d.e.seen d.same in
+      let formed = first_each (λ y. y.frame) (IsLockFormed n (b s)) f (b s).locks d.e ((sound.formed s real).locks) d.here in
+      let found = first_each (λ y. y.frame) (LockFound (sizes_of n) m (b s)) f (b s).locks d.e ((sound.found s real).locks) d.here in
+      let noted : last_since (sizes_of n) d.e.since (Cell d.e.frame i) (b s).steps ≡ Some seen.0 = seen_is (sizes_of n) d.e.since d.e.frame _ d.e.seen i seen.0 formed.0.seen seen.1 in
+      let asks = entry_asks_same d.e.kind i (m (Cell d.e.frame i)) seen.0 (found.0 i seen.0 noted) in
+      let asks_f : demand_at d.e.kind i (m (Cell f i)) ≡ demand_at d.e.kind i seen.0 = subst (λ y. demand_at d.e.kind i (m (Cell y i)) ≡ demand_at d.e.kind i seen.0) formed.1 asks in
+      record {
+        entry = λ l. inl (rw (lock_type f d.e d.here) (sym seen.2 ∙ sym asks_f));
+        fixed = λ live desc l. absurd (desc_no_table (kind_at m f).kind desc (lock_table f d.e d.here));
+      }
+
+  pub rewrote_valid : (f i : ℕ) → Rewrote n x f i m m2 (b s) (c s) → Valid (sizes_of n) m2 c
+  rewrote_valid f i d =
+      cell_valid n s x m m2 b c real sound others f i d.wrote.others (m2 (Cell f i)) (b s) d.wrote.place d.wrote.left d.hand (record { works = refl; looking = refl; steps = refl }) (rewrote_act f i d)
+
+  pub rewrote_permitted : (f i : ℕ) → Rewrote n x f i m m2 (b s) (c s) → Permitted n m2 c
+  rewrote_permitted f i d =
+      cell_permitted n s x m m2 b c real sound others f i d.wrote.others (m2 (Cell f i)) (b s) d.wrote.place d.wrote.left d.hand (record { works = refl; looking = refl; steps = refl }) (rewrote_act f i d)
+
+  -- ---- a frame without a reference has no entries, and is not live
+  free_closed : (f : ℕ) → ref_count (m (Refs f)) ≡ 0 → is_closing (kind_at m f) ≡ false
+  free_closed f none =
+      elim (cases_Bool (is_closing (kind_at m f))) [
+        | inr off ↦ off
+        | inl on ↦ absurd (let k = closing_counted n m b f sound on (closing_busy (kind_at m f) on) in omega arith)
+      ]
+
+  free_held : (f : ℕ) → ref_count (m (Refs f)) ≡ 0 → held (sizes_of n) m b f ≡ 0
+  free_held f none =
+      let below = type_below (sizes_of n) m b f sound.counts in
+      idle_held n m b f sound (omega arith) (free_closed f none)
+
+  free_not_live : (f : ℕ) → ref_count (m (Refs f)) ≡ 0 → IsTrue (is_live (kind_at m f)) → ⊥
+  free_not_live f none live =
+      let below = type_below (sizes_of n) m b f sound.counts in
+      let closed = free_closed f none in
+      live_closing (kind_at m f) live (omega arith) closed
+
+  -- ---- a claimed frame, a descriptor page in work, or ordinary memory
+  filled_by : (f i : ℕ) (k : Option Claimed) (e : Option Work) → claim_of f (b s).claimed ≡ k → work_on f (b s).works ≡ e → AllowsPlain n f i (m2 (Cell f i)) (b s) k e →
+      (i < held (sizes_of n) m b f → ⊥) × (IsTrue (is_live (kind_at m f)) → (kind_at m f).kind ≡ kinds.Desc → IsTrue (is_fixed (m2 (Cell f i))))
+  filled_by f i (Some k) e claim work may =
+      let some = (first_some (λ y. y.frame) f (b s).claimed k claim).0 in
+      let none = dying_in_hand n m b s f sound.alone real (omega arith) in
+      (λ l. let z = free_held f none in absurd (omega arith), λ live desc. absurd (free_not_live f none live))
+  filled_by f i None (Some e) claim work may =
+      let k = works_facts n m b s f e sound real work in
+      let w : kind_at m f ≡ kind_fields e.word = ap kind_fields k.word in (
+        λ l. desc_no_table (kind_at m f).kind (rw w may.kind) (table_held (kind_at m f) _ i l),
+        λ live desc. absurd (work_not_live (kind_at m f) (rw w may.work) live),
+      )
+  filled_by f i None None claim work may =
+      let live = (sound.found s real).lives f may.kind may.live in (
+        λ l. elim may.ordinary [
+          | inl writable ↦ writable_no_table (kind_at m f).kind (live.1 ∙ writable) (table_held (kind_at m f) _ i l)
+          | inr desc ↦ desc_no_table (kind_at m f).kind (live.1 ∙ desc.0) (table_held (kind_at m f) _ i l)
+        ],
+        λ is desc. elim may.ordinary [
+          | inl writable ↦ absurd (let e : kinds.Desc ≡ kinds.Writable = sym desc ∙ live.1 ∙ writable in cc)
+          | inr fix ↦ own_fixed (m2 (Cell f i)) fix.1
+        ],
+      )
+
+  pub filled_valid : (f i : ℕ) → Filled n x f i m m2 (b s) (c s) → Valid (sizes_of n) m2 c
+  filled_valid f i d =
+      let k = filled_by f i (claim_of f (b s).claimed) (work_on f (b s).works) refl refl d.may in
+      cell_valid n s x m m2 b c real sound others f i d.wrote.others (m2 (Cell f i)) (b s) d.wrote.place d.wrote.left d.hand (record { works = refl; looking = refl; steps = refl })
+      (record { entry = λ l. absurd (k.0 l); fixed = λ live desc l. k.1 live desc })
+
+  pub filled_permitted : (f i : ℕ) → Filled n x f i m m2 (b s) (c s) → Permitted n m2 c
+  filled_permitted f i d =
+      let k = filled_by f i (claim_of f (b s).claimed) (work_on f (b s).works) refl refl d.may in
+      cell_permitted n s x m m2 b c real sound others f i d.wrote.others (m2 (Cell f i)) (b s) d.wrote.place d.wrote.left d.hand (record { works = refl; looking = refl; steps = refl })
+      (record { entry = λ l. absurd (k.0 l); fixed = λ live desc l. k.1 live desc })

@@ -1,0 +1,162 @@
+-- Stores of the guest, and bits set by a walk: what entries lead to stays.
+use Rattle.std.proofs.Common.{◌≡◌, ◌≢◌, ℕ, ◌<◌, ◌≤◌, ◌==◌, ◌&&◌, true, false, List, [], ◌∷◌, Option, Some, None, IsTrue, refl, sym, ◌∙◌, ap, subst, inl, inr, arith}
+use Rattle.std.proofs.lemmas.Bool.{cases_Bool, and_parts, or_cases}
+use Rattle.std.proofs.lemmas.Bool.Decides.{nat_tests}
+use Rattle.xp_words.specs.declared.kind.KindWord.{KindWord}
+use Rattle.xp_words.specs.declared.kind.PageType.{PageType}
+use Rattle.xp_words.specs.declared.kind.PageType.TheVariants as kinds
+use Rattle.xp_words.specs.PageTypes.{is_table}
+use Rattle.xp_words.specs.KindWords.{kind_fields}
+use Rattle.xp_words.specs.Entries.{demand_at}
+use Rattle.xp_words.specs.Machine.{Machine}
+use Rattle.xp_words.specs.Places.{Place, Kind, Cell, sizes_of, is_place}
+use Rattle.xp_board.specs.declared.step.Step.{Step}
+use Rattle.xp_board.specs.declared.step.Item.{Item}
+use Rattle.xp_board.specs.declared.holdings.Work.{Work}
+use Rattle.xp_board.specs.declared.holdings.Reached.{Reached}
+use Rattle.xp_board.specs.declared.holdings.Touching.{Touching}
+use Rattle.xp_board.specs.declared.holdings.Walk.{Walk}
+use Rattle.xp_board.specs.declared.holdings.Holdings.{Holdings}
+use Rattle.xp_board.specs.Lists.{Member, some_of}
+use Rattle.xp_board.specs.Hands.{work_on}
+use Rattle.xp_board.specs.Readings.{kind_at, is_live}
+use Rattle.xp_board.specs.WellFormed.{IsDescent, TouchesIn}
+use Rattle.xp_board.specs.Reach.{Table, Writes, Reads, Reach, cached, walked, use_of, reached_by}
+use Rattle.xp_board.specs.Recorded.{held, held_of, recorded_in, recorded_number, work_of}
+use Rattle.xp_board.specs.Valid.{Valid, Permitted}
+use Rattle.xp_board.specs.Sound.{Sound, is_busy}
+use Rattle.xp_board.proofs.KindForms.{partial_form}
+use Rattle.xp_board.proofs.EntryWords.{entry_asks_same, touched_same}
+use Rattle.xp_board.proofs.ActEffects.{GuestStored, Touched}
+use Rattle.type_rule.proofs.HandParts.{three_descended}
+use Rattle.type_rule.proofs.Held.{nobody_works, someone_works, work_of-mine}
+use Rattle.type_rule.proofs.WorkFacts.{works_facts, others_none, some_on, none_all}
+use Rattle.type_rule.proofs.KindStores.{table_held}
+use Rattle.type_rule.proofs.CellAct.{cell_valid, cell_permitted}
+use Rattle.type_rule.proofs.CellRows.{read_of, live_flushed, seven_no_table, seven_no_desc, level_no_desc}
+
+-- ---- a marked frame has no recorded entries
+work_number : (n : ℕ) (h : ℕ → Holdings) (t f : ℕ) (e : Work) → t < n → work_on f (h t).works ≡ Some e → ((u : ℕ) → u < n → u ≢ t → work_on f (h u).works ≡ None) →
+    work_of n h f ≡ Some e.recorded
+unfolding recorded_in
+work_number n h t f e b here none = work_of-mine n h t f b (λ u l off. ap recorded_number (none u l off)) ∙ ap recorded_number here
+
+none_held : (k : KindWord) (r : ℕ) → r ≡ 0 → held_of k (Some r) ≡ 0
+unfolding held_of
+none_held k r e = elim (cases_Bool (is_table k.kind)) [ inl t ↦ rw t e | inr t ↦ rw t refl ]
+
+form_held : (k : KindWord) → (k.validated ≡ false) → (k.partial ≡ true → k.progress ≡ 0) → held_of k None ≡ 0
+unfolding held_of
+form_held k v p =
+    elim (cases_Bool (is_table k.kind)) [
+      | inr t ↦ rw t refl
+      | inl t ↦ elim (cases_Bool k.partial) [ inl q ↦ rw (t, v, q) (p q) | inr q ↦ rw (t, v, q) refl ]
+    ]
+
+pub marked_none : (n : Machine) (m : Place → ℕ) (b : ℕ → Holdings) (f : ℕ) → Sound n m b → (kind_at m f).unflushed ≡ true → IsTrue (is_place (sizes_of n) (Kind f)) →
+    (kind_at m f).validated ≡ false → held (sizes_of n) m b f ≡ 0
+marked_none n m b f sound marked there dead =
+    elim (cases_Bool (is_busy (kind_at m f))) [
+      | inl busy ↦
+          (let t = someone_works n m b f sound.alone busy in
+          let e = some_on f (b t.0).works t.2 in
+          let k = works_facts n m b t.0 f e.0 sound t.1 e.1 in
+          let u : (kind_fields e.0.word).unflushed ≡ true = subst (λ y. (kind_fields y).unflushed ≡ true) k.word marked in
+          ap (λ o. held_of (kind_at m f) o) (work_number (sizes_of n).vcpus b t.0 f e.0 t.1 e.1 (others_none n m b t.0 f sound t.1 k.some))
+          ∙ none_held (kind_at m f) e.0.recorded (k.agrees.marked u))
+      | inr idle ↦
+          (let read = read_of n f (m (Kind f)) (sound.spelled.spelled (Kind f) there) in
+          ap (λ o. held_of (kind_at m f) o) (none_all (sizes_of n).vcpus b f (nobody_works n m b f sound.alone idle))
+          ∙ form_held (kind_at m f) dead (λ p. (partial_form (m (Kind f)) (kind_at m f) read dead p).marked marked))
+    ]
+
+-- ---- uses
+writes_used : Writes ≢ Reads
+writes_used e = cc
+
+table_used : (l : ℕ) → Table l ≢ Reads
+table_used l e = cc
+
+some_item : (f : ℕ) (xs : List Item) → IsTrue (some_of (λ y. (y.frame == f) && y.writable) xs) → (y : Item) × Member y xs × (y.frame ≡ f) × (y.writable ≡ true)
+unfolding some_of Member
+some_item f [] h = absurd (cc)
+some_item f (y ∷ ys) h =
+    elim (or_cases ((y.frame == f) && y.writable) _ h) [
+      | inl here ↦ (let a = and_parts (y.frame == f) y.writable here in (y, inl refl, (let k : y.frame ≡ f = grind (arith, nat_tests) in k), a.1))
+      | inr there ↦ (let r = some_item f ys there in (r.0, inr r.1, r.2, r.3))
+    ]
+
+writes_of : (y : Item) → y.writable ≡ true → use_of y ≡ Writes
+writes_of y e = rw e refl
+
+module _ (n : Machine) (s : ℕ) (x : Step) (m m2 : Place → ℕ) (b c : ℕ → Holdings) (real : s < (sizes_of n).vcpus) (sound : Sound n m b)
+    (others : (t : ℕ) → t ≢ s → c t ≡ b t) where
+  written : (f : ℕ) → Reach (sizes_of n) m (b s) f Writes → IsTrue (is_place (sizes_of n) (Kind f)) →
+      ((i : ℕ) → i < held (sizes_of n) m b f → ⊥) × (IsTrue (is_live (kind_at m f)) → (kind_at m f).kind ≡ kinds.Desc → ⊥)
+  written f reach there =
+      elim (((sound.fresh.each s real f Writes reach).bears).typed writes_used) [
+        | inl plain ↦ (λ i l. seven_no_table (kind_at m f).kind plain.1 (table_held (kind_at m f) _ i l), λ live desc. seven_no_desc (kind_at m f).kind plain.1 desc)
+        | inr marked ↦ (
+          λ i l. elim (cases_Bool (kind_at m f).validated) [
+            | inl live ↦ (let k = live_flushed n s x m m2 b c real sound others f live in let q = marked.0 in cc)
+            | inr dead ↦ absurd (let z = marked_none n m b f sound marked.0 there dead in omega arith)
+          ],
+          λ live desc. let k = live_flushed n s x m m2 b c real sound others f live in let q = marked.0 in cc,
+        )
+      ]
+
+  item_reach : (f : ℕ) → IsTrue (some_of (λ y. (y.frame == f) && y.writable) (b s).cache) → Reach (sizes_of n) m (b s) f Writes
+  item_reach f h =
+      let y = some_item f (b s).cache h in
+      subst (λ g. Reach (sizes_of n) m (b s) g Writes) y.2 (subst (λ u. Reach (sizes_of n) m (b s) y.0.frame u) (writes_of y.0 y.3) (cached y.0 y.1))
+
+  kind_there : (f i : ℕ) → IsTrue (is_place (sizes_of n) (Cell f i)) → IsTrue (is_place (sizes_of n) (Kind f))
+  unfolding is_place
+  kind_there f i h = (and_parts _ _ h).0
+
+  pub guest_valid : (f i : ℕ) → GuestStored n x f i m m2 (b s) (c s) → Valid (sizes_of n) m2 c
+  guest_valid f i d =
+      let k = written f (item_reach f d.may.item) (kind_there f i d.wrote.real) in
+      cell_valid n s x m m2 b c real sound others f i d.wrote.others (m2 (Cell f i)) (b s) d.wrote.place d.wrote.left d.hand (record { works = refl; looking = refl; steps = refl })
+      (record { entry = λ l. absurd (k.0 i l); fixed = λ live desc l. absurd (k.1 live desc) })
+
+  pub guest_permitted : (f i : ℕ) → GuestStored n x f i m m2 (b s) (c s) → Permitted n m2 c
+  guest_permitted f i d =
+      let k = written f (item_reach f d.may.item) (kind_there f i d.wrote.real) in
+      cell_permitted n s x m m2 b c real sound others f i d.wrote.others (m2 (Cell f i)) (b s) d.wrote.place d.wrote.left d.hand (record { works = refl; looking = refl; steps = refl })
+      (record { entry = λ l. absurd (k.0 i l); fixed = λ live desc l. absurd (k.1 live desc) })
+
+  -- ---- the table that the walk reached last
+  last_reached : (walk : Walk) (f i w : ℕ) (xs : List Reached) (o : Option Touching) (level : ℕ) → walk.reached ≡ xs → TouchesIn walk xs o → o ≡ Some (record { frame = f; index = i; word = w }) →
+      IsDescent level xs → level ≤ 4 → (y : Reached) × Member y walk.reached × (y.table ≡ f) × (y.level ≤ 4)
+  unfolding Member
+  last_reached walk f i w [] (Some t) level at k e down few = absurd k
+  last_reached walk f i w [] None level at k e down few = absurd (cc)
+  last_reached walk f i w (y ∷ ys) (Some t) level at k e down few =
+      let same : t.frame ≡ f = cc in
+      (y, rw at (inl refl), sym k.frame ∙ same, (let l = down.0 in omega arith))
+  last_reached walk f i w (y ∷ ys) None level at k e down few = absurd (cc)
+
+  touched_fixed : (f i : ℕ) → Touched n x f i m m2 (b s) (c s) → IsTrue (is_live (kind_at m f)) → (kind_at m f).kind ≡ kinds.Desc → ⊥
+  touched_fixed f i d live desc =
+      let formed = (sound.formed s real).cache.walk d.walk d.may.flying in
+      let y = last_reached d.walk f i (m (Cell f i)) d.walk.reached d.walk.touching formed.level refl formed.touching d.may.needed formed.descent formed.high in
+      let there : Member y.0 (reached_by (b s).walk) = subst (λ o. Member y.0 (reached_by o)) (sym d.may.flying) y.1 in
+      let reach : Reach (sizes_of n) m (b s) f (Table y.0.level) = subst (λ g. Reach (sizes_of n) m (b s) g (Table y.0.level)) y.2 (walked y.0 there) in
+      elim (((sound.fresh.each s real f (Table y.0.level) reach).bears).typed (table_used y.0.level)) [
+        | inl plain ↦ level_no_desc (kind_at m f).kind y.0.level plain.1 y.3 desc
+        | inr marked ↦ (let k = live_flushed n s x m m2 b c real sound others f live in let q = marked.0 in cc)
+      ]
+
+  touched_asks : (f i : ℕ) → Touched n x f i m m2 (b s) (c s) → (k : PageType) → demand_at k i (m2 (Cell f i)) ≡ demand_at k i (m (Cell f i))
+  touched_asks f i d k = sym (entry_asks_same k i (m (Cell f i)) (m2 (Cell f i)) (rw d.may.left (touched_same d.walk (m (Cell f i)))))
+
+  pub touched_valid : (f i : ℕ) → Touched n x f i m m2 (b s) (c s) → Valid (sizes_of n) m2 c
+  touched_valid f i d =
+      cell_valid n s x m m2 b c real sound others f i d.wrote.others (m2 (Cell f i)) _ d.wrote.place d.wrote.left d.hand (three_descended n d.walk (m2 (Cell f i)) (b s))
+      (record { entry = λ l. inl (touched_asks f i d _); fixed = λ live desc l. absurd (touched_fixed f i d live desc) })
+
+  pub touched_permitted : (f i : ℕ) → Touched n x f i m m2 (b s) (c s) → Permitted n m2 c
+  touched_permitted f i d =
+      cell_permitted n s x m m2 b c real sound others f i d.wrote.others (m2 (Cell f i)) _ d.wrote.place d.wrote.left d.hand (three_descended n d.walk (m2 (Cell f i)) (b s))
+      (record { entry = λ l. inl (touched_asks f i d _); fixed = λ live desc l. absurd (touched_fixed f i d live desc) })
