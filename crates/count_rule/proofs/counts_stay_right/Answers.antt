@@ -1,8 +1,8 @@
-use Rattle.count_rule.proofs.Outcomes.{outcome}
-use Rattle.count_rule.proofs.Parts.{counts_after}
+use Rattle.count_rule.proofs.Laws.{mark_outcome, act_outcome}
 use Rattle.count_rule.proofs.counts_stay_right.Goals as goal
 
-pub returns : goal.returns
-returns c n s x m m2 h h2 seat legal stepped sound =
-    let o = outcome n s x m m2 h h2 seat legal stepped sound in
-    counts_after n s m m2 h h2 o.like o.turn sound.counts
+pub returns-clause-marks : goal.returns-clause-marks
+returns-clause-marks c n s x m h b seat may marked sound = (mark_outcome n s x m h b seat may marked sound).counts
+
+pub returns-clause-acts : goal.returns-clause-acts
+returns-clause-acts c n s x m m2 b c2 seat may acted sound = (act_outcome n s x m m2 b c2 seat may acted sound).counts
