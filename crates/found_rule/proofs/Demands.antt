@@ -1,5 +1,5 @@
 -- What a demand that goes out of the hand, or comes in, leaves of it.
-use Rattle.std.proofs.Common.{◌≡◌, ℕ, Some, refl, ap}
+use Rattle.std.proofs.Common.{◌≡◌, ℕ, Some, refl, ap, ◌∙◌}
 use Rattle.xp_words.specs.declared.kind.PageType.{PageType}
 use Rattle.xp_words.specs.declared.entry.Demand.{Demand}
 use Rattle.xp_words.specs.declared.entry.Demand.TheVariants.{Nothing, Bad, Read, Typed}
@@ -30,7 +30,7 @@ pub record RefsMoved (a u : Holdings) : Type 0 where
   pub ran : u.ran ≡ a.ran
   pub steps : u.steps ≡ a.steps
 
-same_rest : (a u : Holdings) → u ≡ record a { refs = u.refs; typed = u.typed } → RefsMoved a u
+pub same_rest : (a u : Holdings) → u ≡ record a { refs = u.refs; typed = u.typed } → RefsMoved a u
 same_rest a u e = record {
   works = ap (λ v. v.works) e;
   locks = ap (λ v. v.locks) e;
@@ -85,3 +85,24 @@ typed_in P (Typed g t) a new h = EachOf-more P (brought_typed g (Some t) a) a.ty
 typed_in P (Read g) a new h = h
 typed_in P Nothing a new h = h
 typed_in P Bad a new h = h
+
+pub then_moved : (a u w : Holdings) → RefsMoved a u → RefsMoved u w → RefsMoved a w
+then_moved a u w h k =
+    record {
+      works = k.works ∙ h.works;
+      locks = k.locks ∙ h.locks;
+      ending = k.ending ∙ h.ending;
+      claimed = k.claimed ∙ h.claimed;
+      raised = k.raised ∙ h.raised;
+      looking = k.looking ∙ h.looking;
+      cache = k.cache ∙ h.cache;
+      walk = k.walk ∙ h.walk;
+      cold = k.cold ∙ h.cold;
+      run = k.run ∙ h.run;
+      old0 = k.old0 ∙ h.old0;
+      old1 = k.old1 ∙ h.old1;
+      turn = k.turn ∙ h.turn;
+      acked = k.acked ∙ h.acked;
+      ran = k.ran ∙ h.ran;
+      steps = k.steps ∙ h.steps;
+    }

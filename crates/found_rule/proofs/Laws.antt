@@ -23,6 +23,9 @@ use Rattle.found_rule.proofs.QuietSteps as quiet
 use Rattle.found_rule.proofs.WordSteps as words
 use Rattle.found_rule.proofs.RefSteps as refs
 use Rattle.found_rule.proofs.FreeSteps as frees
+use Rattle.found_rule.proofs.NameSteps as names
+use Rattle.found_rule.proofs.FlushSteps as flushes
+use Rattle.found_rule.proofs.HintSteps as hints
 use Rattle.found_rule.proofs.MarkSteps as turns
 use Rattle.found_rule.proofs.RecordMarks as entries
 
@@ -56,15 +59,15 @@ module _ (n : Machine) (s : ℕ) (x : Step) (m m2 : Place → ℕ) (b c : ℕ �
   act_by (effects.mapped f d) = quiet.mapped_done n s x m m2 b c l sound others f d
   act_by (effects.charged e d) = quiet.charged_done n s x m m2 b c l sound others e d
   act_by (effects.refunded e by d) = quiet.refunded_done n s x m m2 b c l sound others e by d
-  act_by (effects.named_frame v k d) = absurd (not_yet x steps.Context d.wrote.kind_is refl on)
+  act_by (effects.named_frame v k d) = names.named_done n s x m m2 b c l sound others v k d
   act_by (effects.based v d) = quiet.based_done n s x m m2 b c l sound others v d
   act_by (effects.asked v d) = quiet.asked_done n s x m m2 b c l sound others v d
-  act_by (effects.flushed d) = absurd (not_yet x steps.Ack d.wrote.kind_is refl on)
-  act_by (effects.ran d) = absurd (not_yet x steps.Run d.wrote.kind_is refl on)
+  act_by (effects.flushed d) = flushes.flushed_done n s x m m2 b c l sound others d
+  act_by (effects.ran d) = flushes.ran_step n s x m m2 b c l sound others d
   act_by (effects.ticked d) = words.ticked_done n s x m m2 b c l sound others d
   act_by (effects.doomed e d) = words.doomed_done n s x m m2 b c l sound others e d
   act_by (effects.buried e d) = words.buried_done n s x m m2 b c l sound others e d
-  act_by (effects.hinted k by d) = absurd (not_yet x steps.Hint d.wrote.kind_is refl on)
+  act_by (effects.hinted k by d) = hints.hinted_done n s x m m2 b c l sound others k by d
   act_by (effects.privileged e d) = words.privileged_done n s x m m2 b c l sound others e d
 
 pub found_at_acts : KeepsAct (λ n m h. (s : ℕ) → s < (sizes_of n).vcpus → Found n m h s)

@@ -29,4 +29,8 @@ pub mod FreeSteps
 pub mod MarkSteps
 pub mod Demands
 pub mod RecordMarks
+pub mod HintSteps
+pub mod FlushSteps
+pub mod RestLaw
+pub mod NameSteps
 pub mod Laws

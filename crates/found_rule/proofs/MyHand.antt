@@ -196,3 +196,24 @@ module _ (n : Machine) (s : ℕ) (p : Place) (m m2 : Place → ℕ) (b c : ℕ �
               (λ e there h. h (words e.frame (omega arith))) (claims_old zero);
           acked = inl (flushed, refl);
         }
+
+    -- where it moves none of these lists
+    pub hand_with : u.refs ≡ (b s).refs → u.typed ≡ (b s).typed → u.works ≡ (b s).works → u.locks ≡ (b s).locks → u.ending ≡ (b s).ending → u.claimed ≡ (b s).claimed →
+        ((f : ℕ) → m2 (Kind f) ≡ m (Kind f)) → ((f : ℕ) → m2 (Refs f) ≡ m (Refs f)) →
+        EachOf (λ e. (i : ℕ) → p ≡ Cell e.frame i → i < e.fixed → IsTrue (is_fixed (m2 p))) (b s).works → EachOf (λ e. (i : ℕ) → p ≡ Cell e.frame i → i < e.scrubbed → m2 p ≡ 0) (b s).claimed →
+        ((m2 (Vcpu s 5) ≡ m (Vcpu s 5)) × (u.acked ≡ (b s).acked)) ⊎ (suc (length (b s).steps) ≤ u.acked) → HandRight n s m m2 b c u
+    hand_with refs typed works locks ending claimed kinds words fix zero acks =
+        let z = sizes_of n in
+        record {
+          refs = subst (λ xs. EachOf (RefRight z m2 (c s).steps) xs) (sym refs) refs_old;
+          typed = subst (λ xs. EachOf (TypedRight z m2 (c s).steps) xs) (sym typed) typed_old;
+          lock_right = subst (λ xs. EachOf (LockRight z m2 (c s).steps) xs) (sym locks) lock_right_old;
+          works = subst (λ xs. EachOf (WorkFound n m2 c (c s)) xs) (sym works)
+              (EachOf-map (λ e. m2 (Kind e.frame) ≡ m (Kind e.frame) → WorkFound n m2 c (c s) e) (WorkFound n m2 c (c s)) (b s).works (λ e h. h (kinds e.frame)) (works_old fix));
+          locks = subst (λ xs. EachOf (LockFound z m2 (c s)) xs) (sym locks) locks_old;
+          endings = subst (λ xs. EachOf (EndingFound m2) xs) (sym ending)
+              (EachOf-map (λ e. m2 (Refs e.frame) ≡ m (Refs e.frame) → EndingFound m2 e) (EndingFound m2) (b s).ending (λ e h. h (words e.frame)) endings_old);
+          claims = subst (λ xs. EachOf (ClaimFound z m2 (domain_of n s) (c s)) xs) (sym claimed)
+              (EachOf-map (λ e. m2 (Refs e.frame) ≡ m (Refs e.frame) → ClaimFound z m2 (domain_of n s) (c s) e) (ClaimFound z m2 (domain_of n s) (c s)) (b s).claimed (λ e h. h (words e.frame)) (claims_old zero));
+          acked = acks;
+        }

@@ -1,8 +1,8 @@
 -- Lists of steps with one more step, and lists of a hand.
-use Rattle.std.proofs.Common.{◌≡◌, ◌≢◌, ℕ, ◌+◌, ◌<◌, ◌≤◌, ◌==◌, if◌then◌else◌, Bool, true, false, List, [], ◌∷◌, Option, Some, refl, sym, ap, subst, inl, inr, arith}
+use Rattle.std.proofs.Common.{◌≡◌, ◌≢◌, ℕ, ◌+◌, ◌<◌, ◌≤◌, ◌==◌, if◌then◌else◌, Bool, true, false, List, [], ◌∷◌, Option, Some, None, refl, sym, ap, subst, ◌∙◌, inl, inr, arith}
 use Rattle.std.proofs.lemmas.Bool.{cases_eq}
 use Rattle.std.proofs.lemmas.Bool.Decides.{nat_tests}
-use Rattle.xp_board.specs.Lists.{one_at, times_by, first_by, without_by, changed_by, kept_of, EachOf}
+use Rattle.xp_board.specs.Lists.{one_at, times_by, first_by, first_of, without_by, changed_by, kept_of, EachOf}
 
 -- ---- lists of a hand
 pub EachOf-map : {A : Type 0} (P Q : A → Type 0) (xs : List A) → ((e : A) → P e → Q e) → EachOf P xs → EachOf Q xs
@@ -195,4 +195,38 @@ EachOf-changed_first P Q key g change e (x ∷ xs) n q f o h =
       | inr off ↦
           let t : (key x == g) ≡ false = grind (arith, nat_tests) in
           rw t (o x off h.0, EachOf-changed_first P Q key g change e xs (omega arith) (rw t at q) f o h.1)
+    ]
+
+less_if : {A : Type 0} (key : A → ℕ) (g : ℕ) (x : A) (xs ys : List A) (t : Bool) → times_by key g ys ≤ times_by key g xs → times_by key g (if t then xs else (x ∷ ys)) ≤ times_by key g (x ∷ xs)
+unfolding times_by
+less_if key g x xs ys true h = omega arith
+less_if key g x xs ys false h = omega arith
+
+pub times_by-less : {A : Type 0} (key : A → ℕ) (g f : ℕ) (xs : List A) → times_by key g (without_by key f xs) ≤ times_by key g xs
+unfolding without_by
+times_by-less key g f [] = omega arith
+times_by-less key g f (x ∷ xs) = less_if key g x xs (without_by key f xs) (key x == f) (times_by-less key g f xs)
+
+-- ---- the first that passes a test
+first_of-if : {A : Type 0} (P : A → Type 0) (x y : A) (o : Option A) (t : Bool) → (t ≡ true → P x) → (o ≡ Some y → P y) → (if t then Some x else o) ≡ Some y → P y
+first_of-if P x y o true h k e = subst P (let r : Some x ≡ Some y = e in cc) (h refl)
+first_of-if P x y o false h k e = k e
+
+pub first_of-passes : {A : Type 0} (test : A → Bool) (y : A) (xs : List A) → first_of test xs ≡ Some y → test y ≡ true
+unfolding first_of
+first_of-passes test y [] e = absurd cc
+first_of-passes test y (x ∷ xs) e = first_of-if (λ z. test z ≡ true) x y (first_of test xs) (test x) (λ t. t) (λ r. first_of-passes test y xs r) e
+
+none_if : {A : Type 0} (x : A) (o : Option A) (t : Bool) → (if t then Some x else o) ≡ None → (t ≡ false) × (o ≡ None)
+none_if x o true e = absurd cc
+none_if x o false e = (refl, e)
+
+pub first_of-none : (test : ℕ → Bool) (f : ℕ) (xs : List ℕ) → first_of test xs ≡ None → test f ≡ true → times_by (λ y. y) f xs ≡ 0
+unfolding first_of times_by
+first_of-none test f [] e t = refl
+first_of-none test f (x ∷ xs) e t =
+    let k = none_if x (first_of test xs) (test x) e in
+    elim (cases_eq x f) [
+      | inl at ↦ absurd (let r : test x ≡ true = ap test at ∙ t in let q = k.0 in cc)
+      | inr off ↦ (let z : one_at f x ≡ 0 = (let o : (x == f) ≡ false = grind (arith, nat_tests) in rw o refl) in let r = first_of-none test f xs k.1 t in omega arith)
     ]
