@@ -1,110 +1,158 @@
--- The holdings of a seat stay well formed.
-use Rattle.std.proofs.Common.{◌≡◌, ℕ, ◌≤◌, true, length, Option, refl, sym, ap, subst, ◌∙◌, arith}
+-- The holdings of the seat that acts stay well formed: from those that the act leaves, before it learns of the word.
+use Rattle.std.proofs.Common.{◌≡◌, ◌≢◌, ℕ, suc, ◌≤◌, true, length, Option, Some, refl, sym, ap, subst, ◌∙◌, arith}
 use Rattle.xp_words.specs.KindWords.{kind_fields}
 use Rattle.xp_words.specs.Machine.{Machine}
 use Rattle.xp_words.specs.Places.{sizes_of, Place, Vcpu, Cell}
 use Rattle.xp_board.specs.declared.holdings.Holdings.{Holdings}
 use Rattle.xp_board.specs.Lists.{times, EachOf}
 use Rattle.xp_board.specs.Steps.{last_since}
-use Rattle.xp_board.specs.Hands.{works_on, locks_on, endings_of, claims_of}
+use Rattle.xp_board.specs.Hands.{works_on, locks_on, endings_of, claims_of, changed_work, changed_lock}
 use Rattle.xp_board.specs.After.{learned_work, learned_lock, learned_claim}
-use Rattle.xp_board.specs.WellFormed.{IsWorkFormed, IsLockFormed, IsRaisedFormed, IsLookingFormed, WellFormed}
-use Rattle.found_rule.proofs.StepLists.{EachOf-map, EachOf-both, EachOf-changed, EachOf-changes, times_by-changed, times_by-more}
-use Rattle.found_rule.proofs.Moves.{grown_longer, grown_once, grown_places, EndingsMoved, endings_stayed, ending_came, endings_each, CellsMoved, cells_stayed, cell_found, OwnMoved, own_stayed, own_found, looking_each, Moved}
+use Rattle.xp_board.specs.WellFormed.{IsWorkFormed, IsLockFormed, IsRaisedFormed, IsLookingFormed, IsCacheFormed, WellFormed}
+use Rattle.found_rule.proofs.StepLists.{EachOf-map, EachOf-both, EachOf-changed, EachOf-changes, times_by-changed}
+use Rattle.found_rule.proofs.MoreSteps.{last_since-here, last_since-elsewhere}
+use Rattle.found_rule.proofs.Growth.{Grown, added, grown_longer, grown_once, grown_places}
+use Rattle.found_rule.proofs.Learning.{CellsLearned, cells_off, cells_at, WordLearned, word_off, word_at, looking_each, Act}
 use Rattle.found_rule.proofs.FormedWorks.{FormedWork, work_stays, work_learned, lock_stays, lock_learned}
 
-module _ (n : Machine) (m m2 : Place → ℕ) (s : ℕ) (a b : Holdings) (v : Moved (sizes_of n) m m2 s a b)
-    (one_work : (f : ℕ) → works_on f a.works ≤ 1) (one_lock : (f : ℕ) → locks_on f a.locks ≤ 1)
-    (marked : EachOf (λ e. (kind_fields e.word).unflushed ≡ true → e.recorded ≡ 0) a.works) where
-  longer : length a.steps ≤ length b.steps
-  longer = grown_longer (sizes_of n) m m2 a.steps b.steps v.steps
+-- the hand that the act leaves
+pub record FormedHand (n : Machine) (s : ℕ) (b u w : Holdings) : Type 0 where
+  pub works : EachOf (IsWorkFormed n w) w.works
+  pub locks : EachOf (IsLockFormed n w) w.locks
+  pub ending : EachOf (λ e. e.since ≤ suc (length b.steps)) u.ending
+  pub claimed : EachOf (λ e. e.since ≤ suc (length b.steps)) u.claimed
+  pub raised : IsRaisedFormed u
+  pub looking : EachOf (IsLookingFormed n s) u.looking
+  pub cache : IsCacheFormed u
+  pub turn : u.turn ≤ suc (length b.steps)
+  pub acked : u.acked ≤ suc (length b.steps)
+  pub ran : u.ran ≤ suc (length b.steps)
+
+module _ (n : Machine) (s : ℕ) (p : Place) (m m2 : Place → ℕ) (b u w : Holdings) (acted : Act n s p m m2 b u w) where
+  more : Grown (sizes_of n) m m2 b.steps w.steps
+  more = added acted.made p acted.added acted.steps
+
+  longer : length b.steps ≤ length w.steps
+  unfolding more
+  longer = grown_longer (sizes_of n) m m2 b.steps w.steps more
+
+  long : length w.steps ≡ suc (length b.steps)
+  long = ap length acted.steps
+
+  here : (k : ℕ) → k ≤ length b.steps → last_since (sizes_of n) k p w.steps ≡ Some (m2 p)
+  here k l = ap (last_since (sizes_of n) k p) acted.steps ∙ last_since-here (sizes_of n) k p acted.made b.steps l acted.added.place ∙ ap Some acted.added.left
+
+  off : (k : ℕ) (q : Place) → k ≤ length b.steps → p ≢ q → last_since (sizes_of n) k q w.steps ≡ last_since (sizes_of n) k q b.steps
+  off k q l o = ap (last_since (sizes_of n) k q) acted.steps ∙ last_since-elsewhere (sizes_of n) k q acted.made b.steps l (λ y. o (sym acted.added.place ∙ y))
 
   -- ---- works and locks
-  works_by : CellsMoved (sizes_of n) m2 a b → EachOf (FormedWork n a) a.works → EachOf (IsWorkFormed n b) b.works
-  works_by (cells_stayed l w k c) h =
-      subst (λ x. EachOf (IsWorkFormed n b) x) (sym w)
-      (EachOf-map (FormedWork n a) (IsWorkFormed n b) a.works
-      (λ e t. work_stays n a b longer (grown_once (sizes_of n) m m2 a.steps b.steps v.steps) e (λ i. l e.unmarked e.frame i t.formed.past) t.formed) h)
-  works_by (cell_found f i l o w k c) h =
-      subst (λ x. EachOf (IsWorkFormed n b) x) (sym w)
-      (EachOf-changed (FormedWork n a) (IsWorkFormed n b) (λ e. e.frame) f (learned_work i (m2 (Cell f i))) a.works (one_work f)
-      (λ e at t.
-      work_learned n a b longer (grown_once (sizes_of n) m m2 a.steps b.steps v.steps) i (m2 (Cell f i)) e
-      (rw at (l e.unmarked t.formed.past)) (λ j r. o e.unmarked e.frame j t.formed.past (λ q. r (cc))) t)
+  work_off : ((f i : ℕ) → p ≢ Cell f i) → EachOf (IsWorkFormed n b) b.works → EachOf (IsWorkFormed n w) b.works
+  unfolding longer more
+  work_off o h =
+      EachOf-map (IsWorkFormed n b) (IsWorkFormed n w) b.works
+      (λ e t. work_stays n b w longer (grown_once (sizes_of n) m m2 b.steps w.steps more) e (λ i. off e.unmarked (Cell e.frame i) t.past (o e.frame i)) t) h
+
+  -- where the act wrote no cell
+  pub works_formed_old : ((f i : ℕ) → p ≢ Cell f i) → WellFormed n s b → EachOf (IsWorkFormed n w) b.works
+  works_formed_old o c = work_off o c.works
+
+  pub locks_formed_old : ((f i : ℕ) → p ≢ Cell f i) → WellFormed n s b → EachOf (IsLockFormed n w) b.locks
+  unfolding longer more
+  locks_formed_old o c =
+      EachOf-map (IsLockFormed n b) (IsLockFormed n w) b.locks
+      (λ e t. lock_stays n b w longer (grown_once (sizes_of n) m m2 b.steps w.steps more) e (λ i. off e.since (Cell e.frame i) t.past (o e.frame i)) t) c.locks
+
+  works_by : CellsLearned p (m2 p) u w → u.works ≡ b.works → ((f : ℕ) → works_on f b.works ≤ 1) → EachOf (FormedWork n b) b.works → EachOf (IsWorkFormed n w) w.works
+  unfolding longer more
+  works_by (cells_off o k l d) same one h =
+      subst (λ x. EachOf (IsWorkFormed n w) x) (sym (k ∙ same)) (work_off o (EachOf-map (FormedWork n b) (IsWorkFormed n b) b.works (λ e t. t.formed) h))
+  works_by (cells_at f i at k l d) same one h =
+      subst (λ x. EachOf (IsWorkFormed n w) x) (sym (k ∙ ap (λ xs. changed_work f (learned_work i (m2 p)) xs) same))
+      (EachOf-changed (FormedWork n b) (IsWorkFormed n w) (λ e. e.frame) f (learned_work i (m2 p)) b.works (one f)
+      (λ e is t.
+      work_learned n b w longer (grown_once (sizes_of n) m m2 b.steps w.steps more) i (m2 p) e
+      (subst (λ q. last_since (sizes_of n) e.unmarked q w.steps ≡ Some (m2 p)) (at ∙ ap (λ g. Cell g i) (sym is)) (here e.unmarked t.formed.past))
+      (λ j r. off e.unmarked (Cell e.frame j) t.formed.past (λ q. let y : Cell f i ≡ Cell e.frame j = sym at ∙ q in r (cc))) t)
       (λ e r t.
-      work_stays n a b longer (grown_once (sizes_of n) m m2 a.steps b.steps v.steps) e (λ j. o e.unmarked e.frame j t.formed.past (λ q. r (cc))) t.formed)
+      work_stays n b w longer (grown_once (sizes_of n) m m2 b.steps w.steps more) e
+      (λ j. off e.unmarked (Cell e.frame j) t.formed.past (λ q. let y : Cell f i ≡ Cell e.frame j = sym at ∙ q in r (cc))) t.formed)
       h)
 
-  locks_by : CellsMoved (sizes_of n) m2 a b → EachOf (IsLockFormed n a) a.locks → EachOf (IsLockFormed n b) b.locks
-  locks_by (cells_stayed l w k c) h =
-      subst (λ x. EachOf (IsLockFormed n b) x) (sym k)
-      (EachOf-map (IsLockFormed n a) (IsLockFormed n b) a.locks
-      (λ e t. lock_stays n a b longer (grown_once (sizes_of n) m m2 a.steps b.steps v.steps) e (λ i. l e.since e.frame i t.past) t) h)
-  locks_by (cell_found f i l o w k c) h =
-      subst (λ x. EachOf (IsLockFormed n b) x) (sym k)
-      (EachOf-changed (IsLockFormed n a) (IsLockFormed n b) (λ e. e.frame) f (learned_lock i (m2 (Cell f i))) a.locks (one_lock f)
-      (λ e at t. lock_learned n a b longer (grown_once (sizes_of n) m m2 a.steps b.steps v.steps) i (m2 (Cell f i)) e (rw at (l e.since t.past)) t)
-      (λ e r t. lock_stays n a b longer (grown_once (sizes_of n) m m2 a.steps b.steps v.steps) e (λ j. o e.since e.frame j t.past (λ q. r (cc))) t)
+  locks_by : CellsLearned p (m2 p) u w → u.locks ≡ b.locks → ((f : ℕ) → locks_on f b.locks ≤ 1) → EachOf (IsLockFormed n b) b.locks → EachOf (IsLockFormed n w) w.locks
+  unfolding longer more
+  locks_by (cells_off o k l d) same one h =
+      subst (λ x. EachOf (IsLockFormed n w) x) (sym (l ∙ same))
+      (EachOf-map (IsLockFormed n b) (IsLockFormed n w) b.locks
+      (λ e t. lock_stays n b w longer (grown_once (sizes_of n) m m2 b.steps w.steps more) e (λ i. off e.since (Cell e.frame i) t.past (o e.frame i)) t) h)
+  locks_by (cells_at f i at k l d) same one h =
+      subst (λ x. EachOf (IsLockFormed n w) x) (sym (l ∙ ap (λ xs. changed_lock f (learned_lock i (m2 p)) xs) same))
+      (EachOf-changed (IsLockFormed n b) (IsLockFormed n w) (λ e. e.frame) f (learned_lock i (m2 p)) b.locks (one f)
+      (λ e is t.
+      lock_learned n b w longer (grown_once (sizes_of n) m m2 b.steps w.steps more) i (m2 p) e
+      (subst (λ q. last_since (sizes_of n) e.since q w.steps ≡ Some (m2 p)) (at ∙ ap (λ g. Cell g i) (sym is)) (here e.since t.past)) t)
+      (λ e r t.
+      lock_stays n b w longer (grown_once (sizes_of n) m m2 b.steps w.steps more) e
+      (λ j. off e.since (Cell e.frame j) t.past (λ q. let y : Cell f i ≡ Cell e.frame j = sym at ∙ q in r (cc))) t)
       h)
 
-  -- ---- claims, endings and raised frames
-  claims_by : CellsMoved (sizes_of n) m2 a b → EachOf (λ e. e.since ≤ length a.steps) a.claimed → EachOf (λ e. e.since ≤ length b.steps) b.claimed
-  claims_by (cells_stayed l w k c) h =
-      subst (λ x. EachOf (λ e. e.since ≤ length b.steps) x) (sym c)
-      (EachOf-map (λ e. e.since ≤ length a.steps) (λ e. e.since ≤ length b.steps) a.claimed (λ e t. let q = longer in omega arith) h)
-  claims_by (cell_found f i l o w k c) h =
-      subst (λ x. EachOf (λ e. e.since ≤ length b.steps) x) (sym c)
-      (EachOf-changes (λ e. e.since ≤ length a.steps) (λ e. e.since ≤ length b.steps) (λ e. e.frame) f (learned_claim i (m2 (Cell f i))) a.claimed
-      (λ e at t. let q = longer in omega arith) (λ e t. let q = longer in omega arith) h)
+  -- where the act moved none
+  pub works_formed : u.works ≡ b.works → ((f : ℕ) → works_on f b.works ≤ 1) → EachOf (λ e. (kind_fields e.word).unflushed ≡ true → e.recorded ≡ 0) b.works → WellFormed n s b →
+      EachOf (IsWorkFormed n w) w.works
+  works_formed same one marked c =
+      works_by acted.learned.cells same one
+      (EachOf-map (λ e. IsWorkFormed n b e × ((kind_fields e.word).unflushed ≡ true → e.recorded ≡ 0)) (FormedWork n b) b.works (λ e t. record { formed = t.0; marked = t.1 })
+      (EachOf-both (IsWorkFormed n b) (λ e. (kind_fields e.word).unflushed ≡ true → e.recorded ≡ 0) b.works c.works marked))
 
-  claims_same : CellsMoved (sizes_of n) m2 a b → (g : ℕ) → claims_of g b.claimed ≡ claims_of g a.claimed
-  claims_same (cells_stayed l w k c) g = ap (λ x. claims_of g x) c
-  claims_same (cell_found f i l o w k c) g = ap (λ x. claims_of g x) c ∙ times_by-changed (λ e. e.frame) f g (learned_claim i (m2 (Cell f i))) a.claimed (λ e. refl)
+  pub locks_formed : u.locks ≡ b.locks → ((f : ℕ) → locks_on f b.locks ≤ 1) → WellFormed n s b → EachOf (IsLockFormed n w) w.locks
+  locks_formed same one c = locks_by acted.learned.cells same one c.locks
 
-  more_endings : (g : ℕ) → EndingsMoved m2 (length b.steps) a.ending b.ending → endings_of g a.ending ≤ endings_of g b.ending
-  more_endings g (endings_stayed e) = let k = ap (λ x. endings_of g x) e in omega arith
-  more_endings g (ending_came f d since l w e) =
-      let k = ap (λ x. endings_of g x) e in
-      let p = times_by-more (λ x. x.frame) g (record { frame = f; owner = d; since = since }) a.ending in
-      rw k p
+  -- ---- the others
+  pub ending_formed_old : WellFormed n s b → EachOf (λ e. e.since ≤ suc (length b.steps)) b.ending
+  ending_formed_old c = EachOf-map (λ e. e.since ≤ length b.steps) (λ e. e.since ≤ suc (length b.steps)) b.ending (λ e t. omega arith) c.ending
 
-  raised_law : IsRaisedFormed a → IsRaisedFormed b
-  raised_law c =
+  pub claimed_formed_old : WellFormed n s b → EachOf (λ e. e.since ≤ suc (length b.steps)) b.claimed
+  claimed_formed_old c = EachOf-map (λ e. e.since ≤ length b.steps) (λ e. e.since ≤ suc (length b.steps)) b.claimed (λ e t. omega arith) c.claimed
+
+  claims_by : CellsLearned p (m2 p) u w → EachOf (λ e. e.since ≤ suc (length b.steps)) u.claimed → EachOf (λ e. e.since ≤ length w.steps) w.claimed
+  claims_by (cells_off o k l d) h = rw (d, long) h
+  claims_by (cells_at f i at k l d) h =
+      rw (d, long)
+      (EachOf-changes (λ e. e.since ≤ suc (length b.steps)) (λ e. e.since ≤ suc (length b.steps)) (λ e. e.frame) f (learned_claim i (m2 p)) u.claimed (λ e is t. t) (λ e t. t) h)
+
+  claims_same : CellsLearned p (m2 p) u w → (g : ℕ) → claims_of g w.claimed ≡ claims_of g u.claimed
+  claims_same (cells_off o k l d) g = ap (λ x. claims_of g x) d
+  claims_same (cells_at f i at k l d) g = ap (λ x. claims_of g x) d ∙ times_by-changed (λ e. e.frame) f g (learned_claim i (m2 p)) u.claimed (λ e. refl)
+
+  own_by : (q : Place) (x y z : Option ℕ) → y ≡ x → WordLearned p q (m2 p) y z → x ≡ last_since (sizes_of n) 0 q b.steps → z ≡ last_since (sizes_of n) 0 q w.steps
+  own_by q x y z e (word_off o k) h = k ∙ e ∙ h ∙ sym (off 0 q (omega arith) o)
+  own_by q x y z e (word_at o k) h = k ∙ sym (here 0 (omega arith)) ∙ ap (λ v. last_since (sizes_of n) 0 v w.steps) o
+
+  pub formed_by : FormedHand n s b u w → WellFormed n s b → WellFormed n s w
+  unfolding more
+  formed_by h c =
+      let k = acted.learned in
       record {
-        held = λ g.
-            let k = ap (λ x. times g x) v.raised in
-            let e = more_endings g v.ending in
-            let l = claims_same v.cells g in
-            let o = c.held g in
-            omega arith;
-      }
-
-  -- ---- the own words
-  own_by : (p : Place) (x y : Option ℕ) → OwnMoved (sizes_of n) m2 p a b x y → x ≡ last_since (sizes_of n) 0 p a.steps → y ≡ last_since (sizes_of n) 0 p b.steps
-  own_by p x y (own_stayed e l) h = e ∙ h ∙ sym l
-  own_by p x y (own_found e l) h = e ∙ sym l
-
-  pub formed_law : WellFormed n s a → WellFormed n s b
-  formed_law c =
-      let q = longer in
-      record {
-        works = works_by v.cells
-            (EachOf-map (λ e. IsWorkFormed n a e × ((kind_fields e.word).unflushed ≡ true → e.recorded ≡ 0)) (FormedWork n a) a.works (λ e t. record { formed = t.0; marked = t.1 })
-            (EachOf-both (IsWorkFormed n a) (λ e. (kind_fields e.word).unflushed ≡ true → e.recorded ≡ 0) a.works c.works marked));
-        locks = locks_by v.cells c.locks;
-        ending = endings_each m2 (length b.steps) a.ending b.ending (λ e. e.since ≤ length b.steps) v.ending (λ f d since l w. l)
-            (EachOf-map (λ e. e.since ≤ length a.steps) (λ e. e.since ≤ length b.steps) a.ending (λ e t. omega arith) c.ending);
-        claimed = claims_by v.cells c.claimed;
-        raised = raised_law c.raised;
-        looking = looking_each a.looking b.looking (IsLookingFormed n s) v.looking c.looking;
-        cache = record { few = rw (v.cache) c.cache.few; walk = λ w t. c.cache.walk w (sym v.walk ∙ t) };
-        own = record {
-          run = own_by (Vcpu s 6) a.run b.run v.run c.own.run;
-          old0 = own_by (Vcpu s 2) a.old0 b.old0 v.old0 c.own.old0;
-          old1 = own_by (Vcpu s 3) a.old1 b.old1 v.old1 c.own.old1;
+        works = h.works;
+        locks = h.locks;
+        ending = rw (k.ending, long) h.ending;
+        claimed = claims_by k.cells h.claimed;
+        raised = record {
+          held = λ g.
+              let r = h.raised.held g in
+              let x = ap (λ l. times g l) k.raised in
+              let y = ap (λ l. endings_of g l) k.ending in
+              let z = claims_same k.cells g in
+              omega arith;
         };
-        places = grown_places (sizes_of n) m m2 a.steps b.steps v.steps c.places;
-        turn = v.turn c.turn;
-        acked = (let k = v.acked in let r = c.acked in omega arith);
-        ran = (let k = v.ran in let r = c.ran in omega arith);
+        looking = looking_each u.looking w.looking (IsLookingFormed n s) k.looking h.looking;
+        cache = record { few = rw (k.cache) h.cache.few; walk = λ y t. h.cache.walk y (sym k.walk ∙ t) };
+        own = record {
+          run = own_by (Vcpu s 6) b.run u.run w.run acted.run k.run c.own.run;
+          old0 = own_by (Vcpu s 2) b.old0 u.old0 w.old0 acted.old0 k.old0 c.own.old0;
+          old1 = own_by (Vcpu s 3) b.old1 u.old1 w.old1 acted.old1 k.old1 c.own.old1;
+        };
+        places = grown_places (sizes_of n) m m2 b.steps w.steps more c.places;
+        turn = let r = h.turn in let e = k.turn in let o = long in omega arith;
+        acked = let r = h.acked in let e = k.acked in let o = long in omega arith;
+        ran = let r = h.ran in let e = k.ran in let o = long in omega arith;
       }

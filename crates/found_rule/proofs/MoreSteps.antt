@@ -1,6 +1,6 @@
 -- Facts over a list of steps, with one step more.
 use Rattle.std.proofs.Common.{◌≡◌, ◌≢◌, ℕ, ◌≤◌, ◌&&◌, nat_le, if◌then◌else◌, Bool, true, false, List, [], ◌∷◌, length, Option, Some, None, IsTrue, refl, ◌⊎◌, inl, inr, arith}
-use Rattle.std.proofs.lemmas.Bool.{or_cases, or_right, and_parts}
+use Rattle.std.proofs.lemmas.Bool.{or_cases, or_right, and_parts, and_from}
 use Rattle.std.proofs.lemmas.Bool.Decides.{nat_tests}
 use Rattle.xp_words.specs.Places.{Sizes, Place, place_at}
 use Rattle.xp_board.specs.declared.holdings.Made.{Made}
@@ -97,4 +97,18 @@ steps_before-cases z p test x xs =
     elim (first_if (is_at z p x && test (left_of x)) xs (steps_before z p test xs)) [
       | inl e ↦ (let b = and_parts (is_at z p x) (test (left_of x)) e in inl (same_place (place_at z x.step.place) p b.0, b.1))
       | inr e ↦ inr e
+    ]
+
+-- ---- one that passes, of which all have something
+pub EachSince-some : (z : Sizes) (n : ℕ) (p : Place) (P : ℕ → Type 0) (test : ℕ → Bool) (xs : List Made) → EachSince z n p P xs → IsTrue (some_since z n p test xs) →
+    (w : ℕ) × P w × IsTrue (test w)
+unfolding EachStep some_step
+EachSince-some z n p P test [] h t = absurd cc
+EachSince-some z n p P test (x ∷ xs) h t =
+    elim (or_cases (nat_le n (length xs) && (is_at z p x && test (left_of x))) (some_since z n p test xs) t) [
+      | inl new ↦
+          let a = and_parts (nat_le n (length xs)) (is_at z p x && test (left_of x)) new in
+          let b = and_parts (is_at z p x) (test (left_of x)) a.1 in
+          (left_of x, (h.0 (and_from (nat_le n (length xs)) (is_at z p x) a.0 b.0)).1, b.1)
+      | inr old ↦ EachSince-some z n p P test xs h.1 old
     ]

@@ -4,7 +4,7 @@ use Rattle.xp_words.specs.declared.refs.RefWord.{RefWord}
 use Rattle.xp_words.specs.declared.refs.RefWord.TheVariants.{Free, Owned, Dying}
 use Rattle.xp_words.specs.RefWords.{bit, IsRef, ref_read, ref_write}
 use Rattle.xp_words.proofs.RefLaws.{ref_read-write, ref_write-read}
-use Rattle.xp_board.specs.Readings.{ref_count, allocated_mark, owner_of, free_stamp}
+use Rattle.xp_board.specs.Readings.{is_dying, ref_count, allocated_mark, owner_of, free_stamp}
 use Rattle.xp_board.specs.RefSteps.{one_down, owner_number}
 
 bit_small : (a : Bool) → bit a < 2
@@ -22,21 +22,15 @@ pub owned_word : (w o : ℕ) (a : Bool) (c : ℕ) → ref_read w ≡ Some (Owned
 unfolding owner_of free_stamp ref_count allocated_mark
 owned_word w o a c e = record { owner = rw e refl; stamp = rw e refl; count = rw e refl; mark = rw e refl }
 
-pub not_dying : (w o : ℕ) (a : Bool) (c d : ℕ) → w < 2 ^ 64 → ref_read w ≡ Some (Owned o a c) → w ≡ ref_write (Dying d) → ⊥
-unfolding IsRef ref_write
-not_dying w o a c d b e k =
-    let r = ref_write-read w (Owned o a c) b e in
-    let q = bit_small a in
-    let x = (r.0).1 in
-    let y = (r.0).2 in
-    let v = r.1 in
-    omega arith
+pub owned_alive : (w o : ℕ) (a : Bool) (c : ℕ) → ref_read w ≡ Some (Owned o a c) → is_dying w ≡ false
+unfolding is_dying
+owned_alive w o a c e = rw e refl
 
 -- one less
 pub record LoweredWord (w v : ℕ) : Type 0 where
   pub owner : owner_of v ≡ owner_of w
   pub stamp : free_stamp v ≡ 0
-  pub live : (d : ℕ) → w ≡ ref_write (Dying d) → ⊥
+  pub alive : is_dying w ≡ false
   pub last : ref_count w ≡ 1 → v ≡ ref_write (Dying (owner_number (owner_of w)))
 
 one_less : (w : ℕ) → w < 2 ^ 64 → 0 < w → (w + one_down) % 2 ^ 64 ≡ w - 1
@@ -64,7 +58,7 @@ lowered_more w o c a b e =
     record {
       owner = now.owner ∙ sym was.owner;
       stamp = now.stamp;
-      live = λ d k. not_dying w o a (suc (suc c)) d b e k;
+      alive = owned_alive w o a (suc (suc c)) e;
       last = λ k. absurd (let q = was.count in omega arith);
     }
 
@@ -79,7 +73,7 @@ lowered_last w o b e =
     record {
       owner = now.0 ∙ sym was.owner;
       stamp = now.1;
-      live = λ d k. not_dying w o false 1 d b e k;
+      alive = owned_alive w o false 1 e;
       last = λ k. n ∙ ap (λ y. ref_write (Dying (owner_number y))) (sym was.owner);
     }
 

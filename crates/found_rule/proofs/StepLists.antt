@@ -1,8 +1,8 @@
 -- Lists of steps with one more step, and lists of a hand.
-use Rattle.std.proofs.Common.{◌≡◌, ◌≢◌, ℕ, ◌≤◌, ◌==◌, if◌then◌else◌, Bool, true, false, List, [], ◌∷◌, refl, ap, inl, inr, arith}
+use Rattle.std.proofs.Common.{◌≡◌, ◌≢◌, ℕ, ◌+◌, ◌<◌, ◌≤◌, ◌==◌, if◌then◌else◌, Bool, true, false, List, [], ◌∷◌, Option, Some, None, refl, sym, ap, subst, ◌∙◌, inl, inr, arith}
 use Rattle.std.proofs.lemmas.Bool.{cases_eq}
 use Rattle.std.proofs.lemmas.Bool.Decides.{nat_tests}
-use Rattle.xp_board.specs.Lists.{one_at, times_by, without_by, changed_by, kept_of, EachOf}
+use Rattle.xp_board.specs.Lists.{one_at, times_by, first_by, first_of, without_by, changed_by, kept_of, EachOf}
 
 -- ---- lists of a hand
 pub EachOf-map : {A : Type 0} (P Q : A → Type 0) (xs : List A) → ((e : A) → P e → Q e) → EachOf P xs → EachOf Q xs
@@ -93,3 +93,140 @@ times_by-changed key g f change (x ∷ xs) k = times_if key g f change x xs (key
 pub times_by-more : {A : Type 0} (key : A → ℕ) (f : ℕ) (x : A) (xs : List A) → times_by key f xs ≤ times_by key f (x ∷ xs)
 unfolding times_by
 times_by-more key f x xs = omega arith
+
+-- ---- the elements with a number
+-- what is shown of an element may use that its number stands in the list
+EachOf-within : {A : Type 0} (P Q : A → Type 0) (key : A → ℕ) (all xs : List A) → ((g : ℕ) → times_by key g xs ≤ times_by key g all) →
+    ((e : A) → 0 < times_by key (key e) all → P e → Q e) → EachOf P xs → EachOf Q xs
+unfolding EachOf times_by
+EachOf-within P Q key all [] l f h = tt
+EachOf-within P Q key all (x ∷ xs) l f h = (
+  f x (let k = l (key x) in let o : one_at (key x) (key x) ≡ 1 = grind (arith, nat_tests) in omega arith) h.0,
+  EachOf-within P Q key all xs (λ g. let k = l g in omega arith) f h.1,
+)
+
+pub EachOf-there : {A : Type 0} (P Q : A → Type 0) (key : A → ℕ) (xs : List A) → ((e : A) → 0 < times_by key (key e) xs → P e → Q e) → EachOf P xs → EachOf Q xs
+EachOf-there P Q key xs f h = EachOf-within P Q key xs xs (λ g. omega arith) f h
+
+-- without the one element that has that number
+pub EachOf-others : {A : Type 0} (P Q : A → Type 0) (key : A → ℕ) (g : ℕ) (xs : List A) → times_by key g xs ≤ 1 → ((e : A) → key e ≢ g → P e → Q e) →
+    EachOf P xs → EachOf Q (without_by key g xs)
+unfolding EachOf times_by without_by
+EachOf-others P Q key g [] n f h = tt
+EachOf-others P Q key g (x ∷ xs) n f h =
+    elim (cases_eq (key x) g) [
+      | inl at ↦
+          let t : (key x == g) ≡ true = grind (arith, nat_tests) in
+          let k : one_at g (key x) ≡ 1 = rw t in
+          rw t (EachOf-absent P Q key g xs (omega arith) f h.1)
+      | inr off ↦
+          let t : (key x == g) ≡ false = grind (arith, nat_tests) in
+          rw t (f x off h.0, EachOf-others P Q key g xs (omega arith) f h.1)
+    ]
+
+-- the newest element with that number
+first_if : {A : Type 0} (P : A → Type 0) (x e : A) (o : Option A) (b : Bool) → P x → (if b then Some x else o) ≡ Some e → (o ≡ Some e → P e) → P e
+first_if P x e o true h q f = subst P (let k : Some x ≡ Some e = q in cc) h
+first_if P x e o false h q f = f q
+
+pub first_by-each : {A : Type 0} (P : A → Type 0) (key : A → ℕ) (g : ℕ) (e : A) (xs : List A) → EachOf P xs → first_by key g xs ≡ Some e → P e
+unfolding EachOf first_by
+first_by-each P key g e [] h q = absurd cc
+first_by-each P key g e (x ∷ xs) h q = first_if P x e (first_by key g xs) (key x == g) h.0 q (λ r. first_by-each P key g e xs h.1 r)
+
+pub first_by-key : {A : Type 0} (key : A → ℕ) (g : ℕ) (e : A) (xs : List A) → first_by key g xs ≡ Some e → key e ≡ g
+unfolding first_by
+first_by-key key g e [] q = absurd cc
+first_by-key key g e (x ∷ xs) q =
+    elim (cases_eq (key x) g) [
+      | inl at ↦ (let t : (key x == g) ≡ true = grind (arith, nat_tests) in let k : Some x ≡ Some e = rw t at q in let r : x ≡ e = cc in rw (← r) at)
+      | inr off ↦ (let t : (key x == g) ≡ false = grind (arith, nat_tests) in first_by-key key g e xs (rw t at q))
+    ]
+
+pub first_by-some : {A : Type 0} (key : A → ℕ) (g : ℕ) (e : A) (xs : List A) → first_by key g xs ≡ Some e → 0 < times_by key g xs
+unfolding first_by times_by
+first_by-some key g e [] q = absurd cc
+first_by-some key g e (x ∷ xs) q =
+    elim (cases_eq (key x) g) [
+      | inl at ↦ (let k : one_at g (key x) ≡ 1 = grind (arith, nat_tests) in omega arith)
+      | inr off ↦ (let t : (key x == g) ≡ false = grind (arith, nat_tests) in let r = first_by-some key g e xs (rw t at q) in omega arith)
+    ]
+
+-- ---- how many there are without one
+pub times_by-without : {A : Type 0} (key : A → ℕ) (g f : ℕ) (xs : List A) → 0 < times_by key f xs →
+    times_by key g (without_by key f xs) + one_at g f ≡ times_by key g xs
+unfolding times_by without_by
+times_by-without key g f [] b = absurd (omega arith)
+times_by-without key g f (x ∷ xs) b =
+    elim (cases_eq (key x) f) [
+      | inl at ↦ (let t : (key x == f) ≡ true = grind (arith, nat_tests) in rw t (let k : one_at g (key x) ≡ one_at g f = ap (one_at g) at in omega arith))
+      | inr off ↦
+          let t : (key x == f) ≡ false = grind (arith, nat_tests) in
+          let inside : 0 < times_by key f xs = (let n : 0 < 0 + times_by key f xs = rw t at b in omega arith) in
+          let rest = times_by-without key g f xs inside in
+          rw t (omega arith)
+    ]
+
+pub times_by-off : {A : Type 0} (key : A → ℕ) (g f : ℕ) (xs : List A) → g ≢ f → times_by key g (without_by key f xs) ≡ times_by key g xs
+unfolding times_by without_by
+times_by-off key g f [] n = refl
+times_by-off key g f (x ∷ xs) n =
+    elim (cases_eq (key x) f) [
+      | inl at ↦
+          (let t : (key x == f) ≡ true = grind (arith, nat_tests) in
+          let k : one_at g (key x) ≡ 0 = (let o : (key x == g) ≡ false = grind (arith, nat_tests) in rw o refl) in
+          rw t (omega arith))
+      | inr off ↦ (let t : (key x == f) ≡ false = grind (arith, nat_tests) in let r = times_by-off key g f xs n in rw t (omega arith))
+    ]
+
+-- the one element with that number is changed, and it is that which was found first
+pub EachOf-changed_first : {A : Type 0} (P Q : A → Type 0) (key : A → ℕ) (g : ℕ) (change : A → A) (e : A) (xs : List A) → times_by key g xs ≤ 1 → first_by key g xs ≡ Some e →
+    (P e → Q (change e)) → ((x : A) → key x ≢ g → P x → Q x) → EachOf P xs → EachOf Q (changed_by key g change xs)
+unfolding EachOf times_by first_by changed_by
+EachOf-changed_first P Q key g change e [] n q f o h = tt
+EachOf-changed_first P Q key g change e (x ∷ xs) n q f o h =
+    elim (cases_eq (key x) g) [
+      | inl at ↦
+          let t : (key x == g) ≡ true = grind (arith, nat_tests) in
+          let k : one_at g (key x) ≡ 1 = rw t in
+          let r : Some x ≡ Some e = rw t at q in
+          let i : e ≡ x = cc in
+          rw t (subst (λ y. Q (change y)) i (f (subst P (sym i) h.0)), EachOf-absent P Q key g xs (omega arith) o h.1)
+      | inr off ↦
+          let t : (key x == g) ≡ false = grind (arith, nat_tests) in
+          rw t (o x off h.0, EachOf-changed_first P Q key g change e xs (omega arith) (rw t at q) f o h.1)
+    ]
+
+less_if : {A : Type 0} (key : A → ℕ) (g : ℕ) (x : A) (xs ys : List A) (t : Bool) → times_by key g ys ≤ times_by key g xs → times_by key g (if t then xs else (x ∷ ys)) ≤ times_by key g (x ∷ xs)
+unfolding times_by
+less_if key g x xs ys true h = omega arith
+less_if key g x xs ys false h = omega arith
+
+pub times_by-less : {A : Type 0} (key : A → ℕ) (g f : ℕ) (xs : List A) → times_by key g (without_by key f xs) ≤ times_by key g xs
+unfolding without_by
+times_by-less key g f [] = omega arith
+times_by-less key g f (x ∷ xs) = less_if key g x xs (without_by key f xs) (key x == f) (times_by-less key g f xs)
+
+-- ---- the first that passes a test
+first_of-if : {A : Type 0} (P : A → Type 0) (x y : A) (o : Option A) (t : Bool) → (t ≡ true → P x) → (o ≡ Some y → P y) → (if t then Some x else o) ≡ Some y → P y
+first_of-if P x y o true h k e = subst P (let r : Some x ≡ Some y = e in cc) (h refl)
+first_of-if P x y o false h k e = k e
+
+pub first_of-passes : {A : Type 0} (test : A → Bool) (y : A) (xs : List A) → first_of test xs ≡ Some y → test y ≡ true
+unfolding first_of
+first_of-passes test y [] e = absurd cc
+first_of-passes test y (x ∷ xs) e = first_of-if (λ z. test z ≡ true) x y (first_of test xs) (test x) (λ t. t) (λ r. first_of-passes test y xs r) e
+
+none_if : {A : Type 0} (x : A) (o : Option A) (t : Bool) → (if t then Some x else o) ≡ None → (t ≡ false) × (o ≡ None)
+none_if x o true e = absurd cc
+none_if x o false e = (refl, e)
+
+pub first_of-none : (test : ℕ → Bool) (f : ℕ) (xs : List ℕ) → first_of test xs ≡ None → test f ≡ true → times_by (λ y. y) f xs ≡ 0
+unfolding first_of times_by
+first_of-none test f [] e t = refl
+first_of-none test f (x ∷ xs) e t =
+    let k = none_if x (first_of test xs) (test x) e in
+    elim (cases_eq x f) [
+      | inl at ↦ absurd (let r : test x ≡ true = ap test at ∙ t in let q = k.0 in cc)
+      | inr off ↦ (let z : one_at f x ≡ 0 = (let o : (x == f) ≡ false = grind (arith, nat_tests) in rw o refl) in let r = first_of-none test f xs k.1 t in omega arith)
+    ]

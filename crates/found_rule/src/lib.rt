@@ -1,20 +1,22 @@
-//! Each step that is legal today, of any seat, keeps true what all seats have found, and keeps their holdings well formed. These
-//! functions do nothing: their contracts are laws.
+//! Each step that is legal today, of any seat, keeps true what all seats have found, and keeps their holdings well formed: its mark
+//! does, and its act does. These functions do nothing: their contracts are laws.
 #![tactic(auto)]
 
 ghost use Rattle.std.specs.Prelude.{ℕ, ◌<◌};
 ghost use Rattle.xp_words.specs.Places.{sizes_of};
+ghost use Rattle.xp_board.specs.Keeping.{KeepsMark, KeepsAct};
 ghost use Rattle.xp_board.specs.Found.{Found};
 ghost use Rattle.xp_board.specs.WellFormed.{WellFormed};
-ghost use Rattle.found_rule.specs.Keeping.{Keeps};
 
 /// What a seat has found, and on which the legality of its next steps rests, is so still: clock values and stamps, flushes, run, life
 /// and privilege words, owners and types of frames of which it has references, and the words of frames that are in its hand alone.
 pub fn what_was_found_stays_true()
-    ensures { Keeps (λ n m h. (s : ℕ) → s < (sizes_of n).vcpus → Found n m h s) }
+    ensures marks { KeepsMark (λ n m h. (s : ℕ) → s < (sizes_of n).vcpus → Found n m h s) }
+    ensures acts { KeepsAct (λ n m h. (s : ℕ) → s < (sizes_of n).vcpus → Found n m h s) }
 {}
 
 /// The parts of a seat's holdings fit one another, and what is noted in them is what its steps found last.
 pub fn holdings_stay_well_formed()
-    ensures { Keeps (λ n m h. (s : ℕ) → s < (sizes_of n).vcpus → WellFormed n s (h s)) }
+    ensures marks { KeepsMark (λ n m h. (s : ℕ) → s < (sizes_of n).vcpus → WellFormed n s (h s)) }
+    ensures acts { KeepsAct (λ n m h. (s : ℕ) → s < (sizes_of n).vcpus → WellFormed n s (h s)) }
 {}

@@ -1,5 +1,5 @@
-use Rattle.found_rule.proofs.StepLaw.{all_formed}
+use Rattle.found_rule.proofs.Laws.{formed_at_marks, formed_at_acts}
 use Rattle.found_rule.proofs.holdings_stay_well_formed.Goals as goal
 
 pub returns : goal.returns
-returns c = all_formed
+returns c = record { marks = formed_at_marks; acts = formed_at_acts }

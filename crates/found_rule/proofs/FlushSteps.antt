@@ -1,0 +1,288 @@
+-- The own translations are flushed; the own vCPU stops, leaves its processor or comes to it.
+use Rattle.std.proofs.Common.{◌≡◌, ◌≢◌, ℕ, suc, ◌+◌, ◌<◌, ◌≤◌, ◌==◌, nat_lt, if◌then◌else◌, Bool, true, false, List, [], ◌∷◌, length, Option, Some, None, IsTrue, refl, sym, ap, subst, ◌∙◌, ◌⊎◌, inl, inr, arith}
+use Rattle.std.proofs.lemmas.Bool.{cases_eq, cases_Bool, eqb-true, ltb-true}
+use Rattle.std.proofs.lemmas.Bool.Decides.{nat_tests}
+use Rattle.xp_words.specs.Machine.{Machine}
+use Rattle.xp_words.specs.Places.{Sizes, sizes_of, Place, Clock, Vcpu, Refs, Kind, Cell, place_at}
+use Rattle.xp_board.specs.declared.step.Step.{Step}
+use Rattle.xp_board.specs.declared.holdings.Made.{Made}
+use Rattle.xp_board.specs.declared.holdings.Walk.{Walk}
+use Rattle.xp_board.specs.declared.holdings.Holdings.{Holdings}
+use Rattle.xp_board.specs.Lists.{EachOf, Member}
+use Rattle.xp_board.specs.Steps.{left_of, EachSince, some_since}
+use Rattle.xp_board.specs.Readings.{told_value}
+use Rattle.xp_board.specs.Reach.{Use, Reach, cached, walked, entry, reached_by}
+use Rattle.xp_board.specs.Found.{ClockFound, before_off, FlushedSinceOff, ColdSinceOff}
+use Rattle.xp_board.specs.AckSteps.{after_ack}
+use Rattle.xp_board.specs.RunSteps.{AllowsRun, ran_now}
+use Rattle.xp_board.specs.After.{noted, learned, learned_own}
+use Rattle.xp_board.specs.WellFormed.{WellFormed}
+use Rattle.xp_board.specs.Sound.{Sound}
+use Rattle.xp_board.proofs.ActEffects.{Wrote, Flushed, Ran}
+use Rattle.found_rule.proofs.StepLists.{EachOf-map, EachOf-all, EachOf-both}
+use Rattle.found_rule.proofs.MoreSteps.{EachSince-some}
+use Rattle.found_rule.proofs.Learning.{Act, act}
+use Rattle.found_rule.proofs.ReachSame.{reach_same}
+use Rattle.found_rule.proofs.Words.{Words}
+use Rattle.found_rule.proofs.WordFacts.{told_some, off_same, cold_same, EachSince-none}
+use Rattle.found_rule.proofs.WordsOf.{words_lone, lone_vcpu}
+use Rattle.found_rule.proofs.HandFacts.{ReachKept}
+use Rattle.found_rule.proofs.FoundLaw.{Offs}
+use Rattle.found_rule.proofs.MyHand.{HandRight, hand_with, mine_by}
+use Rattle.found_rule.proofs.Outcome.{Outcome, part_same, all_grown}
+use Rattle.found_rule.proofs.FormedLaw.{FormedHand, formed_by, ending_formed_old, claimed_formed_old}
+use Rattle.found_rule.proofs.Quiet.{Done, fix_kept, zero_kept, works_form, locks_form}
+
+if_same : (t : Bool) (u : Holdings) → (if t then u else u) ≡ u
+if_same true u = refl
+if_same false u = refl
+
+if_mine : (s : ℕ) (u v : Holdings) → (if s == s then u else v) ≡ u
+if_mine s u v = let t : (s == s) ≡ true = grind (arith, nat_tests) in rw t refl
+
+-- nothing is reached without a translation
+member_none : {A : Type 0} (x : A) → Member x [] → ⊥
+unfolding Member
+member_none x h = h
+
+reach_none : (z : Sizes) (m : Place → ℕ) (u : Holdings) → u.cache ≡ [] → u.walk ≡ None → {g : ℕ} {p : Use} → Reach z m u g p → ⊥
+reach_none z m u cache walk (cached x c) = member_none x (subst (λ l. Member x l) cache c)
+reach_none z m u cache walk (walked x c) = member_none x (subst (λ o. Member x (reached_by o)) walk c)
+reach_none z m u cache walk (entry f level i r w p b) = reach_none z m u cache walk r
+
+module _ (n : Machine) (s : ℕ) (x : Step) (m m2 : Place → ℕ) (b c : ℕ → Holdings) (l : s < (sizes_of n).vcpus) (sound : Sound n m b) (others : (t : ℕ) → t ≢ s → c t ≡ b t) where
+  -- ---- an act on a word of the own vCPU, which may drop its translations
+  module _ (k : ℕ) (u : Holdings) (acted : Act n s (Vcpu s k) m m2 (b s) u (c s)) where
+    cells : (f i : ℕ) → m2 (Cell f i) ≡ m (Cell f i)
+    cells f i = acted.others (Cell f i) (λ e. cc)
+
+    less_reach : ((u.cache ≡ []) × (u.walk ≡ None)) ⊎ ((u.cache ≡ (b s).cache) × (u.walk ≡ (b s).walk)) → ReachKept n m m2 b c
+    unfolding cells
+    less_reach how v f p r busy marked past =
+        elim (cases_eq v s) [
+          | inr off ↦ inl (reach_same (sizes_of n) m m2 (b v) (c v) cells (ap (λ y. y.cache) (others v off)) (ap (λ y. y.walk) (others v off)) past)
+          | inl at ↦
+              (let mine = subst (λ y. Reach (sizes_of n) m2 (c y) f p) at past in
+              elim how [
+                | inl none ↦ absurd (reach_none (sizes_of n) m2 (c s) (acted.learned.cache ∙ none.0) (acted.learned.walk ∙ none.1) mine)
+                | inr same ↦
+                    inl
+                    (subst (λ y. Reach (sizes_of n) m (b y) f p) (sym at)
+                    (reach_same (sizes_of n) m m2 (b s) (c s) cells (acted.learned.cache ∙ same.0) (acted.learned.walk ∙ same.1) mine))
+              ])
+        ]
+
+    vcpu_hand : u.refs ≡ (b s).refs → u.typed ≡ (b s).typed → u.works ≡ (b s).works → u.locks ≡ (b s).locks → u.ending ≡ (b s).ending → u.claimed ≡ (b s).claimed →
+        Words n s m m2 b → ReachKept n m m2 b c → ((m2 (Vcpu s 5) ≡ m (Vcpu s 5)) × (u.acked ≡ (b s).acked)) ⊎ (suc (length (b s).steps) ≤ u.acked) → HandRight n s m m2 b c u
+    unfolding cells
+    vcpu_hand refs typed works locks ending claimed words reach acks =
+        hand_with n s (Vcpu s k) m m2 b c u acted l sound words reach refs typed works locks ending claimed (λ f. acted.others (Kind f) (λ e. cc)) (λ f. acted.others (Refs f) (λ e. cc))
+        (fix_kept n s (Vcpu s k) m m2 b c u acted l sound cells) (zero_kept n s (Vcpu s k) m m2 b c u acted l sound cells) acks
+
+    -- the vCPUs of other seats
+    other_off : (v : ℕ) → v ≢ s → (w : Holdings) → FlushedSinceOff (sizes_of n) m b v w → FlushedSinceOff (sizes_of n) m2 c v w
+    other_off v off w h =
+        off_same n m m2 b c v (acted.others (Vcpu v 6) (λ e. off (cc))) (ap (λ y. y.cold) (others v off)) w (acted.others (Vcpu v 5) (λ e. off (cc))) h
+
+    other_cold : (v : ℕ) → v ≢ s → (w : Holdings) → ClockFound (sizes_of n) m w → ColdSinceOff (sizes_of n) m b v w → ColdSinceOff (sizes_of n) m2 c v w
+    other_cold v off w found h =
+        cold_same n m m2 b c v (acted.others (Vcpu v 6) (λ e. off (cc))) (ap (λ y. y.cold) (others v off)) w (let e = acted.others Clock (λ e. cc) in omega arith)
+        (ap (λ y. y.ran) (others v off)) (all_grown n s (Vcpu s k) m m2 b c u acted others v) found h
+
+  -- ---- flushed
+  warm_off : m (Vcpu s 5) ≤ m2 (Vcpu s 5) → m (Vcpu s 6) ≡ 0 → (b s).cold ≡ false → (y : ℕ) → (m (Vcpu s 6) ≢ 0) ⊎ (((b s).cold ≡ true) ⊎ (y < m (Vcpu s 5))) →
+      (m2 (Vcpu s 6) ≢ 0) ⊎ (((c s).cold ≡ true) ⊎ (y < m2 (Vcpu s 5)))
+  warm_off later runs warm y (inl idle) = absurd (idle runs)
+  warm_off later runs warm y (inr (inl cold)) = absurd cc
+  warm_off later runs warm y (inr (inr below)) = inr (inr (omega arith))
+
+  cold_off : Flushed n s x m m2 (b s) (c s) → (b s).cold ≡ true → (y : ℕ) → EachSince (sizes_of n) (b s).ran Clock (λ w. y ≤ w) (b s).steps →
+      (m2 (Vcpu s 6) ≢ 0) ⊎ (((c s).cold ≡ true) ⊎ (y < m2 (Vcpu s 5)))
+  cold_off d is y h =
+      let k = EachSince-some (sizes_of n) (b s).ran Clock (λ w. y ≤ w) (λ w. nat_lt w (m2 (Vcpu s 5))) (b s).steps h (d.may.warmed is) in
+      let e = ltb-true k.0 (m2 (Vcpu s 5)) k.2 in
+      let f = k.1 in
+      inr (inr (omega arith))
+
+  -- the value is above each that was found before the vCPU was found off
+  flushed_off : Flushed n s x m m2 (b s) (c s) → (h : Holdings) → m Clock ≤ m2 Clock → m2 (Vcpu s 6) ≡ m (Vcpu s 6) → m (Vcpu s 5) ≤ m2 (Vcpu s 5) →
+      FlushedSinceOff (sizes_of n) m b s h → ColdSinceOff (sizes_of n) m b s h → FlushedSinceOff (sizes_of n) m2 c s h
+  flushed_off d h clock run later off cold =
+      let z = sizes_of n in
+      let Q : ℕ → Type 0 = λ y. (m2 (Vcpu s 6) ≢ 0) ⊎ (((c s).cold ≡ true) ⊎ (y < m2 (Vcpu s 5))) in
+      let P : ℕ → Type 0 = λ y. (m (Vcpu s 6) ≢ 0) ⊎ (((b s).cold ≡ true) ⊎ (y < m (Vcpu s 5))) in
+      let C : ℕ → Type 0 = λ y. EachSince z (b s).ran Clock (λ w. y ≤ w) (b s).steps in
+      elim (cases_eq (m (Vcpu s 6)) 0) [
+        | inr idle ↦ (let o : m2 (Vcpu s 6) ≢ 0 = (λ e. idle (sym run ∙ e)) in EachOf-all (λ y. Q (told_value (place_at z y.step.place) y.found) × Q (told_value (place_at z y.step.place) (left_of y))) (before_off z s h) (λ y. (inl o, inl o)))
+        | inl runs ↦
+            elim (cases_Bool (b s).cold) [
+              | inr warm ↦
+                  EachOf-map (λ y. P (told_value (place_at z y.step.place) y.found) × P (told_value (place_at z y.step.place) (left_of y)))
+                  (λ y. Q (told_value (place_at z y.step.place) y.found) × Q (told_value (place_at z y.step.place) (left_of y))) (before_off z s h)
+                  (λ y t. (warm_off later runs warm (told_value (place_at z y.step.place) y.found) t.0, warm_off later runs warm (told_value (place_at z y.step.place) (left_of y)) t.1)) off
+              | inl is ↦
+                  EachOf-map (λ y. C (told_value (place_at z y.step.place) y.found) × C (told_value (place_at z y.step.place) (left_of y)))
+                  (λ y. Q (told_value (place_at z y.step.place) y.found) × Q (told_value (place_at z y.step.place) (left_of y))) (before_off z s h)
+                  (λ y t. (cold_off d is (told_value (place_at z y.step.place) y.found) t.0, cold_off d is (told_value (place_at z y.step.place) (left_of y)) t.1)) (cold is runs)
+            ]
+      ]
+
+  pub flushed_done : Flushed n s x m m2 (b s) (c s) → Done n s m m2 b c
+  unfolding told_value
+  flushed_done d =
+      let w = d.wrote in
+      let z = sizes_of n in
+      let p = Vcpu s 5 in
+      let u = after_ack (b s) in
+      let new = m2 (Vcpu s 5) in
+      let acted = act n s x p m m2 (b s) u (c s) w.place w.real w.left w.others refl refl refl refl (d.hand ∙ ap (noted x (m p)) (sym (if_same (s == s) u))) in
+      let f = sound.found s l in
+      let within : new ≤ m Clock = told_some z (b s).acked new (m Clock) (b s).steps f.clock d.may.told in
+      let since = EachSince-some z (b s).acked Clock (λ y. m (Vcpu s 5) ≤ y) (λ y. y == new) (b s).steps f.since_ack d.may.told in
+      let later : m (Vcpu s 5) ≤ new = (let e = eqb-true since.0 new since.2 in let k = since.1 in omega arith) in
+      let words = words_lone n s m m2 b sound p w.others (λ g e. cc) (λ g e. cc) (λ g i e. cc)
+      (lone_vcpu n s m m2 b sound p w.others s 5 refl
+      (λ t. elim (cases_eq t s) [ inl at ↦ rw at later | inr off ↦ (let e = w.others (Vcpu t 5) (λ q. off (cc)) in omega arith) ])
+      (λ t o. w.others (Vcpu t 6) (λ e. cc) ∙ o) (λ t off. w.others (Vcpu t 5) (λ q. off (cc))) (λ t off. w.others (Vcpu t 6) (λ e. cc)) (λ t off o. w.others (Vcpu t 2) (λ e. cc))
+      (λ t off o. w.others (Vcpu t 3) (λ e. cc)))
+      (let e = w.others Clock (λ e. cc) in omega arith) in
+      let reach = less_reach 5 u acted (inl (refl, d.may.landed)) in
+      let run : m2 (Vcpu s 6) ≡ m (Vcpu s 6) = w.others (Vcpu s 6) (λ e. cc) in
+      record {
+        found = record {
+          place = p;
+          moved = u;
+          words = words;
+          reach = reach;
+          offs = record {
+            off = λ v r h found off cold. elim (cases_eq v s) [
+                | inr away ↦ other_off 5 u acted v away h off
+                | inl at ↦
+                    subst (λ y. FlushedSinceOff z m2 c y h) (sym at)
+                    (flushed_off d h words.moves.clock run later (subst (λ y. FlushedSinceOff z m b y h) at off) (subst (λ y. ColdSinceOff z m b y h) at cold))
+              ];
+            cold = λ v r h found cold. elim (cases_eq v s) [
+                | inr away ↦ other_cold 5 u acted v away h found cold
+                | inl at ↦ (λ is. absurd (let e : (c v).cold ≡ false = ap (λ y. (c y).cold) at ∙ acted.learned.cold in cc))
+              ];
+          };
+          mine = mine_by n s p m m2 b c u acted (vcpu_hand 5 u acted refl refl refl refl refl refl words reach (inr (omega arith)));
+        };
+        formed =
+            let g = sound.formed s l in
+            formed_by n s p m m2 (b s) u (c s) acted
+            (record {
+              works = works_form n s p m m2 b c u acted l sound refl;
+              locks = locks_form n s p m m2 b c u acted l sound refl;
+              ending = ending_formed_old n s p m m2 (b s) u (c s) acted g;
+              claimed = claimed_formed_old n s p m m2 (b s) u (c s) acted g;
+              raised = record { held = g.raised.held };
+              looking = g.looking;
+              cache = record { few = omega arith; walk = g.cache.walk };
+              turn = let q = g.turn in omega arith;
+              acked = omega arith;
+              ran = let q = g.ran in omega arith;
+            }) g;
+      }
+
+  -- ---- stopped, off, or on a processor
+  -- what the own run word was
+  run_was : (w : ℕ) → (b s).run ≡ Some w → m (Vcpu s 6) ≡ w
+  run_was w e = (sound.found s l).own.run w e
+
+  ran_stops : AllowsRun (m2 (Vcpu s 6)) (b s) → m (Vcpu s 6) ≡ 1 → m2 (Vcpu s 6) ≡ 1
+  ran_stops (inl stop) was = stop.0
+  ran_stops (inr (inl unload)) was = absurd (let e = run_was 0 unload.1.running in omega arith)
+  ran_stops (inr (inr load)) was = absurd (let e = run_was 2 load.1.off in omega arith)
+
+  module _ (may : AllowsRun (m2 (Vcpu s 6)) (b s)) (u : Holdings) (acted : Act n s (Vcpu s 6) m m2 (b s) u (c s)) where
+    ran_words : Words n s m m2 b
+    unfolding told_value
+    ran_words =
+        let o = acted.others in
+        words_lone n s m m2 b sound (Vcpu s 6) o (λ g e. cc) (λ g e. cc) (λ g i e. cc)
+        (lone_vcpu n s m m2 b sound (Vcpu s 6) o s 6 refl (λ t. let e = o (Vcpu t 5) (λ e. cc) in omega arith)
+        (λ t was. elim (cases_eq t s) [ inl at ↦ rw at (ran_stops may (rw at at was)) | inr off ↦ o (Vcpu t 6) (λ q. off (cc)) ∙ was ])
+        (λ t off. o (Vcpu t 5) (λ e. cc)) (λ t off. o (Vcpu t 6) (λ q. off (cc))) (λ t off q. o (Vcpu t 2) (λ e. cc)) (λ t off q. o (Vcpu t 3) (λ e. cc)))
+        (omega arith)
+
+    ran_done : u.refs ≡ (b s).refs → u.typed ≡ (b s).typed → u.works ≡ (b s).works → u.locks ≡ (b s).locks → u.ending ≡ (b s).ending → u.claimed ≡ (b s).claimed →
+        u.raised ≡ (b s).raised → u.looking ≡ (b s).looking → u.turn ≡ (b s).turn → u.acked ≡ (b s).acked → u.walk ≡ (b s).walk → (u.cache ≡ []) ⊎ (u.cache ≡ (b s).cache) →
+        (b s).walk ≡ None → u.ran ≡ suc (length (b s).steps) → (m2 (Vcpu s 6) ≢ 0) ⊎ (u.cold ≡ true) → Done n s m m2 b c
+    unfolding ran_words
+    ran_done refs typed works locks ending claimed raised looking turn acks walk cache landed ran how =
+        let z = sizes_of n in
+        let p = Vcpu s 6 in
+        let reach = less_reach 6 u acted (elim cache [ inl none ↦ inl (none, walk ∙ landed) | inr same ↦ inr (same, walk) ]) in
+        let flushed : m2 (Vcpu s 5) ≡ m (Vcpu s 5) = acted.others (Vcpu s 5) (λ e. cc) in
+        let g = sound.formed s l in
+        let long : length (c s).steps ≡ suc (length (b s).steps) = ap length acted.steps in
+        let now : (c s).ran ≡ suc (length (b s).steps) = acted.learned.ran ∙ ran in
+        record {
+          found = record {
+            place = p;
+            moved = u;
+            words = ran_words;
+            reach = reach;
+            offs = record {
+              off = λ v r h found off cold. elim (cases_eq v s) [
+                  | inr away ↦ other_off 6 u acted v away h off
+                  | inl at ↦
+                      (let q : (m2 (Vcpu v 6) ≢ 0) ⊎ ((c v).cold ≡ true) = rw at (elim how [ inl idle ↦ inl idle | inr cold ↦ inr (acted.learned.cold ∙ cold) ]) in
+                      EachOf-all (λ y. ((m2 (Vcpu v 6) ≢ 0) ⊎ (((c v).cold ≡ true) ⊎ (told_value (place_at z y.step.place) y.found < m2 (Vcpu v 5)))) × ((m2 (Vcpu v 6) ≢ 0) ⊎ (((c v).cold ≡ true) ⊎ (told_value (place_at z y.step.place) (left_of y) < m2 (Vcpu v 5)))))
+                      (before_off z v h) (λ y. elim q [ inl idle ↦ (inl idle, inl idle) | inr cold ↦ (inr (inl cold), inr (inl cold)) ]))
+                ];
+              cold = λ v r h found cold. elim (cases_eq v s) [
+                  | inr away ↦ other_cold 6 u acted v away h found cold
+                  | inl at ↦
+                      (λ is run.
+                      let none : (y : ℕ) → EachSince z (c v).ran Clock (λ w. y ≤ w) (c v).steps =
+                      λ y. subst (λ t. EachSince z (c t).ran Clock (λ w. y ≤ w) (c t).steps) (sym at) (EachSince-none z (c s).ran Clock (λ w. y ≤ w) (c s).steps (omega arith)) in
+                      EachOf-all (λ y. EachSince z (c v).ran Clock (λ w. told_value (place_at z y.step.place) y.found ≤ w) (c v).steps × EachSince z (c v).ran Clock (λ w. told_value (place_at z y.step.place) (left_of y) ≤ w) (c v).steps)
+                      (before_off z v h) (λ y. (none (told_value (place_at z y.step.place) y.found), none (told_value (place_at z y.step.place) (left_of y)))))
+                ];
+            };
+            mine = mine_by n s p m m2 b c u acted (vcpu_hand 6 u acted refs typed works locks ending claimed ran_words reach (inl (flushed, acks)));
+          };
+          formed = formed_by n s p m m2 (b s) u (c s) acted
+              (record {
+                works = works_form n s p m m2 b c u acted l sound works;
+                locks = locks_form n s p m m2 b c u acted l sound locks;
+                ending = rw ending (ending_formed_old n s p m m2 (b s) u (c s) acted g);
+                claimed = rw claimed (claimed_formed_old n s p m m2 (b s) u (c s) acted g);
+                raised = record { held = λ f. rw (raised, ending, claimed) (g.raised.held f) };
+                looking = rw looking g.looking;
+                cache = record {
+                  few = elim cache [ inl none ↦ (let k = ap length none in omega arith) | inr same ↦ (let k = ap length same in let q = g.cache.few in omega arith) ];
+                  walk = λ y t. g.cache.walk y (sym walk ∙ t);
+                };
+                turn = let q = g.turn in let e = turn in omega arith;
+                acked = let q = g.acked in let e = acks in omega arith;
+                ran = omega arith;
+              }) g;
+        }
+
+  ran_hand : Ran n s x m m2 (b s) (c s) → (new : ℕ) → m2 (Vcpu s 6) ≡ new → (u : Holdings) → ran_now new (b s) ≡ u → u.steps ≡ (b s).steps → u.run ≡ (b s).run → u.old0 ≡ (b s).old0 → u.old1 ≡ (b s).old1 →
+      Act n s (Vcpu s 6) m m2 (b s) u (c s)
+  ran_hand d new e u is steps run old0 old1 =
+      let w = d.wrote in
+      let p = Vcpu s 6 in
+      act n s x p m m2 (b s) u (c s) w.place w.real w.left w.others steps run old0 old1
+      (d.hand ∙ ap (λ y. noted x (m p) (learned_own 6 (m2 p) (ran_now y (b s)))) e ∙ ap (λ y. noted x (m p) (learned_own 6 (m2 p) y)) is
+      ∙ ap (noted x (m p)) (sym (if_mine s (learned_own 6 (m2 p) u) u)))
+
+  pub ran_by : Ran n s x m m2 (b s) (c s) → AllowsRun (m2 (Vcpu s 6)) (b s) → Done n s m m2 b c
+  ran_by d (inl stop) =
+      let u = record (b s) { cache = []; ran = length (b s).steps + 1 } in
+      ran_done d.may u (ran_hand d 1 stop.0 u refl refl refl refl refl) refl refl refl refl refl refl refl refl refl refl refl (inl refl) stop.1.landed (omega arith)
+      (inl (λ e. let k = stop.0 in omega arith))
+  ran_by d (inr (inl unload)) =
+      let u = record (b s) { cache = []; ran = length (b s).steps + 1 } in
+      ran_done d.may u (ran_hand d 2 unload.0 u refl refl refl refl refl) refl refl refl refl refl refl refl refl refl refl refl (inl refl) unload.1.landed (omega arith)
+      (inl (λ e. let k = unload.0 in omega arith))
+  ran_by d (inr (inr load)) =
+      let u = record (b s) { cold = true; ran = length (b s).steps + 1 } in
+      ran_done d.may u (ran_hand d 0 load.0 u refl refl refl refl refl) refl refl refl refl refl refl refl refl refl refl refl (inr refl) load.1.landed (omega arith) (inr refl)
+
+  pub ran_step : Ran n s x m m2 (b s) (c s) → Done n s m m2 b c
+  ran_step d = ran_by d d.may

@@ -1,0 +1,122 @@
+-- A word of a vCPU that may name a frame.
+use Rattle.std.proofs.Common.{◌≡◌, ◌≢◌, ℕ, zero, suc, ◌+◌, ◌<◌, ◌≤◌, ◌==◌, ◌||◌, nat_lt, nat_le, if◌then◌else◌, Bool, true, false, length, Option, IsTrue, refl, sym, ap, subst, ◌∙◌, ◌⊎◌, inl, inr, arith}
+use Rattle.std.proofs.lemmas.Bool.{cases_eq, eqb-true}
+use Rattle.std.proofs.lemmas.Bool.Decides.{nat_tests}
+use Rattle.xp_words.specs.declared.kind.PageType.{PageType}
+use Rattle.xp_words.specs.Machine.{Machine}
+use Rattle.xp_words.specs.Places.{sizes_of, Place, Clock, Vcpu, Refs, Kind, Cell}
+use Rattle.xp_board.specs.declared.step.Step.{Step}
+use Rattle.xp_board.specs.declared.holdings.TypedReference.{TypedReference}
+use Rattle.xp_board.specs.declared.holdings.Holdings.{Holdings}
+use Rattle.xp_board.specs.Lists.{EachOf}
+use Rattle.xp_board.specs.Readings.{is_context, told_value}
+use Rattle.xp_board.specs.Hands.{brought_typed}
+use Rattle.xp_board.specs.ContextSteps.{MayName, MayEmpty, context_type, named_in, named_out}
+use Rattle.xp_board.specs.Sound.{Sound}
+use Rattle.xp_board.proofs.ActEffects.{Wrote, Named}
+use Rattle.found_rule.proofs.StepLists.{EachOf-more, EachOf-without}
+use Rattle.found_rule.proofs.MoreSteps.{EachSince-some}
+use Rattle.found_rule.proofs.Growth.{Grown, added}
+use Rattle.found_rule.proofs.Learning.{Act, act}
+use Rattle.found_rule.proofs.Words.{Words}
+use Rattle.found_rule.proofs.WordsOf.{words_lone, lone_vcpu}
+use Rattle.found_rule.proofs.KnownFacts.{RefRight, TypedRight}
+use Rattle.found_rule.proofs.KnownStays.{owner_new, live_new, partial_new}
+use Rattle.found_rule.proofs.Demands.{RefsMoved, same_rest, then_moved}
+use Rattle.found_rule.proofs.MyHand.{refs_old, typed_old}
+use Rattle.found_rule.proofs.Outcome.{reach_kept}
+use Rattle.found_rule.proofs.Quiet.{Done, fix_kept, zero_kept}
+use Rattle.found_rule.proofs.RestLaw.{Rest, rest_done}
+
+moved_named_out : (w : ℕ) (a : Holdings) → RefsMoved a (named_out w a)
+moved_named_out zero a = same_rest a a refl
+moved_named_out (suc f) a = same_rest a (named_out (suc f) a) refl
+
+moved_named_in : (k w : ℕ) (a : Holdings) → RefsMoved a (named_in k w a)
+moved_named_in k zero a = same_rest a a refl
+moved_named_in k (suc f) a = same_rest a (named_in k (suc f) a) refl
+
+refs_named_out : (w : ℕ) (a : Holdings) → (named_out w a).refs ≡ a.refs
+refs_named_out zero a = refl
+refs_named_out (suc f) a = refl
+
+refs_named_in : (k w : ℕ) (a : Holdings) → (named_in k w a).refs ≡ a.refs
+refs_named_in k zero a = refl
+refs_named_in k (suc f) a = refl
+
+typed_named_out : (P : TypedReference → Type 0) (w : ℕ) (a : Holdings) → EachOf P a.typed → EachOf P (named_out w a).typed
+typed_named_out P zero a h = h
+typed_named_out P (suc f) a h = EachOf-without P (λ e. e.frame) f a.typed h
+
+typed_named_in : (P : TypedReference → Type 0) (k w : ℕ) (a : Holdings) → ((f : ℕ) → P (brought_typed f (context_type k) a)) → EachOf P a.typed → EachOf P (named_in k w a).typed
+typed_named_in P k zero a new h = h
+typed_named_in P k (suc f) a new h = EachOf-more P (brought_typed f (context_type k) a) a.typed (new f) h
+
+not_flush : (k : ℕ) → IsTrue (is_context k) → (k ≢ 5) × (k ≢ 6)
+not_flush k t = ((λ e. grind (arith, nat_tests)), (λ e. grind (arith, nat_tests)))
+
+module _ (n : Machine) (s : ℕ) (x : Step) (m m2 : Place → ℕ) (b c : ℕ → Holdings) (l : s < (sizes_of n).vcpus) (sound : Sound n m b) (others : (t : ℕ) → t ≢ s → c t ≡ b t) (v k : ℕ) where
+  -- of another seat's vCPU only where it is stopped
+  old_kept : MayName n s v k (m2 (Vcpu v k)) (b s) ⊎ MayEmpty n s v k (m2 (Vcpu v k)) (b s) → k ≢ 6 → ((q : Place) → q ≢ Vcpu v k → m2 q ≡ m q) → (t j : ℕ) → t ≢ s → m2 (Vcpu t 6) ≢ 1 →
+      m2 (Vcpu t j) ≡ m (Vcpu t j)
+  old_kept may off o t j d run =
+      elim (cases_eq t v) [
+        | inr away ↦ o (Vcpu t j) (λ e. away (cc))
+        | inl at ↦
+            elim may [
+              | inl own ↦ absurd (d (at ∙ own.own))
+              | inr empty ↦
+                  (let one = EachSince-some (sizes_of n) 0 (Vcpu v 6) (λ w. w ≡ 1 → m (Vcpu v 6) ≡ 1) (λ w. w == 1) (b s).steps ((sound.found s l).stopped v) empty.stopped in
+                  let was : m (Vcpu v 6) ≡ 1 = one.1 (eqb-true one.0 1 one.2) in
+                  absurd (run (ap (λ y. m2 (Vcpu y 6)) at ∙ o (Vcpu v 6) (λ e. off (cc)) ∙ was)))
+            ]
+      ]
+
+  pub named_done : Named n s x v k m m2 (b s) (c s) → Done n s m m2 b c
+  unfolding told_value
+  named_done d =
+      let w = d.wrote in
+      let z = sizes_of n in
+      let p = Vcpu v k in
+      let gone = named_out (m2 p) (b s) in
+      let u = named_in k (m p) gone in
+      let moved = then_moved (b s) gone u (moved_named_out (m2 p) (b s)) (moved_named_in k (m p) gone) in
+      let acted = act n s x p m m2 (b s) u (c s) w.place w.real w.left w.others moved.steps moved.run moved.old0 moved.old1 d.hand in
+      let o = w.others in
+      let far = not_flush k d.word in
+      let flushed : (t : ℕ) → m2 (Vcpu t 5) ≡ m (Vcpu t 5) = λ t. o (Vcpu t 5) (λ e. far.0 (cc)) in
+      let run : (t : ℕ) → m2 (Vcpu t 6) ≡ m (Vcpu t 6) = λ t. o (Vcpu t 6) (λ e. far.1 (cc)) in
+      let cells : (f i : ℕ) → m2 (Cell f i) ≡ m (Cell f i) = λ f i. o (Cell f i) (λ e. cc) in
+      let test : (k == 5) ≡ false = (let q = far.0 in grind (arith, nat_tests)) in
+      let words : Words n s m m2 b = words_lone n s m m2 b sound p o (λ g e. cc) (λ g e. cc) (λ g i e. cc)
+      (lone_vcpu n s m m2 b sound p o v k refl (λ t. let e = flushed t in omega arith) (λ t h. run t ∙ h) (λ t q. flushed t) (λ t q. run t)
+      (λ t q r. old_kept d.may far.1 o t 2 q r) (λ t q r. old_kept d.may far.1 o t 3 q r))
+      (rw test (omega arith)) in
+      let reach = reach_kept n s p m m2 b c u acted others moved.cache moved.walk cells in
+      let grown : Grown z m m2 (b s).steps (c s).steps = added acted.made p acted.added acted.steps in
+      let T : TypedReference → Type 0 = TypedRight z m2 (c s).steps in
+      rest_done n s p m m2 b c u acted l sound others
+      (record {
+        works = moved.works;
+        locks = moved.locks;
+        ending = moved.ending;
+        claimed = moved.claimed;
+        raised = moved.raised;
+        looking = moved.looking;
+        cold = moved.cold;
+        turn = moved.turn;
+        acked = moved.acked;
+        ran = moved.ran;
+      })
+      (λ f. o (Kind f) (λ e. cc)) (λ f. o (Refs f) (λ e. cc)) words reach (fix_kept n s p m m2 b c u acted l sound cells) (zero_kept n s p m m2 b c u acted l sound cells) flushed run
+      (subst (λ xs. EachOf (RefRight z m2 (c s).steps) xs) (sym (refs_named_in k (m p) gone ∙ refs_named_out (m2 p) (b s))) (refs_old n s p m m2 b c u acted l sound words reach))
+      (typed_named_in T k (m p) gone
+      (λ f.
+      let e : length gone.steps ≡ length (b s).steps = ap length (moved_named_out (m2 p) (b s)).steps in
+      record {
+        owner = owner_new z m m2 (b s).steps (c s).steps grown f (length gone.steps) (omega arith);
+        live = live_new z m m2 (b s).steps (c s).steps grown f (context_type k) (length gone.steps) (omega arith);
+        partial = partial_new z m m2 (b s).steps (c s).steps grown f (length gone.steps) (omega arith);
+      })
+      (typed_named_out T (m2 p) (b s) (typed_old n s p m m2 b c u acted l sound words reach)))
+      (let f = (sound.formed s l).cache in record { few = rw (moved.cache) f.few; walk = λ y t. f.walk y (sym moved.walk ∙ t) })

@@ -1,0 +1,43 @@
+-- What a sound machine's words tell: no clock value or stamp is above the clock, what is had now was had, and frames in work are counted.
+use Rattle.std.proofs.Common.{◌≡◌, ℕ, ◌<◌, ◌≤◌, ◌==◌, if◌then◌else◌, Bool, true, false, IsTrue, refl, sym, subst, inl, inr, arith}
+use Rattle.std.proofs.lemmas.Bool.{eqb-true}
+use Rattle.xp_words.specs.KindWords.{kind_fields}
+use Rattle.xp_words.specs.Machine.{Machine}
+use Rattle.xp_words.specs.Places.{sizes_of, Place, Clock, Pages, Life, Vcpu, Refs, Kind, M2p, Cell, Map, Priv}
+use Rattle.xp_board.specs.declared.holdings.Work.{Work}
+use Rattle.xp_board.specs.declared.holdings.Holdings.{Holdings}
+use Rattle.xp_board.specs.Readings.{kind_at, ref_count, told_value, has_now, has_ever, is_closing}
+use Rattle.xp_board.specs.Hands.{works_on}
+use Rattle.xp_board.specs.Spelling.{IsSpelling}
+use Rattle.xp_board.specs.Found.{WorkFound}
+use Rattle.xp_board.specs.Sound.{Stamped, Sound, WorkAgrees}
+use Rattle.found_rule.proofs.Counted.{types_within, ref_counted, work_busy, busy_cases}
+
+told_if : (m : Place → ℕ) (v k : ℕ) (t : Bool) → (k == 5) ≡ t → m (Vcpu v 5) ≤ m Clock → (if t then m (Vcpu v k) else 0) ≤ m Clock
+told_if m v k true e h = let q = eqb-true k 5 e in subst (λ j. m (Vcpu v j) ≤ m Clock) (sym q) h
+told_if m v k false e h = omega arith
+
+pub told_within : (n : Machine) (m : Place → ℕ) → Stamped n m → (p : Place) → told_value p (m p) ≤ m Clock
+unfolding told_value
+told_within n m s Clock = omega arith
+told_within n m s (Pages d) = omega arith
+told_within n m s (Life d) = omega arith
+told_within n m s (Vcpu v k) = told_if m v k (k == 5) refl (s.flushed v)
+told_within n m s (Refs f) = s.free f
+told_within n m s (Kind f) = s.kinds f
+told_within n m s (M2p f) = omega arith
+told_within n m s (Cell f i) = omega arith
+told_within n m s (Map k) = omega arith
+told_within n m s (Priv d) = omega arith
+
+pub had : (n : Machine) (m : Place → ℕ) (d : ℕ) → IsSpelling n (Priv d) (m (Priv d)) → (o : ℕ) → o < 16 → IsTrue (has_now o (m (Priv d))) → IsTrue (has_ever o (m (Priv d)))
+unfolding IsSpelling
+had n m d k o l t = k.1 o l t
+
+pub work_counted : (n : Machine) (m : Place → ℕ) (h : ℕ → Holdings) → Sound n m h → (t : ℕ) → t < (sizes_of n).vcpus → (e : Work) → 0 < works_on e.frame (h t).works →
+    WorkFound n m h (h t) e → WorkAgrees (h t) e → 0 < ref_count (m (Refs e.frame))
+work_counted n m h sound t l e there found agrees =
+    elim (busy_cases (kind_at m e.frame) (work_busy n m h sound t e.frame l there)) [
+      | inl work ↦ (let a = types_within n m h sound e.frame in let b = work.1 in omega arith)
+      | inr closing ↦ ref_counted n m h sound t e.frame l (agrees.closing (subst (λ w. IsTrue (is_closing (kind_fields w))) found.word closing.0))
+    ]
