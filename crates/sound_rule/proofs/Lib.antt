@@ -1,3 +1,4 @@
 mod RestCounts
 mod RestParts
 mod RunLaws
+mod Halves
