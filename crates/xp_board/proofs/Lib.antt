@@ -11,7 +11,6 @@ pub mod FrameInversions
 pub mod ActInversions
 mod CellInversions
 pub mod MarkEffects
-pub mod Effects
 mod Empty
 mod EntryPicture
 mod FlushPicture
