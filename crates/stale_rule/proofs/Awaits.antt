@@ -9,7 +9,7 @@ use Rattle.xp_board.specs.Steps.{is_same, is_at, left_of, EachStep, EachSince}
 use Rattle.xp_board.specs.After.{noted}
 use Rattle.xp_board.specs.Reach.{Use}
 use Rattle.xp_board.specs.Fresh.{Awaited}
-use Rattle.stale_rule.proofs.Lists.{EachOf-map}
+use Rattle.xp_board.proofs.HandLists.{EachOf-map}
 use Rattle.stale_rule.proofs.Like.{HandLike}
 
 same_clock : (p : Place) → is_same p Clock ≡ true → p ≡ Clock

@@ -19,10 +19,10 @@ use Rattle.xp_board.specs.Fresh.{Matches, FreshAt}
 use Rattle.xp_board.specs.Sound.{Sound}
 use Rattle.stale_rule.proofs.Bearing.{bears_read}
 use Rattle.stale_rule.proofs.Came.{IsLevel, Reach-level, Reach-all}
-use Rattle.stale_rule.proofs.Counted.{hands-part}
 use Rattle.stale_rule.proofs.Items.{marked_unlive}
 use Rattle.stale_rule.proofs.Served.{Served, counted_word, entry_served}
 use Rattle.stale_rule.proofs.Tables.{not_busy}
+use Rattle.xp_board.proofs.Sums.{hands-part}
 
 abbrev pub Came : Machine → (Place → ℕ) → (ℕ → Holdings) → ℕ → ℕ → Use → Type 0
 Came n m h v g u = Reach (sizes_of n) m (h v) g u ⊎ (Served m (domain_of n v) g u ⊎ ((u ≡ Reads) × Reach (sizes_of n) m (h v) g Writes))

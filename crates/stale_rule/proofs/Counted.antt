@@ -1,5 +1,5 @@
 -- What is counted stands in the sums.
-use Rattle.std.proofs.Common.{◌≡◌, ◌≢◌, ℕ, zero, suc, ◌+◌, ◌<◌, ◌≤◌, ◌==◌, inl, inr, true, false, List, [], ◌∷◌, refl, ap, arith, if◌then◌else◌, None}
+use Rattle.std.proofs.Common.{◌≡◌, ℕ, zero, suc, ◌+◌, ◌<◌, ◌≤◌, ◌==◌, inl, inr, true, false, List, [], ◌∷◌, refl, arith, if◌then◌else◌, None}
 use Rattle.std.proofs.lemmas.Bool.Decides.{nat_tests}
 use Rattle.std.proofs.lemmas.Bool.{cases_eq}
 use Rattle.xp_words.specs.declared.entry.Demand.{Demand}
@@ -10,17 +10,8 @@ use Rattle.xp_board.specs.Lists.{one_at, times_by, first_by}
 use Rattle.xp_board.specs.Sums.{sum_below}
 use Rattle.xp_board.specs.Readings.{is_context}
 use Rattle.xp_board.specs.Hands.{work_on}
-use Rattle.xp_board.specs.Recorded.{recorded_in, work_of, held, entry_demand, table_entries, entries, contexts, hands}
-
--- each part is at most the sum
-pub sum_below-part : (n : ℕ) (p : ℕ → ℕ) (j : ℕ) → j < n → p j ≤ sum_below n p
-unfolding sum_below
-sum_below-part zero p j b = absurd (omega arith)
-sum_below-part (suc n) p j b =
-    elim (cases_eq j n) [
-      | inl at ↦ let e = ap p at in omega arith
-      | inr off ↦ let rest = sum_below-part n p j (let k : j ≢ n = off in omega arith) in omega arith
-    ]
+use Rattle.xp_board.specs.Recorded.{recorded_in, work_of, held, entry_demand, table_entries, entries, contexts}
+use Rattle.xp_board.proofs.Sums.{sum_below-part}
 
 -- a recorded entry is counted
 pub entry_counted : (c : Demand → ℕ) (z : Sizes) (m : Place → ℕ) (h : ℕ → Holdings) (f i : ℕ) → f < z.frames → i < held z m h f →
@@ -39,10 +30,6 @@ context_counted z m v k g real inside context names =
     let word = sum_below-part 38 (λ j. if is_context j then one_at (g + 1) (m (Vcpu v j)) else 0) k inside in
     let vcpu = sum_below-part z.vcpus (λ w. sum_below 38 (λ j. if is_context j then one_at (g + 1) (m (Vcpu w j)) else 0)) v real in
     omega arith
-
-pub hands-part : (c : Holdings → ℕ) (z : Sizes) (h : ℕ → Holdings) (s : ℕ) → s < z.vcpus → c (h s) ≤ hands c z h
-unfolding hands
-hands-part c z h s real = sum_below-part z.vcpus (λ t. c (h t)) s real
 
 -- ---- a frame that is in nobody's works
 pub first_by-none : {A : Type 0} (key : A → ℕ) (g : ℕ) (xs : List A) → times_by key g xs ≡ 0 → first_by key g xs ≡ None

@@ -19,7 +19,7 @@ use Rattle.xp_board.specs.Fresh.{FreshAt, Fresh}
 use Rattle.xp_board.specs.Keeping.{Acted}
 use Rattle.xp_board.specs.Sound.{Sound}
 use Rattle.xp_board.proofs.ActEffects.{Took, Freed, Gave}
-use Rattle.stale_rule.proofs.Lists.{EachOf-without, EachOf-first, first-key, first-some, times-without}
+use Rattle.xp_board.proofs.HandLists.{EachOf-without, EachOf-first, first-key, first-some, times-without}
 use Rattle.stale_rule.proofs.Like.{HandLike, parts_like}
 use Rattle.stale_rule.proofs.Past.{since_each, past_gone, gone_unreached}
 use Rattle.stale_rule.proofs.RefRows.{ref_law}

@@ -20,13 +20,13 @@ use Rattle.xp_board.specs.Sound.{Sound}
 use Rattle.xp_board.proofs.ActEffects.{Wrote, Turned, Dropped, Unlocked}
 use Rattle.stale_rule.proofs.Bearing.{bears_same, bears_begun, OneLess, count_down, lock_down}
 use Rattle.stale_rule.proofs.Came.{IsLevel, Reach-level}
-use Rattle.stale_rule.proofs.Counted.{hands-part}
 use Rattle.stale_rule.proofs.Items.{marked_unlive}
 use Rattle.stale_rule.proofs.KindHands.{row_stays, dropped_stays, unlocked_stays}
 use Rattle.stale_rule.proofs.Like.{HandStays, parts_stay, then_stays}
 use Rattle.stale_rule.proofs.Moves.{act_law, not_clock}
 use Rattle.stale_rule.proofs.Stays.{ref_same, ever_same}
 use Rattle.stale_rule.proofs.Tables.{live_count}
+use Rattle.xp_board.proofs.Sums.{hands-part}
 
 -- a count that has a reference in hand is above 0
 pub bit_on : (b : Bool) → 0 < bit b → b ≡ true

@@ -1,6 +1,5 @@
 pub mod Awaits
 pub mod Bearing
-pub mod Bits
 pub mod Came
 pub mod CameFresh
 pub mod CellLaw
@@ -14,13 +13,11 @@ pub mod Items
 pub mod KindHands
 pub mod KindRows
 pub mod Like
-pub mod Lists
 pub mod LockRows
 pub mod Lowers
 pub mod Moves
 pub mod Past
 pub mod Paths
-pub mod Places
 pub mod Quiet
 pub mod RefRows
 pub mod Rows

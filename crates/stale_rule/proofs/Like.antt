@@ -13,7 +13,7 @@ use Rattle.xp_board.specs.Hands.{claims_of}
 use Rattle.xp_board.specs.Reach.{reached_by}
 use Rattle.xp_board.specs.Settling.{demand_in, demand_out}
 use Rattle.xp_board.specs.After.{learned, learned_cell, learned_own, learned_work, learned_claim}
-use Rattle.stale_rule.proofs.Lists.{EachOf-changed, times-changed}
+use Rattle.xp_board.proofs.HandLists.{EachOf-changed, times-changed}
 
 -- ---- hands
 -- From hand a to hand b the steps are the same; what is in work or ending besides the frames of before has been so

@@ -35,13 +35,13 @@ use Rattle.xp_board.specs.Sound.{Sound}
 use Rattle.xp_board.proofs.ActEffects.{Wrote, Exchanged, Rewrote}
 use Rattle.stale_rule.proofs.CameFresh.{Came, came_fresh, reach_level, live_matches}
 use Rattle.stale_rule.proofs.CellLaw.{written_law}
-use Rattle.stale_rule.proofs.Counted.{hands-part}
-use Rattle.stale_rule.proofs.EntryBits.{same_demand, entry_asks_same}
 use Rattle.stale_rule.proofs.KindRows.{bit_on, counted_here}
 use Rattle.stale_rule.proofs.Like.{HandStays, then_stays, cell_stays, in_stays, out_stays}
-use Rattle.stale_rule.proofs.Lists.{EachOf-first, first-key, first-some}
+use Rattle.xp_board.proofs.HandLists.{EachOf-first, first-key, first-some}
 use Rattle.stale_rule.proofs.Past.{since_each, since_later}
 use Rattle.stale_rule.proofs.Served.{Served, AsksWell, typed_counted, target_served, served_owner, not_reads, recorded_well}
+use Rattle.xp_board.proofs.Sums.{hands-part}
+use Rattle.xp_board.proofs.EntryWords.{entry_asks_same, same_demand}
 
 -- ---- owners
 owner_few : (n : Machine) (r : Option RefWord) (o : ℕ) → IsTrue (is_ref_in n r) → owner_in r ≡ Some o → o < length n.page_limit

@@ -11,8 +11,8 @@ use Rattle.xp_board.specs.Readings.{count_in, ref_count, allocated_in, allocated
 use Rattle.xp_board.specs.Hands.{refs_to, hand}
 use Rattle.xp_board.specs.RefSteps.{one_down}
 use Rattle.xp_board.specs.Sound.{Sound}
-use Rattle.stale_rule.proofs.Counted.{hands-part}
 use Rattle.stale_rule.proofs.Stays.{RefKept}
+use Rattle.xp_board.proofs.Sums.{hands-part}
 
 -- ---- one up
 pub owned_kept : (w w2 owner count count2 : ℕ) (allocated allocated2 : Bool) → ref_read w ≡ Some (Owned owner allocated count) →

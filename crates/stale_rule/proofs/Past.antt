@@ -14,7 +14,7 @@ use Rattle.xp_board.specs.Found.{EachTold}
 use Rattle.xp_board.specs.Reach.{Use, Reach}
 use Rattle.xp_board.specs.Sound.{Sound}
 use Rattle.stale_rule.proofs.Came.{Reach-none}
-use Rattle.stale_rule.proofs.Places.{same_place}
+use Rattle.xp_board.proofs.PlaceTests.{same_place}
 
 -- ---- what was found in some step holds by what holds of each
 -- a step passes, and each step that passes meets P

@@ -22,7 +22,7 @@ use Rattle.stale_rule.proofs.Bearing.{bears_read, bears_same, bears_dead, matche
 use Rattle.stale_rule.proofs.Items.{marked_unlive}
 use Rattle.stale_rule.proofs.KindHands.{form_stays}
 use Rattle.stale_rule.proofs.KindRows.{kind_law}
-use Rattle.stale_rule.proofs.Lists.{EachOf-first, first-key}
+use Rattle.xp_board.proofs.HandLists.{EachOf-first, first-key}
 use Rattle.stale_rule.proofs.Past.{since_each, past_gone, gone_unreached}
 
 -- ---- the forms

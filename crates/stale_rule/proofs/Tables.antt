@@ -15,7 +15,8 @@ use Rattle.xp_board.specs.Hands.{works_on, work_on}
 use Rattle.xp_board.specs.Recorded.{held, held_of, entry_demand, names_typed}
 use Rattle.xp_board.specs.Valid.{LeadsWell}
 use Rattle.xp_board.specs.Sound.{Sound, is_busy}
-use Rattle.stale_rule.proofs.Counted.{entry_counted, hands-part, first_by-none, work_of-none}
+use Rattle.stale_rule.proofs.Counted.{entry_counted, first_by-none, work_of-none}
+use Rattle.xp_board.proofs.Sums.{hands-part}
 
 -- a live and counted table of that level, of that domain
 pub record Serves (m : Place → ℕ) (d level f : ℕ) : Type 0 where

@@ -27,7 +27,7 @@ use Rattle.xp_board.proofs.ActEffects.{Started, WentOn, Touched}
 use Rattle.stale_rule.proofs.CameFresh.{Came, CellAlike, alike_same, alike_passes, use_alike}
 use Rattle.stale_rule.proofs.CellLaw.{cells_law, written_law}
 use Rattle.stale_rule.proofs.EntryBits.{touched_alike}
-use Rattle.stale_rule.proofs.Lists.{Member-take}
+use Rattle.xp_board.proofs.HandLists.{Member-take}
 use Rattle.stale_rule.proofs.Like.{HandLike, HandStays, same_stays, parts_like, then_like, cell_stays, own_stays}
 use Rattle.stale_rule.proofs.Paths.{base_serves}
 use Rattle.stale_rule.proofs.Served.{typed_counted}

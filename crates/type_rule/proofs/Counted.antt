@@ -1,5 +1,5 @@
 -- What a reference in hand, or a recorded one, says of the counts of its frame.
-use Rattle.std.proofs.Common.{◌≡◌, ◌≢◌, ℕ, zero, suc, ◌+◌, ◌<◌, ◌≤◌, ◌==◌, Bool, true, false, List, [], ◌∷◌, Some, sym, ◌∙◌, ap, subst, inl, inr, arith}
+use Rattle.std.proofs.Common.{◌≡◌, ℕ, ◌+◌, ◌<◌, ◌≤◌, ◌==◌, Bool, true, false, List, [], ◌∷◌, Some, sym, ◌∙◌, ap, subst, inl, inr, arith}
 use Rattle.std.proofs.lemmas.Bool.{cases_eq}
 use Rattle.std.proofs.lemmas.Bool.Decides.{nat_tests}
 use Rattle.xp_words.specs.declared.kind.KindWord.{KindWord}
@@ -7,48 +7,12 @@ use Rattle.xp_words.specs.RefWords.{bit}
 use Rattle.xp_words.specs.Machine.{Machine}
 use Rattle.xp_words.specs.Places.{Sizes, sizes_of, Place}
 use Rattle.xp_board.specs.declared.holdings.Holdings.{Holdings}
-use Rattle.xp_board.specs.Sums.{sum_below}
 use Rattle.xp_board.specs.Lists.{times_by, first_by, EachOf}
 use Rattle.xp_board.specs.Readings.{kind_at, type_count, is_locked}
 use Rattle.xp_board.specs.Hands.{typed_to, works_on, locks_on, typed_hand}
-use Rattle.xp_board.specs.Recorded.{CountsAgree, hands}
+use Rattle.xp_board.specs.Recorded.{CountsAgree}
 use Rattle.xp_board.specs.Sound.{HeldAlone, is_busy}
-
--- ---- sums of hands
-pub sum_below-part : (n : ℕ) (p : ℕ → ℕ) (j : ℕ) → j < n → p j ≤ sum_below n p
-unfolding sum_below
-sum_below-part zero p j b = absurd (omega arith)
-sum_below-part (suc n) p j b =
-    elim (cases_eq j n) [
-      | inl at ↦ let e = ap p at in omega arith
-      | inr off ↦ let rest = sum_below-part n p j (let k : j ≢ n = off in omega arith) in omega arith
-    ]
-
-pub hands-part : (c : Holdings → ℕ) (z : Sizes) (h : ℕ → Holdings) (s : ℕ) → s < z.vcpus → c (h s) ≤ hands c z h
-unfolding hands
-hands-part c z h s b = sum_below-part z.vcpus (λ t. c (h t)) s b
-
--- two seats' shares
-sum_below-two : (n : ℕ) (p : ℕ → ℕ) (i j : ℕ) → i < n → j < n → i ≢ j → p i + p j ≤ sum_below n p
-unfolding sum_below
-sum_below-two zero p i j a b off = absurd (omega arith)
-sum_below-two (suc n) p i j a b off =
-    elim (cases_eq i n) [
-      | inl at ↦
-          (let e = ap p at in
-          let k : j ≢ n = (λ q. off (at ∙ sym q)) in
-          let r = sum_below-part n p j (omega arith) in
-          omega arith)
-      | inr away ↦
-          elim (cases_eq j n) [
-            | inl here ↦ (let e = ap p here in let k : i ≢ n = away in let r = sum_below-part n p i (omega arith) in omega arith)
-            | inr there ↦ (let k : i ≢ n = away in let l : j ≢ n = there in let r = sum_below-two n p i j (omega arith) (omega arith) off in omega arith)
-          ]
-    ]
-
-pub hands-two : (c : Holdings → ℕ) (z : Sizes) (h : ℕ → Holdings) (s t : ℕ) → s < z.vcpus → t < z.vcpus → s ≢ t → c (h s) + c (h t) ≤ hands c z h
-unfolding hands
-hands-two c z h s t a b off = sum_below-two z.vcpus (λ u. c (h u)) s t a b off
+use Rattle.xp_board.proofs.Sums.{hands-part, hands-two}
 
 -- ---- a typed reference in hand
 typed_in_hand : (f : ℕ) (u : Holdings) → typed_to f u.typed + locks_on f u.locks ≤ typed_hand f u

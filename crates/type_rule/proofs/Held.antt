@@ -18,8 +18,8 @@ use Rattle.xp_board.specs.Readings.{kind_at, ref_count, type_count, is_context}
 use Rattle.xp_board.specs.Hands.{works_on, work_on, hand, typed_hand}
 use Rattle.xp_board.specs.Recorded.{CountsAgree, hands, held, held_of, entry_demand, recorded_in, recorded_number, or_else, work_of, names, names_typed, table_entries, entries, contexts}
 use Rattle.xp_board.specs.Sound.{Sound, HeldAlone, is_busy, Spelled}
-use Rattle.type_rule.proofs.Counted.{sum_below-part, hands-part}
 use Rattle.type_rule.proofs.Works.{none_on}
+use Rattle.xp_board.proofs.Sums.{hands-part, sum_below-part}
 
 -- ---- over all seats
 pub work_of-same : (n : ℕ) (h h2 : ℕ → Holdings) (f : ℕ) → ((t : ℕ) → t < n → recorded_in (h2 t).works f ≡ recorded_in (h t).works f) →

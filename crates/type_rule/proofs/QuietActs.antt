@@ -22,7 +22,7 @@ use Rattle.xp_board.specs.Runs.{place_of}
 use Rattle.xp_board.specs.Sound.{Sound, HeldAlone}
 use Rattle.xp_board.proofs.Bits.{granted-ever, revoked-ever}
 use Rattle.xp_board.proofs.ActEffects.{Looked, Raised, Cleared, Took, Lowered, Freed, Gave, Missed, Started, WentOn, Stumbled, Mapped, Charged, Refunded, Based, Asked, Flushed, Ran, Ticked, Doomed, Buried, Hinted, Privileged}
-use Rattle.type_rule.proofs.Counted.{first_some, hands-part}
+use Rattle.type_rule.proofs.Counted.{first_some}
 use Rattle.type_rule.proofs.HandParts.{SameThree, three_own, three_ran, three_started, three_loaded}
 use Rattle.type_rule.proofs.RefWordLaws.{one_less_keeps, in_hand_counted}
 use Rattle.type_rule.proofs.DomainFrames.{owner_read}
@@ -31,6 +31,7 @@ use Rattle.type_rule.proofs.Works.{WorkKeptIn, works_kept, cell_kept}
 use Rattle.type_rule.proofs.EntryChange.{OneStep}
 use Rattle.type_rule.proofs.ValidLaw.{OwnersStay}
 use Rattle.type_rule.proofs.QuietLaw.{QuietAct, same_owners, one_owner, free_count}
+use Rattle.xp_board.proofs.Sums.{hands-part}
 
 dying_by : (r : Option RefWord) → is_dying_in r ≡ true → count_in r ≡ 0
 dying_by None e = refl

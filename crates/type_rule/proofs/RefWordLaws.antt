@@ -8,9 +8,9 @@ use Rattle.xp_words.proofs.RefLaws.{ref_read-write, ref_write-read}
 use Rattle.xp_board.specs.declared.holdings.Holdings.{Holdings}
 use Rattle.xp_board.specs.Readings.{owner_of, allocated_mark, ref_count}
 use Rattle.xp_board.specs.Hands.{hand, refs_to}
-use Rattle.type_rule.proofs.Counted.{hands-part}
 use Rattle.xp_board.specs.Recorded.{CountsAgree}
 use Rattle.xp_board.specs.RefSteps.{one_down}
+use Rattle.xp_board.proofs.Sums.{hands-part}
 
 -- the word v has the owner and the mark of w
 pub record SameOwner (w v : ℕ) : Type 0 where

@@ -2,23 +2,10 @@
 use Rattle.std.proofs.Common.{◌≡◌, ℕ, ◌<◌, ◌≤◌, ◌&&◌, ◌⊎◌, nat_lt, nat_le, Bool, true, false, List, [], ◌∷◌, length, IsTrue, refl, inl, inr, arith}
 use Rattle.std.proofs.lemmas.Bool.{and_parts, or_cases, cases_Bool}
 use Rattle.std.proofs.lemmas.Bool.Decides.{nat_tests}
-use Rattle.xp_words.specs.Places.{Sizes, Place, Clock, Pages, Life, Vcpu, Refs, Kind, M2p, Cell, Map, Priv, place_at}
+use Rattle.xp_words.specs.Places.{Sizes, Place, place_at}
 use Rattle.xp_board.specs.declared.holdings.Made.{Made}
-use Rattle.xp_board.specs.Steps.{EachStep, EachSince, is_same, is_at, left_of, some_step, some_since, some_before, some_between}
-
--- two places that pass the test are one
-pub same_place : (p q : Place) → is_same p q ≡ true → p ≡ q
-same_place Clock Clock h = refl
-same_place (Pages d) (Pages e) h = grind (arith, nat_tests)
-same_place (Life d) (Life e) h = grind (arith, nat_tests)
-same_place (Vcpu v k) (Vcpu w j) h = grind (arith, nat_tests)
-same_place (Refs f) (Refs g) h = grind (arith, nat_tests)
-same_place (Kind f) (Kind g) h = grind (arith, nat_tests)
-same_place (M2p f) (M2p g) h = grind (arith, nat_tests)
-same_place (Cell f i) (Cell g j) h = grind (arith, nat_tests)
-same_place (Map k) (Map j) h = grind (arith, nat_tests)
-same_place (Priv d) (Priv e) h = grind (arith, nat_tests)
-same_place _ _ h = absurd (cc)
+use Rattle.xp_board.specs.Steps.{EachStep, EachSince, is_at, left_of, some_step, some_since, some_before, some_between}
+use Rattle.xp_board.proofs.PlaceTests.{same_place}
 
 -- the head passes, or one of the others
 pub head_or_tail : (test : ℕ → Made → Bool) (x : Made) (xs : List Made) → IsTrue (some_step test (x ∷ xs)) →

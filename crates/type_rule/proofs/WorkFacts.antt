@@ -16,9 +16,10 @@ use Rattle.xp_board.specs.Found.{WorkFound}
 use Rattle.xp_board.specs.WellFormed.{IsWorkFormed}
 use Rattle.xp_board.specs.Recorded.{held, held_of, held_by_form, recorded_in, work_of}
 use Rattle.xp_board.specs.Sound.{Sound, WorkAgrees, is_busy}
-use Rattle.type_rule.proofs.Counted.{first_each, first_some, hands-part, busy_work, work_alone, bit_one}
+use Rattle.type_rule.proofs.Counted.{first_each, first_some, busy_work, work_alone, bit_one}
 use Rattle.type_rule.proofs.Works.{none_on}
 use Rattle.type_rule.proofs.Held.{nobody_works, someone_works, type_below}
+use Rattle.xp_board.proofs.Sums.{hands-part}
 
 pub some_on : (f : ℕ) (xs : List Work) → 0 < works_on f xs → (e : Work) × (work_on f xs ≡ Some e)
 unfolding times_by first_by

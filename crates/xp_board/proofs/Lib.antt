@@ -1,5 +1,7 @@
 mod ClaimPicture
 pub mod PlaceTests
+pub mod Sums
+pub mod HandLists
 pub mod KindForms
 pub mod Bits
 pub mod EntryWords
