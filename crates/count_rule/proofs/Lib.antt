@@ -1,5 +1,9 @@
 mod Sums
 mod Lists
+mod Tables
+mod Steady
+mod CountLaw
+mod PartLaws
 mod Twins
 mod Entries
 mod Moves

@@ -1,5 +1,5 @@
 -- The lists of a hand.
-use Rattle.std.proofs.Common.{◌≡◌, ℕ, ◌+◌, ◌<◌, ◌≤◌, List, [], ◌∷◌, Some, refl, ap, arith, inl, inr}
+use Rattle.std.proofs.Common.{◌≡◌, ◌≢◌, ℕ, ◌+◌, ◌<◌, ◌≤◌, List, [], ◌∷◌, Option, Some, None, refl, sym, ◌∙◌, ap, arith, inl, inr}
 use Rattle.std.proofs.lemmas.Bool.{cases_eq}
 use Rattle.xp_board.specs.Lists.{one_at, times_by, first_by, without_by, EachOf}
 use Rattle.count_rule.proofs.Sums.{when_eq, when_ne}
@@ -33,7 +33,7 @@ unfolding EachOf
 EachOf-both P Q [] a b = tt
 EachOf-both P Q (x ∷ xs) a b = ((a.0, b.0), EachOf-both P Q xs a.1 b.1)
 
-first_by-counts : {A : Type 0} (key : A → ℕ) (g : ℕ) (xs : List A) (e : A) → first_by key g xs ≡ Some e → 0 < times_by key g xs
+pub first_by-counts : {A : Type 0} (key : A → ℕ) (g : ℕ) (xs : List A) (e : A) → first_by key g xs ≡ Some e → 0 < times_by key g xs
 unfolding first_by times_by
 first_by-counts key g [] e k = absurd (cc)
 first_by-counts key g (x ∷ xs) e k =
@@ -62,3 +62,80 @@ EachOf-first key [] few = tt
 EachOf-first key (x ∷ xs) few =
     let rest = EachOf-first key xs (λ g. let most = few g in let here = times_by-cons key g x xs in omega arith) in
     (rw (when_eq (key x) (key x) refl), EachOf-map (λ e. first_by key (key e) xs ≡ Some e) _ xs (first_by-further key x xs few) rest)
+
+-- ---- the elements of other numbers
+pub first_by-none : {A : Type 0} (key : A → ℕ) (g : ℕ) (xs : List A) → times_by key g xs ≡ 0 → first_by key g xs ≡ None
+unfolding first_by times_by
+first_by-none key g [] e = refl
+first_by-none key g (x ∷ xs) e =
+    elim (cases_eq (key x) g) [
+      | inl at ↦ let one : one_at g (key x) ≡ 1 = rw (when_eq (key x) g at) in absurd (omega arith)
+      | inr off ↦ rw (when_ne (key x) g off) (first_by-none key g xs (omega arith))
+    ]
+
+pub times_by-cons_here : {A : Type 0} (key : A → ℕ) (f : ℕ) (x : A) (xs : List A) → key x ≡ f → times_by key f (x ∷ xs) ≡ 1 + times_by key f xs
+unfolding times_by
+times_by-cons_here key f x xs e = let one : one_at f (key x) ≡ 1 = rw (when_eq (key x) f e) in omega arith
+
+pub times_by-cons_other : {A : Type 0} (key : A → ℕ) (g : ℕ) (x : A) (xs : List A) → key x ≢ g → times_by key g (x ∷ xs) ≡ times_by key g xs
+unfolding times_by
+times_by-cons_other key g x xs n = let none : one_at g (key x) ≡ 0 = rw (when_ne (key x) g n) in omega arith
+
+pub times_by-without_other : {A : Type 0} (key : A → ℕ) (g f : ℕ) (xs : List A) → g ≢ f → times_by key g (without_by key f xs) ≡ times_by key g xs
+unfolding times_by without_by
+times_by-without_other key g f [] n = refl
+times_by-without_other key g f (x ∷ xs) n =
+    elim (cases_eq (key x) f) [
+      | inl at ↦ let none : one_at g (key x) ≡ 0 = rw (when_ne (key x) g (λ e. n (sym e ∙ at))) in rw (when_eq (key x) f at) (omega arith)
+      | inr off ↦ let rest = times_by-without_other key g f xs n in rw (when_ne (key x) f off) (omega arith)
+    ]
+
+pub first_by-cons_other : {A : Type 0} (key : A → ℕ) (g : ℕ) (x : A) (xs : List A) → key x ≢ g → first_by key g (x ∷ xs) ≡ first_by key g xs
+unfolding first_by
+first_by-cons_other key g x xs n = rw (when_ne (key x) g n) refl
+
+pub first_by-cons_here : {A : Type 0} (key : A → ℕ) (g : ℕ) (x : A) (xs : List A) → key x ≡ g → first_by key g (x ∷ xs) ≡ Some x
+unfolding first_by
+first_by-cons_here key g x xs e = rw (when_eq (key x) g e) refl
+
+pub first_by-without_other : {A : Type 0} (key : A → ℕ) (g f : ℕ) (xs : List A) → g ≢ f → first_by key g (without_by key f xs) ≡ first_by key g xs
+unfolding first_by without_by
+first_by-without_other key g f [] n = refl
+first_by-without_other key g f (x ∷ xs) n =
+    elim (cases_eq (key x) f) [
+      | inl at ↦ rw (when_eq (key x) f at, when_ne (key x) g (λ e. n (sym e ∙ at))) refl
+      | inr off ↦
+          rw (when_ne (key x) f off)
+          (elim (cases_eq (key x) g) [
+            | inl here ↦ rw (when_eq (key x) g here) refl
+            | inr there ↦ rw (when_ne (key x) g there) (first_by-without_other key g f xs n)
+          ])
+    ]
+
+-- ---- what holds of each element
+pub EachOf-without : {A : Type 0} (P : A → Type 0) (key : A → ℕ) (f : ℕ) (xs : List A) → EachOf P xs → EachOf P (without_by key f xs)
+unfolding EachOf without_by
+EachOf-without P key f [] e = tt
+EachOf-without P key f (x ∷ xs) e =
+    elim (cases_eq (key x) f) [
+      | inl at ↦ rw (when_eq (key x) f at) e.1
+      | inr off ↦ rw (when_ne (key x) f off) (e.0, EachOf-without P key f xs e.1)
+    ]
+
+-- the numbers of the elements are in the list
+pub EachOf-counted : {A : Type 0} (key : A → ℕ) (xs : List A) → EachOf (λ e. 0 < times_by key (key e) xs) xs
+unfolding EachOf times_by
+EachOf-counted key [] = tt
+EachOf-counted key (x ∷ xs) = (
+  let one : one_at (key x) (key x) ≡ 1 = rw (when_eq (key x) (key x) refl) in omega arith,
+  EachOf-map (λ e. 0 < times_by key (key e) xs) _ xs (λ e k. omega arith) (EachOf-counted key xs),
+)
+
+-- a number that is not in the list is no element's
+pub EachOf-apart : {A : Type 0} (key : A → ℕ) (f : ℕ) (xs : List A) → times_by key f xs ≡ 0 → EachOf (λ e. key e ≢ f) xs
+unfolding EachOf times_by
+EachOf-apart key f [] n = tt
+EachOf-apart key f (x ∷ xs) n = (
+  λ at. let one : one_at f (key x) ≡ 1 = rw (when_eq (key x) f at) in absurd (omega arith),
+  EachOf-apart key f xs (omega arith),
+)

@@ -1,5 +1,5 @@
 -- Sums, and tests of numbers.
-use Rattle.std.proofs.Common.{◌≡◌, ◌≢◌, ℕ, zero, suc, ◌+◌, ◌<◌, ◌≤◌, ◌==◌, true, false, refl, sym, ap, arith, inl, inr}
+use Rattle.std.proofs.Common.{◌≡◌, ◌≢◌, ℕ, zero, suc, ◌+◌, ◌<◌, ◌≤◌, ◌==◌, true, false, refl, sym, ◌∙◌, ap, arith, inl, inr}
 use Rattle.std.proofs.lemmas.Bool.{cases_eq}
 use Rattle.std.proofs.lemmas.Bool.Decides.{nat_tests}
 use Rattle.xp_words.specs.Places.{Sizes}
@@ -55,6 +55,36 @@ sum_below-part (suc n) p j b =
       | inr off ↦ let rest = sum_below-part n p j (let k : j ≢ n = off in omega arith) in omega arith
     ]
 
+-- two parts are at most the sum
+pub sum_below-two : (n : ℕ) (p : ℕ → ℕ) (j k : ℕ) → j < n → k < n → j ≢ k → p j + p k ≤ sum_below n p
+unfolding sum_below
+sum_below-two zero p j k a b off = absurd (omega arith)
+sum_below-two (suc n) p j k a b off =
+    elim (cases_eq j n) [
+      | inl at ↦
+          let e = ap p at in
+          let rest = sum_below-part n p k (let o : k ≢ n = λ i. off (at ∙ sym i) in omega arith) in
+          omega arith
+      | inr away ↦
+          elim (cases_eq k n) [
+            | inl at ↦
+                let e = ap p at in
+                let rest = sum_below-part n p j (let o : j ≢ n = away in omega arith) in
+                omega arith
+            | inr far ↦
+                let rest = sum_below-two n p j k (let o : j ≢ n = away in omega arith) (let o : k ≢ n = far in omega arith) off in
+                omega arith
+          ]
+    ]
+
+pub sum_below-plus : (n : ℕ) (p q r : ℕ → ℕ) → ((k : ℕ) → k < n → r k ≡ p k + q k) → sum_below n r ≡ sum_below n p + sum_below n q
+unfolding sum_below
+sum_below-plus zero p q r e = refl
+sum_below-plus (suc n) p q r e =
+    let here = e n (omega arith) in
+    let rest = sum_below-plus n p q r (λ k b. e k (omega arith)) in
+    omega arith
+
 -- ---- the hands of all seats
 pub hands-one : (c : Holdings → ℕ) (z : Sizes) (h h2 : ℕ → Holdings) (s : ℕ) → s < z.vcpus → ((t : ℕ) → t ≢ s → h2 t ≡ h t) →
     hands c z h2 + c (h s) ≡ hands c z h + c (h2 s)
@@ -68,3 +98,11 @@ hands-same c z h h2 s b e k = let one = hands-one c z h h2 s b e in omega arith
 pub hands-part : (c : Holdings → ℕ) (z : Sizes) (h : ℕ → Holdings) (s : ℕ) → s < z.vcpus → c (h s) ≤ hands c z h
 unfolding hands
 hands-part c z h s b = sum_below-part z.vcpus (λ t. c (h t)) s b
+
+pub hands-two : (c : Holdings → ℕ) (z : Sizes) (h : ℕ → Holdings) (s t : ℕ) → s < z.vcpus → t < z.vcpus → s ≢ t → c (h s) + c (h t) ≤ hands c z h
+unfolding hands
+hands-two c z h s t a b off = sum_below-two z.vcpus (λ t. c (h t)) s t a b off
+
+pub hands-plus : (c d e : Holdings → ℕ) (z : Sizes) (h : ℕ → Holdings) → ((u : Holdings) → e u ≡ c u + d u) → hands e z h ≡ hands c z h + hands d z h
+unfolding hands
+hands-plus c d e z h k = sum_below-plus z.vcpus (λ t. c (h t)) (λ t. d (h t)) (λ t. e (h t)) (λ t b. k (h t))

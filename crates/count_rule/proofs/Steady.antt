@@ -1,0 +1,101 @@
+-- The recorded entries that an act leaves as they were.
+use Rattle.std.proofs.Common.{◌≡◌, ◌≢◌, ℕ, zero, suc, ◌+◌, ◌<◌, ◌≤◌, Bool, true, false, List, [], ◌∷◌, Option, Some, None, refl, sym, ◌∙◌, ap, subst, arith, inl, inr, IsTrue, if◌then◌else◌, add-one}
+use Rattle.std.proofs.lemmas.Bool.{cases_eq}
+use Rattle.xp_words.specs.declared.kind.PageType.{PageType}
+use Rattle.xp_words.specs.declared.entry.Demand.{Demand}
+use Rattle.xp_words.specs.declared.entry.Demand.TheVariants.{Typed}
+use Rattle.xp_words.specs.Places.{Sizes, Place, Vcpu, Refs, Kind, Cell}
+use Rattle.xp_board.specs.declared.holdings.Holdings.{Holdings}
+use Rattle.xp_board.specs.Readings.{kind_at, is_context, type_count}
+use Rattle.xp_board.specs.Sums.{sum_below}
+use Rattle.xp_board.specs.Lists.{one_at}
+use Rattle.xp_board.specs.Recorded.{work_of, held, held_of, names, names_typed, entry_demand, table_entries, entries, contexts, recorded_in}
+use Rattle.count_rule.proofs.Sums.{sum_below-same, sum_below-one, sum_below-part, one_at-same}
+
+pub work_of-same : (n : ℕ) (h h2 : ℕ → Holdings) (f : ℕ) → ((s : ℕ) → recorded_in (h2 s).works f ≡ recorded_in (h s).works f) → work_of n h2 f ≡ work_of n h f
+unfolding work_of
+work_of-same zero h h2 f e = refl
+work_of-same (suc n) h h2 f e = rw (e n) (rw (work_of-same n h h2 f e))
+
+table_entries-same : (c : Demand → ℕ) (m m2 : Place → ℕ) (o o2 : Option ℕ) (f : ℕ) → held_of (kind_at m2 f) o2 ≡ held_of (kind_at m f) o →
+    ((i : ℕ) → i < held_of (kind_at m f) o → entry_demand m2 f i ≡ entry_demand m f i) → table_entries c m2 o2 f ≡ table_entries c m o f
+unfolding table_entries
+table_entries-same c m m2 o o2 f k e = rw k (sum_below-same _ _ _ (λ i b. ap c (e i b)))
+
+pub entries-same : (c : Demand → ℕ) (z : Sizes) (m m2 : Place → ℕ) (h h2 : ℕ → Holdings) → ((f : ℕ) → held z m2 h2 f ≡ held z m h f) →
+    ((f i : ℕ) → i < held z m h f → entry_demand m2 f i ≡ entry_demand m f i) → entries c z m2 h2 ≡ entries c z m h
+unfolding entries
+entries-same c z m m2 h h2 k e = sum_below-same _ _ _ (λ f b. table_entries-same c m m2 _ _ f (k f) (e f))
+
+-- the entries of all tables but one are as they were
+pub entries-one : (c : Demand → ℕ) (z : Sizes) (m m2 : Place → ℕ) (h h2 : ℕ → Holdings) (f : ℕ) → f < z.frames →
+    ((g : ℕ) → g ≢ f → held z m2 h2 g ≡ held z m h g) → ((g i : ℕ) → g ≢ f → i < held z m h g → entry_demand m2 g i ≡ entry_demand m g i) →
+    entries c z m2 h2 + table_entries c m (work_of z.vcpus h f) f ≡ entries c z m h + table_entries c m2 (work_of z.vcpus h2 f) f
+unfolding entries
+entries-one c z m m2 h h2 f b k e =
+    sum_below-one z.frames (λ g. table_entries c m2 (work_of z.vcpus h2 g) g) (λ g. table_entries c m (work_of z.vcpus h g) g) f b
+    (λ g off. table_entries-same c m m2 _ _ g (k g off) (λ i l. e g i off l))
+
+-- one entry more
+pub table_entries-more : (c : Demand → ℕ) (m : Place → ℕ) (o o2 : Option ℕ) (f r : ℕ) → held_of (kind_at m f) o ≡ r → held_of (kind_at m f) o2 ≡ r + 1 →
+    table_entries c m o2 f ≡ table_entries c m o f + c (entry_demand m f r)
+unfolding table_entries sum_below
+table_entries-more c m o o2 f r a b = rw (a, b, add-one) refl
+
+-- one entry changes
+pub table_entries-changed : (c : Demand → ℕ) (m m2 : Place → ℕ) (o o2 : Option ℕ) (f i : ℕ) → held_of (kind_at m2 f) o2 ≡ held_of (kind_at m f) o →
+    i < held_of (kind_at m f) o → ((j : ℕ) → j ≢ i → entry_demand m2 f j ≡ entry_demand m f j) →
+    table_entries c m2 o2 f + c (entry_demand m f i) ≡ table_entries c m o f + c (entry_demand m2 f i)
+unfolding table_entries
+table_entries-changed c m m2 o o2 f i k b e =
+    rw k (sum_below-one _ (λ j. c (entry_demand m2 f j)) (λ j. c (entry_demand m f j)) i b (λ j off. ap c (e j off)))
+
+-- each recorded entry counts
+pub entries-part : (c : Demand → ℕ) (z : Sizes) (m : Place → ℕ) (h : ℕ → Holdings) (f i : ℕ) → f < z.frames → i < held z m h f → c (entry_demand m f i) ≤ entries c z m h
+unfolding entries table_entries
+entries-part c z m h f i b l =
+    let table = sum_below-part _ (λ j. c (entry_demand m f j)) i l in
+    let all = sum_below-part z.frames (λ g. table_entries c m (work_of z.vcpus h g) g) f b in
+    omega arith
+
+pub names_typed-typed : (g : ℕ) (t : PageType) (d : Demand) → d ≡ Typed g t → names_typed g d ≡ 1
+unfolding names_typed
+names_typed-typed g t d e = rw e (one_at-same g)
+
+-- ---- words of vCPUs
+context_same : (z : Sizes) (m m2 : Place → ℕ) (g v k : ℕ) (t : Bool) → is_context k ≡ t → ((v k : ℕ) → IsTrue (is_context k) → m2 (Vcpu v k) ≡ m (Vcpu v k)) →
+    (if t then one_at (g + 1) (m2 (Vcpu v k)) else 0) ≡ (if t then one_at (g + 1) (m (Vcpu v k)) else 0)
+context_same z m m2 g v k true at e = ap (one_at (g + 1)) (e v k at)
+context_same z m m2 g v k false at e = refl
+
+pub contexts-same : (z : Sizes) (m m2 : Place → ℕ) (g : ℕ) → ((v k : ℕ) → IsTrue (is_context k) → m2 (Vcpu v k) ≡ m (Vcpu v k)) → contexts z m2 g ≡ contexts z m g
+unfolding contexts
+contexts-same z m m2 g e = sum_below-same _ _ _ (λ v b. sum_below-same _ _ _ (λ k l. context_same z m m2 g v k (is_context k) refl e))
+
+-- one word changes
+pub contexts-one : (z : Sizes) (m m2 : Place → ℕ) (g v k : ℕ) → v < z.vcpus → k < 38 → IsTrue (is_context k) →
+    ((w j : ℕ) → Vcpu w j ≢ Vcpu v k → m2 (Vcpu w j) ≡ m (Vcpu w j)) →
+    contexts z m2 g + one_at (g + 1) (m (Vcpu v k)) ≡ contexts z m g + one_at (g + 1) (m2 (Vcpu v k))
+unfolding contexts
+contexts-one z m m2 g v k a b t e =
+    let inner =
+    sum_below-one 38 (λ j. if is_context j then one_at (g + 1) (m2 (Vcpu v j)) else 0) (λ j. if is_context j then one_at (g + 1) (m (Vcpu v j)) else 0) k b
+    (λ j off. ap (λ w. if is_context j then one_at (g + 1) w else 0) (e v j (λ at. off (cc))))
+    in
+    let outer =
+    sum_below-one z.vcpus (λ w. sum_below 38 (λ j. if is_context j then one_at (g + 1) (m2 (Vcpu w j)) else 0))
+    (λ w. sum_below 38 (λ j. if is_context j then one_at (g + 1) (m (Vcpu w j)) else 0)) v a
+    (λ w off. sum_below-same 38 _ _ (λ j l. ap (λ y. if is_context j then one_at (g + 1) y else 0) (e w j (λ at. off (cc)))))
+    in
+    let was : (if is_context k then one_at (g + 1) (m (Vcpu v k)) else 0) ≡ one_at (g + 1) (m (Vcpu v k)) = rw t refl in
+    let is : (if is_context k then one_at (g + 1) (m2 (Vcpu v k)) else 0) ≡ one_at (g + 1) (m2 (Vcpu v k)) = rw t refl in
+    omega arith
+
+-- each word that names a frame counts
+pub contexts-part : (z : Sizes) (m : Place → ℕ) (g v k : ℕ) → v < z.vcpus → k < 38 → IsTrue (is_context k) → m (Vcpu v k) ≡ g + 1 → 0 < contexts z m g
+unfolding contexts
+contexts-part z m g v k a b t e =
+    let inner = sum_below-part 38 (λ j. if is_context j then one_at (g + 1) (m (Vcpu v j)) else 0) k b in
+    let outer = sum_below-part z.vcpus (λ w. sum_below 38 (λ j. if is_context j then one_at (g + 1) (m (Vcpu w j)) else 0)) v a in
+    let here : (if is_context k then one_at (g + 1) (m (Vcpu v k)) else 0) ≡ 1 = rw (t, e) (one_at-same (g + 1)) in
+    omega arith
