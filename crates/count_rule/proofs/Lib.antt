@@ -5,10 +5,11 @@ mod Steady
 mod CountLaw
 mod PartLaws
 mod Twins
-mod Entries
-mod Moves
-mod Parts
 mod Words
 mod Learning
-mod Turns
-mod Outcomes
+mod Spellings
+mod SpelledLaw
+mod Told
+mod Outcome
+mod QuietActs
+mod Quiet

@@ -1,0 +1,160 @@
+-- An act that moves nothing that is counted.
+use Rattle.std.proofs.Common.{◌≡◌, ◌≢◌, ℕ, ◌+◌, ◌<◌, ◌≤◌, ◌/◌, Bool, true, false, Option, Some, None, refl, sym, ◌∙◌, ap, subst, arith, IsTrue, inl, inr}
+use Rattle.std.proofs.lemmas.Bool.{cases_eq}
+use Rattle.std.proofs.lemmas.Bool.Decides.{nat_tests}
+use Rattle.xp_words.specs.RefWords.{bit}
+use Rattle.xp_words.specs.Machine.{Machine}
+use Rattle.xp_words.specs.Places.{sizes_of, is_place, Place, Pages, Vcpu, Refs, Kind, Cell, Map}
+use Rattle.xp_words.specs.KindWords.{kind_fields}
+use Rattle.xp_board.specs.declared.holdings.Holdings.{Holdings}
+use Rattle.xp_board.specs.declared.holdings.Work.{Work}
+use Rattle.xp_board.specs.Lists.{times, EachOf}
+use Rattle.xp_board.specs.Readings.{kind_at, ref_count, allocated_mark, type_count, is_context, is_closing, is_locked, is_dying, is_free}
+use Rattle.xp_board.specs.Hands.{refs_to, typed_to, locks_on, works_on, endings_of, claims_of, work_on, hand, typed_hand}
+use Rattle.xp_board.specs.Sums.{sum_below}
+use Rattle.xp_board.specs.RefSteps.{is_closing_on}
+use Rattle.xp_board.specs.Recorded.{recorded_in, work_of, held, held_of, entry_demand, marks, HasType, is_page_of, CountsAgree}
+use Rattle.xp_board.specs.Sound.{is_busy, Spelled, HeldAlone, WorkAgrees, FreeMap, Sound}
+use Rattle.count_rule.proofs.Sums.{sum_below-same}
+use Rattle.count_rule.proofs.Lists.{EachOf-map, EachOf-both, EachOf-first}
+use Rattle.count_rule.proofs.Twins.{EachTwo, EachTwo-times, EachTwo-each, SameWork, SameLock, SameClaim, recorded_in-same}
+use Rattle.count_rule.proofs.Tables.{one_works}
+use Rattle.count_rule.proofs.Steady.{work_of-same}
+use Rattle.count_rule.proofs.CountLaw.{pages_of, Steady, HasType-same, types_steady, counted_steady, counts_law}
+use Rattle.count_rule.proofs.PartLaws.{alone_law, map_law, works_law}
+use Rattle.count_rule.proofs.Learning.{Kept}
+
+-- ---- a hand that keeps its lists
+pub works_times : (b c : Holdings) → EachTwo SameWork b.works c.works → (g : ℕ) → works_on g c.works ≡ works_on g b.works
+works_times b c k g = EachTwo-times SameWork (λ e. e.frame) g _ _ (λ x y r. r.frame) k
+
+pub locks_times : (b c : Holdings) → EachTwo SameLock b.locks c.locks → (g : ℕ) → locks_on g c.locks ≡ locks_on g b.locks
+locks_times b c k g = EachTwo-times SameLock (λ e. e.frame) g _ _ (λ x y r. r.frame) k
+
+pub claims_times : (b c : Holdings) → EachTwo SameClaim b.claimed c.claimed → (g : ℕ) → claims_of g c.claimed ≡ claims_of g b.claimed
+claims_times b c k g = EachTwo-times SameClaim (λ e. e.frame) g _ _ (λ x y r. r.frame) k
+
+pub hand_is : (g : ℕ) (u : Holdings) → hand g u ≡ refs_to g u.refs + typed_hand g u
+unfolding hand
+hand_is g u = refl
+
+pub typed_hand_is : (g : ℕ) (u : Holdings) → typed_hand g u ≡ typed_to g u.typed + locks_on g u.locks
+unfolding typed_hand
+typed_hand_is g u = refl
+
+-- whether the seat has the frame closing in its works
+abbrev pub is_closing_at : ℕ → Holdings → Bool
+is_closing_at g u = is_closing_on (work_on g u.works)
+
+inside_by : (n : Machine) (m : Place → ℕ) (h : ℕ → Holdings) (f i : ℕ) → Spelled n m → i < held (sizes_of n) m h f → (t : Bool) → is_place (sizes_of n) (Kind f) ≡ t → f < (sizes_of n).frames
+unfolding is_place held_of kind_fields
+inside_by n m h f i spelled l true at = grind (arith, nat_tests)
+inside_by n m h f i spelled l false at =
+    let none : m (Kind f) ≡ 0 = spelled.outside (Kind f) at in
+    absurd (let k : i < 0 = rw none at l in omega arith)
+
+-- the tables that the machine has are those of which entries are recorded
+pub held_inside : (n : Machine) (m : Place → ℕ) (h : ℕ → Holdings) (f i : ℕ) → Spelled n m → i < held (sizes_of n) m h f → f < (sizes_of n).frames
+held_inside n m h f i spelled l = inside_by n m h f i spelled l (is_place (sizes_of n) (Kind f)) refl
+
+module _ (n : Machine) (s : ℕ) (m m2 : Place → ℕ) (b c : ℕ → Holdings) (seat : s < (sizes_of n).vcpus) (others : (t : ℕ) → t ≢ s → c t ≡ b t) where
+  -- nobody's recorded entries but those of the own works change
+  pub recorded_same : (f : ℕ) → recorded_in (c s).works f ≡ recorded_in (b s).works f → (t : ℕ) → recorded_in (c t).works f ≡ recorded_in (b t).works f
+  recorded_same f e t =
+      elim (cases_eq t s) [
+        | inl at ↦ rw at e
+        | inr off ↦ rw (others t off)
+      ]
+
+  pub held_still : (f : ℕ) → m2 (Kind f) ≡ m (Kind f) → recorded_in (c s).works f ≡ recorded_in (b s).works f → held (sizes_of n) m2 c f ≡ held (sizes_of n) m b f
+  held_still f k e = rw k (ap (held_of (kind_at m f)) (work_of-same (sizes_of n).vcpus b c f (recorded_same f e)))
+
+  -- ---- works whose hand keeps its references
+  pub works_spared : EachTwo SameWork (b s).works (c s).works → ((g : ℕ) → IsTrue (is_closing_at g (b s)) → 0 < refs_to g (b s).refs → 0 < refs_to g (c s).refs) →
+      HeldAlone n m b → EachOf (WorkAgrees (b s)) (b s).works → EachOf (WorkAgrees (c s)) (c s).works
+  works_spared same spares alone old =
+      EachTwo-each SameWork (λ e. WorkAgrees (b s) e × (work_on e.frame (b s).works ≡ Some e)) (WorkAgrees (c s)) _ _
+      (λ x y r k.
+        record {
+          marked = λ u. r.recorded ∙ k.0.marked (rw r.word at u);
+          closing = λ t.
+              let closing : IsTrue (is_closing (kind_fields x.word)) = rw r.word at t in
+              rw r.frame (spares x.frame (rw k.1 closing) (k.0.closing closing));
+        })
+      same
+      (EachOf-both (WorkAgrees (b s)) _ _ old (EachOf-first (λ e. e.frame) (b s).works (λ g. one_works n m b alone g s seat)))
+
+  -- ---- nothing that is counted moves
+  pub record Calm : Type 0 where
+    pub refs : (g : ℕ) → m2 (Refs g) ≡ m (Refs g)
+    pub kinds : (g : ℕ) → m2 (Kind g) ≡ m (Kind g)
+    pub pages : (d : ℕ) → m2 (Pages d) ≡ m (Pages d)
+    pub maps : (k : ℕ) → m2 (Map k) ≡ m (Map k)
+    pub contexts : (v k : ℕ) → IsTrue (is_context k) → m2 (Vcpu v k) ≡ m (Vcpu v k)
+    pub demands : (f i : ℕ) → i < held (sizes_of n) m b f → entry_demand m2 f i ≡ entry_demand m f i
+
+  module _ (sound : Sound n m b) (calm : Calm) (kept : Kept (b s) (c s)) where
+    recorded_kept : (f : ℕ) → recorded_in (c s).works f ≡ recorded_in (b s).works f
+    recorded_kept f = recorded_in-same f _ _ kept.works
+
+    steady : Steady n s m m2 b c seat others
+    steady =
+        record {
+          held_same = λ f. held_still f (calm.kinds f) (recorded_kept f);
+          demand_same = calm.demands;
+          inside = λ f i l. held_inside n m b f i sound.spelled l;
+          context_same = calm.contexts;
+          type_same = λ g l. rw (calm.kinds g);
+        }
+
+    typed_hand_same : (g : ℕ) → typed_hand g (c s) ≡ typed_hand g (b s)
+    typed_hand_same g =
+        let p = typed_hand_is g (c s) in
+        let q = typed_hand_is g (b s) in
+        let t = ap (typed_to g) kept.typed in
+        let l = locks_times (b s) (c s) kept.locks g in
+        omega arith
+
+    hand_same : (g : ℕ) → hand g (c s) ≡ hand g (b s)
+    hand_same g =
+        let p = hand_is g (c s) in
+        let q = hand_is g (b s) in
+        let t = ap (refs_to g) kept.refs in
+        let l = typed_hand_same g in
+        omega arith
+
+    pub quiet_counts : CountsAgree (sizes_of n) m2 c
+    quiet_counts =
+        counts_law n s m m2 b c seat others
+        (counted_steady n s m m2 b c seat others steady sound.counts
+        (λ g. let e = hand_same g in rw (calm.refs g, calm.kinds g) (omega arith))
+        (λ g. let e = typed_hand_same g in rw (calm.kinds g) (omega arith))
+        (types_steady n s m m2 b c seat others steady sound.counts
+        (λ e. rw kept.typed e)
+        (λ e. EachTwo-each SameLock (λ e. HasType m2 e.frame (Some e.kind)) _ _ _ (λ x y r k. ap (λ f. (kind_at m2 f).kind) r.frame ∙ k ∙ sym r.kind) kept.locks e))
+        (λ d l.
+          let e = calm.pages d in
+          let f : pages_of n m2 d ≡ pages_of n m d = sum_below-same _ _ _ (λ f k. ap (is_page_of d) (calm.refs f)) in
+          let k = ap (times d) kept.credits in
+          omega arith))
+        sound.counts
+
+    pub quiet_alone : HeldAlone n m2 c
+    quiet_alone =
+        alone_law n s m m2 b c seat others
+        (λ g. let e = works_times (b s) (c s) kept.works g in rw (calm.kinds g) (omega arith))
+        (λ g. let e = locks_times (b s) (c s) kept.locks g in rw (calm.kinds g) (omega arith))
+        (λ g. let e = claims_times (b s) (c s) kept.claimed g in let k = ap (endings_of g) kept.ending in rw (calm.refs g) (omega arith))
+        sound.alone
+
+    pub quiet_map : FreeMap n m2 c
+    quiet_map =
+        map_law n s m m2 b c seat others
+        (λ g l. let e = ap (times g) kept.raised in rw (calm.refs g, calm.maps (g / 64)) (omega arith))
+        sound.map
+
+    pub quiet_works : (t : ℕ) → t < (sizes_of n).vcpus → EachOf (WorkAgrees (c t)) (c t).works
+    quiet_works =
+        works_law n s m m2 b c seat others
+        (works_spared kept.works (λ g k l. rw kept.refs l) sound.alone (sound.works s seat))
+        sound.works

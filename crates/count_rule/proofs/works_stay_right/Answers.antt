@@ -1,8 +1,0 @@
-use Rattle.count_rule.proofs.Outcomes.{outcome}
-use Rattle.count_rule.proofs.Parts.{works_after}
-use Rattle.count_rule.proofs.works_stay_right.Goals as goal
-
-pub returns : goal.returns
-returns c n s x m m2 h h2 seat legal stepped sound =
-    let o = outcome n s x m m2 h h2 seat legal stepped sound in
-    works_after n s m m2 h h2 o.like o.turn sound.alone sound.works
