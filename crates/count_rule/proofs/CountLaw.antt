@@ -1,18 +1,17 @@
 -- The counts after an act: each moves as much as what is counted.
-use Rattle.std.proofs.Common.{◌≡◌, ◌≢◌, ℕ, zero, suc, ◌+◌, ◌<◌, ◌≤◌, Bool, true, false, Option, Some, None, refl, sym, ◌∙◌, ap, subst, arith, IsTrue, inl, inr}
+use Rattle.std.proofs.Common.{◌≡◌, ◌≢◌, ℕ, ◌+◌, ◌<◌, Option, Some, None, sym, ◌∙◌, subst, arith, IsTrue, inl, inr}
 use Rattle.std.proofs.lemmas.Bool.{cases_eq}
 use Rattle.xp_words.specs.declared.kind.PageType.{PageType}
 use Rattle.xp_words.specs.declared.entry.Demand.TheVariants.{Typed}
-use Rattle.xp_words.specs.RefWords.{bit}
 use Rattle.xp_words.specs.Machine.{Machine}
-use Rattle.xp_words.specs.Places.{sizes_of, Place, Pages, Vcpu, Refs, Kind, Cell}
+use Rattle.xp_words.specs.Places.{sizes_of, Place, Pages, Vcpu, Refs}
 use Rattle.xp_board.specs.declared.holdings.Holdings.{Holdings}
 use Rattle.xp_board.specs.Lists.{times, EachOf}
 use Rattle.xp_board.specs.Readings.{kind_at, ref_count, allocated_mark, type_count, is_context}
 use Rattle.xp_board.specs.Hands.{typed_to, locks_on, hand, typed_hand}
 use Rattle.xp_board.specs.ContextSteps.{context_type}
 use Rattle.xp_board.specs.Sums.{sum_below}
-use Rattle.xp_board.specs.Recorded.{held, entry_demand, names, names_typed, entries, contexts, marks, hands, HasType, is_page_of, TypesAgree, CountsAgree}
+use Rattle.xp_board.specs.Recorded.{held, entry_demand, names, names_typed, entries, contexts, marks, HasType, is_page_of, TypesAgree, CountsAgree}
 use Rattle.count_rule.proofs.Sums.{hands-one, hands-part}
 use Rattle.count_rule.proofs.Lists.{EachOf-map, EachOf-counted, EachOf-both}
 use Rattle.count_rule.proofs.Steady.{entries-same, contexts-same, entries-part, contexts-part, names_typed-typed}
@@ -81,10 +80,10 @@ module _ (n : Machine) (s : ℕ) (m m2 : Place → ℕ) (b c : ℕ → Holdings)
     typed_same t l =
         EachOf-map (λ e. (0 < typed_to e.frame (b t).typed) × HasType m e.frame e.kind) (λ e. HasType m2 e.frame e.kind) (b t).typed
         (λ e k.
-          let part = hands-part (typed_hand e.frame) (sizes_of n) b t l in
-          let all = old.types e.frame in
-          let some = k.0 in
-          HasType-same e.frame e.kind (steady.type_same e.frame (omega arith)) k.1)
+        let part = hands-part (typed_hand e.frame) (sizes_of n) b t l in
+        let all = old.types e.frame in
+        let some = k.0 in
+        HasType-same e.frame e.kind (steady.type_same e.frame (omega arith)) k.1)
         (EachOf-both (λ e. 0 < typed_to e.frame (b t).typed) _ _ (EachOf-counted (λ e. e.frame) (b t).typed) (old.kinds.typed t l))
 
     locks_same : (t : ℕ) → t < (sizes_of n).vcpus → EachOf (λ e. HasType m2 e.frame (Some e.kind)) (b t).locks
@@ -92,10 +91,10 @@ module _ (n : Machine) (s : ℕ) (m m2 : Place → ℕ) (b c : ℕ → Holdings)
     locks_same t l =
         EachOf-map (λ e. (0 < locks_on e.frame (b t).locks) × HasType m e.frame (Some e.kind)) (λ e. HasType m2 e.frame (Some e.kind)) (b t).locks
         (λ e k.
-          let part = hands-part (typed_hand e.frame) (sizes_of n) b t l in
-          let all = old.types e.frame in
-          let some = k.0 in
-          HasType-same e.frame (Some e.kind) (steady.type_same e.frame (omega arith)) k.1)
+        let part = hands-part (typed_hand e.frame) (sizes_of n) b t l in
+        let all = old.types e.frame in
+        let some = k.0 in
+        HasType-same e.frame (Some e.kind) (steady.type_same e.frame (omega arith)) k.1)
         (EachOf-both (λ e. 0 < locks_on e.frame (b t).locks) _ _ (EachOf-counted (λ e. e.frame) (b t).locks) (old.kinds.locks t l))
 
     pub contexts_steady : (v k g : ℕ) → v < (sizes_of n).vcpus → k < 38 → IsTrue (is_context k) → m2 (Vcpu v k) ≡ g + 1 → HasType m2 g (context_type k)

@@ -1,5 +1,5 @@
 -- What a hand keeps as it learns a word.
-use Rattle.std.proofs.Common.{◌≡◌, ◌≢◌, ℕ, ◌==◌, Bool, true, false, if◌then◌else◌, List, [], refl, sym, ◌∙◌, ap}
+use Rattle.std.proofs.Common.{◌≡◌, ℕ, ◌==◌, Bool, true, false, if◌then◌else◌, List, [], refl, sym, ◌∙◌}
 use Rattle.xp_words.specs.KindWords.{kind_fields}
 use Rattle.xp_words.specs.Places.{Place, Clock, Pages, Life, Vcpu, Refs, Kind, M2p, Cell, Map, Priv}
 use Rattle.xp_board.specs.declared.holdings.Holdings.{Holdings}
@@ -126,7 +126,7 @@ pub same_refl : (b c : Holdings) → c.refs ≡ b.refs → c.typed ≡ b.typed �
     c.credits ≡ b.credits → Same b c
 same_refl b c r t w l e k a d = record { refs = r; typed = t; works = w; locks = l; ending = e; claimed = k; raised = a; credits = d }
 
-kept_of-none : {A : Type 0} (test : A → Bool) (xs : List A) → xs ≡ [] → kept_of test xs ≡ []
+pub kept_of-none : {A : Type 0} (test : A → Bool) (xs : List A) → xs ≡ [] → kept_of test xs ≡ []
 unfolding kept_of
 kept_of-none test xs e = rw e refl
 

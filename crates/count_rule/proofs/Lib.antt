@@ -12,4 +12,10 @@ mod SpelledLaw
 mod Told
 mod Outcome
 mod QuietActs
+mod Demands
+mod EntryMarks
+mod RecordMarks
+mod RefLaw
+mod RefActs
+mod Laws
 mod Quiet

@@ -1,7 +1,7 @@
 -- The lists of a hand.
-use Rattle.std.proofs.Common.{◌≡◌, ◌≢◌, ℕ, ◌+◌, ◌<◌, ◌≤◌, List, [], ◌∷◌, Option, Some, None, refl, sym, ◌∙◌, ap, arith, inl, inr}
+use Rattle.std.proofs.Common.{◌≡◌, ◌≢◌, ℕ, ◌+◌, ◌<◌, ◌≤◌, List, [], ◌∷◌, Option, Some, None, refl, sym, ◌∙◌, ap, subst, arith, inl, inr}
 use Rattle.std.proofs.lemmas.Bool.{cases_eq}
-use Rattle.xp_board.specs.Lists.{one_at, times_by, first_by, without_by, EachOf}
+use Rattle.xp_board.specs.Lists.{one_at, times_by, first_by, without_by, changed_by, EachOf}
 use Rattle.count_rule.proofs.Sums.{when_eq, when_ne}
 
 pub times_by-cons : {A : Type 0} (key : A → ℕ) (g : ℕ) (x : A) (xs : List A) → times_by key g (x ∷ xs) ≡ one_at g (key x) + times_by key g xs
@@ -139,3 +139,80 @@ EachOf-apart key f (x ∷ xs) n = (
   λ at. let one : one_at f (key x) ≡ 1 = rw (when_eq (key x) f at) in absurd (omega arith),
   EachOf-apart key f xs (omega arith),
 )
+
+-- the first element of a number has it, and is one of the list
+pub EachOf-found : {A : Type 0} (P : A → Type 0) (key : A → ℕ) (f : ℕ) (xs : List A) (e : A) → first_by key f xs ≡ Some e → EachOf P xs → (key e ≡ f) × P e
+unfolding EachOf first_by
+EachOf-found P key f [] e here each = absurd (cc)
+EachOf-found P key f (x ∷ xs) e here each =
+    elim (cases_eq (key x) f) [
+      | inl at ↦
+          let k : Some x ≡ Some e = rw (when_eq (key x) f at) at here in
+          let i : x ≡ e = cc in
+          (ap key (sym i) ∙ at, subst P i each.0)
+      | inr off ↦ EachOf-found P key f xs e (rw (when_ne (key x) f off) at here) each.1
+    ]
+
+pub times_by-without_one : {A : Type 0} (key : A → ℕ) (f : ℕ) (xs : List A) → times_by key f xs ≤ 1 → times_by key f (without_by key f xs) ≡ 0
+unfolding times_by without_by
+times_by-without_one key f [] few = refl
+times_by-without_one key f (x ∷ xs) few =
+    elim (cases_eq (key x) f) [
+      | inl at ↦ let one : one_at f (key x) ≡ 1 = rw (when_eq (key x) f at) in rw (when_eq (key x) f at) (omega arith)
+      | inr off ↦
+          let none : one_at f (key x) ≡ 0 = rw (when_ne (key x) f off) in
+          let rest = times_by-without_one key f xs (omega arith) in
+          rw (when_ne (key x) f off) (omega arith)
+    ]
+
+pub first_by-absent : {A : Type 0} (key : A → ℕ) (f : ℕ) (xs : List A) → first_by key f xs ≡ None → times_by key f xs ≡ 0
+unfolding times_by first_by
+first_by-absent key f [] none = refl
+first_by-absent key f (x ∷ xs) none =
+    elim (cases_eq (key x) f) [
+      | inl at ↦ let k : Some x ≡ None = rw (when_eq (key x) f at) at none in absurd (cc)
+      | inr off ↦
+          let zero : one_at f (key x) ≡ 0 = rw (when_ne (key x) f off) in
+          let rest = first_by-absent key f xs (rw (when_ne (key x) f off) at none) in
+          omega arith
+    ]
+
+found_by : {A : Type 0} (key : A → ℕ) (f : ℕ) (xs : List A) (o : Option A) → first_by key f xs ≡ o → 0 < times_by key f xs → (e : A) × (first_by key f xs ≡ Some e)
+found_by key f xs (Some e) at some = (e, at)
+found_by key f xs None at some = let none = first_by-absent key f xs at in absurd (omega arith)
+
+pub first_by-some : {A : Type 0} (key : A → ℕ) (f : ℕ) (xs : List A) → 0 < times_by key f xs → (e : A) × (first_by key f xs ≡ Some e)
+first_by-some key f xs some = found_by key f xs (first_by key f xs) refl some
+
+-- ---- a list with the first element of a number changed
+pub first_by-changed_here : {A : Type 0} (key : A → ℕ) (f : ℕ) (change : A → A) (xs : List A) (e : A) → ((x : A) → key (change x) ≡ key x) → first_by key f xs ≡ Some e →
+    first_by key f (changed_by key f change xs) ≡ Some (change e)
+unfolding first_by changed_by
+first_by-changed_here key f change [] e k here = absurd (cc)
+first_by-changed_here key f change (x ∷ xs) e k here =
+    elim (cases_eq (key x) f) [
+      | inl at ↦
+          let i : Some x ≡ Some e = rw (when_eq (key x) f at) at here in
+          let j : x ≡ e = cc in
+          rw (when_eq (key x) f at) (rw (when_eq (key (change x)) f (k x ∙ at)) (ap (λ y. Some (change y)) j))
+      | inr off ↦
+          let rest = first_by-changed_here key f change xs e k (rw (when_ne (key x) f off) at here) in
+          rw (when_ne (key x) f off) (rw (when_ne (key x) f off) rest)
+    ]
+
+pub first_by-changed_other : {A : Type 0} (key : A → ℕ) (g f : ℕ) (change : A → A) (xs : List A) → ((x : A) → key (change x) ≡ key x) → g ≢ f →
+    first_by key g (changed_by key f change xs) ≡ first_by key g xs
+unfolding first_by changed_by
+first_by-changed_other key g f change [] k n = refl
+first_by-changed_other key g f change (x ∷ xs) k n =
+    elim (cases_eq (key x) f) [
+      | inl at ↦
+          rw (when_eq (key x) f at)
+          (rw (when_ne (key (change x)) g (λ e. n (sym e ∙ k x ∙ at)), when_ne (key x) g (λ e. n (sym e ∙ at))) refl)
+      | inr off ↦
+          rw (when_ne (key x) f off)
+          (elim (cases_eq (key x) g) [
+            | inl here ↦ rw (when_eq (key x) g here) refl
+            | inr there ↦ rw (when_ne (key x) g there) (first_by-changed_other key g f change xs k n)
+          ])
+    ]

@@ -1,15 +1,12 @@
 -- The parts of a sound machine that an act leaves, and what an act leaves that moves nothing that is counted.
-use Rattle.std.proofs.Common.{◌≡◌, ◌≢◌, ℕ, ◌+◌, ◌<◌, ◌≤◌, Bool, true, false, if◌then◌else◌, [], Some, None, refl, sym, ◌∙◌, ap, subst, arith, IsTrue, inl, inr}
+use Rattle.std.proofs.Common.{◌≡◌, ◌≢◌, ℕ, ◌<◌, Bool, true, false, Some, refl, ap}
 use Rattle.xp_words.specs.Machine.{Machine}
-use Rattle.xp_words.specs.Places.{sizes_of, is_place, Place, Clock, Pages, Life, Vcpu, Refs, Kind, M2p, Cell, Map, Priv}
+use Rattle.xp_words.specs.Places.{sizes_of, Place, Pages, Vcpu, Refs, Kind, Cell, Map}
 use Rattle.xp_board.specs.declared.holdings.Holdings.{Holdings}
-use Rattle.xp_board.specs.declared.step.Step.{Step}
-use Rattle.xp_board.specs.declared.step.StepKind.{StepKind}
 use Rattle.xp_board.specs.Lists.{EachOf}
-use Rattle.xp_board.specs.Readings.{kind_at, is_context}
-use Rattle.xp_board.specs.Recorded.{held, entry_demand, CountsAgree}
+use Rattle.xp_board.specs.Readings.{is_context}
+use Rattle.xp_board.specs.Recorded.{entry_demand, CountsAgree}
 use Rattle.xp_board.specs.Sound.{Spelled, HeldAlone, WorkAgrees, Stamped, Idle, FreeMap, Sound}
-use Rattle.xp_board.proofs.ActEffects.{Wrote}
 use Rattle.count_rule.proofs.Learning.{Kept}
 use Rattle.count_rule.proofs.Quiet.{Calm, quiet_counts, quiet_alone, quiet_map, quiet_works}
 

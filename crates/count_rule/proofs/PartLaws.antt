@@ -1,11 +1,10 @@
 -- The other parts of a sound machine after an act, each by what it reads.
-use Rattle.std.proofs.Common.{◌≡◌, ◌≢◌, ℕ, ◌+◌, ◌<◌, ◌≤◌, ◌/◌, ◌^◌, ◌%◌, Bool, true, false, [], Some, None, refl, sym, ◌∙◌, ap, subst, arith, IsTrue, inl, inr}
+use Rattle.std.proofs.Common.{◌≡◌, ◌≢◌, ℕ, ◌+◌, ◌<◌, ◌≤◌, ◌^◌, true, false, [], None, sym, ◌∙◌, ap, subst, arith, IsTrue, inl, inr}
 use Rattle.std.proofs.lemmas.Bool.{cases_eq}
 use Rattle.xp_words.specs.RefWords.{bit}
 use Rattle.xp_words.specs.Machine.{Machine}
-use Rattle.xp_words.specs.Places.{sizes_of, is_place, Place, Clock, Vcpu, Refs, Kind, Map}
+use Rattle.xp_words.specs.Places.{sizes_of, is_place, Place, Clock, Vcpu, Refs, Kind}
 use Rattle.xp_board.specs.declared.holdings.Holdings.{Holdings}
-use Rattle.xp_board.specs.declared.holdings.Work.{Work}
 use Rattle.xp_board.specs.Lists.{times, EachOf}
 use Rattle.xp_board.specs.Readings.{kind_at, is_locked, is_dying, is_free, free_stamp, kind_stamp}
 use Rattle.xp_board.specs.Hands.{works_on, locks_on, endings_of, claims_of, IsEmptyHand}
@@ -126,19 +125,23 @@ module _ (n : Machine) (s : ℕ) (m m2 : Place → ℕ) (b c : ℕ → Holdings)
         | inr off ↦ idle_other v (words v off) off (old v l)
       ]
 
-  -- or its hand stays as it is
-  pub idle_still : ((v : ℕ) → m2 (Vcpu v 6) ≡ m (Vcpu v 6)) → (IsEmptyHand (b s) → IsEmptyHand (c s)) → (c s).cold ≡ (b s).cold → (c s).cache ≡ (b s).cache → (c s).walk ≡ (b s).walk →
-      ((v : ℕ) → v < (sizes_of n).vcpus → Idle n m b v) → (v : ℕ) → v < (sizes_of n).vcpus → Idle n m2 c v
-  idle_still words empty cold cache walk old v l =
+  -- or its hand and its translations are no more than they were
+  pub idle_fewer : ((v : ℕ) → m2 (Vcpu v 6) ≡ m (Vcpu v 6)) → (IsEmptyHand (b s) → IsEmptyHand (c s)) → (c s).cold ≡ (b s).cold → ((b s).cache ≡ [] → (c s).cache ≡ []) →
+      ((b s).walk ≡ None → (c s).walk ≡ None) → ((v : ℕ) → v < (sizes_of n).vcpus → Idle n m b v) → (v : ℕ) → v < (sizes_of n).vcpus → Idle n m2 c v
+  idle_fewer words empty cold cache walk old v l =
       elim (cases_eq v s) [
         | inl at ↦
             subst (Idle n m2 c) (sym at)
             (record {
               hand = λ k. empty ((old s seat).hand (λ e. k (words s ∙ e)));
-              cache = λ k. cache ∙ (old s seat).cache (λ e. k (words s ∙ e));
-              walk = λ k. walk ∙ (old s seat).walk (λ e. k (words s ∙ e));
-              cold_cache = λ k. cache ∙ (old s seat).cold_cache (sym cold ∙ k);
-              cold_walk = λ k. walk ∙ (old s seat).cold_walk (sym cold ∙ k);
+              cache = λ k. cache ((old s seat).cache (λ e. k (words s ∙ e)));
+              walk = λ k. walk ((old s seat).walk (λ e. k (words s ∙ e)));
+              cold_cache = λ k. cache ((old s seat).cold_cache (sym cold ∙ k));
+              cold_walk = λ k. walk ((old s seat).cold_walk (sym cold ∙ k));
             })
         | inr off ↦ idle_other v (words v) off (old v l)
       ]
+
+  pub idle_still : ((v : ℕ) → m2 (Vcpu v 6) ≡ m (Vcpu v 6)) → (IsEmptyHand (b s) → IsEmptyHand (c s)) → (c s).cold ≡ (b s).cold → (c s).cache ≡ (b s).cache → (c s).walk ≡ (b s).walk →
+      ((v : ℕ) → v < (sizes_of n).vcpus → Idle n m b v) → (v : ℕ) → v < (sizes_of n).vcpus → Idle n m2 c v
+  idle_still words empty cold cache walk old v l = idle_fewer words empty cold (λ e. cache ∙ e) (λ e. walk ∙ e) old v l

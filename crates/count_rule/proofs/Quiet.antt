@@ -1,26 +1,25 @@
 -- An act that moves nothing that is counted.
-use Rattle.std.proofs.Common.{◌≡◌, ◌≢◌, ℕ, ◌+◌, ◌<◌, ◌≤◌, ◌/◌, Bool, true, false, Option, Some, None, refl, sym, ◌∙◌, ap, subst, arith, IsTrue, inl, inr}
+use Rattle.std.proofs.Common.{◌≡◌, ◌≢◌, ℕ, ◌+◌, ◌<◌, ◌/◌, Bool, true, false, List, Some, refl, sym, ◌∙◌, ap, arith, IsTrue, inl, inr}
 use Rattle.std.proofs.lemmas.Bool.{cases_eq}
 use Rattle.std.proofs.lemmas.Bool.Decides.{nat_tests}
-use Rattle.xp_words.specs.RefWords.{bit}
 use Rattle.xp_words.specs.Machine.{Machine}
-use Rattle.xp_words.specs.Places.{sizes_of, is_place, Place, Pages, Vcpu, Refs, Kind, Cell, Map}
+use Rattle.xp_words.specs.Places.{sizes_of, is_place, Place, Pages, Vcpu, Refs, Kind, Map}
+use Rattle.xp_words.specs.PageTypes.{is_table}
 use Rattle.xp_words.specs.KindWords.{kind_fields}
 use Rattle.xp_board.specs.declared.holdings.Holdings.{Holdings}
 use Rattle.xp_board.specs.declared.holdings.Work.{Work}
 use Rattle.xp_board.specs.Lists.{times, EachOf}
-use Rattle.xp_board.specs.Readings.{kind_at, ref_count, allocated_mark, type_count, is_context, is_closing, is_locked, is_dying, is_free}
+use Rattle.xp_board.specs.Readings.{kind_at, is_context, is_closing}
 use Rattle.xp_board.specs.Hands.{refs_to, typed_to, locks_on, works_on, endings_of, claims_of, work_on, hand, typed_hand}
-use Rattle.xp_board.specs.Sums.{sum_below}
 use Rattle.xp_board.specs.RefSteps.{is_closing_on}
-use Rattle.xp_board.specs.Recorded.{recorded_in, work_of, held, held_of, entry_demand, marks, HasType, is_page_of, CountsAgree}
-use Rattle.xp_board.specs.Sound.{is_busy, Spelled, HeldAlone, WorkAgrees, FreeMap, Sound}
+use Rattle.xp_board.specs.Recorded.{recorded_in, held, held_of, entry_demand, HasType, is_page_of, CountsAgree}
+use Rattle.xp_board.specs.Sound.{Spelled, HeldAlone, WorkAgrees, FreeMap, Sound}
 use Rattle.count_rule.proofs.Sums.{sum_below-same}
-use Rattle.count_rule.proofs.Lists.{EachOf-map, EachOf-both, EachOf-first}
-use Rattle.count_rule.proofs.Twins.{EachTwo, EachTwo-times, EachTwo-each, SameWork, SameLock, SameClaim, recorded_in-same}
+use Rattle.count_rule.proofs.Lists.{EachOf-both, EachOf-first}
+use Rattle.count_rule.proofs.Twins.{EachTwo, EachTwo-times, EachTwo-each, EachTwo-map, SameWork, LikeWork, SameLock, SameClaim, recorded_in-same}
 use Rattle.count_rule.proofs.Tables.{one_works}
 use Rattle.count_rule.proofs.Steady.{work_of-same}
-use Rattle.count_rule.proofs.CountLaw.{pages_of, Steady, HasType-same, types_steady, counted_steady, counts_law}
+use Rattle.count_rule.proofs.CountLaw.{pages_of, Steady, types_steady, counted_steady, counts_law}
 use Rattle.count_rule.proofs.PartLaws.{alone_law, map_law, works_law}
 use Rattle.count_rule.proofs.Learning.{Kept}
 
@@ -53,6 +52,20 @@ inside_by n m h f i spelled l false at =
     let none : m (Kind f) ≡ 0 = spelled.outside (Kind f) at in
     absurd (let k : i < 0 = rw none at l in omega arith)
 
+pub like_works : (xs ys : List Work) → EachTwo SameWork xs ys → EachTwo LikeWork xs ys
+like_works xs ys e = EachTwo-map SameWork LikeWork xs ys (λ x y r. record { frame = r.frame; word = r.word; recorded = λ u. r.recorded }) e
+
+table_by : (n : Machine) (m : Place → ℕ) (f : ℕ) → Spelled n m → IsTrue (is_table (kind_at m f).kind) → (t : Bool) → is_place (sizes_of n) (Kind f) ≡ t → f < (sizes_of n).frames
+unfolding is_place kind_fields
+table_by n m f spelled k true at = grind (arith, nat_tests)
+table_by n m f spelled k false at =
+    let none : m (Kind f) ≡ 0 = spelled.outside (Kind f) at in
+    let t : IsTrue (is_table (kind_fields 0).kind) = rw none at k in
+    absurd (cc)
+
+pub table_inside : (n : Machine) (m : Place → ℕ) (f : ℕ) → Spelled n m → IsTrue (is_table (kind_at m f).kind) → f < (sizes_of n).frames
+table_inside n m f spelled k = table_by n m f spelled k (is_place (sizes_of n) (Kind f)) refl
+
 -- the tables that the machine has are those of which entries are recorded
 pub held_inside : (n : Machine) (m : Place → ℕ) (h : ℕ → Holdings) (f i : ℕ) → Spelled n m → i < held (sizes_of n) m h f → f < (sizes_of n).frames
 held_inside n m h f i spelled l = inside_by n m h f i spelled l (is_place (sizes_of n) (Kind f)) refl
@@ -70,17 +83,17 @@ module _ (n : Machine) (s : ℕ) (m m2 : Place → ℕ) (b c : ℕ → Holdings)
   held_still f k e = rw k (ap (held_of (kind_at m f)) (work_of-same (sizes_of n).vcpus b c f (recorded_same f e)))
 
   -- ---- works whose hand keeps its references
-  pub works_spared : EachTwo SameWork (b s).works (c s).works → ((g : ℕ) → IsTrue (is_closing_at g (b s)) → 0 < refs_to g (b s).refs → 0 < refs_to g (c s).refs) →
+  pub works_spared : EachTwo LikeWork (b s).works (c s).works → ((g : ℕ) → IsTrue (is_closing_at g (b s)) → 0 < refs_to g (b s).refs → 0 < refs_to g (c s).refs) →
       HeldAlone n m b → EachOf (WorkAgrees (b s)) (b s).works → EachOf (WorkAgrees (c s)) (c s).works
   works_spared same spares alone old =
-      EachTwo-each SameWork (λ e. WorkAgrees (b s) e × (work_on e.frame (b s).works ≡ Some e)) (WorkAgrees (c s)) _ _
+      EachTwo-each LikeWork (λ e. WorkAgrees (b s) e × (work_on e.frame (b s).works ≡ Some e)) (WorkAgrees (c s)) _ _
       (λ x y r k.
-        record {
-          marked = λ u. r.recorded ∙ k.0.marked (rw r.word at u);
-          closing = λ t.
-              let closing : IsTrue (is_closing (kind_fields x.word)) = rw r.word at t in
-              rw r.frame (spares x.frame (rw k.1 closing) (k.0.closing closing));
-        })
+      record {
+        marked = λ u. let was : (kind_fields x.word).unflushed ≡ true = rw r.word at u in r.recorded was ∙ k.0.marked was;
+        closing = λ t.
+            let closing : IsTrue (is_closing (kind_fields x.word)) = rw r.word at t in
+            rw r.frame (spares x.frame (rw k.1 closing) (k.0.closing closing));
+      })
       same
       (EachOf-both (WorkAgrees (b s)) _ _ old (EachOf-first (λ e. e.frame) (b s).works (λ g. one_works n m b alone g s seat)))
 
@@ -133,10 +146,10 @@ module _ (n : Machine) (s : ℕ) (m m2 : Place → ℕ) (b c : ℕ → Holdings)
         (λ e. rw kept.typed e)
         (λ e. EachTwo-each SameLock (λ e. HasType m2 e.frame (Some e.kind)) _ _ _ (λ x y r k. ap (λ f. (kind_at m2 f).kind) r.frame ∙ k ∙ sym r.kind) kept.locks e))
         (λ d l.
-          let e = calm.pages d in
-          let f : pages_of n m2 d ≡ pages_of n m d = sum_below-same _ _ _ (λ f k. ap (is_page_of d) (calm.refs f)) in
-          let k = ap (times d) kept.credits in
-          omega arith))
+        let e = calm.pages d in
+        let f : pages_of n m2 d ≡ pages_of n m d = sum_below-same _ _ _ (λ f k. ap (is_page_of d) (calm.refs f)) in
+        let k = ap (times d) kept.credits in
+        omega arith))
         sound.counts
 
     pub quiet_alone : HeldAlone n m2 c
@@ -156,5 +169,5 @@ module _ (n : Machine) (s : ℕ) (m m2 : Place → ℕ) (b c : ℕ → Holdings)
     pub quiet_works : (t : ℕ) → t < (sizes_of n).vcpus → EachOf (WorkAgrees (c t)) (c t).works
     quiet_works =
         works_law n s m m2 b c seat others
-        (works_spared kept.works (λ g k l. rw kept.refs l) sound.alone (sound.works s seat))
+        (works_spared (like_works (b s).works (c s).works kept.works) (λ g k l. rw kept.refs l) sound.alone (sound.works s seat))
         sound.works

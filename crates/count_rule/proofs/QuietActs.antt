@@ -1,26 +1,22 @@
 -- Acts that move nothing that is counted: loads, lost exchanges, walks, and stores of words that no part reads.
-use Rattle.std.proofs.Common.{◌≡◌, ◌≢◌, ℕ, ◌+◌, ◌%◌, ◌^◌, ◌<◌, ◌≤◌, ◌==◌, not, nat_lt, max, Bool, true, false, if◌then◌else◌, [], length, Some, None, refl, sym, ◌∙◌, ap, subst, arith, IsTrue, inl, inr}
+use Rattle.std.proofs.Common.{◌≡◌, ◌≢◌, ℕ, ◌+◌, ◌^◌, ◌<◌, ◌≤◌, ◌==◌, not, nat_lt, Bool, true, false, if◌then◌else◌, [], length, Some, None, refl, sym, ◌∙◌, ap, subst, arith, inl, inr}
 use Rattle.std.proofs.lemmas.Bool.{cases_eq}
-use Rattle.std.proofs.lemmas.Bool.Decides.{nat_tests}
 use Rattle.xp_words.specs.Entries.{is_bit, frame_of}
 use Rattle.xp_words.specs.Machine.{Machine}
-use Rattle.xp_words.specs.Places.{sizes_of, is_place, Place, Clock, Pages, Life, Vcpu, Refs, Kind, M2p, Cell, Map, Priv}
+use Rattle.xp_words.specs.Places.{sizes_of, Place, Clock, Life, Vcpu, Kind, M2p, Cell, Priv}
 use Rattle.xp_board.specs.declared.holdings.Holdings.{Holdings}
 use Rattle.xp_board.specs.declared.holdings.Walk.{Walk}
 use Rattle.xp_board.specs.declared.step.Step.{Step}
-use Rattle.xp_board.specs.declared.step.StepKind.{StepKind}
 use Rattle.xp_board.specs.Hands.{IsEmptyHand}
-use Rattle.xp_board.specs.Acts.{left_by}
 use Rattle.xp_board.specs.Spelling.{IsSpelling}
 use Rattle.xp_board.specs.FillSteps.{walked_by, level_of, touched, started, loaded, descended}
-use Rattle.xp_board.specs.AckSteps.{after_ack}
 use Rattle.xp_board.specs.RunSteps.{ran_now}
-use Rattle.xp_board.specs.After.{noted, learned, learned_own, learned_life, learned_cell}
+use Rattle.xp_board.specs.After.{noted, learned_own, learned_life}
 use Rattle.xp_board.specs.Keeping.{MayAct}
 use Rattle.xp_board.specs.Sound.{Spelled, Sound, Idle}
-use Rattle.xp_board.proofs.ActEffects.{Wrote, Looked, Missed, Started, WentOn, Stumbled, Mapped, Based, Asked, Flushed, Ran, Ticked, Doomed, Buried, Privileged}
-use Rattle.count_rule.proofs.Learning.{Kept, Same, Still, Learnt, learnt, same_refl, same_hand, same_own, same_life, kept_same, kept_cell, kept_noted, still_own, still_life, empty_kept, either}
-use Rattle.count_rule.proofs.PartLaws.{spelled_by, spelled_same, stamped_by, stamped_same, idle_running, idle_still, idle_other}
+use Rattle.xp_board.proofs.ActEffects.{Looked, Missed, Started, WentOn, Stumbled, Mapped, Based, Asked, Flushed, Ran, Ticked, Doomed, Buried, Privileged}
+use Rattle.count_rule.proofs.Learning.{Kept, Same, learnt, same_refl, same_hand, same_own, same_life, kept_same, kept_cell, kept_noted, still_own, still_life, empty_kept, either}
+use Rattle.count_rule.proofs.PartLaws.{spelled_same, stamped_by, stamped_same, idle_running, idle_still, idle_other}
 use Rattle.count_rule.proofs.SpelledLaw.{wrote_spelled}
 use Rattle.count_rule.proofs.Told.{clock_told}
 use Rattle.count_rule.proofs.Sums.{when_eq, when_ne}

@@ -1,9 +1,7 @@
 -- What an act stores is a spelling.
-use Rattle.std.proofs.Common.{◌≡◌, ◌≢◌, ℕ, ◌+◌, ◌%◌, ◌^◌, ◌<◌, ◌≤◌, ◌==◌, max, if◌then◌else◌, Bool, true, false, Some, None, refl, sym, ◌∙◌, ap, subst, arith, IsTrue, inl, inr}
-use Rattle.std.proofs.lemmas.Bool.{cases_eq}
-use Rattle.std.proofs.lemmas.Bool.Decides.{nat_tests}
+use Rattle.std.proofs.Common.{◌≡◌, ℕ, ◌+◌, ◌%◌, ◌^◌, ◌<◌, ◌==◌, max, if◌then◌else◌, Bool, true, false, refl, sym, subst}
 use Rattle.xp_words.specs.Machine.{Machine, IsMachine}
-use Rattle.xp_words.specs.Places.{sizes_of, is_place, Place}
+use Rattle.xp_words.specs.Places.{Place}
 use Rattle.xp_board.specs.declared.holdings.Holdings.{Holdings}
 use Rattle.xp_board.specs.declared.step.Act.{Act}
 use Rattle.xp_board.specs.declared.step.Act.TheVariants.{Load, Cas, Store, Add, Max}
@@ -13,7 +11,6 @@ use Rattle.xp_board.specs.Acts.{left_by}
 use Rattle.xp_board.specs.Spelling.{IsSpelling}
 use Rattle.xp_board.specs.Legal.{LegalAs, WritesSpelling}
 use Rattle.xp_board.specs.Keeping.{MayAct}
-use Rattle.xp_board.specs.Runs.{place_of}
 use Rattle.xp_board.specs.Sound.{Spelled}
 use Rattle.xp_board.proofs.ActEffects.{Wrote}
 use Rattle.count_rule.proofs.PartLaws.{spelled_by}

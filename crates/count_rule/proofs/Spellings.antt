@@ -1,10 +1,10 @@
 -- A spelling is below 2^64.
-use Rattle.std.proofs.Common.{◌≡◌, ◌≢◌, ℕ, ◌+◌, ◌*◌, ◌-◌, ◌/◌, ◌%◌, ◌^◌, ◌<◌, ◌≤◌, ◌==◌, Bool, true, false, length, Option, Some, None, refl, sym, ◌∙◌, ap, subst, arith, IsTrue, inl, inr, pow_mono}
+use Rattle.std.proofs.Common.{◌≡◌, ℕ, ◌^◌, ◌<◌, ◌≤◌, length, Option, Some, None, refl, arith, IsTrue, pow_mono}
 use Rattle.std.proofs.lemmas.Bool.Decides.{nat_tests}
 use Rattle.std.proofs.lemmas.List.Elements.{All-get_or}
 use Rattle.xp_words.specs.declared.kind.KindWord.{KindWord}
 use Rattle.xp_words.specs.declared.refs.RefWord.{RefWord}
-use Rattle.xp_words.specs.KindWords.{kind_read, kind_fields}
+use Rattle.xp_words.specs.KindWords.{kind_read}
 use Rattle.xp_words.specs.RefWords.{ref_read}
 use Rattle.xp_words.specs.Machine.{Machine, IsMachine}
 use Rattle.xp_words.specs.Places.{sizes_of, is_place, Place, Clock, Pages, Life, Vcpu, Refs, Kind, M2p, Cell, Map, Priv}

@@ -1,15 +1,14 @@
 -- The recorded entries that an act leaves as they were.
-use Rattle.std.proofs.Common.{◌≡◌, ◌≢◌, ℕ, zero, suc, ◌+◌, ◌<◌, ◌≤◌, Bool, true, false, List, [], ◌∷◌, Option, Some, None, refl, sym, ◌∙◌, ap, subst, arith, inl, inr, IsTrue, if◌then◌else◌, add-one}
-use Rattle.std.proofs.lemmas.Bool.{cases_eq}
+use Rattle.std.proofs.Common.{◌≡◌, ◌≢◌, ℕ, zero, suc, ◌+◌, ◌<◌, ◌≤◌, Bool, true, false, Option, refl, ap, arith, IsTrue, if◌then◌else◌, add-one}
 use Rattle.xp_words.specs.declared.kind.PageType.{PageType}
 use Rattle.xp_words.specs.declared.entry.Demand.{Demand}
 use Rattle.xp_words.specs.declared.entry.Demand.TheVariants.{Typed}
-use Rattle.xp_words.specs.Places.{Sizes, Place, Vcpu, Refs, Kind, Cell}
+use Rattle.xp_words.specs.Places.{Sizes, Place, Vcpu}
 use Rattle.xp_board.specs.declared.holdings.Holdings.{Holdings}
-use Rattle.xp_board.specs.Readings.{kind_at, is_context, type_count}
+use Rattle.xp_board.specs.Readings.{kind_at, is_context}
 use Rattle.xp_board.specs.Sums.{sum_below}
 use Rattle.xp_board.specs.Lists.{one_at}
-use Rattle.xp_board.specs.Recorded.{work_of, held, held_of, names, names_typed, entry_demand, table_entries, entries, contexts, recorded_in}
+use Rattle.xp_board.specs.Recorded.{work_of, held, held_of, names_typed, entry_demand, table_entries, entries, contexts, recorded_in}
 use Rattle.count_rule.proofs.Sums.{sum_below-same, sum_below-one, sum_below-part, one_at-same}
 
 pub work_of-same : (n : ℕ) (h h2 : ℕ → Holdings) (f : ℕ) → ((s : ℕ) → recorded_in (h2 s).works f ≡ recorded_in (h s).works f) → work_of n h2 f ≡ work_of n h f

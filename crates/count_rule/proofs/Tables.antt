@@ -1,17 +1,16 @@
 -- How many entries of a table are recorded, by who has it in hand.
-use Rattle.std.proofs.Common.{◌≡◌, ◌≢◌, ℕ, zero, suc, ◌+◌, ◌<◌, ◌≤◌, Bool, true, false, List, [], ◌∷◌, Option, Some, None, refl, sym, ◌∙◌, ap, arith, inl, inr}
+use Rattle.std.proofs.Common.{◌≡◌, ◌≢◌, ℕ, zero, suc, ◌<◌, ◌≤◌, Bool, true, false, List, Some, None, refl, ◌∙◌, ap, arith, inl, inr}
 use Rattle.std.proofs.lemmas.Bool.{cases_eq}
 use Rattle.xp_words.specs.RefWords.{bit}
 use Rattle.xp_words.specs.Machine.{Machine}
 use Rattle.xp_words.specs.Places.{sizes_of, Place}
 use Rattle.xp_board.specs.declared.holdings.Holdings.{Holdings}
 use Rattle.xp_board.specs.declared.holdings.Work.{Work}
-use Rattle.xp_board.specs.Lists.{times_by, first_by}
 use Rattle.xp_board.specs.Readings.{kind_at}
 use Rattle.xp_board.specs.Hands.{works_on, work_on}
-use Rattle.xp_board.specs.Recorded.{recorded_in, recorded_number, work_of, held, held_of, hands}
+use Rattle.xp_board.specs.Recorded.{recorded_in, work_of, held, held_of}
 use Rattle.xp_board.specs.Sound.{is_busy, HeldAlone}
-use Rattle.count_rule.proofs.Sums.{hands-part, hands-two, when_eq, when_ne}
+use Rattle.count_rule.proofs.Sums.{hands-part, hands-two}
 use Rattle.count_rule.proofs.Lists.{first_by-none, first_by-counts}
 
 pub recorded_in-none : (f : ℕ) (xs : List Work) → works_on f xs ≡ 0 → recorded_in xs f ≡ None

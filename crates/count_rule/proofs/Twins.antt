@@ -1,6 +1,7 @@
 -- Two lists whose elements agree one by one.
-use Rattle.std.proofs.Common.{◌≡◌, ℕ, List, [], ◌∷◌, Some, refl, sym, ◌∙◌, ap, inl, inr}
+use Rattle.std.proofs.Common.{◌≡◌, ℕ, List, [], ◌∷◌, true, Some, refl, sym, ◌∙◌, ap, inl, inr}
 use Rattle.std.proofs.lemmas.Bool.{cases_eq}
+use Rattle.xp_words.specs.KindWords.{kind_fields}
 use Rattle.xp_board.specs.declared.holdings.Work.{Work}
 use Rattle.xp_board.specs.declared.holdings.Lock.{Lock}
 use Rattle.xp_board.specs.declared.holdings.Claimed.{Claimed}
@@ -29,6 +30,24 @@ EachTwo-changed R key f change (x ∷ xs) same new =
       | inr off ↦ rw (when_ne (key x) f off) (same x, EachTwo-changed R key f change xs same new)
     ]
 
+-- the element that changes is the first of its number
+pub EachTwo-changed_at : {A : Type 0} (R : A → A → Type 0) (key : A → ℕ) (f : ℕ) (change : A → A) (xs : List A) → ((x : A) → R x x) → ((x : A) → first_by key f xs ≡ Some x → R x (change x)) →
+    EachTwo R xs (changed_by key f change xs)
+unfolding EachTwo changed_by first_by
+EachTwo-changed_at R key f change [] same new = tt
+EachTwo-changed_at R key f change (x ∷ xs) same new =
+    elim (cases_eq (key x) f) [
+      | inl at ↦ rw (when_eq (key x) f at) (new x (rw (when_eq (key x) f at) refl), EachTwo-same R xs same)
+      | inr off ↦ rw (when_ne (key x) f off) (same x, EachTwo-changed_at R key f change xs same (λ y k. new y (rw (when_ne (key x) f off) k)))
+    ]
+
+pub EachTwo-map : {A : Type 0} (R Q : A → A → Type 0) (xs ys : List A) → ((x y : A) → R x y → Q x y) → EachTwo R xs ys → EachTwo Q xs ys
+unfolding EachTwo
+EachTwo-map R Q [] [] k e = tt
+EachTwo-map R Q (x ∷ xs) (y ∷ ys) k e = (k x y e.0, EachTwo-map R Q xs ys k e.1)
+EachTwo-map R Q [] (y ∷ ys) k e = absurd e
+EachTwo-map R Q (x ∷ xs) [] k e = absurd e
+
 pub EachTwo-times : {A : Type 0} (R : A → A → Type 0) (key : A → ℕ) (g : ℕ) (xs ys : List A) → ((x y : A) → R x y → key y ≡ key x) → EachTwo R xs ys →
     times_by key g ys ≡ times_by key g xs
 unfolding EachTwo times_by
@@ -55,6 +74,12 @@ pub record SameWork (x y : Work) : Type 0 where
   pub frame : y.frame ≡ x.frame
   pub word : y.word ≡ x.word
   pub recorded : y.recorded ≡ x.recorded
+
+-- the same frame and word, and where that is marked as many entries
+pub record LikeWork (x y : Work) : Type 0 where
+  pub frame : y.frame ≡ x.frame
+  pub word : y.word ≡ x.word
+  pub recorded : (kind_fields x.word).unflushed ≡ true → y.recorded ≡ x.recorded
 
 pub record SameLock (x y : Lock) : Type 0 where
   pub frame : y.frame ≡ x.frame

@@ -85,3 +85,32 @@ read_small w r e = grind (arith, nat_tests)
 
 pub one_down_moves : (w : ℕ) → w < 2 ^ 64 → (w + one_down) % 2 ^ 64 ≢ w
 one_down_moves w b e = omega arith
+
+-- a free word
+pub record SaysFree (w value : ℕ) : Type 0 where
+  pub counts : ref_count w ≡ 0
+  pub mark : allocated_mark w ≡ 0
+  pub owned : owner_of w ≡ None
+  pub free : is_free w ≡ true
+  pub stamp : free_stamp w ≡ value
+  pub dying : is_dying w ≡ false
+
+pub free_says : (w stamp : ℕ) → ref_read w ≡ Some (Free stamp) → SaysFree w stamp
+unfolding ref_count allocated_mark owner_of is_free free_stamp is_dying
+free_says w stamp e = record { counts = rw e refl; mark = rw e refl; owned = rw e refl; free = rw e refl; stamp = rw e refl; dying = rw e refl }
+
+-- a dying word is read as one
+dying_read : (w : ℕ) (r : Option RefWord) → ref_read w ≡ r → is_dying w ≡ true → (o : ℕ) × (ref_read w ≡ Some (Dying o))
+unfolding is_dying
+dying_read w (Some (Dying o)) e d = (o, e)
+dying_read w (Some (Owned o a c)) e d = let n : is_dying w ≡ false = rw e refl in absurd (cc)
+dying_read w (Some (Free stamp)) e d = let n : is_dying w ≡ false = rw e refl in absurd (cc)
+dying_read w None e d = let n : is_dying w ≡ false = rw e refl in absurd (cc)
+
+pub is_dying-read : (w : ℕ) → is_dying w ≡ true → (o : ℕ) × (ref_read w ≡ Some (Dying o))
+is_dying-read w d = dying_read w (ref_read w) refl d
+
+-- and of the owner that it was written with
+pub dying_owner : (w o d : ℕ) → w < 2 ^ 64 → ref_read w ≡ Some (Dying o) → w ≡ ref_write (Dying d) → o ≡ d
+unfolding ref_write
+dying_owner w o d b e k = let r = (ref_write-read w (Dying o) b e).1 in omega arith

@@ -1,0 +1,190 @@
+-- What an entry asks, and the hand that a demand goes out of or comes into.
+use Rattle.std.proofs.Common.{◌≡◌, ℕ, ◌+◌, ◌*◌, ◌/◌, ◌%◌, ◌^◌, ◌<◌, Some, refl, ap, subst, arith, IsTrue, inl, inr}
+use Rattle.std.proofs.lemmas.Bool.{cases_eq}
+use Rattle.std.proofs.lemmas.Bool.Decides.{nat_tests}
+use Rattle.xp_words.specs.declared.kind.PageType.{PageType}
+use Rattle.xp_words.specs.declared.entry.Demand.{Demand}
+use Rattle.xp_words.specs.declared.entry.Demand.TheVariants.{Nothing, Bad, Read, Typed}
+use Rattle.xp_words.specs.Entries.{demand_at, demand_of, frame_of}
+use Rattle.xp_board.specs.declared.holdings.Holdings.{Holdings}
+use Rattle.xp_board.specs.Lists.{one_at, EachOf}
+use Rattle.xp_board.specs.Found.{Found, is_same_entry}
+use Rattle.xp_board.specs.Hands.{brought, brought_typed, refs_to, typed_to, hand, typed_hand}
+use Rattle.xp_board.specs.Recorded.{HasType, names, names_typed}
+use Rattle.xp_board.specs.Settling.{HasDemand, HasLastDemand, demand_in, demand_out}
+use Rattle.xp_board.specs.RefSteps.{SparesClosing}
+use Rattle.xp_words.specs.Machine.{Machine}
+use Rattle.xp_words.specs.Places.{Place}
+use Rattle.xp_board.specs.Readings.{kind_at}
+use Rattle.count_rule.proofs.Sums.{one_at-same, one_at-other}
+use Rattle.count_rule.proofs.Quiet.{is_closing_at}
+use Rattle.count_rule.proofs.Lists.{times_by-cons, times_by-without, EachOf-without}
+
+-- ---- bits 5 and 6 play no part
+same_parts : (w v : ℕ) → IsTrue (is_same_entry w v) → (w / 128 ≡ v / 128) × (w % 32 ≡ v % 32)
+same_parts w v e =
+    let k : w / 128 * 128 + w % 32 ≡ v / 128 * 128 + v % 32 = grind (arith, nat_tests) in
+    (omega arith, omega arith)
+
+over_52 : (w : ℕ) → w / 2 ^ 52 ≡ w / 128 / 2 ^ 45
+over_52 w = omega arith
+
+over_12 : (w : ℕ) → w / 2 ^ 12 ≡ w / 128 / 2 ^ 5
+over_12 w = omega arith
+
+high_rights : (w v : ℕ) → w / 128 ≡ v / 128 → w / 2 ^ 52 % 2 ^ 11 ≡ v / 2 ^ 52 % 2 ^ 11
+high_rights w v e = rw (over_52 w, over_52 v) (ap (λ x. x / 2 ^ 45 % 2 ^ 11) e)
+
+high_frame : (w v : ℕ) → w / 128 ≡ v / 128 → frame_of w ≡ frame_of v
+high_frame w v e = rw (over_12 w, over_12 v) (ap (λ x. x / 2 ^ 5 % 2 ^ 40) e)
+
+demand_of-entry : (kind : PageType) (w v : ℕ) → IsTrue (is_same_entry w v) → demand_of kind w ≡ demand_of kind v
+unfolding demand_of
+demand_of-entry kind w v e =
+    let p = same_parts w v e in
+    let high = p.0 in
+    let low = p.1 in
+    let a : w / 2 ^ 0 % 2 ≡ v / 2 ^ 0 % 2 = omega arith in
+    let b : w / 2 ^ 1 % 2 ≡ v / 2 ^ 1 % 2 = omega arith in
+    let c : w / 2 ^ 3 % 4 ≡ v / 2 ^ 3 % 4 = omega arith in
+    let d : w / 2 ^ 7 % 2 ≡ v / 2 ^ 7 % 2 = omega arith in
+    let f : w / 2 ^ 8 % 2 ≡ v / 2 ^ 8 % 2 = omega arith in
+    let g : w / 2 ^ 52 % 2 ^ 11 ≡ v / 2 ^ 52 % 2 ^ 11 = high_rights w v high in
+    let h : frame_of w ≡ frame_of v = high_frame w v high in
+    rw (a, b, c, d, f, g, h) refl
+
+pub demand_at-entry : (kind : PageType) (i w v : ℕ) → IsTrue (is_same_entry w v) → demand_at kind i w ≡ demand_at kind i v
+unfolding demand_at
+demand_at-entry kind i w v e = rw (demand_of-entry kind w v e) refl
+
+-- ---- the hand
+abbrev pub IsInHand : Demand → Holdings → Type 0
+IsInHand Nothing u = Unit {0}
+IsInHand Bad u = ⊥
+IsInHand (Read g) u = 0 < refs_to g u.refs
+IsInHand (Typed g t) u = 0 < typed_to g u.typed
+
+pub out_hand : (g : ℕ) (d : Demand) (u : Holdings) → IsInHand d u → hand g (demand_out d u) + names g d ≡ hand g u
+unfolding hand typed_hand names
+out_hand g Nothing u k = omega arith
+out_hand g Bad u k = absurd k
+out_hand g (Read f) u k = let e = times_by-without (λ y. y.frame) g f u.refs k in omega arith
+out_hand g (Typed f t) u k = let e = times_by-without (λ y. y.frame) g f u.typed k in omega arith
+
+pub out_typed : (g : ℕ) (d : Demand) (u : Holdings) → IsInHand d u → typed_hand g (demand_out d u) + names_typed g d ≡ typed_hand g u
+unfolding typed_hand names_typed
+out_typed g Nothing u k = omega arith
+out_typed g Bad u k = absurd k
+out_typed g (Read f) u k = omega arith
+out_typed g (Typed f t) u k = let e = times_by-without (λ y. y.frame) g f u.typed k in omega arith
+
+pub in_hand : (g : ℕ) (d : Demand) (u : Holdings) → hand g (demand_in d u) ≡ hand g u + names g d
+unfolding hand typed_hand names
+in_hand g Nothing u = omega arith
+in_hand g Bad u = omega arith
+in_hand g (Read f) u = let e = times_by-cons (λ y. y.frame) g (brought f u) u.refs in omega arith
+in_hand g (Typed f t) u = let e = times_by-cons (λ y. y.frame) g (brought_typed f (Some t) u) u.typed in omega arith
+
+pub in_typed : (g : ℕ) (d : Demand) (u : Holdings) → typed_hand g (demand_in d u) ≡ typed_hand g u + names_typed g d
+unfolding typed_hand names_typed
+in_typed g Nothing u = omega arith
+in_typed g Bad u = omega arith
+in_typed g (Read f) u = omega arith
+in_typed g (Typed f t) u = let e = times_by-cons (λ y. y.frame) g (brought_typed f (Some t) u) u.typed in omega arith
+
+-- no more of the hand moves
+pub record Aside (u v : Holdings) : Type 0 where
+  pub works : v.works ≡ u.works
+  pub locks : v.locks ≡ u.locks
+  pub ending : v.ending ≡ u.ending
+  pub claimed : v.claimed ≡ u.claimed
+  pub raised : v.raised ≡ u.raised
+  pub credits : v.credits ≡ u.credits
+  pub cache : v.cache ≡ u.cache
+  pub walk : v.walk ≡ u.walk
+  pub cold : v.cold ≡ u.cold
+
+aside : (u v : Holdings) → v.works ≡ u.works → v.locks ≡ u.locks → v.ending ≡ u.ending → v.claimed ≡ u.claimed → v.raised ≡ u.raised → v.credits ≡ u.credits → v.cache ≡ u.cache → v.walk ≡ u.walk → v.cold ≡ u.cold → Aside u v
+aside u v a b c d e f g h i = record { works = a; locks = b; ending = c; claimed = d; raised = e; credits = f; cache = g; walk = h; cold = i }
+
+pub out_aside : (d : Demand) (u : Holdings) → Aside u (demand_out d u)
+out_aside Nothing u = aside u _ refl refl refl refl refl refl refl refl refl
+out_aside Bad u = aside u _ refl refl refl refl refl refl refl refl refl
+out_aside (Read f) u = aside u _ refl refl refl refl refl refl refl refl refl
+out_aside (Typed f t) u = aside u _ refl refl refl refl refl refl refl refl refl
+
+pub in_aside : (d : Demand) (u : Holdings) → Aside u (demand_in d u)
+in_aside Nothing u = aside u _ refl refl refl refl refl refl refl refl refl
+in_aside Bad u = aside u _ refl refl refl refl refl refl refl refl refl
+in_aside (Read f) u = aside u _ refl refl refl refl refl refl refl refl refl
+in_aside (Typed f t) u = aside u _ refl refl refl refl refl refl refl refl refl
+
+-- the types of typed references
+pub out_types : (m : Place → ℕ) (d : Demand) (u : Holdings) → EachOf (λ y. HasType m y.frame y.kind) u.typed → EachOf (λ y. HasType m y.frame y.kind) (demand_out d u).typed
+out_types m Nothing u k = k
+out_types m Bad u k = k
+out_types m (Read f) u k = k
+out_types m (Typed f t) u k = EachOf-without (λ y. HasType m y.frame y.kind) (λ y. y.frame) f u.typed k
+
+pub in_types : (m : Place → ℕ) (d : Demand) (u : Holdings) → ((g : ℕ) (t : PageType) → d ≡ Typed g t → (kind_at m g).kind ≡ t) → EachOf (λ y. HasType m y.frame y.kind) u.typed →
+    EachOf (λ y. HasType m y.frame y.kind) (demand_in d u).typed
+unfolding EachOf
+in_types m Nothing u e k = k
+in_types m Bad u e k = k
+in_types m (Read f) u e k = k
+in_types m (Typed f t) u e k = (e f t refl, k)
+
+-- a closing frame keeps an untyped reference
+abbrev pub Spares : Demand → Holdings → Type 0
+Spares (Read g) u = SparesClosing g u
+Spares _ u = Unit {0}
+
+pub out_spares : (d : Demand) (u : Holdings) → IsInHand d u → Spares d u → (g : ℕ) → IsTrue (is_closing_at g u) → 0 < refs_to g u.refs → 0 < refs_to g (demand_out d u).refs
+out_spares Nothing u k p g c l = l
+out_spares Bad u k p g c l = l
+out_spares (Typed f t) u k p g c l = l
+out_spares (Read f) u k p g c l =
+    let e = times_by-without (λ y. y.frame) g f u.refs k in
+    elim (cases_eq g f) [
+      | inl at ↦
+          let two = p (subst (λ y. IsTrue (is_closing_at y u)) at c) in
+          let same = ap (λ y. refs_to y u.refs) at in
+          let one : one_at g f ≡ 1 = rw at (one_at-same f) in
+          omega arith
+      | inr off ↦ let none = one_at-other g f off in omega arith
+    ]
+
+pub in_more : (d : Demand) (u : Holdings) (g : ℕ) → 0 < refs_to g u.refs → 0 < refs_to g (demand_in d u).refs
+in_more Nothing u g l = l
+in_more Bad u g l = l
+in_more (Read f) u g l = let e = times_by-cons (λ y. y.frame) g (brought f u) u.refs in omega arith
+in_more (Typed f t) u g l = l
+
+-- what may go out is in hand
+pub has_demand : (n : Machine) (f : ℕ) (kind : PageType) (u : Holdings) (d : Demand) → HasDemand n f kind u d → IsInHand d u × Spares d u
+has_demand n f kind u Nothing k = (tt, tt)
+has_demand n f kind u Bad k = absurd k
+has_demand n f kind u (Read g) k = (k.in_hand, k.spares)
+has_demand n f kind u (Typed g t) k = (k.0.in_hand, tt)
+
+pub has_last : (n : Machine) (f : ℕ) (kind : PageType) (u : Holdings) (d : Demand) → HasLastDemand n f kind u d → IsInHand d u × Spares d u
+has_last n f kind u Nothing k = (tt, tt)
+has_last n f kind u Bad k = absurd k
+has_last n f kind u (Read g) k = (k.in_hand, k.spares)
+has_last n f kind u (Typed g t) k = (k.0.in_hand, tt)
+
+-- and a typed one is of its frame's type
+pub demand_type : (n : Machine) (m : Place → ℕ) (h : ℕ → Holdings) (s f : ℕ) (kind : PageType) (d : Demand) → Found n m h s → HasDemand n f kind (h s) d →
+    (g : ℕ) (t : PageType) → d ≡ Typed g t → (kind_at m g).kind ≡ t
+demand_type n m h s f kind d found k g t e =
+    let has : HasDemand n f kind (h s) (Typed g t) = subst (HasDemand n f kind (h s)) e k in
+    (found.lives g t has.1).1
+
+pub last_type : (n : Machine) (m : Place → ℕ) (h : ℕ → Holdings) (s f : ℕ) (kind : PageType) (d : Demand) → Found n m h s → HasLastDemand n f kind (h s) d →
+    (g : ℕ) (t : PageType) → d ≡ Typed g t → (kind_at m g).kind ≡ t
+last_type n m h s f kind d found k g t e =
+    let has : HasLastDemand n f kind (h s) (Typed g t) = subst (HasLastDemand n f kind (h s)) e k in
+    elim has.1 [
+      | inl live ↦ (found.lives g t live).1
+      | inr partial ↦ found.partials g t partial
+    ]

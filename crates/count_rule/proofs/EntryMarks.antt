@@ -1,0 +1,179 @@
+-- Marks that record an entry of a table in work, or take it back into the hand.
+use Rattle.std.proofs.Common.{◌≡◌, ◌≢◌, ℕ, ◌+◌, ◌<◌, Bool, true, false, [], Option, Some, None, refl, sym, ◌∙◌, ap, subst, arith, IsTrue, inl, inr}
+use Rattle.std.proofs.lemmas.Bool.{cases_eq}
+use Rattle.std.proofs.lemmas.Bool.Decides.{nat_tests}
+use Rattle.xp_words.specs.declared.kind.PageType.{PageType}
+use Rattle.xp_words.specs.declared.kind.KindWord.{KindWord}
+use Rattle.xp_words.specs.declared.entry.Demand.TheVariants.{Typed}
+use Rattle.xp_words.specs.Entries.{demand_at}
+use Rattle.xp_words.specs.PageTypes.{is_table}
+use Rattle.xp_words.specs.KindWords.{kind_fields}
+use Rattle.xp_words.specs.Machine.{Machine}
+use Rattle.xp_words.specs.Places.{sizes_of, Place, Kind, Cell}
+use Rattle.xp_board.specs.declared.holdings.Holdings.{Holdings}
+use Rattle.xp_board.specs.declared.holdings.Work.{Work}
+use Rattle.xp_board.specs.declared.holdings.Seen.{Seen}
+use Rattle.xp_board.specs.Lists.{first_by, EachOf}
+use Rattle.xp_board.specs.Readings.{kind_at}
+use Rattle.xp_board.specs.Steps.{last_since}
+use Rattle.xp_board.specs.Hands.{refs_to, works_on, work_on, hand, typed_hand, changed_work}
+use Rattle.xp_board.specs.Recorded.{held, held_of, entry_demand, names, names_typed, entries, recorded_in, recorded_number, HasType, TypesAgree}
+use Rattle.xp_board.specs.Found.{WorkFound, is_known_inside, is_same_cell, is_same_entry}
+use Rattle.xp_board.specs.WellFormed.{IsWorkFormed}
+use Rattle.xp_board.specs.Sound.{HeldAlone, Sound}
+use Rattle.count_rule.proofs.Lists.{EachOf-found, first_by-changed_here, first_by-changed_other}
+use Rattle.count_rule.proofs.Twins.{EachTwo, EachTwo-changed_at, EachTwo-times, LikeWork}
+use Rattle.count_rule.proofs.Tables.{held_mine}
+use Rattle.count_rule.proofs.CountLaw.{counts_law, each_seat}
+use Rattle.count_rule.proofs.PartLaws.{alone_law, map_law, works_law, idle_fewer}
+use Rattle.count_rule.proofs.Quiet.{table_inside, held_still, is_closing_at, works_spared}
+use Rattle.count_rule.proofs.Demands.{demand_at-entry}
+use Rattle.count_rule.proofs.Outcome.{Outcome}
+
+known_inside : (k : KindWord) → IsTrue (is_table k.kind) → k.unflushed ≡ false → IsTrue (is_known_inside k)
+known_inside k t u = grind (arith, nat_tests)
+
+table_cell : (kind : PageType) (w v : ℕ) → IsTrue (is_table kind) → IsTrue (is_same_cell kind w v) → IsTrue (is_same_entry w v)
+table_cell kind w v t e = rw t at e
+
+no_work : (f : ℕ) (e : Work) → work_on f [] ≡ Some e → ⊥
+unfolding first_by
+no_work f e k = cc
+
+not_marked : (t : Bool) (seen : Option Seen) (x : Seen) → (t ≡ true → seen ≡ None) → seen ≡ Some x → t ≡ false
+not_marked true seen x k e = let n = k refl in absurd (cc)
+not_marked false seen x k e = refl
+
+-- ---- a table in the own work, and the entry that was loaded last
+module _ (n : Machine) (s : ℕ) (m : Place → ℕ) (h : ℕ → Holdings) (seat : s < (sizes_of n).vcpus) (sound : Sound n m h) (f : ℕ) (e : Work) (here : work_on f (h s).works ≡ Some e) where
+  work_found : (e.frame ≡ f) × WorkFound n m h (h s) e
+  work_found = EachOf-found (WorkFound n m h (h s)) (λ y. y.frame) f (h s).works e here (sound.found s seat).works
+
+  work_formed : (e.frame ≡ f) × IsWorkFormed n (h s) e
+  work_formed = EachOf-found (IsWorkFormed n (h s)) (λ y. y.frame) f (h s).works e here (sound.formed s seat).works
+
+  pub work_word : kind_at m f ≡ kind_fields e.word
+  work_word = ap kind_fields (ap (λ g. m (Kind g)) (sym work_found.0) ∙ work_found.1.word)
+
+  pub work_held : IsTrue (is_table (kind_fields e.word).kind) → held (sizes_of n) m h f ≡ e.recorded
+  unfolding held_of
+  work_held t = held_mine n m h sound.alone f s e seat here ∙ rw (work_word, t) refl
+
+  pub work_inside : IsTrue (is_table (kind_fields e.word).kind) → f < (sizes_of n).frames
+  work_inside t = table_inside n m f sound.spelled (rw work_word t)
+
+  pub seen_unmarked : (x : Seen) → e.seen ≡ Some x → (kind_fields e.word).unflushed ≡ false
+  seen_unmarked x k = not_marked (kind_fields e.word).unflushed e.seen x work_formed.1.marked k
+
+  -- what it asks
+  pub seen_demand : (i w : ℕ) → IsTrue (is_table (kind_fields e.word).kind) → e.seen ≡ Some (record { index = i; word = w }) → entry_demand m f i ≡ demand_at (kind_fields e.word).kind i w
+  seen_demand i w t k =
+      let noted : last_since (sizes_of n) e.unmarked (Cell e.frame i) (h s).steps ≡ Some w = rw k at work_formed.1.seen in
+      let cell = work_found.1.cells (known_inside (kind_fields e.word) t (seen_unmarked _ k)) i w noted in
+      let same = table_cell (kind_fields e.word).kind (m (Cell e.frame i)) w t cell in
+      ap (λ y. demand_at y.kind i (m (Cell f i))) work_word ∙ ap (λ g. demand_at (kind_fields e.word).kind i (m (Cell g i))) (sym work_found.0) ∙ demand_at-entry (kind_fields e.word).kind i (m (Cell e.frame i)) w same
+
+-- ---- one entry more, or one less
+module _ (n : Machine) (s : ℕ) (m : Place → ℕ) (h b : ℕ → Holdings) (seat : s < (sizes_of n).vcpus) (others : (t : ℕ) → t ≢ s → b t ≡ h t) (sound : Sound n m h) (f : ℕ) (e : Work) (here : work_on f (h s).works ≡ Some e) (change : Work → Work) where
+  -- how the hand moves
+  pub record MarkMove : Type 0 where
+    pub works : (b s).works ≡ changed_work f change (h s).works
+    pub frames : (y : Work) → (change y).frame ≡ y.frame
+    pub words : (y : Work) → (change y).word ≡ y.word
+    pub table : IsTrue (is_table (kind_fields e.word).kind)
+    pub unmarked : (kind_fields e.word).unflushed ≡ false
+    pub locks : (b s).locks ≡ (h s).locks
+    pub ending : (b s).ending ≡ (h s).ending
+    pub claimed : (b s).claimed ≡ (h s).claimed
+    pub raised : (b s).raised ≡ (h s).raised
+    pub credits : (b s).credits ≡ (h s).credits
+    pub cache : (b s).cache ≡ (h s).cache
+    pub walk : (b s).walk ≡ (h s).walk
+    pub cold : (b s).cold ≡ (h s).cold
+    pub spares : (g : ℕ) → IsTrue (is_closing_at g (h s)) → 0 < refs_to g (h s).refs → 0 < refs_to g (b s).refs
+    -- what goes out of the hand is recorded, and the other way round
+    pub refs : (g : ℕ) → entries (names g) (sizes_of n) m b + hand g (b s) ≡ entries (names g) (sizes_of n) m h + hand g (h s)
+    pub types : (g : ℕ) → entries (names_typed g) (sizes_of n) m b + typed_hand g (b s) ≡ entries (names_typed g) (sizes_of n) m h + typed_hand g (h s)
+    pub last : (i g : ℕ) (t : PageType) → i < (change e).recorded → entry_demand m f i ≡ Typed g t → (kind_at m g).kind ≡ t
+    pub typed : EachOf (λ y. HasType m y.frame y.kind) (b s).typed
+
+  pub change_like : (x y : Work) → (change x).frame ≡ x.frame → (change x).word ≡ x.word → (kind_fields x.word).unflushed ≡ false → LikeWork x (change x)
+  change_like x y f w u = record { frame = f; word = w; recorded = λ k. absurd (cc) }
+
+  module _ (works : (b s).works ≡ changed_work f change (h s).works) (frames : (y : Work) → (change y).frame ≡ y.frame) (words : (y : Work) → (change y).word ≡ y.word)
+      (unmarked : (kind_fields e.word).unflushed ≡ false) where
+    pub works_like : EachTwo LikeWork (h s).works (b s).works
+    works_like =
+        rw works
+        (EachTwo-changed_at LikeWork (λ y. y.frame) f change (h s).works (λ y. record { frame = refl; word = refl; recorded = λ k. refl })
+        (λ y k. let i : Some y ≡ Some e = sym k ∙ here in let j : y ≡ e = cc in change_like y y (frames y) (words y) (ap (λ z. (kind_fields z.word).unflushed) j ∙ unmarked)))
+
+    pub works_same : (g : ℕ) → works_on g (b s).works ≡ works_on g (h s).works
+    works_same g = EachTwo-times LikeWork (λ y. y.frame) g _ _ (λ y z r. r.frame) works_like
+
+    pub mark_alone : (b s).locks ≡ (h s).locks → (b s).ending ≡ (h s).ending → (b s).claimed ≡ (h s).claimed → HeldAlone n m b
+    mark_alone locks ending claimed =
+        alone_law n s m m h b seat others (λ g. let k = works_same g in omega arith) (λ g. rw locks refl) (λ g. rw (ending, claimed) refl) sound.alone
+
+    pub work_after : work_on f (b s).works ≡ Some (change e)
+    work_after = rw works (first_by-changed_here (λ y. y.frame) f change (h s).works e frames here)
+
+    recorded_other : (g : ℕ) → g ≢ f → recorded_in (b s).works g ≡ recorded_in (h s).works g
+    unfolding recorded_in
+    recorded_other g off = rw works (ap recorded_number (first_by-changed_other (λ y. y.frame) g f change (h s).works frames off))
+
+    pub mark_held_other : (g : ℕ) → g ≢ f → held (sizes_of n) m b g ≡ held (sizes_of n) m h g
+    mark_held_other g off = held_still n s m m h b seat others g refl (recorded_other g off)
+
+    pub mark_held_here : HeldAlone n m b → IsTrue (is_table (kind_fields e.word).kind) → held (sizes_of n) m b f ≡ (change e).recorded
+    unfolding held_of
+    mark_held_here alone t = held_mine n m b alone f s (change e) seat work_after ∙ rw (work_word n s m h seat sound f e here, t) refl
+
+  module _ (move : MarkMove) where
+    alone : HeldAlone n m b
+    alone = mark_alone move.works move.frames move.words move.unmarked move.locks move.ending move.claimed
+
+    mark_entries : (f2 i g : ℕ) (t : PageType) → i < held (sizes_of n) m b f2 → entry_demand m f2 i ≡ Typed g t → (kind_at m g).kind ≡ t
+    mark_entries f2 i g t l d =
+        elim (cases_eq f2 f) [
+          | inl at ↦
+              let k : i < held (sizes_of n) m b f = subst (λ y. i < held (sizes_of n) m b y) at l in
+              let r = mark_held_here move.works move.frames move.words move.unmarked alone move.table in
+              move.last i g t (omega arith) (ap (λ y. entry_demand m y i) (sym at) ∙ d)
+          | inr off ↦ sound.counts.kinds.entries f2 i g t (rw (mark_held_other move.works move.frames move.words move.unmarked f2 off) at l) d
+        ]
+
+    mark_types : TypesAgree (sizes_of n) m b
+    mark_types =
+        record {
+          entries = mark_entries;
+          contexts = sound.counts.kinds.contexts;
+          typed = each_seat n s m m h b seat others (λ t u. EachOf (λ y. HasType m y.frame y.kind) u.typed) move.typed (λ t l off. sound.counts.kinds.typed t l);
+          locks = each_seat n s m m h b seat others (λ t u. EachOf (λ y. HasType m y.frame (Some y.kind)) u.locks) (rw move.locks (sound.counts.kinds.locks s seat))
+              (λ t l off. sound.counts.kinds.locks t l);
+        }
+
+    pub marked_outcome : Outcome n m b
+    marked_outcome =
+        record {
+          spelled = sound.spelled;
+          counts =
+              counts_law n s m m h b seat others
+              (record {
+                refs = λ g. let k = move.refs g in omega arith;
+                types = λ g. let k = move.types g in omega arith;
+                kinds = mark_types;
+                pages = λ d l. rw move.credits refl;
+              })
+              sound.counts;
+          alone = alone;
+          works =
+              works_law n s m m h b seat others
+              (works_spared n s m m h b seat others (works_like move.works move.frames move.words move.unmarked) move.spares sound.alone (sound.works s seat))
+              sound.works;
+          stamped = sound.stamped;
+          idle =
+              idle_fewer n s m m h b seat others (λ v. refl) (λ k. let none : work_on f [] ≡ Some e = rw k.works at here in absurd (no_work f e none)) move.cold
+              (λ k. move.cache ∙ k) (λ k. move.walk ∙ k) sound.idle;
+          map = map_law n s m m h b seat others (λ g l. rw move.raised refl) sound.map;
+        }

@@ -1,0 +1,85 @@
+-- What each mark and each act leaves.
+use Rattle.std.proofs.Common.{◌≡◌, ◌≢◌, ℕ, ◌<◌, false, [], refl, ◌∙◌, ap, IsTrue}
+use Rattle.xp_words.specs.Machine.{Machine}
+use Rattle.xp_words.specs.Places.{sizes_of, Place}
+use Rattle.xp_board.specs.declared.holdings.Holdings.{Holdings}
+use Rattle.xp_board.specs.declared.step.Step.{Step}
+use Rattle.xp_board.specs.declared.step.StepKind.{StepKind}
+use Rattle.xp_board.specs.declared.step.StepKind.TheVariants as steps
+use Rattle.xp_board.specs.Legal.{is_proved}
+use Rattle.xp_board.specs.Keeping.{MayMark, Marked, MayAct, Acted}
+use Rattle.xp_board.specs.Sound.{Sound}
+use Rattle.xp_board.proofs.MarkEffects.{MarkEffect, mark_effect, nothing, turned, forgot, recorded_entry, shed_entry}
+use Rattle.xp_board.proofs.ActEffects.{ActEffect}
+use Rattle.xp_board.proofs.ActEffects as effects
+use Rattle.xp_board.proofs.ActInversions.{act_effect}
+use Rattle.count_rule.proofs.Learning.{Same, same_hand, same_refl, empty_kept, kept_same, kept_of-none}
+use Rattle.count_rule.proofs.PartLaws.{idle_fewer}
+use Rattle.count_rule.proofs.Outcome.{Outcome, calm_same, quiet_outcome}
+use Rattle.count_rule.proofs.QuietActs as quiet
+use Rattle.count_rule.proofs.RefActs as refs
+use Rattle.count_rule.proofs.RecordMarks as entries
+
+not_yet : (x : Step) (k : StepKind) → x.kind ≡ k → is_proved k x.act ≡ false → IsTrue (is_proved x.kind x.act) → ⊥
+not_yet x k at off on = let e : is_proved x.kind x.act ≡ false = ap (λ y. is_proved y x.act) at ∙ off in cc
+
+module _ (n : Machine) (s : ℕ) (x : Step) (m m2 : Place → ℕ) (b c : ℕ → Holdings) (seat : s < (sizes_of n).vcpus) (others : (t : ℕ) → t ≢ s → c t ≡ b t) (may : MayAct n s x (b s)) (sound : Sound n m b) where
+  act_by : ActEffect n s x m m2 (b s) (c s) → Outcome n m2 c
+  act_by (effects.looked p d) = quiet.looked_outcome n s x m m2 b c seat others may sound p d
+  act_by (effects.raised f d) = refs.raised_outcome n s x m m2 b c seat others may sound f d
+  act_by (effects.cleared f d) = refs.cleared_outcome n s x m m2 b c seat others may sound f d
+  act_by (effects.took f d) = refs.took_outcome n s x m m2 b c seat others may sound f d
+  act_by (effects.lowered f d) = refs.lowered_outcome n s x m m2 b c seat others may sound f d
+  act_by (effects.freed_frame f d) = refs.freed_outcome n s x m m2 b c seat others may sound f d
+  act_by (effects.gave f d) = refs.gave_outcome n s x m m2 b c seat others may sound f d
+  act_by (effects.turned f row d) = absurd (not_yet x steps.Kind d.wrote.kind_is refl may.proved)
+  act_by (effects.missed f d) = quiet.missed_outcome n s x m m2 b c seat others may sound f d
+  act_by (effects.dropped_type f d) = absurd (not_yet x steps.Kind d.wrote.kind_is refl may.proved)
+  act_by (effects.unlocked_table f d) = absurd (not_yet x steps.Kind d.wrote.kind_is refl may.proved)
+  act_by (effects.stored f form d) = absurd (not_yet x steps.Kind d.wrote.kind_is refl may.proved)
+  act_by (effects.exchanged f i d) = absurd (not_yet x steps.Cell d.wrote.kind_is refl may.proved)
+  act_by (effects.rewrote f i d) = absurd (not_yet x steps.Cell d.wrote.kind_is refl may.proved)
+  act_by (effects.filled f i d) = absurd (not_yet x steps.Cell d.wrote.kind_is refl may.proved)
+  act_by (effects.guest_stored f i d) = absurd (not_yet x steps.Guest d.wrote.kind_is refl may.proved)
+  act_by (effects.started_walk k d) = quiet.started_outcome n s x m m2 b c seat others may sound k d
+  act_by (effects.went_on f i d) = quiet.went_on_outcome n s x m m2 b c seat others may sound f i d
+  act_by (effects.touched_entry f i d) = absurd (not_yet x steps.Touch d.wrote.kind_is refl may.proved)
+  act_by (effects.stumbled f i d) = quiet.stumbled_outcome n s x m m2 b c seat others may sound f i d
+  act_by (effects.mapped f d) = quiet.mapped_outcome n s x m m2 b c seat others may sound f d
+  act_by (effects.charged e d) = absurd (not_yet x steps.Pages d.wrote.kind_is refl may.proved)
+  act_by (effects.refunded e by d) = absurd (not_yet x steps.Pages d.wrote.kind_is refl may.proved)
+  act_by (effects.named_frame v k d) = absurd (not_yet x steps.Context d.wrote.kind_is refl may.proved)
+  act_by (effects.based v d) = quiet.based_outcome n s x m m2 b c seat others may sound v d
+  act_by (effects.asked v d) = quiet.asked_outcome n s x m m2 b c seat others may sound v d
+  act_by (effects.flushed d) = quiet.flushed_outcome n s x m m2 b c seat others may sound d
+  act_by (effects.ran d) = quiet.ran_outcome n s x m m2 b c seat others may sound d
+  act_by (effects.ticked d) = quiet.ticked_outcome n s x m m2 b c seat others may sound d
+  act_by (effects.doomed e d) = quiet.doomed_outcome n s x m m2 b c seat others may sound e d
+  act_by (effects.buried e d) = quiet.buried_outcome n s x m m2 b c seat others may sound e d
+  act_by (effects.hinted k by d) = absurd (not_yet x steps.Hint d.wrote.kind_is refl may.proved)
+  act_by (effects.privileged e d) = quiet.privileged_outcome n s x m m2 b c seat others may sound e d
+
+pub act_outcome : (n : Machine) (s : ℕ) (x : Step) (m m2 : Place → ℕ) (b c : ℕ → Holdings) → s < (sizes_of n).vcpus → MayAct n s x (b s) → Acted n s x m m2 b c → Sound n m b → Outcome n m2 c
+act_outcome n s x m m2 b c seat may acted sound = act_by n s x m m2 b c seat acted.others may sound (act_effect n s x m m2 b c may acted)
+
+-- ---- marks
+module _ (n : Machine) (s : ℕ) (x : Step) (m : Place → ℕ) (h b : ℕ → Holdings) (seat : s < (sizes_of n).vcpus) (others : (t : ℕ) → t ≢ s → b t ≡ h t) (may : MayMark n x (h s)) (sound : Sound n m h) where
+  -- nothing moves but the cache, which may lose items, and the turn
+  fewer_outcome : Same (h s) (b s) → (b s).looking ≡ (h s).looking → (b s).cold ≡ (h s).cold → ((h s).cache ≡ [] → (b s).cache ≡ []) → (b s).walk ≡ (h s).walk → Outcome n m b
+  fewer_outcome same looking cold cache walk =
+      let kept = kept_same (h s) (b s) same in
+      quiet_outcome n s m m h b seat others sound (calm_same n s m m h b seat others (λ q. refl)) kept sound.spelled sound.stamped
+      (idle_fewer n s m m h b seat others (λ v. refl) (empty_kept (h s) (b s) kept (λ e. looking ∙ e)) cold cache (λ e. walk ∙ e) sound.idle)
+
+  mark_by : MarkEffect n (h s) (b s) → Outcome n m b
+  mark_by (nothing d) = fewer_outcome (rw d (same_hand (h s))) (rw d refl) (rw d refl) (λ e. rw d e) (rw d refl)
+  mark_by (turned d) =
+      fewer_outcome (rw d (same_refl (h s) _ refl refl refl refl refl refl refl refl)) (ap (λ u. u.looking) d) (ap (λ u. u.cold) d) (λ e. ap (λ u. u.cache) d ∙ e) (ap (λ u. u.walk) d)
+  mark_by (forgot page d) =
+      fewer_outcome (rw d.hand (same_refl (h s) _ refl refl refl refl refl refl refl refl)) (ap (λ u. u.looking) d.hand) (ap (λ u. u.cold) d.hand)
+      (λ e. ap (λ u. u.cache) d.hand ∙ kept_of-none _ _ e) (ap (λ u. u.walk) d.hand)
+  mark_by (recorded_entry f upto d) = entries.recorded_outcome n s m h b seat others sound f upto d
+  mark_by (shed_entry f upto d) = entries.shed_outcome n s m h b seat others sound f upto d
+
+pub mark_outcome : (n : Machine) (s : ℕ) (x : Step) (m : Place → ℕ) (h b : ℕ → Holdings) → s < (sizes_of n).vcpus → MayMark n x (h s) → Marked n s x h b → Sound n m h → Outcome n m b
+mark_outcome n s x m h b seat may marked sound = mark_by n s x m h b seat marked.others may sound (mark_effect n s x h b may marked)
