@@ -68,7 +68,7 @@ module _ (n : Machine) (s : ℕ) (x : Step) (m : Place → ℕ) (h b : ℕ → H
   fewer_outcome : Same (h s) (b s) → (b s).looking ≡ (h s).looking → (b s).cold ≡ (h s).cold → ((h s).cache ≡ [] → (b s).cache ≡ []) → (b s).walk ≡ (h s).walk → Outcome n m b
   fewer_outcome same looking cold cache walk =
       let kept = kept_same (h s) (b s) same in
-      quiet_outcome n s m m h b seat others sound (calm_same n s m m h b seat others (λ q. refl)) kept sound.spelled sound.stamped
+      quiet_outcome n s m m h b seat others sound (calm_same n s m m h b seat others (λ q. refl)) kept (λ d. refl) (λ k. refl) sound.spelled sound.stamped
       (idle_fewer n s m m h b seat others (λ v. refl) (empty_kept (h s) (b s) kept (λ e. looking ∙ e)) cold cache (λ e. walk ∙ e) sound.idle)
 
   mark_by : MarkEffect n (h s) (b s) → Outcome n m b

@@ -39,6 +39,15 @@ pub record Same (b c : Holdings) : Type 0 where
   pub raised : c.raised ≡ b.raised
   pub credits : c.credits ≡ b.credits
 
+-- the lists of frames stay, but for what is noted in works, locks and claims
+pub record Stays (b c : Holdings) : Type 0 where
+  pub refs : c.refs ≡ b.refs
+  pub typed : c.typed ≡ b.typed
+  pub works : EachTwo SameWork b.works c.works
+  pub locks : EachTwo SameLock b.locks c.locks
+  pub ending : c.ending ≡ b.ending
+  pub claimed : EachTwo SameClaim b.claimed c.claimed
+
 -- the same, but for what is noted in works, locks and claims
 pub record Kept (b c : Holdings) : Type 0 where
   pub refs : c.refs ≡ b.refs
@@ -49,6 +58,9 @@ pub record Kept (b c : Holdings) : Type 0 where
   pub claimed : EachTwo SameClaim b.claimed c.claimed
   pub raised : c.raised ≡ b.raised
   pub credits : c.credits ≡ b.credits
+
+pub stays : (b c : Holdings) → Kept b c → Stays b c
+stays b c k = record { refs = k.refs; typed = k.typed; works = k.works; locks = k.locks; ending = k.ending; claimed = k.claimed }
 
 pub works_kept : (xs : List Work) → EachTwo SameWork xs xs
 works_kept xs = EachTwo-same SameWork xs same_work

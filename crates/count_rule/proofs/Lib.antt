@@ -15,6 +15,7 @@ mod QuietActs
 mod Demands
 mod EntryMarks
 mod RecordMarks
+mod PageActs
 mod RefLaw
 mod RefActs
 mod Laws

@@ -1,7 +1,7 @@
 -- The lists of a hand.
-use Rattle.std.proofs.Common.{◌≡◌, ◌≢◌, ℕ, ◌+◌, ◌<◌, ◌≤◌, List, [], ◌∷◌, Option, Some, None, refl, sym, ◌∙◌, ap, subst, arith, inl, inr}
+use Rattle.std.proofs.Common.{◌≡◌, ◌≢◌, ℕ, ◌+◌, ◌<◌, ◌≤◌, List, [], ◌∷◌, Option, Some, None, refl, sym, ◌∙◌, ap, subst, arith, inl, inr, zero, suc}
 use Rattle.std.proofs.lemmas.Bool.{cases_eq}
-use Rattle.xp_board.specs.Lists.{one_at, times_by, first_by, without_by, changed_by, EachOf}
+use Rattle.xp_board.specs.Lists.{one_at, times_by, first_by, without_by, changed_by, EachOf, times, with_more, with_fewer}
 use Rattle.count_rule.proofs.Sums.{when_eq, when_ne}
 
 pub times_by-cons : {A : Type 0} (key : A → ℕ) (g : ℕ) (x : A) (xs : List A) → times_by key g (x ∷ xs) ≡ one_at g (key x) + times_by key g xs
@@ -216,3 +216,31 @@ first_by-changed_other key g f change (x ∷ xs) k n =
             | inr there ↦ rw (when_ne (key x) g there) (first_by-changed_other key g f change xs k n)
           ])
     ]
+
+-- ---- several of one number
+pub times-with_more_here : (n g : ℕ) (xs : List ℕ) → times g (with_more n g xs) ≡ n + times g xs
+unfolding with_more
+times-with_more_here zero g xs = omega arith
+times-with_more_here (suc n) g xs =
+    let here = times_by-cons_here (λ x. x) g g (with_more n g xs) refl in
+    let rest = times-with_more_here n g xs in
+    omega arith
+
+pub times-with_more_other : (n g f : ℕ) (xs : List ℕ) → f ≢ g → times g (with_more n f xs) ≡ times g xs
+unfolding with_more
+times-with_more_other zero g f xs off = refl
+times-with_more_other (suc n) g f xs off = times_by-cons_other (λ x. x) g f (with_more n f xs) off ∙ times-with_more_other n g f xs off
+
+pub times-with_fewer_here : (n g : ℕ) (xs : List ℕ) → n ≤ times g xs → times g (with_fewer n g xs) + n ≡ times g xs
+unfolding with_fewer
+times-with_fewer_here zero g xs b = omega arith
+times-with_fewer_here (suc n) g xs b =
+    let one : one_at g g ≡ 1 = rw (when_eq g g refl) in
+    let out = times_by-without (λ x. x) g g xs (omega arith) in
+    let rest = times-with_fewer_here n g (without_by (λ x. x) g xs) (omega arith) in
+    omega arith
+
+pub times-with_fewer_other : (n g f : ℕ) (xs : List ℕ) → g ≢ f → times g (with_fewer n f xs) ≡ times g xs
+unfolding with_fewer
+times-with_fewer_other zero g f xs off = refl
+times-with_fewer_other (suc n) g f xs off = times-with_fewer_other n g f (without_by (λ x. x) f xs) off ∙ times_by-without_other (λ x. x) g f xs off

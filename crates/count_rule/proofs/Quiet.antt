@@ -1,4 +1,5 @@
 -- An act that moves nothing that is counted.
+use Rattle.xp_words.specs.RefWords.{bit}
 use Rattle.std.proofs.Common.{◌≡◌, ◌≢◌, ℕ, ◌+◌, ◌<◌, ◌/◌, Bool, true, false, List, Some, refl, sym, ◌∙◌, ap, arith, IsTrue, inl, inr}
 use Rattle.std.proofs.lemmas.Bool.{cases_eq}
 use Rattle.std.proofs.lemmas.Bool.Decides.{nat_tests}
@@ -13,7 +14,7 @@ use Rattle.xp_board.specs.Readings.{kind_at, is_context, is_closing}
 use Rattle.xp_board.specs.Hands.{refs_to, typed_to, locks_on, works_on, endings_of, claims_of, work_on, hand, typed_hand}
 use Rattle.xp_board.specs.RefSteps.{is_closing_on}
 use Rattle.xp_board.specs.Recorded.{recorded_in, held, held_of, entry_demand, HasType, is_page_of, CountsAgree}
-use Rattle.xp_board.specs.Sound.{Spelled, HeldAlone, WorkAgrees, FreeMap, Sound}
+use Rattle.xp_board.specs.Sound.{is_hinted, Spelled, HeldAlone, WorkAgrees, FreeMap, Sound}
 use Rattle.count_rule.proofs.Sums.{sum_below-same}
 use Rattle.count_rule.proofs.Lists.{EachOf-both, EachOf-first}
 use Rattle.count_rule.proofs.Twins.{EachTwo, EachTwo-times, EachTwo-each, EachTwo-map, SameWork, LikeWork, SameLock, SameClaim, recorded_in-same}
@@ -21,7 +22,7 @@ use Rattle.count_rule.proofs.Tables.{one_works}
 use Rattle.count_rule.proofs.Steady.{work_of-same}
 use Rattle.count_rule.proofs.CountLaw.{pages_of, Steady, types_steady, counted_steady, counts_law}
 use Rattle.count_rule.proofs.PartLaws.{alone_law, map_law, works_law}
-use Rattle.count_rule.proofs.Learning.{Kept}
+use Rattle.count_rule.proofs.Learning.{Stays}
 
 -- ---- a hand that keeps its lists
 pub works_times : (b c : Holdings) → EachTwo SameWork b.works c.works → (g : ℕ) → works_on g c.works ≡ works_on g b.works
@@ -97,16 +98,14 @@ module _ (n : Machine) (s : ℕ) (m m2 : Place → ℕ) (b c : ℕ → Holdings)
       same
       (EachOf-both (WorkAgrees (b s)) _ _ old (EachOf-first (λ e. e.frame) (b s).works (λ g. one_works n m b alone g s seat)))
 
-  -- ---- nothing that is counted moves
+  -- ---- no frame's words move, nor what is in hand of frames
   pub record Calm : Type 0 where
     pub refs : (g : ℕ) → m2 (Refs g) ≡ m (Refs g)
     pub kinds : (g : ℕ) → m2 (Kind g) ≡ m (Kind g)
-    pub pages : (d : ℕ) → m2 (Pages d) ≡ m (Pages d)
-    pub maps : (k : ℕ) → m2 (Map k) ≡ m (Map k)
     pub contexts : (v k : ℕ) → IsTrue (is_context k) → m2 (Vcpu v k) ≡ m (Vcpu v k)
     pub demands : (f i : ℕ) → i < held (sizes_of n) m b f → entry_demand m2 f i ≡ entry_demand m f i
 
-  module _ (sound : Sound n m b) (calm : Calm) (kept : Kept (b s) (c s)) where
+  module _ (sound : Sound n m b) (calm : Calm) (kept : Stays (b s) (c s)) where
     recorded_kept : (f : ℕ) → recorded_in (c s).works f ≡ recorded_in (b s).works f
     recorded_kept f = recorded_in-same f _ _ kept.works
 
@@ -136,20 +135,19 @@ module _ (n : Machine) (s : ℕ) (m m2 : Place → ℕ) (b c : ℕ → Holdings)
         let l = typed_hand_same g in
         omega arith
 
-    pub quiet_counts : CountsAgree (sizes_of n) m2 c
-    quiet_counts =
+    -- pages are counted with the credits of the seat
+    pub quiet_counts : ((d : ℕ) → d < (sizes_of n).domains → m2 (Pages d) + times d (b s).credits ≡ m (Pages d) + times d (c s).credits) → CountsAgree (sizes_of n) m2 c
+    quiet_counts pages =
         counts_law n s m m2 b c seat others
         (counted_steady n s m m2 b c seat others steady sound.counts
         (λ g. let e = hand_same g in rw (calm.refs g, calm.kinds g) (omega arith))
         (λ g. let e = typed_hand_same g in rw (calm.kinds g) (omega arith))
-        (types_steady n s m m2 b c seat others steady sound.counts
-        (λ e. rw kept.typed e)
+        (types_steady n s m m2 b c seat others steady sound.counts (λ e. rw kept.typed e)
         (λ e. EachTwo-each SameLock (λ e. HasType m2 e.frame (Some e.kind)) _ _ _ (λ x y r k. ap (λ f. (kind_at m2 f).kind) r.frame ∙ k ∙ sym r.kind) kept.locks e))
         (λ d l.
-        let e = calm.pages d in
-        let f : pages_of n m2 d ≡ pages_of n m d = sum_below-same _ _ _ (λ f k. ap (is_page_of d) (calm.refs f)) in
-        let k = ap (times d) kept.credits in
-        omega arith))
+          let e = pages d l in
+          let f : pages_of n m2 d ≡ pages_of n m d = sum_below-same _ _ _ (λ f k. ap (is_page_of d) (calm.refs f)) in
+          omega arith))
         sound.counts
 
     pub quiet_alone : HeldAlone n m2 c
@@ -160,10 +158,11 @@ module _ (n : Machine) (s : ℕ) (m m2 : Place → ℕ) (b c : ℕ → Holdings)
         (λ g. let e = claims_times (b s) (c s) kept.claimed g in let k = ap (endings_of g) kept.ending in rw (calm.refs g) (omega arith))
         sound.alone
 
-    pub quiet_map : FreeMap n m2 c
-    quiet_map =
+    -- bits are set with the raised frames of the seat
+    pub quiet_map : ((g : ℕ) → g < (sizes_of n).frames → bit (is_hinted m2 g) + times g (b s).raised ≡ bit (is_hinted m g) + times g (c s).raised) → FreeMap n m2 c
+    quiet_map bits =
         map_law n s m m2 b c seat others
-        (λ g l. let e = ap (times g) kept.raised in rw (calm.refs g, calm.maps (g / 64)) (omega arith))
+        (λ g l. let e = bits g l in rw (calm.refs g) (omega arith))
         sound.map
 
     pub quiet_works : (t : ℕ) → t < (sizes_of n).vcpus → EachOf (WorkAgrees (c t)) (c t).works

@@ -3,7 +3,7 @@ use Rattle.std.proofs.Common.{◌≡◌, ◌≢◌, ℕ, ◌+◌, ◌^◌, ◌<�
 use Rattle.std.proofs.lemmas.Bool.{cases_eq}
 use Rattle.xp_words.specs.Entries.{is_bit, frame_of}
 use Rattle.xp_words.specs.Machine.{Machine}
-use Rattle.xp_words.specs.Places.{sizes_of, Place, Clock, Life, Vcpu, Kind, M2p, Cell, Priv}
+use Rattle.xp_words.specs.Places.{sizes_of, Place, Clock, Life, Vcpu, Kind, M2p, Cell, Priv, Pages, Refs, Map}
 use Rattle.xp_board.specs.declared.holdings.Holdings.{Holdings}
 use Rattle.xp_board.specs.declared.holdings.Walk.{Walk}
 use Rattle.xp_board.specs.declared.step.Step.{Step}
@@ -20,7 +20,7 @@ use Rattle.count_rule.proofs.PartLaws.{spelled_same, stamped_by, stamped_same, i
 use Rattle.count_rule.proofs.SpelledLaw.{wrote_spelled}
 use Rattle.count_rule.proofs.Told.{clock_told}
 use Rattle.count_rule.proofs.Sums.{when_eq, when_ne}
-use Rattle.count_rule.proofs.Outcome.{Outcome, is_counted, calm_same, calm_away, quiet_outcome, runs}
+use Rattle.count_rule.proofs.Outcome.{apart, Outcome, is_counted, calm_same, calm_away, quiet_outcome, runs}
 
 -- ---- what a walk leaves in the hand
 same_descended : (n : Machine) (walk : Walk) (w : ℕ) (b : Holdings) → Same b (descended n walk w b)
@@ -63,7 +63,7 @@ module _ (n : Machine) (s : ℕ) (x : Step) (m m2 : Place → ℕ) (b c : ℕ �
   -- ---- no word changes
   still_outcome : ((q : Place) → m2 q ≡ m q) → Kept (b s) (c s) → ((v : ℕ) → v < (sizes_of n).vcpus → Idle n m2 c v) → Outcome n m2 c
   still_outcome words kept idle =
-      quiet_outcome n s m m2 b c seat others sound (calm_same n s m m2 b c seat others words) kept (spelled_same n m m2 words sound.spelled)
+      quiet_outcome n s m m2 b c seat others sound (calm_same n s m m2 b c seat others words) kept (λ d. words (Pages d)) (λ k. words (Map k)) (spelled_same n m m2 words sound.spelled)
       (stamped_same n m m2 words sound.stamped) idle
 
   pub looked_outcome : (p : Place) → Looked n s x p m m2 (b s) (c s) → Outcome n m2 c
@@ -111,7 +111,7 @@ module _ (n : Machine) (s : ℕ) (x : Step) (m m2 : Place → ℕ) (b c : ℕ �
   away_outcome : (p : Place) → is_counted p ≡ false → ((q : Place) → q ≢ p → m2 q ≡ m q) → m Clock ≤ m2 Clock → ((v : ℕ) → p ≡ Vcpu v 5 → m2 p ≤ m2 Clock) → Kept (b s) (c s) →
       Spelled n m2 → ((v : ℕ) → v < (sizes_of n).vcpus → Idle n m2 c v) → Outcome n m2 c
   away_outcome p away words clock vcpu kept spelled idle =
-      quiet_outcome n s m m2 b c seat others sound (calm_away n s m m2 b c seat others p away words) kept spelled
+      quiet_outcome n s m m2 b c seat others sound (calm_away n s m m2 b c seat others p away words) kept (λ d. words (Pages d) (apart p (Pages d) away refl)) (λ k. words (Map k) (apart p (Map k) away refl)) spelled
       (stamped_by n m m2 p words clock vcpu (λ f e. absurd (let k = ap is_counted e in cc)) (λ f e. absurd (let k = ap is_counted e in cc)) sound.stamped) idle
 
   -- the hand learns no more than the word
