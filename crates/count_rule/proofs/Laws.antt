@@ -18,6 +18,8 @@ use Rattle.count_rule.proofs.PartLaws.{idle_fewer}
 use Rattle.count_rule.proofs.Outcome.{Outcome, calm_same, quiet_outcome}
 use Rattle.count_rule.proofs.QuietActs as quiet
 use Rattle.count_rule.proofs.RefActs as refs
+use Rattle.count_rule.proofs.PageActs as pages
+use Rattle.count_rule.proofs.HintActs as hints
 use Rattle.count_rule.proofs.RecordMarks as entries
 
 not_yet : (x : Step) (k : StepKind) → x.kind ≡ k → is_proved k x.act ≡ false → IsTrue (is_proved x.kind x.act) → ⊥
@@ -46,8 +48,8 @@ module _ (n : Machine) (s : ℕ) (x : Step) (m m2 : Place → ℕ) (b c : ℕ �
   act_by (effects.touched_entry f i d) = absurd (not_yet x steps.Touch d.wrote.kind_is refl may.proved)
   act_by (effects.stumbled f i d) = quiet.stumbled_outcome n s x m m2 b c seat others may sound f i d
   act_by (effects.mapped f d) = quiet.mapped_outcome n s x m m2 b c seat others may sound f d
-  act_by (effects.charged e d) = absurd (not_yet x steps.Pages d.wrote.kind_is refl may.proved)
-  act_by (effects.refunded e by d) = absurd (not_yet x steps.Pages d.wrote.kind_is refl may.proved)
+  act_by (effects.charged e d) = pages.charged_outcome n s x m m2 b c seat others may sound e d
+  act_by (effects.refunded e by d) = pages.refunded_outcome n s x m m2 b c seat others may sound e by d
   act_by (effects.named_frame v k d) = absurd (not_yet x steps.Context d.wrote.kind_is refl may.proved)
   act_by (effects.based v d) = quiet.based_outcome n s x m m2 b c seat others may sound v d
   act_by (effects.asked v d) = quiet.asked_outcome n s x m m2 b c seat others may sound v d
@@ -56,7 +58,7 @@ module _ (n : Machine) (s : ℕ) (x : Step) (m m2 : Place → ℕ) (b c : ℕ �
   act_by (effects.ticked d) = quiet.ticked_outcome n s x m m2 b c seat others may sound d
   act_by (effects.doomed e d) = quiet.doomed_outcome n s x m m2 b c seat others may sound e d
   act_by (effects.buried e d) = quiet.buried_outcome n s x m m2 b c seat others may sound e d
-  act_by (effects.hinted k by d) = absurd (not_yet x steps.Hint d.wrote.kind_is refl may.proved)
+  act_by (effects.hinted k by d) = hints.hinted_outcome n s x m m2 b c seat others may sound k by d
   act_by (effects.privileged e d) = quiet.privileged_outcome n s x m m2 b c seat others may sound e d
 
 pub act_outcome : (n : Machine) (s : ℕ) (x : Step) (m m2 : Place → ℕ) (b c : ℕ → Holdings) → s < (sizes_of n).vcpus → MayAct n s x (b s) → Acted n s x m m2 b c → Sound n m b → Outcome n m2 c

@@ -15,7 +15,10 @@ mod QuietActs
 mod Demands
 mod EntryMarks
 mod RecordMarks
+mod Bits
+mod Hints
 mod PageActs
+mod HintActs
 mod RefLaw
 mod RefActs
 mod Laws

@@ -1,8 +1,7 @@
 -- Pages counted for a domain and given back, and the free map.
-use Rattle.std.proofs.Common.{◌≡◌, ◌≢◌, ℕ, ◌+◌, ◌-◌, ◌%◌, ◌^◌, ◌/◌, ◌<◌, ◌≤◌, Bool, true, false, List, Option, Some, None, refl, sym, ◌∙◌, ap, subst, arith, IsTrue, inl, inr}
+use Rattle.std.proofs.Common.{◌≡◌, ◌≢◌, ℕ, ◌+◌, ◌-◌, ◌%◌, ◌^◌, ◌/◌, ◌<◌, List, refl, sym, ◌∙◌, ap, subst, arith, IsTrue, inl, inr}
 use Rattle.std.proofs.lemmas.Bool.{cases_eq}
 use Rattle.std.proofs.lemmas.Bool.Decides.{nat_tests}
-use Rattle.xp_words.specs.RefWords.{bit}
 use Rattle.xp_words.specs.Machine.{Machine}
 use Rattle.xp_words.specs.Places.{sizes_of, is_place, Place, Clock, Pages, Vcpu, Refs, Kind, Cell, Map}
 use Rattle.xp_board.specs.declared.holdings.Holdings.{Holdings}
@@ -13,8 +12,8 @@ use Rattle.xp_board.specs.Spelling.{IsSpelling}
 use Rattle.xp_board.specs.After.{noted}
 use Rattle.xp_board.specs.PagesSteps.{MayRefund}
 use Rattle.xp_board.specs.Keeping.{MayAct}
-use Rattle.xp_board.specs.Sound.{Spelled, Sound, is_hinted}
-use Rattle.xp_board.proofs.ActEffects.{Wrote, Charged, Refunded, Hinted}
+use Rattle.xp_board.specs.Sound.{Spelled, Sound}
+use Rattle.xp_board.proofs.ActEffects.{Wrote, Charged, Refunded}
 use Rattle.count_rule.proofs.Sums.{hands-part}
 use Rattle.count_rule.proofs.Lists.{times-with_more_here, times-with_more_other, times-with_fewer_here, times-with_fewer_other}
 use Rattle.count_rule.proofs.Learning.{Stays, works_kept, locks_kept, claims_kept}
@@ -24,7 +23,7 @@ use Rattle.count_rule.proofs.Quiet.{Calm}
 use Rattle.count_rule.proofs.Outcome.{Outcome, cells_same, calm_outcome, runs}
 
 module _ (n : Machine) (s : ℕ) (x : Step) (m m2 : Place → ℕ) (b c : ℕ → Holdings) (seat : s < (sizes_of n).vcpus) (others : (t : ℕ) → t ≢ s → c t ≡ b t) (may : MayAct n s x (b s)) (sound : Sound n m b) where
-  calm : (p : Place) → ((q : Place) → q ≢ p → m2 q ≡ m q) → ((f : ℕ) → Refs f ≢ p) → ((f : ℕ) → Kind f ≢ p) → ((v k : ℕ) → Vcpu v k ≢ p) → ((f i : ℕ) → Cell f i ≢ p) → Calm n s m m2 b c seat others
+  pub calm : (p : Place) → ((q : Place) → q ≢ p → m2 q ≡ m q) → ((f : ℕ) → Refs f ≢ p) → ((f : ℕ) → Kind f ≢ p) → ((v k : ℕ) → Vcpu v k ≢ p) → ((f i : ℕ) → Cell f i ≢ p) → Calm n s m m2 b c seat others
   calm p words refs kinds vcpus cells =
       record {
         refs = λ g. words (Refs g) (refs g);

@@ -1,10 +1,10 @@
 -- An act that moves nothing that is counted.
 use Rattle.xp_words.specs.RefWords.{bit}
-use Rattle.std.proofs.Common.{◌≡◌, ◌≢◌, ℕ, ◌+◌, ◌<◌, ◌/◌, Bool, true, false, List, Some, refl, sym, ◌∙◌, ap, arith, IsTrue, inl, inr}
+use Rattle.std.proofs.Common.{◌≡◌, ◌≢◌, ℕ, ◌+◌, ◌<◌, Bool, true, false, List, Some, refl, sym, ◌∙◌, ap, arith, IsTrue, inl, inr}
 use Rattle.std.proofs.lemmas.Bool.{cases_eq}
 use Rattle.std.proofs.lemmas.Bool.Decides.{nat_tests}
 use Rattle.xp_words.specs.Machine.{Machine}
-use Rattle.xp_words.specs.Places.{sizes_of, is_place, Place, Pages, Vcpu, Refs, Kind, Map}
+use Rattle.xp_words.specs.Places.{sizes_of, is_place, Place, Pages, Vcpu, Refs, Kind}
 use Rattle.xp_words.specs.PageTypes.{is_table}
 use Rattle.xp_words.specs.KindWords.{kind_fields}
 use Rattle.xp_board.specs.declared.holdings.Holdings.{Holdings}
@@ -145,9 +145,9 @@ module _ (n : Machine) (s : ℕ) (m m2 : Place → ℕ) (b c : ℕ → Holdings)
         (types_steady n s m m2 b c seat others steady sound.counts (λ e. rw kept.typed e)
         (λ e. EachTwo-each SameLock (λ e. HasType m2 e.frame (Some e.kind)) _ _ _ (λ x y r k. ap (λ f. (kind_at m2 f).kind) r.frame ∙ k ∙ sym r.kind) kept.locks e))
         (λ d l.
-          let e = pages d l in
-          let f : pages_of n m2 d ≡ pages_of n m d = sum_below-same _ _ _ (λ f k. ap (is_page_of d) (calm.refs f)) in
-          omega arith))
+        let e = pages d l in
+        let f : pages_of n m2 d ≡ pages_of n m d = sum_below-same _ _ _ (λ f k. ap (is_page_of d) (calm.refs f)) in
+        omega arith))
         sound.counts
 
     pub quiet_alone : HeldAlone n m2 c
