@@ -19,6 +19,10 @@ mod Bits
 mod Hints
 mod PageActs
 mod HintActs
+mod KindForms
+mod KindLaw
+mod KindDown
+mod KindSpelled
 mod RefLaw
 mod RefActs
 mod Laws

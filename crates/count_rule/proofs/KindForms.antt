@@ -1,0 +1,115 @@
+-- What a kind word says, by its form.
+use Rattle.std.proofs.Common.{◌≡◌, ◌≢◌, ℕ, ◌+◌, ◌<◌, ◌≤◌, ◌==◌, ◌&&◌, ◌||◌, not, nat_lt, if◌then◌else◌, Bool, true, false, Option, Some, None, refl, sym, ◌∙◌, ap, subst, arith, IsTrue, inl, inr}
+use Rattle.std.proofs.lemmas.Bool.{and_parts}
+use Rattle.std.proofs.lemmas.Bool.Decides.{nat_tests}
+use Rattle.xp_words.specs.declared.kind.KindWord.{KindWord}
+use Rattle.xp_words.specs.KindWords.{kind_read, kind_fields, has_form, has_type}
+use Rattle.xp_words.specs.PageTypes.{is_table}
+use Rattle.xp_words.specs.RefWords.{bit}
+use Rattle.xp_words.proofs.KindLaws.{when_some}
+use Rattle.xp_words.specs.Machine.{Machine}
+use Rattle.xp_board.specs.Readings.{type_count, kind_stamp, is_live, is_partial, is_work, is_dead, is_closing, is_locked}
+use Rattle.xp_board.specs.Recorded.{marks, held_of}
+use Rattle.xp_board.specs.Spelling.{is_kind_in}
+use Rattle.xp_board.specs.Sound.{is_busy}
+
+pub read_form : (w : ℕ) (k : KindWord) → kind_read w ≡ Some k → has_form k ≡ true
+unfolding kind_read
+read_form w k e =
+    let p = when_some _ _ _ e in
+    let q = and_parts _ _ p.0 in
+    ap has_form (sym p.1) ∙ q.1
+
+pub read_fields : (w : ℕ) (k : KindWord) → kind_read w ≡ Some k → kind_fields w ≡ k
+unfolding kind_read
+read_fields w k e = (when_some _ _ _ e).1
+
+form_of_read : (n : Machine) (w : ℕ) (o : Option KindWord) → kind_read w ≡ o → IsTrue (is_kind_in n o) → has_form (kind_fields w) ≡ true
+form_of_read n w (Some k) e t = ap has_form (read_fields w k e) ∙ read_form w k e
+form_of_read n w None e t = absurd (cc)
+
+pub spelled_form : (n : Machine) (w : ℕ) → IsTrue (is_kind_in n (kind_read w)) → has_form (kind_fields w) ≡ true
+spelled_form n w t = form_of_read n w (kind_read w) refl t
+
+-- its type count, its marks, and whether the frame is in one hand alone
+pub record Says (k : KindWord) (count mark busy lock : ℕ) : Type 0 where
+  pub counts : type_count k ≡ count
+  pub mark_is : marks k ≡ mark
+  pub busy_is : bit (is_busy k) ≡ busy
+  pub lock_is : bit (is_locked k) ≡ lock
+
+bit_zero : (x : ℕ) → 0 < x → bit (x == 0) ≡ 0
+bit_zero x b = grind (arith, nat_tests)
+
+pub live_says : (k : KindWord) → has_form k ≡ true → IsTrue (is_live k) → 0 < k.number → Says k k.number (bit k.pinned) 0 (bit k.locked)
+unfolding has_form type_count marks
+live_says k form live some =
+    let kept : k.kept ≡ false = grind (arith, nat_tests) in
+    let off : (k.number == 0) ≡ false = grind (arith, nat_tests) in
+    record { counts = rw live refl; mark_is = rw kept (omega arith); busy_is = rw (live, off) refl; lock_is = rw live refl }
+
+pub closing_says : (k : KindWord) → has_form k ≡ true → IsTrue (is_closing k) → Says k 0 0 1 0
+unfolding has_form type_count marks
+closing_says k form closing =
+    let p = and_parts _ _ closing in
+    let live : k.validated ≡ true = p.0 in
+    let none : k.number ≡ 0 = grind (arith, nat_tests) in
+    let kept : k.kept ≡ false = grind (arith, nat_tests) in
+    let pinned : k.pinned ≡ false = grind (arith, nat_tests) in
+    let locked : k.locked ≡ false = grind (arith, nat_tests) in
+    record { counts = rw live none; mark_is = rw (kept, pinned) refl; busy_is = rw (live, none) refl; lock_is = rw (live, locked) refl }
+
+pub partial_says : (k : KindWord) → has_form k ≡ true → IsTrue (is_partial k) → Says k 1 (bit k.kept) 0 0
+unfolding has_form type_count marks
+partial_says k form partial =
+    let live : k.validated ≡ false = grind (arith, nat_tests) in
+    let part : k.partial ≡ true = grind (arith, nat_tests) in
+    let pinned : k.pinned ≡ false = grind (arith, nat_tests) in
+    record { counts = rw (live, part) refl; mark_is = rw pinned (omega arith); busy_is = rw (live, part) refl; lock_is = rw live refl }
+
+pub work_says : (k : KindWord) → has_form k ≡ true → IsTrue (is_work k) → Says k 1 0 1 0
+unfolding has_form type_count marks
+work_says k form work =
+    let live : k.validated ≡ false = grind (arith, nat_tests) in
+    let part : k.partial ≡ false = grind (arith, nat_tests) in
+    let locked : k.locked ≡ true = grind (arith, nat_tests) in
+    let pinned : k.pinned ≡ false = grind (arith, nat_tests) in
+    let kept : k.kept ≡ false = grind (arith, nat_tests) in
+    record { counts = rw (live, part, locked) refl; mark_is = rw (kept, pinned) refl; busy_is = rw (live, part, locked) refl; lock_is = rw live refl }
+
+pub dead_says : (k : KindWord) → has_form k ≡ true → IsTrue (is_dead k) → Says k 0 0 0 0
+unfolding has_form type_count marks
+dead_says k form dead =
+    let live : k.validated ≡ false = grind (arith, nat_tests) in
+    let part : k.partial ≡ false = grind (arith, nat_tests) in
+    let locked : k.locked ≡ false = grind (arith, nat_tests) in
+    let pinned : k.pinned ≡ false = grind (arith, nat_tests) in
+    let kept : k.kept ≡ false = grind (arith, nat_tests) in
+    record { counts = rw (live, part, locked) refl; mark_is = rw (kept, pinned) refl; busy_is = rw (live, part, locked) refl; lock_is = rw live refl }
+
+-- ---- how many entries are recorded, by its form
+pub held_live : (k : KindWord) → IsTrue (is_live k) → held_of k None ≡ (if is_table k.kind then 512 else 0)
+unfolding held_of
+held_live k live = rw live refl
+
+pub held_partial : (k : KindWord) → IsTrue (is_partial k) → held_of k None ≡ (if is_table k.kind then k.progress else 0)
+unfolding held_of
+held_partial k partial =
+    let live : k.validated ≡ false = grind (arith, nat_tests) in
+    let part : k.partial ≡ true = grind (arith, nat_tests) in
+    rw (live, part) refl
+
+either_zero : (t : Bool) → ◌≡◌ {A = ℕ} (if t then 0 else 0) 0
+either_zero true = refl
+either_zero false = refl
+
+pub held_dead : (k : KindWord) → IsTrue (is_dead k) → held_of k None ≡ 0
+unfolding held_of
+held_dead k dead =
+    let live : k.validated ≡ false = grind (arith, nat_tests) in
+    let part : k.partial ≡ false = grind (arith, nat_tests) in
+    rw (live, part) (either_zero (is_table k.kind))
+
+pub held_work : (k : KindWord) (r : ℕ) → held_of k (Some r) ≡ (if is_table k.kind then r else 0)
+unfolding held_of
+held_work k r = refl
