@@ -23,6 +23,10 @@ mod KindForms
 mod KindLaw
 mod KindDown
 mod KindSpelled
+mod ListMoves
+mod KindWorks
+mod KindActs
+mod TurnActs
 mod RefLaw
 mod RefActs
 mod Laws

@@ -1,0 +1,179 @@
+-- The exchanges of a kind word, by their rows.
+use Rattle.std.proofs.Common.{◌≡◌, ◌≢◌, ℕ, ◌+◌, ◌-◌, ◌<◌, ◌≤◌, ◌==◌, not, if◌then◌else◌, Bool, true, false, List, [], ◌∷◌, length, Option, Some, None, refl, sym, ◌∙◌, ap, subst, arith, IsTrue, inl, inr}
+use Rattle.std.proofs.lemmas.Bool.Decides.{nat_tests}
+use Rattle.xp_words.specs.declared.kind.KindWord.{KindWord}
+use Rattle.xp_words.specs.KindWords.{kind_read, kind_fields, has_form}
+use Rattle.xp_words.specs.PageTypes.{is_table}
+use Rattle.xp_words.specs.RefWords.{bit}
+use Rattle.xp_words.specs.Machine.{Machine}
+use Rattle.xp_words.specs.Places.{sizes_of, Place, Clock, Kind}
+use Rattle.xp_board.specs.declared.holdings.Holdings.{Holdings}
+use Rattle.xp_board.specs.declared.holdings.Work.{Work}
+use Rattle.xp_board.specs.declared.step.Step.{Step}
+use Rattle.xp_board.specs.Lists.{EachOf, times_by}
+use Rattle.xp_board.specs.Readings.{kind_at, kind_stamp, is_live, is_partial, is_work, is_dead}
+use Rattle.xp_board.specs.Hands.{refs_to, typed_to, locks_on, works_on, work_on}
+use Rattle.xp_board.specs.Recorded.{held, held_of, HasType}
+use Rattle.xp_board.specs.KindSteps.{KindRow, Count, Locks, Pin, Unpin, Resume, TakeBack, Begin, raised_kind, locked_kind, begun_kind, resumed_kind, still_looking, after_kind_row}
+use Rattle.xp_board.specs.After.{noted}
+use Rattle.xp_board.specs.Keeping.{MayAct}
+use Rattle.xp_board.specs.Sound.{HeldAlone, WorkAgrees, Sound}
+use Rattle.xp_board.proofs.ActEffects.{Turned}
+use Rattle.count_rule.proofs.Lists.{EachOf-without}
+use Rattle.count_rule.proofs.ListMoves.{kept_other, cons_other, out_other, kept_here, cons_here, out_here, maybe_other, maybe_here, recorded_kept, recorded_cons}
+use Rattle.count_rule.proofs.KindForms.{Says, read_form, live_says, partial_says, work_says, dead_says, held_live, held_partial, held_dead, held_work}
+use Rattle.count_rule.proofs.KindActs.{stamp_live, stamp_number, stamp_of, Turn, Elsewhere, beside, rest_by, turn_outcome, free_outcome, keeps_kind}
+use Rattle.count_rule.proofs.KindWorks.{works_apart, works_in, works_out}
+use Rattle.count_rule.proofs.Outcome.{Outcome}
+
+left_says : (l r : KindWord) (c m b k : ℕ) → l ≡ r → Says r c m b k → Says l c m b k
+left_says l r c m b k e says = subst (λ y. Says y c m b k) (sym e) says
+
+held_same : (k l : KindWord) → l.kind ≡ k.kind → l.validated ≡ k.validated → l.partial ≡ k.partial → l.progress ≡ k.progress → held_of l None ≡ held_of k None
+unfolding held_of
+held_same k l t v p r = rw (t, v, p, r) refl
+
+pinned_some : (k : KindWord) → has_form k ≡ true → IsTrue (is_live k) → k.pinned ≡ true → 0 < k.number
+unfolding has_form
+pinned_some k form live pinned = grind (arith, nat_tests)
+
+unpinned_mark : (k : KindWord) → k.pinned ≡ false → bit k.pinned ≡ 0
+unpinned_mark k e = rw e refl
+
+module _ (n : Machine) (s : ℕ) (x : Step) (m m2 : Place → ℕ) (b c : ℕ → Holdings) (seat : s < (sizes_of n).vcpus) (others : (t : ℕ) → t ≢ s → c t ≡ b t) (may : MayAct n s x (b s)) (sound : Sound n m b) (f : ℕ) where
+  -- the hand after an exchange by that row
+  abbrev turned_hand : KindRow → KindWord → KindWord → Holdings
+  turned_hand row k l =
+      noted x (m (Kind f)) (after_kind_row row f k l (m2 (Kind f)) (record (b s) { looking = still_looking f (m2 (Kind f)) (b s).looking }))
+
+  -- a stamp that stays
+  stamp_kept : (k l : KindWord) → kind_at m f ≡ k → kind_at m2 f ≡ l → l.number ≡ k.number → l.validated ≡ k.validated → kind_stamp (m2 (Kind f)) ≤ m Clock
+  unfolding kind_stamp
+  stamp_kept k l was is number valid = let old = sound.stamped.kinds f in rw (is, valid, number) (rw was at old)
+
+  count_outcome : Turned n s x f Count m m2 (b s) (c s) → Outcome n m2 c
+  unfolding EachOf
+  count_outcome d =
+      let k = d.k in
+      let l = d.l in
+      let u = turned_hand Count k l in
+      let left = d.may.left in
+      let was = live_says k (read_form _ k d.was) d.may.live d.may.counted in
+      let is = live_says (raised_kind k) (ap has_form (sym left) ∙ read_form _ l d.is) d.may.live (omega arith) in
+      let out = out_here (λ y. y.frame) f (b s).refs u.refs refl d.may.in_hand in
+      let in_ = cons_here (λ y. y.frame) f (b s).typed u.typed _ refl refl in
+      let kind : l.kind ≡ k.kind = ap (λ (y : KindWord). y.kind) left in
+      free_outcome n s x m m2 b c seat others may sound f d.wrote u d.hand (beside n s x m m2 b c seat others may sound f u refl refl refl refl refl refl refl) refl
+      (record {
+        refs = out_other (λ y. y.frame) f (b s).refs u.refs refl;
+        typed = cons_other (λ y. y.frame) f (b s).typed u.typed _ refl refl;
+        locks = λ g off. refl;
+      })
+      k l k.number (bit k.pinned) (bit k.locked) (k.number + 1) (bit k.pinned) (bit k.locked)
+      (record { was = d.fields_was; is = d.fields_is; says = was; tells = left_says l (raised_kind k) _ _ _ _ left is })
+      (held_same k l kind (ap (λ (y : KindWord). y.validated) left) (ap (λ (y : KindWord). y.partial) left) (ap (λ (y : KindWord). y.progress) left)) kind
+      (let z = stamp_live (m2 (Kind f)) l d.fields_is (ap (λ (y : KindWord). y.validated) left ∙ d.may.live) in omega arith)
+      (omega arith) (omega arith) refl
+      (λ e. (keeps_kind n s x m m2 b c seat others may sound f k l d.fields_was d.fields_is kind ∙ ap (λ (y : KindWord). y.kind) d.fields_was, e)) (λ e. e)
+
+  lock_outcome : Turned n s x f Locks m m2 (b s) (c s) → Outcome n m2 c
+  unfolding EachOf
+  lock_outcome d =
+      let k = d.k in
+      let l = d.l in
+      let u = turned_hand Locks k l in
+      let left = d.may.left in
+      let was = live_says k (read_form _ k d.was) d.may.live d.may.counted in
+      let is = live_says (locked_kind k) (ap has_form (sym left) ∙ read_form _ l d.is) d.may.live (omega arith) in
+      let out = out_here (λ y. y.frame) f (b s).refs u.refs refl d.may.in_hand in
+      let in_ = cons_here (λ y. y.frame) f (b s).locks u.locks _ refl refl in
+      let kind : l.kind ≡ k.kind = ap (λ (y : KindWord). y.kind) left in
+      let off = ap bit d.may.unlocked in
+      free_outcome n s x m m2 b c seat others may sound f d.wrote u d.hand (beside n s x m m2 b c seat others may sound f u refl refl refl refl refl refl refl) refl
+      (record {
+        refs = out_other (λ y. y.frame) f (b s).refs u.refs refl;
+        typed = λ g off. refl;
+        locks = cons_other (λ y. y.frame) f (b s).locks u.locks _ refl refl;
+      })
+      k l k.number (bit k.pinned) (bit k.locked) (k.number + 1) (bit k.pinned) 1
+      (record { was = d.fields_was; is = d.fields_is; says = was; tells = left_says l (locked_kind k) _ _ _ _ left is })
+      (held_same k l kind (ap (λ (y : KindWord). y.validated) left) (ap (λ (y : KindWord). y.partial) left) (ap (λ (y : KindWord). y.progress) left)) kind
+      (let z = stamp_live (m2 (Kind f)) l d.fields_is (ap (λ (y : KindWord). y.validated) left ∙ d.may.live) in omega arith)
+      (omega arith) (omega arith) (omega arith) (λ e. e)
+      (λ e. (keeps_kind n s x m m2 b c seat others may sound f k l d.fields_was d.fields_is kind ∙ ap (λ (y : KindWord). y.kind) d.fields_was, e))
+
+  pin_outcome : Turned n s x f Pin m m2 (b s) (c s) → Outcome n m2 c
+  pin_outcome d =
+      let k = d.k in
+      let l = d.l in
+      let u = turned_hand Pin k l in
+      let left = d.may.left in
+      let r = record k { pinned = true } in
+      let was = live_says k (read_form _ k d.was) d.may.live d.may.counted in
+      let is = live_says (record k { pinned = true }) (ap has_form (sym left) ∙ read_form _ l d.is) d.may.live d.may.counted in
+      let out = out_here (λ y. y.frame) f (b s).typed u.typed refl d.may.in_hand in
+      let kind : l.kind ≡ k.kind = ap (λ (y : KindWord). y.kind) left in
+      let off = ap bit d.may.unpinned in
+      free_outcome n s x m m2 b c seat others may sound f d.wrote u d.hand (beside n s x m m2 b c seat others may sound f u refl refl refl refl refl refl refl) refl
+      (record {
+        refs = λ g off. refl;
+        typed = out_other (λ y. y.frame) f (b s).typed u.typed refl;
+        locks = λ g off. refl;
+      })
+      k l k.number (bit k.pinned) (bit k.locked) k.number 1 (bit k.locked)
+      (record { was = d.fields_was; is = d.fields_is; says = was; tells = left_says l (record k { pinned = true }) _ _ _ _ left is })
+      (held_same k l kind (ap (λ (y : KindWord). y.validated) left) (ap (λ (y : KindWord). y.partial) left) (ap (λ (y : KindWord). y.progress) left)) kind
+      (let z = stamp_live (m2 (Kind f)) l d.fields_is (ap (λ (y : KindWord). y.validated) left ∙ d.may.live) in omega arith)
+      (omega arith) (omega arith) refl
+      (λ e. EachOf-without (λ y. HasType m2 y.frame y.kind) (λ y. y.frame) f (b s).typed e) (λ e. e)
+
+  unpin_outcome : Turned n s x f Unpin m m2 (b s) (c s) → Outcome n m2 c
+  unfolding EachOf
+  unpin_outcome d =
+      let k = d.k in
+      let l = d.l in
+      let u = turned_hand Unpin k l in
+      let left = d.may.left in
+      let some = pinned_some k (read_form _ k d.was) d.may.live d.may.pinned in
+      let was = live_says k (read_form _ k d.was) d.may.live some in
+      let is = live_says (record k { pinned = false }) (ap has_form (sym left) ∙ read_form _ l d.is) d.may.live some in
+      let in_ = cons_here (λ y. y.frame) f (b s).typed u.typed _ refl refl in
+      let kind : l.kind ≡ k.kind = ap (λ (y : KindWord). y.kind) left in
+      let on = ap bit d.may.pinned in
+      free_outcome n s x m m2 b c seat others may sound f d.wrote u d.hand (beside n s x m m2 b c seat others may sound f u refl refl refl refl refl refl refl) refl
+      (record {
+        refs = λ g off. refl;
+        typed = cons_other (λ y. y.frame) f (b s).typed u.typed _ refl refl;
+        locks = λ g off. refl;
+      })
+      k l k.number (bit k.pinned) (bit k.locked) k.number 0 (bit k.locked)
+      (record { was = d.fields_was; is = d.fields_is; says = was; tells = left_says l (record k { pinned = false }) _ _ _ _ left is })
+      (held_same k l kind (ap (λ (y : KindWord). y.validated) left) (ap (λ (y : KindWord). y.partial) left) (ap (λ (y : KindWord). y.progress) left)) kind
+      (let z = stamp_live (m2 (Kind f)) l d.fields_is (ap (λ (y : KindWord). y.validated) left ∙ d.may.live) in omega arith)
+      (omega arith) (omega arith) refl
+      (λ e. (keeps_kind n s x m m2 b c seat others may sound f k l d.fields_was d.fields_is kind ∙ ap (λ (y : KindWord). y.kind) d.fields_was, e)) (λ e. e)
+
+  take_back_outcome : Turned n s x f TakeBack m m2 (b s) (c s) → Outcome n m2 c
+  unfolding EachOf
+  take_back_outcome d =
+      let k = d.k in
+      let l = d.l in
+      let u = turned_hand TakeBack k l in
+      let left = d.may.left in
+      let was = partial_says k (read_form _ k d.was) d.may.partial in
+      let is = partial_says (record k { kept = false }) (ap has_form (sym left) ∙ read_form _ l d.is) d.may.partial in
+      let in_ = cons_here (λ y. y.frame) f (b s).typed u.typed _ refl refl in
+      let kind : l.kind ≡ k.kind = ap (λ (y : KindWord). y.kind) left in
+      let on = ap bit d.may.kept in
+      free_outcome n s x m m2 b c seat others may sound f d.wrote u d.hand (beside n s x m m2 b c seat others may sound f u refl refl refl refl refl refl refl) refl
+      (record {
+        refs = λ g off. refl;
+        typed = cons_other (λ y. y.frame) f (b s).typed u.typed _ refl refl;
+        locks = λ g off. refl;
+      })
+      k l 1 (bit k.kept) 0 1 0 0
+      (record { was = d.fields_was; is = d.fields_is; says = was; tells = left_says l (record k { kept = false }) _ _ _ _ left is })
+      (held_same k l kind (ap (λ (y : KindWord). y.validated) left) (ap (λ (y : KindWord). y.partial) left) (ap (λ (y : KindWord). y.progress) left)) kind
+      (stamp_kept k l d.fields_was d.fields_is (ap (λ (y : KindWord). y.number) left) (ap (λ (y : KindWord). y.validated) left))
+      (omega arith) (omega arith) refl
+      (λ e. (keeps_kind n s x m m2 b c seat others may sound f k l d.fields_was d.fields_is kind ∙ ap (λ (y : KindWord). y.kind) d.fields_was, e)) (λ e. e)
