@@ -27,6 +27,8 @@ mod ListMoves
 mod KindWorks
 mod KindActs
 mod TurnActs
+mod WorkActs
+mod DownActs
 mod RefLaw
 mod RefActs
 mod Laws

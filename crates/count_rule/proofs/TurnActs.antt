@@ -26,10 +26,10 @@ use Rattle.count_rule.proofs.KindActs.{stamp_live, stamp_number, stamp_of, Turn,
 use Rattle.count_rule.proofs.KindWorks.{works_apart, works_in, works_out}
 use Rattle.count_rule.proofs.Outcome.{Outcome}
 
-left_says : (l r : KindWord) (c m b k : ℕ) → l ≡ r → Says r c m b k → Says l c m b k
+pub left_says : (l r : KindWord) (c m b k : ℕ) → l ≡ r → Says r c m b k → Says l c m b k
 left_says l r c m b k e says = subst (λ y. Says y c m b k) (sym e) says
 
-held_same : (k l : KindWord) → l.kind ≡ k.kind → l.validated ≡ k.validated → l.partial ≡ k.partial → l.progress ≡ k.progress → held_of l None ≡ held_of k None
+pub held_same : (k l : KindWord) → l.kind ≡ k.kind → l.validated ≡ k.validated → l.partial ≡ k.partial → l.progress ≡ k.progress → held_of l None ≡ held_of k None
 unfolding held_of
 held_same k l t v p r = rw (t, v, p, r) refl
 
@@ -42,16 +42,16 @@ unpinned_mark k e = rw e refl
 
 module _ (n : Machine) (s : ℕ) (x : Step) (m m2 : Place → ℕ) (b c : ℕ → Holdings) (seat : s < (sizes_of n).vcpus) (others : (t : ℕ) → t ≢ s → c t ≡ b t) (may : MayAct n s x (b s)) (sound : Sound n m b) (f : ℕ) where
   -- the hand after an exchange by that row
-  abbrev turned_hand : KindRow → KindWord → KindWord → Holdings
+  abbrev pub turned_hand : KindRow → KindWord → KindWord → Holdings
   turned_hand row k l =
       noted x (m (Kind f)) (after_kind_row row f k l (m2 (Kind f)) (record (b s) { looking = still_looking f (m2 (Kind f)) (b s).looking }))
 
   -- a stamp that stays
-  stamp_kept : (k l : KindWord) → kind_at m f ≡ k → kind_at m2 f ≡ l → l.number ≡ k.number → l.validated ≡ k.validated → kind_stamp (m2 (Kind f)) ≤ m Clock
+  pub stamp_kept : (k l : KindWord) → kind_at m f ≡ k → kind_at m2 f ≡ l → l.number ≡ k.number → l.validated ≡ k.validated → kind_stamp (m2 (Kind f)) ≤ m Clock
   unfolding kind_stamp
   stamp_kept k l was is number valid = let old = sound.stamped.kinds f in rw (is, valid, number) (rw was at old)
 
-  count_outcome : Turned n s x f Count m m2 (b s) (c s) → Outcome n m2 c
+  pub count_outcome : Turned n s x f Count m m2 (b s) (c s) → Outcome n m2 c
   unfolding EachOf
   count_outcome d =
       let k = d.k in
@@ -76,7 +76,7 @@ module _ (n : Machine) (s : ℕ) (x : Step) (m m2 : Place → ℕ) (b c : ℕ �
       (omega arith) (omega arith) refl
       (λ e. (keeps_kind n s x m m2 b c seat others may sound f k l d.fields_was d.fields_is kind ∙ ap (λ (y : KindWord). y.kind) d.fields_was, e)) (λ e. e)
 
-  lock_outcome : Turned n s x f Locks m m2 (b s) (c s) → Outcome n m2 c
+  pub lock_outcome : Turned n s x f Locks m m2 (b s) (c s) → Outcome n m2 c
   unfolding EachOf
   lock_outcome d =
       let k = d.k in
@@ -102,7 +102,7 @@ module _ (n : Machine) (s : ℕ) (x : Step) (m m2 : Place → ℕ) (b c : ℕ �
       (omega arith) (omega arith) (omega arith) (λ e. e)
       (λ e. (keeps_kind n s x m m2 b c seat others may sound f k l d.fields_was d.fields_is kind ∙ ap (λ (y : KindWord). y.kind) d.fields_was, e))
 
-  pin_outcome : Turned n s x f Pin m m2 (b s) (c s) → Outcome n m2 c
+  pub pin_outcome : Turned n s x f Pin m m2 (b s) (c s) → Outcome n m2 c
   pin_outcome d =
       let k = d.k in
       let l = d.l in
@@ -127,7 +127,7 @@ module _ (n : Machine) (s : ℕ) (x : Step) (m m2 : Place → ℕ) (b c : ℕ �
       (omega arith) (omega arith) refl
       (λ e. EachOf-without (λ y. HasType m2 y.frame y.kind) (λ y. y.frame) f (b s).typed e) (λ e. e)
 
-  unpin_outcome : Turned n s x f Unpin m m2 (b s) (c s) → Outcome n m2 c
+  pub unpin_outcome : Turned n s x f Unpin m m2 (b s) (c s) → Outcome n m2 c
   unfolding EachOf
   unpin_outcome d =
       let k = d.k in
@@ -153,7 +153,7 @@ module _ (n : Machine) (s : ℕ) (x : Step) (m m2 : Place → ℕ) (b c : ℕ �
       (omega arith) (omega arith) refl
       (λ e. (keeps_kind n s x m m2 b c seat others may sound f k l d.fields_was d.fields_is kind ∙ ap (λ (y : KindWord). y.kind) d.fields_was, e)) (λ e. e)
 
-  take_back_outcome : Turned n s x f TakeBack m m2 (b s) (c s) → Outcome n m2 c
+  pub take_back_outcome : Turned n s x f TakeBack m m2 (b s) (c s) → Outcome n m2 c
   unfolding EachOf
   take_back_outcome d =
       let k = d.k in
