@@ -17,7 +17,12 @@ use Rattle.count_rule.proofs.Learning.{Same, same_hand, same_refl, empty_kept, k
 use Rattle.count_rule.proofs.PartLaws.{idle_fewer}
 use Rattle.count_rule.proofs.Outcome.{Outcome, calm_same, quiet_outcome}
 use Rattle.count_rule.proofs.QuietActs as quiet
+use Rattle.xp_board.specs.KindSteps.{Count, Locks, Pin, Unpin, Resume, TakeBack, Begin, Live, Partial, InWork, Dead}
 use Rattle.count_rule.proofs.RefActs as refs
+use Rattle.count_rule.proofs.TurnActs as turns
+use Rattle.count_rule.proofs.WorkActs as work
+use Rattle.count_rule.proofs.DownActs as downs
+use Rattle.count_rule.proofs.StoreActs as stores
 use Rattle.count_rule.proofs.PageActs as pages
 use Rattle.count_rule.proofs.HintActs as hints
 use Rattle.count_rule.proofs.RecordMarks as entries
@@ -34,11 +39,20 @@ module _ (n : Machine) (s : ℕ) (x : Step) (m m2 : Place → ℕ) (b c : ℕ �
   act_by (effects.lowered f d) = refs.lowered_outcome n s x m m2 b c seat others may sound f d
   act_by (effects.freed_frame f d) = refs.freed_outcome n s x m m2 b c seat others may sound f d
   act_by (effects.gave f d) = refs.gave_outcome n s x m m2 b c seat others may sound f d
-  act_by (effects.turned f row d) = absurd (not_yet x steps.Kind d.wrote.kind_is refl may.proved)
+  act_by (effects.turned f Count d) = turns.count_outcome n s x m m2 b c seat others may sound f d
+  act_by (effects.turned f Locks d) = turns.lock_outcome n s x m m2 b c seat others may sound f d
+  act_by (effects.turned f Pin d) = turns.pin_outcome n s x m m2 b c seat others may sound f d
+  act_by (effects.turned f Unpin d) = turns.unpin_outcome n s x m m2 b c seat others may sound f d
+  act_by (effects.turned f Resume d) = work.resume_outcome n s x m m2 b c seat others may sound f d
+  act_by (effects.turned f TakeBack d) = turns.take_back_outcome n s x m m2 b c seat others may sound f d
+  act_by (effects.turned f Begin d) = work.begin_outcome n s x m m2 b c seat others may sound f d
   act_by (effects.missed f d) = quiet.missed_outcome n s x m m2 b c seat others may sound f d
-  act_by (effects.dropped_type f d) = absurd (not_yet x steps.Kind d.wrote.kind_is refl may.proved)
-  act_by (effects.unlocked_table f d) = absurd (not_yet x steps.Kind d.wrote.kind_is refl may.proved)
-  act_by (effects.stored f form d) = absurd (not_yet x steps.Kind d.wrote.kind_is refl may.proved)
+  act_by (effects.dropped_type f d) = downs.dropped_outcome n s x m m2 b c seat others may sound f d
+  act_by (effects.unlocked_table f d) = downs.unlocked_outcome n s x m m2 b c seat others may sound f d
+  act_by (effects.stored f Live d) = stores.live_stored n s x m m2 b c seat others may sound f d
+  act_by (effects.stored f Partial d) = stores.partial_stored n s x m m2 b c seat others may sound f d
+  act_by (effects.stored f InWork d) = stores.work_stored n s x m m2 b c seat others may sound f d
+  act_by (effects.stored f Dead d) = stores.dead_stored n s x m m2 b c seat others may sound f d
   act_by (effects.exchanged f i d) = absurd (not_yet x steps.Cell d.wrote.kind_is refl may.proved)
   act_by (effects.rewrote f i d) = absurd (not_yet x steps.Cell d.wrote.kind_is refl may.proved)
   act_by (effects.filled f i d) = absurd (not_yet x steps.Cell d.wrote.kind_is refl may.proved)

@@ -29,6 +29,8 @@ mod KindActs
 mod TurnActs
 mod WorkActs
 mod DownActs
+mod StoreForms
+mod StoreActs
 mod RefLaw
 mod RefActs
 mod Laws
