@@ -31,6 +31,8 @@ mod WorkActs
 mod DownActs
 mod StoreForms
 mod StoreActs
+mod CellLaw
+mod Recordless
 mod RefLaw
 mod RefActs
 mod Laws
