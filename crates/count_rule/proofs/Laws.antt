@@ -20,6 +20,7 @@ use Rattle.count_rule.proofs.QuietActs as quiet
 use Rattle.xp_board.specs.KindSteps.{Count, Locks, Pin, Unpin, Resume, TakeBack, Begin, Live, Partial, InWork, Dead}
 use Rattle.count_rule.proofs.RefActs as refs
 use Rattle.count_rule.proofs.TurnActs as turns
+use Rattle.count_rule.proofs.CellActs as cells
 use Rattle.count_rule.proofs.WorkActs as work
 use Rattle.count_rule.proofs.DownActs as downs
 use Rattle.count_rule.proofs.StoreActs as stores
@@ -54,12 +55,12 @@ module _ (n : Machine) (s : ℕ) (x : Step) (m m2 : Place → ℕ) (b c : ℕ �
   act_by (effects.stored f InWork d) = stores.work_stored n s x m m2 b c seat others may sound f d
   act_by (effects.stored f Dead d) = stores.dead_stored n s x m m2 b c seat others may sound f d
   act_by (effects.exchanged f i d) = absurd (not_yet x steps.Cell d.wrote.kind_is refl may.proved)
-  act_by (effects.rewrote f i d) = absurd (not_yet x steps.Cell d.wrote.kind_is refl may.proved)
-  act_by (effects.filled f i d) = absurd (not_yet x steps.Cell d.wrote.kind_is refl may.proved)
-  act_by (effects.guest_stored f i d) = absurd (not_yet x steps.Guest d.wrote.kind_is refl may.proved)
+  act_by (effects.rewrote f i d) = cells.rewrote_outcome n s x m m2 b c seat others may sound f i d
+  act_by (effects.filled f i d) = cells.filled_outcome n s x m m2 b c seat others may sound f i d
+  act_by (effects.guest_stored f i d) = cells.guest_outcome n s x m m2 b c seat others may sound f i d
   act_by (effects.started_walk k d) = quiet.started_outcome n s x m m2 b c seat others may sound k d
   act_by (effects.went_on f i d) = quiet.went_on_outcome n s x m m2 b c seat others may sound f i d
-  act_by (effects.touched_entry f i d) = absurd (not_yet x steps.Touch d.wrote.kind_is refl may.proved)
+  act_by (effects.touched_entry f i d) = cells.touched_outcome n s x m m2 b c seat others may sound f i d
   act_by (effects.stumbled f i d) = quiet.stumbled_outcome n s x m m2 b c seat others may sound f i d
   act_by (effects.mapped f d) = quiet.mapped_outcome n s x m m2 b c seat others may sound f d
   act_by (effects.charged e d) = pages.charged_outcome n s x m m2 b c seat others may sound e d

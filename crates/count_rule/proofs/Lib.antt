@@ -33,6 +33,7 @@ mod StoreForms
 mod StoreActs
 mod CellLaw
 mod Recordless
+mod CellActs
 mod RefLaw
 mod RefActs
 mod Laws

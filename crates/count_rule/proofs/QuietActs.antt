@@ -23,7 +23,7 @@ use Rattle.count_rule.proofs.Sums.{when_eq, when_ne}
 use Rattle.count_rule.proofs.Outcome.{apart, Outcome, is_counted, calm_same, calm_away, quiet_outcome, runs}
 
 -- ---- what a walk leaves in the hand
-same_descended : (n : Machine) (walk : Walk) (w : ℕ) (b : Holdings) → Same b (descended n walk w b)
+pub same_descended : (n : Machine) (walk : Walk) (w : ℕ) (b : Holdings) → Same b (descended n walk w b)
 same_descended n walk w b =
     either (Same b) (not (nat_lt _ n.frames)) _ _ (same_refl b _ refl refl refl refl refl refl refl refl)
     (either (Same b) _ _ _ (same_refl b _ refl refl refl refl refl refl refl refl) (same_refl b _ refl refl refl refl refl refl refl refl))
@@ -44,13 +44,13 @@ same_twice a b c k l =
     same_refl a c (l.refs ∙ k.refs) (l.typed ∙ k.typed) (l.works ∙ k.works) (l.locks ∙ k.locks) (l.ending ∙ k.ending) (l.claimed ∙ k.claimed) (l.raised ∙ k.raised) (l.credits ∙ k.credits)
 
 -- it stays as cold as it was
-record Chill (b c : Holdings) : Type 0 where
-  cold : c.cold ≡ b.cold
+pub record Chill (b c : Holdings) : Type 0 where
+  pub cold : c.cold ≡ b.cold
 
 chill : (b c : Holdings) → c.cold ≡ b.cold → Chill b c
 chill b c e = record { cold = e }
 
-cold_descended : (n : Machine) (walk : Walk) (w : ℕ) (b : Holdings) → Chill b (descended n walk w b)
+pub cold_descended : (n : Machine) (walk : Walk) (w : ℕ) (b : Holdings) → Chill b (descended n walk w b)
 cold_descended n walk w b = either (Chill b) (not (nat_lt (frame_of w) n.frames)) _ _ (chill b _ refl) (either (Chill b) (level_of walk == 1) _ _ (chill b _ refl) (chill b _ refl))
 
 cold_loaded : (n : Machine) (f i w : ℕ) (walk : Walk) (b : Holdings) → Chill b (loaded n f i w walk b)
