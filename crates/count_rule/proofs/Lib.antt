@@ -34,6 +34,8 @@ mod StoreActs
 mod CellLaw
 mod Recordless
 mod CellActs
+mod HandLaw
+mod NameActs
 mod RefLaw
 mod RefActs
 mod Laws
