@@ -5,37 +5,34 @@ use Rattle.count_rule.proofs.EntryMarks.{work_word}
 use Rattle.count_rule.proofs.Words.{is_dying-read, dying_says}
 use Rattle.count_rule.proofs.Tables.{some_bit}
 use Rattle.count_rule.proofs.Sums.{when_eq, when_ne, hands-part}
-use Rattle.std.proofs.Common.{◌≡◌, ◌≢◌, ℕ, ◌+◌, ◌*◌, ◌/◌, ◌%◌, ◌^◌, ◌<◌, ◌≤◌, ◌==◌, ◌&&◌, ◌||◌, ◌⊎◌, not, if◌then◌else◌, Bool, true, false, List, [], ◌∷◌, Option, Some, None, refl, sym, ◌∙◌, ap, subst, arith, IsTrue, inl, inr}
+use Rattle.std.proofs.Common.{◌≡◌, ◌≢◌, ℕ, ◌+◌, ◌*◌, ◌/◌, ◌%◌, ◌^◌, ◌<◌, ◌==◌, ◌&&◌, Bool, false, List, [], ◌∷◌, Option, Some, None, refl, sym, ◌∙◌, ap, subst, arith, IsTrue, inl, inr}
 use Rattle.std.proofs.lemmas.Bool.{cases_Bool, cases_eq, and_parts, or_cases}
 use Rattle.std.proofs.lemmas.Bool.Decides.{nat_tests}
 use Rattle.xp_words.specs.declared.kind.PageType.{PageType}
-use Rattle.xp_words.specs.declared.kind.PageType.TheVariants as kinds
 use Rattle.xp_words.specs.declared.entry.Demand.{Demand}
 use Rattle.xp_words.specs.declared.entry.Demand.TheVariants.{Nothing, Bad, Read, Typed}
-use Rattle.xp_words.specs.Entries.{demand_at, is_bit}
+use Rattle.xp_words.specs.Entries.{demand_at}
 use Rattle.xp_words.specs.PageTypes.{is_table, type_number, type_of}
-use Rattle.xp_words.specs.KindWords.{kind_fields, has_form}
 use Rattle.xp_words.specs.Machine.{Machine}
 use Rattle.xp_words.specs.Places.{sizes_of, is_place, Place, Kind, Cell, Refs}
 use Rattle.xp_words.proofs.KindLaws.{type_back}
 use Rattle.xp_board.specs.declared.holdings.Holdings.{Holdings}
-use Rattle.xp_board.specs.declared.holdings.Lock.{Lock}
 use Rattle.xp_board.specs.declared.holdings.Seen.{Seen}
 use Rattle.xp_board.specs.declared.holdings.Walk.{Walk}
 use Rattle.xp_board.specs.declared.holdings.Claimed.{Claimed}
 use Rattle.xp_board.specs.declared.holdings.Work.{Work}
 use Rattle.xp_board.specs.declared.step.Item.{Item}
 use Rattle.xp_board.specs.declared.step.Step.{Step}
-use Rattle.xp_board.specs.Lists.{EachOf, Member, some_of}
-use Rattle.xp_board.specs.Readings.{kind_at, is_type, is_dying, ref_count}
+use Rattle.xp_board.specs.Lists.{Member, some_of}
+use Rattle.xp_board.specs.Readings.{kind_at, is_dying}
 use Rattle.xp_board.specs.Steps.{last_since}
-use Rattle.xp_board.specs.Hands.{lock_on, claim_of, work_on, endings_of, claims_of}
+use Rattle.xp_board.specs.Hands.{claim_of, work_on, endings_of, claims_of}
 use Rattle.xp_board.specs.Recorded.{held, HasType}
-use Rattle.xp_board.specs.CellSteps.{is_same_demand, is_same_as_seen, keeps_demand, AllowsPlain}
+use Rattle.xp_board.specs.CellSteps.{is_same_demand, is_same_as_seen, AllowsPlain}
 use Rattle.xp_board.specs.FillSteps.{with_bit, sets_dirty, touched}
-use Rattle.xp_board.specs.Found.{LockFound, is_same_entry, without_bits}
+use Rattle.xp_board.specs.Found.{LockFound, is_same_entry}
 use Rattle.xp_board.specs.WellFormed.{IsLockFormed}
-use Rattle.xp_board.specs.Reach.{Use, Writes, Reads, Reach, cached, use_of}
+use Rattle.xp_board.specs.Reach.{Writes, Reach, cached, use_of}
 use Rattle.xp_board.specs.Keeping.{MayAct}
 use Rattle.xp_board.specs.Sound.{Sound, Spelled}
 use Rattle.xp_board.proofs.ActEffects.{Rewrote, Filled, GuestStored, Touched}

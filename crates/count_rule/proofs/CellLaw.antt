@@ -1,13 +1,12 @@
 -- An act on a cell that asks what it asked, or of which no entry is recorded.
-use Rattle.std.proofs.Common.{◌≡◌, ◌≢◌, ℕ, ◌+◌, ◌/◌, ◌<◌, ◌≤◌, Bool, true, false, [], Some, None, refl, sym, ◌∙◌, ap, subst, arith, IsTrue, inl, inr}
-use Rattle.std.proofs.lemmas.Bool.{cases_eq}
+use Rattle.std.proofs.Common.{◌≡◌, ◌≢◌, ℕ, ◌<◌, true, [], Some, None, refl, sym, ◌∙◌, ap, subst, arith, inl, inr}
 use Rattle.xp_words.specs.Machine.{Machine}
 use Rattle.xp_words.specs.Places.{sizes_of, Place, Clock, Pages, Vcpu, Refs, Kind, Cell, Map}
 use Rattle.xp_words.specs.Entries.{demand_at}
 use Rattle.xp_words.specs.KindWords.{kind_fields}
 use Rattle.xp_board.specs.declared.holdings.Holdings.{Holdings}
 use Rattle.xp_board.specs.Readings.{kind_at}
-use Rattle.xp_board.specs.Recorded.{held, entry_demand}
+use Rattle.xp_board.specs.Recorded.{held}
 use Rattle.xp_board.specs.Sound.{Spelled, Sound}
 use Rattle.xp_board.proofs.PlaceTests.{same_or_other}
 use Rattle.count_rule.proofs.Learning.{Kept}

@@ -1,18 +1,14 @@
 -- An act that moves references between the hand and what is recorded, and no word of a frame's own.
-use Rattle.std.proofs.Common.{◌≡◌, ◌≢◌, ℕ, ◌+◌, ◌/◌, ◌<◌, ◌≤◌, Bool, true, false, Some, None, refl, sym, ◌∙◌, ap, subst, arith, IsTrue, inl, inr}
-use Rattle.std.proofs.lemmas.Bool.{cases_eq}
+use Rattle.std.proofs.Common.{◌≡◌, ◌≢◌, ℕ, ◌+◌, ◌/◌, ◌<◌, refl, ap, arith, IsTrue}
 use Rattle.xp_words.specs.Machine.{Machine}
 use Rattle.xp_words.specs.Places.{sizes_of, Place, Pages, Refs, Kind, Map}
 use Rattle.xp_board.specs.declared.holdings.Holdings.{Holdings}
-use Rattle.xp_board.specs.declared.holdings.Work.{Work}
-use Rattle.xp_board.specs.Lists.{times, EachOf}
-use Rattle.xp_board.specs.Readings.{kind_at}
 use Rattle.xp_board.specs.Hands.{refs_to, endings_of, hand, typed_hand}
 use Rattle.xp_board.specs.Recorded.{names, names_typed, entries, contexts, is_page_of, TypesAgree}
 use Rattle.xp_board.specs.Sound.{Spelled, Stamped, Idle, Sound}
 use Rattle.count_rule.proofs.Sums.{sum_below-same}
 use Rattle.count_rule.proofs.Twins.{EachTwo, SameWork, SameLock, SameClaim}
-use Rattle.count_rule.proofs.CountLaw.{Counted, counts_law, pages_of}
+use Rattle.count_rule.proofs.CountLaw.{counts_law, pages_of}
 use Rattle.count_rule.proofs.PartLaws.{alone_law, map_law, works_law}
 use Rattle.count_rule.proofs.Quiet.{works_times, locks_times, claims_times, is_closing_at, like_works, works_spared}
 use Rattle.count_rule.proofs.Outcome.{Outcome}

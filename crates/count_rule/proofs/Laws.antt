@@ -1,12 +1,9 @@
 -- What each mark and each act leaves.
-use Rattle.std.proofs.Common.{◌≡◌, ◌≢◌, ℕ, ◌<◌, false, [], refl, ◌∙◌, ap, IsTrue}
+use Rattle.std.proofs.Common.{◌≡◌, ◌≢◌, ℕ, ◌<◌, [], refl, ◌∙◌, ap}
 use Rattle.xp_words.specs.Machine.{Machine}
 use Rattle.xp_words.specs.Places.{sizes_of, Place}
 use Rattle.xp_board.specs.declared.holdings.Holdings.{Holdings}
 use Rattle.xp_board.specs.declared.step.Step.{Step}
-use Rattle.xp_board.specs.declared.step.StepKind.{StepKind}
-use Rattle.xp_board.specs.declared.step.StepKind.TheVariants as steps
-use Rattle.xp_board.specs.Legal.{is_proved}
 use Rattle.xp_board.specs.Keeping.{MayMark, Marked, MayAct, Acted}
 use Rattle.xp_board.specs.Sound.{Sound}
 use Rattle.xp_board.proofs.MarkEffects.{MarkEffect, mark_effect, nothing, turned, forgot, recorded_entry, shed_entry}
@@ -20,6 +17,8 @@ use Rattle.count_rule.proofs.QuietActs as quiet
 use Rattle.xp_board.specs.KindSteps.{Count, Locks, Pin, Unpin, Resume, TakeBack, Begin, Live, Partial, InWork, Dead}
 use Rattle.count_rule.proofs.RefActs as refs
 use Rattle.count_rule.proofs.TurnActs as turns
+use Rattle.count_rule.proofs.ExchangeActs as exchanges
+use Rattle.count_rule.proofs.NameActs as names
 use Rattle.count_rule.proofs.CellActs as cells
 use Rattle.count_rule.proofs.WorkActs as work
 use Rattle.count_rule.proofs.DownActs as downs
@@ -27,9 +26,6 @@ use Rattle.count_rule.proofs.StoreActs as stores
 use Rattle.count_rule.proofs.PageActs as pages
 use Rattle.count_rule.proofs.HintActs as hints
 use Rattle.count_rule.proofs.RecordMarks as entries
-
-not_yet : (x : Step) (k : StepKind) → x.kind ≡ k → is_proved k x.act ≡ false → IsTrue (is_proved x.kind x.act) → ⊥
-not_yet x k at off on = let e : is_proved x.kind x.act ≡ false = ap (λ y. is_proved y x.act) at ∙ off in cc
 
 module _ (n : Machine) (s : ℕ) (x : Step) (m m2 : Place → ℕ) (b c : ℕ → Holdings) (seat : s < (sizes_of n).vcpus) (others : (t : ℕ) → t ≢ s → c t ≡ b t) (may : MayAct n s x (b s)) (sound : Sound n m b) where
   act_by : ActEffect n s x m m2 (b s) (c s) → Outcome n m2 c
@@ -54,7 +50,7 @@ module _ (n : Machine) (s : ℕ) (x : Step) (m m2 : Place → ℕ) (b c : ℕ �
   act_by (effects.stored f Partial d) = stores.partial_stored n s x m m2 b c seat others may sound f d
   act_by (effects.stored f InWork d) = stores.work_stored n s x m m2 b c seat others may sound f d
   act_by (effects.stored f Dead d) = stores.dead_stored n s x m m2 b c seat others may sound f d
-  act_by (effects.exchanged f i d) = absurd (not_yet x steps.Cell d.wrote.kind_is refl may.proved)
+  act_by (effects.exchanged f i d) = exchanges.exchanged_outcome n s x m m2 b c seat others may sound f i d
   act_by (effects.rewrote f i d) = cells.rewrote_outcome n s x m m2 b c seat others may sound f i d
   act_by (effects.filled f i d) = cells.filled_outcome n s x m m2 b c seat others may sound f i d
   act_by (effects.guest_stored f i d) = cells.guest_outcome n s x m m2 b c seat others may sound f i d
@@ -65,7 +61,7 @@ module _ (n : Machine) (s : ℕ) (x : Step) (m m2 : Place → ℕ) (b c : ℕ �
   act_by (effects.mapped f d) = quiet.mapped_outcome n s x m m2 b c seat others may sound f d
   act_by (effects.charged e d) = pages.charged_outcome n s x m m2 b c seat others may sound e d
   act_by (effects.refunded e by d) = pages.refunded_outcome n s x m m2 b c seat others may sound e by d
-  act_by (effects.named_frame v k d) = absurd (not_yet x steps.Context d.wrote.kind_is refl may.proved)
+  act_by (effects.named_frame v k d) = names.named_outcome n s x m m2 b c seat others may sound v k d
   act_by (effects.based v d) = quiet.based_outcome n s x m m2 b c seat others may sound v d
   act_by (effects.asked v d) = quiet.asked_outcome n s x m m2 b c seat others may sound v d
   act_by (effects.flushed d) = quiet.flushed_outcome n s x m m2 b c seat others may sound d

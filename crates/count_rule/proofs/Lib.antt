@@ -36,6 +36,7 @@ mod Recordless
 mod CellActs
 mod HandLaw
 mod NameActs
+mod ExchangeActs
 mod RefLaw
 mod RefActs
 mod Laws

@@ -1,20 +1,18 @@
 -- A word of a vCPU names another frame, or none.
-use Rattle.std.proofs.Common.{◌≡◌, ◌≢◌, ℕ, zero, suc, ◌+◌, ◌<◌, ◌≤◌, ◌==◌, ◌⊎◌, if◌then◌else◌, Bool, true, false, List, [], ◌∷◌, Option, Some, None, refl, sym, ◌∙◌, ap, subst, arith, add-one, IsTrue, inl, inr}
+use Rattle.std.proofs.Common.{◌≡◌, ◌≢◌, ℕ, zero, suc, ◌+◌, ◌<◌, ◌⊎◌, Option, Some, None, refl, sym, ◌∙◌, ap, subst, arith, add-one, IsTrue, inl, inr}
 use Rattle.std.proofs.lemmas.Bool.{cases_eq}
 use Rattle.std.proofs.lemmas.Bool.Decides.{nat_tests}
 use Rattle.xp_words.specs.declared.kind.PageType.{PageType}
-use Rattle.xp_words.specs.KindWords.{kind_fields}
 use Rattle.xp_words.specs.Machine.{Machine}
 use Rattle.xp_words.specs.Places.{sizes_of, is_place, Place, Clock, Pages, Vcpu, Refs, Kind, Cell, Map}
 use Rattle.xp_board.specs.declared.holdings.Holdings.{Holdings}
 use Rattle.xp_board.specs.declared.step.Step.{Step}
-use Rattle.xp_board.specs.Lists.{one_at, EachOf, times_by}
+use Rattle.xp_board.specs.Lists.{one_at, EachOf}
 use Rattle.xp_board.specs.Readings.{kind_at, is_context}
-use Rattle.xp_board.specs.Hands.{refs_to, typed_to, locks_on, hand, typed_hand, brought_typed}
-use Rattle.xp_board.specs.ContextSteps.{context_type, FitsWord, NamesFrame, MayName, MayEmpty, named_in, named_out}
-use Rattle.xp_board.specs.Recorded.{names, names_typed, entries, contexts, held, entry_demand, recorded_in, HasType, TypesAgree}
-use Rattle.xp_board.specs.After.{noted, learned}
-use Rattle.xp_board.specs.Found.{Found}
+use Rattle.xp_board.specs.Hands.{refs_to, typed_to, typed_hand, brought_typed}
+use Rattle.xp_board.specs.ContextSteps.{context_type, FitsWord, NamesFrame, named_in, named_out}
+use Rattle.xp_board.specs.Recorded.{names, names_typed, contexts, held, entry_demand, HasType, TypesAgree}
+use Rattle.xp_board.specs.After.{learned}
 use Rattle.xp_board.specs.Keeping.{MayAct}
 use Rattle.xp_board.specs.Sound.{Sound}
 use Rattle.xp_board.proofs.ActEffects.{Named}
@@ -25,7 +23,7 @@ use Rattle.count_rule.proofs.Twins.{EachTwo-each, SameLock, recorded_in-same, Ea
 use Rattle.count_rule.proofs.Steady.{entries-same, contexts-one}
 use Rattle.count_rule.proofs.CountLaw.{each_seat}
 use Rattle.count_rule.proofs.PartLaws.{stamped_by, idle_running}
-use Rattle.count_rule.proofs.Learning.{Kept, Still, Learnt, learnt, kept_noted}
+use Rattle.count_rule.proofs.Learning.{Kept, Learnt, learnt, kept_noted}
 use Rattle.count_rule.proofs.Quiet.{hand_is, typed_hand_is, held_still, locks_times}
 use Rattle.count_rule.proofs.SpelledLaw.{wrote_spelled}
 use Rattle.count_rule.proofs.Outcome.{Outcome, cells_same, runs}

@@ -1,31 +1,29 @@
 -- Frames of which no entry is recorded.
-use Rattle.std.proofs.Common.{◌≡◌, ◌≢◌, ℕ, zero, suc, ◌+◌, ◌<◌, ◌≤◌, ◌==◌, ◌&&◌, ◌||◌, ◌⊎◌, not, if◌then◌else◌, Bool, true, false, Option, Some, None, refl, sym, ◌∙◌, ap, subst, arith, IsTrue, inl, inr}
-use Rattle.std.proofs.lemmas.Bool.{cases_Bool, and_parts}
+use Rattle.std.proofs.Common.{◌≡◌, ℕ, zero, suc, ◌+◌, ◌<◌, ◌≤◌, ◌⊎◌, if◌then◌else◌, Bool, true, false, Option, Some, refl, sym, ◌∙◌, ap, subst, arith, IsTrue, inl, inr}
+use Rattle.std.proofs.lemmas.Bool.{cases_Bool}
 use Rattle.std.proofs.lemmas.Bool.Decides.{nat_tests}
 use Rattle.xp_words.specs.declared.entry.Demand.{Demand}
 use Rattle.xp_words.specs.declared.entry.Demand.TheVariants.{Nothing, Bad, Read, Typed}
 use Rattle.xp_words.specs.declared.kind.KindWord.{KindWord}
-use Rattle.xp_words.specs.KindWords.{kind_fields, has_form}
+use Rattle.xp_words.specs.KindWords.{has_form}
 use Rattle.xp_words.specs.PageTypes.{is_table}
 use Rattle.xp_words.specs.RefWords.{bit}
 use Rattle.xp_words.specs.Machine.{Machine}
-use Rattle.xp_words.specs.Places.{sizes_of, Place, Kind, Refs}
+use Rattle.xp_words.specs.Places.{sizes_of, Place, Refs}
 use Rattle.xp_board.specs.declared.holdings.Holdings.{Holdings}
 use Rattle.xp_board.specs.declared.holdings.Work.{Work}
 use Rattle.xp_board.specs.Sums.{sum_below}
-use Rattle.xp_board.specs.Lists.{EachOf}
-use Rattle.xp_board.specs.Readings.{kind_at, ref_count, type_count, is_dying, is_live, is_partial, is_work, is_dead, is_closing}
-use Rattle.xp_board.specs.Hands.{refs_to, works_on, work_on, hand, typed_hand, claims_of, endings_of}
-use Rattle.xp_board.specs.Recorded.{held, held_of, names, names_typed, table_entries, entries, marks, hands}
+use Rattle.xp_board.specs.Readings.{kind_at, ref_count, type_count, is_live, is_partial, is_work, is_dead, is_closing}
+use Rattle.xp_board.specs.Hands.{refs_to, works_on, work_on, hand, typed_hand}
+use Rattle.xp_board.specs.Recorded.{held, held_of, names, names_typed, table_entries, entries, hands}
 use Rattle.xp_board.specs.Sound.{is_busy, HeldAlone, WorkAgrees, Sound}
 use Rattle.count_rule.proofs.Sums.{hands-part}
 use Rattle.count_rule.proofs.Lists.{first_by-some, EachOf-found}
-use Rattle.count_rule.proofs.Tables.{some_bit, held_free, held_mine}
-use Rattle.count_rule.proofs.Quiet.{hand_is, typed_hand_is}
+use Rattle.count_rule.proofs.Tables.{held_free, held_mine}
+use Rattle.count_rule.proofs.Quiet.{hand_is}
 use Rattle.count_rule.proofs.EntryMarks.{work_word}
-use Rattle.count_rule.proofs.KindForms.{held_live, held_partial, held_dead, held_work}
+use Rattle.count_rule.proofs.KindForms.{held_partial, held_dead, held_work}
 use Rattle.count_rule.proofs.StoreForms.{busy_forms}
-use Rattle.count_rule.proofs.Words.{is_dying-read, dying_says}
 
 -- ---- some seat has what is counted
 some_by : (n : ℕ) (p : ℕ → ℕ) → (0 < sum_below n p → (k : ℕ) × (k < n) × (0 < p k)) → (x : ℕ) → p n ≡ x → 0 < sum_below n p + p n → (k : ℕ) × (k < suc n) × (0 < p k)
