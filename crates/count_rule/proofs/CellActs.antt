@@ -40,7 +40,7 @@ use Rattle.count_rule.proofs.Lists.{EachOf-found, first_by-counts}
 use Rattle.count_rule.proofs.Learning.{kept_noted, kept_cell, same_hand}
 use Rattle.count_rule.proofs.SpelledLaw.{wrote_spelled}
 use Rattle.count_rule.proofs.Demands.{demand_at-entry}
-use Rattle.count_rule.proofs.QuietActs.{same_descended, cold_descended}
+use Rattle.count_rule.proofs.WalkHands.{same_descended, cold_descended}
 use Rattle.count_rule.proofs.KindSpelled.{form_was}
 use Rattle.count_rule.proofs.Recordless.{marked_none, no_table_none, unreferenced_none}
 use Rattle.count_rule.proofs.CellLaw.{cell_outcome}

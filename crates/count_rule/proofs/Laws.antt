@@ -17,6 +17,9 @@ use Rattle.count_rule.proofs.QuietActs as quiet
 use Rattle.xp_board.specs.KindSteps.{Count, Locks, Pin, Unpin, Resume, TakeBack, Begin, Live, Partial, InWork, Dead}
 use Rattle.count_rule.proofs.RefActs as refs
 use Rattle.count_rule.proofs.TurnActs as turns
+use Rattle.count_rule.proofs.FrameActs as frames
+use Rattle.count_rule.proofs.PartialActs as partials
+use Rattle.count_rule.proofs.AwayActs as away
 use Rattle.count_rule.proofs.ExchangeActs as exchanges
 use Rattle.count_rule.proofs.NameActs as names
 use Rattle.count_rule.proofs.CellActs as cells
@@ -32,10 +35,10 @@ module _ (n : Machine) (s : ℕ) (x : Step) (m m2 : Place → ℕ) (b c : ℕ �
   act_by (effects.looked p d) = quiet.looked_outcome n s x m m2 b c seat others may sound p d
   act_by (effects.raised f d) = refs.raised_outcome n s x m m2 b c seat others may sound f d
   act_by (effects.cleared f d) = refs.cleared_outcome n s x m m2 b c seat others may sound f d
-  act_by (effects.took f d) = refs.took_outcome n s x m m2 b c seat others may sound f d
+  act_by (effects.took f d) = frames.took_outcome n s x m m2 b c seat others may sound f d
   act_by (effects.lowered f d) = refs.lowered_outcome n s x m m2 b c seat others may sound f d
-  act_by (effects.freed_frame f d) = refs.freed_outcome n s x m m2 b c seat others may sound f d
-  act_by (effects.gave f d) = refs.gave_outcome n s x m m2 b c seat others may sound f d
+  act_by (effects.freed_frame f d) = frames.freed_outcome n s x m m2 b c seat others may sound f d
+  act_by (effects.gave f d) = frames.gave_outcome n s x m m2 b c seat others may sound f d
   act_by (effects.turned f Count d) = turns.count_outcome n s x m m2 b c seat others may sound f d
   act_by (effects.turned f Locks d) = turns.lock_outcome n s x m m2 b c seat others may sound f d
   act_by (effects.turned f Pin d) = turns.pin_outcome n s x m m2 b c seat others may sound f d
@@ -47,7 +50,7 @@ module _ (n : Machine) (s : ℕ) (x : Step) (m m2 : Place → ℕ) (b c : ℕ �
   act_by (effects.dropped_type f d) = downs.dropped_outcome n s x m m2 b c seat others may sound f d
   act_by (effects.unlocked_table f d) = downs.unlocked_outcome n s x m m2 b c seat others may sound f d
   act_by (effects.stored f Live d) = stores.live_stored n s x m m2 b c seat others may sound f d
-  act_by (effects.stored f Partial d) = stores.partial_stored n s x m m2 b c seat others may sound f d
+  act_by (effects.stored f Partial d) = partials.partial_stored n s x m m2 b c seat others may sound f d
   act_by (effects.stored f InWork d) = stores.work_stored n s x m m2 b c seat others may sound f d
   act_by (effects.stored f Dead d) = stores.dead_stored n s x m m2 b c seat others may sound f d
   act_by (effects.exchanged f i d) = exchanges.exchanged_outcome n s x m m2 b c seat others may sound f i d
@@ -58,19 +61,19 @@ module _ (n : Machine) (s : ℕ) (x : Step) (m m2 : Place → ℕ) (b c : ℕ �
   act_by (effects.went_on f i d) = quiet.went_on_outcome n s x m m2 b c seat others may sound f i d
   act_by (effects.touched_entry f i d) = cells.touched_outcome n s x m m2 b c seat others may sound f i d
   act_by (effects.stumbled f i d) = quiet.stumbled_outcome n s x m m2 b c seat others may sound f i d
-  act_by (effects.mapped f d) = quiet.mapped_outcome n s x m m2 b c seat others may sound f d
+  act_by (effects.mapped f d) = away.mapped_outcome n s x m m2 b c seat others may sound f d
   act_by (effects.charged e d) = pages.charged_outcome n s x m m2 b c seat others may sound e d
   act_by (effects.refunded e by d) = pages.refunded_outcome n s x m m2 b c seat others may sound e by d
   act_by (effects.named_frame v k d) = names.named_outcome n s x m m2 b c seat others may sound v k d
-  act_by (effects.based v d) = quiet.based_outcome n s x m m2 b c seat others may sound v d
-  act_by (effects.asked v d) = quiet.asked_outcome n s x m m2 b c seat others may sound v d
-  act_by (effects.flushed d) = quiet.flushed_outcome n s x m m2 b c seat others may sound d
-  act_by (effects.ran d) = quiet.ran_outcome n s x m m2 b c seat others may sound d
-  act_by (effects.ticked d) = quiet.ticked_outcome n s x m m2 b c seat others may sound d
-  act_by (effects.doomed e d) = quiet.doomed_outcome n s x m m2 b c seat others may sound e d
-  act_by (effects.buried e d) = quiet.buried_outcome n s x m m2 b c seat others may sound e d
+  act_by (effects.based v d) = away.based_outcome n s x m m2 b c seat others may sound v d
+  act_by (effects.asked v d) = away.asked_outcome n s x m m2 b c seat others may sound v d
+  act_by (effects.flushed d) = away.flushed_outcome n s x m m2 b c seat others may sound d
+  act_by (effects.ran d) = away.ran_outcome n s x m m2 b c seat others may sound d
+  act_by (effects.ticked d) = away.ticked_outcome n s x m m2 b c seat others may sound d
+  act_by (effects.doomed e d) = away.doomed_outcome n s x m m2 b c seat others may sound e d
+  act_by (effects.buried e d) = away.buried_outcome n s x m m2 b c seat others may sound e d
   act_by (effects.hinted k by d) = hints.hinted_outcome n s x m m2 b c seat others may sound k by d
-  act_by (effects.privileged e d) = quiet.privileged_outcome n s x m m2 b c seat others may sound e d
+  act_by (effects.privileged e d) = away.privileged_outcome n s x m m2 b c seat others may sound e d
 
 pub act_outcome : (n : Machine) (s : ℕ) (x : Step) (m m2 : Place → ℕ) (b c : ℕ → Holdings) → s < (sizes_of n).vcpus → MayAct n s x (b s) → Acted n s x m m2 b c → Sound n m b → Outcome n m2 c
 act_outcome n s x m m2 b c seat may acted sound = act_by n s x m m2 b c seat acted.others may sound (act_effect n s x m m2 b c may acted)

@@ -1,5 +1,6 @@
 mod Sums
 mod Lists
+mod ListChanges
 mod Tables
 mod Steady
 mod CountLaw
@@ -11,7 +12,9 @@ mod Spellings
 mod SpelledLaw
 mod Told
 mod Outcome
+mod WalkHands
 mod QuietActs
+mod AwayActs
 mod Demands
 mod EntryMarks
 mod RecordMarks
@@ -31,6 +34,7 @@ mod WorkActs
 mod DownActs
 mod StoreForms
 mod StoreActs
+mod PartialActs
 mod CellLaw
 mod Recordless
 mod CellActs
@@ -39,5 +43,6 @@ mod NameActs
 mod ExchangeActs
 mod RefLaw
 mod RefActs
+mod FrameActs
 mod Laws
 mod Quiet

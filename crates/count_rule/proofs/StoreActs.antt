@@ -1,6 +1,5 @@
 -- What each store of a kind word leaves, by the form in which the frame is left.
 use Rattle.std.proofs.Common.{◌≡◌, ◌≢◌, ℕ, ◌+◌, ◌<◌, ◌≤◌, ◌==◌, ◌⊎◌, if◌then◌else◌, true, false, ◌∷◌, length, Some, None, refl, sym, ◌∙◌, ap, subst, arith, IsTrue, inl, inr}
-use Rattle.std.proofs.lemmas.Bool.{cases_Bool}
 use Rattle.xp_words.specs.declared.kind.KindWord.{KindWord}
 use Rattle.xp_words.specs.KindWords.{kind_fields, has_form}
 use Rattle.xp_words.specs.PageTypes.{is_table}
@@ -9,28 +8,28 @@ use Rattle.xp_words.specs.Machine.{Machine}
 use Rattle.xp_words.specs.Places.{sizes_of, Place, Clock, Kind}
 use Rattle.xp_board.specs.declared.holdings.Holdings.{Holdings}
 use Rattle.xp_board.specs.declared.holdings.Work.{Work}
-use Rattle.xp_board.specs.declared.holdings.Liveness.TheVariants as lives
 use Rattle.xp_board.specs.declared.step.Step.{Step}
 use Rattle.xp_board.specs.declared.step.StepKind.TheVariants as steps
 use Rattle.xp_board.specs.Lists.{EachOf}
-use Rattle.xp_board.specs.Readings.{kind_at, kind_stamp, is_partial, is_work, is_closing}
+use Rattle.xp_board.specs.Readings.{kind_at, kind_stamp, is_work, is_closing}
 use Rattle.xp_board.specs.Hands.{changed_work, refs_to, typed_to, locks_on, works_on, work_on, without_ref, without_typed, without_work, ref_owner, typed_owner}
 use Rattle.xp_board.specs.Recorded.{held, held_of, HasType}
-use Rattle.xp_board.specs.KindSteps.{put_partial, Live, Partial, InWork, Dead, live_typed, made_live, made_dead, kept_owner, as_typed, unmarked, KeepsMark}
+use Rattle.xp_board.specs.KindSteps.{Live, InWork, Dead, live_typed, made_live, made_dead, unmarked}
 use Rattle.xp_board.specs.After.{noted}
 use Rattle.xp_board.specs.Keeping.{MayAct}
 use Rattle.xp_board.specs.Sound.{is_busy, WorkAgrees, Sound}
 use Rattle.xp_board.proofs.ActEffects.{Wrote, Stored}
 use Rattle.count_rule.proofs.Sums.{when_eq, when_ne}
-use Rattle.count_rule.proofs.Lists.{first_by-counts, first_by-changed_here, times_by-changed, EachOf-changed, EachOf-without}
+use Rattle.count_rule.proofs.Lists.{first_by-counts, EachOf-without}
+use Rattle.count_rule.proofs.ListChanges.{first_by-changed_here, times_by-changed, EachOf-changed}
 use Rattle.count_rule.proofs.Tables.{one_works, is_busy-mine, held_free, held_mine}
-use Rattle.count_rule.proofs.ListMoves.{cons_other, out_other, swap_other, cons_here, out_here, swap_here, maybe_out_other, maybe_out_here, recorded_out, recorded_changed}
-use Rattle.count_rule.proofs.KindForms.{Says, read_form, live_says, closing_says, partial_says, work_says, dead_says, held_live, held_partial, held_dead, held_work}
+use Rattle.count_rule.proofs.ListMoves.{cons_other, out_other, swap_other, cons_here, out_here, swap_here, recorded_out, recorded_changed}
+use Rattle.count_rule.proofs.KindForms.{Says, read_form, live_says, closing_says, work_says, dead_says, held_live, held_dead, held_work}
 use Rattle.count_rule.proofs.KindSpelled.{form_was}
 use Rattle.count_rule.proofs.KindActs.{not_busy, stamp_live, stamp_of, Beside, beside, rest_by, turn_outcome, keeps_kind}
 use Rattle.count_rule.proofs.KindWorks.{works_out}
 use Rattle.count_rule.proofs.WorkActs.{not_closing, not_live, same_zero}
-use Rattle.count_rule.proofs.StoreForms.{form_live, form_partial, form_work, form_dead, busy_forms, closing_alone, work_alone, work_unlive, partial_unlive, closing_flushed, partial_number, same_if, maybe_out_types}
+use Rattle.count_rule.proofs.StoreForms.{form_live, form_work, form_dead, busy_forms, closing_alone, work_unlive, same_if}
 use Rattle.count_rule.proofs.Told.{clock_told}
 use Rattle.count_rule.proofs.EntryMarks.{work_word}
 use Rattle.count_rule.proofs.Outcome.{Outcome}
@@ -41,32 +40,32 @@ flat_says k count mark lock p q says = record { counts = says.counts; mark_is = 
 module _ (n : Machine) (s : ℕ) (x : Step) (m m2 : Place → ℕ) (b c : ℕ → Holdings) (seat : s < (sizes_of n).vcpus) (others : (t : ℕ) → t ≢ s → c t ≡ b t) (may : MayAct n s x (b s)) (sound : Sound n m b) (f : ℕ) where
   -- the frame goes out of the works
   module _ (wrote : Wrote n x (Kind f) steps.Kind m m2 (b s)) (e : Work) (here : work_on f (b s).works ≡ Some e) (l : KindWord) (is : kind_at m2 f ≡ l) (kind : l.kind ≡ (kind_fields e.word).kind) where
-    was : kind_at m f ≡ kind_fields e.word
+    pub was : kind_at m f ≡ kind_fields e.word
     was = work_word n s m b seat sound f e here
 
     in_works : 0 < works_on f (b s).works
     in_works = first_by-counts (λ y. y.frame) f (b s).works e here
 
-    form_before : has_form (kind_fields e.word) ≡ true
+    pub form_before : has_form (kind_fields e.word) ≡ true
     form_before = ap has_form (sym was) ∙ form_was n s m m2 b seat sound f wrote.real
 
     busy : is_busy (kind_fields e.word) ≡ true
     busy = ap is_busy (sym was) ∙ is_busy-mine n m b sound.alone f s seat in_works
 
-    forms : IsTrue (is_work (kind_fields e.word)) ⊎ IsTrue (is_closing (kind_fields e.word))
+    pub forms : IsTrue (is_work (kind_fields e.word)) ⊎ IsTrue (is_closing (kind_fields e.word))
     forms = busy_forms (kind_fields e.word) busy
 
-    held_was : held (sizes_of n) m b f ≡ (if is_table (kind_fields e.word).kind then e.recorded else 0)
+    pub held_was : held (sizes_of n) m b f ≡ (if is_table (kind_fields e.word).kind then e.recorded else 0)
     held_was = held_mine n m b sound.alone f s e seat here ∙ ap (λ y. held_of y (Some e.recorded)) was ∙ held_work (kind_fields e.word) e.recorded
 
     -- the stamp of a word that is not live
-    stamp_was : IsTrue (is_work (kind_fields e.word)) → (kind_fields e.word).number ≤ m Clock
+    pub stamp_was : IsTrue (is_work (kind_fields e.word)) → (kind_fields e.word).number ≤ m Clock
     stamp_was work =
         let old = sound.stamped.kinds f in
         let same = stamp_of (m (Kind f)) (kind_fields e.word) was (work_unlive (kind_fields e.word) work) in
         omega arith
 
-    out_outcome : (u : Holdings) → c s ≡ u → Beside n s x m m2 b c seat others may sound f u → u.works ≡ without_work f (b s).works → u.locks ≡ (b s).locks →
+    pub out_outcome : (u : Holdings) → c s ≡ u → Beside n s x m m2 b c seat others may sound f u → u.works ≡ without_work f (b s).works → u.locks ≡ (b s).locks →
         ((g : ℕ) → g ≢ f → refs_to g u.refs ≡ refs_to g (b s).refs) → ((g : ℕ) → g ≢ f → typed_to g u.typed ≡ typed_to g (b s).typed) → (ck mk cl ml : ℕ) →
         Says (kind_fields e.word) ck mk 1 0 → Says l cl ml 0 0 → kind_stamp (m2 (Kind f)) ≤ m Clock → held_of l None ≡ (if is_table (kind_fields e.word).kind then e.recorded else 0) →
         mk + (refs_to f (b s).refs + typed_to f (b s).typed) ≡ ml + (refs_to f u.refs + typed_to f u.typed) → cl + (mk + typed_to f (b s).typed) ≡ ck + (ml + typed_to f u.typed) →
@@ -86,7 +85,7 @@ module _ (n : Machine) (s : ℕ) (x : Step) (m m2 : Place → ℕ) (b c : ℕ �
         (works_out f (b s) (c s) rest.refs (ap (λ y. y.works) hand ∙ works) (one_works n m b sound.alone f s seat) (sound.works s seat))
 
     -- the new type
-    type_is : (kind_at m2 f).kind ≡ l.kind
+    pub type_is : (kind_at m2 f).kind ≡ l.kind
     type_is = ap (λ (y : KindWord). y.kind) is
 
   -- ---- live
@@ -134,76 +133,6 @@ module _ (n : Machine) (s : ℕ) (x : Step) (m m2 : Place → ℕ) (b c : ℕ �
             (cons_other (λ y. y.frame) f (b s).typed u.typed _ refl refl)
             1 0 l.number 0 says (flat_says l l.number (bit l.pinned) (bit l.locked) pin lock tells) (omega arith) table (omega arith) (omega arith)
             (λ k. (type_is d.wrote e d.here l d.fields_is d.may.kind, k))
-      ]
-
-  -- ---- partial
-  as_before : (e : Work) → is_closing (kind_fields e.word) ≡ false → as_typed f e (b s) ≡ b s
-  as_before e off = rw off refl
-
-  abbrev as_closing : Work → Holdings
-  as_closing e =
-      record (b s) {
-        refs = without_ref f (b s).refs;
-        typed = record { frame = f; kind = Some (kind_fields e.word).kind; owner = ref_owner f (b s); live = lives.Since (length (b s).steps) } ∷ (b s).typed;
-      }
-
-  as_after : (e : Work) → IsTrue (is_closing (kind_fields e.word)) → as_typed f e (b s) ≡ as_closing e
-  as_after e on = rw on refl
-
-  -- a mark that stays has the stamp that stood there; a word without a mark has none
-  partial_stamp : (wrote : Wrote n x (Kind f) steps.Kind m m2 (b s)) (e : Work) (here : work_on f (b s).works ≡ Some e) (l : KindWord) → kind_at m2 f ≡ l → l.kind ≡ (kind_fields e.word).kind →
-      has_form l ≡ true → IsTrue (is_partial l) → KeepsMark n e l (b s) → kind_stamp (m2 (Kind f)) ≤ m Clock
-  partial_stamp wrote e here l is kind form partial keeps =
-      let same = stamp_of (m2 (Kind f)) l is (partial_unlive l partial) in
-      elim (cases_Bool l.unflushed) [
-        | inl on ↦
-            elim keeps [
-              | inl stays ↦
-                  elim (forms wrote e here l is kind) [
-                    | inl work ↦ let old = stamp_was wrote e here l is kind work in let number = stays.1 on in omega arith
-                    | inr closing ↦ let off = closing_flushed (kind_fields e.word) (form_before wrote e here l is kind) closing in let mark = stays.0 in absurd (cc)
-                  ]
-              | inr goes ↦ let off = goes.1 in absurd (cc)
-            ]
-        | inr off ↦ let none = partial_number l form partial off in omega arith
-      ]
-
-  pub partial_stored : Stored n s x f Partial m m2 (b s) (c s) → Outcome n m2 c
-  unfolding EachOf
-  partial_stored d =
-      let e = d.e in
-      let l = d.l in
-      let owner = kept_owner f e (b s) in
-      let partial = form_partial l d.form_is in
-      let form = read_form _ l d.is in
-      let before = form_before d.wrote e d.here l d.fields_is d.may.kind in
-      let tells = partial_says l form partial in
-      let table : held_of l None ≡ (if is_table (kind_fields e.word).kind then e.recorded else 0) =
-      held_partial l partial ∙ ap (λ y. if is_table y then l.progress else 0) d.may.kind ∙ ap (λ y. if is_table (kind_fields e.word).kind then y else 0) d.may.progress
-      in
-      let stamp = partial_stamp d.wrote e d.here l d.fields_is d.may.kind form partial d.may.mark in
-      elim (forms d.wrote e d.here l d.fields_is d.may.kind) [
-        | inl work ↦
-            let says = work_says (kind_fields e.word) before work in
-            let u = noted x (m (Kind f)) (put_partial n s f l (m2 (Kind f)) owner (b s)) in
-            let typed = maybe_out_here (λ y. y.frame) f (b s).typed u.typed l.kept refl (λ k. (d.may.kept k).in_hand work) in
-            out_outcome d.wrote e d.here l d.fields_is d.may.kind u
-            (d.hand ∙ ap (λ y. noted x (m (Kind f)) (put_partial n s f l (m2 (Kind f)) owner y)) (as_before e (work_alone (kind_fields e.word) work)))
-            (beside n s x m m2 b c seat others may sound f u refl refl refl refl refl refl refl) refl refl (λ g off. refl) (maybe_out_other (λ y. y.frame) f (b s).typed u.typed l.kept refl)
-            1 0 1 (bit l.kept) says tells stamp table (omega arith) (omega arith) (λ k. maybe_out_types m2 l.kept f (b s).typed k)
-        | inr closing ↦
-            let says = closing_says (kind_fields e.word) before closing in
-            let h = as_closing e in
-            let u = noted x (m (Kind f)) (put_partial n s f l (m2 (Kind f)) owner h) in
-            let more = cons_here (λ y. y.frame) f (b s).typed h.typed _ refl refl in
-            let typed = maybe_out_here (λ y. y.frame) f h.typed u.typed l.kept refl (λ k. omega arith) in
-            let out = out_here (λ y. y.frame) f (b s).refs u.refs refl (d.may.closing closing) in
-            out_outcome d.wrote e d.here l d.fields_is d.may.kind u
-            (d.hand ∙ ap (λ y. noted x (m (Kind f)) (put_partial n s f l (m2 (Kind f)) owner y)) (as_after e closing))
-            (beside n s x m m2 b c seat others may sound f u refl refl refl refl refl refl refl) refl refl (out_other (λ y. y.frame) f (b s).refs u.refs refl)
-            (λ g off. maybe_out_other (λ y. y.frame) f h.typed u.typed l.kept refl g off ∙ cons_other (λ y. y.frame) f (b s).typed h.typed _ refl refl g off)
-            0 0 1 (bit l.kept) says tells stamp table (omega arith) (omega arith)
-            (λ k. maybe_out_types m2 l.kept f h.typed (type_is d.wrote e d.here l d.fields_is d.may.kind ∙ d.may.kind, k))
       ]
 
   -- ---- dead
