@@ -1,13 +1,13 @@
 -- A type count, or an entry lock, is given back.
-use Rattle.std.proofs.Common.{◌≡◌, ◌≢◌, ℕ, ◌+◌, ◌-◌, ◌<◌, ◌≤◌, ◌==◌, not, if◌then◌else◌, Bool, true, false, List, [], ◌∷◌, length, Option, Some, None, refl, sym, ◌∙◌, ap, subst, arith, IsTrue, inl, inr}
+use Rattle.std.proofs.Common.{◌≡◌, ◌≢◌, ℕ, ◌+◌, ◌<◌, ◌==◌, if◌then◌else◌, Bool, true, false, List, ◌∷◌, Some, None, refl, sym, ◌∙◌, ap, arith, IsTrue, inl, inr}
 use Rattle.std.proofs.lemmas.Bool.{cases_eq}
 use Rattle.std.proofs.lemmas.Bool.Decides.{nat_tests}
 use Rattle.xp_words.specs.declared.kind.KindWord.{KindWord}
-use Rattle.xp_words.specs.KindWords.{kind_read, kind_fields, has_form}
+use Rattle.xp_words.specs.KindWords.{has_form}
 use Rattle.xp_words.specs.PageTypes.{is_table}
 use Rattle.xp_words.specs.RefWords.{bit}
 use Rattle.xp_words.specs.Machine.{Machine}
-use Rattle.xp_words.specs.Places.{sizes_of, Place, Clock, Kind}
+use Rattle.xp_words.specs.Places.{sizes_of, Place, Kind}
 use Rattle.xp_board.specs.declared.holdings.Holdings.{Holdings}
 use Rattle.xp_board.specs.declared.holdings.Work.{Work}
 use Rattle.xp_board.specs.declared.holdings.Lock.{Lock}
@@ -15,25 +15,25 @@ use Rattle.xp_board.specs.declared.holdings.Reference.{Reference}
 use Rattle.xp_board.specs.declared.holdings.TypedReference.{TypedReference}
 use Rattle.xp_board.specs.declared.step.Step.{Step}
 use Rattle.xp_board.specs.declared.step.StepKind.TheVariants as steps
-use Rattle.xp_board.specs.Lists.{EachOf, times_by}
-use Rattle.xp_board.specs.Readings.{kind_at, kind_stamp, is_live, is_closing}
-use Rattle.xp_board.specs.Hands.{refs_to, typed_to, locks_on, works_on, work_on, without_typed, without_lock}
-use Rattle.xp_board.specs.Recorded.{held, held_of, HasType}
+use Rattle.xp_board.specs.Lists.{EachOf}
+use Rattle.xp_board.specs.Readings.{kind_at, is_live, is_closing}
+use Rattle.xp_board.specs.Hands.{refs_to, typed_to, locks_on, work_on, without_typed, without_lock}
+use Rattle.xp_board.specs.Recorded.{held, HasType}
 use Rattle.xp_board.specs.KindSteps.{new_work, closing_works}
 use Rattle.xp_board.specs.After.{noted}
 use Rattle.xp_board.specs.Spelling.{IsSpelling}
 use Rattle.xp_board.specs.Keeping.{MayAct}
-use Rattle.xp_board.specs.Sound.{is_busy, HeldAlone, WorkAgrees, Sound}
+use Rattle.xp_board.specs.Sound.{is_busy, HeldAlone, Sound}
 use Rattle.xp_board.proofs.ActEffects.{Wrote, Dropped, Unlocked}
 use Rattle.count_rule.proofs.Sums.{when_eq, when_ne}
 use Rattle.count_rule.proofs.Lists.{first_by-cons_here, EachOf-without}
 use Rattle.count_rule.proofs.Tables.{nobody_works, held_free, held_mine}
-use Rattle.count_rule.proofs.ListMoves.{kept_other, cons_other, out_other, cons_here, out_here, recorded_cons}
+use Rattle.count_rule.proofs.ListMoves.{cons_other, out_other, cons_here, out_here, recorded_cons}
 use Rattle.count_rule.proofs.KindForms.{Says, spelled_form, live_says, closing_says, held_live, held_work}
 use Rattle.count_rule.proofs.KindSpelled.{form_was, drop_live, drop_some, drop_fields, lock_live, lock_on_word, lock_some, unlock_fields, kind_spelled}
-use Rattle.count_rule.proofs.KindActs.{not_busy, stamp_live, Turn, Elsewhere, beside, rest_by, turn_outcome, free_outcome, keeps_kind}
+use Rattle.count_rule.proofs.KindActs.{not_busy, stamp_live, Elsewhere, beside, rest_by, turn_outcome, free_outcome}
 use Rattle.count_rule.proofs.KindWorks.{works_in}
-use Rattle.count_rule.proofs.TurnActs.{left_says, held_same}
+use Rattle.count_rule.proofs.TurnActs.{held_same}
 use Rattle.count_rule.proofs.Outcome.{Outcome}
 
 closing_off : (k : KindWord) → has_form k ≡ true → IsTrue (is_live k) → k.number ≡ 0 → (k.pinned ≡ false) × (k.locked ≡ false) × (k.unflushed ≡ false)
@@ -62,7 +62,6 @@ module _ (n : Machine) (s : ℕ) (x : Step) (m m2 : Place → ℕ) (b c : ℕ �
       (lock_out : locks_on f locks + bit (kind_at m f).locked ≡ locks_on f (b s).locks + bit (kind_at m2 f).locked)
       (typed_kept : EachOf (λ e. HasType m2 e.frame e.kind) (b s).typed → EachOf (λ e. HasType m2 e.frame e.kind) typed)
       (locks_kept : EachOf (λ e. HasType m2 e.frame (Some e.kind)) (b s).locks → EachOf (λ e. HasType m2 e.frame (Some e.kind)) locks) where
-
     form_is : has_form (kind_at m2 f) ≡ true
     unfolding IsSpelling
     form_is = spelled_form n (m2 (Kind f)) ((kind_spelled n s x m m2 b seat may sound f wrote).spelled (Kind f) wrote.real)
@@ -103,6 +102,16 @@ module _ (n : Machine) (s : ℕ) (x : Step) (m m2 : Place → ℕ) (b c : ℕ �
         (record { was = refl; is = refl; says = was; tells = is }) (held_same (kind_at m f) (kind_at m2 f) kind valid partial progress) kind
         (let z = stamp_live (m2 (Kind f)) (kind_at m2 f) refl live_is in omega arith) (let i = ref_in in omega arith) (omega arith) lock_out typed_kept locks_kept
 
+    -- all entries of a closing table are recorded, as they were of the live one
+    closing_held : HeldAlone n m2 c → (w : Work) → (c s).works ≡ w ∷ (b s).works → w.frame ≡ f → w.recorded ≡ (if is_table (kind_at m f).kind then 512 else 0) →
+        held (sizes_of n) m2 c f ≡ held (sizes_of n) m b f
+    closing_held alone w now of_w all =
+        let free = not_busy (is_busy (kind_at m f)) was.busy_is in
+        held_mine n m2 c alone f s w seat (ap (work_on f) now ∙ first_by-cons_here (λ y. y.frame) f w (b s).works of_w)
+        ∙ held_work (kind_at m2 f) w.recorded ∙ ap (λ y. if is_table y then w.recorded else 0) kind ∙ ap (λ y. if is_table (kind_at m f).kind then y else 0) all
+        ∙ twice_if (is_table (kind_at m f).kind) 512
+        ∙ sym (held_free n m b sound.alone f free ∙ held_live (kind_at m f) live)
+
     closes_now : (kind_at m f).number ≡ 1 → Outcome n m2 c
     closes_now one =
         let none : (kind_at m2 f).number ≡ 0 = omega arith in
@@ -122,10 +131,7 @@ module _ (n : Machine) (s : ℕ) (x : Step) (m m2 : Place → ℕ) (b c : ℕ �
         turn_outcome n s x m m2 b c seat others may sound f wrote (after true) hand_is rest (kind_at m f) (kind_at m2 f) (kind_at m f).number (bit (kind_at m f).pinned) 0 (bit (kind_at m f).locked) 0 0 1 0
         (record { was = refl; is = refl; says = was; tells = is })
         (let z = stamp_live (m2 (Kind f)) (kind_at m2 f) refl live_is in omega arith) (let i = ref_in in omega arith) (omega arith) (omega arith) (omega arith)
-        (λ alone.
-          held_mine n m2 c alone f s _ seat (ap (work_on f) now ∙ first_by-cons_here (λ y. y.frame) f _ (b s).works refl)
-          ∙ held_work (kind_at m2 f) (if is_table (kind_at m f).kind then 512 else 0) ∙ ap (λ y. if is_table y then (if is_table (kind_at m f).kind then 512 else 0) else 0) kind ∙ twice_if (is_table (kind_at m f).kind) 512
-          ∙ sym (held_free n m b sound.alone f free ∙ held_live (kind_at m f) live))
+        (λ alone. closing_held alone (new_work f (m2 (Kind f)) (if is_table (kind_at m f).kind then 512 else 0) None (b s)) now refl refl)
         (inl kind) typed_kept locks_kept
         (works_in f (b s) (c s) rest.refs _ now nobody
         (record {

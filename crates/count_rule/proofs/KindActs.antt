@@ -1,33 +1,26 @@
 -- What each exchange of a kind word leaves.
-use Rattle.std.proofs.Common.{◌≡◌, ◌≢◌, ℕ, ◌+◌, ◌-◌, ◌%◌, ◌^◌, ◌<◌, ◌≤◌, ◌==◌, ◌⊎◌, not, if◌then◌else◌, Bool, true, false, List, [], ◌∷◌, length, Option, Some, None, refl, sym, ◌∙◌, ap, subst, arith, IsTrue, inl, inr}
-use Rattle.std.proofs.lemmas.Bool.{cases_eq, and_parts}
-use Rattle.std.proofs.lemmas.Bool.Decides.{nat_tests}
+use Rattle.std.proofs.Common.{◌≡◌, ◌≢◌, ℕ, ◌+◌, ◌<◌, ◌≤◌, ◌⊎◌, if◌then◌else◌, Bool, true, false, Some, None, refl, sym, ◌∙◌, ap, subst, arith, inl}
 use Rattle.xp_words.specs.declared.kind.KindWord.{KindWord}
-use Rattle.xp_words.specs.KindWords.{kind_read, kind_fields, has_form}
-use Rattle.xp_words.specs.PageTypes.{is_table}
+use Rattle.xp_words.specs.KindWords.{kind_fields}
 use Rattle.xp_words.specs.RefWords.{bit}
 use Rattle.xp_words.specs.Machine.{Machine}
-use Rattle.xp_words.specs.Places.{sizes_of, is_place, Place, Clock, Kind}
+use Rattle.xp_words.specs.Places.{sizes_of, Place, Clock, Kind}
 use Rattle.xp_board.specs.declared.holdings.Holdings.{Holdings}
-use Rattle.xp_board.specs.declared.holdings.Work.{Work}
 use Rattle.xp_board.specs.declared.step.Step.{Step}
 use Rattle.xp_board.specs.declared.step.StepKind.TheVariants as steps
-use Rattle.xp_board.specs.Lists.{EachOf, times_by}
-use Rattle.xp_board.specs.Readings.{kind_at, type_count, kind_stamp, is_live, is_partial, is_work, is_dead, is_closing, is_locked}
-use Rattle.xp_board.specs.Hands.{refs_to, typed_to, locks_on, works_on, work_on}
-use Rattle.xp_board.specs.Recorded.{held, held_of, marks, HasType, recorded_in}
-use Rattle.xp_board.specs.KindSteps.{KindRow, Count, Locks, Pin, Unpin, Resume, TakeBack, Begin, raised_kind, locked_kind, begun_kind, resumed_kind, MayCount, MayLock, MayPin, MayUnpin, MayResume, MayTakeBack, MayBegin, still_looking, after_kind_row}
-use Rattle.xp_board.specs.After.{noted}
+use Rattle.xp_board.specs.Lists.{EachOf}
+use Rattle.xp_board.specs.Readings.{kind_at, type_count, kind_stamp}
+use Rattle.xp_board.specs.Hands.{refs_to, typed_to, locks_on, works_on}
+use Rattle.xp_board.specs.Recorded.{held, held_of, HasType, recorded_in}
 use Rattle.xp_board.specs.Keeping.{MayAct}
 use Rattle.xp_board.specs.Sound.{is_busy, HeldAlone, WorkAgrees, Sound}
-use Rattle.xp_board.proofs.ActEffects.{Wrote, Turned}
-use Rattle.count_rule.proofs.Lists.{EachOf-without}
-use Rattle.count_rule.proofs.Tables.{nobody_works, one_works, held_free, held_mine}
-use Rattle.count_rule.proofs.ListMoves.{kept_other, cons_other, out_other, kept_here, cons_here, out_here, maybe_other, maybe_here, recorded_kept, recorded_cons}
-use Rattle.count_rule.proofs.KindForms.{Says, read_form, live_says, partial_says, work_says, dead_says, held_live, held_partial, held_dead, held_work}
+use Rattle.xp_board.proofs.ActEffects.{Wrote}
+use Rattle.count_rule.proofs.Tables.{nobody_works, held_free}
+use Rattle.count_rule.proofs.ListMoves.{kept_other, recorded_kept}
+use Rattle.count_rule.proofs.KindForms.{Says}
 use Rattle.count_rule.proofs.KindSpelled.{kind_spelled}
-use Rattle.count_rule.proofs.KindLaw.{Rest, KindMove, kind_outcome}
-use Rattle.count_rule.proofs.KindWorks.{works_apart, works_in, works_out}
+use Rattle.count_rule.proofs.KindLaw.{Rest, kind_outcome}
+use Rattle.count_rule.proofs.KindWorks.{works_apart}
 use Rattle.count_rule.proofs.Outcome.{Outcome}
 
 pub not_busy : (t : Bool) → bit t ≡ 0 → t ≡ false

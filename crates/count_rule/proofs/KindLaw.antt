@@ -1,16 +1,16 @@
 -- An act on a frame's kind word.
-use Rattle.std.proofs.Common.{◌≡◌, ◌≢◌, ℕ, ◌+◌, ◌%◌, ◌^◌, ◌/◌, ◌<◌, ◌≤◌, ◌⊎◌, Bool, true, false, [], Some, None, refl, sym, ◌∙◌, ap, subst, arith, IsTrue, inl, inr}
+use Rattle.std.proofs.Common.{◌≡◌, ◌≢◌, ℕ, ◌+◌, ◌/◌, ◌<◌, ◌≤◌, ◌⊎◌, Some, refl, sym, ◌∙◌, ap, subst, arith, inl, inr}
 use Rattle.std.proofs.lemmas.Bool.{cases_eq}
 use Rattle.xp_words.specs.RefWords.{bit}
 use Rattle.xp_words.specs.Machine.{Machine}
-use Rattle.xp_words.specs.Places.{sizes_of, is_place, Place, Clock, Pages, Vcpu, Refs, Kind, Cell, Map}
+use Rattle.xp_words.specs.Places.{sizes_of, Place, Clock, Pages, Vcpu, Refs, Kind, Cell, Map}
 use Rattle.xp_words.specs.Entries.{demand_at}
 use Rattle.xp_board.specs.declared.holdings.Holdings.{Holdings}
-use Rattle.xp_board.specs.Lists.{times, EachOf}
+use Rattle.xp_board.specs.Lists.{EachOf}
 use Rattle.xp_board.specs.Readings.{kind_at, ref_count, allocated_mark, type_count, kind_stamp, is_locked}
 use Rattle.xp_board.specs.Hands.{refs_to, typed_to, locks_on, works_on, hand, typed_hand}
 use Rattle.xp_board.specs.Recorded.{held, entry_demand, marks, HasType, is_page_of, recorded_in, CountsAgree}
-use Rattle.xp_board.specs.Sound.{is_busy, Spelled, HeldAlone, WorkAgrees, FreeMap, Sound}
+use Rattle.xp_board.specs.Sound.{is_busy, Spelled, HeldAlone, WorkAgrees, Sound}
 use Rattle.count_rule.proofs.Sums.{sum_below-same}
 use Rattle.count_rule.proofs.CountLaw.{pages_of, Steady, types_steady, counted_steady, counts_law}
 use Rattle.count_rule.proofs.PartLaws.{alone_law, map_law, works_law, stamped_by, idle_running}
@@ -104,18 +104,18 @@ module _ (n : Machine) (s : ℕ) (m m2 : Place → ℕ) (b c : ℕ → Holdings)
         (each_frame (λ g. ref_count (m (Refs g)) + (allocated_mark (m (Refs g)) + marks (kind_at m g) + hand g (b s)) ≡ ref_count (m (Refs g)) + (allocated_mark (m (Refs g)) + marks (kind_at m2 g) + hand g (c s)))
         (let p = hand_is f (c s) in let q = hand_is f (b s) in let r = typed_hand_is f (c s) in let t = typed_hand_is f (b s) in let k = move.refs_here in omega arith)
         (λ g off.
-          let p = hand_is g (c s) in let q = hand_is g (b s) in let r = typed_hand_is g (c s) in let t = typed_hand_is g (b s) in
-          let x = move.rest.refs g off in let y = move.rest.typed g off in let z = move.rest.locks g off in
-          rw (kinds_elsewhere g off) (omega arith)) g)
+        let p = hand_is g (c s) in let q = hand_is g (b s) in let r = typed_hand_is g (c s) in let t = typed_hand_is g (b s) in
+        let x = move.rest.refs g off in let y = move.rest.typed g off in let z = move.rest.locks g off in
+        rw (kinds_elsewhere g off) (omega arith)) g)
 
     counted_types : (g : ℕ) → type_count (kind_at m2 g) + (marks (kind_at m g) + typed_hand g (b s)) ≡ type_count (kind_at m g) + (marks (kind_at m2 g) + typed_hand g (c s))
     counted_types =
         each_frame (λ g. type_count (kind_at m2 g) + (marks (kind_at m g) + typed_hand g (b s)) ≡ type_count (kind_at m g) + (marks (kind_at m2 g) + typed_hand g (c s)))
         (let r = typed_hand_is f (c s) in let t = typed_hand_is f (b s) in let k = move.types_here in omega arith)
         (λ g off.
-          let r = typed_hand_is g (c s) in let t = typed_hand_is g (b s) in
-          let y = move.rest.typed g off in let z = move.rest.locks g off in
-          rw (kinds_elsewhere g off) (omega arith))
+        let r = typed_hand_is g (c s) in let t = typed_hand_is g (b s) in
+        let y = move.rest.typed g off in let z = move.rest.locks g off in
+        rw (kinds_elsewhere g off) (omega arith))
 
     kind_counts : CountsAgree (sizes_of n) m2 c
     kind_counts =
@@ -123,9 +123,9 @@ module _ (n : Machine) (s : ℕ) (m m2 : Place → ℕ) (b c : ℕ → Holdings)
         (counted_steady n s m m2 b c seat others steady sound.counts counted_refs counted_types
         (types_steady n s m m2 b c seat others steady sound.counts move.typed move.locks)
         (λ d l.
-          let e = move.words (Pages d) (λ e. cc) in
-          let p : pages_of n m2 d ≡ pages_of n m d = sum_below-same _ _ _ (λ f k. ap (is_page_of d) (refs_same f)) in
-          rw move.rest.credits (omega arith)))
+        let e = move.words (Pages d) (λ e. cc) in
+        let p : pages_of n m2 d ≡ pages_of n m d = sum_below-same _ _ _ (λ f k. ap (is_page_of d) (refs_same f)) in
+        rw move.rest.credits (omega arith)))
         sound.counts
 
     pub kind_outcome : Spelled n m2 → Outcome n m2 c

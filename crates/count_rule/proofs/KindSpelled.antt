@@ -1,10 +1,9 @@
 -- What an act on a kind word stores is a spelling.
-use Rattle.std.proofs.Common.{◌≡◌, ◌≢◌, ℕ, ◌+◌, ◌-◌, ◌%◌, ◌^◌, ◌<◌, ◌≤◌, ◌==◌, ◌&&◌, ◌||◌, not, nat_le, Bool, true, false, Option, Some, None, refl, sym, ◌∙◌, ap, subst, arith, IsTrue, inl, inr}
+use Rattle.std.proofs.Common.{◌≡◌, ℕ, ◌+◌, ◌-◌, ◌%◌, ◌^◌, ◌<◌, ◌≤◌, true, false, Option, Some, None, refl, sym, ◌∙◌, ap, subst, arith, IsTrue, inl, inr}
 use Rattle.std.proofs.lemmas.Bool.{and_parts}
 use Rattle.std.proofs.lemmas.Bool.Decides.{nat_tests}
 use Rattle.xp_words.specs.declared.kind.KindWord.{KindWord}
 use Rattle.xp_words.specs.KindWords.{kind_read, kind_fields, has_form, has_type}
-use Rattle.xp_words.specs.RefWords.{bit}
 use Rattle.xp_words.specs.Machine.{Machine}
 use Rattle.xp_words.specs.Places.{sizes_of, is_place, Place, Kind}
 use Rattle.xp_board.specs.declared.holdings.Holdings.{Holdings}
@@ -22,7 +21,7 @@ use Rattle.xp_board.proofs.ActEffects.{Wrote}
 use Rattle.count_rule.proofs.Sums.{hands-part, hands-plus}
 use Rattle.count_rule.proofs.Tables.{some_bit}
 use Rattle.count_rule.proofs.Quiet.{typed_hand_is}
-use Rattle.count_rule.proofs.KindForms.{spelled_form, live_says, read_form, read_fields}
+use Rattle.count_rule.proofs.KindForms.{spelled_form, read_fields}
 use Rattle.count_rule.proofs.KindDown.{dropped_fields, unlocked_fields, read_made, read_type, dropped_form, unlocked_form}
 use Rattle.count_rule.proofs.SpelledLaw.{wrote_spelled}
 

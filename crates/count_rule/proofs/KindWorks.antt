@@ -1,10 +1,8 @@
 -- Works whose frames are not the one that moves keep their references.
-use Rattle.std.proofs.Common.{◌≡◌, ◌≢◌, ℕ, ◌<◌, ◌≤◌, true, List, [], ◌∷◌, refl, sym, ◌∙◌, ap, subst, arith, IsTrue}
-use Rattle.xp_words.specs.KindWords.{kind_fields}
+use Rattle.std.proofs.Common.{◌≡◌, ◌≢◌, ℕ, ◌≤◌, List, ◌∷◌, sym, subst, arith}
 use Rattle.xp_board.specs.declared.holdings.Holdings.{Holdings}
 use Rattle.xp_board.specs.declared.holdings.Work.{Work}
-use Rattle.xp_board.specs.Lists.{EachOf, times_by}
-use Rattle.xp_board.specs.Readings.{is_closing}
+use Rattle.xp_board.specs.Lists.{EachOf}
 use Rattle.xp_board.specs.Hands.{refs_to, works_on, without_work}
 use Rattle.xp_board.specs.Sound.{WorkAgrees}
 use Rattle.count_rule.proofs.Lists.{EachOf-map, EachOf-both, EachOf-apart, EachOf-without, times_by-without_one}

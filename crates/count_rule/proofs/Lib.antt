@@ -1,5 +1,6 @@
 mod Sums
 mod Lists
+mod ListChanges
 mod Tables
 mod Steady
 mod CountLaw
@@ -11,7 +12,9 @@ mod Spellings
 mod SpelledLaw
 mod Told
 mod Outcome
+mod WalkHands
 mod QuietActs
+mod AwayActs
 mod Demands
 mod EntryMarks
 mod RecordMarks
@@ -29,7 +32,17 @@ mod KindActs
 mod TurnActs
 mod WorkActs
 mod DownActs
+mod StoreForms
+mod StoreActs
+mod PartialActs
+mod CellLaw
+mod Recordless
+mod CellActs
+mod HandLaw
+mod NameActs
+mod ExchangeActs
 mod RefLaw
 mod RefActs
+mod FrameActs
 mod Laws
 mod Quiet

@@ -1,11 +1,12 @@
 -- How a list of the hand moves at one number: an element comes in, goes out, or changes.
-use Rattle.std.proofs.Common.{◌≡◌, ◌≢◌, ℕ, ◌+◌, ◌<◌, ◌≤◌, if◌then◌else◌, Bool, true, false, List, [], ◌∷◌, Option, Some, None, refl, sym, ◌∙◌, ap, subst, arith, inl, inr}
+use Rattle.std.proofs.Common.{◌≡◌, ◌≢◌, ℕ, ◌+◌, ◌<◌, if◌then◌else◌, Bool, true, false, List, ◌∷◌, refl, sym, ◌∙◌, ap, arith}
 use Rattle.xp_words.specs.RefWords.{bit}
-use Rattle.xp_board.specs.Lists.{one_at, times_by, first_by, without_by, changed_by, EachOf}
+use Rattle.xp_board.specs.Lists.{times_by, without_by, changed_by}
 use Rattle.xp_board.specs.declared.holdings.Work.{Work}
 use Rattle.xp_board.specs.Recorded.{recorded_in, recorded_number}
 use Rattle.count_rule.proofs.Sums.{one_at-same}
-use Rattle.count_rule.proofs.Lists.{times_by-without, times_by-cons_here, times_by-cons_other, times_by-without_other, first_by-cons_other, first_by-without_other, first_by-changed_other}
+use Rattle.count_rule.proofs.Lists.{times_by-without, times_by-cons_here, times_by-cons_other, times_by-without_other, first_by-cons_other, first_by-without_other}
+use Rattle.count_rule.proofs.ListChanges.{first_by-changed_other}
 
 module _ {A : Type 0} (key : A → ℕ) (f : ℕ) (xs ys : List A) where
   pub kept_other : ys ≡ xs → (g : ℕ) → g ≢ f → times_by key g ys ≡ times_by key g xs

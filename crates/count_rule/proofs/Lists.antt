@@ -1,7 +1,7 @@
 -- The lists of a hand.
-use Rattle.std.proofs.Common.{◌≡◌, ◌≢◌, ℕ, ◌+◌, ◌<◌, ◌≤◌, List, [], ◌∷◌, Option, Some, None, refl, sym, ◌∙◌, ap, subst, arith, inl, inr, zero, suc}
+use Rattle.std.proofs.Common.{◌≡◌, ◌≢◌, ℕ, ◌+◌, ◌<◌, ◌≤◌, List, [], ◌∷◌, Option, Some, None, refl, sym, ◌∙◌, ap, subst, arith, inl, inr}
 use Rattle.std.proofs.lemmas.Bool.{cases_eq}
-use Rattle.xp_board.specs.Lists.{one_at, times_by, first_by, without_by, changed_by, EachOf, times, with_more, with_fewer}
+use Rattle.xp_board.specs.Lists.{one_at, times_by, first_by, without_by, EachOf}
 use Rattle.count_rule.proofs.Sums.{when_eq, when_ne}
 
 pub times_by-cons : {A : Type 0} (key : A → ℕ) (g : ℕ) (x : A) (xs : List A) → times_by key g (x ∷ xs) ≡ one_at g (key x) + times_by key g xs
@@ -183,64 +183,3 @@ found_by key f xs None at some = let none = first_by-absent key f xs at in absur
 
 pub first_by-some : {A : Type 0} (key : A → ℕ) (f : ℕ) (xs : List A) → 0 < times_by key f xs → (e : A) × (first_by key f xs ≡ Some e)
 first_by-some key f xs some = found_by key f xs (first_by key f xs) refl some
-
--- ---- a list with the first element of a number changed
-pub first_by-changed_here : {A : Type 0} (key : A → ℕ) (f : ℕ) (change : A → A) (xs : List A) (e : A) → ((x : A) → key (change x) ≡ key x) → first_by key f xs ≡ Some e →
-    first_by key f (changed_by key f change xs) ≡ Some (change e)
-unfolding first_by changed_by
-first_by-changed_here key f change [] e k here = absurd (cc)
-first_by-changed_here key f change (x ∷ xs) e k here =
-    elim (cases_eq (key x) f) [
-      | inl at ↦
-          let i : Some x ≡ Some e = rw (when_eq (key x) f at) at here in
-          let j : x ≡ e = cc in
-          rw (when_eq (key x) f at) (rw (when_eq (key (change x)) f (k x ∙ at)) (ap (λ y. Some (change y)) j))
-      | inr off ↦
-          let rest = first_by-changed_here key f change xs e k (rw (when_ne (key x) f off) at here) in
-          rw (when_ne (key x) f off) (rw (when_ne (key x) f off) rest)
-    ]
-
-pub first_by-changed_other : {A : Type 0} (key : A → ℕ) (g f : ℕ) (change : A → A) (xs : List A) → ((x : A) → key (change x) ≡ key x) → g ≢ f →
-    first_by key g (changed_by key f change xs) ≡ first_by key g xs
-unfolding first_by changed_by
-first_by-changed_other key g f change [] k n = refl
-first_by-changed_other key g f change (x ∷ xs) k n =
-    elim (cases_eq (key x) f) [
-      | inl at ↦
-          rw (when_eq (key x) f at)
-          (rw (when_ne (key (change x)) g (λ e. n (sym e ∙ k x ∙ at)), when_ne (key x) g (λ e. n (sym e ∙ at))) refl)
-      | inr off ↦
-          rw (when_ne (key x) f off)
-          (elim (cases_eq (key x) g) [
-            | inl here ↦ rw (when_eq (key x) g here) refl
-            | inr there ↦ rw (when_ne (key x) g there) (first_by-changed_other key g f change xs k n)
-          ])
-    ]
-
--- ---- several of one number
-pub times-with_more_here : (n g : ℕ) (xs : List ℕ) → times g (with_more n g xs) ≡ n + times g xs
-unfolding with_more
-times-with_more_here zero g xs = omega arith
-times-with_more_here (suc n) g xs =
-    let here = times_by-cons_here (λ x. x) g g (with_more n g xs) refl in
-    let rest = times-with_more_here n g xs in
-    omega arith
-
-pub times-with_more_other : (n g f : ℕ) (xs : List ℕ) → f ≢ g → times g (with_more n f xs) ≡ times g xs
-unfolding with_more
-times-with_more_other zero g f xs off = refl
-times-with_more_other (suc n) g f xs off = times_by-cons_other (λ x. x) g f (with_more n f xs) off ∙ times-with_more_other n g f xs off
-
-pub times-with_fewer_here : (n g : ℕ) (xs : List ℕ) → n ≤ times g xs → times g (with_fewer n g xs) + n ≡ times g xs
-unfolding with_fewer
-times-with_fewer_here zero g xs b = omega arith
-times-with_fewer_here (suc n) g xs b =
-    let one : one_at g g ≡ 1 = rw (when_eq g g refl) in
-    let out = times_by-without (λ x. x) g g xs (omega arith) in
-    let rest = times-with_fewer_here n g (without_by (λ x. x) g xs) (omega arith) in
-    omega arith
-
-pub times-with_fewer_other : (n g f : ℕ) (xs : List ℕ) → g ≢ f → times g (with_fewer n f xs) ≡ times g xs
-unfolding with_fewer
-times-with_fewer_other zero g f xs off = refl
-times-with_fewer_other (suc n) g f xs off = times-with_fewer_other n g f (without_by (λ x. x) f xs) off ∙ times_by-without_other (λ x. x) g f xs off

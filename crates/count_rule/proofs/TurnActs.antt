@@ -1,29 +1,25 @@
 -- The exchanges of a kind word, by their rows.
-use Rattle.std.proofs.Common.{◌≡◌, ◌≢◌, ℕ, ◌+◌, ◌-◌, ◌<◌, ◌≤◌, ◌==◌, not, if◌then◌else◌, Bool, true, false, List, [], ◌∷◌, length, Option, Some, None, refl, sym, ◌∙◌, ap, subst, arith, IsTrue, inl, inr}
+use Rattle.std.proofs.Common.{◌≡◌, ◌≢◌, ℕ, ◌+◌, ◌<◌, ◌≤◌, true, false, None, refl, sym, ◌∙◌, ap, subst, arith, IsTrue}
 use Rattle.std.proofs.lemmas.Bool.Decides.{nat_tests}
 use Rattle.xp_words.specs.declared.kind.KindWord.{KindWord}
-use Rattle.xp_words.specs.KindWords.{kind_read, kind_fields, has_form}
-use Rattle.xp_words.specs.PageTypes.{is_table}
+use Rattle.xp_words.specs.KindWords.{has_form}
 use Rattle.xp_words.specs.RefWords.{bit}
 use Rattle.xp_words.specs.Machine.{Machine}
 use Rattle.xp_words.specs.Places.{sizes_of, Place, Clock, Kind}
 use Rattle.xp_board.specs.declared.holdings.Holdings.{Holdings}
-use Rattle.xp_board.specs.declared.holdings.Work.{Work}
 use Rattle.xp_board.specs.declared.step.Step.{Step}
-use Rattle.xp_board.specs.Lists.{EachOf, times_by}
-use Rattle.xp_board.specs.Readings.{kind_at, kind_stamp, is_live, is_partial, is_work, is_dead}
-use Rattle.xp_board.specs.Hands.{refs_to, typed_to, locks_on, works_on, work_on}
-use Rattle.xp_board.specs.Recorded.{held, held_of, HasType}
-use Rattle.xp_board.specs.KindSteps.{KindRow, Count, Locks, Pin, Unpin, Resume, TakeBack, Begin, raised_kind, locked_kind, begun_kind, resumed_kind, still_looking, after_kind_row}
+use Rattle.xp_board.specs.Lists.{EachOf}
+use Rattle.xp_board.specs.Readings.{kind_at, kind_stamp, is_live}
+use Rattle.xp_board.specs.Recorded.{held_of, HasType}
+use Rattle.xp_board.specs.KindSteps.{KindRow, Count, Locks, Pin, Unpin, TakeBack, raised_kind, locked_kind, still_looking, after_kind_row}
 use Rattle.xp_board.specs.After.{noted}
 use Rattle.xp_board.specs.Keeping.{MayAct}
-use Rattle.xp_board.specs.Sound.{HeldAlone, WorkAgrees, Sound}
+use Rattle.xp_board.specs.Sound.{Sound}
 use Rattle.xp_board.proofs.ActEffects.{Turned}
 use Rattle.count_rule.proofs.Lists.{EachOf-without}
-use Rattle.count_rule.proofs.ListMoves.{kept_other, cons_other, out_other, kept_here, cons_here, out_here, maybe_other, maybe_here, recorded_kept, recorded_cons}
-use Rattle.count_rule.proofs.KindForms.{Says, read_form, live_says, partial_says, work_says, dead_says, held_live, held_partial, held_dead, held_work}
-use Rattle.count_rule.proofs.KindActs.{stamp_live, stamp_number, stamp_of, Turn, Elsewhere, beside, rest_by, turn_outcome, free_outcome, keeps_kind}
-use Rattle.count_rule.proofs.KindWorks.{works_apart, works_in, works_out}
+use Rattle.count_rule.proofs.ListMoves.{cons_other, out_other, cons_here, out_here}
+use Rattle.count_rule.proofs.KindForms.{Says, read_form, live_says, partial_says}
+use Rattle.count_rule.proofs.KindActs.{stamp_live, beside, free_outcome, keeps_kind}
 use Rattle.count_rule.proofs.Outcome.{Outcome}
 
 pub left_says : (l r : KindWord) (c m b k : ℕ) → l ≡ r → Says r c m b k → Says l c m b k

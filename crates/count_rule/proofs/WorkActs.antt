@@ -1,9 +1,8 @@
 -- The exchanges of a kind word that bring the frame into work.
-use Rattle.std.proofs.Common.{◌≡◌, ◌≢◌, ℕ, ◌+◌, ◌-◌, ◌<◌, ◌≤◌, ◌==◌, not, if◌then◌else◌, Bool, true, false, List, [], ◌∷◌, length, Option, Some, None, refl, sym, ◌∙◌, ap, subst, arith, IsTrue, inl, inr}
+use Rattle.std.proofs.Common.{◌≡◌, ◌≢◌, ℕ, ◌<◌, ◌≤◌, if◌then◌else◌, Bool, true, false, List, ◌∷◌, Some, None, refl, sym, ◌∙◌, ap, subst, arith, IsTrue, inl, inr}
 use Rattle.std.proofs.lemmas.Bool.Decides.{nat_tests}
-use Rattle.xp_words.specs.declared.kind.PageType.{PageType}
 use Rattle.xp_words.specs.declared.kind.KindWord.{KindWord}
-use Rattle.xp_words.specs.KindWords.{kind_read, kind_fields, has_form}
+use Rattle.xp_words.specs.KindWords.{kind_fields, has_form}
 use Rattle.xp_words.specs.PageTypes.{is_table}
 use Rattle.xp_words.specs.RefWords.{bit}
 use Rattle.xp_words.specs.Machine.{Machine}
@@ -12,20 +11,19 @@ use Rattle.xp_board.specs.declared.holdings.Holdings.{Holdings}
 use Rattle.xp_board.specs.declared.holdings.Work.{Work}
 use Rattle.xp_board.specs.declared.holdings.TypedReference.{TypedReference}
 use Rattle.xp_board.specs.declared.step.Step.{Step}
-use Rattle.xp_board.specs.Lists.{EachOf, times_by}
-use Rattle.xp_board.specs.Readings.{type_count, kind_at, kind_stamp, is_live, is_partial, is_work, is_dead, is_closing, is_type}
-use Rattle.xp_board.specs.Hands.{refs_to, typed_to, locks_on, works_on, work_on}
+use Rattle.xp_board.specs.Lists.{EachOf}
+use Rattle.xp_board.specs.Readings.{type_count, kind_at, kind_stamp, is_partial, is_work, is_dead, is_closing}
+use Rattle.xp_board.specs.Hands.{refs_to, works_on, work_on}
 use Rattle.xp_board.specs.Recorded.{held, held_of, HasType}
-use Rattle.xp_board.specs.KindSteps.{KindRow, Resume, Begin, begun_kind, resumed_kind, is_stale, still_looking, after_kind_row}
-use Rattle.xp_board.specs.After.{noted}
+use Rattle.xp_board.specs.KindSteps.{Resume, Begin, begun_kind, resumed_kind, is_stale}
 use Rattle.xp_board.specs.Keeping.{MayAct}
 use Rattle.xp_board.specs.Sound.{is_busy, HeldAlone, WorkAgrees, Sound}
 use Rattle.xp_board.proofs.ActEffects.{Turned}
 use Rattle.count_rule.proofs.Lists.{first_by-cons_here}
 use Rattle.count_rule.proofs.Tables.{nobody_works, held_free, held_mine}
-use Rattle.count_rule.proofs.ListMoves.{kept_other, cons_other, out_other, kept_here, cons_here, out_here, maybe_other, maybe_here, recorded_kept, recorded_cons}
-use Rattle.count_rule.proofs.KindForms.{Says, read_form, partial_says, work_says, dead_says, held_partial, held_dead, held_work}
-use Rattle.count_rule.proofs.KindActs.{not_busy, stamp_number, stamp_of, Turn, Elsewhere, beside, rest_by, turn_outcome, keeps_kind}
+use Rattle.count_rule.proofs.ListMoves.{cons_other, out_other, cons_here, out_here, maybe_other, maybe_here, recorded_cons}
+use Rattle.count_rule.proofs.KindForms.{read_form, partial_says, work_says, dead_says, held_partial, held_dead, held_work}
+use Rattle.count_rule.proofs.KindActs.{not_busy, stamp_number, stamp_of, beside, rest_by, turn_outcome, keeps_kind}
 use Rattle.count_rule.proofs.KindWorks.{works_in}
 use Rattle.count_rule.proofs.TurnActs.{turned_hand, left_says, stamp_kept}
 use Rattle.count_rule.proofs.Outcome.{Outcome}
@@ -34,10 +32,10 @@ marked_none : (k : KindWord) → has_form k ≡ true → IsTrue (is_partial k) �
 unfolding has_form
 marked_none k form partial marked = grind (arith, nat_tests)
 
-not_closing : (k : KindWord) → IsTrue (is_work k) → IsTrue (is_closing k) → ⊥
+pub not_closing : (k : KindWord) → IsTrue (is_work k) → IsTrue (is_closing k) → ⊥
 not_closing k work closing = grind (arith, nat_tests)
 
-not_live : (k : KindWord) → IsTrue (is_dead k) → k.validated ≡ false
+pub not_live : (k : KindWord) → IsTrue (is_dead k) → k.validated ≡ false
 not_live k dead = grind (arith, nat_tests)
 
 resumed_work : (k : KindWord) → IsTrue (is_partial k) → IsTrue (is_work (resumed_kind k))
@@ -47,7 +45,7 @@ fewer : (t : Bool) (x : ℕ) → (if t then x else 0) ≤ x
 fewer true x = omega arith
 fewer false x = omega arith
 
-same_zero : (t : Bool) → ◌≡◌ {A = ℕ} (if t then 0 else 0) 0
+pub same_zero : (t : Bool) → ◌≡◌ {A = ℕ} (if t then 0 else 0) 0
 same_zero true = refl
 same_zero false = refl
 

@@ -1,0 +1,228 @@
+-- What each act on a cell leaves, but for exchanges of another demand.
+use Rattle.xp_board.specs.After.{noted, learned_cell}
+use Rattle.xp_board.specs.GuestSteps.{MayStore}
+use Rattle.count_rule.proofs.EntryMarks.{work_word}
+use Rattle.count_rule.proofs.Words.{is_dying-read, dying_says}
+use Rattle.count_rule.proofs.Tables.{some_bit}
+use Rattle.count_rule.proofs.Sums.{when_eq, when_ne, hands-part}
+use Rattle.std.proofs.Common.{◌≡◌, ◌≢◌, ℕ, ◌+◌, ◌*◌, ◌/◌, ◌%◌, ◌^◌, ◌<◌, ◌==◌, ◌&&◌, Bool, false, List, [], ◌∷◌, Option, Some, None, refl, sym, ◌∙◌, ap, subst, arith, IsTrue, inl, inr}
+use Rattle.std.proofs.lemmas.Bool.{cases_Bool, cases_eq, and_parts, or_cases}
+use Rattle.std.proofs.lemmas.Bool.Decides.{nat_tests}
+use Rattle.xp_words.specs.declared.kind.PageType.{PageType}
+use Rattle.xp_words.specs.declared.entry.Demand.{Demand}
+use Rattle.xp_words.specs.declared.entry.Demand.TheVariants.{Nothing, Bad, Read, Typed}
+use Rattle.xp_words.specs.Entries.{demand_at}
+use Rattle.xp_words.specs.PageTypes.{is_table, type_number, type_of}
+use Rattle.xp_words.specs.Machine.{Machine}
+use Rattle.xp_words.specs.Places.{sizes_of, is_place, Place, Kind, Cell, Refs}
+use Rattle.xp_words.proofs.KindLaws.{type_back}
+use Rattle.xp_board.specs.declared.holdings.Holdings.{Holdings}
+use Rattle.xp_board.specs.declared.holdings.Seen.{Seen}
+use Rattle.xp_board.specs.declared.holdings.Walk.{Walk}
+use Rattle.xp_board.specs.declared.holdings.Claimed.{Claimed}
+use Rattle.xp_board.specs.declared.holdings.Work.{Work}
+use Rattle.xp_board.specs.declared.step.Item.{Item}
+use Rattle.xp_board.specs.declared.step.Step.{Step}
+use Rattle.xp_board.specs.Lists.{Member, some_of}
+use Rattle.xp_board.specs.Readings.{kind_at, is_dying}
+use Rattle.xp_board.specs.Steps.{last_since}
+use Rattle.xp_board.specs.Hands.{claim_of, work_on, endings_of, claims_of}
+use Rattle.xp_board.specs.Recorded.{held, HasType}
+use Rattle.xp_board.specs.CellSteps.{is_same_demand, is_same_as_seen, AllowsPlain}
+use Rattle.xp_board.specs.FillSteps.{with_bit, sets_dirty, touched}
+use Rattle.xp_board.specs.Found.{LockFound, is_same_entry}
+use Rattle.xp_board.specs.WellFormed.{IsLockFormed}
+use Rattle.xp_board.specs.Reach.{Writes, Reach, cached, use_of}
+use Rattle.xp_board.specs.Keeping.{MayAct}
+use Rattle.xp_board.specs.Sound.{Sound, Spelled}
+use Rattle.xp_board.proofs.ActEffects.{Rewrote, Filled, GuestStored, Touched}
+use Rattle.count_rule.proofs.Lists.{EachOf-found, first_by-counts}
+use Rattle.count_rule.proofs.Learning.{kept_noted, kept_cell, same_hand}
+use Rattle.count_rule.proofs.SpelledLaw.{wrote_spelled}
+use Rattle.count_rule.proofs.Demands.{demand_at-entry}
+use Rattle.count_rule.proofs.WalkHands.{same_descended, cold_descended}
+use Rattle.count_rule.proofs.KindSpelled.{form_was}
+use Rattle.count_rule.proofs.Recordless.{marked_none, no_table_none, unreferenced_none}
+use Rattle.count_rule.proofs.CellLaw.{cell_outcome}
+use Rattle.count_rule.proofs.Outcome.{Outcome}
+
+-- ---- equal demands
+type_same : (t u : PageType) → type_number t ≡ type_number u → t ≡ u
+type_same t u e = sym (type_back t) ∙ ap type_of e ∙ type_back u
+
+demand_same : (d e : Demand) → IsTrue (is_same_demand d e) → d ≡ e
+demand_same Nothing Nothing k = refl
+demand_same (Read f) (Read g) k = let e : f ≡ g = grind (arith, nat_tests) in ap Read e
+demand_same (Typed f t) (Typed g u) k =
+    let e : f ≡ g = grind (arith, nat_tests) in
+    let i : type_number t ≡ type_number u = grind (arith, nat_tests) in
+    ap (λ y. Typed y t) e ∙ ap (Typed g) (type_same t u i)
+demand_same Nothing Bad k = absurd (cc)
+demand_same Nothing (Read g) k = absurd (cc)
+demand_same Nothing (Typed g u) k = absurd (cc)
+demand_same Bad Nothing k = absurd (cc)
+demand_same Bad Bad k = absurd (cc)
+demand_same Bad (Read g) k = absurd (cc)
+demand_same Bad (Typed g u) k = absurd (cc)
+demand_same (Read f) Nothing k = absurd (cc)
+demand_same (Read f) Bad k = absurd (cc)
+demand_same (Read f) (Typed g u) k = absurd (cc)
+demand_same (Typed f t) Nothing k = absurd (cc)
+demand_same (Typed f t) Bad k = absurd (cc)
+demand_same (Typed f t) (Read g) k = absurd (cc)
+
+-- what was noted of a cell asks the same as the new word
+record SeenAs (kind : PageType) (i new : ℕ) (seen : Option Seen) : Type 0 where
+  word : ℕ
+  here : seen ≡ Some (record { index = i; word = word })
+  same : demand_at kind i word ≡ demand_at kind i new
+
+not_there : (kind : PageType) (i new : ℕ) (x : Seen) → x.index ≢ i → IsTrue (is_same_as_seen kind i new (Some x)) → ⊥
+not_there kind i new x off k = grind (arith, nat_tests)
+
+seen_as : (kind : PageType) (i new : ℕ) (seen : Option Seen) → IsTrue (is_same_as_seen kind i new seen) → SeenAs kind i new seen
+seen_as kind i new None k = absurd (cc)
+seen_as kind i new (Some x) k =
+    elim (cases_eq x.index i) [
+      | inl at ↦
+          record {
+            word = x.word;
+            here = ap (λ y. Some (record { index = y; word = x.word })) at;
+            same = demand_same (demand_at kind i x.word) (demand_at kind i new) (grind (arith, nat_tests));
+          }
+      | inr off ↦ absurd (not_there kind i new x off k)
+    ]
+
+-- ---- accessed and dirty bits
+same_by : (v w : ℕ) → v / 128 ≡ w / 128 → v % 32 ≡ w % 32 → IsTrue (is_same_entry v w)
+same_by v w a b =
+    let e : v / 128 * 128 + v % 32 ≡ w / 128 * 128 + w % 32 = omega arith in
+    when_eq (v / 128 * 128 + v % 32) (w / 128 * 128 + w % 32) e
+
+same_parts : (v w : ℕ) → IsTrue (is_same_entry v w) → (v / 128 ≡ w / 128) × (v % 32 ≡ w % 32)
+same_parts v w e =
+    let k : v / 128 * 128 + v % 32 ≡ w / 128 * 128 + w % 32 = grind (arith, nat_tests) in
+    (omega arith, omega arith)
+
+bit_five : (w : ℕ) → IsTrue (is_same_entry (with_bit 5 w) w)
+bit_five w =
+    elim (cases_eq (w / 2 ^ 5 % 2) 1) [
+      | inl on ↦ rw (when_eq (w / 2 ^ 5 % 2) 1 on) (same_by w w refl refl)
+      | inr off ↦ let o : w / 2 ^ 5 % 2 ≢ 1 = off in rw (when_ne (w / 2 ^ 5 % 2) 1 off) (same_by (w + 2 ^ 5) w (omega arith) (omega arith))
+    ]
+
+bit_six : (w : ℕ) → IsTrue (is_same_entry (with_bit 6 w) w)
+bit_six w =
+    elim (cases_eq (w / 2 ^ 6 % 2) 1) [
+      | inl on ↦ rw (when_eq (w / 2 ^ 6 % 2) 1 on) (same_by w w refl refl)
+      | inr off ↦ let o : w / 2 ^ 6 % 2 ≢ 1 = off in rw (when_ne (w / 2 ^ 6 % 2) 1 off) (same_by (w + 2 ^ 6) w (omega arith) (omega arith))
+    ]
+
+touched_same : (walk : Walk) (w : ℕ) → IsTrue (is_same_entry (touched walk w) w)
+touched_same walk w =
+    elim (cases_Bool (sets_dirty walk)) [
+      | inl on ↦
+          let a = same_parts (with_bit 5 w) w (bit_five w) in
+          let d = same_parts (with_bit 6 (with_bit 5 w)) (with_bit 5 w) (bit_six (with_bit 5 w)) in
+          rw on (same_by (with_bit 6 (with_bit 5 w)) w (d.0 ∙ a.0) (d.1 ∙ a.1))
+      | inr off ↦ rw off (bit_five w)
+    ]
+
+-- ---- the item that the guest stores through
+some_item : (test : Item → Bool) (xs : List Item) → IsTrue (some_of test xs) → (x : Item) × Member x xs × IsTrue (test x)
+unfolding some_of Member
+some_item test [] k = absurd (cc)
+some_item test (x ∷ xs) k =
+    elim (or_cases (test x) (some_of test xs) k) [
+      | inl here ↦ (x, inl refl, here)
+      | inr there ↦ let rest = some_item test xs there in (rest.0, inr rest.1, rest.2)
+    ]
+
+not_seven : (t : PageType) → type_number t ≡ 7 → is_table t ≡ false
+not_seven t e = grind (arith, nat_tests)
+
+module _ (n : Machine) (s : ℕ) (x : Step) (m m2 : Place → ℕ) (b c : ℕ → Holdings) (seat : s < (sizes_of n).vcpus) (others : (t : ℕ) → t ≢ s → c t ≡ b t) (may : MayAct n s x (b s)) (sound : Sound n m b) (f i : ℕ) where
+  pub rewrote_outcome : Rewrote n x f i m m2 (b s) (c s) → Outcome n m2 c
+  rewrote_outcome d =
+      let e = d.e in
+      let found = EachOf-found (LockFound (sizes_of n) m (b s)) (λ y. y.frame) f (b s).locks e d.here (sound.found s seat).locks in
+      let formed = EachOf-found (IsLockFormed n (b s)) (λ y. y.frame) f (b s).locks e d.here (sound.formed s seat).locks in
+      let typed = EachOf-found (λ y. HasType m y.frame (Some y.kind)) (λ y. y.frame) f (b s).locks e d.here (sound.counts.kinds.locks s seat) in
+      let seen = seen_as e.kind i (m2 (Cell f i)) e.seen d.same in
+      let noted : last_since (sizes_of n) e.since (Cell e.frame i) (b s).steps ≡ Some seen.word = rw seen.here at formed.1.seen in
+      let cell = found.1 i seen.word noted in
+      let stands = demand_at-entry e.kind i (m (Cell e.frame i)) seen.word cell in
+      let kind : (kind_at m f).kind ≡ e.kind = ap (λ y. (kind_at m y).kind) (sym found.0) ∙ typed.1 in
+      let same : demand_at (kind_at m f).kind i (m2 (Cell f i)) ≡ demand_at (kind_at m f).kind i (m (Cell f i)) =
+      ap (λ y. demand_at y i (m2 (Cell f i))) kind ∙ sym seen.same ∙ sym stands ∙ ap (λ y. demand_at e.kind i (m (Cell y i))) found.0 ∙ ap (λ y. demand_at y i (m (Cell f i))) (sym kind)
+      in
+      cell_outcome n s m m2 b c seat others sound f i d.wrote.others (λ l. same)
+      (kept_noted x (m (Cell f i)) (b s) _ (c s) d.hand (kept_cell f i (m2 (Cell f i)) (b s) (b s) (same_hand (b s)))) (d.wrote.running refl) (ap (λ u. u.cold) d.hand)
+      (λ k e. ap (λ u. u.cache) d.hand ∙ e) (λ k e. ap (λ u. u.walk) d.hand ∙ e)
+      (wrote_spelled n s x (Cell f i) _ m m2 (b s) d.wrote may sound.machine sound.spelled (λ by l. absurd l) (λ v l. absurd l))
+
+  pub touched_outcome : Touched n x f i m m2 (b s) (c s) → Outcome n m2 c
+  touched_outcome d =
+      let same = subst (λ y. IsTrue (is_same_entry y (m (Cell f i)))) (sym d.may.left) (touched_same d.walk (m (Cell f i))) in
+      let still = (cold_descended n d.walk (m2 (Cell f i)) (b s)).cold in
+      cell_outcome n s m m2 b c seat others sound f i d.wrote.others (λ l. demand_at-entry (kind_at m f).kind i (m2 (Cell f i)) (m (Cell f i)) same)
+      (kept_noted x (m (Cell f i)) (b s) _ (c s) d.hand (kept_cell f i (m2 (Cell f i)) (b s) _ (same_descended n d.walk (m2 (Cell f i)) (b s)))) (d.wrote.running refl)
+      (ap (λ u. u.cold) d.hand ∙ still)
+      (λ k e. let none = (sound.idle s seat).cold_walk k in let flying = d.may.flying in absurd (cc)) (λ k e. let flying = d.may.flying in absurd (cc))
+      (wrote_spelled n s x (Cell f i) _ m m2 (b s) d.wrote may sound.machine sound.spelled (λ by l. absurd l) (λ v l. absurd l))
+
+  -- no entry of the frame is recorded
+  plain_outcome : (w : ℕ) → ((q : Place) → q ≢ Cell f i → m2 q ≡ m q) → c s ≡ noted x w (learned_cell f i (m2 (Cell f i)) (b s)) → held (sizes_of n) m b f ≡ 0 → (b s).run ≡ Some 0 → Spelled n m2 → Outcome n m2 c
+  plain_outcome w words hand none running spelled =
+      cell_outcome n s m m2 b c seat others sound f i words (λ l. absurd (omega arith))
+      (kept_noted x w (b s) _ (c s) hand (kept_cell f i (m2 (Cell f i)) (b s) (b s) (same_hand (b s)))) running (ap (λ u. u.cold) hand)
+      (λ k e. ap (λ u. u.cache) hand ∙ e) (λ k e. ap (λ u. u.walk) hand ∙ e) spelled
+
+  kind_real : IsTrue (is_place (sizes_of n) (Cell f i)) → IsTrue (is_place (sizes_of n) (Kind f))
+  unfolding is_place
+  kind_real real = grind (arith, nat_tests)
+
+  written_none : IsTrue (is_place (sizes_of n) (Cell f i)) → MayStore f (b s) → held (sizes_of n) m b f ≡ 0
+  written_none real store =
+      let item = some_item (λ y. (y.frame == f) && y.writable) (b s).cache store.item in
+      let parts = and_parts (item.0.frame == f) item.0.writable item.2 in
+      let frame : item.0.frame ≡ f = grind (arith, nat_tests) in
+      let purpose : use_of item.0 ≡ Writes = rw parts.1 refl in
+      let reach = subst (λ y. Reach (sizes_of n) m (b s) y Writes) frame (subst (λ y. Reach (sizes_of n) m (b s) item.0.frame y) purpose (cached item.0 item.1)) in
+      let fresh = sound.fresh.each s seat f Writes reach in
+      elim (fresh.bears.typed (λ e. cc)) [
+        | inl typed ↦ no_table_none n s m b seat sound f (not_seven (kind_at m f).kind typed.1)
+        | inr marked ↦ marked_none n s m b seat sound f (form_was n s m m2 b seat sound f (kind_real real)) marked.0
+      ]
+
+  pub guest_outcome : GuestStored n x f i m m2 (b s) (c s) → Outcome n m2 c
+  guest_outcome d =
+      plain_outcome (m (Cell f i)) d.wrote.others d.hand (written_none d.wrote.real d.may) (d.wrote.running refl)
+      (wrote_spelled n s x (Cell f i) _ m m2 (b s) d.wrote may sound.machine sound.spelled (λ by l. absurd l) (λ v l. absurd l))
+
+  -- ---- a claimed frame, a descriptor page in the own work, or ordinary memory
+  claimed_none : (e : Claimed) → claim_of f (b s).claimed ≡ Some e → held (sizes_of n) m b f ≡ 0
+  claimed_none e here =
+      let some = first_by-counts (λ y. y.frame) f (b s).claimed e here in
+      let all = sound.alone.dying f in
+      let part = hands-part (λ u. endings_of f u.ending + claims_of f u.claimed) (sizes_of n) b s seat in
+      let dying = some_bit (is_dying (m (Refs f))) (omega arith) in
+      let r = is_dying-read (m (Refs f)) dying in
+      unreferenced_none n s m b seat sound f (dying_says (m (Refs f)) r.0 r.1).counts
+
+  filled_none : (k : Option Claimed) (w : Option Work) → claim_of f (b s).claimed ≡ k → work_on f (b s).works ≡ w → AllowsPlain n f i (m2 (Cell f i)) (b s) k w → held (sizes_of n) m b f ≡ 0
+  filled_none (Some e) w at on allows = claimed_none e at
+  filled_none None (Some e) at on allows =
+      no_table_none n s m b seat sound f (ap (λ y. is_table y.kind) (work_word n s m b seat sound f e on) ∙ ap is_table allows.kind)
+  filled_none None None at on allows =
+      let kind = ((sound.found s seat).lives f allows.kind allows.live).1 in
+      no_table_none n s m b seat sound f
+      (elim allows.ordinary [
+        | inl writable ↦ ap is_table (kind ∙ writable)
+        | inr desc ↦ ap is_table (kind ∙ desc.0)
+      ])
+
+  pub filled_outcome : Filled n x f i m m2 (b s) (c s) → Outcome n m2 c
+  filled_outcome d =
+      plain_outcome (m (Cell f i)) d.wrote.others d.hand (filled_none _ _ refl refl d.may) (d.wrote.running refl)
+      (wrote_spelled n s x (Cell f i) _ m m2 (b s) d.wrote may sound.machine sound.spelled (λ by l. absurd l) (λ v l. absurd l))

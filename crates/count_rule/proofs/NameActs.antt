@@ -1,0 +1,253 @@
+-- A word of a vCPU names another frame, or none.
+use Rattle.std.proofs.Common.{◌≡◌, ◌≢◌, ℕ, zero, suc, ◌+◌, ◌<◌, ◌⊎◌, Option, Some, None, refl, sym, ◌∙◌, ap, subst, arith, add-one, IsTrue, inl, inr}
+use Rattle.std.proofs.lemmas.Bool.{cases_eq}
+use Rattle.std.proofs.lemmas.Bool.Decides.{nat_tests}
+use Rattle.xp_words.specs.declared.kind.PageType.{PageType}
+use Rattle.xp_words.specs.Machine.{Machine}
+use Rattle.xp_words.specs.Places.{sizes_of, is_place, Place, Clock, Pages, Vcpu, Refs, Kind, Cell, Map}
+use Rattle.xp_board.specs.declared.holdings.Holdings.{Holdings}
+use Rattle.xp_board.specs.declared.step.Step.{Step}
+use Rattle.xp_board.specs.Lists.{one_at, EachOf}
+use Rattle.xp_board.specs.Readings.{kind_at, is_context}
+use Rattle.xp_board.specs.Hands.{refs_to, typed_to, typed_hand, brought_typed}
+use Rattle.xp_board.specs.ContextSteps.{context_type, FitsWord, NamesFrame, named_in, named_out}
+use Rattle.xp_board.specs.Recorded.{names, names_typed, contexts, held, entry_demand, HasType, TypesAgree}
+use Rattle.xp_board.specs.After.{learned}
+use Rattle.xp_board.specs.Keeping.{MayAct}
+use Rattle.xp_board.specs.Sound.{Sound}
+use Rattle.xp_board.proofs.ActEffects.{Named}
+use Rattle.xp_board.proofs.PlaceTests.{same_or_other}
+use Rattle.count_rule.proofs.Sums.{when_eq, when_ne}
+use Rattle.count_rule.proofs.Lists.{times_by-cons, times_by-without, EachOf-without, EachOf-map}
+use Rattle.count_rule.proofs.Twins.{EachTwo-each, SameLock, recorded_in-same, EachTwo, SameWork, SameClaim}
+use Rattle.count_rule.proofs.Steady.{entries-same, contexts-one}
+use Rattle.count_rule.proofs.CountLaw.{each_seat}
+use Rattle.count_rule.proofs.PartLaws.{stamped_by, idle_running}
+use Rattle.count_rule.proofs.Learning.{Kept, Learnt, learnt, kept_noted}
+use Rattle.count_rule.proofs.Quiet.{hand_is, typed_hand_is, held_still, locks_times}
+use Rattle.count_rule.proofs.SpelledLaw.{wrote_spelled}
+use Rattle.count_rule.proofs.Outcome.{Outcome, cells_same, runs}
+use Rattle.count_rule.proofs.HandLaw.{HandMove, hand_outcome}
+
+-- ---- the hand
+one_named : (g f : ℕ) → one_at (g + 1) (suc f) ≡ one_at g f
+one_named g f =
+    elim (cases_eq f g) [
+      | inl at ↦ rw (when_eq f g at, when_eq (suc f) (g + 1) (omega arith)) refl
+      | inr off ↦ let o : f ≢ g = off in rw (when_ne f g off, when_ne (suc f) (g + 1) (λ e. absurd (omega arith))) refl
+    ]
+
+none_named : (g : ℕ) → one_at (g + 1) 0 ≡ 0
+none_named g = rw (when_ne 0 (g + 1) (λ e. absurd (omega arith))) refl
+
+-- what a word names is in hand
+abbrev IsNamed : ℕ → Holdings → Type 0
+IsNamed zero u = Unit {0}
+IsNamed (suc f) u = 0 < typed_to f u.typed
+
+named_out_typed : (g w : ℕ) (u : Holdings) → IsNamed w u → typed_to g (named_out w u).typed + one_at (g + 1) w ≡ typed_to g u.typed
+named_out_typed g zero u k = let z = none_named g in omega arith
+named_out_typed g (suc f) u k = let z = one_named g f in let e = times_by-without (λ y. y.frame) g f u.typed k in omega arith
+
+named_in_typed : (g k w : ℕ) (u : Holdings) → typed_to g (named_in k w u).typed ≡ typed_to g u.typed + one_at (g + 1) w
+named_in_typed g k zero u = let z = none_named g in omega arith
+named_in_typed g k (suc f) u = let z = one_named g f in let e = times_by-cons (λ y. y.frame) g (brought_typed f (context_type k) u) u.typed in omega arith
+
+-- no more of the hand moves
+record Beyond (u v : Holdings) : Type 0 where
+  refs : v.refs ≡ u.refs
+  works : v.works ≡ u.works
+  locks : v.locks ≡ u.locks
+  ending : v.ending ≡ u.ending
+  claimed : v.claimed ≡ u.claimed
+  raised : v.raised ≡ u.raised
+  credits : v.credits ≡ u.credits
+  cache : v.cache ≡ u.cache
+  walk : v.walk ≡ u.walk
+  cold : v.cold ≡ u.cold
+
+beyond : (u v : Holdings) → v.refs ≡ u.refs → v.works ≡ u.works → v.locks ≡ u.locks → v.ending ≡ u.ending → v.claimed ≡ u.claimed → v.raised ≡ u.raised → v.credits ≡ u.credits →
+    v.cache ≡ u.cache → v.walk ≡ u.walk → v.cold ≡ u.cold → Beyond u v
+beyond u v a b c d e f g h i j = record { refs = a; works = b; locks = c; ending = d; claimed = e; raised = f; credits = g; cache = h; walk = i; cold = j }
+
+beyond_same : (u : Holdings) → Beyond u u
+beyond_same u = beyond u u refl refl refl refl refl refl refl refl refl refl
+
+out_beyond : (w : ℕ) (u : Holdings) → Beyond u (named_out w u)
+out_beyond zero u = beyond_same u
+out_beyond (suc f) u = beyond u _ refl refl refl refl refl refl refl refl refl refl
+
+in_beyond : (k w : ℕ) (u : Holdings) → Beyond u (named_in k w u)
+in_beyond k zero u = beyond_same u
+in_beyond k (suc f) u = beyond u _ refl refl refl refl refl refl refl refl refl refl
+
+out_types : (m : Place → ℕ) (w : ℕ) (u : Holdings) → EachOf (λ e. HasType m e.frame e.kind) u.typed → EachOf (λ e. HasType m e.frame e.kind) (named_out w u).typed
+out_types m zero u k = k
+out_types m (suc f) u k = EachOf-without (λ y. HasType m y.frame y.kind) (λ y. y.frame) f u.typed k
+
+in_types : (m : Place → ℕ) (k w : ℕ) (u : Holdings) → ((f : ℕ) → w ≡ f + 1 → HasType m f (context_type k)) → EachOf (λ e. HasType m e.frame e.kind) u.typed →
+    EachOf (λ e. HasType m e.frame e.kind) (named_in k w u).typed
+unfolding EachOf
+in_types m k zero u named e = e
+in_types m k (suc f) u named e = (named f (sym (add-one f)), e)
+
+not_context : (k : ℕ) → (k ≡ 5) ⊎ (k ≡ 6) → IsTrue (is_context k) → ⊥
+not_context k e t = grind (arith, nat_tests)
+
+module _ (n : Machine) (s : ℕ) (x : Step) (m m2 : Place → ℕ) (b c : ℕ → Holdings) (seat : s < (sizes_of n).vcpus) (others : (t : ℕ) → t ≢ s → c t ≡ b t) (may : MayAct n s x (b s)) (sound : Sound n m b) (v k : ℕ) (d : Named n s x v k m m2 (b s) (c s)) where
+  abbrev was : ℕ
+  was = m (Vcpu v k)
+
+  abbrev is : ℕ
+  is = m2 (Vcpu v k)
+
+  abbrev moved : Holdings
+  moved = named_in k was (named_out is (b s))
+
+  -- the new word names a frame to which a typed reference is in hand, and which has the type of the word
+  named_frame : NamesFrame n s k is (b s) → IsNamed is (b s)
+  named_frame e = subst (λ y. IsNamed y (b s)) (sym (e.names ∙ add-one e.frame)) e.in_hand
+
+  named_none : is ≡ 0 → IsNamed is (b s)
+  named_none e = subst (λ y. IsNamed y (b s)) (sym e) tt
+
+  has_named : IsNamed is (b s)
+  has_named =
+      elim d.may [
+        | inl name ↦
+            elim name.names [
+              | inl none ↦ named_none none
+              | inr frame ↦ named_frame frame
+            ]
+        | inr empty ↦ named_none empty.none
+      ]
+
+  fits_type : (g : ℕ) (o : Option PageType) → FitsWord n s g (b s) o → HasType m g o
+  fits_type g (Some t) fits = ((sound.found s seat).lives g t fits.0).1
+  fits_type g None fits = tt
+
+  new_type : (g : ℕ) → is ≡ g + 1 → HasType m g (context_type k)
+  new_type g e =
+      elim d.may [
+        | inl name ↦
+            elim name.names [
+              | inl none ↦ absurd (omega arith)
+              | inr frame ↦
+                  let i = frame.names in
+                  let same : frame.frame ≡ g = omega arith in
+                  subst (λ y. HasType m y (context_type k)) same (fits_type frame.frame (context_type k) frame.fits)
+            ]
+        | inr empty ↦ let z = empty.none in absurd (omega arith)
+      ]
+
+  place_real : (v < (sizes_of n).vcpus) × (k < 38)
+  unfolding is_place
+  place_real = let real = d.wrote.real in (grind (arith, nat_tests), grind (arith, nat_tests))
+
+  kinds_same : (g : ℕ) → m2 (Kind g) ≡ m (Kind g)
+  kinds_same g = d.wrote.others (Kind g) (λ e. cc)
+
+  type_same : (g : ℕ) (o : Option PageType) → HasType m g o → HasType m2 g o
+  type_same g (Some t) e = rw (kinds_same g) e
+  type_same g None e = tt
+
+  learnt_all : Learnt moved (learned s (Vcpu v k) was is moved)
+  learnt_all = learnt s (Vcpu v k) was is moved
+
+  kept : Kept moved (c s)
+  kept = kept_noted x was moved _ (c s) d.hand learnt_all.kept
+
+  side : Beyond (b s) moved
+  side =
+      let p = out_beyond is (b s) in
+      let q = in_beyond k was (named_out is (b s)) in
+      beyond (b s) moved (q.refs ∙ p.refs) (q.works ∙ p.works) (q.locks ∙ p.locks) (q.ending ∙ p.ending) (q.claimed ∙ p.claimed) (q.raised ∙ p.raised) (q.credits ∙ p.credits) (q.cache ∙ p.cache)
+      (q.walk ∙ p.walk) (q.cold ∙ p.cold)
+
+  works_kept : EachTwo SameWork (b s).works (c s).works
+  works_kept = subst (λ y. EachTwo SameWork y (c s).works) side.works kept.works
+
+  locks_kept : EachTwo SameLock (b s).locks (c s).locks
+  locks_kept = subst (λ y. EachTwo SameLock y (c s).locks) side.locks kept.locks
+
+  claims_kept : EachTwo SameClaim (b s).claimed (c s).claimed
+  claims_kept = subst (λ y. EachTwo SameClaim y (c s).claimed) side.claimed kept.claimed
+
+  typed_moves : (g : ℕ) → typed_hand g (c s) + one_at (g + 1) is ≡ typed_hand g (b s) + one_at (g + 1) was
+  typed_moves g =
+      let p = typed_hand_is g (c s) in
+      let q = typed_hand_is g (b s) in
+      let o = named_out_typed g is (b s) has_named in
+      let i = named_in_typed g k was (named_out is (b s)) in
+      let t = ap (typed_to g) kept.typed in
+      let l = locks_times (b s) (c s) locks_kept g in
+      omega arith
+
+  held_named : (f : ℕ) → held (sizes_of n) m2 c f ≡ held (sizes_of n) m b f
+  held_named f = held_still n s m m2 b c seat others f (kinds_same f) (recorded_in-same f _ _ works_kept)
+
+  demands_named : (f i : ℕ) → entry_demand m2 f i ≡ entry_demand m f i
+  demands_named f i = cells_same n s m m2 b c seat others kinds_same (λ g j. d.wrote.others (Cell g j) (λ e. cc)) f i
+
+  words_named : (g : ℕ) → contexts (sizes_of n) m2 g + one_at (g + 1) was ≡ contexts (sizes_of n) m g + one_at (g + 1) is
+  words_named g = contexts-one (sizes_of n) m m2 g v k place_real.0 place_real.1 d.word (λ w j off. d.wrote.others (Vcpu w j) off)
+
+  types_named : TypesAgree (sizes_of n) m2 c
+  types_named =
+      record {
+        entries = λ f i g t l e. rw (kinds_same g) (sound.counts.kinds.entries f i g t (rw (held_named f) at l) (sym (demands_named f i) ∙ e));
+        contexts = λ w j g p q t e. elim (same_or_other (Vcpu w j) (Vcpu v k)) [
+          | inl at ↦
+              let i : j ≡ k = cc in
+              rw i (type_same g (context_type k) (new_type g (ap m2 (sym at) ∙ e)))
+          | inr off ↦ type_same g (context_type j) (sound.counts.kinds.contexts w j g p q t (sym (d.wrote.others (Vcpu w j) off) ∙ e))
+        ];
+        typed = each_seat n s m m2 b c seat others (λ t u. EachOf (λ e. HasType m2 e.frame e.kind) u.typed)
+            (subst (λ y. EachOf (λ e. HasType m2 e.frame e.kind) y) (sym kept.typed)
+            (EachOf-map (λ e. HasType m e.frame e.kind) _ moved.typed (λ e i. type_same e.frame e.kind i)
+            (in_types m k was (named_out is (b s)) (λ f e. sound.counts.kinds.contexts v k f place_real.0 place_real.1 d.word e) (out_types m is (b s) (sound.counts.kinds.typed s seat)))))
+            (λ t l off. EachOf-map (λ e. HasType m e.frame e.kind) _ (b t).typed (λ e i. type_same e.frame e.kind i) (sound.counts.kinds.typed t l));
+        locks = each_seat n s m m2 b c seat others (λ t u. EachOf (λ e. HasType m2 e.frame (Some e.kind)) u.locks)
+            (EachTwo-each SameLock (λ e. HasType m e.frame (Some e.kind)) _ _ _ (λ y z r i. rw (kinds_same z.frame) (ap (λ f. (kind_at m f).kind) r.frame ∙ i ∙ sym r.kind)) locks_kept (sound.counts.kinds.locks s seat))
+            (λ t l off. EachOf-map (λ e. HasType m e.frame (Some e.kind)) _ (b t).locks (λ e i. type_same e.frame (Some e.kind) i) (sound.counts.kinds.locks t l));
+      }
+
+  named_move : HandMove n s m m2 b c seat others
+  named_move =
+      record {
+        ref_words = λ g. d.wrote.others (Refs g) (λ e. cc);
+        kind_words = kinds_same;
+        page_words = λ e. d.wrote.others (Pages e) (λ e. cc);
+        map_words = λ e. d.wrote.others (Map e) (λ e. cc);
+        works = works_kept;
+        locks = locks_kept;
+        ending = kept.ending ∙ side.ending;
+        claimed = claims_kept;
+        raised = kept.raised ∙ side.raised;
+        credits = kept.credits ∙ side.credits;
+        spares = λ g t l. rw (kept.refs ∙ side.refs) l;
+        refs = λ g.
+            let e = entries-same (names g) (sizes_of n) m m2 b c held_named (λ f i l. demands_named f i) in
+            let w = words_named g in let t = typed_moves g in
+            let p = hand_is g (c s) in let q = hand_is g (b s) in let r = ap (refs_to g) (kept.refs ∙ side.refs) in
+            omega arith;
+        types = λ g.
+            let e = entries-same (names_typed g) (sizes_of n) m m2 b c held_named (λ f i l. demands_named f i) in
+            let w = words_named g in let t = typed_moves g in
+            omega arith;
+        kinds = types_named;
+      }
+
+  pub named_outcome : Outcome n m2 c
+  named_outcome =
+      let words = d.wrote.others in
+      let word = d.word in
+      let clock = words Clock (λ e. cc) in
+      let still = learnt_all.still in
+      hand_outcome n s m m2 b c seat others sound named_move
+      (wrote_spelled n s x (Vcpu v k) _ m m2 (b s) d.wrote may sound.machine sound.spelled (λ by l. absurd l) (λ v l. absurd l))
+      (stamped_by n m m2 (Vcpu v k) words (omega arith) (λ w e. let i : k ≡ 5 = cc in absurd (not_context k (inl i) word)) (λ g e. absurd (cc)) (λ g e. absurd (cc)) sound.stamped)
+      (idle_running n s m m2 b c seat others (words (Vcpu s 6) (λ e. let i : 6 ≡ k = cc in absurd (not_context k (inr (sym i)) word)) ∙ runs n s m m2 b c seat others sound (d.wrote.running refl))
+      (λ w off. words (Vcpu w 6) (λ e. let i : 6 ≡ k = cc in absurd (not_context k (inr (sym i)) word)))
+      (λ e. sym (ap (λ y. y.cold) d.hand ∙ still.cold ∙ side.cold) ∙ e) (λ t e. (ap (λ y. y.cache) d.hand ∙ still.cache ∙ side.cache) ∙ e) (λ t e. (ap (λ y. y.walk) d.hand ∙ still.walk ∙ side.walk) ∙ e)
+      sound.idle)
