@@ -4,7 +4,7 @@ use Rattle.xp_board.specs.GuestSteps.{MayStore}
 use Rattle.count_rule.proofs.EntryMarks.{work_word}
 use Rattle.count_rule.proofs.Words.{is_dying-read, dying_says}
 use Rattle.count_rule.proofs.Tables.{some_bit}
-use Rattle.count_rule.proofs.Sums.{when_eq, when_ne, hands-part}
+use Rattle.count_rule.proofs.Sums.{when_eq, when_ne}
 use Rattle.std.proofs.Common.{◌≡◌, ◌≢◌, ℕ, ◌+◌, ◌*◌, ◌/◌, ◌%◌, ◌^◌, ◌<◌, ◌==◌, ◌&&◌, Bool, false, List, [], ◌∷◌, Option, Some, None, refl, sym, ◌∙◌, ap, subst, arith, IsTrue, inl, inr}
 use Rattle.std.proofs.lemmas.Bool.{cases_Bool, cases_eq, and_parts, or_cases}
 use Rattle.std.proofs.lemmas.Bool.Decides.{nat_tests}
@@ -45,6 +45,7 @@ use Rattle.count_rule.proofs.KindSpelled.{form_was}
 use Rattle.count_rule.proofs.Recordless.{marked_none, no_table_none, unreferenced_none}
 use Rattle.count_rule.proofs.CellLaw.{cell_outcome}
 use Rattle.count_rule.proofs.Outcome.{Outcome}
+use Rattle.xp_board.proofs.Sums.{hands-part}
 
 -- ---- equal demands
 type_same : (t u : PageType) → type_number t ≡ type_number u → t ≡ u

@@ -18,7 +18,8 @@ use Rattle.xp_words.specs.Places.{Place}
 use Rattle.xp_board.specs.Readings.{kind_at}
 use Rattle.count_rule.proofs.Sums.{one_at-same, one_at-other}
 use Rattle.count_rule.proofs.Quiet.{is_closing_at}
-use Rattle.count_rule.proofs.Lists.{times_by-cons, times_by-without, EachOf-without}
+use Rattle.count_rule.proofs.Lists.{times_by-cons, times_by-without}
+use Rattle.xp_board.proofs.HandLists.{EachOf-without}
 
 -- ---- bits 5 and 6 play no part
 same_parts : (w v : ℕ) → IsTrue (is_same_entry w v) → (w / 128 ≡ v / 128) × (w % 32 ≡ v % 32)

@@ -26,7 +26,7 @@ use Rattle.xp_board.specs.Keeping.{MayAct}
 use Rattle.xp_board.specs.Sound.{is_busy, HeldAlone, Sound}
 use Rattle.xp_board.proofs.ActEffects.{Wrote, Dropped, Unlocked}
 use Rattle.count_rule.proofs.Sums.{when_eq, when_ne}
-use Rattle.count_rule.proofs.Lists.{first_by-cons_here, EachOf-without}
+use Rattle.count_rule.proofs.Lists.{first_by-cons_here}
 use Rattle.count_rule.proofs.Tables.{nobody_works, held_free, held_mine}
 use Rattle.count_rule.proofs.ListMoves.{cons_other, out_other, cons_here, out_here, recorded_cons}
 use Rattle.count_rule.proofs.KindForms.{Says, spelled_form, live_says, closing_says, held_live, held_work}
@@ -35,6 +35,7 @@ use Rattle.count_rule.proofs.KindActs.{not_busy, stamp_live, Elsewhere, beside, 
 use Rattle.count_rule.proofs.KindWorks.{works_in}
 use Rattle.count_rule.proofs.TurnActs.{held_same}
 use Rattle.count_rule.proofs.Outcome.{Outcome}
+use Rattle.xp_board.proofs.HandLists.{EachOf-without}
 
 closing_off : (k : KindWord) → has_form k ≡ true → IsTrue (is_live k) → k.number ≡ 0 → (k.pinned ≡ false) × (k.locked ≡ false) × (k.unflushed ≡ false)
 unfolding has_form

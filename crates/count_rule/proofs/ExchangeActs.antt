@@ -26,8 +26,7 @@ use Rattle.xp_board.specs.Keeping.{MayAct}
 use Rattle.xp_board.specs.Sound.{is_busy, Sound}
 use Rattle.xp_board.proofs.ActEffects.{Exchanged}
 use Rattle.xp_board.proofs.PlaceTests.{same_or_other}
-use Rattle.count_rule.proofs.Sums.{hands-part}
-use Rattle.count_rule.proofs.Lists.{first_by-counts, EachOf-found, EachOf-map}
+use Rattle.count_rule.proofs.Lists.{first_by-counts, EachOf-found}
 use Rattle.count_rule.proofs.Twins.{EachTwo, EachTwo-each, SameWork, SameLock, SameClaim, recorded_in-same}
 use Rattle.count_rule.proofs.Tables.{some_bit, held_free}
 use Rattle.count_rule.proofs.Steady.{entries-one, table_entries-changed, contexts-same}
@@ -41,6 +40,8 @@ use Rattle.count_rule.proofs.KindSpelled.{form_was}
 use Rattle.count_rule.proofs.SpelledLaw.{wrote_spelled}
 use Rattle.count_rule.proofs.Outcome.{Outcome, runs}
 use Rattle.count_rule.proofs.HandLaw.{HandMove, hand_outcome}
+use Rattle.xp_board.proofs.Sums.{hands-part}
+use Rattle.xp_board.proofs.HandLists.{EachOf-map}
 
 locked_free : (k : KindWord) → has_form k ≡ true → is_locked k ≡ true → is_busy k ≡ false
 unfolding has_form

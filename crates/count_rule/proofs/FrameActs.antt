@@ -18,7 +18,7 @@ use Rattle.xp_board.specs.Found.{ClaimFound, EndingFound}
 use Rattle.xp_board.specs.Keeping.{MayAct}
 use Rattle.xp_board.specs.Sound.{Sound}
 use Rattle.xp_board.proofs.ActEffects.{Took, Freed, Gave}
-use Rattle.count_rule.proofs.Sums.{hands-part, when_eq, when_ne, one_at-same}
+use Rattle.count_rule.proofs.Sums.{when_eq, when_ne, one_at-same}
 use Rattle.count_rule.proofs.Lists.{first_by-absent, EachOf-found, first_by-some, times_by-without_one, times_by-cons, times_by-without, times_by-cons_here, times_by-cons_other, times_by-without_other, first_by-counts}
 use Rattle.count_rule.proofs.Tables.{bit_most, some_bit}
 use Rattle.count_rule.proofs.Words.{owned_says, free_says, dying_says, is_dying-read, dying_owner}
@@ -26,6 +26,7 @@ use Rattle.count_rule.proofs.Told.{clock_told}
 use Rattle.count_rule.proofs.Outcome.{Outcome}
 use Rattle.count_rule.proofs.RefLaw.{ref_outcome}
 use Rattle.count_rule.proofs.RefActs.{inside, ref_spelled}
+use Rattle.xp_board.proofs.Sums.{hands-part}
 
 bit_one_at : (o d : ℕ) → bit (o == d) ≡ one_at d o
 bit_one_at o d =

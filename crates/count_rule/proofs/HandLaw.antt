@@ -6,12 +6,12 @@ use Rattle.xp_board.specs.declared.holdings.Holdings.{Holdings}
 use Rattle.xp_board.specs.Hands.{refs_to, endings_of, hand, typed_hand}
 use Rattle.xp_board.specs.Recorded.{names, names_typed, entries, contexts, is_page_of, TypesAgree}
 use Rattle.xp_board.specs.Sound.{Spelled, Stamped, Idle, Sound}
-use Rattle.count_rule.proofs.Sums.{sum_below-same}
 use Rattle.count_rule.proofs.Twins.{EachTwo, SameWork, SameLock, SameClaim}
 use Rattle.count_rule.proofs.CountLaw.{counts_law, pages_of}
 use Rattle.count_rule.proofs.PartLaws.{alone_law, map_law, works_law}
 use Rattle.count_rule.proofs.Quiet.{works_times, locks_times, claims_times, is_closing_at, like_works, works_spared}
 use Rattle.count_rule.proofs.Outcome.{Outcome}
+use Rattle.xp_board.proofs.Sums.{sum_below-same}
 
 module _ (n : Machine) (s : ℕ) (m m2 : Place → ℕ) (b c : ℕ → Holdings) (seat : s < (sizes_of n).vcpus) (others : (t : ℕ) → t ≢ s → c t ≡ b t) where
   pub record HandMove : Type 0 where

@@ -12,20 +12,11 @@ use Rattle.xp_board.specs.Readings.{type_count, is_live, is_partial, is_work, is
 use Rattle.xp_board.specs.Recorded.{marks, held_of}
 use Rattle.xp_board.specs.Spelling.{is_kind_in}
 use Rattle.xp_board.specs.Sound.{is_busy}
-
-pub read_form : (w : ℕ) (k : KindWord) → kind_read w ≡ Some k → has_form k ≡ true
-unfolding kind_read
-read_form w k e =
-    let p = when_some _ _ _ e in
-    let q = and_parts _ _ p.0 in
-    ap has_form (sym p.1) ∙ q.1
-
-pub read_fields : (w : ℕ) (k : KindWord) → kind_read w ≡ Some k → kind_fields w ≡ k
-unfolding kind_read
-read_fields w k e = (when_some _ _ _ e).1
+use Rattle.xp_board.proofs.KindForms.{form_read}
+use Rattle.xp_board.proofs.FrameInversions.{fields_of}
 
 form_of_read : (n : Machine) (w : ℕ) (o : Option KindWord) → kind_read w ≡ o → IsTrue (is_kind_in n o) → has_form (kind_fields w) ≡ true
-form_of_read n w (Some k) e t = ap has_form (read_fields w k e) ∙ read_form w k e
+form_of_read n w (Some k) e t = ap has_form (fields_of w k e) ∙ form_read w k e
 form_of_read n w None e t = absurd (cc)
 
 pub spelled_form : (n : Machine) (w : ℕ) → IsTrue (is_kind_in n (kind_read w)) → has_form (kind_fields w) ≡ true

@@ -11,11 +11,11 @@ use Rattle.xp_board.specs.Readings.{kind_at, ref_count, allocated_mark, type_cou
 use Rattle.xp_board.specs.Hands.{refs_to, typed_to, locks_on, works_on, hand, typed_hand}
 use Rattle.xp_board.specs.Recorded.{held, entry_demand, marks, HasType, is_page_of, recorded_in, CountsAgree}
 use Rattle.xp_board.specs.Sound.{is_busy, Spelled, HeldAlone, WorkAgrees, Sound}
-use Rattle.count_rule.proofs.Sums.{sum_below-same}
 use Rattle.count_rule.proofs.CountLaw.{pages_of, Steady, types_steady, counted_steady, counts_law}
 use Rattle.count_rule.proofs.PartLaws.{alone_law, map_law, works_law, stamped_by, idle_running}
 use Rattle.count_rule.proofs.Quiet.{hand_is, typed_hand_is, held_inside, held_still}
 use Rattle.count_rule.proofs.Outcome.{Outcome, runs}
+use Rattle.xp_board.proofs.Sums.{sum_below-same}
 
 module _ (n : Machine) (s : ℕ) (m m2 : Place → ℕ) (b c : ℕ → Holdings) (seat : s < (sizes_of n).vcpus) (others : (t : ℕ) → t ≢ s → c t ≡ b t) (f : ℕ) where
   -- what of the hand stays

@@ -18,18 +18,20 @@ use Rattle.xp_board.specs.Spelling.{IsSpelling, is_kind_in}
 use Rattle.xp_board.specs.Keeping.{MayAct}
 use Rattle.xp_board.specs.Sound.{Spelled, Sound}
 use Rattle.xp_board.proofs.ActEffects.{Wrote}
-use Rattle.count_rule.proofs.Sums.{hands-part, hands-plus}
+use Rattle.count_rule.proofs.Sums.{hands-plus}
 use Rattle.count_rule.proofs.Tables.{some_bit}
 use Rattle.count_rule.proofs.Quiet.{typed_hand_is}
-use Rattle.count_rule.proofs.KindForms.{spelled_form, read_fields}
+use Rattle.count_rule.proofs.KindForms.{spelled_form}
 use Rattle.count_rule.proofs.KindDown.{dropped_fields, unlocked_fields, read_made, read_type, dropped_form, unlocked_form}
 use Rattle.count_rule.proofs.SpelledLaw.{wrote_spelled}
+use Rattle.xp_board.proofs.Sums.{hands-part}
+use Rattle.xp_board.proofs.FrameInversions.{fields_of}
 
 limit_by : (n : Machine) (k : KindWord) → IsTrue (is_kind_in n (Some k)) → IsTrue (is_live k) → k.number ≤ n.limit
 limit_by n k t live = grind (arith, nat_tests)
 
 kind_limit : (n : Machine) (w : ℕ) (o : Option KindWord) → kind_read w ≡ o → IsTrue (is_kind_in n o) → IsTrue (is_live (kind_fields w)) → (kind_fields w).number ≤ n.limit
-kind_limit n w (Some k) e t live = let f = read_fields w k e in let l : IsTrue (is_live k) = rw f at live in rw f (limit_by n k t l)
+kind_limit n w (Some k) e t live = let f = fields_of w k e in let l : IsTrue (is_live k) = rw f at live in rw f (limit_by n k t l)
 kind_limit n w None e t live = absurd (cc)
 
 live_in : (n : Machine) (k : KindWord) → k.number ≤ n.limit → IsTrue (is_kind_in n (Some k))

@@ -3,7 +3,8 @@ use Rattle.std.proofs.Common.{◌≡◌, ◌≢◌, ℕ, ◌+◌, ◌≤◌, Lis
 use Rattle.std.proofs.lemmas.Bool.{cases_eq}
 use Rattle.xp_board.specs.Lists.{one_at, times_by, first_by, without_by, changed_by, EachOf, times, with_more, with_fewer}
 use Rattle.count_rule.proofs.Sums.{when_eq, when_ne}
-use Rattle.count_rule.proofs.Lists.{times_by-without, EachOf-map, times_by-cons_here, times_by-cons_other, times_by-without_other}
+use Rattle.count_rule.proofs.Lists.{times_by-without, times_by-cons_here, times_by-cons_other, times_by-without_other}
+use Rattle.xp_board.proofs.HandLists.{EachOf-map}
 
 -- ---- a list with the first element of a number changed
 pub first_by-changed_here : {A : Type 0} (key : A → ℕ) (f : ℕ) (change : A → A) (xs : List A) (e : A) → ((x : A) → key (change x) ≡ key x) → first_by key f xs ≡ Some e →

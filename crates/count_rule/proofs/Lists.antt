@@ -3,6 +3,7 @@ use Rattle.std.proofs.Common.{◌≡◌, ◌≢◌, ℕ, ◌+◌, ◌<◌, ◌�
 use Rattle.std.proofs.lemmas.Bool.{cases_eq}
 use Rattle.xp_board.specs.Lists.{one_at, times_by, first_by, without_by, EachOf}
 use Rattle.count_rule.proofs.Sums.{when_eq, when_ne}
+use Rattle.xp_board.proofs.HandLists.{EachOf-map}
 
 pub times_by-cons : {A : Type 0} (key : A → ℕ) (g : ℕ) (x : A) (xs : List A) → times_by key g (x ∷ xs) ≡ one_at g (key x) + times_by key g xs
 unfolding times_by
@@ -22,11 +23,6 @@ times_by-without key g f (x ∷ xs) b =
           let rest = times_by-without key g f xs inside in
           rw e (omega arith)
     ]
-
-pub EachOf-map : {A : Type 0} (P Q : A → Type 0) (xs : List A) → ((x : A) → P x → Q x) → EachOf P xs → EachOf Q xs
-unfolding EachOf
-EachOf-map P Q [] k e = tt
-EachOf-map P Q (x ∷ xs) k e = (k x e.0, EachOf-map P Q xs k e.1)
 
 pub EachOf-both : {A : Type 0} (P Q : A → Type 0) (xs : List A) → EachOf P xs → EachOf Q xs → EachOf (λ x. P x × Q x) xs
 unfolding EachOf
@@ -110,16 +106,6 @@ first_by-without_other key g f (x ∷ xs) n =
             | inl here ↦ rw (when_eq (key x) g here) refl
             | inr there ↦ rw (when_ne (key x) g there) (first_by-without_other key g f xs n)
           ])
-    ]
-
--- ---- what holds of each element
-pub EachOf-without : {A : Type 0} (P : A → Type 0) (key : A → ℕ) (f : ℕ) (xs : List A) → EachOf P xs → EachOf P (without_by key f xs)
-unfolding EachOf without_by
-EachOf-without P key f [] e = tt
-EachOf-without P key f (x ∷ xs) e =
-    elim (cases_eq (key x) f) [
-      | inl at ↦ rw (when_eq (key x) f at) e.1
-      | inr off ↦ rw (when_ne (key x) f off) (e.0, EachOf-without P key f xs e.1)
     ]
 
 -- the numbers of the elements are in the list

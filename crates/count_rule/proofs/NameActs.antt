@@ -18,7 +18,7 @@ use Rattle.xp_board.specs.Sound.{Sound}
 use Rattle.xp_board.proofs.ActEffects.{Named}
 use Rattle.xp_board.proofs.PlaceTests.{same_or_other}
 use Rattle.count_rule.proofs.Sums.{when_eq, when_ne}
-use Rattle.count_rule.proofs.Lists.{times_by-cons, times_by-without, EachOf-without, EachOf-map}
+use Rattle.count_rule.proofs.Lists.{times_by-cons, times_by-without}
 use Rattle.count_rule.proofs.Twins.{EachTwo-each, SameLock, recorded_in-same, EachTwo, SameWork, SameClaim}
 use Rattle.count_rule.proofs.Steady.{entries-same, contexts-one}
 use Rattle.count_rule.proofs.CountLaw.{each_seat}
@@ -28,6 +28,7 @@ use Rattle.count_rule.proofs.Quiet.{hand_is, typed_hand_is, held_still, locks_ti
 use Rattle.count_rule.proofs.SpelledLaw.{wrote_spelled}
 use Rattle.count_rule.proofs.Outcome.{Outcome, cells_same, runs}
 use Rattle.count_rule.proofs.HandLaw.{HandMove, hand_outcome}
+use Rattle.xp_board.proofs.HandLists.{EachOf-map, EachOf-without}
 
 -- ---- the hand
 one_named : (g f : ℕ) → one_at (g + 1) (suc f) ≡ one_at g f

@@ -22,11 +22,12 @@ use Rattle.xp_board.specs.Keeping.{MayAct}
 use Rattle.xp_board.specs.Sound.{Sound}
 use Rattle.xp_board.proofs.ActEffects.{Wrote, Stored}
 use Rattle.count_rule.proofs.ListMoves.{cons_other, out_other, cons_here, out_here, maybe_out_other, maybe_out_here}
-use Rattle.count_rule.proofs.KindForms.{read_form, closing_says, partial_says, work_says, held_partial}
+use Rattle.count_rule.proofs.KindForms.{closing_says, partial_says, work_says, held_partial}
 use Rattle.count_rule.proofs.KindActs.{stamp_of, beside}
 use Rattle.count_rule.proofs.StoreForms.{form_partial, work_alone, partial_unlive, closing_flushed, partial_number, maybe_out_types}
 use Rattle.count_rule.proofs.Outcome.{Outcome}
 use Rattle.count_rule.proofs.StoreActs.{form_before, forms, stamp_was, out_outcome, type_is}
+use Rattle.xp_board.proofs.KindForms.{form_read}
 
 module _ (n : Machine) (s : ℕ) (x : Step) (m m2 : Place → ℕ) (b c : ℕ → Holdings) (seat : s < (sizes_of n).vcpus) (others : (t : ℕ) → t ≢ s → c t ≡ b t) (may : MayAct n s x (b s)) (sound : Sound n m b) (f : ℕ) where
   -- ---- partial
@@ -68,7 +69,7 @@ module _ (n : Machine) (s : ℕ) (x : Step) (m m2 : Place → ℕ) (b c : ℕ �
       let l = d.l in
       let owner = kept_owner f e (b s) in
       let partial = form_partial l d.form_is in
-      let form = read_form _ l d.is in
+      let form = form_read _ l d.is in
       let before = form_before n s x m m2 b c seat others may sound f d.wrote e d.here l d.fields_is d.may.kind in
       let tells = partial_says l form partial in
       let table : held_of l None ≡ (if is_table (kind_fields e.word).kind then e.recorded else 0) =

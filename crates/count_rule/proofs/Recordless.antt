@@ -17,23 +17,18 @@ use Rattle.xp_board.specs.Readings.{kind_at, ref_count, type_count, is_live, is_
 use Rattle.xp_board.specs.Hands.{refs_to, works_on, work_on, hand, typed_hand}
 use Rattle.xp_board.specs.Recorded.{held, held_of, names, names_typed, table_entries, entries, hands}
 use Rattle.xp_board.specs.Sound.{is_busy, HeldAlone, WorkAgrees, Sound}
-use Rattle.count_rule.proofs.Sums.{hands-part}
 use Rattle.count_rule.proofs.Lists.{first_by-some, EachOf-found}
 use Rattle.count_rule.proofs.Tables.{held_free, held_mine}
 use Rattle.count_rule.proofs.Quiet.{hand_is}
 use Rattle.count_rule.proofs.EntryMarks.{work_word}
 use Rattle.count_rule.proofs.KindForms.{held_partial, held_dead, held_work}
 use Rattle.count_rule.proofs.StoreForms.{busy_forms}
+use Rattle.xp_board.proofs.Sums.{hands-part, sum_below-fewer, sum_below-some}
 
 -- ---- some seat has what is counted
 some_by : (n : ℕ) (p : ℕ → ℕ) → (0 < sum_below n p → (k : ℕ) × (k < n) × (0 < p k)) → (x : ℕ) → p n ≡ x → 0 < sum_below n p + p n → (k : ℕ) × (k < suc n) × (0 < p k)
 some_by n p rest zero e b = let r = rest (omega arith) in (r.0, let l = r.1 in omega arith, r.2)
 some_by n p rest (suc x) e b = (n, omega arith, omega arith)
-
-sum_below-some : (n : ℕ) (p : ℕ → ℕ) → 0 < sum_below n p → (k : ℕ) × (k < n) × (0 < p k)
-unfolding sum_below
-sum_below-some zero p b = absurd (omega arith)
-sum_below-some (suc n) p b = some_by n p (sum_below-some n p) (p n) refl b
 
 pub hands-some : (c : Holdings → ℕ) (n : Machine) (h : ℕ → Holdings) → 0 < hands c (sizes_of n) h → (s : ℕ) × (s < (sizes_of n).vcpus) × (0 < c (h s))
 unfolding hands
@@ -73,11 +68,6 @@ free_forms k free =
 -- ---- a marked frame
 not_free : (k : KindWord) → IsTrue (is_live k) → k.number ≡ 0 → is_busy k ≡ false → ⊥
 not_free k live none free = grind (arith, nat_tests)
-
-sum_below-fewer : (n : ℕ) (p q : ℕ → ℕ) → ((k : ℕ) → p k ≤ q k) → sum_below n p ≤ sum_below n q
-unfolding sum_below
-sum_below-fewer zero p q e = omega arith
-sum_below-fewer (suc n) p q e = let here = e n in let rest = sum_below-fewer n p q e in omega arith
 
 hands-fewer : (c d : Holdings → ℕ) (n : Machine) (h : ℕ → Holdings) → ((u : Holdings) → c u ≤ d u) → hands c (sizes_of n) h ≤ hands d (sizes_of n) h
 unfolding hands

@@ -10,12 +10,12 @@ use Rattle.xp_board.specs.Readings.{kind_at, ref_count, allocated_mark, is_dying
 use Rattle.xp_board.specs.Hands.{refs_to, typed_to, locks_on, works_on, endings_of, claims_of, hand, typed_hand}
 use Rattle.xp_board.specs.Recorded.{marks, is_page_of, CountsAgree}
 use Rattle.xp_board.specs.Sound.{Spelled, HeldAlone, FreeMap, Sound}
-use Rattle.count_rule.proofs.Sums.{sum_below-one}
 use Rattle.count_rule.proofs.Learning.{works_kept}
 use Rattle.count_rule.proofs.CountLaw.{pages_of, Steady, types_steady, counted_steady, counts_law}
 use Rattle.count_rule.proofs.PartLaws.{alone_law, map_law, works_law, stamped_by, idle_running}
 use Rattle.count_rule.proofs.Quiet.{hand_is, typed_hand_is, held_inside, held_still, is_closing_at, like_works, works_spared}
 use Rattle.count_rule.proofs.Outcome.{Outcome, cells_same, runs}
+use Rattle.xp_board.proofs.Sums.{sum_below-one}
 
 module _ (n : Machine) (s : ℕ) (m m2 : Place → ℕ) (b c : ℕ → Holdings) (seat : s < (sizes_of n).vcpus) (others : (t : ℕ) → t ≢ s → c t ≡ b t) (f : ℕ) where
   -- how the word of frame f moves, and what the hand has of references, endings, claims, raised frames and credits

@@ -20,11 +20,11 @@ use Rattle.xp_board.specs.Keeping.{MayAct}
 use Rattle.xp_board.specs.Sound.{is_busy, WorkAgrees, Sound}
 use Rattle.xp_board.proofs.ActEffects.{Wrote, Stored}
 use Rattle.count_rule.proofs.Sums.{when_eq, when_ne}
-use Rattle.count_rule.proofs.Lists.{first_by-counts, EachOf-without}
+use Rattle.count_rule.proofs.Lists.{first_by-counts}
 use Rattle.count_rule.proofs.ListChanges.{first_by-changed_here, times_by-changed, EachOf-changed}
 use Rattle.count_rule.proofs.Tables.{one_works, is_busy-mine, held_free, held_mine}
 use Rattle.count_rule.proofs.ListMoves.{cons_other, out_other, swap_other, cons_here, out_here, swap_here, recorded_out, recorded_changed}
-use Rattle.count_rule.proofs.KindForms.{Says, read_form, live_says, closing_says, work_says, dead_says, held_live, held_dead, held_work}
+use Rattle.count_rule.proofs.KindForms.{Says, live_says, closing_says, work_says, dead_says, held_live, held_dead, held_work}
 use Rattle.count_rule.proofs.KindSpelled.{form_was}
 use Rattle.count_rule.proofs.KindActs.{not_busy, stamp_live, stamp_of, Beside, beside, rest_by, turn_outcome, keeps_kind}
 use Rattle.count_rule.proofs.KindWorks.{works_out}
@@ -33,6 +33,8 @@ use Rattle.count_rule.proofs.StoreForms.{form_live, form_work, form_dead, busy_f
 use Rattle.count_rule.proofs.Told.{clock_told}
 use Rattle.count_rule.proofs.EntryMarks.{work_word}
 use Rattle.count_rule.proofs.Outcome.{Outcome}
+use Rattle.xp_board.proofs.HandLists.{EachOf-without}
+use Rattle.xp_board.proofs.KindForms.{form_read}
 
 flat_says : (k : KindWord) (count mark lock : ℕ) → mark ≡ 0 → lock ≡ 0 → Says k count mark 0 lock → Says k count 0 0 0
 flat_says k count mark lock p q says = record { counts = says.counts; mark_is = says.mark_is ∙ p; busy_is = says.busy_is; lock_is = says.lock_is ∙ q }
@@ -103,7 +105,7 @@ module _ (n : Machine) (s : ℕ) (x : Step) (m m2 : Place → ℕ) (b c : ℕ �
       let e = d.e in
       let l = d.l in
       let live = form_live l d.form_is in
-      let form = read_form _ l d.is in
+      let form = form_read _ l d.is in
       let says = work_says (kind_fields e.word) (form_before d.wrote e d.here l d.fields_is d.may.kind) d.may.work in
       let pin = ap bit d.may.unpinned in
       let lock = ap bit d.may.unlocked in
@@ -148,7 +150,7 @@ module _ (n : Machine) (s : ℕ) (x : Step) (m m2 : Place → ℕ) (b c : ℕ �
       let e = d.e in
       let l = d.l in
       let dead = form_dead l d.form_is in
-      let form = read_form _ l d.is in
+      let form = form_read _ l d.is in
       let before = form_before d.wrote e d.here l d.fields_is d.may.kind in
       let tells = dead_says l form dead in
       let told = clock_told (sizes_of n) (m Clock) e.since l.number (b s).steps (sound.found s seat).clock d.may.stamp in
@@ -182,7 +184,7 @@ module _ (n : Machine) (s : ℕ) (x : Step) (m m2 : Place → ℕ) (b c : ℕ �
       let left = d.may.left in
       let kind : l.kind ≡ (kind_fields e.word).kind = ap (λ (y : KindWord). y.kind) left in
       let work = form_work l d.form_is in
-      let form = read_form _ l d.is in
+      let form = form_read _ l d.is in
       let before = form_before d.wrote e d.here l d.fields_is kind in
       let was_is = was d.wrote e d.here l d.fields_is kind in
       let says = work_says (kind_fields e.word) before d.may.work in

@@ -12,7 +12,7 @@ use Rattle.xp_board.specs.Hands.{without_typed}
 use Rattle.xp_board.specs.Recorded.{HasType}
 use Rattle.xp_board.specs.KindSteps.{Form, Live, Partial, InWork, Dead, form_of}
 use Rattle.xp_board.specs.Sound.{is_busy}
-use Rattle.count_rule.proofs.Lists.{EachOf-without}
+use Rattle.xp_board.proofs.HandLists.{EachOf-without}
 
 abbrev form_by : Bool → Bool → Bool → Form
 form_by v p k = if v then Live else if p then Partial else if k then InWork else Dead

@@ -7,6 +7,7 @@ use Rattle.xp_board.specs.declared.holdings.Holdings.{Holdings}
 use Rattle.xp_board.specs.Sums.{sum_below}
 use Rattle.xp_board.specs.Lists.{one_at}
 use Rattle.xp_board.specs.Recorded.{hands}
+use Rattle.xp_board.proofs.Sums.{sum_below-one}
 
 pub when_eq : (x y : ℕ) → x ≡ y → (x == y) ≡ true
 when_eq x y e = grind (arith, nat_tests)
@@ -19,63 +20,6 @@ one_at-same g = rw (when_eq g g refl)
 
 pub one_at-other : (g f : ℕ) → g ≢ f → one_at g f ≡ 0
 one_at-other g f n = rw (when_ne f g (λ e. n (sym e)))
-
-pub sum_below-same : (n : ℕ) (p q : ℕ → ℕ) → ((k : ℕ) → k < n → p k ≡ q k) → sum_below n p ≡ sum_below n q
-unfolding sum_below
-sum_below-same zero p q e = refl
-sum_below-same (suc n) p q e =
-    let here : p n ≡ q n = e n (omega arith) in
-    let rest = sum_below-same n p q (λ k b. e k (omega arith)) in
-    omega arith
-
--- a sum changes by what changes at one number
-pub sum_below-one : (n : ℕ) (p q : ℕ → ℕ) (j : ℕ) → j < n → ((k : ℕ) → k ≢ j → p k ≡ q k) → sum_below n p + q j ≡ sum_below n q + p j
-unfolding sum_below
-sum_below-one zero p q j b e = absurd (omega arith)
-sum_below-one (suc n) p q j b e =
-    elim (cases_eq j n) [
-      | inl at ↦
-          let same = sum_below-same n p q (λ k l. e k (λ i. absurd (omega arith))) in
-          let pj = ap p at in
-          let qj = ap q at in
-          omega arith
-      | inr off ↦
-          let here : p n ≡ q n = e n (λ i. off (sym i)) in
-          let rest = sum_below-one n p q j (omega arith) e in
-          omega arith
-    ]
-
--- each part is at most the sum
-pub sum_below-part : (n : ℕ) (p : ℕ → ℕ) (j : ℕ) → j < n → p j ≤ sum_below n p
-unfolding sum_below
-sum_below-part zero p j b = absurd (omega arith)
-sum_below-part (suc n) p j b =
-    elim (cases_eq j n) [
-      | inl at ↦ let e = ap p at in omega arith
-      | inr off ↦ let rest = sum_below-part n p j (let k : j ≢ n = off in omega arith) in omega arith
-    ]
-
--- two parts are at most the sum
-pub sum_below-two : (n : ℕ) (p : ℕ → ℕ) (j k : ℕ) → j < n → k < n → j ≢ k → p j + p k ≤ sum_below n p
-unfolding sum_below
-sum_below-two zero p j k a b off = absurd (omega arith)
-sum_below-two (suc n) p j k a b off =
-    elim (cases_eq j n) [
-      | inl at ↦
-          let e = ap p at in
-          let rest = sum_below-part n p k (let o : k ≢ n = λ i. off (at ∙ sym i) in omega arith) in
-          omega arith
-      | inr away ↦
-          elim (cases_eq k n) [
-            | inl at ↦
-                let e = ap p at in
-                let rest = sum_below-part n p j (let o : j ≢ n = away in omega arith) in
-                omega arith
-            | inr far ↦
-                let rest = sum_below-two n p j k (let o : j ≢ n = away in omega arith) (let o : k ≢ n = far in omega arith) off in
-                omega arith
-          ]
-    ]
 
 pub sum_below-plus : (n : ℕ) (p q r : ℕ → ℕ) → ((k : ℕ) → k < n → r k ≡ p k + q k) → sum_below n r ≡ sum_below n p + sum_below n q
 unfolding sum_below
@@ -116,14 +60,6 @@ hands-one c z h h2 s b e = sum_below-one z.vcpus (λ t. c (h2 t)) (λ t. c (h t)
 pub hands-same : (c : Holdings → ℕ) (z : Sizes) (h h2 : ℕ → Holdings) (s : ℕ) → s < z.vcpus → ((t : ℕ) → t ≢ s → h2 t ≡ h t) →
     c (h2 s) ≡ c (h s) → hands c z h2 ≡ hands c z h
 hands-same c z h h2 s b e k = let one = hands-one c z h h2 s b e in omega arith
-
-pub hands-part : (c : Holdings → ℕ) (z : Sizes) (h : ℕ → Holdings) (s : ℕ) → s < z.vcpus → c (h s) ≤ hands c z h
-unfolding hands
-hands-part c z h s b = sum_below-part z.vcpus (λ t. c (h t)) s b
-
-pub hands-two : (c : Holdings → ℕ) (z : Sizes) (h : ℕ → Holdings) (s t : ℕ) → s < z.vcpus → t < z.vcpus → s ≢ t → c (h s) + c (h t) ≤ hands c z h
-unfolding hands
-hands-two c z h s t a b off = sum_below-two z.vcpus (λ t. c (h t)) s t a b off
 
 pub hands-plus : (c d e : Holdings → ℕ) (z : Sizes) (h : ℕ → Holdings) → ((u : Holdings) → e u ≡ c u + d u) → hands e z h ≡ hands c z h + hands d z h
 unfolding hands

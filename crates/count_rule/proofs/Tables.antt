@@ -10,8 +10,8 @@ use Rattle.xp_board.specs.Readings.{kind_at}
 use Rattle.xp_board.specs.Hands.{works_on, work_on}
 use Rattle.xp_board.specs.Recorded.{recorded_in, work_of, held, held_of}
 use Rattle.xp_board.specs.Sound.{is_busy, HeldAlone}
-use Rattle.count_rule.proofs.Sums.{hands-part, hands-two}
 use Rattle.count_rule.proofs.Lists.{first_by-none, first_by-counts}
+use Rattle.xp_board.proofs.Sums.{hands-part, hands-two}
 
 pub recorded_in-none : (f : ℕ) (xs : List Work) → works_on f xs ≡ 0 → recorded_in xs f ≡ None
 unfolding recorded_in

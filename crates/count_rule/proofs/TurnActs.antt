@@ -16,11 +16,12 @@ use Rattle.xp_board.specs.After.{noted}
 use Rattle.xp_board.specs.Keeping.{MayAct}
 use Rattle.xp_board.specs.Sound.{Sound}
 use Rattle.xp_board.proofs.ActEffects.{Turned}
-use Rattle.count_rule.proofs.Lists.{EachOf-without}
 use Rattle.count_rule.proofs.ListMoves.{cons_other, out_other, cons_here, out_here}
-use Rattle.count_rule.proofs.KindForms.{Says, read_form, live_says, partial_says}
+use Rattle.count_rule.proofs.KindForms.{Says, live_says, partial_says}
 use Rattle.count_rule.proofs.KindActs.{stamp_live, beside, free_outcome, keeps_kind}
 use Rattle.count_rule.proofs.Outcome.{Outcome}
+use Rattle.xp_board.proofs.HandLists.{EachOf-without}
+use Rattle.xp_board.proofs.KindForms.{form_read}
 
 pub left_says : (l r : KindWord) (c m b k : ℕ) → l ≡ r → Says r c m b k → Says l c m b k
 left_says l r c m b k e says = subst (λ y. Says y c m b k) (sym e) says
@@ -54,8 +55,8 @@ module _ (n : Machine) (s : ℕ) (x : Step) (m m2 : Place → ℕ) (b c : ℕ �
       let l = d.l in
       let u = turned_hand Count k l in
       let left = d.may.left in
-      let was = live_says k (read_form _ k d.was) d.may.live d.may.counted in
-      let is = live_says (raised_kind k) (ap has_form (sym left) ∙ read_form _ l d.is) d.may.live (omega arith) in
+      let was = live_says k (form_read _ k d.was) d.may.live d.may.counted in
+      let is = live_says (raised_kind k) (ap has_form (sym left) ∙ form_read _ l d.is) d.may.live (omega arith) in
       let out = out_here (λ y. y.frame) f (b s).refs u.refs refl d.may.in_hand in
       let in_ = cons_here (λ y. y.frame) f (b s).typed u.typed _ refl refl in
       let kind : l.kind ≡ k.kind = ap (λ (y : KindWord). y.kind) left in
@@ -79,8 +80,8 @@ module _ (n : Machine) (s : ℕ) (x : Step) (m m2 : Place → ℕ) (b c : ℕ �
       let l = d.l in
       let u = turned_hand Locks k l in
       let left = d.may.left in
-      let was = live_says k (read_form _ k d.was) d.may.live d.may.counted in
-      let is = live_says (locked_kind k) (ap has_form (sym left) ∙ read_form _ l d.is) d.may.live (omega arith) in
+      let was = live_says k (form_read _ k d.was) d.may.live d.may.counted in
+      let is = live_says (locked_kind k) (ap has_form (sym left) ∙ form_read _ l d.is) d.may.live (omega arith) in
       let out = out_here (λ y. y.frame) f (b s).refs u.refs refl d.may.in_hand in
       let in_ = cons_here (λ y. y.frame) f (b s).locks u.locks _ refl refl in
       let kind : l.kind ≡ k.kind = ap (λ (y : KindWord). y.kind) left in
@@ -105,8 +106,8 @@ module _ (n : Machine) (s : ℕ) (x : Step) (m m2 : Place → ℕ) (b c : ℕ �
       let u = turned_hand Pin k l in
       let left = d.may.left in
       let r = record k { pinned = true } in
-      let was = live_says k (read_form _ k d.was) d.may.live d.may.counted in
-      let is = live_says (record k { pinned = true }) (ap has_form (sym left) ∙ read_form _ l d.is) d.may.live d.may.counted in
+      let was = live_says k (form_read _ k d.was) d.may.live d.may.counted in
+      let is = live_says (record k { pinned = true }) (ap has_form (sym left) ∙ form_read _ l d.is) d.may.live d.may.counted in
       let out = out_here (λ y. y.frame) f (b s).typed u.typed refl d.may.in_hand in
       let kind : l.kind ≡ k.kind = ap (λ (y : KindWord). y.kind) left in
       let off = ap bit d.may.unpinned in
@@ -130,9 +131,9 @@ module _ (n : Machine) (s : ℕ) (x : Step) (m m2 : Place → ℕ) (b c : ℕ �
       let l = d.l in
       let u = turned_hand Unpin k l in
       let left = d.may.left in
-      let some = pinned_some k (read_form _ k d.was) d.may.live d.may.pinned in
-      let was = live_says k (read_form _ k d.was) d.may.live some in
-      let is = live_says (record k { pinned = false }) (ap has_form (sym left) ∙ read_form _ l d.is) d.may.live some in
+      let some = pinned_some k (form_read _ k d.was) d.may.live d.may.pinned in
+      let was = live_says k (form_read _ k d.was) d.may.live some in
+      let is = live_says (record k { pinned = false }) (ap has_form (sym left) ∙ form_read _ l d.is) d.may.live some in
       let in_ = cons_here (λ y. y.frame) f (b s).typed u.typed _ refl refl in
       let kind : l.kind ≡ k.kind = ap (λ (y : KindWord). y.kind) left in
       let on = ap bit d.may.pinned in
@@ -156,8 +157,8 @@ module _ (n : Machine) (s : ℕ) (x : Step) (m m2 : Place → ℕ) (b c : ℕ �
       let l = d.l in
       let u = turned_hand TakeBack k l in
       let left = d.may.left in
-      let was = partial_says k (read_form _ k d.was) d.may.partial in
-      let is = partial_says (record k { kept = false }) (ap has_form (sym left) ∙ read_form _ l d.is) d.may.partial in
+      let was = partial_says k (form_read _ k d.was) d.may.partial in
+      let is = partial_says (record k { kept = false }) (ap has_form (sym left) ∙ form_read _ l d.is) d.may.partial in
       let in_ = cons_here (λ y. y.frame) f (b s).typed u.typed _ refl refl in
       let kind : l.kind ≡ k.kind = ap (λ (y : KindWord). y.kind) left in
       let on = ap bit d.may.kept in

@@ -22,11 +22,12 @@ use Rattle.xp_board.proofs.ActEffects.{Turned}
 use Rattle.count_rule.proofs.Lists.{first_by-cons_here}
 use Rattle.count_rule.proofs.Tables.{nobody_works, held_free, held_mine}
 use Rattle.count_rule.proofs.ListMoves.{cons_other, out_other, cons_here, out_here, maybe_other, maybe_here, recorded_cons}
-use Rattle.count_rule.proofs.KindForms.{read_form, partial_says, work_says, dead_says, held_partial, held_dead, held_work}
+use Rattle.count_rule.proofs.KindForms.{partial_says, work_says, dead_says, held_partial, held_dead, held_work}
 use Rattle.count_rule.proofs.KindActs.{not_busy, stamp_number, stamp_of, beside, rest_by, turn_outcome, keeps_kind}
 use Rattle.count_rule.proofs.KindWorks.{works_in}
 use Rattle.count_rule.proofs.TurnActs.{turned_hand, left_says, stamp_kept}
 use Rattle.count_rule.proofs.Outcome.{Outcome}
+use Rattle.xp_board.proofs.KindForms.{form_read}
 
 marked_none : (k : KindWord) → has_form k ≡ true → IsTrue (is_partial k) → k.unflushed ≡ true → k.progress ≡ 0
 unfolding has_form
@@ -87,9 +88,9 @@ module _ (n : Machine) (s : ℕ) (x : Step) (m m2 : Place → ℕ) (b c : ℕ �
       let l = d.l in
       let u = turned_hand n s x m m2 b c seat others may sound f Resume k l in
       let left = d.may.left in
-      let form = read_form _ k d.was in
+      let form = form_read _ k d.was in
       let was = partial_says k form d.may.partial in
-      let is = work_says (resumed_kind k) (ap has_form (sym left) ∙ read_form _ l d.is) (resumed_work k d.may.partial) in
+      let is = work_says (resumed_kind k) (ap has_form (sym left) ∙ form_read _ l d.is) (resumed_work k d.may.partial) in
       let work : IsTrue (is_work l) = subst (λ y. IsTrue (is_work y)) (sym left) (resumed_work k d.may.partial) in
       let free = not_busy (is_busy k) was.busy_is in
       let kind : l.kind ≡ k.kind = ap (λ (y : KindWord). y.kind) left in
@@ -121,8 +122,8 @@ module _ (n : Machine) (s : ℕ) (x : Step) (m m2 : Place → ℕ) (b c : ℕ �
       let l = d.l in
       let u = turned_hand n s x m m2 b c seat others may sound f Begin k l in
       let left = d.may.left in
-      let was = dead_says k (read_form _ k d.was) d.may.dead in
-      let is = work_says (begun_kind k l.kind) (ap has_form (sym left) ∙ read_form _ l d.is) refl in
+      let was = dead_says k (form_read _ k d.was) d.may.dead in
+      let is = work_says (begun_kind k l.kind) (ap has_form (sym left) ∙ form_read _ l d.is) refl in
       let work : IsTrue (is_work l) = subst (λ y. IsTrue (is_work y)) (sym left) refl in
       let free = not_busy (is_busy k) was.busy_is in
       let now : (c s).works ≡ u.works = ap (λ y. y.works) d.hand in

@@ -19,7 +19,7 @@ use Rattle.xp_board.specs.Hands.{works_on, work_on, hand, typed_hand}
 use Rattle.xp_board.specs.Recorded.{CountsAgree, hands, held, held_of, entry_demand, recorded_in, recorded_number, or_else, work_of, names, names_typed, table_entries, entries, contexts}
 use Rattle.xp_board.specs.Sound.{Sound, HeldAlone, is_busy, Spelled}
 use Rattle.type_rule.proofs.Works.{none_on}
-use Rattle.xp_board.proofs.Sums.{hands-part, sum_below-part}
+use Rattle.xp_board.proofs.Sums.{hands-part, sum_below-part, sum_below-fewer, sum_below-some}
 
 -- ---- over all seats
 pub work_of-same : (n : ℕ) (h h2 : ℕ → Holdings) (f : ℕ) → ((t : ℕ) → t < n → recorded_in (h2 t).works f ≡ recorded_in (h t).works f) →
@@ -68,27 +68,11 @@ nobody_works n m h f alone idle t b =
     let z = zero_bit _ idle in
     omega arith)
 
--- ---- a sum that is not 0 has a part that is not
-sum_some : (n : ℕ) (p : ℕ → ℕ) → 0 < sum_below n p → (j : ℕ) × (j < n) × (0 < p j)
-unfolding sum_below
-sum_some zero p h = absurd (omega arith)
-sum_some (suc n) p h =
-    elim (cases_eq (p n) 0) [
-      | inl none ↦ (let r = sum_some n p (omega arith) in let l = r.1 in (r.0, omega arith, r.2))
-      | inr some ↦ (n, omega arith, (let k : p n ≢ 0 = some in omega arith))
-    ]
-
 pub someone_works : (n : Machine) (m : Place → ℕ) (h : ℕ → Holdings) (f : ℕ) → HeldAlone n m h → is_busy (kind_at m f) ≡ true →
     (t : ℕ) × (t < (sizes_of n).vcpus) × (0 < works_on f (h t).works)
 unfolding hands
 someone_works n m h f alone busy =
-    sum_some (sizes_of n).vcpus (λ t. works_on f (h t).works) (let all = alone.works f in let k : bit (is_busy (kind_at m f)) ≡ 1 = rw busy refl in omega arith)
-
--- ---- entries
-sum_le : (n : ℕ) (p q : ℕ → ℕ) → ((k : ℕ) → p k ≤ q k) → sum_below n p ≤ sum_below n q
-unfolding sum_below
-sum_le zero p q e = omega arith
-sum_le (suc n) p q e = let r = sum_le n p q e in let l = e n in omega arith
+    sum_below-some (sizes_of n).vcpus (λ t. works_on f (h t).works) (let all = alone.works f in let k : bit (is_busy (kind_at m f)) ≡ 1 = rw busy refl in omega arith)
 
 one_named : (g : ℕ) (d : Demand) → names_typed g d ≤ names g d
 unfolding names names_typed
@@ -100,7 +84,7 @@ one_named g (Typed f t) = omega arith
 typed_entries : (z : Sizes) (m : Place → ℕ) (h : ℕ → Holdings) (g : ℕ) → entries (names_typed g) z m h ≤ entries (names g) z m h
 unfolding entries table_entries
 typed_entries z m h g =
-    sum_le z.frames _ _ (λ f. sum_le (held_of (kind_at m f) (work_of z.vcpus h f)) _ _ (λ i. one_named g (entry_demand m f i)))
+    sum_below-fewer z.frames _ _ (λ f. sum_below-fewer (held_of (kind_at m f) (work_of z.vcpus h f)) _ _ (λ i. one_named g (entry_demand m f i)))
 
 typed_part : (g : ℕ) (u : Holdings) → typed_hand g u ≤ hand g u
 unfolding hand
@@ -108,7 +92,7 @@ typed_part g u = omega arith
 
 hands_le : (c d : Holdings → ℕ) (z : Sizes) (h : ℕ → Holdings) → ((u : Holdings) → c u ≤ d u) → hands c z h ≤ hands d z h
 unfolding hands
-hands_le c d z h e = sum_le z.vcpus (λ s. c (h s)) (λ s. d (h s)) (λ s. e (h s))
+hands_le c d z h e = sum_below-fewer z.vcpus (λ s. c (h s)) (λ s. d (h s)) (λ s. e (h s))
 
 -- no frame has more typed references than references
 pub type_below : (z : Sizes) (m : Place → ℕ) (h : ℕ → Holdings) (g : ℕ) → CountsAgree z m h → type_count (kind_at m g) ≤ ref_count (m (Refs g))

@@ -72,3 +72,19 @@ hands-part c z h s b = sum_below-part z.vcpus (λ t. c (h t)) s b
 pub hands-two : (c : Holdings → ℕ) (z : Sizes) (h : ℕ → Holdings) (s t : ℕ) → s < z.vcpus → t < z.vcpus → s ≢ t → c (h s) + c (h t) ≤ hands c z h
 unfolding hands
 hands-two c z h s t a b off = sum_below-two z.vcpus (λ u. c (h u)) s t a b off
+
+-- a sum that is not 0 has a part that is not
+pub sum_below-some : (n : ℕ) (p : ℕ → ℕ) → 0 < sum_below n p → (j : ℕ) × (j < n) × (0 < p j)
+unfolding sum_below
+sum_below-some zero p h = absurd (omega arith)
+sum_below-some (suc n) p h =
+    elim (cases_eq (p n) 0) [
+      | inl none ↦ let r = sum_below-some n p (omega arith) in let l = r.1 in (r.0, omega arith, r.2)
+      | inr some ↦ (n, omega arith, (let k : p n ≢ 0 = some in omega arith))
+    ]
+
+-- a sum of no more
+pub sum_below-fewer : (n : ℕ) (p q : ℕ → ℕ) → ((k : ℕ) → p k ≤ q k) → sum_below n p ≤ sum_below n q
+unfolding sum_below
+sum_below-fewer zero p q e = omega arith
+sum_below-fewer (suc n) p q e = let r = sum_below-fewer n p q e in let l = e n in omega arith
