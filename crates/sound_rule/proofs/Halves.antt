@@ -13,7 +13,7 @@ use Rattle.xp_board.specs.declared.holdings.Holdings.{Holdings}
 use Rattle.xp_board.specs.Hands.{work_on}
 use Rattle.xp_board.specs.Settling.{demand_in, demand_out}
 use Rattle.xp_board.specs.Marks.{after_mark, recorded, shed, demand_seen}
-use Rattle.xp_board.specs.Legal.{LegalAs, LegalNow, needs_running}
+use Rattle.xp_board.specs.Legal.{Legal, LegalAs, needs_running}
 use Rattle.xp_board.specs.Runs.{place_of, Stepped}
 use Rattle.xp_board.specs.Keeping.{MayMark, Marked, MayAct, Acted}
 
@@ -67,17 +67,16 @@ module _ (n : Machine) (s : ℕ) (x : Step) (h : ℕ → Holdings) where
   unfolding between
   marked = record { mine = mine; others = λ t off. away_by s t (after_mark n x.mark (h s)) (h t) off }
 
-  pub may_mark : LegalNow n s (h s) x → MayMark n x (h s)
-  may_mark legal = record { legal = legal.legal.marked; proved = legal.mark }
+  pub may_mark : Legal n s (h s) x → MayMark n x (h s)
+  may_mark legal = record { legal = legal.marked }
 
-  pub may_act : LegalNow n s (h s) x → MayAct n s x (between s)
+  pub may_act : Legal n s (h s) x → MayAct n s x (between s)
   may_act legal =
       record {
-        place = legal.legal.place;
-        running = λ needs. ap (λ u. u.run) mine ∙ mark_run n x.mark (h s) ∙ legal.legal.running needs;
-        spelling = legal.legal.spelling;
-        act = rw mine legal.legal.act;
-        proved = legal.kind;
+        place = legal.place;
+        running = λ needs. ap (λ u. u.run) mine ∙ mark_run n x.mark (h s) ∙ legal.running needs;
+        spelling = legal.spelling;
+        act = rw mine legal.act;
       }
 
   pub acted : (m m2 : Place → ℕ) (h2 : ℕ → Holdings) → Stepped n s x m m2 h h2 → Acted n s x m m2 between h2

@@ -7,9 +7,9 @@ use Rattle.xp_words.specs.Places.{Sizes, Place, Priv, sizes_of, place_at, is_pla
 use Rattle.xp_words.proofs.PlaceLaws.{memory_same, memory_other, place_there}
 use Rattle.xp_board.specs.declared.step.Step.{Step}
 use Rattle.xp_board.specs.declared.holdings.Holdings.{Holdings}
-use Rattle.xp_board.specs.Legal.{LegalNow}
+use Rattle.xp_board.specs.Legal.{Legal}
 use Rattle.xp_board.specs.Hands.{empty}
-use Rattle.xp_board.specs.Runs.{State, Stepped, RunNow, next, place_of, word_at}
+use Rattle.xp_board.specs.Runs.{State, Stepped, Run, next, place_of, word_at}
 use Rattle.xp_board.specs.Sound.{Sound, SoundState, seat_of}
 use Rattle.xp_board.specs.Acts.{left_by}
 use Rattle.xp_board.specs.After.{after}
@@ -51,7 +51,7 @@ seated_elsewhere seats s t u h = get_or-set_other seats s t u empty h
 -- what the law of one step says
 abbrev pub StepsKeep : Type 0
 StepsKeep =
-    (n : Machine) (s : ℕ) (x : Step) (m m2 : Place → ℕ) (h h2 : ℕ → Holdings) → s < (sizes_of n).vcpus → LegalNow n s (h s) x →
+    (n : Machine) (s : ℕ) (x : Step) (m m2 : Place → ℕ) (h h2 : ℕ → Holdings) → s < (sizes_of n).vcpus → Legal n s (h s) x →
     Stepped n s x m m2 h h2 → Sound n m h → Sound n m2 h2
 
 module _ (n : Machine) (a : State) (s : ℕ) (x : Step) (real : s < (sizes_of n).vcpus) (there : IsTrue (is_place (sizes_of n) (place_of n x)))
@@ -67,7 +67,7 @@ module _ (n : Machine) (a : State) (s : ℕ) (x : Step) (real : s < (sizes_of n)
         others = λ t other. seated_elsewhere a.seats s t (after n s (seat_of a.seats s) x (word_at n a (place_of n x))) other;
       }
 
-next_sound : StepsKeep → (n : Machine) (a : State) (s : ℕ) (x : Step) → s < (sizes_of n).vcpus → LegalNow n s (seat_of a.seats s) x →
+next_sound : StepsKeep → (n : Machine) (a : State) (s : ℕ) (x : Step) → s < (sizes_of n).vcpus → Legal n s (seat_of a.seats s) x →
     SoundState n a.words a.seats → SoundState n (next n a s x).words (next n a s x).seats
 next_sound keep n a s x real legal state =
     record {
@@ -75,11 +75,11 @@ next_sound keep n a s x real legal state =
       all_seats = length-set a.seats s (after n s (seat_of a.seats s) x (word_at n a (place_of n x))) ∙ state.all_seats;
       sound =
           keep n s x (memory (sizes_of n) a.words) (memory (sizes_of n) (next n a s x).words) (seat_of a.seats) (seat_of (next n a s x).seats) real legal
-          (next_steps n a s x real legal.legal.place state) state.sound;
+          (next_steps n a s x real legal.place state) state.sound;
     }
 
 -- ---- runs
-pub run_sound : StepsKeep → (n : Machine) (a b : State) (log : List (ℕ × Step)) → RunNow n a log b → SoundState n a.words a.seats →
+pub run_sound : StepsKeep → (n : Machine) (a b : State) (log : List (ℕ × Step)) → Run n a log b → SoundState n a.words a.seats →
     SoundState n b.words b.seats
 run_sound keep n a b [] run state = subst (λ c. SoundState n c.words c.seats) (sym run) state
 run_sound keep n a b (e ∷ es) run state =

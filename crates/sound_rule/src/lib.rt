@@ -1,5 +1,4 @@
-//! The machine stays sound: each step that is legal today keeps all that Sound says, so each run of such steps does, and what it
-//! leads to is safe. These functions do nothing: their contracts are laws.
+//! The machine stays sound: each legal step keeps all that Sound says, so each run does, and what it leads to is safe. These functions do nothing: their contracts are laws.
 #![tactic(auto)]
 
 ghost use Rattle.std.specs.Prelude.{◌≡◌, ℕ, ◌<◌, List, [], None};
@@ -8,8 +7,8 @@ ghost use Rattle.xp_words.specs.Places.{Place, sizes_of, memory};
 ghost use Rattle.xp_board.specs.declared.step.Step.{Step};
 ghost use Rattle.xp_board.specs.declared.holdings.Holdings.{Holdings};
 ghost use Rattle.xp_board.specs.Hands.{IsEmptyHand};
-ghost use Rattle.xp_board.specs.Legal.{LegalNow};
-ghost use Rattle.xp_board.specs.Runs.{State, Stepped, RunNow};
+ghost use Rattle.xp_board.specs.Legal.{Legal};
+ghost use Rattle.xp_board.specs.Runs.{State, Stepped, Run};
 ghost use Rattle.xp_board.specs.Safe.{Safe};
 ghost use Rattle.xp_board.specs.Sound.{Sound, SoundState, SoundWords, seat_of};
 
@@ -22,9 +21,9 @@ use stale_rule::{a_legal_step_keeps_translations_fresh, a_sound_machine_is_safe}
 use type_rule::{entries_stay_permitted, entries_still_lead_well, the_dead_stay_dead};
 use xp_board::empty_hands_are_well_formed;
 
-/// A step that is legal today keeps the machine sound.
+/// A legal step, of any kind and with any mark, keeps the machine sound.
 pub fn a_legal_step_keeps_the_machine_sound()
-    ensures { (n : Machine) (s : ℕ) (x : Step) (m m2 : Place → ℕ) (h h2 : ℕ → Holdings) → s < (sizes_of n).vcpus → LegalNow n s (h s) x →
+    ensures { (n : Machine) (s : ℕ) (x : Step) (m m2 : Place → ℕ) (h h2 : ℕ → Holdings) → s < (sizes_of n).vcpus → Legal n s (h s) x →
         Stepped n s x m m2 h h2 → Sound n m h → Sound n m2 h2 }
 {
     words_stay_spelled();
@@ -42,9 +41,9 @@ pub fn a_legal_step_keeps_the_machine_sound()
     the_map_stays_right();
 }
 
-/// A run of such steps, of any seats in any order, leads from a sound state to a sound one.
+/// A run of legal steps, of any seats in any order, leads from a sound state to a sound one.
 pub fn every_run_stays_sound()
-    ensures { (n : Machine) (a b : State) (log : List (ℕ × Step)) → RunNow n a log b → SoundState n a.words a.seats → SoundState n b.words b.seats }
+    ensures { (n : Machine) (a b : State) (log : List (ℕ × Step)) → Run n a log b → SoundState n a.words a.seats → SoundState n b.words b.seats }
 {
     a_legal_step_keeps_the_machine_sound();
 }
@@ -52,7 +51,7 @@ pub fn every_run_stays_sound()
 /// After each such run no guest writes a page table or descriptor page, or comes to a frame that its domain is not permitted, and
 /// the counts are right.
 pub fn a_run_leaves_it_safe()
-    ensures { (n : Machine) (a b : State) (log : List (ℕ × Step)) → RunNow n a log b → SoundState n a.words a.seats →
+    ensures { (n : Machine) (a b : State) (log : List (ℕ × Step)) → Run n a log b → SoundState n a.words a.seats →
         Safe n (memory (sizes_of n) b.words) (seat_of b.seats) }
 {
     every_run_stays_sound();

@@ -8,15 +8,14 @@ use Rattle.xp_board.specs.declared.holdings.Holdings.{Holdings}
 use Rattle.xp_board.specs.Acts.{left_by}
 use Rattle.xp_board.specs.Marks.{LegalMark, after_mark}
 use Rattle.xp_board.specs.After.{noted, learned, after_act}
-use Rattle.xp_board.specs.Legal.{LegalAs, WritesSpelling, needs_running, is_proved, is_proved_mark}
+use Rattle.xp_board.specs.Legal.{LegalAs, WritesSpelling, needs_running}
 use Rattle.xp_board.specs.Runs.{place_of}
 use Rattle.xp_board.specs.Sound.{Sound}
 
 -- ---- the mark
--- the mark of a step of seat s is legal, and of a kind that is proved
+-- the mark of a step of seat s is legal
 pub record MayMark (n : Machine) (x : Step) (h : Holdings) : Type 0 where
   pub legal : LegalMark n h x.kind x.mark
-  pub proved : IsTrue (is_proved_mark x.mark)
 
 -- the hands before and after the mark
 pub record Marked (n : Machine) (s : ℕ) (x : Step) (h b : ℕ → Holdings) : Type 0 where
@@ -30,13 +29,12 @@ KeepsMark P =
     Marked n s x h b → Sound n m h → P n m b
 
 -- ---- the act
--- the act of a step of seat s is legal by the hand that the mark left, and of a kind that is proved
+-- the act of a step of seat s is legal by the hand that the mark left
 pub record MayAct (n : Machine) (s : ℕ) (x : Step) (b : Holdings) : Type 0 where
   pub place : IsTrue (is_place (sizes_of n) (place_of n x))
   pub running : IsTrue (needs_running x.kind) → b.run ≡ Some 0
   pub spelling : WritesSpelling n (place_of n x) x.act
   pub act : LegalAs n s b (place_of n x) x.act x.mark x.kind
-  pub proved : IsTrue (is_proved x.kind x.act)
 
 -- the words and hands before and after the act
 pub record Acted (n : Machine) (s : ℕ) (x : Step) (m m2 : Place → ℕ) (b c : ℕ → Holdings) : Type 0 where

@@ -13,7 +13,6 @@ use Rattle.xp_board.specs.declared.step.StepKind.TheVariants as steps
 use Rattle.xp_board.specs.declared.holdings.Holdings.{Holdings}
 use Rattle.xp_board.specs.Spelling.{IsSpelling}
 use Rattle.xp_board.specs.Marks.{LegalMark, after_mark}
-use Rattle.xp_words.specs.RefWords.{ref_read}
 use Rattle.xp_board.specs.RefSteps.{LegalRef, RefRow, Raise, ref_row}
 use Rattle.xp_board.specs.KindSteps.{LegalKind}
 use Rattle.xp_board.specs.CellSteps.{LegalCell}
@@ -83,31 +82,13 @@ pub record LegalMove (m : Machine) (s : ℕ) (h : Holdings) (p : Place) (a : Act
 abbrev pub Legal : Machine → ℕ → Holdings → Step → Type 0
 Legal m s h x = LegalMove m s h (place_at (sizes_of m) x.place) x.act x.kind x.mark
 
--- ---- what is legal on a board today
--- of the exchanges and sums on a reference word: one reference more, and one less
-abbrev pub is_raise : RefRow → Bool
-is_raise Raise = true
-is_raise _ = false
-
-abbrev pub is_proved_ref : Act → Bool
-is_proved_ref (Cas expected new) = is_raise (ref_row (ref_read expected) (ref_read new))
-is_proved_ref (Add by) = true
-is_proved_ref _ = false
-
--- the steps of which it is proved that they keep the machine sound; the others come as they are proved
-abbrev pub is_proved : StepKind → Act → Bool
-is_proved steps.Look a = true
-is_proved steps.Ref a = is_proved_ref a
-is_proved steps.M2p a = true
-is_proved _ a = false
-
-abbrev pub is_proved_mark : Option Mark → Bool
-is_proved_mark None = true
-is_proved_mark (Some (marks.Cut call)) = true
-is_proved_mark (Some marks.Turn) = true
-is_proved_mark _ = false
+-- ---- what boards take so far
+-- no board keeps translations yet, so no walk is made on one
+abbrev pub is_taken : StepKind → Bool
+is_taken steps.Fill = false
+is_taken steps.Touch = false
+is_taken _ = true
 
 pub record LegalNow (m : Machine) (s : ℕ) (h : Holdings) (x : Step) : Type 0 where
   pub legal : Legal m s h x
-  pub kind : IsTrue (is_proved x.kind x.act)
-  pub mark : IsTrue (is_proved_mark x.mark)
+  pub kind : IsTrue (is_taken x.kind)

@@ -59,7 +59,7 @@ RunBy allows n a (e ∷ es) b = (c : State) × RunBy allows n a es c × Moves al
 abbrev pub Run : Machine → State → List (ℕ × Step) → State → Type 0
 Run n a log b = RunBy Legal n a log b
 
--- each step is legal, and of a kind of which it is proved that it keeps the machine sound
+-- each step is legal, and of a kind that boards take so far
 abbrev pub RunNow : Machine → State → List (ℕ × Step) → State → Type 0
 RunNow n a log b = RunBy LegalNow n a log b
 
