@@ -1,43 +1,38 @@
--- The own translations are flushed; the own vCPU stops, leaves its processor or comes to it.
-use Rattle.std.proofs.Common.{◌≡◌, ◌≢◌, ℕ, suc, ◌+◌, ◌<◌, ◌≤◌, ◌==◌, nat_lt, if◌then◌else◌, Bool, true, false, List, [], ◌∷◌, length, Option, Some, None, IsTrue, refl, sym, ap, subst, ◌∙◌, ◌⊎◌, inl, inr, arith}
+-- The own translations are flushed.
+use Rattle.std.proofs.Common.{◌≡◌, ◌≢◌, ℕ, suc, ◌<◌, ◌≤◌, ◌==◌, nat_lt, if◌then◌else◌, Bool, true, false, [], length, None, refl, sym, ap, subst, ◌∙◌, ◌⊎◌, inl, inr, arith}
 use Rattle.std.proofs.lemmas.Bool.{cases_eq, cases_Bool, eqb-true, ltb-true}
 use Rattle.std.proofs.lemmas.Bool.Decides.{nat_tests}
 use Rattle.xp_words.specs.Machine.{Machine}
 use Rattle.xp_words.specs.Places.{Sizes, sizes_of, Place, Clock, Vcpu, Refs, Kind, Cell, place_at}
 use Rattle.xp_board.specs.declared.step.Step.{Step}
-use Rattle.xp_board.specs.declared.holdings.Made.{Made}
-use Rattle.xp_board.specs.declared.holdings.Walk.{Walk}
 use Rattle.xp_board.specs.declared.holdings.Holdings.{Holdings}
-use Rattle.xp_board.specs.Lists.{EachOf, Member}
-use Rattle.xp_board.specs.Steps.{left_of, EachSince, some_since}
+use Rattle.xp_board.specs.Lists.{Member}
+use Rattle.xp_board.specs.Steps.{left_of, EachSince}
 use Rattle.xp_board.specs.Readings.{told_value}
 use Rattle.xp_board.specs.Reach.{Use, Reach, cached, walked, entry, reached_by}
 use Rattle.xp_board.specs.Found.{ClockFound, before_off, FlushedSinceOff, ColdSinceOff}
 use Rattle.xp_board.specs.AckSteps.{after_ack}
-use Rattle.xp_board.specs.RunSteps.{AllowsRun, ran_now}
-use Rattle.xp_board.specs.After.{noted, learned, learned_own}
-use Rattle.xp_board.specs.WellFormed.{WellFormed}
+use Rattle.xp_board.specs.After.{noted}
 use Rattle.xp_board.specs.Sound.{Sound}
-use Rattle.xp_board.proofs.ActEffects.{Wrote, Flushed, Ran}
-use Rattle.found_rule.proofs.StepLists.{EachOf-map, EachOf-all, EachOf-both}
+use Rattle.xp_board.proofs.ActEffects.{Flushed}
+use Rattle.found_rule.proofs.StepLists.{EachOf-map, EachOf-all}
 use Rattle.found_rule.proofs.MoreSteps.{EachSince-some}
 use Rattle.found_rule.proofs.Learning.{Act, act}
 use Rattle.found_rule.proofs.ReachSame.{reach_same}
 use Rattle.found_rule.proofs.Words.{Words}
-use Rattle.found_rule.proofs.WordFacts.{told_some, off_same, cold_same, EachSince-none}
+use Rattle.found_rule.proofs.WordFacts.{told_some, off_same, cold_same}
 use Rattle.found_rule.proofs.WordsOf.{words_lone, lone_vcpu}
 use Rattle.found_rule.proofs.HandFacts.{ReachKept}
-use Rattle.found_rule.proofs.FoundLaw.{Offs}
 use Rattle.found_rule.proofs.MyHand.{HandRight, hand_with, mine_by}
-use Rattle.found_rule.proofs.Outcome.{Outcome, part_same, all_grown}
-use Rattle.found_rule.proofs.FormedLaw.{FormedHand, formed_by, ending_formed_old, claimed_formed_old}
+use Rattle.found_rule.proofs.Outcome.{all_grown}
+use Rattle.found_rule.proofs.FormedLaw.{formed_by, ending_formed_old, claimed_formed_old}
 use Rattle.found_rule.proofs.Quiet.{Done, fix_kept, zero_kept, works_form, locks_form}
 
 if_same : (t : Bool) (u : Holdings) → (if t then u else u) ≡ u
 if_same true u = refl
 if_same false u = refl
 
-if_mine : (s : ℕ) (u v : Holdings) → (if s == s then u else v) ≡ u
+pub if_mine : (s : ℕ) (u v : Holdings) → (if s == s then u else v) ≡ u
 if_mine s u v = let t : (s == s) ≡ true = grind (arith, nat_tests) in rw t refl
 
 -- nothing is reached without a translation
@@ -56,7 +51,7 @@ module _ (n : Machine) (s : ℕ) (x : Step) (m m2 : Place → ℕ) (b c : ℕ �
     cells : (f i : ℕ) → m2 (Cell f i) ≡ m (Cell f i)
     cells f i = acted.others (Cell f i) (λ e. cc)
 
-    less_reach : ((u.cache ≡ []) × (u.walk ≡ None)) ⊎ ((u.cache ≡ (b s).cache) × (u.walk ≡ (b s).walk)) → ReachKept n m m2 b c
+    pub less_reach : ((u.cache ≡ []) × (u.walk ≡ None)) ⊎ ((u.cache ≡ (b s).cache) × (u.walk ≡ (b s).walk)) → ReachKept n m m2 b c
     unfolding cells
     less_reach how v f p r busy marked past =
         elim (cases_eq v s) [
@@ -72,7 +67,7 @@ module _ (n : Machine) (s : ℕ) (x : Step) (m m2 : Place → ℕ) (b c : ℕ �
               ])
         ]
 
-    vcpu_hand : u.refs ≡ (b s).refs → u.typed ≡ (b s).typed → u.works ≡ (b s).works → u.locks ≡ (b s).locks → u.ending ≡ (b s).ending → u.claimed ≡ (b s).claimed →
+    pub vcpu_hand : u.refs ≡ (b s).refs → u.typed ≡ (b s).typed → u.works ≡ (b s).works → u.locks ≡ (b s).locks → u.ending ≡ (b s).ending → u.claimed ≡ (b s).claimed →
         Words n s m m2 b → ReachKept n m m2 b c → ((m2 (Vcpu s 5) ≡ m (Vcpu s 5)) × (u.acked ≡ (b s).acked)) ⊎ (suc (length (b s).steps) ≤ u.acked) → HandRight n s m m2 b c u
     unfolding cells
     vcpu_hand refs typed works locks ending claimed words reach acks =
@@ -80,11 +75,11 @@ module _ (n : Machine) (s : ℕ) (x : Step) (m m2 : Place → ℕ) (b c : ℕ �
         (fix_kept n s (Vcpu s k) m m2 b c u acted l sound cells) (zero_kept n s (Vcpu s k) m m2 b c u acted l sound cells) acks
 
     -- the vCPUs of other seats
-    other_off : (v : ℕ) → v ≢ s → (w : Holdings) → FlushedSinceOff (sizes_of n) m b v w → FlushedSinceOff (sizes_of n) m2 c v w
+    pub other_off : (v : ℕ) → v ≢ s → (w : Holdings) → FlushedSinceOff (sizes_of n) m b v w → FlushedSinceOff (sizes_of n) m2 c v w
     other_off v off w h =
         off_same n m m2 b c v (acted.others (Vcpu v 6) (λ e. off (cc))) (ap (λ y. y.cold) (others v off)) w (acted.others (Vcpu v 5) (λ e. off (cc))) h
 
-    other_cold : (v : ℕ) → v ≢ s → (w : Holdings) → ClockFound (sizes_of n) m w → ColdSinceOff (sizes_of n) m b v w → ColdSinceOff (sizes_of n) m2 c v w
+    pub other_cold : (v : ℕ) → v ≢ s → (w : Holdings) → ClockFound (sizes_of n) m w → ColdSinceOff (sizes_of n) m b v w → ColdSinceOff (sizes_of n) m2 c v w
     other_cold v off w found h =
         cold_same n m m2 b c v (acted.others (Vcpu v 6) (λ e. off (cc))) (ap (λ y. y.cold) (others v off)) w (let e = acted.others Clock (λ e. cc) in omega arith)
         (ap (λ y. y.ran) (others v off)) (all_grown n s (Vcpu s k) m m2 b c u acted others v) found h
@@ -156,15 +151,15 @@ module _ (n : Machine) (s : ℕ) (x : Step) (m m2 : Place → ℕ) (b c : ℕ �
           reach = reach;
           offs = record {
             off = λ v r h found off cold. elim (cases_eq v s) [
-                | inr away ↦ other_off 5 u acted v away h off
-                | inl at ↦
-                    subst (λ y. FlushedSinceOff z m2 c y h) (sym at)
-                    (flushed_off d h words.moves.clock run later (subst (λ y. FlushedSinceOff z m b y h) at off) (subst (λ y. ColdSinceOff z m b y h) at cold))
-              ];
+              | inr away ↦ other_off 5 u acted v away h off
+              | inl at ↦
+                  subst (λ y. FlushedSinceOff z m2 c y h) (sym at)
+                  (flushed_off d h words.moves.clock run later (subst (λ y. FlushedSinceOff z m b y h) at off) (subst (λ y. ColdSinceOff z m b y h) at cold))
+            ];
             cold = λ v r h found cold. elim (cases_eq v s) [
-                | inr away ↦ other_cold 5 u acted v away h found cold
-                | inl at ↦ (λ is. absurd (let e : (c v).cold ≡ false = ap (λ y. (c y).cold) at ∙ acted.learned.cold in cc))
-              ];
+              | inr away ↦ other_cold 5 u acted v away h found cold
+              | inl at ↦ (λ is. absurd (let e : (c v).cold ≡ false = ap (λ y. (c y).cold) at ∙ acted.learned.cold in cc))
+            ];
           };
           mine = mine_by n s p m m2 b c u acted (vcpu_hand 5 u acted refl refl refl refl refl refl words reach (inr (omega arith)));
         };
@@ -184,105 +179,3 @@ module _ (n : Machine) (s : ℕ) (x : Step) (m m2 : Place → ℕ) (b c : ℕ �
               ran = let q = g.ran in omega arith;
             }) g;
       }
-
-  -- ---- stopped, off, or on a processor
-  -- what the own run word was
-  run_was : (w : ℕ) → (b s).run ≡ Some w → m (Vcpu s 6) ≡ w
-  run_was w e = (sound.found s l).own.run w e
-
-  ran_stops : AllowsRun (m2 (Vcpu s 6)) (b s) → m (Vcpu s 6) ≡ 1 → m2 (Vcpu s 6) ≡ 1
-  ran_stops (inl stop) was = stop.0
-  ran_stops (inr (inl unload)) was = absurd (let e = run_was 0 unload.1.running in omega arith)
-  ran_stops (inr (inr load)) was = absurd (let e = run_was 2 load.1.off in omega arith)
-
-  module _ (may : AllowsRun (m2 (Vcpu s 6)) (b s)) (u : Holdings) (acted : Act n s (Vcpu s 6) m m2 (b s) u (c s)) where
-    ran_words : Words n s m m2 b
-    unfolding told_value
-    ran_words =
-        let o = acted.others in
-        words_lone n s m m2 b sound (Vcpu s 6) o (λ g e. cc) (λ g e. cc) (λ g i e. cc)
-        (lone_vcpu n s m m2 b sound (Vcpu s 6) o s 6 refl (λ t. let e = o (Vcpu t 5) (λ e. cc) in omega arith)
-        (λ t was. elim (cases_eq t s) [ inl at ↦ rw at (ran_stops may (rw at at was)) | inr off ↦ o (Vcpu t 6) (λ q. off (cc)) ∙ was ])
-        (λ t off. o (Vcpu t 5) (λ e. cc)) (λ t off. o (Vcpu t 6) (λ q. off (cc))) (λ t off q. o (Vcpu t 2) (λ e. cc)) (λ t off q. o (Vcpu t 3) (λ e. cc)))
-        (omega arith)
-
-    ran_done : u.refs ≡ (b s).refs → u.typed ≡ (b s).typed → u.works ≡ (b s).works → u.locks ≡ (b s).locks → u.ending ≡ (b s).ending → u.claimed ≡ (b s).claimed →
-        u.raised ≡ (b s).raised → u.looking ≡ (b s).looking → u.turn ≡ (b s).turn → u.acked ≡ (b s).acked → u.walk ≡ (b s).walk → (u.cache ≡ []) ⊎ (u.cache ≡ (b s).cache) →
-        (b s).walk ≡ None → u.ran ≡ suc (length (b s).steps) → (m2 (Vcpu s 6) ≢ 0) ⊎ (u.cold ≡ true) → Done n s m m2 b c
-    unfolding ran_words
-    ran_done refs typed works locks ending claimed raised looking turn acks walk cache landed ran how =
-        let z = sizes_of n in
-        let p = Vcpu s 6 in
-        let reach = less_reach 6 u acted (elim cache [ inl none ↦ inl (none, walk ∙ landed) | inr same ↦ inr (same, walk) ]) in
-        let flushed : m2 (Vcpu s 5) ≡ m (Vcpu s 5) = acted.others (Vcpu s 5) (λ e. cc) in
-        let g = sound.formed s l in
-        let long : length (c s).steps ≡ suc (length (b s).steps) = ap length acted.steps in
-        let now : (c s).ran ≡ suc (length (b s).steps) = acted.learned.ran ∙ ran in
-        record {
-          found = record {
-            place = p;
-            moved = u;
-            words = ran_words;
-            reach = reach;
-            offs = record {
-              off = λ v r h found off cold. elim (cases_eq v s) [
-                  | inr away ↦ other_off 6 u acted v away h off
-                  | inl at ↦
-                      (let q : (m2 (Vcpu v 6) ≢ 0) ⊎ ((c v).cold ≡ true) = rw at (elim how [ inl idle ↦ inl idle | inr cold ↦ inr (acted.learned.cold ∙ cold) ]) in
-                      EachOf-all (λ y. ((m2 (Vcpu v 6) ≢ 0) ⊎ (((c v).cold ≡ true) ⊎ (told_value (place_at z y.step.place) y.found < m2 (Vcpu v 5)))) × ((m2 (Vcpu v 6) ≢ 0) ⊎ (((c v).cold ≡ true) ⊎ (told_value (place_at z y.step.place) (left_of y) < m2 (Vcpu v 5)))))
-                      (before_off z v h) (λ y. elim q [ inl idle ↦ (inl idle, inl idle) | inr cold ↦ (inr (inl cold), inr (inl cold)) ]))
-                ];
-              cold = λ v r h found cold. elim (cases_eq v s) [
-                  | inr away ↦ other_cold 6 u acted v away h found cold
-                  | inl at ↦
-                      (λ is run.
-                      let none : (y : ℕ) → EachSince z (c v).ran Clock (λ w. y ≤ w) (c v).steps =
-                      λ y. subst (λ t. EachSince z (c t).ran Clock (λ w. y ≤ w) (c t).steps) (sym at) (EachSince-none z (c s).ran Clock (λ w. y ≤ w) (c s).steps (omega arith)) in
-                      EachOf-all (λ y. EachSince z (c v).ran Clock (λ w. told_value (place_at z y.step.place) y.found ≤ w) (c v).steps × EachSince z (c v).ran Clock (λ w. told_value (place_at z y.step.place) (left_of y) ≤ w) (c v).steps)
-                      (before_off z v h) (λ y. (none (told_value (place_at z y.step.place) y.found), none (told_value (place_at z y.step.place) (left_of y)))))
-                ];
-            };
-            mine = mine_by n s p m m2 b c u acted (vcpu_hand 6 u acted refs typed works locks ending claimed ran_words reach (inl (flushed, acks)));
-          };
-          formed = formed_by n s p m m2 (b s) u (c s) acted
-              (record {
-                works = works_form n s p m m2 b c u acted l sound works;
-                locks = locks_form n s p m m2 b c u acted l sound locks;
-                ending = rw ending (ending_formed_old n s p m m2 (b s) u (c s) acted g);
-                claimed = rw claimed (claimed_formed_old n s p m m2 (b s) u (c s) acted g);
-                raised = record { held = λ f. rw (raised, ending, claimed) (g.raised.held f) };
-                looking = rw looking g.looking;
-                cache = record {
-                  few = elim cache [ inl none ↦ (let k = ap length none in omega arith) | inr same ↦ (let k = ap length same in let q = g.cache.few in omega arith) ];
-                  walk = λ y t. g.cache.walk y (sym walk ∙ t);
-                };
-                turn = let q = g.turn in let e = turn in omega arith;
-                acked = let q = g.acked in let e = acks in omega arith;
-                ran = omega arith;
-              }) g;
-        }
-
-  ran_hand : Ran n s x m m2 (b s) (c s) → (new : ℕ) → m2 (Vcpu s 6) ≡ new → (u : Holdings) → ran_now new (b s) ≡ u → u.steps ≡ (b s).steps → u.run ≡ (b s).run → u.old0 ≡ (b s).old0 → u.old1 ≡ (b s).old1 →
-      Act n s (Vcpu s 6) m m2 (b s) u (c s)
-  ran_hand d new e u is steps run old0 old1 =
-      let w = d.wrote in
-      let p = Vcpu s 6 in
-      act n s x p m m2 (b s) u (c s) w.place w.real w.left w.others steps run old0 old1
-      (d.hand ∙ ap (λ y. noted x (m p) (learned_own 6 (m2 p) (ran_now y (b s)))) e ∙ ap (λ y. noted x (m p) (learned_own 6 (m2 p) y)) is
-      ∙ ap (noted x (m p)) (sym (if_mine s (learned_own 6 (m2 p) u) u)))
-
-  pub ran_by : Ran n s x m m2 (b s) (c s) → AllowsRun (m2 (Vcpu s 6)) (b s) → Done n s m m2 b c
-  ran_by d (inl stop) =
-      let u = record (b s) { cache = []; ran = length (b s).steps + 1 } in
-      ran_done d.may u (ran_hand d 1 stop.0 u refl refl refl refl refl) refl refl refl refl refl refl refl refl refl refl refl (inl refl) stop.1.landed (omega arith)
-      (inl (λ e. let k = stop.0 in omega arith))
-  ran_by d (inr (inl unload)) =
-      let u = record (b s) { cache = []; ran = length (b s).steps + 1 } in
-      ran_done d.may u (ran_hand d 2 unload.0 u refl refl refl refl refl) refl refl refl refl refl refl refl refl refl refl refl (inl refl) unload.1.landed (omega arith)
-      (inl (λ e. let k = unload.0 in omega arith))
-  ran_by d (inr (inr load)) =
-      let u = record (b s) { cold = true; ran = length (b s).steps + 1 } in
-      ran_done d.may u (ran_hand d 0 load.0 u refl refl refl refl refl) refl refl refl refl refl refl refl refl refl refl refl (inr refl) load.1.landed (omega arith) (inr refl)
-
-  pub ran_step : Ran n s x m m2 (b s) (c s) → Done n s m m2 b c
-  ran_step d = ran_by d d.may

@@ -1,6 +1,7 @@
 -- Frames in work and under a lock stay well formed: what is noted of a cell is the word found there last.
-use Rattle.std.proofs.Common.{◌≡◌, ◌≢◌, ℕ, ◌+◌, ◌-◌, ◌<◌, ◌≤◌, ◌==◌, if◌then◌else◌, Bool, true, false, List, length, Option, Some, None, IsTrue, refl, sym, ap, ◌∙◌, arith}
-use Rattle.std.proofs.lemmas.Bool.{eqb-true, eqb-false}
+use Rattle.std.proofs.Common.{◌≡◌, ◌≢◌, ℕ, ◌+◌, ◌-◌, ◌<◌, ◌≤◌, ◌==◌, ◌&&◌, if◌then◌else◌, Bool, true, false, List, length, Option, Some, None, IsTrue, refl, sym, ap, ◌∙◌, arith}
+use Rattle.std.proofs.lemmas.Bool.{eqb-true, eqb-false, and_parts}
+use Rattle.xp_words.specs.declared.kind.PageType.TheVariants as kinds
 use Rattle.xp_words.specs.KindWords.{kind_fields}
 use Rattle.xp_words.specs.Machine.{Machine}
 use Rattle.xp_words.specs.Places.{Sizes, sizes_of, Place, Kind, Cell}
@@ -11,7 +12,9 @@ use Rattle.xp_board.specs.declared.holdings.Work.{Work}
 use Rattle.xp_board.specs.declared.holdings.Lock.{Lock}
 use Rattle.xp_board.specs.declared.holdings.Holdings.{Holdings}
 use Rattle.xp_board.specs.Steps.{last_since, some_before}
-use Rattle.xp_board.specs.After.{learned_work, learned_lock, learned_last, counts_fixed}
+use Rattle.xp_board.specs.After.{learned_work, learned_lock, learned_last, counts_fixed, is_fixed}
+use Rattle.xp_board.specs.Readings.{is_type}
+use Rattle.found_rule.proofs.KnownFacts.{type_by}
 use Rattle.xp_board.specs.WellFormed.{SeenIs, LastIs, IsWorkFormed, IsLockFormed}
 
 -- what is well formed, and nothing is recorded of it while it is marked
@@ -29,11 +32,11 @@ last_same : (z : Sizes) (e : Work) (xs ys : List Made) (o : Option Unsettled) �
 last_same z e xs ys (Some u) k h = λ w t. k (e.recorded - 1) ∙ h w t
 last_same z e xs ys None k h = tt
 
-seen_none : (z : Sizes) (n f : ℕ) (ys : List Made) (o : Option Seen) → o ≡ None → SeenIs z n f ys o
+pub seen_none : (z : Sizes) (n f : ℕ) (ys : List Made) (o : Option Seen) → o ≡ None → SeenIs z n f ys o
 seen_none z n f ys (Some s) e = absurd cc
 seen_none z n f ys None e = tt
 
-last_none : (z : Sizes) (e : Work) (ys : List Made) (o : Option Unsettled) → ((x : Unsettled) → o ≡ Some x → ⊥) → LastIs z e ys o
+pub last_none : (z : Sizes) (e : Work) (ys : List Made) (o : Option Unsettled) → ((x : Unsettled) → o ≡ Some x → ⊥) → LastIs z e ys o
 last_none z e ys (Some u) h = absurd (h u refl)
 last_none z e ys None h = tt
 
@@ -51,6 +54,7 @@ module _ (n : Machine) (a b : Holdings) (longer : length a.steps ≤ length b.st
         last = last_same (sizes_of n) e a.steps b.steps e.unsettled k c.last;
         unsettled = λ x t. let u = c.unsettled x t in (u.0, (let v = u.1 in omega arith));
         told = λ t. told e.since (Kind e.frame) (λ w. w == e.word) (c.told t);
+        fixed = c.fixed;
         order = c.order;
         past = let p = c.past in omega arith;
       }
@@ -67,6 +71,7 @@ module _ (n : Machine) (a b : Holdings) (longer : length a.steps ≤ length b.st
         last = last_none (sizes_of n) e b.steps e.unsettled (λ x t. let u = (c.unsettled x t).0 in let r = f.marked m in omega arith);
         unsettled = λ x t. let u = c.unsettled x t in (u.0, (let v = u.1 in omega arith));
         told = λ t. told e.since (Kind e.frame) (λ w. w == e.word) (c.told t);
+        fixed = c.fixed;
         order = c.order;
         past = let p = c.past in omega arith;
       }
@@ -91,6 +96,12 @@ module _ (n : Machine) (a b : Holdings) (longer : length a.steps ≤ length b.st
     unsettled_learned (Some u) l x t = let k = l u refl in let q = since_if u x (i + 1 == e.recorded) t in (k.0, (let r = k.1 in omega arith))
     unsettled_learned None l x t = absurd cc
 
+    -- the words that are known to be fixed are those of a descriptor page
+    fixed_learned : (t : Bool) → counts_fixed i w e ≡ t → (kind_fields e.word).unflushed ≡ false → (0 < e.fixed → ((kind_fields e.word).unflushed ≡ false) × ((kind_fields e.word).kind ≡ kinds.Desc)) →
+        0 < (if t then e.fixed + 1 else e.fixed) → ((kind_fields e.word).unflushed ≡ false) × ((kind_fields e.word).kind ≡ kinds.Desc)
+    fixed_learned true q off h some = (off, type_by (kind_fields e.word).kind kinds.Desc (and_parts (is_type (kind_fields e.word).kind kinds.Desc) ((i == e.fixed) && is_fixed w) q).0)
+    fixed_learned false q off h some = h some
+
     work_learned_if : (t : Bool) → (kind_fields e.word).unflushed ≡ t → FormedWork n a e →
         IsWorkFormed n b (if t then e else record e { seen = Some (record { index = i; word = w }); unsettled = learned_last i e.recorded w e.unsettled; fixed = if counts_fixed i w e then e.fixed + 1 else e.fixed })
     work_learned_if true m f = work_marked e m f
@@ -104,6 +115,7 @@ module _ (n : Machine) (a b : Holdings) (longer : length a.steps ≤ length b.st
           last = last_learned e.unsettled (λ x t. (c.unsettled x t).0) c.last;
           unsettled = unsettled_learned e.unsettled c.unsettled;
           told = λ t. told e.since (Kind e.frame) (λ y. y == e.word) (c.told t);
+          fixed = fixed_learned (counts_fixed i w e) refl m c.fixed;
           order = c.order;
           past = let p = c.past in omega arith;
         }

@@ -1,5 +1,5 @@
 -- The bit of a frame in the free map is set or cleared.
-use Rattle.std.proofs.Common.{◌≡◌, ◌≢◌, ℕ, ◌+◌, ◌-◌, ◌/◌, ◌%◌, ◌^◌, ◌<◌, ◌≤◌, ◌==◌, ◌&&◌, Bool, true, false, List, ◌∷◌, Option, Some, None, IsTrue, refl, sym, ap, ◌∙◌, ◌⊎◌, inl, inr, arith}
+use Rattle.std.proofs.Common.{◌≡◌, ◌≢◌, ℕ, ◌+◌, ◌/◌, ◌%◌, ◌^◌, ◌<◌, ◌≤◌, ◌==◌, true, false, List, ◌∷◌, Option, Some, None, refl, sym, ◌∙◌, ◌⊎◌, inl, inr, arith}
 use Rattle.std.proofs.Math.Pow.{pow-lt}
 use Rattle.std.proofs.lemmas.Bool.{cases_eq, cases_order, eqb-true, and_parts}
 use Rattle.std.proofs.lemmas.Bool.Decides.{nat_tests}
@@ -12,9 +12,9 @@ use Rattle.xp_board.specs.Hands.{endings_of, claims_of}
 use Rattle.xp_board.specs.HintSteps.{MayHint, MayUnhint, is_raise, is_lower, map_bit, held_frames, lowered_frame, raised_frame, raised_by}
 use Rattle.xp_board.specs.WellFormed.{IsRaisedFormed}
 use Rattle.xp_board.specs.Sound.{Sound}
-use Rattle.xp_board.proofs.ActEffects.{Wrote, Hinted}
+use Rattle.xp_board.proofs.ActEffects.{Hinted}
 use Rattle.found_rule.proofs.StepLists.{times_by-less, first_of-passes, first_of-none}
-use Rattle.found_rule.proofs.Learning.{Act, act}
+use Rattle.found_rule.proofs.Learning.{act}
 use Rattle.found_rule.proofs.QuietSteps.{unread_raised}
 use Rattle.found_rule.proofs.Quiet.{Done, SameHand}
 

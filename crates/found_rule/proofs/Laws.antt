@@ -1,22 +1,25 @@
 -- The laws: by the effect of the mark and of the act.
-use Rattle.std.proofs.Common.{◌≡◌, ◌≢◌, ℕ, ◌<◌, false, length, IsTrue, refl, ap, ◌∙◌, inl, inr, arith}
+use Rattle.std.proofs.Common.{◌≡◌, ◌≢◌, ℕ, ◌<◌, false, length, inl, inr, arith}
 use Rattle.std.proofs.lemmas.Bool.{cases_eq}
+use Rattle.xp_words.specs.declared.kind.PageType.TheVariants as kinds
+use Rattle.xp_words.specs.KindWords.{kind_fields}
 use Rattle.xp_words.specs.Machine.{Machine}
 use Rattle.xp_words.specs.Places.{Place, sizes_of}
 use Rattle.xp_board.specs.declared.step.Step.{Step}
-use Rattle.xp_board.specs.declared.step.StepKind.{StepKind}
-use Rattle.xp_board.specs.declared.step.StepKind.TheVariants as steps
 use Rattle.xp_board.specs.declared.holdings.Holdings.{Holdings}
-use Rattle.xp_board.specs.Legal.{is_proved}
 use Rattle.xp_board.specs.Keeping.{MayMark, KeepsAct, KeepsMark}
 use Rattle.xp_board.specs.Found.{Found}
-use Rattle.xp_board.specs.WellFormed.{WellFormed}
+use Rattle.xp_board.specs.WellFormed.{IsWorkFormed, WellFormed}
 use Rattle.xp_board.specs.Sound.{Sound}
 use Rattle.xp_board.proofs.MarkEffects.{MarkEffect, mark_effect}
 use Rattle.xp_board.proofs.MarkEffects as marks
 use Rattle.xp_board.proofs.ActEffects.{ActEffect}
 use Rattle.xp_board.proofs.ActEffects as effects
 use Rattle.xp_board.proofs.ActInversions.{act_effect}
+use Rattle.found_rule.proofs.StepLists.{EachOf-map}
+use Rattle.found_rule.proofs.CellFacts.{FixedWorks}
+use Rattle.found_rule.proofs.GuestSteps as guests
+use Rattle.found_rule.proofs.TouchRows as touches
 use Rattle.found_rule.proofs.Outcome.{found_by}
 use Rattle.found_rule.proofs.Quiet.{Done}
 use Rattle.found_rule.proofs.QuietSteps as quiet
@@ -25,17 +28,26 @@ use Rattle.found_rule.proofs.RefSteps as refs
 use Rattle.found_rule.proofs.FreeSteps as frees
 use Rattle.found_rule.proofs.NameSteps as names
 use Rattle.found_rule.proofs.FlushSteps as flushes
+use Rattle.found_rule.proofs.RunSteps as runs
 use Rattle.found_rule.proofs.HintSteps as hints
+use Rattle.found_rule.proofs.KindWorkRows as rows
+use Rattle.found_rule.proofs.KindDowns as downs
+use Rattle.found_rule.proofs.StoreForms as stores
+use Rattle.found_rule.proofs.WalkRows as walks
+use Rattle.found_rule.proofs.CellSteps as cells
+use Rattle.found_rule.proofs.FillSteps as fills
 use Rattle.found_rule.proofs.MarkSteps as turns
 use Rattle.found_rule.proofs.RecordMarks as entries
 
-not_yet : (x : Step) (k : StepKind) → x.kind ≡ k → is_proved k x.act ≡ false → IsTrue (is_proved x.kind x.act) → ⊥
-not_yet x k at off on = let e : is_proved x.kind x.act ≡ false = ap (λ y. is_proved y x.act) at ∙ off in cc
-
 -- ---- acts
-module _ (n : Machine) (s : ℕ) (x : Step) (m m2 : Place → ℕ) (b c : ℕ → Holdings) (l : s < (sizes_of n).vcpus) (sound : Sound n m b) (others : (t : ℕ) → t ≢ s → c t ≡ b t)
-    (on : IsTrue (is_proved x.kind x.act)) where
+module _ (n : Machine) (s : ℕ) (x : Step) (m m2 : Place → ℕ) (b c : ℕ → Holdings) (l : s < (sizes_of n).vcpus) (sound : Sound n m b) (others : (t : ℕ) → t ≢ s → c t ≡ b t) where
+  -- only descriptor pages that are flushed have words that are known to be fixed
+  fixed : FixedWorks n b
+  fixed t k =
+      EachOf-map (IsWorkFormed n (b t)) (λ e. 0 < e.fixed → ((kind_fields e.word).unflushed ≡ false) × ((kind_fields e.word).kind ≡ kinds.Desc)) (b t).works (λ e h. h.fixed) (sound.formed t k).works
+
   act_by : ActEffect n s x m m2 (b s) (c s) → Done n s m m2 b c
+  unfolding fixed
   act_by (effects.looked p d) = quiet.looked_done n s x m m2 b c l sound others p d
   act_by (effects.raised f d) = refs.raised_done n s x m m2 b c l sound others f d
   act_by (effects.cleared f d) = refs.cleared_done n s x m m2 b c l sound others f d
@@ -43,19 +55,19 @@ module _ (n : Machine) (s : ℕ) (x : Step) (m m2 : Place → ℕ) (b c : ℕ �
   act_by (effects.lowered f d) = refs.lowered_done n s x m m2 b c l sound others f d
   act_by (effects.freed_frame f d) = frees.freed_done n s x m m2 b c l sound others f d
   act_by (effects.gave f d) = frees.gave_done n s x m m2 b c l sound others f d
-  act_by (effects.turned f row d) = absurd (not_yet x steps.Kind d.wrote.kind_is refl on)
+  act_by (effects.turned f row d) = rows.turned_done n s x m m2 b c l sound others f row d
   act_by (effects.missed f d) = quiet.missed_done n s x m m2 b c l sound others f d
-  act_by (effects.dropped_type f d) = absurd (not_yet x steps.Kind d.wrote.kind_is refl on)
-  act_by (effects.unlocked_table f d) = absurd (not_yet x steps.Kind d.wrote.kind_is refl on)
-  act_by (effects.stored f form d) = absurd (not_yet x steps.Kind d.wrote.kind_is refl on)
-  act_by (effects.exchanged f i d) = absurd (not_yet x steps.Cell d.wrote.kind_is refl on)
-  act_by (effects.rewrote f i d) = absurd (not_yet x steps.Cell d.wrote.kind_is refl on)
-  act_by (effects.filled f i d) = absurd (not_yet x steps.Cell d.wrote.kind_is refl on)
-  act_by (effects.guest_stored f i d) = absurd (not_yet x steps.Guest d.wrote.kind_is refl on)
-  act_by (effects.started_walk k d) = absurd (not_yet x steps.Fill d.kind_is refl on)
-  act_by (effects.went_on f i d) = absurd (not_yet x steps.Fill d.kind_is refl on)
-  act_by (effects.touched_entry f i d) = absurd (not_yet x steps.Touch d.wrote.kind_is refl on)
-  act_by (effects.stumbled f i d) = absurd (not_yet x steps.Touch d.kind_is refl on)
+  act_by (effects.dropped_type f d) = downs.dropped_done n s x m m2 b c l sound others f d
+  act_by (effects.unlocked_table f d) = downs.unlocked_done n s x m m2 b c l sound others f d
+  act_by (effects.stored f form d) = stores.stored_done n s x m m2 b c l sound others f form d
+  act_by (effects.exchanged f i d) = cells.exchanged_done n s x m m2 b c l sound others f i d
+  act_by (effects.rewrote f i d) = cells.rewrote_done n s x m m2 b c l sound others f i d
+  act_by (effects.filled f i d) = fills.filled_done n s x m m2 b c l sound others f i d
+  act_by (effects.guest_stored f i d) = guests.guest_stored_done n s x m m2 b c l sound others f i fixed d
+  act_by (effects.started_walk k d) = walks.started_done n s x m m2 b c l sound others k d
+  act_by (effects.went_on f i d) = walks.went_on_done n s x m m2 b c l sound others f i d
+  act_by (effects.touched_entry f i d) = touches.touched_done n s x m m2 b c l sound others f i fixed d
+  act_by (effects.stumbled f i d) = walks.stumbled_done n s x m m2 b c l sound others f i d
   act_by (effects.mapped f d) = quiet.mapped_done n s x m m2 b c l sound others f d
   act_by (effects.charged e d) = quiet.charged_done n s x m m2 b c l sound others e d
   act_by (effects.refunded e by d) = quiet.refunded_done n s x m m2 b c l sound others e by d
@@ -63,7 +75,7 @@ module _ (n : Machine) (s : ℕ) (x : Step) (m m2 : Place → ℕ) (b c : ℕ �
   act_by (effects.based v d) = quiet.based_done n s x m m2 b c l sound others v d
   act_by (effects.asked v d) = quiet.asked_done n s x m m2 b c l sound others v d
   act_by (effects.flushed d) = flushes.flushed_done n s x m m2 b c l sound others d
-  act_by (effects.ran d) = flushes.ran_step n s x m m2 b c l sound others d
+  act_by (effects.ran d) = runs.ran_step n s x m m2 b c l sound others d
   act_by (effects.ticked d) = words.ticked_done n s x m m2 b c l sound others d
   act_by (effects.doomed e d) = words.doomed_done n s x m m2 b c l sound others e d
   act_by (effects.buried e d) = words.buried_done n s x m m2 b c l sound others e d
@@ -72,12 +84,12 @@ module _ (n : Machine) (s : ℕ) (x : Step) (m m2 : Place → ℕ) (b c : ℕ �
 
 pub found_at_acts : KeepsAct (λ n m h. (s : ℕ) → s < (sizes_of n).vcpus → Found n m h s)
 found_at_acts n s x m m2 b c l may acted sound =
-    found_by n s m m2 b c l sound acted.others (act_by n s x m m2 b c l sound acted.others may.proved (act_effect n s x m m2 b c may acted)).found
+    found_by n s m m2 b c l sound acted.others (act_by n s x m m2 b c l sound acted.others (act_effect n s x m m2 b c may acted)).found
 
 pub formed_at_acts : KeepsAct (λ n m h. (s : ℕ) → s < (sizes_of n).vcpus → WellFormed n s (h s))
 formed_at_acts n s x m m2 b c l may acted sound t k =
     elim (cases_eq t s) [
-      | inl at ↦ rw at (act_by n s x m m2 b c l sound acted.others may.proved (act_effect n s x m m2 b c may acted)).formed
+      | inl at ↦ rw at (act_by n s x m m2 b c l sound acted.others (act_effect n s x m m2 b c may acted)).formed
       | inr off ↦ rw (acted.others t off) (sound.formed t k)
     ]
 

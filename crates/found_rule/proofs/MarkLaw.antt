@@ -108,6 +108,7 @@ module _ (n : Machine) (s : ℕ) (m : Place → ℕ) (h b : ℕ → Holdings) (l
                     last = rw e w.last;
                     unsettled = rw e w.unsettled;
                     told = rw e w.told;
+                    fixed = w.fixed;
                     order = w.order;
                     past = rw e w.past;
                   }) works;

@@ -1,10 +1,9 @@
 -- A word of a vCPU that may name a frame.
-use Rattle.std.proofs.Common.{◌≡◌, ◌≢◌, ℕ, zero, suc, ◌+◌, ◌<◌, ◌≤◌, ◌==◌, ◌||◌, nat_lt, nat_le, if◌then◌else◌, Bool, true, false, length, Option, IsTrue, refl, sym, ap, subst, ◌∙◌, ◌⊎◌, inl, inr, arith}
+use Rattle.std.proofs.Common.{◌≡◌, ◌≢◌, ℕ, zero, suc, ◌<◌, ◌==◌, false, length, IsTrue, refl, sym, ap, subst, ◌∙◌, ◌⊎◌, inl, inr, arith}
 use Rattle.std.proofs.lemmas.Bool.{cases_eq, eqb-true}
 use Rattle.std.proofs.lemmas.Bool.Decides.{nat_tests}
-use Rattle.xp_words.specs.declared.kind.PageType.{PageType}
 use Rattle.xp_words.specs.Machine.{Machine}
-use Rattle.xp_words.specs.Places.{sizes_of, Place, Clock, Vcpu, Refs, Kind, Cell}
+use Rattle.xp_words.specs.Places.{sizes_of, Place, Vcpu, Refs, Kind, Cell}
 use Rattle.xp_board.specs.declared.step.Step.{Step}
 use Rattle.xp_board.specs.declared.holdings.TypedReference.{TypedReference}
 use Rattle.xp_board.specs.declared.holdings.Holdings.{Holdings}
@@ -13,11 +12,11 @@ use Rattle.xp_board.specs.Readings.{is_context, told_value}
 use Rattle.xp_board.specs.Hands.{brought_typed}
 use Rattle.xp_board.specs.ContextSteps.{MayName, MayEmpty, context_type, named_in, named_out}
 use Rattle.xp_board.specs.Sound.{Sound}
-use Rattle.xp_board.proofs.ActEffects.{Wrote, Named}
+use Rattle.xp_board.proofs.ActEffects.{Named}
 use Rattle.found_rule.proofs.StepLists.{EachOf-more, EachOf-without}
 use Rattle.found_rule.proofs.MoreSteps.{EachSince-some}
 use Rattle.found_rule.proofs.Growth.{Grown, added}
-use Rattle.found_rule.proofs.Learning.{Act, act}
+use Rattle.found_rule.proofs.Learning.{act}
 use Rattle.found_rule.proofs.Words.{Words}
 use Rattle.found_rule.proofs.WordsOf.{words_lone, lone_vcpu}
 use Rattle.found_rule.proofs.KnownFacts.{RefRight, TypedRight}
@@ -26,7 +25,7 @@ use Rattle.found_rule.proofs.Demands.{RefsMoved, same_rest, then_moved}
 use Rattle.found_rule.proofs.MyHand.{refs_old, typed_old}
 use Rattle.found_rule.proofs.Outcome.{reach_kept}
 use Rattle.found_rule.proofs.Quiet.{Done, fix_kept, zero_kept}
-use Rattle.found_rule.proofs.RestLaw.{Rest, rest_done}
+use Rattle.found_rule.proofs.RestLaw.{rest_done}
 
 moved_named_out : (w : ℕ) (a : Holdings) → RefsMoved a (named_out w a)
 moved_named_out zero a = same_rest a a refl

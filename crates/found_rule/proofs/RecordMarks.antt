@@ -117,6 +117,7 @@ module _ (n : Machine) (s : ℕ) (m : Place → ℕ) (h b : ℕ → Holdings) (l
         unsettled = λ x q.
             (omega arith, since_by (record { since = length steps; word = Some (seen_word e.seen) }) x (leaves_unsettled z (h s) (demand_seen e.recorded e)) (length steps) (omega arith) q);
         told = c.told;
+        fixed = c.fixed;
         order = c.order;
         past = c.past;
       }
@@ -159,6 +160,7 @@ module _ (n : Machine) (s : ℕ) (m : Place → ℕ) (h b : ℕ → Holdings) (l
         last = tt;
         unsettled = λ x q. absurd cc;
         told = c.told;
+        fixed = c.fixed;
         order = c.order;
         past = c.past;
       }

@@ -1,5 +1,5 @@
 -- Acts on words of vCPUs and on cells: references, the cache and the walk may move, and no other part of the hand.
-use Rattle.std.proofs.Common.{◌≡◌, ◌≢◌, ℕ, suc, ◌+◌, ◌<◌, ◌≤◌, length, IsTrue, refl, sym, ap, subst, ◌∙◌, inl, inr, arith}
+use Rattle.std.proofs.Common.{◌≡◌, ◌≢◌, ℕ, ◌<◌, IsTrue, sym, subst, inl, arith}
 use Rattle.xp_words.specs.Machine.{Machine}
 use Rattle.xp_words.specs.Places.{sizes_of, Place, Vcpu, Refs, Kind, Cell}
 use Rattle.xp_board.specs.declared.holdings.Holdings.{Holdings}
@@ -15,8 +15,8 @@ use Rattle.found_rule.proofs.Words.{Words}
 use Rattle.found_rule.proofs.KnownFacts.{RefRight, TypedRight, LockRight}
 use Rattle.found_rule.proofs.HandFacts.{ReachKept}
 use Rattle.found_rule.proofs.MyHand.{HandRight, mine_by, lock_right_old, works_old, locks_old, endings_old, claims_old}
-use Rattle.found_rule.proofs.Outcome.{Outcome, offs_kept}
-use Rattle.found_rule.proofs.FormedLaw.{FormedHand, formed_by, ending_formed_old, claimed_formed_old}
+use Rattle.found_rule.proofs.Outcome.{offs_kept}
+use Rattle.found_rule.proofs.FormedLaw.{formed_by, ending_formed_old, claimed_formed_old}
 use Rattle.found_rule.proofs.Quiet.{Done, works_form, locks_form}
 
 pub record Rest (a u : Holdings) : Type 0 where

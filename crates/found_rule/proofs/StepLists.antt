@@ -230,3 +230,25 @@ first_of-none test f (x ∷ xs) e t =
       | inl at ↦ absurd (let r : test x ≡ true = ap test at ∙ t in let q = k.0 in cc)
       | inr off ↦ (let z : one_at f x ≡ 0 = (let o : (x == f) ≡ false = grind (arith, nat_tests) in rw o refl) in let r = first_of-none test f xs k.1 t in omega arith)
     ]
+
+-- ---- where one is, it is found
+first_here : {A : Type 0} (key : A → ℕ) (g : ℕ) (x : A) (xs : List A) → key x ≡ g → first_by key g (x ∷ xs) ≡ Some x
+unfolding first_by
+first_here key g x xs at = let t : (key x == g) ≡ true = grind (arith, nat_tests) in rw t refl
+
+first_off : {A : Type 0} (key : A → ℕ) (g : ℕ) (x e : A) (xs : List A) → key x ≢ g → first_by key g xs ≡ Some e → first_by key g (x ∷ xs) ≡ Some e
+unfolding first_by
+first_off key g x e xs off q = let t : (key x == g) ≡ false = grind (arith, nat_tests) in rw t q
+
+less_off : {A : Type 0} (key : A → ℕ) (g : ℕ) (x : A) (xs : List A) → key x ≢ g → 0 < times_by key g (x ∷ xs) → 0 < times_by key g xs
+unfolding times_by
+less_off key g x xs off l = let t : (key x == g) ≡ false = grind (arith, nat_tests) in let o : one_at g (key x) ≡ 0 = rw t refl in omega arith
+
+pub some_by : {A : Type 0} (key : A → ℕ) (g : ℕ) (xs : List A) → 0 < times_by key g xs → (e : A) × (first_by key g xs ≡ Some e)
+unfolding times_by
+some_by key g [] l = absurd (omega arith)
+some_by key g (x ∷ xs) l =
+    elim (cases_eq (key x) g) [
+      | inl at ↦ (x, first_here key g x xs at)
+      | inr off ↦ (let r = some_by key g xs (less_off key g x xs off l) in (r.0, first_off key g x r.0 xs off r.1))
+    ]

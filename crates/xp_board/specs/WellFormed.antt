@@ -1,6 +1,7 @@
 -- What holdings are by themselves, beside what they say of the words: they come of a list of steps that were
 -- legal on sound words, and so their parts fit one another.
 use Rattle.std.specs.Prelude.{◌≡◌, ◌≢◌, ℕ, ◌+◌, ◌-◌, ◌<◌, ◌≤◌, ◌==◌, true, false, List, [], ◌∷◌, length, Option, Some, None, IsTrue}
+use Rattle.xp_words.specs.declared.kind.PageType.TheVariants as kinds
 use Rattle.xp_words.specs.PageTypes.{is_table}
 use Rattle.xp_words.specs.Entries.{is_bit}
 use Rattle.xp_words.specs.KindWords.{kind_fields}
@@ -40,6 +41,7 @@ pub record IsWorkFormed (n : Machine) (u : Holdings) (e : Work) : Type 0 where
   pub last : LastIs (sizes_of n) e u.steps e.unsettled
   pub unsettled : (x : Unsettled) → e.unsettled ≡ Some x → (0 < e.recorded) × (x.since ≤ length u.steps)
   pub told : (kind_fields e.word).unflushed ≡ true → IsTrue (some_before (sizes_of n) e.since (Kind e.frame) (λ w. w == e.word) u.steps)
+  pub fixed : 0 < e.fixed → ((kind_fields e.word).unflushed ≡ false) × ((kind_fields e.word).kind ≡ kinds.Desc)
   pub order : e.since ≤ e.unmarked
   pub past : e.unmarked ≤ length u.steps
 
