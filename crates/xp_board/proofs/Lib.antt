@@ -3,6 +3,7 @@ pub mod Effects
 mod Empty
 mod EntryPicture
 mod FlushPicture
+pub mod Going
 mod KeptPicture
 mod Picture
 mod ProcessorPicture
