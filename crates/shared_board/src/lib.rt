@@ -1,13 +1,11 @@
-// A library with one function.
+//! The board of one thread: all words of a machine, on which the steps of every vCPU are one run of legal steps.
 #![tactic(auto)]
 
-ghost use Rattle.std.specs.Prelude.{◌≡◌};
-ghost use Rattle.shared_board.specs.Echo.{echo_of};
+mod closing;
+mod doing;
+mod plain_board;
+mod plain_port;
+mod rule;
 
-// The `ensures` clause is the contract: what `echo` returns is `echo_of` of its argument, a definition
-// in `specs/Echo.antt`, which a caller's clause can cite too.
-pub fn echo(x: usize) -> usize
-    ensures { result ≡ echo_of x }
-{
-    x
-}
+pub use plain_board::PlainBoard;
+pub use plain_port::PlainPort;

@@ -60,8 +60,10 @@ saw_before v u w p x a b = (b.0 ++ a.0, went_more v u w a.0 b.0 a.1 b.1, had_ear
 
 pub saw_after : (v u w : PortValue) (p : Place) (x : ℕ) → Goes v u → Saw u w p x → Saw v w p x
 unfolding Goes Saw
-saw_after v u w p x a b =
-    (b.0 ++ a.0, went_more v u w a.0 b.0 a.1 b.1,
-      had_later v.post.machine p x a.0 b.0 (subst (λ (q : Post). Had q.machine p x b.0) (went_post v u a.0 a.1) b.2))
+saw_after v u w p x a b = (
+  b.0 ++ a.0,
+  went_more v u w a.0 b.0 a.1 b.1,
+  had_later v.post.machine p x a.0 b.0 (subst (λ (q : Post). Had q.machine p x b.0) (went_post v u a.0 a.1) b.2),
+)
 
 pub ruleset going = (goes_self, goes_trans, saw_before, saw_after)
