@@ -1,7 +1,6 @@
 -- A step of the one seat keeps the rule of the table.
-use Rattle.std.proofs.Common.{◌≡◌, ℕ, zero, suc, ◌+◌, ◌%◌, ◌^◌, ◌<◌, ◌-◌, ◌==◌, Bool, true, false, nat_lt, List, [], ◌∷◌, IsTrue, max, refl, sym, ap, ◌∙◌, subst, arith}
+use Rattle.std.proofs.Common.{◌≡◌, ℕ, zero, suc, ◌+◌, ◌%◌, ◌^◌, ◌<◌, ◌==◌, List, [], ◌∷◌, max, refl, sym, ap, ◌∙◌, subst}
 use Rattle.std.specs.Prelude.{slice_index, slice_set}
-use Rattle.std.proofs.lemmas.Bool.Decides.{nat_tests}
 use Rattle.std.proofs.Math.ListN.{set}
 use mathlib.Core.Option.{some, some-injective, some-ne-none}
 use lib.ListN.{get_elem?}
@@ -9,8 +8,7 @@ use prog.Atomic.{either}
 use Rattle.atomic_table.specs.Table.{Me, Allows, keeps}
 use Rattle.atomic_table.specs.Seated.{TableId}
 use Rattle.xp_words.specs.Machine.{Machine}
-use Rattle.xp_words.specs.Places.{Sizes, Priv, sizes_of, place_at, is_place, memory, size, first_priv}
-use Rattle.xp_words.proofs.PlaceLaws.{place_there}
+use Rattle.xp_words.specs.Places.{sizes_of, size}
 use Rattle.xp_board.specs.declared.step.Act.{Act}
 use Rattle.xp_board.specs.declared.step.Act.TheVariants.{Load, Cas, Store, Add, Max}
 use Rattle.xp_board.specs.declared.step.Step.{Step}
@@ -19,27 +17,10 @@ use Rattle.xp_board.specs.Legal.{LegalNow}
 use Rattle.xp_board.specs.Runs as runs
 use Rattle.xp_board.specs.Runs.{RunNow, Moves, place_of, next, word_at}
 use Rattle.xp_board.specs.Sound.{seat_of}
+use Rattle.xp_board.proofs.Numbers.{place_inside, word_there}
 use Rattle.shared_board.specs.declared.rule.Opening.{Opening}
 use Rattle.shared_board.specs.declared.rule.Known.{Known}
 use Rattle.shared_board.specs.Rule.{Holds, known_after, Did, state_in}
-
--- ---- a real place has one number
-past_last : (z : Sizes) (n : ℕ) → nat_lt n (first_priv z) ≡ false → place_at z n ≡ Priv (n - first_priv z)
-unfolding place_at
-past_last z n h = grind (arith, nat_tests)
-
-inside_by : (z : Sizes) (n : ℕ) (b : Bool) → nat_lt n (first_priv z) ≡ b → IsTrue (is_place z (place_at z n)) → n < size z
-unfolding is_place size
-inside_by z n true e h = grind (arith, nat_tests)
-inside_by z n false e h = let k : IsTrue (is_place z (Priv (n - first_priv z))) = subst (λ p. IsTrue (is_place z p)) (past_last z n e) h in grind (arith, nat_tests)
-
-pub place_inside : (z : Sizes) (n : ℕ) → IsTrue (is_place z (place_at z n)) → n < size z
-place_inside z n h = inside_by z n (nat_lt n (first_priv z)) refl h
-
--- the word at a real place
-pub word_there : (z : Sizes) (words : List ℕ) (n : ℕ) → IsTrue (is_place z (place_at z n)) → memory z words (place_at z n) ≡ slice_index words n
-unfolding memory
-word_there z words n h = rw h (ap (λ i. slice_index words i) (place_there z n (place_inside z n h)).1)
 
 -- ---- the rule
 -- the only view, and its seat

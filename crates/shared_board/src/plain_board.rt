@@ -1,5 +1,6 @@
 ghost use Rattle.std.specs.Prelude.{◌≡◌, ◌<◌, ◌≤◌, [], IfOk, replicate};
 ghost use Rattle.std.specs.Vec.{vec_capacity};
+ghost use Rattle.xp_words.specs.Machine.{IsMachine};
 ghost use Rattle.xp_words.specs.Places.{size, sizes_of};
 ghost use Rattle.xp_board.specs.Hands.{empty};
 ghost use Rattle.xp_board.specs.Legal.{LegalNow};
@@ -57,7 +58,8 @@ impl PlainBoard {
     }
 
     pub fn layout(&self) -> &Layout
-        ensures { result.now ≡ self.now.machine }
+        ensures layout { result.now ≡ self.now.machine }
+        ensures machine { IsMachine self.now.machine }
     {
         &self.layout
     }

@@ -5,6 +5,7 @@ mod EntryPicture
 mod FlushPicture
 pub mod Going
 mod KeptPicture
+pub mod Numbers
 mod Picture
 mod ProcessorPicture
 mod ReleasePicture

@@ -1,0 +1,4 @@
+pub mod Counting
+pub mod Hands
+pub mod Stepping
+pub mod Telling
