@@ -1,6 +1,5 @@
 -- One reference more is one more in the word.
-use Rattle.std.proofs.Common.{◌≡◌, ℕ, ◌+◌, ◌^◌, ◌<◌, ◌≤◌, Bool, Some, ap, ◌∙◌, subst, refl, arith}
-use Rattle.std.proofs.lemmas.Bool.Decides.{nat_tests}
+use Rattle.std.proofs.Common.{◌≡◌, ℕ, ◌+◌, ◌^◌, ◌<◌, Bool, Some, ap, ◌∙◌, subst, refl, arith}
 use Rattle.xp_words.specs.RefWords.{ref_read, ref_write, IsRef}
 use Rattle.xp_words.specs.declared.refs.RefWord.TheVariants.{Owned}
 use Rattle.xp_words.proofs.RefLaws.{ref_read-write, ref_write-read}

@@ -1,11 +1,11 @@
 -- What each kind of step leaves in hand.
-use Rattle.std.proofs.Common.{◌≡◌, ◌≢◌, ℕ, ◌+◌, ◌^◌, ◌<◌, ◌≤◌, ◌==◌, if◌then◌else◌, Bool, true, false, List, [], ◌∷◌, length, Option, Some, None, IsTrue, refl, sym, ap, ◌∙◌, subst, arith, lit<}
+use Rattle.std.proofs.Common.{◌≡◌, ◌≢◌, ℕ, ◌+◌, ◌^◌, ◌<◌, ◌==◌, if◌then◌else◌, Bool, true, false, List, ◌∷◌, length, Option, Some, None, IsTrue, refl, sym, ap, ◌∙◌, subst, arith}
 use Rattle.std.proofs.lemmas.Bool.Decides.{nat_tests}
 use Rattle.xp_words.specs.Machine.{Machine, IsMachine}
 use Rattle.xp_words.specs.RefWords.{ref_read}
 use Rattle.xp_words.specs.declared.refs.RefWord.TheVariants.{Owned}
-use Rattle.xp_words.specs.Places.{Place, Clock, Vcpu, Refs, Kind, M2p, is_place, number, sizes_of, place_at}
-use Rattle.xp_board.specs.declared.step.Act.TheVariants.{Load, Cas, Store, Add}
+use Rattle.xp_words.specs.Places.{Place, Vcpu, Refs, is_place, number, sizes_of, place_at}
+use Rattle.xp_board.specs.declared.step.Act.TheVariants.{Load, Cas, Add}
 use Rattle.xp_board.specs.declared.step.Mark.{Mark}
 use Rattle.xp_board.specs.declared.step.Mark.TheVariants as marks
 use Rattle.xp_board.specs.declared.step.Step.{Step}
@@ -15,11 +15,11 @@ use Rattle.xp_board.specs.declared.holdings.Holdings.{Holdings}
 use Rattle.xp_board.specs.declared.holdings.OwnerFound.TheVariants as owners
 use Rattle.xp_board.specs.Acts.{left_by}
 use Rattle.xp_board.specs.After.{after_move, noted}
-use Rattle.xp_board.specs.Hands.{hand, refs_to}
+use Rattle.xp_board.specs.Hands.{refs_to}
 use Rattle.xp_board.specs.Lists.{times_by, one_at}
 use Rattle.xp_board.specs.Legal.{LegalNow, is_proved_mark}
 use Rattle.xp_board.specs.Readings.{ref_count, owner_of}
-use Rattle.xp_board.specs.RefSteps.{one_down, owner_number, took_ref, gave_ref, Raise, RefRow, ref_row, after_ref_row}
+use Rattle.xp_board.specs.RefSteps.{one_down, owner_number, took_ref, gave_ref, Raise, ref_row, after_ref_row}
 use Rattle.xp_board.specs.Runs.{place_of}
 use Rattle.xp_board.specs.Told.{PortValue, stepped, IsTold}
 use Rattle.frame_words.specs.Hands.{SameRest, SameHand, BegunTurn, FoundRun, TookRef, GaveRef, EndsIf}
@@ -121,8 +121,8 @@ raised_hand n s f w owner count allocated h k x found small read below at e =
     let row : ref_row (ref_read w) (ref_read (w + 1)) ≡ Raise =
     ap (λ y. ref_row y (ref_read (w + 1))) read ∙ ap (λ y. ref_row (Some (Owned owner allocated count)) y) (next_read w owner count allocated c below) ∙ row_is owner count allocated in
     let to : k ≡ noted x found (took_ref f found h) = e ∙ ap (λ y. noted x found y)
-        (ap (λ z. if z == w then after_ref_row (ref_row (ref_read w) (ref_read (w + 1))) n s f found h else h) at ∙ when_same w (after_ref_row (ref_row (ref_read w) (ref_read (w + 1))) n s f found h) h
-        ∙ ap (λ r. after_ref_row r n s f found h) row) in
+    (ap (λ z. if z == w then after_ref_row (ref_row (ref_read w) (ref_read (w + 1))) n s f found h else h) at ∙ when_same w (after_ref_row (ref_row (ref_read w) (ref_read (w + 1))) n s f found h) h
+    ∙ ap (λ r. after_ref_row r n s f found h) row) in
     took f owner found h k x (ap (λ y. owner_number (owner_of y)) at ∙ owner_is w owner count allocated read) to
 
 pub lost_hand : (n : Machine) (s f w : ℕ) (h k : Holdings) (x : Step) (found : ℕ) → found ≢ w →

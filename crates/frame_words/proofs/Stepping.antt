@@ -1,8 +1,8 @@
 -- One step at a place known by name: when it is legal, and what it leaves.
-use Rattle.std.proofs.Common.{◌≡◌, ◌≢◌, ℕ, ◌+◌, ◌^◌, ◌<◌, ◌≤◌, ◌==◌, if◌then◌else◌, Bool, true, false, List, [], ◌∷◌, length, Option, Some, None, IsTrue, refl, sym, ap, ◌∙◌, subst, arith, lit<, inl}
+use Rattle.std.proofs.Common.{◌≡◌, ℕ, ◌+◌, ◌^◌, ◌<◌, Bool, true, false, length, Option, Some, None, IsTrue, refl, sym, ap, ◌∙◌, subst, arith, lit<}
 use Rattle.std.proofs.lemmas.Bool.Decides.{nat_tests}
 use Rattle.xp_words.specs.Machine.{Machine, IsMachine}
-use Rattle.xp_words.specs.RefWords.{ref_read, ref_write, IsRef}
+use Rattle.xp_words.specs.RefWords.{ref_read, ref_write}
 use Rattle.xp_words.specs.declared.refs.RefWord.TheVariants.{Owned}
 use Rattle.xp_words.specs.Places.{Sizes, Place, Clock, Vcpu, Refs, Kind, M2p, is_place, number, sizes_of, place_at}
 use Rattle.xp_words.proofs.PlaceLaws.{place_back}
@@ -13,7 +13,6 @@ use Rattle.xp_board.specs.declared.step.Mark.TheVariants as marks
 use Rattle.xp_board.specs.declared.step.Step.{Step}
 use Rattle.xp_board.specs.declared.step.StepKind.{StepKind}
 use Rattle.xp_board.specs.declared.step.StepKind.TheVariants as steps
-use Rattle.xp_board.specs.declared.holdings.Made.{Made}
 use Rattle.xp_board.specs.declared.holdings.Holdings.{Holdings}
 use Rattle.xp_board.specs.After.{after_move, noted}
 use Rattle.xp_board.specs.Hands.{hand, refs_to}
@@ -24,7 +23,7 @@ use Rattle.xp_board.specs.Told.{PortValue, stepped, IsTold}
 use Rattle.xp_board.proofs.Going.{went_step}
 use Rattle.xp_board.proofs.Rows.{raise_legal, map_legal}
 use Rattle.frame_words.specs.Pieces.{Makes}
-use Rattle.frame_words.proofs.Counting.{Counted, counted, next_read}
+use Rattle.frame_words.proofs.Counting.{counted, next_read}
 
 -- ---- places
 pub refs_there : (z : Sizes) (f : ℕ) → f < z.frames → IsTrue (is_place z (Refs f))

@@ -1,7 +1,7 @@
 -- What a board that tells all words tells after one step.
-use Rattle.std.proofs.Common.{◌≡◌, ◌≢◌, ℕ, ◌+◌, ◌^◌, ◌%◌, ◌<◌, ◌≤◌, Bool, true, false, is_some, List, [], ◌∷◌, length, Option, Some, None, IsTrue, refl, sym, ap, ◌∙◌, subst}
+use Rattle.std.proofs.Common.{◌≡◌, ◌≢◌, ℕ, true, is_some, Option, Some, None, IsTrue, refl, sym, ap, ◌∙◌, subst}
 use Rattle.xp_words.specs.Machine.{Machine}
-use Rattle.xp_words.specs.Places.{Place, Refs, M2p, is_place, number, sizes_of, size, place_at, memory}
+use Rattle.xp_words.specs.Places.{Place, is_place, sizes_of, memory}
 use Rattle.xp_words.proofs.PlaceLaws.{memory_same, memory_other}
 use Rattle.std.proofs.Math.ListN.{set}
 use Rattle.xp_board.specs.declared.step.Act.{Act}
@@ -10,7 +10,7 @@ use Rattle.xp_board.specs.declared.step.Step.{Step}
 use Rattle.xp_board.specs.declared.holdings.Holdings.{Holdings}
 use Rattle.xp_board.specs.Acts.{left_by}
 use Rattle.xp_board.specs.Runs.{place_of}
-use Rattle.xp_board.specs.Told.{PortValue, Story, IsTold, tells, stepped, is_telling, word_in, told_word}
+use Rattle.xp_board.specs.Told.{PortValue, Story, IsTold, tells, is_telling, word_in, told_word}
 use Rattle.xp_board.proofs.Numbers.{place_number}
 use Rattle.frame_words.specs.Pieces.{Makes}
 

@@ -1,5 +1,5 @@
 -- References that are taken and given back.
-use Rattle.std.specs.Prelude.{◌≡◌, ◌≢◌, ℕ, ◌<◌, ◌≤◌, List, [], Option, Some, None, Result, Ok, Err}
+use Rattle.std.specs.Prelude.{◌≡◌, ◌≢◌, ◌⊎◌, ℕ, ◌<◌, ◌≤◌, List, [], Option, Some, None, Result, Ok, Err}
 use Rattle.xp_words.specs.declared.refs.RefWord.{RefWord}
 use Rattle.xp_words.specs.declared.refs.RefWord.TheVariants.{Owned}
 use Rattle.xp_words.specs.declared.reply.Stop.{Stop}
@@ -46,15 +46,25 @@ pub record FoundOpen (n : Machine) (f owner : ℕ) (made : List Made) : Type 0 w
   pub had : Had n (Refs f) word made
   pub is_open : IsOpen owner n.limit (ref_read word)
 
--- Why taking a reference to frame f for that owner ends otherwise: by the number of the frame, or by what these steps
--- found. It is lost where the exchange found another word than the look before it.
+-- one of the steps found a word by which it is refused
+pub record FoundRefused (n : Machine) (f owner : ℕ) (made : List Made) (r : Refusal) : Type 0 where
+  pub word : ℕ
+  pub had : Had n (Refs f) word made
+  pub refuses : RefusesWord f owner n.limit word r
+
+-- one of the steps found a word, and the exchange of that word another
+pub record FoundLost (n : Machine) (f : ℕ) (made : List Made) (p : Pause) : Type 0 where
+  pub expected : ℕ
+  pub found : ℕ
+  pub had_expected : Had n (Refs f) expected made
+  pub had_found : Had n (Refs f) found made
+  pub other : found ≢ expected
+  pub lost : p ≡ Lost (number (sizes_of n) (Refs f)) expected found
+
+-- why taking a reference to frame f for that owner ends otherwise: by the number of the frame, or by what these steps found
 abbrev pub Cause : Machine → ℕ → ℕ → List Made → Stop → Type 0
-Cause n f owner made (Refused (NoFrame frame)) = (frame ≡ f) × (n.frames ≤ f)
-Cause n f owner made (Refused (WrongOwner frame found)) = (frame ≡ f) × Had n (Refs f) found made × ¬ IsOwnedBy owner (ref_read found)
-Cause n f owner made (Refused (CountFull frame found)) = (frame ≡ f) × Had n (Refs f) found made × IsFull owner n.limit (ref_read found)
-Cause n f owner made (Paused (Lost place expected found)) =
-    (place ≡ number (sizes_of n) (Refs f)) × Had n (Refs f) expected made × Had n (Refs f) found made × (found ≢ expected)
-Cause n f owner made _ = ⊥
+Cause n f owner made (Refused r) = ((n.frames ≤ f) × (r ≡ NoFrame f)) ⊎ FoundRefused n f owner made r
+Cause n f owner made (Paused p) = FoundLost n f made p
 
 abbrev pub Shows : Machine → ℕ → ℕ → List Made → Result ℕ Stop → Type 0
 Shows n f owner made (Ok g) = FoundOpen n f owner made

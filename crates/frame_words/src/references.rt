@@ -22,7 +22,8 @@ struct Open {
 
 // The word of a frame that is the owner's and has room for one reference more.
 fn open_word(found: u64, frame: u32, owner: u16, limit: u32) -> Result<Open, Refusal>
-    ensures open { IfOk result (λ o. (ref_read found ≡ Some (Owned owner o.allocated o.count)) × (o.count < limit)) }
+    ensures reads { IfOk result (λ o. ref_read found ≡ Some (Owned owner o.allocated o.count)) }
+    ensures low { IfOk result (λ o. o.count < limit) }
     ensures cause { IfErr result (RefusesWord frame owner limit found) }
 {
     match RefWord::read(found) {
@@ -68,7 +69,9 @@ pub fn get_ref<P: Port>(port: &mut P, f: u64, owner: u16) -> Result<u32, Stop>
     let found = look_refs(port, frame);
     match open_word(found, frame, owner, limit) {
         Err(refusal) => Err(Stop::Refused(refusal)),
-        Ok(Open { allocated, count }) => match raise_refs(port, frame, found, owner, allocated, count) {
+        Ok(Open { allocated, count }) => match raise_refs(
+            port, frame, found, owner, allocated, count,
+        ) {
             Ok(()) => Ok(frame),
             Err(other) => Err(Stop::Paused(Pause::Lost {
                 place,

@@ -117,7 +117,11 @@ pub fn raise_refs<P: Port>(
         kind: StepKind::Ref,
         mark: None,
     });
-    if found == expected { Ok(()) } else { Err(found) }
+    if found == expected {
+        Ok(())
+    } else {
+        Err(found)
+    }
 }
 
 /// Counts a reference in hand down. Where the word found has count 1 it was the last, and the frame is ending in

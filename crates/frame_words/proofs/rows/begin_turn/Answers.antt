@@ -1,4 +1,4 @@
-use Rattle.std.proofs.Common.{◌≡◌, ◌<◌, length, lit<, ap, ◌∙◌, refl, subst, sym}
+use Rattle.std.proofs.Common.{◌<◌, length, lit<, ap, ◌∙◌, refl, subst}
 use Rattle.xp_words.specs.Machine.{Machine}
 use Rattle.xp_words.specs.Places.{Vcpu, number, sizes_of}
 use Rattle.frame_words.proofs.Stepping.{own_there}

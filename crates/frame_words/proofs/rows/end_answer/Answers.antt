@@ -1,6 +1,5 @@
-use Rattle.std.proofs.Common.{◌≡◌, ap, ◌∙◌, refl, subst, sym}
-use Rattle.xp_words.specs.Machine.{Machine}
-use Rattle.xp_words.specs.Places.{Clock, number, sizes_of}
+use Rattle.std.proofs.Common.{refl}
+use Rattle.xp_words.specs.Places.{Clock, sizes_of}
 use Rattle.frame_words.proofs.Stepping.{clock_there, clock_number}
 use Rattle.frame_words.proofs.Hands.{look_now, look_made, look_left, same_hand}
 use Rattle.frame_words.proofs.rows.end_answer.Goals as goal

@@ -1,6 +1,6 @@
-use Rattle.std.proofs.Common.{◌≡◌, ap, ◌∙◌, refl, subst, sym}
+use Rattle.std.proofs.Common.{ap, ◌∙◌, refl, subst}
 use Rattle.xp_words.specs.Machine.{Machine}
-use Rattle.xp_words.specs.Places.{Refs, number, sizes_of, place_at}
+use Rattle.xp_words.specs.Places.{Refs, number, sizes_of}
 use Rattle.xp_board.specs.Told.{Finds}
 use Rattle.frame_words.proofs.Stepping.{refs_there}
 use Rattle.frame_words.proofs.Hands.{here, look_now, look_made, look_left, same_hand}

@@ -1,6 +1,6 @@
-use Rattle.std.proofs.Common.{◌≡◌, ap, ◌∙◌, refl, None}
+use Rattle.std.proofs.Common.{ap, ◌∙◌, refl, None}
 use Rattle.xp_words.specs.Machine.{Machine}
-use Rattle.xp_words.specs.Places.{Place, Refs, number, sizes_of, place_at}
+use Rattle.xp_words.specs.Places.{Refs, number, sizes_of}
 use Rattle.xp_board.specs.declared.step.Act.TheVariants.{Add}
 use Rattle.xp_board.specs.RefSteps.{one_down}
 use Rattle.frame_words.proofs.Stepping.{refs_there, placed, lower_is_legal, makes, hand_after}

@@ -1,4 +1,4 @@
-use Rattle.std.proofs.Common.{◌≡◌, ◌+◌, ℕ, ap, ◌∙◌, refl, None, subst, sym}
+use Rattle.std.proofs.Common.{◌+◌, ap, ◌∙◌, refl, None, subst}
 use Rattle.xp_words.specs.Machine.{Machine, IsMachine}
 use Rattle.xp_words.specs.Places.{Refs, number, sizes_of}
 use Rattle.xp_board.specs.declared.step.Act.TheVariants.{Cas}
