@@ -1,5 +1,5 @@
 -- What a step that is legal today does to the words and to the hand of its seat.
-use Rattle.std.proofs.Common.{◌≡◌, ◌≢◌, ℕ, ◌+◌, ◌%◌, ◌^◌, ◌<◌, ◌==◌, ◌⊎◌, if◌then◌else◌, Bool, true, false, Option, Some, None, IsTrue, refl, sym, ap, subst, ◌∙◌, inl, inr, arith}
+use Rattle.std.proofs.Common.{◌≡◌, ◌≢◌, ℕ, ◌+◌, ◌%◌, ◌^◌, ◌<◌, ◌==◌, ◌⊎◌, if◌then◌else◌, Bool, true, false, List, ◌∷◌, Option, Some, None, IsTrue, refl, sym, ap, subst, ◌∙◌, inl, inr, rules, arith}
 use Rattle.std.proofs.lemmas.Bool.{cases_eq}
 use Rattle.std.proofs.lemmas.Bool.Decides.{nat_tests}
 use Rattle.xp_words.specs.declared.refs.RefWord.{RefWord}
@@ -17,7 +17,7 @@ use Rattle.xp_board.specs.declared.step.StepKind.TheVariants as steps
 use Rattle.xp_board.specs.declared.holdings.Holdings.{Holdings}
 use Rattle.xp_board.specs.Acts.{left_by}
 use Rattle.xp_board.specs.Marks.{after_mark}
-use Rattle.xp_board.specs.RefSteps.{MayClear, MayLower, AllowsRef, RefRow, Raise, Clear, Claim, NoRefRow, ref_row, after_ref_row, took_ref, gave_ref, one_down}
+use Rattle.xp_board.specs.RefSteps.{MayRaise, MayClear, MayLower, AllowsRef, RefRow, Raise, Clear, Claim, NoRefRow, ref_row, after_ref_row, took_ref, gave_ref, one_down}
 use Rattle.xp_board.specs.M2pSteps.{MayMap}
 use Rattle.xp_board.specs.After.{noted, learned, after_move}
 use Rattle.xp_board.specs.Legal.{LegalMove, LegalNow, is_proved, is_proved_mark, is_raise, WritesSpelling}

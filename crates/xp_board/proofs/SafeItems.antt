@@ -1,9 +1,9 @@
 -- Cached translations of a sound machine lead nowhere that they must not.
-use Rattle.std.proofs.Common.{◌≡◌, ◌<◌, ℕ, Bool, true, false, IsTrue, refl, sym, ap, ◌∙◌, None, Some, Option, arith, inl, inr}
+use Rattle.std.proofs.Common.{◌≡◌, ◌≢◌, ◌<◌, ◌≤◌, ℕ, Bool, true, false, IsTrue, refl, sym, ap, ◌∙◌, None, Some, Option, arith, inl, inr}
 use Rattle.std.proofs.lemmas.Bool.{cases_Bool}
 use Rattle.std.proofs.lemmas.Bool.Decides.{nat_tests}
 use Rattle.xp_words.specs.declared.kind.KindWord.{KindWord}
-use Rattle.xp_words.specs.KindWords.{kind_read, kind_fields, has_form}
+use Rattle.xp_words.specs.KindWords.{kind_read, kind_fields, has_form, has_type}
 use Rattle.xp_words.proofs.KindLaws.{when_some}
 use Rattle.xp_words.specs.Machine.{Machine}
 use Rattle.xp_words.specs.Places.{Place, Kind, is_place, sizes_of}
@@ -13,7 +13,7 @@ use Rattle.xp_board.specs.Lists.{Member}
 use Rattle.xp_board.specs.Readings.{kind_at, is_live, domain_of}
 use Rattle.xp_board.specs.Spelling.{IsSpelling, is_kind_in}
 use Rattle.xp_board.specs.Valid.{Permits}
-use Rattle.xp_board.specs.Reach.{Writes, cached, use_of, is_in_use}
+use Rattle.xp_board.specs.Reach.{Use, Writes, Reads, Reach, cached, use_of, is_in_use}
 use Rattle.xp_board.specs.Fresh.{Belongs, Bears}
 use Rattle.xp_board.specs.Safe.{SafeAt}
 use Rattle.xp_board.specs.Sound.{Sound}

@@ -14,7 +14,7 @@ use Rattle.xp_board.specs.declared.holdings.Holdings.{Holdings}
 use Rattle.xp_board.specs.Spelling.{IsSpelling}
 use Rattle.xp_board.specs.Marks.{LegalMark, after_mark}
 use Rattle.xp_words.specs.RefWords.{ref_read}
-use Rattle.xp_board.specs.RefSteps.{LegalRef, RefRow, Raise, ref_row}
+use Rattle.xp_board.specs.RefSteps.{LegalRef, RefRow, Raise, Clear, Claim, NoRefRow, ref_row}
 use Rattle.xp_board.specs.KindSteps.{LegalKind}
 use Rattle.xp_board.specs.CellSteps.{LegalCell}
 use Rattle.xp_board.specs.M2pSteps.{LegalM2p}
