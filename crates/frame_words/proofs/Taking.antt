@@ -33,7 +33,7 @@ use Rattle.frame_words.proofs.Stepping.{refs_there}
 use Rattle.frame_words.proofs.Telling.{makes_telling, makes_found, makes_here}
 
 -- ---- hands, one behind the other
-rest_after : (a b c : Holdings) → SameRest a b → SameRest b c → SameRest a c
+pub rest_after : (a b c : Holdings) → SameRest a b → SameRest b c → SameRest a c
 rest_after a b c r s =
     record {
       typed = s.typed ∙ r.typed;

@@ -1,5 +1,5 @@
 -- What a board that tells all words tells after one step.
-use Rattle.std.proofs.Common.{◌≡◌, ◌≢◌, ℕ, true, is_some, Option, Some, None, IsTrue, refl, sym, ap, ◌∙◌, subst}
+use Rattle.std.proofs.Common.{◌≡◌, [], ◌∷◌, ◌≢◌, ℕ, true, is_some, Option, Some, None, IsTrue, refl, sym, ap, ◌∙◌, subst}
 use Rattle.xp_words.specs.Machine.{Machine}
 use Rattle.xp_words.specs.Places.{Place, is_place, sizes_of, memory}
 use Rattle.xp_words.proofs.PlaceLaws.{memory_same, memory_other}
@@ -11,12 +11,9 @@ use Rattle.xp_board.specs.declared.holdings.Holdings.{Holdings}
 use Rattle.xp_board.specs.Acts.{left_by}
 use Rattle.xp_board.specs.Runs.{place_of}
 use Rattle.xp_board.specs.Told.{PortValue, Story, IsTold, tells, is_telling, word_in, told_word}
+use Rattle.xp_board.proofs.Going.{went_telling}
 use Rattle.xp_board.proofs.Numbers.{place_number}
 use Rattle.frame_words.specs.Pieces.{Makes}
-
-telling_next : (s found : ℕ) (x : Step) (h : Holdings) (o : Option Story) → is_some (tells s x found h o) ≡ is_some o
-telling_next s found x h None = refl
-telling_next s found x h (Some a) = refl
 
 word_found : (n : Machine) (o : Option Story) (p : Place) (found : ℕ) → IsTold n o p found → is_some o ≡ true → word_in n o p ≡ found
 word_found n None p found told is = absurd (cc)
@@ -41,8 +38,7 @@ module _ (v w : PortValue) (p : Place) (a : Act) (mark : Option Mark) (found : �
   start = m.went.1
 
   pub makes_telling : is_telling w ≡ is_telling v
-  makes_telling =
-      ap is_telling m.went.4 ∙ telling_next m.went.0.post.seat found m.step _ m.went.0.told ∙ ap is_telling start
+  makes_telling = went_telling v w (record { step = m.step; found = found } ∷ []) m.went
 
   pub makes_found : is_telling v ≡ true → told_word v p ≡ found
   makes_found is =

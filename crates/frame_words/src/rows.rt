@@ -151,7 +151,6 @@ pub fn store_m2p<P: Port>(port: &mut P, frame: u32, gpfn: u64) -> u64
     requires held { 0 < hand frame (P.value port.old).holdings }
     ensures post { (P.value port.new).post ≡ (P.value port.old).post }
     ensures made { Makes (P.value port.old) (P.value port.new) (M2p frame) (Store gpfn) None result }
-    ensures telling { is_telling (P.value port.new) ≡ is_telling (P.value port.old) }
     ensures told { told_word (P.value port.new) (Refs frame) ≡ told_word (P.value port.old) (Refs frame) }
     ensures hand { SameHand (P.value port.old).holdings (P.value port.new).holdings }
 {

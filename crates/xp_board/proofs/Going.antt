@@ -1,12 +1,13 @@
 -- Legal steps of one port, one behind the other.
-use Rattle.std.proofs.Common.{◌≡◌, ℕ, List, [], ◌∷◌, ◌++◌, refl, sym, ap, ◌∙◌, subst, inl, inr}
+use Rattle.std.proofs.Common.{◌≡◌, ℕ, List, [], ◌∷◌, ◌++◌, Option, Some, None, is_some, refl, sym, ap, ◌∙◌, subst, inl, inr}
 use Rattle.xp_words.specs.Machine.{Machine}
 use Rattle.xp_words.specs.Places.{Place}
 use Rattle.xp_board.specs.declared.step.Step.{Step}
+use Rattle.xp_board.specs.declared.holdings.Holdings.{Holdings}
 use Rattle.xp_board.specs.declared.holdings.Made.{Made}
 use Rattle.xp_board.specs.Legal.{LegalNow}
 use Rattle.xp_board.specs.Runs.{place_of}
-use Rattle.xp_board.specs.Told.{Post, PortValue, stepped, IsTold, Went, Goes, Had, Saw}
+use Rattle.xp_board.specs.Told.{Post, PortValue, Story, tells, stepped, is_telling, IsTold, Went, Goes, Had, Saw}
 
 -- ---- by the list of steps
 pub went_more : (v u w : PortValue) (xs ys : List Made) → Went v xs u → Went u ys w → Went v (ys ++ xs) w
@@ -16,6 +17,15 @@ went_more v u w xs (y ∷ ys) a b = (b.0, went_more v u b.0 xs ys a b.1, b.2, b.
 pub went_post : (v w : PortValue) (xs : List Made) → Went v xs w → w.post ≡ v.post
 went_post v w [] a = ap (λ (x : PortValue). x.post) a
 went_post v w (y ∷ ys) a = ap (λ (x : PortValue). x.post) a.4 ∙ went_post v a.0 ys a.1
+
+-- a board that tells all words goes on telling them
+telling_next : (s found : ℕ) (x : Step) (h : Holdings) (o : Option Story) → is_some (tells s x found h o) ≡ is_some o
+telling_next s found x h None = refl
+telling_next s found x h (Some a) = refl
+
+pub went_telling : (v w : PortValue) (xs : List Made) → Went v xs w → is_telling w ≡ is_telling v
+went_telling v w [] a = ap is_telling a
+went_telling v w (y ∷ ys) a = ap is_telling a.4 ∙ telling_next a.0.post.seat y.found y.step _ a.0.told ∙ went_telling v a.0 ys a.1
 
 pub went_step : (v w : PortValue) (x : Step) (found : ℕ) → LegalNow v.post.machine v.post.seat v.holdings x →
     IsTold v.post.machine v.told (place_of v.post.machine x) found → w ≡ stepped v x found → Went v (record { step = x; found = found } ∷ []) w

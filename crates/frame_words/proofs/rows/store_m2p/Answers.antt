@@ -4,7 +4,7 @@ use Rattle.xp_words.specs.Places.{Refs, M2p, number, sizes_of}
 use Rattle.xp_board.specs.declared.step.Act.TheVariants.{Store}
 use Rattle.frame_words.proofs.Stepping.{m2p_there, placed, map_is_legal, makes, hand_after}
 use Rattle.frame_words.proofs.Hands.{same_hand}
-use Rattle.frame_words.proofs.Telling.{makes_telling, makes_elsewhere}
+use Rattle.frame_words.proofs.Telling.{makes_elsewhere}
 use Rattle.frame_words.proofs.rows.store_m2p.Goals as goal
 
 pub step-requires : goal.step-requires
@@ -21,9 +21,6 @@ returns-clause-made g c =
     let at = placed v.post.machine _ (M2p c.args.frame) i (m2p_there (sizes_of v.post.machine) c.args.frame c.requires.frame) in
     makes v _ _ (M2p c.args.frame) (Store c.args.gpfn) None _ at refl refl
     (map_is_legal v.post.machine v.post.seat v.holdings _ c.args.frame c.args.gpfn at c.requires.frame c.requires.running c.ranges.gpfn.fits c.requires.held) c.step.ensures.told c.step.ensures.value
-
-pub returns-clause-telling : goal.returns-clause-telling
-returns-clause-telling g c = makes_telling _ _ _ _ _ _ (returns-clause-made g c)
 
 pub returns-clause-told : goal.returns-clause-told
 returns-clause-told g c = makes_elsewhere _ _ _ _ _ _ (returns-clause-made g c) (Refs c.args.frame) (λ e. cc)
