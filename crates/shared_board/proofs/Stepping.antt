@@ -48,7 +48,7 @@ did_bare n s found x me you did lt legal all k =
 
 -- ---- the value of a port
 abbrev story_after : Machine → ℕ → Step → Story → Story
-story_after n s x a = record { log = (s, x) ∷ a.log; words = (next n (state_of a) s x).words; seats = (next n (state_of a) s x).seats }
+story_after n s x a = record { opening = a.opening; log = (s, x) ∷ a.log; words = (next n (state_of a) s x).words; seats = (next n (state_of a) s x).seats }
 
 value_after : (b : Board) (s lender found : ℕ) (x : Step) → s < length b.story.seats → found ≡ word_at b.machine (state_of b.story) (place_of b.machine x) →
     port_value (record b { story = story_after b.machine s x b.story }) s lender ≡ stepped (port_value b s lender) x found
@@ -70,6 +70,5 @@ steps_by b c s found x sound lt is to =
       told = (sound.all_words, sym is);
       table = ap (λ (y : Board). y.table) to;
       machine = ap (λ (y : Board). y.machine) to;
-      opening = ap (λ (y : Board). y.opening) to;
       value = λ lender. ap (λ (y : Board). port_value y s lender) to ∙ value_after b s lender found x (subst (λ k. s < k) (sym sound.all_seats) lt) is;
     }

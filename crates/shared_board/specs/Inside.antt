@@ -11,8 +11,7 @@ board_of b =
     record {
       table = b.table.shared.table_id;
       machine = b.layout;
-      opening = b.table.shared.key.words.items;
-      story = story_of b.seat.me.0;
+      story = story_of b.table.shared.key b.seat.me.0;
     }
 
 pub record IsBoard (b : Inside) : Type 0 where

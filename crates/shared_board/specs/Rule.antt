@@ -10,8 +10,8 @@ use Rattle.xp_board.specs.Told.{Story}
 use Rattle.shared_board.specs.declared.rule.Opening.{Opening}
 use Rattle.shared_board.specs.declared.rule.Known.{Known}
 
-abbrev pub story_of : Known → Story
-story_of v = record { log = v.log; words = v.words; seats = v.hands }
+abbrev pub story_of : Opening → Known → Story
+story_of o v = record { opening = o.words.items; log = v.log; words = v.words; seats = v.hands }
 
 abbrev pub state_in : Known → runs.State
 state_in v = record { words = v.words; seats = v.hands }

@@ -43,7 +43,7 @@ impl PlainBoard {
     /// A board with these words, on which no step was made.
     pub fn make(alloc: Global, layout: Layout, words: Vec<u64>) -> Result<PlainBoard, AllocError>
         requires { SoundWords layout words.items }
-        ensures { IfOk result (λ b. (b.machine ≡ layout) × (b.opening ≡ words.items) × (b.story ≡ opened_story layout words.items)) }
+        ensures { IfOk result (λ b. (b.machine ≡ layout) × (b.story ≡ opened_story layout words.items)) }
     {
         let opening = Opening {
             layout: layout.copy(),
@@ -99,7 +99,7 @@ impl PlainBoard {
         requires empty { into.old.items ≡ [] }
         requires room { size (sizes_of self.machine) ≤ vec_capacity into.old }
         ensures words { into.new.items ≡ self.story.words }
-        ensures run { RunNow self.machine (start self.machine self.opening) self.story.log (state_of self.story) }
+        ensures run { RunNow self.machine (start self.machine self.story.opening) self.story.log (state_of self.story) }
         ensures sound { SoundState self.machine self.story.words self.story.seats }
     {
         let PlainBoard {

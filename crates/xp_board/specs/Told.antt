@@ -21,8 +21,9 @@ pub record Post : Type 0 where
   pub lender : ℕ
   pub table : TableId
 
--- all steps, the newest first, the words and the hands of all seats
+-- the words at the opening; all steps since, the newest first; and the words and the hands of all seats
 pub record Story : Type 0 where
+  pub opening : List ℕ
   pub log : List (ℕ × Step)
   pub words : List ℕ
   pub seats : List Holdings
@@ -37,6 +38,7 @@ abbrev pub tells : ℕ → Step → ℕ → Holdings → Option Story → Option
 tells s x found h None = None
 tells s x found h (Some story) =
     Some (record {
+      opening = story.opening;
       log = (s, x) ∷ story.log;
       words = slice_set story.words x.place (left_by x.act found);
       seats = slice_set story.seats s h;
