@@ -1,5 +1,5 @@
 -- The steps of a turn, and the reply that fits them.
-use Rattle.std.proofs.Common.{◌≡◌, ℕ, ◌+◌, ◌/◌, ◌||◌, ◌⊎◌, Bool, true, false, List, [], ◌∷◌, ◌++◌, Option, Some, None, Ok, Err, IsTrue, refl, sym, ap, ◌∙◌, subst, inl, inr, append-nil}
+use Rattle.std.proofs.Common.{◌≡◌, ℕ, ◌/◌, ◌||◌, Bool, true, false, List, [], ◌∷◌, ◌++◌, Option, Some, None, Ok, Err, IsTrue, refl, sym, ap, ◌∙◌, subst, inl, inr, append-nil}
 use Rattle.xp_words.specs.Machine.{Machine}
 use Rattle.xp_words.specs.Places.{Place, Clock, Pages, Life, Vcpu, Refs, Kind, M2p, Cell, Map, Priv}
 use Rattle.xp_words.specs.declared.ops.Op.{Op}
@@ -13,19 +13,18 @@ use Rattle.xp_board.specs.declared.step.Mark.{Mark}
 use Rattle.xp_board.specs.declared.step.Mark.TheVariants.{Cut, Turn}
 use Rattle.xp_board.specs.declared.holdings.Made.{Made}
 use Rattle.xp_board.specs.declared.holdings.Holdings.{Holdings}
-use Rattle.xp_board.specs.Hands.{IsEmptyHand}
 use Rattle.xp_board.specs.Lists.{EachOf}
 use Rattle.xp_board.specs.Runs.{place_of}
 use Rattle.xp_board.specs.Told.{Post, PortValue, Had, Went, is_telling, told_word}
 use Rattle.xp_board.proofs.Going.{went_more, went_post, went_telling, had_later}
 use Rattle.frame_words.specs.Hands.{SameRest, SameHand, BegunTurn, FoundRun}
 use Rattle.frame_words.specs.Pieces.{Makes, Deed, deeds, deeds_by, is_load, is_of, StaysIn}
-use Rattle.frame_words.specs.References.{Cause, FoundOpen, FoundRefused}
-use Rattle.frame_words.proofs.Piecing.{deeds_append, each_append, made_of}
+use Rattle.frame_words.specs.References.{Cause}
+use Rattle.frame_words.proofs.Piecing.{deeds_append, each_append}
 use Rattle.frame_words.proofs.Telling.{makes_elsewhere}
 use Rattle.m2p_map.specs.Maps.{Maps, Mapped}
-use Rattle.xp_machine.specs.Turns.{m2p_update, refused, done_of}
-use Rattle.xp_machine.specs.Pieces.{BeginsWith, EndsWith, UpdateFits, FitsSteps, Serve, Replied}
+use Rattle.xp_machine.specs.Turns.{m2p_update, refused}
+use Rattle.xp_machine.specs.Pieces.{BeginsWith, UpdateFits, FitsSteps, Serve}
 use Rattle.xp_machine.specs.Ports.{Serves, Rests, AnsweredBy}
 
 -- ---- loads before and behind the steps of an operation

@@ -1,9 +1,8 @@
 -- Turns of vCPUs, one behind the other.
-use Rattle.std.proofs.Common.{◌≡◌, ℕ, suc, ◌+◌, ◌/◌, ◌^◌, ◌<◌, List, [], ◌∷◌, ◌++◌, length, map, take, Option, Some, None, refl, sym, ap, ◌∙◌, subst, append-nil, append_assoc, add-one, slice_index_or, slice_set, All}
-use Rattle.std.specs.Prelude.{replicate, slice_get}
+use Rattle.std.proofs.Common.{◌≡◌, ℕ, suc, ◌+◌, ◌^◌, ◌<◌, List, [], ◌∷◌, ◌++◌, length, map, take, Option, Some, None, refl, sym, ap, ◌∙◌, subst, append-nil, append_assoc, add-one, slice_index_or, slice_set, All}
+use Rattle.std.specs.Prelude.{replicate}
 use Rattle.std.specs.List.{flat_map}
 use Rattle.std.proofs.Math.Seq.{map-set_same, take-suc}
-use Rattle.std.proofs.lemmas.Option.{slice_get-get_or, get_or_from_slice_get}
 use Rattle.std.proofs.lemmas.List.Elements.{All-get_or}
 use Rattle.std.proofs.lemmas.List.{get_or-map, length-map, replicate-append-replicate}
 use Rattle.std.proofs.lemmas.Grind.{flat_map-append}
@@ -57,10 +56,12 @@ pub order_none : order [] ≡ []
 unfolding order
 order_none = refl
 
-pub more_runs : (n : Machine) (runs : List TurnRun) (i : ℕ) (d : TurnRun) (s m s' : Stage) → i < length runs → Turns n (order (take i runs)) s m →
-    Turns n (turns_in (slice_index_or runs i d)) m s' → Turns n (order (take (i + 1) runs)) s s'
-more_runs n runs i d s m s' h t u =
-    rw add-one (subst (λ vs. Turns n vs s s') (sym (order_more runs i d h)) (joined_turns n _ _ s m s' t u))
+-- the machine of the further turns is the same one
+pub more_runs : (n k : Machine) (runs : List TurnRun) (i : ℕ) (d : TurnRun) (s m s' : Stage) → k ≡ n → i < length runs → Turns n (order (take i runs)) s m →
+    Turns k (turns_in (slice_index_or runs i d)) m s' → Turns n (order (take (i + 1) runs)) s s'
+more_runs n k runs i d s m s' same h t u =
+    let v : Turns n (turns_in (slice_index_or runs i d)) m s' = subst (λ x. Turns x (turns_in (slice_index_or runs i d)) m s') same u in
+    rw add-one (subst (λ vs. Turns n vs s s') (sym (order_more runs i d h)) (joined_turns n _ _ s m s' t v))
 
 pub no_runs : (n : Machine) (s : Stage) → Turns n (order []) s s
 no_runs n s = subst (λ vs. Turns n vs s s) (sym order_none) (none s)

@@ -1,9 +1,9 @@
 -- What a board that tells all words tells after steps of one of its ports.
-use Rattle.std.proofs.Common.{◌≡◌, ◌≢◌, ℕ, ◌||◌, ◌<◌, Bool, true, false, List, [], ◌∷◌, ◌++◌, length, Option, Some, None, IsTrue, refl, sym, ap, ◌∙◌, subst, inl, inr, slice_set, length-set, get_or-set_same}
+use Rattle.std.proofs.Common.{◌≡◌, ◌≢◌, ℕ, ◌||◌, ◌<◌, Bool, false, List, [], ◌∷◌, ◌++◌, length, Some, IsTrue, refl, sym, ap, ◌∙◌, subst, inl, inr, slice_set, length-set, get_or-set_same}
 use Rattle.std.proofs.Math.ListN.{set}
 use Rattle.std.proofs.lemmas.List.{get_or-set_other}
 use Rattle.xp_words.specs.Machine.{Machine}
-use Rattle.xp_words.specs.Places.{Place, Vcpu, sizes_of, size, is_place, number, memory}
+use Rattle.xp_words.specs.Places.{Vcpu, sizes_of, size, is_place, number, memory}
 use Rattle.xp_words.proofs.PlaceLaws.{memory_same, memory_other}
 use Rattle.xp_board.specs.declared.step.Act.{Act}
 use Rattle.xp_board.specs.declared.step.Act.TheVariants.{Load, Cas, Store, Add, Max}

@@ -12,7 +12,7 @@ use Rattle.xp_board.specs.Sound.{seat_of}
 use Rattle.xp_board.specs.Told.{PortValue, Story, Went}
 use Rattle.frame_words.specs.Hands.{SameHand}
 use Rattle.xp_machine.specs.Pieces.{FitsSteps, Serve, Replied}
-use Rattle.xp_machine.specs.Turns.{Processing, with_answer, m2p_update}
+use Rattle.xp_machine.specs.Turns.{Processing, with_answer}
 
 -- the steps of one operation between its turn's beginning and its answer
 pub record Serves (v w : PortValue) (domain : ℕ) (o : Option Pair) (reply : Reply) : Type 0 where

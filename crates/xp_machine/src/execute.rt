@@ -6,7 +6,7 @@ ghost use Rattle.xp_machine.specs.Ran.{Closes, Ran};
 ghost use Rattle.xp_machine.specs.Turns.{AreShort, first_cpus};
 
 use crate::cpu::Cpu;
-use crate::turns::take_turns;
+use crate::turns::run_all;
 use machine_build::opening;
 use opening_rule::opening_words_are_sound;
 use report_text::report;
@@ -73,8 +73,8 @@ pub fn execute(alloc: Global, trace: Trace) -> Result<Vec<u8>, AllocError>
         scripts,
         turns,
     } = trace;
-    let mut cpus = first_cpus(alloc, domains_of(&layout), scripts)?;
-    let mut board = PlainBoard::make(alloc, layout, words)?;
-    take_turns(&mut board, &mut cpus, turns.as_slice());
+    let cpus = first_cpus(alloc, domains_of(&layout), scripts)?;
+    let board = PlainBoard::make(alloc, layout, words)?;
+    let (board, cpus) = run_all(board, cpus, turns.as_slice());
     closing(alloc, board, cpus)
 }

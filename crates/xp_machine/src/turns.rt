@@ -42,8 +42,8 @@ fn turns_of(board: &mut PlainBoard, cpus: &mut [Cpu], vcpu: u32, count: u32)
     }
 }
 
-/// The turns of the vCPUs, in the order of the runs.
-pub fn take_turns(board: &mut PlainBoard, cpus: &mut [Cpu], runs: &[TurnRun])
+// The turns of the vCPUs, in the order of the runs.
+fn take_turns(board: &mut PlainBoard, cpus: &mut [Cpu], runs: &[TurnRun])
     requires known { All (λ r. r.vcpu < length cpus.old) runs.now }
     requires all { length cpus.old ≡ (sizes_of board.old.machine).vcpus }
     requires short { AreShort cpus.old }
@@ -57,4 +57,24 @@ pub fn take_turns(board: &mut PlainBoard, cpus: &mut [Cpu], runs: &[TurnRun])
     'runs: for run in runs {
         turns_of(board, cpus, run.vcpu, run.count);
     }
+}
+
+/// The board and the vCPUs after all turns.
+pub fn run_all(
+    mut board: PlainBoard,
+    mut cpus: Vec<Cpu>,
+    runs: &[TurnRun],
+) -> (PlainBoard, Vec<Cpu>)
+    requires known { All (λ r. r.vcpu < length cpus.items) runs.now }
+    requires all { length cpus.items ≡ (sizes_of board.machine).vcpus }
+    requires short { AreShort cpus.items }
+    requires ready { Ready board.machine board.story }
+    ensures machine { result.0.machine ≡ board.machine }
+    ensures opening { result.0.story.opening ≡ board.story.opening }
+    ensures turns { Turns board.machine (order runs.now) (stage board.story cpus.items) (stage result.0.story result.1.items) }
+    ensures ready { Ready board.machine result.0.story }
+    ensures scripts { map script_of result.1.items ≡ map script_of cpus.items }
+{
+    take_turns(&mut board, &mut cpus, runs);
+    (board, cpus)
 }

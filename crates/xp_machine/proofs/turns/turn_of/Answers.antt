@@ -1,9 +1,8 @@
-use Rattle.std.proofs.Common.{◌≡◌, ◌<◌, ◌∙◌, List, ap, subst, sym, rules, slice_set, length}
+use Rattle.std.proofs.Common.{◌≡◌, ℕ, ◌<◌, List, subst, rules, slice_set}
 use Rattle.xp_board.specs.Told.{Story}
 use Rattle.xp_machine.specs.Answers.{IsTurn, stage}
 use Rattle.xp_machine.specs.Ports.{Ready}
-use Rattle.xp_machine.specs.Turns.{Processing}
-use Rattle.xp_machine.proofs.Boarding.{Turned, turned_by, runs_at}
+use Rattle.xp_machine.proofs.Boarding.{turned_by, runs_at}
 use Rattle.xp_machine.proofs.Turning.{short_at, same_script, scripts_after}
 use Rattle.xp_machine.proofs.turns.turn_of.Goals as goal
 
@@ -31,7 +30,7 @@ pub returns-clause-opening : goal.returns-clause-opening
 returns-clause-opening c =
     let t = turned_by c.args.board.now c.port-port.result.board.now c.turn.new.port.board.now c.args.vcpu c.port-port.result.vcpu c.turn.new.port.vcpu c.port-port.result.board.ghost_name c.turn.new.port.board.ghost_name
     c.args.cpus.now c.index-cpus-vcpu.result c.turn.new.self c.port-port.ensures.board c.port-port.ensures.vcpu c.turn.ensures.post c.requires.known c.requires.all c.requires.ready c.turn.ensures.turn in
-    subst (λ (x : Story). x.opening ≡ c.args.board.now.story.opening) (search rules) t.opening
+    subst (λ (words : List ℕ). words ≡ c.args.board.now.story.opening) (search rules) t.opening
 
 pub returns-clause-scripts : goal.returns-clause-scripts
 returns-clause-scripts c = scripts_after c.args.cpus.now c.args.vcpu c.index-cpus-vcpu.result c.turn.new.self (same_script _ _ _ _ _ c.turn.ensures.turn)
