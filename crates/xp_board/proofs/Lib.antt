@@ -17,7 +17,9 @@ pub mod MarkEffects
 mod Empty
 mod EntryPicture
 mod FlushPicture
+pub mod Going
 mod KeptPicture
+pub mod Numbers
 mod Picture
 mod ProcessorPicture
 mod ReleasePicture

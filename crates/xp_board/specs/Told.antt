@@ -1,8 +1,8 @@
 -- A port as contracts see it: whose it is, what its seat holds, and the whole state where its board tells it.
-use Rattle.std.specs.Prelude.{◌≡◌, ℕ, ◌==◌, ◌<◌, ◌&&◌, ◌⊎◌, not, Bool, true, false, List, [], ◌∷◌, slice_set, Option, Some, None}
+use Rattle.std.specs.Prelude.{◌≡◌, ℕ, ◌==◌, ◌<◌, ◌&&◌, ◌⊎◌, not, is_some, Bool, true, false, List, [], ◌∷◌, length, slice_set, Option, Some, None}
 use Rattle.atomic_table.specs.Seated.{TableId}
 use Rattle.xp_words.specs.Machine.{Machine}
-use Rattle.xp_words.specs.Places.{sizes_of, Place, memory}
+use Rattle.xp_words.specs.Places.{sizes_of, size, Place, memory}
 use Rattle.xp_board.specs.declared.step.Step.{Step}
 use Rattle.xp_board.specs.declared.step.Item.{Item}
 use Rattle.xp_board.specs.declared.holdings.Made.{Made}
@@ -21,8 +21,9 @@ pub record Post : Type 0 where
   pub lender : ℕ
   pub table : TableId
 
--- all steps, the newest first, the words and the hands of all seats
+-- the words at the opening; all steps since, the newest first; and the words and the hands of all seats
 pub record Story : Type 0 where
+  pub opening : List ℕ
   pub log : List (ℕ × Step)
   pub words : List ℕ
   pub seats : List Holdings
@@ -37,6 +38,7 @@ abbrev pub tells : ℕ → Step → ℕ → Holdings → Option Story → Option
 tells s x found h None = None
 tells s x found h (Some story) =
     Some (record {
+      opening = story.opening;
       log = (s, x) ∷ story.log;
       words = slice_set story.words x.place (left_by x.act found);
       seats = slice_set story.seats s h;
@@ -48,10 +50,21 @@ stepped v x found =
     let h = after v.post.machine v.post.seat v.holdings x found in
     record { post = v.post; holdings = h; told = tells v.post.seat x found h v.told }
 
--- the word found is that which the board told
+-- the word found is that which the board told, and all words are told
 abbrev pub IsTold : Machine → Option Story → Place → ℕ → Type 0
 IsTold n None p found = Unit {0}
-IsTold n (Some story) p found = memory (sizes_of n) story.words p ≡ found
+IsTold n (Some story) p found = (length story.words ≡ size (sizes_of n)) × (memory (sizes_of n) story.words p ≡ found)
+
+-- whether the board tells all words, and the word that it tells (0 where it tells none)
+abbrev pub is_telling : PortValue → Bool
+is_telling v = is_some v.told
+
+abbrev pub word_in : Machine → Option Story → Place → ℕ
+word_in n None p = 0
+word_in n (Some story) p = memory (sizes_of n) story.words p
+
+abbrev pub told_word : PortValue → Place → ℕ
+told_word v p = word_in v.post.machine v.told p
 
 -- There is a sound state in which this seat has these holdings, and the word at that place is the one found.
 -- This is all that a seat learns of the other seats.
@@ -71,11 +84,12 @@ is_item false page x = not x.user && (x.page == page)
 abbrev pub cached_item : Bool → ℕ → List Item → Option Item
 cached_item user page xs = first_of (is_item user page) xs
 
--- from v the port may come to w by legal steps, the newest first
+-- From v the port may come to w by these legal steps, the newest first. Each finds the word that the board told.
 abbrev pub Went : PortValue → List Made → PortValue → Type 0
 Went v [] w = w ≡ v
 Went v (x ∷ xs) w =
-    (u : PortValue) × Went v xs u × LegalNow u.post.machine u.post.seat u.holdings x.step × (w ≡ stepped u x.step x.found)
+    (u : PortValue) × Went v xs u × LegalNow u.post.machine u.post.seat u.holdings x.step
+    × IsTold u.post.machine u.told (place_of u.post.machine x.step) x.found × (w ≡ stepped u x.step x.found)
 
 -- the port came from v to w by legal steps
 unfoldable pub Goes : PortValue → PortValue → Type 0

@@ -5,6 +5,7 @@ use xp_words::Layout;
 
 /// One vCPU's access to the board. Each step is one event of the machine.
 pub trait Port {
+    ghost use Rattle.xp_words.specs.Machine.{IsMachine};
     ghost use Rattle.xp_words.specs.Places.{place_at, sizes_of};
     ghost use Rattle.xp_board.specs.Legal.{LegalNow};
     ghost use Rattle.xp_board.specs.Told.{PortValue, stepped, IsTold, Finds, Goes, Saw, cached_item};
@@ -13,7 +14,8 @@ pub trait Port {
     ghost value: { Self → PortValue };
 
     fn layout(&self) -> &Layout
-        ensures { result.now ≡ (value self.now).post.machine };
+        ensures layout { result.now ≡ (value self.now).post.machine }
+        ensures machine { IsMachine result.now };
 
     /// The number of the vCPU.
     fn seat(&self) -> u32

@@ -1,12 +1,7 @@
+pub mod Answering
 pub mod Boarding
-pub mod Counting
-pub mod Turning
+pub mod Reaching
 pub mod Starting
 pub mod Statuses
+pub mod Turning
 pub mod Walking
-pub mod Handling
-pub mod Stepping
-pub mod Fitting
-pub mod Lifting
-pub mod Running
-pub mod Reaching

@@ -5,8 +5,7 @@ use Rattle.std.proofs.lemmas.List.{length-map}
 use Rattle.std.proofs.lemmas.List.Elements.{All-from_get_or}
 use Rattle.std.proofs.lemmas.List.Sums.{get_or-le-sum_by}
 use Rattle.xp_words.specs.declared.ops.Op.{Op}
-use Rattle.xp_machine.specs.Turns.{AreShort, State, script_of, first_cpus}
-use Rattle.xp_machine.proofs.Turning.{Keeps}
+use Rattle.xp_machine.specs.Turns.{AreShort, script_of, first_cpus}
 
 suc_is : (m n : ℕ) → suc m ≡ suc n → m ≡ n
 suc_is m n e = omega arith
@@ -29,6 +28,3 @@ pub short_first : (domains : List ℕ) (scripts : List (List Op)) → length scr
 short_first domains scripts e few =
     let P : List (List Op) → Type 0 = λ ss. All (λ (script : List Op). length script < 2 ^ 32) ss in
     subst P (sym (scripts_first domains scripts e)) (short_scripts scripts few)
-
-pub length_kept : (s s' : State) → Keeps s s' → length s'.cpus ≡ length s.cpus
-length_kept s s' k = sym (length-map s'.cpus script_of) ∙ ap length k.scripts ∙ length-map s.cpus script_of

@@ -1,43 +1,34 @@
--- Turns of vCPUs as runs of legal steps, one piece of the run for each answer.
-use Rattle.std.specs.Prelude.{◌≡◌, ℕ, ◌/◌, List, [], ◌∷◌, ◌++◌, length, slice_get, slice_set, Option, Some, None}
+-- Turns of vCPUs as runs of legal steps, one piece of the board's list of steps for each answer.
+use Rattle.std.specs.Prelude.{◌≡◌, ℕ, List, [], ◌∷◌, ◌++◌, length, slice_get, slice_set, Option, Some, None}
 use Rattle.xp_words.specs.Machine.{Machine}
-use Rattle.xp_words.specs.declared.ops.Pair.{Pair}
 use Rattle.xp_words.specs.declared.ops.Op.{Op}
 use Rattle.xp_words.specs.declared.reply.Reply.{Reply}
-use Rattle.xp_words.specs.declared.reply.Refusal.TheVariants as refusals
-use Rattle.xp_board.specs.declared.step.Mark.TheVariants.{Cut, Turn}
 use Rattle.xp_board.specs.declared.holdings.Made.{Made}
 use Rattle.xp_board.specs.Hands.{IsEmptyHand}
 use Rattle.xp_board.specs.Sound.{seat_of}
-use Rattle.xp_board.specs.Runs as runs
-use Rattle.xp_machine.specs.Pieces.{Piece, BeginsWith, EndsWith, UpdateFits, deeds}
-use Rattle.xp_machine.specs.Turns.{Processing, m2p_update, refused, done_of, with_answer}
+use Rattle.xp_board.specs.Told.{Story}
+use Rattle.shared_board.specs.Board.{state_of}
+use Rattle.xp_machine.specs.Pieces.{Piece, Replied, log_by}
+use Rattle.xp_machine.specs.Turns.{Processing, with_answer}
 
--- the words and the hands of the vCPUs, and what their operations answered
+-- the list of steps, the words and the hands of the board, and what the operations answered
 pub record Stage : Type 0 where
-  pub at : runs.State
+  pub board : Story
   pub cpus : List Processing
 
--- A reply fits the steps of its operation: one that is not built is refused, and nothing is done.
-abbrev pub FitsSteps : Machine → ℕ → Option Pair → List Made → Reply → Type 0
-FitsSteps n domain None made reply = (reply ≡ refused refusals.BadCommand) × (deeds n made ≡ [])
-FitsSteps n domain (Some p) made reply =
-    (reply.done ≡ done_of reply.refusal) × (reply.value ≡ 0) × UpdateFits n domain (p.ptr / 4096) p.val made reply.refusal
-
--- vCPU v answers this operation by steps that lead from a to b: they begin a turn and end with the answer, the
--- reply fits them, and they leave its hand empty
-pub record Answers (n : Machine) (v domain : ℕ) (op : Op) (reply : Reply) (a b : runs.State) : Type 0 where
+-- vCPU v answers this operation by steps that lead from a to b, and which are what the list of steps has more. They
+-- begin a turn and end with the answer, the reply fits them, and they leave its hand empty.
+pub record Answers (n : Machine) (v domain : ℕ) (op : Op) (reply : Reply) (a b : Story) : Type 0 where
   pub made : List Made
-  pub piece : Piece n v a made b
-  pub begins : BeginsWith (Some Turn) made
-  pub ends : EndsWith (Some (Cut 0)) made
-  pub fits : FitsSteps n domain (m2p_update op) made reply
+  pub piece : Piece n v (state_of a) made (state_of b)
+  pub log : b.log ≡ log_by v made ++ a.log
+  pub replied : Replied n domain op made reply
   pub empty : IsEmptyHand (seat_of b.seats v)
 
 -- a turn of vCPU v answers its next operation, and changes nothing where there is none
 abbrev pub TurnBy : Machine → ℕ → Processing → Option Op → Stage → Stage → Type 0
 TurnBy n v c None s s' = s' ≡ s
-TurnBy n v c (Some op) s s' = (reply : Reply) × (s'.cpus ≡ slice_set s.cpus v (with_answer c reply)) × Answers n v c.domain op reply s.at s'.at
+TurnBy n v c (Some op) s s' = (reply : Reply) × (s'.cpus ≡ slice_set s.cpus v (with_answer c reply)) × Answers n v c.domain op reply s.board s'.board
 
 abbrev pub TurnOf : Machine → ℕ → Option Processing → Stage → Stage → Type 0
 TurnOf n v None s s' = ⊥
@@ -50,3 +41,6 @@ IsTurn n v s s' = TurnOf n v (slice_get s.cpus v) s s'
 pub data Turns (n : Machine) : List ℕ → Stage → Stage → Type 0 where
   none : (s : Stage) → Turns n [] s s
   more : (vs : List ℕ) (v : ℕ) (s m s' : Stage) → Turns n vs s m → IsTurn n v m s' → Turns n (vs ++ v ∷ []) s s'
+
+abbrev pub stage : Story → List Processing → Stage
+stage a cpus = record { board = a; cpus = cpus }

@@ -1,7 +1,7 @@
 pub mod Answers
-pub mod Boards
 pub mod Outcome
 pub mod Pieces
+pub mod Ports
 pub mod Ran
 pub mod Texts
 pub mod Turns

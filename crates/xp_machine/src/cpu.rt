@@ -1,11 +1,15 @@
-ghost use Rattle.std.specs.Prelude.{◌≡◌, ◌+◌, ◌∷◌, ◌++◌, ◌<◌, ◌≤◌, ◌^◌, [], length, IfOk, slice_get};
-ghost use Rattle.xp_machine.specs.Turns.{Fits, CpuTurn, FitsUpdate, m2p_update, pending_of, refused};
+ghost use Rattle.std.specs.Prelude.{◌≡◌, ◌+◌, ◌∷◌, ◌++◌, ◌<◌, ◌≤◌, ◌^◌, [], true, Some, length, IfOk, slice_get};
+ghost use Rattle.xp_words.specs.Places.{Vcpu};
+ghost use Rattle.xp_board.specs.Told.{is_telling, told_word};
+ghost use Rattle.xp_machine.specs.Ports.{Serves, Rests, AnsweredBy, CpuTurn};
+ghost use Rattle.xp_machine.specs.Turns.{m2p_update, pending_of, refused};
 
-use crate::board::PlainBoard;
-use crate::update::{begin_turn, end_answer, set_m2p};
+use frame_words::{begin_turn, end_answer, look_run};
+use m2p_map::set_m2p;
 use std::alloc::{AllocError, Global};
 use std::marker::Model;
-use xp_words::{Call, Log, LogLine, Op, Pair, Refusal, Reply, Script};
+use xp_board::Port;
+use xp_words::{Call, Log, LogLine, Op, Pair, Refusal, Reply, Script, Stop};
 
 /// The caller's own domain, as `mmu_update` names it (`DOMID_SELF` of `xen.h`).
 const DOMID_SELF: u64 = 0x7ff0;
@@ -55,20 +59,41 @@ fn refused(refusal: Refusal) -> Reply
 }
 
 // One operation, from its beginning to its answer.
-fn answer(board: &mut PlainBoard, domain: u16, op: &Op) -> Reply
-    ensures { Fits domain op.now board.old result board.new }
+fn answer<P: Port>(port: &mut P, domain: u16, op: &Op) -> Reply
+    requires running { (P.value port.old).holdings.run ≡ Some 0 }
+    requires telling { is_telling (P.value port.old) ≡ true }
+    requires nothing { (P.value port.old).holdings.ending ≡ [] }
+    ensures post { (P.value port.new).post ≡ (P.value port.old).post }
+    ensures serves { Serves (P.value port.old) (P.value port.new) domain (m2p_update op.now) result }
 {
     match m2p_update(op) {
         None => refused(Refusal::BadCommand),
-        Some(pair) => match set_m2p(board, pair.ptr / 4096, domain, pair.val) {
+        Some(pair) => match set_m2p(port, pair.ptr / 4096, domain, pair.val) {
             Ok(()) => Reply {
                 done: 1,
                 value: 0,
                 refusal: None,
             },
-            Err(refusal) => refused(refusal),
+            Err(Stop::Refused(refusal)) => refused(refusal),
+            // One thread makes all steps, so no exchange is lost.
+            Err(Stop::Paused(_)) => unreachable!(),
         },
     }
+}
+
+// One operation from the beginning of its turn to the end of its answer.
+fn take_turn<P: Port>(port: &mut P, domain: u16, op: &Op) -> Reply
+    requires telling { is_telling (P.value port.old) ≡ true }
+    requires running { told_word (P.value port.old) (Vcpu (P.value port.old).post.seat 6) ≡ 0 }
+    requires rests { Rests (P.value port.old).holdings }
+    ensures post { (P.value port.new).post ≡ (P.value port.old).post }
+    ensures answered { AnsweredBy (P.value port.old) (P.value port.new) domain op.now result }
+{
+    begin_turn(port);
+    look_run(port);
+    let reply = answer(port, domain, op);
+    end_answer(port, 0);
+    reply
 }
 
 impl Cpu {
@@ -85,16 +110,17 @@ impl Cpu {
     }
 
     /// Answers the next operation, where there is one. It takes no memory.
-    pub fn turn(&mut self, board: &mut PlainBoard, vcpu: u32)
+    pub fn turn<P: Port>(&mut self, port: &mut P)
         requires short { length self.old.script < 2 ^ 32 }
-        requires vcpu { vcpu < length board.old.machine.vcpu_domain }
-        ensures { CpuTurn self.old (slice_get self.old.script (length self.old.log)) board.old self.new board.new }
+        requires telling { is_telling (P.value port.old) ≡ true }
+        requires running { told_word (P.value port.old) (Vcpu (P.value port.old).post.seat 6) ≡ 0 }
+        requires rests { Rests (P.value port.old).holdings }
+        ensures post { (P.value port.new).post ≡ (P.value port.old).post }
+        ensures turn { CpuTurn self.old (slice_get self.old.script (length self.old.log)) (P.value port.old) self.new (P.value port.new) }
     {
         let next = self.log.len();
         if let Some(op) = self.script.as_slice().get(next) {
-            begin_turn(board, vcpu);
-            let reply = answer(board, self.domain, op);
-            end_answer(board);
+            let reply = take_turn(port, self.domain, op);
             let line = LogLine::Answer {
                 op: next as u32 + 1,
                 call: 0,

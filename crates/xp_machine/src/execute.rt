@@ -1,16 +1,17 @@
-ghost use Rattle.std.specs.Prelude.{◌≡◌, length, map, IfOk};
+ghost use Rattle.std.specs.Prelude.{◌≡◌, length, IfOk};
+ghost use Rattle.xp_words.specs.Places.{sizes_of};
 ghost use Rattle.trace_text.specs.WellFormed.{IsWellFormed};
-ghost use Rattle.report_text.specs.ReportOf.{report_of};
-ghost use Rattle.xp_machine.specs.Turns.{AreShort, first_cpus, pending_of, state};
-ghost use Rattle.xp_machine.specs.Ran.{Ran, RanTold, report_at};
+ghost use Rattle.xp_machine.specs.Answers.{stage};
+ghost use Rattle.xp_machine.specs.Ran.{Closes, Ran};
+ghost use Rattle.xp_machine.specs.Turns.{AreShort, first_cpus};
 
-use crate::board::PlainBoard;
 use crate::cpu::Cpu;
 use crate::turns::run_all;
 use machine_build::opening;
 use opening_rule::opening_words_are_sound;
 use report_text::report;
-use sound_rule::{a_run_leaves_it_safe, every_run_stays_sound, rested_words_are_sound};
+use shared_board::PlainBoard;
+use sound_rule::{a_run_leaves_it_safe, rested_words_are_sound};
 use std::alloc::{AllocError, Global};
 use trace_text::{ScriptList, Trace};
 use xp_words::Layout;
@@ -35,10 +36,10 @@ fn first_cpus(alloc: Global, domains: &[u16], scripts: ScriptList) -> Result<Vec
 }
 
 // The report of the board and of the vCPUs' logs.
-fn closing(alloc: Global, board: &PlainBoard, cpus: Vec<Cpu>) -> Result<Vec<u8>, AllocError>
-    requires each { length cpus.items ≡ length board.now.machine.vcpu_domain }
+fn closing(alloc: Global, board: PlainBoard, cpus: Vec<Cpu>) -> Result<Vec<u8>, AllocError>
+    requires each { length cpus.items ≡ (sizes_of board.machine).vcpus }
     requires short { AreShort cpus.items }
-    ensures { IfOk result (λ v. v.items ≡ report_at (state board.now cpus.items)) }
+    ensures { IfOk result (λ v. Closes board.machine board.story.opening (stage board.story cpus.items) v.items) }
 {
     let mut logs = Vec::new(alloc);
     let mut pending = Vec::new(alloc);
@@ -46,14 +47,22 @@ fn closing(alloc: Global, board: &PlainBoard, cpus: Vec<Cpu>) -> Result<Vec<u8>,
         pending.push(cpu.pending())?;
         logs.push(cpu.into_log())?;
     }
-    report(alloc, board.layout(), board.words(), &logs, &pending)
+    let layout = board.layout().copy();
+    let mut words = Vec::with_capacity(alloc, layout.words() as usize)?;
+    board.into_words(&mut words);
+    report(alloc, &layout, &words, &logs, &pending)
 }
 
-// Runs a trace: the machine is made, the turns are taken, and the report is written out.
-fn execute_whole(alloc: Global, trace: Trace) -> Result<Vec<u8>, AllocError>
+/// Runs a trace: the machine is made, the turns are taken, and the report is written out. The text is the report of
+/// words that legal steps lead to.
+pub fn execute(alloc: Global, trace: Trace) -> Result<Vec<u8>, AllocError>
     requires { IsWellFormed trace }
-    ensures { IfOk result (λ v. RanTold trace v.items) }
+    ensures { IfOk result (λ v. Ran trace v.items) }
 {
+    // What the steps keep is law: these calls do nothing.
+    opening_words_are_sound();
+    a_run_leaves_it_safe();
+    rested_words_are_sound();
     let words = opening(alloc, &trace)?;
     let Trace {
         version: _,
@@ -65,21 +74,7 @@ fn execute_whole(alloc: Global, trace: Trace) -> Result<Vec<u8>, AllocError>
         turns,
     } = trace;
     let cpus = first_cpus(alloc, domains_of(&layout), scripts)?;
-    let board = PlainBoard::make(layout, words);
+    let board = PlainBoard::make(alloc, layout, words)?;
     let (board, cpus) = run_all(board, cpus, turns.as_slice());
-    closing(alloc, &board, cpus)
-}
-
-/// Runs a trace. The text is the report of words that legal steps lead to.
-pub fn execute(alloc: Global, trace: Trace) -> Result<Vec<u8>, AllocError>
-    requires { IsWellFormed trace }
-    ensures { IfOk result (λ v. Ran trace v.items) }
-{
-    // What the steps keep is law: these calls do nothing.
-    opening_words_are_sound();
-    every_run_stays_sound();
-    a_run_leaves_it_safe();
-    rested_words_are_sound();
-    let text = execute_whole(alloc, trace)?;
-    Ok(text)
+    closing(alloc, board, cpus)
 }

@@ -1,7 +1,6 @@
 //! A whole run of the machine: from the bytes of a trace to the bytes of a report.
 #![tactic(auto)]
 
-mod board;
 mod cpu;
 mod execute;
 mod status;
@@ -10,7 +9,6 @@ mod tests;
 mod texts;
 mod top;
 mod turns;
-mod update;
 
 pub use status::Status;
 pub use top::run;

@@ -1,0 +1,70 @@
+-- What the single steps leave in hand, part by part.
+use Rattle.std.specs.Prelude.{◌≡◌, ℕ, ◌<◌, ◌==◌, Bool, true, false, ◌∷◌, length, Some}
+use Rattle.xp_board.specs.declared.holdings.Ending.{Ending}
+use Rattle.xp_board.specs.declared.holdings.Holdings.{Holdings}
+use Rattle.xp_board.specs.declared.holdings.OwnerFound.TheVariants as owners
+use Rattle.xp_board.specs.Hands.{refs_to, without_ref}
+use Rattle.xp_board.specs.Readings.{ref_count}
+
+-- the parts that no step of this crate changes
+pub record SameRest (h k : Holdings) : Type 0 where
+  pub typed : k.typed ≡ h.typed
+  pub works : k.works ≡ h.works
+  pub locks : k.locks ≡ h.locks
+  pub claimed : k.claimed ≡ h.claimed
+  pub raised : k.raised ≡ h.raised
+  pub credits : k.credits ≡ h.credits
+  pub looking : k.looking ≡ h.looking
+  pub cache : k.cache ≡ h.cache
+  pub walk : k.walk ≡ h.walk
+  pub cold : k.cold ≡ h.cold
+  pub old0 : k.old0 ≡ h.old0
+  pub old1 : k.old1 ≡ h.old1
+  pub acked : k.acked ≡ h.acked
+  pub ran : k.ran ≡ h.ran
+
+-- nothing in hand changed
+pub record SameHand (h k : Holdings) : Type 0 where
+  pub refs : k.refs ≡ h.refs
+  pub ending : k.ending ≡ h.ending
+  pub run : k.run ≡ h.run
+  pub turn : k.turn ≡ h.turn
+  pub rest : SameRest h k
+
+-- the last turn is the one that began here
+pub record BegunTurn (h k : Holdings) : Type 0 where
+  pub refs : k.refs ≡ h.refs
+  pub ending : k.ending ≡ h.ending
+  pub run : k.run ≡ h.run
+  pub turn : k.turn ≡ length h.steps
+  pub rest : SameRest h k
+
+-- the own run word was found
+pub record FoundRun (w : ℕ) (h k : Holdings) : Type 0 where
+  pub refs : k.refs ≡ h.refs
+  pub ending : k.ending ≡ h.ending
+  pub run : k.run ≡ Some w
+  pub turn : k.turn ≡ h.turn
+  pub rest : SameRest h k
+
+-- a reference to frame f, which that domain owns, came into the hand
+pub record TookRef (f owner : ℕ) (h k : Holdings) : Type 0 where
+  pub refs : k.refs ≡ record { frame = f; owner = owners.Of owner } ∷ h.refs
+  pub held : 0 < refs_to f k.refs
+  pub ending : k.ending ≡ h.ending
+  pub run : k.run ≡ h.run
+  pub turn : k.turn ≡ h.turn
+  pub rest : SameRest h k
+
+-- whether frame f came to the ending ones
+abbrev pub EndsIf : Bool → ℕ → Holdings → Holdings → Type 0
+EndsIf false f h k = k.ending ≡ h.ending
+EndsIf true f h k = (e : Ending) × (e.frame ≡ f) × (k.ending ≡ e ∷ h.ending)
+
+-- a reference to frame f went out of the hand; with a found count of 1 it was the last, and the frame is ending
+pub record GaveRef (f found : ℕ) (h k : Holdings) : Type 0 where
+  pub refs : k.refs ≡ without_ref f h.refs
+  pub ending : EndsIf (ref_count found == 1) f h k
+  pub run : k.run ≡ h.run
+  pub turn : k.turn ≡ h.turn
+  pub rest : SameRest h k

@@ -1,0 +1,92 @@
+-- References that are taken and given back.
+use Rattle.std.specs.Prelude.{◌≡◌, ◌≢◌, ◌⊎◌, ℕ, ◌<◌, ◌≤◌, List, [], Option, Some, None, Result, Ok, Err}
+use Rattle.xp_words.specs.declared.refs.RefWord.{RefWord}
+use Rattle.xp_words.specs.declared.refs.RefWord.TheVariants.{Owned}
+use Rattle.xp_words.specs.declared.reply.Stop.{Stop}
+use Rattle.xp_words.specs.declared.reply.Stop.TheVariants.{Refused, Paused}
+use Rattle.xp_words.specs.declared.reply.Refusal.{Refusal}
+use Rattle.xp_words.specs.declared.reply.Refusal.TheVariants.{NoFrame, WrongOwner, CountFull}
+use Rattle.xp_words.specs.declared.reply.Pause.{Pause}
+use Rattle.xp_words.specs.declared.reply.Pause.TheVariants.{Lost}
+use Rattle.xp_words.specs.RefWords.{ref_read}
+use Rattle.xp_words.specs.Machine.{Machine}
+use Rattle.xp_words.specs.Places.{Refs, number, sizes_of}
+use Rattle.xp_board.specs.declared.step.Act.TheVariants.{Add}
+use Rattle.xp_board.specs.declared.holdings.Made.{Made}
+use Rattle.xp_board.specs.Readings.{ref_count}
+use Rattle.xp_board.specs.RefSteps.{one_down}
+use Rattle.xp_board.specs.Told.{PortValue, Had, told_word}
+use Rattle.frame_words.specs.Hands.{GaveRef}
+use Rattle.frame_words.specs.Pieces.{Makes, Serves}
+
+-- ---- reference words
+-- owned by that domain, with room for one more reference
+abbrev pub IsOpen : ℕ → ℕ → Option RefWord → Type 0
+IsOpen owner limit (Some (Owned o allocated count)) = (o ≡ owner) × (count < limit)
+IsOpen owner limit _ = ⊥
+
+abbrev pub IsOwnedBy : ℕ → Option RefWord → Type 0
+IsOwnedBy owner (Some (Owned o allocated count)) = o ≡ owner
+IsOwnedBy owner _ = ⊥
+
+abbrev pub IsFull : ℕ → ℕ → Option RefWord → Type 0
+IsFull owner limit (Some (Owned o allocated count)) = (o ≡ owner) × (limit ≤ count)
+IsFull owner limit _ = ⊥
+
+-- why a reference is refused for that owner, of a frame whose reference word is that one
+abbrev pub RefusesWord : ℕ → ℕ → ℕ → ℕ → Refusal → Type 0
+RefusesWord f owner limit w (WrongOwner frame found) = (frame ≡ f) × (found ≡ w) × ¬ IsOwnedBy owner (ref_read w)
+RefusesWord f owner limit w (CountFull frame found) = (frame ≡ f) × (found ≡ w) × IsFull owner limit (ref_read w)
+RefusesWord f owner limit w _ = ⊥
+
+-- ---- a reference taken
+-- one of the steps found the frame open
+pub record FoundOpen (n : Machine) (f owner : ℕ) (made : List Made) : Type 0 where
+  pub word : ℕ
+  pub had : Had n (Refs f) word made
+  pub is_open : IsOpen owner n.limit (ref_read word)
+
+-- one of the steps found a word by which it is refused
+pub record FoundRefused (n : Machine) (f owner : ℕ) (made : List Made) (r : Refusal) : Type 0 where
+  pub word : ℕ
+  pub had : Had n (Refs f) word made
+  pub refuses : RefusesWord f owner n.limit word r
+
+-- one of the steps found a word, and the exchange of that word another
+pub record FoundLost (n : Machine) (f : ℕ) (made : List Made) (p : Pause) : Type 0 where
+  pub expected : ℕ
+  pub found : ℕ
+  pub had_expected : Had n (Refs f) expected made
+  pub had_found : Had n (Refs f) found made
+  pub other : found ≢ expected
+  pub lost : p ≡ Lost (number (sizes_of n) (Refs f)) expected found
+
+-- why taking a reference to frame f for that owner ends otherwise: by the number of the frame, or by what these steps found
+abbrev pub Cause : Machine → ℕ → ℕ → List Made → Stop → Type 0
+Cause n f owner made (Refused r) = ((n.frames ≤ f) × (r ≡ NoFrame f)) ⊎ FoundRefused n f owner made r
+Cause n f owner made (Paused p) = FoundLost n f made p
+
+abbrev pub Shows : Machine → ℕ → ℕ → List Made → Result ℕ Stop → Type 0
+Shows n f owner made (Ok g) = FoundOpen n f owner made
+Shows n f owner made (Err e) = Cause n f owner made e
+
+-- the steps from v to w, and what they show of the answer
+pub record Gets (v w : PortValue) (f owner : ℕ) (answer : Result ℕ Stop) : Type 0 where
+  pub made : List Made
+  pub piece : Serves v w f [] made
+  pub shows : Shows v.post.machine f owner made answer
+
+abbrev pub IsRefusal : Stop → Type 0
+IsRefusal (Refused r) = Unit {0}
+IsRefusal (Paused p) = ⊥
+
+-- the board tells at least two references to frame f
+abbrev pub IsLent : ℕ → PortValue → Type 0
+IsLent f v = 2 ≤ ref_count (told_word v (Refs f))
+
+-- ---- a reference given back
+-- from v to w one step counts it down; what stays in hand depends on the word that it finds
+pub record Puts (v w : PortValue) (f : ℕ) : Type 0 where
+  pub found : ℕ
+  pub made : Makes v w (Refs f) (Add one_down) None found
+  pub hand : GaveRef f found v.holdings w.holdings

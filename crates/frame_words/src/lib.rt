@@ -1,0 +1,13 @@
+//! Frames: one function for each single step that is legal today, and the references that they take and give back.
+//!
+//! Each of them takes the access of one vCPU, over any board, and says what it leaves in that vCPU's hand.
+#![tactic(auto)]
+
+mod references;
+mod rows;
+
+pub use references::{get_ref, put_ref};
+pub use rows::{
+    begin_turn, end_answer, look_clock, look_kind, look_refs, look_run, lower_refs, raise_refs,
+    store_m2p,
+};
