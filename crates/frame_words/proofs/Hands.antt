@@ -17,7 +17,7 @@ use Rattle.xp_board.specs.Acts.{left_by}
 use Rattle.xp_board.specs.After.{after_move, noted}
 use Rattle.xp_board.specs.Hands.{refs_to}
 use Rattle.xp_board.specs.Lists.{times_by, one_at}
-use Rattle.xp_board.specs.Legal.{LegalNow, is_proved_mark}
+use Rattle.xp_board.specs.Legal.{LegalNow}
 use Rattle.xp_board.specs.Readings.{ref_count, owner_of}
 use Rattle.xp_board.specs.RefSteps.{one_down, owner_number, took_ref, gave_ref, Raise, ref_row, after_ref_row}
 use Rattle.xp_board.specs.Runs.{place_of}
@@ -25,7 +25,7 @@ use Rattle.xp_board.specs.Told.{PortValue, stepped, IsTold}
 use Rattle.frame_words.specs.Hands.{SameRest, SameHand, BegunTurn, FoundRun, TookRef, GaveRef, EndsIf}
 use Rattle.frame_words.specs.Pieces.{Makes, look_step}
 use Rattle.frame_words.proofs.Counting.{counted, next_read, owner_is}
-use Rattle.frame_words.proofs.Stepping.{placed, refs_there, look_is_legal, raise_is_legal, makes, hand_after}
+use Rattle.frame_words.proofs.Stepping.{is_plain, placed, refs_there, look_is_legal, raise_is_legal, makes, hand_after}
 
 rest_of : (h k : Holdings) → k.typed ≡ h.typed → k.works ≡ h.works → k.locks ≡ h.locks → k.claimed ≡ h.claimed → k.raised ≡ h.raised → k.credits ≡ h.credits → k.looking ≡ h.looking → k.cache ≡ h.cache → k.walk ≡ h.walk → k.cold ≡ h.cold → k.old0 ≡ h.old0 → k.old1 ≡ h.old1 → k.acked ≡ h.acked → k.ran ≡ h.ran → SameRest h k
 rest_of h k a b c d e f g i j l m n o p =
@@ -54,7 +54,7 @@ when_other w e y z off = grind (arith, nat_tests)
 
 -- ---- loads
 module _ (v w : PortValue) (x : Step) (i found : ℕ) (p : Place) (mark : Option Mark) (is : x ≡ look_step i mark) (at : i ≡ number (sizes_of v.post.machine) p)
-    (real : IsTrue (is_place (sizes_of v.post.machine) p)) (proved : IsTrue (is_proved_mark mark)) where
+    (real : IsTrue (is_place (sizes_of v.post.machine) p)) (proved : IsTrue (is_plain mark)) where
   pub here : place_of v.post.machine x ≡ p
   here = ap (λ (y : Step). place_of v.post.machine y) is ∙ placed v.post.machine i p at real
 

@@ -16,7 +16,7 @@ use Rattle.xp_board.specs.declared.step.StepKind.TheVariants as steps
 use Rattle.xp_board.specs.declared.holdings.Holdings.{Holdings}
 use Rattle.xp_board.specs.After.{after_move, noted}
 use Rattle.xp_board.specs.Hands.{hand, refs_to}
-use Rattle.xp_board.specs.Legal.{LegalMove, LegalNow, is_proved, is_proved_mark, is_raise}
+use Rattle.xp_board.specs.Legal.{LegalMove, LegalNow, is_taken}
 use Rattle.xp_board.specs.RefSteps.{SparesClosing, one_down, ref_row}
 use Rattle.xp_board.specs.Runs.{place_of}
 use Rattle.xp_board.specs.Told.{PortValue, stepped, IsTold}
@@ -54,12 +54,18 @@ pub placed : (n : Machine) (i : ℕ) (p : Place) → i ≡ number (sizes_of n) p
 placed n i p is real = ap (λ j. place_at (sizes_of n) j) is ∙ place_back (sizes_of n) p real
 
 -- ---- legal
-legal_at : (n : Machine) (s : ℕ) (h : Holdings) (i : ℕ) (p : Place) (a : Act) (k : StepKind) (mark : Option Mark) → place_at (sizes_of n) i ≡ p → LegalMove n s h p a k mark →
-    IsTrue (is_proved k a) → IsTrue (is_proved_mark mark) → LegalNow n s h (record { place = i; act = a; kind = k; mark = mark })
-legal_at n s h i p a k mark at legal proved marked =
-    record { legal = subst (λ q. LegalMove n s h q a k mark) (sym at) legal; kind = proved; mark = marked }
+-- no mark, or one that says where a turn or an answer stands
+abbrev pub is_plain : Option Mark → Bool
+is_plain None = true
+is_plain (Some (marks.Cut call)) = true
+is_plain (Some marks.Turn) = true
+is_plain _ = false
 
-look_move : (n : Machine) (s : ℕ) (h : Holdings) (p : Place) (mark : Option Mark) → IsTrue (is_place (sizes_of n) p) → IsTrue (is_proved_mark mark) → LegalMove n s h p Load steps.Look mark
+legal_at : (n : Machine) (s : ℕ) (h : Holdings) (i : ℕ) (p : Place) (a : Act) (k : StepKind) (mark : Option Mark) → place_at (sizes_of n) i ≡ p → LegalMove n s h p a k mark →
+    IsTrue (is_taken k) → LegalNow n s h (record { place = i; act = a; kind = k; mark = mark })
+legal_at n s h i p a k mark at legal taken = record { legal = subst (λ q. LegalMove n s h q a k mark) (sym at) legal; kind = taken }
+
+look_move : (n : Machine) (s : ℕ) (h : Holdings) (p : Place) (mark : Option Mark) → IsTrue (is_place (sizes_of n) p) → IsTrue (is_plain mark) → LegalMove n s h p Load steps.Look mark
 look_move n s h p None real k = record { place = real; marked = tt; running = λ needs. absurd (cc); spelling = tt; act = tt }
 look_move n s h p (Some (marks.Cut call)) real k = record { place = real; marked = tt; running = λ needs. absurd (cc); spelling = tt; act = tt }
 look_move n s h p (Some marks.Turn) real k = record { place = real; marked = tt; running = λ needs. absurd (cc); spelling = tt; act = tt }
@@ -69,12 +75,8 @@ look_move n s h p (Some (marks.Forget page)) real k = absurd cc
 look_move n s h p (Some (marks.Walk write)) real k = absurd cc
 
 pub look_is_legal : (n : Machine) (s : ℕ) (h : Holdings) (i : ℕ) (p : Place) (mark : Option Mark) → place_at (sizes_of n) i ≡ p → IsTrue (is_place (sizes_of n) p) →
-    IsTrue (is_proved_mark mark) → LegalNow n s h (record { place = i; act = Load; kind = steps.Look; mark = mark })
-look_is_legal n s h i p mark at real proved = legal_at n s h i p Load steps.Look mark at (look_move n s h p mark real proved) refl proved
-
-raise_row : (o c : ℕ) (a : Bool) → is_raise (ref_row (Some (Owned o a c)) (Some (Owned o a (c + 1)))) ≡ true
-raise_row o c true = refl
-raise_row o c false = refl
+    IsTrue (is_plain mark) → LegalNow n s h (record { place = i; act = Load; kind = steps.Look; mark = mark })
+look_is_legal n s h i p mark at real proved = legal_at n s h i p Load steps.Look mark at (look_move n s h p mark real proved) refl
 
 pub raise_is_legal : (n : Machine) (s : ℕ) (h : Holdings) (i f w owner count : ℕ) (allocated : Bool) → place_at (sizes_of n) i ≡ Refs f → IsMachine n → f < n.frames →
     h.run ≡ Some 0 → ref_read w ≡ Some (Owned owner allocated count) → owner < length n.page_limit → count < n.limit → w < 2 ^ 64 →
@@ -86,7 +88,7 @@ raise_is_legal n s h i f w owner count allocated at machine frame run read domai
     let legal = raise_legal n s f owner count allocated h limit machine.few_domains frame run domain c.some below in
     let here : LegalMove n s h (Refs f) (Cas w (w + 1)) steps.Ref None =
     subst (λ y. LegalMove n s h (Refs f) (Cas w y) steps.Ref None) c.more (subst (λ y. LegalMove n s h (Refs f) (Cas y (ref_write (Owned owner allocated (count + 1)))) steps.Ref None) c.written legal) in
-    legal_at n s h i (Refs f) (Cas w (w + 1)) steps.Ref None at here (rw (read, next) (raise_row owner count allocated)) refl
+    legal_at n s h i (Refs f) (Cas w (w + 1)) steps.Ref None at here refl
 
 pub lower_is_legal : (n : Machine) (s : ℕ) (h : Holdings) (i f : ℕ) → place_at (sizes_of n) i ≡ Refs f → f < n.frames → h.run ≡ Some 0 → 0 < refs_to f h.refs → SparesClosing f h →
     LegalNow n s h (record { place = i; act = Add one_down; kind = steps.Ref; mark = None })
@@ -99,11 +101,11 @@ lower_is_legal n s h i f at frame run held spares =
       spelling = lit< tt;
       act = record { one = refl; in_hand = held; spares = spares };
     })
-    refl refl
+    refl
 
 pub map_is_legal : (n : Machine) (s : ℕ) (h : Holdings) (i f g : ℕ) → place_at (sizes_of n) i ≡ M2p f → f < n.frames → h.run ≡ Some 0 → g < 2 ^ 64 → 0 < hand f h →
     LegalNow n s h (record { place = i; act = Store g; kind = steps.M2p; mark = None })
-map_is_legal n s h i f g at frame run small held = legal_at n s h i (M2p f) (Store g) steps.M2p None at (map_legal n s f g h frame run small held) refl refl
+map_is_legal n s h i f g at frame run small held = legal_at n s h i (M2p f) (Store g) steps.M2p None at (map_legal n s f g h frame run small held) refl
 
 -- ---- what a step leaves
 pub makes : (v w : PortValue) (x : Step) (p : Place) (a : Act) (mark : Option Mark) (found : ℕ) → place_at (sizes_of v.post.machine) x.place ≡ p → x.act ≡ a → x.mark ≡ mark →

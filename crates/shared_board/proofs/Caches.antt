@@ -30,7 +30,7 @@ use Rattle.xp_board.specs.ContextSteps as context
 use Rattle.xp_board.specs.RunSteps as run
 use Rattle.xp_board.specs.HintSteps as hint
 use Rattle.xp_board.specs.After.{after, after_act, learned, learned_own}
-use Rattle.xp_board.specs.Legal.{LegalNow, is_proved}
+use Rattle.xp_board.specs.Legal.{LegalNow, is_taken}
 use Rattle.xp_board.specs.Told.{cached_item}
 
 -- a hand with no translation
@@ -222,24 +222,24 @@ hint_bare (M2p f) a h b = b
 hint_bare (Cell f i) a h b = b
 hint_bare (Priv d) a h b = b
 
-act_bare : (n : Machine) (s : ℕ) (p : Place) (a : Act) (k : StepKind) (m : Option Mark) (w : ℕ) (h : Holdings) → IsTrue (is_proved k a) → Bare h → Bare (after_act n s p a k m w h)
-act_bare n s p a steps.Look m w h proved b = b
-act_bare n s p a steps.Ref m w h proved b = ref_bare n s p a w h b
-act_bare n s p a steps.Kind m w h proved b = kind_bare n s p a w h b
-act_bare n s p a steps.Cell m w h proved b = cell_bare p a w h b
-act_bare n s p a steps.M2p m w h proved b = b
-act_bare n s p a steps.Pages m w h proved b = pages_bare p a w h b
-act_bare n s p a steps.Context m w h proved b = context_bare p a w h b
-act_bare n s p a steps.Fill m w h proved b = absurd (let f : IsTrue false = proved in cc)
-act_bare n s p a steps.Guest m w h proved b = b
-act_bare n s p a steps.Tick m w h proved b = b
-act_bare n s p a steps.Ask m w h proved b = b
-act_bare n s p a steps.Ack m w h proved b = refl
-act_bare n s p a steps.Life m w h proved b = b
-act_bare n s p a steps.Run m w h proved b = run_bare a h b
-act_bare n s p a steps.Hint m w h proved b = hint_bare p a h b
-act_bare n s p a steps.Touch m w h proved b = absurd (let f : IsTrue false = proved in cc)
-act_bare n s p a steps.Priv m w h proved b = b
+act_bare : (n : Machine) (s : ℕ) (p : Place) (a : Act) (k : StepKind) (m : Option Mark) (w : ℕ) (h : Holdings) → IsTrue (is_taken k) → Bare h → Bare (after_act n s p a k m w h)
+act_bare n s p a steps.Look m w h taken b = b
+act_bare n s p a steps.Ref m w h taken b = ref_bare n s p a w h b
+act_bare n s p a steps.Kind m w h taken b = kind_bare n s p a w h b
+act_bare n s p a steps.Cell m w h taken b = cell_bare p a w h b
+act_bare n s p a steps.M2p m w h taken b = b
+act_bare n s p a steps.Pages m w h taken b = pages_bare p a w h b
+act_bare n s p a steps.Context m w h taken b = context_bare p a w h b
+act_bare n s p a steps.Fill m w h taken b = absurd (let f : IsTrue false = taken in cc)
+act_bare n s p a steps.Guest m w h taken b = b
+act_bare n s p a steps.Tick m w h taken b = b
+act_bare n s p a steps.Ask m w h taken b = b
+act_bare n s p a steps.Ack m w h taken b = refl
+act_bare n s p a steps.Life m w h taken b = b
+act_bare n s p a steps.Run m w h taken b = run_bare a h b
+act_bare n s p a steps.Hint m w h taken b = hint_bare p a h b
+act_bare n s p a steps.Touch m w h taken b = absurd (let f : IsTrue false = taken in cc)
+act_bare n s p a steps.Priv m w h taken b = b
 
 -- ---- what is learned
 own_bare : (k w : ℕ) (h : Holdings) → Bare h → Bare (learned_own k w h)

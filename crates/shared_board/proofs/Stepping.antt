@@ -11,7 +11,7 @@ use Rattle.xp_board.specs.declared.holdings.Holdings.{Holdings}
 use Rattle.xp_board.specs.Hands.{empty}
 use Rattle.xp_board.specs.Legal.{LegalNow}
 use Rattle.xp_board.specs.After.{after}
-use Rattle.xp_board.specs.Runs.{State, RunNow, place_of, next, word_at}
+use Rattle.xp_board.specs.Runs.{State, Run, place_of, next, word_at}
 use Rattle.xp_board.specs.Sound.{SoundState, seat_of}
 use Rattle.xp_board.specs.Told.{Story, stepped}
 use Rattle.shared_board.specs.declared.rule.Known.{Known}
@@ -20,13 +20,13 @@ use Rattle.shared_board.specs.Board.{Board, Steps, port_value, state_of}
 use Rattle.shared_board.proofs.Caches.{no_items_after}
 
 abbrev pub RunsSound : Type 0
-RunsSound = (n : Machine) (a b : State) (log : List (ℕ × Step)) → RunNow n a log b → SoundState n a.words a.seats → SoundState n b.words b.seats
+RunsSound = (n : Machine) (a b : State) (log : List (ℕ × Step)) → Run n a log b → SoundState n a.words a.seats → SoundState n b.words b.seats
 
 -- ---- the fields
 sound_next : RunsSound → (n : Machine) (s : ℕ) (x : Step) (v : Known) → s < (sizes_of n).vcpus → LegalNow n s (seat_of v.hands s) x → SoundState n v.words v.hands →
     SoundState n (known_after n s x v).words (known_after n s x v).hands
 sound_next keeps n s x v lt legal sound =
-    keeps n (state_in v) (next n (state_in v) s x) ((s, x) ∷ []) (state_in v, refl, record { seat = lt; legal = legal; next_is = refl }) sound
+    keeps n (state_in v) (next n (state_in v) s x) ((s, x) ∷ []) (state_in v, refl, record { seat = lt; legal = legal.legal; next_is = refl }) sound
 
 pub did_sound : RunsSound → (n : Machine) (s found : ℕ) (x : Step) (me you : Me (Unit {0}) Known) → Did n s x me found you → s < (sizes_of n).vcpus → LegalNow n s (seat_of me.0.hands s) x →
     SoundState n me.0.words me.0.hands → SoundState n you.0.words you.0.hands
