@@ -15,7 +15,7 @@ use Rattle.xp_board.specs.declared.step.Step.{Step}
 use Rattle.xp_board.specs.Acts.{left_by}
 use Rattle.xp_board.specs.Legal.{LegalNow}
 use Rattle.xp_board.specs.Runs as runs
-use Rattle.xp_board.specs.Runs.{RunNow, Moves, place_of, next, word_at}
+use Rattle.xp_board.specs.Runs.{Run, Moves, place_of, next, word_at}
 use Rattle.xp_board.specs.Sound.{seat_of}
 use Rattle.xp_board.proofs.Numbers.{place_inside, word_there}
 use Rattle.shared_board.specs.declared.rule.Opening.{Opening}
@@ -48,7 +48,7 @@ allows o slots id s me x lt legal t was long at fits =
         only = rw (was.only, one.0) refl;
         words_are = ap (λ (l : List ℕ). slice_set l x.place (left_by x.act (word_at n (state_in me.0) (place_of n x)))) words
             ∙ ap (λ w. slice_set t.words x.place (left_by x.act w)) (sym found);
-        run = (state_in me.0, subst (λ (v : Known). RunNow n (runs.start n o.words.items) v.log (state_in v)) one.1 was.run, record { seat = lt; legal = legal; next_is = refl });
+        run = (state_in me.0, subst (λ (v : Known). Run n (runs.start n o.words.items) v.log (state_in v)) one.1 was.run, record { seat = lt; legal = legal.legal; next_is = refl });
       },
       record { found_is = found; applied = refl; slots = refl },
     )

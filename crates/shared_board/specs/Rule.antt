@@ -24,7 +24,7 @@ pub record Holds (o : Opening) (s : State (Unit {0}) Known) : Type 0 where
   pub view : Known
   pub only : s.views ≡ view ∷ []
   pub words_are : view.words ≡ s.words
-  pub run : runs.RunNow o.layout (runs.start o.layout o.words.items) view.log (state_in view)
+  pub run : runs.Run o.layout (runs.start o.layout o.words.items) view.log (state_in view)
 
 -- what the seat knows after a step of vCPU s
 abbrev pub known_after : Machine → ℕ → Step → Known → Known

@@ -4,7 +4,7 @@ ghost use Rattle.xp_words.specs.Machine.{IsMachine};
 ghost use Rattle.xp_words.specs.Places.{size, sizes_of};
 ghost use Rattle.xp_board.specs.Hands.{empty};
 ghost use Rattle.xp_board.specs.Legal.{LegalNow};
-ghost use Rattle.xp_board.specs.Runs.{RunNow, start};
+ghost use Rattle.xp_board.specs.Runs.{Run, start};
 ghost use Rattle.xp_board.specs.Sound.{SoundState, SoundWords, seat_of};
 ghost use Rattle.xp_board.specs.Told.{cached_item};
 ghost use Rattle.shared_board.specs.Board.{Steps, opened_story, state_of};
@@ -99,7 +99,7 @@ impl PlainBoard {
         requires empty { into.old.items ≡ [] }
         requires room { size (sizes_of self.machine) ≤ vec_capacity into.old }
         ensures words { into.new.items ≡ self.story.words }
-        ensures run { RunNow self.machine (start self.machine self.story.opening) self.story.log (state_of self.story) }
+        ensures run { Run self.machine (start self.machine self.story.opening) self.story.log (state_of self.story) }
         ensures sound { SoundState self.machine self.story.words self.story.seats }
     {
         let PlainBoard {

@@ -1,7 +1,6 @@
 mod ClaimPicture
 pub mod PlaceTests
 pub mod Sums
-pub mod Taken
 pub mod HandLists
 pub mod KindForms
 pub mod Bits

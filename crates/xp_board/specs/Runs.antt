@@ -7,7 +7,7 @@ use Rattle.xp_board.specs.declared.holdings.Made.{Made}
 use Rattle.xp_board.specs.declared.holdings.Holdings.{Holdings}
 use Rattle.xp_board.specs.Acts.{left_by}
 use Rattle.xp_board.specs.Hands.{empty}
-use Rattle.xp_board.specs.Legal.{Legal, LegalNow}
+use Rattle.xp_board.specs.Legal.{Legal}
 use Rattle.xp_board.specs.After.{after}
 use Rattle.xp_board.specs.Sound.{seat_of}
 
@@ -45,23 +45,15 @@ next n a s x =
 
 -- ---- runs
 -- seat s may make the step in state a, which then is b
-pub record Moves (allows : Machine → ℕ → Holdings → Step → Type 0) (n : Machine) (a : State) (s : ℕ) (x : Step) (b : State) : Type 0 where
+pub record Moves (n : Machine) (a : State) (s : ℕ) (x : Step) (b : State) : Type 0 where
   pub seat : s < (sizes_of n).vcpus
-  pub legal : allows n s (seat_of a.seats s) x
+  pub legal : Legal n s (seat_of a.seats s) x
   pub next_is : b ≡ next n a s x
 
--- from state a the steps, each with its seat and the newest first, lead to b
-abbrev pub RunBy : (Machine → ℕ → Holdings → Step → Type 0) → Machine → State → List (ℕ × Step) → State → Type 0
-RunBy allows n a [] b = b ≡ a
-RunBy allows n a (e ∷ es) b = (c : State) × RunBy allows n a es c × Moves allows n c e.0 e.1 b
-
--- each step is legal by its seat's holdings at that moment
+-- from state a the steps, each with its seat and the newest first, lead to b; each is legal by its seat's holdings at that moment
 abbrev pub Run : Machine → State → List (ℕ × Step) → State → Type 0
-Run n a log b = RunBy Legal n a log b
-
--- each step is legal, and of a kind that boards take so far
-abbrev pub RunNow : Machine → State → List (ℕ × Step) → State → Type 0
-RunNow n a log b = RunBy LegalNow n a log b
+Run n a [] b = b ≡ a
+Run n a (e ∷ es) b = (c : State) × Run n a es c × Moves n c e.0 e.1 b
 
 -- the seats' own lists of steps, with the words that they found, are one run from the opening words to state b
 pub record IsOneRun (n : Machine) (opening : List ℕ) (lists : ℕ → List Made) (b : State) : Type 0 where

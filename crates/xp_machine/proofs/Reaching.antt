@@ -51,7 +51,7 @@ ready_board t b opened opening machine story = rw (machine, story) (ready_first 
 
 -- ---- the laws of the machine that the run rests on
 abbrev pub RunsSafe : Type 0
-RunsSafe = (n : Machine) (a b : runs.State) (log : List (ℕ × Step)) → runs.RunNow n a log b → SoundState n a.words a.seats → Safe n (memory (sizes_of n) b.words) (seat_of b.seats)
+RunsSafe = (n : Machine) (a b : runs.State) (log : List (ℕ × Step)) → runs.Run n a log b → SoundState n a.words a.seats → Safe n (memory (sizes_of n) b.words) (seat_of b.seats)
 
 abbrev pub RestsSound : Type 0
 RestsSound =
@@ -68,9 +68,9 @@ ran guards rests t b opened closed n from text words opening machine story kept 
     let begins = start_sound z opened words in
     let machine2 : n ≡ z = kept ∙ machine in
     let from2 : from ≡ opened = opens ∙ ap (λ (x : Story). x.opening) story in
-    let run : runs.RunNow z (runs.start z opened) closed.board.log (state_of closed.board) =
-    subst (λ ws. runs.RunNow z (runs.start z ws) closed.board.log (state_of closed.board)) from2
-    (subst (λ k. runs.RunNow k (runs.start k from) closed.board.log (state_of closed.board)) machine2 closes.run) in
+    let run : runs.Run z (runs.start z opened) closed.board.log (state_of closed.board) =
+    subst (λ ws. runs.Run z (runs.start z ws) closed.board.log (state_of closed.board)) from2
+    (subst (λ k. runs.Run k (runs.start k from) closed.board.log (state_of closed.board)) machine2 closes.run) in
     let sound : SoundState z closed.board.words closed.board.seats = subst (λ k. SoundState k closed.board.words closed.board.seats) machine2 closes.sound in
     let at : Ready z closed.board = subst (λ k. Ready k closed.board) machine ready in
     let taken : Turns z (order t.turns) (stage (opened_story z opened) (first_cpus z.vcpu_domain t.scripts)) closed =

@@ -19,7 +19,7 @@ use Rattle.xp_board.specs.Runs as runs
 use Rattle.xp_board.specs.Runs.{place_of, word_at}
 use Rattle.xp_board.specs.Sound.{seat_of}
 use Rattle.xp_board.specs.Told.{Post, PortValue, Story, IsTold, tells, stepped, Went}
-use Rattle.xp_board.proofs.Effects.{same_or_other}
+use Rattle.xp_board.proofs.PlaceTests.{same_or_other}
 use Rattle.xp_board.proofs.Going.{went_post}
 use Rattle.xp_board.proofs.Numbers.{place_number}
 use Rattle.shared_board.specs.Board.{state_of}
@@ -55,7 +55,7 @@ record One (n : Machine) (s : ℕ) (a : Story) (w : PortValue) (x : Made) : Type
   b : Story
   told : w.told ≡ Some b
   holdings : w.holdings ≡ seat_of b.seats s
-  moves : runs.Moves LegalNow n (state_of a) s x.step (state_of b)
+  moves : runs.Moves n (state_of a) s x.step (state_of b)
   found : x.found ≡ word_at n (state_of a) (place_of n x.step)
   opening : b.opening ≡ a.opening
   log : b.log ≡ (s, x.step) ∷ a.log
@@ -78,7 +78,7 @@ one_step u w x c f told hand there real legal found to within =
       holdings = ap (λ (y : PortValue). y.holdings) to ∙ sym (get_or-set_same c.seats s h empty there);
       moves = record {
         seat = real;
-        legal = legal';
+        legal = legal'.legal;
         next_is = λ k. record {
           words = slice_set c.words x.step.place (left_by x.step.act (sym is.1 k));
           seats = slice_set c.seats s (after n s (hand k) x.step (sym is.1 k));

@@ -11,7 +11,6 @@ use Rattle.xp_board.specs.declared.step.Mark.{Mark}
 use Rattle.xp_board.specs.declared.step.Mark.TheVariants.{Cut, Turn}
 use Rattle.xp_board.specs.declared.step.Step.{Step}
 use Rattle.xp_board.specs.declared.holdings.Made.{Made}
-use Rattle.xp_board.specs.Legal.{LegalNow}
 use Rattle.xp_board.specs.Lists.{EachOf}
 use Rattle.xp_board.specs.Runs as runs
 use Rattle.frame_words.specs.Pieces.{SetsM2p, deeds, is_load, StaysIn}
@@ -24,7 +23,7 @@ use Rattle.xp_machine.specs.Turns.{m2p_update, refused, done_of}
 abbrev pub Piece : Machine → ℕ → runs.State → List Made → runs.State → Type 0
 Piece n v a [] b = b ≡ a
 Piece n v a (x ∷ xs) b =
-    (c : runs.State) × Piece n v a xs c × runs.Moves LegalNow n c v x.step b × (x.found ≡ runs.word_at n c (runs.place_of n x.step))
+    (c : runs.State) × Piece n v a xs c × runs.Moves n c v x.step b × (x.found ≡ runs.word_at n c (runs.place_of n x.step))
 
 -- the steps as a part of a run
 abbrev pub log_by : ℕ → List Made → List (ℕ × Step)

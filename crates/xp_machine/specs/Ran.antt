@@ -29,9 +29,9 @@ pub record Ran (t : Trace) (text : List ℕ) : Type 0 where
   pub closed : Stage
   pub turns : Turns t.layout (order t.turns) (record { board = opened_story t.layout opened; cpus = first_cpus t.layout.vcpu_domain t.scripts }) closed
   -- the list of all steps that were made on the board
-  pub run : runs.RunNow t.layout (runs.start t.layout opened) closed.board.log (state_of closed.board)
+  pub run : runs.Run t.layout (runs.start t.layout opened) closed.board.log (state_of closed.board)
   -- between any two of these steps, and behind the last, the machine is safe
-  pub safe : (newer older : List (ℕ × Step)) (a : runs.State) → closed.board.log ≡ newer ++ older → runs.RunNow t.layout (runs.start t.layout opened) older a →
+  pub safe : (newer older : List (ℕ × Step)) (a : runs.State) → closed.board.log ≡ newer ++ older → runs.Run t.layout (runs.start t.layout opened) older a →
       Safe t.layout (memory (sizes_of t.layout) a.words) (seat_of a.seats)
   -- the words that are printed are sound with empty hands
   pub sound : SoundWords t.layout closed.board.words
@@ -39,6 +39,6 @@ pub record Ran (t : Trace) (text : List ℕ) : Type 0 where
 
 -- what a board with these words at its opening, and its vCPUs, are at the end
 pub record Closes (n : Machine) (opened : List ℕ) (closed : Stage) (text : List ℕ) : Type 0 where
-  pub run : runs.RunNow n (runs.start n opened) closed.board.log (state_of closed.board)
+  pub run : runs.Run n (runs.start n opened) closed.board.log (state_of closed.board)
   pub sound : SoundState n closed.board.words closed.board.seats
   pub report : text ≡ report_at n closed
