@@ -1,7 +1,7 @@
 //! Steps on cells.
-use super::edits::{DESC, Edit, L1, LIVE, LOCKED, OWNED, PRIV_0, UNFLUSHED, WRITABLE};
+use crate::{DESC, Edit, L1, LIVE, LOCKED, OWNED, PRIV_0, UNFLUSHED, WRITABLE};
 use super::{Do, StepCase, Try};
-use crate::Part;
+use plain_sound::Part;
 use xp_words::PageType;
 
 pub const CELLS: [StepCase; 24] = [
@@ -141,11 +141,11 @@ pub const CELLS: [StepCase; 24] = [
         edits: &[
             Edit::Locked(0),
             Edit::Foreign,
-            Edit::Turn(1),
             Edit::Privileges(0x20002),
             Edit::Found(PRIV_0, 0x20002),
             Edit::Kind(1, WRITABLE + LIVE + 1),
             Edit::ForeignTyped(1, PageType::Writable),
+            Edit::Turn(3),
         ],
         step: Try::Cell(0, 0, Do::Store(0x1007)),
         legal: false,
@@ -178,7 +178,6 @@ pub const CELLS: [StepCase; 24] = [
         edits: &[
             Edit::InWork(DESC + LOCKED + UNFLUSHED + 7, 0, PageType::Desc),
             Edit::Cell(0, 0, 0x900000000000),
-            Edit::Seen(0, 0, 0x900000000000),
         ],
         step: Try::Cell(0, 0, Do::Store(0xf00000000000)),
         legal: false,

@@ -1,6 +1,5 @@
 //! The two counts of each frame, counted again, and the pages of each domain.
-use crate::hand::{Hand, owner_of};
-use crate::machine::{State, names_frames};
+use plain_words::{Hand, State, names_frames, owner_of, FRAMES};
 use xp_words::{Demand, PageType, RefWord};
 
 /// Whether a demand names the frame, and whether it does so with a type.
@@ -65,7 +64,7 @@ fn in_hands(state: &State, frame: u64, typed_alone: bool) -> u64 {
 /// All references to a frame: to one that the machine has not there may be none.
 pub fn references_agree(state: &State) -> bool {
     let mut agree = !names_outside(state);
-    for frame in 0..4_u64 {
+    for frame in 0..FRAMES {
         let (count, allocated) = match state.refs_of(frame) {
             Some(
                 RefWord::Owned {
@@ -93,7 +92,7 @@ fn names_outside(state: &State) -> bool {
         if let Some(cell) = entry {
             match state.recorded_demand(*cell) {
                 Demand::Read { frame } | Demand::Typed { frame, .. } => {
-                    outside = outside || 4 <= frame;
+                    outside = outside || FRAMES <= frame;
                 }
                 _ => {}
             }
@@ -108,13 +107,13 @@ fn names_outside(state: &State) -> bool {
 fn hand_names_outside(hand: &Hand) -> bool {
     let mut outside = false;
     for entry in &hand.refs {
-        outside = outside || matches!(entry, Some(held) if 4 <= held.frame);
+        outside = outside || matches!(entry, Some(held) if FRAMES <= held.frame);
     }
     for entry in &hand.typed {
-        outside = outside || matches!(entry, Some(held) if 4 <= held.frame);
+        outside = outside || matches!(entry, Some(held) if FRAMES <= held.frame);
     }
     for entry in &hand.locks {
-        outside = outside || matches!(entry, Some(held) if 4 <= held.frame);
+        outside = outside || matches!(entry, Some(held) if FRAMES <= held.frame);
     }
     outside
 }
@@ -122,7 +121,7 @@ fn hand_names_outside(hand: &Hand) -> bool {
 /// The typed references to a frame. In work and partial it has one type count.
 pub fn types_agree(state: &State) -> bool {
     let mut agree = true;
-    for frame in 0..4_u64 {
+    for frame in 0..FRAMES {
         let count = match state.kind_of(frame) {
             Some(kind) if kind.validated => kind.number,
             Some(kind) if kind.partial || kind.locked => 1,

@@ -1,10 +1,10 @@
 //! Steps on types.
-use super::edits::{
+use crate::{
     CLOCK, DOWN, Edit, FLUSHED_0, FLUSHED_1, KEPT, KIND_1, L1, L2, LIVE, LOCKED, PARTIAL, PINNED,
-    PRIV_0, PRIV_1, PROGRESS, RUN_0, TWO, UNFLUSHED, UNLOCK, WRITABLE,
+    PRIV_0, PRIV_1, PROGRESS, RUN_1, TWO, UNFLUSHED, UNLOCK, WRITABLE,
 };
 use super::{Do, StepCase, Try};
-use crate::Part;
+use plain_sound::Part;
 use xp_words::PageType;
 
 pub const KINDS: [StepCase; 50] = [
@@ -48,7 +48,7 @@ pub const KINDS: [StepCase; 50] = [
         edits: &[Edit::Two(0), Edit::Untyped(0), Edit::Kind(0, WRITABLE + 7)],
         step: Try::Kind(0, Do::Cas(WRITABLE + 7, L1 + LOCKED + UNFLUSHED + 21)),
         legal: false,
-        broken: &[Part::Stamped],
+        broken: &[Part::Stamped, Part::FoundClock],
     },
     StepCase {
         name: "the old type again",
@@ -97,7 +97,7 @@ pub const KINDS: [StepCase; 50] = [
         edits: &[Edit::InWork(WRITABLE + LOCKED, 0, PageType::Writable)],
         step: Try::Kind(0, Do::Store(WRITABLE + LIVE + 3)),
         legal: false,
-        broken: &[Part::Types],
+        broken: &[Part::References, Part::Types],
     },
     StepCase {
         name: "live with another type",
@@ -238,7 +238,7 @@ pub const KINDS: [StepCase; 50] = [
         ],
         step: Try::Kind(0, Do::Store(L1 + 21)),
         legal: false,
-        broken: &[Part::Stamped],
+        broken: &[Part::Stamped, Part::FoundClock],
     },
     StepCase {
         name: "one type count down",
@@ -280,7 +280,7 @@ pub const KINDS: [StepCase; 50] = [
         edits: &[Edit::InWork(L1 + LOCKED, 0, PageType::L1)],
         step: Try::Kind(0, Do::Add(DOWN)),
         legal: false,
-        broken: &[Part::Spelled, Part::Types, Part::Kinds, Part::Works],
+        broken: &[Part::Spelled, Part::Works, Part::FoundWorks],
     },
     StepCase {
         name: "one type count up",
@@ -304,7 +304,7 @@ pub const KINDS: [StepCase; 50] = [
         ],
         step: Try::Kind(0, Do::Cas(WRITABLE + LIVE, WRITABLE + LIVE + 1)),
         legal: false,
-        broken: &[Part::Works, Part::Bare],
+        broken: &[Part::Works, Part::Bare, Part::FoundWorks],
     },
     StepCase {
         name: "a table is pinned",
@@ -325,7 +325,7 @@ pub const KINDS: [StepCase; 50] = [
             Do::Cas(WRITABLE + LIVE + 1, WRITABLE + LIVE + PINNED + 1),
         ),
         legal: false,
-        broken: &[Part::Spelled, Part::Types, Part::Kinds],
+        broken: &[Part::Spelled, Part::Types, Part::Kinds, Part::FoundLives],
     },
     StepCase {
         name: "a lock goes off",
@@ -444,8 +444,8 @@ pub const KINDS: [StepCase; 50] = [
         name: "the mark goes off past the flush",
         edits: &[
             Edit::InWork(L1 + LOCKED + UNFLUSHED + 7, 0, PageType::L1),
-            Edit::Found(RUN_0, 2),
-            Edit::Found(FLUSHED_1, 8),
+            Edit::Found(FLUSHED_0, 8),
+            Edit::Found(RUN_1, 2),
         ],
         step: Try::Kind(0, Do::Store(L1 + LOCKED)),
         legal: true,
@@ -455,8 +455,8 @@ pub const KINDS: [StepCase; 50] = [
         name: "the mark goes off before the flush",
         edits: &[
             Edit::InWork(L1 + LOCKED + UNFLUSHED + 7, 0, PageType::L1),
-            Edit::Found(RUN_0, 2),
-            Edit::Found(FLUSHED_1, 7),
+            Edit::Found(FLUSHED_0, 7),
+            Edit::Found(RUN_1, 2),
         ],
         step: Try::Kind(0, Do::Store(L1 + LOCKED)),
         legal: false,

@@ -1,9 +1,9 @@
 //! Steps on references, machine-to-physical words and pages.
-use super::edits::{
+use crate::{
     ALLOCATED, CLOCK, DOWN, Edit, FLUSHED_0, LIVE, ONE, OTHER, OWNED, REFS_3, RUN_1, TWO, WRITABLE,
 };
 use super::{Do, StepCase, Try};
-use crate::Part;
+use plain_sound::Part;
 use xp_words::PageType;
 
 pub const REFERENCES: [StepCase; 40] = [
@@ -54,14 +54,14 @@ pub const REFERENCES: [StepCase; 40] = [
         edits: &[],
         step: Try::Ref(0, Do::Cas(ONE, OTHER + ALLOCATED + 2)),
         legal: false,
-        broken: &[Part::Pages],
+        broken: &[Part::Pages, Part::FoundOwners],
     },
     StepCase {
         name: "one up of a frame that is not there",
         edits: &[],
-        step: Try::Ref(4, Do::Cas(ONE, TWO)),
+        step: Try::Ref(5, Do::Cas(ONE, TWO)),
         legal: false,
-        broken: &[],
+        broken: &[Part::Formed],
     },
     StepCase {
         name: "the allocated mark goes off",
@@ -170,7 +170,7 @@ pub const REFERENCES: [StepCase; 40] = [
         ],
         step: Try::Ref(0, Do::Store(21)),
         legal: false,
-        broken: &[Part::Stamped],
+        broken: &[Part::Stamped, Part::FoundClock],
     },
     StepCase {
         name: "free with its bit cleared",
@@ -181,19 +181,19 @@ pub const REFERENCES: [StepCase; 40] = [
         ],
         step: Try::Ref(0, Do::Store(20)),
         legal: false,
-        broken: &[],
+        broken: &[Part::Map],
     },
     StepCase {
         name: "free what another seat ends",
         edits: &[
             Edit::Refs(0, OWNED),
             Edit::OtherEnding(0),
-            Edit::Raised(0),
+            Edit::OtherRaised(0),
             Edit::Found(CLOCK, 20),
         ],
         step: Try::Ref(0, Do::Store(20)),
         legal: false,
-        broken: &[Part::Dying],
+        broken: &[Part::Dying, Part::FoundEndings, Part::Map],
     },
     StepCase {
         name: "a free frame is claimed",
@@ -252,7 +252,7 @@ pub const REFERENCES: [StepCase; 40] = [
         ],
         step: Try::Ref(3, Do::Cas(5, OTHER)),
         legal: false,
-        broken: &[Part::Pages],
+        broken: &[Part::Pages, Part::FoundClaims],
     },
     StepCase {
         name: "a claimed frame is given",
@@ -280,7 +280,7 @@ pub const REFERENCES: [StepCase; 40] = [
         edits: &[Edit::Refs(0, OWNED), Edit::Claimed(0, 512), Edit::Raised(0)],
         step: Try::Ref(0, Do::Store(ONE)),
         legal: false,
-        broken: &[],
+        broken: &[Part::Formed],
     },
     StepCase {
         name: "an old stamp comes back",
@@ -343,6 +343,6 @@ pub const REFERENCES: [StepCase; 40] = [
         edits: &[Edit::Charged],
         step: Try::Pages(0, Do::Cas(4, 3)),
         legal: false,
-        broken: &[],
+        broken: &[Part::Pages],
     },
 ];

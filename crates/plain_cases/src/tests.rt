@@ -1,0 +1,196 @@
+//! Each table names its cases by what they show.
+mod cells;
+mod kinds;
+mod references;
+mod words;
+
+use crate::{Edit, edited};
+use cells::CELLS;
+use kinds::KINDS;
+use plain_checker::judge;
+use plain_moves::{Step, moved};
+use plain_sound::{PARTS, Part, keeps};
+use plain_words::{Place, State};
+use references::REFERENCES;
+use words::WORDS;
+use xp_board::{Act, Mark, StepKind};
+
+/// An act.
+#[derive(Clone, Copy, Debug, PartialEq, Eq)]
+pub enum Do {
+    Load,
+    Cas(u64, u64),
+    Store(u64),
+    Add(u64),
+    Max(u64),
+}
+
+/// A step by its kind, with the number of its frame (and cell), domain, or vCPU and word.
+#[derive(Clone, Copy, Debug, PartialEq, Eq)]
+pub enum Try {
+    Look(u64, Do),
+    Ref(u64, Do),
+    Kind(u64, Do),
+    Cell(u64, u64, Do),
+    M2p(u64, Do),
+    Pages(u16, Do),
+    Context(u16, u64, Do),
+    Tick(Do),
+    Ask(u16, u64, Do),
+    Ack(u16, u64, Do),
+    Life(u16, Do),
+    Run(u16, u64, Do),
+    Priv(u16, Do),
+    Hint(u64, Do),
+    Guest(u64, u64, Do),
+    /// A load of a word of a vCPU that begins a walk, for a write or not.
+    Walk(u16, u64, bool),
+    Fill(u64, u64, Do),
+    Touch(u64, u64, Do),
+    /// A load of the clock with a mark.
+    With(Mark),
+    /// Any kind, place and mark.
+    Any(StepKind, Place, Do, Option<Mark>),
+}
+
+/// A step of seat 0: whether it is legal, and the parts that fail after it.
+pub struct StepCase {
+    pub name: &'static str,
+    pub edits: &'static [Edit],
+    pub step: Try,
+    pub legal: bool,
+    pub broken: &'static [Part],
+}
+
+/// Words and hands, and the parts that fail there.
+pub struct WordCase {
+    pub name: &'static str,
+    pub edits: &'static [Edit],
+    pub broken: &'static [Part],
+}
+
+fn act_of(did: Do) -> Act {
+    match did {
+        Do::Load => Act::Load,
+        Do::Cas(expected, new) => Act::Cas { expected, new },
+        Do::Store(new) => Act::Store { new },
+        Do::Add(by) => Act::Add { by },
+        Do::Max(value) => Act::Max { value },
+    }
+}
+
+/// The kind, the place and the act of a step on frames, domains and the clock.
+fn parts_of(tried: Try) -> (StepKind, Place, Do) {
+    match tried {
+        Try::Look(frame, did) => (StepKind::Look, Place::Refs { frame }, did),
+        Try::Ref(frame, did) => (StepKind::Ref, Place::Refs { frame }, did),
+        Try::Kind(frame, did) => (StepKind::Kind, Place::Kind { frame }, did),
+        Try::M2p(frame, did) => (StepKind::M2p, Place::M2p { frame }, did),
+        Try::Pages(domain, did) => (StepKind::Pages, Place::Pages { domain }, did),
+        Try::Life(domain, did) => (StepKind::Life, Place::Life { domain }, did),
+        Try::Priv(domain, did) => (StepKind::Priv, Place::Priv { domain }, did),
+        Try::Hint(word, did) => (StepKind::Hint, Place::Map { word }, did),
+        Try::Tick(did) => (StepKind::Tick, Place::Clock, did),
+        Try::Any(kind, place, did, _) => (kind, place, did),
+        _ => parts_in(tried),
+    }
+}
+
+/// The same of steps on cells and on words of vCPUs.
+fn parts_in(tried: Try) -> (StepKind, Place, Do) {
+    match tried {
+        Try::Cell(frame, index, did) => (StepKind::Cell, Place::Cell { frame, index }, did),
+        Try::Guest(frame, index, did) => (StepKind::Guest, Place::Cell { frame, index }, did),
+        Try::Fill(frame, index, did) => (StepKind::Fill, Place::Cell { frame, index }, did),
+        Try::Touch(frame, index, did) => (StepKind::Touch, Place::Cell { frame, index }, did),
+        Try::Context(vcpu, word, did) => (StepKind::Context, Place::Vcpu { vcpu, word }, did),
+        Try::Ask(vcpu, word, did) => (StepKind::Ask, Place::Vcpu { vcpu, word }, did),
+        Try::Ack(vcpu, word, did) => (StepKind::Ack, Place::Vcpu { vcpu, word }, did),
+        Try::Run(vcpu, word, did) => (StepKind::Run, Place::Vcpu { vcpu, word }, did),
+        Try::Walk(vcpu, word, _) => (StepKind::Fill, Place::Vcpu { vcpu, word }, Do::Load),
+        _ => (StepKind::Look, Place::Clock, Do::Load),
+    }
+}
+
+fn step_of(tried: Try) -> Step {
+    let (kind, place, did) = parts_of(tried);
+    let mark = match tried {
+        Try::Walk(_, _, write) => Some(Mark::Walk { write }),
+        Try::With(mark) => Some(mark),
+        Try::Any(_, _, _, mark) => mark,
+        _ => None,
+    };
+    Step {
+        place,
+        act: act_of(did),
+        kind,
+        mark,
+    }
+}
+
+/// The first part that fails where it is to hold, or holds where it is to fail.
+fn amiss(state: &State, broken: &[Part]) -> Option<Part> {
+    for part in &PARTS {
+        let mut fails = false;
+        for other in broken {
+            fails = fails || *other == *part;
+        }
+        if keeps(state, *part) == fails {
+            return Some(*part);
+        }
+    }
+    None
+}
+
+/// Whether the step is judged as wanted, and the part that is amiss before it and after it.
+fn told(case: &StepCase) -> (bool, Option<Part>, Option<Part>) {
+    let state = edited(case.edits);
+    let step = step_of(case.step);
+    let legal = judge(&state, 0, &step);
+    let after = moved(&state, 0, &step);
+    (
+        legal == case.legal,
+        amiss(&state, &[]),
+        amiss(&after, case.broken),
+    )
+}
+
+fn failing(state: &State, rt: &HostRuntime) -> bool {
+    let mut first = true;
+    for part in &PARTS {
+        if !keeps(state, *part) {
+            if !first { let _ = print!(rt; ","); }
+            first = false;
+            let _ = print!(rt; "{part:?}");
+        }
+    }
+    true
+}
+
+#[test]
+fn dump(rt: HostRuntime) {
+    for table in [&REFERENCES[..], &KINDS[..], &CELLS[..]] {
+    for case in table {
+        let state = edited(case.edits);
+        let step = step_of(case.step);
+        let legal = judge(&state, 0, &step);
+        let after = moved(&state, 0, &step);
+        if told(case) != (true, None, None) {
+            let _ = print!(rt; "\nCASE {} wants {} is {} BEFORE ", case.name, case.legal, legal);
+            failing(&state, &rt);
+            let _ = print!(rt; " AFTER ");
+            failing(&after, &rt);
+            let _ = print!(rt; " WANTED {:?}\n", case.broken);
+        }
+    }
+    }
+    for case in &WORDS {
+        let state = edited(case.edits);
+        if amiss(&state, case.broken).is_some() {
+            let _ = print!(rt; "\nWORD {} FAILS ", case.name);
+            failing(&state, &rt);
+            let _ = print!(rt; " WANTED {:?}\n", case.broken);
+        }
+    }
+    let _ = println!(rt; "done");
+}
