@@ -116,7 +116,7 @@ pub enum Edit {
     OtherWork(u64, u64),
     /// The cell of a frame in work that was loaded last.
     Seen(u64, u64, u64),
-    /// The last recorded entry of a frame in work is unsettled.
+    /// The last recorded entry of a frame in work is unsettled from now on.
     Open(u64, Option<u64>),
     /// So many words of the descriptor page in work are known fixed.
     Fixed(u64),
@@ -138,6 +138,8 @@ pub enum Edit {
     /// A translation to the frame, writable or not.
     Cached(u64, bool),
     OtherCached(u64, bool),
+    /// As many translations to read frame 0 as a vCPU may have.
+    FullCache,
     /// The table that the walk in flight has reached, below those that it has reached before.
     Reached(u64),
     /// The walk is for a write.
@@ -153,7 +155,21 @@ pub enum Edit {
     OtherWas(Place, u64),
     /// What is in the hand came there just now.
     Now,
-    OtherNow,
+    /// What is in the hand is to come there with the next step.
+    Ahead,
+    OtherAhead,
+    /// The last recorded entry of a frame in work is to be unsettled from the next step on.
+    OpenAhead(u64),
+    /// The frame in work came after so many steps.
+    Since(u64),
+    /// The table under the lock is noted with another type.
+    LockAs(PageType),
+    /// The walk in flight has reached that table, with that level.
+    ReachedAt(u64, u64),
+    /// The table of level 4 that the walk of the other seat has reached.
+    OtherReached(u64),
+    /// The other vCPU is off, and has not found it.
+    OtherOff,
     OtherRaised(u64),
     /// Each word of vCPU 1 that may name a frame was found 0.
     AllEmpty,
@@ -291,6 +307,7 @@ fn edit_words(state: &mut State, edit: Edit) {
             state.pages = [2, 1];
         }
         Edit::Charged => state.pages[0] = 4,
+        Edit::OtherOff => state.put_word(RUN_1, 2),
         Edit::Tower => put_tower(state),
         Edit::Found(place, word) | Edit::OtherFound(place, word) => state.put_word(place, word),
         _ => {}
@@ -344,6 +361,7 @@ fn edit_references(hand: &mut Hand, edit: Edit) {
 }
 
 fn edit_works(hand: &mut Hand, edit: Edit) {
+    let since = hand.time();
     let mut noted = None;
     for slot in &mut hand.works {
         if let Some(held) = slot {
@@ -353,11 +371,18 @@ fn edit_works(hand: &mut Hand, edit: Edit) {
                     noted = Some((frame, index, word));
                 }
                 Edit::Open(frame, word) if frame == held.frame => {
-                    held.is.unsettled = Some(Unsettled { since: 0, word });
+                    held.is.unsettled = Some(Unsettled { since, word });
                     let last = held.is.recorded.saturating_sub(1);
                     noted = word.map(|known| (frame, last, known));
                 }
+                Edit::OpenAhead(_) => {
+                    held.is.unsettled = Some(Unsettled {
+                        since: since.saturating_add(1),
+                        word: None,
+                    });
+                }
                 Edit::Fixed(fixed) => held.is.fixed = fixed,
+                Edit::Since(steps) => held.is.since = steps,
                 _ => {}
             }
         }
@@ -367,9 +392,8 @@ fn edit_works(hand: &mut Hand, edit: Edit) {
     }
 }
 
-/// What is in the hand came there just now.
-fn comes_now(hand: &mut Hand) {
-    let now = hand.time();
+/// What is in the hand came there after so many steps.
+fn comes(hand: &mut Hand, now: u64) {
     for held in hand.works.iter_mut().flatten() {
         held.is.since = now;
         held.is.unmarked = now;
@@ -417,9 +441,12 @@ fn edit_hand(hand: &mut Hand, edit: Edit) {
         Edit::Acked(acked) => hand.acked = acked,
         Edit::Ran(ran) => hand.ran = ran,
         Edit::Cold => hand.cold = true,
-        Edit::Now => comes_now(hand),
+        Edit::Now => comes(hand, hand.time()),
+        Edit::Ahead => comes(hand, hand.time().saturating_add(1)),
         Edit::Found(place, word) | Edit::Was(place, word) => notes(hand, place, word),
-        Edit::Seen(..) | Edit::Open(..) | Edit::Fixed(_) => edit_works(hand, edit),
+        Edit::Seen(..) | Edit::Open(..) | Edit::OpenAhead(_) | Edit::Fixed(_) | Edit::Since(_) => {
+            edit_works(hand, edit);
+        }
         Edit::Work(frame, word, recorded) => put_work(hand, frame, word, recorded),
         Edit::InWork(word, recorded, _) => {
             put_work(hand, 0, word, recorded);
@@ -456,7 +483,19 @@ fn edit_frames(hand: &mut Hand, edit: Edit) {
         Edit::Credit | Edit::Charged => append(&mut hand.credits, 0),
         Edit::Looks(frame, word) => looks(hand, frame, word),
         Edit::Cached(frame, writable) => caches(hand, frame, writable),
-        Edit::Reached(_) | Edit::ForWrite | Edit::Touches(..) => edit_walk(hand, edit),
+        Edit::FullCache => {
+            for _ in 0..64 {
+                caches(hand, 0, false);
+            }
+        }
+        Edit::Reached(_) | Edit::ReachedAt(..) | Edit::ForWrite | Edit::Touches(..) => {
+            edit_walk(hand, edit);
+        }
+        Edit::LockAs(kind) => {
+            for held in hand.locks.iter_mut().flatten() {
+                held.is.kind = kind;
+            }
+        }
         _ => edit_references(hand, edit),
     }
 }
@@ -498,6 +537,7 @@ fn edit_walk(hand: &mut Hand, edit: Edit) {
             };
             push(&mut walk.reached, Reached { table, level });
         }
+        Edit::ReachedAt(table, level) => push(&mut walk.reached, Reached { table, level }),
         Edit::Touches(frame, index, word) => {
             walk.touching = Some(Touching { frame, index, word });
         }
@@ -525,12 +565,13 @@ fn edit_other(hand: &mut Hand, edit: Edit) {
             };
             append(&mut hand.claimed, Held { frame, is });
         }
+        Edit::OtherAhead => comes(hand, hand.time().saturating_add(1)),
+        Edit::OtherReached(table) => edit_walk(hand, Edit::Reached(table)),
         Edit::OtherLooks(frame, word) => looks(hand, frame, word),
         Edit::OtherCached(frame, writable) => caches(hand, frame, writable),
         Edit::OtherCold => hand.cold = true,
         Edit::OtherRaised(frame) => append(&mut hand.raised, frame),
         Edit::OtherVcpu(6, run) | Edit::Found(RUN_1, run) => runs(hand, 1, run),
-        Edit::OtherNow => comes_now(hand),
         Edit::OtherFound(place, left) | Edit::OtherWas(place, left) => {
             append(
                 &mut hand.steps,

@@ -1,17 +1,35 @@
 //! Each table names its cases by what they show.
 mod cells;
+mod contexts;
+mod domains;
+mod flushes;
+mod formed;
+mod found;
+mod fresh;
 mod kinds;
+mod lives;
+mod marks;
 mod references;
+mod walks;
 mod words;
 
 use crate::{Edit, edited};
 use cells::CELLS;
+use contexts::CONTEXTS;
+use domains::DOMAINS;
+use flushes::FLUSHES;
+use formed::FORMED;
+use found::FOUND;
+use fresh::FRESH;
 use kinds::KINDS;
+use lives::LIVES;
+use marks::MARKS;
 use plain_checker::judge;
 use plain_moves::{Step, moved};
 use plain_sound::{PARTS, Part, keeps};
 use plain_words::{Place, State};
 use references::REFERENCES;
+use walks::WALKS;
 use words::WORDS;
 use xp_board::{Act, Mark, StepKind};
 
@@ -142,55 +160,93 @@ fn amiss(state: &State, broken: &[Part]) -> Option<Part> {
     None
 }
 
-/// Whether the step is judged as wanted, and the part that is amiss before it and after it.
-fn told(case: &StepCase) -> (bool, Option<Part>, Option<Part>) {
-    let state = edited(case.edits);
-    let step = step_of(case.step);
-    let legal = judge(&state, 0, &step);
-    let after = moved(&state, 0, &step);
-    (
-        legal == case.legal,
-        amiss(&state, &[]),
-        amiss(&after, case.broken),
-    )
-}
-
-fn failing(state: &State, rt: &HostRuntime) -> bool {
-    let mut first = true;
-    for part in &PARTS {
-        if !keeps(state, *part) {
-            if !first { let _ = print!(rt; ","); }
-            first = false;
-            let _ = print!(rt; "{part:?}");
-        }
-    }
-    true
-}
-
-#[test]
-fn dump(rt: HostRuntime) {
-    for table in [&REFERENCES[..], &KINDS[..], &CELLS[..]] {
-    for case in table {
+/// The first case that is judged otherwise than wanted, or of which a part is amiss before the step or after it.
+fn wrong_step(cases: &[StepCase]) -> Option<&'static str> {
+    for case in cases {
         let state = edited(case.edits);
         let step = step_of(case.step);
         let legal = judge(&state, 0, &step);
         let after = moved(&state, 0, &step);
-        if told(case) != (true, None, None) {
-            let _ = print!(rt; "\nCASE {} wants {} is {} BEFORE ", case.name, case.legal, legal);
-            failing(&state, &rt);
-            let _ = print!(rt; " AFTER ");
-            failing(&after, &rt);
-            let _ = print!(rt; " WANTED {:?}\n", case.broken);
+        let wrong = legal != case.legal
+            || amiss(&state, &[]).is_some()
+            || amiss(&after, case.broken).is_some();
+        if wrong {
+            return Some(case.name);
         }
     }
-    }
-    for case in &WORDS {
-        let state = edited(case.edits);
-        if amiss(&state, case.broken).is_some() {
-            let _ = print!(rt; "\nWORD {} FAILS ", case.name);
-            failing(&state, &rt);
-            let _ = print!(rt; " WANTED {:?}\n", case.broken);
+    None
+}
+
+fn wrong_state(cases: &[WordCase]) -> Option<&'static str> {
+    for case in cases {
+        if amiss(&edited(case.edits), case.broken).is_some() {
+            return Some(case.name);
         }
     }
-    let _ = println!(rt; "done");
+    None
+}
+
+#[test]
+fn judges_steps_of_references(rt: HostRuntime) {
+    assert_eq!(rt; wrong_step(&REFERENCES), None);
+}
+
+#[test]
+fn judges_steps_of_kinds(rt: HostRuntime) {
+    assert_eq!(rt; wrong_step(&KINDS), None);
+}
+
+#[test]
+fn judges_steps_of_cells(rt: HostRuntime) {
+    assert_eq!(rt; wrong_step(&CELLS), None);
+}
+
+#[test]
+fn judges_marks(rt: HostRuntime) {
+    assert_eq!(rt; wrong_step(&MARKS), None);
+}
+
+#[test]
+fn judges_words_of_vcpus(rt: HostRuntime) {
+    assert_eq!(rt; wrong_step(&CONTEXTS), None);
+}
+
+#[test]
+fn judges_flushes(rt: HostRuntime) {
+    assert_eq!(rt; wrong_step(&FLUSHES), None);
+}
+
+#[test]
+fn judges_lives_and_privileges(rt: HostRuntime) {
+    assert_eq!(rt; wrong_step(&LIVES), None);
+}
+
+#[test]
+fn judges_walks_accesses_and_hints(rt: HostRuntime) {
+    assert_eq!(rt; wrong_step(&WALKS), None);
+}
+
+#[test]
+fn tells_the_part_that_fails(rt: HostRuntime) {
+    assert_eq!(rt; wrong_state(&WORDS), None);
+}
+
+#[test]
+fn tells_what_was_found_and_is_so_no_more(rt: HostRuntime) {
+    assert_eq!(rt; wrong_state(&FOUND), None);
+}
+
+#[test]
+fn tells_hands_that_do_not_fit(rt: HostRuntime) {
+    assert_eq!(rt; wrong_state(&FORMED), None);
+}
+
+#[test]
+fn tells_translations_that_lead_astray(rt: HostRuntime) {
+    assert_eq!(rt; wrong_state(&FRESH), None);
+}
+
+#[test]
+fn tells_of_domains_the_map_and_idle_vcpus(rt: HostRuntime) {
+    assert_eq!(rt; wrong_state(&DOMAINS), None);
 }

@@ -2,7 +2,7 @@
 use plain_words::{CellWord, Finding, Hand, Place, State, bit_of, free_stamp, is_dead, is_free, is_walked, times, FRAMES};
 use xp_words::{Entry, KindWord};
 
-/// The uses that translations make of a frame: as a table of a level from 1 to 4, to write it, to read it.
+/// The uses that translations make of a frame: as a table of a level up to 4, to write it, to read it.
 #[derive(Clone, Copy, Debug, PartialEq, Eq)]
 pub struct Uses {
     pub tables: [bool; 5],
@@ -24,7 +24,8 @@ enum Use {
     Reads,
 }
 
-const ALL_USES: [Use; 6] = [
+const ALL_USES: [Use; 7] = [
+    Use::Table { level: 0 },
     Use::Table { level: 1 },
     Use::Table { level: 2 },
     Use::Table { level: 3 },
@@ -118,7 +119,7 @@ fn reach(state: &State, vcpu: u16) -> [Uses; 8] {
     };
     for _ in 0..4 {
         for cell in state.cells.iter().flatten() {
-            for level in 1..5_u64 {
+            for level in 0..5_u64 {
                 let table = Use::Table { level };
                 if matches!(uses.get(cell.frame as usize), Some(of) if of.has(table)) {
                     leads_on(&mut uses, cell, level);

@@ -1,6 +1,6 @@
 //! Steps on cells.
-use crate::{DESC, Edit, L1, LIVE, LOCKED, OWNED, PRIV_0, UNFLUSHED, WRITABLE};
 use super::{Do, StepCase, Try};
+use crate::{DESC, Edit, L1, LIVE, LOCKED, OWNED, PRIV_0, UNFLUSHED, WRITABLE};
 use plain_sound::Part;
 use xp_words::PageType;
 

@@ -1,9 +1,9 @@
 //! Steps on types.
+use super::{Do, StepCase, Try};
 use crate::{
     CLOCK, DOWN, Edit, FLUSHED_0, FLUSHED_1, KEPT, KIND_1, L1, L2, LIVE, LOCKED, PARTIAL, PINNED,
     PRIV_0, PRIV_1, PROGRESS, RUN_1, TWO, UNFLUSHED, UNLOCK, WRITABLE,
 };
-use super::{Do, StepCase, Try};
 use plain_sound::Part;
 use xp_words::PageType;
 

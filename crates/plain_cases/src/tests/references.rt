@@ -1,8 +1,8 @@
 //! Steps on references, machine-to-physical words and pages.
+use super::{Do, StepCase, Try};
 use crate::{
     ALLOCATED, CLOCK, DOWN, Edit, FLUSHED_0, LIVE, ONE, OTHER, OWNED, REFS_3, RUN_1, TWO, WRITABLE,
 };
-use super::{Do, StepCase, Try};
 use plain_sound::Part;
 use xp_words::PageType;
 
