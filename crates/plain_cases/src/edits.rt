@@ -110,6 +110,8 @@ pub enum Edit {
     /// One to a frame in work, whose owner is known.
     OwnTyped(u64, PageType),
     ForeignTyped(u64, PageType),
+    /// One to a frame of domain 1 in work.
+    ForeignNewTyped(u64, PageType),
     OtherTyped(u64, PageType),
     /// The frame's kind word and how many entries are recorded.
     Work(u64, u64, u64),
@@ -132,6 +134,8 @@ pub enum Edit {
     OtherClaimed(u64),
     Raised(u64),
     Credit,
+    /// A credit of domain 1.
+    OtherCredit,
     /// A frame of domain 1 and the kind word that was left there.
     Looks(u64, u64),
     OtherLooks(u64, u64),
@@ -355,6 +359,9 @@ fn edit_references(hand: &mut Hand, edit: Edit) {
         Edit::ForeignTyped(frame, kind) => {
             put_typed(hand, frame, kind, Owner::Of { domain: 1 }, true);
         }
+        Edit::ForeignNewTyped(frame, kind) => {
+            put_typed(hand, frame, kind, Owner::Of { domain: 1 }, false);
+        }
         Edit::NewTyped(frame, kind) => put_typed(hand, frame, kind, new, false),
         _ => {}
     }
@@ -481,6 +488,7 @@ fn edit_frames(hand: &mut Hand, edit: Edit) {
         }
         Edit::Raised(frame) => append(&mut hand.raised, frame),
         Edit::Credit | Edit::Charged => append(&mut hand.credits, 0),
+        Edit::OtherCredit => append(&mut hand.credits, 1),
         Edit::Looks(frame, word) => looks(hand, frame, word),
         Edit::Cached(frame, writable) => caches(hand, frame, writable),
         Edit::FullCache => {

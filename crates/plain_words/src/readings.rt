@@ -1,18 +1,25 @@
 //! What single words say.
-ghost use Rattle.std.specs.Prelude.{◌≡◌};
+ghost use Rattle.std.specs.Prelude.{◌≡◌, ◌&&◌, nat_lt};
+ghost use Rattle.xp_words.specs.Entries.{demand_at};
 ghost use Rattle.xp_board.specs.Acts.{left_by};
-ghost use Rattle.xp_board.specs.Readings.{owner_of};
+ghost use Rattle.xp_board.specs.FillSteps.{is_walked};
+ghost use Rattle.xp_board.specs.Readings.{owner_of, free_stamp, is_free, is_work, is_dead, is_context};
 
 use xp_board::Act;
 use xp_words::{Demand, Entry, KindWord, PageType, RefWord};
 
 /// Whether a word of a vCPU may name a frame.
-pub fn names_frames(word: u64) -> bool {
+pub fn names_frames(word: u64) -> bool
+    ensures { result ≡ (nat_lt word 38 && is_context word) }
+{
     word < 4 || (8 <= word && word < 38)
 }
 
 /// What an entry of a frame of that type asks; the hypervisor's slots of a top table ask nothing.
-pub fn demand_at(kind: PageType, index: u64, word: u64) -> Demand {
+#[tactic(auto, unfolding(xp_words::specs::Entries::demand_at))]
+pub fn demand_at(kind: PageType, index: u64, word: u64) -> Demand
+    ensures { result ≡ demand_at kind index word }
+{
     if kind == PageType::L4 && 256 <= index && index < 272 {
         Demand::Nothing
     } else {
@@ -52,7 +59,10 @@ pub fn owner_of(word: u64) -> Option<u16>
 }
 
 /// The stamp of a free frame; 0 of any other.
-pub fn free_stamp(word: u64) -> u64 {
+#[tactic(auto, unfolding(xp_board::specs::Readings::free_stamp))]
+pub fn free_stamp(word: u64) -> u64
+    ensures { result ≡ free_stamp word }
+{
     match RefWord::read(word) {
         Some(RefWord::Free { stamp }) => stamp,
         _ => 0,
@@ -67,16 +77,23 @@ pub fn kind_stamp(word: u64) -> u64 {
     }
 }
 
-pub fn is_free(word: u64) -> bool {
+#[tactic(auto, unfolding(xp_board::specs::Readings::is_free))]
+pub fn is_free(word: u64) -> bool
+    ensures { result ≡ is_free word }
+{
     matches!(RefWord::read(word), Some(RefWord::Free { .. }))
 }
 
 /// In work, neither live nor partial.
-pub fn is_work(kind: &KindWord) -> bool {
+pub fn is_work(kind: &KindWord) -> bool
+    ensures { result ≡ is_work kind.now }
+{
     !kind.validated && !kind.partial && kind.locked
 }
 
-pub fn is_dead(kind: &KindWord) -> bool {
+pub fn is_dead(kind: &KindWord) -> bool
+    ensures { result ≡ is_dead kind.now }
+{
     !kind.validated && !kind.partial && !kind.locked
 }
 
@@ -91,7 +108,9 @@ pub fn is_marked(word: u64) -> bool {
 }
 
 /// Whether an address leads through the entry: the hypervisor's slots of a top table are not walked.
-pub fn is_walked(level: u64, index: u64) -> bool {
+pub fn is_walked(level: u64, index: u64) -> bool
+    ensures { result ≡ is_walked level index }
+{
     index < 512 && !(level == 4 && 256 <= index && index < 272)
 }
 
