@@ -6,7 +6,9 @@ mod flushes;
 mod formed;
 mod found;
 mod fresh;
+mod has;
 mod kinds;
+mod left;
 mod lives;
 mod marks;
 mod references;
@@ -21,7 +23,9 @@ use flushes::FLUSHES;
 use formed::FORMED;
 use found::FOUND;
 use fresh::FRESH;
+use has::{Has, is_left};
 use kinds::KINDS;
+use left::LEFT;
 use lives::LIVES;
 use marks::MARKS;
 use plain_checker::judge;
@@ -78,6 +82,14 @@ pub struct StepCase {
     pub step: Try,
     pub legal: bool,
     pub broken: &'static [Part],
+}
+
+/// A legal step of seat 0, and what it leaves.
+pub struct LeftCase {
+    pub name: &'static str,
+    pub edits: &'static [Edit],
+    pub step: Try,
+    pub left: &'static [Has],
 }
 
 /// Words and hands, and the parts that fail there.
@@ -177,6 +189,23 @@ fn wrong_step(cases: &[StepCase]) -> Option<&'static str> {
     None
 }
 
+/// The first case that is not legal, or of which something is not left.
+fn wrong_left(cases: &[LeftCase]) -> Option<&'static str> {
+    for case in cases {
+        let state = edited(case.edits);
+        let step = step_of(case.step);
+        let after = moved(&state, 0, &step);
+        let mut wrong = !judge(&state, 0, &step);
+        for fact in case.left {
+            wrong = wrong || !is_left(&after, *fact);
+        }
+        if wrong {
+            return Some(case.name);
+        }
+    }
+    None
+}
+
 fn wrong_state(cases: &[WordCase]) -> Option<&'static str> {
     for case in cases {
         if amiss(&edited(case.edits), case.broken).is_some() {
@@ -249,4 +278,9 @@ fn tells_translations_that_lead_astray(rt: HostRuntime) {
 #[test]
 fn tells_of_domains_the_map_and_idle_vcpus(rt: HostRuntime) {
     assert_eq!(rt; wrong_state(&DOMAINS), None);
+}
+
+#[test]
+fn tells_what_steps_leave(rt: HostRuntime) {
+    assert_eq!(rt; wrong_left(&LEFT), None);
 }
