@@ -68,7 +68,7 @@ pub const LIFE_0: Place = Place::Life { domain: 0 };
 pub const LIFE_1: Place = Place::Life { domain: 1 };
 
 /// A difference from the small machine.
-#[derive(Clone, Copy, Debug, PartialEq, Eq)]
+#[derive(Clone, Copy)]
 pub enum Edit {
     Limit(u32),
     Clock(u64),

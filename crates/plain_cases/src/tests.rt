@@ -9,9 +9,11 @@ mod fresh;
 mod has;
 mod kinds;
 mod left;
+mod left_by_others;
 mod lives;
 mod marks;
 mod references;
+mod stores;
 mod walks;
 mod words;
 
@@ -26,6 +28,7 @@ use fresh::FRESH;
 use has::{Has, is_left};
 use kinds::KINDS;
 use left::LEFT;
+use left_by_others::LEFT_BY_OTHERS;
 use lives::LIVES;
 use marks::MARKS;
 use plain_checker::judge;
@@ -33,12 +36,13 @@ use plain_moves::{Step, moved};
 use plain_sound::{PARTS, Part, keeps};
 use plain_words::{Place, State};
 use references::REFERENCES;
+use stores::STORES;
 use walks::WALKS;
 use words::WORDS;
 use xp_board::{Act, Mark, StepKind};
 
 /// An act.
-#[derive(Clone, Copy, Debug, PartialEq, Eq)]
+#[derive(Clone, Copy)]
 pub enum Do {
     Load,
     Cas(u64, u64),
@@ -48,7 +52,7 @@ pub enum Do {
 }
 
 /// A step by its kind, with the number of its frame (and cell), domain, or vCPU and word.
-#[derive(Clone, Copy, Debug, PartialEq, Eq)]
+#[derive(Clone, Copy)]
 pub enum Try {
     Look(u64, Do),
     Ref(u64, Do),
@@ -226,6 +230,11 @@ fn judges_steps_of_kinds(rt: HostRuntime) {
 }
 
 #[test]
+fn judges_stores_of_kinds(rt: HostRuntime) {
+    assert_eq!(rt; wrong_step(&STORES), None);
+}
+
+#[test]
 fn judges_steps_of_cells(rt: HostRuntime) {
     assert_eq!(rt; wrong_step(&CELLS), None);
 }
@@ -281,6 +290,11 @@ fn tells_of_domains_the_map_and_idle_vcpus(rt: HostRuntime) {
 }
 
 #[test]
-fn tells_what_steps_leave(rt: HostRuntime) {
+fn tells_what_steps_on_frames_leave(rt: HostRuntime) {
     assert_eq!(rt; wrong_left(&LEFT), None);
+}
+
+#[test]
+fn tells_what_other_steps_leave(rt: HostRuntime) {
+    assert_eq!(rt; wrong_left(&LEFT_BY_OTHERS), None);
 }

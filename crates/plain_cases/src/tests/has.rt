@@ -3,7 +3,7 @@ use plain_words::{Hand, Place, State, newest, times};
 use xp_words::PageType;
 
 /// Numbers of frames come first.
-#[derive(Clone, Copy, Debug, PartialEq, Eq)]
+#[derive(Clone, Copy)]
 pub enum Has {
     Word(Place, u64),
     /// So many untyped references, so many typed ones, and so many locks.
