@@ -148,6 +148,8 @@ pub enum Edit {
     Reached(u64),
     /// The walk is for a write.
     ForWrite,
+    /// The walk came through an entry that can't be written.
+    ReadOnly,
     Touches(u64, u64, u64),
     Cold,
     OtherCold,
@@ -496,7 +498,11 @@ fn edit_frames(hand: &mut Hand, edit: Edit) {
                 caches(hand, 0, false);
             }
         }
-        Edit::Reached(_) | Edit::ReachedAt(..) | Edit::ForWrite | Edit::Touches(..) => {
+        Edit::Reached(_)
+        | Edit::ReachedAt(..)
+        | Edit::ForWrite
+        | Edit::ReadOnly
+        | Edit::Touches(..) => {
             edit_walk(hand, edit);
         }
         Edit::LockAs(kind) => {
@@ -549,6 +555,7 @@ fn edit_walk(hand: &mut Hand, edit: Edit) {
         Edit::Touches(frame, index, word) => {
             walk.touching = Some(Touching { frame, index, word });
         }
+        Edit::ReadOnly => walk.writable = false,
         _ => walk.write = true,
     }
     hand.walk = Some(walk);

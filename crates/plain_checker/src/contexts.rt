@@ -4,14 +4,7 @@ use xp_board::Act;
 use xp_words::PageType;
 
 /// Stores by the own vCPU, and of 0 by a seat that destroys the domain.
-pub fn allows(
-    state: &State,
-    hand: &Hand,
-    seat: u16,
-    vcpu: u16,
-    word: u64,
-    act: Act,
-) -> bool {
+pub fn allows(state: &State, hand: &Hand, seat: u16, vcpu: u16, word: u64, act: Act) -> bool {
     let (Act::Store { new }, Some(domain)) = (act, state.domain_of(vcpu)) else {
         return false;
     };

@@ -1,5 +1,5 @@
 //! The clock, and flushes that are asked for and made.
-use plain_words::{Finding, Hand, Held, Place, STEPS, State, Work, newest, FRAMES};
+use plain_words::{FRAMES, Finding, Hand, Held, Place, STEPS, State, Work, newest};
 use xp_board::Act;
 use xp_words::KindWord;
 

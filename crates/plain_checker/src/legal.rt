@@ -6,10 +6,8 @@ use xp_board::{Act, StepKind};
 
 /// Whether a step of a seat is legal. The mark is judged first, and the act by the hand that the mark leaves.
 pub fn judge(state: &State, seat: u16, step: &Step) -> bool {
-    let (Some(hand), Some(domain)) = (
-        state.hands.get(usize::from(seat)),
-        state.domain_of(seat),
-    ) else {
+    let (Some(hand), Some(domain)) = (state.hands.get(usize::from(seat)), state.domain_of(seat))
+    else {
         return false;
     };
     let after = marked(hand, step.mark);

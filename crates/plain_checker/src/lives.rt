@@ -1,5 +1,7 @@
 //! Whether domains live and vCPUs run, and privileges.
-use plain_words::{Finding, Hand, Place, State, names_frames, stopped_by, with_bit, without_bit, FRAMES};
+use plain_words::{
+    FRAMES, Finding, Hand, Place, State, names_frames, stopped_by, with_bit, without_bit,
+};
 use xp_board::Act;
 
 /// A live domain is destroyed from now on, or this seat has found all of it empty.

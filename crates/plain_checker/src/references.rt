@@ -1,5 +1,5 @@
 //! Steps on a frame's owner and reference count.
-use plain_words::{Finding, Hand, Place, STEPS, State, is_past, newest, times, with_bit, FRAMES};
+use plain_words::{FRAMES, Finding, Hand, Place, STEPS, State, is_past, newest, times, with_bit};
 use xp_board::Act;
 use xp_words::RefWord;
 

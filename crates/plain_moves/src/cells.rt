@@ -1,6 +1,8 @@
 //! Entries of locked tables, words of vCPUs that name frames, and credits.
 use crate::marks::{demand_in, demand_out};
-use plain_words::{Hand, Live, Lock, Owner, demand_at, names_frames, newest, push, put, remove, take};
+use plain_words::{
+    Hand, Live, Lock, Owner, demand_at, names_frames, newest, push, put, remove, take,
+};
 use xp_board::Act;
 use xp_words::PageType;
 

@@ -11,9 +11,11 @@ pub fn moves(hand: &mut Hand, domain: u16, frame: u64, act: Act, found: u64) {
         Act::Cas { expected, new } => {
             let left = if expected == found { new } else { found };
             still_looks(hand, frame, left);
-            if let (true, Some(old), Some(kind)) =
-                (expected == found, KindWord::read(found), KindWord::read(new))
-            {
+            if let (true, Some(old), Some(kind)) = (
+                expected == found,
+                KindWord::read(found),
+                KindWord::read(new),
+            ) {
                 exchanges(hand, frame, &old, &kind, new);
             }
         }
@@ -186,14 +188,7 @@ fn stores(hand: &mut Hand, domain: u16, frame: u64, work: &Work, new: &KindWord,
 
 /// From closing an untyped reference becomes the type count. `kept` takes the count out of the hand, and the
 /// seat looks at the life of another domain whose frame it is.
-fn leaves_partial(
-    hand: &mut Hand,
-    domain: u16,
-    frame: u64,
-    work: &Work,
-    kept: bool,
-    word: u64,
-) {
+fn leaves_partial(hand: &mut Hand, domain: u16, frame: u64, work: &Work, kept: bool, word: u64) {
     let closing = is_closing(work.word);
     let owner = if closing {
         untyped_owner(hand, frame)

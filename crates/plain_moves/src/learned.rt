@@ -52,8 +52,7 @@ fn seen_in_work(work: Work, index: u64, word: u64) -> Work {
         }),
         other => other,
     };
-    let next_fixed =
-        kind.kind == PageType::Desc && index == work.fixed && fix(word) == Some(word);
+    let next_fixed = kind.kind == PageType::Desc && index == work.fixed && fix(word) == Some(word);
     Work {
         seen: Some(Seen { index, word }),
         unsettled,

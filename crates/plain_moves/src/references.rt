@@ -42,10 +42,7 @@ fn exchanges(hand: &mut Hand, domain: u16, frame: u64, found: u64, left: Option<
 /// The last reference leaves the frame ending.
 fn lowers(hand: &mut Hand, frame: u64, found: u64) {
     take(&mut hand.refs, frame);
-    let last = matches!(
-        RefWord::read(found),
-        Some(RefWord::Owned { count: 1, .. })
-    );
+    let last = matches!(RefWord::read(found), Some(RefWord::Owned { count: 1, .. }));
     if last {
         let ending = Ending {
             owner: owner_of(found).unwrap_or(0),

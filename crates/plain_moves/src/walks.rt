@@ -1,5 +1,5 @@
 //! Walks of page tables, and the cache of translations.
-use plain_words::{Hand, Item, Reached, Touching, Walk, bit_of, push, with_bit, FRAMES};
+use plain_words::{FRAMES, Hand, Item, Reached, Touching, Walk, bit_of, push, with_bit};
 use xp_board::{Act, Mark};
 use xp_words::Entry;
 

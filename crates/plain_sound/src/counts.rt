@@ -1,5 +1,5 @@
 //! The two counts of each frame, counted again, and the pages of each domain.
-use plain_words::{Hand, State, names_frames, owner_of, FRAMES};
+use plain_words::{FRAMES, Hand, State, names_frames, owner_of};
 use xp_words::{Demand, PageType, RefWord};
 
 /// Whether a demand names the frame, and whether it does so with a type.

@@ -1,5 +1,5 @@
 //! Dead domains, and dying ones.
-use plain_words::{Finding, Hand, Place, State, names_frames, stopped_by, FRAMES};
+use plain_words::{FRAMES, Finding, Hand, Place, State, names_frames, stopped_by};
 
 /// The seats still look at the frame for the domain.
 fn is_looked_at(state: &State, domain: u16, frame: u64) -> bool {
@@ -17,8 +17,7 @@ fn is_looked_at(state: &State, domain: u16, frame: u64) -> bool {
 /// The frame has the mark of that finding no more; a `kept` mark may be one that a seat still looks at.
 fn lacks(state: &State, domain: u16, frame: u64, mark: Finding) -> bool {
     let place = place_of(mark, frame);
-    mark.holds(state.word(place))
-        || (mark == Finding::Unkept && is_looked_at(state, domain, frame))
+    mark.holds(state.word(place)) || (mark == Finding::Unkept && is_looked_at(state, domain, frame))
 }
 
 fn place_of(mark: Finding, frame: u64) -> Place {

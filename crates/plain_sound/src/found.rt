@@ -1,9 +1,7 @@
 //! What each seat found stays true.
 use crate::fresh::comes_to;
 use crate::sound::Part;
-use plain_words::{
-    Claimed, Finding, Hand, Held, Lock, Place, State, Work, is_marked,
-};
+use plain_words::{Claimed, Finding, Hand, Held, Lock, Place, State, Work, is_marked};
 use xp_words::{KindWord, PageType, RefWord, fix};
 
 const TYPES: [PageType; 7] = [
@@ -187,8 +185,7 @@ fn work_cells_found(state: &State, hand: &Hand, held: &Held<Work>) -> bool {
     };
     let known = !kind.unflushed && kind.kind != PageType::Writable;
     let table = kind.kind.is_table();
-    let mut found =
-        !known || cells_found(state, hand, held.is.unmarked, held.frame, table);
+    let mut found = !known || cells_found(state, hand, held.is.unmarked, held.frame, table);
     for cell in state.cells.iter().flatten() {
         let inside = cell.frame == held.frame && cell.index < held.is.fixed;
         found = found && (!inside || fix(cell.word) == Some(cell.word));
@@ -269,9 +266,18 @@ fn privileges_found(state: &State, hand: &Hand, domain: u16) -> bool {
 
 /// The own run word; and the old words, while the vCPU is not stopped.
 fn own_found(state: &State, hand: &Hand, seat: u16) -> bool {
-    let run = state.word(Place::Vcpu { vcpu: seat, word: 6 });
-    let old0 = state.word(Place::Vcpu { vcpu: seat, word: 2 });
-    let old1 = state.word(Place::Vcpu { vcpu: seat, word: 3 });
+    let run = state.word(Place::Vcpu {
+        vcpu: seat,
+        word: 6,
+    });
+    let old0 = state.word(Place::Vcpu {
+        vcpu: seat,
+        word: 2,
+    });
+    let old1 = state.word(Place::Vcpu {
+        vcpu: seat,
+        word: 3,
+    });
     hand.run.unwrap_or(run) == run
         && (run == 1 || hand.old0.unwrap_or(old0) == old0)
         && (run == 1 || hand.old1.unwrap_or(old1) == old1)

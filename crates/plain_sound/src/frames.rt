@@ -1,7 +1,5 @@
 //! Single words: spellings, stamps, the map, and words of vCPUs that do not run.
-use plain_words::{
-    Hand, Place, State, bit_of, free_stamp, is_free, is_spelling, kind_stamp,
-};
+use plain_words::{Hand, Place, State, bit_of, free_stamp, is_free, is_spelling, kind_stamp};
 
 /// Each word is a spelling.
 pub fn is_spelled(state: &State) -> bool {

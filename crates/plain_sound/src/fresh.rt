@@ -1,5 +1,8 @@
 //! What the vCPUs' translations can lead to, though they may be old.
-use plain_words::{CellWord, Finding, Hand, Place, State, bit_of, free_stamp, is_dead, is_free, is_walked, times, FRAMES};
+use plain_words::{
+    CellWord, FRAMES, Finding, Hand, Place, State, bit_of, free_stamp, is_dead, is_free, is_walked,
+    times,
+};
 use xp_words::{Entry, KindWord};
 
 /// The uses that translations make of a frame: as a table of a level up to 4, to write it, to read it.

@@ -121,13 +121,7 @@ pub fn left_by(act: Act, found: u64) -> u64
 {
     match act {
         Act::Load => found,
-        Act::Cas { expected, new } => {
-            if found == expected {
-                new
-            } else {
-                found
-            }
-        }
+        Act::Cas { expected, new } => { if found == expected { new } else { found } }
         Act::Store { new } => new,
         Act::Add { by } => found.wrapping_add(by),
         Act::Max { value } => found.max(value),

@@ -41,6 +41,8 @@ pub enum Has {
     /// The table that the walk has reached last, with its level.
     Walks(u64, u64),
     NoWalk,
+    /// All entries of the walk so far can be written.
+    MayWrite(bool),
     /// The walk waits for that entry of a frame.
     Waits(u64, u64, u64),
     Looks(u64, u64),
@@ -68,7 +70,9 @@ pub fn is_left(state: &State, fact: Has) -> bool {
         Has::NotKnownLive(frame, kind) => !hand.knows_live(frame, kind),
         Has::Partial(frame, kind) => hand.knows_partial(frame, kind),
         Has::Cached(number) => hand.cache.iter().flatten().count() as u64 == number,
-        Has::Newest(..) | Has::Walks(..) | Has::NoWalk | Has::Waits(..) => has_walk(hand, fact),
+        Has::Newest(..) | Has::Walks(..) | Has::NoWalk | Has::MayWrite(_) | Has::Waits(..) => {
+            has_walk(hand, fact)
+        }
         Has::Cold(cold) => hand.cold == cold,
         Has::Run(run) => hand.run == Some(run),
         Has::Old(first, second) => hand.old0 == Some(first) && hand.old1 == Some(second),
@@ -82,6 +86,7 @@ pub fn is_left(state: &State, fact: Has) -> bool {
 fn has_walk(hand: &Hand, fact: Has) -> bool {
     match (fact, hand.walk) {
         (Has::NoWalk, None) => true,
+        (Has::MayWrite(may), Some(walk)) => walk.writable == may,
         (Has::Walks(table, level), Some(walk)) => match walk.reached[0] {
             Some(last) => { last.table == table && last.level == level && walk.touching.is_none() }
             None => false,

@@ -9,7 +9,7 @@ use plain_words::Place;
 use xp_board::{Mark, StepKind};
 use xp_words::PageType;
 
-pub const LEFT_BY_OTHERS: [LeftCase; 57] = [
+pub const LEFT_BY_OTHERS: [LeftCase; 62] = [
     LeftCase {
         name: "an entry is exchanged",
         edits: &[
@@ -610,5 +610,50 @@ pub const LEFT_BY_OTHERS: [LeftCase; 57] = [
         edits: &[Edit::Turn(1)],
         step: Try::With(Mark::Cut { call: 1 }),
         left: &[Has::Times(1, 0, 0)],
+    },
+    LeftCase {
+        name: "a walk goes down through an entry that can be written",
+        edits: &[Edit::Tower, Edit::Reached(0)],
+        step: Try::Fill(0, 0, Do::Load),
+        left: &[Has::Walks(1, 3), Has::MayWrite(true)],
+    },
+    LeftCase {
+        name: "a walk goes down through an entry that can't be written",
+        edits: &[Edit::Tower, Edit::Cell(0, 0, 0x1025), Edit::Reached(0)],
+        step: Try::Fill(0, 0, Do::Load),
+        left: &[Has::Walks(1, 3), Has::MayWrite(false)],
+    },
+    LeftCase {
+        name: "a walk that can't write goes down through an entry that can be written",
+        edits: &[Edit::Tower, Edit::Reached(0), Edit::ReadOnly],
+        step: Try::Fill(0, 0, Do::Load),
+        left: &[Has::Walks(1, 3), Has::MayWrite(false)],
+    },
+    LeftCase {
+        name: "a walk that can't write comes to its end",
+        edits: &[
+            Edit::Tower,
+            Edit::Reached(0),
+            Edit::Reached(1),
+            Edit::Reached(2),
+            Edit::Reached(3),
+            Edit::ReadOnly,
+        ],
+        step: Try::Fill(3, 0, Do::Load),
+        left: &[Has::NoWalk, Has::Newest(4, false, false)],
+    },
+    LeftCase {
+        name: "a walk for a write that can't write sets no dirty bit",
+        edits: &[
+            Edit::Tower,
+            Edit::Reached(0),
+            Edit::Reached(1),
+            Edit::Reached(2),
+            Edit::Reached(3),
+            Edit::ReadOnly,
+            Edit::ForWrite,
+        ],
+        step: Try::Fill(3, 0, Do::Load),
+        left: &[Has::NoWalk, Has::Newest(4, false, false)],
     },
 ];
