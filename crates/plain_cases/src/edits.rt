@@ -5,20 +5,24 @@ use plain_words::{
 };
 use xp_words::PageType;
 
+/// The words of frames: an owner, domain 0 or the other, and marks and counts beside it.
 pub const OWNED: u64 = 1 << 63;
 
 pub const OTHER: u64 = (1 << 63) + (1 << 32);
 
 pub const ALLOCATED: u64 = 1 << 31;
 
+/// Domain 0's, allocated, with one reference or two.
 pub const ONE: u64 = OWNED + ALLOCATED + 1;
 
 pub const TWO: u64 = OWNED + ALLOCATED + 2;
 
+/// One count goes off.
 pub const DOWN: u64 = u64::MAX;
 /// The lock and one count go off.
 pub const UNLOCK: u64 = u64::MAX - (1 << 48);
 
+/// Parts of kind words: one entry of progress, marks, forms, types.
 pub const PROGRESS: u64 = 1 << 36;
 
 pub const UNFLUSHED: u64 = 1 << 46;
@@ -43,6 +47,7 @@ pub const DESC: u64 = 5 << 52;
 
 pub const WRITABLE: u64 = 7 << 52;
 
+/// Places that many cases name.
 pub const CLOCK: Place = Place::Clock;
 
 pub const FLUSHED_0: Place = Place::Vcpu { vcpu: 0, word: 5 };

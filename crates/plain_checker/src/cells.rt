@@ -3,6 +3,7 @@ use plain_words::{Finding, Hand, Lock, Place, Seen, Work, demand_at, is_work, ne
 use xp_board::Act;
 use xp_words::{Demand, KindWord, PageType, fix};
 
+/// What the frame is in the hand decides: locked, claimed, in work, or ordinary memory.
 pub fn allows(hand: &Hand, frame: u64, index: u64, act: Act) -> bool {
     let lock = newest(&hand.locks, frame);
     match (act, lock) {

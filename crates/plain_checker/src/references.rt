@@ -3,6 +3,7 @@ use plain_words::{FRAMES, Finding, Hand, Place, STEPS, State, is_past, newest, t
 use xp_board::Act;
 use xp_words::RefWord;
 
+/// One up, the mark off, a claim; one down; a frame that becomes free or is given.
 pub fn allows(state: &State, hand: &Hand, domain: u16, frame: u64, act: Act) -> bool {
     match act {
         Act::Cas { expected, new } => match (RefWord::read(expected), RefWord::read(new)) {

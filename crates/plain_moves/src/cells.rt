@@ -6,6 +6,7 @@ use plain_words::{
 use xp_board::Act;
 use xp_words::PageType;
 
+/// What a new entry of a table under the own lock asks goes out of the hand, and what the old one asked comes in.
 pub fn moves(hand: &mut Hand, table: u64, index: u64, act: Act, found: u64) {
     let new = match act {
         Act::Store { new } => new,

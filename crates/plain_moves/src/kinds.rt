@@ -6,6 +6,7 @@ use plain_words::{
 use xp_board::Act;
 use xp_words::{KindWord, PageType};
 
+/// What a step on a frame's type moves.
 pub fn moves(hand: &mut Hand, domain: u16, frame: u64, act: Act, found: u64) {
     match act {
         Act::Cas { expected, new } => {

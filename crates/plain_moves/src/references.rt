@@ -5,6 +5,7 @@ use plain_words::{
 use xp_board::Act;
 use xp_words::RefWord;
 
+/// What a step on a frame's owner and reference count moves.
 pub fn moves(hand: &mut Hand, domain: u16, frame: u64, act: Act, found: u64) {
     match act {
         Act::Cas { expected, new } if expected == found => {

@@ -55,6 +55,7 @@ impl Uses {
         count
     }
 
+    /// Whether there is a use but to read it.
     pub fn is_more_than_read(&self) -> bool {
         0 < self.kinds()
     }

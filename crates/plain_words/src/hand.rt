@@ -158,6 +158,7 @@ pub struct Hand {
 }
 
 impl Hand {
+    /// Untyped references.
     pub fn untyped(&self, frame: u64) -> u64 {
         times(&self.refs, frame)
     }
@@ -182,6 +183,7 @@ impl Hand {
         times(&self.ending, frame).saturating_add(times(&self.claimed, frame))
     }
 
+    /// How often the frame is noted as one whose bit of the map is set.
     pub fn raises(&self, frame: u64) -> u64 {
         let mut count: u64 = 0;
         for entry in &self.raised {
@@ -192,6 +194,7 @@ impl Hand {
         count
     }
 
+    /// Pages that are counted for the domain without a frame.
     pub fn credits_of(&self, domain: u16) -> u64 {
         let mut count: u64 = 0;
         for entry in &self.credits {

@@ -67,6 +67,7 @@ fn put_cell(state: &mut State, new: CellWord) {
 }
 
 impl State {
+    /// None where there is no such vCPU.
     pub fn domain_of(&self, vcpu: u16) -> Option<u16> {
         self.vcpu_domain.get(usize::from(vcpu)).copied()
     }
@@ -77,6 +78,7 @@ impl State {
         KindWord::read(words.kind)
     }
 
+    /// None for a word that is no spelling, too.
     pub fn refs_of(&self, frame: u64) -> Option<RefWord> {
         let words = self.frames.get(frame as usize)?;
         RefWord::read(words.refs)
@@ -88,6 +90,7 @@ impl State {
         crate::readings::owner_of(words.refs)
     }
 
+    /// The word of a cell; 0 for one that is not listed.
     pub fn cell(&self, frame: u64, index: u64) -> u64 {
         let mut word = 0;
         for entry in &self.cells {

@@ -77,6 +77,7 @@ pub fn kind_stamp(word: u64) -> u64 {
     }
 }
 
+/// Owned by nobody.
 #[tactic(auto, unfolding(xp_board::specs::Readings::is_free))]
 pub fn is_free(word: u64) -> bool
     ensures { result ≡ is_free word }
@@ -91,6 +92,7 @@ pub fn is_work(kind: &KindWord) -> bool
     !kind.validated && !kind.partial && kind.locked
 }
 
+/// Neither live, partial nor in work.
 pub fn is_dead(kind: &KindWord) -> bool
     ensures { result ≡ is_dead kind.now }
 {
