@@ -1,9 +1,9 @@
 //! Steps on the cells of a frame.
-use crate::hand::{Finding, Hand, Lock, Seen, Work, newest, times};
-use crate::machine::{Place, demand_at};
+use plain_words::{Finding, Hand, Lock, Place, Seen, Work, demand_at, is_work, newest, times};
 use xp_board::Act;
 use xp_words::{Demand, KindWord, PageType, fix};
 
+/// What the frame is in the hand decides: locked, claimed, in work, or ordinary memory.
 pub fn allows(hand: &Hand, frame: u64, index: u64, act: Act) -> bool {
     let lock = newest(&hand.locks, frame);
     match (act, lock) {
@@ -37,11 +37,24 @@ pub fn has_demand(hand: &Hand, table: u64, kind: PageType, demand: Demand) -> bo
         Demand::Bad => false,
         Demand::Read { frame } => hand.spares(frame) && owners_meet(hand, table, frame, kind),
         Demand::Typed { frame, kind: below } => {
-            0 < hand.typed_plain(frame)
-                && hand.knows_live(frame, below)
-                && owners_meet(hand, table, frame, kind)
+            has_typed(hand, table, frame, kind) && hand.knows_live(frame, below)
         }
     }
+}
+
+/// The same of the last entry of a table in work: what it types may be partial.
+pub fn has_last_demand(hand: &Hand, table: u64, kind: PageType, demand: Demand) -> bool {
+    match demand {
+        Demand::Typed { frame, kind: below } => {
+            let known = hand.knows_live(frame, below) || hand.knows_partial(frame, below);
+            has_typed(hand, table, frame, kind) && known
+        }
+        _ => has_demand(hand, table, kind, demand),
+    }
+}
+
+fn has_typed(hand: &Hand, table: u64, frame: u64, kind: PageType) -> bool {
+    0 < hand.typed_plain(frame) && owners_meet(hand, table, frame, kind)
 }
 
 /// One owner; or at level 1 one over whose frames the table's owner was found in this turn to have privilege.
@@ -79,7 +92,7 @@ fn writes(hand: &Hand, frame: u64, index: u64, new: u64) -> bool {
 /// The word last seen in a descriptor page of the own work takes its fixed form.
 fn mends(index: u64, new: u64, work: &Work) -> bool {
     let open = match KindWord::read(work.word) {
-        Some(k) => !k.validated && k.locked && k.kind == PageType::Desc && !k.unflushed,
+        Some(k) => is_work(&k) && k.kind == PageType::Desc && !k.unflushed,
         None => false,
     };
     match work.seen {

@@ -1,10 +1,11 @@
 //! Steps on a frame's type, its form and its marks.
-use crate::hand::{Finding, Hand, Owner, Work, newest, times};
-use crate::machine::{Place, State, demand_at};
-use crate::references::is_past;
+use plain_words::{
+    Finding, Hand, Owner, Place, State, Work, demand_at, is_dead, is_past, is_work, newest, times,
+};
 use xp_board::Act;
 use xp_words::{Demand, KindWord, PageType};
 
+/// Exchanges from each form, counts that are given back, and stores by the seat that works on the frame.
 pub fn allows(state: &State, hand: &Hand, domain: u16, frame: u64, act: Act) -> bool {
     match act {
         Act::Cas { expected, new } => match (KindWord::read(expected), KindWord::read(new)) {
@@ -23,10 +24,6 @@ pub fn allows(state: &State, hand: &Hand, domain: u16, frame: u64, act: Act) -> 
         }
         _ => false,
     }
-}
-
-fn is_dead(word: &KindWord) -> bool {
-    !word.validated && !word.partial && !word.locked
 }
 
 fn exchanges(
@@ -156,7 +153,7 @@ fn stores(
             number: 0,
             ..*old
         };
-        !old.validated && old.unflushed && *left == bare && past
+        is_work(old) && old.unflushed && *left == bare && past
     } else {
         let mark = left.unflushed == old.unflushed || (!left.unflushed && past);
         makes_dead(hand, frame, work, old, left) && mark
@@ -181,11 +178,11 @@ fn makes_live(hand: &Hand, frame: u64, work: &Work, old: &KindWord, left: &KindW
     let typed = hand.typed_plain(frame);
     let counted = (left.number == 1 && 0 < typed)
         || (left.number == 2 && typed == 0 && 0 < hand.untyped(frame));
-    !old.validated && !left.pinned && !left.locked && whole && counted
+    is_work(old) && !left.pinned && !left.locked && whole && counted
 }
 
 /// The frame of the last recorded entry was found or made live since.
-fn is_settled(hand: &Hand, work: &Work, kind: PageType) -> bool {
+pub fn is_settled(hand: &Hand, work: &Work, kind: PageType) -> bool {
     match work.unsettled {
         None => true,
         Some(unsettled) => match unsettled.word {
@@ -219,7 +216,7 @@ fn makes_dead(hand: &Hand, frame: u64, work: &Work, old: &KindWord, left: &KindW
         Place::Clock,
         Finding::Equal { word: left.number },
     );
-    let counted = old.validated || 0 < hand.typed_plain(frame);
+    let counted = !is_work(old) || 0 < hand.typed_plain(frame);
     work.recorded == 0 && stamped && counted
 }
 
@@ -228,7 +225,7 @@ fn is_past_flush(state: &State, hand: &Hand, frame: u64, work: &Work, old: &Kind
     let mut all = true;
     for vcpu in 0..2_u16 {
         let past = is_past(hand, work.since, old.number, vcpu);
-        let over = match state.domain_of(usize::from(vcpu)) {
+        let over = match state.domain_of(vcpu) {
             Some(domain) => passes_over(hand, frame, work, domain),
             None => false,
         };

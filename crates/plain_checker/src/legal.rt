@@ -1,96 +1,28 @@
-//! Whether a step is legal, by the hand of the seat that makes it.
-use crate::hand::Hand;
-use crate::machine::{Place, State, names_frames};
-use crate::{cells, kinds, references};
+//! The rule of each kind of step.
+use crate::{cells, contexts, flushes, kinds, lives, marks, references, walks};
+use plain_moves::{Step, marked};
+use plain_words::{Hand, Place, State, is_place, is_spelling, times};
 use xp_board::{Act, StepKind};
-use xp_words::{KindWord, LdtBase, RefWord};
 
-/// One atomic step, without a mark.
-#[derive(Clone, Copy, Debug, PartialEq, Eq)]
-pub struct Step {
-    pub place: Place,
-    pub act: Act,
-    pub kind: StepKind,
-}
-
-#[derive(Clone, Copy, Debug, PartialEq, Eq)]
-pub enum Verdict {
-    Legal,
-    Illegal,
-    /// A step of a kind that this checker does not know.
-    Unknown,
-}
-
-/// Judges a step of a seat.
-pub fn judge(state: &State, seat: usize, step: &Step) -> Verdict {
-    let (Some(hand), Some(domain)) = (state.hands.get(seat), state.domain_of(seat)) else {
-        return Verdict::Illegal;
+/// Whether a step of a seat is legal. The mark is judged first, and the act by the hand that the mark leaves.
+pub fn judge(state: &State, seat: u16, step: &Step) -> bool {
+    let (Some(hand), Some(domain)) = (state.hands.get(usize::from(seat)), state.domain_of(seat))
+    else {
+        return false;
     };
-    let known = matches!(
-        step.kind,
-        StepKind::Look
-            | StepKind::Ref
-            | StepKind::Kind
-            | StepKind::Cell
-            | StepKind::M2p
-            | StepKind::Pages
-    );
-    if !known {
-        return Verdict::Unknown;
-    }
-    let runs = step.kind == StepKind::Look || hand.run == Some(0);
-    if is_place(step.place)
-        && runs
+    let after = marked(hand, step.mark);
+    is_place(step.place)
+        && marks::allows(hand, step.kind, step.mark)
+        && (hand.run == Some(0) || !needs_running(step.kind))
         && writes_spelling(state, step)
-        && allows(state, hand, domain, step)
-    {
-        Verdict::Legal
-    } else {
-        Verdict::Illegal
-    }
+        && allows(state, &after, seat, domain, step)
 }
 
-fn allows(state: &State, hand: &Hand, domain: u16, step: &Step) -> bool {
-    match (step.kind, step.place) {
-        (StepKind::Look, _) => step.act == Act::Load,
-        (StepKind::Ref, Place::Refs { frame }) => {
-            references::allows(state, hand, domain, frame, step.act)
-        }
-        (StepKind::Kind, Place::Kind { frame }) => {
-            kinds::allows(state, hand, domain, frame, step.act)
-        }
-        (StepKind::Cell, Place::Cell { frame, index }) => {
-            cells::allows(hand, frame, index, step.act)
-        }
-        (StepKind::M2p, Place::M2p { frame }) => allows_map(hand, frame, step.act),
-        (StepKind::Pages, Place::Pages { domain }) => allows_pages(hand, domain, step.act),
-        _ => false,
-    }
-}
-
-/// A machine-to-physical word is stored by who has a reference, or took the frame from the free ones.
-fn allows_map(hand: &Hand, frame: u64, act: Act) -> bool {
-    let in_hand = 0 < hand.all(frame) || 0 < crate::hand::times(&hand.claimed, frame);
-    matches!(act, Act::Store { .. }) && in_hand
-}
-
-/// Upwards it gives credits, and no more go down than are in hand.
-fn allows_pages(hand: &Hand, domain: u16, act: Act) -> bool {
-    match act {
-        Act::Cas { expected, new } => expected < new,
-        Act::Add { by } => 0 < by && by.wrapping_neg() <= hand.credits_of(domain),
-        _ => false,
-    }
-}
-
-pub fn is_place(place: Place) -> bool {
-    match place {
-        Place::Clock => true,
-        Place::Pages { domain } | Place::Priv { domain } => domain < 2,
-        Place::Vcpu { vcpu, word } => vcpu < 2 && word < 38,
-        Place::Refs { frame } | Place::Kind { frame } | Place::M2p { frame } => frame < 4,
-        Place::Cell { frame, index } => frame < 4 && index < 512,
-    }
+fn needs_running(kind: StepKind) -> bool {
+    !matches!(
+        kind,
+        StepKind::Look | StepKind::Tick | StepKind::Ack | StepKind::Run
+    )
 }
 
 fn writes_spelling(state: &State, step: &Step) -> bool {
@@ -100,38 +32,71 @@ fn writes_spelling(state: &State, step: &Step) -> bool {
     }
 }
 
-/// Whether the word may stand there.
-pub fn is_spelling(state: &State, place: Place, word: u64) -> bool {
-    match place {
-        Place::Clock => 0 < word && word < (1 << 36) - 1,
-        Place::Pages { domain } => match state.page_limit.get(usize::from(domain)) {
-            Some(limit) => word <= *limit,
-            None => false,
-        },
-        Place::Priv { .. } => word < 1 << 32 && (word & 0xffff) & !(word >> 16) == 0,
-        Place::Vcpu { word: number, .. } => is_vcpu_word(number, word),
-        Place::Refs { .. } => match RefWord::read(word) {
-            Some(RefWord::Free { .. }) => true,
-            Some(RefWord::Owned { owner, count, .. }) => owner < 2 && count <= state.limit,
-            Some(RefWord::Dying { owner }) => owner < 2,
-            None => false,
-        },
-        Place::Kind { .. } => match KindWord::read(word) {
-            Some(kind) => !kind.validated || kind.number <= u64::from(state.limit),
-            None => false,
-        },
-        Place::M2p { .. } | Place::Cell { .. } => true,
+fn allows(state: &State, hand: &Hand, seat: u16, domain: u16, step: &Step) -> bool {
+    let (kind, act) = (step.kind, step.act);
+    if kind == StepKind::Look {
+        return act == Act::Load;
+    }
+    match step.place {
+        Place::Clock => kind == StepKind::Tick && flushes::ticks(act),
+        Place::Pages { domain: of } => kind == StepKind::Pages && allows_pages(hand, of, act),
+        Place::Life { domain: of } => {
+            kind == StepKind::Life && lives::allows(state, hand, seat, of, act)
+        }
+        Place::Priv { .. } => kind == StepKind::Priv && lives::sets_privilege(hand, domain, act),
+        Place::Vcpu { vcpu, word } => allows_of_vcpu(state, hand, seat, step, vcpu, word),
+        Place::Refs { frame } => {
+            kind == StepKind::Ref && references::allows(state, hand, domain, frame, act)
+        }
+        Place::Kind { frame } => {
+            kind == StepKind::Kind && kinds::allows(state, hand, domain, frame, act)
+        }
+        Place::M2p { frame } => kind == StepKind::M2p && allows_map(hand, frame, act),
+        Place::Cell { frame, index } => allows_of_cell(hand, step, frame, index),
+        Place::Map { word } => kind == StepKind::Hint && references::hints(hand, word, act),
     }
 }
 
-fn is_vcpu_word(number: u64, word: u64) -> bool {
-    if names_frames(number) {
-        word <= 4
-    } else if number == 6 {
-        word < 3
-    } else if number == 7 {
-        LdtBase::read(word).is_some()
-    } else {
-        true
+fn allows_of_vcpu(
+    state: &State,
+    hand: &Hand,
+    seat: u16,
+    step: &Step,
+    vcpu: u16,
+    word: u64,
+) -> bool {
+    let own = vcpu == seat;
+    match step.kind {
+        StepKind::Context => contexts::allows(state, hand, seat, vcpu, word, step.act),
+        StepKind::Fill => own && walks::starts(hand, word, step.act, step.mark),
+        StepKind::Ask => word == 4 && flushes::asks(state, hand, vcpu, step.act),
+        StepKind::Ack => own && word == 5 && flushes::acknowledges(hand, step.act),
+        StepKind::Run => own && word == 6 && lives::runs(hand, step.act),
+        _ => false,
+    }
+}
+
+fn allows_of_cell(hand: &Hand, step: &Step, frame: u64, index: u64) -> bool {
+    match step.kind {
+        StepKind::Cell => cells::allows(hand, frame, index, step.act),
+        StepKind::Fill => walks::goes_on(hand, frame, index, step.act, step.mark),
+        StepKind::Touch => walks::touches(hand, frame, index, step.act),
+        StepKind::Guest => walks::accesses(hand, frame, step.act),
+        _ => false,
+    }
+}
+
+/// A machine-to-physical word is stored by who has a reference, or took the frame from the free ones.
+fn allows_map(hand: &Hand, frame: u64, act: Act) -> bool {
+    let in_hand = 0 < hand.all(frame) || 0 < times(&hand.claimed, frame);
+    matches!(act, Act::Store { .. }) && in_hand
+}
+
+/// Upwards it gives credits, and no more go down than are in hand.
+fn allows_pages(hand: &Hand, domain: u16, act: Act) -> bool {
+    match act {
+        Act::Cas { expected, new } => expected < new,
+        Act::Add { by } => 0 < by && by.wrapping_neg() <= hand.credits_of(domain),
+        _ => false,
     }
 }

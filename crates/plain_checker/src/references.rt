@@ -1,9 +1,9 @@
 //! Steps on a frame's owner and reference count.
-use crate::hand::{Finding, Hand, newest};
-use crate::machine::{Place, State};
+use plain_words::{FRAMES, Finding, Hand, Place, STEPS, State, is_past, newest, times, with_bit};
 use xp_board::Act;
 use xp_words::RefWord;
 
+/// One up, the mark off, a claim; one down; a frame that becomes free or is given.
 pub fn allows(state: &State, hand: &Hand, domain: u16, frame: u64, act: Act) -> bool {
     match act {
         Act::Cas { expected, new } => match (RefWord::read(expected), RefWord::read(new)) {
@@ -57,7 +57,7 @@ fn exchanges(
 /// The stamp was found, and after that each vCPU was found past it.
 fn is_unreachable(hand: &Hand, frame: u64, stamp: u64) -> bool {
     let mut unreachable = false;
-    for since in 0..10_u64 {
+    for since in 0..=STEPS {
         let place = Place::Refs { frame };
         if hand.found_between(0, since, place, Finding::Equal { word: stamp })
             && is_past(hand, since, stamp, 0)
@@ -69,14 +69,6 @@ fn is_unreachable(hand: &Hand, frame: u64, stamp: u64) -> bool {
     unreachable
 }
 
-/// The vCPU was found stopped, off, or flushed later than the stamp.
-pub fn is_past(hand: &Hand, since: u64, stamp: u64, vcpu: u16) -> bool {
-    let run = Place::Vcpu { vcpu, word: 6 };
-    let flushed = Place::Vcpu { vcpu, word: 5 };
-    hand.found_since(since, run, Finding::Idle)
-        || hand.found_since(since, flushed, Finding::Above { word: stamp })
-}
-
 /// The frame becomes free: ending, with a clock value found since, or claimed, with its old stamp.
 fn frees(hand: &Hand, frame: u64, stamp: u64) -> bool {
     let told = match (newest(&hand.ending, frame), newest(&hand.claimed, frame)) {
@@ -86,7 +78,7 @@ fn frees(hand: &Hand, frame: u64, stamp: u64) -> bool {
         (None, Some(claimed)) => claimed.stamp == stamp,
         (None, None) => false,
     };
-    told && hand.has_raised(frame)
+    told && 0 < hand.raises(frame)
 }
 
 /// A scrubbed frame whose bit is cleared goes to the own domain.
@@ -100,5 +92,21 @@ fn gives(hand: &Hand, domain: u16, frame: u64, left: RefWord) -> bool {
         Some(claimed) => claimed.scrubbed == 512,
         None => false,
     };
-    left == given && scrubbed && !hand.has_raised(frame)
+    left == given && scrubbed && hand.raises(frame) == 0
+}
+
+/// The bit of a frame that is ending or claimed is set, or that of a claimed one cleared.
+pub fn hints(hand: &Hand, word: u64, act: Act) -> bool {
+    let Act::Add { by } = act else {
+        return false;
+    };
+    let mut may_hint = false;
+    for frame in 0..FRAMES {
+        let bit = with_bit(0, frame);
+        let raised = 0 < hand.raises(frame);
+        let sets = by == bit && 0 < hand.alone(frame) && !raised;
+        let clears = by == bit.wrapping_neg() && 0 < times(&hand.claimed, frame) && raised;
+        may_hint = may_hint || sets || clears;
+    }
+    word == 0 && may_hint
 }

@@ -1,6 +1,5 @@
 //! The two counts of each frame, counted again, and the pages of each domain.
-use crate::hand::{Hand, owner_of};
-use crate::machine::{State, names_frames};
+use plain_words::{FRAMES, Hand, State, names_frames, owner_of};
 use xp_words::{Demand, PageType, RefWord};
 
 /// Whether a demand names the frame, and whether it does so with a type.
@@ -64,8 +63,8 @@ fn in_hands(state: &State, frame: u64, typed_alone: bool) -> u64 {
 
 /// All references to a frame: to one that the machine has not there may be none.
 pub fn references_agree(state: &State) -> bool {
-    let mut agree = !names_outside(state);
-    for frame in 0..4_u64 {
+    let mut agree = !names_outside(state, false);
+    for frame in 0..FRAMES {
         let (count, allocated) = match state.refs_of(frame) {
             Some(
                 RefWord::Owned {
@@ -86,43 +85,48 @@ pub fn references_agree(state: &State) -> bool {
     agree
 }
 
-/// Whether a recorded entry or a hand names a frame that the machine has not.
-fn names_outside(state: &State) -> bool {
+/// Whether a recorded entry, a word of a vCPU or a hand names a frame that the machine has not.
+fn names_outside(state: &State, typed_alone: bool) -> bool {
     let mut outside = false;
-    for entry in &state.cells {
-        if let Some(cell) = entry {
-            match state.recorded_demand(*cell) {
-                Demand::Read { frame } | Demand::Typed { frame, .. } => {
-                    outside = outside || 4 <= frame;
-                }
-                _ => {}
-            }
+    for cell in state.cells.iter().flatten() {
+        outside = outside
+            || match state.recorded_demand(*cell) {
+                Demand::Read { frame } => !typed_alone && FRAMES <= frame,
+                Demand::Typed { frame, .. } => FRAMES <= frame,
+                _ => false,
+            };
+    }
+    for words in &state.vcpus {
+        let mut number: u64 = 0;
+        for word in words {
+            outside = outside || (names_frames(number) && FRAMES < *word);
+            number = number.saturating_add(1);
         }
     }
     for hand in &state.hands {
-        outside = outside || hand_names_outside(hand);
+        outside = outside || hand_names_outside(hand, typed_alone);
     }
     outside
 }
 
-fn hand_names_outside(hand: &Hand) -> bool {
+fn hand_names_outside(hand: &Hand, typed_alone: bool) -> bool {
     let mut outside = false;
-    for entry in &hand.refs {
-        outside = outside || matches!(entry, Some(held) if 4 <= held.frame);
+    for held in hand.refs.iter().flatten() {
+        outside = outside || (!typed_alone && FRAMES <= held.frame);
     }
-    for entry in &hand.typed {
-        outside = outside || matches!(entry, Some(held) if 4 <= held.frame);
+    for held in hand.typed.iter().flatten() {
+        outside = outside || FRAMES <= held.frame;
     }
-    for entry in &hand.locks {
-        outside = outside || matches!(entry, Some(held) if 4 <= held.frame);
+    for held in hand.locks.iter().flatten() {
+        outside = outside || FRAMES <= held.frame;
     }
     outside
 }
 
 /// The typed references to a frame. In work and partial it has one type count.
 pub fn types_agree(state: &State) -> bool {
-    let mut agree = true;
-    for frame in 0..4_u64 {
+    let mut agree = !names_outside(state, true);
+    for frame in 0..FRAMES {
         let count = match state.kind_of(frame) {
             Some(kind) if kind.validated => kind.number,
             Some(kind) if kind.partial || kind.locked => 1,

@@ -1,6 +1,5 @@
 //! What recorded entries, words of vCPUs and descriptor pages lead to.
-use crate::hand::{Finding, bit_of, newest, owner_of};
-use crate::machine::{CellWord, Place, State, names_frames};
+use plain_words::{CellWord, Finding, Place, State, bit_of, names_frames, newest};
 use xp_words::{Demand, KindWord, PageType, fix};
 
 /// No recorded entry has a reserved bit set.
@@ -117,10 +116,10 @@ pub fn stays_permitted(state: &State) -> bool {
 }
 
 fn permits(state: &State, table: u64, frame: u64, lowest: bool) -> bool {
-    let Some(domain) = owner_at(state, table) else {
+    let Some(domain) = state.owner_at(table) else {
         return false;
     };
-    match owner_at(state, frame) {
+    match state.owner_at(frame) {
         Some(owner) if owner == domain => true,
         Some(owner) => match state.privileges.get(usize::from(domain)) {
             Some(word) => lowest && bit_of(*word, u64::from(owner) + 16),
@@ -132,12 +131,12 @@ fn permits(state: &State, table: u64, frame: u64, lowest: bool) -> bool {
 
 fn contexts_stay(state: &State) -> bool {
     let mut stays = true;
-    let mut vcpu: usize = 0;
+    let mut vcpu: u16 = 0;
     for words in &state.vcpus {
         let mut number: u64 = 0;
         for word in words {
             if names_frames(number) && number != 2 && number != 3 && 0 < *word {
-                let owner = owner_at(state, word.saturating_sub(1));
+                let owner = state.owner_at(word.saturating_sub(1));
                 stays = stays && owner.is_some() && owner == state.domain_of(vcpu);
             }
             number = number.saturating_add(1);
@@ -145,9 +144,4 @@ fn contexts_stay(state: &State) -> bool {
         vcpu = vcpu.saturating_add(1);
     }
     stays
-}
-
-fn owner_at(state: &State, frame: u64) -> Option<u16> {
-    let words = state.frames.get(frame as usize)?;
-    owner_of(words.refs)
 }

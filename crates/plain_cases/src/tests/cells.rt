@@ -1,10 +1,11 @@
 //! Steps on cells.
-use super::edits::{DESC, Edit, L1, LIVE, LOCKED, OWNED, PRIV_0, UNFLUSHED, WRITABLE};
 use super::{Do, StepCase, Try};
-use crate::Part;
+use crate::{DESC, Edit, KIND_1, L1, LIVE, LOCKED, OWNED, PRIV_0, TWO, UNFLUSHED, WRITABLE};
+use plain_sound::Part;
+use plain_words::Place;
 use xp_words::PageType;
 
-pub const CELLS: [StepCase; 24] = [
+pub const CELLS: [StepCase; 37] = [
     StepCase {
         name: "an entry that asks the same",
         edits: &[
@@ -141,11 +142,11 @@ pub const CELLS: [StepCase; 24] = [
         edits: &[
             Edit::Locked(0),
             Edit::Foreign,
-            Edit::Turn(1),
             Edit::Privileges(0x20002),
             Edit::Found(PRIV_0, 0x20002),
             Edit::Kind(1, WRITABLE + LIVE + 1),
             Edit::ForeignTyped(1, PageType::Writable),
+            Edit::Turn(3),
         ],
         step: Try::Cell(0, 0, Do::Store(0x1007)),
         legal: false,
@@ -178,7 +179,6 @@ pub const CELLS: [StepCase; 24] = [
         edits: &[
             Edit::InWork(DESC + LOCKED + UNFLUSHED + 7, 0, PageType::Desc),
             Edit::Cell(0, 0, 0x900000000000),
-            Edit::Seen(0, 0, 0x900000000000),
         ],
         step: Try::Cell(0, 0, Do::Store(0xf00000000000)),
         legal: false,
@@ -257,5 +257,133 @@ pub const CELLS: [StepCase; 24] = [
         step: Try::Cell(0, 0, Do::Store(7)),
         legal: false,
         broken: &[],
+    },
+    StepCase {
+        name: "an entry to a frame whose owner is not known",
+        edits: &[
+            Edit::Locked(0),
+            Edit::Writable(1),
+            Edit::NewTyped(1, PageType::Writable),
+            Edit::Found(KIND_1, WRITABLE + LIVE + 1),
+        ],
+        step: Try::Cell(0, 0, Do::Store(0x1007)),
+        legal: false,
+        broken: &[],
+    },
+    StepCase {
+        name: "an entry to a frame whose owner was found",
+        edits: &[
+            Edit::Locked(0),
+            Edit::Writable(1),
+            Edit::NewTyped(1, PageType::Writable),
+            Edit::Found(KIND_1, WRITABLE + LIVE + 1),
+            Edit::Found(Place::Refs { frame: 1 }, TWO),
+        ],
+        step: Try::Cell(0, 0, Do::Store(0x1007)),
+        legal: true,
+        broken: &[],
+    },
+    StepCase {
+        name: "an entry that was seen in another cell",
+        edits: &[Edit::Locked(0), Edit::Writable(1), Edit::Cell(0, 1, 0x1007)],
+        step: Try::Cell(0, 1, Do::Store(0x1067)),
+        legal: false,
+        broken: &[Part::References, Part::Types],
+    },
+    StepCase {
+        name: "an entry to a frame of another type",
+        edits: &[
+            Edit::Locked(0),
+            Edit::Two(1),
+            Edit::Kind(1, L1 + LIVE + 1),
+            Edit::Typed(1, PageType::L1),
+        ],
+        step: Try::Cell(0, 0, Do::Store(0x1007)),
+        legal: false,
+        broken: &[Part::Kinds],
+    },
+    StepCase {
+        name: "a word of a closing descriptor page",
+        edits: &[
+            Edit::Two(0),
+            Edit::Kind(0, DESC + LIVE),
+            Edit::Untyped(0),
+            Edit::Work(0, DESC + LIVE, 0),
+            Edit::Seen(0, 0, 0),
+        ],
+        step: Try::Cell(0, 0, Do::Store(0)),
+        legal: false,
+        broken: &[],
+    },
+    StepCase {
+        name: "a word of a table in work",
+        edits: &[
+            Edit::InWork(L1 + LOCKED, 0, PageType::L1),
+            Edit::Seen(0, 0, 0),
+        ],
+        step: Try::Cell(0, 0, Do::Store(0)),
+        legal: false,
+        broken: &[],
+    },
+    StepCase {
+        name: "a word of a descriptor page that was not seen",
+        edits: &[
+            Edit::InWork(DESC + LOCKED, 0, PageType::Desc),
+            Edit::Seen(0, 1, 0),
+        ],
+        step: Try::Cell(0, 0, Do::Store(0)),
+        legal: false,
+        broken: &[],
+    },
+    StepCase {
+        name: "a word of a writable frame that is not known live",
+        edits: &[Edit::Writable(0), Edit::OwnTyped(0, PageType::Writable)],
+        step: Try::Cell(0, 0, Do::Store(7)),
+        legal: false,
+        broken: &[],
+    },
+    StepCase {
+        name: "a word of a table by a typed reference",
+        edits: &[
+            Edit::Two(0),
+            Edit::Kind(0, L1 + LIVE + 1),
+            Edit::Typed(0, PageType::L1),
+        ],
+        step: Try::Cell(0, 0, Do::Store(0)),
+        legal: false,
+        broken: &[],
+    },
+    StepCase {
+        name: "a word of a writable frame by an untyped reference",
+        edits: &[
+            Edit::Refs(0, TWO + 1),
+            Edit::Kind(0, WRITABLE + LIVE + 1),
+            Edit::OtherTyped(0, PageType::Writable),
+            Edit::Untyped(0),
+        ],
+        step: Try::Cell(0, 0, Do::Store(7)),
+        legal: false,
+        broken: &[],
+    },
+    StepCase {
+        name: "a word of a writable frame by an exchange",
+        edits: &[Edit::Writable(0), Edit::Typed(0, PageType::Writable)],
+        step: Try::Cell(0, 0, Do::Cas(0, 7)),
+        legal: false,
+        broken: &[],
+    },
+    StepCase {
+        name: "an entry by a sum",
+        edits: &[Edit::Locked(0)],
+        step: Try::Cell(0, 0, Do::Add(0)),
+        legal: false,
+        broken: &[],
+    },
+    StepCase {
+        name: "a cell that is not there",
+        edits: &[Edit::Writable(0), Edit::Typed(0, PageType::Writable)],
+        step: Try::Cell(0, 512, Do::Store(7)),
+        legal: false,
+        broken: &[Part::Formed],
     },
 ];

@@ -1,10 +1,10 @@
 //! Words and hands.
 use super::WordCase;
-use super::edits::{
+use crate::{
     ALLOCATED, DESC, Edit, KEPT, KIND_1, L1, L2, L4, LIVE, LOCKED, ONE, OTHER, OWNED, PARTIAL,
     PINNED, PROGRESS, UNFLUSHED, WRITABLE,
 };
-use crate::Part;
+use plain_sound::Part;
 use xp_words::PageType;
 
 pub const WORDS: [WordCase; 42] = [
@@ -54,7 +54,7 @@ pub const WORDS: [WordCase; 42] = [
         edits: &[
             Edit::Two(0),
             Edit::Kind(0, L1 + PARTIAL + PROGRESS),
-            Edit::Typed(0, PageType::L1),
+            Edit::OwnTyped(0, PageType::L1),
             Edit::Cell(0, 1, 0x1005),
         ],
         broken: &[],
@@ -65,7 +65,7 @@ pub const WORDS: [WordCase; 42] = [
             Edit::Two(0),
             Edit::Kind(0, L1 + LIVE + 1),
             Edit::Typed(0, PageType::L1),
-            Edit::Cell(0, 0, 0x4005),
+            Edit::Cell(0, 0, 0x5005),
         ],
         broken: &[Part::References],
     },
@@ -101,7 +101,7 @@ pub const WORDS: [WordCase; 42] = [
     },
     WordCase {
         name: "a typed reference with another type",
-        edits: &[Edit::Writable(0), Edit::Typed(0, PageType::L1)],
+        edits: &[Edit::Writable(0), Edit::OwnTyped(0, PageType::L1)],
         broken: &[Part::Kinds],
     },
     WordCase {
@@ -130,7 +130,7 @@ pub const WORDS: [WordCase; 42] = [
             Edit::Two(0),
             Edit::Two(1),
             Edit::Kind(0, L2 + PARTIAL + PROGRESS),
-            Edit::Typed(0, PageType::L2),
+            Edit::OwnTyped(0, PageType::L2),
             Edit::Kind(1, L1 + PARTIAL),
             Edit::Cell(0, 0, 0x1007),
         ],
@@ -142,7 +142,7 @@ pub const WORDS: [WordCase; 42] = [
             Edit::Two(0),
             Edit::Two(1),
             Edit::Kind(0, L2 + PARTIAL + 2 * PROGRESS),
-            Edit::Typed(0, PageType::L2),
+            Edit::OwnTyped(0, PageType::L2),
             Edit::Kind(1, L1 + PARTIAL),
             Edit::Cell(0, 0, 0x1007),
         ],
@@ -276,7 +276,7 @@ pub const WORDS: [WordCase; 42] = [
     WordCase {
         name: "a frame that does not die in a hand",
         edits: &[Edit::Ending(0)],
-        broken: &[Part::Dying],
+        broken: &[Part::Dying, Part::FoundEndings],
     },
     WordCase {
         name: "a frame in work in no hand",

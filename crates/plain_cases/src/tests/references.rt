@@ -1,12 +1,14 @@
 //! Steps on references, machine-to-physical words and pages.
-use super::edits::{
+use super::{Do, StepCase, Try};
+use crate::{
     ALLOCATED, CLOCK, DOWN, Edit, FLUSHED_0, LIVE, ONE, OTHER, OWNED, REFS_3, RUN_1, TWO, WRITABLE,
 };
-use super::{Do, StepCase, Try};
-use crate::Part;
+use plain_sound::Part;
+use plain_words::Place;
+use xp_board::StepKind;
 use xp_words::PageType;
 
-pub const REFERENCES: [StepCase; 40] = [
+pub const REFERENCES: [StepCase; 64] = [
     StepCase {
         name: "a load",
         edits: &[],
@@ -54,14 +56,14 @@ pub const REFERENCES: [StepCase; 40] = [
         edits: &[],
         step: Try::Ref(0, Do::Cas(ONE, OTHER + ALLOCATED + 2)),
         legal: false,
-        broken: &[Part::Pages],
+        broken: &[Part::Pages, Part::FoundOwners],
     },
     StepCase {
         name: "one up of a frame that is not there",
         edits: &[],
-        step: Try::Ref(4, Do::Cas(ONE, TWO)),
+        step: Try::Ref(5, Do::Cas(ONE, TWO)),
         legal: false,
-        broken: &[],
+        broken: &[Part::Formed],
     },
     StepCase {
         name: "the allocated mark goes off",
@@ -170,7 +172,7 @@ pub const REFERENCES: [StepCase; 40] = [
         ],
         step: Try::Ref(0, Do::Store(21)),
         legal: false,
-        broken: &[Part::Stamped],
+        broken: &[Part::Stamped, Part::FoundClock],
     },
     StepCase {
         name: "free with its bit cleared",
@@ -181,19 +183,19 @@ pub const REFERENCES: [StepCase; 40] = [
         ],
         step: Try::Ref(0, Do::Store(20)),
         legal: false,
-        broken: &[],
+        broken: &[Part::Map],
     },
     StepCase {
         name: "free what another seat ends",
         edits: &[
             Edit::Refs(0, OWNED),
             Edit::OtherEnding(0),
-            Edit::Raised(0),
+            Edit::OtherRaised(0),
             Edit::Found(CLOCK, 20),
         ],
         step: Try::Ref(0, Do::Store(20)),
         legal: false,
-        broken: &[Part::Dying],
+        broken: &[Part::Dying, Part::FoundEndings, Part::Map],
     },
     StepCase {
         name: "a free frame is claimed",
@@ -252,7 +254,7 @@ pub const REFERENCES: [StepCase; 40] = [
         ],
         step: Try::Ref(3, Do::Cas(5, OTHER)),
         legal: false,
-        broken: &[Part::Pages],
+        broken: &[Part::Pages, Part::FoundClaims],
     },
     StepCase {
         name: "a claimed frame is given",
@@ -280,7 +282,7 @@ pub const REFERENCES: [StepCase; 40] = [
         edits: &[Edit::Refs(0, OWNED), Edit::Claimed(0, 512), Edit::Raised(0)],
         step: Try::Ref(0, Do::Store(ONE)),
         legal: false,
-        broken: &[],
+        broken: &[Part::Formed],
     },
     StepCase {
         name: "an old stamp comes back",
@@ -342,6 +344,214 @@ pub const REFERENCES: [StepCase; 40] = [
         name: "a page down by an exchange",
         edits: &[Edit::Charged],
         step: Try::Pages(0, Do::Cas(4, 3)),
+        legal: false,
+        broken: &[Part::Pages],
+    },
+    StepCase {
+        name: "a mark that is not set goes off",
+        edits: &[Edit::Refs(0, OWNED + 1), Edit::OtherUntyped(0)],
+        step: Try::Ref(0, Do::Cas(OWNED + 1, OWNED + 1)),
+        legal: false,
+        broken: &[Part::References],
+    },
+    StepCase {
+        name: "one up of a frame of another domain",
+        edits: &[Edit::Foreign, Edit::NewUntyped(1)],
+        step: Try::Ref(1, Do::Cas(OTHER + ALLOCATED + 2, OTHER + ALLOCATED + 3)),
+        legal: true,
+        broken: &[],
+    },
+    StepCase {
+        name: "one up that finds another word",
+        edits: &[],
+        step: Try::Ref(0, Do::Cas(TWO, TWO + 1)),
+        legal: true,
+        broken: &[],
+    },
+    StepCase {
+        name: "a dying frame is taken up",
+        edits: &[Edit::Refs(0, OWNED), Edit::Ending(0)],
+        step: Try::Ref(0, Do::Cas(OWNED, OWNED + 1)),
+        legal: false,
+        broken: &[Part::References, Part::Dying, Part::FoundEndings],
+    },
+    StepCase {
+        name: "a free frame is claimed past vCPUs that are off",
+        edits: &[
+            Edit::Charged,
+            Edit::Found(REFS_3, 5),
+            Edit::Found(FLUSHED_0, 6),
+            Edit::Found(RUN_1, 2),
+        ],
+        step: Try::Ref(3, Do::Cas(5, OWNED)),
+        legal: true,
+        broken: &[],
+    },
+    StepCase {
+        name: "claimed with a stamp that was not found",
+        edits: &[
+            Edit::Charged,
+            Edit::Found(FLUSHED_0, 6),
+            Edit::Found(RUN_1, 1),
+        ],
+        step: Try::Ref(3, Do::Cas(5, OWNED)),
+        legal: false,
+        broken: &[],
+    },
+    StepCase {
+        name: "claimed with one vCPU not past the stamp",
+        edits: &[
+            Edit::Charged,
+            Edit::Found(REFS_3, 5),
+            Edit::Found(FLUSHED_0, 6),
+        ],
+        step: Try::Ref(3, Do::Cas(5, OWNED)),
+        legal: false,
+        broken: &[],
+    },
+    StepCase {
+        name: "claimed with a credit of another domain",
+        edits: &[
+            Edit::OtherPages(1),
+            Edit::OtherCredit,
+            Edit::Found(REFS_3, 5),
+            Edit::Found(FLUSHED_0, 6),
+            Edit::Found(RUN_1, 1),
+        ],
+        step: Try::Ref(3, Do::Cas(5, OWNED)),
+        legal: false,
+        broken: &[Part::Pages],
+    },
+    StepCase {
+        name: "claimed as an owned frame",
+        edits: &[
+            Edit::Charged,
+            Edit::Found(REFS_3, 5),
+            Edit::Found(FLUSHED_0, 6),
+            Edit::Found(RUN_1, 1),
+        ],
+        step: Try::Ref(3, Do::Cas(5, ONE)),
+        legal: false,
+        broken: &[Part::Dying, Part::FoundClaims],
+    },
+    StepCase {
+        name: "free with a clock value that was found before the last reference went",
+        edits: &[
+            Edit::Refs(0, OWNED),
+            Edit::Found(CLOCK, 20),
+            Edit::Ending(0),
+            Edit::Raised(0),
+            Edit::Now,
+        ],
+        step: Try::Ref(0, Do::Store(20)),
+        legal: false,
+        broken: &[],
+    },
+    StepCase {
+        name: "a claimed frame becomes free with another stamp",
+        edits: &[
+            Edit::Refs(0, OWNED),
+            Edit::Claimed(0, 0),
+            Edit::Raised(0),
+            Edit::Found(CLOCK, 20),
+        ],
+        step: Try::Ref(0, Do::Store(20)),
+        legal: false,
+        broken: &[],
+    },
+    StepCase {
+        name: "a frame that is not in hand becomes free",
+        edits: &[Edit::Found(CLOCK, 20)],
+        step: Try::Ref(0, Do::Store(20)),
+        legal: false,
+        broken: &[Part::Map],
+    },
+    StepCase {
+        name: "given to another domain",
+        edits: &[Edit::Refs(0, OWNED), Edit::Claimed(0, 512)],
+        step: Try::Ref(0, Do::Store(OTHER + ALLOCATED + 1)),
+        legal: false,
+        broken: &[Part::Pages],
+    },
+    StepCase {
+        name: "given without the allocated mark",
+        edits: &[Edit::Refs(0, OWNED), Edit::Claimed(0, 512)],
+        step: Try::Ref(0, Do::Store(OWNED + 1)),
+        legal: false,
+        broken: &[Part::References],
+    },
+    StepCase {
+        name: "given by who has not claimed it",
+        edits: &[Edit::Refs(0, OWNED), Edit::Ending(0)],
+        step: Try::Ref(0, Do::Store(ONE)),
+        legal: false,
+        broken: &[Part::Dying, Part::FoundEndings],
+    },
+    StepCase {
+        name: "a frame is made dying",
+        edits: &[],
+        step: Try::Ref(0, Do::Store(OWNED)),
+        legal: false,
+        broken: &[Part::Dying],
+    },
+    StepCase {
+        name: "a reference by a maximum",
+        edits: &[],
+        step: Try::Ref(0, Do::Max(TWO)),
+        legal: false,
+        broken: &[Part::References],
+    },
+    StepCase {
+        name: "a reference of another kind of step",
+        edits: &[],
+        step: Try::Any(
+            StepKind::Kind,
+            Place::Refs { frame: 0 },
+            Do::Cas(ONE, TWO),
+            None,
+        ),
+        legal: false,
+        broken: &[Part::References],
+    },
+    StepCase {
+        name: "a number is loaded",
+        edits: &[Edit::Two(0), Edit::Untyped(0)],
+        step: Try::M2p(0, Do::Load),
+        legal: false,
+        broken: &[],
+    },
+    StepCase {
+        name: "a number for a locked table",
+        edits: &[Edit::Locked(0)],
+        step: Try::M2p(0, Do::Store(9)),
+        legal: true,
+        broken: &[],
+    },
+    StepCase {
+        name: "a number for a frame that another seat has in hand",
+        edits: &[Edit::Two(0), Edit::OtherUntyped(0)],
+        step: Try::M2p(0, Do::Store(9)),
+        legal: false,
+        broken: &[],
+    },
+    StepCase {
+        name: "no page is given back",
+        edits: &[Edit::Charged],
+        step: Try::Pages(0, Do::Add(0)),
+        legal: false,
+        broken: &[],
+    },
+    StepCase {
+        name: "two pages are charged",
+        edits: &[],
+        step: Try::Pages(1, Do::Cas(0, 2)),
+        legal: true,
+        broken: &[],
+    },
+    StepCase {
+        name: "pages by a store",
+        edits: &[Edit::Charged],
+        step: Try::Pages(0, Do::Store(4)),
         legal: false,
         broken: &[],
     },

@@ -1,0 +1,14 @@
+//! The parts of the soundness of a small machine, each decided by itself.
+#![tactic(auto)]
+
+mod alone;
+mod counts;
+mod domains;
+mod formed;
+mod found;
+mod frames;
+mod fresh;
+mod sound;
+mod valid;
+
+pub use sound::{PARTS, Part, keeps};

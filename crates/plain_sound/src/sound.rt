@@ -1,0 +1,135 @@
+//! The parts of what always holds.
+use crate::{alone, counts, domains, formed, found, frames, fresh, valid};
+use plain_words::State;
+
+/// A part of what always holds. Those with `Found` say that what each seat found stays true.
+#[derive(Clone, Copy, Debug, PartialEq, Eq)]
+pub enum Part {
+    /// Each word is a spelling.
+    Spelled,
+    References,
+    Types,
+    /// Each typed reference has the type of its frame.
+    Kinds,
+    Pages,
+    /// No recorded entry is Bad.
+    Allowed,
+    /// What a recorded entry types is live, but for the last.
+    Live,
+    /// Live descriptor pages have fixed words.
+    Fixed,
+    /// Words of vCPUs name live frames.
+    Contexts,
+    /// Entries and words of vCPUs lead to permitted domains.
+    Permitted,
+    /// Each dying frame is ending or claimed in one hand, once, and no other is.
+    Dying,
+    /// Each frame in work or closing is in one hand, once, and no other is.
+    Works,
+    Locks,
+    /// Nothing is recorded of a marked frame, and a closing one keeps an untyped reference.
+    Bare,
+    /// No stamp is later than the clock.
+    Stamped,
+    /// A vCPU that does not run has nothing, and a cold one no translations.
+    Idle,
+    FoundClock,
+    FoundFlushed,
+    FoundStopped,
+    FoundLife,
+    /// Clock values since the last flush.
+    FoundSinceAck,
+    /// A vCPU that was found off has been flushed since.
+    FoundOff,
+    /// Or it is cold and has found the clock since.
+    FoundCold,
+    FoundOwners,
+    FoundLives,
+    FoundPartials,
+    FoundWorks,
+    FoundLocks,
+    FoundEndings,
+    FoundClaims,
+    FoundPrivileges,
+    FoundOwn,
+    /// Each hand fits itself.
+    Formed,
+    /// What translations lead to is permitted and bears them.
+    Fresh,
+    /// All uses of a frame but to read it are one.
+    OneUse,
+    Dead,
+    /// What the seat that destroys a domain found of it stays so.
+    Destroyed,
+    /// The bits of free and raised frames are set, and no others.
+    Map,
+}
+
+/// All parts.
+pub const PARTS: [Part; 38] = [
+    Part::Spelled,
+    Part::References,
+    Part::Types,
+    Part::Kinds,
+    Part::Pages,
+    Part::Allowed,
+    Part::Live,
+    Part::Fixed,
+    Part::Contexts,
+    Part::Permitted,
+    Part::Dying,
+    Part::Works,
+    Part::Locks,
+    Part::Bare,
+    Part::Stamped,
+    Part::Idle,
+    Part::FoundClock,
+    Part::FoundFlushed,
+    Part::FoundStopped,
+    Part::FoundLife,
+    Part::FoundSinceAck,
+    Part::FoundOff,
+    Part::FoundCold,
+    Part::FoundOwners,
+    Part::FoundLives,
+    Part::FoundPartials,
+    Part::FoundWorks,
+    Part::FoundLocks,
+    Part::FoundEndings,
+    Part::FoundClaims,
+    Part::FoundPrivileges,
+    Part::FoundOwn,
+    Part::Formed,
+    Part::Fresh,
+    Part::OneUse,
+    Part::Dead,
+    Part::Destroyed,
+    Part::Map,
+];
+
+/// Whether the part holds of the words and hands.
+pub fn keeps(state: &State, part: Part) -> bool {
+    match part {
+        Part::Spelled => frames::is_spelled(state),
+        Part::References => counts::references_agree(state),
+        Part::Types => counts::types_agree(state),
+        Part::Kinds => counts::kinds_agree(state),
+        Part::Pages => counts::pages_agree(state),
+        Part::Allowed => valid::entries_allowed(state),
+        Part::Live => valid::entries_live(state),
+        Part::Fixed => valid::descriptors_fixed(state),
+        Part::Contexts => valid::contexts_live(state),
+        Part::Permitted => valid::stays_permitted(state),
+        Part::Dying | Part::Works | Part::Locks => alone::holds_alone(state, part),
+        Part::Bare => alone::works_bare(state),
+        Part::Stamped => frames::is_stamped(state),
+        Part::Idle => frames::rests(state),
+        Part::Formed => formed::is_formed(state),
+        Part::Fresh => fresh::is_fresh(state),
+        Part::OneUse => fresh::has_one_use(state),
+        Part::Dead => domains::dead_rest(state),
+        Part::Destroyed => domains::dying_rest(state),
+        Part::Map => frames::map_tells(state),
+        _ => found::stays(state, part),
+    }
+}
