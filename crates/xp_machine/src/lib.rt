@@ -1,6 +1,8 @@
 //! A whole run of the machine: from the bytes of a trace to the bytes of a report.
 #![tactic(auto)]
 
+#[cfg(test)]
+mod board_tests;
 mod cpu;
 mod execute;
 mod status;

@@ -1,0 +1,245 @@
+//! The plain board, and the calls over any port, each through its bound.
+ghost use Rattle.std.specs.Prelude.{◌<◌, ◌^◌, IfOk, IfSome, length};
+ghost use Rattle.trace_text.specs.WellFormed.{IsWellFormed};
+ghost use Rattle.xp_words.specs.Places.{sizes_of};
+ghost use Rattle.xp_machine.specs.Ports.{Ready};
+
+use crate::cpu::Cpu;
+use frame_words::{
+    begin_turn, end_answer, get_ref, look_clock, look_kind, look_refs, look_run, put_ref, raise_refs,
+};
+use m2p_map::set_m2p;
+use machine_build::opening;
+use opening_rule::opening_words_are_sound;
+use shared_board::PlainBoard;
+use std::alloc::{AllocError, Global};
+use std::test::Fail;
+use trace_text::{ScriptList, Trace, read_trace};
+use xp_board::{Act, Item, Port, Step};
+use xp_words::{Layout, RefWord, Refusal, Script, Stop};
+
+// Frame 0 is domain 0's, frame 1 domain 1's, and frame 2 is free.
+const TWO_DOMAINS: &str =
+    "xen-pv-trace 1\nframes 3\nlimit 2\nclock 5\ndomain 1\ndomain 1\nvcpu 0\nvcpu 1\nown 0 0 1\nown 1 1 1\nop 1 mmu 0x7ff0 0x1001 7\nend\n";
+
+// The board with which a trace opens, and the scripts of its vCPUs.
+fn board_of(alloc: Global, trace: Trace) -> Result<(PlainBoard, ScriptList), AllocError>
+    requires { IsWellFormed trace }
+    ensures { IfOk result (λ b. Ready b.0.machine b.0.story) }
+{
+    opening_words_are_sound();
+    let words = opening(alloc, &trace)?;
+    let Trace {
+        version: _,
+        layout,
+        clock: _,
+        owned: _,
+        cells: _,
+        scripts,
+        turns: _,
+    } = trace;
+    let board = PlainBoard::make(alloc, layout, words)?;
+    Ok((board, scripts))
+}
+
+// The same of its text, with the script of the last vCPU.
+fn opened(alloc: Global, text: &str) -> Option<(PlainBoard, Script)>
+    ensures { IfSome result (λ b. Ready b.0.machine b.0.story) }
+{
+    match read_trace(alloc, text.as_bytes()) {
+        Err(_) => None,
+        Ok(trace) => match board_of(alloc, trace) {
+            Err(_) => None,
+            Ok((board, scripts)) => match scripts.into_items().pop() {
+                None => None,
+                Some(script) => Some((board, script)),
+            },
+        },
+    }
+}
+
+// What an update of a machine-to-physical word answers; nothing where the vCPU is not running.
+fn update(board: &mut PlainBoard, vcpu: u32, f: u64, owner: u16, gpfn: u64) -> Option<Result<(), Stop>> {
+    if vcpu >= board.layout().vcpus() {
+        return None;
+    }
+    let mut port = board.port(vcpu);
+    if look_run(&mut port) != 0 {
+        return None;
+    }
+    Some(set_m2p(&mut port, f, owner, gpfn))
+}
+
+// Takes a reference to a frame of domain 0, and keeps it or gives it back.
+fn take(board: &mut PlainBoard, f: u64, keep: bool) -> Option<Result<u32, Stop>> {
+    if board.layout().vcpus() == 0 {
+        return None;
+    }
+    let mut port = board.port(0);
+    if look_run(&mut port) != 0 {
+        return None;
+    }
+    let taken = get_ref(&mut port, f, 0);
+    if let Ok(frame) = taken {
+        if !keep {
+            put_ref(&mut port, frame);
+        }
+    }
+    Some(taken)
+}
+
+// The reference word of a frame as vCPU 0 finds it.
+fn refs_of(board: &mut PlainBoard, frame: u32) -> Option<u64> {
+    if board.layout().vcpus() == 0 || frame >= board.layout().frames {
+        return None;
+    }
+    let mut port = board.port(0);
+    Some(look_refs(&mut port, frame))
+}
+
+// An exchange of a word that was found before; nothing where that word says that there is no room.
+fn exchange(board: &mut PlainBoard, frame: u32, expected: u64) -> Option<Result<(), u64>> {
+    let limit = board.layout().limit;
+    let domains = board.layout().domains();
+    if board.layout().vcpus() == 0 || frame >= board.layout().frames {
+        return None;
+    }
+    let Some(
+        RefWord::Owned {
+            owner,
+            allocated,
+            count,
+        },
+    ) = RefWord::read(expected) else {
+        return None;
+    };
+    if count >= limit || u32::from(owner) >= domains {
+        return None;
+    }
+    let mut port = board.port(0);
+    if look_run(&mut port) != 0 {
+        return None;
+    }
+    Some(raise_refs(&mut port, frame, expected, owner, allocated, count))
+}
+
+// The own ask as a turn of vCPU 0 begins, the clock before and as its answer ends, and a frame's kind word.
+fn looks(board: &mut PlainBoard, frame: u32) -> Option<(u64, u64, u64, u64)> {
+    if board.layout().vcpus() == 0 || frame >= board.layout().frames {
+        return None;
+    }
+    let mut port = board.port(0);
+    let asked = begin_turn(&mut port);
+    let clock = look_clock(&mut port);
+    let kind = look_kind(&mut port, frame);
+    let end = end_answer(&mut port, 0);
+    Some((asked, clock, end, kind))
+}
+
+// A port that counts the steps made on another one.
+#[derive(Drop)]
+struct Counting<P> {
+    port: P,
+    loads: u32,
+    exchanges: u32,
+    stores: u32,
+    sums: u32,
+}
+
+impl<P: Port> Port for Counting<P> {
+    ghost value = { λ c. P.value c.port };
+
+    fn layout(&self) -> &Layout {
+        self.port.layout()
+    }
+
+    fn seat(&self) -> u32 {
+        self.port.seat()
+    }
+
+    fn cached(&self, user: bool, page: u64) -> Option<Item> {
+        self.port.cached(user, page)
+    }
+
+    fn step(&mut self, step: Step) -> u64 {
+        match step.act {
+            Act::Load => self.loads = self.loads.wrapping_add(1),
+            Act::Cas { .. } => self.exchanges = self.exchanges.wrapping_add(1),
+            Act::Store { .. } => self.stores = self.stores.wrapping_add(1),
+            Act::Add { .. } | Act::Max { .. } => self.sums = self.sums.wrapping_add(1),
+        }
+        self.port.step(step)
+    }
+}
+
+// How many loads, exchanges, stores and sums a turn of a vCPU makes.
+fn steps_of(board: &mut PlainBoard, cpu: &mut Cpu, vcpu: u32) -> (u32, u32, u32, u32)
+    requires vcpu { vcpu < (sizes_of board.old.machine).vcpus }
+    requires ready { Ready board.old.machine board.old.story }
+    requires short { length cpu.old.script < 2 ^ 32 }
+{
+    let mut port = Counting {
+        port: board.port(vcpu),
+        loads: 0,
+        exchanges: 0,
+        stores: 0,
+        sums: 0,
+    };
+    cpu.turn(&mut port);
+    (port.loads, port.exchanges, port.stores, port.sums)
+}
+
+// The turn begins with looks at the own ask and run word; the frame's word is looked at, exchanged and lowered
+// around the store; and the answer ends with a look at the clock.
+#[test]
+fn a_turn_of_an_update_makes_seven_steps(rt: HostRuntime) -> Result<(), Fail> {
+    let (mut board, script) = opened(rt.alloc(), TWO_DOMAINS).expect(&rt, "a board");
+    assert!(rt; script.len() == 1);
+    if script.len() == 1 && board.layout().vcpus() == 2 {
+        let mut cpu = Cpu::new(rt.alloc(), 1, script)?;
+        assert!(rt; steps_of(&mut board, &mut cpu, 1) == (4, 1, 1, 1));
+        assert!(rt; refs_of(&mut board, 1) == Some(0x8000_0001_8000_0001));
+    }
+    Ok(())
+}
+
+#[test]
+fn an_update_is_ok_on_an_own_frame_and_leaves_its_count(rt: HostRuntime) -> Result<(), Fail> {
+    let (mut board, _) = opened(rt.alloc(), TWO_DOMAINS).expect(&rt, "a board");
+    let before = refs_of(&mut board, 0);
+    assert!(rt; update(&mut board, 0, 0, 0, 7) == Some(Ok(())));
+    assert!(rt; refs_of(&mut board, 0) == before);
+    let place = board.layout().words() as usize;
+    let mut words = Vec::with_capacity(rt.alloc(), place)?;
+    let m2p = if board.layout().frames > 0 { board.layout().m2p_place(0) } else { 0 };
+    board.into_words(&mut words);
+    assert!(rt; words.get(m2p as usize) == Some(&7));
+    Ok(())
+}
+
+#[test]
+fn references_are_refused_with_what_was_found(rt: HostRuntime) -> Result<(), Fail> {
+    let (mut board, _) = opened(rt.alloc(), TWO_DOMAINS).expect(&rt, "a board");
+    assert!(rt; take(&mut board, 3, true) == Some(Err(Stop::Refused(Refusal::NoFrame { frame: 3 }))));
+    assert!(rt; take(&mut board, 2, true) == Some(Err(Stop::Refused(Refusal::WrongOwner { frame: 2, found: 0 }))));
+    assert!(rt; take(&mut board, 0, false) == Some(Ok(0)));
+    assert!(rt; take(&mut board, 0, true) == Some(Ok(0)));
+    let two = 0x8000_0000_8000_0002;
+    assert!(rt; take(&mut board, 0, true) == Some(Err(Stop::Refused(Refusal::CountFull { frame: 0, found: two }))));
+    Ok(())
+}
+
+#[test]
+fn an_exchange_of_an_old_word_is_lost(rt: HostRuntime) {
+    let (mut board, _) = opened(rt.alloc(), TWO_DOMAINS).expect(&rt, "a board");
+    let old = refs_of(&mut board, 0).expect(&rt, "a word");
+    assert!(rt; take(&mut board, 0, true) == Some(Ok(0)));
+    assert!(rt; exchange(&mut board, 0, old) == Some(Err(0x8000_0000_8000_0002)));
+    assert!(rt; refs_of(&mut board, 0) == Some(0x8000_0000_8000_0002));
+}
+
+#[test]
+fn looks_find_the_words_of_the_opening(rt: HostRuntime) {
+    let (mut board, _) = opened(rt.alloc(), TWO_DOMAINS).expect(&rt, "a board");
+    assert!(rt; looks(&mut board, 0) == Some((0, 5, 5, 0)));
+}
