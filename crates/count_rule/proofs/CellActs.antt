@@ -4,7 +4,7 @@ use Rattle.xp_board.specs.GuestSteps.{MayStore}
 use Rattle.count_rule.proofs.EntryMarks.{work_word}
 use Rattle.count_rule.proofs.Words.{is_dying-read, dying_says}
 use Rattle.count_rule.proofs.Tables.{some_bit}
-use Rattle.count_rule.proofs.Sums.{when_eq, when_ne}
+use Rattle.xp_board.proofs.Sums.{when_eq, when_ne, hands-part}
 use Rattle.std.proofs.Common.{◌≡◌, ◌≢◌, ℕ, ◌+◌, ◌*◌, ◌/◌, ◌%◌, ◌^◌, ◌<◌, ◌==◌, ◌&&◌, Bool, false, List, [], ◌∷◌, Option, Some, None, refl, sym, ◌∙◌, ap, subst, arith, IsTrue, inl, inr}
 use Rattle.std.proofs.lemmas.Bool.{cases_Bool, cases_eq, and_parts, or_cases}
 use Rattle.std.proofs.lemmas.Bool.Decides.{nat_tests}
@@ -36,7 +36,8 @@ use Rattle.xp_board.specs.Reach.{Writes, Reach, cached, use_of}
 use Rattle.xp_board.specs.Keeping.{MayAct}
 use Rattle.xp_board.specs.Sound.{Sound, Spelled}
 use Rattle.xp_board.proofs.ActEffects.{Rewrote, Filled, GuestStored, Touched}
-use Rattle.count_rule.proofs.Lists.{EachOf-found, first_by-counts}
+use Rattle.xp_board.proofs.ListCounts.{EachOf-found}
+use Rattle.xp_board.proofs.HandLists.{first-some}
 use Rattle.count_rule.proofs.Learning.{kept_noted, kept_cell, same_hand}
 use Rattle.count_rule.proofs.SpelledLaw.{wrote_spelled}
 use Rattle.count_rule.proofs.Demands.{demand_at-entry}
@@ -45,7 +46,6 @@ use Rattle.count_rule.proofs.KindSpelled.{form_was}
 use Rattle.count_rule.proofs.Recordless.{marked_none, no_table_none, unreferenced_none}
 use Rattle.count_rule.proofs.CellLaw.{cell_outcome}
 use Rattle.count_rule.proofs.Outcome.{Outcome}
-use Rattle.xp_board.proofs.Sums.{hands-part}
 
 -- ---- equal demands
 type_same : (t u : PageType) → type_number t ≡ type_number u → t ≡ u
@@ -204,7 +204,7 @@ module _ (n : Machine) (s : ℕ) (x : Step) (m m2 : Place → ℕ) (b c : ℕ �
   -- ---- a claimed frame, a descriptor page in the own work, or ordinary memory
   claimed_none : (e : Claimed) → claim_of f (b s).claimed ≡ Some e → held (sizes_of n) m b f ≡ 0
   claimed_none e here =
-      let some = first_by-counts (λ y. y.frame) f (b s).claimed e here in
+      let some = first-some (λ y. y.frame) f e (b s).claimed here in
       let all = sound.alone.dying f in
       let part = hands-part (λ u. endings_of f u.ending + claims_of f u.claimed) (sizes_of n) b s seat in
       let dying = some_bit (is_dying (m (Refs f))) (omega arith) in

@@ -16,9 +16,9 @@ use Rattle.xp_board.specs.RefSteps.{SparesClosing}
 use Rattle.xp_words.specs.Machine.{Machine}
 use Rattle.xp_words.specs.Places.{Place}
 use Rattle.xp_board.specs.Readings.{kind_at}
-use Rattle.count_rule.proofs.Sums.{one_at-same, one_at-other}
+use Rattle.xp_board.proofs.Sums.{one_at-same, one_at-other}
 use Rattle.count_rule.proofs.Quiet.{is_closing_at}
-use Rattle.count_rule.proofs.Lists.{times_by-cons, times_by-without}
+use Rattle.xp_board.proofs.ListCounts.{times_by-cons, times_by-without}
 use Rattle.xp_board.proofs.HandLists.{EachOf-without}
 
 -- ---- bits 5 and 6 play no part

@@ -25,8 +25,8 @@ use Rattle.xp_board.specs.Spelling.{IsSpelling}
 use Rattle.xp_board.specs.Keeping.{MayAct}
 use Rattle.xp_board.specs.Sound.{is_busy, HeldAlone, Sound}
 use Rattle.xp_board.proofs.ActEffects.{Wrote, Dropped, Unlocked}
-use Rattle.count_rule.proofs.Sums.{when_eq, when_ne}
-use Rattle.count_rule.proofs.Lists.{first_by-cons_here}
+use Rattle.xp_board.proofs.Sums.{when_eq, when_ne}
+use Rattle.xp_board.proofs.ListCounts.{first_by-cons_here}
 use Rattle.count_rule.proofs.Tables.{nobody_works, held_free, held_mine}
 use Rattle.count_rule.proofs.ListMoves.{cons_other, out_other, cons_here, out_here, recorded_cons}
 use Rattle.count_rule.proofs.KindForms.{Says, spelled_form, live_says, closing_says, held_live, held_work}

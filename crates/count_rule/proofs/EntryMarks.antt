@@ -21,8 +21,8 @@ use Rattle.xp_board.specs.Recorded.{held, held_of, entry_demand, names, names_ty
 use Rattle.xp_board.specs.Found.{WorkFound, is_known_inside, is_same_cell, is_same_entry}
 use Rattle.xp_board.specs.WellFormed.{IsWorkFormed}
 use Rattle.xp_board.specs.Sound.{HeldAlone, Sound}
-use Rattle.count_rule.proofs.Lists.{EachOf-found}
-use Rattle.count_rule.proofs.ListChanges.{first_by-changed_here, first_by-changed_other}
+use Rattle.xp_board.proofs.ListCounts.{EachOf-found}
+use Rattle.xp_board.proofs.ListChanges.{first_by-changed_here, first_by-changed_other}
 use Rattle.count_rule.proofs.Twins.{EachTwo, EachTwo-changed_at, EachTwo-times, LikeWork}
 use Rattle.count_rule.proofs.Tables.{held_mine}
 use Rattle.count_rule.proofs.CountLaw.{counts_law, each_seat}

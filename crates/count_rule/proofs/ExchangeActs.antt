@@ -26,7 +26,8 @@ use Rattle.xp_board.specs.Keeping.{MayAct}
 use Rattle.xp_board.specs.Sound.{is_busy, Sound}
 use Rattle.xp_board.proofs.ActEffects.{Exchanged}
 use Rattle.xp_board.proofs.PlaceTests.{same_or_other}
-use Rattle.count_rule.proofs.Lists.{first_by-counts, EachOf-found}
+use Rattle.xp_board.proofs.ListCounts.{EachOf-found}
+use Rattle.xp_board.proofs.HandLists.{first-some, EachOf-map}
 use Rattle.count_rule.proofs.Twins.{EachTwo, EachTwo-each, SameWork, SameLock, SameClaim, recorded_in-same}
 use Rattle.count_rule.proofs.Tables.{some_bit, held_free}
 use Rattle.count_rule.proofs.Steady.{entries-one, table_entries-changed, contexts-same}
@@ -41,7 +42,6 @@ use Rattle.count_rule.proofs.SpelledLaw.{wrote_spelled}
 use Rattle.count_rule.proofs.Outcome.{Outcome, runs}
 use Rattle.count_rule.proofs.HandLaw.{HandMove, hand_outcome}
 use Rattle.xp_board.proofs.Sums.{hands-part}
-use Rattle.xp_board.proofs.HandLists.{EachOf-map}
 
 locked_free : (k : KindWord) → has_form k ≡ true → is_locked k ≡ true → is_busy k ≡ false
 unfolding has_form
@@ -82,7 +82,7 @@ module _ (n : Machine) (s : ℕ) (x : Step) (m m2 : Place → ℕ) (b c : ℕ �
 
   locked : is_locked (kind_at m f) ≡ true
   locked =
-      let some = first_by-counts (λ y. y.frame) f (b s).locks d.e d.here in
+      let some = first-some (λ y. y.frame) f d.e (b s).locks d.here in
       let all = sound.alone.locks f in
       let part = hands-part (λ u. locks_on f u.locks) (sizes_of n) b s seat in
       some_bit (is_locked (kind_at m f)) (omega arith)

@@ -1,12 +1,11 @@
 -- What a kind word says, by its form.
-use Rattle.std.proofs.Common.{◌≡◌, ℕ, ◌<◌, ◌==◌, if◌then◌else◌, Bool, true, false, Option, Some, None, refl, sym, ◌∙◌, ap, arith, IsTrue}
+use Rattle.std.proofs.Common.{◌≡◌, ℕ, ◌<◌, ◌==◌, if◌then◌else◌, Bool, true, false, Option, Some, None, refl, ◌∙◌, ap, arith, IsTrue}
 use Rattle.std.proofs.lemmas.Bool.{and_parts}
 use Rattle.std.proofs.lemmas.Bool.Decides.{nat_tests}
 use Rattle.xp_words.specs.declared.kind.KindWord.{KindWord}
 use Rattle.xp_words.specs.KindWords.{kind_read, kind_fields, has_form}
 use Rattle.xp_words.specs.PageTypes.{is_table}
 use Rattle.xp_words.specs.RefWords.{bit}
-use Rattle.xp_words.proofs.KindLaws.{when_some}
 use Rattle.xp_words.specs.Machine.{Machine}
 use Rattle.xp_board.specs.Readings.{type_count, is_live, is_partial, is_work, is_dead, is_closing, is_locked}
 use Rattle.xp_board.specs.Recorded.{marks, held_of}

@@ -1,6 +1,3 @@
-mod Sums
-mod Lists
-mod ListChanges
 mod Tables
 mod Steady
 mod CountLaw

@@ -15,7 +15,7 @@ use Rattle.xp_board.specs.Hands.{refs_to, typed_to, locks_on, works_on, endings_
 use Rattle.xp_board.specs.RefSteps.{is_closing_on}
 use Rattle.xp_board.specs.Recorded.{recorded_in, held, held_of, entry_demand, HasType, is_page_of, CountsAgree}
 use Rattle.xp_board.specs.Sound.{is_hinted, Spelled, HeldAlone, WorkAgrees, FreeMap, Sound}
-use Rattle.count_rule.proofs.Lists.{EachOf-both, EachOf-first}
+use Rattle.xp_board.proofs.ListCounts.{EachOf-both, EachOf-once}
 use Rattle.count_rule.proofs.Twins.{EachTwo, EachTwo-times, EachTwo-each, EachTwo-map, SameWork, LikeWork, SameLock, SameClaim, recorded_in-same}
 use Rattle.count_rule.proofs.Tables.{one_works}
 use Rattle.count_rule.proofs.Steady.{work_of-same}
@@ -96,7 +96,7 @@ module _ (n : Machine) (s : ℕ) (m m2 : Place → ℕ) (b c : ℕ → Holdings)
             rw r.frame (spares x.frame (rw k.1 closing) (k.0.closing closing));
       })
       same
-      (EachOf-both (WorkAgrees (b s)) _ _ old (EachOf-first (λ e. e.frame) (b s).works (λ g. one_works n m b alone g s seat)))
+      (EachOf-both (WorkAgrees (b s)) _ _ old (EachOf-once (λ e. e.frame) (b s).works (λ g. one_works n m b alone g s seat)))
 
   -- ---- no frame's words move, nor what is in hand of frames
   pub record Calm : Type 0 where

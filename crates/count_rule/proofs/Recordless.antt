@@ -1,5 +1,5 @@
 -- Frames of which no entry is recorded.
-use Rattle.std.proofs.Common.{◌≡◌, ℕ, zero, suc, ◌+◌, ◌<◌, ◌≤◌, ◌⊎◌, if◌then◌else◌, Bool, true, false, Option, Some, refl, sym, ◌∙◌, ap, subst, arith, IsTrue, inl, inr}
+use Rattle.std.proofs.Common.{◌≡◌, ℕ, ◌<◌, ◌≤◌, ◌⊎◌, if◌then◌else◌, Bool, true, false, Option, Some, refl, sym, ◌∙◌, ap, subst, arith, IsTrue, inl, inr}
 use Rattle.std.proofs.lemmas.Bool.{cases_Bool}
 use Rattle.std.proofs.lemmas.Bool.Decides.{nat_tests}
 use Rattle.xp_words.specs.declared.entry.Demand.{Demand}
@@ -12,27 +12,17 @@ use Rattle.xp_words.specs.Machine.{Machine}
 use Rattle.xp_words.specs.Places.{sizes_of, Place, Refs}
 use Rattle.xp_board.specs.declared.holdings.Holdings.{Holdings}
 use Rattle.xp_board.specs.declared.holdings.Work.{Work}
-use Rattle.xp_board.specs.Sums.{sum_below}
 use Rattle.xp_board.specs.Readings.{kind_at, ref_count, type_count, is_live, is_partial, is_work, is_dead, is_closing}
 use Rattle.xp_board.specs.Hands.{refs_to, works_on, work_on, hand, typed_hand}
-use Rattle.xp_board.specs.Recorded.{held, held_of, names, names_typed, table_entries, entries, hands}
+use Rattle.xp_board.specs.Recorded.{held, held_of, names, names_typed, table_entries, entries}
 use Rattle.xp_board.specs.Sound.{is_busy, HeldAlone, WorkAgrees, Sound}
-use Rattle.count_rule.proofs.Lists.{first_by-some, EachOf-found}
+use Rattle.xp_board.proofs.ListCounts.{first_by-some, EachOf-found}
 use Rattle.count_rule.proofs.Tables.{held_free, held_mine}
 use Rattle.count_rule.proofs.Quiet.{hand_is}
 use Rattle.count_rule.proofs.EntryMarks.{work_word}
 use Rattle.count_rule.proofs.KindForms.{held_partial, held_dead, held_work}
 use Rattle.count_rule.proofs.StoreForms.{busy_forms}
-use Rattle.xp_board.proofs.Sums.{hands-part, sum_below-fewer, sum_below-some}
-
--- ---- some seat has what is counted
-some_by : (n : ℕ) (p : ℕ → ℕ) → (0 < sum_below n p → (k : ℕ) × (k < n) × (0 < p k)) → (x : ℕ) → p n ≡ x → 0 < sum_below n p + p n → (k : ℕ) × (k < suc n) × (0 < p k)
-some_by n p rest zero e b = let r = rest (omega arith) in (r.0, let l = r.1 in omega arith, r.2)
-some_by n p rest (suc x) e b = (n, omega arith, omega arith)
-
-pub hands-some : (c : Holdings → ℕ) (n : Machine) (h : ℕ → Holdings) → 0 < hands c (sizes_of n) h → (s : ℕ) × (s < (sizes_of n).vcpus) × (0 < c (h s))
-unfolding hands
-hands-some c n h b = sum_below-some (sizes_of n).vcpus (λ s. c (h s)) b
+use Rattle.xp_board.proofs.Sums.{hands-part, sum_below-fewer, hands-some, hands-fewer}
 
 -- each frame that is in work or closing stands in the works of a seat
 pub record InWorks (n : Machine) (h : ℕ → Holdings) (f : ℕ) : Type 0 where
@@ -45,7 +35,7 @@ pub in_works : (n : Machine) (m : Place → ℕ) (h : ℕ → Holdings) (f : ℕ
 in_works n m h f alone busy =
     let all = alone.works f in
     let one = ap bit busy in
-    let some = hands-some (λ u. works_on f u.works) n h (omega arith) in
+    let some = hands-some (λ u. works_on f u.works) (sizes_of n) h (omega arith) in
     let found = first_by-some (λ y. y.frame) f (h some.0).works some.2 in
     record { seat = some.0; real = some.1; work = found.0; here = found.1 }
 
@@ -68,10 +58,6 @@ free_forms k free =
 -- ---- a marked frame
 not_free : (k : KindWord) → IsTrue (is_live k) → k.number ≡ 0 → is_busy k ≡ false → ⊥
 not_free k live none free = grind (arith, nat_tests)
-
-hands-fewer : (c d : Holdings → ℕ) (n : Machine) (h : ℕ → Holdings) → ((u : Holdings) → c u ≤ d u) → hands c (sizes_of n) h ≤ hands d (sizes_of n) h
-unfolding hands
-hands-fewer c d n h e = sum_below-fewer (sizes_of n).vcpus (λ s. c (h s)) (λ s. d (h s)) (λ s. e (h s))
 
 live_unmarked : (k : KindWord) → has_form k ≡ true → IsTrue (is_live k) → k.unflushed ≡ false
 unfolding has_form
@@ -131,7 +117,7 @@ module _ (n : Machine) (s : ℕ) (m : Place → ℕ) (h : ℕ → Holdings) (sea
       let all = sound.counts.refs f in
       let types = sound.counts.types f in
       let few = fewer_entries in
-      let most = hands-fewer (typed_hand f) (hand f) n h (λ u. let p = hand_is f u in omega arith) in
+      let most = hands-fewer (typed_hand f) (hand f) (sizes_of n) h (λ u. let p = hand_is f u in omega arith) in
       omega arith
 
   no_hand : ref_count (m (Refs f)) ≡ 0 → (t : ℕ) → t < (sizes_of n).vcpus → hand f (h t) ≡ 0

@@ -9,8 +9,7 @@ use Rattle.xp_board.specs.Readings.{kind_at, is_context}
 use Rattle.xp_board.specs.Sums.{sum_below}
 use Rattle.xp_board.specs.Lists.{one_at}
 use Rattle.xp_board.specs.Recorded.{work_of, held, held_of, names_typed, entry_demand, table_entries, entries, contexts, recorded_in}
-use Rattle.count_rule.proofs.Sums.{one_at-same}
-use Rattle.xp_board.proofs.Sums.{sum_below-one, sum_below-part, sum_below-same}
+use Rattle.xp_board.proofs.Sums.{one_at-same, sum_below-one, sum_below-part, sum_below-same}
 
 pub work_of-same : (n : ℕ) (h h2 : ℕ → Holdings) (f : ℕ) → ((s : ℕ) → recorded_in (h2 s).works f ≡ recorded_in (h s).works f) → work_of n h2 f ≡ work_of n h f
 unfolding work_of

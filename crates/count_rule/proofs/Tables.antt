@@ -10,7 +10,8 @@ use Rattle.xp_board.specs.Readings.{kind_at}
 use Rattle.xp_board.specs.Hands.{works_on, work_on}
 use Rattle.xp_board.specs.Recorded.{recorded_in, work_of, held, held_of}
 use Rattle.xp_board.specs.Sound.{is_busy, HeldAlone}
-use Rattle.count_rule.proofs.Lists.{first_by-none, first_by-counts}
+use Rattle.xp_board.proofs.ListCounts.{first_by-none}
+use Rattle.xp_board.proofs.HandLists.{first-some}
 use Rattle.xp_board.proofs.Sums.{hands-part, hands-two}
 
 pub recorded_in-none : (f : ℕ) (xs : List Work) → works_on f xs ≡ 0 → recorded_in xs f ≡ None
@@ -82,4 +83,4 @@ module _ (n : Machine) (m : Place → ℕ) (h : ℕ → Holdings) (alone : HeldA
   held_mine f s e b here =
       ap (held_of (kind_at m f))
       (work_of-mine (sizes_of n).vcpus h f s e.recorded b (recorded_in-here f (h s).works e here)
-      (λ t l off. recorded_in-none f (h t).works (only_mine f s t b l off (first_by-counts (λ x. x.frame) f (h s).works e here))))
+      (λ t l off. recorded_in-none f (h t).works (only_mine f s t b l off (first-some (λ x. x.frame) f e (h s).works here))))

@@ -19,7 +19,7 @@ use Rattle.xp_board.specs.KindSteps.{Resume, Begin, begun_kind, resumed_kind, is
 use Rattle.xp_board.specs.Keeping.{MayAct}
 use Rattle.xp_board.specs.Sound.{is_busy, HeldAlone, WorkAgrees, Sound}
 use Rattle.xp_board.proofs.ActEffects.{Turned}
-use Rattle.count_rule.proofs.Lists.{first_by-cons_here}
+use Rattle.xp_board.proofs.ListCounts.{first_by-cons_here}
 use Rattle.count_rule.proofs.Tables.{nobody_works, held_free, held_mine}
 use Rattle.count_rule.proofs.ListMoves.{cons_other, out_other, cons_here, out_here, maybe_other, maybe_here, recorded_cons}
 use Rattle.count_rule.proofs.KindForms.{partial_says, work_says, dead_says, held_partial, held_dead, held_work}

@@ -2,6 +2,8 @@ mod ClaimPicture
 pub mod PlaceTests
 pub mod Sums
 pub mod HandLists
+pub mod ListCounts
+pub mod ListChanges
 pub mod KindForms
 pub mod Bits
 pub mod EntryWords
