@@ -14,7 +14,7 @@ use Rattle.xp_board.specs.Sums.{sum_below}
 use Rattle.xp_board.specs.Recorded.{held, entry_demand, names, names_typed, entries, contexts, marks, HasType, is_page_of, TypesAgree, CountsAgree}
 use Rattle.xp_board.proofs.Sums.{hands-one, hands-part}
 use Rattle.xp_board.proofs.ListCounts.{EachOf-counted, EachOf-both}
-use Rattle.count_rule.proofs.Steady.{entries-same, contexts-same, entries-part, contexts-part, names_typed-typed}
+use Rattle.xp_board.proofs.Counted.{entries-same, contexts-same, entries-part, contexts-part, names_typed-typed}
 use Rattle.xp_board.proofs.HandLists.{EachOf-map}
 
 -- the pages that domains have

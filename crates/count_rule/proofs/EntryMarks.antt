@@ -24,10 +24,11 @@ use Rattle.xp_board.specs.Sound.{HeldAlone, Sound}
 use Rattle.xp_board.proofs.ListCounts.{EachOf-found}
 use Rattle.xp_board.proofs.ListChanges.{first_by-changed_here, first_by-changed_other}
 use Rattle.count_rule.proofs.Twins.{EachTwo, EachTwo-changed_at, EachTwo-times, LikeWork}
-use Rattle.count_rule.proofs.Tables.{held_mine}
+use Rattle.xp_board.proofs.Works.{held_mine}
 use Rattle.count_rule.proofs.CountLaw.{counts_law, each_seat}
 use Rattle.count_rule.proofs.PartLaws.{alone_law, map_law, works_law, idle_fewer}
-use Rattle.count_rule.proofs.Quiet.{table_inside, held_still, is_closing_at, works_spared}
+use Rattle.count_rule.proofs.Quiet.{held_still, is_closing_at, works_spared}
+use Rattle.xp_board.proofs.Counted.{table_inside}
 use Rattle.count_rule.proofs.Demands.{demand_at-entry}
 use Rattle.count_rule.proofs.Outcome.{Outcome}
 

@@ -29,8 +29,9 @@ use Rattle.xp_board.proofs.PlaceTests.{same_or_other}
 use Rattle.xp_board.proofs.ListCounts.{EachOf-found}
 use Rattle.xp_board.proofs.HandLists.{first-some, EachOf-map}
 use Rattle.count_rule.proofs.Twins.{EachTwo, EachTwo-each, SameWork, SameLock, SameClaim, recorded_in-same}
-use Rattle.count_rule.proofs.Tables.{some_bit, held_free}
-use Rattle.count_rule.proofs.Steady.{entries-one, table_entries-changed, contexts-same}
+use Rattle.xp_board.proofs.Works.{held_free}
+use Rattle.xp_board.proofs.Sums.{some_bit, hands-part}
+use Rattle.xp_board.proofs.Counted.{entries-one, table_entries-changed, contexts-same}
 use Rattle.count_rule.proofs.CountLaw.{each_seat}
 use Rattle.count_rule.proofs.PartLaws.{stamped_by, idle_running}
 use Rattle.count_rule.proofs.Learning.{works_learnt, locks_learnt, claims_learnt}
@@ -41,7 +42,6 @@ use Rattle.count_rule.proofs.KindSpelled.{form_was}
 use Rattle.count_rule.proofs.SpelledLaw.{wrote_spelled}
 use Rattle.count_rule.proofs.Outcome.{Outcome, runs}
 use Rattle.count_rule.proofs.HandLaw.{HandMove, hand_outcome}
-use Rattle.xp_board.proofs.Sums.{hands-part}
 
 locked_free : (k : KindWord) → has_form k ≡ true → is_locked k ≡ true → is_busy k ≡ false
 unfolding has_form

@@ -19,9 +19,8 @@ use Rattle.xp_board.specs.Spelling.{IsSpelling, map_bits}
 use Rattle.xp_board.specs.Keeping.{MayAct}
 use Rattle.xp_board.specs.Sound.{Spelled, Sound, is_hinted}
 use Rattle.xp_board.proofs.ActEffects.{Wrote, Hinted}
-use Rattle.xp_board.proofs.Sums.{hands-only, one_at-same, hands-part, hands-two}
+use Rattle.xp_board.proofs.Sums.{hands-only, one_at-same, hands-part, hands-two, bit_most, some_bit}
 use Rattle.xp_board.proofs.ListCounts.{times_by-cons_here, times_by-cons_other, times_by-without, times_by-without_other}
-use Rattle.count_rule.proofs.Tables.{bit_most, some_bit}
 use Rattle.count_rule.proofs.Words.{is_dying-read, dying_says}
 use Rattle.count_rule.proofs.Bits.{set_small, set_here, set_other, has_bit, cleared_bit}
 use Rattle.count_rule.proofs.Learning.{Stays, works_kept, locks_kept, claims_kept}

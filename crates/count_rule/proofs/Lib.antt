@@ -1,5 +1,3 @@
-mod Tables
-mod Steady
 mod CountLaw
 mod PartLaws
 mod Twins

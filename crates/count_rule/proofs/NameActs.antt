@@ -20,7 +20,7 @@ use Rattle.xp_board.proofs.PlaceTests.{same_or_other}
 use Rattle.xp_board.proofs.Sums.{when_eq, when_ne}
 use Rattle.xp_board.proofs.ListCounts.{times_by-cons, times_by-without}
 use Rattle.count_rule.proofs.Twins.{EachTwo-each, SameLock, recorded_in-same, EachTwo, SameWork, SameClaim}
-use Rattle.count_rule.proofs.Steady.{entries-same, contexts-one}
+use Rattle.xp_board.proofs.Counted.{entries-same, contexts-one}
 use Rattle.count_rule.proofs.CountLaw.{each_seat}
 use Rattle.count_rule.proofs.PartLaws.{stamped_by, idle_running}
 use Rattle.count_rule.proofs.Learning.{Kept, Learnt, learnt, kept_noted}

@@ -17,7 +17,7 @@ use Rattle.xp_board.specs.Settling.{HasLastDemand, demand_in, demand_out}
 use Rattle.xp_board.specs.Marks.{MayRecord, MayShed, demand_seen, seen_word, unsettled_by}
 use Rattle.xp_board.specs.Sound.{HeldAlone, Sound}
 use Rattle.xp_board.proofs.MarkEffects.{Recorded, Shed}
-use Rattle.count_rule.proofs.Steady.{entries-one, table_entries-more}
+use Rattle.xp_board.proofs.Counted.{entries-one, table_entries-more}
 use Rattle.count_rule.proofs.Quiet.{is_closing_at}
 use Rattle.count_rule.proofs.Demands.{IsInHand, out_hand, out_typed, in_hand, in_typed, out_aside, in_aside, out_types, in_types, Spares, out_spares, in_more, has_last, last_type}
 use Rattle.count_rule.proofs.EntryMarks.{work_held, work_inside, seen_unmarked, seen_demand, MarkMove, mark_alone, mark_held_other, mark_held_here, marked_outcome}

@@ -1,43 +1,25 @@
 -- Frames of which no entry is recorded.
-use Rattle.std.proofs.Common.{◌≡◌, ℕ, ◌<◌, ◌≤◌, ◌⊎◌, if◌then◌else◌, Bool, true, false, Option, Some, refl, sym, ◌∙◌, ap, subst, arith, IsTrue, inl, inr}
+use Rattle.std.proofs.Common.{◌≡◌, ℕ, ◌<◌, ◌⊎◌, if◌then◌else◌, Bool, true, false, Option, Some, refl, sym, ◌∙◌, ap, subst, arith, IsTrue, inl, inr}
 use Rattle.std.proofs.lemmas.Bool.{cases_Bool}
 use Rattle.std.proofs.lemmas.Bool.Decides.{nat_tests}
-use Rattle.xp_words.specs.declared.entry.Demand.{Demand}
-use Rattle.xp_words.specs.declared.entry.Demand.TheVariants.{Nothing, Bad, Read, Typed}
 use Rattle.xp_words.specs.declared.kind.KindWord.{KindWord}
 use Rattle.xp_words.specs.KindWords.{has_form}
 use Rattle.xp_words.specs.PageTypes.{is_table}
-use Rattle.xp_words.specs.RefWords.{bit}
 use Rattle.xp_words.specs.Machine.{Machine}
 use Rattle.xp_words.specs.Places.{sizes_of, Place, Refs}
 use Rattle.xp_board.specs.declared.holdings.Holdings.{Holdings}
-use Rattle.xp_board.specs.declared.holdings.Work.{Work}
 use Rattle.xp_board.specs.Readings.{kind_at, ref_count, type_count, is_live, is_partial, is_work, is_dead, is_closing}
-use Rattle.xp_board.specs.Hands.{refs_to, works_on, work_on, hand, typed_hand}
-use Rattle.xp_board.specs.Recorded.{held, held_of, names, names_typed, table_entries, entries}
-use Rattle.xp_board.specs.Sound.{is_busy, HeldAlone, WorkAgrees, Sound}
-use Rattle.xp_board.proofs.ListCounts.{first_by-some, EachOf-found}
-use Rattle.count_rule.proofs.Tables.{held_free, held_mine}
+use Rattle.xp_board.specs.Hands.{refs_to, hand}
+use Rattle.xp_board.specs.Recorded.{held, held_of}
+use Rattle.xp_board.specs.Sound.{is_busy, WorkAgrees, Sound}
+use Rattle.xp_board.proofs.ListCounts.{EachOf-found}
+use Rattle.xp_board.proofs.Works.{held_free, held_mine, InWorks, in_works}
 use Rattle.count_rule.proofs.Quiet.{hand_is}
 use Rattle.count_rule.proofs.EntryMarks.{work_word}
 use Rattle.count_rule.proofs.KindForms.{held_partial, held_dead, held_work}
 use Rattle.count_rule.proofs.StoreForms.{busy_forms}
-use Rattle.xp_board.proofs.Sums.{hands-part, sum_below-fewer, hands-some, hands-fewer}
-
--- each frame that is in work or closing stands in the works of a seat
-pub record InWorks (n : Machine) (h : ℕ → Holdings) (f : ℕ) : Type 0 where
-  pub seat : ℕ
-  pub real : seat < (sizes_of n).vcpus
-  pub work : Work
-  pub here : work_on f (h seat).works ≡ Some work
-
-pub in_works : (n : Machine) (m : Place → ℕ) (h : ℕ → Holdings) (f : ℕ) → HeldAlone n m h → is_busy (kind_at m f) ≡ true → InWorks n h f
-in_works n m h f alone busy =
-    let all = alone.works f in
-    let one = ap bit busy in
-    let some = hands-some (λ u. works_on f u.works) (sizes_of n) h (omega arith) in
-    let found = first_by-some (λ y. y.frame) f (h some.0).works some.2 in
-    record { seat = some.0; real = some.1; work = found.0; here = found.1 }
+use Rattle.xp_board.proofs.Sums.{hands-part}
+use Rattle.xp_board.proofs.Counted.{type_below}
 
 pub no_table : (k : KindWord) (o : Option ℕ) → is_table k.kind ≡ false → held_of k o ≡ 0
 unfolding held_of
@@ -80,7 +62,7 @@ module _ (n : Machine) (s : ℕ) (m : Place → ℕ) (h : ℕ → Holdings) (sea
   marked_none form marked =
       elim (cases_Bool (is_busy (kind_at m f))) [
         | inl busy ↦
-            let w = in_works n m h f sound.alone busy in
+            let w = in_works n m h sound.alone f busy in
             let word = work_word n w.seat m h w.real sound f w.work w.here in
             let agrees = EachOf-found (WorkAgrees (h w.seat)) (λ y. y.frame) f (h w.seat).works w.work w.here (sound.works w.seat w.real) in
             let none = agrees.1.marked (ap (λ (y : KindWord). y.unflushed) (sym word) ∙ marked) in
@@ -101,24 +83,8 @@ module _ (n : Machine) (s : ℕ) (m : Place → ℕ) (h : ℕ → Holdings) (sea
   no_table_none off = no_table (kind_at m f) _ off
 
   -- ---- a frame without a reference
-  fewer_typed : (d : Demand) → names_typed f d ≤ names f d
-  unfolding names names_typed
-  fewer_typed Nothing = omega arith
-  fewer_typed Bad = omega arith
-  fewer_typed (Read g) = omega arith
-  fewer_typed (Typed g t) = omega arith
-
-  fewer_entries : entries (names_typed f) (sizes_of n) m h ≤ entries (names f) (sizes_of n) m h
-  unfolding entries table_entries
-  fewer_entries = sum_below-fewer _ _ _ (λ g. sum_below-fewer _ _ _ (λ j. fewer_typed _))
-
   no_type : ref_count (m (Refs f)) ≡ 0 → type_count (kind_at m f) ≡ 0
-  no_type none =
-      let all = sound.counts.refs f in
-      let types = sound.counts.types f in
-      let few = fewer_entries in
-      let most = hands-fewer (typed_hand f) (hand f) (sizes_of n) h (λ u. let p = hand_is f u in omega arith) in
-      omega arith
+  no_type none = let below = type_below (sizes_of n) m h f sound.counts in omega arith
 
   no_hand : ref_count (m (Refs f)) ≡ 0 → (t : ℕ) → t < (sizes_of n).vcpus → hand f (h t) ≡ 0
   no_hand none t l =
@@ -143,7 +109,7 @@ module _ (n : Machine) (s : ℕ) (m : Place → ℕ) (h : ℕ → Holdings) (sea
             elim (busy_forms (kind_at m f) busy) [
               | inl work ↦ let one = other_typed (inr work) in absurd (omega arith)
               | inr closing ↦
-                  let w = in_works n m h f sound.alone busy in
+                  let w = in_works n m h sound.alone f busy in
                   let word = work_word n w.seat m h w.real sound f w.work w.here in
                   let agrees = EachOf-found (WorkAgrees (h w.seat)) (λ y. y.frame) f (h w.seat).works w.work w.here (sound.works w.seat w.real) in
                   let some = agrees.1.closing (subst (λ y. IsTrue (is_closing y)) word closing) in

@@ -19,14 +19,14 @@ use Rattle.xp_board.specs.After.{noted}
 use Rattle.xp_board.specs.Keeping.{MayAct}
 use Rattle.xp_board.specs.Sound.{is_busy, WorkAgrees, Sound}
 use Rattle.xp_board.proofs.ActEffects.{Wrote, Stored}
-use Rattle.xp_board.proofs.Sums.{when_eq, when_ne}
+use Rattle.xp_board.proofs.Sums.{when_eq, when_ne, no_bit}
 use Rattle.xp_board.proofs.HandLists.{first-some, times-changed, EachOf-without}
 use Rattle.xp_board.proofs.ListChanges.{first_by-changed_here, EachOf-changed_into}
-use Rattle.count_rule.proofs.Tables.{one_works, is_busy-mine, held_free, held_mine}
+use Rattle.xp_board.proofs.Works.{one_works, is_busy-mine, held_free, held_mine}
 use Rattle.count_rule.proofs.ListMoves.{cons_other, out_other, swap_other, cons_here, out_here, swap_here, recorded_out, recorded_changed}
 use Rattle.count_rule.proofs.KindForms.{Says, live_says, closing_says, work_says, dead_says, held_live, held_dead, held_work}
 use Rattle.count_rule.proofs.KindSpelled.{form_was}
-use Rattle.count_rule.proofs.KindActs.{not_busy, stamp_live, stamp_of, Beside, beside, rest_by, turn_outcome, keeps_kind}
+use Rattle.count_rule.proofs.KindActs.{stamp_live, stamp_of, Beside, beside, rest_by, turn_outcome, keeps_kind}
 use Rattle.count_rule.proofs.KindWorks.{works_out}
 use Rattle.count_rule.proofs.WorkActs.{not_closing, not_live, same_zero}
 use Rattle.count_rule.proofs.StoreForms.{form_live, form_work, form_dead, busy_forms, closing_alone, work_unlive, same_if}
@@ -78,7 +78,7 @@ module _ (n : Machine) (s : ℕ) (x : Step) (m m2 : Place → ℕ) (b c : ℕ �
         in
         let out = out_here (λ y. y.frame) f (b s).works u.works works in_works in
         let lock = ap (locks_on f) locks in
-        let free = ap is_busy is ∙ not_busy (is_busy l) tells.busy_is in
+        let free = ap is_busy is ∙ no_bit (is_busy l) tells.busy_is in
         turn_outcome n s x m m2 b c seat others may sound f wrote u hand rest (kind_fields e.word) l ck mk 1 0 cl ml 0 0
         (record { was = was; is = is; says = says; tells = tells }) stamp (omega arith) (omega arith) (omega arith) (omega arith)
         (λ alone. held_free n m2 c alone f free ∙ ap (λ y. held_of y None) is ∙ table ∙ sym held_was)

@@ -4,6 +4,8 @@ pub mod Sums
 pub mod HandLists
 pub mod ListCounts
 pub mod ListChanges
+pub mod Works
+pub mod Counted
 pub mod KindForms
 pub mod Bits
 pub mod EntryWords

@@ -1,6 +1,7 @@
 -- Sums below a number, and sums over the hands of all seats.
-use Rattle.std.proofs.Common.{◌≡◌, ◌≢◌, ℕ, zero, suc, ◌+◌, ◌<◌, ◌≤◌, refl, sym, ◌∙◌, ap, arith, inl, inr, ◌==◌, true, false}
+use Rattle.std.proofs.Common.{Bool, ◌≡◌, ◌≢◌, ℕ, zero, suc, ◌+◌, ◌<◌, ◌≤◌, refl, sym, ◌∙◌, ap, arith, inl, inr, ◌==◌, true, false}
 use Rattle.std.proofs.lemmas.Bool.{cases_eq}
+use Rattle.xp_words.specs.RefWords.{bit}
 use Rattle.xp_words.specs.Places.{Sizes}
 use Rattle.xp_board.specs.declared.holdings.Holdings.{Holdings}
 use Rattle.xp_board.specs.Sums.{sum_below}
@@ -103,6 +104,18 @@ one_at-same g = rw (when_eq g g refl)
 
 pub one_at-other : (g f : ℕ) → g ≢ f → one_at g f ≡ 0
 one_at-other g f n = rw (when_ne f g (λ e. n (sym e)))
+
+pub bit_most : (b : Bool) → bit b ≤ 1
+bit_most true = omega arith
+bit_most false = omega arith
+
+pub some_bit : (b : Bool) → 0 < bit b → b ≡ true
+some_bit true k = refl
+some_bit false k = absurd (omega arith)
+
+pub no_bit : (b : Bool) → bit b ≡ 0 → b ≡ false
+no_bit true e = absurd (omega arith)
+no_bit false e = refl
 
 pub sum_below-plus : (n : ℕ) (p q r : ℕ → ℕ) → ((k : ℕ) → k < n → r k ≡ p k + q k) → sum_below n r ≡ sum_below n p + sum_below n q
 unfolding sum_below
