@@ -32,8 +32,9 @@ use Rattle.xp_board.specs.Sound.{Sound}
 use Rattle.xp_board.proofs.KindForms.{live_form}
 use Rattle.xp_board.proofs.EntryWords.{entry_asks_same, same_demand}
 use Rattle.xp_board.proofs.ActEffects.{Rewrote, Filled}
-use Rattle.type_rule.proofs.Counted.{first_each, first_some}
-use Rattle.type_rule.proofs.Held.{type_below}
+use Rattle.xp_board.proofs.ListCounts.{EachOf-found}
+use Rattle.xp_board.proofs.HandLists.{first-some}
+use Rattle.xp_board.proofs.Counted.{type_below}
 use Rattle.type_rule.proofs.WorkFacts.{works_facts, idle_held, closing_counted, closing_busy}
 use Rattle.type_rule.proofs.QuietActs.{dying_in_hand}
 use Rattle.type_rule.proofs.KindStores.{table_held}
@@ -110,23 +111,23 @@ module _ (n : Machine) (s : ℕ) (x : Step) (m m2 : Place → ℕ) (b c : ℕ �
   -- ---- a table under the own lock
   pub lock_type : (f : ℕ) (e : Lock) → lock_on f (b s).locks ≡ Some e → (kind_at m f).kind ≡ e.kind
   lock_type f e here =
-      let k = first_each (λ y. y.frame) (λ y. HasType m y.frame (Some y.kind)) f (b s).locks e (sound.counts.kinds.locks s real) here in
-      rw (← k.1) k.0
+      let k = EachOf-found (λ y. HasType m y.frame (Some y.kind)) (λ y. y.frame) f (b s).locks e here (sound.counts.kinds.locks s real) in
+      rw (← k.0) k.1
 
   pub lock_table : (f : ℕ) (e : Lock) → lock_on f (b s).locks ≡ Some e → is_table (kind_at m f).kind ≡ true
   lock_table f e here =
-      let k = first_each (λ y. y.frame) (IsLockFormed n (b s)) f (b s).locks e ((sound.formed s real).locks) here in
-      rw (lock_type f e here) k.0.table
+      let k = EachOf-found (IsLockFormed n (b s)) (λ y. y.frame) f (b s).locks e here ((sound.formed s real).locks) in
+      rw (lock_type f e here) k.1.table
 
   rewrote_act : (f i : ℕ) (d : Rewrote n x f i m m2 (b s) (c s)) →
       CellAct n s x m m2 b c real sound others f i d.wrote.others (m2 (Cell f i)) (b s) d.wrote.place d.wrote.left d.hand (record { works = refl; looking = refl; steps = refl })
   rewrote_act f i d =
       let seen = seen_same d.e.kind i (m2 (Cell f i)) d.e.seen d.same in
-      let formed = first_each (λ y. y.frame) (IsLockFormed n (b s)) f (b s).locks d.e ((sound.formed s real).locks) d.here in
-      let found = first_each (λ y. y.frame) (LockFound (sizes_of n) m (b s)) f (b s).locks d.e ((sound.found s real).locks) d.here in
-      let noted : last_since (sizes_of n) d.e.since (Cell d.e.frame i) (b s).steps ≡ Some seen.0 = seen_is (sizes_of n) d.e.since d.e.frame _ d.e.seen i seen.0 formed.0.seen seen.1 in
-      let asks = entry_asks_same d.e.kind i (m (Cell d.e.frame i)) seen.0 (found.0 i seen.0 noted) in
-      let asks_f : demand_at d.e.kind i (m (Cell f i)) ≡ demand_at d.e.kind i seen.0 = subst (λ y. demand_at d.e.kind i (m (Cell y i)) ≡ demand_at d.e.kind i seen.0) formed.1 asks in
+      let formed = EachOf-found (IsLockFormed n (b s)) (λ y. y.frame) f (b s).locks d.e d.here ((sound.formed s real).locks) in
+      let found = EachOf-found (LockFound (sizes_of n) m (b s)) (λ y. y.frame) f (b s).locks d.e d.here ((sound.found s real).locks) in
+      let noted : last_since (sizes_of n) d.e.since (Cell d.e.frame i) (b s).steps ≡ Some seen.0 = seen_is (sizes_of n) d.e.since d.e.frame _ d.e.seen i seen.0 formed.1.seen seen.1 in
+      let asks = entry_asks_same d.e.kind i (m (Cell d.e.frame i)) seen.0 (found.1 i seen.0 noted) in
+      let asks_f : demand_at d.e.kind i (m (Cell f i)) ≡ demand_at d.e.kind i seen.0 = subst (λ y. demand_at d.e.kind i (m (Cell y i)) ≡ demand_at d.e.kind i seen.0) formed.0 asks in
       record {
         entry = λ l. inl (rw (lock_type f d.e d.here) (sym seen.2 ∙ sym asks_f));
         fixed = λ live desc l. absurd (desc_no_table (kind_at m f).kind desc (lock_table f d.e d.here));
@@ -163,7 +164,7 @@ module _ (n : Machine) (s : ℕ) (x : Step) (m m2 : Place → ℕ) (b c : ℕ �
   filled_by : (f i : ℕ) (k : Option Claimed) (e : Option Work) → claim_of f (b s).claimed ≡ k → work_on f (b s).works ≡ e → AllowsPlain n f i (m2 (Cell f i)) (b s) k e →
       (i < held (sizes_of n) m b f → ⊥) × (IsTrue (is_live (kind_at m f)) → (kind_at m f).kind ≡ kinds.Desc → IsTrue (is_fixed (m2 (Cell f i))))
   filled_by f i (Some k) e claim work may =
-      let some = (first_some (λ y. y.frame) f (b s).claimed k claim).0 in
+      let some = first-some (λ y. y.frame) f k (b s).claimed claim in
       let none = dying_in_hand n m b s f sound.alone real (omega arith) in
       (λ l. let z = free_held f none in absurd (omega arith), λ live desc. absurd (free_not_live f none live))
   filled_by f i None (Some e) claim work may =

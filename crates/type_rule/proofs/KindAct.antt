@@ -14,7 +14,7 @@ use Rattle.xp_board.specs.Recorded.{held_of, recorded_number}
 use Rattle.xp_board.specs.Valid.{Valid, Permitted, IsUnsettled, is_live_context}
 use Rattle.xp_board.specs.Sound.{Sound, is_busy}
 use Rattle.type_rule.proofs.Works.{WorkKeptIn}
-use Rattle.type_rule.proofs.Held.{nobody_works}
+use Rattle.xp_board.proofs.Works.{nobody_has}
 use Rattle.type_rule.proofs.EntryChange.{OneStep, SameTable, LeadsStill, kind_entry, kind_leads}
 use Rattle.type_rule.proofs.ValidLaw.{valid_law, permitted_law, contexts_permitted}
 use Rattle.type_rule.proofs.QuietLaw.{same_owners}
@@ -86,7 +86,7 @@ module _ (n : Machine) (s : ℕ) (x : Step) (m m2 : Place → ℕ) (b c : ℕ �
   -- ---- a frame that no seat has in its works
   module _ (idle : is_busy (kind_at m q) ≡ false) where
     pub nobody : (t : ℕ) → t < (sizes_of n).vcpus → work_on q (b t).works ≡ None
-    nobody = nobody_works n m b q sound.alone idle
+    nobody = nobody_has n m b sound.alone q idle
 
     pub not_unsettled : (i g : ℕ) → IsUnsettled (sizes_of n) b q i g → ⊥
     not_unsettled i g u = let none = nobody u.seat u.real in let some = u.here in cc

@@ -22,7 +22,8 @@ use Rattle.xp_board.proofs.KindForms.{live_form}
 use Rattle.xp_board.proofs.ActEffects.{Turned}
 use Rattle.type_rule.proofs.StepFacts.{since_within}
 use Rattle.type_rule.proofs.HandParts.{two_row}
-use Rattle.type_rule.proofs.Works.{WorkKeptIn, works_kept, added_here, added_other}
+use Rattle.type_rule.proofs.Works.{WorkKeptIn, works_kept}
+use Rattle.xp_board.proofs.ListCounts.{first_by-cons_here, first_by-cons_other}
 use Rattle.type_rule.proofs.EntryChange.{OneStep}
 use Rattle.type_rule.proofs.QuietActs.{one_by}
 use Rattle.type_rule.proofs.KindAct.{KindAct, nobody, not_unsettled, live_stays, kind_valid, kind_permitted}
@@ -100,9 +101,9 @@ row_works Count f g k l new h off = refl
 row_works Locks f g k l new h off = refl
 row_works Pin f g k l new h off = refl
 row_works Unpin f g k l new h off = refl
-row_works Resume f g k l new h off = added_other f g _ h.works refl off
+row_works Resume f g k l new h off = first_by-cons_other (λ y. y.frame) g _ h.works (λ e. off (sym e))
 row_works TakeBack f g k l new h off = refl
-row_works Begin f g k l new h off = added_other f g _ h.works refl off
+row_works Begin f g k l new h off = first_by-cons_other (λ y. y.frame) g _ h.works (λ e. off (sym e))
 
 -- nothing was found since a step that is still to be made
 pub unfound_yet : (z : Sizes) (k : ℕ) (p : Place) (test : ℕ → Bool) (xs : List Made) → length xs ≤ k → some_since z k p test xs ≡ false
@@ -174,7 +175,7 @@ module _ (n : Machine) (s : ℕ) (x : Step) (m m2 : Place → ℕ) (b c : ℕ �
       let idle : is_busy (kind_at m f) ≡ false = rw d.fields_was (partial_idle d.k may.partial) in
       let none = nobody n s x m m2 b c real sound (one f Resume d) f d.wrote.others (works f Resume d) idle in
       let e : Work = new_work f (m2 (Kind f)) d.k.progress (unsettled_from d.k.progress (b s)) (b s) in
-      let here : work_on f (c s).works ≡ Some e = ap (λ u. work_on f u.works) d.hand ∙ added_here f e (b s).works refl in
+      let here : work_on f (c s).works ≡ Some e = ap (λ u. work_on f u.works) d.hand ∙ first_by-cons_here (λ y. y.frame) f e (b s).works refl in
       let left : d.l.kind ≡ d.k.kind = ap (λ y. y.kind) may.left in
       let part : IsTrue (is_partial (kind_at m f)) = rw d.fields_was may.partial in
       record {
@@ -211,7 +212,7 @@ module _ (n : Machine) (s : ℕ) (x : Step) (m m2 : Place → ℕ) (b c : ℕ �
       let idle : is_busy (kind_at m f) ≡ false = dead_idle (kind_at m f) dead in
       let none = nobody n s x m m2 b c real sound (one f Begin d) f d.wrote.others (works f Begin d) idle in
       let e : Work = new_work f (m2 (Kind f)) 0 None (b s) in
-      let here : work_on f (c s).works ≡ Some e = ap (λ u. work_on f u.works) d.hand ∙ added_here f e (b s).works refl in
+      let here : work_on f (c s).works ≡ Some e = ap (λ u. work_on f u.works) d.hand ∙ first_by-cons_here (λ y. y.frame) f e (b s).works refl in
       record {
         table = record {
           alone = λ t l off. none t l;
@@ -246,7 +247,7 @@ module _ (n : Machine) (s : ℕ) (x : Step) (m m2 : Place → ℕ) (b c : ℕ �
 
   -- ---- a type count given back
   closing_other : (f g w left : ℕ) (h : Holdings) → g ≢ f → work_on g (closing_works f w left h) ≡ work_on g h.works
-  closing_other f g w left h off = if_same ((kind_fields w).number == 1) (work_on g) _ h.works (added_other f g _ h.works refl off)
+  closing_other f g w left h off = if_same ((kind_fields w).number == 1) (work_on g) _ h.works (first_by-cons_other (λ y. y.frame) g _ h.works (λ e. off (sym e)))
 
   -- the number of entries that stay recorded
   closing_held : (f w left : ℕ) (l : KindWord) → IsTrue (is_live l) → l.kind ≡ (kind_fields w).kind → work_on f (b s).works ≡ None →
@@ -255,7 +256,7 @@ module _ (n : Machine) (s : ℕ) (x : Step) (m m2 : Place → ℕ) (b c : ℕ �
       elim (cases_Bool ((kind_fields w).number == 1)) [
         | inl last ↦
             rw last
-            (ap (λ o. held_of l (recorded_number o)) (added_here f (new_work f left (if is_table (kind_fields w).kind then 512 else 0) None (b s)) (b s).works refl)
+            (ap (λ o. held_of l (recorded_number o)) (first_by-cons_here (λ y. y.frame) f (new_work f left (if is_table (kind_fields w).kind then 512 else 0) None (b s)) (b s).works refl)
             ∙ ap (λ k. held_of l (Some (if is_table k then 512 else 0))) (sym kind) ∙ closed_held l live)
         | inr more ↦ rw more (ap (λ o. held_of l (recorded_number o)) none)
       ]

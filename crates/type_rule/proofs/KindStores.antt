@@ -23,11 +23,14 @@ use Rattle.xp_board.specs.Recorded.{held, held_of, entry_demand, recorded_number
 use Rattle.xp_board.specs.Valid.{Valid, Permitted, IsUnsettled, IsLastOfPartial, is_live_context}
 use Rattle.xp_board.specs.Sound.{Sound, is_busy}
 use Rattle.xp_board.proofs.ActEffects.{Stored}
-use Rattle.type_rule.proofs.Counted.{work_alone, first_some}
+use Rattle.xp_board.proofs.Works.{one_seat, nobody_else, one_works}
+use Rattle.xp_board.proofs.HandLists.{first-some}
 use Rattle.type_rule.proofs.HandParts.{two_live, two_dead, three_as_typed}
-use Rattle.type_rule.proofs.Works.{WorkKeptIn, works_kept, without_other, without_here, changed_other, changed_here}
-use Rattle.type_rule.proofs.Held.{entry_counted, context_counted}
-use Rattle.type_rule.proofs.WorkFacts.{Works, works_facts, others_none, works_once}
+use Rattle.type_rule.proofs.Works.{WorkKeptIn, works_kept}
+use Rattle.xp_board.proofs.ListCounts.{first_by-without_other, first_by-none, times_by-without_one}
+use Rattle.xp_board.proofs.ListChanges.{first_by-changed_other, first_by-changed_here}
+use Rattle.type_rule.proofs.Counted.{entry_counted, context_counted}
+use Rattle.type_rule.proofs.WorkFacts.{Works, works_facts}
 use Rattle.type_rule.proofs.Settled.{settled_found}
 use Rattle.type_rule.proofs.DomainStores.{is_live_left, is_partial_left, is_work_left, is_dead_left}
 use Rattle.type_rule.proofs.EntryChange.{OneStep}
@@ -112,8 +115,8 @@ module _ (n : Machine) (s : ℕ) (x : Step) (m m2 : Place → ℕ) (b c : ℕ �
     -- what is unsettled there is so by this seat
     mine : (i g : ℕ) → (u : IsUnsettled (sizes_of n) b f i g) → (u.seat ≡ s) × (u.work ≡ d.e)
     mine i g u =
-        let some = (first_some (λ y. y.frame) f (b u.seat).works u.work u.here).0 in
-        let at : u.seat ≡ s = sym (work_alone n m b s u.seat f real u.real sound.alone k.some some) in
+        let some = first-some (λ y. y.frame) f u.work (b u.seat).works u.here in
+        let at : u.seat ≡ s = sym (one_seat n m b sound.alone f s u.seat real u.real k.some some) in
         let e : Some u.work ≡ Some d.e = sym u.here ∙ ap (λ t. work_on f (b t).works) at ∙ d.here in
         (at, cc)
 
@@ -128,7 +131,7 @@ module _ (n : Machine) (s : ℕ) (x : Step) (m m2 : Place → ℕ) (b c : ℕ �
     act_of holds kind forms unsettled fixed =
         record {
           table = record {
-            alone = others_none n m b s f sound real k.some;
+            alone = nobody_else n m b sound.alone f s real k.some;
             held = holds ∙ ap (λ o. held_of (kind_at m f) (recorded_number o)) (sym d.here);
             kind = inl kind;
           };
@@ -147,12 +150,12 @@ module _ (n : Machine) (s : ℕ) (x : Step) (m m2 : Place → ℕ) (b c : ℕ �
   -- ---- by form
   module _ (f : ℕ) where
     taken_works : (y : Holdings) (x0 : ℕ) → c s ≡ noted x x0 y → y.works ≡ without_work f (b s).works → (g : ℕ) → g ≢ f → WorkKeptIn (work_on g (b s).works) (work_on g (c s).works)
-    taken_works y x0 hand at g off = rw (ap (λ u. work_on g u.works) hand ∙ ap (work_on g) at ∙ without_other f g (b s).works off) (works_kept (work_on g (b s).works))
+    taken_works y x0 hand at g off = rw (ap (λ u. work_on g u.works) hand ∙ ap (work_on g) at ∙ first_by-without_other (λ y. y.frame) g f (b s).works off) (works_kept (work_on g (b s).works))
 
     taken_none : (y : Holdings) (x0 : ℕ) (e : Work) → work_on f (b s).works ≡ Some e → c s ≡ noted x x0 y → y.works ≡ without_work f (b s).works → work_on f (c s).works ≡ None
     taken_none y x0 e here hand at =
         ap (λ u. work_on f u.works) hand ∙ ap (work_on f) at
-        ∙ without_here f (b s).works ((works_facts n m b s f e sound real here).some) (works_once n m b s f sound real)
+        ∙ first_by-none (λ y. y.frame) f (without_work f (b s).works) (times_by-without_one (λ y. y.frame) f (b s).works (one_works n m b sound.alone f s real))
 
     live_one : Stored n s x f Live m m2 (b s) (c s) → OneStep n s x m m2 b c
     live_one d = one_by n s x m m2 b c real sound others (Kind f) _ d.wrote.place d.wrote.left d.hand ((two_live f d.l (b s)).steps)
@@ -222,13 +225,13 @@ module _ (n : Machine) (s : ℕ) (x : Step) (m m2 : Place → ℕ) (b c : ℕ �
 
     work_works_of : Stored n s x f InWork m m2 (b s) (c s) → (g : ℕ) → g ≢ f → WorkKeptIn (work_on g (b s).works) (work_on g (c s).works)
     work_works_of d g off =
-        rw (ap (λ u. work_on g u.works) d.hand ∙ changed_other f g (unmark d) (b s).works (λ e. refl) off) (works_kept (work_on g (b s).works))
+        rw (ap (λ u. work_on g u.works) d.hand ∙ first_by-changed_other (λ y. y.frame) g f (unmark d) (b s).works (λ e. refl) off) (works_kept (work_on g (b s).works))
 
     work_act : (d : Stored n s x f InWork m m2 (b s) (c s)) → KindAct n s x m m2 b c real sound (work_one d) f d.wrote.others (work_works_of d)
     work_act d =
         let w = word_is f InWork d d.wrote.others (work_one d) (work_works_of d) in
         let k = works_facts n m b s f d.e sound real d.here in
-        let here : work_on f (c s).works ≡ Some (unmark d d.e) = ap (λ u. work_on f u.works) d.hand ∙ changed_here f (unmark d) (b s).works d.e (λ e. refl) d.here in
+        let here : work_on f (c s).works ≡ Some (unmark d d.e) = ap (λ u. work_on f u.works) d.hand ∙ first_by-changed_here (λ y. y.frame) f (unmark d) (b s).works d.e (λ e. refl) d.here in
         let form = is_work_left d.l d.form_is in
         let kind : d.l.kind ≡ (kind_fields d.e.word).kind = ap (λ y. y.kind) d.may.left in
         let work : IsTrue (is_partial d.l || is_work d.l) = rw (form.0, form.1, form.2) refl in

@@ -12,7 +12,6 @@ mod DomainVcpus
 mod DomainLives
 mod DomainLaws
 mod Works
-mod Held
 mod EntryChange
 mod WorkFacts
 mod ValidLaw

@@ -3,14 +3,9 @@ use Rattle.std.proofs.Common.{◌≡◌, ℕ, zero, suc, ◌+◌, ◌%◌, ◌^�
 use Rattle.xp_words.specs.declared.refs.RefWord.{RefWord}
 use Rattle.xp_words.specs.declared.refs.RefWord.TheVariants.{Free, Owned, Dying}
 use Rattle.xp_words.specs.RefWords.{ref_read, ref_write, IsRef, bit}
-use Rattle.xp_words.specs.Places.{Sizes, Place, Refs}
 use Rattle.xp_words.proofs.RefLaws.{ref_read-write, ref_write-read}
-use Rattle.xp_board.specs.declared.holdings.Holdings.{Holdings}
 use Rattle.xp_board.specs.Readings.{owner_of, allocated_mark, ref_count}
-use Rattle.xp_board.specs.Hands.{hand, refs_to}
-use Rattle.xp_board.specs.Recorded.{CountsAgree}
 use Rattle.xp_board.specs.RefSteps.{one_down}
-use Rattle.xp_board.proofs.Sums.{hands-part}
 
 -- the word v has the owner and the mark of w
 pub record SameOwner (w v : ℕ) : Type 0 where
@@ -54,17 +49,3 @@ by_value w (Some (Owned o a c)) small was more = owned_keeps w o c a small was (
 
 pub one_less_keeps : (w : ℕ) → w < 2 ^ 64 → allocated_mark w + 1 ≤ ref_count w → SameOwner w ((w + one_down) % 2 ^ 64)
 one_less_keeps w small more = by_value w (ref_read w) small refl more
-
--- ---- a reference in hand is counted
-refs_in_hand : (f : ℕ) (u : Holdings) → refs_to f u.refs ≤ hand f u
-unfolding hand
-refs_in_hand f u = omega arith
-
--- an untyped reference in hand is one beside the allocated mark
-pub in_hand_counted : (z : Sizes) (m : Place → ℕ) (h : ℕ → Holdings) (s f : ℕ) → s < z.vcpus → CountsAgree z m h → 0 < refs_to f (h s).refs →
-    allocated_mark (m (Refs f)) + 1 ≤ ref_count (m (Refs f))
-in_hand_counted z m h s f b k r =
-    let all = k.refs f in
-    let mine = refs_in_hand f (h s) in
-    let part = hands-part (hand f) z h s b in
-    omega arith

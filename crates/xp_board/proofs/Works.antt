@@ -1,13 +1,13 @@
 -- Frames in the works of seats: who has them, and how many of their entries are recorded.
-use Rattle.std.proofs.Common.{Option, sym, ◌≡◌, ◌≢◌, ℕ, zero, suc, ◌<◌, ◌≤◌, true, false, List, Some, None, refl, ◌∙◌, ap, arith, inl, inr}
+use Rattle.std.proofs.Common.{Option, sym, ◌≡◌, ◌≢◌, ℕ, zero, suc, ◌<◌, ◌≤◌, true, false, List, Some, None, refl, ◌∙◌, ap, arith, inl, inr, ◌+◌}
 use Rattle.std.proofs.lemmas.Bool.{cases_eq}
 use Rattle.xp_words.specs.RefWords.{bit}
 use Rattle.xp_words.specs.Machine.{Machine}
-use Rattle.xp_words.specs.Places.{sizes_of, Place}
+use Rattle.xp_words.specs.Places.{sizes_of, Place, Refs}
 use Rattle.xp_board.specs.declared.holdings.Holdings.{Holdings}
 use Rattle.xp_board.specs.declared.holdings.Work.{Work}
-use Rattle.xp_board.specs.Readings.{kind_at, is_locked}
-use Rattle.xp_board.specs.Hands.{works_on, work_on, locks_on}
+use Rattle.xp_board.specs.Readings.{kind_at, is_locked, is_dying}
+use Rattle.xp_board.specs.Hands.{works_on, work_on, locks_on, endings_of, claims_of}
 use Rattle.xp_board.specs.Recorded.{recorded_number, or_else, recorded_in, work_of, held, held_of}
 use Rattle.xp_board.specs.Sound.{is_busy, HeldAlone}
 use Rattle.xp_board.proofs.ListCounts.{first_by-none, first_by-some}
@@ -112,6 +112,13 @@ module _ (n : Machine) (m : Place → ℕ) (h : ℕ → Holdings) (alone : HeldA
       let all = alone.locks f in
       let part = hands-part (λ u. locks_on f u.locks) (sizes_of n) h s b in
       some_bit (is_locked (kind_at m f)) (omega arith)
+
+  -- a frame that is ending or claimed in hand is dying
+  pub is_dying-mine : (f s : ℕ) → s < (sizes_of n).vcpus → 0 < endings_of f (h s).ending + claims_of f (h s).claimed → is_dying (m (Refs f)) ≡ true
+  is_dying-mine f s b mine =
+      let all = alone.dying f in
+      let part = hands-part (λ u. endings_of f u.ending + claims_of f u.claimed) (sizes_of n) h s b in
+      some_bit (is_dying (m (Refs f))) (omega arith)
 
   -- ---- how many entries are recorded
   pub held_free : (f : ℕ) → is_busy (kind_at m f) ≡ false → held (sizes_of n) m h f ≡ held_of (kind_at m f) None
