@@ -3,21 +3,17 @@ use Rattle.xp_board.specs.After.{noted, learned_cell}
 use Rattle.xp_board.specs.GuestSteps.{MayStore}
 use Rattle.count_rule.proofs.EntryMarks.{work_word}
 use Rattle.count_rule.proofs.Words.{is_dying-read, dying_says}
-use Rattle.xp_board.proofs.Sums.{some_bit, when_eq, when_ne, hands-part}
-use Rattle.std.proofs.Common.{◌≡◌, ◌≢◌, ℕ, ◌+◌, ◌*◌, ◌/◌, ◌%◌, ◌^◌, ◌<◌, ◌==◌, ◌&&◌, Bool, false, List, [], ◌∷◌, Option, Some, None, refl, sym, ◌∙◌, ap, subst, arith, IsTrue, inl, inr}
-use Rattle.std.proofs.lemmas.Bool.{cases_Bool, cases_eq, and_parts, or_cases}
+use Rattle.xp_board.proofs.Sums.{some_bit, hands-part}
+use Rattle.std.proofs.Common.{◌≡◌, ◌≢◌, ℕ, ◌+◌, ◌<◌, ◌==◌, ◌&&◌, Bool, false, List, [], ◌∷◌, Option, Some, None, refl, sym, ◌∙◌, ap, subst, arith, IsTrue, inl, inr}
+use Rattle.std.proofs.lemmas.Bool.{cases_eq, and_parts, or_cases}
 use Rattle.std.proofs.lemmas.Bool.Decides.{nat_tests}
 use Rattle.xp_words.specs.declared.kind.PageType.{PageType}
-use Rattle.xp_words.specs.declared.entry.Demand.{Demand}
-use Rattle.xp_words.specs.declared.entry.Demand.TheVariants.{Nothing, Bad, Read, Typed}
 use Rattle.xp_words.specs.Entries.{demand_at}
-use Rattle.xp_words.specs.PageTypes.{is_table, type_number, type_of}
+use Rattle.xp_words.specs.PageTypes.{is_table, type_number}
 use Rattle.xp_words.specs.Machine.{Machine}
 use Rattle.xp_words.specs.Places.{sizes_of, is_place, Place, Kind, Cell, Refs}
-use Rattle.xp_words.proofs.KindLaws.{type_back}
 use Rattle.xp_board.specs.declared.holdings.Holdings.{Holdings}
 use Rattle.xp_board.specs.declared.holdings.Seen.{Seen}
-use Rattle.xp_board.specs.declared.holdings.Walk.{Walk}
 use Rattle.xp_board.specs.declared.holdings.Claimed.{Claimed}
 use Rattle.xp_board.specs.declared.holdings.Work.{Work}
 use Rattle.xp_board.specs.declared.step.Item.{Item}
@@ -27,8 +23,7 @@ use Rattle.xp_board.specs.Readings.{kind_at, is_dying}
 use Rattle.xp_board.specs.Steps.{last_since}
 use Rattle.xp_board.specs.Hands.{claim_of, work_on, endings_of, claims_of}
 use Rattle.xp_board.specs.Recorded.{held, HasType}
-use Rattle.xp_board.specs.CellSteps.{is_same_demand, is_same_as_seen, AllowsPlain}
-use Rattle.xp_board.specs.FillSteps.{with_bit, sets_dirty, touched}
+use Rattle.xp_board.specs.CellSteps.{is_same_as_seen, AllowsPlain}
 use Rattle.xp_board.specs.Found.{LockFound, is_same_entry}
 use Rattle.xp_board.specs.WellFormed.{IsLockFormed}
 use Rattle.xp_board.specs.Reach.{Writes, Reach, cached, use_of}
@@ -39,37 +34,12 @@ use Rattle.xp_board.proofs.ListCounts.{EachOf-found}
 use Rattle.xp_board.proofs.HandLists.{first-some}
 use Rattle.count_rule.proofs.Learning.{kept_noted, kept_cell, same_hand}
 use Rattle.count_rule.proofs.SpelledLaw.{wrote_spelled}
-use Rattle.count_rule.proofs.Demands.{demand_at-entry}
+use Rattle.xp_board.proofs.EntryWords.{entry_asks_same, same_demand, touched_same}
 use Rattle.count_rule.proofs.WalkHands.{same_descended, cold_descended}
 use Rattle.count_rule.proofs.KindSpelled.{form_was}
 use Rattle.count_rule.proofs.Recordless.{marked_none, no_table_none, unreferenced_none}
 use Rattle.count_rule.proofs.CellLaw.{cell_outcome}
 use Rattle.count_rule.proofs.Outcome.{Outcome}
-
--- ---- equal demands
-type_same : (t u : PageType) → type_number t ≡ type_number u → t ≡ u
-type_same t u e = sym (type_back t) ∙ ap type_of e ∙ type_back u
-
-demand_same : (d e : Demand) → IsTrue (is_same_demand d e) → d ≡ e
-demand_same Nothing Nothing k = refl
-demand_same (Read f) (Read g) k = let e : f ≡ g = grind (arith, nat_tests) in ap Read e
-demand_same (Typed f t) (Typed g u) k =
-    let e : f ≡ g = grind (arith, nat_tests) in
-    let i : type_number t ≡ type_number u = grind (arith, nat_tests) in
-    ap (λ y. Typed y t) e ∙ ap (Typed g) (type_same t u i)
-demand_same Nothing Bad k = absurd (cc)
-demand_same Nothing (Read g) k = absurd (cc)
-demand_same Nothing (Typed g u) k = absurd (cc)
-demand_same Bad Nothing k = absurd (cc)
-demand_same Bad Bad k = absurd (cc)
-demand_same Bad (Read g) k = absurd (cc)
-demand_same Bad (Typed g u) k = absurd (cc)
-demand_same (Read f) Nothing k = absurd (cc)
-demand_same (Read f) Bad k = absurd (cc)
-demand_same (Read f) (Typed g u) k = absurd (cc)
-demand_same (Typed f t) Nothing k = absurd (cc)
-demand_same (Typed f t) Bad k = absurd (cc)
-demand_same (Typed f t) (Read g) k = absurd (cc)
 
 -- what was noted of a cell asks the same as the new word
 record SeenAs (kind : PageType) (i new : ℕ) (seen : Option Seen) : Type 0 where
@@ -88,44 +58,9 @@ seen_as kind i new (Some x) k =
           record {
             word = x.word;
             here = ap (λ y. Some (record { index = y; word = x.word })) at;
-            same = demand_same (demand_at kind i x.word) (demand_at kind i new) (grind (arith, nat_tests));
+            same = same_demand (demand_at kind i x.word) (demand_at kind i new) (grind (arith, nat_tests));
           }
       | inr off ↦ absurd (not_there kind i new x off k)
-    ]
-
--- ---- accessed and dirty bits
-same_by : (v w : ℕ) → v / 128 ≡ w / 128 → v % 32 ≡ w % 32 → IsTrue (is_same_entry v w)
-same_by v w a b =
-    let e : v / 128 * 128 + v % 32 ≡ w / 128 * 128 + w % 32 = omega arith in
-    when_eq (v / 128 * 128 + v % 32) (w / 128 * 128 + w % 32) e
-
-same_parts : (v w : ℕ) → IsTrue (is_same_entry v w) → (v / 128 ≡ w / 128) × (v % 32 ≡ w % 32)
-same_parts v w e =
-    let k : v / 128 * 128 + v % 32 ≡ w / 128 * 128 + w % 32 = grind (arith, nat_tests) in
-    (omega arith, omega arith)
-
-bit_five : (w : ℕ) → IsTrue (is_same_entry (with_bit 5 w) w)
-bit_five w =
-    elim (cases_eq (w / 2 ^ 5 % 2) 1) [
-      | inl on ↦ rw (when_eq (w / 2 ^ 5 % 2) 1 on) (same_by w w refl refl)
-      | inr off ↦ let o : w / 2 ^ 5 % 2 ≢ 1 = off in rw (when_ne (w / 2 ^ 5 % 2) 1 off) (same_by (w + 2 ^ 5) w (omega arith) (omega arith))
-    ]
-
-bit_six : (w : ℕ) → IsTrue (is_same_entry (with_bit 6 w) w)
-bit_six w =
-    elim (cases_eq (w / 2 ^ 6 % 2) 1) [
-      | inl on ↦ rw (when_eq (w / 2 ^ 6 % 2) 1 on) (same_by w w refl refl)
-      | inr off ↦ let o : w / 2 ^ 6 % 2 ≢ 1 = off in rw (when_ne (w / 2 ^ 6 % 2) 1 off) (same_by (w + 2 ^ 6) w (omega arith) (omega arith))
-    ]
-
-touched_same : (walk : Walk) (w : ℕ) → IsTrue (is_same_entry (touched walk w) w)
-touched_same walk w =
-    elim (cases_Bool (sets_dirty walk)) [
-      | inl on ↦
-          let a = same_parts (with_bit 5 w) w (bit_five w) in
-          let d = same_parts (with_bit 6 (with_bit 5 w)) (with_bit 5 w) (bit_six (with_bit 5 w)) in
-          rw on (same_by (with_bit 6 (with_bit 5 w)) w (d.0 ∙ a.0) (d.1 ∙ a.1))
-      | inr off ↦ rw off (bit_five w)
     ]
 
 -- ---- the item that the guest stores through
@@ -151,7 +86,7 @@ module _ (n : Machine) (s : ℕ) (x : Step) (m m2 : Place → ℕ) (b c : ℕ �
       let seen = seen_as e.kind i (m2 (Cell f i)) e.seen d.same in
       let noted : last_since (sizes_of n) e.since (Cell e.frame i) (b s).steps ≡ Some seen.word = rw seen.here at formed.1.seen in
       let cell = found.1 i seen.word noted in
-      let stands = demand_at-entry e.kind i (m (Cell e.frame i)) seen.word cell in
+      let stands = entry_asks_same e.kind i (m (Cell e.frame i)) seen.word cell in
       let kind : (kind_at m f).kind ≡ e.kind = ap (λ y. (kind_at m y).kind) (sym found.0) ∙ typed.1 in
       let same : demand_at (kind_at m f).kind i (m2 (Cell f i)) ≡ demand_at (kind_at m f).kind i (m (Cell f i)) =
       ap (λ y. demand_at y i (m2 (Cell f i))) kind ∙ sym seen.same ∙ sym stands ∙ ap (λ y. demand_at e.kind i (m (Cell y i))) found.0 ∙ ap (λ y. demand_at y i (m (Cell f i))) (sym kind)
@@ -163,9 +98,9 @@ module _ (n : Machine) (s : ℕ) (x : Step) (m m2 : Place → ℕ) (b c : ℕ �
 
   pub touched_outcome : Touched n x f i m m2 (b s) (c s) → Outcome n m2 c
   touched_outcome d =
-      let same = subst (λ y. IsTrue (is_same_entry y (m (Cell f i)))) (sym d.may.left) (touched_same d.walk (m (Cell f i))) in
+      let same = subst (λ y. IsTrue (is_same_entry (m (Cell f i)) y)) (sym d.may.left) (touched_same d.walk (m (Cell f i))) in
       let still = (cold_descended n d.walk (m2 (Cell f i)) (b s)).cold in
-      cell_outcome n s m m2 b c seat others sound f i d.wrote.others (λ l. demand_at-entry (kind_at m f).kind i (m2 (Cell f i)) (m (Cell f i)) same)
+      cell_outcome n s m m2 b c seat others sound f i d.wrote.others (λ l. sym (entry_asks_same (kind_at m f).kind i (m (Cell f i)) (m2 (Cell f i)) same))
       (kept_noted x (m (Cell f i)) (b s) _ (c s) d.hand (kept_cell f i (m2 (Cell f i)) (b s) _ (same_descended n d.walk (m2 (Cell f i)) (b s)))) (d.wrote.running refl)
       (ap (λ u. u.cold) d.hand ∙ still)
       (λ k e. let none = (sound.idle s seat).cold_walk k in let flying = d.may.flying in absurd (cc)) (λ k e. let flying = d.may.flying in absurd (cc))

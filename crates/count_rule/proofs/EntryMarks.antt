@@ -29,7 +29,7 @@ use Rattle.count_rule.proofs.CountLaw.{counts_law, each_seat}
 use Rattle.count_rule.proofs.PartLaws.{alone_law, map_law, works_law, idle_fewer}
 use Rattle.count_rule.proofs.Quiet.{held_still, is_closing_at, works_spared}
 use Rattle.xp_board.proofs.Counted.{table_inside}
-use Rattle.count_rule.proofs.Demands.{demand_at-entry}
+use Rattle.xp_board.proofs.EntryWords.{entry_asks_same}
 use Rattle.count_rule.proofs.Outcome.{Outcome}
 
 known_inside : (k : KindWord) → IsTrue (is_table k.kind) → k.unflushed ≡ false → IsTrue (is_known_inside k)
@@ -73,7 +73,7 @@ module _ (n : Machine) (s : ℕ) (m : Place → ℕ) (h : ℕ → Holdings) (sea
       let noted : last_since (sizes_of n) e.unmarked (Cell e.frame i) (h s).steps ≡ Some w = rw k at work_formed.1.seen in
       let cell = work_found.1.cells (known_inside (kind_fields e.word) t (seen_unmarked _ k)) i w noted in
       let same = table_cell (kind_fields e.word).kind (m (Cell e.frame i)) w t cell in
-      ap (λ y. demand_at y.kind i (m (Cell f i))) work_word ∙ ap (λ g. demand_at (kind_fields e.word).kind i (m (Cell g i))) (sym work_found.0) ∙ demand_at-entry (kind_fields e.word).kind i (m (Cell e.frame i)) w same
+      ap (λ y. demand_at y.kind i (m (Cell f i))) work_word ∙ ap (λ g. demand_at (kind_fields e.word).kind i (m (Cell g i))) (sym work_found.0) ∙ entry_asks_same (kind_fields e.word).kind i (m (Cell e.frame i)) w same
 
 -- ---- one entry more, or one less
 module _ (n : Machine) (s : ℕ) (m : Place → ℕ) (h b : ℕ → Holdings) (seat : s < (sizes_of n).vcpus) (others : (t : ℕ) → t ≢ s → b t ≡ h t) (sound : Sound n m h) (f : ℕ) (e : Work) (here : work_on f (h s).works ≡ Some e) (change : Work → Work) where

@@ -1,25 +1,14 @@
 -- What a kind word says, by its form.
-use Rattle.std.proofs.Common.{◌≡◌, ℕ, ◌<◌, ◌==◌, if◌then◌else◌, Bool, true, false, Option, Some, None, refl, ◌∙◌, ap, arith, IsTrue}
+use Rattle.std.proofs.Common.{◌≡◌, ℕ, ◌<◌, ◌==◌, if◌then◌else◌, Bool, true, false, Some, None, refl, arith, IsTrue}
 use Rattle.std.proofs.lemmas.Bool.{and_parts}
 use Rattle.std.proofs.lemmas.Bool.Decides.{nat_tests}
 use Rattle.xp_words.specs.declared.kind.KindWord.{KindWord}
-use Rattle.xp_words.specs.KindWords.{kind_read, kind_fields, has_form}
+use Rattle.xp_words.specs.KindWords.{has_form}
 use Rattle.xp_words.specs.PageTypes.{is_table}
 use Rattle.xp_words.specs.RefWords.{bit}
-use Rattle.xp_words.specs.Machine.{Machine}
 use Rattle.xp_board.specs.Readings.{type_count, is_live, is_partial, is_work, is_dead, is_closing, is_locked}
 use Rattle.xp_board.specs.Recorded.{marks, held_of}
-use Rattle.xp_board.specs.Spelling.{is_kind_in}
 use Rattle.xp_board.specs.Sound.{is_busy}
-use Rattle.xp_board.proofs.KindForms.{form_read}
-use Rattle.xp_board.proofs.FrameInversions.{fields_of}
-
-form_of_read : (n : Machine) (w : ℕ) (o : Option KindWord) → kind_read w ≡ o → IsTrue (is_kind_in n o) → has_form (kind_fields w) ≡ true
-form_of_read n w (Some k) e t = ap has_form (fields_of w k e) ∙ form_read w k e
-form_of_read n w None e t = absurd (cc)
-
-pub spelled_form : (n : Machine) (w : ℕ) → IsTrue (is_kind_in n (kind_read w)) → has_form (kind_fields w) ≡ true
-spelled_form n w t = form_of_read n w (kind_read w) refl t
 
 -- its type count, its marks, and whether the frame is in one hand alone
 pub record Says (k : KindWord) (count mark busy lock : ℕ) : Type 0 where

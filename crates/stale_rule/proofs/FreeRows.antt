@@ -10,7 +10,7 @@ use Rattle.xp_board.specs.declared.step.Step.{Step}
 use Rattle.xp_board.specs.declared.holdings.Ending.{Ending}
 use Rattle.xp_board.specs.declared.holdings.Claimed.{Claimed}
 use Rattle.xp_board.specs.declared.holdings.Holdings.{Holdings}
-use Rattle.xp_board.specs.Lists.{one_at, times_by}
+use Rattle.xp_board.specs.Lists.{times_by}
 use Rattle.xp_board.specs.Hands.{ending_of, claim_of, claims_of}
 use Rattle.xp_board.specs.RefSteps.{IsFreeStamp, claimed_frame, freed, given}
 use Rattle.xp_board.specs.Readings.{is_free, free_stamp, owner_of, told_value}
@@ -23,6 +23,7 @@ use Rattle.xp_board.proofs.HandLists.{EachOf-without, EachOf-first, first-key, f
 use Rattle.stale_rule.proofs.Like.{HandLike, parts_like}
 use Rattle.stale_rule.proofs.Past.{since_each, past_gone, gone_unreached}
 use Rattle.stale_rule.proofs.RefRows.{ref_law}
+use Rattle.xp_board.proofs.Sums.{one_at-other}
 
 -- ---- free words
 free_word : (w stamp : ℕ) → w < 2 ^ 64 → ref_read w ≡ Some (Free stamp) → w ≡ stamp
@@ -42,12 +43,9 @@ freed_like : (n : Machine) (s f : ℕ) (a : Holdings) → HandLike a (freed n s 
 freed_like n s f a =
     record { steps = refl; works = λ P new e. e; ending = λ P new e. EachOf-without (λ x. P x.frame x.since) (λ x. x.frame) f a.ending e }
 
-one_other : (g f : ℕ) → g ≢ f → one_at g f ≡ 0
-one_other g f off = grind (arith, nat_tests)
-
 claimed_other : (n : Machine) (s f w g : ℕ) (a : Holdings) → g ≢ f → claims_of g a.claimed ≡ 0 → claims_of g (claimed_frame n s f w a).claimed ≡ 0
 unfolding times_by
-claimed_other n s f w g a off none = let o = one_other g f off in omega arith
+claimed_other n s f w g a off none = let o = one_at-other g f off in omega arith
 
 unclaimed_more : (g f : ℕ) (a : Holdings) → claims_of g a.claimed ≡ 0 → claims_of g (given f a).claimed ≡ 0
 unclaimed_more g f a none = let less = times-without (λ x. x.frame) g f a.claimed in omega arith

@@ -4,7 +4,7 @@ use Rattle.std.proofs.lemmas.Bool.Decides.{nat_tests}
 use Rattle.xp_words.specs.declared.kind.KindWord.{KindWord}
 use Rattle.xp_words.specs.KindWords.{kind_fields, kind_read}
 use Rattle.xp_words.specs.Machine.{Machine}
-use Rattle.xp_words.specs.Places.{sizes_of, is_place, Place, Clock, Vcpu, Kind}
+use Rattle.xp_words.specs.Places.{sizes_of, Place, Clock, Vcpu, Kind}
 use Rattle.xp_board.specs.declared.step.Step.{Step}
 use Rattle.xp_board.specs.declared.holdings.Work.{Work}
 use Rattle.xp_board.specs.declared.holdings.Holdings.{Holdings}
@@ -19,7 +19,7 @@ use Rattle.xp_board.specs.Keeping.{Acted}
 use Rattle.xp_board.specs.Sound.{Sound}
 use Rattle.xp_board.proofs.ActEffects.{Stored}
 use Rattle.stale_rule.proofs.Bearing.{bears_read, bears_same, bears_dead, matches_same, read_unmarked}
-use Rattle.stale_rule.proofs.Items.{marked_unlive}
+use Rattle.xp_board.proofs.KindForms.{marked_unlive}
 use Rattle.stale_rule.proofs.KindHands.{form_stays}
 use Rattle.stale_rule.proofs.KindRows.{kind_law}
 use Rattle.xp_board.proofs.HandLists.{EachOf-first, first-key}
@@ -62,7 +62,7 @@ module _ (n : Machine) (s : ℕ) (m : Place → ℕ) (b : ℕ → Holdings) (rea
       let found = EachOf-first _ (λ y. y.frame) f e (b s).works (sound.found s real).works here in
       let mark : (kind_fields e.word).unflushed ≡ true = subst (λ k. k.unflushed ≡ true) its_word marked in
       let dead : (kind_fields e.word).validated ≡ false =
-      subst (λ k. k.validated ≡ false) its_word (marked_unlive n m f (is_place (sizes_of n) (Kind f)) sound.spelled refl marked) in
+      subst (λ k. k.validated ≡ false) its_word (marked_unlive n m f sound.spelled marked) in
       elim (past v live) [
         | inl flushed ↦
             let gone = past_gone n m b sound s v e.since (kind_fields e.word).number (Kind e.frame) (λ w. w == e.word) real live

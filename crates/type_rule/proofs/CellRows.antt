@@ -9,7 +9,7 @@ use Rattle.xp_words.specs.PageTypes.{is_table, type_number}
 use Rattle.xp_words.specs.Entries.{demand_at, fixed}
 use Rattle.xp_words.specs.KindWords.{kind_read, kind_fields}
 use Rattle.xp_words.specs.Machine.{Machine}
-use Rattle.xp_words.specs.Places.{Sizes, Place, Refs, Kind, Cell, sizes_of, is_place}
+use Rattle.xp_words.specs.Places.{Sizes, Place, Refs, Kind, Cell, sizes_of}
 use Rattle.xp_board.specs.declared.step.Step.{Step}
 use Rattle.xp_board.specs.declared.holdings.Seen.{Seen}
 use Rattle.xp_board.specs.declared.holdings.Made.{Made}
@@ -29,7 +29,7 @@ use Rattle.xp_board.specs.After.{is_fixed}
 use Rattle.xp_board.specs.Recorded.{HasType, held}
 use Rattle.xp_board.specs.Valid.{Valid, Permitted}
 use Rattle.xp_board.specs.Sound.{Sound}
-use Rattle.xp_board.proofs.KindForms.{live_form}
+use Rattle.xp_board.proofs.KindForms.{live_unmarked}
 use Rattle.xp_board.proofs.EntryWords.{entry_asks_same, same_demand}
 use Rattle.xp_board.proofs.ActEffects.{Rewrote, Filled}
 use Rattle.xp_board.proofs.ListCounts.{EachOf-found}
@@ -84,14 +84,6 @@ seen_same t i new (Some y) e =
 seen_is : (z : Sizes) (n f : ℕ) (xs : List Made) (o : Option Seen) (i w : ℕ) → SeenIs z n f xs o → o ≡ Some (record { index = i; word = w }) → last_since z n (Cell f i) xs ≡ Some w
 seen_is z n f xs o i w k at = rw at at k
 
--- ---- forms
-unmarked_live : (w : ℕ) (n : Machine) (f : ℕ) {m : Place → ℕ} {b : ℕ → Holdings} → Sound n m b → IsTrue (is_live (kind_at m f)) → (kind_at m f).unflushed ≡ false
-unmarked_live w n f {m} {b} sound live =
-    elim (cases_Bool (is_place (sizes_of n) (Kind f))) [
-      | inl there ↦ (let k = read_of n f (m (Kind f)) (sound.spelled.spelled (Kind f) there) in (live_form (m (Kind f)) (kind_at m f) k live).flushed)
-      | inr out ↦ (let z : m (Kind f) ≡ 0 = sound.spelled.outside (Kind f) out in rw z zero_flushed)
-    ]
-
 live_closing : (k : KindWord) → IsTrue (is_live k) → type_count k ≡ 0 → is_closing k ≡ false → ⊥
 unfolding type_count
 live_closing k live none closed = let v : k.number ≡ 0 = (let q = rw live at none in q) in let t : is_closing k ≡ true = rw (live, v) refl in cc
@@ -106,7 +98,7 @@ module _ (n : Machine) (s : ℕ) (x : Step) (m m2 : Place → ℕ) (b c : ℕ �
     (others : (t : ℕ) → t ≢ s → c t ≡ b t) where
   -- a marked frame that is spelled is not live
   pub live_flushed : (f : ℕ) → IsTrue (is_live (kind_at m f)) → (kind_at m f).unflushed ≡ false
-  live_flushed f live = unmarked_live (m (Kind f)) n f sound live
+  live_flushed f live = live_unmarked n m f sound.spelled live
 
   -- ---- a table under the own lock
   pub lock_type : (f : ℕ) (e : Lock) → lock_on f (b s).locks ≡ Some e → (kind_at m f).kind ≡ e.kind

@@ -20,7 +20,7 @@ use Rattle.xp_board.specs.Valid.{Valid, Permitted}
 use Rattle.xp_board.specs.Sound.{Sound, is_busy}
 use Rattle.xp_board.proofs.KindForms.{live_form}
 use Rattle.xp_board.proofs.ActEffects.{Turned}
-use Rattle.type_rule.proofs.StepFacts.{since_within}
+use Rattle.xp_board.proofs.StepLists.{since_within}
 use Rattle.type_rule.proofs.HandParts.{two_row}
 use Rattle.type_rule.proofs.Works.{WorkKeptIn, works_kept}
 use Rattle.xp_board.proofs.ListCounts.{first_by-cons_here, first_by-cons_other}

@@ -1,4 +1,3 @@
-mod StepFacts
 mod DomainLaw
 mod DomainWords
 mod Counted

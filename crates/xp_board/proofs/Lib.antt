@@ -6,6 +6,9 @@ pub mod ListCounts
 pub mod ListChanges
 pub mod Works
 pub mod Counted
+pub mod StepLists
+pub mod SafeItems
+pub mod Empty
 pub mod KindForms
 pub mod Bits
 pub mod EntryWords
@@ -17,7 +20,6 @@ pub mod FrameInversions
 pub mod ActInversions
 mod CellInversions
 pub mod MarkEffects
-mod Empty
 mod EntryPicture
 mod FlushPicture
 mod KeptPicture
@@ -25,5 +27,4 @@ mod Picture
 mod ProcessorPicture
 mod ReleasePicture
 pub mod Rows
-mod SafeItems
 mod WalkPicture
