@@ -2,7 +2,7 @@
 use Rattle.xp_board.specs.After.{noted, learned_cell}
 use Rattle.xp_board.specs.GuestSteps.{MayStore}
 use Rattle.count_rule.proofs.EntryMarks.{work_word}
-use Rattle.count_rule.proofs.Words.{is_dying-read, dying_says}
+use Rattle.xp_board.proofs.RefWords.{is_dying-read, dying_says}
 use Rattle.xp_board.proofs.Sums.{some_bit, hands-part}
 use Rattle.std.proofs.Common.{◌≡◌, ◌≢◌, ℕ, ◌+◌, ◌<◌, ◌==◌, ◌&&◌, Bool, false, List, [], ◌∷◌, Option, Some, None, refl, sym, ◌∙◌, ap, subst, arith, IsTrue, inl, inr}
 use Rattle.std.proofs.lemmas.Bool.{cases_eq, and_parts, or_cases}
@@ -36,8 +36,8 @@ use Rattle.count_rule.proofs.Learning.{kept_noted, kept_cell, same_hand}
 use Rattle.count_rule.proofs.SpelledLaw.{wrote_spelled}
 use Rattle.xp_board.proofs.EntryWords.{entry_asks_same, same_demand, touched_same}
 use Rattle.count_rule.proofs.WalkHands.{same_descended, cold_descended}
-use Rattle.count_rule.proofs.KindSpelled.{form_was}
-use Rattle.count_rule.proofs.Recordless.{marked_none, no_table_none, unreferenced_none}
+use Rattle.xp_board.proofs.Recordless.{marked_none, unreferenced_none}
+use Rattle.xp_board.proofs.HeldByForm.{no_table}
 use Rattle.count_rule.proofs.CellLaw.{cell_outcome}
 use Rattle.count_rule.proofs.Outcome.{Outcome}
 
@@ -126,8 +126,8 @@ module _ (n : Machine) (s : ℕ) (x : Step) (m m2 : Place → ℕ) (b c : ℕ �
       let reach = subst (λ y. Reach (sizes_of n) m (b s) y Writes) frame (subst (λ y. Reach (sizes_of n) m (b s) item.0.frame y) purpose (cached item.0 item.1)) in
       let fresh = sound.fresh.each s seat f Writes reach in
       elim (fresh.bears.typed (λ e. cc)) [
-        | inl typed ↦ no_table_none n s m b seat sound f (not_seven (kind_at m f).kind typed.1)
-        | inr marked ↦ marked_none n s m b seat sound f (form_was n s m m2 b seat sound f (kind_real real)) marked.0
+        | inl typed ↦ no_table (kind_at m f) _ (not_seven (kind_at m f).kind typed.1)
+        | inr marked ↦ marked_none n m b f sound marked.0
       ]
 
   pub guest_outcome : GuestStored n x f i m m2 (b s) (c s) → Outcome n m2 c
@@ -143,15 +143,15 @@ module _ (n : Machine) (s : ℕ) (x : Step) (m m2 : Place → ℕ) (b c : ℕ �
       let part = hands-part (λ u. endings_of f u.ending + claims_of f u.claimed) (sizes_of n) b s seat in
       let dying = some_bit (is_dying (m (Refs f))) (omega arith) in
       let r = is_dying-read (m (Refs f)) dying in
-      unreferenced_none n s m b seat sound f (dying_says (m (Refs f)) r.0 r.1).counts
+      unreferenced_none n m b f sound (dying_says (m (Refs f)) r.0 r.1).counts
 
   filled_none : (k : Option Claimed) (w : Option Work) → claim_of f (b s).claimed ≡ k → work_on f (b s).works ≡ w → AllowsPlain n f i (m2 (Cell f i)) (b s) k w → held (sizes_of n) m b f ≡ 0
   filled_none (Some e) w at on allows = claimed_none e at
   filled_none None (Some e) at on allows =
-      no_table_none n s m b seat sound f (ap (λ y. is_table y.kind) (work_word n s m b seat sound f e on) ∙ ap is_table allows.kind)
+      no_table (kind_at m f) _ (ap (λ y. is_table y.kind) (work_word n s m b seat sound f e on) ∙ ap is_table allows.kind)
   filled_none None None at on allows =
       let kind = ((sound.found s seat).lives f allows.kind allows.live).1 in
-      no_table_none n s m b seat sound f
+      no_table (kind_at m f) _
       (elim allows.ordinary [
         | inl writable ↦ ap is_table (kind ∙ writable)
         | inr desc ↦ ap is_table (kind ∙ desc.0)

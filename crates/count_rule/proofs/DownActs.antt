@@ -29,12 +29,12 @@ use Rattle.xp_board.proofs.Sums.{when_eq, when_ne, no_bit}
 use Rattle.xp_board.proofs.ListCounts.{first_by-cons_here}
 use Rattle.xp_board.proofs.Works.{nobody_works, held_free, held_mine}
 use Rattle.count_rule.proofs.ListMoves.{cons_other, out_other, cons_here, out_here, recorded_cons}
-use Rattle.count_rule.proofs.KindForms.{Says, live_says, closing_says, held_live, held_work}
+use Rattle.count_rule.proofs.KindForms.{Says, live_says, closing_says}
+use Rattle.xp_board.proofs.HeldByForm.{held_live, held_work, held_same}
 use Rattle.xp_board.proofs.KindForms.{spelled_form}
 use Rattle.count_rule.proofs.KindSpelled.{form_was, drop_live, drop_some, drop_fields, lock_live, lock_on_word, lock_some, unlock_fields, kind_spelled}
 use Rattle.count_rule.proofs.KindActs.{stamp_live, Elsewhere, beside, rest_by, turn_outcome, free_outcome}
 use Rattle.count_rule.proofs.KindWorks.{works_in}
-use Rattle.count_rule.proofs.TurnActs.{held_same}
 use Rattle.count_rule.proofs.Outcome.{Outcome}
 use Rattle.xp_board.proofs.HandLists.{EachOf-without}
 

@@ -37,7 +37,7 @@ use Rattle.count_rule.proofs.PartLaws.{stamped_by, idle_running}
 use Rattle.count_rule.proofs.Learning.{works_learnt, locks_learnt, claims_learnt}
 use Rattle.count_rule.proofs.Quiet.{hand_is, typed_hand_is, held_still, locks_times}
 use Rattle.count_rule.proofs.Demands.{IsInHand, Spares, out_hand, out_typed, in_hand, in_typed, Aside, out_aside, in_aside, out_types, in_types, out_spares, in_more, has_demand, demand_type}
-use Rattle.count_rule.proofs.KindForms.{held_live}
+use Rattle.xp_board.proofs.HeldByForm.{held_live}
 use Rattle.count_rule.proofs.KindSpelled.{form_was}
 use Rattle.count_rule.proofs.SpelledLaw.{wrote_spelled}
 use Rattle.count_rule.proofs.Outcome.{Outcome, runs}

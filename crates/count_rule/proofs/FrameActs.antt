@@ -21,7 +21,7 @@ use Rattle.xp_board.proofs.ActEffects.{Took, Freed, Gave}
 use Rattle.xp_board.proofs.Sums.{when_eq, when_ne, one_at-same, hands-part, bit_most, some_bit}
 use Rattle.xp_board.proofs.ListCounts.{first_by-absent, EachOf-found, first_by-some, times_by-without_one, times_by-cons, times_by-without, times_by-cons_here, times_by-cons_other, times_by-without_other}
 use Rattle.xp_board.proofs.HandLists.{first-some}
-use Rattle.count_rule.proofs.Words.{owned_says, free_says, dying_says, is_dying-read, dying_owner}
+use Rattle.xp_board.proofs.RefWords.{owned_says, free_says, dying_says, is_dying-read, dying_owner}
 use Rattle.count_rule.proofs.Told.{clock_told}
 use Rattle.count_rule.proofs.Outcome.{Outcome}
 use Rattle.count_rule.proofs.RefLaw.{ref_outcome}

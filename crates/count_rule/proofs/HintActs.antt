@@ -21,7 +21,7 @@ use Rattle.xp_board.specs.Sound.{Spelled, Sound, is_hinted}
 use Rattle.xp_board.proofs.ActEffects.{Wrote, Hinted}
 use Rattle.xp_board.proofs.Sums.{hands-only, one_at-same, hands-part, hands-two, bit_most, some_bit}
 use Rattle.xp_board.proofs.ListCounts.{times_by-cons_here, times_by-cons_other, times_by-without, times_by-without_other}
-use Rattle.count_rule.proofs.Words.{is_dying-read, dying_says}
+use Rattle.xp_board.proofs.RefWords.{is_dying-read, dying_says}
 use Rattle.count_rule.proofs.Bits.{set_small, set_here, set_other, has_bit, cleared_bit}
 use Rattle.count_rule.proofs.Learning.{Stays, works_kept, locks_kept, claims_kept}
 use Rattle.count_rule.proofs.PartLaws.{stamped_by, idle_running}

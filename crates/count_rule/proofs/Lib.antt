@@ -1,7 +1,6 @@
 mod CountLaw
 mod PartLaws
 mod Twins
-mod Words
 mod Learning
 mod Spellings
 mod SpelledLaw
@@ -31,7 +30,6 @@ mod StoreForms
 mod StoreActs
 mod PartialActs
 mod CellLaw
-mod Recordless
 mod CellActs
 mod HandLaw
 mod NameActs

@@ -24,12 +24,14 @@ use Rattle.xp_board.proofs.HandLists.{first-some, times-changed, EachOf-without}
 use Rattle.xp_board.proofs.ListChanges.{first_by-changed_here, EachOf-changed_into}
 use Rattle.xp_board.proofs.Works.{one_works, is_busy-mine, held_free, held_mine}
 use Rattle.count_rule.proofs.ListMoves.{cons_other, out_other, swap_other, cons_here, out_here, swap_here, recorded_out, recorded_changed}
-use Rattle.count_rule.proofs.KindForms.{Says, live_says, closing_says, work_says, dead_says, held_live, held_dead, held_work}
+use Rattle.count_rule.proofs.KindForms.{Says, live_says, closing_says, work_says, dead_says}
+use Rattle.xp_board.proofs.HeldByForm.{held_live, held_dead, held_work, same_zero}
 use Rattle.count_rule.proofs.KindSpelled.{form_was}
 use Rattle.count_rule.proofs.KindActs.{stamp_live, stamp_of, Beside, beside, rest_by, turn_outcome, keeps_kind}
 use Rattle.count_rule.proofs.KindWorks.{works_out}
-use Rattle.count_rule.proofs.WorkActs.{not_closing, not_live, same_zero}
-use Rattle.count_rule.proofs.StoreForms.{form_live, form_work, form_dead, busy_forms, closing_alone, work_unlive, same_if}
+use Rattle.count_rule.proofs.WorkActs.{not_closing, not_live}
+use Rattle.count_rule.proofs.StoreForms.{busy_forms, closing_alone, work_unlive, same_if}
+use Rattle.xp_board.proofs.FormsLeft.{form_live, form_work, form_dead}
 use Rattle.count_rule.proofs.Told.{clock_told}
 use Rattle.count_rule.proofs.EntryMarks.{work_word}
 use Rattle.count_rule.proofs.Outcome.{Outcome}

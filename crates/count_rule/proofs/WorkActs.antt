@@ -22,7 +22,8 @@ use Rattle.xp_board.proofs.ActEffects.{Turned}
 use Rattle.xp_board.proofs.ListCounts.{first_by-cons_here}
 use Rattle.xp_board.proofs.Works.{nobody_works, held_free, held_mine}
 use Rattle.count_rule.proofs.ListMoves.{cons_other, out_other, cons_here, out_here, maybe_other, maybe_here, recorded_cons}
-use Rattle.count_rule.proofs.KindForms.{partial_says, work_says, dead_says, held_partial, held_dead, held_work}
+use Rattle.count_rule.proofs.KindForms.{partial_says, work_says, dead_says}
+use Rattle.xp_board.proofs.HeldByForm.{held_partial, held_dead, held_work, same_zero}
 use Rattle.count_rule.proofs.KindActs.{stamp_number, stamp_of, beside, rest_by, turn_outcome, keeps_kind}
 use Rattle.count_rule.proofs.KindWorks.{works_in}
 use Rattle.count_rule.proofs.TurnActs.{turned_hand, left_says, stamp_kept}
@@ -46,10 +47,6 @@ resumed_work k partial = grind (arith, nat_tests)
 fewer : (t : Bool) (x : ℕ) → (if t then x else 0) ≤ x
 fewer true x = omega arith
 fewer false x = omega arith
-
-pub same_zero : (t : Bool) → ◌≡◌ {A = ℕ} (if t then 0 else 0) 0
-same_zero true = refl
-same_zero false = refl
 
 maybe_types : (m : Place → ℕ) (t : Bool) (x : TypedReference) (xs : List TypedReference) → HasType m x.frame x.kind → EachOf (λ e. HasType m e.frame e.kind) xs →
     EachOf (λ e. HasType m e.frame e.kind) (if t then (x ∷ xs) else xs)

@@ -13,7 +13,7 @@ use Rattle.xp_board.specs.declared.holdings.Holdings.{Holdings}
 use Rattle.xp_board.specs.Lists.{times_by}
 use Rattle.xp_board.specs.Hands.{ending_of, claim_of, claims_of}
 use Rattle.xp_board.specs.RefSteps.{IsFreeStamp, claimed_frame, freed, given}
-use Rattle.xp_board.specs.Readings.{is_free, free_stamp, owner_of, told_value}
+use Rattle.xp_board.specs.Readings.{free_stamp, told_value}
 use Rattle.xp_board.specs.Reach.{Use, Reach}
 use Rattle.xp_board.specs.Fresh.{FreshAt, Fresh}
 use Rattle.xp_board.specs.Keeping.{Acted}
@@ -24,15 +24,12 @@ use Rattle.stale_rule.proofs.Like.{HandLike, parts_like}
 use Rattle.stale_rule.proofs.Past.{since_each, past_gone, gone_unreached}
 use Rattle.stale_rule.proofs.RefRows.{ref_law}
 use Rattle.xp_board.proofs.Sums.{one_at-other}
+use Rattle.xp_board.proofs.RefWords.{free_says}
 
 -- ---- free words
 free_word : (w stamp : ℕ) → w < 2 ^ 64 → ref_read w ≡ Some (Free stamp) → w ≡ stamp
 unfolding ref_write
 free_word w stamp b e = let r = ref_write-read w (Free stamp) b e in sym r.1
-
-free_says : (w stamp : ℕ) → ref_read w ≡ Some (Free stamp) → (is_free w ≡ true) × (free_stamp w ≡ stamp) × (owner_of w ≡ None)
-unfolding is_free free_stamp owner_of
-free_says w stamp e = (rw e refl, rw e refl, rw e refl)
 
 stamp_tells : (f w x stamp : ℕ) → (w == stamp) ≡ true → x ≡ stamp → free_stamp x ≡ stamp → told_value (Refs f) w ≡ stamp
 unfolding told_value
@@ -60,9 +57,9 @@ module _ (n : Machine) (s : ℕ) (x : Step) (m m2 : Place → ℕ) (b c : ℕ �
       let at = free_word (m (Refs f)) d.stamp (sound.spelled.small (Refs f)) d.was in
       let word = free_says (m (Refs f)) d.stamp d.was in
       let gone = past_gone n m b sound s v d.may.past.since d.stamp (Refs f) (λ w. w == d.stamp) real live
-      (λ w t. stamp_tells f w (m (Refs f)) d.stamp t at word.1) d.may.past.found (d.may.past.past v live) in
-      let below = (sound.fresh.each v live f u r).free word.0 in
-      gone_unreached n m b sound v d.stamp f u live gone (let e = word.1 in omega arith) r
+      (λ w t. stamp_tells f w (m (Refs f)) d.stamp t at word.stamp) d.may.past.found (d.may.past.past v live) in
+      let below = (sound.fresh.each v live f u r).free word.free in
+      gone_unreached n m b sound v d.stamp f u live gone (let e = word.stamp in omega arith) r
 
   pub take_row : (f : ℕ) → Took n s x f m m2 (b s) (c s) → Fresh n m2 c
   take_row f d =
@@ -89,9 +86,9 @@ module _ (n : Machine) (s : ℕ) (x : Step) (m m2 : Place → ℕ) (b c : ℕ �
       (λ v g u live r. unclaimed_more g f (b s))
       (λ v u live r.
       inr (record {
-        owner = word.2;
-        free = word.0;
-        stamp = let e = word.1 in let k = stamp_bound f d.stamp (m (Vcpu v 5)) u _ _ refl refl d.may.told v refl (sound.fresh.each v live f u r) in omega arith;
+        owner = word.owned;
+        free = word.free;
+        stamp = let e = word.stamp in let k = stamp_bound f d.stamp (m (Vcpu v 5)) u _ _ refl refl d.may.told v refl (sound.fresh.each v live f u r) in omega arith;
       }))
 
   -- ---- given

@@ -1,5 +1,5 @@
 -- The tables to which a vCPU's base leads.
-use Rattle.std.proofs.Common.{◌≡◌, ℕ, ◌<◌, ◌≤◌, ◌==◌, inl, inr, true, false, arith, IsTrue, Some, None, ◌∙◌}
+use Rattle.std.proofs.Common.{◌≡◌, ℕ, ◌<◌, ◌≤◌, ◌==◌, inl, inr, true, false, arith, Some, None, ◌∙◌}
 use Rattle.std.proofs.lemmas.Bool.Decides.{nat_tests}
 use Rattle.xp_words.specs.declared.kind.PageType.{PageType}
 use Rattle.xp_words.specs.declared.kind.KindWord.{KindWord}
@@ -8,13 +8,14 @@ use Rattle.xp_words.specs.PageTypes.{type_number, is_table}
 use Rattle.xp_words.specs.Machine.{Machine}
 use Rattle.xp_words.specs.Places.{sizes_of, Place, Refs}
 use Rattle.xp_board.specs.declared.holdings.Holdings.{Holdings}
-use Rattle.xp_board.specs.Readings.{kind_at, is_partial, type_count, owner_of}
+use Rattle.xp_board.specs.Readings.{kind_at, type_count, owner_of}
 use Rattle.xp_board.specs.Hands.{work_on}
 use Rattle.xp_board.specs.Recorded.{held, held_of, entry_demand, names_typed}
 use Rattle.xp_board.specs.Valid.{LeadsWell}
 use Rattle.xp_board.specs.Sound.{Sound, is_busy}
 use Rattle.xp_board.proofs.Counted.{entries-part, names_typed-typed}
 use Rattle.xp_board.proofs.Works.{nobody_has, held_free}
+use Rattle.xp_board.proofs.HeldByForm.{live_partial}
 
 -- a live and counted table of that level, of that domain
 pub record Serves (m : Place → ℕ) (d level f : ℕ) : Type 0 where
@@ -34,9 +35,6 @@ all_held : (k : KindWord) → k.validated ≡ true → 1 ≤ type_number k.kind 
 unfolding held_of
 all_held k v lo hi = let t : is_table k.kind ≡ true = grind (arith, nat_tests) in rw (t, v)
 
-not_partial : (k : KindWord) → k.validated ≡ true → IsTrue (is_partial k) → ⊥
-not_partial k v p = let e : is_partial k ≡ false = rw v in cc
-
 -- ---- a frame that is in nobody's works
 module _ (n : Machine) (m : Place → ℕ) (h : ℕ → Holdings) (sound : Sound n m h) where
   pub no_work : (f s : ℕ) → (kind_at m f).validated ≡ true → 0 < (kind_at m f).number → s < (sizes_of n).vcpus → work_on f (h s).works ≡ None
@@ -50,7 +48,7 @@ module _ (n : Machine) (m : Place → ℕ) (h : ℕ → Holdings) (sound : Sound
   -- they lead to live frames
   pub leads_live : (f i g : ℕ) → (kind_at m f).validated ≡ true → 0 < (kind_at m f).number → LeadsWell (sizes_of n) m h f i g → (kind_at m g).validated ≡ true
   leads_live f i g v c (inl live) = live
-  leads_live f i g v c (inr (early, inl last)) = absurd (not_partial (kind_at m f) v last.partial)
+  leads_live f i g v c (inr (early, inl last)) = absurd (live_partial (kind_at m f) v last.partial)
   leads_live f i g v c (inr (early, inr open_entry)) =
       absurd (let none = no_work f open_entry.seat v c open_entry.real in let some = open_entry.here in cc)
 

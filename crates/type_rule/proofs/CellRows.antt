@@ -35,9 +35,10 @@ use Rattle.xp_board.proofs.ActEffects.{Rewrote, Filled}
 use Rattle.xp_board.proofs.ListCounts.{EachOf-found}
 use Rattle.xp_board.proofs.HandLists.{first-some}
 use Rattle.xp_board.proofs.Counted.{type_below}
-use Rattle.type_rule.proofs.WorkFacts.{works_facts, idle_held, closing_counted, closing_busy}
+use Rattle.xp_board.proofs.WorkFacts.{works_facts}
+use Rattle.xp_board.proofs.Recordless.{idle_held, closing_counted, closing_busy}
 use Rattle.type_rule.proofs.QuietActs.{dying_in_hand}
-use Rattle.type_rule.proofs.KindStores.{table_held}
+use Rattle.xp_board.proofs.HeldByForm.{held_table}
 use Rattle.type_rule.proofs.CellAct.{CellAct, cell_valid, cell_permitted}
 
 -- ---- types
@@ -162,14 +163,14 @@ module _ (n : Machine) (s : ℕ) (x : Step) (m m2 : Place → ℕ) (b c : ℕ �
   filled_by f i None (Some e) claim work may =
       let k = works_facts n m b s f e sound real work in
       let w : kind_at m f ≡ kind_fields e.word = ap kind_fields k.word in (
-        λ l. desc_no_table (kind_at m f).kind (rw w may.kind) (table_held (kind_at m f) _ i l),
+        λ l. desc_no_table (kind_at m f).kind (rw w may.kind) (held_table (kind_at m f) _ i l),
         λ live desc. absurd (work_not_live (kind_at m f) (rw w may.work) live),
       )
   filled_by f i None None claim work may =
       let live = (sound.found s real).lives f may.kind may.live in (
         λ l. elim may.ordinary [
-          | inl writable ↦ writable_no_table (kind_at m f).kind (live.1 ∙ writable) (table_held (kind_at m f) _ i l)
-          | inr desc ↦ desc_no_table (kind_at m f).kind (live.1 ∙ desc.0) (table_held (kind_at m f) _ i l)
+          | inl writable ↦ writable_no_table (kind_at m f).kind (live.1 ∙ writable) (held_table (kind_at m f) _ i l)
+          | inr desc ↦ desc_no_table (kind_at m f).kind (live.1 ∙ desc.0) (held_table (kind_at m f) _ i l)
         ],
         λ is desc. elim may.ordinary [
           | inl writable ↦ absurd (let e : kinds.Desc ≡ kinds.Writable = sym desc ∙ live.1 ∙ writable in cc)

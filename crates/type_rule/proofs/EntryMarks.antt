@@ -31,7 +31,7 @@ use Rattle.xp_board.proofs.Works.{one_seat, work_of-mine, nobody_else}
 use Rattle.xp_board.proofs.HandLists.{first-some}
 use Rattle.type_rule.proofs.HandParts.{three_in, three_out}
 use Rattle.xp_board.proofs.ListChanges.{first_by-changed_other, first_by-changed_here}
-use Rattle.type_rule.proofs.WorkFacts.{Works, works_facts}
+use Rattle.xp_board.proofs.WorkFacts.{Works, works_facts}
 use Rattle.type_rule.proofs.Settled.{seen_asks, settled_found}
 use Rattle.type_rule.proofs.KindRows.{unfound_yet}
 use Rattle.type_rule.proofs.KindStores.{busy_partial}

@@ -1,12 +1,9 @@
 -- Stores of the guest, and bits set by a walk: what entries lead to stays.
-use Rattle.std.proofs.Common.{◌≡◌, ◌≢◌, ℕ, ◌<◌, ◌≤◌, ◌==◌, ◌&&◌, true, false, List, [], ◌∷◌, Option, Some, None, IsTrue, refl, sym, ◌∙◌, subst, inl, inr, arith}
+use Rattle.std.proofs.Common.{◌≡◌, ◌≢◌, ℕ, ◌<◌, ◌≤◌, ◌==◌, ◌&&◌, true, List, [], ◌∷◌, Option, Some, None, IsTrue, refl, sym, ◌∙◌, subst, inl, inr, arith}
 use Rattle.std.proofs.lemmas.Bool.{cases_Bool, and_parts, or_cases}
 use Rattle.std.proofs.lemmas.Bool.Decides.{nat_tests}
-use Rattle.xp_words.specs.declared.kind.KindWord.{KindWord}
 use Rattle.xp_words.specs.declared.kind.PageType.{PageType}
 use Rattle.xp_words.specs.declared.kind.PageType.TheVariants as kinds
-use Rattle.xp_words.specs.PageTypes.{is_table}
-use Rattle.xp_words.specs.KindWords.{kind_fields}
 use Rattle.xp_words.specs.Entries.{demand_at}
 use Rattle.xp_words.specs.Machine.{Machine}
 use Rattle.xp_words.specs.Places.{Place, Kind, Cell, sizes_of, is_place}
@@ -20,44 +17,16 @@ use Rattle.xp_board.specs.Lists.{Member, some_of}
 use Rattle.xp_board.specs.Readings.{kind_at, is_live}
 use Rattle.xp_board.specs.WellFormed.{IsDescent, TouchesIn}
 use Rattle.xp_board.specs.Reach.{Table, Writes, Reads, Reach, cached, walked, use_of, reached_by}
-use Rattle.xp_board.specs.Recorded.{held, held_of}
+use Rattle.xp_board.specs.Recorded.{held}
 use Rattle.xp_board.specs.Valid.{Valid, Permitted}
-use Rattle.xp_board.specs.Sound.{Sound, is_busy}
-use Rattle.xp_board.proofs.KindForms.{partial_form}
+use Rattle.xp_board.specs.Sound.{Sound}
 use Rattle.xp_board.proofs.EntryWords.{entry_asks_same, touched_same}
 use Rattle.xp_board.proofs.ActEffects.{GuestStored, Touched}
 use Rattle.type_rule.proofs.HandParts.{three_descended}
-use Rattle.xp_board.proofs.Works.{in_works, held_free, held_mine}
-use Rattle.type_rule.proofs.WorkFacts.{works_facts}
-use Rattle.type_rule.proofs.KindStores.{table_held}
+use Rattle.xp_board.proofs.HeldByForm.{held_table}
 use Rattle.type_rule.proofs.CellAct.{cell_valid, cell_permitted}
-use Rattle.type_rule.proofs.CellRows.{read_of, live_flushed, seven_no_table, seven_no_desc, level_no_desc}
-
-none_held : (k : KindWord) (r : ℕ) → r ≡ 0 → held_of k (Some r) ≡ 0
-unfolding held_of
-none_held k r e = elim (cases_Bool (is_table k.kind)) [ inl t ↦ rw t e | inr t ↦ rw t refl ]
-
-form_held : (k : KindWord) → (k.validated ≡ false) → (k.partial ≡ true → k.progress ≡ 0) → held_of k None ≡ 0
-unfolding held_of
-form_held k v p =
-    elim (cases_Bool (is_table k.kind)) [
-      | inr t ↦ rw t refl
-      | inl t ↦ elim (cases_Bool k.partial) [ inl q ↦ rw (t, v, q) (p q) | inr q ↦ rw (t, v, q) refl ]
-    ]
-
-pub marked_none : (n : Machine) (m : Place → ℕ) (b : ℕ → Holdings) (f : ℕ) → Sound n m b → (kind_at m f).unflushed ≡ true → IsTrue (is_place (sizes_of n) (Kind f)) →
-    (kind_at m f).validated ≡ false → held (sizes_of n) m b f ≡ 0
-marked_none n m b f sound marked there dead =
-    elim (cases_Bool (is_busy (kind_at m f))) [
-      | inl busy ↦
-          (let t = in_works n m b sound.alone f busy in
-          let k = works_facts n m b t.seat f t.work sound t.real t.here in
-          let u : (kind_fields t.work.word).unflushed ≡ true = subst (λ y. (kind_fields y).unflushed ≡ true) k.word marked in
-          held_mine n m b sound.alone f t.seat t.work t.real t.here ∙ none_held (kind_at m f) t.work.recorded (k.agrees.marked u))
-      | inr idle ↦
-          (let read = read_of n f (m (Kind f)) (sound.spelled.spelled (Kind f) there) in
-          held_free n m b sound.alone f idle ∙ form_held (kind_at m f) dead (λ p. (partial_form (m (Kind f)) (kind_at m f) read dead p).marked marked))
-    ]
+use Rattle.type_rule.proofs.CellRows.{live_flushed, seven_no_table, seven_no_desc, level_no_desc}
+use Rattle.xp_board.proofs.Recordless.{marked_none}
 
 -- ---- uses
 writes_used : Writes ≢ Reads
@@ -84,11 +53,11 @@ module _ (n : Machine) (s : ℕ) (x : Step) (m m2 : Place → ℕ) (b c : ℕ �
       ((i : ℕ) → i < held (sizes_of n) m b f → ⊥) × (IsTrue (is_live (kind_at m f)) → (kind_at m f).kind ≡ kinds.Desc → ⊥)
   written f reach there =
       elim (((sound.fresh.each s real f Writes reach).bears).typed writes_used) [
-        | inl plain ↦ (λ i l. seven_no_table (kind_at m f).kind plain.1 (table_held (kind_at m f) _ i l), λ live desc. seven_no_desc (kind_at m f).kind plain.1 desc)
+        | inl plain ↦ (λ i l. seven_no_table (kind_at m f).kind plain.1 (held_table (kind_at m f) _ i l), λ live desc. seven_no_desc (kind_at m f).kind plain.1 desc)
         | inr marked ↦ (
           λ i l. elim (cases_Bool (kind_at m f).validated) [
             | inl live ↦ (let k = live_flushed n s x m m2 b c real sound others f live in let q = marked.0 in cc)
-            | inr dead ↦ absurd (let z = marked_none n m b f sound marked.0 there dead in omega arith)
+            | inr dead ↦ absurd (let z = marked_none n m b f sound marked.0 in omega arith)
           ],
           λ live desc. let k = live_flushed n s x m m2 b c real sound others f live in let q = marked.0 in cc,
         )

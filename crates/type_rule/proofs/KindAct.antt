@@ -18,12 +18,10 @@ use Rattle.xp_board.proofs.Works.{nobody_has}
 use Rattle.type_rule.proofs.EntryChange.{OneStep, SameTable, LeadsStill, kind_entry, kind_leads}
 use Rattle.type_rule.proofs.ValidLaw.{valid_law, permitted_law, contexts_permitted}
 use Rattle.type_rule.proofs.QuietLaw.{same_owners}
+use Rattle.xp_board.proofs.HeldByForm.{live_partial}
 
 not_both : (k : KindWord) → IsTrue (is_live k) → IsTrue (is_partial k || is_work k) → ⊥
 not_both k live form = let t : (is_partial k || is_work k) ≡ false = rw live refl in cc
-
-not_partial : (k : KindWord) → IsTrue (is_live k) → IsTrue (is_partial k) → ⊥
-not_partial k live form = let t : is_partial k ≡ false = rw live refl in cc
 
 module _ (n : Machine) (s : ℕ) (x : Step) (m m2 : Place → ℕ) (b c : ℕ → Holdings) (real : s < (sizes_of n).vcpus) (sound : Sound n m b)
     (one : OneStep n s x m m2 b c) (q : ℕ) (same : (p : Place) → p ≢ Kind q → m2 p ≡ m p)
@@ -104,7 +102,7 @@ module _ (n : Machine) (s : ℕ) (x : Step) (m m2 : Place → ℕ) (b c : ℕ �
           leads = record {
             live = λ f i t l e live. is;
             form = λ f i t l e form. absurd (not_both (kind_at m q) was form);
-            last = λ i g last. absurd (let p = last.partial in not_partial (kind_at m q) was p);
+            last = λ i g last. absurd (let p = last.partial in live_partial (kind_at m q) was p);
             unsettled = λ i g t l e u. absurd (not_unsettled i g u);
           };
           fixed = λ i live desc l. sound.valid.fixed q i was (sym kind ∙ desc) l;

@@ -27,6 +27,7 @@ use Rattle.xp_board.proofs.ListCounts.{first_by-cons_here, first_by-cons_other}
 use Rattle.type_rule.proofs.EntryChange.{OneStep}
 use Rattle.type_rule.proofs.QuietActs.{one_by}
 use Rattle.type_rule.proofs.KindAct.{KindAct, nobody, not_unsettled, live_stays, kind_valid, kind_permitted}
+use Rattle.xp_board.proofs.HeldByForm.{held_dead, held_same, live_partial}
 
 -- ---- forms
 live_idle : (k : KindWord) → IsTrue (is_live k) → 0 < k.number → is_busy k ≡ false
@@ -42,10 +43,6 @@ live_held : (k l : KindWord) → IsTrue (is_live k) → IsTrue (is_live l) → l
 unfolding held_of
 live_held k l live is kind = rw (kind, live, is) refl
 
-partial_held : (k l : KindWord) → l.kind ≡ k.kind → l.validated ≡ k.validated → l.partial ≡ k.partial → l.progress ≡ k.progress → held_of l None ≡ held_of k None
-unfolding held_of
-partial_held k l a e p g = rw (a, e, p, g) refl
-
 resumed_held : (k l : KindWord) → IsTrue (is_partial k) → l.kind ≡ k.kind → held_of l (Some k.progress) ≡ held_of k None
 unfolding held_of
 resumed_held k l p kind = let a = and_parts (not k.validated) k.partial p in let v : k.validated ≡ false = grind arith in rw (kind, v, a.1) refl
@@ -54,19 +51,9 @@ begun_held : (l : KindWord) → held_of l (Some 0) ≡ 0
 unfolding held_of
 begun_held l = elim (cases_Bool (is_table l.kind)) [ inl t ↦ rw t refl | inr t ↦ rw t refl ]
 
-dead_held : (k : KindWord) → IsTrue (is_dead k) → held_of k None ≡ 0
-unfolding held_of
-dead_held k d =
-    let v : k.validated ≡ false = grind arith in
-    let p : k.partial ≡ false = grind arith in
-    elim (cases_Bool (is_table k.kind)) [ inl t ↦ rw (t, v, p) refl | inr t ↦ rw t refl ]
-
 closed_held : (l : KindWord) → IsTrue (is_live l) → held_of l (Some (if is_table l.kind then 512 else 0)) ≡ held_of l None
 unfolding held_of
 closed_held l live = elim (cases_Bool (is_table l.kind)) [ inl t ↦ rw (t, live) refl | inr t ↦ rw t refl ]
-
-live_partial : (k : KindWord) → IsTrue (is_live k) → IsTrue (is_partial k) → ⊥
-live_partial k live p = let a : is_partial k ≡ false = rw live refl in cc
 
 either_part : (k : KindWord) → IsTrue (is_partial k) → IsTrue (is_partial k || is_work k)
 either_part k p = rw p refl
@@ -155,7 +142,7 @@ module _ (n : Machine) (s : ℕ) (x : Step) (m m2 : Place → ℕ) (b c : ℕ �
       record {
         table = record {
           alone = λ t l off. none t l;
-          held = rw (works_same, none s real, d.fields_was, d.fields_is) (rw may.left (partial_held d.k (record d.k { kept = false }) refl refl refl refl));
+          held = rw (works_same, none s real, d.fields_was, d.fields_is) (rw may.left (held_same d.k (record d.k { kept = false }) refl refl refl refl));
           kind = inl (rw (d.fields_was, d.fields_is) (ap (λ y. y.kind) may.left));
         };
         leads = record {
@@ -216,8 +203,8 @@ module _ (n : Machine) (s : ℕ) (x : Step) (m m2 : Place → ℕ) (b c : ℕ �
       record {
         table = record {
           alone = λ t l off. none t l;
-          held = rw (here, none s real) (begun_held (kind_at m2 f) ∙ sym (dead_held (kind_at m f) dead));
-          kind = inr (rw (none s real) (dead_held (kind_at m f) dead));
+          held = rw (here, none s real) (begun_held (kind_at m2 f) ∙ sym (held_dead (kind_at m f) dead));
+          kind = inr (rw (none s real) (held_dead (kind_at m f) dead));
         };
         leads = record {
           live = λ g i t l q live. absurd (dead_live (kind_at m f) dead live);

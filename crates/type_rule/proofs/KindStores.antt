@@ -1,5 +1,5 @@
 -- Stores of the kind word of a frame in work or closing: what entries lead to stays.
-use Rattle.std.proofs.Common.{◌≡◌, ◌≢◌, ℕ, ◌+◌, ◌<◌, ◌==◌, ◌||◌, ◌⊎◌, if◌then◌else◌, Bool, true, false, length, Option, Some, None, IsTrue, refl, sym, ◌∙◌, ap, subst, inl, inr, arith}
+use Rattle.std.proofs.Common.{◌≡◌, ◌≢◌, ℕ, ◌+◌, ◌<◌, ◌==◌, ◌||◌, ◌⊎◌, if◌then◌else◌, Bool, true, false, length, Some, None, IsTrue, refl, sym, ◌∙◌, ap, subst, inl, inr, arith}
 use Rattle.std.proofs.lemmas.Bool.{cases_Bool}
 use Rattle.std.proofs.lemmas.Bool.Decides.{nat_tests}
 use Rattle.xp_words.specs.declared.kind.KindWord.{KindWord}
@@ -30,13 +30,14 @@ use Rattle.type_rule.proofs.Works.{WorkKeptIn, works_kept}
 use Rattle.xp_board.proofs.ListCounts.{first_by-without_other, first_by-none, times_by-without_one}
 use Rattle.xp_board.proofs.ListChanges.{first_by-changed_other, first_by-changed_here}
 use Rattle.type_rule.proofs.Counted.{entry_counted, context_counted}
-use Rattle.type_rule.proofs.WorkFacts.{Works, works_facts}
+use Rattle.xp_board.proofs.WorkFacts.{Works, works_facts}
 use Rattle.type_rule.proofs.Settled.{settled_found}
-use Rattle.type_rule.proofs.DomainStores.{is_live_left, is_partial_left, is_work_left, is_dead_left}
+use Rattle.xp_board.proofs.FormsLeft.{is_live_left, is_partial_left, is_work_left, is_dead_left}
 use Rattle.type_rule.proofs.EntryChange.{OneStep}
 use Rattle.type_rule.proofs.QuietActs.{one_by}
 use Rattle.type_rule.proofs.ValidLaw.{live_is_context}
 use Rattle.type_rule.proofs.KindAct.{KindAct, kind_valid, kind_permitted}
+use Rattle.xp_board.proofs.HeldByForm.{held_table}
 
 -- ---- what is held
 live_all : (l k : KindWord) (r : ℕ) → l.kind ≡ k.kind → l.validated ≡ true → (IsTrue (is_table l.kind) → r ≡ 512) → held_of l None ≡ held_of k (Some r)
@@ -62,10 +63,6 @@ dead_all l k v p =
       | inl t ↦ rw (t, v, p) (elim (cases_Bool (is_table k.kind)) [ inl u ↦ rw u refl | inr u ↦ rw u refl ])
       | inr t ↦ rw t (elim (cases_Bool (is_table k.kind)) [ inl u ↦ rw u refl | inr u ↦ rw u refl ])
     ]
-
-pub table_held : (k : KindWord) (o : Option ℕ) (i : ℕ) → i < held_of k o → is_table k.kind ≡ true
-unfolding held_of
-table_held k o i l = elim (cases_Bool (is_table k.kind)) [ inl t ↦ t | inr f ↦ absurd (let q = rw f at l in omega arith) ]
 
 -- ---- busy words
 busy_closed : (k : KindWord) → is_busy k ≡ true → k.validated ≡ true → type_count k ≡ 0
@@ -175,7 +172,7 @@ module _ (n : Machine) (s : ℕ) (x : Step) (m m2 : Place → ℕ) (b c : ℕ �
         (λ g i t l e form. inl (rw d.fields_is is))
         (λ i g t l e u last some unfound.
         absurd
-        (let t2 = subst (λ y. is_table y.kind ≡ true) w (table_held (kind_at m f) _ i l) in
+        (let t2 = subst (λ y. is_table y.kind ≡ true) w (held_table (kind_at m f) _ i l) in
         let settled = (d.may.table (subst (λ y. IsTrue (is_table y)) (sym d.may.kind) t2)).1 in
         let found = settled_found n m b s f i g t d.e u k t2 some last e settled in
         cc))

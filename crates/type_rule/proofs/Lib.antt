@@ -12,7 +12,6 @@ mod DomainLives
 mod DomainLaws
 mod Works
 mod EntryChange
-mod WorkFacts
 mod ValidLaw
 mod QuietLaw
 mod QuietActs

@@ -3,7 +3,6 @@ use Rattle.std.proofs.Common.{nat_lt, inl, inr, ◌≡◌, ◌≢◌, ℕ, ◌+�
 use Rattle.std.proofs.lemmas.Bool.{cases_Bool}
 use Rattle.std.proofs.lemmas.Bool.Decides.{nat_tests}
 use Rattle.xp_words.specs.declared.entry.Demand.TheVariants.{Nothing, Bad, Read, Typed}
-use Rattle.xp_words.specs.declared.kind.KindWord.{KindWord}
 use Rattle.xp_words.specs.KindWords.{kind_fields}
 use Rattle.xp_words.specs.PageTypes.{is_table}
 use Rattle.xp_words.specs.Machine.{Machine}
@@ -18,6 +17,7 @@ use Rattle.xp_words.specs.declared.entry.Demand.{Demand}
 use Rattle.xp_board.specs.declared.holdings.Holdings.{Holdings}
 use Rattle.xp_board.specs.Sums.{sum_below}
 use Rattle.xp_board.specs.Lists.{one_at}
+use Rattle.xp_board.proofs.HeldByForm.{held_table}
 
 table_entries-same : (c : Demand → ℕ) (m m2 : Place → ℕ) (o o2 : Option ℕ) (f : ℕ) → held_of (kind_at m2 f) o2 ≡ held_of (kind_at m f) o →
     ((i : ℕ) → i < held_of (kind_at m f) o → entry_demand m2 f i ≡ entry_demand m f i) → table_entries c m2 o2 f ≡ table_entries c m o f
@@ -166,14 +166,6 @@ table_inside n m f spelled k =
           let none : m (Kind f) ≡ 0 = spelled.outside (Kind f) out in
           let t : IsTrue (is_table (kind_fields 0).kind) = rw none at k in
           absurd (cc)
-    ]
-
-held_table : (k : KindWord) (o : Option ℕ) (i : ℕ) → i < held_of k o → IsTrue (is_table k.kind)
-unfolding held_of
-held_table k o i l =
-    elim (cases_Bool (is_table k.kind)) [
-      | inl table ↦ table
-      | inr page ↦ absurd (let none : i < 0 = rw page at l in omega arith)
     ]
 
 pub held_inside : (n : Machine) (m : Place → ℕ) (h : ℕ → Holdings) (f i : ℕ) → Spelled n m → i < held (sizes_of n) m h f → f < (sizes_of n).frames

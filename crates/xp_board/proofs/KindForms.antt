@@ -36,13 +36,20 @@ pub zero_dead : (kind_fields 0).validated ≡ false
 unfolding kind_fields
 zero_dead = refl
 
-pub marked_unlive : (n : Machine) (m : Place → ℕ) (g : ℕ) → Spelled n m → (kind_at m g).unflushed ≡ true → (kind_at m g).validated ≡ false
+zero_plain : (kind_fields 0).unflushed ≡ false
+unfolding kind_fields
+zero_plain = refl
+
+pub marked_form : (n : Machine) (m : Place → ℕ) (g : ℕ) → Spelled n m → (kind_at m g).unflushed ≡ true → has_form (kind_at m g) ≡ true
 unfolding IsSpelling
-marked_unlive n m g spelled marked =
+marked_form n m g spelled marked =
     elim (cases_Bool (is_place (sizes_of n) (Kind g))) [
-      | inl there ↦ form_unlive (kind_at m g) (spelled_form n (m (Kind g)) (spelled.spelled (Kind g) there)) marked
-      | inr out ↦ ap (λ w. (kind_fields w).validated) (spelled.outside (Kind g) out) ∙ zero_dead
+      | inl there ↦ spelled_form n (m (Kind g)) (spelled.spelled (Kind g) there)
+      | inr out ↦ absurd (let plain : (kind_at m g).unflushed ≡ false = ap (λ w. (kind_fields w).unflushed) (spelled.outside (Kind g) out) ∙ zero_plain in cc)
     ]
+
+pub marked_unlive : (n : Machine) (m : Place → ℕ) (g : ℕ) → Spelled n m → (kind_at m g).unflushed ≡ true → (kind_at m g).validated ≡ false
+marked_unlive n m g spelled marked = form_unlive (kind_at m g) (marked_form n m g spelled marked) marked
 
 pub live_unmarked : (n : Machine) (m : Place → ℕ) (g : ℕ) → Spelled n m → (kind_at m g).validated ≡ true → (kind_at m g).unflushed ≡ false
 live_unmarked n m g spelled live =

@@ -1,15 +1,20 @@
 mod ClaimPicture
 pub mod PlaceTests
+pub mod RefWords
 pub mod Sums
 pub mod HandLists
 pub mod ListCounts
 pub mod ListChanges
 pub mod Works
 pub mod Counted
+pub mod WorkFacts
+pub mod Recordless
 pub mod StepLists
 pub mod SafeItems
 pub mod Empty
 pub mod KindForms
+pub mod FormsLeft
+pub mod HeldByForm
 pub mod Bits
 pub mod EntryWords
 pub mod ActEffects

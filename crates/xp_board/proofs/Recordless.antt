@@ -1,51 +1,21 @@
--- What is known of a frame that a seat has in its works, and that the table of a recorded entry has a reference.
+-- Frames of which no entry is recorded; the table of a recorded entry has a reference.
 use Rattle.std.proofs.Common.{◌≡◌, ◌≢◌, ℕ, ◌<◌, ◌⊎◌, true, false, [], Some, None, IsTrue, refl, ◌∙◌, subst, inl, inr, arith}
 use Rattle.std.proofs.lemmas.Bool.{cases_eq, cases_Bool}
 use Rattle.std.proofs.lemmas.Bool.Decides.{nat_tests}
 use Rattle.xp_words.specs.declared.kind.KindWord.{KindWord}
 use Rattle.xp_words.specs.PageTypes.{is_table}
-use Rattle.xp_words.specs.KindWords.{kind_fields}
+use Rattle.xp_words.specs.KindWords.{kind_fields, has_form}
 use Rattle.xp_words.specs.Machine.{Machine}
-use Rattle.xp_words.specs.Places.{Place, Refs, Kind, sizes_of}
-use Rattle.xp_board.specs.declared.holdings.Work.{Work}
+use Rattle.xp_words.specs.Places.{Place, Refs, sizes_of}
 use Rattle.xp_board.specs.declared.holdings.Holdings.{Holdings}
 use Rattle.xp_board.specs.Readings.{kind_at, ref_count, type_count, is_closing}
-use Rattle.xp_board.specs.Hands.{refs_to, works_on, work_on}
-use Rattle.xp_board.specs.Found.{WorkFound}
-use Rattle.xp_board.specs.WellFormed.{IsWorkFormed}
+use Rattle.xp_board.specs.Hands.{refs_to}
 use Rattle.xp_board.specs.Recorded.{held, held_of, held_by_form}
-use Rattle.xp_board.specs.Sound.{Sound, WorkAgrees, is_busy}
-use Rattle.xp_board.proofs.ListCounts.{EachOf-found}
-use Rattle.xp_board.proofs.HandLists.{first-some, first-key}
-use Rattle.xp_board.proofs.Works.{is_busy-mine, in_works, held_free}
+use Rattle.xp_board.specs.Sound.{Sound, is_busy}
+use Rattle.xp_board.proofs.Works.{in_works, held_free, held_mine}
 use Rattle.xp_board.proofs.Counted.{type_below, in_hand_counted}
-
--- the work e of seat s on frame f
-pub record Works (n : Machine) (m : Place → ℕ) (h : ℕ → Holdings) (s f : ℕ) (e : Work) : Type 0 where
-  pub frame : e.frame ≡ f
-  pub some : 0 < works_on f (h s).works
-  pub word : m (Kind f) ≡ e.word
-  pub busy : is_busy (kind_at m f) ≡ true
-  pub found : WorkFound n m h (h s) e
-  pub agrees : WorkAgrees (h s) e
-  pub formed : IsWorkFormed n (h s) e
-
-pub works_facts : (n : Machine) (m : Place → ℕ) (h : ℕ → Holdings) (s f : ℕ) (e : Work) → Sound n m h → s < (sizes_of n).vcpus → work_on f (h s).works ≡ Some e → Works n m h s f e
-works_facts n m h s f e sound real here =
-    let some = first-some (λ y. y.frame) f e (h s).works here in
-    let frame = first-key (λ y. y.frame) f e (h s).works here in
-    let found = EachOf-found (WorkFound n m h (h s)) (λ y. y.frame) f (h s).works e here ((sound.found s real).works) in
-    let agrees = EachOf-found (WorkAgrees (h s)) (λ y. y.frame) f (h s).works e here (sound.works s real) in
-    let formed = EachOf-found (IsWorkFormed n (h s)) (λ y. y.frame) f (h s).works e here ((sound.formed s real).works) in
-    record {
-      frame = frame;
-      some = some;
-      word = rw (← frame) found.1.word;
-      busy = is_busy-mine n m h sound.alone f s real some;
-      found = found.1;
-      agrees = agrees.1;
-      formed = formed.1;
-    }
+use Rattle.xp_board.proofs.WorkFacts.{works_facts}
+use Rattle.xp_board.proofs.KindForms.{marked_form, form_unlive}
 
 pub closing_counted : (n : Machine) (m : Place → ℕ) (h : ℕ → Holdings) (f : ℕ) → Sound n m h → is_closing (kind_at m f) ≡ true → is_busy (kind_at m f) ≡ true → 0 < ref_count (m (Refs f))
 closing_counted n m h f sound closing busy =
@@ -85,4 +55,43 @@ table_counted n m h f i sound l =
             | inl closing ↦ closing_counted n m h f sound closing (closing_busy (kind_at m f) closing)
             | inr running ↦ absurd (let z = idle_held n m h f sound none running in omega arith)
           ]
+    ]
+
+-- of a frame without a reference
+pub unreferenced_none : (n : Machine) (m : Place → ℕ) (h : ℕ → Holdings) (f : ℕ) → Sound n m h → ref_count (m (Refs f)) ≡ 0 → held (sizes_of n) m h f ≡ 0
+unreferenced_none n m h f sound none =
+    elim (cases_eq (held (sizes_of n) m h f) 0) [
+      | inl at ↦ at
+      | inr some ↦ absurd (let k : held (sizes_of n) m h f ≢ 0 = some in let counted = table_counted n m h f 0 sound (omega arith) in omega arith)
+    ]
+
+-- ---- of a marked frame
+none_held : (k : KindWord) (r : ℕ) → r ≡ 0 → held_of k (Some r) ≡ 0
+unfolding held_of
+none_held k r e = elim (cases_Bool (is_table k.kind)) [ inl t ↦ rw t e | inr t ↦ rw t refl ]
+
+form_held : (k : KindWord) → (k.validated ≡ false) → (k.partial ≡ true → k.progress ≡ 0) → held_of k None ≡ 0
+unfolding held_of
+form_held k v p =
+    elim (cases_Bool (is_table k.kind)) [
+      | inr t ↦ rw t refl
+      | inl t ↦ elim (cases_Bool k.partial) [ inl q ↦ rw (t, v, q) (p q) | inr q ↦ rw (t, v, q) refl ]
+    ]
+
+partial_marked : (k : KindWord) → has_form k ≡ true → k.validated ≡ false → k.partial ≡ true → k.unflushed ≡ true → k.progress ≡ 0
+unfolding has_form
+partial_marked k form dead partial marked = grind (arith, nat_tests)
+
+pub marked_none : (n : Machine) (m : Place → ℕ) (h : ℕ → Holdings) (f : ℕ) → Sound n m h → (kind_at m f).unflushed ≡ true → held (sizes_of n) m h f ≡ 0
+marked_none n m h f sound marked =
+    elim (cases_Bool (is_busy (kind_at m f))) [
+      | inl busy ↦
+          let t = in_works n m h sound.alone f busy in
+          let k = works_facts n m h t.seat f t.work sound t.real t.here in
+          let u : (kind_fields t.work.word).unflushed ≡ true = subst (λ y. (kind_fields y).unflushed ≡ true) k.word marked in
+          held_mine n m h sound.alone f t.seat t.work t.real t.here ∙ none_held (kind_at m f) t.work.recorded (k.agrees.marked u)
+      | inr idle ↦
+          let form = marked_form n m f sound.spelled marked in
+          let dead = form_unlive (kind_at m f) form marked in
+          held_free n m h sound.alone f idle ∙ form_held (kind_at m f) dead (λ p. partial_marked (kind_at m f) form dead p marked)
     ]
