@@ -32,6 +32,7 @@ mod PartialActs
 mod CellLaw
 mod CellActs
 mod HandLaw
+mod NameHands
 mod NameActs
 mod ExchangeActs
 mod RefLaw

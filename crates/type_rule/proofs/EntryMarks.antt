@@ -34,7 +34,7 @@ use Rattle.xp_board.proofs.ListChanges.{first_by-changed_other, first_by-changed
 use Rattle.xp_board.proofs.WorkFacts.{Works, works_facts}
 use Rattle.type_rule.proofs.Settled.{seen_asks, settled_found}
 use Rattle.type_rule.proofs.KindRows.{unfound_yet}
-use Rattle.type_rule.proofs.KindStores.{busy_partial}
+use Rattle.type_rule.proofs.KindHeld.{busy_partial}
 use Rattle.type_rule.proofs.ValidLaw.{NewEntry}
 use Rattle.type_rule.proofs.NewEntries.{owners_permit, demand_new}
 use Rattle.type_rule.proofs.MarkRows.{MarkOn, mark_valid, mark_permitted}

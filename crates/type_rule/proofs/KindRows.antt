@@ -1,6 +1,6 @@
 -- Exchanges of a kind word, and type counts given back: what entries lead to stays.
-use Rattle.std.proofs.Common.{◌≡◌, ◌≢◌, ℕ, ◌+◌, ◌<◌, ◌≤◌, ◌==◌, ◌||◌, not, if◌then◌else◌, Bool, true, false, List, length, Some, None, IsTrue, refl, sym, ◌∙◌, ap, inl, inr, arith}
-use Rattle.std.proofs.lemmas.Bool.{cases_Bool, and_parts}
+use Rattle.std.proofs.Common.{◌≡◌, ◌≢◌, ℕ, ◌+◌, ◌<◌, ◌≤◌, ◌==◌, ◌||◌, if◌then◌else◌, Bool, true, false, List, length, Some, None, IsTrue, refl, sym, ◌∙◌, ap, inl, inr, arith}
+use Rattle.std.proofs.lemmas.Bool.{cases_Bool}
 use Rattle.std.proofs.lemmas.Bool.Decides.{nat_tests}
 use Rattle.xp_words.specs.declared.kind.KindWord.{KindWord}
 use Rattle.xp_words.specs.PageTypes.{is_table}
@@ -28,55 +28,13 @@ use Rattle.type_rule.proofs.EntryChange.{OneStep}
 use Rattle.type_rule.proofs.QuietActs.{one_by}
 use Rattle.type_rule.proofs.KindAct.{KindAct, nobody, not_unsettled, live_stays, kind_valid, kind_permitted}
 use Rattle.xp_board.proofs.HeldByForm.{held_dead, held_same, live_partial}
-
--- ---- forms
-live_idle : (k : KindWord) → IsTrue (is_live k) → 0 < k.number → is_busy k ≡ false
-live_idle k live some = grind (arith, nat_tests)
-
-partial_idle : (k : KindWord) → IsTrue (is_partial k) → is_busy k ≡ false
-partial_idle k p = grind arith
-
-dead_idle : (k : KindWord) → IsTrue (is_dead k) → is_busy k ≡ false
-dead_idle k p = grind arith
-
-live_held : (k l : KindWord) → IsTrue (is_live k) → IsTrue (is_live l) → l.kind ≡ k.kind → held_of l None ≡ held_of k None
-unfolding held_of
-live_held k l live is kind = rw (kind, live, is) refl
-
-resumed_held : (k l : KindWord) → IsTrue (is_partial k) → l.kind ≡ k.kind → held_of l (Some k.progress) ≡ held_of k None
-unfolding held_of
-resumed_held k l p kind = let a = and_parts (not k.validated) k.partial p in let v : k.validated ≡ false = grind arith in rw (kind, v, a.1) refl
-
-begun_held : (l : KindWord) → held_of l (Some 0) ≡ 0
-unfolding held_of
-begun_held l = elim (cases_Bool (is_table l.kind)) [ inl t ↦ rw t refl | inr t ↦ rw t refl ]
-
-closed_held : (l : KindWord) → IsTrue (is_live l) → held_of l (Some (if is_table l.kind then 512 else 0)) ≡ held_of l None
-unfolding held_of
-closed_held l live = elim (cases_Bool (is_table l.kind)) [ inl t ↦ rw (t, live) refl | inr t ↦ rw t refl ]
-
-either_part : (k : KindWord) → IsTrue (is_partial k) → IsTrue (is_partial k || is_work k)
-either_part k p = rw p refl
+use Rattle.type_rule.proofs.KindHeld.{live_idle, partial_idle, dead_idle, live_held, resumed_held, begun_held, closed_held, work_live, dead_live, dead_unformed, either_part}
 
 resumed_work : (k l : KindWord) → MayResume k l → IsTrue (is_partial l || is_work l)
 resumed_work k l may = let v : k.validated ≡ false = (let p = may.partial in grind arith) in rw may.left (rw v refl)
 
 is_resumed : (k l : KindWord) → MayResume k l → l.validated ≡ false
 is_resumed k l may = let v : k.validated ≡ false = (let p = may.partial in grind arith) in ap (λ y. y.validated) may.left ∙ v
-
-work_live : (k : KindWord) → k.validated ≡ false → IsTrue (is_live k) → ⊥
-work_live k e live = cc
-
-dead_live : (k : KindWord) → IsTrue (is_dead k) → IsTrue (is_live k) → ⊥
-dead_live k d live = let v : k.validated ≡ false = grind arith in cc
-
-dead_form : (k : KindWord) → IsTrue (is_dead k) → IsTrue (is_partial k || is_work k) → ⊥
-dead_form k d form =
-    let v : k.validated ≡ false = grind arith in
-    let p : k.partial ≡ false = grind arith in
-    let l : k.locked ≡ false = grind arith in
-    let t : (is_partial k || is_work k) ≡ false = rw (v, p, l) refl in
-    cc
 
 if_same : {A B : Type 0} (t : Bool) (F : A → B) (y z : A) → F y ≡ F z → F (if t then y else z) ≡ F z
 if_same true F y z e = e
@@ -208,8 +166,8 @@ module _ (n : Machine) (s : ℕ) (x : Step) (m m2 : Place → ℕ) (b c : ℕ �
         };
         leads = record {
           live = λ g i t l q live. absurd (dead_live (kind_at m f) dead live);
-          form = λ g i t l q form. absurd (dead_form (kind_at m f) dead form);
-          last = λ i g last. absurd (dead_form (kind_at m f) dead (either_part (kind_at m f) last.partial));
+          form = λ g i t l q form. absurd (dead_unformed (kind_at m f) dead form);
+          last = λ i g last. absurd (dead_unformed (kind_at m f) dead (either_part (kind_at m f) last.partial));
           unsettled = λ i g t l q u. absurd (not_unsettled n s x m m2 b c real sound (one f Begin d) f d.wrote.others (works f Begin d) idle i g u);
         };
         fixed = λ i live desc l. absurd (let v : (kind_at m2 f).validated ≡ false = ap (λ y. y.validated) d.fields_is ∙ ap (λ y. y.validated) may.left in cc);

@@ -1,7 +1,5 @@
 -- Stores of the kind word of a frame in work or closing: what entries lead to stays.
 use Rattle.std.proofs.Common.{◌≡◌, ◌≢◌, ℕ, ◌+◌, ◌<◌, ◌==◌, ◌||◌, ◌⊎◌, if◌then◌else◌, Bool, true, false, length, Some, None, IsTrue, refl, sym, ◌∙◌, ap, subst, inl, inr, arith}
-use Rattle.std.proofs.lemmas.Bool.{cases_Bool}
-use Rattle.std.proofs.lemmas.Bool.Decides.{nat_tests}
 use Rattle.xp_words.specs.declared.kind.KindWord.{KindWord}
 use Rattle.xp_words.specs.declared.kind.PageType.{PageType}
 use Rattle.xp_words.specs.declared.kind.PageType.TheVariants as kinds
@@ -16,12 +14,12 @@ use Rattle.xp_board.specs.declared.holdings.Work.{Work}
 use Rattle.xp_board.specs.declared.holdings.Holdings.{Holdings}
 use Rattle.xp_board.specs.Steps.{some_since}
 use Rattle.xp_board.specs.Hands.{work_on, without_work, typed_to, typed_hand}
-use Rattle.xp_board.specs.Readings.{kind_at, is_live, is_work, is_partial, type_count, is_live_word}
+use Rattle.xp_board.specs.Readings.{kind_at, is_live, is_work, is_partial, is_live_word}
 use Rattle.xp_board.specs.KindSteps.{Form, Live, Partial, InWork, Dead, after_form, made_live, made_dead}
 use Rattle.xp_board.specs.After.{is_fixed, noted}
 use Rattle.xp_board.specs.Recorded.{held, held_of, entry_demand, recorded_number}
 use Rattle.xp_board.specs.Valid.{Valid, Permitted, IsUnsettled, IsLastOfPartial, is_live_context}
-use Rattle.xp_board.specs.Sound.{Sound, is_busy}
+use Rattle.xp_board.specs.Sound.{Sound}
 use Rattle.xp_board.proofs.ActEffects.{Stored}
 use Rattle.xp_board.proofs.Works.{one_seat, nobody_else, one_works}
 use Rattle.xp_board.proofs.HandLists.{first-some}
@@ -38,46 +36,7 @@ use Rattle.type_rule.proofs.QuietActs.{one_by}
 use Rattle.type_rule.proofs.ValidLaw.{live_is_context}
 use Rattle.type_rule.proofs.KindAct.{KindAct, kind_valid, kind_permitted}
 use Rattle.xp_board.proofs.HeldByForm.{held_table}
-
--- ---- what is held
-live_all : (l k : KindWord) (r : ℕ) → l.kind ≡ k.kind → l.validated ≡ true → (IsTrue (is_table l.kind) → r ≡ 512) → held_of l None ≡ held_of k (Some r)
-unfolding held_of
-live_all l k r kind live all =
-    elim (cases_Bool (is_table l.kind)) [
-      | inl t ↦ (let u : is_table k.kind ≡ true = subst (λ y. is_table y ≡ true) kind t in rw (t, u, live) (sym (all t)))
-      | inr t ↦ (let u : is_table k.kind ≡ false = subst (λ y. is_table y ≡ false) kind t in rw (t, u) refl)
-    ]
-
-partial_all : (l k : KindWord) (r : ℕ) → l.kind ≡ k.kind → l.validated ≡ false → l.partial ≡ true → l.progress ≡ r → held_of l None ≡ held_of k (Some r)
-unfolding held_of
-partial_all l k r kind v p e = rw (kind, v, p, e) refl
-
-work_all : (l k : KindWord) (r : ℕ) → l.kind ≡ k.kind → held_of l (Some r) ≡ held_of k (Some r)
-unfolding held_of
-work_all l k r kind = rw kind refl
-
-dead_all : (l k : KindWord) → l.validated ≡ false → l.partial ≡ false → held_of l None ≡ held_of k (Some 0)
-unfolding held_of
-dead_all l k v p =
-    elim (cases_Bool (is_table l.kind)) [
-      | inl t ↦ rw (t, v, p) (elim (cases_Bool (is_table k.kind)) [ inl u ↦ rw u refl | inr u ↦ rw u refl ])
-      | inr t ↦ rw t (elim (cases_Bool (is_table k.kind)) [ inl u ↦ rw u refl | inr u ↦ rw u refl ])
-    ]
-
--- ---- busy words
-busy_closed : (k : KindWord) → is_busy k ≡ true → k.validated ≡ true → type_count k ≡ 0
-unfolding type_count
-busy_closed k h v = grind (arith, nat_tests)
-
-busy_working : (k : KindWord) → is_busy k ≡ true → IsTrue (is_partial k || is_work k) → is_work k ≡ true
-busy_working k h v = grind (arith, nat_tests)
-
-pub busy_partial : (k : KindWord) → is_busy k ≡ true → IsTrue (is_partial k) → ⊥
-busy_partial k h p = let v : k.validated ≡ false = grind arith in let q : k.partial ≡ true = grind arith in let t : is_busy k ≡ false = rw (v, q) refl in cc
-
-work_count : (k : KindWord) → is_work k ≡ true → type_count k ≡ 1
-unfolding type_count
-work_count k h = grind arith
+use Rattle.type_rule.proofs.KindHeld.{live_all, partial_all, work_all, dead_all, busy_closed, busy_working, busy_partial, work_count}
 
 either_if : {A : Type 0} (t : Bool) (F : Holdings → A) (y z : Holdings) (a : A) → F y ≡ a → F z ≡ a → F (if t then y else z) ≡ a
 either_if true F y z a e f = e

@@ -19,6 +19,7 @@ mod KindAct
 mod KindRows
 mod KindDowns
 mod Settled
+mod KindHeld
 mod KindStores
 mod CellAct
 mod CellRows

@@ -1,9 +1,6 @@
 -- The acts that change no kind word, no cell and no word of a vCPU that names a frame, each by its effect.
 use Rattle.std.proofs.Common.{◌≡◌, ◌≢◌, ℕ, ◌+◌, ◌<◌, ◌==◌, not, if◌then◌else◌, Bool, true, false, ◌∷◌, Option, Some, None, IsTrue, refl, sym, ◌∙◌, ap, subst, inl, inr, arith}
 use Rattle.std.proofs.lemmas.Bool.{cases_eq}
-use Rattle.xp_words.specs.declared.refs.RefWord.{RefWord}
-use Rattle.xp_words.specs.declared.refs.RefWord.TheVariants.{Free, Owned, Dying}
-use Rattle.xp_words.specs.RefWords.{ref_read}
 use Rattle.xp_words.specs.Machine.{Machine}
 use Rattle.xp_words.specs.Places.{Place, Clock, Pages, Life, Vcpu, Refs, Kind, M2p, Cell, Map, Priv, sizes_of}
 use Rattle.xp_board.specs.declared.step.Step.{Step}
@@ -13,7 +10,7 @@ use Rattle.xp_board.specs.declared.holdings.Holdings.{Holdings}
 use Rattle.xp_board.specs.Acts.{left_by}
 use Rattle.xp_board.specs.Hands.{work_on, changed_work, ending_of, claim_of, endings_of, claims_of}
 use Rattle.xp_board.specs.Lists.{kept_of}
-use Rattle.xp_board.specs.Readings.{is_context, ref_count, owner_of, has_ever, is_dying, is_dying_in, count_in}
+use Rattle.xp_board.specs.Readings.{is_context, ref_count, owner_of, has_ever, is_dying}
 use Rattle.xp_board.specs.RefSteps.{IsFreeStamp}
 use Rattle.xp_board.specs.FillSteps.{started, loaded, walked_by, is_for_write}
 use Rattle.xp_board.specs.RunSteps.{ran_now}
@@ -33,16 +30,10 @@ use Rattle.type_rule.proofs.EntryChange.{OneStep}
 use Rattle.type_rule.proofs.ValidLaw.{OwnersStay}
 use Rattle.type_rule.proofs.QuietLaw.{QuietAct, same_owners, one_owner, free_count}
 use Rattle.xp_board.proofs.Works.{is_dying-mine}
-
-dying_by : (r : Option RefWord) → is_dying_in r ≡ true → count_in r ≡ 0
-dying_by None e = refl
-dying_by (Some (Free t)) e = refl
-dying_by (Some (Owned o a k)) e = absurd (cc)
-dying_by (Some (Dying o)) e = refl
+use Rattle.xp_board.proofs.RefWords.{is_dying-read, dying_says}
 
 dying_count : (w : ℕ) → is_dying w ≡ true → ref_count w ≡ 0
-unfolding is_dying ref_count
-dying_count w e = dying_by (ref_read w) e
+dying_count w e = let r = is_dying-read w e in (dying_says w r.0 r.1).counts
 
 -- a frame that is ending or claimed in a hand has no reference
 pub dying_in_hand : (n : Machine) (m : Place → ℕ) (h : ℕ → Holdings) (s f : ℕ) → HeldAlone n m h → s < (sizes_of n).vcpus →
