@@ -54,33 +54,6 @@ in_typed g Bad u = omega arith
 in_typed g (Read f) u = omega arith
 in_typed g (Typed f t) u = let e = times_by-cons (λ y. y.frame) g (brought_typed f (Some t) u) u.typed in omega arith
 
--- no more of the hand moves
-pub record Aside (u v : Holdings) : Type 0 where
-  pub works : v.works ≡ u.works
-  pub locks : v.locks ≡ u.locks
-  pub ending : v.ending ≡ u.ending
-  pub claimed : v.claimed ≡ u.claimed
-  pub raised : v.raised ≡ u.raised
-  pub credits : v.credits ≡ u.credits
-  pub cache : v.cache ≡ u.cache
-  pub walk : v.walk ≡ u.walk
-  pub cold : v.cold ≡ u.cold
-
-aside : (u v : Holdings) → v.works ≡ u.works → v.locks ≡ u.locks → v.ending ≡ u.ending → v.claimed ≡ u.claimed → v.raised ≡ u.raised → v.credits ≡ u.credits → v.cache ≡ u.cache → v.walk ≡ u.walk → v.cold ≡ u.cold → Aside u v
-aside u v a b c d e f g h i = record { works = a; locks = b; ending = c; claimed = d; raised = e; credits = f; cache = g; walk = h; cold = i }
-
-pub out_aside : (d : Demand) (u : Holdings) → Aside u (demand_out d u)
-out_aside Nothing u = aside u _ refl refl refl refl refl refl refl refl refl
-out_aside Bad u = aside u _ refl refl refl refl refl refl refl refl refl
-out_aside (Read f) u = aside u _ refl refl refl refl refl refl refl refl refl
-out_aside (Typed f t) u = aside u _ refl refl refl refl refl refl refl refl refl
-
-pub in_aside : (d : Demand) (u : Holdings) → Aside u (demand_in d u)
-in_aside Nothing u = aside u _ refl refl refl refl refl refl refl refl refl
-in_aside Bad u = aside u _ refl refl refl refl refl refl refl refl refl
-in_aside (Read f) u = aside u _ refl refl refl refl refl refl refl refl refl
-in_aside (Typed f t) u = aside u _ refl refl refl refl refl refl refl refl refl
-
 -- the types of typed references
 pub out_types : (m : Place → ℕ) (d : Demand) (u : Holdings) → EachOf (λ y. HasType m y.frame y.kind) u.typed → EachOf (λ y. HasType m y.frame y.kind) (demand_out d u).typed
 out_types m Nothing u k = k

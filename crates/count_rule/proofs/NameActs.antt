@@ -26,7 +26,8 @@ use Rattle.count_rule.proofs.SpelledLaw.{wrote_spelled}
 use Rattle.count_rule.proofs.Outcome.{Outcome, cells_same, runs}
 use Rattle.count_rule.proofs.HandLaw.{HandMove, hand_outcome}
 use Rattle.xp_board.proofs.HandLists.{EachOf-map}
-use Rattle.count_rule.proofs.NameHands.{named_out_typed, named_in_typed, beyond, out_beyond, in_beyond, out_types, in_types, Beyond, IsNamed}
+use Rattle.count_rule.proofs.NameHands.{named_out_typed, named_in_typed, out_types, in_types, IsNamed}
+use Rattle.xp_board.proofs.HandParts.{Beside, Translations, beside_then, translations_then, beside_named_out, beside_named_in, translations_named_out, translations_named_in, refs_named_in, refs_named_out}
 
 not_context : (k : ℕ) → (k ≡ 5) ⊎ (k ≡ 6) → IsTrue (is_context k) → ⊥
 not_context k e t = grind (arith, nat_tests)
@@ -94,12 +95,14 @@ module _ (n : Machine) (s : ℕ) (x : Step) (m m2 : Place → ℕ) (b c : ℕ �
   kept : Kept moved (c s)
   kept = kept_noted x was moved _ (c s) d.hand learnt_all.kept
 
-  side : Beyond (b s) moved
-  side =
-      let p = out_beyond is (b s) in
-      let q = in_beyond k was (named_out is (b s)) in
-      beyond (b s) moved (q.refs ∙ p.refs) (q.works ∙ p.works) (q.locks ∙ p.locks) (q.ending ∙ p.ending) (q.claimed ∙ p.claimed) (q.raised ∙ p.raised) (q.credits ∙ p.credits) (q.cache ∙ p.cache)
-      (q.walk ∙ p.walk) (q.cold ∙ p.cold)
+  side : Beside (b s) moved
+  side = beside_then (b s) (named_out is (b s)) moved (beside_named_out is (b s)) (beside_named_in k was (named_out is (b s)))
+
+  far : Translations (b s) moved
+  far = translations_then (b s) (named_out is (b s)) moved (translations_named_out is (b s)) (translations_named_in k was (named_out is (b s)))
+
+  refs_same : moved.refs ≡ (b s).refs
+  refs_same = refs_named_in k was (named_out is (b s)) ∙ refs_named_out is (b s)
 
   works_kept : EachTwo SameWork (b s).works (c s).works
   works_kept = subst (λ y. EachTwo SameWork y (c s).works) side.works kept.works
@@ -162,11 +165,11 @@ module _ (n : Machine) (s : ℕ) (x : Step) (m m2 : Place → ℕ) (b c : ℕ �
         claimed = claims_kept;
         raised = kept.raised ∙ side.raised;
         credits = kept.credits ∙ side.credits;
-        spares = λ g t l. rw (kept.refs ∙ side.refs) l;
+        spares = λ g t l. rw (kept.refs ∙ refs_same) l;
         refs = λ g.
             let e = entries-same (names g) (sizes_of n) m m2 b c held_named (λ f i l. demands_named f i) in
             let w = words_named g in let t = typed_moves g in
-            let p = hand_is g (c s) in let q = hand_is g (b s) in let r = ap (refs_to g) (kept.refs ∙ side.refs) in
+            let p = hand_is g (c s) in let q = hand_is g (b s) in let r = ap (refs_to g) (kept.refs ∙ refs_same) in
             omega arith;
         types = λ g.
             let e = entries-same (names_typed g) (sizes_of n) m m2 b c held_named (λ f i l. demands_named f i) in
@@ -186,5 +189,5 @@ module _ (n : Machine) (s : ℕ) (x : Step) (m m2 : Place → ℕ) (b c : ℕ �
       (stamped_by n m m2 (Vcpu v k) words (omega arith) (λ w e. let i : k ≡ 5 = cc in absurd (not_context k (inl i) word)) (λ g e. absurd (cc)) (λ g e. absurd (cc)) sound.stamped)
       (idle_running n s m m2 b c seat others (words (Vcpu s 6) (λ e. let i : 6 ≡ k = cc in absurd (not_context k (inr (sym i)) word)) ∙ runs n s m m2 b c seat others sound (d.wrote.running refl))
       (λ w off. words (Vcpu w 6) (λ e. let i : 6 ≡ k = cc in absurd (not_context k (inr (sym i)) word)))
-      (λ e. sym (ap (λ y. y.cold) d.hand ∙ still.cold ∙ side.cold) ∙ e) (λ t e. (ap (λ y. y.cache) d.hand ∙ still.cache ∙ side.cache) ∙ e) (λ t e. (ap (λ y. y.walk) d.hand ∙ still.walk ∙ side.walk) ∙ e)
+      (λ e. sym (ap (λ y. y.cold) d.hand ∙ still.cold ∙ far.cold) ∙ e) (λ t e. (ap (λ y. y.cache) d.hand ∙ still.cache ∙ far.cache) ∙ e) (λ t e. (ap (λ y. y.walk) d.hand ∙ still.walk ∙ far.walk) ∙ e)
       sound.idle)

@@ -34,34 +34,6 @@ pub named_in_typed : (g k w : ℕ) (u : Holdings) → typed_to g (named_in k w u
 named_in_typed g k zero u = let z = none_named g in omega arith
 named_in_typed g k (suc f) u = let z = one_named g f in let e = times_by-cons (λ y. y.frame) g (brought_typed f (context_type k) u) u.typed in omega arith
 
--- no more of the hand moves
-pub record Beyond (u v : Holdings) : Type 0 where
-  pub refs : v.refs ≡ u.refs
-  pub works : v.works ≡ u.works
-  pub locks : v.locks ≡ u.locks
-  pub ending : v.ending ≡ u.ending
-  pub claimed : v.claimed ≡ u.claimed
-  pub raised : v.raised ≡ u.raised
-  pub credits : v.credits ≡ u.credits
-  pub cache : v.cache ≡ u.cache
-  pub walk : v.walk ≡ u.walk
-  pub cold : v.cold ≡ u.cold
-
-pub beyond : (u v : Holdings) → v.refs ≡ u.refs → v.works ≡ u.works → v.locks ≡ u.locks → v.ending ≡ u.ending → v.claimed ≡ u.claimed → v.raised ≡ u.raised → v.credits ≡ u.credits →
-    v.cache ≡ u.cache → v.walk ≡ u.walk → v.cold ≡ u.cold → Beyond u v
-beyond u v a b c d e f g h i j = record { refs = a; works = b; locks = c; ending = d; claimed = e; raised = f; credits = g; cache = h; walk = i; cold = j }
-
-pub beyond_same : (u : Holdings) → Beyond u u
-beyond_same u = beyond u u refl refl refl refl refl refl refl refl refl refl
-
-pub out_beyond : (w : ℕ) (u : Holdings) → Beyond u (named_out w u)
-out_beyond zero u = beyond_same u
-out_beyond (suc f) u = beyond u _ refl refl refl refl refl refl refl refl refl refl
-
-pub in_beyond : (k w : ℕ) (u : Holdings) → Beyond u (named_in k w u)
-in_beyond k zero u = beyond_same u
-in_beyond k (suc f) u = beyond u _ refl refl refl refl refl refl refl refl refl refl
-
 pub out_types : (m : Place → ℕ) (w : ℕ) (u : Holdings) → EachOf (λ e. HasType m e.frame e.kind) u.typed → EachOf (λ e. HasType m e.frame e.kind) (named_out w u).typed
 out_types m zero u k = k
 out_types m (suc f) u k = EachOf-without (λ y. HasType m y.frame y.kind) (λ y. y.frame) f u.typed k

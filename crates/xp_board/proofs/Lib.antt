@@ -10,6 +10,7 @@ pub mod Counted
 pub mod WorkFacts
 pub mod Recordless
 pub mod StepLists
+pub mod HandParts
 pub mod SafeItems
 pub mod Empty
 pub mod KindForms
