@@ -2,23 +2,18 @@
 use Rattle.xp_board.specs.After.{noted, learned_cell}
 use Rattle.xp_board.specs.GuestSteps.{MayStore}
 use Rattle.count_rule.proofs.EntryMarks.{work_word}
-use Rattle.count_rule.proofs.Words.{is_dying-read, dying_says}
-use Rattle.count_rule.proofs.Tables.{some_bit}
-use Rattle.count_rule.proofs.Sums.{when_eq, when_ne}
-use Rattle.std.proofs.Common.{◌≡◌, ◌≢◌, ℕ, ◌+◌, ◌*◌, ◌/◌, ◌%◌, ◌^◌, ◌<◌, ◌==◌, ◌&&◌, Bool, false, List, [], ◌∷◌, Option, Some, None, refl, sym, ◌∙◌, ap, subst, arith, IsTrue, inl, inr}
-use Rattle.std.proofs.lemmas.Bool.{cases_Bool, cases_eq, and_parts, or_cases}
+use Rattle.xp_board.proofs.RefWords.{is_dying-read, dying_says}
+use Rattle.xp_board.proofs.Sums.{some_bit, hands-part}
+use Rattle.std.proofs.Common.{◌≡◌, ◌≢◌, ℕ, ◌+◌, ◌<◌, ◌==◌, ◌&&◌, Bool, false, List, [], ◌∷◌, Option, Some, None, refl, sym, ◌∙◌, ap, subst, arith, IsTrue, inl, inr}
+use Rattle.std.proofs.lemmas.Bool.{cases_eq, and_parts, or_cases}
 use Rattle.std.proofs.lemmas.Bool.Decides.{nat_tests}
 use Rattle.xp_words.specs.declared.kind.PageType.{PageType}
-use Rattle.xp_words.specs.declared.entry.Demand.{Demand}
-use Rattle.xp_words.specs.declared.entry.Demand.TheVariants.{Nothing, Bad, Read, Typed}
 use Rattle.xp_words.specs.Entries.{demand_at}
-use Rattle.xp_words.specs.PageTypes.{is_table, type_number, type_of}
+use Rattle.xp_words.specs.PageTypes.{is_table, type_number}
 use Rattle.xp_words.specs.Machine.{Machine}
 use Rattle.xp_words.specs.Places.{sizes_of, is_place, Place, Kind, Cell, Refs}
-use Rattle.xp_words.proofs.KindLaws.{type_back}
 use Rattle.xp_board.specs.declared.holdings.Holdings.{Holdings}
 use Rattle.xp_board.specs.declared.holdings.Seen.{Seen}
-use Rattle.xp_board.specs.declared.holdings.Walk.{Walk}
 use Rattle.xp_board.specs.declared.holdings.Claimed.{Claimed}
 use Rattle.xp_board.specs.declared.holdings.Work.{Work}
 use Rattle.xp_board.specs.declared.step.Item.{Item}
@@ -28,49 +23,23 @@ use Rattle.xp_board.specs.Readings.{kind_at, is_dying}
 use Rattle.xp_board.specs.Steps.{last_since}
 use Rattle.xp_board.specs.Hands.{claim_of, work_on, endings_of, claims_of}
 use Rattle.xp_board.specs.Recorded.{held, HasType}
-use Rattle.xp_board.specs.CellSteps.{is_same_demand, is_same_as_seen, AllowsPlain}
-use Rattle.xp_board.specs.FillSteps.{with_bit, sets_dirty, touched}
+use Rattle.xp_board.specs.CellSteps.{is_same_as_seen, AllowsPlain}
 use Rattle.xp_board.specs.Found.{LockFound, is_same_entry}
 use Rattle.xp_board.specs.WellFormed.{IsLockFormed}
 use Rattle.xp_board.specs.Reach.{Writes, Reach, cached, use_of}
 use Rattle.xp_board.specs.Keeping.{MayAct}
 use Rattle.xp_board.specs.Sound.{Sound, Spelled}
 use Rattle.xp_board.proofs.ActEffects.{Rewrote, Filled, GuestStored, Touched}
-use Rattle.count_rule.proofs.Lists.{EachOf-found, first_by-counts}
+use Rattle.xp_board.proofs.ListCounts.{EachOf-found}
+use Rattle.xp_board.proofs.HandLists.{first-some}
 use Rattle.count_rule.proofs.Learning.{kept_noted, kept_cell, same_hand}
 use Rattle.count_rule.proofs.SpelledLaw.{wrote_spelled}
-use Rattle.count_rule.proofs.Demands.{demand_at-entry}
+use Rattle.xp_board.proofs.EntryWords.{entry_asks_same, same_demand, touched_same}
 use Rattle.count_rule.proofs.WalkHands.{same_descended, cold_descended}
-use Rattle.count_rule.proofs.KindSpelled.{form_was}
-use Rattle.count_rule.proofs.Recordless.{marked_none, no_table_none, unreferenced_none}
+use Rattle.xp_board.proofs.Recordless.{marked_none, unreferenced_none}
+use Rattle.xp_board.proofs.HeldByForm.{no_table}
 use Rattle.count_rule.proofs.CellLaw.{cell_outcome}
 use Rattle.count_rule.proofs.Outcome.{Outcome}
-use Rattle.xp_board.proofs.Sums.{hands-part}
-
--- ---- equal demands
-type_same : (t u : PageType) → type_number t ≡ type_number u → t ≡ u
-type_same t u e = sym (type_back t) ∙ ap type_of e ∙ type_back u
-
-demand_same : (d e : Demand) → IsTrue (is_same_demand d e) → d ≡ e
-demand_same Nothing Nothing k = refl
-demand_same (Read f) (Read g) k = let e : f ≡ g = grind (arith, nat_tests) in ap Read e
-demand_same (Typed f t) (Typed g u) k =
-    let e : f ≡ g = grind (arith, nat_tests) in
-    let i : type_number t ≡ type_number u = grind (arith, nat_tests) in
-    ap (λ y. Typed y t) e ∙ ap (Typed g) (type_same t u i)
-demand_same Nothing Bad k = absurd (cc)
-demand_same Nothing (Read g) k = absurd (cc)
-demand_same Nothing (Typed g u) k = absurd (cc)
-demand_same Bad Nothing k = absurd (cc)
-demand_same Bad Bad k = absurd (cc)
-demand_same Bad (Read g) k = absurd (cc)
-demand_same Bad (Typed g u) k = absurd (cc)
-demand_same (Read f) Nothing k = absurd (cc)
-demand_same (Read f) Bad k = absurd (cc)
-demand_same (Read f) (Typed g u) k = absurd (cc)
-demand_same (Typed f t) Nothing k = absurd (cc)
-demand_same (Typed f t) Bad k = absurd (cc)
-demand_same (Typed f t) (Read g) k = absurd (cc)
 
 -- what was noted of a cell asks the same as the new word
 record SeenAs (kind : PageType) (i new : ℕ) (seen : Option Seen) : Type 0 where
@@ -89,44 +58,9 @@ seen_as kind i new (Some x) k =
           record {
             word = x.word;
             here = ap (λ y. Some (record { index = y; word = x.word })) at;
-            same = demand_same (demand_at kind i x.word) (demand_at kind i new) (grind (arith, nat_tests));
+            same = same_demand (demand_at kind i x.word) (demand_at kind i new) (grind (arith, nat_tests));
           }
       | inr off ↦ absurd (not_there kind i new x off k)
-    ]
-
--- ---- accessed and dirty bits
-same_by : (v w : ℕ) → v / 128 ≡ w / 128 → v % 32 ≡ w % 32 → IsTrue (is_same_entry v w)
-same_by v w a b =
-    let e : v / 128 * 128 + v % 32 ≡ w / 128 * 128 + w % 32 = omega arith in
-    when_eq (v / 128 * 128 + v % 32) (w / 128 * 128 + w % 32) e
-
-same_parts : (v w : ℕ) → IsTrue (is_same_entry v w) → (v / 128 ≡ w / 128) × (v % 32 ≡ w % 32)
-same_parts v w e =
-    let k : v / 128 * 128 + v % 32 ≡ w / 128 * 128 + w % 32 = grind (arith, nat_tests) in
-    (omega arith, omega arith)
-
-bit_five : (w : ℕ) → IsTrue (is_same_entry (with_bit 5 w) w)
-bit_five w =
-    elim (cases_eq (w / 2 ^ 5 % 2) 1) [
-      | inl on ↦ rw (when_eq (w / 2 ^ 5 % 2) 1 on) (same_by w w refl refl)
-      | inr off ↦ let o : w / 2 ^ 5 % 2 ≢ 1 = off in rw (when_ne (w / 2 ^ 5 % 2) 1 off) (same_by (w + 2 ^ 5) w (omega arith) (omega arith))
-    ]
-
-bit_six : (w : ℕ) → IsTrue (is_same_entry (with_bit 6 w) w)
-bit_six w =
-    elim (cases_eq (w / 2 ^ 6 % 2) 1) [
-      | inl on ↦ rw (when_eq (w / 2 ^ 6 % 2) 1 on) (same_by w w refl refl)
-      | inr off ↦ let o : w / 2 ^ 6 % 2 ≢ 1 = off in rw (when_ne (w / 2 ^ 6 % 2) 1 off) (same_by (w + 2 ^ 6) w (omega arith) (omega arith))
-    ]
-
-touched_same : (walk : Walk) (w : ℕ) → IsTrue (is_same_entry (touched walk w) w)
-touched_same walk w =
-    elim (cases_Bool (sets_dirty walk)) [
-      | inl on ↦
-          let a = same_parts (with_bit 5 w) w (bit_five w) in
-          let d = same_parts (with_bit 6 (with_bit 5 w)) (with_bit 5 w) (bit_six (with_bit 5 w)) in
-          rw on (same_by (with_bit 6 (with_bit 5 w)) w (d.0 ∙ a.0) (d.1 ∙ a.1))
-      | inr off ↦ rw off (bit_five w)
     ]
 
 -- ---- the item that the guest stores through
@@ -152,7 +86,7 @@ module _ (n : Machine) (s : ℕ) (x : Step) (m m2 : Place → ℕ) (b c : ℕ �
       let seen = seen_as e.kind i (m2 (Cell f i)) e.seen d.same in
       let noted : last_since (sizes_of n) e.since (Cell e.frame i) (b s).steps ≡ Some seen.word = rw seen.here at formed.1.seen in
       let cell = found.1 i seen.word noted in
-      let stands = demand_at-entry e.kind i (m (Cell e.frame i)) seen.word cell in
+      let stands = entry_asks_same e.kind i (m (Cell e.frame i)) seen.word cell in
       let kind : (kind_at m f).kind ≡ e.kind = ap (λ y. (kind_at m y).kind) (sym found.0) ∙ typed.1 in
       let same : demand_at (kind_at m f).kind i (m2 (Cell f i)) ≡ demand_at (kind_at m f).kind i (m (Cell f i)) =
       ap (λ y. demand_at y i (m2 (Cell f i))) kind ∙ sym seen.same ∙ sym stands ∙ ap (λ y. demand_at e.kind i (m (Cell y i))) found.0 ∙ ap (λ y. demand_at y i (m (Cell f i))) (sym kind)
@@ -164,9 +98,9 @@ module _ (n : Machine) (s : ℕ) (x : Step) (m m2 : Place → ℕ) (b c : ℕ �
 
   pub touched_outcome : Touched n x f i m m2 (b s) (c s) → Outcome n m2 c
   touched_outcome d =
-      let same = subst (λ y. IsTrue (is_same_entry y (m (Cell f i)))) (sym d.may.left) (touched_same d.walk (m (Cell f i))) in
+      let same = subst (λ y. IsTrue (is_same_entry (m (Cell f i)) y)) (sym d.may.left) (touched_same d.walk (m (Cell f i))) in
       let still = (cold_descended n d.walk (m2 (Cell f i)) (b s)).cold in
-      cell_outcome n s m m2 b c seat others sound f i d.wrote.others (λ l. demand_at-entry (kind_at m f).kind i (m2 (Cell f i)) (m (Cell f i)) same)
+      cell_outcome n s m m2 b c seat others sound f i d.wrote.others (λ l. sym (entry_asks_same (kind_at m f).kind i (m (Cell f i)) (m2 (Cell f i)) same))
       (kept_noted x (m (Cell f i)) (b s) _ (c s) d.hand (kept_cell f i (m2 (Cell f i)) (b s) _ (same_descended n d.walk (m2 (Cell f i)) (b s)))) (d.wrote.running refl)
       (ap (λ u. u.cold) d.hand ∙ still)
       (λ k e. let none = (sound.idle s seat).cold_walk k in let flying = d.may.flying in absurd (cc)) (λ k e. let flying = d.may.flying in absurd (cc))
@@ -192,8 +126,8 @@ module _ (n : Machine) (s : ℕ) (x : Step) (m m2 : Place → ℕ) (b c : ℕ �
       let reach = subst (λ y. Reach (sizes_of n) m (b s) y Writes) frame (subst (λ y. Reach (sizes_of n) m (b s) item.0.frame y) purpose (cached item.0 item.1)) in
       let fresh = sound.fresh.each s seat f Writes reach in
       elim (fresh.bears.typed (λ e. cc)) [
-        | inl typed ↦ no_table_none n s m b seat sound f (not_seven (kind_at m f).kind typed.1)
-        | inr marked ↦ marked_none n s m b seat sound f (form_was n s m m2 b seat sound f (kind_real real)) marked.0
+        | inl typed ↦ no_table (kind_at m f) _ (not_seven (kind_at m f).kind typed.1)
+        | inr marked ↦ marked_none n m b f sound marked.0
       ]
 
   pub guest_outcome : GuestStored n x f i m m2 (b s) (c s) → Outcome n m2 c
@@ -204,20 +138,20 @@ module _ (n : Machine) (s : ℕ) (x : Step) (m m2 : Place → ℕ) (b c : ℕ �
   -- ---- a claimed frame, a descriptor page in the own work, or ordinary memory
   claimed_none : (e : Claimed) → claim_of f (b s).claimed ≡ Some e → held (sizes_of n) m b f ≡ 0
   claimed_none e here =
-      let some = first_by-counts (λ y. y.frame) f (b s).claimed e here in
+      let some = first-some (λ y. y.frame) f e (b s).claimed here in
       let all = sound.alone.dying f in
       let part = hands-part (λ u. endings_of f u.ending + claims_of f u.claimed) (sizes_of n) b s seat in
       let dying = some_bit (is_dying (m (Refs f))) (omega arith) in
       let r = is_dying-read (m (Refs f)) dying in
-      unreferenced_none n s m b seat sound f (dying_says (m (Refs f)) r.0 r.1).counts
+      unreferenced_none n m b f sound (dying_says (m (Refs f)) r.0 r.1).counts
 
   filled_none : (k : Option Claimed) (w : Option Work) → claim_of f (b s).claimed ≡ k → work_on f (b s).works ≡ w → AllowsPlain n f i (m2 (Cell f i)) (b s) k w → held (sizes_of n) m b f ≡ 0
   filled_none (Some e) w at on allows = claimed_none e at
   filled_none None (Some e) at on allows =
-      no_table_none n s m b seat sound f (ap (λ y. is_table y.kind) (work_word n s m b seat sound f e on) ∙ ap is_table allows.kind)
+      no_table (kind_at m f) _ (ap (λ y. is_table y.kind) (work_word n s m b seat sound f e on) ∙ ap is_table allows.kind)
   filled_none None None at on allows =
       let kind = ((sound.found s seat).lives f allows.kind allows.live).1 in
-      no_table_none n s m b seat sound f
+      no_table (kind_at m f) _
       (elim allows.ordinary [
         | inl writable ↦ ap is_table (kind ∙ writable)
         | inr desc ↦ ap is_table (kind ∙ desc.0)

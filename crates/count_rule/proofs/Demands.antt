@@ -1,14 +1,12 @@
--- What an entry asks, and the hand that a demand goes out of or comes into.
-use Rattle.std.proofs.Common.{◌≡◌, ℕ, ◌+◌, ◌*◌, ◌/◌, ◌%◌, ◌^◌, ◌<◌, Some, refl, ap, subst, arith, IsTrue, inl, inr}
+-- The hand that a demand goes out of or comes into.
+use Rattle.std.proofs.Common.{◌≡◌, ℕ, ◌+◌, ◌<◌, Some, refl, ap, subst, arith, IsTrue, inl, inr}
 use Rattle.std.proofs.lemmas.Bool.{cases_eq}
-use Rattle.std.proofs.lemmas.Bool.Decides.{nat_tests}
 use Rattle.xp_words.specs.declared.kind.PageType.{PageType}
 use Rattle.xp_words.specs.declared.entry.Demand.{Demand}
 use Rattle.xp_words.specs.declared.entry.Demand.TheVariants.{Nothing, Bad, Read, Typed}
-use Rattle.xp_words.specs.Entries.{demand_at, demand_of, frame_of}
 use Rattle.xp_board.specs.declared.holdings.Holdings.{Holdings}
 use Rattle.xp_board.specs.Lists.{one_at, EachOf}
-use Rattle.xp_board.specs.Found.{Found, is_same_entry}
+use Rattle.xp_board.specs.Found.{Found}
 use Rattle.xp_board.specs.Hands.{brought, brought_typed, refs_to, typed_to, hand, typed_hand}
 use Rattle.xp_board.specs.Recorded.{HasType, names, names_typed}
 use Rattle.xp_board.specs.Settling.{HasDemand, HasLastDemand, demand_in, demand_out}
@@ -16,47 +14,10 @@ use Rattle.xp_board.specs.RefSteps.{SparesClosing}
 use Rattle.xp_words.specs.Machine.{Machine}
 use Rattle.xp_words.specs.Places.{Place}
 use Rattle.xp_board.specs.Readings.{kind_at}
-use Rattle.count_rule.proofs.Sums.{one_at-same, one_at-other}
+use Rattle.xp_board.proofs.Sums.{one_at-same, one_at-other}
 use Rattle.count_rule.proofs.Quiet.{is_closing_at}
-use Rattle.count_rule.proofs.Lists.{times_by-cons, times_by-without}
+use Rattle.xp_board.proofs.ListCounts.{times_by-cons, times_by-without}
 use Rattle.xp_board.proofs.HandLists.{EachOf-without}
-
--- ---- bits 5 and 6 play no part
-same_parts : (w v : ℕ) → IsTrue (is_same_entry w v) → (w / 128 ≡ v / 128) × (w % 32 ≡ v % 32)
-same_parts w v e =
-    let k : w / 128 * 128 + w % 32 ≡ v / 128 * 128 + v % 32 = grind (arith, nat_tests) in
-    (omega arith, omega arith)
-
-over_52 : (w : ℕ) → w / 2 ^ 52 ≡ w / 128 / 2 ^ 45
-over_52 w = omega arith
-
-over_12 : (w : ℕ) → w / 2 ^ 12 ≡ w / 128 / 2 ^ 5
-over_12 w = omega arith
-
-high_rights : (w v : ℕ) → w / 128 ≡ v / 128 → w / 2 ^ 52 % 2 ^ 11 ≡ v / 2 ^ 52 % 2 ^ 11
-high_rights w v e = rw (over_52 w, over_52 v) (ap (λ x. x / 2 ^ 45 % 2 ^ 11) e)
-
-high_frame : (w v : ℕ) → w / 128 ≡ v / 128 → frame_of w ≡ frame_of v
-high_frame w v e = rw (over_12 w, over_12 v) (ap (λ x. x / 2 ^ 5 % 2 ^ 40) e)
-
-demand_of-entry : (kind : PageType) (w v : ℕ) → IsTrue (is_same_entry w v) → demand_of kind w ≡ demand_of kind v
-unfolding demand_of
-demand_of-entry kind w v e =
-    let p = same_parts w v e in
-    let high = p.0 in
-    let low = p.1 in
-    let a : w / 2 ^ 0 % 2 ≡ v / 2 ^ 0 % 2 = omega arith in
-    let b : w / 2 ^ 1 % 2 ≡ v / 2 ^ 1 % 2 = omega arith in
-    let c : w / 2 ^ 3 % 4 ≡ v / 2 ^ 3 % 4 = omega arith in
-    let d : w / 2 ^ 7 % 2 ≡ v / 2 ^ 7 % 2 = omega arith in
-    let f : w / 2 ^ 8 % 2 ≡ v / 2 ^ 8 % 2 = omega arith in
-    let g : w / 2 ^ 52 % 2 ^ 11 ≡ v / 2 ^ 52 % 2 ^ 11 = high_rights w v high in
-    let h : frame_of w ≡ frame_of v = high_frame w v high in
-    rw (a, b, c, d, f, g, h) refl
-
-pub demand_at-entry : (kind : PageType) (i w v : ℕ) → IsTrue (is_same_entry w v) → demand_at kind i w ≡ demand_at kind i v
-unfolding demand_at
-demand_at-entry kind i w v e = rw (demand_of-entry kind w v e) refl
 
 -- ---- the hand
 abbrev pub IsInHand : Demand → Holdings → Type 0
@@ -92,33 +53,6 @@ in_typed g Nothing u = omega arith
 in_typed g Bad u = omega arith
 in_typed g (Read f) u = omega arith
 in_typed g (Typed f t) u = let e = times_by-cons (λ y. y.frame) g (brought_typed f (Some t) u) u.typed in omega arith
-
--- no more of the hand moves
-pub record Aside (u v : Holdings) : Type 0 where
-  pub works : v.works ≡ u.works
-  pub locks : v.locks ≡ u.locks
-  pub ending : v.ending ≡ u.ending
-  pub claimed : v.claimed ≡ u.claimed
-  pub raised : v.raised ≡ u.raised
-  pub credits : v.credits ≡ u.credits
-  pub cache : v.cache ≡ u.cache
-  pub walk : v.walk ≡ u.walk
-  pub cold : v.cold ≡ u.cold
-
-aside : (u v : Holdings) → v.works ≡ u.works → v.locks ≡ u.locks → v.ending ≡ u.ending → v.claimed ≡ u.claimed → v.raised ≡ u.raised → v.credits ≡ u.credits → v.cache ≡ u.cache → v.walk ≡ u.walk → v.cold ≡ u.cold → Aside u v
-aside u v a b c d e f g h i = record { works = a; locks = b; ending = c; claimed = d; raised = e; credits = f; cache = g; walk = h; cold = i }
-
-pub out_aside : (d : Demand) (u : Holdings) → Aside u (demand_out d u)
-out_aside Nothing u = aside u _ refl refl refl refl refl refl refl refl refl
-out_aside Bad u = aside u _ refl refl refl refl refl refl refl refl refl
-out_aside (Read f) u = aside u _ refl refl refl refl refl refl refl refl refl
-out_aside (Typed f t) u = aside u _ refl refl refl refl refl refl refl refl refl
-
-pub in_aside : (d : Demand) (u : Holdings) → Aside u (demand_in d u)
-in_aside Nothing u = aside u _ refl refl refl refl refl refl refl refl refl
-in_aside Bad u = aside u _ refl refl refl refl refl refl refl refl refl
-in_aside (Read f) u = aside u _ refl refl refl refl refl refl refl refl refl
-in_aside (Typed f t) u = aside u _ refl refl refl refl refl refl refl refl refl
 
 -- the types of typed references
 pub out_types : (m : Place → ℕ) (d : Demand) (u : Holdings) → EachOf (λ y. HasType m y.frame y.kind) u.typed → EachOf (λ y. HasType m y.frame y.kind) (demand_out d u).typed

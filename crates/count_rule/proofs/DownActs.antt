@@ -25,15 +25,16 @@ use Rattle.xp_board.specs.Spelling.{IsSpelling}
 use Rattle.xp_board.specs.Keeping.{MayAct}
 use Rattle.xp_board.specs.Sound.{is_busy, HeldAlone, Sound}
 use Rattle.xp_board.proofs.ActEffects.{Wrote, Dropped, Unlocked}
-use Rattle.count_rule.proofs.Sums.{when_eq, when_ne}
-use Rattle.count_rule.proofs.Lists.{first_by-cons_here}
-use Rattle.count_rule.proofs.Tables.{nobody_works, held_free, held_mine}
+use Rattle.xp_board.proofs.Sums.{when_eq, when_ne, no_bit}
+use Rattle.xp_board.proofs.ListCounts.{first_by-cons_here}
+use Rattle.xp_board.proofs.Works.{nobody_works, held_free, held_mine}
 use Rattle.count_rule.proofs.ListMoves.{cons_other, out_other, cons_here, out_here, recorded_cons}
-use Rattle.count_rule.proofs.KindForms.{Says, spelled_form, live_says, closing_says, held_live, held_work}
+use Rattle.count_rule.proofs.KindForms.{Says, live_says, closing_says}
+use Rattle.xp_board.proofs.HeldByForm.{held_live, held_work, held_same}
+use Rattle.xp_board.proofs.KindForms.{spelled_form}
 use Rattle.count_rule.proofs.KindSpelled.{form_was, drop_live, drop_some, drop_fields, lock_live, lock_on_word, lock_some, unlock_fields, kind_spelled}
-use Rattle.count_rule.proofs.KindActs.{not_busy, stamp_live, Elsewhere, beside, rest_by, turn_outcome, free_outcome}
+use Rattle.count_rule.proofs.KindActs.{stamp_live, Elsewhere, beside, rest_by, turn_outcome, free_outcome}
 use Rattle.count_rule.proofs.KindWorks.{works_in}
-use Rattle.count_rule.proofs.TurnActs.{held_same}
 use Rattle.count_rule.proofs.Outcome.{Outcome}
 use Rattle.xp_board.proofs.HandLists.{EachOf-without}
 
@@ -107,7 +108,7 @@ module _ (n : Machine) (s : ℕ) (x : Step) (m m2 : Place → ℕ) (b c : ℕ �
     closing_held : HeldAlone n m2 c → (w : Work) → (c s).works ≡ w ∷ (b s).works → w.frame ≡ f → w.recorded ≡ (if is_table (kind_at m f).kind then 512 else 0) →
         held (sizes_of n) m2 c f ≡ held (sizes_of n) m b f
     closing_held alone w now of_w all =
-        let free = not_busy (is_busy (kind_at m f)) was.busy_is in
+        let free = no_bit (is_busy (kind_at m f)) was.busy_is in
         held_mine n m2 c alone f s w seat (ap (work_on f) now ∙ first_by-cons_here (λ y. y.frame) f w (b s).works of_w)
         ∙ held_work (kind_at m2 f) w.recorded ∙ ap (λ y. if is_table y then w.recorded else 0) kind ∙ ap (λ y. if is_table (kind_at m f).kind then y else 0) all
         ∙ twice_if (is_table (kind_at m f).kind) 512
@@ -122,7 +123,7 @@ module _ (n : Machine) (s : ℕ) (x : Step) (m m2 : Place → ℕ) (b c : ℕ �
         let lock = ap bit off.1 in
         let hand_is = after_is true (when_eq (kind_at m f).number 1 one) in
         let now = ap (λ y. y.works) hand_is in
-        let free = not_busy (is_busy (kind_at m f)) was.busy_is in
+        let free = no_bit (is_busy (kind_at m f)) was.busy_is in
         let nobody = nobody_works n m b sound.alone f free s seat in
         let more = cons_here (λ y. y.frame) f (b s).works (after true).works _ refl refl in
         let rest =

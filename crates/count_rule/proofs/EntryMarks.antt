@@ -9,7 +9,7 @@ use Rattle.xp_words.specs.Entries.{demand_at}
 use Rattle.xp_words.specs.PageTypes.{is_table}
 use Rattle.xp_words.specs.KindWords.{kind_fields}
 use Rattle.xp_words.specs.Machine.{Machine}
-use Rattle.xp_words.specs.Places.{sizes_of, Place, Kind, Cell}
+use Rattle.xp_words.specs.Places.{sizes_of, Place, Cell}
 use Rattle.xp_board.specs.declared.holdings.Holdings.{Holdings}
 use Rattle.xp_board.specs.declared.holdings.Work.{Work}
 use Rattle.xp_board.specs.declared.holdings.Seen.{Seen}
@@ -18,18 +18,18 @@ use Rattle.xp_board.specs.Readings.{kind_at}
 use Rattle.xp_board.specs.Steps.{last_since}
 use Rattle.xp_board.specs.Hands.{refs_to, works_on, work_on, hand, typed_hand, changed_work}
 use Rattle.xp_board.specs.Recorded.{held, held_of, entry_demand, names, names_typed, entries, recorded_in, recorded_number, HasType, TypesAgree}
-use Rattle.xp_board.specs.Found.{WorkFound, is_known_inside, is_same_cell, is_same_entry}
-use Rattle.xp_board.specs.WellFormed.{IsWorkFormed}
+use Rattle.xp_board.specs.Found.{is_known_inside, is_same_cell, is_same_entry}
 use Rattle.xp_board.specs.Sound.{HeldAlone, Sound}
-use Rattle.count_rule.proofs.Lists.{EachOf-found}
-use Rattle.count_rule.proofs.ListChanges.{first_by-changed_here, first_by-changed_other}
+use Rattle.xp_board.proofs.ListChanges.{first_by-changed_here, first_by-changed_other}
 use Rattle.count_rule.proofs.Twins.{EachTwo, EachTwo-changed_at, EachTwo-times, LikeWork}
-use Rattle.count_rule.proofs.Tables.{held_mine}
+use Rattle.xp_board.proofs.Works.{held_mine}
 use Rattle.count_rule.proofs.CountLaw.{counts_law, each_seat}
 use Rattle.count_rule.proofs.PartLaws.{alone_law, map_law, works_law, idle_fewer}
-use Rattle.count_rule.proofs.Quiet.{table_inside, held_still, is_closing_at, works_spared}
-use Rattle.count_rule.proofs.Demands.{demand_at-entry}
+use Rattle.count_rule.proofs.Quiet.{held_still, is_closing_at, works_spared}
+use Rattle.xp_board.proofs.Counted.{table_inside}
+use Rattle.xp_board.proofs.EntryWords.{entry_asks_same}
 use Rattle.count_rule.proofs.Outcome.{Outcome}
+use Rattle.xp_board.proofs.WorkFacts.{Works, works_facts}
 
 known_inside : (k : KindWord) → IsTrue (is_table k.kind) → k.unflushed ≡ false → IsTrue (is_known_inside k)
 known_inside k t u = grind (arith, nat_tests)
@@ -47,14 +47,11 @@ not_marked false seen x k e = refl
 
 -- ---- a table in the own work, and the entry that was loaded last
 module _ (n : Machine) (s : ℕ) (m : Place → ℕ) (h : ℕ → Holdings) (seat : s < (sizes_of n).vcpus) (sound : Sound n m h) (f : ℕ) (e : Work) (here : work_on f (h s).works ≡ Some e) where
-  work_found : (e.frame ≡ f) × WorkFound n m h (h s) e
-  work_found = EachOf-found (WorkFound n m h (h s)) (λ y. y.frame) f (h s).works e here (sound.found s seat).works
-
-  work_formed : (e.frame ≡ f) × IsWorkFormed n (h s) e
-  work_formed = EachOf-found (IsWorkFormed n (h s)) (λ y. y.frame) f (h s).works e here (sound.formed s seat).works
+  work_facts : Works n m h s f e
+  work_facts = works_facts n m h s f e sound seat here
 
   pub work_word : kind_at m f ≡ kind_fields e.word
-  work_word = ap kind_fields (ap (λ g. m (Kind g)) (sym work_found.0) ∙ work_found.1.word)
+  work_word = ap kind_fields work_facts.word
 
   pub work_held : IsTrue (is_table (kind_fields e.word).kind) → held (sizes_of n) m h f ≡ e.recorded
   unfolding held_of
@@ -64,15 +61,15 @@ module _ (n : Machine) (s : ℕ) (m : Place → ℕ) (h : ℕ → Holdings) (sea
   work_inside t = table_inside n m f sound.spelled (rw work_word t)
 
   pub seen_unmarked : (x : Seen) → e.seen ≡ Some x → (kind_fields e.word).unflushed ≡ false
-  seen_unmarked x k = not_marked (kind_fields e.word).unflushed e.seen x work_formed.1.marked k
+  seen_unmarked x k = not_marked (kind_fields e.word).unflushed e.seen x work_facts.formed.marked k
 
   -- what it asks
   pub seen_demand : (i w : ℕ) → IsTrue (is_table (kind_fields e.word).kind) → e.seen ≡ Some (record { index = i; word = w }) → entry_demand m f i ≡ demand_at (kind_fields e.word).kind i w
   seen_demand i w t k =
-      let noted : last_since (sizes_of n) e.unmarked (Cell e.frame i) (h s).steps ≡ Some w = rw k at work_formed.1.seen in
-      let cell = work_found.1.cells (known_inside (kind_fields e.word) t (seen_unmarked _ k)) i w noted in
+      let noted : last_since (sizes_of n) e.unmarked (Cell e.frame i) (h s).steps ≡ Some w = rw k at work_facts.formed.seen in
+      let cell = work_facts.found.cells (known_inside (kind_fields e.word) t (seen_unmarked _ k)) i w noted in
       let same = table_cell (kind_fields e.word).kind (m (Cell e.frame i)) w t cell in
-      ap (λ y. demand_at y.kind i (m (Cell f i))) work_word ∙ ap (λ g. demand_at (kind_fields e.word).kind i (m (Cell g i))) (sym work_found.0) ∙ demand_at-entry (kind_fields e.word).kind i (m (Cell e.frame i)) w same
+      ap (λ y. demand_at y.kind i (m (Cell f i))) work_word ∙ ap (λ g. demand_at (kind_fields e.word).kind i (m (Cell g i))) (sym work_facts.frame) ∙ entry_asks_same (kind_fields e.word).kind i (m (Cell e.frame i)) w same
 
 -- ---- one entry more, or one less
 module _ (n : Machine) (s : ℕ) (m : Place → ℕ) (h b : ℕ → Holdings) (seat : s < (sizes_of n).vcpus) (others : (t : ℕ) → t ≢ s → b t ≡ h t) (sound : Sound n m h) (f : ℕ) (e : Work) (here : work_on f (h s).works ≡ Some e) (change : Work → Work) where

@@ -26,22 +26,23 @@ use Rattle.xp_board.specs.Keeping.{MayAct}
 use Rattle.xp_board.specs.Sound.{is_busy, Sound}
 use Rattle.xp_board.proofs.ActEffects.{Exchanged}
 use Rattle.xp_board.proofs.PlaceTests.{same_or_other}
-use Rattle.count_rule.proofs.Lists.{first_by-counts, EachOf-found}
+use Rattle.xp_board.proofs.ListCounts.{EachOf-found}
+use Rattle.xp_board.proofs.HandLists.{first-some, EachOf-map}
 use Rattle.count_rule.proofs.Twins.{EachTwo, EachTwo-each, SameWork, SameLock, SameClaim, recorded_in-same}
-use Rattle.count_rule.proofs.Tables.{some_bit, held_free}
-use Rattle.count_rule.proofs.Steady.{entries-one, table_entries-changed, contexts-same}
+use Rattle.xp_board.proofs.Works.{held_free}
+use Rattle.xp_board.proofs.Sums.{some_bit, hands-part}
+use Rattle.xp_board.proofs.Counted.{entries-one, table_entries-changed, contexts-same}
 use Rattle.count_rule.proofs.CountLaw.{each_seat}
 use Rattle.count_rule.proofs.PartLaws.{stamped_by, idle_running}
 use Rattle.count_rule.proofs.Learning.{works_learnt, locks_learnt, claims_learnt}
 use Rattle.count_rule.proofs.Quiet.{hand_is, typed_hand_is, held_still, locks_times}
-use Rattle.count_rule.proofs.Demands.{IsInHand, Spares, out_hand, out_typed, in_hand, in_typed, Aside, out_aside, in_aside, out_types, in_types, out_spares, in_more, has_demand, demand_type}
-use Rattle.count_rule.proofs.KindForms.{held_live}
+use Rattle.count_rule.proofs.Demands.{IsInHand, Spares, out_hand, out_typed, in_hand, in_typed, out_types, in_types, out_spares, in_more, has_demand, demand_type}
+use Rattle.xp_board.proofs.HeldByForm.{held_live}
 use Rattle.count_rule.proofs.KindSpelled.{form_was}
 use Rattle.count_rule.proofs.SpelledLaw.{wrote_spelled}
 use Rattle.count_rule.proofs.Outcome.{Outcome, runs}
 use Rattle.count_rule.proofs.HandLaw.{HandMove, hand_outcome}
-use Rattle.xp_board.proofs.Sums.{hands-part}
-use Rattle.xp_board.proofs.HandLists.{EachOf-map}
+use Rattle.xp_board.proofs.HandParts.{Beside, Translations, beside_then, translations_then, beside_out, beside_in, translations_out, translations_in}
 
 locked_free : (k : KindWord) → has_form k ≡ true → is_locked k ≡ true → is_busy k ≡ false
 unfolding has_form
@@ -82,7 +83,7 @@ module _ (n : Machine) (s : ℕ) (x : Step) (m m2 : Place → ℕ) (b c : ℕ �
 
   locked : is_locked (kind_at m f) ≡ true
   locked =
-      let some = first_by-counts (λ y. y.frame) f (b s).locks d.e d.here in
+      let some = first-some (λ y. y.frame) f d.e (b s).locks d.here in
       let all = sound.alone.locks f in
       let part = hands-part (λ u. locks_on f u.locks) (sizes_of n) b s seat in
       some_bit (is_locked (kind_at m f)) (omega arith)
@@ -103,21 +104,11 @@ module _ (n : Machine) (s : ℕ) (x : Step) (m m2 : Place → ℕ) (b c : ℕ �
   has = has_demand n f d.e.kind (b s) new d.may
 
   -- ---- the hand
-  side : Aside (b s) moved
-  side =
-      let p = out_aside new (b s) in
-      let q = in_aside old between in
-      record {
-        works = q.works ∙ p.works;
-        locks = q.locks ∙ p.locks;
-        ending = q.ending ∙ p.ending;
-        claimed = q.claimed ∙ p.claimed;
-        raised = q.raised ∙ p.raised;
-        credits = q.credits ∙ p.credits;
-        cache = q.cache ∙ p.cache;
-        walk = q.walk ∙ p.walk;
-        cold = q.cold ∙ p.cold;
-      }
+  side : Beside (b s) moved
+  side = beside_then (b s) between moved (beside_out new (b s)) (beside_in old between)
+
+  far : Translations (b s) moved
+  far = translations_then (b s) between moved (translations_out new (b s)) (translations_in old between)
 
   works_kept : EachTwo SameWork (b s).works (c s).works
   works_kept =
@@ -230,4 +221,4 @@ module _ (n : Machine) (s : ℕ) (x : Step) (m m2 : Place → ℕ) (b c : ℕ �
       (wrote_spelled n s x (Cell f i) _ m m2 (b s) d.wrote may sound.machine sound.spelled (λ by l. absurd l) (λ v l. absurd l))
       (stamped_by n m m2 (Cell f i) words (omega arith) (λ w e. absurd (cc)) (λ g e. absurd (cc)) (λ g e. absurd (cc)) sound.stamped)
       (idle_running n s m m2 b c seat others (words (Vcpu s 6) (λ e. cc) ∙ runs n s m m2 b c seat others sound (d.wrote.running refl)) (λ w off. words (Vcpu w 6) (λ e. cc))
-      (λ e. sym (ap (λ y. y.cold) d.hand ∙ side.cold) ∙ e) (λ t e. (ap (λ y. y.cache) d.hand ∙ side.cache) ∙ e) (λ t e. (ap (λ y. y.walk) d.hand ∙ side.walk) ∙ e) sound.idle)
+      (λ e. sym (ap (λ y. y.cold) d.hand ∙ far.cold) ∙ e) (λ t e. (ap (λ y. y.cache) d.hand ∙ far.cache) ∙ e) (λ t e. (ap (λ y. y.walk) d.hand ∙ far.walk) ∙ e) sound.idle)

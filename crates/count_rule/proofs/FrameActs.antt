@@ -18,15 +18,14 @@ use Rattle.xp_board.specs.Found.{ClaimFound, EndingFound}
 use Rattle.xp_board.specs.Keeping.{MayAct}
 use Rattle.xp_board.specs.Sound.{Sound}
 use Rattle.xp_board.proofs.ActEffects.{Took, Freed, Gave}
-use Rattle.count_rule.proofs.Sums.{when_eq, when_ne, one_at-same}
-use Rattle.count_rule.proofs.Lists.{first_by-absent, EachOf-found, first_by-some, times_by-without_one, times_by-cons, times_by-without, times_by-cons_here, times_by-cons_other, times_by-without_other, first_by-counts}
-use Rattle.count_rule.proofs.Tables.{bit_most, some_bit}
-use Rattle.count_rule.proofs.Words.{owned_says, free_says, dying_says, is_dying-read, dying_owner}
+use Rattle.xp_board.proofs.Sums.{when_eq, when_ne, one_at-same, hands-part, bit_most, some_bit}
+use Rattle.xp_board.proofs.ListCounts.{first_by-absent, EachOf-found, first_by-some, times_by-without_one, times_by-cons, times_by-without, times_by-cons_here, times_by-cons_other, times_by-without_other}
+use Rattle.xp_board.proofs.HandLists.{first-some}
+use Rattle.xp_board.proofs.RefWords.{owned_says, free_says, dying_says, is_dying-read, dying_owner}
 use Rattle.count_rule.proofs.Told.{clock_told}
 use Rattle.count_rule.proofs.Outcome.{Outcome}
 use Rattle.count_rule.proofs.RefLaw.{ref_outcome}
 use Rattle.count_rule.proofs.RefActs.{inside, ref_spelled}
-use Rattle.xp_board.proofs.Sums.{hands-part}
 
 bit_one_at : (o d : ℕ) → bit (o == d) ≡ one_at d o
 bit_one_at o d =
@@ -175,7 +174,7 @@ module _ (n : Machine) (s : ℕ) (x : Step) (m m2 : Place → ℕ) (b c : ℕ �
 
   pub gave_outcome : Gave n s x f m m2 (b s) (c s) → Outcome n m2 c
   gave_outcome d =
-      let some = first_by-counts (λ y. y.frame) f (b s).claimed d.may.claimed d.may.here in
+      let some = first-some (λ y. y.frame) f d.may.claimed (b s).claimed d.may.here in
       let mine = mine_dying (omega arith) in
       let old = is_dying-read (m (Refs f)) mine.0 in
       let u = dying_says _ old.0 old.1 in

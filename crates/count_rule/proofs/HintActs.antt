@@ -19,10 +19,9 @@ use Rattle.xp_board.specs.Spelling.{IsSpelling, map_bits}
 use Rattle.xp_board.specs.Keeping.{MayAct}
 use Rattle.xp_board.specs.Sound.{Spelled, Sound, is_hinted}
 use Rattle.xp_board.proofs.ActEffects.{Wrote, Hinted}
-use Rattle.count_rule.proofs.Sums.{hands-only, one_at-same}
-use Rattle.count_rule.proofs.Lists.{times_by-cons_here, times_by-cons_other, times_by-without, times_by-without_other}
-use Rattle.count_rule.proofs.Tables.{bit_most, some_bit}
-use Rattle.count_rule.proofs.Words.{is_dying-read, dying_says}
+use Rattle.xp_board.proofs.Sums.{hands-only, one_at-same, hands-part, hands-two, bit_most, some_bit}
+use Rattle.xp_board.proofs.ListCounts.{times_by-cons_here, times_by-cons_other, times_by-without, times_by-without_other}
+use Rattle.xp_board.proofs.RefWords.{is_dying-read, dying_says}
 use Rattle.count_rule.proofs.Bits.{set_small, set_here, set_other, has_bit, cleared_bit}
 use Rattle.count_rule.proofs.Learning.{Stays, works_kept, locks_kept, claims_kept}
 use Rattle.count_rule.proofs.PartLaws.{stamped_by, idle_running}
@@ -30,7 +29,6 @@ use Rattle.count_rule.proofs.SpelledLaw.{wrote_spelled}
 use Rattle.count_rule.proofs.Outcome.{Outcome, calm_outcome, runs}
 use Rattle.count_rule.proofs.PageActs.{calm}
 use Rattle.count_rule.proofs.Hints.{Hint, sets, clears, hint_is}
-use Rattle.xp_board.proofs.Sums.{hands-part, hands-two}
 
 bit_at_bit : (w i : ℕ) → bit (w / 2 ^ i % 2 == 1) ≡ bit_at w i
 bit_at_bit w i = grind (arith, nat_tests)

@@ -2,7 +2,6 @@
 use Rattle.std.proofs.Common.{◌≡◌, ◌≢◌, ℕ, ◌+◌, ◌<◌, ◌≤◌, ◌⊎◌, if◌then◌else◌, Bool, true, false, Some, None, refl, sym, ◌∙◌, ap, subst, arith, inl}
 use Rattle.xp_words.specs.declared.kind.KindWord.{KindWord}
 use Rattle.xp_words.specs.KindWords.{kind_fields}
-use Rattle.xp_words.specs.RefWords.{bit}
 use Rattle.xp_words.specs.Machine.{Machine}
 use Rattle.xp_words.specs.Places.{sizes_of, Place, Clock, Kind}
 use Rattle.xp_board.specs.declared.holdings.Holdings.{Holdings}
@@ -15,17 +14,14 @@ use Rattle.xp_board.specs.Recorded.{held, held_of, HasType, recorded_in}
 use Rattle.xp_board.specs.Keeping.{MayAct}
 use Rattle.xp_board.specs.Sound.{is_busy, HeldAlone, WorkAgrees, Sound}
 use Rattle.xp_board.proofs.ActEffects.{Wrote}
-use Rattle.count_rule.proofs.Tables.{nobody_works, held_free}
+use Rattle.xp_board.proofs.Works.{nobody_works, held_free}
 use Rattle.count_rule.proofs.ListMoves.{kept_other, recorded_kept}
 use Rattle.count_rule.proofs.KindForms.{Says}
 use Rattle.count_rule.proofs.KindSpelled.{kind_spelled}
 use Rattle.count_rule.proofs.KindLaw.{Rest, kind_outcome}
 use Rattle.count_rule.proofs.KindWorks.{works_apart}
 use Rattle.count_rule.proofs.Outcome.{Outcome}
-
-pub not_busy : (t : Bool) → bit t ≡ 0 → t ≡ false
-not_busy true e = absurd (omega arith)
-not_busy false e = refl
+use Rattle.xp_board.proofs.Sums.{no_bit}
 
 pub stamp_live : (w : ℕ) (k : KindWord) → kind_fields w ≡ k → k.validated ≡ true → kind_stamp w ≡ 0
 unfolding kind_stamp
@@ -149,8 +145,8 @@ module _ (n : Machine) (s : ℕ) (x : Step) (m m2 : Place → ℕ) (b c : ℕ �
       (EachOf (λ e. HasType m2 e.frame e.kind) (b s).typed → EachOf (λ e. HasType m2 e.frame e.kind) u.typed) →
       (EachOf (λ e. HasType m2 e.frame (Some e.kind)) (b s).locks → EachOf (λ e. HasType m2 e.frame (Some e.kind)) u.locks) → Outcome n m2 c
   free_outcome wrote u hand side works other k l ck mk lk cl ml ll turn same kind stamp refs types locks typed_kept locks_kept =
-      let free = not_busy (is_busy k) turn.says.busy_is in
-      let still = not_busy (is_busy l) turn.tells.busy_is in
+      let free = no_bit (is_busy k) turn.says.busy_is in
+      let still = no_bit (is_busy l) turn.tells.busy_is in
       let none = nobody k l turn.was turn.is free still in
       let rest = rest_by u hand side other (kept_other (λ y. y.frame) f (b s).works u.works works) (recorded_kept f (b s).works u.works works) in
       turn_outcome wrote u hand rest k l ck mk 0 lk cl ml 0 ll turn stamp refs types (let w = ap (works_on f) works in omega arith) locks

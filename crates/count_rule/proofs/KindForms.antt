@@ -1,26 +1,13 @@
 -- What a kind word says, by its form.
-use Rattle.std.proofs.Common.{◌≡◌, ℕ, ◌<◌, ◌==◌, if◌then◌else◌, Bool, true, false, Option, Some, None, refl, sym, ◌∙◌, ap, arith, IsTrue}
+use Rattle.std.proofs.Common.{◌≡◌, ℕ, ◌<◌, ◌==◌, true, false, refl, arith, IsTrue}
 use Rattle.std.proofs.lemmas.Bool.{and_parts}
 use Rattle.std.proofs.lemmas.Bool.Decides.{nat_tests}
 use Rattle.xp_words.specs.declared.kind.KindWord.{KindWord}
-use Rattle.xp_words.specs.KindWords.{kind_read, kind_fields, has_form}
-use Rattle.xp_words.specs.PageTypes.{is_table}
+use Rattle.xp_words.specs.KindWords.{has_form}
 use Rattle.xp_words.specs.RefWords.{bit}
-use Rattle.xp_words.proofs.KindLaws.{when_some}
-use Rattle.xp_words.specs.Machine.{Machine}
 use Rattle.xp_board.specs.Readings.{type_count, is_live, is_partial, is_work, is_dead, is_closing, is_locked}
-use Rattle.xp_board.specs.Recorded.{marks, held_of}
-use Rattle.xp_board.specs.Spelling.{is_kind_in}
+use Rattle.xp_board.specs.Recorded.{marks}
 use Rattle.xp_board.specs.Sound.{is_busy}
-use Rattle.xp_board.proofs.KindForms.{form_read}
-use Rattle.xp_board.proofs.FrameInversions.{fields_of}
-
-form_of_read : (n : Machine) (w : ℕ) (o : Option KindWord) → kind_read w ≡ o → IsTrue (is_kind_in n o) → has_form (kind_fields w) ≡ true
-form_of_read n w (Some k) e t = ap has_form (fields_of w k e) ∙ form_read w k e
-form_of_read n w None e t = absurd (cc)
-
-pub spelled_form : (n : Machine) (w : ℕ) → IsTrue (is_kind_in n (kind_read w)) → has_form (kind_fields w) ≡ true
-spelled_form n w t = form_of_read n w (kind_read w) refl t
 
 -- its type count, its marks, and whether the frame is in one hand alone
 pub record Says (k : KindWord) (count mark busy lock : ℕ) : Type 0 where
@@ -77,30 +64,3 @@ dead_says k form dead =
     let pinned : k.pinned ≡ false = grind (arith, nat_tests) in
     let kept : k.kept ≡ false = grind (arith, nat_tests) in
     record { counts = rw (live, part, locked) refl; mark_is = rw (kept, pinned) refl; busy_is = rw (live, part, locked) refl; lock_is = rw live refl }
-
--- ---- how many entries are recorded, by its form
-pub held_live : (k : KindWord) → IsTrue (is_live k) → held_of k None ≡ (if is_table k.kind then 512 else 0)
-unfolding held_of
-held_live k live = rw live refl
-
-pub held_partial : (k : KindWord) → IsTrue (is_partial k) → held_of k None ≡ (if is_table k.kind then k.progress else 0)
-unfolding held_of
-held_partial k partial =
-    let live : k.validated ≡ false = grind (arith, nat_tests) in
-    let part : k.partial ≡ true = grind (arith, nat_tests) in
-    rw (live, part) refl
-
-either_zero : (t : Bool) → ◌≡◌ {A = ℕ} (if t then 0 else 0) 0
-either_zero true = refl
-either_zero false = refl
-
-pub held_dead : (k : KindWord) → IsTrue (is_dead k) → held_of k None ≡ 0
-unfolding held_of
-held_dead k dead =
-    let live : k.validated ≡ false = grind (arith, nat_tests) in
-    let part : k.partial ≡ false = grind (arith, nat_tests) in
-    rw (live, part) (either_zero (is_table k.kind))
-
-pub held_work : (k : KindWord) (r : ℕ) → held_of k (Some r) ≡ (if is_table k.kind then r else 0)
-unfolding held_of
-held_work k r = refl

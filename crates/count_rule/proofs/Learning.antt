@@ -1,5 +1,5 @@
 -- What a hand keeps as it learns a word.
-use Rattle.std.proofs.Common.{◌≡◌, ℕ, ◌==◌, Bool, true, false, if◌then◌else◌, List, [], refl, sym, ◌∙◌}
+use Rattle.std.proofs.Common.{◌≡◌, ℕ, ◌==◌, Bool, List, [], refl, sym, ◌∙◌}
 use Rattle.xp_words.specs.KindWords.{kind_fields}
 use Rattle.xp_words.specs.Places.{Place, Clock, Pages, Life, Vcpu, Refs, Kind, M2p, Cell, Map, Priv}
 use Rattle.xp_board.specs.declared.holdings.Holdings.{Holdings}
@@ -11,6 +11,7 @@ use Rattle.xp_board.specs.Lists.{kept_of}
 use Rattle.xp_board.specs.Hands.{IsEmptyHand}
 use Rattle.xp_board.specs.After.{noted, learned, learned_cell, learned_work, learned_lock, learned_claim, learned_life, learned_own}
 use Rattle.count_rule.proofs.Twins.{EachTwo, EachTwo-same, EachTwo-changed, EachTwo-none, SameWork, SameLock, SameClaim}
+use Rattle.xp_board.proofs.HandParts.{either, References, Beside, references_own, beside_own, translations_own}
 
 same_work : (e : Work) → SameWork e e
 same_work e = record { frame = refl; word = refl; recorded = refl }
@@ -20,10 +21,6 @@ same_lock e = record { frame = refl; kind = refl }
 
 same_claim : (e : Claimed) → SameClaim e e
 same_claim e = record { frame = refl }
-
-pub either : {A : Type 0} (P : A → Type 0) (t : Bool) (x y : A) → P x → P y → P (if t then x else y)
-either P true x y a b = a
-either P false x y a b = b
 
 learned_work_same : (i w : ℕ) (e : Work) → SameWork e (learned_work i w e)
 learned_work_same i w e = either (SameWork e) (kind_fields e.word).unflushed _ _ (same_work e) (record { frame = refl; word = refl; recorded = refl })
@@ -168,18 +165,17 @@ still_life d found b =
     (record { cache = refl; walk = refl; cold = refl; looking = λ e. kept_of-none _ _ e })
     (record { cache = refl; walk = refl; cold = refl; looking = λ e. e })
 
+-- and all that stands beside the references
+pub same_of : (b c : Holdings) → References b c → Beside b c → Same b c
+same_of b c k l = same_refl b c k.refs k.typed l.works l.locks l.ending l.claimed l.raised l.credits
+
 pub same_own : (k w : ℕ) (b : Holdings) → Same b (learned_own k w b)
-same_own k w b =
-    either (Same b) (k == 2) _ _ (same_refl b _ refl refl refl refl refl refl refl refl)
-    (either (Same b) (k == 3) _ _ (same_refl b _ refl refl refl refl refl refl refl refl)
-    (either (Same b) (k == 6) _ _ (same_refl b _ refl refl refl refl refl refl refl refl) (same_hand b)))
+same_own k w b = same_of b (learned_own k w b) (references_own k w b) (beside_own k w b)
 
 pub still_own : (k w : ℕ) (b : Holdings) → Still b (learned_own k w b)
 still_own k w b =
-    either (Still b) (k == 2) _ _ (record { cache = refl; walk = refl; cold = refl; looking = λ e. e })
-    (either (Still b) (k == 3) _ _ (record { cache = refl; walk = refl; cold = refl; looking = λ e. e })
-    (either (Still b) (k == 6) _ _ (record { cache = refl; walk = refl; cold = refl; looking = λ e. e })
-    (record { cache = refl; walk = refl; cold = refl; looking = λ e. e })))
+    let far = translations_own k w b in
+    record { cache = far.cache; walk = far.walk; cold = far.cold; looking = λ e. (beside_own k w b).looking ∙ e }
 
 pub learnt : (s : ℕ) (p : Place) (found left : ℕ) (b : Holdings) → Learnt b (learned s p found left b)
 learnt s (Cell f i) found left b =

@@ -1,12 +1,6 @@
-mod Sums
-mod Lists
-mod ListChanges
-mod Tables
-mod Steady
 mod CountLaw
 mod PartLaws
 mod Twins
-mod Words
 mod Learning
 mod Spellings
 mod SpelledLaw
@@ -36,9 +30,9 @@ mod StoreForms
 mod StoreActs
 mod PartialActs
 mod CellLaw
-mod Recordless
 mod CellActs
 mod HandLaw
+mod NameHands
 mod NameActs
 mod ExchangeActs
 mod RefLaw

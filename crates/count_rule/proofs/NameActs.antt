@@ -1,6 +1,5 @@
 -- A word of a vCPU names another frame, or none.
-use Rattle.std.proofs.Common.{◌≡◌, ◌≢◌, ℕ, zero, suc, ◌+◌, ◌<◌, ◌⊎◌, Option, Some, None, refl, sym, ◌∙◌, ap, subst, arith, add-one, IsTrue, inl, inr}
-use Rattle.std.proofs.lemmas.Bool.{cases_eq}
+use Rattle.std.proofs.Common.{◌≡◌, ◌≢◌, ℕ, ◌+◌, ◌<◌, ◌⊎◌, Option, Some, None, refl, sym, ◌∙◌, ap, subst, arith, add-one, IsTrue, inl, inr}
 use Rattle.std.proofs.lemmas.Bool.Decides.{nat_tests}
 use Rattle.xp_words.specs.declared.kind.PageType.{PageType}
 use Rattle.xp_words.specs.Machine.{Machine}
@@ -9,7 +8,7 @@ use Rattle.xp_board.specs.declared.holdings.Holdings.{Holdings}
 use Rattle.xp_board.specs.declared.step.Step.{Step}
 use Rattle.xp_board.specs.Lists.{one_at, EachOf}
 use Rattle.xp_board.specs.Readings.{kind_at, is_context}
-use Rattle.xp_board.specs.Hands.{refs_to, typed_to, typed_hand, brought_typed}
+use Rattle.xp_board.specs.Hands.{refs_to, typed_to, typed_hand}
 use Rattle.xp_board.specs.ContextSteps.{context_type, FitsWord, NamesFrame, named_in, named_out}
 use Rattle.xp_board.specs.Recorded.{names, names_typed, contexts, held, entry_demand, HasType, TypesAgree}
 use Rattle.xp_board.specs.After.{learned}
@@ -17,10 +16,8 @@ use Rattle.xp_board.specs.Keeping.{MayAct}
 use Rattle.xp_board.specs.Sound.{Sound}
 use Rattle.xp_board.proofs.ActEffects.{Named}
 use Rattle.xp_board.proofs.PlaceTests.{same_or_other}
-use Rattle.count_rule.proofs.Sums.{when_eq, when_ne}
-use Rattle.count_rule.proofs.Lists.{times_by-cons, times_by-without}
 use Rattle.count_rule.proofs.Twins.{EachTwo-each, SameLock, recorded_in-same, EachTwo, SameWork, SameClaim}
-use Rattle.count_rule.proofs.Steady.{entries-same, contexts-one}
+use Rattle.xp_board.proofs.Counted.{entries-same, contexts-one}
 use Rattle.count_rule.proofs.CountLaw.{each_seat}
 use Rattle.count_rule.proofs.PartLaws.{stamped_by, idle_running}
 use Rattle.count_rule.proofs.Learning.{Kept, Learnt, learnt, kept_noted}
@@ -28,69 +25,9 @@ use Rattle.count_rule.proofs.Quiet.{hand_is, typed_hand_is, held_still, locks_ti
 use Rattle.count_rule.proofs.SpelledLaw.{wrote_spelled}
 use Rattle.count_rule.proofs.Outcome.{Outcome, cells_same, runs}
 use Rattle.count_rule.proofs.HandLaw.{HandMove, hand_outcome}
-use Rattle.xp_board.proofs.HandLists.{EachOf-map, EachOf-without}
-
--- ---- the hand
-one_named : (g f : ℕ) → one_at (g + 1) (suc f) ≡ one_at g f
-one_named g f =
-    elim (cases_eq f g) [
-      | inl at ↦ rw (when_eq f g at, when_eq (suc f) (g + 1) (omega arith)) refl
-      | inr off ↦ let o : f ≢ g = off in rw (when_ne f g off, when_ne (suc f) (g + 1) (λ e. absurd (omega arith))) refl
-    ]
-
-none_named : (g : ℕ) → one_at (g + 1) 0 ≡ 0
-none_named g = rw (when_ne 0 (g + 1) (λ e. absurd (omega arith))) refl
-
--- what a word names is in hand
-abbrev IsNamed : ℕ → Holdings → Type 0
-IsNamed zero u = Unit {0}
-IsNamed (suc f) u = 0 < typed_to f u.typed
-
-named_out_typed : (g w : ℕ) (u : Holdings) → IsNamed w u → typed_to g (named_out w u).typed + one_at (g + 1) w ≡ typed_to g u.typed
-named_out_typed g zero u k = let z = none_named g in omega arith
-named_out_typed g (suc f) u k = let z = one_named g f in let e = times_by-without (λ y. y.frame) g f u.typed k in omega arith
-
-named_in_typed : (g k w : ℕ) (u : Holdings) → typed_to g (named_in k w u).typed ≡ typed_to g u.typed + one_at (g + 1) w
-named_in_typed g k zero u = let z = none_named g in omega arith
-named_in_typed g k (suc f) u = let z = one_named g f in let e = times_by-cons (λ y. y.frame) g (brought_typed f (context_type k) u) u.typed in omega arith
-
--- no more of the hand moves
-record Beyond (u v : Holdings) : Type 0 where
-  refs : v.refs ≡ u.refs
-  works : v.works ≡ u.works
-  locks : v.locks ≡ u.locks
-  ending : v.ending ≡ u.ending
-  claimed : v.claimed ≡ u.claimed
-  raised : v.raised ≡ u.raised
-  credits : v.credits ≡ u.credits
-  cache : v.cache ≡ u.cache
-  walk : v.walk ≡ u.walk
-  cold : v.cold ≡ u.cold
-
-beyond : (u v : Holdings) → v.refs ≡ u.refs → v.works ≡ u.works → v.locks ≡ u.locks → v.ending ≡ u.ending → v.claimed ≡ u.claimed → v.raised ≡ u.raised → v.credits ≡ u.credits →
-    v.cache ≡ u.cache → v.walk ≡ u.walk → v.cold ≡ u.cold → Beyond u v
-beyond u v a b c d e f g h i j = record { refs = a; works = b; locks = c; ending = d; claimed = e; raised = f; credits = g; cache = h; walk = i; cold = j }
-
-beyond_same : (u : Holdings) → Beyond u u
-beyond_same u = beyond u u refl refl refl refl refl refl refl refl refl refl
-
-out_beyond : (w : ℕ) (u : Holdings) → Beyond u (named_out w u)
-out_beyond zero u = beyond_same u
-out_beyond (suc f) u = beyond u _ refl refl refl refl refl refl refl refl refl refl
-
-in_beyond : (k w : ℕ) (u : Holdings) → Beyond u (named_in k w u)
-in_beyond k zero u = beyond_same u
-in_beyond k (suc f) u = beyond u _ refl refl refl refl refl refl refl refl refl refl
-
-out_types : (m : Place → ℕ) (w : ℕ) (u : Holdings) → EachOf (λ e. HasType m e.frame e.kind) u.typed → EachOf (λ e. HasType m e.frame e.kind) (named_out w u).typed
-out_types m zero u k = k
-out_types m (suc f) u k = EachOf-without (λ y. HasType m y.frame y.kind) (λ y. y.frame) f u.typed k
-
-in_types : (m : Place → ℕ) (k w : ℕ) (u : Holdings) → ((f : ℕ) → w ≡ f + 1 → HasType m f (context_type k)) → EachOf (λ e. HasType m e.frame e.kind) u.typed →
-    EachOf (λ e. HasType m e.frame e.kind) (named_in k w u).typed
-unfolding EachOf
-in_types m k zero u named e = e
-in_types m k (suc f) u named e = (named f (sym (add-one f)), e)
+use Rattle.xp_board.proofs.HandLists.{EachOf-map}
+use Rattle.count_rule.proofs.NameHands.{named_out_typed, named_in_typed, out_types, in_types, IsNamed}
+use Rattle.xp_board.proofs.HandParts.{Beside, Translations, beside_then, translations_then, beside_named_out, beside_named_in, translations_named_out, translations_named_in, refs_named_in, refs_named_out}
 
 not_context : (k : ℕ) → (k ≡ 5) ⊎ (k ≡ 6) → IsTrue (is_context k) → ⊥
 not_context k e t = grind (arith, nat_tests)
@@ -158,12 +95,14 @@ module _ (n : Machine) (s : ℕ) (x : Step) (m m2 : Place → ℕ) (b c : ℕ �
   kept : Kept moved (c s)
   kept = kept_noted x was moved _ (c s) d.hand learnt_all.kept
 
-  side : Beyond (b s) moved
-  side =
-      let p = out_beyond is (b s) in
-      let q = in_beyond k was (named_out is (b s)) in
-      beyond (b s) moved (q.refs ∙ p.refs) (q.works ∙ p.works) (q.locks ∙ p.locks) (q.ending ∙ p.ending) (q.claimed ∙ p.claimed) (q.raised ∙ p.raised) (q.credits ∙ p.credits) (q.cache ∙ p.cache)
-      (q.walk ∙ p.walk) (q.cold ∙ p.cold)
+  side : Beside (b s) moved
+  side = beside_then (b s) (named_out is (b s)) moved (beside_named_out is (b s)) (beside_named_in k was (named_out is (b s)))
+
+  far : Translations (b s) moved
+  far = translations_then (b s) (named_out is (b s)) moved (translations_named_out is (b s)) (translations_named_in k was (named_out is (b s)))
+
+  refs_same : moved.refs ≡ (b s).refs
+  refs_same = refs_named_in k was (named_out is (b s)) ∙ refs_named_out is (b s)
 
   works_kept : EachTwo SameWork (b s).works (c s).works
   works_kept = subst (λ y. EachTwo SameWork y (c s).works) side.works kept.works
@@ -226,11 +165,11 @@ module _ (n : Machine) (s : ℕ) (x : Step) (m m2 : Place → ℕ) (b c : ℕ �
         claimed = claims_kept;
         raised = kept.raised ∙ side.raised;
         credits = kept.credits ∙ side.credits;
-        spares = λ g t l. rw (kept.refs ∙ side.refs) l;
+        spares = λ g t l. rw (kept.refs ∙ refs_same) l;
         refs = λ g.
             let e = entries-same (names g) (sizes_of n) m m2 b c held_named (λ f i l. demands_named f i) in
             let w = words_named g in let t = typed_moves g in
-            let p = hand_is g (c s) in let q = hand_is g (b s) in let r = ap (refs_to g) (kept.refs ∙ side.refs) in
+            let p = hand_is g (c s) in let q = hand_is g (b s) in let r = ap (refs_to g) (kept.refs ∙ refs_same) in
             omega arith;
         types = λ g.
             let e = entries-same (names_typed g) (sizes_of n) m m2 b c held_named (λ f i l. demands_named f i) in
@@ -250,5 +189,5 @@ module _ (n : Machine) (s : ℕ) (x : Step) (m m2 : Place → ℕ) (b c : ℕ �
       (stamped_by n m m2 (Vcpu v k) words (omega arith) (λ w e. let i : k ≡ 5 = cc in absurd (not_context k (inl i) word)) (λ g e. absurd (cc)) (λ g e. absurd (cc)) sound.stamped)
       (idle_running n s m m2 b c seat others (words (Vcpu s 6) (λ e. let i : 6 ≡ k = cc in absurd (not_context k (inr (sym i)) word)) ∙ runs n s m m2 b c seat others sound (d.wrote.running refl))
       (λ w off. words (Vcpu w 6) (λ e. let i : 6 ≡ k = cc in absurd (not_context k (inr (sym i)) word)))
-      (λ e. sym (ap (λ y. y.cold) d.hand ∙ still.cold ∙ side.cold) ∙ e) (λ t e. (ap (λ y. y.cache) d.hand ∙ still.cache ∙ side.cache) ∙ e) (λ t e. (ap (λ y. y.walk) d.hand ∙ still.walk ∙ side.walk) ∙ e)
+      (λ e. sym (ap (λ y. y.cold) d.hand ∙ still.cold ∙ far.cold) ∙ e) (λ t e. (ap (λ y. y.cache) d.hand ∙ still.cache ∙ far.cache) ∙ e) (λ t e. (ap (λ y. y.walk) d.hand ∙ still.walk ∙ far.walk) ∙ e)
       sound.idle)

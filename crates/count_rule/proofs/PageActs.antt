@@ -14,7 +14,7 @@ use Rattle.xp_board.specs.PagesSteps.{MayRefund}
 use Rattle.xp_board.specs.Keeping.{MayAct}
 use Rattle.xp_board.specs.Sound.{Spelled, Sound}
 use Rattle.xp_board.proofs.ActEffects.{Wrote, Charged, Refunded}
-use Rattle.count_rule.proofs.ListChanges.{times-with_more_here, times-with_more_other, times-with_fewer_here, times-with_fewer_other}
+use Rattle.xp_board.proofs.ListChanges.{times-with_more_here, times-with_more_other, times-with_fewer_here, times-with_fewer_other}
 use Rattle.count_rule.proofs.Learning.{Stays, works_kept, locks_kept, claims_kept}
 use Rattle.count_rule.proofs.PartLaws.{stamped_by, idle_running}
 use Rattle.count_rule.proofs.SpelledLaw.{wrote_spelled}

@@ -11,7 +11,7 @@ use Rattle.xp_board.specs.Hands.{works_on, locks_on, endings_of, claims_of, IsEm
 use Rattle.xp_board.specs.Spelling.{IsSpelling}
 use Rattle.xp_board.specs.Sound.{is_busy, is_hinted, Spelled, HeldAlone, WorkAgrees, Stamped, Idle, FreeMap}
 use Rattle.xp_board.proofs.PlaceTests.{same_or_other}
-use Rattle.count_rule.proofs.Sums.{hands-one}
+use Rattle.xp_board.proofs.Sums.{hands-one}
 use Rattle.count_rule.proofs.CountLaw.{each_seat}
 
 -- ---- words

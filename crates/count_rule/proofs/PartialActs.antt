@@ -22,9 +22,11 @@ use Rattle.xp_board.specs.Keeping.{MayAct}
 use Rattle.xp_board.specs.Sound.{Sound}
 use Rattle.xp_board.proofs.ActEffects.{Wrote, Stored}
 use Rattle.count_rule.proofs.ListMoves.{cons_other, out_other, cons_here, out_here, maybe_out_other, maybe_out_here}
-use Rattle.count_rule.proofs.KindForms.{closing_says, partial_says, work_says, held_partial}
+use Rattle.count_rule.proofs.KindForms.{closing_says, partial_says, work_says}
+use Rattle.xp_board.proofs.HeldByForm.{held_partial}
 use Rattle.count_rule.proofs.KindActs.{stamp_of, beside}
-use Rattle.count_rule.proofs.StoreForms.{form_partial, work_alone, partial_unlive, closing_flushed, partial_number, maybe_out_types}
+use Rattle.count_rule.proofs.StoreForms.{work_alone, partial_unlive, closing_flushed, partial_number, maybe_out_types}
+use Rattle.xp_board.proofs.FormsLeft.{form_partial}
 use Rattle.count_rule.proofs.Outcome.{Outcome}
 use Rattle.count_rule.proofs.StoreActs.{form_before, forms, stamp_was, out_outcome, type_is}
 use Rattle.xp_board.proofs.KindForms.{form_read}

@@ -1,11 +1,9 @@
 -- An act that moves nothing that is counted.
 use Rattle.xp_words.specs.RefWords.{bit}
-use Rattle.std.proofs.Common.{◌≡◌, ◌≢◌, ℕ, ◌+◌, ◌<◌, Bool, true, false, List, Some, refl, sym, ◌∙◌, ap, arith, IsTrue, inl, inr}
+use Rattle.std.proofs.Common.{◌≡◌, ◌≢◌, ℕ, ◌+◌, ◌<◌, Bool, true, List, Some, refl, sym, ◌∙◌, ap, arith, IsTrue, inl, inr}
 use Rattle.std.proofs.lemmas.Bool.{cases_eq}
-use Rattle.std.proofs.lemmas.Bool.Decides.{nat_tests}
 use Rattle.xp_words.specs.Machine.{Machine}
-use Rattle.xp_words.specs.Places.{sizes_of, is_place, Place, Pages, Vcpu, Refs, Kind}
-use Rattle.xp_words.specs.PageTypes.{is_table}
+use Rattle.xp_words.specs.Places.{sizes_of, Place, Pages, Vcpu, Refs, Kind}
 use Rattle.xp_words.specs.KindWords.{kind_fields}
 use Rattle.xp_board.specs.declared.holdings.Holdings.{Holdings}
 use Rattle.xp_board.specs.declared.holdings.Work.{Work}
@@ -14,15 +12,15 @@ use Rattle.xp_board.specs.Readings.{kind_at, is_context, is_closing}
 use Rattle.xp_board.specs.Hands.{refs_to, typed_to, locks_on, works_on, endings_of, claims_of, work_on, hand, typed_hand}
 use Rattle.xp_board.specs.RefSteps.{is_closing_on}
 use Rattle.xp_board.specs.Recorded.{recorded_in, held, held_of, entry_demand, HasType, is_page_of, CountsAgree}
-use Rattle.xp_board.specs.Sound.{is_hinted, Spelled, HeldAlone, WorkAgrees, FreeMap, Sound}
-use Rattle.count_rule.proofs.Lists.{EachOf-both, EachOf-first}
+use Rattle.xp_board.specs.Sound.{is_hinted, HeldAlone, WorkAgrees, FreeMap, Sound}
+use Rattle.xp_board.proofs.ListCounts.{EachOf-both, EachOf-once}
 use Rattle.count_rule.proofs.Twins.{EachTwo, EachTwo-times, EachTwo-each, EachTwo-map, SameWork, LikeWork, SameLock, SameClaim, recorded_in-same}
-use Rattle.count_rule.proofs.Tables.{one_works}
-use Rattle.count_rule.proofs.Steady.{work_of-same}
+use Rattle.xp_board.proofs.Works.{one_works, work_of-same}
 use Rattle.count_rule.proofs.CountLaw.{pages_of, Steady, types_steady, counted_steady, counts_law}
 use Rattle.count_rule.proofs.PartLaws.{alone_law, map_law, works_law}
 use Rattle.count_rule.proofs.Learning.{Stays}
 use Rattle.xp_board.proofs.Sums.{sum_below-same}
+use Rattle.xp_board.proofs.Counted.{held_inside}
 
 -- ---- a hand that keeps its lists
 pub works_times : (b c : Holdings) → EachTwo SameWork b.works c.works → (g : ℕ) → works_on g c.works ≡ works_on g b.works
@@ -46,30 +44,8 @@ typed_hand_is g u = refl
 abbrev pub is_closing_at : ℕ → Holdings → Bool
 is_closing_at g u = is_closing_on (work_on g u.works)
 
-inside_by : (n : Machine) (m : Place → ℕ) (h : ℕ → Holdings) (f i : ℕ) → Spelled n m → i < held (sizes_of n) m h f → (t : Bool) → is_place (sizes_of n) (Kind f) ≡ t → f < (sizes_of n).frames
-unfolding is_place held_of kind_fields
-inside_by n m h f i spelled l true at = grind (arith, nat_tests)
-inside_by n m h f i spelled l false at =
-    let none : m (Kind f) ≡ 0 = spelled.outside (Kind f) at in
-    absurd (let k : i < 0 = rw none at l in omega arith)
-
 pub like_works : (xs ys : List Work) → EachTwo SameWork xs ys → EachTwo LikeWork xs ys
 like_works xs ys e = EachTwo-map SameWork LikeWork xs ys (λ x y r. record { frame = r.frame; word = r.word; recorded = λ u. r.recorded }) e
-
-table_by : (n : Machine) (m : Place → ℕ) (f : ℕ) → Spelled n m → IsTrue (is_table (kind_at m f).kind) → (t : Bool) → is_place (sizes_of n) (Kind f) ≡ t → f < (sizes_of n).frames
-unfolding is_place kind_fields
-table_by n m f spelled k true at = grind (arith, nat_tests)
-table_by n m f spelled k false at =
-    let none : m (Kind f) ≡ 0 = spelled.outside (Kind f) at in
-    let t : IsTrue (is_table (kind_fields 0).kind) = rw none at k in
-    absurd (cc)
-
-pub table_inside : (n : Machine) (m : Place → ℕ) (f : ℕ) → Spelled n m → IsTrue (is_table (kind_at m f).kind) → f < (sizes_of n).frames
-table_inside n m f spelled k = table_by n m f spelled k (is_place (sizes_of n) (Kind f)) refl
-
--- the tables that the machine has are those of which entries are recorded
-pub held_inside : (n : Machine) (m : Place → ℕ) (h : ℕ → Holdings) (f i : ℕ) → Spelled n m → i < held (sizes_of n) m h f → f < (sizes_of n).frames
-held_inside n m h f i spelled l = inside_by n m h f i spelled l (is_place (sizes_of n) (Kind f)) refl
 
 module _ (n : Machine) (s : ℕ) (m m2 : Place → ℕ) (b c : ℕ → Holdings) (seat : s < (sizes_of n).vcpus) (others : (t : ℕ) → t ≢ s → c t ≡ b t) where
   -- nobody's recorded entries but those of the own works change
@@ -81,7 +57,7 @@ module _ (n : Machine) (s : ℕ) (m m2 : Place → ℕ) (b c : ℕ → Holdings)
       ]
 
   pub held_still : (f : ℕ) → m2 (Kind f) ≡ m (Kind f) → recorded_in (c s).works f ≡ recorded_in (b s).works f → held (sizes_of n) m2 c f ≡ held (sizes_of n) m b f
-  held_still f k e = rw k (ap (held_of (kind_at m f)) (work_of-same (sizes_of n).vcpus b c f (recorded_same f e)))
+  held_still f k e = rw k (ap (held_of (kind_at m f)) (work_of-same (sizes_of n).vcpus b c f (λ t l. recorded_same f e t)))
 
   -- ---- works whose hand keeps its references
   pub works_spared : EachTwo LikeWork (b s).works (c s).works → ((g : ℕ) → IsTrue (is_closing_at g (b s)) → 0 < refs_to g (b s).refs → 0 < refs_to g (c s).refs) →
@@ -96,7 +72,7 @@ module _ (n : Machine) (s : ℕ) (m m2 : Place → ℕ) (b c : ℕ → Holdings)
             rw r.frame (spares x.frame (rw k.1 closing) (k.0.closing closing));
       })
       same
-      (EachOf-both (WorkAgrees (b s)) _ _ old (EachOf-first (λ e. e.frame) (b s).works (λ g. one_works n m b alone g s seat)))
+      (EachOf-both (WorkAgrees (b s)) _ _ old (EachOf-once (λ e. e.frame) (b s).works (λ g. one_works n m b alone g s seat)))
 
   -- ---- no frame's words move, nor what is in hand of frames
   pub record Calm : Type 0 where

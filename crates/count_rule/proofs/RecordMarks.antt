@@ -17,11 +17,12 @@ use Rattle.xp_board.specs.Settling.{HasLastDemand, demand_in, demand_out}
 use Rattle.xp_board.specs.Marks.{MayRecord, MayShed, demand_seen, seen_word, unsettled_by}
 use Rattle.xp_board.specs.Sound.{HeldAlone, Sound}
 use Rattle.xp_board.proofs.MarkEffects.{Recorded, Shed}
-use Rattle.count_rule.proofs.Steady.{entries-one, table_entries-more}
+use Rattle.xp_board.proofs.Counted.{entries-one, table_entries-more}
 use Rattle.count_rule.proofs.Quiet.{is_closing_at}
-use Rattle.count_rule.proofs.Demands.{IsInHand, out_hand, out_typed, in_hand, in_typed, out_aside, in_aside, out_types, in_types, Spares, out_spares, in_more, has_last, last_type}
+use Rattle.count_rule.proofs.Demands.{IsInHand, out_hand, out_typed, in_hand, in_typed, out_types, in_types, Spares, out_spares, in_more, has_last, last_type}
 use Rattle.count_rule.proofs.EntryMarks.{work_held, work_inside, seen_unmarked, seen_demand, MarkMove, mark_alone, mark_held_other, mark_held_here, marked_outcome}
 use Rattle.count_rule.proofs.Outcome.{Outcome}
+use Rattle.xp_board.proofs.HandParts.{beside_out, beside_in, translations_out, translations_in}
 
 module _ (n : Machine) (s : ℕ) (m : Place → ℕ) (h b : ℕ → Holdings) (seat : s < (sizes_of n).vcpus) (others : (t : ℕ) → t ≢ s → b t ≡ h t) (sound : Sound n m h) (f upto : ℕ) where
   hand_alike : (g : ℕ) (u v : Holdings) → v.refs ≡ u.refs → v.typed ≡ u.typed → v.locks ≡ u.locks → (hand g v ≡ hand g u) × (typed_hand g v ≡ typed_hand g u)
@@ -42,12 +43,12 @@ module _ (n : Machine) (s : ℕ) (m : Place → ℕ) (h b : ℕ → Holdings) (s
     has = has_last n f (kind_fields e.word).kind (h s) asked (subst (HasLastDemand n f (kind_fields e.word).kind (h s)) (sym asked_is) may.in_hand)
 
     works_now : (b s).works ≡ changed_work f change (h s).works
-    works_now = ap (λ y. y.works) hand_is ∙ (out_aside asked bare).works
+    works_now = ap (λ y. y.works) hand_is ∙ (beside_out asked bare).works
 
     alone : HeldAlone n m b
     alone =
-        mark_alone n s m h b seat others sound f e may.here change works_now frames words may.unmarked (ap (λ y. y.locks) hand_is ∙ (out_aside asked bare).locks)
-        (ap (λ y. y.ending) hand_is ∙ (out_aside asked bare).ending) (ap (λ y. y.claimed) hand_is ∙ (out_aside asked bare).claimed)
+        mark_alone n s m h b seat others sound f e may.here change works_now frames words may.unmarked (ap (λ y. y.locks) hand_is ∙ (beside_out asked bare).locks)
+        (ap (λ y. y.ending) hand_is ∙ (beside_out asked bare).ending) (ap (λ y. y.claimed) hand_is ∙ (beside_out asked bare).claimed)
 
     -- works play no part in what is in hand
     bare_has : (d : Demand) → IsInHand d (h s) → IsInHand d bare
@@ -101,14 +102,14 @@ module _ (n : Machine) (s : ℕ) (m : Place → ℕ) (h b : ℕ → Holdings) (s
           words = words;
           table = may.table;
           unmarked = may.unmarked;
-          locks = ap (λ y. y.locks) hand_is ∙ (out_aside asked bare).locks;
-          ending = ap (λ y. y.ending) hand_is ∙ (out_aside asked bare).ending;
-          claimed = ap (λ y. y.claimed) hand_is ∙ (out_aside asked bare).claimed;
-          raised = ap (λ y. y.raised) hand_is ∙ (out_aside asked bare).raised;
-          credits = ap (λ y. y.credits) hand_is ∙ (out_aside asked bare).credits;
-          cache = ap (λ y. y.cache) hand_is ∙ (out_aside asked bare).cache;
-          walk = ap (λ y. y.walk) hand_is ∙ (out_aside asked bare).walk;
-          cold = ap (λ y. y.cold) hand_is ∙ (out_aside asked bare).cold;
+          locks = ap (λ y. y.locks) hand_is ∙ (beside_out asked bare).locks;
+          ending = ap (λ y. y.ending) hand_is ∙ (beside_out asked bare).ending;
+          claimed = ap (λ y. y.claimed) hand_is ∙ (beside_out asked bare).claimed;
+          raised = ap (λ y. y.raised) hand_is ∙ (beside_out asked bare).raised;
+          credits = ap (λ y. y.credits) hand_is ∙ (beside_out asked bare).credits;
+          cache = ap (λ y. y.cache) hand_is ∙ (translations_out asked bare).cache;
+          walk = ap (λ y. y.walk) hand_is ∙ (translations_out asked bare).walk;
+          cold = ap (λ y. y.cold) hand_is ∙ (translations_out asked bare).cold;
           spares = λ g k l. rw hand_is (bare_spares asked has.0 has.1 g k l);
           refs = λ g. let k = entries_more (names g) in let o = (out_now g).0 in omega arith;
           types = λ g. let k = entries_more (names_typed g) in let o = (out_now g).1 in omega arith;
@@ -138,12 +139,12 @@ module _ (n : Machine) (s : ℕ) (m : Place → ℕ) (h b : ℕ → Holdings) (s
     shed_unmarked = seen_unmarked n s m h seat sound f e may.here _ may.seen
 
     shed_works : (b s).works ≡ changed_work f change (h s).works
-    shed_works = ap (λ y. y.works) hand_is ∙ (in_aside told left).works
+    shed_works = ap (λ y. y.works) hand_is ∙ (beside_in told left).works
 
     shed_alone : HeldAlone n m b
     shed_alone =
-        mark_alone n s m h b seat others sound f e may.here change shed_works frames words shed_unmarked (ap (λ y. y.locks) hand_is ∙ (in_aside told left).locks)
-        (ap (λ y. y.ending) hand_is ∙ (in_aside told left).ending) (ap (λ y. y.claimed) hand_is ∙ (in_aside told left).claimed)
+        mark_alone n s m h b seat others sound f e may.here change shed_works frames words shed_unmarked (ap (λ y. y.locks) hand_is ∙ (beside_in told left).locks)
+        (ap (λ y. y.ending) hand_is ∙ (beside_in told left).ending) (ap (λ y. y.claimed) hand_is ∙ (beside_in told left).claimed)
 
     entries_fewer : (c : Demand → ℕ) → entries c (sizes_of n) m b + c told ≡ entries c (sizes_of n) m h
     entries_fewer c =
@@ -178,14 +179,14 @@ module _ (n : Machine) (s : ℕ) (m : Place → ℕ) (h b : ℕ → Holdings) (s
           words = words;
           table = may.table;
           unmarked = shed_unmarked;
-          locks = ap (λ y. y.locks) hand_is ∙ (in_aside told left).locks;
-          ending = ap (λ y. y.ending) hand_is ∙ (in_aside told left).ending;
-          claimed = ap (λ y. y.claimed) hand_is ∙ (in_aside told left).claimed;
-          raised = ap (λ y. y.raised) hand_is ∙ (in_aside told left).raised;
-          credits = ap (λ y. y.credits) hand_is ∙ (in_aside told left).credits;
-          cache = ap (λ y. y.cache) hand_is ∙ (in_aside told left).cache;
-          walk = ap (λ y. y.walk) hand_is ∙ (in_aside told left).walk;
-          cold = ap (λ y. y.cold) hand_is ∙ (in_aside told left).cold;
+          locks = ap (λ y. y.locks) hand_is ∙ (beside_in told left).locks;
+          ending = ap (λ y. y.ending) hand_is ∙ (beside_in told left).ending;
+          claimed = ap (λ y. y.claimed) hand_is ∙ (beside_in told left).claimed;
+          raised = ap (λ y. y.raised) hand_is ∙ (beside_in told left).raised;
+          credits = ap (λ y. y.credits) hand_is ∙ (beside_in told left).credits;
+          cache = ap (λ y. y.cache) hand_is ∙ (translations_in told left).cache;
+          walk = ap (λ y. y.walk) hand_is ∙ (translations_in told left).walk;
+          cold = ap (λ y. y.cold) hand_is ∙ (translations_in told left).cold;
           spares = λ g k l. rw hand_is (in_more told left g l);
           refs = λ g. let k = entries_fewer (names g) in let o = (in_now g).0 in omega arith;
           types = λ g. let k = entries_fewer (names_typed g) in let o = (in_now g).1 in omega arith;

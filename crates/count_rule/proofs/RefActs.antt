@@ -19,13 +19,12 @@ use Rattle.xp_board.specs.After.{noted}
 use Rattle.xp_board.specs.Keeping.{MayAct}
 use Rattle.xp_board.specs.Sound.{Spelled, Sound}
 use Rattle.xp_board.proofs.ActEffects.{Wrote, Raised, Cleared, Lowered}
-use Rattle.count_rule.proofs.Sums.{when_eq, when_ne, one_at-same}
-use Rattle.count_rule.proofs.Lists.{times_by-without, times_by-cons_here, times_by-cons_other, times_by-without_other}
-use Rattle.count_rule.proofs.Words.{owned_says, dying_says, OneLess, more, last, one_down_leaves, owned_fits, fits_owned, fits_dying}
+use Rattle.xp_board.proofs.Sums.{when_eq, when_ne, one_at-same, hands-part}
+use Rattle.xp_board.proofs.ListCounts.{times_by-without, times_by-cons_here, times_by-cons_other, times_by-without_other}
+use Rattle.xp_board.proofs.RefWords.{owned_says, dying_says, OneLess, more, last, one_down_leaves, owned_fits, fits_owned, fits_dying}
 use Rattle.count_rule.proofs.SpelledLaw.{wrote_spelled}
 use Rattle.count_rule.proofs.Outcome.{Outcome}
 use Rattle.count_rule.proofs.RefLaw.{RefMove, ref_outcome}
-use Rattle.xp_board.proofs.Sums.{hands-part}
 
 module _ (n : Machine) (s : ℕ) (x : Step) (m m2 : Place → ℕ) (b c : ℕ → Holdings) (seat : s < (sizes_of n).vcpus) (others : (t : ℕ) → t ≢ s → c t ≡ b t) (may : MayAct n s x (b s)) (sound : Sound n m b) (f : ℕ) where
   pub inside : IsTrue (is_place (sizes_of n) (Refs f)) → f < (sizes_of n).frames

@@ -1,5 +1,5 @@
 -- What an act stores is a spelling.
-use Rattle.std.proofs.Common.{◌≡◌, ℕ, ◌+◌, ◌%◌, ◌^◌, ◌<◌, ◌==◌, max, if◌then◌else◌, Bool, true, false, refl, sym, subst}
+use Rattle.std.proofs.Common.{◌≡◌, ℕ, ◌+◌, ◌%◌, ◌^◌, ◌<◌, ◌==◌, max, refl, sym, subst}
 use Rattle.xp_words.specs.Machine.{Machine, IsMachine}
 use Rattle.xp_words.specs.Places.{Place}
 use Rattle.xp_board.specs.declared.holdings.Holdings.{Holdings}
@@ -15,10 +15,7 @@ use Rattle.xp_board.specs.Sound.{Spelled}
 use Rattle.xp_board.proofs.ActEffects.{Wrote}
 use Rattle.count_rule.proofs.PartLaws.{spelled_by}
 use Rattle.count_rule.proofs.Spellings.{spelling_small}
-
-if_either : {A : Type 0} (P : A → Type 0) (t : Bool) (x y : A) → P x → P y → P (if t then x else y)
-if_either P true x y a b = a
-if_either P false x y a b = b
+use Rattle.xp_board.proofs.HandParts.{either}
 
 module _ (n : Machine) (s : ℕ) (x : Step) (p : Place) (kind : StepKind) (m m2 : Place → ℕ) (b : Holdings) where
   -- the act at its place, with its kind
@@ -33,7 +30,7 @@ module _ (n : Machine) (s : ℕ) (x : Step) (p : Place) (kind : StepKind) (m m2 
       ((value : ℕ) → LegalAs n s b p (Max value) x.mark kind → value < 2 ^ 64 → m2 p ≡ max (m p) value → IsSpelling n p (m2 p)) → IsSpelling n p (m2 p)
   unfolding left_by
   left_spelled Load at spelled legal left old add most = rw (sym left) old
-  left_spelled (Cas expected new) at spelled legal left old add most = rw (sym left) (if_either (IsSpelling n p) (m p == expected) new (m p) spelled old)
+  left_spelled (Cas expected new) at spelled legal left old add most = rw (sym left) (either (IsSpelling n p) (m p == expected) new (m p) spelled old)
   left_spelled (Store new) at spelled legal left old add most = rw (sym left) spelled
   left_spelled (Add by) at spelled legal left old add most = add by legal (sym left)
   left_spelled (Max value) at spelled legal left old add most = most value legal spelled (sym left)

@@ -9,7 +9,7 @@ use Rattle.xp_words.specs.RefWords.{ref_read}
 use Rattle.xp_words.specs.Machine.{Machine, IsMachine}
 use Rattle.xp_words.specs.Places.{sizes_of, is_place, Place, Clock, Pages, Life, Vcpu, Refs, Kind, M2p, Cell, Map, Priv}
 use Rattle.xp_board.specs.Spelling.{IsSpelling, is_ref_in, is_kind_in, map_bits}
-use Rattle.count_rule.proofs.Words.{read_small}
+use Rattle.xp_board.proofs.RefWords.{read_small}
 
 ref_in_small : (n : Machine) (w : ℕ) (r : Option RefWord) → ref_read w ≡ r → IsTrue (is_ref_in n r) → w < 2 ^ 64
 ref_in_small n w (Some r) e k = read_small w r e

@@ -19,21 +19,22 @@ use Rattle.xp_board.specs.After.{noted}
 use Rattle.xp_board.specs.Keeping.{MayAct}
 use Rattle.xp_board.specs.Sound.{is_busy, WorkAgrees, Sound}
 use Rattle.xp_board.proofs.ActEffects.{Wrote, Stored}
-use Rattle.count_rule.proofs.Sums.{when_eq, when_ne}
-use Rattle.count_rule.proofs.Lists.{first_by-counts}
-use Rattle.count_rule.proofs.ListChanges.{first_by-changed_here, times_by-changed, EachOf-changed}
-use Rattle.count_rule.proofs.Tables.{one_works, is_busy-mine, held_free, held_mine}
+use Rattle.xp_board.proofs.Sums.{when_eq, when_ne, no_bit}
+use Rattle.xp_board.proofs.HandLists.{first-some, times-changed, EachOf-without}
+use Rattle.xp_board.proofs.ListChanges.{first_by-changed_here, EachOf-changed_into}
+use Rattle.xp_board.proofs.Works.{one_works, is_busy-mine, held_free, held_mine}
 use Rattle.count_rule.proofs.ListMoves.{cons_other, out_other, swap_other, cons_here, out_here, swap_here, recorded_out, recorded_changed}
-use Rattle.count_rule.proofs.KindForms.{Says, live_says, closing_says, work_says, dead_says, held_live, held_dead, held_work}
+use Rattle.count_rule.proofs.KindForms.{Says, live_says, closing_says, work_says, dead_says}
+use Rattle.xp_board.proofs.HeldByForm.{held_live, held_dead, held_work, same_zero}
 use Rattle.count_rule.proofs.KindSpelled.{form_was}
-use Rattle.count_rule.proofs.KindActs.{not_busy, stamp_live, stamp_of, Beside, beside, rest_by, turn_outcome, keeps_kind}
+use Rattle.count_rule.proofs.KindActs.{stamp_live, stamp_of, Beside, beside, rest_by, turn_outcome, keeps_kind}
 use Rattle.count_rule.proofs.KindWorks.{works_out}
-use Rattle.count_rule.proofs.WorkActs.{not_closing, not_live, same_zero}
-use Rattle.count_rule.proofs.StoreForms.{form_live, form_work, form_dead, busy_forms, closing_alone, work_unlive, same_if}
+use Rattle.count_rule.proofs.WorkActs.{not_closing, not_live}
+use Rattle.count_rule.proofs.StoreForms.{busy_forms, closing_alone, work_unlive, same_if}
+use Rattle.xp_board.proofs.FormsLeft.{form_live, form_work, form_dead}
 use Rattle.count_rule.proofs.Told.{clock_told}
 use Rattle.count_rule.proofs.EntryMarks.{work_word}
 use Rattle.count_rule.proofs.Outcome.{Outcome}
-use Rattle.xp_board.proofs.HandLists.{EachOf-without}
 use Rattle.xp_board.proofs.KindForms.{form_read}
 
 flat_says : (k : KindWord) (count mark lock : ℕ) → mark ≡ 0 → lock ≡ 0 → Says k count mark 0 lock → Says k count 0 0 0
@@ -46,7 +47,7 @@ module _ (n : Machine) (s : ℕ) (x : Step) (m m2 : Place → ℕ) (b c : ℕ �
     was = work_word n s m b seat sound f e here
 
     in_works : 0 < works_on f (b s).works
-    in_works = first_by-counts (λ y. y.frame) f (b s).works e here
+    in_works = first-some (λ y. y.frame) f e (b s).works here
 
     pub form_before : has_form (kind_fields e.word) ≡ true
     form_before = ap has_form (sym was) ∙ form_was n s m m2 b seat sound f wrote.real
@@ -79,7 +80,7 @@ module _ (n : Machine) (s : ℕ) (x : Step) (m m2 : Place → ℕ) (b c : ℕ �
         in
         let out = out_here (λ y. y.frame) f (b s).works u.works works in_works in
         let lock = ap (locks_on f) locks in
-        let free = ap is_busy is ∙ not_busy (is_busy l) tells.busy_is in
+        let free = ap is_busy is ∙ no_bit (is_busy l) tells.busy_is in
         turn_outcome n s x m m2 b c seat others may sound f wrote u hand rest (kind_fields e.word) l ck mk 1 0 cl ml 0 0
         (record { was = was; is = is; says = says; tells = tells }) stamp (omega arith) (omega arith) (omega arith) (omega arith)
         (λ alone. held_free n m2 c alone f free ∙ ap (λ y. held_of y None) is ∙ table ∙ sym held_was)
@@ -193,11 +194,11 @@ module _ (n : Machine) (s : ℕ) (x : Step) (m m2 : Place → ℕ) (b c : ℕ �
       let u = noted x (m (Kind f)) (unmarked f (m2 (Kind f)) (b s)) in
       let now : (c s).works ≡ changed_work f change (b s).works = ap (λ y. y.works) d.hand in
       let refs : (c s).refs ≡ (b s).refs = ap (λ y. y.refs) d.hand in
-      let same = times_by-changed (λ y. y.frame) f f change (b s).works (λ y. refl) in
+      let same = times-changed  (λ y. y.frame) f f change (b s).works (λ y. refl) in
       let rest =
       rest_by n s x m m2 b c seat others may sound f u d.hand (beside n s x m m2 b c seat others may sound f u refl refl refl refl refl refl refl)
       (record { refs = λ g off. refl; typed = λ g off. refl; locks = λ g off. refl })
-      (λ g off. times_by-changed (λ y. y.frame) g f change (b s).works (λ y. refl)) (recorded_changed f (b s).works u.works change (λ y. refl) refl)
+      (λ g off. times-changed  (λ y. y.frame) g f change (b s).works (λ y. refl)) (recorded_changed f (b s).works u.works change (λ y. refl) refl)
       in
       let number : l.number ≡ 0 = ap (λ (y : KindWord). y.number) left in
       let stamp = stamp_of (m2 (Kind f)) l d.fields_is (work_unlive l work) in
@@ -209,7 +210,7 @@ module _ (n : Machine) (s : ℕ) (x : Step) (m m2 : Place → ℕ) (b c : ℕ �
       ∙ sym (held_was d.wrote e d.here l d.fields_is kind))
       (inl (keeps_kind n s x m m2 b c seat others may sound f (kind_fields e.word) l was_is d.fields_is kind)) (λ k. k) (λ k. k)
       (subst (λ y. EachOf (WorkAgrees (c s)) y) (sym now)
-      (EachOf-changed (WorkAgrees (b s)) (WorkAgrees (c s)) (λ y. y.frame) f change (b s).works
+      (EachOf-changed_into (WorkAgrees (b s)) (WorkAgrees (c s)) (λ y. y.frame) f change (b s).works
       (λ y k. record { marked = k.marked; closing = λ t. subst (λ z. 0 < refs_to y.frame z) (sym refs) (k.closing t) })
       (λ y i k.
       record {

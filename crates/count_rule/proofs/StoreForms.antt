@@ -1,5 +1,5 @@
 -- Kind words that the seat in whose work a frame is may store.
-use Rattle.std.proofs.Common.{◌≡◌, ℕ, ◌&&◌, ◌⊎◌, not, if◌then◌else◌, Bool, true, false, List, refl, arith, IsTrue}
+use Rattle.std.proofs.Common.{◌≡◌, ℕ, ◌⊎◌, if◌then◌else◌, Bool, true, false, List, refl, arith, IsTrue}
 use Rattle.std.proofs.lemmas.Bool.{or_cases}
 use Rattle.std.proofs.lemmas.Bool.Decides.{nat_tests}
 use Rattle.xp_words.specs.declared.kind.KindWord.{KindWord}
@@ -7,51 +7,11 @@ use Rattle.xp_words.specs.KindWords.{has_form}
 use Rattle.xp_words.specs.Places.{Place}
 use Rattle.xp_board.specs.declared.holdings.TypedReference.{TypedReference}
 use Rattle.xp_board.specs.Lists.{EachOf}
-use Rattle.xp_board.specs.Readings.{is_live, is_partial, is_work, is_dead, is_closing}
+use Rattle.xp_board.specs.Readings.{is_partial, is_work, is_closing}
 use Rattle.xp_board.specs.Hands.{without_typed}
 use Rattle.xp_board.specs.Recorded.{HasType}
-use Rattle.xp_board.specs.KindSteps.{Form, Live, Partial, InWork, Dead, form_of}
 use Rattle.xp_board.specs.Sound.{is_busy}
 use Rattle.xp_board.proofs.HandLists.{EachOf-without}
-
-abbrev form_by : Bool → Bool → Bool → Form
-form_by v p k = if v then Live else if p then Partial else if k then InWork else Dead
-
-live_by : (v p k : Bool) → form_by v p k ≡ Live → v ≡ true
-live_by true p k e = refl
-live_by false true k e = absurd (cc)
-live_by false false true e = absurd (cc)
-live_by false false false e = absurd (cc)
-
-partial_by : (v p k : Bool) → form_by v p k ≡ Partial → (not v && p) ≡ true
-partial_by true p k e = absurd (cc)
-partial_by false true k e = refl
-partial_by false false true e = absurd (cc)
-partial_by false false false e = absurd (cc)
-
-work_by : (v p k : Bool) → form_by v p k ≡ InWork → (not v && (not p && k)) ≡ true
-work_by true p k e = absurd (cc)
-work_by false true k e = absurd (cc)
-work_by false false true e = refl
-work_by false false false e = absurd (cc)
-
-dead_by : (v p k : Bool) → form_by v p k ≡ Dead → (not v && (not p && not k)) ≡ true
-dead_by true p k e = absurd (cc)
-dead_by false true k e = absurd (cc)
-dead_by false false true e = absurd (cc)
-dead_by false false false e = refl
-
-pub form_live : (l : KindWord) → form_of l ≡ Live → IsTrue (is_live l)
-form_live l e = live_by l.validated l.partial l.locked e
-
-pub form_partial : (l : KindWord) → form_of l ≡ Partial → IsTrue (is_partial l)
-form_partial l e = partial_by l.validated l.partial l.locked e
-
-pub form_work : (l : KindWord) → form_of l ≡ InWork → IsTrue (is_work l)
-form_work l e = work_by l.validated l.partial l.locked e
-
-pub form_dead : (l : KindWord) → form_of l ≡ Dead → IsTrue (is_dead l)
-form_dead l e = dead_by l.validated l.partial l.locked e
 
 pub busy_forms : (k : KindWord) → is_busy k ≡ true → IsTrue (is_work k) ⊎ IsTrue (is_closing k)
 busy_forms k e = or_cases _ _ e

@@ -2,23 +2,12 @@
 use Rattle.std.proofs.Common.{◌≡◌, ℕ, ◌≤◌, ◌==◌, ◌&&◌, ◌||◌, nat_le, Bool, true, false, List, [], ◌∷◌, length, refl, subst, arith, IsTrue, inl, inr, ◌⊎◌}
 use Rattle.std.proofs.lemmas.Bool.{and_parts}
 use Rattle.std.proofs.lemmas.Bool.Decides.{nat_tests}
-use Rattle.xp_words.specs.Places.{Sizes, Place, Clock, Pages, Life, Vcpu, Refs, Kind, M2p, Cell, Map, Priv, place_at}
+use Rattle.xp_words.specs.Places.{Sizes, Place, Clock, place_at}
 use Rattle.xp_board.specs.declared.holdings.Made.{Made}
 use Rattle.xp_board.specs.Lists.{EachOf}
 use Rattle.xp_board.specs.Readings.{told_value}
 use Rattle.xp_board.specs.Steps.{is_same, is_at, left_of, some_step, some_since}
-
-is_clock : (p : Place) → is_same p Clock ≡ true → p ≡ Clock
-is_clock Clock e = refl
-is_clock (Pages d) e = cc
-is_clock (Life d) e = cc
-is_clock (Vcpu v k) e = cc
-is_clock (Refs f) e = cc
-is_clock (Kind f) e = cc
-is_clock (M2p f) e = cc
-is_clock (Cell f i) e = cc
-is_clock (Map k) e = cc
-is_clock (Priv d) e = cc
+use Rattle.xp_board.proofs.PlaceTests.{same_place}
 
 or_either : (s t : Bool) → (s || t) ≡ true → (s ≡ true) ⊎ (t ≡ true)
 or_either true t e = inl refl
@@ -27,7 +16,7 @@ or_either false t e = inr e
 told_here : (p : Place) (w v clock : ℕ) → is_same p Clock ≡ true → (w == v) ≡ true → told_value p w ≤ clock → v ≤ clock
 unfolding told_value
 told_here p w v clock at same most =
-    let here : told_value Clock w ≤ clock = subst (λ q. told_value q w ≤ clock) (is_clock p at) most in
+    let here : told_value Clock w ≤ clock = subst (λ q. told_value q w ≤ clock) (same_place p Clock at) most in
     let e : w ≡ v = grind (arith, nat_tests) in
     omega arith
 

@@ -1,5 +1,5 @@
 -- The exchanges of a kind word, by their rows.
-use Rattle.std.proofs.Common.{◌≡◌, ◌≢◌, ℕ, ◌+◌, ◌<◌, ◌≤◌, true, false, None, refl, sym, ◌∙◌, ap, subst, arith, IsTrue}
+use Rattle.std.proofs.Common.{◌≡◌, ◌≢◌, ℕ, ◌+◌, ◌<◌, ◌≤◌, true, false, refl, sym, ◌∙◌, ap, subst, arith, IsTrue}
 use Rattle.std.proofs.lemmas.Bool.Decides.{nat_tests}
 use Rattle.xp_words.specs.declared.kind.KindWord.{KindWord}
 use Rattle.xp_words.specs.KindWords.{has_form}
@@ -10,7 +10,7 @@ use Rattle.xp_board.specs.declared.holdings.Holdings.{Holdings}
 use Rattle.xp_board.specs.declared.step.Step.{Step}
 use Rattle.xp_board.specs.Lists.{EachOf}
 use Rattle.xp_board.specs.Readings.{kind_at, kind_stamp, is_live}
-use Rattle.xp_board.specs.Recorded.{held_of, HasType}
+use Rattle.xp_board.specs.Recorded.{HasType}
 use Rattle.xp_board.specs.KindSteps.{KindRow, Count, Locks, Pin, Unpin, TakeBack, raised_kind, locked_kind, still_looking, after_kind_row}
 use Rattle.xp_board.specs.After.{noted}
 use Rattle.xp_board.specs.Keeping.{MayAct}
@@ -22,13 +22,10 @@ use Rattle.count_rule.proofs.KindActs.{stamp_live, beside, free_outcome, keeps_k
 use Rattle.count_rule.proofs.Outcome.{Outcome}
 use Rattle.xp_board.proofs.HandLists.{EachOf-without}
 use Rattle.xp_board.proofs.KindForms.{form_read}
+use Rattle.xp_board.proofs.HeldByForm.{held_same}
 
 pub left_says : (l r : KindWord) (c m b k : ℕ) → l ≡ r → Says r c m b k → Says l c m b k
 left_says l r c m b k e says = subst (λ y. Says y c m b k) (sym e) says
-
-pub held_same : (k l : KindWord) → l.kind ≡ k.kind → l.validated ≡ k.validated → l.partial ≡ k.partial → l.progress ≡ k.progress → held_of l None ≡ held_of k None
-unfolding held_of
-held_same k l t v p r = rw (t, v, p, r) refl
 
 pinned_some : (k : KindWord) → has_form k ≡ true → IsTrue (is_live k) → k.pinned ≡ true → 0 < k.number
 unfolding has_form

@@ -6,24 +6,21 @@ use Rattle.xp_board.specs.declared.holdings.Holdings.{Holdings}
 use Rattle.xp_board.specs.declared.holdings.Walk.{Walk}
 use Rattle.xp_board.specs.FillSteps.{level_of, touched, started, loaded, descended}
 use Rattle.xp_board.specs.RunSteps.{ran_now}
-use Rattle.count_rule.proofs.Learning.{Same, same_refl, same_hand, either}
+use Rattle.count_rule.proofs.Learning.{Same, same_refl, same_of}
+use Rattle.xp_board.proofs.HandParts.{either, references_descended, beside_descended, references_loaded, beside_loaded, references_started, beside_started, references_ran, beside_ran}
 
 -- ---- what a walk leaves in the hand
 pub same_descended : (n : Machine) (walk : Walk) (w : ℕ) (b : Holdings) → Same b (descended n walk w b)
-same_descended n walk w b =
-    either (Same b) (not (nat_lt _ n.frames)) _ _ (same_refl b _ refl refl refl refl refl refl refl refl)
-    (either (Same b) _ _ _ (same_refl b _ refl refl refl refl refl refl refl refl) (same_refl b _ refl refl refl refl refl refl refl refl))
+same_descended n walk w b = same_of b (descended n walk w b) (references_descended n walk w b) (beside_descended n walk w b)
 
 pub same_loaded : (n : Machine) (f i w : ℕ) (walk : Walk) (b : Holdings) → Same b (loaded n f i w walk b)
-same_loaded n f i w walk b =
-    either (Same b) _ _ _ (same_refl b _ refl refl refl refl refl refl refl refl)
-    (either (Same b) _ _ _ (same_descended n walk w b) (same_refl b _ refl refl refl refl refl refl refl refl))
+same_loaded n f i w walk b = same_of b (loaded n f i w walk b) (references_loaded n f i w walk b) (beside_loaded n f i w walk b)
 
 pub same_started : (k w : ℕ) (write : Bool) (b : Holdings) → Same b (started k w write b)
-same_started k w write b = either (Same b) (w == 0) _ _ (same_hand b) (same_refl b _ refl refl refl refl refl refl refl refl)
+same_started k w write b = same_of b (started k w write b) (references_started k w write b) (beside_started k w write b)
 
 pub same_ran : (w : ℕ) (b : Holdings) → Same b (ran_now w b)
-same_ran w b = either (Same b) (w == 0) _ _ (same_refl b _ refl refl refl refl refl refl refl refl) (same_refl b _ refl refl refl refl refl refl refl refl)
+same_ran w b = same_of b (ran_now w b) (references_ran w b) (beside_ran w b)
 
 pub same_twice : (a b c : Holdings) → Same a b → Same b c → Same a c
 same_twice a b c k l =

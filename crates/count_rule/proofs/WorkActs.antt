@@ -19,15 +19,17 @@ use Rattle.xp_board.specs.KindSteps.{Resume, Begin, begun_kind, resumed_kind, is
 use Rattle.xp_board.specs.Keeping.{MayAct}
 use Rattle.xp_board.specs.Sound.{is_busy, HeldAlone, WorkAgrees, Sound}
 use Rattle.xp_board.proofs.ActEffects.{Turned}
-use Rattle.count_rule.proofs.Lists.{first_by-cons_here}
-use Rattle.count_rule.proofs.Tables.{nobody_works, held_free, held_mine}
+use Rattle.xp_board.proofs.ListCounts.{first_by-cons_here}
+use Rattle.xp_board.proofs.Works.{nobody_works, held_free, held_mine}
 use Rattle.count_rule.proofs.ListMoves.{cons_other, out_other, cons_here, out_here, maybe_other, maybe_here, recorded_cons}
-use Rattle.count_rule.proofs.KindForms.{partial_says, work_says, dead_says, held_partial, held_dead, held_work}
-use Rattle.count_rule.proofs.KindActs.{not_busy, stamp_number, stamp_of, beside, rest_by, turn_outcome, keeps_kind}
+use Rattle.count_rule.proofs.KindForms.{partial_says, work_says, dead_says}
+use Rattle.xp_board.proofs.HeldByForm.{held_partial, held_dead, held_work, same_zero}
+use Rattle.count_rule.proofs.KindActs.{stamp_number, stamp_of, beside, rest_by, turn_outcome, keeps_kind}
 use Rattle.count_rule.proofs.KindWorks.{works_in}
 use Rattle.count_rule.proofs.TurnActs.{turned_hand, left_says, stamp_kept}
 use Rattle.count_rule.proofs.Outcome.{Outcome}
 use Rattle.xp_board.proofs.KindForms.{form_read}
+use Rattle.xp_board.proofs.Sums.{no_bit}
 
 marked_none : (k : KindWord) → has_form k ≡ true → IsTrue (is_partial k) → k.unflushed ≡ true → k.progress ≡ 0
 unfolding has_form
@@ -45,10 +47,6 @@ resumed_work k partial = grind (arith, nat_tests)
 fewer : (t : Bool) (x : ℕ) → (if t then x else 0) ≤ x
 fewer true x = omega arith
 fewer false x = omega arith
-
-pub same_zero : (t : Bool) → ◌≡◌ {A = ℕ} (if t then 0 else 0) 0
-same_zero true = refl
-same_zero false = refl
 
 maybe_types : (m : Place → ℕ) (t : Bool) (x : TypedReference) (xs : List TypedReference) → HasType m x.frame x.kind → EachOf (λ e. HasType m e.frame e.kind) xs →
     EachOf (λ e. HasType m e.frame e.kind) (if t then (x ∷ xs) else xs)
@@ -92,7 +90,7 @@ module _ (n : Machine) (s : ℕ) (x : Step) (m m2 : Place → ℕ) (b c : ℕ �
       let was = partial_says k form d.may.partial in
       let is = work_says (resumed_kind k) (ap has_form (sym left) ∙ form_read _ l d.is) (resumed_work k d.may.partial) in
       let work : IsTrue (is_work l) = subst (λ y. IsTrue (is_work y)) (sym left) (resumed_work k d.may.partial) in
-      let free = not_busy (is_busy k) was.busy_is in
+      let free = no_bit (is_busy k) was.busy_is in
       let kind : l.kind ≡ k.kind = ap (λ (y : KindWord). y.kind) left in
       let now : (c s).works ≡ u.works = ap (λ y. y.works) d.hand in
       let typed_in = maybe_here (λ y. y.frame) f (b s).typed u.typed k.kept _ refl refl in
@@ -125,7 +123,7 @@ module _ (n : Machine) (s : ℕ) (x : Step) (m m2 : Place → ℕ) (b c : ℕ �
       let was = dead_says k (form_read _ k d.was) d.may.dead in
       let is = work_says (begun_kind k l.kind) (ap has_form (sym left) ∙ form_read _ l d.is) refl in
       let work : IsTrue (is_work l) = subst (λ y. IsTrue (is_work y)) (sym left) refl in
-      let free = not_busy (is_busy k) was.busy_is in
+      let free = no_bit (is_busy k) was.busy_is in
       let now : (c s).works ≡ u.works = ap (λ y. y.works) d.hand in
       let out = out_here (λ y. y.frame) f (b s).refs u.refs refl d.may.in_hand in
       let typed_in = cons_here (λ y. y.frame) f (b s).typed u.typed _ refl refl in

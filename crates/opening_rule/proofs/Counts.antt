@@ -13,13 +13,14 @@ use Rattle.xp_board.specs.Recorded.{held, held_of, work_of, table_entries, entri
 use Rattle.trace_text.specs.declared.trace.Trace.{Trace}
 use Rattle.machine_build.specs.Opening.{has_frame, opening_at, untyped}
 use Rattle.opening_rule.proofs.Words.{Opens, vcpu_word, run_inside}
-use Rattle.opening_rule.proofs.Owners.{sum_below-same, sum_below-zero, owner_in_run, frames_of_runs}
+use Rattle.opening_rule.proofs.Owners.{owner_in_run, frames_of_runs}
+use Rattle.xp_board.proofs.Sums.{sum_below-same, sum_below-none}
 use Rattle.opening_rule.proofs.Readings.{kind_is, count_is_mark, page_of}
 
 -- ---- empty hands
 pub hands_none : (c : Holdings → ℕ) (z : Sizes) → c empty ≡ 0 → hands c z (λ s. empty) ≡ 0
 unfolding hands
-hands_none c z e = sum_below-zero z.vcpus (λ s. c empty) (λ k. e)
+hands_none c z e = sum_below-none z.vcpus (λ s. c empty) (λ k l. e)
 
 hand_none : (g : ℕ) → hand g empty ≡ 0
 unfolding hand typed_hand times_by
@@ -48,7 +49,7 @@ module _ (t : Trace) (m : Place → ℕ) (o : Opens t m) where
 
   no_entries : (c : Demand → ℕ) → entries c (sizes_of t.layout) m (λ s. empty) ≡ 0
   unfolding entries
-  no_entries c = sum_below-zero t.layout.frames _ (λ f. no_table_entries c (work_of (sizes_of t.layout).vcpus (λ s. empty) f) f)
+  no_entries c = sum_below-none t.layout.frames _ (λ f l. no_table_entries c (work_of (sizes_of t.layout).vcpus (λ s. empty) f) f)
 
   -- ---- words of vCPUs
   pub context_word : (v k : ℕ) → IsTrue (is_context k) → m (Vcpu v k) ≡ 0
@@ -60,7 +61,7 @@ module _ (t : Trace) (m : Place → ℕ) (o : Opens t m) where
 
   no_contexts : (g : ℕ) → contexts (sizes_of t.layout) m g ≡ 0
   unfolding contexts
-  no_contexts g = sum_below-zero (sizes_of t.layout).vcpus _ (λ v. sum_below-zero 38 _ (λ k. one_context g v k (is_context k) refl))
+  no_contexts g = sum_below-none (sizes_of t.layout).vcpus _ (λ v l. sum_below-none 38 _ (λ k l. one_context g v k (is_context k) refl))
 
   -- ---- marks and counts
   no_marks : (g : ℕ) → marks (kind_at m g) ≡ 0

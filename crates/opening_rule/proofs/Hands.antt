@@ -3,13 +3,12 @@ use Rattle.std.proofs.Common.{◌≡◌, ℕ, ◌+◌, refl, arith}
 use Rattle.xp_words.specs.Machine.{Machine}
 use Rattle.xp_words.specs.Places.{Sizes, Place, sizes_of}
 use Rattle.xp_board.specs.Lists.{times_by, some_of, Member, EachOf}
-use Rattle.xp_board.specs.Steps.{last_since, EachStep, steps_before}
+use Rattle.xp_board.specs.Steps.{EachStep, steps_before}
 use Rattle.xp_board.specs.Knowledge.{knows_owner, knows_live, knows_partial}
 use Rattle.xp_board.specs.Hands.{empty, works_on, locks_on, endings_of, claims_of}
 use Rattle.xp_board.specs.Reach.{Use, Reach, cached, walked, entry}
 use Rattle.xp_board.specs.Fresh.{Fresh}
 use Rattle.xp_board.specs.Found.{Found, OwnFound}
-use Rattle.xp_board.specs.WellFormed.{WellFormed, IsRaisedFormed, IsCacheFormed, IsOwnFormed}
 use Rattle.xp_board.specs.Sound.{HeldAlone, Stamped, Idle, Domains}
 use Rattle.trace_text.specs.declared.trace.Trace.{Trace}
 use Rattle.opening_rule.proofs.Words.{Opens, life_word, flushed_word}
@@ -77,36 +76,6 @@ found_open n m s =
       claims = tt;
       privileges = λ d o b. tt;
       own = found_own m s;
-    }
-
--- ---- well formed
-formed_raised : IsRaisedFormed empty
-unfolding times_by
-formed_raised = record { held = λ f. omega arith }
-
-formed_cache : IsCacheFormed empty
-formed_cache = record { few = omega arith; walk = λ walk e. absurd (cc) }
-
-formed_own : (n : Machine) (s : ℕ) → IsOwnFormed n s empty
-unfolding last_since
-formed_own n s = record { run = refl; old0 = refl; old1 = refl }
-
-pub formed_open : (n : Machine) (s : ℕ) → WellFormed n s empty
-unfolding EachOf
-formed_open n s =
-    record {
-      works = tt;
-      locks = tt;
-      ending = tt;
-      claimed = tt;
-      raised = formed_raised;
-      looking = tt;
-      cache = formed_cache;
-      own = formed_own n s;
-      places = tt;
-      turn = omega arith;
-      acked = omega arith;
-      ran = omega arith;
     }
 
 -- ---- idle

@@ -9,8 +9,7 @@ use Rattle.xp_board.specs.Readings.{is_free}
 use Rattle.xp_board.specs.Hands.{empty}
 use Rattle.xp_board.specs.Sound.{FreeMap, is_hinted}
 use Rattle.trace_text.specs.declared.trace.Trace.{Trace}
-use Rattle.machine_build.specs.Opening.{has_frame, opening_at}
-use Rattle.machine_build.specs.Opening.{is_free as opens_free}
+use Rattle.machine_build.specs.Opening.{has_frame, opening_at, is_free as opens_free}
 use Rattle.machine_build.proofs.MapLaws.{each_bit}
 use Rattle.opening_rule.proofs.Words.{Opens}
 use Rattle.opening_rule.proofs.Readings.{free_is_unowned}

@@ -1,5 +1,5 @@
 -- The frames that a domain owns, counted over frames and over runs.
-use Rattle.std.proofs.Common.{◌≡◌, ℕ, zero, suc, ◌+◌, ◌-◌, ◌<◌, ◌≤◌, ◌==◌, nat_le, if◌then◌else◌, cond, Bool, true, false, List, [], ◌∷◌, All, AllPairs, find, IsTrue, Option, Some, None, refl, ◌∙◌, arith}
+use Rattle.std.proofs.Common.{◌≡◌, ℕ, zero, suc, ◌+◌, ◌-◌, ◌≤◌, ◌==◌, nat_le, if◌then◌else◌, cond, Bool, true, false, List, [], ◌∷◌, All, AllPairs, find, IsTrue, Option, Some, None, refl, ◌∙◌, arith}
 use Rattle.std.proofs.lemmas.Bool.Decides.{nat_tests}
 use Rattle.std.proofs.lemmas.List.Sums.{sum_by-cons}
 use Rattle.xp_words.specs.RefWords.{bit}
@@ -7,28 +7,7 @@ use Rattle.xp_board.specs.Sums.{sum_below}
 use Rattle.trace_text.specs.declared.trace.Own.{Own}
 use Rattle.trace_text.specs.Counted.{pages_of, pages_in, is_apart}
 use Rattle.machine_build.specs.Opening.{has_frame}
-
--- ---- sums
-pub sum_below-same : (n : ℕ) (p q : ℕ → ℕ) → ((k : ℕ) → k < n → p k ≡ q k) → sum_below n p ≡ sum_below n q
-unfolding sum_below
-sum_below-same zero p q e = refl
-sum_below-same (suc n) p q e =
-    let here : p n ≡ q n = e n (omega arith) in
-    let rest = sum_below-same n p q (λ k b. e k (omega arith)) in
-    omega arith
-
-pub sum_below-zero : (n : ℕ) (p : ℕ → ℕ) → ((k : ℕ) → p k ≡ 0) → sum_below n p ≡ 0
-unfolding sum_below
-sum_below-zero zero p e = refl
-sum_below-zero (suc n) p e =
-    let here : p n ≡ 0 = e n in
-    let rest = sum_below-zero n p e in
-    omega arith
-
-sum_below-both : (n : ℕ) (p q : ℕ → ℕ) → sum_below n (λ k. p k + q k) ≡ sum_below n p + sum_below n q
-unfolding sum_below
-sum_below-both zero p q = refl
-sum_below-both (suc n) p q = let rest = sum_below-both n p q in omega arith
+use Rattle.xp_board.proofs.Sums.{sum_below-same, sum_below-none, sum_below-plus}
 
 -- ---- one run
 -- 1 where the run has the frame and is the domain's
@@ -41,7 +20,7 @@ cut n o = if nat_le n o.first then 0 else (if nat_le n (o.first + o.count) then 
 
 run_none : (d n : ℕ) (o : Own) → (o.domain == d) ≡ false → sum_below n (in_run d o) ≡ 0
 unfolding in_run
-run_none d n o e = sum_below-zero n (in_run d o) (λ k. grind (arith, nat_tests))
+run_none d n o e = sum_below-none n (in_run d o) (λ k l. grind (arith, nat_tests))
 
 run_cut : (d n : ℕ) (o : Own) → (o.domain == d) ≡ true → sum_below n (in_run d o) ≡ cut n o
 unfolding sum_below in_run cut
@@ -81,14 +60,14 @@ one_more d f o false y e n = rw e (omega arith)
 pub frames_of_runs : (d n : ℕ) (xs : List Own) → All (λ x. x.first + x.count ≤ n) xs → AllPairs (λ a b. IsTrue (is_apart a b)) xs →
     sum_below n (λ f. owner_in_run d (find (has_frame f) xs)) ≡ pages_of d xs
 unfolding owner_in_run
-frames_of_runs d n [] h apart = sum_below-zero n (λ f. owner_in_run d (find (has_frame f) [])) (λ k. refl)
+frames_of_runs d n [] h apart = sum_below-none n (λ f. owner_in_run d (find (has_frame f) [])) (λ k l. refl)
 frames_of_runs d n (o ∷ os) h apart =
     let fits : o.first + o.count ≤ n = h 0 o (omega arith) in
     let rest = frames_of_runs d n os (λ k e c. h (suc k) e (omega arith)) (λ i j e a b. apart (suc i) (suc j) e (omega arith) (omega arith)) in
     let others : All (λ x. IsTrue (is_apart o x)) os = λ k e c. apart 0 (suc k) e (omega arith) (omega arith) in
     let each = sum_below-same n (λ f. owner_in_run d (find (has_frame f) (o ∷ os))) (λ f. in_run d o f + owner_in_run d (find (has_frame f) os))
     (λ f b. one_more d f o (has_frame f o) (find (has_frame f) os) refl (no_other f o os others)) in
-    let both = sum_below-both n (in_run d o) (λ f. owner_in_run d (find (has_frame f) os)) in
+    let both = sum_below-plus n (in_run d o) (λ f. owner_in_run d (find (has_frame f) os)) _ (λ f b. refl) in
     let here = by_domain d n o (o.domain == d) refl fits in
     let total = sum_by-cons (pages_in d) o os in
     omega arith

@@ -1,10 +1,10 @@
 -- A legal step in its two halves: its mark, and then its act by the hand that the mark left.
-use Rattle.std.proofs.Common.{◌≡◌, ◌≢◌, ℕ, ◌==◌, if◌then◌else◌, Option, Some, None, IsTrue, refl, sym, ap, subst, ◌∙◌, arith}
+use Rattle.std.proofs.Common.{◌≡◌, ◌≢◌, ℕ, ◌==◌, if◌then◌else◌, Option, Some, None, refl, sym, ap, ◌∙◌, arith}
 use Rattle.std.proofs.lemmas.Bool.Decides.{nat_tests}
 use Rattle.xp_words.specs.declared.entry.Demand.{Demand}
 use Rattle.xp_words.specs.declared.entry.Demand.TheVariants.{Nothing, Bad, Read, Typed}
 use Rattle.xp_words.specs.Machine.{Machine}
-use Rattle.xp_words.specs.Places.{Place, sizes_of}
+use Rattle.xp_words.specs.Places.{Place}
 use Rattle.xp_board.specs.declared.step.Mark.{Mark}
 use Rattle.xp_board.specs.declared.step.Mark.TheVariants as marks
 use Rattle.xp_board.specs.declared.step.Step.{Step}
@@ -13,8 +13,8 @@ use Rattle.xp_board.specs.declared.holdings.Holdings.{Holdings}
 use Rattle.xp_board.specs.Hands.{work_on}
 use Rattle.xp_board.specs.Settling.{demand_in, demand_out}
 use Rattle.xp_board.specs.Marks.{after_mark, recorded, shed, demand_seen}
-use Rattle.xp_board.specs.Legal.{Legal, LegalAs, needs_running}
-use Rattle.xp_board.specs.Runs.{place_of, Stepped}
+use Rattle.xp_board.specs.Legal.{Legal}
+use Rattle.xp_board.specs.Runs.{Stepped}
 use Rattle.xp_board.specs.Keeping.{MayMark, Marked, MayAct, Acted}
 
 -- ---- a mark leaves the own run word as the seat knows it

@@ -1,5 +1,5 @@
 -- What is counted is the same without the hands of seats that hold nothing.
-use Rattle.std.proofs.Common.{◌≡◌, ℕ, zero, suc, ◌+◌, ◌<◌, [], None, refl, sym, ap, subst, ◌∙◌, arith}
+use Rattle.std.proofs.Common.{◌≡◌, ℕ, ◌+◌, ◌<◌, [], None, refl, sym, ap, subst, ◌∙◌}
 use Rattle.xp_words.specs.declared.entry.Demand.{Demand}
 use Rattle.xp_words.specs.Machine.{Machine}
 use Rattle.xp_words.specs.Places.{sizes_of, Place, Refs}
@@ -11,6 +11,8 @@ use Rattle.xp_board.specs.Readings.{kind_at, is_free}
 use Rattle.xp_board.specs.Hands.{hand, typed_hand, works_on, locks_on, endings_of, claims_of, empty, IsEmptyHand}
 use Rattle.xp_board.specs.Recorded.{recorded_in, work_of, held_of, held, table_entries, entries, hands, named, named_typed, names, names_typed, TypesAgree, CountsAgree, is_page_of}
 use Rattle.xp_board.specs.Sound.{HeldAlone, FreeMap}
+use Rattle.xp_board.proofs.Sums.{sum_below-same}
+use Rattle.xp_board.proofs.Works.{work_of-none}
 
 -- nothing in hand, no translations and no walk
 abbrev pub IsRested : Holdings → Type 0
@@ -19,14 +21,6 @@ IsRested u = IsEmptyHand u × (u.cache ≡ []) × (u.walk ≡ None)
 -- no seat holds anything
 abbrev pub Nobody : ℕ → Holdings
 Nobody s = empty
-
-sum_same : (k : ℕ) (c d : ℕ → ℕ) → ((i : ℕ) → i < k → c i ≡ d i) → sum_below k c ≡ sum_below k d
-unfolding sum_below
-sum_same zero c d e = refl
-sum_same (suc k) c d e =
-    let here : c k ≡ d k = e k (omega arith) in
-    let rest = sum_same k c d (λ i b. e i (omega arith)) in
-    omega arith
 
 -- ---- one hand
 hand_rested : (g : ℕ) (u : Holdings) → IsEmptyHand u → hand g u ≡ hand g empty
@@ -48,22 +42,15 @@ recorded_nobody : (f : ℕ) → recorded_in [] f ≡ None
 unfolding recorded_in first_by
 recorded_nobody f = refl
 
-work_none : (k : ℕ) (h : ℕ → Holdings) (f : ℕ) → ((s : ℕ) → s < k → recorded_in (h s).works f ≡ None) → work_of k h f ≡ None
-unfolding work_of
-work_none zero h f e = refl
-work_none (suc k) h f e =
-    let here : recorded_in (h k).works f ≡ None = e k (omega arith) in
-    rw here (work_none k h f (λ s b. e s (omega arith)))
-
 -- ---- all hands
 module _ (n : Machine) (m : Place → ℕ) (h : ℕ → Holdings) (rest : (s : ℕ) → s < (sizes_of n).vcpus → IsRested (h s)) where
   hands_rested : (c : Holdings → ℕ) → ((u : Holdings) → IsEmptyHand u → c u ≡ c empty) → hands c (sizes_of n) h ≡ hands c (sizes_of n) Nobody
   unfolding hands
-  hands_rested c e = sum_same (sizes_of n).vcpus (λ s. c (h s)) (λ s. c empty) (λ s b. e (h s) (rest s b).0)
+  hands_rested c e = sum_below-same (sizes_of n).vcpus (λ s. c (h s)) (λ s. c empty) (λ s b. e (h s) (rest s b).0)
 
   work_rested : (f : ℕ) → work_of (sizes_of n).vcpus h f ≡ work_of (sizes_of n).vcpus Nobody f
   work_rested f =
-      work_none (sizes_of n).vcpus h f (λ s b. recorded_rested f (h s) (rest s b).0) ∙ sym (work_none (sizes_of n).vcpus Nobody f (λ s b. recorded_nobody f))
+      work_of-none (sizes_of n).vcpus h f (λ s b. recorded_rested f (h s) (rest s b).0) ∙ sym (work_of-none (sizes_of n).vcpus Nobody f (λ s b. recorded_nobody f))
 
   pub held_rested : (f : ℕ) → held (sizes_of n) m h f ≡ held (sizes_of n) m Nobody f
   held_rested f = ap (λ o. held_of (kind_at m f) o) (work_rested f)
@@ -71,7 +58,7 @@ module _ (n : Machine) (m : Place → ℕ) (h : ℕ → Holdings) (rest : (s : �
   entries_rested : (c : Demand → ℕ) → entries c (sizes_of n) m h ≡ entries c (sizes_of n) m Nobody
   unfolding entries
   entries_rested c =
-      sum_same (sizes_of n).frames (λ f. table_entries c m (work_of (sizes_of n).vcpus h f) f)
+      sum_below-same (sizes_of n).frames (λ f. table_entries c m (work_of (sizes_of n).vcpus h f) f)
       (λ f. table_entries c m (work_of (sizes_of n).vcpus Nobody f) f) (λ f b. ap (λ o. table_entries c m o f) (work_rested f))
 
   named_rested : (g : ℕ) → named (sizes_of n) m h g ≡ named (sizes_of n) m Nobody g

@@ -1,28 +1,17 @@
 -- Clock values that are found once more are no lower than any vCPU's flush.
-use Rattle.std.proofs.Common.{◌≡◌, ℕ, ◌+◌, ◌≤◌, ◌&&◌, nat_le, Bool, true, false, List, [], ◌∷◌, length, refl, sym, ap, subst, arith}
+use Rattle.std.proofs.Common.{◌≡◌, ℕ, ◌+◌, ◌≤◌, ◌&&◌, nat_le, Bool, true, false, List, [], ◌∷◌, length, sym, ap, subst, arith}
 use Rattle.std.proofs.lemmas.Bool.Decides.{nat_tests}
-use Rattle.xp_words.specs.Places.{Sizes, Place, Clock, Pages, Life, Vcpu, Refs, Kind, M2p, Cell, Map, Priv, place_at}
+use Rattle.xp_words.specs.Places.{Sizes, Clock, place_at}
 use Rattle.xp_board.specs.declared.step.Step.{Step}
 use Rattle.xp_board.specs.declared.holdings.Made.{Made}
 use Rattle.xp_board.specs.declared.holdings.Holdings.{Holdings}
-use Rattle.xp_board.specs.Steps.{is_same, is_at, left_of, EachStep, EachSince}
+use Rattle.xp_board.specs.Steps.{is_at, left_of, EachStep, EachSince}
 use Rattle.xp_board.specs.After.{noted}
 use Rattle.xp_board.specs.Reach.{Use}
 use Rattle.xp_board.specs.Fresh.{Awaited}
 use Rattle.xp_board.proofs.HandLists.{EachOf-map}
 use Rattle.stale_rule.proofs.Like.{HandLike}
-
-same_clock : (p : Place) → is_same p Clock ≡ true → p ≡ Clock
-same_clock Clock e = refl
-same_clock (Pages d) e = absurd (cc)
-same_clock (Life d) e = absurd (cc)
-same_clock (Vcpu v k) e = absurd (cc)
-same_clock (Refs f) e = absurd (cc)
-same_clock (Kind f) e = absurd (cc)
-same_clock (M2p f) e = absurd (cc)
-same_clock (Cell f i) e = absurd (cc)
-same_clock (Map k) e = absurd (cc)
-same_clock (Priv d) e = absurd (cc)
+use Rattle.xp_board.proofs.PlaceTests.{same_place}
 
 both_true : (a b : Bool) → (a && b) ≡ true → b ≡ true
 both_true true b e = e
@@ -32,7 +21,7 @@ both_true false b e = absurd (cc)
 pub clock_more : (z : Sizes) (since : ℕ) (P : ℕ → Type 0) (y : Made) (ys : List Made) → (place_at z y.step.place ≡ Clock → P y.found × P (left_of y)) →
     EachSince z since Clock P ys → EachSince z since Clock P (y ∷ ys)
 unfolding EachStep
-clock_more z since P y ys new old = ((λ t. new (same_clock (place_at z y.step.place) (both_true (nat_le since (length ys)) (is_at z Clock y) t))), old)
+clock_more z since P y ys new old = ((λ t. new (same_place (place_at z y.step.place) Clock (both_true (nat_le since (length ys)) (is_at z Clock y) t))), old)
 
 -- no step yet
 pub clock_none : (z : Sizes) (since : ℕ) (P : ℕ → Type 0) (ys : List Made) → length ys ≤ since → EachSince z since Clock P ys

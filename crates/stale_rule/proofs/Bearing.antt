@@ -1,18 +1,17 @@
 -- Which changes of a kind word bear the translations that its old one bore.
-use Rattle.std.proofs.Common.{◌≡◌, ◌≢◌, ℕ, ◌+◌, ◌-◌, ◌/◌, ◌%◌, ◌^◌, ◌<◌, ◌≤◌, ◌&&◌, ◌⊎◌, inl, inr, Bool, true, false, refl, sym, ◌∙◌, ap, arith, IsTrue, if◌then◌else◌, Some}
+use Rattle.std.proofs.Common.{◌≡◌, ◌≢◌, ℕ, ◌+◌, ◌-◌, ◌/◌, ◌%◌, ◌^◌, ◌<◌, ◌≤◌, ◌⊎◌, inl, inr, Bool, true, false, refl, ◌∙◌, ap, arith, IsTrue, if◌then◌else◌, Some}
 use Rattle.std.proofs.lemmas.Bool.Decides.{nat_tests}
 use Rattle.xp_words.specs.declared.kind.PageType.{PageType}
 use Rattle.xp_words.specs.declared.kind.KindWord.{KindWord}
 use Rattle.xp_words.specs.PageTypes.{type_number, is_none}
-use Rattle.xp_words.specs.KindWords.{kind_fields, kind_read, has_form, has_type}
-use Rattle.xp_words.proofs.KindLaws.{when_some}
+use Rattle.xp_words.specs.KindWords.{kind_fields, kind_read}
 use Rattle.xp_board.specs.Readings.{is_dead, is_type}
 use Rattle.xp_board.specs.RefSteps.{one_down}
 use Rattle.xp_board.specs.KindSteps.{is_stale, begun_kind, unlocked_down}
 use Rattle.xp_board.specs.Reach.{Use, Table, Writes, Reads}
 use Rattle.xp_board.specs.Fresh.{Matches, Bears}
 use Rattle.stale_rule.proofs.Came.{IsLevel}
-use Rattle.stale_rule.proofs.Items.{form_unlive}
+use Rattle.xp_board.proofs.KindForms.{form_unlive, form_read}
 
 -- ---- types
 matches_number : (s t : PageType) (u : Use) → type_number t ≡ type_number s → Matches s u → Matches t u
@@ -75,19 +74,11 @@ bears_dead flushed k l u kind mark stamp old =
       dead = λ n d. stamp;
     }
 
--- ---- spellings
-pub read_form : (w : ℕ) (l : KindWord) → kind_read w ≡ Some l → has_form l ≡ true
-unfolding kind_read
-read_form w l e =
-    let parts = when_some (has_type w && has_form (kind_fields w)) (kind_fields w) l e in
-    let form : has_form (kind_fields w) ≡ true = (let b = parts.0 in grind arith) in
-    ap has_form (sym parts.1) ∙ form
-
 -- a live word is not marked
 pub read_unmarked : (w : ℕ) (l : KindWord) → kind_read w ≡ Some l → l.validated ≡ true → l.unflushed ≡ false
 read_unmarked w l e live =
     elim l.unflushed as (λ b. l.unflushed ≡ b → b ≡ false) [
-      | true ↦ λ t. absurd (let dead = form_unlive l (read_form w l e) t in cc)
+      | true ↦ λ t. absurd (let dead = form_unlive l (form_read w l e) t in cc)
       | false ↦ λ t. refl
     ] refl
 

@@ -1,28 +1,29 @@
 -- What a vCPU comes to after a step that changes no word but a cell: what it came to before, what serves its use,
 -- or to read what it came to to write. All of it is fresh.
-use Rattle.std.proofs.Common.{◌≡◌, ◌≢◌, ℕ, ◌+◌, ◌<◌, ◌⊎◌, inl, inr, true, false, List, [], ◌∷◌, refl, sym, ◌∙◌, ap, subst, arith, IsTrue}
+use Rattle.std.proofs.Common.{◌≡◌, ◌≢◌, ℕ, ◌+◌, ◌<◌, ◌⊎◌, inl, inr, true, List, [], ◌∷◌, refl, sym, ◌∙◌, ap, subst, arith, IsTrue}
 use Rattle.std.proofs.lemmas.Bool.Decides.{nat_tests}
 use Rattle.xp_words.specs.declared.kind.PageType.{PageType}
 use Rattle.xp_words.specs.RefWords.{bit}
 use Rattle.xp_words.specs.Entries.{is_bit, frame_of}
 use Rattle.xp_words.specs.Machine.{Machine}
-use Rattle.xp_words.specs.Places.{sizes_of, is_place, Place, Vcpu, Refs, Kind, Cell}
+use Rattle.xp_words.specs.Places.{sizes_of, Place, Vcpu, Refs, Cell}
 use Rattle.xp_board.specs.declared.step.Item.{Item}
 use Rattle.xp_board.specs.declared.holdings.Reached.{Reached}
 use Rattle.xp_board.specs.declared.holdings.Holdings.{Holdings}
 use Rattle.xp_board.specs.Lists.{one_at, times_by, EachOf, Member}
 use Rattle.xp_board.specs.FillSteps.{is_walked}
 use Rattle.xp_board.specs.Readings.{kind_at, is_dying, domain_of}
-use Rattle.xp_board.specs.Hands.{works_on, endings_of, claims_of}
+use Rattle.xp_board.specs.Hands.{endings_of, claims_of}
 use Rattle.xp_board.specs.Reach.{Use, Table, Writes, Reads, use_of, use_below, reached_by, Reach, entry}
 use Rattle.xp_board.specs.Fresh.{Matches, FreshAt}
 use Rattle.xp_board.specs.Sound.{Sound}
 use Rattle.stale_rule.proofs.Bearing.{bears_read}
 use Rattle.stale_rule.proofs.Came.{IsLevel, Reach-level, Reach-all}
-use Rattle.stale_rule.proofs.Items.{marked_unlive}
+use Rattle.xp_board.proofs.KindForms.{live_unmarked}
 use Rattle.stale_rule.proofs.Served.{Served, counted_word, entry_served}
 use Rattle.stale_rule.proofs.Tables.{not_busy}
 use Rattle.xp_board.proofs.Sums.{hands-part}
+use Rattle.xp_board.proofs.Works.{nobody_works}
 
 abbrev pub Came : Machine → (Place → ℕ) → (ℕ → Holdings) → ℕ → ℕ → Use → Type 0
 Came n m h v g u = Reach (sizes_of n) m (h v) g u ⊎ (Served m (domain_of n v) g u ⊎ ((u ≡ Reads) × Reach (sizes_of n) m (h v) g Writes))
@@ -38,13 +39,6 @@ EachOf-none key g Q (x ∷ xs) e = let parts = none-first g (key x) (times_by ke
 
 -- ---- what serves is fresh
 module _ (n : Machine) (m : Place → ℕ) (h : ℕ → Holdings) (sound : Sound n m h) where
-  pub live_unmarked : (g : ℕ) → (kind_at m g).validated ≡ true → (kind_at m g).unflushed ≡ false
-  live_unmarked g live =
-      elim (kind_at m g).unflushed as (λ b. (kind_at m g).unflushed ≡ b → b ≡ false) [
-        | true ↦ λ e. absurd (let dead = marked_unlive n m g (is_place (sizes_of n) (Kind g)) sound.spelled refl e in cc)
-        | false ↦ λ e. refl
-      ] refl
-
   served_fresh : (v g : ℕ) (u : Use) → Served m (domain_of n v) g u → FreshAt n m h v g u
   served_fresh v g u served =
       let word = counted_word (m (Refs g)) served.counted in
@@ -59,7 +53,7 @@ module _ (n : Machine) (m : Place → ℕ) (h : ℕ → Holdings) (sound : Sound
         free = λ e. absurd (let k = word.0 in cc);
         unclaimed = λ s real. (let k = none s real in omega arith);
         bears = record {
-          typed = λ other. inl (live_unmarked g (served.live other), served.matches other);
+          typed = λ other. inl (live_unmarked n m g sound.spelled (served.live other), served.matches other);
           dead = λ other d. absurd (let live = served.live other in cc);
         };
         awaited = λ s real.
@@ -67,10 +61,7 @@ module _ (n : Machine) (m : Place → ℕ) (h : ℕ → Holdings) (sound : Sound
               ending = EachOf-none (λ e. e.frame) g _ (h s).ending (let k = none s real in omega arith);
               work = λ other.
                   EachOf-none (λ e. e.frame) g _ (h s).works
-                  (let alone = sound.alone.works g in
-                  let idle = not_busy (kind_at m g) (served.live other) (served.number other) in
-                  let part = hands-part (λ k. works_on g k.works) (sizes_of n) h s real in
-                  omega arith);
+                  (nobody_works n m h sound.alone g (not_busy (kind_at m g) (served.live other) (served.number other)) s real);
             };
       }
 
@@ -107,7 +98,7 @@ module _ (n : Machine) (m : Place → ℕ) (h : ℕ → Holdings) (sound : Sound
   live_matches v g u real live other r =
       elim ((sound.fresh.each v real g u r).bears.typed other) [
         | inl plain ↦ plain.1
-        | inr marked ↦ absurd (let e = live_unmarked g live in let k = marked.0 in cc)
+        | inr marked ↦ absurd (let e = live_unmarked n m g sound.spelled live in let k = marked.0 in cc)
       ]
 
   served_one : (v w g : ℕ) (u k : Use) → w < (sizes_of n).vcpus → Served m (domain_of n v) g u → Came n m h w g k → u ≢ Reads → k ≢ Reads → u ≡ k

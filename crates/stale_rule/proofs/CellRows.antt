@@ -21,7 +21,8 @@ use Rattle.xp_board.specs.Keeping.{Acted}
 use Rattle.xp_board.specs.Sound.{Sound}
 use Rattle.xp_board.proofs.ActEffects.{Wrote, Filled, GuestStored}
 use Rattle.stale_rule.proofs.Came.{IsLevel}
-use Rattle.stale_rule.proofs.CameFresh.{Came, came_fresh, came_one, reach_level, live_unmarked}
+use Rattle.stale_rule.proofs.CameFresh.{Came, came_fresh, came_one, reach_level}
+use Rattle.xp_board.proofs.KindForms.{live_unmarked}
 use Rattle.stale_rule.proofs.CellLaw.{written_law}
 use Rattle.stale_rule.proofs.FreeRows.{not_claimed}
 use Rattle.stale_rule.proofs.Like.{cell_stays}
@@ -80,7 +81,7 @@ module _ (n : Machine) (s : ℕ) (x : Step) (m m2 : Place → ℕ) (b c : ℕ �
         | inl page ↦ (let e = ap type_number (alive.1 ∙ page) in omega arith)
         | inr desc ↦ (let e = ap type_number (alive.1 ∙ desc.0) in omega arith)
       ])
-      (live_unmarked n m b sound f alive.0) came
+      (live_unmarked n m f sound.spelled alive.0) came
 
   pub fill_row : (f i : ℕ) → Filled n x f i m m2 (b s) (c s) → Fresh n m2 c
   fill_row f i d = page_law f i _ d.wrote d.hand (plain_unread f i (m2 (Cell f i)) _ _ refl refl d.may)

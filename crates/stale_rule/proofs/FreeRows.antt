@@ -10,10 +10,10 @@ use Rattle.xp_board.specs.declared.step.Step.{Step}
 use Rattle.xp_board.specs.declared.holdings.Ending.{Ending}
 use Rattle.xp_board.specs.declared.holdings.Claimed.{Claimed}
 use Rattle.xp_board.specs.declared.holdings.Holdings.{Holdings}
-use Rattle.xp_board.specs.Lists.{one_at, times_by}
+use Rattle.xp_board.specs.Lists.{times_by}
 use Rattle.xp_board.specs.Hands.{ending_of, claim_of, claims_of}
 use Rattle.xp_board.specs.RefSteps.{IsFreeStamp, claimed_frame, freed, given}
-use Rattle.xp_board.specs.Readings.{is_free, free_stamp, owner_of, told_value}
+use Rattle.xp_board.specs.Readings.{free_stamp, told_value}
 use Rattle.xp_board.specs.Reach.{Use, Reach}
 use Rattle.xp_board.specs.Fresh.{FreshAt, Fresh}
 use Rattle.xp_board.specs.Keeping.{Acted}
@@ -23,15 +23,13 @@ use Rattle.xp_board.proofs.HandLists.{EachOf-without, EachOf-first, first-key, f
 use Rattle.stale_rule.proofs.Like.{HandLike, parts_like}
 use Rattle.stale_rule.proofs.Past.{since_each, past_gone, gone_unreached}
 use Rattle.stale_rule.proofs.RefRows.{ref_law}
+use Rattle.xp_board.proofs.Sums.{one_at-other}
+use Rattle.xp_board.proofs.RefWords.{free_says}
 
 -- ---- free words
 free_word : (w stamp : ℕ) → w < 2 ^ 64 → ref_read w ≡ Some (Free stamp) → w ≡ stamp
 unfolding ref_write
 free_word w stamp b e = let r = ref_write-read w (Free stamp) b e in sym r.1
-
-free_says : (w stamp : ℕ) → ref_read w ≡ Some (Free stamp) → (is_free w ≡ true) × (free_stamp w ≡ stamp) × (owner_of w ≡ None)
-unfolding is_free free_stamp owner_of
-free_says w stamp e = (rw e refl, rw e refl, rw e refl)
 
 stamp_tells : (f w x stamp : ℕ) → (w == stamp) ≡ true → x ≡ stamp → free_stamp x ≡ stamp → told_value (Refs f) w ≡ stamp
 unfolding told_value
@@ -42,12 +40,9 @@ freed_like : (n : Machine) (s f : ℕ) (a : Holdings) → HandLike a (freed n s 
 freed_like n s f a =
     record { steps = refl; works = λ P new e. e; ending = λ P new e. EachOf-without (λ x. P x.frame x.since) (λ x. x.frame) f a.ending e }
 
-one_other : (g f : ℕ) → g ≢ f → one_at g f ≡ 0
-one_other g f off = grind (arith, nat_tests)
-
 claimed_other : (n : Machine) (s f w g : ℕ) (a : Holdings) → g ≢ f → claims_of g a.claimed ≡ 0 → claims_of g (claimed_frame n s f w a).claimed ≡ 0
 unfolding times_by
-claimed_other n s f w g a off none = let o = one_other g f off in omega arith
+claimed_other n s f w g a off none = let o = one_at-other g f off in omega arith
 
 unclaimed_more : (g f : ℕ) (a : Holdings) → claims_of g a.claimed ≡ 0 → claims_of g (given f a).claimed ≡ 0
 unclaimed_more g f a none = let less = times-without (λ x. x.frame) g f a.claimed in omega arith
@@ -62,9 +57,9 @@ module _ (n : Machine) (s : ℕ) (x : Step) (m m2 : Place → ℕ) (b c : ℕ �
       let at = free_word (m (Refs f)) d.stamp (sound.spelled.small (Refs f)) d.was in
       let word = free_says (m (Refs f)) d.stamp d.was in
       let gone = past_gone n m b sound s v d.may.past.since d.stamp (Refs f) (λ w. w == d.stamp) real live
-      (λ w t. stamp_tells f w (m (Refs f)) d.stamp t at word.1) d.may.past.found (d.may.past.past v live) in
-      let below = (sound.fresh.each v live f u r).free word.0 in
-      gone_unreached n m b sound v d.stamp f u live gone (let e = word.1 in omega arith) r
+      (λ w t. stamp_tells f w (m (Refs f)) d.stamp t at word.stamp) d.may.past.found (d.may.past.past v live) in
+      let below = (sound.fresh.each v live f u r).free word.free in
+      gone_unreached n m b sound v d.stamp f u live gone (let e = word.stamp in omega arith) r
 
   pub take_row : (f : ℕ) → Took n s x f m m2 (b s) (c s) → Fresh n m2 c
   take_row f d =
@@ -91,9 +86,9 @@ module _ (n : Machine) (s : ℕ) (x : Step) (m m2 : Place → ℕ) (b c : ℕ �
       (λ v g u live r. unclaimed_more g f (b s))
       (λ v u live r.
       inr (record {
-        owner = word.2;
-        free = word.0;
-        stamp = let e = word.1 in let k = stamp_bound f d.stamp (m (Vcpu v 5)) u _ _ refl refl d.may.told v refl (sound.fresh.each v live f u r) in omega arith;
+        owner = word.owned;
+        free = word.free;
+        stamp = let e = word.stamp in let k = stamp_bound f d.stamp (m (Vcpu v 5)) u _ _ refl refl d.may.told v refl (sound.fresh.each v live f u r) in omega arith;
       }))
 
   -- ---- given

@@ -1,11 +1,10 @@
 -- Fresh after an exchange of kind words, and after a type count is given back.
-use Rattle.std.proofs.Common.{◌≡◌, ℕ, ◌+◌, ◌<◌, inl, inr, Bool, true, false, refl, sym, subst, arith}
+use Rattle.std.proofs.Common.{◌≡◌, ℕ, ◌+◌, ◌<◌, inl, inr, true, false, refl, sym, subst, arith}
 use Rattle.std.proofs.lemmas.Bool.{cases_eq}
 use Rattle.xp_words.specs.declared.kind.KindWord.{KindWord}
 use Rattle.xp_words.specs.KindWords.{kind_fields}
-use Rattle.xp_words.specs.RefWords.{bit}
 use Rattle.xp_words.specs.Machine.{Machine}
-use Rattle.xp_words.specs.Places.{sizes_of, is_place, Place, Vcpu, Refs, Kind, Cell, Priv}
+use Rattle.xp_words.specs.Places.{sizes_of, Place, Vcpu, Refs, Kind, Cell, Priv}
 use Rattle.xp_board.specs.declared.step.Step.{Step}
 use Rattle.xp_board.specs.declared.step.StepKind.TheVariants as steps
 use Rattle.xp_board.specs.declared.holdings.Holdings.{Holdings}
@@ -20,18 +19,14 @@ use Rattle.xp_board.specs.Sound.{Sound}
 use Rattle.xp_board.proofs.ActEffects.{Wrote, Turned, Dropped, Unlocked}
 use Rattle.stale_rule.proofs.Bearing.{bears_same, bears_begun, OneLess, count_down, lock_down}
 use Rattle.stale_rule.proofs.Came.{IsLevel, Reach-level}
-use Rattle.stale_rule.proofs.Items.{marked_unlive}
+use Rattle.xp_board.proofs.KindForms.{marked_unlive}
 use Rattle.stale_rule.proofs.KindHands.{row_stays, dropped_stays, unlocked_stays}
 use Rattle.stale_rule.proofs.Like.{HandStays, parts_stay, then_stays}
 use Rattle.stale_rule.proofs.Moves.{act_law, not_clock}
 use Rattle.stale_rule.proofs.Stays.{ref_same, ever_same}
 use Rattle.stale_rule.proofs.Tables.{live_count}
 use Rattle.xp_board.proofs.Sums.{hands-part}
-
--- a count that has a reference in hand is above 0
-pub bit_on : (b : Bool) → 0 < bit b → b ≡ true
-bit_on true p = refl
-bit_on false p = absurd (omega arith)
+use Rattle.xp_board.proofs.Works.{is_locked-mine}
 
 -- the marks of an exchange that leaves type, mark and stamp
 row_bears : (row : KindRow) (n : Machine) (s f flushed : ℕ) (k l : KindWord) (a : Holdings) (u : Use) → IsLevel u → (k.unflushed ≡ true → k.validated ≡ false) →
@@ -80,7 +75,7 @@ module _ (n : Machine) (s : ℕ) (x : Step) (m m2 : Place → ℕ) (b c : ℕ �
       kind_law f _ d.wrote d.hand (then_stays _ _ _ (parts_stay (b s) _ refl refl refl refl refl refl) (row_stays row f d.k d.l (m2 (Kind f)) _))
       (λ v u live r old.
       let unlive : d.k.unflushed ≡ true → d.k.validated ≡ false =
-      subst (λ k. k.unflushed ≡ true → k.validated ≡ false) d.fields_was (marked_unlive n m f (is_place (sizes_of n) (Kind f)) sound.spelled refl) in
+      subst (λ k. k.unflushed ≡ true → k.validated ≡ false) d.fields_was (marked_unlive n m f sound.spelled) in
       subst (λ l. Bears (m (Vcpu v 5)) l u) (sym d.fields_is)
       (row_bears row n s f (m (Vcpu v 5)) d.k d.l (b s) u (came_level v f u live r) unlive d.may (subst (λ k. Bears (m (Vcpu v 5)) k u) d.fields_was old)))
 
@@ -88,7 +83,7 @@ module _ (n : Machine) (s : ℕ) (x : Step) (m m2 : Place → ℕ) (b c : ℕ �
   less_bears : (f flushed : ℕ) (u : Use) (l : KindWord) → (kind_at m f).validated ≡ true → OneLess (kind_at m f) l → Bears flushed (kind_at m f) u → Bears flushed l u
   less_bears f flushed u l live less old =
       bears_same flushed (kind_at m f) l u less.kind less.unflushed
-      (λ e. absurd (let d = marked_unlive n m f (is_place (sizes_of n) (Kind f)) sound.spelled refl e in cc))
+      (λ e. absurd (let d = marked_unlive n m f sound.spelled e in cc))
       (let v = less.validated in rw (v, live) refl) old
 
 module _ (n : Machine) (s : ℕ) (m : Place → ℕ) (b : ℕ → Holdings) (real : s < (sizes_of n).vcpus) (sound : Sound n m b) where
@@ -117,9 +112,7 @@ module _ (n : Machine) (s : ℕ) (x : Step) (m m2 : Place → ℕ) (b c : ℕ �
   unlock_row f d =
       kind_law n s x m m2 b c acted sound f _ d.wrote d.hand (unlocked_stays f (m (Kind f)) (m2 (Kind f)) (b s))
       (λ v u live r old.
-      let one = sound.alone.locks f in
-      let part = hands-part (λ u. locks_on f u.locks) (sizes_of n) b s real in
-      let locked : is_locked (kind_at m f) ≡ true = bit_on _ (let p = d.may in omega arith) in
+      let locked : is_locked (kind_at m f) ≡ true = is_locked-mine n m b sound.alone f s real d.may in
       let alive : (kind_at m f).validated ≡ true = grind arith in
       let shut : (kind_at m f).locked ≡ true = grind arith in
       let some = counted_here n s m b real sound f alive (in_hand f (let p = d.may in omega arith)) in

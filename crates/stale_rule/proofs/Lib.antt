@@ -4,7 +4,6 @@ pub mod Came
 pub mod CameFresh
 pub mod CellLaw
 pub mod CellRows
-pub mod Counted
 pub mod Demands
 pub mod EntryBits
 pub mod FlushRow

@@ -1,7 +1,6 @@
 -- What steps and marks leave of a hand, as far as old translations go.
 use Rattle.std.proofs.Common.{◌≡◌, ℕ, ◌+◌, ◌==◌, Bool, true, false, length, refl, sym, ◌∙◌, ap, subst, if◌then◌else◌}
 use Rattle.xp_words.specs.declared.entry.Demand.{Demand}
-use Rattle.xp_words.specs.declared.entry.Demand.TheVariants.{Nothing, Bad, Read, Typed}
 use Rattle.xp_words.specs.KindWords.{kind_fields}
 use Rattle.xp_words.specs.Places.{Place, Clock, Pages, Life, Vcpu, Refs, Kind, M2p, Cell, Map, Priv}
 use Rattle.xp_board.specs.declared.step.Item.{Item}
@@ -14,6 +13,7 @@ use Rattle.xp_board.specs.Reach.{reached_by}
 use Rattle.xp_board.specs.Settling.{demand_in, demand_out}
 use Rattle.xp_board.specs.After.{learned, learned_cell, learned_own, learned_work, learned_claim}
 use Rattle.xp_board.proofs.HandLists.{EachOf-changed, times-changed}
+use Rattle.xp_board.proofs.HandParts.{Beside, Translations, beside_own, translations_own, beside_out, beside_in, translations_out, translations_in}
 
 -- ---- hands
 -- From hand a to hand b the steps are the same; what is in work or ending besides the frames of before has been so
@@ -115,11 +115,11 @@ cell_stays f i w a =
       walk = λ x e. e;
     }
 
+pub beside_stays : (a b : Holdings) → Beside a b → Translations a b → HandStays a b
+beside_stays a b k l = parts_stay a b k.steps k.works k.ending k.claimed l.cache l.walk
+
 pub own_stays : (k w : ℕ) (a : Holdings) → HandStays a (learned_own k w a)
-own_stays k w a =
-    if_stays (k == 2) a _ _ (parts_stay a _ refl refl refl refl refl refl)
-    (if_stays (k == 3) a _ _ (parts_stay a _ refl refl refl refl refl refl)
-    (if_stays (k == 6) a _ _ (parts_stay a _ refl refl refl refl refl refl) (same_stays a)))
+own_stays k w a = beside_stays a (learned_own k w a) (beside_own k w a) (translations_own k w a)
 
 pub learned_stays : (s : ℕ) (p : Place) (found left : ℕ) (a : Holdings) → HandStays a (learned s p found left a)
 learned_stays s (Cell f i) found left a = cell_stays f i left a
@@ -135,13 +135,7 @@ learned_stays s (Priv d) found left a = same_stays a
 
 -- ---- references
 pub out_stays : (d : Demand) (a : Holdings) → HandStays a (demand_out d a)
-out_stays (Read g) a = parts_stay a _ refl refl refl refl refl refl
-out_stays (Typed g t) a = parts_stay a _ refl refl refl refl refl refl
-out_stays Nothing a = same_stays a
-out_stays Bad a = same_stays a
+out_stays d a = beside_stays a (demand_out d a) (beside_out d a) (translations_out d a)
 
 pub in_stays : (d : Demand) (a : Holdings) → HandStays a (demand_in d a)
-in_stays (Read g) a = parts_stay a _ refl refl refl refl refl refl
-in_stays (Typed g t) a = parts_stay a _ refl refl refl refl refl refl
-in_stays Nothing a = same_stays a
-in_stays Bad a = same_stays a
+in_stays d a = beside_stays a (demand_in d a) (beside_in d a) (translations_in d a)

@@ -18,7 +18,7 @@ use Rattle.xp_board.specs.declared.holdings.Seen.{Seen}
 use Rattle.xp_board.specs.declared.holdings.Holdings.{Holdings}
 use Rattle.xp_board.specs.Steps.{some_since}
 use Rattle.xp_board.specs.Readings.{kind_at, is_locked, ref_count, owner_in, owner_of, domain_of, has_now, has_ever}
-use Rattle.xp_board.specs.Hands.{refs_to, typed_to, lock_on, locks_on, hand, typed_hand}
+use Rattle.xp_board.specs.Hands.{refs_to, typed_to, lock_on, hand, typed_hand}
 use Rattle.xp_board.specs.Recorded.{entry_demand}
 use Rattle.xp_board.specs.Settling.{HasDemand, OwnersMeet}
 use Rattle.xp_board.specs.CellSteps.{is_same_as_seen, is_same_demand}
@@ -35,13 +35,14 @@ use Rattle.xp_board.specs.Sound.{Sound}
 use Rattle.xp_board.proofs.ActEffects.{Wrote, Exchanged, Rewrote}
 use Rattle.stale_rule.proofs.CameFresh.{Came, came_fresh, reach_level, live_matches}
 use Rattle.stale_rule.proofs.CellLaw.{written_law}
-use Rattle.stale_rule.proofs.KindRows.{bit_on, counted_here}
+use Rattle.stale_rule.proofs.KindRows.{counted_here}
 use Rattle.stale_rule.proofs.Like.{HandStays, then_stays, cell_stays, in_stays, out_stays}
 use Rattle.xp_board.proofs.HandLists.{EachOf-first, first-key, first-some}
 use Rattle.stale_rule.proofs.Past.{since_each, since_later}
 use Rattle.stale_rule.proofs.Served.{Served, AsksWell, typed_counted, target_served, served_owner, not_reads, recorded_well}
 use Rattle.xp_board.proofs.Sums.{hands-part}
 use Rattle.xp_board.proofs.EntryWords.{entry_asks_same, same_demand}
+use Rattle.xp_board.proofs.Works.{is_locked-mine}
 
 -- ---- owners
 owner_few : (n : Machine) (r : Option RefWord) (o : ℕ) → IsTrue (is_ref_in n r) → owner_in r ≡ Some o → o < length n.page_limit
@@ -116,9 +117,7 @@ module _ (n : Machine) (s : ℕ) (m : Place → ℕ) (b : ℕ → Holdings) (rea
   locked_live f e here =
       let held = first-some (λ y. y.frame) f e (b s).locks here in
       let at = first-key (λ y. y.frame) f e (b s).locks here in
-      let one = sound.alone.locks f in
-      let part = hands-part (λ u. locks_on f u.locks) (sizes_of n) b s real in
-      let locked : is_locked (kind_at m f) ≡ true = bit_on _ (omega arith) in
+      let locked : is_locked (kind_at m f) ≡ true = is_locked-mine n m b sound.alone f s real held in
       let live : (kind_at m f).validated ≡ true = grind arith in
       let type = EachOf-first _ (λ y. y.frame) f e (b s).locks (sound.counts.kinds.locks s real) here in
       (live, counted_here n s m b real sound f live (omega arith), subst (λ g. (kind_at m g).kind ≡ e.kind) at type, at)

@@ -15,6 +15,7 @@ use Rattle.xp_board.specs.Reach.{Use, Reach}
 use Rattle.xp_board.specs.Sound.{Sound}
 use Rattle.stale_rule.proofs.Came.{Reach-none}
 use Rattle.xp_board.proofs.PlaceTests.{same_place}
+use Rattle.xp_board.proofs.StepLists.{since_within}
 
 -- ---- what was found in some step holds by what holds of each
 -- a step passes, and each step that passes meets P
@@ -53,16 +54,6 @@ told_before z n p stamp test P Q (x ∷ xs) tells f each some =
       | inr later ↦ told_before z n p stamp test P Q xs tells f each.1 later
     ]
 
--- the steps from number n on are fewer than all
-since_below : (z : Sizes) (n : ℕ) (p : Place) (test : ℕ → Bool) (steps : List Made) → IsTrue (some_since z n p test steps) → n < length steps
-unfolding some_step
-since_below z n p test [] some = absurd (cc)
-since_below z n p test (x ∷ xs) some =
-    elim (or_cases (nat_le n (length xs) && (is_at z p x && test (left_of x))) _ some) [
-      | inl here ↦ let a = (and_parts (nat_le n (length xs)) (is_at z p x && test (left_of x)) here).0 in grind (arith, nat_tests)
-      | inr later ↦ let rest = since_below z n p test xs later in omega arith
-    ]
-
 since_either : (z : Sizes) (n : ℕ) (p : Place) (test other : ℕ → Bool) (steps : List Made) → IsTrue (some_since z n p (λ w. test w || other w) steps) →
     IsTrue (some_since z n p test steps) ⊎ IsTrue (some_since z n p other steps)
 unfolding some_step
@@ -86,7 +77,7 @@ before_newest z n p q test old (x ∷ xs) since before =
     let later : IsTrue (some_before z n q old xs) =
     elim (or_cases (nat_lt (length xs) n && (is_at z q x && old (left_of x))) _ before) [
       | inl here ↦
-          absurd (let a = (and_parts (nat_lt (length xs) n) (is_at z q x && old (left_of x)) here).0 in let b = since_below z n p test (x ∷ xs) since in
+          absurd (let a = (and_parts (nat_lt (length xs) n) (is_at z q x && old (left_of x)) here).0 in let b = since_within z n p test (x ∷ xs) since in
           let c : nat_lt (length xs) n ≡ false = grind (arith, nat_tests) in cc)
       | inr rest ↦ rest
     ] in

@@ -19,7 +19,7 @@ use Rattle.xp_board.specs.Reach.{LeadsTo, Path, is_in_use, is_writable_entry}
 use Rattle.xp_board.specs.Safe.{SafeAt}
 use Rattle.xp_board.specs.Spelling.{IsSpelling}
 use Rattle.xp_board.specs.Sound.{Sound}
-use Rattle.stale_rule.proofs.Counted.{context_counted}
+use Rattle.xp_board.proofs.Counted.{contexts-part}
 use Rattle.stale_rule.proofs.Demands.{asks_table, asks_leaf, LeafAsks, walked_inside}
 use Rattle.stale_rule.proofs.Tables.{Serves, table_held, leads_live, named_counted, live_count}
 
@@ -120,7 +120,7 @@ module _ (n : Machine) (m : Place → ℕ) (h : ℕ → Holdings) (sound : Sound
       let live = sound.valid.contexts v k g real (omega arith) (base_live k b) names in
       let count = sound.counts.types g in
       let number = live_count (kind_at m g) live in
-      let context = context_counted (sizes_of n) m v k g real (omega arith) (base_context k b) names in
+      let context = contexts-part (sizes_of n) m g v k real (omega arith) (base_context k b) names in
       let kind = has_type m g (context_type k) kinds.L4 (base_type k b) (sound.counts.kinds.contexts v k g real (omega arith) (base_context k b) names) in
       let spelled = subst (λ w. IsSpelling n (Vcpu v k) w) names (sound.spelled.spelled (Vcpu v k) (base_place n v k real b)) in (
         record {

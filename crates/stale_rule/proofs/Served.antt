@@ -1,5 +1,5 @@
 -- Frames that serve a use: live with its type where it has one, and counted.
-use Rattle.std.proofs.Common.{◌≡◌, ◌≢◌, ℕ, zero, suc, ◌-◌, ◌<◌, ◌≤◌, ◌==◌, inl, inr, Bool, true, false, nat_lt, refl, sym, ◌∙◌, ap, subst, arith, IsTrue, if◌then◌else◌, Option, Some, None}
+use Rattle.std.proofs.Common.{◌≡◌, ◌≢◌, ℕ, ◌-◌, ◌<◌, ◌≤◌, ◌==◌, inl, inr, Bool, true, false, nat_lt, refl, sym, ◌∙◌, ap, subst, arith, IsTrue, if◌then◌else◌, Option, Some, None}
 use Rattle.std.proofs.lemmas.Bool.Decides.{nat_tests}
 use Rattle.xp_words.specs.declared.kind.PageType.{PageType}
 use Rattle.xp_words.specs.declared.entry.Demand.{Demand}
@@ -11,54 +11,27 @@ use Rattle.xp_words.specs.PageTypes.{type_number}
 use Rattle.xp_words.specs.Entries.{is_bit, frame_of, is_lowest, demand_at}
 use Rattle.xp_words.specs.KindWords.{kind_fields}
 use Rattle.xp_words.specs.Machine.{Machine}
-use Rattle.xp_words.specs.Places.{Sizes, sizes_of, is_place, Place, Refs, Kind, Cell}
+use Rattle.xp_words.specs.Places.{sizes_of, is_place, Place, Refs, Kind, Cell}
 use Rattle.xp_board.specs.declared.holdings.Holdings.{Holdings}
-use Rattle.xp_board.specs.Sums.{sum_below}
 use Rattle.xp_board.specs.FillSteps.{is_walked}
 use Rattle.xp_board.specs.Readings.{kind_at, count_in, ref_count, owner_of, is_free_in, is_free, is_dying_in, is_dying}
-use Rattle.xp_board.specs.Hands.{hand, typed_hand}
-use Rattle.xp_board.specs.Recorded.{names, names_typed, held, entry_demand, table_entries, entries, hands}
+use Rattle.xp_board.specs.Recorded.{names, held, entry_demand, entries}
 use Rattle.xp_board.specs.Valid.{Permits, EntryPermitted}
 use Rattle.xp_board.specs.Reach.{Use, Table, Writes, Reads, use_below}
 use Rattle.xp_board.specs.Fresh.{Belongs, Matches}
 use Rattle.xp_board.specs.Sound.{Sound}
 use Rattle.stale_rule.proofs.Came.{IsLevel}
-use Rattle.stale_rule.proofs.Counted.{entry_counted}
+use Rattle.xp_board.proofs.Counted.{entries-part, type_below}
 use Rattle.stale_rule.proofs.Demands.{asks_table, asks_leaf, LeafAsks, walked_inside}
-use Rattle.stale_rule.proofs.Items.{zero_dead}
+use Rattle.xp_board.proofs.KindForms.{zero_dead}
 use Rattle.stale_rule.proofs.Paths.{permits_own}
 use Rattle.stale_rule.proofs.Tables.{table_held, leads_live, named_counted, live_count}
-
--- ---- counts
-names_more : (g : ℕ) (d : Demand) → names_typed g d ≤ names g d
-unfolding names names_typed
-names_more g Nothing = omega arith
-names_more g Bad = omega arith
-names_more g (Read f) = omega arith
-names_more g (Typed f t) = omega arith
-
-sum_below-more : (n : ℕ) (p q : ℕ → ℕ) → ((k : ℕ) → p k ≤ q k) → sum_below n p ≤ sum_below n q
-unfolding sum_below
-sum_below-more zero p q e = omega arith
-sum_below-more (suc n) p q e = let rest = sum_below-more n p q e in let here = e n in omega arith
-
-entries_more : (g : ℕ) (z : Sizes) (m : Place → ℕ) (h : ℕ → Holdings) → entries (names_typed g) z m h ≤ entries (names g) z m h
-unfolding entries table_entries
-entries_more g z m h =
-    sum_below-more z.frames _ _ (λ f. sum_below-more (held z m h f) _ _ (λ i. names_more g (entry_demand m f i)))
-
-hands_more : (g : ℕ) (z : Sizes) (h : ℕ → Holdings) → hands (λ u. typed_hand g u) z h ≤ hands (λ u. hand g u) z h
-unfolding hands hand
-hands_more g z h = sum_below-more z.vcpus _ _ (λ s. omega arith)
 
 -- a frame with a type count has a reference count
 pub typed_counted : (n : Machine) (m : Place → ℕ) (h : ℕ → Holdings) (g : ℕ) → Sound n m h → (kind_at m g).validated ≡ true → 0 < (kind_at m g).number → 0 < ref_count (m (Refs g))
 typed_counted n m h g sound live some =
-    let types = sound.counts.types g in
-    let refs = sound.counts.refs g in
     let number = live_count (kind_at m g) live in
-    let table = entries_more g (sizes_of n) m h in
-    let held = hands_more g (sizes_of n) h in
+    let below = type_below (sizes_of n) m h g sound.counts in
     omega arith
 
 -- ---- what serves a use, of domain d
@@ -205,7 +178,7 @@ module _ (n : Machine) (m : Place → ℕ) (h : ℕ → Holdings) (sound : Sound
   unfolding names
   plain_well d f i g inside recorded owner asks =
       let count = sound.counts.refs g in
-      let entry = entry_counted (names g) (sizes_of n) m h f i inside recorded in
+      let entry = entries-part (names g) (sizes_of n) m h f i inside recorded in
       let one : names g (entry_demand m f i) ≡ 1 = rw asks (grind (arith, nat_tests)) in (
         omega arith,
         subst (λ o. EntryPermitted m (kind_at m f).kind o g) owner (sound.permitted.plain f i g recorded asks),

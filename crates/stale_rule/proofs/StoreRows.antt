@@ -1,10 +1,10 @@
 -- Fresh after a store over the kind word of a frame in work or closing.
-use Rattle.std.proofs.Common.{◌≡◌, ◌≢◌, ℕ, ◌<◌, ◌≤◌, ◌==◌, inl, inr, Bool, true, false, refl, sym, ◌∙◌, ap, subst, arith, IsTrue, if◌then◌else◌, Some}
+use Rattle.std.proofs.Common.{◌≡◌, ◌≢◌, ℕ, ◌<◌, ◌≤◌, ◌==◌, inl, inr, true, false, refl, sym, ◌∙◌, ap, subst, arith, IsTrue, Some}
 use Rattle.std.proofs.lemmas.Bool.Decides.{nat_tests}
 use Rattle.xp_words.specs.declared.kind.KindWord.{KindWord}
 use Rattle.xp_words.specs.KindWords.{kind_fields, kind_read}
 use Rattle.xp_words.specs.Machine.{Machine}
-use Rattle.xp_words.specs.Places.{sizes_of, is_place, Place, Clock, Vcpu, Kind}
+use Rattle.xp_words.specs.Places.{sizes_of, Place, Clock, Vcpu, Kind}
 use Rattle.xp_board.specs.declared.step.Step.{Step}
 use Rattle.xp_board.specs.declared.holdings.Work.{Work}
 use Rattle.xp_board.specs.declared.holdings.Holdings.{Holdings}
@@ -19,24 +19,13 @@ use Rattle.xp_board.specs.Keeping.{Acted}
 use Rattle.xp_board.specs.Sound.{Sound}
 use Rattle.xp_board.proofs.ActEffects.{Stored}
 use Rattle.stale_rule.proofs.Bearing.{bears_read, bears_same, bears_dead, matches_same, read_unmarked}
-use Rattle.stale_rule.proofs.Items.{marked_unlive}
+use Rattle.xp_board.proofs.KindForms.{marked_unlive}
 use Rattle.stale_rule.proofs.KindHands.{form_stays}
 use Rattle.stale_rule.proofs.KindRows.{kind_law}
-use Rattle.xp_board.proofs.HandLists.{EachOf-first, first-key}
+use Rattle.xp_board.proofs.HandLists.{EachOf-first}
 use Rattle.stale_rule.proofs.Past.{since_each, past_gone, gone_unreached}
-
--- ---- the forms
-live_by : (v p k : Bool) → (if v then Live else if p then Partial else if k then InWork else Dead) ≡ Live → v ≡ true
-live_by true p k e = refl
-live_by false true k e = absurd (cc)
-live_by false false true e = absurd (cc)
-live_by false false false e = absurd (cc)
-
-partial_by : (v p k : Bool) → (if v then Live else if p then Partial else if k then InWork else Dead) ≡ Partial → p ≡ true
-partial_by true p k e = absurd (cc)
-partial_by false true k e = refl
-partial_by false false true e = absurd (cc)
-partial_by false false false e = absurd (cc)
+use Rattle.xp_board.proofs.FormsLeft.{is_live_left, is_partial_left}
+use Rattle.xp_board.proofs.WorkFacts.{Works, works_facts}
 
 -- the stamp that a marked word tells
 marked_tells : (f w x : ℕ) → (w == x) ≡ true → (kind_fields x).validated ≡ false → told_value (Kind f) w ≡ (kind_fields x).number
@@ -45,28 +34,24 @@ marked_tells f w x t dead = let e : w ≡ x = grind (arith, nat_tests) in rw (e,
 
 module _ (n : Machine) (s : ℕ) (m : Place → ℕ) (b : ℕ → Holdings) (real : s < (sizes_of n).vcpus) (sound : Sound n m b) (f : ℕ) (e : Work)
     (here : work_on f (b s).works ≡ Some e) where
-  its_frame : e.frame ≡ f
-  its_frame = first-key (λ y. y.frame) f e (b s).works here
+  facts : Works n m b s f e
+  facts = works_facts n m b s f e sound real here
 
   -- the word that stands there
   pub its_word : kind_at m f ≡ kind_fields e.word
-  its_word =
-      let found = EachOf-first _ (λ y. y.frame) f e (b s).works (sound.found s real).works here in
-      subst (λ g. kind_at m g ≡ kind_fields e.word) its_frame (ap kind_fields found.word)
+  its_word = ap kind_fields facts.word
 
   -- past the flush a marked frame is only read
   past_read : (v : ℕ) (u : Use) → v < (sizes_of n).vcpus → (kind_at m f).unflushed ≡ true → IsPastFlush n (b s) e → Reach (sizes_of n) m (b v) f u →
       Bears (m (Vcpu v 5)) (kind_at m f) u → u ≢ Reads → ⊥
   past_read v u live marked past r old other =
-      let formed = EachOf-first _ (λ y. y.frame) f e (b s).works (sound.formed s real).works here in
-      let found = EachOf-first _ (λ y. y.frame) f e (b s).works (sound.found s real).works here in
       let mark : (kind_fields e.word).unflushed ≡ true = subst (λ k. k.unflushed ≡ true) its_word marked in
       let dead : (kind_fields e.word).validated ≡ false =
-      subst (λ k. k.validated ≡ false) its_word (marked_unlive n m f (is_place (sizes_of n) (Kind f)) sound.spelled refl marked) in
+      subst (λ k. k.validated ≡ false) its_word (marked_unlive n m f sound.spelled marked) in
       elim (past v live) [
         | inl flushed ↦
             let gone = past_gone n m b sound s v e.since (kind_fields e.word).number (Kind e.frame) (λ w. w == e.word) real live
-            (λ w t. marked_tells e.frame w e.word t dead) (formed.told mark) flushed in
+            (λ w t. marked_tells e.frame w e.word t dead) (facts.formed.told mark) flushed in
             elim (old.typed other) [
               | inl plain ↦ absurd (let p = plain.0 in cc)
               | inr stamped ↦
@@ -74,8 +59,8 @@ module _ (n : Machine) (s : ℕ) (m : Place → ℕ) (b : ℕ → Holdings) (rea
                   (subst (λ k. m (Vcpu v 5) ≤ k.number) its_word stamped.1) r
             ]
         | inr over ↦
-            other (found.passed v over.owner u mark live ((sound.found s real).owners e.frame over.owner over.known) over.other over.never
-            (subst (λ g. Reach (sizes_of n) m (b v) g u) (sym its_frame) r))
+            other (facts.found.passed v over.owner u mark live ((sound.found s real).owners e.frame over.owner over.known) over.other over.never
+            (subst (λ g. Reach (sizes_of n) m (b v) g u) (sym facts.frame) r))
       ]
 
   -- ---- by the form that is left
@@ -96,7 +81,7 @@ module _ (n : Machine) (s : ℕ) (m : Place → ℕ) (b : ℕ → Holdings) (rea
       IsTrue (some_since (sizes_of n) e.since Clock (λ w. w == stamp) (b s).steps) → m (Vcpu v 5) ≤ stamp
   stamp_bound v u stamp live other r told =
       since_each (sizes_of n) e.since Clock (λ w. w == stamp) (λ w. m (Vcpu v 5) ≤ w) (m (Vcpu v 5) ≤ stamp) (b s).steps
-      (EachOf-first _ (λ y. y.frame) f e (b s).works (((sound.fresh.each v live f u r).awaited s real).work other) here its_frame) told
+      (EachOf-first _ (λ y. y.frame) f e (b s).works (((sound.fresh.each v live f u r).awaited s real).work other) here facts.frame) told
       (λ w t below. let k : w ≡ stamp = grind (arith, nat_tests) in omega arith)
 
   dead_bears : (v : ℕ) (l : KindWord) (u : Use) → v < (sizes_of n).vcpus → MayMakeDead n f e l (b s) → Reach (sizes_of n) m (b v) f u →
@@ -120,11 +105,11 @@ module _ (n : Machine) (s : ℕ) (m : Place → ℕ) (b : ℕ → Holdings) (rea
   form_bears : (form : Form) (v : ℕ) (w : ℕ) (l : KindWord) (u : Use) → v < (sizes_of n).vcpus → kind_read w ≡ Some l → form_of l ≡ form → AllowsForm form n f e l (b s) →
       Reach (sizes_of n) m (b v) f u → Bears (m (Vcpu v 5)) (kind_at m f) u → Bears (m (Vcpu v 5)) l u
   form_bears Live v w l u live reads is may r old =
-      let alive = live_by l.validated l.partial l.locked is in
+      let alive = is_live_left l is in
       plain_bears (m (Vcpu v 5)) l u (rw alive refl) (read_unmarked w l reads alive) (subst (λ k. l.kind ≡ k.kind) (sym its_word) may.kind)
       (λ marked other. past_read v u live marked (may.past (subst (λ k. k.unflushed ≡ true) its_word marked)) r old other) old
   form_bears Partial v w l u live reads is may r old =
-      let partial = partial_by l.validated l.partial l.locked is in
+      let partial = (is_partial_left l is).1 in
       let alive : is_dead l ≡ false = grind arith in
       let kind = subst (λ k. l.kind ≡ k.kind) (sym its_word) may.kind in
       elim may.mark [

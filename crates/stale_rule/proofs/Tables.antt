@@ -1,22 +1,21 @@
 -- The tables to which a vCPU's base leads.
-use Rattle.std.proofs.Common.{◌≡◌, ℕ, ◌<◌, ◌≤◌, ◌==◌, inl, inr, true, false, arith, IsTrue, Some, None}
+use Rattle.std.proofs.Common.{◌≡◌, ℕ, ◌<◌, ◌≤◌, ◌==◌, inl, inr, true, false, arith, Some, None, ◌∙◌}
 use Rattle.std.proofs.lemmas.Bool.Decides.{nat_tests}
 use Rattle.xp_words.specs.declared.kind.PageType.{PageType}
 use Rattle.xp_words.specs.declared.kind.KindWord.{KindWord}
-use Rattle.xp_words.specs.declared.entry.Demand.{Demand}
 use Rattle.xp_words.specs.declared.entry.Demand.TheVariants.{Typed}
 use Rattle.xp_words.specs.PageTypes.{type_number, is_table}
-use Rattle.xp_words.specs.RefWords.{bit}
 use Rattle.xp_words.specs.Machine.{Machine}
 use Rattle.xp_words.specs.Places.{sizes_of, Place, Refs}
 use Rattle.xp_board.specs.declared.holdings.Holdings.{Holdings}
-use Rattle.xp_board.specs.Readings.{kind_at, is_partial, type_count, owner_of}
-use Rattle.xp_board.specs.Hands.{works_on, work_on}
+use Rattle.xp_board.specs.Readings.{kind_at, type_count, owner_of}
+use Rattle.xp_board.specs.Hands.{work_on}
 use Rattle.xp_board.specs.Recorded.{held, held_of, entry_demand, names_typed}
 use Rattle.xp_board.specs.Valid.{LeadsWell}
 use Rattle.xp_board.specs.Sound.{Sound, is_busy}
-use Rattle.stale_rule.proofs.Counted.{entry_counted, first_by-none, work_of-none}
-use Rattle.xp_board.proofs.Sums.{hands-part}
+use Rattle.xp_board.proofs.Counted.{entries-part, names_typed-typed}
+use Rattle.xp_board.proofs.Works.{nobody_has, held_free}
+use Rattle.xp_board.proofs.HeldByForm.{live_partial}
 
 -- a live and counted table of that level, of that domain
 pub record Serves (m : Place → ℕ) (d level f : ℕ) : Type 0 where
@@ -25,7 +24,7 @@ pub record Serves (m : Place → ℕ) (d level f : ℕ) : Type 0 where
   pub level_is : type_number (kind_at m f).kind ≡ level
   pub owner : owner_of (m (Refs f)) ≡ Some d
 
-pub not_busy : (k : KindWord) → k.validated ≡ true → 0 < k.number → bit (is_busy k) ≡ 0
+pub not_busy : (k : KindWord) → k.validated ≡ true → 0 < k.number → is_busy k ≡ false
 not_busy k v c = let e : (k.number == 0) ≡ false = grind (arith, nat_tests) in rw (v, e)
 
 pub live_count : (k : KindWord) → k.validated ≡ true → type_count k ≡ k.number
@@ -36,33 +35,20 @@ all_held : (k : KindWord) → k.validated ≡ true → 1 ≤ type_number k.kind 
 unfolding held_of
 all_held k v lo hi = let t : is_table k.kind ≡ true = grind (arith, nat_tests) in rw (t, v)
 
-not_partial : (k : KindWord) → k.validated ≡ true → IsTrue (is_partial k) → ⊥
-not_partial k v p = let e : is_partial k ≡ false = rw v in cc
-
-names_it : (g : ℕ) (t : PageType) (d : Demand) → d ≡ Typed g t → names_typed g d ≡ 1
-unfolding names_typed
-names_it g t d e = rw e (grind (arith, nat_tests))
-
 -- ---- a frame that is in nobody's works
 module _ (n : Machine) (m : Place → ℕ) (h : ℕ → Holdings) (sound : Sound n m h) where
   pub no_work : (f s : ℕ) → (kind_at m f).validated ≡ true → 0 < (kind_at m f).number → s < (sizes_of n).vcpus → work_on f (h s).works ≡ None
-  no_work f s v c real =
-      let one = sound.alone.works f in
-      let none = not_busy (kind_at m f) v c in
-      let part = hands-part (λ u. works_on f u.works) (sizes_of n) h s real in
-      first_by-none (λ e. e.frame) f (h s).works (omega arith)
+  no_work f s v c real = nobody_has n m h sound.alone f (not_busy (kind_at m f) v c) s real
 
   -- all entries of a live and counted table are recorded
   pub table_held : (f : ℕ) → (kind_at m f).validated ≡ true → 0 < (kind_at m f).number → 1 ≤ type_number (kind_at m f).kind → type_number (kind_at m f).kind ≤ 4 →
       held (sizes_of n) m h f ≡ 512
-  table_held f v c lo hi =
-      let none = work_of-none (sizes_of n).vcpus h f (λ t real. no_work f t v c real) in
-      rw none (all_held (kind_at m f) v lo hi)
+  table_held f v c lo hi = held_free n m h sound.alone f (not_busy (kind_at m f) v c) ∙ all_held (kind_at m f) v lo hi
 
   -- they lead to live frames
   pub leads_live : (f i g : ℕ) → (kind_at m f).validated ≡ true → 0 < (kind_at m f).number → LeadsWell (sizes_of n) m h f i g → (kind_at m g).validated ≡ true
   leads_live f i g v c (inl live) = live
-  leads_live f i g v c (inr (early, inl last)) = absurd (not_partial (kind_at m f) v last.partial)
+  leads_live f i g v c (inr (early, inl last)) = absurd (live_partial (kind_at m f) v last.partial)
   leads_live f i g v c (inr (early, inr open_entry)) =
       absurd (let none = no_work f open_entry.seat v c open_entry.real in let some = open_entry.here in cc)
 
@@ -72,6 +58,6 @@ module _ (n : Machine) (m : Place → ℕ) (h : ℕ → Holdings) (sound : Sound
   named_counted f i g t inside recorded asks v =
       let count = sound.counts.types g in
       let number = live_count (kind_at m g) v in
-      let entry = entry_counted (names_typed g) (sizes_of n) m h f i inside recorded in
-      let one = names_it g t (entry_demand m f i) asks in
+      let entry = entries-part (names_typed g) (sizes_of n) m h f i inside recorded in
+      let one = names_typed-typed g t (entry_demand m f i) asks in
       omega arith

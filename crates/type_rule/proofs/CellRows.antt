@@ -9,7 +9,7 @@ use Rattle.xp_words.specs.PageTypes.{is_table, type_number}
 use Rattle.xp_words.specs.Entries.{demand_at, fixed}
 use Rattle.xp_words.specs.KindWords.{kind_read, kind_fields}
 use Rattle.xp_words.specs.Machine.{Machine}
-use Rattle.xp_words.specs.Places.{Sizes, Place, Refs, Kind, Cell, sizes_of, is_place}
+use Rattle.xp_words.specs.Places.{Sizes, Place, Refs, Kind, Cell, sizes_of}
 use Rattle.xp_board.specs.declared.step.Step.{Step}
 use Rattle.xp_board.specs.declared.holdings.Seen.{Seen}
 use Rattle.xp_board.specs.declared.holdings.Made.{Made}
@@ -29,14 +29,16 @@ use Rattle.xp_board.specs.After.{is_fixed}
 use Rattle.xp_board.specs.Recorded.{HasType, held}
 use Rattle.xp_board.specs.Valid.{Valid, Permitted}
 use Rattle.xp_board.specs.Sound.{Sound}
-use Rattle.xp_board.proofs.KindForms.{live_form}
+use Rattle.xp_board.proofs.KindForms.{live_unmarked}
 use Rattle.xp_board.proofs.EntryWords.{entry_asks_same, same_demand}
 use Rattle.xp_board.proofs.ActEffects.{Rewrote, Filled}
-use Rattle.type_rule.proofs.Counted.{first_each, first_some}
-use Rattle.type_rule.proofs.Held.{type_below}
-use Rattle.type_rule.proofs.WorkFacts.{works_facts, idle_held, closing_counted, closing_busy}
+use Rattle.xp_board.proofs.ListCounts.{EachOf-found}
+use Rattle.xp_board.proofs.HandLists.{first-some}
+use Rattle.xp_board.proofs.Counted.{type_below}
+use Rattle.xp_board.proofs.WorkFacts.{works_facts}
+use Rattle.xp_board.proofs.Recordless.{idle_held, closing_counted, closing_busy}
 use Rattle.type_rule.proofs.QuietActs.{dying_in_hand}
-use Rattle.type_rule.proofs.KindStores.{table_held}
+use Rattle.xp_board.proofs.HeldByForm.{held_table}
 use Rattle.type_rule.proofs.CellAct.{CellAct, cell_valid, cell_permitted}
 
 -- ---- types
@@ -83,14 +85,6 @@ seen_same t i new (Some y) e =
 seen_is : (z : Sizes) (n f : ℕ) (xs : List Made) (o : Option Seen) (i w : ℕ) → SeenIs z n f xs o → o ≡ Some (record { index = i; word = w }) → last_since z n (Cell f i) xs ≡ Some w
 seen_is z n f xs o i w k at = rw at at k
 
--- ---- forms
-unmarked_live : (w : ℕ) (n : Machine) (f : ℕ) {m : Place → ℕ} {b : ℕ → Holdings} → Sound n m b → IsTrue (is_live (kind_at m f)) → (kind_at m f).unflushed ≡ false
-unmarked_live w n f {m} {b} sound live =
-    elim (cases_Bool (is_place (sizes_of n) (Kind f))) [
-      | inl there ↦ (let k = read_of n f (m (Kind f)) (sound.spelled.spelled (Kind f) there) in (live_form (m (Kind f)) (kind_at m f) k live).flushed)
-      | inr out ↦ (let z : m (Kind f) ≡ 0 = sound.spelled.outside (Kind f) out in rw z zero_flushed)
-    ]
-
 live_closing : (k : KindWord) → IsTrue (is_live k) → type_count k ≡ 0 → is_closing k ≡ false → ⊥
 unfolding type_count
 live_closing k live none closed = let v : k.number ≡ 0 = (let q = rw live at none in q) in let t : is_closing k ≡ true = rw (live, v) refl in cc
@@ -105,28 +99,28 @@ module _ (n : Machine) (s : ℕ) (x : Step) (m m2 : Place → ℕ) (b c : ℕ �
     (others : (t : ℕ) → t ≢ s → c t ≡ b t) where
   -- a marked frame that is spelled is not live
   pub live_flushed : (f : ℕ) → IsTrue (is_live (kind_at m f)) → (kind_at m f).unflushed ≡ false
-  live_flushed f live = unmarked_live (m (Kind f)) n f sound live
+  live_flushed f live = live_unmarked n m f sound.spelled live
 
   -- ---- a table under the own lock
   pub lock_type : (f : ℕ) (e : Lock) → lock_on f (b s).locks ≡ Some e → (kind_at m f).kind ≡ e.kind
   lock_type f e here =
-      let k = first_each (λ y. y.frame) (λ y. HasType m y.frame (Some y.kind)) f (b s).locks e (sound.counts.kinds.locks s real) here in
-      rw (← k.1) k.0
+      let k = EachOf-found (λ y. HasType m y.frame (Some y.kind)) (λ y. y.frame) f (b s).locks e here (sound.counts.kinds.locks s real) in
+      rw (← k.0) k.1
 
   pub lock_table : (f : ℕ) (e : Lock) → lock_on f (b s).locks ≡ Some e → is_table (kind_at m f).kind ≡ true
   lock_table f e here =
-      let k = first_each (λ y. y.frame) (IsLockFormed n (b s)) f (b s).locks e ((sound.formed s real).locks) here in
-      rw (lock_type f e here) k.0.table
+      let k = EachOf-found (IsLockFormed n (b s)) (λ y. y.frame) f (b s).locks e here ((sound.formed s real).locks) in
+      rw (lock_type f e here) k.1.table
 
   rewrote_act : (f i : ℕ) (d : Rewrote n x f i m m2 (b s) (c s)) →
       CellAct n s x m m2 b c real sound others f i d.wrote.others (m2 (Cell f i)) (b s) d.wrote.place d.wrote.left d.hand (record { works = refl; looking = refl; steps = refl })
   rewrote_act f i d =
       let seen = seen_same d.e.kind i (m2 (Cell f i)) d.e.seen d.same in
-      let formed = first_each (λ y. y.frame) (IsLockFormed n (b s)) f (b s).locks d.e ((sound.formed s real).locks) d.here in
-      let found = first_each (λ y. y.frame) (LockFound (sizes_of n) m (b s)) f (b s).locks d.e ((sound.found s real).locks) d.here in
-      let noted : last_since (sizes_of n) d.e.since (Cell d.e.frame i) (b s).steps ≡ Some seen.0 = seen_is (sizes_of n) d.e.since d.e.frame _ d.e.seen i seen.0 formed.0.seen seen.1 in
-      let asks = entry_asks_same d.e.kind i (m (Cell d.e.frame i)) seen.0 (found.0 i seen.0 noted) in
-      let asks_f : demand_at d.e.kind i (m (Cell f i)) ≡ demand_at d.e.kind i seen.0 = subst (λ y. demand_at d.e.kind i (m (Cell y i)) ≡ demand_at d.e.kind i seen.0) formed.1 asks in
+      let formed = EachOf-found (IsLockFormed n (b s)) (λ y. y.frame) f (b s).locks d.e d.here ((sound.formed s real).locks) in
+      let found = EachOf-found (LockFound (sizes_of n) m (b s)) (λ y. y.frame) f (b s).locks d.e d.here ((sound.found s real).locks) in
+      let noted : last_since (sizes_of n) d.e.since (Cell d.e.frame i) (b s).steps ≡ Some seen.0 = seen_is (sizes_of n) d.e.since d.e.frame _ d.e.seen i seen.0 formed.1.seen seen.1 in
+      let asks = entry_asks_same d.e.kind i (m (Cell d.e.frame i)) seen.0 (found.1 i seen.0 noted) in
+      let asks_f : demand_at d.e.kind i (m (Cell f i)) ≡ demand_at d.e.kind i seen.0 = subst (λ y. demand_at d.e.kind i (m (Cell y i)) ≡ demand_at d.e.kind i seen.0) formed.0 asks in
       record {
         entry = λ l. inl (rw (lock_type f d.e d.here) (sym seen.2 ∙ sym asks_f));
         fixed = λ live desc l. absurd (desc_no_table (kind_at m f).kind desc (lock_table f d.e d.here));
@@ -163,20 +157,20 @@ module _ (n : Machine) (s : ℕ) (x : Step) (m m2 : Place → ℕ) (b c : ℕ �
   filled_by : (f i : ℕ) (k : Option Claimed) (e : Option Work) → claim_of f (b s).claimed ≡ k → work_on f (b s).works ≡ e → AllowsPlain n f i (m2 (Cell f i)) (b s) k e →
       (i < held (sizes_of n) m b f → ⊥) × (IsTrue (is_live (kind_at m f)) → (kind_at m f).kind ≡ kinds.Desc → IsTrue (is_fixed (m2 (Cell f i))))
   filled_by f i (Some k) e claim work may =
-      let some = (first_some (λ y. y.frame) f (b s).claimed k claim).0 in
+      let some = first-some (λ y. y.frame) f k (b s).claimed claim in
       let none = dying_in_hand n m b s f sound.alone real (omega arith) in
       (λ l. let z = free_held f none in absurd (omega arith), λ live desc. absurd (free_not_live f none live))
   filled_by f i None (Some e) claim work may =
       let k = works_facts n m b s f e sound real work in
       let w : kind_at m f ≡ kind_fields e.word = ap kind_fields k.word in (
-        λ l. desc_no_table (kind_at m f).kind (rw w may.kind) (table_held (kind_at m f) _ i l),
+        λ l. desc_no_table (kind_at m f).kind (rw w may.kind) (held_table (kind_at m f) _ i l),
         λ live desc. absurd (work_not_live (kind_at m f) (rw w may.work) live),
       )
   filled_by f i None None claim work may =
       let live = (sound.found s real).lives f may.kind may.live in (
         λ l. elim may.ordinary [
-          | inl writable ↦ writable_no_table (kind_at m f).kind (live.1 ∙ writable) (table_held (kind_at m f) _ i l)
-          | inr desc ↦ desc_no_table (kind_at m f).kind (live.1 ∙ desc.0) (table_held (kind_at m f) _ i l)
+          | inl writable ↦ writable_no_table (kind_at m f).kind (live.1 ∙ writable) (held_table (kind_at m f) _ i l)
+          | inr desc ↦ desc_no_table (kind_at m f).kind (live.1 ∙ desc.0) (held_table (kind_at m f) _ i l)
         ],
         λ is desc. elim may.ordinary [
           | inl writable ↦ absurd (let e : kinds.Desc ≡ kinds.Writable = sym desc ∙ live.1 ∙ writable in cc)

@@ -11,11 +11,12 @@ use Rattle.xp_board.specs.Readings.{owner_of, domain_of, allocated_mark}
 use Rattle.xp_board.specs.LifeSteps.{is_unallocated}
 use Rattle.xp_board.specs.Sound.{Sound}
 use Rattle.xp_board.specs.Found.{ClaimFound}
-use Rattle.type_rule.proofs.Counted.{first_each}
+use Rattle.xp_board.proofs.ListCounts.{EachOf-found}
 use Rattle.xp_words.proofs.RefLaws.{ref_read-write}
 use Rattle.std.proofs.lemmas.List.Elements.{All-get_or}
 use Rattle.xp_board.proofs.ActEffects.{Raised, Cleared, Took, Lowered, Freed, Gave}
-use Rattle.type_rule.proofs.RefWordLaws.{SameOwner, one_more_keeps, one_less_keeps, in_hand_counted}
+use Rattle.type_rule.proofs.RefWordLaws.{SameOwner, one_more_keeps, one_less_keeps}
+use Rattle.xp_board.proofs.Counted.{in_hand_counted}
 use Rattle.type_rule.proofs.DomainLaw.{AllStopped, DomainWords, DomainChange}
 use Rattle.type_rule.proofs.DomainWords.{kept_after, change_by, not_stopped}
 
@@ -123,8 +124,8 @@ module _ (n : Machine) (s : ℕ) (x : Step) (m m2 : Place → ℕ) (b c : ℕ �
 
   claimed_own : (f : ℕ) → Gave n s x f m m2 (b s) (c s) → (d : ℕ) → owner_of (m (Refs f)) ≡ Some d → domain_of n s ≡ d
   claimed_own f g d o =
-      let k = first_each (λ e. e.frame) (ClaimFound (sizes_of n) m (domain_of n s) (b s)) f (b s).claimed g.may.claimed ((sound.found s real).claims) g.may.here in
-      let w : m (Refs f) ≡ ref_write (Dying (domain_of n s)) = rw (← k.1) k.0.word in
+      let k = EachOf-found (ClaimFound (sizes_of n) m (domain_of n s) (b s)) (λ e. e.frame) f (b s).claimed g.may.claimed g.may.here ((sound.found s real).claims) in
+      let w : m (Refs f) ≡ ref_write (Dying (domain_of n s)) = rw (← k.0) k.1.word in
       let q : Some d ≡ Some (domain_of n s) = sym o ∙ ap owner_of w ∙ dying_owner (domain_of n s) (domain_below n s sound.machine real) in
       cc
 

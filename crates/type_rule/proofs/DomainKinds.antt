@@ -16,7 +16,8 @@ use Rattle.xp_board.specs.WellFormed.{IsLookingFormed}
 use Rattle.xp_board.specs.Sound.{Sound, KeptForNobody}
 use Rattle.xp_board.proofs.KindForms.{live_form, fields_down, fields_unlocked}
 use Rattle.xp_board.proofs.ActEffects.{Turned, Missed, Dropped, Unlocked}
-use Rattle.type_rule.proofs.Counted.{typed_counted, locked_table}
+use Rattle.xp_board.proofs.Counted.{typed_counted}
+use Rattle.xp_board.proofs.Works.{is_locked-mine}
 use Rattle.type_rule.proofs.HandParts.{two_row}
 use Rattle.type_rule.proofs.DomainLaw.{AllStopped, DomainWords, DomainChange}
 use Rattle.type_rule.proofs.DomainWords.{LooksOn, kept_after, kept_member, change_by, not_stopped, same_words}
@@ -145,7 +146,7 @@ module _ (n : Machine) (s : ℕ) (x : Step) (m m2 : Place → ℕ) (b c : ℕ �
   pub unlocked_change : (f : ℕ) → Unlocked n x f m m2 (b s) (c s) → DomainChange n s x m m2 b c
   unfolding type_count
   unlocked_change f d =
-      let lock = locked_table n m b s f real sound.alone d.may in
+      let lock = is_locked-mine n m b sound.alone f s real d.may in
       let live : (kind_at m f).validated ≡ true = (and_parts _ _ lock).0 in
       let set : (kind_at m f).locked ≡ true = (and_parts _ _ lock).1 in
       let counted = typed_counted (sizes_of n) m b s f real sound.counts in

@@ -27,43 +27,7 @@ use Rattle.type_rule.proofs.HandParts.{SameTwo, two_live, two_dead, three_as_typ
 use Rattle.type_rule.proofs.DomainLaw.{AllStopped, DomainChange}
 use Rattle.type_rule.proofs.DomainWords.{change_by, not_stopped}
 use Rattle.type_rule.proofs.DomainKinds.{kind_words, by_kept, or_true}
-
--- ---- the form that is left
-form_live : (v p q : Bool) → (if v then Live else if p then Partial else if q then InWork else Dead) ≡ Live → v ≡ true
-form_live true p q h = refl
-form_live false true q h = absurd cc
-form_live false false true h = absurd cc
-form_live false false false h = absurd cc
-
-form_partial : (v p q : Bool) → (if v then Live else if p then Partial else if q then InWork else Dead) ≡ Partial → (v ≡ false) × (p ≡ true)
-form_partial true p q h = absurd cc
-form_partial false true q h = (refl, refl)
-form_partial false false true h = absurd cc
-form_partial false false false h = absurd cc
-
-form_work : (v p q : Bool) → (if v then Live else if p then Partial else if q then InWork else Dead) ≡ InWork → (v ≡ false) × (p ≡ false) × (q ≡ true)
-form_work true p q h = absurd cc
-form_work false true q h = absurd cc
-form_work false false true h = (refl, refl, refl)
-form_work false false false h = absurd cc
-
-form_dead : (v p q : Bool) → (if v then Live else if p then Partial else if q then InWork else Dead) ≡ Dead → (v ≡ false) × (p ≡ false) × (q ≡ false)
-form_dead true p q h = absurd cc
-form_dead false true q h = absurd cc
-form_dead false false true h = absurd cc
-form_dead false false false h = (refl, refl, refl)
-
-pub is_live_left : (l : KindWord) → form_of l ≡ Live → l.validated ≡ true
-is_live_left l h = form_live l.validated l.partial l.locked h
-
-pub is_partial_left : (l : KindWord) → form_of l ≡ Partial → (l.validated ≡ false) × (l.partial ≡ true)
-is_partial_left l h = form_partial l.validated l.partial l.locked h
-
-pub is_work_left : (l : KindWord) → form_of l ≡ InWork → (l.validated ≡ false) × (l.partial ≡ false) × (l.locked ≡ true)
-is_work_left l h = form_work l.validated l.partial l.locked h
-
-pub is_dead_left : (l : KindWord) → form_of l ≡ Dead → (l.validated ≡ false) × (l.partial ≡ false) × (l.locked ≡ false)
-is_dead_left l h = form_dead l.validated l.partial l.locked h
+use Rattle.xp_board.proofs.FormsLeft.{is_live_left, is_partial_left, is_work_left, is_dead_left}
 
 left_pinned : (form : Form) (n : Machine) (f w : ℕ) (e : Work) (l : KindWord) (h : Holdings) → kind_read w ≡ Some l → form_of l ≡ form → AllowsForm form n f e l h → l.pinned ≡ false
 left_pinned Live n f w e l h is at may = may.unpinned

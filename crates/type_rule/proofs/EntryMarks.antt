@@ -26,14 +26,15 @@ use Rattle.xp_board.specs.Recorded.{held, held_of, entry_demand, recorded_in, re
 use Rattle.xp_board.specs.Valid.{Valid, Permitted, LeadsWell, IsUnsettled}
 use Rattle.xp_board.specs.Sound.{Sound}
 use Rattle.xp_board.proofs.MarkEffects.{Recorded, Shed}
-use Rattle.type_rule.proofs.Counted.{typed_counted, work_alone, first_some}
+use Rattle.xp_board.proofs.Counted.{typed_counted}
+use Rattle.xp_board.proofs.Works.{one_seat, work_of-mine, nobody_else}
+use Rattle.xp_board.proofs.HandLists.{first-some}
 use Rattle.type_rule.proofs.HandParts.{three_in, three_out}
-use Rattle.type_rule.proofs.Works.{changed_other, changed_here}
-use Rattle.type_rule.proofs.Held.{work_of-mine}
-use Rattle.type_rule.proofs.WorkFacts.{Works, works_facts, others_none}
+use Rattle.xp_board.proofs.ListChanges.{first_by-changed_other, first_by-changed_here}
+use Rattle.xp_board.proofs.WorkFacts.{Works, works_facts}
 use Rattle.type_rule.proofs.Settled.{seen_asks, settled_found}
 use Rattle.type_rule.proofs.KindRows.{unfound_yet}
-use Rattle.type_rule.proofs.KindStores.{busy_partial}
+use Rattle.type_rule.proofs.KindHeld.{busy_partial}
 use Rattle.type_rule.proofs.ValidLaw.{NewEntry}
 use Rattle.type_rule.proofs.NewEntries.{owners_permit, demand_new}
 use Rattle.type_rule.proofs.MarkRows.{MarkOn, mark_valid, mark_permitted}
@@ -68,8 +69,8 @@ module _ (n : Machine) (s : ℕ) (m : Place → ℕ) (h b : ℕ → Holdings) (r
   -- what is unsettled of a table on which the seat works is so by this seat
   mine : (f : ℕ) (e : Work) → Works n m h s f e → (i g : ℕ) → (u : IsUnsettled (sizes_of n) h f i g) → work_on f (h s).works ≡ Some e → (u.seat ≡ s) × (u.work ≡ e)
   mine f e k i g u here =
-      let some = (first_some (λ y. y.frame) f (h u.seat).works u.work u.here).0 in
-      let at : u.seat ≡ s = sym (work_alone n m h s u.seat f real u.real sound.alone k.some some) in
+      let some = first-some (λ y. y.frame) f u.work (h u.seat).works u.here in
+      let at : u.seat ≡ s = sym (one_seat n m h sound.alone f s u.seat real u.real k.some some) in
       let same : Some u.work ≡ Some e = sym u.here ∙ ap (λ t. work_on f (h t).works) at ∙ here in
       (at, cc)
 
@@ -93,10 +94,10 @@ module _ (n : Machine) (s : ℕ) (m : Place → ℕ) (h b : ℕ → Holdings) (r
 
     here : work_on f (b s).works ≡ Some (more d.e)
     unfolding more
-    here = ap (work_on f) works_are ∙ changed_here f more (h s).works d.e (λ y. refl) d.may.here
+    here = ap (work_on f) works_are ∙ first_by-changed_here (λ y. y.frame) f more (h s).works d.e (λ y. refl) d.may.here
 
     alone_h : (t : ℕ) → t < (sizes_of n).vcpus → t ≢ s → work_on f (h t).works ≡ None
-    alone_h = others_none n m h s f sound real k.some
+    alone_h = nobody_else n m h sound.alone f s real k.some
 
     held_h : held (sizes_of n) m h f ≡ d.e.recorded
     held_h = held_mine h f d.e alone_h d.may.here table
@@ -175,7 +176,7 @@ module _ (n : Machine) (s : ℕ) (m : Place → ℕ) (h b : ℕ → Holdings) (r
     unfolding more
     recorded_on =
         record {
-          same = λ g off. ap (work_on g) works_are ∙ changed_other f g more (h s).works (λ y. refl) off;
+          same = λ g off. ap (work_on g) works_are ∙ first_by-changed_other (λ y. y.frame) g f more (h s).works (λ y. refl) off;
           entry = λ i l. elim (cases_eq i d.e.recorded) [
             | inl at ↦ inr (rw at (new_by (entry_demand m f d.e.recorded) refl (rw asks at d.may.in_hand)))
             | inr off ↦ inl (let k2 : i ≢ d.e.recorded = off in let a = held_b in let q = held_h in omega arith)
@@ -206,10 +207,10 @@ module _ (n : Machine) (s : ℕ) (m : Place → ℕ) (h b : ℕ → Holdings) (r
 
     here_s : work_on f (b s).works ≡ Some (fewer d.e)
     unfolding fewer
-    here_s = ap (work_on f) works_s ∙ changed_here f fewer (h s).works d.e (λ y. refl) d.may.here
+    here_s = ap (work_on f) works_s ∙ first_by-changed_here (λ y. y.frame) f fewer (h s).works d.e (λ y. refl) d.may.here
 
     alone_s : (t : ℕ) → t < (sizes_of n).vcpus → t ≢ s → work_on f (h t).works ≡ None
-    alone_s = others_none n m h s f sound real ks.some
+    alone_s = nobody_else n m h sound.alone f s real ks.some
 
     held_before : held (sizes_of n) m h f ≡ upto + 1
     held_before = held_mine h f d.e alone_s d.may.here table_s ∙ d.may.last
@@ -233,7 +234,7 @@ module _ (n : Machine) (s : ℕ) (m : Place → ℕ) (h b : ℕ → Holdings) (r
     unfolding fewer
     shed_on =
         record {
-          same = λ g off. ap (work_on g) works_s ∙ changed_other f g fewer (h s).works (λ y. refl) off;
+          same = λ g off. ap (work_on g) works_s ∙ first_by-changed_other (λ y. y.frame) g f fewer (h s).works (λ y. refl) off;
           entry = λ i l. inl (let a = held_before in let q = held_after in omega arith);
           leads = λ i g t now l e leads. left_leads i g t now leads;
         }

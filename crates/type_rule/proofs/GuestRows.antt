@@ -1,74 +1,32 @@
 -- Stores of the guest, and bits set by a walk: what entries lead to stays.
-use Rattle.std.proofs.Common.{◌≡◌, ◌≢◌, ℕ, ◌<◌, ◌≤◌, ◌==◌, ◌&&◌, true, false, List, [], ◌∷◌, Option, Some, None, IsTrue, refl, sym, ◌∙◌, ap, subst, inl, inr, arith}
+use Rattle.std.proofs.Common.{◌≡◌, ◌≢◌, ℕ, ◌<◌, ◌≤◌, ◌==◌, ◌&&◌, true, List, [], ◌∷◌, Option, Some, None, IsTrue, refl, sym, ◌∙◌, subst, inl, inr, arith}
 use Rattle.std.proofs.lemmas.Bool.{cases_Bool, and_parts, or_cases}
 use Rattle.std.proofs.lemmas.Bool.Decides.{nat_tests}
-use Rattle.xp_words.specs.declared.kind.KindWord.{KindWord}
 use Rattle.xp_words.specs.declared.kind.PageType.{PageType}
 use Rattle.xp_words.specs.declared.kind.PageType.TheVariants as kinds
-use Rattle.xp_words.specs.PageTypes.{is_table}
-use Rattle.xp_words.specs.KindWords.{kind_fields}
 use Rattle.xp_words.specs.Entries.{demand_at}
 use Rattle.xp_words.specs.Machine.{Machine}
 use Rattle.xp_words.specs.Places.{Place, Kind, Cell, sizes_of, is_place}
 use Rattle.xp_board.specs.declared.step.Step.{Step}
 use Rattle.xp_board.specs.declared.step.Item.{Item}
-use Rattle.xp_board.specs.declared.holdings.Work.{Work}
 use Rattle.xp_board.specs.declared.holdings.Reached.{Reached}
 use Rattle.xp_board.specs.declared.holdings.Touching.{Touching}
 use Rattle.xp_board.specs.declared.holdings.Walk.{Walk}
 use Rattle.xp_board.specs.declared.holdings.Holdings.{Holdings}
 use Rattle.xp_board.specs.Lists.{Member, some_of}
-use Rattle.xp_board.specs.Hands.{work_on}
 use Rattle.xp_board.specs.Readings.{kind_at, is_live}
 use Rattle.xp_board.specs.WellFormed.{IsDescent, TouchesIn}
 use Rattle.xp_board.specs.Reach.{Table, Writes, Reads, Reach, cached, walked, use_of, reached_by}
-use Rattle.xp_board.specs.Recorded.{held, held_of, recorded_in, recorded_number, work_of}
+use Rattle.xp_board.specs.Recorded.{held}
 use Rattle.xp_board.specs.Valid.{Valid, Permitted}
-use Rattle.xp_board.specs.Sound.{Sound, is_busy}
-use Rattle.xp_board.proofs.KindForms.{partial_form}
+use Rattle.xp_board.specs.Sound.{Sound}
 use Rattle.xp_board.proofs.EntryWords.{entry_asks_same, touched_same}
 use Rattle.xp_board.proofs.ActEffects.{GuestStored, Touched}
 use Rattle.type_rule.proofs.HandParts.{three_descended}
-use Rattle.type_rule.proofs.Held.{nobody_works, someone_works, work_of-mine}
-use Rattle.type_rule.proofs.WorkFacts.{works_facts, others_none, some_on, none_all}
-use Rattle.type_rule.proofs.KindStores.{table_held}
+use Rattle.xp_board.proofs.HeldByForm.{held_table}
 use Rattle.type_rule.proofs.CellAct.{cell_valid, cell_permitted}
-use Rattle.type_rule.proofs.CellRows.{read_of, live_flushed, seven_no_table, seven_no_desc, level_no_desc}
-
--- ---- a marked frame has no recorded entries
-work_number : (n : ℕ) (h : ℕ → Holdings) (t f : ℕ) (e : Work) → t < n → work_on f (h t).works ≡ Some e → ((u : ℕ) → u < n → u ≢ t → work_on f (h u).works ≡ None) →
-    work_of n h f ≡ Some e.recorded
-unfolding recorded_in
-work_number n h t f e b here none = work_of-mine n h t f b (λ u l off. ap recorded_number (none u l off)) ∙ ap recorded_number here
-
-none_held : (k : KindWord) (r : ℕ) → r ≡ 0 → held_of k (Some r) ≡ 0
-unfolding held_of
-none_held k r e = elim (cases_Bool (is_table k.kind)) [ inl t ↦ rw t e | inr t ↦ rw t refl ]
-
-form_held : (k : KindWord) → (k.validated ≡ false) → (k.partial ≡ true → k.progress ≡ 0) → held_of k None ≡ 0
-unfolding held_of
-form_held k v p =
-    elim (cases_Bool (is_table k.kind)) [
-      | inr t ↦ rw t refl
-      | inl t ↦ elim (cases_Bool k.partial) [ inl q ↦ rw (t, v, q) (p q) | inr q ↦ rw (t, v, q) refl ]
-    ]
-
-pub marked_none : (n : Machine) (m : Place → ℕ) (b : ℕ → Holdings) (f : ℕ) → Sound n m b → (kind_at m f).unflushed ≡ true → IsTrue (is_place (sizes_of n) (Kind f)) →
-    (kind_at m f).validated ≡ false → held (sizes_of n) m b f ≡ 0
-marked_none n m b f sound marked there dead =
-    elim (cases_Bool (is_busy (kind_at m f))) [
-      | inl busy ↦
-          (let t = someone_works n m b f sound.alone busy in
-          let e = some_on f (b t.0).works t.2 in
-          let k = works_facts n m b t.0 f e.0 sound t.1 e.1 in
-          let u : (kind_fields e.0.word).unflushed ≡ true = subst (λ y. (kind_fields y).unflushed ≡ true) k.word marked in
-          ap (λ o. held_of (kind_at m f) o) (work_number (sizes_of n).vcpus b t.0 f e.0 t.1 e.1 (others_none n m b t.0 f sound t.1 k.some))
-          ∙ none_held (kind_at m f) e.0.recorded (k.agrees.marked u))
-      | inr idle ↦
-          (let read = read_of n f (m (Kind f)) (sound.spelled.spelled (Kind f) there) in
-          ap (λ o. held_of (kind_at m f) o) (none_all (sizes_of n).vcpus b f (nobody_works n m b f sound.alone idle))
-          ∙ form_held (kind_at m f) dead (λ p. (partial_form (m (Kind f)) (kind_at m f) read dead p).marked marked))
-    ]
+use Rattle.type_rule.proofs.CellRows.{live_flushed, seven_no_table, seven_no_desc, level_no_desc}
+use Rattle.xp_board.proofs.Recordless.{marked_none}
 
 -- ---- uses
 writes_used : Writes ≢ Reads
@@ -95,11 +53,11 @@ module _ (n : Machine) (s : ℕ) (x : Step) (m m2 : Place → ℕ) (b c : ℕ �
       ((i : ℕ) → i < held (sizes_of n) m b f → ⊥) × (IsTrue (is_live (kind_at m f)) → (kind_at m f).kind ≡ kinds.Desc → ⊥)
   written f reach there =
       elim (((sound.fresh.each s real f Writes reach).bears).typed writes_used) [
-        | inl plain ↦ (λ i l. seven_no_table (kind_at m f).kind plain.1 (table_held (kind_at m f) _ i l), λ live desc. seven_no_desc (kind_at m f).kind plain.1 desc)
+        | inl plain ↦ (λ i l. seven_no_table (kind_at m f).kind plain.1 (held_table (kind_at m f) _ i l), λ live desc. seven_no_desc (kind_at m f).kind plain.1 desc)
         | inr marked ↦ (
           λ i l. elim (cases_Bool (kind_at m f).validated) [
             | inl live ↦ (let k = live_flushed n s x m m2 b c real sound others f live in let q = marked.0 in cc)
-            | inr dead ↦ absurd (let z = marked_none n m b f sound marked.0 there dead in omega arith)
+            | inr dead ↦ absurd (let z = marked_none n m b f sound marked.0 in omega arith)
           ],
           λ live desc. let k = live_flushed n s x m m2 b c real sound others f live in let q = marked.0 in cc,
         )

@@ -1,7 +1,6 @@
 -- Which parts of a hand an act leaves as they are.
-use Rattle.std.proofs.Common.{◌≡◌, ℕ, zero, suc, ◌==◌, not, nat_lt, if◌then◌else◌, Bool, true, false, Some, refl}
+use Rattle.std.proofs.Common.{◌≡◌, ℕ, ◌==◌, if◌then◌else◌, Bool, true, false, refl}
 use Rattle.xp_words.specs.declared.entry.Demand.{Demand}
-use Rattle.xp_words.specs.declared.entry.Demand.TheVariants.{Nothing, Bad, Read, Typed}
 use Rattle.xp_words.specs.declared.kind.KindWord.{KindWord}
 use Rattle.xp_words.specs.Machine.{Machine}
 use Rattle.xp_words.specs.Places.{Vcpu}
@@ -10,13 +9,13 @@ use Rattle.xp_board.specs.declared.holdings.Work.{Work}
 use Rattle.xp_board.specs.declared.holdings.Holdings.{Holdings}
 use Rattle.xp_board.specs.Settling.{demand_in, demand_out}
 use Rattle.xp_board.specs.ContextSteps.{named_in, named_out}
-use Rattle.xp_board.specs.FillSteps.{started, loaded, descended, touched, level_of}
+use Rattle.xp_board.specs.FillSteps.{started, loaded, descended}
 use Rattle.xp_board.specs.RunSteps.{ran_now}
 use Rattle.xp_board.specs.KindSteps.{KindRow, Count, Locks, Pin, Unpin, Resume, TakeBack, Begin, after_kind_row, made_live, made_dead, as_typed}
 use Rattle.xp_board.specs.After.{learned}
-use Rattle.xp_words.specs.Entries.{frame_of, is_bit}
 use Rattle.xp_words.specs.KindWords.{kind_fields}
 use Rattle.xp_board.specs.Readings.{is_work, is_closing}
+use Rattle.xp_board.proofs.HandParts.{Beside, beside_in, beside_out, beside_named_in, beside_named_out, beside_learned, beside_ran, beside_started, beside_descended, beside_loaded}
 
 -- the steps and what the seat looks at
 pub record SameTwo (a b : Holdings) : Type 0 where
@@ -42,55 +41,35 @@ three_if : (t : Bool) (a b c : Holdings) → SameThree a b → SameThree a c →
 three_if true a b c k l = k
 three_if false a b c k l = l
 
--- ---- demands and names
+three_of : (a b : Holdings) → Beside a b → SameThree a b
+three_of a b k = record { works = k.works; looking = k.looking; steps = k.steps }
+
 pub three_in : (d : Demand) (h : Holdings) → SameThree h (demand_in d h)
-three_in Nothing h = three h
-three_in Bad h = three h
-three_in (Read g) h = record { works = refl; looking = refl; steps = refl }
-three_in (Typed g t) h = record { works = refl; looking = refl; steps = refl }
+three_in d h = three_of h (demand_in d h) (beside_in d h)
 
 pub three_out : (d : Demand) (h : Holdings) → SameThree h (demand_out d h)
-three_out Nothing h = three h
-three_out Bad h = three h
-three_out (Read g) h = record { works = refl; looking = refl; steps = refl }
-three_out (Typed g t) h = record { works = refl; looking = refl; steps = refl }
+three_out d h = three_of h (demand_out d h) (beside_out d h)
 
 pub three_name_in : (k w : ℕ) (h : Holdings) → SameThree h (named_in k w h)
-three_name_in k zero h = three h
-three_name_in k (suc f) h = record { works = refl; looking = refl; steps = refl }
+three_name_in k w h = three_of h (named_in k w h) (beside_named_in k w h)
 
 pub three_name_out : (w : ℕ) (h : Holdings) → SameThree h (named_out w h)
-three_name_out zero h = three h
-three_name_out (suc f) h = record { works = refl; looking = refl; steps = refl }
-
--- ---- own words
-own_three : (t a b c : Bool) (w : ℕ) (h : Holdings) →
-    SameThree h (if t then (if a then record h { old0 = Some w } else if b then record h { old1 = Some w } else if c then record h { run = Some w } else h) else h)
-own_three false a b c w h = three h
-own_three true true b c w h = record { works = refl; looking = refl; steps = refl }
-own_three true false true c w h = record { works = refl; looking = refl; steps = refl }
-own_three true false false true w h = record { works = refl; looking = refl; steps = refl }
-own_three true false false false w h = three h
+three_name_out w h = three_of h (named_out w h) (beside_named_out w h)
 
 pub three_own : (s v k f w : ℕ) (h : Holdings) → SameThree h (learned s (Vcpu v k) f w h)
-three_own s v k f w h = own_three (v == s) (k == 2) (k == 3) (k == 6) w h
+three_own s v k f w h = three_of h (learned s (Vcpu v k) f w h) (beside_learned s v k f w h)
 
 pub three_ran : (w : ℕ) (h : Holdings) → SameThree h (ran_now w h)
-three_ran w h = three_if (w == 0) h _ _ (record { works = refl; looking = refl; steps = refl }) (record { works = refl; looking = refl; steps = refl })
+three_ran w h = three_of h (ran_now w h) (beside_ran w h)
 
--- ---- the own walk
 pub three_started : (k w : ℕ) (write : Bool) (h : Holdings) → SameThree h (started k w write h)
-three_started k w write h = three_if (w == 0) h h _ (three h) (record { works = refl; looking = refl; steps = refl })
+three_started k w write h = three_of h (started k w write h) (beside_started k w write h)
 
 pub three_descended : (n : Machine) (walk : Walk) (w : ℕ) (h : Holdings) → SameThree h (descended n walk w h)
-three_descended n walk w h =
-    three_if (not (nat_lt (frame_of w) n.frames)) h _ _ (record { works = refl; looking = refl; steps = refl })
-    (three_if (level_of walk == 1) h _ _ (record { works = refl; looking = refl; steps = refl }) (record { works = refl; looking = refl; steps = refl }))
+three_descended n walk w h = three_of h (descended n walk w h) (beside_descended n walk w h)
 
 pub three_loaded : (n : Machine) (f i w : ℕ) (walk : Walk) (h : Holdings) → SameThree h (loaded n f i w walk h)
-three_loaded n f i w walk h =
-    three_if (not (is_bit 0 w)) h _ _ (record { works = refl; looking = refl; steps = refl })
-    (three_if (touched walk w == w) h _ _ (three_descended n walk w h) (record { works = refl; looking = refl; steps = refl }))
+three_loaded n f i w walk h = three_of h (loaded n f i w walk h) (beside_loaded n f i w walk h)
 
 -- ---- the kind word
 pub two_row : (row : KindRow) (f : ℕ) (k l : KindWord) (new : ℕ) (h : Holdings) → SameTwo h (after_kind_row row f k l new h)

@@ -14,16 +14,14 @@ use Rattle.xp_board.specs.Recorded.{held_of, recorded_number}
 use Rattle.xp_board.specs.Valid.{Valid, Permitted, IsUnsettled, is_live_context}
 use Rattle.xp_board.specs.Sound.{Sound, is_busy}
 use Rattle.type_rule.proofs.Works.{WorkKeptIn}
-use Rattle.type_rule.proofs.Held.{nobody_works}
+use Rattle.xp_board.proofs.Works.{nobody_has}
 use Rattle.type_rule.proofs.EntryChange.{OneStep, SameTable, LeadsStill, kind_entry, kind_leads}
 use Rattle.type_rule.proofs.ValidLaw.{valid_law, permitted_law, contexts_permitted}
 use Rattle.type_rule.proofs.QuietLaw.{same_owners}
+use Rattle.xp_board.proofs.HeldByForm.{live_partial}
 
 not_both : (k : KindWord) → IsTrue (is_live k) → IsTrue (is_partial k || is_work k) → ⊥
 not_both k live form = let t : (is_partial k || is_work k) ≡ false = rw live refl in cc
-
-not_partial : (k : KindWord) → IsTrue (is_live k) → IsTrue (is_partial k) → ⊥
-not_partial k live form = let t : is_partial k ≡ false = rw live refl in cc
 
 module _ (n : Machine) (s : ℕ) (x : Step) (m m2 : Place → ℕ) (b c : ℕ → Holdings) (real : s < (sizes_of n).vcpus) (sound : Sound n m b)
     (one : OneStep n s x m m2 b c) (q : ℕ) (same : (p : Place) → p ≢ Kind q → m2 p ≡ m p)
@@ -86,7 +84,7 @@ module _ (n : Machine) (s : ℕ) (x : Step) (m m2 : Place → ℕ) (b c : ℕ �
   -- ---- a frame that no seat has in its works
   module _ (idle : is_busy (kind_at m q) ≡ false) where
     pub nobody : (t : ℕ) → t < (sizes_of n).vcpus → work_on q (b t).works ≡ None
-    nobody = nobody_works n m b q sound.alone idle
+    nobody = nobody_has n m b sound.alone q idle
 
     pub not_unsettled : (i g : ℕ) → IsUnsettled (sizes_of n) b q i g → ⊥
     not_unsettled i g u = let none = nobody u.seat u.real in let some = u.here in cc
@@ -104,7 +102,7 @@ module _ (n : Machine) (s : ℕ) (x : Step) (m m2 : Place → ℕ) (b c : ℕ �
           leads = record {
             live = λ f i t l e live. is;
             form = λ f i t l e form. absurd (not_both (kind_at m q) was form);
-            last = λ i g last. absurd (let p = last.partial in not_partial (kind_at m q) was p);
+            last = λ i g last. absurd (let p = last.partial in live_partial (kind_at m q) was p);
             unsettled = λ i g t l e u. absurd (not_unsettled i g u);
           };
           fixed = λ i live desc l. sound.valid.fixed q i was (sym kind ∙ desc) l;

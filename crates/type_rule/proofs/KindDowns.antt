@@ -11,7 +11,8 @@ use Rattle.xp_board.specs.Valid.{Valid, Permitted}
 use Rattle.xp_board.specs.Sound.{Sound}
 use Rattle.xp_board.proofs.KindForms.{fields_down, fields_unlocked}
 use Rattle.xp_board.proofs.ActEffects.{Dropped, Unlocked}
-use Rattle.type_rule.proofs.Counted.{typed_counted, locked_table}
+use Rattle.xp_board.proofs.Counted.{typed_counted}
+use Rattle.xp_board.proofs.Works.{is_locked-mine}
 use Rattle.type_rule.proofs.EntryChange.{OneStep}
 use Rattle.type_rule.proofs.QuietActs.{one_by}
 use Rattle.type_rule.proofs.KindRows.{down_valid, down_permitted}
@@ -37,7 +38,7 @@ module _ (n : Machine) (s : ℕ) (x : Step) (m m2 : Place → ℕ) (b c : ℕ �
   unlocked_down_of : (f : ℕ) → Unlocked n x f m m2 (b s) (c s) → Down f
   unfolding type_count
   unlocked_down_of f d =
-      let lock = locked_table n m b s f real sound.alone d.may in
+      let lock = is_locked-mine n m b sound.alone f s real d.may in
       let live : (kind_at m f).validated ≡ true = (and_parts _ _ lock).0 in
       let set : (kind_at m f).locked ≡ true = (and_parts _ _ lock).1 in
       let counted = typed_counted (sizes_of n) m b s f real sound.counts in

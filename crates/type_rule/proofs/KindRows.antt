@@ -1,6 +1,6 @@
 -- Exchanges of a kind word, and type counts given back: what entries lead to stays.
-use Rattle.std.proofs.Common.{◌≡◌, ◌≢◌, ℕ, ◌+◌, ◌<◌, ◌≤◌, ◌==◌, ◌||◌, not, if◌then◌else◌, Bool, true, false, List, length, Some, None, IsTrue, refl, sym, ◌∙◌, ap, inl, inr, arith}
-use Rattle.std.proofs.lemmas.Bool.{cases_Bool, and_parts}
+use Rattle.std.proofs.Common.{◌≡◌, ◌≢◌, ℕ, ◌+◌, ◌<◌, ◌≤◌, ◌==◌, ◌||◌, if◌then◌else◌, Bool, true, false, List, length, Some, None, IsTrue, refl, sym, ◌∙◌, ap, inl, inr, arith}
+use Rattle.std.proofs.lemmas.Bool.{cases_Bool}
 use Rattle.std.proofs.lemmas.Bool.Decides.{nat_tests}
 use Rattle.xp_words.specs.declared.kind.KindWord.{KindWord}
 use Rattle.xp_words.specs.PageTypes.{is_table}
@@ -20,75 +20,21 @@ use Rattle.xp_board.specs.Valid.{Valid, Permitted}
 use Rattle.xp_board.specs.Sound.{Sound, is_busy}
 use Rattle.xp_board.proofs.KindForms.{live_form}
 use Rattle.xp_board.proofs.ActEffects.{Turned}
-use Rattle.type_rule.proofs.StepFacts.{since_within}
+use Rattle.xp_board.proofs.StepLists.{since_within}
 use Rattle.type_rule.proofs.HandParts.{two_row}
-use Rattle.type_rule.proofs.Works.{WorkKeptIn, works_kept, added_here, added_other}
+use Rattle.type_rule.proofs.Works.{WorkKeptIn, works_kept}
+use Rattle.xp_board.proofs.ListCounts.{first_by-cons_here, first_by-cons_other}
 use Rattle.type_rule.proofs.EntryChange.{OneStep}
 use Rattle.type_rule.proofs.QuietActs.{one_by}
 use Rattle.type_rule.proofs.KindAct.{KindAct, nobody, not_unsettled, live_stays, kind_valid, kind_permitted}
-
--- ---- forms
-live_idle : (k : KindWord) → IsTrue (is_live k) → 0 < k.number → is_busy k ≡ false
-live_idle k live some = grind (arith, nat_tests)
-
-partial_idle : (k : KindWord) → IsTrue (is_partial k) → is_busy k ≡ false
-partial_idle k p = grind arith
-
-dead_idle : (k : KindWord) → IsTrue (is_dead k) → is_busy k ≡ false
-dead_idle k p = grind arith
-
-live_held : (k l : KindWord) → IsTrue (is_live k) → IsTrue (is_live l) → l.kind ≡ k.kind → held_of l None ≡ held_of k None
-unfolding held_of
-live_held k l live is kind = rw (kind, live, is) refl
-
-partial_held : (k l : KindWord) → l.kind ≡ k.kind → l.validated ≡ k.validated → l.partial ≡ k.partial → l.progress ≡ k.progress → held_of l None ≡ held_of k None
-unfolding held_of
-partial_held k l a e p g = rw (a, e, p, g) refl
-
-resumed_held : (k l : KindWord) → IsTrue (is_partial k) → l.kind ≡ k.kind → held_of l (Some k.progress) ≡ held_of k None
-unfolding held_of
-resumed_held k l p kind = let a = and_parts (not k.validated) k.partial p in let v : k.validated ≡ false = grind arith in rw (kind, v, a.1) refl
-
-begun_held : (l : KindWord) → held_of l (Some 0) ≡ 0
-unfolding held_of
-begun_held l = elim (cases_Bool (is_table l.kind)) [ inl t ↦ rw t refl | inr t ↦ rw t refl ]
-
-dead_held : (k : KindWord) → IsTrue (is_dead k) → held_of k None ≡ 0
-unfolding held_of
-dead_held k d =
-    let v : k.validated ≡ false = grind arith in
-    let p : k.partial ≡ false = grind arith in
-    elim (cases_Bool (is_table k.kind)) [ inl t ↦ rw (t, v, p) refl | inr t ↦ rw t refl ]
-
-closed_held : (l : KindWord) → IsTrue (is_live l) → held_of l (Some (if is_table l.kind then 512 else 0)) ≡ held_of l None
-unfolding held_of
-closed_held l live = elim (cases_Bool (is_table l.kind)) [ inl t ↦ rw (t, live) refl | inr t ↦ rw t refl ]
-
-live_partial : (k : KindWord) → IsTrue (is_live k) → IsTrue (is_partial k) → ⊥
-live_partial k live p = let a : is_partial k ≡ false = rw live refl in cc
-
-either_part : (k : KindWord) → IsTrue (is_partial k) → IsTrue (is_partial k || is_work k)
-either_part k p = rw p refl
+use Rattle.xp_board.proofs.HeldByForm.{held_dead, held_same, live_partial}
+use Rattle.type_rule.proofs.KindHeld.{live_idle, partial_idle, dead_idle, live_held, resumed_held, begun_held, closed_held, work_live, dead_live, dead_unformed, either_part}
 
 resumed_work : (k l : KindWord) → MayResume k l → IsTrue (is_partial l || is_work l)
 resumed_work k l may = let v : k.validated ≡ false = (let p = may.partial in grind arith) in rw may.left (rw v refl)
 
 is_resumed : (k l : KindWord) → MayResume k l → l.validated ≡ false
 is_resumed k l may = let v : k.validated ≡ false = (let p = may.partial in grind arith) in ap (λ y. y.validated) may.left ∙ v
-
-work_live : (k : KindWord) → k.validated ≡ false → IsTrue (is_live k) → ⊥
-work_live k e live = cc
-
-dead_live : (k : KindWord) → IsTrue (is_dead k) → IsTrue (is_live k) → ⊥
-dead_live k d live = let v : k.validated ≡ false = grind arith in cc
-
-dead_form : (k : KindWord) → IsTrue (is_dead k) → IsTrue (is_partial k || is_work k) → ⊥
-dead_form k d form =
-    let v : k.validated ≡ false = grind arith in
-    let p : k.partial ≡ false = grind arith in
-    let l : k.locked ≡ false = grind arith in
-    let t : (is_partial k || is_work k) ≡ false = rw (v, p, l) refl in
-    cc
 
 if_same : {A B : Type 0} (t : Bool) (F : A → B) (y z : A) → F y ≡ F z → F (if t then y else z) ≡ F z
 if_same true F y z e = e
@@ -100,9 +46,9 @@ row_works Count f g k l new h off = refl
 row_works Locks f g k l new h off = refl
 row_works Pin f g k l new h off = refl
 row_works Unpin f g k l new h off = refl
-row_works Resume f g k l new h off = added_other f g _ h.works refl off
+row_works Resume f g k l new h off = first_by-cons_other (λ y. y.frame) g _ h.works (λ e. off (sym e))
 row_works TakeBack f g k l new h off = refl
-row_works Begin f g k l new h off = added_other f g _ h.works refl off
+row_works Begin f g k l new h off = first_by-cons_other (λ y. y.frame) g _ h.works (λ e. off (sym e))
 
 -- nothing was found since a step that is still to be made
 pub unfound_yet : (z : Sizes) (k : ℕ) (p : Place) (test : ℕ → Bool) (xs : List Made) → length xs ≤ k → some_since z k p test xs ≡ false
@@ -154,7 +100,7 @@ module _ (n : Machine) (s : ℕ) (x : Step) (m m2 : Place → ℕ) (b c : ℕ �
       record {
         table = record {
           alone = λ t l off. none t l;
-          held = rw (works_same, none s real, d.fields_was, d.fields_is) (rw may.left (partial_held d.k (record d.k { kept = false }) refl refl refl refl));
+          held = rw (works_same, none s real, d.fields_was, d.fields_is) (rw may.left (held_same d.k (record d.k { kept = false }) refl refl refl refl));
           kind = inl (rw (d.fields_was, d.fields_is) (ap (λ y. y.kind) may.left));
         };
         leads = record {
@@ -174,7 +120,7 @@ module _ (n : Machine) (s : ℕ) (x : Step) (m m2 : Place → ℕ) (b c : ℕ �
       let idle : is_busy (kind_at m f) ≡ false = rw d.fields_was (partial_idle d.k may.partial) in
       let none = nobody n s x m m2 b c real sound (one f Resume d) f d.wrote.others (works f Resume d) idle in
       let e : Work = new_work f (m2 (Kind f)) d.k.progress (unsettled_from d.k.progress (b s)) (b s) in
-      let here : work_on f (c s).works ≡ Some e = ap (λ u. work_on f u.works) d.hand ∙ added_here f e (b s).works refl in
+      let here : work_on f (c s).works ≡ Some e = ap (λ u. work_on f u.works) d.hand ∙ first_by-cons_here (λ y. y.frame) f e (b s).works refl in
       let left : d.l.kind ≡ d.k.kind = ap (λ y. y.kind) may.left in
       let part : IsTrue (is_partial (kind_at m f)) = rw d.fields_was may.partial in
       record {
@@ -211,17 +157,17 @@ module _ (n : Machine) (s : ℕ) (x : Step) (m m2 : Place → ℕ) (b c : ℕ �
       let idle : is_busy (kind_at m f) ≡ false = dead_idle (kind_at m f) dead in
       let none = nobody n s x m m2 b c real sound (one f Begin d) f d.wrote.others (works f Begin d) idle in
       let e : Work = new_work f (m2 (Kind f)) 0 None (b s) in
-      let here : work_on f (c s).works ≡ Some e = ap (λ u. work_on f u.works) d.hand ∙ added_here f e (b s).works refl in
+      let here : work_on f (c s).works ≡ Some e = ap (λ u. work_on f u.works) d.hand ∙ first_by-cons_here (λ y. y.frame) f e (b s).works refl in
       record {
         table = record {
           alone = λ t l off. none t l;
-          held = rw (here, none s real) (begun_held (kind_at m2 f) ∙ sym (dead_held (kind_at m f) dead));
-          kind = inr (rw (none s real) (dead_held (kind_at m f) dead));
+          held = rw (here, none s real) (begun_held (kind_at m2 f) ∙ sym (held_dead (kind_at m f) dead));
+          kind = inr (rw (none s real) (held_dead (kind_at m f) dead));
         };
         leads = record {
           live = λ g i t l q live. absurd (dead_live (kind_at m f) dead live);
-          form = λ g i t l q form. absurd (dead_form (kind_at m f) dead form);
-          last = λ i g last. absurd (dead_form (kind_at m f) dead (either_part (kind_at m f) last.partial));
+          form = λ g i t l q form. absurd (dead_unformed (kind_at m f) dead form);
+          last = λ i g last. absurd (dead_unformed (kind_at m f) dead (either_part (kind_at m f) last.partial));
           unsettled = λ i g t l q u. absurd (not_unsettled n s x m m2 b c real sound (one f Begin d) f d.wrote.others (works f Begin d) idle i g u);
         };
         fixed = λ i live desc l. absurd (let v : (kind_at m2 f).validated ≡ false = ap (λ y. y.validated) d.fields_is ∙ ap (λ y. y.validated) may.left in cc);
@@ -246,7 +192,7 @@ module _ (n : Machine) (s : ℕ) (x : Step) (m m2 : Place → ℕ) (b c : ℕ �
 
   -- ---- a type count given back
   closing_other : (f g w left : ℕ) (h : Holdings) → g ≢ f → work_on g (closing_works f w left h) ≡ work_on g h.works
-  closing_other f g w left h off = if_same ((kind_fields w).number == 1) (work_on g) _ h.works (added_other f g _ h.works refl off)
+  closing_other f g w left h off = if_same ((kind_fields w).number == 1) (work_on g) _ h.works (first_by-cons_other (λ y. y.frame) g _ h.works (λ e. off (sym e)))
 
   -- the number of entries that stay recorded
   closing_held : (f w left : ℕ) (l : KindWord) → IsTrue (is_live l) → l.kind ≡ (kind_fields w).kind → work_on f (b s).works ≡ None →
@@ -255,7 +201,7 @@ module _ (n : Machine) (s : ℕ) (x : Step) (m m2 : Place → ℕ) (b c : ℕ �
       elim (cases_Bool ((kind_fields w).number == 1)) [
         | inl last ↦
             rw last
-            (ap (λ o. held_of l (recorded_number o)) (added_here f (new_work f left (if is_table (kind_fields w).kind then 512 else 0) None (b s)) (b s).works refl)
+            (ap (λ o. held_of l (recorded_number o)) (first_by-cons_here (λ y. y.frame) f (new_work f left (if is_table (kind_fields w).kind then 512 else 0) None (b s)) (b s).works refl)
             ∙ ap (λ k. held_of l (Some (if is_table k then 512 else 0))) (sym kind) ∙ closed_held l live)
         | inr more ↦ rw more (ap (λ o. held_of l (recorded_number o)) none)
       ]

@@ -1,7 +1,5 @@
 -- Stores of the kind word of a frame in work or closing: what entries lead to stays.
-use Rattle.std.proofs.Common.{◌≡◌, ◌≢◌, ℕ, ◌+◌, ◌<◌, ◌==◌, ◌||◌, ◌⊎◌, if◌then◌else◌, Bool, true, false, length, Option, Some, None, IsTrue, refl, sym, ◌∙◌, ap, subst, inl, inr, arith}
-use Rattle.std.proofs.lemmas.Bool.{cases_Bool}
-use Rattle.std.proofs.lemmas.Bool.Decides.{nat_tests}
+use Rattle.std.proofs.Common.{◌≡◌, ◌≢◌, ℕ, ◌+◌, ◌<◌, ◌==◌, ◌||◌, ◌⊎◌, if◌then◌else◌, Bool, true, false, length, Some, None, IsTrue, refl, sym, ◌∙◌, ap, subst, inl, inr, arith}
 use Rattle.xp_words.specs.declared.kind.KindWord.{KindWord}
 use Rattle.xp_words.specs.declared.kind.PageType.{PageType}
 use Rattle.xp_words.specs.declared.kind.PageType.TheVariants as kinds
@@ -16,68 +14,29 @@ use Rattle.xp_board.specs.declared.holdings.Work.{Work}
 use Rattle.xp_board.specs.declared.holdings.Holdings.{Holdings}
 use Rattle.xp_board.specs.Steps.{some_since}
 use Rattle.xp_board.specs.Hands.{work_on, without_work, typed_to, typed_hand}
-use Rattle.xp_board.specs.Readings.{kind_at, is_live, is_work, is_partial, type_count, is_live_word}
+use Rattle.xp_board.specs.Readings.{kind_at, is_live, is_work, is_partial, is_live_word}
 use Rattle.xp_board.specs.KindSteps.{Form, Live, Partial, InWork, Dead, after_form, made_live, made_dead}
 use Rattle.xp_board.specs.After.{is_fixed, noted}
 use Rattle.xp_board.specs.Recorded.{held, held_of, entry_demand, recorded_number}
 use Rattle.xp_board.specs.Valid.{Valid, Permitted, IsUnsettled, IsLastOfPartial, is_live_context}
-use Rattle.xp_board.specs.Sound.{Sound, is_busy}
+use Rattle.xp_board.specs.Sound.{Sound}
 use Rattle.xp_board.proofs.ActEffects.{Stored}
-use Rattle.type_rule.proofs.Counted.{work_alone, first_some}
+use Rattle.xp_board.proofs.Works.{one_seat, nobody_else, one_works}
+use Rattle.xp_board.proofs.HandLists.{first-some}
 use Rattle.type_rule.proofs.HandParts.{two_live, two_dead, three_as_typed}
-use Rattle.type_rule.proofs.Works.{WorkKeptIn, works_kept, without_other, without_here, changed_other, changed_here}
-use Rattle.type_rule.proofs.Held.{entry_counted, context_counted}
-use Rattle.type_rule.proofs.WorkFacts.{Works, works_facts, others_none, works_once}
+use Rattle.type_rule.proofs.Works.{WorkKeptIn, works_kept}
+use Rattle.xp_board.proofs.ListCounts.{first_by-without_other, first_by-none, times_by-without_one}
+use Rattle.xp_board.proofs.ListChanges.{first_by-changed_other, first_by-changed_here}
+use Rattle.type_rule.proofs.Counted.{entry_counted, context_counted}
+use Rattle.xp_board.proofs.WorkFacts.{Works, works_facts}
 use Rattle.type_rule.proofs.Settled.{settled_found}
-use Rattle.type_rule.proofs.DomainStores.{is_live_left, is_partial_left, is_work_left, is_dead_left}
+use Rattle.xp_board.proofs.FormsLeft.{is_live_left, is_partial_left, is_work_left, is_dead_left}
 use Rattle.type_rule.proofs.EntryChange.{OneStep}
 use Rattle.type_rule.proofs.QuietActs.{one_by}
 use Rattle.type_rule.proofs.ValidLaw.{live_is_context}
 use Rattle.type_rule.proofs.KindAct.{KindAct, kind_valid, kind_permitted}
-
--- ---- what is held
-live_all : (l k : KindWord) (r : ℕ) → l.kind ≡ k.kind → l.validated ≡ true → (IsTrue (is_table l.kind) → r ≡ 512) → held_of l None ≡ held_of k (Some r)
-unfolding held_of
-live_all l k r kind live all =
-    elim (cases_Bool (is_table l.kind)) [
-      | inl t ↦ (let u : is_table k.kind ≡ true = subst (λ y. is_table y ≡ true) kind t in rw (t, u, live) (sym (all t)))
-      | inr t ↦ (let u : is_table k.kind ≡ false = subst (λ y. is_table y ≡ false) kind t in rw (t, u) refl)
-    ]
-
-partial_all : (l k : KindWord) (r : ℕ) → l.kind ≡ k.kind → l.validated ≡ false → l.partial ≡ true → l.progress ≡ r → held_of l None ≡ held_of k (Some r)
-unfolding held_of
-partial_all l k r kind v p e = rw (kind, v, p, e) refl
-
-work_all : (l k : KindWord) (r : ℕ) → l.kind ≡ k.kind → held_of l (Some r) ≡ held_of k (Some r)
-unfolding held_of
-work_all l k r kind = rw kind refl
-
-dead_all : (l k : KindWord) → l.validated ≡ false → l.partial ≡ false → held_of l None ≡ held_of k (Some 0)
-unfolding held_of
-dead_all l k v p =
-    elim (cases_Bool (is_table l.kind)) [
-      | inl t ↦ rw (t, v, p) (elim (cases_Bool (is_table k.kind)) [ inl u ↦ rw u refl | inr u ↦ rw u refl ])
-      | inr t ↦ rw t (elim (cases_Bool (is_table k.kind)) [ inl u ↦ rw u refl | inr u ↦ rw u refl ])
-    ]
-
-pub table_held : (k : KindWord) (o : Option ℕ) (i : ℕ) → i < held_of k o → is_table k.kind ≡ true
-unfolding held_of
-table_held k o i l = elim (cases_Bool (is_table k.kind)) [ inl t ↦ t | inr f ↦ absurd (let q = rw f at l in omega arith) ]
-
--- ---- busy words
-busy_closed : (k : KindWord) → is_busy k ≡ true → k.validated ≡ true → type_count k ≡ 0
-unfolding type_count
-busy_closed k h v = grind (arith, nat_tests)
-
-busy_working : (k : KindWord) → is_busy k ≡ true → IsTrue (is_partial k || is_work k) → is_work k ≡ true
-busy_working k h v = grind (arith, nat_tests)
-
-pub busy_partial : (k : KindWord) → is_busy k ≡ true → IsTrue (is_partial k) → ⊥
-busy_partial k h p = let v : k.validated ≡ false = grind arith in let q : k.partial ≡ true = grind arith in let t : is_busy k ≡ false = rw (v, q) refl in cc
-
-work_count : (k : KindWord) → is_work k ≡ true → type_count k ≡ 1
-unfolding type_count
-work_count k h = grind arith
+use Rattle.xp_board.proofs.HeldByForm.{held_table}
+use Rattle.type_rule.proofs.KindHeld.{live_all, partial_all, work_all, dead_all, busy_closed, busy_working, busy_partial, work_count}
 
 either_if : {A : Type 0} (t : Bool) (F : Holdings → A) (y z : Holdings) (a : A) → F y ≡ a → F z ≡ a → F (if t then y else z) ≡ a
 either_if true F y z a e f = e
@@ -112,8 +71,8 @@ module _ (n : Machine) (s : ℕ) (x : Step) (m m2 : Place → ℕ) (b c : ℕ �
     -- what is unsettled there is so by this seat
     mine : (i g : ℕ) → (u : IsUnsettled (sizes_of n) b f i g) → (u.seat ≡ s) × (u.work ≡ d.e)
     mine i g u =
-        let some = (first_some (λ y. y.frame) f (b u.seat).works u.work u.here).0 in
-        let at : u.seat ≡ s = sym (work_alone n m b s u.seat f real u.real sound.alone k.some some) in
+        let some = first-some (λ y. y.frame) f u.work (b u.seat).works u.here in
+        let at : u.seat ≡ s = sym (one_seat n m b sound.alone f s u.seat real u.real k.some some) in
         let e : Some u.work ≡ Some d.e = sym u.here ∙ ap (λ t. work_on f (b t).works) at ∙ d.here in
         (at, cc)
 
@@ -128,7 +87,7 @@ module _ (n : Machine) (s : ℕ) (x : Step) (m m2 : Place → ℕ) (b c : ℕ �
     act_of holds kind forms unsettled fixed =
         record {
           table = record {
-            alone = others_none n m b s f sound real k.some;
+            alone = nobody_else n m b sound.alone f s real k.some;
             held = holds ∙ ap (λ o. held_of (kind_at m f) (recorded_number o)) (sym d.here);
             kind = inl kind;
           };
@@ -147,12 +106,12 @@ module _ (n : Machine) (s : ℕ) (x : Step) (m m2 : Place → ℕ) (b c : ℕ �
   -- ---- by form
   module _ (f : ℕ) where
     taken_works : (y : Holdings) (x0 : ℕ) → c s ≡ noted x x0 y → y.works ≡ without_work f (b s).works → (g : ℕ) → g ≢ f → WorkKeptIn (work_on g (b s).works) (work_on g (c s).works)
-    taken_works y x0 hand at g off = rw (ap (λ u. work_on g u.works) hand ∙ ap (work_on g) at ∙ without_other f g (b s).works off) (works_kept (work_on g (b s).works))
+    taken_works y x0 hand at g off = rw (ap (λ u. work_on g u.works) hand ∙ ap (work_on g) at ∙ first_by-without_other (λ y. y.frame) g f (b s).works off) (works_kept (work_on g (b s).works))
 
     taken_none : (y : Holdings) (x0 : ℕ) (e : Work) → work_on f (b s).works ≡ Some e → c s ≡ noted x x0 y → y.works ≡ without_work f (b s).works → work_on f (c s).works ≡ None
     taken_none y x0 e here hand at =
         ap (λ u. work_on f u.works) hand ∙ ap (work_on f) at
-        ∙ without_here f (b s).works ((works_facts n m b s f e sound real here).some) (works_once n m b s f sound real)
+        ∙ first_by-none (λ y. y.frame) f (without_work f (b s).works) (times_by-without_one (λ y. y.frame) f (b s).works (one_works n m b sound.alone f s real))
 
     live_one : Stored n s x f Live m m2 (b s) (c s) → OneStep n s x m m2 b c
     live_one d = one_by n s x m m2 b c real sound others (Kind f) _ d.wrote.place d.wrote.left d.hand ((two_live f d.l (b s)).steps)
@@ -172,7 +131,7 @@ module _ (n : Machine) (s : ℕ) (x : Step) (m m2 : Place → ℕ) (b c : ℕ �
         (λ g i t l e form. inl (rw d.fields_is is))
         (λ i g t l e u last some unfound.
         absurd
-        (let t2 = subst (λ y. is_table y.kind ≡ true) w (table_held (kind_at m f) _ i l) in
+        (let t2 = subst (λ y. is_table y.kind ≡ true) w (held_table (kind_at m f) _ i l) in
         let settled = (d.may.table (subst (λ y. IsTrue (is_table y)) (sym d.may.kind) t2)).1 in
         let found = settled_found n m b s f i g t d.e u k t2 some last e settled in
         cc))
@@ -222,13 +181,13 @@ module _ (n : Machine) (s : ℕ) (x : Step) (m m2 : Place → ℕ) (b c : ℕ �
 
     work_works_of : Stored n s x f InWork m m2 (b s) (c s) → (g : ℕ) → g ≢ f → WorkKeptIn (work_on g (b s).works) (work_on g (c s).works)
     work_works_of d g off =
-        rw (ap (λ u. work_on g u.works) d.hand ∙ changed_other f g (unmark d) (b s).works (λ e. refl) off) (works_kept (work_on g (b s).works))
+        rw (ap (λ u. work_on g u.works) d.hand ∙ first_by-changed_other (λ y. y.frame) g f (unmark d) (b s).works (λ e. refl) off) (works_kept (work_on g (b s).works))
 
     work_act : (d : Stored n s x f InWork m m2 (b s) (c s)) → KindAct n s x m m2 b c real sound (work_one d) f d.wrote.others (work_works_of d)
     work_act d =
         let w = word_is f InWork d d.wrote.others (work_one d) (work_works_of d) in
         let k = works_facts n m b s f d.e sound real d.here in
-        let here : work_on f (c s).works ≡ Some (unmark d d.e) = ap (λ u. work_on f u.works) d.hand ∙ changed_here f (unmark d) (b s).works d.e (λ e. refl) d.here in
+        let here : work_on f (c s).works ≡ Some (unmark d d.e) = ap (λ u. work_on f u.works) d.hand ∙ first_by-changed_here (λ y. y.frame) f (unmark d) (b s).works d.e (λ e. refl) d.here in
         let form = is_work_left d.l d.form_is in
         let kind : d.l.kind ≡ (kind_fields d.e.word).kind = ap (λ y. y.kind) d.may.left in
         let work : IsTrue (is_partial d.l || is_work d.l) = rw (form.0, form.1, form.2) refl in

@@ -1,4 +1,3 @@
-mod StepFacts
 mod DomainLaw
 mod DomainWords
 mod Counted
@@ -12,9 +11,7 @@ mod DomainVcpus
 mod DomainLives
 mod DomainLaws
 mod Works
-mod Held
 mod EntryChange
-mod WorkFacts
 mod ValidLaw
 mod QuietLaw
 mod QuietActs
@@ -22,6 +19,7 @@ mod KindAct
 mod KindRows
 mod KindDowns
 mod Settled
+mod KindHeld
 mod KindStores
 mod CellAct
 mod CellRows

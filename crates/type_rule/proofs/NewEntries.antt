@@ -19,7 +19,7 @@ use Rattle.xp_board.specs.Spelling.{IsSpelling, is_ref_in}
 use Rattle.xp_board.specs.Recorded.{entry_demand}
 use Rattle.xp_board.specs.Valid.{EntryPermitted}
 use Rattle.xp_board.specs.Sound.{Sound}
-use Rattle.type_rule.proofs.StepFacts.{found_since}
+use Rattle.xp_board.proofs.StepLists.{found_since}
 use Rattle.type_rule.proofs.ValidLaw.{NewEntry}
 
 -- ---- owners have small numbers

@@ -1,9 +1,6 @@
 -- The acts that change no kind word, no cell and no word of a vCPU that names a frame, each by its effect.
 use Rattle.std.proofs.Common.{◌≡◌, ◌≢◌, ℕ, ◌+◌, ◌<◌, ◌==◌, not, if◌then◌else◌, Bool, true, false, ◌∷◌, Option, Some, None, IsTrue, refl, sym, ◌∙◌, ap, subst, inl, inr, arith}
 use Rattle.std.proofs.lemmas.Bool.{cases_eq}
-use Rattle.xp_words.specs.declared.refs.RefWord.{RefWord}
-use Rattle.xp_words.specs.declared.refs.RefWord.TheVariants.{Free, Owned, Dying}
-use Rattle.xp_words.specs.RefWords.{ref_read, bit}
 use Rattle.xp_words.specs.Machine.{Machine}
 use Rattle.xp_words.specs.Places.{Place, Clock, Pages, Life, Vcpu, Refs, Kind, M2p, Cell, Map, Priv, sizes_of}
 use Rattle.xp_board.specs.declared.step.Step.{Step}
@@ -13,7 +10,7 @@ use Rattle.xp_board.specs.declared.holdings.Holdings.{Holdings}
 use Rattle.xp_board.specs.Acts.{left_by}
 use Rattle.xp_board.specs.Hands.{work_on, changed_work, ending_of, claim_of, endings_of, claims_of}
 use Rattle.xp_board.specs.Lists.{kept_of}
-use Rattle.xp_board.specs.Readings.{is_context, ref_count, owner_of, has_ever, is_dying, is_dying_in, count_in}
+use Rattle.xp_board.specs.Readings.{is_context, ref_count, owner_of, has_ever, is_dying}
 use Rattle.xp_board.specs.RefSteps.{IsFreeStamp}
 use Rattle.xp_board.specs.FillSteps.{started, loaded, walked_by, is_for_write}
 use Rattle.xp_board.specs.RunSteps.{ran_now}
@@ -22,43 +19,31 @@ use Rattle.xp_board.specs.Runs.{place_of}
 use Rattle.xp_board.specs.Sound.{Sound, HeldAlone}
 use Rattle.xp_board.proofs.Bits.{granted-ever, revoked-ever}
 use Rattle.xp_board.proofs.ActEffects.{Looked, Raised, Cleared, Took, Lowered, Freed, Gave, Missed, Started, WentOn, Stumbled, Mapped, Charged, Refunded, Based, Asked, Flushed, Ran, Ticked, Doomed, Buried, Hinted, Privileged}
-use Rattle.type_rule.proofs.Counted.{first_some}
+use Rattle.xp_board.proofs.HandLists.{first-some}
 use Rattle.type_rule.proofs.HandParts.{SameThree, three_own, three_ran, three_started, three_loaded}
-use Rattle.type_rule.proofs.RefWordLaws.{one_less_keeps, in_hand_counted}
+use Rattle.type_rule.proofs.RefWordLaws.{one_less_keeps}
+use Rattle.xp_board.proofs.Counted.{in_hand_counted}
 use Rattle.type_rule.proofs.DomainFrames.{owner_read}
 use Rattle.type_rule.proofs.DomainOthers.{own_if_by}
 use Rattle.type_rule.proofs.Works.{WorkKeptIn, works_kept, cell_kept}
 use Rattle.type_rule.proofs.EntryChange.{OneStep}
 use Rattle.type_rule.proofs.ValidLaw.{OwnersStay}
 use Rattle.type_rule.proofs.QuietLaw.{QuietAct, same_owners, one_owner, free_count}
-use Rattle.xp_board.proofs.Sums.{hands-part}
-
-dying_by : (r : Option RefWord) → is_dying_in r ≡ true → count_in r ≡ 0
-dying_by None e = refl
-dying_by (Some (Free t)) e = refl
-dying_by (Some (Owned o a k)) e = absurd (cc)
-dying_by (Some (Dying o)) e = refl
+use Rattle.xp_board.proofs.Works.{is_dying-mine}
+use Rattle.xp_board.proofs.RefWords.{is_dying-read, dying_says}
 
 dying_count : (w : ℕ) → is_dying w ≡ true → ref_count w ≡ 0
-unfolding is_dying ref_count
-dying_count w e = dying_by (ref_read w) e
-
-one_bit : (t : Bool) → 0 < bit t → t ≡ true
-one_bit true h = refl
-one_bit false h = absurd (omega arith)
+dying_count w e = let r = is_dying-read w e in (dying_says w r.0 r.1).counts
 
 -- a frame that is ending or claimed in a hand has no reference
 pub dying_in_hand : (n : Machine) (m : Place → ℕ) (h : ℕ → Holdings) (s f : ℕ) → HeldAlone n m h → s < (sizes_of n).vcpus →
     0 < endings_of f (h s).ending + claims_of f (h s).claimed → ref_count (m (Refs f)) ≡ 0
-dying_in_hand n m h s f alone real some =
-    let part = hands-part (λ u. endings_of f u.ending + claims_of f u.claimed) (sizes_of n) h s real in
-    let all = alone.dying f in
-    dying_count (m (Refs f)) (one_bit (is_dying (m (Refs f))) (omega arith))
+dying_in_hand n m h s f alone real some = dying_count (m (Refs f)) (is_dying-mine n m h alone f s real some)
 
 told_held : (n : Machine) (stamp f : ℕ) (h : Holdings) (e : Option Ending) (c : Option Claimed) → ending_of f h.ending ≡ e → claim_of f h.claimed ≡ c → IsFreeStamp n stamp h e c →
     0 < endings_of f h.ending + claims_of f h.claimed
-told_held n stamp f h (Some e) c at there k = let some = (first_some (λ y. y.frame) f h.ending e at).0 in omega arith
-told_held n stamp f h None (Some c) at there k = let some = (first_some (λ y. y.frame) f h.claimed c there).0 in omega arith
+told_held n stamp f h (Some e) c at there k = let some = first-some (λ y. y.frame) f e h.ending at in omega arith
+told_held n stamp f h None (Some c) at there k = let some = first-some (λ y. y.frame) f c h.claimed there in omega arith
 told_held n stamp f h None None at there k = absurd k
 
 not_context : (j k : ℕ) → is_context j ≡ false → IsTrue (is_context k) → k ≡ j → ⊥
@@ -258,5 +243,5 @@ module _ (n : Machine) (s : ℕ) (x : Step) (m m2 : Place → ℕ) (b c : ℕ �
 
   pub gave_quiet : (f : ℕ) → Gave n s x f m m2 (b s) (c s) → QuietAct n s x m m2 b c
   gave_quiet f d =
-      let held = (first_some (λ y. y.frame) f (b s).claimed d.may.claimed d.may.here).0 in
+      let held = first-some (λ y. y.frame) f d.may.claimed (b s).claimed d.may.here in
       at_refs f _ d.wrote.place d.wrote.left d.wrote.others d.hand refl refl (λ some. absurd (let k = dying_in_hand n m b s f sound.alone real (omega arith) in omega arith))

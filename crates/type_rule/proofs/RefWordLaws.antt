@@ -1,16 +1,10 @@
 -- A reference word that has one reference more or one less keeps its owner and its allocated mark.
-use Rattle.std.proofs.Common.{◌≡◌, ℕ, zero, suc, ◌+◌, ◌%◌, ◌^◌, ◌<◌, ◌≤◌, Bool, true, false, Option, Some, None, refl, arith}
-use Rattle.xp_words.specs.declared.refs.RefWord.{RefWord}
-use Rattle.xp_words.specs.declared.refs.RefWord.TheVariants.{Free, Owned, Dying}
-use Rattle.xp_words.specs.RefWords.{ref_read, ref_write, IsRef, bit}
-use Rattle.xp_words.specs.Places.{Sizes, Place, Refs}
-use Rattle.xp_words.proofs.RefLaws.{ref_read-write, ref_write-read}
-use Rattle.xp_board.specs.declared.holdings.Holdings.{Holdings}
+use Rattle.std.proofs.Common.{◌≡◌, ℕ, suc, ◌+◌, ◌%◌, ◌^◌, ◌<◌, ◌≤◌, Bool, Some, refl, arith}
+use Rattle.xp_words.specs.declared.refs.RefWord.TheVariants.{Owned}
+use Rattle.xp_words.specs.RefWords.{ref_read}
 use Rattle.xp_board.specs.Readings.{owner_of, allocated_mark, ref_count}
-use Rattle.xp_board.specs.Hands.{hand, refs_to}
-use Rattle.xp_board.specs.Recorded.{CountsAgree}
 use Rattle.xp_board.specs.RefSteps.{one_down}
-use Rattle.xp_board.proofs.Sums.{hands-part}
+use Rattle.xp_board.proofs.RefWords.{OneLess, more, last, one_down_leaves}
 
 -- the word v has the owner and the mark of w
 pub record SameOwner (w v : ℕ) : Type 0 where
@@ -21,50 +15,10 @@ pub one_more_keeps : (w v o c d : ℕ) (a : Bool) → ref_read w ≡ Some (Owned
 unfolding owner_of allocated_mark
 one_more_keeps w v o c d a was is = record { owner = rw (was, is) refl; allocated = rw (was, is) refl }
 
--- not the last reference
-fewer : (w o c : ℕ) (a : Bool) → w < 2 ^ 64 → ref_read w ≡ Some (Owned o a (suc (suc c))) → ref_read ((w + one_down) % 2 ^ 64) ≡ Some (Owned o a (suc c))
-unfolding ref_write IsRef
-fewer w o c a small was =
-    let back = ref_write-read w (Owned o a (suc (suc c))) small was in
-    let in_range : IsRef (Owned o a (suc c)) = (back.0.0, omega arith, (let l = back.0.2 in omega arith)) in
-    let left : (w + one_down) % 2 ^ 64 ≡ ref_write (Owned o a (suc c)) = (let e = back.1 in omega arith) in
-    rw left (ref_read-write (Owned o a (suc c)) in_range)
-
--- the last one, of a frame that is not allocated
-last : (w o : ℕ) → w < 2 ^ 64 → ref_read w ≡ Some (Owned o false 1) → ref_read ((w + one_down) % 2 ^ 64) ≡ Some (Dying o)
-unfolding ref_write IsRef
-last w o small was =
-    let back = ref_write-read w (Owned o false 1) small was in
-    let left : (w + one_down) % 2 ^ 64 ≡ ref_write (Dying o) = (let e = back.1 in omega arith) in
-    rw left (ref_read-write (Dying o) back.0.0)
-
-owned_keeps : (w o c : ℕ) (a : Bool) → w < 2 ^ 64 → ref_read w ≡ Some (Owned o a c) → bit a + 1 ≤ c → SameOwner w ((w + one_down) % 2 ^ 64)
+less_keeps : (w v : ℕ) → OneLess w v → SameOwner w v
 unfolding owner_of allocated_mark
-owned_keeps w o zero a small was more = absurd (omega arith)
-owned_keeps w o (suc (suc c)) a small was more = one_more_keeps w ((w + one_down) % 2 ^ 64) o (suc (suc c)) (suc c) a was (fewer w o c a small was)
-owned_keeps w o (suc zero) true small was more = absurd (omega arith)
-owned_keeps w o (suc zero) false small was more = let is = last w o small was in record { owner = rw (was, is) refl; allocated = rw (was, is) refl }
-
-by_value : (w : ℕ) (x : Option RefWord) → w < 2 ^ 64 → ref_read w ≡ x → allocated_mark w + 1 ≤ ref_count w → SameOwner w ((w + one_down) % 2 ^ 64)
-unfolding allocated_mark ref_count
-by_value w None small was more = absurd (let k = rw was at more in omega arith)
-by_value w (Some (Free stamp)) small was more = absurd (let k = rw was at more in omega arith)
-by_value w (Some (Dying o)) small was more = absurd (let k = rw was at more in omega arith)
-by_value w (Some (Owned o a c)) small was more = owned_keeps w o c a small was (rw was at more)
+less_keeps w v (more o c a was is) = one_more_keeps w v o (suc (suc c)) (suc c) a was is
+less_keeps w v (last o was is) = record { owner = rw (was, is) refl; allocated = rw (was, is) refl }
 
 pub one_less_keeps : (w : ℕ) → w < 2 ^ 64 → allocated_mark w + 1 ≤ ref_count w → SameOwner w ((w + one_down) % 2 ^ 64)
-one_less_keeps w small more = by_value w (ref_read w) small refl more
-
--- ---- a reference in hand is counted
-refs_in_hand : (f : ℕ) (u : Holdings) → refs_to f u.refs ≤ hand f u
-unfolding hand
-refs_in_hand f u = omega arith
-
--- an untyped reference in hand is one beside the allocated mark
-pub in_hand_counted : (z : Sizes) (m : Place → ℕ) (h : ℕ → Holdings) (s f : ℕ) → s < z.vcpus → CountsAgree z m h → 0 < refs_to f (h s).refs →
-    allocated_mark (m (Refs f)) + 1 ≤ ref_count (m (Refs f))
-in_hand_counted z m h s f b k r =
-    let all = k.refs f in
-    let mine = refs_in_hand f (h s) in
-    let part = hands-part (hand f) z h s b in
-    omega arith
+one_less_keeps w small above = less_keeps w ((w + one_down) % 2 ^ 64) (one_down_leaves w (ref_read w) small refl (omega arith))

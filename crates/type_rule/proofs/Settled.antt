@@ -21,7 +21,7 @@ use Rattle.xp_board.specs.Recorded.{entry_demand}
 use Rattle.xp_board.specs.WellFormed.{LastIs}
 use Rattle.xp_board.specs.Settling.{settles_word, is_settled}
 use Rattle.xp_board.proofs.EntryWords.{entry_asks_same}
-use Rattle.type_rule.proofs.WorkFacts.{Works}
+use Rattle.xp_board.proofs.WorkFacts.{Works}
 
 not_writable : (t : PageType) → is_table t ≡ true → is_type t kinds.Writable ≡ false
 not_writable kinds.None e = absurd (cc)

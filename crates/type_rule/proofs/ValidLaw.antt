@@ -6,15 +6,15 @@ use Rattle.xp_words.specs.declared.entry.Demand.TheVariants.{Bad, Read, Typed}
 use Rattle.xp_words.specs.Machine.{Machine}
 use Rattle.xp_words.specs.Places.{Place, Vcpu, Refs, Cell, Priv, sizes_of}
 use Rattle.xp_board.specs.declared.holdings.Holdings.{Holdings}
-use Rattle.xp_board.specs.Readings.{kind_at, ref_count, owner_of, has_ever, domain_of}
+use Rattle.xp_board.specs.Readings.{kind_at, ref_count, owner_of, has_ever, domain_of, is_live, is_context}
 use Rattle.xp_board.specs.Recorded.{held, entry_demand}
 use Rattle.xp_board.specs.Valid.{Valid, LeadsWell, is_live_context, Permitted, PermitsOwner, EntryPermitted}
-use Rattle.xp_board.specs.Readings.{is_live, is_context}
 use Rattle.xp_board.specs.After.{is_fixed}
 use Rattle.xp_board.specs.Sound.{Sound}
 use Rattle.type_rule.proofs.EntryChange.{OldEntry}
-use Rattle.type_rule.proofs.Held.{entry_counted, plain_counted, context_counted, type_below}
-use Rattle.type_rule.proofs.WorkFacts.{table_counted}
+use Rattle.type_rule.proofs.Counted.{entry_counted, plain_counted, context_counted}
+use Rattle.xp_board.proofs.Counted.{type_below}
+use Rattle.xp_board.proofs.Recordless.{table_counted}
 
 -- an entry that is new, or asks something else than before
 pub record NewEntry (n : Machine) (m2 : Place → ℕ) (c : ℕ → Holdings) (f i : ℕ) : Type 0 where

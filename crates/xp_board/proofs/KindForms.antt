@@ -1,16 +1,62 @@
 -- What a kind word of each form says, and what it says after a sum.
-use Rattle.std.proofs.Common.{◌≡◌, ℕ, ◌+◌, ◌-◌, ◌/◌, ◌%◌, ◌^◌, ◌<◌, ◌==◌, ◌&&◌, ◌||◌, not, if◌then◌else◌, Bool, true, false, Some, refl, arith}
+use Rattle.std.proofs.Common.{Option, None, IsTrue, ap, ◌∙◌, inl, inr, ◌≡◌, ℕ, ◌+◌, ◌-◌, ◌/◌, ◌%◌, ◌^◌, ◌<◌, ◌==◌, ◌&&◌, ◌||◌, not, if◌then◌else◌, Bool, true, false, Some, refl, arith}
+use Rattle.std.proofs.lemmas.Bool.{cases_Bool}
+use Rattle.xp_words.proofs.KindLaws.{when_some, kind_write-read}
+use Rattle.xp_words.specs.Machine.{Machine}
+use Rattle.xp_words.specs.Places.{Place, Kind, sizes_of, is_place}
+use Rattle.xp_board.specs.Readings.{kind_at}
+use Rattle.xp_board.specs.Spelling.{IsSpelling, is_kind_in}
+use Rattle.xp_board.specs.Sound.{Spelled}
 use Rattle.std.proofs.lemmas.Bool.Decides.{nat_tests}
 use Rattle.xp_words.specs.declared.kind.KindWord.{KindWord}
 use Rattle.xp_words.specs.PageTypes.{is_none, is_table}
 use Rattle.xp_words.specs.KindWords.{kind_read, kind_fields, has_form, is_partial}
-use Rattle.xp_words.proofs.KindLaws.{kind_write-read}
 use Rattle.xp_board.specs.RefSteps.{one_down}
 use Rattle.xp_board.specs.KindSteps.{unlocked_down}
 
 -- ---- the four forms
 pub form_read : (w : ℕ) (k : KindWord) → kind_read w ≡ Some k → has_form k ≡ true
 form_read w k e = let a = (kind_write-read w k e).0 in grind (arith, nat_tests)
+
+-- a word that is spelled as one of the machine has a form
+form_in : (n : Machine) (w : ℕ) (o : Option KindWord) → kind_read w ≡ o → IsTrue (is_kind_in n o) → has_form (kind_fields w) ≡ true
+unfolding kind_read
+form_in n w None e b = absurd (cc)
+form_in n w (Some k) e b = let t = when_some _ _ _ e in grind (arith, t, nat_tests)
+
+pub spelled_form : (n : Machine) (w : ℕ) → IsTrue (is_kind_in n (kind_read w)) → has_form (kind_fields w) ≡ true
+spelled_form n w t = form_in n w (kind_read w) refl t
+
+-- a marked word is not live
+pub form_unlive : (k : KindWord) → has_form k ≡ true → k.unflushed ≡ true → k.validated ≡ false
+unfolding has_form
+form_unlive k f u = grind arith
+
+pub zero_dead : (kind_fields 0).validated ≡ false
+unfolding kind_fields
+zero_dead = refl
+
+zero_plain : (kind_fields 0).unflushed ≡ false
+unfolding kind_fields
+zero_plain = refl
+
+pub marked_form : (n : Machine) (m : Place → ℕ) (g : ℕ) → Spelled n m → (kind_at m g).unflushed ≡ true → has_form (kind_at m g) ≡ true
+unfolding IsSpelling
+marked_form n m g spelled marked =
+    elim (cases_Bool (is_place (sizes_of n) (Kind g))) [
+      | inl there ↦ spelled_form n (m (Kind g)) (spelled.spelled (Kind g) there)
+      | inr out ↦ absurd (let plain : (kind_at m g).unflushed ≡ false = ap (λ w. (kind_fields w).unflushed) (spelled.outside (Kind g) out) ∙ zero_plain in cc)
+    ]
+
+pub marked_unlive : (n : Machine) (m : Place → ℕ) (g : ℕ) → Spelled n m → (kind_at m g).unflushed ≡ true → (kind_at m g).validated ≡ false
+marked_unlive n m g spelled marked = form_unlive (kind_at m g) (marked_form n m g spelled marked) marked
+
+pub live_unmarked : (n : Machine) (m : Place → ℕ) (g : ℕ) → Spelled n m → (kind_at m g).validated ≡ true → (kind_at m g).unflushed ≡ false
+live_unmarked n m g spelled live =
+    elim (cases_Bool (kind_at m g).unflushed) [
+      | inl marked ↦ absurd (let dead = marked_unlive n m g spelled marked in cc)
+      | inr plain ↦ plain
+    ]
 
 pub record LiveForm (k : KindWord) : Type 0 where
   pub whole : k.partial ≡ false

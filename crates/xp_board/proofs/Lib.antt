@@ -1,8 +1,21 @@
 mod ClaimPicture
 pub mod PlaceTests
+pub mod RefWords
 pub mod Sums
 pub mod HandLists
+pub mod ListCounts
+pub mod ListChanges
+pub mod Works
+pub mod Counted
+pub mod WorkFacts
+pub mod Recordless
+pub mod StepLists
+pub mod HandParts
+pub mod SafeItems
+pub mod Empty
 pub mod KindForms
+pub mod FormsLeft
+pub mod HeldByForm
 pub mod Bits
 pub mod EntryWords
 pub mod ActEffects
@@ -13,7 +26,6 @@ pub mod FrameInversions
 pub mod ActInversions
 mod CellInversions
 pub mod MarkEffects
-mod Empty
 mod EntryPicture
 mod FlushPicture
 pub mod Going
@@ -23,5 +35,4 @@ mod Picture
 mod ProcessorPicture
 mod ReleasePicture
 pub mod Rows
-mod SafeItems
 mod WalkPicture

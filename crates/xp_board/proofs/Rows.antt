@@ -1,5 +1,5 @@
 -- Steps that are legal as they should be.
-use Rattle.std.proofs.Common.{◌≡◌, ◌<◌, ◌≤◌, ◌+◌, ◌^◌, ℕ, Bool, IsTrue, refl, None, Some, length, arith, inl}
+use Rattle.std.proofs.Common.{◌≡◌, ◌<◌, ◌≤◌, ◌+◌, ◌^◌, ℕ, Bool, refl, None, Some, length, arith, inl}
 use Rattle.std.proofs.lemmas.Bool.Decides.{nat_tests}
 use Rattle.xp_words.specs.declared.refs.RefWord.TheVariants.{Owned}
 use Rattle.xp_words.specs.Machine.{Machine}
@@ -10,11 +10,9 @@ use Rattle.xp_board.specs.declared.step.Act.TheVariants.{Cas, Store}
 use Rattle.xp_board.specs.declared.step.StepKind.TheVariants as steps
 use Rattle.xp_board.specs.declared.holdings.Holdings.{Holdings}
 use Rattle.xp_board.specs.Hands.{hand}
-use Rattle.xp_board.specs.Spelling.{IsSpelling, is_ref_in}
+use Rattle.xp_board.specs.Spelling.{IsSpelling}
 use Rattle.xp_board.specs.Legal.{LegalMove}
-
-owned_in : (n : Machine) (owner count : ℕ) (allocated : Bool) → owner < length n.page_limit → count ≤ n.limit → IsTrue (is_ref_in n (Some (Owned owner allocated count)))
-owned_in n owner count allocated a b = grind (arith, nat_tests)
+use Rattle.xp_board.proofs.RefWords.{fits_owned}
 
 pub raise_legal : (n : Machine) (s f owner count : ℕ) (allocated : Bool) (h : Holdings) → n.limit < 2 ^ 26 → length n.page_limit ≤ 16 → f < n.frames → h.run ≡ Some 0 →
     owner < length n.page_limit → 0 < count → count < n.limit →
@@ -27,7 +25,7 @@ raise_legal n s f owner count allocated h limit few frame run domain some below 
       place = grind (arith, nat_tests);
       marked = tt;
       running = λ needs. run;
-      spelling = rw next (owned_in n owner (count + 1) allocated domain (omega arith));
+      spelling = rw next (fits_owned n owner (count + 1) allocated domain (omega arith));
       act = rw (before, next) (inl (record { below = below; left = refl }));
     }
 

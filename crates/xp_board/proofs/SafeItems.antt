@@ -1,44 +1,20 @@
 -- Cached translations of a sound machine lead nowhere that they must not.
-use Rattle.std.proofs.Common.{◌≡◌, ◌<◌, ℕ, Bool, true, false, IsTrue, refl, sym, ap, ◌∙◌, None, Some, Option, arith, inl, inr}
+use Rattle.std.proofs.Common.{◌≡◌, ◌<◌, ℕ, Bool, true, false, refl, arith, inl, inr}
 use Rattle.std.proofs.lemmas.Bool.{cases_Bool}
 use Rattle.std.proofs.lemmas.Bool.Decides.{nat_tests}
 use Rattle.xp_words.specs.declared.kind.KindWord.{KindWord}
-use Rattle.xp_words.specs.KindWords.{kind_read, kind_fields, has_form}
-use Rattle.xp_words.proofs.KindLaws.{when_some}
 use Rattle.xp_words.specs.Machine.{Machine}
-use Rattle.xp_words.specs.Places.{Place, Kind, is_place, sizes_of}
+use Rattle.xp_words.specs.Places.{Place, sizes_of}
 use Rattle.xp_board.specs.declared.step.Item.{Item}
 use Rattle.xp_board.specs.declared.holdings.Holdings.{Holdings}
 use Rattle.xp_board.specs.Lists.{Member}
-use Rattle.xp_board.specs.Readings.{kind_at, is_live, domain_of}
-use Rattle.xp_board.specs.Spelling.{IsSpelling, is_kind_in}
+use Rattle.xp_board.specs.Readings.{domain_of}
 use Rattle.xp_board.specs.Valid.{Permits}
 use Rattle.xp_board.specs.Reach.{Writes, cached, use_of, is_in_use}
 use Rattle.xp_board.specs.Fresh.{Belongs, Bears}
 use Rattle.xp_board.specs.Safe.{SafeAt}
 use Rattle.xp_board.specs.Sound.{Sound}
-
--- a live word has no mark
-live_form : (k : KindWord) → has_form k ≡ true → k.validated ≡ true → k.unflushed ≡ false
-unfolding has_form
-live_form k form live = grind (arith, nat_tests)
-
-read_form : (n : Machine) (w : ℕ) (o : Option KindWord) → kind_read w ≡ o → IsTrue (is_kind_in n o) → has_form (kind_fields w) ≡ true
-unfolding kind_read
-read_form n w None e b = absurd (cc)
-read_form n w (Some k) e b = let t = when_some _ _ _ e in grind (arith, t, nat_tests)
-
-zero_live : is_live (kind_fields 0) ≡ false
-unfolding kind_fields
-zero_live = refl
-
-by_place : (n : Machine) (m : Place → ℕ) (h : ℕ → Holdings) (g : ℕ) → Sound n m h → (b : Bool) → is_place (sizes_of n) (Kind g) ≡ b → (kind_at m g).validated ≡ true → (kind_at m g).unflushed ≡ false
-unfolding IsSpelling
-by_place n m h g sound true e live = live_form _ (read_form n (m (Kind g)) _ refl (sound.spelled.spelled (Kind g) e)) live
-by_place n m h g sound false e live = let w = sound.spelled.outside (Kind g) e in let z = ap (λ x. (kind_fields x).validated) w in absurd (let y = sym live ∙ (z ∙ zero_live) in cc)
-
-pub live_unmarked : (n : Machine) (m : Place → ℕ) (h : ℕ → Holdings) (g : ℕ) → Sound n m h → (kind_at m g).validated ≡ true → (kind_at m g).unflushed ≡ false
-live_unmarked n m h g sound live = by_place n m h g sound _ refl live
+use Rattle.xp_board.proofs.KindForms.{live_unmarked}
 
 unused_marked : (k : KindWord) → k.unflushed ≡ true → (k.validated ≡ true → k.unflushed ≡ false) → is_in_use k ≡ false
 unused_marked k marked live = elim (cases_Bool k.validated) [ inl hit ↦ absurd (let u = live hit in cc) | inr miss ↦ grind (arith, nat_tests) ]
@@ -62,6 +38,6 @@ pub items_safe : (n : Machine) (m : Place → ℕ) (h : ℕ → Holdings) (v : �
 items_safe n m h v x sound real there =
     let at = sound.fresh.each v real x.frame (use_of x) (cached x there) in
     record {
-      unused = λ e. unused_by _ _ (bears_by _ _ x e at.bears) (live_unmarked n m h x.frame sound);
+      unused = λ e. unused_by _ _ (bears_by _ _ x e at.bears) (live_unmarked n m x.frame sound.spelled);
       permitted = permits_by m (domain_of n v) x.frame x.writable x refl at.owner;
     }

@@ -1,21 +1,23 @@
--- The recorded entries that an act leaves as they were.
-use Rattle.std.proofs.Common.{◌≡◌, ◌≢◌, ℕ, zero, suc, ◌+◌, ◌<◌, ◌≤◌, Bool, true, false, Option, refl, ap, arith, IsTrue, if◌then◌else◌, add-one}
+-- What is counted of each frame: the recorded entries and the words of vCPUs that name it.
+use Rattle.std.proofs.Common.{nat_lt, inl, inr, ◌≡◌, ◌≢◌, ℕ, ◌+◌, ◌<◌, ◌≤◌, Bool, true, false, Option, refl, ap, arith, IsTrue, if◌then◌else◌, add-one}
+use Rattle.std.proofs.lemmas.Bool.{cases_Bool}
+use Rattle.std.proofs.lemmas.Bool.Decides.{nat_tests}
+use Rattle.xp_words.specs.declared.entry.Demand.TheVariants.{Nothing, Bad, Read, Typed}
+use Rattle.xp_words.specs.KindWords.{kind_fields}
+use Rattle.xp_words.specs.PageTypes.{is_table}
+use Rattle.xp_words.specs.Machine.{Machine}
+use Rattle.xp_words.specs.Places.{Sizes, sizes_of, is_place, Place, Vcpu, Refs, Kind}
+use Rattle.xp_board.specs.Readings.{kind_at, is_context, ref_count, type_count, allocated_mark}
+use Rattle.xp_board.specs.Hands.{hand, typed_hand, refs_to, typed_to, locks_on}
+use Rattle.xp_board.specs.Recorded.{names, CountsAgree, work_of, held, held_of, names_typed, entry_demand, table_entries, entries, contexts}
+use Rattle.xp_board.specs.Sound.{Spelled}
+use Rattle.xp_board.proofs.Sums.{hands-part, hands-fewer, sum_below-fewer, one_at-same, sum_below-one, sum_below-part, sum_below-same}
 use Rattle.xp_words.specs.declared.kind.PageType.{PageType}
 use Rattle.xp_words.specs.declared.entry.Demand.{Demand}
-use Rattle.xp_words.specs.declared.entry.Demand.TheVariants.{Typed}
-use Rattle.xp_words.specs.Places.{Sizes, Place, Vcpu}
 use Rattle.xp_board.specs.declared.holdings.Holdings.{Holdings}
-use Rattle.xp_board.specs.Readings.{kind_at, is_context}
 use Rattle.xp_board.specs.Sums.{sum_below}
 use Rattle.xp_board.specs.Lists.{one_at}
-use Rattle.xp_board.specs.Recorded.{work_of, held, held_of, names_typed, entry_demand, table_entries, entries, contexts, recorded_in}
-use Rattle.count_rule.proofs.Sums.{one_at-same}
-use Rattle.xp_board.proofs.Sums.{sum_below-one, sum_below-part, sum_below-same}
-
-pub work_of-same : (n : ℕ) (h h2 : ℕ → Holdings) (f : ℕ) → ((s : ℕ) → recorded_in (h2 s).works f ≡ recorded_in (h s).works f) → work_of n h2 f ≡ work_of n h f
-unfolding work_of
-work_of-same zero h h2 f e = refl
-work_of-same (suc n) h h2 f e = rw (e n) (rw (work_of-same n h h2 f e))
+use Rattle.xp_board.proofs.HeldByForm.{held_table}
 
 table_entries-same : (c : Demand → ℕ) (m m2 : Place → ℕ) (o o2 : Option ℕ) (f : ℕ) → held_of (kind_at m2 f) o2 ≡ held_of (kind_at m f) o →
     ((i : ℕ) → i < held_of (kind_at m f) o → entry_demand m2 f i ≡ entry_demand m f i) → table_entries c m2 o2 f ≡ table_entries c m o f
@@ -99,3 +101,72 @@ contexts-part z m g v k a b t e =
     let outer = sum_below-part z.vcpus (λ w. sum_below 38 (λ j. if is_context j then one_at (g + 1) (m (Vcpu w j)) else 0)) v a in
     let here : (if is_context k then one_at (g + 1) (m (Vcpu v k)) else 0) ≡ 1 = rw (t, e) (one_at-same (g + 1)) in
     omega arith
+
+pub names-read : (g : ℕ) (d : Demand) → d ≡ Read g → names g d ≡ 1
+unfolding names
+names-read g d e = rw e (one_at-same g)
+
+-- ---- no frame has more typed references than references
+names_typed-fewer : (g : ℕ) (d : Demand) → names_typed g d ≤ names g d
+unfolding names names_typed
+names_typed-fewer g Nothing = omega arith
+names_typed-fewer g Bad = omega arith
+names_typed-fewer g (Read f) = omega arith
+names_typed-fewer g (Typed f t) = omega arith
+
+entries-fewer : (z : Sizes) (m : Place → ℕ) (h : ℕ → Holdings) (g : ℕ) → entries (names_typed g) z m h ≤ entries (names g) z m h
+unfolding entries table_entries
+entries-fewer z m h g =
+    sum_below-fewer z.frames _ _ (λ f. sum_below-fewer (held_of (kind_at m f) (work_of z.vcpus h f)) _ _ (λ i. names_typed-fewer g (entry_demand m f i)))
+
+typed_part : (g : ℕ) (u : Holdings) → typed_hand g u ≤ hand g u
+unfolding hand
+typed_part g u = omega arith
+
+pub type_below : (z : Sizes) (m : Place → ℕ) (h : ℕ → Holdings) (g : ℕ) → CountsAgree z m h → type_count (kind_at m g) ≤ ref_count (m (Refs g))
+type_below z m h g k =
+    let a = k.refs g in
+    let b = k.types g in
+    let c = entries-fewer z m h g in
+    let d = hands-fewer (typed_hand g) (hand g) z h (typed_part g) in
+    omega arith
+
+-- ---- what is in hand is counted
+pub refs_in_hand : (f : ℕ) (u : Holdings) → refs_to f u.refs ≤ hand f u
+unfolding hand
+refs_in_hand f u = omega arith
+
+-- an untyped reference in hand is one beside the allocated mark
+pub in_hand_counted : (z : Sizes) (m : Place → ℕ) (h : ℕ → Holdings) (s f : ℕ) → s < z.vcpus → CountsAgree z m h → 0 < refs_to f (h s).refs →
+    allocated_mark (m (Refs f)) + 1 ≤ ref_count (m (Refs f))
+in_hand_counted z m h s f b k r =
+    let all = k.refs f in
+    let mine = refs_in_hand f (h s) in
+    let part = hands-part (hand f) z h s b in
+    omega arith
+
+typed_in_hand : (f : ℕ) (u : Holdings) → typed_to f u.typed + locks_on f u.locks ≤ typed_hand f u
+unfolding typed_hand
+typed_in_hand f u = omega arith
+
+pub typed_counted : (z : Sizes) (m : Place → ℕ) (h : ℕ → Holdings) (s f : ℕ) → s < z.vcpus → CountsAgree z m h → typed_to f (h s).typed + locks_on f (h s).locks ≤ type_count (kind_at m f)
+typed_counted z m h s f b k =
+    let all = k.types f in
+    let mine = typed_in_hand f (h s) in
+    let part = hands-part (typed_hand f) z h s b in
+    omega arith
+
+-- ---- the tables of which entries are recorded are frames of the machine
+pub table_inside : (n : Machine) (m : Place → ℕ) (f : ℕ) → Spelled n m → IsTrue (is_table (kind_at m f).kind) → f < (sizes_of n).frames
+unfolding is_place kind_fields
+table_inside n m f spelled k =
+    elim (cases_Bool (nat_lt f n.frames)) [
+      | inl there ↦ grind (arith, nat_tests)
+      | inr out ↦
+          let none : m (Kind f) ≡ 0 = spelled.outside (Kind f) out in
+          let t : IsTrue (is_table (kind_fields 0).kind) = rw none at k in
+          absurd (cc)
+    ]
+
+pub held_inside : (n : Machine) (m : Place → ℕ) (h : ℕ → Holdings) (f i : ℕ) → Spelled n m → i < held (sizes_of n) m h f → f < (sizes_of n).frames
+held_inside n m h f i spelled l = table_inside n m f spelled (held_table (kind_at m f) _ i l)

@@ -1,9 +1,9 @@
 -- Lists of a hand with an element changed, and with several more or fewer.
 use Rattle.std.proofs.Common.{◌≡◌, ◌≢◌, ℕ, ◌+◌, ◌≤◌, List, [], ◌∷◌, Some, refl, sym, ◌∙◌, ap, arith, inl, inr, zero, suc}
 use Rattle.std.proofs.lemmas.Bool.{cases_eq}
-use Rattle.xp_board.specs.Lists.{one_at, times_by, first_by, without_by, changed_by, EachOf, times, with_more, with_fewer}
-use Rattle.count_rule.proofs.Sums.{when_eq, when_ne}
-use Rattle.count_rule.proofs.Lists.{times_by-without, times_by-cons_here, times_by-cons_other, times_by-without_other}
+use Rattle.xp_board.specs.Lists.{one_at, first_by, without_by, changed_by, EachOf, times, with_more, with_fewer}
+use Rattle.xp_board.proofs.Sums.{when_eq, when_ne}
+use Rattle.xp_board.proofs.ListCounts.{times_by-without, times_by-cons_here, times_by-cons_other, times_by-without_other}
 use Rattle.xp_board.proofs.HandLists.{EachOf-map}
 
 -- ---- a list with the first element of a number changed
@@ -68,21 +68,12 @@ times-with_fewer_other zero g f xs off = refl
 times-with_fewer_other (suc n) g f xs off = times-with_fewer_other n g f (without_by (λ x. x) f xs) off ∙ times_by-without_other (λ x. x) g f xs off
 
 -- the first element of a number changes
-pub EachOf-changed : {A : Type 0} (P Q : A → Type 0) (key : A → ℕ) (f : ℕ) (change : A → A) (xs : List A) → ((x : A) → P x → Q x) → ((x : A) → first_by key f xs ≡ Some x → P x → Q (change x)) →
+pub EachOf-changed_into : {A : Type 0} (P Q : A → Type 0) (key : A → ℕ) (f : ℕ) (change : A → A) (xs : List A) → ((x : A) → P x → Q x) → ((x : A) → first_by key f xs ≡ Some x → P x → Q (change x)) →
     EachOf P xs → EachOf Q (changed_by key f change xs)
 unfolding EachOf changed_by first_by
-EachOf-changed P Q key f change [] k new e = tt
-EachOf-changed P Q key f change (x ∷ xs) k new e =
+EachOf-changed_into P Q key f change [] k new e = tt
+EachOf-changed_into P Q key f change (x ∷ xs) k new e =
     elim (cases_eq (key x) f) [
       | inl at ↦ rw (when_eq (key x) f at) (new x (rw (when_eq (key x) f at) refl) e.0, EachOf-map P Q xs k e.1)
-      | inr off ↦ rw (when_ne (key x) f off) (k x e.0, EachOf-changed P Q key f change xs k (λ y i p. new y (rw (when_ne (key x) f off) i) p) e.1)
-    ]
-
-pub times_by-changed : {A : Type 0} (key : A → ℕ) (g f : ℕ) (change : A → A) (xs : List A) → ((x : A) → key (change x) ≡ key x) → times_by key g (changed_by key f change xs) ≡ times_by key g xs
-unfolding times_by changed_by
-times_by-changed key g f change [] k = refl
-times_by-changed key g f change (x ∷ xs) k =
-    elim (cases_eq (key x) f) [
-      | inl at ↦ let e = ap (one_at g) (k x) in rw (when_eq (key x) f at) (omega arith)
-      | inr off ↦ let rest = times_by-changed key g f change xs k in rw (when_ne (key x) f off) (omega arith)
+      | inr off ↦ rw (when_ne (key x) f off) (k x e.0, EachOf-changed_into P Q key f change xs k (λ y i p. new y (rw (when_ne (key x) f off) i) p) e.1)
     ]

@@ -1,9 +1,9 @@
 -- The lists of a hand.
-use Rattle.std.proofs.Common.{◌≡◌, ◌≢◌, ℕ, ◌+◌, ◌<◌, ◌≤◌, List, [], ◌∷◌, Option, Some, None, refl, sym, ◌∙◌, ap, subst, arith, inl, inr}
+use Rattle.std.proofs.Common.{◌≡◌, ◌≢◌, ℕ, ◌+◌, ◌<◌, ◌≤◌, List, [], ◌∷◌, Option, Some, None, refl, sym, ◌∙◌, ap, arith, inl, inr}
 use Rattle.std.proofs.lemmas.Bool.{cases_eq}
 use Rattle.xp_board.specs.Lists.{one_at, times_by, first_by, without_by, EachOf}
-use Rattle.count_rule.proofs.Sums.{when_eq, when_ne}
-use Rattle.xp_board.proofs.HandLists.{EachOf-map}
+use Rattle.xp_board.proofs.Sums.{when_eq, when_ne}
+use Rattle.xp_board.proofs.HandLists.{EachOf-map, EachOf-first, first-key, first-some}
 
 pub times_by-cons : {A : Type 0} (key : A → ℕ) (g : ℕ) (x : A) (xs : List A) → times_by key g (x ∷ xs) ≡ one_at g (key x) + times_by key g xs
 unfolding times_by
@@ -29,22 +29,13 @@ unfolding EachOf
 EachOf-both P Q [] a b = tt
 EachOf-both P Q (x ∷ xs) a b = ((a.0, b.0), EachOf-both P Q xs a.1 b.1)
 
-pub first_by-counts : {A : Type 0} (key : A → ℕ) (g : ℕ) (xs : List A) (e : A) → first_by key g xs ≡ Some e → 0 < times_by key g xs
-unfolding first_by times_by
-first_by-counts key g [] e k = absurd (cc)
-first_by-counts key g (x ∷ xs) e k =
-    elim (cases_eq (key x) g) [
-      | inl at ↦ let one : one_at g (key x) ≡ 1 = rw (when_eq (key x) g at) in omega arith
-      | inr off ↦ let rest = first_by-counts key g xs e (rw (when_ne (key x) g off) at k) in omega arith
-    ]
-
 first_by-further : {A : Type 0} (key : A → ℕ) (x : A) (xs : List A) → ((g : ℕ) → times_by key g (x ∷ xs) ≤ 1) → (e : A) →
     first_by key (key e) xs ≡ Some e → first_by key (key e) (x ∷ xs) ≡ Some e
 unfolding first_by times_by
 first_by-further key x xs few e k =
     elim (cases_eq (key x) (key e)) [
       | inl at ↦
-          let some = first_by-counts key (key e) xs e k in
+          let some = first-some key (key e) e xs k in
           let one : one_at (key e) (key x) ≡ 1 = rw (when_eq (key x) (key e) at) in
           let most = few (key e) in
           absurd (omega arith)
@@ -52,11 +43,11 @@ first_by-further key x xs few e k =
     ]
 
 -- where no number stands twice, each element is the first one of its number
-pub EachOf-first : {A : Type 0} (key : A → ℕ) (xs : List A) → ((g : ℕ) → times_by key g xs ≤ 1) → EachOf (λ e. first_by key (key e) xs ≡ Some e) xs
+pub EachOf-once : {A : Type 0} (key : A → ℕ) (xs : List A) → ((g : ℕ) → times_by key g xs ≤ 1) → EachOf (λ e. first_by key (key e) xs ≡ Some e) xs
 unfolding EachOf first_by
-EachOf-first key [] few = tt
-EachOf-first key (x ∷ xs) few =
-    let rest = EachOf-first key xs (λ g. let most = few g in let here = times_by-cons key g x xs in omega arith) in
+EachOf-once key [] few = tt
+EachOf-once key (x ∷ xs) few =
+    let rest = EachOf-once key xs (λ g. let most = few g in let here = times_by-cons key g x xs in omega arith) in
     (rw (when_eq (key x) (key x) refl), EachOf-map (λ e. first_by key (key e) xs ≡ Some e) _ xs (first_by-further key x xs few) rest)
 
 -- ---- the elements of other numbers
@@ -126,19 +117,6 @@ EachOf-apart key f (x ∷ xs) n = (
   EachOf-apart key f xs (omega arith),
 )
 
--- the first element of a number has it, and is one of the list
-pub EachOf-found : {A : Type 0} (P : A → Type 0) (key : A → ℕ) (f : ℕ) (xs : List A) (e : A) → first_by key f xs ≡ Some e → EachOf P xs → (key e ≡ f) × P e
-unfolding EachOf first_by
-EachOf-found P key f [] e here each = absurd (cc)
-EachOf-found P key f (x ∷ xs) e here each =
-    elim (cases_eq (key x) f) [
-      | inl at ↦
-          let k : Some x ≡ Some e = rw (when_eq (key x) f at) at here in
-          let i : x ≡ e = cc in
-          (ap key (sym i) ∙ at, subst P i each.0)
-      | inr off ↦ EachOf-found P key f xs e (rw (when_ne (key x) f off) at here) each.1
-    ]
-
 pub times_by-without_one : {A : Type 0} (key : A → ℕ) (f : ℕ) (xs : List A) → times_by key f xs ≤ 1 → times_by key f (without_by key f xs) ≡ 0
 unfolding times_by without_by
 times_by-without_one key f [] few = refl
@@ -169,3 +147,6 @@ found_by key f xs None at some = let none = first_by-absent key f xs at in absur
 
 pub first_by-some : {A : Type 0} (key : A → ℕ) (f : ℕ) (xs : List A) → 0 < times_by key f xs → (e : A) × (first_by key f xs ≡ Some e)
 first_by-some key f xs some = found_by key f xs (first_by key f xs) refl some
+
+pub EachOf-found : {A : Type 0} (P : A → Type 0) (key : A → ℕ) (f : ℕ) (xs : List A) (e : A) → first_by key f xs ≡ Some e → EachOf P xs → (key e ≡ f) × P e
+EachOf-found P key f xs e here each = (first-key key f e xs here, EachOf-first P key f e xs each here)
