@@ -1,5 +1,5 @@
-//! Each step that is legal today keeps the counts of the machine, its spellings, who has a frame in its hand
-//! alone, its stamps and its free map. These functions do nothing: their contracts are laws.
+//! Each legal step keeps the counts of the machine, its spellings, who has a frame in its hand alone, its
+//! stamps and its free map: its mark does, and its act does. These functions do nothing: their contracts are laws.
 #![tactic(auto)]
 
 ghost use Rattle.std.specs.Prelude.{ℕ, ◌<◌};

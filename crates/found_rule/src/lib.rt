@@ -1,4 +1,4 @@
-//! Each step that is legal today, of any seat, keeps true what all seats have found, and keeps their holdings well formed: its mark
+//! Each legal step, of any seat, keeps true what all seats have found, and keeps their holdings well formed: its mark
 //! does, and its act does. These functions do nothing: their contracts are laws.
 #![tactic(auto)]
 

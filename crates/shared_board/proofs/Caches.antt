@@ -1,4 +1,4 @@
--- No step that is legal today brings a translation.
+-- No step that boards take so far brings a translation.
 use Rattle.std.proofs.Common.{◌≡◌, ℕ, zero, suc, ◌==◌, if◌then◌else◌, Bool, true, false, List, [], Option, Some, None, IsTrue, refl, sym, ap}
 use Rattle.xp_words.specs.declared.entry.Demand.{Demand}
 use Rattle.xp_words.specs.declared.entry.Demand.TheVariants as demands

@@ -74,7 +74,7 @@ impl PlainBoard {
         PlainPort { board: self, vcpu }
     }
 
-    // No step that is legal today brings a translation, so no vCPU has one.
+    // No walk is made on a board yet, so no vCPU has a translation.
     pub(crate) fn cached(&self, vcpu: u32, user: bool, page: u64) -> Option<Item>
         ensures { result ≡ cached_item user page (seat_of self.now.story.seats vcpu).cache }
     {

@@ -1,4 +1,4 @@
-//! What old translations lead to: a sound machine is safe, and the steps that are legal today leave no
+//! What old translations lead to: a sound machine is safe, and legal steps leave no
 //! translation that leads where it may not. These functions do nothing: their contracts are laws.
 #![tactic(auto)]
 
@@ -16,7 +16,7 @@ pub fn a_sound_machine_is_safe()
     ensures { (n : Machine) (m : Place → ℕ) (h : ℕ → Holdings) → Sound n m h → Safe n m h }
 {}
 
-/// A step that is legal today leaves no translation of any vCPU that leads where it may not: neither its mark nor its act does.
+/// A legal step leaves no translation of any vCPU that leads where it may not: neither its mark nor its act does.
 pub fn a_legal_step_keeps_translations_fresh()
     ensures marks { KeepsMark Fresh }
     ensures acts { KeepsAct Fresh }

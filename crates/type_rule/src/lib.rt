@@ -1,4 +1,4 @@
-//! Each step that is legal today keeps what entries and words of vCPUs lead to, whom they are permitted, and what holds of dead
+//! Each legal step keeps what entries and words of vCPUs lead to, whom they are permitted, and what holds of dead
 //! and dying domains. These functions do nothing: their contracts are laws.
 #![tactic(auto)]
 
