@@ -4,74 +4,36 @@ use Rattle.xp_board.specs.GuestSteps.{MayStore}
 use Rattle.count_rule.proofs.EntryMarks.{work_word}
 use Rattle.xp_board.proofs.RefWords.{is_dying-read, dying_says}
 use Rattle.xp_board.proofs.Sums.{some_bit, hands-part}
-use Rattle.std.proofs.Common.{◌≡◌, ◌≢◌, ℕ, ◌+◌, ◌<◌, ◌==◌, ◌&&◌, Bool, false, List, [], ◌∷◌, Option, Some, None, refl, sym, ◌∙◌, ap, subst, arith, IsTrue, inl, inr}
-use Rattle.std.proofs.lemmas.Bool.{cases_eq, and_parts, or_cases}
+use Rattle.std.proofs.Common.{◌≡◌, ◌≢◌, ℕ, ◌+◌, ◌<◌, ◌==◌, ◌&&◌, false, [], Option, Some, None, refl, sym, ◌∙◌, ap, subst, arith, IsTrue, inl, inr}
+use Rattle.std.proofs.lemmas.Bool.{and_parts}
 use Rattle.std.proofs.lemmas.Bool.Decides.{nat_tests}
 use Rattle.xp_words.specs.declared.kind.PageType.{PageType}
-use Rattle.xp_words.specs.Entries.{demand_at}
 use Rattle.xp_words.specs.PageTypes.{is_table, type_number}
 use Rattle.xp_words.specs.Machine.{Machine}
 use Rattle.xp_words.specs.Places.{sizes_of, is_place, Place, Kind, Cell, Refs}
 use Rattle.xp_board.specs.declared.holdings.Holdings.{Holdings}
-use Rattle.xp_board.specs.declared.holdings.Seen.{Seen}
 use Rattle.xp_board.specs.declared.holdings.Claimed.{Claimed}
 use Rattle.xp_board.specs.declared.holdings.Work.{Work}
-use Rattle.xp_board.specs.declared.step.Item.{Item}
 use Rattle.xp_board.specs.declared.step.Step.{Step}
-use Rattle.xp_board.specs.Lists.{Member, some_of}
 use Rattle.xp_board.specs.Readings.{kind_at, is_dying}
-use Rattle.xp_board.specs.Steps.{last_since}
 use Rattle.xp_board.specs.Hands.{claim_of, work_on, endings_of, claims_of}
-use Rattle.xp_board.specs.Recorded.{held, HasType}
-use Rattle.xp_board.specs.CellSteps.{is_same_as_seen, AllowsPlain}
-use Rattle.xp_board.specs.Found.{LockFound, is_same_entry}
-use Rattle.xp_board.specs.WellFormed.{IsLockFormed}
+use Rattle.xp_board.specs.Recorded.{held}
+use Rattle.xp_board.specs.CellSteps.{AllowsPlain}
+use Rattle.xp_board.specs.Found.{is_same_entry}
 use Rattle.xp_board.specs.Reach.{Writes, Reach, cached, use_of}
 use Rattle.xp_board.specs.Keeping.{MayAct}
 use Rattle.xp_board.specs.Sound.{Sound, Spelled}
 use Rattle.xp_board.proofs.ActEffects.{Rewrote, Filled, GuestStored, Touched}
-use Rattle.xp_board.proofs.ListCounts.{EachOf-found}
-use Rattle.xp_board.proofs.HandLists.{first-some}
+use Rattle.xp_board.proofs.HandLists.{first-some, some_of-member}
 use Rattle.count_rule.proofs.Learning.{kept_noted, kept_cell, same_hand}
 use Rattle.count_rule.proofs.SpelledLaw.{wrote_spelled}
-use Rattle.xp_board.proofs.EntryWords.{entry_asks_same, same_demand, touched_same}
+use Rattle.xp_board.proofs.EntryWords.{entry_asks_same, touched_same}
 use Rattle.count_rule.proofs.WalkHands.{same_descended, cold_descended}
 use Rattle.xp_board.proofs.Recordless.{marked_none, unreferenced_none}
 use Rattle.xp_board.proofs.HeldByForm.{no_table}
 use Rattle.count_rule.proofs.CellLaw.{cell_outcome}
 use Rattle.count_rule.proofs.Outcome.{Outcome}
-
--- what was noted of a cell asks the same as the new word
-record SeenAs (kind : PageType) (i new : ℕ) (seen : Option Seen) : Type 0 where
-  word : ℕ
-  here : seen ≡ Some (record { index = i; word = word })
-  same : demand_at kind i word ≡ demand_at kind i new
-
-not_there : (kind : PageType) (i new : ℕ) (x : Seen) → x.index ≢ i → IsTrue (is_same_as_seen kind i new (Some x)) → ⊥
-not_there kind i new x off k = grind (arith, nat_tests)
-
-seen_as : (kind : PageType) (i new : ℕ) (seen : Option Seen) → IsTrue (is_same_as_seen kind i new seen) → SeenAs kind i new seen
-seen_as kind i new None k = absurd (cc)
-seen_as kind i new (Some x) k =
-    elim (cases_eq x.index i) [
-      | inl at ↦
-          record {
-            word = x.word;
-            here = ap (λ y. Some (record { index = y; word = x.word })) at;
-            same = same_demand (demand_at kind i x.word) (demand_at kind i new) (grind (arith, nat_tests));
-          }
-      | inr off ↦ absurd (not_there kind i new x off k)
-    ]
-
--- ---- the item that the guest stores through
-some_item : (test : Item → Bool) (xs : List Item) → IsTrue (some_of test xs) → (x : Item) × Member x xs × IsTrue (test x)
-unfolding some_of Member
-some_item test [] k = absurd (cc)
-some_item test (x ∷ xs) k =
-    elim (or_cases (test x) (some_of test xs) k) [
-      | inl here ↦ (x, inl refl, here)
-      | inr there ↦ let rest = some_item test xs there in (rest.0, inr rest.1, rest.2)
-    ]
+use Rattle.xp_board.proofs.LockFacts.{lock_facts, rewritten_same}
 
 not_seven : (t : PageType) → type_number t ≡ 7 → is_table t ≡ false
 not_seven t e = grind (arith, nat_tests)
@@ -79,18 +41,7 @@ not_seven t e = grind (arith, nat_tests)
 module _ (n : Machine) (s : ℕ) (x : Step) (m m2 : Place → ℕ) (b c : ℕ → Holdings) (seat : s < (sizes_of n).vcpus) (others : (t : ℕ) → t ≢ s → c t ≡ b t) (may : MayAct n s x (b s)) (sound : Sound n m b) (f i : ℕ) where
   pub rewrote_outcome : Rewrote n x f i m m2 (b s) (c s) → Outcome n m2 c
   rewrote_outcome d =
-      let e = d.e in
-      let found = EachOf-found (LockFound (sizes_of n) m (b s)) (λ y. y.frame) f (b s).locks e d.here (sound.found s seat).locks in
-      let formed = EachOf-found (IsLockFormed n (b s)) (λ y. y.frame) f (b s).locks e d.here (sound.formed s seat).locks in
-      let typed = EachOf-found (λ y. HasType m y.frame (Some y.kind)) (λ y. y.frame) f (b s).locks e d.here (sound.counts.kinds.locks s seat) in
-      let seen = seen_as e.kind i (m2 (Cell f i)) e.seen d.same in
-      let noted : last_since (sizes_of n) e.since (Cell e.frame i) (b s).steps ≡ Some seen.word = rw seen.here at formed.1.seen in
-      let cell = found.1 i seen.word noted in
-      let stands = entry_asks_same e.kind i (m (Cell e.frame i)) seen.word cell in
-      let kind : (kind_at m f).kind ≡ e.kind = ap (λ y. (kind_at m y).kind) (sym found.0) ∙ typed.1 in
-      let same : demand_at (kind_at m f).kind i (m2 (Cell f i)) ≡ demand_at (kind_at m f).kind i (m (Cell f i)) =
-      ap (λ y. demand_at y i (m2 (Cell f i))) kind ∙ sym seen.same ∙ sym stands ∙ ap (λ y. demand_at e.kind i (m (Cell y i))) found.0 ∙ ap (λ y. demand_at y i (m (Cell f i))) (sym kind)
-      in
+      let same = rewritten_same n m b s f i (m2 (Cell f i)) d.e (lock_facts n m b s f d.e sound seat d.here) d.same in
       cell_outcome n s m m2 b c seat others sound f i d.wrote.others (λ l. same)
       (kept_noted x (m (Cell f i)) (b s) _ (c s) d.hand (kept_cell f i (m2 (Cell f i)) (b s) (b s) (same_hand (b s)))) (d.wrote.running refl) (ap (λ u. u.cold) d.hand)
       (λ k e. ap (λ u. u.cache) d.hand ∙ e) (λ k e. ap (λ u. u.walk) d.hand ∙ e)
@@ -119,7 +70,7 @@ module _ (n : Machine) (s : ℕ) (x : Step) (m m2 : Place → ℕ) (b c : ℕ �
 
   written_none : IsTrue (is_place (sizes_of n) (Cell f i)) → MayStore f (b s) → held (sizes_of n) m b f ≡ 0
   written_none real store =
-      let item = some_item (λ y. (y.frame == f) && y.writable) (b s).cache store.item in
+      let item = some_of-member (λ y. (y.frame == f) && y.writable) (b s).cache store.item in
       let parts = and_parts (item.0.frame == f) item.0.writable item.2 in
       let frame : item.0.frame ≡ f = grind (arith, nat_tests) in
       let purpose : use_of item.0 ≡ Writes = rw parts.1 refl in

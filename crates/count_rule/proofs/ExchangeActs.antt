@@ -21,16 +21,13 @@ use Rattle.xp_board.specs.Readings.{kind_at, is_locked}
 use Rattle.xp_board.specs.Hands.{refs_to, typed_to, locks_on, hand, typed_hand}
 use Rattle.xp_board.specs.Recorded.{work_of, names, names_typed, entries, held, entry_demand, HasType, TypesAgree}
 use Rattle.xp_board.specs.Settling.{demand_in, demand_out}
-use Rattle.xp_board.specs.WellFormed.{IsLockFormed}
 use Rattle.xp_board.specs.Keeping.{MayAct}
 use Rattle.xp_board.specs.Sound.{is_busy, Sound}
 use Rattle.xp_board.proofs.ActEffects.{Exchanged}
 use Rattle.xp_board.proofs.PlaceTests.{same_or_other}
-use Rattle.xp_board.proofs.ListCounts.{EachOf-found}
-use Rattle.xp_board.proofs.HandLists.{first-some, EachOf-map}
+use Rattle.xp_board.proofs.HandLists.{EachOf-map}
 use Rattle.count_rule.proofs.Twins.{EachTwo, EachTwo-each, SameWork, SameLock, SameClaim, recorded_in-same}
 use Rattle.xp_board.proofs.Works.{held_free}
-use Rattle.xp_board.proofs.Sums.{some_bit, hands-part}
 use Rattle.xp_board.proofs.Counted.{entries-one, table_entries-changed, contexts-same}
 use Rattle.count_rule.proofs.CountLaw.{each_seat}
 use Rattle.count_rule.proofs.PartLaws.{stamped_by, idle_running}
@@ -43,6 +40,7 @@ use Rattle.count_rule.proofs.SpelledLaw.{wrote_spelled}
 use Rattle.count_rule.proofs.Outcome.{Outcome, runs}
 use Rattle.count_rule.proofs.HandLaw.{HandMove, hand_outcome}
 use Rattle.xp_board.proofs.HandParts.{Beside, Translations, beside_then, translations_then, beside_out, beside_in, translations_out, translations_in}
+use Rattle.xp_board.proofs.LockFacts.{Locks, lock_facts}
 
 locked_free : (k : KindWord) → has_form k ≡ true → is_locked k ≡ true → is_busy k ≡ false
 unfolding has_form
@@ -72,26 +70,19 @@ module _ (n : Machine) (s : ℕ) (x : Step) (m m2 : Place → ℕ) (b c : ℕ �
   place_real = let real = d.wrote.real in (grind (arith, nat_tests), grind (arith, nat_tests), grind (arith, nat_tests))
 
   -- the table is live, and all of it is recorded
-  lock_typed : (d.e.frame ≡ f) × HasType m d.e.frame (Some d.e.kind)
-  lock_typed = EachOf-found (λ y. HasType m y.frame (Some y.kind)) (λ y. y.frame) f (b s).locks d.e d.here (sound.counts.kinds.locks s seat)
+  facts : Locks n m b s f d.e
+  facts = lock_facts n m b s f d.e sound seat d.here
 
   kind_is : (kind_at m f).kind ≡ d.e.kind
-  kind_is = ap (λ y. (kind_at m y).kind) (sym lock_typed.0) ∙ lock_typed.1
-
-  table_is : IsTrue (is_table d.e.kind)
-  table_is = (EachOf-found (IsLockFormed n (b s)) (λ y. y.frame) f (b s).locks d.e d.here (sound.formed s seat).locks).1.table
+  kind_is = facts.kind
 
   locked : is_locked (kind_at m f) ≡ true
-  locked =
-      let some = first-some (λ y. y.frame) f d.e (b s).locks d.here in
-      let all = sound.alone.locks f in
-      let part = hands-part (λ u. locks_on f u.locks) (sizes_of n) b s seat in
-      some_bit (is_locked (kind_at m f)) (omega arith)
+  locked = facts.locked
 
   all_held : held (sizes_of n) m b f ≡ 512
   all_held =
       let live = (and_parts _ _ locked).0 in
-      let table : IsTrue (is_table (kind_at m f).kind) = rw kind_is table_is in
+      let table : IsTrue (is_table (kind_at m f).kind) = facts.table in
       held_free n m b sound.alone f (locked_free (kind_at m f) (form_was n s m m2 b seat sound f place_real.0) locked) ∙ held_live (kind_at m f) live ∙ (rw table refl)
 
   old_is : entry_demand m f i ≡ old

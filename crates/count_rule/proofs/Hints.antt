@@ -1,6 +1,6 @@
 -- A bit of the free map is set or cleared.
 use Rattle.std.proofs.Common.{◌≡◌, ℕ, ◌+◌, ◌-◌, ◌%◌, ◌^◌, ◌/◌, ◌<◌, ◌==◌, ◌⊎◌, ◌++◌, map, Bool, true, false, List, [], ◌∷◌, Option, Some, None, refl, sym, ◌∙◌, ap, arith, inl, inr}
-use Rattle.std.proofs.lemmas.Bool.{cases_eq, and_parts}
+use Rattle.std.proofs.lemmas.Bool.{cases_eq, and_parts, cases_Bool}
 use Rattle.std.proofs.lemmas.Bool.Decides.{nat_tests}
 use Rattle.xp_board.specs.declared.holdings.Holdings.{Holdings}
 use Rattle.xp_board.specs.Lists.{one_at, times, times_by, first_of, without_by}
@@ -12,16 +12,12 @@ use Rattle.count_rule.proofs.Bits.{pow_same}
 equal_by : (x y : ℕ) → (x == y) ≡ true → x ≡ y
 equal_by x y e = grind (arith, nat_tests)
 
-either_way : (t : Bool) → (t ≡ true) ⊎ (t ≡ false)
-either_way true = inl refl
-either_way false = inr refl
-
 -- ---- searches
 found_of : (test : ℕ → Bool) (xs : List ℕ) (g : ℕ) → first_of test xs ≡ Some g → (test g ≡ true) × (0 < times g xs)
 unfolding first_of times_by
 found_of test [] g e = absurd (cc)
 found_of test (x ∷ xs) g e =
-    elim (either_way (test x)) [
+    elim (cases_Bool (test x)) [
       | inl at ↦
           let k : Some x ≡ Some g = rw at at e in
           let i : x ≡ g = cc in
@@ -34,7 +30,7 @@ none_of : (test : ℕ → Bool) (xs : List ℕ) (g : ℕ) → first_of test xs �
 unfolding first_of times_by
 none_of test [] g e k = absurd (omega arith)
 none_of test (x ∷ xs) g e k =
-    elim (either_way (test x)) [
+    elim (cases_Bool (test x)) [
       | inl at ↦ let n : Some x ≡ None = rw at at e in absurd (cc)
       | inr off ↦
           elim (cases_eq x g) [

@@ -8,12 +8,13 @@ use Rattle.xp_board.specs.Knowledge.{knows_owner, knows_live, knows_partial}
 use Rattle.xp_board.specs.Hands.{empty, works_on, locks_on, endings_of, claims_of}
 use Rattle.xp_board.specs.Reach.{Use, Reach, cached, walked, entry}
 use Rattle.xp_board.specs.Fresh.{Fresh}
-use Rattle.xp_board.specs.Found.{Found, OwnFound}
+use Rattle.xp_board.specs.Found.{Found}
 use Rattle.xp_board.specs.Sound.{HeldAlone, Stamped, Idle, Domains}
 use Rattle.trace_text.specs.declared.trace.Trace.{Trace}
 use Rattle.opening_rule.proofs.Words.{Opens, life_word, flushed_word}
 use Rattle.opening_rule.proofs.Readings.{kind_is, not_dying, stamp_zero, kind_stamp_zero}
 use Rattle.opening_rule.proofs.Counts.{hands_none}
+use Rattle.xp_board.proofs.Empty.{empty_own_found}
 
 -- ---- each frame in no hand
 works_none : (f : ℕ) → works_on f empty.works ≡ 0
@@ -52,10 +53,6 @@ module _ (t : Trace) (m : Place → ℕ) (o : Opens t m) where
         dying = λ d s b c e. (let z = life_word t m o d in absurd (omega arith));
       }
 
--- ---- nothing found
-found_own : (m : Place → ℕ) (s : ℕ) → OwnFound m s empty
-found_own m s = record { run = λ w e. absurd (cc); old0 = λ w n e. absurd (cc); old1 = λ w n e. absurd (cc) }
-
 pub found_open : (n : Machine) (m : Place → ℕ) (s : ℕ) → Found n m (λ s. empty) s
 unfolding EachOf EachStep steps_before knows_owner knows_live knows_partial some_of
 found_open n m s =
@@ -75,7 +72,7 @@ found_open n m s =
       endings = tt;
       claims = tt;
       privileges = λ d o b. tt;
-      own = found_own m s;
+      own = empty_own_found m s;
     }
 
 -- ---- idle

@@ -16,7 +16,8 @@ use Rattle.machine_build.specs.Opening.{has_frame, has_cell, refs_in, reference_
 use Rattle.machine_build.proofs.MapLaws.{map_word-lt}
 use Rattle.machine_build.proofs.RefLaws.{reads_as, kind_reads_as}
 use Rattle.opening_rule.proofs.Bounds.{BelowIn, found_below, found_value, values_turned, free_bits_few, priv_word}
-use Rattle.opening_rule.proofs.Words.{Opens, is_there}
+use Rattle.opening_rule.proofs.Words.{Opens}
+use Rattle.std.proofs.lemmas.Bool.{cases_Bool}
 
 -- ---- reference words
 ref_small : (x : Option Own) → BelowIn 16 x → refs_in x < 2 ^ 64
@@ -58,7 +59,7 @@ module _ (t : Trace) (w : IsWellFormed t) where
   unfolding opening_at
   vcpu_spelled v k =
       let small = w.clock in
-      elim (is_there (k == 5)) [
+      elim (cases_Bool (k == 5)) [
         | inl e ↦ let at : k ≡ 5 = grind (arith, nat_tests) in rw e (omega arith, rw at (flushed_spelled t.layout t.clock))
         | inr e ↦ rw e (lit< tt, vcpu_zero t.layout k)
       ]
@@ -99,7 +100,7 @@ module _ (t : Trace) (w : IsWellFormed t) where
 pub spelled_open : (t : Trace) (m : Place → ℕ) → Opens t m → Spelled t.layout m
 spelled_open t m o =
     record {
-      small = λ p. elim (is_there (is_place (sizes_of t.layout) p)) [
+      small = λ p. elim (cases_Bool (is_place (sizes_of t.layout) p)) [
         | inl e ↦ rw (o.inside p e) (word_small t o.formed p e)
         | inr e ↦ rw (o.outside p e) (lit< tt)
       ];

@@ -8,6 +8,7 @@ use Rattle.trace_text.specs.declared.trace.Trace.{Trace}
 use Rattle.trace_text.specs.WellFormed.{IsWellFormed}
 use Rattle.machine_build.specs.Opening.{IsOpening, has_frame, refs_in, reference_in, opening_at}
 use Rattle.machine_build.proofs.RefLaws.{reads_as}
+use Rattle.std.proofs.lemmas.Bool.{cases_Bool}
 
 -- ---- inside and outside
 pub record Opens (t : Trace) (m : Place → ℕ) : Type 0 where
@@ -22,14 +23,10 @@ nothing_outside z words p e = rw e refl
 pub opens : (t : Trace) (words : List ℕ) → IsWellFormed t → IsOpening t words → Opens t (memory (sizes_of t.layout) words)
 opens t words w o = record { formed = w; inside = o.places; outside = λ p e. nothing_outside (sizes_of t.layout) words p e }
 
-pub is_there : (b : Bool) → (b ≡ true) ⊎ (b ≡ false)
-is_there true = inl refl
-is_there false = inr refl
-
 -- a word that the machine has or has not
 word_at : (t : Trace) (m : Place → ℕ) → Opens t m → (p : Place) → (m p ≡ opening_at t p) ⊎ (m p ≡ 0)
 word_at t m o p =
-    elim (is_there (is_place (sizes_of t.layout) p)) [
+    elim (cases_Bool (is_place (sizes_of t.layout) p)) [
       | inl e ↦ inl (o.inside p e)
       | inr e ↦ inr (o.outside p e)
     ]
@@ -89,7 +86,7 @@ module _ (t : Trace) (m : Place → ℕ) (o : Opens t m) where
   pub refs_word : (f : ℕ) → m (Refs f) ≡ refs_in (find (has_frame f) t.owned)
   unfolding opening_at is_place ref_write
   refs_word f =
-      elim (is_there (nat_lt f t.layout.frames)) [
+      elim (cases_Bool (nat_lt f t.layout.frames)) [
         | inl e ↦ o.inside (Refs f) e
         | inr e ↦
             let past : t.layout.frames ≤ f = grind (arith, nat_tests) in

@@ -12,10 +12,11 @@ use Rattle.xp_board.specs.Knowledge.{knows_owner, knows_live, knows_partial}
 use Rattle.xp_board.specs.Valid.{LeadsWell, Valid, Permitted}
 use Rattle.xp_board.specs.Reach.{Use, Reach, cached, walked, entry}
 use Rattle.xp_board.specs.Fresh.{Fresh}
-use Rattle.xp_board.specs.Found.{Found, OwnFound}
+use Rattle.xp_board.specs.Found.{Found}
 use Rattle.xp_board.specs.WellFormed.{WellFormed}
 use Rattle.xp_board.specs.Sound.{WorkAgrees, Idle, KeptForNobody, DeadDomain, DyingDomain, Domains, Sound, SoundState, SoundWords, seat_of}
 use Rattle.sound_rule.proofs.RestCounts.{IsRested, Nobody, held_rested, counts_rested, alone_rested, map_rested}
+use Rattle.xp_board.proofs.Empty.{empty_own_found}
 
 -- ---- an empty hand reaches nothing
 nothing_reached : {z : Sizes} {m : Place → ℕ} {g : ℕ} {u : Use} → Reach z m empty g u → ⊥
@@ -36,9 +37,6 @@ no_owner : (z : Sizes) (f o : ℕ) → IsTrue (knows_owner z f o empty) → ⊥
 unfolding knows_owner some_of
 no_owner z f o k = cc
 
-own_nobody : (m : Place → ℕ) (s : ℕ) → OwnFound m s empty
-own_nobody m s = record { run = λ w e. absurd (cc); old0 = λ w r e. absurd (cc); old1 = λ w r e. absurd (cc) }
-
 found_nobody : (n : Machine) (m : Place → ℕ) (s : ℕ) → Found n m Nobody s
 unfolding EachOf EachStep steps_before knows_live knows_partial some_of
 found_nobody n m s =
@@ -58,7 +56,7 @@ found_nobody n m s =
       endings = tt;
       claims = tt;
       privileges = λ d o b. tt;
-      own = own_nobody m s;
+      own = empty_own_found m s;
     }
 
 -- ---- it is idle

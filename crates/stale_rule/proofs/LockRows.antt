@@ -1,33 +1,23 @@
 -- Fresh after a store into an entry of a table under the own lock.
-use Rattle.std.proofs.Common.{◌≡◌, ℕ, ◌<◌, ◌==◌, ◌||◌, inl, inr, Bool, true, false, length, refl, sym, ◌∙◌, ap, subst, arith, IsTrue, if◌then◌else◌, Option, Some, None}
-use Rattle.std.proofs.lemmas.Bool.Decides.{nat_tests}
+use Rattle.std.proofs.Common.{◌≡◌, ℕ, ◌<◌, ◌||◌, inl, inr, Bool, true, false, refl, sym, ◌∙◌, ap, subst, arith, IsTrue, if◌then◌else◌, Option, Some}
 use Rattle.std.proofs.lemmas.Bool.{or_left}
 use Rattle.xp_words.specs.declared.kind.PageType.{PageType}
-use Rattle.xp_words.specs.declared.refs.RefWord.{RefWord}
-use Rattle.xp_words.specs.declared.refs.RefWord.TheVariants.{Free, Owned, Dying}
 use Rattle.xp_words.specs.declared.entry.Demand.{Demand}
 use Rattle.xp_words.specs.declared.entry.Demand.TheVariants.{Nothing, Bad, Read, Typed}
-use Rattle.xp_words.specs.RefWords.{ref_read}
 use Rattle.xp_words.specs.Entries.{demand_at}
 use Rattle.xp_words.specs.Machine.{Machine}
-use Rattle.xp_words.specs.Places.{sizes_of, is_place, Place, Refs, Cell, Priv}
+use Rattle.xp_words.specs.Places.{sizes_of, Place, Refs, Cell, Priv}
 use Rattle.xp_board.specs.declared.step.Step.{Step}
 use Rattle.xp_board.specs.declared.step.StepKind.TheVariants as steps
 use Rattle.xp_board.specs.declared.holdings.Lock.{Lock}
-use Rattle.xp_board.specs.declared.holdings.Seen.{Seen}
 use Rattle.xp_board.specs.declared.holdings.Holdings.{Holdings}
 use Rattle.xp_board.specs.Steps.{some_since}
-use Rattle.xp_board.specs.Readings.{kind_at, is_locked, ref_count, owner_in, owner_of, domain_of, has_now, has_ever}
+use Rattle.xp_board.specs.Readings.{kind_at, ref_count, owner_of, domain_of, has_now, has_ever}
 use Rattle.xp_board.specs.Hands.{refs_to, typed_to, lock_on, hand, typed_hand}
-use Rattle.xp_board.specs.Recorded.{entry_demand}
 use Rattle.xp_board.specs.Settling.{HasDemand, OwnersMeet}
-use Rattle.xp_board.specs.CellSteps.{is_same_as_seen, is_same_demand}
-use Rattle.xp_board.specs.Found.{LockFound, is_same_entry}
-use Rattle.xp_board.specs.WellFormed.{SeenIs}
 use Rattle.xp_board.specs.After.{noted}
 use Rattle.xp_board.specs.FillSteps.{is_walked}
 use Rattle.xp_board.specs.Valid.{PermitsOwner, EntryPermitted}
-use Rattle.xp_board.specs.Spelling.{IsSpelling, is_ref_in}
 use Rattle.xp_board.specs.Reach.{Table, cached, walked}
 use Rattle.xp_board.specs.Fresh.{Fresh}
 use Rattle.xp_board.specs.Keeping.{Acted}
@@ -37,23 +27,11 @@ use Rattle.stale_rule.proofs.CameFresh.{Came, came_fresh, reach_level, live_matc
 use Rattle.stale_rule.proofs.CellLaw.{written_law}
 use Rattle.stale_rule.proofs.KindRows.{counted_here}
 use Rattle.stale_rule.proofs.Like.{HandStays, then_stays, cell_stays, in_stays, out_stays}
-use Rattle.xp_board.proofs.HandLists.{EachOf-first, first-key, first-some}
 use Rattle.stale_rule.proofs.Past.{since_each, since_later}
 use Rattle.stale_rule.proofs.Served.{Served, AsksWell, typed_counted, target_served, served_owner, not_reads, recorded_well}
 use Rattle.xp_board.proofs.Sums.{hands-part}
-use Rattle.xp_board.proofs.EntryWords.{entry_asks_same, same_demand}
-use Rattle.xp_board.proofs.Works.{is_locked-mine}
-
--- ---- owners
-owner_few : (n : Machine) (r : Option RefWord) (o : ℕ) → IsTrue (is_ref_in n r) → owner_in r ≡ Some o → o < length n.page_limit
-owner_few n (Some (Owned owner allocated count)) o t e = let k : owner ≡ o = cc in grind (arith, nat_tests)
-owner_few n (Some (Dying owner)) o t e = let k : owner ≡ o = cc in grind (arith, nat_tests)
-owner_few n (Some (Free stamp)) o t e = absurd (cc)
-owner_few n None o t e = absurd (cc)
-
-zero_free : (o : ℕ) → owner_of 0 ≡ Some o → ⊥
-unfolding owner_of ref_read
-zero_free o e = absurd (cc)
+use Rattle.xp_board.proofs.RefWords.{owner_few}
+use Rattle.xp_board.proofs.LockFacts.{lock_facts, rewritten_same}
 
 some_is : (x y : ℕ) (o : Option ℕ) → o ≡ Some x → o ≡ Some y → x ≡ y
 some_is x y o a b = let e : Some x ≡ Some y = sym a ∙ b in cc
@@ -63,14 +41,6 @@ when_on true b t = (refl, t)
 when_on false b t = absurd (cc)
 
 module _ (n : Machine) (s : ℕ) (m : Place → ℕ) (b : ℕ → Holdings) (real : s < (sizes_of n).vcpus) (sound : Sound n m b) where
-  owner_by : (g o : ℕ) (t : Bool) → is_place (sizes_of n) (Refs g) ≡ t → owner_of (m (Refs g)) ≡ Some o → o < length n.page_limit
-  unfolding owner_of IsSpelling
-  owner_by g o true e own = owner_few n (ref_read (m (Refs g))) o (sound.spelled.spelled (Refs g) e) own
-  owner_by g o false e own = absurd (zero_free o (subst (λ w. owner_of w ≡ Some o) (sound.spelled.outside (Refs g) e) own))
-
-  owner_below : (g o : ℕ) → owner_of (m (Refs g)) ≡ Some o → o < 16
-  owner_below g o own = let few = sound.machine.few_domains in let k = owner_by g o (is_place (sizes_of n) (Refs g)) refl own in omega arith
-
   -- ---- a demand in hand
   ever_had : (t o since : ℕ) → o < 16 → IsTrue (some_since (sizes_of n) since (Priv t) (has_now o) (b s).steps) → IsTrue (has_ever o (m (Priv t)))
   ever_had t o since few told =
@@ -89,7 +59,7 @@ module _ (n : Machine) (s : ℕ) (m : Place → ℕ) (b : ℕ → Holdings) (rea
             inr (
               lowest.0,
               subst (λ o. PermitsOwner m d o) (sym frame)
-                  (inr (subst (λ k. IsTrue (has_ever may.frame (m (Priv k)))) same (ever_had may.table may.frame _ (owner_below g may.frame frame) lowest.1))),
+                  (inr (subst (λ k. IsTrue (has_ever may.frame (m (Priv k)))) same (ever_had may.table may.frame _ (owner_few n m b g may.frame sound frame) lowest.1))),
             )
       ]
 
@@ -115,12 +85,11 @@ module _ (n : Machine) (s : ℕ) (m : Place → ℕ) (b : ℕ → Holdings) (rea
       ((kind_at m f).validated ≡ true) × (0 < (kind_at m f).number) × ((kind_at m f).kind ≡ e.kind) × (e.frame ≡ f)
   unfolding typed_hand
   locked_live f e here =
-      let held = first-some (λ y. y.frame) f e (b s).locks here in
-      let at = first-key (λ y. y.frame) f e (b s).locks here in
-      let locked : is_locked (kind_at m f) ≡ true = is_locked-mine n m b sound.alone f s real held in
+      let k = lock_facts n m b s f e sound real here in
+      let locked = k.locked in
+      let some = k.some in
       let live : (kind_at m f).validated ≡ true = grind arith in
-      let type = EachOf-first _ (λ y. y.frame) f e (b s).locks (sound.counts.kinds.locks s real) here in
-      (live, counted_here n s m b real sound f live (omega arith), subst (λ g. (kind_at m g).kind ≡ e.kind) at type, at)
+      (live, counted_here n s m b real sound f live (omega arith), k.kind, k.frame)
 
   -- a live and counted table that is come to serves
   table_served : (v level f : ℕ) → v < (sizes_of n).vcpus → (kind_at m f).validated ≡ true → 0 < (kind_at m f).number → Came n m b v f (Table level) →
@@ -136,17 +105,6 @@ module _ (n : Machine) (s : ℕ) (m : Place → ℕ) (b : ℕ → Holdings) (rea
         counted = typed_counted n m b f sound alive number;
         owner = (came_fresh n m b sound v f (Table level) live (inl r)).owner;
       }
-
-  -- ---- the entry that the seat last found or left there asks what stands there
-  seen_asks : (f i new : ℕ) (e : Lock) (o : Option Seen) → e.frame ≡ f → (kind_at m f).kind ≡ e.kind → SeenIs (sizes_of n) e.since e.frame (b s).steps o →
-      LockFound (sizes_of n) m (b s) e → IsTrue (is_same_as_seen e.kind i new o) → demand_at (kind_at m f).kind i new ≡ entry_demand m f i
-  seen_asks f i new e None at type seen found same = absurd (cc)
-  seen_asks f i new e (Some k) at type seen found same =
-      let parts = when_on (k.index == i) (is_same_demand (demand_at e.kind i k.word) (demand_at e.kind i new)) same in
-      let index : k.index ≡ i = (let t = parts.0 in grind (arith, nat_tests)) in
-      let was : IsTrue (is_same_entry (m (Cell f i)) k.word) =
-      subst (λ g. IsTrue (is_same_entry (m (Cell g i)) k.word)) at (subst (λ j. IsTrue (is_same_entry (m (Cell e.frame j)) k.word)) index (found k.index k.word seen)) in
-      subst (λ t. demand_at t i new ≡ demand_at t i (m (Cell f i))) (sym type) (sym (same_demand _ _ parts.1) ∙ sym (entry_asks_same e.kind i (m (Cell f i)) k.word was))
 
 module _ (n : Machine) (s : ℕ) (x : Step) (m m2 : Place → ℕ) (b c : ℕ → Holdings) (real : s < (sizes_of n).vcpus) (acted : Acted n s x m m2 b c) (sound : Sound n m b) where
   -- a store into an entry of a table under the own lock that asks what is there
@@ -171,9 +129,6 @@ module _ (n : Machine) (s : ℕ) (x : Step) (m m2 : Place → ℕ) (b c : ℕ �
 
   pub rewrite_row : (f i : ℕ) → Rewrote n x f i m m2 (b s) (c s) → Fresh n m2 c
   rewrite_row f i d =
-      let lock = locked_live n s m b real sound f d.e d.here in
-      let same = seen_asks n s m b real sound f i (m2 (Cell f i)) d.e d.e.seen lock.3 lock.2
-      (EachOf-first _ (λ y. y.frame) f d.e (b s).locks (sound.formed s real).locks d.here).seen
-      (EachOf-first _ (λ y. y.frame) f d.e (b s).locks (sound.found s real).locks d.here) d.same in
+      let same = rewritten_same n m b s f i (m2 (Cell f i)) d.e (lock_facts n m b s f d.e sound real d.here) d.same in
       entry_law f i d.e _ d.wrote d.here d.hand (cell_stays f i (m2 (Cell f i)) (b s))
       (λ e level served walks. subst (λ q. AsksWell m (kind_at m f).kind e q) (sym same) (recorded_well n m b sound e level f i served walks))

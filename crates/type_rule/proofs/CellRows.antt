@@ -1,38 +1,31 @@
 -- Stores into cells that ask the same as before, or that no recorded entry reads: what entries lead to stays.
-use Rattle.std.proofs.Common.{◌≡◌, ◌≢◌, ℕ, ◌<◌, ◌≤◌, ◌==◌, true, false, List, Option, Some, None, IsTrue, refl, sym, ◌∙◌, ap, subst, inl, inr, arith}
-use Rattle.std.proofs.lemmas.Bool.{cases_eq, cases_Bool}
+use Rattle.std.proofs.Common.{◌≡◌, ◌≢◌, ℕ, ◌<◌, ◌≤◌, true, false, Option, Some, None, IsTrue, refl, sym, ◌∙◌, ap, inl, inr, arith}
+use Rattle.std.proofs.lemmas.Bool.{cases_Bool}
 use Rattle.std.proofs.lemmas.Bool.Decides.{nat_tests}
 use Rattle.xp_words.specs.declared.kind.KindWord.{KindWord}
 use Rattle.xp_words.specs.declared.kind.PageType.{PageType}
 use Rattle.xp_words.specs.declared.kind.PageType.TheVariants as kinds
 use Rattle.xp_words.specs.PageTypes.{is_table, type_number}
-use Rattle.xp_words.specs.Entries.{demand_at, fixed}
+use Rattle.xp_words.specs.Entries.{fixed}
 use Rattle.xp_words.specs.KindWords.{kind_read, kind_fields}
 use Rattle.xp_words.specs.Machine.{Machine}
-use Rattle.xp_words.specs.Places.{Sizes, Place, Refs, Kind, Cell, sizes_of}
+use Rattle.xp_words.specs.Places.{Place, Refs, Kind, Cell, sizes_of}
 use Rattle.xp_board.specs.declared.step.Step.{Step}
-use Rattle.xp_board.specs.declared.holdings.Seen.{Seen}
-use Rattle.xp_board.specs.declared.holdings.Made.{Made}
 use Rattle.xp_board.specs.Spelling.{IsSpelling, is_kind_in}
 use Rattle.xp_board.proofs.FrameInversions.{fields_of}
 use Rattle.xp_board.specs.declared.holdings.Work.{Work}
 use Rattle.xp_board.specs.declared.holdings.Lock.{Lock}
 use Rattle.xp_board.specs.declared.holdings.Claimed.{Claimed}
 use Rattle.xp_board.specs.declared.holdings.Holdings.{Holdings}
-use Rattle.xp_board.specs.Steps.{last_since}
 use Rattle.xp_board.specs.Hands.{lock_on, claim_of, work_on}
 use Rattle.xp_board.specs.Readings.{kind_at, ref_count, type_count, is_live, is_work, is_closing}
-use Rattle.xp_board.specs.CellSteps.{is_same_as_seen, AllowsPlain}
-use Rattle.xp_board.specs.Found.{LockFound}
-use Rattle.xp_board.specs.WellFormed.{IsLockFormed, SeenIs}
+use Rattle.xp_board.specs.CellSteps.{AllowsPlain}
 use Rattle.xp_board.specs.After.{is_fixed}
-use Rattle.xp_board.specs.Recorded.{HasType, held}
+use Rattle.xp_board.specs.Recorded.{held}
 use Rattle.xp_board.specs.Valid.{Valid, Permitted}
 use Rattle.xp_board.specs.Sound.{Sound}
 use Rattle.xp_board.proofs.KindForms.{live_unmarked}
-use Rattle.xp_board.proofs.EntryWords.{entry_asks_same, same_demand}
 use Rattle.xp_board.proofs.ActEffects.{Rewrote, Filled}
-use Rattle.xp_board.proofs.ListCounts.{EachOf-found}
 use Rattle.xp_board.proofs.HandLists.{first-some}
 use Rattle.xp_board.proofs.Counted.{type_below}
 use Rattle.xp_board.proofs.WorkFacts.{works_facts}
@@ -40,6 +33,7 @@ use Rattle.xp_board.proofs.Recordless.{idle_held, closing_counted, closing_busy}
 use Rattle.type_rule.proofs.QuietActs.{dying_in_hand}
 use Rattle.xp_board.proofs.HeldByForm.{held_table}
 use Rattle.type_rule.proofs.CellAct.{CellAct, cell_valid, cell_permitted}
+use Rattle.xp_board.proofs.LockFacts.{lock_facts, rewritten_same}
 
 -- ---- types
 pub desc_no_table : (t : PageType) → t ≡ kinds.Desc → is_table t ≡ true → ⊥
@@ -66,25 +60,6 @@ pub read_of : (n : Machine) (f w : ℕ) → IsSpelling n (Kind f) w → kind_rea
 unfolding IsSpelling
 read_of n f w h = some_read (kind_read w) n w refl h
 
-zero_flushed : (kind_fields 0).unflushed ≡ false
-unfolding kind_fields
-zero_flushed = refl
-
--- ---- an entry that was seen
-seen_same : (t : PageType) (i new : ℕ) (o : Option Seen) → IsTrue (is_same_as_seen t i new o) → (w : ℕ) × (o ≡ Some (record { index = i; word = w })) × (demand_at t i w ≡ demand_at t i new)
-seen_same t i new None e = absurd (cc)
-seen_same t i new (Some y) e =
-    elim (cases_eq y.index i) [
-      | inl at ↦
-          (let b : (y.index == i) ≡ true = grind (arith, nat_tests) in
-          let k = rw b at e in
-          (y.word, rw at refl, same_demand (demand_at t i y.word) (demand_at t i new) k))
-      | inr off ↦ absurd (let b : (y.index == i) ≡ false = grind (arith, nat_tests) in let k = rw b at e in cc)
-    ]
-
-seen_is : (z : Sizes) (n f : ℕ) (xs : List Made) (o : Option Seen) (i w : ℕ) → SeenIs z n f xs o → o ≡ Some (record { index = i; word = w }) → last_since z n (Cell f i) xs ≡ Some w
-seen_is z n f xs o i w k at = rw at at k
-
 live_closing : (k : KindWord) → IsTrue (is_live k) → type_count k ≡ 0 → is_closing k ≡ false → ⊥
 unfolding type_count
 live_closing k live none closed = let v : k.number ≡ 0 = (let q = rw live at none in q) in let t : is_closing k ≡ true = rw (live, v) refl in cc
@@ -103,26 +78,16 @@ module _ (n : Machine) (s : ℕ) (x : Step) (m m2 : Place → ℕ) (b c : ℕ �
 
   -- ---- a table under the own lock
   pub lock_type : (f : ℕ) (e : Lock) → lock_on f (b s).locks ≡ Some e → (kind_at m f).kind ≡ e.kind
-  lock_type f e here =
-      let k = EachOf-found (λ y. HasType m y.frame (Some y.kind)) (λ y. y.frame) f (b s).locks e here (sound.counts.kinds.locks s real) in
-      rw (← k.0) k.1
+  lock_type f e here = (lock_facts n m b s f e sound real here).kind
 
   pub lock_table : (f : ℕ) (e : Lock) → lock_on f (b s).locks ≡ Some e → is_table (kind_at m f).kind ≡ true
-  lock_table f e here =
-      let k = EachOf-found (IsLockFormed n (b s)) (λ y. y.frame) f (b s).locks e here ((sound.formed s real).locks) in
-      rw (lock_type f e here) k.1.table
+  lock_table f e here = (lock_facts n m b s f e sound real here).table
 
   rewrote_act : (f i : ℕ) (d : Rewrote n x f i m m2 (b s) (c s)) →
       CellAct n s x m m2 b c real sound others f i d.wrote.others (m2 (Cell f i)) (b s) d.wrote.place d.wrote.left d.hand (record { works = refl; looking = refl; steps = refl })
   rewrote_act f i d =
-      let seen = seen_same d.e.kind i (m2 (Cell f i)) d.e.seen d.same in
-      let formed = EachOf-found (IsLockFormed n (b s)) (λ y. y.frame) f (b s).locks d.e d.here ((sound.formed s real).locks) in
-      let found = EachOf-found (LockFound (sizes_of n) m (b s)) (λ y. y.frame) f (b s).locks d.e d.here ((sound.found s real).locks) in
-      let noted : last_since (sizes_of n) d.e.since (Cell d.e.frame i) (b s).steps ≡ Some seen.0 = seen_is (sizes_of n) d.e.since d.e.frame _ d.e.seen i seen.0 formed.1.seen seen.1 in
-      let asks = entry_asks_same d.e.kind i (m (Cell d.e.frame i)) seen.0 (found.1 i seen.0 noted) in
-      let asks_f : demand_at d.e.kind i (m (Cell f i)) ≡ demand_at d.e.kind i seen.0 = subst (λ y. demand_at d.e.kind i (m (Cell y i)) ≡ demand_at d.e.kind i seen.0) formed.0 asks in
       record {
-        entry = λ l. inl (rw (lock_type f d.e d.here) (sym seen.2 ∙ sym asks_f));
+        entry = λ l. inl (rewritten_same n m b s f i (m2 (Cell f i)) d.e (lock_facts n m b s f d.e sound real d.here) d.same);
         fixed = λ live desc l. absurd (desc_no_table (kind_at m f).kind desc (lock_table f d.e d.here));
       }
 

@@ -2,7 +2,6 @@
 use Rattle.std.proofs.Common.{◌≡◌, ◌≢◌, ℕ, ◌+◌, ◌<◌, ◌≤◌, ◌==◌, ◌⊎◌, not, nat_lt, if◌then◌else◌, Bool, true, false, ◌∷◌, length, Some, IsTrue, refl, sym, ◌∙◌, ap, subst, inl, inr, arith}
 use Rattle.std.proofs.lemmas.Bool.{cases_eq, cases_Bool}
 use Rattle.std.proofs.lemmas.Bool.Decides.{nat_tests}
-use Rattle.xp_words.specs.RefWords.{ref_read}
 use Rattle.xp_words.specs.Machine.{Machine}
 use Rattle.xp_words.specs.Places.{Place, Life, Vcpu, Refs, Kind, sizes_of, is_place}
 use Rattle.xp_board.specs.declared.step.Step.{Step}
@@ -16,13 +15,10 @@ use Rattle.xp_board.proofs.ActEffects.{Doomed, Buried}
 use Rattle.xp_board.proofs.StepLists.{before_more, since_within, found_before, found_between, between_since, between_wider}
 use Rattle.type_rule.proofs.DomainLaw.{DomainChange, dead_law, dying_law, by_owner, is_one}
 use Rattle.type_rule.proofs.DomainWords.{change_by, same_words, learned_alive}
+use Rattle.xp_board.proofs.RefWords.{zero_unowned}
 
 is_next : (s w : ℕ) → (w == s + 1) ≡ true → w ≡ s + 1
 is_next s w e = grind (arith, nat_tests)
-
-none_owns : (d : ℕ) → owner_of 0 ≡ Some d → ⊥
-unfolding owner_of ref_read
-none_owns d e = cc
 
 life_steps : (t : Bool) (d : ℕ) (h : Holdings) → (if t then record h { looking = kept_of (λ e. not (e.owner == d)) h.looking } else h).steps ≡ h.steps
 life_steps true d h = refl
@@ -133,7 +129,7 @@ module _ (n : Machine) (s : ℕ) (x : Step) (m m2 : Place → ℕ) (b c : ℕ �
     owned_inside f o =
         elim (cases_Bool (nat_lt f n.frames)) [
           | inl in_it ↦ grind (arith, nat_tests)
-          | inr out ↦ absurd (let z : m (Refs f) ≡ 0 = sound.spelled.outside (Refs f) out in let q = rw z at o in none_owns d q)
+          | inr out ↦ absurd (let z : m (Refs f) ≡ 0 = sound.spelled.outside (Refs f) out in let q = rw z at o in zero_unowned d q)
         ]
 
     cleared : (f : ℕ) → owner_of (m (Refs f)) ≡ Some d → HasCleared n f may.since (b s)

@@ -1,6 +1,6 @@
 -- Stores of the guest, and bits set by a walk: what entries lead to stays.
 use Rattle.std.proofs.Common.{◌≡◌, ◌≢◌, ℕ, ◌<◌, ◌≤◌, ◌==◌, ◌&&◌, true, List, [], ◌∷◌, Option, Some, None, IsTrue, refl, sym, ◌∙◌, subst, inl, inr, arith}
-use Rattle.std.proofs.lemmas.Bool.{cases_Bool, and_parts, or_cases}
+use Rattle.std.proofs.lemmas.Bool.{cases_Bool, and_parts}
 use Rattle.std.proofs.lemmas.Bool.Decides.{nat_tests}
 use Rattle.xp_words.specs.declared.kind.PageType.{PageType}
 use Rattle.xp_words.specs.declared.kind.PageType.TheVariants as kinds
@@ -27,6 +27,7 @@ use Rattle.xp_board.proofs.HeldByForm.{held_table}
 use Rattle.type_rule.proofs.CellAct.{cell_valid, cell_permitted}
 use Rattle.type_rule.proofs.CellRows.{live_flushed, seven_no_table, seven_no_desc, level_no_desc}
 use Rattle.xp_board.proofs.Recordless.{marked_none}
+use Rattle.xp_board.proofs.HandLists.{some_of-member}
 
 -- ---- uses
 writes_used : Writes ≢ Reads
@@ -36,13 +37,10 @@ table_used : (l : ℕ) → Table l ≢ Reads
 table_used l e = cc
 
 some_item : (f : ℕ) (xs : List Item) → IsTrue (some_of (λ y. (y.frame == f) && y.writable) xs) → (y : Item) × Member y xs × (y.frame ≡ f) × (y.writable ≡ true)
-unfolding some_of Member
-some_item f [] h = absurd (cc)
-some_item f (y ∷ ys) h =
-    elim (or_cases ((y.frame == f) && y.writable) _ h) [
-      | inl here ↦ (let a = and_parts (y.frame == f) y.writable here in (y, inl refl, (let k : y.frame ≡ f = grind (arith, nat_tests) in k), a.1))
-      | inr there ↦ (let r = some_item f ys there in (r.0, inr r.1, r.2, r.3))
-    ]
+some_item f xs h =
+    let r = some_of-member (λ y. (y.frame == f) && y.writable) xs h in
+    let a = and_parts (r.0.frame == f) r.0.writable r.2 in
+    (r.0, r.1, (let k : r.0.frame ≡ f = grind (arith, nat_tests) in k), a.1)
 
 writes_of : (y : Item) → y.writable ≡ true → use_of y ≡ Writes
 writes_of y e = rw e refl

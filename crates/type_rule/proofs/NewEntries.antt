@@ -1,45 +1,21 @@
 -- An entry that a seat makes or records: it is allowed, leads well, and its owner is permitted the frame.
-use Rattle.std.proofs.Common.{◌≡◌, ℕ, ◌<◌, ◌||◌, ◌⊎◌, nat_lt, nat_le, true, length, Option, Some, None, IsTrue, refl, sym, ◌∙◌, ap, inl, inr, arith}
-use Rattle.std.proofs.lemmas.Bool.{cases_Bool, and_parts}
-use Rattle.std.proofs.lemmas.Bool.Decides.{nat_tests}
-use Rattle.xp_words.specs.declared.refs.RefWord.{RefWord}
-use Rattle.xp_words.specs.declared.refs.RefWord.TheVariants.{Free, Owned, Dying}
+use Rattle.std.proofs.Common.{◌≡◌, ℕ, ◌<◌, ◌||◌, ◌⊎◌, true, Some, IsTrue, refl, sym, ◌∙◌, ap, inl, inr}
 use Rattle.xp_words.specs.declared.kind.PageType.{PageType}
 use Rattle.xp_words.specs.declared.entry.Demand.{Demand}
 use Rattle.xp_words.specs.declared.entry.Demand.TheVariants.{Nothing, Bad, Read, Typed}
-use Rattle.xp_words.specs.RefWords.{ref_read}
 use Rattle.xp_words.specs.Entries.{is_lowest}
 use Rattle.xp_words.specs.Machine.{Machine}
-use Rattle.xp_words.specs.Places.{Place, Refs, Kind, Priv, sizes_of, is_place}
+use Rattle.xp_words.specs.Places.{Place, Refs, Kind, Priv, sizes_of}
 use Rattle.xp_board.specs.declared.holdings.Holdings.{Holdings}
 use Rattle.xp_board.specs.Steps.{some_since}
-use Rattle.xp_board.specs.Readings.{kind_at, owner_of, owner_in, has_now, has_ever}
+use Rattle.xp_board.specs.Readings.{kind_at, owner_of, has_now, has_ever}
 use Rattle.xp_board.specs.Settling.{OwnersMeet, HasDemand}
-use Rattle.xp_board.specs.Spelling.{IsSpelling, is_ref_in}
 use Rattle.xp_board.specs.Recorded.{entry_demand}
 use Rattle.xp_board.specs.Valid.{EntryPermitted}
 use Rattle.xp_board.specs.Sound.{Sound}
 use Rattle.xp_board.proofs.StepLists.{found_since}
 use Rattle.type_rule.proofs.ValidLaw.{NewEntry}
-
--- ---- owners have small numbers
-owner_in_few : (r : Option RefWord) (n : Machine) (o : ℕ) → IsTrue (is_ref_in n r) → owner_in r ≡ Some o → o < length n.page_limit
-owner_in_few None n o k e = absurd (cc)
-owner_in_few (Some (Free t)) n o k e = absurd (cc)
-owner_in_few (Some (Owned p a c)) n o k e = let q : p ≡ o = cc in let t = (and_parts (nat_lt p (length n.page_limit)) (nat_le c n.limit) k).0 in grind (arith, nat_tests)
-owner_in_few (Some (Dying p)) n o k e = let q : p ≡ o = cc in grind (arith, nat_tests)
-
-none_owns : (o : ℕ) → owner_of 0 ≡ Some o → ⊥
-unfolding owner_of ref_read
-none_owns o e = cc
-
-pub owner_few : (n : Machine) (m : Place → ℕ) (b : ℕ → Holdings) (f o : ℕ) → Sound n m b → owner_of (m (Refs f)) ≡ Some o → o < 16
-unfolding owner_of IsSpelling
-owner_few n m b f o sound e =
-    elim (cases_Bool (is_place (sizes_of n) (Refs f))) [
-      | inl there ↦ (let k = owner_in_few (ref_read (m (Refs f))) n o (sound.spelled.spelled (Refs f) there) e in let few = sound.machine.few_domains in omega arith)
-      | inr out ↦ absurd (let z : m (Refs f) ≡ 0 = sound.spelled.outside (Refs f) out in none_owns o (rw z at e))
-    ]
+use Rattle.xp_board.proofs.RefWords.{owner_few}
 
 had_by : (o w : ℕ) → has_now o w ≡ true → IsTrue (has_now o w || has_ever o w)
 had_by o w e = rw e refl

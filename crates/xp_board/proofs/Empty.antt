@@ -5,6 +5,8 @@ use Rattle.xp_board.specs.Hands.{empty}
 use Rattle.xp_board.specs.Lists.{times_by, EachOf}
 use Rattle.xp_board.specs.Steps.{last_since}
 use Rattle.xp_board.specs.WellFormed.{WellFormed, IsRaisedFormed, IsCacheFormed, IsOwnFormed}
+use Rattle.xp_board.specs.Found.{OwnFound}
+use Rattle.xp_words.specs.Places.{Place}
 
 empty_raised : IsRaisedFormed empty
 unfolding times_by
@@ -34,3 +36,6 @@ empty_formed n s =
       acked = omega arith;
       ran = omega arith;
     }
+
+pub empty_own_found : (m : Place → ℕ) (s : ℕ) → OwnFound m s empty
+empty_own_found m s = record { run = λ w e. absurd (cc); old0 = λ w n e. absurd (cc); old1 = λ w n e. absurd (cc) }

@@ -1,7 +1,8 @@
 -- Lists of a hand: what holds of each element, and how often a number stands there.
-use Rattle.std.proofs.Common.{◌≡◌, ℕ, zero, suc, ◌+◌, ◌<◌, ◌≤◌, ◌==◌, ◌⊎◌, inl, inr, Bool, true, false, List, [], ◌∷◌, take, refl, subst, arith, if◌then◌else◌, Option, Some}
+use Rattle.std.proofs.Common.{◌≡◌, ℕ, zero, suc, ◌+◌, ◌<◌, ◌≤◌, ◌==◌, ◌⊎◌, inl, inr, Bool, true, false, List, [], ◌∷◌, take, refl, subst, arith, if◌then◌else◌, Option, Some, IsTrue}
 use Rattle.std.proofs.lemmas.Bool.Decides.{nat_tests}
-use Rattle.xp_board.specs.Lists.{one_at, times_by, first_by, without_by, changed_by, kept_of, EachOf, Member}
+use Rattle.xp_board.specs.Lists.{one_at, times_by, first_by, without_by, changed_by, kept_of, EachOf, Member, some_of}
+use Rattle.std.proofs.lemmas.Bool.{or_cases}
 
 -- ---- what holds of each element
 pub EachOf-map : {A : Type 0} (P Q : A → Type 0) (xs : List A) → ((x : A) → P x → Q x) → EachOf P xs → EachOf Q xs
@@ -115,3 +116,13 @@ Member-take (suc n) y (x ∷ xs) e = elim e [
   | inl at ↦ inl at
   | inr rest ↦ inr (Member-take n y xs rest)
 ]
+
+-- where an element passes a test there is one that does
+pub some_of-member : {A : Type 0} (test : A → Bool) (xs : List A) → IsTrue (some_of test xs) → (x : A) × Member x xs × IsTrue (test x)
+unfolding some_of Member
+some_of-member test [] k = absurd (cc)
+some_of-member test (x ∷ xs) k =
+    elim (or_cases (test x) (some_of test xs) k) [
+      | inl here ↦ (x, inl refl, here)
+      | inr there ↦ let rest = some_of-member test xs there in (rest.0, inr rest.1, rest.2)
+    ]

@@ -8,6 +8,7 @@ pub mod ListChanges
 pub mod Works
 pub mod Counted
 pub mod WorkFacts
+pub mod LockFacts
 pub mod Recordless
 pub mod StepLists
 pub mod HandParts

@@ -1,5 +1,5 @@
 -- Reference words: what they say, and one up and one down.
-use Rattle.std.proofs.Common.{◌≡◌, ◌≢◌, ℕ, zero, suc, ◌+◌, ◌-◌, ◌%◌, ◌^◌, ◌<◌, ◌≤◌, Bool, true, false, length, Option, Some, None, IsTrue, refl, ◌∙◌, arith}
+use Rattle.std.proofs.Common.{◌≡◌, ◌≢◌, ℕ, zero, suc, ◌+◌, ◌-◌, ◌%◌, ◌^◌, ◌<◌, ◌≤◌, Bool, true, false, length, Option, Some, None, IsTrue, refl, ◌∙◌, arith, nat_lt, nat_le, inl, inr}
 use Rattle.std.proofs.lemmas.Bool.Decides.{nat_tests}
 use Rattle.xp_words.specs.declared.refs.RefWord.{RefWord}
 use Rattle.xp_words.specs.declared.refs.RefWord.TheVariants.{Free, Owned, Dying}
@@ -7,8 +7,12 @@ use Rattle.xp_words.specs.RefWords.{ref_read, ref_write, IsRef, bit}
 use Rattle.xp_words.specs.Machine.{Machine}
 use Rattle.xp_words.proofs.RefLaws.{ref_read-write, ref_write-read}
 use Rattle.xp_board.specs.RefSteps.{one_down}
-use Rattle.xp_board.specs.Readings.{ref_count, allocated_mark, owner_of, is_free, free_stamp, is_dying}
-use Rattle.xp_board.specs.Spelling.{is_ref_in}
+use Rattle.xp_board.specs.Readings.{ref_count, allocated_mark, owner_of, is_free, free_stamp, is_dying, owner_in}
+use Rattle.xp_board.specs.Spelling.{is_ref_in, IsSpelling}
+use Rattle.std.proofs.lemmas.Bool.{cases_Bool, and_parts}
+use Rattle.xp_words.specs.Places.{Place, Refs, sizes_of, is_place}
+use Rattle.xp_board.specs.declared.holdings.Holdings.{Holdings}
+use Rattle.xp_board.specs.Sound.{Sound}
 
 -- a word that is owned
 pub record SaysOwned (w owner : ℕ) (allocated : Bool) (count : ℕ) : Type 0 where
@@ -114,3 +118,22 @@ is_dying-read w d = dying_read w (ref_read w) refl d
 pub dying_owner : (w o d : ℕ) → w < 2 ^ 64 → ref_read w ≡ Some (Dying o) → w ≡ ref_write (Dying d) → o ≡ d
 unfolding ref_write
 dying_owner w o d b e k = let r = (ref_write-read w (Dying o) b e).1 in omega arith
+
+-- ---- owners have small numbers
+owner_in_few : (r : Option RefWord) (n : Machine) (o : ℕ) → IsTrue (is_ref_in n r) → owner_in r ≡ Some o → o < length n.page_limit
+owner_in_few None n o k e = absurd (cc)
+owner_in_few (Some (Free t)) n o k e = absurd (cc)
+owner_in_few (Some (Owned p a c)) n o k e = let q : p ≡ o = cc in let t = (and_parts (nat_lt p (length n.page_limit)) (nat_le c n.limit) k).0 in grind (arith, nat_tests)
+owner_in_few (Some (Dying p)) n o k e = let q : p ≡ o = cc in grind (arith, nat_tests)
+
+pub zero_unowned : (o : ℕ) → owner_of 0 ≡ Some o → ⊥
+unfolding owner_of ref_read
+zero_unowned o e = cc
+
+pub owner_few : (n : Machine) (m : Place → ℕ) (b : ℕ → Holdings) (f o : ℕ) → Sound n m b → owner_of (m (Refs f)) ≡ Some o → o < 16
+unfolding owner_of IsSpelling
+owner_few n m b f o sound e =
+    elim (cases_Bool (is_place (sizes_of n) (Refs f))) [
+      | inl there ↦ (let k = owner_in_few (ref_read (m (Refs f))) n o (sound.spelled.spelled (Refs f) there) e in let few = sound.machine.few_domains in omega arith)
+      | inr out ↦ absurd (let z : m (Refs f) ≡ 0 = sound.spelled.outside (Refs f) out in zero_unowned o (rw z at e))
+    ]
