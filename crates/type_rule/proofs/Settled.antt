@@ -28,7 +28,6 @@ use Rattle.xp_board.specs.Sound.{Sound}
 use Rattle.xp_board.proofs.Works.{one_seat}
 use Rattle.xp_board.proofs.HandLists.{first-some}
 use Rattle.xp_words.specs.declared.kind.PageType.TheVariants as kinds
-use Rattle.xp_board.specs.After.{noted}
 
 not_writable : (t : PageType) → is_table t ≡ true → is_type t kinds.Writable ≡ false
 not_writable kinds.None e = absurd (cc)
