@@ -4,7 +4,7 @@ use Rattle.xp_board.specs.GuestSteps.{MayStore}
 use Rattle.count_rule.proofs.EntryMarks.{work_word}
 use Rattle.xp_board.proofs.RefWords.{is_dying-read, dying_says}
 use Rattle.xp_board.proofs.Sums.{some_bit, hands-part}
-use Rattle.std.proofs.Common.{◌≡◌, ◌≢◌, ℕ, ◌+◌, ◌<◌, ◌==◌, ◌&&◌, false, [], Option, Some, None, refl, sym, ◌∙◌, ap, subst, arith, IsTrue, inl, inr}
+use Rattle.std.proofs.Common.{◌≡◌, ◌≢◌, ℕ, ◌+◌, ◌<◌, ◌==◌, ◌&&◌, false, Option, Some, None, refl, sym, ◌∙◌, ap, subst, arith, IsTrue, inl, inr}
 use Rattle.std.proofs.lemmas.Bool.{and_parts}
 use Rattle.std.proofs.lemmas.Bool.Decides.{nat_tests}
 use Rattle.xp_words.specs.declared.kind.PageType.{PageType}

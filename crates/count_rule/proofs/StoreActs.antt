@@ -194,11 +194,11 @@ module _ (n : Machine) (s : ℕ) (x : Step) (m m2 : Place → ℕ) (b c : ℕ �
       let u = noted x (m (Kind f)) (unmarked f (m2 (Kind f)) (b s)) in
       let now : (c s).works ≡ changed_work f change (b s).works = ap (λ y. y.works) d.hand in
       let refs : (c s).refs ≡ (b s).refs = ap (λ y. y.refs) d.hand in
-      let same = times-changed  (λ y. y.frame) f f change (b s).works (λ y. refl) in
+      let same = times-changed (λ y. y.frame) f f change (b s).works (λ y. refl) in
       let rest =
       rest_by n s x m m2 b c seat others may sound f u d.hand (beside n s x m m2 b c seat others may sound f u refl refl refl refl refl refl refl)
       (record { refs = λ g off. refl; typed = λ g off. refl; locks = λ g off. refl })
-      (λ g off. times-changed  (λ y. y.frame) g f change (b s).works (λ y. refl)) (recorded_changed f (b s).works u.works change (λ y. refl) refl)
+      (λ g off. times-changed (λ y. y.frame) g f change (b s).works (λ y. refl)) (recorded_changed f (b s).works u.works change (λ y. refl) refl)
       in
       let number : l.number ≡ 0 = ap (λ (y : KindWord). y.number) left in
       let stamp = stamp_of (m2 (Kind f)) l d.fields_is (work_unlive l work) in

@@ -16,6 +16,7 @@ use Rattle.xp_board.specs.Marks.{after_mark, recorded, shed, demand_seen}
 use Rattle.xp_board.specs.Legal.{Legal}
 use Rattle.xp_board.specs.Runs.{Stepped}
 use Rattle.xp_board.specs.Keeping.{MayMark, Marked, MayAct, Acted}
+use Rattle.xp_board.proofs.Sums.{if_itself}
 
 -- ---- a mark leaves the own run word as the seat knows it
 out_run : (d : Demand) (h : Holdings) → (demand_out d h).run ≡ h.run
@@ -47,10 +48,6 @@ mark_run n (Some (marks.Cut call)) h = refl
 mark_run n (Some marks.Turn) h = refl
 mark_run n (Some (marks.Walk write)) h = refl
 
--- ---- the hands between
-here_by : (s : ℕ) (y z : Holdings) → (if s == s then y else z) ≡ y
-here_by s y z = grind (arith, nat_tests)
-
 away_by : (s t : ℕ) (y z : Holdings) → t ≢ s → (if t == s then y else z) ≡ z
 away_by s t y z off = grind (arith, nat_tests)
 
@@ -61,7 +58,7 @@ module _ (n : Machine) (s : ℕ) (x : Step) (h : ℕ → Holdings) where
 
   mine : between s ≡ after_mark n x.mark (h s)
   unfolding between
-  mine = here_by s (after_mark n x.mark (h s)) (h s)
+  mine = if_itself s (after_mark n x.mark (h s)) (h s)
 
   pub marked : Marked n s x h between
   unfolding between

@@ -15,7 +15,7 @@ use Rattle.xp_words.specs.Places.{sizes_of, is_place, Place, Refs, Kind, Cell}
 use Rattle.xp_board.specs.declared.holdings.Holdings.{Holdings}
 use Rattle.xp_board.specs.FillSteps.{is_walked}
 use Rattle.xp_board.specs.Readings.{kind_at, count_in, ref_count, owner_of, is_free_in, is_free, is_dying_in, is_dying}
-use Rattle.xp_board.specs.Recorded.{names, held, entry_demand, entries}
+use Rattle.xp_board.specs.Recorded.{names, held, entry_demand}
 use Rattle.xp_board.specs.Valid.{Permits, EntryPermitted}
 use Rattle.xp_board.specs.Reach.{Use, Table, Writes, Reads, use_below}
 use Rattle.xp_board.specs.Fresh.{Belongs, Matches}

@@ -1,6 +1,5 @@
 -- Dying and dead domains: acts on words of vCPUs, on cells and on words of domains.
-use Rattle.std.proofs.Common.{◌≡◌, ◌≢◌, ℕ, ◌<◌, ◌==◌, ◌⊎◌, not, if◌then◌else◌, Bool, true, false, refl, sym, ◌∙◌, ap, subst, inl, inr, arith}
-use Rattle.std.proofs.lemmas.Bool.Decides.{nat_tests}
+use Rattle.std.proofs.Common.{◌≡◌, ◌≢◌, ℕ, ◌<◌, ◌==◌, ◌⊎◌, not, if◌then◌else◌, Bool, true, false, refl, sym, ◌∙◌, ap, subst, inl, inr}
 use Rattle.xp_words.specs.Machine.{Machine}
 use Rattle.xp_words.specs.Places.{Place, Clock, Pages, Life, Vcpu, Refs, Kind, M2p, Cell, Map, Priv, sizes_of}
 use Rattle.xp_words.specs.Entries.{demand_at}
@@ -18,9 +17,7 @@ use Rattle.xp_board.proofs.ActEffects.{Looked, Exchanged, Rewrote, Filled, Guest
 use Rattle.type_rule.proofs.HandParts.{SameTwo, two_of, three_in, three_out, three_own, three_started, three_loaded, three_descended}
 use Rattle.type_rule.proofs.DomainLaw.{DomainChange}
 use Rattle.type_rule.proofs.DomainWords.{change_by, same_words, learned_alive}
-
-pub own_if_by : (s : ℕ) (y z : Holdings) → (if s == s then y else z) ≡ y
-own_if_by s y z = grind (arith, nat_tests)
+use Rattle.xp_board.proofs.Sums.{if_itself}
 
 module _ (n : Machine) (s : ℕ) (x : Step) (m m2 : Place → ℕ) (b c : ℕ → Holdings) (real : s < (sizes_of n).vcpus) (sound : Sound n m b)
     (others : (t : ℕ) → t ≢ s → c t ≡ b t) where
@@ -136,7 +133,7 @@ module _ (n : Machine) (s : ℕ) (x : Step) (m m2 : Place → ℕ) (b c : ℕ �
   looked_change (Priv q) d = plain_load (Priv q) _ d.place d.left d.words d.hand same_two
 
   pub own_two : (k w : ℕ) (h : Holdings) → SameTwo h (learned_own k w h)
-  own_two k w h = let t = three_own s s k w w h in let e : learned s (Vcpu s k) w w h ≡ learned_own k w h = own_if_by s (learned_own k w h) h in subst (λ y. SameTwo h y) e (two_of _ _ t)
+  own_two k w h = let t = three_own s s k w w h in let e : learned s (Vcpu s k) w w h ≡ learned_own k w h = if_itself s (learned_own k w h) h in subst (λ y. SameTwo h y) e (two_of _ _ t)
 
   pub started_change : (k : ℕ) → Started n s x k m m2 (b s) (c s) → DomainChange n s x m m2 b c
   started_change k d =

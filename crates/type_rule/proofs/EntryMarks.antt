@@ -23,16 +23,15 @@ use Rattle.xp_board.specs.Settling.{HasTyped, HasLastDemand}
 use Rattle.xp_board.specs.Marks.{demand_seen, unsettled_by, seen_word}
 use Rattle.xp_board.specs.WellFormed.{SeenIs}
 use Rattle.xp_board.specs.Recorded.{held, held_of, entry_demand, recorded_in, recorded_number}
-use Rattle.xp_board.specs.Valid.{Valid, Permitted, LeadsWell, IsUnsettled}
+use Rattle.xp_board.specs.Valid.{Valid, Permitted, LeadsWell}
 use Rattle.xp_board.specs.Sound.{Sound}
 use Rattle.xp_board.proofs.MarkEffects.{Recorded, Shed}
 use Rattle.xp_board.proofs.Counted.{typed_counted}
-use Rattle.xp_board.proofs.Works.{one_seat, work_of-mine, nobody_else}
-use Rattle.xp_board.proofs.HandLists.{first-some}
+use Rattle.xp_board.proofs.Works.{work_of-mine, nobody_else}
 use Rattle.type_rule.proofs.HandParts.{three_in, three_out}
 use Rattle.xp_board.proofs.ListChanges.{first_by-changed_other, first_by-changed_here}
 use Rattle.xp_board.proofs.WorkFacts.{Works, works_facts}
-use Rattle.type_rule.proofs.Settled.{seen_asks, settled_found}
+use Rattle.type_rule.proofs.Settled.{seen_asks, settled_found, unsettled_mine}
 use Rattle.type_rule.proofs.KindRows.{unfound_yet}
 use Rattle.type_rule.proofs.KindHeld.{busy_partial}
 use Rattle.type_rule.proofs.ValidLaw.{NewEntry}
@@ -65,14 +64,6 @@ module _ (n : Machine) (s : ℕ) (m : Place → ℕ) (h b : ℕ → Holdings) (r
   held_mine u f e alone here table =
       ap (λ o. held_of (kind_at m f) o) (work_of-mine (sizes_of n).vcpus u s f real (λ t l off. ap recorded_number (alone t l off)) ∙ ap recorded_number here)
       ∙ table_count (kind_at m f) e.recorded table
-
-  -- what is unsettled of a table on which the seat works is so by this seat
-  mine : (f : ℕ) (e : Work) → Works n m h s f e → (i g : ℕ) → (u : IsUnsettled (sizes_of n) h f i g) → work_on f (h s).works ≡ Some e → (u.seat ≡ s) × (u.work ≡ e)
-  mine f e k i g u here =
-      let some = first-some (λ y. y.frame) f u.work (h u.seat).works u.here in
-      let at : u.seat ≡ s = sym (one_seat n m h sound.alone f s u.seat real u.real k.some some) in
-      let same : Some u.work ≡ Some e = sym u.here ∙ ap (λ t. work_on f (h t).works) at ∙ here in
-      (at, cc)
 
   -- ---- an entry is recorded
   module _ (f upto : ℕ) (d : Recorded n f upto (h s) (b s)) where
@@ -167,7 +158,7 @@ module _ (n : Machine) (s : ℕ) (m : Place → ℕ) (h b : ℕ → Holdings) (r
     older_leads i g t l e (inr (form, inl last)) = absurd (busy_partial (kind_at m f) k.busy last.partial)
     older_leads i g t l e (inr (form, inr u)) =
         absurd
-        (let own = mine f d.e k i g u d.may.here in
+        (let own = unsettled_mine n m h s f d.e sound real k i g u d.may.here in
         let found = settled_found n m h s f i g t d.e u.unsettled k d.may.table (rw (← own.1) u.kept) (rw (← own.1) u.last) e d.may.settled in
         let unfound : some_since (sizes_of n) u.unsettled.since (Kind g) is_live_word (h s).steps ≡ false = rw (own.0) at u.unfound in
         cc)
@@ -224,7 +215,7 @@ module _ (n : Machine) (s : ℕ) (m : Place → ℕ) (h b : ℕ → Holdings) (r
     left_leads i g t l (inr (form, inl last)) = absurd (busy_partial (kind_at m f) ks.busy last.partial)
     left_leads i g t l (inr (form, inr u)) =
         absurd
-        (let own = mine f d.e ks i g u d.may.here in
+        (let own = unsettled_mine n m h s f d.e sound real ks i g u d.may.here in
         let last : i + 1 ≡ d.e.recorded = rw (← own.1) u.last in
         let a = held_after in
         let r = d.may.last in

@@ -7,7 +7,6 @@ use Rattle.xp_words.specs.PageTypes.{is_table}
 use Rattle.xp_board.specs.Readings.{is_live, is_work, is_partial, is_dead, type_count}
 use Rattle.xp_board.specs.Recorded.{held_of}
 use Rattle.xp_board.specs.Sound.{is_busy}
-use Rattle.xp_words.specs.declared.kind.PageType.TheVariants as kinds
 
 pub live_idle : (k : KindWord) → IsTrue (is_live k) → 0 < k.number → is_busy k ≡ false
 live_idle k live some = grind (arith, nat_tests)

@@ -18,18 +18,17 @@ use Rattle.xp_board.specs.Readings.{kind_at, is_live, is_work, is_partial, is_li
 use Rattle.xp_board.specs.KindSteps.{Form, Live, Partial, InWork, Dead, after_form, made_live, made_dead}
 use Rattle.xp_board.specs.After.{is_fixed, noted}
 use Rattle.xp_board.specs.Recorded.{held, held_of, entry_demand, recorded_number}
-use Rattle.xp_board.specs.Valid.{Valid, Permitted, IsUnsettled, IsLastOfPartial, is_live_context}
+use Rattle.xp_board.specs.Valid.{Valid, Permitted, IsLastOfPartial, is_live_context}
 use Rattle.xp_board.specs.Sound.{Sound}
 use Rattle.xp_board.proofs.ActEffects.{Stored}
-use Rattle.xp_board.proofs.Works.{one_seat, nobody_else, one_works}
-use Rattle.xp_board.proofs.HandLists.{first-some}
+use Rattle.xp_board.proofs.Works.{nobody_else, one_works}
 use Rattle.type_rule.proofs.HandParts.{two_live, two_dead, three_as_typed}
 use Rattle.type_rule.proofs.Works.{WorkKeptIn, works_kept}
 use Rattle.xp_board.proofs.ListCounts.{first_by-without_other, first_by-none, times_by-without_one}
 use Rattle.xp_board.proofs.ListChanges.{first_by-changed_other, first_by-changed_here}
 use Rattle.type_rule.proofs.Counted.{entry_counted, context_counted}
 use Rattle.xp_board.proofs.WorkFacts.{Works, works_facts}
-use Rattle.type_rule.proofs.Settled.{settled_found}
+use Rattle.type_rule.proofs.Settled.{settled_found, unsettled_mine}
 use Rattle.xp_board.proofs.FormsLeft.{is_live_left, is_partial_left, is_work_left, is_dead_left}
 use Rattle.type_rule.proofs.EntryChange.{OneStep}
 use Rattle.type_rule.proofs.QuietActs.{one_by}
@@ -68,14 +67,6 @@ module _ (n : Machine) (s : ℕ) (x : Step) (m m2 : Place → ℕ) (b c : ℕ �
         let z = busy_closed (kind_at m f) k.busy (sound.valid.contexts v j f l h u e) in
         absurd (omega arith)
 
-    -- what is unsettled there is so by this seat
-    mine : (i g : ℕ) → (u : IsUnsettled (sizes_of n) b f i g) → (u.seat ≡ s) × (u.work ≡ d.e)
-    mine i g u =
-        let some = first-some (λ y. y.frame) f u.work (b u.seat).works u.here in
-        let at : u.seat ≡ s = sym (one_seat n m b sound.alone f s u.seat real u.real k.some some) in
-        let e : Some u.work ≡ Some d.e = sym u.here ∙ ap (λ t. work_on f (b t).works) at ∙ d.here in
-        (at, cc)
-
     -- what is left to show, by form
     act_of : held_of (kind_at m2 f) (recorded_number (work_on f (c s).works)) ≡ held_of (kind_at m f) (Some d.e.recorded) → (kind_at m2 f).kind ≡ (kind_at m f).kind →
         ((i g : ℕ) (t : PageType) → i < held (sizes_of n) m b g → entry_demand m g i ≡ Typed f t → IsTrue (is_work (kind_at m f)) →
@@ -96,7 +87,7 @@ module _ (n : Machine) (s : ℕ) (x : Step) (m m2 : Place → ℕ) (b c : ℕ �
             form = λ g i t l e form. forms i g t l e (busy_working (kind_at m f) k.busy form);
             last = λ i g last. absurd (busy_partial (kind_at m f) k.busy last.partial);
             unsettled = λ i g t l e u.
-                let own = mine i g u in
+                let own = unsettled_mine n m b s f d.e sound real k i g u d.here in
                 inr (inl (unsettled i g t l e u.unsettled (rw (← own.1) u.last) (rw (← own.1) u.kept) (rw (own.0) at u.unfound)));
           };
           fixed = fixed;

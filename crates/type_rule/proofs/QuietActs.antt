@@ -24,7 +24,7 @@ use Rattle.type_rule.proofs.HandParts.{SameThree, three_own, three_ran, three_st
 use Rattle.type_rule.proofs.RefWordLaws.{one_less_keeps}
 use Rattle.xp_board.proofs.Counted.{in_hand_counted}
 use Rattle.type_rule.proofs.DomainFrames.{owner_read}
-use Rattle.type_rule.proofs.DomainOthers.{own_if_by}
+use Rattle.xp_board.proofs.Sums.{if_itself}
 use Rattle.type_rule.proofs.Works.{WorkKeptIn, works_kept, cell_kept}
 use Rattle.type_rule.proofs.EntryChange.{OneStep}
 use Rattle.type_rule.proofs.ValidLaw.{OwnersStay}
@@ -111,7 +111,7 @@ module _ (n : Machine) (s : ℕ) (x : Step) (m m2 : Place → ℕ) (b c : ℕ �
   missed_quiet f d = plain_load (Kind f) _ d.place d.left d.words d.hand refl refl
 
   own_three : (k w : ℕ) (h : Holdings) → SameThree h (learned_own k w h)
-  own_three k w h = subst (λ y. SameThree h y) (own_if_by s (learned_own k w h) h) (three_own s s k w w h)
+  own_three k w h = subst (λ y. SameThree h y) (if_itself s (learned_own k w h) h) (three_own s s k w w h)
 
   pub started_quiet : (k : ℕ) → Started n s x k m m2 (b s) (c s) → QuietAct n s x m m2 b c
   started_quiet k d =

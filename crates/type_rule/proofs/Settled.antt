@@ -1,5 +1,5 @@
 -- A seat that is settled on the last recorded entry of a table in its work has found the entry's frame live.
-use Rattle.std.proofs.Common.{◌≡◌, ◌≢◌, ℕ, ◌+◌, ◌-◌, true, false, List, Option, Some, None, IsTrue, refl, sym, ◌∙◌, inl, inr, arith}
+use Rattle.std.proofs.Common.{◌≡◌, ◌≢◌, ℕ, ◌+◌, ◌-◌, true, false, List, Option, Some, None, IsTrue, refl, sym, ◌∙◌, inl, inr, arith, ◌<◌, ap}
 use Rattle.std.proofs.lemmas.Bool.{cases_Bool}
 use Rattle.xp_words.specs.declared.kind.KindWord.{KindWord}
 use Rattle.xp_words.specs.declared.kind.PageType.{PageType}
@@ -22,6 +22,12 @@ use Rattle.xp_board.specs.WellFormed.{LastIs}
 use Rattle.xp_board.specs.Settling.{settles_word, is_settled}
 use Rattle.xp_board.proofs.EntryWords.{entry_asks_same}
 use Rattle.xp_board.proofs.WorkFacts.{Works}
+use Rattle.xp_board.specs.Hands.{work_on}
+use Rattle.xp_board.specs.Valid.{IsUnsettled}
+use Rattle.xp_board.specs.Sound.{Sound}
+use Rattle.xp_board.proofs.Works.{one_seat}
+use Rattle.xp_board.proofs.HandLists.{first-some}
+use Rattle.xp_words.specs.declared.kind.PageType.TheVariants as kinds
 
 not_writable : (t : PageType) → is_table t ≡ true → is_type t kinds.Writable ≡ false
 not_writable kinds.None e = absurd (cc)
@@ -69,3 +75,12 @@ unfolding is_settled
 settled_found n m h s f i g t e u k table some last asks settled =
     let unmarked = unmarked_by (kind_fields e.word) e.recorded k.agrees.marked (λ z. absurd (omega arith)) in
     word_found n m h s f i g t e u u.word k table unmarked some refl (omega arith) asks (rw some at settled)
+
+-- what is unsettled of a table on which a seat works is so by this seat
+pub unsettled_mine : (n : Machine) (m : Place → ℕ) (h : ℕ → Holdings) (s f : ℕ) (e : Work) → Sound n m h → s < (sizes_of n).vcpus → Works n m h s f e →
+    (i g : ℕ) → (u : IsUnsettled (sizes_of n) h f i g) → work_on f (h s).works ≡ Some e → (u.seat ≡ s) × (u.work ≡ e)
+unsettled_mine n m h s f e sound real k i g u here =
+    let some = first-some (λ y. y.frame) f u.work (h u.seat).works u.here in
+    let at : u.seat ≡ s = sym (one_seat n m h sound.alone f s u.seat real u.real k.some some) in
+    let same : Some u.work ≡ Some e = sym u.here ∙ ap (λ t. work_on f (h t).works) at ∙ here in
+    (at, cc)

@@ -1,8 +1,7 @@
 -- The form of a kind word, and what it says of the word.
-use Rattle.std.proofs.Common.{◌≡◌, IsTrue, Bool, true, false, refl, if◌then◌else◌, []}
+use Rattle.std.proofs.Common.{◌≡◌, IsTrue, Bool, true, false, refl, if◌then◌else◌}
 use Rattle.xp_board.specs.KindSteps.{Form, Live, Partial, InWork, Dead, form_of}
 use Rattle.xp_board.specs.Readings.{is_live, is_partial, is_work, is_dead}
-use Rattle.xp_board.specs.declared.holdings.OwnerFound.TheVariants as owners
 use Rattle.xp_words.specs.declared.kind.KindWord.{KindWord}
 
 abbrev form_by : Bool → Bool → Bool → Form

@@ -1,9 +1,8 @@
 -- What is known of a table whose lock a seat has, and of an entry of it that is rewritten.
-use Rattle.std.proofs.Common.{◌≡◌, ℕ, ◌<◌, ◌==◌, true, false, List, Option, Some, None, IsTrue, refl, sym, ◌∙◌, ap, subst, inl, inr, arith, []}
+use Rattle.std.proofs.Common.{◌≡◌, ℕ, ◌<◌, ◌==◌, true, false, List, Option, Some, None, IsTrue, refl, sym, ◌∙◌, ap, subst, inl, inr, arith}
 use Rattle.std.proofs.lemmas.Bool.{cases_eq}
 use Rattle.std.proofs.lemmas.Bool.Decides.{nat_tests}
 use Rattle.xp_words.specs.declared.kind.PageType.{PageType}
-use Rattle.xp_words.specs.declared.kind.PageType.TheVariants as kinds
 use Rattle.xp_words.specs.PageTypes.{is_table}
 use Rattle.xp_words.specs.Entries.{demand_at}
 use Rattle.xp_words.specs.Machine.{Machine}

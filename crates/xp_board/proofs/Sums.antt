@@ -1,5 +1,5 @@
 -- Sums below a number, and sums over the hands of all seats.
-use Rattle.std.proofs.Common.{Bool, ◌≡◌, ◌≢◌, ℕ, zero, suc, ◌+◌, ◌<◌, ◌≤◌, refl, sym, ◌∙◌, ap, arith, inl, inr, ◌==◌, true, false}
+use Rattle.std.proofs.Common.{Bool, ◌≡◌, ◌≢◌, ℕ, zero, suc, ◌+◌, ◌<◌, ◌≤◌, refl, sym, ◌∙◌, ap, arith, inl, inr, ◌==◌, true, false, if◌then◌else◌}
 use Rattle.std.proofs.lemmas.Bool.{cases_eq}
 use Rattle.xp_words.specs.RefWords.{bit}
 use Rattle.xp_words.specs.Places.{Sizes}
@@ -98,6 +98,10 @@ when_eq x y e = grind (arith, nat_tests)
 
 pub when_ne : (x y : ℕ) → x ≢ y → (x == y) ≡ false
 when_ne x y n = grind (arith, nat_tests)
+
+-- where a number is tested against itself
+pub if_itself : {A : Type 0} (s : ℕ) (y z : A) → (if s == s then y else z) ≡ y
+if_itself s y z = rw (when_eq s s refl) refl
 
 pub one_at-same : (g : ℕ) → one_at g g ≡ 1
 one_at-same g = rw (when_eq g g refl)

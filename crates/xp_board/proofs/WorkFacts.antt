@@ -1,5 +1,5 @@
 -- What is known of a frame that a seat has in its works.
-use Rattle.std.proofs.Common.{◌≡◌, ℕ, ◌<◌, true, [], Some}
+use Rattle.std.proofs.Common.{◌≡◌, ℕ, ◌<◌, true, Some}
 use Rattle.xp_words.specs.Machine.{Machine}
 use Rattle.xp_words.specs.Places.{Place, Kind, sizes_of}
 use Rattle.xp_board.specs.declared.holdings.Work.{Work}
