@@ -1,5 +1,5 @@
 -- Which changes of a kind word bear the translations that its old one bore.
-use Rattle.std.proofs.Common.{◌≡◌, ◌≢◌, ℕ, ◌+◌, ◌-◌, ◌/◌, ◌%◌, ◌^◌, ◌<◌, ◌≤◌, ◌⊎◌, inl, inr, Bool, true, false, refl, ◌∙◌, ap, arith, IsTrue, if◌then◌else◌, Some}
+use Rattle.std.proofs.Common.{◌≡◌, ◌≢◌, ℕ, ◌+◌, ◌%◌, ◌^◌, ◌<◌, ◌≤◌, ◌⊎◌, inl, inr, Bool, true, false, refl, ◌∙◌, ap, arith, IsTrue, if◌then◌else◌, Some}
 use Rattle.std.proofs.lemmas.Bool.Decides.{nat_tests}
 use Rattle.xp_words.specs.declared.kind.PageType.{PageType}
 use Rattle.xp_words.specs.declared.kind.KindWord.{KindWord}
@@ -11,7 +11,7 @@ use Rattle.xp_board.specs.KindSteps.{is_stale, begun_kind, unlocked_down}
 use Rattle.xp_board.specs.Reach.{Use, Table, Writes, Reads}
 use Rattle.xp_board.specs.Fresh.{Matches, Bears}
 use Rattle.stale_rule.proofs.Came.{IsLevel}
-use Rattle.xp_board.proofs.KindForms.{form_unlive, form_read}
+use Rattle.xp_board.proofs.KindForms.{fields_down, fields_unlocked, live_form}
 
 -- ---- types
 matches_number : (s t : PageType) (u : Use) → type_number t ≡ type_number s → Matches s u → Matches t u
@@ -76,11 +76,7 @@ bears_dead flushed k l u kind mark stamp old =
 
 -- a live word is not marked
 pub read_unmarked : (w : ℕ) (l : KindWord) → kind_read w ≡ Some l → l.validated ≡ true → l.unflushed ≡ false
-read_unmarked w l e live =
-    elim l.unflushed as (λ b. l.unflushed ≡ b → b ≡ false) [
-      | true ↦ λ t. absurd (let dead = form_unlive l (form_read w l e) t in cc)
-      | false ↦ λ t. refl
-    ] refl
+read_unmarked w l e live = (live_form w l e live).flushed
 
 -- ---- one count less, of a live word
 -- what is the same of the fields
@@ -90,20 +86,11 @@ pub record OneLess (k l : KindWord) : Type 0 where
   pub validated : l.validated ≡ k.validated
 
 pub count_down : (w : ℕ) → w < 2 ^ 64 → 0 < (kind_fields w).number → OneLess (kind_fields w) (kind_fields ((w + one_down) % 2 ^ 64))
-unfolding kind_fields
 count_down w b some =
-    let less : (w + one_down) % 2 ^ 64 ≡ w - 1 = omega arith in
-    let top : (w - 1) / 2 ^ 52 ≡ w / 2 ^ 52 = omega arith in
-    let mark : (w - 1) / 2 ^ 46 % 2 ≡ w / 2 ^ 46 % 2 = omega arith in
-    let live : (w - 1) / 2 ^ 50 % 2 ≡ w / 2 ^ 50 % 2 = omega arith in
-    record { kind = rw (less, top) refl; unflushed = rw (less, mark) refl; validated = rw (less, live) refl }
+    let less = fields_down w b some in
+    record { kind = ap (λ (k : KindWord). k.kind) less; unflushed = ap (λ (k : KindWord). k.unflushed) less; validated = ap (λ (k : KindWord). k.validated) less }
 
 pub lock_down : (w : ℕ) → w < 2 ^ 64 → 0 < (kind_fields w).number → (kind_fields w).locked ≡ true → OneLess (kind_fields w) (kind_fields ((w + unlocked_down) % 2 ^ 64))
-unfolding kind_fields
 lock_down w b some locked =
-    let set : w / 2 ^ 48 % 2 ≡ 1 = grind (arith, nat_tests) in
-    let less : (w + unlocked_down) % 2 ^ 64 ≡ w - 2 ^ 48 - 1 = omega arith in
-    let top : (w - 2 ^ 48 - 1) / 2 ^ 52 ≡ w / 2 ^ 52 = omega arith in
-    let mark : (w - 2 ^ 48 - 1) / 2 ^ 46 % 2 ≡ w / 2 ^ 46 % 2 = omega arith in
-    let live : (w - 2 ^ 48 - 1) / 2 ^ 50 % 2 ≡ w / 2 ^ 50 % 2 = omega arith in
-    record { kind = rw (less, top) refl; unflushed = rw (less, mark) refl; validated = rw (less, live) refl }
+    let less = fields_unlocked w b some locked in
+    record { kind = ap (λ (k : KindWord). k.kind) less; unflushed = ap (λ (k : KindWord). k.unflushed) less; validated = ap (λ (k : KindWord). k.validated) less }

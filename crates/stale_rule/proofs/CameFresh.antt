@@ -21,7 +21,7 @@ use Rattle.stale_rule.proofs.Bearing.{bears_read}
 use Rattle.stale_rule.proofs.Came.{IsLevel, Reach-level, Reach-all}
 use Rattle.xp_board.proofs.KindForms.{live_unmarked}
 use Rattle.stale_rule.proofs.Served.{Served, counted_word, entry_served}
-use Rattle.stale_rule.proofs.Tables.{not_busy}
+use Rattle.xp_board.proofs.HeldByForm.{live_idle}
 use Rattle.xp_board.proofs.Sums.{hands-part}
 use Rattle.xp_board.proofs.Works.{nobody_works}
 
@@ -61,7 +61,7 @@ module _ (n : Machine) (m : Place → ℕ) (h : ℕ → Holdings) (sound : Sound
               ending = EachOf-none (λ e. e.frame) g _ (h s).ending (let k = none s real in omega arith);
               work = λ other.
                   EachOf-none (λ e. e.frame) g _ (h s).works
-                  (nobody_works n m h sound.alone g (not_busy (kind_at m g) (served.live other) (served.number other)) s real);
+                  (nobody_works n m h sound.alone g (live_idle (kind_at m g) (served.live other) (served.number other)) s real);
             };
       }
 

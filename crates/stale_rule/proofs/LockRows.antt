@@ -29,9 +29,9 @@ use Rattle.stale_rule.proofs.KindRows.{counted_here}
 use Rattle.stale_rule.proofs.Like.{HandStays, then_stays, cell_stays, in_stays, out_stays}
 use Rattle.stale_rule.proofs.Past.{since_each, since_later}
 use Rattle.stale_rule.proofs.Served.{Served, AsksWell, typed_counted, target_served, served_owner, not_reads, recorded_well}
-use Rattle.xp_board.proofs.Sums.{hands-part}
 use Rattle.xp_board.proofs.RefWords.{owner_few}
 use Rattle.xp_board.proofs.LockFacts.{lock_facts, rewritten_same}
+use Rattle.xp_board.proofs.Counted.{in_hand_counted}
 
 some_is : (x y : ℕ) (o : Option ℕ) → o ≡ Some x → o ≡ Some y → x ≡ y
 some_is x y o a b = let e : Some x ≡ Some y = sym a ∙ b in cc
@@ -64,8 +64,7 @@ module _ (n : Machine) (s : ℕ) (m : Place → ℕ) (b : ℕ → Holdings) (rea
       ]
 
   plain_counted : (g : ℕ) → 0 < refs_to g (b s).refs → 0 < ref_count (m (Refs g))
-  unfolding hand
-  plain_counted g held = let count = sound.counts.refs g in let part = hands-part (hand g) (sizes_of n) b s real in omega arith
+  plain_counted g held = let counted = in_hand_counted (sizes_of n) m b s g real sound.counts held in omega arith
 
   typed_held : (g : ℕ) → 0 < typed_to g (b s).typed → 0 < typed_hand g (b s)
   unfolding typed_hand

@@ -1,5 +1,5 @@
 -- The tables to which a vCPU's base leads.
-use Rattle.std.proofs.Common.{◌≡◌, ℕ, ◌<◌, ◌≤◌, ◌==◌, inl, inr, true, false, arith, Some, None, ◌∙◌}
+use Rattle.std.proofs.Common.{◌≡◌, ℕ, ◌<◌, ◌≤◌, inl, inr, true, arith, Some, None, ◌∙◌}
 use Rattle.std.proofs.lemmas.Bool.Decides.{nat_tests}
 use Rattle.xp_words.specs.declared.kind.PageType.{PageType}
 use Rattle.xp_words.specs.declared.kind.KindWord.{KindWord}
@@ -12,10 +12,10 @@ use Rattle.xp_board.specs.Readings.{kind_at, type_count, owner_of}
 use Rattle.xp_board.specs.Hands.{work_on}
 use Rattle.xp_board.specs.Recorded.{held, held_of, entry_demand, names_typed}
 use Rattle.xp_board.specs.Valid.{LeadsWell}
-use Rattle.xp_board.specs.Sound.{Sound, is_busy}
+use Rattle.xp_board.specs.Sound.{Sound}
 use Rattle.xp_board.proofs.Counted.{entries-part, names_typed-typed}
 use Rattle.xp_board.proofs.Works.{nobody_has, held_free}
-use Rattle.xp_board.proofs.HeldByForm.{live_partial}
+use Rattle.xp_board.proofs.HeldByForm.{live_partial, live_idle}
 
 -- a live and counted table of that level, of that domain
 pub record Serves (m : Place → ℕ) (d level f : ℕ) : Type 0 where
@@ -23,9 +23,6 @@ pub record Serves (m : Place → ℕ) (d level f : ℕ) : Type 0 where
   pub counted : 0 < (kind_at m f).number
   pub level_is : type_number (kind_at m f).kind ≡ level
   pub owner : owner_of (m (Refs f)) ≡ Some d
-
-pub not_busy : (k : KindWord) → k.validated ≡ true → 0 < k.number → is_busy k ≡ false
-not_busy k v c = let e : (k.number == 0) ≡ false = grind (arith, nat_tests) in rw (v, e)
 
 pub live_count : (k : KindWord) → k.validated ≡ true → type_count k ≡ k.number
 unfolding type_count
@@ -38,12 +35,12 @@ all_held k v lo hi = let t : is_table k.kind ≡ true = grind (arith, nat_tests)
 -- ---- a frame that is in nobody's works
 module _ (n : Machine) (m : Place → ℕ) (h : ℕ → Holdings) (sound : Sound n m h) where
   pub no_work : (f s : ℕ) → (kind_at m f).validated ≡ true → 0 < (kind_at m f).number → s < (sizes_of n).vcpus → work_on f (h s).works ≡ None
-  no_work f s v c real = nobody_has n m h sound.alone f (not_busy (kind_at m f) v c) s real
+  no_work f s v c real = nobody_has n m h sound.alone f (live_idle (kind_at m f) v c) s real
 
   -- all entries of a live and counted table are recorded
   pub table_held : (f : ℕ) → (kind_at m f).validated ≡ true → 0 < (kind_at m f).number → 1 ≤ type_number (kind_at m f).kind → type_number (kind_at m f).kind ≤ 4 →
       held (sizes_of n) m h f ≡ 512
-  table_held f v c lo hi = held_free n m h sound.alone f (not_busy (kind_at m f) v c) ∙ all_held (kind_at m f) v lo hi
+  table_held f v c lo hi = held_free n m h sound.alone f (live_idle (kind_at m f) v c) ∙ all_held (kind_at m f) v lo hi
 
   -- they lead to live frames
   pub leads_live : (f i g : ℕ) → (kind_at m f).validated ≡ true → 0 < (kind_at m f).number → LeadsWell (sizes_of n) m h f i g → (kind_at m g).validated ≡ true

@@ -1,5 +1,5 @@
 -- How many entries a kind word holds before and after a step, and which forms are one seat's alone.
-use Rattle.std.proofs.Common.{◌≡◌, ℕ, ◌<◌, ◌||◌, not, if◌then◌else◌, true, false, Some, None, IsTrue, refl, sym, inl, inr, arith, subst}
+use Rattle.std.proofs.Common.{◌≡◌, ℕ, ◌||◌, not, if◌then◌else◌, true, false, Some, None, IsTrue, refl, sym, inl, inr, arith, subst}
 use Rattle.std.proofs.lemmas.Bool.{cases_Bool, and_parts}
 use Rattle.std.proofs.lemmas.Bool.Decides.{nat_tests}
 use Rattle.xp_words.specs.declared.kind.KindWord.{KindWord}
@@ -7,9 +7,6 @@ use Rattle.xp_words.specs.PageTypes.{is_table}
 use Rattle.xp_board.specs.Readings.{is_live, is_work, is_partial, is_dead, type_count}
 use Rattle.xp_board.specs.Recorded.{held_of}
 use Rattle.xp_board.specs.Sound.{is_busy}
-
-pub live_idle : (k : KindWord) → IsTrue (is_live k) → 0 < k.number → is_busy k ≡ false
-live_idle k live some = grind (arith, nat_tests)
 
 pub partial_idle : (k : KindWord) → IsTrue (is_partial k) → is_busy k ≡ false
 partial_idle k p = grind arith

@@ -64,3 +64,7 @@ free_forms k free =
             | inr none ↦ inr (inr (grind (arith, nat_tests)))
           ]
     ]
+
+-- a live frame that is counted is in no hand alone
+pub live_idle : (k : KindWord) → IsTrue (is_live k) → 0 < k.number → is_busy k ≡ false
+live_idle k live some = grind (arith, nat_tests)
