@@ -1,12 +1,10 @@
 //! References to frames.
-ghost use Rattle.std.specs.Prelude.{◌≡◌, ◌<◌, ◌≤◌, true, Some, IfOk, IfErr, OnOk, MatchResult};
-ghost use Rattle.xp_words.specs.Places.{Refs};
+ghost use Rattle.std.specs.Prelude.{◌≡◌, ◌<◌, true, Some, IfOk, IfErr, MatchResult};
 ghost use Rattle.xp_words.specs.RefWords.{ref_read};
 ghost use Rattle.xp_words.specs.declared.refs.RefWord.TheVariants.{Owned};
 ghost use Rattle.xp_board.specs.Hands.{refs_to};
-ghost use Rattle.xp_board.specs.Readings.{ref_count};
 ghost use Rattle.xp_board.specs.RefSteps.{SparesClosing};
-ghost use Rattle.xp_board.specs.Told.{is_telling, told_word};
+ghost use Rattle.xp_board.specs.Told.{is_telling};
 ghost use Rattle.frame_words.specs.Hands.{SameHand, TookRef};
 ghost use Rattle.frame_words.specs.References.{Gets, Puts, IsRefusal, IsLent, RefusesWord};
 

@@ -1,7 +1,7 @@
 //! The machine-to-physical words of frames.
 #![tactic(auto)]
 
-ghost use Rattle.std.specs.Prelude.{◌≡◌, true, Some, OnErr, MatchResult};
+ghost use Rattle.std.specs.Prelude.{◌≡◌, true, Some, MatchResult};
 ghost use Rattle.xp_board.specs.Told.{is_telling};
 ghost use Rattle.frame_words.specs.Hands.{SameHand};
 ghost use Rattle.frame_words.specs.References.{IsRefusal};

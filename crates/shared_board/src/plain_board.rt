@@ -1,8 +1,7 @@
-ghost use Rattle.std.specs.Prelude.{◌≡◌, ◌<◌, ◌≤◌, [], IfOk, replicate};
+ghost use Rattle.std.specs.Prelude.{◌≡◌, ◌<◌, ◌≤◌, [], IfOk};
 ghost use Rattle.std.specs.Vec.{vec_capacity};
 ghost use Rattle.xp_words.specs.Machine.{IsMachine};
 ghost use Rattle.xp_words.specs.Places.{size, sizes_of};
-ghost use Rattle.xp_board.specs.Hands.{empty};
 ghost use Rattle.xp_board.specs.Legal.{LegalNow};
 ghost use Rattle.xp_board.specs.Runs.{Run, start};
 ghost use Rattle.xp_board.specs.Sound.{SoundState, SoundWords, seat_of};

@@ -1,4 +1,4 @@
-ghost use Rattle.std.specs.Prelude.{◌≡◌, ◌<◌, length};
+ghost use Rattle.std.specs.Prelude.{◌≡◌, ◌<◌};
 ghost use Rattle.xp_words.specs.Places.{size, sizes_of};
 ghost use Rattle.xp_board.specs.Legal.{LegalNow};
 ghost use Rattle.xp_board.specs.Sound.{seat_of};

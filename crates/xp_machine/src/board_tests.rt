@@ -6,7 +6,8 @@ ghost use Rattle.xp_machine.specs.Ports.{Ready};
 
 use crate::cpu::Cpu;
 use frame_words::{
-    begin_turn, end_answer, get_ref, look_clock, look_kind, look_refs, look_run, put_ref, raise_refs,
+    begin_turn, end_answer, get_ref, look_clock, look_kind, look_refs, look_run, put_ref,
+    raise_refs,
 };
 use m2p_map::set_m2p;
 use machine_build::opening;
@@ -59,7 +60,13 @@ fn opened(alloc: Global, text: &str) -> Option<(PlainBoard, Script)>
 }
 
 // What an update of a machine-to-physical word answers; nothing where the vCPU is not running.
-fn update(board: &mut PlainBoard, vcpu: u32, f: u64, owner: u16, gpfn: u64) -> Option<Result<(), Stop>> {
+fn update(
+    board: &mut PlainBoard,
+    vcpu: u32,
+    f: u64,
+    owner: u16,
+    gpfn: u64,
+) -> Option<Result<(), Stop>> {
     if vcpu >= board.layout().vcpus() {
         return None;
     }
@@ -110,7 +117,8 @@ fn exchange(board: &mut PlainBoard, frame: u32, expected: u64) -> Option<Result<
             allocated,
             count,
         },
-    ) = RefWord::read(expected) else {
+    ) = RefWord::read(expected)
+    else {
         return None;
     };
     if count >= limit || u32::from(owner) >= domains {
@@ -211,7 +219,11 @@ fn an_update_is_ok_on_an_own_frame_and_leaves_its_count(rt: HostRuntime) -> Resu
     assert!(rt; refs_of(&mut board, 0) == before);
     let place = board.layout().words() as usize;
     let mut words = Vec::with_capacity(rt.alloc(), place)?;
-    let m2p = if board.layout().frames > 0 { board.layout().m2p_place(0) } else { 0 };
+    let m2p = if board.layout().frames > 0 {
+        board.layout().m2p_place(0)
+    } else {
+        0
+    };
     board.into_words(&mut words);
     assert!(rt; words.get(m2p as usize) == Some(&7));
     Ok(())
@@ -220,12 +232,23 @@ fn an_update_is_ok_on_an_own_frame_and_leaves_its_count(rt: HostRuntime) -> Resu
 #[test]
 fn references_are_refused_with_what_was_found(rt: HostRuntime) -> Result<(), Fail> {
     let (mut board, _) = opened(rt.alloc(), TWO_DOMAINS).expect(&rt, "a board");
-    assert!(rt; take(&mut board, 3, true) == Some(Err(Stop::Refused(Refusal::NoFrame { frame: 3 }))));
-    assert!(rt; take(&mut board, 2, true) == Some(Err(Stop::Refused(Refusal::WrongOwner { frame: 2, found: 0 }))));
+    assert!(rt;
+        take(&mut board, 3, true) == Some(Err(Stop::Refused(Refusal::NoFrame { frame: 3 })))
+    );
+    assert!(rt;
+        take(&mut board, 2, true)
+            == Some(Err(Stop::Refused(Refusal::WrongOwner { frame: 2, found: 0 })))
+    );
     assert!(rt; take(&mut board, 0, false) == Some(Ok(0)));
     assert!(rt; take(&mut board, 0, true) == Some(Ok(0)));
     let two = 0x8000_0000_8000_0002;
-    assert!(rt; take(&mut board, 0, true) == Some(Err(Stop::Refused(Refusal::CountFull { frame: 0, found: two }))));
+    assert!(rt;
+        take(&mut board, 0, true)
+            == Some(Err(Stop::Refused(Refusal::CountFull {
+                frame: 0,
+                found: two
+            })))
+    );
     Ok(())
 }
 
