@@ -1,4 +1,6 @@
+pub mod CellHands
 pub mod Counting
+pub mod Flushing
 pub mod Hands
 pub mod Piecing
 pub mod Stepping
