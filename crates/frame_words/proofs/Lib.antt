@@ -2,6 +2,7 @@ pub mod CellHands
 pub mod Counting
 pub mod Flushing
 pub mod Hands
+pub mod Noting
 pub mod Piecing
 pub mod Stepping
 pub mod Taking
