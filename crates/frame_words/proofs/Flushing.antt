@@ -121,7 +121,7 @@ acked_hand n s c h k x found e =
       old0 = refl;
       old1 = refl;
       turn = refl;
-      acked = refl;
+      acked = omega arith;
       ran = refl;
     })
 

@@ -3,6 +3,7 @@ pub mod Counting
 pub mod Flushing
 pub mod Hands
 pub mod Noting
+pub mod OwnFlush
 pub mod Piecing
 pub mod Stepping
 pub mod Taking

@@ -1,20 +1,24 @@
 //! The clock, flushes and what they await, and the words of a domain, one step each.
-ghost use Rattle.std.specs.Prelude.{◌≡◌, ◌≢◌, ◌+◌, ◌==◌, ◌<◌, nat_lt, true, length, Some, None, IfErr, IsTrue};
+ghost use Rattle.std.specs.Prelude.{◌≡◌, ◌≢◌, ◌+◌, ◌==◌, ◌<◌, nat_lt, true, length, Some, None, IfErr, MatchResult, IsTrue};
 ghost use Rattle.xp_words.specs.Places.{Clock, Vcpu, Life, Priv, sizes_of};
 ghost use Rattle.xp_board.specs.AskSteps.{MayAsk};
 ghost use Rattle.xp_board.specs.Readings.{last_clock};
 ghost use Rattle.xp_board.specs.Steps.{some_since};
 ghost use Rattle.xp_board.specs.Told.{Finds};
 ghost use Rattle.xp_board.specs.declared.step.Act.TheVariants.{Load, Cas, Store, Max};
-ghost use Rattle.frame_words.specs.Flushing.{Flushed, FoundLife};
+ghost use Rattle.frame_words.specs.Flushing.{Flushed, FoundLife, FlushesBy};
 ghost use Rattle.frame_words.specs.Hands.{SameHand};
 ghost use Rattle.frame_words.specs.Pieces.{Makes, found_by};
 
-use crate::rows::{look, ASKED, CLOCK, RUN};
+use crate::rows::{look, look_clock, ASKED, CLOCK, RUN};
 use xp_board::{Act, Port, Step, StepKind};
+use xp_words::Refusal;
 
 // The word of a vCPU that says to which clock value it is flushed.
 const FLUSHED: u32 = 5;
+
+// The clock goes no further.
+const LAST_CLOCK: u64 = 68_719_476_734;
 
 /// Loads the word of a vCPU that says to which clock value it is flushed.
 pub fn look_flushed<P: Port>(port: &mut P, vcpu: u32) -> u64
@@ -127,4 +131,28 @@ pub fn ask<P: Port>(port: &mut P, vcpu: u32, stamp: u64) -> u64
         kind: StepKind::Ask,
         mark: None,
     })
+}
+
+/// Flushes the own translations to a new clock value, or to the greater one that another vCPU made meanwhile.
+/// Refused where the clock is at its last value; nothing has changed then.
+pub fn flush_own<P: Port>(port: &mut P) -> Result<(), Refusal>
+    requires landed { (P.value port.old).holdings.walk ≡ None }
+    ensures post { (P.value port.new).post ≡ (P.value port.old).post }
+    ensures piece { FlushesBy (P.value port.old) (P.value port.new) result }
+    ensures hand { MatchResult result (λ _. Flushed (P.value port.old).holdings (P.value port.new).holdings) (λ _. SameHand (P.value port.old).holdings (P.value port.new).holdings) }
+{
+    let clock = look_clock(port);
+    if clock == LAST_CLOCK {
+        return Err(Refusal::Clock { found: clock });
+    }
+    match tick(port, clock) {
+        Ok(()) => {
+            flush(port, clock + 1);
+            Ok(())
+        }
+        Err(found) => {
+            flush(port, found);
+            Ok(())
+        }
+    }
 }

@@ -10,7 +10,7 @@ mod rows;
 
 pub use cells::{look_cell, store_cell};
 pub use flushes::{
-    ask, flush, look_flushed, look_life, look_privileges, look_run_of, tick,
+    ask, flush, flush_own, look_flushed, look_life, look_privileges, look_run_of, tick,
 };
 pub use references::{get_ref, put_ref};
 pub use rows::{
