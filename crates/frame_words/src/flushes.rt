@@ -10,7 +10,7 @@ ghost use Rattle.frame_words.specs.Flushing.{Flushed, FoundLife, FlushesBy};
 ghost use Rattle.frame_words.specs.Hands.{SameHand};
 ghost use Rattle.frame_words.specs.Pieces.{Makes, found_by};
 
-use crate::rows::{look, look_clock, ASKED, CLOCK, RUN};
+use crate::rows::{ASKED, CLOCK, RUN, look, look_clock};
 use xp_board::{Act, Port, Step, StepKind};
 use xp_words::Refusal;
 

@@ -1,4 +1,4 @@
-use Rattle.std.proofs.Common.{◌+◌, refl, sym}
+use Rattle.std.proofs.Common.{◌+◌, sym}
 use Rattle.frame_words.proofs.OwnFlush.{clock_below, to_next, to_found, flush_told, flush_warmed, flushes_own}
 use Rattle.frame_words.proofs.flushes.flush_own.Goals as goal
 
