@@ -1,8 +1,10 @@
 -- The own flush: what its steps find.
-use Rattle.std.proofs.Common.{◌≡◌, ◌≢◌, ℕ, ◌+◌, ◌<◌, ◌≤◌, ◌==◌, nat_lt, true, ◌∷◌, List, length, None, IsTrue, sym, ap, ◌∙◌, subst, arith}
+use Rattle.std.proofs.Common.{◌≡◌, ◌≢◌, ℕ, ◌+◌, ◌<◌, ◌≤◌, ◌==◌, nat_lt, true, [], ◌∷◌, ◌++◌, List, length, Option, None, IsTrue, refl, sym, ap, ◌∙◌, subst, arith}
 use Rattle.std.proofs.lemmas.Bool.Decides.{nat_tests}
 use Rattle.xp_words.specs.Machine.{Machine}
-use Rattle.xp_words.specs.Places.{Sizes, Place, Clock, Vcpu, sizes_of}
+use Rattle.xp_words.specs.Places.{Sizes, Place, Clock, Vcpu, sizes_of, place_at}
+use Rattle.xp_board.specs.declared.step.Act.{Act}
+use Rattle.xp_board.specs.declared.step.Mark.{Mark}
 use Rattle.xp_board.specs.declared.step.Act.TheVariants.{Load, Cas, Store}
 use Rattle.xp_board.specs.declared.holdings.Made.{Made}
 use Rattle.xp_board.specs.declared.holdings.Holdings.{Holdings}
@@ -12,14 +14,15 @@ use Rattle.xp_board.specs.Lists.{EachOf}
 use Rattle.xp_board.specs.Readings.{last_clock, told_value}
 use Rattle.xp_board.specs.Spelling.{IsSpelling}
 use Rattle.xp_board.specs.Steps.{left_of, some_since}
-use Rattle.xp_board.specs.Told.{Post, PortValue, Finds}
+use Rattle.xp_board.specs.Told.{Post, PortValue, Finds, Went}
+use Rattle.xp_board.specs.WellFormed.{WellFormed}
 use Rattle.frame_words.specs.Flushing.{Flushed, flushed_to, FlushesOwn}
 use Rattle.frame_words.specs.Hands.{SameHand}
-use Rattle.frame_words.specs.Pieces.{Makes}
+use Rattle.frame_words.specs.Pieces.{Makes, Deed, deeds_by, deeds}
+use Rattle.xp_board.proofs.Going.{went_more, went_post}
+use Rattle.frame_words.proofs.Piecing.{deeds_append}
 use Rattle.frame_words.proofs.Noting.{makes_steps, makes_since, makes_keeps, made_now}
 use Rattle.frame_words.proofs.Stepping.{clock_there}
-use Rattle.xp_words.specs.Places.{place_at}
-use Rattle.xp_board.specs.WellFormed.{WellFormed}
 
 -- ---- what a step tells of the seat that made it
 module _ (n : Machine) (s : ℕ) (h : Holdings) (p : Place) (w : ℕ) (finds : Finds n s h p w) where
@@ -133,3 +136,33 @@ module _ (v u t : PortValue) (c f x : ℕ) (look : Makes v u Clock Load None c) 
         acked = g.acked;
         ran = g.ran ∙ after.rest.ran ∙ before.rest.ran;
       }
+
+-- ---- its steps, of which a guest sees none
+pub record UnseenSteps (v w : PortValue) : Type 0 where
+  pub made : List Made
+  pub went : Went v made w
+  pub deeds_are : deeds v.post.machine made ≡ []
+
+makes_unseen : (v w : PortValue) (p : Place) (a : Act) (mark : Option Mark) (found : ℕ) → Makes v w p a mark found → deeds_by p a ≡ [] → UnseenSteps v w
+makes_unseen v w p a mark found m none =
+    record {
+      made = made_now m.step found ∷ [];
+      went = m.went;
+      deeds_are = ap (λ q. deeds_by q m.step.act ++ []) m.place ∙ ap (λ b. deeds_by p b ++ []) m.act ∙ ap (λ (ds : List Deed). ds ++ []) none;
+    }
+
+unseen_after : (v u w : PortValue) → UnseenSteps v u → UnseenSteps u w → UnseenSteps v w
+unseen_after v u w a b =
+    record {
+      made = b.made ++ a.made;
+      went = went_more v u w a.made b.made a.went b.went;
+      deeds_are =
+          deeds_append v.post.machine a.made b.made
+          ∙ ap (λ (ds : List Deed). ds ++ deeds v.post.machine a.made) (subst (λ (q : Post). deeds q.machine b.made ≡ []) (went_post v u a.made a.went) b.deeds_are)
+          ∙ a.deeds_are;
+    }
+
+pub own_flush_unseen : (v w : PortValue) → FlushesOwn v w → UnseenSteps v w
+own_flush_unseen v w f =
+    unseen_after v f.looked w (makes_unseen _ _ _ _ _ _ f.look refl)
+    (unseen_after f.looked f.ticked w (makes_unseen _ _ _ _ _ _ f.tick refl) (makes_unseen _ _ _ _ _ _ f.ack refl))

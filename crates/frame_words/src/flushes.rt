@@ -57,7 +57,8 @@ pub fn look_privileges<P: Port>(port: &mut P, domain: u16) -> u64
     port.step(look(place, None))
 }
 
-/// Loads the life word of a domain. Where it lives, its frames with a `kept` mark of this seat are looked after.
+/// Loads the life word of a domain. Where the domain lives, this vCPU need not look at it again for the `kept`
+/// marks that it set on that domain's frames.
 pub fn look_life<P: Port>(port: &mut P, domain: u16) -> u64
     requires { domain < length (P.value port.old).post.machine.page_limit }
     ensures post { (P.value port.new).post ≡ (P.value port.old).post }
