@@ -1,5 +1,9 @@
+pub mod CellHands
 pub mod Counting
+pub mod Flushing
 pub mod Hands
+pub mod Noting
+pub mod OwnFlush
 pub mod Piecing
 pub mod Stepping
 pub mod Taking

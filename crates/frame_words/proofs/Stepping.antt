@@ -61,7 +61,7 @@ is_plain (Some (marks.Cut call)) = true
 is_plain (Some marks.Turn) = true
 is_plain _ = false
 
-legal_at : (n : Machine) (s : ℕ) (h : Holdings) (i : ℕ) (p : Place) (a : Act) (k : StepKind) (mark : Option Mark) → place_at (sizes_of n) i ≡ p → LegalMove n s h p a k mark →
+pub legal_at : (n : Machine) (s : ℕ) (h : Holdings) (i : ℕ) (p : Place) (a : Act) (k : StepKind) (mark : Option Mark) → place_at (sizes_of n) i ≡ p → LegalMove n s h p a k mark →
     IsTrue (is_taken k) → LegalNow n s h (record { place = i; act = a; kind = k; mark = mark })
 legal_at n s h i p a k mark at legal taken = record { legal = subst (λ q. LegalMove n s h q a k mark) (sym at) legal; kind = taken }
 

@@ -1,3 +1,5 @@
+pub mod Cells
+pub mod Flushing
 pub mod Hands
 pub mod Pieces
 pub mod References

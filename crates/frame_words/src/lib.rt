@@ -3,9 +3,15 @@
 //! Each of them takes the access of one vCPU, over any board, and says what it leaves in that vCPU's hand.
 #![tactic(auto)]
 
+mod cells;
+mod flushes;
 mod references;
 mod rows;
 
+pub use cells::{look_cell, store_cell};
+pub use flushes::{
+    ask, flush, flush_own, look_flushed, look_life, look_privileges, look_run_of, tick,
+};
 pub use references::{get_ref, put_ref};
 pub use rows::{
     begin_turn, end_answer, look_clock, look_kind, look_refs, look_run, lower_refs, raise_refs,

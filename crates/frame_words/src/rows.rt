@@ -14,12 +14,12 @@ ghost use Rattle.frame_words.specs.Pieces.{Makes, found_by, look_step};
 use xp_board::{Act, Mark, Port, Step, StepKind};
 use xp_words::RefWord;
 
-const CLOCK: u32 = 0;
+pub(crate) const CLOCK: u32 = 0;
 
 // Two words of a vCPU.
-const ASKED: u32 = 4;
+pub(crate) const ASKED: u32 = 4;
 
-const RUN: u32 = 6;
+pub(crate) const RUN: u32 = 6;
 
 // Minus one, for an addition that wraps.
 const ONE_LESS: u64 = u64::MAX;
@@ -52,6 +52,7 @@ pub fn look_kind<P: Port>(port: &mut P, frame: u32) -> u64
 pub fn look_clock<P: Port>(port: &mut P) -> u64
     ensures post { (P.value port.new).post ≡ (P.value port.old).post }
     ensures made { Makes (P.value port.old) (P.value port.new) Clock Load None result }
+    ensures found { Finds (P.value port.old).post.machine (P.value port.old).post.seat (P.value port.old).holdings Clock result }
     ensures hand { SameHand (P.value port.old).holdings (P.value port.new).holdings }
 {
     port.step(look(CLOCK, None))
@@ -164,7 +165,7 @@ pub fn store_m2p<P: Port>(port: &mut P, frame: u32, gpfn: u64) -> u64
 }
 
 // A load.
-fn look(place: u32, mark: Option<Mark>) -> Step
+pub(crate) fn look(place: u32, mark: Option<Mark>) -> Step
     ensures { result ≡ look_step place mark }
 {
     Step {

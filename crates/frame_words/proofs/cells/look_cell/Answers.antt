@@ -1,0 +1,35 @@
+use Rattle.std.proofs.Common.{ap, ◌∙◌, refl, subst}
+use Rattle.xp_words.specs.Machine.{Machine}
+use Rattle.xp_words.specs.Places.{Cell, number, sizes_of}
+use Rattle.xp_board.specs.Told.{Finds}
+use Rattle.frame_words.proofs.Hands.{here, look_now, look_made, look_left}
+use Rattle.frame_words.proofs.CellHands.{cell_there, seen_hand, saw_apart}
+use Rattle.frame_words.proofs.cells.look_cell.Goals as goal
+
+pub step-requires : goal.step-requires
+step-requires g c =
+    let v = g.P.Port.value c.args.port.now in
+    let at = c.cell_place-place.ensures ∙ ap (λ (n : Machine). number (sizes_of n) (Cell c.args.frame c.args.index)) c.layout.ensures.layout in
+    look_now v v c.look.result _ 0 _ _ c.look.ensures at (cell_there (sizes_of v.post.machine) c.args.frame c.args.index c.requires.frame c.requires.index) refl
+
+pub returns-clause-made : goal.returns-clause-made
+returns-clause-made g c =
+    let v = g.P.Port.value c.args.port.now in
+    let at = c.cell_place-place.ensures ∙ ap (λ (n : Machine). number (sizes_of n) (Cell c.args.frame c.args.index)) c.layout.ensures.layout in
+    look_made v _ c.look.result _ _ _ _ c.look.ensures at (cell_there (sizes_of v.post.machine) c.args.frame c.args.index c.requires.frame c.requires.index) refl c.step.ensures.told c.step.ensures.value
+
+pub returns-clause-found : goal.returns-clause-found
+returns-clause-found g c =
+    let v = g.P.Port.value c.args.port.now in
+    let at = c.cell_place-place.ensures ∙ ap (λ (n : Machine). number (sizes_of n) (Cell c.args.frame c.args.index)) c.layout.ensures.layout in
+    subst (λ p. Finds v.post.machine v.post.seat v.holdings p c.step.result)
+    (here v v c.look.result _ 0 _ _ c.look.ensures at (cell_there (sizes_of v.post.machine) c.args.frame c.args.index c.requires.frame c.requires.index) refl) c.step.ensures.found
+
+pub returns-clause-hand : goal.returns-clause-hand
+returns-clause-hand g c =
+    let v = g.P.Port.value c.args.port.now in
+    let at = c.cell_place-place.ensures ∙ ap (λ (n : Machine). number (sizes_of n) (Cell c.args.frame c.args.index)) c.layout.ensures.layout in
+    seen_hand v.post.machine v.post.seat c.args.frame c.args.index _ _ c.look.result _ (look_left v _ c.look.result _ _ _ _ c.look.ensures at (cell_there (sizes_of v.post.machine) c.args.frame c.args.index c.requires.frame c.requires.index) refl c.step.ensures.value)
+
+pub returns-clause-apart : goal.returns-clause-apart
+returns-clause-apart g c = saw_apart c.args.frame c.args.index _ _ _ (returns-clause-hand g c)
