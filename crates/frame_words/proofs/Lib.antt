@@ -1,5 +1,8 @@
 pub mod Counting
 pub mod Hands
+pub mod KindHands
+pub mod KindStepping
+pub mod KindWriting
 pub mod Piecing
 pub mod Stepping
 pub mod Taking

@@ -1,3 +1,4 @@
 pub mod Hands
+pub mod Kinds
 pub mod Pieces
 pub mod References

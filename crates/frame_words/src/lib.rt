@@ -3,9 +3,11 @@
 //! Each of them takes the access of one vCPU, over any board, and says what it leaves in that vCPU's hand.
 #![tactic(auto)]
 
+mod kinds;
 mod references;
 mod rows;
 
+pub use kinds::{begin_work, count_type};
 pub use references::{get_ref, put_ref};
 pub use rows::{
     begin_turn, end_answer, look_clock, look_kind, look_refs, look_run, lower_refs, raise_refs,
