@@ -31,7 +31,7 @@ use Rattle.frame_words.proofs.KindStepping.{exchange_is_legal, exchanged, unexch
 use Rattle.frame_words.proofs.Stepping.{kind_there, placed, makes, hand_after}
 
 -- ---- a typed reference that is the newest
-typed_held : (f : ℕ) (e : TypedReference) (xs : List TypedReference) → e.frame ≡ f → 0 < typed_to f (e ∷ xs)
+pub typed_held : (f : ℕ) (e : TypedReference) (xs : List TypedReference) → e.frame ≡ f → 0 < typed_to f (e ∷ xs)
 unfolding times_by
 typed_held f e xs is = let one : one_at f e.frame ≡ 1 = ap (λ g. one_at f g) is ∙ one_at-same f in omega (arith, one)
 
@@ -50,7 +50,7 @@ pub known_first : (z : Sizes) (f : ℕ) (t : PageType) (o : OwnerFound) (xs : Li
 known_first z f t o xs h is = subst (λ ys. IsTrue (knows_live z f t (record h { typed = ys }))) (sym is) (live_first z f t o xs h)
 
 -- ---- parts that stay
-beside : (h k : Holdings) → k.locks ≡ h.locks → k.ending ≡ h.ending → k.claimed ≡ h.claimed → k.raised ≡ h.raised → k.credits ≡ h.credits → k.cache ≡ h.cache → k.walk ≡ h.walk → k.cold ≡ h.cold → k.run ≡ h.run → k.old0 ≡ h.old0 → k.old1 ≡ h.old1 → k.turn ≡ h.turn → k.acked ≡ h.acked → k.ran ≡ h.ran → SameBeside h k
+pub beside : (h k : Holdings) → k.locks ≡ h.locks → k.ending ≡ h.ending → k.claimed ≡ h.claimed → k.raised ≡ h.raised → k.credits ≡ h.credits → k.cache ≡ h.cache → k.walk ≡ h.walk → k.cold ≡ h.cold → k.run ≡ h.run → k.old0 ≡ h.old0 → k.old1 ≡ h.old1 → k.turn ≡ h.turn → k.acked ≡ h.acked → k.ran ≡ h.ran → SameBeside h k
 beside h k a b c d e f g i j l m n o p =
     record {
       locks = a;

@@ -4,6 +4,7 @@ use Rattle.std.proofs.lemmas.Bool.Decides.{nat_tests}
 use Rattle.xp_words.specs.Machine.{Machine}
 use Rattle.xp_words.specs.declared.kind.KindWord.{KindWord}
 use Rattle.xp_words.specs.declared.kind.PageType.{PageType}
+use Rattle.xp_words.specs.declared.kind.PageType.TheVariants as kinds
 use Rattle.xp_words.specs.KindWords.{is_kind, kind_read, kind_fields, kind_write, has_form}
 use Rattle.xp_words.specs.PageTypes.{is_none, is_table}
 use Rattle.xp_words.proofs.KindLaws.{kind_read-write, kind_write-read, when_some}
@@ -35,3 +36,12 @@ live_is t n typed small = grind (arith, nat_tests)
 pub dead_is : (t : PageType) (u : Bool) (n : ℕ) → IsTrue (not (is_none t)) → n < 2 ^ 36 → IsTrue (is_kind (dead_kind t u n))
 unfolding has_form
 dead_is t u n typed small = grind (arith, nat_tests)
+
+pub writable_is : IsTrue (is_kind (live_kind kinds.Writable 1))
+writable_is = live_is kinds.Writable 1 refl (lit< tt)
+
+pub dead_fits : (n : Machine) (t : PageType) (u : Bool) (stamp : ℕ) → IsTrue (is_kind_in n (Some (dead_kind t u stamp)))
+dead_fits n t u stamp = refl
+
+pub live_fits : (n : Machine) (t : PageType) → 2 ≤ n.limit → IsTrue (is_kind_in n (Some (live_kind t 1)))
+live_fits n t some = grind (arith, nat_tests)

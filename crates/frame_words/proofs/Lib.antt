@@ -1,7 +1,9 @@
 pub mod Counting
 pub mod Hands
+pub mod KindFinds
 pub mod KindHands
 pub mod KindStepping
+pub mod KindStores
 pub mod KindWriting
 pub mod Piecing
 pub mod Stepping

@@ -1,17 +1,21 @@
 //! One step each, on the kind word of a frame: types that are taken and given back.
-ghost use Rattle.std.specs.Prelude.{◌≡◌, ◌≢◌, ◌+◌, ◌^◌, ◌<◌, not, if◌then◌else◌, Some, None, IfErr, MatchResult, IsTrue};
+ghost use Rattle.std.specs.Prelude.{◌≡◌, ◌≢◌, ◌+◌, ◌^◌, ◌<◌, ◌==◌, not, if◌then◌else◌, Some, None, IfErr, MatchResult, IsTrue};
 ghost use Rattle.xp_words.specs.Places.{Kind};
-ghost use Rattle.xp_words.specs.KindWords.{kind_read, kind_write};
+ghost use Rattle.xp_words.specs.KindWords.{kind_read, kind_write, kind_fields};
+ghost use Rattle.xp_words.specs.declared.kind.PageType.TheVariants.{Writable};
 ghost use Rattle.xp_words.specs.PageTypes.{is_none};
-ghost use Rattle.xp_board.specs.Hands.{refs_to};
-ghost use Rattle.xp_board.specs.KindSteps.{begun_kind, raised_kind, is_stale};
+ghost use Rattle.xp_board.specs.Hands.{refs_to, typed_to};
+ghost use Rattle.xp_board.specs.KindSteps.{MayDrop, begun_kind, raised_kind, is_stale};
 ghost use Rattle.xp_board.specs.Readings.{is_live, is_dead};
-ghost use Rattle.xp_board.specs.declared.step.Act.TheVariants.{Cas};
-ghost use Rattle.frame_words.specs.Kinds.{LostKind, CountedType, BegunWork, exchange_step};
+ghost use Rattle.xp_board.specs.declared.step.Act.TheVariants.{Cas, Store};
+ghost use Rattle.frame_words.specs.Kinds.{LostKind, CountedType, BegunWork, IsWritableWork, MadeLive, Drops, MayLeaveDead, MadeDead, live_kind, dead_kind, exchange_step, store_step};
 ghost use Rattle.frame_words.specs.Pieces.{Makes, found_by};
 
 use xp_board::{Act, Port, Step, StepKind};
 use xp_words::{KindWord, PageType};
+
+// Minus one, for an addition that wraps.
+const ONE_LESS: u64 = u64::MAX;
 
 /// Counts a type up by one exchange of the word `expected`, which reads as `kind`. An untyped reference in hand
 /// becomes a typed one. An exchange that finds another word answers it, and leaves the references as they were.
@@ -71,6 +75,63 @@ pub fn begin_work<P: Port>(
     } else {
         Err(found)
     }
+}
+
+/// Makes a writable frame in the own work live: validated, with the type count in hand. Answers the word found.
+pub fn store_live<P: Port>(port: &mut P, frame: u32) -> u64
+    requires frame { frame < (P.value port.old).post.machine.frames }
+    requires running { (P.value port.old).holdings.run ≡ Some 0 }
+    requires work { IsWritableWork (P.value port.old).post.machine frame (P.value port.old).holdings }
+    requires held { 0 < typed_to frame (P.value port.old).holdings.typed }
+    ensures post { (P.value port.new).post ≡ (P.value port.old).post }
+    ensures made { Makes (P.value port.old) (P.value port.new) (Kind frame) (Store (kind_write (live_kind Writable 1))) None result }
+    ensures hand { MadeLive frame Writable (P.value port.old).holdings (P.value port.new).holdings }
+{
+    let place = port.layout().kind_place(frame);
+    let new = live_word();
+    port.step(store(place, new))
+}
+
+/// Gives the type count of a typed reference in hand back, whose frame is known live. It becomes an untyped one.
+/// True: it was the last type count, and the frame is closing in the hand.
+pub fn drop_type<P: Port>(port: &mut P, frame: u32) -> bool
+    requires frame { frame < (P.value port.old).post.machine.frames }
+    requires running { (P.value port.old).holdings.run ≡ Some 0 }
+    requires may { MayDrop (P.value port.old).post.machine frame (P.value port.old).holdings }
+    ensures post { (P.value port.new).post ≡ (P.value port.old).post }
+    ensures drops { Drops (P.value port.old) (P.value port.new) frame result }
+{
+    let place = port.layout().kind_place(frame);
+    let found = port.step(Step {
+        place,
+        act: Act::Add { by: ONE_LESS },
+        kind: StepKind::Kind,
+        mark: None,
+    });
+    is_last(found)
+}
+
+/// Leaves a frame of the own works dead, with nothing recorded, and answers the word found. `stamp` is a clock value
+/// that was found since the frame came there. A mark stays, or goes off past the flush.
+pub fn store_dead<P: Port>(
+    port: &mut P,
+    frame: u32,
+    kind: PageType,
+    unflushed: bool,
+    stamp: u64,
+) -> u64
+    requires frame { frame < (P.value port.old).post.machine.frames }
+    requires running { (P.value port.old).holdings.run ≡ Some 0 }
+    requires typed { IsTrue (not (is_none kind)) }
+    requires clock { stamp < 2 ^ 36 }
+    requires may { MayLeaveDead (P.value port.old).post.machine frame kind unflushed stamp (P.value port.old).holdings }
+    ensures post { (P.value port.new).post ≡ (P.value port.old).post }
+    ensures made { Makes (P.value port.old) (P.value port.new) (Kind frame) (Store (kind_write (dead_kind kind unflushed stamp))) None result }
+    ensures hand { MadeDead frame (P.value port.old).holdings (P.value port.new).holdings }
+{
+    let place = port.layout().kind_place(frame);
+    let new = dead_word(kind, unflushed, stamp);
+    port.step(store(place, new))
 }
 
 // An exchange of a kind word.
@@ -137,4 +198,64 @@ fn begun(word: u64, kind: KindWord, want: PageType) -> u64
         number,
     };
     work.write()
+}
+
+// A store of a kind word.
+fn store(place: u32, new: u64) -> Step
+    ensures { result ≡ store_step place new }
+{
+    Step {
+        place,
+        act: Act::Store { new },
+        kind: StepKind::Kind,
+        mark: None,
+    }
+}
+
+// The word of a live writable frame with one type count.
+#[tactic(auto, using(crate::proofs::KindWriting::writable_is))]
+fn live_word() -> u64
+    ensures { result ≡ kind_write (live_kind Writable 1) }
+{
+    let live = KindWord {
+        kind: PageType::Writable,
+        pinned: false,
+        validated: true,
+        partial: false,
+        locked: false,
+        kept: false,
+        unflushed: false,
+        progress: 0,
+        number: 1,
+    };
+    live.write()
+}
+
+// The word of a dead frame.
+#[tactic(auto, using(crate::proofs::KindWriting::dead_is))]
+fn dead_word(kind: PageType, unflushed: bool, stamp: u64) -> u64
+    requires typed { IsTrue (not (is_none kind)) }
+    requires clock { stamp < 2 ^ 36 }
+    ensures { result ≡ kind_write (dead_kind kind unflushed stamp) }
+{
+    let dead = KindWord {
+        kind,
+        pinned: false,
+        validated: false,
+        partial: false,
+        locked: false,
+        kept: false,
+        unflushed,
+        progress: 0,
+        number: stamp,
+    };
+    dead.write()
+}
+
+// Whether the number of the word is 1.
+#[tactic(auto, unfolding(xp_words::specs::KindWords::kind_fields))]
+fn is_last(word: u64) -> bool
+    ensures { result ≡ ((kind_fields word).number == 1) }
+{
+    word % (1 << 36) == 1
 }

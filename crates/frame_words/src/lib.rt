@@ -7,7 +7,7 @@ mod kinds;
 mod references;
 mod rows;
 
-pub use kinds::{begin_work, count_type};
+pub use kinds::{begin_work, count_type, drop_type, store_dead, store_live};
 pub use references::{get_ref, put_ref};
 pub use rows::{
     begin_turn, end_answer, look_clock, look_kind, look_refs, look_run, lower_refs, raise_refs,
