@@ -12,7 +12,7 @@ use Rattle.xp_words.specs.KindWords.{kind_read, kind_fields}
 use Rattle.xp_words.specs.RefWords.{ref_read}
 use Rattle.xp_words.specs.Places.{Sizes, Place, Clock, Refs, Kind, sizes_of}
 use Rattle.xp_board.specs.declared.holdings.Holdings.{Holdings}
-use Rattle.xp_board.specs.Hands.{refs_to, typed_to, hand, typed_hand, locks_on}
+use Rattle.xp_board.specs.Hands.{refs_to, typed_to, hand, typed_hand, works_on, work_on, without_work}
 use Rattle.xp_board.specs.Knowledge.{knows_live}
 use Rattle.xp_board.specs.KindSteps.{MayDrop}
 use Rattle.xp_board.specs.Readings.{kind_at, is_live, ref_count, count_in, type_count}
@@ -21,8 +21,11 @@ use Rattle.xp_board.specs.Spelling.{IsSpelling, is_ref_in}
 use Rattle.xp_board.specs.Told.{Finds}
 use Rattle.xp_board.proofs.Counted.{typed_counted}
 use Rattle.xp_board.proofs.KindForms.{live_unmarked}
+use Rattle.xp_board.proofs.HeldByForm.{live_idle}
+use Rattle.xp_board.proofs.ListCounts.{first_by-none, times_by-without_one}
 use Rattle.xp_board.proofs.RefWords.{owned_fits}
 use Rattle.xp_board.proofs.Sums.{sum_below-fewer, hands-plus, hands-part}
+use Rattle.xp_board.proofs.Works.{nobody_has, one_works}
 use Rattle.frame_words.proofs.KindWriting.{fields_read}
 use Rattle.frame_words.proofs.Stepping.{refs_there, clock_there}
 
@@ -93,6 +96,7 @@ pub record FoundLive (n : Machine) (f w : ℕ) (h : Holdings) : Type 0 where
   pub some : 0 < (kind_fields w).number
   pub unmarked : (kind_fields w).unflushed ≡ false
   pub kind : (t : PageType) → IsTrue (knows_live (sizes_of n) f t h) → (kind_fields w).kind ≡ t
+  pub apart : work_on f h.works ≡ None
 
 pub found_live : (n : Machine) (s : ℕ) (h : Holdings) (f w : ℕ) → Finds n s h (Kind f) w → MayDrop n f h → FoundLive n f w h
 found_live n s h f w finds may =
@@ -112,4 +116,13 @@ found_live n s h f w finds may =
       kind = λ t knows.
           subst (λ y. (kind_fields y).kind ≡ t) finds.word
           ((finds.sound.found s finds.real).lives f t (subst (λ (u : Holdings). IsTrue (knows_live (sizes_of n) f t u)) (sym finds.mine) knows)).1;
+      apart =
+          subst (λ (u : Holdings). work_on f u.works ≡ None) finds.mine
+          (nobody_has n m finds.seats finds.sound.alone f (live_idle (kind_at m f) live some) s finds.real);
     }
+
+-- a frame that is taken out of the own works stands there no more
+pub out_of_works : (n : Machine) (s : ℕ) (h : Holdings) (p : Place) (f w : ℕ) → Finds n s h p w → work_on f (without_work f h.works) ≡ None
+out_of_works n s h p f w finds =
+    let once = subst (λ (u : Holdings). works_on f u.works ≤ 1) finds.mine (one_works n finds.words finds.seats finds.sound.alone f s finds.real) in
+    first_by-none (λ e. e.frame) f (without_work f h.works) (times_by-without_one (λ e. e.frame) f h.works once)

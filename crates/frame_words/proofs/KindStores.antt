@@ -16,7 +16,7 @@ use Rattle.xp_board.specs.declared.holdings.Work.{Work}
 use Rattle.xp_board.specs.declared.holdings.Holdings.{Holdings}
 use Rattle.xp_board.specs.Acts.{left_by}
 use Rattle.xp_board.specs.After.{after_move, noted}
-use Rattle.xp_board.specs.Hands.{refs_to, typed_to, work_on}
+use Rattle.xp_board.specs.Hands.{refs_to, typed_to, work_on, without_work}
 use Rattle.xp_board.specs.KindSteps.{AllowsForm, Form, Live, Dead, form_of, after_form, made_live, made_dead, dropped, MayMakeLive}
 use Rattle.xp_board.specs.Legal.{LegalNow}
 use Rattle.xp_board.specs.Lists.{times_by, one_at}
@@ -78,8 +78,8 @@ may_be_live n f h a held =
       counts = inl (refl, held);
     }
 
-pub live_hand : (f found : ℕ) (h g : Holdings) (x : Step) → g ≡ noted x found (made_live f (live_kind kinds.Writable 1) h) → MadeLive f kinds.Writable h g
-live_hand f found h g x e =
+pub live_hand : (f found : ℕ) (h g : Holdings) (x : Step) → work_on f (without_work f h.works) ≡ None → g ≡ noted x found (made_live f (live_kind kinds.Writable 1) h) → MadeLive f kinds.Writable h g
+live_hand f found h g x out e =
     subst (λ y. MadeLive f kinds.Writable h y) (sym e)
     (record {
       refs = refl;
@@ -87,33 +87,36 @@ live_hand f found h g x e =
       held = typed_held f _ _ refl;
       known = λ z. known_first z f kinds.Writable _ _ _ refl;
       works = refl;
+      apart = out;
       looking = refl;
       rest = beside h _ refl refl refl refl refl refl refl refl refl refl refl refl refl refl;
     })
 
 -- ---- dead
-dead_by : (b : Bool) (f found : ℕ) (e : Work) (h g : Holdings) (x : Step) → is_work (kind_fields e.word) ≡ b → is_in_work f h ≡ b → g ≡ noted x found (made_dead f e h) → MadeDead f h g
-dead_by true f found e h g x working is to =
+dead_by : (b : Bool) (f found : ℕ) (e : Work) (h g : Holdings) (x : Step) → work_on f (without_work f h.works) ≡ None → is_work (kind_fields e.word) ≡ b → is_in_work f h ≡ b → g ≡ noted x found (made_dead f e h) → MadeDead f h g
+dead_by true f found e h g x out working is to =
     subst (λ y. MadeDead f h y) (sym to)
     (record {
       refs = rw (is, working) refl;
       typed = rw (is, working) refl;
       works = rw working refl;
+      apart = rw working out;
       looking = rw working refl;
       rest = rw working (beside h _ refl refl refl refl refl refl refl refl refl refl refl refl refl refl);
     })
-dead_by false f found e h g x working is to =
+dead_by false f found e h g x out working is to =
     subst (λ y. MadeDead f h y) (sym to)
     (record {
       refs = rw (is, working) refl;
       typed = rw (is, working) refl;
       works = rw working refl;
+      apart = rw working out;
       looking = rw working refl;
       rest = rw working (beside h _ refl refl refl refl refl refl refl refl refl refl refl refl refl refl);
     })
 
-pub dead_hand : (f found : ℕ) (e : Work) (h g : Holdings) (x : Step) → work_on f h.works ≡ Some e → g ≡ noted x found (made_dead f e h) → MadeDead f h g
-dead_hand f found e h g x here to = dead_by (is_work (kind_fields e.word)) f found e h g x refl (ap is_work_in here) to
+pub dead_hand : (f found : ℕ) (e : Work) (h g : Holdings) (x : Step) → work_on f (without_work f h.works) ≡ None → work_on f h.works ≡ Some e → g ≡ noted x found (made_dead f e h) → MadeDead f h g
+dead_hand f found e h g x out here to = dead_by (is_work (kind_fields e.word)) f found e h g x out refl (ap is_work_in here) to
 
 -- ---- a type count less
 only_one : (y : ℕ) → (y == 1) ≡ true → y - 1 ≡ 0
@@ -142,6 +145,7 @@ dropped_hand n s f found b h g x a is e =
       held = ref_held f _ h.refs refl;
       typed = refl;
       works = closes_by b f found h x a.small a.some (sym is);
+      apart = a.apart;
       live = a.live;
       unmarked = a.unmarked;
       kind = a.kind;

@@ -1,5 +1,6 @@
 pub mod Counting
 pub mod Hands
+pub mod KindCalls
 pub mod KindFinds
 pub mod KindHands
 pub mod KindStepping

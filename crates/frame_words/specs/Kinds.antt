@@ -121,6 +121,7 @@ pub record MadeLive (f : ℕ) (kind : PageType) (h k : Holdings) : Type 0 where
   pub held : 0 < typed_to f k.typed
   pub known : (z : Sizes) → IsTrue (knows_live z f kind k)
   pub works : k.works ≡ without_work f h.works
+  pub apart : work_on f k.works ≡ None
   pub looking : k.looking ≡ h.looking
   pub rest : SameBeside h k
 
@@ -138,12 +139,14 @@ abbrev pub ClosesIf : Bool → ℕ → ℕ → Holdings → Holdings → Type 0
 ClosesIf true f found h k = Closes f found h k
 ClosesIf false f found h k = k.works ≡ h.works
 
--- a typed reference became an untyped one; the word found was live, unmarked, and of the type that was known
+-- A typed reference became an untyped one. The word found was live, unmarked, and of the type that was known, and
+-- the frame was not in the own works.
 pub record DroppedType (m : Machine) (f found : ℕ) (closing : Bool) (h k : Holdings) : Type 0 where
   pub refs : k.refs ≡ record { frame = f; owner = typed_owner f h } ∷ h.refs
   pub held : 0 < refs_to f k.refs
   pub typed : k.typed ≡ without_typed f h.typed
   pub works : ClosesIf closing f found h k
+  pub apart : work_on f h.works ≡ None
   pub live : (kind_fields found).validated ≡ true
   pub unmarked : (kind_fields found).unflushed ≡ false
   pub kind : (t : PageType) → IsTrue (knows_live (sizes_of m) f t h) → (kind_fields found).kind ≡ t
@@ -177,5 +180,6 @@ pub record MadeDead (f : ℕ) (h k : Holdings) : Type 0 where
   pub refs : k.refs ≡ (if is_in_work f h then record { frame = f; owner = typed_owner f h } ∷ h.refs else h.refs)
   pub typed : k.typed ≡ (if is_in_work f h then without_typed f h.typed else h.typed)
   pub works : k.works ≡ without_work f h.works
+  pub apart : work_on f k.works ≡ None
   pub looking : k.looking ≡ h.looking
   pub rest : SameBeside h k

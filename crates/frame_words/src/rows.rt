@@ -52,6 +52,7 @@ pub fn look_kind<P: Port>(port: &mut P, frame: u32) -> u64
 pub fn look_clock<P: Port>(port: &mut P) -> u64
     ensures post { (P.value port.new).post ≡ (P.value port.old).post }
     ensures made { Makes (P.value port.old) (P.value port.new) Clock Load None result }
+    ensures found { Finds (P.value port.old).post.machine (P.value port.old).post.seat (P.value port.old).holdings Clock result }
     ensures hand { SameHand (P.value port.old).holdings (P.value port.new).holdings }
 {
     port.step(look(CLOCK, None))

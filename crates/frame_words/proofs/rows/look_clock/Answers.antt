@@ -1,7 +1,8 @@
-use Rattle.std.proofs.Common.{refl}
+use Rattle.std.proofs.Common.{refl, subst}
 use Rattle.xp_words.specs.Places.{Clock, sizes_of}
+use Rattle.xp_board.specs.Told.{Finds}
 use Rattle.frame_words.proofs.Stepping.{clock_there, clock_number}
-use Rattle.frame_words.proofs.Hands.{look_now, look_made, look_left, same_hand}
+use Rattle.frame_words.proofs.Hands.{here, look_now, look_made, look_left, same_hand}
 use Rattle.frame_words.proofs.rows.look_clock.Goals as goal
 
 pub step-requires : goal.step-requires
@@ -15,6 +16,13 @@ returns-clause-made g c =
     let v = g.P.Port.value c.args.port.now in
     let at = clock_number (sizes_of v.post.machine) in
     look_made v _ c.look.result _ _ Clock _ c.look.ensures at (clock_there (sizes_of v.post.machine)) refl c.step.ensures.told c.step.ensures.value
+
+pub returns-clause-found : goal.returns-clause-found
+returns-clause-found g c =
+    let v = g.P.Port.value c.args.port.now in
+    let at = clock_number (sizes_of v.post.machine) in
+    subst (λ p. Finds v.post.machine v.post.seat v.holdings p c.step.result)
+    (here v v c.look.result _ 0 Clock _ c.look.ensures at (clock_there (sizes_of v.post.machine)) refl) c.step.ensures.found
 
 pub returns-clause-hand : goal.returns-clause-hand
 returns-clause-hand g c =
