@@ -1,6 +1,5 @@
 -- What the next step asks, by what the last one left.
-use Rattle.std.proofs.Common.{◌≡◌, ℕ, ◌+◌, ◌<◌, ◌==◌, ◌&&◌, not, if◌then◌else◌, Bool, true, false, List, ◌∷◌, length, Option, Some, None, IsTrue, refl, sym, ap, ◌∙◌, subst, arith, inl}
-use Rattle.std.proofs.lemmas.Bool.Decides.{nat_tests}
+use Rattle.std.proofs.Common.{◌≡◌, ℕ, ◌+◌, ◌==◌, ◌&&◌, not, if◌then◌else◌, Bool, true, false, List, ◌∷◌, length, Some, None, IsTrue, refl, sym, ap, ◌∙◌, inl}
 use Rattle.xp_words.specs.Machine.{Machine}
 use Rattle.xp_words.specs.declared.kind.KindWord.{KindWord}
 use Rattle.xp_words.specs.declared.kind.PageType.{PageType}
@@ -11,13 +10,13 @@ use Rattle.xp_words.specs.Places.{Clock, sizes_of}
 use Rattle.xp_board.specs.declared.holdings.Work.{Work}
 use Rattle.xp_board.specs.declared.holdings.Holdings.{Holdings}
 use Rattle.xp_board.specs.Flushes.{IsPastFlush}
-use Rattle.xp_board.specs.Hands.{refs_to, work_on}
+use Rattle.xp_board.specs.Hands.{work_on}
 use Rattle.xp_board.specs.KindSteps.{MayDrop, begun_kind, is_stale, new_work}
-use Rattle.xp_board.specs.Readings.{is_work, is_closing}
+use Rattle.xp_board.specs.Readings.{is_work}
 use Rattle.xp_board.specs.RefSteps.{SparesClosing, is_closing_on}
 use Rattle.xp_board.specs.Steps.{some_since}
 use Rattle.xp_board.proofs.ListCounts.{first_by-cons_here}
-use Rattle.frame_words.specs.Kinds.{CountedType, BegunWork, IsWritableWork, MadeLive, DroppedType, MayLeaveDead, one_fewer, dead_kind}
+use Rattle.frame_words.specs.Kinds.{CountedType, BegunWork, IsWritableWork, MadeLive, DroppedType, MayLeaveDead, one_fewer}
 
 -- ---- a type count may be given back
 pub counted_may_drop : (n : Machine) (f : ℕ) (k : KindWord) (h g : Holdings) → CountedType f k h g → MayDrop n f g

@@ -1,12 +1,12 @@
 -- What each kind of step on a kind word leaves in hand.
-use Rattle.std.proofs.Common.{◌≡◌, ◌≢◌, ℕ, ◌+◌, ◌^◌, ◌<◌, ◌≤◌, ◌==◌, ◌&&◌, ◌||◌, not, nat_lt, nat_le, if◌then◌else◌, Bool, true, false, List, ◌∷◌, length, Option, Some, None, IsTrue, refl, sym, ap, ◌∙◌, subst, arith, lit<}
+use Rattle.std.proofs.Common.{◌≡◌, ◌≢◌, ℕ, ◌<◌, ◌==◌, ◌&&◌, ◌||◌, not, Bool, true, List, ◌∷◌, Some, None, IsTrue, refl, sym, ap, ◌∙◌, subst, arith}
 use Rattle.std.proofs.lemmas.Bool.Decides.{nat_tests}
-use Rattle.xp_words.specs.Machine.{Machine, IsMachine}
+use Rattle.xp_words.specs.Machine.{Machine}
 use Rattle.xp_words.specs.declared.kind.KindWord.{KindWord}
 use Rattle.xp_words.specs.declared.kind.PageType.{PageType}
-use Rattle.xp_words.specs.KindWords.{is_kind, kind_read, kind_fields, kind_write}
-use Rattle.xp_words.specs.PageTypes.{is_none, is_table, type_number}
-use Rattle.xp_words.specs.Places.{Sizes, Place, Kind, number, sizes_of, place_at}
+use Rattle.xp_words.specs.KindWords.{is_kind, kind_read, kind_write}
+use Rattle.xp_words.specs.PageTypes.{is_none, type_number}
+use Rattle.xp_words.specs.Places.{Sizes, Kind, number, sizes_of, place_at}
 use Rattle.xp_board.specs.declared.step.Act.TheVariants.{Cas}
 use Rattle.xp_board.specs.declared.step.Step.{Step}
 use Rattle.xp_board.specs.declared.step.StepKind.TheVariants as steps
@@ -23,7 +23,7 @@ use Rattle.xp_board.specs.Readings.{is_live, is_dead}
 use Rattle.xp_board.specs.Runs.{place_of}
 use Rattle.xp_board.specs.Spelling.{is_kind_in}
 use Rattle.xp_board.specs.Told.{PortValue, stepped, IsTold}
-use Rattle.xp_board.proofs.Sums.{one_at-same, when_eq}
+use Rattle.xp_board.proofs.Sums.{one_at-same}
 use Rattle.frame_words.specs.Kinds.{SameBeside, LostKind, CountedType, BegunWork, exchange_step}
 use Rattle.frame_words.specs.Pieces.{Makes}
 use Rattle.frame_words.proofs.KindWriting.{fields_write}

@@ -1,18 +1,16 @@
 -- One step on a kind word: when it is legal, and what it leaves.
-use Rattle.std.proofs.Common.{◌≡◌, ◌≢◌, ℕ, ◌+◌, ◌^◌, ◌<◌, ◌≤◌, ◌==◌, ◌&&◌, not, nat_lt, nat_le, if◌then◌else◌, Bool, true, false, Option, Some, None, IsTrue, refl, sym, ap, ◌∙◌, subst, arith, lit<, inl}
-use Rattle.std.proofs.lemmas.Bool.Decides.{nat_tests}
+use Rattle.std.proofs.Common.{◌≡◌, ◌≢◌, ℕ, ◌<◌, ◌==◌, if◌then◌else◌, Option, Some, None, IsTrue, refl, sym, ap, ◌∙◌, subst, lit<, inl}
 use Rattle.xp_words.specs.Machine.{Machine}
 use Rattle.xp_words.specs.declared.kind.KindWord.{KindWord}
 use Rattle.xp_words.specs.KindWords.{is_kind, kind_read, kind_fields, kind_write}
-use Rattle.xp_words.specs.Places.{Place, Kind, number, sizes_of, place_at}
+use Rattle.xp_words.specs.Places.{Kind, sizes_of, place_at}
 use Rattle.xp_words.proofs.KindLaws.{kind_read-write}
 use Rattle.xp_board.specs.declared.step.Act.{Act}
 use Rattle.xp_board.specs.declared.step.Act.TheVariants.{Cas, Store, Add}
-use Rattle.xp_board.specs.declared.step.Step.{Step}
 use Rattle.xp_board.specs.declared.step.StepKind.TheVariants as steps
 use Rattle.xp_board.specs.declared.holdings.Work.{Work}
 use Rattle.xp_board.specs.declared.holdings.Holdings.{Holdings}
-use Rattle.xp_board.specs.After.{after_move, noted}
+use Rattle.xp_board.specs.After.{after_move}
 use Rattle.xp_board.specs.Hands.{work_on}
 use Rattle.xp_board.specs.KindSteps.{AllowsKind, AllowsKindRow, kind_row, AllowsKindStore, AllowsForm, form_of, MayDrop, after_kind_row, after_form, after_kind_store, still_looking, KindRow, Form}
 use Rattle.xp_board.specs.Legal.{LegalMove, LegalNow}

@@ -1,13 +1,11 @@
 -- What stores of a kind word, and a type count given back, leave in hand.
-use Rattle.std.proofs.Common.{◌≡◌, ℕ, ◌+◌, ◌-◌, ◌%◌, ◌^◌, ◌<◌, ◌==◌, not, if◌then◌else◌, Bool, true, false, List, ◌∷◌, length, Option, Some, None, IsTrue, refl, sym, ap, ◌∙◌, subst, arith, inl}
+use Rattle.std.proofs.Common.{◌≡◌, ℕ, ◌-◌, ◌^◌, ◌<◌, ◌==◌, Bool, true, false, List, ◌∷◌, Some, None, IsTrue, refl, sym, ap, ◌∙◌, subst, arith, inl}
 use Rattle.std.proofs.lemmas.Bool.Decides.{nat_tests}
 use Rattle.xp_words.specs.Machine.{Machine}
 use Rattle.xp_words.specs.declared.kind.KindWord.{KindWord}
-use Rattle.xp_words.specs.declared.kind.PageType.{PageType}
 use Rattle.xp_words.specs.declared.kind.PageType.TheVariants as kinds
 use Rattle.xp_words.specs.KindWords.{is_kind, kind_fields, kind_write}
-use Rattle.xp_words.specs.PageTypes.{is_table}
-use Rattle.xp_words.specs.Places.{Place, Kind, number, sizes_of, place_at}
+use Rattle.xp_words.specs.Places.{Kind, number, sizes_of, place_at}
 use Rattle.xp_board.specs.declared.step.Act.TheVariants.{Store, Add}
 use Rattle.xp_board.specs.declared.step.Step.{Step}
 use Rattle.xp_board.specs.declared.step.StepKind.TheVariants as steps
@@ -17,7 +15,7 @@ use Rattle.xp_board.specs.declared.holdings.Holdings.{Holdings}
 use Rattle.xp_board.specs.Acts.{left_by}
 use Rattle.xp_board.specs.After.{after_move, noted}
 use Rattle.xp_board.specs.Hands.{refs_to, typed_to, work_on, without_work}
-use Rattle.xp_board.specs.KindSteps.{AllowsForm, Form, Live, Dead, form_of, after_form, made_live, made_dead, dropped, MayMakeLive}
+use Rattle.xp_board.specs.KindSteps.{AllowsForm, Form, form_of, after_form, made_live, made_dead, dropped, MayMakeLive}
 use Rattle.xp_board.specs.Legal.{LegalNow}
 use Rattle.xp_board.specs.Lists.{times_by, one_at}
 use Rattle.xp_board.specs.Readings.{is_work}
@@ -27,7 +25,7 @@ use Rattle.xp_board.specs.Spelling.{is_kind_in}
 use Rattle.xp_board.specs.Told.{PortValue, stepped, IsTold}
 use Rattle.xp_board.proofs.KindForms.{fields_down}
 use Rattle.xp_board.proofs.Sums.{one_at-same}
-use Rattle.frame_words.specs.Kinds.{IsWritableWork, MadeLive, MadeDead, Closes, ClosesIf, DroppedType, is_work_in, is_in_work, live_kind, dead_kind, store_step}
+use Rattle.frame_words.specs.Kinds.{IsWritableWork, MadeLive, MadeDead, ClosesIf, DroppedType, is_work_in, is_in_work, live_kind, store_step}
 use Rattle.frame_words.specs.Pieces.{Makes}
 use Rattle.frame_words.proofs.KindFinds.{FoundLive}
 use Rattle.frame_words.proofs.KindHands.{typed_held, known_first, beside}

@@ -1,14 +1,14 @@
 -- The kind words that are stored are spellings.
-use Rattle.std.proofs.Common.{◌≡◌, ℕ, ◌+◌, ◌^◌, ◌<◌, ◌≤◌, ◌==◌, ◌&&◌, ◌||◌, not, nat_lt, nat_le, if◌then◌else◌, Bool, true, false, Some, refl, arith, IsTrue, lit<}
+use Rattle.std.proofs.Common.{◌≡◌, ℕ, ◌+◌, ◌^◌, ◌<◌, ◌≤◌, not, Bool, Some, refl, arith, IsTrue, lit<}
 use Rattle.std.proofs.lemmas.Bool.Decides.{nat_tests}
 use Rattle.xp_words.specs.Machine.{Machine}
 use Rattle.xp_words.specs.declared.kind.KindWord.{KindWord}
 use Rattle.xp_words.specs.declared.kind.PageType.{PageType}
 use Rattle.xp_words.specs.declared.kind.PageType.TheVariants as kinds
 use Rattle.xp_words.specs.KindWords.{is_kind, kind_read, kind_fields, kind_write, has_form}
-use Rattle.xp_words.specs.PageTypes.{is_none, is_table}
+use Rattle.xp_words.specs.PageTypes.{is_none}
 use Rattle.xp_words.proofs.KindLaws.{kind_read-write, kind_write-read, when_some}
-use Rattle.xp_board.specs.KindSteps.{begun_kind, raised_kind, is_stale}
+use Rattle.xp_board.specs.KindSteps.{begun_kind, raised_kind}
 use Rattle.xp_board.specs.Readings.{is_live, is_dead}
 use Rattle.xp_board.specs.Spelling.{is_kind_in}
 use Rattle.frame_words.specs.Kinds.{live_kind, dead_kind}

@@ -17,7 +17,7 @@ use Rattle.xp_board.specs.Flushes.{IsPastFlush}
 use Rattle.xp_board.specs.Hands.{refs_to, without_ref, typed_to, without_typed, work_on, without_work, ref_owner, typed_owner}
 use Rattle.xp_board.specs.Knowledge.{knows_live}
 use Rattle.xp_board.specs.KindSteps.{begun_kind, raised_kind, live_typed, new_work, still_looking, MayMakeDead}
-use Rattle.xp_board.specs.Readings.{is_closing, is_work}
+use Rattle.xp_board.specs.Readings.{is_work}
 use Rattle.xp_board.specs.RefSteps.{one_down}
 use Rattle.xp_board.specs.Told.{PortValue}
 use Rattle.frame_words.specs.Pieces.{Makes}

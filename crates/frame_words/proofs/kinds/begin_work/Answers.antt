@@ -1,5 +1,5 @@
-use Rattle.std.proofs.Common.{ap, ◌∙◌, refl, None, subst, arith, ◌+◌, ◌<◌, ◌^◌}
-use Rattle.xp_words.specs.Machine.{Machine, IsMachine}
+use Rattle.std.proofs.Common.{ap, ◌∙◌, refl, None, subst}
+use Rattle.xp_words.specs.Machine.{Machine}
 use Rattle.xp_words.specs.KindWords.{kind_write}
 use Rattle.xp_words.specs.Places.{Kind, number, sizes_of}
 use Rattle.xp_board.specs.declared.step.Act.TheVariants.{Cas}

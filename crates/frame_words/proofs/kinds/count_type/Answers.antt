@@ -1,4 +1,4 @@
-use Rattle.std.proofs.Common.{ap, ◌∙◌, refl, None, subst, arith, ◌+◌, ◌<◌, ◌^◌}
+use Rattle.std.proofs.Common.{ap, ◌∙◌, None, subst, arith, ◌+◌, ◌<◌, ◌^◌}
 use Rattle.xp_words.specs.Machine.{Machine, IsMachine}
 use Rattle.xp_words.specs.KindWords.{kind_write}
 use Rattle.xp_words.specs.Places.{Kind, number, sizes_of}

@@ -1,10 +1,9 @@
-use Rattle.std.proofs.Common.{ap, ◌∙◌, refl, subst}
-use Rattle.xp_words.specs.declared.kind.PageType.TheVariants as kinds
-use Rattle.xp_words.specs.Machine.{Machine, IsMachine}
+use Rattle.std.proofs.Common.{ap, ◌∙◌, refl}
+use Rattle.xp_words.specs.Machine.{Machine}
 use Rattle.xp_words.specs.Places.{Kind, number, sizes_of}
 use Rattle.xp_board.specs.KindSteps.{Dead}
-use Rattle.frame_words.specs.Kinds.{live_kind, dead_kind}
-use Rattle.frame_words.proofs.KindWriting.{writable_is, dead_is, live_fits, dead_fits}
+use Rattle.frame_words.specs.Kinds.{dead_kind}
+use Rattle.frame_words.proofs.KindWriting.{dead_is, dead_fits}
 use Rattle.frame_words.proofs.KindFinds.{out_of_works}
 use Rattle.frame_words.proofs.KindStores.{store_now, store_made, store_done, dead_hand}
 use Rattle.frame_words.proofs.kinds.store_dead.Goals as goal

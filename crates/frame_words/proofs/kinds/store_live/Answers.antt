@@ -3,8 +3,8 @@ use Rattle.xp_words.specs.declared.kind.PageType.TheVariants as kinds
 use Rattle.xp_words.specs.Machine.{Machine, IsMachine}
 use Rattle.xp_words.specs.Places.{Kind, number, sizes_of}
 use Rattle.xp_board.specs.KindSteps.{Live}
-use Rattle.frame_words.specs.Kinds.{live_kind, dead_kind}
-use Rattle.frame_words.proofs.KindWriting.{writable_is, dead_is, live_fits, dead_fits}
+use Rattle.frame_words.specs.Kinds.{live_kind}
+use Rattle.frame_words.proofs.KindWriting.{writable_is, live_fits}
 use Rattle.frame_words.proofs.KindFinds.{out_of_works}
 use Rattle.frame_words.proofs.KindStores.{store_now, store_made, store_done, may_be_live, live_hand}
 use Rattle.frame_words.proofs.kinds.store_live.Goals as goal
