@@ -1,5 +1,5 @@
 -- What the next step asks, by what the last one left.
-use Rattle.std.proofs.Common.{◌≡◌, ℕ, ◌+◌, ◌==◌, ◌&&◌, not, if◌then◌else◌, Bool, true, false, List, ◌∷◌, length, Some, None, IsTrue, refl, sym, ap, ◌∙◌, inl}
+use Rattle.std.proofs.Common.{◌≡◌, ℕ, ◌+◌, ◌<◌, arith, ◌==◌, ◌&&◌, not, if◌then◌else◌, Bool, true, false, List, ◌∷◌, length, Some, None, IsTrue, refl, sym, ap, ◌∙◌, inl}
 use Rattle.xp_words.specs.Machine.{Machine}
 use Rattle.xp_words.specs.declared.kind.KindWord.{KindWord}
 use Rattle.xp_words.specs.declared.kind.PageType.{PageType}
@@ -7,16 +7,20 @@ use Rattle.xp_words.specs.declared.kind.PageType.TheVariants as kinds
 use Rattle.xp_words.specs.KindWords.{kind_fields, kind_write}
 use Rattle.xp_words.specs.PageTypes.{is_table}
 use Rattle.xp_words.specs.Places.{Clock, sizes_of}
+use Rattle.xp_board.specs.declared.holdings.Reference.{Reference}
+use Rattle.xp_board.specs.declared.holdings.TypedReference.{TypedReference}
 use Rattle.xp_board.specs.declared.holdings.Work.{Work}
 use Rattle.xp_board.specs.declared.holdings.Holdings.{Holdings}
 use Rattle.xp_board.specs.Flushes.{IsPastFlush}
-use Rattle.xp_board.specs.Hands.{work_on}
-use Rattle.xp_board.specs.KindSteps.{MayDrop, begun_kind, is_stale, new_work}
+use Rattle.xp_board.specs.Hands.{refs_to, without_ref, typed_on, without_typed, work_on, ref_owner, typed_owner, owner_by_typed, owner_from}
+use Rattle.xp_board.specs.Lists.{without_by}
+use Rattle.xp_board.specs.KindSteps.{live_typed, MayDrop, begun_kind, is_stale, new_work}
 use Rattle.xp_board.specs.Readings.{is_work}
 use Rattle.xp_board.specs.RefSteps.{SparesClosing, is_closing_on}
 use Rattle.xp_board.specs.Steps.{some_since}
-use Rattle.xp_board.proofs.ListCounts.{first_by-cons_here}
-use Rattle.frame_words.specs.Kinds.{CountedType, BegunWork, IsWritableWork, MadeLive, DroppedType, MayLeaveDead, one_fewer}
+use Rattle.xp_board.proofs.ListCounts.{first_by-cons_here, times_by-cons_here}
+use Rattle.xp_board.proofs.Sums.{when_eq}
+use Rattle.frame_words.specs.Kinds.{CountedType, BegunWork, IsWritableWork, MadeLive, DroppedType, MayLeaveDead, MadeDead, is_in_work, one_fewer}
 
 -- ---- a type count may be given back
 pub counted_may_drop : (n : Machine) (f : ℕ) (k : KindWord) (h g : Holdings) → CountedType f k h g → MayDrop n f g
@@ -72,3 +76,41 @@ apart_spares f h apart closing = absurd (let off : is_closing_on (work_on f h.wo
 -- one that was not closed by the count given back
 pub dropped_spares : (n : Machine) (f found : ℕ) (h g : Holdings) → DroppedType n f found false h g → SparesClosing f g
 dropped_spares n f found h g a = apart_spares f g (ap (λ ws. work_on f ws) a.works ∙ a.apart)
+
+-- ---- an untyped reference is in hand of a frame that was left dead
+more_held : (f : ℕ) (e : Reference) (xs : List Reference) → e.frame ≡ f → 0 < refs_to f (e ∷ xs)
+more_held f e xs is = let more = times_by-cons_here (λ (y : Reference). y.frame) f e xs is in omega (arith, more)
+
+still_held : (b : Bool) (f : ℕ) (e : Reference) (xs : List Reference) → e.frame ≡ f → 0 < refs_to f xs → 0 < refs_to f (if b then e ∷ xs else xs)
+still_held true f e xs is held = more_held f e xs is
+still_held false f e xs is held = held
+
+-- the one that was there, or that which the type count became
+pub dead_keeps : (f : ℕ) (h g : Holdings) → MadeDead f h g → 0 < refs_to f h.refs → 0 < refs_to f g.refs
+dead_keeps f h g a held = rw a.refs (still_held (is_in_work f h) f _ h.refs refl held)
+
+pub dead_from_work : (f : ℕ) (h g : Holdings) → MadeDead f h g → is_in_work f h ≡ true → 0 < refs_to f g.refs
+dead_from_work f h g a working = rw (a.refs, working) (more_held f _ h.refs refl)
+
+-- ---- what came into the hand last goes out again
+pub without_newest : {A : Type 0} (key : A → ℕ) (f : ℕ) (x : A) (xs ys : List A) → key x ≡ f → ys ≡ x ∷ xs → without_by key f ys ≡ xs
+unfolding without_by
+without_newest key f x xs ys is e = ap (λ zs. without_by key f zs) e ∙ ap (λ b. if b then xs else x ∷ without_by key f xs) (when_eq (key x) f is)
+
+-- a writable frame that was taken into work and made live leaves the other works, and one typed reference more
+pub record TookWritable (f : ℕ) (h g : Holdings) : Type 0 where
+  pub refs : g.refs ≡ without_ref f h.refs
+  pub typed : g.typed ≡ live_typed f kinds.Writable (ref_owner f h) ∷ h.typed
+  pub works : g.works ≡ h.works
+
+pub writable_taken : (f : ℕ) (k : KindWord) (h u g : Holdings) → BegunWork f k kinds.Writable h u → MadeLive f kinds.Writable u g → TookWritable f h g
+writable_taken f k h u g a b =
+    let owner : typed_owner f u ≡ ref_owner f h =
+    ap (λ o. owner_by_typed o (owner_from u)) (ap (λ xs. typed_on f xs) a.typed ∙ first_by-cons_here (λ (y : TypedReference). y.frame) f _ h.typed refl) in
+    record {
+      refs = b.refs ∙ a.refs;
+      typed =
+          b.typed ∙ ap (λ o. live_typed f kinds.Writable o ∷ without_typed f u.typed) owner
+          ∙ ap (λ (xs : List TypedReference). live_typed f kinds.Writable (ref_owner f h) ∷ xs) (without_newest (λ (y : TypedReference). y.frame) f _ h.typed u.typed refl a.typed);
+      works = b.works ∙ without_newest (λ (y : Work). y.frame) f _ h.works u.works refl a.works;
+    }

@@ -164,7 +164,7 @@ fn raised(word: u64, kind: KindWord, limit: u32) -> u64
 }
 
 // Whether a dead frame has to be flushed before it is used with that type: it is marked, or was of another type.
-fn is_stale_for(kind: KindWord, want: PageType) -> bool
+pub(crate) fn is_stale_for(kind: KindWord, want: PageType) -> bool
     ensures { result ≡ is_stale kind want }
 {
     kind.unflushed || (!kind.kind.is_none() && kind.kind.number() != want.number())
