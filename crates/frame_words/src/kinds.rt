@@ -11,11 +11,9 @@ ghost use Rattle.xp_board.specs.declared.step.Act.TheVariants.{Cas, Store};
 ghost use Rattle.frame_words.specs.Kinds.{LostKind, CountedType, BegunWork, IsWritableWork, MadeLive, Drops, MayLeaveDead, MadeDead, live_kind, dead_kind, exchange_step, store_step};
 ghost use Rattle.frame_words.specs.Pieces.{Makes, found_by};
 
+use crate::rows::ONE_LESS;
 use xp_board::{Act, Port, Step, StepKind};
 use xp_words::{KindWord, PageType};
-
-// Minus one, for an addition that wraps.
-const ONE_LESS: u64 = u64::MAX;
 
 /// Counts a type up by one exchange of the word `expected`, which reads as `kind`. An untyped reference in hand
 /// becomes a typed one. An exchange that finds another word answers it, and leaves the references as they were.
@@ -170,6 +168,7 @@ pub(crate) fn is_stale_for(kind: KindWord, want: PageType) -> bool
     kind.unflushed || (!kind.kind.is_none() && kind.kind.number() != want.number())
 }
 
+// The number, or 0.
 fn only_if(kept: bool, number: u64) -> u64
     ensures { result ≡ (if kept then number else 0) }
 {
