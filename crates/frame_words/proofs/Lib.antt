@@ -2,6 +2,12 @@ pub mod CellHands
 pub mod Counting
 pub mod Flushing
 pub mod Hands
+pub mod KindCalls
+pub mod KindFinds
+pub mod KindHands
+pub mod KindStepping
+pub mod KindStores
+pub mod KindWriting
 pub mod Noting
 pub mod OwnFlush
 pub mod Piecing

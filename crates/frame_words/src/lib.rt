@@ -5,6 +5,7 @@
 
 mod cells;
 mod flushes;
+mod kinds;
 mod references;
 mod rows;
 
@@ -12,6 +13,7 @@ pub use cells::{look_cell, store_cell};
 pub use flushes::{
     ask, flush, flush_own, look_flushed, look_life, look_privileges, look_run_of, tick,
 };
+pub use kinds::{begin_work, count_type, drop_type, store_dead, store_live};
 pub use references::{get_ref, put_ref};
 pub use rows::{
     begin_turn, end_answer, look_clock, look_kind, look_refs, look_run, lower_refs, raise_refs,

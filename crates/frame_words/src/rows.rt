@@ -22,7 +22,7 @@ pub(crate) const ASKED: u32 = 4;
 pub(crate) const RUN: u32 = 6;
 
 // Minus one, for an addition that wraps.
-const ONE_LESS: u64 = u64::MAX;
+pub(crate) const ONE_LESS: u64 = u64::MAX;
 
 /// Loads a frame's reference word.
 pub fn look_refs<P: Port>(port: &mut P, frame: u32) -> u64

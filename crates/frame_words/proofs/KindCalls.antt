@@ -1,0 +1,116 @@
+-- What the next step asks, by what the last one left.
+use Rattle.std.proofs.Common.{◌≡◌, ℕ, ◌+◌, ◌<◌, arith, ◌==◌, ◌&&◌, not, if◌then◌else◌, Bool, true, false, List, ◌∷◌, length, Some, None, IsTrue, refl, sym, ap, ◌∙◌, inl}
+use Rattle.xp_words.specs.Machine.{Machine}
+use Rattle.xp_words.specs.declared.kind.KindWord.{KindWord}
+use Rattle.xp_words.specs.declared.kind.PageType.{PageType}
+use Rattle.xp_words.specs.declared.kind.PageType.TheVariants as kinds
+use Rattle.xp_words.specs.KindWords.{kind_fields, kind_write}
+use Rattle.xp_words.specs.PageTypes.{is_table}
+use Rattle.xp_words.specs.Places.{Clock, sizes_of}
+use Rattle.xp_board.specs.declared.holdings.Reference.{Reference}
+use Rattle.xp_board.specs.declared.holdings.TypedReference.{TypedReference}
+use Rattle.xp_board.specs.declared.holdings.Work.{Work}
+use Rattle.xp_board.specs.declared.holdings.Holdings.{Holdings}
+use Rattle.xp_board.specs.Flushes.{IsPastFlush}
+use Rattle.xp_board.specs.Hands.{refs_to, without_ref, typed_on, without_typed, work_on, ref_owner, typed_owner, owner_by_typed, owner_from}
+use Rattle.xp_board.specs.Lists.{without_by}
+use Rattle.xp_board.specs.KindSteps.{live_typed, MayDrop, begun_kind, is_stale, new_work}
+use Rattle.xp_board.specs.Readings.{is_work}
+use Rattle.xp_board.specs.RefSteps.{SparesClosing, is_closing_on}
+use Rattle.xp_board.specs.Steps.{some_since}
+use Rattle.xp_board.proofs.ListCounts.{first_by-cons_here, times_by-cons_here}
+use Rattle.xp_board.proofs.Sums.{when_eq}
+use Rattle.frame_words.specs.Kinds.{CountedType, BegunWork, IsWritableWork, MadeLive, DroppedType, MayLeaveDead, MadeDead, is_in_work, one_fewer}
+
+-- ---- a type count may be given back
+pub counted_may_drop : (n : Machine) (f : ℕ) (k : KindWord) (h g : Holdings) → CountedType f k h g → MayDrop n f g
+counted_may_drop n f k h g a = record { in_hand = a.held; kind = k.kind; live = a.known (sizes_of n) }
+
+pub live_may_drop : (n : Machine) (f : ℕ) (t : PageType) (h g : Holdings) → MadeLive f t h g → MayDrop n f g
+live_may_drop n f t h g a = record { in_hand = a.held; kind = t; live = a.known (sizes_of n) }
+
+-- ---- a frame that came into work may be made live: at once where it is unmarked
+work_here : (f : ℕ) (e : Work) (h : Holdings) (xs : List Work) → e.frame ≡ f → h.works ≡ e ∷ xs → work_on f h.works ≡ Some e
+work_here f e h xs frame works = ap (λ ys. work_on f ys) works ∙ first_by-cons_here (λ y. y.frame) f e xs frame
+
+pub begun_is_writable : (n : Machine) (f : ℕ) (k : KindWord) (h g u : Holdings) → BegunWork f k kinds.Writable h g → u.works ≡ g.works →
+    (is_stale k kinds.Writable ≡ true → IsPastFlush n u (new_work f (kind_write (begun_kind k kinds.Writable)) 0 None h)) → IsWritableWork n f u
+begun_is_writable n f k h g u a same past =
+    record {
+      work = new_work f (kind_write (begun_kind k kinds.Writable)) 0 None h;
+      here = work_here f _ u h.works refl (same ∙ a.works);
+      in_work = ap is_work a.fields;
+      kind = ap (λ (y : KindWord). y.kind) a.fields;
+      past = λ marked. past (sym (ap (λ (y : KindWord). y.unflushed) a.fields) ∙ marked);
+    }
+
+-- ---- a frame that is no table and is closing may be left dead, with a clock value found since
+no_work : (b c d : Bool) → b ≡ true → (not b && (not c && d)) ≡ true → ⊥
+no_work true c d live work = absurd (cc)
+no_work false c d live work = absurd (cc)
+
+live_is_no_work : (w : ℕ) → (kind_fields w).validated ≡ true → IsTrue (is_work (kind_fields w)) → ⊥
+live_is_no_work w live work = no_work (kind_fields w).validated (kind_fields w).partial (kind_fields w).locked live work
+
+pub dropped_may_die : (n : Machine) (f found stamp : ℕ) (t : PageType) (h g u : Holdings) → DroppedType n f found true h g → u.works ≡ g.works → (kind_fields found).kind ≡ t →
+    is_table t ≡ false → IsTrue (some_since (sizes_of n) (length h.steps + 1) Clock (λ w. w == stamp) u.steps) → MayLeaveDead n f t false stamp u
+dropped_may_die n f found stamp t h g u a same kind plain told =
+    let fields = a.works.fields in
+    let none : ◌≡◌ {A = ℕ} (if is_table (kind_fields found).kind then 512 else 0) 0 = rw (kind, plain) refl in
+    record {
+      work = new_work f (one_fewer found) (if is_table (kind_fields found).kind then 512 else 0) None h;
+      here = work_here f _ u h.works refl (same ∙ a.works.works);
+      may = record {
+        kind = sym (ap (λ (y : KindWord). y.kind) fields ∙ kind);
+        none = none;
+        mark = inl (sym (ap (λ (y : KindWord). y.unflushed) fields ∙ a.unmarked));
+        stamp = told;
+        counts = λ work. absurd (live_is_no_work (one_fewer found) (ap (λ (y : KindWord). y.validated) fields ∙ a.live) work);
+      };
+    }
+
+-- ---- an untyped reference may be given back where the frame is not in the own works
+pub apart_spares : (f : ℕ) (h : Holdings) → work_on f h.works ≡ None → SparesClosing f h
+apart_spares f h apart closing = absurd (let off : is_closing_on (work_on f h.works) ≡ false = ap is_closing_on apart in cc)
+
+-- one that was not closed by the count given back
+pub dropped_spares : (n : Machine) (f found : ℕ) (h g : Holdings) → DroppedType n f found false h g → SparesClosing f g
+dropped_spares n f found h g a = apart_spares f g (ap (λ ws. work_on f ws) a.works ∙ a.apart)
+
+-- ---- an untyped reference is in hand of a frame that was left dead
+more_held : (f : ℕ) (e : Reference) (xs : List Reference) → e.frame ≡ f → 0 < refs_to f (e ∷ xs)
+more_held f e xs is = let more = times_by-cons_here (λ (y : Reference). y.frame) f e xs is in omega (arith, more)
+
+still_held : (b : Bool) (f : ℕ) (e : Reference) (xs : List Reference) → e.frame ≡ f → 0 < refs_to f xs → 0 < refs_to f (if b then e ∷ xs else xs)
+still_held true f e xs is held = more_held f e xs is
+still_held false f e xs is held = held
+
+-- the one that was there, or that which the type count became
+pub dead_keeps : (f : ℕ) (h g : Holdings) → MadeDead f h g → 0 < refs_to f h.refs → 0 < refs_to f g.refs
+dead_keeps f h g a held = rw a.refs (still_held (is_in_work f h) f _ h.refs refl held)
+
+pub dead_from_work : (f : ℕ) (h g : Holdings) → MadeDead f h g → is_in_work f h ≡ true → 0 < refs_to f g.refs
+dead_from_work f h g a working = rw (a.refs, working) (more_held f _ h.refs refl)
+
+-- ---- what came into the hand last goes out again
+pub without_newest : {A : Type 0} (key : A → ℕ) (f : ℕ) (x : A) (xs ys : List A) → key x ≡ f → ys ≡ x ∷ xs → without_by key f ys ≡ xs
+unfolding without_by
+without_newest key f x xs ys is e = ap (λ zs. without_by key f zs) e ∙ ap (λ b. if b then xs else x ∷ without_by key f xs) (when_eq (key x) f is)
+
+-- a writable frame that was taken into work and made live leaves the other works, and one typed reference more
+pub record TookWritable (f : ℕ) (h g : Holdings) : Type 0 where
+  pub refs : g.refs ≡ without_ref f h.refs
+  pub typed : g.typed ≡ live_typed f kinds.Writable (ref_owner f h) ∷ h.typed
+  pub works : g.works ≡ h.works
+
+pub writable_taken : (f : ℕ) (k : KindWord) (h u g : Holdings) → BegunWork f k kinds.Writable h u → MadeLive f kinds.Writable u g → TookWritable f h g
+writable_taken f k h u g a b =
+    let owner : typed_owner f u ≡ ref_owner f h =
+    ap (λ o. owner_by_typed o (owner_from u)) (ap (λ xs. typed_on f xs) a.typed ∙ first_by-cons_here (λ (y : TypedReference). y.frame) f _ h.typed refl) in
+    record {
+      refs = b.refs ∙ a.refs;
+      typed =
+          b.typed ∙ ap (λ o. live_typed f kinds.Writable o ∷ without_typed f u.typed) owner
+          ∙ ap (λ (xs : List TypedReference). live_typed f kinds.Writable (ref_owner f h) ∷ xs) (without_newest (λ (y : TypedReference). y.frame) f _ h.typed u.typed refl a.typed);
+      works = b.works ∙ without_newest (λ (y : Work). y.frame) f _ h.works u.works refl a.works;
+    }
