@@ -1,4 +1,4 @@
-//! Frames: one function for each single step that operations make so far, and the references that they take and give back.
+//! Frames: one function for each single step that operations are made of, and the references that they take and give back.
 //!
 //! Each of them takes the access of one vCPU, over any board, and says what it leaves in that vCPU's hand.
 #![tactic(auto)]
