@@ -1,15 +1,15 @@
 -- Pieces of steps, one behind the other.
-use Rattle.std.proofs.Common.{◌≡◌, ℕ, ◌||◌, List, [], ◌∷◌, ◌++◌, Option, IsTrue, refl, sym, ap, ◌∙◌, subst, inl, append_assoc, append-nil}
+use Rattle.std.proofs.Common.{◌≡◌, ℕ, ◌==◌, ◌||◌, not, false, List, [], ◌∷◌, ◌++◌, None, IsTrue, refl, sym, ap, ◌∙◌, subst, inl, inr, append_assoc, append-nil, arith}
+use Rattle.std.proofs.lemmas.Bool.Decides.{nat_tests}
 use Rattle.xp_words.specs.Machine.{Machine}
 use Rattle.xp_words.specs.Places.{Place}
 use Rattle.xp_board.specs.declared.step.Act.{Act}
-use Rattle.xp_board.specs.declared.step.Mark.{Mark}
 use Rattle.xp_board.specs.declared.holdings.Made.{Made}
 use Rattle.xp_board.specs.Lists.{EachOf}
 use Rattle.xp_board.specs.Runs.{place_of}
 use Rattle.xp_board.specs.Told.{Post, PortValue, Had}
-use Rattle.xp_board.proofs.Going.{went_more, went_post}
-use Rattle.frame_words.specs.Pieces.{Makes, Deed, deeds_by, deeds, is_load, is_of, StaysIn, Serves}
+use Rattle.xp_board.proofs.Going.{went_more, went_post, had_earlier, had_later}
+use Rattle.frame_words.specs.Pieces.{Makes, Deed, deeds_by, deeds, is_load, is_of, is_of_flush, StaysIn, Serves, IsCalm, Calm, FoundWaiting, FlushesFor}
 
 pub deeds_append : (n : Machine) (xs ys : List Made) → deeds n (ys ++ xs) ≡ deeds n ys ++ deeds n xs
 deeds_append n xs [] = refl
@@ -38,8 +38,31 @@ serves_more v u w f ds es xs ys a b =
       of_frame = each_append (StaysIn v.post.machine f) xs ys a.of_frame (subst (λ (q : Post). EachOf (StaysIn q.machine f) ys) post b.of_frame);
     }
 
+-- ---- flushes
+pub calm_nothing : (n : Machine) → Calm n []
+unfolding EachOf
+calm_nothing n = tt
+
+pub calm_more : (n : Machine) (xs ys : List Made) → Calm n xs → Calm n ys → Calm n (ys ++ xs)
+calm_more n xs ys a b = each_append (IsCalm n) xs ys a b
+
+pub waiting_earlier : (n : Machine) (f : ℕ) (xs ys : List Made) → FoundWaiting n f xs → FoundWaiting n f (ys ++ xs)
+waiting_earlier n f xs ys a = record { word = a.word; had = had_earlier n _ a.word xs ys a.had; unvalidated = a.unvalidated; stale = a.stale }
+
+pub waiting_later : (n : Machine) (f : ℕ) (xs ys : List Made) → FoundWaiting n f ys → FoundWaiting n f (ys ++ xs)
+waiting_later n f xs ys a = record { word = a.word; had = had_later n _ a.word xs ys a.had; unvalidated = a.unvalidated; stale = a.stale }
+
+pub flushes_more : (n : Machine) (f : ℕ) (xs ys : List Made) → FlushesFor n f xs → FlushesFor n f ys → FlushesFor n f (ys ++ xs)
+flushes_more n f xs ys (inl a) (inl b) = inl (calm_more n xs ys a b)
+flushes_more n f xs ys (inr a) b = inr (waiting_earlier n f xs ys a)
+flushes_more n f xs ys (inl a) (inr b) = inr (waiting_later n f xs ys b)
+
 -- ---- one step
-module _ (v w : PortValue) (p : Place) (a : Act) (mark : Option Mark) (found : ℕ) (m : Makes v w p a mark found) where
+-- a word of frame f that is no word of a flush
+pub this_frame : (f : ℕ) → IsTrue ((f == f) || false)
+this_frame f = grind (arith, nat_tests)
+
+module _ (v w : PortValue) (p : Place) (a : Act) (found : ℕ) (m : Makes v w p a None found) where
   pub made_of : Made
   made_of = record { step = m.step; found = found }
 
@@ -47,11 +70,27 @@ module _ (v w : PortValue) (p : Place) (a : Act) (mark : Option Mark) (found : �
   unfolding made_of
   makes_had = inl (m.place, refl)
 
-  pub makes_serves : (f : ℕ) → IsTrue (is_load a || is_of f p) → Serves v w f (deeds_by p a) (made_of ∷ [])
+  pub makes_serves : (f : ℕ) → IsTrue (is_load a || (is_of f p || is_of_flush p)) → Serves v w f (deeds_by p a) (made_of ∷ [])
   unfolding made_of EachOf
   makes_serves f within =
       record {
         went = m.went;
         deeds_are = ap (λ q. deeds_by q m.step.act ++ []) m.place ∙ ap (λ b. deeds_by p b ++ []) m.act ∙ append-nil (deeds_by p a);
-        of_frame = (subst (λ q. IsTrue (is_load m.step.act || is_of f q)) (sym m.place) (subst (λ b. IsTrue (is_load b || is_of f p)) (sym m.act) within), tt);
+        of_frame = (
+          (
+            m.mark_is,
+            subst (λ q. IsTrue (is_load m.step.act || (is_of f q || is_of_flush q))) (sym m.place)
+            (subst (λ b. IsTrue (is_load b || (is_of f p || is_of_flush p))) (sym m.act) within),
+          ),
+          tt,
+        );
       }
+
+  pub makes_calm : IsTrue (is_load a || not (is_of_flush p)) → Calm v.post.machine (made_of ∷ [])
+  unfolding made_of EachOf
+  makes_calm calm =
+      (
+        subst (λ q. IsTrue (is_load m.step.act || not (is_of_flush q))) (sym m.place)
+        (subst (λ b. IsTrue (is_load b || not (is_of_flush p))) (sym m.act) calm),
+        tt,
+      )

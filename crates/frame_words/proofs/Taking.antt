@@ -25,10 +25,10 @@ use Rattle.xp_board.specs.Spelling.{IsSpelling}
 use Rattle.xp_board.specs.Told.{Post, PortValue, Finds, Had, is_telling, told_word}
 use Rattle.xp_board.proofs.Going.{went_post, had_earlier, had_later}
 use Rattle.frame_words.specs.Hands.{SameRest, SameHand, TookRef, GaveRef, EndsIf}
-use Rattle.frame_words.specs.Pieces.{Makes, Serves}
+use Rattle.frame_words.specs.Pieces.{Makes, Serves, Calm}
 use Rattle.frame_words.specs.References.{Gets, RefusesWord, IsLent}
 use Rattle.frame_words.proofs.Counting.{counted, next_read, count_is}
-use Rattle.frame_words.proofs.Piecing.{serves_nothing, serves_more, made_of, makes_had, makes_serves}
+use Rattle.frame_words.proofs.Piecing.{serves_nothing, serves_more, made_of, makes_had, makes_serves, makes_calm, calm_nothing, calm_more, this_frame}
 use Rattle.frame_words.proofs.Stepping.{refs_there}
 use Rattle.frame_words.proofs.Telling.{makes_telling, makes_found, makes_here}
 
@@ -114,10 +114,7 @@ taken_spares n s h a k f found owner finds same took closing =
 
 -- ---- pieces
 pub got_none : (v : PortValue) (f owner : ℕ) → v.post.machine.frames ≤ f → Gets v v f owner (Err (Refused (NoFrame f)))
-got_none v f owner past = record { made = []; piece = serves_nothing v f; shows = inl (past, refl) }
-
-this_frame : (f : ℕ) → IsTrue (f == f)
-this_frame f = grind (arith, nat_tests)
+got_none v f owner past = record { made = []; piece = serves_nothing v f; calm = calm_nothing v.post.machine; shows = inl (past, refl) }
 
 when_same : (v y z : ℕ) → (if v == v then y else z) ≡ y
 when_same v y z = grind (arith, nat_tests)
@@ -126,9 +123,10 @@ module _ (v u : PortValue) (f owner word : ℕ) (look : Makes v u (Refs f) Load 
   pub got_refused : (r : Refusal) → RefusesWord f owner v.post.machine.limit word r → Gets v u f owner (Err (Refused r))
   got_refused r why =
       record {
-        made = made_of _ _ _ _ _ _ look ∷ [];
-        piece = makes_serves _ _ _ _ _ _ look f refl;
-        shows = inr (record { word = word; had = makes_had _ _ _ _ _ _ look; refuses = why });
+        made = made_of _ _ _ _ _ look ∷ [];
+        piece = makes_serves _ _ _ _ _ look f refl;
+        calm = makes_calm _ _ _ _ _ look refl;
+        shows = inr (record { word = word; had = makes_had _ _ _ _ _ look; refuses = why });
       }
 
   module _ (w : PortValue) (found : ℕ) (raise : Makes u w (Refs f) (Cas word (word + 1)) None found) where
@@ -136,27 +134,34 @@ module _ (v u : PortValue) (f owner word : ℕ) (look : Makes v u (Refs f) Load 
     same_post = went_post v u (record { step = look.step; found = word } ∷ []) look.went
 
     both : List Made
-    both = made_of _ _ _ _ _ _ raise ∷ (made_of _ _ _ _ _ _ look ∷ [])
+    both = made_of _ _ _ _ _ raise ∷ (made_of _ _ _ _ _ look ∷ [])
 
     both_serve : Serves v w f [] both
     unfolding both
-    both_serve = serves_more v u w f [] [] _ _ (makes_serves _ _ _ _ _ _ look f refl) (makes_serves _ _ _ _ _ _ raise f (this_frame f))
+    both_serve = serves_more v u w f [] [] _ _ (makes_serves _ _ _ _ _ look f refl) (makes_serves _ _ _ _ _ raise f (this_frame f))
+
+    both_calm : Calm v.post.machine both
+    unfolding both
+    both_calm =
+        calm_more v.post.machine _ _ (makes_calm _ _ _ _ _ look refl)
+        (subst (λ (q : Post). Calm q.machine (made_of _ _ _ _ _ raise ∷ [])) same_post (makes_calm _ _ _ _ _ raise refl))
 
     had_first : Had v.post.machine (Refs f) word both
     unfolding both
-    had_first = had_earlier v.post.machine (Refs f) word (made_of _ _ _ _ _ _ look ∷ []) (made_of _ _ _ _ _ _ raise ∷ []) (makes_had _ _ _ _ _ _ look)
+    had_first = had_earlier v.post.machine (Refs f) word (made_of _ _ _ _ _ look ∷ []) (made_of _ _ _ _ _ raise ∷ []) (makes_had _ _ _ _ _ look)
 
     had_second : Had v.post.machine (Refs f) found both
     unfolding both
     had_second =
-        had_later v.post.machine (Refs f) found (made_of _ _ _ _ _ _ look ∷ []) (made_of _ _ _ _ _ _ raise ∷ [])
-        (subst (λ (q : Post). Had q.machine (Refs f) found (made_of _ _ _ _ _ _ raise ∷ [])) same_post (makes_had _ _ _ _ _ _ raise))
+        had_later v.post.machine (Refs f) found (made_of _ _ _ _ _ look ∷ []) (made_of _ _ _ _ _ raise ∷ [])
+        (subst (λ (q : Post). Had q.machine (Refs f) found (made_of _ _ _ _ _ raise ∷ [])) same_post (makes_had _ _ _ _ _ raise))
 
     pub got_lost : (place : ℕ) → place ≡ number (sizes_of v.post.machine) (Refs f) → found ≢ word → Gets v w f owner (Err (Paused (Lost place word found)))
     got_lost place at off =
         record {
           made = both;
           piece = both_serve;
+          calm = both_calm;
           shows = record {
             expected = word;
             found = found;
@@ -172,6 +177,7 @@ module _ (v u : PortValue) (f owner word : ℕ) (look : Makes v u (Refs f) Load 
         record {
           made = both;
           piece = both_serve;
+          calm = both_calm;
           shows = record { word = word; had = had_first; is_open = rw read (refl, below) };
         }
 
@@ -192,15 +198,3 @@ module _ (v u : PortValue) (f owner word : ℕ) (look : Makes v u (Refs f) Load 
         let two = count_is (word + 1) owner (count + 1) allocated (next_read word owner count allocated c below) in
         let some = c.some in
         rw (told, two) (omega arith)
-
--- ---- given back
-more_than_one : (c : ℕ) → 2 ≤ c → (c == 1) ≡ false
-more_than_one c h = grind (arith, nat_tests)
-
-pub not_last : (f found : ℕ) (h k : Holdings) → 2 ≤ ref_count found → GaveRef f found h k → k.ending ≡ h.ending
-not_last f found h k many gave = subst (λ b. EndsIf b f h k) (more_than_one (ref_count found) many) gave.ending
-
-pub put_not_last : (v w : PortValue) (f found : ℕ) → Makes v w (Refs f) (Add one_down) None found → GaveRef f found v.holdings w.holdings → is_telling v ≡ true → IsLent f v →
-    w.holdings.ending ≡ v.holdings.ending
-put_not_last v w f found made gave tells lent =
-    not_last f found v.holdings w.holdings (subst (λ y. 2 ≤ ref_count y) (makes_found _ _ _ _ _ _ made tells) lent) gave

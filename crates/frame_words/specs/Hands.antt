@@ -1,5 +1,5 @@
 -- What the single steps leave in hand, part by part.
-use Rattle.std.specs.Prelude.{◌≡◌, ℕ, ◌<◌, ◌==◌, Bool, true, false, ◌∷◌, length, Some}
+use Rattle.std.specs.Prelude.{◌≡◌, ◌⊎◌, ℕ, ◌<◌, ◌==◌, Bool, true, false, [], ◌∷◌, length, Some}
 use Rattle.xp_board.specs.declared.holdings.Ending.{Ending}
 use Rattle.xp_board.specs.declared.holdings.Holdings.{Holdings}
 use Rattle.xp_board.specs.declared.holdings.OwnerFound.TheVariants as owners
@@ -68,3 +68,43 @@ pub record GaveRef (f found : ℕ) (h k : Holdings) : Type 0 where
   pub run : k.run ≡ h.run
   pub turn : k.turn ≡ h.turn
   pub rest : SameRest h k
+
+-- a reference to frame f went out of the hand, and nothing else changed
+pub record GaveBack (f : ℕ) (h k : Holdings) : Type 0 where
+  pub refs : k.refs ≡ without_ref f h.refs
+  pub ending : k.ending ≡ h.ending
+  pub run : k.run ≡ h.run
+  pub turn : k.turn ≡ h.turn
+  pub rest : SameRest h k
+
+-- ---- hands in which the own translations may be flushed
+-- the parts beside references, types and works
+pub record FlushedRest (h k : Holdings) : Type 0 where
+  pub locks : k.locks ≡ h.locks
+  pub ending : k.ending ≡ h.ending
+  pub claimed : k.claimed ≡ h.claimed
+  pub raised : k.raised ≡ h.raised
+  pub credits : k.credits ≡ h.credits
+  pub looking : k.looking ≡ h.looking
+  pub cache : (k.cache ≡ h.cache) ⊎ (k.cache ≡ [])
+  pub walk : k.walk ≡ h.walk
+  pub cold : (k.cold ≡ h.cold) ⊎ (k.cold ≡ false)
+  pub run : k.run ≡ h.run
+  pub old0 : k.old0 ≡ h.old0
+  pub old1 : k.old1 ≡ h.old1
+  pub turn : k.turn ≡ h.turn
+  pub ran : k.ran ≡ h.ran
+
+-- nothing in hand changed, but that the own translations may be flushed
+pub record SameOrFlushed (h k : Holdings) : Type 0 where
+  pub refs : k.refs ≡ h.refs
+  pub typed : k.typed ≡ h.typed
+  pub works : k.works ≡ h.works
+  pub rest : FlushedRest h k
+
+-- the same, and a reference to frame f went out of the hand
+pub record GaveUp (f : ℕ) (h k : Holdings) : Type 0 where
+  pub refs : k.refs ≡ without_ref f h.refs
+  pub typed : k.typed ≡ h.typed
+  pub works : k.works ≡ h.works
+  pub rest : FlushedRest h k

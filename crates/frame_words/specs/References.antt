@@ -1,23 +1,23 @@
 -- References that are taken and given back.
 use Rattle.std.specs.Prelude.{◌≡◌, ◌≢◌, ◌⊎◌, ℕ, ◌<◌, ◌≤◌, List, [], Option, Some, None, Result, Ok, Err}
 use Rattle.xp_words.specs.declared.refs.RefWord.{RefWord}
-use Rattle.xp_words.specs.declared.refs.RefWord.TheVariants.{Owned}
+use Rattle.xp_words.specs.declared.refs.RefWord.TheVariants.{Free, Owned}
 use Rattle.xp_words.specs.declared.reply.Stop.{Stop}
 use Rattle.xp_words.specs.declared.reply.Stop.TheVariants.{Refused, Paused}
 use Rattle.xp_words.specs.declared.reply.Refusal.{Refusal}
 use Rattle.xp_words.specs.declared.reply.Refusal.TheVariants.{NoFrame, WrongOwner, CountFull}
 use Rattle.xp_words.specs.declared.reply.Pause.{Pause}
 use Rattle.xp_words.specs.declared.reply.Pause.TheVariants.{Lost}
-use Rattle.xp_words.specs.RefWords.{ref_read}
+use Rattle.xp_words.specs.RefWords.{ref_read, ref_write}
 use Rattle.xp_words.specs.Machine.{Machine}
-use Rattle.xp_words.specs.Places.{Refs, number, sizes_of}
-use Rattle.xp_board.specs.declared.step.Act.TheVariants.{Add}
+use Rattle.xp_words.specs.Places.{Clock, Refs, number, sizes_of}
+use Rattle.xp_board.specs.declared.step.Act.TheVariants.{Store, Add}
 use Rattle.xp_board.specs.declared.holdings.Made.{Made}
 use Rattle.xp_board.specs.Readings.{ref_count}
 use Rattle.xp_board.specs.RefSteps.{one_down}
 use Rattle.xp_board.specs.Told.{PortValue, Had, told_word}
-use Rattle.frame_words.specs.Hands.{GaveRef}
-use Rattle.frame_words.specs.Pieces.{Makes, Serves}
+use Rattle.frame_words.specs.Hands.{GaveBack}
+use Rattle.frame_words.specs.Pieces.{Serves, Calm, HadAct}
 
 -- ---- reference words
 -- owned by that domain, with room for one more reference
@@ -74,6 +74,7 @@ Shows n f owner made (Err e) = Cause n f owner made e
 pub record Gets (v w : PortValue) (f owner : ℕ) (answer : Result ℕ Stop) : Type 0 where
   pub made : List Made
   pub piece : Serves v w f [] made
+  pub calm : Calm v.post.machine made
   pub shows : Shows v.post.machine f owner made answer
 
 abbrev pub IsRefusal : Stop → Type 0
@@ -85,8 +86,19 @@ abbrev pub IsLent : ℕ → PortValue → Type 0
 IsLent f v = 2 ≤ ref_count (told_word v (Refs f))
 
 -- ---- a reference given back
--- from v to w one step counts it down; what stays in hand depends on the word that it finds
+-- the frame is left free, with a clock value that these steps found
+pub record Frees (n : Machine) (f : ℕ) (made : List Made) : Type 0 where
+  pub stamp : ℕ
+  pub word : ℕ
+  pub clock : Had n Clock stamp made
+  pub stored : HadAct n (Refs f) (Store (ref_write (Free stamp))) word made
+
+-- The steps from v to w count it down by one. Where it was the last, the frame is free behind them.
 pub record Puts (v w : PortValue) (f : ℕ) : Type 0 where
+  pub made : List Made
+  pub piece : Serves v w f [] made
+  pub calm : Calm v.post.machine made
   pub found : ℕ
-  pub made : Makes v w (Refs f) (Add one_down) None found
-  pub hand : GaveRef f found v.holdings w.holdings
+  pub lowered : HadAct v.post.machine (Refs f) (Add one_down) found made
+  pub freed : ref_count found ≡ 1 → Frees v.post.machine f made
+  pub hand : GaveBack f v.holdings w.holdings

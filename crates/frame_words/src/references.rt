@@ -80,7 +80,8 @@ pub fn get_ref<P: Port>(port: &mut P, f: u64, owner: u16) -> Result<u32, Stop>
     }
 }
 
-/// Gives a reference in hand back. Where it was the last, the frame is ending in the hand.
+/// Gives a reference in hand back. The last one loads the clock, sets the frame's bit in the map of free frames, stores
+/// the free word with that clock, and takes one from the pages of the owner.
 pub fn put_ref<P: Port>(port: &mut P, frame: u32)
     requires frame { frame < (P.value port.old).post.machine.frames }
     requires running { (P.value port.old).holdings.run ≡ Some 0 }
@@ -88,8 +89,6 @@ pub fn put_ref<P: Port>(port: &mut P, frame: u32)
     requires spares { SparesClosing frame (P.value port.old).holdings }
     ensures post { (P.value port.new).post ≡ (P.value port.old).post }
     ensures puts { Puts (P.value port.old) (P.value port.new) frame }
-    // On a board that tells another reference it was not the last.
-    ensures kept { is_telling (P.value port.old) ≡ true → IsLent frame (P.value port.old) → (P.value port.new).holdings.ending ≡ (P.value port.old).holdings.ending }
 {
     lower_refs(port, frame);
 }

@@ -1,12 +1,10 @@
 -- A machine-to-physical word that is set.
-use Rattle.std.specs.Prelude.{◌≡◌, ℕ, ◌<◌, Bool, List, [], ◌∷◌, Result, Ok, Err}
+use Rattle.std.specs.Prelude.{◌≡◌, ℕ, ◌<◌, List, [], ◌∷◌, Result, Ok, Err}
 use Rattle.xp_words.specs.declared.reply.Stop.{Stop}
 use Rattle.xp_words.specs.Machine.{Machine}
 use Rattle.xp_board.specs.declared.holdings.Made.{Made}
-use Rattle.xp_board.specs.declared.holdings.Holdings.{Holdings}
 use Rattle.xp_board.specs.Told.{PortValue}
-use Rattle.frame_words.specs.Hands.{SameRest, EndsIf}
-use Rattle.frame_words.specs.Pieces.{Deed, SetsM2p, Serves}
+use Rattle.frame_words.specs.Pieces.{Deed, SetsM2p, Serves, Calm}
 use Rattle.frame_words.specs.References.{FoundOpen, Cause}
 
 abbrev pub deeds_of : ℕ → ℕ → Result (Unit {0}) Stop → List Deed
@@ -22,13 +20,5 @@ Shows n f owner made (Err e) = Cause n f owner made e
 pub record Maps (v w : PortValue) (f owner gpfn : ℕ) (answer : Result (Unit {0}) Stop) : Type 0 where
   pub made : List Made
   pub piece : Serves v w f (deeds_of f gpfn answer) made
+  pub calm : Calm v.post.machine made
   pub shows : Shows v.post.machine f owner made answer
-
--- the hand is as before, but that frame f may have come to the ending ones
-pub record Mapped (f : ℕ) (h k : Holdings) : Type 0 where
-  pub refs : k.refs ≡ h.refs
-  pub last : Bool
-  pub ending : EndsIf last f h k
-  pub run : k.run ≡ h.run
-  pub turn : k.turn ≡ h.turn
-  pub rest : SameRest h k

@@ -1,0 +1,8 @@
+//! The elements of `mmu_update`: machine-to-physical words, and words of ordinary memory.
+#![tactic(auto)]
+
+mod element;
+mod update;
+
+pub use element::Element;
+pub use update::update;

@@ -1,0 +1,3 @@
+pub mod Cpus
+pub mod Lists
+pub mod Turning

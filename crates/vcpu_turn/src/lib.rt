@@ -1,0 +1,9 @@
+//! The turns of virtual processors: how an operation that is a list goes on from turn to turn.
+#![tactic(auto)]
+
+mod cpu;
+mod lists;
+mod turning;
+
+pub use cpu::{Cpu, TurnEnd};
+pub use turning::{stop, turn};
