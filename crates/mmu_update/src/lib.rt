@@ -2,7 +2,7 @@
 #![tactic(auto)]
 
 mod element;
-mod update;
+mod elements;
 
 pub use element::Element;
-pub use update::update;
+pub use elements::update;

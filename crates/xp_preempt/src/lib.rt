@@ -1,7 +1,7 @@
 //! Preemption policies: gates, which a virtual processor asks where it may pause.
 #![tactic(auto)]
 
-ghost use Rattle.std.specs.Prelude.{◌≡◌, ◌+◌, ◌<◌, ◌≤◌, ◌^◌, true, false, if◌then◌else◌};
+ghost use Rattle.std.specs.Prelude.{ℕ, Bool, ◌≡◌, ◌+◌, ◌<◌, ◌≤◌, ◌^◌, true, false, if◌then◌else◌};
 
 /// A gate. It belongs to one vCPU, which asks it between the parts of an operation.
 pub trait Preempt: Drop {
