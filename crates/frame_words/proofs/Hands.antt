@@ -131,8 +131,8 @@ lost_hand n s f w h k x found off e =
     same_hand h k x found (e ∙ ap (λ y. noted x found y) (when_other found w (after_ref_row (ref_row (ref_read w) (ref_read (w + 1))) n s f found h) h off))
 
 -- ---- one reference less
-ends_by : (b : Bool) (f : ℕ) (h : Holdings) (x : Step) (w : ℕ) → (ref_count w == 1) ≡ b → EndsIf b f h (noted x w (gave_ref f w h))
-ends_by true f h x w e = rw e (_, refl, refl)
+ends_by : (b : Bool) (f : ℕ) (h : Holdings) (x : Step) (w : ℕ) → (ref_count w == 1) ≡ b → EndsIf b f w h (noted x w (gave_ref f w h))
+ends_by true f h x w e = rw e refl
 ends_by false f h x w e = rw e refl
 
 pub gave_hand : (n : Machine) (s f : ℕ) (h k : Holdings) (x : Step) (found : ℕ) →

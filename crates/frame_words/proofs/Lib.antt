@@ -1,6 +1,7 @@
 pub mod CellHands
 pub mod Counting
 pub mod Flushing
+pub mod FreeSteps
 pub mod Hands
 pub mod KindCalls
 pub mod KindFinds

@@ -1,10 +1,10 @@
 -- What the single steps leave in hand, part by part.
-use Rattle.std.specs.Prelude.{◌≡◌, ◌⊎◌, ℕ, ◌<◌, ◌==◌, Bool, true, false, [], ◌∷◌, length, Some}
-use Rattle.xp_board.specs.declared.holdings.Ending.{Ending}
+use Rattle.std.specs.Prelude.{◌≡◌, ◌⊎◌, ℕ, ◌+◌, ◌<◌, ◌==◌, Bool, true, false, [], ◌∷◌, length, Some}
 use Rattle.xp_board.specs.declared.holdings.Holdings.{Holdings}
 use Rattle.xp_board.specs.declared.holdings.OwnerFound.TheVariants as owners
 use Rattle.xp_board.specs.Hands.{refs_to, without_ref}
-use Rattle.xp_board.specs.Readings.{ref_count}
+use Rattle.xp_board.specs.Readings.{ref_count, owner_of}
+use Rattle.xp_board.specs.RefSteps.{owner_number}
 
 -- the parts that no step of this crate changes
 pub record SameRest (h k : Holdings) : Type 0 where
@@ -56,15 +56,15 @@ pub record TookRef (f owner : ℕ) (h k : Holdings) : Type 0 where
   pub turn : k.turn ≡ h.turn
   pub rest : SameRest h k
 
--- whether frame f came to the ending ones
-abbrev pub EndsIf : Bool → ℕ → Holdings → Holdings → Type 0
-EndsIf false f h k = k.ending ≡ h.ending
-EndsIf true f h k = (e : Ending) × (e.frame ≡ f) × (k.ending ≡ e ∷ h.ending)
+-- whether frame f, of the owner that the word found names, came to the ending ones
+abbrev pub EndsIf : Bool → ℕ → ℕ → Holdings → Holdings → Type 0
+EndsIf false f found h k = k.ending ≡ h.ending
+EndsIf true f found h k = k.ending ≡ record { frame = f; owner = owner_number (owner_of found); since = length h.steps + 1 } ∷ h.ending
 
 -- a reference to frame f went out of the hand; with a found count of 1 it was the last, and the frame is ending
 pub record GaveRef (f found : ℕ) (h k : Holdings) : Type 0 where
   pub refs : k.refs ≡ without_ref f h.refs
-  pub ending : EndsIf (ref_count found == 1) f h k
+  pub ending : EndsIf (ref_count found == 1) f found h k
   pub run : k.run ≡ h.run
   pub turn : k.turn ≡ h.turn
   pub rest : SameRest h k

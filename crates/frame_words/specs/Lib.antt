@@ -1,5 +1,6 @@
 pub mod Cells
 pub mod Flushing
+pub mod Freeing
 pub mod Hands
 pub mod Kinds
 pub mod Pieces

@@ -5,6 +5,7 @@
 
 mod cells;
 mod flushes;
+mod freeing;
 mod kinds;
 mod references;
 mod rows;
@@ -13,6 +14,7 @@ pub use cells::{look_cell, store_cell};
 pub use flushes::{
     ask, flush, flush_own, look_flushed, look_life, look_privileges, look_run_of, tick,
 };
+pub use freeing::{lower_pages, set_free_bit, store_free};
 pub use kinds::{begin_work, count_type, drop_type, store_dead, store_live};
 pub use references::{get_ref, put_ref};
 pub use rows::{

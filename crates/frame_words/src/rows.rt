@@ -134,6 +134,7 @@ pub fn lower_refs<P: Port>(port: &mut P, frame: u32) -> u64
     requires spares { SparesClosing frame (P.value port.old).holdings }
     ensures post { (P.value port.new).post ≡ (P.value port.old).post }
     ensures made { Makes (P.value port.old) (P.value port.new) (Refs frame) (Add one_down) None result }
+    ensures found { Finds (P.value port.old).post.machine (P.value port.old).post.seat (P.value port.old).holdings (Refs frame) result }
     ensures hand { GaveRef frame result (P.value port.old).holdings (P.value port.new).holdings }
 {
     let place = port.layout().refs_place(frame);

@@ -1,8 +1,9 @@
-use Rattle.std.proofs.Common.{ap, ◌∙◌, refl, None}
+use Rattle.std.proofs.Common.{ap, ◌∙◌, refl, subst, None}
 use Rattle.xp_words.specs.Machine.{Machine}
 use Rattle.xp_words.specs.Places.{Refs, number, sizes_of}
 use Rattle.xp_board.specs.declared.step.Act.TheVariants.{Add}
 use Rattle.xp_board.specs.RefSteps.{one_down}
+use Rattle.xp_board.specs.Told.{Finds}
 use Rattle.frame_words.proofs.Stepping.{refs_there, placed, lower_is_legal, makes, hand_after}
 use Rattle.frame_words.proofs.Hands.{gave_hand}
 use Rattle.frame_words.proofs.rows.lower_refs.Goals as goal
@@ -28,3 +29,10 @@ returns-clause-hand g c =
     let i = c.refs_place-place.ensures ∙ ap (λ (n : Machine). number (sizes_of n) (Refs c.args.frame)) c.layout.ensures.layout in
     let at = placed v.post.machine _ (Refs c.args.frame) i (refs_there (sizes_of v.post.machine) c.args.frame c.requires.frame) in
     gave_hand v.post.machine v.post.seat c.args.frame v.holdings _ _ c.step.result (hand_after v _ _ (Refs c.args.frame) c.step.result at c.step.ensures.value)
+
+pub returns-clause-found : goal.returns-clause-found
+returns-clause-found g c =
+    let v = g.P.Port.value c.args.port.now in
+    let i = c.refs_place-place.ensures ∙ ap (λ (n : Machine). number (sizes_of n) (Refs c.args.frame)) c.layout.ensures.layout in
+    let at = placed v.post.machine _ (Refs c.args.frame) i (refs_there (sizes_of v.post.machine) c.args.frame c.requires.frame) in
+    subst (λ p. Finds v.post.machine v.post.seat v.holdings p c.step.result) at c.step.ensures.found
