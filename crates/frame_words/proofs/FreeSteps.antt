@@ -1,7 +1,7 @@
 -- A frame becomes free: when its steps are legal, and what they leave in hand.
-use Rattle.std.proofs.Common.{◌≡◌, ◌≢◌, ℕ, ◌+◌, ◌-◌, ◌/◌, ◌%◌, ◌^◌, ◌*◌, ◌<◌, ◌≤◌, ◌==◌, ◌&&◌, if◌then◌else◌, Bool, true, false, List, [], ◌∷◌, length, Option, Some, None, IsTrue, refl, sym, ap, ◌∙◌, subst, arith, inl, inr, lit<}
+use Rattle.std.proofs.Common.{◌≡◌, ℕ, ◌-◌, ◌/◌, ◌%◌, ◌^◌, ◌<◌, ◌≤◌, ◌==◌, true, List, [], ◌∷◌, length, Some, None, IsTrue, refl, sym, ap, ◌∙◌, subst, arith, inl, inr, lit<}
 use Rattle.std.proofs.Math.Pow.{pow-lt}
-use Rattle.std.proofs.lemmas.Bool.{cases_eq, cases_order, cases_Bool, eqb-true, and_parts}
+use Rattle.std.proofs.lemmas.Bool.{cases_order, cases_Bool, eqb-true, and_parts}
 use Rattle.std.proofs.lemmas.Bool.Decides.{nat_tests}
 use Rattle.xp_words.specs.Machine.{Machine}
 use Rattle.xp_words.specs.RefWords.{ref_read, ref_write, IsRef}
@@ -14,14 +14,14 @@ use Rattle.xp_board.specs.declared.step.StepKind.TheVariants as steps
 use Rattle.xp_board.specs.declared.holdings.Ending.{Ending}
 use Rattle.xp_board.specs.declared.holdings.Holdings.{Holdings}
 use Rattle.xp_board.specs.After.{after_move, noted}
-use Rattle.xp_board.specs.Hands.{endings_of, ending_of, claim_of, without_claim}
-use Rattle.xp_board.specs.HintSteps.{map_bit, is_raise, is_lower, lowered_frame, raised_frame, raised_by, held_frames}
+use Rattle.xp_board.specs.Hands.{endings_of, ending_of, claim_of}
+use Rattle.xp_board.specs.HintSteps.{map_bit, is_raise, is_lower, lowered_frame, raised_frame, raised_by}
 use Rattle.xp_board.specs.Legal.{LegalNow}
 use Rattle.xp_board.specs.Lists.{one_at, times, times_by, first_by, without_by, first_of, with_fewer}
 use Rattle.xp_board.specs.RefSteps.{one_down, IsFreeStamp, credited, freed, after_ref_store}
-use Rattle.xp_board.specs.Spelling.{IsSpelling, is_ref_in}
+use Rattle.xp_board.specs.Spelling.{IsSpelling}
 use Rattle.xp_board.proofs.ListCounts.{first_by-cons_here, times_by-cons_here}
-use Rattle.xp_board.proofs.Sums.{when_eq, when_ne}
+use Rattle.xp_board.proofs.Sums.{when_eq}
 use Rattle.frame_words.specs.Freeing.{SameKept, IsEnding, IsEndingSince, RaisedBit, MadeFree, Refunded}
 use Rattle.frame_words.proofs.Stepping.{refs_there, legal_at}
 

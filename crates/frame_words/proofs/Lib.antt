@@ -1,6 +1,7 @@
 pub mod CellHands
 pub mod Counting
 pub mod Flushing
+pub mod Freed
 pub mod FreeSteps
 pub mod Hands
 pub mod KindCalls
@@ -12,6 +13,7 @@ pub mod KindWriting
 pub mod Noting
 pub mod OwnFlush
 pub mod Piecing
+pub mod Putting
 pub mod Stepping
 pub mod Taking
 pub mod Telling

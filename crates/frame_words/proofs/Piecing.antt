@@ -9,7 +9,7 @@ use Rattle.xp_board.specs.Lists.{EachOf}
 use Rattle.xp_board.specs.Runs.{place_of}
 use Rattle.xp_board.specs.Told.{Post, PortValue, Had}
 use Rattle.xp_board.proofs.Going.{went_more, went_post, had_earlier, had_later}
-use Rattle.frame_words.specs.Pieces.{Makes, Deed, deeds_by, deeds, is_load, is_of, is_of_flush, StaysIn, Serves, IsCalm, Calm, FoundWaiting, FlushesFor}
+use Rattle.frame_words.specs.Pieces.{Makes, Deed, deeds_by, deeds, is_load, is_of, is_of_flush, HadAct, StaysIn, Serves, IsCalm, Calm, FoundWaiting, FlushesFor}
 
 pub deeds_append : (n : Machine) (xs ys : List Made) → deeds n (ys ++ xs) ≡ deeds n ys ++ deeds n xs
 deeds_append n xs [] = refl
@@ -57,6 +57,28 @@ flushes_more n f xs ys (inl a) (inl b) = inl (calm_more n xs ys a b)
 flushes_more n f xs ys (inr a) b = inr (waiting_earlier n f xs ys a)
 flushes_more n f xs ys (inl a) (inr b) = inr (waiting_later n f xs ys b)
 
+-- ---- acts
+pub act_earlier : (n : Machine) (p : Place) (a : Act) (w : ℕ) (xs ys : List Made) → HadAct n p a w xs → HadAct n p a w (ys ++ xs)
+act_earlier n p a w xs [] h = h
+act_earlier n p a w xs (y ∷ ys) h = inr (act_earlier n p a w xs ys h)
+
+pub act_later : (n : Machine) (p : Place) (a : Act) (w : ℕ) (xs ys : List Made) → HadAct n p a w ys → HadAct n p a w (ys ++ xs)
+act_later n p a w xs [] h = absurd h
+act_later n p a w xs (y ∷ ys) (inl h) = inl h
+act_later n p a w xs (y ∷ ys) (inr h) = inr (act_later n p a w xs ys h)
+
+-- ---- pieces in which nothing is flushed
+pub record CalmlyServes (v w : PortValue) (f : ℕ) (ds : List Deed) (made : List Made) : Type 0 where
+  pub piece : Serves v w f ds made
+  pub calm : Calm v.post.machine made
+
+pub calmly_more : (v u w : PortValue) (f : ℕ) (ds es : List Deed) (xs ys : List Made) → CalmlyServes v u f ds xs → CalmlyServes u w f es ys → CalmlyServes v w f (es ++ ds) (ys ++ xs)
+calmly_more v u w f ds es xs ys a b =
+    record {
+      piece = serves_more v u w f ds es xs ys a.piece b.piece;
+      calm = calm_more v.post.machine xs ys a.calm (subst (λ (q : Post). Calm q.machine ys) (went_post v u xs a.piece.went) b.calm);
+    }
+
 -- ---- one step
 -- a word of frame f that is no word of a flush
 pub this_frame : (f : ℕ) → IsTrue ((f == f) || false)
@@ -94,3 +116,10 @@ module _ (v w : PortValue) (p : Place) (a : Act) (found : ℕ) (m : Makes v w p 
         (subst (λ b. IsTrue (is_load b || not (is_of_flush p))) (sym m.act) calm),
         tt,
       )
+
+  pub makes_act : HadAct v.post.machine p a found (made_of ∷ [])
+  unfolding made_of
+  makes_act = inl (m.place, m.act, refl)
+
+  pub makes_calmly : (f : ℕ) → IsTrue (is_load a || (is_of f p || is_of_flush p)) → IsTrue (is_load a || not (is_of_flush p)) → CalmlyServes v w f (deeds_by p a) (made_of ∷ [])
+  makes_calmly f within calm = record { piece = makes_serves f within; calm = makes_calm calm }

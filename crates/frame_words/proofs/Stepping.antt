@@ -17,7 +17,7 @@ use Rattle.xp_board.specs.declared.holdings.Holdings.{Holdings}
 use Rattle.xp_board.specs.After.{after_move, noted}
 use Rattle.xp_board.specs.Hands.{hand, refs_to}
 use Rattle.xp_board.specs.Legal.{LegalMove, LegalNow, is_taken}
-use Rattle.xp_board.specs.RefSteps.{SparesClosing, one_down, ref_row}
+use Rattle.xp_board.specs.RefSteps.{SparesClosing, one_down}
 use Rattle.xp_board.specs.Runs.{place_of}
 use Rattle.xp_board.specs.Told.{PortValue, stepped, IsTold}
 use Rattle.xp_board.proofs.Going.{went_step}

@@ -9,7 +9,7 @@ use Rattle.xp_words.specs.declared.reply.Refusal.TheVariants.{NoFrame}
 use Rattle.xp_words.specs.declared.reply.Pause.TheVariants.{Lost}
 use Rattle.xp_words.specs.declared.reply.Stop.TheVariants.{Refused, Paused}
 use Rattle.xp_words.specs.Places.{Refs, number, sizes_of}
-use Rattle.xp_board.specs.declared.step.Act.TheVariants.{Load, Cas, Add}
+use Rattle.xp_board.specs.declared.step.Act.TheVariants.{Load, Cas}
 use Rattle.xp_board.specs.declared.holdings.Reference.{Reference}
 use Rattle.xp_board.specs.declared.holdings.Work.{Work}
 use Rattle.xp_board.specs.declared.holdings.Made.{Made}
@@ -18,13 +18,12 @@ use Rattle.xp_board.specs.declared.holdings.OwnerFound.TheVariants as owners
 use Rattle.xp_board.specs.Acts.{left_by}
 use Rattle.xp_board.specs.Hands.{refs_to, work_on}
 use Rattle.xp_board.specs.Lists.{EachOf, times_by, first_by, one_at}
-use Rattle.xp_board.specs.Readings.{ref_count}
-use Rattle.xp_board.specs.RefSteps.{SparesClosing, is_closing_on, one_down}
+use Rattle.xp_board.specs.RefSteps.{SparesClosing, is_closing_on}
 use Rattle.xp_board.specs.Sound.{WorkAgrees}
 use Rattle.xp_board.specs.Spelling.{IsSpelling}
 use Rattle.xp_board.specs.Told.{Post, PortValue, Finds, Had, is_telling, told_word}
 use Rattle.xp_board.proofs.Going.{went_post, had_earlier, had_later}
-use Rattle.frame_words.specs.Hands.{SameRest, SameHand, TookRef, GaveRef, EndsIf}
+use Rattle.frame_words.specs.Hands.{SameRest, SameHand, TookRef}
 use Rattle.frame_words.specs.Pieces.{Makes, Serves, Calm}
 use Rattle.frame_words.specs.References.{Gets, RefusesWord, IsLent}
 use Rattle.frame_words.proofs.Counting.{counted, next_read, count_is}

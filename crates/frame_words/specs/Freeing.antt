@@ -1,15 +1,19 @@
 -- A frame whose last reference was given back becomes free: what the steps leave in hand.
-use Rattle.std.specs.Prelude.{◌≡◌, ◌≢◌, ℕ, ◌==◌, Bool, List, ◌∷◌, Option, Some, None, IsTrue}
+use Rattle.std.specs.Prelude.{◌≡◌, ◌≢◌, ℕ, ◌≤◌, ◌==◌, Bool, List, [], ◌∷◌, length, Option, Some, None, IsTrue}
 use Rattle.xp_words.specs.declared.refs.RefWord.TheVariants.{Owned}
 use Rattle.xp_words.specs.Machine.{Machine}
 use Rattle.xp_words.specs.Places.{Clock, sizes_of}
 use Rattle.xp_words.specs.RefWords.{ref_read}
+use Rattle.xp_board.specs.declared.holdings.Made.{Made}
 use Rattle.xp_board.specs.declared.holdings.Ending.{Ending}
 use Rattle.xp_board.specs.declared.holdings.Holdings.{Holdings}
 use Rattle.xp_board.specs.Hands.{without_ending}
 use Rattle.xp_board.specs.Lists.{without_by}
 use Rattle.xp_board.specs.Readings.{ref_count}
 use Rattle.xp_board.specs.Steps.{some_since}
+use Rattle.xp_board.specs.Told.{PortValue}
+use Rattle.frame_words.specs.Pieces.{Serves, Calm}
+use Rattle.frame_words.specs.References.{Frees}
 
 -- the parts that none of these steps changes
 pub record SameKept (h k : Holdings) : Type 0 where
@@ -42,6 +46,11 @@ pub record IsEndingSince (n : Machine) (f owner stamp : ℕ) (h : Holdings) : Ty
   pub ends : IsEnding f owner h
   pub told : IsTrue (some_since (sizes_of n) ends.ending.since Clock (λ w. w == stamp) h.steps)
 
+-- and it came there before this moment
+pub record IsEndingNow (f owner : ℕ) (h : Holdings) : Type 0 where
+  pub ends : IsEnding f owner h
+  pub recent : ends.ending.since ≤ length h.steps
+
 -- the bit of frame f in the map of free frames was set
 pub record RaisedBit (f : ℕ) (h k : Holdings) : Type 0 where
   pub ending : k.ending ≡ h.ending
@@ -67,3 +76,18 @@ pub record Refunded (d : ℕ) (h k : Holdings) : Type 0 where
 abbrev pub LastOf : ℕ → Option ℕ → Type 0
 LastOf w (Some owner) = (allocated : Bool) × (ref_read w ≡ Some (Owned owner allocated 1))
 LastOf w None = ref_count w ≢ 1
+
+-- frame f is free, and nothing of it is left in hand
+pub record LeftFree (f : ℕ) (h k : Holdings) : Type 0 where
+  pub ending : k.ending ≡ without_ending f h.ending
+  pub raised : k.raised ≡ h.raised
+  pub credits : k.credits ≡ h.credits
+  pub rest : SameKept h k
+
+-- the steps from v to w make a frame that is ending free
+pub record FreesFrame (v w : PortValue) (f : ℕ) : Type 0 where
+  pub made : List Made
+  pub piece : Serves v w f [] made
+  pub calm : Calm v.post.machine made
+  pub frees : Frees v.post.machine f made
+  pub hand : LeftFree f v.holdings w.holdings

@@ -8,10 +8,10 @@ ghost use Rattle.xp_board.specs.Hands.{claim_of};
 ghost use Rattle.xp_board.specs.Lists.{times};
 ghost use Rattle.xp_board.specs.RefSteps.{one_down};
 ghost use Rattle.xp_board.specs.declared.step.Act.TheVariants.{Store, Add};
-ghost use Rattle.frame_words.specs.Freeing.{IsEnding, IsEndingSince, RaisedBit, MadeFree, Refunded, LastOf};
+ghost use Rattle.frame_words.specs.Freeing.{IsEnding, IsEndingNow, IsEndingSince, RaisedBit, MadeFree, Refunded, FreesFrame, LastOf};
 ghost use Rattle.frame_words.specs.Pieces.{Makes};
 
-use crate::rows::ONE_LESS;
+use crate::rows::{ONE_LESS, look_clock};
 use xp_board::{Act, Port, Step, StepKind};
 use xp_words::RefWord;
 
@@ -74,6 +74,23 @@ pub fn lower_pages<P: Port>(port: &mut P, domain: u16) -> u64
         kind: StepKind::Pages,
         mark: None,
     })
+}
+
+// A frame whose last reference was given back becomes free.
+pub(crate) fn free_frame<P: Port>(port: &mut P, frame: u32, owner: u16)
+    requires frame { frame < (P.value port.old).post.machine.frames }
+    requires domain { owner < length (P.value port.old).post.machine.page_limit }
+    requires running { (P.value port.old).holdings.run ≡ Some 0 }
+    requires ending { IsEndingNow frame owner (P.value port.old).holdings }
+    requires lowered { times frame (P.value port.old).holdings.raised ≡ 0 }
+    requires unclaimed { claim_of frame (P.value port.old).holdings.claimed ≡ None }
+    ensures post { (P.value port.new).post ≡ (P.value port.old).post }
+    ensures frees { FreesFrame (P.value port.old) (P.value port.new) frame }
+{
+    let clock = look_clock(port);
+    set_free_bit(port, frame, owner);
+    store_free(port, frame, owner, clock);
+    lower_pages(port, owner);
 }
 
 // The bit of a frame in its word of the map of free frames.

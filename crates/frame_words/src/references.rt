@@ -8,6 +8,7 @@ ghost use Rattle.xp_board.specs.Told.{is_telling};
 ghost use Rattle.frame_words.specs.Hands.{SameHand, TookRef};
 ghost use Rattle.frame_words.specs.References.{Gets, Puts, IsRefusal, IsLent, RefusesWord};
 
+use crate::freeing::{free_frame, last_owner};
 use crate::rows::{look_refs, lower_refs, raise_refs};
 use xp_board::Port;
 use xp_words::{Pause, RefWord, Refusal, Stop};
@@ -90,5 +91,9 @@ pub fn put_ref<P: Port>(port: &mut P, frame: u32)
     ensures post { (P.value port.new).post ≡ (P.value port.old).post }
     ensures puts { Puts (P.value port.old) (P.value port.new) frame }
 {
-    lower_refs(port, frame);
+    let found = lower_refs(port, frame);
+    match last_owner(found) {
+        Some(owner) => free_frame(port, frame, owner),
+        None => {}
+    }
 }

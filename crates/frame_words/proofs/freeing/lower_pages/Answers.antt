@@ -1,10 +1,10 @@
-use Rattle.std.proofs.Common.{◌/◌, ap, ◌∙◌, refl, None}
+use Rattle.std.proofs.Common.{ap, ◌∙◌, refl, None}
 use Rattle.xp_words.specs.Machine.{Machine}
 use Rattle.xp_words.specs.Places.{Pages, number, sizes_of}
 use Rattle.xp_board.specs.declared.step.Act.TheVariants.{Add}
 use Rattle.xp_board.specs.RefSteps.{one_down}
-use Rattle.frame_words.proofs.Stepping.{refs_there, placed, makes, hand_after}
-use Rattle.frame_words.proofs.FreeSteps.{map_there, pages_there, refund_is_legal, refund_hand}
+use Rattle.frame_words.proofs.Stepping.{placed, makes, hand_after}
+use Rattle.frame_words.proofs.FreeSteps.{pages_there, refund_is_legal, refund_hand}
 use Rattle.frame_words.proofs.freeing.lower_pages.Goals as goal
 
 pub step-requires : goal.step-requires

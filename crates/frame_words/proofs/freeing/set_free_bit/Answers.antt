@@ -6,7 +6,7 @@ use Rattle.xp_board.specs.HintSteps.{map_bit}
 use Rattle.xp_board.specs.After.{after_move, noted}
 use Rattle.xp_board.specs.Legal.{LegalNow}
 use Rattle.xp_board.specs.declared.step.StepKind.TheVariants as steps
-use Rattle.frame_words.proofs.Stepping.{refs_there, placed, makes, hand_after}
+use Rattle.frame_words.proofs.Stepping.{placed, makes, hand_after}
 use Rattle.frame_words.proofs.FreeSteps.{map_there, bit_is_legal, bit_hand}
 use Rattle.frame_words.proofs.freeing.set_free_bit.Goals as goal
 

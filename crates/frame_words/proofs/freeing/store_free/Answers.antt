@@ -1,4 +1,4 @@
-use Rattle.std.proofs.Common.{◌/◌, ap, ◌∙◌, refl, sym, subst, None}
+use Rattle.std.proofs.Common.{ap, ◌∙◌, refl, sym, subst, None}
 use Rattle.xp_words.specs.Machine.{Machine}
 use Rattle.xp_words.specs.Places.{Refs, number, sizes_of}
 use Rattle.xp_words.specs.RefWords.{ref_write}
