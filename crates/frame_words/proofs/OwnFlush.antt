@@ -108,6 +108,7 @@ module _ (v u t : PortValue) (c f x : ℕ) (look : Makes v u Clock Load None c) 
         found = f;
         before = was;
         look = look;
+        finds = found;
         below = below;
         tick = tick;
         greater = greater_by c f (clock_later v u c f look post again);

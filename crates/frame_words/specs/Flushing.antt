@@ -7,7 +7,7 @@ use Rattle.xp_board.specs.declared.step.Act.TheVariants.{Load, Cas, Store}
 use Rattle.xp_board.specs.declared.holdings.Holdings.{Holdings}
 use Rattle.xp_board.specs.Lists.{kept_of}
 use Rattle.xp_board.specs.Readings.{last_clock}
-use Rattle.xp_board.specs.Told.{PortValue}
+use Rattle.xp_board.specs.Told.{PortValue, Finds}
 use Rattle.frame_words.specs.Pieces.{Makes}
 
 -- the own translations are flushed by the last step: the cache is empty, and the vCPU is not cold
@@ -65,6 +65,7 @@ pub record FlushesOwn (v w : PortValue) : Type 0 where
   pub found : ℕ
   pub before : ℕ
   pub look : Makes v looked Clock Load None clock
+  pub finds : Finds v.post.machine v.post.seat v.holdings Clock clock
   pub below : clock < last_clock
   pub tick : Makes looked ticked Clock (Cas clock (clock + 1)) None found
   pub greater : clock < flushed_to clock found

@@ -1,0 +1,117 @@
+-- Pieces of a wait, one behind the other: what was found stays found.
+use Rattle.std.proofs.Common.{◌≡◌, ℕ, List, [], ◌∷◌, ◌++◌, Option, Some, None, Result, Ok, Err, subst, inl, inr}
+use Rattle.xp_words.specs.Machine.{Machine}
+use Rattle.xp_words.specs.Places.{Place}
+use Rattle.xp_words.specs.declared.reply.Refusal.{Refusal}
+use Rattle.xp_words.specs.declared.reply.Refusal.TheVariants as refusals
+use Rattle.xp_board.specs.declared.step.Act.{Act}
+use Rattle.xp_board.specs.declared.holdings.Made.{Made}
+use Rattle.xp_board.specs.Told.{Post, PortValue}
+use Rattle.xp_board.proofs.Going.{went_post, had_earlier, had_later}
+use Rattle.frame_words.specs.Hands.{SameOrFlushed}
+use Rattle.frame_words.specs.Pieces.{HadAct, Serves}
+use Rattle.frame_words.proofs.Piecing.{serves_more}
+use Rattle.frame_types.specs.declared.waiting.Awaited.{Awaited}
+use Rattle.frame_types.specs.Clearing.{IsClear, IsBehind, IsLastClock, Stands, Looks}
+use Rattle.frame_types.specs.Waiting.{FoundClear, WasAsked, AtLastClock}
+use Rattle.frame_types.proofs.Growing.{went_grows, past_later, same_more}
+
+-- ---- found by the steps before, or by those behind
+act_earlier : (n : Machine) (p : Place) (a : Act) (w : ℕ) (xs ys : List Made) → HadAct n p a w xs → HadAct n p a w (ys ++ xs)
+act_earlier n p a w xs [] h = h
+act_earlier n p a w xs (y ∷ ys) h = inr (act_earlier n p a w xs ys h)
+
+pub act_later : (n : Machine) (p : Place) (a : Act) (w : ℕ) (xs ys : List Made) → HadAct n p a w ys → HadAct n p a w (ys ++ xs)
+act_later n p a w xs [] h = absurd h
+act_later n p a w xs (y ∷ ys) (inl h) = inl h
+act_later n p a w xs (y ∷ ys) (inr h) = inr (act_later n p a w xs ys h)
+
+module _ (n : Machine) (xs ys : List Made) where
+  pub clear_earlier : (s owner stamp u : ℕ) → FoundClear n s owner stamp xs u → FoundClear n s owner stamp (ys ++ xs) u
+  clear_earlier s owner stamp u (FoundClear.idle w had is) = FoundClear.idle w (had_earlier n _ w xs ys had) is
+  clear_earlier s owner stamp u (FoundClear.flushed w had late) = FoundClear.flushed w (had_earlier n _ w xs ys had) late
+  clear_earlier s owner stamp u (FoundClear.own w before is had late) = FoundClear.own w before is (act_earlier n _ _ before xs ys had) late
+  clear_earlier s owner stamp u (FoundClear.barred w other had never) = FoundClear.barred w other (had_earlier n _ w xs ys had) never
+
+  pub clear_later : (s owner stamp u : ℕ) → FoundClear n s owner stamp ys u → FoundClear n s owner stamp (ys ++ xs) u
+  clear_later s owner stamp u (FoundClear.idle w had is) = FoundClear.idle w (had_later n _ w xs ys had) is
+  clear_later s owner stamp u (FoundClear.flushed w had late) = FoundClear.flushed w (had_later n _ w xs ys had) late
+  clear_later s owner stamp u (FoundClear.own w before is had late) = FoundClear.own w before is (act_later n _ _ before xs ys had) late
+  clear_later s owner stamp u (FoundClear.barred w other had never) = FoundClear.barred w other (had_later n _ w xs ys had) never
+
+  pub asked_earlier : (stamp u : ℕ) → WasAsked n stamp xs u → WasAsked n stamp (ys ++ xs) u
+  asked_earlier stamp u a = record { before = a.before; asked = act_earlier n _ _ a.before xs ys a.asked }
+
+  pub asked_later : (stamp u : ℕ) → WasAsked n stamp ys u → WasAsked n stamp (ys ++ xs) u
+  asked_later stamp u a = record { before = a.before; asked = act_later n _ _ a.before xs ys a.asked }
+
+  pub behind_earlier : (s stamp u found : ℕ) → IsBehind n s stamp xs u found → IsBehind n s stamp (ys ++ xs) u found
+  behind_earlier s stamp u found b =
+      record {
+        other = b.other;
+        running = had_earlier n _ _ xs ys b.running;
+        flushed = had_earlier n _ _ xs ys b.flushed;
+        behind = b.behind;
+        asked = asked_earlier stamp u b.asked;
+      }
+
+  pub behind_later : (s stamp u found : ℕ) → IsBehind n s stamp ys u found → IsBehind n s stamp (ys ++ xs) u found
+  behind_later s stamp u found b =
+      record {
+        other = b.other;
+        running = had_later n _ _ xs ys b.running;
+        flushed = had_later n _ _ xs ys b.flushed;
+        behind = b.behind;
+        asked = asked_later stamp u b.asked;
+      }
+
+  at_later : (s stamp : ℕ) → AtLastClock n s stamp ys → AtLastClock n s stamp (ys ++ xs)
+  at_later s stamp a =
+      record {
+        flushed = a.flushed;
+        behind = a.behind;
+        had_flushed = had_later n _ _ xs ys a.had_flushed;
+        had_clock = had_later n _ _ xs ys a.had_clock;
+      }
+
+  pub last_later : (s stamp : ℕ) (r : Refusal) → IsLastClock n s stamp ys r → IsLastClock n s stamp (ys ++ xs) r
+  last_later s stamp (refusals.Clock found) a = (a.0, at_later s stamp a.1)
+  last_later s stamp _ a = absurd a
+
+-- ---- two pieces
+module _ (v u w : PortValue) (a : Awaited) (xs ys : List Made) (first : Serves v u a.frame [] xs) (second : Serves u w a.frame [] ys) where
+  post_is : u.post ≡ v.post
+  post_is = went_post v u xs first.went
+
+  pub both_serve : Serves v w a.frame [] (ys ++ xs)
+  both_serve = serves_more v u w a.frame [] [] xs ys first second
+
+  pub still_clear : (k : ℕ) → SameOrFlushed u.holdings w.holdings → IsClear v u a xs k → IsClear v w a (ys ++ xs) k
+  still_clear k same c = (
+    clear_earlier v.post.machine xs ys v.post.seat a.owner a.stamp k c.0,
+    past_later v.post.machine a.frame u.holdings w.holdings same (went_grows u w ys second.went) k c.1,
+  )
+
+  stands_in : (k : ℕ) (r : Result (Option ℕ) Refusal) → Stands u w a ys k r → Stands (record v { post = u.post }) w a ys k r
+  stands_in k (Ok None) s = s
+  stands_in k (Ok (Some found)) s = s
+  stands_in k (Err r) s = s
+
+  append_stands : (k : ℕ) (r : Result (Option ℕ) Refusal) → Stands v w a ys k r → Stands v w a (ys ++ xs) k r
+  append_stands k (Ok None) c = (clear_later v.post.machine xs ys v.post.seat a.owner a.stamp k c.0, c.1)
+  append_stands k (Ok (Some found)) b = behind_later v.post.machine xs ys v.post.seat a.stamp k found b
+  append_stands k (Err r) e = last_later v.post.machine xs ys v.post.seat a.stamp r e
+
+  pub then_stands : (k : ℕ) (r : Result (Option ℕ) Refusal) → Stands u w a ys k r → Stands v w a (ys ++ xs) k r
+  then_stands k r s =
+      append_stands k r (subst (λ (q : Post). Stands (record v { post = q }) w a ys k r) post_is (stands_in k r s))
+
+-- steps before a look leave what it shows
+pub looks_after : (v u w : PortValue) (a : Awaited) (k : ℕ) (r : Result (Option ℕ) Refusal) (xs : List Made) → Serves v u a.frame [] xs → SameOrFlushed v.holdings u.holdings → Looks u w a k r → Looks v w a k r
+looks_after v u w a k r xs first same l =
+    record {
+      made = l.made ++ xs;
+      piece = both_serve v u w a xs l.made first l.piece;
+      shows = then_stands v u w a xs l.made first l.piece k r l.shows;
+      hand = same_more _ _ _ same l.hand;
+    }
