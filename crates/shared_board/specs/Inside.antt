@@ -1,5 +1,6 @@
 -- The fields of a plain board.
-use Rattle.std.specs.Prelude.{◌≡◌, ℕ, []}
+use Rattle.std.specs.Prelude.{◌≡◌, ◌≤◌, ℕ, []}
+use Rattle.std.specs.Vec.{vec_capacity}
 use Rattle.xp_words.specs.Places.{sizes_of, size}
 use Rattle.xp_board.specs.Sound.{SoundState, seat_of}
 use Rattle.shared_board.specs.Board.{Board}
@@ -20,5 +21,6 @@ pub record IsBoard (b : Inside) : Type 0 where
   pub no_slots : b.table.shared.table_id.slots ≡ 0
   pub words : b.table.shared.table_id.words ≡ size (sizes_of b.layout)
   pub slots : b.seat.me.1 ≡ []
+  pub room : size (sizes_of b.layout) ≤ vec_capacity b.room
   pub sound : SoundState b.layout b.seat.me.0.words b.seat.me.0.hands
   pub no_items : (s : ℕ) → (seat_of b.seat.me.0.hands s).cache ≡ []

@@ -1,7 +1,6 @@
-ghost use Rattle.std.specs.Prelude.{◌≡◌, ◌<◌, ◌≤◌, [], IfOk};
-ghost use Rattle.std.specs.Vec.{vec_capacity};
+ghost use Rattle.std.specs.Prelude.{◌≡◌, ◌<◌, IfOk};
 ghost use Rattle.xp_words.specs.Machine.{IsMachine};
-ghost use Rattle.xp_words.specs.Places.{size, sizes_of};
+ghost use Rattle.xp_words.specs.Places.{sizes_of};
 ghost use Rattle.xp_board.specs.Legal.{LegalNow};
 ghost use Rattle.xp_board.specs.Runs.{Run, start};
 ghost use Rattle.xp_board.specs.Sound.{SoundState, SoundWords, seat_of};
@@ -25,6 +24,8 @@ pub struct PlainBoard {
     layout: Layout,
     table: Table<(), Known, Opening, PlainRule, Global>,
     seat: PlainSeat,
+    // The room that the words came in, in which they go out again.
+    room: Vec<u64>,
 }
 
 impl Model for PlainBoard {
@@ -49,10 +50,12 @@ impl PlainBoard {
             words,
         };
         let (table, seat) = Table::of_words(alloc, opening.words.as_slice(), &opening)?;
+        let Opening { layout: _, words: room } = opening;
         Ok(PlainBoard {
             layout,
             table,
             seat,
+            room,
         })
     }
 
@@ -93,11 +96,10 @@ impl PlainBoard {
         make_step::<Brand>(&table.shared, &mut self.seat, vcpu, step)
     }
 
-    /// Gives the words back. The list of all steps made leads to them from the words that the board was made with.
-    pub fn into_words(self, into: &mut Vec<u64>)
-        requires empty { into.old.items ≡ [] }
-        requires room { size (sizes_of self.machine) ≤ vec_capacity into.old }
-        ensures words { into.new.items ≡ self.story.words }
+    /// Gives the words back, in the room that they came in. The list of all steps made leads to them from the words that
+    /// the board was made with.
+    pub fn into_words(self) -> Vec<u64>
+        ensures words { result.items ≡ self.story.words }
         ensures run { Run self.machine (start self.machine self.story.opening) self.story.log (state_of self.story) }
         ensures sound { SoundState self.machine self.story.words self.story.seats }
     {
@@ -105,10 +107,13 @@ impl PlainBoard {
             layout: _,
             table,
             seat,
+            room: mut words,
         } = self;
         let count = table.word_count();
         let closed = table.close_with(seat);
-        copy_words(&closed, count, into);
+        words.clear();
+        copy_words(&closed, count, &mut words);
         closed.free();
+        words
     }
 }

@@ -23,6 +23,7 @@ invariant_of-self c =
       no_slots = was.no_slots;
       words = was.words;
       slots = did.slots ∙ was.slots;
+      room = was.room;
       sound = did_sound c.every_run_stays_sound.ensures n c.args.vcpu c.make_step.result c.args.step c.self.inside.seat.me c.make_step.new.seat.me did lt legal was.sound;
       no_items = did_bare n c.args.vcpu c.make_step.result c.args.step c.self.inside.seat.me c.make_step.new.seat.me did (subst (λ k. c.args.vcpu < k) (sym was.sound.all_seats) lt) legal was.no_items;
     }
