@@ -1,3 +1,5 @@
 pub mod Clearing
+pub mod Standing
+pub mod Taking
 pub mod Waiting
 pub mod Writable

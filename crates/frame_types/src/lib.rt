@@ -1,7 +1,9 @@
 //! Types of frames, taken and given back, and the flushes that a change of type waits for.
 #![tactic(auto)]
 
+mod finish;
 mod plain;
+mod standing;
 mod waiting;
 mod writable;
 

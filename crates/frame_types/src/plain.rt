@@ -6,6 +6,7 @@ ghost use Rattle.xp_board.specs.Hands.{typed_to, work_on};
 ghost use Rattle.xp_board.specs.Knowledge.{knows_live};
 ghost use Rattle.frame_types.specs.Writable.{Drops};
 
+use frame_words::{drop_type, look_clock, put_ref, store_dead};
 use xp_board::Port;
 use xp_words::PageType;
 
@@ -21,5 +22,11 @@ pub fn drop_plain<P: Port>(port: &mut P, frame: u32, kind: PageType)
     ensures post { (P.value port.new).post ≡ (P.value port.old).post }
     ensures drops { Drops (P.value port.old) (P.value port.new) frame }
 {
-    unreachable!()
+    if drop_type(port, frame) {
+        let stamp = look_clock(port);
+        store_dead(port, frame, kind, false, stamp);
+        put_ref(port, frame);
+    } else {
+        put_ref(port, frame);
+    }
 }

@@ -4,7 +4,6 @@ use Rattle.std.proofs.lemmas.Bool.Decides.{nat_tests}
 use Rattle.xp_words.specs.RefWords.{ref_write}
 use Rattle.xp_words.specs.declared.refs.RefWord.TheVariants.{Free}
 use Rattle.xp_words.specs.Places.{Place, Clock, Refs, Map, Pages, sizes_of}
-use Rattle.xp_board.specs.declared.step.Act.{Act}
 use Rattle.xp_board.specs.declared.step.Act.TheVariants.{Load, Store, Add}
 use Rattle.xp_board.specs.declared.holdings.Made.{Made}
 use Rattle.xp_board.specs.declared.holdings.Holdings.{Holdings}
@@ -14,7 +13,7 @@ use Rattle.xp_board.specs.Lists.{times, without_by}
 use Rattle.xp_board.specs.RefSteps.{one_down}
 use Rattle.xp_board.specs.Steps.{some_since}
 use Rattle.xp_board.specs.Told.{Post, PortValue}
-use Rattle.xp_board.proofs.Going.{went_post, had_earlier}
+use Rattle.xp_board.proofs.Going.{had_earlier}
 use Rattle.xp_board.proofs.ListCounts.{times_by-cons_here}
 use Rattle.frame_words.specs.Freeing.{SameKept, IsEnding, IsEndingNow, IsEndingSince, RaisedBit, MadeFree, Refunded, LeftFree, FreesFrame}
 use Rattle.frame_words.specs.Hands.{SameHand}
@@ -22,7 +21,7 @@ use Rattle.frame_words.specs.Pieces.{Makes, HadAct}
 use Rattle.frame_words.specs.References.{Frees}
 use Rattle.frame_words.proofs.KindCalls.{without_newest}
 use Rattle.frame_words.proofs.Noting.{makes_since, makes_keeps}
-use Rattle.frame_words.proofs.Piecing.{CalmlyServes, calmly_more, made_of, makes_calmly, makes_had, makes_act, act_later, this_frame}
+use Rattle.frame_words.proofs.Piecing.{CalmlyServes, calmly_more, made_of, makes_post, makes_calmly, makes_had, makes_act, act_later, this_frame}
 
 -- ---- hands
 kept_after : (a b c : Holdings) → SameKept a b → SameKept b c → SameKept a c
@@ -75,9 +74,6 @@ left_free f owner v a b d w look bit free pages =
     }
 
 -- ---- what each step asks
-pub makes_post : (v w : PortValue) (p : Place) (a : Act) (found : ℕ) → Makes v w p a None found → w.post ≡ v.post
-makes_post v w p a found m = went_post v w (record { step = m.step; found = found } ∷ []) m.went
-
 still_ending : (f owner : ℕ) (h k : Holdings) → k.ending ≡ h.ending → IsEnding f owner h → IsEnding f owner k
 still_ending f owner h k same e = record { ending = e.ending; others = e.others; newest = same ∙ e.newest; frame = e.frame; owner_is = e.owner_is }
 

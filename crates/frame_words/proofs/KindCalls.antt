@@ -30,7 +30,7 @@ pub live_may_drop : (n : Machine) (f : ℕ) (t : PageType) (h g : Holdings) → 
 live_may_drop n f t h g a = record { in_hand = a.held; kind = t; live = a.known (sizes_of n) }
 
 -- ---- a frame that came into work may be made live: at once where it is unmarked
-work_here : (f : ℕ) (e : Work) (h : Holdings) (xs : List Work) → e.frame ≡ f → h.works ≡ e ∷ xs → work_on f h.works ≡ Some e
+pub work_here : (f : ℕ) (e : Work) (h : Holdings) (xs : List Work) → e.frame ≡ f → h.works ≡ e ∷ xs → work_on f h.works ≡ Some e
 work_here f e h xs frame works = ap (λ ys. work_on f ys) works ∙ first_by-cons_here (λ y. y.frame) f e xs frame
 
 pub begun_is_writable : (n : Machine) (f : ℕ) (k : KindWord) (h g u : Holdings) → BegunWork f k kinds.Writable h g → u.works ≡ g.works →

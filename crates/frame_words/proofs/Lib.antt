@@ -12,6 +12,8 @@ pub mod KindStores
 pub mod KindWriting
 pub mod Noting
 pub mod OwnFlush
+pub mod PartialCalls
+pub mod PartialSteps
 pub mod Piecing
 pub mod Putting
 pub mod Stepping

@@ -88,6 +88,10 @@ module _ (v w : PortValue) (p : Place) (a : Act) (found : ℕ) (m : Makes v w p 
   pub made_of : Made
   made_of = record { step = m.step; found = found }
 
+  pub makes_post : w.post ≡ v.post
+  unfolding made_of
+  makes_post = went_post v w (made_of ∷ []) m.went
+
   pub makes_had : Had v.post.machine p found (made_of ∷ [])
   unfolding made_of
   makes_had = inl (m.place, refl)

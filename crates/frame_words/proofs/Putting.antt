@@ -24,11 +24,10 @@ use Rattle.frame_words.specs.Freeing.{IsEndingNow, LeftFree, FreesFrame}
 use Rattle.frame_words.specs.Hands.{GaveRef, GaveBack, EndsIf}
 use Rattle.frame_words.specs.Pieces.{Makes}
 use Rattle.frame_words.specs.References.{Frees, Puts}
-use Rattle.frame_words.proofs.Freed.{makes_post}
 use Rattle.frame_words.proofs.Counting.{count_is, owner_is}
 use Rattle.frame_words.proofs.KindCalls.{without_newest}
 use Rattle.frame_words.proofs.Noting.{makes_steps}
-use Rattle.frame_words.proofs.Piecing.{calmly_more, made_of, makes_calmly, makes_act, act_earlier, act_later, this_frame}
+use Rattle.frame_words.proofs.Piecing.{calmly_more, made_of, makes_post, makes_calmly, makes_act, act_earlier, act_later, this_frame}
 
 -- ---- a frame of which the word counts a reference is not ending or claimed
 module _ (n : Machine) (s f w owner : ℕ) (allocated : Bool) (h : Holdings) (finds : Finds n s h (Refs f) w) (read : ref_read w ≡ Some (Owned owner allocated 1)) where

@@ -133,7 +133,7 @@ pub fn store_dead<P: Port>(
 }
 
 // An exchange of a kind word.
-fn exchange(place: u32, expected: u64, new: u64) -> Step
+pub(crate) fn exchange(place: u32, expected: u64, new: u64) -> Step
     ensures { result ≡ exchange_step place expected new }
 {
     Step {
@@ -161,8 +161,8 @@ fn raised(word: u64, kind: KindWord, limit: u32) -> u64
     more.write()
 }
 
-// Whether a dead frame has to be flushed before it is used with that type: it is marked, or was of another type.
-pub(crate) fn is_stale_for(kind: KindWord, want: PageType) -> bool
+/// Whether a dead frame has to be flushed before it is used with that type: it is marked, or was of another type.
+pub fn is_stale_for(kind: KindWord, want: PageType) -> bool
     ensures { result ≡ is_stale kind want }
 {
     kind.unflushed || (!kind.kind.is_none() && kind.kind.number() != want.number())
@@ -200,7 +200,7 @@ fn begun(word: u64, kind: KindWord, want: PageType) -> u64
 }
 
 // A store of a kind word.
-fn store(place: u32, new: u64) -> Step
+pub(crate) fn store(place: u32, new: u64) -> Step
     ensures { result ≡ store_step place new }
 {
     Step {

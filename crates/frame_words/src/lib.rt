@@ -7,6 +7,7 @@ mod cells;
 mod flushes;
 mod freeing;
 mod kinds;
+mod partial;
 mod references;
 mod rows;
 
@@ -15,7 +16,8 @@ pub use flushes::{
     ask, flush, flush_own, look_flushed, look_life, look_privileges, look_run_of, tick,
 };
 pub use freeing::{lower_pages, set_free_bit, store_free};
-pub use kinds::{begin_work, count_type, drop_type, store_dead, store_live};
+pub use kinds::{begin_work, count_type, drop_type, is_stale_for, store_dead, store_live};
+pub use partial::{resume_work, store_live_shared, store_partial};
 pub use references::{get_ref, put_ref};
 pub use rows::{
     begin_turn, end_answer, look_clock, look_kind, look_refs, look_run, lower_refs, raise_refs,
