@@ -1,5 +1,5 @@
 -- What a wait for flushes shows, among more steps.
-use Rattle.std.proofs.Common.{ℕ, List, [], ◌∷◌, ◌++◌, Result, Ok, Err, sym, subst, inl, inr, ◌⊎◌}
+use Rattle.std.proofs.Common.{ℕ, List, [], ◌++◌, Result, Ok, Err, sym, subst, inl, inr, ◌⊎◌}
 use Rattle.xp_words.specs.Machine.{Machine}
 use Rattle.xp_words.specs.Places.{Place}
 use Rattle.xp_words.specs.declared.reply.Stop.{Stop}

@@ -2,7 +2,6 @@
 use Rattle.std.specs.Prelude.{◌≡◌, ◌≢◌, ◌⊎◌, ℕ, ◌<◌, true, false, List, [], ◌∷◌, Result, Ok, Err, IsTrue}
 use Rattle.xp_words.specs.Machine.{Machine}
 use Rattle.xp_words.specs.declared.kind.KindWord.{KindWord}
-use Rattle.xp_words.specs.declared.kind.PageType.{PageType}
 use Rattle.xp_words.specs.declared.kind.PageType.TheVariants.{Writable}
 use Rattle.xp_words.specs.KindWords.{kind_fields}
 use Rattle.xp_words.specs.Places.{Sizes, Kind, number, sizes_of}
@@ -17,7 +16,7 @@ use Rattle.xp_board.specs.declared.holdings.OwnerFound.TheVariants as owners
 use Rattle.xp_board.specs.Hands.{without_ref, typed_to, without_typed}
 use Rattle.xp_board.specs.Knowledge.{knows_live}
 use Rattle.xp_board.specs.KindSteps.{live_typed, is_stale}
-use Rattle.xp_board.specs.Readings.{last_clock, is_live, is_dead, is_work, is_closing}
+use Rattle.xp_board.specs.Readings.{last_clock, is_dead, is_work, is_closing}
 use Rattle.xp_board.specs.Told.{PortValue, Had}
 use Rattle.frame_words.specs.Hands.{FlushedRest, GaveUp}
 use Rattle.frame_words.specs.Pieces.{Serves, Calm, FlushesFor}
