@@ -46,7 +46,7 @@ rest_of h k a b c d e f g i j l m n o p =
       ran = p;
     }
 
-when_same : {A : Type 0} (v : ℕ) (y z : A) → (if v == v then y else z) ≡ y
+pub when_same : {A : Type 0} (v : ℕ) (y z : A) → (if v == v then y else z) ≡ y
 when_same v y z = grind (arith, nat_tests)
 
 pub when_other : {A : Type 0} (w e : ℕ) (y z : A) → w ≢ e → (if w == e then y else z) ≡ z

@@ -17,5 +17,6 @@ pub mod PartialSteps
 pub mod Piecing
 pub mod Putting
 pub mod Stepping
+pub mod Stopped
 pub mod Taking
 pub mod Telling

@@ -47,6 +47,27 @@ pub record FoundRun (w : ℕ) (h k : Holdings) : Type 0 where
   pub turn : k.turn ≡ h.turn
   pub rest : SameRest h k
 
+-- the own vCPU was stopped by the last step: its cache is empty
+pub record Stopped (h k : Holdings) : Type 0 where
+  pub refs : k.refs ≡ h.refs
+  pub typed : k.typed ≡ h.typed
+  pub works : k.works ≡ h.works
+  pub locks : k.locks ≡ h.locks
+  pub ending : k.ending ≡ h.ending
+  pub claimed : k.claimed ≡ h.claimed
+  pub raised : k.raised ≡ h.raised
+  pub credits : k.credits ≡ h.credits
+  pub cache : k.cache ≡ []
+  pub walk : k.walk ≡ h.walk
+  pub looking : k.looking ≡ h.looking
+  pub cold : k.cold ≡ h.cold
+  pub run : k.run ≡ Some 1
+  pub old0 : k.old0 ≡ h.old0
+  pub old1 : k.old1 ≡ h.old1
+  pub turn : k.turn ≡ h.turn
+  pub acked : k.acked ≡ h.acked
+  pub ran : k.ran ≡ length k.steps
+
 -- a reference to frame f, which that domain owns, came into the hand
 pub record TookRef (f owner : ℕ) (h k : Holdings) : Type 0 where
   pub refs : k.refs ≡ record { frame = f; owner = owners.Of owner } ∷ h.refs

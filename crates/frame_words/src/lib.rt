@@ -10,6 +10,7 @@ mod kinds;
 mod partial;
 mod references;
 mod rows;
+mod stopping;
 
 pub use cells::{look_cell, store_cell};
 pub use flushes::{
@@ -23,3 +24,4 @@ pub use rows::{
     begin_turn, end_answer, look_clock, look_kind, look_refs, look_run, lower_refs, raise_refs,
     store_m2p,
 };
+pub use stopping::stop_vcpu;

@@ -82,6 +82,7 @@ pub fn begin_turn<P: Port>(port: &mut P) -> u64
 pub fn look_run<P: Port>(port: &mut P) -> u64
     ensures post { (P.value port.new).post ≡ (P.value port.old).post }
     ensures made { Makes (P.value port.old) (P.value port.new) (Vcpu (P.value port.old).post.seat 6) Load None result }
+    ensures found { Finds (P.value port.old).post.machine (P.value port.old).post.seat (P.value port.old).holdings (Vcpu (P.value port.old).post.seat 6) result }
     ensures told { is_telling (P.value port.old) ≡ true → told_word (P.value port.old) (Vcpu (P.value port.old).post.seat 6) ≡ result }
     ensures hand { FoundRun result (P.value port.old).holdings (P.value port.new).holdings }
 {

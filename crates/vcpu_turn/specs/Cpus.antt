@@ -37,6 +37,15 @@ abbrev pub pairs_of : Op → Option (List Pair)
 pairs_of (ops.One call) = own_pairs call
 pairs_of _ = None
 
+-- how many elements the operation has of which some may be done
+abbrev pub elements_in : Option (List Pair) → ℕ
+elements_in (Some pairs) = length pairs
+elements_in None = 0
+
+abbrev pub elements_of : Option Op → ℕ
+elements_of (Some op) = elements_in (pairs_of op)
+elements_of None = 0
+
 -- ---- answers
 abbrev pub reply_of : ℕ → Option Refusal → Reply
 reply_of done refusal = record { done = done; value = 0; refusal = refusal }

@@ -1,3 +1,5 @@
+pub mod Beginning
 pub mod Cpus
 pub mod Lists
 pub mod Turning
+pub mod Working

@@ -12,10 +12,10 @@ use Rattle.xp_board.specs.declared.holdings.Made.{Made}
 use Rattle.xp_board.specs.declared.holdings.Holdings.{Holdings}
 use Rattle.xp_board.specs.Hands.{IsEmptyHand}
 use Rattle.xp_board.specs.Lists.{EachOf}
-use Rattle.xp_board.specs.Readings.{domain_of}
+use Rattle.xp_board.specs.Readings.{domain_of, last_clock}
 use Rattle.xp_board.specs.Runs.{place_of}
 use Rattle.xp_board.specs.Told.{PortValue, Went, Had, is_telling, told_word}
-use Rattle.frame_words.specs.Pieces.{is_load}
+use Rattle.frame_words.specs.Pieces.{is_load, HadAct}
 use Rattle.vcpu_turn.specs.Cpus.{Processing, pairs_of, end_of, after_turn}
 use Rattle.vcpu_turn.specs.Lists.{Works}
 use Rattle.vcpu_turn.specs.declared.cpu.TurnEnd.{TurnEnd}
@@ -42,11 +42,30 @@ pub record WasAsked (n : Machine) (s : ℕ) (made : List Made) : Type 0 where
   pub had_flushed : Had n (Vcpu s 5) flushed made
   pub behind : flushed ≤ asked
 
+-- the vCPU was found flushed past all that it was asked for
+pub record WasNotAsked (n : Machine) (s : ℕ) (made : List Made) : Type 0 where
+  pub asked : ℕ
+  pub flushed : ℕ
+  pub had_asked : Had n (Vcpu s 4) asked made
+  pub had_flushed : Had n (Vcpu s 5) flushed made
+  pub past : asked < flushed
+
+-- the own flush was stored
+pub record HasFlushed (n : Machine) (s : ℕ) (made : List Made) : Type 0 where
+  pub to : ℕ
+  pub before : ℕ
+  pub stored : HadAct n (Vcpu s 5) (Store to) before made
+
+-- Nobody asked, or it flushed. Only where the clock is at its last value does an ask stay unanswered.
+abbrev pub AnswersAsk : Machine → ℕ → List Made → Type 0
+AnswersAsk n s made = WasNotAsked n s made ⊎ (HasFlushed n s made ⊎ Had n Clock last_clock made)
+
 -- Loads; and the own flush, where the vCPU was asked for it.
 pub record Begins (n : Machine) (s : ℕ) (made : List Made) : Type 0 where
   pub first : BeginsTurn made
   pub own : EachOf (λ x. IsTrue (is_load x.step.act || is_own_flush s (place_of n x.step))) made
   pub asked : EachOf (λ x. IsTrue (is_load x.step.act)) made ⊎ WasAsked n s made
+  pub answers : AnswersAsk n s made
 
 -- ---- the end
 -- one load, which carries the mark Cut

@@ -30,14 +30,14 @@ pub struct Cpu {
 }
 
 impl Model for Cpu {
-    ghost use Rattle.std.specs.Prelude.{◌≤◌, length, vec_len, vec_capacity};
-    ghost use Rattle.vcpu_turn.specs.Cpus.{Processing};
+    ghost use Rattle.std.specs.Prelude.{◌≤◌, length, slice_get, vec_len, vec_capacity};
+    ghost use Rattle.vcpu_turn.specs.Cpus.{Processing, elements_of};
 
     ghost Value = { Processing };
 
     ghost view = { λ c. record { vcpu = c.vcpu; domain = c.domain; script = c.script; log = c.log.items; done = c.done; retired = c.retired } };
 
-    ghost invariant = { λ c. (length c.script ≤ vec_capacity c.log) × (vec_len c.log ≤ length c.script) };
+    ghost invariant = { λ c. (length c.script ≤ vec_capacity c.log) × (vec_len c.log ≤ length c.script) × (c.done ≤ elements_of (slice_get c.script (vec_len c.log))) };
 }
 
 impl Cpu {
@@ -46,7 +46,15 @@ impl Cpu {
         requires real { vcpu < (sizes_of layout.now).vcpus }
         ensures { IfOk result (λ c. c ≡ fresh vcpu (domain_of layout.now vcpu) script) }
     {
-        unreachable!()
+        let log = Vec::with_capacity(alloc, script.len())?;
+        Ok(Cpu {
+            vcpu,
+            domain: layout.vcpu_domain.as_slice()[vcpu as usize],
+            script,
+            log,
+            done: 0,
+            retired: false,
+        })
     }
 
     /// What was answered so far.

@@ -1,6 +1,7 @@
 //! The turns of virtual processors: how an operation that is a list goes on from turn to turn.
 #![tactic(auto)]
 
+mod beginning;
 mod cpu;
 mod lists;
 mod turning;

@@ -1,9 +1,90 @@
-ghost use Rattle.std.specs.Prelude.{◌≡◌, ◌+◌, ◌<◌, ◌≤◌, ◌^◌, true, false, length, if◌then◌else◌};
-ghost use Rattle.vcpu_turn.specs.Turning.{TurnBy, IsOf, Rests, StopsBy, is_due};
+ghost use Rattle.std.specs.Prelude.{◌≡◌, ◌+◌, ◌<◌, ◌≤◌, ◌^◌, true, false, Some, length, slice_get, if◌then◌else◌};
+ghost use Rattle.xp_board.specs.Readings.{domain_of};
+ghost use Rattle.vcpu_turn.specs.Cpus.{reply_of, end_of, after_turn};
+ghost use Rattle.vcpu_turn.specs.Turning.{TurnBy, IsOf, Rests, MakesStop, StopsBy, is_due};
+ghost use Rattle.vcpu_turn.specs.Working.{WorkedBy, Finishes, asks_due};
+ghost use Rattle.vcpu_turn.specs.declared.cpu.TurnEnd.TheVariants.{Answered};
 
+use crate::beginning::begin;
 use crate::cpu::{Cpu, TurnEnd};
+use crate::lists::work_on;
+use frame_words::{end_answer, stop_vcpu};
 use xp_board::Port;
 use xp_preempt::Preempt;
+use xp_words::{LogLine, Refusal, Reply, Stop};
+
+// The next operation goes on; there is none at the script's end.
+fn go_on<P: Port>(port: &mut P, cpu: &mut Cpu, gate: &mut dyn Preempt) -> Option<Result<(), Stop>>
+    requires own { cpu.old.domain ≡ domain_of (P.value port.old).post.machine (P.value port.old).post.seat }
+    requires rests { Rests (P.value port.old).holdings }
+    requires running { (P.value port.old).holdings.run ≡ Some 0 }
+    ensures post { (P.value port.new).post ≡ (P.value port.old).post }
+    ensures worked { WorkedBy (slice_get cpu.old.script (length cpu.old.log)) cpu.old cpu.new (P.value port.old) (P.value port.new) result }
+    ensures gate { count_yes gate.new ≡ (if asks_due result then count_yes gate.old + 1 else count_yes gate.old) }
+    ensures calm { calm gate.old ≡ true → (asks_due result ≡ false) × (calm gate.new ≡ true) }
+{
+    match cpu.script.as_slice().get(cpu.log.len()) {
+        None => None,
+        Some(op) => Some(work_on(port, gate, cpu.domain, op, &mut cpu.done)),
+    }
+}
+
+// The next operation is answered: its reply is logged, and the answer ends. The log has the room.
+fn log_answer<P: Port>(port: &mut P, cpu: &mut Cpu, refusal: Option<Refusal>) -> Reply
+    requires short { length cpu.old.script < 2 ^ 32 }
+    requires more { length cpu.old.log < length cpu.old.script }
+    requires rests { Rests (P.value port.old).holdings }
+    requires running { (P.value port.old).holdings.run ≡ Some 0 }
+    ensures post { (P.value port.new).post ≡ (P.value port.old).post }
+    ensures reply { result ≡ reply_of cpu.old.done refusal }
+    ensures cpu { cpu.new ≡ after_turn cpu.old cpu.old.done (Answered result) }
+    ensures finishes { Finishes (P.value port.old) (P.value port.new) (Answered result) }
+{
+    end_answer(port, 0);
+    let reply = Reply {
+        done: cpu.done,
+        value: 0,
+        refusal,
+    };
+    let line = LogLine::Answer {
+        op: cpu.log.len() as u32 + 1,
+        call: 0,
+        reply,
+    };
+    cpu.log.push(line).unwrap();
+    cpu.done = 0;
+    reply
+}
+
+// The turn ends with that answer of the next operation, or with a pause.
+fn finish<P: Port>(port: &mut P, cpu: &mut Cpu, answer: Result<(), Stop>) -> TurnEnd
+    requires short { length cpu.old.script < 2 ^ 32 }
+    requires more { length cpu.old.log < length cpu.old.script }
+    requires rests { Rests (P.value port.old).holdings }
+    requires running { (P.value port.old).holdings.run ≡ Some 0 }
+    ensures post { (P.value port.new).post ≡ (P.value port.old).post }
+    ensures end { result ≡ end_of cpu.old.done answer }
+    ensures cpu { cpu.new ≡ after_turn cpu.old cpu.old.done (end_of cpu.old.done answer) }
+    ensures finishes { Finishes (P.value port.old) (P.value port.new) (end_of cpu.old.done answer) }
+{
+    match answer {
+        Ok(()) => TurnEnd::Answered(log_answer(port, cpu, None)),
+        Err(Stop::Refused(refusal)) => TurnEnd::Answered(log_answer(port, cpu, Some(refusal))),
+        Err(Stop::Paused(pause)) => TurnEnd::Paused(pause),
+    }
+}
+
+// The vCPU stops for good.
+fn retire<P: Port>(port: &mut P, cpu: &mut Cpu)
+    requires seat { cpu.old.vcpu ≡ (P.value port.old).post.seat }
+    requires rests { Rests (P.value port.old).holdings }
+    ensures post { (P.value port.new).post ≡ (P.value port.old).post }
+    ensures stop { MakesStop cpu.old cpu.new (P.value port.old) (P.value port.new) }
+    ensures rests { Rests (P.value port.new).holdings }
+{
+    stop_vcpu(port);
+    cpu.retired = true;
+}
 
 /// One turn of a vCPU. It answers the asks of other vCPUs to flush, then the next operation goes on until it answers or
 /// pauses; at the script's end the vCPU stops and is retired. A turn answers at most one operation, leaves nothing in
@@ -18,7 +99,17 @@ pub fn turn<P: Port>(port: &mut P, cpu: &mut Cpu, gate: &mut dyn Preempt) -> Tur
     ensures gate { count_yes gate.new ≡ (if is_due result then count_yes gate.old + 1 else count_yes gate.old) }
     ensures calm { calm gate.old ≡ true → (is_due result ≡ false) × (calm gate.new ≡ true) }
 {
-    unreachable!()
+    if cpu.retired {
+        return TurnEnd::Retired;
+    }
+    begin(port);
+    match go_on(port, cpu, gate) {
+        None => {
+            retire(port, cpu);
+            TurnEnd::Retired
+        }
+        Some(answer) => finish(port, cpu, answer),
+    }
 }
 
 /// Stops a vCPU between its turns, unless it is retired. It is retired then.
@@ -28,5 +119,7 @@ pub fn stop<P: Port>(port: &mut P, cpu: &mut Cpu)
     ensures stop { StopsBy cpu.old.retired cpu.old cpu.new (P.value port.old) (P.value port.new) }
     ensures of { IsOf (P.value port.new) cpu.new }
 {
-    unreachable!()
+    if !cpu.retired {
+        retire(port, cpu);
+    }
 }

@@ -1,8 +1,9 @@
 use Rattle.std.proofs.Common.{◌<◌, length, lit<, ap, ◌∙◌, refl, subst}
 use Rattle.xp_words.specs.Machine.{Machine}
 use Rattle.xp_words.specs.Places.{Vcpu, number, sizes_of}
+use Rattle.xp_board.specs.Told.{Finds}
 use Rattle.frame_words.proofs.Stepping.{own_there}
-use Rattle.frame_words.proofs.Hands.{look_now, look_made, look_left, run_hand}
+use Rattle.frame_words.proofs.Hands.{here, look_now, look_made, look_left, run_hand}
 use Rattle.frame_words.proofs.Telling.{makes_found}
 use Rattle.frame_words.proofs.rows.look_run.Goals as goal
 
@@ -29,3 +30,11 @@ returns-clause-hand g c =
 
 pub returns-clause-told : goal.returns-clause-told
 returns-clause-told g c = makes_found _ _ _ _ _ _ (returns-clause-made g c)
+
+pub returns-clause-found : goal.returns-clause-found
+returns-clause-found g c =
+    let v = g.P.Port.value c.args.port.now in
+    let real = subst (λ k. k < length v.post.machine.vcpu_domain) c.seat-seat.ensures.seat c.seat-seat.ensures.real in
+    let at = c.vcpu_place-place.ensures ∙ ap (λ (n : Machine). number (sizes_of n) (Vcpu c.seat-seat.result 6)) c.layout.ensures.layout ∙ ap (λ s. number (sizes_of v.post.machine) (Vcpu s 6)) c.seat-seat.ensures.seat in
+    subst (λ p. Finds v.post.machine v.post.seat v.holdings p c.step.result)
+    (here v v c.look.result _ 0 (Vcpu v.post.seat 6) _ c.look.ensures at (own_there (sizes_of v.post.machine) v.post.seat 6 real (lit< tt)) refl) c.step.ensures.found
