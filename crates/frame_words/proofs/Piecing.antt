@@ -106,7 +106,7 @@ module _ (v w : PortValue) (p : Place) (a : Act) (found : ℕ) (m : Makes v w p 
           (
             m.mark_is,
             subst (λ q. IsTrue (is_load m.step.act || (is_of f q || is_of_flush q))) (sym m.place)
-            (subst (λ b. IsTrue (is_load b || (is_of f p || is_of_flush p))) (sym m.act) within),
+                (subst (λ b. IsTrue (is_load b || (is_of f p || is_of_flush p))) (sym m.act) within),
           ),
           tt,
         );
@@ -114,12 +114,11 @@ module _ (v w : PortValue) (p : Place) (a : Act) (found : ℕ) (m : Makes v w p 
 
   pub makes_calm : IsTrue (is_load a || not (is_of_flush p)) → Calm v.post.machine (made_of ∷ [])
   unfolding made_of EachOf
-  makes_calm calm =
-      (
-        subst (λ q. IsTrue (is_load m.step.act || not (is_of_flush q))) (sym m.place)
+  makes_calm calm = (
+    subst (λ q. IsTrue (is_load m.step.act || not (is_of_flush q))) (sym m.place)
         (subst (λ b. IsTrue (is_load b || not (is_of_flush p))) (sym m.act) calm),
-        tt,
-      )
+    tt,
+  )
 
   pub makes_act : HadAct v.post.machine p a found (made_of ∷ [])
   unfolding made_of

@@ -117,11 +117,13 @@ pub(crate) fn last_owner(word: u64) -> Option<u16>
     ensures { LastOf word result }
 {
     match RefWord::read(word) {
-        Some(RefWord::Owned {
-            owner,
-            allocated: _,
-            count,
-        }) if count == 1 => Some(owner),
+        Some(
+            RefWord::Owned {
+                owner,
+                allocated: _,
+                count,
+            },
+        ) if count == 1 => Some(owner),
         _ => None,
     }
 }

@@ -13,8 +13,13 @@ use xp_board::Port;
 use xp_words::{PageType, Pair, Refusal, Stop};
 
 // The word at an address of ordinary memory.
-fn write_memory<P: Port>(port: &mut P, domain: u16, f: u64, index: u16, word: u64) -> Result<(), Stop>
-{
+fn write_memory<P: Port>(
+    port: &mut P,
+    domain: u16,
+    f: u64,
+    index: u16,
+    word: u64,
+) -> Result<(), Stop> {
     let frame = get_ref(port, f, domain)?;
     take_writable(port, frame, domain)?;
     store_cell(port, frame, index, word);

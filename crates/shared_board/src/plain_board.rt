@@ -50,7 +50,10 @@ impl PlainBoard {
             words,
         };
         let (table, seat) = Table::of_words(alloc, opening.words.as_slice(), &opening)?;
-        let Opening { layout: _, words: room } = opening;
+        let Opening {
+            layout: _,
+            words: room,
+        } = opening;
         Ok(PlainBoard {
             layout,
             table,
