@@ -1,9 +1,10 @@
-ghost use Rattle.std.specs.Prelude.{◌≡◌, true, Some, None};
+ghost use Rattle.std.specs.Prelude.{◌≡◌, ◌<◌, true, Some, None};
 ghost use Rattle.xp_board.specs.Hands.{IsEmptyHand};
 ghost use Rattle.xp_board.specs.Readings.{domain_of};
 ghost use Rattle.xp_board.specs.Told.{is_telling};
 ghost use Rattle.frame_types.specs.Writable.{IsNotLost};
 ghost use Rattle.mmu_update.specs.Elements.{Updates};
+ghost use Rattle.mmu_update.specs.Writing.{WritesWord};
 
 use crate::element::{Element, element_of};
 use frame_types::{drop_plain, take_writable};
@@ -19,7 +20,16 @@ fn write_memory<P: Port>(
     f: u64,
     index: u16,
     word: u64,
-) -> Result<(), Stop> {
+) -> Result<(), Stop>
+    requires running { (P.value port.old).holdings.run ≡ Some 0 }
+    requires landed { (P.value port.old).holdings.walk ≡ None }
+    requires empty { IsEmptyHand (P.value port.old).holdings }
+    requires own { domain ≡ domain_of (P.value port.old).post.machine (P.value port.old).post.seat }
+    requires index { index < 512 }
+    ensures post { (P.value port.new).post ≡ (P.value port.old).post }
+    ensures writes { WritesWord (P.value port.old) (P.value port.new) domain f index word result }
+    ensures told { is_telling (P.value port.old) ≡ true → IsNotLost result }
+{
     let frame = get_ref(port, f, domain)?;
     take_writable(port, frame, domain)?;
     store_cell(port, frame, index, word);
