@@ -43,7 +43,7 @@ impl Model for Cpu {
 impl Cpu {
     /// A vCPU of the machine before its first turn. All room that its log will need is taken here.
     pub fn new(alloc: Global, layout: &Layout, vcpu: u32, script: Script) -> Result<Cpu, AllocError>
-        requires real { vcpu < (sizes_of layout.now).vcpus }
+        requires { vcpu < (sizes_of layout.now).vcpus }
         ensures { IfOk result (λ c. c ≡ fresh vcpu (domain_of layout.now vcpu) script) }
     {
         let log = Vec::with_capacity(alloc, script.len())?;

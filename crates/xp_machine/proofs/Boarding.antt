@@ -1,111 +1,179 @@
--- A turn by a port of the plain board is a turn of the machine.
-use Rattle.std.proofs.Common.{◌≡◌, ◌≢◌, ℕ, ◌<◌, List, length, Option, Some, None, refl, sym, ap, ◌∙◌, subst, inl, inr, slice_set, slice_index_or}
+-- A turn by a port of the plain board is a turn of the machine, and so is a stop.
+use Rattle.std.proofs.Common.{◌≡◌, ℕ, ◌<◌, Bool, true, false, List, length, map, Option, Some, None, refl, sym, ap, ◌∙◌, subst, slice_set, slice_index_or}
 use Rattle.std.specs.Prelude.{slice_get}
-use Rattle.std.proofs.lemmas.Bool.{cases_eq}
-use Rattle.std.proofs.lemmas.List.{set-get_or}
-use Rattle.std.proofs.lemmas.Option.{slice_get-get_or, get_or_from_slice_get}
+use Rattle.std.specs.Option.{option_map}
+use Rattle.std.proofs.lemmas.List.{set-get_or, map-set, get_or-map, length-map}
+use Rattle.std.proofs.lemmas.Option.{slice_get-get_or, slice_get-map, get_or_from_slice_get}
 use Rattle.xp_words.specs.Machine.{Machine}
-use Rattle.xp_words.specs.Places.{Vcpu, sizes_of, memory}
-use Rattle.xp_words.specs.declared.ops.Op.{Op}
-use Rattle.xp_words.specs.declared.reply.Reply.{Reply}
-use Rattle.xp_board.specs.declared.holdings.Holdings.{Holdings}
-use Rattle.xp_board.specs.Sound.{seat_of}
+use Rattle.xp_words.specs.Places.{sizes_of}
 use Rattle.xp_board.specs.Told.{Post, PortValue, Story}
 use Rattle.shared_board.specs.Board.{Board, port_value}
-use Rattle.xp_machine.specs.Turns.{Processing, with_answer, m2p_update}
-use Rattle.xp_machine.specs.Answers.{Stage, Answers, TurnBy, TurnOf, IsTurn, stage}
-use Rattle.xp_machine.specs.Ports.{Rests, AnsweredBy, CpuTurn, Ready}
-use Rattle.xp_machine.proofs.Walking.{Walked, walked}
-use Rattle.xp_machine.proofs.Answering.{serve_frame}
+use Rattle.vcpu_turn.specs.Cpus.{Processing, after_turn, pairs_of}
+use Rattle.vcpu_turn.specs.declared.cpu.TurnEnd.{TurnEnd}
+use Rattle.vcpu_turn.specs.declared.cpu.TurnEnd.TheVariants as ends
+use Rattle.vcpu_turn.specs.Turning.{IsOf, TurnBy, StopsBy, is_due, Does}
+use Rattle.vcpu_turn.specs.Turning as turning
+use Rattle.xp_words.specs.declared.ops.Op.{Op}
+use Rattle.xp_board.specs.declared.holdings.Made.{Made}
+use Rattle.xp_machine.specs.Cpus.{IsShort}
+use Rattle.xp_machine.specs.Ready.{Ready}
+use Rattle.xp_machine.specs.Seats.{TakesTurn}
+use Rattle.xp_machine.specs.Turns.{Stage, stage, MakesTurn, MakesStop, UnlessRetired, ByCpu, IsTurn, IsStop}
+use Rattle.xp_machine.proofs.Moving.{moved_none, stepping, same_story, ready_after, short_at}
 
--- a turn, and the board after it
-pub record Turned (n : Machine) (s : ℕ) (a b : Story) (cpus : List Processing) (c : Processing) : Type 0 where
-  pub turn : IsTurn n s (stage a cpus) (stage b (slice_set cpus s c))
-  pub ready : Ready n b
-  pub opening : b.opening ≡ a.opening
+-- ---- what a turn keeps
+kept_by : (c : Processing) (done : ℕ) (end : TurnEnd) → (after_turn c done end).script ≡ c.script
+kept_by c done (ends.Answered reply) = refl
+kept_by c done (ends.Paused p) = refl
+kept_by c done ends.Retired = refl
 
-abbrev story_in : Story → Option Story → Story
-story_in d (Some a) = a
-story_in d None = d
+kept_does : (n : Machine) (c c2 : Processing) (o : Option Op) (work : List Made) (end : TurnEnd) → Does n c o c2 work end → c2.script ≡ c.script
+kept_does n c c2 (Some op) work end d = ap (λ (x : Processing). x.script) d.cpu ∙ kept_by c d.to end
+kept_does n c c2 None work end d = ap (λ (x : Processing). x.script) d.cpu
 
--- what holds of a vCPU's own hand after its turn, and of all hands before it, holds of all hands after it
-each_seat : (Q : Holdings → Type 0) (seats seats2 : List Holdings) (s t : ℕ) → (t ≢ s → seat_of seats2 t ≡ seat_of seats t) → Q (seat_of seats t) → Q (seat_of seats2 s) → Q (seat_of seats2 t)
-each_seat Q seats seats2 s t others before mine =
-    elim (cases_eq t s) [
-      | inl at ↦ subst (λ k. Q (seat_of seats2 k)) (sym at) mine
-      | inr off ↦ subst Q (sym (others off)) before
-    ]
+turn_script : (b : Bool) (c c2 : Processing) (end : TurnEnd) (v w : PortValue) → TurnBy b c c2 end v w → c2.script ≡ c.script
+turn_script true c c2 end v w t = ap (λ (x : Processing). x.script) t.cpu
+turn_script false c c2 end v w t = kept_does v.post.machine c c2 (slice_get c.script (length c.log)) t.turn.work end t.turn.does
 
-answered_turn : (b b2 : Board) (s lender : ℕ) (cpus : List Processing) (c : Processing) (op : Op) (reply : Reply) → s < (sizes_of b.machine).vcpus → Ready b.machine b.story →
-    slice_get cpus s ≡ Some c → slice_get c.script (length c.log) ≡ Some op → AnsweredBy (port_value b s lender) (port_value b2 s lender) c.domain op reply →
-    Turned b.machine s b.story b2.story cpus (with_answer c reply)
-answered_turn b b2 s lender cpus c op reply real ready here next by =
-    let n = b.machine in
-    let v : PortValue = port_value b s lender in
-    let w : PortValue = port_value b2 s lender in
-    let frame = serve_frame n (m2p_update op) by.made by.replied.serve in
-    let walk : Walked n s b.story w by.made =
-    walked v w b.story frame.0 by.made refl refl (subst (λ k. s < k) (sym ready.seats) real) real by.went frame.1 in
-    let same : b2.story ≡ walk.b = ap (story_in b.story) walk.told in
-    let rests : Rests (seat_of walk.b.seats s) = subst Rests walk.holdings by.rests in
-    let answers : Answers n s c.domain op reply b.story b2.story =
-    subst (λ x. Answers n s c.domain op reply b.story x) (sym same)
-    (record { made = by.made; piece = walk.piece; log = walk.log; replied = by.replied; empty = rests.empty }) in
-    let s1 : Stage = stage b.story cpus in
-    let s2 : Stage = stage b2.story (slice_set cpus s (with_answer c reply)) in
+stop_script : (b : Bool) (c c2 : Processing) (v w : PortValue) → StopsBy b c c2 v w → c2.script ≡ c.script
+stop_script true c c2 v w t = ap (λ (x : Processing). x.script) t.0
+stop_script false c c2 v w t = ap (λ (x : Processing). x.script) t.cpu
+
+-- ---- one turn or one stop
+pub record Done (Does : Stage → Stage → Type 0) (b b2 : Board) (cpus cpus2 : List Processing) : Type 0 where
+  pub does : Does (stage b.story cpus) (stage b2.story cpus2)
+  pub ready : Ready b2 cpus2
+  pub opening : b2.story.opening ≡ b.story.opening
+
+-- a retired vCPU stays
+stays : (b b2 : Board) (s : ℕ) (cpus : List Processing) (c c2 : Processing) → slice_get cpus s ≡ Some c → c2 ≡ c → b2.story ≡ b.story → stage b2.story (slice_set cpus s c2) ≡ stage b.story cpus
+stays b b2 s cpus c c2 here same story =
+    let all : slice_set cpus s c2 ≡ cpus = ap (λ x. slice_set cpus s x) (same ∙ sym (get_or_from_slice_get cpus s c c here)) ∙ set-get_or cpus s c in
+    λ i. stage (story i) (all i)
+
+turn_by : (b b2 : Board) (s lender : ℕ) (calm : Bool) (cpus : List Processing) (c c2 : Processing) (end : TurnEnd) (retired : Bool) → c.retired ≡ retired → s < (sizes_of b.machine).vcpus →
+    Ready b cpus → b2.machine ≡ b.machine → slice_get cpus s ≡ Some c → (calm ≡ true → is_due end ≡ false) → TurnBy retired c c2 end (port_value b s lender) (port_value b2 s lender) →
+    IsOf (port_value b2 s lender) c2 → Done (UnlessRetired (MakesTurn b.machine calm s) c retired) b b2 cpus (slice_set cpus s c2)
+turn_by b b2 s lender calm cpus c c2 end true is real ready machine here unpaused t own =
+    let story = same_story b b2 s lender t.port in
+    let moved = moved_none b.machine s b.story b2.story story in
     record {
-      turn = subst (λ o. TurnOf n s o s1 s2) (sym here) (subst (λ o. TurnBy n s c o s1 s2) (sym next) (reply, refl, answers));
-      ready = subst (Ready n) (sym same)
-          (record {
-            seats = walk.seats ∙ ready.seats;
-            rests = λ t there. each_seat Rests b.story.seats walk.b.seats s t (walk.others t) (ready.rests t there) rests;
-            running = λ t there. walk.own t 6 ∙ ready.running t there;
-          });
-      opening = ap (λ (x : Story). x.opening) same ∙ walk.opening;
+      does = stays b b2 s cpus c c2 here t.cpu story;
+      ready = ready_after b b2 s lender cpus c c2 ready machine moved here (turn_script true c c2 end (port_value b s lender) (port_value b2 s lender) t) own;
+      opening = moved.opening;
+    }
+turn_by b b2 s lender calm cpus c c2 end false is real ready machine here unpaused t own =
+    let steps = stepping b b2 s lender t.made real ready.seats t.went own.rests in
+    record {
+      does = record { after = c2; end = end; made = t.made; leads = steps.leads; turn = t.turn; unpaused = unpaused; cpus = refl };
+      ready = ready_after b b2 s lender cpus c c2 ready machine steps.moved here (turn_script false c c2 end (port_value b s lender) (port_value b2 s lender) t) own;
+      opening = steps.moved.opening;
     }
 
-idle_turn : (b b2 : Board) (s lender : ℕ) (cpus : List Processing) (c c2 : Processing) → Ready b.machine b.story → slice_get cpus s ≡ Some c → slice_index_or cpus s c ≡ c →
-    slice_get c.script (length c.log) ≡ None → c2 ≡ c → port_value b2 s lender ≡ port_value b s lender → Turned b.machine s b.story b2.story cpus c2
-idle_turn b b2 s lender cpus c c2 ready here at next kept same =
-    let n = b.machine in
-    let story : b2.story ≡ b.story = ap (λ (x : PortValue). story_in b.story x.told) same in
-    let all : slice_set cpus s c2 ≡ cpus = ap (λ x. slice_set cpus s x) (kept ∙ sym at) ∙ set-get_or cpus s c in
-    let s1 : Stage = stage b.story cpus in
-    let stays : stage b2.story (slice_set cpus s c2) ≡ s1 = λ i. stage (story i) (all i) in
+stop_by : (b b2 : Board) (s lender : ℕ) (cpus : List Processing) (c c2 : Processing) (retired : Bool) → c.retired ≡ retired → s < (sizes_of b.machine).vcpus → Ready b cpus → b2.machine ≡ b.machine →
+    slice_get cpus s ≡ Some c → StopsBy retired c c2 (port_value b s lender) (port_value b2 s lender) → IsOf (port_value b2 s lender) c2 →
+    Done (UnlessRetired (MakesStop b.machine s) c retired) b b2 cpus (slice_set cpus s c2)
+stop_by b b2 s lender cpus c c2 true is real ready machine here t own =
+    let story = same_story b b2 s lender t.1 in
+    let moved = moved_none b.machine s b.story b2.story story in
     record {
-      turn = subst (λ o. TurnOf n s o s1 (stage b2.story (slice_set cpus s c2))) (sym here) (subst (λ o. TurnBy n s c o s1 (stage b2.story (slice_set cpus s c2))) (sym next) stays);
-      ready = subst (Ready n) (sym story) ready;
-      opening = ap (λ (x : Story). x.opening) story;
+      does = stays b b2 s cpus c c2 here t.0 story;
+      ready = ready_after b b2 s lender cpus c c2 ready machine moved here (stop_script true c c2 (port_value b s lender) (port_value b2 s lender) t) own;
+      opening = moved.opening;
     }
-
-by_op : (b b2 : Board) (s lender : ℕ) (cpus : List Processing) (c c2 : Processing) (o : Option Op) → s < (sizes_of b.machine).vcpus → Ready b.machine b.story → slice_get cpus s ≡ Some c →
-    slice_index_or cpus s c ≡ c → slice_get c.script (length c.log) ≡ o → CpuTurn c o (port_value b s lender) c2 (port_value b2 s lender) → Turned b.machine s b.story b2.story cpus c2
-by_op b b2 s lender cpus c c2 None real ready here at next t = idle_turn b b2 s lender cpus c c2 ready here at next t.0 t.1
-by_op b b2 s lender cpus c c2 (Some op) real ready here at next t =
-    subst (λ x. Turned b.machine s b.story b2.story cpus x) (sym t.1) (answered_turn b b2 s lender cpus c op t.0 real ready here next t.2)
-
-pub turned : (b b2 : Board) (s lender : ℕ) (cpus : List Processing) (d c2 : Processing) → s < length cpus → s < (sizes_of b.machine).vcpus → Ready b.machine b.story →
-    CpuTurn (slice_index_or cpus s d) (slice_get (slice_index_or cpus s d).script (length (slice_index_or cpus s d).log)) (port_value b s lender) c2 (port_value b2 s lender) →
-    Turned b.machine s b.story b2.story cpus c2
-turned b b2 s lender cpus d c2 within real ready t =
-    let c : Processing = slice_index_or cpus s d in
-    let here = slice_get-get_or cpus s d within in
-    by_op b b2 s lender cpus c c2 (slice_get c.script (length c.log)) real ready here (get_or_from_slice_get cpus s c c here) refl t
+stop_by b b2 s lender cpus c c2 false is real ready machine here t own =
+    let steps = stepping b b2 s lender t.made real ready.seats t.went own.rests in
+    record {
+      does = record { made = t.made; leads = steps.leads; stop = t.stop; cpus = ap (λ x. slice_set cpus s x) t.cpu };
+      ready = ready_after b b2 s lender cpus c c2 ready machine steps.moved here (stop_script false c c2 (port_value b s lender) (port_value b2 s lender) t) own;
+      opening = steps.moved.opening;
+    }
 
 -- ---- as the code has it
--- the port was that of board b for vCPU s, and it goes on being the same port
-pub turned_by : (b b1 b2 : Board) (s s1 s2 l1 l2 : ℕ) (cpus : List Processing) (d c2 : Processing) → b1 ≡ b → s1 ≡ s → (port_value b2 s2 l2).post ≡ (port_value b1 s1 l1).post →
-    s < length cpus → length cpus ≡ (sizes_of b.machine).vcpus → Ready b.machine b.story →
-    CpuTurn (slice_index_or cpus s d) (slice_get (slice_index_or cpus s d).script (length (slice_index_or cpus s d).log)) (port_value b1 s1 l1) c2 (port_value b2 s2 l2) →
-    Turned b.machine s b.story b2.story cpus c2
-turned_by b b1 b2 s s1 s2 l1 l2 cpus d c2 same seat post within all ready t =
-    let c : Processing = slice_index_or cpus s d in
-    let T : PortValue → PortValue → Type 0 = λ v w. CpuTurn c (slice_get c.script (length c.log)) v c2 w in
-    let seat2 : s2 ≡ s = ap (λ (q : Post). q.seat) post ∙ seat in
-    let lender2 : l2 ≡ l1 = ap (λ (q : Post). q.lender) post in
-    let one : T (port_value b s l1) (port_value b2 s2 l2) = subst (λ v. T v (port_value b2 s2 l2)) (λ i. port_value (same i) (seat i) l1) t in
-    turned b b2 s l1 cpus d c2 within (subst (λ k. s < k) all within) ready (subst (λ w. T (port_value b s l1) w) (λ i. port_value b2 (seat2 i) (lender2 i)) one)
+pub of_port : (b b1 : Board) (s s1 lender : ℕ) (c : Processing) → b1 ≡ b → s1 ≡ s → IsOf (port_value b s lender) c → IsOf (port_value b1 s1 lender) c
+of_port b b1 s s1 lender c same seat of = subst (λ v. IsOf v c) (λ i. port_value (sym same i) (sym seat i) lender) of
 
-pub runs_at : (b b1 : Board) (s s1 : ℕ) → b1 ≡ b → s1 ≡ s → Ready b.machine b.story → s < (sizes_of b.machine).vcpus → memory (sizes_of b1.machine) b1.story.words (Vcpu s1 6) ≡ 0
-runs_at b b1 s s1 same seat ready real =
-    ap (λ (y : Board). memory (sizes_of y.machine) y.story.words (Vcpu s1 6)) same ∙ ap (λ k. memory (sizes_of b.machine) b.story.words (Vcpu k 6)) seat ∙ ready.running s real
+-- the port is that of board b for vCPU s
+module _ {A : Type 0} (cpu : A → Processing) (b b1 : Board) (s s1 l1 : ℕ) (seats : List A) (d : A) (same : b1 ≡ b) (seat : s1 ≡ s) (within : s < length seats) (ready : Ready b (map cpu seats)) where
+  pub real : s < (sizes_of b.machine).vcpus
+  real = subst (λ k. s < k) (sym (length-map seats cpu) ∙ ready.all) within
+
+  pub here : slice_get (map cpu seats) s ≡ Some (cpu (slice_index_or seats s d))
+  here = slice_get-map cpu seats s ∙ ap (option_map cpu) (slice_get-get_or seats s d within)
+
+  pub is_of : IsOf (port_value b1 s1 l1) (cpu (slice_index_or seats s d))
+  is_of = of_port b b1 s s1 l1 (cpu (slice_index_or seats s d)) same seat (ready.of s l1 (cpu (slice_index_or seats s d)) here)
+
+pub script_short : {A : Type 0} (cpu : A → Processing) (b : Board) (s : ℕ) (seats : List A) (d : A) → s < length seats → Ready b (map cpu seats) → IsShort (cpu (slice_index_or seats s d))
+script_short cpu b s seats d within ready = short_at (map cpu seats) s (cpu (slice_index_or seats s d)) ready.short (here cpu b b s s 0 seats d refl refl within ready)
+
+-- and it goes on being the same port
+module _ {A : Type 0} (cpu : A → Processing) (b b1 b2 : Board) (s s1 s2 l1 l2 : ℕ) (seats : List A) (d y : A) (same : b1 ≡ b) (seat : s1 ≡ s)
+    (post : (port_value b2 s2 l2).post ≡ (port_value b1 s1 l1).post) (within : s < length seats) (ready : Ready b (map cpu seats)) (own : IsOf (port_value b2 s2 l2) (cpu y)) where
+  before_is : port_value b1 s1 l1 ≡ port_value b s l1
+  before_is = λ i. port_value (same i) (seat i) l1
+
+  after_is : port_value b2 s2 l2 ≡ port_value b2 s l1
+  after_is =
+      let seat2 : s2 ≡ s = ap (λ (q : Post). q.seat) post ∙ seat in
+      let lender2 : l2 ≡ l1 = ap (λ (q : Post). q.lender) post in
+      λ i. port_value b2 (seat2 i) (lender2 i)
+
+  same_machine : b2.machine ≡ b.machine
+  same_machine = ap (λ (q : Post). q.machine) post ∙ ap (λ (x : Board). x.machine) same
+
+  is_of_now : IsOf (port_value b2 s l1) (cpu y)
+  is_of_now = subst (λ w. IsOf w (cpu y)) after_is own
+
+  -- what vCPU s did, and the list of all after it
+  as_done : (Does : Processing → Stage → Stage → Type 0) →
+      Done (UnlessRetired Does (cpu (slice_index_or seats s d)) (cpu (slice_index_or seats s d)).retired) b b2 (map cpu seats) (slice_set (map cpu seats) s (cpu y)) →
+      Done (λ x x'. ByCpu Does (slice_get (map cpu seats) s) x x') b b2 (map cpu seats) (map cpu (slice_set seats s y))
+  as_done Does done =
+      let c = cpu (slice_index_or seats s d) in
+      let at = here cpu b b1 s s1 l1 seats d same seat within ready in
+      let all = sym (map-set cpu seats s y) in
+      record {
+        does = subst (λ o. ByCpu Does o (stage b.story (map cpu seats)) (stage b2.story (map cpu (slice_set seats s y)))) (sym at)
+            (subst (λ cs. UnlessRetired Does c c.retired (stage b.story (map cpu seats)) (stage b2.story cs)) all done.does);
+        ready = subst (Ready b2) all done.ready;
+        opening = done.opening;
+      }
+
+  pub turned : (calm : Bool) → TakesTurn calm (cpu (slice_index_or seats s d)) (cpu y) (port_value b1 s1 l1) (port_value b2 s2 l2) →
+      Done (λ x x'. ByCpu (MakesTurn b.machine calm s) (slice_get (map cpu seats) s) x x') b b2 (map cpu seats) (map cpu (slice_set seats s y))
+  turned calm t =
+      let c = cpu (slice_index_or seats s d) in
+      let by = subst (λ v. TurnBy c.retired c (cpu y) t.end v (port_value b2 s l1)) before_is (subst (λ w. TurnBy c.retired c (cpu y) t.end (port_value b1 s1 l1) w) after_is t.turn) in
+      as_done (MakesTurn b.machine calm s)
+      (turn_by b b2 s l1 calm (map cpu seats) c (cpu y) t.end c.retired refl (real cpu b b1 s s1 l1 seats d same seat within ready) ready same_machine
+      (here cpu b b1 s s1 l1 seats d same seat within ready) t.unpaused by is_of_now)
+
+  -- the board has this story then, by the gates that stand beside the vCPUs
+  pub is_turn : (calm : A → Bool) (x : Story) → x ≡ b2.story → TakesTurn (calm (slice_index_or seats s d)) (cpu (slice_index_or seats s d)) (cpu y) (port_value b1 s1 l1) (port_value b2 s2 l2) →
+      IsTurn b.machine (map calm seats) s (stage b.story (map cpu seats)) (stage x (map cpu (slice_set seats s y)))
+  is_turn calm x is t =
+      subst (λ m. ByCpu (MakesTurn b.machine m s) (slice_get (map cpu seats) s) (stage b.story (map cpu seats)) (stage x (map cpu (slice_set seats s y)))) (sym (get_or-map calm seats s d true within))
+      (subst (λ z. ByCpu (MakesTurn b.machine (calm (slice_index_or seats s d)) s) (slice_get (map cpu seats) s) (stage b.story (map cpu seats)) (stage z (map cpu (slice_set seats s y)))) (sym is)
+      (turned (calm (slice_index_or seats s d)) t).does)
+
+  pub stopped : StopsBy (cpu (slice_index_or seats s d)).retired (cpu (slice_index_or seats s d)) (cpu y) (port_value b1 s1 l1) (port_value b2 s2 l2) →
+      Done (λ x x'. ByCpu (MakesStop b.machine s) (slice_get (map cpu seats) s) x x') b b2 (map cpu seats) (map cpu (slice_set seats s y))
+  stopped t =
+      let c = cpu (slice_index_or seats s d) in
+      let by = subst (λ v. StopsBy c.retired c (cpu y) v (port_value b2 s l1)) before_is (subst (λ w. StopsBy c.retired c (cpu y) (port_value b1 s1 l1) w) after_is t) in
+      as_done (MakesStop b.machine s)
+      (stop_by b b2 s l1 (map cpu seats) c (cpu y) c.retired refl (real cpu b b1 s s1 l1 seats d same seat within ready) ready same_machine
+      (here cpu b b1 s s1 l1 seats d same seat within ready) by is_of_now)
+
+  pub is_stop : (x : Story) → x ≡ b2.story → StopsBy (cpu (slice_index_or seats s d)).retired (cpu (slice_index_or seats s d)) (cpu y) (port_value b1 s1 l1) (port_value b2 s2 l2) →
+      IsStop b.machine s (stage b.story (map cpu seats)) (stage x (map cpu (slice_set seats s y)))
+  is_stop x is t =
+      subst (λ z. ByCpu (MakesStop b.machine s) (slice_get (map cpu seats) s) (stage b.story (map cpu seats)) (stage z (map cpu (slice_set seats s y)))) (sym is) (stopped t).does
+
+-- the port gives back the board that it leaves
+pub ready_back : {Does : Stage → Stage → Type 0} {b b2 : Board} {cpus cpus2 : List Processing} (x : Board) → x ≡ b2 → Done Does b b2 cpus cpus2 → Ready x cpus2
+ready_back {cpus2 = cpus2} x is done = subst (λ y. Ready y cpus2) (sym is) done.ready
+
+pub opening_back : {Does : Stage → Stage → Type 0} {b b2 : Board} {cpus cpus2 : List Processing} (words : List ℕ) → words ≡ b2.story.opening → Done Does b b2 cpus cpus2 → words ≡ b.story.opening
+opening_back words is done = is ∙ done.opening

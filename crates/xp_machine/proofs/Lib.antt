@@ -1,7 +1,8 @@
-pub mod Answering
-pub mod Boarding
-pub mod Reaching
-pub mod Starting
-pub mod Statuses
-pub mod Turning
-pub mod Walking
+mod Boarding
+mod Calming
+mod Moving
+mod Reaching
+mod Starting
+mod Statuses
+mod Turning
+mod Walking

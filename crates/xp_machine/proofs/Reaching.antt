@@ -1,9 +1,16 @@
 -- What the code makes of a trace is what legal steps make of it.
-use Rattle.std.proofs.Common.{◌≡◌, ℕ, ◌<◌, None, List, [], length, Result, Ok, Err, IfOk, refl, sym, ap, ◌∙◌, subst, lit<}
-use Rattle.std.proofs.lemmas.List.{length-replicate, get_or-replicate}
+use Rattle.std.proofs.Common.{◌≡◌, ℕ, ◌<◌, ◌≤◌, Bool, None, Option, Some, List, [], length, map, Result, Ok, Err, IfOk, refl, sym, ap, ◌∙◌, subst, inl, inr, lit<, arith, slice_index_or}
+use Rattle.std.specs.Prelude.{slice_get, sum_by}
+use Rattle.std.specs.List.{enumerate_from}
+use Rattle.std.proofs.lemmas.List.{length-map, get_or-map, length-replicate, get_or-replicate}
+use Rattle.std.proofs.lemmas.List.Elements.{All-get_or}
+use Rattle.std.proofs.lemmas.List.FromFn.{length-enumerate_from, get_or-enumerate_from}
+use Rattle.std.proofs.lemmas.Option.{slice_get_within, slice_get_cases, get_or_from_slice_get}
 use Rattle.xp_words.specs.Machine.{Machine}
 use Rattle.xp_words.specs.Places.{Vcpu, sizes_of, memory}
+use Rattle.xp_words.specs.declared.ops.Op.{Op}
 use Rattle.xp_board.specs.Hands.{empty, IsEmptyHand}
+use Rattle.xp_board.specs.Readings.{domain_of}
 use Rattle.xp_board.specs.declared.step.Step.{Step}
 use Rattle.xp_board.specs.declared.holdings.Holdings.{Holdings}
 use Rattle.xp_board.specs.Safe.{Safe}
@@ -12,13 +19,18 @@ use Rattle.xp_board.specs.Told.{Story}
 use Rattle.xp_board.specs.Runs as runs
 use Rattle.trace_text.specs.declared.trace.Trace.{Trace}
 use Rattle.machine_build.specs.Opening.{IsOpening, opening_at}
-use Rattle.shared_board.specs.Board.{Board, opened_story, state_of}
+use Rattle.shared_board.specs.Board.{Board, opened_story, port_value, state_of}
 use Rattle.shared_board.proofs.Opened.{start_sound}
 use Rattle.frame_words.proofs.Stepping.{own_there}
-use Rattle.xp_machine.specs.Answers.{Stage, Turns, stage}
-use Rattle.xp_machine.specs.Ports.{Rests, Ready}
-use Rattle.xp_machine.specs.Turns.{Processing, order, first_cpus}
+use Rattle.vcpu_turn.specs.Cpus.{Processing, fresh}
+use Rattle.vcpu_turn.specs.Turning.{IsOf, Rests}
+use Rattle.xp_machine.specs.Cpus.{AreShort, IsShort, order, first_cpu, first_cpus}
+use Rattle.xp_machine.specs.Gates.{StayCalm}
 use Rattle.xp_machine.specs.Ran.{Ran, Closes, report_at}
+use Rattle.xp_machine.specs.Ready.{Ready, TakesFresh}
+use Rattle.xp_machine.specs.Turns.{Stage, WorksOff, stage}
+use Rattle.xp_machine.proofs.Starting.{length_first, short_first}
+use Rattle.xp_machine.proofs.Turning.{turns_fewer}
 
 -- what follows of each value follows of the value of a call
 pub if_ok : {A E : Type 0} (r : Result A E) (P Q : A → Type 0) → ((x : A) → P x → Q x) → IfOk r P → IfOk r Q
@@ -38,16 +50,48 @@ runs_at_first : (t : Trace) (v : ℕ) → opening_at t (Vcpu v 6) ≡ 0
 unfolding opening_at
 runs_at_first t v = refl
 
-pub ready_first : (t : Trace) (opened : List ℕ) → IsOpening t opened → Ready t.layout (opened_story t.layout opened)
-ready_first t opened opening =
-    record {
-      seats = length-replicate (length t.layout.vcpu_domain) empty;
-      rests = λ v real. subst Rests (sym (get_or-replicate (length t.layout.vcpu_domain) v empty empty real)) empty_rests;
-      running = λ v real. opening.places (Vcpu v 6) (own_there (sizes_of t.layout) v 6 real (lit< tt)) ∙ runs_at_first t v;
-    }
+first_at : (n : Machine) (scripts : List (List Op)) (v : ℕ) (c : Processing) → slice_get (first_cpus n scripts) v ≡ Some c → (script : List Op) × (c ≡ fresh v (domain_of n v) script)
+unfolding first_cpus
+first_at n scripts v c at =
+    let numbered = enumerate_from 0 scripts in
+    let none : ℕ × List Op = (0, []) in
+    let within : v < length numbered = subst (λ k. v < k) (length-map numbered (first_cpu n)) (slice_get_within (map (first_cpu n) numbered) v c at) in
+    let there : v < length scripts = subst (λ k. v < k) (length-enumerate_from 0 scripts) within in
+    let is = sym (get_or_from_slice_get (map (first_cpu n) numbered) v c (first_cpu n none) at) in
+    (slice_index_or scripts v [], is ∙ get_or-map (first_cpu n) numbered v none (first_cpu n none) within ∙ ap (first_cpu n) (get_or-enumerate_from 0 scripts v none there ∙ ap (λ k. (k, slice_index_or scripts v [])) (omega arith)))
 
-pub ready_board : (t : Trace) (b : Board) (opened : List ℕ) → IsOpening t opened → b.machine ≡ t.layout → b.story ≡ opened_story t.layout opened → Ready b.machine b.story
-ready_board t b opened opening machine story = rw (machine, story) (ready_first t opened opening)
+pub takes_fresh : (t : Trace) (b : Board) (opened : List ℕ) → IsOpening t opened → b.machine ≡ t.layout → b.story ≡ opened_story t.layout opened → TakesFresh b
+unfolding TakesFresh
+takes_fresh t b opened opening machine story v lender script real =
+    let n = t.layout in
+    let there : v < (sizes_of n).vcpus = subst (λ (k : Machine). v < (sizes_of k).vcpus) machine real in
+    rw (machine, story)
+    (record {
+      seat = refl;
+      domain = refl;
+      rests = subst Rests (sym (get_or-replicate (length n.vcpu_domain) v empty empty there)) empty_rests;
+      runs = λ works. inr (refl, opening.places (Vcpu v 6) (own_there (sizes_of n) v 6 there (lit< tt)) ∙ runs_at_first t v);
+    })
+
+of_first : (n : Machine) (b : Board) (scripts : List (List Op)) → b.machine ≡ n → TakesFresh b → length scripts ≡ length n.vcpu_domain →
+    (v lender : ℕ) (c : Processing) → slice_get (first_cpus n scripts) v ≡ Some c → IsOf (port_value b v lender) c
+unfolding TakesFresh
+of_first n b scripts machine takes all v lender c at =
+    let first = first_at n scripts v c at in
+    let real : v < (sizes_of n).vcpus = subst (λ k. v < k) (length_first n scripts ∙ all) (slice_get_within (first_cpus n scripts) v c at) in
+    subst (IsOf (port_value b v lender)) (ap (λ (k : Machine). fresh v (domain_of k v) first.0) machine ∙ sym first.1)
+    (takes v lender first.0 (subst (λ (k : Machine). v < (sizes_of k).vcpus) (sym machine) real))
+
+pub ready_board : (t : Trace) (b : Board) (opened : List ℕ) (cpus : List Processing) → IsOpening t opened → b.machine ≡ t.layout → b.story ≡ opened_story t.layout opened →
+    length t.scripts ≡ length t.layout.vcpu_domain → sum_by length t.scripts ≤ 65536 → cpus ≡ first_cpus t.layout t.scripts → Ready b cpus
+ready_board t b opened cpus opening machine story scripts few first =
+    subst (Ready b) (sym first)
+    (record {
+      all = length_first t.layout t.scripts ∙ scripts ∙ sym (ap (λ (n : Machine). (sizes_of n).vcpus) machine);
+      seats = ap (λ (a : Story). length a.seats) story ∙ length-replicate (length t.layout.vcpu_domain) empty ∙ sym (ap (λ (n : Machine). (sizes_of n).vcpus) machine);
+      short = short_first t.layout t.scripts few;
+      of = of_first t.layout b t.scripts machine (takes_fresh t b opened opening machine story) scripts;
+    })
 
 -- ---- the laws of the machine that the run rests on
 abbrev pub RunsSafe : Type 0
@@ -58,32 +102,59 @@ RestsSound =
     (n : Machine) (words : List ℕ) (seats : List Holdings) → SoundState n words seats →
     ((s : ℕ) → s < (sizes_of n).vcpus → IsEmptyHand (seat_of seats s) × ((seat_of seats s).cache ≡ []) × ((seat_of seats s).walk ≡ None)) → SoundWords n words
 
+-- ---- at the end
+rests_at : (b : Board) (cpus : List Processing) (s : ℕ) → Ready b cpus → s < (sizes_of b.machine).vcpus → Rests (seat_of b.story.seats s)
+rests_at b cpus s ready real =
+    elim ((slice_get_cases cpus s).1) [
+      | inl here ↦ (ready.of s 0 here.0 here.2).rests
+      | inr past ↦ absurd (let all = ready.all in let far = past.0 in omega arith)
+    ]
+
+works_fewer : (n : Machine) (before after : List Bool) (vs : List ℕ) (s s' : Stage) → StayCalm before after → WorksOff n after vs s s' → WorksOff n before vs s s'
+works_fewer n before after vs s s' stay w = record { worked = w.worked; turns = turns_fewer n before after stay vs s w.worked w.turns; stops = w.stops }
+
+pub ran_fewer : (t : Trace) (before after : List Bool) (text : List ℕ) → StayCalm before after → Ran t after text → Ran t before text
+ran_fewer t before after text stay r =
+    record {
+      opened = r.opened;
+      opening = r.opening;
+      closed = r.closed;
+      works = works_fewer t.layout before after (order t.turns) (stage (opened_story t.layout r.opened) (first_cpus t.layout t.scripts)) r.closed stay r.works;
+      run = r.run;
+      safe = r.safe;
+      sound = r.sound;
+      report = r.report;
+    }
+
 -- the report of a board that was closed, and the run that led to it
-pub ran : RunsSafe → RestsSound → (t : Trace) (b : Board) (opened : List ℕ) (closed : Stage) (n : Machine) (from : List ℕ) (text : List ℕ) → SoundWords t.layout opened → IsOpening t opened →
-    b.machine ≡ t.layout → b.story ≡ opened_story t.layout opened → n ≡ b.machine → from ≡ b.story.opening → Ready b.machine closed.board →
-    (cpus : List Processing) → cpus ≡ first_cpus t.layout.vcpu_domain t.scripts → (vs : List ℕ) → vs ≡ order t.turns →
-    Turns b.machine vs (stage b.story cpus) closed → Closes n from closed text → Ran t text
-ran guards rests t b opened closed n from text words opening machine story kept opens ready cpus first vs those turns closes =
+pub ran : RunsSafe → RestsSound → (t : Trace) (b b2 : Board) (opened : List ℕ) (cpus cpus2 : List Processing) (before calms : List Bool) (vs text : List ℕ) → SoundWords t.layout opened → IsOpening t opened →
+    b.machine ≡ t.layout → b.story ≡ opened_story t.layout opened → b2.machine ≡ b.machine → b2.story.opening ≡ b.story.opening → Ready b2 cpus2 → cpus ≡ first_cpus t.layout t.scripts → StayCalm before calms →
+    vs ≡ order t.turns → WorksOff b.machine calms vs (stage b.story cpus) (stage b2.story cpus2) → Closes b2.machine b2.story.opening (stage b2.story cpus2) text → Ran t before text
+ran guards rests t b b2 opened cpus cpus2 before calms vs text words opening machine story kept opens ready first stay those works closes =
     let z = t.layout in
+    let closed : Stage = stage b2.story cpus2 in
     let begins = start_sound z opened words in
-    let machine2 : n ≡ z = kept ∙ machine in
-    let from2 : from ≡ opened = opens ∙ ap (λ (x : Story). x.opening) story in
+    let machine2 : b2.machine ≡ z = kept ∙ machine in
+    let from2 : b2.story.opening ≡ opened = opens ∙ ap (λ (x : Story). x.opening) story in
     let run : runs.Run z (runs.start z opened) closed.board.log (state_of closed.board) =
     subst (λ ws. runs.Run z (runs.start z ws) closed.board.log (state_of closed.board)) from2
-    (subst (λ k. runs.Run k (runs.start k from) closed.board.log (state_of closed.board)) machine2 closes.run) in
+    (subst (λ k. runs.Run k (runs.start k b2.story.opening) closed.board.log (state_of closed.board)) machine2 closes.run) in
     let sound : SoundState z closed.board.words closed.board.seats = subst (λ k. SoundState k closed.board.words closed.board.seats) machine2 closes.sound in
-    let at : Ready z closed.board = subst (λ k. Ready k closed.board) machine ready in
-    let taken : Turns z (order t.turns) (stage (opened_story z opened) (first_cpus z.vcpu_domain t.scripts)) closed =
-    subst (λ k. Turns k (order t.turns) (stage (opened_story z opened) (first_cpus z.vcpu_domain t.scripts)) closed) machine
-    (subst (λ us. Turns b.machine us (stage (opened_story z opened) (first_cpus z.vcpu_domain t.scripts)) closed) those
-    (subst (λ cs. Turns b.machine vs (stage (opened_story z opened) cs) closed) first (subst (λ st. Turns b.machine vs (stage st cpus) closed) story turns))) in
+    let rested : (s : ℕ) → s < (sizes_of z).vcpus → Rests (seat_of b2.story.seats s) =
+    λ s real. rests_at b2 cpus2 s ready (subst (λ (k : Machine). s < (sizes_of k).vcpus) (sym machine2) real) in
     record {
       opened = opened;
       opening = opening;
       closed = closed;
-      turns = taken;
+      works = works_fewer z before calms (order t.turns) (stage (opened_story z opened) (first_cpus z t.scripts)) closed stay
+          (subst (λ k. WorksOff k calms (order t.turns) (stage (opened_story z opened) (first_cpus z t.scripts)) closed) machine
+          (subst (λ us. WorksOff b.machine calms us (stage (opened_story z opened) (first_cpus z t.scripts)) closed) those
+          (subst (λ cs. WorksOff b.machine calms vs (stage (opened_story z opened) cs) closed) first (subst (λ st. WorksOff b.machine calms vs (stage st cpus) closed) story works))));
       run = run;
       safe = λ newer older a parts run2. guards z (runs.start z opened) a older run2 begins;
-      sound = rests z closed.board.words closed.board.seats sound (λ s real. ((at.rests s real).empty, (at.rests s real).cache, (at.rests s real).walk));
+      sound = rests z closed.board.words closed.board.seats sound (λ s real. ((rested s real).empty, (rested s real).cache, (rested s real).walk));
       report = closes.report ∙ ap (λ k. report_at k closed) machine2;
     }
+
+pub short_seat : {A : Type 0} (cpu : A → Processing) (seats : List A) (i : ℕ) (d : A) → i < length seats → AreShort (map cpu seats) → IsShort (cpu (slice_index_or seats i d))
+short_seat cpu seats i d within all = subst IsShort (get_or-map cpu seats i d (cpu d) within) (All-get_or IsShort (map cpu seats) i (cpu d) (subst (λ k. i < k) (sym (length-map seats cpu)) within) all)

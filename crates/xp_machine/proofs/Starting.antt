@@ -1,30 +1,71 @@
--- The vCPUs of a trace before their first turn.
-use Rattle.std.proofs.Common.{◌≡◌, ℕ, suc, ◌^◌, ◌<◌, ◌≤◌, List, [], ◌∷◌, length, map, refl, sym, ap, ◌∙◌, subst, arith, All}
+-- The vCPUs of a trace before their first turn, with their gates.
+use Rattle.std.proofs.Common.{◌≡◌, ℕ, zero, suc, ◌+◌, ◌^◌, ◌<◌, ◌≤◌, Bool, true, List, [], ◌∷◌, length, map, refl, sym, ap, ◌∙◌, subst, arith, slice_index_or}
 use Rattle.std.specs.Prelude.{sum_by}
-use Rattle.std.proofs.lemmas.List.{length-map}
+use Rattle.std.specs.List.{enumerate_from, range_with_len, zip}
+use Rattle.std.proofs.lemmas.List.{get_or-map, length-map}
 use Rattle.std.proofs.lemmas.List.Elements.{All-from_get_or}
+use Rattle.std.proofs.lemmas.List.FromFn.{length-enumerate_from, get_or-enumerate_from}
 use Rattle.std.proofs.lemmas.List.Sums.{get_or-le-sum_by}
 use Rattle.xp_words.specs.declared.ops.Op.{Op}
-use Rattle.xp_machine.specs.Turns.{AreShort, script_of, first_cpus}
+use Rattle.xp_words.specs.Machine.{Machine}
+use Rattle.vcpu_turn.specs.Cpus.{Processing}
+use Rattle.xp_machine.specs.Cpus.{IsShort, AreShort, first_cpu, first_cpus}
+use Rattle.xp_machine.specs.Gates.{is_calm, StayCalm}
 
-suc_is : (m n : ℕ) → suc m ≡ suc n → m ≡ n
-suc_is m n e = omega arith
+-- ---- numbers, scripts and gates side by side
+numbered : (a : ℕ) (scripts : List (List Op)) → zip (range_with_len a (length scripts)) scripts ≡ enumerate_from a scripts
+numbered a [] = refl
+numbered a (s ∷ ss) = ap (λ (l : List (ℕ × List Op)). (a, s) ∷ l) (numbered (a + 1) ss)
 
-pub scripts_first : (domains : List ℕ) (scripts : List (List Op)) → length scripts ≡ length domains → map script_of (first_cpus domains scripts) ≡ scripts
+firsts : {A B C : Type 0} (f : A → C) (xs : List A) (ys : List B) → length xs ≤ length ys → map (λ p. f p.0) (zip xs ys) ≡ map f xs
+firsts f [] ys few = refl
+firsts f (x ∷ xs) [] few = absurd (omega arith)
+firsts f (x ∷ xs) (y ∷ ys) few = ap (λ l. f x ∷ l) (firsts f xs ys (omega arith))
+
+pub cpus_first : {G : Type 0} (n : Machine) (vcpus : ℕ) (scripts : List (List Op)) (gates : List G) → vcpus ≡ length scripts → length scripts ≤ length gates →
+    map (λ p. first_cpu n p.0) (zip (zip (range_with_len 0 vcpus) scripts) gates) ≡ first_cpus n scripts
 unfolding first_cpus
-scripts_first [] [] e = refl
-scripts_first [] (s ∷ ss) e = absurd (omega arith)
-scripts_first (d ∷ ds) [] e = absurd (omega arith)
-scripts_first (d ∷ ds) (s ∷ ss) e = ap (λ (l : List (List Op)). s ∷ l) (scripts_first ds ss (suc_is _ _ e))
+cpus_first n vcpus scripts gates all few =
+    let numbers : zip (range_with_len 0 vcpus) scripts ≡ enumerate_from 0 scripts = ap (λ k. zip (range_with_len 0 k) scripts) all ∙ numbered 0 scripts in
+    ap (λ l. map (λ p. first_cpu n p.0) (zip l gates)) numbers
+    ∙ firsts (first_cpu n) (enumerate_from 0 scripts) gates (subst (λ k. k ≤ length gates) (sym (length-enumerate_from 0 scripts)) few)
 
-pub length_first : (domains : List ℕ) (scripts : List (List Op)) → length scripts ≡ length domains → length (first_cpus domains scripts) ≡ length domains
-length_first domains scripts e =
-    sym (length-map (first_cpus domains scripts) script_of) ∙ ap length (scripts_first domains scripts e) ∙ e
+calm_zip : {A G : Type 0} (calm : G → Bool) (xs : List A) (gates : List G) (v : ℕ) → is_calm (map calm gates) v ≡ true → is_calm (map (λ p. calm p.1) (zip xs gates)) v ≡ true
+calm_zip calm [] gates v h = refl
+calm_zip calm (x ∷ xs) [] v h = refl
+calm_zip calm (x ∷ xs) (g ∷ gs) zero h = h
+calm_zip calm (x ∷ xs) (g ∷ gs) (suc v) h = calm_zip calm xs gs v h
 
-short_scripts : (scripts : List (List Op)) → sum_by length scripts ≤ 65536 → All (λ (script : List Op). length script < 2 ^ 32) scripts
-short_scripts scripts few = All-from_get_or (λ (script : List Op). length script < 2 ^ 32) scripts [] (λ i h. let part = get_or-le-sum_by length scripts i [] h in omega arith)
+pub calms_first : {A G : Type 0} (calm : G → Bool) (xs : List A) (gates : List G) (calms : List Bool) → calms ≡ map (λ p. calm p.1) (zip xs gates) → StayCalm (map calm gates) calms
+calms_first calm xs gates calms is v h = subst (λ cs. is_calm cs v ≡ true) (sym is) (calm_zip calm xs gates v h)
 
-pub short_first : (domains : List ℕ) (scripts : List (List Op)) → length scripts ≡ length domains → sum_by length scripts ≤ 65536 → AreShort (first_cpus domains scripts)
-short_first domains scripts e few =
-    let P : List (List Op) → Type 0 = λ ss. All (λ (script : List Op). length script < 2 ^ 32) ss in
-    subst P (sym (scripts_first domains scripts e)) (short_scripts scripts few)
+-- the number of each is one of the machine's
+number_real : {X G : Type 0} (a n : ℕ) (xs : List X) (gates : List G) (k : ℕ) (d : (ℕ × X) × G) → k < length (zip (zip (range_with_len a n) xs) gates) →
+    (slice_index_or (zip (zip (range_with_len a n) xs) gates) k d).0.0 < a + n
+number_real a zero xs gates k d within = absurd (omega arith)
+number_real a (suc n) [] gates k d within = absurd (omega arith)
+number_real a (suc n) (x ∷ xs) [] k d within = absurd (omega arith)
+number_real a (suc n) (x ∷ xs) (g ∷ gs) zero d within = omega arith
+number_real a (suc n) (x ∷ xs) (g ∷ gs) (suc k) d within = let rest = number_real (a + 1) n xs gs k d (omega arith) in omega arith
+
+pub number_below : {X G : Type 0} (n vcpus : ℕ) (xs : List X) (gates : List G) (k v : ℕ) (d : (ℕ × X) × G) → k < length (zip (zip (range_with_len 0 n) xs) gates) →
+    v ≡ (slice_index_or (zip (zip (range_with_len 0 n) xs) gates) k d).0.0 → n ≡ vcpus → v < vcpus
+number_below n vcpus xs gates k v d within at same = let real = number_real 0 n xs gates k d within in omega arith
+
+-- ---- how many and how long
+pub length_first : (n : Machine) (scripts : List (List Op)) → length (first_cpus n scripts) ≡ length scripts
+unfolding first_cpus
+length_first n scripts = length-map (enumerate_from 0 scripts) (first_cpu n) ∙ length-enumerate_from 0 scripts
+
+pub short_first : (n : Machine) (scripts : List (List Op)) → sum_by length scripts ≤ 65536 → AreShort (first_cpus n scripts)
+unfolding first_cpus
+short_first n scripts few =
+    let numbered_scripts = enumerate_from 0 scripts in
+    let none : ℕ × List Op = (0, []) in
+    All-from_get_or IsShort (map (first_cpu n) numbered_scripts) (first_cpu n none)
+    (λ i within.
+    let there : i < length scripts = subst (λ k. i < k) (length-map numbered_scripts (first_cpu n) ∙ length-enumerate_from 0 scripts) within in
+    let part = get_or-le-sum_by length scripts i [] there in
+    let short : length (slice_index_or scripts i []) < 2 ^ 32 = omega arith in
+    subst IsShort (sym (get_or-map (first_cpu n) numbered_scripts i none (first_cpu n none) (subst (λ k. i < k) (sym (length-enumerate_from 0 scripts)) there)))
+    (subst (λ (p : ℕ × List Op). length p.1 < 2 ^ 32) (sym (get_or-enumerate_from 0 scripts i none there)) short))

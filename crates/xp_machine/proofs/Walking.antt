@@ -1,5 +1,5 @@
 -- What a board that tells all words tells after steps of one of its ports.
-use Rattle.std.proofs.Common.{◌≡◌, ◌≢◌, ℕ, ◌||◌, ◌<◌, Bool, false, List, [], ◌∷◌, ◌++◌, length, Some, IsTrue, refl, sym, ap, ◌∙◌, subst, inl, inr, slice_set, length-set, get_or-set_same}
+use Rattle.std.proofs.Common.{◌≡◌, ◌≢◌, ℕ, ◌<◌, List, [], ◌∷◌, ◌++◌, length, Option, Some, arith, refl, sym, ap, ◌∙◌, subst, inl, inr, slice_set, length-set, get_or-set_same}
 use Rattle.std.proofs.Math.ListN.{set}
 use Rattle.std.proofs.lemmas.List.{get_or-set_other}
 use Rattle.xp_words.specs.Machine.{Machine}
@@ -7,14 +7,17 @@ use Rattle.xp_words.specs.Places.{Vcpu, sizes_of, size, is_place, number, memory
 use Rattle.xp_words.proofs.PlaceLaws.{memory_same, memory_other}
 use Rattle.xp_board.specs.declared.step.Act.{Act}
 use Rattle.xp_board.specs.declared.step.Act.TheVariants.{Load, Cas, Store, Add, Max}
+use Rattle.xp_board.specs.declared.step.Mark.{Mark}
 use Rattle.xp_board.specs.declared.step.Step.{Step}
+use Rattle.xp_board.specs.declared.step.StepKind.{StepKind}
+use Rattle.xp_board.specs.declared.step.StepKind.TheVariants as steps
 use Rattle.xp_board.specs.declared.holdings.Made.{Made}
 use Rattle.xp_board.specs.declared.holdings.Holdings.{Holdings}
 use Rattle.xp_board.specs.Acts.{left_by}
 use Rattle.xp_board.specs.After.{after}
 use Rattle.xp_board.specs.Hands.{empty}
-use Rattle.xp_board.specs.Legal.{LegalNow}
-use Rattle.xp_board.specs.Lists.{EachOf}
+use Rattle.xp_board.specs.Legal.{Legal, LegalAs, LegalNow}
+use Rattle.xp_board.specs.Marks.{after_mark}
 use Rattle.xp_board.specs.Runs as runs
 use Rattle.xp_board.specs.Runs.{place_of, word_at}
 use Rattle.xp_board.specs.Sound.{seat_of}
@@ -23,31 +26,65 @@ use Rattle.xp_board.proofs.PlaceTests.{same_or_other}
 use Rattle.xp_board.proofs.Going.{went_post}
 use Rattle.xp_board.proofs.Numbers.{place_number}
 use Rattle.shared_board.specs.Board.{state_of}
-use Rattle.frame_words.specs.Pieces.{is_load, is_of, StaysIn}
 use Rattle.xp_machine.specs.Pieces.{Piece, log_by}
 
--- ---- the words of vCPUs
-is_look : (a : Act) (b : Bool) → b ≡ false → IsTrue (is_load a || b) → a ≡ Load
-is_look Load b e h = refl
-is_look (Cas x y) b e h = absurd (let t : IsTrue false = subst IsTrue e h in cc)
-is_look (Store x) b e h = absurd (let t : IsTrue false = subst IsTrue e h in cc)
-is_look (Add x) b e h = absurd (let t : IsTrue false = subst IsTrue e h in cc)
-is_look (Max x) b e h = absurd (let t : IsTrue false = subst IsTrue e h in cc)
-
--- a step that changes words of a frame alone keeps them
-vcpu_kept : (n : Machine) (words : List ℕ) (x : Made) (f t k : ℕ) → IsTrue (is_place (sizes_of n) (place_of n x.step)) → length words ≡ size (sizes_of n) →
-    memory (sizes_of n) words (place_of n x.step) ≡ x.found → StaysIn n f x →
-    memory (sizes_of n) (slice_set words x.step.place (left_by x.step.act x.found)) (Vcpu t k) ≡ memory (sizes_of n) words (Vcpu t k)
+-- ---- the run words of the others
+run_kept : (n : Machine) (s t : ℕ) (h : Holdings) (act : Act) (mark : Option Mark) (by : StepKind) (w : ℕ) → t ≢ s → LegalAs n s h (Vcpu t 6) act mark by → left_by act w ≡ w
 unfolding left_by
-vcpu_kept n words x f t k real whole found within =
-    let here = ap (λ i. memory (sizes_of n) (set words i (left_by x.step.act x.found)) (Vcpu t k)) (sym (place_number (sizes_of n) x.step.place real)) in
-    elim (same_or_other (Vcpu t k) (place_of n x.step)) [
-      | inr off ↦ here ∙ memory_other (sizes_of n) words (place_of n x.step) (Vcpu t k) (left_by x.step.act x.found) real off
+run_kept n s t h Load mark by w off legal = refl
+run_kept n s t h act mark steps.Ref w off legal = absurd legal
+run_kept n s t h act mark steps.Kind w off legal = absurd legal
+run_kept n s t h act mark steps.Cell w off legal = absurd legal
+run_kept n s t h act mark steps.M2p w off legal = absurd legal
+run_kept n s t h act mark steps.Pages w off legal = absurd legal
+run_kept n s t h act mark steps.Guest w off legal = absurd legal
+run_kept n s t h act mark steps.Tick w off legal = absurd legal
+run_kept n s t h act mark steps.Life w off legal = absurd legal
+run_kept n s t h act mark steps.Hint w off legal = absurd legal
+run_kept n s t h act mark steps.Touch w off legal = absurd legal
+run_kept n s t h act mark steps.Priv w off legal = absurd legal
+run_kept n s t h (Cas x y) mark steps.Look w off legal = absurd legal
+run_kept n s t h (Store x) mark steps.Look w off legal = absurd legal
+run_kept n s t h (Add x) mark steps.Look w off legal = absurd legal
+run_kept n s t h (Max x) mark steps.Look w off legal = absurd legal
+run_kept n s t h (Cas x y) mark steps.Fill w off legal = absurd legal
+run_kept n s t h (Store x) mark steps.Fill w off legal = absurd legal
+run_kept n s t h (Add x) mark steps.Fill w off legal = absurd legal
+run_kept n s t h (Max x) mark steps.Fill w off legal = absurd legal
+run_kept n s t h (Cas x y) mark steps.Context w off legal = absurd legal
+run_kept n s t h (Store x) mark steps.Context w off (inl named) = absurd (off named.own)
+run_kept n s t h (Store x) mark steps.Context w off (inr (inl based)) = absurd (off based.own)
+run_kept n s t h (Store x) mark steps.Context w off (inr (inr emptied)) = absurd (let e = emptied.word in cc)
+run_kept n s t h (Add x) mark steps.Context w off legal = absurd legal
+run_kept n s t h (Max x) mark steps.Context w off legal = absurd legal
+run_kept n s t h (Cas x y) mark steps.Ack w off legal = absurd legal
+run_kept n s t h (Store x) mark steps.Ack w off legal = absurd (off legal.own)
+run_kept n s t h (Add x) mark steps.Ack w off legal = absurd legal
+run_kept n s t h (Max x) mark steps.Ack w off legal = absurd legal
+run_kept n s t h (Cas x y) mark steps.Run w off legal = absurd legal
+run_kept n s t h (Store x) mark steps.Run w off legal = absurd (off legal.0)
+run_kept n s t h (Add x) mark steps.Run w off legal = absurd legal
+run_kept n s t h (Max x) mark steps.Run w off legal = absurd legal
+run_kept n s t h (Cas x y) mark steps.Ask w off legal = absurd legal
+run_kept n s t h (Store x) mark steps.Ask w off legal = absurd legal
+run_kept n s t h (Add x) mark steps.Ask w off legal = absurd legal
+run_kept n s t h (Max x) mark steps.Ask w off legal = absurd (let e = legal.0 in omega arith)
+
+-- no vCPU changes the run word of another one
+others_run : (n : Machine) (s t : ℕ) (h : Holdings) (words : List ℕ) (x : Made) → t ≢ s → Legal n s h x.step → length words ≡ size (sizes_of n) → memory (sizes_of n) words (place_of n x.step) ≡ x.found →
+    memory (sizes_of n) (slice_set words x.step.place (left_by x.step.act x.found)) (Vcpu t 6) ≡ memory (sizes_of n) words (Vcpu t 6)
+others_run n s t h words x off legal whole found =
+    let left = left_by x.step.act x.found in
+    let here = ap (λ i. memory (sizes_of n) (set words i left) (Vcpu t 6)) (sym (place_number (sizes_of n) x.step.place legal.place)) in
+    elim (same_or_other (Vcpu t 6) (place_of n x.step)) [
+      | inr away ↦ here ∙ memory_other (sizes_of n) words (place_of n x.step) (Vcpu t 6) left legal.place away
       | inl at ↦
-          let look = is_look x.step.act (is_of f (place_of n x.step)) (ap (is_of f) (sym at)) within in
+          let kept : left ≡ x.found =
+          run_kept n s t (after_mark n x.step.mark h) x.step.act x.step.mark x.step.kind x.found off
+          (subst (λ q. LegalAs n s (after_mark n x.step.mark h) q x.step.act x.step.mark x.step.kind) (sym at) legal.act) in
           here
-          ∙ subst (λ q. memory (sizes_of n) (set words (number (sizes_of n) (place_of n x.step)) (left_by x.step.act x.found)) q ≡ memory (sizes_of n) words q) (sym at)
-          (memory_same (sizes_of n) words (place_of n x.step) (left_by x.step.act x.found) real whole ∙ ap (λ a. left_by a x.found) look ∙ sym found)
+          ∙ subst (λ q. memory (sizes_of n) (set words (number (sizes_of n) (place_of n x.step)) left) q ≡ memory (sizes_of n) words q) (sym at)
+          (memory_same (sizes_of n) words (place_of n x.step) left legal.place whole ∙ kept ∙ sym found)
     ]
 
 -- ---- one step
@@ -61,12 +98,12 @@ record One (n : Machine) (s : ℕ) (a : Story) (w : PortValue) (x : Made) : Type
   log : b.log ≡ (s, x.step) ∷ a.log
   seats : length b.seats ≡ length a.seats
   others : (t : ℕ) → t ≢ s → seat_of b.seats t ≡ seat_of a.seats t
-  own : (t k : ℕ) → memory (sizes_of n) b.words (Vcpu t k) ≡ memory (sizes_of n) a.words (Vcpu t k)
+  run : (t : ℕ) → t ≢ s → memory (sizes_of n) b.words (Vcpu t 6) ≡ memory (sizes_of n) a.words (Vcpu t 6)
 
-one_step : (u w : PortValue) (x : Made) (c : Story) (f : ℕ) → u.told ≡ Some c → u.holdings ≡ seat_of c.seats u.post.seat → u.post.seat < length c.seats →
+one_step : (u w : PortValue) (x : Made) (c : Story) → u.told ≡ Some c → u.holdings ≡ seat_of c.seats u.post.seat → u.post.seat < length c.seats →
     u.post.seat < (sizes_of u.post.machine).vcpus → LegalNow u.post.machine u.post.seat u.holdings x.step → IsTold u.post.machine u.told (place_of u.post.machine x.step) x.found →
-    w ≡ stepped u x.step x.found → StaysIn u.post.machine f x → One u.post.machine u.post.seat c w x
-one_step u w x c f told hand there real legal found to within =
+    w ≡ stepped u x.step x.found → One u.post.machine u.post.seat c w x
+one_step u w x c told hand there real legal found to =
     let n = u.post.machine in
     let s = u.post.seat in
     let h : Holdings = after n s u.holdings x.step x.found in
@@ -89,7 +126,7 @@ one_step u w x c f told hand there real legal found to within =
       log = refl;
       seats = length-set c.seats s h;
       others = λ t off. get_or-set_other c.seats s t h empty off;
-      own = λ t k. vcpu_kept n c.words x f t k legal.legal.place is.0 is.1 within;
+      run = λ t off. others_run n s t (seat_of c.seats s) c.words x off legal'.legal is.0 is.1;
     }
 
 -- ---- all of them
@@ -102,12 +139,11 @@ pub record Walked (n : Machine) (s : ℕ) (a : Story) (w : PortValue) (made : Li
   pub log : b.log ≡ log_by s made ++ a.log
   pub seats : length b.seats ≡ length a.seats
   pub others : (t : ℕ) → t ≢ s → seat_of b.seats t ≡ seat_of a.seats t
-  pub own : (t k : ℕ) → memory (sizes_of n) b.words (Vcpu t k) ≡ memory (sizes_of n) a.words (Vcpu t k)
+  pub run : (t : ℕ) → t ≢ s → memory (sizes_of n) b.words (Vcpu t 6) ≡ memory (sizes_of n) a.words (Vcpu t 6)
 
-pub walked : (v w : PortValue) (a : Story) (f : ℕ) (made : List Made) → v.told ≡ Some a → v.holdings ≡ seat_of a.seats v.post.seat → v.post.seat < length a.seats →
-    v.post.seat < (sizes_of v.post.machine).vcpus → Went v made w → EachOf (StaysIn v.post.machine f) made → Walked v.post.machine v.post.seat a w made
-unfolding EachOf
-walked v w a f [] told hand there real went each =
+pub walked : (v w : PortValue) (a : Story) (made : List Made) → v.told ≡ Some a → v.holdings ≡ seat_of a.seats v.post.seat → v.post.seat < length a.seats →
+    v.post.seat < (sizes_of v.post.machine).vcpus → Went v made w → Walked v.post.machine v.post.seat a w made
+walked v w a [] told hand there real went =
     record {
       b = a;
       told = ap (λ (y : PortValue). y.told) went ∙ told;
@@ -117,17 +153,17 @@ walked v w a f [] told hand there real went each =
       log = refl;
       seats = refl;
       others = λ t off. refl;
-      own = λ t k. refl;
+      run = λ t off. refl;
     }
-walked v w a f (x ∷ xs) told hand there real went each =
+walked v w a (x ∷ xs) told hand there real went =
     let u : PortValue = went.0 in
-    let before = walked v u a f xs told hand there real went.1 each.1 in
+    let before = walked v u a xs told hand there real went.1 in
     let post = went_post v u xs went.1 in
     let one : One v.post.machine v.post.seat before.b w x =
     subst (λ (q : Post). One q.machine q.seat before.b w x) post
-    (one_step u w x before.b f before.told (before.holdings ∙ ap (λ (q : Post). seat_of before.b.seats q.seat) (sym post))
+    (one_step u w x before.b before.told (before.holdings ∙ ap (λ (q : Post). seat_of before.b.seats q.seat) (sym post))
     (subst (λ (q : Post). q.seat < length before.b.seats) (sym post) (subst (λ k. v.post.seat < k) (sym before.seats) there))
-    (subst (λ (q : Post). q.seat < (sizes_of q.machine).vcpus) (sym post) real) went.2 went.3 went.4 (subst (λ (q : Post). StaysIn q.machine f x) (sym post) each.0)) in
+    (subst (λ (q : Post). q.seat < (sizes_of q.machine).vcpus) (sym post) real) went.2 went.3 went.4) in
     record {
       b = one.b;
       told = one.told;
@@ -137,5 +173,5 @@ walked v w a f (x ∷ xs) told hand there real went each =
       log = one.log ∙ ap (λ (es : List (ℕ × Step)). (v.post.seat, x.step) ∷ es) before.log;
       seats = one.seats ∙ before.seats;
       others = λ t off. one.others t off ∙ before.others t off;
-      own = λ t k. one.own t k ∙ before.own t k;
+      run = λ t off. one.run t off ∙ before.run t off;
     }

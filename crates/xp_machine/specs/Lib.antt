@@ -1,7 +1,10 @@
-pub mod Answers
+pub mod Cpus
+pub mod Gates
 pub mod Outcome
 pub mod Pieces
-pub mod Ports
 pub mod Ran
+pub mod Ready
+pub mod Seats
 pub mod Texts
 pub mod Turns
+pub mod Words

@@ -1,6 +1,5 @@
 -- The exit numbers, and the texts that are written where there is no trace.
-use Rattle.std.specs.Prelude.{ℕ, List, [], ◌∷◌, ◌++◌, Bool, false, codes, decimal}
-use Rattle.std.specs.Str.{bytes_eq}
+use Rattle.std.specs.Prelude.{ℕ, List, ◌++◌, codes, decimal}
 use Rattle.trace_lines.specs.declared.fault.LineFault.{LineFault}
 use Rattle.trace_lines.specs.declared.fault.LineFault.TheVariants.{Passed, Bad}
 use Rattle.trace_lines.specs.declared.fault.Cause.{Cause}
@@ -18,12 +17,6 @@ exit_of status.TooLarge = 4
 exit_of status.ReadFault = 5
 exit_of status.WriteFault = 6
 exit_of status.Memory = 7
-
--- the one word `turns`, and no other
-abbrev pub are_turns : List (List ℕ) → Bool
-are_turns [] = false
-are_turns (w ∷ []) = bytes_eq w (codes "turns")
-are_turns (w ∷ v ∷ ws) = false
 
 abbrev pub cause_text : Cause → List ℕ
 cause_text causes.End = codes "end"

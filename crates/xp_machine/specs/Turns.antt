@@ -1,68 +1,71 @@
--- The vCPUs: their operations, and what they answered.
-use Rattle.std.specs.Prelude.{ℕ, ◌+◌, ◌-◌, ◌%◌, ◌^◌, ◌<◌, ◌==◌, All, ◌&&◌, List, [], ◌∷◌, ◌++◌, length, map, replicate, Option, Some, None, if◌then◌else◌}
-use Rattle.std.specs.List.{flat_map, zip}
-use Rattle.xp_words.specs.declared.ops.Pair.{Pair}
-use Rattle.xp_words.specs.declared.ops.Call.{Call}
-use Rattle.xp_words.specs.declared.ops.Call.TheVariants as calls
-use Rattle.xp_words.specs.declared.ops.Op.{Op}
-use Rattle.xp_words.specs.declared.ops.Op.TheVariants as ops
-use Rattle.xp_words.specs.declared.reply.Reply.{Reply}
-use Rattle.xp_words.specs.declared.reply.Refusal.{Refusal}
-use Rattle.xp_words.specs.declared.reply.LogLine.{LogLine}
-use Rattle.xp_words.specs.declared.reply.LogLine.TheVariants as lines
-use Rattle.trace_text.specs.declared.trace.TurnRun.{TurnRun}
+-- Turns and stops of vCPUs as runs of legal steps, each a piece of the board's list of steps.
+use Rattle.std.specs.Prelude.{◌≡◌, ℕ, Bool, true, false, List, [], ◌∷◌, ◌++◌, slice_get, slice_set, Option, Some, None}
+use Rattle.std.specs.List.{range_with_len}
+use Rattle.xp_words.specs.Machine.{Machine}
+use Rattle.xp_words.specs.Places.{sizes_of}
+use Rattle.xp_board.specs.declared.holdings.Made.{Made}
+use Rattle.xp_board.specs.Told.{Story}
+use Rattle.vcpu_turn.specs.declared.cpu.TurnEnd.{TurnEnd}
+use Rattle.vcpu_turn.specs.Cpus.{Processing}
+use Rattle.vcpu_turn.specs.Turning.{is_due}
+use Rattle.vcpu_turn.specs.Turning as turning
+use Rattle.xp_machine.specs.Gates.{is_calm}
+use Rattle.xp_machine.specs.Pieces.{Leads}
 
--- a vCPU: its domain, its operations, and what they answered
-pub record Processing : Type 0 where
-  pub domain : ℕ
-  pub script : List Op
-  pub log : List LogLine
+-- the list of steps, the words and the hands of the board, and how far the vCPUs have come
+pub record Stage : Type 0 where
+  pub board : Story
+  pub cpus : List Processing
 
--- the only pair of an update, where it sets a machine-to-physical word
-abbrev pub only_m2p : ℕ → List Pair → Option Pair
-only_m2p foreign [] = None
-only_m2p foreign (p ∷ []) = if (foreign == 0x7ff0) && (p.ptr % 4 == 1) then Some p else None
-only_m2p foreign (p ∷ q ∷ ps) = None
+abbrev pub stage : Story → List Processing → Stage
+stage a cpus = record { board = a; cpus = cpus }
 
-abbrev pub m2p_call : Call → Option Pair
-m2p_call (calls.Mmu foreign pairs) = only_m2p foreign pairs
-m2p_call _ = None
+-- vCPU v makes a turn by steps that lead from one stage to the other. A calm gate does not pause it.
+pub record MakesTurn (n : Machine) (calm : Bool) (v : ℕ) (c : Processing) (s s' : Stage) : Type 0 where
+  pub after : Processing
+  pub end : TurnEnd
+  pub made : List Made
+  pub leads : Leads n v s.board made s'.board
+  pub turn : turning.IsTurn n c after end made
+  pub unpaused : calm ≡ true → is_due end ≡ false
+  pub cpus : s'.cpus ≡ slice_set s.cpus v after
 
--- The operations that are built: a `mmu_update` of one pair that sets the machine-to-physical word of a
--- frame of the caller's own.
-abbrev pub m2p_update : Op → Option Pair
-m2p_update (ops.One call) = m2p_call call
-m2p_update _ = None
+-- vCPU v stops between its turns, by one step
+pub record MakesStop (n : Machine) (v : ℕ) (c : Processing) (s s' : Stage) : Type 0 where
+  pub made : List Made
+  pub leads : Leads n v s.board made s'.board
+  pub stop : turning.IsStop n c.vcpu made
+  pub cpus : s'.cpus ≡ slice_set s.cpus v (record c { retired = true })
 
-abbrev pub refused : Refusal → Reply
-refused r = record { done = 0; value = 0; refusal = Some r }
+-- what a vCPU does of its own, and a retired one makes no step
+abbrev pub UnlessRetired : (Processing → Stage → Stage → Type 0) → Processing → Bool → Stage → Stage → Type 0
+UnlessRetired Does c true s s' = s' ≡ s
+UnlessRetired Does c false s s' = Does c s s'
 
--- how many elements of an update of one element are done
-abbrev pub done_of : Option Refusal → ℕ
-done_of None = 1
-done_of (Some r) = 0
+abbrev pub ByCpu : (Processing → Stage → Stage → Type 0) → Option Processing → Stage → Stage → Type 0
+ByCpu Does None s s' = ⊥
+ByCpu Does (Some c) s s' = UnlessRetired Does c c.retired s s'
 
--- one answer at the end of a vCPU's log
-abbrev pub with_answer : Processing → Reply → Processing
-with_answer c reply = record c { log = c.log ++ lines.Answer (length c.log + 1) 0 reply ∷ [] }
+abbrev pub IsTurn : Machine → List Bool → ℕ → Stage → Stage → Type 0
+IsTurn n calms v s s' = ByCpu (MakesTurn n (is_calm calms v) v) (slice_get s.cpus v) s s'
 
-abbrev pub turns_in : TurnRun → List ℕ
-turns_in r = replicate r.count r.vcpu
+abbrev pub IsStop : Machine → ℕ → Stage → Stage → Type 0
+IsStop n v s s' = ByCpu (MakesStop n v) (slice_get s.cpus v) s s'
 
--- the vCPUs in the order of the turns that a trace asks for
-unfoldable pub order : List TurnRun → List ℕ
-order runs = flat_map turns_in runs
+-- these vCPUs do this one after the other, in this order
+pub data InOrder (Does : ℕ → Stage → Stage → Type 0) : List ℕ → Stage → Stage → Type 0 where
+  none : (s : Stage) → InOrder Does [] s s
+  more : (vs : List ℕ) (v : ℕ) (s m s' : Stage) → InOrder Does vs s m → Does v m s' → InOrder Does (vs ++ v ∷ []) s s'
 
--- the vCPUs of a trace before their first turn
-unfoldable pub first_cpus : List ℕ → List (List Op) → List Processing
-first_cpus domains scripts = map (λ p. record { domain = p.0; script = p.1; log = [] }) (zip domains scripts)
+-- turns, with these gates calm
+abbrev pub Turns : Machine → List Bool → List ℕ → Stage → Stage → Type 0
+Turns n calms vs s s' = InOrder (IsTurn n calms) vs s s'
 
-abbrev pub pending_of : Processing → ℕ
-pending_of c = length c.script - length c.log
+abbrev pub Stops : Machine → List ℕ → Stage → Stage → Type 0
+Stops n vs s s' = InOrder (IsStop n) vs s s'
 
-abbrev pub script_of : Processing → List Op
-script_of c = c.script
-
--- scripts whose operations a log line can number
-abbrev pub AreShort : List Processing → Type 0
-AreShort cpus = All (λ (script : List Op). length script < 2 ^ 32) (map script_of cpus)
+-- these turns, and then a stop of each vCPU that is not retired
+pub record WorksOff (n : Machine) (calms : List Bool) (vs : List ℕ) (s s' : Stage) : Type 0 where
+  pub worked : Stage
+  pub turns : Turns n calms vs s worked
+  pub stops : Stops n (range_with_len 0 (sizes_of n).vcpus) worked s'

@@ -2,9 +2,8 @@
 ghost use Rattle.std.specs.Prelude.{◌<◌, ◌^◌, IfOk, IfSome, length};
 ghost use Rattle.trace_text.specs.WellFormed.{IsWellFormed};
 ghost use Rattle.xp_words.specs.Places.{sizes_of};
-ghost use Rattle.xp_machine.specs.Ports.{Ready};
+ghost use Rattle.xp_machine.specs.Ready.{TakesFresh};
 
-use crate::cpu::Cpu;
 use frame_words::{
     begin_turn, end_answer, get_ref, look_clock, look_kind, look_refs, look_run, put_ref,
     raise_refs,
@@ -16,7 +15,9 @@ use shared_board::PlainBoard;
 use std::alloc::{AllocError, Global};
 use std::test::Fail;
 use trace_text::{ScriptList, Trace, read_trace};
+use vcpu_turn::{Cpu, turn};
 use xp_board::{Act, Item, Port, Step};
+use xp_preempt::Never;
 use xp_words::{Layout, RefWord, Refusal, Script, Stop};
 
 // Frame 0 is domain 0's, frame 1 domain 1's, and frame 2 is free.
@@ -26,7 +27,7 @@ const TWO_DOMAINS: &str =
 // The board with which a trace opens, and the scripts of its vCPUs.
 fn board_of(alloc: Global, trace: Trace) -> Result<(PlainBoard, ScriptList), AllocError>
     requires { IsWellFormed trace }
-    ensures { IfOk result (λ b. Ready b.0.machine b.0.story) }
+    ensures { IfOk result (λ b. TakesFresh b.0) }
 {
     opening_words_are_sound();
     let words = opening(alloc, &trace)?;
@@ -45,7 +46,7 @@ fn board_of(alloc: Global, trace: Trace) -> Result<(PlainBoard, ScriptList), All
 
 // The same of its text, with the script of the last vCPU.
 fn opened(alloc: Global, text: &str) -> Option<(PlainBoard, Script)>
-    ensures { IfSome result (λ b. Ready b.0.machine b.0.story) }
+    ensures { IfSome result (λ b. TakesFresh b.0) }
 {
     match read_trace(alloc, text.as_bytes()) {
         Err(_) => None,
@@ -180,12 +181,18 @@ impl<P: Port> Port for Counting<P> {
     }
 }
 
-// How many loads, exchanges, stores and sums a turn of a vCPU makes.
-fn steps_of(board: &mut PlainBoard, cpu: &mut Cpu, vcpu: u32) -> (u32, u32, u32, u32)
+// How many loads, exchanges, stores and sums the first turn of a vCPU makes.
+fn steps_of(
+    alloc: Global,
+    board: &mut PlainBoard,
+    vcpu: u32,
+    script: Script,
+) -> Result<(u32, u32, u32, u32), AllocError>
     requires vcpu { vcpu < (sizes_of board.old.machine).vcpus }
-    requires ready { Ready board.old.machine board.old.story }
-    requires short { length cpu.old.script < 2 ^ 32 }
+    requires fresh { TakesFresh board.old }
+    requires short { length script < 2 ^ 32 }
 {
+    let mut cpu = Cpu::new(alloc, board.layout(), vcpu, script)?;
     let mut port = Counting {
         port: board.port(vcpu),
         loads: 0,
@@ -193,19 +200,20 @@ fn steps_of(board: &mut PlainBoard, cpu: &mut Cpu, vcpu: u32) -> (u32, u32, u32,
         stores: 0,
         sums: 0,
     };
-    cpu.turn(&mut port);
-    (port.loads, port.exchanges, port.stores, port.sums)
+    let mut gate = Never;
+    turn(&mut port, &mut cpu, &mut gate);
+    Ok((port.loads, port.exchanges, port.stores, port.sums))
 }
 
-// The turn begins with looks at the own ask and run word; the frame's word is looked at, exchanged and lowered
+// The turn begins with looks at the own ask, flushed and run word; the frame's word is looked at, exchanged and lowered
 // around the store; and the answer ends with a look at the clock.
 #[test]
-fn a_turn_of_an_update_makes_seven_steps(rt: HostRuntime) -> Result<(), Fail> {
+fn a_turn_of_an_update_makes_eight_steps(rt: HostRuntime) -> Result<(), Fail> {
     let (mut board, script) = opened(rt.alloc(), TWO_DOMAINS).expect(&rt, "a board");
     assert!(rt; script.len() == 1);
     if script.len() == 1 && board.layout().vcpus() == 2 {
-        let mut cpu = Cpu::new(rt.alloc(), 1, script)?;
-        assert!(rt; steps_of(&mut board, &mut cpu, 1) == (4, 1, 1, 1));
+        let steps = steps_of(rt.alloc(), &mut board, 1, script)?;
+        assert!(rt; steps == (5, 1, 1, 1));
         assert!(rt; refs_of(&mut board, 1) == Some(0x8000_0001_8000_0001));
     }
     Ok(())
@@ -217,14 +225,12 @@ fn an_update_is_ok_on_an_own_frame_and_leaves_its_count(rt: HostRuntime) -> Resu
     let before = refs_of(&mut board, 0);
     assert!(rt; update(&mut board, 0, 0, 0, 7) == Some(Ok(())));
     assert!(rt; refs_of(&mut board, 0) == before);
-    let place = board.layout().words() as usize;
-    let mut words = Vec::with_capacity(rt.alloc(), place)?;
     let m2p = if board.layout().frames > 0 {
         board.layout().m2p_place(0)
     } else {
         0
     };
-    board.into_words(&mut words);
+    let words = board.into_words();
     assert!(rt; words.get(m2p as usize) == Some(&7));
     Ok(())
 }

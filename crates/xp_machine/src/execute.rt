@@ -1,11 +1,12 @@
-ghost use Rattle.std.specs.Prelude.{◌≡◌, length, IfOk};
+ghost use Rattle.std.specs.Prelude.{◌≡◌, ◌≤◌, length, map, vec_len, IfOk};
 ghost use Rattle.xp_words.specs.Places.{sizes_of};
 ghost use Rattle.trace_text.specs.WellFormed.{IsWellFormed};
-ghost use Rattle.xp_machine.specs.Answers.{stage};
+ghost use Rattle.xp_machine.specs.Cpus.{AreShort, first_cpus};
+ghost use Rattle.xp_machine.specs.Gates.{calm_in, StayCalm};
 ghost use Rattle.xp_machine.specs.Ran.{Closes, Ran};
-ghost use Rattle.xp_machine.specs.Turns.{AreShort, first_cpus};
+ghost use Rattle.xp_machine.specs.Turns.{stage};
 
-use crate::cpu::Cpu;
+use crate::seat::Seat;
 use crate::turns::run_all;
 use machine_build::opening;
 use opening_rule::opening_words_are_sound;
@@ -14,50 +15,57 @@ use shared_board::PlainBoard;
 use sound_rule::{a_run_leaves_it_safe, rested_words_are_sound};
 use std::alloc::{AllocError, Global};
 use trace_text::{ScriptList, Trace};
+use vcpu_turn::Cpu;
+use xp_preempt::Preempt;
 use xp_words::Layout;
 
-// The domain of each vCPU.
-fn domains_of(layout: &Layout) -> &[u16]
-    ensures { result.now ≡ layout.now.vcpu_domain }
+// The vCPUs before their first turn, each with its gate. Gates that are left over are let go.
+fn first_seats(
+    alloc: Global,
+    layout: &Layout,
+    scripts: ScriptList,
+    gates: Vec<Box<dyn Preempt + Send>>,
+) -> Result<Vec<Seat>, AllocError>
+    requires scripts { length scripts ≡ (sizes_of layout.now).vcpus }
+    requires gates { length scripts ≤ vec_len gates }
+    ensures { IfOk result (λ v. (map (λ s. s.cpu) v.items ≡ first_cpus layout.now scripts) × StayCalm (map (λ g. calm g) gates.items) (map (λ s. calm_in (λ g. calm g) s.gate) v.items)) }
 {
-    layout.vcpu_domain.as_slice()
-}
-
-// The vCPUs before their first turn.
-#[tactic(auto, unfolding(crate::specs::Turns::first_cpus))]
-fn first_cpus(alloc: Global, domains: &[u16], scripts: ScriptList) -> Result<Vec<Cpu>, AllocError>
-    ensures { IfOk result (λ v. v.items ≡ first_cpus domains.now scripts) }
-{
-    let mut cpus = Vec::new(alloc);
-    'cpus: for (domain, script) in domains.iter().copied().zip(scripts.into_items()) {
-        cpus.push(Cpu::new(alloc, domain, script)?)?;
+    let mut seats = Vec::new(alloc);
+    'seats: for ((vcpu, script), gate) in (0..layout.vcpus()).zip(scripts.into_items()).zip(gates) {
+        let cpu = Cpu::new(alloc, layout, vcpu, script)?;
+        seats.push(Seat::new(cpu, gate))?;
     }
-    Ok(cpus)
+    Ok(seats)
 }
 
 // The report of the board and of the vCPUs' logs.
-fn closing(alloc: Global, board: PlainBoard, cpus: Vec<Cpu>) -> Result<Vec<u8>, AllocError>
-    requires each { length cpus.items ≡ (sizes_of board.machine).vcpus }
-    requires short { AreShort cpus.items }
-    ensures { IfOk result (λ v. Closes board.machine board.story.opening (stage board.story cpus.items) v.items) }
+fn closing(alloc: Global, board: PlainBoard, seats: Vec<Seat>) -> Result<Vec<u8>, AllocError>
+    requires each { length seats.items ≡ (sizes_of board.machine).vcpus }
+    requires short { AreShort (map (λ s. s.cpu) seats.items) }
+    ensures { IfOk result (λ v. Closes board.machine board.story.opening (stage board.story (map (λ s. s.cpu) seats.items)) v.items) }
 {
     let mut logs = Vec::new(alloc);
     let mut pending = Vec::new(alloc);
-    'cpus: for cpu in cpus {
+    'seats: for seat in seats {
+        let cpu = seat.into_cpu();
         pending.push(cpu.pending())?;
         logs.push(cpu.into_log())?;
     }
     let layout = board.layout().copy();
-    let mut words = Vec::with_capacity(alloc, layout.words() as usize)?;
-    board.into_words(&mut words);
+    let words = board.into_words();
     report(alloc, &layout, &words, &logs, &pending)
 }
 
-/// Runs a trace: the machine is made, the turns are taken, and the report is written out. The text is the report of
-/// words that legal steps lead to.
-pub fn execute(alloc: Global, trace: Trace) -> Result<Vec<u8>, AllocError>
-    requires { IsWellFormed trace }
-    ensures { IfOk result (λ v. Ran trace v.items) }
+/// Runs a trace: the machine is made, the turns are taken, the vCPUs stop, and the report is written out. The text is
+/// the report of words that legal steps lead to. Each gate is let go with its vCPU.
+pub fn execute(
+    alloc: Global,
+    trace: Trace,
+    gates: Vec<Box<dyn Preempt + Send>>,
+) -> Result<Vec<u8>, AllocError>
+    requires well { IsWellFormed trace }
+    requires gates { 16 ≤ vec_len gates }
+    ensures { IfOk result (λ v. Ran trace (map (λ g. calm g) gates.items) v.items) }
 {
     // What the steps keep is law: these calls do nothing.
     opening_words_are_sound();
@@ -73,8 +81,8 @@ pub fn execute(alloc: Global, trace: Trace) -> Result<Vec<u8>, AllocError>
         scripts,
         turns,
     } = trace;
-    let cpus = first_cpus(alloc, domains_of(&layout), scripts)?;
+    let seats = first_seats(alloc, &layout, scripts, gates)?;
     let board = PlainBoard::make(alloc, layout, words)?;
-    let (board, cpus) = run_all(board, cpus, turns.as_slice());
-    closing(alloc, board, cpus)
+    let (board, seats) = run_all(board, seats, turns.as_slice());
+    closing(alloc, board, seats)
 }

@@ -3,14 +3,18 @@
 
 #[cfg(test)]
 mod board_tests;
-mod cpu;
 mod execute;
+#[cfg(test)]
+mod list_tests;
+mod seat;
 mod status;
+mod stops;
 #[cfg(test)]
 mod tests;
 mod texts;
 mod top;
 mod turns;
+mod words;
 
 pub use status::Status;
 pub use top::run;

@@ -1,8 +1,12 @@
+ghost use Rattle.std.specs.Prelude.{◌≡◌};
+ghost use Rattle.xp_io.specs.Causes.{Rose};
+
 use crate::{Status, run};
 use std::process::Abort;
 use std::test::Fail;
 use trace_text::{read_trace, write_trace};
-use xp_io::{HonestSink, HonestSource, MemorySink, MemorySource};
+use xp_io::{HonestSink, HonestSource, MemorySink, MemorySource, Sink, Source};
+use xp_preempt::{Paced, Preempt};
 
 const FIRST_UPDATE: &str =
     "xen-pv-trace 1\nframes 1\ndomain 1\nvcpu 0\nown 0 0 1\nop 0 mmu 0x7ff0 0x1 7\nturn 0 2\nend\n";
@@ -10,17 +14,23 @@ const FIRST_UPDATE: &str =
 const FIRST_REPORT: &str =
     "vcpu 0 domain 0 base - user - old - -\nop 1 ok done 1 value 0x0\ndomain 0 live pages 1\nframe 0 owner 0 refs 1 alloc type none count 0 flags - at 0 m2p 0x7\nfree 0\nend\n";
 
-fn word(rt: &(impl Abort + AllocGlobal), text: &str) -> String {
+pub fn word(rt: &(impl Abort + AllocGlobal), text: &str) -> String {
     let mut word = String::new(rt.alloc());
     word.push_str(text).expect(rt, "memory");
     word
 }
 
-fn turns(rt: &(impl Abort + AllocGlobal)) -> Vec<String> {
+pub fn turns(rt: &(impl Abort + AllocGlobal)) -> Vec<String> {
     vec![in rt.alloc(); word(rt, "turns")].expect(rt, "memory")
 }
 
-fn bytes(rt: &(impl Abort + AllocGlobal), text: &str) -> Vec<u8> {
+pub fn with_pace(rt: &(impl Abort + AllocGlobal), pace: &str) -> Vec<String> {
+    vec![in rt.alloc(); word(rt, "turns"), word(rt, "--preempt"), word(rt, pace)].expect(
+        rt, "memory",
+    )
+}
+
+pub fn bytes(rt: &(impl Abort + AllocGlobal), text: &str) -> Vec<u8> {
     let mut bytes = Vec::new(rt.alloc());
     bytes
         .extend_from_slice(text.as_bytes())
@@ -28,14 +38,51 @@ fn bytes(rt: &(impl Abort + AllocGlobal), text: &str) -> Vec<u8> {
     bytes
 }
 
+// A run with gates that have a pace.
+pub fn run_paced<S: Source, K: Sink>(
+    rt: &(impl Abort + AllocGlobal),
+    words: &[String],
+    source: &mut S,
+    sink: &mut K,
+) -> Status
+    ensures read { result ≡ Status.ReadFault → Rose (S.faults source.old) (S.faults source.new) }
+    ensures write { result ≡ Status.WriteFault → Rose (K.faults sink.old) (K.faults sink.new) }
+{
+    let mut gates: Vec<Box<dyn Preempt + Send>> = Vec::new(rt.alloc());
+    for _ in 0..16 {
+        let gate = Box::new(rt.alloc(), Paced::new()).expect(rt, "memory");
+        gates.push(gate).expect(rt, "memory");
+    }
+    assert!(rt; gates.len() >= 16);
+    run(rt.alloc(), words, source, sink, gates)
+}
+
 // A source that gives at most `most` bytes at a read, and a sink that takes at most `most` at a write.
-fn runs_to(rt: &(impl Abort + AllocGlobal), trace: &str, most: usize, status: Status, text: &str) {
+pub fn runs_to(
+    rt: &(impl Abort + AllocGlobal),
+    trace: &str,
+    most: usize,
+    status: Status,
+    text: &str,
+) {
+    let words = turns(rt);
+    runs_by(rt, &words, trace, most, status, text);
+}
+
+pub fn runs_by(
+    rt: &(impl Abort + AllocGlobal),
+    words: &[String],
+    trace: &str,
+    most: usize,
+    status: Status,
+    text: &str,
+) {
     let most = most.max(1);
     let mut source = MemorySource::in_pieces(bytes(rt, trace), most, Vec::new(rt.alloc()));
     let mut sink = MemorySink::new(rt.alloc(), 4096, most, Vec::new(rt.alloc())).expect(
         rt, "memory",
     );
-    let answer = run(rt.alloc(), &turns(rt), &mut source, &mut sink);
+    let answer = run_paced(rt, words, &mut source, &mut sink);
     assert!(rt; answer == status);
     assert!(rt; sink.bytes() == text.as_bytes());
 }
@@ -71,7 +118,7 @@ fn a_bad_trace_and_a_large_one_are_named_with_their_line(rt: HostRuntime) {
 fn each_refusal_of_an_update_names_what_was_found(rt: HostRuntime) {
     runs_to(
         &rt,
-        "xen-pv-trace 1\nframes 16\ndomain 16\nvcpu 0\nown 0 0 8\nop 0 mmu 0x7ff0 0xc001 1\nop 0 mmu 0x7ff0 0x10001 1\nop 0 mmu 0x7ff0 0x0 1\nturn 0 3\nend\n",
+        "xen-pv-trace 1\nframes 16\ndomain 16\nvcpu 0\nown 0 0 8\nop 0 mmu 0x7ff0 0xc001 1\nop 0 mmu 0x7ff0 0x10001 1\nop 0 mmu 0x7ff0 0x3 1\nturn 0 3\nend\n",
         usize::MAX,
         Status::Done,
         "vcpu 0 domain 0 base - user - old - -\nop 1 refused 2 done 0 WrongOwner frame=12 found=free\nop 2 refused 1 done 0 NoFrame frame=16\nop 3 refused 19 done 0 BadCommand\ndomain 0 live pages 8\nframe 0 owner 0 refs 1 alloc type none count 0 flags - at 0 m2p -\nframe 1 owner 0 refs 1 alloc type none count 0 flags - at 0 m2p -\nframe 2 owner 0 refs 1 alloc type none count 0 flags - at 0 m2p -\nframe 3 owner 0 refs 1 alloc type none count 0 flags - at 0 m2p -\nframe 4 owner 0 refs 1 alloc type none count 0 flags - at 0 m2p -\nframe 5 owner 0 refs 1 alloc type none count 0 flags - at 0 m2p -\nframe 6 owner 0 refs 1 alloc type none count 0 flags - at 0 m2p -\nframe 7 owner 0 refs 1 alloc type none count 0 flags - at 0 m2p -\nfree 8\nend\n",
@@ -97,7 +144,7 @@ fn a_failing_read_writes_nothing(rt: HostRuntime) {
     let mut sink = MemorySink::new(rt.alloc(), 4096, 4096, Vec::new(rt.alloc())).expect(
         &rt, "memory",
     );
-    let answer = run(rt.alloc(), &turns(&rt), &mut source, &mut sink);
+    let answer = run_paced(&rt, &turns(&rt), &mut source, &mut sink);
     assert!(rt; answer == Status::ReadFault);
     assert!(rt; sink.bytes().is_empty());
 }
@@ -107,13 +154,13 @@ fn a_failing_write_leaves_a_front_of_the_report(rt: HostRuntime) {
     let first = vec![in rt.alloc(); 1u64].expect(&rt, "memory");
     let mut source = MemorySource::new(bytes(&rt, FIRST_UPDATE), Vec::new(rt.alloc()));
     let mut sink = MemorySink::new(rt.alloc(), 4096, 4096, first).expect(&rt, "memory");
-    let answer = run(rt.alloc(), &turns(&rt), &mut source, &mut sink);
+    let answer = run_paced(&rt, &turns(&rt), &mut source, &mut sink);
     assert!(rt; answer == Status::WriteFault);
     assert!(rt; sink.bytes().is_empty());
     let third = vec![in rt.alloc(); 3u64].expect(&rt, "memory");
     let mut source = MemorySource::new(bytes(&rt, FIRST_UPDATE), Vec::new(rt.alloc()));
     let mut sink = MemorySink::new(rt.alloc(), 4096, 4, third).expect(&rt, "memory");
-    let answer = run(rt.alloc(), &turns(&rt), &mut source, &mut sink);
+    let answer = run_paced(&rt, &turns(&rt), &mut source, &mut sink);
     assert!(rt; answer == Status::WriteFault);
     assert!(rt; sink.bytes() == b"vcpu 0 d".as_slice());
 }
@@ -125,10 +172,26 @@ fn other_words_are_refused_before_anything_is_read(rt: HostRuntime) {
     let mut sink = MemorySink::new(rt.alloc(), 4096, 4096, Vec::new(rt.alloc())).expect(
         &rt, "memory",
     );
-    assert!(rt; run(rt.alloc(), &words, &mut source, &mut sink) == Status::BadWords);
-    assert!(rt; run(rt.alloc(), &[], &mut source, &mut sink) == Status::BadWords);
+    assert!(rt; run_paced(&rt, &words, &mut source, &mut sink) == Status::BadWords);
+    assert!(rt; run_paced(&rt, &[], &mut source, &mut sink) == Status::BadWords);
+    for pace in [
+        "",
+        "01",
+        "+1",
+        "1 ",
+        "0x1",
+        "1000001",
+        "10000000000000000000000",
+    ] {
+        let words = with_pace(&rt, pace);
+        assert!(rt; run_paced(&rt, &words, &mut source, &mut sink) == Status::BadWords);
+    }
+    let words = vec![in rt.alloc(); word(&rt, "turns"), word(&rt, "--preempt=1")].expect(
+        &rt, "memory",
+    );
+    assert!(rt; run_paced(&rt, &words, &mut source, &mut sink) == Status::BadWords);
     assert!(rt; sink.bytes().is_empty());
-    assert!(rt; run(rt.alloc(), &turns(&rt), &mut source, &mut sink) == Status::Done);
+    assert!(rt; run_paced(&rt, &turns(&rt), &mut source, &mut sink) == Status::Done);
 }
 
 // That no fault is possible here follows from the contract of `run` and the constant counts of these two.
@@ -136,7 +199,7 @@ fn other_words_are_refused_before_anything_is_read(rt: HostRuntime) {
 fn a_source_and_a_sink_that_cannot_fail_give_no_fault(rt: HostRuntime) {
     let mut source = HonestSource::new(bytes(&rt, FIRST_UPDATE));
     let mut sink = HonestSink::new();
-    let answer = run(rt.alloc(), &turns(&rt), &mut source, &mut sink);
+    let answer = run_paced(&rt, &turns(&rt), &mut source, &mut sink);
     let fault = matches!(answer, Status::ReadFault | Status::WriteFault);
     prove!(!fault);
     assert!(rt; answer == Status::Done);
@@ -156,7 +219,7 @@ fn report_of_text(rt: &(impl Abort + AllocGlobal), trace: Vec<u8>) -> Vec<u8> {
     let mut sink = MemorySink::new(rt.alloc(), 16384, 16384, Vec::new(rt.alloc())).expect(
         rt, "memory",
     );
-    let answer = run(rt.alloc(), &turns(rt), &mut source, &mut sink);
+    let answer = run_paced(rt, &turns(rt), &mut source, &mut sink);
     assert!(rt; answer == Status::Done);
     let mut text = Vec::new(rt.alloc());
     text.extend_from_slice(sink.bytes()).expect(rt, "memory");

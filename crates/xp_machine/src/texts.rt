@@ -1,5 +1,5 @@
-ghost use Rattle.std.specs.Prelude.{◌≡◌, Some, IfOk, map, string_bytes};
-ghost use Rattle.xp_machine.specs.Texts.{cause_text, what_text, fault_text, are_turns};
+ghost use Rattle.std.specs.Prelude.{◌≡◌, Some, IfOk};
+ghost use Rattle.xp_machine.specs.Texts.{cause_text, what_text, fault_text};
 ghost use Rattle.trace_lines.specs.declared.fault.LineFault.TheVariants.{Passed, Bad};
 
 use std::alloc::{AllocError, Global};
@@ -61,14 +61,4 @@ pub fn large_text(alloc: Global, line: u32, what: What, number: u64) -> Result<V
     let what = WhatText(what);
     let text = format!(in alloc; "too large line {line}: {what} {number}\n")?;
     Ok(text.into_bytes())
-}
-
-// Whether the words of the command line are `turns` alone.
-pub fn are_turns(words: &[String]) -> bool
-    ensures { result ≡ are_turns (map string_bytes words.now) }
-{
-    match words {
-        [word] => word.as_bytes() == b"turns".as_slice(),
-        _ => false,
-    }
 }

@@ -1,16 +1,19 @@
-ghost use Rattle.std.specs.Prelude.{◌≡◌, ◌≤◌, ◌<◌, ◌↔◌, false, map, string_bytes, Some, List, ℕ, length, IfOk, IsErrOf};
+ghost use Rattle.std.specs.Prelude.{◌≡◌, ◌≤◌, ◌↔◌, Bool, true, Some, None, map, string_bytes, List, ℕ, length, vec_len, IfOk, IsErrOf};
 ghost use Rattle.xp_io.specs.Causes.{Rose};
 ghost use Rattle.trace_text.specs.TraceOf.{trace_of};
-ghost use Rattle.xp_machine.specs.Texts.{are_turns};
+ghost use Rattle.xp_machine.specs.Gates.{StayCalm, under_pace};
 ghost use Rattle.xp_machine.specs.Outcome.{IsAnswer, IsDue, Outcome};
+ghost use Rattle.xp_machine.specs.Words.{pace_of};
 
 use crate::execute::execute;
 use crate::status::Status;
-use crate::texts::{are_turns, bad_text, large_text};
+use crate::texts::{bad_text, large_text};
+use crate::words::pace_of;
 use std::alloc::{AllocError, Global};
 use trace_lines::What;
 use trace_text::{MAX_BYTES, TraceFault, read_trace};
 use xp_io::{ReadAllError, Sink, Source, read_all, write_whole};
+use xp_preempt::Preempt;
 
 /// A status, and the text that is due with it.
 #[derive(Drop)]
@@ -19,14 +22,19 @@ struct Due {
     text: Vec<u8>,
 }
 
-// What is due for the bytes of a trace.
+// What is due for the bytes of a trace, which is run with these gates.
 #[tactic(auto, unfolding(crate::specs::Texts::fault_status))]
-fn answer(alloc: Global, bytes: &[u8]) -> Result<Due, AllocError>
-    ensures { IfOk result (λ d. IsAnswer (trace_of bytes.now) d.status d.text.items) }
+fn answer(
+    alloc: Global,
+    bytes: &[u8],
+    gates: Vec<Box<dyn Preempt + Send>>,
+) -> Result<Due, AllocError>
+    requires { 16 ≤ vec_len gates }
+    ensures { IfOk result (λ d. IsAnswer (map (λ g. calm g) gates.items) (trace_of bytes.now) d.status d.text.items) }
 {
     match read_trace(alloc, bytes) {
         Ok(trace) => {
-            let text = execute(alloc, trace)?;
+            let text = execute(alloc, trace, gates)?;
             Ok(Due {
                 status: Status::Done,
                 text,
@@ -53,7 +61,7 @@ fn answer(alloc: Global, bytes: &[u8]) -> Result<Due, AllocError>
 // What is due for more bytes than a trace may have.
 #[tactic(auto, unfolding(crate::specs::Texts::fault_status, trace_text::specs::TraceOf::trace_of))]
 fn too_long(alloc: Global) -> Result<Due, AllocError>
-    ensures { IfOk result (λ d. (bytes : List ℕ) → length bytes ≡ 67108865 → IsAnswer (trace_of bytes) d.status d.text.items) }
+    ensures { IfOk result (λ d. (calms : List Bool) (bytes : List ℕ) → length bytes ≡ 67108865 → IsAnswer calms (trace_of bytes) d.status d.text.items) }
 {
     let text = large_text(alloc, 0, What::Bytes, 67_108_865)?;
     Ok(Due {
@@ -69,13 +77,18 @@ enum Early {
 }
 
 // What is due for what the source gives.
-fn gather<S: Source>(alloc: Global, source: &mut S) -> Result<Due, Early>
-    ensures due { IfOk result (λ d. IsDue (S.left source.old) (S.left source.new) d.status d.text.items) }
+fn gather<S: Source>(
+    alloc: Global,
+    source: &mut S,
+    gates: Vec<Box<dyn Preempt + Send>>,
+) -> Result<Due, Early>
+    requires { 16 ≤ vec_len gates }
+    ensures due { IfOk result (λ d. IsDue (map (λ g. calm g) gates.items) (S.left source.old) (S.left source.new) d.status d.text.items) }
     ensures failed { IsErrOf result Early.Failed → Rose (S.faults source.old) (S.faults source.new) }
     ensures later { S.faults source.old ≤ S.faults source.new }
 {
     match read_all(alloc, source, MAX_BYTES) {
-        Ok(bytes) => match answer(alloc, &bytes) {
+        Ok(bytes) => match answer(alloc, &bytes, gates) {
             Ok(due) => Ok(due),
             Err(_) => Err(Early::Memory),
         },
@@ -88,29 +101,56 @@ fn gather<S: Source>(alloc: Global, source: &mut S) -> Result<Due, Early>
     }
 }
 
-/// Runs a trace: reads it to its end, runs it, and writes what is due. `words` are the words of the
-/// command line without the program's name: `turns` alone is known. Where they are others, nothing is
-/// read. Every call returns.
+fn set_pace(gate: &mut Box<dyn Preempt + Send>, every: u32)
+    ensures { (calm gate.old ≡ true) × (every ≡ 0) → calm gate.new ≡ true }
+{
+    gate.pace(every);
+}
+
+fn set_paces(gates: &mut [Box<dyn Preempt + Send>], every: u32)
+    ensures { StayCalm (under_pace (Some every) (map (λ g. calm g) gates.old)) (map (λ g. calm g) gates.new) }
+{
+    'gates: for gate in gates.iter_mut() {
+        set_pace(gate, every);
+    }
+}
+
+// The gates, each told the pace.
+fn paced(mut gates: Vec<Box<dyn Preempt + Send>>, every: u32) -> Vec<Box<dyn Preempt + Send>>
+    ensures len { vec_len result ≡ vec_len gates }
+    ensures calm { StayCalm (under_pace (Some every) (map (λ g. calm g) gates.items)) (map (λ g. calm g) result.items) }
+{
+    set_paces(&mut gates, every);
+    gates
+}
+
+/// Runs a trace: reads it to its end, runs it, and writes what is due. `words` are the words of the command line
+/// without the program's name: `turns`, or `turns --preempt N`, which sets the pace of the gates. Where they are
+/// others, nothing is read. Gate v belongs to vCPU v and is let go with it; the further ones are let go at once.
+/// Every call returns.
 pub fn run<S: Source, K: Sink>(
     alloc: Global,
     words: &[String],
     source: &mut S,
     sink: &mut K,
+    gates: Vec<Box<dyn Preempt + Send>>,
 ) -> Status
-    // Which bytes were taken, what they spell, and what was written of the text that is due for it.
-    ensures outcome { Outcome (S.left source.old) (S.left source.new) (K.taken sink.old) (K.taken sink.new) result }
+    requires gates { 16 ≤ vec_len gates }
 
-    // The words are refused exactly where they are others than `turns` alone.
-    ensures words { (result ≡ Status.BadWords) ↔ (are_turns (map string_bytes words.now) ≡ false) }
+    // Which bytes were taken, what they spell, and what was written of the text that is due for it.
+    ensures outcome { Outcome (under_pace (pace_of (map string_bytes words.now)) (map (λ g. calm g) gates.items)) (S.left source.old) (S.left source.new) (K.taken sink.old) (K.taken sink.new) result }
+
+    // The words are refused exactly where they ask for no run.
+    ensures words { (result ≡ Status.BadWords) ↔ (pace_of (map string_bytes words.now) ≡ None) }
 
     // A fault is answered only where its object counted one in this call.
     ensures read { result ≡ Status.ReadFault → Rose (S.faults source.old) (S.faults source.new) }
     ensures write { result ≡ Status.WriteFault → Rose (K.faults sink.old) (K.faults sink.new) }
 {
-    if !are_turns(words) {
+    let Some(every) = pace_of(words) else {
         return Status::BadWords;
-    }
-    match gather(alloc, source) {
+    };
+    match gather(alloc, source, paced(gates, every)) {
         Err(Early::Failed) => Status::ReadFault,
         Err(Early::Memory) => Status::Memory,
         Ok(due) => match write_whole(sink, &due.text) {

@@ -1,10 +1,10 @@
 use Rattle.std.proofs.Common.{◌≡◌, map}
-use Rattle.xp_machine.specs.Turns.{pending_of}
+use Rattle.vcpu_turn.specs.Cpus.{pending_of}
 use Rattle.xp_machine.specs.Ran.{log_of}
 use Rattle.xp_machine.proofs.execute.closing.Given as goal
 
-abbrev pub invariant-cpus : goal.invariant-cpus
-invariant-cpus l = record {
-  logs : l.logs.items ≡ map log_of l.yielded;
-  pending : l.pending.items ≡ map pending_of l.yielded;
+abbrev pub invariant-seats : goal.invariant-seats
+invariant-seats g l = record {
+  logs : l.logs.items ≡ map (λ s. log_of s.cpu) l.yielded;
+  pending : l.pending.items ≡ map (λ s. pending_of s.cpu) l.yielded;
 }

@@ -1,0 +1,107 @@
+-- What a board and its vCPUs are after steps of one of them.
+use Rattle.std.proofs.Common.{◌≡◌, ◌≢◌, ℕ, ◌^◌, ◌<◌, ◌⊎◌, List, length, Option, Some, None, refl, sym, ap, ◌∙◌, subst, inl, inr, slice_set, slice_index_or, length-set, get_or-set_same}
+use Rattle.std.specs.Prelude.{slice_get}
+use Rattle.std.proofs.lemmas.Bool.{cases_eq}
+use Rattle.std.proofs.lemmas.List.{get_or-set_other}
+use Rattle.std.proofs.lemmas.List.Elements.{All-set, All-get_or}
+use Rattle.std.proofs.lemmas.Option.{slice_get-get_or, slice_get_within, get_or_from_slice_get}
+use Rattle.xp_words.specs.Machine.{Machine}
+use Rattle.xp_words.specs.Places.{Vcpu, sizes_of, memory}
+use Rattle.xp_words.specs.declared.ops.Op.{Op}
+use Rattle.xp_board.specs.declared.holdings.Made.{Made}
+use Rattle.xp_board.specs.declared.holdings.Holdings.{Holdings}
+use Rattle.xp_board.specs.Readings.{domain_of}
+use Rattle.xp_board.specs.Sound.{seat_of}
+use Rattle.xp_board.specs.Told.{PortValue, Story, Went}
+use Rattle.shared_board.specs.Board.{Board, port_value}
+use Rattle.vcpu_turn.specs.Cpus.{Processing}
+use Rattle.vcpu_turn.specs.Turning.{IsOf, Rests, Runs}
+use Rattle.xp_machine.specs.Cpus.{AreShort, IsShort}
+use Rattle.xp_machine.specs.Pieces.{Leads}
+use Rattle.xp_machine.specs.Ready.{Ready}
+use Rattle.xp_machine.proofs.Walking.{Walked, walked}
+
+-- ---- the other seats
+-- what steps of seat s leave as it was
+pub record Moved (n : Machine) (s : ℕ) (a b : Story) : Type 0 where
+  pub opening : b.opening ≡ a.opening
+  pub seats : length b.seats ≡ length a.seats
+  pub others : (t : ℕ) → t ≢ s → seat_of b.seats t ≡ seat_of a.seats t
+  pub run : (t : ℕ) → t ≢ s → memory (sizes_of n) b.words (Vcpu t 6) ≡ memory (sizes_of n) a.words (Vcpu t 6)
+
+abbrev story_in : Story → Option Story → Story
+story_in d (Some a) = a
+story_in d None = d
+
+pub moved_none : (n : Machine) (s : ℕ) (a b : Story) → b ≡ a → Moved n s a b
+moved_none n s a b same = rw same (record { opening = refl; seats = refl; others = λ t off. refl; run = λ t off. refl })
+
+-- steps by a port of the board
+pub record Stepping (n : Machine) (s : ℕ) (a : Story) (made : List Made) (b : Story) : Type 0 where
+  pub leads : Leads n s a made b
+  pub moved : Moved n s a b
+
+pub stepping : (b b2 : Board) (s lender : ℕ) (made : List Made) → s < (sizes_of b.machine).vcpus → length b.story.seats ≡ (sizes_of b.machine).vcpus →
+    Went (port_value b s lender) made (port_value b2 s lender) → Rests (seat_of b2.story.seats s) → Stepping b.machine s b.story made b2.story
+stepping b b2 s lender made real seats went rests =
+    let n = b.machine in
+    let walk : Walked n s b.story (port_value b2 s lender) made =
+    walked (port_value b s lender) (port_value b2 s lender) b.story made refl refl (subst (λ k. s < k) (sym seats) real) real went in
+    let same : b2.story ≡ walk.b = ap (story_in b.story) walk.told in
+    subst (λ x. Stepping n s b.story made x) (sym same)
+    (record {
+      leads = record { piece = walk.piece; log = walk.log; empty = (subst (λ (x : Story). Rests (seat_of x.seats s)) same rests).empty };
+      moved = record { opening = walk.opening; seats = walk.seats; others = walk.others; run = walk.run };
+    })
+
+-- no step
+pub same_story : (b b2 : Board) (s lender : ℕ) → port_value b2 s lender ≡ port_value b s lender → b2.story ≡ b.story
+same_story b b2 s lender same = ap (λ (x : PortValue). story_in b.story x.told) same
+
+-- ---- each port is still that of its vCPU
+of_lender : (b : Board) (s lender other : ℕ) (c : Processing) → IsOf (port_value b s lender) c → IsOf (port_value b s other) c
+of_lender b s lender other c o = record { seat = o.seat; domain = o.domain; rests = o.rests; runs = o.runs }
+
+still_runs : (b b2 : Board) (t lender : ℕ) → b2.machine ≡ b.machine → seat_of b2.story.seats t ≡ seat_of b.story.seats t →
+    memory (sizes_of b.machine) b2.story.words (Vcpu t 6) ≡ memory (sizes_of b.machine) b.story.words (Vcpu t 6) → Runs (port_value b t lender) → Runs (port_value b2 t lender)
+still_runs b b2 t lender machine hand run (inl found) = inl (ap (λ (h : Holdings). h.run) hand ∙ found)
+still_runs b b2 t lender machine hand run (inr told) =
+    inr (refl, ap (λ (n : Machine). memory (sizes_of n) b2.story.words (Vcpu t 6)) machine ∙ run ∙ told.1)
+
+of_other : (b b2 : Board) (t lender : ℕ) (c : Processing) → b2.machine ≡ b.machine → seat_of b2.story.seats t ≡ seat_of b.story.seats t →
+    memory (sizes_of b.machine) b2.story.words (Vcpu t 6) ≡ memory (sizes_of b.machine) b.story.words (Vcpu t 6) → IsOf (port_value b t lender) c → IsOf (port_value b2 t lender) c
+of_other b b2 t lender c machine hand run o =
+    record {
+      seat = o.seat;
+      domain = o.domain ∙ sym (λ i. domain_of (machine i) t);
+      rests = subst Rests (sym hand) o.rests;
+      runs = λ works. still_runs b b2 t lender machine hand run (o.runs works);
+    }
+
+-- ---- the list of vCPUs
+set_at : (cpus : List Processing) (s t : ℕ) (c2 c : Processing) → s < length cpus → slice_get (slice_set cpus s c2) t ≡ Some c → ((t ≡ s) × (c ≡ c2)) ⊎ ((t ≢ s) × (slice_get cpus t ≡ Some c))
+set_at cpus s t c2 c within at =
+    let there : t < length cpus = subst (λ k. t < k) (length-set cpus s c2) (slice_get_within (slice_set cpus s c2) t c at) in
+    let is = get_or_from_slice_get (slice_set cpus s c2) t c c at in
+    elim (cases_eq t s) [
+      | inl same ↦ inl (same, sym is ∙ ap (λ k. slice_index_or (slice_set cpus s c2) k c) same ∙ get_or-set_same cpus s c2 c within)
+      | inr off ↦ inr (off, slice_get-get_or cpus t c there ∙ ap (λ x. Some x) (sym (get_or-set_other cpus s t c2 c off) ∙ is))
+    ]
+
+pub short_at : (cpus : List Processing) (s : ℕ) (c : Processing) → AreShort cpus → slice_get cpus s ≡ Some c → IsShort c
+short_at cpus s c all here = subst IsShort (get_or_from_slice_get cpus s c c here) (All-get_or IsShort cpus s c (slice_get_within cpus s c here) all)
+
+-- ---- all of it
+pub ready_after : (b b2 : Board) (s lender : ℕ) (cpus : List Processing) (c c2 : Processing) → Ready b cpus → b2.machine ≡ b.machine → Moved b.machine s b.story b2.story → slice_get cpus s ≡ Some c →
+    c2.script ≡ c.script → IsOf (port_value b2 s lender) c2 → Ready b2 (slice_set cpus s c2)
+ready_after b b2 s lender cpus c c2 ready machine moved here script own =
+    let vcpus : (sizes_of b2.machine).vcpus ≡ (sizes_of b.machine).vcpus = ap (λ (n : Machine). (sizes_of n).vcpus) machine in
+    record {
+      all = length-set cpus s c2 ∙ ready.all ∙ sym vcpus;
+      seats = moved.seats ∙ ready.seats ∙ sym vcpus;
+      short = All-set IsShort cpus s c2 (subst (λ (l : List Op). length l < 2 ^ 32) (sym script) (short_at cpus s c ready.short here)) ready.short;
+      of = λ t other x at. elim (set_at cpus s t c2 x (slice_get_within cpus s c here) at) [
+        | inl same ↦ rw (same.0, same.1) (of_lender b2 s lender other c2 own)
+        | inr off ↦ of_other b b2 t other x machine (moved.others t off.0) (moved.run t off.0) (ready.of t other x off.1)
+      ];
+    }

@@ -1,0 +1,20 @@
+-- A board and its vCPUs between two turns.
+use Rattle.std.specs.Prelude.{◌≡◌, ◌<◌, ℕ, List, length, slice_get, Some}
+use Rattle.xp_words.specs.Places.{sizes_of}
+use Rattle.xp_words.specs.declared.ops.Op.{Op}
+use Rattle.xp_board.specs.Readings.{domain_of}
+use Rattle.shared_board.specs.Board.{Board, port_value}
+use Rattle.vcpu_turn.specs.Cpus.{Processing, fresh}
+use Rattle.vcpu_turn.specs.Turning.{IsOf}
+use Rattle.xp_machine.specs.Cpus.{AreShort}
+
+-- There is one vCPU for each seat. It rests, and unless it is retired it runs, whoever lends it the board.
+pub record Ready (b : Board) (cpus : List Processing) : Type 0 where
+  pub all : length cpus ≡ (sizes_of b.machine).vcpus
+  pub seats : length b.story.seats ≡ (sizes_of b.machine).vcpus
+  pub short : AreShort cpus
+  pub of : (v lender : ℕ) (c : Processing) → slice_get cpus v ≡ Some c → IsOf (port_value b v lender) c
+
+-- a vCPU with any script may begin on this board
+unfoldable pub TakesFresh : Board → Type 0
+TakesFresh b = (v lender : ℕ) (script : List Op) → v < (sizes_of b.machine).vcpus → IsOf (port_value b v lender) (fresh v (domain_of b.machine v) script)

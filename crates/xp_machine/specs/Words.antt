@@ -1,0 +1,22 @@
+-- What the words of the command line ask for.
+use Rattle.std.specs.Prelude.{ℕ, nat_le, ◌&&◌, if◌then◌else◌, List, [], ◌∷◌, Option, Some, None, codes}
+use Rattle.std.specs.Str.{bytes_eq}
+use Rattle.trace_lines.specs.Numbers.{numeral}
+
+-- a pace is at most a million
+abbrev pub within_million : Option ℕ → Option ℕ
+within_million None = None
+within_million (Some n) = if nat_le n 1000000 then Some n else None
+
+-- a decimal number without a leading zero
+abbrev pub pace_in : List ℕ → Option ℕ
+pace_in word = within_million (numeral 10 word)
+
+-- The pace that the gates are told: 0 where the words are `turns` alone, N where they are `turns --preempt N`, and
+-- none where they are others.
+abbrev pub pace_of : List (List ℕ) → Option ℕ
+pace_of [] = None
+pace_of (w ∷ []) = if bytes_eq w (codes "turns") then Some 0 else None
+pace_of (w ∷ o ∷ []) = None
+pace_of (w ∷ o ∷ p ∷ []) = if bytes_eq w (codes "turns") && bytes_eq o (codes "--preempt") then pace_in p else None
+pace_of (w ∷ o ∷ p ∷ x ∷ xs) = None
