@@ -1,5 +1,5 @@
 -- A reference that is taken, used and given back.
-use Rattle.std.proofs.Common.{◌≡◌, ℕ, ◌<◌, List, [], ◌∷◌, ◌++◌, None, Ok, IsTrue, refl, sym, ap, ◌∙◌, subst, arith}
+use Rattle.std.proofs.Common.{◌≡◌, ℕ, ◌<◌, List, [], ◌∷◌, ◌++◌, None, Ok, refl, ap, ◌∙◌, subst, arith}
 use Rattle.xp_words.specs.Places.{Refs, M2p}
 use Rattle.xp_board.specs.declared.step.Act.TheVariants.{Store}
 use Rattle.xp_board.specs.declared.holdings.Made.{Made}
@@ -12,7 +12,7 @@ use Rattle.frame_words.specs.Hands.{SameHand, TookRef, GaveBack}
 use Rattle.frame_words.specs.Pieces.{Makes, SetsM2p}
 use Rattle.frame_words.specs.References.{Gets, Puts, FoundOpen}
 use Rattle.frame_words.proofs.KindCalls.{without_newest}
-use Rattle.frame_words.proofs.Piecing.{CalmlyServes, calmly_more, made_of, makes_calmly, this_frame}
+use Rattle.frame_words.proofs.Piecing.{calmly_more, made_of, makes_calmly, this_frame}
 use Rattle.frame_words.proofs.Taking.{rest_after}
 use Rattle.m2p_map.specs.Maps.{Maps}
 

@@ -1,5 +1,5 @@
 -- A machine-to-physical word that is set.
-use Rattle.std.specs.Prelude.{◌≡◌, ℕ, ◌<◌, List, [], ◌∷◌, Result, Ok, Err}
+use Rattle.std.specs.Prelude.{ℕ, ◌<◌, List, [], ◌∷◌, Result, Ok, Err}
 use Rattle.xp_words.specs.declared.reply.Stop.{Stop}
 use Rattle.xp_words.specs.Machine.{Machine}
 use Rattle.xp_board.specs.declared.holdings.Made.{Made}

@@ -1,10 +1,10 @@
 -- The beginning of a turn: its first step, the own flush, and the look at the run word.
-use Rattle.std.proofs.Common.{◌≡◌, ◌≢◌, ℕ, ◌<◌, ◌≤◌, ◌==◌, ◌||◌, if◌then◌else◌, Bool, true, false, List, [], ◌∷◌, Option, Some, None, Ok, Err, IsTrue, refl, sym, ap, ◌∙◌, subst, inl, inr, arith}
+use Rattle.std.proofs.Common.{◌≡◌, ◌≢◌, ℕ, ◌<◌, ◌≤◌, ◌==◌, ◌||◌, if◌then◌else◌, false, List, [], ◌∷◌, Some, None, IsTrue, refl, sym, ap, ◌∙◌, subst, inl, inr, arith}
 use Rattle.std.proofs.lemmas.Bool.Decides.{nat_tests}
 use Rattle.xp_words.specs.Machine.{Machine}
 use Rattle.xp_words.specs.Places.{Place, Clock, Vcpu}
 use Rattle.xp_board.specs.declared.step.Act.{Act}
-use Rattle.xp_board.specs.declared.step.Act.TheVariants.{Load, Cas, Store}
+use Rattle.xp_board.specs.declared.step.Act.TheVariants.{Load, Store}
 use Rattle.xp_board.specs.declared.step.Mark.TheVariants.{Turn}
 use Rattle.xp_board.specs.declared.holdings.Made.{Made}
 use Rattle.xp_board.specs.declared.holdings.Holdings.{Holdings}
@@ -20,7 +20,7 @@ use Rattle.frame_words.proofs.Noting.{made_now}
 use Rattle.frame_words.proofs.Taking.{same_after}
 use Rattle.frame_words.proofs.Telling.{makes_elsewhere}
 use Rattle.vcpu_turn.specs.Beginning.{Acks}
-use Rattle.vcpu_turn.specs.Turning.{BeginsTurn, Begins, WasAsked, WasNotAsked, HasFlushed, is_own_flush}
+use Rattle.vcpu_turn.specs.Turning.{BeginsTurn, WasNotAsked, is_own_flush}
 
 -- ---- steps, one behind the other
 -- these steps begin a turn of the vCPU: loads, and steps of the own flush

@@ -1,5 +1,5 @@
 -- Elements of a list that are done one behind the other, and how the list ends.
-use Rattle.std.proofs.Common.{◌≡◌, ℕ, suc, ◌+◌, ◌-◌, ◌<◌, ◌≤◌, if◌then◌else◌, Bool, true, false, List, [], ◌∷◌, ◌++◌, length, take, drop, slice_index_or, Some, None, Result, Ok, Err, refl, sym, ap, ◌∙◌, subst, inl, inr, arith}
+use Rattle.std.proofs.Common.{◌≡◌, ℕ, suc, ◌+◌, ◌-◌, ◌<◌, ◌≤◌, if◌then◌else◌, Bool, false, List, [], ◌∷◌, ◌++◌, length, take, drop, slice_index_or, Some, Ok, Err, refl, sym, ap, ◌∙◌, subst, inl, inr, arith}
 use Rattle.std.proofs.Math.Seq.{take-suc, drop-cons}
 use Rattle.std.proofs.lemmas.List.{get_or-drop, length-drop, drop_all}
 use Rattle.xp_words.specs.Machine.{Machine}
@@ -13,7 +13,7 @@ use Rattle.xp_board.proofs.Going.{went_more, went_post}
 use Rattle.mmu_update.specs.declared.element.Element.{Element}
 use Rattle.mmu_update.specs.declared.element.Element.TheVariants.{SetM2p, Write, Misaligned, Unknown}
 use Rattle.mmu_update.specs.Elements.{ElementFits, Shows, Updates, element_of}
-use Rattle.vcpu_turn.specs.Lists.{Did, DoesList, EndsList, none, more}
+use Rattle.vcpu_turn.specs.Lists.{Did, EndsList, none, more}
 use Rattle.vcpu_turn.specs.Turning.{Rests}
 use Rattle.vcpu_turn.specs.Working.{WorksList, is_due_by}
 use Rattle.vcpu_turn.proofs.Waking.{rests_on}

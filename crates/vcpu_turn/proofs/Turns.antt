@@ -1,7 +1,6 @@
 -- A turn, by the calls that it is made of.
-use Rattle.std.proofs.Common.{◌≡◌, ℕ, ◌<◌, Bool, true, false, List, [], ◌∷◌, ◌++◌, length, slice_get, Option, Some, None, Result, Ok, Err, refl, sym, ap, ◌∙◌, subst, append-nil}
+use Rattle.std.proofs.Common.{◌≡◌, ℕ, ◌<◌, true, false, [], ◌∷◌, ◌++◌, length, slice_get, Option, Some, None, Result, Ok, Err, refl, sym, ap, ◌∙◌, subst}
 use Rattle.std.proofs.lemmas.Option.{slice_get_within}
-use Rattle.xp_words.specs.Machine.{Machine}
 use Rattle.xp_words.specs.Places.{Clock, Vcpu}
 use Rattle.xp_words.specs.declared.ops.Op.{Op}
 use Rattle.xp_words.specs.declared.reply.Reply.{Reply}
@@ -9,20 +8,19 @@ use Rattle.xp_words.specs.declared.reply.Stop.{Stop}
 use Rattle.xp_words.specs.declared.reply.Stop.TheVariants.{Refused, Paused}
 use Rattle.xp_board.specs.declared.step.Act.TheVariants.{Load, Store}
 use Rattle.xp_board.specs.declared.step.Mark.TheVariants.{Cut}
-use Rattle.xp_board.specs.declared.holdings.Made.{Made}
 use Rattle.xp_board.specs.Told.{Post, PortValue, Went}
 use Rattle.xp_board.proofs.Going.{went_more}
-use Rattle.frame_words.specs.Hands.{SameHand, Stopped}
+use Rattle.frame_words.specs.Hands.{SameHand}
 use Rattle.frame_words.specs.Pieces.{Makes}
 use Rattle.frame_words.proofs.Noting.{made_now}
 use Rattle.vcpu_turn.specs.Beginning.{Wakes}
 use Rattle.vcpu_turn.specs.Cpus.{Processing, end_of, after_turn, pairs_of}
 use Rattle.vcpu_turn.specs.Lists.{Works}
-use Rattle.vcpu_turn.specs.Turning.{Begins, Rests, EndsTurn, Does, GoesOn, IsTurn, IsStop, MakesTurn, MakesStop, TurnBy}
+use Rattle.vcpu_turn.specs.Turning.{Begins, Rests, EndsTurn, Does, IsStop, MakesTurn, MakesStop, TurnBy}
 use Rattle.vcpu_turn.specs.Working.{WorkedBy, Worked, Finishes}
 use Rattle.vcpu_turn.specs.declared.cpu.TurnEnd.{TurnEnd}
 use Rattle.vcpu_turn.specs.declared.cpu.TurnEnd.TheVariants as ends
-use Rattle.vcpu_turn.proofs.Begun.{place_from, is_look}
+use Rattle.vcpu_turn.proofs.Begun.{is_look}
 use Rattle.vcpu_turn.proofs.Waking.{same_rests}
 
 -- ---- the last steps

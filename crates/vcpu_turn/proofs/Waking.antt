@@ -1,5 +1,5 @@
 -- A vCPU that rests begins a turn and finds itself running.
-use Rattle.std.proofs.Common.{◌≡◌, ◌⊎◌, ℕ, ◌||◌, Bool, true, false, List, [], ◌∷◌, Some, None, IsTrue, refl, sym, ap, ◌∙◌, subst, inl, inr}
+use Rattle.std.proofs.Common.{◌≡◌, ◌⊎◌, ℕ, ◌||◌, Bool, true, false, List, [], ◌∷◌, Some, None, IsTrue, refl, sym, ap, ◌∙◌, inl, inr}
 use Rattle.xp_words.specs.Machine.{Machine}
 use Rattle.xp_words.specs.Places.{Vcpu}
 use Rattle.xp_board.specs.declared.step.Act.TheVariants.{Load}
@@ -12,8 +12,8 @@ use Rattle.frame_words.specs.Hands.{SameRest, FoundRun, SameOrFlushed}
 use Rattle.frame_words.specs.Pieces.{Makes, is_load}
 use Rattle.frame_words.proofs.Noting.{made_now}
 use Rattle.vcpu_turn.specs.Beginning.{Acks, Wakes}
-use Rattle.vcpu_turn.specs.Turning.{Begins, WasAsked, WasNotAsked, HasFlushed, AnswersAsk, Rests, Runs}
-use Rattle.vcpu_turn.proofs.Begun.{own_by, turn_more, place_from, is_look}
+use Rattle.vcpu_turn.specs.Turning.{Begins, WasAsked, AnswersAsk, Rests, Runs}
+use Rattle.vcpu_turn.proofs.Begun.{turn_more, is_look}
 
 -- ---- the run word
 -- it is as the seat found or left it

@@ -1,5 +1,5 @@
 -- Calls that a turn is made of: what their steps are, and what they leave in hand.
-use Rattle.std.specs.Prelude.{◌≡◌, ℕ, List, Some}
+use Rattle.std.specs.Prelude.{◌≡◌, List, Some}
 use Rattle.xp_words.specs.Places.{Vcpu}
 use Rattle.xp_board.specs.declared.holdings.Made.{Made}
 use Rattle.xp_board.specs.Told.{PortValue, Went, told_word}

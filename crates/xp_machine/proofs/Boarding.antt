@@ -8,11 +8,10 @@ use Rattle.xp_words.specs.Machine.{Machine}
 use Rattle.xp_words.specs.Places.{sizes_of}
 use Rattle.xp_board.specs.Told.{Post, PortValue, Story}
 use Rattle.shared_board.specs.Board.{Board, port_value}
-use Rattle.vcpu_turn.specs.Cpus.{Processing, after_turn, pairs_of}
+use Rattle.vcpu_turn.specs.Cpus.{Processing, after_turn}
 use Rattle.vcpu_turn.specs.declared.cpu.TurnEnd.{TurnEnd}
 use Rattle.vcpu_turn.specs.declared.cpu.TurnEnd.TheVariants as ends
 use Rattle.vcpu_turn.specs.Turning.{IsOf, TurnBy, StopsBy, is_due, Does}
-use Rattle.vcpu_turn.specs.Turning as turning
 use Rattle.xp_words.specs.declared.ops.Op.{Op}
 use Rattle.xp_board.specs.declared.holdings.Made.{Made}
 use Rattle.xp_machine.specs.Cpus.{IsShort}

@@ -8,7 +8,6 @@ use Rattle.std.proofs.lemmas.List.FromFn.{length-enumerate_from, get_or-enumerat
 use Rattle.std.proofs.lemmas.List.Sums.{get_or-le-sum_by}
 use Rattle.xp_words.specs.declared.ops.Op.{Op}
 use Rattle.xp_words.specs.Machine.{Machine}
-use Rattle.vcpu_turn.specs.Cpus.{Processing}
 use Rattle.xp_machine.specs.Cpus.{IsShort, AreShort, first_cpu, first_cpus}
 use Rattle.xp_machine.specs.Gates.{is_calm, StayCalm}
 

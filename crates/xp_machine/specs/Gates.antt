@@ -1,5 +1,5 @@
 -- Which vCPUs have a calm gate, one that never says yes.
-use Rattle.std.specs.Prelude.{◌≡◌, ℕ, ◌==◌, ◌&&◌, Bool, true, false, List, map, slice_index_or, Option, Some, None}
+use Rattle.std.specs.Prelude.{◌≡◌, ℕ, ◌==◌, ◌&&◌, Bool, true, List, map, slice_index_or, Option, Some, None}
 
 -- a vCPU without a gate asks none
 abbrev pub is_calm : List Bool → ℕ → Bool

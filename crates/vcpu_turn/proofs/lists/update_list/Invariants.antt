@@ -1,4 +1,4 @@
-use Rattle.std.proofs.Common.{◌≡◌, ◌+◌, ◌≤◌, true, false, Some, length, ℕ, ◌-◌}
+use Rattle.std.proofs.Common.{◌≡◌, true, length, ◌-◌}
 use Rattle.vcpu_turn.proofs.Doing.{Doing}
 use Rattle.vcpu_turn.proofs.lists.update_list.Given as goal
 

@@ -1,4 +1,4 @@
-use Rattle.std.proofs.Common.{◌∙◌, sym, rules}
+use Rattle.std.proofs.Common.{◌∙◌, sym}
 use Rattle.xp_machine.proofs.Statuses.{due_has_text, due_fewer, under_words}
 use Rattle.xp_machine.proofs.top.run.Goals as goal
 
