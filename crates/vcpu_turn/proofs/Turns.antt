@@ -6,17 +6,19 @@ use Rattle.xp_words.specs.declared.ops.Op.{Op}
 use Rattle.xp_words.specs.declared.reply.Reply.{Reply}
 use Rattle.xp_words.specs.declared.reply.Stop.{Stop}
 use Rattle.xp_words.specs.declared.reply.Stop.TheVariants.{Refused, Paused}
+use Rattle.xp_words.specs.declared.reply.Pause.TheVariants.{Due, Lost, Busy, Flush, Alive}
 use Rattle.xp_board.specs.declared.step.Act.TheVariants.{Load, Store}
 use Rattle.xp_board.specs.declared.step.Mark.TheVariants.{Cut}
 use Rattle.xp_board.specs.Told.{Post, PortValue, Went}
 use Rattle.xp_board.proofs.Going.{went_more}
+use Rattle.frame_types.specs.Writable.{IsNotLost}
 use Rattle.frame_words.specs.Hands.{SameHand}
 use Rattle.frame_words.specs.Pieces.{Makes}
 use Rattle.frame_words.proofs.Noting.{made_now}
 use Rattle.vcpu_turn.specs.Beginning.{Wakes}
 use Rattle.vcpu_turn.specs.Cpus.{Processing, end_of, after_turn, pairs_of}
 use Rattle.vcpu_turn.specs.Lists.{Works}
-use Rattle.vcpu_turn.specs.Turning.{Begins, Rests, EndsTurn, Does, IsStop, MakesTurn, MakesStop, TurnBy}
+use Rattle.vcpu_turn.specs.Turning.{Begins, Rests, EndsTurn, Does, IsStop, MakesTurn, MakesStop, TurnBy, is_lost}
 use Rattle.vcpu_turn.specs.Working.{WorkedBy, Worked, Finishes}
 use Rattle.vcpu_turn.specs.declared.cpu.TurnEnd.{TurnEnd}
 use Rattle.vcpu_turn.specs.declared.cpu.TurnEnd.TheVariants as ends
@@ -127,3 +129,13 @@ turn_goes_on v a b w c c1 c2 answer wakes post later seat worked cpu finishes =
         ends = subst (λ s. EndsTurn n s end finishes.made) (sym seat) ends_is;
       };
     }
+
+-- ---- on a board that tells all words
+pub not_lost : (done : ℕ) (answer : Result (Unit {0}) Stop) → IsNotLost answer → is_lost (end_of done answer) ≡ false
+not_lost done (Ok ok) kept = refl
+not_lost done (Err (Refused r)) kept = refl
+not_lost done (Err (Paused Due)) kept = refl
+not_lost done (Err (Paused (Lost place expected found))) kept = absurd kept
+not_lost done (Err (Paused (Busy frame found))) kept = refl
+not_lost done (Err (Paused (Flush vcpu stamp found))) kept = refl
+not_lost done (Err (Paused (Alive vcpu found))) kept = refl

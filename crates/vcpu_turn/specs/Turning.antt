@@ -4,7 +4,7 @@ use Rattle.xp_words.specs.Machine.{Machine}
 use Rattle.xp_words.specs.Places.{Place, Clock, Vcpu}
 use Rattle.xp_words.specs.declared.ops.Op.{Op}
 use Rattle.xp_words.specs.declared.reply.Stop.{Stop}
-use Rattle.xp_words.specs.declared.reply.Pause.TheVariants.{Due}
+use Rattle.xp_words.specs.declared.reply.Pause.TheVariants.{Due, Lost}
 use Rattle.xp_board.specs.declared.step.Act.TheVariants.{Store}
 use Rattle.xp_board.specs.declared.step.Mark.TheVariants.{Cut, Turn}
 use Rattle.xp_board.specs.declared.holdings.Made.{Made}
@@ -159,3 +159,8 @@ pub record MakesStop (c c' : Processing) (v w : PortValue) : Type 0 where
 abbrev pub StopsBy : Bool → Processing → Processing → PortValue → PortValue → Type 0
 StopsBy true c c' v w = (c' ≡ c) × (w ≡ v)
 StopsBy false c c' v w = MakesStop c c' v w
+
+-- it is paused because an exchange found another word than the load before it
+abbrev pub is_lost : TurnEnd → Bool
+is_lost (ends.Paused (Lost place expected found)) = true
+is_lost _ = false

@@ -7,6 +7,7 @@ use Rattle.xp_words.specs.declared.reply.Stop.TheVariants.{Paused}
 use Rattle.xp_words.specs.declared.reply.Pause.TheVariants.{Due}
 use Rattle.xp_board.specs.declared.holdings.Made.{Made}
 use Rattle.xp_board.specs.Told.{PortValue, Went}
+use Rattle.frame_types.specs.Writable.{IsNotLost}
 use Rattle.vcpu_turn.specs.Cpus.{Processing, pairs_of}
 use Rattle.vcpu_turn.specs.Lists.{DoesList, Works}
 use Rattle.vcpu_turn.specs.Turning.{Rests, EndsTurn}
@@ -48,6 +49,10 @@ WorkedBy None c c' v w None = (c' ≡ c) × (w ≡ v)
 abbrev pub asks_due : Option (Result (Unit {0}) Stop) → Bool
 asks_due (Some answer) = is_due_by answer
 asks_due None = false
+
+abbrev pub IsNotLostBy : Option (Result (Unit {0}) Stop) → Type 0
+IsNotLostBy (Some answer) = IsNotLost answer
+IsNotLostBy None = Unit {0}
 
 -- ---- the end of a turn
 -- from v to w the turn ended so, and the vCPU still rests and runs

@@ -1,6 +1,8 @@
 //! Operations that are lists: they go on from element to element until the gate says yes.
 ghost use Rattle.std.specs.Prelude.{◌≡◌, ◌+◌, ◌≤◌, true, false, Some, None, IfSome, IfNone, length, if◌then◌else◌};
 ghost use Rattle.xp_board.specs.Readings.{domain_of};
+ghost use Rattle.xp_board.specs.Told.{is_telling};
+ghost use Rattle.frame_types.specs.Writable.{IsNotLost};
 ghost use Rattle.vcpu_turn.specs.Cpus.{pairs_of, elements_in};
 ghost use Rattle.vcpu_turn.specs.Turning.{Rests};
 ghost use Rattle.vcpu_turn.specs.Working.{WorksList, WorksOn, is_due_by};
@@ -47,6 +49,7 @@ fn update_list<P: Port>(
     ensures works { WorksList (P.value port.old) (P.value port.new) domain pairs.now done.old done.new result }
     ensures gate { count_yes gate.new ≡ (if is_due_by result then count_yes gate.old + 1 else count_yes gate.old) }
     ensures calm { calm gate.old ≡ true → (is_due_by result ≡ false) × (calm gate.new ≡ true) }
+    ensures told { is_telling (P.value port.old) ≡ true → IsNotLost result }
 {
     while (*done as usize) < pairs.len() {
         match update(port, domain, pairs[*done as usize]) {
@@ -80,6 +83,7 @@ fn go_through<P: Port>(
     ensures works { WorksOn (P.value port.old) (P.value port.new) domain (Some pairs.now) done.old done.new result }
     ensures gate { count_yes gate.new ≡ (if is_due_by result then count_yes gate.old + 1 else count_yes gate.old) }
     ensures calm { calm gate.old ≡ true → (is_due_by result ≡ false) × (calm gate.new ≡ true) }
+    ensures told { is_telling (P.value port.old) ≡ true → IsNotLost result }
 {
     if pairs.len() > LONGEST {
         *done = 0;
@@ -104,6 +108,7 @@ pub(crate) fn work_on<P: Port>(
     ensures works { WorksOn (P.value port.old) (P.value port.new) domain (pairs_of op.now) done.old done.new result }
     ensures gate { count_yes gate.new ≡ (if is_due_by result then count_yes gate.old + 1 else count_yes gate.old) }
     ensures calm { calm gate.old ≡ true → (is_due_by result ≡ false) × (calm gate.new ≡ true) }
+    ensures told { is_telling (P.value port.old) ≡ true → IsNotLost result }
 {
     match pairs_of(op) {
         None => {

@@ -1,8 +1,9 @@
 ghost use Rattle.std.specs.Prelude.{◌≡◌, ◌+◌, ◌<◌, ◌≤◌, ◌^◌, true, false, Some, length, slice_get, if◌then◌else◌};
 ghost use Rattle.xp_board.specs.Readings.{domain_of};
+ghost use Rattle.xp_board.specs.Told.{is_telling};
 ghost use Rattle.vcpu_turn.specs.Cpus.{reply_of, end_of, after_turn};
-ghost use Rattle.vcpu_turn.specs.Turning.{TurnBy, IsOf, Rests, MakesStop, StopsBy, is_due};
-ghost use Rattle.vcpu_turn.specs.Working.{WorkedBy, Finishes, asks_due};
+ghost use Rattle.vcpu_turn.specs.Turning.{TurnBy, IsOf, Rests, MakesStop, StopsBy, is_due, is_lost};
+ghost use Rattle.vcpu_turn.specs.Working.{WorkedBy, Finishes, IsNotLostBy, asks_due};
 ghost use Rattle.vcpu_turn.specs.declared.cpu.TurnEnd.TheVariants.{Answered};
 
 use crate::beginning::begin;
@@ -22,6 +23,7 @@ fn go_on<P: Port>(port: &mut P, cpu: &mut Cpu, gate: &mut dyn Preempt) -> Option
     ensures worked { WorkedBy (slice_get cpu.old.script (length cpu.old.log)) cpu.old cpu.new (P.value port.old) (P.value port.new) result }
     ensures gate { count_yes gate.new ≡ (if asks_due result then count_yes gate.old + 1 else count_yes gate.old) }
     ensures calm { calm gate.old ≡ true → (asks_due result ≡ false) × (calm gate.new ≡ true) }
+    ensures told { is_telling (P.value port.old) ≡ true → IsNotLostBy result }
 {
     match cpu.script.as_slice().get(cpu.log.len()) {
         None => None,
@@ -98,6 +100,8 @@ pub fn turn<P: Port>(port: &mut P, cpu: &mut Cpu, gate: &mut dyn Preempt) -> Tur
     // `yes` of the gate rises by the asks alone, and the turn is paused where it rose.
     ensures gate { count_yes gate.new ≡ (if is_due result then count_yes gate.old + 1 else count_yes gate.old) }
     ensures calm { calm gate.old ≡ true → (is_due result ≡ false) × (calm gate.new ≡ true) }
+    // On a board that tells all words no exchange is lost.
+    ensures told { is_telling (P.value port.old) ≡ true → is_lost result ≡ false }
 {
     if cpu.retired {
         return TurnEnd::Retired;

@@ -11,7 +11,7 @@ use Rattle.shared_board.specs.Board.{Board, port_value}
 use Rattle.vcpu_turn.specs.Cpus.{Processing, after_turn}
 use Rattle.vcpu_turn.specs.declared.cpu.TurnEnd.{TurnEnd}
 use Rattle.vcpu_turn.specs.declared.cpu.TurnEnd.TheVariants as ends
-use Rattle.vcpu_turn.specs.Turning.{IsOf, TurnBy, StopsBy, is_due, Does}
+use Rattle.vcpu_turn.specs.Turning.{IsOf, TurnBy, StopsBy, is_due, is_lost, Does}
 use Rattle.xp_words.specs.declared.ops.Op.{Op}
 use Rattle.xp_board.specs.declared.holdings.Made.{Made}
 use Rattle.xp_machine.specs.Cpus.{IsShort}
@@ -51,9 +51,9 @@ stays b b2 s cpus c c2 here same story =
     λ i. stage (story i) (all i)
 
 turn_by : (b b2 : Board) (s lender : ℕ) (calm : Bool) (cpus : List Processing) (c c2 : Processing) (end : TurnEnd) (retired : Bool) → c.retired ≡ retired → s < (sizes_of b.machine).vcpus →
-    Ready b cpus → b2.machine ≡ b.machine → slice_get cpus s ≡ Some c → (calm ≡ true → is_due end ≡ false) → TurnBy retired c c2 end (port_value b s lender) (port_value b2 s lender) →
+    Ready b cpus → b2.machine ≡ b.machine → slice_get cpus s ≡ Some c → (calm ≡ true → is_due end ≡ false) → is_lost end ≡ false → TurnBy retired c c2 end (port_value b s lender) (port_value b2 s lender) →
     IsOf (port_value b2 s lender) c2 → Done (UnlessRetired (MakesTurn b.machine calm s) c retired) b b2 cpus (slice_set cpus s c2)
-turn_by b b2 s lender calm cpus c c2 end true is real ready machine here unpaused t own =
+turn_by b b2 s lender calm cpus c c2 end true is real ready machine here unpaused kept t own =
     let story = same_story b b2 s lender t.port in
     let moved = moved_none b.machine s b.story b2.story story in
     record {
@@ -61,10 +61,10 @@ turn_by b b2 s lender calm cpus c c2 end true is real ready machine here unpause
       ready = ready_after b b2 s lender cpus c c2 ready machine moved here (turn_script true c c2 end (port_value b s lender) (port_value b2 s lender) t) own;
       opening = moved.opening;
     }
-turn_by b b2 s lender calm cpus c c2 end false is real ready machine here unpaused t own =
+turn_by b b2 s lender calm cpus c c2 end false is real ready machine here unpaused kept t own =
     let steps = stepping b b2 s lender t.made real ready.seats t.went own.rests in
     record {
-      does = record { after = c2; end = end; made = t.made; leads = steps.leads; turn = t.turn; unpaused = unpaused; cpus = refl };
+      does = record { after = c2; end = end; made = t.made; leads = steps.leads; turn = t.turn; unpaused = unpaused; kept = kept; cpus = refl };
       ready = ready_after b b2 s lender cpus c c2 ready machine steps.moved here (turn_script false c c2 end (port_value b s lender) (port_value b2 s lender) t) own;
       opening = steps.moved.opening;
     }
@@ -146,7 +146,7 @@ module _ {A : Type 0} (cpu : A → Processing) (b b1 b2 : Board) (s s1 s2 l1 l2 
       let by = subst (λ v. TurnBy c.retired c (cpu y) t.end v (port_value b2 s l1)) before_is (subst (λ w. TurnBy c.retired c (cpu y) t.end (port_value b1 s1 l1) w) after_is t.turn) in
       as_done (MakesTurn b.machine calm s)
       (turn_by b b2 s l1 calm (map cpu seats) c (cpu y) t.end c.retired refl (real cpu b b1 s s1 l1 seats d same seat within ready) ready same_machine
-      (here cpu b b1 s s1 l1 seats d same seat within ready) t.unpaused by is_of_now)
+      (here cpu b b1 s s1 l1 seats d same seat within ready) t.unpaused (t.kept refl) by is_of_now)
 
   -- the board has this story then, by the gates that stand beside the vCPUs
   pub is_turn : (calm : A → Bool) (x : Story) → x ≡ b2.story → TakesTurn (calm (slice_index_or seats s d)) (cpu (slice_index_or seats s d)) (cpu y) (port_value b1 s1 l1) (port_value b2 s2 l2) →

@@ -32,7 +32,7 @@ fewer_turn n m m2 v (Some c) s s' f t = fewer_by c.retired t
   where
     fewer_by : (b : Bool) → UnlessRetired (MakesTurn n m v) c b s s' → UnlessRetired (MakesTurn n m2 v) c b s s'
     fewer_by true t = t
-    fewer_by false t = record { after = t.after; end = t.end; made = t.made; leads = t.leads; turn = t.turn; unpaused = λ e. t.unpaused (f e); cpus = t.cpus }
+    fewer_by false t = record { after = t.after; end = t.end; made = t.made; leads = t.leads; turn = t.turn; unpaused = λ e. t.unpaused (f e); kept = t.kept; cpus = t.cpus }
 
 pub fewer_calm : (n : Machine) (before after : List Bool) → StayCalm before after → (v : ℕ) (s s' : Stage) → IsTurn n after v s s' → IsTurn n before v s s'
 fewer_calm n before after stay v s s' t = fewer_turn n (is_calm after v) (is_calm before v) v (slice_get s.cpus v) s s' (stay v) t

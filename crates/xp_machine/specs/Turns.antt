@@ -7,7 +7,7 @@ use Rattle.xp_board.specs.declared.holdings.Made.{Made}
 use Rattle.xp_board.specs.Told.{Story}
 use Rattle.vcpu_turn.specs.declared.cpu.TurnEnd.{TurnEnd}
 use Rattle.vcpu_turn.specs.Cpus.{Processing}
-use Rattle.vcpu_turn.specs.Turning.{is_due}
+use Rattle.vcpu_turn.specs.Turning.{is_due, is_lost}
 use Rattle.vcpu_turn.specs.Turning as turning
 use Rattle.xp_machine.specs.Gates.{is_calm}
 use Rattle.xp_machine.specs.Pieces.{Leads}
@@ -20,7 +20,8 @@ pub record Stage : Type 0 where
 abbrev pub stage : Story → List Processing → Stage
 stage a cpus = record { board = a; cpus = cpus }
 
--- vCPU v makes a turn by steps that lead from one stage to the other. A calm gate does not pause it.
+-- vCPU v makes a turn by steps that lead from one stage to the other. A calm gate does not pause it, and no exchange of it
+-- is lost, as one thread makes all steps.
 pub record MakesTurn (n : Machine) (calm : Bool) (v : ℕ) (c : Processing) (s s' : Stage) : Type 0 where
   pub after : Processing
   pub end : TurnEnd
@@ -28,6 +29,7 @@ pub record MakesTurn (n : Machine) (calm : Bool) (v : ℕ) (c : Processing) (s s
   pub leads : Leads n v s.board made s'.board
   pub turn : turning.IsTurn n c after end made
   pub unpaused : calm ≡ true → is_due end ≡ false
+  pub kept : is_lost end ≡ false
   pub cpus : s'.cpus ≡ slice_set s.cpus v after
 
 -- vCPU v stops between its turns, by one step

@@ -1,4 +1,5 @@
 use Rattle.std.proofs.Common.{arith, ◌+◌, ◌<◌, length, slice_index_or, refl, ◌∙◌}
+use Rattle.xp_board.proofs.Going.{went_telling}
 use Rattle.vcpu_turn.proofs.Doing.{count_same, stopped_not_due, doing_none, doing_more, list_stopped, list_due, list_done}
 use Rattle.vcpu_turn.proofs.lists.update_list.Goals as goal
 
@@ -43,3 +44,8 @@ returns-then-done-pairs-clause-works g c =
 
 pub returns-clause-works : goal.returns-clause-works
 returns-clause-works g c = list_done _ _ _ _ _ _ c.loop-done.invariant.doing c.loop-done-test.false
+
+pub returns-in-Err-clause-told : goal.returns-in-Err-clause-told
+returns-in-Err-clause-told g c tells =
+    let doing = c.loop-done.invariant.doing in
+    c.in-Err.ensures.told (went_telling _ _ doing.did doing.went ∙ tells)

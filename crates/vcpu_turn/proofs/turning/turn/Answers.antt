@@ -1,7 +1,8 @@
 use Rattle.std.proofs.Common.{sym, ap, ◌∙◌, subst}
 use Rattle.vcpu_turn.specs.Cpus.{Processing}
-use Rattle.vcpu_turn.specs.Turning.{TurnBy}
-use Rattle.vcpu_turn.proofs.Turns.{more_left, turn_by, turn_retires, turn_goes_on}
+use Rattle.vcpu_turn.specs.Turning.{TurnBy, is_lost}
+use Rattle.xp_board.proofs.Going.{went_telling}
+use Rattle.vcpu_turn.proofs.Turns.{more_left, not_lost, turn_by, turn_retires, turn_goes_on}
 use Rattle.vcpu_turn.proofs.turning.turn.Goals as goal
 
 pub returns-in-None-clause-turn : goal.returns-in-None-clause-turn
@@ -22,3 +23,8 @@ returns-in-Some-clause-turn g c =
 pub finish-requires-clause-more : goal.finish-requires-clause-more
 finish-requires-clause-more g c =
     more_left (g.P.Port.value c.begin.new.port) (g.P.Port.value c.go_on.new.port) c.args.cpu.now c.go_on.new.cpu c.in-Some.answer c.in-Some.ensures.worked
+
+pub returns-in-Some-clause-told : goal.returns-in-Some-clause-told
+returns-in-Some-clause-told g c tells =
+    let woken = c.begin.ensures.wakes in
+    ap is_lost c.finish.ensures.end ∙ not_lost _ c.in-Some.answer (c.in-Some.ensures.told (went_telling _ _ woken.made woken.went ∙ tells))
