@@ -29,6 +29,9 @@ earlier_within n xs ys = record { had = λ p w h. had_earlier n p w xs ys h; act
 pub later_within : (n : Machine) (xs ys : List Made) → Within n ys (ys ++ xs)
 later_within n xs ys = record { had = λ p w h. had_later n p w xs ys h; act = λ p a w h. act_later n p a w xs ys h }
 
+pub within_more : (n : Machine) (xs ys zs : List Made) → Within n xs ys → Within n ys zs → Within n xs zs
+within_more n xs ys zs a b = record { had = λ p w h. b.had p w (a.had p w h); act = λ p c w h. b.act p c w (a.act p c w h) }
+
 module _ (n : Machine) (s owner stamp : ℕ) (xs ys : List Made) (in_them : Within n xs ys) where
   clear_within : (v : ℕ) → FoundClear n s owner stamp xs v → FoundClear n s owner stamp ys v
   clear_within v (idle w h is) = idle w (in_them.had _ w h) is
@@ -43,7 +46,7 @@ module _ (n : Machine) (s owner stamp : ℕ) (xs ys : List Made) (in_them : With
   each_within v (inl a) = inl (clear_within v a)
   each_within v (inr a) = inr (asked_within v a)
 
-  waits_within : (v found : ℕ) → WaitsFor n s owner stamp xs v found → WaitsFor n s owner stamp ys v found
+  pub waits_within : (v found : ℕ) → WaitsFor n s owner stamp xs v found → WaitsFor n s owner stamp ys v found
   waits_within v found a =
       record {
         other = a.other;
@@ -55,7 +58,7 @@ module _ (n : Machine) (s owner stamp : ℕ) (xs ys : List Made) (in_them : With
         others = λ u below. each_within u (a.others u below);
       }
 
-  clock_within : AtLastClock n s stamp xs → AtLastClock n s stamp ys
+  pub clock_within : AtLastClock n s stamp xs → AtLastClock n s stamp ys
   clock_within a =
       record {
         flushed = a.flushed;

@@ -1,5 +1,5 @@
 -- Hands, one behind the other, in which the own translations may be flushed.
-use Rattle.std.proofs.Common.{◌≡◌, ◌⊎◌, ℕ, false, List, [], None, refl, ap, ◌∙◌, inl, inr, IsTrue}
+use Rattle.std.proofs.Common.{◌≡◌, ℕ, List, [], None, refl, ap, ◌∙◌, inl, IsTrue}
 use Rattle.xp_words.specs.declared.kind.PageType.TheVariants.{Writable}
 use Rattle.xp_words.specs.Places.{Sizes}
 use Rattle.xp_board.specs.declared.holdings.Reference.{Reference}
@@ -13,60 +13,32 @@ use Rattle.xp_board.specs.Hands.{IsEmptyHand, typed_to, without_typed, work_on}
 use Rattle.xp_board.specs.Knowledge.{knows_live}
 use Rattle.xp_board.specs.Lists.{first_by, times_by}
 use Rattle.frame_words.specs.Cells.{IsApart}
-use Rattle.frame_words.specs.Hands.{SameRest, SameHand, TookRef, FlushedRest, SameOrFlushed, GaveUp}
+use Rattle.frame_words.specs.Hands.{SameHand, TookRef, FlushedRest, SameOrFlushed, GaveUp}
 use Rattle.frame_words.proofs.KindCalls.{without_newest}
 use Rattle.frame_words.proofs.KindHands.{known_first}
 use Rattle.frame_types.specs.Writable.{TookWritable, DroppedPlain}
-
--- ---- the parts beside references, types and works
-rest_same : (h k : Holdings) → k.ending ≡ h.ending → k.run ≡ h.run → k.turn ≡ h.turn → SameRest h k → FlushedRest h k
-rest_same h k ending run turn rest =
-    record {
-      locks = rest.locks;
-      ending = ending;
-      claimed = rest.claimed;
-      raised = rest.raised;
-      credits = rest.credits;
-      looking = rest.looking;
-      cache = inl rest.cache;
-      walk = rest.walk;
-      cold = inl rest.cold;
-      run = run;
-      old0 = rest.old0;
-      old1 = rest.old1;
-      turn = turn;
-      ran = rest.ran;
-    }
-
--- the same as before, or what a flush leaves
-kept_after : {A : Type 0} (x y z e : A) → (y ≡ x) ⊎ (y ≡ e) → (z ≡ y) ⊎ (z ≡ e) → (z ≡ x) ⊎ (z ≡ e)
-kept_after x y z e a (inr b) = inr b
-kept_after x y z e (inl a) (inl b) = inl (b ∙ a)
-kept_after x y z e (inr a) (inl b) = inr (b ∙ a)
-
-rest_after : (a b c : Holdings) → FlushedRest a b → FlushedRest b c → FlushedRest a c
-rest_after a b c r s =
-    record {
-      locks = s.locks ∙ r.locks;
-      ending = s.ending ∙ r.ending;
-      claimed = s.claimed ∙ r.claimed;
-      raised = s.raised ∙ r.raised;
-      credits = s.credits ∙ r.credits;
-      looking = s.looking ∙ r.looking;
-      cache = kept_after a.cache b.cache c.cache [] r.cache s.cache;
-      walk = s.walk ∙ r.walk;
-      cold = kept_after a.cold b.cold c.cold false r.cold s.cold;
-      run = s.run ∙ r.run;
-      old0 = s.old0 ∙ r.old0;
-      old1 = s.old1 ∙ r.old1;
-      turn = s.turn ∙ r.turn;
-      ran = s.ran ∙ r.ran;
-    }
+use Rattle.frame_types.proofs.Rests.{rest_same, rest_more}
 
 -- ---- a reference that was taken
 module _ (f d : ℕ) (h a : Holdings) (took : TookRef f d h a) where
   took_rest : FlushedRest h a
-  took_rest = rest_same h a took.ending took.run took.turn took.rest
+  took_rest =
+      record {
+        locks = took.rest.locks;
+        ending = took.ending;
+        claimed = took.rest.claimed;
+        raised = took.rest.raised;
+        credits = took.rest.credits;
+        looking = took.rest.looking;
+        cache = inl took.rest.cache;
+        walk = took.rest.walk;
+        cold = inl took.rest.cold;
+        run = took.run;
+        old0 = took.rest.old0;
+        old1 = took.rest.old1;
+        turn = took.turn;
+        ran = took.rest.ran;
+      }
 
   -- and given up
   pub given_up : (k : Holdings) → GaveUp f a k → SameOrFlushed h k
@@ -75,7 +47,7 @@ module _ (f d : ℕ) (h a : Holdings) (took : TookRef f d h a) where
         refs = gave.refs ∙ without_newest (λ (y : Reference). y.frame) f _ h.refs a.refs refl took.refs;
         typed = gave.typed ∙ took.rest.typed;
         works = gave.works ∙ took.rest.works;
-        rest = rest_after h a k took_rest gave.rest;
+        rest = rest_more h a k took_rest gave.rest;
       }
 
   -- and became a typed one, which was given back
@@ -88,7 +60,7 @@ module _ (f d : ℕ) (h a : Holdings) (took : TookRef f d h a) where
             ∙ without_newest (λ (y : TypedReference). y.frame) f _ a.typed b.typed refl typed.typed ∙ took.rest.typed;
         works = dropped.works ∙ same.rest.works ∙ typed.works ∙ took.rest.works;
         rest =
-            rest_after h c k (rest_after h b c (rest_after h a b took_rest typed.rest) (rest_same b c same.ending same.run same.turn same.rest)) dropped.rest;
+            rest_more h c k (rest_more h b c (rest_more h a b took_rest typed.rest) (rest_same b c same)) dropped.rest;
       }
 
 -- ---- what the next call asks

@@ -5,15 +5,16 @@ use Rattle.xp_words.specs.Places.{Kind, Cell}
 use Rattle.xp_board.specs.declared.step.Act.TheVariants.{Store}
 use Rattle.xp_board.specs.declared.holdings.Made.{Made}
 use Rattle.xp_board.specs.Told.{Post, PortValue, is_telling}
-use Rattle.xp_board.proofs.Going.{went_post, went_telling, had_earlier, had_later}
+use Rattle.xp_board.proofs.Going.{went_post, went_telling}
 use Rattle.frame_words.specs.Hands.{SameHand, TookRef}
 use Rattle.frame_words.specs.Pieces.{Makes, Writes, Serves, Calm, FlushesFor}
 use Rattle.frame_words.specs.References.{Gets, FoundOpen}
 use Rattle.frame_words.proofs.Piecing.{serves_more, flushes_more, made_of, makes_serves, makes_calm, this_frame}
 use Rattle.frame_types.specs.Writable.{Takes, Drops, Shows}
 use Rattle.frame_types.specs.Writable as writable
+use Rattle.frame_types.proofs.WaitCauses.{Within, earlier_within, later_within, within_more}
 use Rattle.mmu_update.specs.Writing.{WritesWord}
-use Rattle.mmu_update.proofs.Causes.{open_earlier, cause_later}
+use Rattle.mmu_update.proofs.Causes.{open_within, cause_within}
 use Rattle.mmu_update.proofs.Hands.{given_up, given_back}
 
 -- the board goes on telling where a reference was taken
@@ -34,7 +35,7 @@ module _ (v u : PortValue) (d f : ℕ) (gets : Gets v u f d (Ok f)) (took : Took
             flushes_more v.post.machine f gets.made takes.made (inl gets.calm)
             (subst (λ (q : Post). FlushesFor q.machine f takes.made) after_reference takes.flushes);
         shows = inr
-            (cause_later v.post.machine v.post.seat gets.made takes.made f d e
+            (cause_within v.post.machine v.post.seat takes.made (takes.made ++ gets.made) (later_within v.post.machine gets.made takes.made) f d e
             (subst (λ (q : Post). writable.Cause q.machine q.seat f d takes.made e) after_reference takes.shows));
         hand = given_up f d v.holdings u.holdings took w.holdings takes.hand;
       }
@@ -73,22 +74,25 @@ module _ (v u : PortValue) (d f : ℕ) (gets : Gets v u f d (Ok f)) (took : Took
         let two = flushes_more n f taken (stored ∷ []) one (inl calm) in
         flushes_more n f ((stored ∷ []) ++ taken) drops.made two (inl (subst (λ (q : Post). Calm q.machine drops.made) after_store drops.calm))
 
+    -- a list of the calls before among all steps
+    among_all : (xs : List Made) → Within v.post.machine xs taken → Within v.post.machine xs all
+    unfolding all
+    among_all xs a =
+        let n = v.post.machine in
+        within_more n xs ((stored ∷ []) ++ taken) all (within_more n xs taken ((stored ∷ []) ++ taken) a (earlier_within n taken (stored ∷ []))) (earlier_within n ((stored ∷ []) ++ taken) drops.made)
+
     all_show : Shows v.post.machine v.post.seat f d all (Ok tt)
-    unfolding all taken stored
+    unfolding taken
     all_show =
         let n = v.post.machine in
         let a = subst (λ (q : Post). Shows q.machine q.seat f d takes.made (Ok tt)) after_reference takes.shows in
-        let one = had_later n (Kind f) a.0 gets.made takes.made a.1 in
-        let two = had_earlier n (Kind f) a.0 taken (stored ∷ []) one in
-        (a.0, had_earlier n (Kind f) a.0 ((stored ∷ []) ++ taken) drops.made two, a.2)
+        (a.0, (among_all takes.made (later_within n gets.made takes.made)).had (Kind f) a.0 a.1, a.2)
 
     all_open : FoundOpen v.post.machine f d all
-    unfolding all taken stored
+    unfolding taken
     all_open =
         let n = v.post.machine in
-        let one = open_earlier n f d gets.made takes.made gets.shows in
-        let two = open_earlier n f d taken (stored ∷ []) one in
-        open_earlier n f d ((stored ∷ []) ++ taken) drops.made two
+        open_within n v.post.seat gets.made all (among_all gets.made (earlier_within n gets.made takes.made)) f d gets.shows
 
     pub written : f < v.post.machine.frames → SameHand x.holdings y.holdings → WritesWord v z d f i word (Ok tt)
     written real same =
