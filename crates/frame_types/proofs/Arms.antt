@@ -21,7 +21,8 @@ use Rattle.frame_types.specs.Writable.{IsOpenKind, FoundStamp, Cause, Shows, Lea
 use Rattle.frame_types.proofs.Calmly.{Calmly, calmly_more, at_kind, kind_had, more_had}
 use Rattle.frame_types.proofs.Classing.{Waits}
 use Rattle.frame_types.proofs.Taken.{lost_gave, gave_up, leaves_after}
-use Rattle.frame_types.proofs.WaitCauses.{later_within, shows_within, waited_cause, waited_not_lost}
+use Rattle.frame_types.proofs.Among.{later_within}
+use Rattle.frame_types.proofs.WaitCauses.{shows_within, waited_cause, waited_not_lost}
 
 -- ---- calm ways
 pub gave_calmly : (v w : PortValue) (f : ℕ) → GivesUp v w f → Calmly v w f

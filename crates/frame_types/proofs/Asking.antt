@@ -15,11 +15,11 @@ use Rattle.xp_board.proofs.Going.{had_earlier, had_later}
 use Rattle.frame_words.specs.Hands.{SameHand, SameOrFlushed}
 use Rattle.frame_words.specs.Pieces.{Makes, HadAct, Serves}
 use Rattle.frame_words.proofs.Noting.{makes_since, makes_keeps}
-use Rattle.frame_words.proofs.Piecing.{made_of, makes_had, makes_act, makes_serves}
+use Rattle.frame_words.proofs.Piecing.{made_of, makes_had, makes_act, makes_serves, act_later}
 use Rattle.frame_types.specs.declared.waiting.Awaited.{Awaited}
 use Rattle.frame_types.specs.Clearing.{Looks, Weighs}
 use Rattle.frame_types.specs.Waiting.{IsMarked}
-use Rattle.frame_types.proofs.Chaining.{act_later, both_serve, looks_after}
+use Rattle.frame_types.proofs.Chaining.{both_serve, looks_after}
 use Rattle.frame_types.proofs.Growing.{Grows, makes_longer, same_rest, same_more, went_grows, knows_later, marked_later}
 use Rattle.frame_types.proofs.Looking.{look_late}
 use Rattle.frame_types.proofs.Marked.{same_frame, work_past}

@@ -1,16 +1,17 @@
 -- Calm steps that serve one frame, one behind the other.
-use Rattle.std.proofs.Common.{◌≡◌, ℕ, List, [], ◌∷◌, ◌++◌, ◌||◌, ◌==◌, not, true, None, IsTrue, refl, subst, arith}
+use Rattle.std.proofs.Common.{◌≡◌, ℕ, List, [], ◌∷◌, ◌++◌, ◌||◌, ◌==◌, not, true, None, IsTrue, refl, arith}
 use Rattle.std.proofs.lemmas.Bool.Decides.{nat_tests}
 use Rattle.xp_words.specs.Places.{Place, Clock, Kind}
 use Rattle.xp_board.specs.declared.step.Act.{Act}
 use Rattle.xp_board.specs.declared.step.Act.TheVariants.{Load}
 use Rattle.xp_board.specs.declared.holdings.Made.{Made}
 use Rattle.xp_board.specs.Acts.{left_by}
-use Rattle.xp_board.specs.Told.{Post, PortValue, Had}
-use Rattle.xp_board.proofs.Going.{went_post, had_earlier}
+use Rattle.xp_board.specs.Told.{PortValue, Had}
+use Rattle.xp_board.proofs.Going.{had_earlier}
 use Rattle.frame_words.specs.Pieces.{Makes, Serves, Calm, is_load, is_of, is_of_flush}
 use Rattle.frame_words.specs.References.{Puts}
-use Rattle.frame_words.proofs.Piecing.{serves_more, calm_more, made_of, makes_had, makes_serves, makes_calm}
+use Rattle.frame_words.proofs.Piecing as piecing
+use Rattle.frame_words.proofs.Piecing.{made_of, makes_had, makes_serves, makes_calm}
 
 -- calm steps from v to w that change no words but those of frame f, and that no guest sees
 pub record Calmly (v w : PortValue) (f : ℕ) : Type 0 where
@@ -20,11 +21,8 @@ pub record Calmly (v w : PortValue) (f : ℕ) : Type 0 where
 
 pub calmly_more : (v u w : PortValue) (f : ℕ) → Calmly v u f → Calmly u w f → Calmly v w f
 calmly_more v u w f a b =
-    record {
-      made = b.made ++ a.made;
-      piece = serves_more v u w f [] [] a.made b.made a.piece b.piece;
-      calm = calm_more v.post.machine a.made b.made a.calm (subst (λ (q : Post). Calm q.machine b.made) (went_post v u a.made a.piece.went) b.calm);
-    }
+    let all = piecing.calmly_more v u w f [] [] a.made b.made (record { piece = a.piece; calm = a.calm }) (record { piece = b.piece; calm = b.calm }) in
+    record { made = b.made ++ a.made; piece = all.piece; calm = all.calm }
 
 within_frame : (a : Act) (f : ℕ) → IsTrue (is_load a || (is_of f (Kind f) || is_of_flush (Kind f)))
 within_frame a f = grind (arith, nat_tests)

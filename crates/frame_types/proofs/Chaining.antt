@@ -1,78 +1,39 @@
 -- Pieces of a wait, one behind the other: what was found stays found.
-use Rattle.std.proofs.Common.{◌≡◌, ℕ, List, [], ◌∷◌, ◌++◌, Option, Some, None, Result, Ok, Err, subst, inl, inr}
+use Rattle.std.proofs.Common.{◌≡◌, ℕ, List, [], ◌++◌, Option, Some, None, Result, Ok, Err, subst}
 use Rattle.xp_words.specs.Machine.{Machine}
-use Rattle.xp_words.specs.Places.{Place}
 use Rattle.xp_words.specs.declared.reply.Refusal.{Refusal}
 use Rattle.xp_words.specs.declared.reply.Refusal.TheVariants as refusals
-use Rattle.xp_board.specs.declared.step.Act.{Act}
 use Rattle.xp_board.specs.declared.holdings.Made.{Made}
 use Rattle.xp_board.specs.Told.{Post, PortValue}
-use Rattle.xp_board.proofs.Going.{went_post, had_earlier, had_later}
+use Rattle.xp_board.proofs.Going.{went_post}
 use Rattle.frame_words.specs.Hands.{SameOrFlushed}
-use Rattle.frame_words.specs.Pieces.{HadAct, Serves}
+use Rattle.frame_words.specs.Pieces.{Serves}
 use Rattle.frame_words.proofs.Piecing.{serves_more}
 use Rattle.frame_types.specs.declared.waiting.Awaited.{Awaited}
 use Rattle.frame_types.specs.Clearing.{IsClear, IsBehind, IsLastClock, Stands, Looks}
 use Rattle.frame_types.specs.Waiting.{FoundClear, WasAsked, AtLastClock}
+use Rattle.frame_types.proofs.Among.{earlier_within, later_within, clear_within, asked_within, behind_within, clock_within}
 use Rattle.frame_types.proofs.Growing.{went_grows, past_later, same_more}
 
 -- ---- found by the steps before, or by those behind
-act_earlier : (n : Machine) (p : Place) (a : Act) (w : ℕ) (xs ys : List Made) → HadAct n p a w xs → HadAct n p a w (ys ++ xs)
-act_earlier n p a w xs [] h = h
-act_earlier n p a w xs (y ∷ ys) h = inr (act_earlier n p a w xs ys h)
-
-pub act_later : (n : Machine) (p : Place) (a : Act) (w : ℕ) (xs ys : List Made) → HadAct n p a w ys → HadAct n p a w (ys ++ xs)
-act_later n p a w xs [] h = absurd h
-act_later n p a w xs (y ∷ ys) (inl h) = inl h
-act_later n p a w xs (y ∷ ys) (inr h) = inr (act_later n p a w xs ys h)
-
 module _ (n : Machine) (xs ys : List Made) where
   pub clear_earlier : (s owner stamp u : ℕ) → FoundClear n s owner stamp xs u → FoundClear n s owner stamp (ys ++ xs) u
-  clear_earlier s owner stamp u (FoundClear.idle w had is) = FoundClear.idle w (had_earlier n _ w xs ys had) is
-  clear_earlier s owner stamp u (FoundClear.flushed w had late) = FoundClear.flushed w (had_earlier n _ w xs ys had) late
-  clear_earlier s owner stamp u (FoundClear.own w before is had late) = FoundClear.own w before is (act_earlier n _ _ before xs ys had) late
-  clear_earlier s owner stamp u (FoundClear.barred w other had never) = FoundClear.barred w other (had_earlier n _ w xs ys had) never
+  clear_earlier = clear_within n xs (ys ++ xs) (earlier_within n xs ys)
 
   pub clear_later : (s owner stamp u : ℕ) → FoundClear n s owner stamp ys u → FoundClear n s owner stamp (ys ++ xs) u
-  clear_later s owner stamp u (FoundClear.idle w had is) = FoundClear.idle w (had_later n _ w xs ys had) is
-  clear_later s owner stamp u (FoundClear.flushed w had late) = FoundClear.flushed w (had_later n _ w xs ys had) late
-  clear_later s owner stamp u (FoundClear.own w before is had late) = FoundClear.own w before is (act_later n _ _ before xs ys had) late
-  clear_later s owner stamp u (FoundClear.barred w other had never) = FoundClear.barred w other (had_later n _ w xs ys had) never
+  clear_later = clear_within n ys (ys ++ xs) (later_within n xs ys)
 
   pub asked_earlier : (stamp u : ℕ) → WasAsked n stamp xs u → WasAsked n stamp (ys ++ xs) u
-  asked_earlier stamp u a = record { before = a.before; asked = act_earlier n _ _ a.before xs ys a.asked }
-
-  pub asked_later : (stamp u : ℕ) → WasAsked n stamp ys u → WasAsked n stamp (ys ++ xs) u
-  asked_later stamp u a = record { before = a.before; asked = act_later n _ _ a.before xs ys a.asked }
+  asked_earlier = asked_within n xs (ys ++ xs) (earlier_within n xs ys)
 
   pub behind_earlier : (s stamp u found : ℕ) → IsBehind n s stamp xs u found → IsBehind n s stamp (ys ++ xs) u found
-  behind_earlier s stamp u found b =
-      record {
-        other = b.other;
-        running = had_earlier n _ _ xs ys b.running;
-        flushed = had_earlier n _ _ xs ys b.flushed;
-        behind = b.behind;
-        asked = asked_earlier stamp u b.asked;
-      }
+  behind_earlier = behind_within n xs (ys ++ xs) (earlier_within n xs ys)
 
   pub behind_later : (s stamp u found : ℕ) → IsBehind n s stamp ys u found → IsBehind n s stamp (ys ++ xs) u found
-  behind_later s stamp u found b =
-      record {
-        other = b.other;
-        running = had_later n _ _ xs ys b.running;
-        flushed = had_later n _ _ xs ys b.flushed;
-        behind = b.behind;
-        asked = asked_later stamp u b.asked;
-      }
+  behind_later = behind_within n ys (ys ++ xs) (later_within n xs ys)
 
   at_later : (s stamp : ℕ) → AtLastClock n s stamp ys → AtLastClock n s stamp (ys ++ xs)
-  at_later s stamp a =
-      record {
-        flushed = a.flushed;
-        behind = a.behind;
-        had_flushed = had_later n _ _ xs ys a.had_flushed;
-        had_clock = had_later n _ _ xs ys a.had_clock;
-      }
+  at_later = clock_within n ys (ys ++ xs) (later_within n xs ys)
 
   pub last_later : (s stamp : ℕ) (r : Refusal) → IsLastClock n s stamp ys r → IsLastClock n s stamp (ys ++ xs) r
   last_later s stamp (refusals.Clock found) a = (a.0, at_later s stamp a.1)

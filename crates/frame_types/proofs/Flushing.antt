@@ -15,12 +15,12 @@ use Rattle.frame_words.specs.Flushing.{Flushed, flushed_to, FlushesOwn, FindsLas
 use Rattle.frame_words.specs.Hands.{SameHand}
 use Rattle.frame_words.specs.Pieces.{Makes, HadAct, Serves}
 use Rattle.frame_words.proofs.Noting.{makes_since}
-use Rattle.frame_words.proofs.Piecing.{made_of, makes_had, makes_act, makes_serves}
+use Rattle.frame_words.proofs.Piecing.{made_of, makes_had, makes_act, makes_serves, act_later}
 use Rattle.frame_types.specs.declared.waiting.Awaited.{Awaited}
 use Rattle.frame_types.specs.Clearing.{PastOn, IsLastClock, Looks}
 use Rattle.frame_types.specs.Waiting.{FoundClear, IsMarked}
 use Rattle.frame_types.proofs.Asking.{vcpu_look, marked_next}
-use Rattle.frame_types.proofs.Chaining.{act_later, both_serve, looks_after}
+use Rattle.frame_types.proofs.Chaining.{both_serve, looks_after}
 use Rattle.frame_types.proofs.Growing.{makes_longer, same_rest, same_more, flushed_rest}
 use Rattle.frame_types.proofs.Looking.{later, or_second, stamp_is}
 use Rattle.frame_types.proofs.Marked.{work_past, stamp_low}

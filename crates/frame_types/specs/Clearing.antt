@@ -24,7 +24,7 @@ abbrev pub PastOn : Machine → ℕ → ℕ → Holdings → Type 0
 PastOn n f u h =
     (e : Work) → work_on f h.works ≡ Some e → IsTrue (is_past (sizes_of n) e.since (kind_fields e.word).number u h.steps) ⊎ PassedOver n e.since e.frame u h
 
--- the port went from v to w by steps that change no words but those of flushes, and show this
+-- the port went from v to w by steps that no guest sees, of frame f and of flushes alone, and they show this
 pub record Ran (v w : PortValue) (f : ℕ) (Shown : List Made → Type 0) : Type 0 where
   pub made : List Made
   pub piece : Serves v w f [] made

@@ -9,7 +9,7 @@ use Rattle.xp_words.specs.declared.reply.Pause.TheVariants as pauses
 use Rattle.xp_board.specs.declared.holdings.Made.{Made}
 use Rattle.frame_words.specs.References.{FoundOpen}
 use Rattle.frame_types.specs.Writable.{FoundStamp, FoundOther, Cause}
-use Rattle.frame_types.proofs.WaitCauses.{Within, waits_within, clock_within}
+use Rattle.frame_types.proofs.Among.{Within, waits_within, clock_within}
 
 module _ (n : Machine) (s : ℕ) (xs ys : List Made) (among : Within n xs ys) where
   pub open_within : (f d : ℕ) → FoundOpen n f d xs → FoundOpen n f d ys
@@ -36,9 +36,9 @@ module _ (n : Machine) (s : ℕ) (xs ys : List Made) (among : Within n xs ys) wh
   -- why the frame was not taken as writable
   pub cause_within : (f owner : ℕ) (e : Stop) → Cause n s f owner xs e → Cause n s f owner ys e
   cause_within f owner (Refused (refusals.OtherType g want found)) a = (a.0, a.1, among.had (Kind f) found a.2, a.3)
-  cause_within f owner (Refused (refusals.Clock found)) a = (a.0, (a.1.0, stamp_within f a.1.0 a.1.1, clock_within n s owner a.1.0 xs ys among a.1.2))
+  cause_within f owner (Refused (refusals.Clock found)) a = (a.0, (a.1.0, stamp_within f a.1.0 a.1.1, clock_within n xs ys among s a.1.0 a.1.2))
   cause_within f owner (Refused r) a = absurd a
   cause_within f owner (Paused (pauses.Lost place expected found)) a = (a.0, other_within f expected found a.1)
   cause_within f owner (Paused (pauses.Busy g found)) a = (a.0, among.had (Kind f) found a.1, a.2)
-  cause_within f owner (Paused (pauses.Flush v stamp found)) a = (stamp_within f stamp a.0, waits_within n s owner stamp xs ys among v found a.1)
+  cause_within f owner (Paused (pauses.Flush v stamp found)) a = (stamp_within f stamp a.0, waits_within n xs ys among s owner stamp v found a.1)
   cause_within f owner (Paused p) a = absurd a

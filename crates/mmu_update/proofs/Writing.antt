@@ -12,7 +12,7 @@ use Rattle.frame_words.specs.References.{Gets, FoundOpen}
 use Rattle.frame_words.proofs.Piecing.{serves_more, flushes_more, made_of, makes_serves, makes_calm, this_frame}
 use Rattle.frame_types.specs.Writable.{Takes, Drops, Shows}
 use Rattle.frame_types.specs.Writable as writable
-use Rattle.frame_types.proofs.WaitCauses.{Within, earlier_within, later_within, within_more}
+use Rattle.frame_types.proofs.Among.{Within, earlier_within, later_within, within_more}
 use Rattle.mmu_update.specs.Writing.{WritesWord}
 use Rattle.mmu_update.proofs.Causes.{open_within, cause_within}
 use Rattle.mmu_update.proofs.Hands.{given_up, given_back}
