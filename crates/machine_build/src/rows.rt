@@ -29,6 +29,7 @@ fn pages_of_domain(owned: &[Own], domain: u16) -> u64
         .sum()
 }
 
+/// The pages and the privileges of each domain. Its life word stays 0: it lives.
 pub fn put_domains(trace: &Trace, words: &mut [u64])
     requires formed { IsWellFormed trace.now }
     requires count { length words.old ≡ size (sizes_of trace.now.layout) }
@@ -44,6 +45,8 @@ pub fn put_domains(trace: &Trace, words: &mut [u64])
     }
 }
 
+/// Each vCPU opens flushed to the opening clock, as it has no translations. Its other words stay 0: it runs, and no
+/// word names a frame.
 pub fn put_vcpus(layout: &Layout, clock: u64, words: &mut [u64])
     requires count { length words.old ≡ size (sizes_of layout.now) }
     ensures { (p : Place) → memory (sizes_of layout.now) words.new p ≡ with_vcpus (length layout.now.vcpu_domain) clock (memory (sizes_of layout.now) words.old) p }
@@ -53,6 +56,7 @@ pub fn put_vcpus(layout: &Layout, clock: u64, words: &mut [u64])
     }
 }
 
+/// No frame has a machine-to-physical number at the opening.
 pub fn put_m2p(layout: &Layout, words: &mut [u64])
     requires count { length words.old ≡ size (sizes_of layout.now) }
     ensures { (p : Place) → memory (sizes_of layout.now) words.new p ≡ with_m2p layout.now.frames (memory (sizes_of layout.now) words.old) p }

@@ -68,7 +68,7 @@ fn small_trace(alloc: Global) -> Result<Trace, AllocError>
 }
 
 #[test]
-fn opens_a_small_machine(rt: HostRuntime) -> Result<(), Fail> {
+fn a_small_machine_opens_with_the_words_of_its_trace(rt: HostRuntime) -> Result<(), Fail> {
     let trace = small_trace(rt.alloc())?;
     let words = opening(rt.alloc(), &trace)?;
     assert_eq!(rt; words.len(), 33522);

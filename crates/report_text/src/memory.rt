@@ -24,6 +24,7 @@ impl<'a> Model for Memory<'a> {
 
 #[tactic(auto, unfolding(crate::specs::Memories::word, xp_words::specs::Places::memory, xp_words::specs::Places::is_place, xp_words::specs::Places::size, xp_words::specs::Places::number))]
 impl<'a> Memory<'a> {
+    /// Both are borrowed: nothing is copied.
     pub fn new(layout: &'a Layout, words: &'a [u64]) -> Memory<'a>
         requires { length words.now ≡ size (sizes_of layout.now) }
         ensures { result ≡ record { machine = layout.now; words = words.now } }
@@ -31,6 +32,7 @@ impl<'a> Memory<'a> {
         Memory { layout, words }
     }
 
+    /// The machine, for as long as it was lent.
     pub fn layout(&self) -> &'a Layout
         ensures { result.now ≡ self.now.machine }
     {

@@ -245,7 +245,7 @@ fn put_frame_words(layout: &Layout, words: &mut [u64])
 }
 
 #[test]
-fn prints_each_form(rt: HostRuntime) -> Result<(), Fail> {
+fn prints_each_refusal_and_each_form_of_a_frame(rt: HostRuntime) -> Result<(), Fail> {
     let alloc = rt.alloc();
     let layout = machine(12);
     let mut words = blank(alloc, layout.words() as usize)?;

@@ -1,4 +1,5 @@
-//! The machine stays sound: each legal step keeps all that Sound says, so each run does, and what it leads to is safe. These functions do nothing: their contracts are laws.
+//! The machine stays sound: each legal step keeps all that `Sound` says, so each run does, and what it leads to is
+//! safe. These functions do nothing: their contracts are laws.
 #![tactic(auto)]
 
 ghost use Rattle.std.specs.Prelude.{◌≡◌, ℕ, ◌<◌, List, [], None};
@@ -48,8 +49,8 @@ pub fn every_run_stays_sound()
     a_legal_step_keeps_the_machine_sound();
 }
 
-/// After each such run no guest writes a page table or descriptor page, or comes to a frame that its domain is not permitted, and
-/// the counts are right.
+/// After each such run no page-table path and no cached translation writes a page table or descriptor page in use, or leads to a
+/// frame that its domain is not permitted, and the counts are right.
 pub fn a_run_leaves_it_safe()
     ensures { (n : Machine) (a b : State) (log : List (ℕ × Step)) → Run n a log b → SoundState n a.words a.seats →
         Safe n (memory (sizes_of n) b.words) (seat_of b.seats) }

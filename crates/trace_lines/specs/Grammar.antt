@@ -209,7 +209,7 @@ ptwr_of ws = do
   e ← end_at val.1
   Ok (ops.Ptwr user.0 va.0 val.0)
 
--- xchg FIRST IN OUT and items
+-- xchg FIRST FROM TO and items
 unfoldable pub xchg_of : List (List ℕ) → Result Op LineFault
 xchg_of ws = do
   first ← number_at ws

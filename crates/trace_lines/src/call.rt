@@ -19,6 +19,7 @@ pub enum Hypercall {
     Mem,
 }
 
+/// The hypercall by its word in a trace. The other operations of a script have words of their own.
 #[tactic(auto, unfolding(crate::specs::Grammar::hypercall_of))]
 pub fn read_hypercall(name: &[u8]) -> Option<Hypercall>
     ensures { result ≡ hypercall_of name.now }
@@ -47,7 +48,7 @@ pub fn read_hypercall(name: &[u8]) -> Option<Hypercall>
     None
 }
 
-// All the words that are left, as numbers.
+/// All the words that are left, as numbers; each is one.
 pub fn read_numbers(alloc: Global, words: &mut Words<'_>) -> Result<Vec<u64>, LineError>
     ensures { Gives (λ v. v.items) result (numbers_of words.old) }
 {

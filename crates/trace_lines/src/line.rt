@@ -7,12 +7,15 @@ pub enum Line {
     Header {
         version: u8,
     },
+    /// The machine has so many frames.
     Frames {
         count: u64,
     },
+    /// The greatest count of a frame's references and types.
     Limit {
         count: u64,
     },
+    /// The clock at the opening.
     Clock {
         start: u64,
     },
@@ -42,13 +45,16 @@ pub enum Line {
         count: u64,
         value: u64,
     },
+    /// The next operation of a vCPU's script.
     Op {
         vcpu: u64,
         op: Op,
     },
+    /// The next turns, of one vCPU.
     Turn {
         vcpu: u64,
         count: u64,
     },
+    /// The last line.
     End,
 }

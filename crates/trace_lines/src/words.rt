@@ -88,6 +88,7 @@ impl<'a> Words<'a> {
         self.rest.is_empty()
     }
 
+    /// The next word; it is then read. Where none is left the line has no form.
     #[tactic(auto, unfolding(crate::specs::Words::word_at))]
     pub fn word(&mut self) -> Result<&'a [u8], LineError>
         ensures { Gives (λ w. (w.now, self.new)) result (word_at self.old) }
@@ -102,6 +103,7 @@ impl<'a> Words<'a> {
         }
     }
 
+    /// The next word, which has to spell a number.
     #[tactic(auto, unfolding(crate::specs::Words::number_at))]
     pub fn number(&mut self) -> Result<u64, LineError>
         ensures { Gives (λ n. (n, self.new)) result (number_at self.old) }
@@ -113,6 +115,7 @@ impl<'a> Words<'a> {
         }
     }
 
+    /// A form ends here: words that are left would be too many.
     #[tactic(auto, unfolding(crate::specs::Words::end_at))]
     pub fn finish(&self) -> Result<(), LineError>
         ensures { Gives (λ u. u) result (end_at self.now) }

@@ -133,7 +133,7 @@ fn spelled(alloc: Global, text: &str) -> Result<String, AllocError> {
 }
 
 #[test]
-fn first_faults(rt: HostRuntime) -> Result<(), Fail> {
+fn each_text_is_answered_by_its_first_fault(rt: HostRuntime) -> Result<(), Fail> {
     for row in CASES.lines() {
         let (want, text) = row.split_once(':').ok_or("a row has a colon")?;
         let text = spelled(rt.alloc(), text)?;
@@ -151,7 +151,7 @@ const LONG: &str = "19 domains 17:xen-pv-trace 1|frames 1|:domain 0|:16
 10 numbers 8193:~op 0 gdt 1: 2:8192";
 
 #[test]
-fn long_limits(rt: HostRuntime) -> Result<(), Fail> {
+fn one_more_than_a_limit_is_too_large(rt: HostRuntime) -> Result<(), Fail> {
     let alloc = rt.alloc();
     for row in LONG.lines() {
         let (want, rest) = row.split_once(':').ok_or("a row has three colons")?;
@@ -229,7 +229,7 @@ end
 ";
 
 #[test]
-fn reads_and_writes_each_form(rt: HostRuntime) -> Result<(), Fail> {
+fn a_trace_with_each_form_is_read_and_written(rt: HostRuntime) -> Result<(), Fail> {
     let trace = read_trace(rt.alloc(), TRACE.as_bytes())?;
     assert_eq!(rt; trace.version, 2);
     assert_eq!(rt; trace.clock, 5);
@@ -254,7 +254,7 @@ fn reads_and_writes_each_form(rt: HostRuntime) -> Result<(), Fail> {
 }
 
 #[test]
-fn cut_after_each_line(rt: HostRuntime) -> Result<(), Fail> {
+fn a_text_cut_inside_a_line_ends_there(rt: HostRuntime) -> Result<(), Fail> {
     let mut text = String::new(rt.alloc());
     let mut line = 1u32;
     for next in HEAD.lines() {

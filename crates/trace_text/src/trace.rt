@@ -173,6 +173,7 @@ impl TurnList {
 pub struct Trace {
     /// 1, or 2, which allows more frames and more operations.
     pub version: u8,
+    /// The numbers that stay as they are for the whole run.
     pub layout: Layout,
     /// The clock's opening value, 1 to 2^36 - 2.
     pub clock: u64,
@@ -189,5 +190,6 @@ pub enum TraceFault {
     Bad { line: u32, cause: Cause },
     /// In that line a counted quantity passes its limit; line 0 stands for the bytes themselves.
     Large { line: u32, what: What, number: u64 },
+    /// Memory ran out, so nothing is said of the bytes.
     Memory,
 }

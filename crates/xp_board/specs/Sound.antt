@@ -21,14 +21,14 @@ use Rattle.xp_board.specs.Fresh.{Fresh}
 use Rattle.xp_board.specs.Found.{Found}
 use Rattle.xp_board.specs.WellFormed.{WellFormed}
 
--- ---- 1: spellings (and the counts)
+-- ---- spellings
 -- Each word is a spelling, and no word is above 64 bits. Places that the machine has not read as 0.
 pub record Spelled (n : Machine) (m : Place → ℕ) : Type 0 where
   pub small : (p : Place) → m p < 2 ^ 64
   pub outside : (p : Place) → is_place (sizes_of n) p ≡ false → m p ≡ 0
   pub spelled : (p : Place) → IsTrue (is_place (sizes_of n) p) → IsSpelling n p (m p)
 
--- ---- 4: who has a frame in its hand alone
+-- ---- who has a frame in its hand alone
 abbrev pub is_busy : KindWord → Bool
 is_busy k = is_work k || is_closing k
 
@@ -44,7 +44,7 @@ pub record WorkAgrees (u : Holdings) (e : Work) : Type 0 where
   pub marked : (kind_fields e.word).unflushed ≡ true → e.recorded ≡ 0
   pub closing : IsTrue (is_closing (kind_fields e.word)) → 0 < refs_to e.frame u.refs
 
--- ---- 5: stamps, and vCPUs that do not run
+-- ---- stamps, and vCPUs that do not run
 pub record Stamped (n : Machine) (m : Place → ℕ) : Type 0 where
   pub flushed : (v : ℕ) → m (Vcpu v 5) ≤ m Clock
   pub free : (f : ℕ) → free_stamp (m (Refs f)) ≤ m Clock
@@ -57,7 +57,7 @@ pub record Idle (n : Machine) (m : Place → ℕ) (h : ℕ → Holdings) (v : �
   pub cold_cache : (h v).cold ≡ true → (h v).cache ≡ []
   pub cold_walk : (h v).cold ≡ true → (h v).walk ≡ None
 
--- ---- 7: dead and dying domains
+-- ---- dead and dying domains
 -- a seat that has set `kept` on the frame for domain d, and has not yet looked whether d lives
 pub record IsLookedAt (n : Machine) (m : Place → ℕ) (h : ℕ → Holdings) (d f : ℕ) : Type 0 where
   pub seat : ℕ
@@ -99,7 +99,7 @@ pub record Domains (n : Machine) (m : Place → ℕ) (h : ℕ → Holdings) : Ty
   pub dead : (d : ℕ) → d < (sizes_of n).domains → m (Life d) ≡ 255 → DeadDomain n m h d
   pub dying : (d s : ℕ) → d < (sizes_of n).domains → s < (sizes_of n).vcpus → m (Life d) ≡ s + 1 → DyingDomain n m h d s
 
--- ---- 8: the free map
+-- ---- the map of free frames
 -- whether the bit of frame f is set
 abbrev pub is_hinted : (Place → ℕ) → ℕ → Bool
 is_hinted m f = is_bit (f % 64) (m (Map (f / 64)))
@@ -112,26 +112,24 @@ pub record FreeMap (n : Machine) (m : Place → ℕ) (h : ℕ → Holdings) : Ty
 -- ---- the whole
 pub record Sound (n : Machine) (m : Place → ℕ) (h : ℕ → Holdings) : Type 0 where
   pub machine : IsMachine n
-  -- 1
+  -- words, and the references that they count
   pub spelled : Spelled n m
   pub counts : CountsAgree (sizes_of n) m h
-  -- 2
+  -- what entries and words of vCPUs lead to
   pub valid : Valid (sizes_of n) m h
-  -- 3
   pub permitted : Permitted n m h
-  -- 4
+  -- hands
   pub alone : HeldAlone n m h
   pub works : (s : ℕ) → s < (sizes_of n).vcpus → EachOf (WorkAgrees (h s)) (h s).works
   pub found : (s : ℕ) → s < (sizes_of n).vcpus → Found n m h s
   pub formed : (s : ℕ) → s < (sizes_of n).vcpus → WellFormed n s (h s)
-  -- 5
+  -- flushes and translations
   pub stamped : Stamped n m
   pub idle : (v : ℕ) → v < (sizes_of n).vcpus → Idle n m h v
-  -- 6
   pub fresh : Fresh n m h
-  -- 7
+  -- domains
   pub domains : Domains n m h
-  -- 8
+  -- the map of free frames
   pub map : FreeMap n m h
 
 -- ---- words and lists of holdings

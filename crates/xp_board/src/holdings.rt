@@ -1,5 +1,5 @@
-//! What a seat holds, as contracts see it. No value of these types is made: only the cache is kept by the
-//! running program. Lists have the newest first. A number of steps says when: it is how many steps the seat
+//! What a seat holds, as contracts see it. No value of these types is made: a running program needs the cache
+//! alone, and none keeps it yet. Lists have the newest first. A number of steps says when: it is how many steps the seat
 //! had made by then.
 use crate::step::{Item, Step};
 use std::collections::LinkedList;
@@ -8,6 +8,7 @@ use xp_words::PageType;
 /// A step with the word that it found.
 pub struct Made {
     pub step: Step,
+    /// The word before the act. What the step left follows from it and from the act.
     pub found: u64,
 }
 

@@ -3,7 +3,8 @@ ghost use Rattle.std.specs.Prelude.{◌≡◌, ◌<◌, length};
 use crate::step::{Item, Step};
 use xp_words::Layout;
 
-/// One vCPU's access to the board. Each step is one event of the machine.
+/// One vCPU's access to the board. Each step is one event of the machine. Operations are written over this trait, so
+/// they hold on every board: one that tells all words to contracts, and one that several threads share.
 pub trait Port {
     ghost use Rattle.xp_words.specs.Machine.{IsMachine};
     ghost use Rattle.xp_words.specs.Places.{place_at, sizes_of};
@@ -13,6 +14,7 @@ pub trait Port {
     /// The port as contracts see it.
     ghost value: { Self → PortValue };
 
+    /// The fixed numbers of the board's machine.
     fn layout(&self) -> &Layout
         ensures layout { result.now ≡ (value self.now).post.machine }
         ensures machine { IsMachine result.now };

@@ -89,6 +89,7 @@ pub struct HonestSource {
 impl HonestSource {
     ghost use Rattle.xp_io.specs.Memory.{honest_left};
 
+    /// Reads take from the front, as much as they have room for.
     pub fn new(bytes: Vec<u8>) -> HonestSource
         ensures { honest_left result ≡ bytes.items }
     {
@@ -113,6 +114,7 @@ impl Source for HonestSource {
 pub struct HonestSink;
 
 impl HonestSink {
+    /// It keeps nothing, so it takes no memory.
     pub fn new() -> HonestSink {
         HonestSink
     }

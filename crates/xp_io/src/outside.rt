@@ -11,6 +11,7 @@ pub struct StdSource<R: Read + Drop> {
 }
 
 impl<R: Read + Drop> StdSource<R> {
+    /// What `from` has left is what the source has left. No fault is counted yet.
     pub fn new(from: R) -> StdSource<R> {
         StdSource { from, faults: 0 }
     }
@@ -40,6 +41,7 @@ pub struct StdSink<W: Write + Drop> {
 }
 
 impl<W: Write + Drop> StdSink<W> {
+    /// What `to` has taken, the sink has taken. No fault is counted yet.
     pub fn new(to: W) -> StdSink<W> {
         StdSink { to, faults: 0 }
     }

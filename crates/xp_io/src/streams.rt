@@ -7,7 +7,7 @@ ghost use Rattle.xp_io.specs.Causes.{HasCause};
 #[derive(Clone, Copy, Debug, PartialEq, Eq)]
 pub struct Failed;
 
-/// Where bytes come from.
+/// Where bytes come from, in an order of the source's own. After a fault a reader may go on where it was.
 pub trait Source {
     /// The bytes that reads will give, where they are told.
     ghost left: { Self → Option (List ℕ) };
@@ -23,12 +23,12 @@ pub trait Source {
         ensures cause { HasCause (faults self.old) (faults self.new) result };
 }
 
-/// Where bytes go.
+/// Where bytes go. After a fault a writer may go on where it was.
 pub trait Sink {
     /// The bytes that it took, where they are told.
     ghost taken: { Self → Option (List ℕ) };
 
-    /// How often it failed.
+    /// How often it failed; it stands still at 2^64 - 1.
     ghost faults: { Self → ℕ };
 
     /// Appends a front of `bytes`, of at least one byte, and says how long it is.

@@ -15,6 +15,7 @@ pub enum ReadAllError {
     Failed,
     /// More bytes were taken than are allowed.
     Large,
+    /// There was no memory for the bytes. What was taken from the source is lost.
     Memory,
 }
 

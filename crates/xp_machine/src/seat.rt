@@ -16,6 +16,7 @@ pub struct Seat {
 }
 
 impl Seat {
+    /// A vCPU that makes turns yet, with the gate that is its own from now on.
     pub fn new(cpu: Cpu, gate: Box<dyn Preempt + Send>) -> Seat
         requires { cpu.retired ≡ false }
         ensures cpu { result.cpu ≡ cpu }
@@ -56,6 +57,7 @@ impl Seat {
         self.gate = None;
     }
 
+    /// The vCPU alone. A gate that it still has is let go.
     pub fn into_cpu(self) -> Cpu
         ensures { result ≡ self.cpu }
     {

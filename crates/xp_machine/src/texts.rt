@@ -43,7 +43,7 @@ impl fmt::Display for WhatText {
     }
 }
 
-// What is written for a line at fault.
+/// What is written for a line at fault; lines count from 1.
 #[tactic(auto, unfolding(crate::specs::Texts::fault_text))]
 pub fn bad_text(alloc: Global, line: u32, cause: Cause) -> Result<Vec<u8>, AllocError>
     ensures { IfOk result (λ v. v.items ≡ fault_text line (Bad cause)) }
@@ -53,7 +53,7 @@ pub fn bad_text(alloc: Global, line: u32, cause: Cause) -> Result<Vec<u8>, Alloc
     Ok(text.into_bytes())
 }
 
-// What is written for a quantity that passes its limit.
+/// What is written for a quantity that passes its limit; line 0 stands for the bytes themselves.
 #[tactic(auto, unfolding(crate::specs::Texts::fault_text))]
 pub fn large_text(alloc: Global, line: u32, what: What, number: u64) -> Result<Vec<u8>, AllocError>
     ensures { IfOk result (λ v. v.items ≡ fault_text line (Passed what number)) }

@@ -15,7 +15,7 @@ use trace_text::{MAX_BYTES, TraceFault, read_trace};
 use xp_io::{ReadAllError, Sink, Source, read_all, write_whole};
 use xp_preempt::Preempt;
 
-/// A status, and the text that is due with it.
+// A status, and the text that is due with it.
 #[derive(Drop)]
 struct Due {
     status: Status,
@@ -70,7 +70,7 @@ fn too_long(alloc: Global) -> Result<Due, AllocError>
     })
 }
 
-/// Why nothing is to be written.
+// Why nothing is to be written.
 enum Early {
     Failed,
     Memory,

@@ -35,7 +35,7 @@ fn a_listed_gate_says_yes_where_its_list_says_so(rt: HostRuntime) {
 }
 
 #[test]
-fn a_gate_that_never_says_yes(rt: HostRuntime) {
+fn a_third_gate_says_no_whatever_its_pace(rt: HostRuntime) {
     let mut gate = Never;
     gate.pace(1);
     assert!(rt; asked(&mut gate, 4) == 0);

@@ -6,9 +6,11 @@ use Rattle.xp_words.specs.declared.entry.Demand.{Demand}
 use Rattle.xp_words.specs.declared.entry.Demand.TheVariants.{Nothing, Bad, Read, Typed}
 use Rattle.xp_words.specs.PageTypes.{type_number}
 
+-- whether bit i of the word is set
 abbrev pub is_bit : ℕ → ℕ → Bool
 is_bit i w = w / 2 ^ i % 2 == 1
 
+-- the frame that an entry names, whether the machine has it or not
 abbrev pub frame_of : ℕ → ℕ
 frame_of w = w / 2 ^ 12 % 2 ^ 40
 
@@ -48,8 +50,8 @@ demand_at kind i w = if is_slot kind i then Nothing else demand_of kind w
 abbrev pub with_level_3 : ℕ → ℕ
 with_level_3 w = w + (3 - w / 2 ^ 45 % 4) * 2 ^ 45
 
--- The descriptor that takes the place of a word, by this profile: one that is not present stands as it is,
--- a segment of code or data gets privilege level 3, a null type stands, and all others are refused.
+-- The descriptor that takes the place of a word: one that is not present stands as it is, a segment of code or
+-- data gets privilege level 3, a null type stands, and all others are refused.
 unfoldable pub fixed : ℕ → Option ℕ
 fixed w =
     if not (is_bit 47 w) then Some w

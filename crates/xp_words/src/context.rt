@@ -1,7 +1,8 @@
 ghost use Rattle.std.specs.Prelude.{◌≡◌, IfSome};
 ghost use Rattle.xp_words.specs.ContextWords.{context_read, context_write, IsContext, ldt_read, ldt_write, IsLdtBase};
 
-/// A word of a vCPU that holds a typed reference: `base`, `user`, `old0`, `old1`, a GDT or an LDT word.
+/// A word of a vCPU that holds a typed reference: `base`, `user`, `old0`, `old1`, a GDT or an LDT word. None holds
+/// nothing, and its word is 0.
 #[derive(Clone, Copy, Debug, PartialEq, Eq)]
 pub struct ContextWord {
     pub frame: Option<u32>,
@@ -25,6 +26,7 @@ impl ContextWord {
         None
     }
 
+    /// The word to be stored. Whether the machine has the frame is not looked at here.
     #[tactic(auto, unfolding(crate::specs::ContextWords::context_write, crate::specs::ContextWords::IsContext))]
     pub fn write(&self) -> u64
         requires { IsContext self.now }
@@ -63,6 +65,7 @@ impl LdtBase {
         }
     }
 
+    /// The word to be stored: `entries` in bits 0 to 13, `page` from bit 14 on.
     #[tactic(auto, unfolding(crate::specs::ContextWords::ldt_write))]
     pub fn write(&self) -> u64
         requires { IsLdtBase self.now }

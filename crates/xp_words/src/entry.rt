@@ -6,6 +6,7 @@ use crate::kind::PageType;
 /// What an entry asks of the frame that it names.
 #[derive(Clone, Copy, Debug, PartialEq, Eq)]
 pub enum Demand {
+    /// It is not present.
     Nothing,
     /// A present entry with a reserved bit set.
     Bad,
@@ -22,12 +23,14 @@ pub struct Entry {
 }
 
 impl Entry {
+    /// `_PAGE_PRESENT` of Xen's `page.h`, bit 0. An entry without it asks nothing, whatever its other bits are.
     pub fn present(&self) -> bool
         ensures { result ≡ is_bit 0 self.now.word }
     {
         self.word & 1 == 1
     }
 
+    /// `_PAGE_RW` of Xen's `page.h`, bit 1. It says something in a present entry alone.
     pub fn writable(&self) -> bool
         ensures { result ≡ is_bit 1 self.now.word }
     {

@@ -5,23 +5,29 @@ ghost use Rattle.xp_words.specs.PageTypes.{is_none, is_table, type_number};
 /// The type of a frame (`PGT_` of Xen's `mm.h`). A frame has one exclusive type at a time.
 #[derive(Clone, Copy, Debug, PartialEq, Eq)]
 pub enum PageType {
+    /// No type was taken yet.
     None,
+    /// A page table of level 1, whose entries map pages.
     L1,
     L2,
     L3,
+    /// A page table of level 4, to which a base of a vCPU leads.
     L4,
+    /// A page of descriptors, for a GDT or an LDT.
     Desc,
+    /// Ordinary memory, which the guest may map writable.
     Writable,
 }
 
 impl PageType {
+    /// A frame of this type was never taken for one, so nothing waits for flushes before it is.
     pub fn is_none(self) -> bool
         ensures { result ≡ is_none self }
     {
         matches!(self, PageType::None)
     }
 
-    /// L1 to L4.
+    /// L1 to L4: a frame whose entries hold references.
     pub fn is_table(self) -> bool
         ensures { result ≡ is_table self }
     {
@@ -31,7 +37,7 @@ impl PageType {
         )
     }
 
-    /// The number that a kind word has for it.
+    /// The number that a kind word has for it, in bits 52 to 54. A page table has its level.
     pub fn number(self) -> u64
         ensures { result ≡ type_number self }
     {
@@ -52,17 +58,26 @@ impl PageType {
 #[derive(Clone, Copy, Debug, PartialEq, Eq)]
 pub struct KindWord {
     pub kind: PageType,
+    /// The guest holds a type count by `MMUEXT_PIN_L1_TABLE` or one of the other three.
     pub pinned: bool,
+    /// Live: the frame may be used with its type.
     pub validated: bool,
+    /// Validation or release was interrupted.
     pub partial: bool,
+    /// In work, or a live table under the entry lock of one vCPU.
     pub locked: bool,
+    /// The type count of a partial frame is the mark's own, and no entry's.
     pub kept: bool,
+    /// The change of type still waits for flushes.
     pub unflushed: bool,
+    /// How many leading entries of a partial table hold references, at most 512.
     pub progress: u16,
+    /// A type count is below 2^26, a stamp below 2^36.
     pub number: u64,
 }
 
 impl KindWord {
+    /// The word to be stored. Whether the count is within the machine's limit is not looked at here.
     #[tactic(auto, unfolding(crate::specs::KindWords::kind_write), using(std::proofs::lemmas::Bool::Decides::nat_tests))]
     pub fn write(&self) -> u64
         requires { IsTrue (is_kind self.now) }

@@ -20,6 +20,7 @@ impl Model for Limits {
 }
 
 impl Limits {
+    /// One item for each domain, in their order.
     pub fn new(items: ArrayVec<u32, 16>) -> Limits
         ensures { result ≡ items.items }
     {
@@ -60,6 +61,7 @@ impl Model for Masks {
 }
 
 impl Masks {
+    /// One item for each domain, in their order.
     pub fn new(items: ArrayVec<u16, 16>) -> Masks
         ensures { result ≡ items.items }
     {
@@ -85,7 +87,7 @@ impl Masks {
     }
 }
 
-/// The domain of each vCPU.
+/// The domain of each vCPU, below the number of domains.
 #[derive(Drop)]
 pub struct Domains {
     items: ArrayVec<u16, 16>,
@@ -100,6 +102,7 @@ impl Model for Domains {
 }
 
 impl Domains {
+    /// One item for each vCPU, in their order.
     pub fn new(items: ArrayVec<u16, 16>) -> Domains
         ensures { result ≡ items.items }
     {
@@ -130,6 +133,7 @@ impl Domains {
 #[derive(Drop)]
 pub struct Layout {
     pub frames: u32,
+    /// The greatest reference count, and the greatest type count, of a frame.
     pub limit: u32,
     pub page_limit: Limits,
     pub privilege: Masks,
@@ -176,7 +180,7 @@ impl Layout {
         }
     }
 
-    /// The number of pages that the domain has.
+    /// The number of pages that the domain has: frames that it owns, and pages that a vCPU has counted for it ahead.
     #[tactic(auto, unfolding(crate::specs::Places::number))]
     pub fn pages_place(&self, domain: u16) -> u32
         requires { domain < length self.now.page_limit }
@@ -185,7 +189,7 @@ impl Layout {
         1 + 2 * u32::from(domain)
     }
 
-    /// 0 live, 1 to 16 dying (one more than the vCPU that destroys it), 255 dead.
+    /// The life word: 0 live, 1 to 16 dying (one more than the vCPU that destroys it), 255 dead.
     #[tactic(auto, unfolding(crate::specs::Places::number))]
     pub fn life_place(&self, domain: u16) -> u32
         requires { domain < length self.now.page_limit }
@@ -254,6 +258,7 @@ impl Layout {
     pub fn map_words(&self) -> u32
         ensures { result ≡ map_words (sizes_of self.now) }
     {
+        // So the prover knows that there are few frames.
         let _limit = self.domains();
         (self.frames + 63) / 64
     }
@@ -267,7 +272,8 @@ impl Layout {
         1 + 2 * self.domains() + 38 * self.vcpus() + 515 * self.frames + word
     }
 
-    /// Bits 0 to 15: over which domains this one has privilege now; bits 16 to 31: over which it ever had.
+    /// The privilege word. Bits 0 to 15: over which domains this one has privilege now; bits 16 to 31: over which it
+    /// ever had.
     #[tactic(auto, unfolding(crate::specs::Places::number))]
     pub fn priv_place(&self, domain: u16) -> u32
         requires { domain < length self.now.page_limit }

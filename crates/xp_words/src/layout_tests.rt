@@ -27,7 +27,7 @@ fn small() -> Layout
 }
 
 #[test]
-fn places_words(rt: HostRuntime) {
+fn words_of_a_small_machine_stand_in_their_places(rt: HostRuntime) {
     let layout = small().copy();
     assert_eq!(rt; layout.pages_place(1), 3);
     assert_eq!(rt; layout.life_place(1), 4);

@@ -5,7 +5,7 @@ use crate::{
 use std::test::Fail;
 
 #[test]
-fn lists_of_operations(rt: HostRuntime) -> Result<(), Fail> {
+fn lists_of_operations_take_what_is_pushed(rt: HostRuntime) -> Result<(), Fail> {
     let mut calls = CallList::new(vec![in rt.alloc()]?);
     assert!(rt; calls.is_empty());
     let mut pairs = Pairs::new(vec![in rt.alloc()]?);
@@ -29,7 +29,7 @@ fn lists_of_operations(rt: HostRuntime) -> Result<(), Fail> {
 }
 
 #[test]
-fn lists_of_numbers_and_lines(rt: HostRuntime) -> Result<(), Fail> {
+fn lists_of_numbers_and_log_lines_take_what_is_pushed(rt: HostRuntime) -> Result<(), Fail> {
     let mut frames = Numbers::new(vec![in rt.alloc()]?);
     frames.push(7)?;
     frames.push(9)?;

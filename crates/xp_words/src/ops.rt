@@ -293,6 +293,7 @@ impl CallList {
 /// One operation of a vCPU's script: a hypercall, an access of the guest, or a tool's command.
 #[derive(Drop)]
 pub enum Op {
+    /// A hypercall by itself.
     One {
         call: Call,
     },
@@ -315,6 +316,7 @@ pub enum Op {
     TouchLdt {
         page: u64,
     },
+    /// A tool's command: the domain is to be destroyed, by whatever vCPU has it in its script.
     Destroy {
         domain: u64,
     },

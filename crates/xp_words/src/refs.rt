@@ -4,6 +4,8 @@ ghost use Rattle.xp_words.specs.RefWords.{ref_read, ref_write, IsRef};
 /// The first word of a frame: who owns it, and how many references there are to it.
 #[derive(Clone, Copy, Debug, PartialEq, Eq)]
 pub enum RefWord {
+    /// Nobody's. `stamp` is the clock value with which it became free: who takes it next waits until each vCPU was
+    /// flushed later.
     Free {
         stamp: u64,
     },
@@ -48,6 +50,8 @@ impl RefWord {
         }
     }
 
+    /// The word to be stored. Whether the machine has the owner, and the count is within its limit, is not looked at
+    /// here.
     #[tactic(auto, unfolding(crate::specs::RefWords::ref_write, crate::specs::RefWords::IsRef))]
     pub fn write(&self) -> u64
         requires { IsRef self.now }

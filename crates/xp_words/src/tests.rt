@@ -3,7 +3,7 @@ use crate::{ContextWord, Demand, Entry, KindWord, LdtBase, PageType, RefWord, fi
 
 #[test]
 #[tactic(auto, unfolding(crate::specs::RefWords::IsRef))]
-fn spells_references(rt: HostRuntime) {
+fn references_are_spelled_and_read(rt: HostRuntime) {
     let one = RefWord::Owned {
         owner: 0,
         allocated: true,
@@ -22,7 +22,7 @@ fn spells_references(rt: HostRuntime) {
 
 #[test]
 #[tactic(auto, unfolding(crate::specs::KindWords::has_form))]
-fn spells_kinds(rt: HostRuntime) {
+fn kinds_are_spelled_and_read(rt: HostRuntime) {
     let pinned = KindWord {
         kind: PageType::L1,
         pinned: true,
@@ -51,7 +51,7 @@ fn spells_kinds(rt: HostRuntime) {
 
 #[test]
 #[tactic(auto, unfolding(crate::specs::ContextWords::IsContext))]
-fn spells_words_of_processors(rt: HostRuntime) {
+fn bases_of_vcpus_are_spelled_and_read(rt: HostRuntime) {
     assert_eq!(rt; ContextWord { frame: Some(0) }.write(), 1);
     assert_eq!(rt; ContextWord::read(0), Some(ContextWord { frame: None }));
     let base = LdtBase {
@@ -63,7 +63,7 @@ fn spells_words_of_processors(rt: HostRuntime) {
 }
 
 #[test]
-fn asks_what_entries_say(rt: HostRuntime) {
+fn entries_ask_what_their_bits_say(rt: HostRuntime) {
     let entry = Entry { word: 0x40003 };
     assert!(rt; entry.present());
     assert!(rt; entry.writable());
@@ -83,7 +83,7 @@ fn asks_what_entries_say(rt: HostRuntime) {
 }
 
 #[test]
-fn fixes_descriptors(rt: HostRuntime) {
+fn a_code_segment_gets_level_3_and_a_task_segment_is_refused(rt: HostRuntime) {
     assert_eq!(rt; fix(0x00af9a000000ffff), Some(0x00affa000000ffff));
     assert_eq!(rt; fix(0x0000890000000000), None);
 }
