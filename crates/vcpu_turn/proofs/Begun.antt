@@ -140,7 +140,7 @@ module _ (v a b : PortValue) (x y : ℕ) (asked : Makes v a (Vcpu v.post.seat 4)
       record {
         made = second ∷ first ∷ [];
         went = all.went;
-        begins = record { first = all.first; own = all.own; asked = inl (is_look second looked.act, (is_look first asked.act, tt)); answers = inl not_asked };
+        heeds = record { first = all.first; own = all.own; asked = inl (is_look second looked.act, (is_look first asked.act, tt)); answers = inl not_asked };
         hand = ack_hand v.holdings a.holdings b.holdings begun same;
         run_told = all.run_told;
       }
@@ -153,7 +153,7 @@ module _ (v a b : PortValue) (x y : ℕ) (asked : Makes v a (Vcpu v.post.seat 4)
       record {
         made = made_now m.step last_clock ∷ (second ∷ first ∷ []);
         went = all.went;
-        begins = record { first = all.first; own = all.own; asked = inl (is_look (made_now m.step last_clock) m.act, (is_look second looked.act, (is_look first asked.act, tt))); answers = inr (inr (inl (place_from v b Clock (made_now m.step last_clock) (after ∙ later) m.place, refl))) };
+        heeds = record { first = all.first; own = all.own; asked = inl (is_look (made_now m.step last_clock) m.act, (is_look second looked.act, (is_look first asked.act, tt))); answers = inr (inr (inl (place_from v b Clock (made_now m.step last_clock) (after ∙ later) m.place, refl))) };
         hand = ack_hand v.holdings a.holdings w.holdings begun (same_after a.holdings b.holdings w.holdings same stays);
         run_told = all.run_told;
       }
@@ -173,7 +173,7 @@ module _ (v a b : PortValue) (x y : ℕ) (asked : Makes v a (Vcpu v.post.seat 4)
       record {
         made = made_now ack.step f.before ∷ (made_now f.tick.step f.found ∷ (made_now f.look.step f.clock ∷ (second ∷ first ∷ [])));
         went = all.went;
-        begins = record {
+        heeds = record {
           first = all.first;
           own = all.own;
           asked = inr (record {

@@ -1,18 +1,19 @@
 -- A vCPU that rests begins a turn and finds itself running.
-use Rattle.std.proofs.Common.{◌≡◌, ◌⊎◌, ℕ, ◌||◌, Bool, true, false, List, [], ◌∷◌, Some, None, IsTrue, refl, sym, ap, ◌∙◌, inl, inr}
+use Rattle.std.proofs.Common.{◌≡◌, ◌⊎◌, ℕ, ◌||◌, Bool, true, false, List, [], ◌∷◌, Some, None, IsTrue, refl, sym, ap, ◌∙◌, subst, inl, inr}
 use Rattle.xp_words.specs.Machine.{Machine}
 use Rattle.xp_words.specs.Places.{Vcpu}
 use Rattle.xp_board.specs.declared.step.Act.TheVariants.{Load}
 use Rattle.xp_board.specs.declared.holdings.Made.{Made}
 use Rattle.xp_board.specs.declared.holdings.Holdings.{Holdings}
 use Rattle.xp_board.specs.Lists.{EachOf}
+use Rattle.xp_board.specs.Runs.{place_of}
 use Rattle.xp_board.specs.Told.{Post, PortValue, Finds, is_telling, told_word}
 use Rattle.xp_board.proofs.Going.{went_more, went_telling}
 use Rattle.frame_words.specs.Hands.{SameRest, FoundRun, SameOrFlushed}
 use Rattle.frame_words.specs.Pieces.{Makes, is_load}
 use Rattle.frame_words.proofs.Noting.{made_now}
 use Rattle.vcpu_turn.specs.Beginning.{Acks, Wakes}
-use Rattle.vcpu_turn.specs.Turning.{Begins, WasAsked, AnswersAsk, Rests, Runs}
+use Rattle.vcpu_turn.specs.Turning.{HeedsAsk, WasAsked, AnswersAsk, Rests, Runs}
 use Rattle.vcpu_turn.proofs.Begun.{turn_more, is_look}
 
 -- ---- the run word
@@ -89,9 +90,9 @@ same_rests h k s refs ending r =
     }
 
 -- ---- the turn begins
-begins_more : (n : Machine) (s : ℕ) (x : Made) (made : List Made) → x.step.mark ≡ None → x.step.act ≡ Load → Begins n s made → Begins n s (x ∷ made)
+heeds_more : (n : Machine) (s : ℕ) (x : Made) (made : List Made) → x.step.mark ≡ None → x.step.act ≡ Load → HeedsAsk n s made → HeedsAsk n s (x ∷ made)
 unfolding EachOf
-begins_more n s x made mark act b =
+heeds_more n s x made mark act b =
     record { first = turn_more x made mark b.first; own = (first_true _ _ (is_look x act), b.own); asked = asked_more b.asked; answers = answers_more b.answers }
   where
     first_true : (a b : Bool) → IsTrue a → IsTrue (a || b)
@@ -112,7 +113,10 @@ wakes v b w y a later m zero_is found rests =
     record {
       made = made_now m.step y ∷ a.made;
       went = went_more v b w a.made (made_now m.step y ∷ []) a.went m.went;
-      begins = begins_more v.post.machine v.post.seat (made_now m.step y) a.made m.mark_is m.act a.begins;
+      begins = record {
+        heeds = heeds_more v.post.machine v.post.seat (made_now m.step y) a.made m.mark_is m.act a.heeds;
+        running = inl (subst (λ (q : Post). place_of q.machine m.step ≡ Vcpu q.seat 6) later m.place, zero_is);
+      };
       rests = same_rests b.holdings w.holdings found.rest found.refs found.ending (acked_rests v b a rests);
       run = found.run ∙ ap (λ (k : ℕ). Some k) zero_is;
     }

@@ -4,13 +4,13 @@ use Rattle.xp_words.specs.Places.{Vcpu}
 use Rattle.xp_board.specs.declared.holdings.Made.{Made}
 use Rattle.xp_board.specs.Told.{PortValue, Went, told_word}
 use Rattle.frame_words.specs.Hands.{SameOrFlushed}
-use Rattle.vcpu_turn.specs.Turning.{Begins, Rests}
+use Rattle.vcpu_turn.specs.Turning.{HeedsAsk, Begins, Rests}
 
--- From v to w the turn began, and an ask to flush may be answered. Nothing in hand changed beside that.
+-- From v to w a turn was opened, and an ask to flush may be answered. Nothing in hand changed beside that.
 pub record Acks (v w : PortValue) : Type 0 where
   pub made : List Made
   pub went : Went v made w
-  pub begins : Begins v.post.machine v.post.seat made
+  pub heeds : HeedsAsk v.post.machine v.post.seat made
   pub hand : SameOrFlushed (record v.holdings { turn = w.holdings.turn }) w.holdings
   pub run_told : told_word w (Vcpu v.post.seat 6) ≡ told_word v (Vcpu v.post.seat 6)
 

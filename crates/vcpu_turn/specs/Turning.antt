@@ -60,11 +60,16 @@ abbrev pub AnswersAsk : Machine → ℕ → List Made → Type 0
 AnswersAsk n s made = WasNotAsked n s made ⊎ (HasFlushed n s made ⊎ Had n Clock last_clock made)
 
 -- Loads; and the own flush, where the vCPU was asked for it.
-pub record Begins (n : Machine) (s : ℕ) (made : List Made) : Type 0 where
+pub record HeedsAsk (n : Machine) (s : ℕ) (made : List Made) : Type 0 where
   pub first : BeginsTurn made
   pub own : EachOf (λ x. IsTrue (is_load x.step.act || is_own_flush s (place_of n x.step))) made
   pub asked : EachOf (λ x. IsTrue (is_load x.step.act)) made ⊎ WasAsked n s made
   pub answers : AnswersAsk n s made
+
+-- An ask is heeded, and the run word of the vCPU was looked at and found 0: it runs.
+pub record Begins (n : Machine) (s : ℕ) (made : List Made) : Type 0 where
+  pub heeds : HeedsAsk n s made
+  pub running : Had n (Vcpu s 6) 0 made
 
 -- ---- the end
 -- one load, which carries the mark Cut
