@@ -15,18 +15,15 @@ use Rattle.xp_board.proofs.Going.{had_earlier, had_later}
 use Rattle.frame_words.specs.Hands.{SameHand, SameOrFlushed}
 use Rattle.frame_words.specs.Pieces.{Makes, HadAct, Serves}
 use Rattle.frame_words.proofs.Noting.{makes_since, makes_keeps}
-use Rattle.frame_words.proofs.Piecing.{made_of, makes_had, makes_act, makes_serves, act_later}
+use Rattle.frame_words.proofs.Piecing.{made_of, makes_had, makes_act, act_later}
 use Rattle.frame_types.specs.declared.waiting.Awaited.{Awaited}
 use Rattle.frame_types.specs.Clearing.{Looks, Weighs}
 use Rattle.frame_types.specs.Waiting.{IsMarked}
-use Rattle.frame_types.proofs.Chaining.{both_serve, looks_after}
+use Rattle.frame_types.proofs.Chaining.{looks_after}
+use Rattle.frame_types.proofs.FlushSteps.{ServesFlushes, flushes_both, ran_serves, makes_flushes, vcpu_look}
 use Rattle.frame_types.proofs.Growing.{Grows, makes_longer, same_rest, same_more, went_grows, knows_later, marked_later}
 use Rattle.frame_types.proofs.Looking.{look_late}
 use Rattle.frame_types.proofs.Marked.{same_frame, work_past}
-
--- a look at a word of a vCPU
-pub vcpu_look : (v u : PortValue) (k j x f : ℕ) (m : Makes v u (Vcpu k j) Load None x) → Serves v u f [] (made_of v u (Vcpu k j) Load x m ∷ [])
-vcpu_look v u k j x f m = makes_serves v u (Vcpu k j) Load x m f refl
 
 -- the frame is marked there too
 pub marked_next : (v u : PortValue) (a : Awaited) (made : List Made) → Serves v u a.frame [] made → u.post ≡ v.post → SameOrFlushed v.holdings u.holdings →
@@ -48,25 +45,25 @@ module _ (v u t : PortValue) (a : Awaited) (k x y : ℕ) (run : Makes v u (Vcpu 
   found_late finds late =
       let piece = vcpu_look v u k 6 x a.frame run in
       looks_after v u t a k (Ok None) _ piece (same_rest _ _ first)
-      (look_late u t a k y second flushed finds (marked_next v u a _ piece post (same_rest _ _ first) marked) late)
+      (look_late u t a k y second flushed finds (marked_next v u a _ piece.piece post (same_rest _ _ first) marked) late)
 
   abbrev pub looked : List Made
   looked = made_of u t (Vcpu k 5) Load y flushed ∷ made_of v u (Vcpu k 6) Load x run ∷ []
 
-  pub two_looks : Serves v t a.frame [] looked
-  two_looks = both_serve v u t a _ _ (vcpu_look v u k 6 x a.frame run) (vcpu_look u t k 5 y a.frame flushed)
+  pub two_looks : ServesFlushes v t a.frame looked
+  two_looks = flushes_both v u t a.frame _ _ (vcpu_look v u k 6 x a.frame run) (vcpu_look u t k 5 y a.frame flushed)
 
   pub two_same : SameOrFlushed v.holdings t.holdings
   two_same = same_more _ _ _ (same_rest _ _ first) (same_rest _ _ second)
 
   pub marked_then : IsMarked t.post.machine a.frame a.owner a.stamp t.holdings
-  marked_then = marked_next v t a looked two_looks (again ∙ post) two_same marked
+  marked_then = marked_next v t a looked two_looks.piece (again ∙ post) two_same marked
 
   -- not concerned
   pub found_barred : (w : PortValue) → Weighs t w a k false → Looks v w a k (Ok None)
   found_barred w g =
       looks_after v t w a k (Ok None) looked two_looks two_same
-      (record { made = g.made; piece = g.piece; shows = g.shows; hand = g.hand })
+      (record { made = g.made; piece = g.piece; flushes = g.flushes; shows = g.shows; hand = g.hand })
 
   -- ---- concerned
   module _ (r : PortValue) (weighs : Weighs t r a k true) (later : r.post ≡ t.post) where
@@ -112,14 +109,15 @@ module _ (v u t : PortValue) (a : Awaited) (k x y : ℕ) (run : Makes v u (Vcpu 
     pub found_behind : (w : PortValue) (z : ℕ) → Makes r w (Vcpu k 4) (Max a.stamp) None z → SameHand r.holdings w.holdings → k ≢ v.post.seat → x ≡ 0 → y ≤ a.stamp → Looks v w a k (Ok (Some y))
     found_behind w z ask third other idle behind =
         let n = v.post.machine in
-        let before = both_serve v t r a looked weighs.made two_looks weighs.piece in
-        let asks = makes_serves r w (Vcpu k 4) (Max a.stamp) z ask a.frame refl in
+        let before = flushes_both v t r a.frame looked weighs.made two_looks (ran_serves t r a.frame _ weighs) in
+        let all = flushes_both v r w a.frame _ _ before (makes_flushes r w (Vcpu k 4) (Max a.stamp) z ask a.frame refl refl) in
         let run_had = subst (λ c. Had n (Vcpu k 6) c (made_of v u (Vcpu k 6) Load x run ∷ [])) idle (makes_had v u (Vcpu k 6) Load x run) in
         let flushed_had = subst (λ (q : Post). Had q.machine (Vcpu k 5) y (made_of u t (Vcpu k 5) Load y flushed ∷ [])) post (makes_had u t (Vcpu k 5) Load y flushed) in
         let asked_had = subst (λ (q : Post). HadAct q.machine (Vcpu k 4) (Max a.stamp) z (made_of r w (Vcpu k 4) (Max a.stamp) z ask ∷ [])) (later ∙ again ∙ post) (makes_act r w (Vcpu k 4) (Max a.stamp) z ask) in
         record {
           made = made_of r w (Vcpu k 4) (Max a.stamp) z ask ∷ (weighs.made ++ looked);
-          piece = both_serve v r w a _ _ before asks;
+          piece = all.piece;
+          flushes = all.flushes;
           shows = record {
             other = other;
             running = had_earlier n (Vcpu k 6) 0 (weighs.made ++ looked) (made_of r w (Vcpu k 4) (Max a.stamp) z ask ∷ [])

@@ -8,11 +8,11 @@ use Rattle.xp_board.specs.Told.{Post, PortValue}
 use Rattle.xp_board.proofs.Going.{went_post}
 use Rattle.frame_words.specs.Hands.{SameOrFlushed}
 use Rattle.frame_words.specs.Pieces.{Serves}
-use Rattle.frame_words.proofs.Piecing.{serves_more}
 use Rattle.frame_types.specs.declared.waiting.Awaited.{Awaited}
 use Rattle.frame_types.specs.Clearing.{IsClear, IsBehind, IsLastClock, Stands, Looks}
 use Rattle.frame_types.specs.Waiting.{FoundClear, WasAsked, AtLastClock}
 use Rattle.frame_types.proofs.Among.{earlier_within, later_within, clear_within, asked_within, behind_within, clock_within}
+use Rattle.frame_types.proofs.FlushSteps.{ServesFlushes, flushes_both, ran_serves}
 use Rattle.frame_types.proofs.Growing.{went_grows, past_later, same_more}
 
 -- ---- found by the steps before, or by those behind
@@ -44,9 +44,6 @@ module _ (v u w : PortValue) (a : Awaited) (xs ys : List Made) (first : Serves v
   post_is : u.post ≡ v.post
   post_is = went_post v u xs first.went
 
-  pub both_serve : Serves v w a.frame [] (ys ++ xs)
-  both_serve = serves_more v u w a.frame [] [] xs ys first second
-
   pub still_clear : (k : ℕ) → SameOrFlushed u.holdings w.holdings → IsClear v u a xs k → IsClear v w a (ys ++ xs) k
   still_clear k same c = (
     clear_earlier v.post.machine xs ys v.post.seat a.owner a.stamp k c.0,
@@ -68,11 +65,13 @@ module _ (v u w : PortValue) (a : Awaited) (xs ys : List Made) (first : Serves v
       append_stands k r (subst (λ (q : Post). Stands (record v { post = q }) w a ys k r) post_is (stands_in k r s))
 
 -- steps before a look leave what it shows
-pub looks_after : (v u w : PortValue) (a : Awaited) (k : ℕ) (r : Result (Option ℕ) Refusal) (xs : List Made) → Serves v u a.frame [] xs → SameOrFlushed v.holdings u.holdings → Looks u w a k r → Looks v w a k r
+pub looks_after : (v u w : PortValue) (a : Awaited) (k : ℕ) (r : Result (Option ℕ) Refusal) (xs : List Made) → ServesFlushes v u a.frame xs → SameOrFlushed v.holdings u.holdings → Looks u w a k r → Looks v w a k r
 looks_after v u w a k r xs first same l =
+    let all = flushes_both v u w a.frame xs l.made first (ran_serves u w a.frame _ l) in
     record {
       made = l.made ++ xs;
-      piece = both_serve v u w a xs l.made first l.piece;
-      shows = then_stands v u w a xs l.made first l.piece k r l.shows;
+      piece = all.piece;
+      flushes = all.flushes;
+      shows = then_stands v u w a xs l.made first.piece l.piece k r l.shows;
       hand = same_more _ _ _ same l.hand;
     }

@@ -13,14 +13,15 @@ use Rattle.xp_board.specs.Told.{Post, PortValue, Had}
 use Rattle.xp_board.proofs.Going.{went_post, had_earlier, had_later}
 use Rattle.frame_words.specs.Flushing.{Flushed, flushed_to, FlushesOwn, FindsLast}
 use Rattle.frame_words.specs.Hands.{SameHand}
-use Rattle.frame_words.specs.Pieces.{Makes, HadAct, Serves}
+use Rattle.frame_words.specs.Pieces.{Makes, HadAct}
 use Rattle.frame_words.proofs.Noting.{makes_since}
-use Rattle.frame_words.proofs.Piecing.{made_of, makes_had, makes_act, makes_serves, act_later}
+use Rattle.frame_words.proofs.Piecing.{made_of, makes_had, makes_act, act_later}
 use Rattle.frame_types.specs.declared.waiting.Awaited.{Awaited}
 use Rattle.frame_types.specs.Clearing.{PastOn, IsLastClock, Looks}
 use Rattle.frame_types.specs.Waiting.{FoundClear, IsMarked}
-use Rattle.frame_types.proofs.Asking.{vcpu_look, marked_next}
-use Rattle.frame_types.proofs.Chaining.{both_serve, looks_after}
+use Rattle.frame_types.proofs.Asking.{marked_next}
+use Rattle.frame_types.proofs.Chaining.{looks_after}
+use Rattle.frame_types.proofs.FlushSteps.{ServesFlushes, flushes_both, makes_flushes, vcpu_look}
 use Rattle.frame_types.proofs.Growing.{makes_longer, same_rest, same_more, flushed_rest}
 use Rattle.frame_types.proofs.Looking.{later, or_second, stamp_is}
 use Rattle.frame_types.proofs.Marked.{work_past, stamp_low}
@@ -38,13 +39,13 @@ module _ (u w : PortValue) (a : Awaited) (marked : IsMarked u.post.machine a.fra
   abbrev ticks : List Made
   ticks = made_of f.looked f.ticked Clock (Cas f.clock (f.clock + 1)) f.found f.tick ∷ made_of u f.looked Clock Load f.clock f.look ∷ []
 
-  two_steps : Serves u f.ticked a.frame [] ticks
+  two_steps : ServesFlushes u f.ticked a.frame ticks
   two_steps =
-      both_serve u f.looked f.ticked a _ _ (makes_serves u f.looked Clock Load f.clock f.look a.frame refl)
-      (makes_serves f.looked f.ticked Clock (Cas f.clock (f.clock + 1)) f.found f.tick a.frame refl)
+      flushes_both u f.looked f.ticked a.frame _ _ (makes_flushes u f.looked Clock Load f.clock f.look a.frame refl refl)
+      (makes_flushes f.looked f.ticked Clock (Cas f.clock (f.clock + 1)) f.found f.tick a.frame refl refl)
 
   ticked_post : f.ticked.post ≡ u.post
-  ticked_post = went_post u f.ticked ticks two_steps.went
+  ticked_post = went_post u f.ticked ticks two_steps.piece.went
 
   longer : length u.holdings.steps ≤ length f.ticked.holdings.steps
   longer =
@@ -65,11 +66,13 @@ module _ (u w : PortValue) (a : Awaited) (marked : IsMarked u.post.machine a.fra
 
   pub own_flushed : Looks u w a u.post.seat (Ok None)
   own_flushed =
+      let all = flushes_both u f.ticked w a.frame _ _ two_steps (makes_flushes f.ticked w (Vcpu u.post.seat 5) (Store to) f.before f.ack a.frame refl refl) in
       let acked = made_of f.ticked w (Vcpu u.post.seat 5) (Store to) f.before f.ack ∷ [] in
       let had = subst (λ (q : Post). HadAct q.machine (Vcpu u.post.seat 5) (Store to) f.before acked) ticked_post (makes_act f.ticked w (Vcpu u.post.seat 5) (Store to) f.before f.ack) in
       record {
         made = made_of f.ticked w (Vcpu u.post.seat 5) (Store to) f.before f.ack ∷ ticks;
-        piece = both_serve u f.ticked w a _ _ two_steps (makes_serves f.ticked w (Vcpu u.post.seat 5) (Store to) f.before f.ack a.frame refl);
+        piece = all.piece;
+        flushes = all.flushes;
         shows = (
           FoundClear.own to f.before refl (act_later u.post.machine (Vcpu u.post.seat 5) (Store to) f.before ticks acked had) past_stamp,
           past_own,
@@ -83,7 +86,7 @@ module _ (v u w : PortValue) (a : Awaited) (x : ℕ) (look : Makes v u (Vcpu v.p
   then_flushed marked f flushed =
       let piece = vcpu_look v u v.post.seat 5 x a.frame look in
       looks_after v u w a v.post.seat (Ok None) _ piece (same_rest _ _ same)
-      (subst (λ (q : Post). Looks u w a q.seat (Ok None)) post (own_flushed u w a (marked_next v u a _ piece post (same_rest _ _ same) marked) f flushed))
+      (subst (λ (q : Post). Looks u w a q.seat (Ok None)) post (own_flushed u w a (marked_next v u a _ piece.piece post (same_rest _ _ same) marked) f flushed))
 
   -- refused after the look
   pub then_refused : (r : Refusal) → x ≤ a.stamp → FindsLast u w r → SameHand u.holdings w.holdings → Looks v w a v.post.seat (Err r)
@@ -91,10 +94,12 @@ module _ (v u w : PortValue) (a : Awaited) (x : ℕ) (look : Makes v u (Vcpu v.p
       let n = v.post.machine in
       let looked = made_of v u (Vcpu v.post.seat 5) Load x look ∷ [] in
       let told = made_of u w Clock Load last_clock last.look ∷ [] in
+      let all = flushes_both v u w a.frame _ _ (vcpu_look v u v.post.seat 5 x a.frame look) (makes_flushes u w Clock Load last_clock last.look a.frame refl refl) in
       let had_clock = subst (λ (q : Post). Had q.machine Clock last_clock told) post (makes_had u w Clock Load last_clock last.look) in
       record {
         made = made_of u w Clock Load last_clock last.look ∷ looked;
-        piece = both_serve v u w a _ _ (vcpu_look v u v.post.seat 5 x a.frame look) (makes_serves u w Clock Load last_clock last.look a.frame refl);
+        piece = all.piece;
+        flushes = all.flushes;
         shows =
             subst (λ q. IsLastClock n v.post.seat a.stamp (made_of u w Clock Load last_clock last.look ∷ looked) q) (sym last.refusal) (
               refl,

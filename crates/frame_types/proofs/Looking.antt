@@ -18,11 +18,12 @@ use Rattle.xp_board.specs.Told.{PortValue, Finds, Had}
 use Rattle.frame_words.specs.Hands.{SameHand}
 use Rattle.frame_words.specs.Pieces.{Makes}
 use Rattle.frame_words.proofs.Noting.{makes_since, makes_keeps}
-use Rattle.frame_words.proofs.Piecing.{serves_nothing, made_of, makes_had, makes_serves}
+use Rattle.frame_words.proofs.Piecing.{made_of, makes_had}
 use Rattle.frame_words.proofs.Stepping.{own_there}
 use Rattle.frame_types.specs.declared.waiting.Awaited.{Awaited}
 use Rattle.frame_types.specs.Clearing.{Looks, Weighs}
 use Rattle.frame_types.specs.Waiting.{FoundClear, IsMarked}
+use Rattle.frame_types.proofs.FlushSteps.{flushes_nothing, makes_flushes, vcpu_look}
 use Rattle.frame_types.proofs.Growing.{same_self, same_rest, marked_later}
 use Rattle.frame_types.proofs.Marked.{same_frame, work_past}
 
@@ -60,9 +61,11 @@ module _ (v w : PortValue) (a : Awaited) (k x : ℕ) (same : SameHand v.holdings
   unfolding left_by
   look_idle m finds real some =
       let idle = idle_word x some (run_low v.post.machine v.post.seat v.holdings k x real finds) in
+      let one = vcpu_look v w k 6 x a.frame m in
       record {
         made = made_of v w (Vcpu k 6) Load x m ∷ [];
-        piece = makes_serves v w (Vcpu k 6) Load x m a.frame refl;
+        piece = one.piece;
+        flushes = one.flushes;
         shows = (
           FoundClear.idle x (makes_had v w (Vcpu k 6) Load x m) idle,
           λ e here.
@@ -75,9 +78,11 @@ module _ (v w : PortValue) (a : Awaited) (k x : ℕ) (same : SameHand v.holdings
   pub look_late : Makes v w (Vcpu k 5) Load None x → Finds v.post.machine v.post.seat v.holdings (Vcpu k 5) x → IsMarked v.post.machine a.frame a.owner a.stamp v.holdings → a.stamp < x → Looks v w a k (Ok None)
   unfolding left_by
   look_late m finds marked late =
+      let one = vcpu_look v w k 5 x a.frame m in
       record {
         made = made_of v w (Vcpu k 5) Load x m ∷ [];
-        piece = makes_serves v w (Vcpu k 5) Load x m a.frame refl;
+        piece = one.piece;
+        flushes = one.flushes;
         shows = (
           FoundClear.flushed x (makes_had v w (Vcpu k 5) Load x m) late,
           λ e here.
@@ -95,9 +100,11 @@ module _ (v w : PortValue) (a : Awaited) (k x : ℕ) (same : SameHand v.holdings
   look_barred d is m finds marked other never =
       let after = marked_later v.post.machine a.frame v.holdings w.holdings (same_rest _ _ same) (makes_keeps v w (Priv d) Load None x m) a.owner a.stamp marked in
       let off : domain_of v.post.machine k ≢ a.owner = subst (λ c. c ≢ a.owner) is other in
+      let one = makes_flushes v w (Priv d) Load x m a.frame refl refl in
       record {
         made = made_of v w (Priv d) Load x m ∷ [];
-        piece = makes_serves v w (Priv d) Load x m a.frame refl;
+        piece = one.piece;
+        flushes = one.flushes;
         shows = (
           FoundClear.barred x off (subst (λ c. Had v.post.machine (Priv c) x (made_of v w (Priv d) Load x m ∷ [])) is (makes_had v w (Priv d) Load x m)) never,
           λ e here.
@@ -116,9 +123,11 @@ module _ (v w : PortValue) (a : Awaited) (k x : ℕ) (same : SameHand v.holdings
   pub look_concerned : (d : ℕ) → d ≡ domain_of v.post.machine k → Makes v w (Priv d) Load None x → IsTrue (has_ever a.owner x) → Weighs v w a k true
   unfolding left_by
   look_concerned d is m ever =
+      let one = makes_flushes v w (Priv d) Load x m a.frame refl refl in
       record {
         made = made_of v w (Priv d) Load x m ∷ [];
-        piece = makes_serves v w (Priv d) Load x m a.frame refl;
+        piece = one.piece;
+        flushes = one.flushes;
         shows =
             inr (subst (λ c. IsTrue (some_since (sizes_of v.post.machine) 0 (Priv c) (has_ever a.owner) w.holdings.steps)) is
             (makes_since v w (Priv d) Load None x m 0 (has_ever a.owner) (omega arith) ever));
@@ -133,9 +142,11 @@ module _ (v w : PortValue) (a : Awaited) (k x : ℕ) (same : SameHand v.holdings
 -- its domain owns the frame
 own_domain : (v : PortValue) (a : Awaited) (k : ℕ) → domain_of v.post.machine k ≡ a.owner → Weighs v v a k true
 own_domain v a k is =
+    let none = flushes_nothing v a.frame in
     record {
       made = [];
-      piece = serves_nothing v a.frame;
+      piece = none.piece;
+      flushes = none.flushes;
       shows = inl is;
       hand = same_self v.holdings;
     }

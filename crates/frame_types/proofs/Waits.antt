@@ -7,16 +7,18 @@ use Rattle.xp_board.specs.Told.{Post, PortValue}
 use Rattle.xp_board.proofs.Going.{went_post}
 use Rattle.frame_words.specs.Hands.{SameOrFlushed}
 use Rattle.frame_words.specs.Pieces.{Serves}
-use Rattle.frame_words.proofs.Piecing.{serves_nothing}
 use Rattle.frame_types.specs.declared.waiting.Awaited.{Awaited}
 use Rattle.frame_types.specs.declared.waiting.Behind.{Behind}
 use Rattle.frame_types.specs.Clearing.{Ran, IsClear, Stands, Looks, first_behind, AllStand, Waits}
 use Rattle.frame_types.specs.Waiting.{FoundClear, WasAsked, Clears, IsMarked, IsFlushed}
-use Rattle.frame_types.proofs.Chaining.{clear_earlier, asked_earlier, behind_earlier, both_serve, still_clear, then_stands}
+use Rattle.frame_types.proofs.Chaining.{clear_earlier, asked_earlier, behind_earlier, still_clear, then_stands}
+use Rattle.frame_types.proofs.FlushSteps.{flushes_nothing, flushes_both, ran_serves}
 use Rattle.frame_types.proofs.Growing.{same_self, same_more}
 
 pub waits_none : (v : PortValue) (a : Awaited) → Waits v v a 0 (Ok None)
-waits_none v a = record { made = []; piece = serves_nothing v a.frame; shows = λ u below. absurd (omega (arith, below)); hand = same_self v.holdings }
+waits_none v a =
+    let none = flushes_nothing v a.frame in
+    record { made = []; piece = none.piece; flushes = none.flushes; shows = λ u below. absurd (omega (arith, below)); hand = same_self v.holdings }
 
 -- ---- one vCPU more
 below_or : (u k : ℕ) → u < k + 1 → (u < k) ⊎ (u ≡ k)
@@ -65,18 +67,22 @@ module _ (v u w : PortValue) (a : Awaited) (k : ℕ) (xs ys : List Made) (first 
 
 pub waits_more : (v u w : PortValue) (a : Awaited) (k : ℕ) (o : Option Behind) (standing : Option ℕ) → Waits v u a k (Ok o) → Looks u w a k (Ok standing) → Waits v w a (k + 1) (Ok (first_behind o k standing))
 waits_more v u w a k o standing so l =
+    let all = flushes_both v u w a.frame so.made l.made (ran_serves v u a.frame _ so) (ran_serves u w a.frame _ l) in
     record {
       made = l.made ++ so.made;
-      piece = both_serve v u w a so.made l.made so.piece l.piece;
+      piece = all.piece;
+      flushes = all.flushes;
       shows = all_more v u w a k so.made l.made so.piece l.piece o standing l.hand so.shows (then_stands v u w a so.made l.made so.piece l.piece k (Ok standing) l.shows);
       hand = same_more _ _ _ so.hand l.hand;
     }
 
 pub waits_refused : (v u w : PortValue) (a : Awaited) (k n : ℕ) (o : Option Behind) (r : Refusal) → Waits v u a k (Ok o) → Looks u w a k (Err r) → Waits v w a n (Err r)
 waits_refused v u w a k n o r so l =
+    let all = flushes_both v u w a.frame so.made l.made (ran_serves v u a.frame _ so) (ran_serves u w a.frame _ l) in
     record {
       made = l.made ++ so.made;
-      piece = both_serve v u w a so.made l.made so.piece l.piece;
+      piece = all.piece;
+      flushes = all.flushes;
       shows = then_stands v u w a so.made l.made so.piece l.piece k (Err r) l.shows;
       hand = same_more _ _ _ so.hand l.hand;
     }
@@ -90,7 +96,7 @@ module _ (v w : PortValue) (a : Awaited) where
   all = length v.post.machine.vcpu_domain
 
   pub clears_all : Waits v w a all (Ok None) → Clears v w a.frame a.owner a.stamp (Ok tt)
-  clears_all so = record { made = so.made; piece = so.piece; shows = λ u real. (so.shows u real).0; hand = so.hand }
+  clears_all so = record { made = so.made; piece = so.piece; flushes = so.flushes; shows = λ u real. (so.shows u real).0; hand = so.hand }
 
   pub past_all : IsMarked v.post.machine a.frame a.owner a.stamp v.holdings → Waits v w a all (Ok None) → IsFlushed w.post.machine a.frame w.holdings
   past_all marked so =

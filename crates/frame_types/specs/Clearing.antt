@@ -10,6 +10,7 @@ use Rattle.xp_board.specs.declared.holdings.Holdings.{Holdings}
 use Rattle.xp_board.specs.declared.holdings.Work.{Work}
 use Rattle.xp_board.specs.Flushes.{is_past, PassedOver}
 use Rattle.xp_board.specs.Hands.{work_on}
+use Rattle.xp_board.specs.Lists.{EachOf}
 use Rattle.xp_board.specs.Readings.{last_clock, domain_of, has_ever}
 use Rattle.xp_board.specs.Steps.{some_since}
 use Rattle.xp_board.specs.Told.{PortValue, Had}
@@ -17,17 +18,18 @@ use Rattle.frame_words.specs.Hands.{SameOrFlushed}
 use Rattle.frame_words.specs.Pieces.{Serves}
 use Rattle.frame_types.specs.declared.waiting.Awaited.{Awaited}
 use Rattle.frame_types.specs.declared.waiting.Behind.{Behind}
-use Rattle.frame_types.specs.Waiting.{FoundClear, WasAsked, AtLastClock}
+use Rattle.frame_types.specs.Waiting.{FoundClear, WasAsked, AtLastClock, IsOfFlush}
 
 -- no older translation of vCPU u leads to frame f of the own works, but to read it
 abbrev pub PastOn : Machine → ℕ → ℕ → Holdings → Type 0
 PastOn n f u h =
     (e : Work) → work_on f h.works ≡ Some e → IsTrue (is_past (sizes_of n) e.since (kind_fields e.word).number u h.steps) ⊎ PassedOver n e.since e.frame u h
 
--- the port went from v to w by steps that no guest sees, of frame f and of flushes alone, and they show this
+-- the port went from v to w by steps that no guest sees and that change words of flushes alone, and they show this
 pub record Ran (v w : PortValue) (f : ℕ) (Shown : List Made → Type 0) : Type 0 where
   pub made : List Made
   pub piece : Serves v w f [] made
+  pub flushes : EachOf (IsOfFlush v.post.machine) made
   pub shows : Shown made
   pub hand : SameOrFlushed v.holdings w.holdings
 

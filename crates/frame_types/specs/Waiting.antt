@@ -1,5 +1,5 @@
 -- Flushes that a change of type waits for: until no vCPU can have an older translation to the frame, but to read it.
-use Rattle.std.specs.Prelude.{◌≡◌, ◌≢◌, ◌⊎◌, ℕ, ◌<◌, ◌≤◌, not, true, List, [], length, Some, Result, Ok, Err, IsTrue}
+use Rattle.std.specs.Prelude.{◌≡◌, ◌≢◌, ◌⊎◌, ℕ, ◌<◌, ◌≤◌, ◌||◌, not, true, List, [], length, Some, Result, Ok, Err, IsTrue}
 use Rattle.xp_words.specs.Machine.{Machine}
 use Rattle.xp_words.specs.KindWords.{kind_fields}
 use Rattle.xp_words.specs.Places.{Clock, Vcpu, Priv, sizes_of}
@@ -14,10 +14,12 @@ use Rattle.xp_board.specs.declared.holdings.Work.{Work}
 use Rattle.xp_board.specs.Flushes.{IsPastFlush, is_idle}
 use Rattle.xp_board.specs.Hands.{work_on}
 use Rattle.xp_board.specs.Knowledge.{knows_owner}
+use Rattle.xp_board.specs.Lists.{EachOf}
 use Rattle.xp_board.specs.Readings.{last_clock, domain_of, has_ever}
+use Rattle.xp_board.specs.Runs.{place_of}
 use Rattle.xp_board.specs.Told.{PortValue, Had}
 use Rattle.frame_words.specs.Hands.{SameOrFlushed}
-use Rattle.frame_words.specs.Pieces.{HadAct, Serves}
+use Rattle.frame_words.specs.Pieces.{HadAct, Serves, is_load, is_of_flush}
 
 -- a marked frame in the own works, with that stamp, whose owner is known
 pub record IsMarked (n : Machine) (f owner stamp : ℕ) (h : Holdings) : Type 0 where
@@ -65,6 +67,10 @@ pub record AtLastClock (n : Machine) (s stamp : ℕ) (made : List Made) : Type 0
   pub had_clock : Had n Clock last_clock made
 
 -- ---- the wait
+-- a step that changes no word, or one of flushes
+abbrev pub IsOfFlush : Machine → Made → Type 0
+IsOfFlush n x = IsTrue (is_load x.step.act || is_of_flush (place_of n x.step))
+
 -- Ok: each vCPU was found clear. Else the cause.
 abbrev pub Shows : Machine → ℕ → ℕ → ℕ → List Made → Result (Unit {0}) Stop → Type 0
 Shows n s owner stamp made (Ok done) = (v : ℕ) → v < length n.vcpu_domain → FoundClear n s owner stamp made v
@@ -73,9 +79,10 @@ Shows n s owner stamp made (Err (Refused _)) = ⊥
 Shows n s owner stamp made (Err (Paused (Flush v t found))) = (t ≡ stamp) × WaitsFor n s owner stamp made v found
 Shows n s owner stamp made (Err (Paused _)) = ⊥
 
--- the steps from v to w, and what they show of the answer
+-- the steps from v to w, which no guest sees and which change words of flushes alone, and what they show of the answer
 pub record Clears (v w : PortValue) (f owner stamp : ℕ) (answer : Result (Unit {0}) Stop) : Type 0 where
   pub made : List Made
   pub piece : Serves v w f [] made
+  pub flushes : EachOf (IsOfFlush v.post.machine) made
   pub shows : Shows v.post.machine v.post.seat owner stamp made answer
   pub hand : SameOrFlushed v.holdings w.holdings

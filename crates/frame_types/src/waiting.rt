@@ -21,7 +21,7 @@ pub fn clear_stale<P: Port>(port: &mut P, frame: u32, owner: u16, stamp: u64) ->
     requires landed { (P.value port.old).holdings.walk ≡ None }
     requires marked { IsMarked (P.value port.old).post.machine frame owner stamp (P.value port.old).holdings }
     ensures post { (P.value port.new).post ≡ (P.value port.old).post }
-    // No guest sees the steps, which show the cause of a refusal and a pause.
+    // No guest sees the steps. They change words of flushes alone, and show the cause of a refusal and a pause.
     ensures clears { Clears (P.value port.old) (P.value port.new) frame owner stamp result }
     ensures past { IfOk result (λ _. IsFlushed (P.value port.new).post.machine frame (P.value port.new).holdings) }
 {
