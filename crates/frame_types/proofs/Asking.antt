@@ -16,12 +16,13 @@ use Rattle.frame_words.specs.Hands.{SameHand, SameOrFlushed}
 use Rattle.frame_words.specs.Pieces.{Makes, HadAct, Serves}
 use Rattle.frame_words.proofs.Noting.{makes_since, makes_keeps}
 use Rattle.frame_words.proofs.Piecing.{made_of, makes_had, makes_act, act_later}
+use Rattle.frame_words.proofs.Rests.{went_longer, whole_same, whole_more}
 use Rattle.frame_types.specs.declared.waiting.Awaited.{Awaited}
 use Rattle.frame_types.specs.Clearing.{Looks, Weighs}
 use Rattle.frame_types.specs.Waiting.{IsMarked}
 use Rattle.frame_types.proofs.Chaining.{looks_after}
 use Rattle.frame_types.proofs.FlushSteps.{ServesFlushes, flushes_both, ran_serves, makes_flushes, vcpu_look}
-use Rattle.frame_types.proofs.Growing.{Grows, makes_longer, same_rest, same_more, went_grows, knows_later, marked_later}
+use Rattle.frame_types.proofs.Growing.{Grows, went_grows, knows_later, marked_later}
 use Rattle.frame_types.proofs.Looking.{look_late}
 use Rattle.frame_types.proofs.Marked.{same_frame, work_past}
 
@@ -44,8 +45,8 @@ module _ (v u t : PortValue) (a : Awaited) (k x y : ℕ) (run : Makes v u (Vcpu 
   pub found_late : Finds u.post.machine u.post.seat u.holdings (Vcpu k 5) y → a.stamp < y → Looks v t a k (Ok None)
   found_late finds late =
       let piece = vcpu_look v u k 6 x a.frame run in
-      looks_after v u t a k (Ok None) _ piece (same_rest _ _ first)
-      (look_late u t a k y second flushed finds (marked_next v u a _ piece.piece post (same_rest _ _ first) marked) late)
+      looks_after v u t a k (Ok None) _ piece (whole_same _ _ first)
+      (look_late u t a k y second flushed finds (marked_next v u a _ piece.piece post (whole_same _ _ first) marked) late)
 
   abbrev pub looked : List Made
   looked = made_of u t (Vcpu k 5) Load y flushed ∷ made_of v u (Vcpu k 6) Load x run ∷ []
@@ -54,7 +55,7 @@ module _ (v u t : PortValue) (a : Awaited) (k x y : ℕ) (run : Makes v u (Vcpu 
   two_looks = flushes_both v u t a.frame _ _ (vcpu_look v u k 6 x a.frame run) (vcpu_look u t k 5 y a.frame flushed)
 
   pub two_same : SameOrFlushed v.holdings t.holdings
-  two_same = same_more _ _ _ (same_rest _ _ first) (same_rest _ _ second)
+  two_same = whole_more _ _ _ (whole_same _ _ first) (whole_same _ _ second)
 
   pub marked_then : IsMarked t.post.machine a.frame a.owner a.stamp t.holdings
   marked_then = marked_next v t a looked two_looks.piece (again ∙ post) two_same marked
@@ -71,7 +72,7 @@ module _ (v u t : PortValue) (a : Awaited) (k x y : ℕ) (run : Makes v u (Vcpu 
     grown test h = went_grows t r weighs.made weighs.piece.went test (makes_keeps u t (Vcpu k 5) Load None y flushed test h)
 
     same_then : SameOrFlushed v.holdings r.holdings
-    same_then = same_more _ _ _ two_same weighs.hand
+    same_then = whole_more _ _ _ two_same weighs.hand
 
     awaits_frame : (p : Place) (z : ℕ) → Finds v.post.machine v.post.seat v.holdings p z → AwaitsFrame v.post.machine (length v.holdings.steps) k a.stamp r.holdings
     awaits_frame p z finds =
@@ -102,7 +103,7 @@ module _ (v u t : PortValue) (a : Awaited) (k x y : ℕ) (run : Makes v u (Vcpu 
           flushed =
               subst (λ (q : Post). IsTrue (some_since (sizes_of q.machine) (length v.holdings.steps) (Vcpu k 5) (λ w. nat_le w a.stamp) r.holdings.steps)) post
               (went_grows t r weighs.made weighs.piece.went _
-              (makes_since u t (Vcpu k 5) Load None y flushed (length v.holdings.steps) (λ w. nat_le w a.stamp) (makes_longer v u (Vcpu k 6) Load None x run) (low_test y a.stamp behind)));
+              (makes_since u t (Vcpu k 5) Load None y flushed (length v.holdings.steps) (λ w. nat_le w a.stamp) (went_longer v u (record { step = run.step; found = x } ∷ []) run.went) (low_test y a.stamp behind)));
         })
 
     -- asked
@@ -128,5 +129,5 @@ module _ (v u t : PortValue) (a : Awaited) (k x y : ℕ) (run : Makes v u (Vcpu 
             behind = behind;
             asked = record { before = z; asked = act_later n (Vcpu k 4) (Max a.stamp) z (weighs.made ++ looked) (made_of r w (Vcpu k 4) (Max a.stamp) z ask ∷ []) asked_had };
           };
-          hand = same_more _ _ _ same_then (same_rest _ _ third);
+          hand = whole_more _ _ _ same_then (whole_same _ _ third);
         }

@@ -8,12 +8,13 @@ use Rattle.xp_board.specs.Told.{Post, PortValue}
 use Rattle.xp_board.proofs.Going.{went_post}
 use Rattle.frame_words.specs.Hands.{SameOrFlushed}
 use Rattle.frame_words.specs.Pieces.{Serves}
+use Rattle.frame_words.proofs.Rests.{whole_more}
 use Rattle.frame_types.specs.declared.waiting.Awaited.{Awaited}
 use Rattle.frame_types.specs.Clearing.{IsClear, IsBehind, IsLastClock, Stands, Looks}
 use Rattle.frame_types.specs.Waiting.{FoundClear, WasAsked, AtLastClock}
 use Rattle.frame_types.proofs.Among.{earlier_within, later_within, clear_within, asked_within, behind_within, clock_within}
 use Rattle.frame_types.proofs.FlushSteps.{ServesFlushes, flushes_both, ran_serves}
-use Rattle.frame_types.proofs.Growing.{went_grows, past_later, same_more}
+use Rattle.frame_types.proofs.Growing.{went_grows, past_later}
 
 -- ---- found by the steps before, or by those behind
 module _ (n : Machine) (xs ys : List Made) where
@@ -73,5 +74,5 @@ looks_after v u w a k r xs first same l =
       piece = all.piece;
       flushes = all.flushes;
       shows = then_stands v u w a xs l.made first.piece l.piece k r l.shows;
-      hand = same_more _ _ _ same l.hand;
+      hand = whole_more _ _ _ same l.hand;
     }

@@ -27,10 +27,10 @@ use Rattle.xp_board.proofs.ListCounts.{EachOf-found}
 use Rattle.frame_words.specs.Hands.{SameHand, GaveBack}
 use Rattle.frame_words.specs.Kinds.{DroppedType, MayLeaveDead, MadeDead, is_in_work, is_work_in, one_fewer}
 use Rattle.frame_words.proofs.KindCalls.{work_here, dropped_may_die, without_newest}
+use Rattle.frame_words.proofs.Rests.{rest_beside, rest_same, rest_gave, rest_more}
 use Rattle.frame_words.proofs.Stepping.{kind_there}
 use Rattle.frame_types.specs.Writable.{DroppedPlain}
 use Rattle.frame_types.proofs.Calmly.{clock_left}
-use Rattle.frame_types.proofs.Rests.{rest_beside, rest_same, rest_gave, rest_more}
 
 -- ---- what a seat finds, while it works on a frame
 -- the word of a frame in the own works has a form

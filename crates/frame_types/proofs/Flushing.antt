@@ -16,13 +16,13 @@ use Rattle.frame_words.specs.Hands.{SameHand}
 use Rattle.frame_words.specs.Pieces.{Makes, HadAct}
 use Rattle.frame_words.proofs.Noting.{makes_since}
 use Rattle.frame_words.proofs.Piecing.{made_of, makes_had, makes_act, act_later}
+use Rattle.frame_words.proofs.Rests.{went_longer, whole_same, whole_more, whole_flushed}
 use Rattle.frame_types.specs.declared.waiting.Awaited.{Awaited}
 use Rattle.frame_types.specs.Clearing.{PastOn, IsLastClock, Looks}
 use Rattle.frame_types.specs.Waiting.{FoundClear, IsMarked}
 use Rattle.frame_types.proofs.Asking.{marked_next}
 use Rattle.frame_types.proofs.Chaining.{looks_after}
 use Rattle.frame_types.proofs.FlushSteps.{ServesFlushes, flushes_both, makes_flushes, vcpu_look}
-use Rattle.frame_types.proofs.Growing.{makes_longer, same_rest, same_more, flushed_rest}
 use Rattle.frame_types.proofs.Looking.{later, or_second, stamp_is}
 use Rattle.frame_types.proofs.Marked.{work_past, stamp_low}
 
@@ -48,10 +48,7 @@ module _ (u w : PortValue) (a : Awaited) (marked : IsMarked u.post.machine a.fra
   ticked_post = went_post u f.ticked ticks two_steps.piece.went
 
   longer : length u.holdings.steps ≤ length f.ticked.holdings.steps
-  longer =
-      let one = makes_longer u f.looked _ _ _ _ f.look in
-      let two = makes_longer f.looked f.ticked _ _ _ _ f.tick in
-      omega (arith, one, two)
+  longer = went_longer u f.ticked ticks two_steps.piece.went
 
   past_own : PastOn u.post.machine a.frame u.post.seat w.holdings
   unfolding left_by
@@ -77,7 +74,7 @@ module _ (u w : PortValue) (a : Awaited) (marked : IsMarked u.post.machine a.fra
           FoundClear.own to f.before refl (act_later u.post.machine (Vcpu u.post.seat 5) (Store to) f.before ticks acked had) past_stamp,
           past_own,
         );
-        hand = flushed_rest _ _ flushed;
+        hand = whole_flushed _ _ flushed;
       }
 
 module _ (v u w : PortValue) (a : Awaited) (x : ℕ) (look : Makes v u (Vcpu v.post.seat 5) Load None x) (same : SameHand v.holdings u.holdings) (post : u.post ≡ v.post) where
@@ -85,8 +82,8 @@ module _ (v u w : PortValue) (a : Awaited) (x : ℕ) (look : Makes v u (Vcpu v.p
   pub then_flushed : IsMarked v.post.machine a.frame a.owner a.stamp v.holdings → FlushesOwn u w → Flushed u.holdings w.holdings → Looks v w a v.post.seat (Ok None)
   then_flushed marked f flushed =
       let piece = vcpu_look v u v.post.seat 5 x a.frame look in
-      looks_after v u w a v.post.seat (Ok None) _ piece (same_rest _ _ same)
-      (subst (λ (q : Post). Looks u w a q.seat (Ok None)) post (own_flushed u w a (marked_next v u a _ piece.piece post (same_rest _ _ same) marked) f flushed))
+      looks_after v u w a v.post.seat (Ok None) _ piece (whole_same _ _ same)
+      (subst (λ (q : Post). Looks u w a q.seat (Ok None)) post (own_flushed u w a (marked_next v u a _ piece.piece post (whole_same _ _ same) marked) f flushed))
 
   -- refused after the look
   pub then_refused : (r : Refusal) → x ≤ a.stamp → FindsLast u w r → SameHand u.holdings w.holdings → Looks v w a v.post.seat (Err r)
@@ -110,5 +107,5 @@ module _ (v u w : PortValue) (a : Awaited) (x : ℕ) (look : Makes v u (Vcpu v.p
                 had_clock = had_later n Clock last_clock looked told had_clock;
               },
             );
-        hand = same_more _ _ _ (same_rest _ _ same) (same_rest _ _ again);
+        hand = whole_more _ _ _ (whole_same _ _ same) (whole_same _ _ again);
       }

@@ -19,12 +19,13 @@ use Rattle.frame_words.specs.Hands.{SameHand}
 use Rattle.frame_words.specs.Pieces.{Makes}
 use Rattle.frame_words.proofs.Noting.{makes_since, makes_keeps}
 use Rattle.frame_words.proofs.Piecing.{made_of, makes_had}
+use Rattle.frame_words.proofs.Rests.{whole_self, whole_same}
 use Rattle.frame_words.proofs.Stepping.{own_there}
 use Rattle.frame_types.specs.declared.waiting.Awaited.{Awaited}
 use Rattle.frame_types.specs.Clearing.{Looks, Weighs}
 use Rattle.frame_types.specs.Waiting.{FoundClear, IsMarked}
 use Rattle.frame_types.proofs.FlushSteps.{flushes_nothing, makes_flushes, vcpu_look}
-use Rattle.frame_types.proofs.Growing.{same_self, same_rest, marked_later}
+use Rattle.frame_types.proofs.Growing.{marked_later}
 use Rattle.frame_types.proofs.Marked.{same_frame, work_past}
 
 pub or_first : (a b : Bool) → IsTrue a → IsTrue (a || b)
@@ -71,7 +72,7 @@ module _ (v w : PortValue) (a : Awaited) (k x : ℕ) (same : SameHand v.holdings
           λ e here.
               inl (or_first _ _ (makes_since v w (Vcpu k 6) Load None x m e.since is_idle (work_past v.post.machine v.post.seat v.holdings (Vcpu k 6) x finds a.frame e (before e here)) idle)),
         );
-        hand = same_rest _ _ same;
+        hand = whole_same _ _ same;
       }
 
   -- it was flushed later than the stamp
@@ -90,7 +91,7 @@ module _ (v w : PortValue) (a : Awaited) (k x : ℕ) (same : SameHand v.holdings
               (makes_since v w (Vcpu k 5) Load None x m e.since (λ y. nat_lt (kind_fields e.word).number y) (work_past v.post.machine v.post.seat v.holdings (Vcpu k 5) x finds a.frame e (before e here))
               (later _ x (subst (λ c. c < x) (sym (stamp_is v.post.machine a.frame a.owner a.stamp v.holdings e marked (before e here))) late)))),
         );
-        hand = same_rest _ _ same;
+        hand = whole_same _ _ same;
       }
 
   -- its domain never had privilege over the owner
@@ -98,7 +99,7 @@ module _ (v w : PortValue) (a : Awaited) (k x : ℕ) (same : SameHand v.holdings
       d ≢ a.owner → IsTrue (not (has_ever a.owner x)) → Weighs v w a k false
   unfolding left_by
   look_barred d is m finds marked other never =
-      let after = marked_later v.post.machine a.frame v.holdings w.holdings (same_rest _ _ same) (makes_keeps v w (Priv d) Load None x m) a.owner a.stamp marked in
+      let after = marked_later v.post.machine a.frame v.holdings w.holdings (whole_same _ _ same) (makes_keeps v w (Priv d) Load None x m) a.owner a.stamp marked in
       let off : domain_of v.post.machine k ≢ a.owner = subst (λ c. c ≢ a.owner) is other in
       let one = makes_flushes v w (Priv d) Load x m a.frame refl refl in
       record {
@@ -116,7 +117,7 @@ module _ (v w : PortValue) (a : Awaited) (k x : ℕ) (same : SameHand v.holdings
                     (makes_since v w (Priv d) Load None x m e.since (λ y. not (has_ever a.owner y)) (work_past v.post.machine v.post.seat v.holdings (Priv d) x finds a.frame e (before e here)) never);
               }),
         );
-        hand = same_rest _ _ same;
+        hand = whole_same _ _ same;
       }
 
   -- it once had
@@ -131,7 +132,7 @@ module _ (v w : PortValue) (a : Awaited) (k x : ℕ) (same : SameHand v.holdings
         shows =
             inr (subst (λ c. IsTrue (some_since (sizes_of v.post.machine) 0 (Priv c) (has_ever a.owner) w.holdings.steps)) is
             (makes_since v w (Priv d) Load None x m 0 (has_ever a.owner) (omega arith) ever));
-        hand = same_rest _ _ same;
+        hand = whole_same _ _ same;
       }
 
   pub look_weighs : (d : ℕ) → d ≡ domain_of v.post.machine k → Makes v w (Priv d) Load None x → Finds v.post.machine v.post.seat v.holdings (Priv d) x → IsMarked v.post.machine a.frame a.owner a.stamp v.holdings →
@@ -148,7 +149,7 @@ own_domain v a k is =
       piece = none.piece;
       flushes = none.flushes;
       shows = inl is;
-      hand = same_self v.holdings;
+      hand = whole_self v.holdings;
     }
 
 same_number : (d o : ℕ) → d ≡ o → nat_eq d o ≡ true

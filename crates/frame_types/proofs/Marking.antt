@@ -23,9 +23,9 @@ use Rattle.frame_words.specs.Pieces.{Makes}
 use Rattle.frame_words.proofs.KindCalls.{work_here, without_newest}
 use Rattle.frame_words.proofs.Noting.{makes_since}
 use Rattle.frame_words.proofs.Piecing.{makes_post}
+use Rattle.frame_words.proofs.Rests.{rest_beside, rest_same, rest_gave, rest_more, still_none, went_longer}
 use Rattle.frame_types.specs.Taking.{IsReady, IsMarkedWork, LeavesOwn}
 use Rattle.frame_types.proofs.Calmly.{clock_left}
-use Rattle.frame_types.proofs.Rests.{rest_beside, rest_same, rest_gave, rest_more, still_none, went_longer}
 use Rattle.frame_types.proofs.Taken.{EntersOwn, lent_owner, typed_known}
 
 number_small : (w : ℕ) → (kind_fields w).number < 2 ^ 36

@@ -13,10 +13,10 @@ use Rattle.xp_board.specs.Readings.{is_work, is_partial}
 use Rattle.frame_words.specs.Hands.{GaveBack}
 use Rattle.frame_words.specs.Partial.{ResumedWork}
 use Rattle.frame_words.proofs.PartialCalls.{resumed_work, resumed_here}
+use Rattle.frame_words.proofs.Rests.{rest_beside, rest_gave, rest_more, still_none}
 use Rattle.frame_types.specs.Taking.{IsReady, IsMarkedWork}
 use Rattle.frame_types.specs.Writable.{LentBy}
 use Rattle.frame_types.proofs.Classing.{IsParted}
-use Rattle.frame_types.proofs.Rests.{rest_beside, rest_gave, rest_more, still_none}
 use Rattle.frame_types.proofs.Taken.{EntersOwn, EntersShared, lent_owner}
 
 resumed_in_work : (k : KindWord) → IsTrue (is_partial k) → is_work (resumed_kind k) ≡ true

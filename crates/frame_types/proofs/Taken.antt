@@ -20,9 +20,9 @@ use Rattle.frame_words.specs.Hands.{SameHand, FlushedRest, GaveUp}
 use Rattle.frame_words.specs.Kinds.{LostKind, CountedType}
 use Rattle.frame_words.proofs.KindCalls.{without_newest}
 use Rattle.frame_words.proofs.KindHands.{typed_held, known_first}
+use Rattle.frame_words.proofs.Rests.{rest_beside, rest_same, rest_more, still_none}
 use Rattle.frame_types.specs.Taking.{IsReady, Becomes, LeavesOwn, LeavesShared}
 use Rattle.frame_types.specs.Writable.{LentBy, TookWritable, LeavesHand}
-use Rattle.frame_types.proofs.Rests.{rest_beside, rest_same, rest_more, still_none}
 
 -- ---- the reference that is lent
 pub lent_owner : (f owner : ℕ) (h : Holdings) → LentBy f owner h → ref_owner f h ≡ owners.Of owner

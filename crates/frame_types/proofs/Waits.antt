@@ -7,18 +7,18 @@ use Rattle.xp_board.specs.Told.{Post, PortValue}
 use Rattle.xp_board.proofs.Going.{went_post}
 use Rattle.frame_words.specs.Hands.{SameOrFlushed}
 use Rattle.frame_words.specs.Pieces.{Serves}
+use Rattle.frame_words.proofs.Rests.{whole_self, whole_more}
 use Rattle.frame_types.specs.declared.waiting.Awaited.{Awaited}
 use Rattle.frame_types.specs.declared.waiting.Behind.{Behind}
 use Rattle.frame_types.specs.Clearing.{Ran, IsClear, Stands, Looks, first_behind, AllStand, Waits}
 use Rattle.frame_types.specs.Waiting.{FoundClear, WasAsked, Clears, IsMarked, IsFlushed}
 use Rattle.frame_types.proofs.Chaining.{clear_earlier, asked_earlier, behind_earlier, still_clear, then_stands}
 use Rattle.frame_types.proofs.FlushSteps.{flushes_nothing, flushes_both, ran_serves}
-use Rattle.frame_types.proofs.Growing.{same_self, same_more}
 
 pub waits_none : (v : PortValue) (a : Awaited) → Waits v v a 0 (Ok None)
 waits_none v a =
     let none = flushes_nothing v a.frame in
-    record { made = []; piece = none.piece; flushes = none.flushes; shows = λ u below. absurd (omega (arith, below)); hand = same_self v.holdings }
+    record { made = []; piece = none.piece; flushes = none.flushes; shows = λ u below. absurd (omega (arith, below)); hand = whole_self v.holdings }
 
 -- ---- one vCPU more
 below_or : (u k : ℕ) → u < k + 1 → (u < k) ⊎ (u ≡ k)
@@ -73,7 +73,7 @@ waits_more v u w a k o standing so l =
       piece = all.piece;
       flushes = all.flushes;
       shows = all_more v u w a k so.made l.made so.piece l.piece o standing l.hand so.shows (then_stands v u w a so.made l.made so.piece l.piece k (Ok standing) l.shows);
-      hand = same_more _ _ _ so.hand l.hand;
+      hand = whole_more _ _ _ so.hand l.hand;
     }
 
 pub waits_refused : (v u w : PortValue) (a : Awaited) (k n : ℕ) (o : Option Behind) (r : Refusal) → Waits v u a k (Ok o) → Looks u w a k (Err r) → Waits v w a n (Err r)
@@ -84,7 +84,7 @@ waits_refused v u w a k n o r so l =
       piece = all.piece;
       flushes = all.flushes;
       shows = then_stands v u w a so.made l.made so.piece l.piece k (Err r) l.shows;
-      hand = same_more _ _ _ so.hand l.hand;
+      hand = whole_more _ _ _ so.hand l.hand;
     }
 
 -- ---- its end

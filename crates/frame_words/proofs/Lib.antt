@@ -16,6 +16,7 @@ pub mod PartialCalls
 pub mod PartialSteps
 pub mod Piecing
 pub mod Putting
+pub mod Rests
 pub mod Stepping
 pub mod Stopped
 pub mod Taking

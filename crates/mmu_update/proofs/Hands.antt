@@ -1,5 +1,5 @@
 -- Hands, one behind the other, in which the own translations may be flushed.
-use Rattle.std.proofs.Common.{◌≡◌, ℕ, List, [], None, refl, ap, ◌∙◌, inl, IsTrue}
+use Rattle.std.proofs.Common.{◌≡◌, ℕ, List, [], None, refl, ap, ◌∙◌, IsTrue}
 use Rattle.xp_words.specs.declared.kind.PageType.TheVariants.{Writable}
 use Rattle.xp_words.specs.Places.{Sizes}
 use Rattle.xp_board.specs.declared.holdings.Reference.{Reference}
@@ -16,29 +16,13 @@ use Rattle.frame_words.specs.Cells.{IsApart}
 use Rattle.frame_words.specs.Hands.{SameHand, TookRef, FlushedRest, SameOrFlushed, GaveUp}
 use Rattle.frame_words.proofs.KindCalls.{without_newest}
 use Rattle.frame_words.proofs.KindHands.{known_first}
+use Rattle.frame_words.proofs.Rests.{rest_same, rest_took, rest_more}
 use Rattle.frame_types.specs.Writable.{TookWritable, DroppedPlain}
-use Rattle.frame_types.proofs.Rests.{rest_same, rest_more}
 
 -- ---- a reference that was taken
 module _ (f d : ℕ) (h a : Holdings) (took : TookRef f d h a) where
   took_rest : FlushedRest h a
-  took_rest =
-      record {
-        locks = took.rest.locks;
-        ending = took.ending;
-        claimed = took.rest.claimed;
-        raised = took.rest.raised;
-        credits = took.rest.credits;
-        looking = took.rest.looking;
-        cache = inl took.rest.cache;
-        walk = took.rest.walk;
-        cold = inl took.rest.cold;
-        run = took.run;
-        old0 = took.rest.old0;
-        old1 = took.rest.old1;
-        turn = took.turn;
-        ran = took.rest.ran;
-      }
+  took_rest = rest_took f d h a took
 
   -- and given up
   pub given_up : (k : Holdings) → GaveUp f a k → SameOrFlushed h k

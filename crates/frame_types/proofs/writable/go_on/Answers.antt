@@ -2,11 +2,11 @@ use Rattle.std.proofs.Common.{◌<◌, length, refl, sym, subst, arith}
 use Rattle.xp_words.specs.Places.{sizes_of}
 use Rattle.xp_board.specs.Hands.{refs_to}
 use Rattle.frame_words.proofs.PartialCalls.{resumed_spares}
+use Rattle.frame_words.proofs.Rests.{makes_longer, went_longer}
 use Rattle.frame_types.specs.Taking.{TakesAfter}
 use Rattle.frame_types.proofs.Arms.{lost, finishes_taken, never_lost, finishes_not_lost}
 use Rattle.frame_types.proofs.Calmly.{calmly_more, at_kind, at_put, kind_had, more_had}
 use Rattle.frame_types.proofs.Classing.{when_partial, partial_opens, partial_marked, partial_waits}
-use Rattle.frame_types.proofs.Rests.{makes_longer, went_longer}
 use Rattle.frame_types.proofs.Resuming.{resumed_marked, kept_enters, shared_enters, still_lent}
 use Rattle.frame_types.proofs.Taken.{lent_held, lent_owner, lent_known, typed_known, typed_owned, own_leaves, shared_leaves}
 use Rattle.frame_types.proofs.writable.go_on.Goals as goal

@@ -1,12 +1,12 @@
 use Rattle.std.proofs.Common.{◌<◌, ◌∙◌, Ok, refl, sym, subst}
 use Rattle.xp_board.specs.Hands.{refs_to}
 use Rattle.frame_words.proofs.KindCalls.{begun_is_writable}
+use Rattle.frame_words.proofs.Rests.{makes_longer}
 use Rattle.frame_types.specs.Taking.{TakesAfter}
 use Rattle.frame_types.proofs.Arms.{taken_live, lost, finishes_taken, never_lost, finishes_not_lost}
 use Rattle.frame_types.proofs.Calmly.{calmly_more, at_kind, kind_had}
 use Rattle.frame_types.proofs.Classing.{when_dead, dead_opens, dead_waits}
 use Rattle.frame_types.proofs.Marking.{begun_marked, begun_enters, live_leaves}
-use Rattle.frame_types.proofs.Rests.{makes_longer}
 use Rattle.frame_types.proofs.Taken.{lent_held, typed_owned, own_leaves}
 use Rattle.frame_types.proofs.writable.validate_dead.Goals as goal
 

@@ -1,4 +1,4 @@
--- The parts of a hand beside references, types and works, over several steps.
+-- Hands over several steps in which the own translations may be flushed.
 use Rattle.std.proofs.Common.{◌≡◌, ℕ, ◌<◌, ◌≤◌, ◌⊎◌, false, List, [], ◌∷◌, length, Option, refl, sym, ap, ◌∙◌, inl, inr, arith}
 use Rattle.xp_words.specs.Places.{Place}
 use Rattle.xp_board.specs.declared.step.Act.{Act}
@@ -10,11 +10,13 @@ use Rattle.xp_board.specs.KindSteps.{still_looking}
 use Rattle.xp_board.specs.Lists.{kept_of}
 use Rattle.xp_board.specs.Runs.{place_of}
 use Rattle.xp_board.specs.Told.{PortValue, Went}
-use Rattle.frame_words.specs.Hands.{SameHand, GaveBack, FlushedRest}
+use Rattle.frame_words.specs.Flushing.{Flushed}
+use Rattle.frame_words.specs.Hands.{SameRest, SameHand, TookRef, GaveBack, FlushedRest, SameOrFlushed}
 use Rattle.frame_words.specs.Kinds.{SameBeside}
 use Rattle.frame_words.specs.Pieces.{Makes}
 use Rattle.frame_words.proofs.Noting.{makes_steps}
 
+-- ---- the parts beside references, types and works
 pub rest_beside : (h k : Holdings) → SameBeside h k → k.looking ≡ h.looking → FlushedRest h k
 rest_beside h k a looking =
     record {
@@ -34,42 +36,70 @@ rest_beside h k a looking =
       ran = a.ran;
     }
 
-pub rest_same : (h k : Holdings) → SameHand h k → FlushedRest h k
-rest_same h k a =
+rest_kept : (h k : Holdings) → SameRest h k → k.ending ≡ h.ending → k.run ≡ h.run → k.turn ≡ h.turn → FlushedRest h k
+rest_kept h k a ending run turn =
     record {
-      locks = a.rest.locks;
-      ending = a.ending;
-      claimed = a.rest.claimed;
-      raised = a.rest.raised;
-      credits = a.rest.credits;
-      looking = a.rest.looking;
-      cache = inl a.rest.cache;
-      walk = a.rest.walk;
-      cold = inl a.rest.cold;
-      run = a.run;
-      old0 = a.rest.old0;
-      old1 = a.rest.old1;
-      turn = a.turn;
-      ran = a.rest.ran;
+      locks = a.locks;
+      ending = ending;
+      claimed = a.claimed;
+      raised = a.raised;
+      credits = a.credits;
+      looking = a.looking;
+      cache = inl a.cache;
+      walk = a.walk;
+      cold = inl a.cold;
+      run = run;
+      old0 = a.old0;
+      old1 = a.old1;
+      turn = turn;
+      ran = a.ran;
     }
 
+pub rest_same : (h k : Holdings) → SameHand h k → FlushedRest h k
+rest_same h k a = rest_kept h k a.rest a.ending a.run a.turn
+
+pub rest_took : (f owner : ℕ) (h k : Holdings) → TookRef f owner h k → FlushedRest h k
+rest_took f owner h k a = rest_kept h k a.rest a.ending a.run a.turn
+
 pub rest_gave : (f : ℕ) (h k : Holdings) → GaveBack f h k → FlushedRest h k
-rest_gave f h k a =
+rest_gave f h k a = rest_kept h k a.rest a.ending a.run a.turn
+
+pub rest_flushed : (h k : Holdings) → Flushed h k → FlushedRest h k
+rest_flushed h k a =
     record {
-      locks = a.rest.locks;
+      locks = a.locks;
       ending = a.ending;
-      claimed = a.rest.claimed;
-      raised = a.rest.raised;
-      credits = a.rest.credits;
-      looking = a.rest.looking;
-      cache = inl a.rest.cache;
-      walk = a.rest.walk;
-      cold = inl a.rest.cold;
+      claimed = a.claimed;
+      raised = a.raised;
+      credits = a.credits;
+      looking = a.looking;
+      cache = inr a.cache;
+      walk = a.walk;
+      cold = inr a.cold;
       run = a.run;
-      old0 = a.rest.old0;
-      old1 = a.rest.old1;
+      old0 = a.old0;
+      old1 = a.old1;
       turn = a.turn;
-      ran = a.rest.ran;
+      ran = a.ran;
+    }
+
+rest_self : (h : Holdings) → FlushedRest h h
+rest_self h =
+    record {
+      locks = refl;
+      ending = refl;
+      claimed = refl;
+      raised = refl;
+      credits = refl;
+      looking = refl;
+      cache = inl refl;
+      walk = refl;
+      cold = inl refl;
+      run = refl;
+      old0 = refl;
+      old1 = refl;
+      turn = refl;
+      ran = refl;
     }
 
 -- the same as before, or as it is once flushed
@@ -96,6 +126,19 @@ rest_more a b c p q =
       turn = q.turn ∙ p.turn;
       ran = q.ran ∙ p.ran;
     }
+
+-- ---- the whole hand
+pub whole_self : (h : Holdings) → SameOrFlushed h h
+whole_self h = record { refs = refl; typed = refl; works = refl; rest = rest_self h }
+
+pub whole_same : (h k : Holdings) → SameHand h k → SameOrFlushed h k
+whole_same h k a = record { refs = a.refs; typed = a.rest.typed; works = a.rest.works; rest = rest_same h k a }
+
+pub whole_flushed : (h k : Holdings) → Flushed h k → SameOrFlushed h k
+whole_flushed h k a = record { refs = a.refs; typed = a.typed; works = a.works; rest = rest_flushed h k a }
+
+pub whole_more : (a b c : Holdings) → SameOrFlushed a b → SameOrFlushed b c → SameOrFlushed a c
+whole_more a b c p q = record { refs = q.refs ∙ p.refs; typed = q.typed ∙ p.typed; works = q.works ∙ p.works; rest = rest_more a b c p.rest q.rest }
 
 -- ---- a seat that looks at no domain
 pub still_none : (f w : ℕ) (xs : List Looking) → xs ≡ [] → still_looking f w xs ≡ xs
