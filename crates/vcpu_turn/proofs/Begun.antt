@@ -14,9 +14,10 @@ use Rattle.xp_board.specs.Runs.{place_of}
 use Rattle.xp_board.specs.Told.{Post, PortValue, Went, told_word}
 use Rattle.xp_board.proofs.Going.{went_more, went_post}
 use Rattle.frame_words.specs.Flushing.{Flushed, flushed_to, FlushesOwn}
-use Rattle.frame_words.specs.Hands.{SameHand, BegunTurn, SameOrFlushed}
+use Rattle.frame_words.specs.Hands.{SameRest, SameHand, BegunTurn, SameOrFlushed}
 use Rattle.frame_words.specs.Pieces.{Makes, is_load}
 use Rattle.frame_words.proofs.Noting.{made_now}
+use Rattle.frame_words.proofs.Rests.{whole_same, whole_flushed, whole_more}
 use Rattle.frame_words.proofs.Taking.{same_after}
 use Rattle.frame_words.proofs.Telling.{makes_elsewhere}
 use Rattle.vcpu_turn.specs.Beginning.{Acks}
@@ -70,53 +71,39 @@ own_flushed : (s : ℕ) → IsTrue (false || (if s == s then 5 == 5 else false))
 own_flushed s = grind (arith, nat_tests)
 
 -- ---- hands
-pub ack_hand : (h k l : Holdings) → BegunTurn h k → SameHand k l → SameOrFlushed (record h { turn = l.turn }) l
-ack_hand h k l b s =
+turned_rest : (h k : Holdings) (t : ℕ) → SameRest h k → SameRest (record h { turn = t }) k
+turned_rest h k t a =
     record {
-      refs = s.refs ∙ b.refs;
-      typed = s.rest.typed ∙ b.rest.typed;
-      works = s.rest.works ∙ b.rest.works;
-      rest = record {
-        locks = s.rest.locks ∙ b.rest.locks;
-        ending = s.ending ∙ b.ending;
-        claimed = s.rest.claimed ∙ b.rest.claimed;
-        raised = s.rest.raised ∙ b.rest.raised;
-        credits = s.rest.credits ∙ b.rest.credits;
-        looking = s.rest.looking ∙ b.rest.looking;
-        cache = inl (s.rest.cache ∙ b.rest.cache);
-        walk = s.rest.walk ∙ b.rest.walk;
-        cold = inl (s.rest.cold ∙ b.rest.cold);
-        run = s.run ∙ b.run;
-        old0 = s.rest.old0 ∙ b.rest.old0;
-        old1 = s.rest.old1 ∙ b.rest.old1;
-        turn = refl;
-        ran = s.rest.ran ∙ b.rest.ran;
-      };
+      typed = a.typed;
+      works = a.works;
+      locks = a.locks;
+      claimed = a.claimed;
+      raised = a.raised;
+      credits = a.credits;
+      looking = a.looking;
+      cache = a.cache;
+      walk = a.walk;
+      cold = a.cold;
+      old0 = a.old0;
+      old1 = a.old1;
+      acked = a.acked;
+      ran = a.ran;
     }
 
+-- but for the turn that began, the hand is as before
+begun_same : (h k : Holdings) → BegunTurn h k → SameHand (record h { turn = k.turn }) k
+begun_same h k b = record { refs = b.refs; ending = b.ending; run = b.run; turn = refl; rest = turned_rest h k k.turn b.rest }
+
+begun_then : (h k l : Holdings) → BegunTurn h k → SameOrFlushed k l → SameOrFlushed (record h { turn = l.turn }) l
+begun_then h k l b s =
+    subst (λ t. SameOrFlushed (record h { turn = t }) l) (sym s.rest.turn)
+    (whole_more (record h { turn = k.turn }) k l (whole_same (record h { turn = k.turn }) k (begun_same h k b)) s)
+
+pub ack_hand : (h k l : Holdings) → BegunTurn h k → SameHand k l → SameOrFlushed (record h { turn = l.turn }) l
+ack_hand h k l b s = begun_then h k l b (whole_same k l s)
+
 pub flushed_hand : (h k l m : Holdings) → BegunTurn h k → SameHand k l → Flushed l m → SameOrFlushed (record h { turn = m.turn }) m
-flushed_hand h k l m b s f =
-    record {
-      refs = f.refs ∙ s.refs ∙ b.refs;
-      typed = f.typed ∙ s.rest.typed ∙ b.rest.typed;
-      works = f.works ∙ s.rest.works ∙ b.rest.works;
-      rest = record {
-        locks = f.locks ∙ s.rest.locks ∙ b.rest.locks;
-        ending = f.ending ∙ s.ending ∙ b.ending;
-        claimed = f.claimed ∙ s.rest.claimed ∙ b.rest.claimed;
-        raised = f.raised ∙ s.rest.raised ∙ b.rest.raised;
-        credits = f.credits ∙ s.rest.credits ∙ b.rest.credits;
-        looking = f.looking ∙ s.rest.looking ∙ b.rest.looking;
-        cache = inr f.cache;
-        walk = f.walk ∙ s.rest.walk ∙ b.rest.walk;
-        cold = inr f.cold;
-        run = f.run ∙ s.run ∙ b.run;
-        old0 = f.old0 ∙ s.rest.old0 ∙ b.rest.old0;
-        old1 = f.old1 ∙ s.rest.old1 ∙ b.rest.old1;
-        turn = refl;
-        ran = f.ran ∙ s.rest.ran ∙ b.rest.ran;
-      };
-    }
+flushed_hand h k l m b s f = begun_then h k m b (whole_more k l m (whole_same k l s) (whole_flushed l m f))
 
 -- ---- the turn begins, and the flushed word is looked at
 module _ (v a b : PortValue) (x y : ℕ) (asked : Makes v a (Vcpu v.post.seat 4) Load (Some Turn) x) (begun : BegunTurn v.holdings a.holdings) (later : a.post ≡ v.post)
