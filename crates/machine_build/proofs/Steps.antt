@@ -61,6 +61,11 @@ pub cell-inside : (z : Sizes) (f i : ℕ) → f < z.frames → i < 512 → numbe
 unfolding is_place
 cell-inside z f i h b = number-lt z (Cell f i) (grind (arith, nat_tests))
 
+-- the cells of a frame stand side by side
+pub cell-behind : (z : Sizes) (f i : ℕ) → number z (Cell f i) ≡ number z (Cell f 0) + i
+unfolding number
+cell-behind z f i = omega arith
+
 pub map-inside : (z : Sizes) (k : ℕ) → k < map_words z → number z (Map k) < size z
 unfolding is_place
 map-inside z k h = number-lt z (Map k) (grind (arith, nat_tests))
@@ -244,7 +249,7 @@ pub owned_step : (o : Own) (os : List Own) (a b m : Place → ℕ) → ((p : Pla
     (p : Place) → a p ≡ with_owned (o ∷ os) m p
 owned_step o os a b m h k p = h p ∙ same_owned (o ∷ []) b (with_owned os m) k p ∙ more_owned o os m p
 
-same_cells : (cs : List CellRun) (m n : Place → ℕ) → ((p : Place) → m p ≡ n p) → (p : Place) → with_cells cs m p ≡ with_cells cs n p
+pub same_cells : (cs : List CellRun) (m n : Place → ℕ) → ((p : Place) → m p ≡ n p) → (p : Place) → with_cells cs m p ≡ with_cells cs n p
 unfolding with_cells
 same_cells cs m n h (Cell f i) = ap (or_value (find (has_cell f i) cs)) (h (Cell f i))
 same_cells cs m n h p = h p

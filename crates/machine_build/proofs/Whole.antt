@@ -1,8 +1,5 @@
-use Rattle.std.proofs.Common.{◌≡◌, ℕ, ◌+◌, ◌*◌, ◌==◌, ◌&&◌, nat_lt, Bool, true, List, length, get_or, All, find, reverse, is_none, IsTrue, inl, inr, refl, ◌∙◌, ap, arith, Option, Some, None}
+use Rattle.std.proofs.Common.{◌≡◌, ℕ, ◌+◌, ◌*◌, ◌==◌, ◌&&◌, nat_lt, Bool, true, List, length, find, reverse, is_none, IsTrue, refl, ◌∙◌, ap, arith, Option, Some, None}
 use Rattle.std.proofs.Math.ListN.{set}
-use Rattle.std.proofs.lemmas.Bool.{cases_lt}
-use Rattle.std.proofs.lemmas.List.Elements.{All-get_or}
-use Rattle.std.proofs.lemmas.List.{get_or_past}
 use Rattle.std.proofs.lemmas.Bool.Decides.{nat_tests}
 use Rattle.xp_words.specs.RefWords.{ref_write}
 use Rattle.xp_words.specs.Places.{Sizes, Place, Clock, Pages, Life, Vcpu, Refs, Kind, M2p, Cell, Map, Priv, sizes_of, is_place, number, memory, size, map_words}
@@ -10,30 +7,14 @@ use Rattle.xp_words.proofs.PlaceLaws.{memory_same, memory_other}
 use Rattle.trace_text.specs.declared.trace.Trace.{Trace}
 use Rattle.trace_text.specs.declared.trace.Own.{Own}
 use Rattle.trace_text.specs.declared.trace.CellRun.{CellRun}
-use Rattle.machine_build.specs.Puts.{with_domains, with_vcpus, with_m2p, with_owned, with_cells, with_map, or_word, or_value, is_zero}
+use Rattle.machine_build.specs.Puts.{nothing, with_clock, with_domains, with_vcpus, with_m2p, with_owned, with_cells, with_map, or_word, or_value, is_zero}
 use Rattle.machine_build.specs.Opening.{has_frame, has_cell, refs_in, value_in, opening_at}
 use Rattle.machine_build.proofs.Steps.{bits_below-same}
 
--- the clock, and 0 elsewhere
-pub clock_alone : ℕ → Place → ℕ
-clock_alone clock Clock = clock
-clock_alone clock p = 0
-
-zero_at : (words : List ℕ) (n : ℕ) → All (λ w. w ≡ 0) words → get_or words n 0 ≡ 0
-zero_at words n h =
-    elim (cases_lt n (length words)) [
-      | inl k ↦ All-get_or (λ (w : ℕ). w ≡ 0) words n 0 k h
-      | inr k ↦ get_or_past words n 0 k
-    ]
-
-zero_memory : (z : Sizes) (words : List ℕ) (p : Place) → All (λ w. w ≡ 0) words → memory z words p ≡ 0
-unfolding memory
-zero_memory z words p h = let w = zero_at words (number z p) h in grind arith
-
-pub only_clock : (z : Sizes) (words : List ℕ) (clock : ℕ) → length words ≡ size z → All (λ w. w ≡ 0) words → (p : Place) → memory z (set words (number z Clock) clock) p ≡ clock_alone clock p
-unfolding clock_alone is_place
-only_clock z words clock l h Clock = memory_same z words Clock clock refl l
-only_clock z words clock l h p = memory_other z words Clock p clock refl (λ s. cc) ∙ zero_memory z words p h
+pub only_clock : (z : Sizes) (words : List ℕ) (clock : ℕ) → length words ≡ size z → (p : Place) → memory z (set words (number z Clock) clock) p ≡ with_clock clock (memory z words) p
+unfolding with_clock is_place
+only_clock z words clock l Clock = memory_same z words Clock clock refl l
+only_clock z words clock l p = memory_other z words Clock p clock refl (λ s. cc)
 
 word_is : (x : Option Own) (w : ℕ) → w ≡ 0 → or_word x w ≡ refs_in x
 unfolding ref_write
@@ -53,30 +34,30 @@ owned_word (Some o) = grind (arith, nat_tests)
 free_bits : (frames : ℕ) (m : Place → ℕ) (x : ℕ → Option Own) (f : ℕ) → m (Refs f) ≡ or_word (x f) 0 → is_zero frames m f ≡ (nat_lt f frames && is_none (x f))
 free_bits frames m x f e = let w = word_is (x f) 0 refl in let o = owned_word (x f) in ap (λ (b : Bool). nat_lt f frames && b) (ap (λ (n : ℕ). n == 0) (e ∙ w) ∙ o)
 
-module _ (t : Trace) (a b c d e f g : Place → ℕ)
-    (ha : (p : Place) → a p ≡ clock_alone t.clock p)
+module _ (t : Trace) (f a b c d e g : Place → ℕ)
+    (hf : (p : Place) → f p ≡ with_cells (reverse t.cells) nothing p)
+    (ha : (p : Place) → a p ≡ with_clock t.clock f p)
     (hb : (p : Place) → b p ≡ with_domains (length t.layout.page_limit) t a p)
     (hc : (p : Place) → c p ≡ with_vcpus (length t.layout.vcpu_domain) t.clock b p)
     (hd : (p : Place) → d p ≡ with_m2p t.layout.frames c p)
     (he : (p : Place) → e p ≡ with_owned t.owned d p)
-    (hf : (p : Place) → f p ≡ with_cells (reverse t.cells) e p)
-    (hg : (p : Place) → g p ≡ with_map (map_words (sizes_of t.layout)) t.layout.frames f p) where
+    (hg : (p : Place) → g p ≡ with_map (map_words (sizes_of t.layout)) t.layout.frames e p) where
   pub all_words : (p : Place) → IsTrue (is_place (sizes_of t.layout) p) → g p ≡ opening_at t p
-  unfolding is_place opening_at clock_alone with_domains with_vcpus with_m2p with_owned with_cells with_map
-  all_words Clock k = hg Clock ∙ hf Clock ∙ he Clock ∙ hd Clock ∙ hc Clock ∙ hb Clock ∙ ha Clock
-  all_words (Pages i) k = hg (Pages i) ∙ hf (Pages i) ∙ he (Pages i) ∙ hd (Pages i) ∙ hc (Pages i) ∙ hb (Pages i) ∙ rw k refl
-  all_words (Life i) k = hg (Life i) ∙ hf (Life i) ∙ he (Life i) ∙ hd (Life i) ∙ hc (Life i) ∙ hb (Life i) ∙ ha (Life i)
-  all_words (Vcpu v i) k = let z = hb (Vcpu v i) ∙ ha (Vcpu v i) in hg (Vcpu v i) ∙ hf (Vcpu v i) ∙ he (Vcpu v i) ∙ hd (Vcpu v i) ∙ hc (Vcpu v i) ∙ (let there : nat_lt v (length t.layout.vcpu_domain) ≡ true = grind (arith, nat_tests) in rw (there, z) refl)
-  all_words (Refs i) k = hg (Refs i) ∙ hf (Refs i) ∙ he (Refs i) ∙ word_is (find (has_frame i) t.owned) _ (hd (Refs i) ∙ hc (Refs i) ∙ hb (Refs i) ∙ ha (Refs i))
-  all_words (Kind i) k = hg (Kind i) ∙ hf (Kind i) ∙ he (Kind i) ∙ hd (Kind i) ∙ hc (Kind i) ∙ hb (Kind i) ∙ ha (Kind i)
-  all_words (M2p i) k = hg (M2p i) ∙ hf (M2p i) ∙ he (M2p i) ∙ hd (M2p i) ∙ rw k refl
-  all_words (Cell i j) k = hg (Cell i j) ∙ hf (Cell i j) ∙ value_is (find (has_cell i j) (reverse t.cells)) _ (he (Cell i j) ∙ hd (Cell i j) ∙ hc (Cell i j) ∙ hb (Cell i j) ∙ ha (Cell i j))
+  unfolding is_place opening_at with_clock with_domains with_vcpus with_m2p with_owned with_cells with_map
+  all_words Clock k = hg Clock ∙ he Clock ∙ hd Clock ∙ hc Clock ∙ hb Clock ∙ ha Clock
+  all_words (Pages i) k = hg (Pages i) ∙ he (Pages i) ∙ hd (Pages i) ∙ hc (Pages i) ∙ hb (Pages i) ∙ rw k refl
+  all_words (Life i) k = hg (Life i) ∙ he (Life i) ∙ hd (Life i) ∙ hc (Life i) ∙ hb (Life i) ∙ ha (Life i) ∙ hf (Life i)
+  all_words (Vcpu v i) k = let z = hb (Vcpu v i) ∙ ha (Vcpu v i) ∙ hf (Vcpu v i) in hg (Vcpu v i) ∙ he (Vcpu v i) ∙ hd (Vcpu v i) ∙ hc (Vcpu v i) ∙ (let there : nat_lt v (length t.layout.vcpu_domain) ≡ true = grind (arith, nat_tests) in rw (there, z) refl)
+  all_words (Refs i) k = hg (Refs i) ∙ he (Refs i) ∙ word_is (find (has_frame i) t.owned) _ (hd (Refs i) ∙ hc (Refs i) ∙ hb (Refs i) ∙ ha (Refs i) ∙ hf (Refs i))
+  all_words (Kind i) k = hg (Kind i) ∙ he (Kind i) ∙ hd (Kind i) ∙ hc (Kind i) ∙ hb (Kind i) ∙ ha (Kind i) ∙ hf (Kind i)
+  all_words (M2p i) k = hg (M2p i) ∙ he (M2p i) ∙ hd (M2p i) ∙ rw k refl
+  all_words (Cell i j) k = hg (Cell i j) ∙ he (Cell i j) ∙ hd (Cell i j) ∙ hc (Cell i j) ∙ hb (Cell i j) ∙ ha (Cell i j) ∙ hf (Cell i j) ∙ value_is (find (has_cell i j) (reverse t.cells)) 0 refl
   all_words (Map i) k =
       hg (Map i) ∙ rw k refl
       ∙ bits_below-same 64 _ _
       (λ j r.
       let n = 64 * i + j in
-      let zero : d (Refs n) ≡ 0 = hd (Refs n) ∙ hc (Refs n) ∙ hb (Refs n) ∙ ha (Refs n) in
-      let word : f (Refs n) ≡ or_word (find (has_frame n) t.owned) 0 = hf (Refs n) ∙ he (Refs n) ∙ ap (or_word (find (has_frame n) t.owned)) zero in
-      free_bits t.layout.frames f (λ q. find (has_frame q) t.owned) n word)
-  all_words (Priv i) k = hg (Priv i) ∙ hf (Priv i) ∙ he (Priv i) ∙ hd (Priv i) ∙ hc (Priv i) ∙ hb (Priv i) ∙ rw k refl
+      let zero : d (Refs n) ≡ 0 = hd (Refs n) ∙ hc (Refs n) ∙ hb (Refs n) ∙ ha (Refs n) ∙ hf (Refs n) in
+      let word : e (Refs n) ≡ or_word (find (has_frame n) t.owned) 0 = he (Refs n) ∙ ap (or_word (find (has_frame n) t.owned)) zero in
+      free_bits t.layout.frames e (λ q. find (has_frame q) t.owned) n word)
+  all_words (Priv i) k = hg (Priv i) ∙ he (Priv i) ∙ hd (Priv i) ∙ hc (Priv i) ∙ hb (Priv i) ∙ rw k refl

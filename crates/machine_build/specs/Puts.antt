@@ -1,11 +1,20 @@
 -- The words after each part of the opening was put, from those before it.
 use Rattle.std.specs.Prelude.{ℕ, ◌+◌, ◌-◌, ◌*◌, ◌^◌, ◌==◌, ◌&&◌, nat_lt, if◌then◌else◌, Bool, List, find, slice_index, Option, Some, None}
-use Rattle.xp_words.specs.Places.{Place, Pages, Vcpu, Refs, M2p, Cell, Map, Priv}
+use Rattle.xp_words.specs.Places.{Place, Clock, Pages, Vcpu, Refs, M2p, Cell, Map, Priv}
 use Rattle.trace_text.specs.declared.trace.Own.{Own}
 use Rattle.trace_text.specs.declared.trace.CellRun.{CellRun}
 use Rattle.trace_text.specs.declared.trace.Trace.{Trace}
 use Rattle.trace_text.specs.Counted.{pages_of}
 use Rattle.machine_build.specs.Opening.{has_frame, has_cell, refs_in, bits_below, both_halves}
+
+-- no word holds anything
+abbrev pub nothing : Place → ℕ
+nothing p = 0
+
+-- the clock
+unfoldable pub with_clock : ℕ → (Place → ℕ) → Place → ℕ
+with_clock clock m Clock = clock
+with_clock clock m p = m p
 
 -- the pages and the privileges of the first n domains
 unfoldable pub with_domains : ℕ → Trace → (Place → ℕ) → Place → ℕ

@@ -14,8 +14,7 @@ unfolding number
 returns c =
     record {
       count = omega (arith, length-set {A = ℕ});
-      places = all_words c.args.trace.now _ _ _ _ _ _ _ (only_clock _ _ _ c.requires.count c.requires.zero) c.put_domains.ensures c.put_vcpus.ensures c.put_m2p.ensures
+      places = all_words c.args.trace.now _ _ _ _ _ _ _ c.requires.cells (only_clock _ _ _ c.requires.count) c.put_domains.ensures c.put_vcpus.ensures c.put_m2p.ensures
           (rw c.as_slice.ensures at c.put_owned.ensures)
-          (rw c.as_slice-2.ensures at c.put_cells.ensures)
           c.put_map.ensures;
     }
