@@ -1,5 +1,4 @@
 pub mod Caches
-pub mod Copying
 pub mod Opened
 pub mod Plainly
 pub mod Stepping

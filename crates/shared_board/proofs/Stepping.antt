@@ -1,11 +1,13 @@
 -- What one step makes of a plain board.
 use Rattle.std.proofs.Common.{◌≡◌, ℕ, ◌<◌, List, [], ◌∷◌, length, Some, refl, sym, ap, ◌∙◌, subst, get_or-set_same, inl, inr}
-use Rattle.std.specs.Prelude.{slice_set}
+use Rattle.std.specs.Prelude.{slice_index, slice_set}
 use Rattle.std.proofs.lemmas.Bool.{cases_eq}
 use Rattle.std.proofs.lemmas.List.{get_or-set_other}
 use Rattle.atomic_table.specs.Table.{Me}
 use Rattle.xp_words.specs.Machine.{Machine}
 use Rattle.xp_words.specs.Places.{sizes_of}
+use Rattle.xp_board.specs.Acts.{left_by}
+use Rattle.xp_board.proofs.Numbers.{place_inside, word_there}
 use Rattle.xp_board.specs.declared.step.Step.{Step}
 use Rattle.xp_board.specs.declared.holdings.Holdings.{Holdings}
 use Rattle.xp_board.specs.Hands.{empty}
@@ -28,9 +30,9 @@ sound_next : RunsSound → (n : Machine) (s : ℕ) (x : Step) (v : Known) → s 
 sound_next keeps n s x v lt legal sound =
     keeps n (state_in v) (next n (state_in v) s x) ((s, x) ∷ []) (state_in v, refl, record { seat = lt; legal = legal.legal; next_is = refl }) sound
 
-pub did_sound : RunsSound → (n : Machine) (s found : ℕ) (x : Step) (me you : Me (Unit {0}) Known) → Did n s x me found you → s < (sizes_of n).vcpus → LegalNow n s (seat_of me.0.hands s) x →
+pub did_sound : RunsSound → (n : Machine) (s : ℕ) (x : Step) (me you : Me (Unit {0}) Known) → Did n s x me you → s < (sizes_of n).vcpus → LegalNow n s (seat_of me.0.hands s) x →
     SoundState n me.0.words me.0.hands → SoundState n you.0.words you.0.hands
-did_sound keeps n s found x me you did lt legal sound =
+did_sound keeps n s x me you did lt legal sound =
     subst (λ (v : Known). SoundState n v.words v.hands) (sym did.applied) (sound_next keeps n s x me.0 lt legal sound)
 
 bare_set : (seats : List Holdings) (s t : ℕ) (u : Holdings) → s < length seats → ((k : ℕ) → (seat_of seats k).cache ≡ []) → u.cache ≡ [] → (seat_of (slice_set seats s u) t).cache ≡ []
@@ -40,11 +42,32 @@ bare_set seats s t u lt all mine =
       | inl at ↦ rw at (ap (λ (h : Holdings). h.cache) (get_or-set_same seats s u empty lt) ∙ mine)
     ]
 
-pub did_bare : (n : Machine) (s found : ℕ) (x : Step) (me you : Me (Unit {0}) Known) → Did n s x me found you → s < length me.0.hands → LegalNow n s (seat_of me.0.hands s) x →
+pub did_bare : (n : Machine) (s : ℕ) (x : Step) (me you : Me (Unit {0}) Known) → Did n s x me you → s < length me.0.hands → LegalNow n s (seat_of me.0.hands s) x →
     ((k : ℕ) → (seat_of me.0.hands k).cache ≡ []) → (k : ℕ) → (seat_of you.0.hands k).cache ≡ []
-did_bare n s found x me you did lt legal all k =
+did_bare n s x me you did lt legal all k =
     subst (λ (v : Known). (seat_of v.hands k).cache ≡ []) (sym did.applied)
     (bare_set me.0.hands s k _ lt all (no_items_after n s (seat_of me.0.hands s) x _ legal (all s)))
+
+-- what is legal of the board that contracts see, of its fields
+pub legal_inside : {b c : Board} {s : ℕ} {x : Step} → b ≡ c → LegalNow c.machine s (seat_of c.story.seats s) x → LegalNow b.machine s (seat_of b.story.seats s) x
+legal_inside {s = s} {x = x} is legal = subst (λ (d : Board). LegalNow d.machine s (seat_of d.story.seats s) x) (sym is) legal
+
+-- the place of a legal step is that of a plain word
+pub inside_words : (n : Machine) (s : ℕ) (h : Holdings) (x : Step) (v : Known) (words : List ℕ) → words ≡ v.words → SoundState n v.words v.hands → LegalNow n s h x → x.place < length words
+inside_words n s h x v words same sound legal =
+    rw (same, sound.all_words) (place_inside (sizes_of n) x.place legal.legal.place)
+
+-- the word that stands there is the one that the seat knows of
+pub known_word : (n : Machine) (s : ℕ) (h : Holdings) (x : Step) (v : Known) (words : List ℕ) (found : ℕ) → words ≡ v.words → LegalNow n s h x → found ≡ slice_index words x.place →
+    found ≡ word_at n (state_in v) (place_of n x)
+known_word n s h x v words found same legal is =
+    is ∙ ap (λ (l : List ℕ). slice_index l x.place) same ∙ sym (word_there (sizes_of n) v.words x.place legal.legal.place)
+
+-- the plain words after the act are those that the seat knows
+pub known_words : (n : Machine) (s : ℕ) (x : Step) (me you : Me (Unit {0}) Known) (words : List ℕ) (found left : ℕ) → Did n s x me you → words ≡ me.0.words →
+    found ≡ word_at n (state_in me.0) (place_of n x) → left ≡ left_by x.act found → slice_set words x.place left ≡ you.0.words
+known_words n s x me you words found left did same is act =
+    rw (act, same, did.applied) (ap (λ k. slice_set me.0.words x.place (left_by x.act k)) is)
 
 -- ---- the value of a port
 abbrev story_after : Machine → ℕ → Step → Story → Story

@@ -1,7 +1,5 @@
 -- The fields of a plain board.
-use Rattle.std.specs.Prelude.{◌≡◌, ◌≤◌, ℕ, []}
-use Rattle.std.specs.Vec.{vec_capacity}
-use Rattle.xp_words.specs.Places.{sizes_of, size}
+use Rattle.std.specs.Prelude.{◌≡◌, ℕ, []}
 use Rattle.xp_board.specs.Sound.{SoundState, seat_of}
 use Rattle.shared_board.specs.Board.{Board}
 use Rattle.shared_board.specs.Rule.{story_of}
@@ -19,8 +17,8 @@ pub record IsBoard (b : Inside) : Type 0 where
   pub table : b.seat.table_id ≡ b.table.shared.table_id
   pub key : b.table.shared.key.layout ≡ b.layout
   pub no_slots : b.table.shared.table_id.slots ≡ 0
-  pub words : b.table.shared.table_id.words ≡ size (sizes_of b.layout)
+  pub word : b.table.shared.table_id.words ≡ 1
   pub slots : b.seat.me.1 ≡ []
-  pub room : size (sizes_of b.layout) ≤ vec_capacity b.room
+  pub words : b.words.items ≡ b.seat.me.0.words
   pub sound : SoundState b.layout b.seat.me.0.words b.seat.me.0.hands
   pub no_items : (s : ℕ) → (seat_of b.seat.me.0.hands s).cache ≡ []

@@ -7,9 +7,9 @@ ghost use Rattle.xp_board.specs.Sound.{SoundState, SoundWords, seat_of};
 ghost use Rattle.xp_board.specs.Told.{cached_item};
 ghost use Rattle.shared_board.specs.Board.{Steps, opened_story, state_of};
 
-use crate::closing::copy_words;
+use crate::acting::act_on;
 use crate::plain_port::PlainPort;
-use crate::rule::{Known, Opening, PlainRule, PlainSeat, make_step};
+use crate::rule::{Known, Opening, PlainRule, PlainSeat, list_step};
 use atomic_table::Table;
 use sound_rule::every_run_stays_sound;
 use std::alloc::{AllocError, Global};
@@ -17,15 +17,15 @@ use std::marker::{Brand, Model};
 use xp_board::{Item, Step};
 use xp_words::Layout;
 
-/// All words of a machine, on which one thread makes the steps of every vCPU. What the vCPUs hold and the list of
-/// steps are known to contracts alone: they take no memory.
+/// All words of a machine, on which one thread makes the steps of every vCPU. Nobody else reaches them meanwhile, so they
+/// are plain words. What the vCPUs hold and the list of steps are known to contracts alone: they take no memory.
 #[derive(Drop)]
 pub struct PlainBoard {
     layout: Layout,
+    words: Vec<u64>,
+    // A table of one word, which is never used. What its seat knows is the list of steps, for the proof alone.
     table: Table<(), Known, Opening, PlainRule, Global>,
     seat: PlainSeat,
-    // The room that the words came in, in which they go out again.
-    room: Vec<u64>,
 }
 
 impl Model for PlainBoard {
@@ -49,16 +49,13 @@ impl PlainBoard {
             layout: layout.copy(),
             words,
         };
-        let (table, seat) = Table::of_words(alloc, opening.words.as_slice(), &opening)?;
-        let Opening {
-            layout: _,
-            words: room,
-        } = opening;
+        let (table, seat) = Table::of_words(alloc, &[0], &opening)?;
+        let Opening { layout: _, words } = opening;
         Ok(PlainBoard {
             layout,
+            words,
             table,
             seat,
-            room,
         })
     }
 
@@ -96,11 +93,11 @@ impl PlainBoard {
         // What the steps keep is law: this call does nothing.
         every_run_stays_sound();
         let table = &self.table;
-        make_step::<Brand>(&table.shared, &mut self.seat, vcpu, step)
+        list_step::<Brand>(&table.shared, &mut self.seat, vcpu, step);
+        act_on(&mut self.words[step.place as usize], step.act)
     }
 
-    /// Gives the words back, in the room that they came in. The list of all steps made leads to them from the words that
-    /// the board was made with.
+    /// Gives the words back. The list of all steps made leads to them from the words that the board was made with.
     pub fn into_words(self) -> Vec<u64>
         ensures words { result.items ≡ self.story.words }
         ensures run { Run self.machine (start self.machine self.story.opening) self.story.log (state_of self.story) }
@@ -108,15 +105,11 @@ impl PlainBoard {
     {
         let PlainBoard {
             layout: _,
+            words,
             table,
             seat,
-            room: mut words,
         } = self;
-        let count = table.word_count();
-        let closed = table.close_with(seat);
-        words.clear();
-        copy_words(&closed, count, &mut words);
-        closed.free();
+        table.close_with(seat).free();
         words
     }
 }

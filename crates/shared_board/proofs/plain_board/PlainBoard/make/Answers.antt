@@ -1,5 +1,4 @@
-use Rattle.std.proofs.Common.{◌≡◌, ◌≤◌, length, ap, ◌∙◌, subst}
-use Rattle.std.specs.Vec.{vec_capacity}
+use Rattle.std.proofs.Common.{◌≡◌, ap, sym, ◌∙◌}
 use Rattle.std.specs.Prelude.{replicate}
 use Rattle.atomic_table.specs.Table.{Me}
 use Rattle.xp_words.specs.Machine.{Machine}
@@ -21,9 +20,9 @@ invariant_of-result c =
       table = made.2;
       key = ap (λ (o : Opening). o.layout) made.5 ∙ c.copy.ensures;
       no_slots = made.1;
-      words = made.0 ∙ ap length c.as_slice.ensures.value ∙ c.requires.all_words;
+      word = made.0;
       slots = ap (λ (m : Me (Unit {0}) Known). m.1) made.4;
-      room = subst (λ k. k ≤ vec_capacity c.args.words) (c.args.words.ok.0 ∙ c.requires.all_words) c.args.words.ok.1;
+      words = sym words;
       sound = rw (words, hands) (start_sound c.args.layout c.args.words.items c.requires);
       no_items = λ s. rw hands (ap (λ (h : Holdings). h.cache) (all_empty (sizes_of c.args.layout).vcpus s));
     }
