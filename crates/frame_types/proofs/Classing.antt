@@ -15,6 +15,7 @@ use Rattle.xp_board.specs.Spelling.{IsSpelling, is_kind_in}
 use Rattle.xp_board.specs.Told.{Finds}
 use Rattle.xp_board.proofs.KindForms.{form_read}
 use Rattle.frame_words.proofs.KindWriting.{fields_read}
+use Rattle.frame_words.proofs.PartialCalls.{partial_unlive}
 use Rattle.frame_words.proofs.Stepping.{kind_there}
 use Rattle.frame_types.specs.Standing.{is_writable, standing_of}
 use Rattle.frame_types.specs.declared.standing.Standing.TheVariants.{Counted, Dead, Partial, Busy, Other}
@@ -115,9 +116,6 @@ waits_by w k read off stale =
 
 dead_unlive : (k : KindWord) → IsTrue (is_dead k) → k.validated ≡ false
 dead_unlive k dead = grind arith
-
-partial_unlive : (k : KindWord) → IsTrue (is_partial k) → k.validated ≡ false
-partial_unlive k partial = grind arith
 
 marked_stale : (k : KindWord) → k.unflushed ≡ true → is_stale k kinds.Writable ≡ true
 marked_stale k marked = rw marked refl

@@ -1,5 +1,6 @@
 -- The own vCPU: it is flushed, or the clock is at its last value.
 use Rattle.std.proofs.Common.{◌≡◌, ℕ, ◌+◌, ◌<◌, ◌≤◌, nat_lt, List, [], ◌∷◌, length, Some, None, Ok, Err, IsTrue, refl, sym, ap, ◌∙◌, subst, inl, arith}
+use Rattle.std.proofs.lemmas.Bool.{or_right}
 use Rattle.xp_words.specs.KindWords.{kind_fields}
 use Rattle.xp_words.specs.Places.{Clock, Vcpu, sizes_of}
 use Rattle.xp_words.specs.declared.reply.Refusal.{Refusal}
@@ -23,7 +24,7 @@ use Rattle.frame_types.specs.Waiting.{FoundClear, IsMarked}
 use Rattle.frame_types.proofs.Asking.{marked_next}
 use Rattle.frame_types.proofs.Chaining.{looks_after}
 use Rattle.frame_types.proofs.FlushSteps.{ServesFlushes, flushes_both, makes_flushes, vcpu_look}
-use Rattle.frame_types.proofs.Looking.{later, or_second, stamp_is}
+use Rattle.frame_types.proofs.Looking.{later, stamp_is}
 use Rattle.frame_types.proofs.Marked.{work_past, stamp_low}
 
 module _ (u w : PortValue) (a : Awaited) (marked : IsMarked u.post.machine a.frame a.owner a.stamp u.holdings) (f : FlushesOwn u w) (flushed : Flushed u.holdings w.holdings) where
@@ -57,7 +58,7 @@ module _ (u w : PortValue) (a : Awaited) (marked : IsMarked u.post.machine a.fra
       let since = work_past u.post.machine u.post.seat u.holdings Clock f.clock f.finds a.frame e before in
       let more = longer in
       let late : (kind_fields e.word).number < to = subst (λ c. c < to) (sym (stamp_is u.post.machine a.frame a.owner a.stamp u.holdings e marked before)) past_stamp in
-      inl (or_second _ _
+      inl (or_right _ _
       (subst (λ (q : Post). IsTrue (some_since (sizes_of q.machine) e.since (Vcpu u.post.seat 5) (λ y. nat_lt (kind_fields e.word).number y) w.holdings.steps)) ticked_post
       (makes_since f.ticked w (Vcpu u.post.seat 5) (Store to) None f.before f.ack e.since (λ y. nat_lt (kind_fields e.word).number y) (omega (arith, since, more)) (later _ to late))))
 

@@ -1,5 +1,6 @@
 -- One look that finds a vCPU clear.
-use Rattle.std.proofs.Common.{◌≡◌, ◌≢◌, ℕ, ◌<◌, ◌||◌, nat_eq, nat_lt, not, Bool, true, false, [], ◌∷◌, length, Some, None, Ok, IsTrue, refl, sym, ap, ◌∙◌, subst, inl, inr, arith, lit<}
+use Rattle.std.proofs.Common.{◌≡◌, ◌≢◌, ℕ, ◌<◌, nat_eq, nat_lt, not, Bool, true, false, [], ◌∷◌, length, Some, None, Ok, IsTrue, refl, sym, ap, ◌∙◌, subst, inl, inr, arith, lit<}
+use Rattle.std.proofs.lemmas.Bool.{or_left, or_right}
 use Rattle.std.proofs.lemmas.Bool.Decides.{nat_tests}
 use Rattle.xp_words.specs.Machine.{Machine}
 use Rattle.xp_words.specs.KindWords.{kind_fields}
@@ -27,13 +28,6 @@ use Rattle.frame_types.specs.Waiting.{FoundClear, IsMarked}
 use Rattle.frame_types.proofs.FlushSteps.{flushes_nothing, makes_flushes, vcpu_look}
 use Rattle.frame_types.proofs.Growing.{marked_later}
 use Rattle.frame_types.proofs.Marked.{same_frame, work_past}
-
-pub or_first : (a b : Bool) → IsTrue a → IsTrue (a || b)
-or_first a b h = rw h refl
-
-pub or_second : (a b : Bool) → IsTrue b → IsTrue (a || b)
-or_second true b h = refl
-or_second false b h = h
 
 pub stamp_is : (n : Machine) (f owner stamp : ℕ) (h : Holdings) (e : Work) → IsMarked n f owner stamp h → work_on f h.works ≡ Some e → (kind_fields e.word).number ≡ stamp
 stamp_is n f owner stamp h e m here =
@@ -70,7 +64,7 @@ module _ (v w : PortValue) (a : Awaited) (k x : ℕ) (same : SameHand v.holdings
         shows = (
           FoundClear.idle x (makes_had v w (Vcpu k 6) Load x m) idle,
           λ e here.
-              inl (or_first _ _ (makes_since v w (Vcpu k 6) Load None x m e.since is_idle (work_past v.post.machine v.post.seat v.holdings (Vcpu k 6) x finds a.frame e (before e here)) idle)),
+              inl (or_left _ _ (makes_since v w (Vcpu k 6) Load None x m e.since is_idle (work_past v.post.machine v.post.seat v.holdings (Vcpu k 6) x finds a.frame e (before e here)) idle)),
         );
         hand = whole_same _ _ same;
       }
@@ -87,7 +81,7 @@ module _ (v w : PortValue) (a : Awaited) (k x : ℕ) (same : SameHand v.holdings
         shows = (
           FoundClear.flushed x (makes_had v w (Vcpu k 5) Load x m) late,
           λ e here.
-              inl (or_second _ _
+              inl (or_right _ _
               (makes_since v w (Vcpu k 5) Load None x m e.since (λ y. nat_lt (kind_fields e.word).number y) (work_past v.post.machine v.post.seat v.holdings (Vcpu k 5) x finds a.frame e (before e here))
               (later _ x (subst (λ c. c < x) (sym (stamp_is v.post.machine a.frame a.owner a.stamp v.holdings e marked (before e here))) late)))),
         );

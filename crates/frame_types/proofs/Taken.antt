@@ -1,5 +1,6 @@
 -- The hand while a frame is taken as writable.
-use Rattle.std.proofs.Common.{◌≡◌, ℕ, ◌<◌, ◌==◌, ◌&&◌, ◌||◌, Bool, true, List, [], ◌∷◌, Result, Ok, Err, IsTrue, refl, sym, ap, ◌∙◌, subst, arith}
+use Rattle.std.proofs.Common.{◌≡◌, ℕ, ◌<◌, ◌==◌, ◌&&◌, true, List, [], ◌∷◌, Result, Ok, Err, IsTrue, refl, sym, ap, ◌∙◌, subst, arith}
+use Rattle.std.proofs.lemmas.Bool.{or_left, or_right}
 use Rattle.std.proofs.lemmas.Bool.Decides.{nat_tests}
 use Rattle.xp_words.specs.declared.kind.KindWord.{KindWord}
 use Rattle.xp_words.specs.declared.kind.PageType.TheVariants.{Writable}
@@ -47,19 +48,13 @@ ready_same f owner h k a same =
 owned_here : (z : Sizes) (steps : List Made) (f owner : ℕ) → ((f == f) && tells_owner z steps f owner (owners.Of owner)) ≡ true
 owned_here z steps f owner = grind (arith, nat_tests)
 
-or_first : (a b c : Bool) → a ≡ true → IsTrue ((a || b) || c)
-or_first a b c is = grind arith
-
-or_second : (a b c d : Bool) → b ≡ true → IsTrue (a || ((b || c) || d))
-or_second a b c d is = grind arith
-
 pub lent_known : (z : Sizes) (f owner : ℕ) (h : Holdings) → LentBy f owner h → IsTrue (knows_owner z f owner h)
 unfolding knows_owner some_of
-lent_known z f owner h a = rw a.refs (or_first _ _ _ (owned_here z h.steps f owner))
+lent_known z f owner h a = rw a.refs (or_left _ _ (or_left _ _ (owned_here z h.steps f owner)))
 
 pub typed_known : (z : Sizes) (f owner : ℕ) (e : TypedReference) (xs : List TypedReference) (h : Holdings) → h.typed ≡ e ∷ xs → e.frame ≡ f → e.owner ≡ owners.Of owner → IsTrue (knows_owner z f owner h)
 unfolding knows_owner some_of
-typed_known z f owner e xs h typed frame owned = rw (typed, frame, owned) (or_second _ _ _ _ (owned_here z h.steps f owner))
+typed_known z f owner e xs h typed frame owned = rw (typed, frame, owned) (or_right _ _ (or_left _ _ (or_left _ _ (owned_here z h.steps f owner))))
 
 pub typed_owned : (f owner : ℕ) (e : TypedReference) (xs : List TypedReference) (h : Holdings) → h.typed ≡ e ∷ xs → e.frame ≡ f → e.owner ≡ owners.Of owner → typed_owner f h ≡ owners.Of owner
 typed_owned f owner e xs h typed frame owned =

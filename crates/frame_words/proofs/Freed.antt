@@ -1,6 +1,5 @@
 -- A frame becomes free: the steps one behind the other.
-use Rattle.std.proofs.Common.{◌≡◌, ℕ, ◌/◌, ◌<◌, ◌≤◌, ◌==◌, true, List, [], ◌∷◌, None, IsTrue, refl, sym, ap, ◌∙◌, subst, arith, inr}
-use Rattle.std.proofs.lemmas.Bool.Decides.{nat_tests}
+use Rattle.std.proofs.Common.{◌≡◌, ℕ, ◌/◌, ◌<◌, ◌≤◌, ◌==◌, List, [], ◌∷◌, ◌++◌, None, IsTrue, refl, sym, ap, ◌∙◌, subst, arith}
 use Rattle.xp_words.specs.RefWords.{ref_write}
 use Rattle.xp_words.specs.declared.refs.RefWord.TheVariants.{Free}
 use Rattle.xp_words.specs.Places.{Clock, Refs, Map, Pages, sizes_of}
@@ -15,13 +14,14 @@ use Rattle.xp_board.specs.Steps.{some_since}
 use Rattle.xp_board.specs.Told.{Post, PortValue}
 use Rattle.xp_board.proofs.Going.{had_earlier}
 use Rattle.xp_board.proofs.ListCounts.{times_by-cons_here}
+use Rattle.xp_board.proofs.Sums.{when_eq}
 use Rattle.frame_words.specs.Freeing.{SameKept, IsEnding, IsEndingNow, IsEndingSince, RaisedBit, MadeFree, Refunded, LeftFree, FreesFrame}
 use Rattle.frame_words.specs.Hands.{SameHand}
-use Rattle.frame_words.specs.Pieces.{Makes, HadAct}
-use Rattle.frame_words.specs.References.{Frees}
+use Rattle.frame_words.specs.Pieces.{Makes, changes}
+use Rattle.frame_words.specs.References.{freeing}
 use Rattle.frame_words.proofs.KindCalls.{without_newest}
 use Rattle.frame_words.proofs.Noting.{makes_since, makes_keeps}
-use Rattle.frame_words.proofs.Piecing.{CalmlyServes, calmly_more, made_of, makes_post, makes_calmly, makes_had, makes_act, act_later, this_frame}
+use Rattle.frame_words.proofs.Piecing.{CalmlyServes, calmly_more, made_of, makes_post, makes_calmly, makes_had, changes_append, makes_changes, this_frame}
 
 -- ---- hands
 kept_after : (a b c : Holdings) → SameKept a b → SameKept b c → SameKept a c
@@ -83,9 +83,6 @@ looked_ending f owner h k same e = still_ending f owner h k same.ending e.ends
 pub looked_lowered : (f : ℕ) (h k : Holdings) → SameHand h k → times f h.raised ≡ 0 → times f k.raised ≡ 0
 looked_lowered f h k same none = ap (λ xs. times f xs) same.rest.raised ∙ none
 
-this_number : (x : ℕ) → (x == x) ≡ true
-this_number x = grind (arith, nat_tests)
-
 pub ending_since : (v a b : PortValue) (f owner stamp x : ℕ) → Makes v a Clock Load None stamp → Makes a b (Map (f / 64)) (Add (map_bit f)) None x → SameHand v.holdings a.holdings →
     RaisedBit f a.holdings b.holdings → IsEndingNow f owner v.holdings → IsEndingSince b.post.machine f owner stamp b.holdings
 unfolding left_by still_ending
@@ -95,7 +92,7 @@ ending_since v a b f owner stamp x look bit same raised e =
       ends = still_ending f owner v.holdings b.holdings (raised.ending ∙ same.ending) e.ends;
       told =
           subst (λ (q : Post). IsTrue (some_since (sizes_of q.machine) e.ends.ending.since Clock (λ w. w == stamp) b.holdings.steps)) (sym post)
-          (makes_keeps a b (Map (f / 64)) (Add (map_bit f)) None x bit _ (makes_since v a Clock Load None stamp look e.ends.ending.since (λ w. w == stamp) e.recent (this_number stamp)));
+          (makes_keeps a b (Map (f / 64)) (Add (map_bit f)) None x bit _ (makes_since v a Clock Load None stamp look e.ends.ending.since (λ w. w == stamp) e.recent (when_eq stamp stamp refl)));
     }
 
 pub bit_raised : (f : ℕ) (h k : Holdings) → RaisedBit f h k → 0 < times f k.raised
@@ -121,18 +118,37 @@ module _ (v a b d w : PortValue) (f owner stamp x y z : ℕ) (look : Makes v a C
       let three = calmly_more v b d f [] [] _ _ two (makes_calmly _ _ _ _ _ free f (this_frame f) refl) in
       calmly_more v d w f [] [] _ _ three (makes_calmly _ _ _ _ _ pages f refl refl)
 
-  frees : Frees v.post.machine f steps
-  unfolding before steps
-  frees =
-      let post : b.post ≡ v.post = makes_post a b _ _ _ bit ∙ makes_post v a _ _ _ look in
-      record {
-        stamp = stamp;
-        word = y;
-        clock = had_earlier v.post.machine Clock stamp (made_of _ _ _ _ _ look ∷ []) (made_of _ _ _ _ _ pages ∷ (made_of _ _ _ _ _ free ∷ (made_of _ _ _ _ _ bit ∷ []))) (makes_had _ _ _ _ _ look);
-        stored =
-            inr (act_later v.post.machine (Refs f) (Store (ref_write (Free stamp))) y before (made_of _ _ _ _ _ free ∷ [])
-            (subst (λ (q : Post). HadAct q.machine (Refs f) (Store (ref_write (Free stamp))) y (made_of _ _ _ _ _ free ∷ [])) post (makes_act _ _ _ _ _ free)));
-      }
+  same_a : a.post ≡ v.post
+  same_a = makes_post v a _ _ _ look
 
-  pub frees_frame : LeftFree f v.holdings w.holdings → FreesFrame v w f
-  frees_frame hand = record { made = steps; piece = serve.piece; calm = serve.calm; frees = frees; hand = hand }
+  same_b : b.post ≡ v.post
+  same_b = makes_post a b _ _ _ bit ∙ same_a
+
+  same_d : d.post ≡ v.post
+  same_d = makes_post b d _ _ _ free ∙ same_b
+
+  changed : changes v.post.machine steps ++ ((Refs f, Add one_down) ∷ []) ≡ freeing f owner stamp
+  unfolding before steps
+  changed =
+      let n = v.post.machine in
+      let one : changes n (made_of _ _ _ _ _ look ∷ []) ≡ [] = makes_changes _ _ _ _ _ look in
+      let two = subst (λ (q : Post). changes q.machine (made_of _ _ _ _ _ bit ∷ []) ≡ (Map (f / 64), Add (map_bit f)) ∷ []) same_a (makes_changes _ _ _ _ _ bit) in
+      let three = subst (λ (q : Post). changes q.machine (made_of _ _ _ _ _ free ∷ []) ≡ (Refs f, Store (ref_write (Free stamp))) ∷ []) same_b (makes_changes _ _ _ _ _ free) in
+      let four = subst (λ (q : Post). changes q.machine (made_of _ _ _ _ _ pages ∷ []) ≡ (Pages owner, Add one_down) ∷ []) same_d (makes_changes _ _ _ _ _ pages) in
+      let bits = changes_append n (made_of _ _ _ _ _ look ∷ []) (made_of _ _ _ _ _ bit ∷ []) in
+      let frees = changes_append n before (made_of _ _ _ _ _ free ∷ []) in
+      let all = changes_append n (made_of _ _ _ _ _ free ∷ before) (made_of _ _ _ _ _ pages ∷ []) in
+      rw (all, four, frees, three, bits, two, one) refl
+
+  pub frees_frame : LeftFree f v.holdings w.holdings → FreesFrame v w f owner
+  unfolding before steps
+  frees_frame hand =
+      record {
+        made = steps;
+        piece = serve.piece;
+        calm = serve.calm;
+        stamp = stamp;
+        clock = had_earlier v.post.machine Clock stamp (made_of _ _ _ _ _ look ∷ []) (made_of _ _ _ _ _ pages ∷ (made_of _ _ _ _ _ free ∷ (made_of _ _ _ _ _ bit ∷ []))) (makes_had _ _ _ _ _ look);
+        changed = changed;
+        hand = hand;
+      }

@@ -95,7 +95,7 @@ row_is : (o c : ℕ) (a : Bool) → ref_row (Some (Owned o a c)) (Some (Owned o 
 row_is o c true = refl
 row_is o c false = refl
 
-one_there : (f g : ℕ) → g ≡ f → one_at f g ≡ 1
+pub one_there : (f g : ℕ) → g ≡ f → one_at f g ≡ 1
 one_there f g is = grind (arith, nat_tests)
 
 one_held : (f : ℕ) (e : Reference) (xs : List Reference) → e.frame ≡ f → 0 < refs_to f (e ∷ xs)

@@ -1,5 +1,6 @@
 -- What each kind of step on a kind word leaves in hand.
-use Rattle.std.proofs.Common.{◌≡◌, ◌≢◌, ℕ, ◌<◌, ◌==◌, ◌&&◌, ◌||◌, not, Bool, true, List, ◌∷◌, Some, None, IsTrue, refl, sym, ap, ◌∙◌, subst, arith}
+use Rattle.std.proofs.Common.{◌≡◌, ◌≢◌, ℕ, ◌<◌, ◌==◌, ◌&&◌, not, true, List, ◌∷◌, Some, None, IsTrue, refl, sym, ap, ◌∙◌, subst, arith}
+use Rattle.std.proofs.lemmas.Bool.{or_left}
 use Rattle.std.proofs.lemmas.Bool.Decides.{nat_tests}
 use Rattle.xp_words.specs.Machine.{Machine}
 use Rattle.xp_words.specs.declared.kind.KindWord.{KindWord}
@@ -35,15 +36,12 @@ pub typed_held : (f : ℕ) (e : TypedReference) (xs : List TypedReference) → e
 unfolding times_by
 typed_held f e xs is = let one : one_at f e.frame ≡ 1 = ap (λ g. one_at f g) is ∙ one_at-same f in omega (arith, one)
 
-or_first : (a b c : Bool) → a ≡ true → ((a || b) || c) ≡ true
-or_first a b c h = grind arith
-
 same_both : (f t : ℕ) → ((f == f) && (t == t)) ≡ true
 same_both f t = grind (arith, nat_tests)
 
 live_first : (z : Sizes) (f : ℕ) (t : PageType) (o : OwnerFound) (xs : List TypedReference) (h : Holdings) → IsTrue (knows_live z f t (record h { typed = live_typed f t o ∷ xs }))
 unfolding knows_live some_of
-live_first z f t o xs h = or_first ((f == f) && (type_number t == type_number t)) _ _ (same_both f (type_number t))
+live_first z f t o xs h = or_left _ _ (or_left _ _ (same_both f (type_number t)))
 
 -- a frame that was made or found live by the newest typed reference is known live
 pub known_first : (z : Sizes) (f : ℕ) (t : PageType) (o : OwnerFound) (xs : List TypedReference) (h : Holdings) → h.typed ≡ live_typed f t o ∷ xs → IsTrue (knows_live z f t h)

@@ -20,6 +20,7 @@ use Rattle.frame_words.specs.Flushing.{Flushed, flushed_to, FlushesOwn}
 use Rattle.frame_words.specs.Hands.{SameHand}
 use Rattle.frame_words.specs.Pieces.{Makes, Deed, deeds_by, deeds}
 use Rattle.xp_board.proofs.Going.{went_more, went_post}
+use Rattle.xp_board.proofs.Sums.{when_eq}
 use Rattle.frame_words.proofs.Piecing.{deeds_append}
 use Rattle.frame_words.proofs.Noting.{makes_steps, makes_since, makes_keeps, made_now}
 use Rattle.frame_words.proofs.Stepping.{clock_there}
@@ -61,9 +62,6 @@ clock_later v u c f look post finds =
 greater_by : (c f : ℕ) → c ≤ f → c < flushed_to c f
 greater_by c f l = grind (arith, nat_tests)
 
-this_number : (x : ℕ) → (x == x) ≡ true
-this_number x = grind (arith, nat_tests)
-
 less_is : (c x : ℕ) → c < x → nat_lt c x ≡ true
 less_is c x l = grind (arith, nat_tests)
 
@@ -86,7 +84,7 @@ module _ (v u t : PortValue) (c f x : ℕ) (look : Makes v u Clock Load None c) 
       let late : t.holdings.acked ≤ length u.holdings.steps =
       subst (λ k. k ≤ length u.holdings.steps) (sym after.rest.acked) (acked_past u.post.machine u.post.seat u.holdings Clock f again) in
       subst (λ (q : Post). IsTrue (some_since (sizes_of q.machine) t.holdings.acked Clock (λ w. w == x) t.holdings.steps)) (sym later)
-      (makes_since u t Clock (Cas c (c + 1)) None f tick t.holdings.acked (λ w. w == x) late (ap (λ y. flushed_to c f == y) to ∙ this_number (flushed_to c f)))
+      (makes_since u t Clock (Cas c (c + 1)) None f tick t.holdings.acked (λ w. w == x) late (ap (λ y. flushed_to c f == y) to ∙ when_eq (flushed_to c f) (flushed_to c f) refl))
 
   pub flush_warmed : IsTrue (some_since (sizes_of t.post.machine) t.holdings.ran Clock (λ w. nat_lt w x) t.holdings.steps)
   unfolding left_by

@@ -17,7 +17,7 @@ resumed_work f kind h = new_work f (kind_write (resumed_kind kind)) kind.progres
 pub resumed_here : (f : ℕ) (kind : KindWord) (h k : Holdings) → ResumedWork f kind h k → work_on f k.works ≡ Some (resumed_work f kind h)
 resumed_here f kind h k a = work_here f _ k h.works refl a.works
 
-partial_unlive : (k : KindWord) → IsTrue (is_partial k) → k.validated ≡ false
+pub partial_unlive : (k : KindWord) → IsTrue (is_partial k) → k.validated ≡ false
 partial_unlive k partial = grind arith
 
 not_closing : (b c : Bool) → b ≡ false → (b && c) ≡ false

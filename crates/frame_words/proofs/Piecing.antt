@@ -1,5 +1,5 @@
 -- Pieces of steps, one behind the other.
-use Rattle.std.proofs.Common.{◌≡◌, ℕ, ◌==◌, ◌||◌, not, false, List, [], ◌∷◌, ◌++◌, None, IsTrue, refl, sym, ap, ◌∙◌, subst, inl, inr, append_assoc, append-nil, arith}
+use Rattle.std.proofs.Common.{◌≡◌, ℕ, ◌==◌, ◌||◌, not, if◌then◌else◌, Bool, true, false, List, [], ◌∷◌, ◌++◌, None, IsTrue, refl, sym, ap, ◌∙◌, subst, inl, inr, append_assoc, append-nil, arith}
 use Rattle.std.proofs.lemmas.Bool.Decides.{nat_tests}
 use Rattle.xp_words.specs.Machine.{Machine}
 use Rattle.xp_words.specs.Places.{Place}
@@ -9,7 +9,7 @@ use Rattle.xp_board.specs.Lists.{EachOf}
 use Rattle.xp_board.specs.Runs.{place_of}
 use Rattle.xp_board.specs.Told.{Post, PortValue, Had}
 use Rattle.xp_board.proofs.Going.{went_more, went_post, had_earlier, had_later}
-use Rattle.frame_words.specs.Pieces.{Makes, Deed, deeds_by, deeds, is_load, is_of, is_of_flush, HadAct, StaysIn, Serves, IsCalm, Calm, FoundWaiting, FlushesFor}
+use Rattle.frame_words.specs.Pieces.{Makes, Deed, deeds_by, deeds, is_load, is_of, is_of_flush, HadAct, StaysIn, Serves, IsCalm, Calm, FoundWaiting, FlushesFor, changes}
 
 pub deeds_append : (n : Machine) (xs ys : List Made) → deeds n (ys ++ xs) ≡ deeds n ys ++ deeds n xs
 deeds_append n xs [] = refl
@@ -67,6 +67,17 @@ act_later n p a w xs [] h = absurd h
 act_later n p a w xs (y ∷ ys) (inl h) = inl h
 act_later n p a w xs (y ∷ ys) (inr h) = inr (act_later n p a w xs ys h)
 
+-- ---- changes
+changes_by : (b : Bool) (c : Place × Act) (xs ys : List (Place × Act)) → (if b then (ys ++ xs) else (c ∷ (ys ++ xs))) ≡ (if b then ys else (c ∷ ys)) ++ xs
+changes_by true c xs ys = refl
+changes_by false c xs ys = refl
+
+pub changes_append : (n : Machine) (xs ys : List Made) → changes n (ys ++ xs) ≡ changes n ys ++ changes n xs
+changes_append n xs [] = refl
+changes_append n xs (y ∷ ys) =
+    ap (λ (cs : List (Place × Act)). if is_load y.step.act then cs else ((place_of n y.step, y.step.act) ∷ cs)) (changes_append n xs ys)
+    ∙ changes_by (is_load y.step.act) (place_of n y.step, y.step.act) (changes n xs) (changes n ys)
+
 -- ---- pieces in which nothing is flushed
 pub record CalmlyServes (v w : PortValue) (f : ℕ) (ds : List Deed) (made : List Made) : Type 0 where
   pub piece : Serves v w f ds made
@@ -123,6 +134,13 @@ module _ (v w : PortValue) (p : Place) (a : Act) (found : ℕ) (m : Makes v w p 
   pub makes_act : HadAct v.post.machine p a found (made_of ∷ [])
   unfolding made_of
   makes_act = inl (m.place, m.act, refl)
+
+  -- a load changes nothing
+  pub makes_changes : changes v.post.machine (made_of ∷ []) ≡ (if is_load a then [] else ((p, a) ∷ []))
+  unfolding made_of
+  makes_changes =
+      ap (λ q. if is_load m.step.act then [] else ((q, m.step.act) ∷ [])) m.place
+      ∙ ap (λ (b : Act). if is_load b then [] else ((p, b) ∷ [])) m.act
 
   pub makes_calmly : (f : ℕ) → IsTrue (is_load a || (is_of f p || is_of_flush p)) → IsTrue (is_load a || not (is_of_flush p)) → CalmlyServes v w f (deeds_by p a) (made_of ∷ [])
   makes_calmly f within calm = record { piece = makes_serves f within; calm = makes_calm calm }

@@ -4,7 +4,7 @@ use Rattle.std.proofs.lemmas.Bool.Decides.{nat_tests}
 use Rattle.xp_words.specs.Machine.{Machine}
 use Rattle.xp_words.specs.RefWords.{ref_read}
 use Rattle.xp_words.specs.declared.refs.RefWord.TheVariants.{Owned, Dying}
-use Rattle.xp_words.specs.Places.{Refs}
+use Rattle.xp_words.specs.Places.{Clock, Refs}
 use Rattle.xp_board.specs.declared.step.Act.TheVariants.{Add}
 use Rattle.xp_board.specs.declared.holdings.Made.{Made}
 use Rattle.xp_board.specs.declared.holdings.Claimed.{Claimed}
@@ -14,7 +14,7 @@ use Rattle.xp_board.specs.Hands.{endings_of, claims_of, claim_of}
 use Rattle.xp_board.specs.Lists.{times}
 use Rattle.xp_board.specs.Readings.{ref_count, is_dying}
 use Rattle.xp_board.specs.RefSteps.{one_down}
-use Rattle.xp_board.specs.Told.{Post, PortValue, Finds}
+use Rattle.xp_board.specs.Told.{Post, PortValue, Finds, Had}
 use Rattle.xp_board.specs.WellFormed.{WellFormed}
 use Rattle.xp_board.proofs.Going.{had_later}
 use Rattle.xp_board.proofs.ListCounts.{first_by-none}
@@ -22,12 +22,12 @@ use Rattle.xp_board.proofs.RefWords.{is_dying-read}
 use Rattle.xp_board.proofs.Works.{is_dying-mine}
 use Rattle.frame_words.specs.Freeing.{IsEndingNow, LeftFree, FreesFrame}
 use Rattle.frame_words.specs.Hands.{GaveRef, GaveBack, EndsIf}
-use Rattle.frame_words.specs.Pieces.{Makes}
-use Rattle.frame_words.specs.References.{Frees, Puts}
+use Rattle.frame_words.specs.Pieces.{Makes, changes}
+use Rattle.frame_words.specs.References.{freeing, Puts}
 use Rattle.frame_words.proofs.Counting.{count_is, owner_is}
 use Rattle.frame_words.proofs.KindCalls.{without_newest}
 use Rattle.frame_words.proofs.Noting.{makes_steps}
-use Rattle.frame_words.proofs.Piecing.{calmly_more, made_of, makes_post, makes_calmly, makes_act, act_earlier, act_later, this_frame}
+use Rattle.frame_words.proofs.Piecing.{calmly_more, made_of, makes_post, makes_calmly, makes_act, act_earlier, changes_append, makes_changes, this_frame}
 
 -- ---- a frame of which the word counts a reference is not ending or claimed
 module _ (n : Machine) (s f w owner : ℕ) (allocated : Bool) (h : Holdings) (finds : Finds n s h (Refs f) w) (read : ref_read w ≡ Some (Owned owner allocated 1)) where
@@ -127,12 +127,13 @@ puts_more v u f w lower gave off =
       calm = one.calm;
       found = w;
       lowered = makes_act _ _ _ _ _ lower;
-      freed = λ last. absurd (off last);
+      kept = λ more. makes_changes _ _ _ _ _ lower;
+      freed = λ owner allocated read. absurd (off (count_is w owner 1 allocated read));
       hand = gave_more f w v.holdings u.holdings gave off;
     }
 
 pub puts_last : (v u x : PortValue) (f w owner : ℕ) (allocated : Bool) → Makes v u (Refs f) (Add one_down) None w → GaveRef f w v.holdings u.holdings → ref_read w ≡ Some (Owned owner allocated 1) →
-    FreesFrame u x f → Puts v x f
+    FreesFrame u x f owner → Puts v x f
 puts_last v u x f w owner allocated lower gave read free =
     let first : List Made = made_of _ _ _ _ _ lower ∷ [] in
     let post : u.post ≡ v.post = makes_post v u _ _ _ lower in
@@ -143,12 +144,19 @@ puts_last v u x f w owner allocated lower gave read free =
       calm = all.calm;
       found = w;
       lowered = act_earlier v.post.machine (Refs f) (Add one_down) w first free.made (makes_act _ _ _ _ _ lower);
-      freed = λ last. frees_later v.post.machine f first free.made (subst (λ (q : Post). Frees q.machine f free.made) post free.frees);
+      kept = λ off. absurd (off (count_is w owner 1 allocated read));
+      freed = λ other mark is.
+          record {
+            stamp = free.stamp;
+            clock = had_later v.post.machine Clock free.stamp first free.made (subst (λ (q : Post). Had q.machine Clock free.stamp free.made) post free.clock);
+            changed =
+                changes_append v.post.machine first free.made
+                ∙ ap (λ cs. changes v.post.machine free.made ++ cs) (makes_changes _ _ _ _ _ lower)
+                ∙ subst (λ (q : Post). changes q.machine free.made ++ ((Refs f, Add one_down) ∷ []) ≡ freeing f owner free.stamp) post free.changed
+                ∙ ap (λ o. freeing f o free.stamp) (sym (owner_is w owner 1 allocated read) ∙ owner_is w other 1 mark is);
+          };
       hand = gave_last v u x.holdings f w owner allocated lower gave read free.hand;
     }
-  where
-    frees_later : (n : Machine) (f : ℕ) (xs ys : List Made) → Frees n f ys → Frees n f (ys ++ xs)
-    frees_later n f xs ys a = record { stamp = a.stamp; word = a.word; clock = had_later n _ a.stamp xs ys a.clock; stored = act_later n _ _ a.word xs ys a.stored }
 
 pub gave_lowered : (f w : ℕ) (h k : Holdings) → GaveRef f w h k → times f h.raised ≡ 0 → times f k.raised ≡ 0
 gave_lowered f w h k gave none = ap (λ xs. times f xs) gave.rest.raised ∙ none

@@ -27,6 +27,7 @@ use Rattle.frame_words.specs.Hands.{SameRest, SameHand, TookRef}
 use Rattle.frame_words.specs.Pieces.{Makes, Serves, Calm}
 use Rattle.frame_words.specs.References.{Gets, RefusesWord, IsLent}
 use Rattle.frame_words.proofs.Counting.{counted, next_read, count_is}
+use Rattle.frame_words.proofs.Hands.{one_there, when_same}
 use Rattle.frame_words.proofs.Piecing.{serves_nothing, serves_more, made_of, makes_had, makes_serves, makes_calm, calm_nothing, calm_more, this_frame}
 use Rattle.frame_words.proofs.Stepping.{refs_there}
 use Rattle.frame_words.proofs.Telling.{makes_telling, makes_found, makes_here}
@@ -94,9 +95,6 @@ unfolding EachOf first_by
 closing_by f h [] all closing = absurd (cc)
 closing_by f h (e ∷ es) all closing = closing_head (e.frame == f) f h e (work_on f es) refl all.0 (closing_by f h es all.1) closing
 
-one_there : (f g : ℕ) → g ≡ f → one_at f g ≡ 1
-one_there f g is = grind (arith, nat_tests)
-
 two_held : (f : ℕ) (e : Reference) (xs : List Reference) → e.frame ≡ f → 0 < refs_to f xs → 2 ≤ refs_to f (e ∷ xs)
 unfolding times_by
 two_held f e xs is some = let one : one_at f e.frame ≡ 1 = one_there f e.frame is in omega (arith, one)
@@ -114,9 +112,6 @@ taken_spares n s h a k f found owner finds same took closing =
 -- ---- pieces
 pub got_none : (v : PortValue) (f owner : ℕ) → v.post.machine.frames ≤ f → Gets v v f owner (Err (Refused (NoFrame f)))
 got_none v f owner past = record { made = []; piece = serves_nothing v f; calm = calm_nothing v.post.machine; shows = inl (past, refl) }
-
-when_same : (v y z : ℕ) → (if v == v then y else z) ≡ y
-when_same v y z = grind (arith, nat_tests)
 
 module _ (v u : PortValue) (f owner word : ℕ) (look : Makes v u (Refs f) Load None word) where
   pub got_refused : (r : Refusal) → RefusesWord f owner v.post.machine.limit word r → Gets v u f owner (Err (Refused r))

@@ -1,19 +1,21 @@
 -- A frame whose last reference was given back becomes free: what the steps leave in hand.
-use Rattle.std.specs.Prelude.{◌≡◌, ◌≢◌, ℕ, ◌≤◌, ◌==◌, Bool, List, [], ◌∷◌, length, Option, Some, None, IsTrue}
+use Rattle.std.specs.Prelude.{◌≡◌, ◌≢◌, ℕ, ◌≤◌, ◌==◌, Bool, List, [], ◌∷◌, ◌++◌, length, Option, Some, None, IsTrue}
 use Rattle.xp_words.specs.declared.refs.RefWord.TheVariants.{Owned}
 use Rattle.xp_words.specs.Machine.{Machine}
-use Rattle.xp_words.specs.Places.{Clock, sizes_of}
+use Rattle.xp_words.specs.Places.{Clock, Refs, sizes_of}
 use Rattle.xp_words.specs.RefWords.{ref_read}
+use Rattle.xp_board.specs.declared.step.Act.TheVariants.{Add}
 use Rattle.xp_board.specs.declared.holdings.Made.{Made}
 use Rattle.xp_board.specs.declared.holdings.Ending.{Ending}
 use Rattle.xp_board.specs.declared.holdings.Holdings.{Holdings}
 use Rattle.xp_board.specs.Hands.{without_ending}
 use Rattle.xp_board.specs.Lists.{without_by}
 use Rattle.xp_board.specs.Readings.{ref_count}
+use Rattle.xp_board.specs.RefSteps.{one_down}
 use Rattle.xp_board.specs.Steps.{some_since}
-use Rattle.xp_board.specs.Told.{PortValue}
-use Rattle.frame_words.specs.Pieces.{Serves, Calm}
-use Rattle.frame_words.specs.References.{Frees}
+use Rattle.xp_board.specs.Told.{PortValue, Had}
+use Rattle.frame_words.specs.Pieces.{Serves, Calm, changes}
+use Rattle.frame_words.specs.References.{freeing}
 
 -- the parts that none of these steps changes
 pub record SameKept (h k : Holdings) : Type 0 where
@@ -84,10 +86,13 @@ pub record LeftFree (f : ℕ) (h k : Holdings) : Type 0 where
   pub credits : k.credits ≡ h.credits
   pub rest : SameKept h k
 
--- the steps from v to w make a frame that is ending free
-pub record FreesFrame (v w : PortValue) (f : ℕ) : Type 0 where
+-- The steps from v to w make a frame of that owner that is ending free, with a clock value that they found. These are
+-- the changes behind the count down of its last reference.
+pub record FreesFrame (v w : PortValue) (f owner : ℕ) : Type 0 where
   pub made : List Made
   pub piece : Serves v w f [] made
   pub calm : Calm v.post.machine made
-  pub frees : Frees v.post.machine f made
+  pub stamp : ℕ
+  pub clock : Had v.post.machine Clock stamp made
+  pub changed : changes v.post.machine made ++ ((Refs f, Add one_down) ∷ []) ≡ freeing f owner stamp
   pub hand : LeftFree f v.holdings w.holdings

@@ -1,5 +1,5 @@
 -- The steps of a call: a piece of the list of its port's steps, the newest first.
-use Rattle.std.specs.Prelude.{◌≡◌, ◌⊎◌, ℕ, ◌/◌, ◌==◌, ◌||◌, not, Bool, true, false, List, [], ◌∷◌, ◌++◌, Option, None, Result, Ok, Err, IsTrue}
+use Rattle.std.specs.Prelude.{◌≡◌, ◌⊎◌, ℕ, ◌/◌, ◌==◌, ◌||◌, not, if◌then◌else◌, Bool, true, false, List, [], ◌∷◌, ◌++◌, Option, None, Result, Ok, Err, IsTrue}
 use Rattle.xp_words.specs.declared.kind.PageType.TheVariants.{Writable}
 use Rattle.xp_words.specs.KindWords.{kind_fields}
 use Rattle.xp_words.specs.Machine.{Machine}
@@ -57,6 +57,12 @@ HadAct n p a word (x ∷ xs) = ((place_of n x.step ≡ p) × (x.step.act ≡ a) 
 abbrev pub is_load : Act → Bool
 is_load Load = true
 is_load _ = false
+
+-- what these steps change, and how: all but the loads, the newest first (an exchange stands here also where it found
+-- another word)
+abbrev pub changes : Machine → List Made → List (Place × Act)
+changes n [] = []
+changes n (x ∷ xs) = if is_load x.step.act then changes n xs else ((place_of n x.step, x.step.act) ∷ changes n xs)
 
 -- a word of frame f, or what changes with its last reference: its word of the free map, and pages of an owner
 abbrev pub is_of : ℕ → Place → Bool

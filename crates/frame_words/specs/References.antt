@@ -1,5 +1,5 @@
 -- References that are taken and given back.
-use Rattle.std.specs.Prelude.{◌≡◌, ◌≢◌, ◌⊎◌, ℕ, ◌<◌, ◌≤◌, List, [], Option, Some, Result, Ok, Err}
+use Rattle.std.specs.Prelude.{◌≡◌, ◌≢◌, ◌⊎◌, ℕ, ◌/◌, ◌<◌, ◌≤◌, Bool, List, [], ◌∷◌, Option, Some, Result, Ok, Err}
 use Rattle.xp_words.specs.declared.refs.RefWord.{RefWord}
 use Rattle.xp_words.specs.declared.refs.RefWord.TheVariants.{Free, Owned}
 use Rattle.xp_words.specs.declared.reply.Stop.{Stop}
@@ -10,14 +10,16 @@ use Rattle.xp_words.specs.declared.reply.Pause.{Pause}
 use Rattle.xp_words.specs.declared.reply.Pause.TheVariants.{Lost}
 use Rattle.xp_words.specs.RefWords.{ref_read, ref_write}
 use Rattle.xp_words.specs.Machine.{Machine}
-use Rattle.xp_words.specs.Places.{Clock, Refs, number, sizes_of}
+use Rattle.xp_words.specs.Places.{Place, Clock, Refs, Map, Pages, number, sizes_of}
+use Rattle.xp_board.specs.declared.step.Act.{Act}
 use Rattle.xp_board.specs.declared.step.Act.TheVariants.{Store, Add}
 use Rattle.xp_board.specs.declared.holdings.Made.{Made}
+use Rattle.xp_board.specs.HintSteps.{map_bit}
 use Rattle.xp_board.specs.Readings.{ref_count}
 use Rattle.xp_board.specs.RefSteps.{one_down}
 use Rattle.xp_board.specs.Told.{PortValue, Had, told_word}
 use Rattle.frame_words.specs.Hands.{GaveBack}
-use Rattle.frame_words.specs.Pieces.{Serves, Calm, HadAct}
+use Rattle.frame_words.specs.Pieces.{Serves, Calm, HadAct, changes}
 
 -- ---- reference words
 -- owned by that domain, with room for one more reference
@@ -86,19 +88,25 @@ abbrev pub IsLent : ℕ → PortValue → Type 0
 IsLent f v = 2 ≤ ref_count (told_word v (Refs f))
 
 -- ---- a reference given back
--- the frame is left free, with a clock value that these steps found
-pub record Frees (n : Machine) (f : ℕ) (made : List Made) : Type 0 where
-  pub stamp : ℕ
-  pub word : ℕ
-  pub clock : Had n Clock stamp made
-  pub stored : HadAct n (Refs f) (Store (ref_write (Free stamp))) word made
+-- What giving the last reference of a frame back changes: a page of its owner, the free word, the frame's bit in the
+-- map of free frames, and first of all the count down; the newest first.
+abbrev pub freeing : ℕ → ℕ → ℕ → List (Place × Act)
+freeing f owner stamp = (Pages owner, Add one_down) ∷ ((Refs f, Store (ref_write (Free stamp))) ∷ ((Map (f / 64), Add (map_bit f)) ∷ ((Refs f, Add one_down) ∷ [])))
 
--- The steps from v to w count it down by one. Where it was the last, the frame is free behind them.
+-- these are the changes, with a clock value that these steps found
+pub record Frees (n : Machine) (f owner : ℕ) (made : List Made) : Type 0 where
+  pub stamp : ℕ
+  pub clock : Had n Clock stamp made
+  pub changed : changes n made ≡ freeing f owner stamp
+
+-- The steps from v to w count a reference to frame f down. Where it was the last they then free the frame, and else
+-- they change nothing more.
 pub record Puts (v w : PortValue) (f : ℕ) : Type 0 where
   pub made : List Made
   pub piece : Serves v w f [] made
   pub calm : Calm v.post.machine made
   pub found : ℕ
   pub lowered : HadAct v.post.machine (Refs f) (Add one_down) found made
-  pub freed : ref_count found ≡ 1 → Frees v.post.machine f made
+  pub kept : ref_count found ≢ 1 → changes v.post.machine made ≡ (Refs f, Add one_down) ∷ []
+  pub freed : (owner : ℕ) (allocated : Bool) → ref_read found ≡ Some (Owned owner allocated 1) → Frees v.post.machine f owner made
   pub hand : GaveBack f v.holdings w.holdings

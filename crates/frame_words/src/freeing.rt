@@ -85,7 +85,7 @@ pub(crate) fn free_frame<P: Port>(port: &mut P, frame: u32, owner: u16)
     requires lowered { times frame (P.value port.old).holdings.raised ≡ 0 }
     requires unclaimed { claim_of frame (P.value port.old).holdings.claimed ≡ None }
     ensures post { (P.value port.new).post ≡ (P.value port.old).post }
-    ensures frees { FreesFrame (P.value port.old) (P.value port.new) frame }
+    ensures frees { FreesFrame (P.value port.old) (P.value port.new) frame owner }
 {
     let clock = look_clock(port);
     set_free_bit(port, frame, owner);

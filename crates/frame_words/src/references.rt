@@ -81,8 +81,9 @@ pub fn get_ref<P: Port>(port: &mut P, f: u64, owner: u16) -> Result<u32, Stop>
     }
 }
 
-/// Gives a reference in hand back. The last one loads the clock, sets the frame's bit in the map of free frames, stores
-/// the free word with that clock, and takes one from the pages of the owner.
+/// Gives a reference in hand back: the count goes one down, and nothing else changes. Where it was the last the frame
+/// becomes free: its bit in the map of free frames is set, the free word is stored with a clock value that was found
+/// here, and one is taken from the pages of the owner.
 pub fn put_ref<P: Port>(port: &mut P, frame: u32)
     requires frame { frame < (P.value port.old).post.machine.frames }
     requires running { (P.value port.old).holdings.run ≡ Some 0 }
