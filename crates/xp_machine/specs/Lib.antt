@@ -4,6 +4,7 @@ pub mod Outcome
 pub mod Pieces
 pub mod Ran
 pub mod Ready
+pub mod Rows
 pub mod Seats
 pub mod Texts
 pub mod Turns

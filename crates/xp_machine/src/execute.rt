@@ -2,9 +2,9 @@ ghost use Rattle.std.specs.Prelude.{◌≡◌, ◌≤◌, length, map, vec_len, 
 ghost use Rattle.xp_words.specs.Places.{sizes_of};
 ghost use Rattle.trace_text.specs.WellFormed.{IsWellFormed};
 ghost use Rattle.xp_machine.specs.Cpus.{AreShort, first_cpus};
-ghost use Rattle.xp_machine.specs.Gates.{calm_in, StayCalm};
+ghost use Rattle.xp_machine.specs.Gates.{StayCalm};
 ghost use Rattle.xp_machine.specs.Ran.{Closes, Ran};
-ghost use Rattle.xp_machine.specs.Turns.{stage};
+ghost use Rattle.xp_machine.specs.Rows.{calms_of, cpus_of, stage_of};
 
 use crate::seat::Seat;
 use crate::turns::run_all;
@@ -28,7 +28,7 @@ fn first_seats(
 ) -> Result<Vec<Seat>, AllocError>
     requires scripts { length scripts ≡ (sizes_of layout.now).vcpus }
     requires gates { length scripts ≤ vec_len gates }
-    ensures { IfOk result (λ v. (map (λ s. s.cpu) v.items ≡ first_cpus layout.now scripts) × StayCalm (map (λ g. calm g) gates.items) (map (λ s. calm_in (λ g. calm g) s.gate) v.items)) }
+    ensures { IfOk result (λ v. (cpus_of v.items ≡ first_cpus layout.now scripts) × StayCalm (map calm gates.items) (calms_of calm v.items)) }
 {
     let mut seats = Vec::new(alloc);
     'seats: for ((vcpu, script), gate) in (0..layout.vcpus()).zip(scripts.into_items()).zip(gates) {
@@ -41,8 +41,8 @@ fn first_seats(
 // The report of the board and of the vCPUs' logs.
 fn closing(alloc: Global, board: PlainBoard, seats: Vec<Seat>) -> Result<Vec<u8>, AllocError>
     requires each { length seats.items ≡ (sizes_of board.machine).vcpus }
-    requires short { AreShort (map (λ s. s.cpu) seats.items) }
-    ensures { IfOk result (λ v. Closes board.machine board.story.opening (stage board.story (map (λ s. s.cpu) seats.items)) v.items) }
+    requires short { AreShort (cpus_of seats.items) }
+    ensures { IfOk result (λ v. Closes board.machine board.story.opening (stage_of board seats.items) v.items) }
 {
     let mut logs = Vec::new(alloc);
     let mut pending = Vec::new(alloc);
@@ -65,7 +65,7 @@ pub fn execute(
 ) -> Result<Vec<u8>, AllocError>
     requires well { IsWellFormed trace }
     requires gates { 16 ≤ vec_len gates }
-    ensures { IfOk result (λ v. Ran trace (map (λ g. calm g) gates.items) v.items) }
+    ensures { IfOk result (λ v. Ran trace (map calm gates.items) v.items) }
 {
     // What the steps keep is law: these calls do nothing.
     opening_words_are_sound();

@@ -20,7 +20,7 @@ impl Seat {
     pub fn new(cpu: Cpu, gate: Box<dyn Preempt + Send>) -> Seat
         requires { cpu.retired ≡ false }
         ensures cpu { result.cpu ≡ cpu }
-        ensures calm { calm_in (λ g. calm g) result.gate ≡ calm gate }
+        ensures calm { calm_in calm result.gate ≡ calm gate }
     {
         Seat {
             cpu,
@@ -33,9 +33,9 @@ impl Seat {
         requires short { length self.old.cpu.script < 2 ^ 32 }
         requires of { IsOf (P.value port.old) self.old.cpu }
         ensures post { (P.value port.new).post ≡ (P.value port.old).post }
-        ensures turn { TakesTurn (calm_in (λ g. calm g) self.old.gate) self.old.cpu self.new.cpu (P.value port.old) (P.value port.new) }
+        ensures turn { TakesTurn (calm_in calm self.old.gate) self.old.cpu self.new.cpu (P.value port.old) (P.value port.new) }
         ensures of { IsOf (P.value port.new) self.new.cpu }
-        ensures calm { calm_in (λ g. calm g) self.old.gate ≡ true → calm_in (λ g. calm g) self.new.gate ≡ true }
+        ensures calm { calm_in calm self.old.gate ≡ true → calm_in calm self.new.gate ≡ true }
     {
         let Some(gate) = &mut self.gate else {
             return;

@@ -30,7 +30,7 @@ fn answer(
     gates: Vec<Box<dyn Preempt + Send>>,
 ) -> Result<Due, AllocError>
     requires { 16 ≤ vec_len gates }
-    ensures { IfOk result (λ d. IsAnswer (map (λ g. calm g) gates.items) (trace_of bytes.now) d.status d.text.items) }
+    ensures { IfOk result (λ d. IsAnswer (map calm gates.items) (trace_of bytes.now) d.status d.text.items) }
 {
     match read_trace(alloc, bytes) {
         Ok(trace) => {
@@ -83,7 +83,7 @@ fn gather<S: Source>(
     gates: Vec<Box<dyn Preempt + Send>>,
 ) -> Result<Due, Early>
     requires { 16 ≤ vec_len gates }
-    ensures due { IfOk result (λ d. IsDue (map (λ g. calm g) gates.items) (S.left source.old) (S.left source.new) d.status d.text.items) }
+    ensures due { IfOk result (λ d. IsDue (map calm gates.items) (S.left source.old) (S.left source.new) d.status d.text.items) }
     ensures failed { IsErrOf result Early.Failed → Rose (S.faults source.old) (S.faults source.new) }
     ensures later { S.faults source.old ≤ S.faults source.new }
 {
@@ -108,7 +108,7 @@ fn set_pace(gate: &mut Box<dyn Preempt + Send>, every: u32)
 }
 
 fn set_paces(gates: &mut [Box<dyn Preempt + Send>], every: u32)
-    ensures { StayCalm (under_pace (Some every) (map (λ g. calm g) gates.old)) (map (λ g. calm g) gates.new) }
+    ensures { StayCalm (under_pace (Some every) (map calm gates.old)) (map calm gates.new) }
 {
     'gates: for gate in gates.iter_mut() {
         set_pace(gate, every);
@@ -118,7 +118,7 @@ fn set_paces(gates: &mut [Box<dyn Preempt + Send>], every: u32)
 // The gates, each told the pace.
 fn paced(mut gates: Vec<Box<dyn Preempt + Send>>, every: u32) -> Vec<Box<dyn Preempt + Send>>
     ensures len { vec_len result ≡ vec_len gates }
-    ensures calm { StayCalm (under_pace (Some every) (map (λ g. calm g) gates.items)) (map (λ g. calm g) result.items) }
+    ensures calm { StayCalm (under_pace (Some every) (map calm gates.items)) (map calm result.items) }
 {
     set_paces(&mut gates, every);
     gates
@@ -138,7 +138,7 @@ pub fn run<S: Source, K: Sink>(
     requires gates { 16 ≤ vec_len gates }
 
     // Which bytes were taken, what they spell, and what was written of the text that is due for it.
-    ensures outcome { Outcome (under_pace (pace_of (map string_bytes words.now)) (map (λ g. calm g) gates.items)) (S.left source.old) (S.left source.new) (K.taken sink.old) (K.taken sink.new) result }
+    ensures outcome { Outcome (under_pace (pace_of (map string_bytes words.now)) (map calm gates.items)) (S.left source.old) (S.left source.new) (K.taken sink.old) (K.taken sink.new) result }
 
     // The words are refused exactly where they ask for no run.
     ensures words { (result ≡ Status.BadWords) ↔ (pace_of (map string_bytes words.now) ≡ None) }

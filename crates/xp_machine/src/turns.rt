@@ -1,8 +1,9 @@
-ghost use Rattle.std.specs.Prelude.{◌≡◌, ◌<◌, length, map, replicate, All};
+ghost use Rattle.std.specs.Prelude.{◌≡◌, ◌<◌, length, replicate, All};
 ghost use Rattle.xp_machine.specs.Cpus.{order};
-ghost use Rattle.xp_machine.specs.Gates.{calm_in, StayCalm};
+ghost use Rattle.xp_machine.specs.Gates.{StayCalm};
 ghost use Rattle.xp_machine.specs.Ready.{Ready};
-ghost use Rattle.xp_machine.specs.Turns.{IsTurn, Turns, WorksOff, stage};
+ghost use Rattle.xp_machine.specs.Rows.{calms_of, cpus_of, stage_of};
+ghost use Rattle.xp_machine.specs.Turns.{IsTurn, Turns, WorksOff};
 
 use crate::seat::Seat;
 use crate::stops::stop_all;
@@ -12,12 +13,12 @@ use trace_text::TurnRun;
 // One turn of one vCPU.
 fn turn_of(board: &mut PlainBoard, seats: &mut [Seat], vcpu: u32)
     requires known { vcpu < length seats.old }
-    requires ready { Ready board.old (map (λ s. s.cpu) seats.old) }
+    requires ready { Ready board.old (cpus_of seats.old) }
     ensures machine { board.new.machine ≡ board.old.machine }
     ensures opening { board.new.story.opening ≡ board.old.story.opening }
-    ensures turn { IsTurn board.old.machine (map (λ s. calm_in (λ g. calm g) s.gate) seats.old) vcpu (stage board.old.story (map (λ s. s.cpu) seats.old)) (stage board.new.story (map (λ s. s.cpu) seats.new)) }
-    ensures ready { Ready board.new (map (λ s. s.cpu) seats.new) }
-    ensures calm { StayCalm (map (λ s. calm_in (λ g. calm g) s.gate) seats.old) (map (λ s. calm_in (λ g. calm g) s.gate) seats.new) }
+    ensures turn { IsTurn board.old.machine (calms_of calm seats.old) vcpu (stage_of board.old seats.old) (stage_of board.new seats.new) }
+    ensures ready { Ready board.new (cpus_of seats.new) }
+    ensures calm { StayCalm (calms_of calm seats.old) (calms_of calm seats.new) }
 {
     let seat = &mut seats[vcpu as usize];
     let mut port = board.port(vcpu);
@@ -27,12 +28,12 @@ fn turn_of(board: &mut PlainBoard, seats: &mut [Seat], vcpu: u32)
 // So many turns of one vCPU in a row.
 fn turns_of(board: &mut PlainBoard, seats: &mut [Seat], vcpu: u32, count: u32)
     requires known { vcpu < length seats.old }
-    requires ready { Ready board.old (map (λ s. s.cpu) seats.old) }
+    requires ready { Ready board.old (cpus_of seats.old) }
     ensures machine { board.new.machine ≡ board.old.machine }
     ensures opening { board.new.story.opening ≡ board.old.story.opening }
-    ensures turns { Turns board.old.machine (map (λ s. calm_in (λ g. calm g) s.gate) seats.old) (replicate count vcpu) (stage board.old.story (map (λ s. s.cpu) seats.old)) (stage board.new.story (map (λ s. s.cpu) seats.new)) }
-    ensures ready { Ready board.new (map (λ s. s.cpu) seats.new) }
-    ensures calm { StayCalm (map (λ s. calm_in (λ g. calm g) s.gate) seats.old) (map (λ s. calm_in (λ g. calm g) s.gate) seats.new) }
+    ensures turns { Turns board.old.machine (calms_of calm seats.old) (replicate count vcpu) (stage_of board.old seats.old) (stage_of board.new seats.new) }
+    ensures ready { Ready board.new (cpus_of seats.new) }
+    ensures calm { StayCalm (calms_of calm seats.old) (calms_of calm seats.new) }
 {
     'turns: for _turn in 0..count {
         turn_of(board, seats, vcpu);
@@ -42,11 +43,11 @@ fn turns_of(board: &mut PlainBoard, seats: &mut [Seat], vcpu: u32, count: u32)
 // The turns of the vCPUs, in the order of the runs.
 fn take_turns(board: &mut PlainBoard, seats: &mut [Seat], runs: &[TurnRun])
     requires known { All (λ r. r.vcpu < length seats.old) runs.now }
-    requires ready { Ready board.old (map (λ s. s.cpu) seats.old) }
+    requires ready { Ready board.old (cpus_of seats.old) }
     ensures machine { board.new.machine ≡ board.old.machine }
     ensures opening { board.new.story.opening ≡ board.old.story.opening }
-    ensures turns { Turns board.old.machine (map (λ s. calm_in (λ g. calm g) s.gate) seats.old) (order runs.now) (stage board.old.story (map (λ s. s.cpu) seats.old)) (stage board.new.story (map (λ s. s.cpu) seats.new)) }
-    ensures ready { Ready board.new (map (λ s. s.cpu) seats.new) }
+    ensures turns { Turns board.old.machine (calms_of calm seats.old) (order runs.now) (stage_of board.old seats.old) (stage_of board.new seats.new) }
+    ensures ready { Ready board.new (cpus_of seats.new) }
 {
     'runs: for run in runs {
         turns_of(board, seats, run.vcpu, run.count);
@@ -60,11 +61,11 @@ pub fn run_all(
     runs: &[TurnRun],
 ) -> (PlainBoard, Vec<Seat>)
     requires known { All (λ r. r.vcpu < length seats.items) runs.now }
-    requires ready { Ready board (map (λ s. s.cpu) seats.items) }
+    requires ready { Ready board (cpus_of seats.items) }
     ensures machine { result.0.machine ≡ board.machine }
     ensures opening { result.0.story.opening ≡ board.story.opening }
-    ensures works { WorksOff board.machine (map (λ s. calm_in (λ g. calm g) s.gate) seats.items) (order runs.now) (stage board.story (map (λ s. s.cpu) seats.items)) (stage result.0.story (map (λ s. s.cpu) result.1.items)) }
-    ensures ready { Ready result.0 (map (λ s. s.cpu) result.1.items) }
+    ensures works { WorksOff board.machine (calms_of calm seats.items) (order runs.now) (stage_of board seats.items) (stage_of result.0 result.1.items) }
+    ensures ready { Ready result.0 (cpus_of result.1.items) }
 {
     take_turns(&mut board, &mut seats, runs);
     stop_all(&mut board, &mut seats);
