@@ -68,7 +68,7 @@ still_runs b b2 t lender machine hand run (inl found) = inl (ap (λ (h : Holding
 still_runs b b2 t lender machine hand run (inr told) =
     inr (refl, ap (λ (n : Machine). memory (sizes_of n) b2.story.words (Vcpu t 6)) machine ∙ run ∙ told.1)
 
-of_other : (b b2 : Board) (t lender : ℕ) (c : Processing) → b2.machine ≡ b.machine → seat_of b2.story.seats t ≡ seat_of b.story.seats t →
+pub of_other : (b b2 : Board) (t lender : ℕ) (c : Processing) → b2.machine ≡ b.machine → seat_of b2.story.seats t ≡ seat_of b.story.seats t →
     memory (sizes_of b.machine) b2.story.words (Vcpu t 6) ≡ memory (sizes_of b.machine) b.story.words (Vcpu t 6) → IsOf (port_value b t lender) c → IsOf (port_value b2 t lender) c
 of_other b b2 t lender c machine hand run o =
     record {

@@ -1,5 +1,5 @@
 //! The plain board, and the calls over any port, each through its bound.
-ghost use Rattle.std.specs.Prelude.{◌<◌, ◌^◌, IfOk, IfSome, length};
+ghost use Rattle.std.specs.Prelude.{◌≡◌, ◌<◌, ◌^◌, IfOk, IfSome, length};
 ghost use Rattle.trace_text.specs.WellFormed.{IsWellFormed};
 ghost use Rattle.xp_words.specs.Places.{sizes_of};
 ghost use Rattle.xp_machine.specs.Ready.{TakesFresh};
@@ -21,13 +21,14 @@ use xp_preempt::Never;
 use xp_words::{Layout, RefWord, Refusal, Script, Stop};
 
 // Frame 0 is domain 0's, frame 1 domain 1's, and frame 2 is free.
-const TWO_DOMAINS: &str =
+pub(crate) const TWO_DOMAINS: &str =
     "xen-pv-trace 1\nframes 3\nlimit 2\nclock 5\ndomain 1\ndomain 1\nvcpu 0\nvcpu 1\nown 0 0 1\nown 1 1 1\nop 1 mmu 0x7ff0 0x1001 7\nend\n";
 
 // The board with which a trace opens, and the scripts of its vCPUs.
 fn board_of(alloc: Global, trace: Trace) -> Result<(PlainBoard, ScriptList), AllocError>
     requires { IsWellFormed trace }
-    ensures { IfOk result (λ b. TakesFresh b.0) }
+    ensures fresh { IfOk result (λ b. TakesFresh b.0) }
+    ensures seats { IfOk result (λ b. length b.0.story.seats ≡ (sizes_of b.0.machine).vcpus) }
 {
     opening_words_are_sound();
     let words = opening(alloc, &trace)?;
@@ -45,8 +46,9 @@ fn board_of(alloc: Global, trace: Trace) -> Result<(PlainBoard, ScriptList), All
 }
 
 // The same of its text, with the script of the last vCPU.
-fn opened(alloc: Global, text: &str) -> Option<(PlainBoard, Script)>
-    ensures { IfSome result (λ b. TakesFresh b.0) }
+pub(crate) fn opened(alloc: Global, text: &str) -> Option<(PlainBoard, Script)>
+    ensures fresh { IfSome result (λ b. TakesFresh b.0) }
+    ensures seats { IfSome result (λ b. length b.0.story.seats ≡ (sizes_of b.0.machine).vcpus) }
 {
     match read_trace(alloc, text.as_bytes()) {
         Err(_) => None,
@@ -182,7 +184,7 @@ impl<P: Port> Port for Counting<P> {
 }
 
 // How many loads, exchanges, stores and sums the first turn of a vCPU makes.
-fn steps_of(
+pub(crate) fn steps_of(
     alloc: Global,
     board: &mut PlainBoard,
     vcpu: u32,

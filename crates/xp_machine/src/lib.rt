@@ -8,6 +8,8 @@ mod execute;
 mod list_tests;
 mod seat;
 mod status;
+#[cfg(test)]
+mod step_tests;
 mod stops;
 #[cfg(test)]
 mod tests;

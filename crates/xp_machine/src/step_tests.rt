@@ -1,0 +1,137 @@
+//! Calls for single steps that no turn of today makes, each through its bound.
+
+ghost use Rattle.std.specs.Prelude.{◌≡◌, ◌≢◌, ◌<◌, length};
+ghost use Rattle.xp_words.specs.Places.{sizes_of};
+ghost use Rattle.xp_board.specs.Told.{Goes};
+ghost use Rattle.frame_words.specs.Hands.{FoundRun};
+ghost use Rattle.xp_machine.specs.Ready.{TakesFresh};
+
+use crate::board_tests::{TWO_DOMAINS, opened, steps_of};
+use frame_words::{
+    ask, look_cell, look_clock, look_flushed, look_life, look_privileges, look_run, look_run_of,
+};
+use shared_board::PlainBoard;
+use std::process::Abort;
+use std::test::Fail;
+use xp_board::Port;
+
+// Frame 0 is domain 0's, with a cell that is not 0, and frame 1 is domain 1's. Domain 0 has privilege over domain 1.
+const PRIVILEGED: &str =
+    "xen-pv-trace 1\nframes 3\nlimit 3\nclock 5\ndomain 1\ndomain 1\npriv 0 1\nvcpu 0\nvcpu 1\nown 0 0 1\nown 1 1 1\ncell 0 3 1 0x77\nend\n";
+
+// A cell of a frame as vCPU 0 finds it.
+fn cell_of(board: &mut PlainBoard, frame: u32, index: u16) -> Option<u64> {
+    if board.layout().vcpus() == 0 || frame >= board.layout().frames || index >= 512 {
+        return None;
+    }
+    let mut port = board.port(0);
+    Some(look_cell(&mut port, frame, index))
+}
+
+// The life word of a domain and its privileges.
+fn life_and_privileges(board: &mut PlainBoard, domain: u16) -> Option<(u64, u64)> {
+    if board.layout().vcpus() == 0 || u32::from(domain) >= board.layout().domains() {
+        return None;
+    }
+    let mut port = board.port(0);
+    let life = look_life(&mut port, domain);
+    let privileges = look_privileges(&mut port, domain);
+    Some((life, privileges))
+}
+
+// The run word of another vCPU than 0.
+fn run_of(board: &mut PlainBoard, vcpu: u32) -> Option<u64> {
+    if vcpu == 0 || vcpu >= board.layout().vcpus() {
+        return None;
+    }
+    let mut port = board.port(0);
+    Some(look_run_of(&mut port, vcpu))
+}
+
+// Whether vCPU 0 has a translation of that page.
+fn has_cached(board: &mut PlainBoard, page: u64) -> Option<bool> {
+    if board.layout().vcpus() == 0 {
+        return None;
+    }
+    let port = board.port(0);
+    Some(port.cached(false, page).is_some() || port.cached(true, page).is_some())
+}
+
+#[test]
+fn a_load_answers_the_word_that_stands_there(rt: HostRuntime) {
+    let (mut board, _) = opened(rt.alloc(), PRIVILEGED).expect(&rt, "a board");
+    assert!(rt; cell_of(&mut board, 0, 3) == Some(0x77));
+    assert!(rt; cell_of(&mut board, 0, 4) == Some(0));
+    assert!(rt; life_and_privileges(&mut board, 0) == Some((0, 0x2_0002)));
+    assert!(rt; life_and_privileges(&mut board, 1) == Some((0, 0)));
+    assert!(rt; run_of(&mut board, 1) == Some(0));
+}
+
+#[test]
+fn a_vcpu_opens_without_translations(rt: HostRuntime) {
+    let (mut board, _) = opened(rt.alloc(), PRIVILEGED).expect(&rt, "a board");
+    assert!(rt; has_cached(&mut board, 0) == Some(false));
+}
+
+// Another vCPU is asked to flush past the clock value that is found. Answers that value.
+fn ask_another<P: Port>(rt: &impl Abort, port: &mut P, vcpu: u32) -> u64
+    requires vcpu { vcpu < length (P.value port.old).post.machine.vcpu_domain }
+    requires other { vcpu ≢ (P.value port.old).post.seat }
+    ensures post { (P.value port.new).post ≡ (P.value port.old).post }
+    ensures goes { Goes (P.value port.old) (P.value port.new) }
+    ensures hand { FoundRun 0 (P.value port.old).holdings (P.value port.new).holdings }
+{
+    let own = look_run(port);
+    assert!(rt; own == 0);
+    let clock = look_clock(port);
+    let run = look_run_of(port, vcpu);
+    assert!(rt; run == 0);
+    let flushed = look_flushed(port, vcpu);
+    assert!(rt; flushed <= clock);
+    ask(port, vcpu, clock);
+    clock
+}
+
+// vCPU 0 of a board asks another one, which may take its first turn then.
+fn ask_by_first(rt: &impl Abort, board: &mut PlainBoard, vcpu: u32) -> u64
+    requires fresh { TakesFresh board.old }
+    requires seats { length board.old.story.seats ≡ (sizes_of board.old.machine).vcpus }
+    ensures { TakesFresh board.new }
+{
+    assert!(rt; vcpu != 0);
+    assert!(rt; vcpu < board.layout().vcpus());
+    let mut port = board.port(0);
+    ask_another(rt, &mut port, vcpu)
+}
+
+// The clock, and to which of its values a vCPU was asked to flush and is flushed.
+fn flushes_of(board: PlainBoard, vcpu: u32) -> Option<(u64, u64, u64)> {
+    if vcpu >= board.layout().vcpus() {
+        return None;
+    }
+    let asked = board.layout().vcpu_place(vcpu, 4);
+    let flushed = board.layout().vcpu_place(vcpu, 5);
+    let words = board.into_words();
+    match (
+        words.get(0),
+        words.get(asked as usize),
+        words.get(flushed as usize),
+    ) {
+        (Some(clock), Some(asked), Some(flushed)) => Some((*clock, *asked, *flushed)),
+        _ => None,
+    }
+}
+
+// A load, an exchange and a store more than without the ask: the clock goes up, and the vCPU is flushed to it.
+#[test]
+fn a_vcpu_that_was_asked_flushes_as_its_turn_begins(rt: HostRuntime) -> Result<(), Fail> {
+    let (mut board, script) = opened(rt.alloc(), TWO_DOMAINS).expect(&rt, "a board");
+    assert!(rt; script.len() == 1);
+    assert!(rt; ask_by_first(&rt, &mut board, 1) == 5);
+    if script.len() == 1 && board.layout().vcpus() == 2 {
+        let steps = steps_of(rt.alloc(), &mut board, 1, script)?;
+        assert!(rt; steps == (6, 2, 2, 1));
+    }
+    assert!(rt; flushes_of(board, 1) == Some((6, 5, 6)));
+    Ok(())
+}
