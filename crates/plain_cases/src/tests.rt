@@ -1,15 +1,18 @@
-//! Each table names its cases by what they show.
+//! Each table names its cases by what they show. It is a static, which is one value: a borrowed constant is built case
+//! by case in the test, and the proof follows each of these steps.
 mod cells;
 mod contexts;
 mod domains;
 mod flushes;
 mod formed;
 mod found;
+mod found_of_frames;
 mod fresh;
 mod has;
 mod kinds;
 mod left;
 mod left_by_others;
+mod left_by_walks;
 mod lives;
 mod marks;
 mod references;
@@ -24,11 +27,13 @@ use domains::DOMAINS;
 use flushes::FLUSHES;
 use formed::FORMED;
 use found::FOUND;
+use found_of_frames::FOUND_OF_FRAMES;
 use fresh::FRESH;
 use has::{Has, is_left};
 use kinds::KINDS;
 use left::LEFT;
 use left_by_others::LEFT_BY_OTHERS;
+use left_by_walks::LEFT_BY_WALKS;
 use lives::LIVES;
 use marks::MARKS;
 use plain_checker::judge;
@@ -272,6 +277,7 @@ fn tells_the_part_that_fails(rt: HostRuntime) {
 #[test]
 fn tells_what_was_found_and_is_so_no_more(rt: HostRuntime) {
     assert_eq!(rt; wrong_state(&FOUND), None);
+    assert_eq!(rt; wrong_state(&FOUND_OF_FRAMES), None);
 }
 
 #[test]
@@ -297,4 +303,5 @@ fn tells_what_steps_on_frames_leave(rt: HostRuntime) {
 #[test]
 fn tells_what_other_steps_leave(rt: HostRuntime) {
     assert_eq!(rt; wrong_left(&LEFT_BY_OTHERS), None);
+    assert_eq!(rt; wrong_left(&LEFT_BY_WALKS), None);
 }

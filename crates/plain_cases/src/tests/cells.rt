@@ -5,7 +5,7 @@ use plain_sound::Part;
 use plain_words::Place;
 use xp_words::PageType;
 
-pub const CELLS: [StepCase; 37] = [
+pub static CELLS: [StepCase; 37] = [
     StepCase {
         name: "an entry that asks the same",
         edits: &[

@@ -5,7 +5,7 @@ use plain_sound::Part;
 use plain_words::Place;
 use xp_words::PageType;
 
-pub const CONTEXTS: [StepCase; 32] = [
+pub static CONTEXTS: [StepCase; 32] = [
     StepCase {
         name: "a base",
         edits: &[

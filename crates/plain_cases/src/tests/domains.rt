@@ -6,7 +6,7 @@ use crate::{
 use plain_sound::Part;
 use plain_words::Place;
 
-pub const DOMAINS: [WordCase; 44] = [
+pub static DOMAINS: [WordCase; 44] = [
     WordCase {
         name: "a dead domain",
         edits: &[Edit::Life(1, 255), Edit::OtherVcpu(6, 1)],

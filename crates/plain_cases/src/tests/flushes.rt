@@ -8,7 +8,7 @@ use plain_words::Place;
 use xp_board::StepKind;
 use xp_words::PageType;
 
-pub const FLUSHES: [StepCase; 38] = [
+pub static FLUSHES: [StepCase; 38] = [
     StepCase {
         name: "the clock, one up",
         edits: &[],

@@ -5,7 +5,7 @@ use plain_sound::Part;
 use plain_words::Place;
 use xp_words::PageType;
 
-pub const FORMED: [WordCase; 41] = [
+pub static FORMED: [WordCase; 41] = [
     WordCase {
         name: "no more entries are recorded than a table has",
         edits: &[Edit::InWork(L1 + LOCKED, 513, PageType::L1)],

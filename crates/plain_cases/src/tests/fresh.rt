@@ -4,7 +4,7 @@ use crate::{CLOCK, Edit, L1, L3, L4, LIVE, LOCKED, OWNED, PARTIAL, UNFLUSHED, WR
 use plain_sound::Part;
 use xp_words::PageType;
 
-pub const FRESH: [WordCase; 34] = [
+pub static FRESH: [WordCase; 34] = [
     WordCase {
         name: "a translation to read an own frame",
         edits: &[Edit::Cached(0, false)],

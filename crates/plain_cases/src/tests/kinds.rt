@@ -7,7 +7,7 @@ use crate::{
 use plain_sound::Part;
 use xp_words::PageType;
 
-pub const KINDS: [StepCase; 44] = [
+pub static KINDS: [StepCase; 44] = [
     StepCase {
         name: "dead to work",
         edits: &[Edit::Two(0), Edit::Untyped(0)],

@@ -8,7 +8,7 @@ use crate::{
 use plain_words::Place;
 use xp_words::PageType;
 
-pub const LEFT: [LeftCase; 37] = [
+pub static LEFT: [LeftCase; 37] = [
     LeftCase {
         name: "one reference up",
         edits: &[],

@@ -8,7 +8,7 @@ use plain_sound::Part;
 use plain_words::Place;
 use xp_words::PageType;
 
-pub const LIVES: [StepCase; 56] = [
+pub static LIVES: [StepCase; 56] = [
     StepCase {
         name: "a domain is destroyed from now on",
         edits: &[],

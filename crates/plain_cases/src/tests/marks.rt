@@ -8,7 +8,7 @@ use plain_words::Place;
 use xp_board::{Mark, StepKind};
 use xp_words::PageType;
 
-pub const MARKS: [StepCase; 50] = [
+pub static MARKS: [StepCase; 50] = [
     StepCase {
         name: "the next entry joins the recorded ones",
         edits: &[

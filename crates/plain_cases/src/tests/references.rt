@@ -8,7 +8,7 @@ use plain_words::Place;
 use xp_board::StepKind;
 use xp_words::PageType;
 
-pub const REFERENCES: [StepCase; 64] = [
+pub static REFERENCES: [StepCase; 64] = [
     StepCase {
         name: "a load",
         edits: &[],

@@ -7,7 +7,7 @@ use crate::{
 use plain_sound::Part;
 use xp_words::PageType;
 
-pub const STORES: [StepCase; 53] = [
+pub static STORES: [StepCase; 53] = [
     StepCase {
         name: "a live writable frame",
         edits: &[Edit::InWork(WRITABLE + LOCKED, 0, PageType::Writable)],

@@ -6,7 +6,7 @@ use plain_words::Place;
 use xp_board::{Mark, StepKind};
 use xp_words::PageType;
 
-pub const WALKS: [StepCase; 54] = [
+pub static WALKS: [StepCase; 54] = [
     StepCase {
         name: "a walk begins",
         edits: &[Edit::Tower],

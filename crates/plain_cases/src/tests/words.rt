@@ -7,7 +7,7 @@ use crate::{
 use plain_sound::Part;
 use xp_words::PageType;
 
-pub const WORDS: [WordCase; 42] = [
+pub static WORDS: [WordCase; 42] = [
     WordCase {
         name: "the small machine",
         edits: &[],
