@@ -52,10 +52,7 @@ fn update_list<P: Port>(
     ensures told { is_telling (P.value port.old) ≡ true → IsNotLost result }
 {
     while (*done as usize) < pairs.len() {
-        match update(port, domain, pairs[*done as usize]) {
-            Err(stop) => return Err(stop),
-            Ok(()) => {}
-        }
+        update(port, domain, pairs[*done as usize])?;
         *done += 1;
         if *done as usize == pairs.len() {
             return Ok(());
