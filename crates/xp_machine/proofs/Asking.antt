@@ -56,7 +56,7 @@ may_ask u v w x k clock run flushed first same second again third later idle beh
     })
 
 -- ---- the board afterwards
-still_rests : (w : ℕ) (h k : Holdings) → FoundRun w h k → Rests h → Rests k
+pub still_rests : (w : ℕ) (h k : Holdings) → FoundRun w h k → Rests h → Rests k
 still_rests w h k f r =
     record {
       empty = record {

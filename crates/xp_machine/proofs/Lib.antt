@@ -6,4 +6,5 @@ mod Reaching
 mod Starting
 mod Statuses
 mod Turning
+mod Typing
 mod Walking

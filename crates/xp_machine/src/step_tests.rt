@@ -1,19 +1,24 @@
 //! Calls for single steps that no turn of today makes, each through its bound.
 
-ghost use Rattle.std.specs.Prelude.{◌≡◌, ◌≢◌, ◌<◌, length};
+ghost use Rattle.std.specs.Prelude.{◌≡◌, ◌≢◌, ◌<◌, length, Some, None};
 ghost use Rattle.xp_words.specs.Places.{sizes_of};
+ghost use Rattle.xp_board.specs.Hands.{IsEmptyHand};
+ghost use Rattle.xp_board.specs.Readings.{domain_of};
 ghost use Rattle.xp_board.specs.Told.{Goes};
 ghost use Rattle.frame_words.specs.Hands.{FoundRun};
 ghost use Rattle.xp_machine.specs.Ready.{TakesFresh};
 
 use crate::board_tests::{TWO_DOMAINS, opened, steps_of};
+use frame_types::take_writable;
 use frame_words::{
-    ask, look_cell, look_clock, look_flushed, look_life, look_privileges, look_run, look_run_of,
+    ask, count_type, get_ref, look_cell, look_clock, look_flushed, look_kind, look_life,
+    look_privileges, look_run, look_run_of,
 };
 use shared_board::PlainBoard;
 use std::process::Abort;
 use std::test::Fail;
 use xp_board::Port;
+use xp_words::KindWord;
 
 // Frame 0 is domain 0's, with a cell that is not 0, and frame 1 is domain 1's. Domain 0 has privilege over domain 1.
 const PRIVILEGED: &str =
@@ -134,4 +139,57 @@ fn a_vcpu_that_was_asked_flushes_as_its_turn_begins(rt: HostRuntime) -> Result<(
     }
     assert!(rt; flushes_of(board, 1) == Some((6, 5, 6)));
     Ok(())
+}
+
+// How many type counts a frame has that is taken as writable, and counted once more.
+fn count_twice<P: Port>(port: &mut P, f: u64, domain: u16) -> Option<u64>
+    requires running { (P.value port.old).holdings.run ≡ Some 0 }
+    requires landed { (P.value port.old).holdings.walk ≡ None }
+    requires empty { IsEmptyHand (P.value port.old).holdings }
+    requires own { domain ≡ domain_of (P.value port.old).post.machine (P.value port.old).post.seat }
+{
+    let Ok(frame) = get_ref(port, f, domain) else {
+        return None;
+    };
+    if take_writable(port, frame, domain).is_err() {
+        return None;
+    }
+    let Ok(again) = get_ref(port, f, domain) else {
+        return None;
+    };
+    let word = look_kind(port, again);
+    let Some(kind) = KindWord::read(word) else {
+        return None;
+    };
+    if !kind.validated || kind.number == 0 || kind.number >= u64::from(port.layout().limit) {
+        return None;
+    }
+    if count_type(port, again, word, kind).is_err() {
+        return None;
+    }
+    let Some(counted) = KindWord::read(look_kind(port, again)) else {
+        return None;
+    };
+    Some(counted.number)
+}
+
+// The same of a frame of vCPU 0's domain.
+fn types_counted(board: &mut PlainBoard, f: u64) -> Option<u64>
+    requires { TakesFresh board.old }
+{
+    if board.layout().vcpus() == 0 {
+        return None;
+    }
+    let domain = board.layout().vcpu_domain.as_slice()[0];
+    let mut port = board.port(0);
+    if look_run(&mut port) != 0 {
+        return None;
+    }
+    count_twice(&mut port, f, domain)
+}
+
+#[test]
+fn a_writable_frame_has_a_type_count_for_each_holder(rt: HostRuntime) {
+    let (mut board, _) = opened(rt.alloc(), PRIVILEGED).expect(&rt, "a board");
+    assert!(rt; types_counted(&mut board, 0) == Some(2));
 }
