@@ -1,5 +1,5 @@
 -- The hand that a demand goes out of or comes into.
-use Rattle.std.proofs.Common.{◌≡◌, ℕ, ◌+◌, ◌<◌, Some, refl, ap, subst, arith, IsTrue, inl, inr}
+use Rattle.std.proofs.Common.{◌≡◌, ℕ, ◌+◌, ◌<◌, Some, refl, ap, subst, arith, IsTrue, inl, inr, Bool}
 use Rattle.std.proofs.lemmas.Bool.{cases_eq}
 use Rattle.xp_words.specs.declared.kind.PageType.{PageType}
 use Rattle.xp_words.specs.declared.entry.Demand.{Demand}
@@ -7,7 +7,7 @@ use Rattle.xp_words.specs.declared.entry.Demand.TheVariants.{Nothing, Bad, Read,
 use Rattle.xp_board.specs.declared.holdings.Holdings.{Holdings}
 use Rattle.xp_board.specs.Lists.{one_at, EachOf}
 use Rattle.xp_board.specs.Found.{Found}
-use Rattle.xp_board.specs.Hands.{brought, brought_typed, refs_to, typed_to, hand, typed_hand}
+use Rattle.xp_board.specs.Hands.{brought, brought_as, refs_to, typed_to, hand, typed_hand}
 use Rattle.xp_board.specs.Recorded.{HasType, names, names_typed}
 use Rattle.xp_board.specs.Settling.{HasDemand, HasLastDemand, demand_in, demand_out}
 use Rattle.xp_board.specs.RefSteps.{SparesClosing}
@@ -40,19 +40,19 @@ out_typed g Bad u k = absurd k
 out_typed g (Read f) u k = omega arith
 out_typed g (Typed f t) u k = let e = times_by-without (λ y. y.frame) g f u.typed k in omega arith
 
-pub in_hand : (g : ℕ) (d : Demand) (u : Holdings) → hand g (demand_in d u) ≡ hand g u + names g d
+pub in_hand : (sure : Bool) (g : ℕ) (d : Demand) (u : Holdings) → hand g (demand_in sure d u) ≡ hand g u + names g d
 unfolding hand typed_hand names
-in_hand g Nothing u = omega arith
-in_hand g Bad u = omega arith
-in_hand g (Read f) u = let e = times_by-cons (λ y. y.frame) g (brought f u) u.refs in omega arith
-in_hand g (Typed f t) u = let e = times_by-cons (λ y. y.frame) g (brought_typed f (Some t) u) u.typed in omega arith
+in_hand sure g Nothing u = omega arith
+in_hand sure g Bad u = omega arith
+in_hand sure g (Read f) u = let e = times_by-cons (λ y. y.frame) g (brought f u) u.refs in omega arith
+in_hand sure g (Typed f t) u = let e = times_by-cons (λ y. y.frame) g (brought_as sure f t u) u.typed in omega arith
 
-pub in_typed : (g : ℕ) (d : Demand) (u : Holdings) → typed_hand g (demand_in d u) ≡ typed_hand g u + names_typed g d
+pub in_typed : (sure : Bool) (g : ℕ) (d : Demand) (u : Holdings) → typed_hand g (demand_in sure d u) ≡ typed_hand g u + names_typed g d
 unfolding typed_hand names_typed
-in_typed g Nothing u = omega arith
-in_typed g Bad u = omega arith
-in_typed g (Read f) u = omega arith
-in_typed g (Typed f t) u = let e = times_by-cons (λ y. y.frame) g (brought_typed f (Some t) u) u.typed in omega arith
+in_typed sure g Nothing u = omega arith
+in_typed sure g Bad u = omega arith
+in_typed sure g (Read f) u = omega arith
+in_typed sure g (Typed f t) u = let e = times_by-cons (λ y. y.frame) g (brought_as sure f t u) u.typed in omega arith
 
 -- the types of typed references
 pub out_types : (m : Place → ℕ) (d : Demand) (u : Holdings) → EachOf (λ y. HasType m y.frame y.kind) u.typed → EachOf (λ y. HasType m y.frame y.kind) (demand_out d u).typed
@@ -61,13 +61,13 @@ out_types m Bad u k = k
 out_types m (Read f) u k = k
 out_types m (Typed f t) u k = EachOf-without (λ y. HasType m y.frame y.kind) (λ y. y.frame) f u.typed k
 
-pub in_types : (m : Place → ℕ) (d : Demand) (u : Holdings) → ((g : ℕ) (t : PageType) → d ≡ Typed g t → (kind_at m g).kind ≡ t) → EachOf (λ y. HasType m y.frame y.kind) u.typed →
-    EachOf (λ y. HasType m y.frame y.kind) (demand_in d u).typed
+pub in_types : (sure : Bool) (m : Place → ℕ) (d : Demand) (u : Holdings) → ((g : ℕ) (t : PageType) → d ≡ Typed g t → (kind_at m g).kind ≡ t) → EachOf (λ y. HasType m y.frame y.kind) u.typed →
+    EachOf (λ y. HasType m y.frame y.kind) (demand_in sure d u).typed
 unfolding EachOf
-in_types m Nothing u e k = k
-in_types m Bad u e k = k
-in_types m (Read f) u e k = k
-in_types m (Typed f t) u e k = (e f t refl, k)
+in_types sure m Nothing u e k = k
+in_types sure m Bad u e k = k
+in_types sure m (Read f) u e k = k
+in_types sure m (Typed f t) u e k = (e f t refl, k)
 
 -- a closing frame keeps an untyped reference
 abbrev pub Spares : Demand → Holdings → Type 0
@@ -89,11 +89,11 @@ out_spares (Read f) u k p g c l =
       | inr off ↦ let none = one_at-other g f off in omega arith
     ]
 
-pub in_more : (d : Demand) (u : Holdings) (g : ℕ) → 0 < refs_to g u.refs → 0 < refs_to g (demand_in d u).refs
-in_more Nothing u g l = l
-in_more Bad u g l = l
-in_more (Read f) u g l = let e = times_by-cons (λ y. y.frame) g (brought f u) u.refs in omega arith
-in_more (Typed f t) u g l = l
+pub in_more : (sure : Bool) (d : Demand) (u : Holdings) (g : ℕ) → 0 < refs_to g u.refs → 0 < refs_to g (demand_in sure d u).refs
+in_more sure Nothing u g l = l
+in_more sure Bad u g l = l
+in_more sure (Read f) u g l = let e = times_by-cons (λ y. y.frame) g (brought f u) u.refs in omega arith
+in_more sure (Typed f t) u g l = l
 
 -- what may go out is in hand
 pub has_demand : (n : Machine) (f : ℕ) (kind : PageType) (u : Holdings) (d : Demand) → HasDemand n f kind u d → IsInHand d u × Spares d u

@@ -60,7 +60,7 @@ module _ (n : Machine) (s : ℕ) (x : Step) (m m2 : Place → ℕ) (b c : ℕ �
   between = demand_out new (b s)
 
   abbrev moved : Holdings
-  moved = demand_in old between
+  moved = demand_in true old between
 
   kinds_same : (g : ℕ) → m2 (Kind g) ≡ m (Kind g)
   kinds_same g = d.wrote.others (Kind g) (λ e. cc)
@@ -96,10 +96,10 @@ module _ (n : Machine) (s : ℕ) (x : Step) (m m2 : Place → ℕ) (b c : ℕ �
 
   -- ---- the hand
   side : Beside (b s) moved
-  side = beside_then (b s) between moved (beside_out new (b s)) (beside_in old between)
+  side = beside_then (b s) between moved (beside_out new (b s)) (beside_in true old between)
 
   far : Translations (b s) moved
-  far = translations_then (b s) between moved (translations_out new (b s)) (translations_in old between)
+  far = translations_then (b s) between moved (translations_out new (b s)) (translations_in true old between)
 
   works_kept : EachTwo SameWork (b s).works (c s).works
   works_kept =
@@ -117,9 +117,9 @@ module _ (n : Machine) (s : ℕ) (x : Step) (m m2 : Place → ℕ) (b c : ℕ �
   hand_moves : (g : ℕ) → (hand g (c s) + names g new ≡ hand g (b s) + names g old) × (typed_hand g (c s) + names_typed g new ≡ typed_hand g (b s) + names_typed g old)
   hand_moves g =
       let o = out_hand g new (b s) has.0 in
-      let p = in_hand g old between in
+      let p = in_hand true g old between in
       let q = out_typed g new (b s) has.0 in
-      let r = in_typed g old between in
+      let r = in_typed true g old between in
       let refs = ap (λ y. refs_to g y.refs) d.hand in
       let typed = ap (λ y. typed_to g y.typed) d.hand in
       let locks = locks_times (b s) (c s) locks_kept g in
@@ -172,7 +172,7 @@ module _ (n : Machine) (s : ℕ) (x : Step) (m m2 : Place → ℕ) (b c : ℕ �
         contexts = λ w j g p q t e. type_same g (context_type j) (sound.counts.kinds.contexts w j g p q t (sym (d.wrote.others (Vcpu w j) (λ k. cc)) ∙ e));
         typed = each_seat n s m m2 b c seat others (λ t u. EachOf (λ e. HasType m2 e.frame e.kind) u.typed)
             (subst (λ y. EachOf (λ e. HasType m2 e.frame e.kind) y) (sym (ap (λ y. y.typed) d.hand))
-            (EachOf-map (λ e. HasType m e.frame e.kind) _ moved.typed (λ e k. type_same e.frame e.kind k) (in_types m old between old_type (out_types m new (b s) (sound.counts.kinds.typed s seat)))))
+            (EachOf-map (λ e. HasType m e.frame e.kind) _ moved.typed (λ e k. type_same e.frame e.kind k) (in_types true m old between old_type (out_types m new (b s) (sound.counts.kinds.typed s seat)))))
             (λ t l off. EachOf-map (λ e. HasType m e.frame e.kind) _ (b t).typed (λ e k. type_same e.frame e.kind k) (sound.counts.kinds.typed t l));
         locks = each_seat n s m m2 b c seat others (λ t u. EachOf (λ e. HasType m2 e.frame (Some e.kind)) u.locks)
             (EachTwo-each SameLock (λ e. HasType m e.frame (Some e.kind)) _ _ _ (λ y z r k. rw (kinds_same z.frame) (ap (λ f. (kind_at m f).kind) r.frame ∙ k ∙ sym r.kind)) locks_kept (sound.counts.kinds.locks s seat))
@@ -192,7 +192,7 @@ module _ (n : Machine) (s : ℕ) (x : Step) (m m2 : Place → ℕ) (b c : ℕ �
         claimed = claims_kept;
         raised = ap (λ y. y.raised) d.hand ∙ side.raised;
         credits = ap (λ y. y.credits) d.hand ∙ side.credits;
-        spares = λ g t l. subst (λ y. 0 < refs_to g y) (sym (ap (λ y. y.refs) d.hand)) (in_more old between g (out_spares new (b s) has.0 has.1 g t l));
+        spares = λ g t l. subst (λ y. 0 < refs_to g y) (sym (ap (λ y. y.refs) d.hand)) (in_more true old between g (out_spares new (b s) has.0 has.1 g t l));
         refs = λ g.
             let e = entries_move (names g) in let k = (hand_moves g).0 in
             let w = contexts-same (sizes_of n) m m2 g (λ v k t. d.wrote.others (Vcpu v k) (λ e. cc)) in

@@ -4,7 +4,7 @@ use Rattle.std.proofs.lemmas.Bool.{cases_eq}
 use Rattle.xp_words.specs.Places.{Place}
 use Rattle.xp_board.specs.declared.holdings.Holdings.{Holdings}
 use Rattle.xp_board.specs.Lists.{one_at, EachOf}
-use Rattle.xp_board.specs.Hands.{typed_to, brought_typed}
+use Rattle.xp_board.specs.Hands.{typed_to, brought_name}
 use Rattle.xp_board.specs.ContextSteps.{context_type, named_in, named_out}
 use Rattle.xp_board.specs.Recorded.{HasType}
 use Rattle.xp_board.proofs.Sums.{when_eq, when_ne}
@@ -32,7 +32,7 @@ named_out_typed g (suc f) u k = let z = one_named g f in let e = times_by-withou
 
 pub named_in_typed : (g k w : ℕ) (u : Holdings) → typed_to g (named_in k w u).typed ≡ typed_to g u.typed + one_at (g + 1) w
 named_in_typed g k zero u = let z = none_named g in omega arith
-named_in_typed g k (suc f) u = let z = one_named g f in let e = times_by-cons (λ y. y.frame) g (brought_typed f (context_type k) u) u.typed in omega arith
+named_in_typed g k (suc f) u = let z = one_named g f in let e = times_by-cons (λ y. y.frame) g (brought_name f (context_type k) u) u.typed in omega arith
 
 pub out_types : (m : Place → ℕ) (w : ℕ) (u : Holdings) → EachOf (λ e. HasType m e.frame e.kind) u.typed → EachOf (λ e. HasType m e.frame e.kind) (named_out w u).typed
 out_types m zero u k = k

@@ -1,5 +1,5 @@
 -- The marks that record an entry, and that take the last one back.
-use Rattle.std.proofs.Common.{◌≡◌, ◌≢◌, ℕ, ◌+◌, ◌<◌, false, None, refl, sym, ◌∙◌, ap, subst, arith, IsTrue, inl, inr}
+use Rattle.std.proofs.Common.{◌≡◌, ◌≢◌, ℕ, ◌+◌, ◌<◌, false, None, refl, sym, ◌∙◌, ap, subst, arith, IsTrue, inl, inr, is_none}
 use Rattle.std.proofs.lemmas.Bool.{cases_eq}
 use Rattle.xp_words.specs.declared.kind.PageType.{PageType}
 use Rattle.xp_words.specs.declared.entry.Demand.{Demand}
@@ -128,7 +128,7 @@ module _ (n : Machine) (s : ℕ) (m : Place → ℕ) (h b : ℕ → Holdings) (s
   -- ---- the last recorded entry comes back
   module _ (e : Work) (may : MayShed f upto (h s) e) (change : Work → Work) (frames : (y : Work) → (change y).frame ≡ y.frame) (words : (y : Work) → (change y).word ≡ y.word)
       (fewer : (change e).recorded ≡ upto) (told : Demand) (told_is : told ≡ demand_at (kind_fields e.word).kind upto may.word)
-      (hand_is : b s ≡ demand_in told (record (h s) { works = changed_work f change (h s).works })) where
+      (hand_is : b s ≡ demand_in (is_none e.unsettled) told (record (h s) { works = changed_work f change (h s).works })) where
     abbrev left : Holdings
     left = record (h s) { works = changed_work f change (h s).works }
 
@@ -139,12 +139,12 @@ module _ (n : Machine) (s : ℕ) (m : Place → ℕ) (h b : ℕ → Holdings) (s
     shed_unmarked = seen_unmarked n s m h seat sound f e may.here _ may.seen
 
     shed_works : (b s).works ≡ changed_work f change (h s).works
-    shed_works = ap (λ y. y.works) hand_is ∙ (beside_in told left).works
+    shed_works = ap (λ y. y.works) hand_is ∙ (beside_in (is_none e.unsettled) told left).works
 
     shed_alone : HeldAlone n m b
     shed_alone =
-        mark_alone n s m h b seat others sound f e may.here change shed_works frames words shed_unmarked (ap (λ y. y.locks) hand_is ∙ (beside_in told left).locks)
-        (ap (λ y. y.ending) hand_is ∙ (beside_in told left).ending) (ap (λ y. y.claimed) hand_is ∙ (beside_in told left).claimed)
+        mark_alone n s m h b seat others sound f e may.here change shed_works frames words shed_unmarked (ap (λ y. y.locks) hand_is ∙ (beside_in (is_none e.unsettled) told left).locks)
+        (ap (λ y. y.ending) hand_is ∙ (beside_in (is_none e.unsettled) told left).ending) (ap (λ y. y.claimed) hand_is ∙ (beside_in (is_none e.unsettled) told left).claimed)
 
     entries_fewer : (c : Demand → ℕ) → entries c (sizes_of n) m b + c told ≡ entries c (sizes_of n) m h
     entries_fewer c =
@@ -160,8 +160,8 @@ module _ (n : Machine) (s : ℕ) (m : Place → ℕ) (h b : ℕ → Holdings) (s
 
     in_now : (g : ℕ) → (hand g (b s) ≡ hand g (h s) + names g told) × (typed_hand g (b s) ≡ typed_hand g (h s) + names_typed g told)
     in_now g =
-        let p = in_hand g told left in
-        let q = in_typed g told left in
+        let p = in_hand (is_none e.unsettled) g told left in
+        let q = in_typed (is_none e.unsettled) g told left in
         let r = hand_alike g (h s) left refl refl refl in
         rw hand_is (p ∙ ap (λ y. y + names g told) r.0, q ∙ ap (λ y. y + names_typed g told) r.1)
 
@@ -179,19 +179,19 @@ module _ (n : Machine) (s : ℕ) (m : Place → ℕ) (h b : ℕ → Holdings) (s
           words = words;
           table = may.table;
           unmarked = shed_unmarked;
-          locks = ap (λ y. y.locks) hand_is ∙ (beside_in told left).locks;
-          ending = ap (λ y. y.ending) hand_is ∙ (beside_in told left).ending;
-          claimed = ap (λ y. y.claimed) hand_is ∙ (beside_in told left).claimed;
-          raised = ap (λ y. y.raised) hand_is ∙ (beside_in told left).raised;
-          credits = ap (λ y. y.credits) hand_is ∙ (beside_in told left).credits;
-          cache = ap (λ y. y.cache) hand_is ∙ (translations_in told left).cache;
-          walk = ap (λ y. y.walk) hand_is ∙ (translations_in told left).walk;
-          cold = ap (λ y. y.cold) hand_is ∙ (translations_in told left).cold;
-          spares = λ g k l. rw hand_is (in_more told left g l);
+          locks = ap (λ y. y.locks) hand_is ∙ (beside_in (is_none e.unsettled) told left).locks;
+          ending = ap (λ y. y.ending) hand_is ∙ (beside_in (is_none e.unsettled) told left).ending;
+          claimed = ap (λ y. y.claimed) hand_is ∙ (beside_in (is_none e.unsettled) told left).claimed;
+          raised = ap (λ y. y.raised) hand_is ∙ (beside_in (is_none e.unsettled) told left).raised;
+          credits = ap (λ y. y.credits) hand_is ∙ (beside_in (is_none e.unsettled) told left).credits;
+          cache = ap (λ y. y.cache) hand_is ∙ (translations_in (is_none e.unsettled) told left).cache;
+          walk = ap (λ y. y.walk) hand_is ∙ (translations_in (is_none e.unsettled) told left).walk;
+          cold = ap (λ y. y.cold) hand_is ∙ (translations_in (is_none e.unsettled) told left).cold;
+          spares = λ g k l. rw hand_is (in_more (is_none e.unsettled) told left g l);
           refs = λ g. let k = entries_fewer (names g) in let o = (in_now g).0 in omega arith;
           types = λ g. let k = entries_fewer (names_typed g) in let o = (in_now g).1 in omega arith;
           last = λ i g t l k. let r = fewer in entry_typed i g t (omega arith) k;
-          typed = rw hand_is (in_types m told left (λ g t k. entry_typed upto g t (omega arith) (stood ∙ k)) (sound.counts.kinds.typed s seat));
+          typed = rw hand_is (in_types (is_none e.unsettled) m told left (λ g t k. entry_typed upto g t (omega arith) (stood ∙ k)) (sound.counts.kinds.typed s seat));
         }
 
     pub shed_by : Outcome n m b

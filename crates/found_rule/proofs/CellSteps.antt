@@ -4,9 +4,12 @@ use Rattle.std.proofs.lemmas.Bool.{cases_eq}
 use Rattle.std.proofs.lemmas.Bool.Decides.{nat_tests}
 use Rattle.xp_words.specs.declared.kind.PageType.{PageType}
 use Rattle.xp_words.specs.PageTypes.{type_number, is_table}
+use Rattle.xp_words.specs.KindWords.{kind_fields}
+use Rattle.xp_words.specs.declared.entry.Demand.TheVariants.{Typed}
+use Rattle.std.proofs.lemmas.Bool.Decides.{nat_tests}
 use Rattle.xp_words.specs.Entries.{demand_at}
 use Rattle.xp_words.specs.Machine.{Machine}
-use Rattle.xp_words.specs.Places.{sizes_of, Place, Vcpu, Refs, Kind, Cell}
+use Rattle.xp_words.specs.Places.{sizes_of, is_place, Place, Vcpu, Refs, Kind, Cell}
 use Rattle.xp_board.specs.declared.step.Step.{Step}
 use Rattle.xp_board.specs.declared.holdings.Seen.{Seen}
 use Rattle.xp_board.specs.declared.holdings.Lock.{Lock}
@@ -27,8 +30,8 @@ use Rattle.found_rule.proofs.StepLists.{first_by-each, first_by-key, first_by-so
 use Rattle.found_rule.proofs.Growth.{Grown, added}
 use Rattle.found_rule.proofs.Learning.{Act, act}
 use Rattle.found_rule.proofs.WordsOf.{CellSpared, words_cell}
-use Rattle.found_rule.proofs.KnownFacts.{RefRight, TypedRight}
-use Rattle.found_rule.proofs.KnownStays.{owner_new, live_new, partial_new}
+use Rattle.found_rule.proofs.KnownFacts.{RefRight, TypedRight, IsLiveAs}
+use Rattle.found_rule.proofs.KnownStays.{owner_new, live_found, partial_found}
 use Rattle.found_rule.proofs.Counted.{lock_elsewhere}
 use Rattle.found_rule.proofs.Demands.{RefsMoved, same_rest, then_moved, moved_out, moved_in, refs_out, typed_out, refs_in, typed_in}
 use Rattle.found_rule.proofs.EntryAsks.{walked_inside}
@@ -117,6 +120,15 @@ module _ (n : Machine) (s : ℕ) (x : Step) (m m2 : Place → ℕ) (b c : ℕ �
         let q = alone s l in
         cell_done u acted moved lock_spares passes (fix_none n m b sound f m2 i s q.0) (zero_none n m b sound f m2 i s q.1) refs typed
 
+    -- the recorded entry
+    stood_asks : i < 512 → AsksLive m (demand_at e.kind i (m (Cell f i)))
+    unfolding some live
+    stood_asks inside =
+        let kind = lock_type n m b sound f s l e here in
+        let levels = table_levels (kind_at m f).kind (lock_table n m b sound f s l some) in
+        let old : AsksLive m (demand_at (kind_at m f).kind i (m (Cell f i))) = recorded_asks n m b sound f i inside live.0 live.1 levels.0 levels.1 in
+        subst (λ t. AsksLive m (demand_at t i (m (Cell f i)))) kind old
+
     -- the same demand as that of the recorded entry
     same_asks : IsTrue (keeps_demand e i (m2 (Cell f i))) → i < 512 → AsksLive m (demand_at e.kind i (m2 (Cell f i)))
     unfolding some live
@@ -134,6 +146,17 @@ module _ (n : Machine) (s : ℕ) (x : Step) (m m2 : Place → ℕ) (b c : ℕ �
         let old : AsksLive m (demand_at (kind_at m f).kind i (m (Cell f i))) = recorded_asks n m b sound f i inside live.0 live.1 levels.0 levels.1 in
         subst (λ d. AsksLive m d) (entry_asks_same e.kind i (m (Cell f i)) (p.0).word entry ∙ p.3) (subst (λ t. AsksLive m (demand_at t i (m (Cell f i)))) kind old)
 
+  inside_of : Exchanged n x f i m m2 (b s) (c s) → i < 512
+  unfolding is_place
+  inside_of d = let real = d.wrote.real in grind (arith, nat_tests)
+
+  -- the frame that the old entry types is live
+  old_live : (d : Exchanged n x f i m m2 (b s) (c s)) (g : ℕ) (t : PageType) → demand_at d.e.kind i (m (Cell f i)) ≡ Typed g t → IsLiveAs m2 g t
+  old_live d g t asks =
+      let same : m2 (Kind g) ≡ m (Kind g) = d.wrote.others (Kind g) (λ e. cc) in
+      let old = subst (λ q. AsksLive m q) asks (stood_asks d.e d.here (inside_of d)) in
+      (subst (λ w. IsTrue (kind_fields w).validated) (sym same) (rw old.0 refl), ap (λ w. (kind_fields w).kind) same ∙ old.2)
+
   pub exchanged_done : Exchanged n x f i m m2 (b s) (c s) → Done n s m m2 b c
   exchanged_done d =
       let w = d.wrote in
@@ -142,21 +165,21 @@ module _ (n : Machine) (s : ℕ) (x : Step) (m m2 : Place → ℕ) (b c : ℕ �
       let out = demand_at d.e.kind i (m2 p) in
       let come = demand_at d.e.kind i (m p) in
       let gone = demand_out out (b s) in
-      let u = demand_in come gone in
-      let moved = then_moved (b s) gone u (moved_out out (b s)) (moved_in come gone) in
+      let u = demand_in true come gone in
+      let moved = then_moved (b s) gone u (moved_out out (b s)) (moved_in true come gone) in
       let acted = act n s x p m m2 (b s) u (c s) w.place w.real w.left w.others moved.steps moved.run moved.old0 moved.old1 d.hand in
       let grown : Grown z m m2 (b s).steps (c s).steps = added acted.made p acted.added acted.steps in
       let same : length gone.steps ≡ length (b s).steps = ap length (moved_out out (b s)).steps in
       lock_done d.e d.here u acted moved (lock_passes d.e d.here (asks_hand n m b sound f s l d.e.kind out d.may))
       (λ h.
-      refs_in (RefRight z m2 (c s).steps) come gone (λ g. owner_new z m m2 (b s).steps (c s).steps grown g (length gone.steps) (omega arith))
+      refs_in true (RefRight z m2 (c s).steps) come gone (λ g. owner_new z m m2 (b s).steps (c s).steps grown g (length gone.steps) (omega arith))
       (refs_out (RefRight z m2 (c s).steps) out (b s) h))
       (λ h.
-      typed_in (TypedRight z m2 (c s).steps) come gone
-      (λ g t. record {
+      typed_in true (TypedRight z m2 (c s).steps) come gone
+      (λ g t asks. record {
         owner = owner_new z m m2 (b s).steps (c s).steps grown g (length gone.steps) (omega arith);
-        live = live_new z m m2 (b s).steps (c s).steps grown g (Some t) (length gone.steps) (omega arith);
-        partial = partial_new z m m2 (b s).steps (c s).steps grown g (length gone.steps) (omega arith);
+        live = live_found z m m2 (b s).steps (c s).steps grown g t (old_live d g t asks);
+        partial = partial_found z m m2 (b s).steps (c s).steps grown g;
       })
       (typed_out (TypedRight z m2 (c s).steps) out (b s) h))
 

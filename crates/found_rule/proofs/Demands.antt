@@ -1,5 +1,5 @@
 -- What a demand that goes out of the hand, or comes in, leaves of it.
-use Rattle.std.proofs.Common.{◌≡◌, ℕ, Some, refl, ap, ◌∙◌}
+use Rattle.std.proofs.Common.{◌≡◌, ℕ, Some, refl, ap, ◌∙◌, Bool}
 use Rattle.xp_words.specs.declared.kind.PageType.{PageType}
 use Rattle.xp_words.specs.declared.entry.Demand.{Demand}
 use Rattle.xp_words.specs.declared.entry.Demand.TheVariants.{Nothing, Bad, Read, Typed}
@@ -7,7 +7,7 @@ use Rattle.xp_board.specs.declared.holdings.Reference.{Reference}
 use Rattle.xp_board.specs.declared.holdings.TypedReference.{TypedReference}
 use Rattle.xp_board.specs.declared.holdings.Holdings.{Holdings}
 use Rattle.xp_board.specs.Lists.{EachOf}
-use Rattle.xp_board.specs.Hands.{brought, brought_typed}
+use Rattle.xp_board.specs.Hands.{brought, brought_as}
 use Rattle.xp_board.specs.Settling.{demand_in, demand_out}
 use Rattle.found_rule.proofs.StepLists.{EachOf-more, EachOf-without}
 
@@ -56,11 +56,11 @@ moved_out (Typed g t) a = same_rest a (demand_out (Typed g t) a) refl
 moved_out Nothing a = same_rest a a refl
 moved_out Bad a = same_rest a a refl
 
-pub moved_in : (d : Demand) (a : Holdings) → RefsMoved a (demand_in d a)
-moved_in (Read g) a = same_rest a (demand_in (Read g) a) refl
-moved_in (Typed g t) a = same_rest a (demand_in (Typed g t) a) refl
-moved_in Nothing a = same_rest a a refl
-moved_in Bad a = same_rest a a refl
+pub moved_in : (sure : Bool) (d : Demand) (a : Holdings) → RefsMoved a (demand_in sure d a)
+moved_in sure (Read g) a = same_rest a (demand_in sure (Read g) a) refl
+moved_in sure (Typed g t) a = same_rest a (demand_in sure (Typed g t) a) refl
+moved_in sure Nothing a = same_rest a a refl
+moved_in sure Bad a = same_rest a a refl
 
 pub refs_out : (P : Reference → Type 0) (d : Demand) (a : Holdings) → EachOf P a.refs → EachOf P (demand_out d a).refs
 refs_out P (Read g) a h = EachOf-without P (λ e. e.frame) g a.refs h
@@ -74,17 +74,17 @@ typed_out P (Read g) a h = h
 typed_out P Nothing a h = h
 typed_out P Bad a h = h
 
-pub refs_in : (P : Reference → Type 0) (d : Demand) (a : Holdings) → ((g : ℕ) → P (brought g a)) → EachOf P a.refs → EachOf P (demand_in d a).refs
-refs_in P (Read g) a new h = EachOf-more P (brought g a) a.refs (new g) h
-refs_in P (Typed g t) a new h = h
-refs_in P Nothing a new h = h
-refs_in P Bad a new h = h
+pub refs_in : (sure : Bool) (P : Reference → Type 0) (d : Demand) (a : Holdings) → ((g : ℕ) → P (brought g a)) → EachOf P a.refs → EachOf P (demand_in sure d a).refs
+refs_in sure P (Read g) a new h = EachOf-more P (brought g a) a.refs (new g) h
+refs_in sure P (Typed g t) a new h = h
+refs_in sure P Nothing a new h = h
+refs_in sure P Bad a new h = h
 
-pub typed_in : (P : TypedReference → Type 0) (d : Demand) (a : Holdings) → ((g : ℕ) (t : PageType) → P (brought_typed g (Some t) a)) → EachOf P a.typed → EachOf P (demand_in d a).typed
-typed_in P (Typed g t) a new h = EachOf-more P (brought_typed g (Some t) a) a.typed (new g t) h
-typed_in P (Read g) a new h = h
-typed_in P Nothing a new h = h
-typed_in P Bad a new h = h
+pub typed_in : (sure : Bool) (P : TypedReference → Type 0) (d : Demand) (a : Holdings) → ((g : ℕ) (t : PageType) → d ≡ Typed g t → P (brought_as sure g t a)) → EachOf P a.typed → EachOf P (demand_in sure d a).typed
+typed_in sure P (Typed g t) a new h = EachOf-more P (brought_as sure g t a) a.typed (new g t refl) h
+typed_in sure P (Read g) a new h = h
+typed_in sure P Nothing a new h = h
+typed_in sure P Bad a new h = h
 
 pub then_moved : (a u w : Holdings) → RefsMoved a u → RefsMoved u w → RefsMoved a w
 then_moved a u w h k =

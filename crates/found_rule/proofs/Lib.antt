@@ -55,3 +55,4 @@ pub mod FillSteps
 pub mod GuestSteps
 pub mod TouchRows
 pub mod Laws
+pub mod ShedFacts

@@ -1,15 +1,19 @@
 -- A word of a vCPU that may name a frame.
-use Rattle.std.proofs.Common.{◌≡◌, ◌≢◌, ℕ, zero, suc, ◌<◌, ◌==◌, false, length, IsTrue, refl, sym, ap, subst, ◌∙◌, ◌⊎◌, inl, inr, arith}
-use Rattle.std.proofs.lemmas.Bool.{cases_eq, eqb-true}
+use Rattle.std.proofs.Common.{◌≡◌, ◌≢◌, ℕ, zero, suc, ◌+◌, ◌<◌, ◌≤◌, ◌==◌, nat_lt, Bool, true, false, List, length, Option, Some, None, IsTrue, refl, sym, ap, subst, ◌∙◌, ◌⊎◌, inl, inr, arith}
+use Rattle.std.proofs.lemmas.Bool.{cases_eq, cases_Bool, eqb-true}
 use Rattle.std.proofs.lemmas.Bool.Decides.{nat_tests}
 use Rattle.xp_words.specs.Machine.{Machine}
-use Rattle.xp_words.specs.Places.{sizes_of, Place, Vcpu, Refs, Kind, Cell}
+use Rattle.xp_words.specs.KindWords.{kind_fields}
+use Rattle.xp_words.specs.Places.{sizes_of, is_place, Sizes, Place, Vcpu, Refs, Kind, Cell}
 use Rattle.xp_board.specs.declared.step.Step.{Step}
 use Rattle.xp_board.specs.declared.holdings.TypedReference.{TypedReference}
 use Rattle.xp_board.specs.declared.holdings.Holdings.{Holdings}
 use Rattle.xp_board.specs.Lists.{EachOf}
-use Rattle.xp_board.specs.Readings.{is_context, told_value}
-use Rattle.xp_board.specs.Hands.{brought_typed}
+use Rattle.xp_board.specs.Readings.{is_context, is_live, told_value}
+use Rattle.xp_board.specs.Hands.{brought_name, named_live}
+use Rattle.xp_words.specs.declared.kind.PageType.{PageType}
+use Rattle.xp_board.specs.declared.holdings.Made.{Made}
+use Rattle.xp_board.specs.Valid.{is_live_context}
 use Rattle.xp_board.specs.ContextSteps.{MayName, MayEmpty, context_type, named_in, named_out}
 use Rattle.xp_board.specs.Sound.{Sound}
 use Rattle.xp_board.proofs.ActEffects.{Named}
@@ -19,8 +23,9 @@ use Rattle.found_rule.proofs.Growth.{Grown, added}
 use Rattle.found_rule.proofs.Learning.{act}
 use Rattle.found_rule.proofs.Words.{Words}
 use Rattle.found_rule.proofs.WordsOf.{words_lone, lone_vcpu}
-use Rattle.found_rule.proofs.KnownFacts.{RefRight, TypedRight}
-use Rattle.found_rule.proofs.KnownStays.{owner_new, live_new, partial_new}
+use Rattle.found_rule.proofs.KnownFacts.{RefRight, TypedRight, IsLiveAs, LiveRight, PartialRight}
+use Rattle.found_rule.proofs.KnownStays.{owner_new, live_new, partial_new, live_found, partial_found}
+use Rattle.found_rule.proofs.WalkRows.{has_type}
 use Rattle.found_rule.proofs.Demands.{RefsMoved, same_rest, then_moved}
 use Rattle.found_rule.proofs.MyHand.{refs_old, typed_old}
 use Rattle.found_rule.proofs.Outcome.{reach_kept}
@@ -47,9 +52,26 @@ typed_named_out : (P : TypedReference → Type 0) (w : ℕ) (a : Holdings) → E
 typed_named_out P zero a h = h
 typed_named_out P (suc f) a h = EachOf-without P (λ e. e.frame) f a.typed h
 
-typed_named_in : (P : TypedReference → Type 0) (k w : ℕ) (a : Holdings) → ((f : ℕ) → P (brought_typed f (context_type k) a)) → EachOf P a.typed → EachOf P (named_in k w a).typed
+typed_named_in : (P : TypedReference → Type 0) (k w : ℕ) (a : Holdings) → ((f : ℕ) → w ≡ suc f → P (brought_name f (context_type k) a)) → EachOf P a.typed → EachOf P (named_in k w a).typed
 typed_named_in P k zero a new h = h
-typed_named_in P k (suc f) a new h = EachOf-more P (brought_typed f (context_type k) a) a.typed (new f) h
+typed_named_in P k (suc f) a new h = EachOf-more P (brought_name f (context_type k) a) a.typed (new f refl) h
+
+-- a word that says a type names a live frame of it
+types_live : (k : ℕ) (t : PageType) → IsTrue (is_context k) → context_type k ≡ Some t → IsTrue (is_live_context k)
+types_live k t c e =
+    elim (cases_Bool (nat_lt k 2)) [
+      | inl low ↦ grind (arith, nat_tests)
+      | inr high ↦ elim (cases_Bool (nat_lt k 4)) [ inl old ↦ absurd (let q = rw (high, old) at e in cc) | inr later ↦ grind (arith, nat_tests) ]
+    ]
+
+module _ (z : Sizes) (m m2 : Place → ℕ) (xs ys : List Made) (g : Grown z m m2 xs ys) (f : ℕ) (u : Holdings) (past : length xs ≤ length u.steps) where
+  live_name : (kind : Option PageType) → ((t : PageType) → kind ≡ Some t → IsLiveAs m2 f t) → LiveRight z m2 ys f kind (named_live kind u)
+  live_name (Some t) h = live_found z m m2 xs ys g f t (h t refl)
+  live_name None h = live_new z m m2 xs ys g f None (length u.steps) past
+
+  partial_name : (kind : Option PageType) → PartialRight z m2 ys f (named_live kind u)
+  partial_name (Some t) = partial_found z m m2 xs ys g f
+  partial_name None = partial_new z m m2 xs ys g f (length u.steps) past
 
 not_flush : (k : ℕ) → IsTrue (is_context k) → (k ≢ 5) × (k ≢ 6)
 not_flush k t = ((λ e. grind (arith, nat_tests)), (λ e. grind (arith, nat_tests)))
@@ -70,6 +92,20 @@ module _ (n : Machine) (s : ℕ) (x : Step) (m m2 : Place → ℕ) (b c : ℕ �
                   absurd (run (ap (λ y. m2 (Vcpu y 6)) at ∙ o (Vcpu v 6) (λ e. off (cc)) ∙ was)))
             ]
       ]
+
+  place_named : Named n s x v k m m2 (b s) (c s) → (v < (sizes_of n).vcpus) × (k < 38)
+  unfolding is_place
+  place_named d = let real = d.wrote.real in (grind (arith, nat_tests), grind (arith, nat_tests))
+
+  -- the frame that the word named is live with the word's type
+  named_right : Named n s x v k m m2 (b s) (c s) → (f : ℕ) (t : PageType) → context_type k ≡ Some t → m (Vcpu v k) ≡ suc f → IsLiveAs m2 f t
+  named_right d f t is named =
+      let real = place_named d in
+      let names : m (Vcpu v k) ≡ f + 1 = omega arith in
+      let same : m2 (Kind f) ≡ m (Kind f) = d.wrote.others (Kind f) (λ e. cc) in
+      let type = has_type m f (context_type k) t is (sound.counts.kinds.contexts v k f real.0 real.1 d.word names) in
+      let live = sound.valid.contexts v k f real.0 real.1 (types_live k t d.word is) names in
+      (subst (λ w. IsTrue (is_live (kind_fields w))) (sym same) live, ap (λ w. (kind_fields w).kind) same ∙ type)
 
   pub named_done : Named n s x v k m m2 (b s) (c s) → Done n s m m2 b c
   unfolding told_value
@@ -110,12 +146,13 @@ module _ (n : Machine) (s : ℕ) (x : Step) (m m2 : Place → ℕ) (b c : ℕ �
       (λ f. o (Kind f) (λ e. cc)) (λ f. o (Refs f) (λ e. cc)) words reach (fix_kept n s p m m2 b c u acted l sound cells) (zero_kept n s p m m2 b c u acted l sound cells) flushed run
       (subst (λ xs. EachOf (RefRight z m2 (c s).steps) xs) (sym (refs_named_in k (m p) gone ∙ refs_named_out (m2 p) (b s))) (refs_old n s p m m2 b c u acted l sound words reach))
       (typed_named_in T k (m p) gone
-      (λ f.
+      (λ f named.
       let e : length gone.steps ≡ length (b s).steps = ap length (moved_named_out (m2 p) (b s)).steps in
+      let past : length (b s).steps ≤ length gone.steps = omega arith in
       record {
-        owner = owner_new z m m2 (b s).steps (c s).steps grown f (length gone.steps) (omega arith);
-        live = live_new z m m2 (b s).steps (c s).steps grown f (context_type k) (length gone.steps) (omega arith);
-        partial = partial_new z m m2 (b s).steps (c s).steps grown f (length gone.steps) (omega arith);
+        owner = owner_new z m m2 (b s).steps (c s).steps grown f (length gone.steps) past;
+        live = live_name z m m2 (b s).steps (c s).steps grown f gone past (context_type k) (λ t is. named_right d f t is named);
+        partial = partial_name z m m2 (b s).steps (c s).steps grown f gone past (context_type k);
       })
       (typed_named_out T (m2 p) (b s) (typed_old n s p m m2 b c u acted l sound words reach)))
       (let f = (sound.formed s l).cache in record { few = rw (moved.cache) f.few; walk = λ y t. f.walk y (sym moved.walk ∙ t) })

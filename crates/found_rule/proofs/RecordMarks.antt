@@ -1,6 +1,7 @@
 -- Marks that record the next entry of a table in work, or shed the last one.
-use Rattle.std.proofs.Common.{◌≡◌, ◌≢◌, ℕ, ◌+◌, ◌-◌, ◌<◌, ◌≤◌, if◌then◌else◌, Bool, true, false, List, length, Option, Some, None, refl, sym, ap, subst, ◌∙◌, inl, inr, arith}
+use Rattle.std.proofs.Common.{◌≡◌, ◌≢◌, ℕ, ◌+◌, ◌-◌, ◌<◌, ◌≤◌, if◌then◌else◌, Bool, true, false, List, length, Option, Some, None, refl, sym, ap, subst, ◌∙◌, inl, inr, arith, is_none}
 use Rattle.std.proofs.lemmas.Bool.{cases_eq}
+use Rattle.xp_words.specs.declared.kind.PageType.{PageType}
 use Rattle.xp_words.specs.Machine.{Machine}
 use Rattle.xp_words.specs.Places.{Sizes, sizes_of, Place, Cell}
 use Rattle.xp_board.specs.declared.holdings.Made.{Made}
@@ -10,7 +11,7 @@ use Rattle.xp_board.specs.declared.holdings.Work.{Work}
 use Rattle.xp_board.specs.declared.holdings.Holdings.{Holdings}
 use Rattle.xp_board.specs.Lists.{EachOf}
 use Rattle.xp_board.specs.Steps.{last_since}
-use Rattle.xp_board.specs.Hands.{work_on, changed_work}
+use Rattle.xp_board.specs.Hands.{work_on, changed_work, surely}
 use Rattle.xp_board.specs.Marks.{MayRecord, MayShed, demand_seen, unsettled_by, seen_word, leaves_unsettled}
 use Rattle.xp_board.specs.Found.{WorkFound, Found}
 use Rattle.xp_board.specs.WellFormed.{SeenIs, LastIs, IsWorkFormed, WellFormed}
@@ -19,8 +20,9 @@ use Rattle.xp_board.proofs.MarkEffects.{Recorded, Shed}
 use Rattle.found_rule.proofs.StepLists.{EachOf-changes, EachOf-changed_first}
 use Rattle.found_rule.proofs.Growth.{Grown, stayed}
 use Rattle.found_rule.proofs.ReachSame.{reach_same}
-use Rattle.found_rule.proofs.KnownFacts.{RefRight, TypedRight}
-use Rattle.found_rule.proofs.KnownStays.{owner_new, live_new, partial_new}
+use Rattle.found_rule.proofs.KnownFacts.{RefRight, TypedRight, IsLiveAs, LiveRight, PartialRight}
+use Rattle.found_rule.proofs.KnownStays.{owner_new, live_new, partial_new, live_found, partial_found}
+use Rattle.found_rule.proofs.ShedFacts.{shed_live}
 use Rattle.found_rule.proofs.Counted.{one_work}
 use Rattle.found_rule.proofs.HandFacts.{ReachKept}
 use Rattle.found_rule.proofs.Demands.{RefsMoved, moved_out, moved_in, refs_out, typed_out, refs_in, typed_in}
@@ -33,6 +35,19 @@ seen_there z k f steps (Some s) i w h e =
     let b : s.index ≡ i = ap (λ y. y.index) a in
     subst (λ j. last_since z k (Cell f j) steps ≡ Some s.word) b h
 seen_there z k f steps None i w h e = absurd cc
+
+none_is : (o : Option Unsettled) → is_none o ≡ true → o ≡ None
+none_is None e = refl
+none_is (Some x) e = absurd cc
+
+module _ (z : Sizes) (m : Place → ℕ) (xs : List Made) (g : Grown z m m xs xs) (f : ℕ) where
+  live_sure : (t : PageType) (u : Holdings) → u.steps ≡ xs → (sure : Bool) → (sure ≡ true → IsLiveAs m f t) → LiveRight z m xs f (Some t) (surely sure u)
+  live_sure t u is true h = live_found z m m xs xs g f t (h refl)
+  live_sure t u is false h = live_new z m m xs xs g f (Some t) (length u.steps) (let e = ap length is in omega arith)
+
+  partial_sure : (u : Holdings) → u.steps ≡ xs → (sure : Bool) → PartialRight z m xs f (surely sure u)
+  partial_sure u is true = partial_found z m m xs xs g f
+  partial_sure u is false = partial_new z m m xs xs g f (length u.steps) (let e = ap length is in omega arith)
 
 module _ (n : Machine) (s : ℕ) (m : Place → ℕ) (h b : ℕ → Holdings) (l : s < (sizes_of n).vcpus) (sound : Sound n m h) (others : (t : ℕ) → t ≢ s → b t ≡ h t) (f : ℕ) (change : Work → Work)
     (a : Holdings) (is : a ≡ record (h s) { works = changed_work f change (h s).works }) (moved : RefsMoved a (b s)) where
@@ -177,15 +192,15 @@ module _ (n : Machine) (s : ℕ) (m : Place → ℕ) (h b : ℕ → Holdings) (l
       let z = sizes_of n in
       let xs = (h s).steps in
       let k = known_was n s m h b l sound others in
-      entry_found n s m h b l sound others f shed_change a refl (subst (λ u. RefsMoved a u) (sym d.hand) (moved_in demand a)) shed_same
+      entry_found n s m h b l sound others f shed_change a refl (subst (λ u. RefsMoved a u) (sym d.hand) (moved_in (is_none e.unsettled) demand a)) shed_same
       (subst (λ u. EachOf (RefRight z m xs) u.refs) (sym d.hand)
-      (refs_in (RefRight z m xs) demand a (λ g. owner_new z m m xs xs same_steps g (length xs) (omega arith)) k.refs))
+      (refs_in (is_none e.unsettled) (RefRight z m xs) demand a (λ g. owner_new z m m xs xs same_steps g (length xs) (omega arith)) k.refs))
       (subst (λ u. EachOf (TypedRight z m xs) u.typed) (sym d.hand)
-      (typed_in (TypedRight z m xs) demand a
-      (λ g t. record {
+      (typed_in (is_none e.unsettled) (TypedRight z m xs) demand a
+      (λ g t asks. record {
         owner = owner_new z m m xs xs same_steps g (length xs) (omega arith);
-        live = live_new z m m xs xs same_steps g (Some t) (length xs) (omega arith);
-        partial = partial_new z m m xs xs same_steps g (length xs) (omega arith);
+        live = live_sure z m xs same_steps g t a refl (is_none e.unsettled) (λ sure. shed_live n s m h l sound f upto e d.may g t (none_is e.unsettled sure) asks);
+        partial = partial_sure z m xs same_steps g a refl (is_none e.unsettled);
       }) k.typed))
 
   pub shed_formed : Shed f upto (h s) (b s) → (t : ℕ) → t < (sizes_of n).vcpus → WellFormed n t (b t)
@@ -194,4 +209,4 @@ module _ (n : Machine) (s : ℕ) (m : Place → ℕ) (h b : ℕ → Holdings) (l
       let e = d.e in
       let a = record (h s) { works = changed_work f shed_change (h s).works } in
       let demand = demand_seen upto e in
-      entry_formed n s m h b l sound others f shed_change a refl (subst (λ u. RefsMoved a u) (sym d.hand) (moved_in demand a)) e d.may.here (shed_form e d.may)
+      entry_formed n s m h b l sound others f shed_change a refl (subst (λ u. RefsMoved a u) (sym d.hand) (moved_in (is_none e.unsettled) demand a)) e d.may.here (shed_form e d.may)

@@ -57,7 +57,7 @@ base_context k b = grind (arith, nat_tests)
 base_type : (k : ℕ) → k < 2 → context_type k ≡ Some kinds.L4
 base_type k b = let t : nat_lt k 2 ≡ true = grind (arith, nat_tests) in rw t refl
 
-has_type : (m : Place → ℕ) (g : ℕ) (o : Option PageType) (t : PageType) → o ≡ Some t → HasType m g o → (kind_at m g).kind ≡ t
+pub has_type : (m : Place → ℕ) (g : ℕ) (o : Option PageType) (t : PageType) → o ≡ Some t → HasType m g o → (kind_at m g).kind ≡ t
 has_type m g o t e h = rw e at h
 
 module _ (n : Machine) (s : ℕ) (x : Step) (m m2 : Place → ℕ) (b c : ℕ → Holdings) (l : s < (sizes_of n).vcpus) (sound : Sound n m b) (others : (t : ℕ) → t ≢ s → c t ≡ b t) where

@@ -13,7 +13,7 @@ use Rattle.xp_board.specs.After.{after_move, noted, learned_cell, learned_work, 
 use Rattle.xp_board.specs.CellSteps.{exchanged}
 use Rattle.xp_board.specs.Hands.{typed_to}
 use Rattle.xp_board.specs.Knowledge.{knows_live}
-use Rattle.xp_board.specs.Legal.{LegalNow}
+use Rattle.xp_board.specs.Legal.{Legal}
 use Rattle.xp_board.specs.Lists.{first_by, changed_by}
 use Rattle.xp_board.specs.Spelling.{IsSpelling}
 use Rattle.frame_words.specs.Cells.{IsApart, SawCell}
@@ -25,7 +25,7 @@ unfolding is_place
 cell_there z f i h l = grind (arith, nat_tests)
 
 pub cell_is_legal : (n : Machine) (s : ℕ) (h : Holdings) (j f i w : ℕ) → place_at (sizes_of n) j ≡ Cell f i → f < n.frames → i < 512 → h.run ≡ Some 0 → w < 2 ^ 64 → 0 < typed_to f h.typed →
-    IsTrue (knows_live (sizes_of n) f Writable h) → IsApart f h → LegalNow n s h (record { place = j; act = Store w; kind = steps.Cell; mark = None })
+    IsTrue (knows_live (sizes_of n) f Writable h) → IsApart f h → Legal n s h (record { place = j; act = Store w; kind = steps.Cell; mark = None })
 unfolding IsSpelling
 cell_is_legal n s h j f i w at frame index run small held live apart =
     legal_at n s h j (Cell f i) (Store w) steps.Cell None at

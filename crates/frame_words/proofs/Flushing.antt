@@ -11,7 +11,7 @@ use Rattle.xp_board.specs.Acts.{left_by}
 use Rattle.xp_board.specs.After.{after_move, noted, learned_life}
 use Rattle.xp_board.specs.AckSteps.{after_ack}
 use Rattle.xp_board.specs.AskSteps.{MayAsk}
-use Rattle.xp_board.specs.Legal.{LegalNow}
+use Rattle.xp_board.specs.Legal.{Legal}
 use Rattle.xp_board.specs.Readings.{last_clock}
 use Rattle.xp_board.specs.Spelling.{IsSpelling}
 use Rattle.xp_board.specs.Steps.{some_since}
@@ -31,7 +31,7 @@ priv_there z d h = grind (arith, nat_tests)
 
 -- ---- legal
 pub tick_is_legal : (n : Machine) (s : ℕ) (h : Holdings) (i e : ℕ) → place_at (sizes_of n) i ≡ Clock → e < last_clock →
-    LegalNow n s h (record { place = i; act = Cas e (e + 1); kind = steps.Tick; mark = None })
+    Legal n s h (record { place = i; act = Cas e (e + 1); kind = steps.Tick; mark = None })
 unfolding IsSpelling
 tick_is_legal n s h i e at low =
     legal_at n s h i Clock (Cas e (e + 1)) steps.Tick None at
@@ -46,7 +46,7 @@ tick_is_legal n s h i e at low =
 
 pub flush_is_legal : (n : Machine) (s : ℕ) (h : Holdings) (i c : ℕ) → place_at (sizes_of n) i ≡ Vcpu s 5 → s < length n.vcpu_domain → c < 2 ^ 64 →
     IsTrue (some_since (sizes_of n) h.acked Clock (λ w. w == c) h.steps) → (h.cold ≡ true → IsTrue (some_since (sizes_of n) h.ran Clock (λ w. nat_lt w c) h.steps)) → h.walk ≡ None →
-    LegalNow n s h (record { place = i; act = Store c; kind = steps.Ack; mark = None })
+    Legal n s h (record { place = i; act = Store c; kind = steps.Ack; mark = None })
 unfolding IsSpelling
 flush_is_legal n s h i c at real small told warmed landed =
     legal_at n s h i (Vcpu s 5) (Store c) steps.Ack None at
@@ -66,7 +66,7 @@ flush_is_legal n s h i c at real small told warmed landed =
     refl
 
 pub ask_is_legal : (n : Machine) (s : ℕ) (h : Holdings) (i v t : ℕ) → place_at (sizes_of n) i ≡ Vcpu v 4 → v < length n.vcpu_domain → h.run ≡ Some 0 → t < 2 ^ 64 → MayAsk n v t h →
-    LegalNow n s h (record { place = i; act = Max t; kind = steps.Ask; mark = None })
+    Legal n s h (record { place = i; act = Max t; kind = steps.Ask; mark = None })
 ask_is_legal n s h i v t at real run small may =
     legal_at n s h i (Vcpu v 4) (Max t) steps.Ask None at
     (record {

@@ -16,7 +16,7 @@ use Rattle.xp_board.specs.declared.holdings.Holdings.{Holdings}
 use Rattle.xp_board.specs.After.{after_move, noted}
 use Rattle.xp_board.specs.Hands.{endings_of, ending_of, claim_of}
 use Rattle.xp_board.specs.HintSteps.{map_bit, is_raise, is_lower, lowered_frame, raised_frame, raised_by}
-use Rattle.xp_board.specs.Legal.{LegalNow}
+use Rattle.xp_board.specs.Legal.{Legal}
 use Rattle.xp_board.specs.Lists.{one_at, times, times_by, first_by, without_by, first_of, with_fewer}
 use Rattle.xp_board.specs.RefSteps.{one_down, IsFreeStamp, credited, freed, after_ref_store}
 use Rattle.xp_board.specs.Spelling.{IsSpelling}
@@ -115,7 +115,7 @@ raised_by_bit f owner h e none =
     ap (λ o. raised_by o (raised_frame (f / 64) (map_bit f) h) h.raised) (none_lower f h.raised none) ∙ ap (λ o. raised_by None o h.raised) raise
 
 pub bit_is_legal : (n : Machine) (s f owner i : ℕ) (h : Holdings) → place_at (sizes_of n) i ≡ Map (f / 64) → f < n.frames → h.run ≡ Some 0 → IsEnding f owner h → times f h.raised ≡ 0 →
-    LegalNow n s h (record { place = i; act = Add (map_bit f); kind = steps.Hint; mark = None })
+    Legal n s h (record { place = i; act = Add (map_bit f); kind = steps.Hint; mark = None })
 bit_is_legal n s f owner i h at frame run ends none =
     let held = ending_held f owner h ends in
     legal_at n s h i (Map (f / 64)) (Add (map_bit f)) steps.Hint None at
@@ -176,7 +176,7 @@ free_told : (n : Machine) (f owner stamp : ℕ) (h : Holdings) → IsEndingSince
 free_told n f owner stamp h e = rw (first_ending f owner h e.ends) e.told
 
 pub free_is_legal : (n : Machine) (s f owner stamp i : ℕ) (h : Holdings) → place_at (sizes_of n) i ≡ Refs f → f < n.frames → h.run ≡ Some 0 → stamp < 2 ^ 36 → IsEndingSince n f owner stamp h →
-    0 < times f h.raised → LegalNow n s h (record { place = i; act = Store (ref_write (Free stamp)); kind = steps.Ref; mark = None })
+    0 < times f h.raised → Legal n s h (record { place = i; act = Store (ref_write (Free stamp)); kind = steps.Ref; mark = None })
 unfolding IsSpelling
 free_is_legal n s f owner stamp i h at frame run low ends raised =
     let read = free_read stamp low in
@@ -207,7 +207,7 @@ free_hand n s f owner stamp h k x found low ends unclaimed e =
 
 -- ---- pages
 pub refund_is_legal : (n : Machine) (s d i : ℕ) (h : Holdings) → place_at (sizes_of n) i ≡ Pages d → d < length n.page_limit → h.run ≡ Some 0 → 1 ≤ times d h.credits →
-    LegalNow n s h (record { place = i; act = Add one_down; kind = steps.Pages; mark = None })
+    Legal n s h (record { place = i; act = Add one_down; kind = steps.Pages; mark = None })
 refund_is_legal n s d i h at domain run credit =
     legal_at n s h i (Pages d) (Add one_down) steps.Pages None at
     (record {

@@ -17,7 +17,7 @@ use Rattle.xp_board.specs.Acts.{left_by}
 use Rattle.xp_board.specs.After.{after_move, noted}
 use Rattle.xp_board.specs.Hands.{refs_to}
 use Rattle.xp_board.specs.Lists.{times_by, one_at}
-use Rattle.xp_board.specs.Legal.{LegalNow}
+use Rattle.xp_board.specs.Legal.{Legal}
 use Rattle.xp_board.specs.Readings.{ref_count, owner_of}
 use Rattle.xp_board.specs.RefSteps.{one_down, owner_number, took_ref, gave_ref, Raise, ref_row, after_ref_row}
 use Rattle.xp_board.specs.Runs.{place_of}
@@ -58,7 +58,7 @@ module _ (v w : PortValue) (x : Step) (i found : ℕ) (p : Place) (mark : Option
   pub here : place_of v.post.machine x ≡ p
   here = ap (λ (y : Step). place_of v.post.machine y) is ∙ placed v.post.machine i p at real
 
-  pub look_now : LegalNow v.post.machine v.post.seat v.holdings x
+  pub look_now : Legal v.post.machine v.post.seat v.holdings x
   look_now = rw is (look_is_legal v.post.machine v.post.seat v.holdings i p mark (placed v.post.machine i p at real) real proved)
 
   pub look_made : IsTold v.post.machine v.told (place_of v.post.machine x) found → w ≡ stepped v x found → Makes v w p Load mark found
@@ -154,7 +154,7 @@ module _ (v w : PortValue) (x : Step) (i f e new found owner count : ℕ) (alloc
   raise_here : place_at (sizes_of v.post.machine) x.place ≡ Refs f
   raise_here = ap (λ (y : Step). place_at (sizes_of v.post.machine) y.place) is ∙ raise_place
 
-  pub raise_now : LegalNow v.post.machine v.post.seat v.holdings x
+  pub raise_now : Legal v.post.machine v.post.seat v.holdings x
   raise_now =
       rw raise_step
       (raise_is_legal v.post.machine v.post.seat v.holdings i f e owner count allocated raise_place machine frame run read domain below small)

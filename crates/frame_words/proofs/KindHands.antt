@@ -18,7 +18,7 @@ use Rattle.xp_board.specs.After.{after_move, noted}
 use Rattle.xp_board.specs.Hands.{refs_to, typed_to}
 use Rattle.xp_board.specs.KindSteps.{AllowsKindRow, KindRow, Count, Begin, kind_row, after_kind_row, raised_kind, begun_kind, live_typed, counted, begun, still_looking, MayCount, MayBegin}
 use Rattle.xp_board.specs.Knowledge.{knows_live}
-use Rattle.xp_board.specs.Legal.{LegalNow}
+use Rattle.xp_board.specs.Legal.{Legal}
 use Rattle.xp_board.specs.Lists.{times_by, some_of, one_at}
 use Rattle.xp_board.specs.Readings.{is_live, is_dead}
 use Rattle.xp_board.specs.Runs.{place_of}
@@ -86,7 +86,7 @@ module _ (v w : PortValue) (x : Step) (i f e new found : ℕ) (k l : KindWord) (
   here : place_at (sizes_of v.post.machine) x.place ≡ Kind f
   here = ap (λ (y : Step). place_at (sizes_of v.post.machine) y.place) is ∙ there
 
-  pub exchange_now : LegalNow v.post.machine v.post.seat v.holdings x
+  pub exchange_now : Legal v.post.machine v.post.seat v.holdings x
   exchange_now =
       rw step_is
       (exchange_is_legal v.post.machine v.post.seat v.holdings i f e k l there frame run read spelled fits

@@ -13,7 +13,7 @@ use Rattle.xp_board.specs.declared.holdings.Holdings.{Holdings}
 use Rattle.xp_board.specs.After.{after_move}
 use Rattle.xp_board.specs.Hands.{work_on}
 use Rattle.xp_board.specs.KindSteps.{AllowsKind, AllowsKindRow, kind_row, AllowsKindStore, AllowsForm, form_of, MayDrop, after_kind_row, after_form, after_kind_store, still_looking, KindRow, Form}
-use Rattle.xp_board.specs.Legal.{LegalMove, LegalNow}
+use Rattle.xp_board.specs.Legal.{LegalMove, Legal}
 use Rattle.xp_board.specs.RefSteps.{one_down}
 use Rattle.xp_board.specs.Spelling.{IsSpelling, is_kind_in}
 use Rattle.xp_board.proofs.Sums.{if_itself, when_ne}
@@ -23,14 +23,14 @@ use Rattle.frame_words.proofs.Stepping.{kind_there}
 
 -- ---- legal
 at_place : (n : Machine) (s : ℕ) (h : Holdings) (i f : ℕ) (a : Act) → place_at (sizes_of n) i ≡ Kind f → LegalMove n s h (Kind f) a steps.Kind None →
-    LegalNow n s h (record { place = i; act = a; kind = steps.Kind; mark = None })
-at_place n s h i f a at legal = record { legal = subst (λ q. LegalMove n s h q a steps.Kind None) (sym at) legal; kind = refl }
+    Legal n s h (record { place = i; act = a; kind = steps.Kind; mark = None })
+at_place n s h i f a at legal = subst (λ q. LegalMove n s h q a steps.Kind None) (sym at) legal
 
 allows_by : (n : Machine) (s f : ℕ) (h : Holdings) (o p : Option KindWord) (k l : KindWord) → o ≡ Some k → p ≡ Some l → AllowsKindRow (kind_row k l) n s f k l h → AllowsKind n s f h o p
 allows_by n s f h o p k l a b may = rw (a, b) may
 
 pub exchange_is_legal : (n : Machine) (s : ℕ) (h : Holdings) (i f w : ℕ) (k l : KindWord) → place_at (sizes_of n) i ≡ Kind f → f < n.frames → h.run ≡ Some 0 →
-    kind_read w ≡ Some k → IsTrue (is_kind l) → IsTrue (is_kind_in n (Some l)) → AllowsKindRow (kind_row k l) n s f k l h → LegalNow n s h (exchange_step i w (kind_write l))
+    kind_read w ≡ Some k → IsTrue (is_kind l) → IsTrue (is_kind_in n (Some l)) → AllowsKindRow (kind_row k l) n s f k l h → Legal n s h (exchange_step i w (kind_write l))
 unfolding IsSpelling
 exchange_is_legal n s h i f w k l at frame run read is fits may =
     at_place n s h i f (Cas w (kind_write l)) at
@@ -46,7 +46,7 @@ stores_by : (n : Machine) (f : ℕ) (h : Holdings) (o : Option Work) (p : Option
 stores_by n f h o p e l a b may = rw (a, b) may
 
 pub store_is_legal : (n : Machine) (s : ℕ) (h : Holdings) (i f : ℕ) (e : Work) (l : KindWord) → place_at (sizes_of n) i ≡ Kind f → f < n.frames → h.run ≡ Some 0 →
-    work_on f h.works ≡ Some e → IsTrue (is_kind l) → IsTrue (is_kind_in n (Some l)) → AllowsForm (form_of l) n f e l h → LegalNow n s h (store_step i (kind_write l))
+    work_on f h.works ≡ Some e → IsTrue (is_kind l) → IsTrue (is_kind_in n (Some l)) → AllowsForm (form_of l) n f e l h → Legal n s h (store_step i (kind_write l))
 unfolding IsSpelling
 store_is_legal n s h i f e l at frame run here is fits may =
     at_place n s h i f (Store (kind_write l)) at
@@ -59,7 +59,7 @@ store_is_legal n s h i f e l at frame run here is fits may =
     })
 
 pub drop_is_legal : (n : Machine) (s : ℕ) (h : Holdings) (i f : ℕ) → place_at (sizes_of n) i ≡ Kind f → f < n.frames → h.run ≡ Some 0 → MayDrop n f h →
-    LegalNow n s h (record { place = i; act = Add one_down; kind = steps.Kind; mark = None })
+    Legal n s h (record { place = i; act = Add one_down; kind = steps.Kind; mark = None })
 drop_is_legal n s h i f at frame run may =
     at_place n s h i f (Add one_down) at
     (record {

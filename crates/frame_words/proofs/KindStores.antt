@@ -16,7 +16,7 @@ use Rattle.xp_board.specs.Acts.{left_by}
 use Rattle.xp_board.specs.After.{after_move, noted}
 use Rattle.xp_board.specs.Hands.{refs_to, typed_to, work_on, without_work}
 use Rattle.xp_board.specs.KindSteps.{AllowsForm, Form, form_of, after_form, made_live, made_dead, dropped, MayMakeLive}
-use Rattle.xp_board.specs.Legal.{LegalNow}
+use Rattle.xp_board.specs.Legal.{Legal}
 use Rattle.xp_board.specs.Lists.{times_by, one_at}
 use Rattle.xp_board.specs.Readings.{is_work}
 use Rattle.xp_board.specs.RefSteps.{one_down}
@@ -46,7 +46,7 @@ module _ (v w : PortValue) (x : Step) (i f new found : ℕ) (e : Work) (l : Kind
   step_there : place_at (sizes_of v.post.machine) x.place ≡ Kind f
   step_there = ap (λ (y : Step). place_at (sizes_of v.post.machine) y.place) is ∙ there
 
-  pub store_now : LegalNow v.post.machine v.post.seat v.holdings x
+  pub store_now : Legal v.post.machine v.post.seat v.holdings x
   store_now =
       rw step_is
       (store_is_legal v.post.machine v.post.seat v.holdings i f e l there frame run here spelled fits

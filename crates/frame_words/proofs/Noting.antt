@@ -1,5 +1,5 @@
 -- A step is noted in the hand, and the steps before it stay there.
-use Rattle.std.proofs.Common.{◌≡◌, ℕ, ◌<◌, ◌≤◌, ◌==◌, ◌&&◌, ◌||◌, nat_le, nat_lt, if◌then◌else◌, Bool, true, false, List, ◌∷◌, length, Option, Some, None, IsTrue, refl, sym, ap, ◌∙◌, subst, arith}
+use Rattle.std.proofs.Common.{◌≡◌, ℕ, ◌<◌, ◌≤◌, ◌==◌, ◌&&◌, ◌||◌, not, nat_le, nat_lt, if◌then◌else◌, Bool, true, false, List, ◌∷◌, length, Option, Some, None, IsTrue, refl, sym, ap, ◌∙◌, subst, arith}
 use Rattle.std.proofs.lemmas.Bool.Decides.{nat_tests}
 use Rattle.xp_words.specs.declared.kind.KindWord.{KindWord}
 use Rattle.xp_words.specs.declared.refs.RefWord.{RefWord}
@@ -26,7 +26,10 @@ use Rattle.xp_board.specs.ContextSteps.{after_context, named_out}
 use Rattle.xp_board.specs.Hands.{work_on, lock_on}
 use Rattle.xp_board.specs.HintSteps.{after_hint}
 use Rattle.xp_board.specs.KindSteps.{KindRow, Count, Locks, Pin, Unpin, Resume, TakeBack, Begin, Form, Live, Partial, InWork, Dead, form_of, kind_row, after_kind_row, still_looking, after_form, after_kind_store, after_kind}
-use Rattle.xp_board.specs.Legal.{is_taken}
+use Rattle.xp_words.specs.Entries.{is_bit, frame_of}
+use Rattle.xp_board.specs.declared.holdings.Walk.{Walk}
+use Rattle.xp_board.specs.FillSteps as fill
+use Rattle.xp_board.specs.TouchSteps as touch
 use Rattle.xp_board.specs.Marks.{after_mark, recorded, shed}
 use Rattle.xp_board.specs.PagesSteps.{after_pages}
 use Rattle.xp_board.specs.Readings.{is_context}
@@ -60,7 +63,7 @@ recorded_steps n f (Some e) h = (beside_out _ _).steps
 recorded_steps n f None h = refl
 
 shed_steps : (f upto : ℕ) (o : Option Work) (h : Holdings) → (shed f upto o h).steps ≡ h.steps
-shed_steps f upto (Some e) h = (beside_in _ _).steps
+shed_steps f upto (Some e) h = (beside_in _ _ _).steps
 shed_steps f upto None h = refl
 
 mark_steps : (n : Machine) (mark : Option Mark) (h : Holdings) → (after_mark n mark h).steps ≡ h.steps
@@ -118,7 +121,7 @@ kind_steps n s (Kind f) (Store new) w h = kind_store_steps n s f new (work_on f 
 kind_steps n s _ _ w h = refl
 
 exchanged_steps : (i new w : ℕ) (o : Option Lock) (h : Holdings) → (exchanged i new w o h).steps ≡ h.steps
-exchanged_steps i new w (Some e) h = either_steps (keeps_demand e i new) h _ h refl ((beside_in _ _).steps ∙ (beside_out _ h).steps)
+exchanged_steps i new w (Some e) h = either_steps (keeps_demand e i new) h _ h refl ((beside_in true _ _).steps ∙ (beside_out _ h).steps)
 exchanged_steps i new w None h = refl
 
 cell_steps : (p : Place) (a : Act) (w : ℕ) (h : Holdings) → (after_cell p a w h).steps ≡ h.steps
@@ -144,33 +147,57 @@ hint_steps : (p : Place) (a : Act) (h : Holdings) → (after_hint p a h).steps �
 hint_steps (Map k) (Add by) h = refl
 hint_steps _ _ h = refl
 
-act_steps : (n : Machine) (s : ℕ) (p : Place) (a : Act) (kind : StepKind) (mark : Option Mark) (w : ℕ) (h : Holdings) → IsTrue (is_taken kind) →
-    (after_act n s p a kind mark w h).steps ≡ h.steps
-act_steps n s p a steps.Look mark w h taken = refl
-act_steps n s p a steps.Ref mark w h taken = ref_steps n s p a w h
-act_steps n s p a steps.Kind mark w h taken = kind_steps n s p a w h
-act_steps n s p a steps.Cell mark w h taken = cell_steps p a w h
-act_steps n s p a steps.M2p mark w h taken = refl
-act_steps n s p a steps.Pages mark w h taken = pages_steps p a w h
-act_steps n s p a steps.Context mark w h taken = context_steps p a w h
-act_steps n s p a steps.Fill mark w h taken = absurd (cc)
-act_steps n s p a steps.Guest mark w h taken = refl
-act_steps n s p a steps.Tick mark w h taken = refl
-act_steps n s p a steps.Ask mark w h taken = refl
-act_steps n s p a steps.Ack mark w h taken = refl
-act_steps n s p a steps.Life mark w h taken = refl
-act_steps n s p a steps.Run mark w h taken = run_steps a h
-act_steps n s p a steps.Hint mark w h taken = hint_steps p a h
-act_steps n s p a steps.Touch mark w h taken = absurd (cc)
-act_steps n s p a steps.Priv mark w h taken = refl
+below_steps : (n : Machine) (walk : Walk) (w : ℕ) (h : Holdings) → (fill.descended n walk w h).steps ≡ h.steps
+below_steps n walk w h = either_steps (not (nat_lt (frame_of w) n.frames)) _ _ h refl (either_steps (fill.level_of walk == 1) _ _ h refl refl)
 
-move_steps : (n : Machine) (s : ℕ) (h : Holdings) (p : Place) (a : Act) (kind : StepKind) (mark : Option Mark) (w : ℕ) → IsTrue (is_taken kind) →
+loaded_steps : (n : Machine) (f i w : ℕ) (walk : Walk) (h : Holdings) → (fill.loaded n f i w walk h).steps ≡ h.steps
+loaded_steps n f i w walk h = either_steps (not (is_bit 0 w)) _ _ h refl (either_steps (fill.touched walk w == w) _ _ h (below_steps n walk w h) refl)
+
+walked_steps : (n : Machine) (f i w : ℕ) (o : Option Walk) (h : Holdings) → (fill.walked_on n f i w o h).steps ≡ h.steps
+walked_steps n f i w (Some walk) h = loaded_steps n f i w (fill.walked_by i w walk) h
+walked_steps n f i w None h = refl
+
+fill_steps : (n : Machine) (p : Place) (mark : Option Mark) (w : ℕ) (h : Holdings) → (fill.after_fill n p mark w h).steps ≡ h.steps
+fill_steps n (Vcpu v k) mark w h = either_steps (w == 0) h _ h refl refl
+fill_steps n (Cell f i) mark w h = walked_steps n f i w h.walk h
+fill_steps n _ mark w h = refl
+
+set_steps : (n : Machine) (met : Bool) (new : ℕ) (o : Option Walk) (h : Holdings) → (touch.touched_by n met new o h).steps ≡ h.steps
+set_steps n true new (Some walk) h = below_steps n walk new h
+set_steps n false new (Some walk) h = refl
+set_steps n met new None h = refl
+
+touch_steps : (n : Machine) (p : Place) (a : Act) (w : ℕ) (h : Holdings) → (touch.after_touch n p a w h).steps ≡ h.steps
+touch_steps n (Cell f i) (Cas e x) w h = set_steps n (w == e) x h.walk h
+touch_steps n _ _ w h = refl
+
+act_steps : (n : Machine) (s : ℕ) (p : Place) (a : Act) (kind : StepKind) (mark : Option Mark) (w : ℕ) (h : Holdings) →
+    (after_act n s p a kind mark w h).steps ≡ h.steps
+act_steps n s p a steps.Look mark w h = refl
+act_steps n s p a steps.Ref mark w h = ref_steps n s p a w h
+act_steps n s p a steps.Kind mark w h = kind_steps n s p a w h
+act_steps n s p a steps.Cell mark w h = cell_steps p a w h
+act_steps n s p a steps.M2p mark w h = refl
+act_steps n s p a steps.Pages mark w h = pages_steps p a w h
+act_steps n s p a steps.Context mark w h = context_steps p a w h
+act_steps n s p a steps.Fill mark w h = fill_steps n p mark w h
+act_steps n s p a steps.Guest mark w h = refl
+act_steps n s p a steps.Tick mark w h = refl
+act_steps n s p a steps.Ask mark w h = refl
+act_steps n s p a steps.Ack mark w h = refl
+act_steps n s p a steps.Life mark w h = refl
+act_steps n s p a steps.Run mark w h = run_steps a h
+act_steps n s p a steps.Hint mark w h = hint_steps p a h
+act_steps n s p a steps.Touch mark w h = touch_steps n p a w h
+act_steps n s p a steps.Priv mark w h = refl
+
+pub move_steps : (n : Machine) (s : ℕ) (h : Holdings) (p : Place) (a : Act) (kind : StepKind) (mark : Option Mark) (w : ℕ) →
     (after_move n s h p a kind mark w).steps ≡ h.steps
-move_steps n s h p a kind mark w taken =
-    learned_steps s p w (left_by a w) (after_act n s p a kind mark w (after_mark n mark h)) ∙ act_steps n s p a kind mark w (after_mark n mark h) taken ∙ mark_steps n mark h
+move_steps n s h p a kind mark w =
+    learned_steps s p w (left_by a w) (after_act n s p a kind mark w (after_mark n mark h)) ∙ act_steps n s p a kind mark w (after_mark n mark h) ∙ mark_steps n mark h
 
 -- ---- one step more
-same_self : (p : Place) → is_same p p ≡ true
+pub same_self : (p : Place) → is_same p p ≡ true
 same_self Clock = refl
 same_self (Pages d) = grind (arith, nat_tests)
 same_self (Life d) = grind (arith, nat_tests)
@@ -200,7 +227,7 @@ module _ (v w : PortValue) (p : Place) (a : Act) (mark : Option Mark) (found : �
       let u = m.went.0 in
       ap (λ (y : PortValue). y.holdings.steps) m.went.4
       ∙ ap (λ (xs : List Made). made_now m.step found ∷ xs)
-      (move_steps u.post.machine u.post.seat u.holdings (place_at (sizes_of u.post.machine) m.step.place) m.step.act m.step.kind m.step.mark found m.went.2.kind)
+      (move_steps u.post.machine u.post.seat u.holdings (place_at (sizes_of u.post.machine) m.step.place) m.step.act m.step.kind m.step.mark found)
       ∙ ap (λ (y : PortValue). made_now m.step found ∷ y.holdings.steps) m.went.1
 
   here_is : is_same (place_at (sizes_of v.post.machine) m.step.place) p ≡ true

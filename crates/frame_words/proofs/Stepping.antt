@@ -16,7 +16,7 @@ use Rattle.xp_board.specs.declared.step.StepKind.TheVariants as steps
 use Rattle.xp_board.specs.declared.holdings.Holdings.{Holdings}
 use Rattle.xp_board.specs.After.{after_move, noted}
 use Rattle.xp_board.specs.Hands.{hand, refs_to}
-use Rattle.xp_board.specs.Legal.{LegalMove, LegalNow, is_taken}
+use Rattle.xp_board.specs.Legal.{LegalMove, Legal}
 use Rattle.xp_board.specs.RefSteps.{SparesClosing, one_down}
 use Rattle.xp_board.specs.Runs.{place_of}
 use Rattle.xp_board.specs.Told.{PortValue, stepped, IsTold}
@@ -62,8 +62,8 @@ is_plain (Some marks.Turn) = true
 is_plain _ = false
 
 pub legal_at : (n : Machine) (s : ℕ) (h : Holdings) (i : ℕ) (p : Place) (a : Act) (k : StepKind) (mark : Option Mark) → place_at (sizes_of n) i ≡ p → LegalMove n s h p a k mark →
-    IsTrue (is_taken k) → LegalNow n s h (record { place = i; act = a; kind = k; mark = mark })
-legal_at n s h i p a k mark at legal taken = record { legal = subst (λ q. LegalMove n s h q a k mark) (sym at) legal; kind = taken }
+    IsTrue true → Legal n s h (record { place = i; act = a; kind = k; mark = mark })
+legal_at n s h i p a k mark at legal taken = subst (λ q. LegalMove n s h q a k mark) (sym at) legal
 
 look_move : (n : Machine) (s : ℕ) (h : Holdings) (p : Place) (mark : Option Mark) → IsTrue (is_place (sizes_of n) p) → IsTrue (is_plain mark) → LegalMove n s h p Load steps.Look mark
 look_move n s h p None real k = record { place = real; marked = tt; running = λ needs. absurd (cc); spelling = tt; act = tt }
@@ -75,12 +75,12 @@ look_move n s h p (Some (marks.Forget page)) real k = absurd cc
 look_move n s h p (Some (marks.Walk write)) real k = absurd cc
 
 pub look_is_legal : (n : Machine) (s : ℕ) (h : Holdings) (i : ℕ) (p : Place) (mark : Option Mark) → place_at (sizes_of n) i ≡ p → IsTrue (is_place (sizes_of n) p) →
-    IsTrue (is_plain mark) → LegalNow n s h (record { place = i; act = Load; kind = steps.Look; mark = mark })
+    IsTrue (is_plain mark) → Legal n s h (record { place = i; act = Load; kind = steps.Look; mark = mark })
 look_is_legal n s h i p mark at real proved = legal_at n s h i p Load steps.Look mark at (look_move n s h p mark real proved) refl
 
 pub raise_is_legal : (n : Machine) (s : ℕ) (h : Holdings) (i f w owner count : ℕ) (allocated : Bool) → place_at (sizes_of n) i ≡ Refs f → IsMachine n → f < n.frames →
     h.run ≡ Some 0 → ref_read w ≡ Some (Owned owner allocated count) → owner < length n.page_limit → count < n.limit → w < 2 ^ 64 →
-    LegalNow n s h (record { place = i; act = Cas w (w + 1); kind = steps.Ref; mark = None })
+    Legal n s h (record { place = i; act = Cas w (w + 1); kind = steps.Ref; mark = None })
 raise_is_legal n s h i f w owner count allocated at machine frame run read domain below small =
     let c = counted w owner count allocated small read in
     let limit = machine.few_counts in
@@ -91,7 +91,7 @@ raise_is_legal n s h i f w owner count allocated at machine frame run read domai
     legal_at n s h i (Refs f) (Cas w (w + 1)) steps.Ref None at here refl
 
 pub lower_is_legal : (n : Machine) (s : ℕ) (h : Holdings) (i f : ℕ) → place_at (sizes_of n) i ≡ Refs f → f < n.frames → h.run ≡ Some 0 → 0 < refs_to f h.refs → SparesClosing f h →
-    LegalNow n s h (record { place = i; act = Add one_down; kind = steps.Ref; mark = None })
+    Legal n s h (record { place = i; act = Add one_down; kind = steps.Ref; mark = None })
 lower_is_legal n s h i f at frame run held spares =
     legal_at n s h i (Refs f) (Add one_down) steps.Ref None at
     (record {
@@ -104,12 +104,12 @@ lower_is_legal n s h i f at frame run held spares =
     refl
 
 pub map_is_legal : (n : Machine) (s : ℕ) (h : Holdings) (i f g : ℕ) → place_at (sizes_of n) i ≡ M2p f → f < n.frames → h.run ≡ Some 0 → g < 2 ^ 64 → 0 < hand f h →
-    LegalNow n s h (record { place = i; act = Store g; kind = steps.M2p; mark = None })
+    Legal n s h (record { place = i; act = Store g; kind = steps.M2p; mark = None })
 map_is_legal n s h i f g at frame run small held = legal_at n s h i (M2p f) (Store g) steps.M2p None at (map_legal n s f g h frame run small held) refl
 
 -- ---- what a step leaves
 pub makes : (v w : PortValue) (x : Step) (p : Place) (a : Act) (mark : Option Mark) (found : ℕ) → place_at (sizes_of v.post.machine) x.place ≡ p → x.act ≡ a → x.mark ≡ mark →
-    LegalNow v.post.machine v.post.seat v.holdings x → IsTold v.post.machine v.told (place_of v.post.machine x) found → w ≡ stepped v x found → Makes v w p a mark found
+    Legal v.post.machine v.post.seat v.holdings x → IsTold v.post.machine v.told (place_of v.post.machine x) found → w ≡ stepped v x found → Makes v w p a mark found
 makes v w x p a mark found at act is legal told to =
     record { step = x; place = at; act = act; mark_is = is; went = went_step v w x found legal told to }
 

@@ -9,7 +9,7 @@ use Rattle.xp_board.specs.declared.holdings.Holdings.{Holdings}
 use Rattle.xp_board.specs.Acts.{left_by}
 use Rattle.xp_board.specs.After.{after_move, noted}
 use Rattle.xp_board.specs.Hands.{IsEmptyHand}
-use Rattle.xp_board.specs.Legal.{LegalNow}
+use Rattle.xp_board.specs.Legal.{Legal}
 use Rattle.xp_board.specs.RunSteps.{ran_now}
 use Rattle.xp_board.specs.Spelling.{IsSpelling}
 use Rattle.frame_words.specs.Hands.{Stopped}
@@ -17,7 +17,7 @@ use Rattle.frame_words.proofs.Hands.{when_same}
 use Rattle.frame_words.proofs.Stepping.{own_there, legal_at}
 
 pub stop_is_legal : (n : Machine) (s : ℕ) (h : Holdings) (i : ℕ) → place_at (sizes_of n) i ≡ Vcpu s 6 → s < length n.vcpu_domain → IsEmptyHand h → h.walk ≡ None →
-    LegalNow n s h (record { place = i; act = Store 1; kind = steps.Run; mark = None })
+    Legal n s h (record { place = i; act = Store 1; kind = steps.Run; mark = None })
 unfolding IsSpelling
 stop_is_legal n s h i at real empty landed =
     legal_at n s h i (Vcpu s 6) (Store 1) steps.Run None at

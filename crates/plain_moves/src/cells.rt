@@ -16,7 +16,7 @@ pub fn moves(hand: &mut Hand, table: u64, index: u64, act: Act, found: u64) {
     if let Some(lock) = newest(&hand.locks, table) {
         if !asks_as_seen(&lock, index, new) {
             demand_out(hand, demand_at(lock.kind, index, new));
-            demand_in(hand, demand_at(lock.kind, index, found));
+            demand_in(hand, demand_at(lock.kind, index, found), true);
         }
     }
 }
@@ -75,8 +75,8 @@ pub fn moves_named(hand: &mut Hand, number: u64, act: Act, found: u64) {
         let live = Live {
             kind: type_named(number),
             owner: Owner::Since { steps: since },
-            found: false,
-            since,
+            found: type_named(number).is_some(),
+            since: if type_named(number).is_some() { 0 } else { since },
         };
         put(&mut hand.typed, found - 1, live);
     }

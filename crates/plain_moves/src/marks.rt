@@ -12,8 +12,8 @@ pub fn demand_out(hand: &mut Hand, demand: Demand) {
     }
 }
 
-/// What an entry asked comes into the hand, and nothing is known of it yet.
-pub fn demand_in(hand: &mut Hand, demand: Demand) {
+/// What an entry asked comes into the hand. Its owner is not known yet; `sure` says that its frame is live.
+pub fn demand_in(hand: &mut Hand, demand: Demand, sure: bool) {
     let since = hand.time();
     let owner = Owner::Since { steps: since };
     match demand {
@@ -22,8 +22,8 @@ pub fn demand_in(hand: &mut Hand, demand: Demand) {
             let live = Live {
                 kind: Some(kind),
                 owner,
-                found: false,
-                since,
+                found: sure,
+                since: if sure { 0 } else { since },
             };
             put(&mut hand.typed, frame, live);
         }
@@ -76,7 +76,7 @@ fn sheds(hand: &mut Hand, frame: u64, upto: u64) {
     };
     change(&mut hand.works, frame, next);
     let (demand, _) = demand_seen(&work, upto);
-    demand_in(hand, demand);
+    demand_in(hand, demand, work.unsettled.is_none());
 }
 
 fn forgets(hand: &mut Hand, page: u64) {

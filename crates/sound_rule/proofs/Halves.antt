@@ -1,5 +1,5 @@
 -- A legal step in its two halves: its mark, and then its act by the hand that the mark left.
-use Rattle.std.proofs.Common.{◌≡◌, ◌≢◌, ℕ, ◌==◌, if◌then◌else◌, Option, Some, None, refl, sym, ap, ◌∙◌, arith}
+use Rattle.std.proofs.Common.{◌≡◌, ◌≢◌, ℕ, ◌==◌, if◌then◌else◌, Option, Some, None, refl, sym, ap, ◌∙◌, arith, Bool}
 use Rattle.std.proofs.lemmas.Bool.Decides.{nat_tests}
 use Rattle.xp_words.specs.declared.entry.Demand.{Demand}
 use Rattle.xp_words.specs.declared.entry.Demand.TheVariants.{Nothing, Bad, Read, Typed}
@@ -25,11 +25,11 @@ out_run Bad h = refl
 out_run (Read g) h = refl
 out_run (Typed g t) h = refl
 
-in_run : (d : Demand) (h : Holdings) → (demand_in d h).run ≡ h.run
-in_run Nothing h = refl
-in_run Bad h = refl
-in_run (Read g) h = refl
-in_run (Typed g t) h = refl
+in_run : (sure : Bool) (d : Demand) (h : Holdings) → (demand_in sure d h).run ≡ h.run
+in_run sure Nothing h = refl
+in_run sure Bad h = refl
+in_run sure (Read g) h = refl
+in_run sure (Typed g t) h = refl
 
 recorded_run : (n : Machine) (f : ℕ) (o : Option Work) (h : Holdings) → (recorded n f o h).run ≡ h.run
 recorded_run n f None h = refl
@@ -37,7 +37,7 @@ recorded_run n f (Some e) h = out_run (demand_seen e.recorded e) _
 
 shed_run : (f upto : ℕ) (o : Option Work) (h : Holdings) → (shed f upto o h).run ≡ h.run
 shed_run f upto None h = refl
-shed_run f upto (Some e) h = in_run (demand_seen upto e) _
+shed_run f upto (Some e) h = in_run _ (demand_seen upto e) _
 
 mark_run : (n : Machine) (mark : Option Mark) (h : Holdings) → (after_mark n mark h).run ≡ h.run
 mark_run n None h = refl

@@ -137,5 +137,5 @@ learned_stays s (Priv d) found left a = same_stays a
 pub out_stays : (d : Demand) (a : Holdings) → HandStays a (demand_out d a)
 out_stays d a = beside_stays a (demand_out d a) (beside_out d a) (translations_out d a)
 
-pub in_stays : (d : Demand) (a : Holdings) → HandStays a (demand_in d a)
-in_stays d a = beside_stays a (demand_in d a) (beside_in d a) (translations_in d a)
+pub in_stays : (sure : Bool) (d : Demand) (a : Holdings) → HandStays a (demand_in sure d a)
+in_stays sure d a = beside_stays a (demand_in sure d a) (beside_in sure d a) (translations_in sure d a)

@@ -121,7 +121,7 @@ module _ (n : Machine) (s : ℕ) (x : Step) (m m2 : Place → ℕ) (b c : ℕ �
   exchange_row f i d =
       let lock = locked_live n s m b real sound f d.e d.here in
       entry_law f i d.e _ d.wrote d.here d.hand
-      (then_stays _ _ _ (then_stays _ _ _ (out_stays (demand_at d.e.kind i (m2 (Cell f i))) (b s)) (in_stays (demand_at d.e.kind i (m (Cell f i))) _)) (cell_stays f i (m2 (Cell f i)) _))
+      (then_stays _ _ _ (then_stays _ _ _ (out_stays (demand_at d.e.kind i (m2 (Cell f i))) (b s)) (in_stays true (demand_at d.e.kind i (m (Cell f i))) _)) (cell_stays f i (m2 (Cell f i)) _))
       (λ e level served walks.
       has_well n s m b real sound f e (kind_at m f).kind (demand_at (kind_at m f).kind i (m2 (Cell f i))) (served_owner m e level f served)
       (subst (λ t. HasDemand n f t (b s) (demand_at t i (m2 (Cell f i)))) (sym lock.2) d.may))

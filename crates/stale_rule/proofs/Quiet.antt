@@ -34,7 +34,7 @@ shed_stays f upto h b d =
     (then_stays _ _ _
     (works_stay h (record h { works = _ }) refl refl refl refl refl
     (λ P new e. EachOf-changed (λ x. P x.frame x.since) (λ x. x.frame) f _ h.works (λ x p. p) e))
-    (in_stays (demand_seen upto d.e) _))
+    (in_stays _ (demand_seen upto d.e) _))
 
 mark_stays : (n : Machine) (h b : Holdings) → MarkEffect n h b → HandStays h b
 mark_stays n h b (nothing e) = subst (λ y. HandStays h y) (sym e) (same_stays h)

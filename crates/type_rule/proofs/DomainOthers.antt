@@ -85,7 +85,7 @@ module _ (n : Machine) (s : ℕ) (x : Step) (m m2 : Place → ℕ) (b c : ℕ �
   pub exchanged_change : (f i : ℕ) → Exchanged n x f i m m2 (b s) (c s) → DomainChange n s x m m2 b c
   exchanged_change f i d =
       let out = three_out (demand_at d.e.kind i (m2 (Cell f i))) (b s) in
-      let back = three_in (demand_at d.e.kind i (m (Cell f i))) (demand_out (demand_at d.e.kind i (m2 (Cell f i))) (b s)) in
+      let back = three_in true (demand_at d.e.kind i (m (Cell f i))) (demand_out (demand_at d.e.kind i (m2 (Cell f i))) (b s)) in
       quiet (Cell f i) _ d.wrote.place d.wrote.left d.wrote.others (at_cell f i) d.hand (record { looking = back.looking ∙ out.looking; steps = back.steps ∙ out.steps })
 
   pub rewrote_change : (f i : ℕ) → Rewrote n x f i m m2 (b s) (c s) → DomainChange n s x m m2 b c

@@ -194,7 +194,7 @@ module _ (n : Machine) (s : ℕ) (m : Place → ℕ) (h b : ℕ → Holdings) (r
 
     works_s : (b s).works ≡ changed_work f fewer (h s).works
     unfolding fewer
-    works_s = ap (λ u. u.works) d.hand ∙ (three_in (demand_seen upto d.e) _).works
+    works_s = ap (λ u. u.works) d.hand ∙ (three_in _ (demand_seen upto d.e) _).works
 
     here_s : work_on f (b s).works ≡ Some (fewer d.e)
     unfolding fewer

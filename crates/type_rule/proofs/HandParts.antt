@@ -44,8 +44,8 @@ three_if false a b c k l = l
 three_of : (a b : Holdings) → Beside a b → SameThree a b
 three_of a b k = record { works = k.works; looking = k.looking; steps = k.steps }
 
-pub three_in : (d : Demand) (h : Holdings) → SameThree h (demand_in d h)
-three_in d h = three_of h (demand_in d h) (beside_in d h)
+pub three_in : (sure : Bool) (d : Demand) (h : Holdings) → SameThree h (demand_in sure d h)
+three_in sure d h = three_of h (demand_in sure d h) (beside_in sure d h)
 
 pub three_out : (d : Demand) (h : Holdings) → SameThree h (demand_out d h)
 three_out d h = three_of h (demand_out d h) (beside_out d h)

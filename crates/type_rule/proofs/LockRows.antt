@@ -1,5 +1,5 @@
 -- An entry exchanged under the own lock, and a word of a vCPU that may name a frame.
-use Rattle.std.proofs.Common.{◌≡◌, ◌≢◌, ℕ, ◌+◌, ◌<◌, nat_lt, false, Option, Some, IsTrue, refl, sym, ◌∙◌, ap, inl, inr, arith}
+use Rattle.std.proofs.Common.{◌≡◌, ◌≢◌, ℕ, ◌+◌, ◌<◌, nat_lt, false, Option, Some, IsTrue, refl, sym, ◌∙◌, ap, inl, inr, arith, true}
 use Rattle.std.proofs.lemmas.Bool.{cases_Bool}
 use Rattle.std.proofs.lemmas.Bool.Decides.{nat_tests}
 use Rattle.xp_words.specs.declared.kind.PageType.{PageType}
@@ -43,8 +43,8 @@ fits_at n s f h o t e k = rw e at k
 module _ (n : Machine) (s : ℕ) (x : Step) (m m2 : Place → ℕ) (b c : ℕ → Holdings) (real : s < (sizes_of n).vcpus) (sound : Sound n m b)
     (others : (t : ℕ) → t ≢ s → c t ≡ b t) where
   -- ---- an entry
-  moved : (f i : ℕ) (d : Exchanged n x f i m m2 (b s) (c s)) → SameThree (b s) (demand_in (demand_at d.e.kind i (m (Cell f i))) (demand_out (demand_at d.e.kind i (m2 (Cell f i))) (b s)))
-  moved f i d = three_then (b s) _ _ (three_out (demand_at d.e.kind i (m2 (Cell f i))) (b s)) (three_in (demand_at d.e.kind i (m (Cell f i))) _)
+  moved : (f i : ℕ) (d : Exchanged n x f i m m2 (b s) (c s)) → SameThree (b s) (demand_in true (demand_at d.e.kind i (m (Cell f i))) (demand_out (demand_at d.e.kind i (m2 (Cell f i))) (b s)))
+  moved f i d = three_then (b s) _ _ (three_out (demand_at d.e.kind i (m2 (Cell f i))) (b s)) (three_in true (demand_at d.e.kind i (m (Cell f i))) _)
 
   exchanged_act : (f i : ℕ) (d : Exchanged n x f i m m2 (b s) (c s)) →
       CellAct n s x m m2 b c real sound others f i d.wrote.others (m2 (Cell f i)) _ d.wrote.place d.wrote.left d.hand (moved f i d)

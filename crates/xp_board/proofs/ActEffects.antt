@@ -174,7 +174,7 @@ pub record Exchanged (n : Machine) (x : Step) (f i : ℕ) (m m2 : Place → ℕ)
   pub other : keeps_demand e i (m2 (Cell f i)) ≡ false
   pub may : HasDemand n f e.kind b (demand_at e.kind i (m2 (Cell f i)))
   pub hand : c ≡ noted x (m (Cell f i))
-      (learned_cell f i (m2 (Cell f i)) (demand_in (demand_at e.kind i (m (Cell f i))) (demand_out (demand_at e.kind i (m2 (Cell f i))) b)))
+      (learned_cell f i (m2 (Cell f i)) (demand_in true (demand_at e.kind i (m (Cell f i))) (demand_out (demand_at e.kind i (m2 (Cell f i))) b)))
 
 -- the same demand as that of the entry that the seat last found or left there
 pub record Rewrote (n : Machine) (x : Step) (f i : ℕ) (m m2 : Place → ℕ) (b c : Holdings) : Type 0 where

@@ -122,7 +122,7 @@ after_same : (hands_of machine 0 list7).typed ≡ typed9 ∷ []
 unfolding hands_of left_by times_by first_by without_by changed_by some_of first_of kept_of place_at ref_read kind_read kind_fields has_form demand_of demand_at owner_of ref_count some_step last_since knows_owner knows_live knows_partial is_settled hand typed_hand is_place IsSpelling
 after_same = refl
 
-after_none : (hands_of machine 0 list8).typed ≡ record { frame = 9; kind = Some kinds.Writable; owner = owners.Since 7; live = lives.Since 7 } ∷ (typed9 ∷ [])
+after_none : (hands_of machine 0 list8).typed ≡ record { frame = 9; kind = Some kinds.Writable; owner = owners.Since 7; live = lives.Found } ∷ (typed9 ∷ [])
 unfolding hands_of left_by times_by first_by without_by changed_by some_of first_of kept_of place_at ref_read kind_read kind_fields has_form demand_of demand_at owner_of ref_count some_step last_since knows_owner knows_live knows_partial is_settled hand typed_hand is_place IsSpelling
 after_none = refl
 

@@ -63,11 +63,11 @@ beside_out Bad u = beside u _ refl refl refl refl refl refl refl refl
 beside_out (Read f) u = beside u _ refl refl refl refl refl refl refl refl
 beside_out (Typed f t) u = beside u _ refl refl refl refl refl refl refl refl
 
-pub beside_in : (d : Demand) (u : Holdings) → Beside u (demand_in d u)
-beside_in Nothing u = beside u _ refl refl refl refl refl refl refl refl
-beside_in Bad u = beside u _ refl refl refl refl refl refl refl refl
-beside_in (Read f) u = beside u _ refl refl refl refl refl refl refl refl
-beside_in (Typed f t) u = beside u _ refl refl refl refl refl refl refl refl
+pub beside_in : (sure : Bool) (d : Demand) (u : Holdings) → Beside u (demand_in sure d u)
+beside_in sure Nothing u = beside u _ refl refl refl refl refl refl refl refl
+beside_in sure Bad u = beside u _ refl refl refl refl refl refl refl refl
+beside_in sure (Read f) u = beside u _ refl refl refl refl refl refl refl refl
+beside_in sure (Typed f t) u = beside u _ refl refl refl refl refl refl refl refl
 
 pub translations_out : (d : Demand) (u : Holdings) → Translations u (demand_out d u)
 translations_out Nothing u = translations u _ refl refl refl
@@ -75,11 +75,11 @@ translations_out Bad u = translations u _ refl refl refl
 translations_out (Read f) u = translations u _ refl refl refl
 translations_out (Typed f t) u = translations u _ refl refl refl
 
-pub translations_in : (d : Demand) (u : Holdings) → Translations u (demand_in d u)
-translations_in Nothing u = translations u _ refl refl refl
-translations_in Bad u = translations u _ refl refl refl
-translations_in (Read f) u = translations u _ refl refl refl
-translations_in (Typed f t) u = translations u _ refl refl refl
+pub translations_in : (sure : Bool) (d : Demand) (u : Holdings) → Translations u (demand_in sure d u)
+translations_in sure Nothing u = translations u _ refl refl refl
+translations_in sure Bad u = translations u _ refl refl refl
+translations_in sure (Read f) u = translations u _ refl refl refl
+translations_in sure (Typed f t) u = translations u _ refl refl refl
 
 -- ---- names
 pub beside_named_out : (w : ℕ) (u : Holdings) → Beside u (named_out w u)

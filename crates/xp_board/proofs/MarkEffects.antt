@@ -1,5 +1,5 @@
 -- What a legal mark does to the hand of its seat: `h` before, `b` after.
-use Rattle.std.proofs.Common.{◌≡◌, ℕ, ◌+◌, ◌==◌, not, length, Option, Some, None, ap, ◌∙◌}
+use Rattle.std.proofs.Common.{◌≡◌, ℕ, ◌+◌, ◌==◌, not, length, is_none, Option, Some, None, ap, ◌∙◌}
 use Rattle.xp_words.specs.Machine.{Machine}
 use Rattle.xp_words.specs.Places.{sizes_of}
 use Rattle.xp_board.specs.declared.step.Mark.{Mark}
@@ -25,7 +25,7 @@ pub record Recorded (n : Machine) (f upto : ℕ) (h b : Holdings) : Type 0 where
 pub record Shed (f upto : ℕ) (h b : Holdings) : Type 0 where
   pub e : Work
   pub may : MayShed f upto h e
-  pub hand : b ≡ demand_in (demand_seen upto e)
+  pub hand : b ≡ demand_in (is_none e.unsettled) (demand_seen upto e)
       (record h { works = changed_work f (λ y. record y { recorded = upto; unsettled = None }) h.works })
 
 -- the translations of a page are dropped

@@ -1,5 +1,5 @@
 -- A vCPU is asked to flush its translations.
-use Rattle.std.specs.Prelude.{◌≡◌, ℕ, ◌≤◌, ◌==◌, ◌⊎◌, nat_le, true, Some, IsTrue}
+use Rattle.std.specs.Prelude.{◌≡◌, ℕ, ◌≤◌, ◌==◌, ◌&&◌, ◌⊎◌, nat_le, true, Some, IsTrue}
 use Rattle.xp_words.specs.Machine.{Machine}
 use Rattle.xp_words.specs.KindWords.{kind_fields}
 use Rattle.xp_words.specs.Places.{Place, Clock, Vcpu, Refs, Priv, sizes_of}
@@ -8,7 +8,7 @@ use Rattle.xp_board.specs.declared.step.Act.TheVariants.{Max}
 use Rattle.xp_board.specs.declared.holdings.Work.{Work}
 use Rattle.xp_board.specs.declared.holdings.Holdings.{Holdings}
 use Rattle.xp_board.specs.Steps.{some_since, some_before}
-use Rattle.xp_board.specs.Readings.{domain_of, has_ever}
+use Rattle.xp_board.specs.Readings.{domain_of, has_ever, is_free}
 use Rattle.xp_board.specs.Hands.{work_on}
 use Rattle.xp_board.specs.Knowledge.{knows_owner}
 
@@ -26,7 +26,7 @@ pub record AwaitsFrame (m : Machine) (since v stamp : ℕ) (h : Holdings) : Type
 -- the stamp of a free frame
 pub record AwaitsFree (m : Machine) (since stamp : ℕ) (h : Holdings) : Type 0 where
   pub frame : ℕ
-  pub found : IsTrue (some_before (sizes_of m) since (Refs frame) (λ w. w == stamp) h.steps)
+  pub found : IsTrue (some_before (sizes_of m) since (Refs frame) (λ w. is_free w && (w == stamp)) h.steps)
 
 -- what the flush is awaited for: a change of type, a free frame, or a clock value that was found
 abbrev pub Awaits : Machine → ℕ → ℕ → ℕ → Holdings → Type 0

@@ -85,7 +85,7 @@ LegalCell m s h _ _ = ⊥
 -- the new demand goes out of the hand, and the old one comes in
 abbrev pub exchanged : ℕ → ℕ → ℕ → Option Lock → Holdings → Holdings
 exchanged i new w (Some e) h =
-    if keeps_demand e i new then h else demand_in (demand_at e.kind i w) (demand_out (demand_at e.kind i new) h)
+    if keeps_demand e i new then h else demand_in true (demand_at e.kind i w) (demand_out (demand_at e.kind i new) h)
 exchanged i new w None h = h
 
 abbrev pub after_cell : Place → Act → ℕ → Holdings → Holdings

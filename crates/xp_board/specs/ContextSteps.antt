@@ -9,7 +9,7 @@ use Rattle.xp_board.specs.declared.step.Act.TheVariants.{Store}
 use Rattle.xp_board.specs.declared.holdings.Holdings.{Holdings}
 use Rattle.xp_board.specs.Steps.{some_since}
 use Rattle.xp_board.specs.Readings.{is_context, domain_of}
-use Rattle.xp_board.specs.Hands.{typed_to, without_typed, brought_typed}
+use Rattle.xp_board.specs.Hands.{typed_to, without_typed, brought_name}
 use Rattle.xp_board.specs.Knowledge.{knows_owner, knows_live}
 
 -- the type of the frame that word k names; None for the two old words, which take any
@@ -57,7 +57,7 @@ named_out (suc f) h = record h { typed = without_typed f h.typed }
 
 abbrev pub named_in : ℕ → ℕ → Holdings → Holdings
 named_in k zero h = h
-named_in k (suc f) h = record h { typed = brought_typed f (context_type k) h ∷ h.typed }
+named_in k (suc f) h = record h { typed = brought_name f (context_type k) h ∷ h.typed }
 
 -- what the new word names goes out of the hand, and what the old one named comes in
 abbrev pub after_context : Place → Act → ℕ → Holdings → Holdings

@@ -1,5 +1,5 @@
 -- The parts of a hand, by frame.
-use Rattle.std.specs.Prelude.{◌≡◌, ℕ, ◌+◌, false, List, [], length, Option, Some, None}
+use Rattle.std.specs.Prelude.{◌≡◌, ℕ, ◌+◌, Bool, true, false, List, [], length, Option, Some, None}
 use Rattle.xp_words.specs.declared.kind.PageType.{PageType}
 use Rattle.xp_board.specs.declared.holdings.Holdings.{Holdings}
 use Rattle.xp_board.specs.declared.holdings.Reference.{Reference}
@@ -10,6 +10,7 @@ use Rattle.xp_board.specs.declared.holdings.Ending.{Ending}
 use Rattle.xp_board.specs.declared.holdings.Claimed.{Claimed}
 use Rattle.xp_board.specs.declared.holdings.OwnerFound.{OwnerFound}
 use Rattle.xp_board.specs.declared.holdings.OwnerFound.TheVariants as owners
+use Rattle.xp_board.specs.declared.holdings.Liveness.{Liveness}
 use Rattle.xp_board.specs.declared.holdings.Liveness.TheVariants as lives
 use Rattle.xp_board.specs.Lists.{times_by, first_by, without_by, changed_by}
 
@@ -101,6 +102,22 @@ brought f h = record { frame = f; owner = owner_from h }
 -- a typed one, of whose frame this step finds neither owner nor that it is live
 abbrev pub brought_typed : ℕ → Option PageType → Holdings → TypedReference
 brought_typed f kind h = record { frame = f; kind = kind; owner = owner_from h; live = lives.Since (length h.steps) }
+
+-- whether the frame is live, as what the reference came from says
+abbrev pub surely : Bool → Holdings → Liveness
+surely true h = lives.Found
+surely false h = lives.Since (length h.steps)
+
+abbrev pub brought_as : Bool → ℕ → PageType → Holdings → TypedReference
+brought_as sure f kind h = record { frame = f; kind = Some kind; owner = owner_from h; live = surely sure h }
+
+-- one that a word named whose frame is live, if the word says its type
+abbrev pub named_live : Option PageType → Holdings → Liveness
+named_live (Some t) h = lives.Found
+named_live None h = lives.Since (length h.steps)
+
+abbrev pub brought_name : ℕ → Option PageType → Holdings → TypedReference
+brought_name f kind h = record { frame = f; kind = kind; owner = owner_from h; live = named_live kind h }
 
 abbrev pub owner_by : Option Reference → OwnerFound → OwnerFound
 owner_by (Some e) other = e.owner

@@ -81,14 +81,3 @@ pub record LegalMove (m : Machine) (s : ℕ) (h : Holdings) (p : Place) (a : Act
 
 abbrev pub Legal : Machine → ℕ → Holdings → Step → Type 0
 Legal m s h x = LegalMove m s h (place_at (sizes_of m) x.place) x.act x.kind x.mark
-
--- ---- what boards take so far
--- no board keeps translations yet, so no walk is made on one
-abbrev pub is_taken : StepKind → Bool
-is_taken steps.Fill = false
-is_taken steps.Touch = false
-is_taken _ = true
-
-pub record LegalNow (m : Machine) (s : ℕ) (h : Holdings) (x : Step) : Type 0 where
-  pub legal : Legal m s h x
-  pub kind : IsTrue (is_taken x.kind)

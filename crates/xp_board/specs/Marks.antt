@@ -1,5 +1,5 @@
 -- Marks: what goes with a step beside its act.
-use Rattle.std.specs.Prelude.{◌≡◌, ℕ, ◌+◌, ◌<◌, ◌==◌, not, if◌then◌else◌, Bool, false, length, Option, Some, None, IsTrue}
+use Rattle.std.specs.Prelude.{◌≡◌, ℕ, ◌+◌, ◌<◌, ◌==◌, not, if◌then◌else◌, Bool, false, length, is_none, Option, Some, None, IsTrue}
 use Rattle.xp_words.specs.declared.entry.Demand.{Demand}
 use Rattle.xp_words.specs.declared.entry.Demand.TheVariants as demands
 use Rattle.xp_words.specs.Entries.{demand_at}
@@ -82,7 +82,7 @@ recorded m f None h = h
 
 abbrev pub shed : ℕ → ℕ → Option Work → Holdings → Holdings
 shed f upto (Some e) h =
-    demand_in (demand_seen upto e) (record h { works = changed_work f (λ x. record x { recorded = upto; unsettled = None }) h.works })
+    demand_in (is_none e.unsettled) (demand_seen upto e) (record h { works = changed_work f (λ x. record x { recorded = upto; unsettled = None }) h.works })
 shed f upto None h = h
 
 abbrev pub after_mark : Machine → Option Mark → Holdings → Holdings

@@ -13,7 +13,7 @@ use Rattle.xp_board.specs.declared.holdings.Unsettled.{Unsettled}
 use Rattle.xp_board.specs.declared.holdings.Holdings.{Holdings}
 use Rattle.xp_board.specs.Steps.{some_since}
 use Rattle.xp_board.specs.Readings.{is_live_word, has_now}
-use Rattle.xp_board.specs.Hands.{refs_to, without_ref, typed_to, without_typed, brought, brought_typed}
+use Rattle.xp_board.specs.Hands.{refs_to, without_ref, typed_to, without_typed, brought, brought_as}
 use Rattle.xp_board.specs.Knowledge.{knows_owner, knows_live, knows_partial}
 use Rattle.xp_board.specs.RefSteps.{SparesClosing}
 
@@ -74,7 +74,7 @@ demand_out (Read g) h = record h { refs = without_ref g h.refs }
 demand_out (Typed g t) h = record h { typed = without_typed g h.typed }
 demand_out _ h = h
 
-abbrev pub demand_in : Demand → Holdings → Holdings
-demand_in (Read g) h = record h { refs = brought g h ∷ h.refs }
-demand_in (Typed g t) h = record h { typed = brought_typed g (Some t) h ∷ h.typed }
-demand_in _ h = h
+abbrev pub demand_in : Bool → Demand → Holdings → Holdings
+demand_in sure (Read g) h = record h { refs = brought g h ∷ h.refs }
+demand_in sure (Typed g t) h = record h { typed = brought_as sure g t h ∷ h.typed }
+demand_in sure _ h = h

@@ -9,7 +9,7 @@ use Rattle.xp_board.specs.declared.holdings.Made.{Made}
 use Rattle.xp_board.specs.declared.holdings.Holdings.{Holdings}
 use Rattle.xp_board.specs.Acts.{left_by}
 use Rattle.xp_board.specs.Lists.{first_of}
-use Rattle.xp_board.specs.Legal.{LegalNow}
+use Rattle.xp_board.specs.Legal.{Legal}
 use Rattle.xp_board.specs.After.{after}
 use Rattle.xp_board.specs.Sound.{Sound}
 use Rattle.xp_board.specs.Runs.{place_of}
@@ -88,7 +88,7 @@ cached_item user page xs = first_of (is_item user page) xs
 abbrev pub Went : PortValue → List Made → PortValue → Type 0
 Went v [] w = w ≡ v
 Went v (x ∷ xs) w =
-    (u : PortValue) × Went v xs u × LegalNow u.post.machine u.post.seat u.holdings x.step
+    (u : PortValue) × Went v xs u × Legal u.post.machine u.post.seat u.holdings x.step
     × IsTold u.post.machine u.told (place_of u.post.machine x.step) x.found × (w ≡ stepped u x.step x.found)
 
 -- the port came from v to w by legal steps

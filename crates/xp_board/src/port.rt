@@ -8,7 +8,7 @@ use xp_words::Layout;
 pub trait Port {
     ghost use Rattle.xp_words.specs.Machine.{IsMachine};
     ghost use Rattle.xp_words.specs.Places.{place_at, sizes_of};
-    ghost use Rattle.xp_board.specs.Legal.{LegalNow};
+    ghost use Rattle.xp_board.specs.Legal.{Legal};
     ghost use Rattle.xp_board.specs.Told.{PortValue, stepped, IsTold, Finds, Goes, Saw, cached_item};
 
     /// The port as contracts see it.
@@ -30,7 +30,7 @@ pub trait Port {
 
     /// Makes one step, and answers the word that it found.
     fn step(&mut self, step: Step) -> u64
-        requires { LegalNow (value self.old).post.machine (value self.old).post.seat (value self.old).holdings step }
+        requires { Legal (value self.old).post.machine (value self.old).post.seat (value self.old).holdings step }
         ensures value { value self.new ≡ stepped (value self.old) step result }
         ensures goes { Goes (value self.old) (value self.new) }
         ensures saw { Saw (value self.old) (value self.new) (place_at (sizes_of (value self.old).post.machine) step.place) result }

@@ -41,7 +41,7 @@ pub static LEFT_BY_OTHERS: [LeftCase; 43] = [
         left: &[
             Has::References(1, 0, 1, 0),
             Has::UnknownOwner(1),
-            Has::NotKnownLive(1, PageType::Writable),
+            Has::Live(1, PageType::Writable),
             Has::LockSeen(0, 0, 0),
         ],
     },
@@ -224,7 +224,7 @@ pub static LEFT_BY_OTHERS: [LeftCase; 43] = [
         left: &[
             Has::References(0, 0, 1, 0),
             Has::References(1, 0, 0, 0),
-            Has::NotKnownLive(0, PageType::L4),
+            Has::Live(0, PageType::L4),
         ],
     },
     LeftCase {
@@ -411,7 +411,7 @@ pub static LEFT_BY_OTHERS: [LeftCase; 43] = [
             Has::Work(0, L1 + LOCKED, 0),
             Has::References(1, 0, 1, 0),
             Has::UnknownOwner(1),
-            Has::NotKnownLive(1, PageType::Writable),
+            Has::Live(1, PageType::Writable),
         ],
     },
     LeftCase {
