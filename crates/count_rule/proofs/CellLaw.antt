@@ -1,14 +1,14 @@
 -- An act on a cell that asks what it asked, or of which no entry is recorded.
 use Rattle.std.proofs.Common.{◌≡◌, ◌≢◌, ℕ, ◌<◌, true, [], Some, None, refl, sym, ◌∙◌, ap, subst, arith, inl, inr}
 use Rattle.xp_words.specs.Machine.{Machine}
-use Rattle.xp_words.specs.Places.{sizes_of, Place, Clock, Pages, Vcpu, Refs, Kind, Cell, Map}
+use Rattle.xp_words.specs.Places.{sizes_of, Place, Clock, Pages, Vcpu, Refs, Kind, Cell, Map, run_of}
 use Rattle.xp_words.specs.Entries.{demand_at}
 use Rattle.xp_words.specs.KindWords.{kind_fields}
 use Rattle.xp_board.specs.declared.holdings.Holdings.{Holdings}
 use Rattle.xp_board.specs.Readings.{kind_at}
 use Rattle.xp_board.specs.Recorded.{held}
 use Rattle.xp_board.specs.Sound.{Spelled, Sound}
-use Rattle.xp_board.proofs.PlaceTests.{same_or_other}
+use Rattle.board_lemmas.proofs.PlaceTests.{same_or_other}
 use Rattle.count_rule.proofs.Learning.{Kept}
 use Rattle.count_rule.proofs.PartLaws.{stamped_by, idle_running}
 use Rattle.count_rule.proofs.Quiet.{Calm}
@@ -39,5 +39,5 @@ module _ (n : Machine) (s : ℕ) (m m2 : Place → ℕ) (b c : ℕ → Holdings)
       let clock = words Clock (λ e. cc) in
       quiet_outcome n s m m2 b c seat others sound (cell_calm words same) kept (λ d. words (Pages d) (λ e. cc)) (λ k. words (Map k) (λ e. cc)) spelled
       (stamped_by n m m2 (Cell f i) words (omega arith) (λ v e. absurd (cc)) (λ g e. absurd (cc)) (λ g e. absurd (cc)) sound.stamped)
-      (idle_running n s m m2 b c seat others (words (Vcpu s 6) (λ e. cc) ∙ runs n s m m2 b c seat others sound running) (λ v off. words (Vcpu v 6) (λ e. cc))
+      (idle_running n s m m2 b c seat others (words (run_of s) (λ e. cc) ∙ runs n s m m2 b c seat others sound running) (λ v off. words (run_of v) (λ e. cc))
       (λ e. sym cold ∙ e) cache walk sound.idle)

@@ -14,10 +14,10 @@ use Rattle.xp_board.specs.RefSteps.{SparesClosing}
 use Rattle.xp_words.specs.Machine.{Machine}
 use Rattle.xp_words.specs.Places.{Place}
 use Rattle.xp_board.specs.Readings.{kind_at}
-use Rattle.xp_board.proofs.Sums.{one_at-same, one_at-other}
+use Rattle.board_lemmas.proofs.Sums.{one_at-same, one_at-other}
 use Rattle.count_rule.proofs.Quiet.{is_closing_at}
-use Rattle.xp_board.proofs.ListCounts.{times_by-cons, times_by-without}
-use Rattle.xp_board.proofs.HandLists.{EachOf-without}
+use Rattle.board_lemmas.proofs.ListCounts.{times_by-cons, times_by-without}
+use Rattle.board_lemmas.proofs.HandLists.{EachOf-without}
 
 -- ---- the hand
 abbrev pub IsInHand : Demand → Holdings → Type 0

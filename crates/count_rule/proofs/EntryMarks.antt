@@ -20,16 +20,16 @@ use Rattle.xp_board.specs.Hands.{refs_to, works_on, work_on, hand, typed_hand, c
 use Rattle.xp_board.specs.Recorded.{held, held_of, entry_demand, names, names_typed, entries, recorded_in, recorded_number, HasType, TypesAgree}
 use Rattle.xp_board.specs.Found.{is_known_inside, is_same_cell, is_same_entry}
 use Rattle.xp_board.specs.Sound.{HeldAlone, Sound}
-use Rattle.xp_board.proofs.ListChanges.{first_by-changed_here, first_by-changed_other}
+use Rattle.board_lemmas.proofs.ListChanges.{first_by-changed_here, first_by-changed_other}
 use Rattle.count_rule.proofs.Twins.{EachTwo, EachTwo-changed_at, EachTwo-times, LikeWork}
-use Rattle.xp_board.proofs.Works.{held_mine}
+use Rattle.board_lemmas.proofs.Works.{held_mine}
 use Rattle.count_rule.proofs.CountLaw.{counts_law, each_seat}
 use Rattle.count_rule.proofs.PartLaws.{alone_law, map_law, works_law, idle_fewer}
 use Rattle.count_rule.proofs.Quiet.{held_still, is_closing_at, works_spared}
-use Rattle.xp_board.proofs.Counted.{table_inside}
-use Rattle.xp_board.proofs.EntryWords.{entry_asks_same}
+use Rattle.board_lemmas.proofs.Counted.{table_inside}
+use Rattle.board_lemmas.proofs.EntryWords.{entry_asks_same}
 use Rattle.count_rule.proofs.Outcome.{Outcome}
-use Rattle.xp_board.proofs.WorkFacts.{Works, works_facts}
+use Rattle.board_lemmas.proofs.WorkFacts.{Works, works_facts}
 
 known_inside : (k : KindWord) → IsTrue (is_table k.kind) → k.unflushed ≡ false → IsTrue (is_known_inside k)
 known_inside k t u = grind (arith, nat_tests)

@@ -12,7 +12,7 @@ use Rattle.xp_words.specs.Entries.{demand_at}
 use Rattle.xp_words.specs.PageTypes.{is_table}
 use Rattle.xp_words.specs.KindWords.{kind_fields, has_form}
 use Rattle.xp_words.specs.Machine.{Machine}
-use Rattle.xp_words.specs.Places.{sizes_of, is_place, Place, Clock, Pages, Vcpu, Refs, Kind, Cell, Map}
+use Rattle.xp_words.specs.Places.{sizes_of, is_place, Place, Clock, Pages, Vcpu, Refs, Kind, Cell, Map, run_of}
 use Rattle.xp_board.specs.declared.holdings.Holdings.{Holdings}
 use Rattle.xp_board.specs.declared.holdings.Lock.{Lock}
 use Rattle.xp_board.specs.declared.step.Step.{Step}
@@ -23,24 +23,24 @@ use Rattle.xp_board.specs.Recorded.{work_of, names, names_typed, entries, held, 
 use Rattle.xp_board.specs.Settling.{demand_in, demand_out}
 use Rattle.xp_board.specs.Keeping.{MayAct}
 use Rattle.xp_board.specs.Sound.{is_busy, Sound}
-use Rattle.xp_board.proofs.ActEffects.{Exchanged}
-use Rattle.xp_board.proofs.PlaceTests.{same_or_other}
-use Rattle.xp_board.proofs.HandLists.{EachOf-map}
+use Rattle.step_effects.proofs.ActEffects.{Exchanged}
+use Rattle.board_lemmas.proofs.PlaceTests.{same_or_other}
+use Rattle.board_lemmas.proofs.HandLists.{EachOf-map}
 use Rattle.count_rule.proofs.Twins.{EachTwo, EachTwo-each, SameWork, SameLock, SameClaim, recorded_in-same}
-use Rattle.xp_board.proofs.Works.{held_free}
-use Rattle.xp_board.proofs.Counted.{entries-one, table_entries-changed, contexts-same}
+use Rattle.board_lemmas.proofs.Works.{held_free}
+use Rattle.board_lemmas.proofs.Counted.{entries-one, table_entries-changed, contexts-same}
 use Rattle.count_rule.proofs.CountLaw.{each_seat}
 use Rattle.count_rule.proofs.PartLaws.{stamped_by, idle_running}
 use Rattle.count_rule.proofs.Learning.{works_learnt, locks_learnt, claims_learnt}
 use Rattle.count_rule.proofs.Quiet.{hand_is, typed_hand_is, held_still, locks_times}
 use Rattle.count_rule.proofs.Demands.{IsInHand, Spares, out_hand, out_typed, in_hand, in_typed, out_types, in_types, out_spares, in_more, has_demand, demand_type}
-use Rattle.xp_board.proofs.HeldByForm.{held_live}
+use Rattle.board_lemmas.proofs.HeldByForm.{held_live}
 use Rattle.count_rule.proofs.KindSpelled.{form_was}
 use Rattle.count_rule.proofs.SpelledLaw.{wrote_spelled}
 use Rattle.count_rule.proofs.Outcome.{Outcome, runs}
 use Rattle.count_rule.proofs.HandLaw.{HandMove, hand_outcome}
-use Rattle.xp_board.proofs.HandParts.{Beside, Translations, beside_then, translations_then, beside_out, beside_in, translations_out, translations_in}
-use Rattle.xp_board.proofs.LockFacts.{Locks, lock_facts}
+use Rattle.board_lemmas.proofs.HandParts.{Beside, Translations, beside_then, translations_then, beside_out, beside_in, translations_out, translations_in}
+use Rattle.board_lemmas.proofs.LockFacts.{Locks, lock_facts}
 
 locked_free : (k : KindWord) → has_form k ≡ true → is_locked k ≡ true → is_busy k ≡ false
 unfolding has_form
@@ -211,5 +211,5 @@ module _ (n : Machine) (s : ℕ) (x : Step) (m m2 : Place → ℕ) (b c : ℕ �
       hand_outcome n s m m2 b c seat others sound exchange_move
       (wrote_spelled n s x (Cell f i) _ m m2 (b s) d.wrote may sound.machine sound.spelled (λ by l. absurd l) (λ v l. absurd l))
       (stamped_by n m m2 (Cell f i) words (omega arith) (λ w e. absurd (cc)) (λ g e. absurd (cc)) (λ g e. absurd (cc)) sound.stamped)
-      (idle_running n s m m2 b c seat others (words (Vcpu s 6) (λ e. cc) ∙ runs n s m m2 b c seat others sound (d.wrote.running refl)) (λ w off. words (Vcpu w 6) (λ e. cc))
+      (idle_running n s m m2 b c seat others (words (run_of s) (λ e. cc) ∙ runs n s m m2 b c seat others sound (d.wrote.running refl)) (λ w off. words (run_of w) (λ e. cc))
       (λ e. sym (ap (λ y. y.cold) d.hand ∙ far.cold) ∙ e) (λ t e. (ap (λ y. y.cache) d.hand ∙ far.cache) ∙ e) (λ t e. (ap (λ y. y.walk) d.hand ∙ far.walk) ∙ e) sound.idle)

@@ -7,7 +7,7 @@ use Rattle.std.proofs.lemmas.Bool.Decides.{nat_tests}
 use Rattle.std.specs.Int.{bit_at}
 use Rattle.xp_words.specs.RefWords.{bit, ref_read}
 use Rattle.xp_words.specs.Machine.{Machine}
-use Rattle.xp_words.specs.Places.{sizes_of, is_place, Place, Clock, Pages, Vcpu, Refs, Map}
+use Rattle.xp_words.specs.Places.{sizes_of, is_place, Place, Clock, Pages, Vcpu, Refs, Map, run_of}
 use Rattle.xp_board.specs.declared.holdings.Holdings.{Holdings}
 use Rattle.xp_board.specs.declared.step.Step.{Step}
 use Rattle.xp_board.specs.declared.step.StepKind.TheVariants as steps
@@ -18,9 +18,9 @@ use Rattle.xp_board.specs.HintSteps.{lowered_frame, raised_frame, raised_by}
 use Rattle.xp_board.specs.Spelling.{IsSpelling, map_bits}
 use Rattle.xp_board.specs.Keeping.{MayAct}
 use Rattle.xp_board.specs.Sound.{Spelled, Sound, is_hinted}
-use Rattle.xp_board.proofs.ActEffects.{Wrote, Hinted}
-use Rattle.xp_board.proofs.Sums.{hands-only, one_at-same, hands-part, hands-two, bit_most, some_bit}
-use Rattle.xp_board.proofs.ListCounts.{times_by-cons_here, times_by-cons_other, times_by-without, times_by-without_other}
+use Rattle.step_effects.proofs.ActEffects.{Wrote, Hinted}
+use Rattle.board_lemmas.proofs.Sums.{hands-only, one_at-same, hands-part, hands-two, bit_most, some_bit}
+use Rattle.board_lemmas.proofs.ListCounts.{times_by-cons_here, times_by-cons_other, times_by-without, times_by-without_other}
 use Rattle.xp_board.proofs.RefWords.{is_dying-read, dying_says}
 use Rattle.count_rule.proofs.Bits.{set_small, set_here, set_other, has_bit, cleared_bit}
 use Rattle.count_rule.proofs.Learning.{Stays, works_kept, locks_kept, claims_kept}
@@ -189,5 +189,5 @@ module _ (n : Machine) (s : ℕ) (x : Step) (m m2 : Place → ℕ) (b c : ℕ �
       (λ e l. rw (wrote.others (Pages e) (λ k. cc), ap (λ y. y.credits) d.hand) refl)
       (λ g l. hint_bits by 0 wrote move.0 move.1 (ap (λ y. y.raised) d.hand) g) (hint_spelled wrote)
       (stamped_by n m m2 (Map k) wrote.others (omega arith) (λ v e. absurd (cc)) (λ f e. absurd (cc)) (λ f e. absurd (cc)) sound.stamped)
-      (idle_running n s m m2 b c seat others (wrote.others (Vcpu s 6) (λ e. cc) ∙ runs n s m m2 b c seat others sound (wrote.running refl)) (λ v off. wrote.others (Vcpu v 6) (λ e. cc))
+      (idle_running n s m m2 b c seat others (wrote.others (run_of s) (λ e. cc) ∙ runs n s m m2 b c seat others sound (wrote.running refl)) (λ v off. wrote.others (run_of v) (λ e. cc))
       (λ e. sym (ap (λ y. y.cold) d.hand) ∙ e) (λ k e. ap (λ y. y.cache) d.hand ∙ e) (λ k e. ap (λ y. y.walk) d.hand ∙ e) sound.idle)

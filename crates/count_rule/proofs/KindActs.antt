@@ -13,15 +13,15 @@ use Rattle.xp_board.specs.Hands.{refs_to, typed_to, locks_on, works_on}
 use Rattle.xp_board.specs.Recorded.{held, held_of, HasType, recorded_in}
 use Rattle.xp_board.specs.Keeping.{MayAct}
 use Rattle.xp_board.specs.Sound.{is_busy, HeldAlone, WorkAgrees, Sound}
-use Rattle.xp_board.proofs.ActEffects.{Wrote}
-use Rattle.xp_board.proofs.Works.{nobody_works, held_free}
+use Rattle.step_effects.proofs.ActEffects.{Wrote}
+use Rattle.board_lemmas.proofs.Works.{nobody_works, held_free}
 use Rattle.count_rule.proofs.ListMoves.{kept_other, recorded_kept}
 use Rattle.count_rule.proofs.KindForms.{Says}
 use Rattle.count_rule.proofs.KindSpelled.{kind_spelled}
 use Rattle.count_rule.proofs.KindLaw.{Rest, kind_outcome}
 use Rattle.count_rule.proofs.KindWorks.{works_apart}
 use Rattle.count_rule.proofs.Outcome.{Outcome}
-use Rattle.xp_board.proofs.Sums.{no_bit}
+use Rattle.board_lemmas.proofs.Sums.{no_bit}
 
 pub stamp_live : (w : ℕ) (k : KindWord) → kind_fields w ≡ k → k.validated ≡ true → kind_stamp w ≡ 0
 unfolding kind_stamp

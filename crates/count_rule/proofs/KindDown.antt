@@ -6,7 +6,7 @@ use Rattle.xp_words.specs.KindWords.{kind_read, kind_fields, has_form, has_type}
 use Rattle.xp_board.specs.Readings.{is_live}
 use Rattle.xp_board.specs.KindSteps.{unlocked_down}
 use Rattle.xp_board.specs.RefSteps.{one_down}
-use Rattle.xp_board.proofs.KindForms.{fields_down, fields_unlocked}
+use Rattle.board_lemmas.proofs.KindForms.{fields_down, fields_unlocked}
 
 -- ---- what the sums leave
 down_type : (w : ℕ) → w < 2 ^ 64 → 0 < (kind_fields w).number → has_type ((w + one_down) % 2 ^ 64) ≡ has_type w

@@ -3,7 +3,7 @@ use Rattle.std.proofs.Common.{◌≡◌, ◌≢◌, ℕ, ◌+◌, ◌/◌, ◌<�
 use Rattle.std.proofs.lemmas.Bool.{cases_eq}
 use Rattle.xp_words.specs.RefWords.{bit}
 use Rattle.xp_words.specs.Machine.{Machine}
-use Rattle.xp_words.specs.Places.{sizes_of, Place, Clock, Pages, Vcpu, Refs, Kind, Cell, Map}
+use Rattle.xp_words.specs.Places.{sizes_of, Place, Clock, Pages, Vcpu, Refs, Kind, Cell, Map, run_of}
 use Rattle.xp_words.specs.Entries.{demand_at}
 use Rattle.xp_board.specs.declared.holdings.Holdings.{Holdings}
 use Rattle.xp_board.specs.Lists.{EachOf}
@@ -14,9 +14,9 @@ use Rattle.xp_board.specs.Sound.{is_busy, Spelled, HeldAlone, WorkAgrees, Sound}
 use Rattle.count_rule.proofs.CountLaw.{pages_of, Steady, types_steady, counted_steady, counts_law}
 use Rattle.count_rule.proofs.PartLaws.{alone_law, map_law, works_law, stamped_by, idle_running}
 use Rattle.count_rule.proofs.Quiet.{hand_is, typed_hand_is, held_still}
-use Rattle.xp_board.proofs.Counted.{held_inside}
+use Rattle.board_lemmas.proofs.Counted.{held_inside}
 use Rattle.count_rule.proofs.Outcome.{Outcome, runs}
-use Rattle.xp_board.proofs.Sums.{sum_below-same}
+use Rattle.board_lemmas.proofs.Sums.{sum_below-same}
 
 module _ (n : Machine) (s : ℕ) (m m2 : Place → ℕ) (b c : ℕ → Holdings) (seat : s < (sizes_of n).vcpus) (others : (t : ℕ) → t ≢ s → c t ≡ b t) (f : ℕ) where
   -- what of the hand stays
@@ -140,7 +140,7 @@ module _ (n : Machine) (s : ℕ) (m m2 : Place → ℕ) (b c : ℕ → Holdings)
           stamped =
               stamped_by n m m2 (Kind f) move.words (omega arith) (λ v e. absurd (cc)) (λ g e. absurd (cc)) (λ g e. let k = move.stamp in omega arith) sound.stamped;
           idle =
-              idle_running n s m m2 b c seat others (move.words (Vcpu s 6) (λ e. cc) ∙ runs n s m m2 b c seat others sound move.running) (λ v off. move.words (Vcpu v 6) (λ e. cc))
+              idle_running n s m m2 b c seat others (move.words (run_of s) (λ e. cc) ∙ runs n s m m2 b c seat others sound move.running) (λ v off. move.words (run_of v) (λ e. cc))
               (λ e. sym move.rest.cold ∙ e) (λ k e. move.rest.cache ∙ e) (λ k e. move.rest.walk ∙ e) sound.idle;
           map = map_law n s m m2 b c seat others (λ g l. rw (refs_same g, move.words (Map (g / 64)) (λ e. cc), move.rest.raised) refl) sound.map;
         }

@@ -17,13 +17,13 @@ use Rattle.xp_board.specs.RefSteps.{one_down}
 use Rattle.xp_board.specs.Spelling.{IsSpelling, is_kind_in}
 use Rattle.xp_board.specs.Keeping.{MayAct}
 use Rattle.xp_board.specs.Sound.{Spelled, Sound}
-use Rattle.xp_board.proofs.ActEffects.{Wrote}
-use Rattle.xp_board.proofs.Sums.{hands-plus, hands-part, some_bit}
+use Rattle.step_effects.proofs.ActEffects.{Wrote}
+use Rattle.board_lemmas.proofs.Sums.{hands-plus, hands-part, some_bit}
 use Rattle.count_rule.proofs.Quiet.{typed_hand_is}
-use Rattle.xp_board.proofs.KindForms.{spelled_form}
+use Rattle.board_lemmas.proofs.KindForms.{spelled_form}
 use Rattle.count_rule.proofs.KindDown.{dropped_fields, unlocked_fields, read_made, read_type, dropped_form, unlocked_form}
 use Rattle.count_rule.proofs.SpelledLaw.{wrote_spelled}
-use Rattle.xp_board.proofs.FrameInversions.{fields_of}
+use Rattle.step_effects.proofs.FrameInversions.{fields_of}
 
 limit_by : (n : Machine) (k : KindWord) → IsTrue (is_kind_in n (Some k)) → IsTrue (is_live k) → k.number ≤ n.limit
 limit_by n k t live = grind (arith, nat_tests)

@@ -6,10 +6,10 @@ use Rattle.xp_board.specs.declared.holdings.Holdings.{Holdings}
 use Rattle.xp_board.specs.declared.step.Step.{Step}
 use Rattle.xp_board.specs.Keeping.{MayMark, Marked, MayAct, Acted}
 use Rattle.xp_board.specs.Sound.{Sound}
-use Rattle.xp_board.proofs.MarkEffects.{MarkEffect, mark_effect, nothing, turned, forgot, recorded_entry, shed_entry}
-use Rattle.xp_board.proofs.ActEffects.{ActEffect}
-use Rattle.xp_board.proofs.ActEffects as effects
-use Rattle.xp_board.proofs.ActInversions.{act_effect}
+use Rattle.step_effects.proofs.MarkEffects.{MarkEffect, mark_effect, nothing, turned, forgot, recorded_entry, shed_entry}
+use Rattle.step_effects.proofs.ActEffects.{ActEffect}
+use Rattle.step_effects.proofs.ActEffects as effects
+use Rattle.step_effects.proofs.ActInversions.{act_effect}
 use Rattle.count_rule.proofs.Learning.{Same, same_hand, same_refl, empty_kept, kept_same, kept_of-none}
 use Rattle.count_rule.proofs.PartLaws.{idle_fewer}
 use Rattle.count_rule.proofs.Outcome.{Outcome, calm_same, quiet_outcome}

@@ -3,7 +3,7 @@ use Rattle.std.proofs.Common.{◌≡◌, ◌≢◌, ℕ, ◌+◌, ◌<◌, ◌�
 use Rattle.std.proofs.lemmas.Bool.Decides.{nat_tests}
 use Rattle.xp_words.specs.declared.kind.PageType.{PageType}
 use Rattle.xp_words.specs.Machine.{Machine}
-use Rattle.xp_words.specs.Places.{sizes_of, is_place, Place, Clock, Pages, Vcpu, Refs, Kind, Cell, Map}
+use Rattle.xp_words.specs.Places.{sizes_of, is_place, Place, Clock, Pages, Vcpu, Refs, Kind, Cell, Map, run_of}
 use Rattle.xp_board.specs.declared.holdings.Holdings.{Holdings}
 use Rattle.xp_board.specs.declared.step.Step.{Step}
 use Rattle.xp_board.specs.Lists.{one_at, EachOf}
@@ -14,10 +14,10 @@ use Rattle.xp_board.specs.Recorded.{names, names_typed, contexts, held, entry_de
 use Rattle.xp_board.specs.After.{learned}
 use Rattle.xp_board.specs.Keeping.{MayAct}
 use Rattle.xp_board.specs.Sound.{Sound}
-use Rattle.xp_board.proofs.ActEffects.{Named}
-use Rattle.xp_board.proofs.PlaceTests.{same_or_other}
+use Rattle.step_effects.proofs.ActEffects.{Named}
+use Rattle.board_lemmas.proofs.PlaceTests.{same_or_other}
 use Rattle.count_rule.proofs.Twins.{EachTwo-each, SameLock, recorded_in-same, EachTwo, SameWork, SameClaim}
-use Rattle.xp_board.proofs.Counted.{entries-same, contexts-one}
+use Rattle.board_lemmas.proofs.Counted.{entries-same, contexts-one}
 use Rattle.count_rule.proofs.CountLaw.{each_seat}
 use Rattle.count_rule.proofs.PartLaws.{stamped_by, idle_running}
 use Rattle.count_rule.proofs.Learning.{Kept, Learnt, learnt, kept_noted}
@@ -25,9 +25,9 @@ use Rattle.count_rule.proofs.Quiet.{hand_is, typed_hand_is, held_still, locks_ti
 use Rattle.count_rule.proofs.SpelledLaw.{wrote_spelled}
 use Rattle.count_rule.proofs.Outcome.{Outcome, cells_same, runs}
 use Rattle.count_rule.proofs.HandLaw.{HandMove, hand_outcome}
-use Rattle.xp_board.proofs.HandLists.{EachOf-map}
+use Rattle.board_lemmas.proofs.HandLists.{EachOf-map}
 use Rattle.count_rule.proofs.NameHands.{named_out_typed, named_in_typed, out_types, in_types, IsNamed}
-use Rattle.xp_board.proofs.HandParts.{Beside, Translations, beside_then, translations_then, beside_named_out, beside_named_in, translations_named_out, translations_named_in, refs_named_in, refs_named_out}
+use Rattle.board_lemmas.proofs.HandParts.{Beside, Translations, beside_then, translations_then, beside_named_out, beside_named_in, translations_named_out, translations_named_in, refs_named_in, refs_named_out}
 
 not_context : (k : ℕ) → (k ≡ 5) ⊎ (k ≡ 6) → IsTrue (is_context k) → ⊥
 not_context k e t = grind (arith, nat_tests)
@@ -187,7 +187,7 @@ module _ (n : Machine) (s : ℕ) (x : Step) (m m2 : Place → ℕ) (b c : ℕ �
       hand_outcome n s m m2 b c seat others sound named_move
       (wrote_spelled n s x (Vcpu v k) _ m m2 (b s) d.wrote may sound.machine sound.spelled (λ by l. absurd l) (λ v l. absurd l))
       (stamped_by n m m2 (Vcpu v k) words (omega arith) (λ w e. let i : k ≡ 5 = cc in absurd (not_context k (inl i) word)) (λ g e. absurd (cc)) (λ g e. absurd (cc)) sound.stamped)
-      (idle_running n s m m2 b c seat others (words (Vcpu s 6) (λ e. let i : 6 ≡ k = cc in absurd (not_context k (inr (sym i)) word)) ∙ runs n s m m2 b c seat others sound (d.wrote.running refl))
-      (λ w off. words (Vcpu w 6) (λ e. let i : 6 ≡ k = cc in absurd (not_context k (inr (sym i)) word)))
+      (idle_running n s m m2 b c seat others (words (run_of s) (λ e. let i : 6 ≡ k = cc in absurd (not_context k (inr (sym i)) word)) ∙ runs n s m m2 b c seat others sound (d.wrote.running refl))
+      (λ w off. words (run_of w) (λ e. let i : 6 ≡ k = cc in absurd (not_context k (inr (sym i)) word)))
       (λ e. sym (ap (λ y. y.cold) d.hand ∙ still.cold ∙ far.cold) ∙ e) (λ t e. (ap (λ y. y.cache) d.hand ∙ still.cache ∙ far.cache) ∙ e) (λ t e. (ap (λ y. y.walk) d.hand ∙ still.walk ∙ far.walk) ∙ e)
       sound.idle)

@@ -2,7 +2,7 @@
 use Rattle.xp_words.specs.RefWords.{bit}
 use Rattle.std.proofs.Common.{◌≡◌, ◌≢◌, ℕ, ◌<◌, Bool, true, false, Some, refl, ap, ◌+◌, ◌/◌}
 use Rattle.xp_words.specs.Machine.{Machine}
-use Rattle.xp_words.specs.Places.{sizes_of, Place, Pages, Vcpu, Refs, Kind, Cell, Map}
+use Rattle.xp_words.specs.Places.{sizes_of, Place, Pages, Vcpu, Refs, Kind, Cell, Map, run_of}
 use Rattle.xp_board.specs.declared.holdings.Holdings.{Holdings}
 use Rattle.xp_board.specs.Lists.{times, EachOf}
 use Rattle.xp_board.specs.Readings.{is_context}
@@ -78,5 +78,5 @@ module _ (n : Machine) (s : ℕ) (m m2 : Place → ℕ) (b c : ℕ → Holdings)
       calm_outcome sound calm (stays (b s) (c s) kept) (λ d l. rw (pages d, kept.credits) refl) (λ g l. rw (maps (g / 64), kept.raised) refl) spelled stamped idle
 
   -- a vCPU that was last found running runs
-  pub runs : Sound n m b → (b s).run ≡ Some 0 → m (Vcpu s 6) ≡ 0
+  pub runs : Sound n m b → (b s).run ≡ Some 0 → m (run_of s) ≡ 0
   runs sound run = (sound.found s seat).own.run 0 run

@@ -3,7 +3,7 @@ use Rattle.std.proofs.Common.{◌≡◌, ◌≢◌, ℕ, ◌+◌, ◌-◌, ◌%�
 use Rattle.std.proofs.lemmas.Bool.{cases_eq}
 use Rattle.std.proofs.lemmas.Bool.Decides.{nat_tests}
 use Rattle.xp_words.specs.Machine.{Machine}
-use Rattle.xp_words.specs.Places.{sizes_of, is_place, Place, Clock, Pages, Vcpu, Refs, Kind, Cell, Map}
+use Rattle.xp_words.specs.Places.{sizes_of, is_place, Place, Clock, Pages, Vcpu, Refs, Kind, Cell, Map, run_of}
 use Rattle.xp_board.specs.declared.holdings.Holdings.{Holdings}
 use Rattle.xp_board.specs.declared.step.Step.{Step}
 use Rattle.xp_board.specs.declared.step.StepKind.TheVariants as steps
@@ -13,14 +13,14 @@ use Rattle.xp_board.specs.After.{noted}
 use Rattle.xp_board.specs.PagesSteps.{MayRefund}
 use Rattle.xp_board.specs.Keeping.{MayAct}
 use Rattle.xp_board.specs.Sound.{Spelled, Sound}
-use Rattle.xp_board.proofs.ActEffects.{Wrote, Charged, Refunded}
-use Rattle.xp_board.proofs.ListChanges.{times-with_more_here, times-with_more_other, times-with_fewer_here, times-with_fewer_other}
+use Rattle.step_effects.proofs.ActEffects.{Wrote, Charged, Refunded}
+use Rattle.board_lemmas.proofs.ListChanges.{times-with_more_here, times-with_more_other, times-with_fewer_here, times-with_fewer_other}
 use Rattle.count_rule.proofs.Learning.{Stays, works_kept, locks_kept, claims_kept}
 use Rattle.count_rule.proofs.PartLaws.{stamped_by, idle_running}
 use Rattle.count_rule.proofs.SpelledLaw.{wrote_spelled}
 use Rattle.count_rule.proofs.Quiet.{Calm}
 use Rattle.count_rule.proofs.Outcome.{Outcome, cells_same, calm_outcome, runs}
-use Rattle.xp_board.proofs.Sums.{hands-part}
+use Rattle.board_lemmas.proofs.Sums.{hands-part}
 
 module _ (n : Machine) (s : ℕ) (x : Step) (m m2 : Place → ℕ) (b c : ℕ → Holdings) (seat : s < (sizes_of n).vcpus) (others : (t : ℕ) → t ≢ s → c t ≡ b t) (may : MayAct n s x (b s)) (sound : Sound n m b) where
   pub calm : (p : Place) → ((q : Place) → q ≢ p → m2 q ≡ m q) → ((f : ℕ) → Refs f ≢ p) → ((f : ℕ) → Kind f ≢ p) → ((v k : ℕ) → Vcpu v k ≢ p) → ((f i : ℕ) → Cell f i ≢ p) → Calm n s m m2 b c seat others
@@ -50,7 +50,7 @@ module _ (n : Machine) (s : ℕ) (x : Step) (m m2 : Place → ℕ) (b c : ℕ �
         ])
         (λ g l. rw (wrote.others (Map (g / 64)) (λ e. cc), ap (λ y. y.raised) hand) refl) spelled
         (stamped_by n m m2 (Pages d) wrote.others (omega arith) (λ v e. absurd (cc)) (λ f e. absurd (cc)) (λ f e. absurd (cc)) sound.stamped)
-        (idle_running n s m m2 b c seat others (wrote.others (Vcpu s 6) (λ e. cc) ∙ runs n s m m2 b c seat others sound (wrote.running refl)) (λ v off. wrote.others (Vcpu v 6) (λ e. cc))
+        (idle_running n s m m2 b c seat others (wrote.others (run_of s) (λ e. cc) ∙ runs n s m m2 b c seat others sound (wrote.running refl)) (λ v off. wrote.others (run_of v) (λ e. cc))
         (λ e. sym (ap (λ y. y.cold) hand) ∙ e) (λ k e. ap (λ y. y.cache) hand ∙ e) (λ k e. ap (λ y. y.walk) hand ∙ e) sound.idle)
 
   domain_inside : (d : ℕ) → IsTrue (is_place (sizes_of n) (Pages d)) → d < (sizes_of n).domains

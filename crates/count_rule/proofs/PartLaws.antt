@@ -3,15 +3,15 @@ use Rattle.std.proofs.Common.{◌≡◌, ◌≢◌, ℕ, ◌+◌, ◌<◌, ◌�
 use Rattle.std.proofs.lemmas.Bool.{cases_eq}
 use Rattle.xp_words.specs.RefWords.{bit}
 use Rattle.xp_words.specs.Machine.{Machine}
-use Rattle.xp_words.specs.Places.{sizes_of, is_place, Place, Clock, Vcpu, Refs, Kind}
+use Rattle.xp_words.specs.Places.{sizes_of, is_place, Place, Clock, Vcpu, Refs, Kind, flushed_of, run_of}
 use Rattle.xp_board.specs.declared.holdings.Holdings.{Holdings}
 use Rattle.xp_board.specs.Lists.{times, EachOf}
 use Rattle.xp_board.specs.Readings.{kind_at, is_locked, is_dying, is_free, free_stamp, kind_stamp}
 use Rattle.xp_board.specs.Hands.{works_on, locks_on, endings_of, claims_of, IsEmptyHand}
 use Rattle.xp_board.specs.Spelling.{IsSpelling}
 use Rattle.xp_board.specs.Sound.{is_busy, is_hinted, Spelled, HeldAlone, WorkAgrees, Stamped, Idle, FreeMap}
-use Rattle.xp_board.proofs.PlaceTests.{same_or_other}
-use Rattle.xp_board.proofs.Sums.{hands-one}
+use Rattle.board_lemmas.proofs.PlaceTests.{same_or_other}
+use Rattle.board_lemmas.proofs.Sums.{hands-one}
 use Rattle.count_rule.proofs.CountLaw.{each_seat}
 
 -- ---- words
@@ -36,13 +36,13 @@ spelled_same n m m2 words old =
     }
 
 pub stamped_by : (n : Machine) (m m2 : Place → ℕ) (p : Place) → ((q : Place) → q ≢ p → m2 q ≡ m q) → m Clock ≤ m2 Clock →
-    ((v : ℕ) → p ≡ Vcpu v 5 → m2 p ≤ m2 Clock) → ((f : ℕ) → p ≡ Refs f → free_stamp (m2 p) ≤ m2 Clock) → ((f : ℕ) → p ≡ Kind f → kind_stamp (m2 p) ≤ m2 Clock) →
+    ((v : ℕ) → p ≡ flushed_of v → m2 p ≤ m2 Clock) → ((f : ℕ) → p ≡ Refs f → free_stamp (m2 p) ≤ m2 Clock) → ((f : ℕ) → p ≡ Kind f → kind_stamp (m2 p) ≤ m2 Clock) →
     Stamped n m → Stamped n m2
 stamped_by n m m2 p others clock vcpu ref kind old =
     record {
-      flushed = λ v. elim (same_or_other (Vcpu v 5) p) [
+      flushed = λ v. elim (same_or_other (flushed_of v) p) [
         | inl at ↦ rw at (vcpu v (sym at))
-        | inr off ↦ let e = others (Vcpu v 5) off in let k = old.flushed v in omega arith
+        | inr off ↦ let e = others (flushed_of v) off in let k = old.flushed v in omega arith
       ];
       free = λ f. elim (same_or_other (Refs f) p) [
         | inl at ↦ rw at (ref f (sym at))
@@ -57,7 +57,7 @@ stamped_by n m m2 p others clock vcpu ref kind old =
 pub stamped_same : (n : Machine) (m m2 : Place → ℕ) → ((q : Place) → m2 q ≡ m q) → Stamped n m → Stamped n m2
 stamped_same n m m2 words old =
     record {
-      flushed = λ v. rw (words (Vcpu v 5), words Clock) (old.flushed v);
+      flushed = λ v. rw (words (flushed_of v), words Clock) (old.flushed v);
       free = λ f. rw (words (Refs f), words Clock) (old.free f);
       kinds = λ f. rw (words (Kind f), words Clock) (old.kinds f);
     }
@@ -96,7 +96,7 @@ module _ (n : Machine) (s : ℕ) (m m2 : Place → ℕ) (b c : ℕ → Holdings)
   works_law mine old = each_seat n s m m2 b c seat others (λ t u. EachOf (WorkAgrees u) u.works) mine (λ t l off. old t l)
 
   -- ---- vCPUs that do not run
-  pub idle_other : (v : ℕ) → m2 (Vcpu v 6) ≡ m (Vcpu v 6) → v ≢ s → Idle n m b v → Idle n m2 c v
+  pub idle_other : (v : ℕ) → m2 (run_of v) ≡ m (run_of v) → v ≢ s → Idle n m b v → Idle n m2 c v
   idle_other v word off old =
       let same = others v off in
       record {
@@ -108,7 +108,7 @@ module _ (n : Machine) (s : ℕ) (m m2 : Place → ℕ) (b c : ℕ → Holdings)
       }
 
   -- the own vCPU runs
-  pub idle_running : m2 (Vcpu s 6) ≡ 0 → ((v : ℕ) → v ≢ s → m2 (Vcpu v 6) ≡ m (Vcpu v 6)) →
+  pub idle_running : m2 (run_of s) ≡ 0 → ((v : ℕ) → v ≢ s → m2 (run_of v) ≡ m (run_of v)) →
       ((c s).cold ≡ true → (b s).cold ≡ true) → ((b s).cold ≡ true → (b s).cache ≡ [] → (c s).cache ≡ []) → ((b s).cold ≡ true → (b s).walk ≡ None → (c s).walk ≡ None) →
       ((v : ℕ) → v < (sizes_of n).vcpus → Idle n m b v) → (v : ℕ) → v < (sizes_of n).vcpus → Idle n m2 c v
   idle_running runs words cold cache walk old v l =
@@ -126,7 +126,7 @@ module _ (n : Machine) (s : ℕ) (m m2 : Place → ℕ) (b c : ℕ → Holdings)
       ]
 
   -- or its hand and its translations are no more than they were
-  pub idle_fewer : ((v : ℕ) → m2 (Vcpu v 6) ≡ m (Vcpu v 6)) → (IsEmptyHand (b s) → IsEmptyHand (c s)) → (c s).cold ≡ (b s).cold → ((b s).cache ≡ [] → (c s).cache ≡ []) →
+  pub idle_fewer : ((v : ℕ) → m2 (run_of v) ≡ m (run_of v)) → (IsEmptyHand (b s) → IsEmptyHand (c s)) → (c s).cold ≡ (b s).cold → ((b s).cache ≡ [] → (c s).cache ≡ []) →
       ((b s).walk ≡ None → (c s).walk ≡ None) → ((v : ℕ) → v < (sizes_of n).vcpus → Idle n m b v) → (v : ℕ) → v < (sizes_of n).vcpus → Idle n m2 c v
   idle_fewer words empty cold cache walk old v l =
       elim (cases_eq v s) [
@@ -142,6 +142,6 @@ module _ (n : Machine) (s : ℕ) (m m2 : Place → ℕ) (b c : ℕ → Holdings)
         | inr off ↦ idle_other v (words v) off (old v l)
       ]
 
-  pub idle_still : ((v : ℕ) → m2 (Vcpu v 6) ≡ m (Vcpu v 6)) → (IsEmptyHand (b s) → IsEmptyHand (c s)) → (c s).cold ≡ (b s).cold → (c s).cache ≡ (b s).cache → (c s).walk ≡ (b s).walk →
+  pub idle_still : ((v : ℕ) → m2 (run_of v) ≡ m (run_of v)) → (IsEmptyHand (b s) → IsEmptyHand (c s)) → (c s).cold ≡ (b s).cold → (c s).cache ≡ (b s).cache → (c s).walk ≡ (b s).walk →
       ((v : ℕ) → v < (sizes_of n).vcpus → Idle n m b v) → (v : ℕ) → v < (sizes_of n).vcpus → Idle n m2 c v
   idle_still words empty cold cache walk old v l = idle_fewer words empty cold (λ e. cache ∙ e) (λ e. walk ∙ e) old v l

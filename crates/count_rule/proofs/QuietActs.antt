@@ -1,13 +1,13 @@
 -- Acts that move nothing that is counted: loads, lost exchanges, walks, and stores of words that no part reads.
 use Rattle.std.proofs.Common.{◌≡◌, ◌≢◌, ℕ, ◌<◌, true, [], Some, None, refl, sym, ◌∙◌, ap}
 use Rattle.xp_words.specs.Machine.{Machine}
-use Rattle.xp_words.specs.Places.{sizes_of, Place, Vcpu, Kind, Cell, Pages, Map}
+use Rattle.xp_words.specs.Places.{sizes_of, Place, Vcpu, Kind, Cell, Pages, Map, run_of}
 use Rattle.xp_board.specs.declared.holdings.Holdings.{Holdings}
 use Rattle.xp_board.specs.declared.step.Step.{Step}
 use Rattle.xp_board.specs.FillSteps.{walked_by, started}
 use Rattle.xp_board.specs.Keeping.{MayAct}
 use Rattle.xp_board.specs.Sound.{Sound, Idle}
-use Rattle.xp_board.proofs.ActEffects.{Looked, Missed, Started, WentOn, Stumbled}
+use Rattle.step_effects.proofs.ActEffects.{Looked, Missed, Started, WentOn, Stumbled}
 use Rattle.count_rule.proofs.Learning.{Kept, learnt, same_refl, same_own, kept_same, kept_cell, kept_noted, still_own, empty_kept}
 use Rattle.count_rule.proofs.PartLaws.{spelled_same, stamped_same, idle_running, idle_still}
 use Rattle.count_rule.proofs.Outcome.{Outcome, calm_same, quiet_outcome, runs}
@@ -25,14 +25,14 @@ module _ (n : Machine) (s : ℕ) (x : Step) (m m2 : Place → ℕ) (b c : ℕ �
       let k = learnt s p (m p) (m p) (b s) in
       let kept = kept_noted x (m p) (b s) _ (c s) l.hand k.kept in
       still_outcome l.words kept
-      (idle_still n s m m2 b c seat others (λ v. l.words (Vcpu v 6)) (empty_kept (b s) (c s) kept (λ e. ap (λ u. u.looking) l.hand ∙ k.still.looking e))
+      (idle_still n s m m2 b c seat others (λ v. l.words (run_of v)) (empty_kept (b s) (c s) kept (λ e. ap (λ u. u.looking) l.hand ∙ k.still.looking e))
       (ap (λ u. u.cold) l.hand ∙ k.still.cold) (ap (λ u. u.cache) l.hand ∙ k.still.cache) (ap (λ u. u.walk) l.hand ∙ k.still.walk) sound.idle)
 
   -- the vCPU runs, and its translations stay where it is cold
   going : ((q : Place) → m2 q ≡ m q) → (b s).run ≡ Some 0 → ((c s).cold ≡ true → (b s).cold ≡ true) → ((b s).cold ≡ true → (b s).cache ≡ [] → (c s).cache ≡ []) →
       ((b s).cold ≡ true → (b s).walk ≡ None → (c s).walk ≡ None) → (v : ℕ) → v < (sizes_of n).vcpus → Idle n m2 c v
   going words run cold cache walk =
-      idle_running n s m m2 b c seat others (words (Vcpu s 6) ∙ runs n s m m2 b c seat others sound run) (λ v off. words (Vcpu v 6)) cold cache walk sound.idle
+      idle_running n s m m2 b c seat others (words (run_of s) ∙ runs n s m m2 b c seat others sound run) (λ v off. words (run_of v)) cold cache walk sound.idle
 
   pub missed_outcome : (f : ℕ) → Missed n x f m m2 (b s) (c s) → Outcome n m2 c
   missed_outcome f d =

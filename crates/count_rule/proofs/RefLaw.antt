@@ -3,7 +3,7 @@ use Rattle.std.proofs.Common.{◌≡◌, ◌≢◌, ℕ, ◌+◌, ◌/◌, ◌<�
 use Rattle.std.proofs.lemmas.Bool.{cases_eq}
 use Rattle.xp_words.specs.RefWords.{bit}
 use Rattle.xp_words.specs.Machine.{Machine}
-use Rattle.xp_words.specs.Places.{sizes_of, Place, Clock, Pages, Vcpu, Refs, Kind, Cell, Map}
+use Rattle.xp_words.specs.Places.{sizes_of, Place, Clock, Pages, Vcpu, Refs, Kind, Cell, Map, run_of}
 use Rattle.xp_board.specs.declared.holdings.Holdings.{Holdings}
 use Rattle.xp_board.specs.Lists.{times}
 use Rattle.xp_board.specs.Readings.{kind_at, ref_count, allocated_mark, is_dying, is_free, free_stamp}
@@ -14,9 +14,9 @@ use Rattle.count_rule.proofs.Learning.{works_kept}
 use Rattle.count_rule.proofs.CountLaw.{pages_of, Steady, types_steady, counted_steady, counts_law}
 use Rattle.count_rule.proofs.PartLaws.{alone_law, map_law, works_law, stamped_by, idle_running}
 use Rattle.count_rule.proofs.Quiet.{hand_is, typed_hand_is, held_still, is_closing_at, like_works, works_spared}
-use Rattle.xp_board.proofs.Counted.{held_inside}
+use Rattle.board_lemmas.proofs.Counted.{held_inside}
 use Rattle.count_rule.proofs.Outcome.{Outcome, cells_same, runs}
-use Rattle.xp_board.proofs.Sums.{sum_below-one}
+use Rattle.board_lemmas.proofs.Sums.{sum_below-one}
 
 module _ (n : Machine) (s : ℕ) (m m2 : Place → ℕ) (b c : ℕ → Holdings) (seat : s < (sizes_of n).vcpus) (others : (t : ℕ) → t ≢ s → c t ≡ b t) (f : ℕ) where
   -- how the word of frame f moves, and what the hand has of references, endings, claims, raised frames and credits
@@ -142,7 +142,7 @@ module _ (n : Machine) (s : ℕ) (m m2 : Place → ℕ) (b c : ℕ → Holdings)
           stamped = let clock = move.words Clock (λ e. cc) in
               stamped_by n m m2 (Refs f) move.words (omega arith) (λ v e. absurd (cc))
               (λ g e. let k = move.stamp in omega arith) (λ g e. absurd (cc)) sound.stamped;
-          idle = idle_running n s m m2 b c seat others (move.words (Vcpu s 6) (λ e. cc) ∙ runs n s m m2 b c seat others sound move.running) (λ v off. move.words (Vcpu v 6) (λ e. cc))
+          idle = idle_running n s m m2 b c seat others (move.words (run_of s) (λ e. cc) ∙ runs n s m m2 b c seat others sound move.running) (λ v off. move.words (run_of v) (λ e. cc))
               (λ e. sym move.cold ∙ e) (λ k e. move.cache ∙ e) (λ k e. move.walk ∙ e) sound.idle;
           map = ref_map;
         }

@@ -12,10 +12,10 @@ use Rattle.xp_board.specs.Spelling.{IsSpelling}
 use Rattle.xp_board.specs.Legal.{LegalAs, WritesSpelling}
 use Rattle.xp_board.specs.Keeping.{MayAct}
 use Rattle.xp_board.specs.Sound.{Spelled}
-use Rattle.xp_board.proofs.ActEffects.{Wrote}
+use Rattle.step_effects.proofs.ActEffects.{Wrote}
 use Rattle.count_rule.proofs.PartLaws.{spelled_by}
 use Rattle.count_rule.proofs.Spellings.{spelling_small}
-use Rattle.xp_board.proofs.HandParts.{either}
+use Rattle.board_lemmas.proofs.HandParts.{either}
 
 module _ (n : Machine) (s : ℕ) (x : Step) (p : Place) (kind : StepKind) (m m2 : Place → ℕ) (b : Holdings) where
   -- the act at its place, with its kind

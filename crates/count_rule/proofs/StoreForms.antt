@@ -11,7 +11,7 @@ use Rattle.xp_board.specs.Readings.{is_partial, is_work, is_closing}
 use Rattle.xp_board.specs.Hands.{without_typed}
 use Rattle.xp_board.specs.Recorded.{HasType}
 use Rattle.xp_board.specs.Sound.{is_busy}
-use Rattle.xp_board.proofs.HandLists.{EachOf-without}
+use Rattle.board_lemmas.proofs.HandLists.{EachOf-without}
 
 pub busy_forms : (k : KindWord) → is_busy k ≡ true → IsTrue (is_work k) ⊎ IsTrue (is_closing k)
 busy_forms k e = or_cases _ _ e

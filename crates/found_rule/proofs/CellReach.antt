@@ -15,7 +15,7 @@ use Rattle.xp_board.specs.Spelling.{IsSpelling, is_kind_in}
 use Rattle.xp_board.specs.Reach.{Use, Table, Reads, use_of, reached_by, Reach, cached, walked}
 use Rattle.xp_board.specs.Fresh.{Matches}
 use Rattle.xp_board.specs.Sound.{Sound, Spelled}
-use Rattle.xp_board.proofs.PlaceTests.{same_or_other}
+use Rattle.board_lemmas.proofs.PlaceTests.{same_or_other}
 use Rattle.found_rule.proofs.HandFacts.{ReachKept}
 use Rattle.found_rule.proofs.ReachAll.{Reach-level, IsLevel}
 use Rattle.found_rule.proofs.Serving.{Came, PassesOn, alike_same, alike_passes, came_all, came_kept, not_reads}

@@ -9,7 +9,7 @@ use Rattle.xp_words.specs.declared.entry.Demand.TheVariants.{Typed}
 use Rattle.std.proofs.lemmas.Bool.Decides.{nat_tests}
 use Rattle.xp_words.specs.Entries.{demand_at}
 use Rattle.xp_words.specs.Machine.{Machine}
-use Rattle.xp_words.specs.Places.{sizes_of, is_place, Place, Vcpu, Refs, Kind, Cell}
+use Rattle.xp_words.specs.Places.{sizes_of, is_place, Place, Refs, Kind, Cell, flushed_of, run_of}
 use Rattle.xp_board.specs.declared.step.Step.{Step}
 use Rattle.xp_board.specs.declared.holdings.Seen.{Seen}
 use Rattle.xp_board.specs.declared.holdings.Lock.{Lock}
@@ -25,7 +25,7 @@ use Rattle.xp_board.specs.Found.{LockFound, is_same_entry}
 use Rattle.xp_board.specs.WellFormed.{SeenIs, IsLockFormed}
 use Rattle.xp_board.specs.Reach.{reached_by, cached, walked}
 use Rattle.xp_board.specs.Sound.{Sound}
-use Rattle.xp_board.proofs.ActEffects.{Exchanged, Rewrote}
+use Rattle.step_effects.proofs.ActEffects.{Exchanged, Rewrote}
 use Rattle.found_rule.proofs.StepLists.{first_by-each, first_by-key, first_by-some}
 use Rattle.found_rule.proofs.Growth.{Grown, added}
 use Rattle.found_rule.proofs.Learning.{Act, act}
@@ -82,7 +82,7 @@ module _ (n : Machine) (s : ℕ) (x : Step) (m m2 : Place → ℕ) (b c : ℕ �
         acked = moved.acked;
         ran = moved.ran;
       })
-      (λ g. o (Kind g) (λ e. cc)) (λ g. o (Refs g) (λ e. cc)) words reach fix zeros (λ v. o (Vcpu v 5) (λ e. cc)) (λ v. o (Vcpu v 6) (λ e. cc))
+      (λ g. o (Kind g) (λ e. cc)) (λ g. o (Refs g) (λ e. cc)) words reach fix zeros (λ v. o (flushed_of v) (λ e. cc)) (λ v. o (run_of v) (λ e. cc))
       (refs (refs_old n s p m m2 b c u acted l sound words reach)) (typed (typed_old n s p m m2 b c u acted l sound words reach))
       (let g = (sound.formed s l).cache in record { few = rw (moved.cache) g.few; walk = λ y t. g.walk y (sym moved.walk ∙ t) })
 

@@ -21,7 +21,7 @@ use Rattle.xp_board.specs.CellSteps.{AllowsPlain, MayFix, MayWrite}
 use Rattle.xp_board.specs.Found.{WorkFound}
 use Rattle.xp_board.specs.Reach.{Table}
 use Rattle.xp_board.specs.Sound.{Sound}
-use Rattle.xp_board.proofs.ActEffects.{Filled}
+use Rattle.step_effects.proofs.ActEffects.{Filled}
 use Rattle.found_rule.proofs.PlaceTests.{equal_refl}
 use Rattle.found_rule.proofs.StepLists.{EachOf-all, first_by-each, first_by-key, first_by-some}
 use Rattle.found_rule.proofs.Learning.{Act, act}

@@ -1,9 +1,9 @@
 -- The own translations are flushed.
-use Rattle.std.proofs.Common.{◌≡◌, ◌≢◌, ℕ, suc, ◌<◌, ◌≤◌, ◌==◌, nat_lt, if◌then◌else◌, Bool, true, false, [], length, None, refl, sym, ap, subst, ◌∙◌, ◌⊎◌, inl, inr, arith}
+use Rattle.std.proofs.Common.{◌≡◌, ◌≢◌, ℕ, suc, ◌<◌, ◌≤◌, ◌==◌, nat_lt, if◌then◌else◌, true, false, [], length, None, refl, sym, ap, subst, ◌∙◌, ◌⊎◌, inl, inr, arith}
 use Rattle.std.proofs.lemmas.Bool.{cases_eq, cases_Bool, eqb-true, ltb-true}
 use Rattle.std.proofs.lemmas.Bool.Decides.{nat_tests}
 use Rattle.xp_words.specs.Machine.{Machine}
-use Rattle.xp_words.specs.Places.{Sizes, sizes_of, Place, Clock, Vcpu, Refs, Kind, Cell, place_at}
+use Rattle.xp_words.specs.Places.{Sizes, sizes_of, Place, Clock, Vcpu, Refs, Kind, Cell, place_at, flushed_of, run_of}
 use Rattle.xp_board.specs.declared.step.Step.{Step}
 use Rattle.xp_board.specs.declared.holdings.Holdings.{Holdings}
 use Rattle.xp_board.specs.Lists.{Member}
@@ -14,23 +14,20 @@ use Rattle.xp_board.specs.Found.{ClockFound, before_off, FlushedSinceOff, ColdSi
 use Rattle.xp_board.specs.AckSteps.{after_ack}
 use Rattle.xp_board.specs.After.{noted}
 use Rattle.xp_board.specs.Sound.{Sound}
-use Rattle.xp_board.proofs.ActEffects.{Flushed}
+use Rattle.step_effects.proofs.ActEffects.{Flushed}
 use Rattle.found_rule.proofs.StepLists.{EachOf-map, EachOf-all}
 use Rattle.found_rule.proofs.MoreSteps.{EachSince-some}
 use Rattle.found_rule.proofs.Learning.{Act, act}
 use Rattle.found_rule.proofs.ReachSame.{reach_same}
 use Rattle.found_rule.proofs.Words.{Words}
 use Rattle.found_rule.proofs.WordFacts.{told_some, off_same, cold_same}
+use Rattle.found_rule.proofs.QuietSteps.{if_same}
 use Rattle.found_rule.proofs.WordsOf.{words_lone, lone_vcpu}
 use Rattle.found_rule.proofs.HandFacts.{ReachKept}
 use Rattle.found_rule.proofs.MyHand.{HandRight, hand_with, mine_by}
 use Rattle.found_rule.proofs.Outcome.{all_grown}
 use Rattle.found_rule.proofs.FormedLaw.{formed_by, ending_formed_old, claimed_formed_old}
 use Rattle.found_rule.proofs.Quiet.{Done, fix_kept, zero_kept, works_form, locks_form}
-
-if_same : (t : Bool) (u : Holdings) → (if t then u else u) ≡ u
-if_same true u = refl
-if_same false u = refl
 
 pub if_mine : (s : ℕ) (u v : Holdings) → (if s == s then u else v) ≡ u
 if_mine s u v = let t : (s == s) ≡ true = grind (arith, nat_tests) in rw t refl
@@ -68,7 +65,7 @@ module _ (n : Machine) (s : ℕ) (x : Step) (m m2 : Place → ℕ) (b c : ℕ �
         ]
 
     pub vcpu_hand : u.refs ≡ (b s).refs → u.typed ≡ (b s).typed → u.works ≡ (b s).works → u.locks ≡ (b s).locks → u.ending ≡ (b s).ending → u.claimed ≡ (b s).claimed →
-        Words n s m m2 b → ReachKept n m m2 b c → ((m2 (Vcpu s 5) ≡ m (Vcpu s 5)) × (u.acked ≡ (b s).acked)) ⊎ (suc (length (b s).steps) ≤ u.acked) → HandRight n s m m2 b c u
+        Words n s m m2 b → ReachKept n m m2 b c → ((m2 (flushed_of s) ≡ m (flushed_of s)) × (u.acked ≡ (b s).acked)) ⊎ (suc (length (b s).steps) ≤ u.acked) → HandRight n s m m2 b c u
     unfolding cells
     vcpu_hand refs typed works locks ending claimed words reach acks =
         hand_with n s (Vcpu s k) m m2 b c u acted l sound words reach refs typed works locks ending claimed (λ f. acted.others (Kind f) (λ e. cc)) (λ f. acted.others (Refs f) (λ e. cc))
@@ -77,38 +74,38 @@ module _ (n : Machine) (s : ℕ) (x : Step) (m m2 : Place → ℕ) (b c : ℕ �
     -- the vCPUs of other seats
     pub other_off : (v : ℕ) → v ≢ s → (w : Holdings) → FlushedSinceOff (sizes_of n) m b v w → FlushedSinceOff (sizes_of n) m2 c v w
     other_off v off w h =
-        off_same n m m2 b c v (acted.others (Vcpu v 6) (λ e. off (cc))) (ap (λ y. y.cold) (others v off)) w (acted.others (Vcpu v 5) (λ e. off (cc))) h
+        off_same n m m2 b c v (acted.others (run_of v) (λ e. off (cc))) (ap (λ y. y.cold) (others v off)) w (acted.others (flushed_of v) (λ e. off (cc))) h
 
     pub other_cold : (v : ℕ) → v ≢ s → (w : Holdings) → ClockFound (sizes_of n) m w → ColdSinceOff (sizes_of n) m b v w → ColdSinceOff (sizes_of n) m2 c v w
     other_cold v off w found h =
-        cold_same n m m2 b c v (acted.others (Vcpu v 6) (λ e. off (cc))) (ap (λ y. y.cold) (others v off)) w (let e = acted.others Clock (λ e. cc) in omega arith)
+        cold_same n m m2 b c v (acted.others (run_of v) (λ e. off (cc))) (ap (λ y. y.cold) (others v off)) w (let e = acted.others Clock (λ e. cc) in omega arith)
         (ap (λ y. y.ran) (others v off)) (all_grown n s (Vcpu s k) m m2 b c u acted others v) found h
 
   -- ---- flushed
-  warm_off : m (Vcpu s 5) ≤ m2 (Vcpu s 5) → m (Vcpu s 6) ≡ 0 → (b s).cold ≡ false → (y : ℕ) → (m (Vcpu s 6) ≢ 0) ⊎ (((b s).cold ≡ true) ⊎ (y < m (Vcpu s 5))) →
-      (m2 (Vcpu s 6) ≢ 0) ⊎ (((c s).cold ≡ true) ⊎ (y < m2 (Vcpu s 5)))
+  warm_off : m (flushed_of s) ≤ m2 (flushed_of s) → m (run_of s) ≡ 0 → (b s).cold ≡ false → (y : ℕ) → (m (run_of s) ≢ 0) ⊎ (((b s).cold ≡ true) ⊎ (y < m (flushed_of s))) →
+      (m2 (run_of s) ≢ 0) ⊎ (((c s).cold ≡ true) ⊎ (y < m2 (flushed_of s)))
   warm_off later runs warm y (inl idle) = absurd (idle runs)
   warm_off later runs warm y (inr (inl cold)) = absurd cc
   warm_off later runs warm y (inr (inr below)) = inr (inr (omega arith))
 
   cold_off : Flushed n s x m m2 (b s) (c s) → (b s).cold ≡ true → (y : ℕ) → EachSince (sizes_of n) (b s).ran Clock (λ w. y ≤ w) (b s).steps →
-      (m2 (Vcpu s 6) ≢ 0) ⊎ (((c s).cold ≡ true) ⊎ (y < m2 (Vcpu s 5)))
+      (m2 (run_of s) ≢ 0) ⊎ (((c s).cold ≡ true) ⊎ (y < m2 (flushed_of s)))
   cold_off d is y h =
-      let k = EachSince-some (sizes_of n) (b s).ran Clock (λ w. y ≤ w) (λ w. nat_lt w (m2 (Vcpu s 5))) (b s).steps h (d.may.warmed is) in
-      let e = ltb-true k.0 (m2 (Vcpu s 5)) k.2 in
+      let k = EachSince-some (sizes_of n) (b s).ran Clock (λ w. y ≤ w) (λ w. nat_lt w (m2 (flushed_of s))) (b s).steps h (d.may.warmed is) in
+      let e = ltb-true k.0 (m2 (flushed_of s)) k.2 in
       let f = k.1 in
       inr (inr (omega arith))
 
   -- the value is above each that was found before the vCPU was found off
-  flushed_off : Flushed n s x m m2 (b s) (c s) → (h : Holdings) → m Clock ≤ m2 Clock → m2 (Vcpu s 6) ≡ m (Vcpu s 6) → m (Vcpu s 5) ≤ m2 (Vcpu s 5) →
+  flushed_off : Flushed n s x m m2 (b s) (c s) → (h : Holdings) → m Clock ≤ m2 Clock → m2 (run_of s) ≡ m (run_of s) → m (flushed_of s) ≤ m2 (flushed_of s) →
       FlushedSinceOff (sizes_of n) m b s h → ColdSinceOff (sizes_of n) m b s h → FlushedSinceOff (sizes_of n) m2 c s h
   flushed_off d h clock run later off cold =
       let z = sizes_of n in
-      let Q : ℕ → Type 0 = λ y. (m2 (Vcpu s 6) ≢ 0) ⊎ (((c s).cold ≡ true) ⊎ (y < m2 (Vcpu s 5))) in
-      let P : ℕ → Type 0 = λ y. (m (Vcpu s 6) ≢ 0) ⊎ (((b s).cold ≡ true) ⊎ (y < m (Vcpu s 5))) in
+      let Q : ℕ → Type 0 = λ y. (m2 (run_of s) ≢ 0) ⊎ (((c s).cold ≡ true) ⊎ (y < m2 (flushed_of s))) in
+      let P : ℕ → Type 0 = λ y. (m (run_of s) ≢ 0) ⊎ (((b s).cold ≡ true) ⊎ (y < m (flushed_of s))) in
       let C : ℕ → Type 0 = λ y. EachSince z (b s).ran Clock (λ w. y ≤ w) (b s).steps in
-      elim (cases_eq (m (Vcpu s 6)) 0) [
-        | inr idle ↦ (let o : m2 (Vcpu s 6) ≢ 0 = (λ e. idle (sym run ∙ e)) in EachOf-all (λ y. Q (told_value (place_at z y.step.place) y.found) × Q (told_value (place_at z y.step.place) (left_of y))) (before_off z s h) (λ y. (inl o, inl o)))
+      elim (cases_eq (m (run_of s)) 0) [
+        | inr idle ↦ (let o : m2 (run_of s) ≢ 0 = (λ e. idle (sym run ∙ e)) in EachOf-all (λ y. Q (told_value (place_at z y.step.place) y.found) × Q (told_value (place_at z y.step.place) (left_of y))) (before_off z s h) (λ y. (inl o, inl o)))
         | inl runs ↦
             elim (cases_Bool (b s).cold) [
               | inr warm ↦
@@ -127,22 +124,21 @@ module _ (n : Machine) (s : ℕ) (x : Step) (m m2 : Place → ℕ) (b c : ℕ �
   flushed_done d =
       let w = d.wrote in
       let z = sizes_of n in
-      let p = Vcpu s 5 in
+      let p = flushed_of s in
       let u = after_ack (b s) in
-      let new = m2 (Vcpu s 5) in
+      let new = m2 (flushed_of s) in
       let acted = act n s x p m m2 (b s) u (c s) w.place w.real w.left w.others refl refl refl refl (d.hand ∙ ap (noted x (m p)) (sym (if_same (s == s) u))) in
       let f = sound.found s l in
       let within : new ≤ m Clock = told_some z (b s).acked new (m Clock) (b s).steps f.clock d.may.told in
-      let since = EachSince-some z (b s).acked Clock (λ y. m (Vcpu s 5) ≤ y) (λ y. y == new) (b s).steps f.since_ack d.may.told in
-      let later : m (Vcpu s 5) ≤ new = (let e = eqb-true since.0 new since.2 in let k = since.1 in omega arith) in
+      let since = EachSince-some z (b s).acked Clock (λ y. m (flushed_of s) ≤ y) (λ y. y == new) (b s).steps f.since_ack d.may.told in
+      let later : m (flushed_of s) ≤ new = (let e = eqb-true since.0 new since.2 in let k = since.1 in omega arith) in
       let words = words_lone n s m m2 b sound p w.others (λ g e. cc) (λ g e. cc) (λ g i e. cc)
       (lone_vcpu n s m m2 b sound p w.others s 5 refl
-      (λ t. elim (cases_eq t s) [ inl at ↦ rw at later | inr off ↦ (let e = w.others (Vcpu t 5) (λ q. off (cc)) in omega arith) ])
-      (λ t o. w.others (Vcpu t 6) (λ e. cc) ∙ o) (λ t off. w.others (Vcpu t 5) (λ q. off (cc))) (λ t off. w.others (Vcpu t 6) (λ e. cc)) (λ t off o. w.others (Vcpu t 2) (λ e. cc))
-      (λ t off o. w.others (Vcpu t 3) (λ e. cc)))
+      (λ t. elim (cases_eq t s) [ inl at ↦ rw at later | inr off ↦ (let e = w.others (flushed_of t) (λ q. off (cc)) in omega arith) ])
+      (λ t o. w.others (run_of t) (λ e. cc) ∙ o) (λ t off. w.others (flushed_of t) (λ q. off (cc))) (λ t off. w.others (run_of t) (λ e. cc)) (λ t off k a b o. w.others (Vcpu t k) (λ e. b (cc))))
       (let e = w.others Clock (λ e. cc) in omega arith) in
       let reach = less_reach 5 u acted (inl (refl, d.may.landed)) in
-      let run : m2 (Vcpu s 6) ≡ m (Vcpu s 6) = w.others (Vcpu s 6) (λ e. cc) in
+      let run : m2 (run_of s) ≡ m (run_of s) = w.others (run_of s) (λ e. cc) in
       record {
         found = record {
           place = p;

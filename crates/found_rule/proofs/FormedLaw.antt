@@ -2,7 +2,7 @@
 use Rattle.std.proofs.Common.{◌≡◌, ◌≢◌, ℕ, suc, ◌≤◌, true, length, Option, Some, refl, sym, ap, subst, ◌∙◌, arith}
 use Rattle.xp_words.specs.KindWords.{kind_fields}
 use Rattle.xp_words.specs.Machine.{Machine}
-use Rattle.xp_words.specs.Places.{sizes_of, Place, Vcpu, Cell}
+use Rattle.xp_words.specs.Places.{sizes_of, Place, Cell, run_of, old0_of, old1_of}
 use Rattle.xp_board.specs.declared.holdings.Holdings.{Holdings}
 use Rattle.xp_board.specs.Lists.{times, EachOf}
 use Rattle.xp_board.specs.Steps.{last_since}
@@ -10,9 +10,8 @@ use Rattle.xp_board.specs.Hands.{works_on, locks_on, endings_of, claims_of, chan
 use Rattle.xp_board.specs.After.{learned_work, learned_lock, learned_claim}
 use Rattle.xp_board.specs.WellFormed.{IsWorkFormed, IsLockFormed, IsRaisedFormed, IsLookingFormed, IsCacheFormed, WellFormed}
 use Rattle.found_rule.proofs.StepLists.{EachOf-map, EachOf-both, EachOf-changed, EachOf-changes, times_by-changed}
-use Rattle.found_rule.proofs.MoreSteps.{last_since-here, last_since-elsewhere}
 use Rattle.found_rule.proofs.Growth.{Grown, added, grown_longer, grown_once, grown_places}
-use Rattle.found_rule.proofs.Learning.{CellsLearned, cells_off, cells_at, WordLearned, word_off, word_at, looking_each, Act}
+use Rattle.found_rule.proofs.Learning.{CellsLearned, cells_off, cells_at, WordLearned, word_off, word_at, looking_each, Act, acted_here, acted_off}
 use Rattle.found_rule.proofs.FormedWorks.{FormedWork, work_stays, work_learned, lock_stays, lock_learned}
 
 -- the hand that the act leaves
@@ -40,10 +39,10 @@ module _ (n : Machine) (s : ℕ) (p : Place) (m m2 : Place → ℕ) (b u w : Hol
   long = ap length acted.steps
 
   here : (k : ℕ) → k ≤ length b.steps → last_since (sizes_of n) k p w.steps ≡ Some (m2 p)
-  here k l = ap (last_since (sizes_of n) k p) acted.steps ∙ last_since-here (sizes_of n) k p acted.made b.steps l acted.added.place ∙ ap Some acted.added.left
+  here k l = acted_here n s p m m2 b u w acted k l
 
   off : (k : ℕ) (q : Place) → k ≤ length b.steps → p ≢ q → last_since (sizes_of n) k q w.steps ≡ last_since (sizes_of n) k q b.steps
-  off k q l o = ap (last_since (sizes_of n) k q) acted.steps ∙ last_since-elsewhere (sizes_of n) k q acted.made b.steps l (λ y. o (sym acted.added.place ∙ y))
+  off k q l o = acted_off n s p m m2 b u w acted k q l o
 
   -- ---- works and locks
   work_off : ((f i : ℕ) → p ≢ Cell f i) → EachOf (IsWorkFormed n b) b.works → EachOf (IsWorkFormed n w) b.works
@@ -147,9 +146,9 @@ module _ (n : Machine) (s : ℕ) (p : Place) (m m2 : Place → ℕ) (b u w : Hol
         looking = looking_each u.looking w.looking (IsLookingFormed n s) k.looking h.looking;
         cache = record { few = rw (k.cache) h.cache.few; walk = λ y t. h.cache.walk y (sym k.walk ∙ t) };
         own = record {
-          run = own_by (Vcpu s 6) b.run u.run w.run acted.run k.run c.own.run;
-          old0 = own_by (Vcpu s 2) b.old0 u.old0 w.old0 acted.old0 k.old0 c.own.old0;
-          old1 = own_by (Vcpu s 3) b.old1 u.old1 w.old1 acted.old1 k.old1 c.own.old1;
+          run = own_by (run_of s) b.run u.run w.run acted.run k.run c.own.run;
+          old0 = own_by (old0_of s) b.old0 u.old0 w.old0 acted.old0 k.old0 c.own.old0;
+          old1 = own_by (old1_of s) b.old1 u.old1 w.old1 acted.old1 k.old1 c.own.old1;
         };
         places = grown_places (sizes_of n) m m2 b.steps w.steps more c.places;
         turn = let r = h.turn in let e = k.turn in let o = long in omega arith;

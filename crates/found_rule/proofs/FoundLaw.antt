@@ -2,7 +2,7 @@
 use Rattle.std.proofs.Common.{◌≡◌, ◌≢◌, ℕ, ◌<◌, ◌≤◌, length, Option, Some, IsTrue, sym, ap, subst, ◌∙◌, ◌⊎◌, inl, inr, arith}
 use Rattle.std.proofs.lemmas.Bool.{cases_eq}
 use Rattle.xp_words.specs.Machine.{Machine}
-use Rattle.xp_words.specs.Places.{sizes_of, Place, Clock, Vcpu, Cell, Priv, is_place}
+use Rattle.xp_words.specs.Places.{sizes_of, Place, Clock, Vcpu, Cell, Priv, is_place, flushed_of, run_of}
 use Rattle.xp_board.specs.declared.holdings.TypedReference.{TypedReference}
 use Rattle.xp_board.specs.declared.holdings.Lock.{Lock}
 use Rattle.xp_board.specs.declared.holdings.Holdings.{Holdings}
@@ -12,7 +12,7 @@ use Rattle.xp_board.specs.Found.{ClockFound, ClockSinceAck, FlushedSinceOff, Col
 use Rattle.xp_board.specs.Sound.{Sound, WorkAgrees}
 use Rattle.found_rule.proofs.StepLists.{EachOf-both, EachOf-there}
 use Rattle.found_rule.proofs.Growth.{Grown, stayed, added}
-use Rattle.found_rule.proofs.Learning.{WordLearned, word_off, word_at, Act}
+use Rattle.found_rule.proofs.Learning.{WordLearned, word_off, word_at, Act, acted_here, acted_off}
 use Rattle.found_rule.proofs.Words.{Moves, Spares, Words}
 use Rattle.found_rule.proofs.WordFacts.{clock_law, flushed_law, stopped_law, life_law, privileges_law, since_ack_law, since_off_law, cold_off_law, EachSince-none}
 use Rattle.found_rule.proofs.KnownFacts.{RefRight, TypedRight, LockRight, KnownRight, known_each, owners_by, lives_by, partials_by}
@@ -20,6 +20,8 @@ use Rattle.found_rule.proofs.KnownStays.{owner_right, live_right, live_kept, par
 use Rattle.found_rule.proofs.Counted.{types_within, typed_ref_counted, lock_counted, ref_counted, work_busy}
 use Rattle.found_rule.proofs.HandFacts.{ReachKept, their_work, their_lock, their_claim}
 use Rattle.found_rule.proofs.SoundWords.{told_within, had, work_counted}
+use Rattle.xp_board.specs.Steps.{last_since}
+use Rattle.board_lemmas.proofs.PlaceTests.{same_or_other}
 
 -- of vCPUs that were found off
 pub record Offs (n : Machine) (m m2 : Place → ℕ) (b c : ℕ → Holdings) : Type 0 where
@@ -35,7 +37,7 @@ pub record Mine (n : Machine) (s : ℕ) (p : Place) (m m2 : Place → ℕ) (b c 
   pub locks : EachOf (LockFound (sizes_of n) m2 (c s)) (c s).locks
   pub endings : EachOf (EndingFound m2) (c s).ending
   pub claims : EachOf (ClaimFound (sizes_of n) m2 (domain_of n s) (c s)) (c s).claimed
-  pub acked : ((m2 (Vcpu s 5) ≡ m (Vcpu s 5)) × ((c s).acked ≡ (b s).acked)) ⊎ (length (c s).steps ≤ (c s).acked)
+  pub acked : ((m2 (flushed_of s) ≡ m (flushed_of s)) × ((c s).acked ≡ (b s).acked)) ⊎ (length (c s).steps ≤ (c s).acked)
 
 -- ---- references
 module _ (n : Machine) (m m2 : Place → ℕ) (b : ℕ → Holdings) (sound : Sound n m b) (k : Moves n m m2) (t : ℕ) (l : t < (sizes_of n).vcpus) (w : Holdings)
@@ -137,15 +139,14 @@ module _ (n : Machine) (s : ℕ) (p : Place) (m m2 : Place → ℕ) (b c : ℕ �
         (λ e there old. their_claim (sizes_of n) m m2 (b t) (c t) steps (domain_of n t) words.moves.clock e (spared.claimed e.frame there) (λ i. spared.claim_cells e.frame i there) old)
         (sound.found t k).claims
 
-    own : OwnFound m2 t (c t)
+    own : OwnFound (sizes_of n) m2 t (c t)
     unfolding spared
     own =
         let f = (sound.found t k).own in
         let r = spared.run in
         record {
           run = λ y q. r ∙ f.run y (sym (ap (λ v. v.run) same) ∙ q);
-          old0 = λ y o q. spared.old0 o ∙ f.old0 y (λ z. o (r ∙ z)) (sym (ap (λ v. v.old0) same) ∙ q);
-          old1 = λ y o q. spared.old1 o ∙ f.old1 y (λ z. o (r ∙ z)) (sym (ap (λ v. v.old1) same) ∙ q);
+          words = λ k y a e o q. spared.own k a e o ∙ f.words k y a e (λ z. o (r ∙ z)) (ap (last_since (sizes_of n) 0 (Vcpu t k)) (sym steps) ∙ q);
         }
 
     pub their_found : Found n m2 c t
@@ -187,10 +188,20 @@ module _ (n : Machine) (s : ℕ) (p : Place) (m m2 : Place → ℕ) (b c : ℕ �
     own_word q x y z w e (word_off off o) f r = acted.others q (λ k. off (sym k)) ∙ f (sym e ∙ sym o ∙ r)
     own_word q x y z w e (word_at at o) f r = (let k : Some (m2 p) ≡ Some w = sym o ∙ r in let v : m2 p ≡ w = cc in rw (← at) v)
 
-    my_acks : ((m2 (Vcpu s 5) ≡ m (Vcpu s 5)) × ((c s).acked ≡ (b s).acked)) ⊎ (length (c s).steps ≤ (c s).acked) → ClockSinceAck (sizes_of n) m2 s (c s)
+    -- a word that is what was last found or left there, before the act
+    left_there : (q : Place) (w : ℕ) → (last_since (sizes_of n) 0 q (b s).steps ≡ Some w → m q ≡ w) → last_since (sizes_of n) 0 q (c s).steps ≡ Some w → (q ≡ p) ⊎ (q ≢ p) → m2 q ≡ w
+    unfolding acted
+    left_there q w f r (inl at) =
+        let here = acted_here n s p m m2 (b s) u (c s) acted 0 (omega arith) in
+        let k : Some (m2 p) ≡ Some w = sym here ∙ ap (λ v. last_since (sizes_of n) 0 v (c s).steps) (sym at) ∙ r in
+        let v : m2 p ≡ w = cc in
+        ap m2 at ∙ v
+    left_there q w f r (inr off) = acted.others q off ∙ f (sym (acted_off n s p m m2 (b s) u (c s) acted 0 q (omega arith) (λ e. off (sym e))) ∙ r)
+
+    my_acks : ((m2 (flushed_of s) ≡ m (flushed_of s)) × ((c s).acked ≡ (b s).acked)) ⊎ (length (c s).steps ≤ (c s).acked) → ClockSinceAck (sizes_of n) m2 s (c s)
     unfolding more acted
     my_acks (inl same) = since_ack_law n m m2 words.moves told_was (b s) (c s) more s (sound.stamped.flushed s) same.0 same.1 (sound.found s l).since_ack
-    my_acks (inr now) = EachSince-none (sizes_of n) (c s).acked Clock (λ w. m2 (Vcpu s 5) ≤ w) (c s).steps now
+    my_acks (inr now) = EachSince-none (sizes_of n) (c s).acked Clock (λ w. m2 (flushed_of s) ≤ w) (c s).steps now
 
     pub my_found : Found n m2 c s
     unfolding more acted
@@ -215,9 +226,8 @@ module _ (n : Machine) (s : ℕ) (p : Place) (m m2 : Place → ℕ) (b c : ℕ �
           claims = mine.claims;
           privileges = privileges_law n m m2 j told_was a (c s) more priv_was f.privileges;
           own = record {
-            run = λ y q. own_word (Vcpu s 6) a.run u.run (c s).run y acted.run acted.learned.run (λ o. f.own.run y o) q;
-            old0 = λ y r q. own_word (Vcpu s 2) a.old0 u.old0 (c s).old0 y acted.old0 acted.learned.old0 (λ o. f.own.old0 y (λ k. r (words.moves.stopped s k)) o) q;
-            old1 = λ y r q. own_word (Vcpu s 3) a.old1 u.old1 (c s).old1 y acted.old1 acted.learned.old1 (λ o. f.own.old1 y (λ k. r (words.moves.stopped s k)) o) q;
+            run = λ y q. own_word (run_of s) a.run u.run (c s).run y acted.run acted.learned.run (λ o. f.own.run y o) q;
+            words = λ k y o e r q. left_there (Vcpu s k) y (λ t. f.own.words k y o e (λ h. r (words.moves.stopped s h)) t) q (same_or_other (Vcpu s k) p);
           };
         }
 

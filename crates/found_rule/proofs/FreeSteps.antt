@@ -7,7 +7,7 @@ use Rattle.xp_words.specs.declared.refs.RefWord.TheVariants.{Free, Dying}
 use Rattle.xp_words.specs.RefWords.{ref_read, ref_write}
 use Rattle.xp_words.proofs.RefLaws.{ref_write-read}
 use Rattle.xp_words.specs.Machine.{Machine}
-use Rattle.xp_words.specs.Places.{sizes_of, Place, Clock, Vcpu, Refs, Kind, Cell}
+use Rattle.xp_words.specs.Places.{sizes_of, Place, Clock, Refs, Kind, Cell, flushed_of, run_of}
 use Rattle.xp_board.specs.declared.step.Step.{Step}
 use Rattle.xp_board.specs.declared.holdings.Ending.{Ending}
 use Rattle.xp_board.specs.declared.holdings.Claimed.{Claimed}
@@ -18,7 +18,7 @@ use Rattle.xp_board.specs.Hands.{endings_of, claims_of, ending_of, claim_of}
 use Rattle.xp_board.specs.RefSteps.{claimed_frame, freed, given, IsFreeStamp}
 use Rattle.xp_board.specs.Found.{EndingFound, ClaimFound, LockFound, WorkFound}
 use Rattle.xp_board.specs.Sound.{Sound}
-use Rattle.xp_board.proofs.ActEffects.{Took, Freed, Gave}
+use Rattle.step_effects.proofs.ActEffects.{Took, Freed, Gave}
 use Rattle.found_rule.proofs.StepLists.{EachOf-map, EachOf-more, EachOf-without, EachOf-there, EachOf-others, first_by-each, first_by-some, times_by-without, times_by-off}
 use Rattle.found_rule.proofs.Learning.{Act, act}
 use Rattle.found_rule.proofs.Words.{Words}
@@ -122,7 +122,7 @@ module _ (n : Machine) (s : ℕ) (x : Step) (m m2 : Place → ℕ) (b c : ℕ �
           locks = subst (λ xs. EachOf (LockFound z m2 (c s)) xs) (sym locks) (locks_old n s (Refs f) m m2 b c u acted l sound left_words reach);
           endings = endings;
           claims = claims;
-          acked = inl (acted.others (Vcpu s 5) (λ e. cc), acks);
+          acked = inl (acted.others (flushed_of s) (λ e. cc), acks);
         }
 
     left_endings : ReachKept n m m2 b c → EachOf (EndingFound m2) (without_by (λ e. e.frame) f (b s).ending)
@@ -141,8 +141,8 @@ module _ (n : Machine) (s : ℕ) (x : Step) (m m2 : Place → ℕ) (b c : ℕ �
     left_outcome : u.cache ≡ (b s).cache → u.walk ≡ (b s).walk → u.cold ≡ (b s).cold → u.ran ≡ (b s).ran → (ReachKept n m m2 b c → HandRight n s m m2 b c u) → Outcome n s m m2 b c
     unfolding left_words
     left_outcome cache walk cold ran hand =
-        outcome_by n s (Refs f) m m2 b c u acted others cache walk cold ran (λ g i. acted.others (Cell g i) (λ e. cc)) (λ v. acted.others (Vcpu v 5) (λ e. cc))
-        (λ v. acted.others (Vcpu v 6) (λ e. cc)) left_words hand
+        outcome_by n s (Refs f) m m2 b c u acted others cache walk cold ran (λ g i. acted.others (Cell g i) (λ e. cc)) (λ v. acted.others (flushed_of v) (λ e. cc))
+        (λ v. acted.others (run_of v) (λ e. cc)) left_words hand
 
     -- of endings and claims that went without a raised frame
     left_ending_formed : EachOf (λ e. e.since ≤ suc (length (b s).steps)) (without_by (λ e. e.frame) f (b s).ending)

@@ -18,7 +18,7 @@ use Rattle.xp_board.specs.After.{is_fixed}
 use Rattle.xp_board.specs.Reach.{Table, Writes, use_of, Reach, cached}
 use Rattle.xp_board.specs.Found.{WorkFound}
 use Rattle.xp_board.specs.Sound.{Sound}
-use Rattle.xp_board.proofs.ActEffects.{GuestStored}
+use Rattle.step_effects.proofs.ActEffects.{GuestStored}
 use Rattle.found_rule.proofs.StepLists.{EachOf-map, EachOf-both}
 use Rattle.found_rule.proofs.Learning.{Act, act}
 use Rattle.found_rule.proofs.WordsOf.{CellSpared}

@@ -12,7 +12,7 @@ use Rattle.xp_board.specs.Hands.{endings_of, claims_of}
 use Rattle.xp_board.specs.HintSteps.{MayHint, MayUnhint, is_raise, is_lower, map_bit, held_frames, lowered_frame, raised_frame, raised_by}
 use Rattle.xp_board.specs.WellFormed.{IsRaisedFormed}
 use Rattle.xp_board.specs.Sound.{Sound}
-use Rattle.xp_board.proofs.ActEffects.{Hinted}
+use Rattle.step_effects.proofs.ActEffects.{Hinted}
 use Rattle.found_rule.proofs.StepLists.{times_by-less, first_of-passes, first_of-none}
 use Rattle.found_rule.proofs.Learning.{act}
 use Rattle.found_rule.proofs.QuietSteps.{unread_raised}

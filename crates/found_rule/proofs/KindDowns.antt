@@ -16,8 +16,8 @@ use Rattle.xp_board.specs.KindSteps.{dropped, unlocked, closing_works, new_work}
 use Rattle.xp_board.specs.Found.{WorkFound, LockFound}
 use Rattle.xp_board.specs.WellFormed.{IsWorkFormed, IsLockFormed}
 use Rattle.xp_board.specs.Sound.{Sound, is_busy}
-use Rattle.xp_board.proofs.ActEffects.{Dropped, Unlocked}
-use Rattle.xp_board.proofs.KindForms.{fields_down, fields_unlocked}
+use Rattle.step_effects.proofs.ActEffects.{Dropped, Unlocked}
+use Rattle.board_lemmas.proofs.KindForms.{fields_down, fields_unlocked}
 use Rattle.found_rule.proofs.StepLists.{EachOf-more, EachOf-without}
 use Rattle.found_rule.proofs.Learning.{Act, act}
 use Rattle.found_rule.proofs.Words.{Words}

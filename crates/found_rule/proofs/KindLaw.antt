@@ -4,7 +4,7 @@ use Rattle.std.proofs.lemmas.Bool.{and_from, or_left}
 use Rattle.std.proofs.lemmas.Bool.Decides.{nat_tests}
 use Rattle.xp_words.specs.PageTypes.{is_table}
 use Rattle.xp_words.specs.Machine.{Machine}
-use Rattle.xp_words.specs.Places.{Sizes, sizes_of, Place, Vcpu, Refs, Kind, Cell, Priv, place_at}
+use Rattle.xp_words.specs.Places.{Sizes, sizes_of, Place, Refs, Kind, Cell, Priv, place_at, flushed_of, run_of}
 use Rattle.xp_board.specs.declared.holdings.Made.{Made}
 use Rattle.xp_board.specs.declared.holdings.Unsettled.{Unsettled}
 use Rattle.xp_board.specs.declared.holdings.Reference.{Reference}
@@ -96,7 +96,7 @@ module _ (n : Machine) (s : ℕ) (m m2 : Place → ℕ) (b c : ℕ → Holdings)
       let g = sound.formed s l in
       let same = stay_by acted.learned.cells in
       record {
-        found = outcome_by n s p m m2 b c u acted others rest.cache rest.walk rest.cold rest.ran cells (λ v. acted.others (Vcpu v 5) (λ e. cc)) (λ v. acted.others (Vcpu v 6) (λ e. cc)) words
+        found = outcome_by n s p m m2 b c u acted others rest.cache rest.walk rest.cold rest.ran cells (λ v. acted.others (flushed_of v) (λ e. cc)) (λ v. acted.others (run_of v) (λ e. cc)) words
             (λ reach.
             let h = hand reach in
             record {
@@ -111,7 +111,7 @@ module _ (n : Machine) (s : ℕ) (m m2 : Place → ℕ) (b c : ℕ → Holdings)
               claims = subst (λ xs. EachOf (ClaimFound z m2 (domain_of n s) (c s)) xs) (sym rest.claimed)
                   (EachOf-map (λ e. m2 (Refs e.frame) ≡ m (Refs e.frame) → ClaimFound z m2 (domain_of n s) (c s) e) (ClaimFound z m2 (domain_of n s) (c s)) (b s).claimed
                   (λ e k. k (acted.others (Refs e.frame) (λ q. cc))) (claims_old n s p m m2 b c u acted l sound words reach (zero_kept n s p m m2 b c u acted l sound cells)));
-              acked = inl (acted.others (Vcpu s 5) (λ e. cc), rest.acked);
+              acked = inl (acted.others (flushed_of s) (λ e. cc), rest.acked);
             });
         formed = formed_with n s p m m2 b c u acted l sound rest.turn rest.acked rest.ran rest.cache rest.walk (rw (rest.ending) (ending_formed_old n s p m m2 (b s) u (c s) acted g))
             (rw (rest.claimed) (claimed_formed_old n s p m m2 (b s) u (c s) acted g)) (record { held = λ y. rw (rest.raised, rest.ending, rest.claimed) (g.raised.held y) }) looking

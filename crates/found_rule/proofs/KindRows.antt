@@ -18,8 +18,8 @@ use Rattle.xp_board.specs.After.{noted}
 use Rattle.xp_board.specs.Found.{WorkFound, LockFound}
 use Rattle.xp_board.specs.WellFormed.{IsWorkFormed, IsLockFormed, IsLookingFormed}
 use Rattle.xp_board.specs.Sound.{Sound, is_busy}
-use Rattle.xp_board.proofs.ActEffects.{Turned}
-use Rattle.xp_board.proofs.KindForms.{live_form}
+use Rattle.step_effects.proofs.ActEffects.{Turned}
+use Rattle.board_lemmas.proofs.KindForms.{live_form}
 use Rattle.found_rule.proofs.StepLists.{EachOf-more, EachOf-without, EachOf-kept}
 use Rattle.found_rule.proofs.Learning.{Act, act}
 use Rattle.found_rule.proofs.Words.{Words}

@@ -18,8 +18,8 @@ use Rattle.xp_board.specs.KindSteps.{KindRow, Count, Locks, Pin, Unpin, Resume, 
 use Rattle.xp_board.specs.Found.{WorkFound, LockFound}
 use Rattle.xp_board.specs.WellFormed.{LastIs, IsWorkFormed, IsLockFormed}
 use Rattle.xp_board.specs.Sound.{Sound, is_busy}
-use Rattle.xp_board.proofs.ActEffects.{Turned}
-use Rattle.xp_board.proofs.KindForms.{partial_form}
+use Rattle.step_effects.proofs.ActEffects.{Turned}
+use Rattle.board_lemmas.proofs.KindForms.{partial_form}
 use Rattle.found_rule.proofs.StepLists.{EachOf-more, EachOf-without}
 use Rattle.found_rule.proofs.Learning.{Act}
 use Rattle.found_rule.proofs.Words.{Words}

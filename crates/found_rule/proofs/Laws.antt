@@ -11,11 +11,11 @@ use Rattle.xp_board.specs.Keeping.{MayMark, KeepsAct, KeepsMark}
 use Rattle.xp_board.specs.Found.{Found}
 use Rattle.xp_board.specs.WellFormed.{IsWorkFormed, WellFormed}
 use Rattle.xp_board.specs.Sound.{Sound}
-use Rattle.xp_board.proofs.MarkEffects.{MarkEffect, mark_effect}
-use Rattle.xp_board.proofs.MarkEffects as marks
-use Rattle.xp_board.proofs.ActEffects.{ActEffect}
-use Rattle.xp_board.proofs.ActEffects as effects
-use Rattle.xp_board.proofs.ActInversions.{act_effect}
+use Rattle.step_effects.proofs.MarkEffects.{MarkEffect, mark_effect}
+use Rattle.step_effects.proofs.MarkEffects as marks
+use Rattle.step_effects.proofs.ActEffects.{ActEffect}
+use Rattle.step_effects.proofs.ActEffects as effects
+use Rattle.step_effects.proofs.ActInversions.{act_effect}
 use Rattle.found_rule.proofs.StepLists.{EachOf-map}
 use Rattle.found_rule.proofs.CellFacts.{FixedWorks}
 use Rattle.found_rule.proofs.GuestSteps as guests
@@ -72,7 +72,7 @@ module _ (n : Machine) (s : ℕ) (x : Step) (m m2 : Place → ℕ) (b c : ℕ �
   act_by (effects.charged e d) = quiet.charged_done n s x m m2 b c l sound others e d
   act_by (effects.refunded e by d) = quiet.refunded_done n s x m m2 b c l sound others e by d
   act_by (effects.named_frame v k d) = names.named_done n s x m m2 b c l sound others v k d
-  act_by (effects.based v d) = quiet.based_done n s x m m2 b c l sound others v d
+  act_by (effects.based v d) = names.based_done n s x m m2 b c l sound others v d
   act_by (effects.asked v d) = quiet.asked_done n s x m m2 b c l sound others v d
   act_by (effects.flushed d) = flushes.flushed_done n s x m m2 b c l sound others d
   act_by (effects.ran d) = runs.ran_step n s x m m2 b c l sound others d

@@ -1,8 +1,8 @@
 -- What a seat learns of the word that its step leaves: `u` is the hand that the act left, `w` the hand with what was learned.
-use Rattle.std.proofs.Common.{◌≡◌, ◌≢◌, ℕ, ◌==◌, not, if◌then◌else◌, Bool, true, false, List, ◌∷◌, Option, Some, IsTrue, refl, sym, ap, subst, ◌∙◌, arith}
+use Rattle.std.proofs.Common.{◌≡◌, ◌≢◌, ℕ, ◌≤◌, ◌==◌, length, not, if◌then◌else◌, Bool, true, false, List, ◌∷◌, Option, Some, IsTrue, refl, sym, ap, subst, ◌∙◌, arith}
 use Rattle.std.proofs.lemmas.Bool.{eqb-true, eqb-false}
 use Rattle.xp_words.specs.Machine.{Machine}
-use Rattle.xp_words.specs.Places.{sizes_of, Place, Clock, Pages, Life, Vcpu, Refs, Kind, M2p, Cell, Map, Priv, is_place}
+use Rattle.xp_words.specs.Places.{sizes_of, Place, Clock, Pages, Life, Vcpu, Refs, Kind, M2p, Cell, Map, Priv, is_place, run_of, old0_of, old1_of}
 use Rattle.xp_board.specs.declared.step.Step.{Step}
 use Rattle.xp_board.specs.declared.holdings.Made.{Made}
 use Rattle.xp_board.specs.declared.holdings.Looking.{Looking}
@@ -14,6 +14,8 @@ use Rattle.xp_board.specs.After.{noted, learned, learned_own, learned_work, lear
 use Rattle.xp_board.specs.Runs.{place_of}
 use Rattle.found_rule.proofs.StepLists.{EachOf-kept}
 use Rattle.found_rule.proofs.Growth.{Added}
+use Rattle.found_rule.proofs.MoreSteps.{last_since-here, last_since-elsewhere}
+use Rattle.xp_board.specs.Steps.{last_since}
 
 -- of a cell
 pub data CellsLearned (p : Place) (left : ℕ) (u w : Holdings) : Type 0 where
@@ -36,9 +38,9 @@ looking_each xs ys P (looking_went test e) h = rw e (EachOf-kept P test xs h)
 
 pub record Learned (s : ℕ) (p : Place) (left : ℕ) (u w : Holdings) : Type 0 where
   pub cells : CellsLearned p left u w
-  pub run : WordLearned p (Vcpu s 6) left u.run w.run
-  pub old0 : WordLearned p (Vcpu s 2) left u.old0 w.old0
-  pub old1 : WordLearned p (Vcpu s 3) left u.old1 w.old1
+  pub run : WordLearned p (run_of s) left u.run w.run
+  pub old0 : WordLearned p (old0_of s) left u.old0 w.old0
+  pub old1 : WordLearned p (old1_of s) left u.old1 w.old1
   pub looking : LookingMoved u.looking w.looking
   pub refs : w.refs ≡ u.refs
   pub typed : w.typed ≡ u.typed
@@ -53,7 +55,7 @@ pub record Learned (s : ℕ) (p : Place) (left : ℕ) (u w : Holdings) : Type 0 
 
 module _ (s : ℕ) (u w : Holdings) (p : Place) (left : ℕ) (refs : w.refs ≡ u.refs) (typed : w.typed ≡ u.typed) (ending : w.ending ≡ u.ending) (raised : w.raised ≡ u.raised)
     (cache : w.cache ≡ u.cache) (walk : w.walk ≡ u.walk) (cold : w.cold ≡ u.cold) (turn : w.turn ≡ u.turn) (acked : w.acked ≡ u.acked) (ran : w.ran ≡ u.ran) where
-  some_learned : CellsLearned p left u w → WordLearned p (Vcpu s 6) left u.run w.run → WordLearned p (Vcpu s 2) left u.old0 w.old0 → WordLearned p (Vcpu s 3) left u.old1 w.old1 →
+  some_learned : CellsLearned p left u w → WordLearned p (run_of s) left u.run w.run → WordLearned p (old0_of s) left u.old0 w.old0 → WordLearned p (old1_of s) left u.old1 w.old1 →
       LookingMoved u.looking w.looking → Learned s p left u w
   some_learned cells run old0 old1 looking =
       record {
@@ -178,3 +180,11 @@ act n s x p m m2 b u w place real left others steps run old0 old1 hand =
       old0 = old0;
       old1 = old1;
     }
+
+-- what it left is what was last found or left there; of other places that is as before
+module _ (n : Machine) (s : ℕ) (p : Place) (m m2 : Place → ℕ) (b u w : Holdings) (acted : Act n s p m m2 b u w) where
+  pub acted_here : (k : ℕ) → k ≤ length b.steps → last_since (sizes_of n) k p w.steps ≡ Some (m2 p)
+  acted_here k l = ap (last_since (sizes_of n) k p) acted.steps ∙ last_since-here (sizes_of n) k p acted.made b.steps l acted.added.place ∙ ap Some acted.added.left
+
+  pub acted_off : (k : ℕ) (q : Place) → k ≤ length b.steps → p ≢ q → last_since (sizes_of n) k q w.steps ≡ last_since (sizes_of n) k q b.steps
+  acted_off k q l o = ap (last_since (sizes_of n) k q) acted.steps ∙ last_since-elsewhere (sizes_of n) k q acted.made b.steps l (λ y. o (sym acted.added.place ∙ y))

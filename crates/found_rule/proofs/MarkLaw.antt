@@ -83,7 +83,7 @@ module _ (n : Machine) (s : ℕ) (m : Place → ℕ) (h b : ℕ → Holdings) (l
           claims = subst (λ xs. EachOf (ClaimFound (sizes_of n) m (domain_of n s) (b s)) xs) (sym kept.claimed) (EachOf-map (ClaimFound (sizes_of n) m (domain_of n s) (h s)) (ClaimFound (sizes_of n) m (domain_of n s) (b s)) (h s).claimed
               (λ y w. record { word = w.word; stamp = w.stamp; cells = rw e w.cells; scrubbed = w.scrubbed }) f.claims);
           privileges = rw e f.privileges;
-          own = record { run = rw (kept.run) f.own.run; old0 = rw (kept.old0) f.own.old0; old1 = rw (kept.old1) f.own.old1 };
+          own = record { run = rw (kept.run) f.own.run; words = rw e f.own.words };
         }
 
     pub marked_found : (t : ℕ) → t < (sizes_of n).vcpus → Found n m b t

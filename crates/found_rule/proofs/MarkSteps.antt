@@ -11,7 +11,7 @@ use Rattle.xp_board.specs.Reach.{Use, Reach, cached, walked, entry, reached_by}
 use Rattle.xp_board.specs.Found.{WorkFound, Found}
 use Rattle.xp_board.specs.WellFormed.{IsCacheFormed, WellFormed}
 use Rattle.xp_board.specs.Sound.{Sound}
-use Rattle.xp_board.proofs.MarkEffects.{Forgot}
+use Rattle.step_effects.proofs.MarkEffects.{Forgot}
 use Rattle.found_rule.proofs.StepLists.{EachOf-there}
 use Rattle.found_rule.proofs.KnownFacts.{KnownRight, known_each}
 use Rattle.found_rule.proofs.Counted.{work_busy}

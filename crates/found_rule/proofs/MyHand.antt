@@ -4,7 +4,7 @@ use Rattle.std.proofs.lemmas.Bool.{cases_lt, eqb-true, and_parts}
 use Rattle.xp_words.specs.declared.kind.PageType.TheVariants as kinds
 use Rattle.xp_words.specs.KindWords.{kind_fields}
 use Rattle.xp_words.specs.Machine.{Machine}
-use Rattle.xp_words.specs.Places.{Sizes, sizes_of, Place, Vcpu, Refs, Kind, Cell}
+use Rattle.xp_words.specs.Places.{Sizes, sizes_of, Place, Refs, Kind, Cell, flushed_of}
 use Rattle.xp_board.specs.declared.holdings.Work.{Work}
 use Rattle.xp_board.specs.declared.holdings.Claimed.{Claimed}
 use Rattle.xp_board.specs.declared.holdings.Holdings.{Holdings}
@@ -81,7 +81,7 @@ pub record HandRight (n : Machine) (s : ℕ) (m m2 : Place → ℕ) (b c : ℕ �
   pub locks : EachOf (LockFound (sizes_of n) m2 (c s)) u.locks
   pub endings : EachOf (EndingFound m2) u.ending
   pub claims : EachOf (ClaimFound (sizes_of n) m2 (domain_of n s) (c s)) u.claimed
-  pub acked : ((m2 (Vcpu s 5) ≡ m (Vcpu s 5)) × (u.acked ≡ (b s).acked)) ⊎ (suc (length (b s).steps) ≤ u.acked)
+  pub acked : ((m2 (flushed_of s) ≡ m (flushed_of s)) × (u.acked ≡ (b s).acked)) ⊎ (suc (length (b s).steps) ≤ u.acked)
 
 module _ (n : Machine) (s : ℕ) (p : Place) (m m2 : Place → ℕ) (b c : ℕ → Holdings) (u : Holdings) (acted : Act n s p m m2 (b s) u (c s)) where
   works_by : CellsLearned p (m2 p) u (c s) → EachOf (WorkFound n m2 c (c s)) u.works → EachOf (WorkFound n m2 c (c s)) (c s).works
@@ -111,8 +111,8 @@ module _ (n : Machine) (s : ℕ) (p : Place) (m m2 : Place → ℕ) (b c : ℕ �
       (EachOf-changes (ClaimFound (sizes_of n) m2 (domain_of n s) (c s)) (ClaimFound (sizes_of n) m2 (domain_of n s) (c s)) (λ e. e.frame) f (learned_claim i (m2 p)) u.claimed
       (λ e is h. subst (λ q. ClaimFound (sizes_of n) m2 (domain_of n s) (c s) (learned_claim i (m2 q) e)) (sym at) (learned_claim_law (sizes_of n) m2 (domain_of n s) (c s) f i e is h)) (λ e h. h) t)
 
-  acks_by : ((m2 (Vcpu s 5) ≡ m (Vcpu s 5)) × (u.acked ≡ (b s).acked)) ⊎ (suc (length (b s).steps) ≤ u.acked) →
-      ((m2 (Vcpu s 5) ≡ m (Vcpu s 5)) × ((c s).acked ≡ (b s).acked)) ⊎ (length (c s).steps ≤ (c s).acked)
+  acks_by : ((m2 (flushed_of s) ≡ m (flushed_of s)) × (u.acked ≡ (b s).acked)) ⊎ (suc (length (b s).steps) ≤ u.acked) →
+      ((m2 (flushed_of s) ≡ m (flushed_of s)) × ((c s).acked ≡ (b s).acked)) ⊎ (length (c s).steps ≤ (c s).acked)
   acks_by (inl same) = inl (same.0, acted.learned.acked ∙ same.1)
   acks_by (inr now) = inr (let a = acted.learned.acked in let k : length (c s).steps ≡ suc (length (b s).steps) = ap length acted.steps in omega arith)
 
@@ -181,7 +181,7 @@ module _ (n : Machine) (s : ℕ) (p : Place) (m m2 : Place → ℕ) (b c : ℕ �
     -- where the act moves nothing
     pub hand_old : ((f : ℕ) → 0 < works_on f (b s).works → m2 (Kind f) ≡ m (Kind f)) → ((f : ℕ) → 0 < endings_of f (b s).ending + claims_of f (b s).claimed → m2 (Refs f) ≡ m (Refs f)) →
         EachOf (λ e. (i : ℕ) → p ≡ Cell e.frame i → i < e.fixed → IsTrue (is_fixed (m2 p))) (b s).works → EachOf (λ e. (i : ℕ) → p ≡ Cell e.frame i → i < e.scrubbed → m2 p ≡ 0) (b s).claimed →
-        m2 (Vcpu s 5) ≡ m (Vcpu s 5) → HandRight n s m m2 b c (b s)
+        m2 (flushed_of s) ≡ m (flushed_of s) → HandRight n s m m2 b c (b s)
     hand_old kinds words fix zero flushed =
         record {
           refs = refs_old;
@@ -201,7 +201,7 @@ module _ (n : Machine) (s : ℕ) (p : Place) (m m2 : Place → ℕ) (b c : ℕ �
     pub hand_with : u.refs ≡ (b s).refs → u.typed ≡ (b s).typed → u.works ≡ (b s).works → u.locks ≡ (b s).locks → u.ending ≡ (b s).ending → u.claimed ≡ (b s).claimed →
         ((f : ℕ) → m2 (Kind f) ≡ m (Kind f)) → ((f : ℕ) → m2 (Refs f) ≡ m (Refs f)) →
         EachOf (λ e. (i : ℕ) → p ≡ Cell e.frame i → i < e.fixed → IsTrue (is_fixed (m2 p))) (b s).works → EachOf (λ e. (i : ℕ) → p ≡ Cell e.frame i → i < e.scrubbed → m2 p ≡ 0) (b s).claimed →
-        ((m2 (Vcpu s 5) ≡ m (Vcpu s 5)) × (u.acked ≡ (b s).acked)) ⊎ (suc (length (b s).steps) ≤ u.acked) → HandRight n s m m2 b c u
+        ((m2 (flushed_of s) ≡ m (flushed_of s)) × (u.acked ≡ (b s).acked)) ⊎ (suc (length (b s).steps) ≤ u.acked) → HandRight n s m m2 b c u
     hand_with refs typed works locks ending claimed kinds words fix zero acks =
         let z = sizes_of n in
         record {

@@ -1,10 +1,10 @@
 -- A word of a vCPU that may name a frame.
-use Rattle.std.proofs.Common.{◌≡◌, ◌≢◌, ℕ, zero, suc, ◌+◌, ◌<◌, ◌≤◌, ◌==◌, nat_lt, Bool, true, false, List, length, Option, Some, None, IsTrue, refl, sym, ap, subst, ◌∙◌, ◌⊎◌, inl, inr, arith}
+use Rattle.std.proofs.Common.{◌≡◌, ◌≢◌, ℕ, zero, suc, ◌+◌, ◌<◌, ◌≤◌, ◌==◌, nat_lt, false, List, length, Option, Some, None, IsTrue, refl, sym, ap, subst, ◌∙◌, ◌⊎◌, inl, inr, arith}
 use Rattle.std.proofs.lemmas.Bool.{cases_eq, cases_Bool, eqb-true}
 use Rattle.std.proofs.lemmas.Bool.Decides.{nat_tests}
 use Rattle.xp_words.specs.Machine.{Machine}
 use Rattle.xp_words.specs.KindWords.{kind_fields}
-use Rattle.xp_words.specs.Places.{sizes_of, is_place, Sizes, Place, Vcpu, Refs, Kind, Cell}
+use Rattle.xp_words.specs.Places.{sizes_of, is_place, Sizes, Place, Vcpu, Refs, Kind, Cell, run_of, flushed_of, ldt_base_of}
 use Rattle.xp_board.specs.declared.step.Step.{Step}
 use Rattle.xp_board.specs.declared.holdings.TypedReference.{TypedReference}
 use Rattle.xp_board.specs.declared.holdings.Holdings.{Holdings}
@@ -16,7 +16,7 @@ use Rattle.xp_board.specs.declared.holdings.Made.{Made}
 use Rattle.xp_board.specs.Valid.{is_live_context}
 use Rattle.xp_board.specs.ContextSteps.{MayName, MayEmpty, context_type, named_in, named_out}
 use Rattle.xp_board.specs.Sound.{Sound}
-use Rattle.xp_board.proofs.ActEffects.{Named}
+use Rattle.step_effects.proofs.ActEffects.{Named, Based}
 use Rattle.found_rule.proofs.StepLists.{EachOf-more, EachOf-without}
 use Rattle.found_rule.proofs.MoreSteps.{EachSince-some}
 use Rattle.found_rule.proofs.Growth.{Grown, added}
@@ -29,7 +29,9 @@ use Rattle.found_rule.proofs.WalkRows.{has_type}
 use Rattle.found_rule.proofs.Demands.{RefsMoved, same_rest, then_moved}
 use Rattle.found_rule.proofs.MyHand.{refs_old, typed_old}
 use Rattle.found_rule.proofs.Outcome.{reach_kept}
-use Rattle.found_rule.proofs.Quiet.{Done, fix_kept, zero_kept}
+use Rattle.found_rule.proofs.Quiet.{Done, fix_kept, zero_kept, same_hand, done_same}
+use Rattle.found_rule.proofs.QuietSteps.{if_same}
+use Rattle.xp_board.specs.After.{noted}
 use Rattle.found_rule.proofs.RestLaw.{rest_done}
 
 moved_named_out : (w : ℕ) (a : Holdings) → RefsMoved a (named_out w a)
@@ -78,20 +80,35 @@ not_flush k t = ((λ e. grind (arith, nat_tests)), (λ e. grind (arith, nat_test
 
 module _ (n : Machine) (s : ℕ) (x : Step) (m m2 : Place → ℕ) (b c : ℕ → Holdings) (l : s < (sizes_of n).vcpus) (sound : Sound n m b) (others : (t : ℕ) → t ≢ s → c t ≡ b t) (v k : ℕ) where
   -- of another seat's vCPU only where it is stopped
-  old_kept : MayName n s v k (m2 (Vcpu v k)) (b s) ⊎ MayEmpty n s v k (m2 (Vcpu v k)) (b s) → k ≢ 6 → ((q : Place) → q ≢ Vcpu v k → m2 q ≡ m q) → (t j : ℕ) → t ≢ s → m2 (Vcpu t 6) ≢ 1 →
-      m2 (Vcpu t j) ≡ m (Vcpu t j)
-  old_kept may off o t j d run =
+  other_kept : (v ≡ s) ⊎ MayEmpty n s v k (m2 (Vcpu v k)) (b s) → k ≢ 6 → ((q : Place) → q ≢ Vcpu v k → m2 q ≡ m q) → (t j : ℕ) → t ≢ s → m2 (run_of t) ≢ 1 → m2 (Vcpu t j) ≡ m (Vcpu t j)
+  other_kept may off o t j d run =
       elim (cases_eq t v) [
         | inr away ↦ o (Vcpu t j) (λ e. away (cc))
         | inl at ↦
             elim may [
-              | inl own ↦ absurd (d (at ∙ own.own))
+              | inl own ↦ absurd (d (at ∙ own))
               | inr empty ↦
-                  (let one = EachSince-some (sizes_of n) 0 (Vcpu v 6) (λ w. w ≡ 1 → m (Vcpu v 6) ≡ 1) (λ w. w == 1) (b s).steps ((sound.found s l).stopped v) empty.stopped in
-                  let was : m (Vcpu v 6) ≡ 1 = one.1 (eqb-true one.0 1 one.2) in
-                  absurd (run (ap (λ y. m2 (Vcpu y 6)) at ∙ o (Vcpu v 6) (λ e. off (cc)) ∙ was)))
+                  (let one = EachSince-some (sizes_of n) 0 (run_of v) (λ w. w ≡ 1 → m (run_of v) ≡ 1) (λ w. w == 1) (b s).steps ((sound.found s l).stopped v) empty.stopped in
+                  let was : m (run_of v) ≡ 1 = one.1 (eqb-true one.0 1 one.2) in
+                  absurd (run (ap (λ y. m2 (run_of y)) at ∙ o (run_of v) (λ e. off (cc)) ∙ was)))
             ]
       ]
+
+  whose : MayName n s v k (m2 (Vcpu v k)) (b s) ⊎ MayEmpty n s v k (m2 (Vcpu v k)) (b s) → (v ≡ s) ⊎ MayEmpty n s v k (m2 (Vcpu v k)) (b s)
+  whose (inl name) = inl name.own
+  whose (inr empty) = inr empty
+
+  -- words where the act wrote no word of flushes or of run
+  vcpu_words : (v ≡ s) ⊎ MayEmpty n s v k (m2 (Vcpu v k)) (b s) → k ≢ 5 → k ≢ 6 → ((q : Place) → q ≢ Vcpu v k → m2 q ≡ m q) → Words n s m m2 b
+  unfolding told_value
+  vcpu_words may flush run o =
+      let flushed : (t : ℕ) → m2 (flushed_of t) ≡ m (flushed_of t) = λ t. o (flushed_of t) (λ e. flush (cc)) in
+      let runs : (t : ℕ) → m2 (run_of t) ≡ m (run_of t) = λ t. o (run_of t) (λ e. run (cc)) in
+      let test : (k == 5) ≡ false = grind (arith, nat_tests) in
+      words_lone n s m m2 b sound (Vcpu v k) o (λ g e. cc) (λ g e. cc) (λ g i e. cc)
+      (lone_vcpu n s m m2 b sound (Vcpu v k) o v k refl (λ t. let e = flushed t in omega arith) (λ t h. runs t ∙ h) (λ t q. flushed t) (λ t q. runs t)
+      (λ t q j a e r. other_kept may run o t j q r))
+      (rw test (omega arith))
 
   place_named : Named n s x v k m m2 (b s) (c s) → (v < (sizes_of n).vcpus) × (k < 38)
   unfolding is_place
@@ -119,14 +136,10 @@ module _ (n : Machine) (s : ℕ) (x : Step) (m m2 : Place → ℕ) (b c : ℕ �
       let acted = act n s x p m m2 (b s) u (c s) w.place w.real w.left w.others moved.steps moved.run moved.old0 moved.old1 d.hand in
       let o = w.others in
       let far = not_flush k d.word in
-      let flushed : (t : ℕ) → m2 (Vcpu t 5) ≡ m (Vcpu t 5) = λ t. o (Vcpu t 5) (λ e. far.0 (cc)) in
-      let run : (t : ℕ) → m2 (Vcpu t 6) ≡ m (Vcpu t 6) = λ t. o (Vcpu t 6) (λ e. far.1 (cc)) in
+      let flushed : (t : ℕ) → m2 (flushed_of t) ≡ m (flushed_of t) = λ t. o (flushed_of t) (λ e. far.0 (cc)) in
+      let run : (t : ℕ) → m2 (run_of t) ≡ m (run_of t) = λ t. o (run_of t) (λ e. far.1 (cc)) in
       let cells : (f i : ℕ) → m2 (Cell f i) ≡ m (Cell f i) = λ f i. o (Cell f i) (λ e. cc) in
-      let test : (k == 5) ≡ false = (let q = far.0 in grind (arith, nat_tests)) in
-      let words : Words n s m m2 b = words_lone n s m m2 b sound p o (λ g e. cc) (λ g e. cc) (λ g i e. cc)
-      (lone_vcpu n s m m2 b sound p o v k refl (λ t. let e = flushed t in omega arith) (λ t h. run t ∙ h) (λ t q. flushed t) (λ t q. run t)
-      (λ t q r. old_kept d.may far.1 o t 2 q r) (λ t q r. old_kept d.may far.1 o t 3 q r))
-      (rw test (omega arith)) in
+      let words = vcpu_words (whose d.may) far.0 far.1 o in
       let reach = reach_kept n s p m m2 b c u acted others moved.cache moved.walk cells in
       let grown : Grown z m m2 (b s).steps (c s).steps = added acted.made p acted.added acted.steps in
       let T : TypedReference → Type 0 = TypedRight z m2 (c s).steps in
@@ -156,3 +169,14 @@ module _ (n : Machine) (s : ℕ) (x : Step) (m m2 : Place → ℕ) (b c : ℕ �
       })
       (typed_named_out T (m2 p) (b s) (typed_old n s p m m2 b c u acted l sound words reach)))
       (let f = (sound.formed s l).cache in record { few = rw (moved.cache) f.few; walk = λ y t. f.walk y (sym moved.walk ∙ t) })
+
+module _ (n : Machine) (s : ℕ) (x : Step) (m m2 : Place → ℕ) (b c : ℕ → Holdings) (l : s < (sizes_of n).vcpus) (sound : Sound n m b) (others : (t : ℕ) → t ≢ s → c t ≡ b t) (v : ℕ) where
+  pub based_done : Based n s x v m m2 (b s) (c s) → Done n s m m2 b c
+  based_done d =
+      let w = d.wrote in
+      let p = ldt_base_of v in
+      let o = w.others in
+      done_same n s p m m2 b c (b s)
+      (act n s x p m m2 (b s) (b s) (c s) w.place w.real w.left o refl refl refl refl (d.hand ∙ ap (noted x (m p)) (sym (if_same (v == s) (b s)))))
+      l sound (same_hand (b s)) (vcpu_words n s x m m2 b c l sound others v 7 d.may (λ e. omega arith) (λ e. omega arith) o) others
+      (λ f i. o (Cell f i) (λ e. cc)) (λ f. o (Kind f) (λ e. cc)) (λ f. o (Refs f) (λ e. cc)) (λ t. o (flushed_of t) (λ e. cc)) (λ t. o (run_of t) (λ e. cc)) refl refl

@@ -2,7 +2,7 @@
 use Rattle.std.proofs.Common.{◌≡◌, ◌≢◌, ℕ, ◌<◌, ap, ◌∙◌, inl, inr}
 use Rattle.std.proofs.lemmas.Bool.{cases_eq}
 use Rattle.xp_words.specs.Machine.{Machine}
-use Rattle.xp_words.specs.Places.{sizes_of, Place, Vcpu, Cell}
+use Rattle.xp_words.specs.Places.{sizes_of, Place, Cell, flushed_of, run_of}
 use Rattle.xp_board.specs.declared.holdings.Holdings.{Holdings}
 use Rattle.xp_board.specs.Found.{Found}
 use Rattle.xp_board.specs.Sound.{Sound}
@@ -42,7 +42,7 @@ module _ (n : Machine) (s : ℕ) (p : Place) (m m2 : Place → ℕ) (b c : ℕ �
       inl
       (reach_same (sizes_of n) m m2 (b v) (c v) cells (part_same (λ y. y.cache) acted.learned.cache cache v) (part_same (λ y. y.walk) acted.learned.walk walk v) past)
 
-  pub offs_kept : u.cold ≡ (b s).cold → u.ran ≡ (b s).ran → ((v : ℕ) → m2 (Vcpu v 5) ≡ m (Vcpu v 5)) → ((v : ℕ) → m2 (Vcpu v 6) ≡ m (Vcpu v 6)) → Words n s m m2 b → Offs n m m2 b c
+  pub offs_kept : u.cold ≡ (b s).cold → u.ran ≡ (b s).ran → ((v : ℕ) → m2 (flushed_of v) ≡ m (flushed_of v)) → ((v : ℕ) → m2 (run_of v) ≡ m (run_of v)) → Words n s m m2 b → Offs n m m2 b c
   offs_kept cold ran flushed run words =
       let warm = part_same (λ y. y.cold) acted.learned.cold cold in
       record {
@@ -51,7 +51,7 @@ module _ (n : Machine) (s : ℕ) (p : Place) (m m2 : Place → ℕ) (b c : ℕ �
       }
 
   pub outcome_by : u.cache ≡ (b s).cache → u.walk ≡ (b s).walk → u.cold ≡ (b s).cold → u.ran ≡ (b s).ran → ((f i : ℕ) → m2 (Cell f i) ≡ m (Cell f i)) →
-      ((v : ℕ) → m2 (Vcpu v 5) ≡ m (Vcpu v 5)) → ((v : ℕ) → m2 (Vcpu v 6) ≡ m (Vcpu v 6)) → Words n s m m2 b →
+      ((v : ℕ) → m2 (flushed_of v) ≡ m (flushed_of v)) → ((v : ℕ) → m2 (run_of v) ≡ m (run_of v)) → Words n s m m2 b →
       (ReachKept n m m2 b c → HandRight n s m m2 b c u) → Outcome n s m m2 b c
   outcome_by cache walk cold ran cells flushed run words hand =
       let reach = reach_kept cache walk cells in

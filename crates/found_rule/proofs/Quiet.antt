@@ -2,7 +2,7 @@
 use Rattle.std.proofs.Common.{◌≡◌, ◌≢◌, ℕ, suc, ◌<◌, ◌≤◌, true, length, IsTrue, refl, sym, ap, subst, ◌∙◌, inl, arith}
 use Rattle.xp_words.specs.KindWords.{kind_fields}
 use Rattle.xp_words.specs.Machine.{Machine}
-use Rattle.xp_words.specs.Places.{sizes_of, Place, Vcpu, Refs, Kind, Cell}
+use Rattle.xp_words.specs.Places.{sizes_of, Place, Refs, Kind, Cell, flushed_of, run_of}
 use Rattle.xp_board.specs.declared.holdings.Holdings.{Holdings}
 use Rattle.xp_board.specs.Lists.{times, EachOf}
 use Rattle.xp_board.specs.Readings.{domain_of}
@@ -101,7 +101,7 @@ module _ (n : Machine) (s : ℕ) (p : Place) (m m2 : Place → ℕ) (b c : ℕ �
 
     module _ (words : Words n s m m2 b) (others : (t : ℕ) → t ≢ s → c t ≡ b t) (cells : (f i : ℕ) → m2 (Cell f i) ≡ m (Cell f i))
         (kinds : (f : ℕ) → m2 (Kind f) ≡ m (Kind f)) (refs : (f : ℕ) → m2 (Refs f) ≡ m (Refs f))
-        (flushed : (v : ℕ) → m2 (Vcpu v 5) ≡ m (Vcpu v 5)) (run : (v : ℕ) → m2 (Vcpu v 6) ≡ m (Vcpu v 6)) where
+        (flushed : (v : ℕ) → m2 (flushed_of v) ≡ m (flushed_of v)) (run : (v : ℕ) → m2 (run_of v) ≡ m (run_of v)) where
       hand_same : ReachKept n m m2 b c → HandRight n s m m2 b c u
       hand_same reach =
           let h = hand_old n s p m m2 b c u acted l sound words reach (λ f k. kinds f) (λ f k. refs f) (fix_kept cells) (zero_kept cells) (flushed s) in

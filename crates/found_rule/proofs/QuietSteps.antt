@@ -1,7 +1,7 @@
 -- Loads, exchanges that found another word, and steps on words of which no fact speaks.
 use Rattle.std.proofs.Common.{◌≡◌, ◌≢◌, ℕ, ◌-◌, ◌^◌, ◌<◌, ◌==◌, ◌||◌, not, if◌then◌else◌, Bool, true, false, List, IsTrue, refl, sym, ap, ◌∙◌}
 use Rattle.xp_words.specs.Machine.{Machine}
-use Rattle.xp_words.specs.Places.{sizes_of, Place, Pages, Vcpu, Refs, Kind, M2p, Cell}
+use Rattle.xp_words.specs.Places.{sizes_of, Place, Pages, Refs, Kind, M2p, Cell, flushed_of, run_of, asked_of}
 use Rattle.xp_board.specs.declared.step.Step.{Step}
 use Rattle.xp_board.specs.declared.holdings.Looking.{Looking}
 use Rattle.xp_board.specs.declared.holdings.Holdings.{Holdings}
@@ -10,7 +10,7 @@ use Rattle.xp_board.specs.After.{noted, learned}
 use Rattle.xp_board.specs.KindSteps.{still_looking}
 use Rattle.xp_board.specs.WellFormed.{IsRaisedFormed, IsLookingFormed}
 use Rattle.xp_board.specs.Sound.{Sound}
-use Rattle.xp_board.proofs.ActEffects.{Looked, Mapped, Charged, Refunded, Asked, Based, Missed}
+use Rattle.step_effects.proofs.ActEffects.{Looked, Mapped, Charged, Refunded, Asked, Missed}
 use Rattle.found_rule.proofs.StepLists.{EachOf-kept}
 use Rattle.found_rule.proofs.Learning.{Act, act}
 use Rattle.found_rule.proofs.WordsAt.{is_read, words_quiet}
@@ -24,7 +24,7 @@ same_credits : (a : Holdings) (xs : List ℕ) → SameHand a (record a { credits
 same_credits a xs =
     record { refs = refl; typed = refl; works = refl; locks = refl; ending = refl; claimed = refl; cache = refl; walk = refl; cold = refl; turn = refl; acked = refl; ran = refl }
 
-if_same : (t : Bool) (u : Holdings) → (if t then u else u) ≡ u
+pub if_same : (t : Bool) (u : Holdings) → (if t then u else u) ≡ u
 if_same true u = refl
 if_same false u = refl
 
@@ -40,13 +40,13 @@ module _ (n : Machine) (s : ℕ) (x : Step) (m m2 : Place → ℕ) (b c : ℕ �
     pub unread_done : u.raised ≡ (b s).raised → u.looking ≡ (b s).looking → Done n s m m2 b c
     unread_done raised looking =
         done_same n s p m m2 b c u acted l sound same (words_quiet n s m m2 b sound (λ q r. kept q r)) others
-        (λ f i. kept (Cell f i) refl) (λ f. kept (Kind f) refl) (λ f. kept (Refs f) refl) (λ v. kept (Vcpu v 5) refl) (λ v. kept (Vcpu v 6) refl) raised looking
+        (λ f i. kept (Cell f i) refl) (λ f. kept (Kind f) refl) (λ f. kept (Refs f) refl) (λ v. kept (flushed_of v) refl) (λ v. kept (run_of v) refl) raised looking
 
     pub unread_raised : IsRaisedFormed u → EachOf (IsLookingFormed n s) u.looking → Done n s m m2 b c
     unread_raised raised looking =
         record {
           found = found_same n s p m m2 b c u acted l sound same (words_quiet n s m m2 b sound (λ q r. kept q r)) others
-              (λ f i. kept (Cell f i) refl) (λ f. kept (Kind f) refl) (λ f. kept (Refs f) refl) (λ v. kept (Vcpu v 5) refl) (λ v. kept (Vcpu v 6) refl);
+              (λ f i. kept (Cell f i) refl) (λ f. kept (Kind f) refl) (λ f. kept (Refs f) refl) (λ v. kept (flushed_of v) refl) (λ v. kept (run_of v) refl);
           formed = formed_same n s p m m2 b c u acted l sound same raised looking;
         }
 
@@ -57,7 +57,7 @@ module _ (n : Machine) (s : ℕ) (x : Step) (m m2 : Place → ℕ) (b c : ℕ �
       (act n s x p m m2 (b s) (b s) (c s) d.place d.real (d.left ∙ sym (w p)) (λ q o. w q) refl refl refl refl
       (d.hand ∙ ap (λ v. noted x (m p) (learned s p (m p) v (b s))) (sym (w p))))
       l sound (same_hand (b s)) (words_quiet n s m m2 b sound (λ q r. w q)) others
-      (λ f i. w (Cell f i)) (λ f. w (Kind f)) (λ f. w (Refs f)) (λ v. w (Vcpu v 5)) (λ v. w (Vcpu v 6)) refl refl
+      (λ f i. w (Cell f i)) (λ f. w (Kind f)) (λ f. w (Refs f)) (λ v. w (flushed_of v)) (λ v. w (run_of v)) refl refl
 
   pub missed_done : (f : ℕ) → Missed n x f m m2 (b s) (c s) → Done n s m m2 b c
   missed_done f d =
@@ -68,7 +68,7 @@ module _ (n : Machine) (s : ℕ) (x : Step) (m m2 : Place → ℕ) (b c : ℕ �
       let same = same_looking (b s) (still_looking f (m (Kind f)) (b s).looking) in
       record {
         found = found_same n s p m m2 b c u a l sound same (words_quiet n s m m2 b sound (λ q r. w q)) others
-            (λ g i. w (Cell g i)) (λ g. w (Kind g)) (λ g. w (Refs g)) (λ v. w (Vcpu v 5)) (λ v. w (Vcpu v 6));
+            (λ g i. w (Cell g i)) (λ g. w (Kind g)) (λ g. w (Refs g)) (λ v. w (flushed_of v)) (λ v. w (run_of v));
         formed = formed_same n s p m m2 b c u a l sound same (record { held = (sound.formed s l).raised.held }) (EachOf-kept (IsLookingFormed n s) (λ e. not (e.frame == f) || (e.word == m (Kind f))) (b s).looking (sound.formed s l).looking);
       }
 
@@ -92,15 +92,7 @@ module _ (n : Machine) (s : ℕ) (x : Step) (m m2 : Place → ℕ) (b c : ℕ �
   pub asked_done : (v : ℕ) → Asked n x v m m2 (b s) (c s) → Done n s m m2 b c
   asked_done v d =
       let w = d.wrote in
-      unread_done (Vcpu v 4) (b s) refl
-      (act n s x (Vcpu v 4) m m2 (b s) (b s) (c s) w.place w.real w.left w.others refl refl refl refl
-      (d.hand ∙ ap (noted x (m (Vcpu v 4))) (sym (if_same (v == s) (b s)))))
-      (same_hand (b s)) refl refl
-
-  pub based_done : (v : ℕ) → Based n s x v m m2 (b s) (c s) → Done n s m m2 b c
-  based_done v d =
-      let w = d.wrote in
-      unread_done (Vcpu v 7) (b s) refl
-      (act n s x (Vcpu v 7) m m2 (b s) (b s) (c s) w.place w.real w.left w.others refl refl refl refl
-      (d.hand ∙ ap (noted x (m (Vcpu v 7))) (sym (if_same (v == s) (b s)))))
+      unread_done (asked_of v) (b s) refl
+      (act n s x (asked_of v) m m2 (b s) (b s) (c s) w.place w.real w.left w.others refl refl refl refl
+      (d.hand ∙ ap (noted x (m (asked_of v))) (sym (if_same (v == s) (b s)))))
       (same_hand (b s)) refl refl

@@ -16,7 +16,7 @@ use Rattle.xp_board.specs.Marks.{MayRecord, MayShed, demand_seen, unsettled_by, 
 use Rattle.xp_board.specs.Found.{WorkFound, Found}
 use Rattle.xp_board.specs.WellFormed.{SeenIs, LastIs, IsWorkFormed, WellFormed}
 use Rattle.xp_board.specs.Sound.{Sound}
-use Rattle.xp_board.proofs.MarkEffects.{Recorded, Shed}
+use Rattle.step_effects.proofs.MarkEffects.{Recorded, Shed}
 use Rattle.found_rule.proofs.StepLists.{EachOf-changes, EachOf-changed_first}
 use Rattle.found_rule.proofs.Growth.{Grown, stayed}
 use Rattle.found_rule.proofs.ReachSame.{reach_same}

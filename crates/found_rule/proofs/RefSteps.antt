@@ -3,7 +3,7 @@ use Rattle.std.proofs.Common.{◌≡◌, ◌≢◌, ℕ, suc, ◌+◌, ◌<◌, 
 use Rattle.std.proofs.lemmas.Bool.{cases_eq, eqb-true}
 use Rattle.xp_words.specs.RefWords.{ref_read}
 use Rattle.xp_words.specs.Machine.{Machine}
-use Rattle.xp_words.specs.Places.{sizes_of, Place, Vcpu, Refs, Kind, Cell}
+use Rattle.xp_words.specs.Places.{sizes_of, Place, Refs, Kind, Cell, flushed_of, run_of}
 use Rattle.xp_board.specs.declared.step.Step.{Step}
 use Rattle.xp_board.specs.declared.holdings.Reference.{Reference}
 use Rattle.xp_board.specs.declared.holdings.Ending.{Ending}
@@ -15,7 +15,7 @@ use Rattle.xp_board.specs.Hands.{endings_of, claims_of}
 use Rattle.xp_board.specs.RefSteps.{took_ref, gave_ref, owner_number}
 use Rattle.xp_board.specs.Found.{EndingFound}
 use Rattle.xp_board.specs.Sound.{Sound}
-use Rattle.xp_board.proofs.ActEffects.{Raised, Cleared, Lowered}
+use Rattle.step_effects.proofs.ActEffects.{Raised, Cleared, Lowered}
 use Rattle.found_rule.proofs.StepLists.{EachOf-more, EachOf-without, times_by-more}
 use Rattle.found_rule.proofs.Growth.{added}
 use Rattle.found_rule.proofs.Learning.{Act, act}
@@ -50,13 +50,13 @@ module _ (n : Machine) (s : ℕ) (m m2 : Place → ℕ) (b c : ℕ → Holdings)
   alive_hand words reach =
       hand_old n s (Refs f) m m2 b c u acted l sound words reach (λ g h. acted.others (Kind g) (λ e. cc)) kept
       (fix_kept n s (Refs f) m m2 b c u acted l sound (λ g i. acted.others (Cell g i) (λ e. cc)))
-      (zero_kept n s (Refs f) m m2 b c u acted l sound (λ g i. acted.others (Cell g i) (λ e. cc))) (acted.others (Vcpu s 5) (λ e. cc))
+      (zero_kept n s (Refs f) m m2 b c u acted l sound (λ g i. acted.others (Cell g i) (λ e. cc))) (acted.others (flushed_of s) (λ e. cc))
 
   pub alive_outcome : u.cache ≡ (b s).cache → u.walk ≡ (b s).walk → u.cold ≡ (b s).cold → u.ran ≡ (b s).ran → Words n s m m2 b →
       (ReachKept n m m2 b c → HandRight n s m m2 b c u) → Outcome n s m m2 b c
   alive_outcome cache walk cold ran words hand =
-      outcome_by n s (Refs f) m m2 b c u acted others cache walk cold ran (λ g i. acted.others (Cell g i) (λ e. cc)) (λ v. acted.others (Vcpu v 5) (λ e. cc))
-      (λ v. acted.others (Vcpu v 6) (λ e. cc)) words hand
+      outcome_by n s (Refs f) m m2 b c u acted others cache walk cold ran (λ g i. acted.others (Cell g i) (λ e. cc)) (λ v. acted.others (flushed_of v) (λ e. cc))
+      (λ v. acted.others (run_of v) (λ e. cc)) words hand
 
 -- ---- a reference of which the step finds the owner comes into the hand
 module _ (n : Machine) (s : ℕ) (x : Step) (m m2 : Place → ℕ) (b c : ℕ → Holdings) (l : s < (sizes_of n).vcpus) (sound : Sound n m b) (others : (t : ℕ) → t ≢ s → c t ≡ b t) (f : ℕ) where

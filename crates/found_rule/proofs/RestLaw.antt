@@ -1,7 +1,7 @@
 -- Acts on words of vCPUs and on cells: references, the cache and the walk may move, and no other part of the hand.
 use Rattle.std.proofs.Common.{◌≡◌, ◌≢◌, ℕ, ◌<◌, IsTrue, sym, subst, inl, arith}
 use Rattle.xp_words.specs.Machine.{Machine}
-use Rattle.xp_words.specs.Places.{sizes_of, Place, Vcpu, Refs, Kind, Cell}
+use Rattle.xp_words.specs.Places.{sizes_of, Place, Refs, Kind, Cell, flushed_of, run_of}
 use Rattle.xp_board.specs.declared.holdings.Holdings.{Holdings}
 use Rattle.xp_board.specs.Lists.{EachOf}
 use Rattle.xp_board.specs.Readings.{domain_of}
@@ -51,7 +51,7 @@ module _ (n : Machine) (s : ℕ) (p : Place) (m m2 : Place → ℕ) (b c : ℕ �
       }) g
 
   module _ (words : Words n s m m2 b) (reach : ReachKept n m m2 b c) (fix : EachOf (λ e. (i : ℕ) → p ≡ Cell e.frame i → i < e.fixed → IsTrue (is_fixed (m2 p))) (b s).works)
-      (zero : EachOf (λ e. (i : ℕ) → p ≡ Cell e.frame i → i < e.scrubbed → m2 p ≡ 0) (b s).claimed) (flushed : (v : ℕ) → m2 (Vcpu v 5) ≡ m (Vcpu v 5)) (run : (v : ℕ) → m2 (Vcpu v 6) ≡ m (Vcpu v 6)) where
+      (zero : EachOf (λ e. (i : ℕ) → p ≡ Cell e.frame i → i < e.scrubbed → m2 p ≡ 0) (b s).claimed) (flushed : (v : ℕ) → m2 (flushed_of v) ≡ m (flushed_of v)) (run : (v : ℕ) → m2 (run_of v) ≡ m (run_of v)) where
     hand_rest : EachOf (RefRight (sizes_of n) m2 (c s).steps) u.refs → EachOf (TypedRight (sizes_of n) m2 (c s).steps) u.typed → HandRight n s m m2 b c u
     hand_rest plain typed =
         let z = sizes_of n in

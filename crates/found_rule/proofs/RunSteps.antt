@@ -2,7 +2,7 @@
 use Rattle.std.proofs.Common.{◌≡◌, ◌≢◌, ℕ, suc, ◌+◌, ◌<◌, ◌≤◌, true, [], length, Some, None, refl, sym, ap, subst, ◌∙◌, ◌⊎◌, inl, inr, arith}
 use Rattle.std.proofs.lemmas.Bool.{cases_eq}
 use Rattle.xp_words.specs.Machine.{Machine}
-use Rattle.xp_words.specs.Places.{sizes_of, Place, Clock, Vcpu, place_at}
+use Rattle.xp_words.specs.Places.{sizes_of, Place, Clock, Vcpu, place_at, run_of, flushed_of}
 use Rattle.xp_board.specs.declared.step.Step.{Step}
 use Rattle.xp_board.specs.declared.holdings.Holdings.{Holdings}
 use Rattle.xp_board.specs.Steps.{left_of, EachSince}
@@ -11,7 +11,7 @@ use Rattle.xp_board.specs.Found.{before_off}
 use Rattle.xp_board.specs.RunSteps.{AllowsRun, ran_now}
 use Rattle.xp_board.specs.After.{noted, learned_own}
 use Rattle.xp_board.specs.Sound.{Sound}
-use Rattle.xp_board.proofs.ActEffects.{Ran}
+use Rattle.step_effects.proofs.ActEffects.{Ran}
 use Rattle.found_rule.proofs.StepLists.{EachOf-all}
 use Rattle.found_rule.proofs.Learning.{Act, act}
 use Rattle.found_rule.proofs.Words.{Words}
@@ -25,34 +25,34 @@ use Rattle.found_rule.proofs.FlushSteps.{if_mine, less_reach, vcpu_hand, other_o
 module _ (n : Machine) (s : ℕ) (x : Step) (m m2 : Place → ℕ) (b c : ℕ → Holdings) (l : s < (sizes_of n).vcpus) (sound : Sound n m b) (others : (t : ℕ) → t ≢ s → c t ≡ b t) where
   -- ---- stopped, off, or on a processor
   -- what the own run word was
-  run_was : (w : ℕ) → (b s).run ≡ Some w → m (Vcpu s 6) ≡ w
+  run_was : (w : ℕ) → (b s).run ≡ Some w → m (run_of s) ≡ w
   run_was w e = (sound.found s l).own.run w e
 
-  ran_stops : AllowsRun (m2 (Vcpu s 6)) (b s) → m (Vcpu s 6) ≡ 1 → m2 (Vcpu s 6) ≡ 1
+  ran_stops : AllowsRun (m2 (run_of s)) (b s) → m (run_of s) ≡ 1 → m2 (run_of s) ≡ 1
   ran_stops (inl stop) was = stop.0
   ran_stops (inr (inl unload)) was = absurd (let e = run_was 0 unload.1.running in omega arith)
   ran_stops (inr (inr load)) was = absurd (let e = run_was 2 load.1.off in omega arith)
 
-  module _ (may : AllowsRun (m2 (Vcpu s 6)) (b s)) (u : Holdings) (acted : Act n s (Vcpu s 6) m m2 (b s) u (c s)) where
+  module _ (may : AllowsRun (m2 (run_of s)) (b s)) (u : Holdings) (acted : Act n s (run_of s) m m2 (b s) u (c s)) where
     ran_words : Words n s m m2 b
     unfolding told_value
     ran_words =
         let o = acted.others in
-        words_lone n s m m2 b sound (Vcpu s 6) o (λ g e. cc) (λ g e. cc) (λ g i e. cc)
-        (lone_vcpu n s m m2 b sound (Vcpu s 6) o s 6 refl (λ t. let e = o (Vcpu t 5) (λ e. cc) in omega arith)
-        (λ t was. elim (cases_eq t s) [ inl at ↦ rw at (ran_stops may (rw at at was)) | inr off ↦ o (Vcpu t 6) (λ q. off (cc)) ∙ was ])
-        (λ t off. o (Vcpu t 5) (λ e. cc)) (λ t off. o (Vcpu t 6) (λ q. off (cc))) (λ t off q. o (Vcpu t 2) (λ e. cc)) (λ t off q. o (Vcpu t 3) (λ e. cc)))
+        words_lone n s m m2 b sound (run_of s) o (λ g e. cc) (λ g e. cc) (λ g i e. cc)
+        (lone_vcpu n s m m2 b sound (run_of s) o s 6 refl (λ t. let e = o (flushed_of t) (λ e. cc) in omega arith)
+        (λ t was. elim (cases_eq t s) [ inl at ↦ rw at (ran_stops may (rw at at was)) | inr off ↦ o (run_of t) (λ q. off (cc)) ∙ was ])
+        (λ t off. o (flushed_of t) (λ e. cc)) (λ t off. o (run_of t) (λ q. off (cc))) (λ t off k a b q. o (Vcpu t k) (λ e. off (cc))))
         (omega arith)
 
     ran_done : u.refs ≡ (b s).refs → u.typed ≡ (b s).typed → u.works ≡ (b s).works → u.locks ≡ (b s).locks → u.ending ≡ (b s).ending → u.claimed ≡ (b s).claimed →
         u.raised ≡ (b s).raised → u.looking ≡ (b s).looking → u.turn ≡ (b s).turn → u.acked ≡ (b s).acked → u.walk ≡ (b s).walk → (u.cache ≡ []) ⊎ (u.cache ≡ (b s).cache) →
-        (b s).walk ≡ None → u.ran ≡ suc (length (b s).steps) → (m2 (Vcpu s 6) ≢ 0) ⊎ (u.cold ≡ true) → Done n s m m2 b c
+        (b s).walk ≡ None → u.ran ≡ suc (length (b s).steps) → (m2 (run_of s) ≢ 0) ⊎ (u.cold ≡ true) → Done n s m m2 b c
     unfolding ran_words
     ran_done refs typed works locks ending claimed raised looking turn acks walk cache landed ran how =
         let z = sizes_of n in
-        let p = Vcpu s 6 in
+        let p = run_of s in
         let reach = less_reach n s x m m2 b c l sound others 6 u acted (elim cache [ inl none ↦ inl (none, walk ∙ landed) | inr same ↦ inr (same, walk) ]) in
-        let flushed : m2 (Vcpu s 5) ≡ m (Vcpu s 5) = acted.others (Vcpu s 5) (λ e. cc) in
+        let flushed : m2 (flushed_of s) ≡ m (flushed_of s) = acted.others (flushed_of s) (λ e. cc) in
         let g = sound.formed s l in
         let long : length (c s).steps ≡ suc (length (b s).steps) = ap length acted.steps in
         let now : (c s).ran ≡ suc (length (b s).steps) = acted.learned.ran ∙ ran in
@@ -66,8 +66,8 @@ module _ (n : Machine) (s : ℕ) (x : Step) (m m2 : Place → ℕ) (b c : ℕ �
               off = λ v r h found off cold. elim (cases_eq v s) [
                 | inr away ↦ other_off n s x m m2 b c l sound others 6 u acted v away h off
                 | inl at ↦
-                    (let q : (m2 (Vcpu v 6) ≢ 0) ⊎ ((c v).cold ≡ true) = rw at (elim how [ inl idle ↦ inl idle | inr cold ↦ inr (acted.learned.cold ∙ cold) ]) in
-                    EachOf-all (λ y. ((m2 (Vcpu v 6) ≢ 0) ⊎ (((c v).cold ≡ true) ⊎ (told_value (place_at z y.step.place) y.found < m2 (Vcpu v 5)))) × ((m2 (Vcpu v 6) ≢ 0) ⊎ (((c v).cold ≡ true) ⊎ (told_value (place_at z y.step.place) (left_of y) < m2 (Vcpu v 5)))))
+                    (let q : (m2 (run_of v) ≢ 0) ⊎ ((c v).cold ≡ true) = rw at (elim how [ inl idle ↦ inl idle | inr cold ↦ inr (acted.learned.cold ∙ cold) ]) in
+                    EachOf-all (λ y. ((m2 (run_of v) ≢ 0) ⊎ (((c v).cold ≡ true) ⊎ (told_value (place_at z y.step.place) y.found < m2 (flushed_of v)))) × ((m2 (run_of v) ≢ 0) ⊎ (((c v).cold ≡ true) ⊎ (told_value (place_at z y.step.place) (left_of y) < m2 (flushed_of v)))))
                     (before_off z v h) (λ y. elim q [ inl idle ↦ (inl idle, inl idle) | inr cold ↦ (inr (inl cold), inr (inl cold)) ]))
               ];
               cold = λ v r h found cold. elim (cases_eq v s) [
@@ -100,16 +100,16 @@ module _ (n : Machine) (s : ℕ) (x : Step) (m m2 : Place → ℕ) (b c : ℕ �
               }) g;
         }
 
-  ran_hand : Ran n s x m m2 (b s) (c s) → (new : ℕ) → m2 (Vcpu s 6) ≡ new → (u : Holdings) → ran_now new (b s) ≡ u → u.steps ≡ (b s).steps → u.run ≡ (b s).run → u.old0 ≡ (b s).old0 → u.old1 ≡ (b s).old1 →
-      Act n s (Vcpu s 6) m m2 (b s) u (c s)
+  ran_hand : Ran n s x m m2 (b s) (c s) → (new : ℕ) → m2 (run_of s) ≡ new → (u : Holdings) → ran_now new (b s) ≡ u → u.steps ≡ (b s).steps → u.run ≡ (b s).run → u.old0 ≡ (b s).old0 → u.old1 ≡ (b s).old1 →
+      Act n s (run_of s) m m2 (b s) u (c s)
   ran_hand d new e u is steps run old0 old1 =
       let w = d.wrote in
-      let p = Vcpu s 6 in
+      let p = run_of s in
       act n s x p m m2 (b s) u (c s) w.place w.real w.left w.others steps run old0 old1
       (d.hand ∙ ap (λ y. noted x (m p) (learned_own 6 (m2 p) (ran_now y (b s)))) e ∙ ap (λ y. noted x (m p) (learned_own 6 (m2 p) y)) is
       ∙ ap (noted x (m p)) (sym (if_mine s (learned_own 6 (m2 p) u) u)))
 
-  pub ran_by : Ran n s x m m2 (b s) (c s) → AllowsRun (m2 (Vcpu s 6)) (b s) → Done n s m m2 b c
+  pub ran_by : Ran n s x m m2 (b s) (c s) → AllowsRun (m2 (run_of s)) (b s) → Done n s m m2 b c
   ran_by d (inl stop) =
       let u = record (b s) { cache = []; ran = length (b s).steps + 1 } in
       ran_done d.may u (ran_hand d 1 stop.0 u refl refl refl refl refl) refl refl refl refl refl refl refl refl refl refl refl (inl refl) stop.1.landed (omega arith)

@@ -1,5 +1,5 @@
 -- The last recorded entry of a table in work, where nothing of it is open: its frame is live.
-use Rattle.std.proofs.Common.{◌≡◌, ◌≢◌, ℕ, ◌+◌, ◌<◌, true, false, List, Option, Some, None, IsTrue, refl, sym, ap, ◌∙◌, inl, inr, arith}
+use Rattle.std.proofs.Common.{◌≡◌, ℕ, ◌+◌, ◌<◌, true, false, List, Option, Some, None, IsTrue, refl, sym, ap, ◌∙◌, inl, inr, arith}
 use Rattle.std.proofs.lemmas.Bool.{cases_Bool}
 use Rattle.xp_words.specs.declared.kind.KindWord.{KindWord}
 use Rattle.xp_words.specs.declared.kind.PageType.{PageType}
@@ -16,17 +16,17 @@ use Rattle.xp_board.specs.declared.holdings.Work.{Work}
 use Rattle.xp_board.specs.declared.holdings.Holdings.{Holdings}
 use Rattle.xp_board.specs.Steps.{last_since}
 use Rattle.xp_board.specs.Hands.{work_on}
-use Rattle.xp_board.specs.Readings.{kind_at, is_live, is_partial, is_type}
+use Rattle.xp_board.specs.Readings.{kind_at, is_partial, is_type}
 use Rattle.xp_board.specs.Marks.{MayShed, demand_seen, seen_word}
 use Rattle.xp_board.specs.Found.{is_known_inside, is_same_cell, is_same_entry}
 use Rattle.xp_board.specs.Recorded.{held, held_of, entry_demand, recorded_in, recorded_number}
-use Rattle.xp_board.specs.Valid.{LeadsWell, IsUnsettled}
+use Rattle.xp_board.specs.Valid.{IsUnsettled}
 use Rattle.xp_board.specs.WellFormed.{SeenIs}
 use Rattle.xp_board.specs.Sound.{Sound, is_busy}
-use Rattle.xp_board.proofs.EntryWords.{entry_asks_same}
-use Rattle.xp_board.proofs.HandLists.{first-some}
-use Rattle.xp_board.proofs.WorkFacts.{Works, works_facts}
-use Rattle.xp_board.proofs.Works.{one_seat, nobody_else, work_of-mine}
+use Rattle.board_lemmas.proofs.EntryWords.{entry_asks_same}
+use Rattle.board_lemmas.proofs.HandLists.{first-some}
+use Rattle.board_lemmas.proofs.WorkFacts.{Works, works_facts}
+use Rattle.board_lemmas.proofs.Works.{one_seat, nobody_else, work_of-mine}
 use Rattle.found_rule.proofs.KnownFacts.{IsLiveAs}
 
 not_writable : (t : PageType) → is_table t ≡ true → is_type t kinds.Writable ≡ false

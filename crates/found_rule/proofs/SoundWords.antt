@@ -3,7 +3,7 @@ use Rattle.std.proofs.Common.{◌≡◌, ℕ, ◌<◌, ◌≤◌, ◌==◌, if�
 use Rattle.std.proofs.lemmas.Bool.{eqb-true}
 use Rattle.xp_words.specs.KindWords.{kind_fields}
 use Rattle.xp_words.specs.Machine.{Machine}
-use Rattle.xp_words.specs.Places.{sizes_of, Place, Clock, Pages, Life, Vcpu, Refs, Kind, M2p, Cell, Map, Priv}
+use Rattle.xp_words.specs.Places.{sizes_of, Place, Clock, Pages, Life, Vcpu, Refs, Kind, M2p, Cell, Map, Priv, flushed_of}
 use Rattle.xp_board.specs.declared.holdings.Work.{Work}
 use Rattle.xp_board.specs.declared.holdings.Holdings.{Holdings}
 use Rattle.xp_board.specs.Readings.{kind_at, ref_count, told_value, has_now, has_ever, is_closing}
@@ -13,7 +13,7 @@ use Rattle.xp_board.specs.Found.{WorkFound}
 use Rattle.xp_board.specs.Sound.{Stamped, Sound, WorkAgrees}
 use Rattle.found_rule.proofs.Counted.{types_within, ref_counted, work_busy, busy_cases}
 
-told_if : (m : Place → ℕ) (v k : ℕ) (t : Bool) → (k == 5) ≡ t → m (Vcpu v 5) ≤ m Clock → (if t then m (Vcpu v k) else 0) ≤ m Clock
+told_if : (m : Place → ℕ) (v k : ℕ) (t : Bool) → (k == 5) ≡ t → m (flushed_of v) ≤ m Clock → (if t then m (Vcpu v k) else 0) ≤ m Clock
 told_if m v k true e h = let q = eqb-true k 5 e in subst (λ j. m (Vcpu v j) ≤ m Clock) (sym q) h
 told_if m v k false e h = omega arith
 

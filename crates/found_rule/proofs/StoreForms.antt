@@ -13,7 +13,7 @@ use Rattle.xp_board.specs.Hands.{without_work, without_ref, without_typed, ref_o
 use Rattle.xp_board.specs.After.{noted}
 use Rattle.xp_board.specs.KindSteps.{Form, Live, Partial, InWork, Dead, CountsLive, after_form, live_typed}
 use Rattle.xp_board.specs.Sound.{Sound}
-use Rattle.xp_board.proofs.ActEffects.{Stored}
+use Rattle.step_effects.proofs.ActEffects.{Stored}
 use Rattle.found_rule.proofs.StepLists.{EachOf-more, EachOf-without}
 use Rattle.found_rule.proofs.Learning.{Act, act}
 use Rattle.found_rule.proofs.Words.{Words}

@@ -21,8 +21,8 @@ use Rattle.xp_board.specs.KindSteps.{Partial, InWork, KeepsMark, put_partial, as
 use Rattle.xp_board.specs.Found.{WorkFound}
 use Rattle.xp_board.specs.WellFormed.{IsWorkFormed, IsLookingFormed}
 use Rattle.xp_board.specs.Sound.{Sound}
-use Rattle.xp_board.proofs.ActEffects.{Stored}
-use Rattle.xp_board.proofs.KindForms.{partial_form}
+use Rattle.step_effects.proofs.ActEffects.{Stored}
+use Rattle.board_lemmas.proofs.KindForms.{partial_form}
 use Rattle.found_rule.proofs.StepLists.{EachOf-both, EachOf-more, EachOf-without, EachOf-changed_first}
 use Rattle.found_rule.proofs.Learning.{act}
 use Rattle.found_rule.proofs.Words.{Words}

@@ -5,7 +5,7 @@ use Rattle.xp_words.specs.declared.kind.PageType.{PageType}
 use Rattle.xp_words.specs.PageTypes.{type_number, is_table}
 use Rattle.xp_words.specs.Entries.{is_bit}
 use Rattle.xp_words.specs.Machine.{Machine}
-use Rattle.xp_words.specs.Places.{sizes_of, Place, Vcpu, Refs, Kind, Cell}
+use Rattle.xp_words.specs.Places.{sizes_of, Place, Refs, Kind, Cell, flushed_of, run_of}
 use Rattle.xp_board.specs.declared.step.Step.{Step}
 use Rattle.xp_board.specs.declared.holdings.Reached.{Reached}
 use Rattle.xp_board.specs.declared.holdings.Touching.{Touching}
@@ -18,7 +18,7 @@ use Rattle.xp_board.specs.Reach.{Table, reached_by, Reach, walked}
 use Rattle.xp_board.specs.Found.{is_same_entry, is_same_cell, without_bits}
 use Rattle.xp_board.specs.WellFormed.{TouchesIn}
 use Rattle.xp_board.specs.Sound.{Sound}
-use Rattle.xp_board.proofs.ActEffects.{Touched}
+use Rattle.step_effects.proofs.ActEffects.{Touched}
 use Rattle.found_rule.proofs.PlaceTests.{equal_refl}
 use Rattle.found_rule.proofs.Learning.{act}
 use Rattle.found_rule.proofs.WordsOf.{CellSpared, words_cell}
@@ -126,7 +126,7 @@ module _ (n : Machine) (s : ℕ) (x : Step) (m m2 : Place → ℕ) (b c : ℕ �
       let acted = act n s x p m m2 (b s) u (c s) w.place w.real w.left w.others hand.steps hand.run hand.old0 hand.old1 d.hand in
       let o = w.others in
       walk_done n s x m m2 b c l sound others p u acted hand (words_cell n s m m2 b sound f i o (λ t r off. touch_spares here.level reach same t r))
-      (λ g. o (Kind g) (λ e. cc)) (λ g. o (Refs g) (λ e. cc)) (λ v. o (Vcpu v 5) (λ e. cc)) (λ v. o (Vcpu v 6) (λ e. cc))
+      (λ g. o (Kind g) (λ e. cc)) (λ g. o (Refs g) (λ e. cc)) (λ v. o (flushed_of v) (λ e. cc)) (λ v. o (run_of v) (λ e. cc))
       (cell_passes n m m2 b sound f i o (λ v r. alike_passes n m m2 b sound v f i alike))
       (my_fixed n s x m m2 b c l sound others f i fixed (no_fixed n s x m m2 b c l sound others f i fixed s l (λ q e. let k = table here.level reach same q in let y = levels here.level reach same in let v = y.1 in omega arith)))
       (zero_none n m b sound f m2 i s ((sound.fresh.each s l f (Table here.level) reach).unclaimed s l))

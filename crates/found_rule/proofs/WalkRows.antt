@@ -7,7 +7,7 @@ use Rattle.xp_words.specs.declared.kind.PageType.TheVariants as kinds
 use Rattle.xp_words.specs.Entries.{is_bit}
 use Rattle.xp_words.specs.PageTypes.{type_number}
 use Rattle.xp_words.specs.Machine.{Machine}
-use Rattle.xp_words.specs.Places.{Sizes, sizes_of, Place, Vcpu, Refs, Kind, Cell}
+use Rattle.xp_words.specs.Places.{Sizes, sizes_of, Place, Vcpu, Refs, Kind, Cell, flushed_of, run_of}
 use Rattle.xp_board.specs.declared.step.Step.{Step}
 use Rattle.xp_board.specs.declared.holdings.Reached.{Reached}
 use Rattle.xp_board.specs.declared.holdings.Touching.{Touching}
@@ -24,7 +24,7 @@ use Rattle.xp_board.specs.FillSteps.{MayWalkOn, is_walked, started, loaded, walk
 use Rattle.xp_board.specs.Reach.{Table, reached_by, cached, walked}
 use Rattle.xp_board.specs.WellFormed.{IsDescent, IsWalkFormed, TouchesIn}
 use Rattle.xp_board.specs.Sound.{Sound}
-use Rattle.xp_board.proofs.ActEffects.{Started, WentOn, Stumbled}
+use Rattle.step_effects.proofs.ActEffects.{Started, WentOn, Stumbled}
 use Rattle.found_rule.proofs.Learning.{Act, act}
 use Rattle.found_rule.proofs.Words.{Words}
 use Rattle.found_rule.proofs.WordsAt.{words_quiet}
@@ -63,8 +63,8 @@ has_type m g o t e h = rw e at h
 module _ (n : Machine) (s : ℕ) (x : Step) (m m2 : Place → ℕ) (b c : ℕ → Holdings) (l : s < (sizes_of n).vcpus) (sound : Sound n m b) (others : (t : ℕ) → t ≢ s → c t ≡ b t) where
   -- ---- an act that moves the walk and the cache alone
   module _ (p : Place) (u : Holdings) (acted : Act n s p m m2 (b s) u (c s)) (hand : WalkHand n m b s u) where
-    pub walk_done : Words n s m m2 b → ((f : ℕ) → m2 (Kind f) ≡ m (Kind f)) → ((f : ℕ) → m2 (Refs f) ≡ m (Refs f)) → ((v : ℕ) → m2 (Vcpu v 5) ≡ m (Vcpu v 5)) →
-        ((v : ℕ) → m2 (Vcpu v 6) ≡ m (Vcpu v 6)) → ((v f i : ℕ) → v < (sizes_of n).vcpus → PassesOn n m m2 b v f i) →
+    pub walk_done : Words n s m m2 b → ((f : ℕ) → m2 (Kind f) ≡ m (Kind f)) → ((f : ℕ) → m2 (Refs f) ≡ m (Refs f)) → ((v : ℕ) → m2 (flushed_of v) ≡ m (flushed_of v)) →
+        ((v : ℕ) → m2 (run_of v) ≡ m (run_of v)) → ((v f i : ℕ) → v < (sizes_of n).vcpus → PassesOn n m m2 b v f i) →
         EachOf (λ e. (i : ℕ) → p ≡ Cell e.frame i → i < e.fixed → IsTrue (is_fixed (m2 p))) (b s).works →
         EachOf (λ e. (i : ℕ) → p ≡ Cell e.frame i → i < e.scrubbed → m2 p ≡ 0) (b s).claimed → Done n s m m2 b c
     walk_done words kinds refs flushed run passes fix zeros =
@@ -76,7 +76,7 @@ module _ (n : Machine) (s : ℕ) (x : Step) (m m2 : Place → ℕ) (b c : ℕ �
 
     load_done : ((q : Place) → m2 q ≡ m q) → Done n s m m2 b c
     load_done w =
-        walk_done (words_quiet n s m m2 b sound (λ q r. w q)) (λ f. w (Kind f)) (λ f. w (Refs f)) (λ v. w (Vcpu v 5)) (λ v. w (Vcpu v 6))
+        walk_done (words_quiet n s m m2 b sound (λ q r. w q)) (λ f. w (Kind f)) (λ f. w (Refs f)) (λ v. w (flushed_of v)) (λ v. w (run_of v))
         (same_passes n m m2 b sound (λ f i. w (Cell f i))) (fix_kept n s p m m2 b c u acted l sound (λ f i. w (Cell f i))) (zero_kept n s p m m2 b c u acted l sound (λ f i. w (Cell f i)))
 
   -- ---- a walk begins at the base

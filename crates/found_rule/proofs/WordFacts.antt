@@ -3,7 +3,7 @@ use Rattle.std.proofs.Common.{◌≡◌, ◌≢◌, ℕ, ◌<◌, ◌≤◌, ◌
 use Rattle.std.proofs.lemmas.Bool.{eqb-true, or_cases, and_parts}
 use Rattle.std.proofs.lemmas.Bool.Decides.{nat_tests}
 use Rattle.xp_words.specs.Machine.{Machine}
-use Rattle.xp_words.specs.Places.{Sizes, sizes_of, Place, Clock, Life, Vcpu, Priv, is_place, place_at}
+use Rattle.xp_words.specs.Places.{Sizes, sizes_of, Place, Clock, Life, Priv, is_place, place_at, flushed_of, run_of}
 use Rattle.xp_board.specs.declared.holdings.Made.{Made}
 use Rattle.xp_board.specs.declared.holdings.Holdings.{Holdings}
 use Rattle.xp_board.specs.Lists.{EachOf}
@@ -35,13 +35,13 @@ module _ (n : Machine) (m m2 : Place → ℕ) (k : Moves n m m2) (told_was : (p 
   pub flushed_law : FlushedFound (sizes_of n) m a → FlushedFound (sizes_of n) m2 b
   flushed_law c v =
       let l = k.flushed v in
-      grown_each (sizes_of n) m m2 a.steps b.steps 0 (Vcpu v 5) (λ w. w ≤ m2 (Vcpu v 5)) g (λ r. l) (λ r. omega arith)
-      (EachSince-map (sizes_of n) 0 (Vcpu v 5) (λ w. w ≤ m (Vcpu v 5)) (λ w. w ≤ m2 (Vcpu v 5)) a.steps (λ w r. omega arith) (c v))
+      grown_each (sizes_of n) m m2 a.steps b.steps 0 (flushed_of v) (λ w. w ≤ m2 (flushed_of v)) g (λ r. l) (λ r. omega arith)
+      (EachSince-map (sizes_of n) 0 (flushed_of v) (λ w. w ≤ m (flushed_of v)) (λ w. w ≤ m2 (flushed_of v)) a.steps (λ w r. omega arith) (c v))
 
   pub stopped_law : StoppedFound (sizes_of n) m a → StoppedFound (sizes_of n) m2 b
   stopped_law c v =
-      grown_each (sizes_of n) m m2 a.steps b.steps 0 (Vcpu v 6) (λ w. w ≡ 1 → m2 (Vcpu v 6) ≡ 1) g (λ r o. k.stopped v o) (λ r o. o)
-      (EachSince-map (sizes_of n) 0 (Vcpu v 6) (λ w. w ≡ 1 → m (Vcpu v 6) ≡ 1) (λ w. w ≡ 1 → m2 (Vcpu v 6) ≡ 1) a.steps (λ w r o. k.stopped v (r o)) (c v))
+      grown_each (sizes_of n) m m2 a.steps b.steps 0 (run_of v) (λ w. w ≡ 1 → m2 (run_of v) ≡ 1) g (λ r o. k.stopped v o) (λ r o. o)
+      (EachSince-map (sizes_of n) 0 (run_of v) (λ w. w ≡ 1 → m (run_of v) ≡ 1) (λ w. w ≡ 1 → m2 (run_of v) ≡ 1) a.steps (λ w r o. k.stopped v (r o)) (c v))
 
   pub life_law : LifeFound (sizes_of n) m a → LifeFound (sizes_of n) m2 b
   life_law c d =
@@ -60,20 +60,20 @@ module _ (n : Machine) (m m2 : Place → ℕ) (k : Moves n m m2) (told_was : (p 
       (λ w. IsTrue (has_now o w || has_ever o w) → IsTrue (has_ever o (m2 (Priv d)))) a.steps (λ w r t. k.ever d o (r t)) (c d o l))
 
   -- clock values since the last flush
-  pub since_ack_law : (s : ℕ) → m (Vcpu s 5) ≤ m Clock → m2 (Vcpu s 5) ≡ m (Vcpu s 5) → b.acked ≡ a.acked → ClockSinceAck (sizes_of n) m s a → ClockSinceAck (sizes_of n) m2 s b
+  pub since_ack_law : (s : ℕ) → m (flushed_of s) ≤ m Clock → m2 (flushed_of s) ≡ m (flushed_of s) → b.acked ≡ a.acked → ClockSinceAck (sizes_of n) m s a → ClockSinceAck (sizes_of n) m2 s b
   since_ack_law s u e q c =
       let o = k.clock in
-      rw (e, q) (grown_each (sizes_of n) m m2 a.steps b.steps a.acked Clock (λ w. m (Vcpu s 5) ≤ w) g (λ r. u) (λ r. omega arith) c)
+      rw (e, q) (grown_each (sizes_of n) m m2 a.steps b.steps a.acked Clock (λ w. m (flushed_of s) ≤ w) g (λ r. u) (λ r. omega arith) c)
 
   -- ---- vCPUs that were found off
   pub since_off_law : (h h2 : ℕ → Holdings) (v : ℕ) → (FlushedSinceOff (sizes_of n) m h v a → FlushedSinceOff (sizes_of n) m2 h2 v a) →
       FlushedSinceOff (sizes_of n) m h v a → FlushedSinceOff (sizes_of n) m2 h2 v b
   since_off_law h h2 v f c =
       let z = sizes_of n in
-      elim (grown_before z m m2 a.steps b.steps (Vcpu v 6) (λ w. w == 2) g) [
+      elim (grown_before z m m2 a.steps b.steps (run_of v) (λ w. w == 2) g) [
         | inl now ↦
-            (let t : m2 (Vcpu v 6) ≢ 0 = (λ o. let x = eqb-true (m2 (Vcpu v 6)) 2 now in omega arith) in
-            EachOf-all (λ x. ((m2 (Vcpu v 6) ≢ 0) ⊎ (((h2 v).cold ≡ true) ⊎ (told_value (place_at z x.step.place) x.found < m2 (Vcpu v 5)))) × ((m2 (Vcpu v 6) ≢ 0) ⊎ (((h2 v).cold ≡ true) ⊎ (told_value (place_at z x.step.place) (left_of x) < m2 (Vcpu v 5)))))
+            (let t : m2 (run_of v) ≢ 0 = (λ o. let x = eqb-true (m2 (run_of v)) 2 now in omega arith) in
+            EachOf-all (λ x. ((m2 (run_of v) ≢ 0) ⊎ (((h2 v).cold ≡ true) ⊎ (told_value (place_at z x.step.place) x.found < m2 (flushed_of v)))) × ((m2 (run_of v) ≢ 0) ⊎ (((h2 v).cold ≡ true) ⊎ (told_value (place_at z x.step.place) (left_of x) < m2 (flushed_of v)))))
             (before_off z v b) (λ x. (inl t, inl t)))
         | inr old ↦ rw old (f c)
       ]
@@ -81,14 +81,14 @@ module _ (n : Machine) (m m2 : Place → ℕ) (k : Moves n m m2) (told_was : (p 
   pub cold_off_law : (h h2 : ℕ → Holdings) (v : ℕ) → (ColdSinceOff (sizes_of n) m h v a → ColdSinceOff (sizes_of n) m2 h2 v a) →
       ColdSinceOff (sizes_of n) m h v a → ColdSinceOff (sizes_of n) m2 h2 v b
   cold_off_law h h2 v f c is run =
-      elim (grown_before (sizes_of n) m m2 a.steps b.steps (Vcpu v 6) (λ w. w == 2) g) [
-        | inl now ↦ absurd (let x = eqb-true (m2 (Vcpu v 6)) 2 now in omega arith)
+      elim (grown_before (sizes_of n) m m2 a.steps b.steps (run_of v) (λ w. w == 2) g) [
+        | inl now ↦ absurd (let x = eqb-true (m2 (run_of v)) 2 now in omega arith)
         | inr old ↦ rw old (f c is run)
       ]
 
 -- ---- where neither flush nor Run is made
-module _ (n : Machine) (m m2 : Place → ℕ) (h h2 : ℕ → Holdings) (v : ℕ) (run : m2 (Vcpu v 6) ≡ m (Vcpu v 6)) (cold : (h2 v).cold ≡ (h v).cold) (u : Holdings) where
-  pub off_same : m2 (Vcpu v 5) ≡ m (Vcpu v 5) → FlushedSinceOff (sizes_of n) m h v u → FlushedSinceOff (sizes_of n) m2 h2 v u
+module _ (n : Machine) (m m2 : Place → ℕ) (h h2 : ℕ → Holdings) (v : ℕ) (run : m2 (run_of v) ≡ m (run_of v)) (cold : (h2 v).cold ≡ (h v).cold) (u : Holdings) where
+  pub off_same : m2 (flushed_of v) ≡ m (flushed_of v) → FlushedSinceOff (sizes_of n) m h v u → FlushedSinceOff (sizes_of n) m2 h2 v u
   off_same flushed c = rw (run, cold, flushed) c
 
   -- of a cold vCPU: the clock that it finds now is at least each value that was found before
@@ -110,7 +110,7 @@ module _ (n : Machine) (m m2 : Place → ℕ) (h h2 : ℕ → Holdings) (v : ℕ
       (λ x. (told_value (place_at z x.step.place) x.found ≤ m Clock) × (told_value (place_at z x.step.place) (left_of x) ≤ m Clock))
       (λ x. EachSince z (h v).ran Clock (λ w. told_value (place_at z x.step.place) x.found ≤ w) (h v).steps × EachSince z (h v).ran Clock (λ w. told_value (place_at z x.step.place) (left_of x) ≤ w) (h v).steps)
       (before_off z v u)
-      (EachOf-before z (Vcpu v 6) (λ w. w == 2) (λ x. (told_value (place_at z x.step.place) x.found ≤ m Clock) × (told_value (place_at z x.step.place) (left_of x) ≤ m Clock)) u.steps found)
+      (EachOf-before z (run_of v) (λ w. w == 2) (λ x. (told_value (place_at z x.step.place) x.found ≤ m Clock) × (told_value (place_at z x.step.place) (left_of x) ≤ m Clock)) u.steps found)
       (c (sym cold ∙ is) (sym run ∙ was))))
 
 -- ---- a clock value that was found

@@ -2,12 +2,12 @@
 use Rattle.std.proofs.Common.{◌≡◌, ◌≢◌, ℕ, ◌<◌, ◌≤◌, IsTrue, refl, sym, subst, ◌⊎◌, inl, inr, arith}
 use Rattle.std.proofs.lemmas.Bool.{cases_eq}
 use Rattle.xp_words.specs.Machine.{Machine}
-use Rattle.xp_words.specs.Places.{sizes_of, Place, Clock, Life, Vcpu, Refs, Kind, Cell, Priv, is_place}
+use Rattle.xp_words.specs.Places.{sizes_of, Place, Clock, Life, Vcpu, Refs, Kind, Cell, Priv, is_place, flushed_of, run_of}
 use Rattle.xp_board.specs.declared.step.Step.{Step}
 use Rattle.xp_board.specs.declared.holdings.Holdings.{Holdings}
 use Rattle.xp_board.specs.Readings.{told_value, has_now, has_ever}
 use Rattle.xp_board.specs.Sound.{Sound}
-use Rattle.xp_board.proofs.ActEffects.{Ticked, Doomed, Buried, Privileged}
+use Rattle.step_effects.proofs.ActEffects.{Ticked, Doomed, Buried, Privileged}
 use Rattle.found_rule.proofs.Learning.{Act, act}
 use Rattle.found_rule.proofs.Words.{Words}
 use Rattle.found_rule.proofs.WordsOf.{words_lone, lone_off}
@@ -22,7 +22,7 @@ module _ (n : Machine) (s : ℕ) (x : Step) (m m2 : Place → ℕ) (b c : ℕ �
   lone_done p a vcpu refs kind cell words =
       done_same n s p m m2 b c (b s) a l sound (same_hand (b s)) words others
       (λ f i. a.others (Cell f i) (λ e. cell f i (sym e))) (λ f. a.others (Kind f) (λ e. kind f (sym e))) (λ f. a.others (Refs f) (λ e. refs f (sym e)))
-      (λ v. a.others (Vcpu v 5) (λ e. vcpu v 5 (sym e))) (λ v. a.others (Vcpu v 6) (λ e. vcpu v 6 (sym e))) refl refl
+      (λ v. a.others (flushed_of v) (λ e. vcpu v 5 (sym e))) (λ v. a.others (run_of v) (λ e. vcpu v 6 (sym e))) refl refl
 
   clock_kept : (p : Place) → p ≢ Clock → ((q : Place) → q ≢ p → m2 q ≡ m q) → m Clock ≤ m2 Clock
   clock_kept p off o = let e = o Clock (λ k. off (sym k)) in omega arith

@@ -1,7 +1,7 @@
 -- What an act of seat s may do to the words, as the facts of all seats ask it.
 use Rattle.std.proofs.Common.{◌≡◌, ◌≢◌, ℕ, ◌<◌, ◌≤◌, ◌⊎◌, IsTrue}
 use Rattle.xp_words.specs.Machine.{Machine}
-use Rattle.xp_words.specs.Places.{sizes_of, Place, Clock, Life, Vcpu, Refs, Kind, Cell, Priv, is_place}
+use Rattle.xp_words.specs.Places.{sizes_of, Place, Clock, Life, Vcpu, Refs, Kind, Cell, Priv, is_place, flushed_of, run_of}
 use Rattle.xp_board.specs.declared.holdings.Holdings.{Holdings}
 use Rattle.xp_board.specs.Lists.{EachOf}
 use Rattle.xp_board.specs.Readings.{kind_at, is_live, owner_of, ref_count, type_count, told_value, has_now, has_ever}
@@ -12,8 +12,8 @@ use Rattle.xp_board.specs.Found.{is_known_inside, is_same_cell, is_same_entry}
 pub record Moves (n : Machine) (m m2 : Place → ℕ) : Type 0 where
   pub clock : m Clock ≤ m2 Clock
   pub told : (p : Place) → told_value p (m2 p) ≤ m2 Clock
-  pub flushed : (v : ℕ) → m (Vcpu v 5) ≤ m2 (Vcpu v 5)
-  pub stopped : (v : ℕ) → m (Vcpu v 6) ≡ 1 → m2 (Vcpu v 6) ≡ 1
+  pub flushed : (v : ℕ) → m (flushed_of v) ≤ m2 (flushed_of v)
+  pub stopped : (v : ℕ) → m (run_of v) ≡ 1 → m2 (run_of v) ≡ 1
   pub life : (d w : ℕ) → w ≢ 0 → (m (Life d) ≡ w) ⊎ (m (Life d) ≡ 255) → (m2 (Life d) ≡ w) ⊎ (m2 (Life d) ≡ 255)
   pub ever : (d o : ℕ) → IsTrue (has_ever o (m (Priv d))) → IsTrue (has_ever o (m2 (Priv d)))
   pub now : (d o : ℕ) → o < 16 → IsTrue (is_place (sizes_of n) (Priv d)) → IsTrue (has_now o (m2 (Priv d))) → IsTrue (has_ever o (m2 (Priv d)))
@@ -23,10 +23,9 @@ pub record Moves (n : Machine) (m m2 : Place → ℕ) : Type 0 where
 
 -- of another seat t: what it has in its hand alone
 pub record Spares (m m2 : Place → ℕ) (t : ℕ) (u : Holdings) : Type 0 where
-  pub flushed : m2 (Vcpu t 5) ≡ m (Vcpu t 5)
-  pub run : m2 (Vcpu t 6) ≡ m (Vcpu t 6)
-  pub old0 : m2 (Vcpu t 6) ≢ 1 → m2 (Vcpu t 2) ≡ m (Vcpu t 2)
-  pub old1 : m2 (Vcpu t 6) ≢ 1 → m2 (Vcpu t 3) ≡ m (Vcpu t 3)
+  pub flushed : m2 (flushed_of t) ≡ m (flushed_of t)
+  pub run : m2 (run_of t) ≡ m (run_of t)
+  pub own : (k : ℕ) → k ≢ 4 → k ≢ 5 → m2 (run_of t) ≢ 1 → m2 (Vcpu t k) ≡ m (Vcpu t k)
   pub works : (f : ℕ) → 0 < works_on f u.works → m2 (Kind f) ≡ m (Kind f)
   pub ending : (f : ℕ) → 0 < endings_of f u.ending → m2 (Refs f) ≡ m (Refs f)
   pub claimed : (f : ℕ) → 0 < claims_of f u.claimed → m2 (Refs f) ≡ m (Refs f)

@@ -1,17 +1,17 @@
 -- What an act leaves of the words, by the place that it writes.
-use Rattle.std.proofs.Common.{◌≡◌, ◌≢◌, ℕ, ◌+◌, ◌<◌, ◌≤◌, ◌==◌, ◌||◌, not, if◌then◌else◌, Bool, true, false, IsTrue, refl, ap, ◌∙◌, inl, inr, arith}
+use Rattle.std.proofs.Common.{◌≡◌, ◌≢◌, ℕ, ◌+◌, ◌<◌, ◌≤◌, ◌==◌, not, if◌then◌else◌, Bool, true, false, IsTrue, refl, ap, ◌∙◌, inl, inr, arith}
 use Rattle.std.proofs.lemmas.Bool.{cases_eq}
 use Rattle.std.proofs.lemmas.Bool.Decides.{nat_tests}
 use Rattle.xp_words.specs.PageTypes.{is_table}
 use Rattle.xp_words.specs.KindWords.{kind_fields}
 use Rattle.xp_words.specs.Machine.{Machine}
-use Rattle.xp_words.specs.Places.{sizes_of, Place, Clock, Pages, Life, Vcpu, Refs, Kind, M2p, Cell, Map, Priv}
+use Rattle.xp_words.specs.Places.{sizes_of, Place, Clock, Pages, Life, Vcpu, Refs, Kind, M2p, Cell, Map, Priv, flushed_of, run_of}
 use Rattle.xp_board.specs.declared.holdings.Holdings.{Holdings}
 use Rattle.xp_board.specs.Readings.{kind_at, is_live, owner_of, ref_count, type_count, told_value, free_stamp, kind_stamp}
 use Rattle.xp_board.specs.Hands.{works_on, endings_of, claims_of}
 use Rattle.xp_board.specs.Found.{is_same_entry, without_bits}
 use Rattle.xp_board.specs.Sound.{Sound}
-use Rattle.xp_board.proofs.PlaceTests.{same_or_other}
+use Rattle.board_lemmas.proofs.PlaceTests.{same_or_other}
 use Rattle.found_rule.proofs.PlaceTests.{equal_refl}
 use Rattle.found_rule.proofs.StepLists.{EachOf-all}
 use Rattle.found_rule.proofs.SoundWords.{told_within, had}
@@ -23,13 +23,16 @@ abbrev pub is_read : Place → Bool
 is_read Clock = true
 is_read (Pages d) = false
 is_read (Life d) = true
-is_read (Vcpu v k) = not ((k == 4) || (k == 7))
+is_read (Vcpu v k) = not (k == 4)
 is_read (Refs f) = true
 is_read (Kind f) = true
 is_read (M2p f) = false
 is_read (Cell f i) = true
 is_read (Map k) = false
 is_read (Priv d) = true
+
+read_own : (t k : ℕ) → k ≢ 4 → IsTrue (is_read (Vcpu t k))
+read_own t k off = grind (arith, nat_tests)
 
 module _ (n : Machine) (s : ℕ) (m m2 : Place → ℕ) (b : ℕ → Holdings) (sound : Sound n m b) where
   same_entry : (x y : ℕ) → x ≡ y → IsTrue (is_same_entry x y)
@@ -48,8 +51,8 @@ module _ (n : Machine) (s : ℕ) (m m2 : Place → ℕ) (b : ℕ → Holdings) (
     told_same (Vcpu v k) =
         elim (cases_eq k 5) [
           | inl at ↦
-              (let u = told_within n m sound.stamped (Vcpu v 5) in
-              let e = same (Vcpu v 5) refl in
+              (let u = told_within n m sound.stamped (flushed_of v) in
+              let e = same (flushed_of v) refl in
               let o = same Clock refl in
               let t : (k == 5) ≡ true = grind (arith, nat_tests) in
               rw (t, at, e, o) u)
@@ -68,8 +71,8 @@ module _ (n : Machine) (s : ℕ) (m m2 : Place → ℕ) (b : ℕ → Holdings) (
           moves = record {
             clock = let e = same Clock refl in omega arith;
             told = told_same;
-            flushed = λ v. let e = same (Vcpu v 5) refl in omega arith;
-            stopped = λ v o. same (Vcpu v 6) refl ∙ o;
+            flushed = λ v. let e = same (flushed_of v) refl in omega arith;
+            stopped = λ v o. same (run_of v) refl ∙ o;
             life = λ d w o h. rw (same (Life d) refl) h;
             ever = λ d o h. rw (same (Priv d) refl) h;
             now = λ d o l r h. rw (same (Priv d) refl) (had n m d (sound.spelled.spelled (Priv d) r) o l (rw (same (Priv d) refl) at h));
@@ -78,10 +81,9 @@ module _ (n : Machine) (s : ℕ) (m m2 : Place → ℕ) (b : ℕ → Holdings) (
             kind = λ f h. ap (λ w. (kind_fields w).kind) (same (Kind f) refl);
           };
           spares = λ t l d. record {
-            flushed = same (Vcpu t 5) refl;
-            run = same (Vcpu t 6) refl;
-            old0 = λ o. same (Vcpu t 2) refl;
-            old1 = λ o. same (Vcpu t 3) refl;
+            flushed = same (flushed_of t) refl;
+            run = same (run_of t) refl;
+            own = λ k a b o. same (Vcpu t k) (read_own t k a);
             works = λ f h. same (Kind f) refl;
             ending = λ f h. same (Refs f) refl;
             claimed = λ f h. same (Refs f) refl;
@@ -111,8 +113,8 @@ module _ (n : Machine) (s : ℕ) (m m2 : Place → ℕ) (b : ℕ → Holdings) (
         moves = record {
           clock = let e = others Clock (λ k. cc) in omega arith;
           told = let e = others Clock (λ k. cc) in told_at (Refs f) others (omega arith) (omega arith);
-          flushed = λ v. let e = others (Vcpu v 5) (λ k. cc) in omega arith;
-          stopped = λ v o. others (Vcpu v 6) (λ k. cc) ∙ o;
+          flushed = λ v. let e = others (flushed_of v) (λ k. cc) in omega arith;
+          stopped = λ v o. others (run_of v) (λ k. cc) ∙ o;
           life = λ d w o h. rw (others (Life d) (λ k. cc)) h;
           ever = λ d o h. rw (others (Priv d) (λ k. cc)) h;
           now = λ d o l r h. rw (others (Priv d) (λ k. cc)) (had n m d (sound.spelled.spelled (Priv d) r) o l (rw (others (Priv d) (λ k. cc)) at h));
@@ -121,10 +123,9 @@ module _ (n : Machine) (s : ℕ) (m m2 : Place → ℕ) (b : ℕ → Holdings) (
           kind = λ g h. ap (λ w. (kind_fields w).kind) (others (Kind g) (λ e. cc));
         };
         spares = λ t l d. record {
-          flushed = others (Vcpu t 5) (λ e. cc);
-          run = others (Vcpu t 6) (λ e. cc);
-          old0 = λ o. others (Vcpu t 2) (λ e. cc);
-          old1 = λ o. others (Vcpu t 3) (λ e. cc);
+          flushed = others (flushed_of t) (λ e. cc);
+          run = others (run_of t) (λ e. cc);
+          own = λ k a b o. others (Vcpu t k) (λ e. cc);
           works = λ g h. others (Kind g) (λ e. cc);
           ending = λ g h. elim (cases_eq g f) [ inl at ↦ absurd (alone t l d (let q = rw at at h in omega arith)) | inr off ↦ others (Refs g) (λ k. off (cc)) ];
           claimed = λ g h. elim (cases_eq g f) [ inl at ↦ absurd (alone t l d (let q = rw at at h in omega arith)) | inr off ↦ others (Refs g) (λ k. off (cc)) ];
@@ -145,8 +146,8 @@ module _ (n : Machine) (s : ℕ) (m m2 : Place → ℕ) (b : ℕ → Holdings) (
         moves = record {
           clock = let e = others Clock (λ k. cc) in omega arith;
           told = let e = others Clock (λ k. cc) in told_at (Kind f) others (omega arith) (omega arith);
-          flushed = λ v. let e = others (Vcpu v 5) (λ k. cc) in omega arith;
-          stopped = λ v o. others (Vcpu v 6) (λ k. cc) ∙ o;
+          flushed = λ v. let e = others (flushed_of v) (λ k. cc) in omega arith;
+          stopped = λ v o. others (run_of v) (λ k. cc) ∙ o;
           life = λ d w o h. rw (others (Life d) (λ k. cc)) h;
           ever = λ d o h. rw (others (Priv d) (λ k. cc)) h;
           now = λ d o l r h. rw (others (Priv d) (λ k. cc)) (had n m d (sound.spelled.spelled (Priv d) r) o l (rw (others (Priv d) (λ k. cc)) at h));
@@ -155,10 +156,9 @@ module _ (n : Machine) (s : ℕ) (m m2 : Place → ℕ) (b : ℕ → Holdings) (
           kind = λ g h. elim (cases_eq g f) [ inl at ↦ rw at (kind (rw at at h)) | inr off ↦ ap (λ w. (kind_fields w).kind) (others (Kind g) (λ e. off (cc))) ];
         };
         spares = λ t l d. record {
-          flushed = others (Vcpu t 5) (λ e. cc);
-          run = others (Vcpu t 6) (λ e. cc);
-          old0 = λ o. others (Vcpu t 2) (λ e. cc);
-          old1 = λ o. others (Vcpu t 3) (λ e. cc);
+          flushed = others (flushed_of t) (λ e. cc);
+          run = others (run_of t) (λ e. cc);
+          own = λ k a b o. others (Vcpu t k) (λ e. cc);
           works = λ g h. elim (cases_eq g f) [ inl at ↦ absurd (alone t l d (rw at at h)) | inr off ↦ others (Kind g) (λ k. off (cc)) ];
           ending = λ g h. others (Refs g) (λ e. cc);
           claimed = λ g h. others (Refs g) (λ e. cc);

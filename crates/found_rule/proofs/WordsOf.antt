@@ -3,14 +3,14 @@ use Rattle.std.proofs.Common.{◌≡◌, ◌≢◌, ℕ, ◌<◌, ◌≤◌, ◌
 use Rattle.xp_words.specs.PageTypes.{is_table}
 use Rattle.xp_words.specs.KindWords.{kind_fields}
 use Rattle.xp_words.specs.Machine.{Machine}
-use Rattle.xp_words.specs.Places.{sizes_of, Place, Clock, Life, Vcpu, Refs, Kind, Cell, Priv, is_place}
+use Rattle.xp_words.specs.Places.{sizes_of, Place, Clock, Life, Vcpu, Refs, Kind, Cell, Priv, is_place, flushed_of, run_of}
 use Rattle.xp_board.specs.declared.holdings.Holdings.{Holdings}
 use Rattle.xp_board.specs.Lists.{EachOf}
 use Rattle.xp_board.specs.Readings.{kind_at, owner_of, told_value, has_now, has_ever}
 use Rattle.xp_board.specs.Hands.{works_on, locks_on, claims_of}
 use Rattle.xp_board.specs.Found.{is_known_inside, is_same_cell, is_same_entry, without_bits}
 use Rattle.xp_board.specs.Sound.{Sound}
-use Rattle.xp_board.proofs.PlaceTests.{same_or_other}
+use Rattle.board_lemmas.proofs.PlaceTests.{same_or_other}
 use Rattle.found_rule.proofs.PlaceTests.{equal_refl}
 use Rattle.found_rule.proofs.StepLists.{EachOf-all, EachOf-map}
 use Rattle.found_rule.proofs.SoundWords.{had}
@@ -21,15 +21,14 @@ use Rattle.found_rule.proofs.WordsAt.{told_at}
 -- ---- a place that is no frame's: what it leaves is told place by place
 pub record Lone (n : Machine) (s : ℕ) (m m2 : Place → ℕ) : Type 0 where
   pub clock : m Clock ≤ m2 Clock
-  pub flushed : (v : ℕ) → m (Vcpu v 5) ≤ m2 (Vcpu v 5)
-  pub stopped : (v : ℕ) → m (Vcpu v 6) ≡ 1 → m2 (Vcpu v 6) ≡ 1
+  pub flushed : (v : ℕ) → m (flushed_of v) ≤ m2 (flushed_of v)
+  pub stopped : (v : ℕ) → m (run_of v) ≡ 1 → m2 (run_of v) ≡ 1
   pub life : (d w : ℕ) → w ≢ 0 → (m (Life d) ≡ w) ⊎ (m (Life d) ≡ 255) → (m2 (Life d) ≡ w) ⊎ (m2 (Life d) ≡ 255)
   pub ever : (d o : ℕ) → IsTrue (has_ever o (m (Priv d))) → IsTrue (has_ever o (m2 (Priv d)))
   pub now : (d o : ℕ) → o < 16 → IsTrue (is_place (sizes_of n) (Priv d)) → IsTrue (has_now o (m2 (Priv d))) → IsTrue (has_ever o (m2 (Priv d)))
-  pub acks : (t : ℕ) → t ≢ s → m2 (Vcpu t 5) ≡ m (Vcpu t 5)
-  pub runs : (t : ℕ) → t ≢ s → m2 (Vcpu t 6) ≡ m (Vcpu t 6)
-  pub old0 : (t : ℕ) → t ≢ s → m2 (Vcpu t 6) ≢ 1 → m2 (Vcpu t 2) ≡ m (Vcpu t 2)
-  pub old1 : (t : ℕ) → t ≢ s → m2 (Vcpu t 6) ≢ 1 → m2 (Vcpu t 3) ≡ m (Vcpu t 3)
+  pub acks : (t : ℕ) → t ≢ s → m2 (flushed_of t) ≡ m (flushed_of t)
+  pub runs : (t : ℕ) → t ≢ s → m2 (run_of t) ≡ m (run_of t)
+  pub own : (t : ℕ) → t ≢ s → (k : ℕ) → k ≢ 4 → k ≢ 5 → m2 (run_of t) ≢ 1 → m2 (Vcpu t k) ≡ m (Vcpu t k)
 
 module _ (n : Machine) (s : ℕ) (m m2 : Place → ℕ) (b : ℕ → Holdings) (sound : Sound n m b) (p : Place) (others : (q : Place) → q ≢ p → m2 q ≡ m q) where
   entry_kept : (x y : ℕ) → x ≡ y → IsTrue (is_same_entry x y)
@@ -59,8 +58,7 @@ module _ (n : Machine) (s : ℕ) (m m2 : Place → ℕ) (b : ℕ → Holdings) (
         spares = λ t l d. record {
           flushed = lone.acks t d;
           run = lone.runs t d;
-          old0 = lone.old0 t d;
-          old1 = lone.old1 t d;
+          own = lone.own t d;
           works = λ f h. k f;
           ending = λ f h. r f;
           claimed = λ f h. r f;
@@ -99,15 +97,14 @@ module _ (n : Machine) (s : ℕ) (m m2 : Place → ℕ) (b : ℕ → Holdings) (
         now = now;
         acks = λ t d. v t 5;
         runs = λ t d. v t 6;
-        old0 = λ t d o. v t 2;
-        old1 = λ t d o. v t 3;
+        own = λ t d k a b o. v t k;
       }
 
   -- a word of a vCPU
-  pub lone_vcpu : (v k : ℕ) → p ≡ Vcpu v k → ((t : ℕ) → m (Vcpu t 5) ≤ m2 (Vcpu t 5)) → ((t : ℕ) → m (Vcpu t 6) ≡ 1 → m2 (Vcpu t 6) ≡ 1) →
-      ((t : ℕ) → t ≢ s → m2 (Vcpu t 5) ≡ m (Vcpu t 5)) → ((t : ℕ) → t ≢ s → m2 (Vcpu t 6) ≡ m (Vcpu t 6)) →
-      ((t : ℕ) → t ≢ s → m2 (Vcpu t 6) ≢ 1 → m2 (Vcpu t 2) ≡ m (Vcpu t 2)) → ((t : ℕ) → t ≢ s → m2 (Vcpu t 6) ≢ 1 → m2 (Vcpu t 3) ≡ m (Vcpu t 3)) → Lone n s m m2
-  lone_vcpu v k at flushed stopped acks runs old0 old1 =
+  pub lone_vcpu : (v k : ℕ) → p ≡ Vcpu v k → ((t : ℕ) → m (flushed_of t) ≤ m2 (flushed_of t)) → ((t : ℕ) → m (run_of t) ≡ 1 → m2 (run_of t) ≡ 1) →
+      ((t : ℕ) → t ≢ s → m2 (flushed_of t) ≡ m (flushed_of t)) → ((t : ℕ) → t ≢ s → m2 (run_of t) ≡ m (run_of t)) →
+      ((t : ℕ) → t ≢ s → (k : ℕ) → k ≢ 4 → k ≢ 5 → m2 (run_of t) ≢ 1 → m2 (Vcpu t k) ≡ m (Vcpu t k)) → Lone n s m m2
+  lone_vcpu v k at flushed stopped acks runs own =
       record {
         clock = clock_kept (λ e. let q = at in cc);
         flushed = flushed;
@@ -117,8 +114,7 @@ module _ (n : Machine) (s : ℕ) (m m2 : Place → ℕ) (b : ℕ → Holdings) (
         now = now_kept (λ d e. let q = at in cc);
         acks = acks;
         runs = runs;
-        old0 = old0;
-        old1 = old1;
+        own = own;
       }
 
 -- ---- a cell
@@ -158,8 +154,7 @@ module _ (n : Machine) (s : ℕ) (m m2 : Place → ℕ) (b : ℕ → Holdings) (
         spares = λ t l d. record {
           flushed = v t 5;
           run = v t 6;
-          old0 = λ h. v t 2;
-          old1 = λ h. v t 3;
+          own = λ k a b h. v t k;
           works = λ g h. others (Kind g) (λ e. cc);
           ending = λ g h. others (Refs g) (λ e. cc);
           claimed = λ g h. others (Refs g) (λ e. cc);

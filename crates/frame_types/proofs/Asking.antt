@@ -1,7 +1,7 @@
 -- Another vCPU: it is looked at, and asked to flush where it is behind.
 use Rattle.std.proofs.Common.{◌≡◌, ◌≢◌, ℕ, ◌<◌, ◌≤◌, ◌==◌, ◌⊎◌, nat_le, true, false, List, [], ◌∷◌, ◌++◌, length, Some, None, Ok, IsTrue, refl, sym, ap, ◌∙◌, subst, inl, inr, arith}
 use Rattle.std.proofs.lemmas.Bool.Decides.{nat_tests}
-use Rattle.xp_words.specs.Places.{Place, Vcpu, Priv, sizes_of}
+use Rattle.xp_words.specs.Places.{Place, Vcpu, Priv, sizes_of, run_of, flushed_of, asked_of}
 use Rattle.xp_board.specs.declared.step.Act.TheVariants.{Load, Max}
 use Rattle.xp_board.specs.declared.holdings.Made.{Made}
 use Rattle.xp_board.specs.Acts.{left_by}
@@ -39,17 +39,17 @@ zero_test x is = grind (arith, nat_tests)
 low_test : (x n : ℕ) → x ≤ n → nat_le x n ≡ true
 low_test x n l = grind (arith, nat_tests)
 
-module _ (v u t : PortValue) (a : Awaited) (k x y : ℕ) (run : Makes v u (Vcpu k 6) Load None x) (first : SameHand v.holdings u.holdings) (post : u.post ≡ v.post)
-    (marked : IsMarked v.post.machine a.frame a.owner a.stamp v.holdings) (flushed : Makes u t (Vcpu k 5) Load None y) (second : SameHand u.holdings t.holdings) (again : t.post ≡ u.post) where
+module _ (v u t : PortValue) (a : Awaited) (k x y : ℕ) (run : Makes v u (run_of k) Load None x) (first : SameHand v.holdings u.holdings) (post : u.post ≡ v.post)
+    (marked : IsMarked v.post.machine a.frame a.owner a.stamp v.holdings) (flushed : Makes u t (flushed_of k) Load None y) (second : SameHand u.holdings t.holdings) (again : t.post ≡ u.post) where
   -- flushed later than the stamp
-  pub found_late : Finds u.post.machine u.post.seat u.holdings (Vcpu k 5) y → a.stamp < y → Looks v t a k (Ok None)
+  pub found_late : Finds u.post.machine u.post.seat u.holdings (flushed_of k) y → a.stamp < y → Looks v t a k (Ok None)
   found_late finds late =
       let piece = vcpu_look v u k 6 x a.frame run in
       looks_after v u t a k (Ok None) _ piece (whole_same _ _ first)
       (look_late u t a k y second flushed finds (marked_next v u a _ piece.piece post (whole_same _ _ first) marked) late)
 
   abbrev pub looked : List Made
-  looked = made_of u t (Vcpu k 5) Load y flushed ∷ made_of v u (Vcpu k 6) Load x run ∷ []
+  looked = made_of u t (flushed_of k) Load y flushed ∷ made_of v u (run_of k) Load x run ∷ []
 
   pub two_looks : ServesFlushes v t a.frame looked
   two_looks = flushes_both v u t a.frame _ _ (vcpu_look v u k 6 x a.frame run) (vcpu_look u t k 5 y a.frame flushed)
@@ -69,7 +69,7 @@ module _ (v u t : PortValue) (a : Awaited) (k x y : ℕ) (run : Makes v u (Vcpu 
   -- ---- concerned
   module _ (r : PortValue) (weighs : Weighs t r a k true) (later : r.post ≡ t.post) where
     grown : Grows u.holdings r.holdings
-    grown test h = went_grows t r weighs.made weighs.piece.went test (makes_keeps u t (Vcpu k 5) Load None y flushed test h)
+    grown test h = went_grows t r weighs.made weighs.piece.went test (makes_keeps u t (flushed_of k) Load None y flushed test h)
 
     same_then : SameOrFlushed v.holdings r.holdings
     same_then = whole_more _ _ _ two_same weighs.hand
@@ -77,7 +77,7 @@ module _ (v u t : PortValue) (a : Awaited) (k x y : ℕ) (run : Makes v u (Vcpu 
     awaits_frame : (p : Place) (z : ℕ) → Finds v.post.machine v.post.seat v.holdings p z → AwaitsFrame v.post.machine (length v.holdings.steps) k a.stamp r.holdings
     awaits_frame p z finds =
         let n = v.post.machine in
-        let grows : Grows v.holdings r.holdings = λ test h. grown test (makes_keeps v u (Vcpu k 6) Load None x run test h) in
+        let grows : Grows v.holdings r.holdings = λ test h. grown test (makes_keeps v u (run_of k) Load None x run test h) in
         let m = marked_later n a.frame v.holdings r.holdings same_then grows a.owner a.stamp marked in
         let frame = same_frame n v.post.seat v.holdings p z finds a.frame marked.work marked.here in
         record {
@@ -99,35 +99,35 @@ module _ (v u t : PortValue) (a : Awaited) (k x y : ℕ) (run : Makes v u (Vcpu 
         (record {
           since = length v.holdings.steps;
           awaits = inl (awaits_frame p z finds);
-          running = grown _ (makes_since v u (Vcpu k 6) Load None x run (length v.holdings.steps) (λ w. w == 0) (omega arith) (zero_test x idle));
+          running = grown _ (makes_since v u (run_of k) Load None x run (length v.holdings.steps) (λ w. w == 0) (omega arith) (zero_test x idle));
           flushed =
-              subst (λ (q : Post). IsTrue (some_since (sizes_of q.machine) (length v.holdings.steps) (Vcpu k 5) (λ w. nat_le w a.stamp) r.holdings.steps)) post
+              subst (λ (q : Post). IsTrue (some_since (sizes_of q.machine) (length v.holdings.steps) (flushed_of k) (λ w. nat_le w a.stamp) r.holdings.steps)) post
               (went_grows t r weighs.made weighs.piece.went _
-              (makes_since u t (Vcpu k 5) Load None y flushed (length v.holdings.steps) (λ w. nat_le w a.stamp) (went_longer v u (record { step = run.step; found = x } ∷ []) run.went) (low_test y a.stamp behind)));
+              (makes_since u t (flushed_of k) Load None y flushed (length v.holdings.steps) (λ w. nat_le w a.stamp) (went_longer v u (record { step = run.step; found = x } ∷ []) run.went) (low_test y a.stamp behind)));
         })
 
     -- asked
-    pub found_behind : (w : PortValue) (z : ℕ) → Makes r w (Vcpu k 4) (Max a.stamp) None z → SameHand r.holdings w.holdings → k ≢ v.post.seat → x ≡ 0 → y ≤ a.stamp → Looks v w a k (Ok (Some y))
+    pub found_behind : (w : PortValue) (z : ℕ) → Makes r w (asked_of k) (Max a.stamp) None z → SameHand r.holdings w.holdings → k ≢ v.post.seat → x ≡ 0 → y ≤ a.stamp → Looks v w a k (Ok (Some y))
     found_behind w z ask third other idle behind =
         let n = v.post.machine in
         let before = flushes_both v t r a.frame looked weighs.made two_looks (ran_serves t r a.frame _ weighs) in
-        let all = flushes_both v r w a.frame _ _ before (makes_flushes r w (Vcpu k 4) (Max a.stamp) z ask a.frame refl refl) in
-        let run_had = subst (λ c. Had n (Vcpu k 6) c (made_of v u (Vcpu k 6) Load x run ∷ [])) idle (makes_had v u (Vcpu k 6) Load x run) in
-        let flushed_had = subst (λ (q : Post). Had q.machine (Vcpu k 5) y (made_of u t (Vcpu k 5) Load y flushed ∷ [])) post (makes_had u t (Vcpu k 5) Load y flushed) in
-        let asked_had = subst (λ (q : Post). HadAct q.machine (Vcpu k 4) (Max a.stamp) z (made_of r w (Vcpu k 4) (Max a.stamp) z ask ∷ [])) (later ∙ again ∙ post) (makes_act r w (Vcpu k 4) (Max a.stamp) z ask) in
+        let all = flushes_both v r w a.frame _ _ before (makes_flushes r w (asked_of k) (Max a.stamp) z ask a.frame refl refl) in
+        let run_had = subst (λ c. Had n (run_of k) c (made_of v u (run_of k) Load x run ∷ [])) idle (makes_had v u (run_of k) Load x run) in
+        let flushed_had = subst (λ (q : Post). Had q.machine (flushed_of k) y (made_of u t (flushed_of k) Load y flushed ∷ [])) post (makes_had u t (flushed_of k) Load y flushed) in
+        let asked_had = subst (λ (q : Post). HadAct q.machine (asked_of k) (Max a.stamp) z (made_of r w (asked_of k) (Max a.stamp) z ask ∷ [])) (later ∙ again ∙ post) (makes_act r w (asked_of k) (Max a.stamp) z ask) in
         record {
-          made = made_of r w (Vcpu k 4) (Max a.stamp) z ask ∷ (weighs.made ++ looked);
+          made = made_of r w (asked_of k) (Max a.stamp) z ask ∷ (weighs.made ++ looked);
           piece = all.piece;
           flushes = all.flushes;
           shows = record {
             other = other;
-            running = had_earlier n (Vcpu k 6) 0 (weighs.made ++ looked) (made_of r w (Vcpu k 4) (Max a.stamp) z ask ∷ [])
-                (had_earlier n (Vcpu k 6) 0 looked weighs.made (inr run_had));
-            flushed = had_earlier n (Vcpu k 5) y (weighs.made ++ looked) (made_of r w (Vcpu k 4) (Max a.stamp) z ask ∷ [])
-                (had_earlier n (Vcpu k 5) y looked weighs.made
-                (had_later n (Vcpu k 5) y (made_of v u (Vcpu k 6) Load x run ∷ []) (made_of u t (Vcpu k 5) Load y flushed ∷ []) flushed_had));
+            running = had_earlier n (run_of k) 0 (weighs.made ++ looked) (made_of r w (asked_of k) (Max a.stamp) z ask ∷ [])
+                (had_earlier n (run_of k) 0 looked weighs.made (inr run_had));
+            flushed = had_earlier n (flushed_of k) y (weighs.made ++ looked) (made_of r w (asked_of k) (Max a.stamp) z ask ∷ [])
+                (had_earlier n (flushed_of k) y looked weighs.made
+                (had_later n (flushed_of k) y (made_of v u (run_of k) Load x run ∷ []) (made_of u t (flushed_of k) Load y flushed ∷ []) flushed_had));
             behind = behind;
-            asked = record { before = z; asked = act_later n (Vcpu k 4) (Max a.stamp) z (weighs.made ++ looked) (made_of r w (Vcpu k 4) (Max a.stamp) z ask ∷ []) asked_had };
+            asked = record { before = z; asked = act_later n (asked_of k) (Max a.stamp) z (weighs.made ++ looked) (made_of r w (asked_of k) (Max a.stamp) z ask ∷ []) asked_had };
           };
           hand = whole_more _ _ _ same_then (whole_same _ _ third);
         }

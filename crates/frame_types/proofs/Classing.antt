@@ -13,7 +13,7 @@ use Rattle.xp_board.specs.KindSteps.{is_stale}
 use Rattle.xp_board.specs.Readings.{is_dead, is_partial, is_work, is_closing}
 use Rattle.xp_board.specs.Spelling.{IsSpelling, is_kind_in}
 use Rattle.xp_board.specs.Told.{Finds}
-use Rattle.xp_board.proofs.KindForms.{form_read}
+use Rattle.board_lemmas.proofs.KindForms.{form_read}
 use Rattle.frame_words.proofs.KindWriting.{fields_read}
 use Rattle.frame_words.proofs.PartialCalls.{partial_unlive}
 use Rattle.frame_words.proofs.Stepping.{kind_there}

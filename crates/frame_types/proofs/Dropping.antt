@@ -22,8 +22,8 @@ use Rattle.xp_board.specs.Hands.{work_on}
 use Rattle.xp_board.specs.KindSteps.{new_work}
 use Rattle.xp_board.specs.Spelling.{IsSpelling}
 use Rattle.xp_board.specs.Told.{Post, PortValue, Finds}
-use Rattle.xp_board.proofs.KindForms.{spelled_form}
-use Rattle.xp_board.proofs.ListCounts.{EachOf-found}
+use Rattle.board_lemmas.proofs.KindForms.{spelled_form}
+use Rattle.board_lemmas.proofs.ListCounts.{EachOf-found}
 use Rattle.frame_words.specs.Hands.{SameHand, GaveBack}
 use Rattle.frame_words.specs.Kinds.{DroppedType, MayLeaveDead, MadeDead, is_in_work, is_work_in, one_fewer}
 use Rattle.frame_words.proofs.KindCalls.{work_here, dropped_may_die, without_newest}

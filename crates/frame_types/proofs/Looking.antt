@@ -4,7 +4,7 @@ use Rattle.std.proofs.lemmas.Bool.{or_left, or_right}
 use Rattle.std.proofs.lemmas.Bool.Decides.{nat_tests}
 use Rattle.xp_words.specs.Machine.{Machine}
 use Rattle.xp_words.specs.KindWords.{kind_fields}
-use Rattle.xp_words.specs.Places.{Vcpu, Priv, sizes_of}
+use Rattle.xp_words.specs.Places.{Vcpu, Priv, sizes_of, run_of, flushed_of}
 use Rattle.xp_board.specs.declared.step.Act.TheVariants.{Load}
 use Rattle.xp_board.specs.declared.holdings.Holdings.{Holdings}
 use Rattle.xp_board.specs.declared.holdings.Work.{Work}
@@ -38,10 +38,10 @@ idle_word : (w : ℕ) → w ≢ 0 → nat_lt w 3 ≡ true → is_idle w ≡ true
 idle_word w some low = grind (arith, nat_tests)
 
 -- a run word is below 3
-run_low : (n : Machine) (s : ℕ) (h : Holdings) (k w : ℕ) → k < length n.vcpu_domain → Finds n s h (Vcpu k 6) w → nat_lt w 3 ≡ true
+run_low : (n : Machine) (s : ℕ) (h : Holdings) (k w : ℕ) → k < length n.vcpu_domain → Finds n s h (run_of k) w → nat_lt w 3 ≡ true
 unfolding IsSpelling
 run_low n s h k w real finds =
-    (subst (λ y. IsSpelling n (Vcpu k 6) y) finds.word (finds.sound.spelled.spelled (Vcpu k 6) (own_there (sizes_of n) k 6 real (lit< tt)))).1
+    (subst (λ y. IsSpelling n (run_of k) y) finds.word (finds.sound.spelled.spelled (run_of k) (own_there (sizes_of n) k 6 real (lit< tt)))).1
 
 pub later : (c w : ℕ) → c < w → nat_lt c w ≡ true
 later c w l = grind (arith, nat_tests)
@@ -52,37 +52,37 @@ module _ (v w : PortValue) (a : Awaited) (k x : ℕ) (same : SameHand v.holdings
   before e here = ap (λ ws. work_on a.frame ws) (sym same.rest.works) ∙ here
 
   -- the vCPU does not run
-  pub look_idle : Makes v w (Vcpu k 6) Load None x → Finds v.post.machine v.post.seat v.holdings (Vcpu k 6) x → k < length v.post.machine.vcpu_domain → x ≢ 0 → Looks v w a k (Ok None)
+  pub look_idle : Makes v w (run_of k) Load None x → Finds v.post.machine v.post.seat v.holdings (run_of k) x → k < length v.post.machine.vcpu_domain → x ≢ 0 → Looks v w a k (Ok None)
   unfolding left_by
   look_idle m finds real some =
       let idle = idle_word x some (run_low v.post.machine v.post.seat v.holdings k x real finds) in
       let one = vcpu_look v w k 6 x a.frame m in
       record {
-        made = made_of v w (Vcpu k 6) Load x m ∷ [];
+        made = made_of v w (run_of k) Load x m ∷ [];
         piece = one.piece;
         flushes = one.flushes;
         shows = (
-          FoundClear.idle x (makes_had v w (Vcpu k 6) Load x m) idle,
+          FoundClear.idle x (makes_had v w (run_of k) Load x m) idle,
           λ e here.
-              inl (or_left _ _ (makes_since v w (Vcpu k 6) Load None x m e.since is_idle (work_past v.post.machine v.post.seat v.holdings (Vcpu k 6) x finds a.frame e (before e here)) idle)),
+              inl (or_left _ _ (makes_since v w (run_of k) Load None x m e.since is_idle (work_past v.post.machine v.post.seat v.holdings (run_of k) x finds a.frame e (before e here)) idle)),
         );
         hand = whole_same _ _ same;
       }
 
   -- it was flushed later than the stamp
-  pub look_late : Makes v w (Vcpu k 5) Load None x → Finds v.post.machine v.post.seat v.holdings (Vcpu k 5) x → IsMarked v.post.machine a.frame a.owner a.stamp v.holdings → a.stamp < x → Looks v w a k (Ok None)
+  pub look_late : Makes v w (flushed_of k) Load None x → Finds v.post.machine v.post.seat v.holdings (flushed_of k) x → IsMarked v.post.machine a.frame a.owner a.stamp v.holdings → a.stamp < x → Looks v w a k (Ok None)
   unfolding left_by
   look_late m finds marked late =
       let one = vcpu_look v w k 5 x a.frame m in
       record {
-        made = made_of v w (Vcpu k 5) Load x m ∷ [];
+        made = made_of v w (flushed_of k) Load x m ∷ [];
         piece = one.piece;
         flushes = one.flushes;
         shows = (
-          FoundClear.flushed x (makes_had v w (Vcpu k 5) Load x m) late,
+          FoundClear.flushed x (makes_had v w (flushed_of k) Load x m) late,
           λ e here.
               inl (or_right _ _
-              (makes_since v w (Vcpu k 5) Load None x m e.since (λ y. nat_lt (kind_fields e.word).number y) (work_past v.post.machine v.post.seat v.holdings (Vcpu k 5) x finds a.frame e (before e here))
+              (makes_since v w (flushed_of k) Load None x m e.since (λ y. nat_lt (kind_fields e.word).number y) (work_past v.post.machine v.post.seat v.holdings (flushed_of k) x finds a.frame e (before e here))
               (later _ x (subst (λ c. c < x) (sym (stamp_is v.post.machine a.frame a.owner a.stamp v.holdings e marked (before e here))) late)))),
         );
         hand = whole_same _ _ same;

@@ -15,8 +15,8 @@ use Rattle.xp_board.specs.Knowledge.{knows_owner}
 use Rattle.xp_board.specs.Readings.{owner_in, owner_of, kind_stamp}
 use Rattle.xp_board.specs.Spelling.{IsSpelling, is_ref_in}
 use Rattle.xp_board.specs.Told.{Finds}
-use Rattle.xp_board.proofs.KindForms.{marked_unlive}
-use Rattle.xp_board.proofs.WorkFacts.{Works, works_facts}
+use Rattle.board_lemmas.proofs.KindForms.{marked_unlive}
+use Rattle.board_lemmas.proofs.WorkFacts.{Works, works_facts}
 use Rattle.frame_words.proofs.Stepping.{refs_there}
 use Rattle.frame_types.specs.Waiting.{IsMarked}
 

@@ -16,7 +16,7 @@ use Rattle.xp_board.specs.Hands.{refs_to, ref_to, without_ref, typed_to, typed_o
 use Rattle.xp_board.specs.Knowledge.{knows_owner, tells_owner}
 use Rattle.xp_board.specs.Lists.{some_of}
 use Rattle.xp_board.specs.KindSteps.{live_typed}
-use Rattle.xp_board.proofs.ListCounts.{first_by-cons_here, times_by-cons_here}
+use Rattle.board_lemmas.proofs.ListCounts.{first_by-cons_here, times_by-cons_here}
 use Rattle.frame_words.specs.Hands.{SameHand, FlushedRest, GaveUp}
 use Rattle.frame_words.specs.Kinds.{LostKind, CountedType}
 use Rattle.frame_words.proofs.KindCalls.{without_newest}

@@ -2,7 +2,7 @@
 use Rattle.std.specs.Prelude.{◌≡◌, ◌≢◌, ◌⊎◌, ℕ, ◌<◌, ◌≤◌, Bool, true, false, List, [], Option, Some, None, Result, Ok, Err, IsTrue}
 use Rattle.xp_words.specs.Machine.{Machine}
 use Rattle.xp_words.specs.KindWords.{kind_fields}
-use Rattle.xp_words.specs.Places.{Vcpu, Priv, sizes_of}
+use Rattle.xp_words.specs.Places.{Vcpu, Priv, sizes_of, run_of, flushed_of}
 use Rattle.xp_words.specs.declared.reply.Refusal.{Refusal}
 use Rattle.xp_words.specs.declared.reply.Refusal.TheVariants as refusals
 use Rattle.xp_board.specs.declared.holdings.Made.{Made}
@@ -41,8 +41,8 @@ IsClear v w a made u = FoundClear v.post.machine v.post.seat a.owner a.stamp mad
 -- another one was found running and flushed no later than the stamp, and was asked
 pub record IsBehind (n : Machine) (s stamp : ℕ) (made : List Made) (u found : ℕ) : Type 0 where
   pub other : u ≢ s
-  pub running : Had n (Vcpu u 6) 0 made
-  pub flushed : Had n (Vcpu u 5) found made
+  pub running : Had n (run_of u) 0 made
+  pub flushed : Had n (flushed_of u) found made
   pub behind : found ≤ stamp
   pub asked : WasAsked n stamp made u
 

@@ -2,7 +2,7 @@
 use Rattle.std.specs.Prelude.{◌≡◌, ◌≢◌, ◌⊎◌, ℕ, ◌<◌, ◌≤◌, ◌||◌, not, true, List, [], length, Some, Result, Ok, Err, IsTrue}
 use Rattle.xp_words.specs.Machine.{Machine}
 use Rattle.xp_words.specs.KindWords.{kind_fields}
-use Rattle.xp_words.specs.Places.{Clock, Vcpu, Priv, sizes_of}
+use Rattle.xp_words.specs.Places.{Clock, Vcpu, Priv, sizes_of, run_of, flushed_of, asked_of}
 use Rattle.xp_words.specs.declared.reply.Stop.{Stop}
 use Rattle.xp_words.specs.declared.reply.Stop.TheVariants.{Refused, Paused}
 use Rattle.xp_words.specs.declared.reply.Refusal.TheVariants as refusals
@@ -39,22 +39,22 @@ pub record IsFlushed (n : Machine) (f : ℕ) (h : Holdings) : Type 0 where
 -- It was found stopped or off; or flushed later than the stamp; or it is the own one, which they flushed later; or its
 -- domain, which is not the owner, was found never to have had privilege over it.
 pub data FoundClear (n : Machine) (s owner stamp : ℕ) (made : List Made) (v : ℕ) : Type 0 where
-  idle : (w : ℕ) → Had n (Vcpu v 6) w made → IsTrue (is_idle w) → FoundClear n s owner stamp made v
-  flushed : (w : ℕ) → Had n (Vcpu v 5) w made → stamp < w → FoundClear n s owner stamp made v
-  own : (w before : ℕ) → v ≡ s → HadAct n (Vcpu v 5) (Store w) before made → stamp < w → FoundClear n s owner stamp made v
+  idle : (w : ℕ) → Had n (run_of v) w made → IsTrue (is_idle w) → FoundClear n s owner stamp made v
+  flushed : (w : ℕ) → Had n (flushed_of v) w made → stamp < w → FoundClear n s owner stamp made v
+  own : (w before : ℕ) → v ≡ s → HadAct n (flushed_of v) (Store w) before made → stamp < w → FoundClear n s owner stamp made v
   barred : (w : ℕ) → domain_of n v ≢ owner → Had n (Priv (domain_of n v)) w made → IsTrue (not (has_ever owner w)) → FoundClear n s owner stamp made v
 
 -- it was asked to flush past the stamp
 pub record WasAsked (n : Machine) (stamp : ℕ) (made : List Made) (v : ℕ) : Type 0 where
   pub before : ℕ
-  pub asked : HadAct n (Vcpu v 4) (Max stamp) before made
+  pub asked : HadAct n (asked_of v) (Max stamp) before made
 
 -- vCPU v, another one, was found running and flushed no later than the stamp; it is the least such, and all such were asked
 pub record WaitsFor (n : Machine) (s owner stamp : ℕ) (made : List Made) (v found : ℕ) : Type 0 where
   pub other : v ≢ s
   pub real : v < length n.vcpu_domain
-  pub running : Had n (Vcpu v 6) 0 made
-  pub flushed : Had n (Vcpu v 5) found made
+  pub running : Had n (run_of v) 0 made
+  pub flushed : Had n (flushed_of v) found made
   pub behind : found ≤ stamp
   pub least : (u : ℕ) → u < v → FoundClear n s owner stamp made u
   pub others : (u : ℕ) → u < length n.vcpu_domain → FoundClear n s owner stamp made u ⊎ WasAsked n stamp made u
@@ -63,7 +63,7 @@ pub record WaitsFor (n : Machine) (s owner stamp : ℕ) (made : List Made) (v fo
 pub record AtLastClock (n : Machine) (s stamp : ℕ) (made : List Made) : Type 0 where
   pub flushed : ℕ
   pub behind : flushed ≤ stamp
-  pub had_flushed : Had n (Vcpu s 5) flushed made
+  pub had_flushed : Had n (flushed_of s) flushed made
   pub had_clock : Had n Clock last_clock made
 
 -- ---- the wait

@@ -2,7 +2,7 @@
 use Rattle.std.proofs.Common.{◌≡◌, ◌≢◌, ℕ, ◌+◌, ◌^◌, ◌<◌, ◌==◌, nat_lt, if◌then◌else◌, Bool, true, false, length, Some, None, IsTrue, refl, sym, ap, ◌∙◌, subst, arith, lit<}
 use Rattle.std.proofs.lemmas.Bool.Decides.{nat_tests}
 use Rattle.xp_words.specs.Machine.{Machine}
-use Rattle.xp_words.specs.Places.{Sizes, Clock, Vcpu, Life, Priv, is_place, sizes_of, place_at}
+use Rattle.xp_words.specs.Places.{Sizes, Clock, Vcpu, Life, Priv, is_place, sizes_of, place_at, flushed_of, asked_of, run_of}
 use Rattle.xp_board.specs.declared.step.Act.TheVariants.{Load, Cas, Store, Max}
 use Rattle.xp_board.specs.declared.step.Step.{Step}
 use Rattle.xp_board.specs.declared.step.StepKind.TheVariants as steps
@@ -44,12 +44,12 @@ tick_is_legal n s h i e at low =
     })
     refl
 
-pub flush_is_legal : (n : Machine) (s : ℕ) (h : Holdings) (i c : ℕ) → place_at (sizes_of n) i ≡ Vcpu s 5 → s < length n.vcpu_domain → c < 2 ^ 64 →
+pub flush_is_legal : (n : Machine) (s : ℕ) (h : Holdings) (i c : ℕ) → place_at (sizes_of n) i ≡ flushed_of s → s < length n.vcpu_domain → c < 2 ^ 64 →
     IsTrue (some_since (sizes_of n) h.acked Clock (λ w. w == c) h.steps) → (h.cold ≡ true → IsTrue (some_since (sizes_of n) h.ran Clock (λ w. nat_lt w c) h.steps)) → h.walk ≡ None →
     Legal n s h (record { place = i; act = Store c; kind = steps.Ack; mark = None })
 unfolding IsSpelling
 flush_is_legal n s h i c at real small told warmed landed =
-    legal_at n s h i (Vcpu s 5) (Store c) steps.Ack None at
+    legal_at n s h i (flushed_of s) (Store c) steps.Ack None at
     (record {
       place = own_there (sizes_of n) s 5 real (lit< tt);
       marked = tt;
@@ -65,10 +65,10 @@ flush_is_legal n s h i c at real small told warmed landed =
     })
     refl
 
-pub ask_is_legal : (n : Machine) (s : ℕ) (h : Holdings) (i v t : ℕ) → place_at (sizes_of n) i ≡ Vcpu v 4 → v < length n.vcpu_domain → h.run ≡ Some 0 → t < 2 ^ 64 → MayAsk n v t h →
+pub ask_is_legal : (n : Machine) (s : ℕ) (h : Holdings) (i v t : ℕ) → place_at (sizes_of n) i ≡ asked_of v → v < length n.vcpu_domain → h.run ≡ Some 0 → t < 2 ^ 64 → MayAsk n v t h →
     Legal n s h (record { place = i; act = Max t; kind = steps.Ask; mark = None })
 ask_is_legal n s h i v t at real run small may =
-    legal_at n s h i (Vcpu v 4) (Max t) steps.Ask None at
+    legal_at n s h i (asked_of v) (Max t) steps.Ask None at
     (record {
       place = own_there (sizes_of n) v 4 real (lit< tt);
       marked = tt;
@@ -85,22 +85,22 @@ when_any false y = refl
 
 -- the word `flushed` of any vCPU tells nothing that is kept
 pub flushed_hand : (n : Machine) (s v : ℕ) (h k : Holdings) (x : Step) (found : ℕ) →
-    k ≡ noted x found (after_move n s h (Vcpu v 5) Load steps.Look None found) → SameHand h k
+    k ≡ noted x found (after_move n s h (flushed_of v) Load steps.Look None found) → SameHand h k
 flushed_hand n s v h k x found e = same_hand h k x found (e ∙ ap (λ y. noted x found y) (when_any (v == s) h))
 
 -- nor does the run word of another
 pub run_of_hand : (n : Machine) (s v : ℕ) (h k : Holdings) (x : Step) (found : ℕ) → v ≢ s →
-    k ≡ noted x found (after_move n s h (Vcpu v 6) Load steps.Look None found) → SameHand h k
+    k ≡ noted x found (after_move n s h (run_of v) Load steps.Look None found) → SameHand h k
 unfolding left_by
 run_of_hand n s v h k x found off e =
     same_hand h k x found (e ∙ ap (λ y. noted x found y) (when_other v s (record h { run = Some found }) h off))
 
 pub asked_hand : (n : Machine) (s v t : ℕ) (h k : Holdings) (x : Step) (found : ℕ) →
-    k ≡ noted x found (after_move n s h (Vcpu v 4) (Max t) steps.Ask None found) → SameHand h k
+    k ≡ noted x found (after_move n s h (asked_of v) (Max t) steps.Ask None found) → SameHand h k
 asked_hand n s v t h k x found e = same_hand h k x found (e ∙ ap (λ y. noted x found y) (when_any (v == s) h))
 
 pub acked_hand : (n : Machine) (s c : ℕ) (h k : Holdings) (x : Step) (found : ℕ) →
-    k ≡ noted x found (after_move n s h (Vcpu s 5) (Store c) steps.Ack None found) → Flushed h k
+    k ≡ noted x found (after_move n s h (flushed_of s) (Store c) steps.Ack None found) → Flushed h k
 acked_hand n s c h k x found e =
     let to = e ∙ ap (λ y. noted x found y) (when_any (s == s) (after_ack h)) in
     subst (λ y. Flushed h y) (sym to)

@@ -20,8 +20,8 @@ use Rattle.xp_board.specs.Legal.{Legal}
 use Rattle.xp_board.specs.Lists.{one_at, times, times_by, first_by, without_by, first_of, with_fewer}
 use Rattle.xp_board.specs.RefSteps.{one_down, IsFreeStamp, credited, freed, after_ref_store}
 use Rattle.xp_board.specs.Spelling.{IsSpelling}
-use Rattle.xp_board.proofs.ListCounts.{first_by-cons_here, times_by-cons_here}
-use Rattle.xp_board.proofs.Sums.{when_eq}
+use Rattle.board_lemmas.proofs.ListCounts.{first_by-cons_here, times_by-cons_here}
+use Rattle.board_lemmas.proofs.Sums.{when_eq}
 use Rattle.frame_words.specs.Freeing.{SameKept, IsEnding, IsEndingSince, RaisedBit, MadeFree, Refunded}
 use Rattle.frame_words.proofs.Stepping.{refs_there, legal_at}
 

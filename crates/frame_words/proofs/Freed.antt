@@ -13,8 +13,8 @@ use Rattle.xp_board.specs.RefSteps.{one_down}
 use Rattle.xp_board.specs.Steps.{some_since}
 use Rattle.xp_board.specs.Told.{Post, PortValue}
 use Rattle.xp_board.proofs.Going.{had_earlier}
-use Rattle.xp_board.proofs.ListCounts.{times_by-cons_here}
-use Rattle.xp_board.proofs.Sums.{when_eq}
+use Rattle.board_lemmas.proofs.ListCounts.{times_by-cons_here}
+use Rattle.board_lemmas.proofs.Sums.{when_eq}
 use Rattle.frame_words.specs.Freeing.{SameKept, IsEnding, IsEndingNow, IsEndingSince, RaisedBit, MadeFree, Refunded, LeftFree, FreesFrame}
 use Rattle.frame_words.specs.Hands.{SameHand}
 use Rattle.frame_words.specs.Pieces.{Makes, changes}

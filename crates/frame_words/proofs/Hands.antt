@@ -4,7 +4,7 @@ use Rattle.std.proofs.lemmas.Bool.Decides.{nat_tests}
 use Rattle.xp_words.specs.Machine.{Machine, IsMachine}
 use Rattle.xp_words.specs.RefWords.{ref_read}
 use Rattle.xp_words.specs.declared.refs.RefWord.TheVariants.{Owned}
-use Rattle.xp_words.specs.Places.{Place, Vcpu, Refs, is_place, number, sizes_of, place_at}
+use Rattle.xp_words.specs.Places.{Place, Vcpu, Refs, is_place, number, sizes_of, place_at, asked_of, run_of}
 use Rattle.xp_board.specs.declared.step.Act.TheVariants.{Load, Cas, Add}
 use Rattle.xp_board.specs.declared.step.Mark.{Mark}
 use Rattle.xp_board.specs.declared.step.Mark.TheVariants as marks
@@ -77,14 +77,14 @@ same_hand h k x found e =
 
 -- a look at the own ask begins the turn
 pub turn_hand : (n : Machine) (s : ℕ) (h k : Holdings) (x : Step) (found : ℕ) →
-    k ≡ noted x found (after_move n s h (Vcpu s 4) Load steps.Look (Some marks.Turn) found) → BegunTurn h k
+    k ≡ noted x found (after_move n s h (asked_of s) Load steps.Look (Some marks.Turn) found) → BegunTurn h k
 turn_hand n s h k x found e =
     let to = e ∙ ap (λ y. noted x found y) (when_same s (record h { turn = length h.steps }) (record h { turn = length h.steps })) in
     subst (λ y. BegunTurn h y) (sym to) (record { refs = refl; ending = refl; run = refl; turn = refl; rest = rest_of h _ refl refl refl refl refl refl refl refl refl refl refl refl refl refl })
 
 -- a look at the own run word
 pub run_hand : (n : Machine) (s : ℕ) (h k : Holdings) (x : Step) (found : ℕ) →
-    k ≡ noted x found (after_move n s h (Vcpu s 6) Load steps.Look None found) → FoundRun found h k
+    k ≡ noted x found (after_move n s h (run_of s) Load steps.Look None found) → FoundRun found h k
 unfolding left_by
 run_hand n s h k x found e =
     let to = e ∙ ap (λ y. noted x found y) (when_same s (record h { run = Some found }) h) in

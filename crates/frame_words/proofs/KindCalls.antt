@@ -18,8 +18,8 @@ use Rattle.xp_board.specs.KindSteps.{live_typed, MayDrop, begun_kind, is_stale, 
 use Rattle.xp_board.specs.Readings.{is_work}
 use Rattle.xp_board.specs.RefSteps.{SparesClosing, is_closing_on}
 use Rattle.xp_board.specs.Steps.{some_since}
-use Rattle.xp_board.proofs.ListCounts.{first_by-cons_here, times_by-cons_here}
-use Rattle.xp_board.proofs.Sums.{when_eq}
+use Rattle.board_lemmas.proofs.ListCounts.{first_by-cons_here, times_by-cons_here}
+use Rattle.board_lemmas.proofs.Sums.{when_eq}
 use Rattle.frame_words.specs.Kinds.{CountedType, BegunWork, IsWritableWork, MadeLive, DroppedType, MayLeaveDead, MadeDead, is_in_work, one_fewer}
 
 -- ---- a type count may be given back

@@ -18,13 +18,13 @@ use Rattle.xp_board.specs.Readings.{kind_at, is_live, ref_count, count_in, type_
 use Rattle.xp_board.specs.Recorded.{CountsAgree, names, names_typed, entry_demand, held_of, work_of, table_entries, entries}
 use Rattle.xp_board.specs.Spelling.{IsSpelling, is_ref_in}
 use Rattle.xp_board.specs.Told.{Finds}
-use Rattle.xp_board.proofs.Counted.{typed_counted}
-use Rattle.xp_board.proofs.KindForms.{live_unmarked}
-use Rattle.xp_board.proofs.HeldByForm.{live_idle}
-use Rattle.xp_board.proofs.ListCounts.{first_by-none, times_by-without_one}
+use Rattle.board_lemmas.proofs.Counted.{typed_counted}
+use Rattle.board_lemmas.proofs.KindForms.{live_unmarked}
+use Rattle.board_lemmas.proofs.HeldByForm.{live_idle}
+use Rattle.board_lemmas.proofs.ListCounts.{first_by-none, times_by-without_one}
 use Rattle.xp_board.proofs.RefWords.{owned_fits}
-use Rattle.xp_board.proofs.Sums.{sum_below-fewer, hands-plus, hands-part}
-use Rattle.xp_board.proofs.Works.{nobody_has, one_works}
+use Rattle.board_lemmas.proofs.Sums.{sum_below-fewer, hands-plus, hands-part}
+use Rattle.board_lemmas.proofs.Works.{nobody_has, one_works}
 use Rattle.frame_words.proofs.KindWriting.{fields_read}
 use Rattle.frame_words.proofs.Stepping.{refs_there, clock_there}
 

@@ -24,7 +24,7 @@ use Rattle.xp_board.specs.Readings.{is_live, is_dead}
 use Rattle.xp_board.specs.Runs.{place_of}
 use Rattle.xp_board.specs.Spelling.{is_kind_in}
 use Rattle.xp_board.specs.Told.{PortValue, stepped, IsTold}
-use Rattle.xp_board.proofs.Sums.{one_at-same}
+use Rattle.board_lemmas.proofs.Sums.{one_at-same}
 use Rattle.frame_words.specs.Kinds.{SameBeside, LostKind, CountedType, BegunWork, exchange_step}
 use Rattle.frame_words.specs.Pieces.{Makes}
 use Rattle.frame_words.proofs.KindWriting.{fields_write}

@@ -16,7 +16,7 @@ use Rattle.xp_board.specs.KindSteps.{AllowsKind, AllowsKindRow, kind_row, Allows
 use Rattle.xp_board.specs.Legal.{LegalMove, Legal}
 use Rattle.xp_board.specs.RefSteps.{one_down}
 use Rattle.xp_board.specs.Spelling.{IsSpelling, is_kind_in}
-use Rattle.xp_board.proofs.Sums.{if_itself, when_ne}
+use Rattle.board_lemmas.proofs.Sums.{if_itself, when_ne}
 use Rattle.frame_words.specs.Kinds.{exchange_step, store_step}
 use Rattle.frame_words.proofs.KindWriting.{fields_read, fields_write}
 use Rattle.frame_words.proofs.Stepping.{kind_there}

@@ -23,8 +23,8 @@ use Rattle.xp_board.specs.RefSteps.{one_down}
 use Rattle.xp_board.specs.Runs.{place_of}
 use Rattle.xp_board.specs.Spelling.{is_kind_in}
 use Rattle.xp_board.specs.Told.{PortValue, stepped, IsTold}
-use Rattle.xp_board.proofs.KindForms.{fields_down}
-use Rattle.xp_board.proofs.Sums.{one_at-same}
+use Rattle.board_lemmas.proofs.KindForms.{fields_down}
+use Rattle.board_lemmas.proofs.Sums.{one_at-same}
 use Rattle.frame_words.specs.Kinds.{IsWritableWork, MadeLive, MadeDead, ClosesIf, DroppedType, is_work_in, is_in_work, live_kind, store_step}
 use Rattle.frame_words.specs.Pieces.{Makes}
 use Rattle.frame_words.proofs.KindFinds.{FoundLive}

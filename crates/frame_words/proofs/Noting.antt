@@ -37,8 +37,8 @@ use Rattle.xp_board.specs.RefSteps.{RefRow, Raise, Clear, Claim, NoRefRow, ref_r
 use Rattle.xp_board.specs.RunSteps.{after_run}
 use Rattle.xp_board.specs.Steps.{is_same, some_step, some_since, some_before}
 use Rattle.xp_board.specs.Told.{PortValue}
-use Rattle.xp_board.proofs.HandParts.{beside_out, beside_in, beside_named_in, beside_named_out, beside_learned, beside_ran}
-use Rattle.xp_board.proofs.StepLists.{one_more}
+use Rattle.board_lemmas.proofs.HandParts.{beside_out, beside_in, beside_named_in, beside_named_out, beside_learned, beside_ran}
+use Rattle.board_lemmas.proofs.StepLists.{one_more}
 use Rattle.frame_words.specs.Pieces.{Makes}
 
 either_steps : (t : Bool) (a b h : Holdings) → a.steps ≡ h.steps → b.steps ≡ h.steps → (if t then a else b).steps ≡ h.steps

@@ -20,7 +20,7 @@ use Rattle.frame_words.specs.Flushing.{Flushed, flushed_to, FlushesOwn}
 use Rattle.frame_words.specs.Hands.{SameHand}
 use Rattle.frame_words.specs.Pieces.{Makes, Deed, deeds_by, deeds}
 use Rattle.xp_board.proofs.Going.{went_more, went_post}
-use Rattle.xp_board.proofs.Sums.{when_eq}
+use Rattle.board_lemmas.proofs.Sums.{when_eq}
 use Rattle.frame_words.proofs.Piecing.{deeds_append}
 use Rattle.frame_words.proofs.Noting.{makes_steps, makes_since, makes_keeps, made_now}
 use Rattle.frame_words.proofs.Stepping.{clock_there}

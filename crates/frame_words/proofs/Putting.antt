@@ -17,9 +17,9 @@ use Rattle.xp_board.specs.RefSteps.{one_down}
 use Rattle.xp_board.specs.Told.{Post, PortValue, Finds, Had}
 use Rattle.xp_board.specs.WellFormed.{WellFormed}
 use Rattle.xp_board.proofs.Going.{had_later}
-use Rattle.xp_board.proofs.ListCounts.{first_by-none}
+use Rattle.board_lemmas.proofs.ListCounts.{first_by-none}
 use Rattle.xp_board.proofs.RefWords.{is_dying-read}
-use Rattle.xp_board.proofs.Works.{is_dying-mine}
+use Rattle.board_lemmas.proofs.Works.{is_dying-mine}
 use Rattle.frame_words.specs.Freeing.{IsEndingNow, LeftFree, FreesFrame}
 use Rattle.frame_words.specs.Hands.{GaveRef, GaveBack, EndsIf}
 use Rattle.frame_words.specs.Pieces.{Makes, changes}

@@ -1,7 +1,7 @@
 -- The own vCPU is stopped: when that is legal, and what it leaves in hand.
 use Rattle.std.proofs.Common.{◌≡◌, ℕ, ◌<◌, length, Some, None, refl, sym, ap, ◌∙◌, subst, inl, lit<, add-one}
 use Rattle.xp_words.specs.Machine.{Machine}
-use Rattle.xp_words.specs.Places.{Vcpu, sizes_of, place_at}
+use Rattle.xp_words.specs.Places.{Vcpu, sizes_of, place_at, run_of}
 use Rattle.xp_board.specs.declared.step.Act.TheVariants.{Store}
 use Rattle.xp_board.specs.declared.step.Step.{Step}
 use Rattle.xp_board.specs.declared.step.StepKind.TheVariants as steps
@@ -16,11 +16,11 @@ use Rattle.frame_words.specs.Hands.{Stopped}
 use Rattle.frame_words.proofs.Hands.{when_same}
 use Rattle.frame_words.proofs.Stepping.{own_there, legal_at}
 
-pub stop_is_legal : (n : Machine) (s : ℕ) (h : Holdings) (i : ℕ) → place_at (sizes_of n) i ≡ Vcpu s 6 → s < length n.vcpu_domain → IsEmptyHand h → h.walk ≡ None →
+pub stop_is_legal : (n : Machine) (s : ℕ) (h : Holdings) (i : ℕ) → place_at (sizes_of n) i ≡ run_of s → s < length n.vcpu_domain → IsEmptyHand h → h.walk ≡ None →
     Legal n s h (record { place = i; act = Store 1; kind = steps.Run; mark = None })
 unfolding IsSpelling
 stop_is_legal n s h i at real empty landed =
-    legal_at n s h i (Vcpu s 6) (Store 1) steps.Run None at
+    legal_at n s h i (run_of s) (Store 1) steps.Run None at
     (record {
       place = own_there (sizes_of n) s 6 real (lit< tt);
       marked = tt;
@@ -31,7 +31,7 @@ stop_is_legal n s h i at real empty landed =
     refl
 
 pub stopped_hand : (n : Machine) (s : ℕ) (h k : Holdings) (x : Step) (found : ℕ) →
-    k ≡ noted x found (after_move n s h (Vcpu s 6) (Store 1) steps.Run None found) → Stopped h k
+    k ≡ noted x found (after_move n s h (run_of s) (Store 1) steps.Run None found) → Stopped h k
 unfolding left_by
 stopped_hand n s h k x found e =
     let to = e ∙ ap (λ y. noted x found y) (when_same s (record (ran_now 1 h) { run = Some 1 }) (ran_now 1 h)) in

@@ -12,7 +12,7 @@ use Rattle.xp_board.specs.Acts.{left_by}
 use Rattle.xp_board.specs.Runs.{place_of}
 use Rattle.xp_board.specs.Told.{PortValue, Story, IsTold, tells, is_telling, word_in, told_word}
 use Rattle.xp_board.proofs.Going.{went_telling}
-use Rattle.xp_board.proofs.Numbers.{place_number}
+use Rattle.board_lemmas.proofs.Numbers.{place_number}
 use Rattle.frame_words.specs.Pieces.{Makes}
 
 word_found : (n : Machine) (o : Option Story) (p : Place) (found : ℕ) → IsTold n o p found → is_some o ≡ true → word_in n o p ≡ found

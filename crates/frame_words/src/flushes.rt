@@ -1,6 +1,6 @@
 //! The clock, flushes and what they await, and the words of a domain, one step each.
 ghost use Rattle.std.specs.Prelude.{◌≡◌, ◌≢◌, ◌+◌, ◌==◌, ◌<◌, nat_lt, true, length, Some, None, IfErr, MatchResult, IsTrue};
-ghost use Rattle.xp_words.specs.Places.{Clock, Vcpu, Life, Priv, sizes_of};
+ghost use Rattle.xp_words.specs.Places.{Clock, Vcpu, Life, Priv, sizes_of, flushed_of, run_of, asked_of};
 ghost use Rattle.xp_board.specs.AskSteps.{MayAsk};
 ghost use Rattle.xp_board.specs.Readings.{last_clock};
 ghost use Rattle.xp_board.specs.Steps.{some_since};
@@ -24,8 +24,8 @@ const LAST_CLOCK: u64 = 68_719_476_734;
 pub fn look_flushed<P: Port>(port: &mut P, vcpu: u32) -> u64
     requires { vcpu < length (P.value port.old).post.machine.vcpu_domain }
     ensures post { (P.value port.new).post ≡ (P.value port.old).post }
-    ensures made { Makes (P.value port.old) (P.value port.new) (Vcpu vcpu 5) Load None result }
-    ensures found { Finds (P.value port.old).post.machine (P.value port.old).post.seat (P.value port.old).holdings (Vcpu vcpu 5) result }
+    ensures made { Makes (P.value port.old) (P.value port.new) (flushed_of vcpu) Load None result }
+    ensures found { Finds (P.value port.old).post.machine (P.value port.old).post.seat (P.value port.old).holdings (flushed_of vcpu) result }
     ensures hand { SameHand (P.value port.old).holdings (P.value port.new).holdings }
 {
     let place = port.layout().vcpu_place(vcpu, FLUSHED);
@@ -37,8 +37,8 @@ pub fn look_run_of<P: Port>(port: &mut P, vcpu: u32) -> u64
     requires vcpu { vcpu < length (P.value port.old).post.machine.vcpu_domain }
     requires other { vcpu ≢ (P.value port.old).post.seat }
     ensures post { (P.value port.new).post ≡ (P.value port.old).post }
-    ensures made { Makes (P.value port.old) (P.value port.new) (Vcpu vcpu 6) Load None result }
-    ensures found { Finds (P.value port.old).post.machine (P.value port.old).post.seat (P.value port.old).holdings (Vcpu vcpu 6) result }
+    ensures made { Makes (P.value port.old) (P.value port.new) (run_of vcpu) Load None result }
+    ensures found { Finds (P.value port.old).post.machine (P.value port.old).post.seat (P.value port.old).holdings (run_of vcpu) result }
     ensures hand { SameHand (P.value port.old).holdings (P.value port.new).holdings }
 {
     let place = port.layout().vcpu_place(vcpu, RUN);
@@ -122,7 +122,7 @@ pub fn ask<P: Port>(port: &mut P, vcpu: u32, stamp: u64) -> u64
     requires running { (P.value port.old).holdings.run ≡ Some 0 }
     requires may { MayAsk (P.value port.old).post.machine vcpu stamp (P.value port.old).holdings }
     ensures post { (P.value port.new).post ≡ (P.value port.old).post }
-    ensures made { Makes (P.value port.old) (P.value port.new) (Vcpu vcpu 4) (Max stamp) None result }
+    ensures made { Makes (P.value port.old) (P.value port.new) (asked_of vcpu) (Max stamp) None result }
     ensures hand { SameHand (P.value port.old).holdings (P.value port.new).holdings }
 {
     let place = port.layout().vcpu_place(vcpu, ASKED);

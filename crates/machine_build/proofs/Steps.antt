@@ -5,7 +5,7 @@ use Rattle.std.proofs.lemmas.List.{map-append, reverse-append, take_more}
 use Rattle.std.proofs.Math.ListN.{set, length-set}
 use Rattle.std.proofs.lemmas.Bool.{cases_eq}
 use Rattle.std.proofs.lemmas.Bool.Decides.{nat_tests}
-use Rattle.xp_words.specs.Places.{Sizes, Place, Clock, Pages, Vcpu, Refs, M2p, Cell, Map, Priv, is_place, number, memory, size, map_words}
+use Rattle.xp_words.specs.Places.{Sizes, Place, Clock, Pages, Vcpu, Refs, M2p, Cell, Map, Priv, is_place, number, memory, size, map_words, flushed_of}
 use Rattle.xp_words.proofs.PlaceLaws.{memory_same, memory_other, number-lt}
 use Rattle.xp_words.specs.RefWords.{ref_write}
 use Rattle.xp_words.specs.declared.refs.RefWord.TheVariants.{Owned}
@@ -21,20 +21,20 @@ here : (z : Sizes) (words : List ℕ) (p q : Place) (w : ℕ) → IsTrue (is_pla
 here z words p q w h l e = rw e (memory_same z words q w h l)
 
 pub put_vcpu : (z : Sizes) (words : List ℕ) (m : Place → ℕ) (v clock : ℕ) → length words ≡ size z → v < z.vcpus → ((p : Place) → memory z words p ≡ with_vcpus v clock m p) →
-    (p : Place) → memory z (set words (number z (Vcpu v 5)) clock) p ≡ with_vcpus (v + 1) clock m p
+    (p : Place) → memory z (set words (number z (flushed_of v)) clock) p ≡ with_vcpus (v + 1) clock m p
 unfolding with_vcpus is_place
 put_vcpu z words m v clock l b h (Vcpu u k) =
-    let place : IsTrue (is_place z (Vcpu v 5)) = grind (arith, nat_tests) in
+    let place : IsTrue (is_place z (flushed_of v)) = grind (arith, nat_tests) in
     let was = h (Vcpu u k) in
     elim (cases_eq u v) [
       | inl e ↦ elim (cases_eq k 5) [
-        | inl f ↦ here z words (Vcpu u k) (Vcpu v 5) clock place l (cc) ∙ grind (arith, nat_tests)
-        | inr f ↦ memory_other z words (Vcpu v 5) (Vcpu u k) clock place (λ s. f (cc)) ∙ was ∙ grind (arith, nat_tests)
+        | inl f ↦ here z words (Vcpu u k) (flushed_of v) clock place l (cc) ∙ grind (arith, nat_tests)
+        | inr f ↦ memory_other z words (flushed_of v) (Vcpu u k) clock place (λ s. f (cc)) ∙ was ∙ grind (arith, nat_tests)
       ]
-      | inr e ↦ memory_other z words (Vcpu v 5) (Vcpu u k) clock place (λ s. e (cc)) ∙ was ∙ grind (arith, nat_tests)
+      | inr e ↦ memory_other z words (flushed_of v) (Vcpu u k) clock place (λ s. e (cc)) ∙ was ∙ grind (arith, nat_tests)
     ]
 put_vcpu z words m v clock l b h p =
-    let place : IsTrue (is_place z (Vcpu v 5)) = grind (arith, nat_tests) in memory_other z words (Vcpu v 5) p clock place (λ s. cc) ∙ h p
+    let place : IsTrue (is_place z (flushed_of v)) = grind (arith, nat_tests) in memory_other z words (flushed_of v) p clock place (λ s. cc) ∙ h p
 
 -- ---- each place that is written is inside the list
 pub pages-inside : (z : Sizes) (d : ℕ) → d < z.domains → number z (Pages d) < size z

@@ -7,7 +7,7 @@ use Rattle.xp_board.specs.Sums.{sum_below}
 use Rattle.trace_text.specs.declared.trace.Own.{Own}
 use Rattle.trace_text.specs.Counted.{pages_of, pages_in, is_apart}
 use Rattle.machine_build.specs.Opening.{has_frame}
-use Rattle.xp_board.proofs.Sums.{sum_below-same, sum_below-none, sum_below-plus}
+use Rattle.board_lemmas.proofs.Sums.{sum_below-same, sum_below-none, sum_below-plus}
 
 -- ---- one run
 -- 1 where the run has the frame and is the domain's

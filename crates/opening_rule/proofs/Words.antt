@@ -2,7 +2,7 @@
 use Rattle.std.proofs.Common.{◌≡◌, ◌≢◌, ◌⊎◌, ℕ, suc, ◌+◌, ◌≤◌, nat_lt, cond, Bool, true, false, List, [], ◌∷◌, All, find, IsTrue, Option, Some, None, inl, inr, refl, ◌∙◌, arith}
 use Rattle.std.proofs.lemmas.Bool.Decides.{nat_tests}
 use Rattle.xp_words.specs.RefWords.{ref_read, ref_write}
-use Rattle.xp_words.specs.Places.{Sizes, Place, Clock, Life, Vcpu, Refs, Kind, sizes_of, is_place, memory}
+use Rattle.xp_words.specs.Places.{Sizes, Place, Clock, Life, Vcpu, Refs, Kind, sizes_of, is_place, memory, flushed_of}
 use Rattle.trace_text.specs.declared.trace.Own.{Own}
 use Rattle.trace_text.specs.declared.trace.Trace.{Trace}
 use Rattle.trace_text.specs.WellFormed.{IsWellFormed}
@@ -57,11 +57,11 @@ module _ (t : Trace) (m : Place → ℕ) (o : Opens t m) where
   unfolding opening_at is_place
   clock_word = o.inside Clock refl
 
-  pub flushed_word : (v : ℕ) → m (Vcpu v 5) ≤ m Clock
+  pub flushed_word : (v : ℕ) → m (flushed_of v) ≤ m Clock
   unfolding opening_at
   flushed_word v =
       let c = clock_word in
-      elim (word_at t m o (Vcpu v 5)) [
+      elim (word_at t m o (flushed_of v)) [
         | inl w ↦ omega arith
         | inr w ↦ omega arith
       ]

@@ -7,7 +7,7 @@ use Rattle.xp_words.specs.declared.refs.RefWord.TheVariants.{Free, Owned, Dying}
 use Rattle.xp_words.specs.declared.reply.LogLine.{LogLine}
 use Rattle.xp_words.specs.KindWords.{kind_read}
 use Rattle.xp_words.specs.Machine.{Machine}
-use Rattle.xp_words.specs.Places.{Pages, Life, Vcpu, Refs, Kind, M2p}
+use Rattle.xp_words.specs.Places.{Pages, Life, Vcpu, Refs, Kind, M2p, base_of, user_base_of, old0_of, old1_of}
 use Rattle.xp_words.specs.RefWords.{ref_read}
 use Rattle.report_text.specs.LogTexts.{log_lines}
 use Rattle.report_text.specs.Memories.{Memory, word}
@@ -16,7 +16,7 @@ use Rattle.report_text.specs.WordTexts.{hex, context_text, type_text, type_count
 -- the domain of a vCPU, and the words that name its frames
 unfoldable pub vcpu_line : Memory → ℕ → List ℕ
 vcpu_line m v =
-    codes "vcpu " ++ (decimal v ++ (codes " domain " ++ (decimal (slice_index m.machine.vcpu_domain v) ++ (codes " base " ++ (context_text (word m (Vcpu v 0)) ++ (codes " user " ++ (context_text (word m (Vcpu v 1)) ++ (codes " old " ++ (context_text (word m (Vcpu v 2)) ++ (codes " " ++ (context_text (word m (Vcpu v 3)) ++ codes "\n")))))))))))
+    codes "vcpu " ++ (decimal v ++ (codes " domain " ++ (decimal (slice_index m.machine.vcpu_domain v) ++ (codes " base " ++ (context_text (word m (base_of v)) ++ (codes " user " ++ (context_text (word m (user_base_of v)) ++ (codes " old " ++ (context_text (word m (old0_of v)) ++ (codes " " ++ (context_text (word m (old1_of v)) ++ codes "\n")))))))))))
 
 -- how many operations are unanswered; nothing where none is
 unfoldable pub pending_line : ℕ → List ℕ

@@ -9,9 +9,9 @@ use Rattle.xp_board.specs.Steps.{is_at, left_of, EachStep, EachSince}
 use Rattle.xp_board.specs.After.{noted}
 use Rattle.xp_board.specs.Reach.{Use}
 use Rattle.xp_board.specs.Fresh.{Awaited}
-use Rattle.xp_board.proofs.HandLists.{EachOf-map}
+use Rattle.board_lemmas.proofs.HandLists.{EachOf-map}
 use Rattle.stale_rule.proofs.Like.{HandLike}
-use Rattle.xp_board.proofs.PlaceTests.{same_place}
+use Rattle.board_lemmas.proofs.PlaceTests.{same_place}
 
 both_true : (a b : Bool) → (a && b) ≡ true → b ≡ true
 both_true true b e = e

@@ -6,7 +6,7 @@ use Rattle.xp_words.specs.declared.kind.PageType.{PageType}
 use Rattle.xp_words.specs.RefWords.{bit}
 use Rattle.xp_words.specs.Entries.{is_bit, frame_of}
 use Rattle.xp_words.specs.Machine.{Machine}
-use Rattle.xp_words.specs.Places.{sizes_of, Place, Vcpu, Refs, Cell}
+use Rattle.xp_words.specs.Places.{sizes_of, Place, Vcpu, Refs, Cell, flushed_of}
 use Rattle.xp_board.specs.declared.step.Item.{Item}
 use Rattle.xp_board.specs.declared.holdings.Reached.{Reached}
 use Rattle.xp_board.specs.declared.holdings.Holdings.{Holdings}
@@ -19,11 +19,11 @@ use Rattle.xp_board.specs.Fresh.{Matches, FreshAt}
 use Rattle.xp_board.specs.Sound.{Sound}
 use Rattle.stale_rule.proofs.Bearing.{bears_read}
 use Rattle.stale_rule.proofs.Came.{IsLevel, Reach-level, Reach-all}
-use Rattle.xp_board.proofs.KindForms.{live_unmarked}
+use Rattle.board_lemmas.proofs.KindForms.{live_unmarked}
 use Rattle.stale_rule.proofs.Served.{Served, counted_word, entry_served}
-use Rattle.xp_board.proofs.HeldByForm.{live_idle}
-use Rattle.xp_board.proofs.Sums.{hands-part}
-use Rattle.xp_board.proofs.Works.{nobody_works}
+use Rattle.board_lemmas.proofs.HeldByForm.{live_idle}
+use Rattle.board_lemmas.proofs.Sums.{hands-part}
+use Rattle.board_lemmas.proofs.Works.{nobody_works}
 
 abbrev pub Came : Machine → (Place → ℕ) → (ℕ → Holdings) → ℕ → ℕ → Use → Type 0
 Came n m h v g u = Reach (sizes_of n) m (h v) g u ⊎ (Served m (domain_of n v) g u ⊎ ((u ≡ Reads) × Reach (sizes_of n) m (h v) g Writes))
@@ -72,7 +72,7 @@ module _ (n : Machine) (m : Place → ℕ) (h : ℕ → Holdings) (sound : Sound
         owner = old.owner;
         free = old.free;
         unclaimed = old.unclaimed;
-        bears = bears_read (m (Vcpu v 5)) (kind_at m g) Reads (λ n. n refl);
+        bears = bears_read (m (flushed_of v)) (kind_at m g) Reads (λ n. n refl);
         awaited = λ s real. record { ending = (old.awaited s real).ending; work = λ other. absurd (other refl) };
       }
 

@@ -1,7 +1,7 @@
 -- Fresh after an act that changes no word but a cell.
 use Rattle.std.proofs.Common.{◌≡◌, ◌≢◌, ℕ, ◌<◌, inl, inr, sym, ◌∙◌, ap, subst}
 use Rattle.xp_words.specs.Machine.{Machine}
-use Rattle.xp_words.specs.Places.{sizes_of, Place, Clock, Vcpu, Refs, Kind, Cell, Priv}
+use Rattle.xp_words.specs.Places.{sizes_of, Place, Clock, Vcpu, Refs, Kind, Cell, Priv, flushed_of}
 use Rattle.xp_board.specs.declared.step.Step.{Step}
 use Rattle.xp_board.specs.declared.step.StepKind.{StepKind}
 use Rattle.xp_board.specs.declared.step.Item.{Item}
@@ -13,8 +13,8 @@ use Rattle.xp_board.specs.After.{noted}
 use Rattle.xp_board.specs.Reach.{Use, Table, use_of, reached_by, Reach, cached, walked}
 use Rattle.xp_board.specs.Fresh.{Fresh}
 use Rattle.xp_board.specs.Sound.{Sound}
-use Rattle.xp_board.proofs.ActEffects.{Wrote}
-use Rattle.xp_board.proofs.PlaceTests.{same_or_other}
+use Rattle.step_effects.proofs.ActEffects.{Wrote}
+use Rattle.board_lemmas.proofs.PlaceTests.{same_or_other}
 use Rattle.stale_rule.proofs.CameFresh.{Came, PassesOn, alike_same, alike_passes, came_all, came_fresh, came_one}
 use Rattle.stale_rule.proofs.Like.{HandLike}
 use Rattle.stale_rule.proofs.Moves.{by_seat, TellsClock, not_clock, awaits_on}
@@ -33,7 +33,7 @@ came_law n m m2 h h2 sound ever before bears =
 module _ (n : Machine) (s : ℕ) (x : Step) (found : ℕ) (m m2 : Place → ℕ) (b c : ℕ → Holdings) (y : Holdings) (real : s < (sizes_of n).vcpus) (sound : Sound n m b)
     (others : (t : ℕ) → t ≢ s → c t ≡ b t) (hand : c s ≡ noted x found y) (like : HandLike (b s) y) (told : TellsClock n x (m Clock) found)
     (claims : (g : ℕ) → claims_of g (b s).claimed ≡ 0 → claims_of g y.claimed ≡ 0) (privileges : (d : ℕ) → m2 (Priv d) ≡ m (Priv d))
-    (flushes : (v : ℕ) → m2 (Vcpu v 5) ≡ m (Vcpu v 5)) (refs : (f : ℕ) → m2 (Refs f) ≡ m (Refs f)) (frames : (f : ℕ) → m2 (Kind f) ≡ m (Kind f))
+    (flushes : (v : ℕ) → m2 (flushed_of v) ≡ m (flushed_of v)) (refs : (f : ℕ) → m2 (Refs f) ≡ m (Refs f)) (frames : (f : ℕ) → m2 (Kind f) ≡ m (Kind f))
     (items : (i : Item) → Member i y.cache → Came n m b s i.frame (use_of i))
     (tables : (i : Reached) → Member i (reached_by y.walk) → Came n m b s i.table (Table i.level))
     (passes : (v f i : ℕ) → v < (sizes_of n).vcpus → PassesOn n m m2 b v f i) where
@@ -64,7 +64,7 @@ pub written_law : (n : Machine) (s : ℕ) (x : Step) (f i : ℕ) (what : StepKin
     ((k : Reached) → Member k (reached_by y.walk) → Came n m b s k.table (Table k.level)) → ((v : ℕ) → v < (sizes_of n).vcpus → PassesOn n m m2 b v f i) → Fresh n m2 c
 written_law n s x f i what m m2 b c y real sound others wrote hand like claims items tables here =
     cells_law n s x (m (Cell f i)) m m2 b c y real sound others hand like (not_clock n x (Cell f i) _ _ wrote.place (λ e. cc)) claims
-    (λ d. wrote.others (Priv d) (λ k. cc)) (λ v. wrote.others (Vcpu v 5) (λ k. cc)) (λ g. wrote.others (Refs g) (λ k. cc)) (λ g. wrote.others (Kind g) (λ k. cc))
+    (λ d. wrote.others (Priv d) (λ k. cc)) (λ v. wrote.others (flushed_of v) (λ k. cc)) (λ g. wrote.others (Refs g) (λ k. cc)) (λ g. wrote.others (Kind g) (λ k. cc))
     items tables
     (λ v g j live.
     elim (same_or_other (Cell g j) (Cell f i)) [

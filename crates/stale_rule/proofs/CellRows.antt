@@ -19,10 +19,10 @@ use Rattle.xp_board.specs.Reach.{Use, Table, Writes, use_of, Reach, cached, walk
 use Rattle.xp_board.specs.Fresh.{Fresh}
 use Rattle.xp_board.specs.Keeping.{Acted}
 use Rattle.xp_board.specs.Sound.{Sound}
-use Rattle.xp_board.proofs.ActEffects.{Wrote, Filled, GuestStored}
+use Rattle.step_effects.proofs.ActEffects.{Wrote, Filled, GuestStored}
 use Rattle.stale_rule.proofs.Came.{IsLevel}
 use Rattle.stale_rule.proofs.CameFresh.{Came, came_fresh, came_one, reach_level}
-use Rattle.xp_board.proofs.KindForms.{live_unmarked}
+use Rattle.board_lemmas.proofs.KindForms.{live_unmarked}
 use Rattle.stale_rule.proofs.CellLaw.{written_law}
 use Rattle.stale_rule.proofs.FreeRows.{not_claimed}
 use Rattle.stale_rule.proofs.Like.{cell_stays}

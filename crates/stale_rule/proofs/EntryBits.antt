@@ -4,7 +4,7 @@ use Rattle.std.proofs.lemmas.Bool.Decides.{nat_tests}
 use Rattle.xp_words.specs.Entries.{is_bit, frame_of}
 use Rattle.xp_board.specs.declared.holdings.Walk.{Walk}
 use Rattle.xp_board.specs.FillSteps.{with_bit, touched, sets_dirty}
-use Rattle.xp_board.proofs.Bits.{with_bit-other}
+use Rattle.board_lemmas.proofs.Bits.{with_bit-other}
 use Rattle.stale_rule.proofs.CameFresh.{CellAlike}
 
 -- ---- a bit set by a walk

@@ -1,7 +1,7 @@
 -- Fresh after a vCPU has flushed its translations: it comes to nothing, and the others come to what they did.
 use Rattle.std.proofs.Common.{◌≡◌, ◌≢◌, ℕ, inl, refl, ◌∙◌, ap, subst}
 use Rattle.xp_words.specs.Machine.{Machine}
-use Rattle.xp_words.specs.Places.{sizes_of, Place, Vcpu, Refs, Kind, Cell, Priv}
+use Rattle.xp_words.specs.Places.{sizes_of, Place, Vcpu, Refs, Kind, Cell, Priv, flushed_of}
 use Rattle.xp_board.specs.declared.step.Step.{Step}
 use Rattle.xp_board.specs.declared.holdings.Holdings.{Holdings}
 use Rattle.xp_board.specs.Hands.{claims_of}
@@ -10,7 +10,7 @@ use Rattle.xp_board.specs.Reach.{Use, Reach}
 use Rattle.xp_board.specs.Fresh.{Fresh}
 use Rattle.xp_board.specs.Keeping.{Acted}
 use Rattle.xp_board.specs.Sound.{Sound}
-use Rattle.xp_board.proofs.ActEffects.{Flushed}
+use Rattle.step_effects.proofs.ActEffects.{Flushed}
 use Rattle.stale_rule.proofs.Came.{Reach-none, Reach-same}
 use Rattle.stale_rule.proofs.Like.{parts_like}
 use Rattle.stale_rule.proofs.Moves.{by_seat, awaits_on, not_clock}
@@ -34,13 +34,13 @@ module _ (n : Machine) (s : ℕ) (x : Step) (m m2 : Place → ℕ) (b c : ℕ �
       fresh_law n m m2 b c (ever_same m m2 (λ e. d.wrote.others (Priv e) (λ k. cc))) (λ v g u real r. before v g u r)
       (λ v g u real r old.
       record {
-        flush = d.wrote.others (Vcpu v 5) (λ k. not_mine v g u r (cc));
+        flush = d.wrote.others (flushed_of v) (λ k. not_mine v g u r (cc));
         ref = inl (ref_same _ _ (d.wrote.others (Refs g) (λ k. cc)));
         kind = λ e. rw (d.wrote.others (Kind g) (λ k. cc)) e;
         claims = λ t live. by_seat (λ t k. claims_of g (b t).claimed ≡ 0 → claims_of g k.claimed ≡ 0) s t b c acted.others
             (λ e. ap (λ k. claims_of g k.claimed) d.hand ∙ e) (λ off e. e);
         awaits = λ t live.
-            awaits_on n s x (m (Vcpu s 5)) m m2 b c (after_ack (b s)) sound acted.others d.hand (parts_like _ _ refl refl refl)
-            (not_clock n x (Vcpu s 5) _ _ d.wrote.place (λ e. cc)) v g t u;
+            awaits_on n s x (m (flushed_of s)) m m2 b c (after_ack (b s)) sound acted.others d.hand (parts_like _ _ refl refl refl)
+            (not_clock n x (flushed_of s) _ _ d.wrote.place (λ e. cc)) v g t u;
       })
       sound.fresh

@@ -4,7 +4,7 @@ use Rattle.std.proofs.lemmas.Bool.Decides.{nat_tests}
 use Rattle.xp_words.specs.declared.refs.RefWord.TheVariants.{Free}
 use Rattle.xp_words.specs.RefWords.{ref_write, ref_read}
 use Rattle.xp_words.specs.Machine.{Machine}
-use Rattle.xp_words.specs.Places.{sizes_of, Place, Clock, Vcpu, Refs}
+use Rattle.xp_words.specs.Places.{sizes_of, Place, Clock, Vcpu, Refs, flushed_of}
 use Rattle.xp_words.proofs.RefLaws.{ref_write-read}
 use Rattle.xp_board.specs.declared.step.Step.{Step}
 use Rattle.xp_board.specs.declared.holdings.Ending.{Ending}
@@ -18,12 +18,12 @@ use Rattle.xp_board.specs.Reach.{Use, Reach}
 use Rattle.xp_board.specs.Fresh.{FreshAt, Fresh}
 use Rattle.xp_board.specs.Keeping.{Acted}
 use Rattle.xp_board.specs.Sound.{Sound}
-use Rattle.xp_board.proofs.ActEffects.{Took, Freed, Gave}
-use Rattle.xp_board.proofs.HandLists.{EachOf-without, EachOf-first, first-key, first-some, times-without}
+use Rattle.step_effects.proofs.ActEffects.{Took, Freed, Gave}
+use Rattle.board_lemmas.proofs.HandLists.{EachOf-without, EachOf-first, first-key, first-some, times-without}
 use Rattle.stale_rule.proofs.Like.{HandLike, parts_like}
 use Rattle.stale_rule.proofs.Past.{since_each, past_gone, gone_unreached}
 use Rattle.stale_rule.proofs.RefRows.{ref_law}
-use Rattle.xp_board.proofs.Sums.{one_at-other}
+use Rattle.board_lemmas.proofs.Sums.{one_at-other}
 use Rattle.xp_board.proofs.RefWords.{free_says}
 
 -- ---- free words
@@ -71,9 +71,9 @@ module _ (n : Machine) (s : ℕ) (x : Step) (m m2 : Place → ℕ) (b c : ℕ �
 
   -- ---- freed
   stamp_bound : (f stamp flushed : ℕ) (u : Use) (o : Option Ending) (q : Option Claimed) → ending_of f (b s).ending ≡ o → claim_of f (b s).claimed ≡ q →
-      IsFreeStamp n stamp (b s) o q → (v : ℕ) → m (Vcpu v 5) ≡ flushed → FreshAt n m b v f u → flushed ≤ stamp
+      IsFreeStamp n stamp (b s) o q → (v : ℕ) → m (flushed_of v) ≡ flushed → FreshAt n m b v f u → flushed ≤ stamp
   stamp_bound f stamp flushed u (Some e) q at at2 told v is fresh =
-      since_each (sizes_of n) e.since Clock (λ w. w == stamp) (λ w. m (Vcpu v 5) ≤ w) (flushed ≤ stamp) (b s).steps
+      since_each (sizes_of n) e.since Clock (λ w. w == stamp) (λ w. m (flushed_of v) ≤ w) (flushed ≤ stamp) (b s).steps
       (EachOf-first _ (λ y. y.frame) f e (b s).ending (fresh.awaited s real).ending at (first-key (λ y. y.frame) f e (b s).ending at)) told
       (λ w t below. let k : w ≡ stamp = grind (arith, nat_tests) in omega arith)
   stamp_bound f stamp flushed u None (Some e) at at2 told v is fresh = absurd (not_claimed f e (b s) (fresh.unclaimed s real) at2)
@@ -88,7 +88,7 @@ module _ (n : Machine) (s : ℕ) (x : Step) (m m2 : Place → ℕ) (b c : ℕ �
       inr (record {
         owner = word.owned;
         free = word.free;
-        stamp = let e = word.stamp in let k = stamp_bound f d.stamp (m (Vcpu v 5)) u _ _ refl refl d.may.told v refl (sound.fresh.each v live f u r) in omega arith;
+        stamp = let e = word.stamp in let k = stamp_bound f d.stamp (m (flushed_of v)) u _ _ refl refl d.may.told v refl (sound.fresh.each v live f u r) in omega arith;
       }))
 
   -- ---- given

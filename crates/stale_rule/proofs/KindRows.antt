@@ -4,7 +4,7 @@ use Rattle.std.proofs.lemmas.Bool.{cases_eq}
 use Rattle.xp_words.specs.declared.kind.KindWord.{KindWord}
 use Rattle.xp_words.specs.KindWords.{kind_fields}
 use Rattle.xp_words.specs.Machine.{Machine}
-use Rattle.xp_words.specs.Places.{sizes_of, Place, Vcpu, Refs, Kind, Cell, Priv}
+use Rattle.xp_words.specs.Places.{sizes_of, Place, Vcpu, Refs, Kind, Cell, Priv, flushed_of}
 use Rattle.xp_board.specs.declared.step.Step.{Step}
 use Rattle.xp_board.specs.declared.step.StepKind.TheVariants as steps
 use Rattle.xp_board.specs.declared.holdings.Holdings.{Holdings}
@@ -16,17 +16,17 @@ use Rattle.xp_board.specs.Reach.{Use, Reach}
 use Rattle.xp_board.specs.Fresh.{Bears, Fresh}
 use Rattle.xp_board.specs.Keeping.{Acted}
 use Rattle.xp_board.specs.Sound.{Sound}
-use Rattle.xp_board.proofs.ActEffects.{Wrote, Turned, Dropped, Unlocked}
+use Rattle.step_effects.proofs.ActEffects.{Wrote, Turned, Dropped, Unlocked}
 use Rattle.stale_rule.proofs.Bearing.{bears_same, bears_begun, OneLess, count_down, lock_down}
 use Rattle.stale_rule.proofs.Came.{IsLevel, Reach-level}
-use Rattle.xp_board.proofs.KindForms.{marked_unlive}
+use Rattle.board_lemmas.proofs.KindForms.{marked_unlive}
 use Rattle.stale_rule.proofs.KindHands.{row_stays, dropped_stays, unlocked_stays}
 use Rattle.stale_rule.proofs.Like.{HandStays, parts_stay, then_stays}
 use Rattle.stale_rule.proofs.Moves.{act_law, not_clock}
 use Rattle.stale_rule.proofs.Stays.{ref_same, ever_same}
 use Rattle.stale_rule.proofs.Tables.{live_count}
-use Rattle.xp_board.proofs.Sums.{hands-part}
-use Rattle.xp_board.proofs.Works.{is_locked-mine}
+use Rattle.board_lemmas.proofs.Sums.{hands-part}
+use Rattle.board_lemmas.proofs.Works.{is_locked-mine}
 
 -- the marks of an exchange that leaves type, mark and stamp
 row_bears : (row : KindRow) (n : Machine) (s f flushed : ℕ) (k l : KindWord) (a : Holdings) (u : Use) → IsLevel u → (k.unflushed ≡ true → k.validated ≡ false) →
@@ -56,16 +56,16 @@ module _ (n : Machine) (s : ℕ) (x : Step) (m m2 : Place → ℕ) (b c : ℕ �
 
   -- a step on the kind word of f that bears what f is reached for
   pub kind_law : (f : ℕ) (y : Holdings) → Wrote n x (Kind f) steps.Kind m m2 (b s) → c s ≡ noted x (m (Kind f)) y → HandStays (b s) y →
-      ((v : ℕ) (u : Use) → v < (sizes_of n).vcpus → Reach (sizes_of n) m (b v) f u → Bears (m (Vcpu v 5)) (kind_at m f) u → Bears (m (Vcpu v 5)) (kind_at m2 f) u) →
+      ((v : ℕ) (u : Use) → v < (sizes_of n).vcpus → Reach (sizes_of n) m (b v) f u → Bears (m (flushed_of v)) (kind_at m f) u → Bears (m (flushed_of v)) (kind_at m2 f) u) →
       Fresh n m2 c
   kind_law f y wrote hand stays here =
       act_law n s x (m (Kind f)) m m2 b c y sound acted.others hand stays.like (not_clock n x (Kind f) _ _ wrote.place (λ e. cc))
-      (λ e i. wrote.others (Cell e i) (λ k. cc)) (ever_same m m2 (λ d. wrote.others (Priv d) (λ k. cc))) (λ v. wrote.others (Vcpu v 5) (λ k. cc))
+      (λ e i. wrote.others (Cell e i) (λ k. cc)) (ever_same m m2 (λ d. wrote.others (Priv d) (λ k. cc))) (λ v. wrote.others (flushed_of v) (λ k. cc))
       stays.cache stays.walk (λ v g u live r. stays.claims g) (λ v g u live r. inl (ref_same _ _ (wrote.others (Refs g) (λ k. cc))))
       (λ v g u live r.
       elim (cases_eq g f) [
         | inl at ↦
-            subst (λ e. Bears (m (Vcpu v 5)) (kind_at m e) u → Bears (m (Vcpu v 5)) (kind_at m2 e) u) (sym at)
+            subst (λ e. Bears (m (flushed_of v)) (kind_at m e) u → Bears (m (flushed_of v)) (kind_at m2 e) u) (sym at)
             (here v u live (subst (λ e. Reach (sizes_of n) m (b v) e u) at r))
         | inr off ↦ (λ old. rw (wrote.others (Kind g) (λ k. off (cc))) old)
       ])
@@ -76,8 +76,8 @@ module _ (n : Machine) (s : ℕ) (x : Step) (m m2 : Place → ℕ) (b c : ℕ �
       (λ v u live r old.
       let unlive : d.k.unflushed ≡ true → d.k.validated ≡ false =
       subst (λ k. k.unflushed ≡ true → k.validated ≡ false) d.fields_was (marked_unlive n m f sound.spelled) in
-      subst (λ l. Bears (m (Vcpu v 5)) l u) (sym d.fields_is)
-      (row_bears row n s f (m (Vcpu v 5)) d.k d.l (b s) u (came_level v f u live r) unlive d.may (subst (λ k. Bears (m (Vcpu v 5)) k u) d.fields_was old)))
+      subst (λ l. Bears (m (flushed_of v)) l u) (sym d.fields_is)
+      (row_bears row n s f (m (flushed_of v)) d.k d.l (b s) u (came_level v f u live r) unlive d.may (subst (λ k. Bears (m (flushed_of v)) k u) d.fields_was old)))
 
   -- ---- a count less of a live frame
   less_bears : (f flushed : ℕ) (u : Use) (l : KindWord) → (kind_at m f).validated ≡ true → OneLess (kind_at m f) l → Bears flushed (kind_at m f) u → Bears flushed l u
@@ -106,7 +106,7 @@ module _ (n : Machine) (s : ℕ) (x : Step) (m m2 : Place → ℕ) (b c : ℕ �
       let alive = (sound.found s real).lives f d.may.kind d.may.live in
       let some = counted_here n s m b real sound f alive.0 (in_hand f (let p = d.may.in_hand in omega arith)) in
       let less = subst (λ w. OneLess (kind_at m f) (kind_fields w)) (sym d.is) (count_down (m (Kind f)) (sound.spelled.small (Kind f)) some) in
-      less_bears n s x m m2 b c acted sound f (m (Vcpu v 5)) u (kind_at m2 f) alive.0 less old)
+      less_bears n s x m m2 b c acted sound f (m (flushed_of v)) u (kind_at m2 f) alive.0 less old)
 
   pub unlock_row : (f : ℕ) → Unlocked n x f m m2 (b s) (c s) → Fresh n m2 c
   unlock_row f d =
@@ -117,4 +117,4 @@ module _ (n : Machine) (s : ℕ) (x : Step) (m m2 : Place → ℕ) (b c : ℕ �
       let shut : (kind_at m f).locked ≡ true = grind arith in
       let some = counted_here n s m b real sound f alive (in_hand f (let p = d.may in omega arith)) in
       let less = subst (λ w. OneLess (kind_at m f) (kind_fields w)) (sym d.is) (lock_down (m (Kind f)) (sound.spelled.small (Kind f)) some shut) in
-      less_bears n s x m m2 b c acted sound f (m (Vcpu v 5)) u (kind_at m2 f) alive less old)
+      less_bears n s x m m2 b c acted sound f (m (flushed_of v)) u (kind_at m2 f) alive less old)

@@ -2,7 +2,7 @@
 use Rattle.std.proofs.Common.{◌≡◌, ◌≢◌, ℕ, ◌<◌, ◌≤◌, inl, inr, refl, sym, ◌∙◌, ap, subst, arith}
 use Rattle.std.proofs.lemmas.Bool.{cases_eq}
 use Rattle.xp_words.specs.Machine.{Machine}
-use Rattle.xp_words.specs.Places.{sizes_of, Place, Clock, Vcpu, Refs, Kind, Cell, Priv}
+use Rattle.xp_words.specs.Places.{sizes_of, Place, Clock, Vcpu, Refs, Kind, Cell, Priv, flushed_of}
 use Rattle.xp_board.specs.declared.step.Step.{Step}
 use Rattle.xp_board.specs.declared.step.StepKind.{StepKind}
 use Rattle.xp_board.specs.declared.step.Item.{Item}
@@ -17,7 +17,7 @@ use Rattle.xp_board.specs.Reach.{Use, reached_by, Reach}
 use Rattle.xp_board.specs.Fresh.{Bears, Awaited, Fresh}
 use Rattle.xp_board.specs.Runs.{place_of}
 use Rattle.xp_board.specs.Sound.{Sound}
-use Rattle.xp_board.proofs.ActEffects.{Wrote}
+use Rattle.step_effects.proofs.ActEffects.{Wrote}
 use Rattle.stale_rule.proofs.Awaits.{awaited_same, awaited_more}
 use Rattle.stale_rule.proofs.Came.{Reach-same}
 use Rattle.stale_rule.proofs.Like.{HandLike, HandStays}
@@ -46,8 +46,8 @@ mark_law n s m h b others stays fresh =
       kind = λ e. e;
       claims = λ t live. by_seat (λ t k. claims_of g (h t).claimed ≡ 0 → claims_of g k.claimed ≡ 0) s t h b others (stays.claims g) (λ off e. e);
       awaits = λ t live.
-          by_seat (λ t k. Awaited (sizes_of n) (m (Vcpu v 5)) g u (h t) → Awaited (sizes_of n) (m (Vcpu v 5)) g u k) s t h b others
-          (awaited_same (sizes_of n) (m (Vcpu v 5)) g u (h s) (b s) stays.like) (λ off e. e);
+          by_seat (λ t k. Awaited (sizes_of n) (m (flushed_of v)) g u (h t) → Awaited (sizes_of n) (m (flushed_of v)) g u k) s t h b others
+          (awaited_same (sizes_of n) (m (flushed_of v)) g u (h s) (b s) stays.like) (λ off e. e);
     })
     fresh
 
@@ -62,21 +62,21 @@ not_clock n x p clock found at off e = absurd (off (sym at ∙ e))
 module _ (n : Machine) (s : ℕ) (x : Step) (found : ℕ) (m m2 : Place → ℕ) (b c : ℕ → Holdings) (y : Holdings) (sound : Sound n m b)
     (others : (t : ℕ) → t ≢ s → c t ≡ b t) (hand : c s ≡ noted x found y) (like : HandLike (b s) y) (told : TellsClock n x (m Clock) found) where
   -- what was awaited still is
-  pub awaits_on : (v g t : ℕ) (u : Use) → Awaited (sizes_of n) (m (Vcpu v 5)) g u (b t) → Awaited (sizes_of n) (m (Vcpu v 5)) g u (c t)
+  pub awaits_on : (v g t : ℕ) (u : Use) → Awaited (sizes_of n) (m (flushed_of v)) g u (b t) → Awaited (sizes_of n) (m (flushed_of v)) g u (c t)
   awaits_on v g t u =
-      by_seat (λ t k. Awaited (sizes_of n) (m (Vcpu v 5)) g u (b t) → Awaited (sizes_of n) (m (Vcpu v 5)) g u k) s t b c others
+      by_seat (λ t k. Awaited (sizes_of n) (m (flushed_of v)) g u (b t) → Awaited (sizes_of n) (m (flushed_of v)) g u k) s t b c others
       (λ old.
-      subst (λ k. Awaited (sizes_of n) (m (Vcpu v 5)) g u k) (sym hand)
-      (awaited_more (sizes_of n) (m (Vcpu v 5)) g u x found (b s) y like
+      subst (λ k. Awaited (sizes_of n) (m (flushed_of v)) g u k) (sym hand)
+      (awaited_more (sizes_of n) (m (flushed_of v)) g u x found (b s) y like
       (λ at. let e = told at in let below = sound.stamped.flushed v in let f = e.0 in let l = e.1 in (omega arith, omega arith)) old))
       (λ off e. e)
 
   -- no cell changes and nothing more is held
-  pub act_law : ((f i : ℕ) → m2 (Cell f i) ≡ m (Cell f i)) → KeepsEver m m2 → ((v : ℕ) → m2 (Vcpu v 5) ≡ m (Vcpu v 5)) →
+  pub act_law : ((f i : ℕ) → m2 (Cell f i) ≡ m (Cell f i)) → KeepsEver m m2 → ((v : ℕ) → m2 (flushed_of v) ≡ m (flushed_of v)) →
       ((x : Item) → Member x y.cache → Member x (b s).cache) → ((x : Reached) → Member x (reached_by y.walk) → Member x (reached_by (b s).walk)) →
       ((v g : ℕ) (u : Use) → v < (sizes_of n).vcpus → Reach (sizes_of n) m (b v) g u → claims_of g (b s).claimed ≡ 0 → claims_of g y.claimed ≡ 0) →
-      ((v g : ℕ) (u : Use) → v < (sizes_of n).vcpus → Reach (sizes_of n) m (b v) g u → RefStays (m (Vcpu v 5)) (m (Refs g)) (m2 (Refs g))) →
-      ((v g : ℕ) (u : Use) → v < (sizes_of n).vcpus → Reach (sizes_of n) m (b v) g u → Bears (m (Vcpu v 5)) (kind_at m g) u → Bears (m (Vcpu v 5)) (kind_at m2 g) u) →
+      ((v g : ℕ) (u : Use) → v < (sizes_of n).vcpus → Reach (sizes_of n) m (b v) g u → RefStays (m (flushed_of v)) (m (Refs g)) (m2 (Refs g))) →
+      ((v g : ℕ) (u : Use) → v < (sizes_of n).vcpus → Reach (sizes_of n) m (b v) g u → Bears (m (flushed_of v)) (kind_at m g) u → Bears (m (flushed_of v)) (kind_at m2 g) u) →
       Fresh n m2 c
   act_law cells ever flush cache walk claims refs kinds =
       fresh_law n m m2 b c ever
@@ -100,7 +100,7 @@ module _ (n : Machine) (s : ℕ) (x : Step) (found : ℕ) (m m2 : Place → ℕ)
 -- an act at a word that translations do not read, or that leaves its word as it was
 pub quiet_law : (n : Machine) (s : ℕ) (x : Step) (found : ℕ) (m m2 : Place → ℕ) (b c : ℕ → Holdings) (y : Holdings) → Sound n m b →
     ((t : ℕ) → t ≢ s → c t ≡ b t) → c s ≡ noted x found y → HandStays (b s) y → TellsClock n x (m Clock) found → ((f i : ℕ) → m2 (Cell f i) ≡ m (Cell f i)) →
-    KeepsEver m m2 → ((v : ℕ) → m2 (Vcpu v 5) ≡ m (Vcpu v 5)) → ((f : ℕ) → m2 (Refs f) ≡ m (Refs f)) → ((f : ℕ) → m2 (Kind f) ≡ m (Kind f)) → Fresh n m2 c
+    KeepsEver m m2 → ((v : ℕ) → m2 (flushed_of v) ≡ m (flushed_of v)) → ((f : ℕ) → m2 (Refs f) ≡ m (Refs f)) → ((f : ℕ) → m2 (Kind f) ≡ m (Kind f)) → Fresh n m2 c
 quiet_law n s x found m m2 b c y sound others hand stays told cells ever flush refs kinds =
     act_law n s x found m m2 b c y sound others hand stays.like told cells ever flush stays.cache stays.walk (λ v g u real r. stays.claims g)
     (λ v g u real r. inl (ref_same _ _ (refs g))) (λ v g u real r old. rw (kinds g) old)
@@ -111,13 +111,13 @@ pub still_law : (n : Machine) (s : ℕ) (x : Step) (p : Place) (m m2 : Place →
 still_law n s x p m m2 b c y sound others at words left hand stays =
     quiet_law n s x (m p) m m2 b c y sound others hand stays
     (λ e. let k : m p ≡ m Clock = ap m (sym at ∙ e) in (omega arith, omega arith))
-    (λ f i. words (Cell f i)) (ever_same m m2 (λ d. words (Priv d))) (λ v. words (Vcpu v 5)) (λ f. words (Refs f)) (λ f. words (Kind f))
+    (λ f i. words (Cell f i)) (ever_same m m2 (λ d. words (Priv d))) (λ v. words (flushed_of v)) (λ f. words (Refs f)) (λ f. words (Kind f))
 
 -- an act on a word that is none of those which translations read
 pub aside_law : (n : Machine) (s : ℕ) (x : Step) (p : Place) (what : StepKind) (m m2 : Place → ℕ) (b c : ℕ → Holdings) (y : Holdings) → Sound n m b →
     ((t : ℕ) → t ≢ s → c t ≡ b t) → Wrote n x p what m m2 (b s) → c s ≡ noted x (m p) y → HandStays (b s) y → TellsClock n x (m Clock) (m p) →
-    ((f i : ℕ) → Cell f i ≢ p) → ((d : ℕ) → Priv d ≢ p) → ((v : ℕ) → Vcpu v 5 ≢ p) → ((f : ℕ) → Refs f ≢ p) → ((f : ℕ) → Kind f ≢ p) → Fresh n m2 c
+    ((f i : ℕ) → Cell f i ≢ p) → ((d : ℕ) → Priv d ≢ p) → ((v : ℕ) → flushed_of v ≢ p) → ((f : ℕ) → Refs f ≢ p) → ((f : ℕ) → Kind f ≢ p) → Fresh n m2 c
 aside_law n s x p what m m2 b c y sound others wrote hand stays told cells privileges flush refs kinds =
     quiet_law n s x (m p) m m2 b c y sound others hand stays told (λ f i. wrote.others (Cell f i) (cells f i))
-    (ever_same m m2 (λ d. wrote.others (Priv d) (privileges d))) (λ v. wrote.others (Vcpu v 5) (flush v)) (λ f. wrote.others (Refs f) (refs f))
+    (ever_same m m2 (λ d. wrote.others (Priv d) (privileges d))) (λ v. wrote.others (flushed_of v) (flush v)) (λ f. wrote.others (Refs f) (refs f))
     (λ f. wrote.others (Kind f) (kinds f))

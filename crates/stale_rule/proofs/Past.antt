@@ -3,7 +3,7 @@ use Rattle.std.proofs.Common.{◌≡◌, ◌≢◌, ℕ, ◌<◌, ◌≤◌, ◌
 use Rattle.std.proofs.lemmas.Bool.Decides.{nat_tests}
 use Rattle.std.proofs.lemmas.Bool.{and_parts, or_cases, or_right}
 use Rattle.xp_words.specs.Machine.{Machine}
-use Rattle.xp_words.specs.Places.{Sizes, sizes_of, Place, Vcpu, place_at}
+use Rattle.xp_words.specs.Places.{Sizes, sizes_of, Place, Vcpu, place_at, run_of, flushed_of}
 use Rattle.xp_board.specs.declared.holdings.Made.{Made}
 use Rattle.xp_board.specs.declared.holdings.Holdings.{Holdings}
 use Rattle.xp_board.specs.Lists.{EachOf}
@@ -14,8 +14,8 @@ use Rattle.xp_board.specs.Found.{EachTold}
 use Rattle.xp_board.specs.Reach.{Use, Reach}
 use Rattle.xp_board.specs.Sound.{Sound}
 use Rattle.stale_rule.proofs.Came.{Reach-none}
-use Rattle.xp_board.proofs.PlaceTests.{same_place}
-use Rattle.xp_board.proofs.StepLists.{since_within}
+use Rattle.board_lemmas.proofs.PlaceTests.{same_place}
+use Rattle.board_lemmas.proofs.StepLists.{since_within}
 
 -- ---- what was found in some step holds by what holds of each
 -- a step passes, and each step that passes meets P
@@ -94,7 +94,7 @@ before_newest z n p q test old (x ∷ xs) since before =
 
 -- ---- the vCPU comes to nothing, or was flushed past the stamp
 abbrev pub IsGone : (Place → ℕ) → (ℕ → Holdings) → ℕ → ℕ → Type 0
-IsGone m h v stamp = (m (Vcpu v 6) ≢ 0) ⊎ (((h v).cold ≡ true) ⊎ (stamp < m (Vcpu v 5)))
+IsGone m h v stamp = (m (run_of v) ≢ 0) ⊎ (((h v).cold ≡ true) ⊎ (stamp < m (flushed_of v)))
 
 module _ (n : Machine) (m : Place → ℕ) (h : ℕ → Holdings) (sound : Sound n m h) where
   pub past_gone : (s v since stamp : ℕ) (p : Place) (test : ℕ → Bool) → s < (sizes_of n).vcpus → v < (sizes_of n).vcpus →
@@ -103,25 +103,25 @@ module _ (n : Machine) (m : Place → ℕ) (h : ℕ → Holdings) (sound : Sound
   past_gone s v since stamp p test seat real tells told past =
       let steps = (h s).steps in
       let found = sound.found s seat in
-      elim (or_cases (some_since (sizes_of n) since (Vcpu v 6) is_idle steps) _ past) [
+      elim (or_cases (some_since (sizes_of n) since (run_of v) is_idle steps) _ past) [
         | inr flushed ↦
-            inr (inr (since_each (sizes_of n) since (Vcpu v 5) (λ w. nat_lt stamp w) (λ w. w ≤ m (Vcpu v 5)) (stamp < m (Vcpu v 5)) steps
-            (since_later (sizes_of n) 0 since (Vcpu v 5) (λ w. w ≤ m (Vcpu v 5)) steps (omega arith) (found.flushed v)) flushed
+            inr (inr (since_each (sizes_of n) since (flushed_of v) (λ w. nat_lt stamp w) (λ w. w ≤ m (flushed_of v)) (stamp < m (flushed_of v)) steps
+            (since_later (sizes_of n) 0 since (flushed_of v) (λ w. w ≤ m (flushed_of v)) steps (omega arith) (found.flushed v)) flushed
             (λ w t below. let k : stamp < w = grind (arith, nat_tests) in omega arith)))
         | inl idle ↦
-            elim (since_either (sizes_of n) since (Vcpu v 6) (λ w. w == 1) (λ w. w == 2) steps idle) [
+            elim (since_either (sizes_of n) since (run_of v) (λ w. w == 1) (λ w. w == 2) steps idle) [
               | inl stopped ↦
-                  inl (since_each (sizes_of n) since (Vcpu v 6) (λ w. w == 1) (λ w. w ≡ 1 → m (Vcpu v 6) ≡ 1) (m (Vcpu v 6) ≢ 0) steps
-                  (since_later (sizes_of n) 0 since (Vcpu v 6) (λ w. w ≡ 1 → m (Vcpu v 6) ≡ 1) steps (omega arith) (found.stopped v)) stopped
+                  inl (since_each (sizes_of n) since (run_of v) (λ w. w == 1) (λ w. w ≡ 1 → m (run_of v) ≡ 1) (m (run_of v) ≢ 0) steps
+                  (since_later (sizes_of n) 0 since (run_of v) (λ w. w ≡ 1 → m (run_of v) ≡ 1) steps (omega arith) (found.stopped v)) stopped
                   (λ w t one zero. let k : w ≡ 1 = grind (arith, nat_tests) in let e = one k in omega arith))
               | inr off ↦
-                  told_before (sizes_of n) since p stamp test (λ y. (m (Vcpu v 6) ≢ 0) ⊎ (((h v).cold ≡ true) ⊎ (y < m (Vcpu v 5)))) (IsGone m h v stamp) _
-                  tells (λ gone. gone) (found.since_off v real) (before_newest (sizes_of n) since (Vcpu v 6) p (λ w. w == 2) test steps off told)
+                  told_before (sizes_of n) since p stamp test (λ y. (m (run_of v) ≢ 0) ⊎ (((h v).cold ≡ true) ⊎ (y < m (flushed_of v)))) (IsGone m h v stamp) _
+                  tells (λ gone. gone) (found.since_off v real) (before_newest (sizes_of n) since (run_of v) p (λ w. w == 2) test steps off told)
             ]
       ]
 
   -- so it does not come to a frame that is not to be reached past that stamp
-  pub gone_unreached : (v stamp g : ℕ) (u : Use) → v < (sizes_of n).vcpus → IsGone m h v stamp → m (Vcpu v 5) ≤ stamp → Reach (sizes_of n) m (h v) g u → ⊥
+  pub gone_unreached : (v stamp g : ℕ) (u : Use) → v < (sizes_of n).vcpus → IsGone m h v stamp → m (flushed_of v) ≤ stamp → Reach (sizes_of n) m (h v) g u → ⊥
   gone_unreached v stamp g u real (inl idle) below r = let i = sound.idle v real in Reach-none (i.cache idle) (i.walk idle) r
   gone_unreached v stamp g u real (inr (inl cold)) below r = let i = sound.idle v real in Reach-none (i.cold_cache cold) (i.cold_walk cold) r
   gone_unreached v stamp g u real (inr (inr later)) below r = absurd (omega arith)

@@ -19,7 +19,7 @@ use Rattle.xp_board.specs.Reach.{LeadsTo, Path, is_in_use, is_writable_entry}
 use Rattle.xp_board.specs.Safe.{SafeAt}
 use Rattle.xp_board.specs.Spelling.{IsSpelling}
 use Rattle.xp_board.specs.Sound.{Sound}
-use Rattle.xp_board.proofs.Counted.{contexts-part}
+use Rattle.board_lemmas.proofs.Counted.{contexts-part}
 use Rattle.stale_rule.proofs.Demands.{asks_table, asks_leaf, LeafAsks, walked_inside}
 use Rattle.stale_rule.proofs.Tables.{Serves, table_held, leads_live, named_counted, live_count}
 

@@ -2,7 +2,7 @@
 use Rattle.std.proofs.Common.{◌≡◌, ◌≢◌, ℕ, zero, suc, ◌==◌, not, false, refl, sym, subst, arith, IsTrue, None}
 use Rattle.std.proofs.lemmas.Bool.Decides.{nat_tests}
 use Rattle.xp_words.specs.Machine.{Machine}
-use Rattle.xp_words.specs.Places.{Place, Vcpu, Kind, Cell}
+use Rattle.xp_words.specs.Places.{Place, Vcpu, Kind, Cell, flushed_of, run_of}
 use Rattle.xp_board.specs.declared.step.Step.{Step}
 use Rattle.xp_board.specs.declared.holdings.Holdings.{Holdings}
 use Rattle.xp_board.specs.Lists.{Member}
@@ -13,9 +13,9 @@ use Rattle.xp_board.specs.Marks.{demand_seen}
 use Rattle.xp_board.specs.Fresh.{Fresh}
 use Rattle.xp_board.specs.Keeping.{Acted, KeepsMark}
 use Rattle.xp_board.specs.Sound.{Sound}
-use Rattle.xp_board.proofs.MarkEffects.{MarkEffect, nothing, turned, forgot, recorded_entry, shed_entry, Recorded, Shed, mark_effect}
-use Rattle.xp_board.proofs.ActEffects.{Looked, Missed, Stumbled, Mapped, Charged, Refunded, Named, Based, Asked, Ran, Ticked, Doomed, Buried, Hinted}
-use Rattle.xp_board.proofs.HandLists.{EachOf-changed, Member-kept}
+use Rattle.step_effects.proofs.MarkEffects.{MarkEffect, nothing, turned, forgot, recorded_entry, shed_entry, Recorded, Shed, mark_effect}
+use Rattle.step_effects.proofs.ActEffects.{Looked, Missed, Stumbled, Mapped, Charged, Refunded, Named, Based, Asked, Ran, Ticked, Doomed, Buried, Hinted}
+use Rattle.board_lemmas.proofs.HandLists.{EachOf-changed, Member-kept}
 use Rattle.stale_rule.proofs.Like.{HandStays, same_stays, parts_like, parts_stay, works_stay, then_stays, if_stays, learned_stays, cell_stays, own_stays, in_stays, out_stays}
 use Rattle.stale_rule.proofs.Moves.{mark_law, still_law, aside_law, not_clock}
 
@@ -66,7 +66,7 @@ ran_stays new a =
     if_stays (new == 0) a _ _ (parts_stay a _ refl refl refl refl refl refl)
     (record { like = parts_like a _ refl refl refl; claims = λ g e. e; cache = λ x e. absurd e; walk = λ x e. e })
 
-other_word : (v w k : ℕ) → k ≢ 5 → Vcpu w 5 ≢ Vcpu v k
+other_word : (v w k : ℕ) → k ≢ 5 → flushed_of w ≢ Vcpu v k
 other_word v w k n e = n (let j : 5 ≡ k = cc in sym j)
 
 not_flush : (k : ℕ) → IsTrue (is_context k) → k ≢ 5
@@ -119,7 +119,7 @@ module _ (n : Machine) (s : ℕ) (x : Step) (m m2 : Place → ℕ) (b c : ℕ �
   pub run_row : Ran n s x m m2 (b s) (c s) → Fresh n m2 c
   run_row d =
       aside_law n s x _ _ m m2 b c _ sound acted.others d.wrote d.hand
-      (then_stays _ _ _ (ran_stays (m2 (Vcpu s 6)) (b s)) (own_stays 6 (m2 (Vcpu s 6)) _)) (not_clock n x _ _ _ d.wrote.place (λ e. cc))
+      (then_stays _ _ _ (ran_stays (m2 (run_of s)) (b s)) (own_stays 6 (m2 (run_of s)) _)) (not_clock n x _ _ _ d.wrote.place (λ e. cc))
       (λ f i e. cc) (λ k e. cc) (λ w. other_word s w 6 (λ e. omega arith)) (λ f e. cc) (λ f e. cc)
 
   pub tick_row : Ticked n x m m2 (b s) (c s) → Fresh n m2 c

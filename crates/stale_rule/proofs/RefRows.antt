@@ -2,7 +2,7 @@
 use Rattle.std.proofs.Common.{◌≡◌, ◌≢◌, ℕ, ◌+◌, ◌<◌, ◌==◌, ◌⊎◌, inl, inr, true, false, refl, sym, subst, arith, IsTrue}
 use Rattle.std.proofs.lemmas.Bool.{cases_eq}
 use Rattle.xp_words.specs.Machine.{Machine}
-use Rattle.xp_words.specs.Places.{sizes_of, Place, Vcpu, Refs, Kind, Cell, Priv}
+use Rattle.xp_words.specs.Places.{sizes_of, Place, Vcpu, Refs, Kind, Cell, Priv, flushed_of}
 use Rattle.xp_board.specs.declared.step.Step.{Step}
 use Rattle.xp_board.specs.declared.step.StepKind.TheVariants as steps
 use Rattle.xp_board.specs.declared.holdings.Holdings.{Holdings}
@@ -16,9 +16,9 @@ use Rattle.xp_board.specs.Reach.{Use, reached_by, Reach}
 use Rattle.xp_board.specs.Fresh.{Fresh}
 use Rattle.xp_board.specs.Keeping.{Acted}
 use Rattle.xp_board.specs.Sound.{Sound}
-use Rattle.xp_board.proofs.ActEffects.{Wrote, Raised, Cleared, Lowered, Privileged}
-use Rattle.xp_board.proofs.Bits.{granted-ever, revoked-ever}
-use Rattle.xp_board.proofs.HandLists.{EachOf-if, EachOf-more}
+use Rattle.step_effects.proofs.ActEffects.{Wrote, Raised, Cleared, Lowered, Privileged}
+use Rattle.board_lemmas.proofs.Bits.{granted-ever, revoked-ever}
+use Rattle.board_lemmas.proofs.HandLists.{EachOf-if, EachOf-more}
 use Rattle.stale_rule.proofs.Like.{HandStays, HandLike, same_stays, parts_stay}
 use Rattle.stale_rule.proofs.Lowers.{owned_kept, lowered_kept}
 use Rattle.stale_rule.proofs.Moves.{act_law, quiet_law, not_clock}
@@ -61,14 +61,14 @@ module _ (n : Machine) (s : ℕ) (x : Step) (m m2 : Place → ℕ) (b c : ℕ �
   pub ref_law : (f : ℕ) (y : Holdings) → Wrote n x (Refs f) steps.Ref m m2 (b s) → c s ≡ noted x (m (Refs f)) y → HandLike (b s) y →
       y.cache ≡ (b s).cache → y.walk ≡ (b s).walk →
       ((v g : ℕ) (u : Use) → v < (sizes_of n).vcpus → Reach (sizes_of n) m (b v) g u → claims_of g (b s).claimed ≡ 0 → claims_of g y.claimed ≡ 0) →
-      ((v : ℕ) (u : Use) → v < (sizes_of n).vcpus → Reach (sizes_of n) m (b v) f u → RefStays (m (Vcpu v 5)) (m (Refs f)) (m2 (Refs f))) → Fresh n m2 c
+      ((v : ℕ) (u : Use) → v < (sizes_of n).vcpus → Reach (sizes_of n) m (b v) f u → RefStays (m (flushed_of v)) (m (Refs f)) (m2 (Refs f))) → Fresh n m2 c
   ref_law f y wrote hand like cache walk claims here =
       act_law n s x (m (Refs f)) m m2 b c y sound acted.others hand like (not_clock n x (Refs f) _ _ wrote.place (λ e. cc))
-      (λ e i. wrote.others (Cell e i) (λ k. cc)) (ever_same m m2 (λ d. wrote.others (Priv d) (λ k. cc))) (λ v. wrote.others (Vcpu v 5) (λ k. cc))
+      (λ e i. wrote.others (Cell e i) (λ k. cc)) (ever_same m m2 (λ d. wrote.others (Priv d) (λ k. cc))) (λ v. wrote.others (flushed_of v) (λ k. cc))
       (λ i e. subst (λ xs. Member i xs) cache e) (λ i e. subst (λ o. Member i (reached_by o)) walk e) claims
       (λ v g u real r.
       elim (cases_eq g f) [
-        | inl at ↦ subst (λ e. RefStays (m (Vcpu v 5)) (m (Refs e)) (m2 (Refs e))) (sym at) (here v u real (subst (λ e. Reach (sizes_of n) m (b v) e u) at r))
+        | inl at ↦ subst (λ e. RefStays (m (flushed_of v)) (m (Refs e)) (m2 (Refs e))) (sym at) (here v u real (subst (λ e. Reach (sizes_of n) m (b v) e u) at r))
         | inr off ↦ inl (ref_same _ _ (wrote.others (Refs g) (λ k. off (cc))))
       ])
       (λ v g u real r old. rw (wrote.others (Kind g) (λ k. cc)) old)
@@ -88,7 +88,7 @@ module _ (n : Machine) (s : ℕ) (x : Step) (m m2 : Place → ℕ) (b c : ℕ �
       let few : e.may.over < 16 = (let most = sound.machine.few_domains in let under = e.may.domain in omega arith) in
       quiet_law n s x (m (Priv d)) m m2 b c (b s) sound acted.others e.hand (same_stays (b s)) (not_clock n x (Priv d) _ _ e.wrote.place (λ k. cc))
       (λ f i. e.wrote.others (Cell f i) (λ k. cc)) (ever_more m m2 d e.may.over few e.wrote.others e.may.left)
-      (λ v. e.wrote.others (Vcpu v 5) (λ k. cc)) (λ f. e.wrote.others (Refs f) (λ k. cc)) (λ f. e.wrote.others (Kind f) (λ k. cc))
+      (λ v. e.wrote.others (flushed_of v) (λ k. cc)) (λ f. e.wrote.others (Refs f) (λ k. cc)) (λ f. e.wrote.others (Kind f) (λ k. cc))
 
 module _ (n : Machine) (s : ℕ) (x : Step) (m m2 : Place → ℕ) (b c : ℕ → Holdings) (real : s < (sizes_of n).vcpus) (acted : Acted n s x m m2 b c) (sound : Sound n m b) where
   pub lower_row : (f : ℕ) → Lowered n x f m m2 (b s) (c s) → Fresh n m2 c

@@ -7,8 +7,8 @@ use Rattle.xp_board.specs.declared.holdings.Holdings.{Holdings}
 use Rattle.xp_board.specs.Fresh.{Fresh}
 use Rattle.xp_board.specs.Keeping.{Acted, KeepsAct}
 use Rattle.xp_board.specs.Sound.{Sound}
-use Rattle.xp_board.proofs.ActEffects.{ActEffect, looked, raised, cleared, took, lowered, freed_frame, gave, turned, missed, dropped_type, unlocked_table, stored, exchanged, rewrote, filled, guest_stored, started_walk, went_on, touched_entry, stumbled, mapped, charged, refunded, named_frame, based, asked, flushed, ran, ticked, doomed, buried, hinted, privileged}
-use Rattle.xp_board.proofs.ActInversions.{act_effect}
+use Rattle.step_effects.proofs.ActEffects.{ActEffect, looked, raised, cleared, took, lowered, freed_frame, gave, turned, missed, dropped_type, unlocked_table, stored, exchanged, rewrote, filled, guest_stored, started_walk, went_on, touched_entry, stumbled, mapped, charged, refunded, named_frame, based, asked, flushed, ran, ticked, doomed, buried, hinted, privileged}
+use Rattle.step_effects.proofs.ActInversions.{act_effect}
 use Rattle.stale_rule.proofs.Quiet.{look_row, miss_row, stumble_row, map_row, charge_row, refund_row, name_row, base_row, ask_row, run_row, tick_row, doom_row, bury_row, hint_row}
 use Rattle.stale_rule.proofs.RefRows.{raise_row, clear_row, lower_row, privilege_row}
 use Rattle.stale_rule.proofs.FreeRows.{take_row, free_row, give_row}

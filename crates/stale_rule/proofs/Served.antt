@@ -21,9 +21,9 @@ use Rattle.xp_board.specs.Reach.{Use, Table, Writes, Reads, use_below}
 use Rattle.xp_board.specs.Fresh.{Belongs, Matches}
 use Rattle.xp_board.specs.Sound.{Sound}
 use Rattle.stale_rule.proofs.Came.{IsLevel}
-use Rattle.xp_board.proofs.Counted.{entries-part, type_below}
+use Rattle.board_lemmas.proofs.Counted.{entries-part, type_below}
 use Rattle.stale_rule.proofs.Demands.{asks_table, asks_leaf, LeafAsks, walked_inside}
-use Rattle.xp_board.proofs.KindForms.{zero_dead}
+use Rattle.board_lemmas.proofs.KindForms.{zero_dead}
 use Rattle.stale_rule.proofs.Paths.{permits_own}
 use Rattle.stale_rule.proofs.Tables.{table_held, leads_live, named_counted, live_count}
 

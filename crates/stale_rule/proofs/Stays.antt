@@ -1,7 +1,7 @@
 -- Fresh holds on where no more is reached than before, and what is reached bears the change.
 use Rattle.std.proofs.Common.{◌≡◌, ℕ, ◌<◌, ◌≤◌, ◌⊎◌, inl, inr, true, sym, ◌∙◌, ap, subst, arith, IsTrue, Option, Some, None}
 use Rattle.xp_words.specs.Machine.{Machine}
-use Rattle.xp_words.specs.Places.{sizes_of, Place, Vcpu, Refs, Priv}
+use Rattle.xp_words.specs.Places.{sizes_of, Place, Vcpu, Refs, Priv, flushed_of}
 use Rattle.xp_board.specs.declared.holdings.Holdings.{Holdings}
 use Rattle.xp_board.specs.Readings.{kind_at, is_free, free_stamp, owner_of, domain_of, has_ever}
 use Rattle.xp_board.specs.Hands.{claims_of}
@@ -58,18 +58,18 @@ stamp_kept flushed w w2 (inr freed) old e = freed.stamp
 
 -- ---- what a step leaves of one frame that a vCPU can come to
 pub record Bearable (n : Machine) (m m2 : Place → ℕ) (h h2 : ℕ → Holdings) (v g : ℕ) (u : Use) : Type 0 where
-  pub flush : m2 (Vcpu v 5) ≡ m (Vcpu v 5)
-  pub ref : RefStays (m (Vcpu v 5)) (m (Refs g)) (m2 (Refs g))
-  pub kind : Bears (m (Vcpu v 5)) (kind_at m g) u → Bears (m (Vcpu v 5)) (kind_at m2 g) u
+  pub flush : m2 (flushed_of v) ≡ m (flushed_of v)
+  pub ref : RefStays (m (flushed_of v)) (m (Refs g)) (m2 (Refs g))
+  pub kind : Bears (m (flushed_of v)) (kind_at m g) u → Bears (m (flushed_of v)) (kind_at m2 g) u
   pub claims : (t : ℕ) → t < (sizes_of n).vcpus → claims_of g (h t).claimed ≡ 0 → claims_of g (h2 t).claimed ≡ 0
-  pub awaits : (t : ℕ) → t < (sizes_of n).vcpus → Awaited (sizes_of n) (m (Vcpu v 5)) g u (h t) → Awaited (sizes_of n) (m (Vcpu v 5)) g u (h2 t)
+  pub awaits : (t : ℕ) → t < (sizes_of n).vcpus → Awaited (sizes_of n) (m (flushed_of v)) g u (h t) → Awaited (sizes_of n) (m (flushed_of v)) g u (h2 t)
 
 pub fresh_at : (n : Machine) (m m2 : Place → ℕ) (h h2 : ℕ → Holdings) (v g : ℕ) (u : Use) → KeepsEver m m2 → Bearable n m m2 h h2 v g u →
     FreshAt n m h v g u → FreshAt n m2 h2 v g u
 fresh_at n m m2 h h2 v g u ever bears old =
     record {
-      owner = belongs_kept m m2 (domain_of n v) g (m (Vcpu v 5)) u ever bears.ref old.owner;
-      free = rw bears.flush (stamp_kept (m (Vcpu v 5)) (m (Refs g)) (m2 (Refs g)) bears.ref old.free);
+      owner = belongs_kept m m2 (domain_of n v) g (m (flushed_of v)) u ever bears.ref old.owner;
+      free = rw bears.flush (stamp_kept (m (flushed_of v)) (m (Refs g)) (m2 (Refs g)) bears.ref old.free);
       unclaimed = λ t real. bears.claims t real (old.unclaimed t real);
       bears = rw bears.flush (bears.kind old.bears);
       awaited = λ t real. rw bears.flush (bears.awaits t real (old.awaited t real));

@@ -4,7 +4,7 @@ use Rattle.std.proofs.lemmas.Bool.Decides.{nat_tests}
 use Rattle.xp_words.specs.declared.kind.KindWord.{KindWord}
 use Rattle.xp_words.specs.KindWords.{kind_fields, kind_read}
 use Rattle.xp_words.specs.Machine.{Machine}
-use Rattle.xp_words.specs.Places.{sizes_of, Place, Clock, Vcpu, Kind}
+use Rattle.xp_words.specs.Places.{sizes_of, Place, Clock, Vcpu, Kind, flushed_of}
 use Rattle.xp_board.specs.declared.step.Step.{Step}
 use Rattle.xp_board.specs.declared.holdings.Work.{Work}
 use Rattle.xp_board.specs.declared.holdings.Holdings.{Holdings}
@@ -17,15 +17,15 @@ use Rattle.xp_board.specs.Reach.{Use, Reads, Reach}
 use Rattle.xp_board.specs.Fresh.{Bears, Fresh}
 use Rattle.xp_board.specs.Keeping.{Acted}
 use Rattle.xp_board.specs.Sound.{Sound}
-use Rattle.xp_board.proofs.ActEffects.{Stored}
+use Rattle.step_effects.proofs.ActEffects.{Stored}
 use Rattle.stale_rule.proofs.Bearing.{bears_read, bears_same, bears_dead, matches_same, read_unmarked}
-use Rattle.xp_board.proofs.KindForms.{marked_unlive}
+use Rattle.board_lemmas.proofs.KindForms.{marked_unlive}
 use Rattle.stale_rule.proofs.KindHands.{form_stays}
 use Rattle.stale_rule.proofs.KindRows.{kind_law}
-use Rattle.xp_board.proofs.HandLists.{EachOf-first}
+use Rattle.board_lemmas.proofs.HandLists.{EachOf-first}
 use Rattle.stale_rule.proofs.Past.{since_each, past_gone, gone_unreached}
-use Rattle.xp_board.proofs.FormsLeft.{is_live_left, is_partial_left}
-use Rattle.xp_board.proofs.WorkFacts.{Works, works_facts}
+use Rattle.board_lemmas.proofs.FormsLeft.{is_live_left, is_partial_left}
+use Rattle.board_lemmas.proofs.WorkFacts.{Works, works_facts}
 
 -- the stamp that a marked word tells
 marked_tells : (f w x : ℕ) → (w == x) ≡ true → (kind_fields x).validated ≡ false → told_value (Kind f) w ≡ (kind_fields x).number
@@ -43,7 +43,7 @@ module _ (n : Machine) (s : ℕ) (m : Place → ℕ) (b : ℕ → Holdings) (rea
 
   -- past the flush a marked frame is only read
   past_read : (v : ℕ) (u : Use) → v < (sizes_of n).vcpus → (kind_at m f).unflushed ≡ true → IsPastFlush n (b s) e → Reach (sizes_of n) m (b v) f u →
-      Bears (m (Vcpu v 5)) (kind_at m f) u → u ≢ Reads → ⊥
+      Bears (m (flushed_of v)) (kind_at m f) u → u ≢ Reads → ⊥
   past_read v u live marked past r old other =
       let mark : (kind_fields e.word).unflushed ≡ true = subst (λ k. k.unflushed ≡ true) its_word marked in
       let dead : (kind_fields e.word).validated ≡ false =
@@ -56,7 +56,7 @@ module _ (n : Machine) (s : ℕ) (m : Place → ℕ) (b : ℕ → Holdings) (rea
               | inl plain ↦ absurd (let p = plain.0 in cc)
               | inr stamped ↦
                   gone_unreached n m b sound v (kind_fields e.word).number f u live gone
-                  (subst (λ k. m (Vcpu v 5) ≤ k.number) its_word stamped.1) r
+                  (subst (λ k. m (flushed_of v) ≤ k.number) its_word stamped.1) r
             ]
         | inr over ↦
             other (facts.found.passed v over.owner u mark live ((sound.found s real).owners e.frame over.owner over.known) over.other over.never
@@ -78,20 +78,20 @@ module _ (n : Machine) (s : ℕ) (m : Place → ℕ) (b : ℕ → Holdings) (rea
 
   -- the stamp of a dead word is a clock value found since the frame came here
   stamp_bound : (v : ℕ) (u : Use) (stamp : ℕ) → v < (sizes_of n).vcpus → u ≢ Reads → Reach (sizes_of n) m (b v) f u →
-      IsTrue (some_since (sizes_of n) e.since Clock (λ w. w == stamp) (b s).steps) → m (Vcpu v 5) ≤ stamp
+      IsTrue (some_since (sizes_of n) e.since Clock (λ w. w == stamp) (b s).steps) → m (flushed_of v) ≤ stamp
   stamp_bound v u stamp live other r told =
-      since_each (sizes_of n) e.since Clock (λ w. w == stamp) (λ w. m (Vcpu v 5) ≤ w) (m (Vcpu v 5) ≤ stamp) (b s).steps
+      since_each (sizes_of n) e.since Clock (λ w. w == stamp) (λ w. m (flushed_of v) ≤ w) (m (flushed_of v) ≤ stamp) (b s).steps
       (EachOf-first _ (λ y. y.frame) f e (b s).works (((sound.fresh.each v live f u r).awaited s real).work other) here facts.frame) told
       (λ w t below. let k : w ≡ stamp = grind (arith, nat_tests) in omega arith)
 
   dead_bears : (v : ℕ) (l : KindWord) (u : Use) → v < (sizes_of n).vcpus → MayMakeDead n f e l (b s) → Reach (sizes_of n) m (b v) f u →
-      Bears (m (Vcpu v 5)) (kind_at m f) u → Bears (m (Vcpu v 5)) l u
+      Bears (m (flushed_of v)) (kind_at m f) u → Bears (m (flushed_of v)) l u
   dead_bears v l u live may r old =
       let kind = subst (λ k. l.kind ≡ k.kind) (sym its_word) may.kind in
       record {
         typed = λ other. elim may.mark [
           | inl same ↦
-              (bears_dead (m (Vcpu v 5)) (kind_at m f) l u kind (subst (λ k. l.unflushed ≡ k.unflushed) (sym its_word) same)
+              (bears_dead (m (flushed_of v)) (kind_at m f) l u kind (subst (λ k. l.unflushed ≡ k.unflushed) (sym its_word) same)
               (stamp_bound v u l.number live other r may.stamp) old).typed other
           | inr off ↦
               elim (old.typed other) [
@@ -103,10 +103,10 @@ module _ (n : Machine) (s : ℕ) (m : Place → ℕ) (b : ℕ → Holdings) (rea
       }
 
   form_bears : (form : Form) (v : ℕ) (w : ℕ) (l : KindWord) (u : Use) → v < (sizes_of n).vcpus → kind_read w ≡ Some l → form_of l ≡ form → AllowsForm form n f e l (b s) →
-      Reach (sizes_of n) m (b v) f u → Bears (m (Vcpu v 5)) (kind_at m f) u → Bears (m (Vcpu v 5)) l u
+      Reach (sizes_of n) m (b v) f u → Bears (m (flushed_of v)) (kind_at m f) u → Bears (m (flushed_of v)) l u
   form_bears Live v w l u live reads is may r old =
       let alive = is_live_left l is in
-      plain_bears (m (Vcpu v 5)) l u (rw alive refl) (read_unmarked w l reads alive) (subst (λ k. l.kind ≡ k.kind) (sym its_word) may.kind)
+      plain_bears (m (flushed_of v)) l u (rw alive refl) (read_unmarked w l reads alive) (subst (λ k. l.kind ≡ k.kind) (sym its_word) may.kind)
       (λ marked other. past_read v u live marked (may.past (subst (λ k. k.unflushed ≡ true) its_word marked)) r old other) old
   form_bears Partial v w l u live reads is may r old =
       let partial = (is_partial_left l is).1 in
@@ -114,12 +114,12 @@ module _ (n : Machine) (s : ℕ) (m : Place → ℕ) (b : ℕ → Holdings) (rea
       let kind = subst (λ k. l.kind ≡ k.kind) (sym its_word) may.kind in
       elim may.mark [
         | inl same ↦
-            bears_same (m (Vcpu v 5)) (kind_at m f) l u kind (subst (λ k. l.unflushed ≡ k.unflushed) (sym its_word) same.0)
+            bears_same (m (flushed_of v)) (kind_at m f) l u kind (subst (λ k. l.unflushed ≡ k.unflushed) (sym its_word) same.0)
             (λ marked. subst (λ k. l.number ≡ k.number) (sym its_word) (same.1 (same.0 ∙ subst (λ k. k.unflushed ≡ true) its_word marked))) alive old
-        | inr off ↦ plain_bears (m (Vcpu v 5)) l u alive off.1 kind (λ marked other. past_read v u live marked off.2 r old other) old
+        | inr off ↦ plain_bears (m (flushed_of v)) l u alive off.1 kind (λ marked other. past_read v u live marked off.2 r old other) old
       ]
   form_bears InWork v w l u live reads is may r old =
-      bears_read (m (Vcpu v 5)) l u (λ other. past_read v u live (subst (λ k. k.unflushed ≡ true) (sym its_word) may.marked) may.past r old other)
+      bears_read (m (flushed_of v)) l u (λ other. past_read v u live (subst (λ k. k.unflushed ≡ true) (sym its_word) may.marked) may.past r old other)
   form_bears Dead v w l u live reads is may r old = dead_bears v l u live may r old
 
 module _ (n : Machine) (s : ℕ) (x : Step) (m m2 : Place → ℕ) (b c : ℕ → Holdings) (real : s < (sizes_of n).vcpus) (acted : Acted n s x m m2 b c) (sound : Sound n m b) where
@@ -127,5 +127,5 @@ module _ (n : Machine) (s : ℕ) (x : Step) (m m2 : Place → ℕ) (b c : ℕ �
   store_row f form d =
       kind_law n s x m m2 b c acted sound f _ d.wrote d.hand (form_stays form n s f d.e d.l (m2 (Kind f)) (b s))
       (λ v u live r old.
-      subst (λ k. Bears (m (Vcpu v 5)) k u) (sym d.fields_is)
+      subst (λ k. Bears (m (flushed_of v)) k u) (sym d.fields_is)
       (form_bears n s m b real sound f d.e d.here form v (m2 (Kind f)) d.l u live d.is d.form_is d.may r old))

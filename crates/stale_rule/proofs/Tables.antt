@@ -13,9 +13,9 @@ use Rattle.xp_board.specs.Hands.{work_on}
 use Rattle.xp_board.specs.Recorded.{held, held_of, entry_demand, names_typed}
 use Rattle.xp_board.specs.Valid.{LeadsWell}
 use Rattle.xp_board.specs.Sound.{Sound}
-use Rattle.xp_board.proofs.Counted.{entries-part, names_typed-typed}
-use Rattle.xp_board.proofs.Works.{nobody_has, held_free}
-use Rattle.xp_board.proofs.HeldByForm.{live_partial, live_idle}
+use Rattle.board_lemmas.proofs.Counted.{entries-part, names_typed-typed}
+use Rattle.board_lemmas.proofs.Works.{nobody_has, held_free}
+use Rattle.board_lemmas.proofs.HeldByForm.{live_partial, live_idle}
 
 -- a live and counted table of that level, of that domain
 pub record Serves (m : Place → ℕ) (d level f : ℕ) : Type 0 where

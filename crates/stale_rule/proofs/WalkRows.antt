@@ -4,7 +4,7 @@ use Rattle.std.proofs.lemmas.Bool.Decides.{nat_tests}
 use Rattle.std.proofs.lemmas.Bool.{and_parts}
 use Rattle.xp_words.specs.Entries.{is_bit, frame_of}
 use Rattle.xp_words.specs.Machine.{Machine}
-use Rattle.xp_words.specs.Places.{sizes_of, Place, Clock, Vcpu, Refs, Kind, Cell, Priv}
+use Rattle.xp_words.specs.Places.{sizes_of, Place, Clock, Vcpu, Refs, Kind, Cell, Priv, flushed_of}
 use Rattle.xp_board.specs.declared.step.Step.{Step}
 use Rattle.xp_board.specs.declared.step.Item.{Item}
 use Rattle.xp_board.specs.declared.holdings.Reached.{Reached}
@@ -23,11 +23,11 @@ use Rattle.xp_board.specs.Reach.{Table, Writes, Reads, use_of, use_below, reache
 use Rattle.xp_board.specs.Fresh.{Fresh}
 use Rattle.xp_board.specs.Keeping.{Acted}
 use Rattle.xp_board.specs.Sound.{Sound}
-use Rattle.xp_board.proofs.ActEffects.{Started, WentOn, Touched}
+use Rattle.step_effects.proofs.ActEffects.{Started, WentOn, Touched}
 use Rattle.stale_rule.proofs.CameFresh.{Came, CellAlike, alike_same, alike_passes, use_alike}
 use Rattle.stale_rule.proofs.CellLaw.{cells_law, written_law}
 use Rattle.stale_rule.proofs.EntryBits.{touched_alike}
-use Rattle.xp_board.proofs.HandLists.{Member-take}
+use Rattle.board_lemmas.proofs.HandLists.{Member-take}
 use Rattle.stale_rule.proofs.Like.{HandLike, HandStays, same_stays, parts_like, then_like, cell_stays, own_stays}
 use Rattle.stale_rule.proofs.Paths.{base_serves}
 use Rattle.stale_rule.proofs.Served.{typed_counted}
@@ -172,7 +172,7 @@ module _ (n : Machine) (s : ℕ) (x : Step) (m m2 : Place → ℕ) (b c : ℕ �
   load_law : (p : Place) (y : Holdings) → place_of n x ≡ p → ((q : Place) → m2 q ≡ m q) → left_by x.act (m p) ≡ m p → c s ≡ noted x (m p) y → HandComes n m b s y → Fresh n m2 c
   load_law p y at words left hand comes =
       cells_law n s x (m p) m m2 b c y real sound acted.others hand comes.like (λ e. let k : m p ≡ m Clock = ap m (sym at ∙ e) in (omega arith, omega arith))
-      comes.claims (λ d. words (Priv d)) (λ v. words (Vcpu v 5)) (λ f. words (Refs f)) (λ f. words (Kind f)) comes.items comes.tables
+      comes.claims (λ d. words (Priv d)) (λ v. words (flushed_of v)) (λ f. words (Refs f)) (λ f. words (Kind f)) comes.items comes.tables
       (λ v f i live. alike_passes n m m2 b sound v f i (alike_same _ _ (words (Cell f i))))
 
   pub start_row : (k : ℕ) → Started n s x k m m2 (b s) (c s) → Fresh n m2 c

@@ -4,19 +4,19 @@ use Rattle.std.proofs.lemmas.Bool.{cases_eq}
 use Rattle.xp_words.specs.declared.refs.RefWord.TheVariants.{Free, Owned, Dying}
 use Rattle.xp_words.specs.RefWords.{ref_read, ref_write, IsRef}
 use Rattle.xp_words.specs.Machine.{Machine, IsMachine}
-use Rattle.xp_words.specs.Places.{Place, Vcpu, Refs, Kind, sizes_of}
+use Rattle.xp_words.specs.Places.{Place, Vcpu, Refs, Kind, sizes_of, run_of}
 use Rattle.xp_board.specs.declared.step.Step.{Step}
 use Rattle.xp_board.specs.declared.holdings.Holdings.{Holdings}
 use Rattle.xp_board.specs.Readings.{owner_of, domain_of, allocated_mark}
 use Rattle.xp_board.specs.LifeSteps.{is_unallocated}
 use Rattle.xp_board.specs.Sound.{Sound}
 use Rattle.xp_board.specs.Found.{ClaimFound}
-use Rattle.xp_board.proofs.ListCounts.{EachOf-found}
+use Rattle.board_lemmas.proofs.ListCounts.{EachOf-found}
 use Rattle.xp_words.proofs.RefLaws.{ref_read-write}
 use Rattle.std.proofs.lemmas.List.Elements.{All-get_or}
-use Rattle.xp_board.proofs.ActEffects.{Raised, Cleared, Took, Lowered, Freed, Gave}
+use Rattle.step_effects.proofs.ActEffects.{Raised, Cleared, Took, Lowered, Freed, Gave}
 use Rattle.type_rule.proofs.RefWordLaws.{SameOwner, one_more_keeps, one_less_keeps}
-use Rattle.xp_board.proofs.Counted.{in_hand_counted}
+use Rattle.board_lemmas.proofs.Counted.{in_hand_counted}
 use Rattle.type_rule.proofs.DomainLaw.{AllStopped, DomainWords, DomainChange}
 use Rattle.type_rule.proofs.DomainWords.{kept_after, change_by, not_stopped}
 
@@ -64,7 +64,7 @@ module _ (n : Machine) (s : ℕ) (x : Step) (m m2 : Place → ℕ) (b c : ℕ �
   ref_words : (f : ℕ) → ((q : Place) → q ≢ Refs f → m2 q ≡ m q) → (c s).looking ≡ (b s).looking → RefKept f → DomainWords n m m2 b c
   ref_words f same looking k =
       record {
-        stopped = λ v e. same (Vcpu v 6) (λ q. cc) ∙ e;
+        stopped = λ v e. same (run_of v) (λ q. cc) ∙ e;
         empty = λ v j u e z. same (Vcpu v j) (λ q. cc) ∙ z;
         owners = λ d g all e. elim (cases_eq g f) [
           | inl at ↦ rw at (k.owner d all (rw at at e))

@@ -5,7 +5,7 @@ use Rattle.std.proofs.lemmas.Bool.Decides.{nat_tests}
 use Rattle.xp_words.specs.declared.kind.KindWord.{KindWord}
 use Rattle.xp_words.specs.KindWords.{kind_read, kind_fields}
 use Rattle.xp_words.specs.Machine.{Machine}
-use Rattle.xp_words.specs.Places.{Place, Vcpu, Refs, Kind, sizes_of}
+use Rattle.xp_words.specs.Places.{Place, Vcpu, Refs, Kind, sizes_of, run_of}
 use Rattle.xp_board.specs.declared.step.Step.{Step}
 use Rattle.xp_board.specs.declared.holdings.Looking.{Looking}
 use Rattle.xp_board.specs.declared.holdings.Holdings.{Holdings}
@@ -14,10 +14,10 @@ use Rattle.xp_board.specs.Readings.{kind_at, is_partial, type_count, owner_of, d
 use Rattle.xp_board.specs.KindSteps.{KindRow, Count, Locks, Pin, Unpin, Resume, TakeBack, Begin, AllowsKindRow, still_looking}
 use Rattle.xp_board.specs.WellFormed.{IsLookingFormed}
 use Rattle.xp_board.specs.Sound.{Sound, KeptForNobody}
-use Rattle.xp_board.proofs.KindForms.{live_form, fields_down, fields_unlocked}
-use Rattle.xp_board.proofs.ActEffects.{Turned, Missed, Dropped, Unlocked}
-use Rattle.xp_board.proofs.Counted.{typed_counted}
-use Rattle.xp_board.proofs.Works.{is_locked-mine}
+use Rattle.board_lemmas.proofs.KindForms.{live_form, fields_down, fields_unlocked}
+use Rattle.step_effects.proofs.ActEffects.{Turned, Missed, Dropped, Unlocked}
+use Rattle.board_lemmas.proofs.Counted.{typed_counted}
+use Rattle.board_lemmas.proofs.Works.{is_locked-mine}
 use Rattle.type_rule.proofs.HandParts.{two_row}
 use Rattle.type_rule.proofs.DomainLaw.{AllStopped, DomainWords, DomainChange}
 use Rattle.type_rule.proofs.DomainWords.{LooksOn, kept_after, kept_member, change_by, not_stopped, same_words}
@@ -67,7 +67,7 @@ module _ (n : Machine) (s : ℕ) (x : Step) (m m2 : Place → ℕ) (b c : ℕ �
   pub kind_words : (f : ℕ) → ((q : Place) → q ≢ Kind f → m2 q ≡ m q) → ((g : ℕ) → g ≢ f → LooksOn n s x m m2 b c others g) → KindKept f → DomainWords n m m2 b c
   kind_words f same looks k =
       record {
-        stopped = λ v e. same (Vcpu v 6) (λ q. cc) ∙ e;
+        stopped = λ v e. same (run_of v) (λ q. cc) ∙ e;
         empty = λ v j u e z. same (Vcpu v j) (λ q. cc) ∙ z;
         owners = λ d g all e. sym (ap owner_of (same (Refs g) (λ q. cc))) ∙ e;
         unallocated = λ d g all o u. rw (same (Refs g) (λ q. cc)) u;

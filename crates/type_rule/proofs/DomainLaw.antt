@@ -3,7 +3,7 @@ use Rattle.std.proofs.Common.{◌≡◌, ◌≢◌, ℕ, ◌+◌, ◌<◌, ◌�
 use Rattle.std.proofs.lemmas.Bool.{cases_eq, cases_Bool}
 use Rattle.std.proofs.lemmas.Bool.Decides.{nat_tests}
 use Rattle.xp_words.specs.Machine.{Machine}
-use Rattle.xp_words.specs.Places.{Place, Life, Vcpu, Refs, Kind, sizes_of}
+use Rattle.xp_words.specs.Places.{Place, Life, Vcpu, Refs, Kind, sizes_of, run_of}
 use Rattle.xp_board.specs.declared.step.Step.{Step}
 use Rattle.xp_board.specs.declared.holdings.Made.{Made}
 use Rattle.xp_board.specs.declared.holdings.Holdings.{Holdings}
@@ -14,17 +14,17 @@ use Rattle.xp_board.specs.LifeSteps.{HasStopped, is_unallocated, is_unpinned, is
 use Rattle.xp_board.specs.Found.{StoppedFound}
 use Rattle.xp_board.specs.Runs.{place_of}
 use Rattle.xp_board.specs.Sound.{Sound, KeptForNobody, DeadDomain, DyingDomain, Domains}
-use Rattle.xp_board.proofs.StepLists.{Hit, since_more, before_more, between_more, since_within, found_between}
+use Rattle.board_lemmas.proofs.StepLists.{Hit, since_more, before_more, between_more, since_within, found_between}
 
 -- all vCPUs of the domain are stopped
 abbrev pub AllStopped : Machine → (Place → ℕ) → ℕ → Type 0
-AllStopped n m d = (v : ℕ) → v < (sizes_of n).vcpus → domain_of n v ≡ d → m (Vcpu v 6) ≡ 1
+AllStopped n m d = (v : ℕ) → v < (sizes_of n).vcpus → domain_of n v ≡ d → m (run_of v) ≡ 1
 
 -- What an act changes of the words, as far as these laws read them: a vCPU that is stopped stays so and gets no frame, and no
 -- frame of a domain whose vCPUs are stopped comes to it or gets a mark, but `kept` by a seat that looks at the domain's life.
 pub record DomainWords (n : Machine) (m m2 : Place → ℕ) (b c : ℕ → Holdings) : Type 0 where
-  pub stopped : (v : ℕ) → m (Vcpu v 6) ≡ 1 → m2 (Vcpu v 6) ≡ 1
-  pub empty : (v k : ℕ) → IsTrue (is_context k) → m (Vcpu v 6) ≡ 1 → m (Vcpu v k) ≡ 0 → m2 (Vcpu v k) ≡ 0
+  pub stopped : (v : ℕ) → m (run_of v) ≡ 1 → m2 (run_of v) ≡ 1
+  pub empty : (v k : ℕ) → IsTrue (is_context k) → m (run_of v) ≡ 1 → m (Vcpu v k) ≡ 0 → m2 (Vcpu v k) ≡ 0
   pub owners : (d f : ℕ) → AllStopped n m d → owner_of (m2 (Refs f)) ≡ Some d → owner_of (m (Refs f)) ≡ Some d
   pub unallocated : (d f : ℕ) → AllStopped n m d → owner_of (m (Refs f)) ≡ Some d → IsTrue (is_unallocated (m (Refs f))) → IsTrue (is_unallocated (m2 (Refs f)))
   pub unpinned : (d f : ℕ) → AllStopped n m d → owner_of (m (Refs f)) ≡ Some d → IsTrue (is_unpinned (m (Kind f))) → IsTrue (is_unpinned (m2 (Kind f)))
@@ -75,7 +75,7 @@ module _ (n : Machine) (s : ℕ) (x : Step) (m m2 : Place → ℕ) (b c : ℕ �
   -- all vCPUs of a domain that a seat found stopped are stopped
   all_stopped : (d t a : ℕ) → StoppedFound (sizes_of n) m (b t) → HasStopped n t d a (b t) → AllStopped n m d
   all_stopped d t a found y v l e =
-      found_between (sizes_of n) y.since a (Vcpu v 6) (λ w. w == 1) (λ w. w ≡ 1 → m (Vcpu v 6) ≡ 1) (b t).steps (found v) (y.stopped v l e) (λ w r g. g (is_one w r))
+      found_between (sizes_of n) y.since a (run_of v) (λ w. w == 1) (λ w. w ≡ 1 → m (run_of v) ≡ 1) (b t).steps (found v) (y.stopped v l e) (λ w r g. g (is_one w r))
 
   -- a frame that is not the domain's does not come to it
   still_other : (d f : ℕ) → AllStopped n m d → is_owned_by d (m (Refs f)) ≡ false → is_owned_by d (m2 (Refs f)) ≡ false
@@ -92,7 +92,7 @@ module _ (n : Machine) (s : ℕ) (x : Step) (m m2 : Place → ℕ) (b c : ℕ �
       record {
         empty = λ v j a e o l u stored order halted found.
             k.words.empty v j u
-            (found_between (sizes_of n) a e (Vcpu v 6) (λ w. w == 1) (λ w. w ≡ 1 → m (Vcpu v 6) ≡ 1) (b t).steps (stopped v) (rw same at halted) (λ w r g. g (is_one w r)))
+            (found_between (sizes_of n) a e (run_of v) (λ w. w == 1) (λ w. w ≡ 1 → m (run_of v) ≡ 1) (b t).steps (stopped v) (rw same at halted) (λ w r g. g (is_one w r)))
             (y.empty v j a e o l u (rw same at stored) order (rw same at halted) (rw same at found));
         unallocated = λ f a h o found.
             let all = all_stopped d t a stopped (rw same at h) in
@@ -118,7 +118,7 @@ module _ (n : Machine) (s : ℕ) (x : Step) (m m2 : Place → ℕ) (b c : ℕ �
           | inl here ↦ absurd (let l = here.1 in let o = y.order in omega arith)
           | inr there ↦ there
         ];
-        stopped = λ v l e. elim (between_more (sizes_of n) y.since a (Vcpu v 6) (λ w. w == 1) made (b s).steps (rw k.steps at (y.stopped v l e))) [
+        stopped = λ v l e. elim (between_more (sizes_of n) y.since a (run_of v) (λ w. w == 1) made (b s).steps (rw k.steps at (y.stopped v l e))) [
           | inl here ↦ absurd (let l = here.1 in omega arith)
           | inr there ↦ there
         ];
@@ -131,7 +131,7 @@ module _ (n : Machine) (s : ℕ) (x : Step) (m m2 : Place → ℕ) (b c : ℕ �
   -- an empty word of a vCPU that was found stopped
   empty_after : (d : ℕ) → StoppedFound (sizes_of n) m (b s) → DyingDomain n m b d s → (v j a e : ℕ) → domain_of n v ≡ d → j < 38 → IsTrue (is_context j) →
       IsTrue (some_before (sizes_of n) a (Life d) (λ w. w == s + 1) (c s).steps) → a ≤ e →
-      IsTrue (some_between (sizes_of n) a e (Vcpu v 6) (λ w. w == 1) (c s).steps) →
+      IsTrue (some_between (sizes_of n) a e (run_of v) (λ w. w == 1) (c s).steps) →
       IsTrue (some_since (sizes_of n) e (Vcpu v j) (λ w. w == 0) (c s).steps) → m2 (Vcpu v j) ≡ 0
   empty_after d stopped y v j a e o l u stored order halted found =
       elim (since_more (sizes_of n) e (Vcpu v j) (λ w. w == 0) made (b s).steps (rw k.steps at found)) [
@@ -143,13 +143,13 @@ module _ (n : Machine) (s : ℕ) (x : Step) (m m2 : Place → ℕ) (b c : ℕ �
               | inl here ↦ absurd (let g = here.1 in omega arith)
               | inr there ↦ there
             ] in
-            let was_halted : IsTrue (some_between (sizes_of n) a e (Vcpu v 6) (λ w. w == 1) (b s).steps) =
-            elim (between_more (sizes_of n) a e (Vcpu v 6) (λ w. w == 1) made (b s).steps (rw k.steps at halted)) [
+            let was_halted : IsTrue (some_between (sizes_of n) a e (run_of v) (λ w. w == 1) (b s).steps) =
+            elim (between_more (sizes_of n) a e (run_of v) (λ w. w == 1) made (b s).steps (rw k.steps at halted)) [
               | inl here ↦ absurd (let g = here.1 in omega arith)
               | inr there ↦ there
             ] in
             k.words.empty v j u
-            (found_between (sizes_of n) a e (Vcpu v 6) (λ w. w == 1) (λ w. w ≡ 1 → m (Vcpu v 6) ≡ 1) (b s).steps (stopped v) was_halted (λ w r g. g (is_one w r)))
+            (found_between (sizes_of n) a e (run_of v) (λ w. w == 1) (λ w. w ≡ 1 → m (run_of v) ≡ 1) (b s).steps (stopped v) was_halted (λ w r g. g (is_one w r)))
             (y.empty v j a e o l u was_stored order was_halted old)
       ]
 

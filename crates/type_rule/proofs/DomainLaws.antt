@@ -10,9 +10,9 @@ use Rattle.xp_board.specs.Keeping.{KeepsMark, KeepsAct}
 use Rattle.xp_board.specs.LifeSteps.{HasStopped}
 use Rattle.xp_board.specs.Marks.{demand_seen}
 use Rattle.xp_board.specs.Sound.{Sound, KeptForNobody, DeadDomain, DyingDomain, Domains}
-use Rattle.xp_board.proofs.MarkEffects.{MarkEffect, nothing, turned as turned_mark, forgot, recorded_entry, shed_entry, mark_effect}
-use Rattle.xp_board.proofs.ActInversions.{act_effect}
-use Rattle.xp_board.proofs.ActEffects.{ActEffect, looked, raised, cleared, took, lowered, freed_frame, gave, turned, missed, dropped_type, unlocked_table, stored, exchanged, rewrote, filled, guest_stored, started_walk, went_on, touched_entry, stumbled, mapped, charged, refunded, named_frame, based, asked, flushed, ran, ticked, doomed, buried, hinted, privileged}
+use Rattle.step_effects.proofs.MarkEffects.{MarkEffect, nothing, turned as turned_mark, forgot, recorded_entry, shed_entry, mark_effect}
+use Rattle.step_effects.proofs.ActInversions.{act_effect}
+use Rattle.step_effects.proofs.ActEffects.{ActEffect, looked, raised, cleared, took, lowered, freed_frame, gave, turned, missed, dropped_type, unlocked_table, stored, exchanged, rewrote, filled, guest_stored, started_walk, went_on, touched_entry, stumbled, mapped, charged, refunded, named_frame, based, asked, flushed, ran, ticked, doomed, buried, hinted, privileged}
 use Rattle.type_rule.proofs.HandParts.{SameTwo, three_in, three_out}
 use Rattle.type_rule.proofs.DomainLaw.{DomainChange, domains_law}
 use Rattle.type_rule.proofs.DomainFrames.{raised_change, cleared_change, took_change, lowered_change, freed_change, gave_change}

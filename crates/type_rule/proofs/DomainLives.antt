@@ -3,7 +3,7 @@ use Rattle.std.proofs.Common.{◌≡◌, ◌≢◌, ℕ, ◌+◌, ◌<◌, ◌�
 use Rattle.std.proofs.lemmas.Bool.{cases_eq, cases_Bool}
 use Rattle.std.proofs.lemmas.Bool.Decides.{nat_tests}
 use Rattle.xp_words.specs.Machine.{Machine}
-use Rattle.xp_words.specs.Places.{Place, Life, Vcpu, Refs, Kind, sizes_of, is_place}
+use Rattle.xp_words.specs.Places.{Place, Life, Vcpu, Refs, Kind, sizes_of, is_place, run_of}
 use Rattle.xp_board.specs.declared.step.Step.{Step}
 use Rattle.xp_board.specs.declared.holdings.Holdings.{Holdings}
 use Rattle.xp_board.specs.Lists.{kept_of}
@@ -11,8 +11,8 @@ use Rattle.xp_board.specs.Steps.{some_since, some_before}
 use Rattle.xp_board.specs.Readings.{is_owned_by, owner_of}
 use Rattle.xp_board.specs.LifeSteps.{HasStopped, HasCleared, MayBury, is_unallocated, is_unpinned, is_unkept}
 use Rattle.xp_board.specs.Sound.{Sound, DeadDomain, DyingDomain, Domains}
-use Rattle.xp_board.proofs.ActEffects.{Doomed, Buried}
-use Rattle.xp_board.proofs.StepLists.{before_more, since_within, found_before, found_between, between_since, between_wider}
+use Rattle.step_effects.proofs.ActEffects.{Doomed, Buried}
+use Rattle.board_lemmas.proofs.StepLists.{before_more, since_within, found_before, found_between, between_since, between_wider}
 use Rattle.type_rule.proofs.DomainLaw.{DomainChange, dead_law, dying_law, by_owner, is_one}
 use Rattle.type_rule.proofs.DomainWords.{change_by, same_words, learned_alive}
 use Rattle.xp_board.proofs.RefWords.{zero_unowned}
@@ -120,7 +120,7 @@ module _ (n : Machine) (s : ℕ) (x : Step) (m m2 : Place → ℕ) (b c : ℕ �
         record {
           since = h.since;
           stored = h.stored;
-          stopped = λ v l q. between_wider (sizes_of n) h.since e.since may.since (Vcpu v 6) (λ w. w == 1) (b s).steps o (h.stopped v l q);
+          stopped = λ v l q. between_wider (sizes_of n) h.since e.since may.since (run_of v) (λ w. w == 1) (b s).steps o (h.stopped v l q);
           order = omega arith;
         }
 
@@ -151,7 +151,7 @@ module _ (n : Machine) (s : ℕ) (x : Step) (m m2 : Place → ℕ) (b c : ℕ �
               (between_since (sizes_of n) may.emptied.since may.since (Vcpu v j) (λ w. w == 0) (b s).steps (may.emptied.empty v j l e t u));
           stopped = λ v l e.
               let h = may.emptied.stopped in
-              found_between (sizes_of n) h.since may.emptied.since (Vcpu v 6) (λ w. w == 1) (λ w. w ≡ 1 → m (Vcpu v 6) ≡ 1) (b s).steps ((sound.found s real).stopped v) (h.stopped v l e) (λ w r g. g (is_one w r));
+              found_between (sizes_of n) h.since may.emptied.since (run_of v) (λ w. w == 1) (λ w. w ≡ 1 → m (run_of v) ≡ 1) (b s).steps ((sound.found s real).stopped v) (h.stopped v l e) (λ w r g. g (is_one w r));
         }
 
   pub buried_law : (d : ℕ) → d < (sizes_of n).domains → Buried n s x d m m2 (b s) (c s) → Domains n m2 c

@@ -1,7 +1,7 @@
 -- Dying and dead domains: acts on words of vCPUs, on cells and on words of domains.
 use Rattle.std.proofs.Common.{◌≡◌, ◌≢◌, ℕ, ◌<◌, ◌==◌, ◌⊎◌, not, if◌then◌else◌, Bool, true, false, refl, sym, ◌∙◌, ap, subst, inl, inr}
 use Rattle.xp_words.specs.Machine.{Machine}
-use Rattle.xp_words.specs.Places.{Place, Clock, Pages, Life, Vcpu, Refs, Kind, M2p, Cell, Map, Priv, sizes_of}
+use Rattle.xp_words.specs.Places.{Place, Clock, Pages, Life, Vcpu, Refs, Kind, M2p, Cell, Map, Priv, sizes_of, asked_of, flushed_of}
 use Rattle.xp_words.specs.Entries.{demand_at}
 use Rattle.xp_board.specs.declared.step.Step.{Step}
 use Rattle.xp_board.specs.declared.holdings.Looking.{Looking}
@@ -13,11 +13,11 @@ use Rattle.xp_board.specs.FillSteps.{started, walked_by, is_for_write}
 use Rattle.xp_board.specs.After.{noted, learned, learned_own}
 use Rattle.xp_board.specs.Runs.{place_of}
 use Rattle.xp_board.specs.Sound.{Sound}
-use Rattle.xp_board.proofs.ActEffects.{Looked, Exchanged, Rewrote, Filled, GuestStored, Started, WentOn, Touched, Stumbled, Mapped, Charged, Refunded, Asked, Flushed, Ticked, Hinted, Privileged}
+use Rattle.step_effects.proofs.ActEffects.{Looked, Exchanged, Rewrote, Filled, GuestStored, Started, WentOn, Touched, Stumbled, Mapped, Charged, Refunded, Asked, Flushed, Ticked, Hinted, Privileged}
 use Rattle.type_rule.proofs.HandParts.{SameTwo, two_of, three_in, three_out, three_own, three_started, three_loaded, three_descended}
 use Rattle.type_rule.proofs.DomainLaw.{DomainChange}
 use Rattle.type_rule.proofs.DomainWords.{change_by, same_words, learned_alive}
-use Rattle.xp_board.proofs.Sums.{if_itself}
+use Rattle.board_lemmas.proofs.Sums.{if_itself}
 
 module _ (n : Machine) (s : ℕ) (x : Step) (m m2 : Place → ℕ) (b c : ℕ → Holdings) (real : s < (sizes_of n).vcpus) (sound : Sound n m b)
     (others : (t : ℕ) → t ≢ s → c t ≡ b t) where
@@ -77,10 +77,10 @@ module _ (n : Machine) (s : ℕ) (x : Step) (m m2 : Place → ℕ) (b c : ℕ �
   privileged_change q d = quiet (Priv q) (b s) d.wrote.place d.wrote.left d.wrote.others (at_priv q) d.hand same_two
 
   pub asked_change : (v : ℕ) → Asked n x v m m2 (b s) (c s) → DomainChange n s x m m2 b c
-  asked_change v d = quiet (Vcpu v 4) (b s) d.wrote.place d.wrote.left d.wrote.others (at_vcpu v 4 (inl refl)) d.hand same_two
+  asked_change v d = quiet (asked_of v) (b s) d.wrote.place d.wrote.left d.wrote.others (at_vcpu v 4 (inl refl)) d.hand same_two
 
   pub flushed_change : Flushed n s x m m2 (b s) (c s) → DomainChange n s x m m2 b c
-  flushed_change d = quiet (Vcpu s 5) _ d.wrote.place d.wrote.left d.wrote.others (at_vcpu s 5 (inr refl)) d.hand (record { looking = refl; steps = refl })
+  flushed_change d = quiet (flushed_of s) _ d.wrote.place d.wrote.left d.wrote.others (at_vcpu s 5 (inr refl)) d.hand (record { looking = refl; steps = refl })
 
   pub exchanged_change : (f i : ℕ) → Exchanged n x f i m m2 (b s) (c s) → DomainChange n s x m m2 b c
   exchanged_change f i d =

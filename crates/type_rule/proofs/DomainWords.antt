@@ -3,7 +3,7 @@ use Rattle.std.proofs.Common.{◌≡◌, ◌≢◌, ℕ, ◌<◌, ◌==◌, ◌�
 use Rattle.std.proofs.lemmas.Bool.{cases_eq, cases_Bool}
 use Rattle.std.proofs.lemmas.Bool.Decides.{nat_tests}
 use Rattle.xp_words.specs.Machine.{Machine}
-use Rattle.xp_words.specs.Places.{Place, Life, Vcpu, Refs, Kind, sizes_of}
+use Rattle.xp_words.specs.Places.{Place, Life, Vcpu, Refs, Kind, sizes_of, run_of}
 use Rattle.xp_board.specs.declared.step.Step.{Step}
 use Rattle.xp_board.specs.declared.holdings.Looking.{Looking}
 use Rattle.xp_board.specs.declared.holdings.Holdings.{Holdings}
@@ -90,7 +90,7 @@ module _ (n : Machine) (s : ℕ) (x : Step) (m m2 : Place → ℕ) (b c : ℕ �
       }
 
   -- a seat that makes this step runs
-  pub runs : Sound n m b → s < (sizes_of n).vcpus → (b s).run ≡ Some 0 → m (Vcpu s 6) ≡ 0
+  pub runs : Sound n m b → s < (sizes_of n).vcpus → (b s).run ≡ Some 0 → m (run_of s) ≡ 0
   runs sound real e = (sound.found s real).own.run 0 e
 
   -- and so its domain is not stopped

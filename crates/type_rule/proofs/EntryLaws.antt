@@ -7,9 +7,9 @@ use Rattle.xp_board.specs.declared.holdings.Holdings.{Holdings}
 use Rattle.xp_board.specs.Keeping.{KeepsMark, KeepsAct}
 use Rattle.xp_board.specs.Valid.{Valid, Permitted}
 use Rattle.xp_board.specs.Sound.{Sound}
-use Rattle.xp_board.proofs.MarkEffects.{MarkEffect, nothing, turned as turned_mark, forgot, recorded_entry, shed_entry, mark_effect}
-use Rattle.xp_board.proofs.ActInversions.{act_effect}
-use Rattle.xp_board.proofs.ActEffects.{ActEffect, looked, raised, cleared, took, lowered, freed_frame, gave, turned, missed, dropped_type, unlocked_table, stored, exchanged, rewrote, filled, guest_stored, started_walk, went_on, touched_entry, stumbled, mapped, charged, refunded, named_frame, based, asked, flushed, ran, ticked, doomed, buried, hinted, privileged}
+use Rattle.step_effects.proofs.MarkEffects.{MarkEffect, nothing, turned as turned_mark, forgot, recorded_entry, shed_entry, mark_effect}
+use Rattle.step_effects.proofs.ActInversions.{act_effect}
+use Rattle.step_effects.proofs.ActEffects.{ActEffect, looked, raised, cleared, took, lowered, freed_frame, gave, turned, missed, dropped_type, unlocked_table, stored, exchanged, rewrote, filled, guest_stored, started_walk, went_on, touched_entry, stumbled, mapped, charged, refunded, named_frame, based, asked, flushed, ran, ticked, doomed, buried, hinted, privileged}
 use Rattle.type_rule.proofs.DomainLaws.{mark_two}
 use Rattle.type_rule.proofs.MarkRows.{quiet_mark, mark_valid, mark_permitted}
 use Rattle.type_rule.proofs.EntryMarks.{recorded_valid, recorded_permitted, shed_valid, shed_permitted}

@@ -25,12 +25,12 @@ use Rattle.xp_board.specs.WellFormed.{SeenIs}
 use Rattle.xp_board.specs.Recorded.{held, held_of, entry_demand, recorded_in, recorded_number}
 use Rattle.xp_board.specs.Valid.{Valid, Permitted, LeadsWell}
 use Rattle.xp_board.specs.Sound.{Sound}
-use Rattle.xp_board.proofs.MarkEffects.{Recorded, Shed}
-use Rattle.xp_board.proofs.Counted.{typed_counted}
-use Rattle.xp_board.proofs.Works.{work_of-mine, nobody_else}
+use Rattle.step_effects.proofs.MarkEffects.{Recorded, Shed}
+use Rattle.board_lemmas.proofs.Counted.{typed_counted}
+use Rattle.board_lemmas.proofs.Works.{work_of-mine, nobody_else}
 use Rattle.type_rule.proofs.HandParts.{three_in, three_out}
-use Rattle.xp_board.proofs.ListChanges.{first_by-changed_other, first_by-changed_here}
-use Rattle.xp_board.proofs.WorkFacts.{Works, works_facts}
+use Rattle.board_lemmas.proofs.ListChanges.{first_by-changed_other, first_by-changed_here}
+use Rattle.board_lemmas.proofs.WorkFacts.{Works, works_facts}
 use Rattle.type_rule.proofs.Settled.{seen_asks, settled_found, unsettled_mine}
 use Rattle.type_rule.proofs.KindRows.{unfound_yet}
 use Rattle.type_rule.proofs.KindHeld.{busy_partial}

@@ -9,10 +9,10 @@ use Rattle.xp_board.specs.declared.holdings.Holdings.{Holdings}
 use Rattle.xp_board.specs.Readings.{kind_at, is_live, type_count}
 use Rattle.xp_board.specs.Valid.{Valid, Permitted}
 use Rattle.xp_board.specs.Sound.{Sound}
-use Rattle.xp_board.proofs.KindForms.{fields_down, fields_unlocked}
-use Rattle.xp_board.proofs.ActEffects.{Dropped, Unlocked}
-use Rattle.xp_board.proofs.Counted.{typed_counted}
-use Rattle.xp_board.proofs.Works.{is_locked-mine}
+use Rattle.board_lemmas.proofs.KindForms.{fields_down, fields_unlocked}
+use Rattle.step_effects.proofs.ActEffects.{Dropped, Unlocked}
+use Rattle.board_lemmas.proofs.Counted.{typed_counted}
+use Rattle.board_lemmas.proofs.Works.{is_locked-mine}
 use Rattle.type_rule.proofs.EntryChange.{OneStep}
 use Rattle.type_rule.proofs.QuietActs.{one_by}
 use Rattle.type_rule.proofs.KindRows.{down_valid, down_permitted}

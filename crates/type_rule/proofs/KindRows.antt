@@ -18,16 +18,16 @@ use Rattle.xp_board.specs.KindSteps.{KindRow, Count, Locks, Pin, Unpin, Resume, 
 use Rattle.xp_board.specs.Recorded.{held_of, recorded_number}
 use Rattle.xp_board.specs.Valid.{Valid, Permitted}
 use Rattle.xp_board.specs.Sound.{Sound, is_busy}
-use Rattle.xp_board.proofs.KindForms.{live_form}
-use Rattle.xp_board.proofs.ActEffects.{Turned}
-use Rattle.xp_board.proofs.StepLists.{since_within}
+use Rattle.board_lemmas.proofs.KindForms.{live_form}
+use Rattle.step_effects.proofs.ActEffects.{Turned}
+use Rattle.board_lemmas.proofs.StepLists.{since_within}
 use Rattle.type_rule.proofs.HandParts.{two_row}
 use Rattle.type_rule.proofs.Works.{WorkKeptIn, works_kept}
-use Rattle.xp_board.proofs.ListCounts.{first_by-cons_here, first_by-cons_other}
+use Rattle.board_lemmas.proofs.ListCounts.{first_by-cons_here, first_by-cons_other}
 use Rattle.type_rule.proofs.EntryChange.{OneStep}
 use Rattle.type_rule.proofs.QuietActs.{one_by}
 use Rattle.type_rule.proofs.KindAct.{KindAct, nobody, not_unsettled, live_stays, kind_valid, kind_permitted}
-use Rattle.xp_board.proofs.HeldByForm.{held_dead, held_same, live_partial, live_idle}
+use Rattle.board_lemmas.proofs.HeldByForm.{held_dead, held_same, live_partial, live_idle}
 use Rattle.type_rule.proofs.KindHeld.{partial_idle, dead_idle, live_held, resumed_held, begun_held, closed_held, work_live, dead_live, dead_unformed, either_part}
 
 resumed_work : (k l : KindWord) → MayResume k l → IsTrue (is_partial l || is_work l)

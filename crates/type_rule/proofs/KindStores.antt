@@ -20,21 +20,21 @@ use Rattle.xp_board.specs.After.{is_fixed, noted}
 use Rattle.xp_board.specs.Recorded.{held, held_of, entry_demand, recorded_number}
 use Rattle.xp_board.specs.Valid.{Valid, Permitted, IsLastOfPartial, is_live_context}
 use Rattle.xp_board.specs.Sound.{Sound}
-use Rattle.xp_board.proofs.ActEffects.{Stored}
-use Rattle.xp_board.proofs.Works.{nobody_else, one_works}
+use Rattle.step_effects.proofs.ActEffects.{Stored}
+use Rattle.board_lemmas.proofs.Works.{nobody_else, one_works}
 use Rattle.type_rule.proofs.HandParts.{two_live, two_dead, three_as_typed}
 use Rattle.type_rule.proofs.Works.{WorkKeptIn, works_kept}
-use Rattle.xp_board.proofs.ListCounts.{first_by-without_other, first_by-none, times_by-without_one}
-use Rattle.xp_board.proofs.ListChanges.{first_by-changed_other, first_by-changed_here}
+use Rattle.board_lemmas.proofs.ListCounts.{first_by-without_other, first_by-none, times_by-without_one}
+use Rattle.board_lemmas.proofs.ListChanges.{first_by-changed_other, first_by-changed_here}
 use Rattle.type_rule.proofs.Counted.{entry_counted, context_counted}
-use Rattle.xp_board.proofs.WorkFacts.{Works, works_facts}
+use Rattle.board_lemmas.proofs.WorkFacts.{Works, works_facts}
 use Rattle.type_rule.proofs.Settled.{settled_found, unsettled_mine}
-use Rattle.xp_board.proofs.FormsLeft.{is_live_left, is_partial_left, is_work_left, is_dead_left}
+use Rattle.board_lemmas.proofs.FormsLeft.{is_live_left, is_partial_left, is_work_left, is_dead_left}
 use Rattle.type_rule.proofs.EntryChange.{OneStep}
 use Rattle.type_rule.proofs.QuietActs.{one_by}
 use Rattle.type_rule.proofs.ValidLaw.{live_is_context}
 use Rattle.type_rule.proofs.KindAct.{KindAct, kind_valid, kind_permitted}
-use Rattle.xp_board.proofs.HeldByForm.{held_table}
+use Rattle.board_lemmas.proofs.HeldByForm.{held_table}
 use Rattle.type_rule.proofs.KindHeld.{live_all, partial_all, work_all, dead_all, busy_closed, busy_working, busy_partial, work_count}
 
 either_if : {A : Type 0} (t : Bool) (F : Holdings → A) (y z : Holdings) (a : A) → F y ≡ a → F z ≡ a → F (if t then y else z) ≡ a

@@ -2,7 +2,7 @@
 use Rattle.std.proofs.Common.{◌≡◌, ◌≢◌, ℕ, ◌+◌, ◌<◌, ◌==◌, not, if◌then◌else◌, Bool, true, false, ◌∷◌, Option, Some, None, IsTrue, refl, sym, ◌∙◌, ap, subst, inl, inr, arith}
 use Rattle.std.proofs.lemmas.Bool.{cases_eq}
 use Rattle.xp_words.specs.Machine.{Machine}
-use Rattle.xp_words.specs.Places.{Place, Clock, Pages, Life, Vcpu, Refs, Kind, M2p, Cell, Map, Priv, sizes_of}
+use Rattle.xp_words.specs.Places.{Place, Clock, Pages, Life, Vcpu, Refs, Kind, M2p, Cell, Map, Priv, sizes_of, asked_of, flushed_of, ldt_base_of, run_of}
 use Rattle.xp_board.specs.declared.step.Step.{Step}
 use Rattle.xp_board.specs.declared.holdings.Ending.{Ending}
 use Rattle.xp_board.specs.declared.holdings.Claimed.{Claimed}
@@ -17,19 +17,19 @@ use Rattle.xp_board.specs.RunSteps.{ran_now}
 use Rattle.xp_board.specs.After.{noted, learned_own, learned_work}
 use Rattle.xp_board.specs.Runs.{place_of}
 use Rattle.xp_board.specs.Sound.{Sound, HeldAlone}
-use Rattle.xp_board.proofs.Bits.{granted-ever, revoked-ever}
-use Rattle.xp_board.proofs.ActEffects.{Looked, Raised, Cleared, Took, Lowered, Freed, Gave, Missed, Started, WentOn, Stumbled, Mapped, Charged, Refunded, Based, Asked, Flushed, Ran, Ticked, Doomed, Buried, Hinted, Privileged}
-use Rattle.xp_board.proofs.HandLists.{first-some}
+use Rattle.board_lemmas.proofs.Bits.{granted-ever, revoked-ever}
+use Rattle.step_effects.proofs.ActEffects.{Looked, Raised, Cleared, Took, Lowered, Freed, Gave, Missed, Started, WentOn, Stumbled, Mapped, Charged, Refunded, Based, Asked, Flushed, Ran, Ticked, Doomed, Buried, Hinted, Privileged}
+use Rattle.board_lemmas.proofs.HandLists.{first-some}
 use Rattle.type_rule.proofs.HandParts.{SameThree, three_own, three_ran, three_started, three_loaded}
 use Rattle.type_rule.proofs.RefWordLaws.{one_less_keeps}
-use Rattle.xp_board.proofs.Counted.{in_hand_counted}
+use Rattle.board_lemmas.proofs.Counted.{in_hand_counted}
 use Rattle.type_rule.proofs.DomainFrames.{owner_read}
-use Rattle.xp_board.proofs.Sums.{if_itself}
+use Rattle.board_lemmas.proofs.Sums.{if_itself}
 use Rattle.type_rule.proofs.Works.{WorkKeptIn, works_kept, cell_kept}
 use Rattle.type_rule.proofs.EntryChange.{OneStep}
 use Rattle.type_rule.proofs.ValidLaw.{OwnersStay}
 use Rattle.type_rule.proofs.QuietLaw.{QuietAct, same_owners, one_owner, free_count}
-use Rattle.xp_board.proofs.Works.{is_dying-mine}
+use Rattle.board_lemmas.proofs.Works.{is_dying-mine}
 use Rattle.xp_board.proofs.RefWords.{is_dying-read, dying_says}
 
 dying_count : (w : ℕ) → is_dying w ≡ true → ref_count w ≡ 0
@@ -157,27 +157,27 @@ module _ (n : Machine) (s : ℕ) (x : Step) (m m2 : Place → ℕ) (b c : ℕ �
 
   pub asked_quiet : (v : ℕ) → Asked n x v m m2 (b s) (c s) → QuietAct n s x m m2 b c
   asked_quiet v d =
-      quiet (Vcpu v 4) (b s) d.wrote.place d.wrote.left d.wrote.others d.hand refl refl (λ g q. cc) (λ f i q. cc)
+      quiet (asked_of v) (b s) d.wrote.place d.wrote.left d.wrote.others d.hand refl refl (λ g q. cc) (λ f i q. cc)
       (λ w k u q. not_context 4 k refl u (let e : k ≡ 4 = cc in e))
       (same_owners m m2 (λ g. d.wrote.others (Refs g) (λ q. cc)) (λ o. d.wrote.others (Priv o) (λ q. cc)))
 
   pub flushed_quiet : Flushed n s x m m2 (b s) (c s) → QuietAct n s x m m2 b c
   flushed_quiet d =
-      quiet (Vcpu s 5) _ d.wrote.place d.wrote.left d.wrote.others d.hand refl refl (λ g q. cc) (λ f i q. cc)
+      quiet (flushed_of s) _ d.wrote.place d.wrote.left d.wrote.others d.hand refl refl (λ g q. cc) (λ f i q. cc)
       (λ w k u q. not_context 5 k refl u (let e : k ≡ 5 = cc in e))
       (same_owners m m2 (λ g. d.wrote.others (Refs g) (λ q. cc)) (λ o. d.wrote.others (Priv o) (λ q. cc)))
 
   pub based_quiet : (v : ℕ) → Based n s x v m m2 (b s) (c s) → QuietAct n s x m m2 b c
   based_quiet v d =
-      quiet (Vcpu v 7) _ d.wrote.place d.wrote.left d.wrote.others d.hand refl refl (λ g q. cc) (λ f i q. cc)
+      quiet (ldt_base_of v) _ d.wrote.place d.wrote.left d.wrote.others d.hand refl refl (λ g q. cc) (λ f i q. cc)
       (λ w k u q. not_context 7 k refl u (let e : k ≡ 7 = cc in e))
       (same_owners m m2 (λ g. d.wrote.others (Refs g) (λ q. cc)) (λ o. d.wrote.others (Priv o) (λ q. cc)))
 
   pub ran_quiet : Ran n s x m m2 (b s) (c s) → QuietAct n s x m m2 b c
   ran_quiet d =
-      let first = three_ran (m2 (Vcpu s 6)) (b s) in
-      let own = own_three 6 (m2 (Vcpu s 6)) (ran_now (m2 (Vcpu s 6)) (b s)) in
-      quiet (Vcpu s 6) _ d.wrote.place d.wrote.left d.wrote.others d.hand (own.steps ∙ first.steps) (own.works ∙ first.works) (λ g q. cc) (λ f i q. cc)
+      let first = three_ran (m2 (run_of s)) (b s) in
+      let own = own_three 6 (m2 (run_of s)) (ran_now (m2 (run_of s)) (b s)) in
+      quiet (run_of s) _ d.wrote.place d.wrote.left d.wrote.others d.hand (own.steps ∙ first.steps) (own.works ∙ first.works) (λ g q. cc) (λ f i q. cc)
       (λ w k u q. not_context 6 k refl u (let e : k ≡ 6 = cc in e))
       (same_owners m m2 (λ g. d.wrote.others (Refs g) (λ q. cc)) (λ o. d.wrote.others (Priv o) (λ q. cc)))
 

@@ -20,13 +20,13 @@ use Rattle.xp_board.specs.Found.{is_known_inside, is_same_cell, is_same_entry}
 use Rattle.xp_board.specs.Recorded.{entry_demand}
 use Rattle.xp_board.specs.WellFormed.{LastIs}
 use Rattle.xp_board.specs.Settling.{settles_word, is_settled}
-use Rattle.xp_board.proofs.EntryWords.{entry_asks_same}
-use Rattle.xp_board.proofs.WorkFacts.{Works}
+use Rattle.board_lemmas.proofs.EntryWords.{entry_asks_same}
+use Rattle.board_lemmas.proofs.WorkFacts.{Works}
 use Rattle.xp_board.specs.Hands.{work_on}
 use Rattle.xp_board.specs.Valid.{IsUnsettled}
 use Rattle.xp_board.specs.Sound.{Sound}
-use Rattle.xp_board.proofs.Works.{one_seat}
-use Rattle.xp_board.proofs.HandLists.{first-some}
+use Rattle.board_lemmas.proofs.Works.{one_seat}
+use Rattle.board_lemmas.proofs.HandLists.{first-some}
 use Rattle.xp_words.specs.declared.kind.PageType.TheVariants as kinds
 
 not_writable : (t : PageType) → is_table t ≡ true → is_type t kinds.Writable ≡ false

@@ -2,7 +2,7 @@
 use Rattle.std.proofs.Common.{◌≡◌, ◌≢◌, ℕ, ◌<◌, ◌≤◌, ◌==◌, ◌||◌, if◌then◌else◌, false, List, [], ◌∷◌, Some, None, IsTrue, refl, sym, ap, ◌∙◌, subst, inl, inr, arith}
 use Rattle.std.proofs.lemmas.Bool.Decides.{nat_tests}
 use Rattle.xp_words.specs.Machine.{Machine}
-use Rattle.xp_words.specs.Places.{Place, Clock, Vcpu}
+use Rattle.xp_words.specs.Places.{Place, Clock, Vcpu, flushed_of}
 use Rattle.xp_board.specs.declared.step.Act.{Act}
 use Rattle.xp_board.specs.declared.step.Act.TheVariants.{Load, Store}
 use Rattle.xp_board.specs.declared.step.Mark.TheVariants.{Turn}
@@ -156,7 +156,7 @@ module _ (v a b : PortValue) (x y : ℕ) (asked : Makes v a (Vcpu v.post.seat 4)
       let ticks = begun_more v f.looked f.ticked Clock _ f.found _ f.tick at_l looks refl (λ e. absurd (cc)) in
       let at_t : f.ticked.post ≡ v.post = went_post f.looked f.ticked (made_now f.tick.step f.found ∷ []) f.tick.went ∙ at_l in
       let ack = subst (λ (q : Post). Makes f.ticked w (Vcpu q.seat 5) (Store (flushed_to f.clock f.found)) None f.before) at_b f.ack in
-      let all = begun_more v f.ticked w (Vcpu s 5) _ f.before _ ack at_t ticks (own_flushed s) (λ e. absurd (cc)) in
+      let all = begun_more v f.ticked w (flushed_of s) _ f.before _ ack at_t ticks (own_flushed s) (λ e. absurd (cc)) in
       record {
         made = made_now ack.step f.before ∷ (made_now f.tick.step f.found ∷ (made_now f.look.step f.clock ∷ (second ∷ first ∷ [])));
         went = all.went;
@@ -167,13 +167,13 @@ module _ (v a b : PortValue) (x y : ℕ) (asked : Makes v a (Vcpu v.post.seat 4)
             asked = x;
             flushed = y;
             had_asked = inr (inr (inr (inr (inl (asked.place, refl)))));
-            had_flushed = inr (inr (inr (inl (place_from v a (Vcpu s 5) second later looked.place, refl))));
+            had_flushed = inr (inr (inr (inl (place_from v a (flushed_of s) second later looked.place, refl))));
             behind = behind;
           });
           answers = inr (inl (record {
             to = flushed_to f.clock f.found;
             before = f.before;
-            stored = inl (place_from v f.ticked (Vcpu s 5) (made_now ack.step f.before) at_t ack.place, ack.act, refl);
+            stored = inl (place_from v f.ticked (flushed_of s) (made_now ack.step f.before) at_t ack.place, ack.act, refl);
           }));
         };
         hand = flushed_hand v.holdings a.holdings b.holdings w.holdings begun same hand;

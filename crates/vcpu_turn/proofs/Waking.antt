@@ -1,7 +1,7 @@
 -- A vCPU that rests begins a turn and finds itself running.
 use Rattle.std.proofs.Common.{◌≡◌, ◌⊎◌, ℕ, ◌||◌, Bool, true, false, List, [], ◌∷◌, Some, None, IsTrue, refl, sym, ap, ◌∙◌, subst, inl, inr}
 use Rattle.xp_words.specs.Machine.{Machine}
-use Rattle.xp_words.specs.Places.{Vcpu}
+use Rattle.xp_words.specs.Places.{Vcpu, run_of}
 use Rattle.xp_board.specs.declared.step.Act.TheVariants.{Load}
 use Rattle.xp_board.specs.declared.holdings.Made.{Made}
 use Rattle.xp_board.specs.declared.holdings.Holdings.{Holdings}
@@ -18,7 +18,7 @@ use Rattle.vcpu_turn.proofs.Begun.{turn_more, is_look}
 
 -- ---- the run word
 -- it is as the seat found or left it
-pub run_stays : (n : Machine) (s : ℕ) (h : Holdings) (w : ℕ) → Finds n s h (Vcpu s 6) w → h.run ≡ Some 0 → w ≡ 0
+pub run_stays : (n : Machine) (s : ℕ) (h : Holdings) (w : ℕ) → Finds n s h (run_of s) w → h.run ≡ Some 0 → w ≡ 0
 run_stays n s h w finds run =
     sym finds.word ∙ (finds.sound.found s finds.real).own.run 0 (ap (λ (u : Holdings). u.run) finds.mine ∙ run)
 

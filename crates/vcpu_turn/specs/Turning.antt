@@ -1,7 +1,7 @@
 -- Turns: how one begins, what it does and how it ends.
 use Rattle.std.specs.Prelude.{◌≡◌, ◌⊎◌, ℕ, ◌<◌, ◌≤◌, ◌==◌, ◌||◌, if◌then◌else◌, Bool, true, false, List, [], ◌∷◌, ◌++◌, length, slice_get, Option, Some, None, Result, IsTrue}
 use Rattle.xp_words.specs.Machine.{Machine}
-use Rattle.xp_words.specs.Places.{Place, Clock, Vcpu}
+use Rattle.xp_words.specs.Places.{Place, Clock, Vcpu, asked_of, flushed_of, run_of}
 use Rattle.xp_words.specs.declared.ops.Op.{Op}
 use Rattle.xp_words.specs.declared.reply.Stop.{Stop}
 use Rattle.xp_words.specs.declared.reply.Pause.TheVariants.{Due, Lost}
@@ -37,23 +37,23 @@ is_own_flush s _ = false
 pub record WasAsked (n : Machine) (s : ℕ) (made : List Made) : Type 0 where
   pub asked : ℕ
   pub flushed : ℕ
-  pub had_asked : Had n (Vcpu s 4) asked made
-  pub had_flushed : Had n (Vcpu s 5) flushed made
+  pub had_asked : Had n (asked_of s) asked made
+  pub had_flushed : Had n (flushed_of s) flushed made
   pub behind : flushed ≤ asked
 
 -- the vCPU was found flushed past all that it was asked for
 pub record WasNotAsked (n : Machine) (s : ℕ) (made : List Made) : Type 0 where
   pub asked : ℕ
   pub flushed : ℕ
-  pub had_asked : Had n (Vcpu s 4) asked made
-  pub had_flushed : Had n (Vcpu s 5) flushed made
+  pub had_asked : Had n (asked_of s) asked made
+  pub had_flushed : Had n (flushed_of s) flushed made
   pub past : asked < flushed
 
 -- the own flush was stored
 pub record HasFlushed (n : Machine) (s : ℕ) (made : List Made) : Type 0 where
   pub to : ℕ
   pub before : ℕ
-  pub stored : HadAct n (Vcpu s 5) (Store to) before made
+  pub stored : HadAct n (flushed_of s) (Store to) before made
 
 -- Nobody asked, or it flushed. Only where the clock is at its last value does an ask stay unanswered.
 abbrev pub AnswersAsk : Machine → ℕ → List Made → Type 0
@@ -69,7 +69,7 @@ pub record HeedsAsk (n : Machine) (s : ℕ) (made : List Made) : Type 0 where
 -- An ask is heeded, and the run word of the vCPU was looked at and found 0: it runs.
 pub record Begins (n : Machine) (s : ℕ) (made : List Made) : Type 0 where
   pub heeds : HeedsAsk n s made
-  pub running : Had n (Vcpu s 6) 0 made
+  pub running : Had n (run_of s) 0 made
 
 -- ---- the end
 -- one load, which carries the mark Cut
@@ -79,7 +79,7 @@ IsCut _ = ⊥
 
 -- one step, which stores in the own run word that the vCPU is stopped
 abbrev pub IsStop : Machine → ℕ → List Made → Type 0
-IsStop n s (x ∷ []) = (x.step.mark ≡ None) × (place_of n x.step ≡ Vcpu s 6) × (x.step.act ≡ Store 1)
+IsStop n s (x ∷ []) = (x.step.mark ≡ None) × (place_of n x.step ≡ run_of s) × (x.step.act ≡ Store 1)
 IsStop n s _ = ⊥
 
 abbrev pub EndsTurn : Machine → ℕ → TurnEnd → List Made → Type 0

@@ -6,7 +6,7 @@ use Rattle.xp_board.specs.Lists.{times_by, EachOf}
 use Rattle.xp_board.specs.Steps.{last_since}
 use Rattle.xp_board.specs.WellFormed.{WellFormed, IsRaisedFormed, IsCacheFormed, IsOwnFormed}
 use Rattle.xp_board.specs.Found.{OwnFound}
-use Rattle.xp_words.specs.Places.{Place}
+use Rattle.xp_words.specs.Places.{Place, Sizes}
 
 empty_raised : IsRaisedFormed empty
 unfolding times_by
@@ -37,5 +37,6 @@ empty_formed n s =
       ran = omega arith;
     }
 
-pub empty_own_found : (m : Place → ℕ) (s : ℕ) → OwnFound m s empty
-empty_own_found m s = record { run = λ w e. absurd (cc); old0 = λ w n e. absurd (cc); old1 = λ w n e. absurd (cc) }
+pub empty_own_found : (z : Sizes) (m : Place → ℕ) (s : ℕ) → OwnFound z m s empty
+unfolding last_since
+empty_own_found z m s = record { run = λ w e. absurd (cc); words = λ k w a b o e. absurd (cc) }

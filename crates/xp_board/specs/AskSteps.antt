@@ -2,7 +2,7 @@
 use Rattle.std.specs.Prelude.{◌≡◌, ℕ, ◌≤◌, ◌==◌, ◌&&◌, ◌⊎◌, nat_le, true, Some, IsTrue}
 use Rattle.xp_words.specs.Machine.{Machine}
 use Rattle.xp_words.specs.KindWords.{kind_fields}
-use Rattle.xp_words.specs.Places.{Place, Clock, Vcpu, Refs, Priv, sizes_of}
+use Rattle.xp_words.specs.Places.{Place, Clock, Vcpu, Refs, Priv, sizes_of, run_of, flushed_of}
 use Rattle.xp_board.specs.declared.step.Act.{Act}
 use Rattle.xp_board.specs.declared.step.Act.TheVariants.{Max}
 use Rattle.xp_board.specs.declared.holdings.Work.{Work}
@@ -38,8 +38,8 @@ Awaits m since v stamp h =
 pub record MayAsk (m : Machine) (v stamp : ℕ) (h : Holdings) : Type 0 where
   pub since : ℕ
   pub awaits : Awaits m since v stamp h
-  pub running : IsTrue (some_since (sizes_of m) since (Vcpu v 6) (λ w. w == 0) h.steps)
-  pub flushed : IsTrue (some_since (sizes_of m) since (Vcpu v 5) (λ w. nat_le w stamp) h.steps)
+  pub running : IsTrue (some_since (sizes_of m) since (run_of v) (λ w. w == 0) h.steps)
+  pub flushed : IsTrue (some_since (sizes_of m) since (flushed_of v) (λ w. nat_le w stamp) h.steps)
 
 abbrev pub LegalAsk : Machine → Holdings → Place → Act → Type 0
 LegalAsk m h (Vcpu v k) (Max value) = (k ≡ 4) × MayAsk m v value h

@@ -3,7 +3,7 @@ use Rattle.std.specs.Prelude.{◌≡◌, ℕ, zero, suc, ◌+◌, ◌<◌, ◌==
 use Rattle.xp_words.specs.declared.kind.PageType.{PageType}
 use Rattle.xp_words.specs.declared.kind.PageType.TheVariants as kinds
 use Rattle.xp_words.specs.Machine.{Machine}
-use Rattle.xp_words.specs.Places.{Place, Vcpu, Life, sizes_of}
+use Rattle.xp_words.specs.Places.{Place, Vcpu, Life, sizes_of, run_of}
 use Rattle.xp_board.specs.declared.step.Act.{Act}
 use Rattle.xp_board.specs.declared.step.Act.TheVariants.{Store}
 use Rattle.xp_board.specs.declared.holdings.Holdings.{Holdings}
@@ -44,7 +44,7 @@ pub record MayEmpty (m : Machine) (s v k new : ℕ) (h : Holdings) : Type 0 wher
   pub word : IsTrue (is_context k || (k == 7))
   pub none : new ≡ 0
   pub destroys : IsTrue (some_since (sizes_of m) 0 (Life (domain_of m v)) (λ w. w == s + 1) h.steps)
-  pub stopped : IsTrue (some_since (sizes_of m) 0 (Vcpu v 6) (λ w. w == 1) h.steps)
+  pub stopped : IsTrue (some_since (sizes_of m) 0 (run_of v) (λ w. w == 1) h.steps)
 
 abbrev pub LegalContext : Machine → ℕ → Holdings → Place → Act → Type 0
 LegalContext m s h (Vcpu v k) (Store new) = MayName m s v k new h ⊎ (MaySetBase s v k ⊎ MayEmpty m s v k new h)

@@ -1,7 +1,7 @@
 -- Which translations are gone: what a seat has found of each vCPU after it had found a stamp.
 use Rattle.std.specs.Prelude.{◌≢◌, ℕ, ◌<◌, ◌==◌, ◌||◌, ◌⊎◌, not, nat_lt, Bool, List, length, IsTrue}
 use Rattle.xp_words.specs.Machine.{Machine}
-use Rattle.xp_words.specs.Places.{Sizes, sizes_of, Vcpu, Priv}
+use Rattle.xp_words.specs.Places.{Sizes, sizes_of, Priv, run_of, flushed_of}
 use Rattle.xp_words.specs.KindWords.{kind_fields}
 use Rattle.xp_board.specs.declared.holdings.Made.{Made}
 use Rattle.xp_board.specs.declared.holdings.Holdings.{Holdings}
@@ -17,7 +17,7 @@ is_idle w = (w == 1) || (w == 2)
 -- from step n on the vCPU was found stopped or off, or flushed later than the stamp
 abbrev pub is_past : Sizes → ℕ → ℕ → ℕ → List Made → Bool
 is_past z n stamp v steps =
-    some_since z n (Vcpu v 6) is_idle steps || some_since z n (Vcpu v 5) (λ w. nat_lt stamp w) steps
+    some_since z n (run_of v) is_idle steps || some_since z n (flushed_of v) (λ w. nat_lt stamp w) steps
 
 -- from step n on the vCPU's domain was found never to have had privilege over the frame's owner
 pub record PassedOver (m : Machine) (n f v : ℕ) (h : Holdings) : Type 0 where

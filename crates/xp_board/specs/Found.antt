@@ -8,7 +8,7 @@ use Rattle.xp_words.specs.KindWords.{kind_fields}
 use Rattle.xp_words.specs.RefWords.{ref_write}
 use Rattle.xp_words.specs.declared.refs.RefWord.TheVariants.{Dying}
 use Rattle.xp_words.specs.Machine.{Machine}
-use Rattle.xp_words.specs.Places.{Sizes, sizes_of, Place, Clock, Life, Vcpu, Refs, Kind, Cell, Priv, place_at}
+use Rattle.xp_words.specs.Places.{Sizes, sizes_of, Place, Clock, Life, Vcpu, Refs, Kind, Cell, Priv, place_at, flushed_of, run_of}
 use Rattle.xp_board.specs.declared.holdings.Made.{Made}
 use Rattle.xp_board.specs.declared.holdings.Work.{Work}
 use Rattle.xp_board.specs.declared.holdings.Lock.{Lock}
@@ -30,15 +30,15 @@ ClockFound z m u =
 
 -- a vCPU's `flushed` is at least each value that the seat found or left there
 abbrev pub FlushedFound : Sizes → (Place → ℕ) → Holdings → Type 0
-FlushedFound z m u = (v : ℕ) → EachSince z 0 (Vcpu v 5) (λ w. w ≤ m (Vcpu v 5)) u.steps
+FlushedFound z m u = (v : ℕ) → EachSince z 0 (flushed_of v) (λ w. w ≤ m (flushed_of v)) u.steps
 
 -- a run word that it found 1 is 1
 abbrev pub StoppedFound : Sizes → (Place → ℕ) → Holdings → Type 0
-StoppedFound z m u = (v : ℕ) → EachSince z 0 (Vcpu v 6) (λ w. w ≡ 1 → m (Vcpu v 6) ≡ 1) u.steps
+StoppedFound z m u = (v : ℕ) → EachSince z 0 (run_of v) (λ w. w ≡ 1 → m (run_of v) ≡ 1) u.steps
 
 -- each clock value that it found or left after its last flush is at least its own `flushed`
 abbrev pub ClockSinceAck : Sizes → (Place → ℕ) → ℕ → Holdings → Type 0
-ClockSinceAck z m s u = EachSince z u.acked Clock (λ w. m (Vcpu s 5) ≤ w) u.steps
+ClockSinceAck z m s u = EachSince z u.acked Clock (λ w. m (flushed_of s) ≤ w) u.steps
 
 -- a domain that it found or left dying is dying by the same seat, or dead
 abbrev pub LifeFound : Sizes → (Place → ℕ) → Holdings → Type 0
@@ -51,16 +51,16 @@ EachTold z P steps = EachOf (λ x. P (told_value (place_at z x.step.place) x.fou
 
 -- what the seat had found before it last found the vCPU off
 abbrev pub before_off : Sizes → ℕ → Holdings → List Made
-before_off z v u = steps_before z (Vcpu v 6) (λ w. w == 2) u.steps
+before_off z v u = steps_before z (run_of v) (λ w. w == 2) u.steps
 
 -- the vCPU is off, stopped or cold, or was flushed later than each of these values
 abbrev pub FlushedSinceOff : Sizes → (Place → ℕ) → (ℕ → Holdings) → ℕ → Holdings → Type 0
-FlushedSinceOff z m h v u = EachTold z (λ y. (m (Vcpu v 6) ≢ 0) ⊎ (((h v).cold ≡ true) ⊎ (y < m (Vcpu v 5)))) (before_off z v u)
+FlushedSinceOff z m h v u = EachTold z (λ y. (m (run_of v) ≢ 0) ⊎ (((h v).cold ≡ true) ⊎ (y < m (flushed_of v)))) (before_off z v u)
 
 -- where it is cold and its run word is 0, each clock value that it found since its last Run step is at least each of these
 abbrev pub ColdSinceOff : Sizes → (Place → ℕ) → (ℕ → Holdings) → ℕ → Holdings → Type 0
 ColdSinceOff z m h v u =
-    (h v).cold ≡ true → m (Vcpu v 6) ≡ 0 → EachTold z (λ y. EachSince z (h v).ran Clock (λ w. y ≤ w) (h v).steps) (before_off z v u)
+    (h v).cold ≡ true → m (run_of v) ≡ 0 → EachTold z (λ y. EachSince z (h v).ran Clock (λ w. y ≤ w) (h v).steps) (before_off z v u)
 
 -- ---- frames of which it has references
 abbrev pub OwnersFound : Sizes → (Place → ℕ) → Holdings → Type 0
@@ -128,11 +128,11 @@ PrivilegesFound z m u = (d o : ℕ) → o < 16 →
     EachSince z 0 (Priv d) (λ w. IsTrue (has_now o w || has_ever o w) → IsTrue (has_ever o (m (Priv d)))) u.steps
 
 -- ---- the own words
--- While the vCPU is not stopped, no other seat writes its old words.
-pub record OwnFound (m : Place → ℕ) (s : ℕ) (u : Holdings) : Type 0 where
-  pub run : (w : ℕ) → u.run ≡ Some w → m (Vcpu s 6) ≡ w
-  pub old0 : (w : ℕ) → m (Vcpu s 6) ≢ 1 → u.old0 ≡ Some w → m (Vcpu s 2) ≡ w
-  pub old1 : (w : ℕ) → m (Vcpu s 6) ≢ 1 → u.old1 ≡ Some w → m (Vcpu s 3) ≡ w
+-- The run word is what the seat last found or left there. So is, while the vCPU is not stopped, each other own word but
+-- those of flushes (4 asked, 5 flushed): of these other seats may write `asked`, and of a stopped vCPU they may empty the rest.
+pub record OwnFound (z : Sizes) (m : Place → ℕ) (s : ℕ) (u : Holdings) : Type 0 where
+  pub run : (w : ℕ) → u.run ≡ Some w → m (run_of s) ≡ w
+  pub words : (k w : ℕ) → k ≢ 4 → k ≢ 5 → m (run_of s) ≢ 1 → last_since z 0 (Vcpu s k) u.steps ≡ Some w → m (Vcpu s k) ≡ w
 
 -- ---- all of it, for seat s
 pub record Found (n : Machine) (m : Place → ℕ) (h : ℕ → Holdings) (s : ℕ) : Type 0 where
@@ -151,4 +151,4 @@ pub record Found (n : Machine) (m : Place → ℕ) (h : ℕ → Holdings) (s : �
   pub endings : EachOf (EndingFound m) (h s).ending
   pub claims : EachOf (ClaimFound (sizes_of n) m (domain_of n s) (h s)) (h s).claimed
   pub privileges : PrivilegesFound (sizes_of n) m (h s)
-  pub own : OwnFound m s (h s)
+  pub own : OwnFound (sizes_of n) m s (h s)

@@ -4,7 +4,7 @@ use Rattle.xp_words.specs.declared.kind.KindWord.{KindWord}
 use Rattle.xp_words.specs.declared.kind.PageType.{PageType}
 use Rattle.xp_words.specs.PageTypes.{type_number}
 use Rattle.xp_words.specs.Machine.{Machine}
-use Rattle.xp_words.specs.Places.{Sizes, sizes_of, Place, Clock, Vcpu, Refs}
+use Rattle.xp_words.specs.Places.{Sizes, sizes_of, Place, Clock, Refs, flushed_of}
 use Rattle.xp_board.specs.declared.holdings.Holdings.{Holdings}
 use Rattle.xp_board.specs.Lists.{EachOf}
 use Rattle.xp_board.specs.Steps.{EachSince}
@@ -39,10 +39,10 @@ pub record Awaited (z : Sizes) (flushed g : ℕ) (u : Use) (h : Holdings) : Type
 -- one frame that vCPU v can come to
 pub record FreshAt (n : Machine) (m : Place → ℕ) (h : ℕ → Holdings) (v g : ℕ) (u : Use) : Type 0 where
   pub owner : Belongs m (domain_of n v) g u
-  pub free : IsTrue (is_free (m (Refs g))) → m (Vcpu v 5) ≤ free_stamp (m (Refs g))
+  pub free : IsTrue (is_free (m (Refs g))) → m (flushed_of v) ≤ free_stamp (m (Refs g))
   pub unclaimed : (s : ℕ) → s < (sizes_of n).vcpus → claims_of g (h s).claimed ≡ 0
-  pub bears : Bears (m (Vcpu v 5)) (kind_at m g) u
-  pub awaited : (s : ℕ) → s < (sizes_of n).vcpus → Awaited (sizes_of n) (m (Vcpu v 5)) g u (h s)
+  pub bears : Bears (m (flushed_of v)) (kind_at m g) u
+  pub awaited : (s : ℕ) → s < (sizes_of n).vcpus → Awaited (sizes_of n) (m (flushed_of v)) g u (h s)
 
 -- all that vCPU v can come to
 abbrev pub FreshFor : Machine → (Place → ℕ) → (ℕ → Holdings) → ℕ → Type 0

@@ -1,19 +1,18 @@
 -- When a seat may make a step, by its own holdings alone. A mark is judged first, and the act by the hand
 -- that the mark leaves.
-use Rattle.std.specs.Prelude.{◌≡◌, ℕ, ◌^◌, ◌<◌, Bool, true, false, Option, Some, None, IsTrue}
+use Rattle.std.specs.Prelude.{◌≡◌, ℕ, ◌^◌, ◌<◌, Bool, true, false, Option, Some, IsTrue}
 use Rattle.xp_words.specs.Machine.{Machine}
 use Rattle.xp_words.specs.Places.{Place, place_at, is_place, sizes_of}
 use Rattle.xp_board.specs.declared.step.Act.{Act}
 use Rattle.xp_board.specs.declared.step.Act.TheVariants.{Load, Cas, Store, Add, Max}
 use Rattle.xp_board.specs.declared.step.Mark.{Mark}
-use Rattle.xp_board.specs.declared.step.Mark.TheVariants as marks
 use Rattle.xp_board.specs.declared.step.Step.{Step}
 use Rattle.xp_board.specs.declared.step.StepKind.{StepKind}
 use Rattle.xp_board.specs.declared.step.StepKind.TheVariants as steps
 use Rattle.xp_board.specs.declared.holdings.Holdings.{Holdings}
 use Rattle.xp_board.specs.Spelling.{IsSpelling}
 use Rattle.xp_board.specs.Marks.{LegalMark, after_mark}
-use Rattle.xp_board.specs.RefSteps.{LegalRef, RefRow, Raise, ref_row}
+use Rattle.xp_board.specs.RefSteps.{LegalRef}
 use Rattle.xp_board.specs.KindSteps.{LegalKind}
 use Rattle.xp_board.specs.CellSteps.{LegalCell}
 use Rattle.xp_board.specs.M2pSteps.{LegalM2p}

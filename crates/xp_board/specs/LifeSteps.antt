@@ -2,7 +2,7 @@
 use Rattle.std.specs.Prelude.{◌≡◌, ℕ, ◌+◌, ◌<◌, ◌≤◌, ◌==◌, ◌⊎◌, not, Bool, length, IsTrue}
 use Rattle.xp_words.specs.Machine.{Machine}
 use Rattle.xp_words.specs.KindWords.{kind_fields}
-use Rattle.xp_words.specs.Places.{Place, Life, Vcpu, Refs, Kind, sizes_of}
+use Rattle.xp_words.specs.Places.{Place, Life, Vcpu, Refs, Kind, sizes_of, run_of}
 use Rattle.xp_board.specs.declared.step.Act.{Act}
 use Rattle.xp_board.specs.declared.step.Act.TheVariants.{Cas, Store}
 use Rattle.xp_board.specs.declared.holdings.Holdings.{Holdings}
@@ -20,7 +20,7 @@ pub record HasStopped (m : Machine) (s d upto : ℕ) (h : Holdings) : Type 0 whe
   pub since : ℕ
   pub stored : IsTrue (some_before (sizes_of m) since (Life d) (λ w. w == s + 1) h.steps)
   pub stopped : (v : ℕ) → v < length m.vcpu_domain → domain_of m v ≡ d →
-      IsTrue (some_between (sizes_of m) since upto (Vcpu v 6) (λ w. w == 1) h.steps)
+      IsTrue (some_between (sizes_of m) since upto (run_of v) (λ w. w == 1) h.steps)
   pub order : since ≤ upto
 
 -- after that, below `upto`: each word of those vCPUs that may name a frame empty, or emptied

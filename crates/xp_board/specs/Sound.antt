@@ -5,7 +5,7 @@ use Rattle.xp_words.specs.KindWords.{kind_fields}
 use Rattle.xp_words.specs.RefWords.{bit}
 use Rattle.xp_words.specs.Entries.{is_bit}
 use Rattle.xp_words.specs.Machine.{Machine, IsMachine}
-use Rattle.xp_words.specs.Places.{sizes_of, Place, Clock, Life, Vcpu, Refs, Kind, Map, is_place, memory, size}
+use Rattle.xp_words.specs.Places.{sizes_of, Place, Clock, Life, Vcpu, Refs, Kind, Map, is_place, memory, size, flushed_of, run_of}
 use Rattle.xp_board.specs.declared.holdings.Work.{Work}
 use Rattle.xp_board.specs.declared.holdings.Looking.{Looking}
 use Rattle.xp_board.specs.declared.holdings.Holdings.{Holdings}
@@ -46,14 +46,14 @@ pub record WorkAgrees (u : Holdings) (e : Work) : Type 0 where
 
 -- ---- stamps, and vCPUs that do not run
 pub record Stamped (n : Machine) (m : Place → ℕ) : Type 0 where
-  pub flushed : (v : ℕ) → m (Vcpu v 5) ≤ m Clock
+  pub flushed : (v : ℕ) → m (flushed_of v) ≤ m Clock
   pub free : (f : ℕ) → free_stamp (m (Refs f)) ≤ m Clock
   pub kinds : (f : ℕ) → kind_stamp (m (Kind f)) ≤ m Clock
 
 pub record Idle (n : Machine) (m : Place → ℕ) (h : ℕ → Holdings) (v : ℕ) : Type 0 where
-  pub hand : m (Vcpu v 6) ≢ 0 → IsEmptyHand (h v)
-  pub cache : m (Vcpu v 6) ≢ 0 → (h v).cache ≡ []
-  pub walk : m (Vcpu v 6) ≢ 0 → (h v).walk ≡ None
+  pub hand : m (run_of v) ≢ 0 → IsEmptyHand (h v)
+  pub cache : m (run_of v) ≢ 0 → (h v).cache ≡ []
+  pub walk : m (run_of v) ≢ 0 → (h v).walk ≡ None
   pub cold_cache : (h v).cold ≡ true → (h v).cache ≡ []
   pub cold_walk : (h v).cold ≡ true → (h v).walk ≡ None
 
@@ -76,7 +76,7 @@ pub record DeadDomain (n : Machine) (m : Place → ℕ) (h : ℕ → Holdings) (
   pub unpinned : (f : ℕ) → owner_of (m (Refs f)) ≡ Some d → IsTrue (is_unpinned (m (Kind f)))
   pub unkept : (f : ℕ) → owner_of (m (Refs f)) ≡ Some d → KeptForNobody n m h d f
   pub empty : (v k : ℕ) → v < (sizes_of n).vcpus → domain_of n v ≡ d → k < 38 → IsTrue (is_context k) → m (Vcpu v k) ≡ 0
-  pub stopped : (v : ℕ) → v < (sizes_of n).vcpus → domain_of n v ≡ d → m (Vcpu v 6) ≡ 1
+  pub stopped : (v : ℕ) → v < (sizes_of n).vcpus → domain_of n v ≡ d → m (run_of v) ≡ 1
 
 -- While d is dying: what its destroying seat s has found so, or made so, since it stored the life word. Context
 -- words count from when their vCPU was found stopped, marks and owners from when all vCPUs of d were. (That a
@@ -84,7 +84,7 @@ pub record DeadDomain (n : Machine) (m : Place → ℕ) (h : ℕ → Holdings) (
 pub record DyingDomain (n : Machine) (m : Place → ℕ) (h : ℕ → Holdings) (d s : ℕ) : Type 0 where
   pub empty : (v k a b : ℕ) → domain_of n v ≡ d → k < 38 → IsTrue (is_context k) →
       IsTrue (some_before (sizes_of n) a (Life d) (λ w. w == s + 1) (h s).steps) → a ≤ b →
-      IsTrue (some_between (sizes_of n) a b (Vcpu v 6) (λ w. w == 1) (h s).steps) →
+      IsTrue (some_between (sizes_of n) a b (run_of v) (λ w. w == 1) (h s).steps) →
       IsTrue (some_since (sizes_of n) b (Vcpu v k) (λ w. w == 0) (h s).steps) → m (Vcpu v k) ≡ 0
   pub unallocated : (f a : ℕ) → HasStopped n s d a (h s) → owner_of (m (Refs f)) ≡ Some d →
       IsTrue (some_since (sizes_of n) a (Refs f) is_unallocated (h s).steps) → IsTrue (is_unallocated (m (Refs f)))

@@ -14,10 +14,11 @@ use Rattle.xp_board.specs.After.{after}
 use Rattle.xp_board.specs.Sound.{Sound}
 use Rattle.xp_board.specs.Runs.{place_of}
 
--- which port it is: of which machine, vCPU and table, and the name of the borrow that it holds
+-- which port it is: of which machine, vCPU and table, the run word with which that vCPU opened, and the name of the borrow that it holds
 pub record Post : Type 0 where
   pub machine : Machine
   pub seat : ℕ
+  pub run : ℕ
   pub lender : ℕ
   pub table : TableId
 

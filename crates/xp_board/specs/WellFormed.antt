@@ -6,7 +6,7 @@ use Rattle.xp_words.specs.PageTypes.{is_table}
 use Rattle.xp_words.specs.Entries.{is_bit}
 use Rattle.xp_words.specs.KindWords.{kind_fields}
 use Rattle.xp_words.specs.Machine.{Machine}
-use Rattle.xp_words.specs.Places.{Sizes, sizes_of, Vcpu, Kind, Cell, place_at, is_place}
+use Rattle.xp_words.specs.Places.{Sizes, sizes_of, Kind, Cell, place_at, is_place, run_of, old0_of, old1_of}
 use Rattle.xp_board.specs.declared.holdings.Made.{Made}
 use Rattle.xp_board.specs.declared.holdings.Seen.{Seen}
 use Rattle.xp_board.specs.declared.holdings.Unsettled.{Unsettled}
@@ -94,9 +94,9 @@ pub record IsCacheFormed (u : Holdings) : Type 0 where
 -- ---- the own words
 -- what is noted is the word last found or left there
 pub record IsOwnFormed (n : Machine) (s : ℕ) (u : Holdings) : Type 0 where
-  pub run : u.run ≡ last_since (sizes_of n) 0 (Vcpu s 6) u.steps
-  pub old0 : u.old0 ≡ last_since (sizes_of n) 0 (Vcpu s 2) u.steps
-  pub old1 : u.old1 ≡ last_since (sizes_of n) 0 (Vcpu s 3) u.steps
+  pub run : u.run ≡ last_since (sizes_of n) 0 (run_of s) u.steps
+  pub old0 : u.old0 ≡ last_since (sizes_of n) 0 (old0_of s) u.steps
+  pub old1 : u.old1 ≡ last_since (sizes_of n) 0 (old1_of s) u.steps
 
 -- ---- all of it
 pub record WellFormed (n : Machine) (s : ℕ) (u : Holdings) : Type 0 where

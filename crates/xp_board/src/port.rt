@@ -1,4 +1,4 @@
-ghost use Rattle.std.specs.Prelude.{◌≡◌, ◌<◌, length};
+ghost use Rattle.std.specs.Prelude.{◌≡◌, ◌<◌, None, IfSome, length};
 
 use crate::step::{Item, Step};
 use xp_words::Layout;
@@ -7,7 +7,7 @@ use xp_words::Layout;
 /// they hold on every board: one that tells all words to contracts, and one that several threads share.
 pub trait Port {
     ghost use Rattle.xp_words.specs.Machine.{IsMachine};
-    ghost use Rattle.xp_words.specs.Places.{place_at, sizes_of};
+    ghost use Rattle.xp_words.specs.Places.{place_at, sizes_of, run_of};
     ghost use Rattle.xp_board.specs.Legal.{Legal};
     ghost use Rattle.xp_board.specs.Told.{PortValue, stepped, IsTold, Finds, Goes, Saw, cached_item};
 
@@ -24,16 +24,19 @@ pub trait Port {
         ensures seat { result ≡ (value self.now).post.seat }
         ensures real { result < length (value self.now).post.machine.vcpu_domain };
 
-    /// The newest cached translation of a page, which is bits 12 to 47 of the address.
+    /// The newest cached translation of a page, which is bits 12 to 47 of the address. Its frame is one of the machine's.
     fn cached(&self, user: bool, page: u64) -> Option<Item>
-        ensures { result ≡ cached_item user page (value self.now).holdings.cache };
+        ensures newest { result ≡ cached_item user page (value self.now).holdings.cache }
+        ensures inside { IfSome result (λ x. x.frame < (value self.now).post.machine.frames) };
 
-    /// Makes one step, and answers the word that it found.
+    /// Makes one step, and answers the word that it found. Where the vCPU has not looked at its own run word yet, that
+    /// word is the one with which it opened.
     fn step(&mut self, step: Step) -> u64
         requires { Legal (value self.old).post.machine (value self.old).post.seat (value self.old).holdings step }
         ensures value { value self.new ≡ stepped (value self.old) step result }
         ensures goes { Goes (value self.old) (value self.new) }
         ensures saw { Saw (value self.old) (value self.new) (place_at (sizes_of (value self.old).post.machine) step.place) result }
         ensures found { Finds (value self.old).post.machine (value self.old).post.seat (value self.old).holdings (place_at (sizes_of (value self.old).post.machine) step.place) result }
+        ensures own { (value self.old).holdings.run ≡ None → place_at (sizes_of (value self.old).post.machine) step.place ≡ run_of (value self.old).post.seat → result ≡ (value self.old).post.run }
         ensures told { IsTold (value self.old).post.machine (value self.old).told (place_at (sizes_of (value self.old).post.machine) step.place) result };
 }

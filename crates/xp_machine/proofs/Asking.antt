@@ -3,7 +3,7 @@ use Rattle.std.proofs.Common.{◌≡◌, ℕ, ◌<◌, ◌≤◌, ◌==◌, nat_
 use Rattle.std.proofs.lemmas.Bool.{cases_eq}
 use Rattle.std.proofs.lemmas.Bool.Decides.{nat_tests}
 use Rattle.xp_words.specs.Machine.{Machine}
-use Rattle.xp_words.specs.Places.{Place, Clock, Vcpu, sizes_of}
+use Rattle.xp_words.specs.Places.{Place, Clock, Vcpu, sizes_of, run_of, flushed_of}
 use Rattle.xp_board.specs.declared.step.Act.{Act}
 use Rattle.xp_board.specs.declared.step.Act.TheVariants.{Load}
 use Rattle.xp_board.specs.declared.step.Mark.{Mark}
@@ -37,21 +37,21 @@ low_test : (x n : ℕ) → x ≤ n → nat_le x n ≡ true
 low_test x n l = grind (arith, nat_tests)
 
 -- The clock was found, then the other vCPU running and flushed no later.
-pub may_ask : (u v w x : PortValue) (k clock run flushed : ℕ) → Makes u v Clock Load None clock → v.post ≡ u.post → Makes v w (Vcpu k 6) Load None run → w.post ≡ v.post →
-    Makes w x (Vcpu k 5) Load None flushed → x.post ≡ w.post → run ≡ 0 → flushed ≤ clock → MayAsk x.post.machine k clock x.holdings
+pub may_ask : (u v w x : PortValue) (k clock run flushed : ℕ) → Makes u v Clock Load None clock → v.post ≡ u.post → Makes v w (run_of k) Load None run → w.post ≡ v.post →
+    Makes w x (flushed_of k) Load None flushed → x.post ≡ w.post → run ≡ 0 → flushed ≤ clock → MayAsk x.post.machine k clock x.holdings
 unfolding left_by
 may_ask u v w x k clock run flushed first same second again third later idle behind =
     let since = length v.holdings.steps in
     subst (λ (q : Post). MayAsk q.machine k clock x.holdings) (sym (later ∙ again ∙ same))
     (record {
       since = since;
-      awaits = inr (inr (makes_keeps w x (Vcpu k 5) Load None flushed third _ (makes_keeps v w (Vcpu k 6) Load None run second _
+      awaits = inr (inr (makes_keeps w x (flushed_of k) Load None flushed third _ (makes_keeps v w (run_of k) Load None run second _
           (makes_before u v Clock Load None clock first since (λ y. y == clock) (makes_longer u v Clock Load None clock first) (is_test clock clock refl)))));
-      running = subst (λ (q : Post). IsTrue (some_since (sizes_of q.machine) since (Vcpu k 6) (λ y. y == 0) x.holdings.steps)) same
-          (makes_keeps w x (Vcpu k 5) Load None flushed third _
-          (makes_since v w (Vcpu k 6) Load None run second since (λ y. y == 0) (omega arith) (is_test run 0 idle)));
-      flushed = subst (λ (q : Post). IsTrue (some_since (sizes_of q.machine) since (Vcpu k 5) (λ y. nat_le y clock) x.holdings.steps)) (again ∙ same)
-          (makes_since w x (Vcpu k 5) Load None flushed third since (λ y. nat_le y clock)
+      running = subst (λ (q : Post). IsTrue (some_since (sizes_of q.machine) since (run_of k) (λ y. y == 0) x.holdings.steps)) same
+          (makes_keeps w x (flushed_of k) Load None flushed third _
+          (makes_since v w (run_of k) Load None run second since (λ y. y == 0) (omega arith) (is_test run 0 idle)));
+      flushed = subst (λ (q : Post). IsTrue (some_since (sizes_of q.machine) since (flushed_of k) (λ y. nat_le y clock) x.holdings.steps)) (again ∙ same)
+          (makes_since w x (flushed_of k) Load None flushed third since (λ y. nat_le y clock)
           (went_longer v w (record { step = second.step; found = run } ∷ []) second.went) (low_test flushed clock behind));
     })
 

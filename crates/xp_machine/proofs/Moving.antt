@@ -6,7 +6,7 @@ use Rattle.std.proofs.lemmas.List.{get_or-set_other}
 use Rattle.std.proofs.lemmas.List.Elements.{All-set, All-get_or}
 use Rattle.std.proofs.lemmas.Option.{slice_get-get_or, slice_get_within, get_or_from_slice_get}
 use Rattle.xp_words.specs.Machine.{Machine}
-use Rattle.xp_words.specs.Places.{Vcpu, sizes_of, memory}
+use Rattle.xp_words.specs.Places.{Vcpu, sizes_of, memory, run_of}
 use Rattle.xp_words.specs.declared.ops.Op.{Op}
 use Rattle.xp_board.specs.declared.holdings.Made.{Made}
 use Rattle.xp_board.specs.declared.holdings.Holdings.{Holdings}
@@ -27,7 +27,7 @@ pub record Moved (n : Machine) (s : ℕ) (a b : Story) : Type 0 where
   pub opening : b.opening ≡ a.opening
   pub seats : length b.seats ≡ length a.seats
   pub others : (t : ℕ) → t ≢ s → seat_of b.seats t ≡ seat_of a.seats t
-  pub run : (t : ℕ) → t ≢ s → memory (sizes_of n) b.words (Vcpu t 6) ≡ memory (sizes_of n) a.words (Vcpu t 6)
+  pub run : (t : ℕ) → t ≢ s → memory (sizes_of n) b.words (run_of t) ≡ memory (sizes_of n) a.words (run_of t)
 
 abbrev story_in : Story → Option Story → Story
 story_in d (Some a) = a
@@ -63,13 +63,13 @@ of_lender : (b : Board) (s lender other : ℕ) (c : Processing) → IsOf (port_v
 of_lender b s lender other c o = record { seat = o.seat; domain = o.domain; rests = o.rests; runs = o.runs }
 
 still_runs : (b b2 : Board) (t lender : ℕ) → b2.machine ≡ b.machine → seat_of b2.story.seats t ≡ seat_of b.story.seats t →
-    memory (sizes_of b.machine) b2.story.words (Vcpu t 6) ≡ memory (sizes_of b.machine) b.story.words (Vcpu t 6) → Runs (port_value b t lender) → Runs (port_value b2 t lender)
+    memory (sizes_of b.machine) b2.story.words (run_of t) ≡ memory (sizes_of b.machine) b.story.words (run_of t) → Runs (port_value b t lender) → Runs (port_value b2 t lender)
 still_runs b b2 t lender machine hand run (inl found) = inl (ap (λ (h : Holdings). h.run) hand ∙ found)
 still_runs b b2 t lender machine hand run (inr told) =
-    inr (refl, ap (λ (n : Machine). memory (sizes_of n) b2.story.words (Vcpu t 6)) machine ∙ run ∙ told.1)
+    inr (refl, ap (λ (n : Machine). memory (sizes_of n) b2.story.words (run_of t)) machine ∙ run ∙ told.1)
 
 pub of_other : (b b2 : Board) (t lender : ℕ) (c : Processing) → b2.machine ≡ b.machine → seat_of b2.story.seats t ≡ seat_of b.story.seats t →
-    memory (sizes_of b.machine) b2.story.words (Vcpu t 6) ≡ memory (sizes_of b.machine) b.story.words (Vcpu t 6) → IsOf (port_value b t lender) c → IsOf (port_value b2 t lender) c
+    memory (sizes_of b.machine) b2.story.words (run_of t) ≡ memory (sizes_of b.machine) b.story.words (run_of t) → IsOf (port_value b t lender) c → IsOf (port_value b2 t lender) c
 of_other b b2 t lender c machine hand run o =
     record {
       seat = o.seat;

@@ -7,7 +7,7 @@ use Rattle.std.proofs.lemmas.List.Elements.{All-get_or}
 use Rattle.std.proofs.lemmas.List.FromFn.{length-enumerate_from, get_or-enumerate_from}
 use Rattle.std.proofs.lemmas.Option.{slice_get_within, slice_get_cases, get_or_from_slice_get}
 use Rattle.xp_words.specs.Machine.{Machine}
-use Rattle.xp_words.specs.Places.{Vcpu, sizes_of, memory}
+use Rattle.xp_words.specs.Places.{Vcpu, sizes_of, memory, run_of}
 use Rattle.xp_words.specs.declared.ops.Op.{Op}
 use Rattle.xp_board.specs.Hands.{empty, IsEmptyHand}
 use Rattle.xp_board.specs.Readings.{domain_of}
@@ -46,7 +46,7 @@ empty_rests =
       walk = refl;
     }
 
-runs_at_first : (t : Trace) (v : ℕ) → opening_at t (Vcpu v 6) ≡ 0
+runs_at_first : (t : Trace) (v : ℕ) → opening_at t (run_of v) ≡ 0
 unfolding opening_at
 runs_at_first t v = refl
 
@@ -70,7 +70,7 @@ takes_fresh t b opened opening machine story v lender script real =
       seat = refl;
       domain = refl;
       rests = subst Rests (sym (get_or-replicate (length n.vcpu_domain) v empty empty there)) empty_rests;
-      runs = λ works. inr (refl, opening.places (Vcpu v 6) (own_there (sizes_of n) v 6 there (lit< tt)) ∙ runs_at_first t v);
+      runs = λ works. inr (refl, opening.places (run_of v) (own_there (sizes_of n) v 6 there (lit< tt)) ∙ runs_at_first t v);
     })
 
 of_first : (n : Machine) (b : Board) (scripts : List (List Op)) → b.machine ≡ n → TakesFresh b → length scripts ≡ length n.vcpu_domain →

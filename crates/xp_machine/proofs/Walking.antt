@@ -3,7 +3,7 @@ use Rattle.std.proofs.Common.{◌≡◌, ◌≢◌, ℕ, ◌<◌, List, [], ◌�
 use Rattle.std.proofs.Math.ListN.{set}
 use Rattle.std.proofs.lemmas.List.{get_or-set_other}
 use Rattle.xp_words.specs.Machine.{Machine}
-use Rattle.xp_words.specs.Places.{Vcpu, sizes_of, size, number, memory}
+use Rattle.xp_words.specs.Places.{Vcpu, sizes_of, size, number, memory, run_of}
 use Rattle.xp_words.proofs.PlaceLaws.{memory_same, memory_other}
 use Rattle.xp_board.specs.declared.step.Act.{Act}
 use Rattle.xp_board.specs.declared.step.Act.TheVariants.{Load, Cas, Store, Add, Max}
@@ -22,14 +22,14 @@ use Rattle.xp_board.specs.Runs as runs
 use Rattle.xp_board.specs.Runs.{place_of, word_at}
 use Rattle.xp_board.specs.Sound.{seat_of}
 use Rattle.xp_board.specs.Told.{Post, PortValue, Story, IsTold, tells, stepped, Went}
-use Rattle.xp_board.proofs.PlaceTests.{same_or_other}
+use Rattle.board_lemmas.proofs.PlaceTests.{same_or_other}
 use Rattle.xp_board.proofs.Going.{went_post}
-use Rattle.xp_board.proofs.Numbers.{place_number}
+use Rattle.board_lemmas.proofs.Numbers.{place_number}
 use Rattle.shared_board.specs.Board.{state_of}
 use Rattle.xp_machine.specs.Pieces.{Piece, log_by}
 
 -- ---- the run words of the others
-run_kept : (n : Machine) (s t : ℕ) (h : Holdings) (act : Act) (mark : Option Mark) (by : StepKind) (w : ℕ) → t ≢ s → LegalAs n s h (Vcpu t 6) act mark by → left_by act w ≡ w
+run_kept : (n : Machine) (s t : ℕ) (h : Holdings) (act : Act) (mark : Option Mark) (by : StepKind) (w : ℕ) → t ≢ s → LegalAs n s h (run_of t) act mark by → left_by act w ≡ w
 unfolding left_by
 run_kept n s t h Load mark by w off legal = refl
 run_kept n s t h act mark steps.Ref w off legal = absurd legal
@@ -72,12 +72,12 @@ run_kept n s t h (Max x) mark steps.Ask w off legal = absurd (let e = legal.0 in
 
 -- no vCPU changes the run word of another one
 others_run : (n : Machine) (s t : ℕ) (h : Holdings) (words : List ℕ) (x : Made) → t ≢ s → Legal n s h x.step → length words ≡ size (sizes_of n) → memory (sizes_of n) words (place_of n x.step) ≡ x.found →
-    memory (sizes_of n) (slice_set words x.step.place (left_by x.step.act x.found)) (Vcpu t 6) ≡ memory (sizes_of n) words (Vcpu t 6)
+    memory (sizes_of n) (slice_set words x.step.place (left_by x.step.act x.found)) (run_of t) ≡ memory (sizes_of n) words (run_of t)
 others_run n s t h words x off legal whole found =
     let left = left_by x.step.act x.found in
-    let here = ap (λ i. memory (sizes_of n) (set words i left) (Vcpu t 6)) (sym (place_number (sizes_of n) x.step.place legal.place)) in
-    elim (same_or_other (Vcpu t 6) (place_of n x.step)) [
-      | inr away ↦ here ∙ memory_other (sizes_of n) words (place_of n x.step) (Vcpu t 6) left legal.place away
+    let here = ap (λ i. memory (sizes_of n) (set words i left) (run_of t)) (sym (place_number (sizes_of n) x.step.place legal.place)) in
+    elim (same_or_other (run_of t) (place_of n x.step)) [
+      | inr away ↦ here ∙ memory_other (sizes_of n) words (place_of n x.step) (run_of t) left legal.place away
       | inl at ↦
           let kept : left ≡ x.found =
           run_kept n s t (after_mark n x.step.mark h) x.step.act x.step.mark x.step.kind x.found off
@@ -98,7 +98,7 @@ record One (n : Machine) (s : ℕ) (a : Story) (w : PortValue) (x : Made) : Type
   log : b.log ≡ (s, x.step) ∷ a.log
   seats : length b.seats ≡ length a.seats
   others : (t : ℕ) → t ≢ s → seat_of b.seats t ≡ seat_of a.seats t
-  run : (t : ℕ) → t ≢ s → memory (sizes_of n) b.words (Vcpu t 6) ≡ memory (sizes_of n) a.words (Vcpu t 6)
+  run : (t : ℕ) → t ≢ s → memory (sizes_of n) b.words (run_of t) ≡ memory (sizes_of n) a.words (run_of t)
 
 one_step : (u w : PortValue) (x : Made) (c : Story) → u.told ≡ Some c → u.holdings ≡ seat_of c.seats u.post.seat → u.post.seat < length c.seats →
     u.post.seat < (sizes_of u.post.machine).vcpus → LegalNow u.post.machine u.post.seat u.holdings x.step → IsTold u.post.machine u.told (place_of u.post.machine x.step) x.found →
@@ -139,7 +139,7 @@ pub record Walked (n : Machine) (s : ℕ) (a : Story) (w : PortValue) (made : Li
   pub log : b.log ≡ log_by s made ++ a.log
   pub seats : length b.seats ≡ length a.seats
   pub others : (t : ℕ) → t ≢ s → seat_of b.seats t ≡ seat_of a.seats t
-  pub run : (t : ℕ) → t ≢ s → memory (sizes_of n) b.words (Vcpu t 6) ≡ memory (sizes_of n) a.words (Vcpu t 6)
+  pub run : (t : ℕ) → t ≢ s → memory (sizes_of n) b.words (run_of t) ≡ memory (sizes_of n) a.words (run_of t)
 
 pub walked : (v w : PortValue) (a : Story) (made : List Made) → v.told ≡ Some a → v.holdings ≡ seat_of a.seats v.post.seat → v.post.seat < length a.seats →
     v.post.seat < (sizes_of v.post.machine).vcpus → Went v made w → Walked v.post.machine v.post.seat a w made

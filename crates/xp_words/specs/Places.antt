@@ -26,6 +26,35 @@ pub data Place : Type 0 where
   -- bits 0 to 15: over which domains d has privilege now; bits 16 to 31: over which it ever had
   Priv : (d : ℕ) → Place
 
+-- ---- the words of a vCPU by name
+-- the bases of its page tables, for kernel and user mode
+abbrev pub base_of : ℕ → Place
+base_of v = Vcpu v 0
+
+abbrev pub user_base_of : ℕ → Place
+user_base_of v = Vcpu v 1
+
+-- frames whose release is unfinished
+abbrev pub old0_of : ℕ → Place
+old0_of v = Vcpu v 2
+
+abbrev pub old1_of : ℕ → Place
+old1_of v = Vcpu v 3
+
+-- up to which clock value it is asked to flush its translations, and up to which it has
+abbrev pub asked_of : ℕ → Place
+asked_of v = Vcpu v 4
+
+abbrev pub flushed_of : ℕ → Place
+flushed_of v = Vcpu v 5
+
+-- 0 running, 1 stopped, 2 off its processor
+abbrev pub run_of : ℕ → Place
+run_of v = Vcpu v 6
+
+abbrev pub ldt_base_of : ℕ → Place
+ldt_base_of v = Vcpu v 7
+
 -- how many words the free map has
 abbrev pub map_words : Sizes → ℕ
 map_words z = (z.frames + 63) / 64

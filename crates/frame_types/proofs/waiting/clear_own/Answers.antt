@@ -1,6 +1,6 @@
 use Rattle.std.proofs.Common.{None, Ok, subst}
 use Rattle.std.proofs.lemmas.Result.{err_from_is_err_and}
-use Rattle.xp_words.specs.Places.{Vcpu}
+use Rattle.xp_words.specs.Places.{Vcpu, flushed_of}
 use Rattle.xp_board.specs.declared.step.Act.TheVariants.{Load}
 use Rattle.frame_words.specs.Pieces.{Makes}
 use Rattle.frame_types.specs.Clearing.{Looks}
@@ -17,12 +17,12 @@ returns-then-look_flushed-awaited g c =
 pub returns : goal.returns
 returns g c =
     let v = g.P.Port.value c.args.port.now in
-    let look = subst (λ s. Makes v (g.P.Port.value c.look_flushed.new.port) (Vcpu s 5) Load None c.look_flushed.result) c.seat-seat.ensures.seat c.look_flushed.ensures.made in
+    let look = subst (λ s. Makes v (g.P.Port.value c.look_flushed.new.port) (flushed_of s) Load None c.look_flushed.result) c.seat-seat.ensures.seat c.look_flushed.ensures.made in
     then_flushed v _ _ c.args.awaited c.look_flushed.result look c.look_flushed.ensures.hand c.look_flushed.ensures.post c.requires.marked c.in_ok-flush_own.ensures.piece c.in_ok-flush_own.ensures.hand
 
 pub returns-in_err-flush_own : goal.returns-in_err-flush_own
 returns-in_err-flush_own g c =
     let v = g.P.Port.value c.args.port.now in
-    let look = subst (λ s. Makes v (g.P.Port.value c.look_flushed.new.port) (Vcpu s 5) Load None c.look_flushed.result) c.seat-seat.ensures.seat c.look_flushed.ensures.made in
+    let look = subst (λ s. Makes v (g.P.Port.value c.look_flushed.new.port) (flushed_of s) Load None c.look_flushed.result) c.seat-seat.ensures.seat c.look_flushed.ensures.made in
     let p = err_from_is_err_and c.from_residual.result c.from_residual.ensures.1 in
     rw (p.1, p.2) (then_refused v _ _ c.args.awaited c.look_flushed.result look c.look_flushed.ensures.hand c.look_flushed.ensures.post c.in_err-flush_own.field-0.0 c.if-look_flushed-awaited.false c.in_err-flush_own.ensures.piece c.in_err-flush_own.ensures.hand)

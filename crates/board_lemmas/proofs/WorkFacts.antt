@@ -9,9 +9,9 @@ use Rattle.xp_board.specs.Hands.{works_on, work_on}
 use Rattle.xp_board.specs.Found.{WorkFound}
 use Rattle.xp_board.specs.WellFormed.{IsWorkFormed}
 use Rattle.xp_board.specs.Sound.{Sound, WorkAgrees, is_busy}
-use Rattle.xp_board.proofs.ListCounts.{EachOf-found}
-use Rattle.xp_board.proofs.HandLists.{first-some, first-key}
-use Rattle.xp_board.proofs.Works.{is_busy-mine}
+use Rattle.board_lemmas.proofs.ListCounts.{EachOf-found}
+use Rattle.board_lemmas.proofs.HandLists.{first-some, first-key}
+use Rattle.board_lemmas.proofs.Works.{is_busy-mine}
 
 -- the work e of seat s on frame f
 pub record Works (n : Machine) (m : Place → ℕ) (h : ℕ → Holdings) (s f : ℕ) (e : Work) : Type 0 where

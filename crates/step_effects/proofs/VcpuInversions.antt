@@ -3,7 +3,7 @@ use Rattle.std.proofs.Common.{◌≡◌, ℕ, ◌==◌, ◌⊎◌, if◌then◌e
 use Rattle.std.proofs.lemmas.Bool.{or_cases}
 use Rattle.std.proofs.lemmas.Bool.Decides.{nat_tests}
 use Rattle.xp_words.specs.Machine.{Machine}
-use Rattle.xp_words.specs.Places.{Place, Vcpu}
+use Rattle.xp_words.specs.Places.{Place, Vcpu, asked_of, flushed_of, run_of, ldt_base_of}
 use Rattle.xp_board.specs.declared.step.Act.{Act}
 use Rattle.xp_board.specs.declared.step.Act.TheVariants.{Store, Max}
 use Rattle.xp_board.specs.declared.step.Mark.{Mark}
@@ -14,8 +14,8 @@ use Rattle.xp_board.specs.Acts.{left_by}
 use Rattle.xp_board.specs.Readings.{is_context}
 use Rattle.xp_board.specs.ContextSteps.{MayName, MayEmpty}
 use Rattle.xp_board.specs.After.{noted}
-use Rattle.xp_board.proofs.Doing.{Doing, wrote_by, store_now, when_found}
-use Rattle.xp_board.proofs.ActEffects.{ActEffect, asked, flushed, ran, named_frame, based}
+use Rattle.step_effects.proofs.Doing.{Doing, wrote_by, store_now, when_found}
+use Rattle.step_effects.proofs.ActEffects.{ActEffect, asked, flushed, ran, named_frame, based}
 
 module _ (n : Machine) (s : ℕ) (x : Step) (m m2 : Place → ℕ) (b c : Holdings) (mark : Option Mark) where
   abbrev Effect : Type 0
@@ -29,14 +29,14 @@ module _ (n : Machine) (s : ℕ) (x : Step) (m m2 : Place → ℕ) (b c : Holdin
   own_if y z = when_found s s y z refl
 
   -- ---- a vCPU is asked
-  ask_at : (v value : ℕ) → Doing n s x m m2 b c mark (Vcpu v 4) (Max value) steps.Ask → Effect
+  ask_at : (v value : ℕ) → Doing n s x m m2 b c mark (asked_of v) (Max value) steps.Ask → Effect
   ask_at v value d =
       asked v
       (record {
-        wrote = wrote_by _ _ _ _ _ _ _ _ (Vcpu v 4) (Max value) steps.Ask d;
+        wrote = wrote_by _ _ _ _ _ _ _ _ (asked_of v) (Max value) steps.Ask d;
         value = value;
         may = d.legal.1;
-        hand = d.hand ∙ ap (λ y. noted x (m (Vcpu v 4)) y) (same_if (v == s) b);
+        hand = d.hand ∙ ap (λ y. noted x (m (asked_of v)) y) (same_if (v == s) b);
       })
 
   pub ask_effect : (p : Place) (a : Act) → Doing n s x m m2 b c mark p a steps.Ask → Effect
@@ -44,20 +44,20 @@ module _ (n : Machine) (s : ℕ) (x : Step) (m m2 : Place → ℕ) (b c : Holdin
   ask_effect _ _ d = absurd d.legal
 
   -- ---- the own translations are flushed
-  ack_at : (w : ℕ) → Doing n s x m m2 b c mark (Vcpu s 5) (Store w) steps.Ack → Effect
+  ack_at : (w : ℕ) → Doing n s x m m2 b c mark (flushed_of s) (Store w) steps.Ack → Effect
   ack_at w d =
-      let now : m2 (Vcpu s 5) ≡ w = store_now _ _ _ _ _ _ _ _ (Vcpu s 5) w steps.Ack d in
+      let now : m2 (flushed_of s) ≡ w = store_now _ _ _ _ _ _ _ _ (flushed_of s) w steps.Ack d in
       flushed
       (record {
-        wrote = wrote_by _ _ _ _ _ _ _ _ (Vcpu s 5) (Store w) steps.Ack d;
+        wrote = wrote_by _ _ _ _ _ _ _ _ (flushed_of s) (Store w) steps.Ack d;
         may = rw now d.legal;
-        hand = d.hand ∙ ap (λ y. noted x (m (Vcpu s 5)) y) (same_if (s == s) _);
+        hand = d.hand ∙ ap (λ y. noted x (m (flushed_of s)) y) (same_if (s == s) _);
       })
 
   ack_own : (v k w : ℕ) → v ≡ s → k ≡ 5 → Doing n s x m m2 b c mark (Vcpu v k) (Store w) steps.Ack → Effect
   ack_own v k w own word d =
       ack_at w
-      (subst (λ u. Doing n s x m m2 b c mark (Vcpu u 5) (Store w) steps.Ack) own
+      (subst (λ u. Doing n s x m m2 b c mark (flushed_of u) (Store w) steps.Ack) own
       (subst (λ j. Doing n s x m m2 b c mark (Vcpu v j) (Store w) steps.Ack) word d))
 
   pub ack_effect : (p : Place) (a : Act) → Doing n s x m m2 b c mark p a steps.Ack → Effect
@@ -65,21 +65,21 @@ module _ (n : Machine) (s : ℕ) (x : Step) (m m2 : Place → ℕ) (b c : Holdin
   ack_effect _ _ d = absurd d.legal
 
   -- ---- the own vCPU runs or not
-  run_at : (w : ℕ) → Doing n s x m m2 b c mark (Vcpu s 6) (Store w) steps.Run → Effect
+  run_at : (w : ℕ) → Doing n s x m m2 b c mark (run_of s) (Store w) steps.Run → Effect
   unfolding left_by
   run_at w d =
-      let now : m2 (Vcpu s 6) ≡ w = store_now _ _ _ _ _ _ _ _ (Vcpu s 6) w steps.Run d in
+      let now : m2 (run_of s) ≡ w = store_now _ _ _ _ _ _ _ _ (run_of s) w steps.Run d in
       ran
       (record {
-        wrote = wrote_by _ _ _ _ _ _ _ _ (Vcpu s 6) (Store w) steps.Run d;
+        wrote = wrote_by _ _ _ _ _ _ _ _ (run_of s) (Store w) steps.Run d;
         may = rw now d.legal.2;
-        hand = d.hand ∙ ap (λ y. noted x (m (Vcpu s 6)) y) (own_if _ _ ∙ rw now refl);
+        hand = d.hand ∙ ap (λ y. noted x (m (run_of s)) y) (own_if _ _ ∙ rw now refl);
       })
 
   run_own : (v k w : ℕ) → v ≡ s → k ≡ 6 → Doing n s x m m2 b c mark (Vcpu v k) (Store w) steps.Run → Effect
   run_own v k w own word d =
       run_at w
-      (subst (λ u. Doing n s x m m2 b c mark (Vcpu u 6) (Store w) steps.Run) own
+      (subst (λ u. Doing n s x m m2 b c mark (run_of u) (Store w) steps.Run) own
       (subst (λ j. Doing n s x m m2 b c mark (Vcpu v j) (Store w) steps.Run) word d))
 
   pub run_effect : (p : Place) (a : Act) → Doing n s x m m2 b c mark p a steps.Run → Effect
@@ -100,14 +100,14 @@ module _ (n : Machine) (s : ℕ) (x : Step) (m m2 : Place → ℕ) (b c : Holdin
         hand = d.hand ∙ rw (now, word) refl;
       })
 
-  based_at : (v w : ℕ) → (v ≡ s) ⊎ MayEmpty n s v 7 w b → Doing n s x m m2 b c mark (Vcpu v 7) (Store w) steps.Context → Effect
+  based_at : (v w : ℕ) → (v ≡ s) ⊎ MayEmpty n s v 7 w b → Doing n s x m m2 b c mark (ldt_base_of v) (Store w) steps.Context → Effect
   based_at v w may d =
-      let now : m2 (Vcpu v 7) ≡ w = store_now _ _ _ _ _ _ _ _ (Vcpu v 7) w steps.Context d in
+      let now : m2 (ldt_base_of v) ≡ w = store_now _ _ _ _ _ _ _ _ (ldt_base_of v) w steps.Context d in
       based v
       (record {
-        wrote = wrote_by _ _ _ _ _ _ _ _ (Vcpu v 7) (Store w) steps.Context d;
+        wrote = wrote_by _ _ _ _ _ _ _ _ (ldt_base_of v) (Store w) steps.Context d;
         may = rw now may;
-        hand = d.hand ∙ ap (λ y. noted x (m (Vcpu v 7)) y) (same_if (v == s) b);
+        hand = d.hand ∙ ap (λ y. noted x (m (ldt_base_of v)) y) (same_if (v == s) b);
       })
 
   empty_at : (v k w : ℕ) → MayEmpty n s v k w b → Doing n s x m m2 b c mark (Vcpu v k) (Store w) steps.Context → Effect

@@ -2,9 +2,9 @@
 use Rattle.std.proofs.Common.{◌≡◌, ◌≢◌, ℕ, ◌+◌, ◌≤◌, List, [], ◌∷◌, Some, refl, sym, ◌∙◌, ap, arith, inl, inr, zero, suc}
 use Rattle.std.proofs.lemmas.Bool.{cases_eq}
 use Rattle.xp_board.specs.Lists.{one_at, first_by, without_by, changed_by, EachOf, times, with_more, with_fewer}
-use Rattle.xp_board.proofs.Sums.{when_eq, when_ne}
-use Rattle.xp_board.proofs.ListCounts.{times_by-without, times_by-cons_here, times_by-cons_other, times_by-without_other}
-use Rattle.xp_board.proofs.HandLists.{EachOf-map}
+use Rattle.board_lemmas.proofs.Sums.{when_eq, when_ne}
+use Rattle.board_lemmas.proofs.ListCounts.{times_by-without, times_by-cons_here, times_by-cons_other, times_by-without_other}
+use Rattle.board_lemmas.proofs.HandLists.{EachOf-map}
 
 -- ---- a list with the first element of a number changed
 pub first_by-changed_here : {A : Type 0} (key : A → ℕ) (f : ℕ) (change : A → A) (xs : List A) (e : A) → ((x : A) → key (change x) ≡ key x) → first_by key f xs ≡ Some e →

@@ -2,7 +2,7 @@
 -- (entries 0, 1, 0, 2), through which the guest then writes.
 use Rattle.std.proofs.Common.{◌≡◌, ℕ, true, false, refl, Option, None, Some, List, [], ◌∷◌, arith}
 use Rattle.xp_words.specs.Machine.{Machine}
-use Rattle.xp_words.specs.Places.{Vcpu, Cell, is_place, place_at}
+use Rattle.xp_words.specs.Places.{Vcpu, Cell, is_place, place_at, base_of}
 use Rattle.xp_words.specs.RefWords.{ref_read}
 use Rattle.xp_words.specs.KindWords.{kind_read, kind_fields, has_form}
 use Rattle.xp_words.specs.Entries.{demand_of, demand_at}
@@ -118,7 +118,7 @@ unfolding hands_of left_by times_by first_by without_by changed_by some_of first
 landed = refl
 
 -- ---- the steps
-legal2 : LegalMove machine 0 (hands_of machine 0 list1) (Vcpu 0 0) Load steps.Fill (Some (marks.Walk true))
+legal2 : LegalMove machine 0 (hands_of machine 0 list1) (base_of 0) Load steps.Fill (Some (marks.Walk true))
 unfolding hands_of left_by times_by first_by without_by changed_by some_of first_of kept_of place_at ref_read kind_read kind_fields has_form demand_of demand_at owner_of ref_count some_step last_since knows_owner knows_live knows_partial is_settled hand typed_hand is_place IsSpelling
 legal2 = record { place = refl; marked = tt; running = λ needs. refl; spelling = tt; act = (record { own = refl; word = refl; none = refl; warm = refl }, tt) }
 

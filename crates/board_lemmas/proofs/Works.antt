@@ -10,9 +10,9 @@ use Rattle.xp_board.specs.Readings.{kind_at, is_locked, is_dying}
 use Rattle.xp_board.specs.Hands.{works_on, work_on, locks_on, endings_of, claims_of}
 use Rattle.xp_board.specs.Recorded.{recorded_number, or_else, recorded_in, work_of, held, held_of}
 use Rattle.xp_board.specs.Sound.{is_busy, HeldAlone}
-use Rattle.xp_board.proofs.ListCounts.{first_by-none, first_by-some}
-use Rattle.xp_board.proofs.HandLists.{first-some}
-use Rattle.xp_board.proofs.Sums.{hands-part, hands-two, hands-some, bit_most, some_bit}
+use Rattle.board_lemmas.proofs.ListCounts.{first_by-none, first_by-some}
+use Rattle.board_lemmas.proofs.HandLists.{first-some}
+use Rattle.board_lemmas.proofs.Sums.{hands-part, hands-two, hands-some, bit_most, some_bit}
 
 pub recorded_in-none : (f : ℕ) (xs : List Work) → work_on f xs ≡ None → recorded_in xs f ≡ None
 unfolding recorded_in

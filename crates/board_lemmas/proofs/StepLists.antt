@@ -5,7 +5,7 @@ use Rattle.std.proofs.lemmas.Bool.Decides.{nat_tests}
 use Rattle.xp_words.specs.Places.{Sizes, Place, place_at}
 use Rattle.xp_board.specs.declared.holdings.Made.{Made}
 use Rattle.xp_board.specs.Steps.{EachStep, EachSince, is_at, left_of, some_step, some_since, some_before, some_between}
-use Rattle.xp_board.proofs.PlaceTests.{same_place}
+use Rattle.board_lemmas.proofs.PlaceTests.{same_place}
 
 -- the head passes, or one of the others
 pub head_or_tail : (test : ℕ → Made → Bool) (x : Made) (xs : List Made) → IsTrue (some_step test (x ∷ xs)) →

@@ -8,7 +8,7 @@ use Rattle.xp_words.specs.RefWords.{ref_read}
 use Rattle.xp_words.specs.KindWords.{kind_read}
 use Rattle.xp_words.specs.Entries.{demand_at}
 use Rattle.xp_words.specs.Machine.{Machine}
-use Rattle.xp_words.specs.Places.{Place, Clock, Pages, Life, Vcpu, Refs, Kind, M2p, Cell, Map, Priv, is_place, sizes_of}
+use Rattle.xp_words.specs.Places.{Place, Clock, Pages, Life, Vcpu, Refs, Kind, M2p, Cell, Map, Priv, is_place, sizes_of, ldt_base_of, asked_of, flushed_of, run_of}
 use Rattle.xp_board.specs.declared.step.Step.{Step}
 use Rattle.xp_board.specs.declared.step.StepKind.{StepKind}
 use Rattle.xp_board.specs.declared.step.StepKind.TheVariants as steps
@@ -267,28 +267,28 @@ pub record Named (n : Machine) (s : ℕ) (x : Step) (v k : ℕ) (m m2 : Place �
 
 -- the base of an LDT
 pub record Based (n : Machine) (s : ℕ) (x : Step) (v : ℕ) (m m2 : Place → ℕ) (b c : Holdings) : Type 0 where
-  pub wrote : Wrote n x (Vcpu v 7) steps.Context m m2 b
-  pub may : (v ≡ s) ⊎ MayEmpty n s v 7 (m2 (Vcpu v 7)) b
-  pub hand : c ≡ noted x (m (Vcpu v 7)) b
+  pub wrote : Wrote n x (ldt_base_of v) steps.Context m m2 b
+  pub may : (v ≡ s) ⊎ MayEmpty n s v 7 (m2 (ldt_base_of v)) b
+  pub hand : c ≡ noted x (m (ldt_base_of v)) b
 
 -- a vCPU is asked to flush
 pub record Asked (n : Machine) (x : Step) (v : ℕ) (m m2 : Place → ℕ) (b c : Holdings) : Type 0 where
-  pub wrote : Wrote n x (Vcpu v 4) steps.Ask m m2 b
+  pub wrote : Wrote n x (asked_of v) steps.Ask m m2 b
   pub value : ℕ
   pub may : MayAsk n v value b
-  pub hand : c ≡ noted x (m (Vcpu v 4)) b
+  pub hand : c ≡ noted x (m (asked_of v)) b
 
 -- the own translations are flushed
 pub record Flushed (n : Machine) (s : ℕ) (x : Step) (m m2 : Place → ℕ) (b c : Holdings) : Type 0 where
-  pub wrote : Wrote n x (Vcpu s 5) steps.Ack m m2 b
-  pub may : MayAck n s s 5 (m2 (Vcpu s 5)) b
-  pub hand : c ≡ noted x (m (Vcpu s 5)) (after_ack b)
+  pub wrote : Wrote n x (flushed_of s) steps.Ack m m2 b
+  pub may : MayAck n s s 5 (m2 (flushed_of s)) b
+  pub hand : c ≡ noted x (m (flushed_of s)) (after_ack b)
 
 -- the own vCPU stops, leaves its processor or comes to it
 pub record Ran (n : Machine) (s : ℕ) (x : Step) (m m2 : Place → ℕ) (b c : Holdings) : Type 0 where
-  pub wrote : Wrote n x (Vcpu s 6) steps.Run m m2 b
-  pub may : AllowsRun (m2 (Vcpu s 6)) b
-  pub hand : c ≡ noted x (m (Vcpu s 6)) (learned_own 6 (m2 (Vcpu s 6)) (ran_now (m2 (Vcpu s 6)) b))
+  pub wrote : Wrote n x (run_of s) steps.Run m m2 b
+  pub may : AllowsRun (m2 (run_of s)) b
+  pub hand : c ≡ noted x (m (run_of s)) (learned_own 6 (m2 (run_of s)) (ran_now (m2 (run_of s)) b))
 
 -- the clock goes one up
 pub record Ticked (n : Machine) (x : Step) (m m2 : Place → ℕ) (b c : Holdings) : Type 0 where

@@ -12,10 +12,10 @@ use Rattle.xp_board.specs.Readings.{kind_at, ref_count, type_count, is_closing}
 use Rattle.xp_board.specs.Hands.{refs_to}
 use Rattle.xp_board.specs.Recorded.{held, held_of, held_by_form}
 use Rattle.xp_board.specs.Sound.{Sound, is_busy}
-use Rattle.xp_board.proofs.Works.{in_works, held_free, held_mine}
-use Rattle.xp_board.proofs.Counted.{type_below, in_hand_counted}
-use Rattle.xp_board.proofs.WorkFacts.{works_facts}
-use Rattle.xp_board.proofs.KindForms.{marked_form, form_unlive}
+use Rattle.board_lemmas.proofs.Works.{in_works, held_free, held_mine}
+use Rattle.board_lemmas.proofs.Counted.{type_below, in_hand_counted}
+use Rattle.board_lemmas.proofs.WorkFacts.{works_facts}
+use Rattle.board_lemmas.proofs.KindForms.{marked_form, form_unlive}
 
 pub closing_counted : (n : Machine) (m : Place → ℕ) (h : ℕ → Holdings) (f : ℕ) → Sound n m h → is_closing (kind_at m f) ≡ true → is_busy (kind_at m f) ≡ true → 0 < ref_count (m (Refs f))
 closing_counted n m h f sound closing busy =

@@ -14,7 +14,7 @@ use Rattle.xp_board.specs.Reach.{Writes, cached, use_of, is_in_use}
 use Rattle.xp_board.specs.Fresh.{Belongs, Bears}
 use Rattle.xp_board.specs.Safe.{SafeAt}
 use Rattle.xp_board.specs.Sound.{Sound}
-use Rattle.xp_board.proofs.KindForms.{live_unmarked}
+use Rattle.board_lemmas.proofs.KindForms.{live_unmarked}
 
 unused_marked : (k : KindWord) → k.unflushed ≡ true → (k.validated ≡ true → k.unflushed ≡ false) → is_in_use k ≡ false
 unused_marked k marked live = elim (cases_Bool k.validated) [ inl hit ↦ absurd (let u = live hit in cc) | inr miss ↦ grind (arith, nat_tests) ]

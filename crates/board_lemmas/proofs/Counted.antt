@@ -11,13 +11,13 @@ use Rattle.xp_board.specs.Readings.{kind_at, is_context, ref_count, type_count, 
 use Rattle.xp_board.specs.Hands.{hand, typed_hand, refs_to, typed_to, locks_on}
 use Rattle.xp_board.specs.Recorded.{names, CountsAgree, work_of, held, held_of, names_typed, entry_demand, table_entries, entries, contexts}
 use Rattle.xp_board.specs.Sound.{Spelled}
-use Rattle.xp_board.proofs.Sums.{hands-part, hands-fewer, sum_below-fewer, one_at-same, sum_below-one, sum_below-part, sum_below-same}
+use Rattle.board_lemmas.proofs.Sums.{hands-part, hands-fewer, sum_below-fewer, one_at-same, sum_below-one, sum_below-part, sum_below-same}
 use Rattle.xp_words.specs.declared.kind.PageType.{PageType}
 use Rattle.xp_words.specs.declared.entry.Demand.{Demand}
 use Rattle.xp_board.specs.declared.holdings.Holdings.{Holdings}
 use Rattle.xp_board.specs.Sums.{sum_below}
 use Rattle.xp_board.specs.Lists.{one_at}
-use Rattle.xp_board.proofs.HeldByForm.{held_table}
+use Rattle.board_lemmas.proofs.HeldByForm.{held_table}
 
 table_entries-same : (c : Demand → ℕ) (m m2 : Place → ℕ) (o o2 : Option ℕ) (f : ℕ) → held_of (kind_at m2 f) o2 ≡ held_of (kind_at m f) o →
     ((i : ℕ) → i < held_of (kind_at m f) o → entry_demand m2 f i ≡ entry_demand m f i) → table_entries c m2 o2 f ≡ table_entries c m o f

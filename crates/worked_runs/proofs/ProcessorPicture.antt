@@ -1,7 +1,7 @@
 -- A worked picture: a vCPU leaves its processor and comes to it again, cold until it has flushed.
 use Rattle.std.proofs.Common.{◌≡◌, ℕ, true, false, refl, Option, None, Some, List, [], ◌∷◌, arith, inl, inr}
 use Rattle.xp_words.specs.Machine.{Machine}
-use Rattle.xp_words.specs.Places.{Vcpu, is_place, place_at}
+use Rattle.xp_words.specs.Places.{Vcpu, is_place, place_at, run_of, flushed_of}
 use Rattle.xp_words.specs.RefWords.{ref_read}
 use Rattle.xp_words.specs.KindWords.{kind_read, kind_fields, has_form}
 use Rattle.xp_words.specs.Entries.{demand_of, demand_at}
@@ -91,7 +91,7 @@ unfolding hands_of left_by times_by first_by without_by changed_by some_of first
 warm = refl
 
 -- ---- the steps
-legal2 : LegalMove machine 0 (hands_of machine 0 list1) (Vcpu 0 6) (Store 2) steps.Run None
+legal2 : LegalMove machine 0 (hands_of machine 0 list1) (run_of 0) (Store 2) steps.Run None
 unfolding hands_of left_by times_by first_by without_by changed_by some_of first_of kept_of place_at ref_read kind_read kind_fields has_form demand_of demand_at owner_of ref_count some_step last_since knows_owner knows_live knows_partial is_settled hand typed_hand is_place IsSpelling
 legal2 =
     record {
@@ -123,7 +123,7 @@ legal2 =
       );
     }
 
-legal3 : LegalMove machine 0 (hands_of machine 0 list2) (Vcpu 0 6) (Store 0) steps.Run None
+legal3 : LegalMove machine 0 (hands_of machine 0 list2) (run_of 0) (Store 0) steps.Run None
 unfolding hands_of left_by times_by first_by without_by changed_by some_of first_of kept_of place_at ref_read kind_read kind_fields has_form demand_of demand_at owner_of ref_count some_step last_since knows_owner knows_live knows_partial is_settled hand typed_hand is_place IsSpelling
 legal3 =
     record {
@@ -134,7 +134,7 @@ legal3 =
       act = (refl, refl, inr (inr (refl, record { off = refl; landed = refl })));
     }
 
-legal6 : LegalMove machine 0 (hands_of machine 0 list5) (Vcpu 0 5) (Store 21) steps.Ack None
+legal6 : LegalMove machine 0 (hands_of machine 0 list5) (flushed_of 0) (Store 21) steps.Ack None
 unfolding hands_of left_by times_by first_by without_by changed_by some_of first_of kept_of place_at ref_read kind_read kind_fields has_form demand_of demand_at owner_of ref_count some_step last_since knows_owner knows_live knows_partial is_settled hand typed_hand is_place IsSpelling
 legal6 =
     record {

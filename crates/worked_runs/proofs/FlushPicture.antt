@@ -2,7 +2,7 @@
 -- vCPUs 0 and 1 are of domain 0, which owns the frame; vCPU 2 is of domain 1.
 use Rattle.std.proofs.Common.{◌≡◌, ℕ, refl, Option, None, Some, List, [], ◌∷◌, arith, inl, inr, zero, suc}
 use Rattle.xp_words.specs.Machine.{Machine}
-use Rattle.xp_words.specs.Places.{Vcpu, Kind, is_place, place_at}
+use Rattle.xp_words.specs.Places.{Vcpu, Kind, is_place, place_at, asked_of}
 use Rattle.xp_words.specs.RefWords.{ref_read}
 use Rattle.xp_words.specs.KindWords.{kind_read, kind_fields, has_form}
 use Rattle.xp_words.specs.Entries.{demand_of, demand_at}
@@ -138,7 +138,7 @@ legal3 : LegalMove machine 0 (hands_of machine 0 list2) (Kind 5) (Cas 3152519739
 unfolding hands_of left_by times_by first_by without_by changed_by some_of first_of kept_of place_at ref_read kind_read kind_fields has_form demand_of demand_at owner_of ref_count some_step last_since knows_owner knows_live knows_partial is_settled hand typed_hand is_place IsSpelling
 legal3 = record { place = refl; marked = tt; running = λ needs. refl; spelling = refl; act = record { dead = refl; wanted = refl; left = refl; in_hand = omega arith } }
 
-legal6 : LegalMove machine 0 (hands_of machine 0 list5) (Vcpu 1 4) (Max 7) steps.Ask None
+legal6 : LegalMove machine 0 (hands_of machine 0 list5) (asked_of 1) (Max 7) steps.Ask None
 unfolding hands_of left_by times_by first_by without_by changed_by some_of first_of kept_of place_at ref_read kind_read kind_fields has_form demand_of demand_at owner_of ref_count some_step last_since knows_owner knows_live knows_partial is_settled hand typed_hand is_place IsSpelling
 legal6 =
     record {

@@ -20,8 +20,8 @@ use Rattle.xp_board.specs.Hands.{work_on}
 use Rattle.xp_board.specs.RefSteps.{MayRaise, MayClear, MayLower, AllowsRef, AllowsRefStore, Raise, Clear, ref_row, after_ref_row, after_ref_store, one_down}
 use Rattle.xp_board.specs.KindSteps.{AllowsKind, kind_row, after_kind_row, still_looking, unlocked_down, form_of, AllowsKindStore, after_kind_store}
 use Rattle.xp_board.specs.After.{noted}
-use Rattle.xp_board.proofs.Doing.{Doing, wrote_by, lost_words, lost_left, now_by, store_now, when_found, when_lost}
-use Rattle.xp_board.proofs.ActEffects.{Wrote, ActEffect, looked, raised, cleared, took, lowered, freed_frame, gave, turned, missed, dropped_type, unlocked_table, stored}
+use Rattle.step_effects.proofs.Doing.{Doing, wrote_by, lost_words, lost_left, now_by, store_now, when_found, when_lost}
+use Rattle.step_effects.proofs.ActEffects.{Wrote, ActEffect, looked, raised, cleared, took, lowered, freed_frame, gave, turned, missed, dropped_type, unlocked_table, stored}
 
 -- a word that is a spelling has these fields
 pub fields_of : (w : ℕ) (k : KindWord) → kind_read w ≡ Some k → kind_fields w ≡ k

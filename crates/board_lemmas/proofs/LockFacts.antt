@@ -19,10 +19,10 @@ use Rattle.xp_board.specs.Found.{LockFound}
 use Rattle.xp_board.specs.WellFormed.{IsLockFormed, SeenIs}
 use Rattle.xp_board.specs.Recorded.{HasType, entry_demand}
 use Rattle.xp_board.specs.Sound.{Sound}
-use Rattle.xp_board.proofs.EntryWords.{entry_asks_same, same_demand}
-use Rattle.xp_board.proofs.ListCounts.{EachOf-found}
-use Rattle.xp_board.proofs.HandLists.{first-some}
-use Rattle.xp_board.proofs.Works.{is_locked-mine}
+use Rattle.board_lemmas.proofs.EntryWords.{entry_asks_same, same_demand}
+use Rattle.board_lemmas.proofs.ListCounts.{EachOf-found}
+use Rattle.board_lemmas.proofs.HandLists.{first-some}
+use Rattle.board_lemmas.proofs.Works.{is_locked-mine}
 
 -- the lock e of seat s on table f
 pub record Locks (n : Machine) (m : Place → ℕ) (h : ℕ → Holdings) (s f : ℕ) (e : Lock) : Type 0 where

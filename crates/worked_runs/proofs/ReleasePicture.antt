@@ -2,7 +2,7 @@
 -- left into the first old word.
 use Rattle.std.proofs.Common.{◌≡◌, ℕ, refl, Option, None, Some, List, [], ◌∷◌, arith, inl, inr}
 use Rattle.xp_words.specs.Machine.{Machine}
-use Rattle.xp_words.specs.Places.{Clock, Vcpu, Refs, Kind, is_place, place_at}
+use Rattle.xp_words.specs.Places.{Clock, Vcpu, Refs, Kind, is_place, place_at, old0_of}
 use Rattle.xp_words.specs.RefWords.{ref_read}
 use Rattle.xp_words.specs.KindWords.{kind_read, kind_fields, has_form}
 use Rattle.xp_words.specs.Entries.{demand_of, demand_at}
@@ -183,7 +183,7 @@ legal8 =
       };
     }
 
-legal9 : LegalMove machine 0 (hands_of machine 0 list8) (Vcpu 0 2) (Store 6) steps.Context None
+legal9 : LegalMove machine 0 (hands_of machine 0 list8) (old0_of 0) (Store 6) steps.Context None
 unfolding hands_of left_by times_by first_by without_by changed_by some_of first_of kept_of place_at ref_read kind_read kind_fields has_form demand_of demand_at owner_of ref_count some_step last_since knows_owner knows_live knows_partial is_settled hand typed_hand is_place IsSpelling with_more with_fewer
 legal9 =
     record {

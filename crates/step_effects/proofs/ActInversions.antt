@@ -10,12 +10,12 @@ use Rattle.xp_board.specs.declared.step.StepKind.TheVariants as steps
 use Rattle.xp_board.specs.declared.holdings.Holdings.{Holdings}
 use Rattle.xp_board.specs.Runs.{place_of}
 use Rattle.xp_board.specs.Keeping.{MayAct, Acted}
-use Rattle.xp_board.proofs.ActEffects.{ActEffect}
-use Rattle.xp_board.proofs.Doing.{Doing}
-use Rattle.xp_board.proofs.WordInversions.{look_effect, map_effect, tick_effect, pages_effect, priv_effect, life_effect, hint_effect}
-use Rattle.xp_board.proofs.VcpuInversions.{ask_effect, ack_effect, run_effect, context_effect}
-use Rattle.xp_board.proofs.CellInversions.{cell_effect, guest_effect, fill_effect, touch_effect}
-use Rattle.xp_board.proofs.FrameInversions.{ref_effect, kind_effect}
+use Rattle.step_effects.proofs.ActEffects.{ActEffect}
+use Rattle.step_effects.proofs.Doing.{Doing}
+use Rattle.step_effects.proofs.WordInversions.{look_effect, map_effect, tick_effect, pages_effect, priv_effect, life_effect, hint_effect}
+use Rattle.step_effects.proofs.VcpuInversions.{ask_effect, ack_effect, run_effect, context_effect}
+use Rattle.step_effects.proofs.CellInversions.{cell_effect, guest_effect, fill_effect, touch_effect}
+use Rattle.step_effects.proofs.FrameInversions.{ref_effect, kind_effect}
 
 module _ (n : Machine) (s : ℕ) (x : Step) (m m2 : Place → ℕ) (b c : Holdings) (mark : Option Mark) where
   effect_by : (sort : StepKind) (p : Place) (a : Act) → Doing n s x m m2 b c mark p a sort → ActEffect n s x m m2 b c

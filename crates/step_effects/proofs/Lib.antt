@@ -1,0 +1,8 @@
+pub mod ActEffects
+pub mod Doing
+mod WordInversions
+mod VcpuInversions
+pub mod FrameInversions
+pub mod ActInversions
+mod CellInversions
+pub mod MarkEffects

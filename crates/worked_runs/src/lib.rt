@@ -1,0 +1,3 @@
+//! Runs of steps that the check computes on the definitions themselves, word for word and hand for hand. They stand in
+//! `proofs/`; there is nothing to call.
+#![tactic(auto)]
