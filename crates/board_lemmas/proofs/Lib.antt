@@ -17,3 +17,4 @@ pub mod HeldByForm
 pub mod Bits
 pub mod EntryWords
 pub mod Numbers
+pub mod Noted

@@ -22,7 +22,7 @@ use Rattle.xp_board.specs.Found.{WorkFound}
 use Rattle.xp_board.specs.Reach.{Table}
 use Rattle.xp_board.specs.Sound.{Sound}
 use Rattle.step_effects.proofs.ActEffects.{Filled}
-use Rattle.found_rule.proofs.PlaceTests.{equal_refl}
+use Rattle.board_lemmas.proofs.PlaceTests.{equal_refl}
 use Rattle.found_rule.proofs.StepLists.{EachOf-all, first_by-each, first_by-key, first_by-some}
 use Rattle.found_rule.proofs.Learning.{Act, act}
 use Rattle.found_rule.proofs.Counted.{typed_ref_counted, types_within, held_dying, dying_uncounted, dying_elsewhere, counted_alive, work_elsewhere, work_busy, busy_cases, not_locked}

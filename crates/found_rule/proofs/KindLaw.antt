@@ -20,7 +20,7 @@ use Rattle.xp_board.specs.KindSteps.{new_work}
 use Rattle.xp_board.specs.Found.{WorkFound, LockFound, EndingFound, ClaimFound}
 use Rattle.xp_board.specs.WellFormed.{LastIs, IsWorkFormed, IsLockFormed, IsLookingFormed}
 use Rattle.xp_board.specs.Sound.{Sound}
-use Rattle.found_rule.proofs.PlaceTests.{equal_refl, is_same-by}
+use Rattle.board_lemmas.proofs.PlaceTests.{equal_refl, is_same-by}
 use Rattle.found_rule.proofs.StepLists.{EachOf-map, EachOf-there, first_by-each, first_by-key}
 use Rattle.found_rule.proofs.Growth.{Grown, added}
 use Rattle.found_rule.proofs.Learning.{CellsLearned, cells_off, cells_at, Act}

@@ -15,7 +15,7 @@ use Rattle.xp_board.specs.Lists.{some_of, EachOf}
 use Rattle.xp_board.specs.Readings.{kind_at, owner_of, is_number, is_live, is_type}
 use Rattle.xp_board.specs.Knowledge.{tells_owner, knows_owner, tells_live, knows_live, tells_partial, passes, knows_partial}
 use Rattle.xp_board.specs.Found.{OwnersFound, LivesFound, PartialsFound}
-use Rattle.found_rule.proofs.PlaceTests.{equal_refl}
+use Rattle.board_lemmas.proofs.PlaceTests.{equal_refl}
 use Rattle.found_rule.proofs.StepLists.{EachOf-map, EachOf-both}
 
 -- ---- some element of a list tells, and each that tells is right

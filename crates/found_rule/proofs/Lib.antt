@@ -1,4 +1,3 @@
-pub mod PlaceTests
 pub mod StepLists
 pub mod MoreSteps
 pub mod Growth

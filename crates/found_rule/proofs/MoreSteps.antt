@@ -6,7 +6,7 @@ use Rattle.xp_words.specs.Places.{Sizes, Place, place_at}
 use Rattle.xp_board.specs.declared.holdings.Made.{Made}
 use Rattle.xp_board.specs.Lists.{EachOf}
 use Rattle.xp_board.specs.Steps.{is_at, left_of, some_step, some_since, last_since, EachStep, EachSince, steps_before}
-use Rattle.found_rule.proofs.PlaceTests.{is_same-refl, is_same-by, same_place, is_same-other}
+use Rattle.board_lemmas.proofs.PlaceTests.{is_same-refl, is_same-by, same_place, is_same-other}
 
 -- ---- some step
 pub some_step-more : (test : ℕ → Made → Bool) (x : Made) (xs : List Made) → IsTrue (some_step test xs) → IsTrue (some_step test (x ∷ xs))

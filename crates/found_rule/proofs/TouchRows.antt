@@ -19,7 +19,7 @@ use Rattle.xp_board.specs.Found.{is_same_entry, is_same_cell, without_bits}
 use Rattle.xp_board.specs.WellFormed.{TouchesIn}
 use Rattle.xp_board.specs.Sound.{Sound}
 use Rattle.step_effects.proofs.ActEffects.{Touched}
-use Rattle.found_rule.proofs.PlaceTests.{equal_refl}
+use Rattle.board_lemmas.proofs.PlaceTests.{equal_refl}
 use Rattle.found_rule.proofs.Learning.{act}
 use Rattle.found_rule.proofs.WordsOf.{CellSpared, words_cell}
 use Rattle.found_rule.proofs.EntryBits.{touched_alike}

@@ -10,8 +10,7 @@ use Rattle.xp_board.specs.Readings.{kind_at, owner_of, told_value, has_now, has_
 use Rattle.xp_board.specs.Hands.{works_on, locks_on, claims_of}
 use Rattle.xp_board.specs.Found.{is_known_inside, is_same_cell, is_same_entry, without_bits}
 use Rattle.xp_board.specs.Sound.{Sound}
-use Rattle.board_lemmas.proofs.PlaceTests.{same_or_other}
-use Rattle.found_rule.proofs.PlaceTests.{equal_refl}
+use Rattle.board_lemmas.proofs.PlaceTests.{same_or_other, equal_refl}
 use Rattle.found_rule.proofs.StepLists.{EachOf-all, EachOf-map}
 use Rattle.found_rule.proofs.SoundWords.{had}
 use Rattle.found_rule.proofs.HandFacts.{cell_refl}

@@ -2,3 +2,4 @@ mod RestCounts
 mod RestParts
 mod RunLaws
 mod Halves
+pub mod OwnRun

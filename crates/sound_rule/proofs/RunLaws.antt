@@ -5,6 +5,7 @@ use Rattle.std.proofs.lemmas.Bool.Decides.{nat_tests}
 use Rattle.xp_words.specs.Machine.{Machine}
 use Rattle.xp_words.specs.Places.{Sizes, Place, Priv, sizes_of, place_at, is_place, memory, number, size, first_priv}
 use Rattle.xp_words.proofs.PlaceLaws.{memory_same, memory_other, place_there}
+use Rattle.board_lemmas.proofs.Numbers.{place_number, place_inside}
 use Rattle.xp_board.specs.declared.step.Step.{Step}
 use Rattle.xp_board.specs.declared.holdings.Holdings.{Holdings}
 use Rattle.xp_board.specs.Legal.{Legal}
@@ -13,22 +14,6 @@ use Rattle.xp_board.specs.Runs.{State, Stepped, Run, next, place_of, word_at}
 use Rattle.xp_board.specs.Sound.{Sound, SoundState, seat_of}
 use Rattle.xp_board.specs.Acts.{left_by}
 use Rattle.xp_board.specs.After.{after}
-
--- ---- a number past the last word is no place's
-past_last : (z : Sizes) (n : ℕ) → nat_lt n (first_priv z) ≡ false → place_at z n ≡ Priv (n - first_priv z)
-unfolding place_at
-past_last z n h = grind (arith, nat_tests)
-
-inside_by : (z : Sizes) (n : ℕ) (b : Bool) → nat_lt n (first_priv z) ≡ b → IsTrue (is_place z (place_at z n)) → n < size z
-unfolding is_place size
-inside_by z n true e h = grind (arith, nat_tests)
-inside_by z n false e h = let k : IsTrue (is_place z (Priv (n - first_priv z))) = subst (λ p. IsTrue (is_place z p)) (past_last z n e) h in grind (arith, nat_tests)
-
-place_inside : (z : Sizes) (n : ℕ) → IsTrue (is_place z (place_at z n)) → n < size z
-place_inside z n h = inside_by z n (nat_lt n (first_priv z)) refl h
-
-place_number : (z : Sizes) (n : ℕ) → IsTrue (is_place z (place_at z n)) → number z (place_at z n) ≡ n
-place_number z n h = (place_there z n (place_inside z n h)).1
 
 -- ---- words and seats after a store
 stored_here : (z : Sizes) (words : List ℕ) (i w : ℕ) → IsTrue (is_place z (place_at z i)) → length words ≡ size z →

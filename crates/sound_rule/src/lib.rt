@@ -2,9 +2,9 @@
 //! safe. These functions do nothing: their contracts are laws.
 #![tactic(auto)]
 
-ghost use Rattle.std.specs.Prelude.{◌≡◌, ℕ, ◌<◌, List, [], None};
+ghost use Rattle.std.specs.Prelude.{◌≡◌, ℕ, ◌<◌, List, [], Some, None};
 ghost use Rattle.xp_words.specs.Machine.{Machine};
-ghost use Rattle.xp_words.specs.Places.{Place, sizes_of, memory};
+ghost use Rattle.xp_words.specs.Places.{Place, sizes_of, memory, run_of};
 ghost use Rattle.xp_board.specs.declared.step.Step.{Step};
 ghost use Rattle.xp_board.specs.declared.holdings.Holdings.{Holdings};
 ghost use Rattle.xp_board.specs.Hands.{IsEmptyHand};
@@ -66,4 +66,20 @@ pub fn rested_words_are_sound()
         SoundWords n words }
 {
     empty_hands_are_well_formed();
+}
+
+/// So are those under which each vCPU has found, or left, its own run word as that of a stopped one.
+pub fn stopped_words_are_sound()
+    ensures { (n : Machine) (words : List ℕ) (seats : List Holdings) → SoundState n words seats → ((s : ℕ) → s < (sizes_of n).vcpus → (seat_of seats s).run ≡ Some 1) →
+        SoundWords n words }
+{
+    rested_words_are_sound();
+}
+
+/// As long as a vCPU has not looked at its own run word, that word is as it was when the run began.
+pub fn an_unseen_run_word_stays()
+    ensures { (n : Machine) (a b : State) (log : List (ℕ × Step)) (s : ℕ) → SoundState n a.words a.seats → s < (sizes_of n).vcpus → Run n a log b → (seat_of b.seats s).run ≡ None →
+        memory (sizes_of n) b.words (run_of s) ≡ memory (sizes_of n) a.words (run_of s) }
+{
+    every_run_stays_sound();
 }

@@ -1,7 +1,7 @@
 -- Fresh after an act that changes no word but a cell.
 use Rattle.std.proofs.Common.{◌≡◌, ◌≢◌, ℕ, ◌<◌, inl, inr, sym, ◌∙◌, ap, subst}
 use Rattle.xp_words.specs.Machine.{Machine}
-use Rattle.xp_words.specs.Places.{sizes_of, Place, Clock, Vcpu, Refs, Kind, Cell, Priv, flushed_of}
+use Rattle.xp_words.specs.Places.{sizes_of, Place, Clock, Refs, Kind, Cell, Priv, flushed_of}
 use Rattle.xp_board.specs.declared.step.Step.{Step}
 use Rattle.xp_board.specs.declared.step.StepKind.{StepKind}
 use Rattle.xp_board.specs.declared.step.Item.{Item}

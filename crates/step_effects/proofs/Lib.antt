@@ -6,3 +6,4 @@ pub mod FrameInversions
 pub mod ActInversions
 mod CellInversions
 pub mod MarkEffects
+pub mod RunWords

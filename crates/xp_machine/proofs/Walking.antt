@@ -16,76 +16,16 @@ use Rattle.xp_board.specs.declared.holdings.Holdings.{Holdings}
 use Rattle.xp_board.specs.Acts.{left_by}
 use Rattle.xp_board.specs.After.{after}
 use Rattle.xp_board.specs.Hands.{empty}
-use Rattle.xp_board.specs.Legal.{Legal, LegalAs, LegalNow}
+use Rattle.xp_board.specs.Legal.{Legal}
 use Rattle.xp_board.specs.Marks.{after_mark}
 use Rattle.xp_board.specs.Runs as runs
 use Rattle.xp_board.specs.Runs.{place_of, word_at}
 use Rattle.xp_board.specs.Sound.{seat_of}
 use Rattle.xp_board.specs.Told.{Post, PortValue, Story, IsTold, tells, stepped, Went}
-use Rattle.board_lemmas.proofs.PlaceTests.{same_or_other}
 use Rattle.xp_board.proofs.Going.{went_post}
-use Rattle.board_lemmas.proofs.Numbers.{place_number}
+use Rattle.sound_rule.proofs.OwnRun.{others_run}
 use Rattle.shared_board.specs.Board.{state_of}
 use Rattle.xp_machine.specs.Pieces.{Piece, log_by}
-
--- ---- the run words of the others
-run_kept : (n : Machine) (s t : ℕ) (h : Holdings) (act : Act) (mark : Option Mark) (by : StepKind) (w : ℕ) → t ≢ s → LegalAs n s h (run_of t) act mark by → left_by act w ≡ w
-unfolding left_by
-run_kept n s t h Load mark by w off legal = refl
-run_kept n s t h act mark steps.Ref w off legal = absurd legal
-run_kept n s t h act mark steps.Kind w off legal = absurd legal
-run_kept n s t h act mark steps.Cell w off legal = absurd legal
-run_kept n s t h act mark steps.M2p w off legal = absurd legal
-run_kept n s t h act mark steps.Pages w off legal = absurd legal
-run_kept n s t h act mark steps.Guest w off legal = absurd legal
-run_kept n s t h act mark steps.Tick w off legal = absurd legal
-run_kept n s t h act mark steps.Life w off legal = absurd legal
-run_kept n s t h act mark steps.Hint w off legal = absurd legal
-run_kept n s t h act mark steps.Touch w off legal = absurd legal
-run_kept n s t h act mark steps.Priv w off legal = absurd legal
-run_kept n s t h (Cas x y) mark steps.Look w off legal = absurd legal
-run_kept n s t h (Store x) mark steps.Look w off legal = absurd legal
-run_kept n s t h (Add x) mark steps.Look w off legal = absurd legal
-run_kept n s t h (Max x) mark steps.Look w off legal = absurd legal
-run_kept n s t h (Cas x y) mark steps.Fill w off legal = absurd legal
-run_kept n s t h (Store x) mark steps.Fill w off legal = absurd legal
-run_kept n s t h (Add x) mark steps.Fill w off legal = absurd legal
-run_kept n s t h (Max x) mark steps.Fill w off legal = absurd legal
-run_kept n s t h (Cas x y) mark steps.Context w off legal = absurd legal
-run_kept n s t h (Store x) mark steps.Context w off (inl named) = absurd (off named.own)
-run_kept n s t h (Store x) mark steps.Context w off (inr (inl based)) = absurd (off based.own)
-run_kept n s t h (Store x) mark steps.Context w off (inr (inr emptied)) = absurd (let e = emptied.word in cc)
-run_kept n s t h (Add x) mark steps.Context w off legal = absurd legal
-run_kept n s t h (Max x) mark steps.Context w off legal = absurd legal
-run_kept n s t h (Cas x y) mark steps.Ack w off legal = absurd legal
-run_kept n s t h (Store x) mark steps.Ack w off legal = absurd (off legal.own)
-run_kept n s t h (Add x) mark steps.Ack w off legal = absurd legal
-run_kept n s t h (Max x) mark steps.Ack w off legal = absurd legal
-run_kept n s t h (Cas x y) mark steps.Run w off legal = absurd legal
-run_kept n s t h (Store x) mark steps.Run w off legal = absurd (off legal.0)
-run_kept n s t h (Add x) mark steps.Run w off legal = absurd legal
-run_kept n s t h (Max x) mark steps.Run w off legal = absurd legal
-run_kept n s t h (Cas x y) mark steps.Ask w off legal = absurd legal
-run_kept n s t h (Store x) mark steps.Ask w off legal = absurd legal
-run_kept n s t h (Add x) mark steps.Ask w off legal = absurd legal
-run_kept n s t h (Max x) mark steps.Ask w off legal = absurd (let e = legal.0 in omega arith)
-
--- no vCPU changes the run word of another one
-others_run : (n : Machine) (s t : ℕ) (h : Holdings) (words : List ℕ) (x : Made) → t ≢ s → Legal n s h x.step → length words ≡ size (sizes_of n) → memory (sizes_of n) words (place_of n x.step) ≡ x.found →
-    memory (sizes_of n) (slice_set words x.step.place (left_by x.step.act x.found)) (run_of t) ≡ memory (sizes_of n) words (run_of t)
-others_run n s t h words x off legal whole found =
-    let left = left_by x.step.act x.found in
-    let here = ap (λ i. memory (sizes_of n) (set words i left) (run_of t)) (sym (place_number (sizes_of n) x.step.place legal.place)) in
-    elim (same_or_other (run_of t) (place_of n x.step)) [
-      | inr away ↦ here ∙ memory_other (sizes_of n) words (place_of n x.step) (run_of t) left legal.place away
-      | inl at ↦
-          let kept : left ≡ x.found =
-          run_kept n s t (after_mark n x.step.mark h) x.step.act x.step.mark x.step.kind x.found off
-          (subst (λ q. LegalAs n s (after_mark n x.step.mark h) q x.step.act x.step.mark x.step.kind) (sym at) legal.act) in
-          here
-          ∙ subst (λ q. memory (sizes_of n) (set words (number (sizes_of n) (place_of n x.step)) left) q ≡ memory (sizes_of n) words q) (sym at)
-          (memory_same (sizes_of n) words (place_of n x.step) left legal.place whole ∙ kept ∙ sym found)
-    ]
 
 -- ---- one step
 record One (n : Machine) (s : ℕ) (a : Story) (w : PortValue) (x : Made) : Type 0 where
@@ -101,21 +41,21 @@ record One (n : Machine) (s : ℕ) (a : Story) (w : PortValue) (x : Made) : Type
   run : (t : ℕ) → t ≢ s → memory (sizes_of n) b.words (run_of t) ≡ memory (sizes_of n) a.words (run_of t)
 
 one_step : (u w : PortValue) (x : Made) (c : Story) → u.told ≡ Some c → u.holdings ≡ seat_of c.seats u.post.seat → u.post.seat < length c.seats →
-    u.post.seat < (sizes_of u.post.machine).vcpus → LegalNow u.post.machine u.post.seat u.holdings x.step → IsTold u.post.machine u.told (place_of u.post.machine x.step) x.found →
+    u.post.seat < (sizes_of u.post.machine).vcpus → Legal u.post.machine u.post.seat u.holdings x.step → IsTold u.post.machine u.told (place_of u.post.machine x.step) x.found →
     w ≡ stepped u x.step x.found → One u.post.machine u.post.seat c w x
 one_step u w x c told hand there real legal found to =
     let n = u.post.machine in
     let s = u.post.seat in
     let h : Holdings = after n s u.holdings x.step x.found in
     let is : IsTold n (Some c) (place_of n x.step) x.found = subst (λ o. IsTold n o (place_of n x.step) x.found) told found in
-    let legal' : LegalNow n s (seat_of c.seats s) x.step = subst (λ y. LegalNow n s y x.step) hand legal in
+    let legal' : Legal n s (seat_of c.seats s) x.step = subst (λ y. Legal n s y x.step) hand legal in
     record {
       b = record { opening = c.opening; log = (s, x.step) ∷ c.log; words = slice_set c.words x.step.place (left_by x.step.act x.found); seats = slice_set c.seats s h };
       told = ap (λ (y : PortValue). y.told) to ∙ ap (λ o. tells s x.step x.found h o) told;
       holdings = ap (λ (y : PortValue). y.holdings) to ∙ sym (get_or-set_same c.seats s h empty there);
       moves = record {
         seat = real;
-        legal = legal'.legal;
+        legal = legal';
         next_is = λ k. record {
           words = slice_set c.words x.step.place (left_by x.step.act (sym is.1 k));
           seats = slice_set c.seats s (after n s (hand k) x.step (sym is.1 k));
@@ -126,7 +66,7 @@ one_step u w x c told hand there real legal found to =
       log = refl;
       seats = length-set c.seats s h;
       others = λ t off. get_or-set_other c.seats s t h empty off;
-      run = λ t off. others_run n s t (seat_of c.seats s) c.words x off legal'.legal is.0 is.1;
+      run = λ t off. others_run n s t (seat_of c.seats s) c.words x off legal' is.0 is.1;
     }
 
 -- ---- all of them
