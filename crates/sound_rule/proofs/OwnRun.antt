@@ -95,9 +95,11 @@ one_more n s t x c b sound_c sound_b real move none =
 
 -- as long as a seat has not looked at its run word, that word is as it opened
 pub own_run : RunsSound → (n : Machine) (a b : runs.State) (log : List (ℕ × Step)) (s : ℕ) → SoundState n a.words a.seats → s < (sizes_of n).vcpus → runs.Run n a log b → (seat_of b.seats s).run ≡ None →
-    memory (sizes_of n) b.words (run_of s) ≡ memory (sizes_of n) a.words (run_of s)
-own_run law n a b [] s begun real run none = ap (λ (c : runs.State). memory (sizes_of n) c.words (run_of s)) run
+    ((seat_of a.seats s).run ≡ None) × (memory (sizes_of n) b.words (run_of s) ≡ memory (sizes_of n) a.words (run_of s))
+own_run law n a b [] s begun real run none =
+    (ap (λ (c : runs.State). (seat_of c.seats s).run) (sym run) ∙ none, ap (λ (c : runs.State). memory (sizes_of n) c.words (run_of s)) run)
 own_run law n a b (e ∷ es) s begun real run none =
     let c = run.0 in
     let more = one_more n s e.0 e.1 c b (law n a c es run.1 begun) (law n a b (e ∷ es) run begun) real run.2 none in
-    more.1 ∙ own_run law n a c es s begun real run.1 more.0
+    let before = own_run law n a c es s begun real run.1 more.0 in
+    (before.0, more.1 ∙ before.1)

@@ -76,10 +76,10 @@ pub fn stopped_words_are_sound()
     rested_words_are_sound();
 }
 
-/// As long as a vCPU has not looked at its own run word, that word is as it was when the run began.
+/// As long as a vCPU has not looked at its own run word, that word is as it was when the run began; and it had not looked at it then.
 pub fn an_unseen_run_word_stays()
     ensures { (n : Machine) (a b : State) (log : List (ℕ × Step)) (s : ℕ) → SoundState n a.words a.seats → s < (sizes_of n).vcpus → Run n a log b → (seat_of b.seats s).run ≡ None →
-        memory (sizes_of n) b.words (run_of s) ≡ memory (sizes_of n) a.words (run_of s) }
+        ((seat_of a.seats s).run ≡ None) × (memory (sizes_of n) b.words (run_of s) ≡ memory (sizes_of n) a.words (run_of s)) }
 {
     every_run_stays_sound();
 }
