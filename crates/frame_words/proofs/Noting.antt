@@ -1,43 +1,14 @@
 -- A step of a port is noted in the hand, and the steps before it stay there.
-use Rattle.std.proofs.Common.{◌≡◌, ℕ, ◌<◌, ◌≤◌, ◌==◌, ◌&&◌, ◌||◌, not, nat_le, nat_lt, if◌then◌else◌, Bool, true, false, List, ◌∷◌, length, Option, Some, None, IsTrue, refl, sym, ap, ◌∙◌, subst, arith}
+use Rattle.std.proofs.Common.{◌≡◌, ℕ, ◌<◌, ◌≤◌, ◌&&◌, ◌||◌, nat_le, nat_lt, Bool, true, List, ◌∷◌, length, Option, IsTrue, refl, sym, ap, ◌∙◌, subst, arith}
 use Rattle.std.proofs.lemmas.Bool.Decides.{nat_tests}
-use Rattle.xp_words.specs.declared.kind.KindWord.{KindWord}
-use Rattle.xp_words.specs.declared.refs.RefWord.{RefWord}
-use Rattle.xp_words.specs.declared.refs.RefWord.TheVariants.{Free}
-use Rattle.xp_words.specs.KindWords.{kind_fields}
-use Rattle.xp_words.specs.RefWords.{ref_read}
-use Rattle.xp_words.specs.Machine.{Machine}
-use Rattle.xp_words.specs.Places.{Place, Clock, Pages, Life, Vcpu, Refs, Kind, M2p, Cell, Map, Priv, sizes_of, place_at}
+use Rattle.xp_words.specs.Places.{Place, sizes_of, place_at}
 use Rattle.xp_board.specs.declared.step.Act.{Act}
-use Rattle.xp_board.specs.declared.step.Act.TheVariants.{Cas, Store, Add}
 use Rattle.xp_board.specs.declared.step.Mark.{Mark}
-use Rattle.xp_board.specs.declared.step.Mark.TheVariants as marks
 use Rattle.xp_board.specs.declared.step.Step.{Step}
-use Rattle.xp_board.specs.declared.step.StepKind.{StepKind}
-use Rattle.xp_board.specs.declared.step.StepKind.TheVariants as steps
-use Rattle.xp_board.specs.declared.holdings.Lock.{Lock}
-use Rattle.xp_board.specs.declared.holdings.Work.{Work}
 use Rattle.xp_board.specs.declared.holdings.Made.{Made}
-use Rattle.xp_board.specs.declared.holdings.Holdings.{Holdings}
 use Rattle.xp_board.specs.Acts.{left_by}
-use Rattle.xp_board.specs.After.{learned, after_act, after_move}
-use Rattle.xp_board.specs.CellSteps.{keeps_demand, exchanged, after_cell}
-use Rattle.xp_board.specs.ContextSteps.{after_context, named_out}
-use Rattle.xp_board.specs.Hands.{work_on, lock_on}
-use Rattle.xp_board.specs.HintSteps.{after_hint}
-use Rattle.xp_board.specs.KindSteps.{KindRow, Count, Locks, Pin, Unpin, Resume, TakeBack, Begin, Form, Live, Partial, InWork, Dead, form_of, kind_row, after_kind_row, still_looking, after_form, after_kind_store, after_kind}
-use Rattle.xp_words.specs.Entries.{is_bit, frame_of}
-use Rattle.xp_board.specs.declared.holdings.Walk.{Walk}
-use Rattle.xp_board.specs.FillSteps as fill
-use Rattle.xp_board.specs.TouchSteps as touch
-use Rattle.xp_board.specs.Marks.{after_mark, recorded, shed}
-use Rattle.xp_board.specs.PagesSteps.{after_pages}
-use Rattle.xp_board.specs.Readings.{is_context}
-use Rattle.xp_board.specs.RefSteps.{RefRow, Raise, Clear, Claim, NoRefRow, ref_row, after_ref_row, after_ref_store, after_ref}
-use Rattle.xp_board.specs.RunSteps.{after_run}
 use Rattle.xp_board.specs.Steps.{is_same, some_step, some_since, some_before}
 use Rattle.xp_board.specs.Told.{PortValue}
-use Rattle.board_lemmas.proofs.HandParts.{beside_out, beside_in, beside_named_in, beside_named_out, beside_learned, beside_ran}
 use Rattle.board_lemmas.proofs.StepLists.{one_more}
 use Rattle.frame_words.specs.Pieces.{Makes}
 use Rattle.board_lemmas.proofs.Noted.{move_steps}

@@ -1,7 +1,7 @@
 -- The own vCPU is stopped: when that is legal, and what it leaves in hand.
 use Rattle.std.proofs.Common.{◌≡◌, ℕ, ◌<◌, length, Some, None, refl, sym, ap, ◌∙◌, subst, inl, lit<, add-one}
 use Rattle.xp_words.specs.Machine.{Machine}
-use Rattle.xp_words.specs.Places.{Vcpu, sizes_of, place_at, run_of}
+use Rattle.xp_words.specs.Places.{sizes_of, place_at, run_of}
 use Rattle.xp_board.specs.declared.step.Act.TheVariants.{Store}
 use Rattle.xp_board.specs.declared.step.Step.{Step}
 use Rattle.xp_board.specs.declared.step.StepKind.TheVariants as steps

@@ -14,10 +14,6 @@ use Rattle.xp_board.specs.Sound.{HeldAlone, FreeMap}
 use Rattle.board_lemmas.proofs.Sums.{sum_below-same}
 use Rattle.board_lemmas.proofs.Works.{work_of-none}
 
--- nothing in hand, no translations and no walk
-abbrev pub IsRested : Holdings → Type 0
-IsRested u = IsEmptyHand u × (u.cache ≡ []) × (u.walk ≡ None)
-
 -- no seat holds anything
 abbrev pub Nobody : ℕ → Holdings
 Nobody s = empty
@@ -43,14 +39,14 @@ unfolding recorded_in first_by
 recorded_nobody f = refl
 
 -- ---- all hands
-module _ (n : Machine) (m : Place → ℕ) (h : ℕ → Holdings) (rest : (s : ℕ) → s < (sizes_of n).vcpus → IsRested (h s)) where
+module _ (n : Machine) (m : Place → ℕ) (h : ℕ → Holdings) (rest : (s : ℕ) → s < (sizes_of n).vcpus → IsEmptyHand (h s)) where
   hands_rested : (c : Holdings → ℕ) → ((u : Holdings) → IsEmptyHand u → c u ≡ c empty) → hands c (sizes_of n) h ≡ hands c (sizes_of n) Nobody
   unfolding hands
-  hands_rested c e = sum_below-same (sizes_of n).vcpus (λ s. c (h s)) (λ s. c empty) (λ s b. e (h s) (rest s b).0)
+  hands_rested c e = sum_below-same (sizes_of n).vcpus (λ s. c (h s)) (λ s. c empty) (λ s b. e (h s) (rest s b))
 
   work_rested : (f : ℕ) → work_of (sizes_of n).vcpus h f ≡ work_of (sizes_of n).vcpus Nobody f
   work_rested f =
-      work_of-none (sizes_of n).vcpus h f (λ s b. recorded_rested f (h s) (rest s b).0) ∙ sym (work_of-none (sizes_of n).vcpus Nobody f (λ s b. recorded_nobody f))
+      work_of-none (sizes_of n).vcpus h f (λ s b. recorded_rested f (h s) (rest s b)) ∙ sym (work_of-none (sizes_of n).vcpus Nobody f (λ s b. recorded_nobody f))
 
   pub held_rested : (f : ℕ) → held (sizes_of n) m h f ≡ held (sizes_of n) m Nobody f
   held_rested f = ap (λ o. held_of (kind_at m f) o) (work_rested f)

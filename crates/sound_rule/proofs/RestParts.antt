@@ -7,7 +7,7 @@ use Rattle.xp_board.specs.declared.holdings.Work.{Work}
 use Rattle.xp_board.specs.declared.holdings.Holdings.{Holdings}
 use Rattle.xp_board.specs.Lists.{first_by, some_of, EachOf, Member}
 use Rattle.xp_board.specs.Steps.{some_step, EachStep, steps_before}
-use Rattle.xp_board.specs.Hands.{work_on, empty}
+use Rattle.xp_board.specs.Hands.{IsEmptyHand, work_on, empty}
 use Rattle.xp_board.specs.Knowledge.{knows_owner, knows_live, knows_partial}
 use Rattle.xp_board.specs.Valid.{LeadsWell, Valid, Permitted}
 use Rattle.xp_board.specs.Reach.{Use, Reach, cached, walked, entry}
@@ -15,7 +15,7 @@ use Rattle.xp_board.specs.Fresh.{Fresh}
 use Rattle.xp_board.specs.Found.{Found}
 use Rattle.xp_board.specs.WellFormed.{WellFormed}
 use Rattle.xp_board.specs.Sound.{WorkAgrees, Idle, KeptForNobody, DeadDomain, DyingDomain, Domains, Sound, SoundState, SoundWords, seat_of}
-use Rattle.sound_rule.proofs.RestCounts.{IsRested, Nobody, held_rested, counts_rested, alone_rested, map_rested}
+use Rattle.sound_rule.proofs.RestCounts.{Nobody, held_rested, counts_rested, alone_rested, map_rested}
 use Rattle.xp_board.proofs.Empty.{empty_own_found}
 
 -- ---- an empty hand reaches nothing
@@ -94,13 +94,13 @@ no_looking : (looks : List Looking) (e : Looking) → looks ≡ [] → Member e 
 unfolding Member
 no_looking looks e r k = subst (λ xs. Member e xs) r k
 
-module _ (n : Machine) (m : Place → ℕ) (h : ℕ → Holdings) (rest : (s : ℕ) → s < (sizes_of n).vcpus → IsRested (h s)) where
+module _ (n : Machine) (m : Place → ℕ) (h : ℕ → Holdings) (rest : (s : ℕ) → s < (sizes_of n).vcpus → IsEmptyHand (h s)) where
   -- ---- what entries lead to
   leads_rested : (f i g : ℕ) → LeadsWell (sizes_of n) m h f i g → LeadsWell (sizes_of n) m Nobody f i g
   leads_rested f i g (inl live) = inl live
   leads_rested f i g (inr (form, inl last)) = inr (form, inl last)
   leads_rested f i g (inr (form, inr open_yet)) =
-      absurd (no_work f (h open_yet.seat).works open_yet.work (rest open_yet.seat open_yet.real).0.works open_yet.here)
+      absurd (no_work f (h open_yet.seat).works open_yet.work (rest open_yet.seat open_yet.real).works open_yet.here)
 
   valid_rested : Valid (sizes_of n) m h → Valid (sizes_of n) m Nobody
   valid_rested t =
@@ -123,7 +123,7 @@ module _ (n : Machine) (m : Place → ℕ) (h : ℕ → Holdings) (rest : (s : �
   kept_rested : (d f : ℕ) → KeptForNobody n m h d f → KeptForNobody n m Nobody d f
   kept_rested d f (inl unkept) = inl unkept
   kept_rested d f (inr looked) =
-      absurd (no_looking (h looked.seat).looking looked.looking (rest looked.seat looked.real).0.looking looked.here)
+      absurd (no_looking (h looked.seat).looking looked.looking (rest looked.seat looked.real).looking looked.here)
 
   dead_rested : (d : ℕ) → DeadDomain n m h d → DeadDomain n m Nobody d
   dead_rested d t =
@@ -159,7 +159,7 @@ module _ (n : Machine) (m : Place → ℕ) (h : ℕ → Holdings) (rest : (s : �
       }
 
 pub words_rested : ((n : Machine) (s : ℕ) → WellFormed n s empty) → (n : Machine) (words : List ℕ) (seats : List Holdings) → SoundState n words seats →
-    ((s : ℕ) → s < (sizes_of n).vcpus → IsRested (seat_of seats s)) → SoundWords n words
+    ((s : ℕ) → s < (sizes_of n).vcpus → IsEmptyHand (seat_of seats s)) → SoundWords n words
 words_rested formed n words seats state rest =
     record {
       all_words = state.all_words;

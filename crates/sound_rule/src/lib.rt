@@ -2,7 +2,7 @@
 //! safe. These functions do nothing: their contracts are laws.
 #![tactic(auto)]
 
-ghost use Rattle.std.specs.Prelude.{◌≡◌, ℕ, ◌<◌, List, [], Some, None};
+ghost use Rattle.std.specs.Prelude.{◌≡◌, ℕ, ◌<◌, List, None};
 ghost use Rattle.xp_words.specs.Machine.{Machine};
 ghost use Rattle.xp_words.specs.Places.{Place, sizes_of, memory, run_of};
 ghost use Rattle.xp_board.specs.declared.step.Step.{Step};
@@ -59,21 +59,11 @@ pub fn a_run_leaves_it_safe()
     a_sound_machine_is_safe();
 }
 
-/// Where no seat holds anything, and none has translations, the words are sound by themselves: a machine may begin with them.
+/// Where no seat holds anything, the words are sound by themselves, whatever translations there are: a machine may begin with them.
 pub fn rested_words_are_sound()
-    ensures { (n : Machine) (words : List ℕ) (seats : List Holdings) → SoundState n words seats →
-        ((s : ℕ) → s < (sizes_of n).vcpus → IsEmptyHand (seat_of seats s) × ((seat_of seats s).cache ≡ []) × ((seat_of seats s).walk ≡ None)) →
-        SoundWords n words }
+    ensures { (n : Machine) (words : List ℕ) (seats : List Holdings) → SoundState n words seats → ((s : ℕ) → s < (sizes_of n).vcpus → IsEmptyHand (seat_of seats s)) → SoundWords n words }
 {
     empty_hands_are_well_formed();
-}
-
-/// So are those under which each vCPU has found, or left, its own run word as that of a stopped one.
-pub fn stopped_words_are_sound()
-    ensures { (n : Machine) (words : List ℕ) (seats : List Holdings) → SoundState n words seats → ((s : ℕ) → s < (sizes_of n).vcpus → (seat_of seats s).run ≡ Some 1) →
-        SoundWords n words }
-{
-    rested_words_are_sound();
 }
 
 /// As long as a vCPU has not looked at its own run word, that word is as it was when the run began; and it had not looked at it then.

@@ -51,6 +51,14 @@ stepped v x found =
     let h = after v.post.machine v.post.seat v.holdings x found in
     record { post = v.post; holdings = h; told = tells v.post.seat x found h v.told }
 
+-- the own run word: as it was last found or left, or else as the vCPU opened
+abbrev pub run_or : ℕ → Option ℕ → ℕ
+run_or opened None = opened
+run_or opened (Some w) = w
+
+abbrev pub own_run : PortValue → ℕ
+own_run v = run_or v.post.run v.holdings.run
+
 -- the word found is that which the board told, and all words are told
 abbrev pub IsTold : Machine → Option Story → Place → ℕ → Type 0
 IsTold n None p found = Unit {0}

@@ -1,4 +1,4 @@
-ghost use Rattle.std.specs.Prelude.{◌≡◌, ◌<◌, None, IfSome, length};
+ghost use Rattle.std.specs.Prelude.{◌≡◌, ◌<◌, IfSome, length};
 
 use crate::step::{Item, Step};
 use xp_words::Layout;
@@ -9,7 +9,7 @@ pub trait Port {
     ghost use Rattle.xp_words.specs.Machine.{IsMachine};
     ghost use Rattle.xp_words.specs.Places.{place_at, sizes_of, run_of};
     ghost use Rattle.xp_board.specs.Legal.{Legal};
-    ghost use Rattle.xp_board.specs.Told.{PortValue, stepped, IsTold, Finds, Goes, Saw, cached_item};
+    ghost use Rattle.xp_board.specs.Told.{PortValue, stepped, IsTold, Finds, Goes, Saw, cached_item, own_run};
 
     /// The port as contracts see it.
     ghost value: { Self → PortValue };
@@ -29,14 +29,14 @@ pub trait Port {
         ensures newest { result ≡ cached_item user page (value self.now).holdings.cache }
         ensures inside { IfSome result (λ x. x.frame < (value self.now).post.machine.frames) };
 
-    /// Makes one step, and answers the word that it found. Where the vCPU has not looked at its own run word yet, that
-    /// word is the one with which it opened.
+    /// Makes one step, and answers the word that it found. At the own run word that is the one which the vCPU last found
+    /// or left there, and before its first look the one with which it opened.
     fn step(&mut self, step: Step) -> u64
         requires { Legal (value self.old).post.machine (value self.old).post.seat (value self.old).holdings step }
         ensures value { value self.new ≡ stepped (value self.old) step result }
         ensures goes { Goes (value self.old) (value self.new) }
         ensures saw { Saw (value self.old) (value self.new) (place_at (sizes_of (value self.old).post.machine) step.place) result }
         ensures found { Finds (value self.old).post.machine (value self.old).post.seat (value self.old).holdings (place_at (sizes_of (value self.old).post.machine) step.place) result }
-        ensures own { (value self.old).holdings.run ≡ None → place_at (sizes_of (value self.old).post.machine) step.place ≡ run_of (value self.old).post.seat → result ≡ (value self.old).post.run }
+        ensures own { place_at (sizes_of (value self.old).post.machine) step.place ≡ run_of (value self.old).post.seat → result ≡ own_run (value self.old) }
         ensures told { IsTold (value self.old).post.machine (value self.old).told (place_at (sizes_of (value self.old).post.machine) step.place) result };
 }
