@@ -2,7 +2,7 @@
 use Rattle.std.proofs.Common.{◌≡◌, ℕ, ◌+◌, ◌<◌, ◌≤◌, nat_lt, List, [], ◌∷◌, length, Some, None, Ok, Err, IsTrue, refl, sym, ap, ◌∙◌, subst, inl, arith}
 use Rattle.std.proofs.lemmas.Bool.{or_right}
 use Rattle.xp_words.specs.KindWords.{kind_fields}
-use Rattle.xp_words.specs.Places.{Clock, Vcpu, sizes_of}
+use Rattle.xp_words.specs.Places.{Clock, sizes_of, flushed_of}
 use Rattle.xp_words.specs.declared.reply.Refusal.{Refusal}
 use Rattle.xp_board.specs.declared.step.Act.TheVariants.{Load, Cas, Store}
 use Rattle.xp_board.specs.declared.holdings.Made.{Made}
@@ -59,26 +59,26 @@ module _ (u w : PortValue) (a : Awaited) (marked : IsMarked u.post.machine a.fra
       let more = longer in
       let late : (kind_fields e.word).number < to = subst (λ c. c < to) (sym (stamp_is u.post.machine a.frame a.owner a.stamp u.holdings e marked before)) past_stamp in
       inl (or_right _ _
-      (subst (λ (q : Post). IsTrue (some_since (sizes_of q.machine) e.since (Vcpu u.post.seat 5) (λ y. nat_lt (kind_fields e.word).number y) w.holdings.steps)) ticked_post
-      (makes_since f.ticked w (Vcpu u.post.seat 5) (Store to) None f.before f.ack e.since (λ y. nat_lt (kind_fields e.word).number y) (omega (arith, since, more)) (later _ to late))))
+      (subst (λ (q : Post). IsTrue (some_since (sizes_of q.machine) e.since (flushed_of u.post.seat) (λ y. nat_lt (kind_fields e.word).number y) w.holdings.steps)) ticked_post
+      (makes_since f.ticked w (flushed_of u.post.seat) (Store to) None f.before f.ack e.since (λ y. nat_lt (kind_fields e.word).number y) (omega (arith, since, more)) (later _ to late))))
 
   pub own_flushed : Looks u w a u.post.seat (Ok None)
   own_flushed =
-      let all = flushes_both u f.ticked w a.frame _ _ two_steps (makes_flushes f.ticked w (Vcpu u.post.seat 5) (Store to) f.before f.ack a.frame refl refl) in
-      let acked = made_of f.ticked w (Vcpu u.post.seat 5) (Store to) f.before f.ack ∷ [] in
-      let had = subst (λ (q : Post). HadAct q.machine (Vcpu u.post.seat 5) (Store to) f.before acked) ticked_post (makes_act f.ticked w (Vcpu u.post.seat 5) (Store to) f.before f.ack) in
+      let all = flushes_both u f.ticked w a.frame _ _ two_steps (makes_flushes f.ticked w (flushed_of u.post.seat) (Store to) f.before f.ack a.frame refl refl) in
+      let acked = made_of f.ticked w (flushed_of u.post.seat) (Store to) f.before f.ack ∷ [] in
+      let had = subst (λ (q : Post). HadAct q.machine (flushed_of u.post.seat) (Store to) f.before acked) ticked_post (makes_act f.ticked w (flushed_of u.post.seat) (Store to) f.before f.ack) in
       record {
-        made = made_of f.ticked w (Vcpu u.post.seat 5) (Store to) f.before f.ack ∷ ticks;
+        made = made_of f.ticked w (flushed_of u.post.seat) (Store to) f.before f.ack ∷ ticks;
         piece = all.piece;
         flushes = all.flushes;
         shows = (
-          FoundClear.own to f.before refl (act_later u.post.machine (Vcpu u.post.seat 5) (Store to) f.before ticks acked had) past_stamp,
+          FoundClear.own to f.before refl (act_later u.post.machine (flushed_of u.post.seat) (Store to) f.before ticks acked had) past_stamp,
           past_own,
         );
         hand = whole_flushed _ _ flushed;
       }
 
-module _ (v u w : PortValue) (a : Awaited) (x : ℕ) (look : Makes v u (Vcpu v.post.seat 5) Load None x) (same : SameHand v.holdings u.holdings) (post : u.post ≡ v.post) where
+module _ (v u w : PortValue) (a : Awaited) (x : ℕ) (look : Makes v u (flushed_of v.post.seat) Load None x) (same : SameHand v.holdings u.holdings) (post : u.post ≡ v.post) where
   -- flushed after the look
   pub then_flushed : IsMarked v.post.machine a.frame a.owner a.stamp v.holdings → FlushesOwn u w → Flushed u.holdings w.holdings → Looks v w a v.post.seat (Ok None)
   then_flushed marked f flushed =
@@ -90,7 +90,7 @@ module _ (v u w : PortValue) (a : Awaited) (x : ℕ) (look : Makes v u (Vcpu v.p
   pub then_refused : (r : Refusal) → x ≤ a.stamp → FindsLast u w r → SameHand u.holdings w.holdings → Looks v w a v.post.seat (Err r)
   then_refused r behind last again =
       let n = v.post.machine in
-      let looked = made_of v u (Vcpu v.post.seat 5) Load x look ∷ [] in
+      let looked = made_of v u (flushed_of v.post.seat) Load x look ∷ [] in
       let told = made_of u w Clock Load last_clock last.look ∷ [] in
       let all = flushes_both v u w a.frame _ _ (vcpu_look v u v.post.seat 5 x a.frame look) (makes_flushes u w Clock Load last_clock last.look a.frame refl refl) in
       let had_clock = subst (λ (q : Post). Had q.machine Clock last_clock told) post (makes_had u w Clock Load last_clock last.look) in
@@ -104,7 +104,7 @@ module _ (v u w : PortValue) (a : Awaited) (x : ℕ) (look : Makes v u (Vcpu v.p
               record {
                 flushed = x;
                 behind = behind;
-                had_flushed = had_earlier n (Vcpu v.post.seat 5) x looked told (makes_had v u (Vcpu v.post.seat 5) Load x look);
+                had_flushed = had_earlier n (flushed_of v.post.seat) x looked told (makes_had v u (flushed_of v.post.seat) Load x look);
                 had_clock = had_later n Clock last_clock looked told had_clock;
               },
             );

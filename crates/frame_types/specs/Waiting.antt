@@ -2,7 +2,7 @@
 use Rattle.std.specs.Prelude.{◌≡◌, ◌≢◌, ◌⊎◌, ℕ, ◌<◌, ◌≤◌, ◌||◌, not, true, List, [], length, Some, Result, Ok, Err, IsTrue}
 use Rattle.xp_words.specs.Machine.{Machine}
 use Rattle.xp_words.specs.KindWords.{kind_fields}
-use Rattle.xp_words.specs.Places.{Clock, Vcpu, Priv, sizes_of, run_of, flushed_of, asked_of}
+use Rattle.xp_words.specs.Places.{Clock, Priv, sizes_of, run_of, flushed_of, asked_of}
 use Rattle.xp_words.specs.declared.reply.Stop.{Stop}
 use Rattle.xp_words.specs.declared.reply.Stop.TheVariants.{Refused, Paused}
 use Rattle.xp_words.specs.declared.reply.Refusal.TheVariants as refusals

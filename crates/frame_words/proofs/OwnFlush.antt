@@ -2,7 +2,7 @@
 use Rattle.std.proofs.Common.{◌≡◌, ◌≢◌, ℕ, ◌+◌, ◌<◌, ◌≤◌, ◌==◌, nat_lt, true, [], ◌∷◌, ◌++◌, List, length, Option, None, IsTrue, refl, sym, ap, ◌∙◌, subst, arith}
 use Rattle.std.proofs.lemmas.Bool.Decides.{nat_tests}
 use Rattle.xp_words.specs.Machine.{Machine}
-use Rattle.xp_words.specs.Places.{Sizes, Place, Clock, Vcpu, sizes_of, place_at}
+use Rattle.xp_words.specs.Places.{Sizes, Place, Clock, sizes_of, place_at, flushed_of}
 use Rattle.xp_board.specs.declared.step.Act.{Act}
 use Rattle.xp_board.specs.declared.step.Mark.{Mark}
 use Rattle.xp_board.specs.declared.step.Act.TheVariants.{Load, Cas, Store}
@@ -97,7 +97,7 @@ module _ (v u t : PortValue) (c f x : ℕ) (look : Makes v u Clock Load None c) 
   pub flush_landed : v.holdings.walk ≡ None → t.holdings.walk ≡ None
   flush_landed landed = after.rest.walk ∙ before.rest.walk ∙ landed
 
-  pub flushes_own : (w : PortValue) (was : ℕ) → c < last_clock → Makes t w (Vcpu t.post.seat 5) (Store x) None was → FlushesOwn v w
+  pub flushes_own : (w : PortValue) (was : ℕ) → c < last_clock → Makes t w (flushed_of t.post.seat) (Store x) None was → FlushesOwn v w
   flushes_own w was below ack =
       record {
         looked = u;
@@ -110,7 +110,7 @@ module _ (v u t : PortValue) (c f x : ℕ) (look : Makes v u Clock Load None c) 
         below = below;
         tick = tick;
         greater = greater_by c f (clock_later v u c f look post again);
-        ack = subst (λ y. Makes t w (Vcpu v.post.seat 5) (Store y) None was) to (subst (λ (q : Post). Makes t w (Vcpu q.seat 5) (Store x) None was) (later ∙ post) ack);
+        ack = subst (λ y. Makes t w (flushed_of v.post.seat) (Store y) None was) to (subst (λ (q : Post). Makes t w (flushed_of q.seat) (Store x) None was) (later ∙ post) ack);
       }
 
   pub flushed_hand : (k : Holdings) → Flushed t.holdings k → Flushed v.holdings k

@@ -2,7 +2,7 @@
 use Rattle.std.specs.Prelude.{◌≡◌, ℕ, ◌+◌, ◌<◌, ◌==◌, not, if◌then◌else◌, false, [], length, None, Result, Ok, Err}
 use Rattle.xp_words.specs.declared.reply.Refusal.{Refusal}
 use Rattle.xp_words.specs.declared.reply.Refusal.TheVariants as refusals
-use Rattle.xp_words.specs.Places.{Clock, Vcpu}
+use Rattle.xp_words.specs.Places.{Clock, flushed_of}
 use Rattle.xp_board.specs.declared.step.Act.TheVariants.{Load, Cas, Store}
 use Rattle.xp_board.specs.declared.holdings.Holdings.{Holdings}
 use Rattle.xp_board.specs.Lists.{kept_of}
@@ -69,7 +69,7 @@ pub record FlushesOwn (v w : PortValue) : Type 0 where
   pub below : clock < last_clock
   pub tick : Makes looked ticked Clock (Cas clock (clock + 1)) None found
   pub greater : clock < flushed_to clock found
-  pub ack : Makes ticked w (Vcpu v.post.seat 5) (Store (flushed_to clock found)) None before
+  pub ack : Makes ticked w (flushed_of v.post.seat) (Store (flushed_to clock found)) None before
 
 -- the clock was found to be at its last value
 pub record FindsLast (v w : PortValue) (r : Refusal) : Type 0 where

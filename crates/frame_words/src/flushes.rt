@@ -1,6 +1,6 @@
 //! The clock, flushes and what they await, and the words of a domain, one step each.
 ghost use Rattle.std.specs.Prelude.{◌≡◌, ◌≢◌, ◌+◌, ◌==◌, ◌<◌, nat_lt, true, length, Some, None, IfErr, MatchResult, IsTrue};
-ghost use Rattle.xp_words.specs.Places.{Clock, Vcpu, Life, Priv, sizes_of, flushed_of, run_of, asked_of};
+ghost use Rattle.xp_words.specs.Places.{Clock, Life, Priv, sizes_of, flushed_of, run_of, asked_of};
 ghost use Rattle.xp_board.specs.AskSteps.{MayAsk};
 ghost use Rattle.xp_board.specs.Readings.{last_clock};
 ghost use Rattle.xp_board.specs.Steps.{some_since};
@@ -103,7 +103,7 @@ pub fn flush<P: Port>(port: &mut P, clock: u64) -> u64
     requires warmed { (P.value port.old).holdings.cold ≡ true → IsTrue (some_since (sizes_of (P.value port.old).post.machine) (P.value port.old).holdings.ran Clock (λ w. nat_lt w clock) (P.value port.old).holdings.steps) }
     requires landed { (P.value port.old).holdings.walk ≡ None }
     ensures post { (P.value port.new).post ≡ (P.value port.old).post }
-    ensures made { Makes (P.value port.old) (P.value port.new) (Vcpu (P.value port.old).post.seat 5) (Store clock) None result }
+    ensures made { Makes (P.value port.old) (P.value port.new) (flushed_of (P.value port.old).post.seat) (Store clock) None result }
     ensures hand { Flushed (P.value port.old).holdings (P.value port.new).holdings }
 {
     let seat = port.seat();

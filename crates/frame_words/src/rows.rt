@@ -1,11 +1,11 @@
 //! One step each. All but `raise_refs` answer the word that was found.
 ghost use Rattle.std.specs.Prelude.{◌≡◌, ◌≢◌, ◌+◌, ◌^◌, ◌<◌, true, Some, None, IfErr, MatchResult, length};
-ghost use Rattle.xp_words.specs.Places.{Clock, Vcpu, Refs, Kind, M2p};
+ghost use Rattle.xp_words.specs.Places.{Clock, Refs, Kind, M2p, asked_of, run_of};
 ghost use Rattle.xp_words.specs.RefWords.{ref_read};
 ghost use Rattle.xp_words.specs.declared.refs.RefWord.TheVariants.{Owned};
 ghost use Rattle.xp_board.specs.Hands.{hand, refs_to};
 ghost use Rattle.xp_board.specs.RefSteps.{SparesClosing, one_down};
-ghost use Rattle.xp_board.specs.Told.{Finds, is_telling, told_word};
+ghost use Rattle.xp_board.specs.Told.{Finds, is_telling, told_word, own_run};
 ghost use Rattle.xp_board.specs.declared.step.Act.TheVariants.{Load, Cas, Store, Add};
 ghost use Rattle.xp_board.specs.declared.step.Mark.TheVariants.{Cut, Turn};
 ghost use Rattle.frame_words.specs.Hands.{SameHand, BegunTurn, FoundRun, TookRef, GaveRef};
@@ -70,7 +70,7 @@ pub fn end_answer<P: Port>(port: &mut P, call: u32) -> u64
 /// A turn begins: whether the vCPU was asked to flush.
 pub fn begin_turn<P: Port>(port: &mut P) -> u64
     ensures post { (P.value port.new).post ≡ (P.value port.old).post }
-    ensures made { Makes (P.value port.old) (P.value port.new) (Vcpu (P.value port.old).post.seat 4) Load (Some Turn) result }
+    ensures made { Makes (P.value port.old) (P.value port.new) (asked_of (P.value port.old).post.seat) Load (Some Turn) result }
     ensures hand { BegunTurn (P.value port.old).holdings (P.value port.new).holdings }
 {
     let seat = port.seat();
@@ -81,9 +81,8 @@ pub fn begin_turn<P: Port>(port: &mut P) -> u64
 /// Loads the own run word.
 pub fn look_run<P: Port>(port: &mut P) -> u64
     ensures post { (P.value port.new).post ≡ (P.value port.old).post }
-    ensures made { Makes (P.value port.old) (P.value port.new) (Vcpu (P.value port.old).post.seat 6) Load None result }
-    ensures found { Finds (P.value port.old).post.machine (P.value port.old).post.seat (P.value port.old).holdings (Vcpu (P.value port.old).post.seat 6) result }
-    ensures told { is_telling (P.value port.old) ≡ true → told_word (P.value port.old) (Vcpu (P.value port.old).post.seat 6) ≡ result }
+    ensures made { Makes (P.value port.old) (P.value port.new) (run_of (P.value port.old).post.seat) Load None result }
+    ensures own { result ≡ own_run (P.value port.old) }
     ensures hand { FoundRun result (P.value port.old).holdings (P.value port.new).holdings }
 {
     let seat = port.seat();

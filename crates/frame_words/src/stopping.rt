@@ -1,5 +1,5 @@
 ghost use Rattle.std.specs.Prelude.{◌≡◌, None};
-ghost use Rattle.xp_words.specs.Places.{Vcpu};
+ghost use Rattle.xp_words.specs.Places.{run_of};
 ghost use Rattle.xp_board.specs.Hands.{IsEmptyHand};
 ghost use Rattle.xp_board.specs.declared.step.Act.TheVariants.{Store};
 ghost use Rattle.frame_words.specs.Hands.{Stopped};
@@ -16,7 +16,7 @@ pub fn stop_vcpu<P: Port>(port: &mut P) -> u64
     requires empty { IsEmptyHand (P.value port.old).holdings }
     requires landed { (P.value port.old).holdings.walk ≡ None }
     ensures post { (P.value port.new).post ≡ (P.value port.old).post }
-    ensures made { Makes (P.value port.old) (P.value port.new) (Vcpu (P.value port.old).post.seat 6) (Store 1) None result }
+    ensures made { Makes (P.value port.old) (P.value port.new) (run_of (P.value port.old).post.seat) (Store 1) None result }
     ensures hand { Stopped (P.value port.old).holdings (P.value port.new).holdings }
 {
     let seat = port.seat();

@@ -2,7 +2,7 @@
 use Rattle.std.proofs.Common.{◌≡◌, ◌≢◌, ℕ, ◌<◌, ◌≤◌, ◌==◌, ◌||◌, if◌then◌else◌, false, List, [], ◌∷◌, Some, None, IsTrue, refl, sym, ap, ◌∙◌, subst, inl, inr, arith}
 use Rattle.std.proofs.lemmas.Bool.Decides.{nat_tests}
 use Rattle.xp_words.specs.Machine.{Machine}
-use Rattle.xp_words.specs.Places.{Place, Clock, Vcpu, flushed_of}
+use Rattle.xp_words.specs.Places.{Place, Clock, Vcpu, flushed_of, run_of, asked_of}
 use Rattle.xp_board.specs.declared.step.Act.{Act}
 use Rattle.xp_board.specs.declared.step.Act.TheVariants.{Load, Store}
 use Rattle.xp_board.specs.declared.step.Mark.TheVariants.{Turn}
@@ -29,7 +29,6 @@ pub record Begun (v w : PortValue) (made : List Made) : Type 0 where
   pub went : Went v made w
   pub first : BeginsTurn made
   pub own : EachOf (λ x. IsTrue (is_load x.step.act || is_own_flush v.post.seat (place_of v.post.machine x.step))) made
-  pub run_told : told_word w (Vcpu v.post.seat 6) ≡ told_word v (Vcpu v.post.seat 6)
 
 pub own_by : (n : Machine) (s : ℕ) (x : Made) (p : Place) (a : Act) → place_of n x.step ≡ p → x.step.act ≡ a → IsTrue (is_load a || is_own_flush s p) →
     IsTrue (is_load x.step.act || is_own_flush s (place_of n x.step))
@@ -39,14 +38,13 @@ own_by n s x p a at act own =
 pub place_from : (v u : PortValue) (p : Place) (x : Made) → u.post ≡ v.post → place_of u.post.machine x.step ≡ p → place_of v.post.machine x.step ≡ p
 place_from v u p x post at = subst (λ (q : Post). place_of q.machine x.step ≡ p) post at
 
-pub begun_first : (v u : PortValue) (x : ℕ) (m : Makes v u (Vcpu v.post.seat 4) Load (Some Turn) x) → Begun v u (made_now m.step x ∷ [])
+pub begun_first : (v u : PortValue) (x : ℕ) (m : Makes v u (asked_of v.post.seat) Load (Some Turn) x) → Begun v u (made_now m.step x ∷ [])
 unfolding EachOf
 begun_first v u x m =
     record {
       went = m.went;
       first = m.mark_is;
-      own = (own_by v.post.machine v.post.seat (made_now m.step x) (Vcpu v.post.seat 4) Load m.place m.act refl, tt);
-      run_told = makes_elsewhere v u (Vcpu v.post.seat 4) Load (Some Turn) x m (Vcpu v.post.seat 6) (λ e. absurd (cc));
+      own = (own_by v.post.machine v.post.seat (made_now m.step x) (asked_of v.post.seat) Load m.place m.act refl, tt);
     }
 
 pub turn_more : (x : Made) (xs : List Made) → x.step.mark ≡ None → BeginsTurn xs → BeginsTurn (x ∷ xs)
@@ -54,14 +52,13 @@ turn_more x [] is b = absurd b
 turn_more x (y ∷ ys) is b = (is, b)
 
 pub begun_more : (v u w : PortValue) (p : Place) (a : Act) (x : ℕ) (made : List Made) (m : Makes u w p a None x) → u.post ≡ v.post → Begun v u made →
-    IsTrue (is_load a || is_own_flush v.post.seat p) → Vcpu v.post.seat 6 ≢ p → Begun v w (made_now m.step x ∷ made)
+    IsTrue (is_load a || is_own_flush v.post.seat p) → run_of v.post.seat ≢ p → Begun v w (made_now m.step x ∷ made)
 unfolding EachOf
 begun_more v u w p a x made m post b own other =
     record {
       went = went_more v u w made (made_now m.step x ∷ []) b.went m.went;
       first = turn_more (made_now m.step x) made m.mark_is b.first;
       own = (own_by v.post.machine v.post.seat (made_now m.step x) p a (place_from v u p (made_now m.step x) post m.place) m.act own, b.own);
-      run_told = makes_elsewhere u w p a None x m (Vcpu v.post.seat 6) other ∙ b.run_told;
     }
 
 pub is_look : (x : Made) → x.step.act ≡ Load → IsTrue (is_load x.step.act)
@@ -106,8 +103,8 @@ pub flushed_hand : (h k l m : Holdings) → BegunTurn h k → SameHand k l → F
 flushed_hand h k l m b s f = begun_then h k m b (whole_more k l m (whole_same k l s) (whole_flushed l m f))
 
 -- ---- the turn begins, and the flushed word is looked at
-module _ (v a b : PortValue) (x y : ℕ) (asked : Makes v a (Vcpu v.post.seat 4) Load (Some Turn) x) (begun : BegunTurn v.holdings a.holdings) (later : a.post ≡ v.post)
-    (looked : Makes a b (Vcpu v.post.seat 5) Load None y) (same : SameHand a.holdings b.holdings) (after : b.post ≡ a.post) where
+module _ (v a b : PortValue) (x y : ℕ) (asked : Makes v a (asked_of v.post.seat) Load (Some Turn) x) (begun : BegunTurn v.holdings a.holdings) (later : a.post ≡ v.post)
+    (looked : Makes a b (flushed_of v.post.seat) Load None y) (same : SameHand a.holdings b.holdings) (after : b.post ≡ a.post) where
   first : Made
   first = made_now asked.step x
 
@@ -116,20 +113,19 @@ module _ (v a b : PortValue) (x y : ℕ) (asked : Makes v a (Vcpu v.post.seat 4)
 
   both : Begun v b (second ∷ first ∷ [])
   unfolding first second
-  both = begun_more v a b (Vcpu v.post.seat 5) Load y (made_now asked.step x ∷ []) looked later (begun_first v a x asked) refl (λ e. absurd (cc))
+  both = begun_more v a b (flushed_of v.post.seat) Load y (made_now asked.step x ∷ []) looked later (begun_first v a x asked) refl (λ e. absurd (cc))
 
   pub acks_idle : x < y → Acks v b
   unfolding first second EachOf
   acks_idle past =
       let all = both in
       let not_asked : WasNotAsked v.post.machine v.post.seat (second ∷ first ∷ []) =
-      record { asked = x; flushed = y; had_asked = inr (inl (asked.place, refl)); had_flushed = inl (place_from v a (Vcpu v.post.seat 5) second later looked.place, refl); past = past } in
+      record { asked = x; flushed = y; had_asked = inr (inl (asked.place, refl)); had_flushed = inl (place_from v a (flushed_of v.post.seat) second later looked.place, refl); past = past } in
       record {
         made = second ∷ first ∷ [];
         went = all.went;
         heeds = record { first = all.first; own = all.own; asked = inl (is_look second looked.act, (is_look first asked.act, tt)); answers = inl not_asked };
         hand = ack_hand v.holdings a.holdings b.holdings begun same;
-        run_told = all.run_told;
       }
 
   -- the clock was found to be at its end
@@ -142,7 +138,6 @@ module _ (v a b : PortValue) (x y : ℕ) (asked : Makes v a (Vcpu v.post.seat 4)
         went = all.went;
         heeds = record { first = all.first; own = all.own; asked = inl (is_look (made_now m.step last_clock) m.act, (is_look second looked.act, (is_look first asked.act, tt))); answers = inr (inr (inl (place_from v b Clock (made_now m.step last_clock) (after ∙ later) m.place, refl))) };
         hand = ack_hand v.holdings a.holdings w.holdings begun (same_after a.holdings b.holdings w.holdings same stays);
-        run_told = all.run_told;
       }
 
   pub acks_flushed : (w : PortValue) → y ≤ x → FlushesOwn b w → Flushed b.holdings w.holdings → Acks v w
@@ -155,7 +150,7 @@ module _ (v a b : PortValue) (x y : ℕ) (asked : Makes v a (Vcpu v.post.seat 4)
       let at_l : f.looked.post ≡ v.post = went_post b f.looked (made_now f.look.step f.clock ∷ []) f.look.went ∙ at_b in
       let ticks = begun_more v f.looked f.ticked Clock _ f.found _ f.tick at_l looks refl (λ e. absurd (cc)) in
       let at_t : f.ticked.post ≡ v.post = went_post f.looked f.ticked (made_now f.tick.step f.found ∷ []) f.tick.went ∙ at_l in
-      let ack = subst (λ (q : Post). Makes f.ticked w (Vcpu q.seat 5) (Store (flushed_to f.clock f.found)) None f.before) at_b f.ack in
+      let ack = subst (λ (q : Post). Makes f.ticked w (flushed_of q.seat) (Store (flushed_to f.clock f.found)) None f.before) at_b f.ack in
       let all = begun_more v f.ticked w (flushed_of s) _ f.before _ ack at_t ticks (own_flushed s) (λ e. absurd (cc)) in
       record {
         made = made_now ack.step f.before ∷ (made_now f.tick.step f.found ∷ (made_now f.look.step f.clock ∷ (second ∷ first ∷ [])));
@@ -177,5 +172,4 @@ module _ (v a b : PortValue) (x y : ℕ) (asked : Makes v a (Vcpu v.post.seat 4)
           }));
         };
         hand = flushed_hand v.holdings a.holdings b.holdings w.holdings begun same hand;
-        run_told = all.run_told;
       }

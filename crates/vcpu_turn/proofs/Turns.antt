@@ -37,7 +37,7 @@ answered v w word reply m same rests run =
       run = same.run ∙ run;
     }
 
-pub stopped : (v w : PortValue) (c c' : Processing) (word : ℕ) → Makes v w (Vcpu v.post.seat 6) (Store 1) None word → c.vcpu ≡ v.post.seat → c' ≡ record c { retired = true } → MakesStop c c' v w
+pub stopped : (v w : PortValue) (c c' : Processing) (word : ℕ) → Makes v w (run_of v.post.seat) (Store 1) None word → c.vcpu ≡ v.post.seat → c' ≡ record c { retired = true } → MakesStop c c' v w
 stopped v w c c' word m seat is =
     record {
       made = made_now m.step word ∷ [];

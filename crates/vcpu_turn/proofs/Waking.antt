@@ -17,22 +17,9 @@ use Rattle.vcpu_turn.specs.Turning.{HeedsAsk, WasAsked, AnswersAsk, Rests, Runs}
 use Rattle.vcpu_turn.proofs.Begun.{turn_more, is_look}
 
 -- ---- the run word
--- it is as the seat found or left it
-pub run_stays : (n : Machine) (s : ℕ) (h : Holdings) (w : ℕ) → Finds n s h (run_of s) w → h.run ≡ Some 0 → w ≡ 0
-run_stays n s h w finds run =
-    sym finds.word ∙ (finds.sound.found s finds.real).own.run 0 (ap (λ (u : Holdings). u.run) finds.mine ∙ run)
-
-module _ (v b w : PortValue) (y : ℕ) (acked : Acks v b) (later : b.post ≡ v.post) (looked : Makes b w (Vcpu b.post.seat 6) Load None y)
-    (finds : Finds b.post.machine b.post.seat b.holdings (Vcpu b.post.seat 6) y) (told : is_telling b ≡ true → told_word b (Vcpu b.post.seat 6) ≡ y) where
-  pub word_is : Runs v → y ≡ 0
-  word_is (inl run) = run_stays b.post.machine b.post.seat b.holdings y finds (acked.hand.rest.run ∙ run)
-  word_is (inr (tells, zero_is)) =
-      sym (told (went_telling v b acked.made acked.went ∙ tells)) ∙ ap (λ (q : Post). told_word b (Vcpu q.seat 6)) later ∙ acked.run_told ∙ zero_is
-
--- translations that may have been flushed: none were there
-none_left : {A : Type 0} (xs ys : List A) → (ys ≡ xs) ⊎ (ys ≡ []) → xs ≡ [] → ys ≡ []
-none_left xs ys (inl same) none = same ∙ none
-none_left xs ys (inr empty) none = empty
+-- what was known of it before the turn began is still known
+pub word_is : (v b : PortValue) (y : ℕ) → Acks v b → b.post ≡ v.post → y ≡ own_run b → Runs v → y ≡ 0
+word_is v b y acked later is runs = is ∙ (λ i. run_or (later i).run (acked.hand.rest.run i)) ∙ runs
 
 pub rests_on : (h k : Holdings) → SameOrFlushed h k → Rests h → Rests k
 rests_on h k s r =
@@ -48,7 +35,6 @@ rests_on h k s r =
         credits = s.rest.credits ∙ r.empty.credits;
         looking = s.rest.looking ∙ r.empty.looking;
       };
-      cache = none_left h.cache k.cache s.rest.cache r.cache;
       walk = s.rest.walk ∙ r.walk;
     }
 
@@ -67,7 +53,6 @@ acked_rests v w a r =
         credits = r.empty.credits;
         looking = r.empty.looking;
       };
-      cache = r.cache;
       walk = r.walk;
     })
 
@@ -85,7 +70,6 @@ same_rests h k s refs ending r =
         credits = s.credits ∙ r.empty.credits;
         looking = s.looking ∙ r.empty.looking;
       };
-      cache = s.cache ∙ r.cache;
       walk = s.walk ∙ r.walk;
     }
 
@@ -108,14 +92,14 @@ heeds_more n s x made mark act b =
     answers_more (inr (inl f)) = inr (inl (record { to = f.to; before = f.before; stored = inr f.stored }))
     answers_more (inr (inr last)) = inr (inr (inr last))
 
-pub wakes : (v b w : PortValue) (y : ℕ) → Acks v b → b.post ≡ v.post → (m : Makes b w (Vcpu b.post.seat 6) Load None y) → y ≡ 0 → FoundRun y b.holdings w.holdings → Rests v.holdings → Wakes v w
+pub wakes : (v b w : PortValue) (y : ℕ) → Acks v b → b.post ≡ v.post → (m : Makes b w (run_of b.post.seat) Load None y) → y ≡ 0 → FoundRun y b.holdings w.holdings → Rests v.holdings → Wakes v w
 wakes v b w y a later m zero_is found rests =
     record {
       made = made_now m.step y ∷ a.made;
       went = went_more v b w a.made (made_now m.step y ∷ []) a.went m.went;
       begins = record {
         heeds = heeds_more v.post.machine v.post.seat (made_now m.step y) a.made m.mark_is m.act a.heeds;
-        running = inl (subst (λ (q : Post). place_of q.machine m.step ≡ Vcpu q.seat 6) later m.place, zero_is);
+        running = inl (subst (λ (q : Post). place_of q.machine m.step ≡ run_of q.seat) later m.place, zero_is);
       };
       rests = same_rests b.holdings w.holdings found.rest found.refs found.ending (acked_rests v b a rests);
       run = found.run ∙ ap (λ (k : ℕ). Some k) zero_is;

@@ -1,6 +1,6 @@
 -- Calls that a turn is made of: what their steps are, and what they leave in hand.
 use Rattle.std.specs.Prelude.{◌≡◌, List, Some}
-use Rattle.xp_words.specs.Places.{Vcpu}
+use Rattle.xp_words.specs.Places.{Vcpu, run_of}
 use Rattle.xp_board.specs.declared.holdings.Made.{Made}
 use Rattle.xp_board.specs.Told.{PortValue, Went, told_word}
 use Rattle.frame_words.specs.Hands.{SameOrFlushed}
@@ -12,7 +12,6 @@ pub record Acks (v w : PortValue) : Type 0 where
   pub went : Went v made w
   pub heeds : HeedsAsk v.post.machine v.post.seat made
   pub hand : SameOrFlushed (record v.holdings { turn = w.holdings.turn }) w.holdings
-  pub run_told : told_word w (Vcpu v.post.seat 6) ≡ told_word v (Vcpu v.post.seat 6)
 
 -- from v to w the turn began, and the vCPU, which rests, was found running
 pub record Wakes (v w : PortValue) : Type 0 where

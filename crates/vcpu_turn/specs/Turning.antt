@@ -132,15 +132,14 @@ TurnBy true c c' end v w = StaysRetired c c' end v w
 TurnBy false c c' end v w = MakesTurn c c' end v w
 
 -- ---- between turns
--- nothing in hand, and no translation
+-- nothing in hand, and no walk under way; translations may stay
 pub record Rests (h : Holdings) : Type 0 where
   pub empty : IsEmptyHand h
-  pub cache : h.cache ≡ []
   pub walk : h.walk ≡ None
 
--- the vCPU is known to run: it found so, or the board tells it
+-- the vCPU is known to run: it found so, or it opened so
 abbrev pub Runs : PortValue → Type 0
-Runs v = (v.holdings.run ≡ Some 0) ⊎ ((is_telling v ≡ true) × (told_word v (Vcpu v.post.seat 6) ≡ 0))
+Runs v = own_run v ≡ 0
 
 -- the port is that of the vCPU, which rests, and runs unless it is retired
 pub record IsOf (v : PortValue) (c : Processing) : Type 0 where

@@ -1,6 +1,6 @@
 use Rattle.std.proofs.Common.{None, Ok, subst}
 use Rattle.std.proofs.lemmas.Result.{err_from_is_err_and}
-use Rattle.xp_words.specs.Places.{Vcpu, flushed_of}
+use Rattle.xp_words.specs.Places.{flushed_of}
 use Rattle.xp_board.specs.declared.step.Act.TheVariants.{Load}
 use Rattle.frame_words.specs.Pieces.{Makes}
 use Rattle.frame_types.specs.Clearing.{Looks}

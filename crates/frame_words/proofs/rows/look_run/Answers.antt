@@ -1,40 +1,34 @@
 use Rattle.std.proofs.Common.{◌<◌, length, lit<, ap, ◌∙◌, refl, subst}
 use Rattle.xp_words.specs.Machine.{Machine}
-use Rattle.xp_words.specs.Places.{Vcpu, number, sizes_of, run_of}
-use Rattle.xp_board.specs.Told.{Finds}
+use Rattle.xp_words.specs.Places.{number, sizes_of, run_of}
 use Rattle.frame_words.proofs.Stepping.{own_there}
 use Rattle.frame_words.proofs.Hands.{here, look_now, look_made, look_left, run_hand}
-use Rattle.frame_words.proofs.Telling.{makes_found}
 use Rattle.frame_words.proofs.rows.look_run.Goals as goal
 
 pub step-requires : goal.step-requires
 step-requires g c =
     let v = g.P.Port.value c.args.port.now in
     let real = subst (λ k. k < length v.post.machine.vcpu_domain) c.seat-seat.ensures.seat c.seat-seat.ensures.real in
-    let at = c.vcpu_place-place.ensures ∙ ap (λ (n : Machine). number (sizes_of n) (Vcpu c.seat-seat.result 6)) c.layout.ensures.layout ∙ ap (λ s. number (sizes_of v.post.machine) (run_of s)) c.seat-seat.ensures.seat in
-    look_now v v c.look.result _ 0 (Vcpu v.post.seat 6) _ c.look.ensures at (own_there (sizes_of v.post.machine) v.post.seat 6 real (lit< tt)) refl
+    let at = c.vcpu_place-place.ensures ∙ ap (λ (n : Machine). number (sizes_of n) (run_of c.seat-seat.result)) c.layout.ensures.layout ∙ ap (λ s. number (sizes_of v.post.machine) (run_of s)) c.seat-seat.ensures.seat in
+    look_now v v c.look.result _ 0 (run_of v.post.seat) _ c.look.ensures at (own_there (sizes_of v.post.machine) v.post.seat 6 real (lit< tt)) refl
 
 pub returns-clause-made : goal.returns-clause-made
 returns-clause-made g c =
     let v = g.P.Port.value c.args.port.now in
     let real = subst (λ k. k < length v.post.machine.vcpu_domain) c.seat-seat.ensures.seat c.seat-seat.ensures.real in
-    let at = c.vcpu_place-place.ensures ∙ ap (λ (n : Machine). number (sizes_of n) (Vcpu c.seat-seat.result 6)) c.layout.ensures.layout ∙ ap (λ s. number (sizes_of v.post.machine) (run_of s)) c.seat-seat.ensures.seat in
-    look_made v _ c.look.result _ _ (Vcpu v.post.seat 6) _ c.look.ensures at (own_there (sizes_of v.post.machine) v.post.seat 6 real (lit< tt)) refl c.step.ensures.told c.step.ensures.value
+    let at = c.vcpu_place-place.ensures ∙ ap (λ (n : Machine). number (sizes_of n) (run_of c.seat-seat.result)) c.layout.ensures.layout ∙ ap (λ s. number (sizes_of v.post.machine) (run_of s)) c.seat-seat.ensures.seat in
+    look_made v _ c.look.result _ _ (run_of v.post.seat) _ c.look.ensures at (own_there (sizes_of v.post.machine) v.post.seat 6 real (lit< tt)) refl c.step.ensures.told c.step.ensures.value
 
 pub returns-clause-hand : goal.returns-clause-hand
 returns-clause-hand g c =
     let v = g.P.Port.value c.args.port.now in
     let real = subst (λ k. k < length v.post.machine.vcpu_domain) c.seat-seat.ensures.seat c.seat-seat.ensures.real in
-    let at = c.vcpu_place-place.ensures ∙ ap (λ (n : Machine). number (sizes_of n) (Vcpu c.seat-seat.result 6)) c.layout.ensures.layout ∙ ap (λ s. number (sizes_of v.post.machine) (run_of s)) c.seat-seat.ensures.seat in
-    run_hand v.post.machine v.post.seat _ _ c.look.result _ (look_left v _ c.look.result _ _ (Vcpu v.post.seat 6) _ c.look.ensures at (own_there (sizes_of v.post.machine) v.post.seat 6 real (lit< tt)) refl c.step.ensures.value)
+    let at = c.vcpu_place-place.ensures ∙ ap (λ (n : Machine). number (sizes_of n) (run_of c.seat-seat.result)) c.layout.ensures.layout ∙ ap (λ s. number (sizes_of v.post.machine) (run_of s)) c.seat-seat.ensures.seat in
+    run_hand v.post.machine v.post.seat _ _ c.look.result _ (look_left v _ c.look.result _ _ (run_of v.post.seat) _ c.look.ensures at (own_there (sizes_of v.post.machine) v.post.seat 6 real (lit< tt)) refl c.step.ensures.value)
 
-pub returns-clause-told : goal.returns-clause-told
-returns-clause-told g c = makes_found _ _ _ _ _ _ (returns-clause-made g c)
-
-pub returns-clause-found : goal.returns-clause-found
-returns-clause-found g c =
+pub returns-clause-own : goal.returns-clause-own
+returns-clause-own g c =
     let v = g.P.Port.value c.args.port.now in
     let real = subst (λ k. k < length v.post.machine.vcpu_domain) c.seat-seat.ensures.seat c.seat-seat.ensures.real in
-    let at = c.vcpu_place-place.ensures ∙ ap (λ (n : Machine). number (sizes_of n) (Vcpu c.seat-seat.result 6)) c.layout.ensures.layout ∙ ap (λ s. number (sizes_of v.post.machine) (run_of s)) c.seat-seat.ensures.seat in
-    subst (λ p. Finds v.post.machine v.post.seat v.holdings p c.step.result)
-    (here v v c.look.result _ 0 (Vcpu v.post.seat 6) _ c.look.ensures at (own_there (sizes_of v.post.machine) v.post.seat 6 real (lit< tt)) refl) c.step.ensures.found
+    let at = c.vcpu_place-place.ensures ∙ ap (λ (n : Machine). number (sizes_of n) (run_of c.seat-seat.result)) c.layout.ensures.layout ∙ ap (λ s. number (sizes_of v.post.machine) (run_of s)) c.seat-seat.ensures.seat in
+    c.step.ensures.own (here v v c.look.result _ 0 (run_of v.post.seat) _ c.look.ensures at (own_there (sizes_of v.post.machine) v.post.seat 6 real (lit< tt)) refl)

@@ -1,5 +1,5 @@
 use Rattle.std.proofs.Common.{None, ap, ◌∙◌, subst}
-use Rattle.xp_words.specs.Places.{Vcpu, flushed_of}
+use Rattle.xp_words.specs.Places.{flushed_of}
 use Rattle.xp_board.specs.declared.step.Act.TheVariants.{Load}
 use Rattle.xp_board.specs.Told.{Post}
 use Rattle.frame_words.specs.Pieces.{Makes}
