@@ -2,7 +2,7 @@
 use Rattle.std.proofs.Common.{◌≡◌, ◌≢◌, ℕ, ◌<◌, ◌≤◌, ◌==◌, ◌||◌, if◌then◌else◌, false, List, [], ◌∷◌, Some, None, IsTrue, refl, sym, ap, ◌∙◌, subst, inl, inr, arith}
 use Rattle.std.proofs.lemmas.Bool.Decides.{nat_tests}
 use Rattle.xp_words.specs.Machine.{Machine}
-use Rattle.xp_words.specs.Places.{Place, Clock, Vcpu, flushed_of, run_of, asked_of}
+use Rattle.xp_words.specs.Places.{Place, Clock, flushed_of, run_of, asked_of}
 use Rattle.xp_board.specs.declared.step.Act.{Act}
 use Rattle.xp_board.specs.declared.step.Act.TheVariants.{Load, Store}
 use Rattle.xp_board.specs.declared.step.Mark.TheVariants.{Turn}
@@ -11,7 +11,7 @@ use Rattle.xp_board.specs.declared.holdings.Holdings.{Holdings}
 use Rattle.xp_board.specs.Lists.{EachOf}
 use Rattle.xp_board.specs.Readings.{last_clock}
 use Rattle.xp_board.specs.Runs.{place_of}
-use Rattle.xp_board.specs.Told.{Post, PortValue, Went, told_word}
+use Rattle.xp_board.specs.Told.{Post, PortValue, Went}
 use Rattle.xp_board.proofs.Going.{went_more, went_post}
 use Rattle.frame_words.specs.Flushing.{Flushed, flushed_to, FlushesOwn}
 use Rattle.frame_words.specs.Hands.{SameRest, SameHand, BegunTurn, SameOrFlushed}
@@ -19,7 +19,6 @@ use Rattle.frame_words.specs.Pieces.{Makes, is_load}
 use Rattle.frame_words.proofs.Noting.{made_now}
 use Rattle.frame_words.proofs.Rests.{whole_same, whole_flushed, whole_more}
 use Rattle.frame_words.proofs.Taking.{same_after}
-use Rattle.frame_words.proofs.Telling.{makes_elsewhere}
 use Rattle.vcpu_turn.specs.Beginning.{Acks}
 use Rattle.vcpu_turn.specs.Turning.{BeginsTurn, WasNotAsked, is_own_flush}
 

@@ -1,14 +1,14 @@
 -- A vCPU that rests begins a turn and finds itself running.
-use Rattle.std.proofs.Common.{◌≡◌, ◌⊎◌, ℕ, ◌||◌, Bool, true, false, List, [], ◌∷◌, Some, None, IsTrue, refl, sym, ap, ◌∙◌, subst, inl, inr}
+use Rattle.std.proofs.Common.{◌≡◌, ◌⊎◌, ℕ, ◌||◌, Bool, true, false, List, [], ◌∷◌, Some, None, IsTrue, refl, ap, ◌∙◌, subst, inl, inr}
 use Rattle.xp_words.specs.Machine.{Machine}
-use Rattle.xp_words.specs.Places.{Vcpu, run_of}
+use Rattle.xp_words.specs.Places.{run_of}
 use Rattle.xp_board.specs.declared.step.Act.TheVariants.{Load}
 use Rattle.xp_board.specs.declared.holdings.Made.{Made}
 use Rattle.xp_board.specs.declared.holdings.Holdings.{Holdings}
 use Rattle.xp_board.specs.Lists.{EachOf}
 use Rattle.xp_board.specs.Runs.{place_of}
-use Rattle.xp_board.specs.Told.{Post, PortValue, Finds, is_telling, told_word}
-use Rattle.xp_board.proofs.Going.{went_more, went_telling}
+use Rattle.xp_board.specs.Told.{Post, PortValue, own_run, run_or}
+use Rattle.xp_board.proofs.Going.{went_more}
 use Rattle.frame_words.specs.Hands.{SameRest, FoundRun, SameOrFlushed}
 use Rattle.frame_words.specs.Pieces.{Makes, is_load}
 use Rattle.frame_words.proofs.Noting.{made_now}

@@ -1,8 +1,7 @@
 -- Calls that a turn is made of: what their steps are, and what they leave in hand.
 use Rattle.std.specs.Prelude.{◌≡◌, List, Some}
-use Rattle.xp_words.specs.Places.{Vcpu, run_of}
 use Rattle.xp_board.specs.declared.holdings.Made.{Made}
-use Rattle.xp_board.specs.Told.{PortValue, Went, told_word}
+use Rattle.xp_board.specs.Told.{PortValue, Went}
 use Rattle.frame_words.specs.Hands.{SameOrFlushed}
 use Rattle.vcpu_turn.specs.Turning.{HeedsAsk, Begins, Rests}
 

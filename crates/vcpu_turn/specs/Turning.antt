@@ -13,7 +13,7 @@ use Rattle.xp_board.specs.Hands.{IsEmptyHand}
 use Rattle.xp_board.specs.Lists.{EachOf}
 use Rattle.xp_board.specs.Readings.{domain_of, last_clock}
 use Rattle.xp_board.specs.Runs.{place_of}
-use Rattle.xp_board.specs.Told.{PortValue, Went, Had, is_telling, told_word}
+use Rattle.xp_board.specs.Told.{PortValue, Went, Had, own_run}
 use Rattle.frame_words.specs.Pieces.{is_load, HadAct}
 use Rattle.vcpu_turn.specs.Cpus.{Processing, pairs_of, end_of, after_turn}
 use Rattle.vcpu_turn.specs.Lists.{Works}

@@ -3,7 +3,7 @@ use Rattle.std.proofs.Common.{◌≡◌, ℕ, ◌<◌, ◌≤◌, ◌==◌, nat_
 use Rattle.std.proofs.lemmas.Bool.{cases_eq}
 use Rattle.std.proofs.lemmas.Bool.Decides.{nat_tests}
 use Rattle.xp_words.specs.Machine.{Machine}
-use Rattle.xp_words.specs.Places.{Place, Clock, Vcpu, sizes_of, run_of, flushed_of}
+use Rattle.xp_words.specs.Places.{Place, Clock, memory, sizes_of, run_of, flushed_of}
 use Rattle.xp_board.specs.declared.step.Act.{Act}
 use Rattle.xp_board.specs.declared.step.Act.TheVariants.{Load}
 use Rattle.xp_board.specs.declared.step.Mark.{Mark}
@@ -14,7 +14,7 @@ use Rattle.xp_board.specs.AskSteps.{MayAsk}
 use Rattle.xp_board.specs.Readings.{domain_of}
 use Rattle.xp_board.specs.Sound.{seat_of}
 use Rattle.xp_board.specs.Steps.{some_since}
-use Rattle.xp_board.specs.Told.{Post, PortValue, Goes}
+use Rattle.xp_board.specs.Told.{Post, PortValue, Goes, run_or}
 use Rattle.frame_words.specs.Hands.{FoundRun}
 use Rattle.frame_words.specs.Pieces.{Makes}
 use Rattle.frame_words.proofs.Noting.{makes_since, makes_before, makes_keeps}
@@ -70,7 +70,6 @@ still_rests w h k f r =
         credits = f.rest.credits ∙ r.empty.credits;
         looking = f.rest.looking ∙ r.empty.looking;
       };
-      cache = f.rest.cache ∙ r.cache;
       walk = f.rest.walk ∙ r.walk;
     }
 
@@ -82,10 +81,10 @@ takes_next b b2 s lender machine real seats goes hand takes t other script there
     let rests = still_rests 0 _ _ hand (takes s lender [] real).rests in
     let moved = (stepping b b2 s lender goes.0 real seats goes.1 rests).moved in
     elim (cases_eq t s) [
-      | inl own ↦ rw own (record { seat = refl; domain = refl; rests = rests; runs = λ works. inl hand.run })
+      | inl own ↦ rw own (record { seat = refl; domain = refl; rests = rests; runs = λ works. (λ i. run_or (memory (sizes_of b2.machine) b2.story.opening (run_of s)) (hand.run i)) })
       | inr off ↦
           subst (λ (n : Machine). IsOf (port_value b2 t other) (fresh t (domain_of n t) script)) (sym machine)
-          (of_other b b2 t other (fresh t (domain_of b.machine t) script) machine (moved.others t off) (moved.run t off)
+          (of_other b b2 t other (fresh t (domain_of b.machine t) script) machine moved.opening (moved.others t off)
           (takes t other script (subst (λ (n : Machine). t < (sizes_of n).vcpus) machine there)))
     ]
 

@@ -6,13 +6,12 @@ use Rattle.std.proofs.lemmas.List.{get_or-set_other}
 use Rattle.std.proofs.lemmas.List.Elements.{All-set, All-get_or}
 use Rattle.std.proofs.lemmas.Option.{slice_get-get_or, slice_get_within, get_or_from_slice_get}
 use Rattle.xp_words.specs.Machine.{Machine}
-use Rattle.xp_words.specs.Places.{Vcpu, sizes_of, memory, run_of}
+use Rattle.xp_words.specs.Places.{sizes_of, memory, run_of}
 use Rattle.xp_words.specs.declared.ops.Op.{Op}
 use Rattle.xp_board.specs.declared.holdings.Made.{Made}
-use Rattle.xp_board.specs.declared.holdings.Holdings.{Holdings}
 use Rattle.xp_board.specs.Readings.{domain_of}
 use Rattle.xp_board.specs.Sound.{seat_of}
-use Rattle.xp_board.specs.Told.{PortValue, Story, Went}
+use Rattle.xp_board.specs.Told.{PortValue, Story, Went, run_or}
 use Rattle.shared_board.specs.Board.{Board, port_value}
 use Rattle.vcpu_turn.specs.Cpus.{Processing}
 use Rattle.vcpu_turn.specs.Turning.{IsOf, Rests, Runs}
@@ -27,14 +26,13 @@ pub record Moved (n : Machine) (s : ℕ) (a b : Story) : Type 0 where
   pub opening : b.opening ≡ a.opening
   pub seats : length b.seats ≡ length a.seats
   pub others : (t : ℕ) → t ≢ s → seat_of b.seats t ≡ seat_of a.seats t
-  pub run : (t : ℕ) → t ≢ s → memory (sizes_of n) b.words (run_of t) ≡ memory (sizes_of n) a.words (run_of t)
 
 abbrev story_in : Story → Option Story → Story
 story_in d (Some a) = a
 story_in d None = d
 
 pub moved_none : (n : Machine) (s : ℕ) (a b : Story) → b ≡ a → Moved n s a b
-moved_none n s a b same = rw same (record { opening = refl; seats = refl; others = λ t off. refl; run = λ t off. refl })
+moved_none n s a b same = rw same (record { opening = refl; seats = refl; others = λ t off. refl })
 
 -- steps by a port of the board
 pub record Stepping (n : Machine) (s : ℕ) (a : Story) (made : List Made) (b : Story) : Type 0 where
@@ -51,7 +49,7 @@ stepping b b2 s lender made real seats went rests =
     subst (λ x. Stepping n s b.story made x) (sym same)
     (record {
       leads = record { piece = walk.piece; log = walk.log; empty = (subst (λ (x : Story). Rests (seat_of x.seats s)) same rests).empty };
-      moved = record { opening = walk.opening; seats = walk.seats; others = walk.others; run = walk.run };
+      moved = record { opening = walk.opening; seats = walk.seats; others = walk.others };
     })
 
 -- no step
@@ -62,20 +60,18 @@ same_story b b2 s lender same = ap (λ (x : PortValue). story_in b.story x.told)
 of_lender : (b : Board) (s lender other : ℕ) (c : Processing) → IsOf (port_value b s lender) c → IsOf (port_value b s other) c
 of_lender b s lender other c o = record { seat = o.seat; domain = o.domain; rests = o.rests; runs = o.runs }
 
-still_runs : (b b2 : Board) (t lender : ℕ) → b2.machine ≡ b.machine → seat_of b2.story.seats t ≡ seat_of b.story.seats t →
-    memory (sizes_of b.machine) b2.story.words (run_of t) ≡ memory (sizes_of b.machine) b.story.words (run_of t) → Runs (port_value b t lender) → Runs (port_value b2 t lender)
-still_runs b b2 t lender machine hand run (inl found) = inl (ap (λ (h : Holdings). h.run) hand ∙ found)
-still_runs b b2 t lender machine hand run (inr told) =
-    inr (refl, ap (λ (n : Machine). memory (sizes_of n) b2.story.words (run_of t)) machine ∙ run ∙ told.1)
+still_runs : (b b2 : Board) (t lender : ℕ) → b2.machine ≡ b.machine → b2.story.opening ≡ b.story.opening → seat_of b2.story.seats t ≡ seat_of b.story.seats t → Runs (port_value b t lender) →
+    Runs (port_value b2 t lender)
+still_runs b b2 t lender machine opening hand runs = (λ i. run_or (memory (sizes_of (machine i)) (opening i) (run_of t)) (hand i).run) ∙ runs
 
-pub of_other : (b b2 : Board) (t lender : ℕ) (c : Processing) → b2.machine ≡ b.machine → seat_of b2.story.seats t ≡ seat_of b.story.seats t →
-    memory (sizes_of b.machine) b2.story.words (run_of t) ≡ memory (sizes_of b.machine) b.story.words (run_of t) → IsOf (port_value b t lender) c → IsOf (port_value b2 t lender) c
-of_other b b2 t lender c machine hand run o =
+pub of_other : (b b2 : Board) (t lender : ℕ) (c : Processing) → b2.machine ≡ b.machine → b2.story.opening ≡ b.story.opening → seat_of b2.story.seats t ≡ seat_of b.story.seats t →
+    IsOf (port_value b t lender) c → IsOf (port_value b2 t lender) c
+of_other b b2 t lender c machine opening hand o =
     record {
       seat = o.seat;
       domain = o.domain ∙ sym (λ i. domain_of (machine i) t);
       rests = subst Rests (sym hand) o.rests;
-      runs = λ works. still_runs b b2 t lender machine hand run (o.runs works);
+      runs = λ works. still_runs b b2 t lender machine opening hand (o.runs works);
     }
 
 -- ---- the list of vCPUs
@@ -102,6 +98,6 @@ ready_after b b2 s lender cpus c c2 ready machine moved here script own =
       short = All-set IsShort cpus s c2 (subst (λ (l : List Op). length l < 2 ^ 32) (sym script) (short_at cpus s c ready.short here)) ready.short;
       of = λ t other x at. elim (set_at cpus s t c2 x (slice_get_within cpus s c here) at) [
         | inl same ↦ rw (same.0, same.1) (of_lender b2 s lender other c2 own)
-        | inr off ↦ of_other b b2 t other x machine (moved.others t off.0) (moved.run t off.0) (ready.of t other x off.1)
+        | inr off ↦ of_other b b2 t other x machine moved.opening (moved.others t off.0) (ready.of t other x off.1)
       ];
     }

@@ -1,5 +1,5 @@
 -- What the code makes of a trace is what legal steps make of it.
-use Rattle.std.proofs.Common.{◌≡◌, ℕ, ◌<◌, ◌≤◌, Bool, None, Some, List, [], length, map, Result, Ok, Err, IfOk, refl, sym, ap, ◌∙◌, subst, inl, inr, lit<, arith, slice_index_or}
+use Rattle.std.proofs.Common.{◌≡◌, ℕ, ◌<◌, ◌≤◌, Bool, Some, List, [], length, map, Result, Ok, Err, IfOk, refl, sym, ap, ◌∙◌, subst, inl, inr, lit<, arith, slice_index_or}
 use Rattle.std.specs.Prelude.{slice_get, sum_by}
 use Rattle.std.specs.List.{enumerate_from}
 use Rattle.std.proofs.lemmas.List.{length-map, get_or-map, length-replicate, get_or-replicate}
@@ -7,7 +7,7 @@ use Rattle.std.proofs.lemmas.List.Elements.{All-get_or}
 use Rattle.std.proofs.lemmas.List.FromFn.{length-enumerate_from, get_or-enumerate_from}
 use Rattle.std.proofs.lemmas.Option.{slice_get_within, slice_get_cases, get_or_from_slice_get}
 use Rattle.xp_words.specs.Machine.{Machine}
-use Rattle.xp_words.specs.Places.{Vcpu, sizes_of, memory, run_of}
+use Rattle.xp_words.specs.Places.{sizes_of, memory, run_of}
 use Rattle.xp_words.specs.declared.ops.Op.{Op}
 use Rattle.xp_board.specs.Hands.{empty, IsEmptyHand}
 use Rattle.xp_board.specs.Readings.{domain_of}
@@ -15,7 +15,7 @@ use Rattle.xp_board.specs.declared.step.Step.{Step}
 use Rattle.xp_board.specs.declared.holdings.Holdings.{Holdings}
 use Rattle.xp_board.specs.Safe.{Safe}
 use Rattle.xp_board.specs.Sound.{seat_of, SoundState, SoundWords}
-use Rattle.xp_board.specs.Told.{Story}
+use Rattle.xp_board.specs.Told.{Story, run_or}
 use Rattle.xp_board.specs.Runs as runs
 use Rattle.trace_text.specs.declared.trace.Trace.{Trace}
 use Rattle.machine_build.specs.Opening.{IsOpening, opening_at}
@@ -42,7 +42,6 @@ empty_rests : Rests empty
 empty_rests =
     record {
       empty = record { refs = refl; typed = refl; works = refl; locks = refl; ending = refl; claimed = refl; raised = refl; credits = refl; looking = refl };
-      cache = refl;
       walk = refl;
     }
 
@@ -70,7 +69,9 @@ takes_fresh t b opened opening machine story v lender script real =
       seat = refl;
       domain = refl;
       rests = subst Rests (sym (get_or-replicate (length n.vcpu_domain) v empty empty there)) empty_rests;
-      runs = λ works. inr (refl, opening.places (run_of v) (own_there (sizes_of n) v 6 there (lit< tt)) ∙ runs_at_first t v);
+      runs = λ works.
+          (λ i. run_or (memory (sizes_of n) opened (run_of v)) (get_or-replicate (length n.vcpu_domain) v empty empty there i).run)
+          ∙ opening.places (run_of v) (own_there (sizes_of n) v 6 there (lit< tt)) ∙ runs_at_first t v;
     })
 
 of_first : (n : Machine) (b : Board) (scripts : List (List Op)) → b.machine ≡ n → TakesFresh b → length scripts ≡ length n.vcpu_domain →
@@ -99,8 +100,7 @@ RunsSafe = (n : Machine) (a b : runs.State) (log : List (ℕ × Step)) → runs.
 
 abbrev pub RestsSound : Type 0
 RestsSound =
-    (n : Machine) (words : List ℕ) (seats : List Holdings) → SoundState n words seats →
-    ((s : ℕ) → s < (sizes_of n).vcpus → IsEmptyHand (seat_of seats s) × ((seat_of seats s).cache ≡ []) × ((seat_of seats s).walk ≡ None)) → SoundWords n words
+    (n : Machine) (words : List ℕ) (seats : List Holdings) → SoundState n words seats → ((s : ℕ) → s < (sizes_of n).vcpus → IsEmptyHand (seat_of seats s)) → SoundWords n words
 
 -- ---- at the end
 rests_at : (b : Board) (cpus : List Processing) (s : ℕ) → Ready b cpus → s < (sizes_of b.machine).vcpus → Rests (seat_of b.story.seats s)
@@ -152,7 +152,7 @@ ran guards rests t b b2 opened cpus cpus2 before calms vs text words opening mac
           (subst (λ cs. WorksOff b.machine calms vs (stage (opened_story z opened) cs) closed) first (subst (λ st. WorksOff b.machine calms vs (stage st cpus) closed) story works))));
       run = run;
       safe = λ newer older a parts run2. guards z (runs.start z opened) a older run2 begins;
-      sound = rests z closed.board.words closed.board.seats sound (λ s real. ((rested s real).empty, (rested s real).cache, (rested s real).walk));
+      sound = rests z closed.board.words closed.board.seats sound (λ s real. (rested s real).empty);
       report = closes.report ∙ ap (λ k. report_at k closed) machine2;
     }
 

@@ -1,29 +1,21 @@
 -- What a board that tells all words tells after steps of one of its ports.
-use Rattle.std.proofs.Common.{◌≡◌, ◌≢◌, ℕ, ◌<◌, List, [], ◌∷◌, ◌++◌, length, Option, Some, arith, refl, sym, ap, ◌∙◌, subst, inl, inr, slice_set, length-set, get_or-set_same}
+use Rattle.std.proofs.Common.{◌≡◌, ◌≢◌, ℕ, ◌<◌, List, [], ◌∷◌, ◌++◌, length, Some, refl, sym, ap, ◌∙◌, subst, slice_set, length-set, get_or-set_same}
 use Rattle.std.proofs.Math.ListN.{set}
 use Rattle.std.proofs.lemmas.List.{get_or-set_other}
 use Rattle.xp_words.specs.Machine.{Machine}
-use Rattle.xp_words.specs.Places.{Vcpu, sizes_of, size, number, memory, run_of}
-use Rattle.xp_words.proofs.PlaceLaws.{memory_same, memory_other}
-use Rattle.xp_board.specs.declared.step.Act.{Act}
-use Rattle.xp_board.specs.declared.step.Act.TheVariants.{Load, Cas, Store, Add, Max}
-use Rattle.xp_board.specs.declared.step.Mark.{Mark}
+use Rattle.xp_words.specs.Places.{sizes_of}
 use Rattle.xp_board.specs.declared.step.Step.{Step}
-use Rattle.xp_board.specs.declared.step.StepKind.{StepKind}
-use Rattle.xp_board.specs.declared.step.StepKind.TheVariants as steps
 use Rattle.xp_board.specs.declared.holdings.Made.{Made}
 use Rattle.xp_board.specs.declared.holdings.Holdings.{Holdings}
 use Rattle.xp_board.specs.Acts.{left_by}
 use Rattle.xp_board.specs.After.{after}
 use Rattle.xp_board.specs.Hands.{empty}
 use Rattle.xp_board.specs.Legal.{Legal}
-use Rattle.xp_board.specs.Marks.{after_mark}
 use Rattle.xp_board.specs.Runs as runs
 use Rattle.xp_board.specs.Runs.{place_of, word_at}
 use Rattle.xp_board.specs.Sound.{seat_of}
 use Rattle.xp_board.specs.Told.{Post, PortValue, Story, IsTold, tells, stepped, Went}
 use Rattle.xp_board.proofs.Going.{went_post}
-use Rattle.sound_rule.proofs.OwnRun.{others_run}
 use Rattle.shared_board.specs.Board.{state_of}
 use Rattle.xp_machine.specs.Pieces.{Piece, log_by}
 
@@ -38,7 +30,6 @@ record One (n : Machine) (s : ℕ) (a : Story) (w : PortValue) (x : Made) : Type
   log : b.log ≡ (s, x.step) ∷ a.log
   seats : length b.seats ≡ length a.seats
   others : (t : ℕ) → t ≢ s → seat_of b.seats t ≡ seat_of a.seats t
-  run : (t : ℕ) → t ≢ s → memory (sizes_of n) b.words (run_of t) ≡ memory (sizes_of n) a.words (run_of t)
 
 one_step : (u w : PortValue) (x : Made) (c : Story) → u.told ≡ Some c → u.holdings ≡ seat_of c.seats u.post.seat → u.post.seat < length c.seats →
     u.post.seat < (sizes_of u.post.machine).vcpus → Legal u.post.machine u.post.seat u.holdings x.step → IsTold u.post.machine u.told (place_of u.post.machine x.step) x.found →
@@ -66,7 +57,6 @@ one_step u w x c told hand there real legal found to =
       log = refl;
       seats = length-set c.seats s h;
       others = λ t off. get_or-set_other c.seats s t h empty off;
-      run = λ t off. others_run n s t (seat_of c.seats s) c.words x off legal' is.0 is.1;
     }
 
 -- ---- all of them
@@ -79,7 +69,6 @@ pub record Walked (n : Machine) (s : ℕ) (a : Story) (w : PortValue) (made : Li
   pub log : b.log ≡ log_by s made ++ a.log
   pub seats : length b.seats ≡ length a.seats
   pub others : (t : ℕ) → t ≢ s → seat_of b.seats t ≡ seat_of a.seats t
-  pub run : (t : ℕ) → t ≢ s → memory (sizes_of n) b.words (run_of t) ≡ memory (sizes_of n) a.words (run_of t)
 
 pub walked : (v w : PortValue) (a : Story) (made : List Made) → v.told ≡ Some a → v.holdings ≡ seat_of a.seats v.post.seat → v.post.seat < length a.seats →
     v.post.seat < (sizes_of v.post.machine).vcpus → Went v made w → Walked v.post.machine v.post.seat a w made
@@ -93,7 +82,6 @@ walked v w a [] told hand there real went =
       log = refl;
       seats = refl;
       others = λ t off. refl;
-      run = λ t off. refl;
     }
 walked v w a (x ∷ xs) told hand there real went =
     let u : PortValue = went.0 in
@@ -113,5 +101,4 @@ walked v w a (x ∷ xs) told hand there real went =
       log = one.log ∙ ap (λ (es : List (ℕ × Step)). (v.post.seat, x.step) ∷ es) before.log;
       seats = one.seats ∙ before.seats;
       others = λ t off. one.others t off ∙ before.others t off;
-      run = λ t off. one.run t off ∙ before.run t off;
     }
