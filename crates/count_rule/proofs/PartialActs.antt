@@ -16,7 +16,7 @@ use Rattle.xp_board.specs.Lists.{EachOf}
 use Rattle.xp_board.specs.Readings.{kind_at, kind_stamp, is_partial, is_closing}
 use Rattle.xp_board.specs.Hands.{work_on, without_ref, ref_owner}
 use Rattle.xp_board.specs.Recorded.{held_of}
-use Rattle.xp_board.specs.KindSteps.{put_partial, Partial, kept_owner, as_typed, KeepsMark}
+use Rattle.xp_board.specs.KindSteps.{put_partial, Partial, kept_owner, as_typed, KeepsKept}
 use Rattle.xp_board.specs.After.{noted}
 use Rattle.xp_board.specs.Keeping.{MayAct}
 use Rattle.xp_board.specs.Sound.{Sound}
@@ -48,7 +48,7 @@ module _ (n : Machine) (s : ℕ) (x : Step) (m m2 : Place → ℕ) (b c : ℕ �
 
   -- a mark that stays has the stamp that stood there; a word without a mark has none
   partial_stamp : (wrote : Wrote n x (Kind f) steps.Kind m m2 (b s)) (e : Work) (here : work_on f (b s).works ≡ Some e) (l : KindWord) → kind_at m2 f ≡ l → l.kind ≡ (kind_fields e.word).kind →
-      has_form l ≡ true → IsTrue (is_partial l) → KeepsMark n e l (b s) → kind_stamp (m2 (Kind f)) ≤ m Clock
+      has_form l ≡ true → IsTrue (is_partial l) → KeepsKept n e l (b s) → kind_stamp (m2 (Kind f)) ≤ m Clock
   partial_stamp wrote e here l is kind form partial keeps =
       let same = stamp_of (m2 (Kind f)) l is (partial_unlive l partial) in
       elim (cases_Bool l.unflushed) [

@@ -17,7 +17,7 @@ use Rattle.xp_board.specs.Lists.{EachOf}
 use Rattle.xp_board.specs.Readings.{kind_at, is_partial, is_closing, domain_of}
 use Rattle.xp_board.specs.Hands.{without_work, changed_work, without_ref, without_typed, ref_owner}
 use Rattle.xp_board.specs.After.{is_fixed}
-use Rattle.xp_board.specs.KindSteps.{Partial, InWork, KeepsMark, put_partial, as_typed, kept_owner, looking_at}
+use Rattle.xp_board.specs.KindSteps.{Partial, InWork, KeepsKept, put_partial, as_typed, kept_owner, looking_at}
 use Rattle.xp_board.specs.Found.{WorkFound}
 use Rattle.xp_board.specs.WellFormed.{IsWorkFormed, IsLookingFormed}
 use Rattle.xp_board.specs.Sound.{Sound}
@@ -76,7 +76,7 @@ module _ (n : Machine) (s : ℕ) (x : Step) (m m2 : Place → ℕ) (b c : ℕ �
     form : (d.l.validated ≡ false) × (d.l.partial ≡ true)
     form = partial_by d.l.validated d.l.partial d.l.locked d.form_is
 
-    stamp_by : KeepsMark n d.e d.l (b s) → (t : Bool) → d.l.unflushed ≡ t → d.l.number ≤ m Clock
+    stamp_by : KeepsKept n d.e d.l (b s) → (t : Bool) → d.l.unflushed ≡ t → d.l.number ≤ m Clock
     unfolding form
     stamp_by (inl same) true u = let q = same.1 u in let k = number n s x m m2 b c l sound others f d.e d.here in omega arith
     stamp_by (inr past) true u = absurd (let q = past.1 in cc)

@@ -9,7 +9,7 @@ use Rattle.xp_board.proofs.Going.{had_earlier, had_later}
 use Rattle.frame_words.specs.Pieces.{HadAct}
 use Rattle.frame_words.proofs.Piecing.{act_earlier, act_later}
 use Rattle.frame_types.specs.Clearing.{IsBehind}
-use Rattle.frame_types.specs.Waiting.{FoundClear, idle, flushed, own, barred, WasAsked, WaitsFor, AtLastClock}
+use Rattle.frame_types.specs.Waiting.{FoundClear, idle, flushed, own, barred, WasAskedToFlush, WaitsFor, AtLastClock}
 
 -- what the first ones found and did is among the second
 pub record Within (n : Machine) (xs ys : List Made) : Type 0 where
@@ -32,10 +32,10 @@ module _ (n : Machine) (xs ys : List Made) (in_them : Within n xs ys) where
   clear_within s owner stamp v (own w before is h late) = own w before is (in_them.act _ _ before h) late
   clear_within s owner stamp v (barred w other h never) = barred w other (in_them.had _ w h) never
 
-  pub asked_within : (stamp v : ℕ) → WasAsked n stamp xs v → WasAsked n stamp ys v
+  pub asked_within : (stamp v : ℕ) → WasAskedToFlush n stamp xs v → WasAskedToFlush n stamp ys v
   asked_within stamp v a = record { before = a.before; asked = in_them.act _ _ a.before a.asked }
 
-  each_within : (s owner stamp v : ℕ) → FoundClear n s owner stamp xs v ⊎ WasAsked n stamp xs v → FoundClear n s owner stamp ys v ⊎ WasAsked n stamp ys v
+  each_within : (s owner stamp v : ℕ) → FoundClear n s owner stamp xs v ⊎ WasAskedToFlush n stamp xs v → FoundClear n s owner stamp ys v ⊎ WasAskedToFlush n stamp ys v
   each_within s owner stamp v (inl a) = inl (clear_within s owner stamp v a)
   each_within s owner stamp v (inr a) = inr (asked_within stamp v a)
 

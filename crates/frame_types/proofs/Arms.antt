@@ -15,9 +15,9 @@ use Rattle.frame_words.specs.Kinds.{LostKind}
 use Rattle.frame_words.specs.Pieces.{Makes, FlushesFor}
 use Rattle.frame_words.proofs.Piecing.{serves_more, flushes_more, made_of, makes_post, makes_had, makes_serves, makes_calm}
 use Rattle.frame_words.proofs.Telling.{makes_telling, makes_found, makes_here}
-use Rattle.frame_types.specs.Taking.{Finishes, GivesUp, ShowsAfter, TakesAfter}
+use Rattle.frame_types.specs.Taking.{EndsTaking, GivesUp, ShowsAfter, TakesAfter}
 use Rattle.frame_types.specs.Waiting as waiting
-use Rattle.frame_types.specs.Writable.{IsOpenKind, FoundStamp, Cause, Shows, LeavesHand, Takes, IsNotLost}
+use Rattle.frame_types.specs.Writable.{IsOpenKind, FoundStamp, TypeCause, ShowsType, LeavesHand, Takes, IsNotLost}
 use Rattle.frame_types.proofs.Calmly.{Calmly, calmly_more, at_kind, kind_had, more_had}
 use Rattle.frame_types.proofs.Classing.{Waits}
 use Rattle.frame_types.proofs.Taken.{lost_gave, gave_up, leaves_after}
@@ -80,22 +80,22 @@ module _ (v u w : PortValue) (f owner word stamp : ℕ) (a : Calmly v u f) (had 
   had_more : (before more : List Made) → Had v.post.machine (Kind f) word ((more ++ a.made) ++ before)
   had_more before more = had_later v.post.machine (Kind f) word before (more ++ a.made) (had_earlier v.post.machine (Kind f) word a.made more had)
 
-  waited : (answer : Result (Unit {0}) Stop) (b : Finishes u w f owner stamp answer) (before : List Made) →
-      waiting.Shows v.post.machine v.post.seat owner stamp ((b.made ++ a.made) ++ before) answer
+  waited : (answer : Result (Unit {0}) Stop) (b : EndsTaking u w f owner stamp answer) (before : List Made) →
+      waiting.ShowsWait v.post.machine v.post.seat owner stamp ((b.made ++ a.made) ++ before) answer
   waited answer b before =
       let n = v.post.machine in
       let s = v.post.seat in
       shows_within n s owner stamp (b.made ++ a.made) ((b.made ++ a.made) ++ before) (later_within n before (b.made ++ a.made)) answer
       (shows_within n s owner stamp b.made (b.made ++ a.made) (later_within n a.made b.made) answer
-      (subst (λ (q : Post). waiting.Shows q.machine q.seat owner stamp b.made answer) same_post b.shows))
+      (subst (λ (q : Post). waiting.ShowsWait q.machine q.seat owner stamp b.made answer) same_post b.shows))
 
-  shown : (answer : Result (Unit {0}) Stop) (b : Finishes u w f owner stamp answer) → IsOpenKind (kind_fields word) → (before : List Made) →
-      Shows v.post.machine v.post.seat f owner ((b.made ++ a.made) ++ before) answer
+  shown : (answer : Result (Unit {0}) Stop) (b : EndsTaking u w f owner stamp answer) → IsOpenKind (kind_fields word) → (before : List Made) →
+      ShowsType v.post.machine v.post.seat f owner ((b.made ++ a.made) ++ before) answer
   shown (Ok done) b fits before = (word, had_more before b.made, fits)
   shown (Err e) b fits before =
       waited_cause v.post.machine v.post.seat f owner stamp ((b.made ++ a.made) ++ before) e (found_stamp _ (had_more before b.made)) (waited (Err e) b before)
 
-  pub finishes_taken : (answer : Result (Unit {0}) Stop) → Finishes u w f owner stamp answer → IsOpenKind (kind_fields word) → LeavesHand f owner answer v.holdings w.holdings →
+  pub finishes_taken : (answer : Result (Unit {0}) Stop) → EndsTaking u w f owner stamp answer → IsOpenKind (kind_fields word) → LeavesHand f owner answer v.holdings w.holdings →
       TakesAfter v w f owner word answer
   finishes_taken answer b fits hand =
       record {
@@ -106,7 +106,7 @@ module _ (v u w : PortValue) (f owner word stamp : ℕ) (a : Calmly v u f) (had 
         hand = hand;
       }
 
-pub finishes_not_lost : (u w : PortValue) (f owner stamp : ℕ) (answer : Result (Unit {0}) Stop) → Finishes u w f owner stamp answer → IsNotLost answer
+pub finishes_not_lost : (u w : PortValue) (f owner stamp : ℕ) (answer : Result (Unit {0}) Stop) → EndsTaking u w f owner stamp answer → IsNotLost answer
 finishes_not_lost u w f owner stamp answer b = waited_not_lost u.post.machine u.post.seat owner stamp b.made answer b.shows
 
 -- ---- behind the look
@@ -135,7 +135,7 @@ module _ (v u w : PortValue) (f owner word : ℕ) (look : Makes v u (Kind f) Loa
       }
 
   -- the reference is given back at once, for a cause that the word shows
-  pub refused : (e : Stop) → SameHand v.holdings u.holdings → GivesUp u w f → ((made : List Made) → Had v.post.machine (Kind f) word made → Cause v.post.machine v.post.seat f owner made e) →
+  pub refused : (e : Stop) → SameHand v.holdings u.holdings → GivesUp u w f → ((made : List Made) → Had v.post.machine (Kind f) word made → TypeCause v.post.machine v.post.seat f owner made e) →
       Takes v w f owner (Err e)
   refused e same gives why =
       let first = at_kind v u f word Load look in

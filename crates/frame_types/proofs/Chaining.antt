@@ -11,7 +11,7 @@ use Rattle.frame_words.specs.Pieces.{Serves}
 use Rattle.frame_words.proofs.Rests.{whole_more}
 use Rattle.frame_types.specs.declared.waiting.Awaited.{Awaited}
 use Rattle.frame_types.specs.Clearing.{IsClear, IsBehind, IsLastClock, Stands, Looks}
-use Rattle.frame_types.specs.Waiting.{FoundClear, WasAsked, AtLastClock}
+use Rattle.frame_types.specs.Waiting.{FoundClear, WasAskedToFlush, AtLastClock}
 use Rattle.frame_types.proofs.Among.{earlier_within, later_within, clear_within, asked_within, behind_within, clock_within}
 use Rattle.frame_types.proofs.FlushSteps.{ServesFlushes, flushes_both, ran_serves}
 use Rattle.frame_types.proofs.Growing.{went_grows, past_later}
@@ -24,7 +24,7 @@ module _ (n : Machine) (xs ys : List Made) where
   pub clear_later : (s owner stamp u : ℕ) → FoundClear n s owner stamp ys u → FoundClear n s owner stamp (ys ++ xs) u
   clear_later = clear_within n ys (ys ++ xs) (later_within n xs ys)
 
-  pub asked_earlier : (stamp u : ℕ) → WasAsked n stamp xs u → WasAsked n stamp (ys ++ xs) u
+  pub asked_earlier : (stamp u : ℕ) → WasAskedToFlush n stamp xs u → WasAskedToFlush n stamp (ys ++ xs) u
   asked_earlier = asked_within n xs (ys ++ xs) (earlier_within n xs ys)
 
   pub behind_earlier : (s stamp u found : ℕ) → IsBehind n s stamp xs u found → IsBehind n s stamp (ys ++ xs) u found

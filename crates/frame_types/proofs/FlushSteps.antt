@@ -10,7 +10,7 @@ use Rattle.xp_board.specs.Told.{Post, PortValue}
 use Rattle.xp_board.proofs.Going.{went_post}
 use Rattle.frame_words.specs.Pieces.{Makes, HadAct, Serves, deeds_by, is_load, is_of, is_of_flush}
 use Rattle.frame_words.proofs.Piecing.{serves_nothing, serves_more, each_append, made_of, makes_act, makes_serves}
-use Rattle.frame_types.specs.Clearing.{Ran}
+use Rattle.frame_types.specs.Clearing.{WasRunning}
 use Rattle.frame_types.specs.Waiting.{IsOfFlush}
 
 -- steps from v to w that no guest sees, of frame f, which change words of flushes alone
@@ -29,7 +29,7 @@ flushes_both v u w f xs ys a b =
       flushes = each_append (IsOfFlush v.post.machine) xs ys a.flushes (subst (λ (q : Post). EachOf (IsOfFlush q.machine) ys) (went_post v u xs a.piece.went) b.flushes);
     }
 
-pub ran_serves : (v w : PortValue) (f : ℕ) (Shown : List Made → Type 0) (so : Ran v w f Shown) → ServesFlushes v w f so.made
+pub ran_serves : (v w : PortValue) (f : ℕ) (Shown : List Made → Type 0) (so : WasRunning v w f Shown) → ServesFlushes v w f so.made
 ran_serves v w f Shown so = record { piece = so.piece; flushes = so.flushes }
 
 -- ---- one step

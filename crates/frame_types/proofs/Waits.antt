@@ -10,8 +10,8 @@ use Rattle.frame_words.specs.Pieces.{Serves}
 use Rattle.frame_words.proofs.Rests.{whole_self, whole_more}
 use Rattle.frame_types.specs.declared.waiting.Awaited.{Awaited}
 use Rattle.frame_types.specs.declared.waiting.Behind.{Behind}
-use Rattle.frame_types.specs.Clearing.{Ran, IsClear, Stands, Looks, first_behind, AllStand, Waits}
-use Rattle.frame_types.specs.Waiting.{FoundClear, WasAsked, Clears, IsMarked, IsFlushed}
+use Rattle.frame_types.specs.Clearing.{WasRunning, IsClear, Stands, Looks, first_behind, AllStand, Waits}
+use Rattle.frame_types.specs.Waiting.{FoundClear, WasAskedToFlush, Clears, IsMarked, IsFlushed}
 use Rattle.frame_types.proofs.Chaining.{clear_earlier, asked_earlier, behind_earlier, still_clear, then_stands}
 use Rattle.frame_types.proofs.FlushSteps.{flushes_nothing, flushes_both, ran_serves}
 
@@ -32,15 +32,15 @@ up_to P k all here u below =
     ]
 
 clear_or_asked : (v w : PortValue) (a : Awaited) (made : List Made) (k : ℕ) (standing : Option ℕ) → Stands v w a made k (Ok standing) →
-    FoundClear v.post.machine v.post.seat a.owner a.stamp made k ⊎ WasAsked v.post.machine a.stamp made k
+    FoundClear v.post.machine v.post.seat a.owner a.stamp made k ⊎ WasAskedToFlush v.post.machine a.stamp made k
 clear_or_asked v w a made k None s = inl s.0
 clear_or_asked v w a made k (Some found) s = inr s.asked
 
 module _ (v u w : PortValue) (a : Awaited) (k : ℕ) (xs ys : List Made) (first : Serves v u a.frame [] xs) (second : Serves u w a.frame [] ys) where
-  others_more : (standing : Option ℕ) → ((j : ℕ) → j < k → FoundClear v.post.machine v.post.seat a.owner a.stamp xs j ⊎ WasAsked v.post.machine a.stamp xs j) → Stands v w a (ys ++ xs) k (Ok standing) →
-      (j : ℕ) → j < k + 1 → FoundClear v.post.machine v.post.seat a.owner a.stamp (ys ++ xs) j ⊎ WasAsked v.post.machine a.stamp (ys ++ xs) j
+  others_more : (standing : Option ℕ) → ((j : ℕ) → j < k → FoundClear v.post.machine v.post.seat a.owner a.stamp xs j ⊎ WasAskedToFlush v.post.machine a.stamp xs j) → Stands v w a (ys ++ xs) k (Ok standing) →
+      (j : ℕ) → j < k + 1 → FoundClear v.post.machine v.post.seat a.owner a.stamp (ys ++ xs) j ⊎ WasAskedToFlush v.post.machine a.stamp (ys ++ xs) j
   others_more standing others here =
-      up_to (λ j. FoundClear v.post.machine v.post.seat a.owner a.stamp (ys ++ xs) j ⊎ WasAsked v.post.machine a.stamp (ys ++ xs) j) k
+      up_to (λ j. FoundClear v.post.machine v.post.seat a.owner a.stamp (ys ++ xs) j ⊎ WasAskedToFlush v.post.machine a.stamp (ys ++ xs) j) k
       (λ j below.
       elim (others j below) [
         | inl clear ↦ inl (clear_earlier v.post.machine xs ys v.post.seat a.owner a.stamp j clear)
@@ -88,7 +88,7 @@ waits_refused v u w a k n o r so l =
     }
 
 -- ---- its end
-pub ran_post : (v w : PortValue) (f : ℕ) (Shown : List Made → Type 0) → Ran v w f Shown → w.post ≡ v.post
+pub ran_post : (v w : PortValue) (f : ℕ) (Shown : List Made → Type 0) → WasRunning v w f Shown → w.post ≡ v.post
 ran_post v w f Shown so = went_post v w so.made so.piece.went
 
 module _ (v w : PortValue) (a : Awaited) where

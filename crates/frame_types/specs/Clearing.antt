@@ -18,7 +18,7 @@ use Rattle.frame_words.specs.Hands.{SameOrFlushed}
 use Rattle.frame_words.specs.Pieces.{Serves}
 use Rattle.frame_types.specs.declared.waiting.Awaited.{Awaited}
 use Rattle.frame_types.specs.declared.waiting.Behind.{Behind}
-use Rattle.frame_types.specs.Waiting.{FoundClear, WasAsked, AtLastClock, IsOfFlush}
+use Rattle.frame_types.specs.Waiting.{FoundClear, WasAskedToFlush, AtLastClock, IsOfFlush}
 
 -- no older translation of vCPU u leads to frame f of the own works, but to read it
 abbrev pub PastOn : Machine → ℕ → ℕ → Holdings → Type 0
@@ -26,7 +26,7 @@ PastOn n f u h =
     (e : Work) → work_on f h.works ≡ Some e → IsTrue (is_past (sizes_of n) e.since (kind_fields e.word).number u h.steps) ⊎ PassedOver n e.since e.frame u h
 
 -- the port went from v to w by steps that no guest sees and that change words of flushes alone, and they show this
-pub record Ran (v w : PortValue) (f : ℕ) (Shown : List Made → Type 0) : Type 0 where
+pub record WasRunning (v w : PortValue) (f : ℕ) (Shown : List Made → Type 0) : Type 0 where
   pub made : List Made
   pub piece : Serves v w f [] made
   pub flushes : EachOf (IsOfFlush v.post.machine) made
@@ -44,7 +44,7 @@ pub record IsBehind (n : Machine) (s stamp : ℕ) (made : List Made) (u found : 
   pub running : Had n (run_of u) 0 made
   pub flushed : Had n (flushed_of u) found made
   pub behind : found ≤ stamp
-  pub asked : WasAsked n stamp made u
+  pub asked : WasAskedToFlush n stamp made u
 
 -- the clock was at its last value
 abbrev pub IsLastClock : Machine → ℕ → ℕ → List Made → Refusal → Type 0
@@ -58,7 +58,7 @@ Stands v w a made u (Err r) = IsLastClock v.post.machine v.post.seat a.stamp mad
 
 -- the steps from v to w showed that vCPU u is clear, or flushed to the answer and behind
 abbrev pub Looks : PortValue → PortValue → Awaited → ℕ → Result (Option ℕ) Refusal → Type 0
-Looks v w a u answer = Ran v w a.frame (λ made. Stands v w a made u answer)
+Looks v w a u answer = WasRunning v w a.frame (λ made. Stands v w a made u answer)
 
 -- whether the vCPU's domain owns the frame or ever had privilege over the owner; where not, it is clear
 abbrev pub Concerns : PortValue → PortValue → Awaited → List Made → ℕ → Bool → Type 0
@@ -66,7 +66,7 @@ Concerns v w a made u true = (domain_of v.post.machine u ≡ a.owner) ⊎ IsTrue
 Concerns v w a made u false = IsClear v w a made u
 
 abbrev pub Weighs : PortValue → PortValue → Awaited → ℕ → Bool → Type 0
-Weighs v w a u answer = Ran v w a.frame (λ made. Concerns v w a made u answer)
+Weighs v w a u answer = WasRunning v w a.frame (λ made. Concerns v w a made u answer)
 
 -- ---- all below a number
 -- the least that is behind, after another one
@@ -80,7 +80,7 @@ pub record IsLeast (n : Machine) (s owner stamp : ℕ) (made : List Made) (upto 
   pub below : b.vcpu < upto
   pub itself : IsBehind n s stamp made b.vcpu b.found
   pub least : (u : ℕ) → u < b.vcpu → FoundClear n s owner stamp made u
-  pub others : (u : ℕ) → u < upto → FoundClear n s owner stamp made u ⊎ WasAsked n stamp made u
+  pub others : (u : ℕ) → u < upto → FoundClear n s owner stamp made u ⊎ WasAskedToFlush n stamp made u
 
 abbrev pub AllStand : PortValue → PortValue → Awaited → List Made → ℕ → Result (Option Behind) Refusal → Type 0
 AllStand v w a made upto (Ok None) = (u : ℕ) → u < upto → IsClear v w a made u
@@ -89,4 +89,4 @@ AllStand v w a made upto (Err r) = IsLastClock v.post.machine v.post.seat a.stam
 
 -- the steps from v to w showed that all below that number are clear, or the least that is behind
 abbrev pub Waits : PortValue → PortValue → Awaited → ℕ → Result (Option Behind) Refusal → Type 0
-Waits v w a upto answer = Ran v w a.frame (λ made. AllStand v w a made upto answer)
+Waits v w a upto answer = WasRunning v w a.frame (λ made. AllStand v w a made upto answer)

@@ -60,10 +60,10 @@ LeavesShared f owner (Err e) h k = Becomes (without_ref f h.refs) h.typed (witho
 
 -- ---- steps
 -- the steps wait for flushes past the stamp, and serve frame f alone
-pub record Finishes (v w : PortValue) (f owner stamp : ℕ) (answer : Result (Unit {0}) Stop) : Type 0 where
+pub record EndsTaking (v w : PortValue) (f owner stamp : ℕ) (answer : Result (Unit {0}) Stop) : Type 0 where
   pub made : List Made
   pub piece : Serves v w f [] made
-  pub shows : waiting.Shows v.post.machine v.post.seat owner stamp made answer
+  pub shows : waiting.ShowsWait v.post.machine v.post.seat owner stamp made answer
 
 -- calm steps give the untyped reference back
 pub record GivesUp (v w : PortValue) (f : ℕ) : Type 0 where
@@ -74,7 +74,7 @@ pub record GivesUp (v w : PortValue) (f : ℕ) : Type 0 where
 
 -- what these steps show of the answer, behind steps that found that word
 abbrev pub ShowsAfter : Machine → ℕ → ℕ → ℕ → ℕ → List Made → Result (Unit {0}) Stop → Type 0
-ShowsAfter n s f owner word made answer = (before : List Made) → Had n (Kind f) word before → writable.Shows n s f owner (made ++ before) answer
+ShowsAfter n s f owner word made answer = (before : List Made) → Had n (Kind f) word before → writable.ShowsType n s f owner (made ++ before) answer
 
 -- frame f is taken by steps behind those that found that word
 pub record TakesAfter (v w : PortValue) (f owner word : ℕ) (answer : Result (Unit {0}) Stop) : Type 0 where

@@ -45,7 +45,7 @@ pub data FoundClear (n : Machine) (s owner stamp : ℕ) (made : List Made) (v : 
   barred : (w : ℕ) → domain_of n v ≢ owner → Had n (Priv (domain_of n v)) w made → IsTrue (not (has_ever owner w)) → FoundClear n s owner stamp made v
 
 -- it was asked to flush past the stamp
-pub record WasAsked (n : Machine) (stamp : ℕ) (made : List Made) (v : ℕ) : Type 0 where
+pub record WasAskedToFlush (n : Machine) (stamp : ℕ) (made : List Made) (v : ℕ) : Type 0 where
   pub before : ℕ
   pub asked : HadAct n (asked_of v) (Max stamp) before made
 
@@ -57,7 +57,7 @@ pub record WaitsFor (n : Machine) (s owner stamp : ℕ) (made : List Made) (v fo
   pub flushed : Had n (flushed_of v) found made
   pub behind : found ≤ stamp
   pub least : (u : ℕ) → u < v → FoundClear n s owner stamp made u
-  pub others : (u : ℕ) → u < length n.vcpu_domain → FoundClear n s owner stamp made u ⊎ WasAsked n stamp made u
+  pub others : (u : ℕ) → u < length n.vcpu_domain → FoundClear n s owner stamp made u ⊎ WasAskedToFlush n stamp made u
 
 -- the own vCPU was found flushed no later than the stamp, and the clock at its last value
 pub record AtLastClock (n : Machine) (s stamp : ℕ) (made : List Made) : Type 0 where
@@ -72,17 +72,17 @@ abbrev pub IsOfFlush : Machine → Made → Type 0
 IsOfFlush n x = IsTrue (is_load x.step.act || is_of_flush (place_of n x.step))
 
 -- Ok: each vCPU was found clear. Else the cause.
-abbrev pub Shows : Machine → ℕ → ℕ → ℕ → List Made → Result (Unit {0}) Stop → Type 0
-Shows n s owner stamp made (Ok done) = (v : ℕ) → v < length n.vcpu_domain → FoundClear n s owner stamp made v
-Shows n s owner stamp made (Err (Refused (refusals.Clock found))) = (found ≡ last_clock) × AtLastClock n s stamp made
-Shows n s owner stamp made (Err (Refused _)) = ⊥
-Shows n s owner stamp made (Err (Paused (Flush v t found))) = (t ≡ stamp) × WaitsFor n s owner stamp made v found
-Shows n s owner stamp made (Err (Paused _)) = ⊥
+abbrev pub ShowsWait : Machine → ℕ → ℕ → ℕ → List Made → Result (Unit {0}) Stop → Type 0
+ShowsWait n s owner stamp made (Ok done) = (v : ℕ) → v < length n.vcpu_domain → FoundClear n s owner stamp made v
+ShowsWait n s owner stamp made (Err (Refused (refusals.Clock found))) = (found ≡ last_clock) × AtLastClock n s stamp made
+ShowsWait n s owner stamp made (Err (Refused _)) = ⊥
+ShowsWait n s owner stamp made (Err (Paused (Flush v t found))) = (t ≡ stamp) × WaitsFor n s owner stamp made v found
+ShowsWait n s owner stamp made (Err (Paused _)) = ⊥
 
 -- the steps from v to w, which no guest sees and which change words of flushes alone, and what they show of the answer
 pub record Clears (v w : PortValue) (f owner stamp : ℕ) (answer : Result (Unit {0}) Stop) : Type 0 where
   pub made : List Made
   pub piece : Serves v w f [] made
   pub flushes : EachOf (IsOfFlush v.post.machine) made
-  pub shows : Shows v.post.machine v.post.seat owner stamp made answer
+  pub shows : ShowsWait v.post.machine v.post.seat owner stamp made answer
   pub hand : SameOrFlushed v.holdings w.holdings

@@ -63,24 +63,24 @@ pub record FoundOther (n : Machine) (f expected found : ℕ) (made : List Made) 
   pub other : found ≢ expected
 
 -- why vCPU s does not get frame f of that owner as writable: each by words that these steps found
-abbrev pub Cause : Machine → ℕ → ℕ → ℕ → List Made → Stop → Type 0
-Cause n s f owner made (Refused (refusals.OtherType g want found)) =
+abbrev pub TypeCause : Machine → ℕ → ℕ → ℕ → List Made → Stop → Type 0
+TypeCause n s f owner made (Refused (refusals.OtherType g want found)) =
     (g ≡ f) × (want ≡ Writable) × Had n (Kind f) found made × IsOther (kind_fields found)
-Cause n s f owner made (Refused (refusals.Clock found)) =
+TypeCause n s f owner made (Refused (refusals.Clock found)) =
     (found ≡ last_clock) × ((stamp : ℕ) × FoundStamp n f stamp made × AtLastClock n s stamp made)
-Cause n s f owner made (Refused _) = ⊥
-Cause n s f owner made (Paused (Lost place expected found)) = (place ≡ number (sizes_of n) (Kind f)) × FoundOther n f expected found made
-Cause n s f owner made (Paused (Busy g found)) = (g ≡ f) × Had n (Kind f) found made × IsBusy (kind_fields found)
-Cause n s f owner made (Paused (Flush v stamp found)) = FoundStamp n f stamp made × WaitsFor n s owner stamp made v found
-Cause n s f owner made (Paused _) = ⊥
+TypeCause n s f owner made (Refused _) = ⊥
+TypeCause n s f owner made (Paused (Lost place expected found)) = (place ≡ number (sizes_of n) (Kind f)) × FoundOther n f expected found made
+TypeCause n s f owner made (Paused (Busy g found)) = (g ≡ f) × Had n (Kind f) found made × IsBusy (kind_fields found)
+TypeCause n s f owner made (Paused (Flush v stamp found)) = FoundStamp n f stamp made × WaitsFor n s owner stamp made v found
+TypeCause n s f owner made (Paused _) = ⊥
 
 -- Ok: a step found the frame live and writable, or dead, or partial as writable.
 abbrev pub IsOpenKind : KindWord → Type 0
 IsOpenKind k = IsTrue (is_dead k) ⊎ ((k.kind ≡ Writable) × (is_work k ≡ false) × (is_closing k ≡ false))
 
-abbrev pub Shows : Machine → ℕ → ℕ → ℕ → List Made → Result (Unit {0}) Stop → Type 0
-Shows n s f owner made (Ok done) = (word : ℕ) × Had n (Kind f) word made × IsOpenKind (kind_fields word)
-Shows n s f owner made (Err e) = Cause n s f owner made e
+abbrev pub ShowsType : Machine → ℕ → ℕ → ℕ → List Made → Result (Unit {0}) Stop → Type 0
+ShowsType n s f owner made (Ok done) = (word : ℕ) × Had n (Kind f) word made × IsOpenKind (kind_fields word)
+ShowsType n s f owner made (Err e) = TypeCause n s f owner made e
 
 -- the hand: the type, or the reference given back
 abbrev pub LeavesHand : ℕ → ℕ → Result (Unit {0}) Stop → Holdings → Holdings → Type 0
@@ -92,11 +92,11 @@ pub record Takes (v w : PortValue) (f owner : ℕ) (answer : Result (Unit {0}) S
   pub made : List Made
   pub piece : Serves v w f [] made
   pub flushes : FlushesFor v.post.machine f made
-  pub shows : Shows v.post.machine v.post.seat f owner made answer
+  pub shows : ShowsType v.post.machine v.post.seat f owner made answer
   pub hand : LeavesHand f owner answer v.holdings w.holdings
 
 -- ---- given back
-pub record Drops (v w : PortValue) (f : ℕ) : Type 0 where
+pub record DropsPlain (v w : PortValue) (f : ℕ) : Type 0 where
   pub made : List Made
   pub piece : Serves v w f [] made
   pub calm : Calm v.post.machine made

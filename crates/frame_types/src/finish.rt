@@ -3,7 +3,7 @@ ghost use Rattle.std.specs.Prelude.{◌≡◌, ◌<◌, Some, None};
 ghost use Rattle.xp_board.specs.declared.holdings.OwnerFound.TheVariants.{Of};
 ghost use Rattle.xp_board.specs.Hands.{refs_to, ref_owner, typed_to, typed_owner};
 ghost use Rattle.xp_board.specs.Readings.{domain_of};
-ghost use Rattle.frame_types.specs.Taking.{IsMarkedWork, Finishes, LeavesOwn, LeavesShared};
+ghost use Rattle.frame_types.specs.Taking.{IsMarkedWork, EndsTaking, LeavesOwn, LeavesShared};
 
 use crate::waiting::clear_stale;
 use frame_words::{look_clock, put_ref, store_dead, store_live, store_live_shared, store_partial};
@@ -26,7 +26,7 @@ pub(crate) fn finish_own<P: Port>(
     requires held { 0 < typed_to frame (P.value port.old).holdings.typed }
     requires known { typed_owner frame (P.value port.old).holdings ≡ Of owner }
     ensures post { (P.value port.new).post ≡ (P.value port.old).post }
-    ensures finishes { Finishes (P.value port.old) (P.value port.new) frame owner stamp result }
+    ensures finishes { EndsTaking (P.value port.old) (P.value port.new) frame owner stamp result }
     ensures hand { LeavesOwn frame owner result (P.value port.old).holdings (P.value port.new).holdings }
 {
     match clear_stale(port, frame, owner, stamp) {
@@ -63,7 +63,7 @@ pub(crate) fn finish_shared<P: Port>(
     requires held { 0 < refs_to frame (P.value port.old).holdings.refs }
     requires known { ref_owner frame (P.value port.old).holdings ≡ Of owner }
     ensures post { (P.value port.new).post ≡ (P.value port.old).post }
-    ensures finishes { Finishes (P.value port.old) (P.value port.new) frame owner stamp result }
+    ensures finishes { EndsTaking (P.value port.old) (P.value port.new) frame owner stamp result }
     ensures hand { LeavesShared frame owner result (P.value port.old).holdings (P.value port.new).holdings }
 {
     match clear_stale(port, frame, owner, stamp) {

@@ -4,7 +4,7 @@ ghost use Rattle.xp_words.specs.PageTypes.{is_table};
 ghost use Rattle.xp_words.specs.Places.{sizes_of};
 ghost use Rattle.xp_board.specs.Hands.{typed_to, work_on};
 ghost use Rattle.xp_board.specs.Knowledge.{knows_live};
-ghost use Rattle.frame_types.specs.Writable.{Drops};
+ghost use Rattle.frame_types.specs.Writable.{DropsPlain};
 
 use frame_words::{drop_type, look_clock, put_ref, store_dead};
 use xp_board::Port;
@@ -20,7 +20,7 @@ pub fn drop_plain<P: Port>(port: &mut P, frame: u32, kind: PageType)
     requires plain { is_table kind ≡ false }
     requires apart { work_on frame (P.value port.old).holdings.works ≡ None }
     ensures post { (P.value port.new).post ≡ (P.value port.old).post }
-    ensures drops { Drops (P.value port.old) (P.value port.new) frame }
+    ensures drops { DropsPlain (P.value port.old) (P.value port.new) frame }
 {
     if drop_type(port, frame) {
         let stamp = look_clock(port);

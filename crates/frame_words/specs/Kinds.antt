@@ -131,12 +131,12 @@ abbrev pub one_fewer : ℕ → ℕ
 one_fewer w = (w + one_down) % 2 ^ 64
 
 -- the frame came to the own works, closing, with all entries of a table recorded
-pub record Closes (f found : ℕ) (h k : Holdings) : Type 0 where
+pub record LeavesClosing (f found : ℕ) (h k : Holdings) : Type 0 where
   pub works : k.works ≡ new_work f (one_fewer found) (if is_table (kind_fields found).kind then 512 else 0) None h ∷ h.works
   pub fields : kind_fields (one_fewer found) ≡ record (kind_fields found) { number = 0 }
 
 abbrev pub ClosesIf : Bool → ℕ → ℕ → Holdings → Holdings → Type 0
-ClosesIf true f found h k = Closes f found h k
+ClosesIf true f found h k = LeavesClosing f found h k
 ClosesIf false f found h k = k.works ≡ h.works
 
 -- A typed reference became an untyped one. The word found was live, unmarked, and of the type that was known, and

@@ -64,20 +64,20 @@ pub record FoundLost (n : Machine) (f : ℕ) (made : List Made) (p : Pause) : Ty
   pub lost : p ≡ Lost (number (sizes_of n) (Refs f)) expected found
 
 -- why taking a reference to frame f for that owner ends otherwise: by the number of the frame, or by what these steps found
-abbrev pub Cause : Machine → ℕ → ℕ → List Made → Stop → Type 0
-Cause n f owner made (Refused r) = ((n.frames ≤ f) × (r ≡ NoFrame f)) ⊎ FoundRefused n f owner made r
-Cause n f owner made (Paused p) = FoundLost n f made p
+abbrev pub ReferenceCause : Machine → ℕ → ℕ → List Made → Stop → Type 0
+ReferenceCause n f owner made (Refused r) = ((n.frames ≤ f) × (r ≡ NoFrame f)) ⊎ FoundRefused n f owner made r
+ReferenceCause n f owner made (Paused p) = FoundLost n f made p
 
-abbrev pub Shows : Machine → ℕ → ℕ → List Made → Result ℕ Stop → Type 0
-Shows n f owner made (Ok g) = FoundOpen n f owner made
-Shows n f owner made (Err e) = Cause n f owner made e
+abbrev pub ShowsReference : Machine → ℕ → ℕ → List Made → Result ℕ Stop → Type 0
+ShowsReference n f owner made (Ok g) = FoundOpen n f owner made
+ShowsReference n f owner made (Err e) = ReferenceCause n f owner made e
 
 -- the steps from v to w, and what they show of the answer
 pub record Gets (v w : PortValue) (f owner : ℕ) (answer : Result ℕ Stop) : Type 0 where
   pub made : List Made
   pub piece : Serves v w f [] made
   pub calm : Calm v.post.machine made
-  pub shows : Shows v.post.machine f owner made answer
+  pub shows : ShowsReference v.post.machine f owner made answer
 
 abbrev pub IsRefusal : Stop → Type 0
 IsRefusal (Refused r) = Unit {0}

@@ -8,7 +8,7 @@ use Rattle.xp_words.specs.declared.reply.Refusal.TheVariants as refusals
 use Rattle.xp_words.specs.declared.reply.Pause.TheVariants as pauses
 use Rattle.xp_board.specs.declared.holdings.Made.{Made}
 use Rattle.frame_words.specs.References.{FoundOpen}
-use Rattle.frame_types.specs.Writable.{FoundStamp, FoundOther, Cause}
+use Rattle.frame_types.specs.Writable.{FoundStamp, FoundOther, TypeCause}
 use Rattle.frame_types.proofs.Among.{Within, waits_within, clock_within}
 
 module _ (n : Machine) (s : ℕ) (xs ys : List Made) (among : Within n xs ys) where
@@ -34,7 +34,7 @@ module _ (n : Machine) (s : ℕ) (xs ys : List Made) (among : Within n xs ys) wh
       }
 
   -- why the frame was not taken as writable
-  pub cause_within : (f owner : ℕ) (e : Stop) → Cause n s f owner xs e → Cause n s f owner ys e
+  pub cause_within : (f owner : ℕ) (e : Stop) → TypeCause n s f owner xs e → TypeCause n s f owner ys e
   cause_within f owner (Refused (refusals.OtherType g want found)) a = (a.0, a.1, among.had (Kind f) found a.2, a.3)
   cause_within f owner (Refused (refusals.Clock found)) a = (a.0, (a.1.0, stamp_within f a.1.0 a.1.1, clock_within n xs ys among s a.1.0 a.1.2))
   cause_within f owner (Refused r) a = absurd a

@@ -10,7 +10,7 @@ use Rattle.frame_words.specs.Hands.{SameHand, TookRef}
 use Rattle.frame_words.specs.Pieces.{Makes, Writes, Serves, Calm, FlushesFor}
 use Rattle.frame_words.specs.References.{Gets, FoundOpen}
 use Rattle.frame_words.proofs.Piecing.{serves_more, flushes_more, made_of, makes_serves, makes_calm, this_frame}
-use Rattle.frame_types.specs.Writable.{Takes, Drops, Shows}
+use Rattle.frame_types.specs.Writable.{Takes, DropsPlain, ShowsType}
 use Rattle.frame_types.specs.Writable as writable
 use Rattle.frame_types.proofs.Among.{Within, earlier_within, later_within, within_more}
 use Rattle.mmu_update.specs.Writing.{WritesWord}
@@ -36,12 +36,12 @@ module _ (v u : PortValue) (d f : ℕ) (gets : Gets v u f d (Ok f)) (took : Took
             (subst (λ (q : Post). FlushesFor q.machine f takes.made) after_reference takes.flushes);
         shows = inr
             (cause_within v.post.machine v.post.seat takes.made (takes.made ++ gets.made) (later_within v.post.machine gets.made takes.made) f d e
-            (subst (λ (q : Post). writable.Cause q.machine q.seat f d takes.made e) after_reference takes.shows));
+            (subst (λ (q : Post). writable.TypeCause q.machine q.seat f d takes.made e) after_reference takes.shows));
         hand = given_up f d v.holdings u.holdings took w.holdings takes.hand;
       }
 
   -- it was, and the word stored
-  module _ (x y z : PortValue) (i word found : ℕ) (takes : Takes u x f d (Ok tt)) (store : Makes x y (Cell f i) (Store word) None found) (drops : Drops y z f) where
+  module _ (x y z : PortValue) (i word found : ℕ) (takes : Takes u x f d (Ok tt)) (store : Makes x y (Cell f i) (Store word) None found) (drops : DropsPlain y z f) where
     after_type : x.post ≡ v.post
     after_type = went_post u x takes.made takes.piece.went ∙ after_reference
 
@@ -81,11 +81,11 @@ module _ (v u : PortValue) (d f : ℕ) (gets : Gets v u f d (Ok f)) (took : Took
         let n = v.post.machine in
         within_more n xs ((stored ∷ []) ++ taken) all (within_more n xs taken ((stored ∷ []) ++ taken) a (earlier_within n taken (stored ∷ []))) (earlier_within n ((stored ∷ []) ++ taken) drops.made)
 
-    all_show : Shows v.post.machine v.post.seat f d all (Ok tt)
+    all_show : ShowsType v.post.machine v.post.seat f d all (Ok tt)
     unfolding taken
     all_show =
         let n = v.post.machine in
-        let a = subst (λ (q : Post). Shows q.machine q.seat f d takes.made (Ok tt)) after_reference takes.shows in
+        let a = subst (λ (q : Post). ShowsType q.machine q.seat f d takes.made (Ok tt)) after_reference takes.shows in
         (a.0, (among_all takes.made (later_within n gets.made takes.made)).had (Kind f) a.0 a.1, a.2)
 
     all_open : FoundOpen v.post.machine f d all

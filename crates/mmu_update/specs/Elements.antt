@@ -43,22 +43,22 @@ Serve n Unknown made = made ≡ []
 
 -- ordinary memory: the frame was found the domain's own, with room for a reference, and then one that can be written
 abbrev pub ShowsWrite : Machine → ℕ → ℕ → ℕ → List Made → Result (Unit {0}) Stop → Type 0
-ShowsWrite n s d f made (Ok done) = (f < n.frames) × FoundOpen n f d made × writable.Shows n s f d made (Ok done)
-ShowsWrite n s d f made (Err e) = references.Cause n f d made e ⊎ writable.Cause n s f d made e
+ShowsWrite n s d f made (Ok done) = (f < n.frames) × FoundOpen n f d made × writable.ShowsType n s f d made (Ok done)
+ShowsWrite n s d f made (Err e) = references.ReferenceCause n f d made e ⊎ writable.TypeCause n s f d made e
 
 -- why vCPU s of that domain answers so: by the numbers of the pair, or by what these steps found
-abbrev pub Shows : Machine → ℕ → ℕ → Element → List Made → Result (Unit {0}) Stop → Type 0
-Shows n s d (SetM2p f w) made (Ok done) = (f < n.frames) × FoundOpen n f d made
-Shows n s d (SetM2p f w) made (Err e) = references.Cause n f d made e
-Shows n s d (Write f i w) made answer = ShowsWrite n s d f made answer
-Shows n s d Misaligned made answer = answer ≡ Err (Refused refusals.BadRange)
-Shows n s d Unknown made answer = answer ≡ Err (Refused refusals.BadCommand)
+abbrev pub ShowsElement : Machine → ℕ → ℕ → Element → List Made → Result (Unit {0}) Stop → Type 0
+ShowsElement n s d (SetM2p f w) made (Ok done) = (f < n.frames) × FoundOpen n f d made
+ShowsElement n s d (SetM2p f w) made (Err e) = references.ReferenceCause n f d made e
+ShowsElement n s d (Write f i w) made answer = ShowsWrite n s d f made answer
+ShowsElement n s d Misaligned made answer = answer ≡ Err (Refused refusals.BadRange)
+ShowsElement n s d Unknown made answer = answer ≡ Err (Refused refusals.BadCommand)
 
 -- the answer to an element fits the steps that were made for it
 pub record ElementFits (n : Machine) (s d : ℕ) (p : Pair) (made : List Made) (answer : Result (Unit {0}) Stop) : Type 0 where
   pub deeds_are : deeds n made ≡ deeds_of (element_of p) answer
   pub serve : Serve n (element_of p) made
-  pub shows : Shows n s d (element_of p) made answer
+  pub shows : ShowsElement n s d (element_of p) made answer
 
 -- the steps from v to w answer an element, and leave nothing in hand
 pub record Updates (v w : PortValue) (d : ℕ) (p : Pair) (answer : Result (Unit {0}) Stop) : Type 0 where

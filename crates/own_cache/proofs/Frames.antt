@@ -19,7 +19,7 @@ use Rattle.xp_board.specs.Lists.{EachOf, first_of, kept_of}
 use Rattle.xp_board.specs.Told.{is_item, cached_item}
 use Rattle.own_cache.specs.declared.flight.Flight.{Flight}
 use Rattle.own_cache.specs.Frames.{LeadInside}
-use Rattle.own_cache.specs.Translating.{Translating, translating, below, seen, with_entry, gone_on, filled, set_bits, touched_by, touched_in, item_in, ran, marked, acted, translated}
+use Rattle.own_cache.specs.Translating.{Translating, translating, walk_below, seen, with_entry, gone_on, filled, set_bits, entry_touched, touched_in, item_in, ran, marked, acted, translated}
 use Rattle.own_cache.proofs.Projecting.{translating_after}
 
 module _ (frames : ℕ) where
@@ -47,7 +47,7 @@ module _ (frames : ℕ) where
   passed : (w : ℕ) (b : Bool) → not (nat_lt (frame_of w) frames) ≡ b → b ≡ false → frame_of w < frames
   passed w b e f = let t : not (nat_lt (frame_of w) frames) ≡ false = e ∙ f in grind (arith, nat_tests)
 
-  below_inside : (f : Flight) (w : ℕ) (t : Translating) → LeadInside frames t.items → LeadInside frames (below frames f w t).items
+  below_inside : (f : Flight) (w : ℕ) (t : Translating) → LeadInside frames t.items → LeadInside frames (walk_below frames f w t).items
   unfolding EachOf
   below_inside f w t h =
       either (not (nat_lt (frame_of w) frames)) _ _ (λ e. h)
@@ -70,7 +70,7 @@ module _ (frames : ℕ) where
   set_inside false new (Some f) t h = h
   set_inside met new None t h = h
 
-  touched_inside : (p : Place) (a : Act) (w : ℕ) (t : Translating) → LeadInside frames t.items → LeadInside frames (touched_by frames p a w t).items
+  touched_inside : (p : Place) (a : Act) (w : ℕ) (t : Translating) → LeadInside frames t.items → LeadInside frames (entry_touched frames p a w t).items
   touched_inside (Cell f i) (Cas e x) w t h = set_inside (w == e) x t.flight t h
   touched_inside _ _ w t h = h
 

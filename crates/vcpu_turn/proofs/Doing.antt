@@ -12,14 +12,14 @@ use Rattle.xp_board.specs.Told.{Post, PortValue, Went}
 use Rattle.xp_board.proofs.Going.{went_more, went_post}
 use Rattle.mmu_update.specs.declared.element.Element.{Element}
 use Rattle.mmu_update.specs.declared.element.Element.TheVariants.{SetM2p, Write, Misaligned, Unknown}
-use Rattle.mmu_update.specs.Elements.{ElementFits, Shows, Updates, element_of}
+use Rattle.mmu_update.specs.Elements.{ElementFits, ShowsElement, Updates, element_of}
 use Rattle.vcpu_turn.specs.Lists.{Did, EndsList, none, more}
 use Rattle.vcpu_turn.specs.Turning.{Rests}
 use Rattle.vcpu_turn.specs.Working.{WorksList, is_due_by}
 use Rattle.vcpu_turn.proofs.Waking.{rests_on}
 
 -- ---- an element asks no gate
-never_due : (n : Machine) (s d : ℕ) (e : Element) (made : List Made) → Shows n s d e made (Err (Paused Due)) → ⊥
+never_due : (n : Machine) (s d : ℕ) (e : Element) (made : List Made) → ShowsElement n s d e made (Err (Paused Due)) → ⊥
 never_due n s d (SetM2p f w) made found = absurd (let lost = found.lost in cc)
 never_due n s d (Write f i w) made (inl found) = absurd (let lost = found.lost in cc)
 never_due n s d (Write f i w) made (inr cause) = cause

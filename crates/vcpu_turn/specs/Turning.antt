@@ -89,7 +89,7 @@ EndsTurn n s ends.Retired last = IsStop n s last
 
 -- ---- what it does between
 -- The next operation goes on until it answers or pauses. At the script's end the vCPU is retired.
-pub record GoesOn (n : Machine) (c : Processing) (op : Op) (c' : Processing) (work : List Made) (end : TurnEnd) : Type 0 where
+pub record GoesOnWith (n : Machine) (c : Processing) (op : Op) (c' : Processing) (work : List Made) (end : TurnEnd) : Type 0 where
   pub to : ℕ
   pub answer : Result (Unit {0}) Stop
   pub works : Works n c.vcpu c.domain (pairs_of op) c.done to work answer
@@ -102,7 +102,7 @@ pub record Retires (c c' : Processing) (work : List Made) (end : TurnEnd) : Type
   pub cpu : c' ≡ record c { retired = true }
 
 abbrev pub Does : Machine → Processing → Option Op → Processing → List Made → TurnEnd → Type 0
-Does n c (Some op) c' work end = GoesOn n c op c' work end
+Does n c (Some op) c' work end = GoesOnWith n c op c' work end
 Does n c None c' work end = Retires c c' work end
 
 -- ---- all of it

@@ -2,3 +2,4 @@ pub mod Empty
 pub mod Going
 pub mod RefWords
 pub mod Rows
+pub mod Returned

@@ -174,8 +174,8 @@ pub record MayMakeLive (m : Machine) (f : ℕ) (e : Work) (l : KindWord) (h : Ho
   pub counts : CountsLive f l h
 
 -- the mark stays with its stamp, or goes off past the flush
-abbrev pub KeepsMark : Machine → Work → KindWord → Holdings → Type 0
-KeepsMark m e l h =
+abbrev pub KeepsKept : Machine → Work → KindWord → Holdings → Type 0
+KeepsKept m e l h =
     ((l.unflushed ≡ (kind_fields e.word).unflushed) × (l.unflushed ≡ true → l.number ≡ (kind_fields e.word).number))
     ⊎ (((kind_fields e.word).unflushed ≡ true) × (l.unflushed ≡ false) × IsPastFlush m h e)
 
@@ -193,7 +193,7 @@ pub record MayKeep (f : ℕ) (e : Work) (h : Holdings) : Type 0 where
 pub record MayMakePartial (m : Machine) (f : ℕ) (e : Work) (l : KindWord) (h : Holdings) : Type 0 where
   pub kind : l.kind ≡ (kind_fields e.word).kind
   pub progress : l.progress ≡ e.recorded
-  pub mark : KeepsMark m e l h
+  pub mark : KeepsKept m e l h
   pub kept : l.kept ≡ true → MayKeep f e h
   pub closing : IsTrue (is_closing (kind_fields e.word)) → 0 < refs_to f h.refs
 

@@ -1,11 +1,28 @@
 //! What the definitions of the machine say at once. These functions do nothing: their contracts are laws.
-ghost use Rattle.std.specs.Prelude.{◌≡◌, ◌<◌, ◌≤◌, ◌+◌, ◌^◌, ℕ, Bool, IsTrue, None, Some, length};
+ghost use Rattle.std.specs.Prelude.{◌≡◌, ◌≢◌, ◌<◌, ◌≤◌, ◌+◌, ◌^◌, ℕ, suc, Bool, false, IsTrue, None, Some, length};
+ghost use Rattle.xp_words.specs.Entries.{demand_at};
 ghost use Rattle.xp_words.specs.Machine.{Machine};
-ghost use Rattle.xp_words.specs.Places.{Place, Refs, M2p, is_place, sizes_of};
+ghost use Rattle.xp_words.specs.Places.{Place, Vcpu, Refs, M2p, Cell, is_place, sizes_of, run_of};
+ghost use Rattle.xp_words.specs.declared.entry.Demand.TheVariants.{Typed};
+ghost use Rattle.xp_words.specs.declared.kind.PageType.{PageType};
+ghost use Rattle.xp_board.specs.AskSteps.{AwaitsFree};
+ghost use Rattle.xp_board.specs.CellSteps.{after_cell, keeps_demand};
+ghost use Rattle.xp_board.specs.ContextSteps.{after_context, context_type};
+ghost use Rattle.xp_board.specs.Knowledge.{knows_live};
+ghost use Rattle.xp_board.specs.Marks.{after_mark, demand_seen};
+ghost use Rattle.xp_board.specs.Readings.{is_context, is_free};
+ghost use Rattle.xp_board.specs.Runs.{place_of};
+ghost use Rattle.xp_board.specs.Sound.{Sound};
+ghost use Rattle.xp_board.specs.Steps.{last_since};
+ghost use Rattle.xp_board.specs.Told.{PortValue, own_run, stepped};
+ghost use Rattle.xp_board.specs.declared.holdings.Lock.{Lock};
+ghost use Rattle.xp_board.specs.declared.holdings.Work.{Work};
+ghost use Rattle.xp_board.specs.declared.step.Mark.TheVariants.{Shed};
+ghost use Rattle.xp_board.specs.declared.step.Step.{Step};
 ghost use Rattle.xp_words.specs.RefWords.{ref_write};
 ghost use Rattle.xp_words.specs.declared.refs.RefWord.TheVariants.{Owned};
 ghost use Rattle.xp_board.specs.Acts.{left_by};
-ghost use Rattle.xp_board.specs.Hands.{empty, hand, refs_to};
+ghost use Rattle.xp_board.specs.Hands.{empty, hand, lock_on, refs_to, work_on};
 ghost use Rattle.xp_board.specs.Legal.{LegalMove};
 ghost use Rattle.xp_board.specs.WellFormed.{WellFormed};
 ghost use Rattle.xp_board.specs.declared.holdings.Holdings.{Holdings};
@@ -43,4 +60,31 @@ pub fn a_map_is_legal()
 /// A seat that has made no step holds nothing, and that is well formed.
 pub fn empty_hands_are_well_formed()
     ensures { (n : Machine) (s : ℕ) → WellFormed n s empty }
+{}
+
+/// A typed reference that comes out of a word of a vCPU, but one of the two old words, is known live at once; so is what an
+/// entry exchanged under the lock led to, and the last recorded entry where nothing of it is open. So each of them can be given back.
+pub fn what_comes_back_is_known_live()
+    ensures word { (n : Machine) (v k new f : ℕ) (t : PageType) (h : Holdings) → IsTrue (is_context k) → context_type k ≡ Some t →
+        IsTrue (knows_live (sizes_of n) f t (after_context (Vcpu v k) (Store new) (suc f) h)) }
+    ensures entry { (n : Machine) (f i new w g : ℕ) (t : PageType) (h : Holdings) (e : Lock) → lock_on f h.locks ≡ Some e → keeps_demand e i new ≡ false →
+        demand_at e.kind i w ≡ Typed g t → IsTrue (knows_live (sizes_of n) g t (after_cell (Cell f i) (Store new) w h)) }
+    ensures settled { (n : Machine) (f upto g : ℕ) (t : PageType) (h : Holdings) (e : Work) → work_on f h.works ≡ Some e → e.unsettled ≡ None →
+        demand_seen upto e ≡ Typed g t → IsTrue (knows_live (sizes_of n) g t (after_mark n (Some (Shed f upto)) h)) }
+{}
+
+/// The stamp of an ask for a free frame is the word of a free one, and no other reference word.
+pub fn an_awaited_stamp_is_free()
+    ensures { (n : Machine) (since stamp : ℕ) (h : Holdings) → AwaitsFree n since stamp h → IsTrue (is_free stamp) }
+{}
+
+/// Each own word of a vCPU that is not stopped, but the two of flushes, is what its seat last found or left there.
+pub fn an_own_word_is_as_it_was_left()
+    ensures { (n : Machine) (m : Place → ℕ) (h : ℕ → Holdings) (s k w : ℕ) → Sound n m h → s < (sizes_of n).vcpus → k ≢ 4 → k ≢ 5 → m (run_of s) ≢ 1 →
+        last_since (sizes_of n) 0 (Vcpu s k) (h s).steps ≡ Some w → m (Vcpu s k) ≡ w }
+{}
+
+/// After a step at the own run word that word is known.
+pub fn a_step_tells_the_own_run_word()
+    ensures { (v : PortValue) (x : Step) (found : ℕ) → place_of v.post.machine x ≡ run_of v.post.seat → own_run (stepped v x found) ≡ left_by x.act found }
 {}

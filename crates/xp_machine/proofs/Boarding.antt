@@ -17,7 +17,7 @@ use Rattle.xp_board.specs.declared.holdings.Made.{Made}
 use Rattle.xp_machine.specs.Cpus.{IsShort}
 use Rattle.xp_machine.specs.Ready.{Ready}
 use Rattle.xp_machine.specs.Seats.{TakesTurn}
-use Rattle.xp_machine.specs.Turns.{Stage, stage, MakesTurn, MakesStop, UnlessRetired, ByCpu, IsTurn, IsStop}
+use Rattle.xp_machine.specs.Turns.{Stage, stage, MakesStagedTurn, MakesStagedStop, UnlessRetired, ByCpu, IsStagedTurn, IsStagedStop}
 use Rattle.xp_machine.proofs.Moving.{moved_none, stepping, same_story, ready_after, short_at}
 
 -- ---- what a turn keeps
@@ -52,7 +52,7 @@ stays b b2 s cpus c c2 here same story =
 
 turn_by : (b b2 : Board) (s lender : ℕ) (calm : Bool) (cpus : List Processing) (c c2 : Processing) (end : TurnEnd) (retired : Bool) → c.retired ≡ retired → s < (sizes_of b.machine).vcpus →
     Ready b cpus → b2.machine ≡ b.machine → slice_get cpus s ≡ Some c → (calm ≡ true → is_due end ≡ false) → is_lost end ≡ false → TurnBy retired c c2 end (port_value b s lender) (port_value b2 s lender) →
-    IsOf (port_value b2 s lender) c2 → Done (UnlessRetired (MakesTurn b.machine calm s) c retired) b b2 cpus (slice_set cpus s c2)
+    IsOf (port_value b2 s lender) c2 → Done (UnlessRetired (MakesStagedTurn b.machine calm s) c retired) b b2 cpus (slice_set cpus s c2)
 turn_by b b2 s lender calm cpus c c2 end true is real ready machine here unpaused kept t own =
     let story = same_story b b2 s lender t.port in
     let moved = moved_none b.machine s b.story b2.story story in
@@ -71,7 +71,7 @@ turn_by b b2 s lender calm cpus c c2 end false is real ready machine here unpaus
 
 stop_by : (b b2 : Board) (s lender : ℕ) (cpus : List Processing) (c c2 : Processing) (retired : Bool) → c.retired ≡ retired → s < (sizes_of b.machine).vcpus → Ready b cpus → b2.machine ≡ b.machine →
     slice_get cpus s ≡ Some c → StopsBy retired c c2 (port_value b s lender) (port_value b2 s lender) → IsOf (port_value b2 s lender) c2 →
-    Done (UnlessRetired (MakesStop b.machine s) c retired) b b2 cpus (slice_set cpus s c2)
+    Done (UnlessRetired (MakesStagedStop b.machine s) c retired) b b2 cpus (slice_set cpus s c2)
 stop_by b b2 s lender cpus c c2 true is real ready machine here t own =
     let story = same_story b b2 s lender t.1 in
     let moved = moved_none b.machine s b.story b2.story story in
@@ -140,35 +140,35 @@ module _ {A : Type 0} (cpu : A → Processing) (b b1 b2 : Board) (s s1 s2 l1 l2 
       }
 
   pub turned : (calm : Bool) → TakesTurn calm (cpu (slice_index_or seats s d)) (cpu y) (port_value b1 s1 l1) (port_value b2 s2 l2) →
-      Done (λ x x'. ByCpu (MakesTurn b.machine calm s) (slice_get (map cpu seats) s) x x') b b2 (map cpu seats) (map cpu (slice_set seats s y))
+      Done (λ x x'. ByCpu (MakesStagedTurn b.machine calm s) (slice_get (map cpu seats) s) x x') b b2 (map cpu seats) (map cpu (slice_set seats s y))
   turned calm t =
       let c = cpu (slice_index_or seats s d) in
       let by = subst (λ v. TurnBy c.retired c (cpu y) t.end v (port_value b2 s l1)) before_is (subst (λ w. TurnBy c.retired c (cpu y) t.end (port_value b1 s1 l1) w) after_is t.turn) in
-      as_done (MakesTurn b.machine calm s)
+      as_done (MakesStagedTurn b.machine calm s)
       (turn_by b b2 s l1 calm (map cpu seats) c (cpu y) t.end c.retired refl (real cpu b b1 s s1 l1 seats d same seat within ready) ready same_machine
       (here cpu b b1 s s1 l1 seats d same seat within ready) t.unpaused (t.kept refl) by is_of_now)
 
   -- the board has this story then, by the gates that stand beside the vCPUs
   pub is_turn : (calm : A → Bool) (x : Story) → x ≡ b2.story → TakesTurn (calm (slice_index_or seats s d)) (cpu (slice_index_or seats s d)) (cpu y) (port_value b1 s1 l1) (port_value b2 s2 l2) →
-      IsTurn b.machine (map calm seats) s (stage b.story (map cpu seats)) (stage x (map cpu (slice_set seats s y)))
+      IsStagedTurn b.machine (map calm seats) s (stage b.story (map cpu seats)) (stage x (map cpu (slice_set seats s y)))
   is_turn calm x is t =
-      subst (λ m. ByCpu (MakesTurn b.machine m s) (slice_get (map cpu seats) s) (stage b.story (map cpu seats)) (stage x (map cpu (slice_set seats s y)))) (sym (get_or-map calm seats s d true within))
-      (subst (λ z. ByCpu (MakesTurn b.machine (calm (slice_index_or seats s d)) s) (slice_get (map cpu seats) s) (stage b.story (map cpu seats)) (stage z (map cpu (slice_set seats s y)))) (sym is)
+      subst (λ m. ByCpu (MakesStagedTurn b.machine m s) (slice_get (map cpu seats) s) (stage b.story (map cpu seats)) (stage x (map cpu (slice_set seats s y)))) (sym (get_or-map calm seats s d true within))
+      (subst (λ z. ByCpu (MakesStagedTurn b.machine (calm (slice_index_or seats s d)) s) (slice_get (map cpu seats) s) (stage b.story (map cpu seats)) (stage z (map cpu (slice_set seats s y)))) (sym is)
       (turned (calm (slice_index_or seats s d)) t).does)
 
   pub stopped : StopsBy (cpu (slice_index_or seats s d)).retired (cpu (slice_index_or seats s d)) (cpu y) (port_value b1 s1 l1) (port_value b2 s2 l2) →
-      Done (λ x x'. ByCpu (MakesStop b.machine s) (slice_get (map cpu seats) s) x x') b b2 (map cpu seats) (map cpu (slice_set seats s y))
+      Done (λ x x'. ByCpu (MakesStagedStop b.machine s) (slice_get (map cpu seats) s) x x') b b2 (map cpu seats) (map cpu (slice_set seats s y))
   stopped t =
       let c = cpu (slice_index_or seats s d) in
       let by = subst (λ v. StopsBy c.retired c (cpu y) v (port_value b2 s l1)) before_is (subst (λ w. StopsBy c.retired c (cpu y) (port_value b1 s1 l1) w) after_is t) in
-      as_done (MakesStop b.machine s)
+      as_done (MakesStagedStop b.machine s)
       (stop_by b b2 s l1 (map cpu seats) c (cpu y) c.retired refl (real cpu b b1 s s1 l1 seats d same seat within ready) ready same_machine
       (here cpu b b1 s s1 l1 seats d same seat within ready) by is_of_now)
 
   pub is_stop : (x : Story) → x ≡ b2.story → StopsBy (cpu (slice_index_or seats s d)).retired (cpu (slice_index_or seats s d)) (cpu y) (port_value b1 s1 l1) (port_value b2 s2 l2) →
-      IsStop b.machine s (stage b.story (map cpu seats)) (stage x (map cpu (slice_set seats s y)))
+      IsStagedStop b.machine s (stage b.story (map cpu seats)) (stage x (map cpu (slice_set seats s y)))
   is_stop x is t =
-      subst (λ z. ByCpu (MakesStop b.machine s) (slice_get (map cpu seats) s) (stage b.story (map cpu seats)) (stage z (map cpu (slice_set seats s y)))) (sym is) (stopped t).does
+      subst (λ z. ByCpu (MakesStagedStop b.machine s) (slice_get (map cpu seats) s) (stage b.story (map cpu seats)) (stage z (map cpu (slice_set seats s y)))) (sym is) (stopped t).does
 
 -- the port gives back the board that it leaves
 pub ready_back : {Does : Stage → Stage → Type 0} {b b2 : Board} {cpus cpus2 : List Processing} (x : Board) → x ≡ b2 → Done Does b b2 cpus cpus2 → Ready x cpus2

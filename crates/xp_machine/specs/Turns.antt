@@ -22,7 +22,7 @@ stage a cpus = record { board = a; cpus = cpus }
 
 -- vCPU v makes a turn by steps that lead from one stage to the other. A calm gate does not pause it, and no exchange of it
 -- is lost, as one thread makes all steps.
-pub record MakesTurn (n : Machine) (calm : Bool) (v : ℕ) (c : Processing) (s s' : Stage) : Type 0 where
+pub record MakesStagedTurn (n : Machine) (calm : Bool) (v : ℕ) (c : Processing) (s s' : Stage) : Type 0 where
   pub after : Processing
   pub end : TurnEnd
   pub made : List Made
@@ -33,7 +33,7 @@ pub record MakesTurn (n : Machine) (calm : Bool) (v : ℕ) (c : Processing) (s s
   pub cpus : s'.cpus ≡ slice_set s.cpus v after
 
 -- vCPU v stops between its turns, by one step
-pub record MakesStop (n : Machine) (v : ℕ) (c : Processing) (s s' : Stage) : Type 0 where
+pub record MakesStagedStop (n : Machine) (v : ℕ) (c : Processing) (s s' : Stage) : Type 0 where
   pub made : List Made
   pub leads : Leads n v s.board made s'.board
   pub stop : turning.IsStop n c.vcpu made
@@ -48,11 +48,11 @@ abbrev pub ByCpu : (Processing → Stage → Stage → Type 0) → Option Proces
 ByCpu Does None s s' = ⊥
 ByCpu Does (Some c) s s' = UnlessRetired Does c c.retired s s'
 
-abbrev pub IsTurn : Machine → List Bool → ℕ → Stage → Stage → Type 0
-IsTurn n calms v s s' = ByCpu (MakesTurn n (is_calm calms v) v) (slice_get s.cpus v) s s'
+abbrev pub IsStagedTurn : Machine → List Bool → ℕ → Stage → Stage → Type 0
+IsStagedTurn n calms v s s' = ByCpu (MakesStagedTurn n (is_calm calms v) v) (slice_get s.cpus v) s s'
 
-abbrev pub IsStop : Machine → ℕ → Stage → Stage → Type 0
-IsStop n v s s' = ByCpu (MakesStop n v) (slice_get s.cpus v) s s'
+abbrev pub IsStagedStop : Machine → ℕ → Stage → Stage → Type 0
+IsStagedStop n v s s' = ByCpu (MakesStagedStop n v) (slice_get s.cpus v) s s'
 
 -- these vCPUs do this one after the other, in this order
 pub data InOrder (Does : ℕ → Stage → Stage → Type 0) : List ℕ → Stage → Stage → Type 0 where
@@ -61,10 +61,10 @@ pub data InOrder (Does : ℕ → Stage → Stage → Type 0) : List ℕ → Stag
 
 -- turns, with these gates calm
 abbrev pub Turns : Machine → List Bool → List ℕ → Stage → Stage → Type 0
-Turns n calms vs s s' = InOrder (IsTurn n calms) vs s s'
+Turns n calms vs s s' = InOrder (IsStagedTurn n calms) vs s s'
 
 abbrev pub Stops : Machine → List ℕ → Stage → Stage → Type 0
-Stops n vs s s' = InOrder (IsStop n) vs s s'
+Stops n vs s s' = InOrder (IsStagedStop n) vs s s'
 
 -- these turns, and then a stop of each vCPU that is not retired
 pub record WorksOff (n : Machine) (calms : List Bool) (vs : List ℕ) (s s' : Stage) : Type 0 where

@@ -3,7 +3,7 @@ ghost use Rattle.std.specs.List.{range_with_len};
 ghost use Rattle.xp_words.specs.Places.{sizes_of};
 ghost use Rattle.xp_machine.specs.Ready.{Ready};
 ghost use Rattle.xp_machine.specs.Rows.{cpus_of, stage_of};
-ghost use Rattle.xp_machine.specs.Turns.{IsStop, Stops};
+ghost use Rattle.xp_machine.specs.Turns.{IsStagedStop, Stops};
 
 use crate::seat::Seat;
 use shared_board::PlainBoard;
@@ -14,7 +14,7 @@ fn stop_of(board: &mut PlainBoard, seats: &mut [Seat], vcpu: u32)
     requires ready { Ready board.old (cpus_of seats.old) }
     ensures machine { board.new.machine ≡ board.old.machine }
     ensures opening { board.new.story.opening ≡ board.old.story.opening }
-    ensures stop { IsStop board.old.machine vcpu (stage_of board.old seats.old) (stage_of board.new seats.new) }
+    ensures stop { IsStagedStop board.old.machine vcpu (stage_of board.old seats.old) (stage_of board.new seats.new) }
     ensures ready { Ready board.new (cpus_of seats.new) }
 {
     let seat = &mut seats[vcpu as usize];

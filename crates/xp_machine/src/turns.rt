@@ -3,7 +3,7 @@ ghost use Rattle.xp_machine.specs.Cpus.{order};
 ghost use Rattle.xp_machine.specs.Gates.{StayCalm};
 ghost use Rattle.xp_machine.specs.Ready.{Ready};
 ghost use Rattle.xp_machine.specs.Rows.{calms_of, cpus_of, stage_of};
-ghost use Rattle.xp_machine.specs.Turns.{IsTurn, Turns, WorksOff};
+ghost use Rattle.xp_machine.specs.Turns.{IsStagedTurn, Turns, WorksOff};
 
 use crate::seat::Seat;
 use crate::stops::stop_all;
@@ -16,7 +16,7 @@ fn turn_of(board: &mut PlainBoard, seats: &mut [Seat], vcpu: u32)
     requires ready { Ready board.old (cpus_of seats.old) }
     ensures machine { board.new.machine ≡ board.old.machine }
     ensures opening { board.new.story.opening ≡ board.old.story.opening }
-    ensures turn { IsTurn board.old.machine (calms_of calm seats.old) vcpu (stage_of board.old seats.old) (stage_of board.new seats.new) }
+    ensures turn { IsStagedTurn board.old.machine (calms_of calm seats.old) vcpu (stage_of board.old seats.old) (stage_of board.new seats.new) }
     ensures ready { Ready board.new (cpus_of seats.new) }
     ensures calm { StayCalm (calms_of calm seats.old) (calms_of calm seats.new) }
 {
