@@ -1,5 +1,5 @@
 -- What comes back into the hand is known live; what an ask awaits of a free frame; what is known of the own words.
-use Rattle.std.proofs.Common.{◌≡◌, ◌≢◌, ℕ, suc, ◌<◌, ◌==◌, ◌&&◌, ◌||◌, length, nat_lt, if◌then◌else◌, is_none, Bool, true, false, List, [], ◌∷◌, Option, Some, None, IsTrue, refl, sym, ap, subst, arith}
+use Rattle.std.proofs.Common.{◌≡◌, ◌≢◌, ℕ, suc, ◌+◌, ◌<◌, ◌==◌, ◌&&◌, ◌||◌, length, nat_lt, if◌then◌else◌, is_none, Bool, true, false, List, [], ◌∷◌, Option, Some, None, IsTrue, refl, sym, ap, subst, arith}
 use Rattle.std.proofs.lemmas.Bool.{eqb-true}
 use Rattle.std.proofs.lemmas.Bool.Decides.{nat_tests}
 use Rattle.xp_words.specs.declared.kind.PageType.{PageType}
@@ -22,12 +22,16 @@ use Rattle.xp_board.specs.After.{after_move, after_act, learned}
 use Rattle.xp_board.specs.AskSteps.{AwaitsFree}
 use Rattle.xp_board.specs.CellSteps.{exchanged, keeps_demand, after_cell}
 use Rattle.xp_board.specs.ContextSteps.{context_type, named_in, named_out, after_context}
-use Rattle.xp_board.specs.Hands.{brought_as, brought_name, lock_on, work_on, changed_work}
+use Rattle.xp_board.specs.Hands.{refs_to, ending_of, claim_of, brought_as, brought_name, lock_on, work_on, changed_work}
 use Rattle.xp_board.specs.Knowledge.{knows_live, tells_live}
-use Rattle.xp_board.specs.Lists.{some_of}
+use Rattle.xp_board.specs.Lists.{some_of, times_by, first_by}
 use Rattle.xp_board.specs.Marks.{after_mark, shed, demand_seen}
 use Rattle.xp_board.specs.Readings.{is_type, is_free, is_context}
 use Rattle.xp_board.specs.Settling.{demand_in, demand_out}
+use Rattle.xp_board.specs.RefSteps.{Raise, Claim, after_ref_row, after_ref_store}
+use Rattle.xp_words.specs.declared.refs.RefWord.TheVariants.{Free}
+use Rattle.xp_board.specs.declared.holdings.Ending.{Ending}
+use Rattle.xp_board.specs.declared.holdings.Claimed.{Claimed}
 use Rattle.xp_board.specs.Sound.{Sound}
 use Rattle.xp_board.specs.Steps.{some_step, some_before, last_since, is_at, left_of}
 use Rattle.xp_board.specs.Told.{PortValue, stepped, own_run, run_or}
@@ -120,3 +124,22 @@ run_known v x found at =
   where
     known_or : (opened : ℕ) (o : Option ℕ) (w : ℕ) → o ≡ Some w → run_or opened o ≡ w
     known_or opened o w is = rw is refl
+
+-- ---- what some rows move
+pub raised_more : (n : Machine) (s f w : ℕ) (h : Holdings) → refs_to f (after_ref_row Raise n s f w h).refs ≡ refs_to f h.refs + 1
+unfolding times_by
+raised_more n s f w h = rw (same_frame f) (omega arith)
+
+pub freed_page : (n : Machine) (s f stamp : ℕ) (h : Holdings) (e : Ending) → ending_of f h.ending ≡ Some e → (after_ref_store (Some (Free stamp)) n s f h).credits ≡ e.owner ∷ h.credits
+freed_page n s f stamp h e here = rw here refl
+
+pub claimed_dirty : (n : Machine) (s f w : ℕ) (h : Holdings) (e : Claimed) → claim_of f (after_ref_row Claim n s f w h).claimed ≡ Some e → e.scrubbed ≡ 0
+unfolding first_by
+claimed_dirty n s f w h e here =
+    let new : Claimed = record { frame = f; stamp = w; scrubbed = 0; since = length h.steps + 1 } in
+    let is : Some new ≡ Some e = subst (λ (b : Bool). (if b then Some new else claim_of f h.claimed) ≡ Some e) (same_frame f) here in
+    ap (λ (o : Option Claimed). scrubbed_in o) (sym is)
+  where
+    scrubbed_in : Option Claimed → ℕ
+    scrubbed_in (Some x) = x.scrubbed
+    scrubbed_in None = 0

@@ -15,5 +15,6 @@ pub use sanity::{
     a_load_leaves_the_word, a_look_is_legal, a_map_is_legal, a_raise_is_legal,
     a_step_tells_the_own_run_word, an_awaited_stamp_is_free, an_own_word_is_as_it_was_left,
     empty_hands_are_well_formed, what_comes_back_is_known_live, what_is_lowered_is_in_hand,
+    what_steps_move_in_hand,
 };
 pub use step::{Act, Item, Mark, Step, StepKind};

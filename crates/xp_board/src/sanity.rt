@@ -1,5 +1,5 @@
 //! What the definitions of the machine say at once. These functions do nothing: their contracts are laws.
-ghost use Rattle.std.specs.Prelude.{◌≡◌, ◌≢◌, ◌<◌, ◌≤◌, ◌+◌, ◌^◌, ℕ, suc, Bool, false, IsTrue, None, Some, length};
+ghost use Rattle.std.specs.Prelude.{◌≡◌, ◌≢◌, ◌<◌, ◌≤◌, ◌+◌, ◌^◌, ◌∷◌, ℕ, suc, Bool, false, IsTrue, None, Some, length};
 ghost use Rattle.xp_words.specs.Entries.{demand_at};
 ghost use Rattle.xp_words.specs.Machine.{Machine};
 ghost use Rattle.xp_words.specs.Places.{Place, Vcpu, Refs, M2p, Cell, is_place, sizes_of, run_of};
@@ -11,18 +11,22 @@ ghost use Rattle.xp_board.specs.ContextSteps.{after_context, context_type};
 ghost use Rattle.xp_board.specs.Knowledge.{knows_live};
 ghost use Rattle.xp_board.specs.Marks.{after_mark, demand_seen};
 ghost use Rattle.xp_board.specs.Readings.{is_context, is_free};
+ghost use Rattle.xp_board.specs.RefSteps.{Claim, Raise, after_ref_row, after_ref_store};
 ghost use Rattle.xp_board.specs.Runs.{place_of};
 ghost use Rattle.xp_board.specs.Sound.{Sound};
 ghost use Rattle.xp_board.specs.Steps.{last_since};
 ghost use Rattle.xp_board.specs.Told.{PortValue, own_run, stepped};
+ghost use Rattle.xp_board.specs.declared.holdings.Claimed.{Claimed};
+ghost use Rattle.xp_board.specs.declared.holdings.Ending.{Ending};
 ghost use Rattle.xp_board.specs.declared.holdings.Lock.{Lock};
 ghost use Rattle.xp_board.specs.declared.holdings.Work.{Work};
 ghost use Rattle.xp_board.specs.declared.step.Mark.TheVariants.{Shed};
 ghost use Rattle.xp_board.specs.declared.step.Step.{Step};
 ghost use Rattle.xp_words.specs.RefWords.{ref_write};
-ghost use Rattle.xp_words.specs.declared.refs.RefWord.TheVariants.{Owned};
+ghost use Rattle.xp_words.specs.declared.refs.RefWord.TheVariants.{Free, Owned};
+ghost use Rattle.xp_board.specs.AckSteps.{after_ack};
 ghost use Rattle.xp_board.specs.Acts.{left_by};
-ghost use Rattle.xp_board.specs.Hands.{empty, hand, lock_on, refs_to, work_on};
+ghost use Rattle.xp_board.specs.Hands.{claim_of, empty, ending_of, hand, lock_on, refs_to, work_on};
 ghost use Rattle.xp_board.specs.Legal.{LegalMove};
 ghost use Rattle.xp_board.specs.WellFormed.{WellFormed};
 ghost use Rattle.xp_board.specs.declared.holdings.Holdings.{Holdings};
@@ -87,4 +91,14 @@ pub fn an_own_word_is_as_it_was_left()
 /// After a step at the own run word that word is known.
 pub fn a_step_tells_the_own_run_word()
     ensures { (v : PortValue) (x : Step) (found : ℕ) → place_of v.post.machine x ≡ run_of v.post.seat → own_run (stepped v x found) ≡ left_by x.act found }
+{}
+
+/// A reference that was counted up is in hand; a frame that is freed leaves a page counted for the domain that owned it; none of the cells
+/// of a frame just claimed counts as scrubbed; and a vCPU is warm once it has flushed.
+pub fn what_steps_move_in_hand()
+    ensures raised { (n : Machine) (s f w : ℕ) (h : Holdings) → refs_to f (after_ref_row Raise n s f w h).refs ≡ refs_to f h.refs + 1 }
+    ensures freed { (n : Machine) (s f stamp : ℕ) (h : Holdings) (e : Ending) → ending_of f h.ending ≡ Some e →
+        (after_ref_store (Some (Free stamp)) n s f h).credits ≡ e.owner ∷ h.credits }
+    ensures claimed { (n : Machine) (s f w : ℕ) (h : Holdings) (e : Claimed) → claim_of f (after_ref_row Claim n s f w h).claimed ≡ Some e → e.scrubbed ≡ 0 }
+    ensures flushed { (h : Holdings) → (after_ack h).cold ≡ false }
 {}
