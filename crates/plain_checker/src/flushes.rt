@@ -32,7 +32,8 @@ fn awaits(hand: &Hand, domain: u16, since: u64, stamp: u64) -> bool {
     let told = Finding::Equal { word: stamp };
     let mut awaits = hand.found_between(0, since, Place::Clock, told);
     for frame in 0..FRAMES {
-        awaits = awaits || (is_free(stamp) && hand.found_between(0, since, Place::Refs { frame }, told));
+        awaits = awaits
+            || (is_free(stamp) && hand.found_between(0, since, Place::Refs { frame }, told));
     }
     for held in hand.works.iter().flatten() {
         awaits = awaits || awaits_frame(hand, domain, since, stamp, held);
