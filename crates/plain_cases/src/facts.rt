@@ -1,6 +1,6 @@
 //! What a step leaves, as facts of the hand of seat 0 and of words. Numbers of frames come first.
 use crate::said::Said;
-use plain_words::{Hand, State, Walk, Work, newest, times};
+use plain_words::{Hand, State, Walk, Work, is_bare, newest, times};
 
 /// Whether it is so after the step; no fact that is not known is.
 pub fn is_left(state: &State, fact: &Said) -> bool {
@@ -52,7 +52,7 @@ fn is_counted(hand: &Hand, fact: &Said) -> bool {
         "NotAlone" => hand.alone(first) == 0,
         "Raised" => hand.raises(first) == second,
         "Credits" => hand.credits_of(domain) == second,
-        "LooksAtNothing" => hand.looking == [None; 2],
+        "LooksAtNothing" => is_bare(&hand.looking),
         "Cached" => hand.cache.iter().flatten().count() as u64 == first,
         "Cold" => hand.cold == (first == 1),
         "Run" => hand.run == Some(first),

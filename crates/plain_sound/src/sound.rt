@@ -3,7 +3,7 @@ use crate::{alone, counts, domains, formed, found, frames, fresh, valid};
 use plain_words::State;
 
 /// A part of what always holds. Those with `Found` say that what each seat found stays true.
-#[derive(Clone, Copy, PartialEq, Eq)]
+#[derive(Clone, Copy)]
 pub enum Part {
     /// Each word is a spelling.
     Spelled,
