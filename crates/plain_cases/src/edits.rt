@@ -21,11 +21,7 @@ const TYPE: u64 = 1 << 52;
 
 fn empty_hand(vcpu: u16) -> Hand {
     let mut steps = [None; 64];
-    steps[0] = Some(Made {
-        place: Place::Vcpu { vcpu, word: 6 },
-        found: 0,
-        left: 0,
-    });
+    steps[0] = Some(found(Place::Vcpu { vcpu, word: 6 }, 0));
     Hand {
         refs: [None; 3],
         typed: [None; 3],
@@ -500,17 +496,19 @@ fn caches(hand: &mut Hand, frame: u64, writable: bool) {
     append(&mut hand.cache, item);
 }
 
+const NEW_WALK: Walk = Walk {
+    user: false,
+    write: false,
+    writable: true,
+    page: 0,
+    reached: [None; 5],
+    touching: None,
+};
+
 /// Edits of the walk in flight, which goes from level 4 down to the table that it has reached last.
 fn edits_walk(hand: &mut Hand, name: &str, edit: &Said) -> bool {
     let [table, second, word, _] = edit.numbers;
-    let mut walk = hand.walk.unwrap_or(Walk {
-        user: false,
-        write: false,
-        writable: true,
-        page: 0,
-        reached: [None; 5],
-        touching: None,
-    });
+    let mut walk = hand.walk.unwrap_or(NEW_WALK);
     match name {
         "Reached" => {
             let level = match walk.reached[0] {
@@ -534,6 +532,8 @@ fn edits_walk(hand: &mut Hand, name: &str, edit: &Said) -> bool {
             });
         }
         "ForWrite" => walk.write = true,
+        // It goes through the user's tables.
+        "OfUser" => walk.user = true,
         // It came through an entry that can't be written.
         "ReadOnly" => walk.writable = false,
         _ => return false,

@@ -88,23 +88,28 @@ fn is_held(hand: &Hand, fact: &Said) -> bool {
 }
 
 fn is_walked(hand: &Hand, fact: &Said) -> bool {
-    let [frame, second, third, _] = fact.numbers;
+    let [frame, second, third, fourth] = fact.numbers;
     match (fact.name, hand.walk) {
         ("NoWalk", None) => true,
         // All entries of the walk so far can be written.
         ("MayWrite", Some(walk)) => walk.writable == (frame == 1),
-        // The table that the walk has reached last, with its level.
+        // The table that the walk has reached last, its level, and whether the walk is of the user's tables.
         ("Walks", Some(walk)) => match walk.reached[0] {
-            Some(last) => last.table == frame && last.level == second && walk.touching.is_none(),
+            Some(last) => {
+                let waits = walk.touching.is_some();
+                last.table == frame && last.level == second && walk.user == (third == 1) && !waits
+            }
             None => false,
         },
         // The walk waits for that entry of a frame.
         ("Waits", Some(walk)) => waits(&walk, frame, second, third),
-        // The frame of the newest translation, and whether it is writable and dirty.
+        // The frame of the newest translation, and whether it is writable, dirty and of the user's tables.
         ("Newest", _) => match hand.cache[0] {
             Some(item) => {
-                let writable = item.writable == (second == 1);
-                item.frame == frame && writable && item.dirty == (third == 1)
+                item.frame == frame
+                    && item.writable == (second == 1)
+                    && item.dirty == (third == 1)
+                    && item.user == (fourth == 1)
             }
             None => false,
         },

@@ -1,6 +1,6 @@
-//! Judges the cases of its input by the plain checker and the parts of soundness, and prints of how many of each table
-//! it says what the case says. A line is a case: its name, the edits of the small machine, a step of seat 0 or none,
-//! and what is to be said. `# NAME: ..` begins a table.
+//! Judges the cases of its input by the plain checker and the parts of soundness, and prints how many of each table
+//! agree, and each that does not with the first thing that is otherwise. The head of `stdin` says how a case is written.
+//! Cases are text, since it costs nothing to prove.
 #![tactic(auto)]
 
 mod cases;
@@ -56,7 +56,7 @@ impl Tally {
             self.print(rt)?;
             let (table, _) = title.split_once(':').unwrap_or((title, ""));
             self.table = String::from_str(rt.alloc(), table)?;
-        } else if !line.is_empty() {
+        } else if !line.is_empty() && !line.starts_with("//") {
             let (name, amiss) = cases::judged(line);
             if let Some(what) = amiss {
                 println!(rt; "{name}: {what}")?;
