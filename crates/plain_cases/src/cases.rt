@@ -151,15 +151,10 @@ fn act_of(step: &Said) -> Option<Act> {
 fn mark_of(mark: &Said) -> Option<Mark> {
     let [first, second, _, _] = mark.numbers;
     let frame = u32::try_from(first).ok()?;
+    let upto = u16::try_from(second).ok()?;
     match mark.name {
-        "Record" => Some(Mark::Record {
-            frame,
-            upto: u16::try_from(second).ok()?,
-        }),
-        "Shed" => Some(Mark::Shed {
-            frame,
-            upto: u16::try_from(second).ok()?,
-        }),
+        "Record" => Some(Mark::Record { frame, upto }),
+        "Shed" => Some(Mark::Shed { frame, upto }),
         "Cut" => Some(Mark::Cut { call: frame }),
         "Turn" => Some(Mark::Turn),
         "Forget" => Some(Mark::Forget { page: first }),

@@ -256,28 +256,40 @@ fn finds_all_empty(hand: &mut Hand) {
 
 /// What is in the hand came there after so many steps.
 fn comes(hand: &mut Hand, now: u64) {
-    for held in hand.works.iter_mut().flatten() {
-        held.is.since = now;
-        held.is.unmarked = now;
-    }
-    for held in hand.locks.iter_mut().flatten() {
-        held.is.since = now;
-    }
-    for held in hand.ending.iter_mut().flatten() {
-        held.is.since = now;
-    }
-    for held in hand.claimed.iter_mut().flatten() {
-        held.is.since = now;
-    }
-    for held in hand.refs.iter_mut().flatten() {
-        if let Owner::Since { .. } = held.is {
-            held.is = Owner::Since { steps: now };
+    for slot in &mut hand.works {
+        if let Some(held) = slot {
+            held.is.since = now;
+            held.is.unmarked = now;
         }
     }
-    for held in hand.typed.iter_mut().flatten() {
-        held.is.since = now;
-        if let Owner::Since { .. } = held.is.owner {
-            held.is.owner = Owner::Since { steps: now };
+    for slot in &mut hand.locks {
+        if let Some(held) = slot {
+            held.is.since = now;
+        }
+    }
+    for slot in &mut hand.ending {
+        if let Some(held) = slot {
+            held.is.since = now;
+        }
+    }
+    for slot in &mut hand.claimed {
+        if let Some(held) = slot {
+            held.is.since = now;
+        }
+    }
+    for slot in &mut hand.refs {
+        if let Some(held) = slot {
+            if let Owner::Since { .. } = held.is {
+                held.is = Owner::Since { steps: now };
+            }
+        }
+    }
+    for slot in &mut hand.typed {
+        if let Some(held) = slot {
+            held.is.since = now;
+            if let Owner::Since { .. } = held.is.owner {
+                held.is.owner = Owner::Since { steps: now };
+            }
         }
     }
 }
