@@ -72,12 +72,12 @@ fn amiss_after<'a>(state: &State, step: &Step, verdict: &'a str) -> Option<&'a s
     if legal == (word == "refused") {
         return Some(word);
     }
-    match word {
-        "legal" | "refused" => match amiss_of_parts(state, "") {
+    match (word, rest) {
+        ("legal", "") | ("refused", _) => match amiss_of_parts(state, "") {
             Some(part) => Some(part),
             None => amiss_of_parts(&after, rest),
         },
-        "leaves" => amiss_of_facts(&after, rest),
+        ("leaves", facts) => amiss_of_facts(&after, facts),
         _ => Some(UNREAD),
     }
 }
