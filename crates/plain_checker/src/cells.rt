@@ -1,5 +1,5 @@
 //! Steps on the cells of a frame.
-use plain_words::{Finding, Hand, Lock, Place, Seen, Work, demand_at, is_work, newest, times};
+use plain_words::{Finding, Hand, Lock, Place, Work, demand_at, is_work, newest, times};
 use xp_board::Act;
 use xp_words::{Demand, KindWord, PageType, fix};
 
@@ -8,11 +8,8 @@ pub fn allows(hand: &Hand, frame: u64, index: u64, act: Act) -> bool {
     let lock = newest(&hand.locks, frame);
     match (act, lock) {
         (Act::Cas { expected, new }, Some(lock)) => {
-            let seen = Seen {
-                index,
-                word: expected,
-            };
-            lock.seen == Some(seen) && replaces(hand, frame, index, new, &lock)
+            let seen = matches!(lock.seen, Some(s) if s.index == index && s.word == expected);
+            seen && replaces(hand, frame, index, new, &lock)
         }
         (Act::Store { new }, Some(lock)) => replaces(hand, frame, index, new, &lock),
         (Act::Store { new }, None) => writes(hand, frame, index, new),

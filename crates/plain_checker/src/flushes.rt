@@ -1,5 +1,5 @@
 //! The clock, and flushes that are asked for and made.
-use plain_words::{FRAMES, Finding, Hand, Held, Place, STEPS, State, Work, is_free, newest};
+use plain_words::{FRAMES, Finding, Hand, Place, STEPS, State, Work, is_free, newest};
 use xp_board::Act;
 use xp_words::KindWord;
 
@@ -32,29 +32,30 @@ fn awaits(hand: &Hand, domain: u16, since: u64, stamp: u64) -> bool {
     let told = Finding::Equal { word: stamp };
     let mut awaits = hand.found_between(0, since, Place::Clock, told);
     for frame in 0..FRAMES {
-        awaits = awaits || (is_free(stamp) && hand.found_between(0, since, Place::Refs { frame }, told));
-    }
-    for held in hand.works.iter().flatten() {
-        awaits = awaits || awaits_frame(hand, domain, since, stamp, held);
+        let free = is_free(stamp) && hand.found_between(0, since, Place::Refs { frame }, told);
+        awaits = awaits || free;
+        if let Some(work) = newest(&hand.works, frame) {
+            let marked = is_marked_at(&work, stamp) && work.since <= since;
+            awaits = awaits || (marked && concerns(hand, domain, frame));
+        }
     }
     awaits
 }
 
 /// The vCPU's domain owns the frame, or was found to have had privilege over its owner.
-fn awaits_frame(hand: &Hand, domain: u16, since: u64, stamp: u64, held: &Held<Work>) -> bool {
+fn concerns(hand: &Hand, domain: u16, frame: u64) -> bool {
     let mut concerned = false;
     for owner in 0..2_u16 {
         let place = Place::Priv { domain };
         let reaches = owner == domain
             || hand.found_since(0, place, Finding::HasEver { domain: owner });
-        concerned = concerned || (reaches && hand.knows_owner(held.frame, owner));
+        concerned = concerned || (reaches && hand.knows_owner(frame, owner));
     }
-    let here = newest(&hand.works, held.frame) == Some(held.is);
-    let marked = match KindWord::read(held.is.word) {
-        Some(kind) => kind.unflushed && kind.number == stamp,
-        None => false,
-    };
-    here && marked && held.is.since <= since && concerned
+    concerned
+}
+
+fn is_marked_at(work: &Work, stamp: u64) -> bool {
+    matches!(KindWord::read(work.word), Some(kind) if kind.unflushed && kind.number == stamp)
 }
 
 /// A clock value found or left since the last flush; of a cold vCPU above one found since its last Run step.

@@ -1,6 +1,6 @@
 //! Walks of page tables, and accesses of the guest.
 use plain_moves::touched;
-use plain_words::{Hand, Touching, is_walked};
+use plain_words::{Hand, is_walked};
 use xp_board::{Act, Mark};
 
 fn begins(mark: Option<Mark>) -> bool {
@@ -29,12 +29,11 @@ pub fn touches(hand: &Hand, frame: u64, index: u64, act: Act) -> bool {
     let (Act::Cas { expected, new }, Some(walk)) = (act, hand.walk) else {
         return false;
     };
-    let waits = Touching {
-        frame,
-        index,
-        word: expected,
+    let waits = match walk.touching {
+        Some(t) => t.frame == frame && t.index == index && t.word == expected,
+        None => false,
     };
-    walk.touching == Some(waits) && new == touched(&walk, expected)
+    waits && new == touched(&walk, expected)
 }
 
 /// A cached translation leads to the frame, a writable one for a store.

@@ -76,7 +76,11 @@ pub fn moves_named(hand: &mut Hand, number: u64, act: Act, found: u64) {
             kind: type_named(number),
             owner: Owner::Since { steps: since },
             found: type_named(number).is_some(),
-            since: if type_named(number).is_some() { 0 } else { since },
+            since: if type_named(number).is_some() {
+                0
+            } else {
+                since
+            },
         };
         put(&mut hand.typed, found - 1, live);
     }

@@ -4,7 +4,7 @@ use plain_words::{Hand, Made, Place, State, append, left_by};
 use xp_board::{Act, Mark, StepKind};
 
 /// One atomic step.
-#[derive(Clone, Copy, Debug, PartialEq, Eq)]
+#[derive(Clone, Copy)]
 pub struct Step {
     pub place: Place,
     pub act: Act,

@@ -17,11 +17,12 @@ fn is_looked_at(state: &State, domain: u16, frame: u64) -> bool {
 /// The frame has the mark of that finding no more; a `kept` mark may be one that a seat still looks at.
 fn lacks(state: &State, domain: u16, frame: u64, mark: Finding) -> bool {
     let place = place_of(mark, frame);
-    mark.holds(state.word(place)) || (mark == Finding::Unkept && is_looked_at(state, domain, frame))
+    mark.holds(state.word(place))
+        || (matches!(mark, Finding::Unkept) && is_looked_at(state, domain, frame))
 }
 
 fn place_of(mark: Finding, frame: u64) -> Place {
-    if mark == Finding::Unallocated {
+    if matches!(mark, Finding::Unallocated) {
         Place::Refs { frame }
     } else {
         Place::Kind { frame }

@@ -264,21 +264,18 @@ fn privileges_found(state: &State, hand: &Hand, domain: u16) -> bool {
     hand.each_since(0, place, given)
 }
 
-/// The own run word; and the old words, while the vCPU is not stopped.
+/// The own run word; and the other own words while the vCPU is not stopped, but for those of flushes.
 fn own_found(state: &State, hand: &Hand, seat: u16) -> bool {
     let run = state.word(Place::Vcpu {
         vcpu: seat,
         word: 6,
     });
-    let old0 = state.word(Place::Vcpu {
-        vcpu: seat,
-        word: 2,
-    });
-    let old1 = state.word(Place::Vcpu {
-        vcpu: seat,
-        word: 3,
-    });
-    hand.run.unwrap_or(run) == run
-        && (run == 1 || hand.old0.unwrap_or(old0) == old0)
-        && (run == 1 || hand.old1.unwrap_or(old1) == old1)
+    let mut found = hand.run.unwrap_or(run) == run;
+    for word in 0..38_u64 {
+        let place = Place::Vcpu { vcpu: seat, word };
+        let is = state.word(place);
+        let told = hand.last_since(0, place).unwrap_or(is);
+        found = found && (word == 4 || word == 5 || run == 1 || told == is);
+    }
+    found
 }

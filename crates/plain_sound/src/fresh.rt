@@ -6,7 +6,7 @@ use plain_words::{
 use xp_words::{Entry, KindWord};
 
 /// The uses that translations make of a frame: as a table of a level up to 4, to write it, to read it.
-#[derive(Clone, Copy, Debug, PartialEq, Eq)]
+#[derive(Clone, Copy)]
 pub struct Uses {
     pub tables: [bool; 5],
     pub writes: bool,
@@ -20,7 +20,7 @@ const NO_USES: Uses = Uses {
 };
 
 /// One use of a frame.
-#[derive(Clone, Copy, Debug, PartialEq, Eq)]
+#[derive(Clone, Copy, PartialEq)]
 enum Use {
     Table { level: u64 },
     Writes,

@@ -5,7 +5,7 @@ use crate::readings::{bit_of, free_stamp, kind_stamp, owner_of};
 use xp_words::{KindWord, PageType, RefWord};
 
 /// What a seat may have found in a word.
-#[derive(Clone, Copy, Debug, PartialEq, Eq)]
+#[derive(Clone, Copy)]
 pub enum Finding {
     Equal { word: u64 },
     Other { word: u64 },

@@ -1,5 +1,5 @@
 //! What a seat has in its hand. Lists have the newest first.
-use crate::lists::times;
+use crate::lists::{is_bare, times};
 use crate::machine::Place;
 use crate::readings::is_closing;
 use xp_words::PageType;
@@ -8,7 +8,7 @@ use xp_words::PageType;
 pub const STEPS: u64 = 64;
 
 /// Something of a frame that is in hand.
-#[derive(Clone, Copy, Debug, PartialEq, Eq)]
+#[derive(Clone, Copy)]
 pub struct Held<T> {
     pub frame: u64,
     pub is: T,
@@ -16,7 +16,7 @@ pub struct Held<T> {
 
 /// How the owner of a frame is known: the step that brought the reference found it, or it is what is found from
 /// that number of steps on.
-#[derive(Clone, Copy, Debug, PartialEq, Eq)]
+#[derive(Clone, Copy)]
 pub enum Owner {
     Of { domain: u16 },
     Since { steps: u64 },
@@ -24,7 +24,7 @@ pub enum Owner {
 
 /// A typed reference: its type where that is known, and from which number of steps on what is found of it
 /// counts. `found` is for one that the step that brought it found live.
-#[derive(Clone, Copy, Debug, PartialEq, Eq)]
+#[derive(Clone, Copy)]
 pub struct Live {
     pub kind: Option<PageType>,
     pub owner: Owner,
@@ -33,21 +33,21 @@ pub struct Live {
 }
 
 /// The entry loaded or stored last.
-#[derive(Clone, Copy, Debug, PartialEq, Eq)]
+#[derive(Clone, Copy)]
 pub struct Seen {
     pub index: u64,
     pub word: u64,
 }
 
 /// The last recorded entry, where its frame may be partial.
-#[derive(Clone, Copy, Debug, PartialEq, Eq)]
+#[derive(Clone, Copy)]
 pub struct Unsettled {
     pub since: u64,
     pub word: Option<u64>,
 }
 
 /// A frame in work or closing: since when it is here, and since when it is here unmarked.
-#[derive(Clone, Copy, Debug, PartialEq, Eq)]
+#[derive(Clone, Copy)]
 pub struct Work {
     pub word: u64,
     pub recorded: u64,
@@ -59,7 +59,7 @@ pub struct Work {
 }
 
 /// A table under the own entry lock.
-#[derive(Clone, Copy, Debug, PartialEq, Eq)]
+#[derive(Clone, Copy)]
 pub struct Lock {
     pub kind: PageType,
     pub owner: Owner,
@@ -68,14 +68,14 @@ pub struct Lock {
 }
 
 /// A frame whose last reference was given back.
-#[derive(Clone, Copy, Debug, PartialEq, Eq)]
+#[derive(Clone, Copy)]
 pub struct Ending {
     pub owner: u16,
     pub since: u64,
 }
 
 /// A frame taken from the free ones.
-#[derive(Clone, Copy, Debug, PartialEq, Eq)]
+#[derive(Clone, Copy)]
 pub struct Claimed {
     pub stamp: u64,
     pub scrubbed: u64,
@@ -83,21 +83,21 @@ pub struct Claimed {
 }
 
 /// A frame of another domain that this seat left `kept`, and the kind word that it left there.
-#[derive(Clone, Copy, Debug, PartialEq, Eq)]
+#[derive(Clone, Copy)]
 pub struct Looking {
     pub owner: u16,
     pub word: u64,
 }
 
 /// A table that a walk has reached.
-#[derive(Clone, Copy, Debug, PartialEq, Eq)]
+#[derive(Clone, Copy)]
 pub struct Reached {
     pub table: u64,
     pub level: u64,
 }
 
 /// An entry whose bits a walk has still to set.
-#[derive(Clone, Copy, Debug, PartialEq, Eq)]
+#[derive(Clone, Copy)]
 pub struct Touching {
     pub frame: u64,
     pub index: u64,
@@ -105,7 +105,7 @@ pub struct Touching {
 }
 
 /// A walk in flight. `page` has the indices so far.
-#[derive(Clone, Copy, Debug, PartialEq, Eq)]
+#[derive(Clone, Copy)]
 pub struct Walk {
     pub user: bool,
     pub write: bool,
@@ -116,7 +116,7 @@ pub struct Walk {
 }
 
 /// A cached translation. `page` has the four indices.
-#[derive(Clone, Copy, Debug, PartialEq, Eq)]
+#[derive(Clone, Copy)]
 pub struct Item {
     pub user: bool,
     pub page: u64,
@@ -126,7 +126,7 @@ pub struct Item {
 }
 
 /// A step that was made: its word, what it found there, and what stood there right after it.
-#[derive(Clone, Copy, Debug, PartialEq, Eq)]
+#[derive(Clone, Copy)]
 pub struct Made {
     pub place: Place,
     pub found: u64,
@@ -134,7 +134,7 @@ pub struct Made {
 }
 
 /// All that a seat holds. Of `steps` the number is the place in the list, the oldest first.
-#[derive(Clone, Copy, Debug, PartialEq, Eq)]
+#[derive(Clone, Copy)]
 pub struct Hand {
     pub refs: [Option<Held<Owner>>; 3],
     pub typed: [Option<Held<Live>>; 3],
@@ -232,14 +232,14 @@ impl Hand {
 
     /// Nothing is in hand: a cache and a walk are none of it.
     pub fn is_empty(&self) -> bool {
-        self.refs == [None; 3]
-            && self.typed == [None; 3]
-            && self.works == [None; 2]
-            && self.locks == [None; 2]
-            && self.ending == [None; 2]
-            && self.claimed == [None; 2]
-            && self.raised == [None; 2]
-            && self.credits == [None; 3]
-            && self.looking == [None; 2]
+        is_bare(&self.refs)
+            && is_bare(&self.typed)
+            && is_bare(&self.works)
+            && is_bare(&self.locks)
+            && is_bare(&self.ending)
+            && is_bare(&self.claimed)
+            && is_bare(&self.raised)
+            && is_bare(&self.credits)
+            && is_bare(&self.looking)
     }
 }

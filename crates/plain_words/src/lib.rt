@@ -17,7 +17,7 @@ pub use hand::{
     Touching, Unsettled, Walk, Work,
 };
 pub use knowledge::{is_past, stopped_by};
-pub use lists::{append, change, newest, pack, push, put, remove, take, times};
+pub use lists::{append, change, is_bare, newest, pack, push, put, remove, take, times};
 pub use machine::{CellWord, FRAMES, Frame, Place, State};
 pub use readings::{
     bit_of, demand_at, free_stamp, is_closing, is_dead, is_free, is_marked, is_walked, is_work,

@@ -1,6 +1,15 @@
 //! Lists of a hand: small arrays, the newest in front.
 use crate::hand::Held;
 
+/// Nothing is in a list.
+pub fn is_bare<T>(list: &[Option<T>]) -> bool {
+    let mut bare = true;
+    for entry in list {
+        bare = bare && entry.is_none();
+    }
+    bare
+}
+
 /// How often a list names a frame.
 pub fn times<T>(list: &[Option<Held<T>>], frame: u64) -> u64 {
     let mut count: u64 = 0;

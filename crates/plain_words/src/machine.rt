@@ -8,7 +8,7 @@ use xp_words::{Demand, KindWord, RefWord};
 pub const FRAMES: u64 = 5;
 
 /// A word of the machine, by name.
-#[derive(Clone, Copy, Debug, PartialEq, Eq)]
+#[derive(Clone, Copy, PartialEq)]
 pub enum Place {
     Clock,
     Pages { domain: u16 },
@@ -23,14 +23,14 @@ pub enum Place {
 }
 
 /// The two words of a frame.
-#[derive(Clone, Copy, Debug, PartialEq, Eq)]
+#[derive(Clone, Copy)]
 pub struct Frame {
     pub refs: u64,
     pub kind: u64,
 }
 
 /// A cell that is not 0. Each cell is named once.
-#[derive(Clone, Copy, Debug, PartialEq, Eq)]
+#[derive(Clone, Copy)]
 pub struct CellWord {
     pub frame: u64,
     pub index: u64,
@@ -39,7 +39,7 @@ pub struct CellWord {
 
 /// Two domains, two vCPUs, five frames; the cells that are not listed are 0. The words that tell a frame's
 /// number to the guest are not kept.
-#[derive(Clone, Copy, Debug, PartialEq, Eq)]
+#[derive(Clone, Copy)]
 pub struct State {
     pub limit: u32,
     pub page_limit: [u64; 2],
