@@ -4,6 +4,7 @@
 
 mod context;
 mod entry;
+mod item_list;
 mod kind;
 pub mod laws;
 mod layout;
@@ -13,6 +14,7 @@ mod reply;
 
 pub use context::{ContextWord, LdtBase};
 pub use entry::{Demand, Entry, fix};
+pub use item_list::ItemList;
 pub use kind::{KindWord, PageType};
 pub use layout::{Domains, Layout, Limits, Masks};
 pub use ops::{Call, CallList, ExtList, ExtOp, Numbers, Op, Pair, Pairs, Script};
