@@ -11,6 +11,7 @@ mod layout;
 mod ops;
 mod refs;
 mod reply;
+mod short_list;
 
 pub use context::{ContextWord, LdtBase};
 pub use entry::{Demand, Entry, fix};
@@ -20,6 +21,7 @@ pub use layout::{Domains, Layout, Limits, Masks};
 pub use ops::{Call, CallList, ExtList, ExtOp, Numbers, Op, Pair, Pairs, Script};
 pub use refs::RefWord;
 pub use reply::{Log, LogLine, Pause, Refusal, Reply, Stop};
+pub use short_list::ShortList;
 
 #[cfg(test)]
 mod layout_tests;
