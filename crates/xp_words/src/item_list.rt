@@ -3,7 +3,7 @@ ghost use Rattle.std.specs.Prelude.{◌≡◌, ◌<◌, ◌^◌, ◌++◌, ◌�
 use std::alloc::AllocError;
 use std::marker::Model;
 
-/// ItemList in order. Contracts see the list of them.
+/// Items in order, as the elements of a batch or the operations of a script. Contracts see the list of them.
 #[derive(Drop)]
 pub struct ItemList<T> {
     items: Vec<T>,
