@@ -52,6 +52,7 @@ impl<T: Drop> ItemList<T> {
         Ok(())
     }
 
+    /// The vector that the list was made from, with what was pushed since.
     pub fn into_items(self) -> Vec<T>
         ensures { result.items ≡ self }
     {
