@@ -10,7 +10,7 @@ use Rattle.xp_board.specs.Sound.{Spelled}
 use Rattle.std.proofs.lemmas.Bool.Decides.{nat_tests}
 use Rattle.xp_words.specs.declared.kind.KindWord.{KindWord}
 use Rattle.xp_words.specs.PageTypes.{is_none, is_table}
-use Rattle.xp_words.specs.KindWords.{kind_read, kind_fields, has_form, is_partial}
+use Rattle.xp_words.specs.KindWords.{kind_read, kind_fields, has_form, is_partial_form}
 use Rattle.xp_board.specs.RefSteps.{one_down}
 use Rattle.xp_board.specs.KindSteps.{unlocked_down}
 
@@ -99,10 +99,10 @@ chain a b c d e false g h = grind arith
 page_by : (u t : Bool) (p : ℕ) → (if u || not t then (p == 0) && u else true) ≡ true → t ≡ false → (p ≡ 0) × (u ≡ true)
 page_by u t p h q = grind (arith, nat_tests)
 
-partial_page : (k : KindWord) → is_partial k ≡ true → is_table k.kind ≡ false → (k.progress ≡ 0) × (k.unflushed ≡ true)
+partial_page : (k : KindWord) → is_partial_form k ≡ true → is_table k.kind ≡ false → (k.progress ≡ 0) × (k.unflushed ≡ true)
 partial_page k h q = page_by k.unflushed (is_table k.kind) k.progress (chain k.locked k.pinned (is_none k.kind) _ _ _ _ h) q
 
-partial_by : (k : KindWord) → has_form k ≡ true → k.validated ≡ false → k.partial ≡ true → is_partial k ≡ true
+partial_by : (k : KindWord) → has_form k ≡ true → k.validated ≡ false → k.partial ≡ true → is_partial_form k ≡ true
 unfolding has_form
 partial_by k h v p = rw (v, p) at h
 

@@ -5,7 +5,7 @@ use Rattle.std.proofs.lemmas.Bool.{cases_eq, cases_lt}
 use Rattle.std.proofs.lemmas.Bool.Decides.{nat_tests}
 use Rattle.xp_words.specs.Places.{Sizes, Place, Cell, is_place, number, memory}
 use Rattle.trace_text.specs.declared.trace.CellRun.{CellRun}
-use Rattle.machine_build.specs.Puts.{nothing, with_cells, or_value}
+use Rattle.machine_build.specs.Puts.{all_zero, with_cells, or_value}
 use Rattle.machine_build.specs.Opening.{has_cell}
 
 -- whether k is one of the numbers from a on, below b
@@ -126,6 +126,6 @@ unfolding memory
 same_words z old now same p = ap (λ w. if is_place z p then w else 0) (same (number z p))
 
 -- where no word stands all of them count as 0
-pub no_words : (z : Sizes) (p : Place) → memory z [] p ≡ nothing p
+pub no_words : (z : Sizes) (p : Place) → memory z [] p ≡ all_zero p
 unfolding memory
 no_words z p = zero_either (is_place z p)

@@ -6,7 +6,7 @@ use Rattle.xp_words.specs.RefWords.{bit}
 use Rattle.xp_words.specs.Entries.{is_bit}
 use Rattle.xp_words.specs.Places.{Map}
 use Rattle.trace_text.specs.declared.trace.Trace.{Trace}
-use Rattle.machine_build.specs.Opening.{bits_below, is_free, opening_at}
+use Rattle.machine_build.specs.Opening.{bits_below, is_unowned, opening_at}
 use Rattle.machine_build.proofs.Steps.{bits_below-lt}
 
 by_test : (b : Bool) (w q : ℕ) → w + (if b then q else 0) ≡ bit b * q + w
@@ -37,10 +37,10 @@ back : (b : Bool) → (bit b == 1) ≡ b
 back true = refl
 back false = refl
 
-pub each_bit : (t : Trace) (k b : ℕ) → b < 64 → is_bit b (opening_at t (Map k)) ≡ is_free t (64 * k + b)
+pub each_bit : (t : Trace) (k b : ℕ) → b < 64 → is_bit b (opening_at t (Map k)) ≡ is_unowned t (64 * k + b)
 unfolding opening_at
-each_bit t k b h = ap (λ (n : ℕ). n == 1) (bit_there 64 b (λ i. is_free t (64 * k + i)) h) ∙ back (is_free t (64 * k + b))
+each_bit t k b h = ap (λ (n : ℕ). n == 1) (bit_there 64 b (λ i. is_unowned t (64 * k + i)) h) ∙ back (is_unowned t (64 * k + b))
 
 pub map_word-lt : (t : Trace) (k : ℕ) → opening_at t (Map k) < 2 ^ 64
 unfolding opening_at
-map_word-lt t k = bits_below-lt 64 (λ b. is_free t (64 * k + b))
+map_word-lt t k = bits_below-lt 64 (λ b. is_unowned t (64 * k + b))

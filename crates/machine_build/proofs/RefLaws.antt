@@ -6,7 +6,8 @@ use Rattle.xp_words.proofs.RefLaws.{ref_read-write}
 use Rattle.trace_text.specs.declared.trace.Own.{Own}
 use Rattle.trace_text.specs.declared.trace.Trace.{Trace}
 use Rattle.trace_text.specs.WellFormed.{IsWellFormed}
-use Rattle.machine_build.specs.Opening.{has_frame, reference_in, opening_at, untyped}
+use Rattle.trace_text.specs.Counted.{has_frame}
+use Rattle.machine_build.specs.Opening.{reference_in, opening_at, untyped}
 
 found_first : (b : Bool) (x : Own) (y : Option Own) → x.domain < 2 ^ 16 → IsRef (reference_in y) → IsRef (reference_in (cond b (Some x) y))
 unfolding IsRef

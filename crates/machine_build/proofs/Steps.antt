@@ -13,8 +13,8 @@ use Rattle.trace_text.specs.declared.trace.Trace.{Trace}
 use Rattle.trace_text.specs.declared.trace.Own.{Own}
 use Rattle.trace_text.specs.declared.trace.CellRun.{CellRun}
 use Rattle.machine_build.specs.Puts.{with_domains, with_vcpus, with_m2p, with_owned, with_cells, with_map, or_word, or_value, is_zero}
-use Rattle.machine_build.specs.Opening.{has_frame, has_cell, refs_in, bits_below, both_halves}
-use Rattle.trace_text.specs.Counted.{pages_of}
+use Rattle.machine_build.specs.Opening.{has_cell, refs_in, bits_below, both_halves}
+use Rattle.trace_text.specs.Counted.{pages_of, has_frame}
 
 -- the word of p after a write at q
 here : (z : Sizes) (words : List ℕ) (p q : Place) (w : ℕ) → IsTrue (is_place z q) → length words ≡ size z → p ≡ q → memory z (set words (number z q) w) p ≡ w

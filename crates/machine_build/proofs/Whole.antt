@@ -7,8 +7,9 @@ use Rattle.xp_words.proofs.PlaceLaws.{memory_same, memory_other}
 use Rattle.trace_text.specs.declared.trace.Trace.{Trace}
 use Rattle.trace_text.specs.declared.trace.Own.{Own}
 use Rattle.trace_text.specs.declared.trace.CellRun.{CellRun}
-use Rattle.machine_build.specs.Puts.{nothing, with_clock, with_domains, with_vcpus, with_m2p, with_owned, with_cells, with_map, or_word, or_value, is_zero}
-use Rattle.machine_build.specs.Opening.{has_frame, has_cell, refs_in, value_in, opening_at}
+use Rattle.trace_text.specs.Counted.{has_frame}
+use Rattle.machine_build.specs.Puts.{all_zero, with_clock, with_domains, with_vcpus, with_m2p, with_owned, with_cells, with_map, or_word, or_value, is_zero}
+use Rattle.machine_build.specs.Opening.{has_cell, refs_in, value_in, opening_at}
 use Rattle.machine_build.proofs.Steps.{bits_below-same}
 
 pub only_clock : (z : Sizes) (words : List ℕ) (clock : ℕ) → length words ≡ size z → (p : Place) → memory z (set words (number z Clock) clock) p ≡ with_clock clock (memory z words) p
@@ -35,7 +36,7 @@ free_bits : (frames : ℕ) (m : Place → ℕ) (x : ℕ → Option Own) (f : ℕ
 free_bits frames m x f e = let w = word_is (x f) 0 refl in let o = owned_word (x f) in ap (λ (b : Bool). nat_lt f frames && b) (ap (λ (n : ℕ). n == 0) (e ∙ w) ∙ o)
 
 module _ (t : Trace) (f a b c d e g : Place → ℕ)
-    (hf : (p : Place) → f p ≡ with_cells (reverse t.cells) nothing p)
+    (hf : (p : Place) → f p ≡ with_cells (reverse t.cells) all_zero p)
     (ha : (p : Place) → a p ≡ with_clock t.clock f p)
     (hb : (p : Place) → b p ≡ with_domains (length t.layout.page_limit) t a p)
     (hc : (p : Place) → c p ≡ with_vcpus (length t.layout.vcpu_domain) t.clock b p)

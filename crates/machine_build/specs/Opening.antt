@@ -9,11 +9,7 @@ use Rattle.xp_words.specs.declared.kind.PageType.TheVariants as kinds
 use Rattle.trace_text.specs.declared.trace.Own.{Own}
 use Rattle.trace_text.specs.declared.trace.CellRun.{CellRun}
 use Rattle.trace_text.specs.declared.trace.Trace.{Trace}
-use Rattle.trace_text.specs.Counted.{pages_of}
-
--- whether the run has the frame
-abbrev pub has_frame : ℕ → Own → Bool
-has_frame f o = nat_le o.first f && nat_lt f (o.first + o.count)
+use Rattle.trace_text.specs.Counted.{pages_of, has_frame}
 
 -- whether the run has that cell of the frame
 abbrev pub has_cell : ℕ → ℕ → CellRun → Bool
@@ -33,8 +29,8 @@ value_in None = 0
 value_in (Some c) = c.value
 
 -- whether the machine has the frame and no domain owns it
-abbrev pub is_free : Trace → ℕ → Bool
-is_free t f = nat_lt f t.layout.frames && is_none (find (has_frame f) t.owned)
+abbrev pub is_unowned : Trace → ℕ → Bool
+is_unowned t f = nat_lt f t.layout.frames && is_none (find (has_frame f) t.owned)
 
 -- the number whose bit b, below n, is set where p b is true
 unfoldable pub bits_below : ℕ → (ℕ → Bool) → ℕ
@@ -70,7 +66,7 @@ opening_at t (Refs f) = refs_in (find (has_frame f) t.owned)
 opening_at t (Kind f) = 0
 opening_at t (M2p f) = 2 ^ 64 - 1
 opening_at t (Cell f i) = value_in (find (has_cell f i) (reverse t.cells))
-opening_at t (Map k) = bits_below 64 (λ b. is_free t (64 * k + b))
+opening_at t (Map k) = bits_below 64 (λ b. is_unowned t (64 * k + b))
 opening_at t (Priv d) = both_halves (slice_index t.layout.privilege d)
 
 -- the words of the machine, each as it opens

@@ -4,12 +4,12 @@ use Rattle.xp_words.specs.Places.{Place, Clock, Pages, Vcpu, Refs, M2p, Cell, Ma
 use Rattle.trace_text.specs.declared.trace.Own.{Own}
 use Rattle.trace_text.specs.declared.trace.CellRun.{CellRun}
 use Rattle.trace_text.specs.declared.trace.Trace.{Trace}
-use Rattle.trace_text.specs.Counted.{pages_of}
-use Rattle.machine_build.specs.Opening.{has_frame, has_cell, refs_in, bits_below, both_halves}
+use Rattle.trace_text.specs.Counted.{pages_of, has_frame}
+use Rattle.machine_build.specs.Opening.{has_cell, refs_in, bits_below, both_halves}
 
 -- no word holds anything
-abbrev pub nothing : Place → ℕ
-nothing p = 0
+abbrev pub all_zero : Place → ℕ
+all_zero p = 0
 
 -- the clock
 unfoldable pub with_clock : ℕ → (Place → ℕ) → Place → ℕ

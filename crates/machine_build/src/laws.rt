@@ -7,11 +7,12 @@ ghost use Rattle.xp_words.specs.KindWords.{kind_read};
 ghost use Rattle.xp_words.specs.Places.{Refs, Kind, Map};
 ghost use Rattle.trace_text.specs.declared.trace.Trace.{Trace};
 ghost use Rattle.trace_text.specs.WellFormed.{IsWellFormed};
-ghost use Rattle.machine_build.specs.Opening.{opening_at, is_free, has_frame, reference_in, untyped};
+ghost use Rattle.trace_text.specs.Counted.{has_frame};
+ghost use Rattle.machine_build.specs.Opening.{opening_at, is_unowned, reference_in, untyped};
 
 /// In a word of the map of free frames each bit is set exactly where its frame is the machine's and nobody owns it.
 pub fn each_bit_is_its_frame()
-    ensures bit { (t : Trace) (k b : ℕ) → b < 64 → is_bit b (opening_at t (Map k)) ≡ is_free t (64 * k + b) }
+    ensures bit { (t : Trace) (k b : ℕ) → b < 64 → is_bit b (opening_at t (Map k)) ≡ is_unowned t (64 * k + b) }
     ensures rest { (t : Trace) (k : ℕ) → opening_at t (Map k) < 2 ^ 64 }
 {}
 

@@ -5,7 +5,7 @@ ghost use Rattle.std.specs.Prelude.{◌≡◌, IfOk, length, reverse};
 ghost use Rattle.xp_words.specs.Places.{Place, sizes_of, size, memory};
 ghost use Rattle.trace_text.specs.WellFormed.{IsWellFormed};
 ghost use Rattle.machine_build.specs.Opening.{IsOpening};
-ghost use Rattle.machine_build.specs.Puts.{nothing, with_cells};
+ghost use Rattle.machine_build.specs.Puts.{all_zero, with_cells};
 
 pub mod laws;
 mod map;
@@ -33,7 +33,7 @@ pub fn opening(alloc: Global, trace: &Trace) -> Result<Vec<u64>, AllocError>
 fn put_words(trace: &Trace, words: &mut [u64])
     requires formed { IsWellFormed trace.now }
     requires count { length words.old ≡ size (sizes_of trace.now.layout) }
-    requires cells { (p : Place) → memory (sizes_of trace.now.layout) words.old p ≡ with_cells (reverse trace.now.cells) nothing p }
+    requires cells { (p : Place) → memory (sizes_of trace.now.layout) words.old p ≡ with_cells (reverse trace.now.cells) all_zero p }
     ensures { IsOpening trace.now words.new }
 {
     let layout = &trace.layout;

@@ -11,7 +11,8 @@ use Rattle.xp_board.specs.Readings.{kind_at, ref_count, type_count, is_context}
 use Rattle.xp_board.specs.Hands.{empty, hand, typed_hand}
 use Rattle.xp_board.specs.Recorded.{held, held_of, work_of, table_entries, entries, contexts, marks, hands, names, names_typed, named, named_typed, TypesAgree, CountsAgree, is_page_of}
 use Rattle.trace_text.specs.declared.trace.Trace.{Trace}
-use Rattle.machine_build.specs.Opening.{has_frame, opening_at, untyped}
+use Rattle.trace_text.specs.Counted.{has_frame}
+use Rattle.machine_build.specs.Opening.{opening_at, untyped}
 use Rattle.opening_rule.proofs.Words.{Opens, vcpu_word, run_inside}
 use Rattle.opening_rule.proofs.Owners.{owner_in_run, frames_of_runs}
 use Rattle.board_lemmas.proofs.Sums.{sum_below-same, sum_below-none}

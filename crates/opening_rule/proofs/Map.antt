@@ -9,7 +9,8 @@ use Rattle.xp_board.specs.Readings.{is_free}
 use Rattle.xp_board.specs.Hands.{empty}
 use Rattle.xp_board.specs.Sound.{FreeMap, is_hinted}
 use Rattle.trace_text.specs.declared.trace.Trace.{Trace}
-use Rattle.machine_build.specs.Opening.{has_frame, opening_at, is_free as opens_free}
+use Rattle.trace_text.specs.Counted.{has_frame}
+use Rattle.machine_build.specs.Opening.{opening_at, is_unowned}
 use Rattle.machine_build.proofs.MapLaws.{each_bit}
 use Rattle.opening_rule.proofs.Words.{Opens}
 use Rattle.opening_rule.proofs.Readings.{free_is_unowned}
@@ -26,10 +27,10 @@ module _ (t : Trace) (m : Place → ℕ) (o : Opens t m) where
       let few : f / 64 < map_words (sizes_of t.layout) = omega arith in
       o.inside (Map (f / 64)) (grind (arith, nat_tests))
 
-  opens_hinted : (f : ℕ) → f < t.layout.frames → is_bit (f % 64) (opening_at t (Map (f / 64))) ≡ opens_free t f
+  opens_hinted : (f : ℕ) → f < t.layout.frames → is_bit (f % 64) (opening_at t (Map (f / 64))) ≡ is_unowned t f
   opens_hinted f b =
       let number : 64 * (f / 64) + f % 64 ≡ f = omega arith in
-      each_bit t (f / 64) (f % 64) (omega arith) ∙ ap (opens_free t) number
+      each_bit t (f / 64) (f % 64) (omega arith) ∙ ap (is_unowned t) number
 
   hinted : (f : ℕ) → f < t.layout.frames → is_hinted m f ≡ is_free (m (Refs f))
   hinted f b =

@@ -7,7 +7,8 @@ use Rattle.xp_board.specs.Readings.{kind_at, ref_count, allocated_mark, count_in
 use Rattle.xp_board.specs.Recorded.{is_page_of}
 use Rattle.trace_text.specs.declared.trace.Own.{Own}
 use Rattle.trace_text.specs.declared.trace.Trace.{Trace}
-use Rattle.machine_build.specs.Opening.{has_frame, reference_in, untyped}
+use Rattle.trace_text.specs.Counted.{has_frame}
+use Rattle.machine_build.specs.Opening.{reference_in, untyped}
 use Rattle.opening_rule.proofs.Owners.{owner_in_run}
 use Rattle.opening_rule.proofs.Words.{Opens, kind_word, refs_read}
 

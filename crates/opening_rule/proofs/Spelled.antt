@@ -12,7 +12,8 @@ use Rattle.xp_board.specs.Sound.{Spelled}
 use Rattle.trace_text.specs.declared.trace.Own.{Own}
 use Rattle.trace_text.specs.declared.trace.Trace.{Trace}
 use Rattle.trace_text.specs.WellFormed.{IsWellFormed}
-use Rattle.machine_build.specs.Opening.{has_frame, has_cell, refs_in, reference_in, opening_at}
+use Rattle.trace_text.specs.Counted.{has_frame}
+use Rattle.machine_build.specs.Opening.{has_cell, refs_in, reference_in, opening_at}
 use Rattle.machine_build.proofs.MapLaws.{map_word-lt}
 use Rattle.machine_build.proofs.RefLaws.{reads_as, kind_reads_as}
 use Rattle.opening_rule.proofs.Bounds.{BelowIn, found_below, found_value, values_turned, free_bits_few, priv_word}

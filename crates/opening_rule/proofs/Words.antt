@@ -6,7 +6,8 @@ use Rattle.xp_words.specs.Places.{Sizes, Place, Clock, Life, Vcpu, Refs, Kind, s
 use Rattle.trace_text.specs.declared.trace.Own.{Own}
 use Rattle.trace_text.specs.declared.trace.Trace.{Trace}
 use Rattle.trace_text.specs.WellFormed.{IsWellFormed}
-use Rattle.machine_build.specs.Opening.{IsOpening, has_frame, refs_in, reference_in, opening_at}
+use Rattle.trace_text.specs.Counted.{has_frame}
+use Rattle.machine_build.specs.Opening.{IsOpening, refs_in, reference_in, opening_at}
 use Rattle.machine_build.proofs.RefLaws.{reads_as}
 use Rattle.std.proofs.lemmas.Bool.{cases_Bool}
 

@@ -11,7 +11,7 @@ use Rattle.xp_words.specs.Places.{Pages, Life, Vcpu, Refs, Kind, M2p, base_of, u
 use Rattle.xp_words.specs.RefWords.{ref_read}
 use Rattle.report_text.specs.LogTexts.{log_lines}
 use Rattle.report_text.specs.Memories.{Memory, word}
-use Rattle.report_text.specs.WordTexts.{hex, context_text, type_text, type_count, flags_text, life_text, m2p_text}
+use Rattle.report_text.specs.WordTexts.{hex, context_text, type_text, printed_type_count, flags_text, life_text, m2p_text}
 
 -- the domain of a vCPU, and the words that name its frames
 unfoldable pub vcpu_line : Memory → ℕ → List ℕ
@@ -48,8 +48,8 @@ is_free_ref (Some (Owned owner allocated count)) = false
 is_free_ref (Some (Dying owner)) = false
 
 -- the same of the word itself
-unfoldable pub is_free : ℕ → Bool
-is_free w = is_free_ref (ref_read w)
+unfoldable pub is_free_word : ℕ → Bool
+is_free_word w = is_free_ref (ref_read w)
 
 -- whether one of the references is the owner's own
 abbrev pub alloc_text : Bool → List ℕ
@@ -72,7 +72,7 @@ holder_text w = holder_by w (ref_read w)
 abbrev pub form_by : ℕ → Option KindWord → List ℕ
 form_by w None = codes "kind " ++ hex w
 form_by w (Some k) =
-    codes "type " ++ (type_text k.kind ++ (codes " count " ++ (decimal (type_count k) ++ (codes " flags " ++ (flags_text k ++ (codes " at " ++ decimal k.progress))))))
+    codes "type " ++ (type_text k.kind ++ (codes " count " ++ (decimal (printed_type_count k) ++ (codes " flags " ++ (flags_text k ++ (codes " at " ++ decimal k.progress))))))
 
 -- the same of the word itself
 unfoldable pub form_text : ℕ → List ℕ
@@ -85,7 +85,7 @@ frame_by f refs kind m2p =
 
 -- the line of a frame; a free one has none
 unfoldable pub frame_text : Memory → ℕ → List ℕ
-frame_text m f = if is_free (word m (Refs f)) then [] else frame_by f (word m (Refs f)) (word m (Kind f)) (word m (M2p f))
+frame_text m f = if is_free_word (word m (Refs f)) then [] else frame_by f (word m (Refs f)) (word m (Kind f)) (word m (M2p f))
 
 -- the lines of the first frames
 unfoldable pub frame_texts : Memory → ℕ → List ℕ
@@ -93,7 +93,7 @@ frame_texts m frames = flat_map (frame_text m) (range_with_len 0 frames)
 
 -- how many of the first frames are free
 unfoldable pub free_frames : Memory → ℕ → ℕ
-free_frames m frames = count_by (λ f. is_free (word m (Refs f))) (range_with_len 0 frames)
+free_frames m frames = count_by (λ f. is_free_word (word m (Refs f))) (range_with_len 0 frames)
 
 -- the vCPUs with their logs, the domains, the frames that are not free, and how many are free
 unfoldable pub text_of : Memory → List (List LogLine) → List ℕ → List ℕ

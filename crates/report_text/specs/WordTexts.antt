@@ -52,8 +52,8 @@ type_text kinds.Desc = codes "desc"
 type_text kinds.Writable = codes "wr"
 
 -- the type count: the number of a validated frame, 1 in work and partial, 0 where dead
-abbrev pub type_count : KindWord → ℕ
-type_count k = if k.validated then k.number else if k.locked || k.partial then 1 else 0
+abbrev pub printed_type_count : KindWord → ℕ
+printed_type_count k = if k.validated then k.number else if k.locked || k.partial then 1 else 0
 
 -- the letter where the mark is set
 abbrev pub letter : Bool → List ℕ → List ℕ
@@ -74,7 +74,7 @@ flags_text k =
 -- the text of a kind word that is read so
 abbrev pub kind_by : ℕ → Option KindWord → List ℕ
 kind_by w None = hex w
-kind_by w (Some k) = type_text k.kind ++ (codes "," ++ (decimal (type_count k) ++ (codes "," ++ flags_text k)))
+kind_by w (Some k) = type_text k.kind ++ (codes "," ++ (decimal (printed_type_count k) ++ (codes "," ++ flags_text k)))
 
 -- a kind word in a log line: type, type count, flags
 unfoldable pub kind_text : ℕ → List ℕ

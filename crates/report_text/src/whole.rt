@@ -1,6 +1,6 @@
 ghost use Rattle.std.specs.Prelude.{◌≡◌, ◌<◌, ◌++◌, Some, [], slice_index_or, length, OnOk, IfOk, string_bytes};
 ghost use Rattle.xp_words.specs.Places.{sizes_of, size};
-ghost use Rattle.report_text.specs.ReportOf.{vcpu_line, vcpu_text, vcpu_texts, pending_line, domain_line, domain_lines, is_free, holder_text, form_text, frame_by, frame_texts, free_frames, report_of};
+ghost use Rattle.report_text.specs.ReportOf.{vcpu_line, vcpu_text, vcpu_texts, pending_line, domain_line, domain_lines, is_free_word, holder_text, form_text, frame_by, frame_texts, free_frames, report_of};
 
 use crate::log::put_lines;
 use crate::memory::Memory;
@@ -119,9 +119,9 @@ impl fmt::Display for FormText {
     }
 }
 
-#[tactic(auto, unfolding(crate::specs::ReportOf::is_free))]
+#[tactic(auto, unfolding(crate::specs::ReportOf::is_free_word))]
 fn is_free(refs: u64) -> bool
-    ensures { result ≡ is_free refs }
+    ensures { result ≡ is_free_word refs }
 {
     matches!(RefWord::read(refs), Some(RefWord::Free { .. }))
 }

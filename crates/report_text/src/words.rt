@@ -1,5 +1,5 @@
 ghost use Rattle.std.specs.Prelude.{◌≡◌, Some};
-ghost use Rattle.report_text.specs.WordTexts.{context_text, ref_text, type_text, type_count, letter, flags_text, kind_text, life_text, m2p_text};
+ghost use Rattle.report_text.specs.WordTexts.{context_text, ref_text, type_text, printed_type_count, letter, flags_text, kind_text, life_text, m2p_text};
 
 use std::fmt;
 use xp_words::{ContextWord, KindWord, PageType, RefWord};
@@ -77,7 +77,7 @@ impl fmt::Display for TypeText {
 
 /// How many typed references there are to the frame.
 pub fn type_count(kind: &KindWord) -> u64
-    ensures { result ≡ type_count kind.now }
+    ensures { result ≡ printed_type_count kind.now }
 {
     if kind.validated {
         kind.number

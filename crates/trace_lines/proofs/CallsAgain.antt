@@ -9,14 +9,14 @@ use Rattle.xp_words.specs.declared.ops.Call.{Call}
 use Rattle.xp_words.specs.declared.ops.Call.TheVariants as calls
 use Rattle.trace_lines.specs.declared.fault.LineFault.{LineFault}
 use Rattle.trace_lines.specs.Steps.{◌>>=◌}
-use Rattle.trace_lines.specs.Words.{word_at, number_at, end_at, each}
-use Rattle.trace_lines.specs.Grammar.{numbers_of, pairs_of, triples_of, mmu_of, ext_of, va_of, va_other_of, gdt_of, desc_of, mem_of, hypercall_of, call_by, call_of}
+use Rattle.trace_lines.specs.Words.{next_word, next_number, end_at, each}
+use Rattle.trace_lines.specs.Grammar.{numbers_of, pairs_from, triples_from, mmu_of, ext_of, va_of, va_other_of, gdt_of, desc_of, mem_of, hypercall_of, call_by, call_of}
 use Rattle.trace_lines.specs.Spelling.{number_words, pair_words, triple_words, call_words, IsSpellablePair, IsSpellableExt, IsSpellableCall, AreWords}
 use Rattle.trace_lines.proofs.Decimals.{number_back}
 
 -- a number in front of other words
-pub number_first : (n : ℕ) (ws : List (List ℕ)) → n < 2 ^ 64 → number_at (decimal n ∷ ws) ≡ Ok (n, ws)
-unfolding number_at word_at
+pub number_first : (n : ℕ) (ws : List (List ℕ)) → n < 2 ^ 64 → next_number (decimal n ∷ ws) ≡ Ok (n, ws)
+unfolding next_number next_word
 number_first n ws small = rw (number_back n small) refl
 
 pub numbers_again : (ns : List ℕ) → AreWords ns → numbers_of (number_words ns) ≡ Ok ns
@@ -34,13 +34,13 @@ pair_words_again (p ∷ ps) h =
     let own = All-head IsSpellablePair p ps h in
     rw (number_back p.ptr own.0, number_back p.val own.1, pair_words_again ps (All-tail IsSpellablePair p ps h)) refl
 
-pair_numbers_again : (ps : List Pair) → pairs_of (pair_numbers ps) ≡ Ok ps
-unfolding pairs_of pair_numbers
+pair_numbers_again : (ps : List Pair) → pairs_from (pair_numbers ps) ≡ Ok ps
+unfolding pairs_from pair_numbers
 pair_numbers_again [] = refl
 pair_numbers_again (p ∷ ps) = rw (pair_numbers_again ps) refl
 
-pub pairs_again : (ps : List Pair) → All IsSpellablePair ps → (numbers_of (pair_words ps) >>= pairs_of) ≡ Ok ps
-pairs_again ps h = ap (λ (r : Result (List ℕ) LineFault). r >>= pairs_of) (pair_words_again ps h) ∙ pair_numbers_again ps
+pub pairs_again : (ps : List Pair) → All IsSpellablePair ps → (numbers_of (pair_words ps) >>= pairs_from) ≡ Ok ps
+pairs_again ps h = ap (λ (r : Result (List ℕ) LineFault). r >>= pairs_from) (pair_words_again ps h) ∙ pair_numbers_again ps
 
 triple_numbers : List ExtOp → List ℕ
 triple_numbers xs = flat_map (λ x. x.command ∷ x.first ∷ x.second ∷ []) xs
@@ -52,13 +52,13 @@ triple_words_again (x ∷ xs) h =
     let own = All-head IsSpellableExt x xs h in
     rw (number_back x.command own.0, number_back x.first own.1, number_back x.second own.2, triple_words_again xs (All-tail IsSpellableExt x xs h)) refl
 
-triple_numbers_again : (xs : List ExtOp) → triples_of (triple_numbers xs) ≡ Ok xs
-unfolding triples_of triple_numbers
+triple_numbers_again : (xs : List ExtOp) → triples_from (triple_numbers xs) ≡ Ok xs
+unfolding triples_from triple_numbers
 triple_numbers_again [] = refl
 triple_numbers_again (x ∷ xs) = rw (triple_numbers_again xs) refl
 
 pub call_again : (c : Call) → IsSpellableCall c → call_of (call_words c) ≡ Ok c
-unfolding call_of word_at hypercall_of call_by mmu_of ext_of va_of va_other_of gdt_of desc_of mem_of end_at
+unfolding call_of next_word hypercall_of call_by mmu_of ext_of va_of va_other_of gdt_of desc_of mem_of end_at
 call_again (calls.Mmu foreign pairs) h = rw (number_first foreign (pair_words pairs) h.0, pair_words_again pairs h.1, pair_numbers_again pairs) refl
 call_again (calls.Ext list) h = rw (triple_words_again list h, triple_numbers_again list) refl
 call_again (calls.Va va val flags) h = rw (number_first va _ h.0, number_first val _ h.1, number_first flags _ h.2) refl

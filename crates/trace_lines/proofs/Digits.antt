@@ -23,13 +23,14 @@ no_number false b k e = refl
 too_big : (base n : ℕ) (cs : List ℕ) → 0 < base → 2 ^ 64 ≤ n → numeral_after base n cs ≡ None
 too_big base n cs pos big = no_number (list_all (is_digit base) cs) _ _ (le-ltb _ (2 ^ 64) (stays_big base n cs pos big))
 
-none_of : (b : Bool) (k : ℕ) → cond b (Some k) None ≡ None → b ≡ false
-none_of true k e = absurd cc
-none_of false k e = refl
+-- where a test gives nothing, it failed
+pub test_failed : (b : Bool) (k : ℕ) → cond b (Some k) None ≡ None → b ≡ false
+test_failed true k e = absurd cc
+test_failed false k e = refl
 
 stops_at : (b : Bool) (base m : ℕ) (cs : List ℕ) → 0 < base → cond ((b && true) && ltb m (2 ^ 64)) (Some m) None ≡ None
     → cond ((b && list_all (is_digit base) cs) && ltb (digits_value_after base m cs) (2 ^ 64)) (Some (digits_value_after base m cs)) None ≡ None
-stops_at true base m cs pos e = too_big base m cs pos (ltb-false _ _ (none_of (ltb m (2 ^ 64)) m e))
+stops_at true base m cs pos e = too_big base m cs pos (ltb-false _ _ (test_failed (ltb m (2 ^ 64)) m e))
 stops_at false base m cs pos e = refl
 
 -- where a digit cannot be read, nothing behind it helps

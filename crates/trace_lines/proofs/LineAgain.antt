@@ -11,10 +11,10 @@ use Rattle.trace_lines.specs.declared.fault.LineFault.{LineFault}
 use Rattle.trace_lines.specs.declared.line.Line.{Line}
 use Rattle.trace_lines.specs.declared.line.Line.TheVariants as lines
 use Rattle.trace_lines.specs.Steps.{◌>>=◌}
-use Rattle.trace_lines.specs.Words.{words_of, word_at, end_at, is_nil}
-use Rattle.trace_lines.specs.Grammar.{hypercall_of, call_of, multi_of, base_at, read_of, write_of, touch_ldt_of, destroy_of, grant_of, revoke_of, ptwr_of, xchg_of, newer_by, other_by, operation_by, operation_of}
-use Rattle.trace_lines.specs.Grammar.{header_of, frames_of, limit_of, clock_of, domain_of, priv_of, vcpu_of, own_of, cell_of, op_of, turn_of, last_of, opening_by, form_by, line_of}
-use Rattle.trace_lines.specs.Spelling.{text_of, base_word, call_words, op_words, line_words, line_text, IsSpellableCall, IsSpellableOp, IsSpellable}
+use Rattle.trace_lines.specs.Words.{words_of, next_word, end_at, is_nil}
+use Rattle.trace_lines.specs.Grammar.{hypercall_of, call_of, multi_of, next_base, read_of, write_of, touch_ldt_of, destroy_of, grant_of, revoke_of, ptwr_of, xchg_of, newer_by, other_by, operation_by, operation_of}
+use Rattle.trace_lines.specs.Grammar.{header_line_of, frames_line_of, limit_line_of, clock_line_of, domain_line_of, priv_line_of, vcpu_line_of, own_line_of, cell_line_of, op_line_of, turn_line_of, end_line_of, opening_by, line_by, line_of}
+use Rattle.trace_lines.specs.Spelling.{words_text, base_word, call_words, op_words, line_words, line_text, IsSpellableCall, IsSpellableOp, IsSpellable}
 use Rattle.trace_lines.proofs.Decimals.{is_word, decimal_is_word}
 use Rattle.trace_lines.proofs.WordsAgain.{both, words_again, no_feed}
 use Rattle.trace_lines.proofs.CallsAgain.{number_first, numbers_again, call_again}
@@ -23,7 +23,7 @@ use Rattle.trace_lines.proofs.MultiAgain.{words_of_call, words_of_numbers, words
 -- ---- operations
 
 one_again : (v : ℕ) (c : Call) → IsSpellableCall c → operation_of v (call_words c) ≡ (call_of (call_words c) >>= λ call. Ok (ops.One call))
-unfolding operation_of operation_by word_at hypercall_of call_of
+unfolding operation_of operation_by next_word hypercall_of call_of
 one_again v (calls.Mmu foreign pairs) h = refl
 one_again v (calls.Ext list) h = refl
 one_again v (calls.Va va val flags) h = refl
@@ -32,13 +32,13 @@ one_again v (calls.Gdt entries frames) h = refl
 one_again v (calls.Desc address word) h = refl
 one_again v (calls.Mem command order items) h = refl
 
-base_again : (user : Bool) (ws : List (List ℕ)) → base_at (base_word user ∷ ws) ≡ Ok (user, ws)
-unfolding base_at word_at
+base_again : (user : Bool) (ws : List (List ℕ)) → next_base (base_word user ∷ ws) ≡ Ok (user, ws)
+unfolding next_base next_word
 base_again true ws = refl
 base_again false ws = refl
 
 operation_again : (v : ℕ) (op : Op) → IsSpellableOp v op → operation_of v (op_words op) ≡ Ok op
-unfolding operation_of operation_by other_by newer_by word_at hypercall_of multi_of read_of write_of touch_ldt_of destroy_of grant_of revoke_of ptwr_of xchg_of end_at
+unfolding operation_of operation_by other_by newer_by next_word hypercall_of multi_of read_of write_of touch_ldt_of destroy_of grant_of revoke_of ptwr_of xchg_of end_at
 operation_again v (ops.One call) h = one_again v call h ∙ rw (call_again call h) refl
 operation_again v (ops.Multi list) h = rw (calls_again list h.0 h.1) refl
 operation_again v (ops.Read user va) h = rw (base_again user (decimal va ∷ []), number_first va [] h) refl
@@ -74,8 +74,8 @@ one_is n e = ap decimal e ∙ decimal_digit 1 (omega arith)
 two_is : (n : ℕ) → n ≡ 2 → decimal n ≡ codes "2"
 two_is n e = ap decimal e ∙ decimal_digit 2 (omega arith)
 
-header_again : (n : ℕ) → (n ≡ 1) ⊎ (n ≡ 2) → header_of (decimal n ∷ []) ≡ Ok (lines.Header n)
-unfolding header_of word_at end_at
+header_again : (n : ℕ) → (n ≡ 1) ⊎ (n ≡ 2) → header_line_of (decimal n ∷ []) ≡ Ok (lines.Header n)
+unfolding header_line_of next_word end_at
 header_again n (inl e) = rw (one_is n e) (ap (λ (k : ℕ). Ok (lines.Header k)) (sym e))
 header_again n (inr e) = rw (two_is n e) (ap (λ (k : ℕ). Ok (lines.Header k)) (sym e))
 
@@ -84,10 +84,10 @@ header_is_word n (inl e) = decimal_is_word n (omega (arith, e))
 header_is_word n (inr e) = decimal_is_word n (omega (arith, e))
 
 abbrev line_from : ℕ → List (List ℕ) → Result Line LineFault
-line_from v ws = word_at ws >>= λ word. form_by v word.0 word.1
+line_from v ws = next_word ws >>= λ word. line_by v word.0 word.1
 
 form_again : (v : ℕ) (l : Line) → IsSpellable v l → line_from v (line_words l) ≡ Ok l
-unfolding word_at form_by opening_by frames_of limit_of clock_of domain_of priv_of vcpu_of own_of cell_of op_of turn_of last_of end_at
+unfolding next_word line_by opening_by frames_line_of limit_line_of clock_line_of domain_line_of priv_line_of vcpu_line_of own_line_of cell_line_of op_line_of turn_line_of end_line_of end_at
 form_again v (lines.Header own) h = header_again own h
 form_again v (lines.Frames count) h = rw (number_first count [] h) refl
 form_again v (lines.Limit count) h = rw (number_first count [] h) refl
@@ -129,11 +129,11 @@ some_words (lines.Op vcpu op) = refl
 some_words (lines.Turn vcpu count) = refl
 some_words lines.End = refl
 
-text_words : (ws : List (List ℕ)) → is_nil ws ≡ false → list_all is_word ws ≡ true → words_of (text_of ws) ≡ ws
+text_words : (ws : List (List ℕ)) → is_nil ws ≡ false → list_all is_word ws ≡ true → words_of (words_text ws) ≡ ws
 text_words [] some h = absurd cc
 text_words (w ∷ ws) some h = let parts = both (is_word w) (list_all is_word ws) h in words_again w ws parts.0 parts.1
 
-text_has_no_feed : (ws : List (List ℕ)) → is_nil ws ≡ false → list_all is_word ws ≡ true → All (λ b. b ≢ 10) (text_of ws)
+text_has_no_feed : (ws : List (List ℕ)) → is_nil ws ≡ false → list_all is_word ws ≡ true → All (λ b. b ≢ 10) (words_text ws)
 text_has_no_feed [] some h = absurd cc
 text_has_no_feed (w ∷ ws) some h = let parts = both (is_word w) (list_all is_word ws) h in no_feed w ws parts.0 parts.1
 

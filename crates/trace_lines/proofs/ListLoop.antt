@@ -5,7 +5,7 @@ use Rattle.trace_lines.specs.declared.fault.LineError.{LineError}
 use Rattle.trace_lines.specs.declared.fault.LineError.TheVariants as errors
 use Rattle.trace_lines.specs.Steps.{◌>>=◌, Fails}
 use Rattle.trace_lines.specs.Numbers.{number_of}
-use Rattle.trace_lines.specs.Words.{word_at, number_at, ok_or_line, is_nil, each}
+use Rattle.trace_lines.specs.Words.{next_word, next_number, ok_or_line, is_nil, each}
 use Rattle.trace_lines.specs.Grammar.{numbers_of}
 
 abbrev pub with_front : {B : Type 0} → List B → Result (List B) LineFault → Result (List B) LineFault
@@ -25,16 +25,16 @@ by_number : (o : Option ℕ) (ws : List (List ℕ)) → (ok_or_line o >>= λ n. 
 by_number None ws = refl
 by_number (Some n) ws = refl
 
--- one number more, by what number_at says
-one_more : (ws : List (List ℕ)) → is_nil ws ≡ false → numbers_of ws ≡ (number_at ws >>= first_of)
-unfolding each number_at word_at
+-- one number more, by what next_number says
+one_more : (ws : List (List ℕ)) → is_nil ws ≡ false → numbers_of ws ≡ (next_number ws >>= first_of)
+unfolding each next_number next_word
 one_more [] e = absurd cc
 one_more (w ∷ ws) e = by_number (number_of w) ws
 
-pub goes_on : (front : List ℕ) (ws rest : List (List ℕ)) (n : ℕ) → is_nil ws ≡ false → number_at ws ≡ Ok (n, rest) → with_front (front ++ n ∷ []) (numbers_of rest) ≡ with_front front (numbers_of ws)
+pub goes_on : (front : List ℕ) (ws rest : List (List ℕ)) (n : ℕ) → is_nil ws ≡ false → next_number ws ≡ Ok (n, rest) → with_front (front ++ n ∷ []) (numbers_of rest) ≡ with_front front (numbers_of ws)
 goes_on front ws rest n some e = sym (ap (with_front front) (one_more ws some ∙ ap (λ (r : Result (ℕ × List (List ℕ)) LineFault). r >>= first_of) e) ∙ regroup front n (numbers_of rest))
 
-pub fails : (e : LineError) (front : List ℕ) (ws : List (List ℕ)) → is_nil ws ≡ false → Fails e (number_at ws) → Fails e (with_front front (numbers_of ws))
+pub fails : (e : LineError) (front : List ℕ) (ws : List (List ℕ)) → is_nil ws ≡ false → Fails e (next_number ws) → Fails e (with_front front (numbers_of ws))
 fails errors.Memory front ws some h = tt
 fails (errors.At s) front ws some h = ap (with_front front) (one_more ws some ∙ ap (λ (r : Result (ℕ × List (List ℕ)) LineFault). r >>= first_of) h)
 
@@ -51,7 +51,7 @@ took : (o : Option ℕ) (ws rest : List (List ℕ)) (n : ℕ) → (ok_or_line o 
 took None ws rest n e = absurd cc
 took (Some m) ws rest n e = ap rest_of e
 
-pub shorter : (ws rest : List (List ℕ)) (n : ℕ) → number_at ws ≡ Ok (n, rest) → length rest < length ws
-unfolding number_at word_at
+pub shorter : (ws rest : List (List ℕ)) (n : ℕ) → next_number ws ≡ Ok (n, rest) → length rest < length ws
+unfolding next_number next_word
 shorter [] rest n e = absurd cc
 shorter (w ∷ ws) rest n e = omega (arith, ap length (took (number_of w) ws rest n e))

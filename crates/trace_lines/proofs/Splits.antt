@@ -6,6 +6,7 @@ use Rattle.std.proofs.lemmas.List.Splits.{slice_split_first, slice_split_none}
 use Rattle.std.proofs.lemmas.List.Sums.{fails_before_first, prefix_len-le-length}
 use Rattle.std.proofs.lemmas.Bool.{cases_lt, ltb-false}
 use Rattle.trace_lines.specs.Words.{is_nil, words_of, spaced_words}
+use Rattle.trace_lines.proofs.Digits.{test_failed}
 
 abbrev pub len_before : ℕ → List ℕ → ℕ
 len_before byte bs = position_or_len (λ b. eqb b byte) bs
@@ -13,10 +14,6 @@ len_before byte bs = position_or_len (λ b. eqb b byte) bs
 place_is : (b : Bool) (k i : ℕ) → cond b (Some k) None ≡ Some i → i ≡ k
 place_is true k i e = cc
 place_is false k i e = absurd cc
-
-no_place : (b : Bool) (k : ℕ) → cond b (Some k) None ≡ None → b ≡ false
-no_place true k e = absurd cc
-no_place false k e = refl
 
 pub len_before_within : (byte : ℕ) (bs : List ℕ) → len_before byte bs ≤ length bs
 len_before_within byte bs = prefix_len-le-length _ bs
@@ -26,7 +23,7 @@ len_before_some byte bs i e = place_is _ (len_before byte bs) i (sym e)
 
 pub len_before_none : (byte : ℕ) (bs : List ℕ) → None ≡ position (λ b. eqb b byte) bs → length bs ≡ len_before byte bs
 len_before_none byte bs e =
-    let past : length bs ≤ len_before byte bs = ltb-false _ _ (no_place _ (len_before byte bs) (sym e)) in
+    let past : length bs ≤ len_before byte bs = ltb-false _ _ (test_failed _ (len_before byte bs) (sym e)) in
     omega (arith, past, len_before_within byte bs)
 
 pub split_here : (byte : ℕ) (bs : List ℕ) → len_before byte bs < length bs → slice_split (λ b. eqb b byte) bs ≡ take (len_before byte bs) bs ∷ slice_split (λ b. eqb b byte) (drop (len_before byte bs + 1) bs)

@@ -15,8 +15,8 @@ abbrev pub spaced : List (List ℕ) → List ℕ
 spaced ws = flat_map (λ w. 32 ∷ w) ws
 
 -- words, with a space between two of them
-abbrev pub text_of : List (List ℕ) → List ℕ
-text_of ws = join_by (λ w. w) (32 ∷ []) ws
+abbrev pub words_text : List (List ℕ) → List ℕ
+words_text ws = join_by (λ w. w) (32 ∷ []) ws
 
 -- a list of numbers
 abbrev pub number_words : List ℕ → List (List ℕ)
@@ -78,7 +78,7 @@ line_words lines.End = codes "end" ∷ []
 
 -- a line without its line feed, every number in decimal
 unfoldable pub line_text : Line → List ℕ
-line_text l = text_of (line_words l)
+line_text l = words_text (line_words l)
 
 -- ---- the lines that their text says: every number is a word of the machine
 

@@ -20,14 +20,14 @@ ok_or_line None = Err bad_line
 ok_or_line (Some x) = Ok x
 
 -- the next word, and those behind it
-unfoldable pub word_at : List (List ℕ) → Result (List ℕ × List (List ℕ)) LineFault
-word_at [] = Err bad_line
-word_at (w ∷ ws) = Ok (w, ws)
+unfoldable pub next_word : List (List ℕ) → Result (List ℕ × List (List ℕ)) LineFault
+next_word [] = Err bad_line
+next_word (w ∷ ws) = Ok (w, ws)
 
 -- the number that the next word spells, and the words behind it
-unfoldable pub number_at : List (List ℕ) → Result (ℕ × List (List ℕ)) LineFault
-number_at ws = do
-  word ← word_at ws
+unfoldable pub next_number : List (List ℕ) → Result (ℕ × List (List ℕ)) LineFault
+next_number ws = do
+  word ← next_word ws
   n ← ok_or_line (number_of word.0)
   Ok (n, word.1)
 

@@ -1,6 +1,6 @@
 ghost use Rattle.std.specs.Prelude.{◌≡◌, map, IfOk};
 ghost use Rattle.trace_lines.specs.Steps.{Gives};
-ghost use Rattle.trace_lines.specs.Grammar.{numbers_of, pair_from, triple_from, pairs_of, triples_of, mmu_of, ext_of, va_of, va_other_of, gdt_of, desc_of, mem_of, hypercall_of, call_by, call_of};
+ghost use Rattle.trace_lines.specs.Grammar.{numbers_of, pair_from, triple_from, pairs_from, triples_from, mmu_of, ext_of, va_of, va_other_of, gdt_of, desc_of, mem_of, hypercall_of, call_by, call_of};
 
 use crate::fault::LineError;
 use crate::words::Words;
@@ -60,7 +60,7 @@ pub fn read_numbers(alloc: Global, words: &mut Words<'_>) -> Result<Vec<u64>, Li
 }
 
 fn pairs(alloc: Global, numbers: &[u64]) -> Result<Pairs, LineError>
-    ensures { Gives (λ p. p) result (pairs_of numbers.now) }
+    ensures { Gives (λ p. p) result (pairs_from numbers.now) }
 {
     let (chunks, odd) = numbers.as_chunks::<2>();
     if !odd.is_empty() {
@@ -83,7 +83,7 @@ fn pair_items(alloc: Global, chunks: &[[u64; 2]]) -> Result<Vec<Pair>, AllocErro
 }
 
 fn triples(alloc: Global, numbers: &[u64]) -> Result<ExtList, LineError>
-    ensures { Gives (λ l. l) result (triples_of numbers.now) }
+    ensures { Gives (λ l. l) result (triples_from numbers.now) }
 {
     let (chunks, odd) = numbers.as_chunks::<3>();
     if !odd.is_empty() {

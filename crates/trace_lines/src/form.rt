@@ -1,6 +1,6 @@
 ghost use Rattle.std.specs.Prelude.{◌≡◌};
 ghost use Rattle.trace_lines.specs.Steps.{Gives};
-ghost use Rattle.trace_lines.specs.Grammar.{header_of, frames_of, limit_of, clock_of, domain_of, priv_of, vcpu_of, own_of, cell_of, op_of, turn_of, last_of, opening_by, form_by, line_of as line_of_lem};
+ghost use Rattle.trace_lines.specs.Grammar.{header_line_of, frames_line_of, limit_line_of, clock_line_of, domain_line_of, priv_line_of, vcpu_line_of, own_line_of, cell_line_of, op_line_of, turn_line_of, end_line_of, opening_by, line_by, line_of as line_of_lem};
 
 use crate::fault::LineError;
 use crate::line::Line;
@@ -8,9 +8,9 @@ use crate::operation::read_operation;
 use crate::words::Words;
 use std::alloc::Global;
 
-#[tactic(auto, unfolding(crate::specs::Grammar::header_of))]
+#[tactic(auto, unfolding(crate::specs::Grammar::header_line_of))]
 fn header(words: &mut Words<'_>) -> Result<Line, LineError>
-    ensures { Gives (λ l. l) result (header_of words.old) }
+    ensures { Gives (λ l. l) result (header_line_of words.old) }
 {
     let version = words.word()?;
     words.finish()?;
@@ -23,45 +23,45 @@ fn header(words: &mut Words<'_>) -> Result<Line, LineError>
     Err(LineError::LINE)
 }
 
-#[tactic(auto, unfolding(crate::specs::Grammar::frames_of))]
+#[tactic(auto, unfolding(crate::specs::Grammar::frames_line_of))]
 fn frames(words: &mut Words<'_>) -> Result<Line, LineError>
-    ensures { Gives (λ l. l) result (frames_of words.old) }
+    ensures { Gives (λ l. l) result (frames_line_of words.old) }
 {
     let count = words.number()?;
     words.finish()?;
     Ok(Line::Frames { count })
 }
 
-#[tactic(auto, unfolding(crate::specs::Grammar::limit_of))]
+#[tactic(auto, unfolding(crate::specs::Grammar::limit_line_of))]
 fn limit(words: &mut Words<'_>) -> Result<Line, LineError>
-    ensures { Gives (λ l. l) result (limit_of words.old) }
+    ensures { Gives (λ l. l) result (limit_line_of words.old) }
 {
     let count = words.number()?;
     words.finish()?;
     Ok(Line::Limit { count })
 }
 
-#[tactic(auto, unfolding(crate::specs::Grammar::clock_of))]
+#[tactic(auto, unfolding(crate::specs::Grammar::clock_line_of))]
 fn clock(words: &mut Words<'_>) -> Result<Line, LineError>
-    ensures { Gives (λ l. l) result (clock_of words.old) }
+    ensures { Gives (λ l. l) result (clock_line_of words.old) }
 {
     let start = words.number()?;
     words.finish()?;
     Ok(Line::Clock { start })
 }
 
-#[tactic(auto, unfolding(crate::specs::Grammar::domain_of))]
+#[tactic(auto, unfolding(crate::specs::Grammar::domain_line_of))]
 fn domain(words: &mut Words<'_>) -> Result<Line, LineError>
-    ensures { Gives (λ l. l) result (domain_of words.old) }
+    ensures { Gives (λ l. l) result (domain_line_of words.old) }
 {
     let limit = words.number()?;
     words.finish()?;
     Ok(Line::Domain { limit })
 }
 
-#[tactic(auto, unfolding(crate::specs::Grammar::priv_of))]
+#[tactic(auto, unfolding(crate::specs::Grammar::priv_line_of))]
 fn privilege(words: &mut Words<'_>) -> Result<Line, LineError>
-    ensures { Gives (λ l. l) result (priv_of words.old) }
+    ensures { Gives (λ l. l) result (priv_line_of words.old) }
 {
     let domain = words.number()?;
     let over = words.number()?;
@@ -69,18 +69,18 @@ fn privilege(words: &mut Words<'_>) -> Result<Line, LineError>
     Ok(Line::Priv { domain, over })
 }
 
-#[tactic(auto, unfolding(crate::specs::Grammar::vcpu_of))]
+#[tactic(auto, unfolding(crate::specs::Grammar::vcpu_line_of))]
 fn vcpu(words: &mut Words<'_>) -> Result<Line, LineError>
-    ensures { Gives (λ l. l) result (vcpu_of words.old) }
+    ensures { Gives (λ l. l) result (vcpu_line_of words.old) }
 {
     let domain = words.number()?;
     words.finish()?;
     Ok(Line::Vcpu { domain })
 }
 
-#[tactic(auto, unfolding(crate::specs::Grammar::own_of))]
+#[tactic(auto, unfolding(crate::specs::Grammar::own_line_of))]
 fn own(words: &mut Words<'_>) -> Result<Line, LineError>
-    ensures { Gives (λ l. l) result (own_of words.old) }
+    ensures { Gives (λ l. l) result (own_line_of words.old) }
 {
     let domain = words.number()?;
     let first = words.number()?;
@@ -93,9 +93,9 @@ fn own(words: &mut Words<'_>) -> Result<Line, LineError>
     })
 }
 
-#[tactic(auto, unfolding(crate::specs::Grammar::cell_of))]
+#[tactic(auto, unfolding(crate::specs::Grammar::cell_line_of))]
 fn cell(words: &mut Words<'_>) -> Result<Line, LineError>
-    ensures { Gives (λ l. l) result (cell_of words.old) }
+    ensures { Gives (λ l. l) result (cell_line_of words.old) }
 {
     let frame = words.number()?;
     let first = words.number()?;
@@ -110,18 +110,18 @@ fn cell(words: &mut Words<'_>) -> Result<Line, LineError>
     })
 }
 
-#[tactic(auto, unfolding(crate::specs::Grammar::op_of))]
+#[tactic(auto, unfolding(crate::specs::Grammar::op_line_of))]
 fn op_line(alloc: Global, version: u8, words: &mut Words<'_>) -> Result<Line, LineError>
-    ensures { Gives (λ l. l) result (op_of version words.old) }
+    ensures { Gives (λ l. l) result (op_line_of version words.old) }
 {
     let vcpu = words.number()?;
     let op = read_operation(alloc, version, words)?;
     Ok(Line::Op { vcpu, op })
 }
 
-#[tactic(auto, unfolding(crate::specs::Grammar::turn_of))]
+#[tactic(auto, unfolding(crate::specs::Grammar::turn_line_of))]
 fn turn(words: &mut Words<'_>) -> Result<Line, LineError>
-    ensures { Gives (λ l. l) result (turn_of words.old) }
+    ensures { Gives (λ l. l) result (turn_line_of words.old) }
 {
     let vcpu = words.number()?;
     let count = words.number()?;
@@ -129,9 +129,9 @@ fn turn(words: &mut Words<'_>) -> Result<Line, LineError>
     Ok(Line::Turn { vcpu, count })
 }
 
-#[tactic(auto, unfolding(crate::specs::Grammar::last_of))]
+#[tactic(auto, unfolding(crate::specs::Grammar::end_line_of))]
 fn last(words: &mut Words<'_>) -> Result<Line, LineError>
-    ensures { Gives (λ l. l) result (last_of words.old) }
+    ensures { Gives (λ l. l) result (end_line_of words.old) }
 {
     words.finish()?;
     Ok(Line::End)
@@ -169,9 +169,9 @@ fn opening(word: &[u8], words: &mut Words<'_>) -> Result<Line, LineError>
     Err(LineError::LINE)
 }
 
-#[tactic(auto, unfolding(crate::specs::Grammar::form_by))]
+#[tactic(auto, unfolding(crate::specs::Grammar::line_by))]
 fn form(alloc: Global, version: u8, word: &[u8], words: &mut Words<'_>) -> Result<Line, LineError>
-    ensures { Gives (λ l. l) result (form_by version word.now words.old) }
+    ensures { Gives (λ l. l) result (line_by version word.now words.old) }
 {
     if word == b"op".as_slice() {
         return op_line(alloc, version, words);
@@ -190,7 +190,7 @@ fn form(alloc: Global, version: u8, word: &[u8], words: &mut Words<'_>) -> Resul
 
 /// What a line says, without its line feed, in a trace of that version: 1 or 2, or 0 where the first
 /// line is still to come.
-#[tactic(auto, unfolding(crate::specs::Grammar::line_of, crate::specs::Words::word_at))]
+#[tactic(auto, unfolding(crate::specs::Grammar::line_of, crate::specs::Words::next_word))]
 pub fn line_of(alloc: Global, version: u8, line: &[u8]) -> Result<Line, LineError>
     ensures { Gives (λ l. l) result (line_of_lem version line.now) }
 {

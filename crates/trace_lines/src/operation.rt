@@ -1,6 +1,6 @@
 ghost use Rattle.std.specs.Prelude.{◌≡◌};
 ghost use Rattle.trace_lines.specs.Steps.{Gives};
-ghost use Rattle.trace_lines.specs.Grammar.{calls_of, multi_of, base_at, read_of, write_of, touch_ldt_of, destroy_of, grant_of, revoke_of, ptwr_of, xchg_of, newer_by, other_by, one_by, operation_by, operation_of};
+ghost use Rattle.trace_lines.specs.Grammar.{calls_of, multi_of, next_base, read_of, write_of, touch_ldt_of, destroy_of, grant_of, revoke_of, ptwr_of, xchg_of, newer_by, other_by, one_by, operation_by, operation_of};
 
 use crate::call::{Hypercall, read_call, read_call_of, read_hypercall, read_numbers};
 use crate::fault::LineError;
@@ -27,9 +27,9 @@ fn calls(alloc: Global, words: &mut Words<'_>) -> Result<CallList, LineError>
 }
 
 // Whether the user's base is meant, and not the kernel's.
-#[tactic(auto, unfolding(crate::specs::Grammar::base_at))]
+#[tactic(auto, unfolding(crate::specs::Grammar::next_base))]
 fn is_user(words: &mut Words<'_>) -> Result<bool, LineError>
-    ensures { Gives (λ b. (b, words.new)) result (base_at words.old) }
+    ensures { Gives (λ b. (b, words.new)) result (next_base words.old) }
 {
     let word = words.word()?;
     if word == b"k".as_slice() {

@@ -1,7 +1,7 @@
 ghost use Rattle.std.specs.Prelude.{◌≡◌, ◌==◌, [], ◌∷◌, Some, None, MatchOption, IfSome, ◌<◌, ◌≤◌, ◌+◌, length, take, drop, false};
 ghost use Rattle.std.specs.List.{position, position_or_len, slice_split, All};
 ghost use Rattle.trace_lines.specs.Steps.{Gives};
-ghost use Rattle.trace_lines.specs.Words.{words_of, word_at, number_at, end_at, is_nil, is_separator, spaced_words, IsSeparated};
+ghost use Rattle.trace_lines.specs.Words.{words_of, next_word, next_number, end_at, is_nil, is_separator, spaced_words, IsSeparated};
 
 use crate::fault::LineError;
 use crate::numbers::number;
@@ -89,9 +89,9 @@ impl<'a> Words<'a> {
     }
 
     /// The next word; it is then read. Where none is left the line has no form.
-    #[tactic(auto, unfolding(crate::specs::Words::word_at))]
+    #[tactic(auto, unfolding(crate::specs::Words::next_word))]
     pub fn word(&mut self) -> Result<&'a [u8], LineError>
-        ensures { Gives (λ w. (w.now, self.new)) result (word_at self.old) }
+        ensures { Gives (λ w. (w.now, self.new)) result (next_word self.old) }
     {
         match self.rest {
             [] => Err(LineError::LINE),
@@ -104,9 +104,9 @@ impl<'a> Words<'a> {
     }
 
     /// The next word, which has to spell a number.
-    #[tactic(auto, unfolding(crate::specs::Words::number_at))]
+    #[tactic(auto, unfolding(crate::specs::Words::next_number))]
     pub fn number(&mut self) -> Result<u64, LineError>
-        ensures { Gives (λ n. (n, self.new)) result (number_at self.old) }
+        ensures { Gives (λ n. (n, self.new)) result (next_number self.old) }
     {
         let word = self.word()?;
         match number(word) {

@@ -20,8 +20,8 @@ use Rattle.trace_lines.specs.declared.line.Line.{Line}
 use Rattle.trace_lines.specs.declared.line.Line.TheVariants as lines
 use Rattle.trace_lines.specs.Steps.{◌>>=◌, bad_line, Gives}
 use Rattle.trace_lines.specs.Numbers.{number_of, is_digit, numeral, numeral_after, is_proper}
-use Rattle.trace_lines.specs.Words.{words_of, word_at, number_at, end_at, ok_or_line, is_separator, each}
-use Rattle.trace_lines.specs.Grammar.{line_of, form_by, opening_by, header_of, frames_of, limit_of, clock_of, domain_of, priv_of, vcpu_of, own_of, cell_of, op_of, turn_of, last_of, operation_of, operation_by, other_by, newer_by, multi_of, calls_of, read_of, write_of, touch_ldt_of, destroy_of, grant_of, revoke_of, ptwr_of, xchg_of, call_of, call_by, hypercall_of, base_at, numbers_of, pairs_of, triples_of, mmu_of, ext_of, va_of, va_other_of, gdt_of, desc_of, mem_of}
+use Rattle.trace_lines.specs.Words.{words_of, next_word, next_number, end_at, ok_or_line, is_separator, each}
+use Rattle.trace_lines.specs.Grammar.{line_of, line_by, opening_by, header_line_of, frames_line_of, limit_line_of, clock_line_of, domain_line_of, priv_line_of, vcpu_line_of, own_line_of, cell_line_of, op_line_of, turn_line_of, end_line_of, operation_of, operation_by, other_by, newer_by, multi_of, calls_of, read_of, write_of, touch_ldt_of, destroy_of, grant_of, revoke_of, ptwr_of, xchg_of, call_of, call_by, hypercall_of, next_base, numbers_of, pairs_from, triples_from, mmu_of, ext_of, va_of, va_other_of, gdt_of, desc_of, mem_of}
 use Rattle.trace_lines.specs.Spelling.{IsSpellable, IsSpellableOp, IsSpellableCall, IsSpellablePair, IsSpellableExt, AreWords}
 
 abbrev always : {A : Type 0} → (A → Type 0) → Result A LineFault → Type 0
@@ -90,58 +90,58 @@ some_word : (o : Option ℕ) → is_word o → Always (λ n. n < 2 ^ 64) (ok_or_
 some_word None is = failed (λ n. n < 2 ^ 64) bad_line
 some_word (Some n) is = given (λ n. n < 2 ^ 64) n is
 
-number_small : (ws : List (List ℕ)) → Always (λ x. x.0 < 2 ^ 64) (number_at ws)
-unfolding number_at
+number_small : (ws : List (List ℕ)) → Always (λ x. x.0 < 2 ^ 64) (next_number ws)
+unfolding next_number
 number_small ws =
-    bind (λ x. x.0 < 2 ^ 64) (word_at ws) _ (λ word.
+    bind (λ x. x.0 < 2 ^ 64) (next_word ws) _ (λ word.
     bind_by (λ n. n < 2 ^ 64) (λ x. x.0 < 2 ^ 64) (ok_or_line (number_of word.0)) _ (some_word (number_of word.0) (number_word word.0))
     (λ n small. given (λ x. x.0 < 2 ^ 64) (n, word.1) small))
 
 numbers_small : (ws : List (List ℕ)) → Always AreWords (numbers_of ws)
 numbers_small ws = each_all (λ n. n < 2 ^ 64) (λ w. ok_or_line (number_of w)) ws (λ w. some_word (number_of w) (number_word w))
 
-pairs_small : (ns : List ℕ) → AreWords ns → Always (All IsSpellablePair) (pairs_of ns)
-unfolding pairs_of
+pairs_small : (ns : List ℕ) → AreWords ns → Always (All IsSpellablePair) (pairs_from ns)
+unfolding pairs_from
 pairs_small [] are = given (All IsSpellablePair) [] (All-nil IsSpellablePair)
 pairs_small (a ∷ []) are = failed (All IsSpellablePair) bad_line
 pairs_small (a ∷ b ∷ ns) are =
     let behind = All-tail (λ n. n < 2 ^ 64) a (b ∷ ns) are in
-    bind_by (All IsSpellablePair) (All IsSpellablePair) (pairs_of ns) _ (pairs_small ns (All-tail (λ n. n < 2 ^ 64) b ns behind)) (λ others is.
+    bind_by (All IsSpellablePair) (All IsSpellablePair) (pairs_from ns) _ (pairs_small ns (All-tail (λ n. n < 2 ^ 64) b ns behind)) (λ others is.
     given (All IsSpellablePair) (record { ptr = a; val = b } ∷ others) (All-cons IsSpellablePair (record { ptr = a; val = b }) others (All-head (λ n. n < 2 ^ 64) a (b ∷ ns) are, All-head (λ n. n < 2 ^ 64) b ns behind) is))
 
-triples_small : (ns : List ℕ) → AreWords ns → Always (All IsSpellableExt) (triples_of ns)
-unfolding triples_of
+triples_small : (ns : List ℕ) → AreWords ns → Always (All IsSpellableExt) (triples_from ns)
+unfolding triples_from
 triples_small [] are = given (All IsSpellableExt) [] (All-nil IsSpellableExt)
 triples_small (a ∷ []) are = failed (All IsSpellableExt) bad_line
 triples_small (a ∷ b ∷ []) are = failed (All IsSpellableExt) bad_line
 triples_small (a ∷ b ∷ c ∷ ns) are =
     let first = All-tail (λ n. n < 2 ^ 64) a (b ∷ c ∷ ns) are in
     let second = All-tail (λ n. n < 2 ^ 64) b (c ∷ ns) first in
-    bind_by (All IsSpellableExt) (All IsSpellableExt) (triples_of ns) _ (triples_small ns (All-tail (λ n. n < 2 ^ 64) c ns second)) (λ others is.
+    bind_by (All IsSpellableExt) (All IsSpellableExt) (triples_from ns) _ (triples_small ns (All-tail (λ n. n < 2 ^ 64) c ns second)) (λ others is.
     given (All IsSpellableExt) (record { command = a; first = b; second = c } ∷ others) (All-cons IsSpellableExt (record { command = a; first = b; second = c }) others (All-head (λ n. n < 2 ^ 64) a (b ∷ c ∷ ns) are, All-head (λ n. n < 2 ^ 64) b (c ∷ ns) first, All-head (λ n. n < 2 ^ 64) c ns second) is))
 
 -- ---- steps, each by what it reads
 
-number_then : {B : Type 0} (P : B → Type 0) (ws : List (List ℕ)) (f : ℕ × List (List ℕ) → Result B LineFault) → ((x : ℕ × List (List ℕ)) → x.0 < 2 ^ 64 → Always P (f x)) → Always P (number_at ws >>= f)
-number_then P ws f all = bind_by (λ x. x.0 < 2 ^ 64) P (number_at ws) f (number_small ws) all
+number_then : {B : Type 0} (P : B → Type 0) (ws : List (List ℕ)) (f : ℕ × List (List ℕ) → Result B LineFault) → ((x : ℕ × List (List ℕ)) → x.0 < 2 ^ 64 → Always P (f x)) → Always P (next_number ws >>= f)
+number_then P ws f all = bind_by (λ x. x.0 < 2 ^ 64) P (next_number ws) f (number_small ws) all
 
 numbers_then : {B : Type 0} (P : B → Type 0) (ws : List (List ℕ)) (f : List ℕ → Result B LineFault) → ((ns : List ℕ) → AreWords ns → Always P (f ns)) → Always P (numbers_of ws >>= f)
 numbers_then P ws f all = bind_by AreWords P (numbers_of ws) f (numbers_small ws) all
 
-pairs_then : {B : Type 0} (P : B → Type 0) (ns : List ℕ) (f : List Pair → Result B LineFault) → AreWords ns → ((ps : List Pair) → All IsSpellablePair ps → Always P (f ps)) → Always P (pairs_of ns >>= f)
-pairs_then P ns f are all = bind_by (All IsSpellablePair) P (pairs_of ns) f (pairs_small ns are) all
+pairs_then : {B : Type 0} (P : B → Type 0) (ns : List ℕ) (f : List Pair → Result B LineFault) → AreWords ns → ((ps : List Pair) → All IsSpellablePair ps → Always P (f ps)) → Always P (pairs_from ns >>= f)
+pairs_then P ns f are all = bind_by (All IsSpellablePair) P (pairs_from ns) f (pairs_small ns are) all
 
-triples_then : {B : Type 0} (P : B → Type 0) (ns : List ℕ) (f : List ExtOp → Result B LineFault) → AreWords ns → ((list : List ExtOp) → All IsSpellableExt list → Always P (f list)) → Always P (triples_of ns >>= f)
-triples_then P ns f are all = bind_by (All IsSpellableExt) P (triples_of ns) f (triples_small ns are) all
+triples_then : {B : Type 0} (P : B → Type 0) (ns : List ℕ) (f : List ExtOp → Result B LineFault) → AreWords ns → ((list : List ExtOp) → All IsSpellableExt list → Always P (f list)) → Always P (triples_from ns >>= f)
+triples_then P ns f are all = bind_by (All IsSpellableExt) P (triples_from ns) f (triples_small ns are) all
 
-word_then : {B : Type 0} (P : B → Type 0) (ws : List (List ℕ)) (f : List ℕ × List (List ℕ) → Result B LineFault) → ((x : List ℕ × List (List ℕ)) → Always P (f x)) → Always P (word_at ws >>= f)
-word_then P ws f all = bind P (word_at ws) f all
+word_then : {B : Type 0} (P : B → Type 0) (ws : List (List ℕ)) (f : List ℕ × List (List ℕ) → Result B LineFault) → ((x : List ℕ × List (List ℕ)) → Always P (f x)) → Always P (next_word ws >>= f)
+word_then P ws f all = bind P (next_word ws) f all
 
 end_then : {B : Type 0} (P : B → Type 0) (ws : List (List ℕ)) (f : Unit {0} → Result B LineFault) → ((x : Unit {0}) → Always P (f x)) → Always P (end_at ws >>= f)
 end_then P ws f all = bind P (end_at ws) f all
 
-base_then : {B : Type 0} (P : B → Type 0) (ws : List (List ℕ)) (f : Bool × List (List ℕ) → Result B LineFault) → ((x : Bool × List (List ℕ)) → Always P (f x)) → Always P (base_at ws >>= f)
-base_then P ws f all = bind P (base_at ws) f all
+base_then : {B : Type 0} (P : B → Type 0) (ws : List (List ℕ)) (f : Bool × List (List ℕ) → Result B LineFault) → ((x : Bool × List (List ℕ)) → Always P (f x)) → Always P (next_base ws >>= f)
+base_then P ws f all = bind P (next_base ws) f all
 
 ruleset steps = (number_then, numbers_then, pairs_then, triples_then, word_then, end_then, base_then, given)
 
@@ -275,65 +275,65 @@ operation_known v ws = word_then (IsSpellableOp v) ws _ (λ name. by_known v (hy
 
 -- ---- lines
 
-op_known : (v : ℕ) (ws : List (List ℕ)) → Always (IsSpellable v) (op_of v ws)
-unfolding op_of
+op_known : (v : ℕ) (ws : List (List ℕ)) → Always (IsSpellable v) (op_line_of v ws)
+unfolding op_line_of
 op_known v ws =
     number_then (IsSpellable v) ws _ (λ vcpu small.
     bind_by (IsSpellableOp v) (IsSpellable v) (operation_of v vcpu.1) _ (operation_known v vcpu.1) (λ op may. given (IsSpellable v) (lines.Op vcpu.0 op) (small, may)))
 
-header_known : (v : ℕ) (ws : List (List ℕ)) → Always (IsSpellable v) (header_of ws)
-unfolding header_of
+header_known : (v : ℕ) (ws : List (List ℕ)) → Always (IsSpellable v) (header_line_of ws)
+unfolding header_line_of
 header_known v ws =
     word_then (IsSpellable v) ws _ (λ version. end_then (IsSpellable v) version.1 _ (λ e.
     choice (IsSpellable v) (bytes_eq version.0 (codes "1")) (Ok (lines.Header 1)) _ (given (IsSpellable v) (lines.Header 1) (inl refl))
     (choice (IsSpellable v) (bytes_eq version.0 (codes "2")) (Ok (lines.Header 2)) _ (given (IsSpellable v) (lines.Header 2) (inr refl)) (failed (IsSpellable v) bad_line))))
 
-frames_known : (v : ℕ) (ws : List (List ℕ)) → Always (IsSpellable v) (frames_of ws)
-unfolding frames_of
+frames_known : (v : ℕ) (ws : List (List ℕ)) → Always (IsSpellable v) (frames_line_of ws)
+unfolding frames_line_of
 frames_known v ws = search steps depth 10
 
-limit_known : (v : ℕ) (ws : List (List ℕ)) → Always (IsSpellable v) (limit_of ws)
-unfolding limit_of
+limit_known : (v : ℕ) (ws : List (List ℕ)) → Always (IsSpellable v) (limit_line_of ws)
+unfolding limit_line_of
 limit_known v ws = search steps depth 10
 
-clock_known : (v : ℕ) (ws : List (List ℕ)) → Always (IsSpellable v) (clock_of ws)
-unfolding clock_of
+clock_known : (v : ℕ) (ws : List (List ℕ)) → Always (IsSpellable v) (clock_line_of ws)
+unfolding clock_line_of
 clock_known v ws = search steps depth 10
 
-domain_known : (v : ℕ) (ws : List (List ℕ)) → Always (IsSpellable v) (domain_of ws)
-unfolding domain_of
+domain_known : (v : ℕ) (ws : List (List ℕ)) → Always (IsSpellable v) (domain_line_of ws)
+unfolding domain_line_of
 domain_known v ws = search steps depth 10
 
-priv_known : (v : ℕ) (ws : List (List ℕ)) → Always (IsSpellable v) (priv_of ws)
-unfolding priv_of
+priv_known : (v : ℕ) (ws : List (List ℕ)) → Always (IsSpellable v) (priv_line_of ws)
+unfolding priv_line_of
 priv_known v ws = search steps depth 10
 
-vcpu_known : (v : ℕ) (ws : List (List ℕ)) → Always (IsSpellable v) (vcpu_of ws)
-unfolding vcpu_of
+vcpu_known : (v : ℕ) (ws : List (List ℕ)) → Always (IsSpellable v) (vcpu_line_of ws)
+unfolding vcpu_line_of
 vcpu_known v ws = search steps depth 10
 
-own_known : (v : ℕ) (ws : List (List ℕ)) → Always (IsSpellable v) (own_of ws)
-unfolding own_of
+own_known : (v : ℕ) (ws : List (List ℕ)) → Always (IsSpellable v) (own_line_of ws)
+unfolding own_line_of
 own_known v ws = search steps depth 10
 
-cell_known : (v : ℕ) (ws : List (List ℕ)) → Always (IsSpellable v) (cell_of ws)
-unfolding cell_of
+cell_known : (v : ℕ) (ws : List (List ℕ)) → Always (IsSpellable v) (cell_line_of ws)
+unfolding cell_line_of
 cell_known v ws = search steps depth 10
 
-turn_known : (v : ℕ) (ws : List (List ℕ)) → Always (IsSpellable v) (turn_of ws)
-unfolding turn_of
+turn_known : (v : ℕ) (ws : List (List ℕ)) → Always (IsSpellable v) (turn_line_of ws)
+unfolding turn_line_of
 turn_known v ws = search steps depth 10
 
-last_known : (v : ℕ) (ws : List (List ℕ)) → Always (IsSpellable v) (last_of ws)
-unfolding last_of
+last_known : (v : ℕ) (ws : List (List ℕ)) → Always (IsSpellable v) (end_line_of ws)
+unfolding end_line_of
 last_known v ws = search steps depth 10
 
 opening_known : (v : ℕ) (word : List ℕ) (ws : List (List ℕ)) → Always (IsSpellable v) (opening_by word ws)
 unfolding opening_by
 opening_known v word ws = search (choice, failed, header_known, frames_known, limit_known, clock_known, domain_known, priv_known, vcpu_known, last_known) depth 12
 
-form_known : (v : ℕ) (word : List ℕ) (ws : List (List ℕ)) → Always (IsSpellable v) (form_by v word ws)
-unfolding form_by
+form_known : (v : ℕ) (word : List ℕ) (ws : List (List ℕ)) → Always (IsSpellable v) (line_by v word ws)
+unfolding line_by
 form_known v word ws = search (choice, op_known, turn_known, cell_known, own_known, opening_known)
 
 line_known : (v : ℕ) (line : List ℕ) → Always (IsSpellable v) (line_of v line)

@@ -5,7 +5,7 @@ use Rattle.std.proofs.lemmas.Grind.{common_steps}
 use Rattle.trace_lines.specs.declared.line.Line.{Line}
 use Rattle.trace_lines.specs.Spelling.{IsSpellable, line_text}
 use Rattle.trace_lines.proofs.LineAgain.{again, feedless, uncommented}
-use Rattle.trace_text.specs.Fronts.{Front, after}
+use Rattle.trace_text.specs.Fronts.{Front, front_after}
 use Rattle.trace_text.specs.Lines.{spelling}
 use Rattle.trace_text.specs.TraceOf.{step, is_comment, is_ended, lines_of, trace_from, told}
 use Rattle.trace_text.proofs.LineLoop.{by_line}
@@ -14,7 +14,7 @@ use Rattle.trace_text.proofs.LineLoop.{by_line}
 pub record Step (f : Front) (l : Line) (h : Front) : Type 0 where
   pub spelled : IsSpellable f.version l
   pub open_still : is_ended f ≡ false
-  pub taken : after f l ≡ Ok h
+  pub taken : front_after f l ≡ Ok h
 
 abbrev pub Leads : Front → List Line → Front → Type 0
 Leads f [] g = f ≡ g

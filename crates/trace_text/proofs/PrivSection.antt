@@ -10,7 +10,7 @@ use Rattle.std.proofs.lemmas.Grind.{common_steps}
 use Rattle.xp_words.specs.Entries.{is_bit}
 use Rattle.xp_words.specs.Machine.{IsMask}
 use Rattle.trace_lines.specs.declared.line.Line.TheVariants as lines
-use Rattle.trace_text.specs.Fronts.{Front, after, after_priv}
+use Rattle.trace_text.specs.Fronts.{Front, front_after, front_after_priv}
 use Rattle.trace_text.specs.Lines.{mask_lines}
 use Rattle.trace_text.proofs.Leads.{Step, Reaches, reaches_both}
 
@@ -37,7 +37,7 @@ low_without m n is = low_more m n ∙ rw (bit_is_not m n is) (omega arith)
 -- ---- the lines of one domain
 
 priv_step : (f : Front) (domain over : ℕ) → 5 ≤ f.place → f.place ≤ 6 → length f.domains ≤ 16 → domain < length f.domains → over < length f.domains → domain ≢ over → Step f (lines.Priv domain over) (record f { place = 6; masks = slice_set f.masks domain (bit_or (slice_index f.masks domain) (2 ^ over)) })
-unfolding after after_priv
+unfolding front_after front_after_priv
 priv_step f domain over low high few known over_known other = record {
   spelled = (omega arith, omega arith);
   open_still = grind (arith, common_steps);

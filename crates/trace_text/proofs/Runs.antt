@@ -7,8 +7,7 @@ use Rattle.std.proofs.lemmas.List.Quantifiers.{all_pairs_push}
 use Rattle.std.proofs.lemmas.List.{get_or-drop, get_or-take, get_or_default}
 use Rattle.std.proofs.lemmas.Grind.{common_steps}
 use Rattle.trace_text.specs.declared.trace.Own.{Own}
-use Rattle.trace_text.specs.Counted.{is_apart}
-use Rattle.trace_text.specs.Parts.{has_frame}
+use Rattle.trace_text.specs.Counted.{is_apart, has_frame}
 
 -- a frame that two runs that are not apart both have
 shared : (a b : Own) → 1 ≤ a.count → 1 ≤ b.count → is_apart a b ≡ false → (k : ℕ) × (has_frame k a ≡ true) × (has_frame k b ≡ true)

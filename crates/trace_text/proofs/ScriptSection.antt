@@ -9,7 +9,7 @@ use Rattle.std.proofs.lemmas.Grind.{common_steps}
 use Rattle.xp_words.specs.declared.ops.Op.{Op}
 use Rattle.trace_lines.specs.declared.line.Line.TheVariants as lines
 use Rattle.trace_text.specs.Counted.{ops_of, destroys_of, destroys_in, extents_of, extents_in}
-use Rattle.trace_text.specs.Fronts.{Front, after, after_op, with_op}
+use Rattle.trace_text.specs.Fronts.{Front, front_after, front_after_op, with_op}
 use Rattle.trace_text.specs.Lines.{script_lines}
 use Rattle.trace_text.specs.WellFormed.{IsOp}
 use Rattle.trace_text.proofs.Leads.{Step, Leads, Reaches, reaches_both}
@@ -25,7 +25,7 @@ record Room (scripts : List (List Op)) (op : Op) : Type 0 where
   extents : extents_of scripts + extents_in op ≤ 1000000
 
 op_step : (f : Front) (vcpu : ℕ) (op : Op) → 7 ≤ f.place → f.place ≤ 10 → length f.vcpus ≤ 16 → vcpu < length f.vcpus → Room f.scripts op → IsOp f.version op → Step f (lines.Op vcpu op) (with_op f vcpu op)
-unfolding after after_op
+unfolding front_after front_after_op
 op_step f vcpu op low high few known room is = record {
   spelled = (omega arith, is.spelled);
   open_still = grind (arith, common_steps);

@@ -12,14 +12,14 @@ use Rattle.trace_text.specs.declared.trace.Own.{Own}
 use Rattle.trace_text.specs.declared.trace.CellRun.{CellRun}
 use Rattle.trace_text.specs.declared.trace.TurnRun.{TurnRun}
 use Rattle.trace_text.specs.Counted.{turns_of, pages_of, is_apart}
-use Rattle.trace_text.specs.Fronts.{Front, after, after_domain, after_vcpu, after_own, may_own, after_cell, after_turn}
+use Rattle.trace_text.specs.Fronts.{Front, front_after, front_after_domain, front_after_vcpu, front_after_own, may_own, front_after_cell, front_after_turn}
 use Rattle.trace_text.specs.Lines.{own_line, cell_line, turn_line}
 use Rattle.trace_text.specs.Parts.{IsRun}
 use Rattle.trace_text.specs.WellFormed.{IsCellRun}
 use Rattle.trace_text.proofs.Leads.{Step, Leads, Reaches}
 
 turn_step : (f : Front) (t : TurnRun) → 7 ≤ f.place → f.place ≤ 10 → length f.vcpus ≤ 16 → t.vcpu < length f.vcpus → turns_of f.turns + t.count ≤ 1000000 → Step f (turn_line t) (record f { place = 10; turns = f.turns ++ t ∷ [] })
-unfolding after after_turn
+unfolding front_after front_after_turn
 turn_step f t low high few known within = record {
   spelled = (omega arith, omega arith);
   open_still = grind (arith, common_steps);
@@ -41,7 +41,7 @@ turns_lead f (t ∷ ts) low high few known within =
 -- ---- cells
 
 cell_step : (f : Front) (c : CellRun) → 7 ≤ f.place → f.place ≤ 9 → f.frames ≤ 65536 → IsCellRun f.frames c → Step f (cell_line c) (record f { place = 9; cells = f.cells ++ c ∷ [] })
-unfolding after after_cell
+unfolding front_after front_after_cell
 cell_step f c low high few is = record {
   spelled = (omega arith, omega arith, omega arith, is.word);
   open_still = grind (arith, common_steps);
@@ -82,7 +82,7 @@ room_at domains frames before os o is known =
     grind (arith, common_steps)
 
 own_step : (f : Front) (o : Own) (os : List Own) → 7 ≤ f.place → f.place ≤ 8 → f.frames ≤ 65536 → length f.domains ≤ 16 → Ownable f.domains f.frames (f.owned ++ o ∷ os) → Step f (own_line o) (record f { place = 8; owned = f.owned ++ o ∷ [] })
-unfolding after after_own may_own
+unfolding front_after front_after_own may_own
 own_step f o os low high few few_domains is =
     let run = run_at f.domains f.frames f.owned os o is in
     let apart = apart_at f.domains f.frames f.owned os o is in
@@ -105,7 +105,7 @@ own_lead f (o ∷ os) low high few few_domains is =
 -- ---- domains and vCPUs
 
 domain_step : (f : Front) (limit : ℕ) → 2 ≤ f.place → f.place ≤ 5 → limit ≤ 65536 → length f.domains < 16 → Step f (lines.Domain limit) (record f { place = 5; domains = f.domains ++ limit ∷ []; masks = f.masks ++ 0 ∷ [] })
-unfolding after after_domain
+unfolding front_after front_after_domain
 domain_step f limit low high within few = record {
   spelled = omega arith;
   open_still = grind (arith, common_steps);
@@ -134,7 +134,7 @@ domains_lead f limit (next ∷ limits) low high within few =
     (h, one, subst (λ ds. Leads h (map (λ limit. lines.Domain limit) (next ∷ limits)) (with_domains f 5 ds (f.masks ++ replicate (length (limit ∷ next ∷ limits)) 0))) same (subst (λ ms. Leads h (map (λ limit. lines.Domain limit) (next ∷ limits)) (with_domains f 5 ((f.domains ++ limit ∷ []) ++ next ∷ limits) ms)) also rest))
 
 vcpu_step : (f : Front) (domain : ℕ) → 5 ≤ f.place → f.place ≤ 7 → length f.domains ≤ 16 → domain < length f.domains → length f.vcpus < 16 → Step f (lines.Vcpu domain) (record f { place = 7; vcpus = f.vcpus ++ domain ∷ []; scripts = f.scripts ++ [] ∷ [] })
-unfolding after after_vcpu
+unfolding front_after front_after_vcpu
 vcpu_step f domain low high small within few = record {
   spelled = omega arith;
   open_still = grind (arith, common_steps);

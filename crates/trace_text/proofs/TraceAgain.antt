@@ -9,7 +9,7 @@ use Rattle.trace_text.specs.declared.trace.Own.{Own}
 use Rattle.trace_text.specs.declared.trace.CellRun.{CellRun}
 use Rattle.trace_text.specs.declared.trace.TurnRun.{TurnRun}
 use Rattle.trace_text.specs.declared.trace.Trace.{Trace}
-use Rattle.trace_text.specs.Fronts.{Front, nothing, after, after_header, after_frames, after_limit, after_clock, after_end}
+use Rattle.trace_text.specs.Fronts.{Front, empty_front, front_after, front_after_header, front_after_frames, front_after_limit, front_after_clock, front_after_end}
 use Rattle.trace_text.specs.Lines.{own_line, cell_line, turn_line, priv_lines, op_lines, head_lines, machine_lines, opening_lines, run_lines, lines_for, spelling}
 use Rattle.trace_text.specs.TraceOf.{trace_of, trace_from}
 use Rattle.trace_text.specs.WellFormed.{IsWellFormed}
@@ -28,37 +28,37 @@ one_or_two v is = elim (eqb_tells v 1) as (λ t. (v ≡ 1) ⊎ (v ≡ 2)) [
   | inr other ↦ inr (grind (arith, common_steps))
 ]
 
-header_step : (t : Trace) → IsWellFormed t → Step nothing (lines.Header t.version) (record nothing { place = 1; version = t.version })
-unfolding after after_header
+header_step : (t : Trace) → IsWellFormed t → Step empty_front (lines.Header t.version) (record empty_front { place = 1; version = t.version })
+unfolding front_after front_after_header
 header_step t is = record { spelled = one_or_two t.version is.version; open_still = refl; taken = refl }
 
-frames_step : (t : Trace) → IsWellFormed t → Step (record nothing { place = 1; version = t.version }) (lines.Frames t.layout.frames) (record nothing { place = 2; version = t.version; frames = t.layout.frames })
-unfolding after after_frames
+frames_step : (t : Trace) → IsWellFormed t → Step (record empty_front { place = 1; version = t.version }) (lines.Frames t.layout.frames) (record empty_front { place = 2; version = t.version; frames = t.layout.frames })
+unfolding front_after front_after_frames
 frames_step t is =
     let machine = is.machine in
     record { spelled = omega (arith, is.machine.few_frames); open_still = refl; taken = grind (arith, common_steps, is.frames, is.machine.some_frames, is.machine.few_frames, is.version) }
 
-limit_step : (t : Trace) → IsWellFormed t → Step (record nothing { place = 2; version = t.version; frames = t.layout.frames }) (lines.Limit t.layout.limit) (record nothing { place = 3; version = t.version; frames = t.layout.frames; limit = t.layout.limit })
-unfolding after after_limit
+limit_step : (t : Trace) → IsWellFormed t → Step (record empty_front { place = 2; version = t.version; frames = t.layout.frames }) (lines.Limit t.layout.limit) (record empty_front { place = 3; version = t.version; frames = t.layout.frames; limit = t.layout.limit })
+unfolding front_after front_after_limit
 limit_step t is = record { spelled = omega (arith, is.machine.few_counts); open_still = refl; taken = grind (arith, common_steps, is.machine.some_count, is.machine.few_counts) }
 
-clock_step : (t : Trace) → IsWellFormed t → Step (record nothing { place = 3; version = t.version; frames = t.layout.frames; limit = t.layout.limit }) (lines.Clock t.clock) (front t 4 [] [] [] [] [] [] [])
-unfolding after after_clock
+clock_step : (t : Trace) → IsWellFormed t → Step (record empty_front { place = 3; version = t.version; frames = t.layout.frames; limit = t.layout.limit }) (lines.Clock t.clock) (front t 4 [] [] [] [] [] [] [])
+unfolding front_after front_after_clock
 clock_step t is = record { spelled = omega (arith, is.clock); open_still = refl; taken = grind (arith, common_steps, is.some_clock, is.clock) }
 
 end_step : (f : Front) → 7 ≤ f.place → f.place ≤ 10 → Step f lines.End (record f { place = 11 })
-unfolding after after_end
+unfolding front_after front_after_end
 end_step f low high = record { spelled = tt; open_still = grind (arith, common_steps); taken = grind (arith, common_steps) }
 
-head_part : (t : Trace) → IsWellFormed t → Leads nothing (head_lines t) (front t 4 [] [] [] [] [] [] [])
+head_part : (t : Trace) → IsWellFormed t → Leads empty_front (head_lines t) (front t 4 [] [] [] [] [] [] [])
 head_part t is = (
-  record nothing { place = 1; version = t.version },
+  record empty_front { place = 1; version = t.version },
   header_step t is,
   (
-    record nothing { place = 2; version = t.version; frames = t.layout.frames },
+    record empty_front { place = 2; version = t.version; frames = t.layout.frames },
     frames_step t is,
     (
-      record nothing { place = 3; version = t.version; frames = t.layout.frames; limit = t.layout.limit },
+      record empty_front { place = 3; version = t.version; frames = t.layout.frames; limit = t.layout.limit },
       limit_step t is,
       (front t 4 [] [] [] [] [] [] [], clock_step t is, refl),
     ),
@@ -114,11 +114,11 @@ run_part t p low high is =
     leads_both start (built t ops.0 t.owned t.cells t.scripts []) last (op_lines t.scripts) (map turn_line t.turns ++ lines.End ∷ []) ops.3
     (leads_both (built t ops.0 t.owned t.cells t.scripts []) behind last (map turn_line t.turns) (lines.End ∷ []) turns.3 (last, end_step behind turns.1 turns.2, refl))
 
-whole : (t : Trace) → IsWellFormed t → Leads nothing (lines_for t) (built t 11 t.owned t.cells t.scripts t.turns)
+whole : (t : Trace) → IsWellFormed t → Leads empty_front (lines_for t) (built t 11 t.owned t.cells t.scripts t.turns)
 whole t is =
     let opening = opening_part t (replicate (length t.layout.vcpu_domain) []) is in
     let last : Front = built t 11 t.owned t.cells t.scripts t.turns in
-    leads_both nothing (front t 4 [] [] [] [] [] [] []) last (head_lines t) (machine_lines t ++ (opening_lines t ++ run_lines t)) (head_part t is)
+    leads_both empty_front (front t 4 [] [] [] [] [] [] []) last (head_lines t) (machine_lines t ++ (opening_lines t ++ run_lines t)) (head_part t is)
     (leads_both (front t 4 [] [] [] [] [] [] []) (built t 7 [] [] (replicate (length t.layout.vcpu_domain) []) []) last (machine_lines t) (opening_lines t ++ run_lines t) (machine_part t is)
     (leads_both (built t 7 [] [] (replicate (length t.layout.vcpu_domain) []) []) (built t opening.0 t.owned t.cells (replicate (length t.layout.vcpu_domain) []) []) last (opening_lines t) (run_lines t) opening.3
     (run_part t opening.0 opening.1 opening.2 is)))
@@ -131,4 +131,4 @@ pub trace_again : (t : Trace) → IsWellFormed t → length (spelling (lines_for
 unfolding trace_of
 trace_again t is within =
     let last : Front = built t 11 t.owned t.cells t.scripts t.turns in
-    rw (not_over (length (spelling (lines_for t))) within) (ap (trace_from nothing 1) (lines_again nothing last (lines_for t) (whole t is)) ∙ leads_again nothing last 1 (lines_for t) (whole t is) refl)
+    rw (not_over (length (spelling (lines_for t))) within) (ap (trace_from empty_front 1) (lines_again empty_front last (lines_for t) (whole t is)) ∙ leads_again empty_front last 1 (lines_for t) (whole t is) refl)

@@ -1,5 +1,5 @@
 -- What is counted over the lines of a trace.
-use Rattle.std.specs.Prelude.{ℕ, ◌+◌, ◌*◌, ◌%◌, ◌==◌, ◌&&◌, ◌||◌, nat_le, if◌then◌else◌, Bool, List, length, sum_by, slice_index}
+use Rattle.std.specs.Prelude.{ℕ, ◌+◌, ◌*◌, ◌%◌, ◌==◌, ◌&&◌, ◌||◌, nat_le, nat_lt, if◌then◌else◌, Bool, List, length, sum_by, slice_index}
 use Rattle.xp_words.specs.declared.ops.Call.{Call}
 use Rattle.xp_words.specs.declared.ops.Call.TheVariants as calls
 use Rattle.xp_words.specs.declared.ops.Op.{Op}
@@ -84,6 +84,10 @@ pages_in d o = if o.domain == d then o.count else 0
 -- how many frames the domain owns
 abbrev pub pages_of : ℕ → List Own → ℕ
 pages_of d owned = sum_by (pages_in d) owned
+
+-- whether the run has the frame
+abbrev pub has_frame : ℕ → Own → Bool
+has_frame f o = nat_le o.first f && nat_lt f (o.first + o.count)
 
 -- no frame is in both
 abbrev pub is_apart : Own → Own → Bool

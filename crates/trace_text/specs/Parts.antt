@@ -1,15 +1,11 @@
 -- What stays true while the lines of a trace are read.
-use Rattle.std.specs.Prelude.{◌≡◌, ℕ, ◌+◌, ◌<◌, ◌≤◌, ◌==◌, ◌||◌, ◌&&◌, nat_le, nat_lt, Bool, false, List, [], length, slice_index, slice_index_or, All, AllPairs, IsTrue}
+use Rattle.std.specs.Prelude.{◌≡◌, ℕ, ◌+◌, ◌<◌, ◌≤◌, ◌==◌, ◌||◌, Bool, false, List, [], length, slice_index, slice_index_or, All, AllPairs, IsTrue}
 use Rattle.std.specs.List.{list_any}
 use Rattle.xp_words.specs.Machine.{IsMask}
 use Rattle.trace_text.specs.declared.trace.Own.{Own}
-use Rattle.trace_text.specs.Counted.{extents_of, destroys_of, ops_of, turns_of, pages_of, is_apart}
+use Rattle.trace_text.specs.Counted.{extents_of, destroys_of, ops_of, turns_of, pages_of, is_apart, has_frame}
 use Rattle.trace_text.specs.Fronts.{Front, most_frames}
 use Rattle.trace_text.specs.WellFormed.{IsCellRun, IsOp}
-
--- whether the frame is one of those
-abbrev pub has_frame : ℕ → Own → Bool
-has_frame k o = nat_le o.first k && nat_lt k (o.first + o.count)
 
 -- what the counters beside the lines stand for
 pub record Tallies (f : Front) (taken : List Bool) (pages : List ℕ) (ops destroys extents turned : ℕ) : Type 0 where

@@ -11,7 +11,7 @@ use Rattle.trace_lines.specs.Grammar.{line_of}
 use Rattle.trace_text.specs.declared.trace.Trace.{Trace}
 use Rattle.trace_text.specs.declared.trace.TraceFault.{TraceFault}
 use Rattle.trace_text.specs.declared.trace.TraceFault.TheVariants as faults
-use Rattle.trace_text.specs.Fronts.{Front, nothing, after}
+use Rattle.trace_text.specs.Fronts.{Front, empty_front, front_after}
 
 -- what is wrong, and in which line
 pub record Fault : Type 0 where
@@ -32,7 +32,7 @@ is_ended f = f.place == 11
 
 -- what one more line makes of the lines so far
 unfoldable pub step : Front → List ℕ → Result Front LineFault
-step f line = if is_ended f then Err bad_end else if is_comment line then Ok f else line_of f.version line >>= after f
+step f line = if is_ended f then Err bad_end else if is_comment line then Ok f else line_of f.version line >>= front_after f
 
 abbrev pub at_line : {A : Type 0} → ℕ → Result Front LineFault → (Front → Result A Fault) → Result A Fault
 at_line n (Ok f) next = next f
@@ -53,7 +53,7 @@ trace_from f n (line ∷ next ∷ lines) = at_line n (step f line) (λ g. trace_
 
 -- More than 67,108,864 bytes are found before any line is read.
 unfoldable pub trace_of : List ℕ → Result Trace Fault
-trace_of bytes = if nat_lt 67108864 (length bytes) then Err (record { line = 0; cause = Passed whats.Bytes 67108865 }) else trace_from nothing 1 (lines_of bytes)
+trace_of bytes = if nat_lt 67108864 (length bytes) then Err (record { line = 0; cause = Passed whats.Bytes 67108865 }) else trace_from empty_front 1 (lines_of bytes)
 
 abbrev pub fault_of : ℕ → LineError → TraceFault
 fault_of line errors.Memory = faults.Memory

@@ -4,7 +4,7 @@ ghost use Rattle.std.specs.Prelude.{◌≡◌, ◌+◌, ◌^◌, ◌<◌, ◌≤
 ghost use Rattle.trace_lines.specs.Steps.{Gives};
 ghost use Rattle.trace_lines.specs.declared.fault.LineError.TheVariants.{At};
 ghost use Rattle.trace_lines.specs.declared.fault.LineFault.TheVariants.{Passed};
-ghost use Rattle.trace_text.specs.Fronts.{nothing, is_between, most_frames as most_frames_lem, after_header, after_frames, after_limit, after_clock, after_domain, after_priv, after_vcpu, after_own, may_own as may_own_lem, after_cell, may_fill as may_fill_lem, after_op, after_turn, after_end, after};
+ghost use Rattle.trace_text.specs.Fronts.{empty_front, is_between, most_frames as most_frames_lem, front_after_header, front_after_frames, front_after_limit, front_after_clock, front_after_domain, front_after_priv, front_after_vcpu, front_after_own, may_own as may_own_lem, front_after_cell, may_fill as may_fill_lem, front_after_op, front_after_turn, front_after_end, front_after};
 ghost use Rattle.trace_text.specs.TraceOf.{is_ended, told};
 ghost use Rattle.trace_text.specs.WellFormed.{IsWellFormed};
 ghost use Rattle.trace_text.specs.Counted.{pages_of, is_apart};
@@ -88,7 +88,7 @@ fn passed(what: What, number: u64) -> LineError
 
 impl Part {
     pub(crate) fn new(alloc: Global) -> Part
-        ensures { result ≡ nothing }
+        ensures { result ≡ empty_front }
     {
         Part {
             place: 0,
@@ -112,10 +112,10 @@ impl Part {
         }
     }
 
-    #[tactic(auto, unfolding(crate::specs::Fronts::after_header))]
+    #[tactic(auto, unfolding(crate::specs::Fronts::front_after_header))]
     fn header(&mut self, version: u8) -> Result<(), LineError>
         requires { IsSpellable self.old.version (Header version) }
-        ensures { Gives (λ _. self.new) result (after_header self.old version) }
+        ensures { Gives (λ _. self.new) result (front_after_header self.old version) }
     {
         if self.place != 0 {
             return Err(LineError::PLACE);
@@ -125,9 +125,9 @@ impl Part {
         Ok(())
     }
 
-    #[tactic(auto, unfolding(crate::specs::Fronts::after_frames))]
+    #[tactic(auto, unfolding(crate::specs::Fronts::front_after_frames))]
     fn frames(&mut self, count: u64) -> Result<(), LineError>
-        ensures { Gives (λ _. self.new) result (after_frames self.old count) }
+        ensures { Gives (λ _. self.new) result (front_after_frames self.old count) }
     {
         if self.place != 1 {
             return Err(LineError::PLACE);
@@ -144,9 +144,9 @@ impl Part {
         Ok(())
     }
 
-    #[tactic(auto, unfolding(crate::specs::Fronts::after_limit))]
+    #[tactic(auto, unfolding(crate::specs::Fronts::front_after_limit))]
     fn limit(&mut self, count: u64) -> Result<(), LineError>
-        ensures { Gives (λ _. self.new) result (after_limit self.old count) }
+        ensures { Gives (λ _. self.new) result (front_after_limit self.old count) }
     {
         if self.place != 2 {
             return Err(LineError::PLACE);
@@ -159,9 +159,9 @@ impl Part {
         Ok(())
     }
 
-    #[tactic(auto, unfolding(crate::specs::Fronts::after_clock))]
+    #[tactic(auto, unfolding(crate::specs::Fronts::front_after_clock))]
     fn clock(&mut self, start: u64) -> Result<(), LineError>
-        ensures { Gives (λ _. self.new) result (after_clock self.old start) }
+        ensures { Gives (λ _. self.new) result (front_after_clock self.old start) }
     {
         if !is_in(2, 3, self.place) {
             return Err(LineError::PLACE);
@@ -174,9 +174,9 @@ impl Part {
         Ok(())
     }
 
-    #[tactic(auto, unfolding(crate::specs::Fronts::after_domain))]
+    #[tactic(auto, unfolding(crate::specs::Fronts::front_after_domain))]
     fn domain(&mut self, limit: u64) -> Result<(), LineError>
-        ensures { Gives (λ _. self.new) result (after_domain self.old limit) }
+        ensures { Gives (λ _. self.new) result (front_after_domain self.old limit) }
     {
         if !is_in(2, 5, self.place) {
             return Err(LineError::PLACE);
@@ -193,9 +193,9 @@ impl Part {
         Ok(())
     }
 
-    #[tactic(auto, unfolding(crate::specs::Fronts::after_priv))]
+    #[tactic(auto, unfolding(crate::specs::Fronts::front_after_priv))]
     fn privilege(&mut self, domain: u64, over: u64) -> Result<(), LineError>
-        ensures { Gives (λ _. self.new) result (after_priv self.old domain over) }
+        ensures { Gives (λ _. self.new) result (front_after_priv self.old domain over) }
     {
         if !is_in(5, 6, self.place) {
             return Err(LineError::PLACE);
@@ -209,9 +209,9 @@ impl Part {
         Ok(())
     }
 
-    #[tactic(auto, unfolding(crate::specs::Fronts::after_vcpu))]
+    #[tactic(auto, unfolding(crate::specs::Fronts::front_after_vcpu))]
     fn vcpu(&mut self, alloc: Global, domain: u64) -> Result<(), LineError>
-        ensures { Gives (λ _. self.new) result (after_vcpu self.old domain) }
+        ensures { Gives (λ _. self.new) result (front_after_vcpu self.old domain) }
     {
         if !is_in(5, 7, self.place) {
             return Err(LineError::PLACE);
@@ -252,9 +252,9 @@ impl Part {
             && u64::from(self.pages[at]) + count <= u64::from(self.domains[at])
     }
 
-    #[tactic(auto, unfolding(crate::specs::Fronts::after_own, crate::specs::Fronts::may_own))]
+    #[tactic(auto, unfolding(crate::specs::Fronts::front_after_own, crate::specs::Fronts::may_own))]
     fn own(&mut self, domain: u64, first: u64, count: u64) -> Result<(), LineError>
-        ensures { Gives (λ _. self.new) result (after_own self.old (record { domain = domain; first = first; count = count })) }
+        ensures { Gives (λ _. self.new) result (front_after_own self.old (record { domain = domain; first = first; count = count })) }
     {
         if !is_in(7, 8, self.place) {
             return Err(LineError::PLACE);
@@ -279,9 +279,9 @@ impl Part {
         frame < u64::from(self.frames) && 1 <= count && fits(first, count, 512)
     }
 
-    #[tactic(auto, unfolding(crate::specs::Fronts::after_cell))]
+    #[tactic(auto, unfolding(crate::specs::Fronts::front_after_cell))]
     fn cell(&mut self, frame: u64, first: u64, count: u64, value: u64) -> Result<(), LineError>
-        ensures { Gives (λ _. self.new) result (after_cell self.old (record { frame = frame; first = first; count = count; value = value })) }
+        ensures { Gives (λ _. self.new) result (front_after_cell self.old (record { frame = frame; first = first; count = count; value = value })) }
     {
         if !is_in(7, 9, self.place) {
             return Err(LineError::PLACE);
@@ -299,10 +299,10 @@ impl Part {
         Ok(())
     }
 
-    #[tactic(auto, unfolding(crate::specs::Fronts::after_op))]
+    #[tactic(auto, unfolding(crate::specs::Fronts::front_after_op))]
     fn op(&mut self, vcpu: u64, op: Op) -> Result<(), LineError>
         requires { IsSpellable self.old.version (OpLine vcpu op) }
-        ensures { Gives (λ _. self.new) result (after_op self.old vcpu op) }
+        ensures { Gives (λ _. self.new) result (front_after_op self.old vcpu op) }
     {
         if !is_in(7, 10, self.place) {
             return Err(LineError::PLACE);
@@ -334,9 +334,9 @@ impl Part {
         Ok(())
     }
 
-    #[tactic(auto, unfolding(crate::specs::Fronts::after_turn))]
+    #[tactic(auto, unfolding(crate::specs::Fronts::front_after_turn))]
     fn turn(&mut self, vcpu: u64, count: u64) -> Result<(), LineError>
-        ensures { Gives (λ _. self.new) result (after_turn self.old (record { vcpu = vcpu; count = count })) }
+        ensures { Gives (λ _. self.new) result (front_after_turn self.old (record { vcpu = vcpu; count = count })) }
     {
         if !is_in(7, 10, self.place) {
             return Err(LineError::PLACE);
@@ -357,9 +357,9 @@ impl Part {
         Ok(())
     }
 
-    #[tactic(auto, unfolding(crate::specs::Fronts::after_end))]
+    #[tactic(auto, unfolding(crate::specs::Fronts::front_after_end))]
     fn end(&mut self) -> Result<(), LineError>
-        ensures { Gives (λ _. self.new) result (after_end self.old) }
+        ensures { Gives (λ _. self.new) result (front_after_end self.old) }
     {
         if !is_in(7, 10, self.place) {
             return Err(LineError::PLACE);
@@ -369,10 +369,10 @@ impl Part {
     }
 
     /// One more line, which the text of a line of that version can say.
-    #[tactic(auto, unfolding(crate::specs::Fronts::after))]
+    #[tactic(auto, unfolding(crate::specs::Fronts::front_after))]
     pub(crate) fn add(&mut self, alloc: Global, line: Line) -> Result<(), LineError>
         requires { IsSpellable self.old.version line }
-        ensures { Gives (λ _. self.new) result (after self.old line) }
+        ensures { Gives (λ _. self.new) result (front_after self.old line) }
     {
         match line {
             Line::Header { version } => self.header(version),

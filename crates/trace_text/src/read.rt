@@ -3,7 +3,7 @@
 ghost use Rattle.std.specs.Prelude.{◌≡◌, ◌≤◌, [], ◌∷◌, length, IsTrue, IfOk};
 ghost use Rattle.trace_lines.specs.Steps.{Gives};
 ghost use Rattle.trace_lines.specs.Grammar.{line_of as line_of_lem};
-ghost use Rattle.trace_text.specs.Fronts.{nothing};
+ghost use Rattle.trace_text.specs.Fronts.{empty_front};
 ghost use Rattle.trace_lines.specs.Spelling.{IsSpellable};
 ghost use Rattle.trace_text.specs.TraceOf.{step as step_lem, trace_of, trace_from, lines_of, Reads, fault_of};
 ghost use Rattle.trace_text.specs.WellFormed.{IsWellFormed};
@@ -71,7 +71,7 @@ fn finish(part: Part, number: u32, rest: &[u8]) -> Result<Trace, TraceFault>
 
 fn read_lines(alloc: Global, bytes: &[u8]) -> Result<Trace, TraceFault>
     requires { length bytes.now ≤ MAX_BYTES }
-    ensures reads { Reads result (trace_from nothing 1 (lines_of bytes.now)) }
+    ensures reads { Reads result (trace_from empty_front 1 (lines_of bytes.now)) }
     ensures well { IfOk result (λ t. IsWellFormed t) }
 {
     let mut part = Part::new(alloc);

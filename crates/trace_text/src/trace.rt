@@ -1,8 +1,5 @@
-ghost use Rattle.std.specs.Prelude.{◌≡◌};
-
-use std::marker::Model;
 use trace_lines::{Cause, What};
-use xp_words::{Layout, Script};
+use xp_words::{ItemList, Layout, Script};
 
 /// Frames `first` to `first + count - 1`, which the domain owns at the opening.
 #[derive(Clone, Copy, Debug, PartialEq, Eq)]
@@ -28,145 +25,17 @@ pub struct TurnRun {
     pub count: u32,
 }
 
-/// The frames that are owned at the opening, in the order of their lines. Contracts see the list of its items.
-#[derive(Drop)]
-pub struct OwnList {
-    items: Vec<Own>,
-}
+/// The frames that are owned at the opening, in the order of their lines.
+pub type OwnList = ItemList<Own>;
 
-impl Model for OwnList {
-    ghost use Rattle.std.specs.Prelude.{List};
-    ghost use Rattle.trace_text.specs.declared.trace.Own.{Own};
+/// The cells that hold something at the opening. A later one overwrites an earlier one.
+pub type CellList = ItemList<CellRun>;
 
-    ghost Value = { List Own };
+/// One script for each vCPU.
+pub type ScriptList = ItemList<Script>;
 
-    ghost view = { λ s. s.items.items };
-}
-
-impl OwnList {
-    pub fn new(items: Vec<Own>) -> OwnList
-        ensures { result ≡ items.items }
-    {
-        OwnList { items }
-    }
-
-    pub fn as_slice(&self) -> &[Own]
-        ensures { result.now ≡ self.now }
-    {
-        &self.items
-    }
-
-    pub fn into_items(self) -> Vec<Own>
-        ensures { result.items ≡ self }
-    {
-        self.items
-    }
-}
-
-/// The cells that hold something at the opening. A later one overwrites an earlier one. Contracts see the list of its items.
-#[derive(Drop)]
-pub struct CellList {
-    items: Vec<CellRun>,
-}
-
-impl Model for CellList {
-    ghost use Rattle.std.specs.Prelude.{List};
-    ghost use Rattle.trace_text.specs.declared.trace.CellRun.{CellRun};
-
-    ghost Value = { List CellRun };
-
-    ghost view = { λ s. s.items.items };
-}
-
-impl CellList {
-    pub fn new(items: Vec<CellRun>) -> CellList
-        ensures { result ≡ items.items }
-    {
-        CellList { items }
-    }
-
-    pub fn as_slice(&self) -> &[CellRun]
-        ensures { result.now ≡ self.now }
-    {
-        &self.items
-    }
-
-    pub fn into_items(self) -> Vec<CellRun>
-        ensures { result.items ≡ self }
-    {
-        self.items
-    }
-}
-
-/// One script for each vCPU. Contracts see the list of its items.
-#[derive(Drop)]
-pub struct ScriptList {
-    items: Vec<Script>,
-}
-
-impl Model for ScriptList {
-    ghost use Rattle.std.specs.Prelude.{List};
-    ghost use Rattle.xp_words.specs.declared.ops.Op.{Op};
-
-    ghost Value = { List (List Op) };
-
-    ghost view = { λ s. s.items.items };
-}
-
-impl ScriptList {
-    pub fn new(items: Vec<Script>) -> ScriptList
-        ensures { result ≡ items.items }
-    {
-        ScriptList { items }
-    }
-
-    pub fn as_slice(&self) -> &[Script]
-        ensures { result.now ≡ self.now }
-    {
-        &self.items
-    }
-
-    pub fn into_items(self) -> Vec<Script>
-        ensures { result.items ≡ self }
-    {
-        self.items
-    }
-}
-
-/// The turns, in the order in which they are taken. Contracts see the list of its items.
-#[derive(Drop)]
-pub struct TurnList {
-    items: Vec<TurnRun>,
-}
-
-impl Model for TurnList {
-    ghost use Rattle.std.specs.Prelude.{List};
-    ghost use Rattle.trace_text.specs.declared.trace.TurnRun.{TurnRun};
-
-    ghost Value = { List TurnRun };
-
-    ghost view = { λ s. s.items.items };
-}
-
-impl TurnList {
-    pub fn new(items: Vec<TurnRun>) -> TurnList
-        ensures { result ≡ items.items }
-    {
-        TurnList { items }
-    }
-
-    pub fn as_slice(&self) -> &[TurnRun]
-        ensures { result.now ≡ self.now }
-    {
-        &self.items
-    }
-
-    pub fn into_items(self) -> Vec<TurnRun>
-        ensures { result.items ≡ self }
-    {
-        self.items
-    }
-}
+/// The turns, in the order in which they are taken.
+pub type TurnList = ItemList<TurnRun>;
 
 /// What a trace says: the machine, what it opens with, and what its vCPUs do.
 #[derive(Drop)]

@@ -5,8 +5,8 @@ use Rattle.xp_words.specs.RefWords.{bit}
 use Rattle.xp_words.specs.PageTypes.{type_number, type_of, is_none, is_table}
 
 -- The four forms. Each says which marks may be set, and what number and progress are.
-abbrev pub is_live : KindWord → Bool
-is_live k =
+abbrev pub is_live_form : KindWord → Bool
+is_live_form k =
     not k.partial && not k.kept && not k.unflushed && (k.progress == 0) && not (is_none k.kind) && nat_lt k.number (2 ^ 26)
     && (not (k.pinned || k.locked) || (is_table k.kind && nat_lt 0 k.number))
 
@@ -14,20 +14,20 @@ is_live k =
 abbrev pub is_marked_number : KindWord → Bool
 is_marked_number k = k.unflushed || (k.number == 0)
 
-abbrev pub is_partial : KindWord → Bool
-is_partial k =
+abbrev pub is_partial_form : KindWord → Bool
+is_partial_form k =
     not k.locked && not k.pinned && not (is_none k.kind) && nat_lt k.progress 513 && is_marked_number k
     && (if k.unflushed || not (is_table k.kind) then (k.progress == 0) && k.unflushed else true)
     && (not (type_number k.kind == 5) || k.kept)
 
-abbrev pub is_work : KindWord → Bool
-is_work k = not k.kept && not k.pinned && (k.progress == 0) && not (is_none k.kind) && is_marked_number k
+abbrev pub is_work_form : KindWord → Bool
+is_work_form k = not k.kept && not k.pinned && (k.progress == 0) && not (is_none k.kind) && is_marked_number k
 
-abbrev pub is_dead : KindWord → Bool
-is_dead k = not k.kept && not k.pinned && (k.progress == 0) && not (k.unflushed && is_none k.kind)
+abbrev pub is_dead_form : KindWord → Bool
+is_dead_form k = not k.kept && not k.pinned && (k.progress == 0) && not (k.unflushed && is_none k.kind)
 
 unfoldable pub has_form : KindWord → Bool
-has_form k = if k.validated then is_live k else if k.partial then is_partial k else if k.locked then is_work k else is_dead k
+has_form k = if k.validated then is_live_form k else if k.partial then is_partial_form k else if k.locked then is_work_form k else is_dead_form k
 
 abbrev pub is_kind : KindWord → Bool
 is_kind k = nat_lt k.number (2 ^ 36) && (nat_lt k.progress (2 ^ 10) && has_form k)

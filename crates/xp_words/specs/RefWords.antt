@@ -20,8 +20,9 @@ ref_write (Free stamp) = stamp
 ref_write (Owned owner allocated count) = 2 ^ 63 + owner * 2 ^ 32 + bit allocated * 2 ^ 31 + count
 ref_write (Dying owner) = 2 ^ 63 + owner * 2 ^ 32
 
-abbrev pub counted : ℕ → ℕ → ℕ → Option RefWord
-counted owner allocated count =
+-- the owned frame with these fields; without a reference it is dying, and has no allocated mark
+abbrev pub ref_of_fields : ℕ → ℕ → ℕ → Option RefWord
+ref_of_fields owner allocated count =
     if count == 0
     then (if allocated == 0 then Some (Dying owner) else None)
     else Some (Owned owner (allocated == 1) count)
@@ -32,5 +33,5 @@ ref_read w =
     if nat_lt w (2 ^ 36)
     then Some (Free w)
     else if (w / 2 ^ 48 == 2 ^ 15) && (w / 2 ^ 26 % 2 ^ 5 == 0)
-    then counted (w / 2 ^ 32 % 2 ^ 16) (w / 2 ^ 31 % 2) (w % 2 ^ 26)
+    then ref_of_fields (w / 2 ^ 32 % 2 ^ 16) (w / 2 ^ 31 % 2) (w % 2 ^ 26)
     else None

@@ -1,5 +1,5 @@
 ghost use Rattle.std.specs.Prelude.{◌≡◌, IsTrue, IfSome};
-ghost use Rattle.xp_words.specs.KindWords.{is_kind, kind_read, kind_write, has_form, is_live, is_partial, is_work, is_dead, is_marked_number};
+ghost use Rattle.xp_words.specs.KindWords.{is_kind, kind_read, kind_write, has_form, is_live_form, is_partial_form, is_work_form, is_dead_form, is_marked_number};
 ghost use Rattle.xp_words.specs.PageTypes.{is_none, is_table, type_number};
 
 /// The type of a frame (`PGT_` of Xen's `mm.h`). A frame has one exclusive type at a time.
@@ -143,7 +143,7 @@ impl KindWord {
     }
 
     fn is_live(&self) -> bool
-        ensures { result ≡ is_live self.now }
+        ensures { result ≡ is_live_form self.now }
     {
         !self.partial
             && !self.kept
@@ -161,7 +161,7 @@ impl KindWord {
     }
 
     fn is_partial(&self) -> bool
-        ensures { result ≡ is_partial self.now }
+        ensures { result ≡ is_partial_form self.now }
     {
         !self.locked
             && !self.pinned
@@ -177,7 +177,7 @@ impl KindWord {
     }
 
     fn is_work(&self) -> bool
-        ensures { result ≡ is_work self.now }
+        ensures { result ≡ is_work_form self.now }
     {
         !self.kept
             && !self.pinned
@@ -187,7 +187,7 @@ impl KindWord {
     }
 
     fn is_dead(&self) -> bool
-        ensures { result ≡ is_dead self.now }
+        ensures { result ≡ is_dead_form self.now }
     {
         !self.kept && !self.pinned && self.progress == 0 && !(self.unflushed && self.kind.is_none())
     }

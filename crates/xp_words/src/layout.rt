@@ -2,131 +2,17 @@ ghost use Rattle.std.specs.Prelude.{◌≡◌, ℕ, ◌+◌, ◌*◌, ◌/◌, �
 ghost use Rattle.xp_words.specs.Machine.{Machine, IsMachine};
 ghost use Rattle.xp_words.specs.Places.{sizes_of, size, number, map_words, Pages, Life, Vcpu, Refs, Kind, M2p, Cell, Map, Priv};
 
-use arrayvec::ArrayVec;
+use crate::short_list::ShortList;
 use std::marker::Model;
 
 /// How many pages each domain may have, at most 65,536 each.
-#[derive(Drop)]
-pub struct Limits {
-    items: ArrayVec<u32, 16>,
-}
-
-impl Model for Limits {
-    ghost use Rattle.std.specs.Prelude.{ℕ, List};
-
-    ghost Value = { List ℕ };
-
-    ghost view = { λ s. s.items.items };
-}
-
-impl Limits {
-    /// One item for each domain, in their order.
-    pub fn new(items: ArrayVec<u32, 16>) -> Limits
-        ensures { result ≡ items.items }
-    {
-        Limits { items }
-    }
-
-    pub fn as_slice(&self) -> &[u32]
-        ensures items { result.now ≡ self.now }
-        ensures few { length result.now ≤ 16 }
-    {
-        self.items.as_slice()
-    }
-
-    /// An equal list, which takes no memory.
-    pub fn copy(&self) -> Limits
-        ensures { result ≡ self.now }
-    {
-        let mut items = ArrayVec::new();
-        for item in self.items.as_slice() {
-            items.push(*item);
-        }
-        Limits { items }
-    }
-}
+pub type Limits = ShortList<u32>;
 
 /// Over which domains each domain has foreign privilege at the opening: bit b of mask a means domain a over domain b.
-#[derive(Drop)]
-pub struct Masks {
-    items: ArrayVec<u16, 16>,
-}
-
-impl Model for Masks {
-    ghost use Rattle.std.specs.Prelude.{ℕ, List};
-
-    ghost Value = { List ℕ };
-
-    ghost view = { λ s. s.items.items };
-}
-
-impl Masks {
-    /// One item for each domain, in their order.
-    pub fn new(items: ArrayVec<u16, 16>) -> Masks
-        ensures { result ≡ items.items }
-    {
-        Masks { items }
-    }
-
-    pub fn as_slice(&self) -> &[u16]
-        ensures items { result.now ≡ self.now }
-        ensures few { length result.now ≤ 16 }
-    {
-        self.items.as_slice()
-    }
-
-    /// An equal list, which takes no memory.
-    pub fn copy(&self) -> Masks
-        ensures { result ≡ self.now }
-    {
-        let mut items = ArrayVec::new();
-        for item in self.items.as_slice() {
-            items.push(*item);
-        }
-        Masks { items }
-    }
-}
+pub type Masks = ShortList<u16>;
 
 /// The domain of each vCPU, below the number of domains.
-#[derive(Drop)]
-pub struct Domains {
-    items: ArrayVec<u16, 16>,
-}
-
-impl Model for Domains {
-    ghost use Rattle.std.specs.Prelude.{ℕ, List};
-
-    ghost Value = { List ℕ };
-
-    ghost view = { λ s. s.items.items };
-}
-
-impl Domains {
-    /// One item for each vCPU, in their order.
-    pub fn new(items: ArrayVec<u16, 16>) -> Domains
-        ensures { result ≡ items.items }
-    {
-        Domains { items }
-    }
-
-    pub fn as_slice(&self) -> &[u16]
-        ensures items { result.now ≡ self.now }
-        ensures few { length result.now ≤ 16 }
-    {
-        self.items.as_slice()
-    }
-
-    /// An equal list, which takes no memory.
-    pub fn copy(&self) -> Domains
-        ensures { result ≡ self.now }
-    {
-        let mut items = ArrayVec::new();
-        for item in self.items.as_slice() {
-            items.push(*item);
-        }
-        Domains { items }
-    }
-}
+pub type Domains = ShortList<u16>;
 
 /// The fixed numbers of a machine: frames, 1 to 65,536; the count limit of a frame, 2 to 67,108,863; the
 /// page limit and the opening privileges of each of 1 to 16 domains; the domain of each of 1 to 16 vCPUs.

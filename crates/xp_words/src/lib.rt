@@ -4,20 +4,24 @@
 
 mod context;
 mod entry;
+mod item_list;
 mod kind;
 pub mod laws;
 mod layout;
 mod ops;
 mod refs;
 mod reply;
+mod short_list;
 
 pub use context::{ContextWord, LdtBase};
 pub use entry::{Demand, Entry, fix};
+pub use item_list::ItemList;
 pub use kind::{KindWord, PageType};
 pub use layout::{Domains, Layout, Limits, Masks};
 pub use ops::{Call, CallList, ExtList, ExtOp, Numbers, Op, Pair, Pairs, Script};
 pub use refs::RefWord;
 pub use reply::{Log, LogLine, Pause, Refusal, Reply, Stop};
+pub use short_list::ShortList;
 
 #[cfg(test)]
 mod layout_tests;

@@ -1,5 +1,6 @@
 ghost use Rattle.std.specs.Prelude.{◌≡◌, ◌<◌, ◌^◌, ◌++◌, ◌∷◌, ◌↔◌, [], length, IsTrue, OnOk, OnErr};
 
+use crate::item_list::ItemList;
 use std::alloc::AllocError;
 use std::marker::Model;
 
@@ -75,118 +76,11 @@ impl Pairs {
     }
 }
 
-/// The elements of one `mmuext_op`, in order. Contracts see the list of its items.
-#[derive(Drop)]
-pub struct ExtList {
-    items: Vec<ExtOp>,
-}
+/// The elements of one `mmuext_op`, in order.
+pub type ExtList = ItemList<ExtOp>;
 
-impl Model for ExtList {
-    ghost use Rattle.std.specs.Prelude.{List};
-    ghost use Rattle.xp_words.specs.declared.ops.ExtOp.{ExtOp};
-
-    ghost Value = { List ExtOp };
-
-    ghost view = { λ s. s.items.items };
-}
-
-impl ExtList {
-    pub fn new(items: Vec<ExtOp>) -> ExtList
-        ensures { result ≡ items.items }
-    {
-        ExtList { items }
-    }
-
-    pub fn as_slice(&self) -> &[ExtOp]
-        ensures { result.now ≡ self.now }
-    {
-        &self.items
-    }
-
-    pub fn len(&self) -> usize
-        ensures value { result ≡ length self.now }
-        ensures room { result < 2 ^ 63 }
-    {
-        self.items.len()
-    }
-
-    pub fn is_empty(&self) -> bool
-        ensures { IsTrue result ↔ (self.now ≡ []) }
-    {
-        self.items.is_empty()
-    }
-
-    /// One more item at the end. After want of memory the list is as it was.
-    pub fn push(&mut self, item: ExtOp) -> Result<(), AllocError>
-        ensures ok { OnOk result (self.new ≡ self.old ++ item ∷ []) }
-        ensures err { OnErr result (self.new ≡ self.old) }
-    {
-        self.items.push(item)?;
-        Ok(())
-    }
-
-    pub fn into_items(self) -> Vec<ExtOp>
-        ensures { result.items ≡ self }
-    {
-        self.items
-    }
-}
-
-/// Frames of a GDT, extents of a `memory_op`, or what else is a plain list of numbers. Contracts see the list of its items.
-#[derive(Drop)]
-pub struct Numbers {
-    items: Vec<u64>,
-}
-
-impl Model for Numbers {
-    ghost use Rattle.std.specs.Prelude.{ℕ, List};
-
-    ghost Value = { List ℕ };
-
-    ghost view = { λ s. s.items.items };
-}
-
-impl Numbers {
-    pub fn new(items: Vec<u64>) -> Numbers
-        ensures { result ≡ items.items }
-    {
-        Numbers { items }
-    }
-
-    pub fn as_slice(&self) -> &[u64]
-        ensures { result.now ≡ self.now }
-    {
-        &self.items
-    }
-
-    pub fn len(&self) -> usize
-        ensures value { result ≡ length self.now }
-        ensures room { result < 2 ^ 63 }
-    {
-        self.items.len()
-    }
-
-    pub fn is_empty(&self) -> bool
-        ensures { IsTrue result ↔ (self.now ≡ []) }
-    {
-        self.items.is_empty()
-    }
-
-    /// One more item at the end. After want of memory the list is as it was.
-    pub fn push(&mut self, item: u64) -> Result<(), AllocError>
-        ensures ok { OnOk result (self.new ≡ self.old ++ item ∷ []) }
-        ensures err { OnErr result (self.new ≡ self.old) }
-    {
-        self.items.push(item)?;
-        Ok(())
-    }
-
-    pub fn into_items(self) -> Vec<u64>
-        ensures { result.items ≡ self }
-    {
-        self.items
-    }
-}
+/// Frames of a GDT, extents of a `memory_op`, or what else is a plain list of numbers.
+pub type Numbers = ItemList<u64>;
 
 /// A hypercall that may also be a call of a `multicall`.
 #[derive(Drop)]
@@ -233,62 +127,8 @@ pub enum Call {
     },
 }
 
-/// The calls of one `multicall`, in order. Contracts see the list of its items.
-#[derive(Drop)]
-pub struct CallList {
-    items: Vec<Call>,
-}
-
-impl Model for CallList {
-    ghost use Rattle.std.specs.Prelude.{List};
-    ghost use Rattle.xp_words.specs.declared.ops.Call.{Call};
-
-    ghost Value = { List Call };
-
-    ghost view = { λ s. s.items.items };
-}
-
-impl CallList {
-    pub fn new(items: Vec<Call>) -> CallList
-        ensures { result ≡ items.items }
-    {
-        CallList { items }
-    }
-
-    pub fn as_slice(&self) -> &[Call]
-        ensures { result.now ≡ self.now }
-    {
-        &self.items
-    }
-
-    pub fn len(&self) -> usize
-        ensures value { result ≡ length self.now }
-        ensures room { result < 2 ^ 63 }
-    {
-        self.items.len()
-    }
-
-    pub fn is_empty(&self) -> bool
-        ensures { IsTrue result ↔ (self.now ≡ []) }
-    {
-        self.items.is_empty()
-    }
-
-    /// One more item at the end. After want of memory the list is as it was.
-    pub fn push(&mut self, item: Call) -> Result<(), AllocError>
-        ensures ok { OnOk result (self.new ≡ self.old ++ item ∷ []) }
-        ensures err { OnErr result (self.new ≡ self.old) }
-    {
-        self.items.push(item)?;
-        Ok(())
-    }
-
-    pub fn into_items(self) -> Vec<Call>
-        ensures { result.items ≡ self }
-    {
-        self.items
-    }
-}
+/// The calls of one `multicall`, in order.
+pub type CallList = ItemList<Call>;
 
 /// One operation of a vCPU's script: a hypercall, an access of the guest, or a tool's command.
 #[derive(Drop)]
@@ -346,59 +186,5 @@ pub enum Op {
     },
 }
 
-/// The operations of one vCPU, in order. Contracts see the list of its items.
-#[derive(Drop)]
-pub struct Script {
-    items: Vec<Op>,
-}
-
-impl Model for Script {
-    ghost use Rattle.std.specs.Prelude.{List};
-    ghost use Rattle.xp_words.specs.declared.ops.Op.{Op};
-
-    ghost Value = { List Op };
-
-    ghost view = { λ s. s.items.items };
-}
-
-impl Script {
-    pub fn new(items: Vec<Op>) -> Script
-        ensures { result ≡ items.items }
-    {
-        Script { items }
-    }
-
-    pub fn as_slice(&self) -> &[Op]
-        ensures { result.now ≡ self.now }
-    {
-        &self.items
-    }
-
-    pub fn len(&self) -> usize
-        ensures value { result ≡ length self.now }
-        ensures room { result < 2 ^ 63 }
-    {
-        self.items.len()
-    }
-
-    pub fn is_empty(&self) -> bool
-        ensures { IsTrue result ↔ (self.now ≡ []) }
-    {
-        self.items.is_empty()
-    }
-
-    /// One more item at the end. After want of memory the list is as it was.
-    pub fn push(&mut self, item: Op) -> Result<(), AllocError>
-        ensures ok { OnOk result (self.new ≡ self.old ++ item ∷ []) }
-        ensures err { OnErr result (self.new ≡ self.old) }
-    {
-        self.items.push(item)?;
-        Ok(())
-    }
-
-    pub fn into_items(self) -> Vec<Op>
-        ensures { result.items ≡ self }
-    {
-        self.items
-    }
-}
+/// The operations of one vCPU, in order.
+pub type Script = ItemList<Op>;

@@ -1,8 +1,5 @@
-ghost use Rattle.std.specs.Prelude.{◌≡◌, ◌<◌, ◌^◌, ◌++◌, ◌∷◌, ◌↔◌, [], length, IsTrue, OnOk, OnErr};
-
+use crate::item_list::ItemList;
 use crate::kind::PageType;
-use std::alloc::AllocError;
-use std::marker::Model;
 
 /// Why an operation or an element of one was refused. `found` is the very word that a step found. docs/REPORT.md has
 /// the numbers and texts that are printed.
@@ -166,60 +163,5 @@ pub enum LogLine {
     },
 }
 
-/// What one vCPU's operations answered, in order. Contracts see the list of its items.
-#[derive(Drop)]
-pub struct Log {
-    items: Vec<LogLine>,
-}
-
-impl Model for Log {
-    ghost use Rattle.std.specs.Prelude.{List};
-    ghost use Rattle.xp_words.specs.declared.reply.LogLine.{LogLine};
-
-    ghost Value = { List LogLine };
-
-    ghost view = { λ s. s.items.items };
-}
-
-impl Log {
-    pub fn new(items: Vec<LogLine>) -> Log
-        ensures { result ≡ items.items }
-    {
-        Log { items }
-    }
-
-    pub fn as_slice(&self) -> &[LogLine]
-        ensures { result.now ≡ self.now }
-    {
-        &self.items
-    }
-
-    pub fn len(&self) -> usize
-        ensures value { result ≡ length self.now }
-        ensures room { result < 2 ^ 63 }
-    {
-        self.items.len()
-    }
-
-    pub fn is_empty(&self) -> bool
-        ensures { IsTrue result ↔ (self.now ≡ []) }
-    {
-        self.items.is_empty()
-    }
-
-    /// One more item at the end. After want of memory the list is as it was.
-    pub fn push(&mut self, item: LogLine) -> Result<(), AllocError>
-        ensures ok { OnOk result (self.new ≡ self.old ++ item ∷ []) }
-        ensures err { OnErr result (self.new ≡ self.old) }
-    {
-        self.items.push(item)?;
-        Ok(())
-    }
-
-    /// The vector that the log was made from, with what was pushed since.
-    pub fn into_items(self) -> Vec<LogLine>
-        ensures { result.items ≡ self }
-    {
-        self.items
-    }
-}
+/// What one vCPU's operations answered, in order.
+pub type Log = ItemList<LogLine>;
