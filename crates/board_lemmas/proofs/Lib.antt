@@ -18,3 +18,6 @@ pub mod Bits
 pub mod EntryWords
 pub mod Numbers
 pub mod Noted
+pub mod EntryAsks
+pub mod ReachAll
+pub mod CellAlike

@@ -7,7 +7,7 @@ use Rattle.xp_board.specs.Lists.{one_at, times, times_by, first_of, without_by}
 use Rattle.xp_board.specs.Hands.{endings_of, claims_of}
 use Rattle.xp_board.specs.HintSteps.{MayHint, MayUnhint, is_raise, is_lower, lowered_frame, raised_frame, raised_by, held_frames}
 use Rattle.board_lemmas.proofs.Sums.{when_eq, when_ne}
-use Rattle.count_rule.proofs.Bits.{pow_same}
+use Rattle.board_lemmas.proofs.Bits.{pow_same}
 
 equal_by : (x y : ℕ) → (x == y) ≡ true → x ≡ y
 equal_by x y e = grind (arith, nat_tests)

@@ -17,8 +17,9 @@ use Rattle.xp_board.specs.Fresh.{Matches}
 use Rattle.xp_board.specs.Sound.{Sound, Spelled}
 use Rattle.board_lemmas.proofs.PlaceTests.{same_or_other}
 use Rattle.found_rule.proofs.HandFacts.{ReachKept}
-use Rattle.found_rule.proofs.ReachAll.{Reach-level, IsLevel}
-use Rattle.found_rule.proofs.Serving.{Came, PassesOn, alike_same, alike_passes, came_all, came_kept, not_reads}
+use Rattle.found_rule.proofs.Serving.{Came, PassesOn, alike_passes, came_all, came_kept}
+use Rattle.board_lemmas.proofs.ReachAll.{Reach-level, IsLevel}
+use Rattle.board_lemmas.proofs.CellAlike.{alike_same, not_reads}
 
 -- ---- a marked frame is not live
 form_unlive : (k : KindWord) → has_form k ≡ true → k.unflushed ≡ true → k.validated ≡ false

@@ -34,14 +34,14 @@ use Rattle.found_rule.proofs.KnownFacts.{RefRight, TypedRight, IsLiveAs}
 use Rattle.found_rule.proofs.KnownStays.{owner_new, live_found, partial_found}
 use Rattle.found_rule.proofs.Counted.{lock_elsewhere}
 use Rattle.found_rule.proofs.Demands.{RefsMoved, same_rest, then_moved, moved_out, moved_in, refs_out, typed_out, refs_in, typed_in}
-use Rattle.found_rule.proofs.EntryAsks.{walked_inside}
-use Rattle.found_rule.proofs.EntryBits.{entry_asks_same, same_demand}
 use Rattle.found_rule.proofs.Serving.{AsksLive, PassesOn, target_serves, recorded_asks}
 use Rattle.found_rule.proofs.CellReach.{came_reach, cell_passes, live_unmarked, came_table}
 use Rattle.found_rule.proofs.CellFacts.{lock_type, lock_table, lock_live, live_alone, spared_alone, fix_none, zero_none, asks_hand}
 use Rattle.found_rule.proofs.MyHand.{refs_old, typed_old}
 use Rattle.found_rule.proofs.RestLaw.{rest_done}
 use Rattle.found_rule.proofs.Quiet.{Done}
+use Rattle.board_lemmas.proofs.EntryAsks.{walked_inside}
+use Rattle.board_lemmas.proofs.EntryWords.{entry_asks_same, same_demand}
 
 -- the cell as it was last seen asks the same
 seen_by : (kind : PageType) (i new : ℕ) (o : Option Seen) → IsTrue (is_same_as_seen kind i new o) → (s : Seen) × (o ≡ Some s) × (s.index ≡ i) × (demand_at kind i s.word ≡ demand_at kind i new)

@@ -29,11 +29,11 @@ use Rattle.found_rule.proofs.Counted.{typed_ref_counted, types_within, held_dyin
 use Rattle.found_rule.proofs.Demands.{same_rest}
 use Rattle.found_rule.proofs.KindWordsLeft.{live_count}
 use Rattle.found_rule.proofs.KindStores.{work_by}
-use Rattle.found_rule.proofs.Serving.{not_reads}
 use Rattle.found_rule.proofs.CellReach.{unreached_passes, live_unmarked, came_table}
 use Rattle.found_rule.proofs.CellFacts.{uncounted_works, uncounted_locks, lock_table, live_alone, spared_alone, fix_none, zero_none}
 use Rattle.found_rule.proofs.CellSteps.{cell_done, table_levels}
 use Rattle.found_rule.proofs.Quiet.{Done}
+use Rattle.board_lemmas.proofs.CellAlike.{not_reads}
 
 fixed_by : (w new : ℕ) → fixed w ≡ Some new → IsTrue (is_fixed new)
 fixed_by w new e = let k = fixed_again w new e in rw k (equal_refl new)

@@ -23,11 +23,11 @@ use Rattle.found_rule.proofs.StepLists.{EachOf-map, EachOf-both}
 use Rattle.found_rule.proofs.Learning.{Act, act}
 use Rattle.found_rule.proofs.WordsOf.{CellSpared}
 use Rattle.found_rule.proofs.Demands.{same_rest}
-use Rattle.found_rule.proofs.Serving.{not_reads}
 use Rattle.found_rule.proofs.CellReach.{unreached_passes, live_unmarked, unmarked_matches}
 use Rattle.found_rule.proofs.CellFacts.{FixedWorks, lock_table, lock_live, zero_none, some_member}
 use Rattle.found_rule.proofs.CellSteps.{cell_done, table_levels}
 use Rattle.found_rule.proofs.Quiet.{Done}
+use Rattle.board_lemmas.proofs.CellAlike.{not_reads}
 
 writes_of : (x : Item) → x.writable ≡ true → use_of x ≡ Writes
 writes_of x e = rw e refl

@@ -17,18 +17,11 @@ use Rattle.found_rule.proofs.StepLists.{times_by-less, first_of-passes, first_of
 use Rattle.found_rule.proofs.Learning.{act}
 use Rattle.found_rule.proofs.QuietSteps.{unread_raised}
 use Rattle.found_rule.proofs.Quiet.{Done, SameHand}
+use Rattle.board_lemmas.proofs.Bits.{pow_same}
 
 same_raised : (a : Holdings) (xs : List ℕ) → SameHand a (record a { raised = xs })
 same_raised a xs =
     record { refs = refl; typed = refl; works = refl; locks = refl; ending = refl; claimed = refl; cache = refl; walk = refl; cold = refl; turn = refl; acked = refl; ran = refl }
-
-pow_same : (i j : ℕ) → 2 ^ i ≡ 2 ^ j → i ≡ j
-pow_same i j e =
-    elim (cases_order i j) [
-      | inl at ↦ at
-      | inr (inl below) ↦ absurd (let k = pow-lt below in omega arith)
-      | inr (inr above) ↦ absurd (let k = pow-lt above in omega arith)
-    ]
 
 -- the frame is told by the word and the bit
 raise_same : (k by f g : ℕ) → is_raise k by f ≡ true → is_raise k by g ≡ true → f ≡ g

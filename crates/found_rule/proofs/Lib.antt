@@ -19,7 +19,6 @@ pub mod FormedWorks
 pub mod FormedLaw
 pub mod Quiet
 pub mod QuietSteps
-pub mod Bits
 pub mod WordSteps
 pub mod RefChanges
 pub mod RefSteps
@@ -32,10 +31,7 @@ pub mod HintSteps
 pub mod FlushSteps
 pub mod RunSteps
 pub mod KindWordsLeft
-pub mod ReachAll
-pub mod EntryAsks
 pub mod Serving
-pub mod EntryBits
 pub mod CellReach
 pub mod RestLaw
 pub mod NameSteps

@@ -26,18 +26,16 @@ use Rattle.xp_board.specs.Reach.{Use, Table, Writes, Reads, use_of, use_below, r
 use Rattle.xp_board.specs.Fresh.{Matches}
 use Rattle.xp_board.specs.Sound.{Sound, is_busy}
 use Rattle.found_rule.proofs.Counted.{sum_below-part, not_in_work}
-use Rattle.found_rule.proofs.ReachAll.{Reach-all, IsLevel}
-use Rattle.found_rule.proofs.EntryAsks.{asks_table, asks_leaf, LeafAsks, walked_inside}
 use Rattle.found_rule.proofs.KindWordsLeft.{live_not_busy, live_count}
+use Rattle.board_lemmas.proofs.EntryAsks.{asks_table, asks_leaf, LeafAsks, walked_inside}
+use Rattle.board_lemmas.proofs.ReachAll.{Reach-all, IsLevel}
+use Rattle.board_lemmas.proofs.CellAlike.{CellAlike, use_alike, not_reads}
 
 pub record Serves (m : Place → ℕ) (g : ℕ) (u : Use) : Type 0 where
   pub level : IsLevel u
   pub live : u ≢ Reads → (kind_at m g).validated ≡ true
   pub number : u ≢ Reads → 0 < (kind_at m g).number
   pub matches : u ≢ Reads → Matches (kind_at m g).kind u
-
-pub not_reads : (level : ℕ) → Table level ≢ Reads
-not_reads level e = cc
 
 -- ---- what a demand asks is there
 abbrev pub AsksLive : (Place → ℕ) → Demand → Type 0
@@ -169,18 +167,6 @@ module _ (n : Machine) (m : Place → ℕ) (h : ℕ → Holdings) (sound : Sound
 -- ---- what is come to
 abbrev pub Came : Machine → (Place → ℕ) → (ℕ → Holdings) → ℕ → ℕ → Use → Type 0
 Came n m h v g u = Reach (sizes_of n) m (h v) g u ⊎ (Serves m g u ⊎ (u ≡ Reads))
-
--- of an entry a walk reads whether it is present, whether it may be written through, and the frame
-pub record CellAlike (w w2 : ℕ) : Type 0 where
-  pub present : is_bit 0 w2 ≡ is_bit 0 w
-  pub writable : is_bit 1 w2 ≡ is_bit 1 w
-  pub frame : frame_of w2 ≡ frame_of w
-
-pub alike_same : (w w2 : ℕ) → w2 ≡ w → CellAlike w w2
-alike_same w w2 e = record { present = ap (λ x. is_bit 0 x) e; writable = ap (λ x. is_bit 1 x) e; frame = ap frame_of e }
-
-pub use_alike : (level w w2 : ℕ) → CellAlike w w2 → use_below level w2 ≡ use_below level w
-use_alike level w w2 a = ap (λ b. if level == 1 then (if b then Writes else Reads) else Table (level - 1)) a.writable
 
 -- the targets of an entry are come to from a table that is come to
 abbrev pub PassesOn : Machine → (Place → ℕ) → (Place → ℕ) → (ℕ → Holdings) → ℕ → ℕ → ℕ → Type 0

@@ -13,8 +13,9 @@ use Rattle.xp_board.specs.FillSteps.{is_walked, descended, item_of, cached_with,
 use Rattle.xp_board.specs.Reach.{Table, Writes, Reads, use_of, use_below, reached_by, Reach, cached, walked, entry}
 use Rattle.xp_board.specs.WellFormed.{IsDescent, IsWalkFormed, IsCacheFormed}
 use Rattle.xp_board.specs.Sound.{Sound}
-use Rattle.found_rule.proofs.Serving.{Came, CellAlike, use_alike}
+use Rattle.found_rule.proofs.Serving.{Came}
 use Rattle.found_rule.proofs.RestLaw.{Rest}
+use Rattle.board_lemmas.proofs.CellAlike.{CellAlike, use_alike}
 
 pub member_take : {A : Type 0} (n : ℕ) (y : A) (xs : List A) → Member y (take n xs) → Member y xs
 unfolding Member

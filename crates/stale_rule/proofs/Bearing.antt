@@ -10,8 +10,8 @@ use Rattle.xp_board.specs.RefSteps.{one_down}
 use Rattle.xp_board.specs.KindSteps.{is_stale, begun_kind, unlocked_down}
 use Rattle.xp_board.specs.Reach.{Use, Table, Writes, Reads}
 use Rattle.xp_board.specs.Fresh.{Matches, Bears}
-use Rattle.stale_rule.proofs.Came.{IsLevel}
 use Rattle.board_lemmas.proofs.KindForms.{fields_down, fields_unlocked, live_form}
+use Rattle.board_lemmas.proofs.ReachAll.{IsLevel}
 
 -- ---- types
 matches_number : (s t : PageType) (u : Use) → type_number t ≡ type_number s → Matches s u → Matches t u

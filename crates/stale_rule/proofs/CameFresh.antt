@@ -18,12 +18,13 @@ use Rattle.xp_board.specs.Reach.{Use, Table, Writes, Reads, use_of, use_below, r
 use Rattle.xp_board.specs.Fresh.{Matches, FreshAt}
 use Rattle.xp_board.specs.Sound.{Sound}
 use Rattle.stale_rule.proofs.Bearing.{bears_read}
-use Rattle.stale_rule.proofs.Came.{IsLevel, Reach-level, Reach-all}
 use Rattle.board_lemmas.proofs.KindForms.{live_unmarked}
 use Rattle.stale_rule.proofs.Served.{Served, counted_word, entry_served}
 use Rattle.board_lemmas.proofs.HeldByForm.{live_idle}
 use Rattle.board_lemmas.proofs.Sums.{hands-part}
 use Rattle.board_lemmas.proofs.Works.{nobody_works}
+use Rattle.board_lemmas.proofs.ReachAll.{IsLevel, Reach-level, Reach-all}
+use Rattle.board_lemmas.proofs.CellAlike.{CellAlike, use_alike}
 
 abbrev pub Came : Machine → (Place → ℕ) → (ℕ → Holdings) → ℕ → ℕ → Use → Type 0
 Came n m h v g u = Reach (sizes_of n) m (h v) g u ⊎ (Served m (domain_of n v) g u ⊎ ((u ≡ Reads) × Reach (sizes_of n) m (h v) g Writes))
@@ -115,17 +116,6 @@ module _ (n : Machine) (m : Place → ℕ) (h : ℕ → Holdings) (sound : Sound
   came_one v w g t u real other (inr (inr read)) q x y = absurd (x read.0)
 
 -- ---- how far a vCPU comes
--- of an entry a walk reads whether it is present, whether it may be written through, and the frame
-pub record CellAlike (w w2 : ℕ) : Type 0 where
-  pub present : is_bit 0 w2 ≡ is_bit 0 w
-  pub writable : is_bit 1 w2 ≡ is_bit 1 w
-  pub frame : frame_of w2 ≡ frame_of w
-
-pub alike_same : (w w2 : ℕ) → w2 ≡ w → CellAlike w w2
-alike_same w w2 e = record { present = ap (λ x. is_bit 0 x) e; writable = ap (λ x. is_bit 1 x) e; frame = ap frame_of e }
-
-pub use_alike : (level w w2 : ℕ) → CellAlike w w2 → use_below level w2 ≡ use_below level w
-use_alike level w w2 alike = rw alike.writable refl
 
 -- the targets of an entry are come to from a table that is come to
 abbrev pub PassesOn : Machine → (Place → ℕ) → (Place → ℕ) → (ℕ → Holdings) → ℕ → ℕ → ℕ → Type 0

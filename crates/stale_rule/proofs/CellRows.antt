@@ -20,14 +20,14 @@ use Rattle.xp_board.specs.Fresh.{Fresh}
 use Rattle.xp_board.specs.Keeping.{Acted}
 use Rattle.xp_board.specs.Sound.{Sound}
 use Rattle.step_effects.proofs.ActEffects.{Wrote, Filled, GuestStored}
-use Rattle.stale_rule.proofs.Came.{IsLevel}
 use Rattle.stale_rule.proofs.CameFresh.{Came, came_fresh, came_one, reach_level}
 use Rattle.board_lemmas.proofs.KindForms.{live_unmarked}
 use Rattle.stale_rule.proofs.CellLaw.{written_law}
 use Rattle.stale_rule.proofs.FreeRows.{not_claimed}
 use Rattle.stale_rule.proofs.Like.{cell_stays}
-use Rattle.stale_rule.proofs.Served.{not_reads}
 use Rattle.stale_rule.proofs.StoreRows.{its_word}
+use Rattle.board_lemmas.proofs.ReachAll.{IsLevel}
+use Rattle.board_lemmas.proofs.CellAlike.{not_reads}
 
 -- ---- elements that pass
 pub some_member : {A : Type 0} (test : A → Bool) (xs : List A) → IsTrue (some_of test xs) → (x : A) × Member x xs × (test x ≡ true)

@@ -18,7 +18,6 @@ use Rattle.xp_board.specs.Keeping.{Acted}
 use Rattle.xp_board.specs.Sound.{Sound}
 use Rattle.step_effects.proofs.ActEffects.{Wrote, Turned, Dropped, Unlocked}
 use Rattle.stale_rule.proofs.Bearing.{bears_same, bears_begun, OneLess, count_down, lock_down}
-use Rattle.stale_rule.proofs.Came.{IsLevel, Reach-level}
 use Rattle.board_lemmas.proofs.KindForms.{marked_unlive}
 use Rattle.stale_rule.proofs.KindHands.{row_stays, dropped_stays, unlocked_stays}
 use Rattle.stale_rule.proofs.Like.{HandStays, parts_stay, then_stays}
@@ -27,6 +26,7 @@ use Rattle.stale_rule.proofs.Stays.{ref_same, ever_same}
 use Rattle.stale_rule.proofs.Tables.{live_count}
 use Rattle.board_lemmas.proofs.Sums.{hands-part}
 use Rattle.board_lemmas.proofs.Works.{is_locked-mine}
+use Rattle.board_lemmas.proofs.ReachAll.{IsLevel, Reach-level}
 
 -- the marks of an exchange that leaves type, mark and stamp
 row_bears : (row : KindRow) (n : Machine) (s f flushed : ℕ) (k l : KindWord) (a : Holdings) (u : Use) → IsLevel u → (k.unflushed ≡ true → k.validated ≡ false) →

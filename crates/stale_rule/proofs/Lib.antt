@@ -1,11 +1,8 @@
 pub mod Awaits
 pub mod Bearing
-pub mod Came
 pub mod CameFresh
 pub mod CellLaw
 pub mod CellRows
-pub mod Demands
-pub mod EntryBits
 pub mod FlushRow
 pub mod FreeRows
 pub mod Items

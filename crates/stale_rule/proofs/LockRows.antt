@@ -28,10 +28,11 @@ use Rattle.stale_rule.proofs.CellLaw.{written_law}
 use Rattle.stale_rule.proofs.KindRows.{counted_here}
 use Rattle.stale_rule.proofs.Like.{HandStays, then_stays, cell_stays, in_stays, out_stays}
 use Rattle.stale_rule.proofs.Past.{since_each, since_later}
-use Rattle.stale_rule.proofs.Served.{Served, AsksWell, typed_counted, target_served, served_owner, not_reads, recorded_well}
+use Rattle.stale_rule.proofs.Served.{Served, AsksWell, typed_counted, target_served, served_owner, recorded_well}
 use Rattle.xp_board.proofs.RefWords.{owner_few}
 use Rattle.board_lemmas.proofs.LockFacts.{lock_facts, rewritten_same}
 use Rattle.board_lemmas.proofs.Counted.{in_hand_counted}
+use Rattle.board_lemmas.proofs.CellAlike.{not_reads}
 
 some_is : (x y : ℕ) (o : Option ℕ) → o ≡ Some x → o ≡ Some y → x ≡ y
 some_is x y o a b = let e : Some x ≡ Some y = sym a ∙ b in cc

@@ -13,9 +13,9 @@ use Rattle.xp_board.specs.Flushes.{is_idle, is_past}
 use Rattle.xp_board.specs.Found.{EachTold}
 use Rattle.xp_board.specs.Reach.{Use, Reach}
 use Rattle.xp_board.specs.Sound.{Sound}
-use Rattle.stale_rule.proofs.Came.{Reach-none}
 use Rattle.board_lemmas.proofs.PlaceTests.{same_place}
 use Rattle.board_lemmas.proofs.StepLists.{since_within}
+use Rattle.board_lemmas.proofs.ReachAll.{Reach-none}
 
 -- ---- what was found in some step holds by what holds of each
 -- a step passes, and each step that passes meets P

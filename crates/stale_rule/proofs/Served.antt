@@ -20,12 +20,13 @@ use Rattle.xp_board.specs.Valid.{Permits, EntryPermitted}
 use Rattle.xp_board.specs.Reach.{Use, Table, Writes, Reads, use_below}
 use Rattle.xp_board.specs.Fresh.{Belongs, Matches}
 use Rattle.xp_board.specs.Sound.{Sound}
-use Rattle.stale_rule.proofs.Came.{IsLevel}
 use Rattle.board_lemmas.proofs.Counted.{entries-part, type_below}
-use Rattle.stale_rule.proofs.Demands.{asks_table, asks_leaf, LeafAsks, walked_inside}
 use Rattle.board_lemmas.proofs.KindForms.{zero_dead}
 use Rattle.stale_rule.proofs.Paths.{permits_own}
 use Rattle.stale_rule.proofs.Tables.{table_held, leads_live, named_counted, live_count}
+use Rattle.board_lemmas.proofs.EntryAsks.{asks_table, asks_leaf, LeafAsks, walked_inside}
+use Rattle.board_lemmas.proofs.ReachAll.{IsLevel}
+use Rattle.board_lemmas.proofs.CellAlike.{not_reads}
 
 -- a frame with a type count has a reference count
 pub typed_counted : (n : Machine) (m : Place → ℕ) (h : ℕ → Holdings) (g : ℕ) → Sound n m h → (kind_at m g).validated ≡ true → 0 < (kind_at m g).number → 0 < ref_count (m (Refs g))
@@ -53,9 +54,6 @@ counted_by None some = absurd (omega arith)
 pub counted_word : (w : ℕ) → 0 < ref_count w → (is_free w ≡ false) × (is_dying w ≡ false)
 unfolding ref_count is_free is_dying
 counted_word w some = counted_by (ref_read w) some
-
-pub not_reads : (level : ℕ) → Table level ≢ Reads
-not_reads level e = cc
 
 pub served_owner : (m : Place → ℕ) (d level f : ℕ) → Served m d f (Table level) → owner_of (m (Refs f)) ≡ Some d
 served_owner m d level f s =

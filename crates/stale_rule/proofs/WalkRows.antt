@@ -24,13 +24,13 @@ use Rattle.xp_board.specs.Fresh.{Fresh}
 use Rattle.xp_board.specs.Keeping.{Acted}
 use Rattle.xp_board.specs.Sound.{Sound}
 use Rattle.step_effects.proofs.ActEffects.{Started, WentOn, Touched}
-use Rattle.stale_rule.proofs.CameFresh.{Came, CellAlike, alike_same, alike_passes, use_alike}
+use Rattle.stale_rule.proofs.CameFresh.{Came, alike_passes}
 use Rattle.stale_rule.proofs.CellLaw.{cells_law, written_law}
-use Rattle.stale_rule.proofs.EntryBits.{touched_alike}
 use Rattle.board_lemmas.proofs.HandLists.{Member-take}
 use Rattle.stale_rule.proofs.Like.{HandLike, HandStays, same_stays, parts_like, then_like, cell_stays, own_stays}
 use Rattle.stale_rule.proofs.Paths.{base_serves}
 use Rattle.stale_rule.proofs.Served.{typed_counted}
+use Rattle.board_lemmas.proofs.CellAlike.{CellAlike, alike_same, use_alike, touched_alike}
 
 -- ---- hands that may come to more
 -- all that is held was held, or is come to
