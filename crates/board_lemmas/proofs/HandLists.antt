@@ -126,3 +126,18 @@ some_of-member test (x ∷ xs) k =
       | inl here ↦ (x, inl refl, here)
       | inr there ↦ let rest = some_of-member test xs there in (rest.0, inr rest.1, rest.2)
     ]
+
+pub EachOf-all : {A : Type 0} (P : A → Type 0) (xs : List A) → ((e : A) → P e) → EachOf P xs
+unfolding EachOf
+EachOf-all P [] f = tt
+EachOf-all P (x ∷ xs) f = (f x, EachOf-all P xs f)
+
+kept_each : {A : Type 0} (P : A → Type 0) (x : A) (ys : List A) (b : Bool) → P x → EachOf P ys → EachOf P (if b then (x ∷ ys) else ys)
+unfolding EachOf
+kept_each P x ys true h k = (h, k)
+kept_each P x ys false h k = k
+
+pub EachOf-kept : {A : Type 0} (P : A → Type 0) (test : A → Bool) (xs : List A) → EachOf P xs → EachOf P (kept_of test xs)
+unfolding EachOf kept_of
+EachOf-kept P test [] h = tt
+EachOf-kept P test (x ∷ xs) h = kept_each P x (kept_of test xs) (test x) h.0 (EachOf-kept P test xs h.1)

@@ -21,3 +21,5 @@ pub mod Noted
 pub mod EntryAsks
 pub mod ReachAll
 pub mod CellAlike
+pub mod KindReadings
+pub mod Hints

@@ -33,10 +33,11 @@ use Rattle.count_rule.proofs.KindForms.{Says, live_says, closing_says}
 use Rattle.board_lemmas.proofs.HeldByForm.{held_live, held_work, held_same}
 use Rattle.board_lemmas.proofs.KindForms.{spelled_form}
 use Rattle.count_rule.proofs.KindSpelled.{form_was, drop_live, drop_some, drop_fields, lock_live, lock_on_word, lock_some, unlock_fields, kind_spelled}
-use Rattle.count_rule.proofs.KindActs.{stamp_live, Elsewhere, beside, rest_by, turn_outcome, free_outcome}
+use Rattle.count_rule.proofs.KindActs.{Elsewhere, beside, rest_by, turn_outcome, free_outcome}
 use Rattle.count_rule.proofs.KindWorks.{works_in}
 use Rattle.count_rule.proofs.Outcome.{Outcome}
 use Rattle.board_lemmas.proofs.HandLists.{EachOf-without}
+use Rattle.board_lemmas.proofs.KindReadings.{stamp_live}
 
 closing_off : (k : KindWord) → has_form k ≡ true → IsTrue (is_live k) → k.number ≡ 0 → (k.pinned ≡ false) × (k.locked ≡ false) × (k.unflushed ≡ false)
 unfolding has_form

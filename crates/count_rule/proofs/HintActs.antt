@@ -27,8 +27,8 @@ use Rattle.count_rule.proofs.PartLaws.{stamped_by, idle_running}
 use Rattle.count_rule.proofs.SpelledLaw.{wrote_spelled}
 use Rattle.count_rule.proofs.Outcome.{Outcome, calm_outcome, runs}
 use Rattle.count_rule.proofs.PageActs.{calm}
-use Rattle.count_rule.proofs.Hints.{Hint, sets, clears, hint_is}
 use Rattle.board_lemmas.proofs.Bits.{added_small, added_here, added_other, has_bit, cleared_bit}
+use Rattle.board_lemmas.proofs.Hints.{Hint, sets, clears, hint_is}
 
 bit_at_bit : (w i : ℕ) → bit (w / 2 ^ i % 2 == 1) ≡ bit_at w i
 bit_at_bit w i = grind (arith, nat_tests)

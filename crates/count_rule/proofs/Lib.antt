@@ -12,7 +12,6 @@ mod AwayActs
 mod Demands
 mod EntryMarks
 mod RecordMarks
-mod Hints
 mod PageActs
 mod HintActs
 mod KindForms

@@ -24,12 +24,13 @@ use Rattle.step_effects.proofs.ActEffects.{Wrote, Stored}
 use Rattle.count_rule.proofs.ListMoves.{cons_other, out_other, cons_here, out_here, maybe_out_other, maybe_out_here}
 use Rattle.count_rule.proofs.KindForms.{closing_says, partial_says, work_says}
 use Rattle.board_lemmas.proofs.HeldByForm.{held_partial}
-use Rattle.count_rule.proofs.KindActs.{stamp_of, beside}
-use Rattle.count_rule.proofs.StoreForms.{work_alone, partial_unlive, closing_flushed, partial_number, maybe_out_types}
+use Rattle.count_rule.proofs.KindActs.{beside}
+use Rattle.count_rule.proofs.StoreForms.{closing_flushed, partial_number, maybe_out_types}
 use Rattle.board_lemmas.proofs.FormsLeft.{form_partial}
 use Rattle.count_rule.proofs.Outcome.{Outcome}
 use Rattle.count_rule.proofs.StoreActs.{form_before, forms, stamp_was, out_outcome, type_is}
 use Rattle.board_lemmas.proofs.KindForms.{form_read}
+use Rattle.board_lemmas.proofs.KindReadings.{work_alone, partial_unlive, stamp_of}
 
 module _ (n : Machine) (s : ℕ) (x : Step) (m m2 : Place → ℕ) (b c : ℕ → Holdings) (seat : s < (sizes_of n).vcpus) (others : (t : ℕ) → t ≢ s → c t ≡ b t) (may : MayAct n s x (b s)) (sound : Sound n m b) (f : ℕ) where
   -- ---- partial

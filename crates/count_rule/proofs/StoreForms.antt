@@ -13,21 +13,6 @@ use Rattle.xp_board.specs.Recorded.{HasType}
 use Rattle.xp_board.specs.Sound.{is_busy}
 use Rattle.board_lemmas.proofs.HandLists.{EachOf-without}
 
-pub busy_forms : (k : KindWord) → is_busy k ≡ true → IsTrue (is_work k) ⊎ IsTrue (is_closing k)
-busy_forms k e = or_cases _ _ e
-
-pub closing_alone : (k : KindWord) → IsTrue (is_closing k) → is_work k ≡ false
-closing_alone k closing = grind (arith, nat_tests)
-
-pub work_alone : (k : KindWord) → IsTrue (is_work k) → is_closing k ≡ false
-work_alone k work = grind (arith, nat_tests)
-
-pub work_unlive : (k : KindWord) → IsTrue (is_work k) → k.validated ≡ false
-work_unlive k work = grind (arith, nat_tests)
-
-pub partial_unlive : (k : KindWord) → IsTrue (is_partial k) → k.validated ≡ false
-partial_unlive k partial = grind (arith, nat_tests)
-
 pub closing_flushed : (k : KindWord) → has_form k ≡ true → IsTrue (is_closing k) → k.unflushed ≡ false
 unfolding has_form
 closing_flushed k form closing = grind (arith, nat_tests)

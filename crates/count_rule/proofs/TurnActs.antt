@@ -18,11 +18,12 @@ use Rattle.xp_board.specs.Sound.{Sound}
 use Rattle.step_effects.proofs.ActEffects.{Turned}
 use Rattle.count_rule.proofs.ListMoves.{cons_other, out_other, cons_here, out_here}
 use Rattle.count_rule.proofs.KindForms.{Says, live_says, partial_says}
-use Rattle.count_rule.proofs.KindActs.{stamp_live, beside, free_outcome, keeps_kind}
+use Rattle.count_rule.proofs.KindActs.{beside, free_outcome, keeps_kind}
 use Rattle.count_rule.proofs.Outcome.{Outcome}
 use Rattle.board_lemmas.proofs.HandLists.{EachOf-without}
 use Rattle.board_lemmas.proofs.KindForms.{form_read}
 use Rattle.board_lemmas.proofs.HeldByForm.{held_same}
+use Rattle.board_lemmas.proofs.KindReadings.{stamp_live}
 
 pub left_says : (l r : KindWord) (c m b k : ℕ) → l ≡ r → Says r c m b k → Says l c m b k
 left_says l r c m b k e says = subst (λ y. Says y c m b k) (sym e) says

@@ -24,12 +24,13 @@ use Rattle.board_lemmas.proofs.Works.{nobody_works, held_free, held_mine}
 use Rattle.count_rule.proofs.ListMoves.{cons_other, out_other, cons_here, out_here, maybe_other, maybe_here, recorded_cons}
 use Rattle.count_rule.proofs.KindForms.{partial_says, work_says, dead_says}
 use Rattle.board_lemmas.proofs.HeldByForm.{held_partial, held_dead, held_work, same_zero}
-use Rattle.count_rule.proofs.KindActs.{stamp_number, stamp_of, beside, rest_by, turn_outcome, keeps_kind}
+use Rattle.count_rule.proofs.KindActs.{beside, rest_by, turn_outcome, keeps_kind}
 use Rattle.count_rule.proofs.KindWorks.{works_in}
 use Rattle.count_rule.proofs.TurnActs.{turned_hand, left_says, stamp_kept}
 use Rattle.count_rule.proofs.Outcome.{Outcome}
 use Rattle.board_lemmas.proofs.KindForms.{form_read}
 use Rattle.board_lemmas.proofs.Sums.{no_bit}
+use Rattle.board_lemmas.proofs.KindReadings.{dead_unlive, stamp_number, stamp_of}
 
 marked_none : (k : KindWord) → has_form k ≡ true → IsTrue (is_partial k) → k.unflushed ≡ true → k.progress ≡ 0
 unfolding has_form
@@ -37,9 +38,6 @@ marked_none k form partial marked = grind (arith, nat_tests)
 
 pub not_closing : (k : KindWord) → IsTrue (is_work k) → IsTrue (is_closing k) → ⊥
 not_closing k work closing = grind (arith, nat_tests)
-
-pub not_live : (k : KindWord) → IsTrue (is_dead k) → k.validated ≡ false
-not_live k dead = grind (arith, nat_tests)
 
 resumed_work : (k : KindWord) → IsTrue (is_partial k) → IsTrue (is_work (resumed_kind k))
 resumed_work k partial = grind (arith, nat_tests)
@@ -140,7 +138,7 @@ module _ (n : Machine) (s : ℕ) (x : Step) (m m2 : Place → ℕ) (b c : ℕ �
       in
       turn_outcome n s x m m2 b c seat others may sound f d.wrote u d.hand rest k l 0 0 0 0 1 0 1 0
       (record { was = d.fields_was; is = d.fields_is; says = was; tells = left_says l (begun_kind k l.kind) _ _ _ _ left is })
-      (begun_stamp k l d.fields_was d.fields_is (not_live k d.may.dead) (ap (λ (y : KindWord). y.number) left))
+      (begun_stamp k l d.fields_was d.fields_is (dead_unlive k d.may.dead) (ap (λ (y : KindWord). y.number) left))
       (omega arith) (omega arith) (omega arith) refl
       (comes_held k l d.fields_was d.fields_is work free _ refl refl now (held_work l 0 ∙ same_zero (is_table l.kind) ∙ sym (held_dead k d.may.dead)))
       (inr (ap type_count d.fields_was ∙ was.counts, nothing))

@@ -20,12 +20,14 @@ use Rattle.xp_board.specs.Recorded.{HasType}
 use Rattle.xp_board.specs.Found.{WorkFound, is_same_entry}
 use Rattle.xp_board.specs.WellFormed.{IsLockFormed}
 use Rattle.xp_board.specs.Sound.{Sound, WorkAgrees}
-use Rattle.found_rule.proofs.StepLists.{EachOf-all, EachOf-there, first_by-each, first_by-key, some_by}
 use Rattle.found_rule.proofs.WordsOf.{CellSpared}
 use Rattle.found_rule.proofs.Counted.{typed_ref_counted, lock_counted, lock_locked, types_within, not_in_work, counted_alive}
-use Rattle.found_rule.proofs.KindWordsLeft.{live_not_busy, live_count}
 use Rattle.found_rule.proofs.SoundWords.{work_counted}
 use Rattle.found_rule.proofs.Serving.{AsksLive}
+use Rattle.board_lemmas.proofs.HeldByForm.{live_idle}
+use Rattle.board_lemmas.proofs.KindReadings.{live_count}
+use Rattle.board_lemmas.proofs.HandLists.{EachOf-all, EachOf-first, first-key}
+use Rattle.board_lemmas.proofs.ListCounts.{EachOf-there, first_by-some}
 
 -- no frame in work is marked, or no descriptor page, and has words that are known to be fixed
 abbrev pub FixedWorks : Machine → (ℕ → Holdings) → Type 0
@@ -39,10 +41,10 @@ module _ (n : Machine) (m : Place → ℕ) (b : ℕ → Holdings) (sound : Sound
       elim (cases_eq (works_on f (b t).works) 0) [
         | inl zero ↦ zero
         | inr some ↦
-            (let one = some_by (λ e. e.frame) f (b t).works (omega arith) in
-            let frame = first_by-key (λ e. e.frame) f one.0 (b t).works one.1 in
-            let found = first_by-each (WorkFound n m b (b t)) (λ e. e.frame) f one.0 (b t).works (sound.found t l).works one.1 in
-            let agrees = first_by-each (WorkAgrees (b t)) (λ e. e.frame) f one.0 (b t).works (sound.works t l) one.1 in
+            (let one = first_by-some (λ e. e.frame) f (b t).works (omega arith) in
+            let frame = first-key (λ e. e.frame) f one.0 (b t).works one.1 in
+            let found = EachOf-first (WorkFound n m b (b t)) (λ e. e.frame) f one.0 (b t).works (sound.found t l).works one.1 in
+            let agrees = EachOf-first (WorkAgrees (b t)) (λ e. e.frame) f one.0 (b t).works (sound.works t l) one.1 in
             let count = work_counted n m b sound t l one.0 (subst (λ g. 0 < works_on g (b t).works) (sym frame) (omega arith)) found agrees in
             let here : 0 < ref_count (m (Refs f)) = subst (λ g. 0 < ref_count (m (Refs g))) frame count in
             omega arith)
@@ -58,14 +60,14 @@ module _ (n : Machine) (m : Place → ℕ) (b : ℕ → Holdings) (sound : Sound
   -- a locked frame is a live and counted table
   pub lock_type : (t : ℕ) → t < (sizes_of n).vcpus → (e : Lock) → lock_on f (b t).locks ≡ Some e → (kind_at m f).kind ≡ e.kind
   lock_type t l e here =
-      let frame = first_by-key (λ y. y.frame) f e (b t).locks here in
-      let kind = first_by-each (λ y. HasType m y.frame (Some y.kind)) (λ y. y.frame) f e (b t).locks (sound.counts.kinds.locks t l) here in
+      let frame = first-key (λ y. y.frame) f e (b t).locks here in
+      let kind = EachOf-first (λ y. HasType m y.frame (Some y.kind)) (λ y. y.frame) f e (b t).locks (sound.counts.kinds.locks t l) here in
       subst (λ g. (kind_at m g).kind ≡ e.kind) frame kind
 
   pub lock_table : (t : ℕ) → t < (sizes_of n).vcpus → 0 < locks_on f (b t).locks → is_table (kind_at m f).kind ≡ true
   lock_table t l some =
-      let one = some_by (λ e. e.frame) f (b t).locks some in
-      let formed = first_by-each (IsLockFormed n (b t)) (λ y. y.frame) f one.0 (b t).locks (sound.formed t l).locks one.1 in
+      let one = first_by-some (λ e. e.frame) f (b t).locks some in
+      let formed = EachOf-first (IsLockFormed n (b t)) (λ y. y.frame) f one.0 (b t).locks (sound.formed t l).locks one.1 in
       ap is_table (lock_type t l one.0 one.1) ∙ formed.table
 
   pub lock_live : (t : ℕ) → t < (sizes_of n).vcpus → 0 < locks_on f (b t).locks → ((kind_at m f).validated ≡ true) × (0 < (kind_at m f).number)
@@ -76,7 +78,7 @@ module _ (n : Machine) (m : Place → ℕ) (b : ℕ → Holdings) (sound : Sound
   -- a live frame with a type count is in nobody's works and claimed by nobody
   pub live_alone : (kind_at m f).validated ≡ true → 0 < (kind_at m f).number → (t : ℕ) → t < (sizes_of n).vcpus → (works_on f (b t).works ≡ 0) × (claims_of f (b t).claimed ≡ 0)
   live_alone live some t l = (
-    not_in_work n m b sound t f l (live_not_busy (kind_at m f) live some),
+    not_in_work n m b sound t f l (live_idle (kind_at m f) live some),
     (let e = live_count (kind_at m f) live in let w = types_within n m b sound f in let q = counted_alive n m b sound t f l (omega arith) in omega arith),
   )
 

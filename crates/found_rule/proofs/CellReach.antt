@@ -20,11 +20,9 @@ use Rattle.found_rule.proofs.HandFacts.{ReachKept}
 use Rattle.found_rule.proofs.Serving.{Came, PassesOn, alike_passes, came_all, came_kept}
 use Rattle.board_lemmas.proofs.ReachAll.{Reach-level, IsLevel}
 use Rattle.board_lemmas.proofs.CellAlike.{alike_same, not_reads}
+use Rattle.board_lemmas.proofs.KindForms.{form_unlive}
 
 -- ---- a marked frame is not live
-form_unlive : (k : KindWord) → has_form k ≡ true → k.unflushed ≡ true → k.validated ≡ false
-unfolding has_form
-form_unlive k f u = grind arith
 
 spelled_form : (n : Machine) (w : ℕ) (b : Bool) → (has_type w && has_form (kind_fields w)) ≡ b →
     is_kind_in n (if has_type w && has_form (kind_fields w) then Some (kind_fields w) else None) ≡ true → has_form (kind_fields w) ≡ true

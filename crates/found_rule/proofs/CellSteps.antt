@@ -26,7 +26,6 @@ use Rattle.xp_board.specs.WellFormed.{SeenIs, IsLockFormed}
 use Rattle.xp_board.specs.Reach.{reached_by, cached, walked}
 use Rattle.xp_board.specs.Sound.{Sound}
 use Rattle.step_effects.proofs.ActEffects.{Exchanged, Rewrote}
-use Rattle.found_rule.proofs.StepLists.{first_by-each, first_by-key, first_by-some}
 use Rattle.found_rule.proofs.Growth.{Grown, added}
 use Rattle.found_rule.proofs.Learning.{Act, act}
 use Rattle.found_rule.proofs.WordsOf.{CellSpared, words_cell}
@@ -42,6 +41,7 @@ use Rattle.found_rule.proofs.RestLaw.{rest_done}
 use Rattle.found_rule.proofs.Quiet.{Done}
 use Rattle.board_lemmas.proofs.EntryAsks.{walked_inside}
 use Rattle.board_lemmas.proofs.EntryWords.{entry_asks_same, same_demand}
+use Rattle.board_lemmas.proofs.HandLists.{EachOf-first, first-key, first-some}
 
 -- the cell as it was last seen asks the same
 seen_by : (kind : PageType) (i new : ℕ) (o : Option Seen) → IsTrue (is_same_as_seen kind i new o) → (s : Seen) × (o ≡ Some s) × (s.index ≡ i) × (demand_at kind i s.word ≡ demand_at kind i new)
@@ -89,7 +89,7 @@ module _ (n : Machine) (s : ℕ) (x : Step) (m m2 : Place → ℕ) (b c : ℕ �
   -- ---- a table under the own lock
   module _ (e : Lock) (here : lock_on f (b s).locks ≡ Some e) where
     some : 0 < locks_on f (b s).locks
-    some = first_by-some (λ y. y.frame) f e (b s).locks here
+    some = first-some (λ y. y.frame) f e (b s).locks here
 
     live : ((kind_at m f).validated ≡ true) × (0 < (kind_at m f).number)
     unfolding some
@@ -135,9 +135,9 @@ module _ (n : Machine) (s : ℕ) (x : Step) (m m2 : Place → ℕ) (b c : ℕ �
     same_asks same inside =
         let z = sizes_of n in
         let p = seen_by e.kind i (m2 (Cell f i)) e.seen same in
-        let frame = first_by-key (λ y. y.frame) f e (b s).locks here in
-        let formed = first_by-each (IsLockFormed n (b s)) (λ y. y.frame) f e (b s).locks (sound.formed s l).locks here in
-        let found = first_by-each (LockFound z m (b s)) (λ y. y.frame) f e (b s).locks (sound.found s l).locks here in
+        let frame = first-key (λ y. y.frame) f e (b s).locks here in
+        let formed = EachOf-first (IsLockFormed n (b s)) (λ y. y.frame) f e (b s).locks (sound.formed s l).locks here in
+        let found = EachOf-first (LockFound z m (b s)) (λ y. y.frame) f e (b s).locks (sound.found s l).locks here in
         let last : last_since z e.since (Cell e.frame (p.0).index) (b s).steps ≡ Some (p.0).word = subst (λ o. SeenIs z e.since e.frame (b s).steps o) p.1 formed.seen in
         let entry : IsTrue (is_same_entry (m (Cell f i)) (p.0).word) =
         subst (λ g. IsTrue (is_same_entry (m (Cell g i)) (p.0).word)) frame (subst (λ j. IsTrue (is_same_entry (m (Cell e.frame j)) (p.0).word)) p.2 (found (p.0).index (p.0).word last)) in

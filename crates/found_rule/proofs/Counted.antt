@@ -95,14 +95,6 @@ busy_by false false true n e = inl (refl, refl, refl)
 busy_by false false false n e = absurd cc
 busy_by false true l n e = absurd cc
 
-pub busy_cases : (k : KindWord) → is_busy k ≡ true → (IsTrue (is_work k) × (type_count k ≡ 1)) ⊎ (IsTrue (is_closing k) × (type_count k ≡ 0))
-unfolding type_count
-busy_cases k e =
-    elim (busy_by k.validated k.partial k.locked k.number e) [
-      | inl w ↦ inl (rw (w.0, w.1, w.2) refl, rw (w.0, w.1, w.2) refl)
-      | inr c ↦ inr (rw (c.0, c.1) refl, rw (c.0) c.1)
-    ]
-
 module _ (n : Machine) (m : Place → ℕ) (h : ℕ → Holdings) (sound : Sound n m h) where
   pub types_within : (f : ℕ) → type_count (kind_at m f) ≤ ref_count (m (Refs f))
   types_within f =

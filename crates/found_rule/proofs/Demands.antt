@@ -9,7 +9,7 @@ use Rattle.xp_board.specs.declared.holdings.Holdings.{Holdings}
 use Rattle.xp_board.specs.Lists.{EachOf}
 use Rattle.xp_board.specs.Hands.{brought, brought_as}
 use Rattle.xp_board.specs.Settling.{demand_in, demand_out}
-use Rattle.found_rule.proofs.StepLists.{EachOf-more, EachOf-without}
+use Rattle.board_lemmas.proofs.HandLists.{EachOf-more, EachOf-without}
 
 -- all but references
 pub record RefsMoved (a u : Holdings) : Type 0 where

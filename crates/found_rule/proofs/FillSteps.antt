@@ -23,30 +23,26 @@ use Rattle.xp_board.specs.Reach.{Table}
 use Rattle.xp_board.specs.Sound.{Sound}
 use Rattle.step_effects.proofs.ActEffects.{Filled}
 use Rattle.board_lemmas.proofs.PlaceTests.{equal_refl}
-use Rattle.found_rule.proofs.StepLists.{EachOf-all, first_by-each, first_by-key, first_by-some}
 use Rattle.found_rule.proofs.Learning.{Act, act}
-use Rattle.found_rule.proofs.Counted.{typed_ref_counted, types_within, held_dying, dying_uncounted, dying_elsewhere, counted_alive, work_elsewhere, work_busy, busy_cases, not_locked}
+use Rattle.found_rule.proofs.Counted.{typed_ref_counted, types_within, held_dying, dying_uncounted, dying_elsewhere, counted_alive, work_elsewhere, work_busy, not_locked}
 use Rattle.found_rule.proofs.Demands.{same_rest}
-use Rattle.found_rule.proofs.KindWordsLeft.{live_count}
-use Rattle.found_rule.proofs.KindStores.{work_by}
 use Rattle.found_rule.proofs.CellReach.{unreached_passes, live_unmarked, came_table}
 use Rattle.found_rule.proofs.CellFacts.{uncounted_works, uncounted_locks, lock_table, live_alone, spared_alone, fix_none, zero_none}
 use Rattle.found_rule.proofs.CellSteps.{cell_done, table_levels}
 use Rattle.found_rule.proofs.Quiet.{Done}
 use Rattle.board_lemmas.proofs.CellAlike.{not_reads}
+use Rattle.board_lemmas.proofs.KindReadings.{live_count, work_unlive, busy_cases}
+use Rattle.board_lemmas.proofs.HandLists.{EachOf-all, EachOf-first, first-key, first-some}
 
 fixed_by : (w new : ℕ) → fixed w ≡ Some new → IsTrue (is_fixed new)
 fixed_by w new e = let k = fixed_again w new e in rw k (equal_refl new)
-
-work_type : (k : KindWord) → IsTrue (is_work k) → k.validated ≡ false
-work_type k t = work_by k.validated k.partial k.locked t
 
 module _ (n : Machine) (s : ℕ) (x : Step) (m m2 : Place → ℕ) (b c : ℕ → Holdings) (l : s < (sizes_of n).vcpus) (sound : Sound n m b) (others : (t : ℕ) → t ≢ s → c t ≡ b t) (f i : ℕ)
     (acted : Act n s (Cell f i) m m2 (b s) (b s) (c s)) where
   -- ---- a claimed frame
   claim_filled : (k : Claimed) → claim_of f (b s).claimed ≡ Some k → m2 (Cell f i) ≡ 0 → Done n s m m2 b c
   claim_filled k here zero =
-      let some : 0 < claims_of f (b s).claimed = first_by-some (λ y. y.frame) f k (b s).claimed here in
+      let some : 0 < claims_of f (b s).claimed = first-some (λ y. y.frame) f k (b s).claimed here in
       let none : ref_count (m (Refs f)) ≡ 0 = dying_uncounted (m (Refs f)) (held_dying n m b sound s f l (omega arith)) in
       cell_done n s x m m2 b c l sound others f i (b s) acted (same_rest (b s) (b s) refl)
       (λ t r d.
@@ -69,11 +65,11 @@ module _ (n : Machine) (s : ℕ) (x : Step) (m m2 : Place → ℕ) (b c : ℕ �
   -- ---- a descriptor page in the own work
   work_filled : (e : Work) → work_on f (b s).works ≡ Some e → MayFix i (m2 (Cell f i)) e → Done n s m m2 b c
   work_filled e here may =
-      let some : 0 < works_on f (b s).works = first_by-some (λ y. y.frame) f e (b s).works here in
-      let frame = first_by-key (λ y. y.frame) f e (b s).works here in
-      let found = first_by-each (WorkFound n m b (b s)) (λ y. y.frame) f e (b s).works (sound.found s l).works here in
+      let some : 0 < works_on f (b s).works = first-some (λ y. y.frame) f e (b s).works here in
+      let frame = first-key (λ y. y.frame) f e (b s).works here in
+      let found = EachOf-first (WorkFound n m b (b s)) (λ y. y.frame) f e (b s).works (sound.found s l).works here in
       let word : kind_at m f ≡ kind_fields e.word = ap (λ g. kind_at m g) (sym frame) ∙ ap kind_fields found.word in
-      let unlive : (kind_at m f).validated ≡ false = ap (λ y. y.validated) word ∙ work_type (kind_fields e.word) may.work in
+      let unlive : (kind_at m f).validated ≡ false = ap (λ y. y.validated) word ∙ work_unlive (kind_fields e.word) may.work in
       let count : type_count (kind_at m f) ≡ 1 = (elim (busy_cases (kind_at m f) (work_busy n m b sound s f l some)) [ inl work ↦ work.1 | inr closing ↦ absurd (let q = closing.0 in let r : ((kind_at m f).validated && ((kind_at m f).number == 0)) ≡ false = and_left (kind_at m f).validated ((kind_at m f).number == 0) unlive in cc) ]) in
       let counted : 0 < ref_count (m (Refs f)) = (let w = types_within n m b sound f in omega arith) in
       let unlocked : is_locked (kind_at m f) ≡ false = and_left (kind_at m f).validated (kind_at m f).locked unlive in

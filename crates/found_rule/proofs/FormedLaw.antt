@@ -9,10 +9,12 @@ use Rattle.xp_board.specs.Steps.{last_since}
 use Rattle.xp_board.specs.Hands.{works_on, locks_on, endings_of, claims_of, changed_work, changed_lock}
 use Rattle.xp_board.specs.After.{learned_work, learned_lock, learned_claim}
 use Rattle.xp_board.specs.WellFormed.{IsWorkFormed, IsLockFormed, IsRaisedFormed, IsLookingFormed, IsCacheFormed, WellFormed}
-use Rattle.found_rule.proofs.StepLists.{EachOf-map, EachOf-both, EachOf-changed, EachOf-changes, times_by-changed}
 use Rattle.found_rule.proofs.Growth.{Grown, added, grown_longer, grown_once, grown_places}
 use Rattle.found_rule.proofs.Learning.{CellsLearned, cells_off, cells_at, WordLearned, word_off, word_at, looking_each, Act, acted_here, acted_off}
 use Rattle.found_rule.proofs.FormedWorks.{FormedWork, work_stays, work_learned, lock_stays, lock_learned}
+use Rattle.board_lemmas.proofs.HandLists.{EachOf-map, times-changed}
+use Rattle.board_lemmas.proofs.ListCounts.{EachOf-both}
+use Rattle.board_lemmas.proofs.ListChanges.{EachOf-changes, EachOf-changed_one}
 
 -- the hand that the act leaves
 pub record FormedHand (n : Machine) (s : ℕ) (b u w : Holdings) : Type 0 where
@@ -67,7 +69,7 @@ module _ (n : Machine) (s : ℕ) (p : Place) (m m2 : Place → ℕ) (b u w : Hol
       subst (λ x. EachOf (IsWorkFormed n w) x) (sym (k ∙ same)) (work_off o (EachOf-map (FormedWork n b) (IsWorkFormed n b) b.works (λ e t. t.formed) h))
   works_by (cells_at f i at k l d) same one h =
       subst (λ x. EachOf (IsWorkFormed n w) x) (sym (k ∙ ap (λ xs. changed_work f (learned_work i (m2 p)) xs) same))
-      (EachOf-changed (FormedWork n b) (IsWorkFormed n w) (λ e. e.frame) f (learned_work i (m2 p)) b.works (one f)
+      (EachOf-changed_one (FormedWork n b) (IsWorkFormed n w) (λ e. e.frame) f (learned_work i (m2 p)) b.works (one f)
       (λ e is t.
       work_learned n b w longer (grown_once (sizes_of n) m m2 b.steps w.steps more) i (m2 p) e
       (subst (λ q. last_since (sizes_of n) e.unmarked q w.steps ≡ Some (m2 p)) (at ∙ ap (λ g. Cell g i) (sym is)) (here e.unmarked t.formed.past))
@@ -85,7 +87,7 @@ module _ (n : Machine) (s : ℕ) (p : Place) (m m2 : Place → ℕ) (b u w : Hol
       (λ e t. lock_stays n b w longer (grown_once (sizes_of n) m m2 b.steps w.steps more) e (λ i. off e.since (Cell e.frame i) t.past (o e.frame i)) t) h)
   locks_by (cells_at f i at k l d) same one h =
       subst (λ x. EachOf (IsLockFormed n w) x) (sym (l ∙ ap (λ xs. changed_lock f (learned_lock i (m2 p)) xs) same))
-      (EachOf-changed (IsLockFormed n b) (IsLockFormed n w) (λ e. e.frame) f (learned_lock i (m2 p)) b.locks (one f)
+      (EachOf-changed_one (IsLockFormed n b) (IsLockFormed n w) (λ e. e.frame) f (learned_lock i (m2 p)) b.locks (one f)
       (λ e is t.
       lock_learned n b w longer (grown_once (sizes_of n) m m2 b.steps w.steps more) i (m2 p) e
       (subst (λ q. last_since (sizes_of n) e.since q w.steps ≡ Some (m2 p)) (at ∙ ap (λ g. Cell g i) (sym is)) (here e.since t.past)) t)
@@ -120,7 +122,7 @@ module _ (n : Machine) (s : ℕ) (p : Place) (m m2 : Place → ℕ) (b u w : Hol
 
   claims_same : CellsLearned p (m2 p) u w → (g : ℕ) → claims_of g w.claimed ≡ claims_of g u.claimed
   claims_same (cells_off o k l d) g = ap (λ x. claims_of g x) d
-  claims_same (cells_at f i at k l d) g = ap (λ x. claims_of g x) d ∙ times_by-changed (λ e. e.frame) f g (learned_claim i (m2 p)) u.claimed (λ e. refl)
+  claims_same (cells_at f i at k l d) g = ap (λ x. claims_of g x) d ∙ times-changed (λ e. e.frame) g f (learned_claim i (m2 p)) u.claimed (λ e. refl)
 
   own_by : (q : Place) (x y z : Option ℕ) → y ≡ x → WordLearned p q (m2 p) y z → x ≡ last_since (sizes_of n) 0 q b.steps → z ≡ last_since (sizes_of n) 0 q w.steps
   own_by q x y z e (word_off o k) h = k ∙ e ∙ h ∙ sym (off 0 q (omega arith) o)

@@ -10,7 +10,6 @@ use Rattle.xp_board.specs.Lists.{EachOf}
 use Rattle.xp_board.specs.Readings.{kind_at, domain_of, told_value, has_now, has_ever, type_count}
 use Rattle.xp_board.specs.Found.{ClockFound, ClockSinceAck, FlushedSinceOff, ColdSinceOff, WorkFound, LockFound, EndingFound, ClaimFound, OwnFound, Found}
 use Rattle.xp_board.specs.Sound.{Sound, WorkAgrees}
-use Rattle.found_rule.proofs.StepLists.{EachOf-both, EachOf-there}
 use Rattle.found_rule.proofs.Growth.{Grown, stayed, added}
 use Rattle.found_rule.proofs.Learning.{WordLearned, word_off, word_at, Act, acted_here, acted_off}
 use Rattle.found_rule.proofs.Words.{Moves, Spares, Words}
@@ -22,6 +21,7 @@ use Rattle.found_rule.proofs.HandFacts.{ReachKept, their_work, their_lock, their
 use Rattle.found_rule.proofs.SoundWords.{told_within, had, work_counted}
 use Rattle.xp_board.specs.Steps.{last_since}
 use Rattle.board_lemmas.proofs.PlaceTests.{same_or_other}
+use Rattle.board_lemmas.proofs.ListCounts.{EachOf-both, EachOf-there}
 
 -- of vCPUs that were found off
 pub record Offs (n : Machine) (m m2 : Place → ℕ) (b c : ℕ → Holdings) : Type 0 where

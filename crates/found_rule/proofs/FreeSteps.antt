@@ -19,7 +19,6 @@ use Rattle.xp_board.specs.RefSteps.{claimed_frame, freed, given, IsFreeStamp}
 use Rattle.xp_board.specs.Found.{EndingFound, ClaimFound, LockFound, WorkFound}
 use Rattle.xp_board.specs.Sound.{Sound}
 use Rattle.step_effects.proofs.ActEffects.{Took, Freed, Gave}
-use Rattle.found_rule.proofs.StepLists.{EachOf-map, EachOf-more, EachOf-without, EachOf-there, EachOf-others, first_by-each, first_by-some, times_by-without, times_by-off}
 use Rattle.found_rule.proofs.Learning.{Act, act}
 use Rattle.found_rule.proofs.Words.{Words}
 use Rattle.found_rule.proofs.WordsAt.{words_refs}
@@ -34,6 +33,8 @@ use Rattle.found_rule.proofs.FormedLaw.{ending_formed_old, claimed_formed_old}
 use Rattle.found_rule.proofs.RefChanges.{owned_word}
 use Rattle.found_rule.proofs.RefSteps.{alive_words, alive_hand, alive_outcome}
 use Rattle.found_rule.proofs.Quiet.{Done, fix_kept, zero_kept, works_form, locks_form, formed_with}
+use Rattle.board_lemmas.proofs.HandLists.{EachOf-map, EachOf-more, EachOf-without, EachOf-first, first-some}
+use Rattle.board_lemmas.proofs.ListCounts.{EachOf-there, EachOf-others, times_by-without, times_by-without_other}
 
 -- ---- readings
 read_small : (w : ℕ) (r : RefWord) → ref_read w ≡ Some r → w < 2 ^ 64
@@ -156,7 +157,7 @@ module _ (n : Machine) (s : ℕ) (x : Step) (m m2 : Place → ℕ) (b c : ℕ �
   free_stamp_told : (stamp : ℕ) (e : Option Ending) (k : Option Claimed) → IsFreeStamp n stamp (b s) e k → claim_of f (b s).claimed ≡ k → stamp ≤ m Clock
   free_stamp_told stamp (Some e) k told is = told_some (sizes_of n) e.since stamp (m Clock) (b s).steps (sound.found s l).clock told
   free_stamp_told stamp None (Some e) told is =
-      let h = first_by-each (ClaimFound (sizes_of n) m (domain_of n s) (b s)) (λ y. y.frame) f e (b s).claimed (sound.found s l).claims is in
+      let h = EachOf-first (ClaimFound (sizes_of n) m (domain_of n s) (b s)) (λ y. y.frame) f e (b s).claimed (sound.found s l).claims is in
       let k = h.stamp in
       omega arith
   free_stamp_told stamp None None told is = absurd told
@@ -188,9 +189,9 @@ module _ (n : Machine) (s : ℕ) (x : Step) (m m2 : Place → ℕ) (b c : ℕ �
                         let i : one_at f f ≡ 1 = grind (arith, nat_tests) in
                         rw at (omega arith))
                     | inr off ↦
-                        (let p = times_by-off (λ y. y) g f (b s).raised off in
-                        let q = times_by-off (λ y. y.frame) g f (b s).ending off in
-                        let o = times_by-off (λ y. y.frame) g f (b s).claimed off in
+                        (let p = times_by-without_other (λ y. y) g f (b s).raised off in
+                        let q = times_by-without_other (λ y. y.frame) g f (b s).ending off in
+                        let o = times_by-without_other (λ y. y.frame) g f (b s).claimed off in
                         omega arith)
                   ];
             }) formed.looking
@@ -205,14 +206,14 @@ module _ (n : Machine) (s : ℕ) (x : Step) (m m2 : Place → ℕ) (b c : ℕ �
       let acted = act n s x (Refs f) m m2 (b s) u (c s) w.place w.real w.left w.others refl refl refl refl d.hand in
       let formed = sound.formed s l in
       let held : 0 < endings_of f (b s).ending + claims_of f (b s).claimed =
-      (let q = first_by-some (λ e. e.frame) f d.may.claimed (b s).claimed d.may.here in omega arith) in
+      (let q = first-some (λ e. e.frame) f d.may.claimed (b s).claimed d.may.here in omega arith) in
       let stamp : free_stamp (m2 (Refs f)) ≤ m Clock = (let q = (owned_word (m2 (Refs f)) d.owner d.allocated d.count d.is).stamp in omega arith) in
       record {
         found = left_outcome held stamp u acted refl refl refl refl
             (λ reach.
             left_hand held stamp u acted refl refl refl refl refl reach
             (EachOf-there (λ e. m2 (Refs e.frame) ≡ m (Refs e.frame) → EndingFound m2 e) (EndingFound m2) (λ e. e.frame) (b s).ending
-            (λ e there h. h (left_others held stamp u acted e.frame (λ at. let q = one_dying n m b sound s f l in let y = rw at at there in let v = first_by-some (λ k. k.frame) f d.may.claimed (b s).claimed d.may.here in omega arith)))
+            (λ e there h. h (left_others held stamp u acted e.frame (λ at. let q = one_dying n m b sound s f l in let y = rw at at there in let v = first-some (λ k. k.frame) f d.may.claimed (b s).claimed d.may.here in omega arith)))
             (endings_old n s (Refs f) m m2 b c u acted l sound (left_words held stamp u acted) reach))
             (left_claims held stamp u acted reach));
         formed = formed_with n s (Refs f) m m2 b c u acted l sound refl refl refl refl refl
@@ -222,7 +223,7 @@ module _ (n : Machine) (s : ℕ) (x : Step) (m m2 : Place → ℕ) (b c : ℕ �
                   let r = formed.raised.held g in
                   elim (cases_eq g f) [
                     | inl at ↦ (let o = d.may.lowered in rw at (omega arith))
-                    | inr off ↦ (let o = times_by-off (λ y. y.frame) g f (b s).claimed off in omega arith)
+                    | inr off ↦ (let o = times_by-without_other (λ y. y.frame) g f (b s).claimed off in omega arith)
                   ];
             }) formed.looking
             (works_form n s (Refs f) m m2 b c u acted l sound refl) (locks_form n s (Refs f) m m2 b c u acted l sound refl);

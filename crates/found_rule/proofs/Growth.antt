@@ -5,8 +5,8 @@ use Rattle.xp_board.specs.declared.holdings.Made.{Made}
 use Rattle.xp_board.specs.Lists.{EachOf}
 use Rattle.xp_board.specs.Steps.{is_at, left_of, some_since, some_before, last_since, EachSince, steps_before}
 use Rattle.xp_board.specs.Readings.{told_value}
-use Rattle.found_rule.proofs.StepLists.{EachOf-more}
 use Rattle.found_rule.proofs.MoreSteps.{some_step-more, some_since-cases, last_since-cases, EachSince-more, steps_before-cases}
+use Rattle.board_lemmas.proofs.HandLists.{EachOf-more}
 
 -- a step at p that found the word that stood there, and left that which stands there
 pub record Added (z : Sizes) (m m2 : Place → ℕ) (x : Made) (p : Place) : Type 0 where

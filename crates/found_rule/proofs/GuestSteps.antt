@@ -19,7 +19,6 @@ use Rattle.xp_board.specs.Reach.{Table, Writes, use_of, Reach, cached}
 use Rattle.xp_board.specs.Found.{WorkFound}
 use Rattle.xp_board.specs.Sound.{Sound}
 use Rattle.step_effects.proofs.ActEffects.{GuestStored}
-use Rattle.found_rule.proofs.StepLists.{EachOf-map, EachOf-both}
 use Rattle.found_rule.proofs.Learning.{Act, act}
 use Rattle.found_rule.proofs.WordsOf.{CellSpared}
 use Rattle.found_rule.proofs.Demands.{same_rest}
@@ -28,6 +27,8 @@ use Rattle.found_rule.proofs.CellFacts.{FixedWorks, lock_table, lock_live, zero_
 use Rattle.found_rule.proofs.CellSteps.{cell_done, table_levels}
 use Rattle.found_rule.proofs.Quiet.{Done}
 use Rattle.board_lemmas.proofs.CellAlike.{not_reads}
+use Rattle.board_lemmas.proofs.HandLists.{EachOf-map}
+use Rattle.board_lemmas.proofs.ListCounts.{EachOf-both}
 
 writes_of : (x : Item) → x.writable ≡ true → use_of x ≡ Writes
 writes_of x e = rw e refl

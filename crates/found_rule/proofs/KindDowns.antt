@@ -18,17 +18,18 @@ use Rattle.xp_board.specs.WellFormed.{IsWorkFormed, IsLockFormed}
 use Rattle.xp_board.specs.Sound.{Sound, is_busy}
 use Rattle.step_effects.proofs.ActEffects.{Dropped, Unlocked}
 use Rattle.board_lemmas.proofs.KindForms.{fields_down, fields_unlocked}
-use Rattle.found_rule.proofs.StepLists.{EachOf-more, EachOf-without}
 use Rattle.found_rule.proofs.Learning.{Act, act}
 use Rattle.found_rule.proofs.Words.{Words}
 use Rattle.found_rule.proofs.KnownFacts.{RefRight, TypedRight, LockRight}
 use Rattle.found_rule.proofs.Counted.{not_in_work, typed_ref_counted, lock_counted, lock_locked}
 use Rattle.found_rule.proofs.HandFacts.{ReachKept}
 use Rattle.found_rule.proofs.MyHand.{refs_old, typed_old, lock_right_old, locks_old}
-use Rattle.found_rule.proofs.KindWordsLeft.{live_not_busy, live_count}
 use Rattle.found_rule.proofs.KindLaw.{KindRest, kind_done, kind_grown, kind_works_stay, kind_works_formed, kind_locks_formed, new_found, new_formed, typed_owner_right, lock_owner_right}
 use Rattle.found_rule.proofs.KindRows.{live_words}
 use Rattle.found_rule.proofs.Quiet.{Done}
+use Rattle.board_lemmas.proofs.HeldByForm.{live_idle}
+use Rattle.board_lemmas.proofs.KindReadings.{live_count}
+use Rattle.board_lemmas.proofs.HandLists.{EachOf-more, EachOf-without}
 
 works_if : (P : Work → Type 0) (t : Bool) (e : Work) (es : List Work) → P e → EachOf P es → EachOf P (if t then (e ∷ es) else es)
 works_if P true e es one h = EachOf-more P e es one h
@@ -46,7 +47,7 @@ module _ (n : Machine) (s : ℕ) (x : Step) (m m2 : Place → ℕ) (b c : ℕ �
   module _ (live : (kind_at m f).validated ≡ true) (some : 0 < (kind_at m f).number) (now : (kind_at m2 f).validated ≡ true) (kind : (kind_at m2 f).kind ≡ (kind_at m f).kind) (u : Holdings)
       (acted : Act n s (Kind f) m m2 (b s) u (c s)) where
     free : is_busy (kind_at m f) ≡ false
-    free = live_not_busy (kind_at m f) live some
+    free = live_idle (kind_at m f) live some
 
     words : Words n s m m2 b
     words = live_words n s x m m2 b c l sound others f acted.others (kind_at m f) (kind_at m2 f) refl refl live some now kind

@@ -16,7 +16,8 @@ use Rattle.xp_board.specs.Readings.{kind_at, owner_of, is_number, is_live, is_ty
 use Rattle.xp_board.specs.Knowledge.{tells_owner, knows_owner, tells_live, knows_live, tells_partial, passes, knows_partial}
 use Rattle.xp_board.specs.Found.{OwnersFound, LivesFound, PartialsFound}
 use Rattle.board_lemmas.proofs.PlaceTests.{equal_refl}
-use Rattle.found_rule.proofs.StepLists.{EachOf-map, EachOf-both}
+use Rattle.board_lemmas.proofs.HandLists.{EachOf-map}
+use Rattle.board_lemmas.proofs.ListCounts.{EachOf-both}
 
 -- ---- some element of a list tells, and each that tells is right
 each_right : {A B : Type 0} (key : A → ℕ) (tells : ℕ → B → A → Bool) (G : ℕ → B → Type 0) (xs : List A) →

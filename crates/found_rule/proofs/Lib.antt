@@ -1,4 +1,3 @@
-pub mod StepLists
 pub mod MoreSteps
 pub mod Growth
 pub mod Learning
@@ -30,7 +29,6 @@ pub mod RecordMarks
 pub mod HintSteps
 pub mod FlushSteps
 pub mod RunSteps
-pub mod KindWordsLeft
 pub mod Serving
 pub mod CellReach
 pub mod RestLaw

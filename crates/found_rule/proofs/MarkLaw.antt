@@ -9,7 +9,6 @@ use Rattle.xp_board.specs.Readings.{domain_of}
 use Rattle.xp_board.specs.Found.{WorkFound, ClaimFound, Found}
 use Rattle.xp_board.specs.WellFormed.{IsWorkFormed, IsLockFormed, IsCacheFormed, WellFormed}
 use Rattle.xp_board.specs.Sound.{Sound}
-use Rattle.found_rule.proofs.StepLists.{EachOf-map}
 use Rattle.found_rule.proofs.Growth.{Grown, stayed}
 use Rattle.found_rule.proofs.WordFacts.{off_same, cold_same}
 use Rattle.found_rule.proofs.Words.{Words}
@@ -17,6 +16,7 @@ use Rattle.found_rule.proofs.WordsAt.{words_quiet}
 use Rattle.found_rule.proofs.KnownFacts.{RefRight, TypedRight, KnownRight, known_each, owners_by, lives_by, partials_by}
 use Rattle.found_rule.proofs.HandFacts.{ReachKept}
 use Rattle.found_rule.proofs.FoundLaw.{Offs, their_found}
+use Rattle.board_lemmas.proofs.HandLists.{EachOf-map}
 
 -- what no mark moves
 pub record MarkKept (a u : Holdings) : Type 0 where

@@ -12,11 +12,11 @@ use Rattle.xp_board.specs.Found.{WorkFound, Found}
 use Rattle.xp_board.specs.WellFormed.{IsCacheFormed, WellFormed}
 use Rattle.xp_board.specs.Sound.{Sound}
 use Rattle.step_effects.proofs.MarkEffects.{Forgot}
-use Rattle.found_rule.proofs.StepLists.{EachOf-there}
 use Rattle.found_rule.proofs.KnownFacts.{KnownRight, known_each}
 use Rattle.found_rule.proofs.Counted.{work_busy}
 use Rattle.found_rule.proofs.HandFacts.{ReachKept}
 use Rattle.found_rule.proofs.MarkLaw.{MarkKept, marked_found, marked_formed}
+use Rattle.board_lemmas.proofs.ListCounts.{EachOf-there}
 
 -- ---- fewer translations
 member_if : {A : Type 0} (x y : A) (xs ys : List A) (t : Bool) → (Member x ys → Member x xs) → Member x (if t then (y ∷ ys) else ys) → Member x (y ∷ xs)

@@ -14,7 +14,6 @@ use Rattle.xp_board.specs.Hands.{works_on, endings_of, claims_of}
 use Rattle.xp_board.specs.After.{is_fixed, counts_fixed, learned_work, learned_lock, learned_claim, learned_last}
 use Rattle.xp_board.specs.Found.{WorkFound, LockFound, EndingFound, ClaimFound}
 use Rattle.xp_board.specs.Sound.{Sound, WorkAgrees}
-use Rattle.found_rule.proofs.StepLists.{EachOf-map, EachOf-both, EachOf-there, EachOf-changes}
 use Rattle.found_rule.proofs.Growth.{Grown, added}
 use Rattle.found_rule.proofs.Learning.{CellsLearned, cells_off, cells_at, Act}
 use Rattle.found_rule.proofs.Words.{Words}
@@ -23,6 +22,9 @@ use Rattle.found_rule.proofs.Counted.{work_busy}
 use Rattle.found_rule.proofs.SoundWords.{work_counted}
 use Rattle.found_rule.proofs.HandFacts.{ReachKept, my_work, my_lock, my_claim}
 use Rattle.found_rule.proofs.FoundLaw.{Mine, refs_kept, typed_kept, locks_kept}
+use Rattle.board_lemmas.proofs.HandLists.{EachOf-map}
+use Rattle.board_lemmas.proofs.ListCounts.{EachOf-both, EachOf-there}
+use Rattle.board_lemmas.proofs.ListChanges.{EachOf-changes}
 
 -- ---- what is learned of the word of one cell
 fixed_if : (m2 : Place → ℕ) (f i w bound : ℕ) (t b : Bool) → b ≡ (t && ((i == bound) && is_fixed w)) → m2 (Cell f i) ≡ w →

@@ -11,10 +11,10 @@ use Rattle.xp_board.specs.KindSteps.{still_looking}
 use Rattle.xp_board.specs.WellFormed.{IsRaisedFormed, IsLookingFormed}
 use Rattle.xp_board.specs.Sound.{Sound}
 use Rattle.step_effects.proofs.ActEffects.{Looked, Mapped, Charged, Refunded, Asked, Missed}
-use Rattle.found_rule.proofs.StepLists.{EachOf-kept}
 use Rattle.found_rule.proofs.Learning.{Act, act}
 use Rattle.found_rule.proofs.WordsAt.{is_read, words_quiet}
 use Rattle.found_rule.proofs.Quiet.{Done, SameHand, same_hand, done_same, found_same, formed_same}
+use Rattle.board_lemmas.proofs.HandLists.{EachOf-kept}
 
 same_looking : (a : Holdings) (xs : List Looking) → SameHand a (record a { looking = xs })
 same_looking a xs =

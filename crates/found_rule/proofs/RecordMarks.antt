@@ -17,7 +17,6 @@ use Rattle.xp_board.specs.Found.{WorkFound, Found}
 use Rattle.xp_board.specs.WellFormed.{SeenIs, LastIs, IsWorkFormed, WellFormed}
 use Rattle.xp_board.specs.Sound.{Sound}
 use Rattle.step_effects.proofs.MarkEffects.{Recorded, Shed}
-use Rattle.found_rule.proofs.StepLists.{EachOf-changes, EachOf-changed_first}
 use Rattle.found_rule.proofs.Growth.{Grown, stayed}
 use Rattle.found_rule.proofs.ReachSame.{reach_same}
 use Rattle.found_rule.proofs.KnownFacts.{RefRight, TypedRight, IsLiveAs, LiveRight, PartialRight}
@@ -28,6 +27,7 @@ use Rattle.found_rule.proofs.HandFacts.{ReachKept}
 use Rattle.found_rule.proofs.Demands.{RefsMoved, moved_out, moved_in, refs_out, typed_out, refs_in, typed_in}
 use Rattle.found_rule.proofs.MarkLaw.{MarkKept, marked_found, marked_formed}
 use Rattle.found_rule.proofs.MarkSteps.{works_marked, known_was}
+use Rattle.board_lemmas.proofs.ListChanges.{EachOf-changes, EachOf-changed_first}
 
 seen_there : (z : Sizes) (k f : ℕ) (steps : List Made) (o : Option Seen) (i w : ℕ) → SeenIs z k f steps o → o ≡ Some (record { index = i; word = w }) → last_since z k (Cell f i) steps ≡ Some (seen_word o)
 seen_there z k f steps (Some s) i w h e =

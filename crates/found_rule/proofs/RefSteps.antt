@@ -16,7 +16,6 @@ use Rattle.xp_board.specs.RefSteps.{took_ref, gave_ref, owner_number}
 use Rattle.xp_board.specs.Found.{EndingFound}
 use Rattle.xp_board.specs.Sound.{Sound}
 use Rattle.step_effects.proofs.ActEffects.{Raised, Cleared, Lowered}
-use Rattle.found_rule.proofs.StepLists.{EachOf-more, EachOf-without, times_by-more}
 use Rattle.found_rule.proofs.Growth.{added}
 use Rattle.found_rule.proofs.Learning.{Act, act}
 use Rattle.found_rule.proofs.Words.{Words}
@@ -30,6 +29,8 @@ use Rattle.found_rule.proofs.Outcome.{Outcome, outcome_by}
 use Rattle.found_rule.proofs.FormedLaw.{ending_formed_old, claimed_formed_old}
 use Rattle.found_rule.proofs.RefChanges.{owned_word, owned_alive, LoweredWord, lowered_word}
 use Rattle.found_rule.proofs.Quiet.{Done, fix_kept, zero_kept, works_form, locks_form, formed_with}
+use Rattle.board_lemmas.proofs.HandLists.{EachOf-more, EachOf-without}
+use Rattle.board_lemmas.proofs.ListCounts.{times_by-cons}
 
 owner_numbered : (o : Option ℕ) (d : ℕ) → o ≡ Some d → o ≡ Some (owner_number o)
 owner_numbered (Some e) d h = refl
@@ -111,7 +112,7 @@ module _ (n : Machine) (s : ℕ) (x : Step) (m m2 : Place → ℕ) (b c : ℕ �
   ending_if P false e es now h = h
 
   more_if : (g : ℕ) (t : Bool) (e : Ending) (es : List Ending) → endings_of g es ≤ endings_of g (if t then (e ∷ es) else es)
-  more_if g true e es = times_by-more (λ y. y.frame) g e es
+  more_if g true e es = let k = times_by-cons (λ y. y.frame) g e es in omega arith
   more_if g false e es = omega arith
 
   pub lowered_done : Lowered n x f m m2 (b s) (c s) → Done n s m m2 b c

@@ -9,7 +9,6 @@ use Rattle.xp_board.specs.After.{is_fixed}
 use Rattle.xp_board.specs.Found.{WorkFound, LockFound, EndingFound, ClaimFound}
 use Rattle.xp_board.specs.WellFormed.{IsCacheFormed, WellFormed}
 use Rattle.xp_board.specs.Sound.{Sound}
-use Rattle.found_rule.proofs.StepLists.{EachOf-map}
 use Rattle.found_rule.proofs.Learning.{Act}
 use Rattle.found_rule.proofs.Words.{Words}
 use Rattle.found_rule.proofs.KnownFacts.{RefRight, TypedRight, LockRight}
@@ -18,6 +17,7 @@ use Rattle.found_rule.proofs.MyHand.{HandRight, mine_by, lock_right_old, works_o
 use Rattle.found_rule.proofs.Outcome.{offs_kept}
 use Rattle.found_rule.proofs.FormedLaw.{formed_by, ending_formed_old, claimed_formed_old}
 use Rattle.found_rule.proofs.Quiet.{Done, works_form, locks_form}
+use Rattle.board_lemmas.proofs.HandLists.{EachOf-map}
 
 pub record Rest (a u : Holdings) : Type 0 where
   pub works : u.works ≡ a.works

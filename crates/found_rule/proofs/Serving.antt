@@ -26,10 +26,11 @@ use Rattle.xp_board.specs.Reach.{Use, Table, Writes, Reads, use_of, use_below, r
 use Rattle.xp_board.specs.Fresh.{Matches}
 use Rattle.xp_board.specs.Sound.{Sound, is_busy}
 use Rattle.found_rule.proofs.Counted.{sum_below-part, not_in_work}
-use Rattle.found_rule.proofs.KindWordsLeft.{live_not_busy, live_count}
 use Rattle.board_lemmas.proofs.EntryAsks.{asks_table, asks_leaf, LeafAsks, walked_inside}
 use Rattle.board_lemmas.proofs.ReachAll.{Reach-all, IsLevel}
 use Rattle.board_lemmas.proofs.CellAlike.{CellAlike, use_alike, not_reads}
+use Rattle.board_lemmas.proofs.HeldByForm.{live_idle}
+use Rattle.board_lemmas.proofs.KindReadings.{live_count}
 
 pub record Serves (m : Place → ℕ) (g : ℕ) (u : Use) : Type 0 where
   pub level : IsLevel u
@@ -119,7 +120,7 @@ zero_dead = refl
 
 module _ (n : Machine) (m : Place → ℕ) (h : ℕ → Holdings) (sound : Sound n m h) where
   no_work : (f s : ℕ) → (kind_at m f).validated ≡ true → 0 < (kind_at m f).number → s < (sizes_of n).vcpus → work_on f (h s).works ≡ None
-  no_work f s v some real = first_by-none (λ e. e.frame) f (h s).works (not_in_work n m h sound s f real (live_not_busy (kind_at m f) v some))
+  no_work f s v some real = first_by-none (λ e. e.frame) f (h s).works (not_in_work n m h sound s f real (live_idle (kind_at m f) v some))
 
   -- all entries of a live and counted table are recorded
   pub table_held : (f : ℕ) → (kind_at m f).validated ≡ true → 0 < (kind_at m f).number → 1 ≤ type_number (kind_at m f).kind → type_number (kind_at m f).kind ≤ 4 → held (sizes_of n) m h f ≡ 512
@@ -195,7 +196,7 @@ module _ (n : Machine) (m m2 : Place → ℕ) (h : ℕ → Holdings) (sound : So
 
   -- so to a frame in work it came before, or can but read it
   came_busy : (g : ℕ) (u : Use) → is_busy (kind_at m g) ≡ true → u ≢ Reads → Serves m g u → ⊥
-  came_busy g u busy other serves = let e = live_not_busy (kind_at m g) (serves.live other) (serves.number other) in cc
+  came_busy g u busy other serves = let e = live_idle (kind_at m g) (serves.live other) (serves.number other) in cc
 
   pub came_kept : (g : ℕ) (u : Use) → is_busy (kind_at m g) ≡ true → Came n m h v g u → Reach (sizes_of n) m (h v) g u ⊎ (u ≡ Reads)
   came_kept g u busy (inl r) = inl r

@@ -28,6 +28,7 @@ use Rattle.board_lemmas.proofs.HandLists.{first-some}
 use Rattle.board_lemmas.proofs.WorkFacts.{Works, works_facts}
 use Rattle.board_lemmas.proofs.Works.{one_seat, nobody_else, work_of-mine}
 use Rattle.found_rule.proofs.KnownFacts.{IsLiveAs}
+use Rattle.board_lemmas.proofs.KindReadings.{busy_partial}
 
 not_writable : (t : PageType) → is_table t ≡ true → is_type t kinds.Writable ≡ false
 not_writable kinds.None e = absurd (cc)
@@ -47,9 +48,6 @@ same_cell t w x e h = rw e at h
 table_count : (k : KindWord) (r : ℕ) → is_table k.kind ≡ true → held_of k (Some r) ≡ r
 unfolding held_of
 table_count k r t = rw t refl
-
-busy_partial : (k : KindWord) → is_busy k ≡ true → IsTrue (is_partial k) → ⊥
-busy_partial k h p = let v : k.validated ≡ false = grind arith in let q : k.partial ≡ true = grind arith in let t : is_busy k ≡ false = rw (v, q) refl in cc
 
 seen_last : (z : Sizes) (k f : ℕ) (xs : List Made) (o : Option Seen) (i w : ℕ) → SeenIs z k f xs o → o ≡ Some (record { index = i; word = w }) → last_since z k (Cell f i) xs ≡ Some w
 seen_last z k f xs o i w h at = rw at at h

@@ -11,7 +11,8 @@ use Rattle.xp_board.specs.Hands.{works_on}
 use Rattle.xp_board.specs.Spelling.{IsSpelling}
 use Rattle.xp_board.specs.Found.{WorkFound}
 use Rattle.xp_board.specs.Sound.{Stamped, Sound, WorkAgrees}
-use Rattle.found_rule.proofs.Counted.{types_within, ref_counted, work_busy, busy_cases}
+use Rattle.found_rule.proofs.Counted.{types_within, ref_counted, work_busy}
+use Rattle.board_lemmas.proofs.KindReadings.{busy_cases}
 
 told_if : (m : Place → ℕ) (v k : ℕ) (t : Bool) → (k == 5) ≡ t → m (flushed_of v) ≤ m Clock → (if t then m (Vcpu v k) else 0) ≤ m Clock
 told_if m v k true e h = let q = eqb-true k 5 e in subst (λ j. m (Vcpu v j) ≤ m Clock) (sym q) h

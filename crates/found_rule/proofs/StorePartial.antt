@@ -23,7 +23,6 @@ use Rattle.xp_board.specs.WellFormed.{IsWorkFormed, IsLookingFormed}
 use Rattle.xp_board.specs.Sound.{Sound}
 use Rattle.step_effects.proofs.ActEffects.{Stored}
 use Rattle.board_lemmas.proofs.KindForms.{partial_form}
-use Rattle.found_rule.proofs.StepLists.{EachOf-both, EachOf-more, EachOf-without, EachOf-changed_first}
 use Rattle.found_rule.proofs.Learning.{act}
 use Rattle.found_rule.proofs.Words.{Words}
 use Rattle.found_rule.proofs.KnownFacts.{RefRight, TypedRight}
@@ -31,11 +30,15 @@ use Rattle.found_rule.proofs.KnownStays.{none_last, live_new, partial_new}
 use Rattle.found_rule.proofs.Counted.{one_work}
 use Rattle.found_rule.proofs.Demands.{RefsMoved, same_rest}
 use Rattle.found_rule.proofs.MyHand.{lock_right_old, locks_old}
-use Rattle.found_rule.proofs.KindWordsLeft.{other_stamp}
 use Rattle.found_rule.proofs.FormedWorks.{seen_none, last_none}
 use Rattle.found_rule.proofs.KindLaw.{kind_done, kind_grown, kind_works_found, kind_others, kind_works_formed, kind_locks_formed}
-use Rattle.found_rule.proofs.KindStores.{partial_by, unlive_by, was_found, frame, number, store_words, refs_are, typed_are, ref_owner_is, store_done}
+use Rattle.found_rule.proofs.KindStores.{was_found, frame, number, store_words, refs_are, typed_are, ref_owner_is, store_done}
 use Rattle.found_rule.proofs.Quiet.{Done, marked}
+use Rattle.board_lemmas.proofs.KindReadings.{stamp_of}
+use Rattle.board_lemmas.proofs.FormsLeft.{is_partial_left, is_work_left}
+use Rattle.board_lemmas.proofs.ListCounts.{EachOf-both}
+use Rattle.board_lemmas.proofs.HandLists.{EachOf-more, EachOf-without}
+use Rattle.board_lemmas.proofs.ListChanges.{EachOf-changed_first}
 
 -- ---- from closing an untyped reference becomes the type count
 moved_if : (t : Bool) (a u : Holdings) → RefsMoved a u → RefsMoved a (if t then u else a)
@@ -74,7 +77,7 @@ module _ (n : Machine) (s : ℕ) (x : Step) (m m2 : Place → ℕ) (b c : ℕ �
   -- ---- partial
   module _ (d : Stored n s x f Partial m m2 (b s) (c s)) where
     form : (d.l.validated ≡ false) × (d.l.partial ≡ true)
-    form = partial_by d.l.validated d.l.partial d.l.locked d.form_is
+    form = is_partial_left d.l d.form_is
 
     stamp_by : KeepsMark n d.e d.l (b s) → (t : Bool) → d.l.unflushed ≡ t → d.l.number ≤ m Clock
     unfolding form
@@ -86,7 +89,7 @@ module _ (n : Machine) (s : ℕ) (x : Step) (m m2 : Place → ℕ) (b c : ℕ �
     unfolding form
     partial_words =
         store_words n s x m m2 b c l sound others f d.e d.here d.wrote.others (ap (λ y. y.kind) d.fields_is ∙ d.may.kind)
-        (let q = other_stamp (m2 (Kind f)) d.l d.fields_is form.0 in let k = stamp_by d.may.mark d.l.unflushed refl in omega arith)
+        (let q = stamp_of (m2 (Kind f)) d.l d.fields_is form.0 in let k = stamp_by d.may.mark d.l.unflushed refl in omega arith)
 
     typed_hand : Holdings
     typed_hand = as_typed f d.e (b s)
@@ -149,9 +152,9 @@ module _ (n : Machine) (s : ℕ) (x : Step) (m m2 : Place → ℕ) (b c : ℕ �
     unmarked_words : Words n s m m2 b
     unfolding left
     unmarked_words =
-        let v = unlive_by d.l.validated d.l.partial d.l.locked InWork d.form_is (λ q. cc) in
+        let v = (is_work_left d.l d.form_is).0 in
         let none : d.l.number ≡ 0 = ap (λ y. y.number) d.may.left in
-        store_words n s x m m2 b c l sound others f d.e d.here d.wrote.others (ap (λ y. y.kind) left) (let q = other_stamp (m2 (Kind f)) d.l d.fields_is v in omega arith)
+        store_words n s x m m2 b c l sound others f d.e d.here d.wrote.others (ap (λ y. y.kind) left) (let q = stamp_of (m2 (Kind f)) d.l d.fields_is v in omega arith)
 
     change_found : (length (c s).steps ≡ suc (length (b s).steps)) → ((i : ℕ) → m2 (Cell d.e.frame i) ≡ m (Cell d.e.frame i)) → WorkFound n m2 c (c s) (change d.e)
     unfolding change left

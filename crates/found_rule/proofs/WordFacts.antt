@@ -10,10 +10,11 @@ use Rattle.xp_board.specs.Lists.{EachOf}
 use Rattle.xp_board.specs.Steps.{left_of, is_at, some_step, some_since, EachStep, EachSince}
 use Rattle.xp_board.specs.Readings.{told_value, has_now, has_ever}
 use Rattle.xp_board.specs.Found.{ClockFound, FlushedFound, StoppedFound, ClockSinceAck, LifeFound, before_off, FlushedSinceOff, ColdSinceOff, PrivilegesFound}
-use Rattle.found_rule.proofs.StepLists.{EachOf-map, EachOf-all, EachOf-both}
 use Rattle.found_rule.proofs.MoreSteps.{EachOf-before, EachSince-map, some_since-cases}
 use Rattle.found_rule.proofs.Growth.{Grown, grown_each, grown_told, grown_before}
 use Rattle.found_rule.proofs.Words.{Moves}
+use Rattle.board_lemmas.proofs.HandLists.{EachOf-map, EachOf-all}
+use Rattle.board_lemmas.proofs.ListCounts.{EachOf-both}
 
 -- no step has a number from n on
 pub EachSince-none : (z : Sizes) (n : ℕ) (p : Place) (P : ℕ → Type 0) (xs : List Made) → length xs ≤ n → EachSince z n p P xs

@@ -12,10 +12,10 @@ use Rattle.xp_board.specs.Hands.{works_on, endings_of, claims_of}
 use Rattle.xp_board.specs.Found.{is_same_entry, without_bits}
 use Rattle.xp_board.specs.Sound.{Sound}
 use Rattle.board_lemmas.proofs.PlaceTests.{same_or_other, equal_refl}
-use Rattle.found_rule.proofs.StepLists.{EachOf-all}
 use Rattle.found_rule.proofs.SoundWords.{told_within, had}
 use Rattle.found_rule.proofs.HandFacts.{cell_refl}
 use Rattle.found_rule.proofs.Words.{Words}
+use Rattle.board_lemmas.proofs.HandLists.{EachOf-all}
 
 -- a place of which facts speak
 abbrev pub is_read : Place → Bool

@@ -11,11 +11,11 @@ use Rattle.xp_board.specs.Hands.{works_on, locks_on, claims_of}
 use Rattle.xp_board.specs.Found.{is_known_inside, is_same_cell, is_same_entry, without_bits}
 use Rattle.xp_board.specs.Sound.{Sound}
 use Rattle.board_lemmas.proofs.PlaceTests.{same_or_other, equal_refl}
-use Rattle.found_rule.proofs.StepLists.{EachOf-all, EachOf-map}
 use Rattle.found_rule.proofs.SoundWords.{had}
 use Rattle.found_rule.proofs.HandFacts.{cell_refl}
 use Rattle.found_rule.proofs.Words.{Words}
 use Rattle.found_rule.proofs.WordsAt.{told_at}
+use Rattle.board_lemmas.proofs.HandLists.{EachOf-map, EachOf-all}
 
 -- ---- a place that is no frame's: what it leaves is told place by place
 pub record Lone (n : Machine) (s : ℕ) (m m2 : Place → ℕ) : Type 0 where

@@ -23,10 +23,10 @@ use Rattle.stale_rule.proofs.KindHands.{row_stays, dropped_stays, unlocked_stays
 use Rattle.stale_rule.proofs.Like.{HandStays, parts_stay, then_stays}
 use Rattle.stale_rule.proofs.Moves.{act_law, not_clock}
 use Rattle.stale_rule.proofs.Stays.{ref_same, ever_same}
-use Rattle.stale_rule.proofs.Tables.{live_count}
 use Rattle.board_lemmas.proofs.Sums.{hands-part}
 use Rattle.board_lemmas.proofs.Works.{is_locked-mine}
 use Rattle.board_lemmas.proofs.ReachAll.{IsLevel, Reach-level}
+use Rattle.board_lemmas.proofs.KindReadings.{live_count}
 
 -- the marks of an exchange that leaves type, mark and stamp
 row_bears : (row : KindRow) (n : Machine) (s f flushed : ℕ) (k l : KindWord) (a : Holdings) (u : Use) → IsLevel u → (k.unflushed ≡ true → k.validated ≡ false) →

@@ -20,8 +20,9 @@ use Rattle.xp_board.specs.Safe.{SafeAt}
 use Rattle.xp_board.specs.Spelling.{IsSpelling}
 use Rattle.xp_board.specs.Sound.{Sound}
 use Rattle.board_lemmas.proofs.Counted.{contexts-part}
-use Rattle.stale_rule.proofs.Tables.{Serves, table_held, leads_live, named_counted, live_count}
+use Rattle.stale_rule.proofs.Tables.{Serves, table_held, leads_live, named_counted}
 use Rattle.board_lemmas.proofs.EntryAsks.{asks_table, asks_leaf, LeafAsks, walked_inside}
+use Rattle.board_lemmas.proofs.KindReadings.{live_count}
 
 -- ---- permits
 pub permits_own : (m : Place → ℕ) (d g : ℕ) → owner_of (m (Refs g)) ≡ Some d → Permits m d g

@@ -23,10 +23,11 @@ use Rattle.xp_board.specs.Sound.{Sound}
 use Rattle.board_lemmas.proofs.Counted.{entries-part, type_below}
 use Rattle.board_lemmas.proofs.KindForms.{zero_dead}
 use Rattle.stale_rule.proofs.Paths.{permits_own}
-use Rattle.stale_rule.proofs.Tables.{table_held, leads_live, named_counted, live_count}
+use Rattle.stale_rule.proofs.Tables.{table_held, leads_live, named_counted}
 use Rattle.board_lemmas.proofs.EntryAsks.{asks_table, asks_leaf, LeafAsks, walked_inside}
 use Rattle.board_lemmas.proofs.ReachAll.{IsLevel}
 use Rattle.board_lemmas.proofs.CellAlike.{not_reads}
+use Rattle.board_lemmas.proofs.KindReadings.{live_count}
 
 -- a frame with a type count has a reference count
 pub typed_counted : (n : Machine) (m : Place → ℕ) (h : ℕ → Holdings) (g : ℕ) → Sound n m h → (kind_at m g).validated ≡ true → 0 < (kind_at m g).number → 0 < ref_count (m (Refs g))

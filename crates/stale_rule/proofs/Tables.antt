@@ -16,6 +16,7 @@ use Rattle.xp_board.specs.Sound.{Sound}
 use Rattle.board_lemmas.proofs.Counted.{entries-part, names_typed-typed}
 use Rattle.board_lemmas.proofs.Works.{nobody_has, held_free}
 use Rattle.board_lemmas.proofs.HeldByForm.{live_partial, live_idle}
+use Rattle.board_lemmas.proofs.KindReadings.{live_count}
 
 -- a live and counted table of that level, of that domain
 pub record Serves (m : Place → ℕ) (d level f : ℕ) : Type 0 where
@@ -23,10 +24,6 @@ pub record Serves (m : Place → ℕ) (d level f : ℕ) : Type 0 where
   pub counted : 0 < (kind_at m f).number
   pub level_is : type_number (kind_at m f).kind ≡ level
   pub owner : owner_of (m (Refs f)) ≡ Some d
-
-pub live_count : (k : KindWord) → k.validated ≡ true → type_count k ≡ k.number
-unfolding type_count
-live_count k v = rw v
 
 all_held : (k : KindWord) → k.validated ≡ true → 1 ≤ type_number k.kind → type_number k.kind ≤ 4 → held_of k None ≡ 512
 unfolding held_of

@@ -33,10 +33,10 @@ use Rattle.board_lemmas.proofs.ListChanges.{first_by-changed_other, first_by-cha
 use Rattle.board_lemmas.proofs.WorkFacts.{Works, works_facts}
 use Rattle.type_rule.proofs.Settled.{seen_asks, settled_found, unsettled_mine}
 use Rattle.type_rule.proofs.KindRows.{unfound_yet}
-use Rattle.type_rule.proofs.KindHeld.{busy_partial}
 use Rattle.type_rule.proofs.ValidLaw.{NewEntry}
 use Rattle.type_rule.proofs.NewEntries.{owners_permit, demand_new}
 use Rattle.type_rule.proofs.MarkRows.{MarkOn, mark_valid, mark_permitted}
+use Rattle.board_lemmas.proofs.KindReadings.{busy_partial}
 
 table_count : (k : KindWord) (r : ℕ) → is_table k.kind ≡ true → held_of k (Some r) ≡ r
 unfolding held_of

@@ -35,7 +35,8 @@ use Rattle.type_rule.proofs.QuietActs.{one_by}
 use Rattle.type_rule.proofs.ValidLaw.{live_is_context}
 use Rattle.type_rule.proofs.KindAct.{KindAct, kind_valid, kind_permitted}
 use Rattle.board_lemmas.proofs.HeldByForm.{held_table}
-use Rattle.type_rule.proofs.KindHeld.{live_all, partial_all, work_all, dead_all, busy_closed, busy_working, busy_partial, work_count}
+use Rattle.type_rule.proofs.KindHeld.{live_all, partial_all, work_all, dead_all}
+use Rattle.board_lemmas.proofs.KindReadings.{busy_closed, busy_working, busy_partial, work_count}
 
 either_if : {A : Type 0} (t : Bool) (F : Holdings → A) (y z : Holdings) (a : A) → F y ≡ a → F z ≡ a → F (if t then y else z) ≡ a
 either_if true F y z a e f = e
