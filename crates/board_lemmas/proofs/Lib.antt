@@ -23,3 +23,6 @@ pub mod ReachAll
 pub mod CellAlike
 pub mod KindReadings
 pub mod Hints
+pub mod LiveTables
+pub mod MoreSteps
+pub mod RefForms

@@ -1,6 +1,6 @@
 -- Who may have the frame of a cell that is written.
-use Rattle.std.proofs.Common.{◌≡◌, ℕ, ◌<◌, Bool, true, false, List, [], ◌∷◌, Some, IsTrue, refl, sym, ap, subst, ◌∙◌, inl, inr, arith}
-use Rattle.std.proofs.lemmas.Bool.{cases_eq, and_parts, or_cases}
+use Rattle.std.proofs.Common.{◌≡◌, ℕ, ◌<◌, true, false, Some, IsTrue, sym, ap, subst, ◌∙◌, inl, inr, arith}
+use Rattle.std.proofs.lemmas.Bool.{cases_eq, and_parts}
 use Rattle.xp_words.specs.declared.kind.PageType.{PageType}
 use Rattle.xp_words.specs.declared.kind.PageType.TheVariants as kinds
 use Rattle.xp_words.specs.declared.entry.Demand.{Demand}
@@ -11,7 +11,7 @@ use Rattle.xp_words.specs.Machine.{Machine}
 use Rattle.xp_words.specs.Places.{sizes_of, Place, Refs, Cell}
 use Rattle.xp_board.specs.declared.holdings.Lock.{Lock}
 use Rattle.xp_board.specs.declared.holdings.Holdings.{Holdings}
-use Rattle.xp_board.specs.Lists.{some_of, EachOf, Member}
+use Rattle.xp_board.specs.Lists.{EachOf}
 use Rattle.xp_board.specs.Readings.{kind_at, ref_count}
 use Rattle.xp_board.specs.Hands.{works_on, locks_on, lock_on, claims_of}
 use Rattle.xp_board.specs.After.{is_fixed}
@@ -21,13 +21,15 @@ use Rattle.xp_board.specs.Found.{WorkFound, is_same_entry}
 use Rattle.xp_board.specs.WellFormed.{IsLockFormed}
 use Rattle.xp_board.specs.Sound.{Sound, WorkAgrees}
 use Rattle.found_rule.proofs.WordsOf.{CellSpared}
-use Rattle.found_rule.proofs.Counted.{typed_ref_counted, lock_counted, lock_locked, types_within, not_in_work, counted_alive}
+use Rattle.found_rule.proofs.Counted.{typed_ref_counted, lock_counted}
 use Rattle.found_rule.proofs.SoundWords.{work_counted}
 use Rattle.found_rule.proofs.Serving.{AsksLive}
 use Rattle.board_lemmas.proofs.HeldByForm.{live_idle}
 use Rattle.board_lemmas.proofs.KindReadings.{live_count}
 use Rattle.board_lemmas.proofs.HandLists.{EachOf-all, EachOf-first, first-key}
 use Rattle.board_lemmas.proofs.ListCounts.{EachOf-there, first_by-some}
+use Rattle.board_lemmas.proofs.Counted.{type_below}
+use Rattle.board_lemmas.proofs.Works.{is_locked-mine, nobody_works, counted_alive}
 
 -- no frame in work is marked, or no descriptor page, and has words that are known to be fixed
 abbrev pub FixedWorks : Machine → (ℕ → Holdings) → Type 0
@@ -54,7 +56,7 @@ module _ (n : Machine) (m : Place → ℕ) (b : ℕ → Holdings) (sound : Sound
   uncounted_locks none t l =
       elim (cases_eq (locks_on f (b t).locks) 0) [
         | inl zero ↦ zero
-        | inr some ↦ absurd (let a = lock_counted n m b sound t f l (omega arith) in let w = types_within n m b sound f in omega arith)
+        | inr some ↦ absurd (let a = lock_counted n m b sound t f l (omega arith) in let w = type_below (sizes_of n) m b f sound.counts in omega arith)
       ]
 
   -- a locked frame is a live and counted table
@@ -72,14 +74,14 @@ module _ (n : Machine) (m : Place → ℕ) (b : ℕ → Holdings) (sound : Sound
 
   pub lock_live : (t : ℕ) → t < (sizes_of n).vcpus → 0 < locks_on f (b t).locks → ((kind_at m f).validated ≡ true) × (0 < (kind_at m f).number)
   lock_live t l some =
-      let both = and_parts (kind_at m f).validated (kind_at m f).locked (lock_locked n m b sound t f l some) in
+      let both = and_parts (kind_at m f).validated (kind_at m f).locked (is_locked-mine n m b sound.alone f t l some) in
       (both.0, (let a = lock_counted n m b sound t f l some in let e = live_count (kind_at m f) both.0 in omega arith))
 
   -- a live frame with a type count is in nobody's works and claimed by nobody
   pub live_alone : (kind_at m f).validated ≡ true → 0 < (kind_at m f).number → (t : ℕ) → t < (sizes_of n).vcpus → (works_on f (b t).works ≡ 0) × (claims_of f (b t).claimed ≡ 0)
   live_alone live some t l = (
-    not_in_work n m b sound t f l (live_idle (kind_at m f) live some),
-    (let e = live_count (kind_at m f) live in let w = types_within n m b sound f in let q = counted_alive n m b sound t f l (omega arith) in omega arith),
+    nobody_works n m b sound.alone f (live_idle (kind_at m f) live some) t l,
+    (let e = live_count (kind_at m f) live in let w = type_below (sizes_of n) m b f sound.counts in let q = counted_alive n m b sound.alone f t l (omega arith) in omega arith),
   )
 
   -- ---- what another seat is spared
@@ -115,13 +117,3 @@ module _ (n : Machine) (m : Place → ℕ) (b : ℕ → Holdings) (sound : Sound
   asks_hand s l kind (Typed g t) h =
       let live = (sound.found s l).lives g t h.1 in
       (live.0, (let a = typed_ref_counted n m b sound s g l h.0.in_hand in let e = live_count (kind_at m g) live.0 in omega arith), live.1)
-
--- some element that passes is a member
-pub some_member : {A : Type 0} (test : A → Bool) (xs : List A) → IsTrue (some_of test xs) → (x : A) × Member x xs × IsTrue (test x)
-unfolding some_of Member
-some_member test [] h = absurd cc
-some_member test (x ∷ xs) h =
-    elim (or_cases (test x) (some_of test xs) h) [
-      | inl here ↦ (x, inl refl, here)
-      | inr more ↦ (let r = some_member test xs more in (r.0, inr r.1, r.2))
-    ]

@@ -31,10 +31,9 @@ use Rattle.found_rule.proofs.Learning.{Act, act}
 use Rattle.found_rule.proofs.WordsOf.{CellSpared, words_cell}
 use Rattle.found_rule.proofs.KnownFacts.{RefRight, TypedRight, IsLiveAs}
 use Rattle.found_rule.proofs.KnownStays.{owner_new, live_found, partial_found}
-use Rattle.found_rule.proofs.Counted.{lock_elsewhere}
 use Rattle.found_rule.proofs.Demands.{RefsMoved, same_rest, then_moved, moved_out, moved_in, refs_out, typed_out, refs_in, typed_in}
 use Rattle.found_rule.proofs.Serving.{AsksLive, PassesOn, target_serves, recorded_asks}
-use Rattle.found_rule.proofs.CellReach.{came_reach, cell_passes, live_unmarked, came_table}
+use Rattle.found_rule.proofs.CellReach.{came_reach, cell_passes, came_table}
 use Rattle.found_rule.proofs.CellFacts.{lock_type, lock_table, lock_live, live_alone, spared_alone, fix_none, zero_none, asks_hand}
 use Rattle.found_rule.proofs.MyHand.{refs_old, typed_old}
 use Rattle.found_rule.proofs.RestLaw.{rest_done}
@@ -42,6 +41,8 @@ use Rattle.found_rule.proofs.Quiet.{Done}
 use Rattle.board_lemmas.proofs.EntryAsks.{walked_inside}
 use Rattle.board_lemmas.proofs.EntryWords.{entry_asks_same, same_demand}
 use Rattle.board_lemmas.proofs.HandLists.{EachOf-first, first-key, first-some}
+use Rattle.board_lemmas.proofs.Works.{only_my_lock}
+use Rattle.board_lemmas.proofs.KindForms.{live_unmarked}
 
 -- the cell as it was last seen asks the same
 seen_by : (kind : PageType) (i new : ℕ) (o : Option Seen) → IsTrue (is_same_as_seen kind i new o) → (s : Seen) × (o ≡ Some s) × (s.index ≡ i) × (demand_at kind i s.word ≡ demand_at kind i new)
@@ -103,13 +104,13 @@ module _ (n : Machine) (s : ℕ) (x : Step) (m m2 : Place → ℕ) (b c : ℕ �
     unfolding some alone
     lock_spares t k d =
         let q = alone t k in
-        spared_alone n m b sound f m2 i t q.0 q.1 (λ have. absurd (let y = lock_elsewhere n m b sound s t f l k d some in omega arith))
+        spared_alone n m b sound f m2 i t q.0 q.1 (λ have. absurd (let y = only_my_lock n m b sound.alone f s t l k d some in omega arith))
 
     -- the new entry asks what is there
     lock_passes : AsksLive m (demand_at e.kind i (m2 (Cell f i))) → (v : ℕ) → v < (sizes_of n).vcpus → PassesOn n m m2 b v f i
     unfolding live
     lock_passes asks v k level came walks present inside =
-        let table = came_table n m b sound v f level k (live_unmarked n m b sound f live.0) came in
+        let table = came_table n m b sound v f level k (live_unmarked n m f sound.spelled live.0) came in
         inr (inl (target_serves m e.kind level i (m2 (Cell f i)) table.1 (sym (ap type_number (lock_type n m b sound f s l e here)) ∙ table.0) walks present asks))
 
     lock_done : (u : Holdings) → Act n s (Cell f i) m m2 (b s) u (c s) → RefsMoved (b s) u → ((v : ℕ) → v < (sizes_of n).vcpus → PassesOn n m m2 b v f i) →

@@ -15,7 +15,6 @@ use Rattle.xp_board.specs.AckSteps.{after_ack}
 use Rattle.xp_board.specs.After.{noted}
 use Rattle.xp_board.specs.Sound.{Sound}
 use Rattle.step_effects.proofs.ActEffects.{Flushed}
-use Rattle.found_rule.proofs.MoreSteps.{EachSince-some}
 use Rattle.found_rule.proofs.Learning.{Act, act}
 use Rattle.found_rule.proofs.ReachSame.{reach_same}
 use Rattle.found_rule.proofs.Words.{Words}
@@ -28,6 +27,7 @@ use Rattle.found_rule.proofs.Outcome.{all_grown}
 use Rattle.found_rule.proofs.FormedLaw.{formed_by, ending_formed_old, claimed_formed_old}
 use Rattle.found_rule.proofs.Quiet.{Done, fix_kept, zero_kept, works_form, locks_form}
 use Rattle.board_lemmas.proofs.HandLists.{EachOf-map, EachOf-all}
+use Rattle.board_lemmas.proofs.MoreSteps.{EachSince-some}
 
 pub if_mine : (s : ℕ) (u v : Holdings) → (if s == s then u else v) ≡ u
 if_mine s u v = let t : (s == s) ≡ true = grind (arith, nat_tests) in rw t refl

@@ -13,15 +13,18 @@ use Rattle.xp_board.specs.Sound.{Sound, WorkAgrees}
 use Rattle.found_rule.proofs.Growth.{Grown, stayed, added}
 use Rattle.found_rule.proofs.Learning.{WordLearned, word_off, word_at, Act, acted_here, acted_off}
 use Rattle.found_rule.proofs.Words.{Moves, Spares, Words}
-use Rattle.found_rule.proofs.WordFacts.{clock_law, flushed_law, stopped_law, life_law, privileges_law, since_ack_law, since_off_law, cold_off_law, EachSince-none}
+use Rattle.found_rule.proofs.WordFacts.{clock_law, flushed_law, stopped_law, life_law, privileges_law, since_ack_law, since_off_law, cold_off_law}
 use Rattle.found_rule.proofs.KnownFacts.{RefRight, TypedRight, LockRight, KnownRight, known_each, owners_by, lives_by, partials_by}
 use Rattle.found_rule.proofs.KnownStays.{owner_right, live_right, live_kept, partial_right}
-use Rattle.found_rule.proofs.Counted.{types_within, typed_ref_counted, lock_counted, ref_counted, work_busy}
+use Rattle.found_rule.proofs.Counted.{typed_ref_counted, lock_counted, ref_counted}
 use Rattle.found_rule.proofs.HandFacts.{ReachKept, their_work, their_lock, their_claim}
 use Rattle.found_rule.proofs.SoundWords.{told_within, had, work_counted}
 use Rattle.xp_board.specs.Steps.{last_since}
 use Rattle.board_lemmas.proofs.PlaceTests.{same_or_other}
 use Rattle.board_lemmas.proofs.ListCounts.{EachOf-both, EachOf-there}
+use Rattle.board_lemmas.proofs.Counted.{type_below}
+use Rattle.board_lemmas.proofs.Works.{is_busy-mine}
+use Rattle.board_lemmas.proofs.MoreSteps.{EachSince-none}
 
 -- of vCPUs that were found off
 pub record Offs (n : Machine) (m m2 : Place → ℕ) (b c : ℕ → Holdings) : Type 0 where
@@ -54,7 +57,7 @@ module _ (n : Machine) (m m2 : Place → ℕ) (b : ℕ → Holdings) (sound : So
   typed_kept_one e some c =
       let z = sizes_of n in
       let kind = k.kind e.frame some in
-      let owner = k.owner e.frame (let q = types_within n m b sound e.frame in omega arith) in
+      let owner = k.owner e.frame (let q = type_below (sizes_of n) m b e.frame sound.counts in omega arith) in
       record {
         owner = owner_right z m m2 (b t).steps w.steps g e.frame owner e.owner c.owner;
         live = live_right z m m2 (b t).steps w.steps g e.frame (k.live e.frame some) kind e.kind e.live c.live;
@@ -69,7 +72,7 @@ module _ (n : Machine) (m m2 : Place → ℕ) (b : ℕ → Holdings) (sound : So
   lock_kept_one : (e : Lock) → 0 < type_count (kind_at m e.frame) → LockRight (sizes_of n) m (b t).steps e → LockRight (sizes_of n) m2 w.steps e
   lock_kept_one e some c =
       let z = sizes_of n in
-      let owner = k.owner e.frame (let q = types_within n m b sound e.frame in omega arith) in
+      let owner = k.owner e.frame (let q = type_below (sizes_of n) m b e.frame sound.counts in omega arith) in
       record {
         owner = owner_right z m m2 (b t).steps w.steps g e.frame owner e.owner c.owner;
         live = λ y h. live_kept z m m2 (b t).steps w.steps g e.frame (k.live e.frame some) (k.kind e.frame some) y (c.live y h);
@@ -115,7 +118,7 @@ module _ (n : Machine) (s : ℕ) (p : Place) (m m2 : Place → ℕ) (b c : ℕ �
     works =
         EachOf-there (λ e. WorkFound n m b (b t) e × (WorkAgrees (b t) e × ((i : ℕ) → i < e.fixed → m2 (Cell e.frame i) ≡ m (Cell e.frame i)))) (WorkFound n m2 c (c t)) (λ e. e.frame) (b t).works
         (λ e there old.
-        their_work n m m2 b c sound.fresh.each reach words.moves.ever (b t) (c t) grown steps e (work_busy n m b sound t e.frame k there)
+        their_work n m m2 b c sound.fresh.each reach words.moves.ever (b t) (c t) grown steps e (is_busy-mine n m b sound.alone e.frame t k there)
         (words.moves.owner e.frame (work_counted n m b sound t k e there old.0 (old.1).0)) (spared.works e.frame there)
         (λ inside i. spared.work_cells e.frame i there inside) (old.1).1 old.0)
         (EachOf-both (WorkFound n m b (b t)) (λ e. WorkAgrees (b t) e × ((i : ℕ) → i < e.fixed → m2 (Cell e.frame i) ≡ m (Cell e.frame i))) (b t).works (sound.found t k).works

@@ -22,13 +22,15 @@ use Rattle.step_effects.proofs.ActEffects.{GuestStored}
 use Rattle.found_rule.proofs.Learning.{Act, act}
 use Rattle.found_rule.proofs.WordsOf.{CellSpared}
 use Rattle.found_rule.proofs.Demands.{same_rest}
-use Rattle.found_rule.proofs.CellReach.{unreached_passes, live_unmarked, unmarked_matches}
-use Rattle.found_rule.proofs.CellFacts.{FixedWorks, lock_table, lock_live, zero_none, some_member}
+use Rattle.found_rule.proofs.CellReach.{unreached_passes}
+use Rattle.found_rule.proofs.CellFacts.{FixedWorks, lock_table, lock_live, zero_none}
 use Rattle.found_rule.proofs.CellSteps.{cell_done, table_levels}
 use Rattle.found_rule.proofs.Quiet.{Done}
 use Rattle.board_lemmas.proofs.CellAlike.{not_reads}
-use Rattle.board_lemmas.proofs.HandLists.{EachOf-map}
+use Rattle.board_lemmas.proofs.HandLists.{EachOf-map, some_of-member}
 use Rattle.board_lemmas.proofs.ListCounts.{EachOf-both}
+use Rattle.board_lemmas.proofs.KindForms.{live_unmarked}
+use Rattle.board_lemmas.proofs.ReachAll.{unmarked_matches}
 
 writes_of : (x : Item) → x.writable ≡ true → use_of x ≡ Writes
 writes_of x e = rw e refl
@@ -77,7 +79,7 @@ module _ (n : Machine) (s : ℕ) (x : Step) (m m2 : Place → ℕ) (b c : ℕ �
               let live = lock_live n m b sound f t r have in
               let q = table_levels (kind_at m f).kind (lock_table n m b sound f t r have) in
               let o = q.1 in
-              let e = seven (live_unmarked n m b sound f live.0) in
+              let e = seven (live_unmarked n m f sound.spelled live.0) in
               omega arith);
           works = λ have inside. absurd (inside_by (kind_at m f).kind (kind_at m f).unflushed seven inside);
           fixed = spared_fixed t (no_fixed t r (λ u e. let k = seven u in omega arith));
@@ -92,7 +94,7 @@ module _ (n : Machine) (s : ℕ) (x : Step) (m m2 : Place → ℕ) (b c : ℕ �
           | inl reach ↦ (let e = sound.fresh.one_use s v f Writes (Table level) l r writes reach (λ q. cc) (not_reads level) in cc)
           | inr (inl serves) ↦
               (let live = serves.live (not_reads level) in
-              let e = seven (live_unmarked n m b sound f live) in
+              let e = seven (live_unmarked n m f sound.spelled live) in
               let k : type_number (kind_at m f).kind ≡ level = serves.matches (not_reads level) in
               let o = serves.level.1 in
               omega arith)
@@ -103,7 +105,7 @@ module _ (n : Machine) (s : ℕ) (x : Step) (m m2 : Place → ℕ) (b c : ℕ �
   pub guest_stored_done : GuestStored n x f i m m2 (b s) (c s) → Done n s m m2 b c
   guest_stored_done d =
       let w = d.wrote in
-      let one = some_member (λ y. (y.frame == f) && y.writable) (b s).cache d.may.item in
+      let one = some_of-member (λ y. (y.frame == f) && y.writable) (b s).cache d.may.item in
       let both = and_parts ((one.0).frame == f) (one.0).writable one.2 in
       let reach : Reach (sizes_of n) m (b s) (one.0).frame (use_of (one.0)) = cached (one.0) one.1 in
       guest_done

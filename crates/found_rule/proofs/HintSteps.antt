@@ -1,22 +1,19 @@
 -- The bit of a frame in the free map is set or cleared.
-use Rattle.std.proofs.Common.{◌≡◌, ◌≢◌, ℕ, ◌+◌, ◌/◌, ◌%◌, ◌^◌, ◌<◌, ◌≤◌, ◌==◌, true, false, List, ◌∷◌, Option, Some, None, refl, sym, ◌∙◌, ◌⊎◌, inl, inr, arith, subst}
-use Rattle.std.proofs.Math.Pow.{pow-lt}
-use Rattle.std.proofs.lemmas.Bool.{cases_eq, cases_order, eqb-true, and_parts}
-use Rattle.std.proofs.lemmas.Bool.Decides.{nat_tests}
+use Rattle.std.proofs.Common.{◌≡◌, ◌≢◌, ℕ, ◌+◌, ◌<◌, ◌≤◌, List, refl, sym, ◌∙◌, inl, inr, arith, subst}
+use Rattle.std.proofs.lemmas.Bool.{cases_eq}
 use Rattle.xp_words.specs.Machine.{Machine}
 use Rattle.xp_words.specs.Places.{sizes_of, Place, Map}
 use Rattle.xp_board.specs.declared.step.Step.{Step}
 use Rattle.xp_board.specs.declared.holdings.Holdings.{Holdings}
-use Rattle.xp_board.specs.Lists.{one_at, times, times_by, first_of}
+use Rattle.xp_board.specs.Lists.{times}
 use Rattle.xp_board.specs.Hands.{endings_of, claims_of}
-use Rattle.xp_board.specs.HintSteps.{MayHint, MayUnhint, is_raise, is_lower, map_bit, held_frames, lowered_frame, raised_frame, raised_by}
+use Rattle.xp_board.specs.HintSteps.{lowered_frame, raised_frame, raised_by}
 use Rattle.xp_board.specs.WellFormed.{IsRaisedFormed}
 use Rattle.xp_board.specs.Sound.{Sound}
 use Rattle.step_effects.proofs.ActEffects.{Hinted}
 use Rattle.found_rule.proofs.Learning.{act}
 use Rattle.found_rule.proofs.QuietSteps.{unread_raised}
 use Rattle.found_rule.proofs.Quiet.{Done, SameHand}
-use Rattle.board_lemmas.proofs.Bits.{pow_same}
 use Rattle.board_lemmas.proofs.Hints.{Hint, sets, clears, hint_is}
 use Rattle.board_lemmas.proofs.ListCounts.{times_by-cons_here, times_by-cons_other}
 use Rattle.board_lemmas.proofs.HandLists.{times-without}

@@ -21,7 +21,7 @@ use Rattle.board_lemmas.proofs.KindForms.{fields_down, fields_unlocked}
 use Rattle.found_rule.proofs.Learning.{Act, act}
 use Rattle.found_rule.proofs.Words.{Words}
 use Rattle.found_rule.proofs.KnownFacts.{RefRight, TypedRight, LockRight}
-use Rattle.found_rule.proofs.Counted.{not_in_work, typed_ref_counted, lock_counted, lock_locked}
+use Rattle.found_rule.proofs.Counted.{typed_ref_counted, lock_counted}
 use Rattle.found_rule.proofs.HandFacts.{ReachKept}
 use Rattle.found_rule.proofs.MyHand.{refs_old, typed_old, lock_right_old, locks_old}
 use Rattle.found_rule.proofs.KindLaw.{KindRest, kind_done, kind_grown, kind_works_stay, kind_works_formed, kind_locks_formed, new_found, new_formed, typed_owner_right, lock_owner_right}
@@ -30,6 +30,7 @@ use Rattle.found_rule.proofs.Quiet.{Done}
 use Rattle.board_lemmas.proofs.HeldByForm.{live_idle}
 use Rattle.board_lemmas.proofs.KindReadings.{live_count}
 use Rattle.board_lemmas.proofs.HandLists.{EachOf-more, EachOf-without}
+use Rattle.board_lemmas.proofs.Works.{is_locked-mine, nobody_works}
 
 works_if : (P : Work → Type 0) (t : Bool) (e : Work) (es : List Work) → P e → EachOf P es → EachOf P (if t then (e ∷ es) else es)
 works_if P true e es one h = EachOf-more P e es one h
@@ -61,7 +62,7 @@ module _ (n : Machine) (s : ℕ) (x : Step) (m m2 : Place → ℕ) (b c : ℕ �
         EachOf (IsLockFormed n (c s)) u.locks → Done n s m m2 b c
     unfolding words free recorded
     down_done rest works looking refs typed lock_right locks locks_formed =
-        let none : works_on f (b s).works ≡ 0 = not_in_work n m b sound s f l free in
+        let none : works_on f (b s).works ≡ 0 = nobody_works n m b sound.alone f free s l in
         let new = new_work f (m2 (Kind f)) recorded None (b s) in
         kind_done n s m m2 b c l sound others f u acted words rest
         (λ reach. record {
@@ -110,7 +111,7 @@ module _ (n : Machine) (s : ℕ) (x : Step) (m m2 : Place → ℕ) (b c : ℕ �
       let p = Kind f in
       let u = unlocked f (m p) (m2 p) (b s) in
       let acted = act n s x p m m2 (b s) u (c s) w.place w.real w.left w.others refl refl refl refl d.hand in
-      let both = and_parts (kind_at m f).validated (kind_at m f).locked (lock_locked n m b sound s f l d.may) in
+      let both = and_parts (kind_at m f).validated (kind_at m f).locked (is_locked-mine n m b sound.alone f s l d.may) in
       let live = both.0 in
       let some : 0 < (kind_at m f).number = (let a = lock_counted n m b sound s f l d.may in let e = live_count (kind_at m f) live in omega arith) in
       let left = ap kind_fields d.is ∙ fields_unlocked (m p) (sound.spelled.small p) some both.1 in

@@ -25,7 +25,7 @@ use Rattle.found_rule.proofs.Growth.{Grown, added}
 use Rattle.found_rule.proofs.Learning.{CellsLearned, cells_off, cells_at, Act}
 use Rattle.found_rule.proofs.Words.{Words}
 use Rattle.found_rule.proofs.KnownFacts.{OwnerRight, RefRight, TypedRight, LockRight}
-use Rattle.found_rule.proofs.KnownStays.{none_since, none_last, owner_new}
+use Rattle.found_rule.proofs.KnownStays.{owner_new}
 use Rattle.found_rule.proofs.HandFacts.{ReachKept}
 use Rattle.found_rule.proofs.MyHand.{works_old, endings_old, claims_old}
 use Rattle.found_rule.proofs.Outcome.{outcome_by}
@@ -33,6 +33,7 @@ use Rattle.found_rule.proofs.FormedLaw.{works_formed_old, locks_formed_old, endi
 use Rattle.found_rule.proofs.Quiet.{Done, fix_kept, zero_kept, formed_with}
 use Rattle.board_lemmas.proofs.HandLists.{EachOf-map, EachOf-first, first-key}
 use Rattle.board_lemmas.proofs.ListCounts.{EachOf-there}
+use Rattle.board_lemmas.proofs.MoreSteps.{none_last, none_since}
 
 -- ---- what is known of the owner by the newest reference
 module _ (z : Sizes) (m m2 : Place → ℕ) (xs ys : List Made) (g : Grown z m m2 xs ys) (f : ℕ) (h : Holdings) (long : length xs ≤ length h.steps) where
@@ -162,7 +163,7 @@ module _ (n : Machine) (s : ℕ) (m m2 : Place → ℕ) (b c : ℕ → Holdings)
           word = refl;
           cells = λ t i w k. absurd (none_last (sizes_of n) (length h.steps + 1) (Cell f i) w (c s).steps (omega arith) k);
           fixed = λ i k. absurd (omega arith);
-          passed = λ v o p marked r was other found past. absurd (none_since (sizes_of n) (length h.steps + 1) (Priv (domain_of n v)) (λ w. not (has_ever o w)) (c s).steps (omega arith) found);
+          passed = λ v o p marked r was other found past. absurd (let none = none_since (sizes_of n) (length h.steps + 1) (Priv (domain_of n v)) (λ w. not (has_ever o w)) (c s).steps (omega arith) in cc);
         }
 
     -- its kind word was left by this step

@@ -24,8 +24,7 @@ use Rattle.found_rule.proofs.Learning.{Act, act}
 use Rattle.found_rule.proofs.Words.{Words}
 use Rattle.found_rule.proofs.WordsAt.{words_kind}
 use Rattle.found_rule.proofs.KnownFacts.{OwnerRight, IsLiveAs, RefRight, TypedRight, LockRight, type_by}
-use Rattle.found_rule.proofs.KnownStays.{none_last, owner_new, live_new, partial_new, live_found, partial_found}
-use Rattle.found_rule.proofs.Counted.{not_in_work}
+use Rattle.found_rule.proofs.KnownStays.{owner_new, live_new, partial_new, live_found, partial_found}
 use Rattle.found_rule.proofs.HandFacts.{ReachKept}
 use Rattle.found_rule.proofs.MyHand.{refs_old, typed_old, lock_right_old, locks_old}
 use Rattle.found_rule.proofs.KindLaw.{KindRest, kind_done, kind_grown, kind_works_stay, kind_works_formed, kind_locks_formed, ref_owner_right}
@@ -33,6 +32,8 @@ use Rattle.found_rule.proofs.Quiet.{Done}
 use Rattle.board_lemmas.proofs.HeldByForm.{live_idle}
 use Rattle.board_lemmas.proofs.KindReadings.{stamp_live}
 use Rattle.board_lemmas.proofs.HandLists.{EachOf-more, EachOf-without, EachOf-kept}
+use Rattle.board_lemmas.proofs.Works.{nobody_works}
+use Rattle.board_lemmas.proofs.MoreSteps.{none_last}
 
 module _ (n : Machine) (s : ℕ) (x : Step) (m m2 : Place → ℕ) (b c : ℕ → Holdings) (l : s < (sizes_of n).vcpus) (sound : Sound n m b) (others : (t : ℕ) → t ≢ s → c t ≡ b t) (f : ℕ) where
   -- the hand once the exchange has told that the seat looks no more
@@ -43,7 +44,7 @@ module _ (n : Machine) (s : ℕ) (x : Step) (m m2 : Place → ℕ) (b c : ℕ �
   -- the frame has no type count, or is live before and after with the same type
   pub free_words : ((q : Place) → q ≢ Kind f → m2 q ≡ m q) → is_busy (kind_at m f) ≡ false → (0 < type_count (kind_at m f) → IsTrue (is_live (kind_at m f)) → IsTrue (is_live (kind_at m2 f))) →
       (0 < type_count (kind_at m f) → (kind_at m2 f).kind ≡ (kind_at m f).kind) → kind_stamp (m2 (Kind f)) ≤ m Clock → Words n s m m2 b
-  free_words o free live kind stamp = words_kind n s m m2 b sound f o live kind stamp (λ t k d some. let q = not_in_work n m b sound t f k free in omega arith)
+  free_words o free live kind stamp = words_kind n s m m2 b sound f o live kind stamp (λ t k d some. let q = nobody_works n m b sound.alone f free t k in omega arith)
 
   -- live before and after
   pub live_words : ((q : Place) → q ≢ Kind f → m2 q ≡ m q) → (k w : KindWord) → kind_at m f ≡ k → kind_at m2 f ≡ w → k.validated ≡ true → 0 < k.number → w.validated ≡ true → w.kind ≡ k.kind → Words n s m m2 b
@@ -53,7 +54,7 @@ module _ (n : Machine) (s : ℕ) (x : Step) (m m2 : Place → ℕ) (b c : ℕ �
 
   module _ (u : Holdings) (acted : Act n s (Kind f) m m2 (b s) u (c s)) (words : Words n s m m2 b) (free : is_busy (kind_at m f) ≡ false) where
     pub none : works_on f (b s).works ≡ 0
-    none = not_in_work n m b sound s f l free
+    none = nobody_works n m b sound.alone f free s l
 
     pub looked : u.looking ≡ still_looking f (m2 (Kind f)) (b s).looking → EachOf (IsLookingFormed n s) u.looking
     looked e = rw e (EachOf-kept (IsLookingFormed n s) (λ y. not (y.frame == f) || (y.word == m2 (Kind f))) (b s).looking (sound.formed s l).looking)

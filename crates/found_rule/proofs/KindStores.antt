@@ -1,5 +1,5 @@
 -- A store by the seat that has the frame in work or closing, by the form that it leaves.
-use Rattle.std.proofs.Common.{◌≡◌, ◌≢◌, ℕ, ◌<◌, ◌≤◌, ◌==◌, ◌&&◌, not, if◌then◌else◌, Bool, true, false, Some, IsTrue, refl, sym, ap, subst, ◌∙◌, ◌⊎◌, inl, inr, arith}
+use Rattle.std.proofs.Common.{◌≡◌, ◌≢◌, ℕ, ◌<◌, ◌≤◌, ◌==◌, Some, IsTrue, refl, sym, ap, subst, ◌∙◌, ◌⊎◌, inl, inr, arith}
 use Rattle.std.proofs.lemmas.Bool.{and_parts, eqb-true}
 use Rattle.xp_words.specs.KindWords.{kind_fields}
 use Rattle.xp_words.specs.Machine.{Machine}
@@ -10,7 +10,6 @@ use Rattle.xp_board.specs.declared.holdings.Holdings.{Holdings}
 use Rattle.xp_board.specs.Lists.{EachOf}
 use Rattle.xp_board.specs.Readings.{kind_at, is_work, is_closing, type_count, kind_stamp}
 use Rattle.xp_board.specs.Hands.{works_on, work_on, without_work, ref_owner, typed_owner}
-use Rattle.xp_board.specs.KindSteps.{Form, Live, Partial, InWork, Dead}
 use Rattle.xp_board.specs.Found.{WorkFound, LockFound}
 use Rattle.xp_board.specs.WellFormed.{IsWorkFormed, IsLockFormed, IsLookingFormed}
 use Rattle.xp_board.specs.Sound.{Sound}
@@ -18,7 +17,6 @@ use Rattle.found_rule.proofs.Learning.{Act}
 use Rattle.found_rule.proofs.Words.{Words}
 use Rattle.found_rule.proofs.WordsAt.{words_kind}
 use Rattle.found_rule.proofs.KnownFacts.{OwnerRight, RefRight, TypedRight, LockRight}
-use Rattle.found_rule.proofs.Counted.{work_busy, work_elsewhere, one_work}
 use Rattle.found_rule.proofs.HandFacts.{ReachKept}
 use Rattle.found_rule.proofs.MyHand.{refs_old, typed_old, lock_right_old, locks_old}
 use Rattle.found_rule.proofs.KindLaw.{KindRest, kind_done, kind_grown, kind_works_found, kind_others, kind_works_formed, kind_locks_formed, ref_owner_right, typed_owner_right}
@@ -26,6 +24,7 @@ use Rattle.found_rule.proofs.Quiet.{Done}
 use Rattle.board_lemmas.proofs.KindReadings.{stamp_of, work_unlive, busy_cases}
 use Rattle.board_lemmas.proofs.HandLists.{EachOf-without, EachOf-first, first-key, first-some}
 use Rattle.board_lemmas.proofs.ListCounts.{EachOf-others}
+use Rattle.board_lemmas.proofs.Works.{is_busy-mine, one_works, only_mine}
 
 -- ---- forms
 
@@ -45,7 +44,7 @@ module _ (n : Machine) (s : ℕ) (x : Step) (m m2 : Place → ℕ) (b c : ℕ �
   was = ap (λ g. kind_at m g) (sym frame) ∙ ap kind_fields was_found.word
 
   busy : (IsTrue (is_work (kind_at m f)) × (type_count (kind_at m f) ≡ 1)) ⊎ (IsTrue (is_closing (kind_at m f)) × (type_count (kind_at m f) ≡ 0))
-  busy = busy_cases (kind_at m f) (work_busy n m b sound s f l some)
+  busy = busy_cases (kind_at m f) (is_busy-mine n m b sound.alone f s l some)
 
   pub number : (kind_fields e.word).number ≤ m Clock
   number =
@@ -68,13 +67,13 @@ module _ (n : Machine) (s : ℕ) (x : Step) (m m2 : Place → ℕ) (b c : ℕ �
         | inl work ↦ (let v = work_unlive (kind_at m f) work.0 in cc)
         | inr closing ↦ (let q = closing.1 in omega arith)
       ]))
-      (λ count. kind ∙ sym (ap (λ y. y.kind) was)) stamp (λ t k d have. let q = work_elsewhere n m b sound s t f l k d some in omega arith)
+      (λ count. kind ∙ sym (ap (λ y. y.kind) was)) stamp (λ t k d have. let q = only_mine n m b sound.alone f s t l k d some in omega arith)
 
   module _ (u : Holdings) (acted : Act n s (Kind f) m m2 (b s) u (c s)) (words : Words n s m m2 b) where
     -- the frame goes out of the works
     works_left : ReachKept n m m2 b c → EachOf (WorkFound n m2 c (c s)) (without_work f (b s).works)
     works_left reach =
-        EachOf-others (λ y. m2 (Kind y.frame) ≡ m (Kind y.frame) → WorkFound n m2 c (c s) y) (WorkFound n m2 c (c s)) (λ y. y.frame) f (b s).works (one_work n m b sound s f l)
+        EachOf-others (λ y. m2 (Kind y.frame) ≡ m (Kind y.frame) → WorkFound n m2 c (c s) y) (WorkFound n m2 c (c s)) (λ y. y.frame) f (b s).works (one_works n m b sound.alone f s l)
         (λ y off h. h (kind_others n s m m2 b c l sound others f u acted words y off)) (kind_works_found n s m m2 b c l sound others f u acted words reach)
 
     pub refs_are : ReachKept n m m2 b c → EachOf (RefRight (sizes_of n) m2 (c s).steps) (b s).refs

@@ -13,9 +13,9 @@ use Rattle.xp_board.specs.Hands.{changed_work, changed_lock, changed_claim}
 use Rattle.xp_board.specs.After.{noted, learned, learned_own, learned_work, learned_lock, learned_claim}
 use Rattle.xp_board.specs.Runs.{place_of}
 use Rattle.found_rule.proofs.Growth.{Added}
-use Rattle.found_rule.proofs.MoreSteps.{last_since-here, last_since-elsewhere}
 use Rattle.xp_board.specs.Steps.{last_since}
 use Rattle.board_lemmas.proofs.HandLists.{EachOf-kept}
+use Rattle.board_lemmas.proofs.MoreSteps.{last_since-here, last_since-elsewhere}
 
 -- of a cell
 pub data CellsLearned (p : Place) (left : ℕ) (u w : Holdings) : Type 0 where

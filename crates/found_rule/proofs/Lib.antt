@@ -1,4 +1,3 @@
-pub mod MoreSteps
 pub mod Growth
 pub mod Learning
 pub mod Words
@@ -19,7 +18,6 @@ pub mod FormedLaw
 pub mod Quiet
 pub mod QuietSteps
 pub mod WordSteps
-pub mod RefChanges
 pub mod RefSteps
 pub mod MarkLaw
 pub mod FreeSteps

@@ -17,7 +17,6 @@ use Rattle.xp_board.specs.Valid.{is_live_context}
 use Rattle.xp_board.specs.ContextSteps.{MayName, MayEmpty, context_type, named_in, named_out}
 use Rattle.xp_board.specs.Sound.{Sound}
 use Rattle.step_effects.proofs.ActEffects.{Named, Based}
-use Rattle.found_rule.proofs.MoreSteps.{EachSince-some}
 use Rattle.found_rule.proofs.Growth.{Grown, added}
 use Rattle.found_rule.proofs.Learning.{act}
 use Rattle.found_rule.proofs.Words.{Words}
@@ -33,6 +32,7 @@ use Rattle.found_rule.proofs.QuietSteps.{if_same}
 use Rattle.xp_board.specs.After.{noted}
 use Rattle.found_rule.proofs.RestLaw.{rest_done}
 use Rattle.board_lemmas.proofs.HandLists.{EachOf-more, EachOf-without}
+use Rattle.board_lemmas.proofs.MoreSteps.{EachSince-some}
 
 moved_named_out : (w : ℕ) (a : Holdings) → RefsMoved a (named_out w a)
 moved_named_out zero a = same_rest a a refl

@@ -22,12 +22,12 @@ use Rattle.found_rule.proofs.ReachSame.{reach_same}
 use Rattle.found_rule.proofs.KnownFacts.{RefRight, TypedRight, IsLiveAs, LiveRight, PartialRight}
 use Rattle.found_rule.proofs.KnownStays.{owner_new, live_new, partial_new, live_found, partial_found}
 use Rattle.found_rule.proofs.ShedFacts.{shed_live}
-use Rattle.found_rule.proofs.Counted.{one_work}
 use Rattle.found_rule.proofs.HandFacts.{ReachKept}
 use Rattle.found_rule.proofs.Demands.{RefsMoved, moved_out, moved_in, refs_out, typed_out, refs_in, typed_in}
 use Rattle.found_rule.proofs.MarkLaw.{MarkKept, marked_found, marked_formed}
 use Rattle.found_rule.proofs.MarkSteps.{works_marked, known_was}
 use Rattle.board_lemmas.proofs.ListChanges.{EachOf-changes, EachOf-changed_first}
+use Rattle.board_lemmas.proofs.Works.{one_works}
 
 seen_there : (z : Sizes) (k f : ℕ) (steps : List Made) (o : Option Seen) (i w : ℕ) → SeenIs z k f steps o → o ≡ Some (record { index = i; word = w }) → last_since z k (Cell f i) steps ≡ Some (seen_word o)
 seen_there z k f steps (Some s) i w h e =
@@ -93,7 +93,7 @@ module _ (n : Machine) (s : ℕ) (m : Place → ℕ) (h b : ℕ → Holdings) (l
       let k = sound.formed s l in
       marked_formed n s m h b l sound others kept
       (subst (λ xs. EachOf (IsWorkFormed n (h s)) xs) (sym works_are)
-      (EachOf-changed_first (IsWorkFormed n (h s)) (IsWorkFormed n (h s)) (λ y. y.frame) f change e (h s).works (one_work n m h sound s f l) here changes (λ y off w. w) k.works))
+      (EachOf-changed_first (IsWorkFormed n (h s)) (IsWorkFormed n (h s)) (λ y. y.frame) f change e (h s).works (one_works n m h sound.alone f s l) here changes (λ y off w. w) k.works))
       (record { few = rw (moved.cache ∙ ap (λ u. u.cache) is) k.cache.few; walk = λ y q. k.cache.walk y (sym (moved.walk ∙ ap (λ u. u.walk) is) ∙ q) })
       (let q = k.turn in let r : (b s).turn ≡ (h s).turn = moved.turn ∙ ap (λ u. u.turn) is in omega arith)
 

@@ -14,13 +14,13 @@ use Rattle.xp_board.specs.Sound.{Sound}
 use Rattle.step_effects.proofs.ActEffects.{Ran}
 use Rattle.found_rule.proofs.Learning.{Act, act}
 use Rattle.found_rule.proofs.Words.{Words}
-use Rattle.found_rule.proofs.WordFacts.{EachSince-none}
 use Rattle.found_rule.proofs.WordsOf.{words_lone, lone_vcpu}
 use Rattle.found_rule.proofs.MyHand.{mine_by}
 use Rattle.found_rule.proofs.FormedLaw.{formed_by, ending_formed_old, claimed_formed_old}
 use Rattle.found_rule.proofs.Quiet.{Done, works_form, locks_form}
 use Rattle.found_rule.proofs.FlushSteps.{if_mine, less_reach, vcpu_hand, other_off, other_cold}
 use Rattle.board_lemmas.proofs.HandLists.{EachOf-all}
+use Rattle.board_lemmas.proofs.MoreSteps.{EachSince-none}
 
 module _ (n : Machine) (s : ℕ) (x : Step) (m m2 : Place → ℕ) (b c : ℕ → Holdings) (l : s < (sizes_of n).vcpus) (sound : Sound n m b) (others : (t : ℕ) → t ≢ s → c t ≡ b t) where
   -- ---- stopped, off, or on a processor

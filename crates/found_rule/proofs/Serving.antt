@@ -1,36 +1,29 @@
 -- Frames that serve a use: live with its type, and counted. What a vCPU comes to after a step that changes no word but a cell
 -- it came to before, or it serves, or can only be read.
-use Rattle.std.proofs.Common.{◌≡◌, ◌≢◌, ℕ, zero, suc, ◌-◌, ◌<◌, ◌≤◌, ◌==◌, ◌⊎◌, if◌then◌else◌, Bool, true, false, nat_lt, List, [], ◌∷◌, None, IsTrue, refl, sym, ap, subst, ◌∙◌, inl, inr, arith}
-use Rattle.std.proofs.lemmas.Bool.{cases_eq}
+use Rattle.std.proofs.Common.{◌≡◌, ◌≢◌, ℕ, ◌-◌, ◌<◌, ◌≤◌, ◌==◌, ◌⊎◌, if◌then◌else◌, Bool, true, false, IsTrue, refl, sym, ap, subst, ◌∙◌, inl, inr, arith}
 use Rattle.std.proofs.lemmas.Bool.Decides.{nat_tests}
 use Rattle.xp_words.specs.declared.kind.PageType.{PageType}
-use Rattle.xp_words.specs.declared.kind.KindWord.{KindWord}
 use Rattle.xp_words.specs.declared.entry.Demand.{Demand}
 use Rattle.xp_words.specs.declared.entry.Demand.TheVariants.{Nothing, Bad, Read, Typed}
-use Rattle.xp_words.specs.PageTypes.{type_number, is_table}
+use Rattle.xp_words.specs.PageTypes.{type_number}
 use Rattle.xp_words.specs.Entries.{is_bit, frame_of, demand_at}
-use Rattle.xp_words.specs.KindWords.{kind_fields}
 use Rattle.xp_words.specs.Machine.{Machine}
-use Rattle.xp_words.specs.Places.{Sizes, sizes_of, is_place, Place, Kind, Cell}
+use Rattle.xp_words.specs.Places.{sizes_of, Place, Cell}
 use Rattle.xp_board.specs.declared.step.Item.{Item}
 use Rattle.xp_board.specs.declared.holdings.Reached.{Reached}
-use Rattle.xp_board.specs.declared.holdings.Work.{Work}
 use Rattle.xp_board.specs.declared.holdings.Holdings.{Holdings}
-use Rattle.xp_board.specs.Lists.{one_at, times_by, first_by, Member}
+use Rattle.xp_board.specs.Lists.{Member}
 use Rattle.xp_board.specs.FillSteps.{is_walked}
-use Rattle.xp_board.specs.Readings.{kind_at, is_partial}
-use Rattle.xp_board.specs.Hands.{work_on}
-use Rattle.xp_board.specs.Recorded.{recorded_in, work_of, held, held_of, entry_demand, table_entries, entries, names_typed}
-use Rattle.xp_board.specs.Valid.{LeadsWell}
+use Rattle.xp_board.specs.Readings.{kind_at}
+use Rattle.xp_board.specs.Recorded.{held, entry_demand}
 use Rattle.xp_board.specs.Reach.{Use, Table, Writes, Reads, use_of, use_below, reached_by, Reach, entry}
 use Rattle.xp_board.specs.Fresh.{Matches}
 use Rattle.xp_board.specs.Sound.{Sound, is_busy}
-use Rattle.found_rule.proofs.Counted.{sum_below-part, not_in_work}
 use Rattle.board_lemmas.proofs.EntryAsks.{asks_table, asks_leaf, LeafAsks, walked_inside}
 use Rattle.board_lemmas.proofs.ReachAll.{Reach-all, IsLevel}
 use Rattle.board_lemmas.proofs.CellAlike.{CellAlike, use_alike, not_reads}
 use Rattle.board_lemmas.proofs.HeldByForm.{live_idle}
-use Rattle.board_lemmas.proofs.KindReadings.{live_count}
+use Rattle.board_lemmas.proofs.LiveTables.{leads_live, named_counted, live_inside, table_held}
 
 pub record Serves (m : Place → ℕ) (g : ℕ) (u : Use) : Type 0 where
   pub level : IsLevel u
@@ -77,84 +70,21 @@ module _ (m : Place → ℕ) (kind : PageType) where
   target_serves level i w inside is walked present well = target_by level i w (level == 1) refl inside.0 inside.1 is walked present well
 
 -- ---- recorded entries
-entry_counted : (c : Demand → ℕ) (z : Sizes) (m : Place → ℕ) (h : ℕ → Holdings) (f i : ℕ) → f < z.frames → i < held z m h f → c (entry_demand m f i) ≤ entries c z m h
-unfolding entries table_entries
-entry_counted c z m h f i inside recorded =
-    let table = sum_below-part z.frames (λ e. table_entries c m (work_of z.vcpus h e) e) f inside in
-    let one = sum_below-part (held z m h f) (λ j. c (entry_demand m f j)) i recorded in
-    omega arith
-
-first_by-none : {A : Type 0} (key : A → ℕ) (g : ℕ) (xs : List A) → times_by key g xs ≡ 0 → first_by key g xs ≡ None
-unfolding times_by first_by
-first_by-none key g [] e = refl
-first_by-none key g (x ∷ xs) e =
-    elim (cases_eq (key x) g) [
-      | inl at ↦ absurd (let one : one_at g (key x) ≡ 1 = grind (arith, nat_tests) in omega arith)
-      | inr off ↦ let no : (key x == g) ≡ false = grind (arith, nat_tests) in rw no (first_by-none key g xs (omega arith))
-    ]
-
-recorded_in-none : (xs : List Work) (f : ℕ) → work_on f xs ≡ None → recorded_in xs f ≡ None
-unfolding recorded_in
-recorded_in-none xs f e = rw e
-
-work_of-none : (n : ℕ) (h : ℕ → Holdings) (f : ℕ) → ((t : ℕ) → t < n → work_on f (h t).works ≡ None) → work_of n h f ≡ None
-unfolding work_of
-work_of-none zero h f e = refl
-work_of-none (suc n) h f e =
-    let here = recorded_in-none (h n).works f (e n (omega arith)) in let rest = work_of-none n h f (λ t b. e t (omega arith)) in rw (here, rest)
-
-all_held : (k : KindWord) → k.validated ≡ true → 1 ≤ type_number k.kind → type_number k.kind ≤ 4 → held_of k None ≡ 512
-unfolding held_of
-all_held k v lo hi = let t : is_table k.kind ≡ true = grind (arith, nat_tests) in rw (t, v)
-
-not_partial : (k : KindWord) → k.validated ≡ true → IsTrue (is_partial k) → ⊥
-not_partial k v p = let e : is_partial k ≡ false = rw v in cc
-
-names_it : (g : ℕ) (t : PageType) (d : Demand) → d ≡ Typed g t → names_typed g d ≡ 1
-unfolding names_typed
-names_it g t d e = rw e (grind (arith, nat_tests))
-
-zero_dead : (kind_fields 0).validated ≡ false
-unfolding kind_fields
-zero_dead = refl
 
 module _ (n : Machine) (m : Place → ℕ) (h : ℕ → Holdings) (sound : Sound n m h) where
-  no_work : (f s : ℕ) → (kind_at m f).validated ≡ true → 0 < (kind_at m f).number → s < (sizes_of n).vcpus → work_on f (h s).works ≡ None
-  no_work f s v some real = first_by-none (λ e. e.frame) f (h s).works (not_in_work n m h sound s f real (live_idle (kind_at m f) v some))
-
-  -- all entries of a live and counted table are recorded
-  pub table_held : (f : ℕ) → (kind_at m f).validated ≡ true → 0 < (kind_at m f).number → 1 ≤ type_number (kind_at m f).kind → type_number (kind_at m f).kind ≤ 4 → held (sizes_of n) m h f ≡ 512
-  table_held f v some lo hi = let none = work_of-none (sizes_of n).vcpus h f (λ t real. no_work f t v some real) in rw none (all_held (kind_at m f) v lo hi)
-
-  leads_live : (f i g : ℕ) → (kind_at m f).validated ≡ true → 0 < (kind_at m f).number → LeadsWell (sizes_of n) m h f i g → (kind_at m g).validated ≡ true
-  leads_live f i g v some (inl live) = live
-  leads_live f i g v some (inr (early, inl last)) = absurd (not_partial (kind_at m f) v last.partial)
-  leads_live f i g v some (inr (early, inr open_entry)) = absurd (let none = no_work f open_entry.seat v some open_entry.real in let have = open_entry.here in cc)
-
-  inside_by : (f : ℕ) (b : Bool) → is_place (sizes_of n) (Kind f) ≡ b → (kind_at m f).validated ≡ true → is_place (sizes_of n) (Kind f) ≡ true
-  inside_by f true e live = e
-  inside_by f false e live = absurd (let z = sound.spelled.outside (Kind f) e in let d : (kind_at m f).validated ≡ false = ap (λ w. (kind_fields w).validated) z ∙ zero_dead in cc)
-
-  pub live_inside : (f : ℕ) → (kind_at m f).validated ≡ true → f < (sizes_of n).frames
-  unfolding is_place
-  live_inside f live = let p : nat_lt f n.frames ≡ true = inside_by f _ refl live in grind (arith, nat_tests)
 
   asks_by : (f i : ℕ) (q : Demand) → i < held (sizes_of n) m h f → (kind_at m f).validated ≡ true → 0 < (kind_at m f).number → entry_demand m f i ≡ q → AsksLive m q
   asks_by f i Nothing recorded live some asks = tt
   asks_by f i Bad recorded live some asks = absurd (sound.valid.allowed f i recorded asks)
   asks_by f i (Read g) recorded live some asks = tt
   asks_by f i (Typed g t) recorded live some asks =
-      let alive = leads_live f i g live some (sound.valid.live f i g t recorded asks) in
-      let count = sound.counts.types g in
-      let number = live_count (kind_at m g) alive in
-      let one = entry_counted (names_typed g) (sizes_of n) m h f i (live_inside f live) recorded in
-      let it = names_it g t (entry_demand m f i) asks in
-      (alive, omega arith, sound.counts.kinds.entries f i g t recorded asks)
+      let alive = leads_live n m h sound f i g live some (sound.valid.live f i g t recorded asks) in
+      (alive, named_counted n m h sound f i g t (live_inside n m h sound f live) recorded asks alive, sound.counts.kinds.entries f i g t recorded asks)
 
   -- an entry of a live and counted table asks what is there
   pub recorded_asks : (f i : ℕ) → i < 512 → (kind_at m f).validated ≡ true → 0 < (kind_at m f).number → 1 ≤ type_number (kind_at m f).kind → type_number (kind_at m f).kind ≤ 4 →
       AsksLive m (entry_demand m f i)
-  recorded_asks f i inside live some lo hi = let all = table_held f live some lo hi in asks_by f i (entry_demand m f i) (omega arith) live some refl
+  recorded_asks f i inside live some lo hi = let all = table_held n m h sound f live some lo hi in asks_by f i (entry_demand m f i) (omega arith) live some refl
 
   pub entry_serves : (level f i : ℕ) → Serves m f (Table level) → IsTrue (is_walked level i) → is_bit 0 (m (Cell f i)) ≡ true → Serves m (frame_of (m (Cell f i))) (use_below level (m (Cell f i)))
   entry_serves level f i serves walked present =

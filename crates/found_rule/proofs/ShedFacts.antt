@@ -16,13 +16,13 @@ use Rattle.xp_board.specs.declared.holdings.Work.{Work}
 use Rattle.xp_board.specs.declared.holdings.Holdings.{Holdings}
 use Rattle.xp_board.specs.Steps.{last_since}
 use Rattle.xp_board.specs.Hands.{work_on}
-use Rattle.xp_board.specs.Readings.{kind_at, is_partial, is_type}
+use Rattle.xp_board.specs.Readings.{kind_at, is_type}
 use Rattle.xp_board.specs.Marks.{MayShed, demand_seen, seen_word}
 use Rattle.xp_board.specs.Found.{is_known_inside, is_same_cell, is_same_entry}
 use Rattle.xp_board.specs.Recorded.{held, held_of, entry_demand, recorded_in, recorded_number}
 use Rattle.xp_board.specs.Valid.{IsUnsettled}
 use Rattle.xp_board.specs.WellFormed.{SeenIs}
-use Rattle.xp_board.specs.Sound.{Sound, is_busy}
+use Rattle.xp_board.specs.Sound.{Sound}
 use Rattle.board_lemmas.proofs.EntryWords.{entry_asks_same}
 use Rattle.board_lemmas.proofs.HandLists.{first-some}
 use Rattle.board_lemmas.proofs.WorkFacts.{Works, works_facts}

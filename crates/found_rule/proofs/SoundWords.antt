@@ -11,8 +11,10 @@ use Rattle.xp_board.specs.Hands.{works_on}
 use Rattle.xp_board.specs.Spelling.{IsSpelling}
 use Rattle.xp_board.specs.Found.{WorkFound}
 use Rattle.xp_board.specs.Sound.{Stamped, Sound, WorkAgrees}
-use Rattle.found_rule.proofs.Counted.{types_within, ref_counted, work_busy}
+use Rattle.found_rule.proofs.Counted.{ref_counted}
 use Rattle.board_lemmas.proofs.KindReadings.{busy_cases}
+use Rattle.board_lemmas.proofs.Counted.{type_below}
+use Rattle.board_lemmas.proofs.Works.{is_busy-mine}
 
 told_if : (m : Place → ℕ) (v k : ℕ) (t : Bool) → (k == 5) ≡ t → m (flushed_of v) ≤ m Clock → (if t then m (Vcpu v k) else 0) ≤ m Clock
 told_if m v k true e h = let q = eqb-true k 5 e in subst (λ j. m (Vcpu v j) ≤ m Clock) (sym q) h
@@ -38,7 +40,7 @@ had n m d k o l t = k.1 o l t
 pub work_counted : (n : Machine) (m : Place → ℕ) (h : ℕ → Holdings) → Sound n m h → (t : ℕ) → t < (sizes_of n).vcpus → (e : Work) → 0 < works_on e.frame (h t).works →
     WorkFound n m h (h t) e → WorkAgrees (h t) e → 0 < ref_count (m (Refs e.frame))
 work_counted n m h sound t l e there found agrees =
-    elim (busy_cases (kind_at m e.frame) (work_busy n m h sound t e.frame l there)) [
-      | inl work ↦ (let a = types_within n m h sound e.frame in let b = work.1 in omega arith)
+    elim (busy_cases (kind_at m e.frame) (is_busy-mine n m h sound.alone e.frame t l there)) [
+      | inl work ↦ (let a = type_below (sizes_of n) m h e.frame sound.counts in let b = work.1 in omega arith)
       | inr closing ↦ ref_counted n m h sound t e.frame l (agrees.closing (subst (λ w. IsTrue (is_closing (kind_fields w))) found.word closing.0))
     ]

@@ -26,8 +26,7 @@ use Rattle.board_lemmas.proofs.KindForms.{partial_form}
 use Rattle.found_rule.proofs.Learning.{act}
 use Rattle.found_rule.proofs.Words.{Words}
 use Rattle.found_rule.proofs.KnownFacts.{RefRight, TypedRight}
-use Rattle.found_rule.proofs.KnownStays.{none_last, live_new, partial_new}
-use Rattle.found_rule.proofs.Counted.{one_work}
+use Rattle.found_rule.proofs.KnownStays.{live_new, partial_new}
 use Rattle.found_rule.proofs.Demands.{RefsMoved, same_rest}
 use Rattle.found_rule.proofs.MyHand.{lock_right_old, locks_old}
 use Rattle.found_rule.proofs.FormedWorks.{seen_none, last_none}
@@ -39,6 +38,8 @@ use Rattle.board_lemmas.proofs.FormsLeft.{is_partial_left, is_work_left}
 use Rattle.board_lemmas.proofs.ListCounts.{EachOf-both}
 use Rattle.board_lemmas.proofs.HandLists.{EachOf-more, EachOf-without}
 use Rattle.board_lemmas.proofs.ListChanges.{EachOf-changed_first}
+use Rattle.board_lemmas.proofs.Works.{one_works}
+use Rattle.board_lemmas.proofs.MoreSteps.{none_last}
 
 -- ---- from closing an untyped reference becomes the type count
 moved_if : (t : Bool) (a u : Holdings) → RefsMoved a u → RefsMoved a (if t then u else a)
@@ -201,13 +202,13 @@ module _ (n : Machine) (s : ℕ) (x : Step) (m m2 : Place → ℕ) (b c : ℕ �
           refs = refs_are n s x m m2 b c l sound others f d.e d.here u acted words reach;
           typed = typed_are n s x m m2 b c l sound others f d.e d.here u acted words reach;
           lock_right = lock_right_old n s (Kind f) m m2 b c u acted l sound words reach;
-          works = EachOf-changed_first (λ y. m2 (Kind y.frame) ≡ m (Kind y.frame) → WorkFound n m2 c (c s) y) (WorkFound n m2 c (c s)) (λ y. y.frame) f change d.e h.works (one_work n m b sound s f l)
+          works = EachOf-changed_first (λ y. m2 (Kind y.frame) ≡ m (Kind y.frame) → WorkFound n m2 c (c s) y) (WorkFound n m2 c (c s)) (λ y. y.frame) f change d.e h.works (one_works n m b sound.alone f s l)
               d.here (λ q. change_found long (λ i. acted.others (Cell d.e.frame i) (λ y. cc))) (λ y off q. q (kind_others n s m m2 b c l sound others f u acted words y off))
               (kind_works_found n s m m2 b c l sound others f u acted words reach);
           locks = locks_old n s (Kind f) m m2 b c u acted l sound words reach;
         })
         (EachOf-changed_first (λ y. IsWorkFormed n (c s) y × (IsWorkFormed n h y × ((kind_fields y.word).unflushed ≡ true → y.recorded ≡ 0))) (IsWorkFormed n (c s)) (λ y. y.frame) f change d.e h.works
-        (one_work n m b sound s f l) d.here (λ q. change_formed long (q.1).1 (q.1).0) (λ y off q. q.0)
+        (one_works n m b sound.alone f s l) d.here (λ q. change_formed long (q.1).1 (q.1).0) (λ y off q. q.0)
         (EachOf-both (IsWorkFormed n (c s)) (λ y. IsWorkFormed n h y × ((kind_fields y.word).unflushed ≡ true → y.recorded ≡ 0)) h.works (kind_works_formed n s m m2 b c l sound others f u acted words)
         (EachOf-both (IsWorkFormed n h) (λ y. (kind_fields y.word).unflushed ≡ true → y.recorded ≡ 0) h.works (sound.formed s l).works (marked n s (Kind f) m m2 b c u acted l sound))))
         (kind_locks_formed n s m m2 b c l sound others f u acted words) (sound.formed s l).looking

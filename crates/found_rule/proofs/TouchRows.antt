@@ -23,13 +23,14 @@ use Rattle.board_lemmas.proofs.PlaceTests.{equal_refl}
 use Rattle.found_rule.proofs.Learning.{act}
 use Rattle.found_rule.proofs.WordsOf.{CellSpared, words_cell}
 use Rattle.found_rule.proofs.Serving.{alike_passes}
-use Rattle.found_rule.proofs.CellReach.{cell_passes, unmarked_matches, reach_level}
+use Rattle.found_rule.proofs.CellReach.{cell_passes}
 use Rattle.found_rule.proofs.CellFacts.{FixedWorks, zero_none}
 use Rattle.found_rule.proofs.GuestSteps.{no_fixed, spared_fixed, my_fixed}
 use Rattle.found_rule.proofs.WalkSteps.{WalkHand, descends}
 use Rattle.found_rule.proofs.WalkRows.{walk_done}
 use Rattle.found_rule.proofs.Quiet.{Done}
 use Rattle.board_lemmas.proofs.CellAlike.{CellAlike, not_reads, touched_alike}
+use Rattle.board_lemmas.proofs.ReachAll.{unmarked_matches, reach_level}
 
 -- ---- the entry is the same but for these bits
 with_5 : (w : ℕ) (b : Bool) → is_bit 5 w ≡ b → without_bits (if b then w else w + 2 ^ 5) ≡ without_bits w

@@ -29,7 +29,6 @@ use Rattle.found_rule.proofs.Learning.{Act, act}
 use Rattle.found_rule.proofs.Words.{Words}
 use Rattle.found_rule.proofs.WordsAt.{words_quiet}
 use Rattle.found_rule.proofs.KnownFacts.{RefRight, TypedRight}
-use Rattle.found_rule.proofs.Counted.{sum_below-part}
 use Rattle.found_rule.proofs.Serving.{Came, PassesOn}
 use Rattle.found_rule.proofs.CellReach.{came_reach, same_passes}
 use Rattle.found_rule.proofs.MyHand.{refs_old, typed_old}
@@ -39,6 +38,7 @@ use Rattle.found_rule.proofs.FlushSteps.{if_mine}
 use Rattle.found_rule.proofs.Quiet.{Done, fix_kept, zero_kept}
 use Rattle.board_lemmas.proofs.CellAlike.{alike_same}
 use Rattle.board_lemmas.proofs.KindReadings.{live_count}
+use Rattle.board_lemmas.proofs.Sums.{sum_below-part}
 
 -- a word of a vCPU that names a frame is counted
 context_counted : (z : Sizes) (m : Place → ℕ) (v k g : ℕ) → v < z.vcpus → k < 38 → is_context k ≡ true → m (Vcpu v k) ≡ g + 1 → 1 ≤ contexts z m g

@@ -16,12 +16,7 @@ use Rattle.xp_board.specs.Sound.{Sound}
 use Rattle.found_rule.proofs.Serving.{Came}
 use Rattle.found_rule.proofs.RestLaw.{Rest}
 use Rattle.board_lemmas.proofs.CellAlike.{CellAlike, use_alike}
-
-pub member_take : {A : Type 0} (n : ℕ) (y : A) (xs : List A) → Member y (take n xs) → Member y xs
-unfolding Member
-member_take zero y xs e = absurd e
-member_take (suc n) y [] e = e
-member_take (suc n) y (x ∷ xs) e = elim e [ inl at ↦ inl at | inr rest ↦ inr (member_take n y xs rest) ]
+use Rattle.board_lemmas.proofs.HandLists.{Member-take}
 
 length_take : {A : Type 0} (n : ℕ) (xs : List A) → length (take n xs) ≤ n
 length_take zero xs = omega arith
@@ -147,7 +142,7 @@ module _ (n : Machine) (m : Place → ℕ) (b : ℕ → Holdings) (s : ℕ) (l :
     unfolding Member target level_here
     cached_walk inside lowest =
         walk_hand None (cached_with (item_of walk w) (b s).cache)
-        (λ k e. elim (member_take 64 k (item_of walk w ∷ (b s).cache) e) [
+        (λ k e. elim (Member-take 64 k (item_of walk w ∷ (b s).cache) e) [
           | inl is ↦
               subst (λ j. Came n m b s j.frame (use_of j)) is
               (item_use (frame_of w) walk.writable (is_bit 1 w) writable

@@ -1,42 +1,38 @@
 -- What a vCPU comes to after a step that changes no word but a cell: what it came to before, what serves its use,
 -- or to read what it came to to write. All of it is fresh.
-use Rattle.std.proofs.Common.{◌≡◌, ◌≢◌, ℕ, ◌+◌, ◌<◌, ◌⊎◌, inl, inr, true, List, [], ◌∷◌, refl, sym, ◌∙◌, ap, subst, arith, IsTrue}
-use Rattle.std.proofs.lemmas.Bool.Decides.{nat_tests}
+use Rattle.std.proofs.Common.{◌≡◌, ◌≢◌, ℕ, ◌+◌, ◌<◌, ◌⊎◌, inl, inr, true, List, refl, sym, ◌∙◌, ap, subst, arith, IsTrue}
 use Rattle.xp_words.specs.declared.kind.PageType.{PageType}
-use Rattle.xp_words.specs.RefWords.{bit}
 use Rattle.xp_words.specs.Entries.{is_bit, frame_of}
 use Rattle.xp_words.specs.Machine.{Machine}
 use Rattle.xp_words.specs.Places.{sizes_of, Place, Refs, Cell, flushed_of}
 use Rattle.xp_board.specs.declared.step.Item.{Item}
 use Rattle.xp_board.specs.declared.holdings.Reached.{Reached}
 use Rattle.xp_board.specs.declared.holdings.Holdings.{Holdings}
-use Rattle.xp_board.specs.Lists.{one_at, times_by, EachOf, Member}
+use Rattle.xp_board.specs.Lists.{times_by, EachOf, Member}
 use Rattle.xp_board.specs.FillSteps.{is_walked}
-use Rattle.xp_board.specs.Readings.{kind_at, is_dying, domain_of}
+use Rattle.xp_board.specs.Readings.{kind_at, domain_of}
 use Rattle.xp_board.specs.Hands.{endings_of, claims_of}
 use Rattle.xp_board.specs.Reach.{Use, Table, Writes, Reads, use_of, use_below, reached_by, Reach, entry}
 use Rattle.xp_board.specs.Fresh.{Matches, FreshAt}
 use Rattle.xp_board.specs.Sound.{Sound}
 use Rattle.stale_rule.proofs.Bearing.{bears_read}
 use Rattle.board_lemmas.proofs.KindForms.{live_unmarked}
-use Rattle.stale_rule.proofs.Served.{Served, counted_word, entry_served}
+use Rattle.stale_rule.proofs.Served.{Served, entry_served}
 use Rattle.board_lemmas.proofs.HeldByForm.{live_idle}
-use Rattle.board_lemmas.proofs.Sums.{hands-part}
-use Rattle.board_lemmas.proofs.Works.{nobody_works}
-use Rattle.board_lemmas.proofs.ReachAll.{IsLevel, Reach-level, Reach-all}
+use Rattle.board_lemmas.proofs.Works.{nobody_works, nobody_ends}
+use Rattle.board_lemmas.proofs.ReachAll.{IsLevel, Reach-all, reach_level, unmarked_matches}
 use Rattle.board_lemmas.proofs.CellAlike.{CellAlike, use_alike}
+use Rattle.board_lemmas.proofs.HandLists.{EachOf-map}
+use Rattle.board_lemmas.proofs.ListCounts.{EachOf-apart}
+use Rattle.board_lemmas.proofs.RefForms.{counted_word}
 
 abbrev pub Came : Machine → (Place → ℕ) → (ℕ → Holdings) → ℕ → ℕ → Use → Type 0
 Came n m h v g u = Reach (sizes_of n) m (h v) g u ⊎ (Served m (domain_of n v) g u ⊎ ((u ≡ Reads) × Reach (sizes_of n) m (h v) g Writes))
 
 -- ---- lists in which a frame does not stand
-none-first : (g k n : ℕ) → one_at g k + n ≡ 0 → (k ≢ g) × (n ≡ 0)
-none-first g k n e = (λ at. absurd (let one : one_at g k ≡ 1 = grind (arith, nat_tests) in omega arith), omega arith)
 
 EachOf-none : {A : Type 0} (key : A → ℕ) (g : ℕ) (Q : A → Type 0) (xs : List A) → times_by key g xs ≡ 0 → EachOf (λ e. key e ≡ g → Q e) xs
-unfolding times_by EachOf
-EachOf-none key g Q [] e = tt
-EachOf-none key g Q (x ∷ xs) e = let parts = none-first g (key x) (times_by key g xs) e in ((λ at. absurd (parts.0 at)), EachOf-none key g Q xs parts.1)
+EachOf-none key g Q xs none = EachOf-map (λ e. key e ≢ g) _ xs (λ e off at. absurd (off at)) (EachOf-apart key g xs none)
 
 -- ---- what serves is fresh
 module _ (n : Machine) (m : Place → ℕ) (h : ℕ → Holdings) (sound : Sound n m h) where
@@ -45,10 +41,7 @@ module _ (n : Machine) (m : Place → ℕ) (h : ℕ → Holdings) (sound : Sound
       let word = counted_word (m (Refs g)) served.counted in
       let none : (s : ℕ) → s < (sizes_of n).vcpus → endings_of g (h s).ending + claims_of g (h s).claimed ≡ 0 =
       λ s real.
-      (let dying = sound.alone.dying g in
-      let bits : bit (is_dying (m (Refs g))) ≡ 0 = rw word.1 refl in
-      let part = hands-part (λ k. endings_of g k.ending + claims_of g k.claimed) (sizes_of n) h s real in
-      omega arith) in
+      nobody_ends n m h sound.alone g word.1 s real in
       record {
         owner = served.owner;
         free = λ e. absurd (let k = word.0 in cc);
@@ -91,20 +84,13 @@ module _ (n : Machine) (m : Place → ℕ) (h : ℕ → Holdings) (sound : Sound
   use_of_type t Reads w a b x y p q = absurd (x refl)
   use_of_type t u Reads a b x y p q = absurd (y refl)
 
-  pub reach_level : (v g : ℕ) (u : Use) → v < (sizes_of n).vcpus → Reach (sizes_of n) m (h v) g u → IsLevel u
-  reach_level v g u real r = Reach-level (sound.formed v real).cache.walk r
-
   -- a live frame has the type of each use that is made of it
   pub live_matches : (v g : ℕ) (u : Use) → v < (sizes_of n).vcpus → (kind_at m g).validated ≡ true → u ≢ Reads → Reach (sizes_of n) m (h v) g u → Matches (kind_at m g).kind u
-  live_matches v g u real live other r =
-      elim ((sound.fresh.each v real g u r).bears.typed other) [
-        | inl plain ↦ plain.1
-        | inr marked ↦ absurd (let e = live_unmarked n m g sound.spelled live in let k = marked.0 in cc)
-      ]
+  live_matches v g u real live other r = unmarked_matches n m h sound v g u real (live_unmarked n m g sound.spelled live) other r
 
   served_one : (v w g : ℕ) (u k : Use) → w < (sizes_of n).vcpus → Served m (domain_of n v) g u → Came n m h w g k → u ≢ Reads → k ≢ Reads → u ≡ k
   served_one v w g u k real one (inl r) x y =
-      use_of_type (kind_at m g).kind u k one.level (reach_level w g k real r) x y (one.matches x) (live_matches w g k real (one.live x) y r)
+      use_of_type (kind_at m g).kind u k one.level (reach_level n m h sound w g k real r) x y (one.matches x) (live_matches w g k real (one.live x) y r)
   served_one v w g u k real one (inr (inl two)) x y = use_of_type (kind_at m g).kind u k one.level two.level x y (one.matches x) (two.matches y)
   served_one v w g u k real one (inr (inr read)) x y = absurd (y read.0)
 

@@ -1,7 +1,7 @@
 -- Fresh after a store into a cell that no vCPU reads as an entry.
-use Rattle.std.proofs.Common.{◌≡◌, ℕ, ◌<◌, ◌≤◌, ◌==◌, ◌&&◌, inl, inr, Bool, true, false, List, [], ◌∷◌, refl, sym, ◌∙◌, ap, subst, arith, IsTrue, Option, Some, None}
+use Rattle.std.proofs.Common.{◌≡◌, ℕ, ◌<◌, ◌≤◌, ◌==◌, ◌&&◌, inl, inr, false, refl, sym, ◌∙◌, ap, subst, arith, Option, Some, None}
 use Rattle.std.proofs.lemmas.Bool.Decides.{nat_tests}
-use Rattle.std.proofs.lemmas.Bool.{and_parts, or_cases}
+use Rattle.std.proofs.lemmas.Bool.{and_parts}
 use Rattle.xp_words.specs.PageTypes.{type_number}
 use Rattle.xp_words.specs.Machine.{Machine}
 use Rattle.xp_words.specs.Places.{sizes_of, Place, Cell}
@@ -10,7 +10,6 @@ use Rattle.xp_board.specs.declared.step.StepKind.{StepKind}
 use Rattle.xp_board.specs.declared.holdings.Work.{Work}
 use Rattle.xp_board.specs.declared.holdings.Claimed.{Claimed}
 use Rattle.xp_board.specs.declared.holdings.Holdings.{Holdings}
-use Rattle.xp_board.specs.Lists.{some_of, Member}
 use Rattle.xp_board.specs.Readings.{kind_at}
 use Rattle.xp_board.specs.Hands.{work_on, claim_of}
 use Rattle.xp_board.specs.CellSteps.{AllowsPlain}
@@ -20,24 +19,17 @@ use Rattle.xp_board.specs.Fresh.{Fresh}
 use Rattle.xp_board.specs.Keeping.{Acted}
 use Rattle.xp_board.specs.Sound.{Sound}
 use Rattle.step_effects.proofs.ActEffects.{Wrote, Filled, GuestStored}
-use Rattle.stale_rule.proofs.CameFresh.{Came, came_fresh, came_one, reach_level}
+use Rattle.stale_rule.proofs.CameFresh.{Came, came_fresh, came_one}
 use Rattle.board_lemmas.proofs.KindForms.{live_unmarked}
 use Rattle.stale_rule.proofs.CellLaw.{written_law}
 use Rattle.stale_rule.proofs.FreeRows.{not_claimed}
 use Rattle.stale_rule.proofs.Like.{cell_stays}
 use Rattle.stale_rule.proofs.StoreRows.{its_word}
-use Rattle.board_lemmas.proofs.ReachAll.{IsLevel}
+use Rattle.board_lemmas.proofs.ReachAll.{IsLevel, reach_level}
 use Rattle.board_lemmas.proofs.CellAlike.{not_reads}
+use Rattle.board_lemmas.proofs.HandLists.{some_of-member}
 
 -- ---- elements that pass
-pub some_member : {A : Type 0} (test : A → Bool) (xs : List A) → IsTrue (some_of test xs) → (x : A) × Member x xs × (test x ≡ true)
-unfolding some_of Member
-some_member test [] t = absurd (cc)
-some_member test (x ∷ xs) t =
-    elim (or_cases (test x) (some_of test xs) t) [
-      | inl here ↦ (x, inl refl, here)
-      | inr later ↦ let rest = some_member test xs later in (rest.0, inr rest.1, rest.2)
-    ]
 
 module _ (n : Machine) (m : Place → ℕ) (b : ℕ → Holdings) (sound : Sound n m b) where
   came_level : (v g : ℕ) (u : Use) → v < (sizes_of n).vcpus → Came n m b v g u → IsLevel u
@@ -89,7 +81,7 @@ module _ (n : Machine) (s : ℕ) (x : Step) (m m2 : Place → ℕ) (b c : ℕ �
   -- ---- a store of the guest: it may write the frame, and so no vCPU has it as a table
   pub guest_row : (f i : ℕ) → GuestStored n x f i m m2 (b s) (c s) → Fresh n m2 c
   guest_row f i d =
-      let item = some_member (λ k. (k.frame == f) && k.writable) (b s).cache d.may.item in
+      let item = some_of-member (λ k. (k.frame == f) && k.writable) (b s).cache d.may.item in
       let parts = and_parts (item.0.frame == f) item.0.writable item.2 in
       let at : item.0.frame ≡ f = (let k = parts.0 in grind (arith, nat_tests)) in
       let purpose : use_of item.0 ≡ Writes = (let k = parts.1 in rw k refl) in

@@ -20,5 +20,4 @@ pub mod Rows
 pub mod Served
 pub mod Stays
 pub mod StoreRows
-pub mod Tables
 pub mod WalkRows

@@ -23,16 +23,17 @@ use Rattle.xp_board.specs.Fresh.{Fresh}
 use Rattle.xp_board.specs.Keeping.{Acted}
 use Rattle.xp_board.specs.Sound.{Sound}
 use Rattle.step_effects.proofs.ActEffects.{Wrote, Exchanged, Rewrote}
-use Rattle.stale_rule.proofs.CameFresh.{Came, came_fresh, reach_level, live_matches}
+use Rattle.stale_rule.proofs.CameFresh.{Came, came_fresh, live_matches}
 use Rattle.stale_rule.proofs.CellLaw.{written_law}
 use Rattle.stale_rule.proofs.KindRows.{counted_here}
 use Rattle.stale_rule.proofs.Like.{HandStays, then_stays, cell_stays, in_stays, out_stays}
-use Rattle.stale_rule.proofs.Past.{since_each, since_later}
 use Rattle.stale_rule.proofs.Served.{Served, AsksWell, typed_counted, target_served, served_owner, recorded_well}
 use Rattle.xp_board.proofs.RefWords.{owner_few}
 use Rattle.board_lemmas.proofs.LockFacts.{lock_facts, rewritten_same}
 use Rattle.board_lemmas.proofs.Counted.{in_hand_counted}
 use Rattle.board_lemmas.proofs.CellAlike.{not_reads}
+use Rattle.board_lemmas.proofs.MoreSteps.{since_each, since_later}
+use Rattle.board_lemmas.proofs.ReachAll.{reach_level}
 
 some_is : (x y : ℕ) (o : Option ℕ) → o ≡ Some x → o ≡ Some y → x ≡ y
 some_is x y o a b = let e : Some x ≡ Some y = sym a ∙ b in cc

@@ -20,9 +20,16 @@ use Rattle.xp_board.specs.Safe.{SafeAt}
 use Rattle.xp_board.specs.Spelling.{IsSpelling}
 use Rattle.xp_board.specs.Sound.{Sound}
 use Rattle.board_lemmas.proofs.Counted.{contexts-part}
-use Rattle.stale_rule.proofs.Tables.{Serves, table_held, leads_live, named_counted}
 use Rattle.board_lemmas.proofs.EntryAsks.{asks_table, asks_leaf, LeafAsks, walked_inside}
 use Rattle.board_lemmas.proofs.KindReadings.{live_count}
+use Rattle.board_lemmas.proofs.LiveTables.{table_held, leads_live, named_counted}
+
+-- a live and counted table of that level, of that domain
+pub record Serves (m : Place → ℕ) (d level f : ℕ) : Type 0 where
+  pub live : (kind_at m f).validated ≡ true
+  pub counted : 0 < (kind_at m f).number
+  pub level_is : type_number (kind_at m f).kind ≡ level
+  pub owner : owner_of (m (Refs f)) ≡ Some d
 
 -- ---- permits
 pub permits_own : (m : Place → ℕ) (d g : ℕ) → owner_of (m (Refs g)) ≡ Some d → Permits m d g

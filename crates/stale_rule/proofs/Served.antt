@@ -1,5 +1,5 @@
 -- Frames that serve a use: live with its type where it has one, and counted.
-use Rattle.std.proofs.Common.{◌≡◌, ◌≢◌, ℕ, ◌-◌, ◌<◌, ◌≤◌, ◌==◌, inl, inr, Bool, true, false, nat_lt, refl, sym, ◌∙◌, ap, subst, arith, IsTrue, if◌then◌else◌, Option, Some, None}
+use Rattle.std.proofs.Common.{◌≡◌, ◌≢◌, ℕ, ◌-◌, ◌<◌, ◌≤◌, ◌==◌, inl, inr, Bool, true, false, refl, sym, ◌∙◌, ap, subst, arith, IsTrue, if◌then◌else◌, Option, Some, None}
 use Rattle.std.proofs.lemmas.Bool.Decides.{nat_tests}
 use Rattle.xp_words.specs.declared.kind.PageType.{PageType}
 use Rattle.xp_words.specs.declared.entry.Demand.{Demand}
@@ -9,9 +9,8 @@ use Rattle.xp_words.specs.declared.refs.RefWord.TheVariants.{Free, Owned, Dying}
 use Rattle.xp_words.specs.RefWords.{ref_read}
 use Rattle.xp_words.specs.PageTypes.{type_number}
 use Rattle.xp_words.specs.Entries.{is_bit, frame_of, is_lowest, demand_at}
-use Rattle.xp_words.specs.KindWords.{kind_fields}
 use Rattle.xp_words.specs.Machine.{Machine}
-use Rattle.xp_words.specs.Places.{sizes_of, is_place, Place, Refs, Kind, Cell}
+use Rattle.xp_words.specs.Places.{sizes_of, Place, Refs, Cell}
 use Rattle.xp_board.specs.declared.holdings.Holdings.{Holdings}
 use Rattle.xp_board.specs.FillSteps.{is_walked}
 use Rattle.xp_board.specs.Readings.{kind_at, count_in, ref_count, owner_of, is_free_in, is_free, is_dying_in, is_dying}
@@ -21,13 +20,13 @@ use Rattle.xp_board.specs.Reach.{Use, Table, Writes, Reads, use_below}
 use Rattle.xp_board.specs.Fresh.{Belongs, Matches}
 use Rattle.xp_board.specs.Sound.{Sound}
 use Rattle.board_lemmas.proofs.Counted.{entries-part, type_below}
-use Rattle.board_lemmas.proofs.KindForms.{zero_dead}
 use Rattle.stale_rule.proofs.Paths.{permits_own}
-use Rattle.stale_rule.proofs.Tables.{table_held, leads_live, named_counted}
 use Rattle.board_lemmas.proofs.EntryAsks.{asks_table, asks_leaf, LeafAsks, walked_inside}
 use Rattle.board_lemmas.proofs.ReachAll.{IsLevel}
 use Rattle.board_lemmas.proofs.CellAlike.{not_reads}
 use Rattle.board_lemmas.proofs.KindReadings.{live_count}
+use Rattle.board_lemmas.proofs.LiveTables.{table_held, leads_live, named_counted, live_inside}
+use Rattle.board_lemmas.proofs.RefForms.{counted_word}
 
 -- a frame with a type count has a reference count
 pub typed_counted : (n : Machine) (m : Place → ℕ) (h : ℕ → Holdings) (g : ℕ) → Sound n m h → (kind_at m g).validated ≡ true → 0 < (kind_at m g).number → 0 < ref_count (m (Refs g))
@@ -44,17 +43,6 @@ pub record Served (m : Place → ℕ) (d g : ℕ) (u : Use) : Type 0 where
   pub matches : u ≢ Reads → Matches (kind_at m g).kind u
   pub counted : 0 < ref_count (m (Refs g))
   pub owner : Belongs m d g u
-
-counted_by : (r : Option RefWord) → 0 < count_in r → (is_free_in r ≡ false) × (is_dying_in r ≡ false)
-counted_by (Some (Owned owner allocated count)) some = (refl, refl)
-counted_by (Some (Free stamp)) some = absurd (omega arith)
-counted_by (Some (Dying owner)) some = absurd (omega arith)
-counted_by None some = absurd (omega arith)
-
--- a counted frame is neither free nor in one seat's hand
-pub counted_word : (w : ℕ) → 0 < ref_count w → (is_free w ≡ false) × (is_dying w ≡ false)
-unfolding ref_count is_free is_dying
-counted_word w some = counted_by (ref_read w) some
 
 pub served_owner : (m : Place → ℕ) (d level f : ℕ) → Served m d f (Table level) → owner_of (m (Refs f)) ≡ Some d
 served_owner m d level f s =
@@ -152,13 +140,6 @@ module _ (m : Place → ℕ) (d f : ℕ) where
 
 -- ---- entries of a table that serves ask what is there
 module _ (n : Machine) (m : Place → ℕ) (h : ℕ → Holdings) (sound : Sound n m h) where
-  inside_by : (f : ℕ) (b : Bool) → is_place (sizes_of n) (Kind f) ≡ b → (kind_at m f).validated ≡ true → is_place (sizes_of n) (Kind f) ≡ true
-  inside_by f true e live = e
-  inside_by f false e live = absurd (let z = sound.spelled.outside (Kind f) e in let d : (kind_at m f).validated ≡ false = ap (λ w. (kind_fields w).validated) z ∙ zero_dead in cc)
-
-  live_inside : (f : ℕ) → (kind_at m f).validated ≡ true → f < (sizes_of n).frames
-  unfolding is_place
-  live_inside f live = let p : nat_lt f n.frames ≡ true = inside_by f _ refl live in grind (arith, nat_tests)
 
   typed_well : (d f i g : ℕ) (t : PageType) → f < (sizes_of n).frames → i < held (sizes_of n) m h f → (kind_at m f).validated ≡ true → 0 < (kind_at m f).number → owner_of (m (Refs f)) ≡ Some d →
       entry_demand m f i ≡ Typed g t → AsksWell m (kind_at m f).kind d (Typed g t)
@@ -199,7 +180,7 @@ module _ (n : Machine) (m : Place → ℕ) (h : ℕ → Holdings) (sound : Sound
       let hi = served.level.1 in
       let all = table_held n m h sound f live some (omega arith) (omega arith) in
       let inside = walked_inside level i walked in
-      well_by d f i (entry_demand m f i) (live_inside f live) (omega arith) live some (served_owner m d level f served) refl
+      well_by d f i (entry_demand m f i) (live_inside n m h sound f live) (omega arith) live some (served_owner m d level f served) refl
 
   -- so their targets serve too
   pub entry_served : (d level f i : ℕ) → Served m d f (Table level) → IsTrue (is_walked level i) → is_bit 0 (m (Cell f i)) ≡ true →

@@ -23,9 +23,10 @@ use Rattle.board_lemmas.proofs.KindForms.{marked_unlive}
 use Rattle.stale_rule.proofs.KindHands.{form_stays}
 use Rattle.stale_rule.proofs.KindRows.{kind_law}
 use Rattle.board_lemmas.proofs.HandLists.{EachOf-first}
-use Rattle.stale_rule.proofs.Past.{since_each, past_gone, gone_unreached}
+use Rattle.stale_rule.proofs.Past.{past_gone, gone_unreached}
 use Rattle.board_lemmas.proofs.FormsLeft.{is_live_left, is_partial_left}
 use Rattle.board_lemmas.proofs.WorkFacts.{Works, works_facts}
+use Rattle.board_lemmas.proofs.MoreSteps.{since_each}
 
 -- the stamp that a marked word tells
 marked_tells : (f w x : ℕ) → (w == x) ≡ true → (kind_fields x).validated ≡ false → told_value (Kind f) w ≡ (kind_fields x).number

@@ -30,10 +30,10 @@ use Rattle.board_lemmas.proofs.HandLists.{first-some}
 use Rattle.board_lemmas.proofs.Counted.{type_below}
 use Rattle.board_lemmas.proofs.WorkFacts.{works_facts}
 use Rattle.board_lemmas.proofs.Recordless.{idle_held, closing_counted, closing_busy}
-use Rattle.type_rule.proofs.QuietActs.{dying_in_hand}
 use Rattle.board_lemmas.proofs.HeldByForm.{held_table}
 use Rattle.type_rule.proofs.CellAct.{CellAct, cell_valid, cell_permitted}
 use Rattle.board_lemmas.proofs.LockFacts.{lock_facts, rewritten_same}
+use Rattle.board_lemmas.proofs.Works.{dying_in_hand}
 
 -- ---- types
 pub desc_no_table : (t : PageType) → t ≡ kinds.Desc → is_table t ≡ true → ⊥
@@ -123,7 +123,7 @@ module _ (n : Machine) (s : ℕ) (x : Step) (m m2 : Place → ℕ) (b c : ℕ �
       (i < held (sizes_of n) m b f → ⊥) × (IsTrue (is_live (kind_at m f)) → (kind_at m f).kind ≡ kinds.Desc → IsTrue (is_fixed (m2 (Cell f i))))
   filled_by f i (Some k) e claim work may =
       let some = first-some (λ y. y.frame) f k (b s).claimed claim in
-      let none = dying_in_hand n m b s f sound.alone real (omega arith) in
+      let none = dying_in_hand n m b sound.alone f s real (omega arith) in
       (λ l. let z = free_held f none in absurd (omega arith), λ live desc. absurd (free_not_live f none live))
   filled_by f i None (Some e) claim work may =
       let k = works_facts n m b s f e sound real work in

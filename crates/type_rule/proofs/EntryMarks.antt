@@ -32,11 +32,11 @@ use Rattle.type_rule.proofs.HandParts.{three_in, three_out}
 use Rattle.board_lemmas.proofs.ListChanges.{first_by-changed_other, first_by-changed_here}
 use Rattle.board_lemmas.proofs.WorkFacts.{Works, works_facts}
 use Rattle.type_rule.proofs.Settled.{seen_asks, settled_found, unsettled_mine}
-use Rattle.type_rule.proofs.KindRows.{unfound_yet}
 use Rattle.type_rule.proofs.ValidLaw.{NewEntry}
 use Rattle.type_rule.proofs.NewEntries.{owners_permit, demand_new}
 use Rattle.type_rule.proofs.MarkRows.{MarkOn, mark_valid, mark_permitted}
 use Rattle.board_lemmas.proofs.KindReadings.{busy_partial}
+use Rattle.board_lemmas.proofs.MoreSteps.{none_since}
 
 table_count : (k : KindWord) (r : ℕ) → is_table k.kind ≡ true → held_of k (Some r) ≡ r
 unfolding held_of
@@ -128,7 +128,7 @@ module _ (n : Machine) (s : ℕ) (m : Place → ℕ) (h b : ℕ → Holdings) (r
                         last = refl;
                         unsettled = record { since = length (h s).steps; word = Some (seen_word d.e.seen) };
                         kept = unsettled_some n (h s) d.e g t (seen_is ∙ e) unknown;
-                        unfound = rw steps (unfound_yet (sizes_of n) (length (h s).steps) (Kind g) is_live_word (h s).steps (omega arith));
+                        unfound = rw steps (none_since (sizes_of n) (length (h s).steps) (Kind g) is_live_word (h s).steps (omega arith));
                       }),
                 ))
           ]

@@ -30,6 +30,7 @@ use Rattle.type_rule.proofs.KindAct.{KindAct, nobody, not_unsettled, live_stays,
 use Rattle.board_lemmas.proofs.HeldByForm.{held_dead, held_same, live_partial, live_idle}
 use Rattle.type_rule.proofs.KindHeld.{live_held, resumed_held, begun_held, closed_held, work_live, dead_live, dead_unformed, either_part}
 use Rattle.board_lemmas.proofs.KindReadings.{partial_idle, dead_idle}
+use Rattle.board_lemmas.proofs.MoreSteps.{none_since}
 
 resumed_work : (k l : KindWord) → MayResume k l → IsTrue (is_partial l || is_work l)
 resumed_work k l may = let v : k.validated ≡ false = (let p = may.partial in grind arith) in rw may.left (rw v refl)
@@ -50,14 +51,6 @@ row_works Unpin f g k l new h off = refl
 row_works Resume f g k l new h off = first_by-cons_other (λ y. y.frame) g _ h.works (λ e. off (sym e))
 row_works TakeBack f g k l new h off = refl
 row_works Begin f g k l new h off = first_by-cons_other (λ y. y.frame) g _ h.works (λ e. off (sym e))
-
--- nothing was found since a step that is still to be made
-pub unfound_yet : (z : Sizes) (k : ℕ) (p : Place) (test : ℕ → Bool) (xs : List Made) → length xs ≤ k → some_since z k p test xs ≡ false
-unfound_yet z k p test xs l =
-    elim (cases_Bool (some_since z k p test xs)) [
-      | inl found ↦ absurd (let w = since_within z k p test xs found in omega arith)
-      | inr none ↦ none
-    ]
 
 unsettled_some : (p : ℕ) (h : Holdings) → p ≢ 0 → unsettled_from p h ≡ Some (record { since = length h.steps + 1; word = None })
 unsettled_some p h off = let t : (p == 0) ≡ false = grind (arith, nat_tests) in rw t refl
@@ -142,7 +135,7 @@ module _ (n : Machine) (s : ℕ) (x : Step) (m m2 : Place → ℕ) (b c : ℕ �
                 last = last.last ∙ ap (λ y. y.progress) d.fields_was;
                 unsettled = record { since = length (b s).steps + 1; word = None };
                 kept = unsettled_some d.k.progress (b s) (λ z. absurd (let w = last.last ∙ ap (λ y. y.progress) d.fields_was in omega arith));
-                unfound = unfound_yet (sizes_of n) (length (b s).steps + 1) (Kind g) is_live_word (c s).steps (let w = ap length ((one f Resume d).steps) in omega arith);
+                unfound = none_since (sizes_of n) (length (b s).steps + 1) (Kind g) is_live_word (c s).steps (let w = ap length ((one f Resume d).steps) in omega arith);
               });
           unsettled = λ i g t l q u. absurd (not_unsettled n s x m m2 b c real sound (one f Resume d) f d.wrote.others (works f Resume d) idle i g u);
         };

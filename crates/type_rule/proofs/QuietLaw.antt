@@ -55,7 +55,3 @@ one_owner m m2 f same here =
       owner = λ g some. elim (cases_eq g f) [ inl at ↦ rw at (here (rw at at some)) | inr off ↦ rw (same (Refs g) (λ q. off (cc))) refl ];
       ever = λ d o t. rw (same (Priv d) (λ q. cc)) t;
     }
-
-pub free_count : (w t : ℕ) → ref_read w ≡ Some (Free t) → ref_count w ≡ 0
-unfolding ref_count
-free_count w t e = rw e refl

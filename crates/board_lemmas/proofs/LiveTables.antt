@@ -1,14 +1,14 @@
--- The tables to which a vCPU's base leads.
-use Rattle.std.proofs.Common.{◌≡◌, ℕ, ◌<◌, ◌≤◌, inl, inr, true, arith, Some, None, ◌∙◌}
+-- Live and counted tables: all their entries are recorded, and lead to live and counted frames.
+use Rattle.std.proofs.Common.{◌≡◌, ℕ, ◌<◌, ◌≤◌, inl, inr, true, arith, None, ◌∙◌, nat_lt, Bool, false, refl, ap}
 use Rattle.std.proofs.lemmas.Bool.Decides.{nat_tests}
 use Rattle.xp_words.specs.declared.kind.PageType.{PageType}
 use Rattle.xp_words.specs.declared.kind.KindWord.{KindWord}
 use Rattle.xp_words.specs.declared.entry.Demand.TheVariants.{Typed}
 use Rattle.xp_words.specs.PageTypes.{type_number, is_table}
 use Rattle.xp_words.specs.Machine.{Machine}
-use Rattle.xp_words.specs.Places.{sizes_of, Place, Refs}
+use Rattle.xp_words.specs.Places.{sizes_of, Place, is_place, Kind}
 use Rattle.xp_board.specs.declared.holdings.Holdings.{Holdings}
-use Rattle.xp_board.specs.Readings.{kind_at, type_count, owner_of}
+use Rattle.xp_board.specs.Readings.{kind_at}
 use Rattle.xp_board.specs.Hands.{work_on}
 use Rattle.xp_board.specs.Recorded.{held, held_of, entry_demand, names_typed}
 use Rattle.xp_board.specs.Valid.{LeadsWell}
@@ -17,13 +17,8 @@ use Rattle.board_lemmas.proofs.Counted.{entries-part, names_typed-typed}
 use Rattle.board_lemmas.proofs.Works.{nobody_has, held_free}
 use Rattle.board_lemmas.proofs.HeldByForm.{live_partial, live_idle}
 use Rattle.board_lemmas.proofs.KindReadings.{live_count}
-
--- a live and counted table of that level, of that domain
-pub record Serves (m : Place → ℕ) (d level f : ℕ) : Type 0 where
-  pub live : (kind_at m f).validated ≡ true
-  pub counted : 0 < (kind_at m f).number
-  pub level_is : type_number (kind_at m f).kind ≡ level
-  pub owner : owner_of (m (Refs f)) ≡ Some d
+use Rattle.board_lemmas.proofs.KindForms.{zero_dead}
+use Rattle.xp_words.specs.KindWords.{kind_fields}
 
 all_held : (k : KindWord) → k.validated ≡ true → 1 ≤ type_number k.kind → type_number k.kind ≤ 4 → held_of k None ≡ 512
 unfolding held_of
@@ -55,3 +50,12 @@ module _ (n : Machine) (m : Place → ℕ) (h : ℕ → Holdings) (sound : Sound
       let entry = entries-part (names_typed g) (sizes_of n) m h f i inside recorded in
       let one = names_typed-typed g t (entry_demand m f i) asks in
       omega arith
+
+  -- a live frame is one of the machine
+  inside_by : (f : ℕ) (b : Bool) → is_place (sizes_of n) (Kind f) ≡ b → (kind_at m f).validated ≡ true → is_place (sizes_of n) (Kind f) ≡ true
+  inside_by f true e live = e
+  inside_by f false e live = absurd (let z = sound.spelled.outside (Kind f) e in let d : (kind_at m f).validated ≡ false = ap (λ w. (kind_fields w).validated) z ∙ zero_dead in cc)
+
+  pub live_inside : (f : ℕ) → (kind_at m f).validated ≡ true → f < (sizes_of n).frames
+  unfolding is_place
+  live_inside f live = let p : nat_lt f n.frames ≡ true = inside_by f _ refl live in grind (arith, nat_tests)
