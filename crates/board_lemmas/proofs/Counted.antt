@@ -10,7 +10,7 @@ use Rattle.xp_words.specs.Places.{Sizes, sizes_of, is_place, Place, Vcpu, Refs, 
 use Rattle.xp_board.specs.Readings.{kind_at, is_context, ref_count, type_count, allocated_mark}
 use Rattle.xp_board.specs.Hands.{hand, typed_hand, refs_to, typed_to, locks_on}
 use Rattle.xp_board.specs.Recorded.{names, CountsAgree, work_of, held, held_of, names_typed, entry_demand, table_entries, entries, contexts}
-use Rattle.xp_board.specs.Sound.{Spelled}
+use Rattle.xp_board.specs.Sound.{Spelled, Sound}
 use Rattle.board_lemmas.proofs.Sums.{hands-part, hands-fewer, sum_below-fewer, one_at-same, sum_below-one, sum_below-part, sum_below-same}
 use Rattle.xp_words.specs.declared.kind.PageType.{PageType}
 use Rattle.xp_words.specs.declared.entry.Demand.{Demand}
@@ -132,6 +132,14 @@ type_below z m h g k =
     omega arith
 
 -- ---- what is in hand is counted
+pub hand_is : (g : ℕ) (u : Holdings) → hand g u ≡ refs_to g u.refs + typed_hand g u
+unfolding hand
+hand_is g u = refl
+
+pub typed_hand_is : (g : ℕ) (u : Holdings) → typed_hand g u ≡ typed_to g u.typed + locks_on g u.locks
+unfolding typed_hand
+typed_hand_is g u = refl
+
 pub refs_in_hand : (f : ℕ) (u : Holdings) → refs_to f u.refs ≤ hand f u
 unfolding hand
 refs_in_hand f u = omega arith
@@ -170,3 +178,13 @@ table_inside n m f spelled k =
 
 pub held_inside : (n : Machine) (m : Place → ℕ) (h : ℕ → Holdings) (f i : ℕ) → Spelled n m → i < held (sizes_of n) m h f → f < (sizes_of n).frames
 held_inside n m h f i spelled l = table_inside n m f spelled (held_table (kind_at m f) _ i l)
+
+-- a recorded entry that is read is counted
+pub plain_counted : (n : Machine) (m : Place → ℕ) (h : ℕ → Holdings) (f i g : ℕ) → Sound n m h → i < held (sizes_of n) m h f → entry_demand m f i ≡ Read g →
+    0 < ref_count (m (Refs g))
+plain_counted n m h f i g sound l e =
+    let b = held_inside n m h f i sound.spelled l in
+    let a = entries-part (names g) (sizes_of n) m h f i b l in
+    let o = names-read g (entry_demand m f i) e in
+    let k = sound.counts.refs g in
+    omega arith

@@ -52,7 +52,7 @@ pub translations_then : (u v w : Holdings) → Translations u v → Translations
 translations_then u v w a b = translations u w (b.cache ∙ a.cache) (b.walk ∙ a.walk) (b.cold ∙ a.cold)
 
 -- what holds of both holds of either
-pub either : {A : Type 0} (P : A → Type 0) (t : Bool) (x y : A) → P x → P y → P (if t then x else y)
+pub either {ℓ} : {A : Type 0} (P : A → Type ℓ) (t : Bool) (x y : A) → P x → P y → P (if t then x else y)
 either P true x y a b = a
 either P false x y a b = b
 

@@ -34,6 +34,10 @@ pub held_work : (k : KindWord) (r : ℕ) → held_of k (Some r) ≡ (if is_table
 unfolding held_of
 held_work k r = refl
 
+pub held_table_work : (k : KindWord) (r : ℕ) → is_table k.kind ≡ true → held_of k (Some r) ≡ r
+unfolding held_of
+held_table_work k r t = rw t refl
+
 pub no_table : (k : KindWord) (o : Option ℕ) → is_table k.kind ≡ false → held_of k o ≡ 0
 unfolding held_of
 no_table k o e = rw e refl

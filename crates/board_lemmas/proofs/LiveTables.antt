@@ -1,24 +1,26 @@
 -- Live and counted tables: all their entries are recorded, and lead to live and counted frames.
-use Rattle.std.proofs.Common.{◌≡◌, ℕ, ◌<◌, ◌≤◌, inl, inr, true, arith, None, ◌∙◌, nat_lt, Bool, false, refl, ap}
+use Rattle.std.proofs.Common.{◌≡◌, ℕ, ◌<◌, ◌≤◌, inl, inr, true, arith, None, ◌∙◌, nat_lt, Bool, false, refl, ap, ◌+◌, Option, Some}
 use Rattle.std.proofs.lemmas.Bool.Decides.{nat_tests}
 use Rattle.xp_words.specs.declared.kind.PageType.{PageType}
+use Rattle.xp_words.specs.declared.kind.PageType.TheVariants as kinds
 use Rattle.xp_words.specs.declared.kind.KindWord.{KindWord}
 use Rattle.xp_words.specs.declared.entry.Demand.TheVariants.{Typed}
 use Rattle.xp_words.specs.PageTypes.{type_number, is_table}
 use Rattle.xp_words.specs.Machine.{Machine}
-use Rattle.xp_words.specs.Places.{sizes_of, Place, is_place, Kind}
+use Rattle.xp_words.specs.Places.{sizes_of, Place, is_place, Kind, Vcpu, Refs}
 use Rattle.xp_board.specs.declared.holdings.Holdings.{Holdings}
-use Rattle.xp_board.specs.Readings.{kind_at}
+use Rattle.xp_board.specs.Readings.{kind_at, is_context, domain_of, owner_of}
 use Rattle.xp_board.specs.Hands.{work_on}
-use Rattle.xp_board.specs.Recorded.{held, held_of, entry_demand, names_typed}
-use Rattle.xp_board.specs.Valid.{LeadsWell}
+use Rattle.xp_board.specs.Recorded.{held, held_of, entry_demand, names_typed, HasType}
+use Rattle.xp_board.specs.Valid.{LeadsWell, is_live_context}
 use Rattle.xp_board.specs.Sound.{Sound}
-use Rattle.board_lemmas.proofs.Counted.{entries-part, names_typed-typed}
+use Rattle.board_lemmas.proofs.Counted.{entries-part, names_typed-typed, contexts-part}
 use Rattle.board_lemmas.proofs.Works.{nobody_has, held_free}
 use Rattle.board_lemmas.proofs.HeldByForm.{live_partial, live_idle}
 use Rattle.board_lemmas.proofs.KindReadings.{live_count}
 use Rattle.board_lemmas.proofs.KindForms.{zero_dead}
 use Rattle.xp_words.specs.KindWords.{kind_fields}
+use Rattle.xp_board.specs.ContextSteps.{context_type}
 
 all_held : (k : KindWord) → k.validated ≡ true → 1 ≤ type_number k.kind → type_number k.kind ≤ 4 → held_of k None ≡ 512
 unfolding held_of
@@ -59,3 +61,36 @@ module _ (n : Machine) (m : Place → ℕ) (h : ℕ → Holdings) (sound : Sound
   pub live_inside : (f : ℕ) → (kind_at m f).validated ≡ true → f < (sizes_of n).frames
   unfolding is_place
   live_inside f live = let p : nat_lt f n.frames ≡ true = inside_by f _ refl live in grind (arith, nat_tests)
+
+-- ---- the words of a vCPU that name a base
+base_live : (k : ℕ) → k < 2 → is_live_context k ≡ true
+base_live k b = grind (arith, nat_tests)
+
+pub base_context : (k : ℕ) → k < 2 → is_context k ≡ true
+base_context k b = grind (arith, nat_tests)
+
+pub base_type : (k : ℕ) → k < 2 → context_type k ≡ Some kinds.L4
+base_type k b = let e : nat_lt k 2 ≡ true = grind (arith, nat_tests) in rw e
+
+pub has_type : (m : Place → ℕ) (g : ℕ) (o : Option PageType) (t : PageType) → o ≡ Some t → HasType m g o → (kind_at m g).kind ≡ t
+has_type m g o t e h = rw e at h
+
+-- a base is a live and counted table of level 4
+pub record BaseTable (n : Machine) (m : Place → ℕ) (v g : ℕ) : Type 0 where
+  pub live : (kind_at m g).validated ≡ true
+  pub counted : 0 < (kind_at m g).number
+  pub kind : (kind_at m g).kind ≡ kinds.L4
+  pub owner : owner_of (m (Refs g)) ≡ Some (domain_of n v)
+
+pub base_table : (n : Machine) (m : Place → ℕ) (h : ℕ → Holdings) → Sound n m h → (v k g : ℕ) → v < (sizes_of n).vcpus → k < 2 → m (Vcpu v k) ≡ g + 1 → BaseTable n m v g
+base_table n m h sound v k g real b names =
+    let live = sound.valid.contexts v k g real (omega arith) (base_live k b) names in
+    let count = sound.counts.types g in
+    let number = live_count (kind_at m g) live in
+    let context = contexts-part (sizes_of n) m g v k real (omega arith) (base_context k b) names in
+    record {
+      live = live;
+      counted = omega arith;
+      kind = has_type m g (context_type k) kinds.L4 (base_type k b) (sound.counts.kinds.contexts v k g real (omega arith) (base_context k b) names);
+      owner = sound.permitted.contexts v k g real (omega arith) (base_live k b) names;
+    }

@@ -39,7 +39,7 @@ either_steps true a b h x y = x
 either_steps false a b h x y = y
 
 -- ---- what the word tells, and the mark
-learned_steps : (s : ℕ) (p : Place) (found left : ℕ) (h : Holdings) → (learned s p found left h).steps ≡ h.steps
+pub learned_steps : (s : ℕ) (p : Place) (found left : ℕ) (h : Holdings) → (learned s p found left h).steps ≡ h.steps
 learned_steps s Clock found left h = refl
 learned_steps s (Pages d) found left h = refl
 learned_steps s (Life d) found left h = either_steps (found == 0) _ _ h refl refl

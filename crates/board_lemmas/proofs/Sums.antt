@@ -99,6 +99,12 @@ when_eq x y e = grind (arith, nat_tests)
 pub when_ne : (x y : ℕ) → x ≢ y → (x == y) ≡ false
 when_ne x y n = grind (arith, nat_tests)
 
+pub when_found : {A : Type 0} (w e : ℕ) (y z : A) → w ≡ e → (if w == e then y else z) ≡ y
+when_found w e y z at = grind (arith, nat_tests)
+
+pub when_lost : {A : Type 0} (w e : ℕ) (y z : A) → w ≢ e → (if w == e then y else z) ≡ z
+when_lost w e y z off = grind (arith, nat_tests)
+
 -- where a number is tested against itself
 pub if_itself : {A : Type 0} (s : ℕ) (y z : A) → (if s == s then y else z) ≡ y
 if_itself s y z = rw (when_eq s s refl) refl

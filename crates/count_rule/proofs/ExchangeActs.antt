@@ -28,11 +28,11 @@ use Rattle.board_lemmas.proofs.PlaceTests.{same_or_other}
 use Rattle.board_lemmas.proofs.HandLists.{EachOf-map}
 use Rattle.count_rule.proofs.Twins.{EachTwo, EachTwo-each, SameWork, SameLock, SameClaim, recorded_in-same}
 use Rattle.board_lemmas.proofs.Works.{held_free}
-use Rattle.board_lemmas.proofs.Counted.{entries-one, table_entries-changed, contexts-same}
+use Rattle.board_lemmas.proofs.Counted.{entries-one, table_entries-changed, contexts-same, hand_is, typed_hand_is}
 use Rattle.count_rule.proofs.CountLaw.{each_seat}
 use Rattle.count_rule.proofs.PartLaws.{stamped_by, idle_running}
 use Rattle.count_rule.proofs.Learning.{works_learnt, locks_learnt, claims_learnt}
-use Rattle.count_rule.proofs.Quiet.{hand_is, typed_hand_is, held_still, locks_times}
+use Rattle.count_rule.proofs.Quiet.{held_still, locks_times}
 use Rattle.count_rule.proofs.Demands.{IsInHand, Spares, out_hand, out_typed, in_hand, in_typed, out_types, in_types, out_spares, in_more, has_demand, demand_type}
 use Rattle.board_lemmas.proofs.HeldByForm.{held_live}
 use Rattle.count_rule.proofs.KindSpelled.{form_was}

@@ -1,7 +1,6 @@
 -- What each exchange of a kind word leaves.
-use Rattle.std.proofs.Common.{◌≡◌, ◌≢◌, ℕ, ◌+◌, ◌<◌, ◌≤◌, ◌⊎◌, if◌then◌else◌, Bool, true, false, Some, None, refl, sym, ◌∙◌, ap, subst, arith, inl}
+use Rattle.std.proofs.Common.{◌≡◌, ◌≢◌, ℕ, ◌+◌, ◌<◌, ◌≤◌, ◌⊎◌, false, Some, None, refl, sym, ◌∙◌, ap, subst, arith, inl}
 use Rattle.xp_words.specs.declared.kind.KindWord.{KindWord}
-use Rattle.xp_words.specs.KindWords.{kind_fields}
 use Rattle.xp_words.specs.Machine.{Machine}
 use Rattle.xp_words.specs.Places.{sizes_of, Place, Clock, Kind}
 use Rattle.xp_board.specs.declared.holdings.Holdings.{Holdings}
@@ -22,7 +21,6 @@ use Rattle.count_rule.proofs.KindLaw.{Rest, kind_outcome}
 use Rattle.count_rule.proofs.KindWorks.{works_apart}
 use Rattle.count_rule.proofs.Outcome.{Outcome}
 use Rattle.board_lemmas.proofs.Sums.{no_bit}
-use Rattle.board_lemmas.proofs.KindReadings.{stamp_by}
 
 module _ (n : Machine) (s : ℕ) (x : Step) (m m2 : Place → ℕ) (b c : ℕ → Holdings) (seat : s < (sizes_of n).vcpus) (others : (t : ℕ) → t ≢ s → c t ≡ b t) (may : MayAct n s x (b s)) (sound : Sound n m b) (f : ℕ) where
   -- a frame that nobody has in hand alone, before and after

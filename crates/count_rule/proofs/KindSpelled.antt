@@ -19,11 +19,10 @@ use Rattle.xp_board.specs.Keeping.{MayAct}
 use Rattle.xp_board.specs.Sound.{Spelled, Sound}
 use Rattle.step_effects.proofs.ActEffects.{Wrote}
 use Rattle.board_lemmas.proofs.Sums.{hands-plus, hands-part, some_bit}
-use Rattle.count_rule.proofs.Quiet.{typed_hand_is}
-use Rattle.board_lemmas.proofs.KindForms.{spelled_form}
+use Rattle.board_lemmas.proofs.KindForms.{spelled_form, fields_of}
 use Rattle.count_rule.proofs.KindDown.{dropped_fields, unlocked_fields, read_made, read_type, dropped_form, unlocked_form}
 use Rattle.count_rule.proofs.SpelledLaw.{wrote_spelled}
-use Rattle.step_effects.proofs.FrameInversions.{fields_of}
+use Rattle.board_lemmas.proofs.Counted.{typed_hand_is}
 
 limit_by : (n : Machine) (k : KindWord) → IsTrue (is_kind_in n (Some k)) → IsTrue (is_live k) → k.number ≤ n.limit
 limit_by n k t live = grind (arith, nat_tests)

@@ -17,11 +17,11 @@ use Rattle.xp_board.specs.Sound.{Sound}
 use Rattle.step_effects.proofs.ActEffects.{Named}
 use Rattle.board_lemmas.proofs.PlaceTests.{same_or_other}
 use Rattle.count_rule.proofs.Twins.{EachTwo-each, SameLock, recorded_in-same, EachTwo, SameWork, SameClaim}
-use Rattle.board_lemmas.proofs.Counted.{entries-same, contexts-one}
+use Rattle.board_lemmas.proofs.Counted.{entries-same, contexts-one, hand_is, typed_hand_is}
 use Rattle.count_rule.proofs.CountLaw.{each_seat}
 use Rattle.count_rule.proofs.PartLaws.{stamped_by, idle_running}
 use Rattle.count_rule.proofs.Learning.{Kept, Learnt, learnt, kept_noted}
-use Rattle.count_rule.proofs.Quiet.{hand_is, typed_hand_is, held_still, locks_times}
+use Rattle.count_rule.proofs.Quiet.{held_still, locks_times}
 use Rattle.count_rule.proofs.SpelledLaw.{wrote_spelled}
 use Rattle.count_rule.proofs.Outcome.{Outcome, cells_same, runs}
 use Rattle.count_rule.proofs.HandLaw.{HandMove, hand_outcome}

@@ -13,8 +13,8 @@ use Rattle.xp_board.specs.Sound.{Spelled, HeldAlone, FreeMap, Sound}
 use Rattle.count_rule.proofs.Learning.{works_kept}
 use Rattle.count_rule.proofs.CountLaw.{pages_of, Steady, types_steady, counted_steady, counts_law}
 use Rattle.count_rule.proofs.PartLaws.{alone_law, map_law, works_law, stamped_by, idle_running}
-use Rattle.count_rule.proofs.Quiet.{hand_is, typed_hand_is, held_still, is_closing_at, like_works, works_spared}
-use Rattle.board_lemmas.proofs.Counted.{held_inside}
+use Rattle.count_rule.proofs.Quiet.{held_still, is_closing_at, like_works, works_spared}
+use Rattle.board_lemmas.proofs.Counted.{held_inside, hand_is, typed_hand_is}
 use Rattle.count_rule.proofs.Outcome.{Outcome, cells_same, runs}
 use Rattle.board_lemmas.proofs.Sums.{sum_below-one}
 

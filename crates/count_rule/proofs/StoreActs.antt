@@ -33,10 +33,10 @@ use Rattle.count_rule.proofs.WorkActs.{not_closing}
 use Rattle.count_rule.proofs.StoreForms.{same_if}
 use Rattle.board_lemmas.proofs.FormsLeft.{form_live, form_work, form_dead}
 use Rattle.count_rule.proofs.Told.{clock_told}
-use Rattle.count_rule.proofs.EntryMarks.{work_word}
 use Rattle.count_rule.proofs.Outcome.{Outcome}
 use Rattle.board_lemmas.proofs.KindForms.{form_read}
 use Rattle.board_lemmas.proofs.KindReadings.{busy_forms, closing_alone, work_unlive, dead_unlive, stamp_live, stamp_of}
+use Rattle.board_lemmas.proofs.WorkFacts.{work_word, works_facts}
 
 flat_says : (k : KindWord) (count mark lock : ℕ) → mark ≡ 0 → lock ≡ 0 → Says k count mark 0 lock → Says k count 0 0 0
 flat_says k count mark lock p q says = record { counts = says.counts; mark_is = says.mark_is ∙ p; busy_is = says.busy_is; lock_is = says.lock_is ∙ q }
@@ -45,7 +45,7 @@ module _ (n : Machine) (s : ℕ) (x : Step) (m m2 : Place → ℕ) (b c : ℕ �
   -- the frame goes out of the works
   module _ (wrote : Wrote n x (Kind f) steps.Kind m m2 (b s)) (e : Work) (here : work_on f (b s).works ≡ Some e) (l : KindWord) (is : kind_at m2 f ≡ l) (kind : l.kind ≡ (kind_fields e.word).kind) where
     pub was : kind_at m f ≡ kind_fields e.word
-    was = work_word n s m b seat sound f e here
+    was = work_word n m b s f e (works_facts n m b s f e sound seat here)
 
     in_works : 0 < works_on f (b s).works
     in_works = first-some (λ y. y.frame) f e (b s).works here

@@ -1,16 +1,14 @@
 -- Kind words that the seat in whose work a frame is may store.
-use Rattle.std.proofs.Common.{◌≡◌, ℕ, ◌⊎◌, if◌then◌else◌, Bool, true, false, List, refl, arith, IsTrue}
-use Rattle.std.proofs.lemmas.Bool.{or_cases}
+use Rattle.std.proofs.Common.{◌≡◌, ℕ, if◌then◌else◌, Bool, true, false, List, refl, arith, IsTrue}
 use Rattle.std.proofs.lemmas.Bool.Decides.{nat_tests}
 use Rattle.xp_words.specs.declared.kind.KindWord.{KindWord}
 use Rattle.xp_words.specs.KindWords.{has_form}
 use Rattle.xp_words.specs.Places.{Place}
 use Rattle.xp_board.specs.declared.holdings.TypedReference.{TypedReference}
 use Rattle.xp_board.specs.Lists.{EachOf}
-use Rattle.xp_board.specs.Readings.{is_partial, is_work, is_closing}
+use Rattle.xp_board.specs.Readings.{is_partial, is_closing}
 use Rattle.xp_board.specs.Hands.{without_typed}
 use Rattle.xp_board.specs.Recorded.{HasType}
-use Rattle.xp_board.specs.Sound.{is_busy}
 use Rattle.board_lemmas.proofs.HandLists.{EachOf-without}
 
 pub closing_flushed : (k : KindWord) → has_form k ≡ true → IsTrue (is_closing k) → k.unflushed ≡ false

@@ -12,7 +12,7 @@ use Rattle.xp_board.specs.declared.holdings.Work.{Work}
 use Rattle.xp_board.specs.declared.holdings.TypedReference.{TypedReference}
 use Rattle.xp_board.specs.declared.step.Step.{Step}
 use Rattle.xp_board.specs.Lists.{EachOf}
-use Rattle.xp_board.specs.Readings.{type_count, kind_at, kind_stamp, is_partial, is_work, is_dead, is_closing}
+use Rattle.xp_board.specs.Readings.{type_count, kind_at, kind_stamp, is_partial, is_work, is_closing}
 use Rattle.xp_board.specs.Hands.{refs_to, works_on, work_on}
 use Rattle.xp_board.specs.Recorded.{held, held_of, HasType}
 use Rattle.xp_board.specs.KindSteps.{Resume, Begin, begun_kind, resumed_kind, is_stale}

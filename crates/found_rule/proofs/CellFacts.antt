@@ -1,5 +1,5 @@
 -- Who may have the frame of a cell that is written.
-use Rattle.std.proofs.Common.{◌≡◌, ℕ, ◌<◌, true, false, Some, IsTrue, sym, ap, subst, ◌∙◌, inl, inr, arith}
+use Rattle.std.proofs.Common.{◌≡◌, ℕ, ◌<◌, true, false, Some, IsTrue, sym, subst, inl, inr, arith}
 use Rattle.std.proofs.lemmas.Bool.{cases_eq, and_parts}
 use Rattle.xp_words.specs.declared.kind.PageType.{PageType}
 use Rattle.xp_words.specs.declared.kind.PageType.TheVariants as kinds
@@ -16,9 +16,7 @@ use Rattle.xp_board.specs.Readings.{kind_at, ref_count}
 use Rattle.xp_board.specs.Hands.{works_on, locks_on, lock_on, claims_of}
 use Rattle.xp_board.specs.After.{is_fixed}
 use Rattle.xp_board.specs.Settling.{HasDemand}
-use Rattle.xp_board.specs.Recorded.{HasType}
 use Rattle.xp_board.specs.Found.{WorkFound, is_same_entry}
-use Rattle.xp_board.specs.WellFormed.{IsLockFormed}
 use Rattle.xp_board.specs.Sound.{Sound, WorkAgrees}
 use Rattle.found_rule.proofs.WordsOf.{CellSpared}
 use Rattle.found_rule.proofs.Counted.{typed_ref_counted, lock_counted}
@@ -30,6 +28,7 @@ use Rattle.board_lemmas.proofs.HandLists.{EachOf-all, EachOf-first, first-key}
 use Rattle.board_lemmas.proofs.ListCounts.{EachOf-there, first_by-some}
 use Rattle.board_lemmas.proofs.Counted.{type_below}
 use Rattle.board_lemmas.proofs.Works.{is_locked-mine, nobody_works, counted_alive}
+use Rattle.board_lemmas.proofs.LockFacts.{lock_facts}
 
 -- no frame in work is marked, or no descriptor page, and has words that are known to be fixed
 abbrev pub FixedWorks : Machine → (ℕ → Holdings) → Type 0
@@ -61,16 +60,10 @@ module _ (n : Machine) (m : Place → ℕ) (b : ℕ → Holdings) (sound : Sound
 
   -- a locked frame is a live and counted table
   pub lock_type : (t : ℕ) → t < (sizes_of n).vcpus → (e : Lock) → lock_on f (b t).locks ≡ Some e → (kind_at m f).kind ≡ e.kind
-  lock_type t l e here =
-      let frame = first-key (λ y. y.frame) f e (b t).locks here in
-      let kind = EachOf-first (λ y. HasType m y.frame (Some y.kind)) (λ y. y.frame) f e (b t).locks (sound.counts.kinds.locks t l) here in
-      subst (λ g. (kind_at m g).kind ≡ e.kind) frame kind
+  lock_type t l e here = (lock_facts n m b t f e sound l here).kind
 
   pub lock_table : (t : ℕ) → t < (sizes_of n).vcpus → 0 < locks_on f (b t).locks → is_table (kind_at m f).kind ≡ true
-  lock_table t l some =
-      let one = first_by-some (λ e. e.frame) f (b t).locks some in
-      let formed = EachOf-first (IsLockFormed n (b t)) (λ y. y.frame) f one.0 (b t).locks (sound.formed t l).locks one.1 in
-      ap is_table (lock_type t l one.0 one.1) ∙ formed.table
+  lock_table t l some = let one = first_by-some (λ e. e.frame) f (b t).locks some in (lock_facts n m b t f one.0 sound l one.1).table
 
   pub lock_live : (t : ℕ) → t < (sizes_of n).vcpus → 0 < locks_on f (b t).locks → ((kind_at m f).validated ≡ true) × (0 < (kind_at m f).number)
   lock_live t l some =

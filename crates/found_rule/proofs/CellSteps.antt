@@ -1,6 +1,5 @@
 -- Stores into a table under the own lock, and into a frame that is claimed, in the own work, or ordinary memory.
-use Rattle.std.proofs.Common.{◌≡◌, ◌≢◌, ℕ, ◌<◌, ◌≤◌, ◌==◌, true, false, length, Option, Some, None, IsTrue, refl, sym, ap, subst, ◌∙◌, inl, inr, arith}
-use Rattle.std.proofs.lemmas.Bool.{cases_eq}
+use Rattle.std.proofs.Common.{◌≡◌, ◌≢◌, ℕ, ◌<◌, ◌≤◌, true, length, Some, IsTrue, refl, sym, ap, subst, ◌∙◌, inl, inr, arith}
 use Rattle.std.proofs.lemmas.Bool.Decides.{nat_tests}
 use Rattle.xp_words.specs.declared.kind.PageType.{PageType}
 use Rattle.xp_words.specs.PageTypes.{type_number, is_table}
@@ -11,18 +10,14 @@ use Rattle.xp_words.specs.Entries.{demand_at}
 use Rattle.xp_words.specs.Machine.{Machine}
 use Rattle.xp_words.specs.Places.{sizes_of, is_place, Place, Refs, Kind, Cell, flushed_of, run_of}
 use Rattle.xp_board.specs.declared.step.Step.{Step}
-use Rattle.xp_board.specs.declared.holdings.Seen.{Seen}
 use Rattle.xp_board.specs.declared.holdings.Lock.{Lock}
 use Rattle.xp_board.specs.declared.holdings.Holdings.{Holdings}
 use Rattle.xp_board.specs.Lists.{EachOf, Member}
-use Rattle.xp_board.specs.Steps.{last_since}
 use Rattle.xp_board.specs.Readings.{kind_at}
 use Rattle.xp_board.specs.Hands.{works_on, locks_on, lock_on, claims_of}
 use Rattle.xp_board.specs.After.{is_fixed}
 use Rattle.xp_board.specs.Settling.{demand_in, demand_out}
-use Rattle.xp_board.specs.CellSteps.{keeps_demand, is_same_as_seen}
-use Rattle.xp_board.specs.Found.{LockFound, is_same_entry}
-use Rattle.xp_board.specs.WellFormed.{SeenIs, IsLockFormed}
+use Rattle.xp_board.specs.CellSteps.{keeps_demand}
 use Rattle.xp_board.specs.Reach.{reached_by, cached, walked}
 use Rattle.xp_board.specs.Sound.{Sound}
 use Rattle.step_effects.proofs.ActEffects.{Exchanged, Rewrote}
@@ -39,19 +34,10 @@ use Rattle.found_rule.proofs.MyHand.{refs_old, typed_old}
 use Rattle.found_rule.proofs.RestLaw.{rest_done}
 use Rattle.found_rule.proofs.Quiet.{Done}
 use Rattle.board_lemmas.proofs.EntryAsks.{walked_inside}
-use Rattle.board_lemmas.proofs.EntryWords.{entry_asks_same, same_demand}
-use Rattle.board_lemmas.proofs.HandLists.{EachOf-first, first-key, first-some}
+use Rattle.board_lemmas.proofs.HandLists.{first-some}
 use Rattle.board_lemmas.proofs.Works.{only_my_lock}
 use Rattle.board_lemmas.proofs.KindForms.{live_unmarked}
-
--- the cell as it was last seen asks the same
-seen_by : (kind : PageType) (i new : ℕ) (o : Option Seen) → IsTrue (is_same_as_seen kind i new o) → (s : Seen) × (o ≡ Some s) × (s.index ≡ i) × (demand_at kind i s.word ≡ demand_at kind i new)
-seen_by kind i new (Some s) t =
-    elim (cases_eq s.index i) [
-      | inl at ↦ (let y : (s.index == i) ≡ true = grind (arith, nat_tests) in (s, refl, at, same_demand (demand_at kind i s.word) (demand_at kind i new) (rw y at t)))
-      | inr off ↦ absurd (let y : (s.index == i) ≡ false = grind (arith, nat_tests) in let q : false ≡ true = rw y at t in cc)
-    ]
-seen_by kind i new None t = absurd cc
+use Rattle.board_lemmas.proofs.LockFacts.{lock_facts, rewritten_same}
 
 pub table_levels : (t : PageType) → is_table t ≡ true → (1 ≤ type_number t) × (type_number t ≤ 4)
 table_levels t e = (grind (arith, nat_tests), grind (arith, nat_tests))
@@ -132,20 +118,13 @@ module _ (n : Machine) (s : ℕ) (x : Step) (m m2 : Place → ℕ) (b c : ℕ �
 
     -- the same demand as that of the recorded entry
     same_asks : IsTrue (keeps_demand e i (m2 (Cell f i))) → i < 512 → AsksLive m (demand_at e.kind i (m2 (Cell f i)))
-    unfolding some live
+    unfolding live
     same_asks same inside =
-        let z = sizes_of n in
-        let p = seen_by e.kind i (m2 (Cell f i)) e.seen same in
-        let frame = first-key (λ y. y.frame) f e (b s).locks here in
-        let formed = EachOf-first (IsLockFormed n (b s)) (λ y. y.frame) f e (b s).locks (sound.formed s l).locks here in
-        let found = EachOf-first (LockFound z m (b s)) (λ y. y.frame) f e (b s).locks (sound.found s l).locks here in
-        let last : last_since z e.since (Cell e.frame (p.0).index) (b s).steps ≡ Some (p.0).word = subst (λ o. SeenIs z e.since e.frame (b s).steps o) p.1 formed.seen in
-        let entry : IsTrue (is_same_entry (m (Cell f i)) (p.0).word) =
-        subst (λ g. IsTrue (is_same_entry (m (Cell g i)) (p.0).word)) frame (subst (λ j. IsTrue (is_same_entry (m (Cell e.frame j)) (p.0).word)) p.2 (found (p.0).index (p.0).word last)) in
-        let kind = lock_type n m b sound f s l e here in
-        let levels = table_levels (kind_at m f).kind (lock_table n m b sound f s l some) in
-        let old : AsksLive m (demand_at (kind_at m f).kind i (m (Cell f i))) = recorded_asks n m b sound f i inside live.0 live.1 levels.0 levels.1 in
-        subst (λ d. AsksLive m d) (entry_asks_same e.kind i (m (Cell f i)) (p.0).word entry ∙ p.3) (subst (λ t. AsksLive m (demand_at t i (m (Cell f i)))) kind old)
+        let k = lock_facts n m b s f e sound l here in
+        let asks = rewritten_same n m b s f i (m2 (Cell f i)) e k same in
+        let levels = table_levels (kind_at m f).kind k.table in
+        let old = recorded_asks n m b sound f i inside live.0 live.1 levels.0 levels.1 in
+        subst (λ d. AsksLive m d) (sym asks ∙ ap (λ t. demand_at t i (m2 (Cell f i))) k.kind) old
 
   inside_of : Exchanged n x f i m m2 (b s) (c s) → i < 512
   unfolding is_place

@@ -6,7 +6,6 @@ use Rattle.xp_words.specs.declared.kind.PageType.TheVariants as kinds
 use Rattle.xp_words.specs.PageTypes.{type_number}
 use Rattle.xp_words.specs.Entries.{fixed}
 use Rattle.xp_words.specs.KindWords.{kind_fields}
-use Rattle.xp_words.proofs.EntryLaws.{fixed_again}
 use Rattle.xp_words.specs.Machine.{Machine}
 use Rattle.xp_words.specs.Places.{sizes_of, Place, Refs, Cell}
 use Rattle.xp_board.specs.declared.step.Step.{Step}
@@ -21,7 +20,6 @@ use Rattle.xp_board.specs.Found.{WorkFound}
 use Rattle.xp_board.specs.Reach.{Table}
 use Rattle.xp_board.specs.Sound.{Sound}
 use Rattle.step_effects.proofs.ActEffects.{Filled}
-use Rattle.board_lemmas.proofs.PlaceTests.{equal_refl}
 use Rattle.found_rule.proofs.Learning.{Act, act}
 use Rattle.found_rule.proofs.Counted.{typed_ref_counted}
 use Rattle.found_rule.proofs.Demands.{same_rest}
@@ -36,9 +34,7 @@ use Rattle.board_lemmas.proofs.Counted.{type_below}
 use Rattle.board_lemmas.proofs.Works.{is_busy-mine, is_dying-mine, nobody_locks, counted_alive, only_mine, only_my_ending}
 use Rattle.board_lemmas.proofs.KindForms.{live_unmarked}
 use Rattle.board_lemmas.proofs.RefForms.{dying_uncounted}
-
-fixed_by : (w new : ℕ) → fixed w ≡ Some new → IsTrue (is_fixed new)
-fixed_by w new e = let k = fixed_again w new e in rw k (equal_refl new)
+use Rattle.board_lemmas.proofs.EntryWords.{fixed_by}
 
 module _ (n : Machine) (s : ℕ) (x : Step) (m m2 : Place → ℕ) (b c : ℕ → Holdings) (l : s < (sizes_of n).vcpus) (sound : Sound n m b) (others : (t : ℕ) → t ≢ s → c t ≡ b t) (f i : ℕ)
     (acted : Act n s (Cell f i) m m2 (b s) (b s) (c s)) where

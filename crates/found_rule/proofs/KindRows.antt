@@ -23,7 +23,7 @@ use Rattle.board_lemmas.proofs.KindForms.{live_form}
 use Rattle.found_rule.proofs.Learning.{Act, act}
 use Rattle.found_rule.proofs.Words.{Words}
 use Rattle.found_rule.proofs.WordsAt.{words_kind}
-use Rattle.found_rule.proofs.KnownFacts.{OwnerRight, IsLiveAs, RefRight, TypedRight, LockRight, type_by}
+use Rattle.found_rule.proofs.KnownFacts.{OwnerRight, IsLiveAs, RefRight, TypedRight, LockRight}
 use Rattle.found_rule.proofs.KnownStays.{owner_new, live_new, partial_new, live_found, partial_found}
 use Rattle.found_rule.proofs.HandFacts.{ReachKept}
 use Rattle.found_rule.proofs.MyHand.{refs_old, typed_old, lock_right_old, locks_old}
@@ -34,6 +34,7 @@ use Rattle.board_lemmas.proofs.KindReadings.{stamp_live}
 use Rattle.board_lemmas.proofs.HandLists.{EachOf-more, EachOf-without, EachOf-kept}
 use Rattle.board_lemmas.proofs.Works.{nobody_works}
 use Rattle.board_lemmas.proofs.MoreSteps.{none_last}
+use Rattle.board_lemmas.proofs.EntryWords.{type_same}
 
 module _ (n : Machine) (s : ℕ) (x : Step) (m m2 : Place → ℕ) (b c : ℕ → Holdings) (l : s < (sizes_of n).vcpus) (sound : Sound n m b) (others : (t : ℕ) → t ≢ s → c t ≡ b t) (f : ℕ) where
   -- the hand once the exchange has told that the seat looks no more
@@ -185,7 +186,7 @@ module _ (n : Machine) (s : ℕ) (x : Step) (m m2 : Place → ℕ) (b c : ℕ �
         refs = EachOf-without (RefRight z m2 (c s).steps) (λ e. e.frame) f (b s).refs (refs_are u acted words free reach);
         typed = typed_are u acted words free reach;
         lock_right = EachOf-more (LockRight z m2 (c s).steps) new (b s).locks
-            (record { owner = owner_is u acted words free reach; live = λ t q. let e = live_as k d.l d.fields_is v kind in (e.0, e.1 ∙ type_by k.kind t q) })
+            (record { owner = owner_is u acted words free reach; live = λ t q. let e = live_as k d.l d.fields_is v kind in (e.0, e.1 ∙ type_same k.kind t q) })
             (lock_right_old n s (Kind f) m m2 b c u acted l sound words reach);
         works = kind_works_stay n s m m2 b c l sound others f u acted words (none u acted words free) reach;
         locks = EachOf-more (LockFound z m2 (c s)) new (b s).locks (λ i w q. absurd (none_last z (length (b s).steps + 1) (Cell f i) w (c s).steps (omega arith) q))

@@ -13,8 +13,9 @@ use Rattle.xp_board.specs.Steps.{last_since}
 use Rattle.xp_board.specs.Readings.{kind_at, owner_of, is_live, is_type, is_owned_by, is_live_as, is_partial, is_partial_as}
 use Rattle.xp_board.specs.Knowledge.{passes}
 use Rattle.found_rule.proofs.Growth.{Grown, grown_some, grown_last}
-use Rattle.found_rule.proofs.KnownFacts.{OwnerRight, IsLiveAs, LiveRight, PartialRight, owned_by, type_by, passes_some}
+use Rattle.found_rule.proofs.KnownFacts.{OwnerRight, IsLiveAs, LiveRight, PartialRight, owned_by, passes_some}
 use Rattle.board_lemmas.proofs.MoreSteps.{none_last, none_since}
+use Rattle.board_lemmas.proofs.EntryWords.{type_same}
 
 module _ (z : Sizes) (m m2 : Place → ℕ) (xs ys : List Made) (g : Grown z m m2 xs ys) (f : ℕ) where
   -- ---- what was known
@@ -27,7 +28,7 @@ module _ (z : Sizes) (m m2 : Place → ℕ) (xs ys : List Made) (g : Grown z m m
       ]
 
   pub live_now : (t : PageType) → IsTrue (is_live_as t (m2 (Kind f))) → IsLiveAs m2 f t
-  live_now t h = let a = and_parts (is_live (kind_at m2 f)) (is_type (kind_at m2 f).kind t) h in (a.0, type_by (kind_at m2 f).kind t a.1)
+  live_now t h = let a = and_parts (is_live (kind_at m2 f)) (is_type (kind_at m2 f).kind t) h in (a.0, type_same (kind_at m2 f).kind t a.1)
 
   pub live_kept : (IsTrue (is_live (kind_at m f)) → IsTrue (is_live (kind_at m2 f))) → (kind_at m2 f).kind ≡ (kind_at m f).kind → (t : PageType) → IsLiveAs m f t → IsLiveAs m2 f t
   live_kept l k t h = (l h.0, k ∙ h.1)
@@ -40,7 +41,7 @@ module _ (z : Sizes) (m m2 : Place → ℕ) (xs ys : List Made) (g : Grown z m m
 
   partial_now : (t : PageType) (w : ℕ) → m2 (Kind f) ≡ w → IsTrue (is_partial_as t w) → (kind_at m2 f).kind ≡ t
   partial_now t w e h =
-      let a = and_parts (is_partial (kind_fields w)) (is_type (kind_fields w).kind t) h in ap (λ y. (kind_fields y).kind) e ∙ type_by (kind_fields w).kind t a.1
+      let a = and_parts (is_partial (kind_fields w)) (is_type (kind_fields w).kind t) h in ap (λ y. (kind_fields y).kind) e ∙ type_same (kind_fields w).kind t a.1
 
   pub partial_right : (kind_at m2 f).kind ≡ (kind_at m f).kind → (w : Liveness) → PartialRight z m xs f w → PartialRight z m2 ys f w
   partial_right k lives.Found c t h = absurd cc
@@ -76,7 +77,7 @@ module _ (z : Sizes) (m m2 : Place → ℕ) (xs ys : List Made) (g : Grown z m m
 
   -- found or made live by this step
   pub live_found : (k : PageType) → IsLiveAs m2 f k → LiveRight z m2 ys f (Some k) lives.Found
-  live_found k h t e = (h.0, h.1 ∙ type_by k t e)
+  live_found k h t e = (h.0, h.1 ∙ type_same k t e)
 
   pub partial_found : PartialRight z m2 ys f lives.Found
   partial_found t h = absurd cc

@@ -25,6 +25,7 @@ use Rattle.board_lemmas.proofs.HandLists.{EachOf-map}
 use Rattle.board_lemmas.proofs.ListCounts.{EachOf-both, EachOf-there}
 use Rattle.board_lemmas.proofs.ListChanges.{EachOf-changes}
 use Rattle.board_lemmas.proofs.Works.{is_busy-mine}
+use Rattle.board_lemmas.proofs.HandParts.{either}
 
 -- ---- what is learned of the word of one cell
 fixed_if : (m2 : Place → ℕ) (f i w bound : ℕ) (t b : Bool) → b ≡ (t && ((i == bound) && is_fixed w)) → m2 (Cell f i) ≡ w →
@@ -44,14 +45,10 @@ scrubbed_if m2 f i w bound true e now h j l =
     elim (cases_lt j bound) [ inl below ↦ h j below | inr above ↦ (let r : i ≡ j = omega arith in rw (← r) (now ∙ eqb-true w 0 p.1)) ]
 scrubbed_if m2 f i w bound false e now h j l = h j l
 
-work_if : (P : Work → Type 0) (b : Bool) (e c : Work) → P e → P c → P (if b then e else c)
-work_if P true e c h k = h
-work_if P false e c h k = k
-
 learned_work_law : (n : Machine) (m2 : Place → ℕ) (h2 : ℕ → Holdings) (b : Holdings) (f i : ℕ) (e : Work) → e.frame ≡ f → WorkFound n m2 h2 b e → WorkFound n m2 h2 b (learned_work i (m2 (Cell f i)) e)
 learned_work_law n m2 h2 b f i e at c =
     let w = m2 (Cell f i) in
-    work_if (λ x. WorkFound n m2 h2 b x) (kind_fields e.word).unflushed e
+    either (λ x. WorkFound n m2 h2 b x) (kind_fields e.word).unflushed e
     (record e {
       seen = Some (record { index = i; word = w });
       unsettled = learned_last i e.recorded w e.unsettled;

@@ -23,7 +23,6 @@ use Rattle.found_rule.proofs.Words.{Words}
 use Rattle.found_rule.proofs.WordsOf.{words_lone, lone_vcpu}
 use Rattle.found_rule.proofs.KnownFacts.{RefRight, TypedRight, IsLiveAs, LiveRight, PartialRight}
 use Rattle.found_rule.proofs.KnownStays.{owner_new, live_new, partial_new, live_found, partial_found}
-use Rattle.found_rule.proofs.WalkRows.{has_type}
 use Rattle.found_rule.proofs.Demands.{RefsMoved, same_rest, then_moved}
 use Rattle.found_rule.proofs.MyHand.{refs_old, typed_old}
 use Rattle.found_rule.proofs.Outcome.{reach_kept}
@@ -33,6 +32,7 @@ use Rattle.xp_board.specs.After.{noted}
 use Rattle.found_rule.proofs.RestLaw.{rest_done}
 use Rattle.board_lemmas.proofs.HandLists.{EachOf-more, EachOf-without}
 use Rattle.board_lemmas.proofs.MoreSteps.{EachSince-some}
+use Rattle.board_lemmas.proofs.LiveTables.{has_type}
 
 moved_named_out : (w : ℕ) (a : Holdings) → RefsMoved a (named_out w a)
 moved_named_out zero a = same_rest a a refl

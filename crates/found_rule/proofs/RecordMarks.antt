@@ -28,13 +28,10 @@ use Rattle.found_rule.proofs.MarkLaw.{MarkKept, marked_found, marked_formed}
 use Rattle.found_rule.proofs.MarkSteps.{works_marked, known_was}
 use Rattle.board_lemmas.proofs.ListChanges.{EachOf-changes, EachOf-changed_first}
 use Rattle.board_lemmas.proofs.Works.{one_works}
+use Rattle.board_lemmas.proofs.WorkFacts.{seen_is}
 
 seen_there : (z : Sizes) (k f : ℕ) (steps : List Made) (o : Option Seen) (i w : ℕ) → SeenIs z k f steps o → o ≡ Some (record { index = i; word = w }) → last_since z k (Cell f i) steps ≡ Some (seen_word o)
-seen_there z k f steps (Some s) i w h e =
-    let a : s ≡ record { index = i; word = w } = cc in
-    let b : s.index ≡ i = ap (λ y. y.index) a in
-    subst (λ j. last_since z k (Cell f j) steps ≡ Some s.word) b h
-seen_there z k f steps None i w h e = absurd cc
+seen_there z k f steps o i w h e = seen_is z k f steps o i w h e ∙ ap (λ y. Some (seen_word y)) (sym e)
 
 none_is : (o : Option Unsettled) → is_none o ≡ true → o ≡ None
 none_is None e = refl

@@ -1,5 +1,5 @@
 -- Where a path from a vCPU's base leads.
-use Rattle.std.proofs.Common.{◌≡◌, ℕ, ◌+◌, ◌<◌, ◌≤◌, ◌&&◌, inl, inr, Bool, true, false, nat_lt, nat_le, refl, sym, ◌∙◌, ap, subst, arith, IsTrue, Option, Some, None}
+use Rattle.std.proofs.Common.{◌≡◌, ℕ, ◌+◌, ◌<◌, ◌≤◌, ◌&&◌, inl, inr, Bool, true, false, nat_le, refl, sym, ◌∙◌, ap, subst, arith, IsTrue, Option, Some, None}
 use Rattle.std.proofs.lemmas.Bool.Decides.{nat_tests}
 use Rattle.xp_words.specs.declared.kind.PageType.{PageType}
 use Rattle.xp_words.specs.declared.kind.PageType.TheVariants as kinds
@@ -11,18 +11,15 @@ use Rattle.xp_words.specs.Machine.{Machine}
 use Rattle.xp_words.specs.Places.{sizes_of, is_place, Place, Vcpu, Refs, Cell}
 use Rattle.xp_board.specs.declared.holdings.Holdings.{Holdings}
 use Rattle.xp_board.specs.FillSteps.{is_walked}
-use Rattle.xp_board.specs.Readings.{kind_at, is_context, owner_of, domain_of}
-use Rattle.xp_board.specs.Recorded.{held, entry_demand, HasType}
-use Rattle.xp_board.specs.ContextSteps.{context_type}
-use Rattle.xp_board.specs.Valid.{Permits, PermitsOwner, EntryPermitted, is_live_context}
+use Rattle.xp_board.specs.Readings.{kind_at, owner_of, domain_of}
+use Rattle.xp_board.specs.Recorded.{held, entry_demand}
+use Rattle.xp_board.specs.Valid.{Permits, PermitsOwner, EntryPermitted}
 use Rattle.xp_board.specs.Reach.{LeadsTo, Path, is_in_use, is_writable_entry}
 use Rattle.xp_board.specs.Safe.{SafeAt}
 use Rattle.xp_board.specs.Spelling.{IsSpelling}
 use Rattle.xp_board.specs.Sound.{Sound}
-use Rattle.board_lemmas.proofs.Counted.{contexts-part}
 use Rattle.board_lemmas.proofs.EntryAsks.{asks_table, asks_leaf, LeafAsks, walked_inside}
-use Rattle.board_lemmas.proofs.KindReadings.{live_count}
-use Rattle.board_lemmas.proofs.LiveTables.{table_held, leads_live, named_counted}
+use Rattle.board_lemmas.proofs.LiveTables.{table_held, leads_live, named_counted, base_context, base_table}
 
 -- a live and counted table of that level, of that domain
 pub record Serves (m : Place → ℕ) (d level f : ℕ) : Type 0 where
@@ -95,14 +92,6 @@ module _ (n : Machine) (m : Place → ℕ) (h : ℕ → Holdings) (sound : Sound
       ]
 
 -- ---- the base
-base_live : (k : ℕ) → k < 2 → is_live_context k ≡ true
-base_live k b = grind (arith, nat_tests)
-
-base_context : (k : ℕ) → k < 2 → is_context k ≡ true
-base_context k b = grind (arith, nat_tests)
-
-base_type : (k : ℕ) → k < 2 → context_type k ≡ Some kinds.L4
-base_type k b = let e : nat_lt k 2 ≡ true = grind (arith, nat_tests) in rw e
 
 base_inside : (n : Machine) (v k g : ℕ) → k < 2 → IsSpelling n (Vcpu v k) (g + 1) → g < n.frames
 unfolding IsSpelling
@@ -110,9 +99,6 @@ base_inside n v k g b spelled =
     let e = base_context k b in
     let w : IsTrue (nat_le (g + 1) n.frames) = rw e at spelled.1 in
     grind (arith, nat_tests)
-
-has_type : (m : Place → ℕ) (g : ℕ) (t : Option PageType) (u : PageType) → t ≡ Some u → HasType m g t → (kind_at m g).kind ≡ u
-has_type m g t u e has = subst (λ x. HasType m g x) e has
 
 base_place : (n : Machine) (v k : ℕ) → v < (sizes_of n).vcpus → k < 2 → IsTrue (is_place (sizes_of n) (Vcpu v k))
 unfolding is_place
@@ -125,20 +111,9 @@ last_writable a b c false w p e = grind arith
 module _ (n : Machine) (m : Place → ℕ) (h : ℕ → Holdings) (sound : Sound n m h) where
   pub base_serves : (v k g : ℕ) → v < (sizes_of n).vcpus → k < 2 → m (Vcpu v k) ≡ g + 1 → Serves m (domain_of n v) 4 g × (g < (sizes_of n).frames)
   base_serves v k g real b names =
-      let live = sound.valid.contexts v k g real (omega arith) (base_live k b) names in
-      let count = sound.counts.types g in
-      let number = live_count (kind_at m g) live in
-      let context = contexts-part (sizes_of n) m g v k real (omega arith) (base_context k b) names in
-      let kind = has_type m g (context_type k) kinds.L4 (base_type k b) (sound.counts.kinds.contexts v k g real (omega arith) (base_context k b) names) in
-      let spelled = subst (λ w. IsSpelling n (Vcpu v k) w) names (sound.spelled.spelled (Vcpu v k) (base_place n v k real b)) in (
-        record {
-          live = live;
-          counted = omega arith;
-          level_is = ap type_number kind;
-          owner = sound.permitted.contexts v k g real (omega arith) (base_live k b) names;
-        },
-        base_inside n v k g b spelled,
-      )
+      let base = base_table n m h sound v k g real b names in
+      let spelled = subst (λ w. IsSpelling n (Vcpu v k) w) names (sound.spelled.spelled (Vcpu v k) (base_place n v k real b)) in
+      (record { live = base.live; counted = base.counted; level_is = ap type_number base.kind; owner = base.owner }, base_inside n v k g b spelled)
 
   pub path_safe : (v g : ℕ) (writable : Bool) → v < (sizes_of n).vcpus → Path (sizes_of n) m v writable g → SafeAt n m v writable g
   path_safe v g writable real path =

@@ -16,8 +16,9 @@ use Rattle.xp_board.specs.Sound.{Sound}
 use Rattle.step_effects.proofs.MarkEffects.{MarkEffect, nothing, turned, forgot, recorded_entry, shed_entry, Recorded, Shed, mark_effect}
 use Rattle.step_effects.proofs.ActEffects.{Looked, Missed, Stumbled, Mapped, Charged, Refunded, Named, Based, Asked, Ran, Ticked, Doomed, Buried, Hinted}
 use Rattle.board_lemmas.proofs.HandLists.{EachOf-changed, Member-kept}
-use Rattle.stale_rule.proofs.Like.{HandStays, same_stays, parts_like, parts_stay, works_stay, then_stays, if_stays, learned_stays, cell_stays, own_stays, in_stays, out_stays}
+use Rattle.stale_rule.proofs.Like.{HandStays, same_stays, parts_like, parts_stay, works_stay, then_stays, learned_stays, cell_stays, own_stays, in_stays, out_stays}
 use Rattle.stale_rule.proofs.Moves.{mark_law, still_law, aside_law, not_clock}
+use Rattle.board_lemmas.proofs.HandParts.{either}
 
 -- ---- marks
 recorded_stays : (n : Machine) (f upto : ℕ) (h b : Holdings) → Recorded n f upto h b → HandStays h b
@@ -63,7 +64,7 @@ no_walk a = record { like = parts_like a _ refl refl refl; claims = λ g e. e; c
 ran_stays : (new : ℕ) (a : Holdings) → HandStays a (ran_now new a)
 unfolding Member
 ran_stays new a =
-    if_stays (new == 0) a _ _ (parts_stay a _ refl refl refl refl refl refl)
+    either (HandStays a) (new == 0) _ _ (parts_stay a _ refl refl refl refl refl refl)
     (record { like = parts_like a _ refl refl refl; claims = λ g e. e; cache = λ x e. absurd e; walk = λ x e. e })
 
 other_word : (v w k : ℕ) → k ≢ 5 → flushed_of w ≢ Vcpu v k

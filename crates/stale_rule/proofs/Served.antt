@@ -1,25 +1,22 @@
 -- Frames that serve a use: live with its type where it has one, and counted.
-use Rattle.std.proofs.Common.{◌≡◌, ◌≢◌, ℕ, ◌-◌, ◌<◌, ◌≤◌, ◌==◌, inl, inr, Bool, true, false, refl, sym, ◌∙◌, ap, subst, arith, IsTrue, if◌then◌else◌, Option, Some, None}
+use Rattle.std.proofs.Common.{◌≡◌, ◌≢◌, ℕ, ◌-◌, ◌<◌, ◌≤◌, ◌==◌, inl, inr, Bool, true, false, refl, sym, ◌∙◌, ap, subst, arith, IsTrue, if◌then◌else◌, Some}
 use Rattle.std.proofs.lemmas.Bool.Decides.{nat_tests}
 use Rattle.xp_words.specs.declared.kind.PageType.{PageType}
 use Rattle.xp_words.specs.declared.entry.Demand.{Demand}
 use Rattle.xp_words.specs.declared.entry.Demand.TheVariants.{Nothing, Bad, Read, Typed}
-use Rattle.xp_words.specs.declared.refs.RefWord.{RefWord}
-use Rattle.xp_words.specs.declared.refs.RefWord.TheVariants.{Free, Owned, Dying}
-use Rattle.xp_words.specs.RefWords.{ref_read}
 use Rattle.xp_words.specs.PageTypes.{type_number}
 use Rattle.xp_words.specs.Entries.{is_bit, frame_of, is_lowest, demand_at}
 use Rattle.xp_words.specs.Machine.{Machine}
 use Rattle.xp_words.specs.Places.{sizes_of, Place, Refs, Cell}
 use Rattle.xp_board.specs.declared.holdings.Holdings.{Holdings}
 use Rattle.xp_board.specs.FillSteps.{is_walked}
-use Rattle.xp_board.specs.Readings.{kind_at, count_in, ref_count, owner_of, is_free_in, is_free, is_dying_in, is_dying}
-use Rattle.xp_board.specs.Recorded.{names, held, entry_demand}
+use Rattle.xp_board.specs.Readings.{kind_at, ref_count, owner_of}
+use Rattle.xp_board.specs.Recorded.{held, entry_demand}
 use Rattle.xp_board.specs.Valid.{Permits, EntryPermitted}
 use Rattle.xp_board.specs.Reach.{Use, Table, Writes, Reads, use_below}
 use Rattle.xp_board.specs.Fresh.{Belongs, Matches}
 use Rattle.xp_board.specs.Sound.{Sound}
-use Rattle.board_lemmas.proofs.Counted.{entries-part, type_below}
+use Rattle.board_lemmas.proofs.Counted.{type_below, plain_counted}
 use Rattle.stale_rule.proofs.Paths.{permits_own}
 use Rattle.board_lemmas.proofs.EntryAsks.{asks_table, asks_leaf, LeafAsks, walked_inside}
 use Rattle.board_lemmas.proofs.ReachAll.{IsLevel}
@@ -155,14 +152,8 @@ module _ (n : Machine) (m : Place → ℕ) (h : ℕ → Holdings) (sound : Sound
 
   plain_well : (d f i g : ℕ) → f < (sizes_of n).frames → i < held (sizes_of n) m h f → owner_of (m (Refs f)) ≡ Some d →
       entry_demand m f i ≡ Read g → AsksWell m (kind_at m f).kind d (Read g)
-  unfolding names
   plain_well d f i g inside recorded owner asks =
-      let count = sound.counts.refs g in
-      let entry = entries-part (names g) (sizes_of n) m h f i inside recorded in
-      let one : names g (entry_demand m f i) ≡ 1 = rw asks (grind (arith, nat_tests)) in (
-        omega arith,
-        subst (λ o. EntryPermitted m (kind_at m f).kind o g) owner (sound.permitted.plain f i g recorded asks),
-      )
+      (plain_counted n m h f i g sound recorded asks, subst (λ o. EntryPermitted m (kind_at m f).kind o g) owner (sound.permitted.plain f i g recorded asks))
 
   well_by : (d f i : ℕ) (q : Demand) → f < (sizes_of n).frames → i < held (sizes_of n) m h f → (kind_at m f).validated ≡ true → 0 < (kind_at m f).number → owner_of (m (Refs f)) ≡ Some d →
       entry_demand m f i ≡ q → AsksWell m (kind_at m f).kind d q

@@ -1,12 +1,10 @@
 -- How many entries a kind word holds before and after a step, and which forms are one seat's alone.
 use Rattle.std.proofs.Common.{◌≡◌, ℕ, ◌||◌, not, if◌then◌else◌, true, false, Some, None, IsTrue, refl, sym, inl, inr, arith, subst}
 use Rattle.std.proofs.lemmas.Bool.{cases_Bool, and_parts}
-use Rattle.std.proofs.lemmas.Bool.Decides.{nat_tests}
 use Rattle.xp_words.specs.declared.kind.KindWord.{KindWord}
 use Rattle.xp_words.specs.PageTypes.{is_table}
-use Rattle.xp_board.specs.Readings.{is_live, is_work, is_partial, is_dead, type_count}
+use Rattle.xp_board.specs.Readings.{is_live, is_work, is_partial, is_dead}
 use Rattle.xp_board.specs.Recorded.{held_of}
-use Rattle.xp_board.specs.Sound.{is_busy}
 
 -- ---- what is held
 pub live_held : (k l : KindWord) → IsTrue (is_live k) → IsTrue (is_live l) → l.kind ≡ k.kind → held_of l None ≡ held_of k None

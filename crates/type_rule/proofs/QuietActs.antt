@@ -10,13 +10,13 @@ use Rattle.xp_board.specs.declared.holdings.Holdings.{Holdings}
 use Rattle.xp_board.specs.Acts.{left_by}
 use Rattle.xp_board.specs.Hands.{work_on, changed_work, ending_of, claim_of, endings_of, claims_of}
 use Rattle.xp_board.specs.Lists.{kept_of}
-use Rattle.xp_board.specs.Readings.{is_context, ref_count, owner_of, has_ever, is_dying}
+use Rattle.xp_board.specs.Readings.{is_context, ref_count, owner_of, has_ever}
 use Rattle.xp_board.specs.RefSteps.{IsFreeStamp}
 use Rattle.xp_board.specs.FillSteps.{started, loaded, walked_by, is_for_write}
 use Rattle.xp_board.specs.RunSteps.{ran_now}
 use Rattle.xp_board.specs.After.{noted, learned_own, learned_work}
 use Rattle.xp_board.specs.Runs.{place_of}
-use Rattle.xp_board.specs.Sound.{Sound, HeldAlone}
+use Rattle.xp_board.specs.Sound.{Sound}
 use Rattle.board_lemmas.proofs.Bits.{granted-ever, revoked-ever}
 use Rattle.step_effects.proofs.ActEffects.{Looked, Raised, Cleared, Took, Lowered, Freed, Gave, Missed, Started, WentOn, Stumbled, Mapped, Charged, Refunded, Based, Asked, Flushed, Ran, Ticked, Doomed, Buried, Hinted, Privileged}
 use Rattle.board_lemmas.proofs.HandLists.{first-some}
@@ -28,9 +28,8 @@ use Rattle.type_rule.proofs.Works.{WorkKeptIn, works_kept, cell_kept}
 use Rattle.type_rule.proofs.EntryChange.{OneStep}
 use Rattle.type_rule.proofs.ValidLaw.{OwnersStay}
 use Rattle.type_rule.proofs.QuietLaw.{QuietAct, same_owners, one_owner}
-use Rattle.board_lemmas.proofs.Works.{is_dying-mine, dying_in_hand}
-use Rattle.xp_board.proofs.RefWords.{is_dying-read, dying_says, owned_says, free_says}
-use Rattle.board_lemmas.proofs.RefForms.{dying_uncounted}
+use Rattle.board_lemmas.proofs.Works.{dying_in_hand}
+use Rattle.xp_board.proofs.RefWords.{owned_says, free_says}
 
 told_held : (n : Machine) (stamp f : ℕ) (h : Holdings) (e : Option Ending) (c : Option Claimed) → ending_of f h.ending ≡ e → claim_of f h.claimed ≡ c → IsFreeStamp n stamp h e c →
     0 < endings_of f h.ending + claims_of f h.claimed
