@@ -1,5 +1,5 @@
 -- What is counted of each frame: the recorded entries and the words of vCPUs that name it.
-use Rattle.std.proofs.Common.{nat_lt, inl, inr, ◌≡◌, ◌≢◌, ℕ, ◌+◌, ◌<◌, ◌≤◌, Bool, true, false, Option, refl, ap, arith, IsTrue, if◌then◌else◌, add-one}
+use Rattle.std.proofs.Common.{nat_lt, inl, inr, ◌≡◌, ◌≢◌, ℕ, ◌+◌, ◌<◌, ◌≤◌, Bool, true, false, Option, refl, ap, arith, IsTrue, if◌then◌else◌, add-one, subst}
 use Rattle.std.proofs.lemmas.Bool.{cases_Bool}
 use Rattle.std.proofs.lemmas.Bool.Decides.{nat_tests}
 use Rattle.xp_words.specs.declared.entry.Demand.TheVariants.{Nothing, Bad, Read, Typed}
@@ -65,6 +65,9 @@ unfolding names_typed
 names_typed-typed g t d e = rw e (one_at-same g)
 
 -- ---- words of vCPUs
+pub not_context : (j k : ℕ) → is_context j ≡ false → IsTrue (is_context k) → k ≡ j → ⊥
+not_context j k off u e = let t : is_context j ≡ true = subst (λ y. is_context y ≡ true) e u in cc
+
 context_same : (z : Sizes) (m m2 : Place → ℕ) (g v k : ℕ) (t : Bool) → is_context k ≡ t → ((v k : ℕ) → IsTrue (is_context k) → m2 (Vcpu v k) ≡ m (Vcpu v k)) →
     (if t then one_at (g + 1) (m2 (Vcpu v k)) else 0) ≡ (if t then one_at (g + 1) (m (Vcpu v k)) else 0)
 context_same z m m2 g v k true at e = ap (one_at (g + 1)) (e v k at)
@@ -107,14 +110,14 @@ unfolding names
 names-read g d e = rw e (one_at-same g)
 
 -- ---- no frame has more typed references than references
-names_typed-fewer : (g : ℕ) (d : Demand) → names_typed g d ≤ names g d
+pub names_typed-fewer : (g : ℕ) (d : Demand) → names_typed g d ≤ names g d
 unfolding names names_typed
 names_typed-fewer g Nothing = omega arith
 names_typed-fewer g Bad = omega arith
 names_typed-fewer g (Read f) = omega arith
 names_typed-fewer g (Typed f t) = omega arith
 
-entries-fewer : (z : Sizes) (m : Place → ℕ) (h : ℕ → Holdings) (g : ℕ) → entries (names_typed g) z m h ≤ entries (names g) z m h
+pub entries-fewer : (z : Sizes) (m : Place → ℕ) (h : ℕ → Holdings) (g : ℕ) → entries (names_typed g) z m h ≤ entries (names g) z m h
 unfolding entries table_entries
 entries-fewer z m h g =
     sum_below-fewer z.frames _ _ (λ f. sum_below-fewer (held_of (kind_at m f) (work_of z.vcpus h f)) _ _ (λ i. names_typed-fewer g (entry_demand m f i)))

@@ -86,6 +86,9 @@ set_both w true =
 set_both w false = set5 w (is_bit 5 w) refl
 
 -- the entry with the bits that a walk sets is the same but for them
+pub touched_back : (walk : Walk) (w : ℕ) → IsTrue (is_same_entry (touched walk w) w)
+touched_back walk w = let same = set_both w (sets_dirty walk) in entry_whole (touched walk w) w (record { high = sym same.high; low = sym same.low })
+
 pub touched_same : (walk : Walk) (w : ℕ) → IsTrue (is_same_entry w (touched walk w))
 touched_same walk w = entry_whole w (touched walk w) (set_both w (sets_dirty walk))
 

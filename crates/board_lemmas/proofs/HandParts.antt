@@ -1,5 +1,5 @@
 -- Which parts of a hand a demand, a name, an own word, a walk or a Run step leaves.
-use Rattle.std.proofs.Common.{◌≡◌, ℕ, zero, suc, ◌==◌, not, nat_lt, if◌then◌else◌, Bool, true, false, refl, ◌∙◌}
+use Rattle.std.proofs.Common.{◌≡◌, ℕ, zero, suc, ◌==◌, not, nat_lt, Bool, refl, ◌∙◌}
 use Rattle.xp_words.specs.declared.entry.Demand.{Demand}
 use Rattle.xp_words.specs.declared.entry.Demand.TheVariants.{Nothing, Bad, Read, Typed}
 use Rattle.xp_words.specs.Entries.{frame_of, is_bit}
@@ -12,6 +12,7 @@ use Rattle.xp_board.specs.ContextSteps.{named_in, named_out}
 use Rattle.xp_board.specs.FillSteps.{started, loaded, descended, touched, level_of}
 use Rattle.xp_board.specs.RunSteps.{ran_now}
 use Rattle.xp_board.specs.After.{learned, learned_own}
+use Rattle.board_lemmas.proofs.Sums.{either}
 
 -- all lists but the references, and the steps
 pub record Beside (u v : Holdings) : Type 0 where
@@ -50,11 +51,6 @@ beside_then u v w a b =
 
 pub translations_then : (u v w : Holdings) → Translations u v → Translations v w → Translations u w
 translations_then u v w a b = translations u w (b.cache ∙ a.cache) (b.walk ∙ a.walk) (b.cold ∙ a.cold)
-
--- what holds of both holds of either
-pub either {ℓ} : {A : Type 0} (P : A → Type ℓ) (t : Bool) (x y : A) → P x → P y → P (if t then x else y)
-either P true x y a b = a
-either P false x y a b = b
 
 -- ---- demands
 pub beside_out : (d : Demand) (u : Holdings) → Beside u (demand_out d u)

@@ -1,5 +1,5 @@
 -- What a kind word of each form says, and what it says after a sum.
-use Rattle.std.proofs.Common.{Option, None, IsTrue, ap, ◌∙◌, inl, inr, ◌≡◌, ℕ, ◌+◌, ◌-◌, ◌/◌, ◌%◌, ◌^◌, ◌<◌, ◌==◌, ◌&&◌, ◌||◌, not, if◌then◌else◌, Bool, true, false, Some, refl, arith, sym}
+use Rattle.std.proofs.Common.{Option, None, IsTrue, ap, ◌∙◌, inl, inr, ◌≡◌, ℕ, ◌+◌, ◌-◌, ◌/◌, ◌%◌, ◌^◌, ◌<◌, ◌==◌, ◌&&◌, ◌||◌, not, if◌then◌else◌, Bool, true, false, Some, refl, arith}
 use Rattle.std.proofs.lemmas.Bool.{cases_Bool}
 use Rattle.xp_words.proofs.KindLaws.{when_some, kind_write-read}
 use Rattle.xp_words.specs.Machine.{Machine}
@@ -197,12 +197,3 @@ fields_unlocked w small some set =
     let h : (w + unlocked_down) % 2 ^ 64 / 2 ^ 36 % 2 ^ 10 ≡ w / 2 ^ 36 % 2 ^ 10 = omega arith in
     let i : (w + unlocked_down) % 2 ^ 64 % 2 ^ 36 ≡ w % 2 ^ 36 - 1 = omega arith in
     rw (a, b, c, d, e, f, g, h, i) refl
-
--- ---- a word that is a spelling
-some_read : (o : Option KindWord) (n : Machine) (w : ℕ) → kind_read w ≡ o → IsTrue (is_kind_in n o) → kind_read w ≡ Some (kind_fields w)
-some_read (Some k) n w e h = e ∙ ap Some (sym (fields_of w k e))
-some_read None n w e h = absurd (cc)
-
-pub read_of : (n : Machine) (f w : ℕ) → IsSpelling n (Kind f) w → kind_read w ≡ Some (kind_fields w)
-unfolding IsSpelling
-read_of n f w h = some_read (kind_read w) n w refl h

@@ -26,3 +26,4 @@ pub mod Hints
 pub mod LiveTables
 pub mod MoreSteps
 pub mod RefForms
+pub mod HandTypes

@@ -8,6 +8,7 @@ use Rattle.xp_board.specs.Lists.{EachOf}
 use Rattle.xp_board.specs.Steps.{is_at, left_of, some_step, some_since, last_since, EachStep, EachSince, steps_before}
 use Rattle.board_lemmas.proofs.PlaceTests.{is_same-refl, is_same-by, same_place, is_same-other}
 use Rattle.board_lemmas.proofs.StepLists.{head_or_tail, since_within}
+use Rattle.board_lemmas.proofs.HandLists.{EachOf-if}
 
 -- what stands at p was found by the newest step, or before
 pub some_since-cases : (z : Sizes) (n : ℕ) (p : Place) (test : ℕ → Bool) (x : Made) (xs : List Made) → IsTrue (some_since z n p test (x ∷ xs)) →
@@ -50,11 +51,6 @@ unfolding EachStep
 EachStep-map P Q [] f h = tt
 EachStep-map P Q (x ∷ xs) f h = (f (length xs) x h.0, EachStep-map P Q xs f h.1)
 
-pub EachStep-all : (P : ℕ → Made → Type 0) (xs : List Made) → ((k : ℕ) (x : Made) → P k x) → EachStep P xs
-unfolding EachStep
-EachStep-all P [] f = tt
-EachStep-all P (x ∷ xs) f = (f (length xs) x, EachStep-all P xs f)
-
 -- another property of the words
 pub EachSince-map : (z : Sizes) (n : ℕ) (p : Place) (P Q : ℕ → Type 0) (xs : List Made) → ((w : ℕ) → P w → Q w) → EachSince z n p P xs → EachSince z n p Q xs
 EachSince-map z n p P Q xs f h =
@@ -69,14 +65,11 @@ EachSince-more z n p P x xs f h =
     ((λ t. f (same_place (place_at z x.step.place) p (and_parts (nat_le n (length xs)) (is_at z p x) t).1)), h)
 
 -- ---- the steps before one
-before_if : (P : Made → Type 0) (b : Bool) (xs ys : List Made) → EachOf P xs → EachOf P ys → EachOf P (if b then xs else ys)
-before_if P true xs ys h k = h
-before_if P false xs ys h k = k
 
 pub EachOf-before : (z : Sizes) (p : Place) (test : ℕ → Bool) (P : Made → Type 0) (xs : List Made) → EachOf P xs → EachOf P (steps_before z p test xs)
 unfolding EachOf steps_before
 EachOf-before z p test P [] h = tt
-EachOf-before z p test P (x ∷ xs) h = before_if P (is_at z p x && test (left_of x)) xs (steps_before z p test xs) h.1 (EachOf-before z p test P xs h.1)
+EachOf-before z p test P (x ∷ xs) h = EachOf-if P (is_at z p x && test (left_of x)) xs (steps_before z p test xs) h.1 (EachOf-before z p test P xs h.1)
 
 first_if : (b : Bool) (xs ys : List Made) → (b ≡ true) ⊎ ((if b then xs else ys) ≡ ys)
 first_if true xs ys = inl refl

@@ -33,10 +33,10 @@ use Rattle.xp_board.specs.Readings.{is_context}
 use Rattle.xp_board.specs.RefSteps.{RefRow, Raise, Clear, Claim, NoRefRow, ref_row, after_ref_row, after_ref_store, after_ref}
 use Rattle.xp_board.specs.RunSteps.{after_run}
 use Rattle.board_lemmas.proofs.HandParts.{beside_out, beside_in, beside_named_in, beside_named_out, beside_learned, beside_ran}
+use Rattle.board_lemmas.proofs.Sums.{either}
 
 either_steps : (t : Bool) (a b h : Holdings) → a.steps ≡ h.steps → b.steps ≡ h.steps → (if t then a else b).steps ≡ h.steps
-either_steps true a b h x y = x
-either_steps false a b h x y = y
+either_steps t a b h x y = either (λ (u : Holdings). u.steps ≡ h.steps) t a b x y
 
 -- ---- what the word tells, and the mark
 pub learned_steps : (s : ℕ) (p : Place) (found left : ℕ) (h : Holdings) → (learned s p found left h).steps ≡ h.steps

@@ -71,20 +71,6 @@ since_within z n p test (x ∷ xs) h =
       | inr there ↦ (let r = since_within z n p test xs there in omega arith)
     ]
 
-pub between_within : (z : Sizes) (n o : ℕ) (p : Place) (test : ℕ → Bool) (xs : List Made) → IsTrue (some_between z n o p test xs) → n < o
-unfolding some_step
-between_within z n o p test [] h = absurd (cc)
-between_within z n o p test (x ∷ xs) h =
-    elim (head_or_tail (λ k y. (nat_le n k && nat_lt k o) && (is_at z p y && test (left_of y))) x xs h) [
-      | inl here ↦
-          (let a = and_parts (nat_le n (length xs) && nat_lt (length xs) o) (is_at z p x && test (left_of x)) here in
-          let b = and_parts (nat_le n (length xs)) (nat_lt (length xs) o) a.0 in
-          let l = from_le n (length xs) b.0 in
-          let r = from_lt (length xs) o b.1 in
-          omega arith)
-      | inr there ↦ between_within z n o p test xs there
-    ]
-
 -- what was not found before, and is now, this step found
 pub since_false : (z : Sizes) (n : ℕ) (p : Place) (test : ℕ → Bool) (x : Made) (xs : List Made) → some_since z n p test xs ≡ false →
     Hit z p test x ⊎ (some_since z n p test (x ∷ xs) ≡ false)

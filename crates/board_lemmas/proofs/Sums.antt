@@ -92,7 +92,12 @@ unfolding sum_below
 sum_below-fewer zero p q e = omega arith
 sum_below-fewer (suc n) p q e = let r = sum_below-fewer n p q e in let l = e n in omega arith
 
--- ---- tests of numbers
+-- ---- tests
+-- what holds of both holds of either
+pub either {ℓ} : {A : Type 0} (P : A → Type ℓ) (t : Bool) (x y : A) → P x → P y → P (if t then x else y)
+either P true x y a b = a
+either P false x y a b = b
+
 pub when_eq : (x y : ℕ) → x ≡ y → (x == y) ≡ true
 when_eq x y e = grind (arith, nat_tests)
 
@@ -162,10 +167,6 @@ pub hands-one : (c : Holdings → ℕ) (z : Sizes) (h h2 : ℕ → Holdings) (s 
     hands c z h2 + c (h s) ≡ hands c z h + c (h2 s)
 unfolding hands
 hands-one c z h h2 s b e = sum_below-one z.vcpus (λ t. c (h2 t)) (λ t. c (h t)) s b (λ t n. ap c (e t n))
-
-pub hands-same : (c : Holdings → ℕ) (z : Sizes) (h h2 : ℕ → Holdings) (s : ℕ) → s < z.vcpus → ((t : ℕ) → t ≢ s → h2 t ≡ h t) →
-    c (h2 s) ≡ c (h s) → hands c z h2 ≡ hands c z h
-hands-same c z h h2 s b e k = let one = hands-one c z h h2 s b e in omega arith
 
 pub hands-plus : (c d e : Holdings → ℕ) (z : Sizes) (h : ℕ → Holdings) → ((u : Holdings) → e u ≡ c u + d u) → hands e z h ≡ hands c z h + hands d z h
 unfolding hands

@@ -9,7 +9,7 @@ use Rattle.std.proofs.lemmas.Bool.Decides.{nat_tests}
 use Rattle.xp_words.specs.declared.kind.PageType.{PageType}
 use Rattle.xp_words.specs.PageTypes.{is_table, type_number}
 use Rattle.xp_words.specs.Machine.{Machine}
-use Rattle.xp_words.specs.Places.{sizes_of, is_place, Place, Kind, Cell, Refs}
+use Rattle.xp_words.specs.Places.{sizes_of, is_place, Place, Cell, Refs}
 use Rattle.xp_board.specs.declared.holdings.Holdings.{Holdings}
 use Rattle.xp_board.specs.declared.holdings.Claimed.{Claimed}
 use Rattle.xp_board.specs.declared.holdings.Work.{Work}
@@ -63,10 +63,6 @@ module _ (n : Machine) (s : ℕ) (x : Step) (m m2 : Place → ℕ) (b c : ℕ �
       cell_outcome n s m m2 b c seat others sound f i words (λ l. absurd (omega arith))
       (kept_noted x w (b s) _ (c s) hand (kept_cell f i (m2 (Cell f i)) (b s) (b s) (same_hand (b s)))) running (ap (λ u. u.cold) hand)
       (λ k e. ap (λ u. u.cache) hand ∙ e) (λ k e. ap (λ u. u.walk) hand ∙ e) spelled
-
-  kind_real : IsTrue (is_place (sizes_of n) (Cell f i)) → IsTrue (is_place (sizes_of n) (Kind f))
-  unfolding is_place
-  kind_real real = grind (arith, nat_tests)
 
   written_none : IsTrue (is_place (sizes_of n) (Cell f i)) → MayStore f (b s) → held (sizes_of n) m b f ≡ 0
   written_none real store =

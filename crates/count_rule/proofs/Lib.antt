@@ -24,7 +24,6 @@ mod KindActs
 mod TurnActs
 mod WorkActs
 mod DownActs
-mod StoreForms
 mod StoreActs
 mod PartialActs
 mod CellLaw

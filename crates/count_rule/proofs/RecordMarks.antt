@@ -12,18 +12,19 @@ use Rattle.xp_board.specs.declared.holdings.Holdings.{Holdings}
 use Rattle.xp_board.specs.declared.holdings.Work.{Work}
 use Rattle.xp_board.specs.Readings.{kind_at}
 use Rattle.xp_board.specs.Hands.{refs_to, hand, typed_hand, changed_work}
-use Rattle.xp_board.specs.Recorded.{work_of, entry_demand, names, names_typed, entries}
+use Rattle.xp_board.specs.Recorded.{work_of, entry_demand, names, names_typed, entries, HasType}
 use Rattle.xp_board.specs.Settling.{HasLastDemand, demand_in, demand_out}
 use Rattle.xp_board.specs.Marks.{MayRecord, MayShed, demand_seen, seen_word, unsettled_by}
 use Rattle.xp_board.specs.Sound.{HeldAlone, Sound}
 use Rattle.step_effects.proofs.MarkEffects.{Recorded, Shed}
 use Rattle.board_lemmas.proofs.Counted.{entries-one, table_entries-more, table_inside}
 use Rattle.count_rule.proofs.Quiet.{is_closing_at}
-use Rattle.count_rule.proofs.Demands.{IsInHand, out_hand, out_typed, in_hand, in_typed, out_types, in_types, Spares, out_spares, in_more, has_last, last_type}
+use Rattle.count_rule.proofs.Demands.{IsInHand, out_hand, out_typed, in_hand, in_typed, Spares, out_spares, in_more, has_last, last_type}
 use Rattle.count_rule.proofs.EntryMarks.{MarkMove, mark_alone, mark_held_other, mark_held_here, marked_outcome}
 use Rattle.count_rule.proofs.Outcome.{Outcome}
 use Rattle.board_lemmas.proofs.HandParts.{beside_out, beside_in, translations_out, translations_in}
 use Rattle.board_lemmas.proofs.WorkFacts.{work_word, work_held, seen_unmarked, loaded_asks, works_facts}
+use Rattle.board_lemmas.proofs.HandTypes.{typed_out, typed_in}
 
 module _ (n : Machine) (s : ℕ) (m : Place → ℕ) (h b : ℕ → Holdings) (seat : s < (sizes_of n).vcpus) (others : (t : ℕ) → t ≢ s → b t ≡ h t) (sound : Sound n m h) (f upto : ℕ) where
   hand_alike : (g : ℕ) (u v : Holdings) → v.refs ≡ u.refs → v.typed ≡ u.typed → v.locks ≡ u.locks → (hand g v ≡ hand g u) × (typed_hand g v ≡ typed_hand g u)
@@ -115,7 +116,7 @@ module _ (n : Machine) (s : ℕ) (m : Place → ℕ) (h b : ℕ → Holdings) (s
           refs = λ g. let k = entries_more (names g) in let o = (out_now g).0 in omega arith;
           types = λ g. let k = entries_more (names_typed g) in let o = (out_now g).1 in omega arith;
           last = last_typed;
-          typed = rw hand_is (out_types m asked bare (sound.counts.kinds.typed s seat));
+          typed = rw hand_is (typed_out (λ y. HasType m y.frame y.kind) asked bare (sound.counts.kinds.typed s seat));
         }
 
     pub recorded_by : Outcome n m b
@@ -192,7 +193,7 @@ module _ (n : Machine) (s : ℕ) (m : Place → ℕ) (h b : ℕ → Holdings) (s
           refs = λ g. let k = entries_fewer (names g) in let o = (in_now g).0 in omega arith;
           types = λ g. let k = entries_fewer (names_typed g) in let o = (in_now g).1 in omega arith;
           last = λ i g t l k. let r = fewer in entry_typed i g t (omega arith) k;
-          typed = rw hand_is (in_types (is_none e.unsettled) m told left (λ g t k. entry_typed upto g t (omega arith) (stood ∙ k)) (sound.counts.kinds.typed s seat));
+          typed = rw hand_is (typed_in (is_none e.unsettled) (λ y. HasType m y.frame y.kind) told left (λ g t k. entry_typed upto g t (omega arith) (stood ∙ k)) (sound.counts.kinds.typed s seat));
         }
 
     pub shed_by : Outcome n m b

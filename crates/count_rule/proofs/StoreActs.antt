@@ -24,13 +24,12 @@ use Rattle.board_lemmas.proofs.HandLists.{first-some, times-changed, EachOf-with
 use Rattle.board_lemmas.proofs.ListChanges.{first_by-changed_here, EachOf-changed_into}
 use Rattle.board_lemmas.proofs.Works.{one_works, is_busy-mine, held_free, held_mine}
 use Rattle.count_rule.proofs.ListMoves.{cons_other, out_other, swap_other, cons_here, out_here, swap_here, recorded_out, recorded_changed}
-use Rattle.count_rule.proofs.KindForms.{Says, live_says, closing_says, work_says, dead_says}
+use Rattle.count_rule.proofs.KindForms.{Says, live_says, closing_says, work_says, dead_says, same_if}
 use Rattle.board_lemmas.proofs.HeldByForm.{held_live, held_dead, held_work, same_zero}
 use Rattle.count_rule.proofs.KindSpelled.{form_was}
 use Rattle.count_rule.proofs.KindActs.{Beside, beside, rest_by, turn_outcome, keeps_kind}
 use Rattle.count_rule.proofs.KindWorks.{works_out}
 use Rattle.count_rule.proofs.WorkActs.{not_closing}
-use Rattle.count_rule.proofs.StoreForms.{same_if}
 use Rattle.board_lemmas.proofs.FormsLeft.{form_live, form_work, form_dead}
 use Rattle.count_rule.proofs.Told.{clock_told}
 use Rattle.count_rule.proofs.Outcome.{Outcome}

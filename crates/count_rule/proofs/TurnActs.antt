@@ -32,9 +32,6 @@ pinned_some : (k : KindWord) → has_form k ≡ true → IsTrue (is_live k) → 
 unfolding has_form
 pinned_some k form live pinned = grind (arith, nat_tests)
 
-unpinned_mark : (k : KindWord) → k.pinned ≡ false → bit k.pinned ≡ 0
-unpinned_mark k e = rw e refl
-
 module _ (n : Machine) (s : ℕ) (x : Step) (m m2 : Place → ℕ) (b c : ℕ → Holdings) (seat : s < (sizes_of n).vcpus) (others : (t : ℕ) → t ≢ s → c t ≡ b t) (may : MayAct n s x (b s)) (sound : Sound n m b) (f : ℕ) where
   -- the hand after an exchange by that row
   abbrev pub turned_hand : KindRow → KindWord → KindWord → Holdings

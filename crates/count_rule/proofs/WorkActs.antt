@@ -1,5 +1,5 @@
 -- The exchanges of a kind word that bring the frame into work.
-use Rattle.std.proofs.Common.{◌≡◌, ◌≢◌, ℕ, ◌<◌, ◌≤◌, if◌then◌else◌, Bool, true, false, List, ◌∷◌, Some, None, refl, sym, ◌∙◌, ap, subst, arith, IsTrue, inl, inr}
+use Rattle.std.proofs.Common.{◌≡◌, ◌≢◌, ℕ, ◌<◌, ◌≤◌, if◌then◌else◌, Bool, true, false, ◌∷◌, Some, None, refl, sym, ◌∙◌, ap, subst, arith, IsTrue, inl, inr}
 use Rattle.std.proofs.lemmas.Bool.Decides.{nat_tests}
 use Rattle.xp_words.specs.declared.kind.KindWord.{KindWord}
 use Rattle.xp_words.specs.KindWords.{kind_fields, has_form}
@@ -9,7 +9,6 @@ use Rattle.xp_words.specs.Machine.{Machine}
 use Rattle.xp_words.specs.Places.{sizes_of, Place, Clock, Kind}
 use Rattle.xp_board.specs.declared.holdings.Holdings.{Holdings}
 use Rattle.xp_board.specs.declared.holdings.Work.{Work}
-use Rattle.xp_board.specs.declared.holdings.TypedReference.{TypedReference}
 use Rattle.xp_board.specs.declared.step.Step.{Step}
 use Rattle.xp_board.specs.Lists.{EachOf}
 use Rattle.xp_board.specs.Readings.{type_count, kind_at, kind_stamp, is_partial, is_work, is_closing}
@@ -31,6 +30,7 @@ use Rattle.count_rule.proofs.Outcome.{Outcome}
 use Rattle.board_lemmas.proofs.KindForms.{form_read}
 use Rattle.board_lemmas.proofs.Sums.{no_bit}
 use Rattle.board_lemmas.proofs.KindReadings.{dead_unlive, stamp_number, stamp_of}
+use Rattle.board_lemmas.proofs.HandLists.{EachOf-maybe}
 
 marked_none : (k : KindWord) → has_form k ≡ true → IsTrue (is_partial k) → k.unflushed ≡ true → k.progress ≡ 0
 unfolding has_form
@@ -45,12 +45,6 @@ resumed_work k partial = grind (arith, nat_tests)
 fewer : (t : Bool) (x : ℕ) → (if t then x else 0) ≤ x
 fewer true x = omega arith
 fewer false x = omega arith
-
-maybe_types : (m : Place → ℕ) (t : Bool) (x : TypedReference) (xs : List TypedReference) → HasType m x.frame x.kind → EachOf (λ e. HasType m e.frame e.kind) xs →
-    EachOf (λ e. HasType m e.frame e.kind) (if t then (x ∷ xs) else xs)
-unfolding EachOf
-maybe_types m true x xs e k = (e, k)
-maybe_types m false x xs e k = k
 
 module _ (n : Machine) (s : ℕ) (x : Step) (m m2 : Place → ℕ) (b c : ℕ → Holdings) (seat : s < (sizes_of n).vcpus) (others : (t : ℕ) → t ≢ s → c t ≡ b t) (may : MayAct n s x (b s)) (sound : Sound n m b) (f : ℕ) where
   -- a frame that comes into work
@@ -108,7 +102,7 @@ module _ (n : Machine) (s : ℕ) (x : Step) (m m2 : Place → ℕ) (b c : ℕ �
       (omega arith) (omega arith) (omega arith) refl
       (comes_held k l d.fields_was d.fields_is work free _ refl refl now (held_work l k.progress ∙ ap (λ y. if is_table y then k.progress else 0) kind ∙ sym (held_partial k d.may.partial)))
       (inl (keeps_kind n s x m m2 b c seat others may sound f k l d.fields_was d.fields_is kind))
-      (λ e. maybe_types m2 k.kept _ (b s).typed (keeps_kind n s x m m2 b c seat others may sound f k l d.fields_was d.fields_is kind ∙ ap (λ (y : KindWord). y.kind) d.fields_was) e) (λ e. e)
+      (λ e. EachOf-maybe (λ y. HasType m2 y.frame y.kind) k.kept _ (b s).typed (λ on. keeps_kind n s x m m2 b c seat others may sound f k l d.fields_was d.fields_is kind ∙ ap (λ (y : KindWord). y.kind) d.fields_was) e) (λ e. e)
       (comes_agrees k l d.fields_was d.fields_is work free _ refl refl now rest.refs (λ e. marked_none k form d.may.partial (ap (λ (y : KindWord). y.unflushed) (sym left) ∙ e)))
 
   pub begin_outcome : Turned n s x f Begin m m2 (b s) (c s) → Outcome n m2 c

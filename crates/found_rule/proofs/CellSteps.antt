@@ -26,7 +26,7 @@ use Rattle.found_rule.proofs.Learning.{Act, act}
 use Rattle.found_rule.proofs.WordsOf.{CellSpared, words_cell}
 use Rattle.found_rule.proofs.KnownFacts.{RefRight, TypedRight, IsLiveAs}
 use Rattle.found_rule.proofs.KnownStays.{owner_new, live_found, partial_found}
-use Rattle.found_rule.proofs.Demands.{RefsMoved, same_rest, then_moved, moved_out, moved_in, refs_out, typed_out, refs_in, typed_in}
+use Rattle.found_rule.proofs.Demands.{RefsMoved, same_rest, then_moved, moved_out, moved_in}
 use Rattle.found_rule.proofs.Serving.{AsksLive, PassesOn, target_serves, recorded_asks}
 use Rattle.found_rule.proofs.CellReach.{came_reach, cell_passes, came_table}
 use Rattle.found_rule.proofs.CellFacts.{lock_type, lock_table, lock_live, live_alone, spared_alone, fix_none, zero_none, asks_hand}
@@ -38,6 +38,7 @@ use Rattle.board_lemmas.proofs.HandLists.{first-some}
 use Rattle.board_lemmas.proofs.Works.{only_my_lock}
 use Rattle.board_lemmas.proofs.KindForms.{live_unmarked}
 use Rattle.board_lemmas.proofs.LockFacts.{lock_facts, rewritten_same}
+use Rattle.board_lemmas.proofs.HandTypes.{refs_out, typed_out, refs_in, typed_in}
 
 pub table_levels : (t : PageType) → is_table t ≡ true → (1 ≤ type_number t) × (type_number t ≤ 4)
 table_levels t e = (grind (arith, nat_tests), grind (arith, nat_tests))

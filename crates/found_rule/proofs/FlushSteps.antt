@@ -17,7 +17,6 @@ use Rattle.found_rule.proofs.Learning.{Act, act}
 use Rattle.found_rule.proofs.ReachSame.{reach_same}
 use Rattle.found_rule.proofs.Words.{Words}
 use Rattle.found_rule.proofs.WordFacts.{told_some, off_same, cold_same}
-use Rattle.found_rule.proofs.QuietSteps.{if_same}
 use Rattle.found_rule.proofs.WordsOf.{words_lone, lone_vcpu}
 use Rattle.found_rule.proofs.HandFacts.{ReachKept}
 use Rattle.found_rule.proofs.MyHand.{HandRight, hand_with, mine_by}
@@ -27,6 +26,7 @@ use Rattle.found_rule.proofs.Quiet.{Done, fix_kept, zero_kept, works_form, locks
 use Rattle.board_lemmas.proofs.HandLists.{EachOf-map, EachOf-all}
 use Rattle.board_lemmas.proofs.MoreSteps.{EachSince-some}
 use Rattle.board_lemmas.proofs.ReachAll.{Reach-none}
+use Rattle.board_lemmas.proofs.Sums.{either}
 
 module _ (n : Machine) (s : ℕ) (x : Step) (m m2 : Place → ℕ) (b c : ℕ → Holdings) (l : s < (sizes_of n).vcpus) (sound : Sound n m b) (others : (t : ℕ) → t ≢ s → c t ≡ b t) where
   -- ---- an act on a word of the own vCPU, which may drop its translations
@@ -113,7 +113,7 @@ module _ (n : Machine) (s : ℕ) (x : Step) (m m2 : Place → ℕ) (b c : ℕ �
       let p = flushed_of s in
       let u = after_ack (b s) in
       let new = m2 (flushed_of s) in
-      let acted = act n s x p m m2 (b s) u (c s) w.place w.real w.left w.others refl refl refl refl (d.hand ∙ ap (noted x (m p)) (sym (if_same (s == s) u))) in
+      let acted = act n s x p m m2 (b s) u (c s) w.place w.real w.left w.others refl refl refl refl (d.hand ∙ ap (noted x (m p)) (sym (either (λ y. y ≡ u) (s == s) u u refl refl))) in
       let f = sound.found s l in
       let within : new ≤ m Clock = told_some z (b s).acked new (m Clock) (b s).steps f.clock d.may.told in
       let since = EachSince-some z (b s).acked Clock (λ y. m (flushed_of s) ≤ y) (λ y. y == new) (b s).steps f.since_ack d.may.told in

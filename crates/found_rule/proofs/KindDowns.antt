@@ -1,5 +1,5 @@
 -- A type count is given back, and an entry lock: the last one leaves the frame closing.
-use Rattle.std.proofs.Common.{◌≡◌, ◌≢◌, ℕ, ◌-◌, ◌<◌, ◌≤◌, ◌==◌, if◌then◌else◌, Bool, true, false, List, ◌∷◌, None, refl, sym, ap, subst, ◌∙◌, arith}
+use Rattle.std.proofs.Common.{◌≡◌, ◌≢◌, ℕ, ◌-◌, ◌<◌, ◌≤◌, ◌==◌, if◌then◌else◌, Bool, true, false, None, refl, sym, ap, subst, ◌∙◌, arith}
 use Rattle.std.proofs.lemmas.Bool.{and_parts}
 use Rattle.xp_words.specs.PageTypes.{is_table}
 use Rattle.xp_words.specs.KindWords.{kind_fields}
@@ -7,7 +7,6 @@ use Rattle.xp_words.specs.Machine.{Machine}
 use Rattle.xp_words.specs.Places.{sizes_of, Place, Kind}
 use Rattle.xp_board.specs.declared.step.Step.{Step}
 use Rattle.xp_board.specs.declared.holdings.Reference.{Reference}
-use Rattle.xp_board.specs.declared.holdings.Work.{Work}
 use Rattle.xp_board.specs.declared.holdings.Holdings.{Holdings}
 use Rattle.xp_board.specs.Lists.{EachOf}
 use Rattle.xp_board.specs.Readings.{kind_at}
@@ -29,12 +28,8 @@ use Rattle.found_rule.proofs.KindRows.{live_words}
 use Rattle.found_rule.proofs.Quiet.{Done}
 use Rattle.board_lemmas.proofs.HeldByForm.{live_idle}
 use Rattle.board_lemmas.proofs.KindReadings.{live_count}
-use Rattle.board_lemmas.proofs.HandLists.{EachOf-more, EachOf-without}
+use Rattle.board_lemmas.proofs.HandLists.{EachOf-more, EachOf-without, EachOf-maybe}
 use Rattle.board_lemmas.proofs.Works.{is_locked-mine, nobody_works}
-
-works_if : (P : Work → Type 0) (t : Bool) (e : Work) (es : List Work) → P e → EachOf P es → EachOf P (if t then (e ∷ es) else es)
-works_if P true e es one h = EachOf-more P e es one h
-works_if P false e es one h = h
 
 table_512 : (t : Bool) → (if t then 512 else 0) ≤ 512
 table_512 true = omega arith
@@ -70,13 +65,13 @@ module _ (n : Machine) (s : ℕ) (x : Step) (m m2 : Place → ℕ) (b c : ℕ �
           typed = typed reach;
           lock_right = lock_right reach;
           works = subst (λ xs. EachOf (WorkFound n m2 c (c s)) xs) (sym works)
-              (works_if (WorkFound n m2 c (c s)) ((kind_at m f).number == 1) new (b s).works (new_found n s m m2 b c l sound others f u acted words recorded None (b s) refl)
+              (EachOf-maybe (WorkFound n m2 c (c s)) ((kind_at m f).number == 1) new (b s).works (λ one. new_found n s m m2 b c l sound others f u acted words recorded None (b s) refl)
               (kind_works_stay n s m m2 b c l sound others f u acted words none reach));
           locks = locks reach;
         })
         (subst (λ xs. EachOf (IsWorkFormed n (c s)) xs) (sym works)
-        (works_if (IsWorkFormed n (c s)) ((kind_at m f).number == 1) new (b s).works
-        (new_formed n s m m2 b c l sound others f u acted words recorded None (b s) refl (table_512 (is_table (kind_at m f).kind))
+        (EachOf-maybe (IsWorkFormed n (c s)) ((kind_at m f).number == 1) new (b s).works
+        (λ one. new_formed n s m m2 b c l sound others f u acted words recorded None (b s) refl (table_512 (is_table (kind_at m f).kind))
         (λ t. table_none (is_table (kind_at m f).kind) (ap is_table (sym kind) ∙ t)) tt (λ q r. absurd cc)) (kind_works_formed n s m m2 b c l sound others f u acted words)))
         locks_formed (rw looking (sound.formed s l).looking)
 

@@ -25,7 +25,7 @@ use Rattle.board_lemmas.proofs.HandLists.{EachOf-map}
 use Rattle.board_lemmas.proofs.ListCounts.{EachOf-both, EachOf-there}
 use Rattle.board_lemmas.proofs.ListChanges.{EachOf-changes}
 use Rattle.board_lemmas.proofs.Works.{is_busy-mine}
-use Rattle.board_lemmas.proofs.HandParts.{either}
+use Rattle.board_lemmas.proofs.Sums.{either}
 
 -- ---- what is learned of the word of one cell
 fixed_if : (m2 : Place → ℕ) (f i w bound : ℕ) (t b : Bool) → b ≡ (t && ((i == bound) && is_fixed w)) → m2 (Cell f i) ≡ w →

@@ -9,7 +9,6 @@ use Rattle.xp_board.specs.declared.holdings.Reference.{Reference}
 use Rattle.xp_board.specs.declared.holdings.Ending.{Ending}
 use Rattle.xp_board.specs.declared.holdings.Holdings.{Holdings}
 use Rattle.xp_board.specs.declared.holdings.OwnerFound.TheVariants as owners
-use Rattle.xp_board.specs.Lists.{EachOf}
 use Rattle.xp_board.specs.Readings.{is_dying, owner_of, ref_count, free_stamp}
 use Rattle.xp_board.specs.Hands.{endings_of, claims_of}
 use Rattle.xp_board.specs.RefSteps.{took_ref, gave_ref, owner_number, one_down}
@@ -27,7 +26,7 @@ use Rattle.found_rule.proofs.MyHand.{HandRight, hand_old}
 use Rattle.found_rule.proofs.Outcome.{Outcome, outcome_by}
 use Rattle.found_rule.proofs.FormedLaw.{ending_formed_old, claimed_formed_old}
 use Rattle.found_rule.proofs.Quiet.{Done, fix_kept, zero_kept, works_form, locks_form, formed_with}
-use Rattle.board_lemmas.proofs.HandLists.{EachOf-more, EachOf-without}
+use Rattle.board_lemmas.proofs.HandLists.{EachOf-more, EachOf-without, EachOf-maybe}
 use Rattle.board_lemmas.proofs.ListCounts.{times_by-cons}
 use Rattle.board_lemmas.proofs.Works.{nobody_ends}
 use Rattle.board_lemmas.proofs.Counted.{in_hand_counted}
@@ -132,9 +131,6 @@ module _ (n : Machine) (s : ℕ) (x : Step) (m m2 : Place → ℕ) (b c : ℕ �
       (act n s x (Refs f) m m2 (b s) (took_ref f (m (Refs f)) (b s)) (c s) w.place w.real w.left w.others refl refl refl refl d.hand)
 
   -- ---- a reference goes out, and the last one leaves the frame ending
-  ending_if : (P : Ending → Type 0) (t : Bool) (e : Ending) (es : List Ending) → (t ≡ true → P e) → EachOf P es → EachOf P (if t then (e ∷ es) else es)
-  ending_if P true e es now h = EachOf-more P e es (now refl) h
-  ending_if P false e es now h = h
 
   more_if : (g : ℕ) (t : Bool) (e : Ending) (es : List Ending) → endings_of g es ≤ endings_of g (if t then (e ∷ es) else es)
   more_if g true e es = let k = times_by-cons (λ y. y.frame) g e es in omega arith
@@ -160,12 +156,12 @@ module _ (n : Machine) (s : ℕ) (x : Step) (m m2 : Place → ℕ) (b c : ℕ �
               lock_right = h.lock_right;
               works = h.works;
               locks = h.locks;
-              endings = ending_if (EndingFound m2) (ref_count y == 1) end (b s).ending (λ t. low.last (eqb-true (ref_count y) 1 t)) h.endings;
+              endings = EachOf-maybe (EndingFound m2) (ref_count y == 1) end (b s).ending (λ t. low.last (eqb-true (ref_count y) 1 t)) h.endings;
               claims = h.claims;
               acked = h.acked;
             });
         formed = formed_with n s (Refs f) m m2 b c u acted l sound refl refl refl refl refl
-            (ending_if (λ e. e.since ≤ suc (length (b s).steps)) (ref_count y == 1) end (b s).ending (λ t. omega arith) (ending_formed_old n s (Refs f) m m2 (b s) u (c s) acted (sound.formed s l)))
+            (EachOf-maybe (λ e. e.since ≤ suc (length (b s).steps)) (ref_count y == 1) end (b s).ending (λ t. omega arith) (ending_formed_old n s (Refs f) m m2 (b s) u (c s) acted (sound.formed s l)))
             (claimed_formed_old n s (Refs f) m m2 (b s) u (c s) acted (sound.formed s l))
             (record { held = λ g. let r = (sound.formed s l).raised.held g in let q = more_if g (ref_count y == 1) end (b s).ending in omega arith }) (sound.formed s l).looking
             (works_form n s (Refs f) m m2 b c u acted l sound refl) (locks_form n s (Refs f) m m2 b c u acted l sound refl);

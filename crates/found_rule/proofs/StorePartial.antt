@@ -5,7 +5,6 @@ use Rattle.xp_words.specs.KindWords.{kind_fields}
 use Rattle.xp_words.specs.Machine.{Machine}
 use Rattle.xp_words.specs.Places.{sizes_of, Place, Clock, Kind, Cell}
 use Rattle.xp_board.specs.declared.step.Step.{Step}
-use Rattle.xp_board.specs.declared.holdings.Reference.{Reference}
 use Rattle.xp_board.specs.declared.holdings.TypedReference.{TypedReference}
 use Rattle.xp_board.specs.declared.holdings.OwnerFound.{OwnerFound}
 use Rattle.xp_board.specs.declared.holdings.OwnerFound.TheVariants as owners
@@ -15,7 +14,7 @@ use Rattle.xp_board.specs.declared.holdings.Work.{Work}
 use Rattle.xp_board.specs.declared.holdings.Holdings.{Holdings}
 use Rattle.xp_board.specs.Lists.{EachOf}
 use Rattle.xp_board.specs.Readings.{kind_at, is_partial, is_closing, domain_of}
-use Rattle.xp_board.specs.Hands.{without_work, changed_work, without_ref, without_typed, ref_owner}
+use Rattle.xp_board.specs.Hands.{without_work, changed_work, without_ref, ref_owner}
 use Rattle.xp_board.specs.After.{is_fixed}
 use Rattle.xp_board.specs.KindSteps.{Partial, InWork, KeepsMark, put_partial, as_typed, kept_owner, looking_at}
 use Rattle.xp_board.specs.Found.{WorkFound}
@@ -36,27 +35,13 @@ use Rattle.found_rule.proofs.Quiet.{Done, marked}
 use Rattle.board_lemmas.proofs.KindReadings.{stamp_of}
 use Rattle.board_lemmas.proofs.FormsLeft.{is_partial_left, is_work_left}
 use Rattle.board_lemmas.proofs.ListCounts.{EachOf-both}
-use Rattle.board_lemmas.proofs.HandLists.{EachOf-more, EachOf-without}
+use Rattle.board_lemmas.proofs.HandLists.{EachOf-more, EachOf-without, EachOf-maybe_without}
 use Rattle.board_lemmas.proofs.ListChanges.{EachOf-changed_first}
 use Rattle.board_lemmas.proofs.Works.{one_works}
 use Rattle.board_lemmas.proofs.MoreSteps.{none_last}
+use Rattle.board_lemmas.proofs.Sums.{either}
 
 -- ---- from closing an untyped reference becomes the type count
-moved_if : (t : Bool) (a u : Holdings) → RefsMoved a u → RefsMoved a (if t then u else a)
-moved_if true a u h = h
-moved_if false a u h = same_rest a a refl
-
-refs_if : (P : Reference → Type 0) (t : Bool) (a u : Holdings) → EachOf P u.refs → EachOf P a.refs → EachOf P (if t then u else a).refs
-refs_if P true a u h k = h
-refs_if P false a u h k = k
-
-typed_if : (P : TypedReference → Type 0) (t : Bool) (a u : Holdings) → EachOf P u.typed → EachOf P a.typed → EachOf P (if t then u else a).typed
-typed_if P true a u h k = h
-typed_if P false a u h k = k
-
-without_if : (P : TypedReference → Type 0) (t : Bool) (f : ℕ) (xs : List TypedReference) → EachOf P xs → EachOf P (if t then without_typed f xs else xs)
-without_if P true f xs h = EachOf-without P (λ y. y.frame) f xs h
-without_if P false f xs h = h
 
 -- ---- what the seat then looks at
 looking_if : (n : Machine) (s : ℕ) (t : Bool) (e : Looking) (es : List Looking) → (t ≡ false → IsLookingFormed n s e) → EachOf (IsLookingFormed n s) es → EachOf (IsLookingFormed n s) (if t then es else (e ∷ es))
@@ -105,7 +90,7 @@ module _ (n : Machine) (s : ℕ) (x : Step) (m m2 : Place → ℕ) (b c : ℕ �
         let turned = record h { refs = without_ref f h.refs; typed = new ∷ h.typed } in
         let t = is_closing (kind_fields d.e.word) in
         let a = typed_hand in
-        let moved : RefsMoved h a = moved_if t h turned (same_rest h turned refl) in
+        let moved : RefsMoved h a = either (RefsMoved h) t turned h (same_rest h turned refl) (same_rest h h refl) in
         let u = put_partial n s f d.l (m2 (Kind f)) (kept_owner f d.e h) a in
         let acted = act n s x (Kind f) m m2 h u (c s) w.place w.real w.left w.others moved.steps moved.run moved.old0 moved.old1 d.hand in
         let words = partial_words in
@@ -130,11 +115,11 @@ module _ (n : Machine) (s : ℕ) (x : Step) (m m2 : Place → ℕ) (b c : ℕ �
         (rw (moved.looking) (sound.formed s l).looking))
         (λ reach.
         let old = refs_are n s x m m2 b c l sound others f d.e d.here u acted words reach in
-        refs_if (RefRight z m2 (c s).steps) t h turned (EachOf-without (RefRight z m2 (c s).steps) (λ y. y.frame) f h.refs old) old)
+        either (λ (y : Holdings). EachOf (RefRight z m2 (c s).steps) y.refs) t turned h (EachOf-without (RefRight z m2 (c s).steps) (λ y. y.frame) f h.refs old) old)
         (λ reach.
         let old = typed_are n s x m m2 b c l sound others f d.e d.here u acted words reach in
-        without_if (TypedRight z m2 (c s).steps) d.l.kept f a.typed
-        (typed_if (TypedRight z m2 (c s).steps) t h turned
+        EachOf-maybe_without (TypedRight z m2 (c s).steps) (λ y. y.frame) d.l.kept f a.typed
+        (either (λ (y : Holdings). EachOf (TypedRight z m2 (c s).steps) y.typed) t turned h
         (EachOf-more (TypedRight z m2 (c s).steps) new h.typed
         (record {
           owner = ref_owner_is n s x m m2 b c l sound others f d.e d.here u acted words reach;

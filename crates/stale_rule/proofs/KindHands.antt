@@ -10,7 +10,7 @@ use Rattle.xp_board.specs.Readings.{is_work, is_closing}
 use Rattle.xp_board.specs.KindSteps.{KindRow, Count, Locks, Pin, Unpin, Resume, TakeBack, Begin, after_kind_row, Form, Live, Partial, InWork, Dead, after_form, dropped, unlocked, as_typed, put_partial, kept_owner}
 use Rattle.board_lemmas.proofs.HandLists.{EachOf-if, EachOf-more, EachOf-changed, EachOf-without}
 use Rattle.stale_rule.proofs.Like.{HandStays, same_stays, parts_stay, works_stay, then_stays}
-use Rattle.board_lemmas.proofs.HandParts.{either}
+use Rattle.board_lemmas.proofs.Sums.{either}
 
 pub row_stays : (row : KindRow) (f : ℕ) (k l : KindWord) (new : ℕ) (a : Holdings) → HandStays a (after_kind_row row f k l new a)
 row_stays Count f k l new a = parts_stay a _ refl refl refl refl refl refl

@@ -1,5 +1,5 @@
 -- Fresh after a store into an entry of a table under the own lock.
-use Rattle.std.proofs.Common.{◌≡◌, ℕ, ◌<◌, ◌||◌, inl, inr, Bool, true, false, refl, sym, ◌∙◌, ap, subst, arith, IsTrue, if◌then◌else◌, Option, Some}
+use Rattle.std.proofs.Common.{◌≡◌, ℕ, ◌<◌, ◌||◌, inl, inr, true, sym, ◌∙◌, ap, subst, arith, IsTrue, Option, Some}
 use Rattle.std.proofs.lemmas.Bool.{or_left}
 use Rattle.xp_words.specs.declared.kind.PageType.{PageType}
 use Rattle.xp_words.specs.declared.entry.Demand.{Demand}
@@ -37,10 +37,6 @@ use Rattle.board_lemmas.proofs.ReachAll.{reach_level}
 
 some_is : (x y : ℕ) (o : Option ℕ) → o ≡ Some x → o ≡ Some y → x ≡ y
 some_is x y o a b = let e : Some x ≡ Some y = sym a ∙ b in cc
-
-when_on : (a b : Bool) → IsTrue (if a then b else false) → (a ≡ true) × IsTrue b
-when_on true b t = (refl, t)
-when_on false b t = absurd (cc)
 
 module _ (n : Machine) (s : ℕ) (m : Place → ℕ) (b : ℕ → Holdings) (real : s < (sizes_of n).vcpus) (sound : Sound n m b) where
   -- ---- a demand in hand

@@ -1,5 +1,5 @@
 -- Exchanges of a kind word, and type counts given back: what entries lead to stays.
-use Rattle.std.proofs.Common.{◌≡◌, ◌≢◌, ℕ, ◌+◌, ◌<◌, ◌==◌, ◌||◌, if◌then◌else◌, Bool, true, false, length, Some, None, IsTrue, refl, sym, ◌∙◌, ap, inl, inr, arith}
+use Rattle.std.proofs.Common.{◌≡◌, ◌≢◌, ℕ, ◌+◌, ◌<◌, ◌==◌, ◌||◌, if◌then◌else◌, false, length, Some, None, IsTrue, refl, sym, ◌∙◌, ap, inl, inr, arith}
 use Rattle.std.proofs.lemmas.Bool.{cases_Bool}
 use Rattle.std.proofs.lemmas.Bool.Decides.{nat_tests}
 use Rattle.xp_words.specs.declared.kind.KindWord.{KindWord}
@@ -28,16 +28,13 @@ use Rattle.board_lemmas.proofs.HeldByForm.{held_dead, held_same, live_partial, l
 use Rattle.type_rule.proofs.KindHeld.{live_held, resumed_held, begun_held, closed_held, work_live, dead_live, dead_unformed, either_part}
 use Rattle.board_lemmas.proofs.KindReadings.{partial_idle, dead_idle}
 use Rattle.board_lemmas.proofs.MoreSteps.{none_since}
+use Rattle.board_lemmas.proofs.Sums.{either}
 
 resumed_work : (k l : KindWord) → MayResume k l → IsTrue (is_partial l || is_work l)
 resumed_work k l may = let v : k.validated ≡ false = (let p = may.partial in grind arith) in rw may.left (rw v refl)
 
 is_resumed : (k l : KindWord) → MayResume k l → l.validated ≡ false
 is_resumed k l may = let v : k.validated ≡ false = (let p = may.partial in grind arith) in ap (λ y. y.validated) may.left ∙ v
-
-if_same : {A B : Type 0} (t : Bool) (F : A → B) (y z : A) → F y ≡ F z → F (if t then y else z) ≡ F z
-if_same true F y z e = e
-if_same false F y z e = refl
 
 -- ---- works
 row_works : (row : KindRow) (f g : ℕ) (k l : KindWord) (new : ℕ) (h : Holdings) → g ≢ f → work_on g (after_kind_row row f k l new h).works ≡ work_on g h.works
@@ -183,7 +180,7 @@ module _ (n : Machine) (s : ℕ) (x : Step) (m m2 : Place → ℕ) (b c : ℕ �
 
   -- ---- a type count given back
   closing_other : (f g w left : ℕ) (h : Holdings) → g ≢ f → work_on g (closing_works f w left h) ≡ work_on g h.works
-  closing_other f g w left h off = if_same ((kind_fields w).number == 1) (work_on g) _ h.works (first_by-cons_other (λ y. y.frame) g _ h.works (λ e. off (sym e)))
+  closing_other f g w left h off = either (λ xs. work_on g xs ≡ work_on g h.works) ((kind_fields w).number == 1) _ h.works (first_by-cons_other (λ y. y.frame) g _ h.works (λ e. off (sym e))) refl
 
   -- the number of entries that stay recorded
   closing_held : (f w left : ℕ) (l : KindWord) → IsTrue (is_live l) → l.kind ≡ (kind_fields w).kind → work_on f (b s).works ≡ None →

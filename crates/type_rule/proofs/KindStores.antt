@@ -37,7 +37,7 @@ use Rattle.type_rule.proofs.KindAct.{KindAct, kind_valid, kind_permitted}
 use Rattle.board_lemmas.proofs.HeldByForm.{held_table}
 use Rattle.type_rule.proofs.KindHeld.{live_all, partial_all, work_all, dead_all}
 use Rattle.board_lemmas.proofs.KindReadings.{busy_closed, busy_working, busy_partial, work_count}
-use Rattle.board_lemmas.proofs.HandParts.{either}
+use Rattle.board_lemmas.proofs.Sums.{either}
 
 live_works : (f : ℕ) (l : KindWord) (h : Holdings) → (made_live f l h).works ≡ without_work f h.works
 live_works f l h = either (λ (u : Holdings). u.works ≡ without_work f h.works) (l.number == 1) _ _ refl refl

@@ -22,7 +22,7 @@ use Rattle.step_effects.proofs.ActEffects.{Looked, Raised, Cleared, Took, Lowere
 use Rattle.board_lemmas.proofs.HandLists.{first-some}
 use Rattle.type_rule.proofs.HandParts.{SameThree, three_own, three_ran, three_started, three_loaded}
 use Rattle.type_rule.proofs.RefWordLaws.{one_less_keeps}
-use Rattle.board_lemmas.proofs.Counted.{in_hand_counted}
+use Rattle.board_lemmas.proofs.Counted.{in_hand_counted, not_context}
 use Rattle.board_lemmas.proofs.Sums.{if_itself}
 use Rattle.type_rule.proofs.Works.{WorkKeptIn, works_kept, cell_kept}
 use Rattle.type_rule.proofs.EntryChange.{OneStep}
@@ -36,9 +36,6 @@ told_held : (n : Machine) (stamp f : ℕ) (h : Holdings) (e : Option Ending) (c 
 told_held n stamp f h (Some e) c at there k = let some = first-some (λ y. y.frame) f e h.ending at in omega arith
 told_held n stamp f h None (Some c) at there k = let some = first-some (λ y. y.frame) f c h.claimed there in omega arith
 told_held n stamp f h None None at there k = absurd k
-
-not_context : (j k : ℕ) → is_context j ≡ false → IsTrue (is_context k) → k ≡ j → ⊥
-not_context j k off u e = let t : is_context j ≡ true = subst (λ y. is_context y ≡ true) e u in cc
 
 module _ (n : Machine) (s : ℕ) (x : Step) (m m2 : Place → ℕ) (b c : ℕ → Holdings) (real : s < (sizes_of n).vcpus) (sound : Sound n m b)
     (others : (t : ℕ) → t ≢ s → c t ≡ b t) where
