@@ -27,3 +27,4 @@ pub mod LiveTables
 pub mod MoreSteps
 pub mod RefForms
 pub mod HandTypes
+pub mod WalkDown

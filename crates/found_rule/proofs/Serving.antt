@@ -21,9 +21,10 @@ use Rattle.xp_board.specs.Fresh.{Matches}
 use Rattle.xp_board.specs.Sound.{Sound, is_busy}
 use Rattle.board_lemmas.proofs.EntryAsks.{asks_table, asks_leaf, LeafAsks, walked_inside}
 use Rattle.board_lemmas.proofs.ReachAll.{Reach-all, IsLevel}
-use Rattle.board_lemmas.proofs.CellAlike.{CellAlike, use_alike, not_reads}
+use Rattle.board_lemmas.proofs.CellAlike.{CellAlike, not_reads}
 use Rattle.board_lemmas.proofs.HeldByForm.{live_idle}
 use Rattle.board_lemmas.proofs.LiveTables.{leads_live, named_counted, live_inside, table_held}
+use Rattle.board_lemmas.proofs.WalkDown.{Passes, passes_alike}
 
 pub record Serves (m : Place → ℕ) (g : ℕ) (u : Use) : Type 0 where
   pub level : IsLevel u
@@ -101,9 +102,7 @@ Came n m h v g u = Reach (sizes_of n) m (h v) g u ⊎ (Serves m g u ⊎ (u ≡ R
 
 -- the targets of an entry are come to from a table that is come to
 abbrev pub PassesOn : Machine → (Place → ℕ) → (Place → ℕ) → (ℕ → Holdings) → ℕ → ℕ → ℕ → Type 0
-PassesOn n m m2 h v f i =
-    (level : ℕ) → Came n m h v f (Table level) → IsTrue (is_walked level i) → is_bit 0 (m2 (Cell f i)) ≡ true → frame_of (m2 (Cell f i)) < (sizes_of n).frames →
-    Came n m h v (frame_of (m2 (Cell f i))) (use_below level (m2 (Cell f i)))
+PassesOn n m m2 h v f i = Passes (sizes_of n) m2 (Came n m h v) f i
 
 module _ (n : Machine) (m m2 : Place → ℕ) (h : ℕ → Holdings) (sound : Sound n m h) (v : ℕ) where
   entry_came : (f level i : ℕ) → Came n m h v f (Table level) → IsTrue (is_walked level i) → is_bit 0 (m (Cell f i)) ≡ true → frame_of (m (Cell f i)) < (sizes_of n).frames →
@@ -113,10 +112,7 @@ module _ (n : Machine) (m m2 : Place → ℕ) (h : ℕ → Holdings) (sound : So
   entry_came f level i (inr (inr read)) walked present inside = absurd (not_reads level read)
 
   pub alike_passes : (f i : ℕ) → CellAlike (m (Cell f i)) (m2 (Cell f i)) → PassesOn n m m2 h v f i
-  alike_passes f i alike level came walked present inside =
-      subst (λ g. Came n m h v g (use_below level (m2 (Cell f i)))) (sym alike.frame)
-      (subst (λ u. Came n m h v (frame_of (m (Cell f i))) u) (sym (use_alike level (m (Cell f i)) (m2 (Cell f i)) alike))
-      (entry_came f level i came walked (sym alike.present ∙ present) (subst (λ g. g < (sizes_of n).frames) alike.frame inside)))
+  alike_passes f i alike = passes_alike (sizes_of n) m m2 (Came n m h v) f i alike (λ level came deep present inside. entry_came f level i came deep present inside)
 
   pub came_all : (b : Holdings) → ((x : Item) → Member x b.cache → Came n m h v x.frame (use_of x)) →
       ((x : Reached) → Member x (reached_by b.walk) → Came n m h v x.table (Table x.level)) → ((f i : ℕ) → PassesOn n m m2 h v f i) →

@@ -21,10 +21,11 @@ use Rattle.stale_rule.proofs.Served.{Served, entry_served}
 use Rattle.board_lemmas.proofs.HeldByForm.{live_idle}
 use Rattle.board_lemmas.proofs.Works.{nobody_works, nobody_ends}
 use Rattle.board_lemmas.proofs.ReachAll.{IsLevel, Reach-all, reach_level, unmarked_matches}
-use Rattle.board_lemmas.proofs.CellAlike.{CellAlike, use_alike}
+use Rattle.board_lemmas.proofs.CellAlike.{CellAlike}
 use Rattle.board_lemmas.proofs.HandLists.{EachOf-map}
 use Rattle.board_lemmas.proofs.ListCounts.{EachOf-apart}
 use Rattle.board_lemmas.proofs.RefForms.{counted_word}
+use Rattle.board_lemmas.proofs.WalkDown.{Passes, passes_alike}
 
 abbrev pub Came : Machine → (Place → ℕ) → (ℕ → Holdings) → ℕ → ℕ → Use → Type 0
 Came n m h v g u = Reach (sizes_of n) m (h v) g u ⊎ (Served m (domain_of n v) g u ⊎ ((u ≡ Reads) × Reach (sizes_of n) m (h v) g Writes))
@@ -105,9 +106,7 @@ module _ (n : Machine) (m : Place → ℕ) (h : ℕ → Holdings) (sound : Sound
 
 -- the targets of an entry are come to from a table that is come to
 abbrev pub PassesOn : Machine → (Place → ℕ) → (Place → ℕ) → (ℕ → Holdings) → ℕ → ℕ → ℕ → Type 0
-PassesOn n m m2 h v f i =
-    (level : ℕ) → Came n m h v f (Table level) → IsTrue (is_walked level i) → is_bit 0 (m2 (Cell f i)) ≡ true → frame_of (m2 (Cell f i)) < (sizes_of n).frames →
-    Came n m h v (frame_of (m2 (Cell f i))) (use_below level (m2 (Cell f i)))
+PassesOn n m m2 h v f i = Passes (sizes_of n) m2 (Came n m h v) f i
 
 module _ (n : Machine) (m m2 : Place → ℕ) (h : ℕ → Holdings) (sound : Sound n m h) (v : ℕ) where
   entry_came : (f level i : ℕ) → Came n m h v f (Table level) → IsTrue (is_walked level i) → is_bit 0 (m (Cell f i)) ≡ true → frame_of (m (Cell f i)) < (sizes_of n).frames →
@@ -117,10 +116,7 @@ module _ (n : Machine) (m m2 : Place → ℕ) (h : ℕ → Holdings) (sound : So
   entry_came f level i (inr (inr read)) walked present inside = absurd (let e = read.0 in cc)
 
   pub alike_passes : (f i : ℕ) → CellAlike (m (Cell f i)) (m2 (Cell f i)) → PassesOn n m m2 h v f i
-  alike_passes f i alike level came walked present inside =
-      subst (λ g. Came n m h v g (use_below level (m2 (Cell f i)))) (sym alike.frame)
-      (subst (λ u. Came n m h v (frame_of (m (Cell f i))) u) (sym (use_alike level _ _ alike))
-      (entry_came f level i came walked (sym alike.present ∙ present) (subst (λ g. g < (sizes_of n).frames) alike.frame inside)))
+  alike_passes f i alike = passes_alike (sizes_of n) m m2 (Came n m h v) f i alike (λ level came deep present inside. entry_came f level i came deep present inside)
 
   pub came_all : (b : Holdings) → ((x : Item) → Member x b.cache → Came n m h v x.frame (use_of x)) →
       ((x : Reached) → Member x (reached_by b.walk) → Came n m h v x.table (Table x.level)) → ((f i : ℕ) → PassesOn n m m2 h v f i) →
