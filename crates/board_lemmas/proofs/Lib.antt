@@ -28,3 +28,4 @@ pub mod MoreSteps
 pub mod RefForms
 pub mod HandTypes
 pub mod WalkDown
+pub mod CountsDown

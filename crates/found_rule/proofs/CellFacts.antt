@@ -1,6 +1,6 @@
 -- Who may have the frame of a cell that is written.
 use Rattle.std.proofs.Common.{◌≡◌, ℕ, ◌<◌, true, false, Some, IsTrue, sym, subst, inl, inr, arith}
-use Rattle.std.proofs.lemmas.Bool.{cases_eq, and_parts}
+use Rattle.std.proofs.lemmas.Bool.{cases_eq}
 use Rattle.xp_words.specs.declared.kind.PageType.{PageType}
 use Rattle.xp_words.specs.declared.kind.PageType.TheVariants as kinds
 use Rattle.xp_words.specs.declared.entry.Demand.{Demand}
@@ -27,7 +27,7 @@ use Rattle.board_lemmas.proofs.KindReadings.{live_count}
 use Rattle.board_lemmas.proofs.HandLists.{EachOf-all, EachOf-first, first-key}
 use Rattle.board_lemmas.proofs.ListCounts.{EachOf-there, first_by-some}
 use Rattle.board_lemmas.proofs.Counted.{type_below}
-use Rattle.board_lemmas.proofs.Works.{is_locked-mine, nobody_works, counted_alive}
+use Rattle.board_lemmas.proofs.Works.{nobody_works, counted_alive}
 use Rattle.board_lemmas.proofs.LockFacts.{lock_facts}
 
 -- no frame in work is marked, or no descriptor page, and has words that are known to be fixed
@@ -64,11 +64,6 @@ module _ (n : Machine) (m : Place → ℕ) (b : ℕ → Holdings) (sound : Sound
 
   pub lock_table : (t : ℕ) → t < (sizes_of n).vcpus → 0 < locks_on f (b t).locks → is_table (kind_at m f).kind ≡ true
   lock_table t l some = let one = first_by-some (λ e. e.frame) f (b t).locks some in (lock_facts n m b t f one.0 sound l one.1).table
-
-  pub lock_live : (t : ℕ) → t < (sizes_of n).vcpus → 0 < locks_on f (b t).locks → ((kind_at m f).validated ≡ true) × (0 < (kind_at m f).number)
-  lock_live t l some =
-      let both = and_parts (kind_at m f).validated (kind_at m f).locked (is_locked-mine n m b sound.alone f t l some) in
-      (both.0, (let a = lock_counted n m b sound t f l some in let e = live_count (kind_at m f) both.0 in omega arith))
 
   -- a live frame with a type count is in nobody's works and claimed by nobody
   pub live_alone : (kind_at m f).validated ≡ true → 0 < (kind_at m f).number → (t : ℕ) → t < (sizes_of n).vcpus → (works_on f (b t).works ≡ 0) × (claims_of f (b t).claimed ≡ 0)

@@ -29,7 +29,7 @@ use Rattle.found_rule.proofs.KnownStays.{owner_new, live_found, partial_found}
 use Rattle.found_rule.proofs.Demands.{RefsMoved, same_rest, then_moved, moved_out, moved_in}
 use Rattle.found_rule.proofs.Serving.{AsksLive, PassesOn, target_serves, recorded_asks}
 use Rattle.found_rule.proofs.CellReach.{came_reach, cell_passes, came_table}
-use Rattle.found_rule.proofs.CellFacts.{lock_type, lock_table, lock_live, live_alone, spared_alone, fix_none, zero_none, asks_hand}
+use Rattle.found_rule.proofs.CellFacts.{lock_type, lock_table, live_alone, spared_alone, fix_none, zero_none, asks_hand}
 use Rattle.found_rule.proofs.MyHand.{refs_old, typed_old}
 use Rattle.found_rule.proofs.RestLaw.{rest_done}
 use Rattle.found_rule.proofs.Quiet.{Done}
@@ -39,6 +39,7 @@ use Rattle.board_lemmas.proofs.Works.{only_my_lock}
 use Rattle.board_lemmas.proofs.KindForms.{live_unmarked}
 use Rattle.board_lemmas.proofs.LockFacts.{lock_facts, rewritten_same}
 use Rattle.board_lemmas.proofs.HandTypes.{refs_out, typed_out, refs_in, typed_in}
+use Rattle.board_lemmas.proofs.CountsDown.{lock_live, lock_some}
 
 pub table_levels : (t : PageType) → is_table t ≡ true → (1 ≤ type_number t) × (type_number t ≤ 4)
 table_levels t e = (grind (arith, nat_tests), grind (arith, nat_tests))
@@ -81,7 +82,7 @@ module _ (n : Machine) (s : ℕ) (x : Step) (m m2 : Place → ℕ) (b c : ℕ �
 
     live : ((kind_at m f).validated ≡ true) × (0 < (kind_at m f).number)
     unfolding some
-    live = lock_live n m b sound f s l some
+    live = (lock_live n m b sound s l f some, lock_some n m b sound s l f some)
 
     alone : (t : ℕ) → t < (sizes_of n).vcpus → (works_on f (b t).works ≡ 0) × (claims_of f (b t).claimed ≡ 0)
     unfolding live

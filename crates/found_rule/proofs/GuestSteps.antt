@@ -22,7 +22,7 @@ use Rattle.found_rule.proofs.Learning.{Act, act}
 use Rattle.found_rule.proofs.WordsOf.{CellSpared}
 use Rattle.found_rule.proofs.Demands.{same_rest}
 use Rattle.found_rule.proofs.CellReach.{unreached_passes}
-use Rattle.found_rule.proofs.CellFacts.{FixedWorks, lock_table, lock_live, zero_none}
+use Rattle.found_rule.proofs.CellFacts.{FixedWorks, lock_table, zero_none}
 use Rattle.found_rule.proofs.CellSteps.{cell_done, table_levels}
 use Rattle.found_rule.proofs.Quiet.{Done}
 use Rattle.board_lemmas.proofs.CellAlike.{not_reads}
@@ -30,6 +30,7 @@ use Rattle.board_lemmas.proofs.HandLists.{EachOf-map}
 use Rattle.board_lemmas.proofs.ListCounts.{EachOf-both}
 use Rattle.board_lemmas.proofs.KindForms.{live_unmarked}
 use Rattle.board_lemmas.proofs.ReachAll.{unmarked_matches, written_reach}
+use Rattle.board_lemmas.proofs.CountsDown.{lock_live, lock_some}
 
 module _ (n : Machine) (s : ℕ) (x : Step) (m m2 : Place → ℕ) (b c : ℕ → Holdings) (l : s < (sizes_of n).vcpus) (sound : Sound n m b) (others : (t : ℕ) → t ≢ s → c t ≡ b t) (f i : ℕ)
     (fixed : FixedWorks n b) where
@@ -72,7 +73,7 @@ module _ (n : Machine) (s : ℕ) (x : Step) (m m2 : Place → ℕ) (b c : ℕ �
           claims = unclaimed t r;
           locks = λ have.
               absurd (
-              let live = lock_live n m b sound f t r have in
+              let live : ((kind_at m f).validated ≡ true) × (0 < (kind_at m f).number) = (lock_live n m b sound t r f have, lock_some n m b sound t r f have) in
               let q = table_levels (kind_at m f).kind (lock_table n m b sound f t r have) in
               let o = q.1 in
               let e = seven (live_unmarked n m f sound.spelled live.0) in

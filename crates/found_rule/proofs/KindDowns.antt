@@ -1,8 +1,6 @@
 -- A type count is given back, and an entry lock: the last one leaves the frame closing.
-use Rattle.std.proofs.Common.{◌≡◌, ◌≢◌, ℕ, ◌-◌, ◌<◌, ◌≤◌, ◌==◌, if◌then◌else◌, Bool, true, false, None, refl, sym, ap, subst, ◌∙◌, arith}
-use Rattle.std.proofs.lemmas.Bool.{and_parts}
+use Rattle.std.proofs.Common.{◌≡◌, ◌≢◌, ℕ, ◌<◌, ◌≤◌, ◌==◌, if◌then◌else◌, Bool, true, false, None, refl, sym, ap, subst, ◌∙◌, arith}
 use Rattle.xp_words.specs.PageTypes.{is_table}
-use Rattle.xp_words.specs.KindWords.{kind_fields}
 use Rattle.xp_words.specs.Machine.{Machine}
 use Rattle.xp_words.specs.Places.{sizes_of, Place, Kind}
 use Rattle.xp_board.specs.declared.step.Step.{Step}
@@ -16,20 +14,18 @@ use Rattle.xp_board.specs.Found.{WorkFound, LockFound}
 use Rattle.xp_board.specs.WellFormed.{IsWorkFormed, IsLockFormed}
 use Rattle.xp_board.specs.Sound.{Sound, is_busy}
 use Rattle.step_effects.proofs.ActEffects.{Dropped, Unlocked}
-use Rattle.board_lemmas.proofs.KindForms.{fields_down, fields_unlocked}
 use Rattle.found_rule.proofs.Learning.{Act, act}
 use Rattle.found_rule.proofs.Words.{Words}
 use Rattle.found_rule.proofs.KnownFacts.{RefRight, TypedRight, LockRight}
-use Rattle.found_rule.proofs.Counted.{typed_ref_counted, lock_counted}
 use Rattle.found_rule.proofs.HandFacts.{ReachKept}
 use Rattle.found_rule.proofs.MyHand.{refs_old, typed_old, lock_right_old, locks_old}
 use Rattle.found_rule.proofs.KindLaw.{KindRest, kind_done, kind_grown, kind_works_stay, kind_works_formed, kind_locks_formed, new_found, new_formed, typed_owner_right, lock_owner_right}
 use Rattle.found_rule.proofs.KindRows.{live_words}
 use Rattle.found_rule.proofs.Quiet.{Done}
 use Rattle.board_lemmas.proofs.HeldByForm.{live_idle}
-use Rattle.board_lemmas.proofs.KindReadings.{live_count}
 use Rattle.board_lemmas.proofs.HandLists.{EachOf-more, EachOf-without, EachOf-maybe}
-use Rattle.board_lemmas.proofs.Works.{is_locked-mine, nobody_works}
+use Rattle.board_lemmas.proofs.Works.{nobody_works}
+use Rattle.board_lemmas.proofs.CountsDown.{drop_live, drop_some, drop_word, lock_live, lock_some, unlock_word}
 
 table_512 : (t : Bool) → (if t then 512 else 0) ≤ 512
 table_512 true = omega arith
@@ -83,9 +79,9 @@ module _ (n : Machine) (s : ℕ) (x : Step) (m m2 : Place → ℕ) (b c : ℕ �
       let p = Kind f in
       let u = dropped f (m p) (m2 p) (b s) in
       let acted = act n s x p m m2 (b s) u (c s) w.place w.real w.left w.others refl refl refl refl d.hand in
-      let live = ((sound.found s l).lives f d.may.kind d.may.live).0 in
-      let some : 0 < (kind_at m f).number = (let a = typed_ref_counted n m b sound s f l d.may.in_hand in let e = live_count (kind_at m f) live in omega arith) in
-      let left : kind_at m2 f ≡ record (kind_at m f) { number = (kind_at m f).number - 1 } = ap kind_fields d.is ∙ fields_down (m p) (sound.spelled.small p) some in
+      let live = drop_live n m b sound s l f d.may in
+      let some = drop_some n m b sound s l f d.may in
+      let left = drop_word n m b sound s l f d.may (m2 p) d.is in
       let now : (kind_at m2 f).validated ≡ true = ap (λ q. q.validated) left ∙ live in
       let kind : (kind_at m2 f).kind ≡ (kind_at m f).kind = ap (λ q. q.kind) left in
       let ws = words live some now kind u acted in
@@ -106,10 +102,9 @@ module _ (n : Machine) (s : ℕ) (x : Step) (m m2 : Place → ℕ) (b c : ℕ �
       let p = Kind f in
       let u = unlocked f (m p) (m2 p) (b s) in
       let acted = act n s x p m m2 (b s) u (c s) w.place w.real w.left w.others refl refl refl refl d.hand in
-      let both = and_parts (kind_at m f).validated (kind_at m f).locked (is_locked-mine n m b sound.alone f s l d.may) in
-      let live = both.0 in
-      let some : 0 < (kind_at m f).number = (let a = lock_counted n m b sound s f l d.may in let e = live_count (kind_at m f) live in omega arith) in
-      let left = ap kind_fields d.is ∙ fields_unlocked (m p) (sound.spelled.small p) some both.1 in
+      let live = lock_live n m b sound s l f d.may in
+      let some = lock_some n m b sound s l f d.may in
+      let left = unlock_word n m b sound s l f d.may (m2 p) d.is in
       let now : (kind_at m2 f).validated ≡ true = ap (λ q. q.validated) left ∙ live in
       let kind : (kind_at m2 f).kind ≡ (kind_at m f).kind = ap (λ q. q.kind) left in
       let ws = words live some now kind u acted in

@@ -56,7 +56,7 @@ found_nobody n m s =
       endings = tt;
       claims = tt;
       privileges = λ d o b. tt;
-      own = empty_own_found m s;
+      own = empty_own_found (sizes_of n) m s;
     }
 
 -- ---- it is idle
