@@ -1,5 +1,5 @@
 -- What is counted of each frame: the recorded entries and the words of vCPUs that name it.
-use Rattle.std.proofs.Common.{nat_lt, inl, inr, ◌≡◌, ◌≢◌, ℕ, ◌+◌, ◌<◌, ◌≤◌, Bool, true, false, Option, refl, ap, arith, IsTrue, if◌then◌else◌, add-one, subst}
+use Rattle.std.proofs.Common.{nat_lt, inl, inr, ◌≡◌, ◌≢◌, ℕ, ◌+◌, ◌<◌, ◌≤◌, Bool, true, false, Option, refl, ap, arith, IsTrue, if◌then◌else◌, add-one, subst, Some, None}
 use Rattle.std.proofs.lemmas.Bool.{cases_Bool}
 use Rattle.std.proofs.lemmas.Bool.Decides.{nat_tests}
 use Rattle.xp_words.specs.declared.entry.Demand.TheVariants.{Nothing, Bad, Read, Typed}
@@ -9,7 +9,7 @@ use Rattle.xp_words.specs.Machine.{Machine}
 use Rattle.xp_words.specs.Places.{Sizes, sizes_of, is_place, Place, Vcpu, Refs, Kind}
 use Rattle.xp_board.specs.Readings.{kind_at, is_context, ref_count, type_count, allocated_mark}
 use Rattle.xp_board.specs.Hands.{hand, typed_hand, refs_to, typed_to, locks_on}
-use Rattle.xp_board.specs.Recorded.{names, CountsAgree, work_of, held, held_of, names_typed, entry_demand, table_entries, entries, contexts}
+use Rattle.xp_board.specs.Recorded.{names, CountsAgree, work_of, held, held_of, names_typed, entry_demand, table_entries, entries, contexts, HasType}
 use Rattle.xp_board.specs.Sound.{Spelled, Sound}
 use Rattle.board_lemmas.proofs.Sums.{hands-part, hands-fewer, sum_below-fewer, one_at-same, sum_below-one, sum_below-part, sum_below-same}
 use Rattle.xp_words.specs.declared.kind.PageType.{PageType}
@@ -191,3 +191,12 @@ plain_counted n m h f i g sound l e =
     let o = names-read g (entry_demand m f i) e in
     let k = sound.counts.refs g in
     omega arith
+
+-- ---- what stays the same
+-- a frame whose word stays keeps its type
+pub has_type-same : (m m2 : Place → ℕ) (g : ℕ) (o : Option PageType) → m2 (Kind g) ≡ m (Kind g) → HasType m g o → HasType m2 g o
+has_type-same m m2 g (Some t) same e = rw same e
+has_type-same m m2 g None same e = tt
+
+pub typed_hand-same : (g : ℕ) (u v : Holdings) → typed_to g v.typed ≡ typed_to g u.typed → locks_on g v.locks ≡ locks_on g u.locks → typed_hand g v ≡ typed_hand g u
+typed_hand-same g u v typed locks = let p = typed_hand_is g u in let q = typed_hand_is g v in omega arith

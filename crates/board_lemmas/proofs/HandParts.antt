@@ -4,14 +4,14 @@ use Rattle.xp_words.specs.declared.entry.Demand.{Demand}
 use Rattle.xp_words.specs.declared.entry.Demand.TheVariants.{Nothing, Bad, Read, Typed}
 use Rattle.xp_words.specs.Entries.{frame_of, is_bit}
 use Rattle.xp_words.specs.Machine.{Machine}
-use Rattle.xp_words.specs.Places.{Vcpu}
+use Rattle.xp_words.specs.Places.{Vcpu, Place, Clock, Pages, Life, Refs, Kind, M2p, Cell, Map, Priv}
 use Rattle.xp_board.specs.declared.holdings.Walk.{Walk}
 use Rattle.xp_board.specs.declared.holdings.Holdings.{Holdings}
 use Rattle.xp_board.specs.Settling.{demand_in, demand_out}
 use Rattle.xp_board.specs.ContextSteps.{named_in, named_out}
 use Rattle.xp_board.specs.FillSteps.{started, loaded, descended, touched, level_of}
 use Rattle.xp_board.specs.RunSteps.{ran_now}
-use Rattle.xp_board.specs.After.{learned, learned_own}
+use Rattle.xp_board.specs.After.{learned, learned_own, learned_life, learned_cell}
 use Rattle.board_lemmas.proofs.Sums.{either}
 
 -- all lists but the references, and the steps
@@ -122,6 +122,20 @@ translations_own k w u =
 
 pub beside_learned : (s v k f w : ℕ) (u : Holdings) → Beside u (learned s (Vcpu v k) f w u)
 beside_learned s v k f w u = either (Beside u) (v == s) _ _ (beside_own k w u) (beside u u refl refl refl refl refl refl refl refl)
+
+-- what holds of the hand holds after each word, where it does so after those that tell more
+pub learned_by {ℓ} : (R : Holdings → Type ℓ) (s : ℕ) (p : Place) (found left : ℕ) (u : Holdings) → R u → ((d : ℕ) → R (learned_life d found u)) → ((k : ℕ) → R (learned_own k left u)) →
+    ((f i : ℕ) → R (learned_cell f i left u)) → R (learned s p found left u)
+learned_by R s Clock found left u same life own cell = same
+learned_by R s (Pages d) found left u same life own cell = same
+learned_by R s (Life d) found left u same life own cell = life d
+learned_by R s (Vcpu v k) found left u same life own cell = either R (v == s) _ _ (own k) same
+learned_by R s (Refs f) found left u same life own cell = same
+learned_by R s (Kind f) found left u same life own cell = same
+learned_by R s (M2p f) found left u same life own cell = same
+learned_by R s (Cell f i) found left u same life own cell = cell f i
+learned_by R s (Map k) found left u same life own cell = same
+learned_by R s (Priv d) found left u same life own cell = same
 
 -- ---- walks and Run steps
 pub beside_ran : (w : ℕ) (u : Holdings) → Beside u (ran_now w u)

@@ -110,6 +110,10 @@ when_found w e y z at = grind (arith, nat_tests)
 pub when_lost : {A : Type 0} (w e : ℕ) (y z : A) → w ≢ e → (if w == e then y else z) ≡ z
 when_lost w e y z off = grind (arith, nat_tests)
 
+pub if_fewer : (t : Bool) (x : ℕ) → (if t then x else 0) ≤ x
+if_fewer true x = omega arith
+if_fewer false x = omega arith
+
 -- where a number is tested against itself
 pub if_itself : {A : Type 0} (s : ℕ) (y z : A) → (if s == s then y else z) ≡ y
 if_itself s y z = rw (when_eq s s refl) refl
@@ -163,6 +167,10 @@ sum_below-only (suc n) p j b e =
     ]
 
 -- ---- the hands of all seats
+-- a part that is the seat's as it was is so of all
+pub seat_same : {A : Type 0} (part : Holdings → A) (s : ℕ) (h b : ℕ → Holdings) → ((t : ℕ) → t ≢ s → b t ≡ h t) → part (b s) ≡ part (h s) → (v : ℕ) → part (b v) ≡ part (h v)
+seat_same part s h b others e v = elim (cases_eq v s) [ inl at ↦ rw at e | inr off ↦ ap part (others v off) ]
+
 pub hands-one : (c : Holdings → ℕ) (z : Sizes) (h h2 : ℕ → Holdings) (s : ℕ) → s < z.vcpus → ((t : ℕ) → t ≢ s → h2 t ≡ h t) →
     hands c z h2 + c (h s) ≡ hands c z h + c (h2 s)
 unfolding hands

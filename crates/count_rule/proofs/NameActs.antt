@@ -17,7 +17,7 @@ use Rattle.xp_board.specs.Sound.{Sound}
 use Rattle.step_effects.proofs.ActEffects.{Named}
 use Rattle.board_lemmas.proofs.PlaceTests.{same_or_other}
 use Rattle.count_rule.proofs.Twins.{EachTwo-each, SameLock, recorded_in-same, EachTwo, SameWork, SameClaim}
-use Rattle.board_lemmas.proofs.Counted.{entries-same, contexts-one, hand_is, typed_hand_is, not_context}
+use Rattle.board_lemmas.proofs.Counted.{entries-same, contexts-one, hand_is, typed_hand_is, not_context, has_type-same}
 use Rattle.count_rule.proofs.CountLaw.{each_seat}
 use Rattle.count_rule.proofs.PartLaws.{stamped_by, idle_running}
 use Rattle.count_rule.proofs.Learning.{Kept, Learnt, learnt, kept_noted}
@@ -83,10 +83,6 @@ module _ (n : Machine) (s : ℕ) (x : Step) (m m2 : Place → ℕ) (b c : ℕ �
   kinds_same : (g : ℕ) → m2 (Kind g) ≡ m (Kind g)
   kinds_same g = d.wrote.others (Kind g) (λ e. cc)
 
-  type_same : (g : ℕ) (o : Option PageType) → HasType m g o → HasType m2 g o
-  type_same g (Some t) e = rw (kinds_same g) e
-  type_same g None e = tt
-
   learnt_all : Learnt moved (learned s (Vcpu v k) was is moved)
   learnt_all = learnt s (Vcpu v k) was is moved
 
@@ -137,17 +133,17 @@ module _ (n : Machine) (s : ℕ) (x : Step) (m m2 : Place → ℕ) (b c : ℕ �
         contexts = λ w j g p q t e. elim (same_or_other (Vcpu w j) (Vcpu v k)) [
           | inl at ↦
               let i : j ≡ k = cc in
-              rw i (type_same g (context_type k) (new_type g (ap m2 (sym at) ∙ e)))
-          | inr off ↦ type_same g (context_type j) (sound.counts.kinds.contexts w j g p q t (sym (d.wrote.others (Vcpu w j) off) ∙ e))
+              rw i (has_type-same m m2 g (context_type k) (kinds_same g) (new_type g (ap m2 (sym at) ∙ e)))
+          | inr off ↦ has_type-same m m2 g (context_type j) (kinds_same g) (sound.counts.kinds.contexts w j g p q t (sym (d.wrote.others (Vcpu w j) off) ∙ e))
         ];
         typed = each_seat n s m m2 b c seat others (λ t u. EachOf (λ e. HasType m2 e.frame e.kind) u.typed)
             (subst (λ y. EachOf (λ e. HasType m2 e.frame e.kind) y) (sym kept.typed)
-            (EachOf-map (λ e. HasType m e.frame e.kind) _ moved.typed (λ e i. type_same e.frame e.kind i)
+            (EachOf-map (λ e. HasType m e.frame e.kind) _ moved.typed (λ e i. has_type-same m m2 e.frame e.kind (kinds_same e.frame) i)
             (typed_named_in (λ y. HasType m y.frame y.kind) k was (named_out is (b s)) (λ f e. sound.counts.kinds.contexts v k f place_real.0 place_real.1 d.word (e ∙ sym (add-one f))) (typed_named_out (λ y. HasType m y.frame y.kind) is (b s) (sound.counts.kinds.typed s seat)))))
-            (λ t l off. EachOf-map (λ e. HasType m e.frame e.kind) _ (b t).typed (λ e i. type_same e.frame e.kind i) (sound.counts.kinds.typed t l));
+            (λ t l off. EachOf-map (λ e. HasType m e.frame e.kind) _ (b t).typed (λ e i. has_type-same m m2 e.frame e.kind (kinds_same e.frame) i) (sound.counts.kinds.typed t l));
         locks = each_seat n s m m2 b c seat others (λ t u. EachOf (λ e. HasType m2 e.frame (Some e.kind)) u.locks)
             (EachTwo-each SameLock (λ e. HasType m e.frame (Some e.kind)) _ _ _ (λ y z r i. rw (kinds_same z.frame) (ap (λ f. (kind_at m f).kind) r.frame ∙ i ∙ sym r.kind)) locks_kept (sound.counts.kinds.locks s seat))
-            (λ t l off. EachOf-map (λ e. HasType m e.frame (Some e.kind)) _ (b t).locks (λ e i. type_same e.frame (Some e.kind) i) (sound.counts.kinds.locks t l));
+            (λ t l off. EachOf-map (λ e. HasType m e.frame (Some e.kind)) _ (b t).locks (λ e i. has_type-same m m2 e.frame (Some e.kind) (kinds_same e.frame) i) (sound.counts.kinds.locks t l));
       }
 
   named_move : HandMove n s m m2 b c seat others

@@ -20,7 +20,7 @@ use Rattle.count_rule.proofs.CountLaw.{pages_of, Steady, types_steady, counted_s
 use Rattle.count_rule.proofs.PartLaws.{alone_law, map_law, works_law}
 use Rattle.count_rule.proofs.Learning.{Stays}
 use Rattle.board_lemmas.proofs.Sums.{sum_below-same}
-use Rattle.board_lemmas.proofs.Counted.{held_inside, hand_is, typed_hand_is}
+use Rattle.board_lemmas.proofs.Counted.{held_inside, hand_is, typed_hand-same}
 
 -- ---- a hand that keeps its lists
 pub works_times : (b c : Holdings) → EachTwo SameWork b.works c.works → (g : ℕ) → works_on g c.works ≡ works_on g b.works
@@ -88,12 +88,7 @@ module _ (n : Machine) (s : ℕ) (m m2 : Place → ℕ) (b c : ℕ → Holdings)
         }
 
     typed_hand_same : (g : ℕ) → typed_hand g (c s) ≡ typed_hand g (b s)
-    typed_hand_same g =
-        let p = typed_hand_is g (c s) in
-        let q = typed_hand_is g (b s) in
-        let t = ap (typed_to g) kept.typed in
-        let l = locks_times (b s) (c s) kept.locks g in
-        omega arith
+    typed_hand_same g = typed_hand-same g (b s) (c s) (ap (typed_to g) kept.typed) (locks_times (b s) (c s) kept.locks g)
 
     hand_same : (g : ℕ) → hand g (c s) ≡ hand g (b s)
     hand_same g =

@@ -1,5 +1,5 @@
 -- The exchanges of a kind word that bring the frame into work.
-use Rattle.std.proofs.Common.{◌≡◌, ◌≢◌, ℕ, ◌<◌, ◌≤◌, if◌then◌else◌, Bool, true, false, ◌∷◌, Some, None, refl, sym, ◌∙◌, ap, subst, arith, IsTrue, inl, inr}
+use Rattle.std.proofs.Common.{◌≡◌, ◌≢◌, ℕ, ◌<◌, ◌≤◌, if◌then◌else◌, true, false, ◌∷◌, Some, None, refl, sym, ◌∙◌, ap, subst, arith, IsTrue, inl, inr}
 use Rattle.std.proofs.lemmas.Bool.Decides.{nat_tests}
 use Rattle.xp_words.specs.declared.kind.KindWord.{KindWord}
 use Rattle.xp_words.specs.KindWords.{kind_fields, has_form}
@@ -28,7 +28,7 @@ use Rattle.count_rule.proofs.KindWorks.{works_in}
 use Rattle.count_rule.proofs.TurnActs.{turned_hand, left_says, stamp_kept}
 use Rattle.count_rule.proofs.Outcome.{Outcome}
 use Rattle.board_lemmas.proofs.KindForms.{form_read}
-use Rattle.board_lemmas.proofs.Sums.{no_bit}
+use Rattle.board_lemmas.proofs.Sums.{no_bit, if_fewer}
 use Rattle.board_lemmas.proofs.KindReadings.{dead_unlive, stamp_number, stamp_of}
 use Rattle.board_lemmas.proofs.HandLists.{EachOf-maybe}
 
@@ -41,10 +41,6 @@ not_closing k work closing = grind (arith, nat_tests)
 
 resumed_work : (k : KindWord) → IsTrue (is_partial k) → IsTrue (is_work (resumed_kind k))
 resumed_work k partial = grind (arith, nat_tests)
-
-fewer : (t : Bool) (x : ℕ) → (if t then x else 0) ≤ x
-fewer true x = omega arith
-fewer false x = omega arith
 
 module _ (n : Machine) (s : ℕ) (x : Step) (m m2 : Place → ℕ) (b c : ℕ → Holdings) (seat : s < (sizes_of n).vcpus) (others : (t : ℕ) → t ≢ s → c t ≡ b t) (may : MayAct n s x (b s)) (sound : Sound n m b) (f : ℕ) where
   -- a frame that comes into work
@@ -69,7 +65,7 @@ module _ (n : Machine) (s : ℕ) (x : Step) (m m2 : Place → ℕ) (b c : ℕ �
       let old = sound.stamped.kinds f in
       let a = stamp_of (m (Kind f)) k was dead in
       let d = stamp_number (m2 (Kind f)) l is in
-      let few = fewer (is_stale k l.kind) k.number in
+      let few = if_fewer (is_stale k l.kind) k.number in
       omega arith
 
   pub resume_outcome : Turned n s x f Resume m m2 (b s) (c s) → Outcome n m2 c

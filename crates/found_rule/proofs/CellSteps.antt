@@ -31,7 +31,7 @@ use Rattle.found_rule.proofs.Serving.{AsksLive, PassesOn, target_serves, recorde
 use Rattle.found_rule.proofs.CellReach.{came_reach, cell_passes, came_table}
 use Rattle.found_rule.proofs.CellFacts.{lock_type, lock_table, live_alone, spared_alone, fix_none, zero_none, asks_hand}
 use Rattle.found_rule.proofs.MyHand.{refs_old, typed_old}
-use Rattle.found_rule.proofs.RestLaw.{rest_done}
+use Rattle.found_rule.proofs.RestLaw.{rest_done, rest_of}
 use Rattle.found_rule.proofs.Quiet.{Done}
 use Rattle.board_lemmas.proofs.EntryAsks.{walked_inside}
 use Rattle.board_lemmas.proofs.HandLists.{first-some}
@@ -59,18 +59,7 @@ module _ (n : Machine) (s : ℕ) (x : Step) (m m2 : Place → ℕ) (b c : ℕ �
       let reach = came_reach n s m m2 b c u sound others acted.learned.cache acted.learned.walk (cell_passes n m m2 b sound f i o passes)
       (λ y k. inl (cached y (subst (λ xs. Member y xs) moved.cache k))) (λ y k. inl (walked y (subst (λ w. Member y (reached_by w)) moved.walk k))) in
       rest_done n s p m m2 b c u acted l sound others
-      (record {
-        works = moved.works;
-        locks = moved.locks;
-        ending = moved.ending;
-        claimed = moved.claimed;
-        raised = moved.raised;
-        looking = moved.looking;
-        cold = moved.cold;
-        turn = moved.turn;
-        acked = moved.acked;
-        ran = moved.ran;
-      })
+      (rest_of (b s) u moved)
       (λ g. o (Kind g) (λ e. cc)) (λ g. o (Refs g) (λ e. cc)) words reach fix zeros (λ v. o (flushed_of v) (λ e. cc)) (λ v. o (run_of v) (λ e. cc))
       (refs (refs_old n s p m m2 b c u acted l sound words reach)) (typed (typed_old n s p m m2 b c u acted l sound words reach))
       (let g = (sound.formed s l).cache in record { few = rw (moved.cache) g.few; walk = λ y t. g.walk y (sym moved.walk ∙ t) })

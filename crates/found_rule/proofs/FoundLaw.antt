@@ -1,13 +1,13 @@
 -- All that seats have found stays true at an act of seat s that leaves words so, and of whose own hand what it has is known.
-use Rattle.std.proofs.Common.{◌≡◌, ◌≢◌, ℕ, ◌<◌, ◌≤◌, length, Option, Some, IsTrue, sym, ap, subst, ◌∙◌, ◌⊎◌, inl, inr, arith}
+use Rattle.std.proofs.Common.{◌≡◌, ◌≢◌, ℕ, ◌<◌, ◌≤◌, length, Option, Some, sym, ap, subst, ◌∙◌, ◌⊎◌, inl, inr, arith}
 use Rattle.std.proofs.lemmas.Bool.{cases_eq}
 use Rattle.xp_words.specs.Machine.{Machine}
-use Rattle.xp_words.specs.Places.{sizes_of, Place, Clock, Vcpu, Cell, Priv, is_place, flushed_of, run_of}
+use Rattle.xp_words.specs.Places.{sizes_of, Place, Clock, Vcpu, Cell, flushed_of, run_of}
 use Rattle.xp_board.specs.declared.holdings.TypedReference.{TypedReference}
 use Rattle.xp_board.specs.declared.holdings.Lock.{Lock}
 use Rattle.xp_board.specs.declared.holdings.Holdings.{Holdings}
 use Rattle.xp_board.specs.Lists.{EachOf}
-use Rattle.xp_board.specs.Readings.{kind_at, domain_of, told_value, has_now, has_ever, type_count}
+use Rattle.xp_board.specs.Readings.{kind_at, domain_of, told_value, type_count}
 use Rattle.xp_board.specs.Found.{ClockFound, ClockSinceAck, FlushedSinceOff, ColdSinceOff, WorkFound, LockFound, EndingFound, ClaimFound, OwnFound, Found}
 use Rattle.xp_board.specs.Sound.{Sound, WorkAgrees}
 use Rattle.found_rule.proofs.Growth.{Grown, stayed, added}
@@ -89,8 +89,6 @@ module _ (n : Machine) (s : ℕ) (p : Place) (m m2 : Place → ℕ) (b c : ℕ �
   told_was : (q : Place) → told_value q (m q) ≤ m Clock
   told_was q = told_within n m sound.stamped q
 
-  priv_was : (d : ℕ) → IsTrue (is_place (sizes_of n) (Priv d)) → (o : ℕ) → o < 16 → IsTrue (has_now o (m (Priv d))) → IsTrue (has_ever o (m (Priv d)))
-  priv_was d r = had n m d (sound.spelled.spelled (Priv d) r)
 
   -- of another seat
   module _ (t : ℕ) (k : t < (sizes_of n).vcpus) (d : t ≢ s) (same : c t ≡ b t) where
@@ -173,7 +171,7 @@ module _ (n : Machine) (s : ℕ) (p : Place) (m m2 : Place → ℕ) (b c : ℕ �
           locks = (subst (λ xs. EachOf (LockFound (sizes_of n) m2 (c t)) xs) (sym (ap (λ y. y.locks) same)) locks);
           endings = (subst (λ xs. EachOf (EndingFound m2) xs) (sym (ap (λ y. y.ending) same)) endings);
           claims = (subst (λ xs. EachOf (ClaimFound (sizes_of n) m2 (domain_of n t) (c t)) xs) (sym (ap (λ y. y.claimed) same)) claims);
-          privileges = (privileges_law n m m2 j told_was a (c t) grown priv_was f.privileges);
+          privileges = (privileges_law n m m2 j told_was a (c t) grown (had n m b sound) f.privileges);
           own = own;
         }
 
@@ -227,7 +225,7 @@ module _ (n : Machine) (s : ℕ) (p : Place) (m m2 : Place → ℕ) (b c : ℕ �
           locks = mine.locks;
           endings = mine.endings;
           claims = mine.claims;
-          privileges = privileges_law n m m2 j told_was a (c s) more priv_was f.privileges;
+          privileges = privileges_law n m m2 j told_was a (c s) more (had n m b sound) f.privileges;
           own = record {
             run = λ y q. own_word (run_of s) a.run u.run (c s).run y acted.run acted.learned.run (λ o. f.own.run y o) q;
             words = λ k y o e r q. left_there (Vcpu s k) y (λ t. f.own.words k y o e (λ h. r (words.moves.stopped s h)) t) q (same_or_other (Vcpu s k) p);

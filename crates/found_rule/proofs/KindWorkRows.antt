@@ -31,6 +31,7 @@ use Rattle.found_rule.proofs.Quiet.{Done}
 use Rattle.found_rule.proofs.KindRows.{free_words, row_done, refs_are, typed_are, owner_is, new_reference, owner_none, none, looked, turned_act, count_done, lock_done, pin_done, unpin_done}
 use Rattle.board_lemmas.proofs.KindReadings.{stamp_of}
 use Rattle.board_lemmas.proofs.HandLists.{EachOf-more, EachOf-without}
+use Rattle.board_lemmas.proofs.Sums.{if_fewer}
 
 module _ (n : Machine) (s : ℕ) (x : Step) (m m2 : Place → ℕ) (b c : ℕ → Holdings) (l : s < (sizes_of n).vcpus) (sound : Sound n m b) (others : (t : ℕ) → t ≢ s → c t ≡ b t) (f : ℕ) where
   abbrev base : Holdings
@@ -122,10 +123,6 @@ module _ (n : Machine) (s : ℕ) (x : Step) (m m2 : Place → ℕ) (b c : ℕ �
       (new_formed n s m m2 b c l sound others f u acted words k.progress unsettled base refl (let q = form.progress in omega arith)
       (λ t. (form.page (sym (ap is_table same) ∙ t)).0) (unsettled_last new k.progress (k.progress == 0) base) (unsettled_since k.progress (k.progress == 0) base refl (omega arith)))
 
-  stale_number : (t : Bool) (q : ℕ) → (if t then q else 0) ≤ q
-  stale_number true q = omega arith
-  stale_number false q = omega arith
-
   begin_done : Turned n s x f Begin m m2 (b s) (c s) → Done n s m m2 b c
   begin_done d =
       let k = d.k in
@@ -136,7 +133,7 @@ module _ (n : Machine) (s : ℕ) (x : Step) (m m2 : Place → ℕ) (b c : ℕ �
       let free = ap is_busy d.fields_was ∙ dead_idle k y.dead in
       let count : type_count (kind_at m f) ≡ 0 = ap type_count d.fields_was ∙ dead_count k y.dead in
       let words = dead_words k d.l d.fields_was d.fields_is unlive d.wrote.others free count
-      (let e = ap (λ q. q.number) y.left in let g = stale_number (is_stale k d.l.kind) k.number in omega arith) (ap (λ q. q.validated) y.left) in
+      (let e = ap (λ q. q.number) y.left in let g = if_fewer (is_stale k d.l.kind) k.number in omega arith) (ap (λ q. q.validated) y.left) in
       let new = new_work f (m2 (Kind f)) 0 None base in
       work_done u acted words free 0 None
       (record { ending = refl; claimed = refl; raised = refl; cache = refl; walk = refl; cold = refl; turn = refl; acked = refl; ran = refl }) refl refl refl

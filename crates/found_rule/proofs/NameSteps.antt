@@ -28,7 +28,7 @@ use Rattle.found_rule.proofs.MyHand.{refs_old, typed_old}
 use Rattle.found_rule.proofs.Outcome.{reach_kept}
 use Rattle.found_rule.proofs.Quiet.{Done, fix_kept, zero_kept, same_hand, done_same}
 use Rattle.xp_board.specs.After.{noted}
-use Rattle.found_rule.proofs.RestLaw.{rest_done}
+use Rattle.found_rule.proofs.RestLaw.{rest_done, rest_of}
 use Rattle.board_lemmas.proofs.MoreSteps.{EachSince-some}
 use Rattle.board_lemmas.proofs.LiveTables.{has_type}
 use Rattle.board_lemmas.proofs.Counted.{not_context}
@@ -126,18 +126,7 @@ module _ (n : Machine) (s : ℕ) (x : Step) (m m2 : Place → ℕ) (b c : ℕ �
       let grown : Grown z m m2 (b s).steps (c s).steps = added acted.made p acted.added acted.steps in
       let T : TypedReference → Type 0 = TypedRight z m2 (c s).steps in
       rest_done n s p m m2 b c u acted l sound others
-      (record {
-        works = moved.works;
-        locks = moved.locks;
-        ending = moved.ending;
-        claimed = moved.claimed;
-        raised = moved.raised;
-        looking = moved.looking;
-        cold = moved.cold;
-        turn = moved.turn;
-        acked = moved.acked;
-        ran = moved.ran;
-      })
+      (rest_of (b s) u moved)
       (λ f. o (Kind f) (λ e. cc)) (λ f. o (Refs f) (λ e. cc)) words reach (fix_kept n s p m m2 b c u acted l sound cells) (zero_kept n s p m m2 b c u acted l sound cells) flushed run
       (subst (λ xs. EachOf (RefRight z m2 (c s).steps) xs) (sym (refs_named_in k (m p) gone ∙ refs_named_out (m2 p) (b s))) (refs_old n s p m m2 b c u acted l sound words reach))
       (typed_named_in T k (m p) gone

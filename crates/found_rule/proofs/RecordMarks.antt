@@ -1,6 +1,5 @@
 -- Marks that record the next entry of a table in work, or shed the last one.
-use Rattle.std.proofs.Common.{◌≡◌, ◌≢◌, ℕ, ◌+◌, ◌-◌, ◌<◌, ◌≤◌, if◌then◌else◌, Bool, true, false, List, length, Option, Some, None, refl, sym, ap, subst, ◌∙◌, inl, inr, arith, is_none}
-use Rattle.std.proofs.lemmas.Bool.{cases_eq}
+use Rattle.std.proofs.Common.{◌≡◌, ◌≢◌, ℕ, ◌+◌, ◌-◌, ◌<◌, ◌≤◌, if◌then◌else◌, Bool, true, false, List, length, Option, Some, None, refl, sym, ap, subst, ◌∙◌, inl, arith, is_none}
 use Rattle.xp_words.specs.declared.kind.PageType.{PageType}
 use Rattle.xp_words.specs.Machine.{Machine}
 use Rattle.xp_words.specs.Places.{Sizes, sizes_of, Place, Cell}
@@ -30,6 +29,7 @@ use Rattle.board_lemmas.proofs.ListChanges.{EachOf-changes, EachOf-changed_first
 use Rattle.board_lemmas.proofs.Works.{one_works}
 use Rattle.board_lemmas.proofs.WorkFacts.{seen_is}
 use Rattle.board_lemmas.proofs.HandTypes.{refs_out, typed_out, refs_in, typed_in}
+use Rattle.board_lemmas.proofs.Sums.{seat_same}
 
 seen_there : (z : Sizes) (k f : ℕ) (steps : List Made) (o : Option Seen) (i w : ℕ) → SeenIs z k f steps o → o ≡ Some (record { index = i; word = w }) → last_since z k (Cell f i) steps ≡ Some (seen_word o)
 seen_there z k f steps o i w h e = seen_is z k f steps o i w h e ∙ ap (λ y. Some (seen_word y)) (sym e)
@@ -68,14 +68,11 @@ module _ (n : Machine) (s : ℕ) (m : Place → ℕ) (h b : ℕ → Holdings) (l
   works_are : (b s).works ≡ changed_work f change (h s).works
   works_are = moved.works ∙ ap (λ u. u.works) is
 
-  part_same : {A : Type 0} (part : Holdings → A) → part (b s) ≡ part (h s) → (v : ℕ) → part (b v) ≡ part (h v)
-  part_same part e v = elim (cases_eq v s) [ inl at ↦ rw at e | inr off ↦ ap part (others v off) ]
-
   reach : ReachKept n m m h b
   reach v g p r busy marked past =
       inl
-      (reach_same (sizes_of n) m m (h v) (b v) (λ x i. refl) (part_same (λ u. u.cache) (moved.cache ∙ ap (λ u. u.cache) is) v)
-      (part_same (λ u. u.walk) (moved.walk ∙ ap (λ u. u.walk) is) v) past)
+      (reach_same (sizes_of n) m m (h v) (b v) (λ x i. refl) (seat_same (λ u. u.cache) s h b others (moved.cache ∙ ap (λ u. u.cache) is) v)
+      (seat_same (λ u. u.walk) s h b others (moved.walk ∙ ap (λ u. u.walk) is) v) past)
 
   entry_found : ((e : Work) → WorkFound n m b (h s) e → WorkFound n m b (h s) (change e)) → EachOf (RefRight (sizes_of n) m (h s).steps) (b s).refs →
       EachOf (TypedRight (sizes_of n) m (h s).steps) (b s).typed → (t : ℕ) → t < (sizes_of n).vcpus → Found n m b t

@@ -3,7 +3,7 @@ use Rattle.std.proofs.Common.{◌≡◌, ℕ, ◌<◌, ◌≤◌, ◌==◌, if�
 use Rattle.std.proofs.lemmas.Bool.{eqb-true}
 use Rattle.xp_words.specs.KindWords.{kind_fields}
 use Rattle.xp_words.specs.Machine.{Machine}
-use Rattle.xp_words.specs.Places.{sizes_of, Place, Clock, Pages, Life, Vcpu, Refs, Kind, M2p, Cell, Map, Priv, flushed_of}
+use Rattle.xp_words.specs.Places.{sizes_of, Place, Clock, Pages, Life, Vcpu, Refs, Kind, M2p, Cell, Map, Priv, flushed_of, is_place}
 use Rattle.xp_board.specs.declared.holdings.Work.{Work}
 use Rattle.xp_board.specs.declared.holdings.Holdings.{Holdings}
 use Rattle.xp_board.specs.Readings.{kind_at, ref_count, told_value, has_now, has_ever, is_closing}
@@ -33,9 +33,11 @@ told_within n m s (Cell f i) = omega arith
 told_within n m s (Map k) = omega arith
 told_within n m s (Priv d) = omega arith
 
-pub had : (n : Machine) (m : Place → ℕ) (d : ℕ) → IsSpelling n (Priv d) (m (Priv d)) → (o : ℕ) → o < 16 → IsTrue (has_now o (m (Priv d))) → IsTrue (has_ever o (m (Priv d)))
+-- what is had now was had
+pub had : (n : Machine) (m : Place → ℕ) (h : ℕ → Holdings) → Sound n m h → (d : ℕ) → IsTrue (is_place (sizes_of n) (Priv d)) → (o : ℕ) → o < 16 →
+    IsTrue (has_now o (m (Priv d))) → IsTrue (has_ever o (m (Priv d)))
 unfolding IsSpelling
-had n m d k o l t = k.1 o l t
+had n m h sound d there o l t = (sound.spelled.spelled (Priv d) there).1 o l t
 
 pub work_counted : (n : Machine) (m : Place → ℕ) (h : ℕ → Holdings) → Sound n m h → (t : ℕ) → t < (sizes_of n).vcpus → (e : Work) → 0 < works_on e.frame (h t).works →
     WorkFound n m h (h t) e → WorkAgrees (h t) e → 0 < ref_count (m (Refs e.frame))

@@ -2,7 +2,7 @@
 use Rattle.std.proofs.Common.{◌≡◌, ℕ, ◌+◌, ◌==◌, Bool, length, refl, sym, ◌∙◌, ap, subst}
 use Rattle.xp_words.specs.declared.entry.Demand.{Demand}
 use Rattle.xp_words.specs.KindWords.{kind_fields}
-use Rattle.xp_words.specs.Places.{Place, Clock, Pages, Life, Vcpu, Refs, Kind, M2p, Cell, Map, Priv}
+use Rattle.xp_words.specs.Places.{Place}
 use Rattle.xp_board.specs.declared.step.Item.{Item}
 use Rattle.xp_board.specs.declared.holdings.Reached.{Reached}
 use Rattle.xp_board.specs.declared.holdings.Holdings.{Holdings}
@@ -12,7 +12,7 @@ use Rattle.xp_board.specs.Reach.{reached_by}
 use Rattle.xp_board.specs.Settling.{demand_in, demand_out}
 use Rattle.xp_board.specs.After.{learned, learned_cell, learned_own, learned_work, learned_claim}
 use Rattle.board_lemmas.proofs.HandLists.{EachOf-changed, times-changed}
-use Rattle.board_lemmas.proofs.HandParts.{Beside, Translations, beside_own, translations_own, beside_out, beside_in, translations_out, translations_in}
+use Rattle.board_lemmas.proofs.HandParts.{Beside, Translations, beside_own, translations_own, beside_out, beside_in, translations_out, translations_in, learned_by}
 use Rattle.board_lemmas.proofs.Sums.{either}
 
 -- ---- hands
@@ -115,16 +115,9 @@ pub own_stays : (k w : ℕ) (a : Holdings) → HandStays a (learned_own k w a)
 own_stays k w a = beside_stays a (learned_own k w a) (beside_own k w a) (translations_own k w a)
 
 pub learned_stays : (s : ℕ) (p : Place) (found left : ℕ) (a : Holdings) → HandStays a (learned s p found left a)
-learned_stays s (Cell f i) found left a = cell_stays f i left a
-learned_stays s (Vcpu v k) found left a = either (HandStays a) (v == s) (learned_own k left a) a (own_stays k left a) (same_stays a)
-learned_stays s (Life d) found left a = either (HandStays a) (found == 0) _ a (parts_stay a _ refl refl refl refl refl refl) (same_stays a)
-learned_stays s Clock found left a = same_stays a
-learned_stays s (Pages d) found left a = same_stays a
-learned_stays s (Refs f) found left a = same_stays a
-learned_stays s (Kind f) found left a = same_stays a
-learned_stays s (M2p f) found left a = same_stays a
-learned_stays s (Map k) found left a = same_stays a
-learned_stays s (Priv d) found left a = same_stays a
+learned_stays s p found left a =
+    learned_by (HandStays a) s p found left a (same_stays a) (λ d. either (HandStays a) (found == 0) _ a (parts_stay a _ refl refl refl refl refl refl) (same_stays a)) (λ k. own_stays k left a)
+    (λ f i. cell_stays f i left a)
 
 -- ---- references
 pub out_stays : (d : Demand) (a : Holdings) → HandStays a (demand_out d a)
