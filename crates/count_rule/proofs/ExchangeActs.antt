@@ -47,7 +47,6 @@ unfolding has_form
 locked_free k form locked = grind (arith, nat_tests)
 
 module _ (n : Machine) (s : ℕ) (x : Step) (m m2 : Place → ℕ) (b c : ℕ → Holdings) (seat : s < (sizes_of n).vcpus) (others : (t : ℕ) → t ≢ s → c t ≡ b t) (may : MayAct n s x (b s)) (sound : Sound n m b) (f i : ℕ) (d : Exchanged n x f i m m2 (b s) (c s)) where
-
   abbrev old : Demand
   old = demand_at d.e.kind i (m (Cell f i))
 

@@ -71,7 +71,6 @@ module _ (n : Machine) (s : ℕ) (m m2 : Place → ℕ) (b : ℕ → Holdings) (
 
   -- ---- a type count is given back
   module _ (drop : MayDrop n f (b s)) where
-
     drop_pinned : (kind_at m f).pinned ≡ true → 2 ≤ (kind_at m f).number
     drop_pinned on =
         let all = typed_counts (drop_live n m b sound s seat f drop) in
@@ -99,7 +98,6 @@ module _ (n : Machine) (s : ℕ) (m m2 : Place → ℕ) (b : ℕ → Holdings) (
 
   -- ---- a lock is given back
   module _ (held : 0 < locks_on f (b s).locks) where
-
     lock_pinned : (kind_at m f).pinned ≡ true → 2 ≤ (kind_at m f).number
     lock_pinned on =
         let all = typed_counts (lock_live n m b sound s seat f held) in

@@ -19,8 +19,7 @@ use Rattle.xp_board.specs.Settling.{HasDemand}
 use Rattle.xp_board.specs.Found.{WorkFound, is_same_entry}
 use Rattle.xp_board.specs.Sound.{Sound, WorkAgrees}
 use Rattle.found_rule.proofs.WordsOf.{CellSpared}
-use Rattle.found_rule.proofs.Counted.{typed_ref_counted, lock_counted}
-use Rattle.found_rule.proofs.SoundWords.{work_counted}
+use Rattle.found_rule.proofs.SoundWords.{work_counted, typed_ref_counted, lock_counted}
 use Rattle.found_rule.proofs.Serving.{AsksLive}
 use Rattle.board_lemmas.proofs.HeldByForm.{live_idle}
 use Rattle.board_lemmas.proofs.KindReadings.{live_count}

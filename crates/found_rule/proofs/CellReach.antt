@@ -18,7 +18,6 @@ use Rattle.board_lemmas.proofs.ReachAll.{IsLevel, unmarked_matches, reach_level}
 use Rattle.board_lemmas.proofs.CellAlike.{alike_same, not_reads}
 
 module _ (n : Machine) (m : Place → ℕ) (h : ℕ → Holdings) (sound : Sound n m h) where
-
   -- a table that is come to, unmarked: its type is its level
   pub came_table : (v g level : ℕ) → v < (sizes_of n).vcpus → (kind_at m g).unflushed ≡ false → Came n m h v g (Table level) → (type_number (kind_at m g).kind ≡ level) × IsLevel (Table level)
   came_table v g level real unmarked (inl r) = (unmarked_matches n m h sound v g (Table level) real unmarked (not_reads level) r, reach_level n m h sound v g (Table level) real r)

@@ -21,7 +21,6 @@ use Rattle.xp_board.specs.Reach.{Table}
 use Rattle.xp_board.specs.Sound.{Sound}
 use Rattle.step_effects.proofs.ActEffects.{Filled}
 use Rattle.found_rule.proofs.Learning.{Act, act}
-use Rattle.found_rule.proofs.Counted.{typed_ref_counted}
 use Rattle.found_rule.proofs.Demands.{same_rest}
 use Rattle.found_rule.proofs.CellReach.{unreached_passes, came_table}
 use Rattle.found_rule.proofs.CellFacts.{uncounted_works, uncounted_locks, lock_table, live_alone, spared_alone, fix_none, zero_none}
@@ -35,6 +34,7 @@ use Rattle.board_lemmas.proofs.Works.{is_busy-mine, is_dying-mine, nobody_locks,
 use Rattle.board_lemmas.proofs.KindForms.{live_unmarked}
 use Rattle.board_lemmas.proofs.RefForms.{dying_uncounted}
 use Rattle.board_lemmas.proofs.EntryWords.{fixed_by}
+use Rattle.found_rule.proofs.SoundWords.{typed_ref_counted}
 
 module _ (n : Machine) (s : ℕ) (x : Step) (m m2 : Place → ℕ) (b c : ℕ → Holdings) (l : s < (sizes_of n).vcpus) (sound : Sound n m b) (others : (t : ℕ) → t ≢ s → c t ≡ b t) (f i : ℕ)
     (acted : Act n s (Cell f i) m m2 (b s) (b s) (c s)) where

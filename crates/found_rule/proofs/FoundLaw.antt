@@ -16,9 +16,8 @@ use Rattle.found_rule.proofs.Words.{Moves, Spares, Words}
 use Rattle.found_rule.proofs.WordFacts.{clock_law, flushed_law, stopped_law, life_law, privileges_law, since_ack_law, since_off_law, cold_off_law}
 use Rattle.found_rule.proofs.KnownFacts.{RefRight, TypedRight, LockRight, KnownRight, known_each, owners_by, lives_by, partials_by}
 use Rattle.found_rule.proofs.KnownStays.{owner_right, live_right, live_kept, partial_right}
-use Rattle.found_rule.proofs.Counted.{typed_ref_counted, lock_counted, ref_counted}
 use Rattle.found_rule.proofs.HandFacts.{ReachKept, their_work, their_lock, their_claim}
-use Rattle.found_rule.proofs.SoundWords.{told_within, had, work_counted}
+use Rattle.found_rule.proofs.SoundWords.{told_within, had, work_counted, typed_ref_counted, lock_counted, ref_counted}
 use Rattle.xp_board.specs.Steps.{last_since}
 use Rattle.board_lemmas.proofs.PlaceTests.{same_or_other}
 use Rattle.board_lemmas.proofs.ListCounts.{EachOf-both, EachOf-there}
@@ -88,7 +87,6 @@ module _ (n : Machine) (s : ℕ) (p : Place) (m m2 : Place → ℕ) (b c : ℕ �
     (words : Words n s m m2 b) (reach : ReachKept n m m2 b c) (offs : Offs n m m2 b c) (others : (t : ℕ) → t ≢ s → c t ≡ b t) where
   told_was : (q : Place) → told_value q (m q) ≤ m Clock
   told_was q = told_within n m sound.stamped q
-
 
   -- of another seat
   module _ (t : ℕ) (k : t < (sizes_of n).vcpus) (d : t ≢ s) (same : c t ≡ b t) where

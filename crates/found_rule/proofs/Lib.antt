@@ -4,7 +4,6 @@ pub mod Words
 pub mod WordFacts
 pub mod KnownFacts
 pub mod KnownStays
-pub mod Counted
 pub mod ReachSame
 pub mod HandFacts
 pub mod SoundWords

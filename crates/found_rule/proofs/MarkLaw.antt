@@ -35,7 +35,6 @@ pub record MarkKept (a u : Holdings) : Type 0 where
   pub old1 : u.old1 ≡ a.old1
 
 module _ (n : Machine) (s : ℕ) (m : Place → ℕ) (h b : ℕ → Holdings) (l : s < (sizes_of n).vcpus) (sound : Sound n m h) (others : (t : ℕ) → t ≢ s → b t ≡ h t) (kept : MarkKept (h s) (b s)) where
-
   grown : (v : ℕ) → Grown (sizes_of n) m m (h v).steps (b v).steps
   grown v = stayed (seat_same (λ y. y.steps) s h b others kept.steps v)
 

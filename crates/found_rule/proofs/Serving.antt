@@ -73,7 +73,6 @@ module _ (m : Place → ℕ) (kind : PageType) where
 -- ---- recorded entries
 
 module _ (n : Machine) (m : Place → ℕ) (h : ℕ → Holdings) (sound : Sound n m h) where
-
   asks_by : (f i : ℕ) (q : Demand) → i < held (sizes_of n) m h f → (kind_at m f).validated ≡ true → 0 < (kind_at m f).number → entry_demand m f i ≡ q → AsksLive m q
   asks_by f i Nothing recorded live some asks = tt
   asks_by f i Bad recorded live some asks = absurd (sound.valid.allowed f i recorded asks)

@@ -6,14 +6,13 @@ use Rattle.xp_words.specs.Machine.{Machine}
 use Rattle.xp_words.specs.Places.{sizes_of, Place, Clock, Pages, Life, Vcpu, Refs, Kind, M2p, Cell, Map, Priv, flushed_of, is_place}
 use Rattle.xp_board.specs.declared.holdings.Work.{Work}
 use Rattle.xp_board.specs.declared.holdings.Holdings.{Holdings}
-use Rattle.xp_board.specs.Readings.{kind_at, ref_count, told_value, has_now, has_ever, is_closing}
-use Rattle.xp_board.specs.Hands.{works_on}
+use Rattle.xp_board.specs.Readings.{kind_at, ref_count, told_value, has_now, has_ever, is_closing, type_count}
+use Rattle.xp_board.specs.Hands.{works_on, refs_to, typed_to, locks_on}
 use Rattle.xp_board.specs.Spelling.{IsSpelling}
 use Rattle.xp_board.specs.Found.{WorkFound}
 use Rattle.xp_board.specs.Sound.{Stamped, Sound, WorkAgrees}
-use Rattle.found_rule.proofs.Counted.{ref_counted}
 use Rattle.board_lemmas.proofs.KindReadings.{busy_cases}
-use Rattle.board_lemmas.proofs.Counted.{type_below}
+use Rattle.board_lemmas.proofs.Counted.{type_below, in_hand_counted, typed_counted}
 use Rattle.board_lemmas.proofs.Works.{is_busy-mine}
 
 told_if : (m : Place → ℕ) (v k : ℕ) (t : Bool) → (k == 5) ≡ t → m (flushed_of v) ≤ m Clock → (if t then m (Vcpu v k) else 0) ≤ m Clock
@@ -39,6 +38,18 @@ pub had : (n : Machine) (m : Place → ℕ) (h : ℕ → Holdings) → Sound n m
 unfolding IsSpelling
 had n m h sound d there o l t = (sound.spelled.spelled (Priv d) there).1 o l t
 
+-- ---- what is in a hand is counted
+module _ (n : Machine) (m : Place → ℕ) (h : ℕ → Holdings) (sound : Sound n m h) (s f : ℕ) (l : s < (sizes_of n).vcpus) where
+  pub ref_counted : 0 < refs_to f (h s).refs → 0 < ref_count (m (Refs f))
+  ref_counted some = let k = in_hand_counted (sizes_of n) m h s f l sound.counts some in omega arith
+
+  pub typed_ref_counted : 0 < typed_to f (h s).typed → 0 < type_count (kind_at m f)
+  typed_ref_counted some = let k = typed_counted (sizes_of n) m h s f l sound.counts in omega arith
+
+  pub lock_counted : 0 < locks_on f (h s).locks → 0 < type_count (kind_at m f)
+  lock_counted some = let k = typed_counted (sizes_of n) m h s f l sound.counts in omega arith
+
+-- ---- frames in work
 pub work_counted : (n : Machine) (m : Place → ℕ) (h : ℕ → Holdings) → Sound n m h → (t : ℕ) → t < (sizes_of n).vcpus → (e : Work) → 0 < works_on e.frame (h t).works →
     WorkFound n m h (h t) e → WorkAgrees (h t) e → 0 < ref_count (m (Refs e.frame))
 work_counted n m h sound t l e there found agrees =

@@ -33,7 +33,6 @@ module _ (n : Machine) (s : ℕ) (x : Step) (m m2 : Place → ℕ) (b c : ℕ �
   ever_kept : (p : Place) → ((d : ℕ) → p ≢ Priv d) → ((q : Place) → q ≢ p → m2 q ≡ m q) → (d i : ℕ) → IsTrue (has_ever i (m (Priv d))) → IsTrue (has_ever i (m2 (Priv d)))
   ever_kept p off o d i h = rw (o (Priv d) (λ e. off d (sym e))) h
 
-
   now_kept : (p : Place) → ((d : ℕ) → p ≢ Priv d) → ((q : Place) → q ≢ p → m2 q ≡ m q) → (d i : ℕ) → i < 16 → IsTrue (is_place (sizes_of n) (Priv d)) → IsTrue (has_now i (m2 (Priv d))) →
       IsTrue (has_ever i (m2 (Priv d)))
   now_kept p off o d i few r h = let e = o (Priv d) (λ k. off d (sym k)) in rw e (had n m b sound d r i few (rw e at h))

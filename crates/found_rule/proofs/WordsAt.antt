@@ -33,7 +33,6 @@ read_own : (t k : ℕ) → k ≢ 4 → IsTrue (is_read (Vcpu t k))
 read_own t k off = grind (arith, nat_tests)
 
 module _ (n : Machine) (s : ℕ) (m m2 : Place → ℕ) (b : ℕ → Holdings) (sound : Sound n m b) where
-
   -- ---- no word of which facts speak
   module _ (same : (q : Place) → IsTrue (is_read q) → m2 q ≡ m q) where
     told_same : (q : Place) → told_value q (m2 q) ≤ m2 Clock

@@ -30,7 +30,6 @@ pub record Lone (n : Machine) (s : ℕ) (m m2 : Place → ℕ) : Type 0 where
   pub own : (t : ℕ) → t ≢ s → (k : ℕ) → k ≢ 4 → k ≢ 5 → m2 (run_of t) ≢ 1 → m2 (Vcpu t k) ≡ m (Vcpu t k)
 
 module _ (n : Machine) (s : ℕ) (m m2 : Place → ℕ) (b : ℕ → Holdings) (sound : Sound n m b) (p : Place) (others : (q : Place) → q ≢ p → m2 q ≡ m q) where
-
   pub words_lone : ((f : ℕ) → p ≢ Refs f) → ((f : ℕ) → p ≢ Kind f) → ((f i : ℕ) → p ≢ Cell f i) → Lone n s m m2 → told_value p (m2 p) ≤ m2 Clock → Words n s m m2 b
   words_lone refs kind cell lone told =
       let r : (f : ℕ) → m2 (Refs f) ≡ m (Refs f) = (λ f. others (Refs f) (λ e. refs f (sym e))) in

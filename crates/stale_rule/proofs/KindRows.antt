@@ -94,7 +94,6 @@ module _ (n : Machine) (s : ℕ) (m : Place → ℕ) (b : ℕ → Holdings) (rea
       omega arith
 
 module _ (n : Machine) (s : ℕ) (x : Step) (m m2 : Place → ℕ) (b c : ℕ → Holdings) (real : s < (sizes_of n).vcpus) (acted : Acted n s x m m2 b c) (sound : Sound n m b) where
-
   pub drop_row : (f : ℕ) → Dropped n x f m m2 (b s) (c s) → Fresh n m2 c
   drop_row f d =
       kind_law n s x m m2 b c acted sound f _ d.wrote d.hand (dropped_stays f (m (Kind f)) (m2 (Kind f)) (b s))

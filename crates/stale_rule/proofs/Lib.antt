@@ -5,7 +5,6 @@ pub mod CellLaw
 pub mod CellRows
 pub mod FlushRow
 pub mod FreeRows
-pub mod Items
 pub mod KindHands
 pub mod KindRows
 pub mod Like

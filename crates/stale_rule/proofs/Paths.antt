@@ -15,11 +15,12 @@ use Rattle.xp_board.specs.Readings.{kind_at, owner_of, domain_of}
 use Rattle.xp_board.specs.Recorded.{held, entry_demand}
 use Rattle.xp_board.specs.Valid.{Permits, PermitsOwner, EntryPermitted}
 use Rattle.xp_board.specs.Reach.{LeadsTo, Path, is_in_use, is_writable_entry}
-use Rattle.xp_board.specs.Safe.{SafeAt}
+use Rattle.xp_board.specs.Safe.{SafeAt, Safe}
 use Rattle.xp_board.specs.Spelling.{IsSpelling}
 use Rattle.xp_board.specs.Sound.{Sound}
 use Rattle.board_lemmas.proofs.EntryAsks.{asks_table, asks_leaf, LeafAsks, walked_inside}
 use Rattle.board_lemmas.proofs.LiveTables.{table_held, leads_live, named_counted, base_context, base_table}
+use Rattle.board_lemmas.proofs.SafeItems.{items_safe}
 
 -- a live and counted table of that level, of that domain
 pub record Serves (m : Place → ℕ) (d level f : ℕ) : Type 0 where
@@ -128,3 +129,7 @@ module _ (n : Machine) (m : Place → ℕ) (h : ℕ → Holdings) (sound : Sound
         unused = λ e. leaf.0 (last_writable (is_writable_entry m path.top path.index4) (is_writable_entry m path.table3 path.index3) (is_writable_entry m path.table2 path.index2) (is_writable_entry m path.table1 path.index1) writable path.all_writable e);
         permitted = leaf.1;
       }
+
+-- ---- a sound machine is safe
+pub sound_safe : (n : Machine) (m : Place → ℕ) (h : ℕ → Holdings) → Sound n m h → Safe n m h
+sound_safe n m h sound = record { paths = path_safe n m h sound; items = λ v x real there. items_safe n m h v x sound real there; counts = sound.counts }

@@ -137,7 +137,6 @@ module _ (m : Place → ℕ) (d f : ℕ) where
 
 -- ---- entries of a table that serves ask what is there
 module _ (n : Machine) (m : Place → ℕ) (h : ℕ → Holdings) (sound : Sound n m h) where
-
   typed_well : (d f i g : ℕ) (t : PageType) → f < (sizes_of n).frames → i < held (sizes_of n) m h f → (kind_at m f).validated ≡ true → 0 < (kind_at m f).number → owner_of (m (Refs f)) ≡ Some d →
       entry_demand m f i ≡ Typed g t → AsksWell m (kind_at m f).kind d (Typed g t)
   typed_well d f i g t inside recorded live some owner asks =
