@@ -29,3 +29,4 @@ pub mod RefForms
 pub mod HandTypes
 pub mod WalkDown
 pub mod CountsDown
+pub mod Serving

@@ -1,10 +1,7 @@
 -- Who may have the frame of a cell that is written.
 use Rattle.std.proofs.Common.{◌≡◌, ℕ, ◌<◌, true, false, Some, IsTrue, sym, subst, inl, inr, arith}
 use Rattle.std.proofs.lemmas.Bool.{cases_eq}
-use Rattle.xp_words.specs.declared.kind.PageType.{PageType}
 use Rattle.xp_words.specs.declared.kind.PageType.TheVariants as kinds
-use Rattle.xp_words.specs.declared.entry.Demand.{Demand}
-use Rattle.xp_words.specs.declared.entry.Demand.TheVariants.{Nothing, Bad, Read, Typed}
 use Rattle.xp_words.specs.PageTypes.{is_table}
 use Rattle.xp_words.specs.KindWords.{kind_fields}
 use Rattle.xp_words.specs.Machine.{Machine}
@@ -15,12 +12,10 @@ use Rattle.xp_board.specs.Lists.{EachOf}
 use Rattle.xp_board.specs.Readings.{kind_at, ref_count}
 use Rattle.xp_board.specs.Hands.{works_on, locks_on, lock_on, claims_of}
 use Rattle.xp_board.specs.After.{is_fixed}
-use Rattle.xp_board.specs.Settling.{HasDemand}
 use Rattle.xp_board.specs.Found.{WorkFound, is_same_entry}
 use Rattle.xp_board.specs.Sound.{Sound, WorkAgrees}
 use Rattle.found_rule.proofs.WordsOf.{CellSpared}
-use Rattle.found_rule.proofs.SoundWords.{work_counted, typed_ref_counted, lock_counted}
-use Rattle.found_rule.proofs.Serving.{AsksLive}
+use Rattle.found_rule.proofs.SoundWords.{work_counted, lock_counted}
 use Rattle.board_lemmas.proofs.HeldByForm.{live_idle}
 use Rattle.board_lemmas.proofs.KindReadings.{live_count}
 use Rattle.board_lemmas.proofs.HandLists.{EachOf-all, EachOf-first, first-key}
@@ -95,12 +90,3 @@ module _ (n : Machine) (m : Place → ℕ) (b : ℕ → Holdings) (sound : Sound
   zero_none m2 i s none =
       EachOf-there (λ e. Unit {0}) (λ e. (j : ℕ) → Cell f i ≡ Cell e.frame j → j < e.scrubbed → m2 (Cell f i) ≡ 0) (λ e. e.frame) (b s).claimed
       (λ e there h j at below. absurd (let q : e.frame ≡ f = cc in let k = subst (λ g. 0 < claims_of g (b s).claimed) q there in omega arith)) (EachOf-all (λ e. Unit {0}) (b s).claimed (λ e. tt))
-
-  -- ---- what is in hand is there
-  pub asks_hand : (s : ℕ) → s < (sizes_of n).vcpus → (kind : PageType) (d : Demand) → HasDemand n f kind (b s) d → AsksLive m d
-  asks_hand s l kind Nothing h = tt
-  asks_hand s l kind Bad h = absurd h
-  asks_hand s l kind (Read g) h = tt
-  asks_hand s l kind (Typed g t) h =
-      let live = (sound.found s l).lives g t h.1 in
-      (live.0, (let a = typed_ref_counted n m b sound s g l h.0.in_hand in let e = live_count (kind_at m g) live.0 in omega arith), live.1)

@@ -27,9 +27,9 @@ use Rattle.found_rule.proofs.WordsOf.{CellSpared, words_cell}
 use Rattle.found_rule.proofs.KnownFacts.{RefRight, TypedRight, IsLiveAs}
 use Rattle.found_rule.proofs.KnownStays.{owner_new, live_found, partial_found}
 use Rattle.found_rule.proofs.Demands.{RefsMoved, same_rest, then_moved, moved_out, moved_in}
-use Rattle.found_rule.proofs.Serving.{AsksLive, PassesOn, target_serves, recorded_asks}
+use Rattle.found_rule.proofs.Serving.{PassesOn}
 use Rattle.found_rule.proofs.CellReach.{came_reach, cell_passes, came_table}
-use Rattle.found_rule.proofs.CellFacts.{lock_type, lock_table, live_alone, spared_alone, fix_none, zero_none, asks_hand}
+use Rattle.found_rule.proofs.CellFacts.{lock_type, lock_table, live_alone, spared_alone, fix_none, zero_none}
 use Rattle.found_rule.proofs.MyHand.{refs_old, typed_old}
 use Rattle.found_rule.proofs.RestLaw.{rest_done, rest_of}
 use Rattle.found_rule.proofs.Quiet.{Done}
@@ -40,6 +40,7 @@ use Rattle.board_lemmas.proofs.KindForms.{live_unmarked}
 use Rattle.board_lemmas.proofs.LockFacts.{lock_facts, rewritten_same}
 use Rattle.board_lemmas.proofs.HandTypes.{refs_out, typed_out, refs_in, typed_in}
 use Rattle.board_lemmas.proofs.CountsDown.{lock_live, lock_some}
+use Rattle.board_lemmas.proofs.Serving.{AsksLive, target_serves, recorded_asks, asks_hand}
 
 pub table_levels : (t : PageType) → is_table t ≡ true → (1 ≤ type_number t) × (type_number t ≤ 4)
 table_levels t e = (grind (arith, nat_tests), grind (arith, nat_tests))

@@ -48,15 +48,15 @@ module _ (n : Machine) (m : Place → ℕ) (h : ℕ → Holdings) (sound : Sound
         free = λ e. absurd (let k = word.0 in cc);
         unclaimed = λ s real. (let k = none s real in omega arith);
         bears = record {
-          typed = λ other. inl (live_unmarked n m g sound.spelled (served.live other), served.matches other);
-          dead = λ other d. absurd (let live = served.live other in cc);
+          typed = λ other. inl (live_unmarked n m g sound.spelled (served.serves.live other), served.serves.matches other);
+          dead = λ other d. absurd (let live = served.serves.live other in cc);
         };
         awaited = λ s real.
             record {
               ending = EachOf-none (λ e. e.frame) g _ (h s).ending (let k = none s real in omega arith);
               work = λ other.
                   EachOf-none (λ e. e.frame) g _ (h s).works
-                  (nobody_works n m h sound.alone g (live_idle (kind_at m g) (served.live other) (served.number other)) s real);
+                  (nobody_works n m h sound.alone g (live_idle (kind_at m g) (served.serves.live other) (served.serves.number other)) s real);
             };
       }
 
@@ -91,8 +91,8 @@ module _ (n : Machine) (m : Place → ℕ) (h : ℕ → Holdings) (sound : Sound
 
   served_one : (v w g : ℕ) (u k : Use) → w < (sizes_of n).vcpus → Served m (domain_of n v) g u → Came n m h w g k → u ≢ Reads → k ≢ Reads → u ≡ k
   served_one v w g u k real one (inl r) x y =
-      use_of_type (kind_at m g).kind u k one.level (reach_level n m h sound w g k real r) x y (one.matches x) (live_matches w g k real (one.live x) y r)
-  served_one v w g u k real one (inr (inl two)) x y = use_of_type (kind_at m g).kind u k one.level two.level x y (one.matches x) (two.matches y)
+      use_of_type (kind_at m g).kind u k one.serves.level (reach_level n m h sound w g k real r) x y (one.serves.matches x) (live_matches w g k real (one.serves.live x) y r)
+  served_one v w g u k real one (inr (inl two)) x y = use_of_type (kind_at m g).kind u k one.serves.level two.serves.level x y (one.serves.matches x) (two.serves.matches y)
   served_one v w g u k real one (inr (inr read)) x y = absurd (y read.0)
 
   pub came_one : (v w g : ℕ) (t u : Use) → v < (sizes_of n).vcpus → w < (sizes_of n).vcpus → Came n m h v g t → Came n m h w g u → t ≢ Reads → u ≢ Reads → t ≡ u

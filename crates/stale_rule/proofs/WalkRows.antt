@@ -67,10 +67,7 @@ module _ (n : Machine) (s : ℕ) (m : Place → ℕ) (b : ℕ → Holdings) (rea
   base_came k g few names =
       let serves = (base_serves n m b sound s k g real few names).0 in
       inr (inl (record {
-        level = (omega arith, omega arith);
-        live = λ other. serves.live;
-        number = λ other. serves.counted;
-        matches = λ other. serves.level_is;
+        serves = record { level = (omega arith, omega arith); live = λ other. serves.live; number = λ other. serves.counted; matches = λ other. serves.level_is };
         counted = typed_counted n m b g sound serves.live serves.counted;
         owner = inr serves.owner;
       }))
