@@ -8,7 +8,6 @@ use Rattle.xp_board.specs.declared.step.Step.{Step}
 use Rattle.xp_board.specs.declared.step.StepKind.TheVariants as steps
 use Rattle.xp_board.specs.declared.holdings.Holdings.{Holdings}
 use Rattle.xp_board.specs.Readings.{kind_at, is_dead}
-use Rattle.xp_board.specs.Hands.{typed_hand}
 use Rattle.xp_board.specs.KindSteps.{KindRow, Count, Locks, Pin, Unpin, Resume, TakeBack, Begin, AllowsKindRow}
 use Rattle.xp_board.specs.After.{noted}
 use Rattle.xp_board.specs.Reach.{Use, Reach}
@@ -22,9 +21,7 @@ use Rattle.stale_rule.proofs.KindHands.{row_stays, dropped_stays, unlocked_stays
 use Rattle.stale_rule.proofs.Like.{HandStays, parts_stay, then_stays}
 use Rattle.stale_rule.proofs.Moves.{act_law, not_clock}
 use Rattle.stale_rule.proofs.Stays.{ref_same, ever_same}
-use Rattle.board_lemmas.proofs.Sums.{hands-part}
 use Rattle.board_lemmas.proofs.ReachAll.{IsLevel, Reach-level}
-use Rattle.board_lemmas.proofs.KindReadings.{live_count}
 use Rattle.board_lemmas.proofs.CountsDown.{drop_live, drop_word, lock_live, unlock_word}
 
 -- the marks of an exchange that leaves type, mark and stamp
@@ -84,14 +81,6 @@ module _ (n : Machine) (s : ℕ) (x : Step) (m m2 : Place → ℕ) (b c : ℕ �
       bears_same flushed (kind_at m f) l u less.kind less.unflushed
       (λ e. absurd (let d = marked_unlive n m f sound.spelled e in cc))
       (let v = less.validated in rw (v, live) refl) old
-
-module _ (n : Machine) (s : ℕ) (m : Place → ℕ) (b : ℕ → Holdings) (real : s < (sizes_of n).vcpus) (sound : Sound n m b) where
-  pub counted_here : (f : ℕ) → (kind_at m f).validated ≡ true → 0 < typed_hand f (b s) → 0 < (kind_at m f).number
-  counted_here f live held =
-      let count = sound.counts.types f in
-      let number = live_count (kind_at m f) live in
-      let part = hands-part (typed_hand f) (sizes_of n) b s real in
-      omega arith
 
 module _ (n : Machine) (s : ℕ) (x : Step) (m m2 : Place → ℕ) (b c : ℕ → Holdings) (real : s < (sizes_of n).vcpus) (acted : Acted n s x m m2 b c) (sound : Sound n m b) where
   pub drop_row : (f : ℕ) → Dropped n x f m m2 (b s) (c s) → Fresh n m2 c

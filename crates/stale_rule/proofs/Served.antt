@@ -1,5 +1,5 @@
 -- Frames that serve a use: live with its type where it has one, and counted.
-use Rattle.std.proofs.Common.{◌≡◌, ◌≢◌, ℕ, ◌-◌, ◌<◌, ◌≤◌, ◌==◌, inl, inr, Bool, true, false, refl, sym, ◌∙◌, subst, arith, IsTrue, if◌then◌else◌, Some}
+use Rattle.std.proofs.Common.{◌≡◌, ◌≢◌, ℕ, ◌-◌, ◌<◌, ◌≤◌, ◌==◌, inl, inr, Bool, true, false, refl, sym, ◌∙◌, subst, arith, IsTrue, if◌then◌else◌, Some, ◌+◌, ap}
 use Rattle.std.proofs.lemmas.Bool.Decides.{nat_tests}
 use Rattle.xp_words.specs.declared.kind.PageType.{PageType}
 use Rattle.xp_words.specs.declared.entry.Demand.{Demand}
@@ -7,21 +7,20 @@ use Rattle.xp_words.specs.declared.entry.Demand.TheVariants.{Nothing, Bad, Read,
 use Rattle.xp_words.specs.PageTypes.{type_number}
 use Rattle.xp_words.specs.Entries.{is_bit, frame_of, is_lowest, demand_at}
 use Rattle.xp_words.specs.Machine.{Machine}
-use Rattle.xp_words.specs.Places.{sizes_of, Place, Refs, Cell}
+use Rattle.xp_words.specs.Places.{sizes_of, Place, Refs, Cell, Vcpu}
 use Rattle.xp_board.specs.declared.holdings.Holdings.{Holdings}
 use Rattle.xp_board.specs.FillSteps.{is_walked}
-use Rattle.xp_board.specs.Readings.{kind_at, ref_count, owner_of}
+use Rattle.xp_board.specs.Readings.{kind_at, ref_count, owner_of, domain_of}
 use Rattle.xp_board.specs.Recorded.{held, entry_demand}
-use Rattle.xp_board.specs.Valid.{Permits, EntryPermitted}
+use Rattle.xp_board.specs.Valid.{Permits, EntryPermitted, PermitsOwner}
 use Rattle.xp_board.specs.Reach.{Use, Table, Writes, Reads, use_below}
 use Rattle.xp_board.specs.Fresh.{Belongs}
 use Rattle.xp_board.specs.Sound.{Sound}
 use Rattle.board_lemmas.proofs.Counted.{type_below, plain_counted}
-use Rattle.stale_rule.proofs.Paths.{permits_own}
 use Rattle.board_lemmas.proofs.EntryAsks.{asks_table, asks_leaf, LeafAsks, walked_inside}
 use Rattle.board_lemmas.proofs.CellAlike.{not_reads}
 use Rattle.board_lemmas.proofs.KindReadings.{live_count}
-use Rattle.board_lemmas.proofs.LiveTables.{table_held}
+use Rattle.board_lemmas.proofs.LiveTables.{table_held, base_table}
 use Rattle.board_lemmas.proofs.RefForms.{counted_word}
 use Rattle.board_lemmas.proofs.Serving.{Serves, AsksLive, target_serves, recorded_asks}
 
@@ -54,6 +53,9 @@ Granted m kind d (Typed g t) = (0 < ref_count (m (Refs g))) × EntryPermitted m 
 
 abbrev pub AsksWell : (Place → ℕ) → PageType → ℕ → Demand → Type 0
 AsksWell m kind d q = AsksLive m q × Granted m kind d q
+
+permits_own : (m : Place → ℕ) (d g : ℕ) → owner_of (m (Refs g)) ≡ Some d → Permits m d g
+permits_own m d g e = subst (λ o. PermitsOwner m d o) (sym e) (inl refl)
 
 permitted_leaf : (m : Place → ℕ) (kind : PageType) (d g : ℕ) → EntryPermitted m kind (Some d) g → Permits m d g
 permitted_leaf m kind d g (inl own) = permits_own m d g own
@@ -121,3 +123,13 @@ module _ (n : Machine) (m : Place → ℕ) (h : ℕ → Holdings) (sound : Sound
   pub entry_served : (d level f i : ℕ) → Served m d f (Table level) → IsTrue (is_walked level i) → is_bit 0 (m (Cell f i)) ≡ true →
       Served m d (frame_of (m (Cell f i))) (use_below level (m (Cell f i)))
   entry_served d level f i served walked present = target_served m d f level i (m (Cell f i)) served walked present (recorded_well d level f i served walked)
+
+  -- ---- a base serves as a table of level 4
+  pub base_served : (v k g : ℕ) → v < (sizes_of n).vcpus → k < 2 → m (Vcpu v k) ≡ g + 1 → Served m (domain_of n v) g (Table 4)
+  base_served v k g real few names =
+      let base = base_table n m h sound v k g real few names in
+      record {
+        serves = record { level = (omega arith, omega arith); live = λ other. base.live; number = λ other. base.counted; matches = λ other. ap type_number base.kind };
+        counted = typed_counted n m h g sound base.live base.counted;
+        owner = inr base.owner;
+      }

@@ -27,8 +27,7 @@ use Rattle.step_effects.proofs.ActEffects.{Started, WentOn, Touched}
 use Rattle.stale_rule.proofs.CameFresh.{Came, alike_passes}
 use Rattle.stale_rule.proofs.CellLaw.{cells_law, written_law}
 use Rattle.stale_rule.proofs.Like.{HandLike, HandStays, same_stays, parts_like, then_like, cell_stays, own_stays}
-use Rattle.stale_rule.proofs.Paths.{base_serves}
-use Rattle.stale_rule.proofs.Served.{typed_counted}
+use Rattle.stale_rule.proofs.Served.{base_served}
 use Rattle.board_lemmas.proofs.CellAlike.{CellAlike, alike_same, touched_alike}
 use Rattle.board_lemmas.proofs.WalkDown.{cached_comes, deeper_comes}
 
@@ -64,13 +63,7 @@ module _ (n : Machine) (s : ℕ) (m : Place → ℕ) (b : ℕ → Holdings) (rea
 
   -- ---- a walk begins at the base
   base_came : (k g : ℕ) → k < 2 → m (Vcpu s k) ≡ g + 1 → Came n m b s g (Table 4)
-  base_came k g few names =
-      let serves = (base_serves n m b sound s k g real few names).0 in
-      inr (inl (record {
-        serves = record { level = (omega arith, omega arith); live = λ other. serves.live; number = λ other. serves.counted; matches = λ other. serves.level_is };
-        counted = typed_counted n m b g sound serves.live serves.counted;
-        owner = inr serves.owner;
-      }))
+  base_came k g few names = inr (inl (base_served n m b sound s k g real few names))
 
   start_by : (k w : ℕ) (write t : Bool) → k < 2 → m (Vcpu s k) ≡ w → (w == 0) ≡ t → HandComes n m b s (if t then b s else record (b s) { walk = Some (record { user = k == 1; write = write; writable = true; page = 0; reached = record { table = w - 1; level = 4 } ∷ []; touching = None }) })
   unfolding Member
