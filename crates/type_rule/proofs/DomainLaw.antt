@@ -1,5 +1,5 @@
 -- Dying and dead domains after a step.
-use Rattle.std.proofs.Common.{◌≡◌, ◌≢◌, ℕ, ◌+◌, ◌<◌, ◌≤◌, ◌==◌, not, Bool, true, false, ◌∷◌, length, Some, IsTrue, sym, ◌∙◌, ap, subst, inl, inr, arith}
+use Rattle.std.proofs.Common.{◌≡◌, ◌≢◌, ℕ, ◌+◌, ◌<◌, ◌≤◌, ◌==◌, not, Bool, true, false, ◌∷◌, length, Some, IsTrue, sym, ◌∙◌, inl, inr, arith}
 use Rattle.std.proofs.lemmas.Bool.{cases_eq, cases_Bool, not-true}
 use Rattle.std.proofs.lemmas.Bool.Decides.{nat_tests}
 use Rattle.xp_words.specs.Machine.{Machine}
@@ -14,7 +14,7 @@ use Rattle.xp_board.specs.LifeSteps.{HasStopped, is_unallocated, is_unpinned, is
 use Rattle.xp_board.specs.Found.{StoppedFound}
 use Rattle.xp_board.specs.Runs.{place_of}
 use Rattle.xp_board.specs.Sound.{Sound, KeptForNobody, DeadDomain, DyingDomain, Domains}
-use Rattle.board_lemmas.proofs.StepLists.{Hit, since_more, before_more, between_more, since_within, found_between}
+use Rattle.board_lemmas.proofs.StepLists.{Hit, since_more, before_more, between_more, since_within, found_between, hit_left}
 
 -- all vCPUs of the domain are stopped
 abbrev pub AllStopped : Machine → (Place → ℕ) → ℕ → Type 0
@@ -56,7 +56,7 @@ module _ (n : Machine) (s : ℕ) (x : Step) (m m2 : Place → ℕ) (b c : ℕ �
 
   -- what this step left at p stands there
   left_there : (p : Place) (test : ℕ → Bool) → Hit (sizes_of n) p test made → test (m2 p) ≡ true
-  left_there p test a = subst (λ q. test (m2 q) ≡ true) a.place (ap test (sym k.left) ∙ a.passes)
+  left_there p test a = hit_left (sizes_of n) m2 p test made k.left a
 
   pub dead_law : (d : ℕ) → m (Life d) ≢ 0 → DeadDomain n m b d → DeadDomain n m2 c d
   dead_law d gone y =
