@@ -137,6 +137,10 @@ learned_by R s (Cell f i) found left u same life own cell = cell f i
 learned_by R s (Map k) found left u same life own cell = same
 learned_by R s (Priv d) found left u same life own cell = same
 
+pub learned_steps : (s : ℕ) (p : Place) (found left : ℕ) (u : Holdings) → (learned s p found left u).steps ≡ u.steps
+learned_steps s p found left u =
+    learned_by (λ (v : Holdings). v.steps ≡ u.steps) s p found left u refl (λ d. either (λ (v : Holdings). v.steps ≡ u.steps) (found == 0) _ u refl refl) (λ k. (beside_own k left u).steps) (λ f i. refl)
+
 -- ---- walks and Run steps
 pub beside_ran : (w : ℕ) (u : Holdings) → Beside u (ran_now w u)
 beside_ran w u = either (Beside u) (w == 0) _ _ (beside u _ refl refl refl refl refl refl refl refl) (beside u _ refl refl refl refl refl refl refl refl)

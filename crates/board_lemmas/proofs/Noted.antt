@@ -6,7 +6,7 @@ use Rattle.xp_words.specs.declared.refs.RefWord.TheVariants.{Free}
 use Rattle.xp_words.specs.KindWords.{kind_fields}
 use Rattle.xp_words.specs.RefWords.{ref_read}
 use Rattle.xp_words.specs.Machine.{Machine}
-use Rattle.xp_words.specs.Places.{Place, Pages, Vcpu, Refs, Kind, Cell, Map}
+use Rattle.xp_words.specs.Places.{Place, Clock, Pages, Life, Vcpu, Refs, Kind, M2p, Cell, Map, Priv}
 use Rattle.xp_board.specs.declared.step.Act.{Act}
 use Rattle.xp_board.specs.declared.step.Act.TheVariants.{Cas, Store, Add}
 use Rattle.xp_board.specs.declared.step.Mark.{Mark}
@@ -32,16 +32,24 @@ use Rattle.xp_board.specs.PagesSteps.{after_pages}
 use Rattle.xp_board.specs.Readings.{is_context}
 use Rattle.xp_board.specs.RefSteps.{RefRow, Raise, Clear, Claim, NoRefRow, ref_row, after_ref_row, after_ref_store, after_ref}
 use Rattle.xp_board.specs.RunSteps.{after_run}
-use Rattle.board_lemmas.proofs.HandParts.{beside_out, beside_in, beside_named_in, beside_named_out, beside_ran, learned_by, beside_own}
-use Rattle.board_lemmas.proofs.Sums.{either}
+use Rattle.board_lemmas.proofs.HandParts.{beside_out, beside_in, beside_named_in, beside_named_out, beside_learned, beside_ran}
 
 either_steps : (t : Bool) (a b h : Holdings) → a.steps ≡ h.steps → b.steps ≡ h.steps → (if t then a else b).steps ≡ h.steps
-either_steps t a b h x y = either (λ (u : Holdings). u.steps ≡ h.steps) t a b x y
+either_steps true a b h x y = x
+either_steps false a b h x y = y
 
 -- ---- what the word tells, and the mark
-pub learned_steps : (s : ℕ) (p : Place) (found left : ℕ) (h : Holdings) → (learned s p found left h).steps ≡ h.steps
-learned_steps s p found left h =
-    learned_by (λ (u : Holdings). u.steps ≡ h.steps) s p found left h refl (λ d. either_steps (found == 0) _ _ h refl refl) (λ k. (beside_own k left h).steps) (λ f i. refl)
+learned_steps : (s : ℕ) (p : Place) (found left : ℕ) (h : Holdings) → (learned s p found left h).steps ≡ h.steps
+learned_steps s Clock found left h = refl
+learned_steps s (Pages d) found left h = refl
+learned_steps s (Life d) found left h = either_steps (found == 0) _ _ h refl refl
+learned_steps s (Vcpu v k) found left h = (beside_learned s v k found left h).steps
+learned_steps s (Refs f) found left h = refl
+learned_steps s (Kind f) found left h = refl
+learned_steps s (M2p f) found left h = refl
+learned_steps s (Cell f i) found left h = refl
+learned_steps s (Map k) found left h = refl
+learned_steps s (Priv d) found left h = refl
 
 recorded_steps : (n : Machine) (f : ℕ) (o : Option Work) (h : Holdings) → (recorded n f o h).steps ≡ h.steps
 recorded_steps n f (Some e) h = (beside_out _ _).steps
