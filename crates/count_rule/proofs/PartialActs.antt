@@ -15,7 +15,7 @@ use Rattle.xp_board.specs.declared.step.StepKind.TheVariants as steps
 use Rattle.xp_board.specs.Lists.{EachOf}
 use Rattle.xp_board.specs.Readings.{kind_at, kind_stamp, is_partial, is_closing}
 use Rattle.xp_board.specs.Hands.{work_on, without_ref, ref_owner}
-use Rattle.xp_board.specs.Recorded.{held_of, HasType}
+use Rattle.xp_board.specs.Recorded.{held_of}
 use Rattle.xp_board.specs.KindSteps.{put_partial, Partial, kept_owner, as_typed, KeepsMark}
 use Rattle.xp_board.specs.After.{noted}
 use Rattle.xp_board.specs.Keeping.{MayAct}
@@ -31,6 +31,7 @@ use Rattle.count_rule.proofs.StoreActs.{form_before, forms, stamp_was, out_outco
 use Rattle.board_lemmas.proofs.KindForms.{form_read}
 use Rattle.board_lemmas.proofs.KindReadings.{work_alone, partial_unlive, stamp_of}
 use Rattle.board_lemmas.proofs.HandLists.{EachOf-maybe_without}
+use Rattle.xp_board.specs.Recorded.{HasType}
 
 module _ (n : Machine) (s : ℕ) (x : Step) (m m2 : Place → ℕ) (b c : ℕ → Holdings) (seat : s < (sizes_of n).vcpus) (others : (t : ℕ) → t ≢ s → c t ≡ b t) (may : MayAct n s x (b s)) (sound : Sound n m b) (f : ℕ) where
   -- ---- partial

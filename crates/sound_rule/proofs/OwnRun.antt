@@ -1,5 +1,5 @@
 -- A run word that its own seat has not looked at is as it opened.
-use Rattle.std.proofs.Common.{◌≡◌, ◌≢◌, ℕ, ◌<◌, List, [], ◌∷◌, length, Some, None, Bool, true, false, if◌then◌else◌, arith, refl, sym, ap, ◌∙◌, subst, inl, inr, slice_set, get_or-set_same}
+use Rattle.std.proofs.Common.{◌≡◌, ◌≢◌, ℕ, ◌<◌, List, [], ◌∷◌, ◌++◌, length, Option, Some, None, Bool, true, false, replicate, if◌then◌else◌, arith, refl, sym, ap, ◌∙◌, subst, inl, inr, slice_set, length-set, get_or-set_same}
 use Rattle.std.proofs.Math.ListN.{set}
 use Rattle.std.proofs.lemmas.List.{get_or-set_other}
 use Rattle.std.proofs.lemmas.Bool.{cases_eq}
@@ -7,7 +7,12 @@ use Rattle.std.proofs.lemmas.Bool.Decides.{nat_tests}
 use Rattle.xp_words.specs.Machine.{Machine}
 use Rattle.xp_words.specs.Places.{Sizes, Place, run_of, place_at, sizes_of, size, number, memory}
 use Rattle.xp_words.proofs.PlaceLaws.{memory_same, memory_other}
+use Rattle.xp_board.specs.declared.step.Act.{Act}
+use Rattle.xp_board.specs.declared.step.Act.TheVariants.{Load, Cas, Store, Add, Max}
+use Rattle.xp_board.specs.declared.step.Mark.{Mark}
 use Rattle.xp_board.specs.declared.step.Step.{Step}
+use Rattle.xp_board.specs.declared.step.StepKind.{StepKind}
+use Rattle.xp_board.specs.declared.step.StepKind.TheVariants as steps
 use Rattle.xp_board.specs.declared.holdings.Made.{Made}
 use Rattle.xp_board.specs.declared.holdings.Holdings.{Holdings}
 use Rattle.xp_board.specs.Acts.{left_by}
@@ -17,7 +22,7 @@ use Rattle.xp_board.specs.Legal.{Legal, LegalAs}
 use Rattle.xp_board.specs.Marks.{after_mark}
 use Rattle.xp_board.specs.Runs as runs
 use Rattle.xp_board.specs.Runs.{place_of, word_at}
-use Rattle.xp_board.specs.Sound.{SoundState, seat_of}
+use Rattle.xp_board.specs.Sound.{SoundState, SoundWords, seat_of}
 use Rattle.board_lemmas.proofs.PlaceTests.{same_or_other}
 use Rattle.board_lemmas.proofs.Numbers.{place_number}
 use Rattle.std.specs.Prelude.{nat_le}

@@ -1,10 +1,11 @@
 -- A step over lists of words and of seats, and runs of such steps.
-use Rattle.std.proofs.Common.{◌≡◌, ◌≢◌, ℕ, ◌<◌, List, [], ◌∷◌, length, IsTrue, sym, ap, subst, ◌∙◌, get_or-set_same, get_or-set_other, length-set}
+use Rattle.std.proofs.Common.{◌≡◌, ◌≢◌, ℕ, ◌<◌, ◌-◌, Bool, true, false, nat_lt, List, [], ◌∷◌, length, IsTrue, refl, sym, ap, subst, ◌∙◌, arith, get_or-set_same, get_or-set_other, length-set}
 use Rattle.std.proofs.Math.ListN.{set}
+use Rattle.std.proofs.lemmas.Bool.Decides.{nat_tests}
 use Rattle.xp_words.specs.Machine.{Machine}
-use Rattle.xp_words.specs.Places.{Sizes, Place, sizes_of, place_at, is_place, memory, size}
-use Rattle.xp_words.proofs.PlaceLaws.{memory_same, memory_other}
-use Rattle.board_lemmas.proofs.Numbers.{place_number}
+use Rattle.xp_words.specs.Places.{Sizes, Place, Priv, sizes_of, place_at, is_place, memory, number, size, first_priv}
+use Rattle.xp_words.proofs.PlaceLaws.{memory_same, memory_other, place_there}
+use Rattle.board_lemmas.proofs.Numbers.{place_number, place_inside}
 use Rattle.xp_board.specs.declared.step.Step.{Step}
 use Rattle.xp_board.specs.declared.holdings.Holdings.{Holdings}
 use Rattle.xp_board.specs.Legal.{Legal}
