@@ -1,54 +1,75 @@
--- One bit of a word set or cleared leaves the others.
-use Rattle.std.proofs.Common.{◌≡◌, ◌≢◌, ℕ, suc, ◌+◌, ◌-◌, ◌*◌, ◌/◌, ◌%◌, ◌^◌, ◌<◌, ◌==◌, inl, inr, Bool, true, false, refl, sym, ◌∙◌, ap, subst, arith, IsTrue, if◌then◌else◌}
+-- Bits of a word: one set or cleared leaves the others, and what it leaves of privileges.
+use Rattle.std.proofs.Common.{◌≡◌, ◌≢◌, ℕ, ◌+◌, ◌-◌, ◌*◌, ◌^◌, ◌/◌, ◌%◌, ◌<◌, ◌≤◌, ◌==◌, Bool, true, false, refl, sym, ◌∙◌, ap, subst, arith, inl, inr, bit_or, IsTrue, if◌then◌else◌}
+use Rattle.std.proofs.lemmas.Nat.{or_lt, or_disjoint, pow_below, pow_pos}
+use Rattle.std.proofs.lemmas.Nat.Bits.{bit_at_above, and_pow, bit_at_or, bit_at-pow_same, bit_at-pow_other}
+use Rattle.std.proofs.lemmas.Bool.{cases_eq, cases_lt}
 use Rattle.std.proofs.lemmas.Bool.Decides.{nat_tests}
-use Rattle.std.proofs.lemmas.Bool.{cases_order, cases_eq}
-use Rattle.std.proofs.lemmas.Nat.{pow_pos, shr_split}
-use Rattle.std.proofs.lemmas.Nat.Bits.{bit_at-suc, bit_at_cat_low, bit_at_cat_high}
+use Rattle.std.specs.Int.{bit_at}
+use Rattle.std.proofs.Math.Nat.{add-mul-div_right}
 use Rattle.xp_words.specs.Entries.{is_bit}
 use Rattle.xp_board.specs.FillSteps.{with_bit}
 use Rattle.xp_board.specs.PrivSteps.{granted, revoked}
 
--- two words that differ in bit i alone
-higher : (a b r i k : ℕ) → r < 2 ^ i → a / 2 ≡ b / 2 → (a * 2 ^ i + r) / 2 ^ (i + suc k) % 2 ≡ (b * 2 ^ i + r) / 2 ^ (i + suc k) % 2
-higher a b r i k small half =
-    let up : (c : ℕ) → (c * 2 ^ i + r) / 2 ^ (i + suc k) % 2 ≡ c / 2 / 2 ^ k % 2 =
-    λ c. bit_at_cat_high c i r (i + suc k) small (omega arith) ∙ (let e : i + suc k - i ≡ suc k = omega arith in rw e (bit_at-suc c k)) in
-    up a ∙ ap (λ c. c / 2 ^ k % 2) half ∙ sym (up b)
+-- a bit that is not set: the word with it
+module _ (w i room : ℕ) (off : bit_at w i ≡ 0) where
+  as_or : bit_or w (2 ^ i) ≡ w + 2 ^ i
+  as_or = or_disjoint w (2 ^ i) (and_pow w i ∙ ap (λ y. y * 2 ^ i) off ∙ omega arith)
 
-near : (a b r i j : ℕ) → r < 2 ^ i → a / 2 ≡ b / 2 → j ≢ i → (a * 2 ^ i + r) / 2 ^ j % 2 ≡ (b * 2 ^ i + r) / 2 ^ j % 2
-near a b r i j small half off =
-    elim (cases_order i j) [
-      | inl at ↦ absurd (off (sym at))
-      | inr (inl above) ↦
-          let e : j ≡ i + suc (j - i - 1) = omega arith in
-          subst (λ k. (a * 2 ^ i + r) / 2 ^ k % 2 ≡ (b * 2 ^ i + r) / 2 ^ k % 2) (sym e) (higher a b r i (j - i - 1) small half)
-      | inr (inr below) ↦ bit_at_cat_low a i r j below ∙ sym (bit_at_cat_low b i r j below)
+  pub added_small : w < 2 ^ room → i < room → w + 2 ^ i < 2 ^ room
+  added_small b l = subst (λ y. y < 2 ^ room) as_or (or_lt room w (2 ^ i) b (pow_below i room l))
+
+  pub added_here : bit_at (w + 2 ^ i) i ≡ 1
+  added_here = ap (λ y. bit_at y i) (sym as_or) ∙ let o = bit_at_or w (2 ^ i) i in let p = bit_at-pow_same i in omega arith
+
+  pub added_other : (j : ℕ) → j ≢ i → bit_at (w + 2 ^ i) j ≡ bit_at w j
+  added_other j n = ap (λ y. bit_at y j) (sym as_or) ∙ let o = bit_at_or w (2 ^ i) j in let p = bit_at-pow_other i j n in omega arith
+
+-- a bit that is set: the word has it
+pub has_bit : (w i : ℕ) → bit_at w i ≡ 1 → 2 ^ i ≤ w
+has_bit w i e =
+    elim (cases_lt w (2 ^ i)) [
+      | inl below ↦ let none = bit_at_above w i i below (omega arith) in absurd (omega arith)
+      | inr above ↦ omega arith
     ]
 
-split : (w i : ℕ) → (w / 2 ^ i * 2 ^ i + w % 2 ^ i ≡ w) × (w % 2 ^ i < 2 ^ i)
-split w i = let p = pow_pos i in (shr_split w i, omega arith)
+-- and the word without it has it no more
+pub cleared_bit : (w v i : ℕ) → bit_at w i ≡ 1 → v + 2 ^ i ≡ w → bit_at v i ≡ 0
+cleared_bit w v i e k =
+    let high : (v + 1 * 2 ^ i) / 2 ^ i ≡ v / 2 ^ i + 1 = add-mul-div_right v 1 (pow_pos i) in
+    let whole : v + 1 * 2 ^ i ≡ w = omega arith in
+    let same = ap (λ y. y / 2 ^ i) whole in
+    omega arith
 
-pub set_other : (w i j : ℕ) → is_bit i w ≡ false → j ≢ i → is_bit j (w + 2 ^ i) ≡ is_bit j w
-set_other w i j clear off =
-    let parts = split w i in
-    let even : w / 2 ^ i % 2 ≡ 0 = grind (arith, nat_tests) in
-    let more : w + 2 ^ i ≡ (w / 2 ^ i + 1) * 2 ^ i + w % 2 ^ i = (let e = parts.0 in omega arith) in
-    ap (λ x. x == 1)
-    (ap (λ x. x / 2 ^ j % 2) more ∙ near (w / 2 ^ i + 1) (w / 2 ^ i) (w % 2 ^ i) i j parts.1 (omega arith) off ∙ ap (λ x. x / 2 ^ j % 2) parts.0)
+pub pow_same : (i j : ℕ) → 2 ^ i ≡ 2 ^ j → i ≡ j
+pow_same i j e =
+    elim (cases_eq i j) [
+      | inl at ↦ at
+      | inr off ↦
+          elim (cases_lt i j) [
+            | inl below ↦ let less = pow_below i j below in absurd (omega arith)
+            | inr above ↦ let n : i ≢ j = off in let less = pow_below j i (omega arith) in absurd (omega arith)
+          ]
+    ]
 
-one_fewer : (c a r p w : ℕ) → a ≡ c + 1 → a * p + r ≡ w → w - p ≡ (a - 1) * p + r
-one_fewer c a r p w e sum =
-    let k : (c + 1) * p + r ≡ w = subst (λ x. x * p + r ≡ w) e sum in
-    let l : a - 1 ≡ c = omega arith in
-    rw l (omega arith)
+-- ---- the same by the test of a bit
+bit_off : (w i : ℕ) → is_bit i w ≡ false → bit_at w i ≡ 0
+bit_off w i clear = let k : w / 2 ^ i % 2 ≡ 0 = grind (arith, nat_tests) in k
+
+bit_on : (w i : ℕ) → is_bit i w ≡ true → bit_at w i ≡ 1
+bit_on w i set = let k : w / 2 ^ i % 2 ≡ 1 = grind (arith, nat_tests) in k
+
+set_other : (w i j : ℕ) → is_bit i w ≡ false → j ≢ i → is_bit j (w + 2 ^ i) ≡ is_bit j w
+set_other w i j clear off = ap (λ x. x == 1) (added_other w i 0 (bit_off w i clear) j off)
+
+set_here : (w i : ℕ) → is_bit i w ≡ false → is_bit i (w + 2 ^ i) ≡ true
+set_here w i clear = ap (λ x. x == 1) (added_here w i 0 (bit_off w i clear))
 
 clear_other : (w i j : ℕ) → is_bit i w ≡ true → j ≢ i → is_bit j (w - 2 ^ i) ≡ is_bit j w
 clear_other w i j set off =
-    let parts = split w i in
-    let odd : w / 2 ^ i % 2 ≡ 1 = grind (arith, nat_tests) in
-    let less : w - 2 ^ i ≡ (w / 2 ^ i - 1) * 2 ^ i + w % 2 ^ i = one_fewer (w / 2 ^ i - 1) (w / 2 ^ i) (w % 2 ^ i) (2 ^ i) w (omega arith) parts.0 in
-    ap (λ x. x == 1)
-    (ap (λ x. x / 2 ^ j % 2) less ∙ near (w / 2 ^ i - 1) (w / 2 ^ i) (w % 2 ^ i) i j parts.1 (omega arith) off ∙ ap (λ x. x / 2 ^ j % 2) parts.0)
+    let on = bit_on w i set in
+    let less = has_bit w i on in
+    let whole : w - 2 ^ i + 2 ^ i ≡ w = omega arith in
+    sym (ap (λ x. x == 1) (added_other (w - 2 ^ i) i 0 (cleared_bit w (w - 2 ^ i) i on whole) j off)) ∙ ap (is_bit j) whole
 
 -- ---- set and cleared
 set_by : (w i j : ℕ) (b : Bool) → is_bit i w ≡ b → IsTrue (is_bit j w) → IsTrue (is_bit j (if b then w else w + 2 ^ i))
@@ -79,3 +100,29 @@ granted-ever w over o t = with_bit-keeps (with_bit over w) (16 + over) (16 + o) 
 
 pub revoked-ever : (w over o : ℕ) → over < 16 → IsTrue (is_bit (16 + o) w) → IsTrue (is_bit (16 + o) (revoked over w))
 revoked-ever w over o few t = cleared_by w over (16 + o) (is_bit over w) refl (λ e. omega arith) t
+
+revoked_by : (w over o : ℕ) (b : Bool) → is_bit over w ≡ b → (IsTrue (is_bit o w) → IsTrue (is_bit (16 + o) w)) →
+    IsTrue (is_bit o (if b then w - 2 ^ over else w)) → IsTrue (is_bit (16 + o) w)
+revoked_by w over o true e had t =
+    elim (cases_eq o over) [
+      | inl at ↦ had (ap (λ i. is_bit i w) at ∙ e)
+      | inr off ↦ had (sym (clear_other w over o e off) ∙ t)
+    ]
+revoked_by w over o false e had t = had t
+
+-- what is had now was had
+pub revoked-now : (w over o : ℕ) → over < 16 → (IsTrue (is_bit o w) → IsTrue (is_bit (16 + o) w)) → IsTrue (is_bit o (revoked over w)) → IsTrue (is_bit (16 + o) (revoked over w))
+revoked-now w over o few had t = revoked-ever w over o few (revoked_by w over o (is_bit over w) refl had t)
+
+set_here_by : (w i : ℕ) (b : Bool) → is_bit i w ≡ b → IsTrue (is_bit i (if b then w else w + 2 ^ i))
+set_here_by w i true e = e
+set_here_by w i false e = set_here w i e
+
+pub granted-now : (w over o : ℕ) → o < 16 → (IsTrue (is_bit o w) → IsTrue (is_bit (16 + o) w)) → IsTrue (is_bit o (granted over w)) → IsTrue (is_bit (16 + o) (granted over w))
+granted-now w over o few had t =
+    elim (cases_eq o over) [
+      | inl at ↦ rw at (set_here_by (with_bit over w) (16 + over) (is_bit (16 + over) (with_bit over w)) refl)
+      | inr off ↦
+          granted-ever w over o
+          (had (sym (with_bit-other w over o off) ∙ sym (with_bit-other (with_bit over w) (16 + over) o (λ e. omega arith)) ∙ t))
+    ]

@@ -1,5 +1,5 @@
 -- What is counted of each frame: the recorded entries and the words of vCPUs that name it.
-use Rattle.std.proofs.Common.{nat_lt, inl, inr, ◌≡◌, ◌≢◌, ℕ, ◌+◌, ◌<◌, ◌≤◌, Bool, true, false, Option, refl, ap, arith, IsTrue, if◌then◌else◌, add-one}
+use Rattle.std.proofs.Common.{nat_lt, inl, inr, ◌≡◌, ◌≢◌, ℕ, ◌+◌, ◌<◌, ◌≤◌, Bool, true, false, Option, refl, ap, arith, IsTrue, if◌then◌else◌, add-one, subst, Some, None}
 use Rattle.std.proofs.lemmas.Bool.{cases_Bool}
 use Rattle.std.proofs.lemmas.Bool.Decides.{nat_tests}
 use Rattle.xp_words.specs.declared.entry.Demand.TheVariants.{Nothing, Bad, Read, Typed}
@@ -9,8 +9,8 @@ use Rattle.xp_words.specs.Machine.{Machine}
 use Rattle.xp_words.specs.Places.{Sizes, sizes_of, is_place, Place, Vcpu, Refs, Kind}
 use Rattle.xp_board.specs.Readings.{kind_at, is_context, ref_count, type_count, allocated_mark}
 use Rattle.xp_board.specs.Hands.{hand, typed_hand, refs_to, typed_to, locks_on}
-use Rattle.xp_board.specs.Recorded.{names, CountsAgree, work_of, held, held_of, names_typed, entry_demand, table_entries, entries, contexts}
-use Rattle.xp_board.specs.Sound.{Spelled}
+use Rattle.xp_board.specs.Recorded.{names, CountsAgree, work_of, held, held_of, names_typed, entry_demand, table_entries, entries, contexts, HasType}
+use Rattle.xp_board.specs.Sound.{Spelled, Sound}
 use Rattle.board_lemmas.proofs.Sums.{hands-part, hands-fewer, sum_below-fewer, one_at-same, sum_below-one, sum_below-part, sum_below-same}
 use Rattle.xp_words.specs.declared.kind.PageType.{PageType}
 use Rattle.xp_words.specs.declared.entry.Demand.{Demand}
@@ -65,6 +65,9 @@ unfolding names_typed
 names_typed-typed g t d e = rw e (one_at-same g)
 
 -- ---- words of vCPUs
+pub not_context : (j k : ℕ) → is_context j ≡ false → IsTrue (is_context k) → k ≡ j → ⊥
+not_context j k off u e = let t : is_context j ≡ true = subst (λ y. is_context y ≡ true) e u in cc
+
 context_same : (z : Sizes) (m m2 : Place → ℕ) (g v k : ℕ) (t : Bool) → is_context k ≡ t → ((v k : ℕ) → IsTrue (is_context k) → m2 (Vcpu v k) ≡ m (Vcpu v k)) →
     (if t then one_at (g + 1) (m2 (Vcpu v k)) else 0) ≡ (if t then one_at (g + 1) (m (Vcpu v k)) else 0)
 context_same z m m2 g v k true at e = ap (one_at (g + 1)) (e v k at)
@@ -107,14 +110,14 @@ unfolding names
 names-read g d e = rw e (one_at-same g)
 
 -- ---- no frame has more typed references than references
-names_typed-fewer : (g : ℕ) (d : Demand) → names_typed g d ≤ names g d
+pub names_typed-fewer : (g : ℕ) (d : Demand) → names_typed g d ≤ names g d
 unfolding names names_typed
 names_typed-fewer g Nothing = omega arith
 names_typed-fewer g Bad = omega arith
 names_typed-fewer g (Read f) = omega arith
 names_typed-fewer g (Typed f t) = omega arith
 
-entries-fewer : (z : Sizes) (m : Place → ℕ) (h : ℕ → Holdings) (g : ℕ) → entries (names_typed g) z m h ≤ entries (names g) z m h
+pub entries-fewer : (z : Sizes) (m : Place → ℕ) (h : ℕ → Holdings) (g : ℕ) → entries (names_typed g) z m h ≤ entries (names g) z m h
 unfolding entries table_entries
 entries-fewer z m h g =
     sum_below-fewer z.frames _ _ (λ f. sum_below-fewer (held_of (kind_at m f) (work_of z.vcpus h f)) _ _ (λ i. names_typed-fewer g (entry_demand m f i)))
@@ -132,6 +135,14 @@ type_below z m h g k =
     omega arith
 
 -- ---- what is in hand is counted
+pub hand_is : (g : ℕ) (u : Holdings) → hand g u ≡ refs_to g u.refs + typed_hand g u
+unfolding hand
+hand_is g u = refl
+
+pub typed_hand_is : (g : ℕ) (u : Holdings) → typed_hand g u ≡ typed_to g u.typed + locks_on g u.locks
+unfolding typed_hand
+typed_hand_is g u = refl
+
 pub refs_in_hand : (f : ℕ) (u : Holdings) → refs_to f u.refs ≤ hand f u
 unfolding hand
 refs_in_hand f u = omega arith
@@ -170,3 +181,22 @@ table_inside n m f spelled k =
 
 pub held_inside : (n : Machine) (m : Place → ℕ) (h : ℕ → Holdings) (f i : ℕ) → Spelled n m → i < held (sizes_of n) m h f → f < (sizes_of n).frames
 held_inside n m h f i spelled l = table_inside n m f spelled (held_table (kind_at m f) _ i l)
+
+-- a recorded entry that is read is counted
+pub plain_counted : (n : Machine) (m : Place → ℕ) (h : ℕ → Holdings) (f i g : ℕ) → Sound n m h → i < held (sizes_of n) m h f → entry_demand m f i ≡ Read g →
+    0 < ref_count (m (Refs g))
+plain_counted n m h f i g sound l e =
+    let b = held_inside n m h f i sound.spelled l in
+    let a = entries-part (names g) (sizes_of n) m h f i b l in
+    let o = names-read g (entry_demand m f i) e in
+    let k = sound.counts.refs g in
+    omega arith
+
+-- ---- what stays the same
+-- a frame whose word stays keeps its type
+pub has_type-same : (m m2 : Place → ℕ) (g : ℕ) (o : Option PageType) → m2 (Kind g) ≡ m (Kind g) → HasType m g o → HasType m2 g o
+has_type-same m m2 g (Some t) same e = rw same e
+has_type-same m m2 g None same e = tt
+
+pub typed_hand-same : (g : ℕ) (u v : Holdings) → typed_to g v.typed ≡ typed_to g u.typed → locks_on g v.locks ≡ locks_on g u.locks → typed_hand g v ≡ typed_hand g u
+typed_hand-same g u v typed locks = let p = typed_hand_is g u in let q = typed_hand_is g v in omega arith

@@ -1,17 +1,20 @@
 -- What the accessed and dirty bits of an entry leave: what it asks.
-use Rattle.std.proofs.Common.{◌≡◌, ℕ, ◌+◌, ◌/◌, ◌%◌, ◌^◌, ◌==◌, Bool, true, false, refl, sym, ◌∙◌, ap, arith, IsTrue, if◌then◌else◌}
+use Rattle.std.proofs.Common.{◌≡◌, ℕ, ◌+◌, ◌/◌, ◌%◌, ◌^◌, ◌==◌, Bool, true, false, refl, sym, ◌∙◌, ap, arith, IsTrue, if◌then◌else◌, Some}
 use Rattle.std.proofs.lemmas.Bool.Decides.{nat_tests}
 use Rattle.xp_words.specs.declared.kind.PageType.{PageType}
 use Rattle.xp_words.specs.declared.entry.Demand.{Demand}
 use Rattle.xp_words.specs.declared.entry.Demand.TheVariants.{Nothing, Read, Typed}
 use Rattle.xp_words.specs.PageTypes.{type_number, type_of}
-use Rattle.xp_words.specs.Entries.{is_bit, frame_of, is_reserved, is_lowest, demand_of, demand_at}
+use Rattle.xp_words.specs.Entries.{is_bit, frame_of, is_reserved, is_lowest, demand_of, demand_at, fixed}
 use Rattle.xp_words.proofs.KindLaws.{type_back}
 use Rattle.xp_board.specs.declared.holdings.Walk.{Walk}
 use Rattle.xp_board.specs.Readings.{is_type}
 use Rattle.xp_board.specs.FillSteps.{with_bit, touched, sets_dirty}
 use Rattle.xp_board.specs.CellSteps.{is_same_demand}
 use Rattle.xp_board.specs.Found.{without_bits, is_same_entry}
+use Rattle.xp_words.proofs.EntryLaws.{fixed_again}
+use Rattle.xp_board.specs.After.{is_fixed}
+use Rattle.board_lemmas.proofs.PlaceTests.{equal_refl}
 
 -- ---- the same but for bits 5 and 6
 pub record SameEntry (w x : ℕ) : Type 0 where
@@ -83,5 +86,12 @@ set_both w true =
 set_both w false = set5 w (is_bit 5 w) refl
 
 -- the entry with the bits that a walk sets is the same but for them
+pub touched_back : (walk : Walk) (w : ℕ) → IsTrue (is_same_entry (touched walk w) w)
+touched_back walk w = let same = set_both w (sets_dirty walk) in entry_whole (touched walk w) w (record { high = sym same.high; low = sym same.low })
+
 pub touched_same : (walk : Walk) (w : ℕ) → IsTrue (is_same_entry w (touched walk w))
 touched_same walk w = entry_whole w (touched walk w) (set_both w (sets_dirty walk))
+
+-- ---- a word that is fixed once more
+pub fixed_by : (w new : ℕ) → fixed w ≡ Some new → IsTrue (is_fixed new)
+fixed_by w new e = let k = fixed_again w new e in rw k (equal_refl new)

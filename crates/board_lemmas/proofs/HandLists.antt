@@ -3,6 +3,7 @@ use Rattle.std.proofs.Common.{◌≡◌, ℕ, zero, suc, ◌+◌, ◌<◌, ◌�
 use Rattle.std.proofs.lemmas.Bool.Decides.{nat_tests}
 use Rattle.xp_board.specs.Lists.{one_at, times_by, first_by, without_by, changed_by, kept_of, EachOf, Member, some_of}
 use Rattle.std.proofs.lemmas.Bool.{or_cases}
+use Rattle.board_lemmas.proofs.Sums.{either}
 
 -- ---- what holds of each element
 pub EachOf-map : {A : Type 0} (P Q : A → Type 0) (xs : List A) → ((x : A) → P x → Q x) → EachOf P xs → EachOf Q xs
@@ -15,21 +16,14 @@ unfolding EachOf
 EachOf-more P x xs p e = (p, e)
 
 pub EachOf-if : {A : Type 0} (P : A → Type 0) (c : Bool) (xs ys : List A) → EachOf P xs → EachOf P ys → EachOf P (if c then xs else ys)
-EachOf-if P true xs ys a b = a
-EachOf-if P false xs ys a b = b
-
-cond-EachOf : {A : Type 0} (P : A → Type 0) (c : Bool) (x y : A) (xs ys : List A) → P x × EachOf P xs → P y × EachOf P ys →
-    EachOf P (if c then (x ∷ xs) else (y ∷ ys))
-unfolding EachOf
-cond-EachOf P true x y xs ys a b = a
-cond-EachOf P false x y xs ys a b = b
+EachOf-if P c xs ys a b = either (EachOf P) c xs ys a b
 
 pub EachOf-changed : {A : Type 0} (P : A → Type 0) (key : A → ℕ) (g : ℕ) (change : A → A) (xs : List A) → ((x : A) → P x → P (change x)) →
     EachOf P xs → EachOf P (changed_by key g change xs)
 unfolding EachOf changed_by
 EachOf-changed P key g change [] f e = tt
 EachOf-changed P key g change (x ∷ xs) f e =
-    cond-EachOf P (key x == g) (change x) x xs (changed_by key g change xs) (f x e.0, e.1) (e.0, EachOf-changed P key g change xs f e.1)
+    EachOf-if P (key x == g) (change x ∷ xs) (x ∷ changed_by key g change xs) (f x e.0, e.1) (e.0, EachOf-changed P key g change xs f e.1)
 
 pub EachOf-without : {A : Type 0} (P : A → Type 0) (key : A → ℕ) (g : ℕ) (xs : List A) → EachOf P xs → EachOf P (without_by key g xs)
 unfolding EachOf without_by
@@ -70,11 +64,6 @@ first-some key g y (x ∷ xs) at =
     ] refl at
 
 -- ---- how often a number stands there
-cond-times : {A : Type 0} (key : A → ℕ) (g : ℕ) (c : Bool) (x y : A) (xs ys : List A) (n : ℕ) → one_at g (key x) + times_by key g xs ≡ n →
-    one_at g (key y) + times_by key g ys ≡ n → times_by key g (if c then (x ∷ xs) else (y ∷ ys)) ≡ n
-unfolding times_by
-cond-times key g true x y xs ys n a b = a
-cond-times key g false x y xs ys n a b = b
 
 pub times-changed : {A : Type 0} (key : A → ℕ) (g f : ℕ) (change : A → A) (xs : List A) → ((x : A) → key (change x) ≡ key x) →
     times_by key g (changed_by key f change xs) ≡ times_by key g xs
@@ -82,19 +71,14 @@ unfolding times_by changed_by
 times-changed key g f change [] e = refl
 times-changed key g f change (x ∷ xs) e =
     let rest = times-changed key g f change xs e in
-    cond-times key g (key x == f) (change x) x xs (changed_by key f change xs) (one_at g (key x) + times_by key g xs) (rw (e x)) (rw rest)
-
-fewer-if : {A : Type 0} (key : A → ℕ) (g n : ℕ) (c : Bool) (xs ys : List A) → times_by key g xs ≤ n → times_by key g ys ≤ n →
-    times_by key g (if c then xs else ys) ≤ n
-fewer-if key g n true xs ys a b = a
-fewer-if key g n false xs ys a b = b
+    either (λ ys. times_by key g ys ≡ one_at g (key x) + times_by key g xs) (key x == f) (change x ∷ xs) (x ∷ changed_by key f change xs) (rw (e x)) (rw rest)
 
 pub times-without : {A : Type 0} (key : A → ℕ) (g f : ℕ) (xs : List A) → times_by key g (without_by key f xs) ≤ times_by key g xs
 unfolding times_by without_by
 times-without key g f [] = omega arith
 times-without key g f (x ∷ xs) =
     let rest = times-without key g f xs in
-    fewer-if key g (one_at g (key x) + times_by key g xs) (key x == f) xs (x ∷ without_by key f xs) (omega arith) (omega arith)
+    either (λ ys. times_by key g ys ≤ one_at g (key x) + times_by key g xs) (key x == f) xs (x ∷ without_by key f xs) (omega arith) (omega arith)
 
 -- ---- elements
 kept-if : {A : Type 0} (y x : A) (c : Bool) (xs ys : List A) → (Member y xs → Member y ys) → Member y (if c then (x ∷ xs) else xs) → (x ≡ y) ⊎ Member y ys
@@ -126,3 +110,22 @@ some_of-member test (x ∷ xs) k =
       | inl here ↦ (x, inl refl, here)
       | inr there ↦ let rest = some_of-member test xs there in (rest.0, inr rest.1, rest.2)
     ]
+
+pub EachOf-all : {A : Type 0} (P : A → Type 0) (xs : List A) → ((e : A) → P e) → EachOf P xs
+unfolding EachOf
+EachOf-all P [] f = tt
+EachOf-all P (x ∷ xs) f = (f x, EachOf-all P xs f)
+
+-- an element more where a test is passed, and one fewer
+pub EachOf-maybe : {A : Type 0} (P : A → Type 0) (c : Bool) (x : A) (xs : List A) → (c ≡ true → P x) → EachOf P xs → EachOf P (if c then (x ∷ xs) else xs)
+unfolding EachOf
+EachOf-maybe P true x xs one e = (one refl, e)
+EachOf-maybe P false x xs one e = e
+
+pub EachOf-maybe_without : {A : Type 0} (P : A → Type 0) (key : A → ℕ) (c : Bool) (g : ℕ) (xs : List A) → EachOf P xs → EachOf P (if c then without_by key g xs else xs)
+EachOf-maybe_without P key c g xs e = EachOf-if P c (without_by key g xs) xs (EachOf-without P key g xs e) e
+
+pub EachOf-kept : {A : Type 0} (P : A → Type 0) (test : A → Bool) (xs : List A) → EachOf P xs → EachOf P (kept_of test xs)
+unfolding EachOf kept_of
+EachOf-kept P test [] h = tt
+EachOf-kept P test (x ∷ xs) h = EachOf-maybe P (test x) x (kept_of test xs) (λ t. h.0) (EachOf-kept P test xs h.1)

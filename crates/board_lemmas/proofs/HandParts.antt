@@ -1,17 +1,18 @@
 -- Which parts of a hand a demand, a name, an own word, a walk or a Run step leaves.
-use Rattle.std.proofs.Common.{◌≡◌, ℕ, zero, suc, ◌==◌, not, nat_lt, if◌then◌else◌, Bool, true, false, refl, ◌∙◌}
+use Rattle.std.proofs.Common.{◌≡◌, ℕ, zero, suc, ◌==◌, not, nat_lt, Bool, refl, ◌∙◌}
 use Rattle.xp_words.specs.declared.entry.Demand.{Demand}
 use Rattle.xp_words.specs.declared.entry.Demand.TheVariants.{Nothing, Bad, Read, Typed}
 use Rattle.xp_words.specs.Entries.{frame_of, is_bit}
 use Rattle.xp_words.specs.Machine.{Machine}
-use Rattle.xp_words.specs.Places.{Vcpu}
+use Rattle.xp_words.specs.Places.{Vcpu, Place, Clock, Pages, Life, Refs, Kind, M2p, Cell, Map, Priv}
 use Rattle.xp_board.specs.declared.holdings.Walk.{Walk}
 use Rattle.xp_board.specs.declared.holdings.Holdings.{Holdings}
 use Rattle.xp_board.specs.Settling.{demand_in, demand_out}
 use Rattle.xp_board.specs.ContextSteps.{named_in, named_out}
 use Rattle.xp_board.specs.FillSteps.{started, loaded, descended, touched, level_of}
 use Rattle.xp_board.specs.RunSteps.{ran_now}
-use Rattle.xp_board.specs.After.{learned, learned_own}
+use Rattle.xp_board.specs.After.{learned, learned_own, learned_life, learned_cell}
+use Rattle.board_lemmas.proofs.Sums.{either}
 
 -- all lists but the references, and the steps
 pub record Beside (u v : Holdings) : Type 0 where
@@ -50,11 +51,6 @@ beside_then u v w a b =
 
 pub translations_then : (u v w : Holdings) → Translations u v → Translations v w → Translations u w
 translations_then u v w a b = translations u w (b.cache ∙ a.cache) (b.walk ∙ a.walk) (b.cold ∙ a.cold)
-
--- what holds of both holds of either
-pub either : {A : Type 0} (P : A → Type 0) (t : Bool) (x y : A) → P x → P y → P (if t then x else y)
-either P true x y a b = a
-either P false x y a b = b
 
 -- ---- demands
 pub beside_out : (d : Demand) (u : Holdings) → Beside u (demand_out d u)
@@ -126,6 +122,24 @@ translations_own k w u =
 
 pub beside_learned : (s v k f w : ℕ) (u : Holdings) → Beside u (learned s (Vcpu v k) f w u)
 beside_learned s v k f w u = either (Beside u) (v == s) _ _ (beside_own k w u) (beside u u refl refl refl refl refl refl refl refl)
+
+-- what holds of the hand holds after each word, where it does so after those that tell more
+pub learned_by {ℓ} : (R : Holdings → Type ℓ) (s : ℕ) (p : Place) (found left : ℕ) (u : Holdings) → R u → ((d : ℕ) → R (learned_life d found u)) → ((k : ℕ) → R (learned_own k left u)) →
+    ((f i : ℕ) → R (learned_cell f i left u)) → R (learned s p found left u)
+learned_by R s Clock found left u same life own cell = same
+learned_by R s (Pages d) found left u same life own cell = same
+learned_by R s (Life d) found left u same life own cell = life d
+learned_by R s (Vcpu v k) found left u same life own cell = either R (v == s) _ _ (own k) same
+learned_by R s (Refs f) found left u same life own cell = same
+learned_by R s (Kind f) found left u same life own cell = same
+learned_by R s (M2p f) found left u same life own cell = same
+learned_by R s (Cell f i) found left u same life own cell = cell f i
+learned_by R s (Map k) found left u same life own cell = same
+learned_by R s (Priv d) found left u same life own cell = same
+
+pub learned_steps : (s : ℕ) (p : Place) (found left : ℕ) (u : Holdings) → (learned s p found left u).steps ≡ u.steps
+learned_steps s p found left u =
+    learned_by (λ (v : Holdings). v.steps ≡ u.steps) s p found left u refl (λ d. either (λ (v : Holdings). v.steps ≡ u.steps) (found == 0) _ u refl refl) (λ k. (beside_own k left u).steps) (λ f i. refl)
 
 -- ---- walks and Run steps
 pub beside_ran : (w : ℕ) (u : Holdings) → Beside u (ran_now w u)

@@ -1,5 +1,5 @@
 -- How many entries of a frame are recorded, by the form of its kind word.
-use Rattle.std.proofs.Common.{inl, inr, ◌≡◌, ℕ, ◌<◌, Bool, true, false, Option, refl, arith, IsTrue, if◌then◌else◌, Some, None, ◌⊎◌}
+use Rattle.std.proofs.Common.{inl, inr, ◌≡◌, ℕ, ◌<◌, Bool, true, false, Option, refl, arith, IsTrue, if◌then◌else◌, Some, None}
 use Rattle.std.proofs.lemmas.Bool.Decides.{nat_tests}
 use Rattle.std.proofs.lemmas.Bool.{cases_Bool}
 use Rattle.xp_board.specs.Readings.{is_live, is_partial, is_dead}
@@ -34,6 +34,10 @@ pub held_work : (k : KindWord) (r : ℕ) → held_of k (Some r) ≡ (if is_table
 unfolding held_of
 held_work k r = refl
 
+pub held_table_work : (k : KindWord) (r : ℕ) → is_table k.kind ≡ true → held_of k (Some r) ≡ r
+unfolding held_of
+held_table_work k r t = rw t refl
+
 pub no_table : (k : KindWord) (o : Option ℕ) → is_table k.kind ≡ false → held_of k o ≡ 0
 unfolding held_of
 no_table k o e = rw e refl
@@ -52,18 +56,6 @@ held_same k l t v p r = rw (t, v, p, r) refl
 
 pub live_partial : (k : KindWord) → IsTrue (is_live k) → IsTrue (is_partial k) → ⊥
 live_partial k live p = let a : is_partial k ≡ false = rw live refl in cc
-
--- the form of a frame that is in no hand alone
-pub free_forms : (k : KindWord) → is_busy k ≡ false → IsTrue (is_live k) ⊎ (IsTrue (is_partial k) ⊎ IsTrue (is_dead k))
-free_forms k free =
-    elim (cases_Bool k.validated) [
-      | inl live ↦ inl live
-      | inr off ↦
-          elim (cases_Bool k.partial) [
-            | inl partial ↦ inr (inl (grind (arith, nat_tests)))
-            | inr none ↦ inr (inr (grind (arith, nat_tests)))
-          ]
-    ]
 
 -- a live frame that is counted is in no hand alone
 pub live_idle : (k : KindWord) → IsTrue (is_live k) → 0 < k.number → is_busy k ≡ false

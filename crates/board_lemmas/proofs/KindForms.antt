@@ -18,6 +18,11 @@ use Rattle.xp_board.specs.KindSteps.{unlocked_down}
 pub form_read : (w : ℕ) (k : KindWord) → kind_read w ≡ Some k → has_form k ≡ true
 form_read w k e = let a = (kind_write-read w k e).0 in grind (arith, nat_tests)
 
+-- a word that is a spelling has these fields
+pub fields_of : (w : ℕ) (k : KindWord) → kind_read w ≡ Some k → kind_fields w ≡ k
+unfolding kind_read
+fields_of w k e = grind arith
+
 -- a word that is spelled as one of the machine has a form
 form_in : (n : Machine) (w : ℕ) (o : Option KindWord) → kind_read w ≡ o → IsTrue (is_kind_in n o) → has_form (kind_fields w) ≡ true
 unfolding kind_read

@@ -18,3 +18,15 @@ pub mod Bits
 pub mod EntryWords
 pub mod Numbers
 pub mod Noted
+pub mod EntryAsks
+pub mod ReachAll
+pub mod CellAlike
+pub mod KindReadings
+pub mod Hints
+pub mod LiveTables
+pub mod MoreSteps
+pub mod RefForms
+pub mod HandTypes
+pub mod WalkDown
+pub mod CountsDown
+pub mod Serving

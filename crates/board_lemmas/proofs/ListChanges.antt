@@ -1,10 +1,10 @@
 -- Lists of a hand with an element changed, and with several more or fewer.
-use Rattle.std.proofs.Common.{◌≡◌, ◌≢◌, ℕ, ◌+◌, ◌≤◌, List, [], ◌∷◌, Some, refl, sym, ◌∙◌, ap, arith, inl, inr, zero, suc}
+use Rattle.std.proofs.Common.{◌≡◌, ◌≢◌, ℕ, ◌+◌, ◌≤◌, List, [], ◌∷◌, Some, refl, sym, ◌∙◌, ap, arith, inl, inr, zero, suc, subst}
 use Rattle.std.proofs.lemmas.Bool.{cases_eq}
-use Rattle.xp_board.specs.Lists.{one_at, first_by, without_by, changed_by, EachOf, times, with_more, with_fewer}
+use Rattle.xp_board.specs.Lists.{one_at, first_by, without_by, changed_by, EachOf, times, with_more, with_fewer, times_by}
 use Rattle.board_lemmas.proofs.Sums.{when_eq, when_ne}
-use Rattle.board_lemmas.proofs.ListCounts.{times_by-without, times_by-cons_here, times_by-cons_other, times_by-without_other}
-use Rattle.board_lemmas.proofs.HandLists.{EachOf-map}
+use Rattle.board_lemmas.proofs.ListCounts.{times_by-without, times_by-cons_here, times_by-cons_other, times_by-without_other, EachOf-absent}
+use Rattle.board_lemmas.proofs.HandLists.{EachOf-map, first-key}
 
 -- ---- a list with the first element of a number changed
 pub first_by-changed_here : {A : Type 0} (key : A → ℕ) (f : ℕ) (change : A → A) (xs : List A) (e : A) → ((x : A) → key (change x) ≡ key x) → first_by key f xs ≡ Some e →
@@ -77,3 +77,34 @@ EachOf-changed_into P Q key f change (x ∷ xs) k new e =
       | inl at ↦ rw (when_eq (key x) f at) (new x (rw (when_eq (key x) f at) refl) e.0, EachOf-map P Q xs k e.1)
       | inr off ↦ rw (when_ne (key x) f off) (k x e.0, EachOf-changed_into P Q key f change xs k (λ y i p. new y (rw (when_ne (key x) f off) i) p) e.1)
     ]
+
+-- so does each that has the number
+pub EachOf-changes : {A : Type 0} (P Q : A → Type 0) (key : A → ℕ) (g : ℕ) (change : A → A) (xs : List A) →
+    ((e : A) → key e ≡ g → P e → Q (change e)) → ((e : A) → P e → Q e) → EachOf P xs → EachOf Q (changed_by key g change xs)
+EachOf-changes P Q key g change xs f o h = EachOf-changed_into P Q key g change xs o (λ e at p. f e (first-key key g e xs at) p) h
+
+-- ---- the one element of a number changes, and the others are of other numbers
+pub EachOf-changed_once : {A : Type 0} (P Q : A → Type 0) (key : A → ℕ) (g : ℕ) (change : A → A) (xs : List A) → times_by key g xs ≤ 1 →
+    ((e : A) → first_by key g xs ≡ Some e → P e → Q (change e)) → ((e : A) → key e ≢ g → P e → Q e) → EachOf P xs → EachOf Q (changed_by key g change xs)
+unfolding EachOf times_by first_by changed_by
+EachOf-changed_once P Q key g change [] few f o h = tt
+EachOf-changed_once P Q key g change (x ∷ xs) few f o h =
+    elim (cases_eq (key x) g) [
+      | inl at ↦
+          let one : one_at g (key x) ≡ 1 = rw (when_eq (key x) g at) in
+          rw (when_eq (key x) g at) (f x (rw (when_eq (key x) g at) refl) h.0, EachOf-absent P Q key g xs (omega arith) o h.1)
+      | inr off ↦
+          rw (when_ne (key x) g off)
+          (o x off h.0, EachOf-changed_once P Q key g change xs (omega arith) (λ e at p. f e (rw (when_ne (key x) g off) at) p) o h.1)
+    ]
+
+pub EachOf-changed_one : {A : Type 0} (P Q : A → Type 0) (key : A → ℕ) (g : ℕ) (change : A → A) (xs : List A) → times_by key g xs ≤ 1 →
+    ((e : A) → key e ≡ g → P e → Q (change e)) → ((e : A) → key e ≢ g → P e → Q e) → EachOf P xs → EachOf Q (changed_by key g change xs)
+EachOf-changed_one P Q key g change xs few f o h = EachOf-changed_once P Q key g change xs few (λ e at p. f e (first-key key g e xs at) p) o h
+
+-- it is that which was found first
+pub EachOf-changed_first : {A : Type 0} (P Q : A → Type 0) (key : A → ℕ) (g : ℕ) (change : A → A) (e : A) (xs : List A) → times_by key g xs ≤ 1 → first_by key g xs ≡ Some e →
+    (P e → Q (change e)) → ((x : A) → key x ≢ g → P x → Q x) → EachOf P xs → EachOf Q (changed_by key g change xs)
+EachOf-changed_first P Q key g change e xs few here f o h =
+    EachOf-changed_once P Q key g change xs few
+    (λ y at p. let both : Some e ≡ Some y = sym here ∙ at in let is : e ≡ y = cc in subst (λ z. Q (change z)) is (f (subst P (sym is) p))) o h

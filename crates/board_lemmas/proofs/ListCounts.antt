@@ -3,7 +3,7 @@ use Rattle.std.proofs.Common.{◌≡◌, ◌≢◌, ℕ, ◌+◌, ◌<◌, ◌�
 use Rattle.std.proofs.lemmas.Bool.{cases_eq}
 use Rattle.xp_board.specs.Lists.{one_at, times_by, first_by, without_by, EachOf}
 use Rattle.board_lemmas.proofs.Sums.{when_eq, when_ne}
-use Rattle.board_lemmas.proofs.HandLists.{EachOf-map, EachOf-first, first-key, first-some}
+use Rattle.board_lemmas.proofs.HandLists.{EachOf-map, EachOf-first, first-key, first-some, EachOf-without}
 
 pub times_by-cons : {A : Type 0} (key : A → ℕ) (g : ℕ) (x : A) (xs : List A) → times_by key g (x ∷ xs) ≡ one_at g (key x) + times_by key g xs
 unfolding times_by
@@ -150,3 +150,18 @@ first_by-some key f xs some = found_by key f xs (first_by key f xs) refl some
 
 pub EachOf-found : {A : Type 0} (P : A → Type 0) (key : A → ℕ) (f : ℕ) (xs : List A) (e : A) → first_by key f xs ≡ Some e → EachOf P xs → (key e ≡ f) × P e
 EachOf-found P key f xs e here each = (first-key key f e xs here, EachOf-first P key f e xs each here)
+
+-- what is shown of an element may use that its number stands in the list
+pub EachOf-there : {A : Type 0} (P Q : A → Type 0) (key : A → ℕ) (xs : List A) → ((e : A) → 0 < times_by key (key e) xs → P e → Q e) → EachOf P xs → EachOf Q xs
+EachOf-there P Q key xs f h =
+    EachOf-map (λ e. (0 < times_by key (key e) xs) × P e) Q xs (λ e k. f e k.0 k.1) (EachOf-both (λ e. 0 < times_by key (key e) xs) P xs (EachOf-counted key xs) h)
+
+-- or that it is of another number, where no element is of that one
+pub EachOf-absent : {A : Type 0} (P Q : A → Type 0) (key : A → ℕ) (g : ℕ) (xs : List A) → times_by key g xs ≡ 0 → ((e : A) → key e ≢ g → P e → Q e) → EachOf P xs → EachOf Q xs
+EachOf-absent P Q key g xs none f h =
+    EachOf-map (λ e. (key e ≢ g) × P e) Q xs (λ e k. f e k.0 k.1) (EachOf-both (λ e. key e ≢ g) P xs (EachOf-apart key g xs none) h)
+
+-- so without the one element that has that number
+pub EachOf-others : {A : Type 0} (P Q : A → Type 0) (key : A → ℕ) (g : ℕ) (xs : List A) → times_by key g xs ≤ 1 → ((e : A) → key e ≢ g → P e → Q e) →
+    EachOf P xs → EachOf Q (without_by key g xs)
+EachOf-others P Q key g xs few f h = EachOf-absent P Q key g (without_by key g xs) (times_by-without_one key g xs few) f (EachOf-without P key g xs h)

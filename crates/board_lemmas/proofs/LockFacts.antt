@@ -1,14 +1,13 @@
 -- What is known of a table whose lock a seat has, and of an entry of it that is rewritten.
-use Rattle.std.proofs.Common.{◌≡◌, ℕ, ◌<◌, ◌==◌, true, false, List, Option, Some, None, IsTrue, refl, sym, ◌∙◌, ap, subst, inl, inr, arith}
+use Rattle.std.proofs.Common.{◌≡◌, ℕ, ◌<◌, ◌==◌, true, false, Option, Some, None, IsTrue, refl, sym, ◌∙◌, ap, subst, inl, inr, arith}
 use Rattle.std.proofs.lemmas.Bool.{cases_eq}
 use Rattle.std.proofs.lemmas.Bool.Decides.{nat_tests}
 use Rattle.xp_words.specs.declared.kind.PageType.{PageType}
 use Rattle.xp_words.specs.PageTypes.{is_table}
 use Rattle.xp_words.specs.Entries.{demand_at}
 use Rattle.xp_words.specs.Machine.{Machine}
-use Rattle.xp_words.specs.Places.{Sizes, Place, Cell, sizes_of}
+use Rattle.xp_words.specs.Places.{Place, Cell, sizes_of}
 use Rattle.xp_board.specs.declared.holdings.Seen.{Seen}
-use Rattle.xp_board.specs.declared.holdings.Made.{Made}
 use Rattle.xp_board.specs.declared.holdings.Lock.{Lock}
 use Rattle.xp_board.specs.declared.holdings.Holdings.{Holdings}
 use Rattle.xp_board.specs.Steps.{last_since}
@@ -16,13 +15,14 @@ use Rattle.xp_board.specs.Hands.{lock_on, locks_on}
 use Rattle.xp_board.specs.Readings.{kind_at, is_locked}
 use Rattle.xp_board.specs.CellSteps.{is_same_as_seen}
 use Rattle.xp_board.specs.Found.{LockFound}
-use Rattle.xp_board.specs.WellFormed.{IsLockFormed, SeenIs}
+use Rattle.xp_board.specs.WellFormed.{IsLockFormed}
 use Rattle.xp_board.specs.Recorded.{HasType, entry_demand}
 use Rattle.xp_board.specs.Sound.{Sound}
 use Rattle.board_lemmas.proofs.EntryWords.{entry_asks_same, same_demand}
 use Rattle.board_lemmas.proofs.ListCounts.{EachOf-found}
 use Rattle.board_lemmas.proofs.HandLists.{first-some}
 use Rattle.board_lemmas.proofs.Works.{is_locked-mine}
+use Rattle.board_lemmas.proofs.WorkFacts.{seen_is}
 
 -- the lock e of seat s on table f
 pub record Locks (n : Machine) (m : Place → ℕ) (h : ℕ → Holdings) (s f : ℕ) (e : Lock) : Type 0 where
@@ -62,9 +62,6 @@ seen_same t i new (Some y) e =
           (y.word, rw at refl, same_demand (demand_at t i y.word) (demand_at t i new) k))
       | inr off ↦ absurd (let b : (y.index == i) ≡ false = grind (arith, nat_tests) in let k = rw b at e in cc)
     ]
-
-seen_is : (z : Sizes) (n f : ℕ) (xs : List Made) (o : Option Seen) (i w : ℕ) → SeenIs z n f xs o → o ≡ Some (record { index = i; word = w }) → last_since z n (Cell f i) xs ≡ Some w
-seen_is z n f xs o i w k at = rw at at k
 
 pub rewritten_same : (n : Machine) (m : Place → ℕ) (h : ℕ → Holdings) (s f i new : ℕ) (e : Lock) → Locks n m h s f e → IsTrue (is_same_as_seen e.kind i new e.seen) →
     demand_at (kind_at m f).kind i new ≡ entry_demand m f i

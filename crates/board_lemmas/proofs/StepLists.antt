@@ -1,5 +1,5 @@
 -- What is known of a list of steps that has one more.
-use Rattle.std.proofs.Common.{◌≡◌, ℕ, ◌<◌, ◌≤◌, ◌&&◌, ◌⊎◌, nat_lt, nat_le, Bool, true, false, List, [], ◌∷◌, length, IsTrue, refl, inl, inr, arith}
+use Rattle.std.proofs.Common.{◌≡◌, ℕ, ◌<◌, ◌≤◌, ◌&&◌, ◌⊎◌, nat_lt, nat_le, Bool, true, false, List, [], ◌∷◌, length, IsTrue, refl, inl, inr, arith, subst, ap, sym, ◌∙◌}
 use Rattle.std.proofs.lemmas.Bool.{and_parts, or_cases, cases_Bool}
 use Rattle.std.proofs.lemmas.Bool.Decides.{nat_tests}
 use Rattle.xp_words.specs.Places.{Sizes, Place, place_at}
@@ -26,6 +26,10 @@ hit : (z : Sizes) (p : Place) (test : ℕ → Bool) (x : Made) → (is_at z p x 
 hit z p test x h =
     let a = and_parts (is_at z p x) (test (left_of x)) h in
     record { place = same_place (place_at z x.step.place) p a.0; passes = a.1 }
+
+-- where that step was the newest and what it left stands there, this passes
+pub hit_left : (z : Sizes) (m : Place → ℕ) (p : Place) (test : ℕ → Bool) (x : Made) → left_of x ≡ m (place_at z x.step.place) → Hit z p test x → test (m p) ≡ true
+hit_left z m p test x left a = subst (λ q. test (m q) ≡ true) a.place (ap test (sym left) ∙ a.passes)
 
 from_le : (a b : ℕ) → nat_le a b ≡ true → a ≤ b
 from_le a b h = grind (arith, nat_tests)
@@ -69,20 +73,6 @@ since_within z n p test (x ∷ xs) h =
     elim (since_more z n p test x xs h) [
       | inl here ↦ (let b = here.1 in omega arith)
       | inr there ↦ (let r = since_within z n p test xs there in omega arith)
-    ]
-
-pub between_within : (z : Sizes) (n o : ℕ) (p : Place) (test : ℕ → Bool) (xs : List Made) → IsTrue (some_between z n o p test xs) → n < o
-unfolding some_step
-between_within z n o p test [] h = absurd (cc)
-between_within z n o p test (x ∷ xs) h =
-    elim (head_or_tail (λ k y. (nat_le n k && nat_lt k o) && (is_at z p y && test (left_of y))) x xs h) [
-      | inl here ↦
-          (let a = and_parts (nat_le n (length xs) && nat_lt (length xs) o) (is_at z p x && test (left_of x)) here in
-          let b = and_parts (nat_le n (length xs)) (nat_lt (length xs) o) a.0 in
-          let l = from_le n (length xs) b.0 in
-          let r = from_lt (length xs) o b.1 in
-          omega arith)
-      | inr there ↦ between_within z n o p test xs there
     ]
 
 -- what was not found before, and is now, this step found

@@ -92,12 +92,27 @@ unfolding sum_below
 sum_below-fewer zero p q e = omega arith
 sum_below-fewer (suc n) p q e = let r = sum_below-fewer n p q e in let l = e n in omega arith
 
--- ---- tests of numbers
+-- ---- tests
+-- what holds of both holds of either
+pub either {ℓ} : {A : Type 0} (P : A → Type ℓ) (t : Bool) (x y : A) → P x → P y → P (if t then x else y)
+either P true x y a b = a
+either P false x y a b = b
+
 pub when_eq : (x y : ℕ) → x ≡ y → (x == y) ≡ true
 when_eq x y e = grind (arith, nat_tests)
 
 pub when_ne : (x y : ℕ) → x ≢ y → (x == y) ≡ false
 when_ne x y n = grind (arith, nat_tests)
+
+pub when_found : {A : Type 0} (w e : ℕ) (y z : A) → w ≡ e → (if w == e then y else z) ≡ y
+when_found w e y z at = grind (arith, nat_tests)
+
+pub when_lost : {A : Type 0} (w e : ℕ) (y z : A) → w ≢ e → (if w == e then y else z) ≡ z
+when_lost w e y z off = grind (arith, nat_tests)
+
+pub if_fewer : (t : Bool) (x : ℕ) → (if t then x else 0) ≤ x
+if_fewer true x = omega arith
+if_fewer false x = omega arith
 
 -- where a number is tested against itself
 pub if_itself : {A : Type 0} (s : ℕ) (y z : A) → (if s == s then y else z) ≡ y
@@ -152,14 +167,14 @@ sum_below-only (suc n) p j b e =
     ]
 
 -- ---- the hands of all seats
+-- a part that is the seat's as it was is so of all
+pub seat_same : {A : Type 0} (part : Holdings → A) (s : ℕ) (h b : ℕ → Holdings) → ((t : ℕ) → t ≢ s → b t ≡ h t) → part (b s) ≡ part (h s) → (v : ℕ) → part (b v) ≡ part (h v)
+seat_same part s h b others e v = elim (cases_eq v s) [ inl at ↦ rw at e | inr off ↦ ap part (others v off) ]
+
 pub hands-one : (c : Holdings → ℕ) (z : Sizes) (h h2 : ℕ → Holdings) (s : ℕ) → s < z.vcpus → ((t : ℕ) → t ≢ s → h2 t ≡ h t) →
     hands c z h2 + c (h s) ≡ hands c z h + c (h2 s)
 unfolding hands
 hands-one c z h h2 s b e = sum_below-one z.vcpus (λ t. c (h2 t)) (λ t. c (h t)) s b (λ t n. ap c (e t n))
-
-pub hands-same : (c : Holdings → ℕ) (z : Sizes) (h h2 : ℕ → Holdings) (s : ℕ) → s < z.vcpus → ((t : ℕ) → t ≢ s → h2 t ≡ h t) →
-    c (h2 s) ≡ c (h s) → hands c z h2 ≡ hands c z h
-hands-same c z h h2 s b e k = let one = hands-one c z h h2 s b e in omega arith
 
 pub hands-plus : (c d e : Holdings → ℕ) (z : Sizes) (h : ℕ → Holdings) → ((u : Holdings) → e u ≡ c u + d u) → hands e z h ≡ hands c z h + hands d z h
 unfolding hands

@@ -6,13 +6,14 @@ use Rattle.xp_words.specs.Machine.{Machine}
 use Rattle.xp_words.specs.Places.{sizes_of, Place, Refs}
 use Rattle.xp_board.specs.declared.holdings.Holdings.{Holdings}
 use Rattle.xp_board.specs.declared.holdings.Work.{Work}
-use Rattle.xp_board.specs.Readings.{kind_at, is_locked, is_dying}
+use Rattle.xp_board.specs.Readings.{kind_at, is_locked, is_dying, ref_count}
 use Rattle.xp_board.specs.Hands.{works_on, work_on, locks_on, endings_of, claims_of}
 use Rattle.xp_board.specs.Recorded.{recorded_number, or_else, recorded_in, work_of, held, held_of}
 use Rattle.xp_board.specs.Sound.{is_busy, HeldAlone}
 use Rattle.board_lemmas.proofs.ListCounts.{first_by-none, first_by-some}
 use Rattle.board_lemmas.proofs.HandLists.{first-some}
 use Rattle.board_lemmas.proofs.Sums.{hands-part, hands-two, hands-some, bit_most, some_bit}
+use Rattle.board_lemmas.proofs.RefForms.{dying_uncounted}
 
 pub recorded_in-none : (f : ℕ) (xs : List Work) → work_on f xs ≡ None → recorded_in xs f ≡ None
 unfolding recorded_in
@@ -71,7 +72,51 @@ module _ (n : Machine) (m : Place → ℕ) (h : ℕ → Holdings) (alone : HeldA
       let most : bit (is_busy (kind_at m f)) ≤ 1 = bit_most (is_busy (kind_at m f)) in
       omega arith
 
+  -- nor are an unlocked table among the locks of a seat, and one that does not die among its ending and claimed frames
+  pub nobody_locks : (f : ℕ) → is_locked (kind_at m f) ≡ false → (t : ℕ) → t < (sizes_of n).vcpus → locks_on f (h t).locks ≡ 0
+  nobody_locks f free t b =
+      let all = alone.locks f in
+      let part = hands-part (λ u. locks_on f u.locks) (sizes_of n) h t b in
+      let none = ap bit free in
+      omega arith
+
+  pub nobody_ends : (f : ℕ) → is_dying (m (Refs f)) ≡ false → (t : ℕ) → t < (sizes_of n).vcpus → endings_of f (h t).ending + claims_of f (h t).claimed ≡ 0
+  nobody_ends f free t b =
+      let all = alone.dying f in
+      let part = hands-part (λ u. endings_of f u.ending + claims_of f u.claimed) (sizes_of n) h t b in
+      let none = ap bit free in
+      omega arith
+
+  pub one_lock : (f s : ℕ) → s < (sizes_of n).vcpus → locks_on f (h s).locks ≤ 1
+  one_lock f s b =
+      let all = alone.locks f in
+      let part = hands-part (λ u. locks_on f u.locks) (sizes_of n) h s b in
+      let most = bit_most (is_locked (kind_at m f)) in
+      omega arith
+
+  pub one_ending : (f s : ℕ) → s < (sizes_of n).vcpus → endings_of f (h s).ending + claims_of f (h s).claimed ≤ 1
+  one_ending f s b =
+      let all = alone.dying f in
+      let part = hands-part (λ u. endings_of f u.ending + claims_of f u.claimed) (sizes_of n) h s b in
+      let most = bit_most (is_dying (m (Refs f))) in
+      omega arith
+
   -- whoever else has it
+  pub only_my_lock : (f s t : ℕ) → s < (sizes_of n).vcpus → t < (sizes_of n).vcpus → t ≢ s → 0 < locks_on f (h s).locks → locks_on f (h t).locks ≡ 0
+  only_my_lock f s t a b off mine =
+      let all = alone.locks f in
+      let two = hands-two (λ u. locks_on f u.locks) (sizes_of n) h t s b a off in
+      let most = bit_most (is_locked (kind_at m f)) in
+      omega arith
+
+  pub only_my_ending : (f s t : ℕ) → s < (sizes_of n).vcpus → t < (sizes_of n).vcpus → t ≢ s → 0 < endings_of f (h s).ending + claims_of f (h s).claimed →
+      endings_of f (h t).ending + claims_of f (h t).claimed ≡ 0
+  only_my_ending f s t a b off mine =
+      let all = alone.dying f in
+      let two = hands-two (λ u. endings_of f u.ending + claims_of f u.claimed) (sizes_of n) h t s b a off in
+      let most = bit_most (is_dying (m (Refs f))) in
+      omega arith
+
   pub only_mine : (f s t : ℕ) → s < (sizes_of n).vcpus → t < (sizes_of n).vcpus → t ≢ s → 0 < works_on f (h s).works → works_on f (h t).works ≡ 0
   only_mine f s t a b off mine =
       let all = alone.works f in
@@ -119,6 +164,18 @@ module _ (n : Machine) (m : Place → ℕ) (h : ℕ → Holdings) (alone : HeldA
       let all = alone.dying f in
       let part = hands-part (λ u. endings_of f u.ending + claims_of f u.claimed) (sizes_of n) h s b in
       some_bit (is_dying (m (Refs f))) (omega arith)
+
+  -- so it has no reference
+  pub dying_in_hand : (f s : ℕ) → s < (sizes_of n).vcpus → 0 < endings_of f (h s).ending + claims_of f (h s).claimed → ref_count (m (Refs f)) ≡ 0
+  dying_in_hand f s b some = dying_uncounted (m (Refs f)) (is_dying-mine f s b some)
+
+  -- and a frame that has one is neither ending nor claimed
+  pub counted_alive : (f s : ℕ) → s < (sizes_of n).vcpus → 0 < ref_count (m (Refs f)) → endings_of f (h s).ending + claims_of f (h s).claimed ≡ 0
+  counted_alive f s b some =
+      elim (cases_eq (endings_of f (h s).ending + claims_of f (h s).claimed) 0) [
+        | inl none ↦ none
+        | inr other ↦ absurd (let k = dying_in_hand f s b (omega arith) in omega arith)
+      ]
 
   -- ---- how many entries are recorded
   pub held_free : (f : ℕ) → is_busy (kind_at m f) ≡ false → held (sizes_of n) m h f ≡ held_of (kind_at m f) None

@@ -1,7 +1,6 @@
 -- What each act on a cell leaves, but for exchanges of another demand.
 use Rattle.xp_board.specs.After.{noted, learned_cell}
 use Rattle.xp_board.specs.GuestSteps.{MayStore}
-use Rattle.count_rule.proofs.EntryMarks.{work_word}
 use Rattle.xp_board.proofs.RefWords.{is_dying-read, dying_says}
 use Rattle.board_lemmas.proofs.Sums.{some_bit, hands-part}
 use Rattle.std.proofs.Common.{◌≡◌, ◌≢◌, ℕ, ◌+◌, ◌<◌, ◌==◌, ◌&&◌, false, Option, Some, None, refl, sym, ◌∙◌, ap, subst, arith, IsTrue, inl, inr}
@@ -10,7 +9,7 @@ use Rattle.std.proofs.lemmas.Bool.Decides.{nat_tests}
 use Rattle.xp_words.specs.declared.kind.PageType.{PageType}
 use Rattle.xp_words.specs.PageTypes.{is_table, type_number}
 use Rattle.xp_words.specs.Machine.{Machine}
-use Rattle.xp_words.specs.Places.{sizes_of, is_place, Place, Kind, Cell, Refs}
+use Rattle.xp_words.specs.Places.{sizes_of, is_place, Place, Cell, Refs}
 use Rattle.xp_board.specs.declared.holdings.Holdings.{Holdings}
 use Rattle.xp_board.specs.declared.holdings.Claimed.{Claimed}
 use Rattle.xp_board.specs.declared.holdings.Work.{Work}
@@ -34,6 +33,7 @@ use Rattle.board_lemmas.proofs.HeldByForm.{no_table}
 use Rattle.count_rule.proofs.CellLaw.{cell_outcome}
 use Rattle.count_rule.proofs.Outcome.{Outcome}
 use Rattle.board_lemmas.proofs.LockFacts.{lock_facts, rewritten_same}
+use Rattle.board_lemmas.proofs.WorkFacts.{work_word, works_facts}
 
 not_seven : (t : PageType) → type_number t ≡ 7 → is_table t ≡ false
 not_seven t e = grind (arith, nat_tests)
@@ -63,10 +63,6 @@ module _ (n : Machine) (s : ℕ) (x : Step) (m m2 : Place → ℕ) (b c : ℕ �
       cell_outcome n s m m2 b c seat others sound f i words (λ l. absurd (omega arith))
       (kept_noted x w (b s) _ (c s) hand (kept_cell f i (m2 (Cell f i)) (b s) (b s) (same_hand (b s)))) running (ap (λ u. u.cold) hand)
       (λ k e. ap (λ u. u.cache) hand ∙ e) (λ k e. ap (λ u. u.walk) hand ∙ e) spelled
-
-  kind_real : IsTrue (is_place (sizes_of n) (Cell f i)) → IsTrue (is_place (sizes_of n) (Kind f))
-  unfolding is_place
-  kind_real real = grind (arith, nat_tests)
 
   written_none : IsTrue (is_place (sizes_of n) (Cell f i)) → MayStore f (b s) → held (sizes_of n) m b f ≡ 0
   written_none real store =
@@ -99,7 +95,7 @@ module _ (n : Machine) (s : ℕ) (x : Step) (m m2 : Place → ℕ) (b c : ℕ �
   filled_none : (k : Option Claimed) (w : Option Work) → claim_of f (b s).claimed ≡ k → work_on f (b s).works ≡ w → AllowsPlain n f i (m2 (Cell f i)) (b s) k w → held (sizes_of n) m b f ≡ 0
   filled_none (Some e) w at on allows = claimed_none e at
   filled_none None (Some e) at on allows =
-      no_table (kind_at m f) _ (ap (λ y. is_table y.kind) (work_word n s m b seat sound f e on) ∙ ap is_table allows.kind)
+      no_table (kind_at m f) _ (ap (λ y. is_table y.kind) (work_word n m b s f e (works_facts n m b s f e sound seat on)) ∙ ap is_table allows.kind)
   filled_none None None at on allows =
       let kind = ((sound.found s seat).lives f allows.kind allows.live).1 in
       no_table (kind_at m f) _

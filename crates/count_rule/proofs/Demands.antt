@@ -1,14 +1,14 @@
 -- The hand that a demand goes out of or comes into.
-use Rattle.std.proofs.Common.{◌≡◌, ℕ, ◌+◌, ◌<◌, refl, ap, subst, arith, IsTrue, inl, inr, Bool}
+use Rattle.std.proofs.Common.{◌≡◌, ℕ, ◌+◌, ◌<◌, ap, subst, arith, IsTrue, inl, inr, Bool}
 use Rattle.std.proofs.lemmas.Bool.{cases_eq}
 use Rattle.xp_words.specs.declared.kind.PageType.{PageType}
 use Rattle.xp_words.specs.declared.entry.Demand.{Demand}
 use Rattle.xp_words.specs.declared.entry.Demand.TheVariants.{Nothing, Bad, Read, Typed}
 use Rattle.xp_board.specs.declared.holdings.Holdings.{Holdings}
-use Rattle.xp_board.specs.Lists.{one_at, EachOf}
+use Rattle.xp_board.specs.Lists.{one_at}
 use Rattle.xp_board.specs.Found.{Found}
 use Rattle.xp_board.specs.Hands.{brought, brought_as, refs_to, typed_to, hand, typed_hand}
-use Rattle.xp_board.specs.Recorded.{HasType, names, names_typed}
+use Rattle.xp_board.specs.Recorded.{names, names_typed}
 use Rattle.xp_board.specs.Settling.{HasDemand, HasLastDemand, demand_in, demand_out}
 use Rattle.xp_board.specs.RefSteps.{SparesClosing}
 use Rattle.xp_words.specs.Machine.{Machine}
@@ -17,7 +17,6 @@ use Rattle.xp_board.specs.Readings.{kind_at}
 use Rattle.board_lemmas.proofs.Sums.{one_at-same, one_at-other}
 use Rattle.count_rule.proofs.Quiet.{is_closing_at}
 use Rattle.board_lemmas.proofs.ListCounts.{times_by-cons, times_by-without}
-use Rattle.board_lemmas.proofs.HandLists.{EachOf-without}
 
 -- ---- the hand
 abbrev pub IsInHand : Demand → Holdings → Type 0
@@ -53,21 +52,6 @@ in_typed sure g Nothing u = omega arith
 in_typed sure g Bad u = omega arith
 in_typed sure g (Read f) u = omega arith
 in_typed sure g (Typed f t) u = let e = times_by-cons (λ y. y.frame) g (brought_as sure f t u) u.typed in omega arith
-
--- the types of typed references
-pub out_types : (m : Place → ℕ) (d : Demand) (u : Holdings) → EachOf (λ y. HasType m y.frame y.kind) u.typed → EachOf (λ y. HasType m y.frame y.kind) (demand_out d u).typed
-out_types m Nothing u k = k
-out_types m Bad u k = k
-out_types m (Read f) u k = k
-out_types m (Typed f t) u k = EachOf-without (λ y. HasType m y.frame y.kind) (λ y. y.frame) f u.typed k
-
-pub in_types : (sure : Bool) (m : Place → ℕ) (d : Demand) (u : Holdings) → ((g : ℕ) (t : PageType) → d ≡ Typed g t → (kind_at m g).kind ≡ t) → EachOf (λ y. HasType m y.frame y.kind) u.typed →
-    EachOf (λ y. HasType m y.frame y.kind) (demand_in sure d u).typed
-unfolding EachOf
-in_types sure m Nothing u e k = k
-in_types sure m Bad u e k = k
-in_types sure m (Read f) u e k = k
-in_types sure m (Typed f t) u e k = (e f t refl, k)
 
 -- a closing frame keeps an untyped reference
 abbrev pub Spares : Demand → Holdings → Type 0

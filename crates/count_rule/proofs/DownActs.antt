@@ -32,11 +32,13 @@ use Rattle.count_rule.proofs.ListMoves.{cons_other, out_other, cons_here, out_he
 use Rattle.count_rule.proofs.KindForms.{Says, live_says, closing_says}
 use Rattle.board_lemmas.proofs.HeldByForm.{held_live, held_work, held_same}
 use Rattle.board_lemmas.proofs.KindForms.{spelled_form}
-use Rattle.count_rule.proofs.KindSpelled.{form_was, drop_live, drop_some, drop_fields, lock_live, lock_on_word, lock_some, unlock_fields, kind_spelled}
-use Rattle.count_rule.proofs.KindActs.{stamp_live, Elsewhere, beside, rest_by, turn_outcome, free_outcome}
+use Rattle.count_rule.proofs.KindSpelled.{form_was, kind_spelled}
+use Rattle.count_rule.proofs.KindActs.{Elsewhere, beside, rest_by, turn_outcome, free_outcome}
 use Rattle.count_rule.proofs.KindWorks.{works_in}
 use Rattle.count_rule.proofs.Outcome.{Outcome}
 use Rattle.board_lemmas.proofs.HandLists.{EachOf-without}
+use Rattle.board_lemmas.proofs.KindReadings.{stamp_live}
+use Rattle.board_lemmas.proofs.CountsDown.{drop_live, drop_some, drop_word, lock_live, lock_set, lock_some, unlock_word}
 
 closing_off : (k : KindWord) → has_form k ≡ true → IsTrue (is_live k) → k.number ≡ 0 → (k.pinned ≡ false) × (k.locked ≡ false) × (k.unflushed ≡ false)
 unfolding has_form
@@ -151,9 +153,9 @@ module _ (n : Machine) (s : ℕ) (x : Step) (m m2 : Place → ℕ) (b c : ℕ �
 
   pub dropped_outcome : Dropped n x f m m2 (b s) (c s) → Outcome n m2 c
   dropped_outcome d =
-      let live = drop_live n s m m2 b seat sound f d.wrote.real d.may in
-      let some = drop_some n s m m2 b seat sound f d.wrote.real d.may in
-      let fields = drop_fields n s m m2 b seat sound f d.wrote.real d.may d.is in
+      let live = drop_live n m b sound s seat f d.may in
+      let some = drop_some n m b sound s seat f d.may in
+      let fields = drop_word n m b sound s seat f d.may (m2 (Kind f)) d.is in
       let number = ap (λ (y : KindWord). y.number) fields in
       let lock = ap bit (ap (λ (y : KindWord). y.locked) fields) in
       let out = out_here (λ y. y.frame) f (b s).typed (without_typed f (b s).typed) refl d.may.in_hand in
@@ -164,10 +166,10 @@ module _ (n : Machine) (s : ℕ) (x : Step) (m m2 : Place → ℕ) (b c : ℕ �
 
   pub unlocked_outcome : Unlocked n x f m m2 (b s) (c s) → Outcome n m2 c
   unlocked_outcome d =
-      let live = lock_live n s m m2 b seat sound f d.wrote.real d.may in
-      let on = ap bit (lock_on_word n s m m2 b seat sound f d.wrote.real d.may) in
-      let some = lock_some n s m m2 b seat sound f d.wrote.real d.may in
-      let fields = unlock_fields n s m m2 b seat sound f d.wrote.real d.may d.is in
+      let live = lock_live n m b sound s seat f d.may in
+      let on = ap bit (lock_set n m b sound s seat f d.may) in
+      let some = lock_some n m b sound s seat f d.may in
+      let fields = unlock_word n m b sound s seat f d.may (m2 (Kind f)) d.is in
       let number = ap (λ (y : KindWord). y.number) fields in
       let lock = ap bit (ap (λ (y : KindWord). y.locked) fields) in
       let out = out_here (λ y. y.frame) f (b s).locks (without_lock f (b s).locks) refl d.may in

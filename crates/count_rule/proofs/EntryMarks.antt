@@ -1,24 +1,18 @@
 -- Marks that record an entry of a table in work, or take it back into the hand.
-use Rattle.std.proofs.Common.{◌≡◌, ◌≢◌, ℕ, ◌+◌, ◌<◌, Bool, true, false, [], Option, Some, None, refl, sym, ◌∙◌, ap, subst, arith, IsTrue, inl, inr}
+use Rattle.std.proofs.Common.{◌≡◌, ◌≢◌, ℕ, ◌+◌, ◌<◌, false, [], Some, refl, sym, ◌∙◌, ap, subst, arith, IsTrue, inl, inr}
 use Rattle.std.proofs.lemmas.Bool.{cases_eq}
-use Rattle.std.proofs.lemmas.Bool.Decides.{nat_tests}
 use Rattle.xp_words.specs.declared.kind.PageType.{PageType}
-use Rattle.xp_words.specs.declared.kind.KindWord.{KindWord}
 use Rattle.xp_words.specs.declared.entry.Demand.TheVariants.{Typed}
-use Rattle.xp_words.specs.Entries.{demand_at}
 use Rattle.xp_words.specs.PageTypes.{is_table}
 use Rattle.xp_words.specs.KindWords.{kind_fields}
 use Rattle.xp_words.specs.Machine.{Machine}
-use Rattle.xp_words.specs.Places.{sizes_of, Place, Cell}
+use Rattle.xp_words.specs.Places.{sizes_of, Place}
 use Rattle.xp_board.specs.declared.holdings.Holdings.{Holdings}
 use Rattle.xp_board.specs.declared.holdings.Work.{Work}
-use Rattle.xp_board.specs.declared.holdings.Seen.{Seen}
 use Rattle.xp_board.specs.Lists.{first_by, EachOf}
 use Rattle.xp_board.specs.Readings.{kind_at}
-use Rattle.xp_board.specs.Steps.{last_since}
 use Rattle.xp_board.specs.Hands.{refs_to, works_on, work_on, hand, typed_hand, changed_work}
 use Rattle.xp_board.specs.Recorded.{held, held_of, entry_demand, names, names_typed, entries, recorded_in, recorded_number, HasType, TypesAgree}
-use Rattle.xp_board.specs.Found.{is_known_inside, is_same_cell, is_same_entry}
 use Rattle.xp_board.specs.Sound.{HeldAlone, Sound}
 use Rattle.board_lemmas.proofs.ListChanges.{first_by-changed_here, first_by-changed_other}
 use Rattle.count_rule.proofs.Twins.{EachTwo, EachTwo-changed_at, EachTwo-times, LikeWork}
@@ -26,50 +20,12 @@ use Rattle.board_lemmas.proofs.Works.{held_mine}
 use Rattle.count_rule.proofs.CountLaw.{counts_law, each_seat}
 use Rattle.count_rule.proofs.PartLaws.{alone_law, map_law, works_law, idle_fewer}
 use Rattle.count_rule.proofs.Quiet.{held_still, is_closing_at, works_spared}
-use Rattle.board_lemmas.proofs.Counted.{table_inside}
-use Rattle.board_lemmas.proofs.EntryWords.{entry_asks_same}
 use Rattle.count_rule.proofs.Outcome.{Outcome}
-use Rattle.board_lemmas.proofs.WorkFacts.{Works, works_facts}
-
-known_inside : (k : KindWord) → IsTrue (is_table k.kind) → k.unflushed ≡ false → IsTrue (is_known_inside k)
-known_inside k t u = grind (arith, nat_tests)
-
-table_cell : (kind : PageType) (w v : ℕ) → IsTrue (is_table kind) → IsTrue (is_same_cell kind w v) → IsTrue (is_same_entry w v)
-table_cell kind w v t e = rw t at e
+use Rattle.board_lemmas.proofs.WorkFacts.{works_facts, work_word}
 
 no_work : (f : ℕ) (e : Work) → work_on f [] ≡ Some e → ⊥
 unfolding first_by
 no_work f e k = cc
-
-not_marked : (t : Bool) (seen : Option Seen) (x : Seen) → (t ≡ true → seen ≡ None) → seen ≡ Some x → t ≡ false
-not_marked true seen x k e = let n = k refl in absurd (cc)
-not_marked false seen x k e = refl
-
--- ---- a table in the own work, and the entry that was loaded last
-module _ (n : Machine) (s : ℕ) (m : Place → ℕ) (h : ℕ → Holdings) (seat : s < (sizes_of n).vcpus) (sound : Sound n m h) (f : ℕ) (e : Work) (here : work_on f (h s).works ≡ Some e) where
-  work_facts : Works n m h s f e
-  work_facts = works_facts n m h s f e sound seat here
-
-  pub work_word : kind_at m f ≡ kind_fields e.word
-  work_word = ap kind_fields work_facts.word
-
-  pub work_held : IsTrue (is_table (kind_fields e.word).kind) → held (sizes_of n) m h f ≡ e.recorded
-  unfolding held_of
-  work_held t = held_mine n m h sound.alone f s e seat here ∙ rw (work_word, t) refl
-
-  pub work_inside : IsTrue (is_table (kind_fields e.word).kind) → f < (sizes_of n).frames
-  work_inside t = table_inside n m f sound.spelled (rw work_word t)
-
-  pub seen_unmarked : (x : Seen) → e.seen ≡ Some x → (kind_fields e.word).unflushed ≡ false
-  seen_unmarked x k = not_marked (kind_fields e.word).unflushed e.seen x work_facts.formed.marked k
-
-  -- what it asks
-  pub seen_demand : (i w : ℕ) → IsTrue (is_table (kind_fields e.word).kind) → e.seen ≡ Some (record { index = i; word = w }) → entry_demand m f i ≡ demand_at (kind_fields e.word).kind i w
-  seen_demand i w t k =
-      let noted : last_since (sizes_of n) e.unmarked (Cell e.frame i) (h s).steps ≡ Some w = rw k at work_facts.formed.seen in
-      let cell = work_facts.found.cells (known_inside (kind_fields e.word) t (seen_unmarked _ k)) i w noted in
-      let same = table_cell (kind_fields e.word).kind (m (Cell e.frame i)) w t cell in
-      ap (λ y. demand_at y.kind i (m (Cell f i))) work_word ∙ ap (λ g. demand_at (kind_fields e.word).kind i (m (Cell g i))) (sym work_facts.frame) ∙ entry_asks_same (kind_fields e.word).kind i (m (Cell e.frame i)) w same
 
 -- ---- one entry more, or one less
 module _ (n : Machine) (s : ℕ) (m : Place → ℕ) (h b : ℕ → Holdings) (seat : s < (sizes_of n).vcpus) (others : (t : ℕ) → t ≢ s → b t ≡ h t) (sound : Sound n m h) (f : ℕ) (e : Work) (here : work_on f (h s).works ≡ Some e) (change : Work → Work) where
@@ -125,7 +81,7 @@ module _ (n : Machine) (s : ℕ) (m : Place → ℕ) (h b : ℕ → Holdings) (s
 
     pub mark_held_here : HeldAlone n m b → IsTrue (is_table (kind_fields e.word).kind) → held (sizes_of n) m b f ≡ (change e).recorded
     unfolding held_of
-    mark_held_here alone t = held_mine n m b alone f s (change e) seat work_after ∙ rw (work_word n s m h seat sound f e here, t) refl
+    mark_held_here alone t = held_mine n m b alone f s (change e) seat work_after ∙ rw (work_word n m h s f e (works_facts n m h s f e sound seat here), t) refl
 
   module _ (move : MarkMove) where
     alone : HeldAlone n m b

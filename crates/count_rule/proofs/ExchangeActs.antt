@@ -1,7 +1,7 @@
 -- An entry of a table under the own lock is exchanged for one that asks another frame.
 use Rattle.xp_board.specs.ContextSteps.{context_type}
 use Rattle.xp_board.specs.After.{learned_cell}
-use Rattle.std.proofs.Common.{◌≡◌, ◌≢◌, ℕ, ◌+◌, ◌<◌, true, false, Option, Some, None, refl, sym, ◌∙◌, ap, subst, arith, IsTrue, inl, inr}
+use Rattle.std.proofs.Common.{◌≡◌, ◌≢◌, ℕ, ◌+◌, ◌<◌, true, false, Some, refl, sym, ◌∙◌, ap, subst, arith, IsTrue, inl, inr}
 use Rattle.std.proofs.lemmas.Bool.{and_parts}
 use Rattle.std.proofs.lemmas.Bool.Decides.{nat_tests}
 use Rattle.xp_words.specs.declared.kind.PageType.{PageType}
@@ -14,7 +14,6 @@ use Rattle.xp_words.specs.KindWords.{kind_fields, has_form}
 use Rattle.xp_words.specs.Machine.{Machine}
 use Rattle.xp_words.specs.Places.{sizes_of, is_place, Place, Clock, Pages, Vcpu, Refs, Kind, Cell, Map, run_of}
 use Rattle.xp_board.specs.declared.holdings.Holdings.{Holdings}
-use Rattle.xp_board.specs.declared.holdings.Lock.{Lock}
 use Rattle.xp_board.specs.declared.step.Step.{Step}
 use Rattle.xp_board.specs.Lists.{EachOf}
 use Rattle.xp_board.specs.Readings.{kind_at, is_locked}
@@ -28,12 +27,12 @@ use Rattle.board_lemmas.proofs.PlaceTests.{same_or_other}
 use Rattle.board_lemmas.proofs.HandLists.{EachOf-map}
 use Rattle.count_rule.proofs.Twins.{EachTwo, EachTwo-each, SameWork, SameLock, SameClaim, recorded_in-same}
 use Rattle.board_lemmas.proofs.Works.{held_free}
-use Rattle.board_lemmas.proofs.Counted.{entries-one, table_entries-changed, contexts-same}
+use Rattle.board_lemmas.proofs.Counted.{entries-one, table_entries-changed, contexts-same, hand_is, typed_hand_is, has_type-same}
 use Rattle.count_rule.proofs.CountLaw.{each_seat}
 use Rattle.count_rule.proofs.PartLaws.{stamped_by, idle_running}
 use Rattle.count_rule.proofs.Learning.{works_learnt, locks_learnt, claims_learnt}
-use Rattle.count_rule.proofs.Quiet.{hand_is, typed_hand_is, held_still, locks_times}
-use Rattle.count_rule.proofs.Demands.{IsInHand, Spares, out_hand, out_typed, in_hand, in_typed, out_types, in_types, out_spares, in_more, has_demand, demand_type}
+use Rattle.count_rule.proofs.Quiet.{held_still, locks_times}
+use Rattle.count_rule.proofs.Demands.{IsInHand, Spares, out_hand, out_typed, in_hand, in_typed, out_spares, in_more, has_demand, demand_type}
 use Rattle.board_lemmas.proofs.HeldByForm.{held_live}
 use Rattle.count_rule.proofs.KindSpelled.{form_was}
 use Rattle.count_rule.proofs.SpelledLaw.{wrote_spelled}
@@ -41,15 +40,13 @@ use Rattle.count_rule.proofs.Outcome.{Outcome, runs}
 use Rattle.count_rule.proofs.HandLaw.{HandMove, hand_outcome}
 use Rattle.board_lemmas.proofs.HandParts.{Beside, Translations, beside_then, translations_then, beside_out, beside_in, translations_out, translations_in}
 use Rattle.board_lemmas.proofs.LockFacts.{Locks, lock_facts}
+use Rattle.board_lemmas.proofs.HandTypes.{typed_out, typed_in}
 
 locked_free : (k : KindWord) → has_form k ≡ true → is_locked k ≡ true → is_busy k ≡ false
 unfolding has_form
 locked_free k form locked = grind (arith, nat_tests)
 
 module _ (n : Machine) (s : ℕ) (x : Step) (m m2 : Place → ℕ) (b c : ℕ → Holdings) (seat : s < (sizes_of n).vcpus) (others : (t : ℕ) → t ≢ s → c t ≡ b t) (may : MayAct n s x (b s)) (sound : Sound n m b) (f i : ℕ) (d : Exchanged n x f i m m2 (b s) (c s)) where
-  abbrev lock : Lock
-  lock = d.e
-
   abbrev old : Demand
   old = demand_at d.e.kind i (m (Cell f i))
 
@@ -147,10 +144,6 @@ module _ (n : Machine) (s : ℕ) (x : Step) (m m2 : Place → ℕ) (b c : ℕ �
       let q = ap count new_is in
       omega arith
 
-  type_same : (g : ℕ) (o : Option PageType) → HasType m g o → HasType m2 g o
-  type_same g (Some t) e = rw (kinds_same g) e
-  type_same g None e = tt
-
   entry_type : (g j h : ℕ) (t : PageType) → j < held (sizes_of n) m2 c g → entry_demand m2 g j ≡ Typed h t → (kind_at m2 h).kind ≡ t
   entry_type g j h t l e =
       elim (same_or_other (Cell g j) (Cell f i)) [
@@ -169,14 +162,14 @@ module _ (n : Machine) (s : ℕ) (x : Step) (m m2 : Place → ℕ) (b c : ℕ �
   types_moved =
       record {
         entries = entry_type;
-        contexts = λ w j g p q t e. type_same g (context_type j) (sound.counts.kinds.contexts w j g p q t (sym (d.wrote.others (Vcpu w j) (λ k. cc)) ∙ e));
+        contexts = λ w j g p q t e. has_type-same m m2 g (context_type j) (kinds_same g) (sound.counts.kinds.contexts w j g p q t (sym (d.wrote.others (Vcpu w j) (λ k. cc)) ∙ e));
         typed = each_seat n s m m2 b c seat others (λ t u. EachOf (λ e. HasType m2 e.frame e.kind) u.typed)
             (subst (λ y. EachOf (λ e. HasType m2 e.frame e.kind) y) (sym (ap (λ y. y.typed) d.hand))
-            (EachOf-map (λ e. HasType m e.frame e.kind) _ moved.typed (λ e k. type_same e.frame e.kind k) (in_types true m old between old_type (out_types m new (b s) (sound.counts.kinds.typed s seat)))))
-            (λ t l off. EachOf-map (λ e. HasType m e.frame e.kind) _ (b t).typed (λ e k. type_same e.frame e.kind k) (sound.counts.kinds.typed t l));
+            (EachOf-map (λ e. HasType m e.frame e.kind) _ moved.typed (λ e k. has_type-same m m2 e.frame e.kind (kinds_same e.frame) k) (typed_in true (λ y. HasType m y.frame y.kind) old between old_type (typed_out (λ y. HasType m y.frame y.kind) new (b s) (sound.counts.kinds.typed s seat)))))
+            (λ t l off. EachOf-map (λ e. HasType m e.frame e.kind) _ (b t).typed (λ e k. has_type-same m m2 e.frame e.kind (kinds_same e.frame) k) (sound.counts.kinds.typed t l));
         locks = each_seat n s m m2 b c seat others (λ t u. EachOf (λ e. HasType m2 e.frame (Some e.kind)) u.locks)
             (EachTwo-each SameLock (λ e. HasType m e.frame (Some e.kind)) _ _ _ (λ y z r k. rw (kinds_same z.frame) (ap (λ f. (kind_at m f).kind) r.frame ∙ k ∙ sym r.kind)) locks_kept (sound.counts.kinds.locks s seat))
-            (λ t l off. EachOf-map (λ e. HasType m e.frame (Some e.kind)) _ (b t).locks (λ e k. type_same e.frame (Some e.kind) k) (sound.counts.kinds.locks t l));
+            (λ t l off. EachOf-map (λ e. HasType m e.frame (Some e.kind)) _ (b t).locks (λ e k. has_type-same m m2 e.frame (Some e.kind) (kinds_same e.frame) k) (sound.counts.kinds.locks t l));
       }
 
   exchange_move : HandMove n s m m2 b c seat others

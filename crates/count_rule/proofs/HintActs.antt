@@ -22,13 +22,13 @@ use Rattle.step_effects.proofs.ActEffects.{Wrote, Hinted}
 use Rattle.board_lemmas.proofs.Sums.{hands-only, one_at-same, hands-part, hands-two, bit_most, some_bit}
 use Rattle.board_lemmas.proofs.ListCounts.{times_by-cons_here, times_by-cons_other, times_by-without, times_by-without_other}
 use Rattle.xp_board.proofs.RefWords.{is_dying-read, dying_says}
-use Rattle.count_rule.proofs.Bits.{set_small, set_here, set_other, has_bit, cleared_bit}
 use Rattle.count_rule.proofs.Learning.{Stays, works_kept, locks_kept, claims_kept}
 use Rattle.count_rule.proofs.PartLaws.{stamped_by, idle_running}
 use Rattle.count_rule.proofs.SpelledLaw.{wrote_spelled}
 use Rattle.count_rule.proofs.Outcome.{Outcome, calm_outcome, runs}
 use Rattle.count_rule.proofs.PageActs.{calm}
-use Rattle.count_rule.proofs.Hints.{Hint, sets, clears, hint_is}
+use Rattle.board_lemmas.proofs.Bits.{added_small, added_here, added_other, has_bit, cleared_bit}
+use Rattle.board_lemmas.proofs.Hints.{Hint, sets, clears, hint_is}
 
 bit_at_bit : (w i : ℕ) → bit (w / 2 ^ i % 2 == 1) ≡ bit_at w i
 bit_at_bit w i = grind (arith, nat_tests)
@@ -100,17 +100,17 @@ module _ (n : Machine) (s : ℕ) (x : Step) (m m2 : Place → ℕ) (b c : ℕ �
       let i = g % 64 in
       let off : bit_at (m (Map k)) i ≡ 0 = subst (λ y. bit_at (m (Map y)) i ≡ 0) word (held_bit n s m b seat sound g held ∙ none) in
       let inside = inside_bits n.frames g k (held_inside_machine n s m b seat sound g held) word in
-      let small = set_small (m (Map k)) i (map_bits n.frames k) off (was_small real) inside in
+      let small = added_small (m (Map k)) i (map_bits n.frames k) off (was_small real) inside in
       let few : 2 ^ map_bits n.frames k ≤ 2 ^ 64 = pow_mono room in
       let now : m2 (Map k) ≡ m (Map k) + 2 ^ i = is ∙ (omega arith) in (
         g,
         record {
           word = word;
           small = rw now small;
-          here = let h = ap (λ y. bit_at y i) now ∙ set_here (m (Map k)) i (map_bits n.frames k) off in
+          here = let h = ap (λ y. bit_at y i) now ∙ added_here (m (Map k)) i (map_bits n.frames k) off in
               let r = ap (times g) raised ∙ times_by-cons_here (λ y. y) g g (b s).raised refl in
               omega arith;
-          bits = λ j o. ap (λ y. bit_at y j) now ∙ set_other (m (Map k)) i (map_bits n.frames k) off j o;
+          bits = λ j o. ap (λ y. bit_at y j) now ∙ added_other (m (Map k)) i (map_bits n.frames k) off j o;
           raised = λ f o. ap (times f) raised ∙ times_by-cons_other (λ y. y) f g (b s).raised (λ e. o (sym e));
         },
       )
@@ -135,7 +135,7 @@ module _ (n : Machine) (s : ℕ) (x : Step) (m m2 : Place → ℕ) (b c : ℕ �
               let q = ap (times g) raised in
               let few = subst (λ y. bit_at (m (Map y)) i ≡ times g (b s).raised) word bits in
               omega arith;
-          bits = λ j o. sym (set_other (m2 (Map k)) i (map_bits n.frames k) off j o) ∙ ap (λ y. bit_at y j) now;
+          bits = λ j o. sym (added_other (m2 (Map k)) i (map_bits n.frames k) off j o) ∙ ap (λ y. bit_at y j) now;
           raised = λ f o. ap (times f) raised ∙ times_by-without_other (λ y. y) f g (b s).raised o;
         },
       )

@@ -1,7 +1,6 @@
 -- What each exchange of a kind word leaves.
-use Rattle.std.proofs.Common.{◌≡◌, ◌≢◌, ℕ, ◌+◌, ◌<◌, ◌≤◌, ◌⊎◌, if◌then◌else◌, Bool, true, false, Some, None, refl, sym, ◌∙◌, ap, subst, arith, inl}
+use Rattle.std.proofs.Common.{◌≡◌, ◌≢◌, ℕ, ◌+◌, ◌<◌, ◌≤◌, ◌⊎◌, false, Some, None, refl, sym, ◌∙◌, ap, subst, arith, inl}
 use Rattle.xp_words.specs.declared.kind.KindWord.{KindWord}
-use Rattle.xp_words.specs.KindWords.{kind_fields}
 use Rattle.xp_words.specs.Machine.{Machine}
 use Rattle.xp_words.specs.Places.{sizes_of, Place, Clock, Kind}
 use Rattle.xp_board.specs.declared.holdings.Holdings.{Holdings}
@@ -22,22 +21,6 @@ use Rattle.count_rule.proofs.KindLaw.{Rest, kind_outcome}
 use Rattle.count_rule.proofs.KindWorks.{works_apart}
 use Rattle.count_rule.proofs.Outcome.{Outcome}
 use Rattle.board_lemmas.proofs.Sums.{no_bit}
-
-pub stamp_live : (w : ℕ) (k : KindWord) → kind_fields w ≡ k → k.validated ≡ true → kind_stamp w ≡ 0
-unfolding kind_stamp
-stamp_live w k e v = rw (e, v) refl
-
-stamp_by : (t : Bool) (x : ℕ) → (if t then 0 else x) ≤ x
-stamp_by true x = omega arith
-stamp_by false x = omega arith
-
-pub stamp_number : (w : ℕ) (k : KindWord) → kind_fields w ≡ k → kind_stamp w ≤ k.number
-unfolding kind_stamp
-stamp_number w k e = rw e (stamp_by k.validated k.number)
-
-pub stamp_of : (w : ℕ) (k : KindWord) → kind_fields w ≡ k → k.validated ≡ false → kind_stamp w ≡ k.number
-unfolding kind_stamp
-stamp_of w k e v = rw (e, v) refl
 
 module _ (n : Machine) (s : ℕ) (x : Step) (m m2 : Place → ℕ) (b c : ℕ → Holdings) (seat : s < (sizes_of n).vcpus) (others : (t : ℕ) → t ≢ s → c t ≡ b t) (may : MayAct n s x (b s)) (sound : Sound n m b) (f : ℕ) where
   -- a frame that nobody has in hand alone, before and after

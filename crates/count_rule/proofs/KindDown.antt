@@ -6,27 +6,18 @@ use Rattle.xp_words.specs.KindWords.{kind_read, kind_fields, has_form, has_type}
 use Rattle.xp_board.specs.Readings.{is_live}
 use Rattle.xp_board.specs.KindSteps.{unlocked_down}
 use Rattle.xp_board.specs.RefSteps.{one_down}
-use Rattle.board_lemmas.proofs.KindForms.{fields_down, fields_unlocked}
 
 -- ---- what the sums leave
-down_type : (w : ℕ) → w < 2 ^ 64 → 0 < (kind_fields w).number → has_type ((w + one_down) % 2 ^ 64) ≡ has_type w
+pub down_type : (w : ℕ) → w < 2 ^ 64 → 0 < (kind_fields w).number → has_type ((w + one_down) % 2 ^ 64) ≡ has_type w
 unfolding kind_fields
 down_type w small some = let j : (w + one_down) % 2 ^ 64 / 2 ^ 52 ≡ w / 2 ^ 52 = omega arith in rw j refl
 
-unlock_type : (w : ℕ) → w < 2 ^ 64 → 0 < (kind_fields w).number → (kind_fields w).locked ≡ true → has_type ((w + unlocked_down) % 2 ^ 64) ≡ has_type w
+pub unlock_type : (w : ℕ) → w < 2 ^ 64 → 0 < (kind_fields w).number → (kind_fields w).locked ≡ true → has_type ((w + unlocked_down) % 2 ^ 64) ≡ has_type w
 unfolding kind_fields
 unlock_type w small some on =
     let o : w / 2 ^ 48 % 2 ≡ 1 = grind (arith, nat_tests) in
     let j : (w + unlocked_down) % 2 ^ 64 / 2 ^ 52 ≡ w / 2 ^ 52 = omega arith in
     rw j refl
-
-pub dropped_fields : (w : ℕ) → w < 2 ^ 64 → 0 < (kind_fields w).number →
-    (kind_fields ((w + one_down) % 2 ^ 64) ≡ record (kind_fields w) { number = (kind_fields w).number - 1 }) × (has_type ((w + one_down) % 2 ^ 64) ≡ has_type w)
-dropped_fields w small some = (fields_down w small some, down_type w small some)
-
-pub unlocked_fields : (w : ℕ) → w < 2 ^ 64 → 0 < (kind_fields w).number → (kind_fields w).locked ≡ true →
-    (kind_fields ((w + unlocked_down) % 2 ^ 64) ≡ record (kind_fields w) { locked = false; number = (kind_fields w).number - 1 }) × (has_type ((w + unlocked_down) % 2 ^ 64) ≡ has_type w)
-unlocked_fields w small some on = (fields_unlocked w small some on, unlock_type w small some on)
 
 pub read_made : (w : ℕ) → has_type w ≡ true → has_form (kind_fields w) ≡ true → kind_read w ≡ Some (kind_fields w)
 unfolding kind_read

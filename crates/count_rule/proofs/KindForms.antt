@@ -1,5 +1,5 @@
 -- What a kind word says, by its form.
-use Rattle.std.proofs.Common.{◌≡◌, ℕ, ◌<◌, ◌==◌, true, false, refl, arith, IsTrue}
+use Rattle.std.proofs.Common.{◌≡◌, ℕ, ◌<◌, ◌==◌, true, false, refl, arith, IsTrue, Bool, if◌then◌else◌}
 use Rattle.std.proofs.lemmas.Bool.{and_parts}
 use Rattle.std.proofs.lemmas.Bool.Decides.{nat_tests}
 use Rattle.xp_words.specs.declared.kind.KindWord.{KindWord}
@@ -15,9 +15,6 @@ pub record Says (k : KindWord) (count mark busy lock : ℕ) : Type 0 where
   pub mark_is : marks k ≡ mark
   pub busy_is : bit (is_busy k) ≡ busy
   pub lock_is : bit (is_locked k) ≡ lock
-
-bit_zero : (x : ℕ) → 0 < x → bit (x == 0) ≡ 0
-bit_zero x b = grind (arith, nat_tests)
 
 pub live_says : (k : KindWord) → has_form k ≡ true → IsTrue (is_live k) → 0 < k.number → Says k k.number (bit k.pinned) 0 (bit k.locked)
 unfolding has_form type_count marks
@@ -64,3 +61,17 @@ dead_says k form dead =
     let pinned : k.pinned ≡ false = grind (arith, nat_tests) in
     let kept : k.kept ≡ false = grind (arith, nat_tests) in
     record { counts = rw (live, part, locked) refl; mark_is = rw (kept, pinned) refl; busy_is = rw (live, part, locked) refl; lock_is = rw live refl }
+
+-- ---- what else a form rules out
+pub closing_flushed : (k : KindWord) → has_form k ≡ true → IsTrue (is_closing k) → k.unflushed ≡ false
+unfolding has_form
+closing_flushed k form closing = grind (arith, nat_tests)
+
+-- the number of an unmarked partial word is no stamp
+pub partial_number : (k : KindWord) → has_form k ≡ true → IsTrue (is_partial k) → k.unflushed ≡ false → k.number ≡ 0
+unfolding has_form
+partial_number k form partial flushed = grind (arith, nat_tests)
+
+pub same_if : (t : Bool) (x y : ℕ) → (t ≡ true → x ≡ y) → (if t then x else 0) ≡ (if t then y else 0)
+same_if true x y e = e refl
+same_if false x y e = refl

@@ -13,8 +13,8 @@ use Rattle.xp_board.specs.Recorded.{held, entry_demand, marks, HasType, is_page_
 use Rattle.xp_board.specs.Sound.{is_busy, Spelled, HeldAlone, WorkAgrees, Sound}
 use Rattle.count_rule.proofs.CountLaw.{pages_of, Steady, types_steady, counted_steady, counts_law}
 use Rattle.count_rule.proofs.PartLaws.{alone_law, map_law, works_law, stamped_by, idle_running}
-use Rattle.count_rule.proofs.Quiet.{hand_is, typed_hand_is, held_still}
-use Rattle.board_lemmas.proofs.Counted.{held_inside}
+use Rattle.count_rule.proofs.Quiet.{held_still}
+use Rattle.board_lemmas.proofs.Counted.{held_inside, hand_is, typed_hand_is}
 use Rattle.count_rule.proofs.Outcome.{Outcome, runs}
 use Rattle.board_lemmas.proofs.Sums.{sum_below-same}
 

@@ -1,6 +1,5 @@
 -- What an act on a kind word stores is a spelling.
-use Rattle.std.proofs.Common.{◌≡◌, ℕ, ◌+◌, ◌-◌, ◌%◌, ◌^◌, ◌<◌, ◌≤◌, true, false, Option, Some, None, refl, sym, ◌∙◌, ap, subst, arith, IsTrue, inl, inr}
-use Rattle.std.proofs.lemmas.Bool.{and_parts}
+use Rattle.std.proofs.Common.{◌≡◌, ℕ, ◌+◌, ◌%◌, ◌^◌, ◌<◌, ◌≤◌, true, Option, Some, None, refl, sym, ◌∙◌, ap, subst, arith, IsTrue, inl, inr}
 use Rattle.std.proofs.lemmas.Bool.Decides.{nat_tests}
 use Rattle.xp_words.specs.declared.kind.KindWord.{KindWord}
 use Rattle.xp_words.specs.KindWords.{kind_read, kind_fields, has_form, has_type}
@@ -9,7 +8,7 @@ use Rattle.xp_words.specs.Places.{sizes_of, is_place, Place, Kind}
 use Rattle.xp_board.specs.declared.holdings.Holdings.{Holdings}
 use Rattle.xp_board.specs.declared.step.Step.{Step}
 use Rattle.xp_board.specs.declared.step.StepKind.TheVariants as steps
-use Rattle.xp_board.specs.Readings.{kind_at, is_live, is_locked, type_count}
+use Rattle.xp_board.specs.Readings.{kind_at, is_live}
 use Rattle.xp_board.specs.Hands.{typed_to, locks_on, typed_hand}
 use Rattle.xp_board.specs.Recorded.{marks, hands}
 use Rattle.xp_board.specs.KindSteps.{MayDrop, unlocked_down}
@@ -18,12 +17,13 @@ use Rattle.xp_board.specs.Spelling.{IsSpelling, is_kind_in}
 use Rattle.xp_board.specs.Keeping.{MayAct}
 use Rattle.xp_board.specs.Sound.{Spelled, Sound}
 use Rattle.step_effects.proofs.ActEffects.{Wrote}
-use Rattle.board_lemmas.proofs.Sums.{hands-plus, hands-part, some_bit}
-use Rattle.count_rule.proofs.Quiet.{typed_hand_is}
-use Rattle.board_lemmas.proofs.KindForms.{spelled_form}
-use Rattle.count_rule.proofs.KindDown.{dropped_fields, unlocked_fields, read_made, read_type, dropped_form, unlocked_form}
+use Rattle.board_lemmas.proofs.Sums.{hands-plus, hands-part}
+use Rattle.board_lemmas.proofs.KindForms.{spelled_form, fields_of}
+use Rattle.count_rule.proofs.KindDown.{read_made, read_type, dropped_form, unlocked_form, down_type, unlock_type}
 use Rattle.count_rule.proofs.SpelledLaw.{wrote_spelled}
-use Rattle.step_effects.proofs.FrameInversions.{fields_of}
+use Rattle.board_lemmas.proofs.Counted.{typed_hand_is}
+use Rattle.board_lemmas.proofs.CountsDown.{drop_live, drop_some, drop_word, lock_live, lock_set, lock_some, unlock_word}
+use Rattle.board_lemmas.proofs.KindReadings.{live_count}
 
 limit_by : (n : Machine) (k : KindWord) → IsTrue (is_kind_in n (Some k)) → IsTrue (is_live k) → k.number ≤ n.limit
 limit_by n k t live = grind (arith, nat_tests)
@@ -54,9 +54,6 @@ module _ (n : Machine) (s : ℕ) (m m2 : Place → ℕ) (b : ℕ → Holdings) (
   limit_was live = kind_limit n (m (Kind f)) (kind_read (m (Kind f))) refl was live
 
   -- ---- the counts of a live frame
-  pub live_count : IsTrue (is_live (kind_at m f)) → type_count (kind_at m f) ≡ (kind_at m f).number
-  unfolding type_count
-  live_count live = rw live refl
 
   marks_pinned : (kind_at m f).pinned ≡ true → 1 ≤ marks (kind_at m f)
   unfolding marks
@@ -65,7 +62,7 @@ module _ (n : Machine) (s : ℕ) (m m2 : Place → ℕ) (b : ℕ → Holdings) (
   pub typed_counts : IsTrue (is_live (kind_at m f)) → marks (kind_at m f) + (hands (λ u. typed_to f u.typed) (sizes_of n) b + hands (λ u. locks_on f u.locks) (sizes_of n) b) ≤ (kind_at m f).number
   typed_counts live =
       let all = sound.counts.types f in
-      let count = live_count live in
+      let count = live_count (kind_at m f) live in
       let both = hands-plus (λ u. typed_to f u.typed) (λ u. locks_on f u.locks) (typed_hand f) (sizes_of n) b (λ u. typed_hand_is f u) in
       omega arith
 
@@ -74,19 +71,9 @@ module _ (n : Machine) (s : ℕ) (m m2 : Place → ℕ) (b : ℕ → Holdings) (
 
   -- ---- a type count is given back
   module _ (drop : MayDrop n f (b s)) where
-    pub drop_live : IsTrue (is_live (kind_at m f))
-    drop_live = ((sound.found s seat).lives f drop.kind drop.live).0
-
-    pub drop_some : 0 < (kind_at m f).number
-    drop_some =
-        let all = typed_counts drop_live in
-        let mine = hands-part (λ u. typed_to f u.typed) (sizes_of n) b s seat in
-        let has = drop.in_hand in
-        omega arith
-
     drop_pinned : (kind_at m f).pinned ≡ true → 2 ≤ (kind_at m f).number
     drop_pinned on =
-        let all = typed_counts drop_live in
+        let all = typed_counts (drop_live n m b sound s seat f drop) in
         let mine = hands-part (λ u. typed_to f u.typed) (sizes_of n) b s seat in
         let has = drop.in_hand in
         let mark = marks_pinned on in
@@ -94,62 +81,38 @@ module _ (n : Machine) (s : ℕ) (m m2 : Place → ℕ) (b : ℕ → Holdings) (
 
     drop_locked : (kind_at m f).locked ≡ true → 2 ≤ (kind_at m f).number
     drop_locked on =
-        let all = typed_counts drop_live in
+        let all = typed_counts (drop_live n m b sound s seat f drop) in
         let mine = hands-part (λ u. typed_to f u.typed) (sizes_of n) b s seat in
         let has = drop.in_hand in
-        let lock = locked_hands drop_live on in
+        let lock = locked_hands (drop_live n m b sound s seat f drop) on in
         omega arith
-
-    pub drop_fields : m2 (Kind f) ≡ (m (Kind f) + one_down) % 2 ^ 64 → kind_at m2 f ≡ record (kind_at m f) { number = (kind_at m f).number - 1 }
-    drop_fields is = ap kind_fields is ∙ (dropped_fields (m (Kind f)) (sound.spelled.small (Kind f)) drop_some).0
 
     drop_spelled : m2 (Kind f) ≡ (m (Kind f) + one_down) % 2 ^ 64 → IsSpelling n (Kind f) (m2 (Kind f))
     unfolding IsSpelling
     drop_spelled is =
-        let e = drop_fields is in
-        let form : has_form (kind_at m2 f) ≡ true = ap has_form e ∙ dropped_form (kind_at m f) form_was drop_live drop_some drop_pinned drop_locked in
-        let type : has_type (m2 (Kind f)) ≡ true = ap has_type is ∙ (dropped_fields (m (Kind f)) (sound.spelled.small (Kind f)) drop_some).1 ∙ type_was in
+        let e = drop_word n m b sound s seat f drop (m2 (Kind f)) is in
+        let form : has_form (kind_at m2 f) ≡ true = ap has_form e ∙ dropped_form (kind_at m f) form_was (drop_live n m b sound s seat f drop) (drop_some n m b sound s seat f drop) drop_pinned drop_locked in
+        let type : has_type (m2 (Kind f)) ≡ true = ap has_type is ∙ down_type (m (Kind f)) (sound.spelled.small (Kind f)) (drop_some n m b sound s seat f drop) ∙ type_was in
         let read = read_made (m2 (Kind f)) type form in
-        subst (λ y. IsTrue (is_kind_in n y)) (sym read) (live_in n (kind_at m2 f) (let k = limit_was drop_live in let j = ap (λ (y : KindWord). y.number) e in omega arith))
+        subst (λ y. IsTrue (is_kind_in n y)) (sym read) (live_in n (kind_at m2 f) (let k = limit_was (drop_live n m b sound s seat f drop) in let j = ap (λ (y : KindWord). y.number) e in omega arith))
 
   -- ---- a lock is given back
   module _ (held : 0 < locks_on f (b s).locks) where
-    lock_bit : is_locked (kind_at m f) ≡ true
-    lock_bit =
-        let all = sound.alone.locks f in
-        let mine = hands-part (λ u. locks_on f u.locks) (sizes_of n) b s seat in
-        some_bit (is_locked (kind_at m f)) (omega arith)
-
-    pub lock_live : IsTrue (is_live (kind_at m f))
-    lock_live = (and_parts _ _ lock_bit).0
-
-    pub lock_on_word : (kind_at m f).locked ≡ true
-    lock_on_word = (and_parts _ _ lock_bit).1
-
-    pub lock_some : 0 < (kind_at m f).number
-    lock_some =
-        let all = typed_counts lock_live in
-        let mine = hands-part (λ u. locks_on f u.locks) (sizes_of n) b s seat in
-        omega arith
-
     lock_pinned : (kind_at m f).pinned ≡ true → 2 ≤ (kind_at m f).number
     lock_pinned on =
-        let all = typed_counts lock_live in
+        let all = typed_counts (lock_live n m b sound s seat f held) in
         let mine = hands-part (λ u. locks_on f u.locks) (sizes_of n) b s seat in
         let mark = marks_pinned on in
         omega arith
 
-    pub unlock_fields : m2 (Kind f) ≡ (m (Kind f) + unlocked_down) % 2 ^ 64 → kind_at m2 f ≡ record (kind_at m f) { locked = false; number = (kind_at m f).number - 1 }
-    unlock_fields is = ap kind_fields is ∙ (unlocked_fields (m (Kind f)) (sound.spelled.small (Kind f)) lock_some lock_on_word).0
-
     unlock_spelled : m2 (Kind f) ≡ (m (Kind f) + unlocked_down) % 2 ^ 64 → IsSpelling n (Kind f) (m2 (Kind f))
     unfolding IsSpelling
     unlock_spelled is =
-        let e = unlock_fields is in
-        let form : has_form (kind_at m2 f) ≡ true = ap has_form e ∙ unlocked_form (kind_at m f) form_was lock_live lock_some lock_pinned in
-        let type : has_type (m2 (Kind f)) ≡ true = ap has_type is ∙ (unlocked_fields (m (Kind f)) (sound.spelled.small (Kind f)) lock_some lock_on_word).1 ∙ type_was in
+        let e = unlock_word n m b sound s seat f held (m2 (Kind f)) is in
+        let form : has_form (kind_at m2 f) ≡ true = ap has_form e ∙ unlocked_form (kind_at m f) form_was (lock_live n m b sound s seat f held) (lock_some n m b sound s seat f held) lock_pinned in
+        let type : has_type (m2 (Kind f)) ≡ true = ap has_type is ∙ unlock_type (m (Kind f)) (sound.spelled.small (Kind f)) (lock_some n m b sound s seat f held) (lock_set n m b sound s seat f held) ∙ type_was in
         let read = read_made (m2 (Kind f)) type form in
-        subst (λ y. IsTrue (is_kind_in n y)) (sym read) (live_in n (kind_at m2 f) (let k = limit_was lock_live in let j = ap (λ (y : KindWord). y.number) e in omega arith))
+        subst (λ y. IsTrue (is_kind_in n y)) (sym read) (live_in n (kind_at m2 f) (let k = limit_was (lock_live n m b sound s seat f held) in let j = ap (λ (y : KindWord). y.number) e in omega arith))
 
 pub kind_spelled : (n : Machine) (s : ℕ) (x : Step) (m m2 : Place → ℕ) (b : ℕ → Holdings) → s < (sizes_of n).vcpus → MayAct n s x (b s) → Sound n m b → (f : ℕ) → Wrote n x (Kind f) steps.Kind m m2 (b s) → Spelled n m2
 kind_spelled n s x m m2 b seat may sound f d =

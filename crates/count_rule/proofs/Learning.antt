@@ -1,7 +1,7 @@
 -- What a hand keeps as it learns a word.
 use Rattle.std.proofs.Common.{◌≡◌, ℕ, ◌==◌, Bool, List, [], refl, sym, ◌∙◌}
 use Rattle.xp_words.specs.KindWords.{kind_fields}
-use Rattle.xp_words.specs.Places.{Place, Clock, Pages, Life, Vcpu, Refs, Kind, M2p, Cell, Map, Priv}
+use Rattle.xp_words.specs.Places.{Place}
 use Rattle.xp_board.specs.declared.holdings.Holdings.{Holdings}
 use Rattle.xp_board.specs.declared.holdings.Work.{Work}
 use Rattle.xp_board.specs.declared.holdings.Lock.{Lock}
@@ -11,7 +11,8 @@ use Rattle.xp_board.specs.Lists.{kept_of}
 use Rattle.xp_board.specs.Hands.{IsEmptyHand}
 use Rattle.xp_board.specs.After.{noted, learned, learned_cell, learned_work, learned_lock, learned_claim, learned_life, learned_own}
 use Rattle.count_rule.proofs.Twins.{EachTwo, EachTwo-same, EachTwo-changed, EachTwo-none, SameWork, SameLock, SameClaim}
-use Rattle.board_lemmas.proofs.HandParts.{either, References, Beside, references_own, beside_own, translations_own}
+use Rattle.board_lemmas.proofs.HandParts.{References, Beside, references_own, beside_own, translations_own, learned_by}
+use Rattle.board_lemmas.proofs.Sums.{either}
 
 same_work : (e : Work) → SameWork e e
 same_work e = record { frame = refl; word = refl; recorded = refl }
@@ -178,17 +179,9 @@ still_own k w b =
     record { cache = far.cache; walk = far.walk; cold = far.cold; looking = λ e. (beside_own k w b).looking ∙ e }
 
 pub learnt : (s : ℕ) (p : Place) (found left : ℕ) (b : Holdings) → Learnt b (learned s p found left b)
-learnt s (Cell f i) found left b =
-    record { kept = kept_cell f i left b b (same_hand b); still = record { cache = refl; walk = refl; cold = refl; looking = λ e. e } }
-learnt s (Vcpu v k) found left b = either (Learnt b) (v == s) _ _ (learnt_same b _ (same_own k left b) (still_own k left b)) (nothing b)
-learnt s (Life d) found left b = learnt_same b _ (same_life d found b) (still_life d found b)
-learnt s Clock found left b = nothing b
-learnt s (Pages d) found left b = nothing b
-learnt s (Refs f) found left b = nothing b
-learnt s (Kind f) found left b = nothing b
-learnt s (M2p f) found left b = nothing b
-learnt s (Map k) found left b = nothing b
-learnt s (Priv d) found left b = nothing b
+learnt s p found left b =
+    learned_by (Learnt b) s p found left b (nothing b) (λ d. learnt_same b _ (same_life d found b) (still_life d found b)) (λ k. learnt_same b _ (same_own k left b) (still_own k left b))
+    (λ f i. record { kept = kept_cell f i left b b (same_hand b); still = record { cache = refl; walk = refl; cold = refl; looking = λ e. e } })
 
 pub empty_kept : (b c : Holdings) → Kept b c → (b.looking ≡ [] → c.looking ≡ []) → IsEmptyHand b → IsEmptyHand c
 empty_kept b c k looking old =

@@ -12,8 +12,6 @@ mod AwayActs
 mod Demands
 mod EntryMarks
 mod RecordMarks
-mod Bits
-mod Hints
 mod PageActs
 mod HintActs
 mod KindForms
@@ -26,7 +24,6 @@ mod KindActs
 mod TurnActs
 mod WorkActs
 mod DownActs
-mod StoreForms
 mod StoreActs
 mod PartialActs
 mod CellLaw

@@ -75,7 +75,3 @@ module _ (f : ℕ) (xs ys : List Work) where
   pub recorded_changed : (change : Work → Work) → ((y : Work) → (change y).frame ≡ y.frame) → ys ≡ changed_by (λ y. y.frame) f change xs → (g : ℕ) → g ≢ f → recorded_in ys g ≡ recorded_in xs g
   unfolding recorded_in
   recorded_changed change k e g off = rw e (ap recorded_number (first_by-changed_other (λ y. y.frame) g f change xs k off))
-
-  pub recorded_maybe : (t : Bool) (x : Work) → x.frame ≡ f → ys ≡ (if t then (x ∷ xs) else xs) → (g : ℕ) → g ≢ f → recorded_in ys g ≡ recorded_in xs g
-  recorded_maybe true x k e g off = recorded_cons x k e g off
-  recorded_maybe false x k e g off = recorded_kept e g off

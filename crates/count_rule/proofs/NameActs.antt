@@ -1,5 +1,5 @@
 -- A word of a vCPU names another frame, or none.
-use Rattle.std.proofs.Common.{◌≡◌, ◌≢◌, ℕ, ◌+◌, ◌<◌, ◌⊎◌, Option, Some, None, refl, sym, ◌∙◌, ap, subst, arith, add-one, IsTrue, inl, inr}
+use Rattle.std.proofs.Common.{◌≡◌, ◌≢◌, ℕ, ◌+◌, ◌<◌, Option, Some, None, refl, sym, ◌∙◌, ap, subst, arith, add-one, inl, inr}
 use Rattle.std.proofs.lemmas.Bool.Decides.{nat_tests}
 use Rattle.xp_words.specs.declared.kind.PageType.{PageType}
 use Rattle.xp_words.specs.Machine.{Machine}
@@ -7,7 +7,7 @@ use Rattle.xp_words.specs.Places.{sizes_of, is_place, Place, Clock, Pages, Vcpu,
 use Rattle.xp_board.specs.declared.holdings.Holdings.{Holdings}
 use Rattle.xp_board.specs.declared.step.Step.{Step}
 use Rattle.xp_board.specs.Lists.{one_at, EachOf}
-use Rattle.xp_board.specs.Readings.{kind_at, is_context}
+use Rattle.xp_board.specs.Readings.{kind_at}
 use Rattle.xp_board.specs.Hands.{refs_to, typed_to, typed_hand}
 use Rattle.xp_board.specs.ContextSteps.{context_type, FitsWord, NamesFrame, named_in, named_out}
 use Rattle.xp_board.specs.Recorded.{names, names_typed, contexts, held, entry_demand, HasType, TypesAgree}
@@ -17,20 +17,18 @@ use Rattle.xp_board.specs.Sound.{Sound}
 use Rattle.step_effects.proofs.ActEffects.{Named}
 use Rattle.board_lemmas.proofs.PlaceTests.{same_or_other}
 use Rattle.count_rule.proofs.Twins.{EachTwo-each, SameLock, recorded_in-same, EachTwo, SameWork, SameClaim}
-use Rattle.board_lemmas.proofs.Counted.{entries-same, contexts-one}
+use Rattle.board_lemmas.proofs.Counted.{entries-same, contexts-one, hand_is, typed_hand_is, not_context, has_type-same}
 use Rattle.count_rule.proofs.CountLaw.{each_seat}
 use Rattle.count_rule.proofs.PartLaws.{stamped_by, idle_running}
 use Rattle.count_rule.proofs.Learning.{Kept, Learnt, learnt, kept_noted}
-use Rattle.count_rule.proofs.Quiet.{hand_is, typed_hand_is, held_still, locks_times}
+use Rattle.count_rule.proofs.Quiet.{held_still, locks_times}
 use Rattle.count_rule.proofs.SpelledLaw.{wrote_spelled}
 use Rattle.count_rule.proofs.Outcome.{Outcome, cells_same, runs}
 use Rattle.count_rule.proofs.HandLaw.{HandMove, hand_outcome}
 use Rattle.board_lemmas.proofs.HandLists.{EachOf-map}
-use Rattle.count_rule.proofs.NameHands.{named_out_typed, named_in_typed, out_types, in_types, IsNamed}
+use Rattle.count_rule.proofs.NameHands.{named_out_typed, named_in_typed, IsNamed}
 use Rattle.board_lemmas.proofs.HandParts.{Beside, Translations, beside_then, translations_then, beside_named_out, beside_named_in, translations_named_out, translations_named_in, refs_named_in, refs_named_out}
-
-not_context : (k : ℕ) → (k ≡ 5) ⊎ (k ≡ 6) → IsTrue (is_context k) → ⊥
-not_context k e t = grind (arith, nat_tests)
+use Rattle.board_lemmas.proofs.HandTypes.{typed_named_out, typed_named_in}
 
 module _ (n : Machine) (s : ℕ) (x : Step) (m m2 : Place → ℕ) (b c : ℕ → Holdings) (seat : s < (sizes_of n).vcpus) (others : (t : ℕ) → t ≢ s → c t ≡ b t) (may : MayAct n s x (b s)) (sound : Sound n m b) (v k : ℕ) (d : Named n s x v k m m2 (b s) (c s)) where
   abbrev was : ℕ
@@ -85,10 +83,6 @@ module _ (n : Machine) (s : ℕ) (x : Step) (m m2 : Place → ℕ) (b c : ℕ �
   kinds_same : (g : ℕ) → m2 (Kind g) ≡ m (Kind g)
   kinds_same g = d.wrote.others (Kind g) (λ e. cc)
 
-  type_same : (g : ℕ) (o : Option PageType) → HasType m g o → HasType m2 g o
-  type_same g (Some t) e = rw (kinds_same g) e
-  type_same g None e = tt
-
   learnt_all : Learnt moved (learned s (Vcpu v k) was is moved)
   learnt_all = learnt s (Vcpu v k) was is moved
 
@@ -139,17 +133,17 @@ module _ (n : Machine) (s : ℕ) (x : Step) (m m2 : Place → ℕ) (b c : ℕ �
         contexts = λ w j g p q t e. elim (same_or_other (Vcpu w j) (Vcpu v k)) [
           | inl at ↦
               let i : j ≡ k = cc in
-              rw i (type_same g (context_type k) (new_type g (ap m2 (sym at) ∙ e)))
-          | inr off ↦ type_same g (context_type j) (sound.counts.kinds.contexts w j g p q t (sym (d.wrote.others (Vcpu w j) off) ∙ e))
+              rw i (has_type-same m m2 g (context_type k) (kinds_same g) (new_type g (ap m2 (sym at) ∙ e)))
+          | inr off ↦ has_type-same m m2 g (context_type j) (kinds_same g) (sound.counts.kinds.contexts w j g p q t (sym (d.wrote.others (Vcpu w j) off) ∙ e))
         ];
         typed = each_seat n s m m2 b c seat others (λ t u. EachOf (λ e. HasType m2 e.frame e.kind) u.typed)
             (subst (λ y. EachOf (λ e. HasType m2 e.frame e.kind) y) (sym kept.typed)
-            (EachOf-map (λ e. HasType m e.frame e.kind) _ moved.typed (λ e i. type_same e.frame e.kind i)
-            (in_types m k was (named_out is (b s)) (λ f e. sound.counts.kinds.contexts v k f place_real.0 place_real.1 d.word e) (out_types m is (b s) (sound.counts.kinds.typed s seat)))))
-            (λ t l off. EachOf-map (λ e. HasType m e.frame e.kind) _ (b t).typed (λ e i. type_same e.frame e.kind i) (sound.counts.kinds.typed t l));
+            (EachOf-map (λ e. HasType m e.frame e.kind) _ moved.typed (λ e i. has_type-same m m2 e.frame e.kind (kinds_same e.frame) i)
+            (typed_named_in (λ y. HasType m y.frame y.kind) k was (named_out is (b s)) (λ f e. sound.counts.kinds.contexts v k f place_real.0 place_real.1 d.word (e ∙ sym (add-one f))) (typed_named_out (λ y. HasType m y.frame y.kind) is (b s) (sound.counts.kinds.typed s seat)))))
+            (λ t l off. EachOf-map (λ e. HasType m e.frame e.kind) _ (b t).typed (λ e i. has_type-same m m2 e.frame e.kind (kinds_same e.frame) i) (sound.counts.kinds.typed t l));
         locks = each_seat n s m m2 b c seat others (λ t u. EachOf (λ e. HasType m2 e.frame (Some e.kind)) u.locks)
             (EachTwo-each SameLock (λ e. HasType m e.frame (Some e.kind)) _ _ _ (λ y z r i. rw (kinds_same z.frame) (ap (λ f. (kind_at m f).kind) r.frame ∙ i ∙ sym r.kind)) locks_kept (sound.counts.kinds.locks s seat))
-            (λ t l off. EachOf-map (λ e. HasType m e.frame (Some e.kind)) _ (b t).locks (λ e i. type_same e.frame (Some e.kind) i) (sound.counts.kinds.locks t l));
+            (λ t l off. EachOf-map (λ e. HasType m e.frame (Some e.kind)) _ (b t).locks (λ e i. has_type-same m m2 e.frame (Some e.kind) (kinds_same e.frame) i) (sound.counts.kinds.locks t l));
       }
 
   named_move : HandMove n s m m2 b c seat others
@@ -186,8 +180,8 @@ module _ (n : Machine) (s : ℕ) (x : Step) (m m2 : Place → ℕ) (b c : ℕ �
       let still = learnt_all.still in
       hand_outcome n s m m2 b c seat others sound named_move
       (wrote_spelled n s x (Vcpu v k) _ m m2 (b s) d.wrote may sound.machine sound.spelled (λ by l. absurd l) (λ v l. absurd l))
-      (stamped_by n m m2 (Vcpu v k) words (omega arith) (λ w e. let i : k ≡ 5 = cc in absurd (not_context k (inl i) word)) (λ g e. absurd (cc)) (λ g e. absurd (cc)) sound.stamped)
-      (idle_running n s m m2 b c seat others (words (run_of s) (λ e. let i : 6 ≡ k = cc in absurd (not_context k (inr (sym i)) word)) ∙ runs n s m m2 b c seat others sound (d.wrote.running refl))
-      (λ w off. words (run_of w) (λ e. let i : 6 ≡ k = cc in absurd (not_context k (inr (sym i)) word)))
+      (stamped_by n m m2 (Vcpu v k) words (omega arith) (λ w e. let i : k ≡ 5 = cc in absurd (not_context 5 k refl word i)) (λ g e. absurd (cc)) (λ g e. absurd (cc)) sound.stamped)
+      (idle_running n s m m2 b c seat others (words (run_of s) (λ e. let i : 6 ≡ k = cc in absurd (not_context 6 k refl word (sym i))) ∙ runs n s m m2 b c seat others sound (d.wrote.running refl))
+      (λ w off. words (run_of w) (λ e. let i : 6 ≡ k = cc in absurd (not_context 6 k refl word (sym i))))
       (λ e. sym (ap (λ y. y.cold) d.hand ∙ still.cold ∙ far.cold) ∙ e) (λ t e. (ap (λ y. y.cache) d.hand ∙ still.cache ∙ far.cache) ∙ e) (λ t e. (ap (λ y. y.walk) d.hand ∙ still.walk ∙ far.walk) ∙ e)
       sound.idle)

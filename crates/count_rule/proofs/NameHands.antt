@@ -1,15 +1,12 @@
 -- What a step on a word of a vCPU that names a frame leaves of the hand.
-use Rattle.std.proofs.Common.{◌≡◌, ◌≢◌, ℕ, zero, suc, ◌+◌, ◌<◌, refl, sym, arith, add-one, inl, inr}
+use Rattle.std.proofs.Common.{◌≡◌, ◌≢◌, ℕ, zero, suc, ◌+◌, ◌<◌, refl, arith, inl, inr}
 use Rattle.std.proofs.lemmas.Bool.{cases_eq}
-use Rattle.xp_words.specs.Places.{Place}
 use Rattle.xp_board.specs.declared.holdings.Holdings.{Holdings}
-use Rattle.xp_board.specs.Lists.{one_at, EachOf}
+use Rattle.xp_board.specs.Lists.{one_at}
 use Rattle.xp_board.specs.Hands.{typed_to, brought_name}
 use Rattle.xp_board.specs.ContextSteps.{context_type, named_in, named_out}
-use Rattle.xp_board.specs.Recorded.{HasType}
 use Rattle.board_lemmas.proofs.Sums.{when_eq, when_ne}
 use Rattle.board_lemmas.proofs.ListCounts.{times_by-cons, times_by-without}
-use Rattle.board_lemmas.proofs.HandLists.{EachOf-without}
 
 pub one_named : (g f : ℕ) → one_at (g + 1) (suc f) ≡ one_at g f
 one_named g f =
@@ -33,13 +30,3 @@ named_out_typed g (suc f) u k = let z = one_named g f in let e = times_by-withou
 pub named_in_typed : (g k w : ℕ) (u : Holdings) → typed_to g (named_in k w u).typed ≡ typed_to g u.typed + one_at (g + 1) w
 named_in_typed g k zero u = let z = none_named g in omega arith
 named_in_typed g k (suc f) u = let z = one_named g f in let e = times_by-cons (λ y. y.frame) g (brought_name f (context_type k) u) u.typed in omega arith
-
-pub out_types : (m : Place → ℕ) (w : ℕ) (u : Holdings) → EachOf (λ e. HasType m e.frame e.kind) u.typed → EachOf (λ e. HasType m e.frame e.kind) (named_out w u).typed
-out_types m zero u k = k
-out_types m (suc f) u k = EachOf-without (λ y. HasType m y.frame y.kind) (λ y. y.frame) f u.typed k
-
-pub in_types : (m : Place → ℕ) (k w : ℕ) (u : Holdings) → ((f : ℕ) → w ≡ f + 1 → HasType m f (context_type k)) → EachOf (λ e. HasType m e.frame e.kind) u.typed →
-    EachOf (λ e. HasType m e.frame e.kind) (named_in k w u).typed
-unfolding EachOf
-in_types m k zero u named e = e
-in_types m k (suc f) u named e = (named f (sym (add-one f)), e)

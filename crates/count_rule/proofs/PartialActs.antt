@@ -22,14 +22,16 @@ use Rattle.xp_board.specs.Keeping.{MayAct}
 use Rattle.xp_board.specs.Sound.{Sound}
 use Rattle.step_effects.proofs.ActEffects.{Wrote, Stored}
 use Rattle.count_rule.proofs.ListMoves.{cons_other, out_other, cons_here, out_here, maybe_out_other, maybe_out_here}
-use Rattle.count_rule.proofs.KindForms.{closing_says, partial_says, work_says}
+use Rattle.count_rule.proofs.KindForms.{closing_says, partial_says, work_says, closing_flushed, partial_number}
 use Rattle.board_lemmas.proofs.HeldByForm.{held_partial}
-use Rattle.count_rule.proofs.KindActs.{stamp_of, beside}
-use Rattle.count_rule.proofs.StoreForms.{work_alone, partial_unlive, closing_flushed, partial_number, maybe_out_types}
+use Rattle.count_rule.proofs.KindActs.{beside}
 use Rattle.board_lemmas.proofs.FormsLeft.{form_partial}
 use Rattle.count_rule.proofs.Outcome.{Outcome}
 use Rattle.count_rule.proofs.StoreActs.{form_before, forms, stamp_was, out_outcome, type_is}
 use Rattle.board_lemmas.proofs.KindForms.{form_read}
+use Rattle.board_lemmas.proofs.KindReadings.{work_alone, partial_unlive, stamp_of}
+use Rattle.board_lemmas.proofs.HandLists.{EachOf-maybe_without}
+use Rattle.xp_board.specs.Recorded.{HasType}
 
 module _ (n : Machine) (s : ℕ) (x : Step) (m m2 : Place → ℕ) (b c : ℕ → Holdings) (seat : s < (sizes_of n).vcpus) (others : (t : ℕ) → t ≢ s → c t ≡ b t) (may : MayAct n s x (b s)) (sound : Sound n m b) (f : ℕ) where
   -- ---- partial
@@ -86,7 +88,7 @@ module _ (n : Machine) (s : ℕ) (x : Step) (m m2 : Place → ℕ) (b c : ℕ �
             out_outcome n s x m m2 b c seat others may sound f d.wrote e d.here l d.fields_is d.may.kind u
             (d.hand ∙ ap (λ y. noted x (m (Kind f)) (put_partial n s f l (m2 (Kind f)) owner y)) (as_before e (work_alone (kind_fields e.word) work)))
             (beside n s x m m2 b c seat others may sound f u refl refl refl refl refl refl refl) refl refl (λ g off. refl) (maybe_out_other (λ y. y.frame) f (b s).typed u.typed l.kept refl)
-            1 0 1 (bit l.kept) says tells stamp table (omega arith) (omega arith) (λ k. maybe_out_types m2 l.kept f (b s).typed k)
+            1 0 1 (bit l.kept) says tells stamp table (omega arith) (omega arith) (λ k. EachOf-maybe_without (λ y. HasType m2 y.frame y.kind) (λ y. y.frame) l.kept f (b s).typed k)
         | inr closing ↦
             let says = closing_says (kind_fields e.word) before closing in
             let h = as_closing e in
@@ -99,5 +101,5 @@ module _ (n : Machine) (s : ℕ) (x : Step) (m m2 : Place → ℕ) (b c : ℕ �
             (beside n s x m m2 b c seat others may sound f u refl refl refl refl refl refl refl) refl refl (out_other (λ y. y.frame) f (b s).refs u.refs refl)
             (λ g off. maybe_out_other (λ y. y.frame) f h.typed u.typed l.kept refl g off ∙ cons_other (λ y. y.frame) f (b s).typed h.typed _ refl refl g off)
             0 0 1 (bit l.kept) says tells stamp table (omega arith) (omega arith)
-            (λ k. maybe_out_types m2 l.kept f h.typed (type_is n s x m m2 b c seat others may sound f d.wrote e d.here l d.fields_is d.may.kind ∙ d.may.kind, k))
+            (λ k. EachOf-maybe_without (λ y. HasType m2 y.frame y.kind) (λ y. y.frame) l.kept f h.typed (type_is n s x m m2 b c seat others may sound f d.wrote e d.here l d.fields_is d.may.kind ∙ d.may.kind, k))
       ]

@@ -1,6 +1,6 @@
 -- An act that moves nothing that is counted.
 use Rattle.xp_words.specs.RefWords.{bit}
-use Rattle.std.proofs.Common.{◌≡◌, ◌≢◌, ℕ, ◌+◌, ◌<◌, Bool, true, List, Some, refl, sym, ◌∙◌, ap, arith, IsTrue, inl, inr}
+use Rattle.std.proofs.Common.{◌≡◌, ◌≢◌, ℕ, ◌+◌, ◌<◌, Bool, true, List, Some, sym, ◌∙◌, ap, arith, IsTrue, inl, inr}
 use Rattle.std.proofs.lemmas.Bool.{cases_eq}
 use Rattle.xp_words.specs.Machine.{Machine}
 use Rattle.xp_words.specs.Places.{sizes_of, Place, Pages, Vcpu, Refs, Kind}
@@ -20,7 +20,7 @@ use Rattle.count_rule.proofs.CountLaw.{pages_of, Steady, types_steady, counted_s
 use Rattle.count_rule.proofs.PartLaws.{alone_law, map_law, works_law}
 use Rattle.count_rule.proofs.Learning.{Stays}
 use Rattle.board_lemmas.proofs.Sums.{sum_below-same}
-use Rattle.board_lemmas.proofs.Counted.{held_inside}
+use Rattle.board_lemmas.proofs.Counted.{held_inside, hand_is, typed_hand-same}
 
 -- ---- a hand that keeps its lists
 pub works_times : (b c : Holdings) → EachTwo SameWork b.works c.works → (g : ℕ) → works_on g c.works ≡ works_on g b.works
@@ -31,14 +31,6 @@ locks_times b c k g = EachTwo-times SameLock (λ e. e.frame) g _ _ (λ x y r. r.
 
 pub claims_times : (b c : Holdings) → EachTwo SameClaim b.claimed c.claimed → (g : ℕ) → claims_of g c.claimed ≡ claims_of g b.claimed
 claims_times b c k g = EachTwo-times SameClaim (λ e. e.frame) g _ _ (λ x y r. r.frame) k
-
-pub hand_is : (g : ℕ) (u : Holdings) → hand g u ≡ refs_to g u.refs + typed_hand g u
-unfolding hand
-hand_is g u = refl
-
-pub typed_hand_is : (g : ℕ) (u : Holdings) → typed_hand g u ≡ typed_to g u.typed + locks_on g u.locks
-unfolding typed_hand
-typed_hand_is g u = refl
 
 -- whether the seat has the frame closing in its works
 abbrev pub is_closing_at : ℕ → Holdings → Bool
@@ -96,12 +88,7 @@ module _ (n : Machine) (s : ℕ) (m m2 : Place → ℕ) (b c : ℕ → Holdings)
         }
 
     typed_hand_same : (g : ℕ) → typed_hand g (c s) ≡ typed_hand g (b s)
-    typed_hand_same g =
-        let p = typed_hand_is g (c s) in
-        let q = typed_hand_is g (b s) in
-        let t = ap (typed_to g) kept.typed in
-        let l = locks_times (b s) (c s) kept.locks g in
-        omega arith
+    typed_hand_same g = typed_hand-same g (b s) (c s) (ap (typed_to g) kept.typed) (locks_times (b s) (c s) kept.locks g)
 
     hand_same : (g : ℕ) → hand g (c s) ≡ hand g (b s)
     hand_same g =

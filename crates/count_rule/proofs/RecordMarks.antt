@@ -12,17 +12,19 @@ use Rattle.xp_board.specs.declared.holdings.Holdings.{Holdings}
 use Rattle.xp_board.specs.declared.holdings.Work.{Work}
 use Rattle.xp_board.specs.Readings.{kind_at}
 use Rattle.xp_board.specs.Hands.{refs_to, hand, typed_hand, changed_work}
-use Rattle.xp_board.specs.Recorded.{work_of, entry_demand, names, names_typed, entries}
+use Rattle.xp_board.specs.Recorded.{work_of, entry_demand, names, names_typed, entries, HasType}
 use Rattle.xp_board.specs.Settling.{HasLastDemand, demand_in, demand_out}
 use Rattle.xp_board.specs.Marks.{MayRecord, MayShed, demand_seen, seen_word, unsettled_by}
 use Rattle.xp_board.specs.Sound.{HeldAlone, Sound}
 use Rattle.step_effects.proofs.MarkEffects.{Recorded, Shed}
-use Rattle.board_lemmas.proofs.Counted.{entries-one, table_entries-more}
+use Rattle.board_lemmas.proofs.Counted.{entries-one, table_entries-more, table_inside}
 use Rattle.count_rule.proofs.Quiet.{is_closing_at}
-use Rattle.count_rule.proofs.Demands.{IsInHand, out_hand, out_typed, in_hand, in_typed, out_types, in_types, Spares, out_spares, in_more, has_last, last_type}
-use Rattle.count_rule.proofs.EntryMarks.{work_held, work_inside, seen_unmarked, seen_demand, MarkMove, mark_alone, mark_held_other, mark_held_here, marked_outcome}
+use Rattle.count_rule.proofs.Demands.{IsInHand, out_hand, out_typed, in_hand, in_typed, Spares, out_spares, in_more, has_last, last_type}
+use Rattle.count_rule.proofs.EntryMarks.{MarkMove, mark_alone, mark_held_other, mark_held_here, marked_outcome}
 use Rattle.count_rule.proofs.Outcome.{Outcome}
 use Rattle.board_lemmas.proofs.HandParts.{beside_out, beside_in, translations_out, translations_in}
+use Rattle.board_lemmas.proofs.WorkFacts.{work_word, work_held, seen_unmarked, loaded_asks, works_facts}
+use Rattle.board_lemmas.proofs.HandTypes.{typed_out, typed_in}
 
 module _ (n : Machine) (s : ℕ) (m : Place → ℕ) (h b : ℕ → Holdings) (seat : s < (sizes_of n).vcpus) (others : (t : ℕ) → t ≢ s → b t ≡ h t) (sound : Sound n m h) (f upto : ℕ) where
   hand_alike : (g : ℕ) (u v : Holdings) → v.refs ≡ u.refs → v.typed ≡ u.typed → v.locks ≡ u.locks → (hand g v ≡ hand g u) × (typed_hand g v ≡ typed_hand g u)
@@ -37,7 +39,7 @@ module _ (n : Machine) (s : ℕ) (m : Place → ℕ) (h b : ℕ → Holdings) (s
     bare = record (h s) { works = changed_work f change (h s).works }
 
     stands : entry_demand m f e.recorded ≡ asked
-    stands = seen_demand n s m h seat sound f e may.here e.recorded may.word may.table may.seen ∙ sym asked_is
+    stands = sym (loaded_asks n m h s f e (works_facts n m h s f e sound seat may.here) e.recorded may.word may.table may.seen) ∙ sym asked_is
 
     has : IsInHand asked (h s) × Spares asked (h s)
     has = has_last n f (kind_fields e.word).kind (h s) asked (subst (HasLastDemand n f (kind_fields e.word).kind (h s)) (sym asked_is) may.in_hand)
@@ -66,10 +68,10 @@ module _ (n : Machine) (s : ℕ) (m : Place → ℕ) (h b : ℕ → Holdings) (s
     entries_more : (c : Demand → ℕ) → entries c (sizes_of n) m b ≡ entries c (sizes_of n) m h + c asked
     entries_more c =
         let one =
-        entries-one c (sizes_of n) m m h b f (work_inside n s m h seat sound f e may.here may.table)
+        entries-one c (sizes_of n) m m h b f (table_inside n m f sound.spelled (rw (work_word n m h s f e (works_facts n m h s f e sound seat may.here)) may.table))
         (mark_held_other n s m h b seat others sound f e may.here change works_now frames words may.unmarked) (λ g i off l. refl)
         in
-        let was = work_held n s m h seat sound f e may.here may.table in
+        let was = work_held n m h s f e (works_facts n m h s f e sound seat may.here) sound.alone seat may.here may.table in
         let is = mark_held_here n s m h b seat others sound f e may.here change works_now frames words may.unmarked alone may.table ∙ more in
         let table = table_entries-more c m (work_of (sizes_of n).vcpus h f) (work_of (sizes_of n).vcpus b f) f e.recorded was is in
         let k = ap c stands in
@@ -89,7 +91,7 @@ module _ (n : Machine) (s : ℕ) (m : Place → ℕ) (h b : ℕ → Holdings) (s
               last_type n m h s f (kind_fields e.word).kind asked (sound.found s seat) (subst (HasLastDemand n f (kind_fields e.word).kind (h s)) (sym asked_is) may.in_hand) g t
               (sym stands ∙ ap (entry_demand m f) (sym at) ∙ k)
           | inr off ↦
-              let was = work_held n s m h seat sound f e may.here may.table in
+              let was = work_held n m h s f e (works_facts n m h s f e sound seat may.here) sound.alone seat may.here may.table in
               let o : i ≢ e.recorded = off in
               sound.counts.kinds.entries f i g t (omega arith) k
         ]
@@ -114,7 +116,7 @@ module _ (n : Machine) (s : ℕ) (m : Place → ℕ) (h b : ℕ → Holdings) (s
           refs = λ g. let k = entries_more (names g) in let o = (out_now g).0 in omega arith;
           types = λ g. let k = entries_more (names_typed g) in let o = (out_now g).1 in omega arith;
           last = last_typed;
-          typed = rw hand_is (out_types m asked bare (sound.counts.kinds.typed s seat));
+          typed = rw hand_is (typed_out (λ y. HasType m y.frame y.kind) asked bare (sound.counts.kinds.typed s seat));
         }
 
     pub recorded_by : Outcome n m b
@@ -133,10 +135,10 @@ module _ (n : Machine) (s : ℕ) (m : Place → ℕ) (h b : ℕ → Holdings) (s
     left = record (h s) { works = changed_work f change (h s).works }
 
     stood : entry_demand m f upto ≡ told
-    stood = seen_demand n s m h seat sound f e may.here upto may.word may.table may.seen ∙ sym told_is
+    stood = sym (loaded_asks n m h s f e (works_facts n m h s f e sound seat may.here) upto may.word may.table may.seen) ∙ sym told_is
 
     shed_unmarked : (kind_fields e.word).unflushed ≡ false
-    shed_unmarked = seen_unmarked n s m h seat sound f e may.here _ may.seen
+    shed_unmarked = seen_unmarked n m h s f e (works_facts n m h s f e sound seat may.here) _ may.seen
 
     shed_works : (b s).works ≡ changed_work f change (h s).works
     shed_works = ap (λ y. y.works) hand_is ∙ (beside_in (is_none e.unsettled) told left).works
@@ -149,10 +151,10 @@ module _ (n : Machine) (s : ℕ) (m : Place → ℕ) (h b : ℕ → Holdings) (s
     entries_fewer : (c : Demand → ℕ) → entries c (sizes_of n) m b + c told ≡ entries c (sizes_of n) m h
     entries_fewer c =
         let one =
-        entries-one c (sizes_of n) m m h b f (work_inside n s m h seat sound f e may.here may.table)
+        entries-one c (sizes_of n) m m h b f (table_inside n m f sound.spelled (rw (work_word n m h s f e (works_facts n m h s f e sound seat may.here)) may.table))
         (mark_held_other n s m h b seat others sound f e may.here change shed_works frames words shed_unmarked) (λ g i off l. refl)
         in
-        let was = work_held n s m h seat sound f e may.here may.table ∙ may.last in
+        let was = work_held n m h s f e (works_facts n m h s f e sound seat may.here) sound.alone seat may.here may.table ∙ may.last in
         let is = mark_held_here n s m h b seat others sound f e may.here change shed_works frames words shed_unmarked shed_alone may.table ∙ fewer in
         let table = table_entries-more c m (work_of (sizes_of n).vcpus b f) (work_of (sizes_of n).vcpus h f) f upto is was in
         let k = ap c stood in
@@ -167,7 +169,7 @@ module _ (n : Machine) (s : ℕ) (m : Place → ℕ) (h b : ℕ → Holdings) (s
 
     entry_typed : (i g : ℕ) (t : PageType) → i < e.recorded → entry_demand m f i ≡ Typed g t → (kind_at m g).kind ≡ t
     entry_typed i g t l k =
-        let was = work_held n s m h seat sound f e may.here may.table in
+        let was = work_held n m h s f e (works_facts n m h s f e sound seat may.here) sound.alone seat may.here may.table in
         sound.counts.kinds.entries f i g t (omega arith) k
 
     shed_move : MarkMove n s m h b seat others sound f e may.here change
@@ -191,7 +193,7 @@ module _ (n : Machine) (s : ℕ) (m : Place → ℕ) (h b : ℕ → Holdings) (s
           refs = λ g. let k = entries_fewer (names g) in let o = (in_now g).0 in omega arith;
           types = λ g. let k = entries_fewer (names_typed g) in let o = (in_now g).1 in omega arith;
           last = λ i g t l k. let r = fewer in entry_typed i g t (omega arith) k;
-          typed = rw hand_is (in_types (is_none e.unsettled) m told left (λ g t k. entry_typed upto g t (omega arith) (stood ∙ k)) (sound.counts.kinds.typed s seat));
+          typed = rw hand_is (typed_in (is_none e.unsettled) (λ y. HasType m y.frame y.kind) told left (λ g t k. entry_typed upto g t (omega arith) (stood ∙ k)) (sound.counts.kinds.typed s seat));
         }
 
     pub shed_by : Outcome n m b

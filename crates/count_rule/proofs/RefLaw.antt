@@ -13,8 +13,8 @@ use Rattle.xp_board.specs.Sound.{Spelled, HeldAlone, FreeMap, Sound}
 use Rattle.count_rule.proofs.Learning.{works_kept}
 use Rattle.count_rule.proofs.CountLaw.{pages_of, Steady, types_steady, counted_steady, counts_law}
 use Rattle.count_rule.proofs.PartLaws.{alone_law, map_law, works_law, stamped_by, idle_running}
-use Rattle.count_rule.proofs.Quiet.{hand_is, typed_hand_is, held_still, is_closing_at, like_works, works_spared}
-use Rattle.board_lemmas.proofs.Counted.{held_inside}
+use Rattle.count_rule.proofs.Quiet.{held_still, is_closing_at, like_works, works_spared}
+use Rattle.board_lemmas.proofs.Counted.{held_inside, hand_is, typed_hand-same}
 use Rattle.count_rule.proofs.Outcome.{Outcome, cells_same, runs}
 use Rattle.board_lemmas.proofs.Sums.{sum_below-one}
 
@@ -58,12 +58,7 @@ module _ (n : Machine) (s : ℕ) (m m2 : Place → ℕ) (b c : ℕ → Holdings)
         }
 
     typed_hand_same : (g : ℕ) → typed_hand g (c s) ≡ typed_hand g (b s)
-    typed_hand_same g =
-        let p = typed_hand_is g (c s) in
-        let q = typed_hand_is g (b s) in
-        let t = ap (typed_to g) move.typed in
-        let l = ap (locks_on g) move.locks in
-        omega arith
+    typed_hand_same g = typed_hand-same g (b s) (c s) (ap (typed_to g) move.typed) (ap (locks_on g) move.locks)
 
     counted_refs : (g : ℕ) → ref_count (m2 (Refs g)) + (allocated_mark (m (Refs g)) + marks (kind_at m g) + hand g (b s)) ≡ ref_count (m (Refs g)) + (allocated_mark (m2 (Refs g)) + marks (kind_at m2 g) + hand g (c s))
     counted_refs g =

@@ -15,15 +15,12 @@ use Rattle.xp_board.specs.Sound.{Spelled}
 use Rattle.step_effects.proofs.ActEffects.{Wrote}
 use Rattle.count_rule.proofs.PartLaws.{spelled_by}
 use Rattle.count_rule.proofs.Spellings.{spelling_small}
-use Rattle.board_lemmas.proofs.HandParts.{either}
+use Rattle.board_lemmas.proofs.Sums.{either}
 
 module _ (n : Machine) (s : ℕ) (x : Step) (p : Place) (kind : StepKind) (m m2 : Place → ℕ) (b : Holdings) where
   -- the act at its place, with its kind
   pub legal_at : Wrote n x p kind m m2 b → MayAct n s x b → LegalAs n s b p x.act x.mark kind
   legal_at d may = subst (λ k. LegalAs n s b p x.act x.mark k) d.kind_is (subst (λ q. LegalAs n s b q x.act x.mark x.kind) d.place may.act)
-
-  Fits : Type 0
-  Fits = IsSpelling n p (m2 p)
 
   left_spelled : (a : Act) → x.act ≡ a → WritesSpelling n p a → LegalAs n s b p a x.mark kind → left_by a (m p) ≡ m2 p → IsSpelling n p (m p) →
       ((by : ℕ) → LegalAs n s b p (Add by) x.mark kind → m2 p ≡ (m p + by) % 2 ^ 64 → IsSpelling n p (m2 p)) →

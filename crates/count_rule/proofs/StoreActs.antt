@@ -24,18 +24,18 @@ use Rattle.board_lemmas.proofs.HandLists.{first-some, times-changed, EachOf-with
 use Rattle.board_lemmas.proofs.ListChanges.{first_by-changed_here, EachOf-changed_into}
 use Rattle.board_lemmas.proofs.Works.{one_works, is_busy-mine, held_free, held_mine}
 use Rattle.count_rule.proofs.ListMoves.{cons_other, out_other, swap_other, cons_here, out_here, swap_here, recorded_out, recorded_changed}
-use Rattle.count_rule.proofs.KindForms.{Says, live_says, closing_says, work_says, dead_says}
+use Rattle.count_rule.proofs.KindForms.{Says, live_says, closing_says, work_says, dead_says, same_if}
 use Rattle.board_lemmas.proofs.HeldByForm.{held_live, held_dead, held_work, same_zero}
 use Rattle.count_rule.proofs.KindSpelled.{form_was}
-use Rattle.count_rule.proofs.KindActs.{stamp_live, stamp_of, Beside, beside, rest_by, turn_outcome, keeps_kind}
+use Rattle.count_rule.proofs.KindActs.{Beside, beside, rest_by, turn_outcome, keeps_kind}
 use Rattle.count_rule.proofs.KindWorks.{works_out}
-use Rattle.count_rule.proofs.WorkActs.{not_closing, not_live}
-use Rattle.count_rule.proofs.StoreForms.{busy_forms, closing_alone, work_unlive, same_if}
+use Rattle.count_rule.proofs.WorkActs.{not_closing}
 use Rattle.board_lemmas.proofs.FormsLeft.{form_live, form_work, form_dead}
 use Rattle.count_rule.proofs.Told.{clock_told}
-use Rattle.count_rule.proofs.EntryMarks.{work_word}
 use Rattle.count_rule.proofs.Outcome.{Outcome}
 use Rattle.board_lemmas.proofs.KindForms.{form_read}
+use Rattle.board_lemmas.proofs.KindReadings.{busy_forms, closing_alone, work_unlive, dead_unlive, stamp_live, stamp_of}
+use Rattle.board_lemmas.proofs.WorkFacts.{work_word, works_facts}
 
 flat_says : (k : KindWord) (count mark lock : ℕ) → mark ≡ 0 → lock ≡ 0 → Says k count mark 0 lock → Says k count 0 0 0
 flat_says k count mark lock p q says = record { counts = says.counts; mark_is = says.mark_is ∙ p; busy_is = says.busy_is; lock_is = says.lock_is ∙ q }
@@ -44,7 +44,7 @@ module _ (n : Machine) (s : ℕ) (x : Step) (m m2 : Place → ℕ) (b c : ℕ �
   -- the frame goes out of the works
   module _ (wrote : Wrote n x (Kind f) steps.Kind m m2 (b s)) (e : Work) (here : work_on f (b s).works ≡ Some e) (l : KindWord) (is : kind_at m2 f ≡ l) (kind : l.kind ≡ (kind_fields e.word).kind) where
     pub was : kind_at m f ≡ kind_fields e.word
-    was = work_word n s m b seat sound f e here
+    was = work_word n m b s f e (works_facts n m b s f e sound seat here)
 
     in_works : 0 < works_on f (b s).works
     in_works = first-some (λ y. y.frame) f e (b s).works here
@@ -155,7 +155,7 @@ module _ (n : Machine) (s : ℕ) (x : Step) (m m2 : Place → ℕ) (b c : ℕ �
       let before = form_before d.wrote e d.here l d.fields_is d.may.kind in
       let tells = dead_says l form dead in
       let told = clock_told (sizes_of n) (m Clock) e.since l.number (b s).steps (sound.found s seat).clock d.may.stamp in
-      let same = stamp_of (m2 (Kind f)) l d.fields_is (not_live l dead) in
+      let same = stamp_of (m2 (Kind f)) l d.fields_is (dead_unlive l dead) in
       let table : held_of l None ≡ (if is_table (kind_fields e.word).kind then e.recorded else 0) =
       held_dead l dead ∙ sym (ap (λ y. if is_table (kind_fields e.word).kind then y else 0) d.may.none ∙ same_zero (is_table (kind_fields e.word).kind))
       in

@@ -18,11 +18,12 @@ use Rattle.xp_board.specs.Sound.{Sound}
 use Rattle.step_effects.proofs.ActEffects.{Turned}
 use Rattle.count_rule.proofs.ListMoves.{cons_other, out_other, cons_here, out_here}
 use Rattle.count_rule.proofs.KindForms.{Says, live_says, partial_says}
-use Rattle.count_rule.proofs.KindActs.{stamp_live, beside, free_outcome, keeps_kind}
+use Rattle.count_rule.proofs.KindActs.{beside, free_outcome, keeps_kind}
 use Rattle.count_rule.proofs.Outcome.{Outcome}
 use Rattle.board_lemmas.proofs.HandLists.{EachOf-without}
 use Rattle.board_lemmas.proofs.KindForms.{form_read}
 use Rattle.board_lemmas.proofs.HeldByForm.{held_same}
+use Rattle.board_lemmas.proofs.KindReadings.{stamp_live}
 
 pub left_says : (l r : KindWord) (c m b k : ℕ) → l ≡ r → Says r c m b k → Says l c m b k
 left_says l r c m b k e says = subst (λ y. Says y c m b k) (sym e) says
@@ -30,9 +31,6 @@ left_says l r c m b k e says = subst (λ y. Says y c m b k) (sym e) says
 pinned_some : (k : KindWord) → has_form k ≡ true → IsTrue (is_live k) → k.pinned ≡ true → 0 < k.number
 unfolding has_form
 pinned_some k form live pinned = grind (arith, nat_tests)
-
-unpinned_mark : (k : KindWord) → k.pinned ≡ false → bit k.pinned ≡ 0
-unpinned_mark k e = rw e refl
 
 module _ (n : Machine) (s : ℕ) (x : Step) (m m2 : Place → ℕ) (b c : ℕ → Holdings) (seat : s < (sizes_of n).vcpus) (others : (t : ℕ) → t ≢ s → c t ≡ b t) (may : MayAct n s x (b s)) (sound : Sound n m b) (f : ℕ) where
   -- the hand after an exchange by that row

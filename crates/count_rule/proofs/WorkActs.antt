@@ -1,5 +1,5 @@
 -- The exchanges of a kind word that bring the frame into work.
-use Rattle.std.proofs.Common.{◌≡◌, ◌≢◌, ℕ, ◌<◌, ◌≤◌, if◌then◌else◌, Bool, true, false, List, ◌∷◌, Some, None, refl, sym, ◌∙◌, ap, subst, arith, IsTrue, inl, inr}
+use Rattle.std.proofs.Common.{◌≡◌, ◌≢◌, ℕ, ◌<◌, ◌≤◌, if◌then◌else◌, true, false, ◌∷◌, Some, None, refl, sym, ◌∙◌, ap, subst, arith, IsTrue, inl, inr}
 use Rattle.std.proofs.lemmas.Bool.Decides.{nat_tests}
 use Rattle.xp_words.specs.declared.kind.KindWord.{KindWord}
 use Rattle.xp_words.specs.KindWords.{kind_fields, has_form}
@@ -9,10 +9,9 @@ use Rattle.xp_words.specs.Machine.{Machine}
 use Rattle.xp_words.specs.Places.{sizes_of, Place, Clock, Kind}
 use Rattle.xp_board.specs.declared.holdings.Holdings.{Holdings}
 use Rattle.xp_board.specs.declared.holdings.Work.{Work}
-use Rattle.xp_board.specs.declared.holdings.TypedReference.{TypedReference}
 use Rattle.xp_board.specs.declared.step.Step.{Step}
 use Rattle.xp_board.specs.Lists.{EachOf}
-use Rattle.xp_board.specs.Readings.{type_count, kind_at, kind_stamp, is_partial, is_work, is_dead, is_closing}
+use Rattle.xp_board.specs.Readings.{type_count, kind_at, kind_stamp, is_partial, is_work, is_closing}
 use Rattle.xp_board.specs.Hands.{refs_to, works_on, work_on}
 use Rattle.xp_board.specs.Recorded.{held, held_of, HasType}
 use Rattle.xp_board.specs.KindSteps.{Resume, Begin, begun_kind, resumed_kind, is_stale}
@@ -24,12 +23,14 @@ use Rattle.board_lemmas.proofs.Works.{nobody_works, held_free, held_mine}
 use Rattle.count_rule.proofs.ListMoves.{cons_other, out_other, cons_here, out_here, maybe_other, maybe_here, recorded_cons}
 use Rattle.count_rule.proofs.KindForms.{partial_says, work_says, dead_says}
 use Rattle.board_lemmas.proofs.HeldByForm.{held_partial, held_dead, held_work, same_zero}
-use Rattle.count_rule.proofs.KindActs.{stamp_number, stamp_of, beside, rest_by, turn_outcome, keeps_kind}
+use Rattle.count_rule.proofs.KindActs.{beside, rest_by, turn_outcome, keeps_kind}
 use Rattle.count_rule.proofs.KindWorks.{works_in}
 use Rattle.count_rule.proofs.TurnActs.{turned_hand, left_says, stamp_kept}
 use Rattle.count_rule.proofs.Outcome.{Outcome}
 use Rattle.board_lemmas.proofs.KindForms.{form_read}
-use Rattle.board_lemmas.proofs.Sums.{no_bit}
+use Rattle.board_lemmas.proofs.Sums.{no_bit, if_fewer}
+use Rattle.board_lemmas.proofs.KindReadings.{dead_unlive, stamp_number, stamp_of}
+use Rattle.board_lemmas.proofs.HandLists.{EachOf-maybe}
 
 marked_none : (k : KindWord) → has_form k ≡ true → IsTrue (is_partial k) → k.unflushed ≡ true → k.progress ≡ 0
 unfolding has_form
@@ -38,21 +39,8 @@ marked_none k form partial marked = grind (arith, nat_tests)
 pub not_closing : (k : KindWord) → IsTrue (is_work k) → IsTrue (is_closing k) → ⊥
 not_closing k work closing = grind (arith, nat_tests)
 
-pub not_live : (k : KindWord) → IsTrue (is_dead k) → k.validated ≡ false
-not_live k dead = grind (arith, nat_tests)
-
 resumed_work : (k : KindWord) → IsTrue (is_partial k) → IsTrue (is_work (resumed_kind k))
 resumed_work k partial = grind (arith, nat_tests)
-
-fewer : (t : Bool) (x : ℕ) → (if t then x else 0) ≤ x
-fewer true x = omega arith
-fewer false x = omega arith
-
-maybe_types : (m : Place → ℕ) (t : Bool) (x : TypedReference) (xs : List TypedReference) → HasType m x.frame x.kind → EachOf (λ e. HasType m e.frame e.kind) xs →
-    EachOf (λ e. HasType m e.frame e.kind) (if t then (x ∷ xs) else xs)
-unfolding EachOf
-maybe_types m true x xs e k = (e, k)
-maybe_types m false x xs e k = k
 
 module _ (n : Machine) (s : ℕ) (x : Step) (m m2 : Place → ℕ) (b c : ℕ → Holdings) (seat : s < (sizes_of n).vcpus) (others : (t : ℕ) → t ≢ s → c t ≡ b t) (may : MayAct n s x (b s)) (sound : Sound n m b) (f : ℕ) where
   -- a frame that comes into work
@@ -77,7 +65,7 @@ module _ (n : Machine) (s : ℕ) (x : Step) (m m2 : Place → ℕ) (b c : ℕ �
       let old = sound.stamped.kinds f in
       let a = stamp_of (m (Kind f)) k was dead in
       let d = stamp_number (m2 (Kind f)) l is in
-      let few = fewer (is_stale k l.kind) k.number in
+      let few = if_fewer (is_stale k l.kind) k.number in
       omega arith
 
   pub resume_outcome : Turned n s x f Resume m m2 (b s) (c s) → Outcome n m2 c
@@ -110,7 +98,7 @@ module _ (n : Machine) (s : ℕ) (x : Step) (m m2 : Place → ℕ) (b c : ℕ �
       (omega arith) (omega arith) (omega arith) refl
       (comes_held k l d.fields_was d.fields_is work free _ refl refl now (held_work l k.progress ∙ ap (λ y. if is_table y then k.progress else 0) kind ∙ sym (held_partial k d.may.partial)))
       (inl (keeps_kind n s x m m2 b c seat others may sound f k l d.fields_was d.fields_is kind))
-      (λ e. maybe_types m2 k.kept _ (b s).typed (keeps_kind n s x m m2 b c seat others may sound f k l d.fields_was d.fields_is kind ∙ ap (λ (y : KindWord). y.kind) d.fields_was) e) (λ e. e)
+      (λ e. EachOf-maybe (λ y. HasType m2 y.frame y.kind) k.kept _ (b s).typed (λ on. keeps_kind n s x m m2 b c seat others may sound f k l d.fields_was d.fields_is kind ∙ ap (λ (y : KindWord). y.kind) d.fields_was) e) (λ e. e)
       (comes_agrees k l d.fields_was d.fields_is work free _ refl refl now rest.refs (λ e. marked_none k form d.may.partial (ap (λ (y : KindWord). y.unflushed) (sym left) ∙ e)))
 
   pub begin_outcome : Turned n s x f Begin m m2 (b s) (c s) → Outcome n m2 c
@@ -140,7 +128,7 @@ module _ (n : Machine) (s : ℕ) (x : Step) (m m2 : Place → ℕ) (b c : ℕ �
       in
       turn_outcome n s x m m2 b c seat others may sound f d.wrote u d.hand rest k l 0 0 0 0 1 0 1 0
       (record { was = d.fields_was; is = d.fields_is; says = was; tells = left_says l (begun_kind k l.kind) _ _ _ _ left is })
-      (begun_stamp k l d.fields_was d.fields_is (not_live k d.may.dead) (ap (λ (y : KindWord). y.number) left))
+      (begun_stamp k l d.fields_was d.fields_is (dead_unlive k d.may.dead) (ap (λ (y : KindWord). y.number) left))
       (omega arith) (omega arith) (omega arith) refl
       (comes_held k l d.fields_was d.fields_is work free _ refl refl now (held_work l 0 ∙ same_zero (is_table l.kind) ∙ sym (held_dead k d.may.dead)))
       (inr (ap type_count d.fields_was ∙ was.counts, nothing))

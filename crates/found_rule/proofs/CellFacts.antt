@@ -1,31 +1,28 @@
 -- Who may have the frame of a cell that is written.
-use Rattle.std.proofs.Common.{◌≡◌, ℕ, ◌<◌, Bool, true, false, List, [], ◌∷◌, Some, IsTrue, refl, sym, ap, subst, ◌∙◌, inl, inr, arith}
-use Rattle.std.proofs.lemmas.Bool.{cases_eq, and_parts, or_cases}
-use Rattle.xp_words.specs.declared.kind.PageType.{PageType}
+use Rattle.std.proofs.Common.{◌≡◌, ℕ, ◌<◌, true, false, Some, IsTrue, sym, subst, inl, inr, arith}
+use Rattle.std.proofs.lemmas.Bool.{cases_eq}
 use Rattle.xp_words.specs.declared.kind.PageType.TheVariants as kinds
-use Rattle.xp_words.specs.declared.entry.Demand.{Demand}
-use Rattle.xp_words.specs.declared.entry.Demand.TheVariants.{Nothing, Bad, Read, Typed}
 use Rattle.xp_words.specs.PageTypes.{is_table}
 use Rattle.xp_words.specs.KindWords.{kind_fields}
 use Rattle.xp_words.specs.Machine.{Machine}
 use Rattle.xp_words.specs.Places.{sizes_of, Place, Refs, Cell}
 use Rattle.xp_board.specs.declared.holdings.Lock.{Lock}
 use Rattle.xp_board.specs.declared.holdings.Holdings.{Holdings}
-use Rattle.xp_board.specs.Lists.{some_of, EachOf, Member}
+use Rattle.xp_board.specs.Lists.{EachOf}
 use Rattle.xp_board.specs.Readings.{kind_at, ref_count}
 use Rattle.xp_board.specs.Hands.{works_on, locks_on, lock_on, claims_of}
 use Rattle.xp_board.specs.After.{is_fixed}
-use Rattle.xp_board.specs.Settling.{HasDemand}
-use Rattle.xp_board.specs.Recorded.{HasType}
 use Rattle.xp_board.specs.Found.{WorkFound, is_same_entry}
-use Rattle.xp_board.specs.WellFormed.{IsLockFormed}
 use Rattle.xp_board.specs.Sound.{Sound, WorkAgrees}
-use Rattle.found_rule.proofs.StepLists.{EachOf-all, EachOf-there, first_by-each, first_by-key, some_by}
 use Rattle.found_rule.proofs.WordsOf.{CellSpared}
-use Rattle.found_rule.proofs.Counted.{typed_ref_counted, lock_counted, lock_locked, types_within, not_in_work, counted_alive}
-use Rattle.found_rule.proofs.KindWordsLeft.{live_not_busy, live_count}
-use Rattle.found_rule.proofs.SoundWords.{work_counted}
-use Rattle.found_rule.proofs.Serving.{AsksLive}
+use Rattle.found_rule.proofs.SoundWords.{work_counted, lock_counted}
+use Rattle.board_lemmas.proofs.HeldByForm.{live_idle}
+use Rattle.board_lemmas.proofs.KindReadings.{live_count}
+use Rattle.board_lemmas.proofs.HandLists.{EachOf-all, EachOf-first, first-key}
+use Rattle.board_lemmas.proofs.ListCounts.{EachOf-there, first_by-some}
+use Rattle.board_lemmas.proofs.Counted.{type_below}
+use Rattle.board_lemmas.proofs.Works.{nobody_works, counted_alive}
+use Rattle.board_lemmas.proofs.LockFacts.{lock_facts}
 
 -- no frame in work is marked, or no descriptor page, and has words that are known to be fixed
 abbrev pub FixedWorks : Machine → (ℕ → Holdings) → Type 0
@@ -39,10 +36,10 @@ module _ (n : Machine) (m : Place → ℕ) (b : ℕ → Holdings) (sound : Sound
       elim (cases_eq (works_on f (b t).works) 0) [
         | inl zero ↦ zero
         | inr some ↦
-            (let one = some_by (λ e. e.frame) f (b t).works (omega arith) in
-            let frame = first_by-key (λ e. e.frame) f one.0 (b t).works one.1 in
-            let found = first_by-each (WorkFound n m b (b t)) (λ e. e.frame) f one.0 (b t).works (sound.found t l).works one.1 in
-            let agrees = first_by-each (WorkAgrees (b t)) (λ e. e.frame) f one.0 (b t).works (sound.works t l) one.1 in
+            (let one = first_by-some (λ e. e.frame) f (b t).works (omega arith) in
+            let frame = first-key (λ e. e.frame) f one.0 (b t).works one.1 in
+            let found = EachOf-first (WorkFound n m b (b t)) (λ e. e.frame) f one.0 (b t).works (sound.found t l).works one.1 in
+            let agrees = EachOf-first (WorkAgrees (b t)) (λ e. e.frame) f one.0 (b t).works (sound.works t l) one.1 in
             let count = work_counted n m b sound t l one.0 (subst (λ g. 0 < works_on g (b t).works) (sym frame) (omega arith)) found agrees in
             let here : 0 < ref_count (m (Refs f)) = subst (λ g. 0 < ref_count (m (Refs g))) frame count in
             omega arith)
@@ -52,32 +49,21 @@ module _ (n : Machine) (m : Place → ℕ) (b : ℕ → Holdings) (sound : Sound
   uncounted_locks none t l =
       elim (cases_eq (locks_on f (b t).locks) 0) [
         | inl zero ↦ zero
-        | inr some ↦ absurd (let a = lock_counted n m b sound t f l (omega arith) in let w = types_within n m b sound f in omega arith)
+        | inr some ↦ absurd (let a = lock_counted n m b sound t f l (omega arith) in let w = type_below (sizes_of n) m b f sound.counts in omega arith)
       ]
 
   -- a locked frame is a live and counted table
   pub lock_type : (t : ℕ) → t < (sizes_of n).vcpus → (e : Lock) → lock_on f (b t).locks ≡ Some e → (kind_at m f).kind ≡ e.kind
-  lock_type t l e here =
-      let frame = first_by-key (λ y. y.frame) f e (b t).locks here in
-      let kind = first_by-each (λ y. HasType m y.frame (Some y.kind)) (λ y. y.frame) f e (b t).locks (sound.counts.kinds.locks t l) here in
-      subst (λ g. (kind_at m g).kind ≡ e.kind) frame kind
+  lock_type t l e here = (lock_facts n m b t f e sound l here).kind
 
   pub lock_table : (t : ℕ) → t < (sizes_of n).vcpus → 0 < locks_on f (b t).locks → is_table (kind_at m f).kind ≡ true
-  lock_table t l some =
-      let one = some_by (λ e. e.frame) f (b t).locks some in
-      let formed = first_by-each (IsLockFormed n (b t)) (λ y. y.frame) f one.0 (b t).locks (sound.formed t l).locks one.1 in
-      ap is_table (lock_type t l one.0 one.1) ∙ formed.table
-
-  pub lock_live : (t : ℕ) → t < (sizes_of n).vcpus → 0 < locks_on f (b t).locks → ((kind_at m f).validated ≡ true) × (0 < (kind_at m f).number)
-  lock_live t l some =
-      let both = and_parts (kind_at m f).validated (kind_at m f).locked (lock_locked n m b sound t f l some) in
-      (both.0, (let a = lock_counted n m b sound t f l some in let e = live_count (kind_at m f) both.0 in omega arith))
+  lock_table t l some = let one = first_by-some (λ e. e.frame) f (b t).locks some in (lock_facts n m b t f one.0 sound l one.1).table
 
   -- a live frame with a type count is in nobody's works and claimed by nobody
   pub live_alone : (kind_at m f).validated ≡ true → 0 < (kind_at m f).number → (t : ℕ) → t < (sizes_of n).vcpus → (works_on f (b t).works ≡ 0) × (claims_of f (b t).claimed ≡ 0)
   live_alone live some t l = (
-    not_in_work n m b sound t f l (live_not_busy (kind_at m f) live some),
-    (let e = live_count (kind_at m f) live in let w = types_within n m b sound f in let q = counted_alive n m b sound t f l (omega arith) in omega arith),
+    nobody_works n m b sound.alone f (live_idle (kind_at m f) live some) t l,
+    (let e = live_count (kind_at m f) live in let w = type_below (sizes_of n) m b f sound.counts in let q = counted_alive n m b sound.alone f t l (omega arith) in omega arith),
   )
 
   -- ---- what another seat is spared
@@ -104,22 +90,3 @@ module _ (n : Machine) (m : Place → ℕ) (b : ℕ → Holdings) (sound : Sound
   zero_none m2 i s none =
       EachOf-there (λ e. Unit {0}) (λ e. (j : ℕ) → Cell f i ≡ Cell e.frame j → j < e.scrubbed → m2 (Cell f i) ≡ 0) (λ e. e.frame) (b s).claimed
       (λ e there h j at below. absurd (let q : e.frame ≡ f = cc in let k = subst (λ g. 0 < claims_of g (b s).claimed) q there in omega arith)) (EachOf-all (λ e. Unit {0}) (b s).claimed (λ e. tt))
-
-  -- ---- what is in hand is there
-  pub asks_hand : (s : ℕ) → s < (sizes_of n).vcpus → (kind : PageType) (d : Demand) → HasDemand n f kind (b s) d → AsksLive m d
-  asks_hand s l kind Nothing h = tt
-  asks_hand s l kind Bad h = absurd h
-  asks_hand s l kind (Read g) h = tt
-  asks_hand s l kind (Typed g t) h =
-      let live = (sound.found s l).lives g t h.1 in
-      (live.0, (let a = typed_ref_counted n m b sound s g l h.0.in_hand in let e = live_count (kind_at m g) live.0 in omega arith), live.1)
-
--- some element that passes is a member
-pub some_member : {A : Type 0} (test : A → Bool) (xs : List A) → IsTrue (some_of test xs) → (x : A) × Member x xs × IsTrue (test x)
-unfolding some_of Member
-some_member test [] h = absurd cc
-some_member test (x ∷ xs) h =
-    elim (or_cases (test x) (some_of test xs) h) [
-      | inl here ↦ (x, inl refl, here)
-      | inr more ↦ (let r = some_member test xs more in (r.0, inr r.1, r.2))
-    ]

@@ -1,66 +1,26 @@
 -- What is come to after an act on a cell, or by the own walk.
-use Rattle.std.proofs.Common.{◌≡◌, ◌≢◌, ℕ, ◌<◌, ◌&&◌, if◌then◌else◌, Bool, true, false, Some, None, refl, sym, ap, subst, ◌∙◌, inl, inr, arith}
+use Rattle.std.proofs.Common.{◌≡◌, ◌≢◌, ℕ, ◌<◌, false, sym, subst, inl, inr}
 use Rattle.std.proofs.lemmas.Bool.{cases_eq}
-use Rattle.xp_words.specs.declared.kind.KindWord.{KindWord}
 use Rattle.xp_words.specs.PageTypes.{type_number}
-use Rattle.xp_words.specs.KindWords.{kind_fields, kind_read, has_type, has_form}
 use Rattle.xp_words.specs.Machine.{Machine}
-use Rattle.xp_words.specs.Places.{sizes_of, is_place, Place, Kind, Cell}
+use Rattle.xp_words.specs.Places.{sizes_of, Place, Cell}
 use Rattle.xp_board.specs.declared.step.Item.{Item}
 use Rattle.xp_board.specs.declared.holdings.Reached.{Reached}
 use Rattle.xp_board.specs.declared.holdings.Holdings.{Holdings}
 use Rattle.xp_board.specs.Lists.{Member}
 use Rattle.xp_board.specs.Readings.{kind_at}
-use Rattle.xp_board.specs.Spelling.{IsSpelling, is_kind_in}
-use Rattle.xp_board.specs.Reach.{Use, Table, Reads, use_of, reached_by, Reach, cached, walked}
-use Rattle.xp_board.specs.Fresh.{Matches}
-use Rattle.xp_board.specs.Sound.{Sound, Spelled}
+use Rattle.xp_board.specs.Reach.{Use, Table, use_of, reached_by, Reach, cached, walked}
+use Rattle.xp_board.specs.Sound.{Sound}
 use Rattle.board_lemmas.proofs.PlaceTests.{same_or_other}
 use Rattle.found_rule.proofs.HandFacts.{ReachKept}
-use Rattle.found_rule.proofs.ReachAll.{Reach-level, IsLevel}
-use Rattle.found_rule.proofs.Serving.{Came, PassesOn, alike_same, alike_passes, came_all, came_kept, not_reads}
-
--- ---- a marked frame is not live
-form_unlive : (k : KindWord) → has_form k ≡ true → k.unflushed ≡ true → k.validated ≡ false
-unfolding has_form
-form_unlive k f u = grind arith
-
-spelled_form : (n : Machine) (w : ℕ) (b : Bool) → (has_type w && has_form (kind_fields w)) ≡ b →
-    is_kind_in n (if has_type w && has_form (kind_fields w) then Some (kind_fields w) else None) ≡ true → has_form (kind_fields w) ≡ true
-spelled_form n w true e s = grind arith
-spelled_form n w false e s = absurd (let k : is_kind_in n None ≡ true = rw e at s in cc)
-
-spelled_unlive : (n : Machine) (f w : ℕ) → IsSpelling n (Kind f) w → (kind_fields w).unflushed ≡ true → (kind_fields w).validated ≡ false
-unfolding IsSpelling kind_read
-spelled_unlive n f w s u = form_unlive (kind_fields w) (spelled_form n w (has_type w && has_form (kind_fields w)) refl s) u
-
-zero_unmarked : (kind_fields 0).unflushed ≡ false
-unfolding kind_fields
-zero_unmarked = refl
-
-marked_unlive : (n : Machine) (m : Place → ℕ) (g : ℕ) (b : Bool) → Spelled n m → is_place (sizes_of n) (Kind g) ≡ b → (kind_at m g).unflushed ≡ true → (kind_at m g).validated ≡ false
-marked_unlive n m g true spelled e marked = spelled_unlive n g (m (Kind g)) (spelled.spelled (Kind g) e) marked
-marked_unlive n m g false spelled e marked = absurd (let z : (kind_at m g).unflushed ≡ false = ap (λ w. (kind_fields w).unflushed) (spelled.outside (Kind g) e) ∙ zero_unmarked in cc)
+use Rattle.found_rule.proofs.Serving.{Came, PassesOn, alike_passes, came_all, came_kept}
+use Rattle.board_lemmas.proofs.ReachAll.{IsLevel, unmarked_matches, reach_level}
+use Rattle.board_lemmas.proofs.CellAlike.{alike_same, not_reads}
 
 module _ (n : Machine) (m : Place → ℕ) (h : ℕ → Holdings) (sound : Sound n m h) where
-  unmarked_by : (g : ℕ) (b : Bool) → (kind_at m g).unflushed ≡ b → (kind_at m g).validated ≡ true → b ≡ false
-  unmarked_by g true e live = absurd (let dead = marked_unlive n m g (is_place (sizes_of n) (Kind g)) sound.spelled refl e in cc)
-  unmarked_by g false e live = refl
-
-  pub live_unmarked : (g : ℕ) → (kind_at m g).validated ≡ true → (kind_at m g).unflushed ≡ false
-  live_unmarked g live = unmarked_by g (kind_at m g).unflushed refl live
-
-  -- an unmarked frame has the type of each use that is made of it
-  pub unmarked_matches : (v g : ℕ) (u : Use) → v < (sizes_of n).vcpus → (kind_at m g).unflushed ≡ false → u ≢ Reads → Reach (sizes_of n) m (h v) g u → Matches (kind_at m g).kind u
-  unmarked_matches v g u real unmarked other r =
-      elim ((sound.fresh.each v real g u r).bears.typed other) [ inl plain ↦ plain.1 | inr marked ↦ absurd (let k = marked.0 in cc) ]
-
-  pub reach_level : (v g : ℕ) (u : Use) → v < (sizes_of n).vcpus → Reach (sizes_of n) m (h v) g u → IsLevel u
-  reach_level v g u real r = Reach-level (sound.formed v real).cache.walk r
-
   -- a table that is come to, unmarked: its type is its level
   pub came_table : (v g level : ℕ) → v < (sizes_of n).vcpus → (kind_at m g).unflushed ≡ false → Came n m h v g (Table level) → (type_number (kind_at m g).kind ≡ level) × IsLevel (Table level)
-  came_table v g level real unmarked (inl r) = (unmarked_matches v g (Table level) real unmarked (not_reads level) r, reach_level v g (Table level) real r)
+  came_table v g level real unmarked (inl r) = (unmarked_matches n m h sound v g (Table level) real unmarked (not_reads level) r, reach_level n m h sound v g (Table level) real r)
   came_table v g level real unmarked (inr (inl serves)) = (serves.matches (not_reads level), serves.level)
   came_table v g level real unmarked (inr (inr read)) = absurd (not_reads level read)
 

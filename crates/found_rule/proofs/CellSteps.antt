@@ -1,6 +1,5 @@
 -- Stores into a table under the own lock, and into a frame that is claimed, in the own work, or ordinary memory.
-use Rattle.std.proofs.Common.{◌≡◌, ◌≢◌, ℕ, ◌<◌, ◌≤◌, ◌==◌, true, false, length, Option, Some, None, IsTrue, refl, sym, ap, subst, ◌∙◌, inl, inr, arith}
-use Rattle.std.proofs.lemmas.Bool.{cases_eq}
+use Rattle.std.proofs.Common.{◌≡◌, ◌≢◌, ℕ, ◌<◌, ◌≤◌, true, length, Some, IsTrue, refl, sym, ap, subst, ◌∙◌, inl, inr, arith}
 use Rattle.std.proofs.lemmas.Bool.Decides.{nat_tests}
 use Rattle.xp_words.specs.declared.kind.PageType.{PageType}
 use Rattle.xp_words.specs.PageTypes.{type_number, is_table}
@@ -11,46 +10,37 @@ use Rattle.xp_words.specs.Entries.{demand_at}
 use Rattle.xp_words.specs.Machine.{Machine}
 use Rattle.xp_words.specs.Places.{sizes_of, is_place, Place, Refs, Kind, Cell, flushed_of, run_of}
 use Rattle.xp_board.specs.declared.step.Step.{Step}
-use Rattle.xp_board.specs.declared.holdings.Seen.{Seen}
 use Rattle.xp_board.specs.declared.holdings.Lock.{Lock}
 use Rattle.xp_board.specs.declared.holdings.Holdings.{Holdings}
 use Rattle.xp_board.specs.Lists.{EachOf, Member}
-use Rattle.xp_board.specs.Steps.{last_since}
 use Rattle.xp_board.specs.Readings.{kind_at}
 use Rattle.xp_board.specs.Hands.{works_on, locks_on, lock_on, claims_of}
 use Rattle.xp_board.specs.After.{is_fixed}
 use Rattle.xp_board.specs.Settling.{demand_in, demand_out}
-use Rattle.xp_board.specs.CellSteps.{keeps_demand, is_same_as_seen}
-use Rattle.xp_board.specs.Found.{LockFound, is_same_entry}
-use Rattle.xp_board.specs.WellFormed.{SeenIs, IsLockFormed}
+use Rattle.xp_board.specs.CellSteps.{keeps_demand}
 use Rattle.xp_board.specs.Reach.{reached_by, cached, walked}
 use Rattle.xp_board.specs.Sound.{Sound}
 use Rattle.step_effects.proofs.ActEffects.{Exchanged, Rewrote}
-use Rattle.found_rule.proofs.StepLists.{first_by-each, first_by-key, first_by-some}
 use Rattle.found_rule.proofs.Growth.{Grown, added}
 use Rattle.found_rule.proofs.Learning.{Act, act}
 use Rattle.found_rule.proofs.WordsOf.{CellSpared, words_cell}
 use Rattle.found_rule.proofs.KnownFacts.{RefRight, TypedRight, IsLiveAs}
 use Rattle.found_rule.proofs.KnownStays.{owner_new, live_found, partial_found}
-use Rattle.found_rule.proofs.Counted.{lock_elsewhere}
-use Rattle.found_rule.proofs.Demands.{RefsMoved, same_rest, then_moved, moved_out, moved_in, refs_out, typed_out, refs_in, typed_in}
-use Rattle.found_rule.proofs.EntryAsks.{walked_inside}
-use Rattle.found_rule.proofs.EntryBits.{entry_asks_same, same_demand}
-use Rattle.found_rule.proofs.Serving.{AsksLive, PassesOn, target_serves, recorded_asks}
-use Rattle.found_rule.proofs.CellReach.{came_reach, cell_passes, live_unmarked, came_table}
-use Rattle.found_rule.proofs.CellFacts.{lock_type, lock_table, lock_live, live_alone, spared_alone, fix_none, zero_none, asks_hand}
+use Rattle.found_rule.proofs.Demands.{RefsMoved, same_rest, then_moved, moved_out, moved_in}
+use Rattle.found_rule.proofs.Serving.{PassesOn}
+use Rattle.found_rule.proofs.CellReach.{came_reach, cell_passes, came_table}
+use Rattle.found_rule.proofs.CellFacts.{lock_type, lock_table, live_alone, spared_alone, fix_none, zero_none}
 use Rattle.found_rule.proofs.MyHand.{refs_old, typed_old}
-use Rattle.found_rule.proofs.RestLaw.{rest_done}
+use Rattle.found_rule.proofs.RestLaw.{rest_done, rest_of}
 use Rattle.found_rule.proofs.Quiet.{Done}
-
--- the cell as it was last seen asks the same
-seen_by : (kind : PageType) (i new : ℕ) (o : Option Seen) → IsTrue (is_same_as_seen kind i new o) → (s : Seen) × (o ≡ Some s) × (s.index ≡ i) × (demand_at kind i s.word ≡ demand_at kind i new)
-seen_by kind i new (Some s) t =
-    elim (cases_eq s.index i) [
-      | inl at ↦ (let y : (s.index == i) ≡ true = grind (arith, nat_tests) in (s, refl, at, same_demand (demand_at kind i s.word) (demand_at kind i new) (rw y at t)))
-      | inr off ↦ absurd (let y : (s.index == i) ≡ false = grind (arith, nat_tests) in let q : false ≡ true = rw y at t in cc)
-    ]
-seen_by kind i new None t = absurd cc
+use Rattle.board_lemmas.proofs.EntryAsks.{walked_inside}
+use Rattle.board_lemmas.proofs.HandLists.{first-some}
+use Rattle.board_lemmas.proofs.Works.{only_my_lock}
+use Rattle.board_lemmas.proofs.KindForms.{live_unmarked}
+use Rattle.board_lemmas.proofs.LockFacts.{lock_facts, rewritten_same}
+use Rattle.board_lemmas.proofs.HandTypes.{refs_out, typed_out, refs_in, typed_in}
+use Rattle.board_lemmas.proofs.CountsDown.{lock_live, lock_some}
+use Rattle.board_lemmas.proofs.Serving.{AsksLive, target_serves, recorded_asks, asks_hand}
 
 pub table_levels : (t : PageType) → is_table t ≡ true → (1 ≤ type_number t) × (type_number t ≤ 4)
 table_levels t e = (grind (arith, nat_tests), grind (arith, nat_tests))
@@ -70,18 +60,7 @@ module _ (n : Machine) (s : ℕ) (x : Step) (m m2 : Place → ℕ) (b c : ℕ �
       let reach = came_reach n s m m2 b c u sound others acted.learned.cache acted.learned.walk (cell_passes n m m2 b sound f i o passes)
       (λ y k. inl (cached y (subst (λ xs. Member y xs) moved.cache k))) (λ y k. inl (walked y (subst (λ w. Member y (reached_by w)) moved.walk k))) in
       rest_done n s p m m2 b c u acted l sound others
-      (record {
-        works = moved.works;
-        locks = moved.locks;
-        ending = moved.ending;
-        claimed = moved.claimed;
-        raised = moved.raised;
-        looking = moved.looking;
-        cold = moved.cold;
-        turn = moved.turn;
-        acked = moved.acked;
-        ran = moved.ran;
-      })
+      (rest_of (b s) u moved)
       (λ g. o (Kind g) (λ e. cc)) (λ g. o (Refs g) (λ e. cc)) words reach fix zeros (λ v. o (flushed_of v) (λ e. cc)) (λ v. o (run_of v) (λ e. cc))
       (refs (refs_old n s p m m2 b c u acted l sound words reach)) (typed (typed_old n s p m m2 b c u acted l sound words reach))
       (let g = (sound.formed s l).cache in record { few = rw (moved.cache) g.few; walk = λ y t. g.walk y (sym moved.walk ∙ t) })
@@ -89,11 +68,11 @@ module _ (n : Machine) (s : ℕ) (x : Step) (m m2 : Place → ℕ) (b c : ℕ �
   -- ---- a table under the own lock
   module _ (e : Lock) (here : lock_on f (b s).locks ≡ Some e) where
     some : 0 < locks_on f (b s).locks
-    some = first_by-some (λ y. y.frame) f e (b s).locks here
+    some = first-some (λ y. y.frame) f e (b s).locks here
 
     live : ((kind_at m f).validated ≡ true) × (0 < (kind_at m f).number)
     unfolding some
-    live = lock_live n m b sound f s l some
+    live = (lock_live n m b sound s l f some, lock_some n m b sound s l f some)
 
     alone : (t : ℕ) → t < (sizes_of n).vcpus → (works_on f (b t).works ≡ 0) × (claims_of f (b t).claimed ≡ 0)
     unfolding live
@@ -103,13 +82,13 @@ module _ (n : Machine) (s : ℕ) (x : Step) (m m2 : Place → ℕ) (b c : ℕ �
     unfolding some alone
     lock_spares t k d =
         let q = alone t k in
-        spared_alone n m b sound f m2 i t q.0 q.1 (λ have. absurd (let y = lock_elsewhere n m b sound s t f l k d some in omega arith))
+        spared_alone n m b sound f m2 i t q.0 q.1 (λ have. absurd (let y = only_my_lock n m b sound.alone f s t l k d some in omega arith))
 
     -- the new entry asks what is there
     lock_passes : AsksLive m (demand_at e.kind i (m2 (Cell f i))) → (v : ℕ) → v < (sizes_of n).vcpus → PassesOn n m m2 b v f i
     unfolding live
     lock_passes asks v k level came walks present inside =
-        let table = came_table n m b sound v f level k (live_unmarked n m b sound f live.0) came in
+        let table = came_table n m b sound v f level k (live_unmarked n m f sound.spelled live.0) came in
         inr (inl (target_serves m e.kind level i (m2 (Cell f i)) table.1 (sym (ap type_number (lock_type n m b sound f s l e here)) ∙ table.0) walks present asks))
 
     lock_done : (u : Holdings) → Act n s (Cell f i) m m2 (b s) u (c s) → RefsMoved (b s) u → ((v : ℕ) → v < (sizes_of n).vcpus → PassesOn n m m2 b v f i) →
@@ -131,20 +110,13 @@ module _ (n : Machine) (s : ℕ) (x : Step) (m m2 : Place → ℕ) (b c : ℕ �
 
     -- the same demand as that of the recorded entry
     same_asks : IsTrue (keeps_demand e i (m2 (Cell f i))) → i < 512 → AsksLive m (demand_at e.kind i (m2 (Cell f i)))
-    unfolding some live
+    unfolding live
     same_asks same inside =
-        let z = sizes_of n in
-        let p = seen_by e.kind i (m2 (Cell f i)) e.seen same in
-        let frame = first_by-key (λ y. y.frame) f e (b s).locks here in
-        let formed = first_by-each (IsLockFormed n (b s)) (λ y. y.frame) f e (b s).locks (sound.formed s l).locks here in
-        let found = first_by-each (LockFound z m (b s)) (λ y. y.frame) f e (b s).locks (sound.found s l).locks here in
-        let last : last_since z e.since (Cell e.frame (p.0).index) (b s).steps ≡ Some (p.0).word = subst (λ o. SeenIs z e.since e.frame (b s).steps o) p.1 formed.seen in
-        let entry : IsTrue (is_same_entry (m (Cell f i)) (p.0).word) =
-        subst (λ g. IsTrue (is_same_entry (m (Cell g i)) (p.0).word)) frame (subst (λ j. IsTrue (is_same_entry (m (Cell e.frame j)) (p.0).word)) p.2 (found (p.0).index (p.0).word last)) in
-        let kind = lock_type n m b sound f s l e here in
-        let levels = table_levels (kind_at m f).kind (lock_table n m b sound f s l some) in
-        let old : AsksLive m (demand_at (kind_at m f).kind i (m (Cell f i))) = recorded_asks n m b sound f i inside live.0 live.1 levels.0 levels.1 in
-        subst (λ d. AsksLive m d) (entry_asks_same e.kind i (m (Cell f i)) (p.0).word entry ∙ p.3) (subst (λ t. AsksLive m (demand_at t i (m (Cell f i)))) kind old)
+        let k = lock_facts n m b s f e sound l here in
+        let asks = rewritten_same n m b s f i (m2 (Cell f i)) e k same in
+        let levels = table_levels (kind_at m f).kind k.table in
+        let old = recorded_asks n m b sound f i inside live.0 live.1 levels.0 levels.1 in
+        subst (λ d. AsksLive m d) (sym asks ∙ ap (λ t. demand_at t i (m2 (Cell f i))) k.kind) old
 
   inside_of : Exchanged n x f i m m2 (b s) (c s) → i < 512
   unfolding is_place

@@ -1,15 +1,9 @@
 -- What a demand that goes out of the hand, or comes in, leaves of it.
-use Rattle.std.proofs.Common.{◌≡◌, ℕ, refl, ap, ◌∙◌, Bool}
-use Rattle.xp_words.specs.declared.kind.PageType.{PageType}
+use Rattle.std.proofs.Common.{◌≡◌, refl, ap, ◌∙◌, Bool}
 use Rattle.xp_words.specs.declared.entry.Demand.{Demand}
 use Rattle.xp_words.specs.declared.entry.Demand.TheVariants.{Nothing, Bad, Read, Typed}
-use Rattle.xp_board.specs.declared.holdings.Reference.{Reference}
-use Rattle.xp_board.specs.declared.holdings.TypedReference.{TypedReference}
 use Rattle.xp_board.specs.declared.holdings.Holdings.{Holdings}
-use Rattle.xp_board.specs.Lists.{EachOf}
-use Rattle.xp_board.specs.Hands.{brought, brought_as}
 use Rattle.xp_board.specs.Settling.{demand_in, demand_out}
-use Rattle.found_rule.proofs.StepLists.{EachOf-more, EachOf-without}
 
 -- all but references
 pub record RefsMoved (a u : Holdings) : Type 0 where
@@ -61,30 +55,6 @@ moved_in sure (Read g) a = same_rest a (demand_in sure (Read g) a) refl
 moved_in sure (Typed g t) a = same_rest a (demand_in sure (Typed g t) a) refl
 moved_in sure Nothing a = same_rest a a refl
 moved_in sure Bad a = same_rest a a refl
-
-pub refs_out : (P : Reference → Type 0) (d : Demand) (a : Holdings) → EachOf P a.refs → EachOf P (demand_out d a).refs
-refs_out P (Read g) a h = EachOf-without P (λ e. e.frame) g a.refs h
-refs_out P (Typed g t) a h = h
-refs_out P Nothing a h = h
-refs_out P Bad a h = h
-
-pub typed_out : (P : TypedReference → Type 0) (d : Demand) (a : Holdings) → EachOf P a.typed → EachOf P (demand_out d a).typed
-typed_out P (Typed g t) a h = EachOf-without P (λ e. e.frame) g a.typed h
-typed_out P (Read g) a h = h
-typed_out P Nothing a h = h
-typed_out P Bad a h = h
-
-pub refs_in : (sure : Bool) (P : Reference → Type 0) (d : Demand) (a : Holdings) → ((g : ℕ) → P (brought g a)) → EachOf P a.refs → EachOf P (demand_in sure d a).refs
-refs_in sure P (Read g) a new h = EachOf-more P (brought g a) a.refs (new g) h
-refs_in sure P (Typed g t) a new h = h
-refs_in sure P Nothing a new h = h
-refs_in sure P Bad a new h = h
-
-pub typed_in : (sure : Bool) (P : TypedReference → Type 0) (d : Demand) (a : Holdings) → ((g : ℕ) (t : PageType) → d ≡ Typed g t → P (brought_as sure g t a)) → EachOf P a.typed → EachOf P (demand_in sure d a).typed
-typed_in sure P (Typed g t) a new h = EachOf-more P (brought_as sure g t a) a.typed (new g t refl) h
-typed_in sure P (Read g) a new h = h
-typed_in sure P Nothing a new h = h
-typed_in sure P Bad a new h = h
 
 pub then_moved : (a u w : Holdings) → RefsMoved a u → RefsMoved u w → RefsMoved a w
 then_moved a u w h k =

@@ -1,46 +1,32 @@
 -- The own translations are flushed.
-use Rattle.std.proofs.Common.{◌≡◌, ◌≢◌, ℕ, suc, ◌<◌, ◌≤◌, ◌==◌, nat_lt, if◌then◌else◌, true, false, [], length, None, refl, sym, ap, subst, ◌∙◌, ◌⊎◌, inl, inr, arith}
+use Rattle.std.proofs.Common.{◌≡◌, ◌≢◌, ℕ, suc, ◌<◌, ◌≤◌, ◌==◌, nat_lt, true, false, [], length, None, refl, sym, ap, subst, ◌∙◌, ◌⊎◌, inl, inr, arith}
 use Rattle.std.proofs.lemmas.Bool.{cases_eq, cases_Bool, eqb-true, ltb-true}
-use Rattle.std.proofs.lemmas.Bool.Decides.{nat_tests}
 use Rattle.xp_words.specs.Machine.{Machine}
-use Rattle.xp_words.specs.Places.{Sizes, sizes_of, Place, Clock, Vcpu, Refs, Kind, Cell, place_at, flushed_of, run_of}
+use Rattle.xp_words.specs.Places.{sizes_of, Place, Clock, Vcpu, Refs, Kind, Cell, place_at, flushed_of, run_of}
 use Rattle.xp_board.specs.declared.step.Step.{Step}
 use Rattle.xp_board.specs.declared.holdings.Holdings.{Holdings}
-use Rattle.xp_board.specs.Lists.{Member}
 use Rattle.xp_board.specs.Steps.{left_of, EachSince}
 use Rattle.xp_board.specs.Readings.{told_value}
-use Rattle.xp_board.specs.Reach.{Use, Reach, cached, walked, entry, reached_by}
+use Rattle.xp_board.specs.Reach.{Reach}
 use Rattle.xp_board.specs.Found.{ClockFound, before_off, FlushedSinceOff, ColdSinceOff}
 use Rattle.xp_board.specs.AckSteps.{after_ack}
 use Rattle.xp_board.specs.After.{noted}
 use Rattle.xp_board.specs.Sound.{Sound}
 use Rattle.step_effects.proofs.ActEffects.{Flushed}
-use Rattle.found_rule.proofs.StepLists.{EachOf-map, EachOf-all}
-use Rattle.found_rule.proofs.MoreSteps.{EachSince-some}
 use Rattle.found_rule.proofs.Learning.{Act, act}
 use Rattle.found_rule.proofs.ReachSame.{reach_same}
 use Rattle.found_rule.proofs.Words.{Words}
 use Rattle.found_rule.proofs.WordFacts.{told_some, off_same, cold_same}
-use Rattle.found_rule.proofs.QuietSteps.{if_same}
 use Rattle.found_rule.proofs.WordsOf.{words_lone, lone_vcpu}
 use Rattle.found_rule.proofs.HandFacts.{ReachKept}
 use Rattle.found_rule.proofs.MyHand.{HandRight, hand_with, mine_by}
 use Rattle.found_rule.proofs.Outcome.{all_grown}
 use Rattle.found_rule.proofs.FormedLaw.{formed_by, ending_formed_old, claimed_formed_old}
 use Rattle.found_rule.proofs.Quiet.{Done, fix_kept, zero_kept, works_form, locks_form}
-
-pub if_mine : (s : ℕ) (u v : Holdings) → (if s == s then u else v) ≡ u
-if_mine s u v = let t : (s == s) ≡ true = grind (arith, nat_tests) in rw t refl
-
--- nothing is reached without a translation
-member_none : {A : Type 0} (x : A) → Member x [] → ⊥
-unfolding Member
-member_none x h = h
-
-reach_none : (z : Sizes) (m : Place → ℕ) (u : Holdings) → u.cache ≡ [] → u.walk ≡ None → {g : ℕ} {p : Use} → Reach z m u g p → ⊥
-reach_none z m u cache walk (cached x c) = member_none x (subst (λ l. Member x l) cache c)
-reach_none z m u cache walk (walked x c) = member_none x (subst (λ o. Member x (reached_by o)) walk c)
-reach_none z m u cache walk (entry f level i r w p b) = reach_none z m u cache walk r
+use Rattle.board_lemmas.proofs.HandLists.{EachOf-map, EachOf-all}
+use Rattle.board_lemmas.proofs.MoreSteps.{EachSince-some}
+use Rattle.board_lemmas.proofs.ReachAll.{Reach-none}
+use Rattle.board_lemmas.proofs.Sums.{either}
 
 module _ (n : Machine) (s : ℕ) (x : Step) (m m2 : Place → ℕ) (b c : ℕ → Holdings) (l : s < (sizes_of n).vcpus) (sound : Sound n m b) (others : (t : ℕ) → t ≢ s → c t ≡ b t) where
   -- ---- an act on a word of the own vCPU, which may drop its translations
@@ -56,7 +42,7 @@ module _ (n : Machine) (s : ℕ) (x : Step) (m m2 : Place → ℕ) (b c : ℕ �
           | inl at ↦
               (let mine = subst (λ y. Reach (sizes_of n) m2 (c y) f p) at past in
               elim how [
-                | inl none ↦ absurd (reach_none (sizes_of n) m2 (c s) (acted.learned.cache ∙ none.0) (acted.learned.walk ∙ none.1) mine)
+                | inl none ↦ absurd (Reach-none (acted.learned.cache ∙ none.0) (acted.learned.walk ∙ none.1) mine)
                 | inr same ↦
                     inl
                     (subst (λ y. Reach (sizes_of n) m (b y) f p) (sym at)
@@ -127,7 +113,7 @@ module _ (n : Machine) (s : ℕ) (x : Step) (m m2 : Place → ℕ) (b c : ℕ �
       let p = flushed_of s in
       let u = after_ack (b s) in
       let new = m2 (flushed_of s) in
-      let acted = act n s x p m m2 (b s) u (c s) w.place w.real w.left w.others refl refl refl refl (d.hand ∙ ap (noted x (m p)) (sym (if_same (s == s) u))) in
+      let acted = act n s x p m m2 (b s) u (c s) w.place w.real w.left w.others refl refl refl refl (d.hand ∙ ap (noted x (m p)) (sym (either (λ y. y ≡ u) (s == s) u u refl refl))) in
       let f = sound.found s l in
       let within : new ≤ m Clock = told_some z (b s).acked new (m Clock) (b s).steps f.clock d.may.told in
       let since = EachSince-some z (b s).acked Clock (λ y. m (flushed_of s) ≤ y) (λ y. y == new) (b s).steps f.since_ack d.may.told in

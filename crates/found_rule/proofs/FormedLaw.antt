@@ -9,10 +9,12 @@ use Rattle.xp_board.specs.Steps.{last_since}
 use Rattle.xp_board.specs.Hands.{works_on, locks_on, endings_of, claims_of, changed_work, changed_lock}
 use Rattle.xp_board.specs.After.{learned_work, learned_lock, learned_claim}
 use Rattle.xp_board.specs.WellFormed.{IsWorkFormed, IsLockFormed, IsRaisedFormed, IsLookingFormed, IsCacheFormed, WellFormed}
-use Rattle.found_rule.proofs.StepLists.{EachOf-map, EachOf-both, EachOf-changed, EachOf-changes, times_by-changed}
 use Rattle.found_rule.proofs.Growth.{Grown, added, grown_longer, grown_once, grown_places}
 use Rattle.found_rule.proofs.Learning.{CellsLearned, cells_off, cells_at, WordLearned, word_off, word_at, looking_each, Act, acted_here, acted_off}
 use Rattle.found_rule.proofs.FormedWorks.{FormedWork, work_stays, work_learned, lock_stays, lock_learned}
+use Rattle.board_lemmas.proofs.HandLists.{EachOf-map, times-changed}
+use Rattle.board_lemmas.proofs.ListCounts.{EachOf-both}
+use Rattle.board_lemmas.proofs.ListChanges.{EachOf-changes, EachOf-changed_one}
 
 -- the hand that the act leaves
 pub record FormedHand (n : Machine) (s : ℕ) (b u w : Holdings) : Type 0 where
@@ -38,18 +40,12 @@ module _ (n : Machine) (s : ℕ) (p : Place) (m m2 : Place → ℕ) (b u w : Hol
   long : length w.steps ≡ suc (length b.steps)
   long = ap length acted.steps
 
-  here : (k : ℕ) → k ≤ length b.steps → last_since (sizes_of n) k p w.steps ≡ Some (m2 p)
-  here k l = acted_here n s p m m2 b u w acted k l
-
-  off : (k : ℕ) (q : Place) → k ≤ length b.steps → p ≢ q → last_since (sizes_of n) k q w.steps ≡ last_since (sizes_of n) k q b.steps
-  off k q l o = acted_off n s p m m2 b u w acted k q l o
-
   -- ---- works and locks
   work_off : ((f i : ℕ) → p ≢ Cell f i) → EachOf (IsWorkFormed n b) b.works → EachOf (IsWorkFormed n w) b.works
   unfolding longer more
   work_off o h =
       EachOf-map (IsWorkFormed n b) (IsWorkFormed n w) b.works
-      (λ e t. work_stays n b w longer (grown_once (sizes_of n) m m2 b.steps w.steps more) e (λ i. off e.unmarked (Cell e.frame i) t.past (o e.frame i)) t) h
+      (λ e t. work_stays n b w longer (grown_once (sizes_of n) m m2 b.steps w.steps more) e (λ i. acted_off n s p m m2 b u w acted e.unmarked (Cell e.frame i) t.past (o e.frame i)) t) h
 
   -- where the act wrote no cell
   pub works_formed_old : ((f i : ℕ) → p ≢ Cell f i) → WellFormed n s b → EachOf (IsWorkFormed n w) b.works
@@ -59,7 +55,7 @@ module _ (n : Machine) (s : ℕ) (p : Place) (m m2 : Place → ℕ) (b u w : Hol
   unfolding longer more
   locks_formed_old o c =
       EachOf-map (IsLockFormed n b) (IsLockFormed n w) b.locks
-      (λ e t. lock_stays n b w longer (grown_once (sizes_of n) m m2 b.steps w.steps more) e (λ i. off e.since (Cell e.frame i) t.past (o e.frame i)) t) c.locks
+      (λ e t. lock_stays n b w longer (grown_once (sizes_of n) m m2 b.steps w.steps more) e (λ i. acted_off n s p m m2 b u w acted e.since (Cell e.frame i) t.past (o e.frame i)) t) c.locks
 
   works_by : CellsLearned p (m2 p) u w → u.works ≡ b.works → ((f : ℕ) → works_on f b.works ≤ 1) → EachOf (FormedWork n b) b.works → EachOf (IsWorkFormed n w) w.works
   unfolding longer more
@@ -67,14 +63,14 @@ module _ (n : Machine) (s : ℕ) (p : Place) (m m2 : Place → ℕ) (b u w : Hol
       subst (λ x. EachOf (IsWorkFormed n w) x) (sym (k ∙ same)) (work_off o (EachOf-map (FormedWork n b) (IsWorkFormed n b) b.works (λ e t. t.formed) h))
   works_by (cells_at f i at k l d) same one h =
       subst (λ x. EachOf (IsWorkFormed n w) x) (sym (k ∙ ap (λ xs. changed_work f (learned_work i (m2 p)) xs) same))
-      (EachOf-changed (FormedWork n b) (IsWorkFormed n w) (λ e. e.frame) f (learned_work i (m2 p)) b.works (one f)
+      (EachOf-changed_one (FormedWork n b) (IsWorkFormed n w) (λ e. e.frame) f (learned_work i (m2 p)) b.works (one f)
       (λ e is t.
       work_learned n b w longer (grown_once (sizes_of n) m m2 b.steps w.steps more) i (m2 p) e
-      (subst (λ q. last_since (sizes_of n) e.unmarked q w.steps ≡ Some (m2 p)) (at ∙ ap (λ g. Cell g i) (sym is)) (here e.unmarked t.formed.past))
-      (λ j r. off e.unmarked (Cell e.frame j) t.formed.past (λ q. let y : Cell f i ≡ Cell e.frame j = sym at ∙ q in r (cc))) t)
+      (subst (λ q. last_since (sizes_of n) e.unmarked q w.steps ≡ Some (m2 p)) (at ∙ ap (λ g. Cell g i) (sym is)) (acted_here n s p m m2 b u w acted e.unmarked t.formed.past))
+      (λ j r. acted_off n s p m m2 b u w acted e.unmarked (Cell e.frame j) t.formed.past (λ q. let y : Cell f i ≡ Cell e.frame j = sym at ∙ q in r (cc))) t)
       (λ e r t.
       work_stays n b w longer (grown_once (sizes_of n) m m2 b.steps w.steps more) e
-      (λ j. off e.unmarked (Cell e.frame j) t.formed.past (λ q. let y : Cell f i ≡ Cell e.frame j = sym at ∙ q in r (cc))) t.formed)
+      (λ j. acted_off n s p m m2 b u w acted e.unmarked (Cell e.frame j) t.formed.past (λ q. let y : Cell f i ≡ Cell e.frame j = sym at ∙ q in r (cc))) t.formed)
       h)
 
   locks_by : CellsLearned p (m2 p) u w → u.locks ≡ b.locks → ((f : ℕ) → locks_on f b.locks ≤ 1) → EachOf (IsLockFormed n b) b.locks → EachOf (IsLockFormed n w) w.locks
@@ -82,16 +78,16 @@ module _ (n : Machine) (s : ℕ) (p : Place) (m m2 : Place → ℕ) (b u w : Hol
   locks_by (cells_off o k l d) same one h =
       subst (λ x. EachOf (IsLockFormed n w) x) (sym (l ∙ same))
       (EachOf-map (IsLockFormed n b) (IsLockFormed n w) b.locks
-      (λ e t. lock_stays n b w longer (grown_once (sizes_of n) m m2 b.steps w.steps more) e (λ i. off e.since (Cell e.frame i) t.past (o e.frame i)) t) h)
+      (λ e t. lock_stays n b w longer (grown_once (sizes_of n) m m2 b.steps w.steps more) e (λ i. acted_off n s p m m2 b u w acted e.since (Cell e.frame i) t.past (o e.frame i)) t) h)
   locks_by (cells_at f i at k l d) same one h =
       subst (λ x. EachOf (IsLockFormed n w) x) (sym (l ∙ ap (λ xs. changed_lock f (learned_lock i (m2 p)) xs) same))
-      (EachOf-changed (IsLockFormed n b) (IsLockFormed n w) (λ e. e.frame) f (learned_lock i (m2 p)) b.locks (one f)
+      (EachOf-changed_one (IsLockFormed n b) (IsLockFormed n w) (λ e. e.frame) f (learned_lock i (m2 p)) b.locks (one f)
       (λ e is t.
       lock_learned n b w longer (grown_once (sizes_of n) m m2 b.steps w.steps more) i (m2 p) e
-      (subst (λ q. last_since (sizes_of n) e.since q w.steps ≡ Some (m2 p)) (at ∙ ap (λ g. Cell g i) (sym is)) (here e.since t.past)) t)
+      (subst (λ q. last_since (sizes_of n) e.since q w.steps ≡ Some (m2 p)) (at ∙ ap (λ g. Cell g i) (sym is)) (acted_here n s p m m2 b u w acted e.since t.past)) t)
       (λ e r t.
       lock_stays n b w longer (grown_once (sizes_of n) m m2 b.steps w.steps more) e
-      (λ j. off e.since (Cell e.frame j) t.past (λ q. let y : Cell f i ≡ Cell e.frame j = sym at ∙ q in r (cc))) t)
+      (λ j. acted_off n s p m m2 b u w acted e.since (Cell e.frame j) t.past (λ q. let y : Cell f i ≡ Cell e.frame j = sym at ∙ q in r (cc))) t)
       h)
 
   -- where the act moved none
@@ -120,11 +116,11 @@ module _ (n : Machine) (s : ℕ) (p : Place) (m m2 : Place → ℕ) (b u w : Hol
 
   claims_same : CellsLearned p (m2 p) u w → (g : ℕ) → claims_of g w.claimed ≡ claims_of g u.claimed
   claims_same (cells_off o k l d) g = ap (λ x. claims_of g x) d
-  claims_same (cells_at f i at k l d) g = ap (λ x. claims_of g x) d ∙ times_by-changed (λ e. e.frame) f g (learned_claim i (m2 p)) u.claimed (λ e. refl)
+  claims_same (cells_at f i at k l d) g = ap (λ x. claims_of g x) d ∙ times-changed (λ e. e.frame) g f (learned_claim i (m2 p)) u.claimed (λ e. refl)
 
   own_by : (q : Place) (x y z : Option ℕ) → y ≡ x → WordLearned p q (m2 p) y z → x ≡ last_since (sizes_of n) 0 q b.steps → z ≡ last_since (sizes_of n) 0 q w.steps
-  own_by q x y z e (word_off o k) h = k ∙ e ∙ h ∙ sym (off 0 q (omega arith) o)
-  own_by q x y z e (word_at o k) h = k ∙ sym (here 0 (omega arith)) ∙ ap (λ v. last_since (sizes_of n) 0 v w.steps) o
+  own_by q x y z e (word_off o k) h = k ∙ e ∙ h ∙ sym (acted_off n s p m m2 b u w acted 0 q (omega arith) o)
+  own_by q x y z e (word_at o k) h = k ∙ sym (acted_here n s p m m2 b u w acted 0 (omega arith)) ∙ ap (λ v. last_since (sizes_of n) 0 v w.steps) o
 
   pub formed_by : FormedHand n s b u w → WellFormed n s b → WellFormed n s w
   unfolding more

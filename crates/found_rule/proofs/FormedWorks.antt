@@ -14,8 +14,8 @@ use Rattle.xp_board.specs.declared.holdings.Holdings.{Holdings}
 use Rattle.xp_board.specs.Steps.{last_since, some_before}
 use Rattle.xp_board.specs.After.{learned_work, learned_lock, learned_last, counts_fixed, is_fixed}
 use Rattle.xp_board.specs.Readings.{is_type}
-use Rattle.found_rule.proofs.KnownFacts.{type_by}
 use Rattle.xp_board.specs.WellFormed.{SeenIs, LastIs, IsWorkFormed, IsLockFormed}
+use Rattle.board_lemmas.proofs.EntryWords.{type_same}
 
 -- what is well formed, and nothing is recorded of it while it is marked
 pub record FormedWork (n : Machine) (a : Holdings) (e : Work) : Type 0 where
@@ -99,7 +99,7 @@ module _ (n : Machine) (a b : Holdings) (longer : length a.steps ≤ length b.st
     -- the words that are known to be fixed are those of a descriptor page
     fixed_learned : (t : Bool) → counts_fixed i w e ≡ t → (kind_fields e.word).unflushed ≡ false → (0 < e.fixed → ((kind_fields e.word).unflushed ≡ false) × ((kind_fields e.word).kind ≡ kinds.Desc)) →
         0 < (if t then e.fixed + 1 else e.fixed) → ((kind_fields e.word).unflushed ≡ false) × ((kind_fields e.word).kind ≡ kinds.Desc)
-    fixed_learned true q off h some = (off, type_by (kind_fields e.word).kind kinds.Desc (and_parts (is_type (kind_fields e.word).kind kinds.Desc) ((i == e.fixed) && is_fixed w) q).0)
+    fixed_learned true q off h some = (off, type_same (kind_fields e.word).kind kinds.Desc (and_parts (is_type (kind_fields e.word).kind kinds.Desc) ((i == e.fixed) && is_fixed w) q).0)
     fixed_learned false q off h some = h some
 
     work_learned_if : (t : Bool) → (kind_fields e.word).unflushed ≡ t → FormedWork n a e →

@@ -1,27 +1,29 @@
 -- All that seats have found stays true at an act of seat s that leaves words so, and of whose own hand what it has is known.
-use Rattle.std.proofs.Common.{◌≡◌, ◌≢◌, ℕ, ◌<◌, ◌≤◌, length, Option, Some, IsTrue, sym, ap, subst, ◌∙◌, ◌⊎◌, inl, inr, arith}
+use Rattle.std.proofs.Common.{◌≡◌, ◌≢◌, ℕ, ◌<◌, ◌≤◌, length, Option, Some, sym, ap, subst, ◌∙◌, ◌⊎◌, inl, inr, arith}
 use Rattle.std.proofs.lemmas.Bool.{cases_eq}
 use Rattle.xp_words.specs.Machine.{Machine}
-use Rattle.xp_words.specs.Places.{sizes_of, Place, Clock, Vcpu, Cell, Priv, is_place, flushed_of, run_of}
+use Rattle.xp_words.specs.Places.{sizes_of, Place, Clock, Vcpu, Cell, flushed_of, run_of}
 use Rattle.xp_board.specs.declared.holdings.TypedReference.{TypedReference}
 use Rattle.xp_board.specs.declared.holdings.Lock.{Lock}
 use Rattle.xp_board.specs.declared.holdings.Holdings.{Holdings}
 use Rattle.xp_board.specs.Lists.{EachOf}
-use Rattle.xp_board.specs.Readings.{kind_at, domain_of, told_value, has_now, has_ever, type_count}
+use Rattle.xp_board.specs.Readings.{kind_at, domain_of, told_value, type_count}
 use Rattle.xp_board.specs.Found.{ClockFound, ClockSinceAck, FlushedSinceOff, ColdSinceOff, WorkFound, LockFound, EndingFound, ClaimFound, OwnFound, Found}
 use Rattle.xp_board.specs.Sound.{Sound, WorkAgrees}
-use Rattle.found_rule.proofs.StepLists.{EachOf-both, EachOf-there}
 use Rattle.found_rule.proofs.Growth.{Grown, stayed, added}
 use Rattle.found_rule.proofs.Learning.{WordLearned, word_off, word_at, Act, acted_here, acted_off}
 use Rattle.found_rule.proofs.Words.{Moves, Spares, Words}
-use Rattle.found_rule.proofs.WordFacts.{clock_law, flushed_law, stopped_law, life_law, privileges_law, since_ack_law, since_off_law, cold_off_law, EachSince-none}
+use Rattle.found_rule.proofs.WordFacts.{clock_law, flushed_law, stopped_law, life_law, privileges_law, since_ack_law, since_off_law, cold_off_law}
 use Rattle.found_rule.proofs.KnownFacts.{RefRight, TypedRight, LockRight, KnownRight, known_each, owners_by, lives_by, partials_by}
 use Rattle.found_rule.proofs.KnownStays.{owner_right, live_right, live_kept, partial_right}
-use Rattle.found_rule.proofs.Counted.{types_within, typed_ref_counted, lock_counted, ref_counted, work_busy}
 use Rattle.found_rule.proofs.HandFacts.{ReachKept, their_work, their_lock, their_claim}
-use Rattle.found_rule.proofs.SoundWords.{told_within, had, work_counted}
+use Rattle.found_rule.proofs.SoundWords.{told_within, had, work_counted, typed_ref_counted, lock_counted, ref_counted}
 use Rattle.xp_board.specs.Steps.{last_since}
 use Rattle.board_lemmas.proofs.PlaceTests.{same_or_other}
+use Rattle.board_lemmas.proofs.ListCounts.{EachOf-both, EachOf-there}
+use Rattle.board_lemmas.proofs.Counted.{type_below}
+use Rattle.board_lemmas.proofs.Works.{is_busy-mine}
+use Rattle.board_lemmas.proofs.MoreSteps.{EachSince-none}
 
 -- of vCPUs that were found off
 pub record Offs (n : Machine) (m m2 : Place → ℕ) (b c : ℕ → Holdings) : Type 0 where
@@ -54,7 +56,7 @@ module _ (n : Machine) (m m2 : Place → ℕ) (b : ℕ → Holdings) (sound : So
   typed_kept_one e some c =
       let z = sizes_of n in
       let kind = k.kind e.frame some in
-      let owner = k.owner e.frame (let q = types_within n m b sound e.frame in omega arith) in
+      let owner = k.owner e.frame (let q = type_below (sizes_of n) m b e.frame sound.counts in omega arith) in
       record {
         owner = owner_right z m m2 (b t).steps w.steps g e.frame owner e.owner c.owner;
         live = live_right z m m2 (b t).steps w.steps g e.frame (k.live e.frame some) kind e.kind e.live c.live;
@@ -69,7 +71,7 @@ module _ (n : Machine) (m m2 : Place → ℕ) (b : ℕ → Holdings) (sound : So
   lock_kept_one : (e : Lock) → 0 < type_count (kind_at m e.frame) → LockRight (sizes_of n) m (b t).steps e → LockRight (sizes_of n) m2 w.steps e
   lock_kept_one e some c =
       let z = sizes_of n in
-      let owner = k.owner e.frame (let q = types_within n m b sound e.frame in omega arith) in
+      let owner = k.owner e.frame (let q = type_below (sizes_of n) m b e.frame sound.counts in omega arith) in
       record {
         owner = owner_right z m m2 (b t).steps w.steps g e.frame owner e.owner c.owner;
         live = λ y h. live_kept z m m2 (b t).steps w.steps g e.frame (k.live e.frame some) (k.kind e.frame some) y (c.live y h);
@@ -85,9 +87,6 @@ module _ (n : Machine) (s : ℕ) (p : Place) (m m2 : Place → ℕ) (b c : ℕ �
     (words : Words n s m m2 b) (reach : ReachKept n m m2 b c) (offs : Offs n m m2 b c) (others : (t : ℕ) → t ≢ s → c t ≡ b t) where
   told_was : (q : Place) → told_value q (m q) ≤ m Clock
   told_was q = told_within n m sound.stamped q
-
-  priv_was : (d : ℕ) → IsTrue (is_place (sizes_of n) (Priv d)) → (o : ℕ) → o < 16 → IsTrue (has_now o (m (Priv d))) → IsTrue (has_ever o (m (Priv d)))
-  priv_was d r = had n m d (sound.spelled.spelled (Priv d) r)
 
   -- of another seat
   module _ (t : ℕ) (k : t < (sizes_of n).vcpus) (d : t ≢ s) (same : c t ≡ b t) where
@@ -115,7 +114,7 @@ module _ (n : Machine) (s : ℕ) (p : Place) (m m2 : Place → ℕ) (b c : ℕ �
     works =
         EachOf-there (λ e. WorkFound n m b (b t) e × (WorkAgrees (b t) e × ((i : ℕ) → i < e.fixed → m2 (Cell e.frame i) ≡ m (Cell e.frame i)))) (WorkFound n m2 c (c t)) (λ e. e.frame) (b t).works
         (λ e there old.
-        their_work n m m2 b c sound.fresh.each reach words.moves.ever (b t) (c t) grown steps e (work_busy n m b sound t e.frame k there)
+        their_work n m m2 b c sound.fresh.each reach words.moves.ever (b t) (c t) grown steps e (is_busy-mine n m b sound.alone e.frame t k there)
         (words.moves.owner e.frame (work_counted n m b sound t k e there old.0 (old.1).0)) (spared.works e.frame there)
         (λ inside i. spared.work_cells e.frame i there inside) (old.1).1 old.0)
         (EachOf-both (WorkFound n m b (b t)) (λ e. WorkAgrees (b t) e × ((i : ℕ) → i < e.fixed → m2 (Cell e.frame i) ≡ m (Cell e.frame i))) (b t).works (sound.found t k).works
@@ -170,7 +169,7 @@ module _ (n : Machine) (s : ℕ) (p : Place) (m m2 : Place → ℕ) (b c : ℕ �
           locks = (subst (λ xs. EachOf (LockFound (sizes_of n) m2 (c t)) xs) (sym (ap (λ y. y.locks) same)) locks);
           endings = (subst (λ xs. EachOf (EndingFound m2) xs) (sym (ap (λ y. y.ending) same)) endings);
           claims = (subst (λ xs. EachOf (ClaimFound (sizes_of n) m2 (domain_of n t) (c t)) xs) (sym (ap (λ y. y.claimed) same)) claims);
-          privileges = (privileges_law n m m2 j told_was a (c t) grown priv_was f.privileges);
+          privileges = (privileges_law n m m2 j told_was a (c t) grown (had n m b sound) f.privileges);
           own = own;
         }
 
@@ -224,7 +223,7 @@ module _ (n : Machine) (s : ℕ) (p : Place) (m m2 : Place → ℕ) (b c : ℕ �
           locks = mine.locks;
           endings = mine.endings;
           claims = mine.claims;
-          privileges = privileges_law n m m2 j told_was a (c s) more priv_was f.privileges;
+          privileges = privileges_law n m m2 j told_was a (c s) more (had n m b sound) f.privileges;
           own = record {
             run = λ y q. own_word (run_of s) a.run u.run (c s).run y acted.run acted.learned.run (λ o. f.own.run y o) q;
             words = λ k y o e r q. left_there (Vcpu s k) y (λ t. f.own.words k y o e (λ h. r (words.moves.stopped s h)) t) q (same_or_other (Vcpu s k) p);

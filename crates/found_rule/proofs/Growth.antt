@@ -5,8 +5,9 @@ use Rattle.xp_board.specs.declared.holdings.Made.{Made}
 use Rattle.xp_board.specs.Lists.{EachOf}
 use Rattle.xp_board.specs.Steps.{is_at, left_of, some_since, some_before, last_since, EachSince, steps_before}
 use Rattle.xp_board.specs.Readings.{told_value}
-use Rattle.found_rule.proofs.StepLists.{EachOf-more}
-use Rattle.found_rule.proofs.MoreSteps.{some_step-more, some_since-cases, last_since-cases, EachSince-more, steps_before-cases}
+use Rattle.board_lemmas.proofs.HandLists.{EachOf-more}
+use Rattle.board_lemmas.proofs.StepLists.{one_more}
+use Rattle.board_lemmas.proofs.MoreSteps.{some_since-cases, last_since-cases, EachSince-more, steps_before-cases}
 
 -- a step at p that found the word that stood there, and left that which stands there
 pub record Added (z : Sizes) (m m2 : Place → ℕ) (x : Made) (p : Place) : Type 0 where
@@ -86,7 +87,7 @@ pub grown_once : (z : Sizes) (m m2 : Place → ℕ) (xs ys : List Made) → Grow
     IsTrue (some_before z n p test xs) → IsTrue (some_before z n p test ys)
 grown_once z m m2 xs ys (stayed e) n p test h = subst (λ l. IsTrue (some_before z n p test l)) (sym e) h
 grown_once z m m2 xs ys (added x q a e) n p test h =
-    subst (λ l. IsTrue (some_before z n p test l)) (sym e) (some_step-more (λ k y. nat_lt k n && (is_at z p y && test (left_of y))) x xs h)
+    subst (λ l. IsTrue (some_before z n p test l)) (sym e) (one_more (λ k y. nat_lt k n && (is_at z p y && test (left_of y))) x xs h)
 
 pub grown_places : (z : Sizes) (m m2 : Place → ℕ) (xs ys : List Made) → Grown z m m2 xs ys →
     EachOf (λ x. IsTrue (is_place z (place_at z x.step.place))) xs → EachOf (λ x. IsTrue (is_place z (place_at z x.step.place))) ys

@@ -1,6 +1,6 @@
 -- Stores of the guest, and the bits that the own walk sets.
-use Rattle.std.proofs.Common.{◌≡◌, ◌≢◌, ℕ, ◌<◌, ◌==◌, ◌&&◌, not, Bool, true, false, IsTrue, refl, sym, ap, subst, ◌∙◌, inl, inr, arith}
-use Rattle.std.proofs.lemmas.Bool.{and_parts, eqb-true, not-true}
+use Rattle.std.proofs.Common.{◌≡◌, ◌≢◌, ℕ, ◌<◌, ◌&&◌, not, Bool, true, false, IsTrue, refl, sym, ap, ◌∙◌, inl, inr, arith}
+use Rattle.std.proofs.lemmas.Bool.{not-true}
 use Rattle.std.proofs.lemmas.Bool.Decides.{nat_tests}
 use Rattle.xp_words.specs.declared.kind.PageType.{PageType}
 use Rattle.xp_words.specs.declared.kind.PageType.TheVariants as kinds
@@ -9,28 +9,28 @@ use Rattle.xp_words.specs.KindWords.{kind_fields}
 use Rattle.xp_words.specs.Machine.{Machine}
 use Rattle.xp_words.specs.Places.{sizes_of, Place, Cell}
 use Rattle.xp_board.specs.declared.step.Step.{Step}
-use Rattle.xp_board.specs.declared.step.Item.{Item}
 use Rattle.xp_board.specs.declared.holdings.Holdings.{Holdings}
 use Rattle.xp_board.specs.Lists.{EachOf}
 use Rattle.xp_board.specs.Readings.{kind_at, is_type}
 use Rattle.xp_board.specs.Hands.{claims_of}
 use Rattle.xp_board.specs.After.{is_fixed}
-use Rattle.xp_board.specs.Reach.{Table, Writes, use_of, Reach, cached}
+use Rattle.xp_board.specs.Reach.{Table, Writes, Reach}
 use Rattle.xp_board.specs.Found.{WorkFound}
 use Rattle.xp_board.specs.Sound.{Sound}
 use Rattle.step_effects.proofs.ActEffects.{GuestStored}
-use Rattle.found_rule.proofs.StepLists.{EachOf-map, EachOf-both}
 use Rattle.found_rule.proofs.Learning.{Act, act}
 use Rattle.found_rule.proofs.WordsOf.{CellSpared}
 use Rattle.found_rule.proofs.Demands.{same_rest}
-use Rattle.found_rule.proofs.Serving.{not_reads}
-use Rattle.found_rule.proofs.CellReach.{unreached_passes, live_unmarked, unmarked_matches}
-use Rattle.found_rule.proofs.CellFacts.{FixedWorks, lock_table, lock_live, zero_none, some_member}
+use Rattle.found_rule.proofs.CellReach.{unreached_passes}
+use Rattle.found_rule.proofs.CellFacts.{FixedWorks, lock_table, zero_none}
 use Rattle.found_rule.proofs.CellSteps.{cell_done, table_levels}
 use Rattle.found_rule.proofs.Quiet.{Done}
-
-writes_of : (x : Item) → x.writable ≡ true → use_of x ≡ Writes
-writes_of x e = rw e refl
+use Rattle.board_lemmas.proofs.CellAlike.{not_reads}
+use Rattle.board_lemmas.proofs.HandLists.{EachOf-map}
+use Rattle.board_lemmas.proofs.ListCounts.{EachOf-both}
+use Rattle.board_lemmas.proofs.KindForms.{live_unmarked}
+use Rattle.board_lemmas.proofs.ReachAll.{unmarked_matches, written_reach}
+use Rattle.board_lemmas.proofs.CountsDown.{lock_live, lock_some}
 
 module _ (n : Machine) (s : ℕ) (x : Step) (m m2 : Place → ℕ) (b c : ℕ → Holdings) (l : s < (sizes_of n).vcpus) (sound : Sound n m b) (others : (t : ℕ) → t ≢ s → c t ≡ b t) (f i : ℕ)
     (fixed : FixedWorks n b) where
@@ -73,10 +73,10 @@ module _ (n : Machine) (s : ℕ) (x : Step) (m m2 : Place → ℕ) (b c : ℕ �
           claims = unclaimed t r;
           locks = λ have.
               absurd (
-              let live = lock_live n m b sound f t r have in
+              let live : ((kind_at m f).validated ≡ true) × (0 < (kind_at m f).number) = (lock_live n m b sound t r f have, lock_some n m b sound t r f have) in
               let q = table_levels (kind_at m f).kind (lock_table n m b sound f t r have) in
               let o = q.1 in
-              let e = seven (live_unmarked n m b sound f live.0) in
+              let e = seven (live_unmarked n m f sound.spelled live.0) in
               omega arith);
           works = λ have inside. absurd (inside_by (kind_at m f).kind (kind_at m f).unflushed seven inside);
           fixed = spared_fixed t (no_fixed t r (λ u e. let k = seven u in omega arith));
@@ -91,7 +91,7 @@ module _ (n : Machine) (s : ℕ) (x : Step) (m m2 : Place → ℕ) (b c : ℕ �
           | inl reach ↦ (let e = sound.fresh.one_use s v f Writes (Table level) l r writes reach (λ q. cc) (not_reads level) in cc)
           | inr (inl serves) ↦
               (let live = serves.live (not_reads level) in
-              let e = seven (live_unmarked n m b sound f live) in
+              let e = seven (live_unmarked n m f sound.spelled live) in
               let k : type_number (kind_at m f).kind ≡ level = serves.matches (not_reads level) in
               let o = serves.level.1 in
               omega arith)
@@ -102,9 +102,5 @@ module _ (n : Machine) (s : ℕ) (x : Step) (m m2 : Place → ℕ) (b c : ℕ �
   pub guest_stored_done : GuestStored n x f i m m2 (b s) (c s) → Done n s m m2 b c
   guest_stored_done d =
       let w = d.wrote in
-      let one = some_member (λ y. (y.frame == f) && y.writable) (b s).cache d.may.item in
-      let both = and_parts ((one.0).frame == f) (one.0).writable one.2 in
-      let reach : Reach (sizes_of n) m (b s) (one.0).frame (use_of (one.0)) = cached (one.0) one.1 in
-      guest_done
-      (subst (λ g. Reach (sizes_of n) m (b s) g Writes) (eqb-true (one.0).frame f both.0) (subst (λ u. Reach (sizes_of n) m (b s) (one.0).frame u) (writes_of (one.0) both.1) reach))
+      guest_done (written_reach (sizes_of n) m (b s) f d.may.item)
       (act n s x (Cell f i) m m2 (b s) (b s) (c s) w.place w.real w.left w.others refl refl refl refl d.hand)

@@ -29,6 +29,12 @@ pub cell_refl : (t : Bool) (w : ℕ) → IsTrue (if t then is_same_entry w w els
 cell_refl true w = equal_refl (without_bits w)
 cell_refl false w = equal_refl w
 
+pub entry_kept : (x y : ℕ) → x ≡ y → IsTrue (is_same_entry x y)
+entry_kept x y e = rw e (equal_refl (without_bits y))
+
+pub cell_kept : (t : Bool) (x y : ℕ) → x ≡ y → IsTrue (if t then is_same_entry x y else x == y)
+cell_kept t x y e = rw e (cell_refl t y)
+
 cell_then : (t : Bool) (x y w : ℕ) → IsTrue (if t then is_same_entry x y else x == y) → IsTrue (if t then is_same_entry y w else y == w) →
     IsTrue (if t then is_same_entry x w else x == w)
 cell_then true x y w a b = equal_then (without_bits x) (without_bits y) (without_bits w) a b

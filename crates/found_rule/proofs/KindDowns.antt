@@ -1,13 +1,10 @@
 -- A type count is given back, and an entry lock: the last one leaves the frame closing.
-use Rattle.std.proofs.Common.{◌≡◌, ◌≢◌, ℕ, ◌-◌, ◌<◌, ◌≤◌, ◌==◌, if◌then◌else◌, Bool, true, false, List, ◌∷◌, None, refl, sym, ap, subst, ◌∙◌, arith}
-use Rattle.std.proofs.lemmas.Bool.{and_parts}
+use Rattle.std.proofs.Common.{◌≡◌, ◌≢◌, ℕ, ◌<◌, ◌≤◌, ◌==◌, if◌then◌else◌, Bool, true, false, None, refl, sym, ap, subst, ◌∙◌, arith}
 use Rattle.xp_words.specs.PageTypes.{is_table}
-use Rattle.xp_words.specs.KindWords.{kind_fields}
 use Rattle.xp_words.specs.Machine.{Machine}
 use Rattle.xp_words.specs.Places.{sizes_of, Place, Kind}
 use Rattle.xp_board.specs.declared.step.Step.{Step}
 use Rattle.xp_board.specs.declared.holdings.Reference.{Reference}
-use Rattle.xp_board.specs.declared.holdings.Work.{Work}
 use Rattle.xp_board.specs.declared.holdings.Holdings.{Holdings}
 use Rattle.xp_board.specs.Lists.{EachOf}
 use Rattle.xp_board.specs.Readings.{kind_at}
@@ -17,22 +14,18 @@ use Rattle.xp_board.specs.Found.{WorkFound, LockFound}
 use Rattle.xp_board.specs.WellFormed.{IsWorkFormed, IsLockFormed}
 use Rattle.xp_board.specs.Sound.{Sound, is_busy}
 use Rattle.step_effects.proofs.ActEffects.{Dropped, Unlocked}
-use Rattle.board_lemmas.proofs.KindForms.{fields_down, fields_unlocked}
-use Rattle.found_rule.proofs.StepLists.{EachOf-more, EachOf-without}
 use Rattle.found_rule.proofs.Learning.{Act, act}
 use Rattle.found_rule.proofs.Words.{Words}
 use Rattle.found_rule.proofs.KnownFacts.{RefRight, TypedRight, LockRight}
-use Rattle.found_rule.proofs.Counted.{not_in_work, typed_ref_counted, lock_counted, lock_locked}
 use Rattle.found_rule.proofs.HandFacts.{ReachKept}
 use Rattle.found_rule.proofs.MyHand.{refs_old, typed_old, lock_right_old, locks_old}
-use Rattle.found_rule.proofs.KindWordsLeft.{live_not_busy, live_count}
 use Rattle.found_rule.proofs.KindLaw.{KindRest, kind_done, kind_grown, kind_works_stay, kind_works_formed, kind_locks_formed, new_found, new_formed, typed_owner_right, lock_owner_right}
 use Rattle.found_rule.proofs.KindRows.{live_words}
 use Rattle.found_rule.proofs.Quiet.{Done}
-
-works_if : (P : Work → Type 0) (t : Bool) (e : Work) (es : List Work) → P e → EachOf P es → EachOf P (if t then (e ∷ es) else es)
-works_if P true e es one h = EachOf-more P e es one h
-works_if P false e es one h = h
+use Rattle.board_lemmas.proofs.HeldByForm.{live_idle}
+use Rattle.board_lemmas.proofs.HandLists.{EachOf-more, EachOf-without, EachOf-maybe}
+use Rattle.board_lemmas.proofs.Works.{nobody_works}
+use Rattle.board_lemmas.proofs.CountsDown.{drop_live, drop_some, drop_word, lock_live, lock_some, unlock_word}
 
 table_512 : (t : Bool) → (if t then 512 else 0) ≤ 512
 table_512 true = omega arith
@@ -46,7 +39,7 @@ module _ (n : Machine) (s : ℕ) (x : Step) (m m2 : Place → ℕ) (b c : ℕ �
   module _ (live : (kind_at m f).validated ≡ true) (some : 0 < (kind_at m f).number) (now : (kind_at m2 f).validated ≡ true) (kind : (kind_at m2 f).kind ≡ (kind_at m f).kind) (u : Holdings)
       (acted : Act n s (Kind f) m m2 (b s) u (c s)) where
     free : is_busy (kind_at m f) ≡ false
-    free = live_not_busy (kind_at m f) live some
+    free = live_idle (kind_at m f) live some
 
     words : Words n s m m2 b
     words = live_words n s x m m2 b c l sound others f acted.others (kind_at m f) (kind_at m2 f) refl refl live some now kind
@@ -60,7 +53,7 @@ module _ (n : Machine) (s : ℕ) (x : Step) (m m2 : Place → ℕ) (b c : ℕ �
         EachOf (IsLockFormed n (c s)) u.locks → Done n s m m2 b c
     unfolding words free recorded
     down_done rest works looking refs typed lock_right locks locks_formed =
-        let none : works_on f (b s).works ≡ 0 = not_in_work n m b sound s f l free in
+        let none : works_on f (b s).works ≡ 0 = nobody_works n m b sound.alone f free s l in
         let new = new_work f (m2 (Kind f)) recorded None (b s) in
         kind_done n s m m2 b c l sound others f u acted words rest
         (λ reach. record {
@@ -68,13 +61,13 @@ module _ (n : Machine) (s : ℕ) (x : Step) (m m2 : Place → ℕ) (b c : ℕ �
           typed = typed reach;
           lock_right = lock_right reach;
           works = subst (λ xs. EachOf (WorkFound n m2 c (c s)) xs) (sym works)
-              (works_if (WorkFound n m2 c (c s)) ((kind_at m f).number == 1) new (b s).works (new_found n s m m2 b c l sound others f u acted words recorded None (b s) refl)
+              (EachOf-maybe (WorkFound n m2 c (c s)) ((kind_at m f).number == 1) new (b s).works (λ one. new_found n s m m2 b c l sound others f u acted words recorded None (b s) refl)
               (kind_works_stay n s m m2 b c l sound others f u acted words none reach));
           locks = locks reach;
         })
         (subst (λ xs. EachOf (IsWorkFormed n (c s)) xs) (sym works)
-        (works_if (IsWorkFormed n (c s)) ((kind_at m f).number == 1) new (b s).works
-        (new_formed n s m m2 b c l sound others f u acted words recorded None (b s) refl (table_512 (is_table (kind_at m f).kind))
+        (EachOf-maybe (IsWorkFormed n (c s)) ((kind_at m f).number == 1) new (b s).works
+        (λ one. new_formed n s m m2 b c l sound others f u acted words recorded None (b s) refl (table_512 (is_table (kind_at m f).kind))
         (λ t. table_none (is_table (kind_at m f).kind) (ap is_table (sym kind) ∙ t)) tt (λ q r. absurd cc)) (kind_works_formed n s m m2 b c l sound others f u acted words)))
         locks_formed (rw looking (sound.formed s l).looking)
 
@@ -86,9 +79,9 @@ module _ (n : Machine) (s : ℕ) (x : Step) (m m2 : Place → ℕ) (b c : ℕ �
       let p = Kind f in
       let u = dropped f (m p) (m2 p) (b s) in
       let acted = act n s x p m m2 (b s) u (c s) w.place w.real w.left w.others refl refl refl refl d.hand in
-      let live = ((sound.found s l).lives f d.may.kind d.may.live).0 in
-      let some : 0 < (kind_at m f).number = (let a = typed_ref_counted n m b sound s f l d.may.in_hand in let e = live_count (kind_at m f) live in omega arith) in
-      let left : kind_at m2 f ≡ record (kind_at m f) { number = (kind_at m f).number - 1 } = ap kind_fields d.is ∙ fields_down (m p) (sound.spelled.small p) some in
+      let live = drop_live n m b sound s l f d.may in
+      let some = drop_some n m b sound s l f d.may in
+      let left = drop_word n m b sound s l f d.may (m2 p) d.is in
       let now : (kind_at m2 f).validated ≡ true = ap (λ q. q.validated) left ∙ live in
       let kind : (kind_at m2 f).kind ≡ (kind_at m f).kind = ap (λ q. q.kind) left in
       let ws = words live some now kind u acted in
@@ -109,10 +102,9 @@ module _ (n : Machine) (s : ℕ) (x : Step) (m m2 : Place → ℕ) (b c : ℕ �
       let p = Kind f in
       let u = unlocked f (m p) (m2 p) (b s) in
       let acted = act n s x p m m2 (b s) u (c s) w.place w.real w.left w.others refl refl refl refl d.hand in
-      let both = and_parts (kind_at m f).validated (kind_at m f).locked (lock_locked n m b sound s f l d.may) in
-      let live = both.0 in
-      let some : 0 < (kind_at m f).number = (let a = lock_counted n m b sound s f l d.may in let e = live_count (kind_at m f) live in omega arith) in
-      let left = ap kind_fields d.is ∙ fields_unlocked (m p) (sound.spelled.small p) some both.1 in
+      let live = lock_live n m b sound s l f d.may in
+      let some = lock_some n m b sound s l f d.may in
+      let left = unlock_word n m b sound s l f d.may (m2 p) d.is in
       let now : (kind_at m2 f).validated ≡ true = ap (λ q. q.validated) left ∙ live in
       let kind : (kind_at m2 f).kind ≡ (kind_at m f).kind = ap (λ q. q.kind) left in
       let ws = words live some now kind u acted in

@@ -21,22 +21,24 @@ use Rattle.xp_board.specs.Found.{WorkFound, LockFound, EndingFound, ClaimFound}
 use Rattle.xp_board.specs.WellFormed.{LastIs, IsWorkFormed, IsLockFormed, IsLookingFormed}
 use Rattle.xp_board.specs.Sound.{Sound}
 use Rattle.board_lemmas.proofs.PlaceTests.{equal_refl, is_same-by}
-use Rattle.found_rule.proofs.StepLists.{EachOf-map, EachOf-there, first_by-each, first_by-key}
 use Rattle.found_rule.proofs.Growth.{Grown, added}
 use Rattle.found_rule.proofs.Learning.{CellsLearned, cells_off, cells_at, Act}
 use Rattle.found_rule.proofs.Words.{Words}
 use Rattle.found_rule.proofs.KnownFacts.{OwnerRight, RefRight, TypedRight, LockRight}
-use Rattle.found_rule.proofs.KnownStays.{none_since, none_last, owner_new}
+use Rattle.found_rule.proofs.KnownStays.{owner_new}
 use Rattle.found_rule.proofs.HandFacts.{ReachKept}
 use Rattle.found_rule.proofs.MyHand.{works_old, endings_old, claims_old}
 use Rattle.found_rule.proofs.Outcome.{outcome_by}
 use Rattle.found_rule.proofs.FormedLaw.{works_formed_old, locks_formed_old, ending_formed_old, claimed_formed_old}
 use Rattle.found_rule.proofs.Quiet.{Done, fix_kept, zero_kept, formed_with}
+use Rattle.board_lemmas.proofs.HandLists.{EachOf-map, EachOf-first, first-key}
+use Rattle.board_lemmas.proofs.ListCounts.{EachOf-there}
+use Rattle.board_lemmas.proofs.MoreSteps.{none_last, none_since}
 
 -- ---- what is known of the owner by the newest reference
 module _ (z : Sizes) (m m2 : Place → ℕ) (xs ys : List Made) (g : Grown z m m2 xs ys) (f : ℕ) (h : Holdings) (long : length xs ≤ length h.steps) where
   ref_by : (o : Option Reference) → ref_to f h.refs ≡ o → EachOf (RefRight z m2 ys) h.refs → OwnerRight z m2 ys f (owner_by o (owner_from h))
-  ref_by (Some e) q all = subst (λ y. OwnerRight z m2 ys y e.owner) (first_by-key (λ y. y.frame) f e h.refs q) (first_by-each (RefRight z m2 ys) (λ y. y.frame) f e h.refs all q)
+  ref_by (Some e) q all = subst (λ y. OwnerRight z m2 ys y e.owner) (first-key (λ y. y.frame) f e h.refs q) (EachOf-first (RefRight z m2 ys) (λ y. y.frame) f e h.refs all q)
   ref_by None q all = owner_new z m m2 xs ys g f (length h.steps) long
 
   pub ref_owner_right : EachOf (RefRight z m2 ys) h.refs → OwnerRight z m2 ys f (ref_owner f h)
@@ -44,7 +46,7 @@ module _ (z : Sizes) (m m2 : Place → ℕ) (xs ys : List Made) (g : Grown z m m
 
   typed_by : (o : Option TypedReference) → typed_on f h.typed ≡ o → EachOf (TypedRight z m2 ys) h.typed → OwnerRight z m2 ys f (owner_by_typed o (owner_from h))
   typed_by (Some e) q all =
-      subst (λ y. OwnerRight z m2 ys y e.owner) (first_by-key (λ y. y.frame) f e h.typed q) (first_by-each (TypedRight z m2 ys) (λ y. y.frame) f e h.typed all q).owner
+      subst (λ y. OwnerRight z m2 ys y e.owner) (first-key (λ y. y.frame) f e h.typed q) (EachOf-first (TypedRight z m2 ys) (λ y. y.frame) f e h.typed all q).owner
   typed_by None q all = owner_new z m m2 xs ys g f (length h.steps) long
 
   pub typed_owner_right : EachOf (TypedRight z m2 ys) h.typed → OwnerRight z m2 ys f (typed_owner f h)
@@ -52,7 +54,7 @@ module _ (z : Sizes) (m m2 : Place → ℕ) (xs ys : List Made) (g : Grown z m m
 
   lock_by : (o : Option Lock) → lock_on f h.locks ≡ o → EachOf (LockRight z m2 ys) h.locks → OwnerRight z m2 ys f (owner_by_lock o (owner_from h))
   lock_by (Some e) q all =
-      subst (λ y. OwnerRight z m2 ys y e.owner) (first_by-key (λ y. y.frame) f e h.locks q) (first_by-each (LockRight z m2 ys) (λ y. y.frame) f e h.locks all q).owner
+      subst (λ y. OwnerRight z m2 ys y e.owner) (first-key (λ y. y.frame) f e h.locks q) (EachOf-first (LockRight z m2 ys) (λ y. y.frame) f e h.locks all q).owner
   lock_by None q all = owner_new z m m2 xs ys g f (length h.steps) long
 
   pub lock_owner_right : EachOf (LockRight z m2 ys) h.locks → OwnerRight z m2 ys f (lock_owner f h)
@@ -161,7 +163,7 @@ module _ (n : Machine) (s : ℕ) (m m2 : Place → ℕ) (b c : ℕ → Holdings)
           word = refl;
           cells = λ t i w k. absurd (none_last (sizes_of n) (length h.steps + 1) (Cell f i) w (c s).steps (omega arith) k);
           fixed = λ i k. absurd (omega arith);
-          passed = λ v o p marked r was other found past. absurd (none_since (sizes_of n) (length h.steps + 1) (Priv (domain_of n v)) (λ w. not (has_ever o w)) (c s).steps (omega arith) found);
+          passed = λ v o p marked r was other found past. absurd (let none = none_since (sizes_of n) (length h.steps + 1) (Priv (domain_of n v)) (λ w. not (has_ever o w)) (c s).steps (omega arith) in cc);
         }
 
     -- its kind word was left by this step

@@ -20,18 +20,21 @@ use Rattle.xp_board.specs.WellFormed.{IsWorkFormed, IsLockFormed, IsLookingForme
 use Rattle.xp_board.specs.Sound.{Sound, is_busy}
 use Rattle.step_effects.proofs.ActEffects.{Turned}
 use Rattle.board_lemmas.proofs.KindForms.{live_form}
-use Rattle.found_rule.proofs.StepLists.{EachOf-more, EachOf-without, EachOf-kept}
 use Rattle.found_rule.proofs.Learning.{Act, act}
 use Rattle.found_rule.proofs.Words.{Words}
 use Rattle.found_rule.proofs.WordsAt.{words_kind}
-use Rattle.found_rule.proofs.KnownFacts.{OwnerRight, IsLiveAs, RefRight, TypedRight, LockRight, type_by}
-use Rattle.found_rule.proofs.KnownStays.{none_last, owner_new, live_new, partial_new, live_found, partial_found}
-use Rattle.found_rule.proofs.Counted.{not_in_work}
+use Rattle.found_rule.proofs.KnownFacts.{OwnerRight, IsLiveAs, RefRight, TypedRight, LockRight}
+use Rattle.found_rule.proofs.KnownStays.{owner_new, live_new, partial_new, live_found, partial_found}
 use Rattle.found_rule.proofs.HandFacts.{ReachKept}
 use Rattle.found_rule.proofs.MyHand.{refs_old, typed_old, lock_right_old, locks_old}
-use Rattle.found_rule.proofs.KindWordsLeft.{live_not_busy, live_stamp}
 use Rattle.found_rule.proofs.KindLaw.{KindRest, kind_done, kind_grown, kind_works_stay, kind_works_formed, kind_locks_formed, ref_owner_right}
 use Rattle.found_rule.proofs.Quiet.{Done}
+use Rattle.board_lemmas.proofs.HeldByForm.{live_idle}
+use Rattle.board_lemmas.proofs.KindReadings.{stamp_live}
+use Rattle.board_lemmas.proofs.HandLists.{EachOf-more, EachOf-without, EachOf-kept}
+use Rattle.board_lemmas.proofs.Works.{nobody_works}
+use Rattle.board_lemmas.proofs.MoreSteps.{none_last}
+use Rattle.board_lemmas.proofs.EntryWords.{type_same}
 
 module _ (n : Machine) (s : ℕ) (x : Step) (m m2 : Place → ℕ) (b c : ℕ → Holdings) (l : s < (sizes_of n).vcpus) (sound : Sound n m b) (others : (t : ℕ) → t ≢ s → c t ≡ b t) (f : ℕ) where
   -- the hand once the exchange has told that the seat looks no more
@@ -42,17 +45,17 @@ module _ (n : Machine) (s : ℕ) (x : Step) (m m2 : Place → ℕ) (b c : ℕ �
   -- the frame has no type count, or is live before and after with the same type
   pub free_words : ((q : Place) → q ≢ Kind f → m2 q ≡ m q) → is_busy (kind_at m f) ≡ false → (0 < type_count (kind_at m f) → IsTrue (is_live (kind_at m f)) → IsTrue (is_live (kind_at m2 f))) →
       (0 < type_count (kind_at m f) → (kind_at m2 f).kind ≡ (kind_at m f).kind) → kind_stamp (m2 (Kind f)) ≤ m Clock → Words n s m m2 b
-  free_words o free live kind stamp = words_kind n s m m2 b sound f o live kind stamp (λ t k d some. let q = not_in_work n m b sound t f k free in omega arith)
+  free_words o free live kind stamp = words_kind n s m m2 b sound f o live kind stamp (λ t k d some. let q = nobody_works n m b sound.alone f free t k in omega arith)
 
   -- live before and after
   pub live_words : ((q : Place) → q ≢ Kind f → m2 q ≡ m q) → (k w : KindWord) → kind_at m f ≡ k → kind_at m2 f ≡ w → k.validated ≡ true → 0 < k.number → w.validated ≡ true → w.kind ≡ k.kind → Words n s m m2 b
   live_words o k w was is v some now kind =
-      free_words o (ap is_busy was ∙ live_not_busy k v some) (λ q r. ap is_live is ∙ now) (λ q. ap (λ y. y.kind) is ∙ kind ∙ sym (ap (λ y. y.kind) was))
-      (let e = live_stamp (m2 (Kind f)) w is now in omega arith)
+      free_words o (ap is_busy was ∙ live_idle k v some) (λ q r. ap is_live is ∙ now) (λ q. ap (λ y. y.kind) is ∙ kind ∙ sym (ap (λ y. y.kind) was))
+      (let e = stamp_live (m2 (Kind f)) w is now in omega arith)
 
   module _ (u : Holdings) (acted : Act n s (Kind f) m m2 (b s) u (c s)) (words : Words n s m m2 b) (free : is_busy (kind_at m f) ≡ false) where
     pub none : works_on f (b s).works ≡ 0
-    none = not_in_work n m b sound s f l free
+    none = nobody_works n m b sound.alone f free s l
 
     pub looked : u.looking ≡ still_looking f (m2 (Kind f)) (b s).looking → EachOf (IsLookingFormed n s) u.looking
     looked e = rw e (EachOf-kept (IsLookingFormed n s) (λ y. not (y.frame == f) || (y.word == m2 (Kind f))) (b s).looking (sound.formed s l).looking)
@@ -127,7 +130,7 @@ module _ (n : Machine) (s : ℕ) (x : Step) (m m2 : Place → ℕ) (b c : ℕ �
       let v : d.l.validated ≡ true = ap (λ q. q.validated) y.left ∙ y.live in
       let kind : d.l.kind ≡ k.kind = ap (λ q. q.kind) y.left in
       let words = live_words d.wrote.others k d.l d.fields_was d.fields_is y.live y.counted v kind in
-      let free = ap is_busy d.fields_was ∙ live_not_busy k y.live y.counted in
+      let free = ap is_busy d.fields_was ∙ live_idle k y.live y.counted in
       row_done u acted words free (record { ending = refl; claimed = refl; raised = refl; cache = refl; walk = refl; cold = refl; turn = refl; acked = refl; ran = refl }) refl refl refl
       (λ reach. EachOf-without (RefRight (sizes_of n) m2 (c s).steps) (λ e. e.frame) f (b s).refs (refs_are u acted words free reach))
       (λ reach.
@@ -142,7 +145,7 @@ module _ (n : Machine) (s : ℕ) (x : Step) (m m2 : Place → ℕ) (b c : ℕ �
       let acted = turned_act Pin d u refl refl refl refl refl in
       let v : d.l.validated ≡ true = ap (λ q. q.validated) y.left ∙ y.live in
       let words = live_words d.wrote.others k d.l d.fields_was d.fields_is y.live y.counted v (ap (λ q. q.kind) y.left) in
-      let free = ap is_busy d.fields_was ∙ live_not_busy k y.live y.counted in
+      let free = ap is_busy d.fields_was ∙ live_idle k y.live y.counted in
       row_done u acted words free (record { ending = refl; claimed = refl; raised = refl; cache = refl; walk = refl; cold = refl; turn = refl; acked = refl; ran = refl }) refl refl refl
       (refs_are u acted words free)
       (λ reach. EachOf-without (TypedRight (sizes_of n) m2 (c s).steps) (λ e. e.frame) f (b s).typed (typed_are u acted words free reach))
@@ -157,7 +160,7 @@ module _ (n : Machine) (s : ℕ) (x : Step) (m m2 : Place → ℕ) (b c : ℕ �
       let kind : d.l.kind ≡ k.kind = ap (λ q. q.kind) y.left in
       let some = ((live_form (m (Kind f)) k d.was y.live).pinned y.pinned).1 in
       let words = live_words d.wrote.others k d.l d.fields_was d.fields_is y.live some v kind in
-      let free = ap is_busy d.fields_was ∙ live_not_busy k y.live some in
+      let free = ap is_busy d.fields_was ∙ live_idle k y.live some in
       row_done u acted words free (record { ending = refl; claimed = refl; raised = refl; cache = refl; walk = refl; cold = refl; turn = refl; acked = refl; ran = refl }) refl refl refl
       (refs_are u acted words free)
       (λ reach.
@@ -174,7 +177,7 @@ module _ (n : Machine) (s : ℕ) (x : Step) (m m2 : Place → ℕ) (b c : ℕ �
       let v : d.l.validated ≡ true = ap (λ q. q.validated) y.left ∙ y.live in
       let kind : d.l.kind ≡ k.kind = ap (λ q. q.kind) y.left in
       let words = live_words d.wrote.others k d.l d.fields_was d.fields_is y.live y.counted v kind in
-      let free = ap is_busy d.fields_was ∙ live_not_busy k y.live y.counted in
+      let free = ap is_busy d.fields_was ∙ live_idle k y.live y.counted in
       let new : Lock = record { frame = f; kind = k.kind; owner = ref_owner f base; seen = None; since = length (b s).steps + 1 } in
       let long : length (c s).steps ≡ suc (length (b s).steps) = ap length acted.steps in
       kind_done n s m m2 b c l sound others f u acted words
@@ -183,7 +186,7 @@ module _ (n : Machine) (s : ℕ) (x : Step) (m m2 : Place → ℕ) (b c : ℕ �
         refs = EachOf-without (RefRight z m2 (c s).steps) (λ e. e.frame) f (b s).refs (refs_are u acted words free reach);
         typed = typed_are u acted words free reach;
         lock_right = EachOf-more (LockRight z m2 (c s).steps) new (b s).locks
-            (record { owner = owner_is u acted words free reach; live = λ t q. let e = live_as k d.l d.fields_is v kind in (e.0, e.1 ∙ type_by k.kind t q) })
+            (record { owner = owner_is u acted words free reach; live = λ t q. let e = live_as k d.l d.fields_is v kind in (e.0, e.1 ∙ type_same k.kind t q) })
             (lock_right_old n s (Kind f) m m2 b c u acted l sound words reach);
         works = kind_works_stay n s m m2 b c l sound others f u acted words (none u acted words free) reach;
         locks = EachOf-more (LockFound z m2 (c s)) new (b s).locks (λ i w q. absurd (none_last z (length (b s).steps + 1) (Cell f i) w (c s).steps (omega arith) q))

@@ -1,5 +1,5 @@
 -- A store by the seat that has the frame in work or closing, by the form that it leaves.
-use Rattle.std.proofs.Common.{◌≡◌, ◌≢◌, ℕ, ◌<◌, ◌≤◌, ◌==◌, ◌&&◌, not, if◌then◌else◌, Bool, true, false, Some, IsTrue, refl, sym, ap, subst, ◌∙◌, ◌⊎◌, inl, inr, arith}
+use Rattle.std.proofs.Common.{◌≡◌, ◌≢◌, ℕ, ◌<◌, ◌≤◌, ◌==◌, Some, IsTrue, refl, sym, ap, subst, ◌∙◌, ◌⊎◌, inl, inr, arith}
 use Rattle.std.proofs.lemmas.Bool.{and_parts, eqb-true}
 use Rattle.xp_words.specs.KindWords.{kind_fields}
 use Rattle.xp_words.specs.Machine.{Machine}
@@ -10,68 +10,49 @@ use Rattle.xp_board.specs.declared.holdings.Holdings.{Holdings}
 use Rattle.xp_board.specs.Lists.{EachOf}
 use Rattle.xp_board.specs.Readings.{kind_at, is_work, is_closing, type_count, kind_stamp}
 use Rattle.xp_board.specs.Hands.{works_on, work_on, without_work, ref_owner, typed_owner}
-use Rattle.xp_board.specs.KindSteps.{Form, Live, Partial, InWork, Dead}
 use Rattle.xp_board.specs.Found.{WorkFound, LockFound}
 use Rattle.xp_board.specs.WellFormed.{IsWorkFormed, IsLockFormed, IsLookingFormed}
 use Rattle.xp_board.specs.Sound.{Sound}
-use Rattle.found_rule.proofs.StepLists.{EachOf-without, EachOf-others, first_by-each, first_by-key, first_by-some}
 use Rattle.found_rule.proofs.Learning.{Act}
 use Rattle.found_rule.proofs.Words.{Words}
 use Rattle.found_rule.proofs.WordsAt.{words_kind}
 use Rattle.found_rule.proofs.KnownFacts.{OwnerRight, RefRight, TypedRight, LockRight}
-use Rattle.found_rule.proofs.Counted.{work_busy, work_elsewhere, one_work, busy_cases}
 use Rattle.found_rule.proofs.HandFacts.{ReachKept}
 use Rattle.found_rule.proofs.MyHand.{refs_old, typed_old, lock_right_old, locks_old}
-use Rattle.found_rule.proofs.KindWordsLeft.{other_stamp}
 use Rattle.found_rule.proofs.KindLaw.{KindRest, kind_done, kind_grown, kind_works_found, kind_others, kind_works_formed, kind_locks_formed, ref_owner_right, typed_owner_right}
 use Rattle.found_rule.proofs.Quiet.{Done}
+use Rattle.board_lemmas.proofs.KindReadings.{stamp_of, work_unlive, busy_cases}
+use Rattle.board_lemmas.proofs.HandLists.{EachOf-without, EachOf-first, first-key, first-some}
+use Rattle.board_lemmas.proofs.ListCounts.{EachOf-others}
+use Rattle.board_lemmas.proofs.Works.{is_busy-mine, one_works, only_mine}
 
 -- ---- forms
-pub live_by : (v p k : Bool) → (if v then Live else if p then Partial else if k then InWork else Dead) ≡ Live → v ≡ true
-live_by true p k e = refl
-live_by false true k e = absurd cc
-live_by false false true e = absurd cc
-live_by false false false e = absurd cc
-
-pub partial_by : (v p k : Bool) → (if v then Live else if p then Partial else if k then InWork else Dead) ≡ Partial → (v ≡ false) × (p ≡ true)
-partial_by true p k e = absurd cc
-partial_by false true k e = (refl, refl)
-partial_by false false true e = absurd cc
-partial_by false false false e = absurd cc
-
-pub unlive_by : (v p k : Bool) (form : Form) → (if v then Live else if p then Partial else if k then InWork else Dead) ≡ form → form ≢ Live → v ≡ false
-unlive_by true p k form e off = absurd (off (sym e))
-unlive_by false p k form e off = refl
-
-pub work_by : (v p k : Bool) → IsTrue (not v && (not p && k)) → v ≡ false
-work_by false p k e = refl
-work_by true p k e = absurd cc
 
 module _ (n : Machine) (s : ℕ) (x : Step) (m m2 : Place → ℕ) (b c : ℕ → Holdings) (l : s < (sizes_of n).vcpus) (sound : Sound n m b) (others : (t : ℕ) → t ≢ s → c t ≡ b t) (f : ℕ) (e : Work)
     (here : work_on f (b s).works ≡ Some e) where
   -- ---- the frame before
   some : 0 < works_on f (b s).works
-  some = first_by-some (λ y. y.frame) f e (b s).works here
+  some = first-some (λ y. y.frame) f e (b s).works here
 
   pub frame : e.frame ≡ f
-  frame = first_by-key (λ y. y.frame) f e (b s).works here
+  frame = first-key (λ y. y.frame) f e (b s).works here
 
   pub was_found : WorkFound n m b (b s) e
-  was_found = first_by-each (WorkFound n m b (b s)) (λ y. y.frame) f e (b s).works (sound.found s l).works here
+  was_found = EachOf-first (WorkFound n m b (b s)) (λ y. y.frame) f e (b s).works (sound.found s l).works here
 
   was : kind_at m f ≡ kind_fields e.word
   was = ap (λ g. kind_at m g) (sym frame) ∙ ap kind_fields was_found.word
 
   busy : (IsTrue (is_work (kind_at m f)) × (type_count (kind_at m f) ≡ 1)) ⊎ (IsTrue (is_closing (kind_at m f)) × (type_count (kind_at m f) ≡ 0))
-  busy = busy_cases (kind_at m f) (work_busy n m b sound s f l some)
+  busy = busy_cases (kind_at m f) (is_busy-mine n m b sound.alone f s l some)
 
   pub number : (kind_fields e.word).number ≤ m Clock
   number =
       let w = ap (λ y. y.number) was in
       elim busy [
         | inl work ↦
-            (let v = work_by (kind_at m f).validated (kind_at m f).partial (kind_at m f).locked work.0 in
-            let t = other_stamp (m (Kind f)) (kind_at m f) refl v in
+            (let v = work_unlive (kind_at m f) work.0 in
+            let t = stamp_of (m (Kind f)) (kind_at m f) refl v in
             let k = sound.stamped.kinds f in
             omega arith)
         | inr closing ↦
@@ -83,16 +64,16 @@ module _ (n : Machine) (s : ℕ) (x : Step) (m m2 : Place → ℕ) (b c : ℕ �
   store_words o kind stamp =
       words_kind n s m m2 b sound f o
       (λ count live. absurd (elim busy [
-        | inl work ↦ (let v = work_by (kind_at m f).validated (kind_at m f).partial (kind_at m f).locked work.0 in cc)
+        | inl work ↦ (let v = work_unlive (kind_at m f) work.0 in cc)
         | inr closing ↦ (let q = closing.1 in omega arith)
       ]))
-      (λ count. kind ∙ sym (ap (λ y. y.kind) was)) stamp (λ t k d have. let q = work_elsewhere n m b sound s t f l k d some in omega arith)
+      (λ count. kind ∙ sym (ap (λ y. y.kind) was)) stamp (λ t k d have. let q = only_mine n m b sound.alone f s t l k d some in omega arith)
 
   module _ (u : Holdings) (acted : Act n s (Kind f) m m2 (b s) u (c s)) (words : Words n s m m2 b) where
     -- the frame goes out of the works
     works_left : ReachKept n m m2 b c → EachOf (WorkFound n m2 c (c s)) (without_work f (b s).works)
     works_left reach =
-        EachOf-others (λ y. m2 (Kind y.frame) ≡ m (Kind y.frame) → WorkFound n m2 c (c s) y) (WorkFound n m2 c (c s)) (λ y. y.frame) f (b s).works (one_work n m b sound s f l)
+        EachOf-others (λ y. m2 (Kind y.frame) ≡ m (Kind y.frame) → WorkFound n m2 c (c s) y) (WorkFound n m2 c (c s)) (λ y. y.frame) f (b s).works (one_works n m b sound.alone f s l)
         (λ y off h. h (kind_others n s m m2 b c l sound others f u acted words y off)) (kind_works_found n s m m2 b c l sound others f u acted words reach)
 
     pub refs_are : ReachKept n m m2 b c → EachOf (RefRight (sizes_of n) m2 (c s).steps) (b s).refs

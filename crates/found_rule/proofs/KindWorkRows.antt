@@ -20,16 +20,18 @@ use Rattle.xp_board.specs.WellFormed.{LastIs, IsWorkFormed, IsLockFormed}
 use Rattle.xp_board.specs.Sound.{Sound, is_busy}
 use Rattle.step_effects.proofs.ActEffects.{Turned}
 use Rattle.board_lemmas.proofs.KindForms.{partial_form}
-use Rattle.found_rule.proofs.StepLists.{EachOf-more, EachOf-without}
 use Rattle.found_rule.proofs.Learning.{Act}
 use Rattle.found_rule.proofs.Words.{Words}
 use Rattle.found_rule.proofs.KnownFacts.{RefRight, TypedRight, LockRight}
 use Rattle.found_rule.proofs.HandFacts.{ReachKept}
 use Rattle.found_rule.proofs.MyHand.{lock_right_old, locks_old}
-use Rattle.found_rule.proofs.KindWordsLeft.{partial_not_busy, dead_not_busy, partial_parts, dead_parts, dead_count, other_stamp}
+use Rattle.board_lemmas.proofs.KindReadings.{partial_idle, partial_parts, dead_idle, dead_unlive, dead_count}
 use Rattle.found_rule.proofs.KindLaw.{KindRest, kind_done, kind_works_stay, kind_works_formed, kind_locks_formed, new_found, new_formed}
 use Rattle.found_rule.proofs.Quiet.{Done}
 use Rattle.found_rule.proofs.KindRows.{free_words, row_done, refs_are, typed_are, owner_is, new_reference, owner_none, none, looked, turned_act, count_done, lock_done, pin_done, unpin_done}
+use Rattle.board_lemmas.proofs.KindReadings.{stamp_of}
+use Rattle.board_lemmas.proofs.HandLists.{EachOf-more, EachOf-without}
+use Rattle.board_lemmas.proofs.Sums.{if_fewer}
 
 module _ (n : Machine) (s : ℕ) (x : Step) (m m2 : Place → ℕ) (b c : ℕ → Holdings) (l : s < (sizes_of n).vcpus) (sound : Sound n m b) (others : (t : ℕ) → t ≢ s → c t ≡ b t) (f : ℕ) where
   abbrev base : Holdings
@@ -41,12 +43,12 @@ module _ (n : Machine) (s : ℕ) (x : Step) (m m2 : Place → ℕ) (b c : ℕ �
     partial_words : w.kind ≡ k.kind → w.number ≤ k.number → w.validated ≡ false → Words n s m m2 b
     partial_words kind number now =
         free_words n s x m m2 b c l sound others f o free (λ q r. absurd (let e : is_live (kind_at m f) ≡ false = ap is_live was ∙ v in cc)) (λ q. ap (λ y. y.kind) is ∙ kind ∙ sym (ap (λ y. y.kind) was))
-        (let a = other_stamp (m2 (Kind f)) w is now in let e = other_stamp (m (Kind f)) k was v in let t = sound.stamped.kinds f in omega arith)
+        (let a = stamp_of (m2 (Kind f)) w is now in let e = stamp_of (m (Kind f)) k was v in let t = sound.stamped.kinds f in omega arith)
 
     dead_words : type_count (kind_at m f) ≡ 0 → w.number ≤ k.number → w.validated ≡ false → Words n s m m2 b
     dead_words count number now =
         free_words n s x m m2 b c l sound others f o free (λ q r. absurd (omega arith)) (λ q. absurd (omega arith))
-        (let a = other_stamp (m2 (Kind f)) w is now in let e = other_stamp (m (Kind f)) k was v in let t = sound.stamped.kinds f in omega arith)
+        (let a = stamp_of (m2 (Kind f)) w is now in let e = stamp_of (m (Kind f)) k was v in let t = sound.stamped.kinds f in omega arith)
 
   take_back_done : Turned n s x f TakeBack m m2 (b s) (c s) → Done n s m m2 b c
   take_back_done d =
@@ -55,7 +57,7 @@ module _ (n : Machine) (s : ℕ) (x : Step) (m m2 : Place → ℕ) (b c : ℕ �
       let u = taken_back f k base in
       let acted = turned_act n s x m m2 b c l sound others f TakeBack d u refl refl refl refl refl in
       let p = partial_parts k y.partial in
-      let free = ap is_busy d.fields_was ∙ partial_not_busy k p.0 p.1 in
+      let free = ap is_busy d.fields_was ∙ partial_idle k y.partial in
       let words = partial_words k d.l d.fields_was d.fields_is p.0 d.wrote.others free (ap (λ q. q.kind) y.left) (let e = ap (λ q. q.number) y.left in omega arith) (ap (λ q. q.validated) y.left ∙ p.0) in
       row_done n s x m m2 b c l sound others f u acted words free (record { ending = refl; claimed = refl; raised = refl; cache = refl; walk = refl; cold = refl; turn = refl; acked = refl; ran = refl }) refl refl refl
       (refs_are n s x m m2 b c l sound others f u acted words free)
@@ -105,7 +107,7 @@ module _ (n : Machine) (s : ℕ) (x : Step) (m m2 : Place → ℕ) (b c : ℕ �
       let u = resumed f k (m2 (Kind f)) base in
       let p = partial_parts k y.partial in
       let acted = turned_act n s x m m2 b c l sound others f Resume d u refl refl refl refl refl in
-      let free = ap is_busy d.fields_was ∙ partial_not_busy k p.0 p.1 in
+      let free = ap is_busy d.fields_was ∙ partial_idle k y.partial in
       let kind : d.l.kind ≡ k.kind = ap (λ q. q.kind) y.left in
       let words = partial_words k d.l d.fields_was d.fields_is p.0 d.wrote.others free kind (let e = ap (λ q. q.number) y.left in omega arith) (ap (λ q. q.validated) y.left ∙ p.0) in
       let form = partial_form (m (Kind f)) k d.was p.0 p.1 in
@@ -121,21 +123,17 @@ module _ (n : Machine) (s : ℕ) (x : Step) (m m2 : Place → ℕ) (b c : ℕ �
       (new_formed n s m m2 b c l sound others f u acted words k.progress unsettled base refl (let q = form.progress in omega arith)
       (λ t. (form.page (sym (ap is_table same) ∙ t)).0) (unsettled_last new k.progress (k.progress == 0) base) (unsettled_since k.progress (k.progress == 0) base refl (omega arith)))
 
-  stale_number : (t : Bool) (q : ℕ) → (if t then q else 0) ≤ q
-  stale_number true q = omega arith
-  stale_number false q = omega arith
-
   begin_done : Turned n s x f Begin m m2 (b s) (c s) → Done n s m m2 b c
   begin_done d =
       let k = d.k in
       let y = d.may in
       let u = begun f d.l (m2 (Kind f)) base in
-      let p = dead_parts k y.dead in
+      let unlive = dead_unlive k y.dead in
       let acted = turned_act n s x m m2 b c l sound others f Begin d u refl refl refl refl refl in
-      let free = ap is_busy d.fields_was ∙ dead_not_busy k p.0 p.1 p.2 in
-      let count : type_count (kind_at m f) ≡ 0 = ap type_count d.fields_was ∙ dead_count k p.0 p.1 p.2 in
-      let words = dead_words k d.l d.fields_was d.fields_is p.0 d.wrote.others free count
-      (let e = ap (λ q. q.number) y.left in let g = stale_number (is_stale k d.l.kind) k.number in omega arith) (ap (λ q. q.validated) y.left) in
+      let free = ap is_busy d.fields_was ∙ dead_idle k y.dead in
+      let count : type_count (kind_at m f) ≡ 0 = ap type_count d.fields_was ∙ dead_count k y.dead in
+      let words = dead_words k d.l d.fields_was d.fields_is unlive d.wrote.others free count
+      (let e = ap (λ q. q.number) y.left in let g = if_fewer (is_stale k d.l.kind) k.number in omega arith) (ap (λ q. q.validated) y.left) in
       let new = new_work f (m2 (Kind f)) 0 None base in
       work_done u acted words free 0 None
       (record { ending = refl; claimed = refl; raised = refl; cache = refl; walk = refl; cold = refl; turn = refl; acked = refl; ran = refl }) refl refl refl

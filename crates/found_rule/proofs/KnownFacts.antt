@@ -2,7 +2,6 @@
 use Rattle.std.proofs.Common.{◌≡◌, ℕ, ◌==◌, ◌&&◌, Bool, List, [], ◌∷◌, Option, Some, None, IsTrue, refl, sym, ap, subst, inl, inr}
 use Rattle.std.proofs.lemmas.Bool.{eqb-true, or_cases, or_left, or_right, and_parts, and_from}
 use Rattle.xp_words.specs.declared.kind.PageType.{PageType}
-use Rattle.xp_words.specs.declared.kind.PageType.TheVariants as kinds
 use Rattle.xp_words.specs.Places.{Sizes, Place, Refs}
 use Rattle.xp_board.specs.declared.holdings.Made.{Made}
 use Rattle.xp_board.specs.declared.holdings.OwnerFound.{OwnerFound}
@@ -16,7 +15,8 @@ use Rattle.xp_board.specs.Readings.{kind_at, owner_of, is_number, is_live, is_ty
 use Rattle.xp_board.specs.Knowledge.{tells_owner, knows_owner, tells_live, knows_live, tells_partial, passes, knows_partial}
 use Rattle.xp_board.specs.Found.{OwnersFound, LivesFound, PartialsFound}
 use Rattle.board_lemmas.proofs.PlaceTests.{equal_refl}
-use Rattle.found_rule.proofs.StepLists.{EachOf-map, EachOf-both}
+use Rattle.board_lemmas.proofs.HandLists.{EachOf-map}
+use Rattle.board_lemmas.proofs.ListCounts.{EachOf-both}
 
 -- ---- some element of a list tells, and each that tells is right
 each_right : {A B : Type 0} (key : A → ℕ) (tells : ℕ → B → A → Bool) (G : ℕ → B → Type 0) (xs : List A) →
@@ -135,16 +135,6 @@ partials_by z m u c f t h =
 pub owned_by : (o : Option ℕ) (d : ℕ) → IsTrue (is_number o d) → o ≡ Some d
 owned_by (Some n) d t = ap Some (eqb-true n d t)
 owned_by None d t = absurd cc
-
-pub type_by : (t u : PageType) → IsTrue (is_type t u) → t ≡ u
-type_by kinds.None kinds.None e = refl
-type_by kinds.L1 kinds.L1 e = refl
-type_by kinds.L2 kinds.L2 e = refl
-type_by kinds.L3 kinds.L3 e = refl
-type_by kinds.L4 kinds.L4 e = refl
-type_by kinds.Desc kinds.Desc e = refl
-type_by kinds.Writable kinds.Writable e = refl
-type_by _ _ e = absurd cc
 
 pub passes_some : (test : ℕ → Bool) (o : Option ℕ) → IsTrue (passes test o) → (w : ℕ) × (o ≡ Some w) × IsTrue (test w)
 passes_some test (Some w) h = (w, refl, h)

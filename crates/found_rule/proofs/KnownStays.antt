@@ -1,7 +1,6 @@
 -- What references tell stays right while the seat makes steps.
-use Rattle.std.proofs.Common.{◌≡◌, ℕ, ◌≤◌, ◌&&◌, nat_le, Bool, false, List, [], ◌∷◌, length, Option, Some, IsTrue, ap, ◌∙◌, inl, inr, arith}
-use Rattle.std.proofs.lemmas.Bool.{eqb-true, and_parts, or_cases}
-use Rattle.std.proofs.lemmas.Bool.Decides.{nat_tests}
+use Rattle.std.proofs.Common.{◌≡◌, ℕ, ◌≤◌, List, length, Option, Some, IsTrue, ap, ◌∙◌, inl, inr}
+use Rattle.std.proofs.lemmas.Bool.{eqb-true, and_parts}
 use Rattle.xp_words.specs.declared.kind.PageType.{PageType}
 use Rattle.xp_words.specs.KindWords.{kind_fields}
 use Rattle.xp_words.specs.Places.{Sizes, Place, Refs, Kind}
@@ -10,26 +9,13 @@ use Rattle.xp_board.specs.declared.holdings.OwnerFound.{OwnerFound}
 use Rattle.xp_board.specs.declared.holdings.OwnerFound.TheVariants as owners
 use Rattle.xp_board.specs.declared.holdings.Liveness.{Liveness}
 use Rattle.xp_board.specs.declared.holdings.Liveness.TheVariants as lives
-use Rattle.xp_board.specs.Steps.{is_at, left_of, some_step, some_since, last_since}
+use Rattle.xp_board.specs.Steps.{last_since}
 use Rattle.xp_board.specs.Readings.{kind_at, owner_of, is_live, is_type, is_owned_by, is_live_as, is_partial, is_partial_as}
 use Rattle.xp_board.specs.Knowledge.{passes}
 use Rattle.found_rule.proofs.Growth.{Grown, grown_some, grown_last}
-use Rattle.found_rule.proofs.KnownFacts.{OwnerRight, IsLiveAs, LiveRight, PartialRight, owned_by, type_by, passes_some}
-
--- no step has a number from n on
-pub none_since : (z : Sizes) (n : ℕ) (p : Place) (test : ℕ → Bool) (xs : List Made) → length xs ≤ n → IsTrue (some_since z n p test xs) → ⊥
-unfolding some_step
-none_since z n p test [] l h = cc
-none_since z n p test (x ∷ xs) l h =
-    elim (or_cases (nat_le n (length xs) && (is_at z p x && test (left_of x))) (some_since z n p test xs) h) [
-      | inl new ↦ (let a = (and_parts (nat_le n (length xs)) (is_at z p x && test (left_of x)) new).0 in let k : n ≤ length xs = grind (arith, nat_tests) in omega arith)
-      | inr old ↦ none_since z n p test xs (omega arith) old
-    ]
-
-pub none_last : (z : Sizes) (n : ℕ) (p : Place) (w : ℕ) (xs : List Made) → length xs ≤ n → last_since z n p xs ≡ Some w → ⊥
-unfolding last_since
-none_last z n p w [] l h = cc
-none_last z n p w (x ∷ xs) l h = let k : nat_le n (length xs) ≡ false = grind (arith, nat_tests) in let q = rw k at h in cc
+use Rattle.found_rule.proofs.KnownFacts.{OwnerRight, IsLiveAs, LiveRight, PartialRight, owned_by, passes_some}
+use Rattle.board_lemmas.proofs.MoreSteps.{none_last, none_since}
+use Rattle.board_lemmas.proofs.EntryWords.{type_same}
 
 module _ (z : Sizes) (m m2 : Place → ℕ) (xs ys : List Made) (g : Grown z m m2 xs ys) (f : ℕ) where
   -- ---- what was known
@@ -42,7 +28,7 @@ module _ (z : Sizes) (m m2 : Place → ℕ) (xs ys : List Made) (g : Grown z m m
       ]
 
   pub live_now : (t : PageType) → IsTrue (is_live_as t (m2 (Kind f))) → IsLiveAs m2 f t
-  live_now t h = let a = and_parts (is_live (kind_at m2 f)) (is_type (kind_at m2 f).kind t) h in (a.0, type_by (kind_at m2 f).kind t a.1)
+  live_now t h = let a = and_parts (is_live (kind_at m2 f)) (is_type (kind_at m2 f).kind t) h in (a.0, type_same (kind_at m2 f).kind t a.1)
 
   pub live_kept : (IsTrue (is_live (kind_at m f)) → IsTrue (is_live (kind_at m2 f))) → (kind_at m2 f).kind ≡ (kind_at m f).kind → (t : PageType) → IsLiveAs m f t → IsLiveAs m2 f t
   live_kept l k t h = (l h.0, k ∙ h.1)
@@ -55,7 +41,7 @@ module _ (z : Sizes) (m m2 : Place → ℕ) (xs ys : List Made) (g : Grown z m m
 
   partial_now : (t : PageType) (w : ℕ) → m2 (Kind f) ≡ w → IsTrue (is_partial_as t w) → (kind_at m2 f).kind ≡ t
   partial_now t w e h =
-      let a = and_parts (is_partial (kind_fields w)) (is_type (kind_fields w).kind t) h in ap (λ y. (kind_fields y).kind) e ∙ type_by (kind_fields w).kind t a.1
+      let a = and_parts (is_partial (kind_fields w)) (is_type (kind_fields w).kind t) h in ap (λ y. (kind_fields y).kind) e ∙ type_same (kind_fields w).kind t a.1
 
   pub partial_right : (kind_at m2 f).kind ≡ (kind_at m f).kind → (w : Liveness) → PartialRight z m xs f w → PartialRight z m2 ys f w
   partial_right k lives.Found c t h = absurd cc
@@ -71,14 +57,14 @@ module _ (z : Sizes) (m m2 : Place → ℕ) (xs ys : List Made) (g : Grown z m m
   owner_new n l o t =
       elim (grown_some z m m2 xs ys n (Refs f) (is_owned_by o) g t) [
         | inl new ↦ owned_by (owner_of (m2 (Refs f))) o new
-        | inr old ↦ absurd (none_since z n (Refs f) (is_owned_by o) xs l old)
+        | inr old ↦ absurd (let none = none_since z n (Refs f) (is_owned_by o) xs l in cc)
       ]
 
   pub live_new : (kind : Option PageType) (n : ℕ) → length xs ≤ n → LiveRight z m2 ys f kind (lives.Since n)
   live_new kind n l t h =
       elim (grown_some z m m2 xs ys n (Kind f) (is_live_as t) g h) [
         | inl new ↦ live_now t new
-        | inr old ↦ absurd (none_since z n (Kind f) (is_live_as t) xs l old)
+        | inr old ↦ absurd (let none = none_since z n (Kind f) (is_live_as t) xs l in cc)
       ]
 
   pub partial_new : (n : ℕ) → length xs ≤ n → PartialRight z m2 ys f (lives.Since n)
@@ -91,7 +77,7 @@ module _ (z : Sizes) (m m2 : Place → ℕ) (xs ys : List Made) (g : Grown z m m
 
   -- found or made live by this step
   pub live_found : (k : PageType) → IsLiveAs m2 f k → LiveRight z m2 ys f (Some k) lives.Found
-  live_found k h t e = (h.0, h.1 ∙ type_by k t e)
+  live_found k h t e = (h.0, h.1 ∙ type_same k t e)
 
   pub partial_found : PartialRight z m2 ys f lives.Found
   partial_found t h = absurd cc

@@ -16,7 +16,6 @@ use Rattle.step_effects.proofs.MarkEffects as marks
 use Rattle.step_effects.proofs.ActEffects.{ActEffect}
 use Rattle.step_effects.proofs.ActEffects as effects
 use Rattle.step_effects.proofs.ActInversions.{act_effect}
-use Rattle.found_rule.proofs.StepLists.{EachOf-map}
 use Rattle.found_rule.proofs.CellFacts.{FixedWorks}
 use Rattle.found_rule.proofs.GuestSteps as guests
 use Rattle.found_rule.proofs.TouchRows as touches
@@ -38,6 +37,7 @@ use Rattle.found_rule.proofs.CellSteps as cells
 use Rattle.found_rule.proofs.FillSteps as fills
 use Rattle.found_rule.proofs.MarkSteps as turns
 use Rattle.found_rule.proofs.RecordMarks as entries
+use Rattle.board_lemmas.proofs.HandLists.{EachOf-map}
 
 -- ---- acts
 module _ (n : Machine) (s : ℕ) (x : Step) (m m2 : Place → ℕ) (b c : ℕ → Holdings) (l : s < (sizes_of n).vcpus) (sound : Sound n m b) (others : (t : ℕ) → t ≢ s → c t ≡ b t) where

@@ -12,10 +12,11 @@ use Rattle.xp_board.specs.Lists.{kept_of, EachOf}
 use Rattle.xp_board.specs.Hands.{changed_work, changed_lock, changed_claim}
 use Rattle.xp_board.specs.After.{noted, learned, learned_own, learned_work, learned_lock, learned_claim}
 use Rattle.xp_board.specs.Runs.{place_of}
-use Rattle.found_rule.proofs.StepLists.{EachOf-kept}
 use Rattle.found_rule.proofs.Growth.{Added}
-use Rattle.found_rule.proofs.MoreSteps.{last_since-here, last_since-elsewhere}
 use Rattle.xp_board.specs.Steps.{last_since}
+use Rattle.board_lemmas.proofs.HandLists.{EachOf-kept}
+use Rattle.board_lemmas.proofs.MoreSteps.{last_since-here, last_since-elsewhere}
+use Rattle.board_lemmas.proofs.HandParts.{learned_steps}
 
 -- of a cell
 pub data CellsLearned (p : Place) (left : ℕ) (u w : Holdings) : Type 0 where
@@ -134,26 +135,6 @@ module _ (s : ℕ) (x : Step) (found left : ℕ) (u : Holdings) where
   learned_parts (Priv d) = nothing_learned (Priv d) (λ g i e. cc) (λ j e. cc)
 
 -- ---- the steps of the hand that has learned
-if_steps : (t : Bool) (u a b : Holdings) → a.steps ≡ u.steps → b.steps ≡ u.steps → (if t then a else b).steps ≡ u.steps
-if_steps true u a b e f = e
-if_steps false u a b e f = f
-
-own_steps : (k left : ℕ) (u : Holdings) → (learned_own k left u).steps ≡ u.steps
-own_steps k left u =
-    if_steps (k == 2) u (record u { old0 = Some left }) _ refl
-    (if_steps (k == 3) u (record u { old1 = Some left }) _ refl (if_steps (k == 6) u (record u { run = Some left }) u refl refl))
-
-learned_steps : (s : ℕ) (p : Place) (found left : ℕ) (u : Holdings) → (learned s p found left u).steps ≡ u.steps
-learned_steps s Clock found left u = refl
-learned_steps s (Pages d) found left u = refl
-learned_steps s (Life d) found left u = if_steps (found == 0) u (record u { looking = kept_of (λ e. not (e.owner == d)) u.looking }) u refl refl
-learned_steps s (Vcpu v k) found left u = if_steps (v == s) u (learned_own k left u) u (own_steps k left u) refl
-learned_steps s (Refs f) found left u = refl
-learned_steps s (Kind f) found left u = refl
-learned_steps s (M2p f) found left u = refl
-learned_steps s (Cell f i) found left u = refl
-learned_steps s (Map k) found left u = refl
-learned_steps s (Priv d) found left u = refl
 
 -- ---- an act of seat s at p, by the hands before it (b), after what it moves (u), and after what was learned (w)
 pub record Act (n : Machine) (s : ℕ) (p : Place) (m m2 : Place → ℕ) (b u w : Holdings) : Type 0 where

@@ -1,12 +1,9 @@
-pub mod StepLists
-pub mod MoreSteps
 pub mod Growth
 pub mod Learning
 pub mod Words
 pub mod WordFacts
 pub mod KnownFacts
 pub mod KnownStays
-pub mod Counted
 pub mod ReachSame
 pub mod HandFacts
 pub mod SoundWords
@@ -19,9 +16,7 @@ pub mod FormedWorks
 pub mod FormedLaw
 pub mod Quiet
 pub mod QuietSteps
-pub mod Bits
 pub mod WordSteps
-pub mod RefChanges
 pub mod RefSteps
 pub mod MarkLaw
 pub mod FreeSteps
@@ -31,11 +26,7 @@ pub mod RecordMarks
 pub mod HintSteps
 pub mod FlushSteps
 pub mod RunSteps
-pub mod KindWordsLeft
-pub mod ReachAll
-pub mod EntryAsks
 pub mod Serving
-pub mod EntryBits
 pub mod CellReach
 pub mod RestLaw
 pub mod NameSteps

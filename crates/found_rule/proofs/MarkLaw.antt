@@ -1,5 +1,5 @@
 -- What a mark keeps: no word changes and no step is made.
-use Rattle.std.proofs.Common.{◌≡◌, ◌≢◌, ℕ, ◌<◌, ◌≤◌, length, refl, sym, ap, subst, inl, inr, arith}
+use Rattle.std.proofs.Common.{◌≡◌, ◌≢◌, ℕ, ◌<◌, ◌≤◌, length, refl, sym, subst, inl, inr, arith}
 use Rattle.std.proofs.lemmas.Bool.{cases_eq}
 use Rattle.xp_words.specs.Machine.{Machine}
 use Rattle.xp_words.specs.Places.{sizes_of, Place, Clock}
@@ -9,7 +9,6 @@ use Rattle.xp_board.specs.Readings.{domain_of}
 use Rattle.xp_board.specs.Found.{WorkFound, ClaimFound, Found}
 use Rattle.xp_board.specs.WellFormed.{IsWorkFormed, IsLockFormed, IsCacheFormed, WellFormed}
 use Rattle.xp_board.specs.Sound.{Sound}
-use Rattle.found_rule.proofs.StepLists.{EachOf-map}
 use Rattle.found_rule.proofs.Growth.{Grown, stayed}
 use Rattle.found_rule.proofs.WordFacts.{off_same, cold_same}
 use Rattle.found_rule.proofs.Words.{Words}
@@ -17,6 +16,8 @@ use Rattle.found_rule.proofs.WordsAt.{words_quiet}
 use Rattle.found_rule.proofs.KnownFacts.{RefRight, TypedRight, KnownRight, known_each, owners_by, lives_by, partials_by}
 use Rattle.found_rule.proofs.HandFacts.{ReachKept}
 use Rattle.found_rule.proofs.FoundLaw.{Offs, their_found}
+use Rattle.board_lemmas.proofs.HandLists.{EachOf-map}
+use Rattle.board_lemmas.proofs.Sums.{seat_same}
 
 -- what no mark moves
 pub record MarkKept (a u : Holdings) : Type 0 where
@@ -34,11 +35,8 @@ pub record MarkKept (a u : Holdings) : Type 0 where
   pub old1 : u.old1 ≡ a.old1
 
 module _ (n : Machine) (s : ℕ) (m : Place → ℕ) (h b : ℕ → Holdings) (l : s < (sizes_of n).vcpus) (sound : Sound n m h) (others : (t : ℕ) → t ≢ s → b t ≡ h t) (kept : MarkKept (h s) (b s)) where
-  part_same : {A : Type 0} (part : Holdings → A) → part (b s) ≡ part (h s) → (v : ℕ) → part (b v) ≡ part (h v)
-  part_same part e v = elim (cases_eq v s) [ inl at ↦ rw at e | inr off ↦ ap part (others v off) ]
-
   grown : (v : ℕ) → Grown (sizes_of n) m m (h v).steps (b v).steps
-  grown v = stayed (part_same (λ y. y.steps) kept.steps v)
+  grown v = stayed (seat_same (λ y. y.steps) s h b others kept.steps v)
 
   words : Words n s m m h
   words = words_quiet n s m m h sound (λ q r. refl)
@@ -46,10 +44,10 @@ module _ (n : Machine) (s : ℕ) (m : Place → ℕ) (h b : ℕ → Holdings) (l
   offs : Offs n m m h b
   unfolding grown
   offs =
-      let warm = part_same (λ y. y.cold) kept.cold in
+      let warm = seat_same (λ y. y.cold) s h b others kept.cold in
       record {
         off = λ v l w found off since. off_same n m m h b v refl (warm v) w refl off;
-        cold = λ v l w found since. cold_same n m m h b v refl (warm v) w (omega arith) (part_same (λ y. y.ran) kept.ran v) (grown v) found since;
+        cold = λ v l w found since. cold_same n m m h b v refl (warm v) w (omega arith) (seat_same (λ y. y.ran) s h b others kept.ran v) (grown v) found since;
       }
 
   module _ (reach : ReachKept n m m h b) (refs : EachOf (RefRight (sizes_of n) m (h s).steps) (b s).refs) (typed : EachOf (TypedRight (sizes_of n) m (h s).steps) (b s).typed)

@@ -12,22 +12,14 @@ use Rattle.xp_board.specs.Found.{WorkFound, Found}
 use Rattle.xp_board.specs.WellFormed.{IsCacheFormed, WellFormed}
 use Rattle.xp_board.specs.Sound.{Sound}
 use Rattle.step_effects.proofs.MarkEffects.{Forgot}
-use Rattle.found_rule.proofs.StepLists.{EachOf-there}
 use Rattle.found_rule.proofs.KnownFacts.{KnownRight, known_each}
-use Rattle.found_rule.proofs.Counted.{work_busy}
 use Rattle.found_rule.proofs.HandFacts.{ReachKept}
 use Rattle.found_rule.proofs.MarkLaw.{MarkKept, marked_found, marked_formed}
+use Rattle.board_lemmas.proofs.ListCounts.{EachOf-there}
+use Rattle.board_lemmas.proofs.Works.{is_busy-mine}
+use Rattle.board_lemmas.proofs.HandLists.{Member-kept}
 
 -- ---- fewer translations
-member_if : {A : Type 0} (x y : A) (xs ys : List A) (t : Bool) → (Member x ys → Member x xs) → Member x (if t then (y ∷ ys) else ys) → Member x (y ∷ xs)
-unfolding Member
-member_if x y xs ys true f h = elim h [ inl at ↦ inl at | inr more ↦ inr (f more) ]
-member_if x y xs ys false f h = inr (f h)
-
-member_kept : {A : Type 0} (x : A) (test : A → Bool) (xs : List A) → Member x (kept_of test xs) → Member x xs
-unfolding kept_of
-member_kept x test [] h = h
-member_kept x test (y ∷ ys) h = member_if x y ys (kept_of test ys) (test y) (λ k. member_kept x test ys k) h
 
 length_if : {A : Type 0} (y : A) (xs ys : List A) (t : Bool) → length ys ≤ length xs → length (if t then (y ∷ ys) else ys) ≤ length (y ∷ xs)
 length_if y xs ys true h = omega arith
@@ -40,7 +32,7 @@ length_kept test (y ∷ ys) = length_if y ys (kept_of test ys) (test y) (length_
 
 module _ (z : Sizes) (m : Place → ℕ) (u u2 : Holdings) (test : Item → Bool) (cache : u2.cache ≡ kept_of test u.cache) (walk : u2.walk ≡ u.walk) where
   reach_fewer : {g : ℕ} {p : Use} → Reach z m u2 g p → Reach z m u g p
-  reach_fewer (cached x c) = cached x (member_kept x test u.cache (subst (λ l. Member x l) cache c))
+  reach_fewer (cached x c) = cached x (Member-kept test x u.cache (subst (λ l. Member x l) cache c))
   reach_fewer (walked x c) = walked x (subst (λ o. Member x (reached_by o)) walk c)
   reach_fewer (entry f level i r w p b) = entry f level i (reach_fewer r) w p b
 
@@ -55,7 +47,7 @@ module _ (n : Machine) (s : ℕ) (m : Place → ℕ) (h b : ℕ → Holdings) (l
         cells = w.cells;
         fixed = w.fixed;
         passed = λ v o p marked r was other found past.
-            elim (reach v e.frame p r (work_busy n m h sound s e.frame l there) (ap (λ y. (kind_fields y).unflushed) w.word ∙ marked) past) [
+            elim (reach v e.frame p r (is_busy-mine n m h sound.alone e.frame s l there) (ap (λ y. (kind_fields y).unflushed) w.word ∙ marked) past) [
               | inl before ↦ w.passed v o p marked r was other found before
               | inr reads ↦ reads
             ];

@@ -14,15 +14,18 @@ use Rattle.xp_board.specs.Hands.{works_on, endings_of, claims_of}
 use Rattle.xp_board.specs.After.{is_fixed, counts_fixed, learned_work, learned_lock, learned_claim, learned_last}
 use Rattle.xp_board.specs.Found.{WorkFound, LockFound, EndingFound, ClaimFound}
 use Rattle.xp_board.specs.Sound.{Sound, WorkAgrees}
-use Rattle.found_rule.proofs.StepLists.{EachOf-map, EachOf-both, EachOf-there, EachOf-changes}
 use Rattle.found_rule.proofs.Growth.{Grown, added}
 use Rattle.found_rule.proofs.Learning.{CellsLearned, cells_off, cells_at, Act}
 use Rattle.found_rule.proofs.Words.{Words}
 use Rattle.found_rule.proofs.KnownFacts.{RefRight, TypedRight, LockRight}
-use Rattle.found_rule.proofs.Counted.{work_busy}
 use Rattle.found_rule.proofs.SoundWords.{work_counted}
 use Rattle.found_rule.proofs.HandFacts.{ReachKept, my_work, my_lock, my_claim}
 use Rattle.found_rule.proofs.FoundLaw.{Mine, refs_kept, typed_kept, locks_kept}
+use Rattle.board_lemmas.proofs.HandLists.{EachOf-map}
+use Rattle.board_lemmas.proofs.ListCounts.{EachOf-both, EachOf-there}
+use Rattle.board_lemmas.proofs.ListChanges.{EachOf-changes}
+use Rattle.board_lemmas.proofs.Works.{is_busy-mine}
+use Rattle.board_lemmas.proofs.Sums.{either}
 
 -- ---- what is learned of the word of one cell
 fixed_if : (m2 : Place → ℕ) (f i w bound : ℕ) (t b : Bool) → b ≡ (t && ((i == bound) && is_fixed w)) → m2 (Cell f i) ≡ w →
@@ -42,14 +45,10 @@ scrubbed_if m2 f i w bound true e now h j l =
     elim (cases_lt j bound) [ inl below ↦ h j below | inr above ↦ (let r : i ≡ j = omega arith in rw (← r) (now ∙ eqb-true w 0 p.1)) ]
 scrubbed_if m2 f i w bound false e now h j l = h j l
 
-work_if : (P : Work → Type 0) (b : Bool) (e c : Work) → P e → P c → P (if b then e else c)
-work_if P true e c h k = h
-work_if P false e c h k = k
-
 learned_work_law : (n : Machine) (m2 : Place → ℕ) (h2 : ℕ → Holdings) (b : Holdings) (f i : ℕ) (e : Work) → e.frame ≡ f → WorkFound n m2 h2 b e → WorkFound n m2 h2 b (learned_work i (m2 (Cell f i)) e)
 learned_work_law n m2 h2 b f i e at c =
     let w = m2 (Cell f i) in
-    work_if (λ x. WorkFound n m2 h2 b x) (kind_fields e.word).unflushed e
+    either (λ x. WorkFound n m2 h2 b x) (kind_fields e.word).unflushed e
     (record e {
       seen = Some (record { index = i; word = w });
       unsettled = learned_last i e.recorded w e.unsettled;
@@ -156,7 +155,7 @@ module _ (n : Machine) (s : ℕ) (p : Place) (m m2 : Place → ℕ) (b c : ℕ �
         EachOf-there (λ e. WorkFound n m b (b s) e × (WorkAgrees (b s) e × ((i : ℕ) → p ≡ Cell e.frame i → i < e.fixed → IsTrue (is_fixed (m2 p)))))
         (λ e. m2 (Kind e.frame) ≡ m (Kind e.frame) → WorkFound n m2 c (c s) e) (λ e. e.frame) (b s).works
         (λ e there old kept.
-        my_work n m m2 b c sound.fresh.each reach words.moves.ever (b s) (c s) more acted.made p acted.added acted.others acted.steps e (work_busy n m b sound s e.frame l there)
+        my_work n m m2 b c sound.fresh.each reach words.moves.ever (b s) (c s) more acted.made p acted.added acted.others acted.steps e (is_busy-mine n m b sound.alone e.frame s l there)
         (words.moves.owner e.frame (work_counted n m b sound s l e there old.0 (old.1).0)) kept (old.1).1 old.0)
         (EachOf-both (WorkFound n m b (b s)) (λ e. WorkAgrees (b s) e × ((i : ℕ) → p ≡ Cell e.frame i → i < e.fixed → IsTrue (is_fixed (m2 p)))) (b s).works (sound.found s l).works
         (EachOf-both (WorkAgrees (b s)) (λ e. (i : ℕ) → p ≡ Cell e.frame i → i < e.fixed → IsTrue (is_fixed (m2 p))) (b s).works (sound.works s l) fix))

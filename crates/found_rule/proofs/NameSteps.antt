@@ -10,29 +10,31 @@ use Rattle.xp_board.specs.declared.holdings.TypedReference.{TypedReference}
 use Rattle.xp_board.specs.declared.holdings.Holdings.{Holdings}
 use Rattle.xp_board.specs.Lists.{EachOf}
 use Rattle.xp_board.specs.Readings.{is_context, is_live, told_value}
-use Rattle.xp_board.specs.Hands.{brought_name, named_live}
+use Rattle.xp_board.specs.Hands.{named_live}
 use Rattle.xp_words.specs.declared.kind.PageType.{PageType}
 use Rattle.xp_board.specs.declared.holdings.Made.{Made}
 use Rattle.xp_board.specs.Valid.{is_live_context}
 use Rattle.xp_board.specs.ContextSteps.{MayName, MayEmpty, context_type, named_in, named_out}
 use Rattle.xp_board.specs.Sound.{Sound}
 use Rattle.step_effects.proofs.ActEffects.{Named, Based}
-use Rattle.found_rule.proofs.StepLists.{EachOf-more, EachOf-without}
-use Rattle.found_rule.proofs.MoreSteps.{EachSince-some}
 use Rattle.found_rule.proofs.Growth.{Grown, added}
 use Rattle.found_rule.proofs.Learning.{act}
 use Rattle.found_rule.proofs.Words.{Words}
 use Rattle.found_rule.proofs.WordsOf.{words_lone, lone_vcpu}
 use Rattle.found_rule.proofs.KnownFacts.{RefRight, TypedRight, IsLiveAs, LiveRight, PartialRight}
 use Rattle.found_rule.proofs.KnownStays.{owner_new, live_new, partial_new, live_found, partial_found}
-use Rattle.found_rule.proofs.WalkRows.{has_type}
 use Rattle.found_rule.proofs.Demands.{RefsMoved, same_rest, then_moved}
 use Rattle.found_rule.proofs.MyHand.{refs_old, typed_old}
 use Rattle.found_rule.proofs.Outcome.{reach_kept}
 use Rattle.found_rule.proofs.Quiet.{Done, fix_kept, zero_kept, same_hand, done_same}
-use Rattle.found_rule.proofs.QuietSteps.{if_same}
 use Rattle.xp_board.specs.After.{noted}
-use Rattle.found_rule.proofs.RestLaw.{rest_done}
+use Rattle.found_rule.proofs.RestLaw.{rest_done, rest_of}
+use Rattle.board_lemmas.proofs.MoreSteps.{EachSince-some}
+use Rattle.board_lemmas.proofs.LiveTables.{has_type}
+use Rattle.board_lemmas.proofs.Counted.{not_context}
+use Rattle.board_lemmas.proofs.HandTypes.{typed_named_out, typed_named_in}
+use Rattle.board_lemmas.proofs.HandParts.{refs_named_out, refs_named_in}
+use Rattle.board_lemmas.proofs.Sums.{either}
 
 moved_named_out : (w : ℕ) (a : Holdings) → RefsMoved a (named_out w a)
 moved_named_out zero a = same_rest a a refl
@@ -41,22 +43,6 @@ moved_named_out (suc f) a = same_rest a (named_out (suc f) a) refl
 moved_named_in : (k w : ℕ) (a : Holdings) → RefsMoved a (named_in k w a)
 moved_named_in k zero a = same_rest a a refl
 moved_named_in k (suc f) a = same_rest a (named_in k (suc f) a) refl
-
-refs_named_out : (w : ℕ) (a : Holdings) → (named_out w a).refs ≡ a.refs
-refs_named_out zero a = refl
-refs_named_out (suc f) a = refl
-
-refs_named_in : (k w : ℕ) (a : Holdings) → (named_in k w a).refs ≡ a.refs
-refs_named_in k zero a = refl
-refs_named_in k (suc f) a = refl
-
-typed_named_out : (P : TypedReference → Type 0) (w : ℕ) (a : Holdings) → EachOf P a.typed → EachOf P (named_out w a).typed
-typed_named_out P zero a h = h
-typed_named_out P (suc f) a h = EachOf-without P (λ e. e.frame) f a.typed h
-
-typed_named_in : (P : TypedReference → Type 0) (k w : ℕ) (a : Holdings) → ((f : ℕ) → w ≡ suc f → P (brought_name f (context_type k) a)) → EachOf P a.typed → EachOf P (named_in k w a).typed
-typed_named_in P k zero a new h = h
-typed_named_in P k (suc f) a new h = EachOf-more P (brought_name f (context_type k) a) a.typed (new f refl) h
 
 -- a word that says a type names a live frame of it
 types_live : (k : ℕ) (t : PageType) → IsTrue (is_context k) → context_type k ≡ Some t → IsTrue (is_live_context k)
@@ -74,9 +60,6 @@ module _ (z : Sizes) (m m2 : Place → ℕ) (xs ys : List Made) (g : Grown z m m
   partial_name : (kind : Option PageType) → PartialRight z m2 ys f (named_live kind u)
   partial_name (Some t) = partial_found z m m2 xs ys g f
   partial_name None = partial_new z m m2 xs ys g f (length u.steps) past
-
-not_flush : (k : ℕ) → IsTrue (is_context k) → (k ≢ 5) × (k ≢ 6)
-not_flush k t = ((λ e. grind (arith, nat_tests)), (λ e. grind (arith, nat_tests)))
 
 module _ (n : Machine) (s : ℕ) (x : Step) (m m2 : Place → ℕ) (b c : ℕ → Holdings) (l : s < (sizes_of n).vcpus) (sound : Sound n m b) (others : (t : ℕ) → t ≢ s → c t ≡ b t) (v k : ℕ) where
   -- of another seat's vCPU only where it is stopped
@@ -135,27 +118,15 @@ module _ (n : Machine) (s : ℕ) (x : Step) (m m2 : Place → ℕ) (b c : ℕ �
       let moved = then_moved (b s) gone u (moved_named_out (m2 p) (b s)) (moved_named_in k (m p) gone) in
       let acted = act n s x p m m2 (b s) u (c s) w.place w.real w.left w.others moved.steps moved.run moved.old0 moved.old1 d.hand in
       let o = w.others in
-      let far = not_flush k d.word in
-      let flushed : (t : ℕ) → m2 (flushed_of t) ≡ m (flushed_of t) = λ t. o (flushed_of t) (λ e. far.0 (cc)) in
-      let run : (t : ℕ) → m2 (run_of t) ≡ m (run_of t) = λ t. o (run_of t) (λ e. far.1 (cc)) in
+      let flushed : (t : ℕ) → m2 (flushed_of t) ≡ m (flushed_of t) = λ t. o (flushed_of t) (λ e. not_context 5 k refl d.word (cc)) in
+      let run : (t : ℕ) → m2 (run_of t) ≡ m (run_of t) = λ t. o (run_of t) (λ e. not_context 6 k refl d.word (cc)) in
       let cells : (f i : ℕ) → m2 (Cell f i) ≡ m (Cell f i) = λ f i. o (Cell f i) (λ e. cc) in
-      let words = vcpu_words (whose d.may) far.0 far.1 o in
+      let words = vcpu_words (whose d.may) (λ e. not_context 5 k refl d.word e) (λ e. not_context 6 k refl d.word e) o in
       let reach = reach_kept n s p m m2 b c u acted others moved.cache moved.walk cells in
       let grown : Grown z m m2 (b s).steps (c s).steps = added acted.made p acted.added acted.steps in
       let T : TypedReference → Type 0 = TypedRight z m2 (c s).steps in
       rest_done n s p m m2 b c u acted l sound others
-      (record {
-        works = moved.works;
-        locks = moved.locks;
-        ending = moved.ending;
-        claimed = moved.claimed;
-        raised = moved.raised;
-        looking = moved.looking;
-        cold = moved.cold;
-        turn = moved.turn;
-        acked = moved.acked;
-        ran = moved.ran;
-      })
+      (rest_of (b s) u moved)
       (λ f. o (Kind f) (λ e. cc)) (λ f. o (Refs f) (λ e. cc)) words reach (fix_kept n s p m m2 b c u acted l sound cells) (zero_kept n s p m m2 b c u acted l sound cells) flushed run
       (subst (λ xs. EachOf (RefRight z m2 (c s).steps) xs) (sym (refs_named_in k (m p) gone ∙ refs_named_out (m2 p) (b s))) (refs_old n s p m m2 b c u acted l sound words reach))
       (typed_named_in T k (m p) gone
@@ -177,6 +148,6 @@ module _ (n : Machine) (s : ℕ) (x : Step) (m m2 : Place → ℕ) (b c : ℕ �
       let p = ldt_base_of v in
       let o = w.others in
       done_same n s p m m2 b c (b s)
-      (act n s x p m m2 (b s) (b s) (c s) w.place w.real w.left o refl refl refl refl (d.hand ∙ ap (noted x (m p)) (sym (if_same (v == s) (b s)))))
+      (act n s x p m m2 (b s) (b s) (c s) w.place w.real w.left o refl refl refl refl (d.hand ∙ ap (noted x (m p)) (sym (either (λ y. y ≡ (b s)) (v == s) (b s) (b s) refl refl))))
       l sound (same_hand (b s)) (vcpu_words n s x m m2 b c l sound others v 7 d.may (λ e. omega arith) (λ e. omega arith) o) others
       (λ f i. o (Cell f i) (λ e. cc)) (λ f. o (Kind f) (λ e. cc)) (λ f. o (Refs f) (λ e. cc)) (λ t. o (flushed_of t) (λ e. cc)) (λ t. o (run_of t) (λ e. cc)) refl refl

@@ -14,6 +14,7 @@ use Rattle.found_rule.proofs.HandFacts.{ReachKept}
 use Rattle.found_rule.proofs.ReachSame.{reach_same}
 use Rattle.found_rule.proofs.FoundLaw.{Offs, Mine, all_found}
 use Rattle.found_rule.proofs.MyHand.{HandRight, mine_by}
+use Rattle.board_lemmas.proofs.Sums.{seat_same}
 
 -- what facts ask of an act
 pub record Outcome (n : Machine) (s : ℕ) (m m2 : Place → ℕ) (b c : ℕ → Holdings) : Type 0 where
@@ -31,7 +32,7 @@ found_by n s m m2 b c l sound others o t k = all_found n s o.place m m2 b c o.mo
 module _ (n : Machine) (s : ℕ) (p : Place) (m m2 : Place → ℕ) (b c : ℕ → Holdings) (u : Holdings) (acted : Act n s p m m2 (b s) u (c s)) (others : (t : ℕ) → t ≢ s → c t ≡ b t) where
   -- what each vCPU has of a part that the act does not move
   pub part_same : {A : Type 0} (part : Holdings → A) → part (c s) ≡ part u → part u ≡ part (b s) → (v : ℕ) → part (c v) ≡ part (b v)
-  part_same part e k v = elim (cases_eq v s) [ inl at ↦ rw at (e ∙ k) | inr off ↦ ap part (others v off) ]
+  part_same part e k v = seat_same part s b c others (e ∙ k) v
 
   pub all_grown : (v : ℕ) → Grown (sizes_of n) m m2 (b v).steps (c v).steps
   all_grown v =

@@ -11,15 +11,15 @@ use Rattle.xp_board.specs.After.{is_fixed}
 use Rattle.xp_board.specs.Found.{WorkFound, LockFound, EndingFound, ClaimFound}
 use Rattle.xp_board.specs.WellFormed.{IsWorkFormed, IsLockFormed, IsRaisedFormed, IsLookingFormed, WellFormed}
 use Rattle.xp_board.specs.Sound.{Sound, WorkAgrees}
-use Rattle.found_rule.proofs.StepLists.{EachOf-map}
 use Rattle.found_rule.proofs.Learning.{Act}
 use Rattle.found_rule.proofs.Words.{Words}
 use Rattle.found_rule.proofs.KnownFacts.{RefRight, TypedRight, LockRight}
-use Rattle.found_rule.proofs.Counted.{one_work, one_lock}
 use Rattle.found_rule.proofs.HandFacts.{ReachKept}
 use Rattle.found_rule.proofs.MyHand.{HandRight, hand_old}
 use Rattle.found_rule.proofs.Outcome.{Outcome, outcome_by}
 use Rattle.found_rule.proofs.FormedLaw.{formed_by, works_formed, locks_formed, ending_formed_old, claimed_formed_old}
+use Rattle.board_lemmas.proofs.HandLists.{EachOf-map}
+use Rattle.board_lemmas.proofs.Works.{one_works, one_lock}
 
 -- what an act of seat s did, as facts and the forms of holdings ask it
 pub record Done (n : Machine) (s : ℕ) (m m2 : Place → ℕ) (b c : ℕ → Holdings) : Type 0 where
@@ -75,10 +75,10 @@ module _ (n : Machine) (s : ℕ) (p : Place) (m m2 : Place → ℕ) (b c : ℕ �
 
   -- ---- the forms of a hand that the act does not move
   pub works_form : u.works ≡ (b s).works → EachOf (IsWorkFormed n (c s)) (c s).works
-  works_form e = works_formed n s p m m2 (b s) u (c s) acted e (λ f. one_work n m b sound s f l) marked (sound.formed s l)
+  works_form e = works_formed n s p m m2 (b s) u (c s) acted e (λ f. one_works n m b sound.alone f s l) marked (sound.formed s l)
 
   pub locks_form : u.locks ≡ (b s).locks → EachOf (IsLockFormed n (c s)) (c s).locks
-  locks_form e = locks_formed n s p m m2 (b s) u (c s) acted e (λ f. one_lock n m b sound s f l) (sound.formed s l)
+  locks_form e = locks_formed n s p m m2 (b s) u (c s) acted e (λ f. one_lock n m b sound.alone f s l) (sound.formed s l)
 
   -- all but what is given
   module _ (same : SameHand (b s) u) where

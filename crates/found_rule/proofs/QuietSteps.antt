@@ -1,5 +1,5 @@
 -- Loads, exchanges that found another word, and steps on words of which no fact speaks.
-use Rattle.std.proofs.Common.{◌≡◌, ◌≢◌, ℕ, ◌-◌, ◌^◌, ◌<◌, ◌==◌, ◌||◌, not, if◌then◌else◌, Bool, true, false, List, IsTrue, refl, sym, ap, ◌∙◌}
+use Rattle.std.proofs.Common.{◌≡◌, ◌≢◌, ℕ, ◌-◌, ◌^◌, ◌<◌, ◌==◌, ◌||◌, not, false, List, IsTrue, refl, sym, ap, ◌∙◌}
 use Rattle.xp_words.specs.Machine.{Machine}
 use Rattle.xp_words.specs.Places.{sizes_of, Place, Pages, Refs, Kind, M2p, Cell, flushed_of, run_of, asked_of}
 use Rattle.xp_board.specs.declared.step.Step.{Step}
@@ -11,10 +11,11 @@ use Rattle.xp_board.specs.KindSteps.{still_looking}
 use Rattle.xp_board.specs.WellFormed.{IsRaisedFormed, IsLookingFormed}
 use Rattle.xp_board.specs.Sound.{Sound}
 use Rattle.step_effects.proofs.ActEffects.{Looked, Mapped, Charged, Refunded, Asked, Missed}
-use Rattle.found_rule.proofs.StepLists.{EachOf-kept}
 use Rattle.found_rule.proofs.Learning.{Act, act}
 use Rattle.found_rule.proofs.WordsAt.{is_read, words_quiet}
 use Rattle.found_rule.proofs.Quiet.{Done, SameHand, same_hand, done_same, found_same, formed_same}
+use Rattle.board_lemmas.proofs.HandLists.{EachOf-kept}
+use Rattle.board_lemmas.proofs.Sums.{either}
 
 same_looking : (a : Holdings) (xs : List Looking) → SameHand a (record a { looking = xs })
 same_looking a xs =
@@ -23,10 +24,6 @@ same_looking a xs =
 same_credits : (a : Holdings) (xs : List ℕ) → SameHand a (record a { credits = xs })
 same_credits a xs =
     record { refs = refl; typed = refl; works = refl; locks = refl; ending = refl; claimed = refl; cache = refl; walk = refl; cold = refl; turn = refl; acked = refl; ran = refl }
-
-pub if_same : (t : Bool) (u : Holdings) → (if t then u else u) ≡ u
-if_same true u = refl
-if_same false u = refl
 
 unread : (p q : Place) → is_read p ≡ false → IsTrue (is_read q) → q ≢ p
 unread p q off r e = let k = ap is_read e in cc
@@ -94,5 +91,5 @@ module _ (n : Machine) (s : ℕ) (x : Step) (m m2 : Place → ℕ) (b c : ℕ �
       let w = d.wrote in
       unread_done (asked_of v) (b s) refl
       (act n s x (asked_of v) m m2 (b s) (b s) (c s) w.place w.real w.left w.others refl refl refl refl
-      (d.hand ∙ ap (noted x (m (asked_of v))) (sym (if_same (v == s) (b s)))))
+      (d.hand ∙ ap (noted x (m (asked_of v))) (sym (either (λ y. y ≡ (b s)) (v == s) (b s) (b s) refl refl))))
       (same_hand (b s)) refl refl

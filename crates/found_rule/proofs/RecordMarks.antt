@@ -1,6 +1,5 @@
 -- Marks that record the next entry of a table in work, or shed the last one.
-use Rattle.std.proofs.Common.{◌≡◌, ◌≢◌, ℕ, ◌+◌, ◌-◌, ◌<◌, ◌≤◌, if◌then◌else◌, Bool, true, false, List, length, Option, Some, None, refl, sym, ap, subst, ◌∙◌, inl, inr, arith, is_none}
-use Rattle.std.proofs.lemmas.Bool.{cases_eq}
+use Rattle.std.proofs.Common.{◌≡◌, ◌≢◌, ℕ, ◌+◌, ◌-◌, ◌<◌, ◌≤◌, if◌then◌else◌, Bool, true, false, List, length, Option, Some, None, refl, sym, ap, subst, ◌∙◌, inl, arith, is_none}
 use Rattle.xp_words.specs.declared.kind.PageType.{PageType}
 use Rattle.xp_words.specs.Machine.{Machine}
 use Rattle.xp_words.specs.Places.{Sizes, sizes_of, Place, Cell}
@@ -17,24 +16,23 @@ use Rattle.xp_board.specs.Found.{WorkFound, Found}
 use Rattle.xp_board.specs.WellFormed.{SeenIs, LastIs, IsWorkFormed, WellFormed}
 use Rattle.xp_board.specs.Sound.{Sound}
 use Rattle.step_effects.proofs.MarkEffects.{Recorded, Shed}
-use Rattle.found_rule.proofs.StepLists.{EachOf-changes, EachOf-changed_first}
 use Rattle.found_rule.proofs.Growth.{Grown, stayed}
 use Rattle.found_rule.proofs.ReachSame.{reach_same}
 use Rattle.found_rule.proofs.KnownFacts.{RefRight, TypedRight, IsLiveAs, LiveRight, PartialRight}
 use Rattle.found_rule.proofs.KnownStays.{owner_new, live_new, partial_new, live_found, partial_found}
 use Rattle.found_rule.proofs.ShedFacts.{shed_live}
-use Rattle.found_rule.proofs.Counted.{one_work}
 use Rattle.found_rule.proofs.HandFacts.{ReachKept}
-use Rattle.found_rule.proofs.Demands.{RefsMoved, moved_out, moved_in, refs_out, typed_out, refs_in, typed_in}
+use Rattle.found_rule.proofs.Demands.{RefsMoved, moved_out, moved_in}
 use Rattle.found_rule.proofs.MarkLaw.{MarkKept, marked_found, marked_formed}
 use Rattle.found_rule.proofs.MarkSteps.{works_marked, known_was}
+use Rattle.board_lemmas.proofs.ListChanges.{EachOf-changes, EachOf-changed_first}
+use Rattle.board_lemmas.proofs.Works.{one_works}
+use Rattle.board_lemmas.proofs.WorkFacts.{seen_is}
+use Rattle.board_lemmas.proofs.HandTypes.{refs_out, typed_out, refs_in, typed_in}
+use Rattle.board_lemmas.proofs.Sums.{seat_same}
 
 seen_there : (z : Sizes) (k f : ℕ) (steps : List Made) (o : Option Seen) (i w : ℕ) → SeenIs z k f steps o → o ≡ Some (record { index = i; word = w }) → last_since z k (Cell f i) steps ≡ Some (seen_word o)
-seen_there z k f steps (Some s) i w h e =
-    let a : s ≡ record { index = i; word = w } = cc in
-    let b : s.index ≡ i = ap (λ y. y.index) a in
-    subst (λ j. last_since z k (Cell f j) steps ≡ Some s.word) b h
-seen_there z k f steps None i w h e = absurd cc
+seen_there z k f steps o i w h e = seen_is z k f steps o i w h e ∙ ap (λ y. Some (seen_word y)) (sym e)
 
 none_is : (o : Option Unsettled) → is_none o ≡ true → o ≡ None
 none_is None e = refl
@@ -70,14 +68,11 @@ module _ (n : Machine) (s : ℕ) (m : Place → ℕ) (h b : ℕ → Holdings) (l
   works_are : (b s).works ≡ changed_work f change (h s).works
   works_are = moved.works ∙ ap (λ u. u.works) is
 
-  part_same : {A : Type 0} (part : Holdings → A) → part (b s) ≡ part (h s) → (v : ℕ) → part (b v) ≡ part (h v)
-  part_same part e v = elim (cases_eq v s) [ inl at ↦ rw at e | inr off ↦ ap part (others v off) ]
-
   reach : ReachKept n m m h b
   reach v g p r busy marked past =
       inl
-      (reach_same (sizes_of n) m m (h v) (b v) (λ x i. refl) (part_same (λ u. u.cache) (moved.cache ∙ ap (λ u. u.cache) is) v)
-      (part_same (λ u. u.walk) (moved.walk ∙ ap (λ u. u.walk) is) v) past)
+      (reach_same (sizes_of n) m m (h v) (b v) (λ x i. refl) (seat_same (λ u. u.cache) s h b others (moved.cache ∙ ap (λ u. u.cache) is) v)
+      (seat_same (λ u. u.walk) s h b others (moved.walk ∙ ap (λ u. u.walk) is) v) past)
 
   entry_found : ((e : Work) → WorkFound n m b (h s) e → WorkFound n m b (h s) (change e)) → EachOf (RefRight (sizes_of n) m (h s).steps) (b s).refs →
       EachOf (TypedRight (sizes_of n) m (h s).steps) (b s).typed → (t : ℕ) → t < (sizes_of n).vcpus → Found n m b t
@@ -93,7 +88,7 @@ module _ (n : Machine) (s : ℕ) (m : Place → ℕ) (h b : ℕ → Holdings) (l
       let k = sound.formed s l in
       marked_formed n s m h b l sound others kept
       (subst (λ xs. EachOf (IsWorkFormed n (h s)) xs) (sym works_are)
-      (EachOf-changed_first (IsWorkFormed n (h s)) (IsWorkFormed n (h s)) (λ y. y.frame) f change e (h s).works (one_work n m h sound s f l) here changes (λ y off w. w) k.works))
+      (EachOf-changed_first (IsWorkFormed n (h s)) (IsWorkFormed n (h s)) (λ y. y.frame) f change e (h s).works (one_works n m h sound.alone f s l) here changes (λ y off w. w) k.works))
       (record { few = rw (moved.cache ∙ ap (λ u. u.cache) is) k.cache.few; walk = λ y q. k.cache.walk y (sym (moved.walk ∙ ap (λ u. u.walk) is) ∙ q) })
       (let q = k.turn in let r : (b s).turn ≡ (h s).turn = moved.turn ∙ ap (λ u. u.turn) is in omega arith)
 

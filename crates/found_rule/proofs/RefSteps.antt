@@ -1,7 +1,7 @@
 -- References raised, cleared and lowered: the frame is neither ending nor claimed.
-use Rattle.std.proofs.Common.{◌≡◌, ◌≢◌, ℕ, suc, ◌+◌, ◌<◌, ◌≤◌, ◌==◌, if◌then◌else◌, Bool, true, false, List, ◌∷◌, length, Option, Some, None, refl, sym, subst, ◌∙◌, inl, inr, arith}
+use Rattle.std.proofs.Common.{◌≡◌, ◌≢◌, ℕ, suc, ◌+◌, ◌<◌, ◌≤◌, ◌==◌, if◌then◌else◌, Bool, true, false, List, ◌∷◌, length, Option, Some, None, refl, sym, subst, ◌∙◌, inl, inr, arith, ◌%◌, ◌^◌, ap}
 use Rattle.std.proofs.lemmas.Bool.{cases_eq, eqb-true}
-use Rattle.xp_words.specs.RefWords.{ref_read}
+use Rattle.xp_words.specs.RefWords.{ref_read, ref_write}
 use Rattle.xp_words.specs.Machine.{Machine}
 use Rattle.xp_words.specs.Places.{sizes_of, Place, Refs, Kind, Cell, flushed_of, run_of}
 use Rattle.xp_board.specs.declared.step.Step.{Step}
@@ -9,36 +9,61 @@ use Rattle.xp_board.specs.declared.holdings.Reference.{Reference}
 use Rattle.xp_board.specs.declared.holdings.Ending.{Ending}
 use Rattle.xp_board.specs.declared.holdings.Holdings.{Holdings}
 use Rattle.xp_board.specs.declared.holdings.OwnerFound.TheVariants as owners
-use Rattle.xp_board.specs.Lists.{EachOf}
 use Rattle.xp_board.specs.Readings.{is_dying, owner_of, ref_count, free_stamp}
 use Rattle.xp_board.specs.Hands.{endings_of, claims_of}
-use Rattle.xp_board.specs.RefSteps.{took_ref, gave_ref, owner_number}
+use Rattle.xp_board.specs.RefSteps.{took_ref, gave_ref, owner_number, one_down}
 use Rattle.xp_board.specs.Found.{EndingFound}
 use Rattle.xp_board.specs.Sound.{Sound}
 use Rattle.step_effects.proofs.ActEffects.{Raised, Cleared, Lowered}
-use Rattle.found_rule.proofs.StepLists.{EachOf-more, EachOf-without, times_by-more}
 use Rattle.found_rule.proofs.Growth.{added}
 use Rattle.found_rule.proofs.Learning.{Act, act}
 use Rattle.found_rule.proofs.Words.{Words}
 use Rattle.found_rule.proofs.WordsAt.{words_refs}
 use Rattle.found_rule.proofs.KnownFacts.{RefRight}
 use Rattle.found_rule.proofs.KnownStays.{owner_found}
-use Rattle.found_rule.proofs.Counted.{not_held, counted_above}
 use Rattle.found_rule.proofs.HandFacts.{ReachKept}
 use Rattle.found_rule.proofs.MyHand.{HandRight, hand_old}
 use Rattle.found_rule.proofs.Outcome.{Outcome, outcome_by}
 use Rattle.found_rule.proofs.FormedLaw.{ending_formed_old, claimed_formed_old}
-use Rattle.found_rule.proofs.RefChanges.{owned_word, owned_alive, LoweredWord, lowered_word}
 use Rattle.found_rule.proofs.Quiet.{Done, fix_kept, zero_kept, works_form, locks_form, formed_with}
+use Rattle.board_lemmas.proofs.HandLists.{EachOf-more, EachOf-without, EachOf-maybe}
+use Rattle.board_lemmas.proofs.ListCounts.{times_by-cons}
+use Rattle.board_lemmas.proofs.Works.{nobody_ends}
+use Rattle.board_lemmas.proofs.Counted.{in_hand_counted}
+use Rattle.xp_board.proofs.RefWords.{OneLess, more, last, one_down_leaves, owned_says, dying_says}
+use Rattle.board_lemmas.proofs.RefForms.{dying_number}
+use Rattle.xp_words.specs.declared.refs.RefWord.TheVariants.{Dying}
 
 owner_numbered : (o : Option ℕ) (d : ℕ) → o ≡ Some d → o ≡ Some (owner_number o)
 owner_numbered (Some e) d h = refl
 owner_numbered None d h = absurd cc
 
+-- what one reference less leaves: the owner, no stamp, and an ending frame at the last one
+record LoweredWord (w v : ℕ) : Type 0 where
+  pub owner : owner_of v ≡ owner_of w
+  pub stamp : free_stamp v ≡ 0
+  pub alive : is_dying w ≡ false
+  pub last : ref_count w ≡ 1 → v ≡ ref_write (Dying (owner_number (owner_of w)))
+
+lowered_word : (w v : ℕ) → OneLess w v → LoweredWord w v
+lowered_word w v (more o c a e k) =
+    let was = owned_says w o a (suc (suc c)) e in
+    let now = owned_says v o a (suc c) k in
+    record { owner = now.owned ∙ sym was.owned; stamp = now.stamp; alive = was.dying; last = λ one. absurd (let q = was.counts in omega arith) }
+lowered_word w v (last o e k) =
+    let was = owned_says w o false 1 e in
+    let now = dying_says v o k in
+    record {
+      owner = now.owned ∙ sym was.owned;
+      stamp = now.stamp;
+      alive = was.dying;
+      last = λ one. dying_number v o k ∙ ap (λ y. ref_write (Dying (owner_number y))) (sym was.owned);
+    }
+
 module _ (n : Machine) (s : ℕ) (m m2 : Place → ℕ) (b c : ℕ → Holdings) (l : s < (sizes_of n).vcpus) (sound : Sound n m b) (others : (t : ℕ) → t ≢ s → c t ≡ b t) (f : ℕ)
     (alive : is_dying (m (Refs f)) ≡ false) (u : Holdings) (acted : Act n s (Refs f) m m2 (b s) u (c s)) where
   nobody : (t : ℕ) → t < (sizes_of n).vcpus → 0 < endings_of f (b t).ending + claims_of f (b t).claimed → ⊥
-  nobody t k some = let q = not_held n m b sound t f k alive in omega arith
+  nobody t k some = let q = nobody_ends n m b sound.alone f alive t k in omega arith
 
   kept : (g : ℕ) → 0 < endings_of g (b s).ending + claims_of g (b s).claimed → m2 (Refs g) ≡ m (Refs g)
   kept g some = elim (cases_eq g f) [ inl at ↦ absurd (nobody s l (rw at at some)) | inr off ↦ acted.others (Refs g) (λ e. off (cc)) ]
@@ -92,26 +117,23 @@ module _ (n : Machine) (s : ℕ) (x : Step) (m m2 : Place → ℕ) (b c : ℕ �
   pub raised_done : Raised n x f m m2 (b s) (c s) → Done n s m m2 b c
   raised_done d =
       let w = d.wrote in
-      let was = owned_word (m (Refs f)) d.owner d.allocated d.count d.was in
-      let is = owned_word (m2 (Refs f)) d.owner d.allocated (d.count + 1) d.is in
-      took_done (owned_alive (m (Refs f)) d.owner d.allocated d.count d.was) d.owner was.owner is.owner is.stamp
+      let was = owned_says (m (Refs f)) d.owner d.allocated d.count d.was in
+      let is = owned_says (m2 (Refs f)) d.owner d.allocated (d.count + 1) d.is in
+      took_done was.dying d.owner was.owned is.owned is.stamp
       (act n s x (Refs f) m m2 (b s) (took_ref f (m (Refs f)) (b s)) (c s) w.place w.real w.left w.others refl refl refl refl d.hand)
 
   pub cleared_done : Cleared n x f m m2 (b s) (c s) → Done n s m m2 b c
   cleared_done d =
       let w = d.wrote in
-      let was = owned_word (m (Refs f)) d.owner true d.count d.was in
-      let is = owned_word (m2 (Refs f)) d.owner false d.count d.is in
-      took_done (owned_alive (m (Refs f)) d.owner true d.count d.was) d.owner was.owner is.owner is.stamp
+      let was = owned_says (m (Refs f)) d.owner true d.count d.was in
+      let is = owned_says (m2 (Refs f)) d.owner false d.count d.is in
+      took_done was.dying d.owner was.owned is.owned is.stamp
       (act n s x (Refs f) m m2 (b s) (took_ref f (m (Refs f)) (b s)) (c s) w.place w.real w.left w.others refl refl refl refl d.hand)
 
   -- ---- a reference goes out, and the last one leaves the frame ending
-  ending_if : (P : Ending → Type 0) (t : Bool) (e : Ending) (es : List Ending) → (t ≡ true → P e) → EachOf P es → EachOf P (if t then (e ∷ es) else es)
-  ending_if P true e es now h = EachOf-more P e es (now refl) h
-  ending_if P false e es now h = h
 
   more_if : (g : ℕ) (t : Bool) (e : Ending) (es : List Ending) → endings_of g es ≤ endings_of g (if t then (e ∷ es) else es)
-  more_if g true e es = times_by-more (λ y. y.frame) g e es
+  more_if g true e es = let k = times_by-cons (λ y. y.frame) g e es in omega arith
   more_if g false e es = omega arith
 
   pub lowered_done : Lowered n x f m m2 (b s) (c s) → Done n s m m2 b c
@@ -120,7 +142,7 @@ module _ (n : Machine) (s : ℕ) (x : Step) (m m2 : Place → ℕ) (b c : ℕ �
       let y = m (Refs f) in
       let u = gave_ref f y (b s) in
       let acted = act n s x (Refs f) m m2 (b s) u (c s) w.place w.real w.left w.others refl refl refl refl d.hand in
-      let low = subst (λ v. LoweredWord y v) (sym d.is) (lowered_word y (ref_read y) (sound.spelled.small (Refs f)) refl (counted_above n m b sound s f l d.may.in_hand)) in
+      let low = subst (λ v. LoweredWord y v) (sym d.is) (lowered_word y ((y + one_down) % 2 ^ 64) (one_down_leaves y (ref_read y) (sound.spelled.small (Refs f)) refl (let k = in_hand_counted (sizes_of n) m b s f l sound.counts d.may.in_hand in omega arith))) in
       let alive : is_dying y ≡ false = low.alive in
       let words = alive_words n s m m2 b c l sound others f alive u acted (λ some. low.owner) low.stamp in
       let end : Ending = record { frame = f; owner = owner_number (owner_of y); since = length (b s).steps + 1 } in
@@ -134,12 +156,12 @@ module _ (n : Machine) (s : ℕ) (x : Step) (m m2 : Place → ℕ) (b c : ℕ �
               lock_right = h.lock_right;
               works = h.works;
               locks = h.locks;
-              endings = ending_if (EndingFound m2) (ref_count y == 1) end (b s).ending (λ t. low.last (eqb-true (ref_count y) 1 t)) h.endings;
+              endings = EachOf-maybe (EndingFound m2) (ref_count y == 1) end (b s).ending (λ t. low.last (eqb-true (ref_count y) 1 t)) h.endings;
               claims = h.claims;
               acked = h.acked;
             });
         formed = formed_with n s (Refs f) m m2 b c u acted l sound refl refl refl refl refl
-            (ending_if (λ e. e.since ≤ suc (length (b s).steps)) (ref_count y == 1) end (b s).ending (λ t. omega arith) (ending_formed_old n s (Refs f) m m2 (b s) u (c s) acted (sound.formed s l)))
+            (EachOf-maybe (λ e. e.since ≤ suc (length (b s).steps)) (ref_count y == 1) end (b s).ending (λ t. omega arith) (ending_formed_old n s (Refs f) m m2 (b s) u (c s) acted (sound.formed s l)))
             (claimed_formed_old n s (Refs f) m m2 (b s) u (c s) acted (sound.formed s l))
             (record { held = λ g. let r = (sound.formed s l).raised.held g in let q = more_if g (ref_count y == 1) end (b s).ending in omega arith }) (sound.formed s l).looking
             (works_form n s (Refs f) m m2 b c u acted l sound refl) (locks_form n s (Refs f) m m2 b c u acted l sound refl);

@@ -9,7 +9,6 @@ use Rattle.xp_board.specs.After.{is_fixed}
 use Rattle.xp_board.specs.Found.{WorkFound, LockFound, EndingFound, ClaimFound}
 use Rattle.xp_board.specs.WellFormed.{IsCacheFormed, WellFormed}
 use Rattle.xp_board.specs.Sound.{Sound}
-use Rattle.found_rule.proofs.StepLists.{EachOf-map}
 use Rattle.found_rule.proofs.Learning.{Act}
 use Rattle.found_rule.proofs.Words.{Words}
 use Rattle.found_rule.proofs.KnownFacts.{RefRight, TypedRight, LockRight}
@@ -18,6 +17,8 @@ use Rattle.found_rule.proofs.MyHand.{HandRight, mine_by, lock_right_old, works_o
 use Rattle.found_rule.proofs.Outcome.{offs_kept}
 use Rattle.found_rule.proofs.FormedLaw.{formed_by, ending_formed_old, claimed_formed_old}
 use Rattle.found_rule.proofs.Quiet.{Done, works_form, locks_form}
+use Rattle.board_lemmas.proofs.HandLists.{EachOf-map}
+use Rattle.found_rule.proofs.Demands.{RefsMoved}
 
 pub record Rest (a u : Holdings) : Type 0 where
   pub works : u.works ≡ a.works
@@ -30,6 +31,22 @@ pub record Rest (a u : Holdings) : Type 0 where
   pub turn : u.turn ≡ a.turn
   pub acked : u.acked ≡ a.acked
   pub ran : u.ran ≡ a.ran
+
+-- a hand in which references alone moved
+pub rest_of : (a u : Holdings) → RefsMoved a u → Rest a u
+rest_of a u k =
+    record {
+      works = k.works;
+      locks = k.locks;
+      ending = k.ending;
+      claimed = k.claimed;
+      raised = k.raised;
+      looking = k.looking;
+      cold = k.cold;
+      turn = k.turn;
+      acked = k.acked;
+      ran = k.ran;
+    }
 
 module _ (n : Machine) (s : ℕ) (p : Place) (m m2 : Place → ℕ) (b c : ℕ → Holdings) (u : Holdings) (acted : Act n s p m m2 (b s) u (c s)) (l : s < (sizes_of n).vcpus) (sound : Sound n m b)
     (others : (t : ℕ) → t ≢ s → c t ≡ b t) (rest : Rest (b s) u) (kinds : (f : ℕ) → m2 (Kind f) ≡ m (Kind f)) (refs : (f : ℕ) → m2 (Refs f) ≡ m (Refs f)) where

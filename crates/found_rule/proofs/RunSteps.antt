@@ -12,15 +12,16 @@ use Rattle.xp_board.specs.RunSteps.{AllowsRun, ran_now}
 use Rattle.xp_board.specs.After.{noted, learned_own}
 use Rattle.xp_board.specs.Sound.{Sound}
 use Rattle.step_effects.proofs.ActEffects.{Ran}
-use Rattle.found_rule.proofs.StepLists.{EachOf-all}
 use Rattle.found_rule.proofs.Learning.{Act, act}
 use Rattle.found_rule.proofs.Words.{Words}
-use Rattle.found_rule.proofs.WordFacts.{EachSince-none}
 use Rattle.found_rule.proofs.WordsOf.{words_lone, lone_vcpu}
 use Rattle.found_rule.proofs.MyHand.{mine_by}
 use Rattle.found_rule.proofs.FormedLaw.{formed_by, ending_formed_old, claimed_formed_old}
 use Rattle.found_rule.proofs.Quiet.{Done, works_form, locks_form}
-use Rattle.found_rule.proofs.FlushSteps.{if_mine, less_reach, vcpu_hand, other_off, other_cold}
+use Rattle.found_rule.proofs.FlushSteps.{less_reach, vcpu_hand, other_off, other_cold}
+use Rattle.board_lemmas.proofs.HandLists.{EachOf-all}
+use Rattle.board_lemmas.proofs.MoreSteps.{EachSince-none}
+use Rattle.board_lemmas.proofs.Sums.{if_itself}
 
 module _ (n : Machine) (s : ℕ) (x : Step) (m m2 : Place → ℕ) (b c : ℕ → Holdings) (l : s < (sizes_of n).vcpus) (sound : Sound n m b) (others : (t : ℕ) → t ≢ s → c t ≡ b t) where
   -- ---- stopped, off, or on a processor
@@ -107,7 +108,7 @@ module _ (n : Machine) (s : ℕ) (x : Step) (m m2 : Place → ℕ) (b c : ℕ �
       let p = run_of s in
       act n s x p m m2 (b s) u (c s) w.place w.real w.left w.others steps run old0 old1
       (d.hand ∙ ap (λ y. noted x (m p) (learned_own 6 (m2 p) (ran_now y (b s)))) e ∙ ap (λ y. noted x (m p) (learned_own 6 (m2 p) y)) is
-      ∙ ap (noted x (m p)) (sym (if_mine s (learned_own 6 (m2 p) u) u)))
+      ∙ ap (noted x (m p)) (sym (if_itself s (learned_own 6 (m2 p) u) u)))
 
   pub ran_by : Ran n s x m m2 (b s) (c s) → AllowsRun (m2 (run_of s)) (b s) → Done n s m m2 b c
   ran_by d (inl stop) =

@@ -1,192 +1,29 @@
--- Frames that serve a use: live with its type, and counted. What a vCPU comes to after a step that changes no word but a cell
--- it came to before, or it serves, or can only be read.
-use Rattle.std.proofs.Common.{◌≡◌, ◌≢◌, ℕ, zero, suc, ◌-◌, ◌<◌, ◌≤◌, ◌==◌, ◌⊎◌, if◌then◌else◌, Bool, true, false, nat_lt, List, [], ◌∷◌, None, IsTrue, refl, sym, ap, subst, ◌∙◌, inl, inr, arith}
-use Rattle.std.proofs.lemmas.Bool.{cases_eq}
-use Rattle.std.proofs.lemmas.Bool.Decides.{nat_tests}
-use Rattle.xp_words.specs.declared.kind.PageType.{PageType}
-use Rattle.xp_words.specs.declared.kind.KindWord.{KindWord}
-use Rattle.xp_words.specs.declared.entry.Demand.{Demand}
-use Rattle.xp_words.specs.declared.entry.Demand.TheVariants.{Nothing, Bad, Read, Typed}
-use Rattle.xp_words.specs.PageTypes.{type_number, is_table}
-use Rattle.xp_words.specs.Entries.{is_bit, frame_of, demand_at}
-use Rattle.xp_words.specs.KindWords.{kind_fields}
+-- What a vCPU comes to after a step that changes no word but a cell: it came to it before, or it serves, or can only be read.
+use Rattle.std.proofs.Common.{◌≡◌, ◌≢◌, ℕ, ◌<◌, ◌⊎◌, true, IsTrue, refl, inl, inr}
+use Rattle.xp_words.specs.Entries.{is_bit, frame_of}
 use Rattle.xp_words.specs.Machine.{Machine}
-use Rattle.xp_words.specs.Places.{Sizes, sizes_of, is_place, Place, Kind, Cell}
+use Rattle.xp_words.specs.Places.{sizes_of, Place, Cell}
 use Rattle.xp_board.specs.declared.step.Item.{Item}
 use Rattle.xp_board.specs.declared.holdings.Reached.{Reached}
-use Rattle.xp_board.specs.declared.holdings.Work.{Work}
 use Rattle.xp_board.specs.declared.holdings.Holdings.{Holdings}
-use Rattle.xp_board.specs.Lists.{one_at, times_by, first_by, Member}
+use Rattle.xp_board.specs.Lists.{Member}
 use Rattle.xp_board.specs.FillSteps.{is_walked}
-use Rattle.xp_board.specs.Readings.{kind_at, is_partial}
-use Rattle.xp_board.specs.Hands.{work_on}
-use Rattle.xp_board.specs.Recorded.{recorded_in, work_of, held, held_of, entry_demand, table_entries, entries, names_typed}
-use Rattle.xp_board.specs.Valid.{LeadsWell}
+use Rattle.xp_board.specs.Readings.{kind_at}
 use Rattle.xp_board.specs.Reach.{Use, Table, Writes, Reads, use_of, use_below, reached_by, Reach, entry}
-use Rattle.xp_board.specs.Fresh.{Matches}
 use Rattle.xp_board.specs.Sound.{Sound, is_busy}
-use Rattle.found_rule.proofs.Counted.{sum_below-part, not_in_work}
-use Rattle.found_rule.proofs.ReachAll.{Reach-all, IsLevel}
-use Rattle.found_rule.proofs.EntryAsks.{asks_table, asks_leaf, LeafAsks, walked_inside}
-use Rattle.found_rule.proofs.KindWordsLeft.{live_not_busy, live_count}
-
-pub record Serves (m : Place → ℕ) (g : ℕ) (u : Use) : Type 0 where
-  pub level : IsLevel u
-  pub live : u ≢ Reads → (kind_at m g).validated ≡ true
-  pub number : u ≢ Reads → 0 < (kind_at m g).number
-  pub matches : u ≢ Reads → Matches (kind_at m g).kind u
-
-pub not_reads : (level : ℕ) → Table level ≢ Reads
-not_reads level e = cc
-
--- ---- what a demand asks is there
-abbrev pub AsksLive : (Place → ℕ) → Demand → Type 0
-AsksLive m Nothing = Unit {0}
-AsksLive m Bad = ⊥
-AsksLive m (Read g) = Unit {0}
-AsksLive m (Typed g t) = ((kind_at m g).validated ≡ true) × (0 < (kind_at m g).number) × ((kind_at m g).kind ≡ t)
-
-module _ (m : Place → ℕ) (kind : PageType) where
-  table_target : (level i w : ℕ) → 2 ≤ level → level ≤ 4 → type_number kind ≡ level → IsTrue (is_walked level i) → is_bit 0 w ≡ true → AsksLive m (demand_at kind i w) →
-      Serves m (frame_of w) (Table (level - 1))
-  table_target level i w lo hi is walked present well =
-      let asked : demand_at kind i w ≢ Bad = λ e. subst (λ q. AsksLive m q) e well in
-      let asks = asks_table kind i w (omega arith) (omega arith) (subst (λ l. IsTrue (is_walked l i)) (sym is) walked) present asked in
-      let good = subst (λ q. AsksLive m q) asks.0 well in
-      let number = ap type_number good.2 in
-      let next = asks.1 in
-      record { level = (omega arith, omega arith); live = λ n. good.0; number = λ n. good.1; matches = λ n. omega arith }
-
-  leaf_use : (g : ℕ) (b : Bool) (q : Demand) → LeafAsks q b g → AsksLive m q → Serves m g (if b then Writes else Reads)
-  leaf_use g true q (inl read) well = absurd (let k = read.1 in cc)
-  leaf_use g false q k well = record { level = tt; live = λ n. absurd (n refl); number = λ n. absurd (n refl); matches = λ n. tt }
-  leaf_use g true q (inr typed) well =
-      let good = subst (λ k. AsksLive m k) typed well in record { level = tt; live = λ n. good.0; number = λ n. good.1; matches = λ n. ap type_number good.2 }
-
-  target_by : (level i w : ℕ) (b : Bool) → (level == 1) ≡ b → 1 ≤ level → level ≤ 4 → type_number kind ≡ level → IsTrue (is_walked level i) → is_bit 0 w ≡ true → AsksLive m (demand_at kind i w) →
-      Serves m (frame_of w) (if b then (if is_bit 1 w then Writes else Reads) else Table (level - 1))
-  target_by level i w true e lo hi is walked present well =
-      let one : level ≡ 1 = grind (arith, nat_tests) in
-      leaf_use (frame_of w) (is_bit 1 w) (demand_at kind i w) (asks_leaf kind i w (is ∙ one) present (λ e. subst (λ q. AsksLive m q) e well)) well
-  target_by level i w false e lo hi is walked present well =
-      let more : level ≢ 1 = (λ at. absurd (let t : (level == 1) ≡ true = grind (arith, nat_tests) in cc)) in
-      table_target level i w (omega arith) hi is walked present well
-
-  -- the target of an entry of a table of that level
-  pub target_serves : (level i w : ℕ) → IsLevel (Table level) → type_number kind ≡ level → IsTrue (is_walked level i) → is_bit 0 w ≡ true → AsksLive m (demand_at kind i w) →
-      Serves m (frame_of w) (use_below level w)
-  target_serves level i w inside is walked present well = target_by level i w (level == 1) refl inside.0 inside.1 is walked present well
-
--- ---- recorded entries
-entry_counted : (c : Demand → ℕ) (z : Sizes) (m : Place → ℕ) (h : ℕ → Holdings) (f i : ℕ) → f < z.frames → i < held z m h f → c (entry_demand m f i) ≤ entries c z m h
-unfolding entries table_entries
-entry_counted c z m h f i inside recorded =
-    let table = sum_below-part z.frames (λ e. table_entries c m (work_of z.vcpus h e) e) f inside in
-    let one = sum_below-part (held z m h f) (λ j. c (entry_demand m f j)) i recorded in
-    omega arith
-
-first_by-none : {A : Type 0} (key : A → ℕ) (g : ℕ) (xs : List A) → times_by key g xs ≡ 0 → first_by key g xs ≡ None
-unfolding times_by first_by
-first_by-none key g [] e = refl
-first_by-none key g (x ∷ xs) e =
-    elim (cases_eq (key x) g) [
-      | inl at ↦ absurd (let one : one_at g (key x) ≡ 1 = grind (arith, nat_tests) in omega arith)
-      | inr off ↦ let no : (key x == g) ≡ false = grind (arith, nat_tests) in rw no (first_by-none key g xs (omega arith))
-    ]
-
-recorded_in-none : (xs : List Work) (f : ℕ) → work_on f xs ≡ None → recorded_in xs f ≡ None
-unfolding recorded_in
-recorded_in-none xs f e = rw e
-
-work_of-none : (n : ℕ) (h : ℕ → Holdings) (f : ℕ) → ((t : ℕ) → t < n → work_on f (h t).works ≡ None) → work_of n h f ≡ None
-unfolding work_of
-work_of-none zero h f e = refl
-work_of-none (suc n) h f e =
-    let here = recorded_in-none (h n).works f (e n (omega arith)) in let rest = work_of-none n h f (λ t b. e t (omega arith)) in rw (here, rest)
-
-all_held : (k : KindWord) → k.validated ≡ true → 1 ≤ type_number k.kind → type_number k.kind ≤ 4 → held_of k None ≡ 512
-unfolding held_of
-all_held k v lo hi = let t : is_table k.kind ≡ true = grind (arith, nat_tests) in rw (t, v)
-
-not_partial : (k : KindWord) → k.validated ≡ true → IsTrue (is_partial k) → ⊥
-not_partial k v p = let e : is_partial k ≡ false = rw v in cc
-
-names_it : (g : ℕ) (t : PageType) (d : Demand) → d ≡ Typed g t → names_typed g d ≡ 1
-unfolding names_typed
-names_it g t d e = rw e (grind (arith, nat_tests))
-
-zero_dead : (kind_fields 0).validated ≡ false
-unfolding kind_fields
-zero_dead = refl
-
-module _ (n : Machine) (m : Place → ℕ) (h : ℕ → Holdings) (sound : Sound n m h) where
-  no_work : (f s : ℕ) → (kind_at m f).validated ≡ true → 0 < (kind_at m f).number → s < (sizes_of n).vcpus → work_on f (h s).works ≡ None
-  no_work f s v some real = first_by-none (λ e. e.frame) f (h s).works (not_in_work n m h sound s f real (live_not_busy (kind_at m f) v some))
-
-  -- all entries of a live and counted table are recorded
-  pub table_held : (f : ℕ) → (kind_at m f).validated ≡ true → 0 < (kind_at m f).number → 1 ≤ type_number (kind_at m f).kind → type_number (kind_at m f).kind ≤ 4 → held (sizes_of n) m h f ≡ 512
-  table_held f v some lo hi = let none = work_of-none (sizes_of n).vcpus h f (λ t real. no_work f t v some real) in rw none (all_held (kind_at m f) v lo hi)
-
-  leads_live : (f i g : ℕ) → (kind_at m f).validated ≡ true → 0 < (kind_at m f).number → LeadsWell (sizes_of n) m h f i g → (kind_at m g).validated ≡ true
-  leads_live f i g v some (inl live) = live
-  leads_live f i g v some (inr (early, inl last)) = absurd (not_partial (kind_at m f) v last.partial)
-  leads_live f i g v some (inr (early, inr open_entry)) = absurd (let none = no_work f open_entry.seat v some open_entry.real in let have = open_entry.here in cc)
-
-  inside_by : (f : ℕ) (b : Bool) → is_place (sizes_of n) (Kind f) ≡ b → (kind_at m f).validated ≡ true → is_place (sizes_of n) (Kind f) ≡ true
-  inside_by f true e live = e
-  inside_by f false e live = absurd (let z = sound.spelled.outside (Kind f) e in let d : (kind_at m f).validated ≡ false = ap (λ w. (kind_fields w).validated) z ∙ zero_dead in cc)
-
-  pub live_inside : (f : ℕ) → (kind_at m f).validated ≡ true → f < (sizes_of n).frames
-  unfolding is_place
-  live_inside f live = let p : nat_lt f n.frames ≡ true = inside_by f _ refl live in grind (arith, nat_tests)
-
-  asks_by : (f i : ℕ) (q : Demand) → i < held (sizes_of n) m h f → (kind_at m f).validated ≡ true → 0 < (kind_at m f).number → entry_demand m f i ≡ q → AsksLive m q
-  asks_by f i Nothing recorded live some asks = tt
-  asks_by f i Bad recorded live some asks = absurd (sound.valid.allowed f i recorded asks)
-  asks_by f i (Read g) recorded live some asks = tt
-  asks_by f i (Typed g t) recorded live some asks =
-      let alive = leads_live f i g live some (sound.valid.live f i g t recorded asks) in
-      let count = sound.counts.types g in
-      let number = live_count (kind_at m g) alive in
-      let one = entry_counted (names_typed g) (sizes_of n) m h f i (live_inside f live) recorded in
-      let it = names_it g t (entry_demand m f i) asks in
-      (alive, omega arith, sound.counts.kinds.entries f i g t recorded asks)
-
-  -- an entry of a live and counted table asks what is there
-  pub recorded_asks : (f i : ℕ) → i < 512 → (kind_at m f).validated ≡ true → 0 < (kind_at m f).number → 1 ≤ type_number (kind_at m f).kind → type_number (kind_at m f).kind ≤ 4 →
-      AsksLive m (entry_demand m f i)
-  recorded_asks f i inside live some lo hi = let all = table_held f live some lo hi in asks_by f i (entry_demand m f i) (omega arith) live some refl
-
-  pub entry_serves : (level f i : ℕ) → Serves m f (Table level) → IsTrue (is_walked level i) → is_bit 0 (m (Cell f i)) ≡ true → Serves m (frame_of (m (Cell f i))) (use_below level (m (Cell f i)))
-  entry_serves level f i serves walked present =
-      let n = not_reads level in
-      let is : type_number (kind_at m f).kind ≡ level = serves.matches n in
-      let lo = serves.level.0 in
-      let hi = serves.level.1 in
-      target_serves m (kind_at m f).kind level i (m (Cell f i)) serves.level is walked present
-      (recorded_asks f i (walked_inside level i walked) (serves.live n) (serves.number n) (omega arith) (omega arith))
+use Rattle.board_lemmas.proofs.ReachAll.{Reach-all}
+use Rattle.board_lemmas.proofs.CellAlike.{CellAlike, not_reads}
+use Rattle.board_lemmas.proofs.HeldByForm.{live_idle}
+use Rattle.board_lemmas.proofs.WalkDown.{Passes, passes_alike}
+use Rattle.board_lemmas.proofs.Serving.{Serves, entry_serves}
 
 -- ---- what is come to
 abbrev pub Came : Machine → (Place → ℕ) → (ℕ → Holdings) → ℕ → ℕ → Use → Type 0
 Came n m h v g u = Reach (sizes_of n) m (h v) g u ⊎ (Serves m g u ⊎ (u ≡ Reads))
 
--- of an entry a walk reads whether it is present, whether it may be written through, and the frame
-pub record CellAlike (w w2 : ℕ) : Type 0 where
-  pub present : is_bit 0 w2 ≡ is_bit 0 w
-  pub writable : is_bit 1 w2 ≡ is_bit 1 w
-  pub frame : frame_of w2 ≡ frame_of w
-
-pub alike_same : (w w2 : ℕ) → w2 ≡ w → CellAlike w w2
-alike_same w w2 e = record { present = ap (λ x. is_bit 0 x) e; writable = ap (λ x. is_bit 1 x) e; frame = ap frame_of e }
-
-pub use_alike : (level w w2 : ℕ) → CellAlike w w2 → use_below level w2 ≡ use_below level w
-use_alike level w w2 a = ap (λ b. if level == 1 then (if b then Writes else Reads) else Table (level - 1)) a.writable
-
 -- the targets of an entry are come to from a table that is come to
 abbrev pub PassesOn : Machine → (Place → ℕ) → (Place → ℕ) → (ℕ → Holdings) → ℕ → ℕ → ℕ → Type 0
-PassesOn n m m2 h v f i =
-    (level : ℕ) → Came n m h v f (Table level) → IsTrue (is_walked level i) → is_bit 0 (m2 (Cell f i)) ≡ true → frame_of (m2 (Cell f i)) < (sizes_of n).frames →
-    Came n m h v (frame_of (m2 (Cell f i))) (use_below level (m2 (Cell f i)))
+PassesOn n m m2 h v f i = Passes (sizes_of n) m2 (Came n m h v) f i
 
 module _ (n : Machine) (m m2 : Place → ℕ) (h : ℕ → Holdings) (sound : Sound n m h) (v : ℕ) where
   entry_came : (f level i : ℕ) → Came n m h v f (Table level) → IsTrue (is_walked level i) → is_bit 0 (m (Cell f i)) ≡ true → frame_of (m (Cell f i)) < (sizes_of n).frames →
@@ -196,10 +33,7 @@ module _ (n : Machine) (m m2 : Place → ℕ) (h : ℕ → Holdings) (sound : So
   entry_came f level i (inr (inr read)) walked present inside = absurd (not_reads level read)
 
   pub alike_passes : (f i : ℕ) → CellAlike (m (Cell f i)) (m2 (Cell f i)) → PassesOn n m m2 h v f i
-  alike_passes f i alike level came walked present inside =
-      subst (λ g. Came n m h v g (use_below level (m2 (Cell f i)))) (sym alike.frame)
-      (subst (λ u. Came n m h v (frame_of (m (Cell f i))) u) (sym (use_alike level (m (Cell f i)) (m2 (Cell f i)) alike))
-      (entry_came f level i came walked (sym alike.present ∙ present) (subst (λ g. g < (sizes_of n).frames) alike.frame inside)))
+  alike_passes f i alike = passes_alike (sizes_of n) m m2 (Came n m h v) f i alike (λ level came deep present inside. entry_came f level i came deep present inside)
 
   pub came_all : (b : Holdings) → ((x : Item) → Member x b.cache → Came n m h v x.frame (use_of x)) →
       ((x : Reached) → Member x (reached_by b.walk) → Came n m h v x.table (Table x.level)) → ((f i : ℕ) → PassesOn n m m2 h v f i) →
@@ -209,7 +43,7 @@ module _ (n : Machine) (m m2 : Place → ℕ) (h : ℕ → Holdings) (sound : So
 
   -- so to a frame in work it came before, or can but read it
   came_busy : (g : ℕ) (u : Use) → is_busy (kind_at m g) ≡ true → u ≢ Reads → Serves m g u → ⊥
-  came_busy g u busy other serves = let e = live_not_busy (kind_at m g) (serves.live other) (serves.number other) in cc
+  came_busy g u busy other serves = let e = live_idle (kind_at m g) (serves.live other) (serves.number other) in cc
 
   pub came_kept : (g : ℕ) (u : Use) → is_busy (kind_at m g) ≡ true → Came n m h v g u → Reach (sizes_of n) m (h v) g u ⊎ (u ≡ Reads)
   came_kept g u busy (inl r) = inl r

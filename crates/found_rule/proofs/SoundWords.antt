@@ -3,15 +3,17 @@ use Rattle.std.proofs.Common.{◌≡◌, ℕ, ◌<◌, ◌≤◌, ◌==◌, if�
 use Rattle.std.proofs.lemmas.Bool.{eqb-true}
 use Rattle.xp_words.specs.KindWords.{kind_fields}
 use Rattle.xp_words.specs.Machine.{Machine}
-use Rattle.xp_words.specs.Places.{sizes_of, Place, Clock, Pages, Life, Vcpu, Refs, Kind, M2p, Cell, Map, Priv, flushed_of}
+use Rattle.xp_words.specs.Places.{sizes_of, Place, Clock, Pages, Life, Vcpu, Refs, Kind, M2p, Cell, Map, Priv, flushed_of, is_place}
 use Rattle.xp_board.specs.declared.holdings.Work.{Work}
 use Rattle.xp_board.specs.declared.holdings.Holdings.{Holdings}
-use Rattle.xp_board.specs.Readings.{kind_at, ref_count, told_value, has_now, has_ever, is_closing}
-use Rattle.xp_board.specs.Hands.{works_on}
+use Rattle.xp_board.specs.Readings.{kind_at, ref_count, told_value, has_now, has_ever, is_closing, type_count}
+use Rattle.xp_board.specs.Hands.{works_on, refs_to, typed_to, locks_on}
 use Rattle.xp_board.specs.Spelling.{IsSpelling}
 use Rattle.xp_board.specs.Found.{WorkFound}
 use Rattle.xp_board.specs.Sound.{Stamped, Sound, WorkAgrees}
-use Rattle.found_rule.proofs.Counted.{types_within, ref_counted, work_busy, busy_cases}
+use Rattle.board_lemmas.proofs.KindReadings.{busy_cases}
+use Rattle.board_lemmas.proofs.Counted.{type_below, in_hand_counted, typed_counted}
+use Rattle.board_lemmas.proofs.Works.{is_busy-mine}
 
 told_if : (m : Place → ℕ) (v k : ℕ) (t : Bool) → (k == 5) ≡ t → m (flushed_of v) ≤ m Clock → (if t then m (Vcpu v k) else 0) ≤ m Clock
 told_if m v k true e h = let q = eqb-true k 5 e in subst (λ j. m (Vcpu v j) ≤ m Clock) (sym q) h
@@ -30,14 +32,28 @@ told_within n m s (Cell f i) = omega arith
 told_within n m s (Map k) = omega arith
 told_within n m s (Priv d) = omega arith
 
-pub had : (n : Machine) (m : Place → ℕ) (d : ℕ) → IsSpelling n (Priv d) (m (Priv d)) → (o : ℕ) → o < 16 → IsTrue (has_now o (m (Priv d))) → IsTrue (has_ever o (m (Priv d)))
+-- what is had now was had
+pub had : (n : Machine) (m : Place → ℕ) (h : ℕ → Holdings) → Sound n m h → (d : ℕ) → IsTrue (is_place (sizes_of n) (Priv d)) → (o : ℕ) → o < 16 →
+    IsTrue (has_now o (m (Priv d))) → IsTrue (has_ever o (m (Priv d)))
 unfolding IsSpelling
-had n m d k o l t = k.1 o l t
+had n m h sound d there o l t = (sound.spelled.spelled (Priv d) there).1 o l t
 
+-- ---- what is in a hand is counted
+module _ (n : Machine) (m : Place → ℕ) (h : ℕ → Holdings) (sound : Sound n m h) (s f : ℕ) (l : s < (sizes_of n).vcpus) where
+  pub ref_counted : 0 < refs_to f (h s).refs → 0 < ref_count (m (Refs f))
+  ref_counted some = let k = in_hand_counted (sizes_of n) m h s f l sound.counts some in omega arith
+
+  pub typed_ref_counted : 0 < typed_to f (h s).typed → 0 < type_count (kind_at m f)
+  typed_ref_counted some = let k = typed_counted (sizes_of n) m h s f l sound.counts in omega arith
+
+  pub lock_counted : 0 < locks_on f (h s).locks → 0 < type_count (kind_at m f)
+  lock_counted some = let k = typed_counted (sizes_of n) m h s f l sound.counts in omega arith
+
+-- ---- frames in work
 pub work_counted : (n : Machine) (m : Place → ℕ) (h : ℕ → Holdings) → Sound n m h → (t : ℕ) → t < (sizes_of n).vcpus → (e : Work) → 0 < works_on e.frame (h t).works →
     WorkFound n m h (h t) e → WorkAgrees (h t) e → 0 < ref_count (m (Refs e.frame))
 work_counted n m h sound t l e there found agrees =
-    elim (busy_cases (kind_at m e.frame) (work_busy n m h sound t e.frame l there)) [
-      | inl work ↦ (let a = types_within n m h sound e.frame in let b = work.1 in omega arith)
+    elim (busy_cases (kind_at m e.frame) (is_busy-mine n m h sound.alone e.frame t l there)) [
+      | inl work ↦ (let a = type_below (sizes_of n) m h e.frame sound.counts in let b = work.1 in omega arith)
       | inr closing ↦ ref_counted n m h sound t e.frame l (agrees.closing (subst (λ w. IsTrue (is_closing (kind_fields w))) found.word closing.0))
     ]

@@ -14,17 +14,18 @@ use Rattle.xp_board.specs.After.{noted}
 use Rattle.xp_board.specs.KindSteps.{Form, Live, Partial, InWork, Dead, CountsLive, after_form, live_typed}
 use Rattle.xp_board.specs.Sound.{Sound}
 use Rattle.step_effects.proofs.ActEffects.{Stored}
-use Rattle.found_rule.proofs.StepLists.{EachOf-more, EachOf-without}
 use Rattle.found_rule.proofs.Learning.{Act, act}
 use Rattle.found_rule.proofs.Words.{Words}
 use Rattle.found_rule.proofs.WordFacts.{told_some}
 use Rattle.found_rule.proofs.KnownFacts.{OwnerRight, IsLiveAs, RefRight, TypedRight}
 use Rattle.found_rule.proofs.KnownStays.{live_found, partial_found}
-use Rattle.found_rule.proofs.KindWordsLeft.{live_stamp, other_stamp}
 use Rattle.found_rule.proofs.KindLaw.{kind_grown}
-use Rattle.found_rule.proofs.KindStores.{live_by, unlive_by, store_words, refs_are, typed_are, ref_owner_is, typed_owner_is, store_done}
+use Rattle.found_rule.proofs.KindStores.{store_words, refs_are, typed_are, ref_owner_is, typed_owner_is, store_done}
 use Rattle.found_rule.proofs.StorePartial.{partial_done, unmarked_done}
 use Rattle.found_rule.proofs.Quiet.{Done}
+use Rattle.board_lemmas.proofs.KindReadings.{stamp_live, stamp_of}
+use Rattle.board_lemmas.proofs.FormsLeft.{is_live_left, is_dead_left}
+use Rattle.board_lemmas.proofs.HandLists.{EachOf-more, EachOf-without}
 
 module _ (n : Machine) (s : ℕ) (x : Step) (m m2 : Place → ℕ) (b c : ℕ → Holdings) (l : s < (sizes_of n).vcpus) (sound : Sound n m b) (others : (t : ℕ) → t ≢ s → c t ≡ b t) (f : ℕ) where
   stored_act : (form : Form) (d : Stored n s x f form m m2 (b s) (c s)) (u : Holdings) → after_form form n s f d.e d.l (m2 (Kind f)) (b s) ≡ u → u.steps ≡ (b s).steps → u.run ≡ (b s).run →
@@ -36,12 +37,12 @@ module _ (n : Machine) (s : ℕ) (x : Step) (m m2 : Place → ℕ) (b c : ℕ �
   -- ---- live
   module _ (d : Stored n s x f Live m m2 (b s) (c s)) where
     now : d.l.validated ≡ true
-    now = live_by d.l.validated d.l.partial d.l.locked d.form_is
+    now = is_live_left d.l d.form_is
 
     live_words : Words n s m m2 b
     unfolding now
     live_words =
-        store_words n s x m m2 b c l sound others f d.e d.here d.wrote.others (ap (λ y. y.kind) d.fields_is ∙ d.may.kind) (let q = live_stamp (m2 (Kind f)) d.l d.fields_is now in omega arith)
+        store_words n s x m m2 b c l sound others f d.e d.here d.wrote.others (ap (λ y. y.kind) d.fields_is ∙ d.may.kind) (let q = stamp_live (m2 (Kind f)) d.l d.fields_is now in omega arith)
 
     live_is : IsLiveAs m2 f d.l.kind
     unfolding now
@@ -119,11 +120,11 @@ module _ (n : Machine) (s : ℕ) (x : Step) (m m2 : Place → ℕ) (b c : ℕ �
 
   dead_done : Stored n s x f Dead m m2 (b s) (c s) → Done n s m m2 b c
   dead_done d =
-      let v = unlive_by d.l.validated d.l.partial d.l.locked Dead d.form_is (λ q. cc) in
+      let v = (is_dead_left d.l d.form_is).0 in
       let told = told_some (sizes_of n) d.e.since d.l.number (m Clock) (b s).steps (sound.found s l).clock d.may.stamp in
       dead_by d (is_work (kind_fields d.e.word)) refl
       (store_words n s x m m2 b c l sound others f d.e d.here d.wrote.others (ap (λ y. y.kind) d.fields_is ∙ d.may.kind)
-      (let q = other_stamp (m2 (Kind f)) d.l d.fields_is v in omega arith))
+      (let q = stamp_of (m2 (Kind f)) d.l d.fields_is v in omega arith))
 
   pub stored_done : (form : Form) → Stored n s x f form m m2 (b s) (c s) → Done n s m m2 b c
   unfolding live_words

@@ -5,7 +5,6 @@ use Rattle.xp_words.specs.KindWords.{kind_fields}
 use Rattle.xp_words.specs.Machine.{Machine}
 use Rattle.xp_words.specs.Places.{sizes_of, Place, Clock, Kind, Cell}
 use Rattle.xp_board.specs.declared.step.Step.{Step}
-use Rattle.xp_board.specs.declared.holdings.Reference.{Reference}
 use Rattle.xp_board.specs.declared.holdings.TypedReference.{TypedReference}
 use Rattle.xp_board.specs.declared.holdings.OwnerFound.{OwnerFound}
 use Rattle.xp_board.specs.declared.holdings.OwnerFound.TheVariants as owners
@@ -15,7 +14,7 @@ use Rattle.xp_board.specs.declared.holdings.Work.{Work}
 use Rattle.xp_board.specs.declared.holdings.Holdings.{Holdings}
 use Rattle.xp_board.specs.Lists.{EachOf}
 use Rattle.xp_board.specs.Readings.{kind_at, is_partial, is_closing, domain_of}
-use Rattle.xp_board.specs.Hands.{without_work, changed_work, without_ref, without_typed, ref_owner}
+use Rattle.xp_board.specs.Hands.{without_work, changed_work, without_ref, ref_owner}
 use Rattle.xp_board.specs.After.{is_fixed}
 use Rattle.xp_board.specs.KindSteps.{Partial, InWork, KeepsKept, put_partial, as_typed, kept_owner, looking_at}
 use Rattle.xp_board.specs.Found.{WorkFound}
@@ -23,36 +22,26 @@ use Rattle.xp_board.specs.WellFormed.{IsWorkFormed, IsLookingFormed}
 use Rattle.xp_board.specs.Sound.{Sound}
 use Rattle.step_effects.proofs.ActEffects.{Stored}
 use Rattle.board_lemmas.proofs.KindForms.{partial_form}
-use Rattle.found_rule.proofs.StepLists.{EachOf-both, EachOf-more, EachOf-without, EachOf-changed_first}
 use Rattle.found_rule.proofs.Learning.{act}
 use Rattle.found_rule.proofs.Words.{Words}
 use Rattle.found_rule.proofs.KnownFacts.{RefRight, TypedRight}
-use Rattle.found_rule.proofs.KnownStays.{none_last, live_new, partial_new}
-use Rattle.found_rule.proofs.Counted.{one_work}
+use Rattle.found_rule.proofs.KnownStays.{live_new, partial_new}
 use Rattle.found_rule.proofs.Demands.{RefsMoved, same_rest}
 use Rattle.found_rule.proofs.MyHand.{lock_right_old, locks_old}
-use Rattle.found_rule.proofs.KindWordsLeft.{other_stamp}
 use Rattle.found_rule.proofs.FormedWorks.{seen_none, last_none}
 use Rattle.found_rule.proofs.KindLaw.{kind_done, kind_grown, kind_works_found, kind_others, kind_works_formed, kind_locks_formed}
-use Rattle.found_rule.proofs.KindStores.{partial_by, unlive_by, was_found, frame, number, store_words, refs_are, typed_are, ref_owner_is, store_done}
+use Rattle.found_rule.proofs.KindStores.{was_found, frame, number, store_words, refs_are, typed_are, ref_owner_is, store_done}
 use Rattle.found_rule.proofs.Quiet.{Done, marked}
+use Rattle.board_lemmas.proofs.KindReadings.{stamp_of}
+use Rattle.board_lemmas.proofs.FormsLeft.{is_partial_left, is_work_left}
+use Rattle.board_lemmas.proofs.ListCounts.{EachOf-both}
+use Rattle.board_lemmas.proofs.HandLists.{EachOf-more, EachOf-without, EachOf-maybe_without}
+use Rattle.board_lemmas.proofs.ListChanges.{EachOf-changed_first}
+use Rattle.board_lemmas.proofs.Works.{one_works}
+use Rattle.board_lemmas.proofs.MoreSteps.{none_last}
+use Rattle.board_lemmas.proofs.Sums.{either}
 
 -- ---- from closing an untyped reference becomes the type count
-moved_if : (t : Bool) (a u : Holdings) → RefsMoved a u → RefsMoved a (if t then u else a)
-moved_if true a u h = h
-moved_if false a u h = same_rest a a refl
-
-refs_if : (P : Reference → Type 0) (t : Bool) (a u : Holdings) → EachOf P u.refs → EachOf P a.refs → EachOf P (if t then u else a).refs
-refs_if P true a u h k = h
-refs_if P false a u h k = k
-
-typed_if : (P : TypedReference → Type 0) (t : Bool) (a u : Holdings) → EachOf P u.typed → EachOf P a.typed → EachOf P (if t then u else a).typed
-typed_if P true a u h k = h
-typed_if P false a u h k = k
-
-without_if : (P : TypedReference → Type 0) (t : Bool) (f : ℕ) (xs : List TypedReference) → EachOf P xs → EachOf P (if t then without_typed f xs else xs)
-without_if P true f xs h = EachOf-without P (λ y. y.frame) f xs h
-without_if P false f xs h = h
 
 -- ---- what the seat then looks at
 looking_if : (n : Machine) (s : ℕ) (t : Bool) (e : Looking) (es : List Looking) → (t ≡ false → IsLookingFormed n s e) → EachOf (IsLookingFormed n s) es → EachOf (IsLookingFormed n s) (if t then es else (e ∷ es))
@@ -74,7 +63,7 @@ module _ (n : Machine) (s : ℕ) (x : Step) (m m2 : Place → ℕ) (b c : ℕ �
   -- ---- partial
   module _ (d : Stored n s x f Partial m m2 (b s) (c s)) where
     form : (d.l.validated ≡ false) × (d.l.partial ≡ true)
-    form = partial_by d.l.validated d.l.partial d.l.locked d.form_is
+    form = is_partial_left d.l d.form_is
 
     stamp_by : KeepsKept n d.e d.l (b s) → (t : Bool) → d.l.unflushed ≡ t → d.l.number ≤ m Clock
     unfolding form
@@ -86,7 +75,7 @@ module _ (n : Machine) (s : ℕ) (x : Step) (m m2 : Place → ℕ) (b c : ℕ �
     unfolding form
     partial_words =
         store_words n s x m m2 b c l sound others f d.e d.here d.wrote.others (ap (λ y. y.kind) d.fields_is ∙ d.may.kind)
-        (let q = other_stamp (m2 (Kind f)) d.l d.fields_is form.0 in let k = stamp_by d.may.mark d.l.unflushed refl in omega arith)
+        (let q = stamp_of (m2 (Kind f)) d.l d.fields_is form.0 in let k = stamp_by d.may.mark d.l.unflushed refl in omega arith)
 
     typed_hand : Holdings
     typed_hand = as_typed f d.e (b s)
@@ -101,7 +90,7 @@ module _ (n : Machine) (s : ℕ) (x : Step) (m m2 : Place → ℕ) (b c : ℕ �
         let turned = record h { refs = without_ref f h.refs; typed = new ∷ h.typed } in
         let t = is_closing (kind_fields d.e.word) in
         let a = typed_hand in
-        let moved : RefsMoved h a = moved_if t h turned (same_rest h turned refl) in
+        let moved : RefsMoved h a = either (RefsMoved h) t turned h (same_rest h turned refl) (same_rest h h refl) in
         let u = put_partial n s f d.l (m2 (Kind f)) (kept_owner f d.e h) a in
         let acted = act n s x (Kind f) m m2 h u (c s) w.place w.real w.left w.others moved.steps moved.run moved.old0 moved.old1 d.hand in
         let words = partial_words in
@@ -126,11 +115,11 @@ module _ (n : Machine) (s : ℕ) (x : Step) (m m2 : Place → ℕ) (b c : ℕ �
         (rw (moved.looking) (sound.formed s l).looking))
         (λ reach.
         let old = refs_are n s x m m2 b c l sound others f d.e d.here u acted words reach in
-        refs_if (RefRight z m2 (c s).steps) t h turned (EachOf-without (RefRight z m2 (c s).steps) (λ y. y.frame) f h.refs old) old)
+        either (λ (y : Holdings). EachOf (RefRight z m2 (c s).steps) y.refs) t turned h (EachOf-without (RefRight z m2 (c s).steps) (λ y. y.frame) f h.refs old) old)
         (λ reach.
         let old = typed_are n s x m m2 b c l sound others f d.e d.here u acted words reach in
-        without_if (TypedRight z m2 (c s).steps) d.l.kept f a.typed
-        (typed_if (TypedRight z m2 (c s).steps) t h turned
+        EachOf-maybe_without (TypedRight z m2 (c s).steps) (λ y. y.frame) d.l.kept f a.typed
+        (either (λ (y : Holdings). EachOf (TypedRight z m2 (c s).steps) y.typed) t turned h
         (EachOf-more (TypedRight z m2 (c s).steps) new h.typed
         (record {
           owner = ref_owner_is n s x m m2 b c l sound others f d.e d.here u acted words reach;
@@ -149,9 +138,9 @@ module _ (n : Machine) (s : ℕ) (x : Step) (m m2 : Place → ℕ) (b c : ℕ �
     unmarked_words : Words n s m m2 b
     unfolding left
     unmarked_words =
-        let v = unlive_by d.l.validated d.l.partial d.l.locked InWork d.form_is (λ q. cc) in
+        let v = (is_work_left d.l d.form_is).0 in
         let none : d.l.number ≡ 0 = ap (λ y. y.number) d.may.left in
-        store_words n s x m m2 b c l sound others f d.e d.here d.wrote.others (ap (λ y. y.kind) left) (let q = other_stamp (m2 (Kind f)) d.l d.fields_is v in omega arith)
+        store_words n s x m m2 b c l sound others f d.e d.here d.wrote.others (ap (λ y. y.kind) left) (let q = stamp_of (m2 (Kind f)) d.l d.fields_is v in omega arith)
 
     change_found : (length (c s).steps ≡ suc (length (b s).steps)) → ((i : ℕ) → m2 (Cell d.e.frame i) ≡ m (Cell d.e.frame i)) → WorkFound n m2 c (c s) (change d.e)
     unfolding change left
@@ -198,13 +187,13 @@ module _ (n : Machine) (s : ℕ) (x : Step) (m m2 : Place → ℕ) (b c : ℕ �
           refs = refs_are n s x m m2 b c l sound others f d.e d.here u acted words reach;
           typed = typed_are n s x m m2 b c l sound others f d.e d.here u acted words reach;
           lock_right = lock_right_old n s (Kind f) m m2 b c u acted l sound words reach;
-          works = EachOf-changed_first (λ y. m2 (Kind y.frame) ≡ m (Kind y.frame) → WorkFound n m2 c (c s) y) (WorkFound n m2 c (c s)) (λ y. y.frame) f change d.e h.works (one_work n m b sound s f l)
+          works = EachOf-changed_first (λ y. m2 (Kind y.frame) ≡ m (Kind y.frame) → WorkFound n m2 c (c s) y) (WorkFound n m2 c (c s)) (λ y. y.frame) f change d.e h.works (one_works n m b sound.alone f s l)
               d.here (λ q. change_found long (λ i. acted.others (Cell d.e.frame i) (λ y. cc))) (λ y off q. q (kind_others n s m m2 b c l sound others f u acted words y off))
               (kind_works_found n s m m2 b c l sound others f u acted words reach);
           locks = locks_old n s (Kind f) m m2 b c u acted l sound words reach;
         })
         (EachOf-changed_first (λ y. IsWorkFormed n (c s) y × (IsWorkFormed n h y × ((kind_fields y.word).unflushed ≡ true → y.recorded ≡ 0))) (IsWorkFormed n (c s)) (λ y. y.frame) f change d.e h.works
-        (one_work n m b sound s f l) d.here (λ q. change_formed long (q.1).1 (q.1).0) (λ y off q. q.0)
+        (one_works n m b sound.alone f s l) d.here (λ q. change_formed long (q.1).1 (q.1).0) (λ y off q. q.0)
         (EachOf-both (IsWorkFormed n (c s)) (λ y. IsWorkFormed n h y × ((kind_fields y.word).unflushed ≡ true → y.recorded ≡ 0)) h.works (kind_works_formed n s m m2 b c l sound others f u acted words)
         (EachOf-both (IsWorkFormed n h) (λ y. (kind_fields y.word).unflushed ≡ true → y.recorded ≡ 0) h.works (sound.formed s l).works (marked n s (Kind f) m m2 b c u acted l sound))))
         (kind_locks_formed n s m m2 b c l sound others f u acted words) (sound.formed s l).looking

@@ -1,5 +1,5 @@
 -- The bits that the own walk sets in the entry that it loaded last.
-use Rattle.std.proofs.Common.{◌≡◌, ◌≢◌, ℕ, ◌+◌, ◌/◌, ◌%◌, ◌^◌, ◌<◌, ◌≤◌, ◌==◌, ◌&&◌, not, if◌then◌else◌, Bool, true, false, List, [], ◌∷◌, Option, Some, None, IsTrue, refl, sym, ap, subst, ◌∙◌, inl, arith}
+use Rattle.std.proofs.Common.{◌≡◌, ◌≢◌, ℕ, ◌<◌, ◌≤◌, ◌&&◌, not, Bool, true, false, List, [], ◌∷◌, Option, Some, None, IsTrue, refl, sym, ap, subst, ◌∙◌, inl, arith}
 use Rattle.std.proofs.lemmas.Bool.Decides.{nat_tests}
 use Rattle.xp_words.specs.declared.kind.PageType.{PageType}
 use Rattle.xp_words.specs.PageTypes.{type_number, is_table}
@@ -12,43 +12,27 @@ use Rattle.xp_board.specs.declared.holdings.Touching.{Touching}
 use Rattle.xp_board.specs.declared.holdings.Walk.{Walk}
 use Rattle.xp_board.specs.declared.holdings.Holdings.{Holdings}
 use Rattle.xp_board.specs.Lists.{Member}
-use Rattle.xp_board.specs.FillSteps.{is_walked, with_bit, touched, sets_dirty, descended}
+use Rattle.xp_board.specs.FillSteps.{is_walked, descended}
 use Rattle.xp_board.specs.Readings.{kind_at}
 use Rattle.xp_board.specs.Reach.{Table, reached_by, Reach, walked}
-use Rattle.xp_board.specs.Found.{is_same_entry, is_same_cell, without_bits}
+use Rattle.xp_board.specs.Found.{is_same_entry, is_same_cell}
 use Rattle.xp_board.specs.WellFormed.{TouchesIn}
 use Rattle.xp_board.specs.Sound.{Sound}
 use Rattle.step_effects.proofs.ActEffects.{Touched}
-use Rattle.board_lemmas.proofs.PlaceTests.{equal_refl}
 use Rattle.found_rule.proofs.Learning.{act}
 use Rattle.found_rule.proofs.WordsOf.{CellSpared, words_cell}
-use Rattle.found_rule.proofs.EntryBits.{touched_alike}
-use Rattle.found_rule.proofs.Serving.{CellAlike, alike_passes, not_reads}
-use Rattle.found_rule.proofs.CellReach.{cell_passes, unmarked_matches, reach_level}
+use Rattle.found_rule.proofs.Serving.{alike_passes}
+use Rattle.found_rule.proofs.CellReach.{cell_passes}
 use Rattle.found_rule.proofs.CellFacts.{FixedWorks, zero_none}
 use Rattle.found_rule.proofs.GuestSteps.{no_fixed, spared_fixed, my_fixed}
 use Rattle.found_rule.proofs.WalkSteps.{WalkHand, descends}
 use Rattle.found_rule.proofs.WalkRows.{walk_done}
 use Rattle.found_rule.proofs.Quiet.{Done}
+use Rattle.board_lemmas.proofs.CellAlike.{CellAlike, not_reads, touched_alike}
+use Rattle.board_lemmas.proofs.ReachAll.{unmarked_matches, reach_level}
+use Rattle.board_lemmas.proofs.EntryWords.{touched_back}
 
 -- ---- the entry is the same but for these bits
-with_5 : (w : ℕ) (b : Bool) → is_bit 5 w ≡ b → without_bits (if b then w else w + 2 ^ 5) ≡ without_bits w
-with_5 w true e = refl
-with_5 w false e = let off : w / 2 ^ 5 % 2 ≡ 0 = grind (arith, nat_tests) in omega arith
-
-with_6 : (w : ℕ) (b : Bool) → is_bit 6 w ≡ b → without_bits (if b then w else w + 2 ^ 6) ≡ without_bits w
-with_6 w true e = refl
-with_6 w false e = let off : w / 2 ^ 6 % 2 ≡ 0 = grind (arith, nat_tests) in omega arith
-
-touched_by : (w : ℕ) (b : Bool) → without_bits (if b then with_bit 6 (with_bit 5 w) else with_bit 5 w) ≡ without_bits w
-touched_by w true = with_6 (with_bit 5 w) (is_bit 6 (with_bit 5 w)) refl ∙ with_5 w (is_bit 5 w) refl
-touched_by w false = with_5 w (is_bit 5 w) refl
-
-equal_by : (x y : ℕ) → x ≡ y → IsTrue (x == y)
-equal_by x y e = rw e (equal_refl y)
-
-touched_same : (walk : Walk) (w : ℕ) → IsTrue (is_same_entry (touched walk w) w)
-touched_same walk w = equal_by (without_bits (touched walk w)) (without_bits w) (touched_by w (sets_dirty walk))
 
 same_in_table : (t : PageType) (w y : ℕ) → is_table t ≡ true → IsTrue (is_same_entry w y) → IsTrue (is_same_cell t w y)
 same_in_table t w y e h = rw e h
@@ -117,7 +101,7 @@ module _ (n : Machine) (s : ℕ) (x : Step) (m m2 : Place → ℕ) (b c : ℕ �
       let formed = (sound.formed s l).cache.walk walk d.may.flying in
       let here = touch_here walk f i (m p) walk.reached walk.touching refl d.may.needed formed.touching in
       let alike = subst (λ y. CellAlike (m p) y) (sym d.may.left) (touched_alike walk (m p)) in
-      let same : IsTrue (is_same_entry (m2 p) (m p)) = subst (λ y. IsTrue (is_same_entry y (m p))) (sym d.may.left) (touched_same walk (m p)) in
+      let same : IsTrue (is_same_entry (m2 p) (m p)) = subst (λ y. IsTrue (is_same_entry y (m p))) (sym d.may.left) (touched_back walk (m p)) in
       let one : Reached = record { table = f; level = here.level } in
       let reach : Reach (sizes_of n) m (b s) f (Table here.level) = walked one (subst (λ o. Member one (reached_by o)) (sym d.may.flying) (subst (λ xs. Member one xs) (sym here.reached) (inl refl))) in
       let u = descended n walk (m2 p) (b s) in

@@ -1,25 +1,18 @@
 -- The loads of the own walk, and the end of one that stumbles.
-use Rattle.std.proofs.Common.{◌≡◌, ◌≢◌, ℕ, ◌+◌, ◌-◌, ◌<◌, ◌≤◌, ◌==◌, not, nat_lt, if◌then◌else◌, Bool, true, false, List, [], ◌∷◌, Option, Some, None, IsTrue, refl, sym, ap, subst, ◌∙◌, inl, inr, arith}
+use Rattle.std.proofs.Common.{◌≡◌, ◌≢◌, ℕ, ◌+◌, ◌-◌, ◌<◌, ◌==◌, not, if◌then◌else◌, Bool, true, false, List, [], ◌∷◌, Some, None, IsTrue, refl, sym, ap, subst, ◌∙◌, inl, inr, arith}
 use Rattle.std.proofs.lemmas.Bool.{and_parts}
 use Rattle.std.proofs.lemmas.Bool.Decides.{nat_tests}
-use Rattle.xp_words.specs.declared.kind.PageType.{PageType}
-use Rattle.xp_words.specs.declared.kind.PageType.TheVariants as kinds
 use Rattle.xp_words.specs.Entries.{is_bit}
 use Rattle.xp_words.specs.PageTypes.{type_number}
 use Rattle.xp_words.specs.Machine.{Machine}
-use Rattle.xp_words.specs.Places.{Sizes, sizes_of, Place, Vcpu, Refs, Kind, Cell, flushed_of, run_of}
+use Rattle.xp_words.specs.Places.{sizes_of, Place, Vcpu, Refs, Kind, Cell, flushed_of, run_of}
 use Rattle.xp_board.specs.declared.step.Step.{Step}
 use Rattle.xp_board.specs.declared.holdings.Reached.{Reached}
 use Rattle.xp_board.specs.declared.holdings.Touching.{Touching}
 use Rattle.xp_board.specs.declared.holdings.Walk.{Walk}
 use Rattle.xp_board.specs.declared.holdings.Holdings.{Holdings}
-use Rattle.xp_board.specs.Lists.{one_at, EachOf, Member}
-use Rattle.xp_board.specs.Sums.{sum_below}
+use Rattle.xp_board.specs.Lists.{EachOf, Member}
 use Rattle.xp_board.specs.After.{noted, learned_own, learned_cell, is_fixed}
-use Rattle.xp_board.specs.ContextSteps.{context_type}
-use Rattle.xp_board.specs.Recorded.{HasType, contexts}
-use Rattle.xp_board.specs.Readings.{kind_at, is_context}
-use Rattle.xp_board.specs.Valid.{is_live_context}
 use Rattle.xp_board.specs.FillSteps.{MayWalkOn, is_walked, started, loaded, walked_by, touched, is_for_write}
 use Rattle.xp_board.specs.Reach.{Table, reached_by, cached, walked}
 use Rattle.xp_board.specs.WellFormed.{IsDescent, IsWalkFormed, TouchesIn}
@@ -29,36 +22,15 @@ use Rattle.found_rule.proofs.Learning.{Act, act}
 use Rattle.found_rule.proofs.Words.{Words}
 use Rattle.found_rule.proofs.WordsAt.{words_quiet}
 use Rattle.found_rule.proofs.KnownFacts.{RefRight, TypedRight}
-use Rattle.found_rule.proofs.Counted.{sum_below-part}
-use Rattle.found_rule.proofs.KindWordsLeft.{live_count}
-use Rattle.found_rule.proofs.Serving.{Came, PassesOn, alike_same}
+use Rattle.found_rule.proofs.Serving.{Came, PassesOn}
 use Rattle.found_rule.proofs.CellReach.{came_reach, same_passes}
 use Rattle.found_rule.proofs.MyHand.{refs_old, typed_old}
 use Rattle.found_rule.proofs.RestLaw.{rest_done}
 use Rattle.found_rule.proofs.WalkSteps.{WalkHand, if_walk, walk_hand, no_walk, same_walk, descends}
-use Rattle.found_rule.proofs.FlushSteps.{if_mine}
 use Rattle.found_rule.proofs.Quiet.{Done, fix_kept, zero_kept}
-
--- a word of a vCPU that names a frame is counted
-context_counted : (z : Sizes) (m : Place → ℕ) (v k g : ℕ) → v < z.vcpus → k < 38 → is_context k ≡ true → m (Vcpu v k) ≡ g + 1 → 1 ≤ contexts z m g
-unfolding contexts
-context_counted z m v k g real inside context names =
-    let one : (if is_context k then one_at (g + 1) (m (Vcpu v k)) else 0) ≡ 1 = rw (context, names) (grind (arith, nat_tests)) in
-    let word = sum_below-part 38 (λ j. if is_context j then one_at (g + 1) (m (Vcpu v j)) else 0) k inside in
-    let vcpu = sum_below-part z.vcpus (λ w. sum_below 38 (λ j. if is_context j then one_at (g + 1) (m (Vcpu w j)) else 0)) v real in
-    omega arith
-
-base_live : (k : ℕ) → k < 2 → IsTrue (is_live_context k)
-base_live k b = grind (arith, nat_tests)
-
-base_context : (k : ℕ) → k < 2 → is_context k ≡ true
-base_context k b = grind (arith, nat_tests)
-
-base_type : (k : ℕ) → k < 2 → context_type k ≡ Some kinds.L4
-base_type k b = let t : nat_lt k 2 ≡ true = grind (arith, nat_tests) in rw t refl
-
-pub has_type : (m : Place → ℕ) (g : ℕ) (o : Option PageType) (t : PageType) → o ≡ Some t → HasType m g o → (kind_at m g).kind ≡ t
-has_type m g o t e h = rw e at h
+use Rattle.board_lemmas.proofs.CellAlike.{alike_same}
+use Rattle.board_lemmas.proofs.Sums.{if_itself}
+use Rattle.board_lemmas.proofs.LiveTables.{base_table}
 
 module _ (n : Machine) (s : ℕ) (x : Step) (m m2 : Place → ℕ) (b c : ℕ → Holdings) (l : s < (sizes_of n).vcpus) (sound : Sound n m b) (others : (t : ℕ) → t ≢ s → c t ≡ b t) where
   -- ---- an act that moves the walk and the cache alone
@@ -82,12 +54,8 @@ module _ (n : Machine) (s : ℕ) (x : Step) (m m2 : Place → ℕ) (b c : ℕ �
   -- ---- a walk begins at the base
   base_came : (k g : ℕ) → k < 2 → m (Vcpu s k) ≡ g + 1 → Came n m b s g (Table 4)
   base_came k g few names =
-      let live = sound.valid.contexts s k g l (omega arith) (base_live k few) names in
-      let count = sound.counts.types g in
-      let number = live_count (kind_at m g) live in
-      let context = context_counted (sizes_of n) m s k g l (omega arith) (base_context k few) names in
-      let kind = has_type m g (context_type k) kinds.L4 (base_type k few) (sound.counts.kinds.contexts s k g l (omega arith) (base_context k few) names) in
-      inr (inl (record { level = (omega arith, omega arith); live = λ o. live; number = λ o. omega arith; matches = λ o. ap type_number kind }))
+      let base = base_table n m b sound s k g l few names in
+      inr (inl (record { level = (omega arith, omega arith); live = λ o. base.live; number = λ o. base.counted; matches = λ o. ap type_number base.kind }))
 
   first_formed : (walk y : Walk) (w : ℕ) → walk.reached ≡ record { table = w; level = 4 } ∷ [] → walk.touching ≡ None → Some walk ≡ Some y → IsWalkFormed y
   first_formed walk y w reached none e =
@@ -123,7 +91,7 @@ module _ (n : Machine) (s : ℕ) (x : Step) (m m2 : Place → ℕ) (b c : ℕ �
       let left = sym (d.words p) in
       load_done p u
       (act n s x p m m2 (b s) u (c s) d.place d.real (d.left ∙ left) (λ q o. d.words q) hand.steps hand.run hand.old0 hand.old1
-      (d.hand ∙ ap (λ w. noted x (m p) (learned_own k w u)) left ∙ ap (noted x (m p)) (sym (if_mine s (learned_own k (m2 p) u) u))))
+      (d.hand ∙ ap (λ w. noted x (m p) (learned_own k w u)) left ∙ ap (noted x (m p)) (sym (if_itself s (learned_own k (m2 p) u) u))))
       hand d.words
 
   -- ---- it goes on through an entry

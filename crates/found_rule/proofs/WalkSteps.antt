@@ -1,5 +1,5 @@
 -- Steps of the own walk: what it comes to, it came to before, or the base serves.
-use Rattle.std.proofs.Common.{◌≡◌, ◌≢◌, ℕ, zero, suc, ◌+◌, ◌-◌, ◌<◌, ◌≤◌, ◌==◌, not, nat_lt, if◌then◌else◌, Bool, true, false, List, [], ◌∷◌, length, take, Option, Some, None, IsTrue, refl, sym, ap, subst, ◌∙◌, inl, inr, arith}
+use Rattle.std.proofs.Common.{◌≡◌, ◌≢◌, ℕ, zero, suc, ◌+◌, ◌-◌, ◌<◌, ◌≤◌, ◌==◌, not, nat_lt, if◌then◌else◌, Bool, true, false, List, [], ◌∷◌, length, take, Option, Some, None, IsTrue, refl, sym, ap, subst, inl, inr, arith}
 use Rattle.std.proofs.lemmas.Bool.Decides.{nat_tests}
 use Rattle.xp_words.specs.Entries.{is_bit, frame_of}
 use Rattle.xp_words.specs.Machine.{Machine}
@@ -10,17 +10,13 @@ use Rattle.xp_board.specs.declared.holdings.Walk.{Walk}
 use Rattle.xp_board.specs.declared.holdings.Holdings.{Holdings}
 use Rattle.xp_board.specs.Lists.{Member}
 use Rattle.xp_board.specs.FillSteps.{is_walked, descended, item_of, cached_with, level_of, level_in}
-use Rattle.xp_board.specs.Reach.{Table, Writes, Reads, use_of, use_below, reached_by, Reach, cached, walked, entry}
+use Rattle.xp_board.specs.Reach.{Table, use_of, reached_by, cached, walked}
 use Rattle.xp_board.specs.WellFormed.{IsDescent, IsWalkFormed, IsCacheFormed}
 use Rattle.xp_board.specs.Sound.{Sound}
-use Rattle.found_rule.proofs.Serving.{Came, CellAlike, use_alike}
+use Rattle.found_rule.proofs.Serving.{Came}
 use Rattle.found_rule.proofs.RestLaw.{Rest}
-
-pub member_take : {A : Type 0} (n : ℕ) (y : A) (xs : List A) → Member y (take n xs) → Member y xs
-unfolding Member
-member_take zero y xs e = absurd e
-member_take (suc n) y [] e = e
-member_take (suc n) y (x ∷ xs) e = elim e [ inl at ↦ inl at | inr rest ↦ inr (member_take n y xs rest) ]
+use Rattle.board_lemmas.proofs.CellAlike.{CellAlike}
+use Rattle.board_lemmas.proofs.WalkDown.{cached_comes, deeper_comes}
 
 length_take : {A : Type 0} (n : ℕ) (xs : List A) → length (take n xs) ≤ n
 length_take zero xs = omega arith
@@ -78,33 +74,9 @@ module _ (n : Machine) (m : Place → ℕ) (b : ℕ → Holdings) (s : ℕ) (l :
   same_walk = walk_hand (b s).walk (b s).cache (λ x k. inl (cached x k)) (λ x k. inl (walked x k)) was.few was.walk
 
   -- ---- a walk goes down through an entry
-  item_use : (g : ℕ) (p q : Bool) → (p ≡ true → q ≡ true) → Reach (sizes_of n) m (b s) g (if q then Writes else Reads) → Came n m b s g (if p then Writes else Reads)
-  item_use g true true e r = inl r
-  item_use g true false e r = absurd (let k = e refl in cc)
-  item_use g false q e r = inr (inr refl)
-
-  use_lowest : (level w : ℕ) → (level == 1) ≡ true → use_below level w ≡ (if is_bit 1 w then Writes else Reads)
-  use_lowest level w e = rw e refl
-
-  use_higher : (level w : ℕ) → (level == 1) ≡ false → use_below level w ≡ Table (level - 1)
-  use_higher level w e = rw e refl
-
   module _ (walk old : Walk) (f level i w : ℕ) (above : List Reached) (flying : (b s).walk ≡ Some old) (same : walk.reached ≡ old.reached)
       (reached : walk.reached ≡ record { table = f; level = level } ∷ above) (walks : IsTrue (is_walked level i)) (alike : CellAlike (m (Cell f i)) w)
       (present : is_bit 0 w ≡ true) (writable : walk.writable ≡ true → is_bit 1 w ≡ true) where
-    in_flight : (k : Reached) → Member k walk.reached → Member k (reached_by (b s).walk)
-    in_flight k e = subst (λ o. Member k (reached_by o)) (sym flying) (subst (λ xs. Member k xs) same e)
-
-    here : Reach (sizes_of n) m (b s) f (Table level)
-    unfolding Member
-    here = walked (record { table = f; level = level }) (in_flight _ (subst (λ xs. Member (record { table = f; level = level }) xs) (sym reached) (inl refl)))
-
-    target : frame_of w < (sizes_of n).frames → Reach (sizes_of n) m (b s) (frame_of w) (use_below level w)
-    target inside =
-        subst (λ g. Reach (sizes_of n) m (b s) g (use_below level w)) (sym alike.frame)
-        (subst (λ u. Reach (sizes_of n) m (b s) (frame_of (m (Cell f i))) u) (sym (use_alike level (m (Cell f i)) w alike))
-        (entry f level i here walks (sym alike.present ∙ present) (subst (λ g. g < (sizes_of n).frames) alike.frame inside)))
-
     level_here : level_of walk ≡ level
     level_here = ap level_in reached
 
@@ -143,30 +115,17 @@ module _ (n : Machine) (m : Place → ℕ) (b : ℕ → Holdings) (s : ℕ) (l :
         })
 
     cached_walk : frame_of w < (sizes_of n).frames → (level_of walk == 1) ≡ true → WalkHand n m b s (record (b s) { walk = None; cache = cached_with (item_of walk w) (b s).cache })
-    unfolding Member target level_here
     cached_walk inside lowest =
         walk_hand None (cached_with (item_of walk w) (b s).cache)
-        (λ k e. elim (member_take 64 k (item_of walk w ∷ (b s).cache) e) [
-          | inl is ↦
-              subst (λ j. Came n m b s j.frame (use_of j)) is
-              (item_use (frame_of w) walk.writable (is_bit 1 w) writable
-              (subst (λ u. Reach (sizes_of n) m (b s) (frame_of w) u) (use_lowest level w (subst (λ y. (y == 1) ≡ true) level_here lowest)) (target inside)))
-          | inr rest ↦ inl (cached k rest)
-        ])
+        (cached_comes (sizes_of n) m (b s) (Came n m b s) (λ g u r. inl r) (λ g r. inr (inr refl)) walk old f level i w above flying same reached walks alike present inside writable lowest)
         (λ x k. absurd (none_there x k)) (length_take 64 (item_of walk w ∷ (b s).cache)) (λ y e. absurd cc)
 
     deeper_walk : frame_of w < (sizes_of n).frames → (level_of walk == 1) ≡ false →
         WalkHand n m b s (record (b s) { walk = Some (record walk { reached = record { table = frame_of w; level = level_of walk - 1 } ∷ walk.reached; touching = None }) })
-    unfolding Member target level_here in_flight was
+    unfolding was
     deeper_walk inside higher =
         walk_hand (Some (record walk { reached = record { table = frame_of w; level = level_of walk - 1 } ∷ walk.reached; touching = None })) (b s).cache (λ k e. inl (cached k e))
-        (λ k e. elim e [
-          | inl is ↦
-              subst (λ j. Came n m b s j.table (Table j.level)) is
-              (inl (subst (λ y. Reach (sizes_of n) m (b s) (frame_of w) (Table (y - 1))) (sym level_here)
-              (subst (λ u. Reach (sizes_of n) m (b s) (frame_of w) u) (use_higher level w (subst (λ y. (y == 1) ≡ false) level_here higher)) (target inside))))
-          | inr rest ↦ inl (walked k (in_flight k rest))
-        ])
+        (deeper_comes (sizes_of n) m (b s) (Came n m b s) (λ g u r. inl r) (λ g r. inr (inr refl)) walk old f level i w above flying same reached walks alike present inside higher)
         was.few (deeper_formed higher)
 
     pub descends : WalkHand n m b s (descended n walk w (b s))

@@ -1,26 +1,19 @@
 -- The facts that speak of a seat's steps alone: the clock, flushes, run words, life words and privileges.
-use Rattle.std.proofs.Common.{◌≡◌, ◌≢◌, ℕ, ◌<◌, ◌≤◌, ◌==◌, ◌||◌, nat_le, true, List, [], ◌∷◌, length, IsTrue, refl, sym, ap, ◌∙◌, ◌⊎◌, inl, inr, arith}
-use Rattle.std.proofs.lemmas.Bool.{eqb-true, or_cases, and_parts}
-use Rattle.std.proofs.lemmas.Bool.Decides.{nat_tests}
+use Rattle.std.proofs.Common.{◌≡◌, ◌≢◌, ℕ, ◌<◌, ◌≤◌, ◌==◌, ◌||◌, true, List, [], ◌∷◌, IsTrue, refl, sym, ap, ◌∙◌, ◌⊎◌, inl, inr, arith}
+use Rattle.std.proofs.lemmas.Bool.{eqb-true, or_cases}
 use Rattle.xp_words.specs.Machine.{Machine}
 use Rattle.xp_words.specs.Places.{Sizes, sizes_of, Place, Clock, Life, Priv, is_place, place_at, flushed_of, run_of}
 use Rattle.xp_board.specs.declared.holdings.Made.{Made}
 use Rattle.xp_board.specs.declared.holdings.Holdings.{Holdings}
 use Rattle.xp_board.specs.Lists.{EachOf}
-use Rattle.xp_board.specs.Steps.{left_of, is_at, some_step, some_since, EachStep, EachSince}
+use Rattle.xp_board.specs.Steps.{left_of, some_step, some_since, EachSince}
 use Rattle.xp_board.specs.Readings.{told_value, has_now, has_ever}
 use Rattle.xp_board.specs.Found.{ClockFound, FlushedFound, StoppedFound, ClockSinceAck, LifeFound, before_off, FlushedSinceOff, ColdSinceOff, PrivilegesFound}
-use Rattle.found_rule.proofs.StepLists.{EachOf-map, EachOf-all, EachOf-both}
-use Rattle.found_rule.proofs.MoreSteps.{EachOf-before, EachSince-map, some_since-cases}
 use Rattle.found_rule.proofs.Growth.{Grown, grown_each, grown_told, grown_before}
 use Rattle.found_rule.proofs.Words.{Moves}
-
--- no step has a number from n on
-pub EachSince-none : (z : Sizes) (n : ℕ) (p : Place) (P : ℕ → Type 0) (xs : List Made) → length xs ≤ n → EachSince z n p P xs
-unfolding EachStep
-EachSince-none z n p P [] l = tt
-EachSince-none z n p P (x ∷ xs) l =
-    ((λ t. absurd (let a = (and_parts (nat_le n (length xs)) (is_at z p x) t).0 in let k : n ≤ length xs = grind (arith, nat_tests) in omega arith)), EachSince-none z n p P xs (omega arith))
+use Rattle.board_lemmas.proofs.HandLists.{EachOf-map, EachOf-all}
+use Rattle.board_lemmas.proofs.ListCounts.{EachOf-both}
+use Rattle.board_lemmas.proofs.MoreSteps.{EachOf-before, EachSince-map, some_since-cases}
 
 module _ (n : Machine) (m m2 : Place → ℕ) (k : Moves n m m2) (told_was : (p : Place) → told_value p (m p) ≤ m Clock) (a b : Holdings) (g : Grown (sizes_of n) m m2 a.steps b.steps) where
   pub clock_law : ClockFound (sizes_of n) m a → ClockFound (sizes_of n) m2 b

@@ -12,8 +12,8 @@ use Rattle.found_rule.proofs.Learning.{Act, act}
 use Rattle.found_rule.proofs.Words.{Words}
 use Rattle.found_rule.proofs.WordsOf.{words_lone, lone_off}
 use Rattle.found_rule.proofs.SoundWords.{had}
-use Rattle.found_rule.proofs.Bits.{granted-ever, revoked-ever, granted-now, revoked-now}
 use Rattle.found_rule.proofs.Quiet.{Done, same_hand, done_same}
+use Rattle.board_lemmas.proofs.Bits.{granted-ever, revoked-ever, granted-now, revoked-now}
 
 module _ (n : Machine) (s : ℕ) (x : Step) (m m2 : Place → ℕ) (b c : ℕ → Holdings) (l : s < (sizes_of n).vcpus) (sound : Sound n m b) (others : (t : ℕ) → t ≢ s → c t ≡ b t) where
   -- a word that is neither a frame's nor a vCPU's
@@ -33,12 +33,9 @@ module _ (n : Machine) (s : ℕ) (x : Step) (m m2 : Place → ℕ) (b c : ℕ �
   ever_kept : (p : Place) → ((d : ℕ) → p ≢ Priv d) → ((q : Place) → q ≢ p → m2 q ≡ m q) → (d i : ℕ) → IsTrue (has_ever i (m (Priv d))) → IsTrue (has_ever i (m2 (Priv d)))
   ever_kept p off o d i h = rw (o (Priv d) (λ e. off d (sym e))) h
 
-  had_now : (d : ℕ) → IsTrue (is_place (sizes_of n) (Priv d)) → (o : ℕ) → o < 16 → IsTrue (has_now o (m (Priv d))) → IsTrue (has_ever o (m (Priv d)))
-  had_now d r = had n m d (sound.spelled.spelled (Priv d) r)
-
   now_kept : (p : Place) → ((d : ℕ) → p ≢ Priv d) → ((q : Place) → q ≢ p → m2 q ≡ m q) → (d i : ℕ) → i < 16 → IsTrue (is_place (sizes_of n) (Priv d)) → IsTrue (has_now i (m2 (Priv d))) →
       IsTrue (has_ever i (m2 (Priv d)))
-  now_kept p off o d i few r h = let e = o (Priv d) (λ k. off d (sym k)) in rw e (had_now d r i few (rw e at h))
+  now_kept p off o d i few r h = let e = o (Priv d) (λ k. off d (sym k)) in rw e (had n m b sound d r i few (rw e at h))
 
   pub ticked_done : Ticked n x m m2 (b s) (c s) → Done n s m m2 b c
   unfolding told_value
@@ -80,13 +77,13 @@ module _ (n : Machine) (s : ℕ) (x : Step) (m m2 : Place → ℕ) (b c : ℕ �
       (λ e o i r h. elim (cases_eq e g) [
         | inl at ↦
             (let k = subst (λ j. IsTrue (has_now o (m2 (Priv j)))) at h in
-            let f = had_now g w.real o i in
+            let f = had n m b sound g w.real o i in
             subst (λ j. IsTrue (has_ever o (m2 (Priv j)))) (sym at)
             (elim y.left [
               | inl more ↦ rw more (granted-now (m (Priv g)) y.over o i f (rw more at k))
               | inr less ↦ rw less (revoked-now (m (Priv g)) y.over o few f (rw less at k))
             ]))
-        | inr off ↦ (let j = w.others (Priv e) (λ q. off (cc)) in rw j (had_now e r o i (rw j at h)))
+        | inr off ↦ (let j = w.others (Priv e) (λ q. off (cc)) in rw j (had n m b sound e r o i (rw j at h)))
       ]))
       (omega arith))
 

@@ -1,5 +1,5 @@
 -- What an act leaves of the words, by the place that it writes.
-use Rattle.std.proofs.Common.{◌≡◌, ◌≢◌, ℕ, ◌+◌, ◌<◌, ◌≤◌, ◌==◌, not, if◌then◌else◌, Bool, true, false, IsTrue, refl, ap, ◌∙◌, inl, inr, arith}
+use Rattle.std.proofs.Common.{◌≡◌, ◌≢◌, ℕ, ◌+◌, ◌<◌, ◌≤◌, ◌==◌, not, Bool, true, false, IsTrue, refl, ap, ◌∙◌, inl, inr, arith}
 use Rattle.std.proofs.lemmas.Bool.{cases_eq}
 use Rattle.std.proofs.lemmas.Bool.Decides.{nat_tests}
 use Rattle.xp_words.specs.PageTypes.{is_table}
@@ -9,13 +9,12 @@ use Rattle.xp_words.specs.Places.{sizes_of, Place, Clock, Pages, Life, Vcpu, Ref
 use Rattle.xp_board.specs.declared.holdings.Holdings.{Holdings}
 use Rattle.xp_board.specs.Readings.{kind_at, is_live, owner_of, ref_count, type_count, told_value, free_stamp, kind_stamp}
 use Rattle.xp_board.specs.Hands.{works_on, endings_of, claims_of}
-use Rattle.xp_board.specs.Found.{is_same_entry, without_bits}
 use Rattle.xp_board.specs.Sound.{Sound}
-use Rattle.board_lemmas.proofs.PlaceTests.{same_or_other, equal_refl}
-use Rattle.found_rule.proofs.StepLists.{EachOf-all}
+use Rattle.board_lemmas.proofs.PlaceTests.{same_or_other}
 use Rattle.found_rule.proofs.SoundWords.{told_within, had}
-use Rattle.found_rule.proofs.HandFacts.{cell_refl}
+use Rattle.found_rule.proofs.HandFacts.{entry_kept, cell_kept}
 use Rattle.found_rule.proofs.Words.{Words}
+use Rattle.board_lemmas.proofs.HandLists.{EachOf-all}
 
 -- a place of which facts speak
 abbrev pub is_read : Place → Bool
@@ -34,12 +33,6 @@ read_own : (t k : ℕ) → k ≢ 4 → IsTrue (is_read (Vcpu t k))
 read_own t k off = grind (arith, nat_tests)
 
 module _ (n : Machine) (s : ℕ) (m m2 : Place → ℕ) (b : ℕ → Holdings) (sound : Sound n m b) where
-  same_entry : (x y : ℕ) → x ≡ y → IsTrue (is_same_entry x y)
-  same_entry x y e = rw e (equal_refl (without_bits y))
-
-  same_cell : (t : Bool) (x y : ℕ) → x ≡ y → IsTrue (if t then is_same_entry x y else x == y)
-  same_cell t x y e = rw e (cell_refl t y)
-
   -- ---- no word of which facts speak
   module _ (same : (q : Place) → IsTrue (is_read q) → m2 q ≡ m q) where
     told_same : (q : Place) → told_value q (m2 q) ≤ m2 Clock
@@ -74,7 +67,7 @@ module _ (n : Machine) (s : ℕ) (m m2 : Place → ℕ) (b : ℕ → Holdings) (
             stopped = λ v o. same (run_of v) refl ∙ o;
             life = λ d w o h. rw (same (Life d) refl) h;
             ever = λ d o h. rw (same (Priv d) refl) h;
-            now = λ d o l r h. rw (same (Priv d) refl) (had n m d (sound.spelled.spelled (Priv d) r) o l (rw (same (Priv d) refl) at h));
+            now = λ d o l r h. rw (same (Priv d) refl) (had n m b sound d r o l (rw (same (Priv d) refl) at h));
             owner = λ f h. ap owner_of (same (Refs f) refl);
             live = λ f h k. rw (same (Kind f) refl) k;
             kind = λ f h. ap (λ w. (kind_fields w).kind) (same (Kind f) refl);
@@ -86,8 +79,8 @@ module _ (n : Machine) (s : ℕ) (m m2 : Place → ℕ) (b : ℕ → Holdings) (
             works = λ f h. same (Kind f) refl;
             ending = λ f h. same (Refs f) refl;
             claimed = λ f h. same (Refs f) refl;
-            work_cells = λ f i h k. same_cell (is_table (kind_at m f).kind) (m2 (Cell f i)) (m (Cell f i)) (same (Cell f i) refl);
-            lock_cells = λ f i h. same_entry (m2 (Cell f i)) (m (Cell f i)) (same (Cell f i) refl);
+            work_cells = λ f i h k. cell_kept (is_table (kind_at m f).kind) (m2 (Cell f i)) (m (Cell f i)) (same (Cell f i) refl);
+            lock_cells = λ f i h. entry_kept (m2 (Cell f i)) (m (Cell f i)) (same (Cell f i) refl);
             claim_cells = λ f i h. same (Cell f i) refl;
             fixed_cells = EachOf-all (λ e. (i : ℕ) → i < e.fixed → m2 (Cell e.frame i) ≡ m (Cell e.frame i)) (b t).works (λ e i h. same (Cell e.frame i) refl);
           };
@@ -116,7 +109,7 @@ module _ (n : Machine) (s : ℕ) (m m2 : Place → ℕ) (b : ℕ → Holdings) (
           stopped = λ v o. others (run_of v) (λ k. cc) ∙ o;
           life = λ d w o h. rw (others (Life d) (λ k. cc)) h;
           ever = λ d o h. rw (others (Priv d) (λ k. cc)) h;
-          now = λ d o l r h. rw (others (Priv d) (λ k. cc)) (had n m d (sound.spelled.spelled (Priv d) r) o l (rw (others (Priv d) (λ k. cc)) at h));
+          now = λ d o l r h. rw (others (Priv d) (λ k. cc)) (had n m b sound d r o l (rw (others (Priv d) (λ k. cc)) at h));
           owner = λ g h. elim (cases_eq g f) [ inl at ↦ rw at (owner (rw at at h)) | inr off ↦ ap owner_of (others (Refs g) (λ k. off (cc))) ];
           live = λ g h k. rw (others (Kind g) (λ e. cc)) k;
           kind = λ g h. ap (λ w. (kind_fields w).kind) (others (Kind g) (λ e. cc));
@@ -128,8 +121,8 @@ module _ (n : Machine) (s : ℕ) (m m2 : Place → ℕ) (b : ℕ → Holdings) (
           works = λ g h. others (Kind g) (λ e. cc);
           ending = λ g h. elim (cases_eq g f) [ inl at ↦ absurd (alone t l d (let q = rw at at h in omega arith)) | inr off ↦ others (Refs g) (λ k. off (cc)) ];
           claimed = λ g h. elim (cases_eq g f) [ inl at ↦ absurd (alone t l d (let q = rw at at h in omega arith)) | inr off ↦ others (Refs g) (λ k. off (cc)) ];
-          work_cells = λ g i h k. same_cell (is_table (kind_at m g).kind) (m2 (Cell g i)) (m (Cell g i)) (others (Cell g i) (λ e. cc));
-          lock_cells = λ g i h. same_entry (m2 (Cell g i)) (m (Cell g i)) (others (Cell g i) (λ e. cc));
+          work_cells = λ g i h k. cell_kept (is_table (kind_at m g).kind) (m2 (Cell g i)) (m (Cell g i)) (others (Cell g i) (λ e. cc));
+          lock_cells = λ g i h. entry_kept (m2 (Cell g i)) (m (Cell g i)) (others (Cell g i) (λ e. cc));
           claim_cells = λ g i h. others (Cell g i) (λ e. cc);
           fixed_cells = EachOf-all (λ e. (i : ℕ) → i < e.fixed → m2 (Cell e.frame i) ≡ m (Cell e.frame i)) (b t).works (λ e i h. others (Cell e.frame i) (λ k. cc));
         };
@@ -149,7 +142,7 @@ module _ (n : Machine) (s : ℕ) (m m2 : Place → ℕ) (b : ℕ → Holdings) (
           stopped = λ v o. others (run_of v) (λ k. cc) ∙ o;
           life = λ d w o h. rw (others (Life d) (λ k. cc)) h;
           ever = λ d o h. rw (others (Priv d) (λ k. cc)) h;
-          now = λ d o l r h. rw (others (Priv d) (λ k. cc)) (had n m d (sound.spelled.spelled (Priv d) r) o l (rw (others (Priv d) (λ k. cc)) at h));
+          now = λ d o l r h. rw (others (Priv d) (λ k. cc)) (had n m b sound d r o l (rw (others (Priv d) (λ k. cc)) at h));
           owner = λ g h. ap owner_of (others (Refs g) (λ k. cc));
           live = λ g h k. elim (cases_eq g f) [ inl at ↦ rw at (live (rw at at h) (rw at at k)) | inr off ↦ rw (others (Kind g) (λ e. off (cc))) k ];
           kind = λ g h. elim (cases_eq g f) [ inl at ↦ rw at (kind (rw at at h)) | inr off ↦ ap (λ w. (kind_fields w).kind) (others (Kind g) (λ e. off (cc))) ];
@@ -161,8 +154,8 @@ module _ (n : Machine) (s : ℕ) (m m2 : Place → ℕ) (b : ℕ → Holdings) (
           works = λ g h. elim (cases_eq g f) [ inl at ↦ absurd (alone t l d (rw at at h)) | inr off ↦ others (Kind g) (λ k. off (cc)) ];
           ending = λ g h. others (Refs g) (λ e. cc);
           claimed = λ g h. others (Refs g) (λ e. cc);
-          work_cells = λ g i h k. same_cell (is_table (kind_at m g).kind) (m2 (Cell g i)) (m (Cell g i)) (others (Cell g i) (λ e. cc));
-          lock_cells = λ g i h. same_entry (m2 (Cell g i)) (m (Cell g i)) (others (Cell g i) (λ e. cc));
+          work_cells = λ g i h k. cell_kept (is_table (kind_at m g).kind) (m2 (Cell g i)) (m (Cell g i)) (others (Cell g i) (λ e. cc));
+          lock_cells = λ g i h. entry_kept (m2 (Cell g i)) (m (Cell g i)) (others (Cell g i) (λ e. cc));
           claim_cells = λ g i h. others (Cell g i) (λ e. cc);
           fixed_cells = EachOf-all (λ e. (i : ℕ) → i < e.fixed → m2 (Cell e.frame i) ≡ m (Cell e.frame i)) (b t).works (λ e i h. others (Cell e.frame i) (λ k. cc));
         };

@@ -1,5 +1,5 @@
 -- What an act leaves of the words, where it writes a word of a vCPU, a domain, the clock or a cell.
-use Rattle.std.proofs.Common.{◌≡◌, ◌≢◌, ℕ, ◌<◌, ◌≤◌, ◌==◌, if◌then◌else◌, Bool, IsTrue, sym, ap, ◌∙◌, ◌⊎◌, inl, inr, arith}
+use Rattle.std.proofs.Common.{◌≡◌, ◌≢◌, ℕ, ◌<◌, ◌≤◌, IsTrue, sym, ap, ◌∙◌, ◌⊎◌, inl, inr, arith}
 use Rattle.xp_words.specs.PageTypes.{is_table}
 use Rattle.xp_words.specs.KindWords.{kind_fields}
 use Rattle.xp_words.specs.Machine.{Machine}
@@ -8,14 +8,14 @@ use Rattle.xp_board.specs.declared.holdings.Holdings.{Holdings}
 use Rattle.xp_board.specs.Lists.{EachOf}
 use Rattle.xp_board.specs.Readings.{kind_at, owner_of, told_value, has_now, has_ever}
 use Rattle.xp_board.specs.Hands.{works_on, locks_on, claims_of}
-use Rattle.xp_board.specs.Found.{is_known_inside, is_same_cell, is_same_entry, without_bits}
+use Rattle.xp_board.specs.Found.{is_known_inside, is_same_cell, is_same_entry}
 use Rattle.xp_board.specs.Sound.{Sound}
-use Rattle.board_lemmas.proofs.PlaceTests.{same_or_other, equal_refl}
-use Rattle.found_rule.proofs.StepLists.{EachOf-all, EachOf-map}
+use Rattle.board_lemmas.proofs.PlaceTests.{same_or_other}
 use Rattle.found_rule.proofs.SoundWords.{had}
-use Rattle.found_rule.proofs.HandFacts.{cell_refl}
+use Rattle.found_rule.proofs.HandFacts.{entry_kept, cell_kept}
 use Rattle.found_rule.proofs.Words.{Words}
 use Rattle.found_rule.proofs.WordsAt.{told_at}
+use Rattle.board_lemmas.proofs.HandLists.{EachOf-map, EachOf-all}
 
 -- ---- a place that is no frame's: what it leaves is told place by place
 pub record Lone (n : Machine) (s : ℕ) (m m2 : Place → ℕ) : Type 0 where
@@ -30,12 +30,6 @@ pub record Lone (n : Machine) (s : ℕ) (m m2 : Place → ℕ) : Type 0 where
   pub own : (t : ℕ) → t ≢ s → (k : ℕ) → k ≢ 4 → k ≢ 5 → m2 (run_of t) ≢ 1 → m2 (Vcpu t k) ≡ m (Vcpu t k)
 
 module _ (n : Machine) (s : ℕ) (m m2 : Place → ℕ) (b : ℕ → Holdings) (sound : Sound n m b) (p : Place) (others : (q : Place) → q ≢ p → m2 q ≡ m q) where
-  entry_kept : (x y : ℕ) → x ≡ y → IsTrue (is_same_entry x y)
-  entry_kept x y e = rw e (equal_refl (without_bits y))
-
-  cell_kept : (t : Bool) (x y : ℕ) → x ≡ y → IsTrue (if t then is_same_entry x y else x == y)
-  cell_kept t x y e = rw e (cell_refl t y)
-
   pub words_lone : ((f : ℕ) → p ≢ Refs f) → ((f : ℕ) → p ≢ Kind f) → ((f i : ℕ) → p ≢ Cell f i) → Lone n s m m2 → told_value p (m2 p) ≤ m2 Clock → Words n s m m2 b
   words_lone refs kind cell lone told =
       let r : (f : ℕ) → m2 (Refs f) ≡ m (Refs f) = (λ f. others (Refs f) (λ e. refs f (sym e))) in
@@ -79,7 +73,7 @@ module _ (n : Machine) (s : ℕ) (m m2 : Place → ℕ) (b : ℕ → Holdings) (
   ever_kept off d o h = rw (others (Priv d) (λ k. off d (sym k))) h
 
   now_kept : ((d : ℕ) → p ≢ Priv d) → (d o : ℕ) → o < 16 → IsTrue (is_place (sizes_of n) (Priv d)) → IsTrue (has_now o (m2 (Priv d))) → IsTrue (has_ever o (m2 (Priv d)))
-  now_kept off d o l r h = let e = others (Priv d) (λ k. off d (sym k)) in rw e (had n m d (sound.spelled.spelled (Priv d) r) o l (rw e at h))
+  now_kept off d o l r h = let e = others (Priv d) (λ k. off d (sym k)) in rw e (had n m b sound d r o l (rw e at h))
 
   -- no word of a vCPU
   pub lone_off : ((v k : ℕ) → p ≢ Vcpu v k) → m Clock ≤ m2 Clock → ((d w : ℕ) → w ≢ 0 → (m (Life d) ≡ w) ⊎ (m (Life d) ≡ 255) → (m2 (Life d) ≡ w) ⊎ (m2 (Life d) ≡ 255)) →
@@ -145,7 +139,7 @@ module _ (n : Machine) (s : ℕ) (m m2 : Place → ℕ) (b : ℕ → Holdings) (
           stopped = λ t h. v t 6 ∙ h;
           life = λ d w h k. rw (others (Life d) (λ e. cc)) k;
           ever = λ d q h. rw (others (Priv d) (λ e. cc)) h;
-          now = λ d q l r h. rw (others (Priv d) (λ k. cc)) (had n m d (sound.spelled.spelled (Priv d) r) q l (rw (others (Priv d) (λ k. cc)) at h));
+          now = λ d q l r h. rw (others (Priv d) (λ k. cc)) (had n m b sound d r q l (rw (others (Priv d) (λ k. cc)) at h));
           owner = λ g h. ap owner_of (others (Refs g) (λ e. cc));
           live = λ g h k. rw (others (Kind g) (λ e. cc)) k;
           kind = λ g h. ap (λ w. (kind_fields w).kind) (others (Kind g) (λ e. cc));
@@ -158,9 +152,9 @@ module _ (n : Machine) (s : ℕ) (m m2 : Place → ℕ) (b : ℕ → Holdings) (
           ending = λ g h. others (Refs g) (λ e. cc);
           claimed = λ g h. others (Refs g) (λ e. cc);
           work_cells = at_or_off (λ g j. 0 < works_on g (b t).works → IsTrue (is_known_inside (kind_at m g)) → IsTrue (is_same_cell (kind_at m g).kind (m2 (Cell g j)) (m (Cell g j))))
-              (spared t l d).works (λ g j e h k. cell_kept n s m m2 b sound (Cell f i) others (is_table (kind_at m g).kind) (m2 (Cell g j)) (m (Cell g j)) e);
+              (spared t l d).works (λ g j e h k. cell_kept (is_table (kind_at m g).kind) (m2 (Cell g j)) (m (Cell g j)) e);
           lock_cells = at_or_off (λ g j. 0 < locks_on g (b t).locks → IsTrue (is_same_entry (m2 (Cell g j)) (m (Cell g j))))
-              (spared t l d).locks (λ g j e h. entry_kept n s m m2 b sound (Cell f i) others (m2 (Cell g j)) (m (Cell g j)) e);
+              (spared t l d).locks (λ g j e h. entry_kept (m2 (Cell g j)) (m (Cell g j)) e);
           claim_cells = at_or_off (λ g j. 0 < claims_of g (b t).claimed → m2 (Cell g j) ≡ m (Cell g j)) (λ h. absurd (let q = (spared t l d).claims in omega arith)) (λ g j e h. e);
           fixed_cells = EachOf-map (λ e. e.frame ≡ f → i < e.fixed → m2 (Cell f i) ≡ m (Cell f i)) (λ e. (j : ℕ) → j < e.fixed → m2 (Cell e.frame j) ≡ m (Cell e.frame j)) (b t).works
               (λ e c j h. elim (same_or_other (Cell e.frame j) (Cell f i)) [

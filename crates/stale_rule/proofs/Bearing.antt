@@ -1,17 +1,14 @@
 -- Which changes of a kind word bear the translations that its old one bore.
-use Rattle.std.proofs.Common.{◌≡◌, ◌≢◌, ℕ, ◌+◌, ◌%◌, ◌^◌, ◌<◌, ◌≤◌, ◌⊎◌, inl, inr, Bool, true, false, refl, ◌∙◌, ap, arith, IsTrue, if◌then◌else◌, Some}
+use Rattle.std.proofs.Common.{◌≡◌, ◌≢◌, ℕ, ◌≤◌, ◌⊎◌, inl, inr, Bool, true, false, refl, ◌∙◌, ap, arith, IsTrue, if◌then◌else◌}
 use Rattle.std.proofs.lemmas.Bool.Decides.{nat_tests}
 use Rattle.xp_words.specs.declared.kind.PageType.{PageType}
 use Rattle.xp_words.specs.declared.kind.KindWord.{KindWord}
 use Rattle.xp_words.specs.PageTypes.{type_number, is_none}
-use Rattle.xp_words.specs.KindWords.{kind_fields, kind_read}
 use Rattle.xp_board.specs.Readings.{is_dead, is_type}
-use Rattle.xp_board.specs.RefSteps.{one_down}
-use Rattle.xp_board.specs.KindSteps.{is_stale, begun_kind, unlocked_down}
+use Rattle.xp_board.specs.KindSteps.{is_stale, begun_kind}
 use Rattle.xp_board.specs.Reach.{Use, Table, Writes, Reads}
 use Rattle.xp_board.specs.Fresh.{Matches, Bears}
-use Rattle.stale_rule.proofs.Came.{IsLevel}
-use Rattle.board_lemmas.proofs.KindForms.{fields_down, fields_unlocked, live_form}
+use Rattle.board_lemmas.proofs.ReachAll.{IsLevel}
 
 -- ---- types
 matches_number : (s t : PageType) (u : Use) → type_number t ≡ type_number s → Matches s u → Matches t u
@@ -74,23 +71,9 @@ bears_dead flushed k l u kind mark stamp old =
       dead = λ n d. stamp;
     }
 
--- a live word is not marked
-pub read_unmarked : (w : ℕ) (l : KindWord) → kind_read w ≡ Some l → l.validated ≡ true → l.unflushed ≡ false
-read_unmarked w l e live = (live_form w l e live).flushed
-
 -- ---- one count less, of a live word
 -- what is the same of the fields
 pub record OneLess (k l : KindWord) : Type 0 where
   pub kind : l.kind ≡ k.kind
   pub unflushed : l.unflushed ≡ k.unflushed
   pub validated : l.validated ≡ k.validated
-
-pub count_down : (w : ℕ) → w < 2 ^ 64 → 0 < (kind_fields w).number → OneLess (kind_fields w) (kind_fields ((w + one_down) % 2 ^ 64))
-count_down w b some =
-    let less = fields_down w b some in
-    record { kind = ap (λ (k : KindWord). k.kind) less; unflushed = ap (λ (k : KindWord). k.unflushed) less; validated = ap (λ (k : KindWord). k.validated) less }
-
-pub lock_down : (w : ℕ) → w < 2 ^ 64 → 0 < (kind_fields w).number → (kind_fields w).locked ≡ true → OneLess (kind_fields w) (kind_fields ((w + unlocked_down) % 2 ^ 64))
-lock_down w b some locked =
-    let less = fields_unlocked w b some locked in
-    record { kind = ap (λ (k : KindWord). k.kind) less; unflushed = ap (λ (k : KindWord). k.unflushed) less; validated = ap (λ (k : KindWord). k.validated) less }

@@ -1,41 +1,39 @@
 -- What a vCPU comes to after a step that changes no word but a cell: what it came to before, what serves its use,
 -- or to read what it came to to write. All of it is fresh.
-use Rattle.std.proofs.Common.{◌≡◌, ◌≢◌, ℕ, ◌+◌, ◌<◌, ◌⊎◌, inl, inr, true, List, [], ◌∷◌, refl, sym, ◌∙◌, ap, subst, arith, IsTrue}
-use Rattle.std.proofs.lemmas.Bool.Decides.{nat_tests}
+use Rattle.std.proofs.Common.{◌≡◌, ◌≢◌, ℕ, ◌+◌, ◌<◌, ◌⊎◌, inl, inr, true, List, refl, sym, ◌∙◌, ap, subst, arith, IsTrue}
 use Rattle.xp_words.specs.declared.kind.PageType.{PageType}
-use Rattle.xp_words.specs.RefWords.{bit}
 use Rattle.xp_words.specs.Entries.{is_bit, frame_of}
 use Rattle.xp_words.specs.Machine.{Machine}
 use Rattle.xp_words.specs.Places.{sizes_of, Place, Refs, Cell, flushed_of}
 use Rattle.xp_board.specs.declared.step.Item.{Item}
 use Rattle.xp_board.specs.declared.holdings.Reached.{Reached}
 use Rattle.xp_board.specs.declared.holdings.Holdings.{Holdings}
-use Rattle.xp_board.specs.Lists.{one_at, times_by, EachOf, Member}
+use Rattle.xp_board.specs.Lists.{times_by, EachOf, Member}
 use Rattle.xp_board.specs.FillSteps.{is_walked}
-use Rattle.xp_board.specs.Readings.{kind_at, is_dying, domain_of}
+use Rattle.xp_board.specs.Readings.{kind_at, domain_of}
 use Rattle.xp_board.specs.Hands.{endings_of, claims_of}
 use Rattle.xp_board.specs.Reach.{Use, Table, Writes, Reads, use_of, use_below, reached_by, Reach, entry}
 use Rattle.xp_board.specs.Fresh.{Matches, FreshAt}
 use Rattle.xp_board.specs.Sound.{Sound}
 use Rattle.stale_rule.proofs.Bearing.{bears_read}
-use Rattle.stale_rule.proofs.Came.{IsLevel, Reach-level, Reach-all}
 use Rattle.board_lemmas.proofs.KindForms.{live_unmarked}
-use Rattle.stale_rule.proofs.Served.{Served, counted_word, entry_served}
+use Rattle.stale_rule.proofs.Served.{Served, entry_served}
 use Rattle.board_lemmas.proofs.HeldByForm.{live_idle}
-use Rattle.board_lemmas.proofs.Sums.{hands-part}
-use Rattle.board_lemmas.proofs.Works.{nobody_works}
+use Rattle.board_lemmas.proofs.Works.{nobody_works, nobody_ends}
+use Rattle.board_lemmas.proofs.ReachAll.{IsLevel, Reach-all, reach_level, unmarked_matches}
+use Rattle.board_lemmas.proofs.CellAlike.{CellAlike}
+use Rattle.board_lemmas.proofs.HandLists.{EachOf-map}
+use Rattle.board_lemmas.proofs.ListCounts.{EachOf-apart}
+use Rattle.board_lemmas.proofs.RefForms.{counted_word}
+use Rattle.board_lemmas.proofs.WalkDown.{Passes, passes_alike}
 
 abbrev pub Came : Machine → (Place → ℕ) → (ℕ → Holdings) → ℕ → ℕ → Use → Type 0
 Came n m h v g u = Reach (sizes_of n) m (h v) g u ⊎ (Served m (domain_of n v) g u ⊎ ((u ≡ Reads) × Reach (sizes_of n) m (h v) g Writes))
 
 -- ---- lists in which a frame does not stand
-none-first : (g k n : ℕ) → one_at g k + n ≡ 0 → (k ≢ g) × (n ≡ 0)
-none-first g k n e = (λ at. absurd (let one : one_at g k ≡ 1 = grind (arith, nat_tests) in omega arith), omega arith)
 
 EachOf-none : {A : Type 0} (key : A → ℕ) (g : ℕ) (Q : A → Type 0) (xs : List A) → times_by key g xs ≡ 0 → EachOf (λ e. key e ≡ g → Q e) xs
-unfolding times_by EachOf
-EachOf-none key g Q [] e = tt
-EachOf-none key g Q (x ∷ xs) e = let parts = none-first g (key x) (times_by key g xs) e in ((λ at. absurd (parts.0 at)), EachOf-none key g Q xs parts.1)
+EachOf-none key g Q xs none = EachOf-map (λ e. key e ≢ g) _ xs (λ e off at. absurd (off at)) (EachOf-apart key g xs none)
 
 -- ---- what serves is fresh
 module _ (n : Machine) (m : Place → ℕ) (h : ℕ → Holdings) (sound : Sound n m h) where
@@ -44,24 +42,21 @@ module _ (n : Machine) (m : Place → ℕ) (h : ℕ → Holdings) (sound : Sound
       let word = counted_word (m (Refs g)) served.counted in
       let none : (s : ℕ) → s < (sizes_of n).vcpus → endings_of g (h s).ending + claims_of g (h s).claimed ≡ 0 =
       λ s real.
-      (let dying = sound.alone.dying g in
-      let bits : bit (is_dying (m (Refs g))) ≡ 0 = rw word.1 refl in
-      let part = hands-part (λ k. endings_of g k.ending + claims_of g k.claimed) (sizes_of n) h s real in
-      omega arith) in
+      nobody_ends n m h sound.alone g word.1 s real in
       record {
         owner = served.owner;
         free = λ e. absurd (let k = word.0 in cc);
         unclaimed = λ s real. (let k = none s real in omega arith);
         bears = record {
-          typed = λ other. inl (live_unmarked n m g sound.spelled (served.live other), served.matches other);
-          dead = λ other d. absurd (let live = served.live other in cc);
+          typed = λ other. inl (live_unmarked n m g sound.spelled (served.serves.live other), served.serves.matches other);
+          dead = λ other d. absurd (let live = served.serves.live other in cc);
         };
         awaited = λ s real.
             record {
               ending = EachOf-none (λ e. e.frame) g _ (h s).ending (let k = none s real in omega arith);
               work = λ other.
                   EachOf-none (λ e. e.frame) g _ (h s).works
-                  (nobody_works n m h sound.alone g (live_idle (kind_at m g) (served.live other) (served.number other)) s real);
+                  (nobody_works n m h sound.alone g (live_idle (kind_at m g) (served.serves.live other) (served.serves.number other)) s real);
             };
       }
 
@@ -90,21 +85,14 @@ module _ (n : Machine) (m : Place → ℕ) (h : ℕ → Holdings) (sound : Sound
   use_of_type t Reads w a b x y p q = absurd (x refl)
   use_of_type t u Reads a b x y p q = absurd (y refl)
 
-  pub reach_level : (v g : ℕ) (u : Use) → v < (sizes_of n).vcpus → Reach (sizes_of n) m (h v) g u → IsLevel u
-  reach_level v g u real r = Reach-level (sound.formed v real).cache.walk r
-
   -- a live frame has the type of each use that is made of it
   pub live_matches : (v g : ℕ) (u : Use) → v < (sizes_of n).vcpus → (kind_at m g).validated ≡ true → u ≢ Reads → Reach (sizes_of n) m (h v) g u → Matches (kind_at m g).kind u
-  live_matches v g u real live other r =
-      elim ((sound.fresh.each v real g u r).bears.typed other) [
-        | inl plain ↦ plain.1
-        | inr marked ↦ absurd (let e = live_unmarked n m g sound.spelled live in let k = marked.0 in cc)
-      ]
+  live_matches v g u real live other r = unmarked_matches n m h sound v g u real (live_unmarked n m g sound.spelled live) other r
 
   served_one : (v w g : ℕ) (u k : Use) → w < (sizes_of n).vcpus → Served m (domain_of n v) g u → Came n m h w g k → u ≢ Reads → k ≢ Reads → u ≡ k
   served_one v w g u k real one (inl r) x y =
-      use_of_type (kind_at m g).kind u k one.level (reach_level w g k real r) x y (one.matches x) (live_matches w g k real (one.live x) y r)
-  served_one v w g u k real one (inr (inl two)) x y = use_of_type (kind_at m g).kind u k one.level two.level x y (one.matches x) (two.matches y)
+      use_of_type (kind_at m g).kind u k one.serves.level (reach_level n m h sound w g k real r) x y (one.serves.matches x) (live_matches w g k real (one.serves.live x) y r)
+  served_one v w g u k real one (inr (inl two)) x y = use_of_type (kind_at m g).kind u k one.serves.level two.serves.level x y (one.serves.matches x) (two.serves.matches y)
   served_one v w g u k real one (inr (inr read)) x y = absurd (y read.0)
 
   pub came_one : (v w g : ℕ) (t u : Use) → v < (sizes_of n).vcpus → w < (sizes_of n).vcpus → Came n m h v g t → Came n m h w g u → t ≢ Reads → u ≢ Reads → t ≡ u
@@ -115,23 +103,10 @@ module _ (n : Machine) (m : Place → ℕ) (h : ℕ → Holdings) (sound : Sound
   came_one v w g t u real other (inr (inr read)) q x y = absurd (x read.0)
 
 -- ---- how far a vCPU comes
--- of an entry a walk reads whether it is present, whether it may be written through, and the frame
-pub record CellAlike (w w2 : ℕ) : Type 0 where
-  pub present : is_bit 0 w2 ≡ is_bit 0 w
-  pub writable : is_bit 1 w2 ≡ is_bit 1 w
-  pub frame : frame_of w2 ≡ frame_of w
-
-pub alike_same : (w w2 : ℕ) → w2 ≡ w → CellAlike w w2
-alike_same w w2 e = record { present = ap (λ x. is_bit 0 x) e; writable = ap (λ x. is_bit 1 x) e; frame = ap frame_of e }
-
-pub use_alike : (level w w2 : ℕ) → CellAlike w w2 → use_below level w2 ≡ use_below level w
-use_alike level w w2 alike = rw alike.writable refl
 
 -- the targets of an entry are come to from a table that is come to
 abbrev pub PassesOn : Machine → (Place → ℕ) → (Place → ℕ) → (ℕ → Holdings) → ℕ → ℕ → ℕ → Type 0
-PassesOn n m m2 h v f i =
-    (level : ℕ) → Came n m h v f (Table level) → IsTrue (is_walked level i) → is_bit 0 (m2 (Cell f i)) ≡ true → frame_of (m2 (Cell f i)) < (sizes_of n).frames →
-    Came n m h v (frame_of (m2 (Cell f i))) (use_below level (m2 (Cell f i)))
+PassesOn n m m2 h v f i = Passes (sizes_of n) m2 (Came n m h v) f i
 
 module _ (n : Machine) (m m2 : Place → ℕ) (h : ℕ → Holdings) (sound : Sound n m h) (v : ℕ) where
   entry_came : (f level i : ℕ) → Came n m h v f (Table level) → IsTrue (is_walked level i) → is_bit 0 (m (Cell f i)) ≡ true → frame_of (m (Cell f i)) < (sizes_of n).frames →
@@ -141,10 +116,7 @@ module _ (n : Machine) (m m2 : Place → ℕ) (h : ℕ → Holdings) (sound : So
   entry_came f level i (inr (inr read)) walked present inside = absurd (let e = read.0 in cc)
 
   pub alike_passes : (f i : ℕ) → CellAlike (m (Cell f i)) (m2 (Cell f i)) → PassesOn n m m2 h v f i
-  alike_passes f i alike level came walked present inside =
-      subst (λ g. Came n m h v g (use_below level (m2 (Cell f i)))) (sym alike.frame)
-      (subst (λ u. Came n m h v (frame_of (m (Cell f i))) u) (sym (use_alike level _ _ alike))
-      (entry_came f level i came walked (sym alike.present ∙ present) (subst (λ g. g < (sizes_of n).frames) alike.frame inside)))
+  alike_passes f i alike = passes_alike (sizes_of n) m m2 (Came n m h v) f i alike (λ level came deep present inside. entry_came f level i came deep present inside)
 
   pub came_all : (b : Holdings) → ((x : Item) → Member x b.cache → Came n m h v x.frame (use_of x)) →
       ((x : Reached) → Member x (reached_by b.walk) → Came n m h v x.table (Table x.level)) → ((f i : ℕ) → PassesOn n m m2 h v f i) →

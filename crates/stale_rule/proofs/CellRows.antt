@@ -1,7 +1,5 @@
 -- Fresh after a store into a cell that no vCPU reads as an entry.
-use Rattle.std.proofs.Common.{◌≡◌, ℕ, ◌<◌, ◌≤◌, ◌==◌, ◌&&◌, inl, inr, Bool, true, false, List, [], ◌∷◌, refl, sym, ◌∙◌, ap, subst, arith, IsTrue, Option, Some, None}
-use Rattle.std.proofs.lemmas.Bool.Decides.{nat_tests}
-use Rattle.std.proofs.lemmas.Bool.{and_parts, or_cases}
+use Rattle.std.proofs.Common.{◌≡◌, ℕ, ◌<◌, ◌≤◌, inl, inr, false, refl, sym, ◌∙◌, ap, subst, arith, Option, Some, None}
 use Rattle.xp_words.specs.PageTypes.{type_number}
 use Rattle.xp_words.specs.Machine.{Machine}
 use Rattle.xp_words.specs.Places.{sizes_of, Place, Cell}
@@ -10,39 +8,30 @@ use Rattle.xp_board.specs.declared.step.StepKind.{StepKind}
 use Rattle.xp_board.specs.declared.holdings.Work.{Work}
 use Rattle.xp_board.specs.declared.holdings.Claimed.{Claimed}
 use Rattle.xp_board.specs.declared.holdings.Holdings.{Holdings}
-use Rattle.xp_board.specs.Lists.{some_of, Member}
 use Rattle.xp_board.specs.Readings.{kind_at}
 use Rattle.xp_board.specs.Hands.{work_on, claim_of}
 use Rattle.xp_board.specs.CellSteps.{AllowsPlain}
 use Rattle.xp_board.specs.After.{noted, learned_cell}
-use Rattle.xp_board.specs.Reach.{Use, Table, Writes, use_of, Reach, cached, walked}
+use Rattle.xp_board.specs.Reach.{Use, Table, Writes, cached, walked}
 use Rattle.xp_board.specs.Fresh.{Fresh}
 use Rattle.xp_board.specs.Keeping.{Acted}
 use Rattle.xp_board.specs.Sound.{Sound}
 use Rattle.step_effects.proofs.ActEffects.{Wrote, Filled, GuestStored}
-use Rattle.stale_rule.proofs.Came.{IsLevel}
-use Rattle.stale_rule.proofs.CameFresh.{Came, came_fresh, came_one, reach_level}
+use Rattle.stale_rule.proofs.CameFresh.{Came, came_fresh, came_one}
 use Rattle.board_lemmas.proofs.KindForms.{live_unmarked}
 use Rattle.stale_rule.proofs.CellLaw.{written_law}
 use Rattle.stale_rule.proofs.FreeRows.{not_claimed}
 use Rattle.stale_rule.proofs.Like.{cell_stays}
-use Rattle.stale_rule.proofs.Served.{not_reads}
 use Rattle.stale_rule.proofs.StoreRows.{its_word}
+use Rattle.board_lemmas.proofs.ReachAll.{IsLevel, reach_level, written_reach}
+use Rattle.board_lemmas.proofs.CellAlike.{not_reads}
 
 -- ---- elements that pass
-pub some_member : {A : Type 0} (test : A → Bool) (xs : List A) → IsTrue (some_of test xs) → (x : A) × Member x xs × (test x ≡ true)
-unfolding some_of Member
-some_member test [] t = absurd (cc)
-some_member test (x ∷ xs) t =
-    elim (or_cases (test x) (some_of test xs) t) [
-      | inl here ↦ (x, inl refl, here)
-      | inr later ↦ let rest = some_member test xs later in (rest.0, inr rest.1, rest.2)
-    ]
 
 module _ (n : Machine) (m : Place → ℕ) (b : ℕ → Holdings) (sound : Sound n m b) where
   came_level : (v g : ℕ) (u : Use) → v < (sizes_of n).vcpus → Came n m b v g u → IsLevel u
   came_level v g u real (inl r) = reach_level n m b sound v g u real r
-  came_level v g u real (inr (inl served)) = served.level
+  came_level v g u real (inr (inl served)) = served.serves.level
   came_level v g u real (inr (inr read)) = subst IsLevel (sym read.0) tt
 
   -- a frame of another type, unmarked, is no table
@@ -89,12 +78,7 @@ module _ (n : Machine) (s : ℕ) (x : Step) (m m2 : Place → ℕ) (b c : ℕ �
   -- ---- a store of the guest: it may write the frame, and so no vCPU has it as a table
   pub guest_row : (f i : ℕ) → GuestStored n x f i m m2 (b s) (c s) → Fresh n m2 c
   guest_row f i d =
-      let item = some_member (λ k. (k.frame == f) && k.writable) (b s).cache d.may.item in
-      let parts = and_parts (item.0.frame == f) item.0.writable item.2 in
-      let at : item.0.frame ≡ f = (let k = parts.0 in grind (arith, nat_tests)) in
-      let purpose : use_of item.0 ≡ Writes = (let k = parts.1 in rw k refl) in
-      let writes : Reach (sizes_of n) m (b s) f Writes =
-      subst (λ g. Reach (sizes_of n) m (b s) g Writes) at (subst (λ u. Reach (sizes_of n) m (b s) item.0.frame u) purpose (cached item.0 item.1)) in
+      let writes = written_reach (sizes_of n) m (b s) f d.may.item in
       page_law f i _ d.wrote d.hand
       (λ v level live came.
       absurd (let e = came_one n m b sound s v f Writes (Table level) real live (inl writes) came (λ e. cc) (not_reads level) in cc))

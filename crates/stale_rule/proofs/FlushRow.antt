@@ -11,10 +11,10 @@ use Rattle.xp_board.specs.Fresh.{Fresh}
 use Rattle.xp_board.specs.Keeping.{Acted}
 use Rattle.xp_board.specs.Sound.{Sound}
 use Rattle.step_effects.proofs.ActEffects.{Flushed}
-use Rattle.stale_rule.proofs.Came.{Reach-none, Reach-same}
 use Rattle.stale_rule.proofs.Like.{parts_like}
 use Rattle.stale_rule.proofs.Moves.{by_seat, awaits_on, not_clock}
 use Rattle.stale_rule.proofs.Stays.{ref_same, ever_same, fresh_law}
+use Rattle.board_lemmas.proofs.ReachAll.{Reach-none, Reach-same}
 
 module _ (n : Machine) (s : ℕ) (x : Step) (m m2 : Place → ℕ) (b c : ℕ → Holdings) (acted : Acted n s x m m2 b c) (sound : Sound n m b)
     (d : Flushed n s x m m2 (b s) (c s)) where

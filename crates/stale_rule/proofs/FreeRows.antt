@@ -1,11 +1,8 @@
 -- Fresh after a free frame is taken, a frame is freed, and a taken one is given.
-use Rattle.std.proofs.Common.{◌≡◌, ◌≢◌, ℕ, ◌^◌, ◌<◌, ◌≤◌, ◌==◌, inr, true, refl, sym, ◌∙◌, ap, subst, arith, Option, Some, None}
+use Rattle.std.proofs.Common.{◌≡◌, ◌≢◌, ℕ, ◌<◌, ◌≤◌, ◌==◌, inr, true, refl, ◌∙◌, ap, subst, arith, Option, Some, None}
 use Rattle.std.proofs.lemmas.Bool.Decides.{nat_tests}
-use Rattle.xp_words.specs.declared.refs.RefWord.TheVariants.{Free}
-use Rattle.xp_words.specs.RefWords.{ref_write, ref_read}
 use Rattle.xp_words.specs.Machine.{Machine}
 use Rattle.xp_words.specs.Places.{sizes_of, Place, Clock, Refs, flushed_of}
-use Rattle.xp_words.proofs.RefLaws.{ref_write-read}
 use Rattle.xp_board.specs.declared.step.Step.{Step}
 use Rattle.xp_board.specs.declared.holdings.Ending.{Ending}
 use Rattle.xp_board.specs.declared.holdings.Claimed.{Claimed}
@@ -21,15 +18,14 @@ use Rattle.xp_board.specs.Sound.{Sound}
 use Rattle.step_effects.proofs.ActEffects.{Took, Freed, Gave}
 use Rattle.board_lemmas.proofs.HandLists.{EachOf-without, EachOf-first, first-key, first-some, times-without}
 use Rattle.stale_rule.proofs.Like.{HandLike, parts_like}
-use Rattle.stale_rule.proofs.Past.{since_each, past_gone, gone_unreached}
+use Rattle.stale_rule.proofs.Past.{past_gone, gone_unreached}
 use Rattle.stale_rule.proofs.RefRows.{ref_law}
 use Rattle.board_lemmas.proofs.Sums.{one_at-other}
 use Rattle.xp_board.proofs.RefWords.{free_says}
+use Rattle.board_lemmas.proofs.MoreSteps.{since_each}
+use Rattle.board_lemmas.proofs.RefForms.{free_number}
 
 -- ---- free words
-free_word : (w stamp : ℕ) → w < 2 ^ 64 → ref_read w ≡ Some (Free stamp) → w ≡ stamp
-unfolding ref_write
-free_word w stamp b e = let r = ref_write-read w (Free stamp) b e in sym r.1
 
 stamp_tells : (f w x stamp : ℕ) → (w == stamp) ≡ true → x ≡ stamp → free_stamp x ≡ stamp → told_value (Refs f) w ≡ stamp
 unfolding told_value
@@ -54,7 +50,7 @@ module _ (n : Machine) (s : ℕ) (x : Step) (m m2 : Place → ℕ) (b c : ℕ �
   -- ---- taken
   taken_unreached : (f : ℕ) → Took n s x f m m2 (b s) (c s) → (v : ℕ) (u : Use) → v < (sizes_of n).vcpus → Reach (sizes_of n) m (b v) f u → ⊥
   taken_unreached f d v u live r =
-      let at = free_word (m (Refs f)) d.stamp (sound.spelled.small (Refs f)) d.was in
+      let at = free_number (m (Refs f)) d.stamp d.was in
       let word = free_says (m (Refs f)) d.stamp d.was in
       let gone = past_gone n m b sound s v d.may.past.since d.stamp (Refs f) (λ w. w == d.stamp) real live
       (λ w t. stamp_tells f w (m (Refs f)) d.stamp t at word.stamp) d.may.past.found (d.may.past.past v live) in

@@ -1,15 +1,13 @@
 -- Fresh after an exchange of kind words, and after a type count is given back.
-use Rattle.std.proofs.Common.{◌≡◌, ℕ, ◌+◌, ◌<◌, inl, inr, true, false, refl, sym, subst, arith}
+use Rattle.std.proofs.Common.{◌≡◌, ℕ, ◌<◌, inl, inr, true, false, refl, sym, subst, arith, ap}
 use Rattle.std.proofs.lemmas.Bool.{cases_eq}
 use Rattle.xp_words.specs.declared.kind.KindWord.{KindWord}
-use Rattle.xp_words.specs.KindWords.{kind_fields}
 use Rattle.xp_words.specs.Machine.{Machine}
 use Rattle.xp_words.specs.Places.{sizes_of, Place, Refs, Kind, Cell, Priv, flushed_of}
 use Rattle.xp_board.specs.declared.step.Step.{Step}
 use Rattle.xp_board.specs.declared.step.StepKind.TheVariants as steps
 use Rattle.xp_board.specs.declared.holdings.Holdings.{Holdings}
-use Rattle.xp_board.specs.Readings.{kind_at, is_locked, is_dead}
-use Rattle.xp_board.specs.Hands.{typed_to, locks_on, typed_hand}
+use Rattle.xp_board.specs.Readings.{kind_at, is_dead}
 use Rattle.xp_board.specs.KindSteps.{KindRow, Count, Locks, Pin, Unpin, Resume, TakeBack, Begin, AllowsKindRow}
 use Rattle.xp_board.specs.After.{noted}
 use Rattle.xp_board.specs.Reach.{Use, Reach}
@@ -17,16 +15,14 @@ use Rattle.xp_board.specs.Fresh.{Bears, Fresh}
 use Rattle.xp_board.specs.Keeping.{Acted}
 use Rattle.xp_board.specs.Sound.{Sound}
 use Rattle.step_effects.proofs.ActEffects.{Wrote, Turned, Dropped, Unlocked}
-use Rattle.stale_rule.proofs.Bearing.{bears_same, bears_begun, OneLess, count_down, lock_down}
-use Rattle.stale_rule.proofs.Came.{IsLevel, Reach-level}
+use Rattle.stale_rule.proofs.Bearing.{bears_same, bears_begun, OneLess}
 use Rattle.board_lemmas.proofs.KindForms.{marked_unlive}
 use Rattle.stale_rule.proofs.KindHands.{row_stays, dropped_stays, unlocked_stays}
 use Rattle.stale_rule.proofs.Like.{HandStays, parts_stay, then_stays}
 use Rattle.stale_rule.proofs.Moves.{act_law, not_clock}
 use Rattle.stale_rule.proofs.Stays.{ref_same, ever_same}
-use Rattle.stale_rule.proofs.Tables.{live_count}
-use Rattle.board_lemmas.proofs.Sums.{hands-part}
-use Rattle.board_lemmas.proofs.Works.{is_locked-mine}
+use Rattle.board_lemmas.proofs.ReachAll.{IsLevel, Reach-level}
+use Rattle.board_lemmas.proofs.CountsDown.{drop_live, drop_word, lock_live, unlock_word}
 
 -- the marks of an exchange that leaves type, mark and stamp
 row_bears : (row : KindRow) (n : Machine) (s f flushed : ℕ) (k l : KindWord) (a : Holdings) (u : Use) → IsLevel u → (k.unflushed ≡ true → k.validated ≡ false) →
@@ -86,35 +82,19 @@ module _ (n : Machine) (s : ℕ) (x : Step) (m m2 : Place → ℕ) (b c : ℕ �
       (λ e. absurd (let d = marked_unlive n m f sound.spelled e in cc))
       (let v = less.validated in rw (v, live) refl) old
 
-module _ (n : Machine) (s : ℕ) (m : Place → ℕ) (b : ℕ → Holdings) (real : s < (sizes_of n).vcpus) (sound : Sound n m b) where
-  pub counted_here : (f : ℕ) → (kind_at m f).validated ≡ true → 0 < typed_hand f (b s) → 0 < (kind_at m f).number
-  counted_here f live held =
-      let count = sound.counts.types f in
-      let number = live_count (kind_at m f) live in
-      let part = hands-part (typed_hand f) (sizes_of n) b s real in
-      omega arith
-
 module _ (n : Machine) (s : ℕ) (x : Step) (m m2 : Place → ℕ) (b c : ℕ → Holdings) (real : s < (sizes_of n).vcpus) (acted : Acted n s x m m2 b c) (sound : Sound n m b) where
-  in_hand : (f : ℕ) → 0 < typed_to f (b s).typed + locks_on f (b s).locks → 0 < typed_hand f (b s)
-  unfolding typed_hand
-  in_hand f p = p
-
   pub drop_row : (f : ℕ) → Dropped n x f m m2 (b s) (c s) → Fresh n m2 c
   drop_row f d =
       kind_law n s x m m2 b c acted sound f _ d.wrote d.hand (dropped_stays f (m (Kind f)) (m2 (Kind f)) (b s))
       (λ v u live r old.
-      let alive = (sound.found s real).lives f d.may.kind d.may.live in
-      let some = counted_here n s m b real sound f alive.0 (in_hand f (let p = d.may.in_hand in omega arith)) in
-      let less = subst (λ w. OneLess (kind_at m f) (kind_fields w)) (sym d.is) (count_down (m (Kind f)) (sound.spelled.small (Kind f)) some) in
-      less_bears n s x m m2 b c acted sound f (m (flushed_of v)) u (kind_at m2 f) alive.0 less old)
+      let now = drop_word n m b sound s real f d.may (m2 (Kind f)) d.is in
+      less_bears n s x m m2 b c acted sound f (m (flushed_of v)) u (kind_at m2 f) (drop_live n m b sound s real f d.may)
+      (record { kind = ap (λ (k : KindWord). k.kind) now; unflushed = ap (λ (k : KindWord). k.unflushed) now; validated = ap (λ (k : KindWord). k.validated) now }) old)
 
   pub unlock_row : (f : ℕ) → Unlocked n x f m m2 (b s) (c s) → Fresh n m2 c
   unlock_row f d =
       kind_law n s x m m2 b c acted sound f _ d.wrote d.hand (unlocked_stays f (m (Kind f)) (m2 (Kind f)) (b s))
       (λ v u live r old.
-      let locked : is_locked (kind_at m f) ≡ true = is_locked-mine n m b sound.alone f s real d.may in
-      let alive : (kind_at m f).validated ≡ true = grind arith in
-      let shut : (kind_at m f).locked ≡ true = grind arith in
-      let some = counted_here n s m b real sound f alive (in_hand f (let p = d.may in omega arith)) in
-      let less = subst (λ w. OneLess (kind_at m f) (kind_fields w)) (sym d.is) (lock_down (m (Kind f)) (sound.spelled.small (Kind f)) some shut) in
-      less_bears n s x m m2 b c acted sound f (m (flushed_of v)) u (kind_at m2 f) alive less old)
+      let now = unlock_word n m b sound s real f d.may (m2 (Kind f)) d.is in
+      less_bears n s x m m2 b c acted sound f (m (flushed_of v)) u (kind_at m2 f) (lock_live n m b sound s real f d.may)
+      (record { kind = ap (λ (k : KindWord). k.kind) now; unflushed = ap (λ (k : KindWord). k.unflushed) now; validated = ap (λ (k : KindWord). k.validated) now }) old)

@@ -1,14 +1,10 @@
 pub mod Awaits
 pub mod Bearing
-pub mod Came
 pub mod CameFresh
 pub mod CellLaw
 pub mod CellRows
-pub mod Demands
-pub mod EntryBits
 pub mod FlushRow
 pub mod FreeRows
-pub mod Items
 pub mod KindHands
 pub mod KindRows
 pub mod Like
@@ -23,5 +19,4 @@ pub mod Rows
 pub mod Served
 pub mod Stays
 pub mod StoreRows
-pub mod Tables
 pub mod WalkRows

@@ -1,10 +1,9 @@
 -- What steps and marks leave of a hand, as far as old translations go.
-use Rattle.std.proofs.Common.{◌≡◌, ℕ, ◌+◌, ◌==◌, Bool, true, false, length, refl, sym, ◌∙◌, ap, subst, if◌then◌else◌}
+use Rattle.std.proofs.Common.{◌≡◌, ℕ, ◌+◌, ◌==◌, Bool, length, refl, sym, ◌∙◌, ap, subst}
 use Rattle.xp_words.specs.declared.entry.Demand.{Demand}
 use Rattle.xp_words.specs.KindWords.{kind_fields}
-use Rattle.xp_words.specs.Places.{Place, Clock, Pages, Life, Vcpu, Refs, Kind, M2p, Cell, Map, Priv}
+use Rattle.xp_words.specs.Places.{Place}
 use Rattle.xp_board.specs.declared.step.Item.{Item}
-use Rattle.xp_board.specs.declared.holdings.Work.{Work}
 use Rattle.xp_board.specs.declared.holdings.Reached.{Reached}
 use Rattle.xp_board.specs.declared.holdings.Holdings.{Holdings}
 use Rattle.xp_board.specs.Lists.{EachOf, Member}
@@ -13,7 +12,8 @@ use Rattle.xp_board.specs.Reach.{reached_by}
 use Rattle.xp_board.specs.Settling.{demand_in, demand_out}
 use Rattle.xp_board.specs.After.{learned, learned_cell, learned_own, learned_work, learned_claim}
 use Rattle.board_lemmas.proofs.HandLists.{EachOf-changed, times-changed}
-use Rattle.board_lemmas.proofs.HandParts.{Beside, Translations, beside_own, translations_own, beside_out, beside_in, translations_out, translations_in}
+use Rattle.board_lemmas.proofs.HandParts.{Beside, Translations, beside_own, translations_own, beside_out, beside_in, translations_out, translations_in, learned_by}
+use Rattle.board_lemmas.proofs.Sums.{either}
 
 -- ---- hands
 -- From hand a to hand b the steps are the same; what is in work or ending besides the frames of before has been so
@@ -92,14 +92,7 @@ then_stays a b c one two =
       walk = λ x e. one.walk x (two.walk x e);
     }
 
-pub if_stays : (test : Bool) (a b c : Holdings) → HandStays a b → HandStays a c → HandStays a (if test then b else c)
-if_stays true a b c one two = one
-if_stays false a b c one two = two
-
 -- ---- what is learned of the word at a place
-if_work : (P : Work → Type 0) (c : Bool) (x y : Work) → P x → P y → P (if c then x else y)
-if_work P true x y p q = p
-if_work P false x y p q = q
 
 pub cell_stays : (f i w : ℕ) (a : Holdings) → HandStays a (learned_cell f i w a)
 cell_stays f i w a =
@@ -107,7 +100,7 @@ cell_stays f i w a =
       like = record {
         steps = refl;
         works = λ P new e. EachOf-changed (λ x. P x.frame x.since) (λ x. x.frame) f (learned_work i w) a.works
-            (λ x p. if_work (λ y. P y.frame y.since) (kind_fields x.word).unflushed x _ p p) e;
+            (λ x p. either (λ y. P y.frame y.since) (kind_fields x.word).unflushed x _ p p) e;
         ending = λ P new e. e;
       };
       claims = λ g e. times-changed (λ x. x.frame) g f (learned_claim i w) a.claimed (λ x. refl) ∙ e;
@@ -122,16 +115,9 @@ pub own_stays : (k w : ℕ) (a : Holdings) → HandStays a (learned_own k w a)
 own_stays k w a = beside_stays a (learned_own k w a) (beside_own k w a) (translations_own k w a)
 
 pub learned_stays : (s : ℕ) (p : Place) (found left : ℕ) (a : Holdings) → HandStays a (learned s p found left a)
-learned_stays s (Cell f i) found left a = cell_stays f i left a
-learned_stays s (Vcpu v k) found left a = if_stays (v == s) a (learned_own k left a) a (own_stays k left a) (same_stays a)
-learned_stays s (Life d) found left a = if_stays (found == 0) a _ a (parts_stay a _ refl refl refl refl refl refl) (same_stays a)
-learned_stays s Clock found left a = same_stays a
-learned_stays s (Pages d) found left a = same_stays a
-learned_stays s (Refs f) found left a = same_stays a
-learned_stays s (Kind f) found left a = same_stays a
-learned_stays s (M2p f) found left a = same_stays a
-learned_stays s (Map k) found left a = same_stays a
-learned_stays s (Priv d) found left a = same_stays a
+learned_stays s p found left a =
+    learned_by (HandStays a) s p found left a (same_stays a) (λ d. either (HandStays a) (found == 0) _ a (parts_stay a _ refl refl refl refl refl refl) (same_stays a)) (λ k. own_stays k left a)
+    (λ f i. cell_stays f i left a)
 
 -- ---- references
 pub out_stays : (d : Demand) (a : Holdings) → HandStays a (demand_out d a)

@@ -1,5 +1,5 @@
 -- Fresh after a store into an entry of a table under the own lock.
-use Rattle.std.proofs.Common.{◌≡◌, ℕ, ◌<◌, ◌||◌, inl, inr, Bool, true, false, refl, sym, ◌∙◌, ap, subst, arith, IsTrue, if◌then◌else◌, Option, Some}
+use Rattle.std.proofs.Common.{◌≡◌, ℕ, ◌<◌, ◌||◌, inl, inr, true, sym, ◌∙◌, ap, subst, arith, IsTrue, Option, Some}
 use Rattle.std.proofs.lemmas.Bool.{or_left}
 use Rattle.xp_words.specs.declared.kind.PageType.{PageType}
 use Rattle.xp_words.specs.declared.entry.Demand.{Demand}
@@ -13,7 +13,7 @@ use Rattle.xp_board.specs.declared.holdings.Lock.{Lock}
 use Rattle.xp_board.specs.declared.holdings.Holdings.{Holdings}
 use Rattle.xp_board.specs.Steps.{some_since}
 use Rattle.xp_board.specs.Readings.{kind_at, ref_count, owner_of, domain_of, has_now, has_ever}
-use Rattle.xp_board.specs.Hands.{refs_to, typed_to, lock_on, hand, typed_hand}
+use Rattle.xp_board.specs.Hands.{refs_to, lock_on, hand}
 use Rattle.xp_board.specs.Settling.{HasDemand, OwnersMeet}
 use Rattle.xp_board.specs.After.{noted}
 use Rattle.xp_board.specs.FillSteps.{is_walked}
@@ -23,22 +23,21 @@ use Rattle.xp_board.specs.Fresh.{Fresh}
 use Rattle.xp_board.specs.Keeping.{Acted}
 use Rattle.xp_board.specs.Sound.{Sound}
 use Rattle.step_effects.proofs.ActEffects.{Wrote, Exchanged, Rewrote}
-use Rattle.stale_rule.proofs.CameFresh.{Came, came_fresh, reach_level, live_matches}
+use Rattle.stale_rule.proofs.CameFresh.{Came, came_fresh, live_matches}
 use Rattle.stale_rule.proofs.CellLaw.{written_law}
-use Rattle.stale_rule.proofs.KindRows.{counted_here}
 use Rattle.stale_rule.proofs.Like.{HandStays, then_stays, cell_stays, in_stays, out_stays}
-use Rattle.stale_rule.proofs.Past.{since_each, since_later}
-use Rattle.stale_rule.proofs.Served.{Served, AsksWell, typed_counted, target_served, served_owner, not_reads, recorded_well}
+use Rattle.stale_rule.proofs.Served.{Served, AsksWell, typed_counted, target_served, served_owner, recorded_well, Granted}
 use Rattle.xp_board.proofs.RefWords.{owner_few}
 use Rattle.board_lemmas.proofs.LockFacts.{lock_facts, rewritten_same}
 use Rattle.board_lemmas.proofs.Counted.{in_hand_counted}
+use Rattle.board_lemmas.proofs.CellAlike.{not_reads}
+use Rattle.board_lemmas.proofs.MoreSteps.{since_each, since_later}
+use Rattle.board_lemmas.proofs.ReachAll.{reach_level}
+use Rattle.board_lemmas.proofs.Serving.{asks_hand}
+use Rattle.board_lemmas.proofs.CountsDown.{lock_live, lock_some}
 
 some_is : (x y : ℕ) (o : Option ℕ) → o ≡ Some x → o ≡ Some y → x ≡ y
 some_is x y o a b = let e : Some x ≡ Some y = sym a ∙ b in cc
-
-when_on : (a b : Bool) → IsTrue (if a then b else false) → (a ≡ true) × IsTrue b
-when_on true b t = (refl, t)
-when_on false b t = absurd (cc)
 
 module _ (n : Machine) (s : ℕ) (m : Place → ℕ) (b : ℕ → Holdings) (real : s < (sizes_of n).vcpus) (sound : Sound n m b) where
   -- ---- a demand in hand
@@ -66,29 +65,23 @@ module _ (n : Machine) (s : ℕ) (m : Place → ℕ) (b : ℕ → Holdings) (rea
   plain_counted : (g : ℕ) → 0 < refs_to g (b s).refs → 0 < ref_count (m (Refs g))
   plain_counted g held = let counted = in_hand_counted (sizes_of n) m b s g real sound.counts held in omega arith
 
-  typed_held : (g : ℕ) → 0 < typed_to g (b s).typed → 0 < typed_hand g (b s)
-  unfolding typed_hand
-  typed_held g p = omega arith
+  has_granted : (f d : ℕ) (kind : PageType) (q : Demand) → owner_of (m (Refs f)) ≡ Some d → HasDemand n f kind (b s) q → Granted m kind d q
+  has_granted f d kind Nothing owner may = tt
+  has_granted f d kind Bad owner may = tt
+  has_granted f d kind (Read g) owner may = (plain_counted g may.in_hand, meets f g d kind owner may.owners)
+  has_granted f d kind (Typed g t) owner may =
+      let live = asks_hand n m b sound f s real kind (Typed g t) may in
+      (typed_counted n m b g sound live.0 live.1, meets f g d kind owner may.0.owners)
 
   has_well : (f d : ℕ) (kind : PageType) (q : Demand) → owner_of (m (Refs f)) ≡ Some d → HasDemand n f kind (b s) q → AsksWell m kind d q
-  has_well f d kind Nothing owner may = tt
-  has_well f d kind Bad owner may = may
-  has_well f d kind (Read g) owner may = (plain_counted g may.in_hand, meets f g d kind owner may.owners)
-  has_well f d kind (Typed g t) owner may =
-      let alive = (sound.found s real).lives g t may.1 in
-      let number = counted_here n s m b real sound g alive.0 (typed_held g may.0.in_hand) in
-      (alive.0, number, alive.1, typed_counted n m b g sound alive.0 number, meets f g d kind owner may.0.owners)
+  has_well f d kind q owner may = (asks_hand n m b sound f s real kind q may, has_granted f d kind q owner may)
 
   -- ---- the locked table
   pub locked_live : (f : ℕ) (e : Lock) → lock_on f (b s).locks ≡ Some e →
       ((kind_at m f).validated ≡ true) × (0 < (kind_at m f).number) × ((kind_at m f).kind ≡ e.kind) × (e.frame ≡ f)
-  unfolding typed_hand
   locked_live f e here =
       let k = lock_facts n m b s f e sound real here in
-      let locked = k.locked in
-      let some = k.some in
-      let live : (kind_at m f).validated ≡ true = grind arith in
-      (live, counted_here n s m b real sound f live (omega arith), k.kind, k.frame)
+      (lock_live n m b sound s real f k.some, lock_some n m b sound s real f k.some, k.kind, k.frame)
 
   -- a live and counted table that is come to serves
   table_served : (v level f : ℕ) → v < (sizes_of n).vcpus → (kind_at m f).validated ≡ true → 0 < (kind_at m f).number → Came n m b v f (Table level) →
@@ -97,10 +90,12 @@ module _ (n : Machine) (s : ℕ) (m : Place → ℕ) (b : ℕ → Holdings) (rea
   table_served v level f live alive number (inr (inr read)) = absurd (not_reads level read.0)
   table_served v level f live alive number (inl r) =
       record {
-        level = reach_level n m b sound v f (Table level) live r;
-        live = λ k. alive;
-        number = λ k. number;
-        matches = λ k. live_matches n m b sound v f (Table level) live alive (not_reads level) r;
+        serves = record {
+          level = reach_level n m b sound v f (Table level) live r;
+          live = λ k. alive;
+          number = λ k. number;
+          matches = λ k. live_matches n m b sound v f (Table level) live alive (not_reads level) r;
+        };
         counted = typed_counted n m b f sound alive number;
         owner = (came_fresh n m b sound v f (Table level) live (inl r)).owner;
       }

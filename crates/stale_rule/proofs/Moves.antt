@@ -19,9 +19,9 @@ use Rattle.xp_board.specs.Runs.{place_of}
 use Rattle.xp_board.specs.Sound.{Sound}
 use Rattle.step_effects.proofs.ActEffects.{Wrote}
 use Rattle.stale_rule.proofs.Awaits.{awaited_same, awaited_more}
-use Rattle.stale_rule.proofs.Came.{Reach-same}
 use Rattle.stale_rule.proofs.Like.{HandLike, HandStays}
 use Rattle.stale_rule.proofs.Stays.{RefStays, ref_same, KeepsEver, ever_same, fresh_law}
+use Rattle.board_lemmas.proofs.ReachAll.{Reach-same}
 
 -- ---- of one seat and of the others
 pub by_seat : (P : ℕ → Holdings → Type 0) (s t : ℕ) (h h2 : ℕ → Holdings) → ((t : ℕ) → t ≢ s → h2 t ≡ h t) → P s (h2 s) → (t ≢ s → P t (h t)) → P t (h2 t)

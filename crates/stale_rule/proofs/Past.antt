@@ -7,37 +7,18 @@ use Rattle.xp_words.specs.Places.{Sizes, sizes_of, Place, place_at, run_of, flus
 use Rattle.xp_board.specs.declared.holdings.Made.{Made}
 use Rattle.xp_board.specs.declared.holdings.Holdings.{Holdings}
 use Rattle.xp_board.specs.Lists.{EachOf}
-use Rattle.xp_board.specs.Steps.{is_at, left_of, some_step, some_since, some_before, EachStep, EachSince, steps_before}
+use Rattle.xp_board.specs.Steps.{is_at, left_of, some_step, some_since, some_before, steps_before}
 use Rattle.xp_board.specs.Readings.{told_value}
 use Rattle.xp_board.specs.Flushes.{is_idle, is_past}
 use Rattle.xp_board.specs.Found.{EachTold}
 use Rattle.xp_board.specs.Reach.{Use, Reach}
 use Rattle.xp_board.specs.Sound.{Sound}
-use Rattle.stale_rule.proofs.Came.{Reach-none}
 use Rattle.board_lemmas.proofs.PlaceTests.{same_place}
 use Rattle.board_lemmas.proofs.StepLists.{since_within}
+use Rattle.board_lemmas.proofs.ReachAll.{Reach-none}
+use Rattle.board_lemmas.proofs.MoreSteps.{since_each, since_later}
 
 -- ---- what was found in some step holds by what holds of each
--- a step passes, and each step that passes meets P
-pub since_each : (z : Sizes) (n : ℕ) (p : Place) (test : ℕ → Bool) (P : ℕ → Type 0) (Q : Type 0) (steps : List Made) →
-    EachSince z n p P steps → IsTrue (some_since z n p test steps) → ((w : ℕ) → test w ≡ true → P w → Q) → Q
-unfolding some_step EachStep
-since_each z n p test P Q [] each some f = absurd (cc)
-since_each z n p test P Q (x ∷ xs) each some f =
-    elim (or_cases (nat_le n (length xs) && (is_at z p x && test (left_of x))) _ some) [
-      | inl here ↦
-          let a = and_parts (nat_le n (length xs)) (is_at z p x && test (left_of x)) here in
-          let b = and_parts (is_at z p x) (test (left_of x)) a.1 in
-          f (left_of x) b.1 (each.0 (let k = a.0 in let l = b.0 in grind arith)).1
-      | inr later ↦ since_each z n p test P Q xs each.1 later f
-    ]
-
--- from a later step on fewer words were found
-pub since_later : (z : Sizes) (n o : ℕ) (p : Place) (P : ℕ → Type 0) (steps : List Made) → n ≤ o → EachSince z n p P steps → EachSince z o p P steps
-unfolding EachStep
-since_later z n o p P [] below each = tt
-since_later z n o p P (x ∷ xs) below each =
-    ((λ t. each.0 (let a = and_parts (nat_le o (length xs)) (is_at z p x) t in let l = a.0 in let r = a.1 in let e : nat_le n (length xs) ≡ true = grind (arith, nat_tests) in grind arith)), since_later z n o p P xs below each.1)
 
 -- ---- a stamp that was found before the vCPU was found off
 told_before : (z : Sizes) (n : ℕ) (p : Place) (stamp : ℕ) (test : ℕ → Bool) (P : ℕ → Type 0) (Q : Type 0) (steps : List Made) →

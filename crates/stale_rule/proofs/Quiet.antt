@@ -1,12 +1,10 @@
 -- Marks, and acts after which all that translations read stands as before.
-use Rattle.std.proofs.Common.{◌≡◌, ◌≢◌, ℕ, zero, suc, ◌==◌, not, false, refl, sym, subst, arith, IsTrue, None}
-use Rattle.std.proofs.lemmas.Bool.Decides.{nat_tests}
+use Rattle.std.proofs.Common.{◌≡◌, ◌≢◌, ℕ, zero, suc, ◌==◌, not, refl, sym, subst, arith, None}
 use Rattle.xp_words.specs.Machine.{Machine}
 use Rattle.xp_words.specs.Places.{Place, Vcpu, Kind, Cell, flushed_of, run_of}
 use Rattle.xp_board.specs.declared.step.Step.{Step}
 use Rattle.xp_board.specs.declared.holdings.Holdings.{Holdings}
 use Rattle.xp_board.specs.Lists.{Member}
-use Rattle.xp_board.specs.Readings.{is_context}
 use Rattle.xp_board.specs.ContextSteps.{named_in, named_out}
 use Rattle.xp_board.specs.RunSteps.{ran_now}
 use Rattle.xp_board.specs.Marks.{demand_seen}
@@ -16,8 +14,10 @@ use Rattle.xp_board.specs.Sound.{Sound}
 use Rattle.step_effects.proofs.MarkEffects.{MarkEffect, nothing, turned, forgot, recorded_entry, shed_entry, Recorded, Shed, mark_effect}
 use Rattle.step_effects.proofs.ActEffects.{Looked, Missed, Stumbled, Mapped, Charged, Refunded, Named, Based, Asked, Ran, Ticked, Doomed, Buried, Hinted}
 use Rattle.board_lemmas.proofs.HandLists.{EachOf-changed, Member-kept}
-use Rattle.stale_rule.proofs.Like.{HandStays, same_stays, parts_like, parts_stay, works_stay, then_stays, if_stays, learned_stays, cell_stays, own_stays, in_stays, out_stays}
+use Rattle.stale_rule.proofs.Like.{HandStays, same_stays, parts_like, parts_stay, works_stay, then_stays, learned_stays, cell_stays, own_stays, in_stays, out_stays}
 use Rattle.stale_rule.proofs.Moves.{mark_law, still_law, aside_law, not_clock}
+use Rattle.board_lemmas.proofs.Counted.{not_context}
+use Rattle.board_lemmas.proofs.Sums.{either}
 
 -- ---- marks
 recorded_stays : (n : Machine) (f upto : ℕ) (h b : Holdings) → Recorded n f upto h b → HandStays h b
@@ -63,14 +63,11 @@ no_walk a = record { like = parts_like a _ refl refl refl; claims = λ g e. e; c
 ran_stays : (new : ℕ) (a : Holdings) → HandStays a (ran_now new a)
 unfolding Member
 ran_stays new a =
-    if_stays (new == 0) a _ _ (parts_stay a _ refl refl refl refl refl refl)
+    either (HandStays a) (new == 0) _ _ (parts_stay a _ refl refl refl refl refl refl)
     (record { like = parts_like a _ refl refl refl; claims = λ g e. e; cache = λ x e. absurd e; walk = λ x e. e })
 
 other_word : (v w k : ℕ) → k ≢ 5 → flushed_of w ≢ Vcpu v k
 other_word v w k n e = n (let j : 5 ≡ k = cc in sym j)
-
-not_flush : (k : ℕ) → IsTrue (is_context k) → k ≢ 5
-not_flush k c e = absurd (let off : is_context k ≡ false = grind (arith, nat_tests) in cc)
 
 module _ (n : Machine) (s : ℕ) (x : Step) (m m2 : Place → ℕ) (b c : ℕ → Holdings) (acted : Acted n s x m m2 b c) (sound : Sound n m b) where
   pub look_row : (p : Place) → Looked n s x p m m2 (b s) (c s) → Fresh n m2 c
@@ -104,7 +101,7 @@ module _ (n : Machine) (s : ℕ) (x : Step) (m m2 : Place → ℕ) (b c : ℕ �
       aside_law n s x _ _ m m2 b c _ sound acted.others d.wrote d.hand
       (then_stays _ _ _ (named_stays k (m (Vcpu v k)) (m2 (Vcpu v k)) (b s)) (learned_stays s (Vcpu v k) (m (Vcpu v k)) (m2 (Vcpu v k)) _))
       (not_clock n x _ _ _ d.wrote.place (λ e. cc))
-      (λ f i e. cc) (λ j e. cc) (λ w. other_word v w k (not_flush k d.word)) (λ f e. cc) (λ f e. cc)
+      (λ f i e. cc) (λ j e. cc) (λ w. other_word v w k (not_context 5 k refl d.word)) (λ f e. cc) (λ f e. cc)
 
   pub base_row : (v : ℕ) → Based n s x v m m2 (b s) (c s) → Fresh n m2 c
   base_row v d =

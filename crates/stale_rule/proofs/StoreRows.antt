@@ -18,14 +18,15 @@ use Rattle.xp_board.specs.Fresh.{Bears, Fresh}
 use Rattle.xp_board.specs.Keeping.{Acted}
 use Rattle.xp_board.specs.Sound.{Sound}
 use Rattle.step_effects.proofs.ActEffects.{Stored}
-use Rattle.stale_rule.proofs.Bearing.{bears_read, bears_same, bears_dead, matches_same, read_unmarked}
-use Rattle.board_lemmas.proofs.KindForms.{marked_unlive}
+use Rattle.stale_rule.proofs.Bearing.{bears_read, bears_same, bears_dead, matches_same}
+use Rattle.board_lemmas.proofs.KindForms.{marked_unlive, live_form}
 use Rattle.stale_rule.proofs.KindHands.{form_stays}
 use Rattle.stale_rule.proofs.KindRows.{kind_law}
 use Rattle.board_lemmas.proofs.HandLists.{EachOf-first}
-use Rattle.stale_rule.proofs.Past.{since_each, past_gone, gone_unreached}
+use Rattle.stale_rule.proofs.Past.{past_gone, gone_unreached}
 use Rattle.board_lemmas.proofs.FormsLeft.{is_live_left, is_partial_left}
 use Rattle.board_lemmas.proofs.WorkFacts.{Works, works_facts}
+use Rattle.board_lemmas.proofs.MoreSteps.{since_each}
 
 -- the stamp that a marked word tells
 marked_tells : (f w x : ℕ) → (w == x) ≡ true → (kind_fields x).validated ≡ false → told_value (Kind f) w ≡ (kind_fields x).number
@@ -106,7 +107,7 @@ module _ (n : Machine) (s : ℕ) (m : Place → ℕ) (b : ℕ → Holdings) (rea
       Reach (sizes_of n) m (b v) f u → Bears (m (flushed_of v)) (kind_at m f) u → Bears (m (flushed_of v)) l u
   form_bears Live v w l u live reads is may r old =
       let alive = is_live_left l is in
-      plain_bears (m (flushed_of v)) l u (rw alive refl) (read_unmarked w l reads alive) (subst (λ k. l.kind ≡ k.kind) (sym its_word) may.kind)
+      plain_bears (m (flushed_of v)) l u (rw alive refl) (live_form w l reads alive).flushed (subst (λ k. l.kind ≡ k.kind) (sym its_word) may.kind)
       (λ marked other. past_read v u live marked (may.past (subst (λ k. k.unflushed ≡ true) its_word marked)) r old other) old
   form_bears Partial v w l u live reads is may r old =
       let partial = (is_partial_left l is).1 in

@@ -13,24 +13,23 @@ use Rattle.xp_board.specs.declared.holdings.Walk.{Walk}
 use Rattle.xp_board.specs.declared.holdings.Holdings.{Holdings}
 use Rattle.xp_board.specs.Lists.{Member}
 use Rattle.xp_board.specs.Hands.{claims_of}
-use Rattle.xp_board.specs.FillSteps.{MayWalkOn, is_walked, started, loaded, descended, walked_by, touched, item_of, cached_with, level_of, level_in, is_for_write}
+use Rattle.xp_board.specs.FillSteps.{MayWalkOn, is_walked, started, loaded, descended, walked_by, touched, item_of, cached_with, level_of, is_for_write}
 use Rattle.xp_board.specs.TouchSteps.{MayTouch}
 use Rattle.xp_board.specs.Acts.{left_by}
 use Rattle.xp_board.specs.Runs.{place_of}
 use Rattle.xp_board.specs.WellFormed.{TouchesIn}
 use Rattle.xp_board.specs.After.{noted}
-use Rattle.xp_board.specs.Reach.{Table, Writes, Reads, use_of, use_below, reached_by, Reach, cached, walked, entry}
+use Rattle.xp_board.specs.Reach.{Table, use_of, reached_by, cached, walked}
 use Rattle.xp_board.specs.Fresh.{Fresh}
 use Rattle.xp_board.specs.Keeping.{Acted}
 use Rattle.xp_board.specs.Sound.{Sound}
 use Rattle.step_effects.proofs.ActEffects.{Started, WentOn, Touched}
-use Rattle.stale_rule.proofs.CameFresh.{Came, CellAlike, alike_same, alike_passes, use_alike}
+use Rattle.stale_rule.proofs.CameFresh.{Came, alike_passes}
 use Rattle.stale_rule.proofs.CellLaw.{cells_law, written_law}
-use Rattle.stale_rule.proofs.EntryBits.{touched_alike}
-use Rattle.board_lemmas.proofs.HandLists.{Member-take}
 use Rattle.stale_rule.proofs.Like.{HandLike, HandStays, same_stays, parts_like, then_like, cell_stays, own_stays}
-use Rattle.stale_rule.proofs.Paths.{base_serves}
-use Rattle.stale_rule.proofs.Served.{typed_counted}
+use Rattle.stale_rule.proofs.Served.{base_served}
+use Rattle.board_lemmas.proofs.CellAlike.{CellAlike, alike_same, touched_alike}
+use Rattle.board_lemmas.proofs.WalkDown.{cached_comes, deeper_comes}
 
 -- ---- hands that may come to more
 -- all that is held was held, or is come to
@@ -64,16 +63,7 @@ module _ (n : Machine) (s : ℕ) (m : Place → ℕ) (b : ℕ → Holdings) (rea
 
   -- ---- a walk begins at the base
   base_came : (k g : ℕ) → k < 2 → m (Vcpu s k) ≡ g + 1 → Came n m b s g (Table 4)
-  base_came k g few names =
-      let serves = (base_serves n m b sound s k g real few names).0 in
-      inr (inl (record {
-        level = (omega arith, omega arith);
-        live = λ other. serves.live;
-        number = λ other. serves.counted;
-        matches = λ other. serves.level_is;
-        counted = typed_counted n m b g sound serves.live serves.counted;
-        owner = inr serves.owner;
-      }))
+  base_came k g few names = inr (inl (base_served n m b sound s k g real few names))
 
   start_by : (k w : ℕ) (write t : Bool) → k < 2 → m (Vcpu s k) ≡ w → (w == 0) ≡ t → HandComes n m b s (if t then b s else record (b s) { walk = Some (record { user = k == 1; write = write; writable = true; page = 0; reached = record { table = w - 1; level = 4 } ∷ []; touching = None }) })
   unfolding Member
@@ -94,70 +84,28 @@ module _ (n : Machine) (s : ℕ) (m : Place → ℕ) (b : ℕ → Holdings) (rea
   start_comes k write few = start_by k (m (Vcpu s k)) write _ few refl refl
 
   -- ---- a walk goes down through an entry
-  item_use : (g : ℕ) (p q : Bool) → (p ≡ true → q ≡ true) → Reach (sizes_of n) m (b s) g (if q then Writes else Reads) → Came n m b s g (if p then Writes else Reads)
-  item_use g true true e r = inl r
-  item_use g true false e r = absurd (let k = e refl in cc)
-  item_use g false true e r = inr (inr (refl, r))
-  item_use g false false e r = inl r
-
-  use_lowest : (level w : ℕ) → (level == 1) ≡ true → use_below level w ≡ (if is_bit 1 w then Writes else Reads)
-  use_lowest level w e = rw e refl
-
-  use_higher : (level w : ℕ) → (level == 1) ≡ false → use_below level w ≡ Table (level - 1)
-  use_higher level w e = rw e refl
-
   module _ (walk old : Walk) (f level i w : ℕ) (above : List Reached) (flying : (b s).walk ≡ Some old) (same : walk.reached ≡ old.reached)
       (reached : walk.reached ≡ record { table = f; level = level } ∷ above) (walks : IsTrue (is_walked level i)) (alike : CellAlike (m (Cell f i)) w)
       (present : is_bit 0 w ≡ true) (writable : walk.writable ≡ true → is_bit 1 w ≡ true) where
-    in_flight : (k : Reached) → Member k walk.reached → Member k (reached_by (b s).walk)
-    in_flight k e = subst (λ o. Member k (reached_by o)) (sym flying) (subst (λ xs. Member k xs) same e)
-
-    here : Reach (sizes_of n) m (b s) f (Table level)
-    unfolding Member
-    here = walked (record { table = f; level = level }) (in_flight _ (subst (λ xs. Member (record { table = f; level = level }) xs) (sym reached) (inl refl)))
-
-    target : frame_of w < (sizes_of n).frames → Reach (sizes_of n) m (b s) (frame_of w) (use_below level w)
-    target inside =
-        subst (λ g. Reach (sizes_of n) m (b s) g (use_below level w)) (sym alike.frame)
-        (subst (λ u. Reach (sizes_of n) m (b s) (frame_of (m (Cell f i))) u) (sym (use_alike level (m (Cell f i)) w alike))
-        (entry f level i here walks (sym alike.present ∙ present) (subst (λ g. g < (sizes_of n).frames) alike.frame inside)))
-
-    level_here : level_of walk ≡ level
-    level_here = ap level_in reached
-
-    cached_comes : frame_of w < (sizes_of n).frames → (level_of walk == 1) ≡ true →
+    cached_hand : frame_of w < (sizes_of n).frames → (level_of walk == 1) ≡ true →
         HandComes n m b s (record (b s) { walk = None; cache = cached_with (item_of walk w) (b s).cache })
     unfolding Member
-    cached_comes inside lowest =
+    cached_hand inside lowest =
         record {
           like = parts_like _ _ refl refl refl;
           claims = λ g k. k;
-          items = λ k e.
-              elim (Member-take 64 k (item_of walk w ∷ (b s).cache) e) [
-                | inl is ↦
-                    subst (λ j. Came n m b s j.frame (use_of j)) is
-                    (item_use (frame_of w) walk.writable (is_bit 1 w) writable
-                    (subst (λ u. Reach (sizes_of n) m (b s) (frame_of w) u) (use_lowest level w (subst (λ l. (l == 1) ≡ true) level_here lowest)) (target inside)))
-                | inr rest ↦ inl (cached k rest)
-              ];
+          items = cached_comes (sizes_of n) m (b s) (Came n m b s) (λ g u r. inl r) (λ g r. inr (inr (refl, r))) walk old f level i w above flying same reached walks alike present inside writable lowest;
           tables = λ k e. absurd e;
         }
 
-    deeper_comes : frame_of w < (sizes_of n).frames → (level_of walk == 1) ≡ false →
+    deeper_hand : frame_of w < (sizes_of n).frames → (level_of walk == 1) ≡ false →
         HandComes n m b s (record (b s) { walk = Some (record walk { reached = record { table = frame_of w; level = level_of walk - 1 } ∷ walk.reached; touching = None }) })
-    unfolding Member
-    deeper_comes inside higher =
+    deeper_hand inside higher =
         record {
           like = parts_like _ _ refl refl refl;
           claims = λ g k. k;
           items = λ k e. inl (cached k e);
-          tables = λ k e. elim e [
-            | inl is ↦
-                subst (λ j. Came n m b s j.table (Table j.level)) is
-                (inl (subst (λ l. Reach (sizes_of n) m (b s) (frame_of w) (Table (l - 1))) (sym level_here)
-                (subst (λ u. Reach (sizes_of n) m (b s) (frame_of w) u) (use_higher level w (subst (λ l. (l == 1) ≡ false) level_here higher)) (target inside))))
-            | inr rest ↦ inl (walked k (in_flight k rest))
-          ];
+          tables = deeper_comes (sizes_of n) m (b s) (Came n m b s) (λ g u r. inl r) (λ g r. inr (inr (refl, r))) walk old f level i w above flying same reached walks alike present inside higher;
         }
 
     pub descends : HandComes n m b s (descended n walk w (b s))
@@ -165,7 +113,7 @@ module _ (n : Machine) (s : ℕ) (m : Place → ℕ) (b : ℕ → Holdings) (rea
         if_comes (not (nat_lt (frame_of w) n.frames)) _ _ (λ out. no_walk)
         (λ inside.
         let within : frame_of w < (sizes_of n).frames = grind (arith, nat_tests) in
-        if_comes (level_of walk == 1) _ _ (cached_comes within) (deeper_comes within))
+        if_comes (level_of walk == 1) _ _ (cached_hand within) (deeper_hand within))
 
 module _ (n : Machine) (s : ℕ) (x : Step) (m m2 : Place → ℕ) (b c : ℕ → Holdings) (real : s < (sizes_of n).vcpus) (acted : Acted n s x m m2 b c) (sound : Sound n m b) where
   -- no word changes

@@ -1,6 +1,5 @@
 -- What is known of a step that is made at a place by an act.
-use Rattle.std.proofs.Common.{◌≡◌, ◌≢◌, ℕ, ◌==◌, if◌then◌else◌, Option, Some, IsTrue, refl, sym, ◌∙◌, inl, inr, arith}
-use Rattle.std.proofs.lemmas.Bool.Decides.{nat_tests}
+use Rattle.std.proofs.Common.{◌≡◌, ◌≢◌, ℕ, Option, Some, IsTrue, refl, sym, ◌∙◌, inl, inr}
 use Rattle.xp_words.specs.Machine.{Machine}
 use Rattle.xp_words.specs.Places.{Place, is_place, sizes_of}
 use Rattle.xp_board.specs.declared.step.Act.{Act}
@@ -15,16 +14,11 @@ use Rattle.xp_board.specs.Legal.{LegalAs, WritesSpelling, needs_running}
 use Rattle.xp_board.specs.Runs.{place_of}
 use Rattle.board_lemmas.proofs.PlaceTests.{same_or_other}
 use Rattle.step_effects.proofs.ActEffects.{Wrote}
+use Rattle.board_lemmas.proofs.Sums.{when_found, when_lost}
 
 -- no word changes where the word at p does not
 pub no_words : (p : Place) (m m2 : Place → ℕ) → m2 p ≡ m p → ((q : Place) → q ≢ p → m2 q ≡ m q) → (q : Place) → m2 q ≡ m q
 no_words p m m2 here elsewhere q = elim (same_or_other q p) [ inl e ↦ rw e here | inr k ↦ elsewhere q k ]
-
-pub when_found : {A : Type 0} (w e : ℕ) (y z : A) → w ≡ e → (if w == e then y else z) ≡ y
-when_found w e y z at = grind (arith, nat_tests)
-
-pub when_lost : {A : Type 0} (w e : ℕ) (y z : A) → w ≢ e → (if w == e then y else z) ≡ z
-when_lost w e y z off = grind (arith, nat_tests)
 
 module _ (n : Machine) (s : ℕ) (x : Step) (m m2 : Place → ℕ) (b c : Holdings) (mark : Option Mark) where
   -- what is known of a step at p by act a, of that kind

@@ -1,5 +1,5 @@
 -- The effects of legal acts on the reference word and on the kind word of a frame.
-use Rattle.std.proofs.Common.{◌≡◌, ℕ, ◌+◌, ◌%◌, ◌^◌, ◌⊎◌, Bool, true, false, Option, Some, None, refl, ap, subst, ◌∙◌, inl, inr, arith}
+use Rattle.std.proofs.Common.{◌≡◌, ℕ, ◌+◌, ◌%◌, ◌^◌, ◌⊎◌, Bool, true, false, Option, Some, None, refl, ap, subst, ◌∙◌, inl, inr}
 use Rattle.std.proofs.lemmas.Bool.{cases_eq}
 use Rattle.xp_words.specs.declared.refs.RefWord.{RefWord}
 use Rattle.xp_words.specs.declared.refs.RefWord.TheVariants.{Free, Owned, Dying}
@@ -20,13 +20,10 @@ use Rattle.xp_board.specs.Hands.{work_on}
 use Rattle.xp_board.specs.RefSteps.{MayRaise, MayClear, MayLower, AllowsRef, AllowsRefStore, Raise, Clear, ref_row, after_ref_row, after_ref_store, one_down}
 use Rattle.xp_board.specs.KindSteps.{AllowsKind, kind_row, after_kind_row, still_looking, unlocked_down, form_of, AllowsKindStore, after_kind_store}
 use Rattle.xp_board.specs.After.{noted}
-use Rattle.step_effects.proofs.Doing.{Doing, wrote_by, lost_words, lost_left, now_by, store_now, when_found, when_lost}
+use Rattle.step_effects.proofs.Doing.{Doing, wrote_by, lost_words, lost_left, now_by, store_now}
 use Rattle.step_effects.proofs.ActEffects.{Wrote, ActEffect, looked, raised, cleared, took, lowered, freed_frame, gave, turned, missed, dropped_type, unlocked_table, stored}
-
--- a word that is a spelling has these fields
-pub fields_of : (w : ℕ) (k : KindWord) → kind_read w ≡ Some k → kind_fields w ≡ k
-unfolding kind_read
-fields_of w k e = grind arith
+use Rattle.board_lemmas.proofs.Sums.{when_found, when_lost}
+use Rattle.board_lemmas.proofs.KindForms.{fields_of}
 
 raise_row : (o k : ℕ) (a : Bool) (r : RefWord) → r ≡ Owned o a (k + 1) → ref_row (Some (Owned o a k)) (Some r) ≡ Raise
 raise_row o k true r e = rw e refl

@@ -1,18 +1,14 @@
 -- Stores into cells that ask the same as before, or that no recorded entry reads: what entries lead to stays.
 use Rattle.std.proofs.Common.{◌≡◌, ◌≢◌, ℕ, ◌<◌, ◌≤◌, true, false, Option, Some, None, IsTrue, refl, sym, ◌∙◌, ap, inl, inr, arith}
 use Rattle.std.proofs.lemmas.Bool.{cases_Bool}
-use Rattle.std.proofs.lemmas.Bool.Decides.{nat_tests}
 use Rattle.xp_words.specs.declared.kind.KindWord.{KindWord}
 use Rattle.xp_words.specs.declared.kind.PageType.{PageType}
 use Rattle.xp_words.specs.declared.kind.PageType.TheVariants as kinds
 use Rattle.xp_words.specs.PageTypes.{is_table, type_number}
-use Rattle.xp_words.specs.Entries.{fixed}
-use Rattle.xp_words.specs.KindWords.{kind_read, kind_fields}
+use Rattle.xp_words.specs.KindWords.{kind_fields}
 use Rattle.xp_words.specs.Machine.{Machine}
-use Rattle.xp_words.specs.Places.{Place, Refs, Kind, Cell, sizes_of}
+use Rattle.xp_words.specs.Places.{Place, Refs, Cell, sizes_of}
 use Rattle.xp_board.specs.declared.step.Step.{Step}
-use Rattle.xp_board.specs.Spelling.{IsSpelling, is_kind_in}
-use Rattle.step_effects.proofs.FrameInversions.{fields_of}
 use Rattle.xp_board.specs.declared.holdings.Work.{Work}
 use Rattle.xp_board.specs.declared.holdings.Lock.{Lock}
 use Rattle.xp_board.specs.declared.holdings.Claimed.{Claimed}
@@ -30,10 +26,11 @@ use Rattle.board_lemmas.proofs.HandLists.{first-some}
 use Rattle.board_lemmas.proofs.Counted.{type_below}
 use Rattle.board_lemmas.proofs.WorkFacts.{works_facts}
 use Rattle.board_lemmas.proofs.Recordless.{idle_held, closing_counted, closing_busy}
-use Rattle.type_rule.proofs.QuietActs.{dying_in_hand}
 use Rattle.board_lemmas.proofs.HeldByForm.{held_table}
 use Rattle.type_rule.proofs.CellAct.{CellAct, cell_valid, cell_permitted}
 use Rattle.board_lemmas.proofs.LockFacts.{lock_facts, rewritten_same}
+use Rattle.board_lemmas.proofs.Works.{dying_in_hand}
+use Rattle.board_lemmas.proofs.EntryWords.{fixed_by}
 
 -- ---- types
 pub desc_no_table : (t : PageType) → t ≡ kinds.Desc → is_table t ≡ true → ⊥
@@ -51,24 +48,12 @@ level_no_desc t l e few d = let k : type_number t ≡ 5 = rw d refl in absurd (o
 pub seven_no_desc : (t : PageType) → type_number t ≡ 7 → t ≡ kinds.Desc → ⊥
 seven_no_desc t e d = let k : type_number t ≡ 5 = rw d refl in absurd (omega arith)
 
--- a word that is a spelling is read as its fields
-some_read : (o : Option KindWord) (n : Machine) (w : ℕ) → kind_read w ≡ o → IsTrue (is_kind_in n o) → kind_read w ≡ Some (kind_fields w)
-some_read (Some k) n w e h = e ∙ ap Some (sym (fields_of w k e))
-some_read None n w e h = absurd (cc)
-
-pub read_of : (n : Machine) (f w : ℕ) → IsSpelling n (Kind f) w → kind_read w ≡ Some (kind_fields w)
-unfolding IsSpelling
-read_of n f w h = some_read (kind_read w) n w refl h
-
 live_closing : (k : KindWord) → IsTrue (is_live k) → type_count k ≡ 0 → is_closing k ≡ false → ⊥
 unfolding type_count
 live_closing k live none closed = let v : k.number ≡ 0 = (let q = rw live at none in q) in let t : is_closing k ≡ true = rw (live, v) refl in cc
 
 work_not_live : (k : KindWord) → IsTrue (is_work k) → IsTrue (is_live k) → ⊥
 work_not_live k work live = let t : is_work k ≡ false = rw live refl in cc
-
-own_fixed : (w : ℕ) → fixed w ≡ Some w → IsTrue (is_fixed w)
-own_fixed w e = rw e (grind (arith, nat_tests))
 
 module _ (n : Machine) (s : ℕ) (x : Step) (m m2 : Place → ℕ) (b c : ℕ → Holdings) (real : s < (sizes_of n).vcpus) (sound : Sound n m b)
     (others : (t : ℕ) → t ≢ s → c t ≡ b t) where
@@ -123,7 +108,7 @@ module _ (n : Machine) (s : ℕ) (x : Step) (m m2 : Place → ℕ) (b c : ℕ �
       (i < held (sizes_of n) m b f → ⊥) × (IsTrue (is_live (kind_at m f)) → (kind_at m f).kind ≡ kinds.Desc → IsTrue (is_fixed (m2 (Cell f i))))
   filled_by f i (Some k) e claim work may =
       let some = first-some (λ y. y.frame) f k (b s).claimed claim in
-      let none = dying_in_hand n m b s f sound.alone real (omega arith) in
+      let none = dying_in_hand n m b sound.alone f s real (omega arith) in
       (λ l. let z = free_held f none in absurd (omega arith), λ live desc. absurd (free_not_live f none live))
   filled_by f i None (Some e) claim work may =
       let k = works_facts n m b s f e sound real work in
@@ -139,7 +124,7 @@ module _ (n : Machine) (s : ℕ) (x : Step) (m m2 : Place → ℕ) (b c : ℕ �
         ],
         λ is desc. elim may.ordinary [
           | inl writable ↦ absurd (let e : kinds.Desc ≡ kinds.Writable = sym desc ∙ live.1 ∙ writable in cc)
-          | inr fix ↦ own_fixed (m2 (Cell f i)) fix.1
+          | inr fix ↦ fixed_by (m2 (Cell f i)) (m2 (Cell f i)) fix.1
         ],
       )
 

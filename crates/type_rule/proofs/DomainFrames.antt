@@ -1,5 +1,5 @@
 -- Dying and dead domains: acts on the reference word of a frame.
-use Rattle.std.proofs.Common.{◌≡◌, ◌≢◌, ℕ, ◌<◌, Bool, false, length, Some, None, IsTrue, refl, sym, ◌∙◌, ap, inl, inr, arith}
+use Rattle.std.proofs.Common.{◌≡◌, ◌≢◌, ℕ, ◌<◌, false, length, Some, IsTrue, refl, sym, ◌∙◌, ap, inl, inr, arith}
 use Rattle.std.proofs.lemmas.Bool.{cases_eq}
 use Rattle.xp_words.specs.declared.refs.RefWord.TheVariants.{Free, Owned, Dying}
 use Rattle.xp_words.specs.RefWords.{ref_read, ref_write, IsRef}
@@ -19,18 +19,7 @@ use Rattle.type_rule.proofs.RefWordLaws.{SameOwner, one_more_keeps, one_less_kee
 use Rattle.board_lemmas.proofs.Counted.{in_hand_counted}
 use Rattle.type_rule.proofs.DomainLaw.{AllStopped, DomainWords, DomainChange}
 use Rattle.type_rule.proofs.DomainWords.{kept_after, change_by, not_stopped}
-
-pub owner_read : (w o c : ℕ) (a : Bool) → ref_read w ≡ Some (Owned o a c) → owner_of w ≡ Some o
-unfolding owner_of
-owner_read w o c a e = rw e refl
-
-pub dying_read : (w o : ℕ) → ref_read w ≡ Some (Dying o) → owner_of w ≡ Some o
-unfolding owner_of
-dying_read w o e = rw e refl
-
-pub free_read : (w t : ℕ) → ref_read w ≡ Some (Free t) → owner_of w ≡ None
-unfolding owner_of
-free_read w t e = rw e refl
+use Rattle.xp_board.proofs.RefWords.{owned_says, dying_says, free_says}
 
 unallocated_read : (w o c : ℕ) → ref_read w ≡ Some (Owned o false c) → IsTrue (is_unallocated w)
 unfolding allocated_mark
@@ -49,7 +38,7 @@ domain_below n s k real =
 
 dying_owner : (o : ℕ) → o < 16 → owner_of (ref_write (Dying o)) ≡ Some o
 unfolding IsRef
-dying_owner o b = dying_read (ref_write (Dying o)) o (ref_read-write (Dying o) (omega arith))
+dying_owner o b = (dying_says (ref_write (Dying o)) o (ref_read-write (Dying o) (omega arith))).owned
 
 module _ (n : Machine) (s : ℕ) (x : Step) (m m2 : Place → ℕ) (b c : ℕ → Holdings) (real : s < (sizes_of n).vcpus) (sound : Sound n m b)
     (others : (t : ℕ) → t ≢ s → c t ≡ b t) where
@@ -91,7 +80,7 @@ module _ (n : Machine) (s : ℕ) (x : Step) (m m2 : Place → ℕ) (b c : ℕ �
       change_by n s x m m2 b c others (Refs f) _ d.wrote.place d.wrote.left d.hand refl
       (ref_words f d.wrote.others (ap (λ u. u.looking) d.hand)
       (record {
-        owner = λ q all e. owner_read _ _ _ _ d.was ∙ sym (owner_read _ _ _ _ d.is) ∙ e;
+        owner = λ q all e. (owned_says _ _ _ _ d.was).owned ∙ sym ((owned_says _ _ _ _ d.is).owned) ∙ e;
         unallocated = λ q all o u. unallocated_read _ _ _ d.is;
       }))
 
@@ -101,9 +90,9 @@ module _ (n : Machine) (s : ℕ) (x : Step) (m m2 : Place → ℕ) (b c : ℕ �
       (ref_words f d.wrote.others (ap (λ u. u.looking) d.hand)
       (record {
         owner = λ q all e.
-            let now : owner_of (m2 (Refs f)) ≡ Some (domain_of n s) = dying_read _ _ (d.is ∙ ap Some d.may.left) in
+            let now : owner_of (m2 (Refs f)) ≡ Some (domain_of n s) = (dying_says _ _ (d.is ∙ ap Some d.may.left)).owned in
             absurd (running (d.wrote.running refl) q (let k : Some (domain_of n s) ≡ Some q = sym now ∙ e in cc) all);
-        unallocated = λ q all o u. let was = free_read _ _ d.was in absurd (cc);
+        unallocated = λ q all o u. let was = (free_says _ _ d.was).owned in absurd (cc);
       }))
 
   pub lowered_change : (f : ℕ) → Lowered n x f m m2 (b s) (c s) → DomainChange n s x m m2 b c
@@ -118,7 +107,7 @@ module _ (n : Machine) (s : ℕ) (x : Step) (m m2 : Place → ℕ) (b c : ℕ �
       change_by n s x m m2 b c others (Refs f) _ d.wrote.place d.wrote.left d.hand refl
       (ref_words f d.wrote.others (ap (λ u. u.looking) d.hand)
       (record {
-        owner = λ q all e. let now = free_read _ _ d.is in absurd (cc);
+        owner = λ q all e. let now = (free_says _ _ d.is).owned in absurd (cc);
         unallocated = λ q all o u. free_unallocated _ _ d.is;
       }))
 
@@ -131,7 +120,7 @@ module _ (n : Machine) (s : ℕ) (x : Step) (m m2 : Place → ℕ) (b c : ℕ �
 
   pub gave_change : (f : ℕ) → Gave n s x f m m2 (b s) (c s) → DomainChange n s x m m2 b c
   gave_change f d =
-      let now : owner_of (m2 (Refs f)) ≡ Some (domain_of n s) = owner_read _ _ _ _ d.is ∙ ap Some d.may.own in
+      let now : owner_of (m2 (Refs f)) ≡ Some (domain_of n s) = (owned_says _ _ _ _ d.is).owned ∙ ap Some d.may.own in
       change_by n s x m m2 b c others (Refs f) _ d.wrote.place d.wrote.left d.hand refl
       (ref_words f d.wrote.others (ap (λ u. u.looking) d.hand)
       (record {

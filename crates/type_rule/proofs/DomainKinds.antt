@@ -1,26 +1,25 @@
 -- Dying and dead domains: acts on the kind word of a frame.
 use Rattle.std.proofs.Common.{◌≡◌, ◌≢◌, ℕ, ◌<◌, ◌==◌, ◌||◌, ◌⊎◌, not, Bool, true, false, List, [], ◌∷◌, Some, IsTrue, refl, sym, ◌∙◌, ap, subst, inl, inr, arith}
-use Rattle.std.proofs.lemmas.Bool.{cases_eq, and_parts}
+use Rattle.std.proofs.lemmas.Bool.{cases_eq}
 use Rattle.std.proofs.lemmas.Bool.Decides.{nat_tests}
 use Rattle.xp_words.specs.declared.kind.KindWord.{KindWord}
-use Rattle.xp_words.specs.KindWords.{kind_read, kind_fields}
+use Rattle.xp_words.specs.KindWords.{kind_read}
 use Rattle.xp_words.specs.Machine.{Machine}
 use Rattle.xp_words.specs.Places.{Place, Vcpu, Refs, Kind, sizes_of, run_of}
 use Rattle.xp_board.specs.declared.step.Step.{Step}
 use Rattle.xp_board.specs.declared.holdings.Looking.{Looking}
 use Rattle.xp_board.specs.declared.holdings.Holdings.{Holdings}
 use Rattle.xp_board.specs.Lists.{Member, EachOf}
-use Rattle.xp_board.specs.Readings.{kind_at, is_partial, type_count, owner_of, domain_of}
+use Rattle.xp_board.specs.Readings.{kind_at, is_partial, owner_of, domain_of}
 use Rattle.xp_board.specs.KindSteps.{KindRow, Count, Locks, Pin, Unpin, Resume, TakeBack, Begin, AllowsKindRow, still_looking}
 use Rattle.xp_board.specs.WellFormed.{IsLookingFormed}
 use Rattle.xp_board.specs.Sound.{Sound, KeptForNobody}
-use Rattle.board_lemmas.proofs.KindForms.{live_form, fields_down, fields_unlocked}
+use Rattle.board_lemmas.proofs.KindForms.{live_form}
 use Rattle.step_effects.proofs.ActEffects.{Turned, Missed, Dropped, Unlocked}
-use Rattle.board_lemmas.proofs.Counted.{typed_counted}
-use Rattle.board_lemmas.proofs.Works.{is_locked-mine}
 use Rattle.type_rule.proofs.HandParts.{two_row}
 use Rattle.type_rule.proofs.DomainLaw.{AllStopped, DomainWords, DomainChange}
 use Rattle.type_rule.proofs.DomainWords.{LooksOn, kept_after, kept_member, change_by, not_stopped, same_words}
+use Rattle.board_lemmas.proofs.CountsDown.{drop_live, drop_word, lock_live, unlock_word}
 
 -- ---- looking
 member_each : (P : Looking → Type 0) (e : Looking) (xs : List Looking) → EachOf P xs → Member e xs → P e
@@ -133,25 +132,17 @@ module _ (n : Machine) (s : ℕ) (x : Step) (m m2 : Place → ℕ) (b c : ℕ �
       }
 
   pub dropped_change : (f : ℕ) → Dropped n x f m m2 (b s) (c s) → DomainChange n s x m m2 b c
-  unfolding type_count
   dropped_change f d =
-      let live : (kind_at m f).validated ≡ true = ((sound.found s real).lives f d.may.kind d.may.live).0 in
-      let counted = typed_counted (sizes_of n) m b s f real sound.counts in
-      let some : 0 < (kind_at m f).number = let i = d.may.in_hand in let q = rw live at counted in omega arith in
-      let now : kind_at m2 f ≡ _ = ap kind_fields d.is ∙ fields_down (m (Kind f)) (sound.spelled.small (Kind f)) some in
+      let live = drop_live n m b sound s real f d.may in
+      let now = drop_word n m b sound s real f d.may (m2 (Kind f)) d.is in
       change_by n s x m m2 b c others (Kind f) _ d.wrote.place d.wrote.left d.hand refl
       (kind_words f d.wrote.others (λ g off e there at w alive. rw (ap (λ u. u.looking) d.hand) there)
       (same_marks f live (ap (λ k. k.pinned) now) (ap (λ k. k.kept) now)))
 
   pub unlocked_change : (f : ℕ) → Unlocked n x f m m2 (b s) (c s) → DomainChange n s x m m2 b c
-  unfolding type_count
   unlocked_change f d =
-      let lock = is_locked-mine n m b sound.alone f s real d.may in
-      let live : (kind_at m f).validated ≡ true = (and_parts _ _ lock).0 in
-      let set : (kind_at m f).locked ≡ true = (and_parts _ _ lock).1 in
-      let counted = typed_counted (sizes_of n) m b s f real sound.counts in
-      let some : 0 < (kind_at m f).number = let i = d.may in let q = rw live at counted in omega arith in
-      let now : kind_at m2 f ≡ _ = ap kind_fields d.is ∙ fields_unlocked (m (Kind f)) (sound.spelled.small (Kind f)) some set in
+      let live = lock_live n m b sound s real f d.may in
+      let now = unlock_word n m b sound s real f d.may (m2 (Kind f)) d.is in
       change_by n s x m m2 b c others (Kind f) _ d.wrote.place d.wrote.left d.hand refl
       (kind_words f d.wrote.others (λ g off e there at w alive. rw (ap (λ u. u.looking) d.hand) there)
       (same_marks f live (ap (λ k. k.pinned) now) (ap (λ k. k.kept) now)))

@@ -1,6 +1,6 @@
 -- Dying and dead domains after a step.
-use Rattle.std.proofs.Common.{◌≡◌, ◌≢◌, ℕ, ◌+◌, ◌<◌, ◌≤◌, ◌==◌, not, Bool, true, false, ◌∷◌, length, Some, IsTrue, refl, sym, ◌∙◌, ap, subst, inl, inr, arith}
-use Rattle.std.proofs.lemmas.Bool.{cases_eq, cases_Bool}
+use Rattle.std.proofs.Common.{◌≡◌, ◌≢◌, ℕ, ◌+◌, ◌<◌, ◌≤◌, ◌==◌, not, Bool, true, false, ◌∷◌, length, Some, IsTrue, sym, ◌∙◌, inl, inr, arith}
+use Rattle.std.proofs.lemmas.Bool.{cases_eq, cases_Bool, not-true}
 use Rattle.std.proofs.lemmas.Bool.Decides.{nat_tests}
 use Rattle.xp_words.specs.Machine.{Machine}
 use Rattle.xp_words.specs.Places.{Place, Life, Vcpu, Refs, Kind, sizes_of, run_of}
@@ -14,7 +14,7 @@ use Rattle.xp_board.specs.LifeSteps.{HasStopped, is_unallocated, is_unpinned, is
 use Rattle.xp_board.specs.Found.{StoppedFound}
 use Rattle.xp_board.specs.Runs.{place_of}
 use Rattle.xp_board.specs.Sound.{Sound, KeptForNobody, DeadDomain, DyingDomain, Domains}
-use Rattle.board_lemmas.proofs.StepLists.{Hit, since_more, before_more, between_more, since_within, found_between}
+use Rattle.board_lemmas.proofs.StepLists.{Hit, since_more, before_more, between_more, since_within, found_between, hit_left}
 
 -- all vCPUs of the domain are stopped
 abbrev pub AllStopped : Machine → (Place → ℕ) → ℕ → Type 0
@@ -44,10 +44,6 @@ is_zero w e = grind (arith, nat_tests)
 pub is_one : (w : ℕ) → (w == 1) ≡ true → w ≡ 1
 is_one w e = grind (arith, nat_tests)
 
-is_other : (b : Bool) → not b ≡ true → b ≡ false
-is_other true e = cc
-is_other false e = refl
-
 owned_by : (d w : ℕ) → is_owned_by d w ≡ true → owner_of w ≡ Some d
 owned_by d w e = grind (arith, nat_tests)
 
@@ -60,7 +56,7 @@ module _ (n : Machine) (s : ℕ) (x : Step) (m m2 : Place → ℕ) (b c : ℕ �
 
   -- what this step left at p stands there
   left_there : (p : Place) (test : ℕ → Bool) → Hit (sizes_of n) p test made → test (m2 p) ≡ true
-  left_there p test a = subst (λ q. test (m2 q) ≡ true) a.place (ap test (sym k.left) ∙ a.passes)
+  left_there p test a = hit_left (sizes_of n) m2 p test made k.left a
 
   pub dead_law : (d : ℕ) → m (Life d) ≢ 0 → DeadDomain n m b d → DeadDomain n m2 c d
   dead_law d gone y =
@@ -187,7 +183,7 @@ module _ (n : Machine) (s : ℕ) (x : Step) (m m2 : Place → ℕ) (b c : ℕ �
             ];
         other = λ f a h found.
             elim (since_more (sizes_of n) a (Refs f) (λ w. not (is_owned_by d w)) made (b s).steps (rw k.steps at found)) [
-              | inl now ↦ is_other (is_owned_by d (m2 (Refs f))) (left_there (Refs f) (λ w. not (is_owned_by d w)) now.0)
+              | inl now ↦ not-true (is_owned_by d (m2 (Refs f))) (left_there (Refs f) (λ w. not (is_owned_by d w)) now.0)
               | inr old ↦
                   (let was_h = older d a (Refs f) (λ w. not (is_owned_by d w)) h old in
                   still_other d f (all_stopped d s a stopped was_h) (y.other f a was_h old))

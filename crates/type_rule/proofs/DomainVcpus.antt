@@ -14,12 +14,7 @@ use Rattle.type_rule.proofs.HandParts.{three_name_in, three_name_out, three_own,
 use Rattle.type_rule.proofs.DomainLaw.{DomainWords, DomainChange}
 use Rattle.type_rule.proofs.DomainWords.{kept_after, change_by, runs}
 use Rattle.type_rule.proofs.DomainOthers.{own_two}
-
-not_six : (k : ℕ) → IsTrue (is_context k) → k ≡ 6 → ⊥
-not_six k u e = let t = rw e at u in cc
-
-not_seven : (k : ℕ) → IsTrue (is_context k) → k ≡ 7 → ⊥
-not_seven k u e = let t = rw e at u in cc
+use Rattle.board_lemmas.proofs.Counted.{not_context}
 
 module _ (n : Machine) (s : ℕ) (x : Step) (m m2 : Place → ℕ) (b c : ℕ → Holdings) (real : s < (sizes_of n).vcpus) (sound : Sound n m b)
     (others : (t : ℕ) → t ≢ s → c t ≡ b t) where
@@ -49,7 +44,7 @@ module _ (n : Machine) (s : ℕ) (x : Step) (m m2 : Place → ℕ) (b c : ℕ �
       let own = three_own s v k (m (Vcpu v k)) (m2 (Vcpu v k)) (named_in k (m (Vcpu v k)) (named_out (m2 (Vcpu v k)) (b s))) in
       change_by n s x m m2 b c others (Vcpu v k) _ d.wrote.place d.wrote.left d.hand (own.steps ∙ back.steps ∙ out.steps)
       (vcpu_words v k d.wrote.others (ap (λ u. u.looking) d.hand ∙ own.looking ∙ back.looking ∙ out.looking)
-      (λ six e. absurd (not_six k d.word six))
+      (λ six e. absurd (not_context 6 k refl d.word six))
       (λ u e z. elim d.may [
         | inl name ↦ absurd (let r = runs n s x m m2 b c others sound real (d.wrote.running refl) in let q = rw (name.own) at e in omega arith)
         | inr empty ↦ empty.none
@@ -58,7 +53,7 @@ module _ (n : Machine) (s : ℕ) (x : Step) (m m2 : Place → ℕ) (b c : ℕ �
   pub based_change : (v : ℕ) → Based n s x v m m2 (b s) (c s) → DomainChange n s x m m2 b c
   based_change v d =
       change_by n s x m m2 b c others (ldt_base_of v) _ d.wrote.place d.wrote.left d.hand refl
-      (vcpu_words v 7 d.wrote.others (ap (λ u. u.looking) d.hand) (λ six e. absurd (cc)) (λ u e z. absurd (not_seven 7 u refl)))
+      (vcpu_words v 7 d.wrote.others (ap (λ u. u.looking) d.hand) (λ six e. absurd (cc)) (λ u e z. absurd (not_context 7 7 refl u refl)))
 
   stays_stopped : m (run_of s) ≡ 1 → (new : ℕ) → AllowsRun new (b s) → new ≡ 1
   stays_stopped e new (inl stop) = stop.0
@@ -71,4 +66,4 @@ module _ (n : Machine) (s : ℕ) (x : Step) (m m2 : Place → ℕ) (b c : ℕ �
       let own = own_two n s x m m2 b c real sound others 6 (m2 (run_of s)) (ran_now (m2 (run_of s)) (b s)) in
       change_by n s x m m2 b c others (run_of s) _ d.wrote.place d.wrote.left d.hand (own.steps ∙ first.steps)
       (vcpu_words s 6 d.wrote.others (ap (λ u. u.looking) d.hand ∙ own.looking ∙ first.looking)
-      (λ six e. stays_stopped e (m2 (run_of s)) d.may) (λ u e z. absurd (not_six 6 u refl)))
+      (λ six e. stays_stopped e (m2 (run_of s)) d.may) (λ u e z. absurd (not_context 6 6 refl u refl)))

@@ -1,5 +1,5 @@
 -- Acts that change no mark of a frame, and no word of a vCPU that counts here.
-use Rattle.std.proofs.Common.{◌≡◌, ◌≢◌, ℕ, ◌<◌, ◌==◌, ◌⊎◌, not, Bool, true, false, List, [], ◌∷◌, Some, IsTrue, refl, sym, ◌∙◌, ap, inl, inr, arith}
+use Rattle.std.proofs.Common.{◌≡◌, ◌≢◌, ℕ, ◌<◌, ◌==◌, not, Bool, true, false, List, [], ◌∷◌, Some, refl, sym, ◌∙◌, ap, inl, inr, arith}
 use Rattle.std.proofs.lemmas.Bool.{cases_eq, cases_Bool}
 use Rattle.std.proofs.lemmas.Bool.Decides.{nat_tests}
 use Rattle.xp_words.specs.Machine.{Machine}
@@ -9,11 +9,12 @@ use Rattle.xp_board.specs.declared.holdings.Looking.{Looking}
 use Rattle.xp_board.specs.declared.holdings.Holdings.{Holdings}
 use Rattle.xp_board.specs.Acts.{left_by}
 use Rattle.xp_board.specs.Lists.{kept_of, Member}
-use Rattle.xp_board.specs.Readings.{is_context, domain_of}
+use Rattle.xp_board.specs.Readings.{domain_of}
 use Rattle.xp_board.specs.After.{noted, learned_life}
 use Rattle.xp_board.specs.Runs.{place_of}
 use Rattle.xp_board.specs.Sound.{Sound, KeptForNobody}
 use Rattle.type_rule.proofs.DomainLaw.{AllStopped, DomainWords, DomainChange}
+use Rattle.board_lemmas.proofs.Counted.{not_context}
 
 -- ---- looking
 pub kept_member : (test : Looking → Bool) (e : Looking) (xs : List Looking) → Member e xs → test e ≡ true → Member e (kept_of test xs)
@@ -38,10 +39,6 @@ learned_alive d w b e there alive =
           rw zero_found (kept_member (λ y. not (y.owner == d)) e b.looking there (rw other refl))
       | inr found ↦ (let t : (w == 0) ≡ false = grind (arith, nat_tests) in rw t there)
     ]
-
-not_context : (k : ℕ) → IsTrue (is_context k) → (k ≡ 4) ⊎ (k ≡ 5) → ⊥
-not_context k u (inl q) = absurd (let t = rw q at u in cc)
-not_context k u (inr q) = absurd (let t = rw q at u in cc)
 
 module _ (n : Machine) (s : ℕ) (x : Step) (m m2 : Place → ℕ) (b c : ℕ → Holdings) (others : (t : ℕ) → t ≢ s → c t ≡ b t) where
   -- the seat goes on looking at a frame whose kind word stays, where the domain is not alive
@@ -71,7 +68,7 @@ module _ (n : Machine) (s : ℕ) (x : Step) (m m2 : Place → ℕ) (b c : ℕ �
   same_words vcpus refs kinds looks =
       record {
         stopped = λ v e. vcpus v 6 (λ z. absurd (cc)) (λ z. absurd (cc)) ∙ e;
-        empty = λ v k u e z. vcpus v k (λ q. not_context k u (inl q)) (λ q. not_context k u (inr q)) ∙ z;
+        empty = λ v k u e z. vcpus v k (λ q. not_context 4 k refl u q) (λ q. not_context 5 k refl u q) ∙ z;
         owners = λ d f all e. rw (refs f) at e;
         unallocated = λ d f all o u. rw (refs f) u;
         unpinned = λ d f all o u. rw (kinds f) u;

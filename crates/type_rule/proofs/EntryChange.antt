@@ -1,5 +1,5 @@
 -- Recorded entries after an act: those that were recorded before, and what they lead to.
-use Rattle.std.proofs.Common.{◌≡◌, ◌≢◌, ℕ, ◌<◌, ◌||◌, ◌⊎◌, Bool, true, ◌∷◌, None, IsTrue, refl, sym, ◌∙◌, ap, subst, inl, inr, arith}
+use Rattle.std.proofs.Common.{◌≡◌, ◌≢◌, ℕ, ◌<◌, ◌||◌, ◌⊎◌, Bool, true, ◌∷◌, None, IsTrue, refl, sym, ◌∙◌, ap, inl, inr, arith}
 use Rattle.std.proofs.lemmas.Bool.{cases_eq}
 use Rattle.xp_words.specs.declared.kind.PageType.{PageType}
 use Rattle.xp_words.specs.declared.entry.Demand.TheVariants.{Typed}
@@ -15,7 +15,7 @@ use Rattle.xp_board.specs.Readings.{kind_at, is_live, is_work, is_partial, is_li
 use Rattle.xp_board.specs.Recorded.{held, held_of, entry_demand, recorded_in, recorded_number, work_of}
 use Rattle.xp_board.specs.Valid.{LeadsWell, IsUnsettled, IsLastOfPartial}
 use Rattle.xp_board.specs.Runs.{place_of}
-use Rattle.board_lemmas.proofs.StepLists.{Hit, since_false}
+use Rattle.board_lemmas.proofs.StepLists.{Hit, since_false, hit_left}
 use Rattle.type_rule.proofs.Works.{WorkKeptIn, kept_work, kept_since, recorded_same}
 use Rattle.board_lemmas.proofs.Works.{work_of-same, work_of-mine}
 
@@ -38,7 +38,7 @@ module _ (n : Machine) (s : ℕ) (x : Step) (m m2 : Place → ℕ) (b c : ℕ �
 
   -- what this step left there stands there
   pub stands : (p : Place) (test : ℕ → Bool) → Hit (sizes_of n) p test made → test (m2 p) ≡ true
-  stands p test a = subst (λ q. test (m2 q) ≡ true) a.place (ap test (sym one.left) ∙ a.passes)
+  stands p test a = hit_left (sizes_of n) m2 p test made one.left a
 
   -- ---- an unsettled entry, of a table of which the seats keep what they have
   still_unfound : (f i g : ℕ) → WorkKeptIn (work_on f (b s).works) (work_on f (c s).works) → (u : IsUnsettled (sizes_of n) b f i g) → u.seat ≡ s →

@@ -1,5 +1,5 @@
 -- An entry is recorded, or comes back into the hand: what entries lead to and whom they are permitted.
-use Rattle.std.proofs.Common.{◌≡◌, ◌≢◌, ℕ, ◌+◌, ◌<◌, ◌||◌, true, false, List, length, Option, Some, None, IsTrue, refl, sym, ◌∙◌, ap, inl, inr, arith}
+use Rattle.std.proofs.Common.{◌≡◌, ◌≢◌, ℕ, ◌+◌, ◌<◌, ◌||◌, true, false, length, Some, None, IsTrue, refl, sym, ◌∙◌, ap, inl, inr, arith}
 use Rattle.std.proofs.lemmas.Bool.{cases_eq, cases_Bool}
 use Rattle.std.proofs.lemmas.Bool.Decides.{nat_tests}
 use Rattle.xp_words.specs.declared.kind.KindWord.{KindWord}
@@ -10,18 +10,15 @@ use Rattle.xp_words.specs.Entries.{demand_at}
 use Rattle.xp_words.specs.PageTypes.{is_table}
 use Rattle.xp_words.specs.KindWords.{kind_fields}
 use Rattle.xp_words.specs.Machine.{Machine}
-use Rattle.xp_words.specs.Places.{Place, Kind, Cell, sizes_of}
-use Rattle.xp_board.specs.declared.holdings.Made.{Made}
-use Rattle.xp_board.specs.declared.holdings.Seen.{Seen}
+use Rattle.xp_words.specs.Places.{Place, Kind, sizes_of}
 use Rattle.xp_board.specs.declared.holdings.Work.{Work}
 use Rattle.xp_board.specs.declared.holdings.Holdings.{Holdings}
-use Rattle.xp_board.specs.Steps.{some_since, last_since}
+use Rattle.xp_board.specs.Steps.{some_since}
 use Rattle.xp_board.specs.Hands.{work_on, changed_work}
 use Rattle.xp_board.specs.Readings.{kind_at, is_live, is_work, is_partial, is_live_word, type_count}
 use Rattle.xp_board.specs.Knowledge.{knows_live}
 use Rattle.xp_board.specs.Settling.{HasTyped, HasLastDemand}
 use Rattle.xp_board.specs.Marks.{demand_seen, unsettled_by, seen_word}
-use Rattle.xp_board.specs.WellFormed.{SeenIs}
 use Rattle.xp_board.specs.Recorded.{held, held_of, entry_demand, recorded_in, recorded_number}
 use Rattle.xp_board.specs.Valid.{Valid, Permitted, LeadsWell}
 use Rattle.xp_board.specs.Sound.{Sound}
@@ -30,21 +27,14 @@ use Rattle.board_lemmas.proofs.Counted.{typed_counted}
 use Rattle.board_lemmas.proofs.Works.{work_of-mine, nobody_else}
 use Rattle.type_rule.proofs.HandParts.{three_in, three_out}
 use Rattle.board_lemmas.proofs.ListChanges.{first_by-changed_other, first_by-changed_here}
-use Rattle.board_lemmas.proofs.WorkFacts.{Works, works_facts}
-use Rattle.type_rule.proofs.Settled.{seen_asks, settled_found, unsettled_mine}
-use Rattle.type_rule.proofs.KindRows.{unfound_yet}
-use Rattle.type_rule.proofs.KindHeld.{busy_partial}
+use Rattle.board_lemmas.proofs.WorkFacts.{Works, works_facts, loaded_asks}
+use Rattle.type_rule.proofs.Settled.{settled_found, unsettled_mine}
 use Rattle.type_rule.proofs.ValidLaw.{NewEntry}
 use Rattle.type_rule.proofs.NewEntries.{owners_permit, demand_new}
 use Rattle.type_rule.proofs.MarkRows.{MarkOn, mark_valid, mark_permitted}
-
-table_count : (k : KindWord) (r : ℕ) → is_table k.kind ≡ true → held_of k (Some r) ≡ r
-unfolding held_of
-table_count k r t = rw t refl
-
-seen_last : (n : Machine) (f k : ℕ) (xs : List Made) (o : Option Seen) (i w : ℕ) → SeenIs (sizes_of n) k f xs o → o ≡ Some (record { index = i; word = w }) →
-    last_since (sizes_of n) k (Cell f i) xs ≡ Some w
-seen_last n f k xs o i w h at = rw at at h
+use Rattle.board_lemmas.proofs.KindReadings.{busy_partial}
+use Rattle.board_lemmas.proofs.MoreSteps.{none_since}
+use Rattle.board_lemmas.proofs.HeldByForm.{held_table_work}
 
 counted_form : (k : KindWord) → 0 < type_count k → is_live k ≡ false → IsTrue (is_partial k || is_work k)
 unfolding type_count
@@ -63,7 +53,7 @@ module _ (n : Machine) (s : ℕ) (m : Place → ℕ) (h b : ℕ → Holdings) (r
   unfolding recorded_in
   held_mine u f e alone here table =
       ap (λ o. held_of (kind_at m f) o) (work_of-mine (sizes_of n).vcpus u s f real (λ t l off. ap recorded_number (alone t l off)) ∙ ap recorded_number here)
-      ∙ table_count (kind_at m f) e.recorded table
+      ∙ held_table_work (kind_at m f) e.recorded table
 
   -- ---- an entry is recorded
   module _ (f upto : ℕ) (d : Recorded n f upto (h s) (b s)) where
@@ -97,11 +87,8 @@ module _ (n : Machine) (s : ℕ) (m : Place → ℕ) (h b : ℕ → Holdings) (r
     unfolding more
     held_b = held_mine b f (more d.e) (λ t l off. rw (others t off) (alone_h t l off)) here table
 
-    seen_at : last_since (sizes_of n) d.e.unmarked (Cell d.e.frame d.e.recorded) (h s).steps ≡ Some d.may.word
-    seen_at = seen_last n d.e.frame d.e.unmarked (h s).steps d.e.seen d.e.recorded d.may.word k.formed.seen d.may.seen
-
     asks : demand_at (kind_fields d.e.word).kind d.e.recorded d.may.word ≡ entry_demand m f d.e.recorded
-    asks = seen_asks n m h s f d.e.recorded d.may.word d.e k d.may.table d.may.unmarked seen_at
+    asks = loaded_asks n m h s f d.e k d.e.recorded d.may.word d.may.table d.may.seen
 
     seen_is : demand_seen d.e.recorded d.e ≡ entry_demand m f d.e.recorded
     seen_is = ap (λ o. demand_at (kind_fields d.e.word).kind d.e.recorded (seen_word o)) d.may.seen ∙ asks
@@ -128,7 +115,7 @@ module _ (n : Machine) (s : ℕ) (m : Place → ℕ) (h b : ℕ → Holdings) (r
                         last = refl;
                         unsettled = record { since = length (h s).steps; word = Some (seen_word d.e.seen) };
                         kept = unsettled_some n (h s) d.e g t (seen_is ∙ e) unknown;
-                        unfound = rw steps (unfound_yet (sizes_of n) (length (h s).steps) (Kind g) is_live_word (h s).steps (omega arith));
+                        unfound = rw steps (none_since (sizes_of n) (length (h s).steps) (Kind g) is_live_word (h s).steps (omega arith));
                       }),
                 ))
           ]

@@ -1,22 +1,20 @@
 -- Stores of the guest, and bits set by a walk: what entries lead to stays.
-use Rattle.std.proofs.Common.{◌≡◌, ◌≢◌, ℕ, ◌<◌, ◌≤◌, ◌==◌, ◌&&◌, true, List, [], ◌∷◌, Option, Some, None, IsTrue, refl, sym, ◌∙◌, subst, inl, inr, arith}
+use Rattle.std.proofs.Common.{◌≡◌, ◌≢◌, ℕ, ◌<◌, ◌≤◌, List, [], ◌∷◌, Option, Some, None, IsTrue, refl, sym, ◌∙◌, subst, inl, inr, arith}
 use Rattle.std.proofs.lemmas.Bool.{cases_Bool, and_parts}
-use Rattle.std.proofs.lemmas.Bool.Decides.{nat_tests}
 use Rattle.xp_words.specs.declared.kind.PageType.{PageType}
 use Rattle.xp_words.specs.declared.kind.PageType.TheVariants as kinds
 use Rattle.xp_words.specs.Entries.{demand_at}
 use Rattle.xp_words.specs.Machine.{Machine}
 use Rattle.xp_words.specs.Places.{Place, Kind, Cell, sizes_of, is_place}
 use Rattle.xp_board.specs.declared.step.Step.{Step}
-use Rattle.xp_board.specs.declared.step.Item.{Item}
 use Rattle.xp_board.specs.declared.holdings.Reached.{Reached}
 use Rattle.xp_board.specs.declared.holdings.Touching.{Touching}
 use Rattle.xp_board.specs.declared.holdings.Walk.{Walk}
 use Rattle.xp_board.specs.declared.holdings.Holdings.{Holdings}
-use Rattle.xp_board.specs.Lists.{Member, some_of}
+use Rattle.xp_board.specs.Lists.{Member}
 use Rattle.xp_board.specs.Readings.{kind_at, is_live}
 use Rattle.xp_board.specs.WellFormed.{IsDescent, TouchesIn}
-use Rattle.xp_board.specs.Reach.{Table, Writes, Reads, Reach, cached, walked, use_of, reached_by}
+use Rattle.xp_board.specs.Reach.{Table, Writes, Reach, walked, reached_by}
 use Rattle.xp_board.specs.Recorded.{held}
 use Rattle.xp_board.specs.Valid.{Valid, Permitted}
 use Rattle.xp_board.specs.Sound.{Sound}
@@ -27,30 +25,17 @@ use Rattle.board_lemmas.proofs.HeldByForm.{held_table}
 use Rattle.type_rule.proofs.CellAct.{cell_valid, cell_permitted}
 use Rattle.type_rule.proofs.CellRows.{live_flushed, seven_no_table, seven_no_desc, level_no_desc}
 use Rattle.board_lemmas.proofs.Recordless.{marked_none}
-use Rattle.board_lemmas.proofs.HandLists.{some_of-member}
+use Rattle.board_lemmas.proofs.ReachAll.{written_reach}
+use Rattle.board_lemmas.proofs.CellAlike.{not_reads}
 
 -- ---- uses
-writes_used : Writes ≢ Reads
-writes_used e = cc
-
-table_used : (l : ℕ) → Table l ≢ Reads
-table_used l e = cc
-
-some_item : (f : ℕ) (xs : List Item) → IsTrue (some_of (λ y. (y.frame == f) && y.writable) xs) → (y : Item) × Member y xs × (y.frame ≡ f) × (y.writable ≡ true)
-some_item f xs h =
-    let r = some_of-member (λ y. (y.frame == f) && y.writable) xs h in
-    let a = and_parts (r.0.frame == f) r.0.writable r.2 in
-    (r.0, r.1, (let k : r.0.frame ≡ f = grind (arith, nat_tests) in k), a.1)
-
-writes_of : (y : Item) → y.writable ≡ true → use_of y ≡ Writes
-writes_of y e = rw e refl
 
 module _ (n : Machine) (s : ℕ) (x : Step) (m m2 : Place → ℕ) (b c : ℕ → Holdings) (real : s < (sizes_of n).vcpus) (sound : Sound n m b)
     (others : (t : ℕ) → t ≢ s → c t ≡ b t) where
   written : (f : ℕ) → Reach (sizes_of n) m (b s) f Writes → IsTrue (is_place (sizes_of n) (Kind f)) →
       ((i : ℕ) → i < held (sizes_of n) m b f → ⊥) × (IsTrue (is_live (kind_at m f)) → (kind_at m f).kind ≡ kinds.Desc → ⊥)
   written f reach there =
-      elim (((sound.fresh.each s real f Writes reach).bears).typed writes_used) [
+      elim (((sound.fresh.each s real f Writes reach).bears).typed (λ e. cc)) [
         | inl plain ↦ (λ i l. seven_no_table (kind_at m f).kind plain.1 (held_table (kind_at m f) _ i l), λ live desc. seven_no_desc (kind_at m f).kind plain.1 desc)
         | inr marked ↦ (
           λ i l. elim (cases_Bool (kind_at m f).validated) [
@@ -61,24 +46,19 @@ module _ (n : Machine) (s : ℕ) (x : Step) (m m2 : Place → ℕ) (b c : ℕ �
         )
       ]
 
-  item_reach : (f : ℕ) → IsTrue (some_of (λ y. (y.frame == f) && y.writable) (b s).cache) → Reach (sizes_of n) m (b s) f Writes
-  item_reach f h =
-      let y = some_item f (b s).cache h in
-      subst (λ g. Reach (sizes_of n) m (b s) g Writes) y.2 (subst (λ u. Reach (sizes_of n) m (b s) y.0.frame u) (writes_of y.0 y.3) (cached y.0 y.1))
-
   kind_there : (f i : ℕ) → IsTrue (is_place (sizes_of n) (Cell f i)) → IsTrue (is_place (sizes_of n) (Kind f))
   unfolding is_place
   kind_there f i h = (and_parts _ _ h).0
 
   pub guest_valid : (f i : ℕ) → GuestStored n x f i m m2 (b s) (c s) → Valid (sizes_of n) m2 c
   guest_valid f i d =
-      let k = written f (item_reach f d.may.item) (kind_there f i d.wrote.real) in
+      let k = written f (written_reach (sizes_of n) m (b s) f d.may.item) (kind_there f i d.wrote.real) in
       cell_valid n s x m m2 b c real sound others f i d.wrote.others (m2 (Cell f i)) (b s) d.wrote.place d.wrote.left d.hand (record { works = refl; looking = refl; steps = refl })
       (record { entry = λ l. absurd (k.0 i l); fixed = λ live desc l. absurd (k.1 live desc) })
 
   pub guest_permitted : (f i : ℕ) → GuestStored n x f i m m2 (b s) (c s) → Permitted n m2 c
   guest_permitted f i d =
-      let k = written f (item_reach f d.may.item) (kind_there f i d.wrote.real) in
+      let k = written f (written_reach (sizes_of n) m (b s) f d.may.item) (kind_there f i d.wrote.real) in
       cell_permitted n s x m m2 b c real sound others f i d.wrote.others (m2 (Cell f i)) (b s) d.wrote.place d.wrote.left d.hand (record { works = refl; looking = refl; steps = refl })
       (record { entry = λ l. absurd (k.0 i l); fixed = λ live desc l. absurd (k.1 live desc) })
 
@@ -99,7 +79,7 @@ module _ (n : Machine) (s : ℕ) (x : Step) (m m2 : Place → ℕ) (b c : ℕ �
       let y = last_reached d.walk f i (m (Cell f i)) d.walk.reached d.walk.touching formed.level refl formed.touching d.may.needed formed.descent formed.high in
       let there : Member y.0 (reached_by (b s).walk) = subst (λ o. Member y.0 (reached_by o)) (sym d.may.flying) y.1 in
       let reach : Reach (sizes_of n) m (b s) f (Table y.0.level) = subst (λ g. Reach (sizes_of n) m (b s) g (Table y.0.level)) y.2 (walked y.0 there) in
-      elim (((sound.fresh.each s real f (Table y.0.level) reach).bears).typed (table_used y.0.level)) [
+      elim (((sound.fresh.each s real f (Table y.0.level) reach).bears).typed (not_reads y.0.level)) [
         | inl plain ↦ level_no_desc (kind_at m f).kind y.0.level plain.1 y.3 desc
         | inr marked ↦ (let k = live_flushed n s x m m2 b c real sound others f live in let q = marked.0 in cc)
       ]

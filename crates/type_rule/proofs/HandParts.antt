@@ -1,5 +1,5 @@
 -- Which parts of a hand an act leaves as they are.
-use Rattle.std.proofs.Common.{◌≡◌, ℕ, ◌==◌, if◌then◌else◌, Bool, true, false, refl}
+use Rattle.std.proofs.Common.{◌≡◌, ℕ, ◌==◌, Bool, refl}
 use Rattle.xp_words.specs.declared.entry.Demand.{Demand}
 use Rattle.xp_words.specs.declared.kind.KindWord.{KindWord}
 use Rattle.xp_words.specs.Machine.{Machine}
@@ -16,6 +16,7 @@ use Rattle.xp_board.specs.After.{learned}
 use Rattle.xp_words.specs.KindWords.{kind_fields}
 use Rattle.xp_board.specs.Readings.{is_work, is_closing}
 use Rattle.board_lemmas.proofs.HandParts.{Beside, beside_in, beside_out, beside_named_in, beside_named_out, beside_learned, beside_ran, beside_started, beside_descended, beside_loaded}
+use Rattle.board_lemmas.proofs.Sums.{either}
 
 -- the steps and what the seat looks at
 pub record SameTwo (a b : Holdings) : Type 0 where
@@ -36,10 +37,6 @@ three a = record { works = refl; looking = refl; steps = refl }
 
 pub three_then : (a b c : Holdings) → SameThree a b → SameThree b c → SameThree a c
 three_then a b c k l = record { works = rw (l.works, k.works) refl; looking = rw (l.looking, k.looking) refl; steps = rw (l.steps, k.steps) refl }
-
-three_if : (t : Bool) (a b c : Holdings) → SameThree a b → SameThree a c → SameThree a (if t then b else c)
-three_if true a b c k l = k
-three_if false a b c k l = l
 
 three_of : (a b : Holdings) → Beside a b → SameThree a b
 three_of a b k = record { works = k.works; looking = k.looking; steps = k.steps }
@@ -81,15 +78,11 @@ two_row Resume f k l new h = record { looking = refl; steps = refl }
 two_row TakeBack f k l new h = record { looking = refl; steps = refl }
 two_row Begin f k l new h = record { looking = refl; steps = refl }
 
-two_if : (t : Bool) (a b c : Holdings) → SameTwo a b → SameTwo a c → SameTwo a (if t then b else c)
-two_if true a b c k l = k
-two_if false a b c k l = l
-
 pub two_live : (f : ℕ) (l : KindWord) (h : Holdings) → SameTwo h (made_live f l h)
-two_live f l h = two_if (l.number == 1) h _ _ (record { looking = refl; steps = refl }) (record { looking = refl; steps = refl })
+two_live f l h = either (SameTwo h) (l.number == 1) _ _ (record { looking = refl; steps = refl }) (record { looking = refl; steps = refl })
 
 pub two_dead : (f : ℕ) (e : Work) (h : Holdings) → SameTwo h (made_dead f e h)
-two_dead f e h = two_if (is_work (kind_fields e.word)) h _ _ (record { looking = refl; steps = refl }) (record { looking = refl; steps = refl })
+two_dead f e h = either (SameTwo h) (is_work (kind_fields e.word)) _ _ (record { looking = refl; steps = refl }) (record { looking = refl; steps = refl })
 
 pub three_as_typed : (f : ℕ) (e : Work) (h : Holdings) → SameThree h (as_typed f e h)
-three_as_typed f e h = three_if (is_closing (kind_fields e.word)) h _ _ (record { works = refl; looking = refl; steps = refl }) (three h)
+three_as_typed f e h = either (SameThree h) (is_closing (kind_fields e.word)) _ _ (record { works = refl; looking = refl; steps = refl }) (three h)

@@ -1,21 +1,17 @@
 -- Type counts and entry locks given back: what entries lead to stays.
-use Rattle.std.proofs.Common.{◌≡◌, ◌≢◌, ℕ, ◌<◌, true, IsTrue, refl, ◌∙◌, ap, arith}
-use Rattle.std.proofs.lemmas.Bool.{and_parts}
-use Rattle.xp_words.specs.KindWords.{kind_fields}
+use Rattle.std.proofs.Common.{◌≡◌, ◌≢◌, ℕ, ◌<◌, IsTrue, refl, ◌∙◌, ap}
 use Rattle.xp_words.specs.Machine.{Machine}
 use Rattle.xp_words.specs.Places.{Place, Kind, sizes_of}
 use Rattle.xp_board.specs.declared.step.Step.{Step}
 use Rattle.xp_board.specs.declared.holdings.Holdings.{Holdings}
-use Rattle.xp_board.specs.Readings.{kind_at, is_live, type_count}
+use Rattle.xp_board.specs.Readings.{kind_at, is_live}
 use Rattle.xp_board.specs.Valid.{Valid, Permitted}
 use Rattle.xp_board.specs.Sound.{Sound}
-use Rattle.board_lemmas.proofs.KindForms.{fields_down, fields_unlocked}
 use Rattle.step_effects.proofs.ActEffects.{Dropped, Unlocked}
-use Rattle.board_lemmas.proofs.Counted.{typed_counted}
-use Rattle.board_lemmas.proofs.Works.{is_locked-mine}
 use Rattle.type_rule.proofs.EntryChange.{OneStep}
 use Rattle.type_rule.proofs.QuietActs.{one_by}
 use Rattle.type_rule.proofs.KindRows.{down_valid, down_permitted}
+use Rattle.board_lemmas.proofs.CountsDown.{drop_live, drop_some, drop_word, lock_live, lock_some, unlock_word}
 
 module _ (n : Machine) (s : ℕ) (x : Step) (m m2 : Place → ℕ) (b c : ℕ → Holdings) (real : s < (sizes_of n).vcpus) (sound : Sound n m b)
     (others : (t : ℕ) → t ≢ s → c t ≡ b t) where
@@ -27,24 +23,16 @@ module _ (n : Machine) (s : ℕ) (x : Step) (m m2 : Place → ℕ) (b c : ℕ �
     kind : (kind_at m2 f).kind ≡ (kind_at m f).kind
 
   dropped_down : (f : ℕ) → Dropped n x f m m2 (b s) (c s) → Down f
-  unfolding type_count
   dropped_down f d =
-      let live : (kind_at m f).validated ≡ true = ((sound.found s real).lives f d.may.kind d.may.live).0 in
-      let counted = typed_counted (sizes_of n) m b s f real sound.counts in
-      let some : 0 < (kind_at m f).number = let i = d.may.in_hand in let q = rw live at counted in omega arith in
-      let now : kind_at m2 f ≡ _ = ap kind_fields d.is ∙ fields_down (m (Kind f)) (sound.spelled.small (Kind f)) some in
-      record { live = live; some = some; is = ap (λ k. k.validated) now ∙ live; kind = ap (λ k. k.kind) now }
+      let live = drop_live n m b sound s real f d.may in
+      let now = drop_word n m b sound s real f d.may (m2 (Kind f)) d.is in
+      record { live = live; some = drop_some n m b sound s real f d.may; is = ap (λ k. k.validated) now ∙ live; kind = ap (λ k. k.kind) now }
 
   unlocked_down_of : (f : ℕ) → Unlocked n x f m m2 (b s) (c s) → Down f
-  unfolding type_count
   unlocked_down_of f d =
-      let lock = is_locked-mine n m b sound.alone f s real d.may in
-      let live : (kind_at m f).validated ≡ true = (and_parts _ _ lock).0 in
-      let set : (kind_at m f).locked ≡ true = (and_parts _ _ lock).1 in
-      let counted = typed_counted (sizes_of n) m b s f real sound.counts in
-      let some : 0 < (kind_at m f).number = let i = d.may in let q = rw live at counted in omega arith in
-      let now : kind_at m2 f ≡ _ = ap kind_fields d.is ∙ fields_unlocked (m (Kind f)) (sound.spelled.small (Kind f)) some set in
-      record { live = live; some = some; is = ap (λ k. k.validated) now ∙ live; kind = ap (λ k. k.kind) now }
+      let live = lock_live n m b sound s real f d.may in
+      let now = unlock_word n m b sound s real f d.may (m2 (Kind f)) d.is in
+      record { live = live; some = lock_some n m b sound s real f d.may; is = ap (λ k. k.validated) now ∙ live; kind = ap (λ k. k.kind) now }
 
   dropped_one : (f : ℕ) → Dropped n x f m m2 (b s) (c s) → OneStep n s x m m2 b c
   dropped_one f d = one_by n s x m m2 b c real sound others (Kind f) _ d.wrote.place d.wrote.left d.hand refl

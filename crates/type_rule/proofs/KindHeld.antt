@@ -1,32 +1,10 @@
 -- How many entries a kind word holds before and after a step, and which forms are one seat's alone.
 use Rattle.std.proofs.Common.{◌≡◌, ℕ, ◌||◌, not, if◌then◌else◌, true, false, Some, None, IsTrue, refl, sym, inl, inr, arith, subst}
 use Rattle.std.proofs.lemmas.Bool.{cases_Bool, and_parts}
-use Rattle.std.proofs.lemmas.Bool.Decides.{nat_tests}
 use Rattle.xp_words.specs.declared.kind.KindWord.{KindWord}
 use Rattle.xp_words.specs.PageTypes.{is_table}
-use Rattle.xp_board.specs.Readings.{is_live, is_work, is_partial, is_dead, type_count}
+use Rattle.xp_board.specs.Readings.{is_live, is_work, is_partial, is_dead}
 use Rattle.xp_board.specs.Recorded.{held_of}
-use Rattle.xp_board.specs.Sound.{is_busy}
-
-pub partial_idle : (k : KindWord) → IsTrue (is_partial k) → is_busy k ≡ false
-partial_idle k p = grind arith
-
-pub dead_idle : (k : KindWord) → IsTrue (is_dead k) → is_busy k ≡ false
-dead_idle k p = grind arith
-
-pub busy_closed : (k : KindWord) → is_busy k ≡ true → k.validated ≡ true → type_count k ≡ 0
-unfolding type_count
-busy_closed k h v = grind (arith, nat_tests)
-
-pub busy_working : (k : KindWord) → is_busy k ≡ true → IsTrue (is_partial k || is_work k) → is_work k ≡ true
-busy_working k h v = grind (arith, nat_tests)
-
-pub busy_partial : (k : KindWord) → is_busy k ≡ true → IsTrue (is_partial k) → ⊥
-busy_partial k h p = let v : k.validated ≡ false = grind arith in let q : k.partial ≡ true = grind arith in let t : is_busy k ≡ false = rw (v, q) refl in cc
-
-pub work_count : (k : KindWord) → is_work k ≡ true → type_count k ≡ 1
-unfolding type_count
-work_count k h = grind arith
 
 -- ---- what is held
 pub live_held : (k l : KindWord) → IsTrue (is_live k) → IsTrue (is_live l) → l.kind ≡ k.kind → held_of l None ≡ held_of k None

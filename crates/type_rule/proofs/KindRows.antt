@@ -1,17 +1,15 @@
 -- Exchanges of a kind word, and type counts given back: what entries lead to stays.
-use Rattle.std.proofs.Common.{◌≡◌, ◌≢◌, ℕ, ◌+◌, ◌<◌, ◌≤◌, ◌==◌, ◌||◌, if◌then◌else◌, Bool, true, false, List, length, Some, None, IsTrue, refl, sym, ◌∙◌, ap, inl, inr, arith}
+use Rattle.std.proofs.Common.{◌≡◌, ◌≢◌, ℕ, ◌+◌, ◌<◌, ◌==◌, ◌||◌, if◌then◌else◌, false, length, Some, None, IsTrue, refl, sym, ◌∙◌, ap, inl, inr, arith}
 use Rattle.std.proofs.lemmas.Bool.{cases_Bool}
 use Rattle.std.proofs.lemmas.Bool.Decides.{nat_tests}
 use Rattle.xp_words.specs.declared.kind.KindWord.{KindWord}
 use Rattle.xp_words.specs.PageTypes.{is_table}
 use Rattle.xp_words.specs.KindWords.{kind_fields}
 use Rattle.xp_words.specs.Machine.{Machine}
-use Rattle.xp_words.specs.Places.{Sizes, Place, Kind, sizes_of}
+use Rattle.xp_words.specs.Places.{Place, Kind, sizes_of}
 use Rattle.xp_board.specs.declared.step.Step.{Step}
-use Rattle.xp_board.specs.declared.holdings.Made.{Made}
 use Rattle.xp_board.specs.declared.holdings.Work.{Work}
 use Rattle.xp_board.specs.declared.holdings.Holdings.{Holdings}
-use Rattle.xp_board.specs.Steps.{some_since}
 use Rattle.xp_board.specs.Hands.{work_on}
 use Rattle.xp_board.specs.Readings.{kind_at, is_live, is_work, is_partial, is_dead, is_live_word}
 use Rattle.xp_board.specs.KindSteps.{KindRow, Count, Locks, Pin, Unpin, Resume, TakeBack, Begin, MayResume, after_kind_row, still_looking, new_work, unsettled_from, closing_works}
@@ -20,7 +18,6 @@ use Rattle.xp_board.specs.Valid.{Valid, Permitted}
 use Rattle.xp_board.specs.Sound.{Sound, is_busy}
 use Rattle.board_lemmas.proofs.KindForms.{live_form}
 use Rattle.step_effects.proofs.ActEffects.{Turned}
-use Rattle.board_lemmas.proofs.StepLists.{since_within}
 use Rattle.type_rule.proofs.HandParts.{two_row}
 use Rattle.type_rule.proofs.Works.{WorkKeptIn, works_kept}
 use Rattle.board_lemmas.proofs.ListCounts.{first_by-cons_here, first_by-cons_other}
@@ -28,17 +25,16 @@ use Rattle.type_rule.proofs.EntryChange.{OneStep}
 use Rattle.type_rule.proofs.QuietActs.{one_by}
 use Rattle.type_rule.proofs.KindAct.{KindAct, nobody, not_unsettled, live_stays, kind_valid, kind_permitted}
 use Rattle.board_lemmas.proofs.HeldByForm.{held_dead, held_same, live_partial, live_idle}
-use Rattle.type_rule.proofs.KindHeld.{partial_idle, dead_idle, live_held, resumed_held, begun_held, closed_held, work_live, dead_live, dead_unformed, either_part}
+use Rattle.type_rule.proofs.KindHeld.{live_held, resumed_held, begun_held, closed_held, work_live, dead_live, dead_unformed, either_part}
+use Rattle.board_lemmas.proofs.KindReadings.{partial_idle, dead_idle}
+use Rattle.board_lemmas.proofs.MoreSteps.{none_since}
+use Rattle.board_lemmas.proofs.Sums.{either}
 
 resumed_work : (k l : KindWord) → MayResume k l → IsTrue (is_partial l || is_work l)
 resumed_work k l may = let v : k.validated ≡ false = (let p = may.partial in grind arith) in rw may.left (rw v refl)
 
 is_resumed : (k l : KindWord) → MayResume k l → l.validated ≡ false
 is_resumed k l may = let v : k.validated ≡ false = (let p = may.partial in grind arith) in ap (λ y. y.validated) may.left ∙ v
-
-if_same : {A B : Type 0} (t : Bool) (F : A → B) (y z : A) → F y ≡ F z → F (if t then y else z) ≡ F z
-if_same true F y z e = e
-if_same false F y z e = refl
 
 -- ---- works
 row_works : (row : KindRow) (f g : ℕ) (k l : KindWord) (new : ℕ) (h : Holdings) → g ≢ f → work_on g (after_kind_row row f k l new h).works ≡ work_on g h.works
@@ -49,14 +45,6 @@ row_works Unpin f g k l new h off = refl
 row_works Resume f g k l new h off = first_by-cons_other (λ y. y.frame) g _ h.works (λ e. off (sym e))
 row_works TakeBack f g k l new h off = refl
 row_works Begin f g k l new h off = first_by-cons_other (λ y. y.frame) g _ h.works (λ e. off (sym e))
-
--- nothing was found since a step that is still to be made
-pub unfound_yet : (z : Sizes) (k : ℕ) (p : Place) (test : ℕ → Bool) (xs : List Made) → length xs ≤ k → some_since z k p test xs ≡ false
-unfound_yet z k p test xs l =
-    elim (cases_Bool (some_since z k p test xs)) [
-      | inl found ↦ absurd (let w = since_within z k p test xs found in omega arith)
-      | inr none ↦ none
-    ]
 
 unsettled_some : (p : ℕ) (h : Holdings) → p ≢ 0 → unsettled_from p h ≡ Some (record { since = length h.steps + 1; word = None })
 unsettled_some p h off = let t : (p == 0) ≡ false = grind (arith, nat_tests) in rw t refl
@@ -141,7 +129,7 @@ module _ (n : Machine) (s : ℕ) (x : Step) (m m2 : Place → ℕ) (b c : ℕ �
                 last = last.last ∙ ap (λ y. y.progress) d.fields_was;
                 unsettled = record { since = length (b s).steps + 1; word = None };
                 kept = unsettled_some d.k.progress (b s) (λ z. absurd (let w = last.last ∙ ap (λ y. y.progress) d.fields_was in omega arith));
-                unfound = unfound_yet (sizes_of n) (length (b s).steps + 1) (Kind g) is_live_word (c s).steps (let w = ap length ((one f Resume d).steps) in omega arith);
+                unfound = none_since (sizes_of n) (length (b s).steps + 1) (Kind g) is_live_word (c s).steps (let w = ap length ((one f Resume d).steps) in omega arith);
               });
           unsettled = λ i g t l q u. absurd (not_unsettled n s x m m2 b c real sound (one f Resume d) f d.wrote.others (works f Resume d) idle i g u);
         };
@@ -192,7 +180,7 @@ module _ (n : Machine) (s : ℕ) (x : Step) (m m2 : Place → ℕ) (b c : ℕ �
 
   -- ---- a type count given back
   closing_other : (f g w left : ℕ) (h : Holdings) → g ≢ f → work_on g (closing_works f w left h) ≡ work_on g h.works
-  closing_other f g w left h off = if_same ((kind_fields w).number == 1) (work_on g) _ h.works (first_by-cons_other (λ y. y.frame) g _ h.works (λ e. off (sym e)))
+  closing_other f g w left h off = either (λ xs. work_on g xs ≡ work_on g h.works) ((kind_fields w).number == 1) _ h.works (first_by-cons_other (λ y. y.frame) g _ h.works (λ e. off (sym e))) refl
 
   -- the number of entries that stay recorded
   closing_held : (f w left : ℕ) (l : KindWord) → IsTrue (is_live l) → l.kind ≡ (kind_fields w).kind → work_on f (b s).works ≡ None →

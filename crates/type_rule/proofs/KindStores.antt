@@ -1,5 +1,5 @@
 -- Stores of the kind word of a frame in work or closing: what entries lead to stays.
-use Rattle.std.proofs.Common.{◌≡◌, ◌≢◌, ℕ, ◌+◌, ◌<◌, ◌==◌, ◌||◌, ◌⊎◌, if◌then◌else◌, Bool, true, false, length, Some, None, IsTrue, refl, sym, ◌∙◌, ap, subst, inl, inr, arith}
+use Rattle.std.proofs.Common.{◌≡◌, ◌≢◌, ℕ, ◌+◌, ◌<◌, ◌==◌, ◌||◌, ◌⊎◌, true, false, length, Some, None, IsTrue, refl, sym, ◌∙◌, ap, subst, inl, inr, arith}
 use Rattle.xp_words.specs.declared.kind.KindWord.{KindWord}
 use Rattle.xp_words.specs.declared.kind.PageType.{PageType}
 use Rattle.xp_words.specs.declared.kind.PageType.TheVariants as kinds
@@ -35,17 +35,15 @@ use Rattle.type_rule.proofs.QuietActs.{one_by}
 use Rattle.type_rule.proofs.ValidLaw.{live_is_context}
 use Rattle.type_rule.proofs.KindAct.{KindAct, kind_valid, kind_permitted}
 use Rattle.board_lemmas.proofs.HeldByForm.{held_table}
-use Rattle.type_rule.proofs.KindHeld.{live_all, partial_all, work_all, dead_all, busy_closed, busy_working, busy_partial, work_count}
-
-either_if : {A : Type 0} (t : Bool) (F : Holdings → A) (y z : Holdings) (a : A) → F y ≡ a → F z ≡ a → F (if t then y else z) ≡ a
-either_if true F y z a e f = e
-either_if false F y z a e f = f
+use Rattle.type_rule.proofs.KindHeld.{live_all, partial_all, work_all, dead_all}
+use Rattle.board_lemmas.proofs.KindReadings.{busy_closed, busy_working, busy_partial, work_count}
+use Rattle.board_lemmas.proofs.Sums.{either}
 
 live_works : (f : ℕ) (l : KindWord) (h : Holdings) → (made_live f l h).works ≡ without_work f h.works
-live_works f l h = either_if (l.number == 1) (λ u. u.works) _ _ _ refl refl
+live_works f l h = either (λ (u : Holdings). u.works ≡ without_work f h.works) (l.number == 1) _ _ refl refl
 
 dead_works : (f : ℕ) (e : Work) (h : Holdings) → (made_dead f e h).works ≡ without_work f h.works
-dead_works f e h = either_if (is_work (kind_fields e.word)) (λ u. u.works) _ _ _ refl refl
+dead_works f e h = either (λ (u : Holdings). u.works ≡ without_work f h.works) (is_work (kind_fields e.word)) _ _ refl refl
 
 module _ (n : Machine) (s : ℕ) (x : Step) (m m2 : Place → ℕ) (b c : ℕ → Holdings) (real : s < (sizes_of n).vcpus) (sound : Sound n m b)
     (others : (t : ℕ) → t ≢ s → c t ≡ b t) where

@@ -10,44 +10,32 @@ use Rattle.xp_board.specs.declared.holdings.Holdings.{Holdings}
 use Rattle.xp_board.specs.Acts.{left_by}
 use Rattle.xp_board.specs.Hands.{work_on, changed_work, ending_of, claim_of, endings_of, claims_of}
 use Rattle.xp_board.specs.Lists.{kept_of}
-use Rattle.xp_board.specs.Readings.{is_context, ref_count, owner_of, has_ever, is_dying}
+use Rattle.xp_board.specs.Readings.{is_context, ref_count, owner_of, has_ever}
 use Rattle.xp_board.specs.RefSteps.{IsFreeStamp}
 use Rattle.xp_board.specs.FillSteps.{started, loaded, walked_by, is_for_write}
 use Rattle.xp_board.specs.RunSteps.{ran_now}
 use Rattle.xp_board.specs.After.{noted, learned_own, learned_work}
 use Rattle.xp_board.specs.Runs.{place_of}
-use Rattle.xp_board.specs.Sound.{Sound, HeldAlone}
+use Rattle.xp_board.specs.Sound.{Sound}
 use Rattle.board_lemmas.proofs.Bits.{granted-ever, revoked-ever}
 use Rattle.step_effects.proofs.ActEffects.{Looked, Raised, Cleared, Took, Lowered, Freed, Gave, Missed, Started, WentOn, Stumbled, Mapped, Charged, Refunded, Based, Asked, Flushed, Ran, Ticked, Doomed, Buried, Hinted, Privileged}
 use Rattle.board_lemmas.proofs.HandLists.{first-some}
 use Rattle.type_rule.proofs.HandParts.{SameThree, three_own, three_ran, three_started, three_loaded}
 use Rattle.type_rule.proofs.RefWordLaws.{one_less_keeps}
-use Rattle.board_lemmas.proofs.Counted.{in_hand_counted}
-use Rattle.type_rule.proofs.DomainFrames.{owner_read}
+use Rattle.board_lemmas.proofs.Counted.{in_hand_counted, not_context}
 use Rattle.board_lemmas.proofs.Sums.{if_itself}
 use Rattle.type_rule.proofs.Works.{WorkKeptIn, works_kept, cell_kept}
 use Rattle.type_rule.proofs.EntryChange.{OneStep}
 use Rattle.type_rule.proofs.ValidLaw.{OwnersStay}
-use Rattle.type_rule.proofs.QuietLaw.{QuietAct, same_owners, one_owner, free_count}
-use Rattle.board_lemmas.proofs.Works.{is_dying-mine}
-use Rattle.xp_board.proofs.RefWords.{is_dying-read, dying_says}
-
-dying_count : (w : ℕ) → is_dying w ≡ true → ref_count w ≡ 0
-dying_count w e = let r = is_dying-read w e in (dying_says w r.0 r.1).counts
-
--- a frame that is ending or claimed in a hand has no reference
-pub dying_in_hand : (n : Machine) (m : Place → ℕ) (h : ℕ → Holdings) (s f : ℕ) → HeldAlone n m h → s < (sizes_of n).vcpus →
-    0 < endings_of f (h s).ending + claims_of f (h s).claimed → ref_count (m (Refs f)) ≡ 0
-dying_in_hand n m h s f alone real some = dying_count (m (Refs f)) (is_dying-mine n m h alone f s real some)
+use Rattle.type_rule.proofs.QuietLaw.{QuietAct, same_owners, one_owner}
+use Rattle.board_lemmas.proofs.Works.{dying_in_hand}
+use Rattle.xp_board.proofs.RefWords.{owned_says, free_says}
 
 told_held : (n : Machine) (stamp f : ℕ) (h : Holdings) (e : Option Ending) (c : Option Claimed) → ending_of f h.ending ≡ e → claim_of f h.claimed ≡ c → IsFreeStamp n stamp h e c →
     0 < endings_of f h.ending + claims_of f h.claimed
 told_held n stamp f h (Some e) c at there k = let some = first-some (λ y. y.frame) f e h.ending at in omega arith
 told_held n stamp f h None (Some c) at there k = let some = first-some (λ y. y.frame) f c h.claimed there in omega arith
 told_held n stamp f h None None at there k = absurd k
-
-not_context : (j k : ℕ) → is_context j ≡ false → IsTrue (is_context k) → k ≡ j → ⊥
-not_context j k off u e = let t : is_context j ≡ true = subst (λ y. is_context y ≡ true) e u in cc
 
 module _ (n : Machine) (s : ℕ) (x : Step) (m m2 : Place → ℕ) (b c : ℕ → Holdings) (real : s < (sizes_of n).vcpus) (sound : Sound n m b)
     (others : (t : ℕ) → t ≢ s → c t ≡ b t) where
@@ -220,15 +208,15 @@ module _ (n : Machine) (s : ℕ) (x : Step) (m m2 : Place → ℕ) (b c : ℕ �
 
   pub raised_quiet : (f : ℕ) → Raised n x f m m2 (b s) (c s) → QuietAct n s x m m2 b c
   raised_quiet f d =
-      at_refs f _ d.wrote.place d.wrote.left d.wrote.others d.hand refl refl (λ some. owner_read _ _ _ _ d.is ∙ sym (owner_read _ _ _ _ d.was))
+      at_refs f _ d.wrote.place d.wrote.left d.wrote.others d.hand refl refl (λ some. (owned_says _ _ _ _ d.is).owned ∙ sym ((owned_says _ _ _ _ d.was).owned))
 
   pub cleared_quiet : (f : ℕ) → Cleared n x f m m2 (b s) (c s) → QuietAct n s x m m2 b c
   cleared_quiet f d =
-      at_refs f _ d.wrote.place d.wrote.left d.wrote.others d.hand refl refl (λ some. owner_read _ _ _ _ d.is ∙ sym (owner_read _ _ _ _ d.was))
+      at_refs f _ d.wrote.place d.wrote.left d.wrote.others d.hand refl refl (λ some. (owned_says _ _ _ _ d.is).owned ∙ sym ((owned_says _ _ _ _ d.was).owned))
 
   pub took_quiet : (f : ℕ) → Took n s x f m m2 (b s) (c s) → QuietAct n s x m m2 b c
   took_quiet f d =
-      at_refs f _ d.wrote.place d.wrote.left d.wrote.others d.hand refl refl (λ some. absurd (let k = free_count (m (Refs f)) d.stamp d.was in omega arith))
+      at_refs f _ d.wrote.place d.wrote.left d.wrote.others d.hand refl refl (λ some. absurd (let k = (free_says (m (Refs f)) d.stamp d.was).counts in omega arith))
 
   pub lowered_quiet : (f : ℕ) → Lowered n x f m m2 (b s) (c s) → QuietAct n s x m m2 b c
   lowered_quiet f d =
@@ -239,9 +227,9 @@ module _ (n : Machine) (s : ℕ) (x : Step) (m m2 : Place → ℕ) (b c : ℕ �
   pub freed_quiet : (f : ℕ) → Freed n s x f m m2 (b s) (c s) → QuietAct n s x m m2 b c
   freed_quiet f d =
       let held = told_held n d.stamp f (b s) (ending_of f (b s).ending) (claim_of f (b s).claimed) refl refl d.may.told in
-      at_refs f _ d.wrote.place d.wrote.left d.wrote.others d.hand refl refl (λ some. absurd (let k = dying_in_hand n m b s f sound.alone real held in omega arith))
+      at_refs f _ d.wrote.place d.wrote.left d.wrote.others d.hand refl refl (λ some. absurd (let k = dying_in_hand n m b sound.alone f s real held in omega arith))
 
   pub gave_quiet : (f : ℕ) → Gave n s x f m m2 (b s) (c s) → QuietAct n s x m m2 b c
   gave_quiet f d =
       let held = first-some (λ y. y.frame) f d.may.claimed (b s).claimed d.may.here in
-      at_refs f _ d.wrote.place d.wrote.left d.wrote.others d.hand refl refl (λ some. absurd (let k = dying_in_hand n m b s f sound.alone real (omega arith) in omega arith))
+      at_refs f _ d.wrote.place d.wrote.left d.wrote.others d.hand refl refl (λ some. absurd (let k = dying_in_hand n m b sound.alone f s real (omega arith) in omega arith))

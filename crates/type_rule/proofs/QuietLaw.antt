@@ -1,8 +1,6 @@
 -- Acts that change no kind word, no cell and no word of a vCPU that names a frame.
-use Rattle.std.proofs.Common.{◌≡◌, ◌≢◌, ℕ, ◌<◌, Some, IsTrue, refl, sym, ◌∙◌, inl, inr}
+use Rattle.std.proofs.Common.{◌≡◌, ◌≢◌, ℕ, ◌<◌, IsTrue, refl, sym, ◌∙◌, inl, inr}
 use Rattle.std.proofs.lemmas.Bool.{cases_eq}
-use Rattle.xp_words.specs.declared.refs.RefWord.TheVariants.{Free}
-use Rattle.xp_words.specs.RefWords.{ref_read}
 use Rattle.xp_words.specs.Machine.{Machine}
 use Rattle.xp_words.specs.Places.{Place, Vcpu, Refs, Kind, Cell, Priv, sizes_of}
 use Rattle.xp_board.specs.declared.step.Step.{Step}
@@ -55,7 +53,3 @@ one_owner m m2 f same here =
       owner = λ g some. elim (cases_eq g f) [ inl at ↦ rw at (here (rw at at some)) | inr off ↦ rw (same (Refs g) (λ q. off (cc))) refl ];
       ever = λ d o t. rw (same (Priv d) (λ q. cc)) t;
     }
-
-pub free_count : (w t : ℕ) → ref_read w ≡ Some (Free t) → ref_count w ≡ 0
-unfolding ref_count
-free_count w t e = rw e refl

@@ -3,7 +3,6 @@ use Rattle.std.proofs.Common.{◌≡◌, ◌≢◌, ℕ, ◌+◌, ◌-◌, true,
 use Rattle.std.proofs.lemmas.Bool.{cases_Bool}
 use Rattle.xp_words.specs.declared.kind.KindWord.{KindWord}
 use Rattle.xp_words.specs.declared.kind.PageType.{PageType}
-use Rattle.xp_words.specs.declared.kind.PageType.TheVariants as kinds
 use Rattle.xp_words.specs.declared.entry.Demand.TheVariants.{Typed}
 use Rattle.xp_words.specs.Entries.{demand_at}
 use Rattle.xp_words.specs.PageTypes.{is_table}
@@ -15,45 +14,19 @@ use Rattle.xp_board.specs.declared.holdings.Unsettled.{Unsettled}
 use Rattle.xp_board.specs.declared.holdings.Work.{Work}
 use Rattle.xp_board.specs.declared.holdings.Holdings.{Holdings}
 use Rattle.xp_board.specs.Steps.{some_since, last_since}
-use Rattle.xp_board.specs.Readings.{is_type, is_live_word}
-use Rattle.xp_board.specs.Found.{is_known_inside, is_same_cell, is_same_entry}
+use Rattle.xp_board.specs.Readings.{is_live_word}
 use Rattle.xp_board.specs.Recorded.{entry_demand}
 use Rattle.xp_board.specs.WellFormed.{LastIs}
 use Rattle.xp_board.specs.Settling.{settles_word, is_settled}
-use Rattle.board_lemmas.proofs.EntryWords.{entry_asks_same}
-use Rattle.board_lemmas.proofs.WorkFacts.{Works}
+use Rattle.board_lemmas.proofs.WorkFacts.{Works, seen_asks}
 use Rattle.xp_board.specs.Hands.{work_on}
 use Rattle.xp_board.specs.Valid.{IsUnsettled}
 use Rattle.xp_board.specs.Sound.{Sound}
 use Rattle.board_lemmas.proofs.Works.{one_seat}
 use Rattle.board_lemmas.proofs.HandLists.{first-some}
-use Rattle.xp_words.specs.declared.kind.PageType.TheVariants as kinds
-
-not_writable : (t : PageType) → is_table t ≡ true → is_type t kinds.Writable ≡ false
-not_writable kinds.None e = absurd (cc)
-not_writable kinds.L1 e = refl
-not_writable kinds.L2 e = refl
-not_writable kinds.L3 e = refl
-not_writable kinds.L4 e = refl
-not_writable kinds.Desc e = absurd (cc)
-not_writable kinds.Writable e = absurd (cc)
-
-inside_by : (k : KindWord) → k.unflushed ≡ false → is_table k.kind ≡ true → IsTrue (is_known_inside k)
-inside_by k u t = let w = not_writable k.kind t in rw (u, w) refl
 
 pub unmarked_by : (k : KindWord) (r : ℕ) → (k.unflushed ≡ true → r ≡ 0) → r ≢ 0 → k.unflushed ≡ false
 unmarked_by k r h some = elim (cases_Bool k.unflushed) [ inl t ↦ absurd (some (h t)) | inr f ↦ f ]
-
-same_cell : (t : PageType) (w x : ℕ) → is_table t ≡ true → IsTrue (is_same_cell t w x) → IsTrue (is_same_entry w x)
-same_cell t w x e h = rw e at h
-
--- what a seat last found in a cell of an unmarked table in its work asks what the cell asks
-pub seen_asks : (n : Machine) (m : Place → ℕ) (h : ℕ → Holdings) (s f i w : ℕ) (e : Work) → Works n m h s f e → is_table (kind_fields e.word).kind ≡ true →
-    (kind_fields e.word).unflushed ≡ false → last_since (sizes_of n) e.unmarked (Cell e.frame i) (h s).steps ≡ Some w → demand_at (kind_fields e.word).kind i w ≡ entry_demand m f i
-seen_asks n m h s f i w e k table unmarked last =
-    let same = k.found.cells (inside_by (kind_fields e.word) unmarked table) i w last in
-    let asks = entry_asks_same (kind_fields e.word).kind i (m (Cell e.frame i)) w (same_cell (kind_fields e.word).kind (m (Cell e.frame i)) w table same) in
-    sym asks ∙ rw (k.frame, k.word) refl
 
 last_of : (z : Sizes) (e : Work) (xs : List Made) (u : Unsettled) → LastIs z e xs e.unsettled → e.unsettled ≡ Some u → (w : ℕ) → u.word ≡ Some w →
     last_since z e.unmarked (Cell e.frame (e.recorded - 1)) xs ≡ Some w
@@ -65,7 +38,7 @@ word_found : (n : Machine) (m : Place → ℕ) (h : ℕ → Holdings) (s f i g :
 word_found n m h s f i g t e u None k table unmarked some at last asks settled = absurd (cc)
 word_found n m h s f i g t e u (Some w) k table unmarked some at last asks settled =
     let noted : last_since (sizes_of n) e.unmarked (Cell e.frame (e.recorded - 1)) (h s).steps ≡ Some w = last_of (sizes_of n) e (h s).steps u (k.formed.last) some w at in
-    let d : demand_at (kind_fields e.word).kind (e.recorded - 1) w ≡ Typed g t = rw last (seen_asks n m h s f i w e k table unmarked (rw last at noted) ∙ asks) in
+    let d : demand_at (kind_fields e.word).kind (e.recorded - 1) w ≡ Typed g t = rw last (seen_asks n m h s f e k i w table unmarked (rw last at noted) ∙ asks) in
     rw d at settled
 
 pub settled_found : (n : Machine) (m : Place → ℕ) (h : ℕ → Holdings) (s f i g : ℕ) (t : PageType) (e : Work) (u : Unsettled) → Works n m h s f e →

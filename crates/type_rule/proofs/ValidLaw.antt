@@ -12,8 +12,8 @@ use Rattle.xp_board.specs.Valid.{Valid, LeadsWell, is_live_context, Permitted, P
 use Rattle.xp_board.specs.After.{is_fixed}
 use Rattle.xp_board.specs.Sound.{Sound}
 use Rattle.type_rule.proofs.EntryChange.{OldEntry}
-use Rattle.type_rule.proofs.Counted.{entry_counted, plain_counted, context_counted}
-use Rattle.board_lemmas.proofs.Counted.{type_below}
+use Rattle.type_rule.proofs.Counted.{entry_counted, context_counted}
+use Rattle.board_lemmas.proofs.Counted.{type_below, plain_counted}
 use Rattle.board_lemmas.proofs.Recordless.{table_counted}
 
 -- an entry that is new, or asks something else than before

@@ -1,16 +1,22 @@
 -- What a vCPU can come to, before and after a step.
-use Rattle.std.proofs.Common.{◌≡◌, ◌≢◌, ℕ, ◌+◌, ◌-◌, ◌<◌, ◌≤◌, ◌==◌, inl, inr, Bool, true, false, List, [], ◌∷◌, refl, sym, subst, arith, IsTrue, if◌then◌else◌, Option, Some, None}
+use Rattle.std.proofs.Common.{◌≡◌, ◌≢◌, ℕ, ◌+◌, ◌-◌, ◌<◌, ◌≤◌, ◌==◌, inl, inr, Bool, true, false, List, [], ◌∷◌, refl, sym, subst, arith, IsTrue, if◌then◌else◌, Option, Some, None, ◌&&◌, ap}
 use Rattle.std.proofs.lemmas.Bool.Decides.{nat_tests}
 use Rattle.xp_words.specs.Entries.{is_bit, frame_of}
-use Rattle.xp_words.specs.Places.{Sizes, Place, Cell}
+use Rattle.xp_words.specs.Places.{Sizes, Place, Cell, sizes_of}
 use Rattle.xp_board.specs.declared.step.Item.{Item}
 use Rattle.xp_board.specs.declared.holdings.Reached.{Reached}
 use Rattle.xp_board.specs.declared.holdings.Walk.{Walk}
 use Rattle.xp_board.specs.declared.holdings.Holdings.{Holdings}
-use Rattle.xp_board.specs.Lists.{Member}
+use Rattle.xp_board.specs.Lists.{Member, some_of}
 use Rattle.xp_board.specs.FillSteps.{is_walked}
 use Rattle.xp_board.specs.WellFormed.{IsDescent, IsWalkFormed}
 use Rattle.xp_board.specs.Reach.{Use, Table, Writes, Reads, use_of, use_below, reached_by, Reach, cached, walked, entry}
+use Rattle.xp_words.specs.Machine.{Machine}
+use Rattle.xp_board.specs.Readings.{kind_at}
+use Rattle.xp_board.specs.Fresh.{Matches}
+use Rattle.xp_board.specs.Sound.{Sound}
+use Rattle.std.proofs.lemmas.Bool.{and_parts, eqb-true}
+use Rattle.board_lemmas.proofs.HandLists.{some_of-member}
 
 -- ---- all that is reached has a property that what is held has, and that entries pass on
 pub Reach-all : {z : Sizes} {m : Place → ℕ} {h : Holdings} (P : ℕ → Use → Type 0) →
@@ -77,3 +83,21 @@ pub Reach-level : {z : Sizes} {m : Place → ℕ} {h : Holdings} {g : ℕ} {u : 
 Reach-level {m} {h} formed r =
     Reach-all (λ g u. IsLevel u) (λ x c. item_level x.writable) (λ x c. walk_level h.walk x formed c)
     (λ f level i l w p inside. level_below level (is_bit 1 (m (Cell f i))) (level == 1) refl l) r
+
+-- ---- what is come to of a sound machine
+module _ (n : Machine) (m : Place → ℕ) (h : ℕ → Holdings) (sound : Sound n m h) where
+  pub reach_level : (v g : ℕ) (u : Use) → v < (sizes_of n).vcpus → Reach (sizes_of n) m (h v) g u → IsLevel u
+  reach_level v g u real r = Reach-level (sound.formed v real).cache.walk r
+
+  -- an unmarked frame has the type of each use that is made of it
+  pub unmarked_matches : (v g : ℕ) (u : Use) → v < (sizes_of n).vcpus → (kind_at m g).unflushed ≡ false → u ≢ Reads → Reach (sizes_of n) m (h v) g u → Matches (kind_at m g).kind u
+  unmarked_matches v g u real unmarked other r =
+      elim ((sound.fresh.each v real g u r).bears.typed other) [ inl plain ↦ plain.1 | inr marked ↦ absurd (let k = marked.0 in cc) ]
+
+-- a cached item that may be written through
+pub written_reach : (z : Sizes) (m : Place → ℕ) (h : Holdings) (f : ℕ) → IsTrue (some_of (λ y. (y.frame == f) && y.writable) h.cache) → Reach z m h f Writes
+written_reach z m h f some =
+    let one = some_of-member (λ y. (y.frame == f) && y.writable) h.cache some in
+    let both = and_parts (one.0.frame == f) one.0.writable one.2 in
+    let used : use_of one.0 ≡ Writes = ap (λ b. if b then Writes else Reads) both.1 in
+    subst (λ g. Reach z m h g Writes) (eqb-true one.0.frame f both.0) (subst (λ u. Reach z m h one.0.frame u) used (cached one.0 one.1))

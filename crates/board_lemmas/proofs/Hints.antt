@@ -1,19 +1,15 @@
--- A bit of the free map is set or cleared.
-use Rattle.std.proofs.Common.{◌≡◌, ℕ, ◌+◌, ◌-◌, ◌%◌, ◌^◌, ◌/◌, ◌<◌, ◌==◌, ◌⊎◌, ◌++◌, map, Bool, true, false, List, [], ◌∷◌, Option, Some, None, refl, sym, ◌∙◌, ap, arith, inl, inr}
-use Rattle.std.proofs.lemmas.Bool.{cases_eq, and_parts, cases_Bool}
-use Rattle.std.proofs.lemmas.Bool.Decides.{nat_tests}
+-- A bit of the free map is set or cleared: which frame it tells, and what the sum makes of the list of raised frames.
+use Rattle.std.proofs.Common.{◌≡◌, ℕ, ◌+◌, ◌-◌, ◌%◌, ◌^◌, ◌/◌, ◌<◌, ◌⊎◌, ◌++◌, map, Bool, true, false, List, [], ◌∷◌, Option, Some, None, refl, sym, ◌∙◌, ap, arith, inl, inr}
+use Rattle.std.proofs.lemmas.Bool.{cases_eq, and_parts, cases_Bool, eqb-true}
 use Rattle.xp_board.specs.declared.holdings.Holdings.{Holdings}
 use Rattle.xp_board.specs.Lists.{one_at, times, times_by, first_of, without_by}
 use Rattle.xp_board.specs.Hands.{endings_of, claims_of}
 use Rattle.xp_board.specs.HintSteps.{MayHint, MayUnhint, is_raise, is_lower, lowered_frame, raised_frame, raised_by, held_frames}
 use Rattle.board_lemmas.proofs.Sums.{when_eq, when_ne}
-use Rattle.count_rule.proofs.Bits.{pow_same}
-
-equal_by : (x y : ℕ) → (x == y) ≡ true → x ≡ y
-equal_by x y e = grind (arith, nat_tests)
+use Rattle.board_lemmas.proofs.Bits.{pow_same}
 
 -- ---- searches
-found_of : (test : ℕ → Bool) (xs : List ℕ) (g : ℕ) → first_of test xs ≡ Some g → (test g ≡ true) × (0 < times g xs)
+pub found_of : (test : ℕ → Bool) (xs : List ℕ) (g : ℕ) → first_of test xs ≡ Some g → (test g ≡ true) × (0 < times g xs)
 unfolding first_of times_by
 found_of test [] g e = absurd (cc)
 found_of test (x ∷ xs) g e =
@@ -26,7 +22,7 @@ found_of test (x ∷ xs) g e =
       | inr off ↦ let rest = found_of test xs g (rw off at e) in (rest.0, let r = rest.1 in omega arith)
     ]
 
-none_of : (test : ℕ → Bool) (xs : List ℕ) (g : ℕ) → first_of test xs ≡ None → 0 < times g xs → test g ≡ false
+pub none_of : (test : ℕ → Bool) (xs : List ℕ) (g : ℕ) → first_of test xs ≡ None → 0 < times g xs → test g ≡ false
 unfolding first_of times_by
 none_of test [] g e k = absurd (omega arith)
 none_of test (x ∷ xs) g e k =
@@ -39,6 +35,17 @@ none_of test (x ∷ xs) g e k =
           ]
     ]
 
+-- ---- the frame is told by the word and the bit
+pub raise_parts : (k by g : ℕ) → is_raise k by g ≡ true → (g / 64 ≡ k) × (2 ^ (g % 64) ≡ by)
+raise_parts k by g e = let p = and_parts _ _ e in (eqb-true _ _ p.0, eqb-true _ _ p.1)
+
+pub lower_parts : (k by g : ℕ) → is_lower k by g ≡ true → (g / 64 ≡ k) × (2 ^ 64 - 2 ^ (g % 64) ≡ by)
+lower_parts k by g e = let p = and_parts _ _ e in (eqb-true _ _ p.0, eqb-true _ _ p.1)
+
+pub same_frame : (f g : ℕ) → f / 64 ≡ g / 64 → 2 ^ (f % 64) ≡ 2 ^ (g % 64) → f ≡ g
+same_frame f g a b = let c = pow_same (f % 64) (g % 64) b in omega arith
+
+-- ---- the frames that a seat may hint at
 map_times : {A : Type 0} (key : A → ℕ) (g : ℕ) (xs : List A) (ys : List ℕ) → times g (map key xs ++ ys) ≡ times_by key g xs + times g ys
 unfolding times_by
 map_times key g [] ys = omega arith
@@ -61,15 +68,6 @@ pub data Hint (k by : ℕ) (u : Holdings) : Type 0 where
       raised_by (lowered_frame k by u) (raised_frame k by u) u.raised ≡ g ∷ u.raised → Hint k by u
   clears : (g : ℕ) → g / 64 ≡ k → 2 ^ 64 - 2 ^ (g % 64) ≡ by → 0 < times g u.raised →
       raised_by (lowered_frame k by u) (raised_frame k by u) u.raised ≡ without_by (λ y. y) g u.raised → Hint k by u
-
-raise_parts : (k by g : ℕ) → is_raise k by g ≡ true → (g / 64 ≡ k) × (2 ^ (g % 64) ≡ by)
-raise_parts k by g e = let p = and_parts _ _ e in (equal_by _ _ p.0, equal_by _ _ p.1)
-
-lower_parts : (k by g : ℕ) → is_lower k by g ≡ true → (g / 64 ≡ k) × (2 ^ 64 - 2 ^ (g % 64) ≡ by)
-lower_parts k by g e = let p = and_parts _ _ e in (equal_by _ _ p.0, equal_by _ _ p.1)
-
-same_frame : (f g : ℕ) → f / 64 ≡ g / 64 → 2 ^ (f % 64) ≡ 2 ^ (g % 64) → f ≡ g
-same_frame f g a b = let c = pow_same (f % 64) (g % 64) b in omega arith
 
 unhint_lowers : (k by : ℕ) (u : Holdings) → lowered_frame k by u ≡ None → MayUnhint k by u → ⊥
 unhint_lowers k by u none may = let off = none_of (is_lower k by) u.raised may.frame none may.raised in let on = may.adds in cc

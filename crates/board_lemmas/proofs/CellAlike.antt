@@ -1,11 +1,26 @@
--- What the accessed and dirty bits of an entry leave: what it asks, and what a walk reads of it.
-use Rattle.std.proofs.Common.{◌≡◌, ℕ, ◌+◌, ◌/◌, ◌%◌, ◌^◌, Bool, true, false, refl, ◌∙◌, arith, if◌then◌else◌}
+-- What a walk reads of an entry, and that the bits which walks set leave it.
+use Rattle.std.proofs.Common.{ap, ◌≢◌, ◌≡◌, ℕ, ◌+◌, ◌/◌, ◌%◌, ◌^◌, Bool, true, false, refl, ◌∙◌, arith, if◌then◌else◌}
 use Rattle.std.proofs.lemmas.Bool.Decides.{nat_tests}
 use Rattle.xp_words.specs.Entries.{is_bit, frame_of}
 use Rattle.xp_board.specs.declared.holdings.Walk.{Walk}
 use Rattle.xp_board.specs.FillSteps.{with_bit, touched, sets_dirty}
 use Rattle.board_lemmas.proofs.Bits.{with_bit-other}
-use Rattle.stale_rule.proofs.CameFresh.{CellAlike}
+use Rattle.xp_board.specs.Reach.{Table, Reads, use_below}
+
+-- of an entry a walk reads whether it is present, whether it may be written through, and the frame
+pub record CellAlike (w w2 : ℕ) : Type 0 where
+  pub present : is_bit 0 w2 ≡ is_bit 0 w
+  pub writable : is_bit 1 w2 ≡ is_bit 1 w
+  pub frame : frame_of w2 ≡ frame_of w
+
+pub alike_same : (w w2 : ℕ) → w2 ≡ w → CellAlike w w2
+alike_same w w2 e = record { present = ap (λ x. is_bit 0 x) e; writable = ap (λ x. is_bit 1 x) e; frame = ap frame_of e }
+
+pub use_alike : (level w w2 : ℕ) → CellAlike w w2 → use_below level w2 ≡ use_below level w
+use_alike level w w2 alike = rw alike.writable refl
+
+pub not_reads : (level : ℕ) → Table level ≢ Reads
+not_reads level e = cc
 
 -- ---- a bit set by a walk
 frame_by5 : (w : ℕ) (b : Bool) → is_bit 5 w ≡ b → frame_of (if b then w else w + 2 ^ 5) ≡ frame_of w
