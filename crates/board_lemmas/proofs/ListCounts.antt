@@ -4,6 +4,8 @@ use Rattle.std.proofs.lemmas.Bool.{cases_eq}
 use Rattle.xp_board.specs.Lists.{one_at, times_by, first_by, without_by, EachOf}
 use Rattle.board_lemmas.proofs.Sums.{when_eq, when_ne}
 use Rattle.board_lemmas.proofs.HandLists.{EachOf-map, EachOf-first, first-key, first-some, EachOf-without}
+use Rattle.xp_board.specs.declared.holdings.Reference.{Reference}
+use Rattle.xp_board.specs.Hands.{refs_to}
 
 pub times_by-cons : {A : Type 0} (key : A → ℕ) (g : ℕ) (x : A) (xs : List A) → times_by key g (x ∷ xs) ≡ one_at g (key x) + times_by key g xs
 unfolding times_by
@@ -165,3 +167,7 @@ EachOf-absent P Q key g xs none f h =
 pub EachOf-others : {A : Type 0} (P Q : A → Type 0) (key : A → ℕ) (g : ℕ) (xs : List A) → times_by key g xs ≤ 1 → ((e : A) → key e ≢ g → P e → Q e) →
     EachOf P xs → EachOf Q (without_by key g xs)
 EachOf-others P Q key g xs few f h = EachOf-absent P Q key g (without_by key g xs) (times_by-without_one key g xs few) f (EachOf-without P key g xs h)
+
+-- the newest reference is in hand
+pub newest_held : (f : ℕ) (e : Reference) (xs : List Reference) → e.frame ≡ f → 0 < refs_to f (e ∷ xs)
+newest_held f e xs is = let more = times_by-cons_here (λ (y : Reference). y.frame) f e xs is in omega (arith, more)

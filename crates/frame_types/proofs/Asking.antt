@@ -25,6 +25,7 @@ use Rattle.frame_types.proofs.FlushSteps.{ServesFlushes, flushes_both, ran_serve
 use Rattle.frame_types.proofs.Growing.{Grows, went_grows, knows_later, marked_later}
 use Rattle.frame_types.proofs.Looking.{look_late}
 use Rattle.frame_types.proofs.Marked.{same_frame, work_past}
+use Rattle.std.proofs.lemmas.Bool.{le-leb}
 
 -- the frame is marked there too
 pub marked_next : (v u : PortValue) (a : Awaited) (made : List Made) → Serves v u a.frame [] made → u.post ≡ v.post → SameOrFlushed v.holdings u.holdings →
@@ -35,9 +36,6 @@ marked_next v u a made piece post same m =
 
 zero_test : (x : ℕ) → x ≡ 0 → (x == 0) ≡ true
 zero_test x is = grind (arith, nat_tests)
-
-low_test : (x n : ℕ) → x ≤ n → nat_le x n ≡ true
-low_test x n l = grind (arith, nat_tests)
 
 module _ (v u t : PortValue) (a : Awaited) (k x y : ℕ) (run : Makes v u (run_of k) Load None x) (first : SameHand v.holdings u.holdings) (post : u.post ≡ v.post)
     (marked : IsMarked v.post.machine a.frame a.owner a.stamp v.holdings) (flushed : Makes u t (flushed_of k) Load None y) (second : SameHand u.holdings t.holdings) (again : t.post ≡ u.post) where
@@ -103,7 +101,7 @@ module _ (v u t : PortValue) (a : Awaited) (k x y : ℕ) (run : Makes v u (run_o
           flushed =
               subst (λ (q : Post). IsTrue (some_since (sizes_of q.machine) (length v.holdings.steps) (flushed_of k) (λ w. nat_le w a.stamp) r.holdings.steps)) post
               (went_grows t r weighs.made weighs.piece.went _
-              (makes_since u t (flushed_of k) Load None y flushed (length v.holdings.steps) (λ w. nat_le w a.stamp) (went_longer v u (record { step = run.step; found = x } ∷ []) run.went) (low_test y a.stamp behind)));
+              (makes_since u t (flushed_of k) Load None y flushed (length v.holdings.steps) (λ w. nat_le w a.stamp) (went_longer v u (record { step = run.step; found = x } ∷ []) run.went) (le-leb y a.stamp behind)));
         })
 
     -- asked

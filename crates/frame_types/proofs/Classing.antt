@@ -13,13 +13,12 @@ use Rattle.xp_board.specs.KindSteps.{is_stale}
 use Rattle.xp_board.specs.Readings.{is_dead, is_partial, is_work, is_closing}
 use Rattle.xp_board.specs.Spelling.{IsSpelling, is_kind_in}
 use Rattle.xp_board.specs.Told.{Finds}
-use Rattle.board_lemmas.proofs.KindForms.{form_read}
-use Rattle.frame_words.proofs.KindWriting.{fields_read}
-use Rattle.frame_words.proofs.PartialCalls.{partial_unlive}
+use Rattle.board_lemmas.proofs.KindForms.{form_read, fields_of}
 use Rattle.frame_words.proofs.Stepping.{kind_there}
 use Rattle.frame_types.specs.Standing.{is_writable, standing_of}
 use Rattle.frame_types.specs.declared.standing.Standing.TheVariants.{Counted, Dead, Partial, Busy, Other}
 use Rattle.frame_types.specs.Writable.{IsOther, IsBusy, IsOpenKind}
+use Rattle.board_lemmas.proofs.KindReadings.{dead_unlive, partial_unlive}
 
 writable_by : (t : PageType) → is_writable t ≡ true → t ≡ kinds.Writable
 writable_by kinds.Writable is = refl
@@ -71,15 +70,15 @@ pub counted_opens : (w : ℕ) (k : KindWord) → kind_read w ≡ Some k → IsCo
 counted_opens w k read is =
     let live = is.live in
     let some = is.some in
-    rw (fields_read w k read) (inr (is.kind, grind (arith, nat_tests), grind (arith, nat_tests)))
+    rw (fields_of w k read) (inr (is.kind, grind (arith, nat_tests), grind (arith, nat_tests)))
 
 pub dead_opens : (w : ℕ) (k : KindWord) → kind_read w ≡ Some k → IsTrue (is_dead k) → IsOpenKind (kind_fields w)
-dead_opens w k read dead = rw (fields_read w k read) (inl dead)
+dead_opens w k read dead = rw (fields_of w k read) (inl dead)
 
 pub partial_opens : (w : ℕ) (k : KindWord) → kind_read w ≡ Some k → IsParted k → IsOpenKind (kind_fields w)
 partial_opens w k read is =
     let partial = is.partial in
-    rw (fields_read w k read) (inr (is.kind, grind (arith, nat_tests), grind (arith, nat_tests)))
+    rw (fields_of w k read) (inr (is.kind, grind (arith, nat_tests), grind (arith, nat_tests)))
 
 -- ---- a partial writable frame is marked, with nothing recorded
 plain_partial : (k : KindWord) → has_form k ≡ true → IsTrue (is_partial k) → is_table k.kind ≡ false → (k.unflushed ≡ true) × (k.progress ≡ 0)
@@ -107,15 +106,12 @@ pub record Waits (w stamp : ℕ) : Type 0 where
 
 waits_by : (w : ℕ) (k : KindWord) → kind_read w ≡ Some k → k.validated ≡ false → is_stale k kinds.Writable ≡ true → Waits w k.number
 waits_by w k read off stale =
-    let is = fields_read w k read in
+    let is = fields_of w k read in
     record {
       unvalidated = ap (λ (y : KindWord). y.validated) is ∙ off;
       stale = ap (λ y. is_stale y kinds.Writable) is ∙ stale;
       stamped = ap (λ (y : KindWord). y.number) is;
     }
-
-dead_unlive : (k : KindWord) → IsTrue (is_dead k) → k.validated ≡ false
-dead_unlive k dead = grind arith
 
 marked_stale : (k : KindWord) → k.unflushed ≡ true → is_stale k kinds.Writable ≡ true
 marked_stale k marked = rw marked refl

@@ -18,7 +18,8 @@ use Rattle.xp_board.specs.Steps.{some_since}
 use Rattle.frame_words.specs.Flushing.{Flushed, FoundLife}
 use Rattle.frame_words.specs.Hands.{SameHand}
 use Rattle.frame_words.proofs.Stepping.{clock_there, own_there, legal_at}
-use Rattle.frame_words.proofs.Hands.{same_hand, when_other}
+use Rattle.frame_words.proofs.Hands.{same_hand}
+use Rattle.board_lemmas.proofs.Sums.{when_lost}
 
 -- ---- places
 pub life_there : (z : Sizes) (d : ℕ) → d < z.domains → IsTrue (is_place z (Life d))
@@ -93,7 +94,7 @@ pub run_of_hand : (n : Machine) (s v : ℕ) (h k : Holdings) (x : Step) (found :
     k ≡ noted x found (after_move n s h (run_of v) Load steps.Look None found) → SameHand h k
 unfolding left_by
 run_of_hand n s v h k x found off e =
-    same_hand h k x found (e ∙ ap (λ y. noted x found y) (when_other v s (record h { run = Some found }) h off))
+    same_hand h k x found (e ∙ ap (λ y. noted x found y) (when_lost v s (record h { run = Some found }) h off))
 
 pub asked_hand : (n : Machine) (s v t : ℕ) (h k : Holdings) (x : Step) (found : ℕ) →
     k ≡ noted x found (after_move n s h (asked_of v) (Max t) steps.Ask None found) → SameHand h k

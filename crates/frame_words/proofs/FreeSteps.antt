@@ -48,13 +48,6 @@ pub free_read : (stamp : ℕ) → stamp < 2 ^ 36 → ref_read (ref_write (Free s
 free_read stamp low = ref_read-write (Free stamp) (free_is stamp low)
 
 -- ---- the bit of a frame
-pow_same : (i j : ℕ) → 2 ^ i ≡ 2 ^ j → i ≡ j
-pow_same i j e =
-    elim (cases_order i j) [
-      | inl at ↦ at
-      | inr (inl below) ↦ absurd (let k = pow-lt below in omega arith)
-      | inr (inr above) ↦ absurd (let k = pow-lt above in omega arith)
-    ]
 
 pow_le : (i j : ℕ) → i ≤ j → 2 ^ i ≤ 2 ^ j
 pow_le i j l =

@@ -1,5 +1,5 @@
 -- What each kind of step leaves in hand.
-use Rattle.std.proofs.Common.{◌≡◌, ◌≢◌, ℕ, ◌+◌, ◌^◌, ◌<◌, ◌==◌, if◌then◌else◌, Bool, true, false, List, ◌∷◌, length, Option, Some, None, IsTrue, refl, sym, ap, ◌∙◌, subst, arith}
+use Rattle.std.proofs.Common.{◌≡◌, ◌≢◌, ℕ, ◌+◌, ◌^◌, ◌<◌, ◌==◌, if◌then◌else◌, Bool, true, false, ◌∷◌, length, Option, Some, None, IsTrue, refl, sym, ap, ◌∙◌, subst, arith}
 use Rattle.std.proofs.lemmas.Bool.Decides.{nat_tests}
 use Rattle.xp_words.specs.Machine.{Machine, IsMachine}
 use Rattle.xp_words.specs.RefWords.{ref_read}
@@ -10,13 +10,11 @@ use Rattle.xp_board.specs.declared.step.Mark.{Mark}
 use Rattle.xp_board.specs.declared.step.Mark.TheVariants as marks
 use Rattle.xp_board.specs.declared.step.Step.{Step}
 use Rattle.xp_board.specs.declared.step.StepKind.TheVariants as steps
-use Rattle.xp_board.specs.declared.holdings.Reference.{Reference}
 use Rattle.xp_board.specs.declared.holdings.Holdings.{Holdings}
 use Rattle.xp_board.specs.declared.holdings.OwnerFound.TheVariants as owners
 use Rattle.xp_board.specs.Acts.{left_by}
 use Rattle.xp_board.specs.After.{after_move, noted}
-use Rattle.xp_board.specs.Hands.{refs_to}
-use Rattle.xp_board.specs.Lists.{times_by, one_at}
+use Rattle.xp_board.specs.Lists.{one_at}
 use Rattle.xp_board.specs.Legal.{Legal}
 use Rattle.xp_board.specs.Readings.{ref_count, owner_of}
 use Rattle.xp_board.specs.RefSteps.{one_down, owner_number, took_ref, gave_ref, Raise, ref_row, after_ref_row}
@@ -26,6 +24,8 @@ use Rattle.frame_words.specs.Hands.{SameRest, SameHand, BegunTurn, FoundRun, Too
 use Rattle.frame_words.specs.Pieces.{Makes, look_step}
 use Rattle.frame_words.proofs.Counting.{counted, next_read, owner_is}
 use Rattle.frame_words.proofs.Stepping.{is_plain, placed, refs_there, look_is_legal, raise_is_legal, makes, hand_after}
+use Rattle.board_lemmas.proofs.Sums.{when_lost, if_itself}
+use Rattle.board_lemmas.proofs.ListCounts.{newest_held}
 
 rest_of : (h k : Holdings) → k.typed ≡ h.typed → k.works ≡ h.works → k.locks ≡ h.locks → k.claimed ≡ h.claimed → k.raised ≡ h.raised → k.credits ≡ h.credits → k.looking ≡ h.looking → k.cache ≡ h.cache → k.walk ≡ h.walk → k.cold ≡ h.cold → k.old0 ≡ h.old0 → k.old1 ≡ h.old1 → k.acked ≡ h.acked → k.ran ≡ h.ran → SameRest h k
 rest_of h k a b c d e f g i j l m n o p =
@@ -45,12 +45,6 @@ rest_of h k a b c d e f g i j l m n o p =
       acked = o;
       ran = p;
     }
-
-pub when_same : {A : Type 0} (v : ℕ) (y z : A) → (if v == v then y else z) ≡ y
-when_same v y z = grind (arith, nat_tests)
-
-pub when_other : {A : Type 0} (w e : ℕ) (y z : A) → w ≢ e → (if w == e then y else z) ≡ z
-when_other w e y z off = grind (arith, nat_tests)
 
 -- ---- loads
 module _ (v w : PortValue) (x : Step) (i found : ℕ) (p : Place) (mark : Option Mark) (is : x ≡ look_step i mark) (at : i ≡ number (sizes_of v.post.machine) p)
@@ -79,7 +73,7 @@ same_hand h k x found e =
 pub turn_hand : (n : Machine) (s : ℕ) (h k : Holdings) (x : Step) (found : ℕ) →
     k ≡ noted x found (after_move n s h (asked_of s) Load steps.Look (Some marks.Turn) found) → BegunTurn h k
 turn_hand n s h k x found e =
-    let to = e ∙ ap (λ y. noted x found y) (when_same s (record h { turn = length h.steps }) (record h { turn = length h.steps })) in
+    let to = e ∙ ap (λ y. noted x found y) (if_itself s (record h { turn = length h.steps }) (record h { turn = length h.steps })) in
     subst (λ y. BegunTurn h y) (sym to) (record { refs = refl; ending = refl; run = refl; turn = refl; rest = rest_of h _ refl refl refl refl refl refl refl refl refl refl refl refl refl refl })
 
 -- a look at the own run word
@@ -87,7 +81,7 @@ pub run_hand : (n : Machine) (s : ℕ) (h k : Holdings) (x : Step) (found : ℕ)
     k ≡ noted x found (after_move n s h (run_of s) Load steps.Look None found) → FoundRun found h k
 unfolding left_by
 run_hand n s h k x found e =
-    let to = e ∙ ap (λ y. noted x found y) (when_same s (record h { run = Some found }) h) in
+    let to = e ∙ ap (λ y. noted x found y) (if_itself s (record h { run = Some found }) h) in
     subst (λ y. FoundRun found h y) (sym to) (record { refs = refl; ending = refl; run = refl; turn = refl; rest = rest_of h _ refl refl refl refl refl refl refl refl refl refl refl refl refl refl })
 
 -- ---- one reference more
@@ -98,16 +92,12 @@ row_is o c false = refl
 pub one_there : (f g : ℕ) → g ≡ f → one_at f g ≡ 1
 one_there f g is = grind (arith, nat_tests)
 
-one_held : (f : ℕ) (e : Reference) (xs : List Reference) → e.frame ≡ f → 0 < refs_to f (e ∷ xs)
-unfolding times_by
-one_held f e xs is = let one : one_at f e.frame ≡ 1 = one_there f e.frame is in omega (arith, one)
-
 took : (f owner found : ℕ) (h k : Holdings) (x : Step) → owner_number (owner_of found) ≡ owner → k ≡ noted x found (took_ref f found h) → TookRef f owner h k
 took f owner found h k x own e =
     subst (λ y. TookRef f owner h y) (sym e)
     (record {
       refs = ap (λ o. record { frame = f; owner = owners.Of o } ∷ h.refs) own;
-      held = one_held f _ h.refs refl;
+      held = newest_held f _ h.refs refl;
       ending = refl;
       run = refl;
       turn = refl;
@@ -121,14 +111,14 @@ raised_hand n s f w owner count allocated h k x found small read below at e =
     let row : ref_row (ref_read w) (ref_read (w + 1)) ≡ Raise =
     ap (λ y. ref_row y (ref_read (w + 1))) read ∙ ap (λ y. ref_row (Some (Owned owner allocated count)) y) (next_read w owner count allocated c below) ∙ row_is owner count allocated in
     let to : k ≡ noted x found (took_ref f found h) = e ∙ ap (λ y. noted x found y)
-    (ap (λ z. if z == w then after_ref_row (ref_row (ref_read w) (ref_read (w + 1))) n s f found h else h) at ∙ when_same w (after_ref_row (ref_row (ref_read w) (ref_read (w + 1))) n s f found h) h
+    (ap (λ z. if z == w then after_ref_row (ref_row (ref_read w) (ref_read (w + 1))) n s f found h else h) at ∙ if_itself w (after_ref_row (ref_row (ref_read w) (ref_read (w + 1))) n s f found h) h
     ∙ ap (λ r. after_ref_row r n s f found h) row) in
     took f owner found h k x (ap (λ y. owner_number (owner_of y)) at ∙ owner_is w owner count allocated read) to
 
 pub lost_hand : (n : Machine) (s f w : ℕ) (h k : Holdings) (x : Step) (found : ℕ) → found ≢ w →
     k ≡ noted x found (after_move n s h (Refs f) (Cas w (w + 1)) steps.Ref None found) → SameHand h k
 lost_hand n s f w h k x found off e =
-    same_hand h k x found (e ∙ ap (λ y. noted x found y) (when_other found w (after_ref_row (ref_row (ref_read w) (ref_read (w + 1))) n s f found h) h off))
+    same_hand h k x found (e ∙ ap (λ y. noted x found y) (when_lost found w (after_ref_row (ref_row (ref_read w) (ref_read (w + 1))) n s f found h) h off))
 
 -- ---- one reference less
 ends_by : (b : Bool) (f : ℕ) (h : Holdings) (x : Step) (w : ℕ) → (ref_count w == 1) ≡ b → EndsIf b f w h (noted x w (gave_ref f w h))

@@ -1,5 +1,5 @@
 -- What the next step asks, by what the last one left.
-use Rattle.std.proofs.Common.{◌≡◌, ℕ, ◌+◌, ◌<◌, arith, ◌==◌, ◌&&◌, not, if◌then◌else◌, Bool, true, false, List, ◌∷◌, length, Some, None, IsTrue, refl, sym, ap, ◌∙◌, inl}
+use Rattle.std.proofs.Common.{◌≡◌, ℕ, ◌+◌, ◌<◌, ◌==◌, ◌&&◌, not, if◌then◌else◌, Bool, true, false, List, ◌∷◌, length, Some, None, IsTrue, refl, sym, ap, ◌∙◌, inl}
 use Rattle.xp_words.specs.Machine.{Machine}
 use Rattle.xp_words.specs.declared.kind.KindWord.{KindWord}
 use Rattle.xp_words.specs.declared.kind.PageType.{PageType}
@@ -18,7 +18,7 @@ use Rattle.xp_board.specs.KindSteps.{live_typed, MayDrop, begun_kind, is_stale, 
 use Rattle.xp_board.specs.Readings.{is_work}
 use Rattle.xp_board.specs.RefSteps.{SparesClosing, is_closing_on}
 use Rattle.xp_board.specs.Steps.{some_since}
-use Rattle.board_lemmas.proofs.ListCounts.{first_by-cons_here, times_by-cons_here}
+use Rattle.board_lemmas.proofs.ListCounts.{first_by-cons_here, newest_held}
 use Rattle.board_lemmas.proofs.Sums.{when_eq}
 use Rattle.frame_words.specs.Kinds.{CountedType, BegunWork, IsWritableWork, MadeLive, DroppedType, MayLeaveDead, MadeDead, is_in_work, one_fewer}
 
@@ -78,11 +78,9 @@ pub dropped_spares : (n : Machine) (f found : ℕ) (h g : Holdings) → DroppedT
 dropped_spares n f found h g a = apart_spares f g (ap (λ ws. work_on f ws) a.works ∙ a.apart)
 
 -- ---- an untyped reference is in hand of a frame that was left dead
-more_held : (f : ℕ) (e : Reference) (xs : List Reference) → e.frame ≡ f → 0 < refs_to f (e ∷ xs)
-more_held f e xs is = let more = times_by-cons_here (λ (y : Reference). y.frame) f e xs is in omega (arith, more)
 
 still_held : (b : Bool) (f : ℕ) (e : Reference) (xs : List Reference) → e.frame ≡ f → 0 < refs_to f xs → 0 < refs_to f (if b then e ∷ xs else xs)
-still_held true f e xs is held = more_held f e xs is
+still_held true f e xs is held = newest_held f e xs is
 still_held false f e xs is held = held
 
 -- the one that was there, or that which the type count became
@@ -90,7 +88,7 @@ pub dead_keeps : (f : ℕ) (h g : Holdings) → MadeDead f h g → 0 < refs_to f
 dead_keeps f h g a held = rw a.refs (still_held (is_in_work f h) f _ h.refs refl held)
 
 pub dead_from_work : (f : ℕ) (h g : Holdings) → MadeDead f h g → is_in_work f h ≡ true → 0 < refs_to f g.refs
-dead_from_work f h g a working = rw (a.refs, working) (more_held f _ h.refs refl)
+dead_from_work f h g a working = rw (a.refs, working) (newest_held f _ h.refs refl)
 
 -- ---- what came into the hand last goes out again
 pub without_newest : {A : Type 0} (key : A → ℕ) (f : ℕ) (x : A) (xs ys : List A) → key x ≡ f → ys ≡ x ∷ xs → without_by key f ys ≡ xs

@@ -1,8 +1,6 @@
 -- What a kind word tells that a seat finds: facts of every sound state.
 use Rattle.std.proofs.Common.{◌≡◌, ℕ, ◌+◌, ◌^◌, ◌<◌, ◌≤◌, true, false, Option, Some, None, IsTrue, refl, sym, ap, ◌∙◌, subst, arith}
 use Rattle.xp_words.specs.Machine.{Machine}
-use Rattle.xp_words.specs.declared.entry.Demand.{Demand}
-use Rattle.xp_words.specs.declared.entry.Demand.TheVariants.{Nothing, Bad, Read, Typed}
 use Rattle.xp_words.specs.declared.kind.KindWord.{KindWord}
 use Rattle.xp_words.specs.declared.kind.PageType.{PageType}
 use Rattle.xp_words.specs.declared.refs.RefWord.{RefWord}
@@ -15,17 +13,16 @@ use Rattle.xp_board.specs.Hands.{refs_to, typed_to, hand, typed_hand, works_on, 
 use Rattle.xp_board.specs.Knowledge.{knows_live}
 use Rattle.xp_board.specs.KindSteps.{MayDrop}
 use Rattle.xp_board.specs.Readings.{kind_at, is_live, ref_count, count_in, type_count}
-use Rattle.xp_board.specs.Recorded.{CountsAgree, names, names_typed, entry_demand, held_of, work_of, table_entries, entries}
+use Rattle.xp_board.specs.Recorded.{CountsAgree}
 use Rattle.xp_board.specs.Spelling.{IsSpelling, is_ref_in}
 use Rattle.xp_board.specs.Told.{Finds}
-use Rattle.board_lemmas.proofs.Counted.{typed_counted}
-use Rattle.board_lemmas.proofs.KindForms.{live_unmarked}
+use Rattle.board_lemmas.proofs.Counted.{typed_counted, entries-fewer, hand_is}
+use Rattle.board_lemmas.proofs.KindForms.{live_unmarked, fields_of}
 use Rattle.board_lemmas.proofs.HeldByForm.{live_idle}
 use Rattle.board_lemmas.proofs.ListCounts.{first_by-none, times_by-without_one}
 use Rattle.xp_board.proofs.RefWords.{owned_fits}
-use Rattle.board_lemmas.proofs.Sums.{sum_below-fewer, hands-plus, hands-part}
+use Rattle.board_lemmas.proofs.Sums.{hands-plus, hands-part}
 use Rattle.board_lemmas.proofs.Works.{nobody_has, one_works}
-use Rattle.frame_words.proofs.KindWriting.{fields_read}
 use Rattle.frame_words.proofs.Stepping.{refs_there, clock_there}
 
 -- ---- a clock value has a place in a kind word
@@ -37,28 +34,13 @@ clock_is_small n s h w finds =
     omega arith
 
 -- ---- type counts and an untyped reference are within the reference count
-typed-fewer : (g : ℕ) (d : Demand) → names_typed g d ≤ names g d
-unfolding names names_typed
-typed-fewer g Nothing = omega arith
-typed-fewer g Bad = omega arith
-typed-fewer g (Read f) = omega arith
-typed-fewer g (Typed f t) = omega arith
-
-entries-fewer : (z : Sizes) (m : Place → ℕ) (h : ℕ → Holdings) (g : ℕ) → entries (names_typed g) z m h ≤ entries (names g) z m h
-unfolding entries table_entries
-entries-fewer z m h g =
-    sum_below-fewer z.frames _ _ (λ f. sum_below-fewer (held_of (kind_at m f) (work_of z.vcpus h f)) _ _ (λ i. typed-fewer g (entry_demand m f i)))
-
-both_hands : (g : ℕ) (u : Holdings) → hand g u ≡ refs_to g u.refs + typed_hand g u
-unfolding hand
-both_hands g u = refl
 
 pub types_beside : (z : Sizes) (m : Place → ℕ) (h : ℕ → Holdings) (s f : ℕ) → s < z.vcpus → CountsAgree z m h → type_count (kind_at m f) + refs_to f (h s).refs ≤ ref_count (m (Refs f))
 types_beside z m h s f real counts =
     let all = counts.refs f in
     let typed = counts.types f in
     let fewer = entries-fewer z m h f in
-    let both = hands-plus (λ u. refs_to f u.refs) (typed_hand f) (hand f) z h (both_hands f) in
+    let both = hands-plus (λ u. refs_to f u.refs) (typed_hand f) (hand f) z h (hand_is f) in
     let mine = hands-part (λ u. refs_to f u.refs) z h s real in
     omega (arith, all, typed, fewer, both, mine)
 
@@ -83,7 +65,7 @@ type_is_below n s h f w k frame finds read live held =
     let m = finds.words in
     let within = count_within n (m (Refs f)) (finds.sound.spelled.spelled (Refs f) (refs_there (sizes_of n) f frame)) in
     let beside = types_beside (sizes_of n) m finds.seats s f finds.real finds.sound.counts in
-    let is : kind_at m f ≡ k = ap (λ y. kind_fields y) finds.word ∙ fields_read w k read in
+    let is : kind_at m f ≡ k = ap (λ y. kind_fields y) finds.word ∙ fields_of w k read in
     let number : type_count (kind_at m f) ≡ k.number = ap (λ y. type_count y) is ∙ live_count k live in
     let mine : refs_to f (finds.seats s).refs ≡ refs_to f h.refs = ap (λ (u : Holdings). refs_to f u.refs) finds.mine in
     omega (arith, within, beside, number, mine, held)

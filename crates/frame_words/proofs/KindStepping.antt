@@ -18,8 +18,9 @@ use Rattle.xp_board.specs.RefSteps.{one_down}
 use Rattle.xp_board.specs.Spelling.{IsSpelling, is_kind_in}
 use Rattle.board_lemmas.proofs.Sums.{if_itself, when_ne}
 use Rattle.frame_words.specs.Kinds.{exchange_step, store_step}
-use Rattle.frame_words.proofs.KindWriting.{fields_read, fields_write}
+use Rattle.frame_words.proofs.KindWriting.{fields_write}
 use Rattle.frame_words.proofs.Stepping.{kind_there}
+use Rattle.board_lemmas.proofs.KindForms.{fields_of}
 
 -- ---- legal
 at_place : (n : Machine) (s : ℕ) (h : Holdings) (i f : ℕ) (a : Act) → place_at (sizes_of n) i ≡ Kind f → LegalMove n s h (Kind f) a steps.Kind None →
@@ -81,7 +82,7 @@ exchanged n s f w found k l r h read is row at =
     let whole = after_kind_row (kind_row (kind_fields w) (kind_fields new)) f (kind_fields w) (kind_fields new) new g in
     ap (λ z. if z == w then whole else record h { looking = still_looking f z h.looking }) at
     ∙ if_itself w whole (record h { looking = still_looking f w h.looking })
-    ∙ ap (λ y. after_kind_row (kind_row y (kind_fields new)) f y (kind_fields new) new g) (fields_read w k read)
+    ∙ ap (λ y. after_kind_row (kind_row y (kind_fields new)) f y (kind_fields new) new g) (fields_of w k read)
     ∙ ap (λ y. after_kind_row (kind_row k y) f k y new g) (fields_write l is)
     ∙ ap (λ y. after_kind_row y f k l new g) row
 

@@ -1,5 +1,5 @@
 -- What stores of a kind word, and a type count given back, leave in hand.
-use Rattle.std.proofs.Common.{◌≡◌, ℕ, ◌-◌, ◌^◌, ◌<◌, ◌==◌, Bool, true, false, List, ◌∷◌, Some, None, IsTrue, refl, sym, ap, ◌∙◌, subst, arith, inl}
+use Rattle.std.proofs.Common.{◌≡◌, ℕ, ◌-◌, ◌^◌, ◌<◌, ◌==◌, Bool, true, false, Some, None, IsTrue, refl, sym, ap, ◌∙◌, subst, arith, inl}
 use Rattle.std.proofs.lemmas.Bool.Decides.{nat_tests}
 use Rattle.xp_words.specs.Machine.{Machine}
 use Rattle.xp_words.specs.declared.kind.KindWord.{KindWord}
@@ -9,28 +9,26 @@ use Rattle.xp_words.specs.Places.{Kind, number, sizes_of, place_at}
 use Rattle.xp_board.specs.declared.step.Act.TheVariants.{Store, Add}
 use Rattle.xp_board.specs.declared.step.Step.{Step}
 use Rattle.xp_board.specs.declared.step.StepKind.TheVariants as steps
-use Rattle.xp_board.specs.declared.holdings.Reference.{Reference}
 use Rattle.xp_board.specs.declared.holdings.Work.{Work}
 use Rattle.xp_board.specs.declared.holdings.Holdings.{Holdings}
 use Rattle.xp_board.specs.Acts.{left_by}
 use Rattle.xp_board.specs.After.{after_move, noted}
-use Rattle.xp_board.specs.Hands.{refs_to, typed_to, work_on, without_work}
+use Rattle.xp_board.specs.Hands.{typed_to, work_on, without_work}
 use Rattle.xp_board.specs.KindSteps.{AllowsForm, Form, form_of, after_form, made_live, made_dead, dropped, MayMakeLive}
 use Rattle.xp_board.specs.Legal.{Legal}
-use Rattle.xp_board.specs.Lists.{times_by, one_at}
 use Rattle.xp_board.specs.Readings.{is_work}
 use Rattle.xp_board.specs.RefSteps.{one_down}
 use Rattle.xp_board.specs.Runs.{place_of}
 use Rattle.xp_board.specs.Spelling.{is_kind_in}
 use Rattle.xp_board.specs.Told.{PortValue, stepped, IsTold}
 use Rattle.board_lemmas.proofs.KindForms.{fields_down}
-use Rattle.board_lemmas.proofs.Sums.{one_at-same}
 use Rattle.frame_words.specs.Kinds.{IsWritableWork, MadeLive, MadeDead, ClosesIf, DroppedType, is_work_in, is_in_work, live_kind, store_step}
 use Rattle.frame_words.specs.Pieces.{Makes}
 use Rattle.frame_words.proofs.KindFinds.{FoundLive}
 use Rattle.frame_words.proofs.KindHands.{typed_held, known_first, beside}
 use Rattle.frame_words.proofs.KindStepping.{store_is_legal, stored}
 use Rattle.frame_words.proofs.Stepping.{kind_there, placed, makes, hand_after}
+use Rattle.board_lemmas.proofs.ListCounts.{newest_held}
 
 -- ---- stores
 module _ (v w : PortValue) (x : Step) (i f new found : ℕ) (e : Work) (l : KindWord) (r : Form) (is : x ≡ store_step i new) (next : new ≡ kind_write l)
@@ -120,10 +118,6 @@ dead_hand f found e h g x out here to = dead_by (is_work (kind_fields e.word)) f
 only_one : (y : ℕ) → (y == 1) ≡ true → y - 1 ≡ 0
 only_one y h = grind (arith, nat_tests)
 
-ref_held : (f : ℕ) (e : Reference) (xs : List Reference) → e.frame ≡ f → 0 < refs_to f (e ∷ xs)
-unfolding times_by
-ref_held f e xs is = let one : one_at f e.frame ≡ 1 = ap (λ g. one_at f g) is ∙ one_at-same f in omega (arith, one)
-
 closes_by : (b : Bool) (f found : ℕ) (h : Holdings) (x : Step) → found < 2 ^ 64 → 0 < (kind_fields found).number → ((kind_fields found).number == 1) ≡ b →
     ClosesIf b f found h (noted x found (dropped f found (left_by (Add one_down) found) h))
 unfolding left_by
@@ -140,7 +134,7 @@ dropped_hand n s f found b h g x a is e =
     subst (λ y. DroppedType n f found b h y) (sym e)
     (record {
       refs = refl;
-      held = ref_held f _ h.refs refl;
+      held = newest_held f _ h.refs refl;
       typed = refl;
       works = closes_by b f found h x a.small a.some (sym is);
       apart = a.apart;

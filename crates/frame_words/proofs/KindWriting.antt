@@ -7,19 +7,15 @@ use Rattle.xp_words.specs.declared.kind.PageType.{PageType}
 use Rattle.xp_words.specs.declared.kind.PageType.TheVariants as kinds
 use Rattle.xp_words.specs.KindWords.{is_kind, kind_read, kind_fields, kind_write, has_form}
 use Rattle.xp_words.specs.PageTypes.{is_none}
-use Rattle.xp_words.proofs.KindLaws.{kind_read-write, kind_write-read, when_some}
+use Rattle.xp_words.proofs.KindLaws.{kind_read-write, kind_write-read}
 use Rattle.xp_board.specs.KindSteps.{begun_kind, raised_kind}
 use Rattle.xp_board.specs.Readings.{is_live, is_dead}
 use Rattle.xp_board.specs.Spelling.{is_kind_in}
 use Rattle.frame_words.specs.Kinds.{live_kind, dead_kind}
-
--- a word that is read as that value has its fields
-pub fields_read : (w : ℕ) (k : KindWord) → kind_read w ≡ Some k → kind_fields w ≡ k
-unfolding kind_read
-fields_read w k e = (when_some _ _ _ e).1
+use Rattle.board_lemmas.proofs.KindForms.{fields_of}
 
 pub fields_write : (k : KindWord) → IsTrue (is_kind k) → kind_fields (kind_write k) ≡ k
-fields_write k is = fields_read (kind_write k) k (kind_read-write k is)
+fields_write k is = fields_of (kind_write k) k (kind_read-write k is)
 
 pub raised_is : (w : ℕ) (k : KindWord) → kind_read w ≡ Some k → IsTrue (is_live k) → 0 < k.number → k.number + 1 < 2 ^ 26 → IsTrue (is_kind (raised_kind k))
 unfolding has_form

@@ -1,5 +1,5 @@
 -- A step of a port is noted in the hand, and the steps before it stay there.
-use Rattle.std.proofs.Common.{◌≡◌, ℕ, ◌<◌, ◌≤◌, ◌&&◌, ◌||◌, nat_le, nat_lt, Bool, true, List, ◌∷◌, length, Option, IsTrue, refl, sym, ap, ◌∙◌, subst, arith}
+use Rattle.std.proofs.Common.{◌≡◌, ℕ, ◌<◌, ◌≤◌, ◌&&◌, ◌||◌, nat_lt, Bool, true, List, ◌∷◌, length, Option, IsTrue, refl, sym, ap, ◌∙◌, subst, arith}
 use Rattle.std.proofs.lemmas.Bool.Decides.{nat_tests}
 use Rattle.xp_words.specs.Places.{Place, sizes_of, place_at}
 use Rattle.xp_board.specs.declared.step.Act.{Act}
@@ -13,9 +13,7 @@ use Rattle.board_lemmas.proofs.StepLists.{one_more}
 use Rattle.frame_words.specs.Pieces.{Makes}
 use Rattle.board_lemmas.proofs.Noted.{move_steps}
 use Rattle.board_lemmas.proofs.PlaceTests.{is_same-refl}
-
-from_here : (n k : ℕ) → n ≤ k → nat_le n k ≡ true
-from_here n k l = grind (arith, nat_tests)
+use Rattle.std.proofs.lemmas.Bool.{le-leb}
 
 below_here : (n k : ℕ) → k < n → nat_lt k n ≡ true
 below_here n k l = grind (arith, nat_tests)
@@ -43,7 +41,7 @@ module _ (v w : PortValue) (p : Place) (a : Act) (mark : Option Mark) (found : �
   unfolding some_step
   makes_since n test late passes =
       rw makes_steps
-      (passes_head _ _ _ _ (from_here n (length v.holdings.steps) late) here_is (ap (λ b. test (left_by b found)) m.act ∙ passes))
+      (passes_head _ _ _ _ (le-leb n (length v.holdings.steps) late) here_is (ap (λ b. test (left_by b found)) m.act ∙ passes))
 
   pub makes_before : (n : ℕ) (test : ℕ → Bool) → length v.holdings.steps < n → test (left_by a found) ≡ true → IsTrue (some_before (sizes_of v.post.machine) n p test w.holdings.steps)
   unfolding some_step

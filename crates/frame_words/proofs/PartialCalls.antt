@@ -1,5 +1,5 @@
 -- What the next step asks, by what a partial frame left that came into work again.
-use Rattle.std.proofs.Common.{◌≡◌, ℕ, ◌&&◌, Bool, false, Some, IsTrue, refl, ap, ◌∙◌, arith}
+use Rattle.std.proofs.Common.{◌≡◌, ℕ, ◌&&◌, Bool, false, Some, IsTrue, refl, ap, ◌∙◌}
 use Rattle.xp_words.specs.declared.kind.KindWord.{KindWord}
 use Rattle.xp_words.specs.KindWords.{kind_write}
 use Rattle.xp_board.specs.declared.holdings.Work.{Work}
@@ -10,15 +10,13 @@ use Rattle.xp_board.specs.Readings.{is_partial}
 use Rattle.xp_board.specs.RefSteps.{SparesClosing, is_closing_on}
 use Rattle.frame_words.specs.Partial.{ResumedWork}
 use Rattle.frame_words.proofs.KindCalls.{work_here}
+use Rattle.board_lemmas.proofs.KindReadings.{partial_unlive}
 
 abbrev pub resumed_work : ℕ → KindWord → Holdings → Work
 resumed_work f kind h = new_work f (kind_write (resumed_kind kind)) kind.progress (unsettled_from kind.progress h) h
 
 pub resumed_here : (f : ℕ) (kind : KindWord) (h k : Holdings) → ResumedWork f kind h k → work_on f k.works ≡ Some (resumed_work f kind h)
 resumed_here f kind h k a = work_here f _ k h.works refl a.works
-
-pub partial_unlive : (k : KindWord) → IsTrue (is_partial k) → k.validated ≡ false
-partial_unlive k partial = grind arith
 
 not_closing : (b c : Bool) → b ≡ false → (b && c) ≡ false
 not_closing b c off = rw off refl

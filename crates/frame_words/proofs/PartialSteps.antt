@@ -16,12 +16,13 @@ use Rattle.xp_board.specs.declared.holdings.Holdings.{Holdings}
 use Rattle.xp_board.specs.After.{noted}
 use Rattle.xp_board.specs.Hands.{refs_to, typed_to, work_on, without_work, ref_owner, typed_owner}
 use Rattle.xp_board.specs.KindSteps.{Resume, kind_row, resumed_kind, resumed, MayResume, MayMakePartial, MayMakeLive, made_partial, made_live, looking_at, still_looking}
-use Rattle.xp_board.specs.Readings.{is_partial, is_work, is_closing, domain_of}
+use Rattle.xp_board.specs.Readings.{is_partial, is_closing, domain_of}
 use Rattle.xp_board.specs.Spelling.{is_kind_in}
 use Rattle.frame_words.specs.Kinds.{IsWritableWork, live_kind}
 use Rattle.frame_words.specs.Partial.{ResumedWork, MayLeavePartial, MadePartial, MadeShared, partial_kind}
 use Rattle.frame_words.proofs.KindHands.{typed_held, known_first, beside}
 use Rattle.frame_words.proofs.KindWriting.{fields_write, live_is}
+use Rattle.board_lemmas.proofs.KindReadings.{work_alone}
 
 -- ---- words
 pub resumed_is : (w : ℕ) (k : KindWord) → kind_read w ≡ Some k → IsTrue (is_partial k) → IsTrue (is_kind (resumed_kind k))
@@ -70,15 +71,13 @@ resumed_hand f found k h g x spelled e =
     })
 
 -- ---- work to partial
-work_open : (k : KindWord) → IsTrue (is_work k) → is_closing k ≡ false
-work_open k work = grind arith
 
 owner_kept : (b : Bool) (a o : OwnerFound) → b ≡ false → (if b then a else o) ≡ o
 owner_kept b a o off = rw off refl
 
 pub may_be_partial : (n : Machine) (s f : ℕ) (t : PageType) (stamp : ℕ) (kept : Bool) (h : Holdings) (a : MayLeavePartial n s f t stamp kept h) → MayMakePartial n f a.work (partial_kind t stamp kept) h
 may_be_partial n s f t stamp kept h a =
-    let off = work_open (kind_fields a.work.word) a.in_work in
+    let off = work_alone (kind_fields a.work.word) a.in_work in
     record {
       kind = sym a.kind_is;
       progress = sym a.none;
@@ -98,7 +97,7 @@ pub partial_hand : (n : Machine) (s f found : ℕ) (t : PageType) (stamp : ℕ) 
     work_on f (without_work f h.works) ≡ None →
     g ≡ noted x found (made_partial n s f a.work (partial_kind t stamp kept) (kind_write (partial_kind t stamp kept)) h) → MadePartial f kept h g
 partial_hand n s f found t stamp true h g x a out to =
-    let off = work_open (kind_fields a.work.word) a.in_work in
+    let off = work_alone (kind_fields a.work.word) a.in_work in
     let owner = owner_kept (is_closing (kind_fields a.work.word)) (ref_owner f h) (typed_owner f h) off ∙ (a.keeps refl).1 in
     subst (λ y. MadePartial f true h y) (sym to)
     (record {
@@ -110,7 +109,7 @@ partial_hand n s f found t stamp true h g x a out to =
       rest = rw off (beside h _ refl refl refl refl refl refl refl refl refl refl refl refl refl refl);
     })
 partial_hand n s f found t stamp false h g x a out to =
-    let off = work_open (kind_fields a.work.word) a.in_work in
+    let off = work_alone (kind_fields a.work.word) a.in_work in
     subst (λ y. MadePartial f false h y) (sym to)
     (record {
       refs = rw off refl;

@@ -13,8 +13,8 @@ use Rattle.xp_board.specs.Legal.{Legal}
 use Rattle.xp_board.specs.RunSteps.{ran_now}
 use Rattle.xp_board.specs.Spelling.{IsSpelling}
 use Rattle.frame_words.specs.Hands.{Stopped}
-use Rattle.frame_words.proofs.Hands.{when_same}
 use Rattle.frame_words.proofs.Stepping.{own_there, legal_at}
+use Rattle.board_lemmas.proofs.Sums.{if_itself}
 
 pub stop_is_legal : (n : Machine) (s : ℕ) (h : Holdings) (i : ℕ) → place_at (sizes_of n) i ≡ run_of s → s < length n.vcpu_domain → IsEmptyHand h → h.walk ≡ None →
     Legal n s h (record { place = i; act = Store 1; kind = steps.Run; mark = None })
@@ -34,7 +34,7 @@ pub stopped_hand : (n : Machine) (s : ℕ) (h k : Holdings) (x : Step) (found : 
     k ≡ noted x found (after_move n s h (run_of s) (Store 1) steps.Run None found) → Stopped h k
 unfolding left_by
 stopped_hand n s h k x found e =
-    let to = e ∙ ap (λ y. noted x found y) (when_same s (record (ran_now 1 h) { run = Some 1 }) (ran_now 1 h)) in
+    let to = e ∙ ap (λ y. noted x found y) (if_itself s (record (ran_now 1 h) { run = Some 1 }) (ran_now 1 h)) in
     subst (λ y. Stopped h y) (sym to)
     (record {
       refs = refl;

@@ -27,10 +27,11 @@ use Rattle.frame_words.specs.Hands.{SameRest, SameHand, TookRef}
 use Rattle.frame_words.specs.Pieces.{Makes, Serves, Calm}
 use Rattle.frame_words.specs.References.{Gets, RefusesWord, IsLent}
 use Rattle.frame_words.proofs.Counting.{counted, next_read, count_is}
-use Rattle.frame_words.proofs.Hands.{one_there, when_same}
+use Rattle.frame_words.proofs.Hands.{one_there}
 use Rattle.frame_words.proofs.Piecing.{serves_nothing, serves_more, made_of, makes_had, makes_serves, makes_calm, calm_nothing, calm_more, this_frame}
 use Rattle.frame_words.proofs.Stepping.{refs_there}
 use Rattle.frame_words.proofs.Telling.{makes_telling, makes_found, makes_here}
+use Rattle.board_lemmas.proofs.Sums.{if_itself}
 
 -- ---- hands, one behind the other
 pub rest_after : (a b c : Holdings) → SameRest a b → SameRest b c → SameRest a c
@@ -188,7 +189,7 @@ module _ (v u : PortValue) (f owner word : ℕ) (look : Makes v u (Refs f) Load 
     then_lent count allocated read small below at tells =
         let c = counted word owner count allocated small read in
         let told : told_word w (Refs f) ≡ word + 1 =
-        makes_here _ _ _ _ _ _ raise (makes_telling _ _ _ _ _ _ look ∙ tells) ∙ ap (λ y. if y == word then word + 1 else y) at ∙ when_same word (word + 1) word in
+        makes_here _ _ _ _ _ _ raise (makes_telling _ _ _ _ _ _ look ∙ tells) ∙ ap (λ y. if y == word then word + 1 else y) at ∙ if_itself word (word + 1) word in
         let two = count_is (word + 1) owner (count + 1) allocated (next_read word owner count allocated c below) in
         let some = c.some in
         rw (told, two) (omega arith)

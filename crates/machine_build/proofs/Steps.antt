@@ -61,11 +61,6 @@ pub cell-inside : (z : Sizes) (f i : ℕ) → f < z.frames → i < 512 → numbe
 unfolding is_place
 cell-inside z f i h b = number-lt z (Cell f i) (grind (arith, nat_tests))
 
--- the cells of a frame stand side by side
-pub cell-behind : (z : Sizes) (f i : ℕ) → number z (Cell f i) ≡ number z (Cell f 0) + i
-unfolding number
-cell-behind z f i = omega arith
-
 pub map-inside : (z : Sizes) (k : ℕ) → k < map_words z → number z (Map k) < size z
 unfolding is_place
 map-inside z k h = number-lt z (Map k) (grind (arith, nat_tests))

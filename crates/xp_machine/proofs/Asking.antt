@@ -1,6 +1,6 @@
 -- A vCPU asks another one to flush, and the other may still take its first turn.
 use Rattle.std.proofs.Common.{◌≡◌, ℕ, ◌<◌, ◌≤◌, ◌==◌, nat_le, true, [], ◌∷◌, length, None, IsTrue, refl, sym, ap, ◌∙◌, subst, inl, inr, arith}
-use Rattle.std.proofs.lemmas.Bool.{cases_eq}
+use Rattle.std.proofs.lemmas.Bool.{cases_eq, le-leb}
 use Rattle.std.proofs.lemmas.Bool.Decides.{nat_tests}
 use Rattle.xp_words.specs.Machine.{Machine}
 use Rattle.xp_words.specs.Places.{Place, Clock, memory, sizes_of, run_of, flushed_of}
@@ -33,9 +33,6 @@ makes_goes v w p a mark found m = (record { step = m.step; found = found } ∷ [
 is_test : (x n : ℕ) → x ≡ n → (x == n) ≡ true
 is_test x n is = grind (arith, nat_tests)
 
-low_test : (x n : ℕ) → x ≤ n → nat_le x n ≡ true
-low_test x n l = grind (arith, nat_tests)
-
 -- The clock was found, then the other vCPU running and flushed no later.
 pub may_ask : (u v w x : PortValue) (k clock run flushed : ℕ) → Makes u v Clock Load None clock → v.post ≡ u.post → Makes v w (run_of k) Load None run → w.post ≡ v.post →
     Makes w x (flushed_of k) Load None flushed → x.post ≡ w.post → run ≡ 0 → flushed ≤ clock → MayAsk x.post.machine k clock x.holdings
@@ -52,7 +49,7 @@ may_ask u v w x k clock run flushed first same second again third later idle beh
           (makes_since v w (run_of k) Load None run second since (λ y. y == 0) (omega arith) (is_test run 0 idle)));
       flushed = subst (λ (q : Post). IsTrue (some_since (sizes_of q.machine) since (flushed_of k) (λ y. nat_le y clock) x.holdings.steps)) (again ∙ same)
           (makes_since w x (flushed_of k) Load None flushed third since (λ y. nat_le y clock)
-          (went_longer v w (record { step = second.step; found = run } ∷ []) second.went) (low_test flushed clock behind));
+          (went_longer v w (record { step = second.step; found = run } ∷ []) second.went) (le-leb flushed clock behind));
     })
 
 -- ---- the board afterwards

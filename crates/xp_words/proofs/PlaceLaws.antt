@@ -65,3 +65,8 @@ domain_there z n k h = grind (arith, nat_tests)
 pub place_there : (z : Sizes) (n : ℕ) → n < size z → IsTrue (is_place z (place_at z n)) × (number z (place_at z n) ≡ n)
 unfolding place_at size IsThere is_place number
 place_there z n h = grind (arith, nat_tests, vcpu_there, frame_there, domain_there)
+
+-- the cells of a frame stand side by side
+pub cell-behind : (z : Sizes) (f i : ℕ) → number z (Cell f i) ≡ number z (Cell f 0) + i
+unfolding number
+cell-behind z f i = omega arith

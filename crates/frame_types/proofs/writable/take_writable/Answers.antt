@@ -6,12 +6,12 @@ use Rattle.xp_words.specs.declared.kind.PageType.TheVariants.{Writable}
 use Rattle.xp_board.specs.Hands.{refs_to}
 use Rattle.xp_board.specs.Told.{Post}
 use Rattle.frame_words.proofs.KindFinds.{type_is_below}
-use Rattle.frame_words.proofs.KindWriting.{fields_read}
 use Rattle.frame_types.specs.Writable.{IsOther, IsBusy, Takes}
 use Rattle.frame_types.proofs.Arms.{takes_after, word_told, still_telling, refused}
 use Rattle.frame_types.proofs.Classing.{when_counted, when_busy, when_other, found_spelled}
 use Rattle.frame_types.proofs.Taken.{lent_held, ready_same}
 use Rattle.frame_types.proofs.writable.take_writable.Goals as goal
+use Rattle.board_lemmas.proofs.KindForms.{fields_of}
 
 pub read_kind-kind-requires : goal.read_kind-kind-requires
 read_kind-kind-requires g c =
@@ -64,7 +64,7 @@ returns-in-Partial-clause-told g c tells =
 pub returns-in-Busy-clause-takes : goal.returns-in-Busy-clause-takes
 returns-in-Busy-clause-takes g c =
     let v = g.P.Port.value c.args.port.now in
-    let busy = subst IsBusy (sym (fields_read c.look_kind-word.result c.read_kind-kind.result c.read_kind-kind.ensures)) (when_busy c.read_kind-kind.result (sym c.in-Busy.ensures)) in
+    let busy = subst IsBusy (sym (fields_of c.look_kind-word.result c.read_kind-kind.result c.read_kind-kind.ensures)) (when_busy c.read_kind-kind.result (sym c.in-Busy.ensures)) in
     subst (λ e. Takes v (g.P.Port.value c.give_up.new.port) c.args.frame c.args.owner e) (sym c.give_up.ensures.answer)
     (refused v _ _ c.args.frame c.args.owner c.look_kind-word.result c.look_kind-word.ensures.made (Paused (Busy c.args.frame c.look_kind-word.result)) c.look_kind-word.ensures.hand
     c.give_up.ensures.gives (λ made had. (refl, had, busy)))
@@ -72,7 +72,7 @@ returns-in-Busy-clause-takes g c =
 pub returns-in-Other-clause-takes : goal.returns-in-Other-clause-takes
 returns-in-Other-clause-takes g c =
     let v = g.P.Port.value c.args.port.now in
-    let other = subst IsOther (sym (fields_read c.look_kind-word.result c.read_kind-kind.result c.read_kind-kind.ensures)) (when_other c.read_kind-kind.result (sym c.in-Other.ensures)) in
+    let other = subst IsOther (sym (fields_of c.look_kind-word.result c.read_kind-kind.result c.read_kind-kind.ensures)) (when_other c.read_kind-kind.result (sym c.in-Other.ensures)) in
     subst (λ e. Takes v (g.P.Port.value c.give_up-in-Other.new.port) c.args.frame c.args.owner e) (sym c.give_up-in-Other.ensures.answer)
     (refused v _ _ c.args.frame c.args.owner c.look_kind-word.result c.look_kind-word.ensures.made (Refused (refusals.OtherType c.args.frame Writable c.look_kind-word.result))
     c.look_kind-word.ensures.hand c.give_up-in-Other.ensures.gives (λ made had. (refl, refl, had, other)))

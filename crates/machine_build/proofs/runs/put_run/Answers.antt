@@ -1,9 +1,10 @@
 use Rattle.std.proofs.Common.{◌≡◌, ◌≤◌, ◌<◌, ◌∙◌, ◌+◌, refl, length, sym, ap, arith, Ok, Err, Result, OnOk, max, vec_len, lit<}
 use Rattle.std.proofs.Math.ListN.{length-set}
 use Rattle.xp_words.specs.Places.{Cell, sizes_of, size, number}
-use Rattle.machine_build.proofs.Steps.{cell-inside, cell-behind}
+use Rattle.machine_build.proofs.Steps.{cell-inside}
 use Rattle.machine_build.proofs.CellRuns.{none_written, one_more, grown, run_written}
 use Rattle.machine_build.proofs.runs.put_run.Goals as goal
+use Rattle.xp_words.proofs.PlaceLaws.{cell-behind}
 
 if_ok : {A E : Type 0} {P Q : Type 0} (r : Result A E) → OnOk r P → (P → Q) → OnOk r Q
 if_ok (Ok a) p f = f p
