@@ -1,4 +1,4 @@
--- A type count or an entry lock that a seat may give back: the frame is live and counted, and what its word says one count lower.
+-- A type count or an entry lock that a vCPU may give back: the frame is live and counted, and what its word says one count lower.
 use Rattle.std.proofs.Common.{◌≡◌, ℕ, ◌+◌, ◌-◌, ◌%◌, ◌^◌, ◌<◌, true, false, ap, ◌∙◌, arith}
 use Rattle.std.proofs.lemmas.Bool.{and_parts}
 use Rattle.xp_words.specs.KindWords.{kind_fields}

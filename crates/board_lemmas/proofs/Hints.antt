@@ -45,7 +45,7 @@ lower_parts k by g e = let p = and_parts _ _ e in (eqb-true _ _ p.0, eqb-true _ 
 pub same_frame : (f g : ℕ) → f / 64 ≡ g / 64 → 2 ^ (f % 64) ≡ 2 ^ (g % 64) → f ≡ g
 same_frame f g a b = let c = pow_same (f % 64) (g % 64) b in omega arith
 
--- ---- the frames that a seat may hint at
+-- ---- the frames that a vCPU may hint at
 map_times : {A : Type 0} (key : A → ℕ) (g : ℕ) (xs : List A) (ys : List ℕ) → times g (map key xs ++ ys) ≡ times_by key g xs + times g ys
 unfolding times_by
 map_times key g [] ys = omega arith

@@ -26,7 +26,7 @@ partial_parts k partial = let a = and_parts (not k.validated) k.partial partial 
 pub dead_unlive : (k : KindWord) → IsTrue (is_dead k) → k.validated ≡ false
 dead_unlive k dead = grind (arith, nat_tests)
 
--- ---- in one seat's hand alone: in work, or closing
+-- ---- in one vCPU's hand alone: in work, or closing
 pub busy_forms : (k : KindWord) → is_busy k ≡ true → IsTrue (is_work k) ⊎ IsTrue (is_closing k)
 busy_forms k e = or_cases _ _ e
 

@@ -41,7 +41,7 @@ module _ (n : Machine) (m : Place → ℕ) (h : ℕ → Holdings) (sound : Sound
   leads_live f i g v c (inl live) = live
   leads_live f i g v c (inr (early, inl last)) = absurd (live_partial (kind_at m f) v last.partial)
   leads_live f i g v c (inr (early, inr open_entry)) =
-      absurd (let none = no_work f open_entry.seat v c open_entry.real in let some = open_entry.here in cc)
+      absurd (let none = no_work f open_entry.vcpu v c open_entry.real in let some = open_entry.here in cc)
 
   -- a live frame that a recorded entry asks is counted
   pub named_counted : (f i g : ℕ) (t : PageType) → f < (sizes_of n).frames → i < held (sizes_of n) m h f → entry_demand m f i ≡ Typed g t →

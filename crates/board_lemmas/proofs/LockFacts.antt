@@ -1,4 +1,4 @@
--- What is known of a table whose lock a seat has, and of an entry of it that is rewritten.
+-- What is known of a table whose lock a vCPU has, and of an entry of it that is rewritten.
 use Rattle.std.proofs.Common.{◌≡◌, ℕ, ◌<◌, ◌==◌, true, false, Option, Some, None, IsTrue, refl, sym, ◌∙◌, ap, subst, inl, inr, arith}
 use Rattle.std.proofs.lemmas.Bool.{cases_eq}
 use Rattle.std.proofs.lemmas.Bool.Decides.{nat_tests}
@@ -24,7 +24,7 @@ use Rattle.board_lemmas.proofs.HandLists.{first-some}
 use Rattle.board_lemmas.proofs.Works.{is_locked-mine}
 use Rattle.board_lemmas.proofs.WorkFacts.{seen_is}
 
--- the lock e of seat s on table f
+-- the lock e of vCPU s on table f
 pub record Locks (n : Machine) (m : Place → ℕ) (h : ℕ → Holdings) (s f : ℕ) (e : Lock) : Type 0 where
   pub frame : e.frame ≡ f
   pub some : 0 < locks_on f (h s).locks

@@ -20,10 +20,10 @@ use Rattle.board_lemmas.proofs.KindForms.{marked_form, form_unlive}
 pub closing_counted : (n : Machine) (m : Place → ℕ) (h : ℕ → Holdings) (f : ℕ) → Sound n m h → is_closing (kind_at m f) ≡ true → is_busy (kind_at m f) ≡ true → 0 < ref_count (m (Refs f))
 closing_counted n m h f sound closing busy =
     let t = in_works n m h sound.alone f busy in
-    let w = works_facts n m h t.seat f t.work sound t.real t.here in
+    let w = works_facts n m h t.vcpu f t.work sound t.real t.here in
     let c : IsTrue (is_closing (kind_fields t.work.word)) = subst (λ y. IsTrue (is_closing (kind_fields y))) w.word closing in
-    let r : 0 < refs_to f (h t.seat).refs = subst (λ y. 0 < refs_to y (h t.seat).refs) w.frame (w.agrees.closing c) in
-    let counted = in_hand_counted (sizes_of n) m h t.seat f t.real sound.counts r in
+    let r : 0 < refs_to f (h t.vcpu).refs = subst (λ y. 0 < refs_to y (h t.vcpu).refs) w.frame (w.agrees.closing c) in
+    let counted = in_hand_counted (sizes_of n) m h t.vcpu f t.real sound.counts r in
     omega arith
 
 some_form : (k : KindWord) → type_count k ≡ 0 → (is_closing k ≡ true) ⊎ (is_busy k ≡ false)
@@ -87,9 +87,9 @@ marked_none n m h f sound marked =
     elim (cases_Bool (is_busy (kind_at m f))) [
       | inl busy ↦
           let t = in_works n m h sound.alone f busy in
-          let k = works_facts n m h t.seat f t.work sound t.real t.here in
+          let k = works_facts n m h t.vcpu f t.work sound t.real t.here in
           let u : (kind_fields t.work.word).unflushed ≡ true = subst (λ y. (kind_fields y).unflushed ≡ true) k.word marked in
-          held_mine n m h sound.alone f t.seat t.work t.real t.here ∙ none_held (kind_at m f) t.work.recorded (k.agrees.marked u)
+          held_mine n m h sound.alone f t.vcpu t.work t.real t.here ∙ none_held (kind_at m f) t.work.recorded (k.agrees.marked u)
       | inr idle ↦
           let form = marked_form n m f sound.spelled marked in
           let dead = form_unlive (kind_at m f) form marked in

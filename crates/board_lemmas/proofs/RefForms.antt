@@ -25,7 +25,7 @@ counted_by (Some (Free stamp)) some = absurd (omega arith)
 counted_by (Some (Dying owner)) some = absurd (omega arith)
 counted_by None some = absurd (omega arith)
 
--- a counted frame is neither free nor in one seat's hand
+-- a counted frame is neither free nor in one vCPU's hand
 pub counted_word : (w : ℕ) → 0 < ref_count w → (is_free w ≡ false) × (is_dying w ≡ false)
 unfolding ref_count is_free is_dying
 counted_word w some = counted_by (ref_read w) some

@@ -1,4 +1,4 @@
--- Sums below a number, and sums over the hands of all seats.
+-- Sums below a number, and sums over the hands of all vCPUs.
 use Rattle.std.proofs.Common.{Bool, ◌≡◌, ◌≢◌, ℕ, zero, suc, ◌+◌, ◌<◌, ◌≤◌, refl, sym, ◌∙◌, ap, arith, inl, inr, ◌==◌, true, false, if◌then◌else◌}
 use Rattle.std.proofs.lemmas.Bool.{cases_eq}
 use Rattle.xp_words.specs.RefWords.{bit}
@@ -166,8 +166,8 @@ sum_below-only (suc n) p j b e =
           omega arith
     ]
 
--- ---- the hands of all seats
--- a part that is the seat's as it was is so of all
+-- ---- the hands of all vCPUs
+-- a part that is the vCPU's as it was is so of all
 pub seat_same : {A : Type 0} (part : Holdings → A) (s : ℕ) (h b : ℕ → Holdings) → ((t : ℕ) → t ≢ s → b t ≡ h t) → part (b s) ≡ part (h s) → (v : ℕ) → part (b v) ≡ part (h v)
 seat_same part s h b others e v = elim (cases_eq v s) [ inl at ↦ rw at e | inr off ↦ ap part (others v off) ]
 
@@ -188,7 +188,7 @@ pub hands-fewer : (c d : Holdings → ℕ) (z : Sizes) (h : ℕ → Holdings) �
 unfolding hands
 hands-fewer c d z h e = sum_below-fewer z.vcpus (λ s. c (h s)) (λ s. d (h s)) (λ s. e (h s))
 
--- where some seat has what is counted, there is one that has
+-- where some vCPU has what is counted, there is one that has
 pub hands-some : (c : Holdings → ℕ) (z : Sizes) (h : ℕ → Holdings) → 0 < hands c z h → (s : ℕ) × (s < z.vcpus) × (0 < c (h s))
 unfolding hands
 hands-some c z h b = sum_below-some z.vcpus (λ s. c (h s)) b

@@ -1,4 +1,4 @@
--- What is known of a frame that a seat has in its works.
+-- What is known of a frame that a vCPU has in its works.
 use Rattle.std.proofs.Common.{◌≡◌, ℕ, ◌<◌, true, Some, Bool, false, None, Option, List, IsTrue, refl, sym, ◌∙◌, ap, arith}
 use Rattle.xp_words.specs.Machine.{Machine}
 use Rattle.xp_words.specs.Places.{Place, Kind, sizes_of, Sizes, Cell}
@@ -25,7 +25,7 @@ use Rattle.xp_board.specs.Recorded.{held, entry_demand}
 use Rattle.board_lemmas.proofs.HeldByForm.{held_table_work}
 use Rattle.board_lemmas.proofs.EntryWords.{entry_asks_same}
 
--- the work e of seat s on frame f
+-- the work e of vCPU s on frame f
 pub record Works (n : Machine) (m : Place → ℕ) (h : ℕ → Holdings) (s f : ℕ) (e : Work) : Type 0 where
   pub frame : e.frame ≡ f
   pub some : 0 < works_on f (h s).works

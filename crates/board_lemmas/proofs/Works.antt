@@ -1,4 +1,4 @@
--- Frames in the works of seats: who has them, and how many of their entries are recorded.
+-- Frames in the works of vCPUs: who has them, and how many of their entries are recorded.
 use Rattle.std.proofs.Common.{Option, sym, ◌≡◌, ◌≢◌, ℕ, zero, suc, ◌<◌, ◌≤◌, true, false, List, Some, None, refl, ◌∙◌, ap, arith, inl, inr, ◌+◌}
 use Rattle.std.proofs.lemmas.Bool.{cases_eq}
 use Rattle.xp_words.specs.RefWords.{bit}
@@ -23,7 +23,7 @@ pub recorded_in-here : (f : ℕ) (xs : List Work) (e : Work) → work_on f xs �
 unfolding recorded_in
 recorded_in-here f xs e k = ap recorded_number k
 
--- ---- over all seats
+-- ---- over all vCPUs
 pub work_of-same : (n : ℕ) (h h2 : ℕ → Holdings) (f : ℕ) → ((t : ℕ) → t < n → recorded_in (h2 t).works f ≡ recorded_in (h t).works f) →
     work_of n h2 f ≡ work_of n h f
 unfolding work_of
@@ -49,12 +49,12 @@ work_of-mine (suc n) h s f b e =
       | inr off ↦ (let k : n ≢ s = off in rw (e n (omega arith) off) (work_of-mine n h s f (omega arith) (λ t l o. e t (omega arith) o)))
     ]
 
--- each frame that is in work or closing stands in the works of a seat
+-- each frame that is in work or closing stands in the works of a vCPU
 pub record InWorks (n : Machine) (h : ℕ → Holdings) (f : ℕ) : Type 0 where
-  pub seat : ℕ
-  pub real : seat < (sizes_of n).vcpus
+  pub vcpu : ℕ
+  pub real : vcpu < (sizes_of n).vcpus
   pub work : Work
-  pub here : work_on f (h seat).works ≡ Some work
+  pub here : work_on f (h vcpu).works ≡ Some work
 
 module _ (n : Machine) (m : Place → ℕ) (h : ℕ → Holdings) (alone : HeldAlone n m h) where
   -- a frame that is neither in work nor closing stands in nobody's works
@@ -72,7 +72,7 @@ module _ (n : Machine) (m : Place → ℕ) (h : ℕ → Holdings) (alone : HeldA
       let most : bit (is_busy (kind_at m f)) ≤ 1 = bit_most (is_busy (kind_at m f)) in
       omega arith
 
-  -- nor are an unlocked table among the locks of a seat, and one that does not die among its ending and claimed frames
+  -- nor are an unlocked table among the locks of a vCPU, and one that does not die among its ending and claimed frames
   pub nobody_locks : (f : ℕ) → is_locked (kind_at m f) ≡ false → (t : ℕ) → t < (sizes_of n).vcpus → locks_on f (h t).locks ≡ 0
   nobody_locks f free t b =
       let all = alone.locks f in
@@ -133,8 +133,8 @@ module _ (n : Machine) (m : Place → ℕ) (h : ℕ → Holdings) (alone : HeldA
   pub nobody_else : (f s : ℕ) → s < (sizes_of n).vcpus → 0 < works_on f (h s).works → (t : ℕ) → t < (sizes_of n).vcpus → t ≢ s → work_on f (h t).works ≡ None
   nobody_else f s a mine t b off = first_by-none (λ e. e.frame) f (h t).works (only_mine f s t a b off mine)
 
-  pub one_seat : (f s t : ℕ) → s < (sizes_of n).vcpus → t < (sizes_of n).vcpus → 0 < works_on f (h s).works → 0 < works_on f (h t).works → s ≡ t
-  one_seat f s t a b mine yours =
+  pub one_vcpu : (f s t : ℕ) → s < (sizes_of n).vcpus → t < (sizes_of n).vcpus → 0 < works_on f (h s).works → 0 < works_on f (h t).works → s ≡ t
+  one_vcpu f s t a b mine yours =
       elim (cases_eq s t) [
         | inl at ↦ at
         | inr off ↦ absurd (let none = only_mine f s t a b (λ e. off (sym e)) mine in omega arith)
@@ -149,7 +149,7 @@ module _ (n : Machine) (m : Place → ℕ) (h : ℕ → Holdings) (alone : HeldA
       let one = ap bit busy in
       let some = hands-some (λ u. works_on f u.works) (sizes_of n) h (omega arith) in
       let found = first_by-some (λ y. y.frame) f (h some.0).works some.2 in
-      record { seat = some.0; real = some.1; work = found.0; here = found.1 }
+      record { vcpu = some.0; real = some.1; work = found.0; here = found.1 }
 
   -- a table whose lock is in hand is locked
   pub is_locked-mine : (f s : ℕ) → s < (sizes_of n).vcpus → 0 < locks_on f (h s).locks → is_locked (kind_at m f) ≡ true

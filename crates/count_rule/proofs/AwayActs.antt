@@ -15,30 +15,30 @@ use Rattle.step_effects.proofs.ActEffects.{Mapped, Based, Asked, Flushed, Ran, T
 use Rattle.count_rule.proofs.Learning.{Kept, same_refl, same_hand, same_own, same_life, kept_same, kept_noted, still_life, empty_kept}
 use Rattle.count_rule.proofs.PartLaws.{stamped_by, idle_still, idle_other}
 use Rattle.count_rule.proofs.SpelledLaw.{wrote_spelled}
-use Rattle.count_rule.proofs.Told.{clock_told}
+use Rattle.count_rule.proofs.Told.{clock_found}
 use Rattle.board_lemmas.proofs.Sums.{when_eq, when_ne}
 use Rattle.count_rule.proofs.Outcome.{apart, Outcome, is_counted, calm_away, quiet_outcome}
 use Rattle.count_rule.proofs.WalkHands.{same_ran, same_twice}
 
-module _ (n : Machine) (s : ℕ) (x : Step) (m m2 : Place → ℕ) (b c : ℕ → Holdings) (seat : s < (sizes_of n).vcpus) (others : (t : ℕ) → t ≢ s → c t ≡ b t) (may : MayAct n s x (b s)) (sound : Sound n m b) where
+module _ (n : Machine) (s : ℕ) (x : Step) (m m2 : Place → ℕ) (b c : ℕ → Holdings) (vcpu : s < (sizes_of n).vcpus) (others : (t : ℕ) → t ≢ s → c t ≡ b t) (may : MayAct n s x (b s)) (sound : Sound n m b) where
   -- ---- a word that no part counts
   away_outcome : (p : Place) → is_counted p ≡ false → ((q : Place) → q ≢ p → m2 q ≡ m q) → m Clock ≤ m2 Clock → ((v : ℕ) → p ≡ flushed_of v → m2 p ≤ m2 Clock) → Kept (b s) (c s) →
       Spelled n m2 → ((v : ℕ) → v < (sizes_of n).vcpus → Idle n m2 c v) → Outcome n m2 c
-  away_outcome p away words clock vcpu kept spelled idle =
-      quiet_outcome n s m m2 b c seat others sound (calm_away n s m m2 b c seat others p away words) kept (λ d. words (Pages d) (apart p (Pages d) away refl)) (λ k. words (Map k) (apart p (Map k) away refl)) spelled
-      (stamped_by n m m2 p words clock vcpu (λ f e. absurd (let k = ap is_counted e in cc)) (λ f e. absurd (let k = ap is_counted e in cc)) sound.stamped) idle
+  away_outcome p away words clock flush kept spelled idle =
+      quiet_outcome n s m m2 b c vcpu others sound (calm_away n s m m2 b c vcpu others p away words) kept (λ d. words (Pages d) (apart p (Pages d) away refl)) (λ k. words (Map k) (apart p (Map k) away refl)) spelled
+      (stamped_by n m m2 p words clock flush (λ f e. absurd (let k = ap is_counted e in cc)) (λ f e. absurd (let k = ap is_counted e in cc)) sound.stamped) idle
 
   -- the hand learns no more than the word
   noted_idle : ((v : ℕ) → m2 (run_of v) ≡ m (run_of v)) → (w : ℕ) → c s ≡ noted x w (b s) → (v : ℕ) → v < (sizes_of n).vcpus → Idle n m2 c v
   noted_idle words w hand =
-      idle_still n s m m2 b c seat others words
+      idle_still n s m m2 b c vcpu others words
       (empty_kept (b s) (c s) (kept_noted x w (b s) (b s) (c s) hand (kept_same (b s) (b s) (same_hand (b s)))) (λ e. ap (λ u. u.looking) hand ∙ e))
       (ap (λ u. u.cold) hand) (ap (λ u. u.cache) hand) (ap (λ u. u.walk) hand) sound.idle
 
   noted_outcome : (p : Place) → is_counted p ≡ false → ((q : Place) → q ≢ p → m2 q ≡ m q) → m Clock ≤ m2 Clock → ((v : ℕ) → p ≢ flushed_of v) → ((v : ℕ) → run_of v ≢ p) → (w : ℕ) →
       c s ≡ noted x w (b s) → Spelled n m2 → Outcome n m2 c
-  noted_outcome p away words clock vcpu run w hand spelled =
-      away_outcome p away words clock (λ v e. absurd (vcpu v e)) (kept_noted x w (b s) (b s) (c s) hand (kept_same (b s) (b s) (same_hand (b s)))) spelled
+  noted_outcome p away words clock off run w hand spelled =
+      away_outcome p away words clock (λ v e. absurd (off v e)) (kept_noted x w (b s) (b s) (c s) hand (kept_same (b s) (b s) (same_hand (b s)))) spelled
       (noted_idle (λ v. words (run_of v) (run v)) w hand)
 
   clock_same : (p : Place) → ((q : Place) → q ≢ p → m2 q ≡ m q) → Clock ≢ p → m Clock ≤ m2 Clock
@@ -79,7 +79,7 @@ module _ (n : Machine) (s : ℕ) (x : Step) (m m2 : Place → ℕ) (b c : ℕ �
       let k = still_life o (m (Life o)) (b s) in
       let kept = kept_noted x w (b s) _ (c s) hand (kept_same (b s) _ (same_life o (m (Life o)) (b s))) in
       away_outcome (Life o) refl words (clock_same (Life o) words (λ e. cc)) (λ v e. absurd (cc)) kept spelled
-      (idle_still n s m m2 b c seat others (λ v. words (run_of v) (λ e. cc)) (empty_kept (b s) (c s) kept (λ e. ap (λ u. u.looking) hand ∙ k.looking e))
+      (idle_still n s m m2 b c vcpu others (λ v. words (run_of v) (λ e. cc)) (empty_kept (b s) (c s) kept (λ e. ap (λ u. u.looking) hand ∙ k.looking e))
       (ap (λ u. u.cold) hand ∙ k.cold) (ap (λ u. u.cache) hand ∙ k.cache) (ap (λ u. u.walk) hand ∙ k.walk) sound.idle)
 
   -- the own vCPU's part, and those of the others
@@ -87,7 +87,7 @@ module _ (n : Machine) (s : ℕ) (x : Step) (m m2 : Place → ℕ) (b c : ℕ �
   own_idle words mine v l =
       elim (cases_eq v s) [
         | inl at ↦ subst (Idle n m2 c) (sym at) mine
-        | inr off ↦ idle_other n s m m2 b c seat others v (words v off) off (sound.idle v l)
+        | inr off ↦ idle_other n s m m2 b c vcpu others v (words v off) off (sound.idle v l)
       ]
 
   pub doomed_outcome : (d : ℕ) → Doomed n s x d m m2 (b s) (c s) → Outcome n m2 c
@@ -99,9 +99,9 @@ module _ (n : Machine) (s : ℕ) (x : Step) (m m2 : Place → ℕ) (b c : ℕ �
       life_outcome o _ d.wrote.others d.hand (wrote_spelled n s x (Life o) _ m m2 (b s) d.wrote may sound.machine sound.spelled (λ by l. absurd l) (λ v l. absurd l))
 
   -- ---- the own flush
-  flush_told : Flushed n s x m m2 (b s) (c s) → m2 (flushed_of s) ≤ m2 Clock
-  flush_told d =
-      let told = clock_told (sizes_of n) (m Clock) (b s).acked (m2 (flushed_of s)) (b s).steps (sound.found s seat).clock d.may.told in
+  flush_found : Flushed n s x m m2 (b s) (c s) → m2 (flushed_of s) ≤ m2 Clock
+  flush_found d =
+      let was_found = clock_found (sizes_of n) (m Clock) (b s).acked (m2 (flushed_of s)) (b s).steps (sound.found s vcpu).clock d.may.was_found in
       let e = d.wrote.others Clock (λ e. cc) in
       omega arith
 
@@ -109,13 +109,13 @@ module _ (n : Machine) (s : ℕ) (x : Step) (m m2 : Place → ℕ) (b c : ℕ �
   flushed_outcome d =
       let kept = kept_noted x (m (flushed_of s)) (b s) _ (c s) d.hand (kept_same (b s) _ (same_refl (b s) _ refl refl refl refl refl refl refl refl)) in
       let cold : (c s).cold ≡ false = ap (λ u. u.cold) d.hand in
-      away_outcome (flushed_of s) refl d.wrote.others (clock_same (flushed_of s) d.wrote.others (λ e. cc)) (λ v e. flush_told d) kept
+      away_outcome (flushed_of s) refl d.wrote.others (clock_same (flushed_of s) d.wrote.others (λ e. cc)) (λ v e. flush_found d) kept
       (wrote_spelled n s x (flushed_of s) _ m m2 (b s) d.wrote may sound.machine sound.spelled (λ by l. absurd l) (λ v l. absurd l))
       (own_idle (λ v off. d.wrote.others (run_of v) (λ e. cc))
       (record {
         hand = λ k.
             empty_kept (b s) (c s) kept (λ e. ap (λ u. u.looking) d.hand ∙ e)
-            ((sound.idle s seat).hand (λ e. k (d.wrote.others (run_of s) (λ e. cc) ∙ e)));
+            ((sound.idle s vcpu).hand (λ e. k (d.wrote.others (run_of s) (λ e. cc) ∙ e)));
         cache = λ k. ap (λ u. u.cache) d.hand;
         walk = λ k. ap (λ u. u.walk) d.hand ∙ d.may.landed;
         cold_cache = λ k. ap (λ u. u.cache) d.hand;
@@ -145,8 +145,8 @@ module _ (n : Machine) (s : ℕ) (x : Step) (m m2 : Place → ℕ) (b c : ℕ �
       let hand : c s ≡ noted x (m (run_of s)) (learned_own 6 (m2 (run_of s)) (record (b s) { cold = true; ran = length (b s).steps + 1 })) =
       d.hand ∙ ap (λ (t : Bool). noted x (m (run_of s)) (learned_own 6 (m2 (run_of s)) (if t then record (b s) { cold = true; ran = length (b s).steps + 1 } else record (b s) { cache = []; ran = length (b s).steps + 1 }))) (when_eq (m2 (run_of s)) 0 on)
       in
-      let was : m (run_of s) ≡ 2 = (sound.found s seat).own.run 2 run in
-      let none : (b s).cache ≡ [] = (sound.idle s seat).cache (λ e. absurd (omega arith)) in
+      let was : m (run_of s) ≡ 2 = (sound.found s vcpu).own.run 2 run in
+      let none : (b s).cache ≡ [] = (sound.idle s vcpu).cache (λ e. absurd (omega arith)) in
       record {
         hand = λ k. absurd (k on);
         cache = λ k. absurd (k on);

@@ -38,11 +38,11 @@ use Rattle.board_lemmas.proofs.WorkFacts.{work_word, works_facts}
 not_seven : (t : PageType) → type_number t ≡ 7 → is_table t ≡ false
 not_seven t e = grind (arith, nat_tests)
 
-module _ (n : Machine) (s : ℕ) (x : Step) (m m2 : Place → ℕ) (b c : ℕ → Holdings) (seat : s < (sizes_of n).vcpus) (others : (t : ℕ) → t ≢ s → c t ≡ b t) (may : MayAct n s x (b s)) (sound : Sound n m b) (f i : ℕ) where
+module _ (n : Machine) (s : ℕ) (x : Step) (m m2 : Place → ℕ) (b c : ℕ → Holdings) (vcpu : s < (sizes_of n).vcpus) (others : (t : ℕ) → t ≢ s → c t ≡ b t) (may : MayAct n s x (b s)) (sound : Sound n m b) (f i : ℕ) where
   pub rewrote_outcome : Rewrote n x f i m m2 (b s) (c s) → Outcome n m2 c
   rewrote_outcome d =
-      let same = rewritten_same n m b s f i (m2 (Cell f i)) d.e (lock_facts n m b s f d.e sound seat d.here) d.same in
-      cell_outcome n s m m2 b c seat others sound f i d.wrote.others (λ l. same)
+      let same = rewritten_same n m b s f i (m2 (Cell f i)) d.e (lock_facts n m b s f d.e sound vcpu d.here) d.same in
+      cell_outcome n s m m2 b c vcpu others sound f i d.wrote.others (λ l. same)
       (kept_noted x (m (Cell f i)) (b s) _ (c s) d.hand (kept_cell f i (m2 (Cell f i)) (b s) (b s) (same_hand (b s)))) (d.wrote.running refl) (ap (λ u. u.cold) d.hand)
       (λ k e. ap (λ u. u.cache) d.hand ∙ e) (λ k e. ap (λ u. u.walk) d.hand ∙ e)
       (wrote_spelled n s x (Cell f i) _ m m2 (b s) d.wrote may sound.machine sound.spelled (λ by l. absurd l) (λ v l. absurd l))
@@ -51,16 +51,16 @@ module _ (n : Machine) (s : ℕ) (x : Step) (m m2 : Place → ℕ) (b c : ℕ �
   touched_outcome d =
       let same = subst (λ y. IsTrue (is_same_entry (m (Cell f i)) y)) (sym d.may.left) (touched_same d.walk (m (Cell f i))) in
       let still = (cold_descended n d.walk (m2 (Cell f i)) (b s)).cold in
-      cell_outcome n s m m2 b c seat others sound f i d.wrote.others (λ l. sym (entry_asks_same (kind_at m f).kind i (m (Cell f i)) (m2 (Cell f i)) same))
+      cell_outcome n s m m2 b c vcpu others sound f i d.wrote.others (λ l. sym (entry_asks_same (kind_at m f).kind i (m (Cell f i)) (m2 (Cell f i)) same))
       (kept_noted x (m (Cell f i)) (b s) _ (c s) d.hand (kept_cell f i (m2 (Cell f i)) (b s) _ (same_descended n d.walk (m2 (Cell f i)) (b s)))) (d.wrote.running refl)
       (ap (λ u. u.cold) d.hand ∙ still)
-      (λ k e. let none = (sound.idle s seat).cold_walk k in let flying = d.may.flying in absurd (cc)) (λ k e. let flying = d.may.flying in absurd (cc))
+      (λ k e. let none = (sound.idle s vcpu).cold_walk k in let flying = d.may.flying in absurd (cc)) (λ k e. let flying = d.may.flying in absurd (cc))
       (wrote_spelled n s x (Cell f i) _ m m2 (b s) d.wrote may sound.machine sound.spelled (λ by l. absurd l) (λ v l. absurd l))
 
   -- no entry of the frame is recorded
   plain_outcome : (w : ℕ) → ((q : Place) → q ≢ Cell f i → m2 q ≡ m q) → c s ≡ noted x w (learned_cell f i (m2 (Cell f i)) (b s)) → held (sizes_of n) m b f ≡ 0 → (b s).run ≡ Some 0 → Spelled n m2 → Outcome n m2 c
   plain_outcome w words hand none running spelled =
-      cell_outcome n s m m2 b c seat others sound f i words (λ l. absurd (omega arith))
+      cell_outcome n s m m2 b c vcpu others sound f i words (λ l. absurd (omega arith))
       (kept_noted x w (b s) _ (c s) hand (kept_cell f i (m2 (Cell f i)) (b s) (b s) (same_hand (b s)))) running (ap (λ u. u.cold) hand)
       (λ k e. ap (λ u. u.cache) hand ∙ e) (λ k e. ap (λ u. u.walk) hand ∙ e) spelled
 
@@ -71,7 +71,7 @@ module _ (n : Machine) (s : ℕ) (x : Step) (m m2 : Place → ℕ) (b c : ℕ �
       let frame : item.0.frame ≡ f = grind (arith, nat_tests) in
       let purpose : use_of item.0 ≡ Writes = rw parts.1 refl in
       let reach = subst (λ y. Reach (sizes_of n) m (b s) y Writes) frame (subst (λ y. Reach (sizes_of n) m (b s) item.0.frame y) purpose (cached item.0 item.1)) in
-      let fresh = sound.fresh.each s seat f Writes reach in
+      let fresh = sound.fresh.each s vcpu f Writes reach in
       elim (fresh.bears.typed (λ e. cc)) [
         | inl typed ↦ no_table (kind_at m f) _ (not_seven (kind_at m f).kind typed.1)
         | inr marked ↦ marked_none n m b f sound marked.0
@@ -87,7 +87,7 @@ module _ (n : Machine) (s : ℕ) (x : Step) (m m2 : Place → ℕ) (b c : ℕ �
   claimed_none e here =
       let some = first-some (λ y. y.frame) f e (b s).claimed here in
       let all = sound.alone.dying f in
-      let part = hands-part (λ u. endings_of f u.ending + claims_of f u.claimed) (sizes_of n) b s seat in
+      let part = hands-part (λ u. endings_of f u.ending + claims_of f u.claimed) (sizes_of n) b s vcpu in
       let dying = some_bit (is_dying (m (Refs f))) (omega arith) in
       let r = is_dying-read (m (Refs f)) dying in
       unreferenced_none n m b f sound (dying_says (m (Refs f)) r.0 r.1).counts
@@ -95,9 +95,9 @@ module _ (n : Machine) (s : ℕ) (x : Step) (m m2 : Place → ℕ) (b c : ℕ �
   filled_none : (k : Option Claimed) (w : Option Work) → claim_of f (b s).claimed ≡ k → work_on f (b s).works ≡ w → AllowsPlain n f i (m2 (Cell f i)) (b s) k w → held (sizes_of n) m b f ≡ 0
   filled_none (Some e) w at on allows = claimed_none e at
   filled_none None (Some e) at on allows =
-      no_table (kind_at m f) _ (ap (λ y. is_table y.kind) (work_word n m b s f e (works_facts n m b s f e sound seat on)) ∙ ap is_table allows.kind)
+      no_table (kind_at m f) _ (ap (λ y. is_table y.kind) (work_word n m b s f e (works_facts n m b s f e sound vcpu on)) ∙ ap is_table allows.kind)
   filled_none None None at on allows =
-      let kind = ((sound.found s seat).lives f allows.kind allows.live).1 in
+      let kind = ((sound.found s vcpu).lives f allows.kind allows.live).1 in
       no_table (kind_at m f) _
       (elim allows.ordinary [
         | inl writable ↦ ap is_table (kind ∙ writable)

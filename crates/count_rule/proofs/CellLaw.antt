@@ -14,9 +14,9 @@ use Rattle.count_rule.proofs.PartLaws.{stamped_by, idle_running}
 use Rattle.count_rule.proofs.Quiet.{Calm}
 use Rattle.count_rule.proofs.Outcome.{Outcome, quiet_outcome, runs}
 
-module _ (n : Machine) (s : ℕ) (m m2 : Place → ℕ) (b c : ℕ → Holdings) (seat : s < (sizes_of n).vcpus) (others : (t : ℕ) → t ≢ s → c t ≡ b t) (sound : Sound n m b) (f i : ℕ) where
+module _ (n : Machine) (s : ℕ) (m m2 : Place → ℕ) (b c : ℕ → Holdings) (vcpu : s < (sizes_of n).vcpus) (others : (t : ℕ) → t ≢ s → c t ≡ b t) (sound : Sound n m b) (f i : ℕ) where
   cell_calm : ((q : Place) → q ≢ Cell f i → m2 q ≡ m q) → (i < held (sizes_of n) m b f → demand_at (kind_at m f).kind i (m2 (Cell f i)) ≡ demand_at (kind_at m f).kind i (m (Cell f i))) →
-      Calm n s m m2 b c seat others
+      Calm n s m m2 b c vcpu others
   cell_calm words same =
       record {
         refs = λ g. words (Refs g) (λ e. cc);
@@ -37,7 +37,7 @@ module _ (n : Machine) (s : ℕ) (m m2 : Place → ℕ) (b c : ℕ → Holdings)
       Spelled n m2 → Outcome n m2 c
   cell_outcome words same kept running cold cache walk spelled =
       let clock = words Clock (λ e. cc) in
-      quiet_outcome n s m m2 b c seat others sound (cell_calm words same) kept (λ d. words (Pages d) (λ e. cc)) (λ k. words (Map k) (λ e. cc)) spelled
+      quiet_outcome n s m m2 b c vcpu others sound (cell_calm words same) kept (λ d. words (Pages d) (λ e. cc)) (λ k. words (Map k) (λ e. cc)) spelled
       (stamped_by n m m2 (Cell f i) words (omega arith) (λ v e. absurd (cc)) (λ g e. absurd (cc)) (λ g e. absurd (cc)) sound.stamped)
-      (idle_running n s m m2 b c seat others (words (run_of s) (λ e. cc) ∙ runs n s m m2 b c seat others sound running) (λ v off. words (run_of v) (λ e. cc))
+      (idle_running n s m m2 b c vcpu others (words (run_of s) (λ e. cc) ∙ runs n s m m2 b c vcpu others sound running) (λ v off. words (run_of v) (λ e. cc))
       (λ e. sym cold ∙ e) cache walk sound.idle)

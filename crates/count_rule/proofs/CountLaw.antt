@@ -21,10 +21,10 @@ use Rattle.board_lemmas.proofs.HandLists.{EachOf-map}
 abbrev pub pages_of : Machine → (Place → ℕ) → ℕ → ℕ
 pages_of n m d = sum_below (sizes_of n).frames (λ f. is_page_of d (m (Refs f)))
 
-module _ (n : Machine) (s : ℕ) (m m2 : Place → ℕ) (b c : ℕ → Holdings) (seat : s < (sizes_of n).vcpus) (others : (t : ℕ) → t ≢ s → c t ≡ b t) where
+module _ (n : Machine) (s : ℕ) (m m2 : Place → ℕ) (b c : ℕ → Holdings) (vcpu : s < (sizes_of n).vcpus) (others : (t : ℕ) → t ≢ s → c t ≡ b t) where
   -- what holds of the hand that moved and of each hand before holds of each
-  pub each_seat : (P : ℕ → Holdings → Type 0) → P s (c s) → ((t : ℕ) → t < (sizes_of n).vcpus → t ≢ s → P t (b t)) → (t : ℕ) → t < (sizes_of n).vcpus → P t (c t)
-  each_seat P mine old t l =
+  pub each_vcpu : (P : ℕ → Holdings → Type 0) → P s (c s) → ((t : ℕ) → t < (sizes_of n).vcpus → t ≢ s → P t (b t)) → (t : ℕ) → t < (sizes_of n).vcpus → P t (c t)
+  each_vcpu P mine old t l =
       elim (cases_eq t s) [
         | inl at ↦ subst (λ x. P x (c x)) (sym at) mine
         | inr off ↦ subst (P t) (sym (others t off)) (old t l off)
@@ -43,12 +43,12 @@ module _ (n : Machine) (s : ℕ) (m m2 : Place → ℕ) (b c : ℕ → Holdings)
   pub counts_law : Counted → CountsAgree (sizes_of n) m b → CountsAgree (sizes_of n) m2 c
   counts_law moved old =
       record {
-        refs = λ g. let was = old.refs g in let o = hands-one (hand g) (sizes_of n) b c s seat others in let k = moved.refs g in omega arith;
-        types = λ g. let was = old.types g in let o = hands-one (typed_hand g) (sizes_of n) b c s seat others in let k = moved.types g in omega arith;
+        refs = λ g. let was = old.refs g in let o = hands-one (hand g) (sizes_of n) b c s vcpu others in let k = moved.refs g in omega arith;
+        types = λ g. let was = old.types g in let o = hands-one (typed_hand g) (sizes_of n) b c s vcpu others in let k = moved.types g in omega arith;
         kinds = moved.kinds;
         pages = λ d l.
             let was = old.pages d l in
-            let o = hands-one (λ u. times d u.credits) (sizes_of n) b c s seat others in
+            let o = hands-one (λ u. times d u.credits) (sizes_of n) b c s vcpu others in
             let k = moved.pages d l in
             omega arith;
       }
@@ -112,8 +112,8 @@ module _ (n : Machine) (s : ℕ) (m m2 : Place → ℕ) (b c : ℕ → Holdings)
         record {
           entries = λ f i g t l e. entries_steady g f i t l e;
           contexts = contexts_steady;
-          typed = each_seat (λ t u. EachOf (λ e. HasType m2 e.frame e.kind) u.typed) (typed (typed_same s seat)) (λ t l off. typed_same t l);
-          locks = each_seat (λ t u. EachOf (λ e. HasType m2 e.frame (Some e.kind)) u.locks) (locks (locks_same s seat)) (λ t l off. locks_same t l);
+          typed = each_vcpu (λ t u. EachOf (λ e. HasType m2 e.frame e.kind) u.typed) (typed (typed_same s vcpu)) (λ t l off. typed_same t l);
+          locks = each_vcpu (λ t u. EachOf (λ e. HasType m2 e.frame (Some e.kind)) u.locks) (locks (locks_same s vcpu)) (λ t l off. locks_same t l);
         }
 
     pub counted_steady : ((g : ℕ) → ref_count (m2 (Refs g)) + (allocated_mark (m (Refs g)) + marks (kind_at m g) + hand g (b s)) ≡ ref_count (m (Refs g)) + (allocated_mark (m2 (Refs g)) + marks (kind_at m2 g) + hand g (c s))) →

@@ -55,7 +55,7 @@ twice_if : (t : Bool) (x : ℕ) → (if t then (if t then x else 0) else 0) ≡ 
 twice_if true x = refl
 twice_if false x = refl
 
-module _ (n : Machine) (s : ℕ) (x : Step) (m m2 : Place → ℕ) (b c : ℕ → Holdings) (seat : s < (sizes_of n).vcpus) (others : (t : ℕ) → t ≢ s → c t ≡ b t) (may : MayAct n s x (b s)) (sound : Sound n m b) (f : ℕ) where
+module _ (n : Machine) (s : ℕ) (x : Step) (m m2 : Place → ℕ) (b c : ℕ → Holdings) (vcpu : s < (sizes_of n).vcpus) (others : (t : ℕ) → t ≢ s → c t ≡ b t) (may : MayAct n s x (b s)) (sound : Sound n m b) (f : ℕ) where
   module _ (wrote : Wrote n x (Kind f) steps.Kind m m2 (b s)) (r : Reference) (of_f : r.frame ≡ f) (typed : List TypedReference) (locks : List Lock)
       (hand : c s ≡ noted x (m (Kind f)) (record (b s) { refs = r ∷ (b s).refs; typed = typed; locks = locks; works = closing_works f (m (Kind f)) (m2 (Kind f)) (b s) }))
       (live : IsTrue (is_live (kind_at m f))) (some : 0 < (kind_at m f).number) (kind : (kind_at m2 f).kind ≡ (kind_at m f).kind) (valid : (kind_at m2 f).validated ≡ (kind_at m f).validated)
@@ -68,13 +68,13 @@ module _ (n : Machine) (s : ℕ) (x : Step) (m m2 : Place → ℕ) (b c : ℕ �
       (locks_kept : EachOf (λ e. HasType m2 e.frame (Some e.kind)) (b s).locks → EachOf (λ e. HasType m2 e.frame (Some e.kind)) locks) where
     form_is : has_form (kind_at m2 f) ≡ true
     unfolding IsSpelling
-    form_is = spelled_form n (m2 (Kind f)) ((kind_spelled n s x m m2 b seat may sound f wrote).spelled (Kind f) wrote.real)
+    form_is = spelled_form n (m2 (Kind f)) ((kind_spelled n s x m m2 b vcpu may sound f wrote).spelled (Kind f) wrote.real)
 
     live_is : IsTrue (is_live (kind_at m2 f))
     live_is = valid ∙ live
 
     was : Says (kind_at m f) (kind_at m f).number (bit (kind_at m f).pinned) 0 (bit (kind_at m f).locked)
-    was = live_says (kind_at m f) (form_was n s m m2 b seat sound f wrote.real) live some
+    was = live_says (kind_at m f) (form_was n s m m2 b vcpu sound f wrote.real) live some
 
     abbrev after : Bool → Holdings
     after t =
@@ -92,7 +92,7 @@ module _ (n : Machine) (s : ℕ) (x : Step) (m m2 : Place → ℕ) (b c : ℕ �
     ref_in : refs_to f (r ∷ (b s).refs) ≡ 1 + refs_to f (b s).refs
     ref_in = cons_here (λ y. y.frame) f (b s).refs (r ∷ (b s).refs) r of_f refl
 
-    elsewhere : (t : Bool) → Elsewhere n s x m m2 b c seat others may sound f (after t)
+    elsewhere : (t : Bool) → Elsewhere n s x m m2 b c vcpu others may sound f (after t)
     elsewhere t = record { refs = cons_other (λ y. y.frame) f (b s).refs (r ∷ (b s).refs) r of_f refl; typed = typed_other; locks = locks_other }
 
     stays_live : (kind_at m f).number ≢ 1 → Outcome n m2 c
@@ -100,8 +100,8 @@ module _ (n : Machine) (s : ℕ) (x : Step) (m m2 : Place → ℕ) (b c : ℕ �
         let left : 0 < (kind_at m2 f).number = omega arith in
         let is = live_says (kind_at m2 f) form_is live_is left in
         let pin = ap bit pinned in
-        free_outcome n s x m m2 b c seat others may sound f wrote (after false) (after_is false (when_ne (kind_at m f).number 1 off))
-        (beside n s x m m2 b c seat others may sound f (after false) refl refl refl refl refl refl refl) refl (elsewhere false) (kind_at m f) (kind_at m2 f)
+        free_outcome n s x m m2 b c vcpu others may sound f wrote (after false) (after_is false (when_ne (kind_at m f).number 1 off))
+        (beside n s x m m2 b c vcpu others may sound f (after false) refl refl refl refl refl refl refl) refl (elsewhere false) (kind_at m f) (kind_at m2 f)
         (kind_at m f).number (bit (kind_at m f).pinned) (bit (kind_at m f).locked) (kind_at m2 f).number (bit (kind_at m2 f).pinned) (bit (kind_at m2 f).locked)
         (record { was = refl; is = refl; says = was; tells = is }) (held_same (kind_at m f) (kind_at m2 f) kind valid partial progress) kind
         (let z = stamp_live (m2 (Kind f)) (kind_at m2 f) refl live_is in omega arith) (let i = ref_in in omega arith) (omega arith) lock_out typed_kept locks_kept
@@ -111,7 +111,7 @@ module _ (n : Machine) (s : ℕ) (x : Step) (m m2 : Place → ℕ) (b c : ℕ �
         held (sizes_of n) m2 c f ≡ held (sizes_of n) m b f
     closing_held alone w now of_w all =
         let free = no_bit (is_busy (kind_at m f)) was.busy_is in
-        held_mine n m2 c alone f s w seat (ap (work_on f) now ∙ first_by-cons_here (λ y. y.frame) f w (b s).works of_w)
+        held_mine n m2 c alone f s w vcpu (ap (work_on f) now ∙ first_by-cons_here (λ y. y.frame) f w (b s).works of_w)
         ∙ held_work (kind_at m2 f) w.recorded ∙ ap (λ y. if is_table y then w.recorded else 0) kind ∙ ap (λ y. if is_table (kind_at m f).kind then y else 0) all
         ∙ twice_if (is_table (kind_at m f).kind) 512
         ∙ sym (held_free n m b sound.alone f free ∙ held_live (kind_at m f) live)
@@ -126,13 +126,13 @@ module _ (n : Machine) (s : ℕ) (x : Step) (m m2 : Place → ℕ) (b c : ℕ �
         let hand_is = after_is true (when_eq (kind_at m f).number 1 one) in
         let now = ap (λ y. y.works) hand_is in
         let free = no_bit (is_busy (kind_at m f)) was.busy_is in
-        let nobody = nobody_works n m b sound.alone f free s seat in
+        let nobody = nobody_works n m b sound.alone f free s vcpu in
         let more = cons_here (λ y. y.frame) f (b s).works (after true).works _ refl refl in
         let rest =
-        rest_by n s x m m2 b c seat others may sound f (after true) hand_is (beside n s x m m2 b c seat others may sound f (after true) refl refl refl refl refl refl refl) (elsewhere true)
+        rest_by n s x m m2 b c vcpu others may sound f (after true) hand_is (beside n s x m m2 b c vcpu others may sound f (after true) refl refl refl refl refl refl refl) (elsewhere true)
         (cons_other (λ y. y.frame) f (b s).works (after true).works _ refl refl) (recorded_cons f (b s).works (after true).works _ refl refl)
         in
-        turn_outcome n s x m m2 b c seat others may sound f wrote (after true) hand_is rest (kind_at m f) (kind_at m2 f) (kind_at m f).number (bit (kind_at m f).pinned) 0 (bit (kind_at m f).locked) 0 0 1 0
+        turn_outcome n s x m m2 b c vcpu others may sound f wrote (after true) hand_is rest (kind_at m f) (kind_at m2 f) (kind_at m f).number (bit (kind_at m f).pinned) 0 (bit (kind_at m f).locked) 0 0 1 0
         (record { was = refl; is = refl; says = was; tells = is })
         (let z = stamp_live (m2 (Kind f)) (kind_at m2 f) refl live_is in omega arith) (let i = ref_in in omega arith) (omega arith) (omega arith) (omega arith)
         (λ alone. closing_held alone (new_work f (m2 (Kind f)) (if is_table (kind_at m f).kind then 512 else 0) None (b s)) now refl refl)
@@ -142,7 +142,7 @@ module _ (n : Machine) (s : ℕ) (x : Step) (m m2 : Place → ℕ) (b c : ℕ �
           marked = λ u. let flushed = live_flushed (kind_at m2 f) form_is live_is in absurd (cc);
           closing = λ t. let i = ref_in in let j = ap (λ y. refs_to f y.refs) hand_is in omega arith;
         })
-        (sound.works s seat))
+        (sound.works s vcpu))
 
     pub down_outcome : Outcome n m2 c
     down_outcome =
@@ -153,9 +153,9 @@ module _ (n : Machine) (s : ℕ) (x : Step) (m m2 : Place → ℕ) (b c : ℕ �
 
   pub dropped_outcome : Dropped n x f m m2 (b s) (c s) → Outcome n m2 c
   dropped_outcome d =
-      let live = drop_live n m b sound s seat f d.may in
-      let some = drop_some n m b sound s seat f d.may in
-      let fields = drop_word n m b sound s seat f d.may (m2 (Kind f)) d.is in
+      let live = drop_live n m b sound s vcpu f d.may in
+      let some = drop_some n m b sound s vcpu f d.may in
+      let fields = drop_word n m b sound s vcpu f d.may (m2 (Kind f)) d.is in
       let number = ap (λ (y : KindWord). y.number) fields in
       let lock = ap bit (ap (λ (y : KindWord). y.locked) fields) in
       let out = out_here (λ y. y.frame) f (b s).typed (without_typed f (b s).typed) refl d.may.in_hand in
@@ -166,10 +166,10 @@ module _ (n : Machine) (s : ℕ) (x : Step) (m m2 : Place → ℕ) (b c : ℕ �
 
   pub unlocked_outcome : Unlocked n x f m m2 (b s) (c s) → Outcome n m2 c
   unlocked_outcome d =
-      let live = lock_live n m b sound s seat f d.may in
-      let on = ap bit (lock_set n m b sound s seat f d.may) in
-      let some = lock_some n m b sound s seat f d.may in
-      let fields = unlock_word n m b sound s seat f d.may (m2 (Kind f)) d.is in
+      let live = lock_live n m b sound s vcpu f d.may in
+      let on = ap bit (lock_set n m b sound s vcpu f d.may) in
+      let some = lock_some n m b sound s vcpu f d.may in
+      let fields = unlock_word n m b sound s vcpu f d.may (m2 (Kind f)) d.is in
       let number = ap (λ (y : KindWord). y.number) fields in
       let lock = ap bit (ap (λ (y : KindWord). y.locked) fields) in
       let out = out_here (λ y. y.frame) f (b s).locks (without_lock f (b s).locks) refl d.may in

@@ -17,7 +17,7 @@ use Rattle.xp_board.specs.Sound.{HeldAlone, Sound}
 use Rattle.board_lemmas.proofs.ListChanges.{first_by-changed_here, first_by-changed_other}
 use Rattle.count_rule.proofs.Twins.{EachTwo, EachTwo-changed_at, EachTwo-times, LikeWork}
 use Rattle.board_lemmas.proofs.Works.{held_mine}
-use Rattle.count_rule.proofs.CountLaw.{counts_law, each_seat}
+use Rattle.count_rule.proofs.CountLaw.{counts_law, each_vcpu}
 use Rattle.count_rule.proofs.PartLaws.{alone_law, map_law, works_law, idle_fewer}
 use Rattle.count_rule.proofs.Quiet.{held_still, is_closing_at, works_spared}
 use Rattle.count_rule.proofs.Outcome.{Outcome}
@@ -28,7 +28,7 @@ unfolding first_by
 no_work f e k = cc
 
 -- ---- one entry more, or one less
-module _ (n : Machine) (s : ℕ) (m : Place → ℕ) (h b : ℕ → Holdings) (seat : s < (sizes_of n).vcpus) (others : (t : ℕ) → t ≢ s → b t ≡ h t) (sound : Sound n m h) (f : ℕ) (e : Work) (here : work_on f (h s).works ≡ Some e) (change : Work → Work) where
+module _ (n : Machine) (s : ℕ) (m : Place → ℕ) (h b : ℕ → Holdings) (vcpu : s < (sizes_of n).vcpus) (others : (t : ℕ) → t ≢ s → b t ≡ h t) (sound : Sound n m h) (f : ℕ) (e : Work) (here : work_on f (h s).works ≡ Some e) (change : Work → Work) where
   -- how the hand moves
   pub record MarkMove : Type 0 where
     pub works : (b s).works ≡ changed_work f change (h s).works
@@ -67,7 +67,7 @@ module _ (n : Machine) (s : ℕ) (m : Place → ℕ) (h b : ℕ → Holdings) (s
 
     pub mark_alone : (b s).locks ≡ (h s).locks → (b s).ending ≡ (h s).ending → (b s).claimed ≡ (h s).claimed → HeldAlone n m b
     mark_alone locks ending claimed =
-        alone_law n s m m h b seat others (λ g. let k = works_same g in omega arith) (λ g. rw locks refl) (λ g. rw (ending, claimed) refl) sound.alone
+        alone_law n s m m h b vcpu others (λ g. let k = works_same g in omega arith) (λ g. rw locks refl) (λ g. rw (ending, claimed) refl) sound.alone
 
     pub work_after : work_on f (b s).works ≡ Some (change e)
     work_after = rw works (first_by-changed_here (λ y. y.frame) f change (h s).works e frames here)
@@ -77,11 +77,11 @@ module _ (n : Machine) (s : ℕ) (m : Place → ℕ) (h b : ℕ → Holdings) (s
     recorded_other g off = rw works (ap recorded_number (first_by-changed_other (λ y. y.frame) g f change (h s).works frames off))
 
     pub mark_held_other : (g : ℕ) → g ≢ f → held (sizes_of n) m b g ≡ held (sizes_of n) m h g
-    mark_held_other g off = held_still n s m m h b seat others g refl (recorded_other g off)
+    mark_held_other g off = held_still n s m m h b vcpu others g refl (recorded_other g off)
 
     pub mark_held_here : HeldAlone n m b → IsTrue (is_table (kind_fields e.word).kind) → held (sizes_of n) m b f ≡ (change e).recorded
     unfolding held_of
-    mark_held_here alone t = held_mine n m b alone f s (change e) seat work_after ∙ rw (work_word n m h s f e (works_facts n m h s f e sound seat here), t) refl
+    mark_held_here alone t = held_mine n m b alone f s (change e) vcpu work_after ∙ rw (work_word n m h s f e (works_facts n m h s f e sound vcpu here), t) refl
 
   module _ (move : MarkMove) where
     alone : HeldAlone n m b
@@ -102,8 +102,8 @@ module _ (n : Machine) (s : ℕ) (m : Place → ℕ) (h b : ℕ → Holdings) (s
         record {
           entries = mark_entries;
           contexts = sound.counts.kinds.contexts;
-          typed = each_seat n s m m h b seat others (λ t u. EachOf (λ y. HasType m y.frame y.kind) u.typed) move.typed (λ t l off. sound.counts.kinds.typed t l);
-          locks = each_seat n s m m h b seat others (λ t u. EachOf (λ y. HasType m y.frame (Some y.kind)) u.locks) (rw move.locks (sound.counts.kinds.locks s seat))
+          typed = each_vcpu n s m m h b vcpu others (λ t u. EachOf (λ y. HasType m y.frame y.kind) u.typed) move.typed (λ t l off. sound.counts.kinds.typed t l);
+          locks = each_vcpu n s m m h b vcpu others (λ t u. EachOf (λ y. HasType m y.frame (Some y.kind)) u.locks) (rw move.locks (sound.counts.kinds.locks s vcpu))
               (λ t l off. sound.counts.kinds.locks t l);
         }
 
@@ -112,7 +112,7 @@ module _ (n : Machine) (s : ℕ) (m : Place → ℕ) (h b : ℕ → Holdings) (s
         record {
           spelled = sound.spelled;
           counts =
-              counts_law n s m m h b seat others
+              counts_law n s m m h b vcpu others
               (record {
                 refs = λ g. let k = move.refs g in omega arith;
                 types = λ g. let k = move.types g in omega arith;
@@ -122,12 +122,12 @@ module _ (n : Machine) (s : ℕ) (m : Place → ℕ) (h b : ℕ → Holdings) (s
               sound.counts;
           alone = alone;
           works =
-              works_law n s m m h b seat others
-              (works_spared n s m m h b seat others (works_like move.works move.frames move.words move.unmarked) move.spares sound.alone (sound.works s seat))
+              works_law n s m m h b vcpu others
+              (works_spared n s m m h b vcpu others (works_like move.works move.frames move.words move.unmarked) move.spares sound.alone (sound.works s vcpu))
               sound.works;
           stamped = sound.stamped;
           idle =
-              idle_fewer n s m m h b seat others (λ v. refl) (λ k. let none : work_on f [] ≡ Some e = rw k.works at here in absurd (no_work f e none)) move.cold
+              idle_fewer n s m m h b vcpu others (λ v. refl) (λ k. let none : work_on f [] ≡ Some e = rw k.works at here in absurd (no_work f e none)) move.cold
               (λ k. move.cache ∙ k) (λ k. move.walk ∙ k) sound.idle;
-          map = map_law n s m m h b seat others (λ g l. rw move.raised refl) sound.map;
+          map = map_law n s m m h b vcpu others (λ g l. rw move.raised refl) sound.map;
         }

@@ -28,7 +28,7 @@ use Rattle.board_lemmas.proofs.HandLists.{EachOf-map}
 use Rattle.count_rule.proofs.Twins.{EachTwo, EachTwo-each, SameWork, SameLock, SameClaim, recorded_in-same}
 use Rattle.board_lemmas.proofs.Works.{held_free}
 use Rattle.board_lemmas.proofs.Counted.{entries-one, table_entries-changed, contexts-same, hand_is, typed_hand_is, has_type-same}
-use Rattle.count_rule.proofs.CountLaw.{each_seat}
+use Rattle.count_rule.proofs.CountLaw.{each_vcpu}
 use Rattle.count_rule.proofs.PartLaws.{stamped_by, idle_running}
 use Rattle.count_rule.proofs.Learning.{works_learnt, locks_learnt, claims_learnt}
 use Rattle.count_rule.proofs.Quiet.{held_still, locks_times}
@@ -46,7 +46,7 @@ locked_free : (k : KindWord) → has_form k ≡ true → is_locked k ≡ true �
 unfolding has_form
 locked_free k form locked = grind (arith, nat_tests)
 
-module _ (n : Machine) (s : ℕ) (x : Step) (m m2 : Place → ℕ) (b c : ℕ → Holdings) (seat : s < (sizes_of n).vcpus) (others : (t : ℕ) → t ≢ s → c t ≡ b t) (may : MayAct n s x (b s)) (sound : Sound n m b) (f i : ℕ) (d : Exchanged n x f i m m2 (b s) (c s)) where
+module _ (n : Machine) (s : ℕ) (x : Step) (m m2 : Place → ℕ) (b c : ℕ → Holdings) (vcpu : s < (sizes_of n).vcpus) (others : (t : ℕ) → t ≢ s → c t ≡ b t) (may : MayAct n s x (b s)) (sound : Sound n m b) (f i : ℕ) (d : Exchanged n x f i m m2 (b s) (c s)) where
   abbrev old : Demand
   old = demand_at d.e.kind i (m (Cell f i))
 
@@ -68,7 +68,7 @@ module _ (n : Machine) (s : ℕ) (x : Step) (m m2 : Place → ℕ) (b c : ℕ �
 
   -- the table is live, and all of it is recorded
   facts : Locks n m b s f d.e
-  facts = lock_facts n m b s f d.e sound seat d.here
+  facts = lock_facts n m b s f d.e sound vcpu d.here
 
   kind_is : (kind_at m f).kind ≡ d.e.kind
   kind_is = facts.kind
@@ -80,7 +80,7 @@ module _ (n : Machine) (s : ℕ) (x : Step) (m m2 : Place → ℕ) (b c : ℕ �
   all_held =
       let live = (and_parts _ _ locked).0 in
       let table : IsTrue (is_table (kind_at m f).kind) = facts.table in
-      held_free n m b sound.alone f (locked_free (kind_at m f) (form_was n s m m2 b seat sound f place_real.0) locked) ∙ held_live (kind_at m f) live ∙ (rw table refl)
+      held_free n m b sound.alone f (locked_free (kind_at m f) (form_was n s m m2 b vcpu sound f place_real.0) locked) ∙ held_live (kind_at m f) live ∙ (rw table refl)
 
   old_is : entry_demand m f i ≡ old
   old_is = ap (λ y. demand_at y i (m (Cell f i))) kind_is
@@ -129,7 +129,7 @@ module _ (n : Machine) (s : ℕ) (x : Step) (m m2 : Place → ℕ) (b c : ℕ �
 
   -- ---- the entries
   held_same : (g : ℕ) → held (sizes_of n) m2 c g ≡ held (sizes_of n) m b g
-  held_same g = held_still n s m m2 b c seat others g (kinds_same g) (recorded_in-same g _ _ works_kept)
+  held_same g = held_still n s m m2 b c vcpu others g (kinds_same g) (recorded_in-same g _ _ works_kept)
 
   demand_other : (g j : ℕ) → Cell g j ≢ Cell f i → entry_demand m2 g j ≡ entry_demand m g j
   demand_other g j off = rw (d.wrote.others (Cell g j) off, kinds_same g) refl
@@ -151,7 +151,7 @@ module _ (n : Machine) (s : ℕ) (x : Step) (m m2 : Place → ℕ) (b c : ℕ �
             let frame : g ≡ f = cc in
             let index : j ≡ i = cc in
             let asked : new ≡ Typed h t = sym new_is ∙ ap (λ y. entry_demand m2 y i) (sym frame) ∙ ap (entry_demand m2 g) (sym index) ∙ e in
-            rw (kinds_same h) (demand_type n m b s f d.e.kind new (sound.found s seat) d.may h t asked)
+            rw (kinds_same h) (demand_type n m b s f d.e.kind new (sound.found s vcpu) d.may h t asked)
         | inr off ↦ rw (kinds_same h) (sound.counts.kinds.entries g j h t (rw (held_same g) at l) (sym (demand_other g j off) ∙ e))
       ]
 
@@ -163,16 +163,16 @@ module _ (n : Machine) (s : ℕ) (x : Step) (m m2 : Place → ℕ) (b c : ℕ �
       record {
         entries = entry_type;
         contexts = λ w j g p q t e. has_type-same m m2 g (context_type j) (kinds_same g) (sound.counts.kinds.contexts w j g p q t (sym (d.wrote.others (Vcpu w j) (λ k. cc)) ∙ e));
-        typed = each_seat n s m m2 b c seat others (λ t u. EachOf (λ e. HasType m2 e.frame e.kind) u.typed)
+        typed = each_vcpu n s m m2 b c vcpu others (λ t u. EachOf (λ e. HasType m2 e.frame e.kind) u.typed)
             (subst (λ y. EachOf (λ e. HasType m2 e.frame e.kind) y) (sym (ap (λ y. y.typed) d.hand))
-            (EachOf-map (λ e. HasType m e.frame e.kind) _ moved.typed (λ e k. has_type-same m m2 e.frame e.kind (kinds_same e.frame) k) (typed_in true (λ y. HasType m y.frame y.kind) old between old_type (typed_out (λ y. HasType m y.frame y.kind) new (b s) (sound.counts.kinds.typed s seat)))))
+            (EachOf-map (λ e. HasType m e.frame e.kind) _ moved.typed (λ e k. has_type-same m m2 e.frame e.kind (kinds_same e.frame) k) (typed_in true (λ y. HasType m y.frame y.kind) old between old_type (typed_out (λ y. HasType m y.frame y.kind) new (b s) (sound.counts.kinds.typed s vcpu)))))
             (λ t l off. EachOf-map (λ e. HasType m e.frame e.kind) _ (b t).typed (λ e k. has_type-same m m2 e.frame e.kind (kinds_same e.frame) k) (sound.counts.kinds.typed t l));
-        locks = each_seat n s m m2 b c seat others (λ t u. EachOf (λ e. HasType m2 e.frame (Some e.kind)) u.locks)
-            (EachTwo-each SameLock (λ e. HasType m e.frame (Some e.kind)) _ _ _ (λ y z r k. rw (kinds_same z.frame) (ap (λ f. (kind_at m f).kind) r.frame ∙ k ∙ sym r.kind)) locks_kept (sound.counts.kinds.locks s seat))
+        locks = each_vcpu n s m m2 b c vcpu others (λ t u. EachOf (λ e. HasType m2 e.frame (Some e.kind)) u.locks)
+            (EachTwo-each SameLock (λ e. HasType m e.frame (Some e.kind)) _ _ _ (λ y z r k. rw (kinds_same z.frame) (ap (λ f. (kind_at m f).kind) r.frame ∙ k ∙ sym r.kind)) locks_kept (sound.counts.kinds.locks s vcpu))
             (λ t l off. EachOf-map (λ e. HasType m e.frame (Some e.kind)) _ (b t).locks (λ e k. has_type-same m m2 e.frame (Some e.kind) (kinds_same e.frame) k) (sound.counts.kinds.locks t l));
       }
 
-  exchange_move : HandMove n s m m2 b c seat others
+  exchange_move : HandMove n s m m2 b c vcpu others
   exchange_move =
       record {
         ref_words = λ g. d.wrote.others (Refs g) (λ e. cc);
@@ -201,8 +201,8 @@ module _ (n : Machine) (s : ℕ) (x : Step) (m m2 : Place → ℕ) (b c : ℕ �
   exchanged_outcome =
       let words = d.wrote.others in
       let clock = words Clock (λ e. cc) in
-      hand_outcome n s m m2 b c seat others sound exchange_move
+      hand_outcome n s m m2 b c vcpu others sound exchange_move
       (wrote_spelled n s x (Cell f i) _ m m2 (b s) d.wrote may sound.machine sound.spelled (λ by l. absurd l) (λ v l. absurd l))
       (stamped_by n m m2 (Cell f i) words (omega arith) (λ w e. absurd (cc)) (λ g e. absurd (cc)) (λ g e. absurd (cc)) sound.stamped)
-      (idle_running n s m m2 b c seat others (words (run_of s) (λ e. cc) ∙ runs n s m m2 b c seat others sound (d.wrote.running refl)) (λ w off. words (run_of w) (λ e. cc))
+      (idle_running n s m m2 b c vcpu others (words (run_of s) (λ e. cc) ∙ runs n s m m2 b c vcpu others sound (d.wrote.running refl)) (λ w off. words (run_of w) (λ e. cc))
       (λ e. sym (ap (λ y. y.cold) d.hand ∙ far.cold) ∙ e) (λ t e. (ap (λ y. y.cache) d.hand ∙ far.cache) ∙ e) (λ t e. (ap (λ y. y.walk) d.hand ∙ far.walk) ∙ e) sound.idle)

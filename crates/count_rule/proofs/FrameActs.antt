@@ -22,7 +22,7 @@ use Rattle.board_lemmas.proofs.Sums.{when_eq, when_ne, one_at-same, hands-part, 
 use Rattle.board_lemmas.proofs.ListCounts.{first_by-absent, EachOf-found, first_by-some, times_by-without_one, times_by-cons, times_by-without, times_by-cons_here, times_by-cons_other, times_by-without_other}
 use Rattle.board_lemmas.proofs.HandLists.{first-some}
 use Rattle.xp_board.proofs.RefWords.{owned_says, free_says, dying_says, is_dying-read, dying_owner}
-use Rattle.count_rule.proofs.Told.{clock_told}
+use Rattle.count_rule.proofs.Told.{clock_found}
 use Rattle.count_rule.proofs.Outcome.{Outcome}
 use Rattle.count_rule.proofs.RefLaw.{ref_outcome}
 use Rattle.count_rule.proofs.RefActs.{inside, ref_spelled}
@@ -40,26 +40,26 @@ page_owned d w o e = rw e (bit_one_at o d)
 page_free : (d w : ℕ) → owner_of w ≡ None → is_page_of d w ≡ 0
 page_free d w e = rw e refl
 
-module _ (n : Machine) (s : ℕ) (x : Step) (m m2 : Place → ℕ) (b c : ℕ → Holdings) (seat : s < (sizes_of n).vcpus) (others : (t : ℕ) → t ≢ s → c t ≡ b t) (may : MayAct n s x (b s)) (sound : Sound n m b) (f : ℕ) where
+module _ (n : Machine) (s : ℕ) (x : Step) (m m2 : Place → ℕ) (b c : ℕ → Holdings) (vcpu : s < (sizes_of n).vcpus) (others : (t : ℕ) → t ≢ s → c t ≡ b t) (may : MayAct n s x (b s)) (sound : Sound n m b) (f : ℕ) where
   -- ---- a frame in the own hand alone
   -- it stands once among what ends and what is claimed, and its word is dying
   mine_dying : 0 < endings_of f (b s).ending + claims_of f (b s).claimed → (is_dying (m (Refs f)) ≡ true) × (endings_of f (b s).ending + claims_of f (b s).claimed ≡ 1)
   mine_dying k =
       let all = sound.alone.dying f in
-      let part = hands-part (λ u. endings_of f u.ending + claims_of f u.claimed) (sizes_of n) b s seat in
+      let part = hands-part (λ u. endings_of f u.ending + claims_of f u.claimed) (sizes_of n) b s vcpu in
       let most = bit_most (is_dying (m (Refs f))) in
       (some_bit (is_dying (m (Refs f))) (omega arith), omega arith)
 
   -- the owner of a claimed frame
   claimed_owner : (e : Claimed) → claim_of f (b s).claimed ≡ Some e → (o : ℕ) → ref_read (m (Refs f)) ≡ Some (Dying o) → o ≡ domain_of n s
   claimed_owner e here o is =
-      let all = (sound.found s seat).claims in
+      let all = (sound.found s vcpu).claims in
       let k = EachOf-found (ClaimFound (sizes_of n) m (domain_of n s) (b s)) (λ y. y.frame) f (b s).claimed e here all in
       dying_owner (m (Refs f)) o (domain_of n s) (sound.spelled.small (Refs f)) is (ap (λ y. m (Refs y)) (sym k.0) ∙ k.1.word)
 
   ending_owner : (e : Ending) → ending_of f (b s).ending ≡ Some e → (o : ℕ) → ref_read (m (Refs f)) ≡ Some (Dying o) → o ≡ e.owner
   ending_owner e here o is =
-      let all = (sound.found s seat).endings in
+      let all = (sound.found s vcpu).endings in
       let k = EachOf-found (EndingFound m) (λ y. y.frame) f (b s).ending e here all in
       dying_owner (m (Refs f)) o e.owner (sound.spelled.small (Refs f)) is (ap (λ y. m (Refs y)) (sym k.0) ∙ k.1)
 
@@ -70,9 +70,9 @@ module _ (n : Machine) (s : ℕ) (x : Step) (m m2 : Place → ℕ) (b c : ℕ �
       let v = dying_says _ dom (d.is ∙ ap Some d.may.left) in
       let claimed = ap (λ y. y.claimed) d.hand in
       let raised = ap (λ y. y.raised) d.hand in
-      ref_outcome n s m m2 b c seat others f sound
+      ref_outcome n s m m2 b c vcpu others f sound
       (record {
-        real = inside n s x m m2 b c seat others may sound f d.wrote.real;
+        real = inside n s x m m2 b c vcpu others may sound f d.wrote.real;
         words = d.wrote.others;
         typed = ap (λ y. y.typed) d.hand;
         works = ap (λ y. y.works) d.hand;
@@ -103,15 +103,15 @@ module _ (n : Machine) (s : ℕ) (x : Step) (m m2 : Place → ℕ) (b c : ℕ �
             let k = times_by-without (λ y. y) q dom (b s).credits d.may.credit in
             rw (ap (λ y. y.credits) d.hand) (omega arith);
       })
-      (ref_spelled n s x m m2 b c seat others may sound f d.wrote)
+      (ref_spelled n s x m m2 b c vcpu others may sound f d.wrote)
 
-  free_stamp_told : (stamp : ℕ) (e : Option Ending) (k : Option Claimed) → ending_of f (b s).ending ≡ e → claim_of f (b s).claimed ≡ k → IsFreeStamp n stamp (b s) e k → stamp ≤ m Clock
-  free_stamp_told stamp (Some e) k p q told = clock_told (sizes_of n) (m Clock) e.since stamp (b s).steps (sound.found s seat).clock told
-  free_stamp_told stamp None (Some k) p q told =
-      let each = EachOf-found (ClaimFound (sizes_of n) m (domain_of n s) (b s)) (λ y. y.frame) f (b s).claimed k q (sound.found s seat).claims in
+  free_stamp_found : (stamp : ℕ) (e : Option Ending) (k : Option Claimed) → ending_of f (b s).ending ≡ e → claim_of f (b s).claimed ≡ k → IsFreeStamp n stamp (b s) e k → stamp ≤ m Clock
+  free_stamp_found stamp (Some e) k p q was_found = clock_found (sizes_of n) (m Clock) e.since stamp (b s).steps (sound.found s vcpu).clock was_found
+  free_stamp_found stamp None (Some k) p q was_found =
+      let each = EachOf-found (ClaimFound (sizes_of n) m (domain_of n s) (b s)) (λ y. y.frame) f (b s).claimed k q (sound.found s vcpu).claims in
       let most = each.1.stamp in
       omega arith
-  free_stamp_told stamp None None p q told = absurd told
+  free_stamp_found stamp None None p q was_found = absurd was_found
 
   credit_owner : (o : ℕ) (e : Option Ending) → ending_of f (b s).ending ≡ e → ref_read (m (Refs f)) ≡ Some (Dying o) → 0 < endings_of f (b s).ending + claims_of f (b s).claimed →
       o ≡ credited n s (ending_of f (b s).ending)
@@ -123,7 +123,7 @@ module _ (n : Machine) (s : ℕ) (x : Step) (m m2 : Place → ℕ) (b c : ℕ �
 
   pub freed_outcome : Freed n s x f m m2 (b s) (c s) → Outcome n m2 c
   freed_outcome d =
-      let held = (sound.formed s seat).raised.held f in
+      let held = (sound.formed s vcpu).raised.held f in
       let has = d.may.raised in
       let mine = mine_dying (omega arith) in
       let old = is_dying-read (m (Refs f)) mine.0 in
@@ -133,9 +133,9 @@ module _ (n : Machine) (s : ℕ) (x : Step) (m m2 : Place → ℕ) (b c : ℕ �
       let claimed = ap (λ y. y.claimed) d.hand in
       let raised = ap (λ y. y.raised) d.hand in
       let one = mine.1 in
-      ref_outcome n s m m2 b c seat others f sound
+      ref_outcome n s m m2 b c vcpu others f sound
       (record {
-        real = inside n s x m m2 b c seat others may sound f d.wrote.real;
+        real = inside n s x m m2 b c vcpu others may sound f d.wrote.real;
         words = d.wrote.others;
         typed = ap (λ y. y.typed) d.hand;
         works = ap (λ y. y.works) d.hand;
@@ -144,7 +144,7 @@ module _ (n : Machine) (s : ℕ) (x : Step) (m m2 : Place → ℕ) (b c : ℕ �
         walk = ap (λ y. y.walk) d.hand;
         cold = ap (λ y. y.cold) d.hand;
         running = d.wrote.running refl;
-        stamp = let k = v.stamp in let t = free_stamp_told d.stamp _ _ refl refl d.may.told in omega arith;
+        stamp = let k = v.stamp in let t = free_stamp_found d.stamp _ _ refl refl d.may.was_found in omega arith;
         refs_other = λ g off. rw (ap (λ y. y.refs) d.hand) refl;
         refs_here = let r = ap (λ y. refs_to f y.refs) d.hand in let p = u.counts in let q = v.counts in let i = u.mark in let j = v.mark in omega arith;
         spares = λ z l. rw (ap (λ y. y.refs) d.hand) l;
@@ -170,7 +170,7 @@ module _ (n : Machine) (s : ℕ) (x : Step) (m m2 : Place → ℕ) (b c : ℕ �
             let k = times_by-cons (λ y. y) q (credited n s (ending_of f (b s).ending)) (b s).credits in
             rw (ap (λ y. y.credits) d.hand) (omega arith);
       })
-      (ref_spelled n s x m m2 b c seat others may sound f d.wrote)
+      (ref_spelled n s x m m2 b c vcpu others may sound f d.wrote)
 
   pub gave_outcome : Gave n s x f m m2 (b s) (c s) → Outcome n m2 c
   gave_outcome d =
@@ -182,9 +182,9 @@ module _ (n : Machine) (s : ℕ) (x : Step) (m m2 : Place → ℕ) (b c : ℕ �
       let claimed = ap (λ y. y.claimed) d.hand in
       let one = mine.1 in
       let owner : old.0 ≡ d.owner = claimed_owner d.may.claimed d.may.here old.0 old.1 ∙ sym d.may.own in
-      ref_outcome n s m m2 b c seat others f sound
+      ref_outcome n s m m2 b c vcpu others f sound
       (record {
-        real = inside n s x m m2 b c seat others may sound f d.wrote.real;
+        real = inside n s x m m2 b c vcpu others may sound f d.wrote.real;
         words = d.wrote.others;
         typed = ap (λ y. y.typed) d.hand;
         works = ap (λ y. y.works) d.hand;
@@ -212,4 +212,4 @@ module _ (n : Machine) (s : ℕ) (x : Step) (m m2 : Place → ℕ) (b c : ℕ �
         raised_here = rw (ap (λ y. y.raised) d.hand, u.free, v.free) refl;
         pages = λ q. rw (ap (λ y. y.credits) d.hand, u.owned, v.owned, owner) refl;
       })
-      (ref_spelled n s x m m2 b c seat others may sound f d.wrote)
+      (ref_spelled n s x m m2 b c vcpu others may sound f d.wrote)

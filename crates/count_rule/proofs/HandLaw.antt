@@ -13,7 +13,7 @@ use Rattle.count_rule.proofs.Quiet.{works_times, locks_times, claims_times, is_c
 use Rattle.count_rule.proofs.Outcome.{Outcome}
 use Rattle.board_lemmas.proofs.Sums.{sum_below-same}
 
-module _ (n : Machine) (s : ℕ) (m m2 : Place → ℕ) (b c : ℕ → Holdings) (seat : s < (sizes_of n).vcpus) (others : (t : ℕ) → t ≢ s → c t ≡ b t) where
+module _ (n : Machine) (s : ℕ) (m m2 : Place → ℕ) (b c : ℕ → Holdings) (vcpu : s < (sizes_of n).vcpus) (others : (t : ℕ) → t ≢ s → c t ≡ b t) where
   pub record HandMove : Type 0 where
     pub ref_words : (g : ℕ) → m2 (Refs g) ≡ m (Refs g)
     pub kind_words : (g : ℕ) → m2 (Kind g) ≡ m (Kind g)
@@ -36,7 +36,7 @@ module _ (n : Machine) (s : ℕ) (m m2 : Place → ℕ) (b c : ℕ → Holdings)
       record {
         spelled = spelled;
         counts =
-            counts_law n s m m2 b c seat others
+            counts_law n s m m2 b c vcpu others
             (record {
               refs = λ g. let k = move.refs g in rw (move.ref_words g, move.kind_words g) (omega arith);
               types = λ g. let k = move.types g in rw (move.kind_words g) (omega arith);
@@ -47,16 +47,16 @@ module _ (n : Machine) (s : ℕ) (m m2 : Place → ℕ) (b c : ℕ → Holdings)
             })
             sound.counts;
         alone =
-            alone_law n s m m2 b c seat others
+            alone_law n s m m2 b c vcpu others
             (λ g. let e = works_times (b s) (c s) move.works g in rw (move.kind_words g) (omega arith))
             (λ g. let e = locks_times (b s) (c s) move.locks g in rw (move.kind_words g) (omega arith))
             (λ g. let e = claims_times (b s) (c s) move.claimed g in let k = ap (endings_of g) move.ending in rw (move.ref_words g) (omega arith))
             sound.alone;
         works =
-            works_law n s m m2 b c seat others
-            (works_spared n s m m2 b c seat others (like_works (b s).works (c s).works move.works) move.spares sound.alone (sound.works s seat))
+            works_law n s m m2 b c vcpu others
+            (works_spared n s m m2 b c vcpu others (like_works (b s).works (c s).works move.works) move.spares sound.alone (sound.works s vcpu))
             sound.works;
         stamped = stamped;
         idle = idle;
-        map = map_law n s m m2 b c seat others (λ g l. rw (move.ref_words g, move.map_words (g / 64), move.raised) refl) sound.map;
+        map = map_law n s m m2 b c vcpu others (λ g l. rw (move.ref_words g, move.map_words (g / 64), move.raised) refl) sound.map;
       }

@@ -44,12 +44,12 @@ some_place n m g outside d false at =
     let none : is_dying 0 ≡ true = rw (sym (outside (Refs g) at)) d in
     absurd (dying_zero none)
 
-module _ (n : Machine) (s : ℕ) (m : Place → ℕ) (b : ℕ → Holdings) (seat : s < (sizes_of n).vcpus) (sound : Sound n m b) (g : ℕ) (held : 0 < endings_of g (b s).ending + claims_of g (b s).claimed) where
+module _ (n : Machine) (s : ℕ) (m : Place → ℕ) (b : ℕ → Holdings) (vcpu : s < (sizes_of n).vcpus) (sound : Sound n m b) (g : ℕ) (held : 0 < endings_of g (b s).ending + claims_of g (b s).claimed) where
   -- a frame that is ending or claimed in the own hand
   held_dying : is_dying (m (Refs g)) ≡ true
   held_dying =
       let all = sound.alone.dying g in
-      let part = hands-part (λ u. endings_of g u.ending + claims_of g u.claimed) (sizes_of n) b s seat in
+      let part = hands-part (λ u. endings_of g u.ending + claims_of g u.claimed) (sizes_of n) b s vcpu in
       some_bit (is_dying (m (Refs g))) (omega arith)
 
   pub held_inside_machine : g < n.frames
@@ -58,7 +58,7 @@ module _ (n : Machine) (s : ℕ) (m : Place → ℕ) (b : ℕ → Holdings) (sea
   others_low : (t : ℕ) → t < (sizes_of n).vcpus → t ≢ s → times g (b t).raised ≡ 0
   others_low t l off =
       let all = sound.alone.dying g in
-      let two = hands-two (λ u. endings_of g u.ending + claims_of g u.claimed) (sizes_of n) b t s l seat off in
+      let two = hands-two (λ u. endings_of g u.ending + claims_of g u.claimed) (sizes_of n) b t s l vcpu off in
       let most = bit_most (is_dying (m (Refs g))) in
       let few = (sound.formed t l).raised.held g in
       omega arith
@@ -67,7 +67,7 @@ module _ (n : Machine) (s : ℕ) (m : Place → ℕ) (b : ℕ → Holdings) (sea
   pub held_bit : bit_at (m (Map (g / 64))) (g % 64) ≡ times g (b s).raised
   held_bit =
       let word = sound.map.bits g held_inside_machine in
-      let mine = hands-only (λ u. times g u.raised) (sizes_of n) b s seat others_low in
+      let mine = hands-only (λ u. times g u.raised) (sizes_of n) b s vcpu others_low in
       let r = is_dying-read (m (Refs g)) held_dying in
       let busy = ap bit (dying_says (m (Refs g)) r.0 r.1).free in
       let same = bit_at_bit (m (Map (g / 64))) (g % 64) in
@@ -79,7 +79,7 @@ inside_bits frames g k l e = grind (arith, nat_tests)
 lower_word : (w by p v : ℕ) → p ≤ w → w < 2 ^ 64 → 2 ^ 64 - p ≡ by → v ≡ (w + by) % 2 ^ 64 → v + p ≡ w
 lower_word w by p v a b c d = omega arith
 
-module _ (n : Machine) (s : ℕ) (x : Step) (m m2 : Place → ℕ) (b c : ℕ → Holdings) (seat : s < (sizes_of n).vcpus) (others : (t : ℕ) → t ≢ s → c t ≡ b t) (may : MayAct n s x (b s)) (sound : Sound n m b) (k : ℕ) where
+module _ (n : Machine) (s : ℕ) (x : Step) (m m2 : Place → ℕ) (b c : ℕ → Holdings) (vcpu : s < (sizes_of n).vcpus) (others : (t : ℕ) → t ≢ s → c t ≡ b t) (may : MayAct n s x (b s)) (sound : Sound n m b) (k : ℕ) where
   -- how the word and the raised frames move
   record Moves (g : ℕ) (by : ℕ) : Type 0 where
     word : g / 64 ≡ k
@@ -98,8 +98,8 @@ module _ (n : Machine) (s : ℕ) (x : Step) (m m2 : Place → ℕ) (b c : ℕ �
   moves_by : (by : ℕ) → IsTrue (is_place (sizes_of n) (Map k)) → m2 (Map k) ≡ (m (Map k) + by) % 2 ^ 64 → Hint k by (b s) → (g : ℕ) × Moves g by
   moves_by by real is (sets g word one held none raised) =
       let i = g % 64 in
-      let off : bit_at (m (Map k)) i ≡ 0 = subst (λ y. bit_at (m (Map y)) i ≡ 0) word (held_bit n s m b seat sound g held ∙ none) in
-      let inside = inside_bits n.frames g k (held_inside_machine n s m b seat sound g held) word in
+      let off : bit_at (m (Map k)) i ≡ 0 = subst (λ y. bit_at (m (Map y)) i ≡ 0) word (held_bit n s m b vcpu sound g held ∙ none) in
+      let inside = inside_bits n.frames g k (held_inside_machine n s m b vcpu sound g held) word in
       let small = added_small (m (Map k)) i (map_bits n.frames k) off (was_small real) inside in
       let few : 2 ^ map_bits n.frames k ≤ 2 ^ 64 = pow_mono room in
       let now : m2 (Map k) ≡ m (Map k) + 2 ^ i = is ∙ (omega arith) in (
@@ -116,8 +116,8 @@ module _ (n : Machine) (s : ℕ) (x : Step) (m m2 : Place → ℕ) (b c : ℕ �
       )
   moves_by by real is (clears g word one has raised) =
       let i = g % 64 in
-      let formed = (sound.formed s seat).raised.held g in
-      let bits = held_bit n s m b seat sound g (omega arith) in
+      let formed = (sound.formed s vcpu).raised.held g in
+      let bits = held_bit n s m b vcpu sound g (omega arith) in
       let most = bit_at-lt (m (Map (g / 64))) i in
       let on : bit_at (m (Map k)) i ≡ 1 = subst (λ y. bit_at (m (Map y)) i ≡ 1) word (omega arith) in
       let some = has_bit (m (Map k)) i on in
@@ -185,9 +185,9 @@ module _ (n : Machine) (s : ℕ) (x : Step) (m m2 : Place → ℕ) (b c : ℕ �
       let move = moves_by by d.wrote.real d.is (hint_is k by (b s) d.may) in
       let wrote = d.wrote in
       let clock = wrote.others Clock (λ e. cc) in
-      calm_outcome n s m m2 b c seat others sound (calm n s x m m2 b c seat others may sound (Map k) wrote.others (λ f e. cc) (λ f e. cc) (λ v k e. cc) (λ f i e. cc)) (hint_stays (m (Map k)) _ d.hand)
+      calm_outcome n s m m2 b c vcpu others sound (calm n s x m m2 b c vcpu others may sound (Map k) wrote.others (λ f e. cc) (λ f e. cc) (λ v k e. cc) (λ f i e. cc)) (hint_stays (m (Map k)) _ d.hand)
       (λ e l. rw (wrote.others (Pages e) (λ k. cc), ap (λ y. y.credits) d.hand) refl)
       (λ g l. hint_bits by 0 wrote move.0 move.1 (ap (λ y. y.raised) d.hand) g) (hint_spelled wrote)
       (stamped_by n m m2 (Map k) wrote.others (omega arith) (λ v e. absurd (cc)) (λ f e. absurd (cc)) (λ f e. absurd (cc)) sound.stamped)
-      (idle_running n s m m2 b c seat others (wrote.others (run_of s) (λ e. cc) ∙ runs n s m m2 b c seat others sound (wrote.running refl)) (λ v off. wrote.others (run_of v) (λ e. cc))
+      (idle_running n s m m2 b c vcpu others (wrote.others (run_of s) (λ e. cc) ∙ runs n s m m2 b c vcpu others sound (wrote.running refl)) (λ v off. wrote.others (run_of v) (λ e. cc))
       (λ e. sym (ap (λ y. y.cold) d.hand) ∙ e) (λ k e. ap (λ y. y.cache) d.hand ∙ e) (λ k e. ap (λ y. y.walk) d.hand ∙ e) sound.idle)

@@ -22,11 +22,11 @@ use Rattle.count_rule.proofs.KindWorks.{works_apart}
 use Rattle.count_rule.proofs.Outcome.{Outcome}
 use Rattle.board_lemmas.proofs.Sums.{no_bit}
 
-module _ (n : Machine) (s : ℕ) (x : Step) (m m2 : Place → ℕ) (b c : ℕ → Holdings) (seat : s < (sizes_of n).vcpus) (others : (t : ℕ) → t ≢ s → c t ≡ b t) (may : MayAct n s x (b s)) (sound : Sound n m b) (f : ℕ) where
+module _ (n : Machine) (s : ℕ) (x : Step) (m m2 : Place → ℕ) (b c : ℕ → Holdings) (vcpu : s < (sizes_of n).vcpus) (others : (t : ℕ) → t ≢ s → c t ≡ b t) (may : MayAct n s x (b s)) (sound : Sound n m b) (f : ℕ) where
   -- a frame that nobody has in hand alone, before and after
   module _ (k l : KindWord) (was : kind_at m f ≡ k) (is : kind_at m2 f ≡ l) (free : is_busy k ≡ false) (still : is_busy l ≡ false) where
     nobody : works_on f (b s).works ≡ 0
-    nobody = nobody_works n m b sound.alone f (ap is_busy was ∙ free) s seat
+    nobody = nobody_works n m b sound.alone f (ap is_busy was ∙ free) s vcpu
 
     free_held : held_of l None ≡ held_of k None → HeldAlone n m2 c → held (sizes_of n) m2 c f ≡ held (sizes_of n) m b f
     free_held same alone =
@@ -56,7 +56,7 @@ module _ (n : Machine) (s : ℕ) (x : Step) (m m2 : Place → ℕ) (b c : ℕ �
     pub locks : (g : ℕ) → g ≢ f → locks_on g u.locks ≡ locks_on g (b s).locks
 
   pub rest_by : (u : Holdings) → c s ≡ u → Beside u → Elsewhere u → ((g : ℕ) → g ≢ f → works_on g u.works ≡ works_on g (b s).works) →
-      ((g : ℕ) → g ≢ f → recorded_in u.works g ≡ recorded_in (b s).works g) → Rest n s m m2 b c seat others f
+      ((g : ℕ) → g ≢ f → recorded_in u.works g ≡ recorded_in (b s).works g) → Rest n s m m2 b c vcpu others f
   rest_by u hand side other works recorded =
       record {
         ending = ap (λ y. y.ending) hand ∙ side.ending;
@@ -84,7 +84,7 @@ module _ (n : Machine) (s : ℕ) (x : Step) (m m2 : Place → ℕ) (b c : ℕ �
   turn_by k l ck mk bk lk cl ml bl ll t = (subst (λ y. Says y ck mk bk lk) (sym t.was) t.says, subst (λ y. Says y cl ml bl ll) (sym t.is) t.tells)
 
   -- any act on the word, by what the hand becomes
-  pub turn_outcome : Wrote n x (Kind f) steps.Kind m m2 (b s) → (u : Holdings) → c s ≡ u → Rest n s m m2 b c seat others f → (k l : KindWord) (ck mk bk lk cl ml bl ll : ℕ) →
+  pub turn_outcome : Wrote n x (Kind f) steps.Kind m m2 (b s) → (u : Holdings) → c s ≡ u → Rest n s m m2 b c vcpu others f → (k l : KindWord) (ck mk bk lk cl ml bl ll : ℕ) →
       Turn k l ck mk bk lk cl ml bl ll → kind_stamp (m2 (Kind f)) ≤ m Clock →
       mk + (refs_to f (b s).refs + (typed_to f (b s).typed + locks_on f (b s).locks)) ≡ ml + (refs_to f u.refs + (typed_to f u.typed + locks_on f u.locks)) →
       cl + (mk + (typed_to f (b s).typed + locks_on f (b s).locks)) ≡ ck + (ml + (typed_to f u.typed + locks_on f u.locks)) →
@@ -101,7 +101,7 @@ module _ (n : Machine) (s : ℕ) (x : Step) (m m2 : Place → ℕ) (b c : ℕ �
       let ht = ap (λ y. typed_to f y.typed) hand in
       let hl = ap (λ y. locks_on f y.locks) hand in
       let hw = ap (λ y. works_on f y.works) hand in
-      kind_outcome n s m m2 b c seat others f sound
+      kind_outcome n s m m2 b c vcpu others f sound
       (record {
         words = wrote.others;
         rest = rest;
@@ -117,7 +117,7 @@ module _ (n : Machine) (s : ℕ) (x : Step) (m m2 : Place → ℕ) (b c : ℕ �
         locks = λ e. subst (λ y. EachOf (λ e. HasType m2 e.frame (Some e.kind)) y) (sym (ap (λ y. y.locks) hand)) (locks_kept e);
         works = agrees;
       })
-      (kind_spelled n s x m m2 b seat may sound f wrote)
+      (kind_spelled n s x m m2 b vcpu may sound f wrote)
 
   -- nobody has the frame in hand alone, before and after, and it keeps its type
   pub free_outcome : Wrote n x (Kind f) steps.Kind m m2 (b s) → (u : Holdings) → c s ≡ u → Beside u → u.works ≡ (b s).works → Elsewhere u → (k l : KindWord) (ck mk lk cl ml ll : ℕ) →
@@ -134,4 +134,4 @@ module _ (n : Machine) (s : ℕ) (x : Step) (m m2 : Place → ℕ) (b c : ℕ �
       let rest = rest_by u hand side other (kept_other (λ y. y.frame) f (b s).works u.works works) (recorded_kept f (b s).works u.works works) in
       turn_outcome wrote u hand rest k l ck mk 0 lk cl ml 0 ll turn stamp refs types (let w = ap (works_on f) works in omega arith) locks
       (free_held k l turn.was turn.is free still same) (inl (keeps_kind k l turn.was turn.is kind)) typed_kept locks_kept
-      (works_apart f (b s) (c s) rest.refs (ap (λ y. y.works) hand ∙ works) none (sound.works s seat))
+      (works_apart f (b s) (c s) rest.refs (ap (λ y. y.works) hand ∙ works) none (sound.works s vcpu))

@@ -18,7 +18,7 @@ use Rattle.board_lemmas.proofs.Counted.{held_inside, hand_is, typed_hand_is}
 use Rattle.count_rule.proofs.Outcome.{Outcome, runs}
 use Rattle.board_lemmas.proofs.Sums.{sum_below-same}
 
-module _ (n : Machine) (s : ℕ) (m m2 : Place → ℕ) (b c : ℕ → Holdings) (seat : s < (sizes_of n).vcpus) (others : (t : ℕ) → t ≢ s → c t ≡ b t) (f : ℕ) where
+module _ (n : Machine) (s : ℕ) (m m2 : Place → ℕ) (b c : ℕ → Holdings) (vcpu : s < (sizes_of n).vcpus) (others : (t : ℕ) → t ≢ s → c t ≡ b t) (f : ℕ) where
   -- what of the hand stays
   pub record Rest : Type 0 where
     pub ending : (c s).ending ≡ (b s).ending
@@ -63,7 +63,7 @@ module _ (n : Machine) (s : ℕ) (m m2 : Place → ℕ) (b c : ℕ → Holdings)
 
     kind_alone : HeldAlone n m2 c
     kind_alone =
-        alone_law n s m m2 b c seat others
+        alone_law n s m m2 b c vcpu others
         (each_frame (λ g. works_on g (c s).works + bit (is_busy (kind_at m g)) ≡ works_on g (b s).works + bit (is_busy (kind_at m2 g))) move.works_here
         (λ g off. let e = move.rest.works g off in rw (kinds_elsewhere g off) (omega arith)))
         (each_frame (λ g. locks_on g (c s).locks + bit (is_locked (kind_at m g)) ≡ locks_on g (b s).locks + bit (is_locked (kind_at m2 g))) move.locks_here
@@ -83,11 +83,11 @@ module _ (n : Machine) (s : ℕ) (m m2 : Place → ℕ) (b c : ℕ → Holdings)
           | inr off ↦ rw (cell, kinds_elsewhere g off) refl
         ]
 
-    steady : Steady n s m m2 b c seat others
+    steady : Steady n s m m2 b c vcpu others
     steady =
         record {
           held_same = each_frame (λ g. held (sizes_of n) m2 c g ≡ held (sizes_of n) m b g) (move.held_here kind_alone)
-              (λ g off. held_still n s m m2 b c seat others g (kinds_elsewhere g off) (move.rest.recorded g off));
+              (λ g off. held_still n s m m2 b c vcpu others g (kinds_elsewhere g off) (move.rest.recorded g off));
           demand_same = kind_demands;
           inside = λ g i l. held_inside n m b g i sound.spelled l;
           context_same = λ v k t. move.words (Vcpu v k) (λ e. cc);
@@ -120,9 +120,9 @@ module _ (n : Machine) (s : ℕ) (m m2 : Place → ℕ) (b c : ℕ → Holdings)
 
     kind_counts : CountsAgree (sizes_of n) m2 c
     kind_counts =
-        counts_law n s m m2 b c seat others
-        (counted_steady n s m m2 b c seat others steady sound.counts counted_refs counted_types
-        (types_steady n s m m2 b c seat others steady sound.counts move.typed move.locks)
+        counts_law n s m m2 b c vcpu others
+        (counted_steady n s m m2 b c vcpu others steady sound.counts counted_refs counted_types
+        (types_steady n s m m2 b c vcpu others steady sound.counts move.typed move.locks)
         (λ d l.
         let e = move.words (Pages d) (λ e. cc) in
         let p : pages_of n m2 d ≡ pages_of n m d = sum_below-same _ _ _ (λ f k. ap (is_page_of d) (refs_same f)) in
@@ -136,11 +136,11 @@ module _ (n : Machine) (s : ℕ) (m m2 : Place → ℕ) (b c : ℕ → Holdings)
           spelled = spelled;
           counts = kind_counts;
           alone = kind_alone;
-          works = works_law n s m m2 b c seat others move.works sound.works;
+          works = works_law n s m m2 b c vcpu others move.works sound.works;
           stamped =
               stamped_by n m m2 (Kind f) move.words (omega arith) (λ v e. absurd (cc)) (λ g e. absurd (cc)) (λ g e. let k = move.stamp in omega arith) sound.stamped;
           idle =
-              idle_running n s m m2 b c seat others (move.words (run_of s) (λ e. cc) ∙ runs n s m m2 b c seat others sound move.running) (λ v off. move.words (run_of v) (λ e. cc))
+              idle_running n s m m2 b c vcpu others (move.words (run_of s) (λ e. cc) ∙ runs n s m m2 b c vcpu others sound move.running) (λ v off. move.words (run_of v) (λ e. cc))
               (λ e. sym move.rest.cold ∙ e) (λ k e. move.rest.cache ∙ e) (λ k e. move.rest.walk ∙ e) sound.idle;
-          map = map_law n s m m2 b c seat others (λ g l. rw (refs_same g, move.words (Map (g / 64)) (λ e. cc), move.rest.raised) refl) sound.map;
+          map = map_law n s m m2 b c vcpu others (λ g l. rw (refs_same g, move.words (Map (g / 64)) (λ e. cc), move.rest.raised) refl) sound.map;
         }

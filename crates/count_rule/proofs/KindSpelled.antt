@@ -39,7 +39,7 @@ typed_by : (n : Machine) (w : ℕ) (o : Option KindWord) → kind_read w ≡ o �
 typed_by n w (Some k) e t = read_type w k e
 typed_by n w None e t = absurd (cc)
 
-module _ (n : Machine) (s : ℕ) (m m2 : Place → ℕ) (b : ℕ → Holdings) (seat : s < (sizes_of n).vcpus) (sound : Sound n m b) (f : ℕ) (real : IsTrue (is_place (sizes_of n) (Kind f))) where
+module _ (n : Machine) (s : ℕ) (m m2 : Place → ℕ) (b : ℕ → Holdings) (vcpu : s < (sizes_of n).vcpus) (sound : Sound n m b) (f : ℕ) (real : IsTrue (is_place (sizes_of n) (Kind f))) where
   was : IsTrue (is_kind_in n (kind_read (m (Kind f))))
   unfolding IsSpelling
   was = sound.spelled.spelled (Kind f) real
@@ -73,52 +73,52 @@ module _ (n : Machine) (s : ℕ) (m m2 : Place → ℕ) (b : ℕ → Holdings) (
   module _ (drop : MayDrop n f (b s)) where
     drop_pinned : (kind_at m f).pinned ≡ true → 2 ≤ (kind_at m f).number
     drop_pinned on =
-        let all = typed_counts (drop_live n m b sound s seat f drop) in
-        let mine = hands-part (λ u. typed_to f u.typed) (sizes_of n) b s seat in
+        let all = typed_counts (drop_live n m b sound s vcpu f drop) in
+        let mine = hands-part (λ u. typed_to f u.typed) (sizes_of n) b s vcpu in
         let has = drop.in_hand in
         let mark = marks_pinned on in
         omega arith
 
     drop_locked : (kind_at m f).locked ≡ true → 2 ≤ (kind_at m f).number
     drop_locked on =
-        let all = typed_counts (drop_live n m b sound s seat f drop) in
-        let mine = hands-part (λ u. typed_to f u.typed) (sizes_of n) b s seat in
+        let all = typed_counts (drop_live n m b sound s vcpu f drop) in
+        let mine = hands-part (λ u. typed_to f u.typed) (sizes_of n) b s vcpu in
         let has = drop.in_hand in
-        let lock = locked_hands (drop_live n m b sound s seat f drop) on in
+        let lock = locked_hands (drop_live n m b sound s vcpu f drop) on in
         omega arith
 
     drop_spelled : m2 (Kind f) ≡ (m (Kind f) + one_down) % 2 ^ 64 → IsSpelling n (Kind f) (m2 (Kind f))
     unfolding IsSpelling
     drop_spelled is =
-        let e = drop_word n m b sound s seat f drop (m2 (Kind f)) is in
-        let form : has_form (kind_at m2 f) ≡ true = ap has_form e ∙ dropped_form (kind_at m f) form_was (drop_live n m b sound s seat f drop) (drop_some n m b sound s seat f drop) drop_pinned drop_locked in
-        let type : has_type (m2 (Kind f)) ≡ true = ap has_type is ∙ down_type (m (Kind f)) (sound.spelled.small (Kind f)) (drop_some n m b sound s seat f drop) ∙ type_was in
+        let e = drop_word n m b sound s vcpu f drop (m2 (Kind f)) is in
+        let form : has_form (kind_at m2 f) ≡ true = ap has_form e ∙ dropped_form (kind_at m f) form_was (drop_live n m b sound s vcpu f drop) (drop_some n m b sound s vcpu f drop) drop_pinned drop_locked in
+        let type : has_type (m2 (Kind f)) ≡ true = ap has_type is ∙ down_type (m (Kind f)) (sound.spelled.small (Kind f)) (drop_some n m b sound s vcpu f drop) ∙ type_was in
         let read = read_made (m2 (Kind f)) type form in
-        subst (λ y. IsTrue (is_kind_in n y)) (sym read) (live_in n (kind_at m2 f) (let k = limit_was (drop_live n m b sound s seat f drop) in let j = ap (λ (y : KindWord). y.number) e in omega arith))
+        subst (λ y. IsTrue (is_kind_in n y)) (sym read) (live_in n (kind_at m2 f) (let k = limit_was (drop_live n m b sound s vcpu f drop) in let j = ap (λ (y : KindWord). y.number) e in omega arith))
 
   -- ---- a lock is given back
   module _ (held : 0 < locks_on f (b s).locks) where
     lock_pinned : (kind_at m f).pinned ≡ true → 2 ≤ (kind_at m f).number
     lock_pinned on =
-        let all = typed_counts (lock_live n m b sound s seat f held) in
-        let mine = hands-part (λ u. locks_on f u.locks) (sizes_of n) b s seat in
+        let all = typed_counts (lock_live n m b sound s vcpu f held) in
+        let mine = hands-part (λ u. locks_on f u.locks) (sizes_of n) b s vcpu in
         let mark = marks_pinned on in
         omega arith
 
     unlock_spelled : m2 (Kind f) ≡ (m (Kind f) + unlocked_down) % 2 ^ 64 → IsSpelling n (Kind f) (m2 (Kind f))
     unfolding IsSpelling
     unlock_spelled is =
-        let e = unlock_word n m b sound s seat f held (m2 (Kind f)) is in
-        let form : has_form (kind_at m2 f) ≡ true = ap has_form e ∙ unlocked_form (kind_at m f) form_was (lock_live n m b sound s seat f held) (lock_some n m b sound s seat f held) lock_pinned in
-        let type : has_type (m2 (Kind f)) ≡ true = ap has_type is ∙ unlock_type (m (Kind f)) (sound.spelled.small (Kind f)) (lock_some n m b sound s seat f held) (lock_set n m b sound s seat f held) ∙ type_was in
+        let e = unlock_word n m b sound s vcpu f held (m2 (Kind f)) is in
+        let form : has_form (kind_at m2 f) ≡ true = ap has_form e ∙ unlocked_form (kind_at m f) form_was (lock_live n m b sound s vcpu f held) (lock_some n m b sound s vcpu f held) lock_pinned in
+        let type : has_type (m2 (Kind f)) ≡ true = ap has_type is ∙ unlock_type (m (Kind f)) (sound.spelled.small (Kind f)) (lock_some n m b sound s vcpu f held) (lock_set n m b sound s vcpu f held) ∙ type_was in
         let read = read_made (m2 (Kind f)) type form in
-        subst (λ y. IsTrue (is_kind_in n y)) (sym read) (live_in n (kind_at m2 f) (let k = limit_was (lock_live n m b sound s seat f held) in let j = ap (λ (y : KindWord). y.number) e in omega arith))
+        subst (λ y. IsTrue (is_kind_in n y)) (sym read) (live_in n (kind_at m2 f) (let k = limit_was (lock_live n m b sound s vcpu f held) in let j = ap (λ (y : KindWord). y.number) e in omega arith))
 
 pub kind_spelled : (n : Machine) (s : ℕ) (x : Step) (m m2 : Place → ℕ) (b : ℕ → Holdings) → s < (sizes_of n).vcpus → MayAct n s x (b s) → Sound n m b → (f : ℕ) → Wrote n x (Kind f) steps.Kind m m2 (b s) → Spelled n m2
-kind_spelled n s x m m2 b seat may sound f d =
+kind_spelled n s x m m2 b vcpu may sound f d =
     wrote_spelled n s x (Kind f) steps.Kind m m2 (b s) d may sound.machine sound.spelled
     (λ by l is. elim l [
-      | inl drop ↦ drop_spelled n s m m2 b seat sound f d.real drop.1 (is ∙ ap (λ y. (m (Kind f) + y) % 2 ^ 64) drop.0)
-      | inr unlock ↦ unlock_spelled n s m m2 b seat sound f d.real unlock.1 (is ∙ ap (λ y. (m (Kind f) + y) % 2 ^ 64) unlock.0)
+      | inl drop ↦ drop_spelled n s m m2 b vcpu sound f d.real drop.1 (is ∙ ap (λ y. (m (Kind f) + y) % 2 ^ 64) drop.0)
+      | inr unlock ↦ unlock_spelled n s m m2 b vcpu sound f d.real unlock.1 (is ∙ ap (λ y. (m (Kind f) + y) % 2 ^ 64) unlock.0)
     ])
     (λ v l. absurd l)

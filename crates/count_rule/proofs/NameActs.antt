@@ -18,7 +18,7 @@ use Rattle.step_effects.proofs.ActEffects.{Named}
 use Rattle.board_lemmas.proofs.PlaceTests.{same_or_other}
 use Rattle.count_rule.proofs.Twins.{EachTwo-each, SameLock, recorded_in-same, EachTwo, SameWork, SameClaim}
 use Rattle.board_lemmas.proofs.Counted.{entries-same, contexts-one, hand_is, typed_hand_is, not_context, has_type-same}
-use Rattle.count_rule.proofs.CountLaw.{each_seat}
+use Rattle.count_rule.proofs.CountLaw.{each_vcpu}
 use Rattle.count_rule.proofs.PartLaws.{stamped_by, idle_running}
 use Rattle.count_rule.proofs.Learning.{Kept, Learnt, learnt, kept_noted}
 use Rattle.count_rule.proofs.Quiet.{held_still, locks_times}
@@ -30,7 +30,7 @@ use Rattle.count_rule.proofs.NameHands.{named_out_typed, named_in_typed, IsNamed
 use Rattle.board_lemmas.proofs.HandParts.{Beside, Translations, beside_then, translations_then, beside_named_out, beside_named_in, translations_named_out, translations_named_in, refs_named_in, refs_named_out}
 use Rattle.board_lemmas.proofs.HandTypes.{typed_named_out, typed_named_in}
 
-module _ (n : Machine) (s : ℕ) (x : Step) (m m2 : Place → ℕ) (b c : ℕ → Holdings) (seat : s < (sizes_of n).vcpus) (others : (t : ℕ) → t ≢ s → c t ≡ b t) (may : MayAct n s x (b s)) (sound : Sound n m b) (v k : ℕ) (d : Named n s x v k m m2 (b s) (c s)) where
+module _ (n : Machine) (s : ℕ) (x : Step) (m m2 : Place → ℕ) (b c : ℕ → Holdings) (vcpu : s < (sizes_of n).vcpus) (others : (t : ℕ) → t ≢ s → c t ≡ b t) (may : MayAct n s x (b s)) (sound : Sound n m b) (v k : ℕ) (d : Named n s x v k m m2 (b s) (c s)) where
   abbrev was : ℕ
   was = m (Vcpu v k)
 
@@ -59,7 +59,7 @@ module _ (n : Machine) (s : ℕ) (x : Step) (m m2 : Place → ℕ) (b c : ℕ �
       ]
 
   fits_type : (g : ℕ) (o : Option PageType) → FitsWord n s g (b s) o → HasType m g o
-  fits_type g (Some t) fits = ((sound.found s seat).lives g t fits.0).1
+  fits_type g (Some t) fits = ((sound.found s vcpu).lives g t fits.0).1
   fits_type g None fits = tt
 
   new_type : (g : ℕ) → is ≡ g + 1 → HasType m g (context_type k)
@@ -118,10 +118,10 @@ module _ (n : Machine) (s : ℕ) (x : Step) (m m2 : Place → ℕ) (b c : ℕ �
       omega arith
 
   held_named : (f : ℕ) → held (sizes_of n) m2 c f ≡ held (sizes_of n) m b f
-  held_named f = held_still n s m m2 b c seat others f (kinds_same f) (recorded_in-same f _ _ works_kept)
+  held_named f = held_still n s m m2 b c vcpu others f (kinds_same f) (recorded_in-same f _ _ works_kept)
 
   demands_named : (f i : ℕ) → entry_demand m2 f i ≡ entry_demand m f i
-  demands_named f i = cells_same n s m m2 b c seat others kinds_same (λ g j. d.wrote.others (Cell g j) (λ e. cc)) f i
+  demands_named f i = cells_same n s m m2 b c vcpu others kinds_same (λ g j. d.wrote.others (Cell g j) (λ e. cc)) f i
 
   words_named : (g : ℕ) → contexts (sizes_of n) m2 g + one_at (g + 1) was ≡ contexts (sizes_of n) m g + one_at (g + 1) is
   words_named g = contexts-one (sizes_of n) m m2 g v k place_real.0 place_real.1 d.word (λ w j off. d.wrote.others (Vcpu w j) off)
@@ -136,17 +136,17 @@ module _ (n : Machine) (s : ℕ) (x : Step) (m m2 : Place → ℕ) (b c : ℕ �
               rw i (has_type-same m m2 g (context_type k) (kinds_same g) (new_type g (ap m2 (sym at) ∙ e)))
           | inr off ↦ has_type-same m m2 g (context_type j) (kinds_same g) (sound.counts.kinds.contexts w j g p q t (sym (d.wrote.others (Vcpu w j) off) ∙ e))
         ];
-        typed = each_seat n s m m2 b c seat others (λ t u. EachOf (λ e. HasType m2 e.frame e.kind) u.typed)
+        typed = each_vcpu n s m m2 b c vcpu others (λ t u. EachOf (λ e. HasType m2 e.frame e.kind) u.typed)
             (subst (λ y. EachOf (λ e. HasType m2 e.frame e.kind) y) (sym kept.typed)
             (EachOf-map (λ e. HasType m e.frame e.kind) _ moved.typed (λ e i. has_type-same m m2 e.frame e.kind (kinds_same e.frame) i)
-            (typed_named_in (λ y. HasType m y.frame y.kind) k was (named_out is (b s)) (λ f e. sound.counts.kinds.contexts v k f place_real.0 place_real.1 d.word (e ∙ sym (add-one f))) (typed_named_out (λ y. HasType m y.frame y.kind) is (b s) (sound.counts.kinds.typed s seat)))))
+            (typed_named_in (λ y. HasType m y.frame y.kind) k was (named_out is (b s)) (λ f e. sound.counts.kinds.contexts v k f place_real.0 place_real.1 d.word (e ∙ sym (add-one f))) (typed_named_out (λ y. HasType m y.frame y.kind) is (b s) (sound.counts.kinds.typed s vcpu)))))
             (λ t l off. EachOf-map (λ e. HasType m e.frame e.kind) _ (b t).typed (λ e i. has_type-same m m2 e.frame e.kind (kinds_same e.frame) i) (sound.counts.kinds.typed t l));
-        locks = each_seat n s m m2 b c seat others (λ t u. EachOf (λ e. HasType m2 e.frame (Some e.kind)) u.locks)
-            (EachTwo-each SameLock (λ e. HasType m e.frame (Some e.kind)) _ _ _ (λ y z r i. rw (kinds_same z.frame) (ap (λ f. (kind_at m f).kind) r.frame ∙ i ∙ sym r.kind)) locks_kept (sound.counts.kinds.locks s seat))
+        locks = each_vcpu n s m m2 b c vcpu others (λ t u. EachOf (λ e. HasType m2 e.frame (Some e.kind)) u.locks)
+            (EachTwo-each SameLock (λ e. HasType m e.frame (Some e.kind)) _ _ _ (λ y z r i. rw (kinds_same z.frame) (ap (λ f. (kind_at m f).kind) r.frame ∙ i ∙ sym r.kind)) locks_kept (sound.counts.kinds.locks s vcpu))
             (λ t l off. EachOf-map (λ e. HasType m e.frame (Some e.kind)) _ (b t).locks (λ e i. has_type-same m m2 e.frame (Some e.kind) (kinds_same e.frame) i) (sound.counts.kinds.locks t l));
       }
 
-  named_move : HandMove n s m m2 b c seat others
+  named_move : HandMove n s m m2 b c vcpu others
   named_move =
       record {
         ref_words = λ g. d.wrote.others (Refs g) (λ e. cc);
@@ -178,10 +178,10 @@ module _ (n : Machine) (s : ℕ) (x : Step) (m m2 : Place → ℕ) (b c : ℕ �
       let word = d.word in
       let clock = words Clock (λ e. cc) in
       let still = learnt_all.still in
-      hand_outcome n s m m2 b c seat others sound named_move
+      hand_outcome n s m m2 b c vcpu others sound named_move
       (wrote_spelled n s x (Vcpu v k) _ m m2 (b s) d.wrote may sound.machine sound.spelled (λ by l. absurd l) (λ v l. absurd l))
       (stamped_by n m m2 (Vcpu v k) words (omega arith) (λ w e. let i : k ≡ 5 = cc in absurd (not_context 5 k refl word i)) (λ g e. absurd (cc)) (λ g e. absurd (cc)) sound.stamped)
-      (idle_running n s m m2 b c seat others (words (run_of s) (λ e. let i : 6 ≡ k = cc in absurd (not_context 6 k refl word (sym i))) ∙ runs n s m m2 b c seat others sound (d.wrote.running refl))
+      (idle_running n s m m2 b c vcpu others (words (run_of s) (λ e. let i : 6 ≡ k = cc in absurd (not_context 6 k refl word (sym i))) ∙ runs n s m m2 b c vcpu others sound (d.wrote.running refl))
       (λ w off. words (run_of w) (λ e. let i : 6 ≡ k = cc in absurd (not_context 6 k refl word (sym i))))
       (λ e. sym (ap (λ y. y.cold) d.hand ∙ still.cold ∙ far.cold) ∙ e) (λ t e. (ap (λ y. y.cache) d.hand ∙ still.cache ∙ far.cache) ∙ e) (λ t e. (ap (λ y. y.walk) d.hand ∙ still.walk ∙ far.walk) ∙ e)
       sound.idle)

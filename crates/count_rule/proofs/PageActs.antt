@@ -22,14 +22,14 @@ use Rattle.count_rule.proofs.Quiet.{Calm}
 use Rattle.count_rule.proofs.Outcome.{Outcome, cells_same, calm_outcome, runs}
 use Rattle.board_lemmas.proofs.Sums.{hands-part}
 
-module _ (n : Machine) (s : ℕ) (x : Step) (m m2 : Place → ℕ) (b c : ℕ → Holdings) (seat : s < (sizes_of n).vcpus) (others : (t : ℕ) → t ≢ s → c t ≡ b t) (may : MayAct n s x (b s)) (sound : Sound n m b) where
-  pub calm : (p : Place) → ((q : Place) → q ≢ p → m2 q ≡ m q) → ((f : ℕ) → Refs f ≢ p) → ((f : ℕ) → Kind f ≢ p) → ((v k : ℕ) → Vcpu v k ≢ p) → ((f i : ℕ) → Cell f i ≢ p) → Calm n s m m2 b c seat others
+module _ (n : Machine) (s : ℕ) (x : Step) (m m2 : Place → ℕ) (b c : ℕ → Holdings) (vcpu : s < (sizes_of n).vcpus) (others : (t : ℕ) → t ≢ s → c t ≡ b t) (may : MayAct n s x (b s)) (sound : Sound n m b) where
+  pub calm : (p : Place) → ((q : Place) → q ≢ p → m2 q ≡ m q) → ((f : ℕ) → Refs f ≢ p) → ((f : ℕ) → Kind f ≢ p) → ((v k : ℕ) → Vcpu v k ≢ p) → ((f i : ℕ) → Cell f i ≢ p) → Calm n s m m2 b c vcpu others
   calm p words refs kinds vcpus cells =
       record {
         refs = λ g. words (Refs g) (refs g);
         kinds = λ g. words (Kind g) (kinds g);
         contexts = λ v k t. words (Vcpu v k) (vcpus v k);
-        demands = λ f i l. cells_same n s m m2 b c seat others (λ g. words (Kind g) (kinds g)) (λ g j. words (Cell g j) (cells g j)) f i;
+        demands = λ f i l. cells_same n s m m2 b c vcpu others (λ g. words (Kind g) (kinds g)) (λ g j. words (Cell g j) (cells g j)) f i;
       }
 
   -- ---- pages
@@ -43,14 +43,14 @@ module _ (n : Machine) (s : ℕ) (x : Step) (m m2 : Place → ℕ) (b c : ℕ �
     pages_outcome here other spelled =
         let now : (c s).credits ≡ credits = ap (λ y. y.credits) hand in
         let clock = wrote.others Clock (λ e. cc) in
-        calm_outcome n s m m2 b c seat others sound (calm (Pages d) wrote.others (λ f e. cc) (λ f e. cc) (λ v k e. cc) (λ f i e. cc)) credits_stay
+        calm_outcome n s m m2 b c vcpu others sound (calm (Pages d) wrote.others (λ f e. cc) (λ f e. cc) (λ v k e. cc) (λ f i e. cc)) credits_stay
         (λ e l. elim (cases_eq e d) [
           | inl at ↦ rw now (subst (λ y. m2 (Pages y) + times y (b s).credits ≡ m (Pages y) + times y credits) (sym at) here)
           | inr off ↦ rw (now, wrote.others (Pages e) (λ k. off (cc)), other e off) refl
         ])
         (λ g l. rw (wrote.others (Map (g / 64)) (λ e. cc), ap (λ y. y.raised) hand) refl) spelled
         (stamped_by n m m2 (Pages d) wrote.others (omega arith) (λ v e. absurd (cc)) (λ f e. absurd (cc)) (λ f e. absurd (cc)) sound.stamped)
-        (idle_running n s m m2 b c seat others (wrote.others (run_of s) (λ e. cc) ∙ runs n s m m2 b c seat others sound (wrote.running refl)) (λ v off. wrote.others (run_of v) (λ e. cc))
+        (idle_running n s m m2 b c vcpu others (wrote.others (run_of s) (λ e. cc) ∙ runs n s m m2 b c vcpu others sound (wrote.running refl)) (λ v off. wrote.others (run_of v) (λ e. cc))
         (λ e. sym (ap (λ y. y.cold) hand) ∙ e) (λ k e. ap (λ y. y.cache) hand ∙ e) (λ k e. ap (λ y. y.walk) hand ∙ e) sound.idle)
 
   domain_inside : (d : ℕ) → IsTrue (is_place (sizes_of n) (Pages d)) → d < (sizes_of n).domains
@@ -61,7 +61,7 @@ module _ (n : Machine) (s : ℕ) (x : Step) (m m2 : Place → ℕ) (b c : ℕ �
   refund_less : (d by : ℕ) → IsTrue (is_place (sizes_of n) (Pages d)) → MayRefund d by (b s) → m2 (Pages d) ≡ (m (Pages d) + by) % 2 ^ 64 → m2 (Pages d) + (2 ^ 64 - by) ≡ m (Pages d)
   refund_less d by real r is =
       let all = sound.counts.pages d (domain_inside d real) in
-      let part = hands-part (λ u. times d u.credits) (sizes_of n) b s seat in
+      let part = hands-part (λ u. times d u.credits) (sizes_of n) b s vcpu in
       let k = r.credits in
       let j = r.down in
       let i = r.some in

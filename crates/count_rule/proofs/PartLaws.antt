@@ -12,7 +12,7 @@ use Rattle.xp_board.specs.Spelling.{IsSpelling}
 use Rattle.xp_board.specs.Sound.{is_busy, is_hinted, Spelled, HeldAlone, WorkAgrees, Stamped, Idle, FreeMap}
 use Rattle.board_lemmas.proofs.PlaceTests.{same_or_other}
 use Rattle.board_lemmas.proofs.Sums.{hands-one}
-use Rattle.count_rule.proofs.CountLaw.{each_seat}
+use Rattle.count_rule.proofs.CountLaw.{each_vcpu}
 
 -- ---- words
 pub spelled_by : (n : Machine) (m m2 : Place → ℕ) (p : Place) → IsTrue (is_place (sizes_of n) p) → ((q : Place) → q ≢ p → m2 q ≡ m q) → m2 p < 2 ^ 64 →
@@ -63,7 +63,7 @@ stamped_same n m m2 words old =
     }
 
 -- ---- hands
-module _ (n : Machine) (s : ℕ) (m m2 : Place → ℕ) (b c : ℕ → Holdings) (seat : s < (sizes_of n).vcpus) (others : (t : ℕ) → t ≢ s → c t ≡ b t) where
+module _ (n : Machine) (s : ℕ) (m m2 : Place → ℕ) (b c : ℕ → Holdings) (vcpu : s < (sizes_of n).vcpus) (others : (t : ℕ) → t ≢ s → c t ≡ b t) where
   pub alone_law : ((g : ℕ) → works_on g (c s).works + bit (is_busy (kind_at m g)) ≡ works_on g (b s).works + bit (is_busy (kind_at m2 g))) →
       ((g : ℕ) → locks_on g (c s).locks + bit (is_locked (kind_at m g)) ≡ locks_on g (b s).locks + bit (is_locked (kind_at m2 g))) →
       ((g : ℕ) → endings_of g (c s).ending + claims_of g (c s).claimed + bit (is_dying (m (Refs g)))
@@ -71,11 +71,11 @@ module _ (n : Machine) (s : ℕ) (m m2 : Place → ℕ) (b c : ℕ → Holdings)
       HeldAlone n m b → HeldAlone n m2 c
   alone_law works locks dying old =
       record {
-        works = λ g. let was = old.works g in let o = hands-one (λ u. works_on g u.works) (sizes_of n) b c s seat others in let k = works g in omega arith;
-        locks = λ g. let was = old.locks g in let o = hands-one (λ u. locks_on g u.locks) (sizes_of n) b c s seat others in let k = locks g in omega arith;
+        works = λ g. let was = old.works g in let o = hands-one (λ u. works_on g u.works) (sizes_of n) b c s vcpu others in let k = works g in omega arith;
+        locks = λ g. let was = old.locks g in let o = hands-one (λ u. locks_on g u.locks) (sizes_of n) b c s vcpu others in let k = locks g in omega arith;
         dying = λ g.
             let was = old.dying g in
-            let o = hands-one (λ u. endings_of g u.ending + claims_of g u.claimed) (sizes_of n) b c s seat others in
+            let o = hands-one (λ u. endings_of g u.ending + claims_of g u.claimed) (sizes_of n) b c s vcpu others in
             let k = dying g in
             omega arith;
       }
@@ -86,14 +86,14 @@ module _ (n : Machine) (s : ℕ) (m m2 : Place → ℕ) (b c : ℕ → Holdings)
       record {
         bits = λ g l.
             let was = old.bits g l in
-            let o = hands-one (λ u. times g u.raised) (sizes_of n) b c s seat others in
+            let o = hands-one (λ u. times g u.raised) (sizes_of n) b c s vcpu others in
             let k = moved g l in
             omega arith;
       }
 
   pub works_law : EachOf (WorkAgrees (c s)) (c s).works → ((t : ℕ) → t < (sizes_of n).vcpus → EachOf (WorkAgrees (b t)) (b t).works) →
       (t : ℕ) → t < (sizes_of n).vcpus → EachOf (WorkAgrees (c t)) (c t).works
-  works_law mine old = each_seat n s m m2 b c seat others (λ t u. EachOf (WorkAgrees u) u.works) mine (λ t l off. old t l)
+  works_law mine old = each_vcpu n s m m2 b c vcpu others (λ t u. EachOf (WorkAgrees u) u.works) mine (λ t l off. old t l)
 
   -- ---- vCPUs that do not run
   pub idle_other : (v : ℕ) → m2 (run_of v) ≡ m (run_of v) → v ≢ s → Idle n m b v → Idle n m2 c v
@@ -119,8 +119,8 @@ module _ (n : Machine) (s : ℕ) (m m2 : Place → ℕ) (b c : ℕ → Holdings)
               hand = λ k. absurd (k runs);
               cache = λ k. absurd (k runs);
               walk = λ k. absurd (k runs);
-              cold_cache = λ k. cache (cold k) ((old s seat).cold_cache (cold k));
-              cold_walk = λ k. walk (cold k) ((old s seat).cold_walk (cold k));
+              cold_cache = λ k. cache (cold k) ((old s vcpu).cold_cache (cold k));
+              cold_walk = λ k. walk (cold k) ((old s vcpu).cold_walk (cold k));
             })
         | inr off ↦ idle_other v (words v off) off (old v l)
       ]
@@ -133,11 +133,11 @@ module _ (n : Machine) (s : ℕ) (m m2 : Place → ℕ) (b c : ℕ → Holdings)
         | inl at ↦
             subst (Idle n m2 c) (sym at)
             (record {
-              hand = λ k. empty ((old s seat).hand (λ e. k (words s ∙ e)));
-              cache = λ k. cache ((old s seat).cache (λ e. k (words s ∙ e)));
-              walk = λ k. walk ((old s seat).walk (λ e. k (words s ∙ e)));
-              cold_cache = λ k. cache ((old s seat).cold_cache (sym cold ∙ k));
-              cold_walk = λ k. walk ((old s seat).cold_walk (sym cold ∙ k));
+              hand = λ k. empty ((old s vcpu).hand (λ e. k (words s ∙ e)));
+              cache = λ k. cache ((old s vcpu).cache (λ e. k (words s ∙ e)));
+              walk = λ k. walk ((old s vcpu).walk (λ e. k (words s ∙ e)));
+              cold_cache = λ k. cache ((old s vcpu).cold_cache (sym cold ∙ k));
+              cold_walk = λ k. walk ((old s vcpu).cold_walk (sym cold ∙ k));
             })
         | inr off ↦ idle_other v (words v) off (old v l)
       ]

@@ -33,7 +33,7 @@ use Rattle.board_lemmas.proofs.KindReadings.{work_alone, partial_unlive, stamp_o
 use Rattle.board_lemmas.proofs.HandLists.{EachOf-maybe_without}
 use Rattle.xp_board.specs.Recorded.{HasType}
 
-module _ (n : Machine) (s : ℕ) (x : Step) (m m2 : Place → ℕ) (b c : ℕ → Holdings) (seat : s < (sizes_of n).vcpus) (others : (t : ℕ) → t ≢ s → c t ≡ b t) (may : MayAct n s x (b s)) (sound : Sound n m b) (f : ℕ) where
+module _ (n : Machine) (s : ℕ) (x : Step) (m m2 : Place → ℕ) (b c : ℕ → Holdings) (vcpu : s < (sizes_of n).vcpus) (others : (t : ℕ) → t ≢ s → c t ≡ b t) (may : MayAct n s x (b s)) (sound : Sound n m b) (f : ℕ) where
   -- ---- partial
   as_before : (e : Work) → is_closing (kind_fields e.word) ≡ false → as_typed f e (b s) ≡ b s
   as_before e off = rw off refl
@@ -57,9 +57,9 @@ module _ (n : Machine) (s : ℕ) (x : Step) (m m2 : Place → ℕ) (b c : ℕ �
         | inl on ↦
             elim keeps [
               | inl stays ↦
-                  elim (forms n s x m m2 b c seat others may sound f wrote e here l is kind) [
-                    | inl work ↦ let old = stamp_was n s x m m2 b c seat others may sound f wrote e here l is kind work in let number = stays.1 on in omega arith
-                    | inr closing ↦ let off = closing_flushed (kind_fields e.word) (form_before n s x m m2 b c seat others may sound f wrote e here l is kind) closing in let mark = stays.0 in absurd (cc)
+                  elim (forms n s x m m2 b c vcpu others may sound f wrote e here l is kind) [
+                    | inl work ↦ let old = stamp_was n s x m m2 b c vcpu others may sound f wrote e here l is kind work in let number = stays.1 on in omega arith
+                    | inr closing ↦ let off = closing_flushed (kind_fields e.word) (form_before n s x m m2 b c vcpu others may sound f wrote e here l is kind) closing in let mark = stays.0 in absurd (cc)
                   ]
               | inr goes ↦ let off = goes.1 in absurd (cc)
             ]
@@ -74,20 +74,20 @@ module _ (n : Machine) (s : ℕ) (x : Step) (m m2 : Place → ℕ) (b c : ℕ �
       let owner = kept_owner f e (b s) in
       let partial = form_partial l d.form_is in
       let form = form_read _ l d.is in
-      let before = form_before n s x m m2 b c seat others may sound f d.wrote e d.here l d.fields_is d.may.kind in
+      let before = form_before n s x m m2 b c vcpu others may sound f d.wrote e d.here l d.fields_is d.may.kind in
       let tells = partial_says l form partial in
       let table : held_of l None ≡ (if is_table (kind_fields e.word).kind then e.recorded else 0) =
       held_partial l partial ∙ ap (λ y. if is_table y then l.progress else 0) d.may.kind ∙ ap (λ y. if is_table (kind_fields e.word).kind then y else 0) d.may.progress
       in
       let stamp = partial_stamp d.wrote e d.here l d.fields_is d.may.kind form partial d.may.mark in
-      elim (forms n s x m m2 b c seat others may sound f d.wrote e d.here l d.fields_is d.may.kind) [
+      elim (forms n s x m m2 b c vcpu others may sound f d.wrote e d.here l d.fields_is d.may.kind) [
         | inl work ↦
             let says = work_says (kind_fields e.word) before work in
             let u = noted x (m (Kind f)) (put_partial n s f l (m2 (Kind f)) owner (b s)) in
             let typed = maybe_out_here (λ y. y.frame) f (b s).typed u.typed l.kept refl (λ k. (d.may.kept k).in_hand work) in
-            out_outcome n s x m m2 b c seat others may sound f d.wrote e d.here l d.fields_is d.may.kind u
+            out_outcome n s x m m2 b c vcpu others may sound f d.wrote e d.here l d.fields_is d.may.kind u
             (d.hand ∙ ap (λ y. noted x (m (Kind f)) (put_partial n s f l (m2 (Kind f)) owner y)) (as_before e (work_alone (kind_fields e.word) work)))
-            (beside n s x m m2 b c seat others may sound f u refl refl refl refl refl refl refl) refl refl (λ g off. refl) (maybe_out_other (λ y. y.frame) f (b s).typed u.typed l.kept refl)
+            (beside n s x m m2 b c vcpu others may sound f u refl refl refl refl refl refl refl) refl refl (λ g off. refl) (maybe_out_other (λ y. y.frame) f (b s).typed u.typed l.kept refl)
             1 0 1 (bit l.kept) says tells stamp table (omega arith) (omega arith) (λ k. EachOf-maybe_without (λ y. HasType m2 y.frame y.kind) (λ y. y.frame) l.kept f (b s).typed k)
         | inr closing ↦
             let says = closing_says (kind_fields e.word) before closing in
@@ -96,10 +96,10 @@ module _ (n : Machine) (s : ℕ) (x : Step) (m m2 : Place → ℕ) (b c : ℕ �
             let more = cons_here (λ y. y.frame) f (b s).typed h.typed _ refl refl in
             let typed = maybe_out_here (λ y. y.frame) f h.typed u.typed l.kept refl (λ k. omega arith) in
             let out = out_here (λ y. y.frame) f (b s).refs u.refs refl (d.may.closing closing) in
-            out_outcome n s x m m2 b c seat others may sound f d.wrote e d.here l d.fields_is d.may.kind u
+            out_outcome n s x m m2 b c vcpu others may sound f d.wrote e d.here l d.fields_is d.may.kind u
             (d.hand ∙ ap (λ y. noted x (m (Kind f)) (put_partial n s f l (m2 (Kind f)) owner y)) (as_after e closing))
-            (beside n s x m m2 b c seat others may sound f u refl refl refl refl refl refl refl) refl refl (out_other (λ y. y.frame) f (b s).refs u.refs refl)
+            (beside n s x m m2 b c vcpu others may sound f u refl refl refl refl refl refl refl) refl refl (out_other (λ y. y.frame) f (b s).refs u.refs refl)
             (λ g off. maybe_out_other (λ y. y.frame) f h.typed u.typed l.kept refl g off ∙ cons_other (λ y. y.frame) f (b s).typed h.typed _ refl refl g off)
             0 0 1 (bit l.kept) says tells stamp table (omega arith) (omega arith)
-            (λ k. EachOf-maybe_without (λ y. HasType m2 y.frame y.kind) (λ y. y.frame) l.kept f h.typed (type_is n s x m m2 b c seat others may sound f d.wrote e d.here l d.fields_is d.may.kind ∙ d.may.kind, k))
+            (λ k. EachOf-maybe_without (λ y. HasType m2 y.frame y.kind) (λ y. y.frame) l.kept f h.typed (type_is n s x m m2 b c vcpu others may sound f d.wrote e d.here l d.fields_is d.may.kind ∙ d.may.kind, k))
       ]

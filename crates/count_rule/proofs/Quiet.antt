@@ -32,14 +32,14 @@ locks_times b c k g = EachTwo-times SameLock (λ e. e.frame) g _ _ (λ x y r. r.
 pub claims_times : (b c : Holdings) → EachTwo SameClaim b.claimed c.claimed → (g : ℕ) → claims_of g c.claimed ≡ claims_of g b.claimed
 claims_times b c k g = EachTwo-times SameClaim (λ e. e.frame) g _ _ (λ x y r. r.frame) k
 
--- whether the seat has the frame closing in its works
+-- whether the vCPU has the frame closing in its works
 abbrev pub is_closing_at : ℕ → Holdings → Bool
 is_closing_at g u = is_closing_on (work_on g u.works)
 
 pub like_works : (xs ys : List Work) → EachTwo SameWork xs ys → EachTwo LikeWork xs ys
 like_works xs ys e = EachTwo-map SameWork LikeWork xs ys (λ x y r. record { frame = r.frame; word = r.word; recorded = λ u. r.recorded }) e
 
-module _ (n : Machine) (s : ℕ) (m m2 : Place → ℕ) (b c : ℕ → Holdings) (seat : s < (sizes_of n).vcpus) (others : (t : ℕ) → t ≢ s → c t ≡ b t) where
+module _ (n : Machine) (s : ℕ) (m m2 : Place → ℕ) (b c : ℕ → Holdings) (vcpu : s < (sizes_of n).vcpus) (others : (t : ℕ) → t ≢ s → c t ≡ b t) where
   -- nobody's recorded entries but those of the own works change
   pub recorded_same : (f : ℕ) → recorded_in (c s).works f ≡ recorded_in (b s).works f → (t : ℕ) → recorded_in (c t).works f ≡ recorded_in (b t).works f
   recorded_same f e t =
@@ -64,7 +64,7 @@ module _ (n : Machine) (s : ℕ) (m m2 : Place → ℕ) (b c : ℕ → Holdings)
             rw r.frame (spares x.frame (rw k.1 closing) (k.0.closing closing));
       })
       same
-      (EachOf-both (WorkAgrees (b s)) _ _ old (EachOf-once (λ e. e.frame) (b s).works (λ g. one_works n m b alone g s seat)))
+      (EachOf-both (WorkAgrees (b s)) _ _ old (EachOf-once (λ e. e.frame) (b s).works (λ g. one_works n m b alone g s vcpu)))
 
   -- ---- no frame's words move, nor what is in hand of frames
   pub record Calm : Type 0 where
@@ -77,7 +77,7 @@ module _ (n : Machine) (s : ℕ) (m m2 : Place → ℕ) (b c : ℕ → Holdings)
     recorded_kept : (f : ℕ) → recorded_in (c s).works f ≡ recorded_in (b s).works f
     recorded_kept f = recorded_in-same f _ _ kept.works
 
-    steady : Steady n s m m2 b c seat others
+    steady : Steady n s m m2 b c vcpu others
     steady =
         record {
           held_same = λ f. held_still f (calm.kinds f) (recorded_kept f);
@@ -98,14 +98,14 @@ module _ (n : Machine) (s : ℕ) (m m2 : Place → ℕ) (b c : ℕ → Holdings)
         let l = typed_hand_same g in
         omega arith
 
-    -- pages are counted with the credits of the seat
+    -- pages are counted with the credits of the vCPU
     pub quiet_counts : ((d : ℕ) → d < (sizes_of n).domains → m2 (Pages d) + times d (b s).credits ≡ m (Pages d) + times d (c s).credits) → CountsAgree (sizes_of n) m2 c
     quiet_counts pages =
-        counts_law n s m m2 b c seat others
-        (counted_steady n s m m2 b c seat others steady sound.counts
+        counts_law n s m m2 b c vcpu others
+        (counted_steady n s m m2 b c vcpu others steady sound.counts
         (λ g. let e = hand_same g in rw (calm.refs g, calm.kinds g) (omega arith))
         (λ g. let e = typed_hand_same g in rw (calm.kinds g) (omega arith))
-        (types_steady n s m m2 b c seat others steady sound.counts (λ e. rw kept.typed e)
+        (types_steady n s m m2 b c vcpu others steady sound.counts (λ e. rw kept.typed e)
         (λ e. EachTwo-each SameLock (λ e. HasType m2 e.frame (Some e.kind)) _ _ _ (λ x y r k. ap (λ f. (kind_at m2 f).kind) r.frame ∙ k ∙ sym r.kind) kept.locks e))
         (λ d l.
         let e = pages d l in
@@ -115,21 +115,21 @@ module _ (n : Machine) (s : ℕ) (m m2 : Place → ℕ) (b c : ℕ → Holdings)
 
     pub quiet_alone : HeldAlone n m2 c
     quiet_alone =
-        alone_law n s m m2 b c seat others
+        alone_law n s m m2 b c vcpu others
         (λ g. let e = works_times (b s) (c s) kept.works g in rw (calm.kinds g) (omega arith))
         (λ g. let e = locks_times (b s) (c s) kept.locks g in rw (calm.kinds g) (omega arith))
         (λ g. let e = claims_times (b s) (c s) kept.claimed g in let k = ap (endings_of g) kept.ending in rw (calm.refs g) (omega arith))
         sound.alone
 
-    -- bits are set with the raised frames of the seat
+    -- bits are set with the raised frames of the vCPU
     pub quiet_map : ((g : ℕ) → g < (sizes_of n).frames → bit (is_hinted m2 g) + times g (b s).raised ≡ bit (is_hinted m g) + times g (c s).raised) → FreeMap n m2 c
     quiet_map bits =
-        map_law n s m m2 b c seat others
+        map_law n s m m2 b c vcpu others
         (λ g l. let e = bits g l in rw (calm.refs g) (omega arith))
         sound.map
 
     pub quiet_works : (t : ℕ) → t < (sizes_of n).vcpus → EachOf (WorkAgrees (c t)) (c t).works
     quiet_works =
-        works_law n s m m2 b c seat others
-        (works_spared (like_works (b s).works (c s).works kept.works) (λ g k l. rw kept.refs l) sound.alone (sound.works s seat))
+        works_law n s m m2 b c vcpu others
+        (works_spared (like_works (b s).works (c s).works kept.works) (λ g k l. rw kept.refs l) sound.alone (sound.works s vcpu))
         sound.works

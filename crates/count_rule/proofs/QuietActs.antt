@@ -13,11 +13,11 @@ use Rattle.count_rule.proofs.PartLaws.{spelled_same, stamped_same, idle_running,
 use Rattle.count_rule.proofs.Outcome.{Outcome, calm_same, quiet_outcome, runs}
 use Rattle.count_rule.proofs.WalkHands.{same_loaded, same_started, same_twice, cold_loaded, cold_started}
 
-module _ (n : Machine) (s : ℕ) (x : Step) (m m2 : Place → ℕ) (b c : ℕ → Holdings) (seat : s < (sizes_of n).vcpus) (others : (t : ℕ) → t ≢ s → c t ≡ b t) (may : MayAct n s x (b s)) (sound : Sound n m b) where
+module _ (n : Machine) (s : ℕ) (x : Step) (m m2 : Place → ℕ) (b c : ℕ → Holdings) (vcpu : s < (sizes_of n).vcpus) (others : (t : ℕ) → t ≢ s → c t ≡ b t) (may : MayAct n s x (b s)) (sound : Sound n m b) where
   -- ---- no word changes
   still_outcome : ((q : Place) → m2 q ≡ m q) → Kept (b s) (c s) → ((v : ℕ) → v < (sizes_of n).vcpus → Idle n m2 c v) → Outcome n m2 c
   still_outcome words kept idle =
-      quiet_outcome n s m m2 b c seat others sound (calm_same n s m m2 b c seat others words) kept (λ d. words (Pages d)) (λ k. words (Map k)) (spelled_same n m m2 words sound.spelled)
+      quiet_outcome n s m m2 b c vcpu others sound (calm_same n s m m2 b c vcpu others words) kept (λ d. words (Pages d)) (λ k. words (Map k)) (spelled_same n m m2 words sound.spelled)
       (stamped_same n m m2 words sound.stamped) idle
 
   pub looked_outcome : (p : Place) → Looked n s x p m m2 (b s) (c s) → Outcome n m2 c
@@ -25,14 +25,14 @@ module _ (n : Machine) (s : ℕ) (x : Step) (m m2 : Place → ℕ) (b c : ℕ �
       let k = learnt s p (m p) (m p) (b s) in
       let kept = kept_noted x (m p) (b s) _ (c s) l.hand k.kept in
       still_outcome l.words kept
-      (idle_still n s m m2 b c seat others (λ v. l.words (run_of v)) (empty_kept (b s) (c s) kept (λ e. ap (λ u. u.looking) l.hand ∙ k.still.looking e))
+      (idle_still n s m m2 b c vcpu others (λ v. l.words (run_of v)) (empty_kept (b s) (c s) kept (λ e. ap (λ u. u.looking) l.hand ∙ k.still.looking e))
       (ap (λ u. u.cold) l.hand ∙ k.still.cold) (ap (λ u. u.cache) l.hand ∙ k.still.cache) (ap (λ u. u.walk) l.hand ∙ k.still.walk) sound.idle)
 
   -- the vCPU runs, and its translations stay where it is cold
   going : ((q : Place) → m2 q ≡ m q) → (b s).run ≡ Some 0 → ((c s).cold ≡ true → (b s).cold ≡ true) → ((b s).cold ≡ true → (b s).cache ≡ [] → (c s).cache ≡ []) →
       ((b s).cold ≡ true → (b s).walk ≡ None → (c s).walk ≡ None) → (v : ℕ) → v < (sizes_of n).vcpus → Idle n m2 c v
   going words run cold cache walk =
-      idle_running n s m m2 b c seat others (words (run_of s) ∙ runs n s m m2 b c seat others sound run) (λ v off. words (run_of v)) cold cache walk sound.idle
+      idle_running n s m m2 b c vcpu others (words (run_of s) ∙ runs n s m m2 b c vcpu others sound run) (λ v off. words (run_of v)) cold cache walk sound.idle
 
   pub missed_outcome : (f : ℕ) → Missed n x f m m2 (b s) (c s) → Outcome n m2 c
   missed_outcome f d =

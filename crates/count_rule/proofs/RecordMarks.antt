@@ -26,7 +26,7 @@ use Rattle.board_lemmas.proofs.HandParts.{beside_out, beside_in, translations_ou
 use Rattle.board_lemmas.proofs.WorkFacts.{work_word, work_held, seen_unmarked, loaded_asks, works_facts}
 use Rattle.board_lemmas.proofs.HandTypes.{typed_out, typed_in}
 
-module _ (n : Machine) (s : ℕ) (m : Place → ℕ) (h b : ℕ → Holdings) (seat : s < (sizes_of n).vcpus) (others : (t : ℕ) → t ≢ s → b t ≡ h t) (sound : Sound n m h) (f upto : ℕ) where
+module _ (n : Machine) (s : ℕ) (m : Place → ℕ) (h b : ℕ → Holdings) (vcpu : s < (sizes_of n).vcpus) (others : (t : ℕ) → t ≢ s → b t ≡ h t) (sound : Sound n m h) (f upto : ℕ) where
   hand_alike : (g : ℕ) (u v : Holdings) → v.refs ≡ u.refs → v.typed ≡ u.typed → v.locks ≡ u.locks → (hand g v ≡ hand g u) × (typed_hand g v ≡ typed_hand g u)
   unfolding hand typed_hand
   hand_alike g u v r t l = (rw (r, t, l) refl, rw (t, l) refl)
@@ -39,7 +39,7 @@ module _ (n : Machine) (s : ℕ) (m : Place → ℕ) (h b : ℕ → Holdings) (s
     bare = record (h s) { works = changed_work f change (h s).works }
 
     stands : entry_demand m f e.recorded ≡ asked
-    stands = sym (loaded_asks n m h s f e (works_facts n m h s f e sound seat may.here) e.recorded may.word may.table may.seen) ∙ sym asked_is
+    stands = sym (loaded_asks n m h s f e (works_facts n m h s f e sound vcpu may.here) e.recorded may.word may.table may.seen) ∙ sym asked_is
 
     has : IsInHand asked (h s) × Spares asked (h s)
     has = has_last n f (kind_fields e.word).kind (h s) asked (subst (HasLastDemand n f (kind_fields e.word).kind (h s)) (sym asked_is) may.in_hand)
@@ -49,7 +49,7 @@ module _ (n : Machine) (s : ℕ) (m : Place → ℕ) (h b : ℕ → Holdings) (s
 
     alone : HeldAlone n m b
     alone =
-        mark_alone n s m h b seat others sound f e may.here change works_now frames words may.unmarked (ap (λ y. y.locks) hand_is ∙ (beside_out asked bare).locks)
+        mark_alone n s m h b vcpu others sound f e may.here change works_now frames words may.unmarked (ap (λ y. y.locks) hand_is ∙ (beside_out asked bare).locks)
         (ap (λ y. y.ending) hand_is ∙ (beside_out asked bare).ending) (ap (λ y. y.claimed) hand_is ∙ (beside_out asked bare).claimed)
 
     -- works play no part in what is in hand
@@ -68,11 +68,11 @@ module _ (n : Machine) (s : ℕ) (m : Place → ℕ) (h b : ℕ → Holdings) (s
     entries_more : (c : Demand → ℕ) → entries c (sizes_of n) m b ≡ entries c (sizes_of n) m h + c asked
     entries_more c =
         let one =
-        entries-one c (sizes_of n) m m h b f (table_inside n m f sound.spelled (rw (work_word n m h s f e (works_facts n m h s f e sound seat may.here)) may.table))
-        (mark_held_other n s m h b seat others sound f e may.here change works_now frames words may.unmarked) (λ g i off l. refl)
+        entries-one c (sizes_of n) m m h b f (table_inside n m f sound.spelled (rw (work_word n m h s f e (works_facts n m h s f e sound vcpu may.here)) may.table))
+        (mark_held_other n s m h b vcpu others sound f e may.here change works_now frames words may.unmarked) (λ g i off l. refl)
         in
-        let was = work_held n m h s f e (works_facts n m h s f e sound seat may.here) sound.alone seat may.here may.table in
-        let is = mark_held_here n s m h b seat others sound f e may.here change works_now frames words may.unmarked alone may.table ∙ more in
+        let was = work_held n m h s f e (works_facts n m h s f e sound vcpu may.here) sound.alone vcpu may.here may.table in
+        let is = mark_held_here n s m h b vcpu others sound f e may.here change works_now frames words may.unmarked alone may.table ∙ more in
         let table = table_entries-more c m (work_of (sizes_of n).vcpus h f) (work_of (sizes_of n).vcpus b f) f e.recorded was is in
         let k = ap c stands in
         omega arith
@@ -88,15 +88,15 @@ module _ (n : Machine) (s : ℕ) (m : Place → ℕ) (h b : ℕ → Holdings) (s
     last_typed i g t l k =
         elim (cases_eq i e.recorded) [
           | inl at ↦
-              last_type n m h s f (kind_fields e.word).kind asked (sound.found s seat) (subst (HasLastDemand n f (kind_fields e.word).kind (h s)) (sym asked_is) may.in_hand) g t
+              last_type n m h s f (kind_fields e.word).kind asked (sound.found s vcpu) (subst (HasLastDemand n f (kind_fields e.word).kind (h s)) (sym asked_is) may.in_hand) g t
               (sym stands ∙ ap (entry_demand m f) (sym at) ∙ k)
           | inr off ↦
-              let was = work_held n m h s f e (works_facts n m h s f e sound seat may.here) sound.alone seat may.here may.table in
+              let was = work_held n m h s f e (works_facts n m h s f e sound vcpu may.here) sound.alone vcpu may.here may.table in
               let o : i ≢ e.recorded = off in
               sound.counts.kinds.entries f i g t (omega arith) k
         ]
 
-    recorded_move : MarkMove n s m h b seat others sound f e may.here change
+    recorded_move : MarkMove n s m h b vcpu others sound f e may.here change
     recorded_move =
         record {
           works = works_now;
@@ -116,11 +116,11 @@ module _ (n : Machine) (s : ℕ) (m : Place → ℕ) (h b : ℕ → Holdings) (s
           refs = λ g. let k = entries_more (names g) in let o = (out_now g).0 in omega arith;
           types = λ g. let k = entries_more (names_typed g) in let o = (out_now g).1 in omega arith;
           last = last_typed;
-          typed = rw hand_is (typed_out (λ y. HasType m y.frame y.kind) asked bare (sound.counts.kinds.typed s seat));
+          typed = rw hand_is (typed_out (λ y. HasType m y.frame y.kind) asked bare (sound.counts.kinds.typed s vcpu));
         }
 
     pub recorded_by : Outcome n m b
-    recorded_by = marked_outcome n s m h b seat others sound f e may.here change recorded_move
+    recorded_by = marked_outcome n s m h b vcpu others sound f e may.here change recorded_move
 
   pub recorded_outcome : Recorded n f upto (h s) (b s) → Outcome n m b
   recorded_outcome d =
@@ -129,50 +129,50 @@ module _ (n : Machine) (s : ℕ) (m : Place → ℕ) (h b : ℕ → Holdings) (s
 
   -- ---- the last recorded entry comes back
   module _ (e : Work) (may : MayShed f upto (h s) e) (change : Work → Work) (frames : (y : Work) → (change y).frame ≡ y.frame) (words : (y : Work) → (change y).word ≡ y.word)
-      (fewer : (change e).recorded ≡ upto) (told : Demand) (told_is : told ≡ demand_at (kind_fields e.word).kind upto may.word)
-      (hand_is : b s ≡ demand_in (is_none e.unsettled) told (record (h s) { works = changed_work f change (h s).works })) where
+      (fewer : (change e).recorded ≡ upto) (was_found : Demand) (clock_is : was_found ≡ demand_at (kind_fields e.word).kind upto may.word)
+      (hand_is : b s ≡ demand_in (is_none e.unsettled) was_found (record (h s) { works = changed_work f change (h s).works })) where
     abbrev left : Holdings
     left = record (h s) { works = changed_work f change (h s).works }
 
-    stood : entry_demand m f upto ≡ told
-    stood = sym (loaded_asks n m h s f e (works_facts n m h s f e sound seat may.here) upto may.word may.table may.seen) ∙ sym told_is
+    stood : entry_demand m f upto ≡ was_found
+    stood = sym (loaded_asks n m h s f e (works_facts n m h s f e sound vcpu may.here) upto may.word may.table may.seen) ∙ sym clock_is
 
     shed_unmarked : (kind_fields e.word).unflushed ≡ false
-    shed_unmarked = seen_unmarked n m h s f e (works_facts n m h s f e sound seat may.here) _ may.seen
+    shed_unmarked = seen_unmarked n m h s f e (works_facts n m h s f e sound vcpu may.here) _ may.seen
 
     shed_works : (b s).works ≡ changed_work f change (h s).works
-    shed_works = ap (λ y. y.works) hand_is ∙ (beside_in (is_none e.unsettled) told left).works
+    shed_works = ap (λ y. y.works) hand_is ∙ (beside_in (is_none e.unsettled) was_found left).works
 
     shed_alone : HeldAlone n m b
     shed_alone =
-        mark_alone n s m h b seat others sound f e may.here change shed_works frames words shed_unmarked (ap (λ y. y.locks) hand_is ∙ (beside_in (is_none e.unsettled) told left).locks)
-        (ap (λ y. y.ending) hand_is ∙ (beside_in (is_none e.unsettled) told left).ending) (ap (λ y. y.claimed) hand_is ∙ (beside_in (is_none e.unsettled) told left).claimed)
+        mark_alone n s m h b vcpu others sound f e may.here change shed_works frames words shed_unmarked (ap (λ y. y.locks) hand_is ∙ (beside_in (is_none e.unsettled) was_found left).locks)
+        (ap (λ y. y.ending) hand_is ∙ (beside_in (is_none e.unsettled) was_found left).ending) (ap (λ y. y.claimed) hand_is ∙ (beside_in (is_none e.unsettled) was_found left).claimed)
 
-    entries_fewer : (c : Demand → ℕ) → entries c (sizes_of n) m b + c told ≡ entries c (sizes_of n) m h
+    entries_fewer : (c : Demand → ℕ) → entries c (sizes_of n) m b + c was_found ≡ entries c (sizes_of n) m h
     entries_fewer c =
         let one =
-        entries-one c (sizes_of n) m m h b f (table_inside n m f sound.spelled (rw (work_word n m h s f e (works_facts n m h s f e sound seat may.here)) may.table))
-        (mark_held_other n s m h b seat others sound f e may.here change shed_works frames words shed_unmarked) (λ g i off l. refl)
+        entries-one c (sizes_of n) m m h b f (table_inside n m f sound.spelled (rw (work_word n m h s f e (works_facts n m h s f e sound vcpu may.here)) may.table))
+        (mark_held_other n s m h b vcpu others sound f e may.here change shed_works frames words shed_unmarked) (λ g i off l. refl)
         in
-        let was = work_held n m h s f e (works_facts n m h s f e sound seat may.here) sound.alone seat may.here may.table ∙ may.last in
-        let is = mark_held_here n s m h b seat others sound f e may.here change shed_works frames words shed_unmarked shed_alone may.table ∙ fewer in
+        let was = work_held n m h s f e (works_facts n m h s f e sound vcpu may.here) sound.alone vcpu may.here may.table ∙ may.last in
+        let is = mark_held_here n s m h b vcpu others sound f e may.here change shed_works frames words shed_unmarked shed_alone may.table ∙ fewer in
         let table = table_entries-more c m (work_of (sizes_of n).vcpus b f) (work_of (sizes_of n).vcpus h f) f upto is was in
         let k = ap c stood in
         omega arith
 
-    in_now : (g : ℕ) → (hand g (b s) ≡ hand g (h s) + names g told) × (typed_hand g (b s) ≡ typed_hand g (h s) + names_typed g told)
+    in_now : (g : ℕ) → (hand g (b s) ≡ hand g (h s) + names g was_found) × (typed_hand g (b s) ≡ typed_hand g (h s) + names_typed g was_found)
     in_now g =
-        let p = in_hand (is_none e.unsettled) g told left in
-        let q = in_typed (is_none e.unsettled) g told left in
+        let p = in_hand (is_none e.unsettled) g was_found left in
+        let q = in_typed (is_none e.unsettled) g was_found left in
         let r = hand_alike g (h s) left refl refl refl in
-        rw hand_is (p ∙ ap (λ y. y + names g told) r.0, q ∙ ap (λ y. y + names_typed g told) r.1)
+        rw hand_is (p ∙ ap (λ y. y + names g was_found) r.0, q ∙ ap (λ y. y + names_typed g was_found) r.1)
 
     entry_typed : (i g : ℕ) (t : PageType) → i < e.recorded → entry_demand m f i ≡ Typed g t → (kind_at m g).kind ≡ t
     entry_typed i g t l k =
-        let was = work_held n m h s f e (works_facts n m h s f e sound seat may.here) sound.alone seat may.here may.table in
+        let was = work_held n m h s f e (works_facts n m h s f e sound vcpu may.here) sound.alone vcpu may.here may.table in
         sound.counts.kinds.entries f i g t (omega arith) k
 
-    shed_move : MarkMove n s m h b seat others sound f e may.here change
+    shed_move : MarkMove n s m h b vcpu others sound f e may.here change
     shed_move =
         let last = may.last in
         record {
@@ -181,23 +181,23 @@ module _ (n : Machine) (s : ℕ) (m : Place → ℕ) (h b : ℕ → Holdings) (s
           words = words;
           table = may.table;
           unmarked = shed_unmarked;
-          locks = ap (λ y. y.locks) hand_is ∙ (beside_in (is_none e.unsettled) told left).locks;
-          ending = ap (λ y. y.ending) hand_is ∙ (beside_in (is_none e.unsettled) told left).ending;
-          claimed = ap (λ y. y.claimed) hand_is ∙ (beside_in (is_none e.unsettled) told left).claimed;
-          raised = ap (λ y. y.raised) hand_is ∙ (beside_in (is_none e.unsettled) told left).raised;
-          credits = ap (λ y. y.credits) hand_is ∙ (beside_in (is_none e.unsettled) told left).credits;
-          cache = ap (λ y. y.cache) hand_is ∙ (translations_in (is_none e.unsettled) told left).cache;
-          walk = ap (λ y. y.walk) hand_is ∙ (translations_in (is_none e.unsettled) told left).walk;
-          cold = ap (λ y. y.cold) hand_is ∙ (translations_in (is_none e.unsettled) told left).cold;
-          spares = λ g k l. rw hand_is (in_more (is_none e.unsettled) told left g l);
+          locks = ap (λ y. y.locks) hand_is ∙ (beside_in (is_none e.unsettled) was_found left).locks;
+          ending = ap (λ y. y.ending) hand_is ∙ (beside_in (is_none e.unsettled) was_found left).ending;
+          claimed = ap (λ y. y.claimed) hand_is ∙ (beside_in (is_none e.unsettled) was_found left).claimed;
+          raised = ap (λ y. y.raised) hand_is ∙ (beside_in (is_none e.unsettled) was_found left).raised;
+          credits = ap (λ y. y.credits) hand_is ∙ (beside_in (is_none e.unsettled) was_found left).credits;
+          cache = ap (λ y. y.cache) hand_is ∙ (translations_in (is_none e.unsettled) was_found left).cache;
+          walk = ap (λ y. y.walk) hand_is ∙ (translations_in (is_none e.unsettled) was_found left).walk;
+          cold = ap (λ y. y.cold) hand_is ∙ (translations_in (is_none e.unsettled) was_found left).cold;
+          spares = λ g k l. rw hand_is (in_more (is_none e.unsettled) was_found left g l);
           refs = λ g. let k = entries_fewer (names g) in let o = (in_now g).0 in omega arith;
           types = λ g. let k = entries_fewer (names_typed g) in let o = (in_now g).1 in omega arith;
           last = λ i g t l k. let r = fewer in entry_typed i g t (omega arith) k;
-          typed = rw hand_is (typed_in (is_none e.unsettled) (λ y. HasType m y.frame y.kind) told left (λ g t k. entry_typed upto g t (omega arith) (stood ∙ k)) (sound.counts.kinds.typed s seat));
+          typed = rw hand_is (typed_in (is_none e.unsettled) (λ y. HasType m y.frame y.kind) was_found left (λ g t k. entry_typed upto g t (omega arith) (stood ∙ k)) (sound.counts.kinds.typed s vcpu));
         }
 
     pub shed_by : Outcome n m b
-    shed_by = marked_outcome n s m h b seat others sound f e may.here change shed_move
+    shed_by = marked_outcome n s m h b vcpu others sound f e may.here change shed_move
 
   pub shed_outcome : Shed f upto (h s) (b s) → Outcome n m b
   shed_outcome d =

@@ -26,7 +26,7 @@ use Rattle.count_rule.proofs.SpelledLaw.{wrote_spelled}
 use Rattle.count_rule.proofs.Outcome.{Outcome}
 use Rattle.count_rule.proofs.RefLaw.{RefMove, ref_outcome}
 
-module _ (n : Machine) (s : ℕ) (x : Step) (m m2 : Place → ℕ) (b c : ℕ → Holdings) (seat : s < (sizes_of n).vcpus) (others : (t : ℕ) → t ≢ s → c t ≡ b t) (may : MayAct n s x (b s)) (sound : Sound n m b) (f : ℕ) where
+module _ (n : Machine) (s : ℕ) (x : Step) (m m2 : Place → ℕ) (b c : ℕ → Holdings) (vcpu : s < (sizes_of n).vcpus) (others : (t : ℕ) → t ≢ s → c t ≡ b t) (may : MayAct n s x (b s)) (sound : Sound n m b) (f : ℕ) where
   pub inside : IsTrue (is_place (sizes_of n) (Refs f)) → f < (sizes_of n).frames
   unfolding is_place
   inside real = grind (arith, nat_tests)
@@ -36,7 +36,7 @@ module _ (n : Machine) (s : ℕ) (x : Step) (m m2 : Place → ℕ) (b c : ℕ �
   unfolding hand
   count_above k =
       let e = sound.counts.refs f in
-      let p = hands-part (hand f) (sizes_of n) b s seat in
+      let p = hands-part (hand f) (sizes_of n) b s vcpu in
       omega arith
 
   was_fits : IsTrue (is_place (sizes_of n) (Refs f)) → (o k : ℕ) (a : Bool) → ref_read (m (Refs f)) ≡ Some (Owned o a k) → (o < length n.page_limit) × (k ≤ n.limit)
@@ -70,7 +70,7 @@ module _ (n : Machine) (s : ℕ) (x : Step) (m m2 : Place → ℕ) (b c : ℕ �
       let u = owned_says _ o a j was in
       let v = owned_says _ o e k is in
       let refs = ap (λ y. y.refs) hand in
-      ref_outcome n s m m2 b c seat others f sound
+      ref_outcome n s m m2 b c vcpu others f sound
       (record {
         real = inside d.real;
         words = d.others;
@@ -122,7 +122,7 @@ module _ (n : Machine) (s : ℕ) (x : Step) (m m2 : Place → ℕ) (b c : ℕ �
     lowered_move : owner_of (m2 (Refs f)) ≡ owner_of (m (Refs f)) → is_free (m (Refs f)) ≡ false → is_free (m2 (Refs f)) ≡ false → free_stamp (m2 (Refs f)) ≡ 0 →
         ref_count (m2 (Refs f)) + (allocated_mark (m (Refs f)) + 1) ≡ ref_count (m (Refs f)) + allocated_mark (m2 (Refs f)) →
         ((g : ℕ) → g ≢ f → endings_of g (c s).ending ≡ endings_of g (b s).ending) →
-        endings_of f (c s).ending + bit (is_dying (m (Refs f))) ≡ endings_of f (b s).ending + bit (is_dying (m2 (Refs f))) → RefMove n s m m2 b c seat others f
+        endings_of f (c s).ending + bit (is_dying (m (Refs f))) ≡ endings_of f (b s).ending + bit (is_dying (m2 (Refs f))) → RefMove n s m m2 b c vcpu others f
     lowered_move owner free free2 stamp counts other here =
         record {
           real = inside d.wrote.real;
@@ -145,7 +145,7 @@ module _ (n : Machine) (s : ℕ) (x : Step) (m m2 : Place → ℕ) (b c : ℕ �
           pages = λ q. rw (ap (λ y. y.credits) d.hand, owner) refl;
         }
 
-    lowered_by : OneLess (m (Refs f)) (m2 (Refs f)) → RefMove n s m m2 b c seat others f
+    lowered_by : OneLess (m (Refs f)) (m2 (Refs f)) → RefMove n s m m2 b c vcpu others f
     lowered_by (more o k a was is) =
         let u = owned_says _ o a (suc (suc k)) was in
         let v = owned_says _ o a (suc k) is in
@@ -162,4 +162,4 @@ module _ (n : Machine) (s : ℕ) (x : Step) (m m2 : Place → ℕ) (b c : ℕ �
         let p = ap bit u.dying in let q = ap bit v.dying in omega arith)
 
     pub lowered_outcome : Outcome n m2 c
-    lowered_outcome = ref_outcome n s m m2 b c seat others f sound (lowered_by (lower_less one_down d.may d.is)) (ref_spelled d.wrote)
+    lowered_outcome = ref_outcome n s m m2 b c vcpu others f sound (lowered_by (lower_less one_down d.may d.is)) (ref_spelled d.wrote)

@@ -18,7 +18,7 @@ use Rattle.board_lemmas.proofs.Counted.{held_inside, hand_is, typed_hand-same}
 use Rattle.count_rule.proofs.Outcome.{Outcome, cells_same, runs}
 use Rattle.board_lemmas.proofs.Sums.{sum_below-one}
 
-module _ (n : Machine) (s : ℕ) (m m2 : Place → ℕ) (b c : ℕ → Holdings) (seat : s < (sizes_of n).vcpus) (others : (t : ℕ) → t ≢ s → c t ≡ b t) (f : ℕ) where
+module _ (n : Machine) (s : ℕ) (m m2 : Place → ℕ) (b c : ℕ → Holdings) (vcpu : s < (sizes_of n).vcpus) (others : (t : ℕ) → t ≢ s → c t ≡ b t) (f : ℕ) where
   -- how the word of frame f moves, and what the hand has of references, endings, claims, raised frames and credits
   pub record RefMove : Type 0 where
     pub real : f < (sizes_of n).frames
@@ -47,11 +47,11 @@ module _ (n : Machine) (s : ℕ) (m m2 : Place → ℕ) (b c : ℕ → Holdings)
     kinds_same : (g : ℕ) → m2 (Kind g) ≡ m (Kind g)
     kinds_same g = move.words (Kind g) (λ e. cc)
 
-    steady : Steady n s m m2 b c seat others
+    steady : Steady n s m m2 b c vcpu others
     steady =
         record {
-          held_same = λ g. held_still n s m m2 b c seat others g (kinds_same g) (rw move.works refl);
-          demand_same = λ g i l. cells_same n s m m2 b c seat others kinds_same (λ k j. move.words (Cell k j) (λ e. cc)) g i;
+          held_same = λ g. held_still n s m m2 b c vcpu others g (kinds_same g) (rw move.works refl);
+          demand_same = λ g i l. cells_same n s m m2 b c vcpu others kinds_same (λ k j. move.words (Cell k j) (λ e. cc)) g i;
           inside = λ g i l. held_inside n m b g i sound.spelled l;
           context_same = λ v k t. move.words (Vcpu v k) (λ e. cc);
           type_same = λ g l. rw (kinds_same g);
@@ -82,10 +82,10 @@ module _ (n : Machine) (s : ℕ) (m m2 : Place → ℕ) (b c : ℕ → Holdings)
 
     ref_counts : CountsAgree (sizes_of n) m2 c
     ref_counts =
-        counts_law n s m m2 b c seat others
-        (counted_steady n s m m2 b c seat others steady sound.counts counted_refs
+        counts_law n s m m2 b c vcpu others
+        (counted_steady n s m m2 b c vcpu others steady sound.counts counted_refs
         (λ g. let e = typed_hand_same g in rw (kinds_same g) (omega arith))
-        (types_steady n s m m2 b c seat others steady sound.counts (λ e. rw move.typed e) (λ e. rw move.locks e))
+        (types_steady n s m m2 b c vcpu others steady sound.counts (λ e. rw move.typed e) (λ e. rw move.locks e))
         (λ d l.
         let e = move.words (Pages d) (λ e. cc) in
         let p = page_moves d in
@@ -102,7 +102,7 @@ module _ (n : Machine) (s : ℕ) (m m2 : Place → ℕ) (b c : ℕ → Holdings)
 
     ref_alone : HeldAlone n m2 c
     ref_alone =
-        alone_law n s m m2 b c seat others
+        alone_law n s m m2 b c vcpu others
         (λ g. let e = ap (works_on g) move.works in rw (kinds_same g) (omega arith))
         (λ g. let e = ap (locks_on g) move.locks in rw (kinds_same g) (omega arith))
         dying_moves sound.alone
@@ -116,7 +116,7 @@ module _ (n : Machine) (s : ℕ) (m m2 : Place → ℕ) (b c : ℕ → Holdings)
 
     ref_map : FreeMap n m2 c
     ref_map =
-        map_law n s m m2 b c seat others
+        map_law n s m m2 b c vcpu others
         (λ g l. let k = raised_moves g in rw (move.words (Map (g / 64)) (λ e. cc)) (omega arith))
         sound.map
 
@@ -133,11 +133,11 @@ module _ (n : Machine) (s : ℕ) (m m2 : Place → ℕ) (b c : ℕ → Holdings)
           spelled = spelled;
           counts = ref_counts;
           alone = ref_alone;
-          works = works_law n s m m2 b c seat others (works_spared n s m m2 b c seat others (rw move.works (like_works (b s).works (b s).works (works_kept (b s).works))) spares_each sound.alone (sound.works s seat)) sound.works;
+          works = works_law n s m m2 b c vcpu others (works_spared n s m m2 b c vcpu others (rw move.works (like_works (b s).works (b s).works (works_kept (b s).works))) spares_each sound.alone (sound.works s vcpu)) sound.works;
           stamped = let clock = move.words Clock (λ e. cc) in
               stamped_by n m m2 (Refs f) move.words (omega arith) (λ v e. absurd (cc))
               (λ g e. let k = move.stamp in omega arith) (λ g e. absurd (cc)) sound.stamped;
-          idle = idle_running n s m m2 b c seat others (move.words (run_of s) (λ e. cc) ∙ runs n s m m2 b c seat others sound move.running) (λ v off. move.words (run_of v) (λ e. cc))
+          idle = idle_running n s m m2 b c vcpu others (move.words (run_of s) (λ e. cc) ∙ runs n s m m2 b c vcpu others sound move.running) (λ v off. move.words (run_of v) (λ e. cc))
               (λ e. sym move.cold ∙ e) (λ k e. move.cache ∙ e) (λ k e. move.walk ∙ e) sound.idle;
           map = ref_map;
         }

@@ -31,7 +31,7 @@ use Rattle.count_rule.proofs.KindActs.{Beside, beside, rest_by, turn_outcome, ke
 use Rattle.count_rule.proofs.KindWorks.{works_out}
 use Rattle.count_rule.proofs.WorkActs.{not_closing}
 use Rattle.board_lemmas.proofs.FormsLeft.{form_live, form_work, form_dead}
-use Rattle.count_rule.proofs.Told.{clock_told}
+use Rattle.count_rule.proofs.Told.{clock_found}
 use Rattle.count_rule.proofs.Outcome.{Outcome}
 use Rattle.board_lemmas.proofs.KindForms.{form_read}
 use Rattle.board_lemmas.proofs.KindReadings.{busy_forms, closing_alone, work_unlive, dead_unlive, stamp_live, stamp_of}
@@ -40,26 +40,26 @@ use Rattle.board_lemmas.proofs.WorkFacts.{work_word, works_facts}
 flat_says : (k : KindWord) (count mark lock : ℕ) → mark ≡ 0 → lock ≡ 0 → Says k count mark 0 lock → Says k count 0 0 0
 flat_says k count mark lock p q says = record { counts = says.counts; mark_is = says.mark_is ∙ p; busy_is = says.busy_is; lock_is = says.lock_is ∙ q }
 
-module _ (n : Machine) (s : ℕ) (x : Step) (m m2 : Place → ℕ) (b c : ℕ → Holdings) (seat : s < (sizes_of n).vcpus) (others : (t : ℕ) → t ≢ s → c t ≡ b t) (may : MayAct n s x (b s)) (sound : Sound n m b) (f : ℕ) where
+module _ (n : Machine) (s : ℕ) (x : Step) (m m2 : Place → ℕ) (b c : ℕ → Holdings) (vcpu : s < (sizes_of n).vcpus) (others : (t : ℕ) → t ≢ s → c t ≡ b t) (may : MayAct n s x (b s)) (sound : Sound n m b) (f : ℕ) where
   -- the frame goes out of the works
   module _ (wrote : Wrote n x (Kind f) steps.Kind m m2 (b s)) (e : Work) (here : work_on f (b s).works ≡ Some e) (l : KindWord) (is : kind_at m2 f ≡ l) (kind : l.kind ≡ (kind_fields e.word).kind) where
     pub was : kind_at m f ≡ kind_fields e.word
-    was = work_word n m b s f e (works_facts n m b s f e sound seat here)
+    was = work_word n m b s f e (works_facts n m b s f e sound vcpu here)
 
     in_works : 0 < works_on f (b s).works
     in_works = first-some (λ y. y.frame) f e (b s).works here
 
     pub form_before : has_form (kind_fields e.word) ≡ true
-    form_before = ap has_form (sym was) ∙ form_was n s m m2 b seat sound f wrote.real
+    form_before = ap has_form (sym was) ∙ form_was n s m m2 b vcpu sound f wrote.real
 
     busy : is_busy (kind_fields e.word) ≡ true
-    busy = ap is_busy (sym was) ∙ is_busy-mine n m b sound.alone f s seat in_works
+    busy = ap is_busy (sym was) ∙ is_busy-mine n m b sound.alone f s vcpu in_works
 
     pub forms : IsTrue (is_work (kind_fields e.word)) ⊎ IsTrue (is_closing (kind_fields e.word))
     forms = busy_forms (kind_fields e.word) busy
 
     pub held_was : held (sizes_of n) m b f ≡ (if is_table (kind_fields e.word).kind then e.recorded else 0)
-    held_was = held_mine n m b sound.alone f s e seat here ∙ ap (λ y. held_of y (Some e.recorded)) was ∙ held_work (kind_fields e.word) e.recorded
+    held_was = held_mine n m b sound.alone f s e vcpu here ∙ ap (λ y. held_of y (Some e.recorded)) was ∙ held_work (kind_fields e.word) e.recorded
 
     -- the stamp of a word that is not live
     pub stamp_was : IsTrue (is_work (kind_fields e.word)) → (kind_fields e.word).number ≤ m Clock
@@ -68,24 +68,24 @@ module _ (n : Machine) (s : ℕ) (x : Step) (m m2 : Place → ℕ) (b c : ℕ �
         let same = stamp_of (m (Kind f)) (kind_fields e.word) was (work_unlive (kind_fields e.word) work) in
         omega arith
 
-    pub out_outcome : (u : Holdings) → c s ≡ u → Beside n s x m m2 b c seat others may sound f u → u.works ≡ without_work f (b s).works → u.locks ≡ (b s).locks →
+    pub out_outcome : (u : Holdings) → c s ≡ u → Beside n s x m m2 b c vcpu others may sound f u → u.works ≡ without_work f (b s).works → u.locks ≡ (b s).locks →
         ((g : ℕ) → g ≢ f → refs_to g u.refs ≡ refs_to g (b s).refs) → ((g : ℕ) → g ≢ f → typed_to g u.typed ≡ typed_to g (b s).typed) → (ck mk cl ml : ℕ) →
         Says (kind_fields e.word) ck mk 1 0 → Says l cl ml 0 0 → kind_stamp (m2 (Kind f)) ≤ m Clock → held_of l None ≡ (if is_table (kind_fields e.word).kind then e.recorded else 0) →
         mk + (refs_to f (b s).refs + typed_to f (b s).typed) ≡ ml + (refs_to f u.refs + typed_to f u.typed) → cl + (mk + typed_to f (b s).typed) ≡ ck + (ml + typed_to f u.typed) →
         (EachOf (λ e. HasType m2 e.frame e.kind) (b s).typed → EachOf (λ e. HasType m2 e.frame e.kind) u.typed) → Outcome n m2 c
     out_outcome u hand side works locks refs_other typed_other ck mk cl ml says tells stamp table refs types typed_kept =
         let rest =
-        rest_by n s x m m2 b c seat others may sound f u hand side (record { refs = refs_other; typed = typed_other; locks = λ g off. rw locks refl })
+        rest_by n s x m m2 b c vcpu others may sound f u hand side (record { refs = refs_other; typed = typed_other; locks = λ g off. rw locks refl })
         (out_other (λ y. y.frame) f (b s).works u.works works) (recorded_out f (b s).works u.works works)
         in
         let out = out_here (λ y. y.frame) f (b s).works u.works works in_works in
         let lock = ap (locks_on f) locks in
         let free = ap is_busy is ∙ no_bit (is_busy l) tells.busy_is in
-        turn_outcome n s x m m2 b c seat others may sound f wrote u hand rest (kind_fields e.word) l ck mk 1 0 cl ml 0 0
+        turn_outcome n s x m m2 b c vcpu others may sound f wrote u hand rest (kind_fields e.word) l ck mk 1 0 cl ml 0 0
         (record { was = was; is = is; says = says; tells = tells }) stamp (omega arith) (omega arith) (omega arith) (omega arith)
         (λ alone. held_free n m2 c alone f free ∙ ap (λ y. held_of y None) is ∙ table ∙ sym held_was)
-        (inl (keeps_kind n s x m m2 b c seat others may sound f (kind_fields e.word) l was is kind)) typed_kept (λ e. subst (λ y. EachOf (λ e. HasType m2 e.frame (Some e.kind)) y) (sym locks) e)
-        (works_out f (b s) (c s) rest.refs (ap (λ y. y.works) hand ∙ works) (one_works n m b sound.alone f s seat) (sound.works s seat))
+        (inl (keeps_kind n s x m m2 b c vcpu others may sound f (kind_fields e.word) l was is kind)) typed_kept (λ e. subst (λ y. EachOf (λ e. HasType m2 e.frame (Some e.kind)) y) (sym locks) e)
+        (works_out f (b s) (c s) rest.refs (ap (λ y. y.works) hand ∙ works) (one_works n m b sound.alone f s vcpu) (sound.works s vcpu))
 
     -- the new type
     pub type_is : (kind_at m2 f).kind ≡ l.kind
@@ -122,7 +122,7 @@ module _ (n : Machine) (s : ℕ) (x : Step) (m m2 : Place → ℕ) (b c : ℕ �
             let tells = live_says l form live (omega arith) in
             let typed = swap_here (λ y. y.frame) f (b s).typed u.typed _ refl refl one.1 in
             out_outcome d.wrote e d.here l d.fields_is d.may.kind u (d.hand ∙ ap (λ y. noted x (m (Kind f)) y) (made_one l (when_eq l.number 1 one.0)))
-            (beside n s x m m2 b c seat others may sound f u refl refl refl refl refl refl refl) refl refl (λ g off. refl) (swap_other (λ y. y.frame) f (b s).typed u.typed _ refl refl)
+            (beside n s x m m2 b c vcpu others may sound f u refl refl refl refl refl refl refl) refl refl (λ g off. refl) (swap_other (λ y. y.frame) f (b s).typed u.typed _ refl refl)
             1 0 l.number 0 says (flat_says l l.number (bit l.pinned) (bit l.locked) pin lock tells) (omega arith) table (omega arith) (omega arith)
             (λ k. (type_is d.wrote e d.here l d.fields_is d.may.kind, EachOf-without (λ y. HasType m2 y.frame y.kind) (λ y. y.frame) f (b s).typed k))
         | inr two ↦
@@ -132,7 +132,7 @@ module _ (n : Machine) (s : ℕ) (x : Step) (m m2 : Place → ℕ) (b c : ℕ �
             let typed = cons_here (λ y. y.frame) f (b s).typed u.typed _ refl refl in
             let out = out_here (λ y. y.frame) f (b s).refs u.refs refl two.2 in
             out_outcome d.wrote e d.here l d.fields_is d.may.kind u (d.hand ∙ ap (λ y. noted x (m (Kind f)) y) (made_two l (when_ne l.number 1 (λ k. absurd (omega arith)))))
-            (beside n s x m m2 b c seat others may sound f u refl refl refl refl refl refl refl) refl refl (out_other (λ y. y.frame) f (b s).refs u.refs refl)
+            (beside n s x m m2 b c vcpu others may sound f u refl refl refl refl refl refl refl) refl refl (out_other (λ y. y.frame) f (b s).refs u.refs refl)
             (cons_other (λ y. y.frame) f (b s).typed u.typed _ refl refl)
             1 0 l.number 0 says (flat_says l l.number (bit l.pinned) (bit l.locked) pin lock tells) (omega arith) table (omega arith) (omega arith)
             (λ k. (type_is d.wrote e d.here l d.fields_is d.may.kind, k))
@@ -154,7 +154,7 @@ module _ (n : Machine) (s : ℕ) (x : Step) (m m2 : Place → ℕ) (b c : ℕ �
       let form = form_read _ l d.is in
       let before = form_before d.wrote e d.here l d.fields_is d.may.kind in
       let tells = dead_says l form dead in
-      let told = clock_told (sizes_of n) (m Clock) e.since l.number (b s).steps (sound.found s seat).clock d.may.stamp in
+      let was_found = clock_found (sizes_of n) (m Clock) e.since l.number (b s).steps (sound.found s vcpu).clock d.may.stamp in
       let same = stamp_of (m2 (Kind f)) l d.fields_is (dead_unlive l dead) in
       let table : held_of l None ≡ (if is_table (kind_fields e.word).kind then e.recorded else 0) =
       held_dead l dead ∙ sym (ap (λ y. if is_table (kind_fields e.word).kind then y else 0) d.may.none ∙ same_zero (is_table (kind_fields e.word).kind))
@@ -166,14 +166,14 @@ module _ (n : Machine) (s : ℕ) (x : Step) (m m2 : Place → ℕ) (b c : ℕ �
             let typed = out_here (λ y. y.frame) f (b s).typed u.typed refl (d.may.counts work) in
             let more = cons_here (λ y. y.frame) f (b s).refs u.refs _ refl refl in
             out_outcome d.wrote e d.here l d.fields_is d.may.kind u (d.hand ∙ ap (λ y. noted x (m (Kind f)) y) (dead_before e work))
-            (beside n s x m m2 b c seat others may sound f u refl refl refl refl refl refl refl) refl refl (cons_other (λ y. y.frame) f (b s).refs u.refs _ refl refl)
+            (beside n s x m m2 b c vcpu others may sound f u refl refl refl refl refl refl refl) refl refl (cons_other (λ y. y.frame) f (b s).refs u.refs _ refl refl)
             (out_other (λ y. y.frame) f (b s).typed u.typed refl)
             1 0 0 0 says tells (omega arith) table (omega arith) (omega arith) (λ k. EachOf-without (λ y. HasType m2 y.frame y.kind) (λ y. y.frame) f (b s).typed k)
         | inr closing ↦
             let says = closing_says (kind_fields e.word) before closing in
             let u = noted x (m (Kind f)) (record (b s) { works = without_work f (b s).works }) in
             out_outcome d.wrote e d.here l d.fields_is d.may.kind u (d.hand ∙ ap (λ y. noted x (m (Kind f)) y) (dead_closing e (closing_alone (kind_fields e.word) closing)))
-            (beside n s x m m2 b c seat others may sound f u refl refl refl refl refl refl refl) refl refl (λ g off. refl) (λ g off. refl)
+            (beside n s x m m2 b c vcpu others may sound f u refl refl refl refl refl refl refl) refl refl (λ g off. refl) (λ g off. refl)
             0 0 0 0 says tells (omega arith) table (omega arith) (omega arith) (λ k. k)
       ]
 
@@ -196,19 +196,19 @@ module _ (n : Machine) (s : ℕ) (x : Step) (m m2 : Place → ℕ) (b c : ℕ �
       let refs : (c s).refs ≡ (b s).refs = ap (λ y. y.refs) d.hand in
       let same = times-changed (λ y. y.frame) f f change (b s).works (λ y. refl) in
       let rest =
-      rest_by n s x m m2 b c seat others may sound f u d.hand (beside n s x m m2 b c seat others may sound f u refl refl refl refl refl refl refl)
+      rest_by n s x m m2 b c vcpu others may sound f u d.hand (beside n s x m m2 b c vcpu others may sound f u refl refl refl refl refl refl refl)
       (record { refs = λ g off. refl; typed = λ g off. refl; locks = λ g off. refl })
       (λ g off. times-changed (λ y. y.frame) g f change (b s).works (λ y. refl)) (recorded_changed f (b s).works u.works change (λ y. refl) refl)
       in
       let number : l.number ≡ 0 = ap (λ (y : KindWord). y.number) left in
       let stamp = stamp_of (m2 (Kind f)) l d.fields_is (work_unlive l work) in
-      turn_outcome n s x m m2 b c seat others may sound f d.wrote u d.hand rest (kind_fields e.word) l 1 0 1 0 1 0 1 0
+      turn_outcome n s x m m2 b c vcpu others may sound f d.wrote u d.hand rest (kind_fields e.word) l 1 0 1 0 1 0 1 0
       (record { was = was_is; is = d.fields_is; says = says; tells = tells }) (omega arith) refl refl (omega arith) refl
       (λ alone.
-      held_mine n m2 c alone f s (change e) seat (ap (work_on f) now ∙ first_by-changed_here (λ y. y.frame) f change (b s).works e (λ y. refl) d.here)
+      held_mine n m2 c alone f s (change e) vcpu (ap (work_on f) now ∙ first_by-changed_here (λ y. y.frame) f change (b s).works e (λ y. refl) d.here)
       ∙ ap (λ y. held_of y (Some e.recorded)) d.fields_is ∙ held_work l e.recorded ∙ ap (λ y. if is_table y then e.recorded else 0) kind
       ∙ sym (held_was d.wrote e d.here l d.fields_is kind))
-      (inl (keeps_kind n s x m m2 b c seat others may sound f (kind_fields e.word) l was_is d.fields_is kind)) (λ k. k) (λ k. k)
+      (inl (keeps_kind n s x m m2 b c vcpu others may sound f (kind_fields e.word) l was_is d.fields_is kind)) (λ k. k) (λ k. k)
       (subst (λ y. EachOf (WorkAgrees (c s)) y) (sym now)
       (EachOf-changed_into (WorkAgrees (b s)) (WorkAgrees (c s)) (λ y. y.frame) f change (b s).works
       (λ y k. record { marked = k.marked; closing = λ t. subst (λ z. 0 < refs_to y.frame z) (sym refs) (k.closing t) })
@@ -219,4 +219,4 @@ module _ (n : Machine) (s : ℕ) (x : Step) (m m2 : Place → ℕ) (b c : ℕ �
             absurd (cc);
         closing = λ t. absurd (not_closing l work (subst (λ z. IsTrue (is_closing z)) d.fields_is t));
       })
-      (sound.works s seat)))
+      (sound.works s vcpu)))

@@ -32,7 +32,7 @@ pinned_some : (k : KindWord) → has_form k ≡ true → IsTrue (is_live k) → 
 unfolding has_form
 pinned_some k form live pinned = grind (arith, nat_tests)
 
-module _ (n : Machine) (s : ℕ) (x : Step) (m m2 : Place → ℕ) (b c : ℕ → Holdings) (seat : s < (sizes_of n).vcpus) (others : (t : ℕ) → t ≢ s → c t ≡ b t) (may : MayAct n s x (b s)) (sound : Sound n m b) (f : ℕ) where
+module _ (n : Machine) (s : ℕ) (x : Step) (m m2 : Place → ℕ) (b c : ℕ → Holdings) (vcpu : s < (sizes_of n).vcpus) (others : (t : ℕ) → t ≢ s → c t ≡ b t) (may : MayAct n s x (b s)) (sound : Sound n m b) (f : ℕ) where
   -- the hand after an exchange by that row
   abbrev pub turned_hand : KindRow → KindWord → KindWord → Holdings
   turned_hand row k l =
@@ -55,7 +55,7 @@ module _ (n : Machine) (s : ℕ) (x : Step) (m m2 : Place → ℕ) (b c : ℕ �
       let out = out_here (λ y. y.frame) f (b s).refs u.refs refl d.may.in_hand in
       let in_ = cons_here (λ y. y.frame) f (b s).typed u.typed _ refl refl in
       let kind : l.kind ≡ k.kind = ap (λ (y : KindWord). y.kind) left in
-      free_outcome n s x m m2 b c seat others may sound f d.wrote u d.hand (beside n s x m m2 b c seat others may sound f u refl refl refl refl refl refl refl) refl
+      free_outcome n s x m m2 b c vcpu others may sound f d.wrote u d.hand (beside n s x m m2 b c vcpu others may sound f u refl refl refl refl refl refl refl) refl
       (record {
         refs = out_other (λ y. y.frame) f (b s).refs u.refs refl;
         typed = cons_other (λ y. y.frame) f (b s).typed u.typed _ refl refl;
@@ -66,7 +66,7 @@ module _ (n : Machine) (s : ℕ) (x : Step) (m m2 : Place → ℕ) (b c : ℕ �
       (held_same k l kind (ap (λ (y : KindWord). y.validated) left) (ap (λ (y : KindWord). y.partial) left) (ap (λ (y : KindWord). y.progress) left)) kind
       (let z = stamp_live (m2 (Kind f)) l d.fields_is (ap (λ (y : KindWord). y.validated) left ∙ d.may.live) in omega arith)
       (omega arith) (omega arith) refl
-      (λ e. (keeps_kind n s x m m2 b c seat others may sound f k l d.fields_was d.fields_is kind ∙ ap (λ (y : KindWord). y.kind) d.fields_was, e)) (λ e. e)
+      (λ e. (keeps_kind n s x m m2 b c vcpu others may sound f k l d.fields_was d.fields_is kind ∙ ap (λ (y : KindWord). y.kind) d.fields_was, e)) (λ e. e)
 
   pub lock_outcome : Turned n s x f Locks m m2 (b s) (c s) → Outcome n m2 c
   unfolding EachOf
@@ -81,7 +81,7 @@ module _ (n : Machine) (s : ℕ) (x : Step) (m m2 : Place → ℕ) (b c : ℕ �
       let in_ = cons_here (λ y. y.frame) f (b s).locks u.locks _ refl refl in
       let kind : l.kind ≡ k.kind = ap (λ (y : KindWord). y.kind) left in
       let off = ap bit d.may.unlocked in
-      free_outcome n s x m m2 b c seat others may sound f d.wrote u d.hand (beside n s x m m2 b c seat others may sound f u refl refl refl refl refl refl refl) refl
+      free_outcome n s x m m2 b c vcpu others may sound f d.wrote u d.hand (beside n s x m m2 b c vcpu others may sound f u refl refl refl refl refl refl refl) refl
       (record {
         refs = out_other (λ y. y.frame) f (b s).refs u.refs refl;
         typed = λ g off. refl;
@@ -92,7 +92,7 @@ module _ (n : Machine) (s : ℕ) (x : Step) (m m2 : Place → ℕ) (b c : ℕ �
       (held_same k l kind (ap (λ (y : KindWord). y.validated) left) (ap (λ (y : KindWord). y.partial) left) (ap (λ (y : KindWord). y.progress) left)) kind
       (let z = stamp_live (m2 (Kind f)) l d.fields_is (ap (λ (y : KindWord). y.validated) left ∙ d.may.live) in omega arith)
       (omega arith) (omega arith) (omega arith) (λ e. e)
-      (λ e. (keeps_kind n s x m m2 b c seat others may sound f k l d.fields_was d.fields_is kind ∙ ap (λ (y : KindWord). y.kind) d.fields_was, e))
+      (λ e. (keeps_kind n s x m m2 b c vcpu others may sound f k l d.fields_was d.fields_is kind ∙ ap (λ (y : KindWord). y.kind) d.fields_was, e))
 
   pub pin_outcome : Turned n s x f Pin m m2 (b s) (c s) → Outcome n m2 c
   pin_outcome d =
@@ -106,7 +106,7 @@ module _ (n : Machine) (s : ℕ) (x : Step) (m m2 : Place → ℕ) (b c : ℕ �
       let out = out_here (λ y. y.frame) f (b s).typed u.typed refl d.may.in_hand in
       let kind : l.kind ≡ k.kind = ap (λ (y : KindWord). y.kind) left in
       let off = ap bit d.may.unpinned in
-      free_outcome n s x m m2 b c seat others may sound f d.wrote u d.hand (beside n s x m m2 b c seat others may sound f u refl refl refl refl refl refl refl) refl
+      free_outcome n s x m m2 b c vcpu others may sound f d.wrote u d.hand (beside n s x m m2 b c vcpu others may sound f u refl refl refl refl refl refl refl) refl
       (record {
         refs = λ g off. refl;
         typed = out_other (λ y. y.frame) f (b s).typed u.typed refl;
@@ -132,7 +132,7 @@ module _ (n : Machine) (s : ℕ) (x : Step) (m m2 : Place → ℕ) (b c : ℕ �
       let in_ = cons_here (λ y. y.frame) f (b s).typed u.typed _ refl refl in
       let kind : l.kind ≡ k.kind = ap (λ (y : KindWord). y.kind) left in
       let on = ap bit d.may.pinned in
-      free_outcome n s x m m2 b c seat others may sound f d.wrote u d.hand (beside n s x m m2 b c seat others may sound f u refl refl refl refl refl refl refl) refl
+      free_outcome n s x m m2 b c vcpu others may sound f d.wrote u d.hand (beside n s x m m2 b c vcpu others may sound f u refl refl refl refl refl refl refl) refl
       (record {
         refs = λ g off. refl;
         typed = cons_other (λ y. y.frame) f (b s).typed u.typed _ refl refl;
@@ -143,7 +143,7 @@ module _ (n : Machine) (s : ℕ) (x : Step) (m m2 : Place → ℕ) (b c : ℕ �
       (held_same k l kind (ap (λ (y : KindWord). y.validated) left) (ap (λ (y : KindWord). y.partial) left) (ap (λ (y : KindWord). y.progress) left)) kind
       (let z = stamp_live (m2 (Kind f)) l d.fields_is (ap (λ (y : KindWord). y.validated) left ∙ d.may.live) in omega arith)
       (omega arith) (omega arith) refl
-      (λ e. (keeps_kind n s x m m2 b c seat others may sound f k l d.fields_was d.fields_is kind ∙ ap (λ (y : KindWord). y.kind) d.fields_was, e)) (λ e. e)
+      (λ e. (keeps_kind n s x m m2 b c vcpu others may sound f k l d.fields_was d.fields_is kind ∙ ap (λ (y : KindWord). y.kind) d.fields_was, e)) (λ e. e)
 
   pub take_back_outcome : Turned n s x f TakeBack m m2 (b s) (c s) → Outcome n m2 c
   unfolding EachOf
@@ -157,7 +157,7 @@ module _ (n : Machine) (s : ℕ) (x : Step) (m m2 : Place → ℕ) (b c : ℕ �
       let in_ = cons_here (λ y. y.frame) f (b s).typed u.typed _ refl refl in
       let kind : l.kind ≡ k.kind = ap (λ (y : KindWord). y.kind) left in
       let on = ap bit d.may.kept in
-      free_outcome n s x m m2 b c seat others may sound f d.wrote u d.hand (beside n s x m m2 b c seat others may sound f u refl refl refl refl refl refl refl) refl
+      free_outcome n s x m m2 b c vcpu others may sound f d.wrote u d.hand (beside n s x m m2 b c vcpu others may sound f u refl refl refl refl refl refl refl) refl
       (record {
         refs = λ g off. refl;
         typed = cons_other (λ y. y.frame) f (b s).typed u.typed _ refl refl;
@@ -168,4 +168,4 @@ module _ (n : Machine) (s : ℕ) (x : Step) (m m2 : Place → ℕ) (b c : ℕ �
       (held_same k l kind (ap (λ (y : KindWord). y.validated) left) (ap (λ (y : KindWord). y.partial) left) (ap (λ (y : KindWord). y.progress) left)) kind
       (stamp_kept k l d.fields_was d.fields_is (ap (λ (y : KindWord). y.number) left) (ap (λ (y : KindWord). y.validated) left))
       (omega arith) (omega arith) refl
-      (λ e. (keeps_kind n s x m m2 b c seat others may sound f k l d.fields_was d.fields_is kind ∙ ap (λ (y : KindWord). y.kind) d.fields_was, e)) (λ e. e)
+      (λ e. (keeps_kind n s x m m2 b c vcpu others may sound f k l d.fields_was d.fields_is kind ∙ ap (λ (y : KindWord). y.kind) d.fields_was, e)) (λ e. e)

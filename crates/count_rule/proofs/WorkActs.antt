@@ -42,15 +42,15 @@ not_closing k work closing = grind (arith, nat_tests)
 resumed_work : (k : KindWord) → IsTrue (is_partial k) → IsTrue (is_work (resumed_kind k))
 resumed_work k partial = grind (arith, nat_tests)
 
-module _ (n : Machine) (s : ℕ) (x : Step) (m m2 : Place → ℕ) (b c : ℕ → Holdings) (seat : s < (sizes_of n).vcpus) (others : (t : ℕ) → t ≢ s → c t ≡ b t) (may : MayAct n s x (b s)) (sound : Sound n m b) (f : ℕ) where
+module _ (n : Machine) (s : ℕ) (x : Step) (m m2 : Place → ℕ) (b c : ℕ → Holdings) (vcpu : s < (sizes_of n).vcpus) (others : (t : ℕ) → t ≢ s → c t ≡ b t) (may : MayAct n s x (b s)) (sound : Sound n m b) (f : ℕ) where
   -- a frame that comes into work
   module _ (k l : KindWord) (was : kind_at m f ≡ k) (is : kind_at m2 f ≡ l) (work : IsTrue (is_work l)) (free : is_busy k ≡ false) (w : Work) (of_f : w.frame ≡ f) (word : w.word ≡ m2 (Kind f)) (now : (c s).works ≡ w ∷ (b s).works) where
     none_before : works_on f (b s).works ≡ 0
-    none_before = nobody_works n m b sound.alone f (ap is_busy was ∙ free) s seat
+    none_before = nobody_works n m b sound.alone f (ap is_busy was ∙ free) s vcpu
 
     comes_held : held_of l (Some w.recorded) ≡ held_of k None → HeldAlone n m2 c → held (sizes_of n) m2 c f ≡ held (sizes_of n) m b f
     comes_held same alone =
-        held_mine n m2 c alone f s w seat (ap (work_on f) now ∙ first_by-cons_here (λ y. y.frame) f w (b s).works of_f) ∙ ap (λ y. held_of y (Some w.recorded)) is ∙ same
+        held_mine n m2 c alone f s w vcpu (ap (work_on f) now ∙ first_by-cons_here (λ y. y.frame) f w (b s).works of_f) ∙ ap (λ y. held_of y (Some w.recorded)) is ∙ same
         ∙ sym (held_free n m b sound.alone f (ap is_busy was ∙ free) ∙ ap (λ y. held_of y None) was)
 
     comes_agrees : (refs : (g : ℕ) → g ≢ f → refs_to g (c s).refs ≡ refs_to g (b s).refs) → (l.unflushed ≡ true → w.recorded ≡ 0) → EachOf (WorkAgrees (c s)) (c s).works
@@ -58,7 +58,7 @@ module _ (n : Machine) (s : ℕ) (x : Step) (m m2 : Place → ℕ) (b c : ℕ �
         let fields : kind_fields w.word ≡ l = ap kind_fields word ∙ is in
         works_in f (b s) (c s) refs w now none_before
         (record { marked = λ u. marked (ap (λ (y : KindWord). y.unflushed) (sym fields) ∙ u); closing = λ t. absurd (not_closing l work (subst (λ y. IsTrue (is_closing y)) fields t)) })
-        (sound.works s seat)
+        (sound.works s vcpu)
 
   begun_stamp : (k l : KindWord) → kind_at m f ≡ k → kind_at m2 f ≡ l → k.validated ≡ false → l.number ≡ (if is_stale k l.kind then k.number else 0) → kind_stamp (m2 (Kind f)) ≤ m Clock
   begun_stamp k l was is dead number =
@@ -72,7 +72,7 @@ module _ (n : Machine) (s : ℕ) (x : Step) (m m2 : Place → ℕ) (b c : ℕ �
   resume_outcome d =
       let k = d.k in
       let l = d.l in
-      let u = turned_hand n s x m m2 b c seat others may sound f Resume k l in
+      let u = turned_hand n s x m m2 b c vcpu others may sound f Resume k l in
       let left = d.may.left in
       let form = form_read _ k d.was in
       let was = partial_says k form d.may.partial in
@@ -84,7 +84,7 @@ module _ (n : Machine) (s : ℕ) (x : Step) (m m2 : Place → ℕ) (b c : ℕ �
       let typed_in = maybe_here (λ y. y.frame) f (b s).typed u.typed k.kept _ refl refl in
       let works_more = cons_here (λ y. y.frame) f (b s).works u.works _ refl refl in
       let rest =
-      rest_by n s x m m2 b c seat others may sound f u d.hand (beside n s x m m2 b c seat others may sound f u refl refl refl refl refl refl refl)
+      rest_by n s x m m2 b c vcpu others may sound f u d.hand (beside n s x m m2 b c vcpu others may sound f u refl refl refl refl refl refl refl)
       (record {
         refs = λ g off. refl;
         typed = maybe_other (λ y. y.frame) f (b s).typed u.typed k.kept _ refl refl;
@@ -92,13 +92,13 @@ module _ (n : Machine) (s : ℕ) (x : Step) (m m2 : Place → ℕ) (b c : ℕ �
       })
       (cons_other (λ y. y.frame) f (b s).works u.works _ refl refl) (recorded_cons f (b s).works u.works _ refl refl)
       in
-      turn_outcome n s x m m2 b c seat others may sound f d.wrote u d.hand rest k l 1 (bit k.kept) 0 0 1 0 1 0
+      turn_outcome n s x m m2 b c vcpu others may sound f d.wrote u d.hand rest k l 1 (bit k.kept) 0 0 1 0 1 0
       (record { was = d.fields_was; is = d.fields_is; says = was; tells = left_says l (resumed_kind k) _ _ _ _ left is })
-      (stamp_kept n s x m m2 b c seat others may sound f k l d.fields_was d.fields_is (ap (λ (y : KindWord). y.number) left) (ap (λ (y : KindWord). y.validated) left))
+      (stamp_kept n s x m m2 b c vcpu others may sound f k l d.fields_was d.fields_is (ap (λ (y : KindWord). y.number) left) (ap (λ (y : KindWord). y.validated) left))
       (omega arith) (omega arith) (omega arith) refl
       (comes_held k l d.fields_was d.fields_is work free _ refl refl now (held_work l k.progress ∙ ap (λ y. if is_table y then k.progress else 0) kind ∙ sym (held_partial k d.may.partial)))
-      (inl (keeps_kind n s x m m2 b c seat others may sound f k l d.fields_was d.fields_is kind))
-      (λ e. EachOf-maybe (λ y. HasType m2 y.frame y.kind) k.kept _ (b s).typed (λ on. keeps_kind n s x m m2 b c seat others may sound f k l d.fields_was d.fields_is kind ∙ ap (λ (y : KindWord). y.kind) d.fields_was) e) (λ e. e)
+      (inl (keeps_kind n s x m m2 b c vcpu others may sound f k l d.fields_was d.fields_is kind))
+      (λ e. EachOf-maybe (λ y. HasType m2 y.frame y.kind) k.kept _ (b s).typed (λ on. keeps_kind n s x m m2 b c vcpu others may sound f k l d.fields_was d.fields_is kind ∙ ap (λ (y : KindWord). y.kind) d.fields_was) e) (λ e. e)
       (comes_agrees k l d.fields_was d.fields_is work free _ refl refl now rest.refs (λ e. marked_none k form d.may.partial (ap (λ (y : KindWord). y.unflushed) (sym left) ∙ e)))
 
   pub begin_outcome : Turned n s x f Begin m m2 (b s) (c s) → Outcome n m2 c
@@ -106,7 +106,7 @@ module _ (n : Machine) (s : ℕ) (x : Step) (m m2 : Place → ℕ) (b c : ℕ �
   begin_outcome d =
       let k = d.k in
       let l = d.l in
-      let u = turned_hand n s x m m2 b c seat others may sound f Begin k l in
+      let u = turned_hand n s x m m2 b c vcpu others may sound f Begin k l in
       let left = d.may.left in
       let was = dead_says k (form_read _ k d.was) d.may.dead in
       let is = work_says (begun_kind k l.kind) (ap has_form (sym left) ∙ form_read _ l d.is) refl in
@@ -118,7 +118,7 @@ module _ (n : Machine) (s : ℕ) (x : Step) (m m2 : Place → ℕ) (b c : ℕ �
       let works_more = cons_here (λ y. y.frame) f (b s).works u.works _ refl refl in
       let nothing : held (sizes_of n) m b f ≡ 0 = held_free n m b sound.alone f (ap is_busy d.fields_was ∙ free) ∙ ap (λ y. held_of y None) d.fields_was ∙ held_dead k d.may.dead in
       let rest =
-      rest_by n s x m m2 b c seat others may sound f u d.hand (beside n s x m m2 b c seat others may sound f u refl refl refl refl refl refl refl)
+      rest_by n s x m m2 b c vcpu others may sound f u d.hand (beside n s x m m2 b c vcpu others may sound f u refl refl refl refl refl refl refl)
       (record {
         refs = out_other (λ y. y.frame) f (b s).refs u.refs refl;
         typed = cons_other (λ y. y.frame) f (b s).typed u.typed _ refl refl;
@@ -126,7 +126,7 @@ module _ (n : Machine) (s : ℕ) (x : Step) (m m2 : Place → ℕ) (b c : ℕ �
       })
       (cons_other (λ y. y.frame) f (b s).works u.works _ refl refl) (recorded_cons f (b s).works u.works _ refl refl)
       in
-      turn_outcome n s x m m2 b c seat others may sound f d.wrote u d.hand rest k l 0 0 0 0 1 0 1 0
+      turn_outcome n s x m m2 b c vcpu others may sound f d.wrote u d.hand rest k l 0 0 0 0 1 0 1 0
       (record { was = d.fields_was; is = d.fields_is; says = was; tells = left_says l (begun_kind k l.kind) _ _ _ _ left is })
       (begun_stamp k l d.fields_was d.fields_is (dead_unlive k d.may.dead) (ap (λ (y : KindWord). y.number) left))
       (omega arith) (omega arith) (omega arith) refl

@@ -66,7 +66,7 @@ module _ (n : Machine) (m : Place → ℕ) (b : ℕ → Holdings) (sound : Sound
     (let e = live_count (kind_at m f) live in let w = type_below (sizes_of n) m b f sound.counts in let q = counted_alive n m b sound.alone f t l (omega arith) in omega arith),
   )
 
-  -- ---- what another seat is spared
+  -- ---- what another vCPU is spared
   pub spared_alone : (m2 : Place → ℕ) (i t : ℕ) → works_on f (b t).works ≡ 0 → claims_of f (b t).claimed ≡ 0 →
       (0 < locks_on f (b t).locks → IsTrue (is_same_entry (m2 (Cell f i)) (m (Cell f i)))) → CellSpared m m2 f i (b t)
   spared_alone m2 i t works claims locks =
@@ -78,7 +78,7 @@ module _ (n : Machine) (m : Place → ℕ) (b : ℕ → Holdings) (sound : Sound
             (λ e there h at below. absurd (let k = subst (λ g. 0 < works_on g (b t).works) at there in omega arith)) (EachOf-all (λ e. Unit {0}) (b t).works (λ e. tt));
       }
 
-  -- and what the seat that writes knows of its own
+  -- and what the vCPU that writes knows of its own
   pub fix_none : (m2 : Place → ℕ) (i s : ℕ) → works_on f (b s).works ≡ 0 →
       EachOf (λ e. (j : ℕ) → Cell f i ≡ Cell e.frame j → j < e.fixed → IsTrue (is_fixed (m2 (Cell f i)))) (b s).works
   fix_none m2 i s none =

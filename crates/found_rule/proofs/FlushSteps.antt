@@ -6,7 +6,7 @@ use Rattle.xp_words.specs.Places.{sizes_of, Place, Clock, Vcpu, Refs, Kind, Cell
 use Rattle.xp_board.specs.declared.step.Step.{Step}
 use Rattle.xp_board.specs.declared.holdings.Holdings.{Holdings}
 use Rattle.xp_board.specs.Steps.{left_of, EachSince}
-use Rattle.xp_board.specs.Readings.{told_value}
+use Rattle.xp_board.specs.Readings.{clock_value}
 use Rattle.xp_board.specs.Reach.{Reach}
 use Rattle.xp_board.specs.Found.{ClockFound, before_off, FlushedSinceOff, ColdSinceOff}
 use Rattle.xp_board.specs.AckSteps.{after_ack}
@@ -16,7 +16,7 @@ use Rattle.step_effects.proofs.ActEffects.{Flushed}
 use Rattle.found_rule.proofs.Learning.{Act, act}
 use Rattle.found_rule.proofs.ReachSame.{reach_same}
 use Rattle.found_rule.proofs.Words.{Words}
-use Rattle.found_rule.proofs.WordFacts.{told_some, off_same, cold_same}
+use Rattle.found_rule.proofs.WordFacts.{clock_some, off_same, cold_same}
 use Rattle.found_rule.proofs.WordsOf.{words_lone, lone_vcpu}
 use Rattle.found_rule.proofs.HandFacts.{ReachKept}
 use Rattle.found_rule.proofs.MyHand.{HandRight, hand_with, mine_by}
@@ -57,7 +57,7 @@ module _ (n : Machine) (s : ℕ) (x : Step) (m m2 : Place → ℕ) (b c : ℕ �
         hand_with n s (Vcpu s k) m m2 b c u acted l sound words reach refs typed works locks ending claimed (λ f. acted.others (Kind f) (λ e. cc)) (λ f. acted.others (Refs f) (λ e. cc))
         (fix_kept n s (Vcpu s k) m m2 b c u acted l sound cells) (zero_kept n s (Vcpu s k) m m2 b c u acted l sound cells) acks
 
-    -- the vCPUs of other seats
+    -- the vCPUs of other vCPUs
     pub other_off : (v : ℕ) → v ≢ s → (w : Holdings) → FlushedSinceOff (sizes_of n) m b v w → FlushedSinceOff (sizes_of n) m2 c v w
     other_off v off w h =
         off_same n m m2 b c v (acted.others (run_of v) (λ e. off (cc))) (ap (λ y. y.cold) (others v off)) w (acted.others (flushed_of v) (λ e. off (cc))) h
@@ -91,22 +91,22 @@ module _ (n : Machine) (s : ℕ) (x : Step) (m m2 : Place → ℕ) (b c : ℕ �
       let P : ℕ → Type 0 = λ y. (m (run_of s) ≢ 0) ⊎ (((b s).cold ≡ true) ⊎ (y < m (flushed_of s))) in
       let C : ℕ → Type 0 = λ y. EachSince z (b s).ran Clock (λ w. y ≤ w) (b s).steps in
       elim (cases_eq (m (run_of s)) 0) [
-        | inr idle ↦ (let o : m2 (run_of s) ≢ 0 = (λ e. idle (sym run ∙ e)) in EachOf-all (λ y. Q (told_value (place_at z y.step.place) y.found) × Q (told_value (place_at z y.step.place) (left_of y))) (before_off z s h) (λ y. (inl o, inl o)))
+        | inr idle ↦ (let o : m2 (run_of s) ≢ 0 = (λ e. idle (sym run ∙ e)) in EachOf-all (λ y. Q (clock_value (place_at z y.step.place) y.found) × Q (clock_value (place_at z y.step.place) (left_of y))) (before_off z s h) (λ y. (inl o, inl o)))
         | inl runs ↦
             elim (cases_Bool (b s).cold) [
               | inr warm ↦
-                  EachOf-map (λ y. P (told_value (place_at z y.step.place) y.found) × P (told_value (place_at z y.step.place) (left_of y)))
-                  (λ y. Q (told_value (place_at z y.step.place) y.found) × Q (told_value (place_at z y.step.place) (left_of y))) (before_off z s h)
-                  (λ y t. (warm_off later runs warm (told_value (place_at z y.step.place) y.found) t.0, warm_off later runs warm (told_value (place_at z y.step.place) (left_of y)) t.1)) off
+                  EachOf-map (λ y. P (clock_value (place_at z y.step.place) y.found) × P (clock_value (place_at z y.step.place) (left_of y)))
+                  (λ y. Q (clock_value (place_at z y.step.place) y.found) × Q (clock_value (place_at z y.step.place) (left_of y))) (before_off z s h)
+                  (λ y t. (warm_off later runs warm (clock_value (place_at z y.step.place) y.found) t.0, warm_off later runs warm (clock_value (place_at z y.step.place) (left_of y)) t.1)) off
               | inl is ↦
-                  EachOf-map (λ y. C (told_value (place_at z y.step.place) y.found) × C (told_value (place_at z y.step.place) (left_of y)))
-                  (λ y. Q (told_value (place_at z y.step.place) y.found) × Q (told_value (place_at z y.step.place) (left_of y))) (before_off z s h)
-                  (λ y t. (cold_off d is (told_value (place_at z y.step.place) y.found) t.0, cold_off d is (told_value (place_at z y.step.place) (left_of y)) t.1)) (cold is runs)
+                  EachOf-map (λ y. C (clock_value (place_at z y.step.place) y.found) × C (clock_value (place_at z y.step.place) (left_of y)))
+                  (λ y. Q (clock_value (place_at z y.step.place) y.found) × Q (clock_value (place_at z y.step.place) (left_of y))) (before_off z s h)
+                  (λ y t. (cold_off d is (clock_value (place_at z y.step.place) y.found) t.0, cold_off d is (clock_value (place_at z y.step.place) (left_of y)) t.1)) (cold is runs)
             ]
       ]
 
   pub flushed_done : Flushed n s x m m2 (b s) (c s) → Done n s m m2 b c
-  unfolding told_value
+  unfolding clock_value
   flushed_done d =
       let w = d.wrote in
       let z = sizes_of n in
@@ -115,8 +115,8 @@ module _ (n : Machine) (s : ℕ) (x : Step) (m m2 : Place → ℕ) (b c : ℕ �
       let new = m2 (flushed_of s) in
       let acted = act n s x p m m2 (b s) u (c s) w.place w.real w.left w.others refl refl refl refl (d.hand ∙ ap (noted x (m p)) (sym (either (λ y. y ≡ u) (s == s) u u refl refl))) in
       let f = sound.found s l in
-      let within : new ≤ m Clock = told_some z (b s).acked new (m Clock) (b s).steps f.clock d.may.told in
-      let since = EachSince-some z (b s).acked Clock (λ y. m (flushed_of s) ≤ y) (λ y. y == new) (b s).steps f.since_ack d.may.told in
+      let within : new ≤ m Clock = clock_some z (b s).acked new (m Clock) (b s).steps f.clock d.may.was_found in
+      let since = EachSince-some z (b s).acked Clock (λ y. m (flushed_of s) ≤ y) (λ y. y == new) (b s).steps f.since_ack d.may.was_found in
       let later : m (flushed_of s) ≤ new = (let e = eqb-true since.0 new since.2 in let k = since.1 in omega arith) in
       let words = words_lone n s m m2 b sound p w.others (λ g e. cc) (λ g e. cc) (λ g i e. cc)
       (lone_vcpu n s m m2 b sound p w.others s 5 refl

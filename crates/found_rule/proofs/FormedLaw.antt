@@ -1,4 +1,4 @@
--- The holdings of the seat that acts stay well formed: from those that the act leaves, before it learns of the word.
+-- The holdings of the vCPU that acts stay well formed: from those that the act leaves, before it learns of the word.
 use Rattle.std.proofs.Common.{◌≡◌, ◌≢◌, ℕ, suc, ◌≤◌, true, length, Option, Some, refl, sym, ap, subst, ◌∙◌, arith}
 use Rattle.xp_words.specs.KindWords.{kind_fields}
 use Rattle.xp_words.specs.Machine.{Machine}

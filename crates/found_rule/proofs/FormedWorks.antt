@@ -41,7 +41,7 @@ last_none z e ys (Some u) h = absurd (h u refl)
 last_none z e ys None h = tt
 
 module _ (n : Machine) (a b : Holdings) (longer : length a.steps ≤ length b.steps)
-    (told : (o : ℕ) (p : Place) (test : ℕ → Bool) → IsTrue (some_before (sizes_of n) o p test a.steps) → IsTrue (some_before (sizes_of n) o p test b.steps)) where
+    (was_found : (o : ℕ) (p : Place) (test : ℕ → Bool) → IsTrue (some_before (sizes_of n) o p test a.steps) → IsTrue (some_before (sizes_of n) o p test b.steps)) where
   -- no word of the frame was found
   pub work_stays : (e : Work) → ((i : ℕ) → last_since (sizes_of n) e.unmarked (Cell e.frame i) b.steps ≡ last_since (sizes_of n) e.unmarked (Cell e.frame i) a.steps) →
       IsWorkFormed n a e → IsWorkFormed n b e
@@ -53,7 +53,7 @@ module _ (n : Machine) (a b : Holdings) (longer : length a.steps ≤ length b.st
         seen = seen_same (sizes_of n) e.unmarked e.frame a.steps b.steps e.seen k c.seen;
         last = last_same (sizes_of n) e a.steps b.steps e.unsettled k c.last;
         unsettled = λ x t. let u = c.unsettled x t in (u.0, (let v = u.1 in omega arith));
-        told = λ t. told e.since (Kind e.frame) (λ w. w == e.word) (c.told t);
+        was_found = λ t. was_found e.since (Kind e.frame) (λ w. w == e.word) (c.was_found t);
         fixed = c.fixed;
         order = c.order;
         past = let p = c.past in omega arith;
@@ -70,7 +70,7 @@ module _ (n : Machine) (a b : Holdings) (longer : length a.steps ≤ length b.st
         seen = seen_none (sizes_of n) e.unmarked e.frame b.steps e.seen (c.marked m);
         last = last_none (sizes_of n) e b.steps e.unsettled (λ x t. let u = (c.unsettled x t).0 in let r = f.marked m in omega arith);
         unsettled = λ x t. let u = c.unsettled x t in (u.0, (let v = u.1 in omega arith));
-        told = λ t. told e.since (Kind e.frame) (λ w. w == e.word) (c.told t);
+        was_found = λ t. was_found e.since (Kind e.frame) (λ w. w == e.word) (c.was_found t);
         fixed = c.fixed;
         order = c.order;
         past = let p = c.past in omega arith;
@@ -114,7 +114,7 @@ module _ (n : Machine) (a b : Holdings) (longer : length a.steps ≤ length b.st
           seen = here;
           last = last_learned e.unsettled (λ x t. (c.unsettled x t).0) c.last;
           unsettled = unsettled_learned e.unsettled c.unsettled;
-          told = λ t. told e.since (Kind e.frame) (λ y. y == e.word) (c.told t);
+          was_found = λ t. was_found e.since (Kind e.frame) (λ y. y == e.word) (c.was_found t);
           fixed = fixed_learned (counts_fixed i w e) refl m c.fixed;
           order = c.order;
           past = let p = c.past in omega arith;

@@ -1,4 +1,4 @@
--- All that seats have found stays true at an act of seat s that leaves words so, and of whose own hand what it has is known.
+-- All that vCPUs have found stays true at an act of vCPU s that leaves words so, and of whose own hand what it has is known.
 use Rattle.std.proofs.Common.{◌≡◌, ◌≢◌, ℕ, ◌<◌, ◌≤◌, length, Option, Some, sym, ap, subst, ◌∙◌, ◌⊎◌, inl, inr, arith}
 use Rattle.std.proofs.lemmas.Bool.{cases_eq}
 use Rattle.xp_words.specs.Machine.{Machine}
@@ -7,7 +7,7 @@ use Rattle.xp_board.specs.declared.holdings.TypedReference.{TypedReference}
 use Rattle.xp_board.specs.declared.holdings.Lock.{Lock}
 use Rattle.xp_board.specs.declared.holdings.Holdings.{Holdings}
 use Rattle.xp_board.specs.Lists.{EachOf}
-use Rattle.xp_board.specs.Readings.{kind_at, domain_of, told_value, type_count}
+use Rattle.xp_board.specs.Readings.{kind_at, domain_of, clock_value, type_count}
 use Rattle.xp_board.specs.Found.{ClockFound, ClockSinceAck, FlushedSinceOff, ColdSinceOff, WorkFound, LockFound, EndingFound, ClaimFound, OwnFound, Found}
 use Rattle.xp_board.specs.Sound.{Sound, WorkAgrees}
 use Rattle.found_rule.proofs.Growth.{Grown, stayed, added}
@@ -17,7 +17,7 @@ use Rattle.found_rule.proofs.WordFacts.{clock_law, flushed_law, stopped_law, lif
 use Rattle.found_rule.proofs.KnownFacts.{RefRight, TypedRight, LockRight, KnownRight, known_each, owners_by, lives_by, partials_by}
 use Rattle.found_rule.proofs.KnownStays.{owner_right, live_right, live_kept, partial_right}
 use Rattle.found_rule.proofs.HandFacts.{ReachKept, their_work, their_lock, their_claim}
-use Rattle.found_rule.proofs.SoundWords.{told_within, had, work_counted, typed_ref_counted, lock_counted, ref_counted}
+use Rattle.found_rule.proofs.SoundWords.{clock_within, had, work_counted, typed_ref_counted, lock_counted, ref_counted}
 use Rattle.xp_board.specs.Steps.{last_since}
 use Rattle.board_lemmas.proofs.PlaceTests.{same_or_other}
 use Rattle.board_lemmas.proofs.ListCounts.{EachOf-both, EachOf-there}
@@ -31,7 +31,7 @@ pub record Offs (n : Machine) (m m2 : Place → ℕ) (b c : ℕ → Holdings) : 
       FlushedSinceOff (sizes_of n) m2 c v u
   pub cold : (v : ℕ) → v < (sizes_of n).vcpus → (u : Holdings) → ClockFound (sizes_of n) m u → ColdSinceOff (sizes_of n) m b v u → ColdSinceOff (sizes_of n) m2 c v u
 
--- of the hand of the seat that acts
+-- of the hand of the vCPU that acts
 pub record Mine (n : Machine) (s : ℕ) (p : Place) (m m2 : Place → ℕ) (b c : ℕ → Holdings) (u : Holdings) : Type 0 where
   pub act : Act n s p m m2 (b s) u (c s)
   pub known : KnownRight (sizes_of n) m2 (c s)
@@ -85,10 +85,10 @@ module _ (n : Machine) (m m2 : Place → ℕ) (b : ℕ → Holdings) (sound : So
 -- ---- all facts
 module _ (n : Machine) (s : ℕ) (p : Place) (m m2 : Place → ℕ) (b c : ℕ → Holdings) (u : Holdings) (l : s < (sizes_of n).vcpus) (sound : Sound n m b)
     (words : Words n s m m2 b) (reach : ReachKept n m m2 b c) (offs : Offs n m m2 b c) (others : (t : ℕ) → t ≢ s → c t ≡ b t) where
-  told_was : (q : Place) → told_value q (m q) ≤ m Clock
-  told_was q = told_within n m sound.stamped q
+  clock_was : (q : Place) → clock_value q (m q) ≤ m Clock
+  clock_was q = clock_within n m sound.stamped q
 
-  -- of another seat
+  -- of another vCPU
   module _ (t : ℕ) (k : t < (sizes_of n).vcpus) (d : t ≢ s) (same : c t ≡ b t) where
     steps : (c t).steps ≡ (b t).steps
     steps = ap (λ y. y.steps) same
@@ -155,13 +155,13 @@ module _ (n : Machine) (s : ℕ) (p : Place) (m m2 : Place → ℕ) (b c : ℕ �
         let j = words.moves in
         let a = b t in
         record {
-          clock = (clock_law n m m2 j told_was a (c t) grown f.clock);
-          flushed = (flushed_law n m m2 j told_was a (c t) grown f.flushed);
-          stopped = (stopped_law n m m2 j told_was a (c t) grown f.stopped);
-          life = (life_law n m m2 j told_was a (c t) grown f.life);
-          since_ack = (since_ack_law n m m2 j told_was a (c t) grown t (sound.stamped.flushed t) spared.flushed (ap (λ y. y.acked) same) f.since_ack);
-          since_off = λ v r. (since_off_law n m m2 j told_was a (c t) grown b c v (λ o. offs.off v r a f.clock o (f.cold_off v r)) (f.since_off v r));
-          cold_off = λ v r. (cold_off_law n m m2 j told_was a (c t) grown b c v (λ o. offs.cold v r a f.clock o) (f.cold_off v r));
+          clock = (clock_law n m m2 j clock_was a (c t) grown f.clock);
+          flushed = (flushed_law n m m2 j clock_was a (c t) grown f.flushed);
+          stopped = (stopped_law n m m2 j clock_was a (c t) grown f.stopped);
+          life = (life_law n m m2 j clock_was a (c t) grown f.life);
+          since_ack = (since_ack_law n m m2 j clock_was a (c t) grown t (sound.stamped.flushed t) spared.flushed (ap (λ y. y.acked) same) f.since_ack);
+          since_off = λ v r. (since_off_law n m m2 j clock_was a (c t) grown b c v (λ o. offs.off v r a f.clock o (f.cold_off v r)) (f.since_off v r));
+          cold_off = λ v r. (cold_off_law n m m2 j clock_was a (c t) grown b c v (λ o. offs.cold v r a f.clock o) (f.cold_off v r));
           owners = (owners_by (sizes_of n) m2 (c t) known);
           lives = (lives_by (sizes_of n) m2 (c t) known);
           partials = (partials_by (sizes_of n) m2 (c t) known);
@@ -169,11 +169,11 @@ module _ (n : Machine) (s : ℕ) (p : Place) (m m2 : Place → ℕ) (b c : ℕ �
           locks = (subst (λ xs. EachOf (LockFound (sizes_of n) m2 (c t)) xs) (sym (ap (λ y. y.locks) same)) locks);
           endings = (subst (λ xs. EachOf (EndingFound m2) xs) (sym (ap (λ y. y.ending) same)) endings);
           claims = (subst (λ xs. EachOf (ClaimFound (sizes_of n) m2 (domain_of n t) (c t)) xs) (sym (ap (λ y. y.claimed) same)) claims);
-          privileges = (privileges_law n m m2 j told_was a (c t) grown (had n m b sound) f.privileges);
+          privileges = (privileges_law n m m2 j clock_was a (c t) grown (had n m b sound) f.privileges);
           own = own;
         }
 
-  -- of the seat that acts
+  -- of the vCPU that acts
   module _ (mine : Mine n s p m m2 b c u) where
     acted : Act n s p m m2 (b s) u (c s)
     acted = mine.act
@@ -199,7 +199,7 @@ module _ (n : Machine) (s : ℕ) (p : Place) (m m2 : Place → ℕ) (b c : ℕ �
 
     my_acks : ((m2 (flushed_of s) ≡ m (flushed_of s)) × ((c s).acked ≡ (b s).acked)) ⊎ (length (c s).steps ≤ (c s).acked) → ClockSinceAck (sizes_of n) m2 s (c s)
     unfolding more acted
-    my_acks (inl same) = since_ack_law n m m2 words.moves told_was (b s) (c s) more s (sound.stamped.flushed s) same.0 same.1 (sound.found s l).since_ack
+    my_acks (inl same) = since_ack_law n m m2 words.moves clock_was (b s) (c s) more s (sound.stamped.flushed s) same.0 same.1 (sound.found s l).since_ack
     my_acks (inr now) = EachSince-none (sizes_of n) (c s).acked Clock (λ w. m2 (flushed_of s) ≤ w) (c s).steps now
 
     pub my_found : Found n m2 c s
@@ -209,13 +209,13 @@ module _ (n : Machine) (s : ℕ) (p : Place) (m m2 : Place → ℕ) (b c : ℕ �
         let j = words.moves in
         let a = b s in
         record {
-          clock = clock_law n m m2 j told_was a (c s) more f.clock;
-          flushed = flushed_law n m m2 j told_was a (c s) more f.flushed;
-          stopped = stopped_law n m m2 j told_was a (c s) more f.stopped;
-          life = life_law n m m2 j told_was a (c s) more f.life;
+          clock = clock_law n m m2 j clock_was a (c s) more f.clock;
+          flushed = flushed_law n m m2 j clock_was a (c s) more f.flushed;
+          stopped = stopped_law n m m2 j clock_was a (c s) more f.stopped;
+          life = life_law n m m2 j clock_was a (c s) more f.life;
           since_ack = my_acks mine.acked;
-          since_off = λ v r. since_off_law n m m2 j told_was a (c s) more b c v (λ o. offs.off v r a f.clock o (f.cold_off v r)) (f.since_off v r);
-          cold_off = λ v r. cold_off_law n m m2 j told_was a (c s) more b c v (λ o. offs.cold v r a f.clock o) (f.cold_off v r);
+          since_off = λ v r. since_off_law n m m2 j clock_was a (c s) more b c v (λ o. offs.off v r a f.clock o (f.cold_off v r)) (f.since_off v r);
+          cold_off = λ v r. cold_off_law n m m2 j clock_was a (c s) more b c v (λ o. offs.cold v r a f.clock o) (f.cold_off v r);
           owners = owners_by (sizes_of n) m2 (c s) mine.known;
           lives = lives_by (sizes_of n) m2 (c s) mine.known;
           partials = partials_by (sizes_of n) m2 (c s) mine.known;
@@ -223,7 +223,7 @@ module _ (n : Machine) (s : ℕ) (p : Place) (m m2 : Place → ℕ) (b c : ℕ �
           locks = mine.locks;
           endings = mine.endings;
           claims = mine.claims;
-          privileges = privileges_law n m m2 j told_was a (c s) more (had n m b sound) f.privileges;
+          privileges = privileges_law n m m2 j clock_was a (c s) more (had n m b sound) f.privileges;
           own = record {
             run = λ y q. own_word (run_of s) a.run u.run (c s).run y acted.run acted.learned.run (λ o. f.own.run y o) q;
             words = λ k y o e r q. left_there (Vcpu s k) y (λ t. f.own.words k y o e (λ h. r (words.moves.stopped s h)) t) q (same_or_other (Vcpu s k) p);

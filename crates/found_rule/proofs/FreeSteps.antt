@@ -20,7 +20,7 @@ use Rattle.step_effects.proofs.ActEffects.{Took, Freed, Gave}
 use Rattle.found_rule.proofs.Learning.{Act, act}
 use Rattle.found_rule.proofs.Words.{Words}
 use Rattle.found_rule.proofs.WordsAt.{words_refs}
-use Rattle.found_rule.proofs.WordFacts.{told_some}
+use Rattle.found_rule.proofs.WordFacts.{clock_some}
 use Rattle.found_rule.proofs.KnownFacts.{RefRight, TypedRight, LockRight}
 use Rattle.found_rule.proofs.HandFacts.{ReachKept}
 use Rattle.found_rule.proofs.MyHand.{HandRight, refs_old, typed_old, lock_right_old, works_old, locks_old, endings_old, claims_old}
@@ -134,13 +134,13 @@ module _ (n : Machine) (s : ℕ) (x : Step) (m m2 : Place → ℕ) (b c : ℕ �
     left_claimed_formed =
         EachOf-without (λ e. e.since ≤ suc (length (b s).steps)) (λ e. e.frame) f (b s).claimed (claimed_formed_old n s (Refs f) m m2 (b s) u (c s) acted (sound.formed s l))
 
-  free_stamp_told : (stamp : ℕ) (e : Option Ending) (k : Option Claimed) → IsFreeStamp n stamp (b s) e k → claim_of f (b s).claimed ≡ k → stamp ≤ m Clock
-  free_stamp_told stamp (Some e) k told is = told_some (sizes_of n) e.since stamp (m Clock) (b s).steps (sound.found s l).clock told
-  free_stamp_told stamp None (Some e) told is =
+  free_stamp_found : (stamp : ℕ) (e : Option Ending) (k : Option Claimed) → IsFreeStamp n stamp (b s) e k → claim_of f (b s).claimed ≡ k → stamp ≤ m Clock
+  free_stamp_found stamp (Some e) k was_found is = clock_some (sizes_of n) e.since stamp (m Clock) (b s).steps (sound.found s l).clock was_found
+  free_stamp_found stamp None (Some e) was_found is =
       let h = EachOf-first (ClaimFound (sizes_of n) m (domain_of n s) (b s)) (λ y. y.frame) f e (b s).claimed (sound.found s l).claims is in
       let k = h.stamp in
       omega arith
-  free_stamp_told stamp None None told is = absurd told
+  free_stamp_found stamp None None was_found is = absurd was_found
 
   pub freed_done : Freed n s x f m m2 (b s) (c s) → Done n s m m2 b c
   unfolding times_by
@@ -151,7 +151,7 @@ module _ (n : Machine) (s : ℕ) (x : Step) (m m2 : Place → ℕ) (b c : ℕ �
       let some = d.may.raised in
       let formed = sound.formed s l in
       let held : 0 < endings_of f (b s).ending + claims_of f (b s).claimed = (let q = formed.raised.held f in omega arith) in
-      let told = free_stamp_told d.stamp (ending_of f (b s).ending) (claim_of f (b s).claimed) d.may.told refl in
+      let was_found = free_stamp_found d.stamp (ending_of f (b s).ending) (claim_of f (b s).claimed) d.may.was_found refl in
       let stamp : free_stamp (m2 (Refs f)) ≤ m Clock = (let q = (free_says (m2 (Refs f)) d.stamp d.is).stamp in omega arith) in
       record {
         found = left_outcome held stamp u acted refl refl refl refl

@@ -1,10 +1,10 @@
--- The steps of a seat: those of another seat stay, and the seat that acts has one more.
+-- The steps of a vCPU: those of another vCPU stay, and the vCPU that acts has one more.
 use Rattle.std.proofs.Common.{◌≡◌, ◌≢◌, ℕ, suc, ◌≤◌, ◌&&◌, nat_lt, Bool, List, ◌∷◌, length, Some, IsTrue, sym, ap, subst, ◌∙◌, ◌⊎◌, inl, inr, arith}
 use Rattle.xp_words.specs.Places.{Sizes, Place, is_place, place_at}
 use Rattle.xp_board.specs.declared.holdings.Made.{Made}
 use Rattle.xp_board.specs.Lists.{EachOf}
 use Rattle.xp_board.specs.Steps.{is_at, left_of, some_since, some_before, last_since, EachSince, steps_before}
-use Rattle.xp_board.specs.Readings.{told_value}
+use Rattle.xp_board.specs.Readings.{clock_value}
 use Rattle.board_lemmas.proofs.HandLists.{EachOf-more}
 use Rattle.board_lemmas.proofs.StepLists.{one_more}
 use Rattle.board_lemmas.proofs.MoreSteps.{some_since-cases, last_since-cases, EachSince-more, steps_before-cases}
@@ -50,7 +50,7 @@ grown_last z m m2 xs ys n p w (added x q a e) h =
       | inr old ↦ inr old.1
     ]
 
--- the same for the seat that acts: else it was elsewhere
+-- the same for the vCPU that acts: else it was elsewhere
 pub added_last : (z : Sizes) (m m2 : Place → ℕ) (x : Made) (q : Place) (xs ys : List Made) (n : ℕ) (p : Place) (w : ℕ) → Added z m m2 x q → ys ≡ x ∷ xs →
     last_since z n p ys ≡ Some w → (m2 p ≡ w) ⊎ ((p ≢ q) × (last_since z n p xs ≡ Some w))
 added_last z m m2 x q xs ys n p w a e h =
@@ -68,14 +68,14 @@ grown_before z m m2 xs ys p test (added x q a e) =
       | inr old ↦ inr (ap (steps_before z p test) e ∙ old)
     ]
 
-pub grown_told : (z : Sizes) (m m2 : Place → ℕ) (xs ys : List Made) (P : ℕ → Type 0) → Grown z m m2 xs ys →
-    ((p : Place) → P (told_value p (m p))) → ((p : Place) → P (told_value p (m2 p))) →
-    EachOf (λ x. P (told_value (place_at z x.step.place) x.found) × P (told_value (place_at z x.step.place) (left_of x))) xs →
-    EachOf (λ x. P (told_value (place_at z x.step.place) x.found) × P (told_value (place_at z x.step.place) (left_of x))) ys
-grown_told z m m2 xs ys P (stayed e) was is h = rw e h
-grown_told z m m2 xs ys P (added x q a e) was is h =
+pub grown_clock : (z : Sizes) (m m2 : Place → ℕ) (xs ys : List Made) (P : ℕ → Type 0) → Grown z m m2 xs ys →
+    ((p : Place) → P (clock_value p (m p))) → ((p : Place) → P (clock_value p (m2 p))) →
+    EachOf (λ x. P (clock_value (place_at z x.step.place) x.found) × P (clock_value (place_at z x.step.place) (left_of x))) xs →
+    EachOf (λ x. P (clock_value (place_at z x.step.place) x.found) × P (clock_value (place_at z x.step.place) (left_of x))) ys
+grown_clock z m m2 xs ys P (stayed e) was is h = rw e h
+grown_clock z m m2 xs ys P (added x q a e) was is h =
     rw e
-    (EachOf-more (λ y. P (told_value (place_at z y.step.place) y.found) × P (told_value (place_at z y.step.place) (left_of y))) x xs
+    (EachOf-more (λ y. P (clock_value (place_at z y.step.place) y.found) × P (clock_value (place_at z y.step.place) (left_of y))) x xs
     (rw (a.place, a.left, a.found) (was q, is q)) h)
 
 pub grown_longer : (z : Sizes) (m m2 : Place → ℕ) (xs ys : List Made) → Grown z m m2 xs ys → length xs ≤ length ys

@@ -1,4 +1,4 @@
--- What a seat knows of the frames in its hand alone: another seat's act spares them, and of its own it knows what it left.
+-- What a vCPU knows of the frames in its hand alone: another vCPU's act spares them, and of its own it knows what it left.
 use Rattle.std.proofs.Common.{◌≡◌, ◌≢◌, ℕ, ◌<◌, ◌≤◌, ◌==◌, not, if◌then◌else◌, Bool, true, false, List, ◌∷◌, Some, IsTrue, sym, ap, subst, ◌∙◌, ◌⊎◌, inl, inr, arith}
 use Rattle.std.proofs.lemmas.Bool.{eqb-true, not-true, false_from_ne_true}
 use Rattle.xp_words.specs.PageTypes.{is_table}
@@ -103,7 +103,7 @@ module _ (z : Sizes) (m m2 : Place → ℕ) (x : Made) (p : Place) (a : Added z 
         scrubbed = my_range (λ y. y ≡ 0) e.frame e.scrubbed zero c.scrubbed;
       }
 
--- ---- the cells of another seat
+-- ---- the cells of another vCPU
 module _ (z : Sizes) (m m2 : Place → ℕ) (u w : Holdings) (steps : w.steps ≡ u.steps) where
   their_cells : (n f : ℕ) (same : ℕ → ℕ → Bool) → ((i y : ℕ) → IsTrue (same (m (Cell f i)) y) → IsTrue (same (m2 (Cell f i)) y)) →
       CellsFound z m n f same u.steps → CellsFound z m2 n f same w.steps

@@ -23,7 +23,7 @@ same_raised a xs =
     record { refs = refl; typed = refl; works = refl; locks = refl; ending = refl; claimed = refl; cache = refl; walk = refl; cold = refl; turn = refl; acked = refl; ran = refl }
 
 module _ (b : Holdings) (k by : ℕ) (was : IsRaisedFormed b) where
-  -- the raised frames are still such that the seat holds
+  -- the raised frames are still such that the vCPU holds
   held_by : (xs : List ℕ) → Hint k by b → raised_by (lowered_frame k by b) (raised_frame k by b) b.raised ≡ xs → (g : ℕ) → times g xs ≤ endings_of g b.ending + claims_of g b.claimed
   held_by xs (sets f word bit some none raises) is g =
       let c = was.held g in

@@ -1,4 +1,4 @@
--- Acts on a kind word: what the seat knows of its references, locks and works after it.
+-- Acts on a kind word: what the vCPU knows of its references, locks and works after it.
 use Rattle.std.proofs.Common.{◌≡◌, ◌≢◌, ℕ, suc, ◌+◌, ◌<◌, ◌≤◌, ◌==◌, ◌&&◌, nat_lt, not, true, false, List, length, Option, Some, None, IsTrue, refl, sym, ap, subst, inl, arith}
 use Rattle.std.proofs.lemmas.Bool.{and_from, or_left}
 use Rattle.std.proofs.lemmas.Bool.Decides.{nat_tests}
@@ -120,7 +120,7 @@ module _ (n : Machine) (s : ℕ) (m m2 : Place → ℕ) (b c : ℕ → Holdings)
             (subst (λ xs. EachOf (IsWorkFormed n (c s)) xs) (sym same.0) works) (subst (λ xs. EachOf (IsLockFormed n (c s)) xs) (sym same.1) locks);
       }
 
-  -- ---- what the seat had
+  -- ---- what the vCPU had
   pub kind_grown : Grown (sizes_of n) m m2 (b s).steps (c s).steps
   kind_grown = added acted.made (Kind f) acted.added acted.steps
 
@@ -167,9 +167,9 @@ module _ (n : Machine) (s : ℕ) (m m2 : Place → ℕ) (b c : ℕ → Holdings)
         }
 
     -- its kind word was left by this step
-    told_now : IsTrue (some_before (sizes_of n) (length h.steps + 1) (Kind f) (λ w. w == m2 (Kind f)) (c s).steps)
+    clock_now : IsTrue (some_before (sizes_of n) (length h.steps + 1) (Kind f) (λ w. w == m2 (Kind f)) (c s).steps)
     unfolding some_step
-    told_now =
+    clock_now =
         let x = long in
         let o : nat_lt (length (b s).steps) (length h.steps + 1) ≡ true = grind (arith, nat_tests) in
         let p : is_at (sizes_of n) (Kind f) acted.made ≡ true = is_same-by (place_at (sizes_of n) acted.made.step.place) (Kind f) acted.added.place in
@@ -191,7 +191,7 @@ module _ (n : Machine) (s : ℕ) (m m2 : Place → ℕ) (b c : ℕ → Holdings)
           seen = tt;
           last = last;
           unsettled = since;
-          told = λ t. told_now;
+          was_found = λ t. clock_now;
           fixed = λ k. absurd (omega arith);
           order = omega arith;
           past = omega arith;

@@ -37,7 +37,7 @@ use Rattle.board_lemmas.proofs.MoreSteps.{none_last}
 use Rattle.board_lemmas.proofs.EntryWords.{type_same}
 
 module _ (n : Machine) (s : ℕ) (x : Step) (m m2 : Place → ℕ) (b c : ℕ → Holdings) (l : s < (sizes_of n).vcpus) (sound : Sound n m b) (others : (t : ℕ) → t ≢ s → c t ≡ b t) (f : ℕ) where
-  -- the hand once the exchange has told that the seat looks no more
+  -- the hand once the exchange has told that the vCPU looks no more
   abbrev base : Holdings
   base = record (b s) { looking = still_looking f (m2 (Kind f)) (b s).looking }
 

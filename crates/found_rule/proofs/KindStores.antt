@@ -1,4 +1,4 @@
--- A store by the seat that has the frame in work or closing, by the form that it leaves.
+-- A store by the vCPU that has the frame in work or closing, by the form that it leaves.
 use Rattle.std.proofs.Common.{◌≡◌, ◌≢◌, ℕ, ◌<◌, ◌≤◌, ◌==◌, Some, IsTrue, refl, sym, ap, subst, ◌∙◌, ◌⊎◌, inl, inr, arith}
 use Rattle.std.proofs.lemmas.Bool.{and_parts, eqb-true}
 use Rattle.xp_words.specs.KindWords.{kind_fields}

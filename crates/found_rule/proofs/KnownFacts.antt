@@ -1,4 +1,4 @@
--- What a seat knows by its references: owners, live types and partial types. Each reference by itself tells what is right.
+-- What a vCPU knows by its references: owners, live types and partial types. Each reference by itself tells what is right.
 use Rattle.std.proofs.Common.{◌≡◌, ℕ, ◌==◌, ◌&&◌, Bool, List, [], ◌∷◌, Option, Some, None, IsTrue, refl, sym, ap, subst, inl, inr}
 use Rattle.std.proofs.lemmas.Bool.{eqb-true, or_cases, or_left, or_right, and_parts, and_from}
 use Rattle.xp_words.specs.declared.kind.PageType.{PageType}

@@ -1,4 +1,4 @@
--- What references tell stays right while the seat makes steps.
+-- What references tell stays right while the vCPU makes steps.
 use Rattle.std.proofs.Common.{◌≡◌, ℕ, ◌≤◌, List, length, Option, Some, IsTrue, ap, ◌∙◌, inl, inr}
 use Rattle.std.proofs.lemmas.Bool.{eqb-true, and_parts}
 use Rattle.xp_words.specs.declared.kind.PageType.{PageType}

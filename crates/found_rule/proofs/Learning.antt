@@ -1,4 +1,4 @@
--- What a seat learns of the word that its step leaves: `u` is the hand that the act left, `w` the hand with what was learned.
+-- What a vCPU learns of the word that its step leaves: `u` is the hand that the act left, `w` the hand with what was learned.
 use Rattle.std.proofs.Common.{◌≡◌, ◌≢◌, ℕ, ◌≤◌, ◌==◌, length, not, if◌then◌else◌, Bool, true, false, List, ◌∷◌, Option, Some, IsTrue, refl, sym, ap, subst, ◌∙◌, arith}
 use Rattle.std.proofs.lemmas.Bool.{eqb-true, eqb-false}
 use Rattle.xp_words.specs.Machine.{Machine}
@@ -136,7 +136,7 @@ module _ (s : ℕ) (x : Step) (found left : ℕ) (u : Holdings) where
 
 -- ---- the steps of the hand that has learned
 
--- ---- an act of seat s at p, by the hands before it (b), after what it moves (u), and after what was learned (w)
+-- ---- an act of vCPU s at p, by the hands before it (b), after what it moves (u), and after what was learned (w)
 pub record Act (n : Machine) (s : ℕ) (p : Place) (m m2 : Place → ℕ) (b u w : Holdings) : Type 0 where
   pub made : Made
   pub added : Added (sizes_of n) m m2 made p

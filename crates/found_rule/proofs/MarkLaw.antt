@@ -105,7 +105,7 @@ module _ (n : Machine) (s : ℕ) (m : Place → ℕ) (h b : ℕ → Holdings) (l
                     seen = rw e w.seen;
                     last = rw e w.last;
                     unsettled = rw e w.unsettled;
-                    told = rw e w.told;
+                    was_found = rw e w.was_found;
                     fixed = w.fixed;
                     order = w.order;
                     past = rw e w.past;

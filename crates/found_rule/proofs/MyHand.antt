@@ -1,4 +1,4 @@
--- What the seat that acts knows of its hand: from what it knows of the hand that the act leaves, before it learns of the word.
+-- What the vCPU that acts knows of its hand: from what it knows of the hand that the act leaves, before it learns of the word.
 use Rattle.std.proofs.Common.{◌≡◌, ℕ, suc, ◌+◌, ◌<◌, ◌≤◌, ◌==◌, ◌&&◌, if◌then◌else◌, Bool, true, false, length, Some, IsTrue, refl, sym, ap, subst, ◌∙◌, ◌⊎◌, inl, inr, arith}
 use Rattle.std.proofs.lemmas.Bool.{cases_lt, eqb-true, and_parts}
 use Rattle.xp_words.specs.declared.kind.PageType.TheVariants as kinds

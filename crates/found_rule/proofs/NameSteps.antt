@@ -9,7 +9,7 @@ use Rattle.xp_board.specs.declared.step.Step.{Step}
 use Rattle.xp_board.specs.declared.holdings.TypedReference.{TypedReference}
 use Rattle.xp_board.specs.declared.holdings.Holdings.{Holdings}
 use Rattle.xp_board.specs.Lists.{EachOf}
-use Rattle.xp_board.specs.Readings.{is_context, is_live, told_value}
+use Rattle.xp_board.specs.Readings.{is_context, is_live, clock_value}
 use Rattle.xp_board.specs.Hands.{named_live}
 use Rattle.xp_words.specs.declared.kind.PageType.{PageType}
 use Rattle.xp_board.specs.declared.holdings.Made.{Made}
@@ -62,7 +62,7 @@ module _ (z : Sizes) (m m2 : Place → ℕ) (xs ys : List Made) (g : Grown z m m
   partial_name None = partial_new z m m2 xs ys g f (length u.steps) past
 
 module _ (n : Machine) (s : ℕ) (x : Step) (m m2 : Place → ℕ) (b c : ℕ → Holdings) (l : s < (sizes_of n).vcpus) (sound : Sound n m b) (others : (t : ℕ) → t ≢ s → c t ≡ b t) (v k : ℕ) where
-  -- of another seat's vCPU only where it is stopped
+  -- of another vCPU's vCPU only where it is stopped
   other_kept : (v ≡ s) ⊎ MayEmpty n s v k (m2 (Vcpu v k)) (b s) → k ≢ 6 → ((q : Place) → q ≢ Vcpu v k → m2 q ≡ m q) → (t j : ℕ) → t ≢ s → m2 (run_of t) ≢ 1 → m2 (Vcpu t j) ≡ m (Vcpu t j)
   other_kept may off o t j d run =
       elim (cases_eq t v) [
@@ -83,7 +83,7 @@ module _ (n : Machine) (s : ℕ) (x : Step) (m m2 : Place → ℕ) (b c : ℕ �
 
   -- words where the act wrote no word of flushes or of run
   vcpu_words : (v ≡ s) ⊎ MayEmpty n s v k (m2 (Vcpu v k)) (b s) → k ≢ 5 → k ≢ 6 → ((q : Place) → q ≢ Vcpu v k → m2 q ≡ m q) → Words n s m m2 b
-  unfolding told_value
+  unfolding clock_value
   vcpu_words may flush run o =
       let flushed : (t : ℕ) → m2 (flushed_of t) ≡ m (flushed_of t) = λ t. o (flushed_of t) (λ e. flush (cc)) in
       let runs : (t : ℕ) → m2 (run_of t) ≡ m (run_of t) = λ t. o (run_of t) (λ e. run (cc)) in
@@ -108,7 +108,7 @@ module _ (n : Machine) (s : ℕ) (x : Step) (m m2 : Place → ℕ) (b c : ℕ �
       (subst (λ w. IsTrue (is_live (kind_fields w))) (sym same) live, ap (λ w. (kind_fields w).kind) same ∙ type)
 
   pub named_done : Named n s x v k m m2 (b s) (c s) → Done n s m m2 b c
-  unfolding told_value
+  unfolding clock_value
   named_done d =
       let w = d.wrote in
       let z = sizes_of n in

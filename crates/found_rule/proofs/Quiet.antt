@@ -21,7 +21,7 @@ use Rattle.found_rule.proofs.FormedLaw.{formed_by, works_formed, locks_formed, e
 use Rattle.board_lemmas.proofs.HandLists.{EachOf-map}
 use Rattle.board_lemmas.proofs.Works.{one_works, one_lock}
 
--- what an act of seat s did, as facts and the forms of holdings ask it
+-- what an act of vCPU s did, as facts and the forms of holdings ask it
 pub record Done (n : Machine) (s : ℕ) (m m2 : Place → ℕ) (b c : ℕ → Holdings) : Type 0 where
   pub found : Outcome n s m m2 b c
   pub formed : WellFormed n s (c s)

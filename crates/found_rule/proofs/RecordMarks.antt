@@ -126,7 +126,7 @@ module _ (n : Machine) (s : ℕ) (m : Place → ℕ) (h b : ℕ → Holdings) (l
             rw i (seen_there z e.unmarked e.frame steps e.seen e.recorded may.word c.seen may.seen ∙ ap Some k));
         unsettled = λ x q.
             (omega arith, since_by (record { since = length steps; word = Some (seen_word e.seen) }) x (leaves_unsettled z (h s) (demand_seen e.recorded e)) (length steps) (omega arith) q);
-        told = c.told;
+        was_found = c.was_found;
         fixed = c.fixed;
         order = c.order;
         past = c.past;
@@ -169,7 +169,7 @@ module _ (n : Machine) (s : ℕ) (m : Place → ℕ) (h b : ℕ → Holdings) (l
         seen = c.seen;
         last = tt;
         unsettled = λ x q. absurd cc;
-        told = c.told;
+        was_found = c.was_found;
         fixed = c.fixed;
         order = c.order;
         past = c.past;

@@ -6,7 +6,7 @@ use Rattle.xp_words.specs.Places.{sizes_of, Place, Clock, Vcpu, place_at, run_of
 use Rattle.xp_board.specs.declared.step.Step.{Step}
 use Rattle.xp_board.specs.declared.holdings.Holdings.{Holdings}
 use Rattle.xp_board.specs.Steps.{left_of, EachSince}
-use Rattle.xp_board.specs.Readings.{told_value}
+use Rattle.xp_board.specs.Readings.{clock_value}
 use Rattle.xp_board.specs.Found.{before_off}
 use Rattle.xp_board.specs.RunSteps.{AllowsRun, ran_now}
 use Rattle.xp_board.specs.After.{noted, learned_own}
@@ -36,7 +36,7 @@ module _ (n : Machine) (s : ℕ) (x : Step) (m m2 : Place → ℕ) (b c : ℕ �
 
   module _ (may : AllowsRun (m2 (run_of s)) (b s)) (u : Holdings) (acted : Act n s (run_of s) m m2 (b s) u (c s)) where
     ran_words : Words n s m m2 b
-    unfolding told_value
+    unfolding clock_value
     ran_words =
         let o = acted.others in
         words_lone n s m m2 b sound (run_of s) o (λ g e. cc) (λ g e. cc) (λ g i e. cc)
@@ -68,7 +68,7 @@ module _ (n : Machine) (s : ℕ) (x : Step) (m m2 : Place → ℕ) (b c : ℕ �
                 | inr away ↦ other_off n s x m m2 b c l sound others 6 u acted v away h off
                 | inl at ↦
                     (let q : (m2 (run_of v) ≢ 0) ⊎ ((c v).cold ≡ true) = rw at (elim how [ inl idle ↦ inl idle | inr cold ↦ inr (acted.learned.cold ∙ cold) ]) in
-                    EachOf-all (λ y. ((m2 (run_of v) ≢ 0) ⊎ (((c v).cold ≡ true) ⊎ (told_value (place_at z y.step.place) y.found < m2 (flushed_of v)))) × ((m2 (run_of v) ≢ 0) ⊎ (((c v).cold ≡ true) ⊎ (told_value (place_at z y.step.place) (left_of y) < m2 (flushed_of v)))))
+                    EachOf-all (λ y. ((m2 (run_of v) ≢ 0) ⊎ (((c v).cold ≡ true) ⊎ (clock_value (place_at z y.step.place) y.found < m2 (flushed_of v)))) × ((m2 (run_of v) ≢ 0) ⊎ (((c v).cold ≡ true) ⊎ (clock_value (place_at z y.step.place) (left_of y) < m2 (flushed_of v)))))
                     (before_off z v h) (λ y. elim q [ inl idle ↦ (inl idle, inl idle) | inr cold ↦ (inr (inl cold), inr (inl cold)) ]))
               ];
               cold = λ v r h found cold. elim (cases_eq v s) [
@@ -77,8 +77,8 @@ module _ (n : Machine) (s : ℕ) (x : Step) (m m2 : Place → ℕ) (b c : ℕ �
                     (λ is run.
                     let none : (y : ℕ) → EachSince z (c v).ran Clock (λ w. y ≤ w) (c v).steps =
                     λ y. subst (λ t. EachSince z (c t).ran Clock (λ w. y ≤ w) (c t).steps) (sym at) (EachSince-none z (c s).ran Clock (λ w. y ≤ w) (c s).steps (omega arith)) in
-                    EachOf-all (λ y. EachSince z (c v).ran Clock (λ w. told_value (place_at z y.step.place) y.found ≤ w) (c v).steps × EachSince z (c v).ran Clock (λ w. told_value (place_at z y.step.place) (left_of y) ≤ w) (c v).steps)
-                    (before_off z v h) (λ y. (none (told_value (place_at z y.step.place) y.found), none (told_value (place_at z y.step.place) (left_of y)))))
+                    EachOf-all (λ y. EachSince z (c v).ran Clock (λ w. clock_value (place_at z y.step.place) y.found ≤ w) (c v).steps × EachSince z (c v).ran Clock (λ w. clock_value (place_at z y.step.place) (left_of y) ≤ w) (c v).steps)
+                    (before_off z v h) (λ y. (none (clock_value (place_at z y.step.place) y.found), none (clock_value (place_at z y.step.place) (left_of y)))))
               ];
             };
             mine = mine_by n s p m m2 b c u acted (vcpu_hand n s x m m2 b c l sound others 6 u acted refs typed works locks ending claimed ran_words reach (inl (flushed, acks)));

@@ -16,7 +16,7 @@ use Rattle.xp_board.specs.Valid.{IsUnsettled}
 use Rattle.xp_board.specs.Sound.{Sound}
 use Rattle.board_lemmas.proofs.HandLists.{first-some}
 use Rattle.board_lemmas.proofs.WorkFacts.{Works, works_facts, work_held, loaded_asks}
-use Rattle.board_lemmas.proofs.Works.{one_seat}
+use Rattle.board_lemmas.proofs.Works.{one_vcpu}
 use Rattle.found_rule.proofs.KnownFacts.{IsLiveAs}
 use Rattle.board_lemmas.proofs.KindReadings.{busy_partial}
 
@@ -29,8 +29,8 @@ module _ (n : Machine) (s : ℕ) (m : Place → ℕ) (h : ℕ → Holdings) (l :
 
   none_open : (g : ℕ) → e.unsettled ≡ None → IsUnsettled (sizes_of n) h f upto g → ⊥
   none_open g none u =
-      let some = first-some (λ y. y.frame) f u.work (h u.seat).works u.here in
-      let at : u.seat ≡ s = sym (one_seat n m h sound.alone f s u.seat l u.real k.some some) in
+      let some = first-some (λ y. y.frame) f u.work (h u.vcpu).works u.here in
+      let at : u.vcpu ≡ s = sym (one_vcpu n m h sound.alone f s u.vcpu l u.real k.some some) in
       let same : Some u.work ≡ Some e = sym u.here ∙ ap (λ t. work_on f (h t).works) at ∙ may.here in
       let work : u.work ≡ e = cc in
       let kept = u.kept in

@@ -6,7 +6,7 @@ use Rattle.xp_words.specs.Machine.{Machine}
 use Rattle.xp_words.specs.Places.{sizes_of, Place, Clock, Pages, Life, Vcpu, Refs, Kind, M2p, Cell, Map, Priv, flushed_of, is_place}
 use Rattle.xp_board.specs.declared.holdings.Work.{Work}
 use Rattle.xp_board.specs.declared.holdings.Holdings.{Holdings}
-use Rattle.xp_board.specs.Readings.{kind_at, ref_count, told_value, has_now, has_ever, is_closing, type_count}
+use Rattle.xp_board.specs.Readings.{kind_at, ref_count, clock_value, has_now, has_ever, is_closing, type_count}
 use Rattle.xp_board.specs.Hands.{works_on, refs_to, typed_to, locks_on}
 use Rattle.xp_board.specs.Spelling.{IsSpelling}
 use Rattle.xp_board.specs.Found.{WorkFound}
@@ -15,22 +15,22 @@ use Rattle.board_lemmas.proofs.KindReadings.{busy_cases}
 use Rattle.board_lemmas.proofs.Counted.{type_below, in_hand_counted, typed_counted}
 use Rattle.board_lemmas.proofs.Works.{is_busy-mine}
 
-told_if : (m : Place → ℕ) (v k : ℕ) (t : Bool) → (k == 5) ≡ t → m (flushed_of v) ≤ m Clock → (if t then m (Vcpu v k) else 0) ≤ m Clock
-told_if m v k true e h = let q = eqb-true k 5 e in subst (λ j. m (Vcpu v j) ≤ m Clock) (sym q) h
-told_if m v k false e h = omega arith
+clock_if : (m : Place → ℕ) (v k : ℕ) (t : Bool) → (k == 5) ≡ t → m (flushed_of v) ≤ m Clock → (if t then m (Vcpu v k) else 0) ≤ m Clock
+clock_if m v k true e h = let q = eqb-true k 5 e in subst (λ j. m (Vcpu v j) ≤ m Clock) (sym q) h
+clock_if m v k false e h = omega arith
 
-pub told_within : (n : Machine) (m : Place → ℕ) → Stamped n m → (p : Place) → told_value p (m p) ≤ m Clock
-unfolding told_value
-told_within n m s Clock = omega arith
-told_within n m s (Pages d) = omega arith
-told_within n m s (Life d) = omega arith
-told_within n m s (Vcpu v k) = told_if m v k (k == 5) refl (s.flushed v)
-told_within n m s (Refs f) = s.free f
-told_within n m s (Kind f) = s.kinds f
-told_within n m s (M2p f) = omega arith
-told_within n m s (Cell f i) = omega arith
-told_within n m s (Map k) = omega arith
-told_within n m s (Priv d) = omega arith
+pub clock_within : (n : Machine) (m : Place → ℕ) → Stamped n m → (p : Place) → clock_value p (m p) ≤ m Clock
+unfolding clock_value
+clock_within n m s Clock = omega arith
+clock_within n m s (Pages d) = omega arith
+clock_within n m s (Life d) = omega arith
+clock_within n m s (Vcpu v k) = clock_if m v k (k == 5) refl (s.flushed v)
+clock_within n m s (Refs f) = s.free f
+clock_within n m s (Kind f) = s.kinds f
+clock_within n m s (M2p f) = omega arith
+clock_within n m s (Cell f i) = omega arith
+clock_within n m s (Map k) = omega arith
+clock_within n m s (Priv d) = omega arith
 
 -- what is had now was had
 pub had : (n : Machine) (m : Place → ℕ) (h : ℕ → Holdings) → Sound n m h → (d : ℕ) → IsTrue (is_place (sizes_of n) (Priv d)) → (o : ℕ) → o < 16 →

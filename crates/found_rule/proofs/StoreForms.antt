@@ -16,7 +16,7 @@ use Rattle.xp_board.specs.Sound.{Sound}
 use Rattle.step_effects.proofs.ActEffects.{Stored}
 use Rattle.found_rule.proofs.Learning.{Act, act}
 use Rattle.found_rule.proofs.Words.{Words}
-use Rattle.found_rule.proofs.WordFacts.{told_some}
+use Rattle.found_rule.proofs.WordFacts.{clock_some}
 use Rattle.found_rule.proofs.KnownFacts.{OwnerRight, IsLiveAs, RefRight, TypedRight}
 use Rattle.found_rule.proofs.KnownStays.{live_found, partial_found}
 use Rattle.found_rule.proofs.KindLaw.{kind_grown}
@@ -121,7 +121,7 @@ module _ (n : Machine) (s : ℕ) (x : Step) (m m2 : Place → ℕ) (b c : ℕ �
   dead_done : Stored n s x f Dead m m2 (b s) (c s) → Done n s m m2 b c
   dead_done d =
       let v = (is_dead_left d.l d.form_is).0 in
-      let told = told_some (sizes_of n) d.e.since d.l.number (m Clock) (b s).steps (sound.found s l).clock d.may.stamp in
+      let was_found = clock_some (sizes_of n) d.e.since d.l.number (m Clock) (b s).steps (sound.found s l).clock d.may.stamp in
       dead_by d (is_work (kind_fields d.e.word)) refl
       (store_words n s x m m2 b c l sound others f d.e d.here d.wrote.others (ap (λ y. y.kind) d.fields_is ∙ d.may.kind)
       (let q = stamp_of (m2 (Kind f)) d.l d.fields_is v in omega arith))

@@ -43,7 +43,7 @@ use Rattle.board_lemmas.proofs.Sums.{either}
 
 -- ---- from closing an untyped reference becomes the type count
 
--- ---- what the seat then looks at
+-- ---- what the vCPU then looks at
 looking_if : (n : Machine) (s : ℕ) (t : Bool) (e : Looking) (es : List Looking) → (t ≡ false → IsLookingFormed n s e) → EachOf (IsLookingFormed n s) es → EachOf (IsLookingFormed n s) (if t then es else (e ∷ es))
 looking_if n s true e es new h = h
 looking_if n s false e es new h = EachOf-more (IsLookingFormed n s) e es (new refl) h
@@ -165,7 +165,7 @@ module _ (n : Machine) (s : ℕ) (x : Step) (m m2 : Place → ℕ) (b c : ℕ �
           seen = seen_none (sizes_of n) (length (b s).steps + 1) d.e.frame (c s).steps d.e.seen (k.marked y.marked);
           last = last_none (sizes_of n) (change d.e) (c s).steps d.e.unsettled (λ q r. let a = (k.unsettled q r).0 in omega arith);
           unsettled = λ q r. let a = k.unsettled q r in absurd (let o = a.0 in omega arith);
-          told = λ t. absurd (let q : (kind_at m2 f).unflushed ≡ false = ap (λ v. v.unflushed) left in cc);
+          was_found = λ t. absurd (let q : (kind_at m2 f).unflushed ≡ false = ap (λ v. v.unflushed) left in cc);
           fixed = λ some. absurd (let q = (k.fixed some).0 in let r = y.marked in cc);
           order = let a = k.order in let o = k.past in omega arith;
           past = omega arith;

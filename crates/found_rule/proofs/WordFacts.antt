@@ -1,4 +1,4 @@
--- The facts that speak of a seat's steps alone: the clock, flushes, run words, life words and privileges.
+-- The facts that speak of a vCPU's steps alone: the clock, flushes, run words, life words and privileges.
 use Rattle.std.proofs.Common.{◌≡◌, ◌≢◌, ℕ, ◌<◌, ◌≤◌, ◌==◌, ◌||◌, true, List, [], ◌∷◌, IsTrue, refl, sym, ap, ◌∙◌, ◌⊎◌, inl, inr, arith}
 use Rattle.std.proofs.lemmas.Bool.{eqb-true, or_cases}
 use Rattle.xp_words.specs.Machine.{Machine}
@@ -7,22 +7,22 @@ use Rattle.xp_board.specs.declared.holdings.Made.{Made}
 use Rattle.xp_board.specs.declared.holdings.Holdings.{Holdings}
 use Rattle.xp_board.specs.Lists.{EachOf}
 use Rattle.xp_board.specs.Steps.{left_of, some_step, some_since, EachSince}
-use Rattle.xp_board.specs.Readings.{told_value, has_now, has_ever}
+use Rattle.xp_board.specs.Readings.{clock_value, has_now, has_ever}
 use Rattle.xp_board.specs.Found.{ClockFound, FlushedFound, StoppedFound, ClockSinceAck, LifeFound, before_off, FlushedSinceOff, ColdSinceOff, PrivilegesFound}
-use Rattle.found_rule.proofs.Growth.{Grown, grown_each, grown_told, grown_before}
+use Rattle.found_rule.proofs.Growth.{Grown, grown_each, grown_clock, grown_before}
 use Rattle.found_rule.proofs.Words.{Moves}
 use Rattle.board_lemmas.proofs.HandLists.{EachOf-map, EachOf-all}
 use Rattle.board_lemmas.proofs.ListCounts.{EachOf-both}
 use Rattle.board_lemmas.proofs.MoreSteps.{EachOf-before, EachSince-map, some_since-cases}
 
-module _ (n : Machine) (m m2 : Place → ℕ) (k : Moves n m m2) (told_was : (p : Place) → told_value p (m p) ≤ m Clock) (a b : Holdings) (g : Grown (sizes_of n) m m2 a.steps b.steps) where
+module _ (n : Machine) (m m2 : Place → ℕ) (k : Moves n m m2) (clock_was : (p : Place) → clock_value p (m p) ≤ m Clock) (a b : Holdings) (g : Grown (sizes_of n) m m2 a.steps b.steps) where
   pub clock_law : ClockFound (sizes_of n) m a → ClockFound (sizes_of n) m2 b
   clock_law c =
       let z = sizes_of n in
       let l = k.clock in
-      grown_told z m m2 a.steps b.steps (λ y. y ≤ m2 Clock) g (λ p. let r = told_was p in omega arith) k.told
-      (EachOf-map (λ x. (told_value (place_at z x.step.place) x.found ≤ m Clock) × (told_value (place_at z x.step.place) (left_of x) ≤ m Clock))
-      (λ x. (told_value (place_at z x.step.place) x.found ≤ m2 Clock) × (told_value (place_at z x.step.place) (left_of x) ≤ m2 Clock)) a.steps
+      grown_clock z m m2 a.steps b.steps (λ y. y ≤ m2 Clock) g (λ p. let r = clock_was p in omega arith) k.clocks
+      (EachOf-map (λ x. (clock_value (place_at z x.step.place) x.found ≤ m Clock) × (clock_value (place_at z x.step.place) (left_of x) ≤ m Clock))
+      (λ x. (clock_value (place_at z x.step.place) x.found ≤ m2 Clock) × (clock_value (place_at z x.step.place) (left_of x) ≤ m2 Clock)) a.steps
       (λ x t. ((let r = t.0 in omega arith), (let r = t.1 in omega arith))) c)
 
   pub flushed_law : FlushedFound (sizes_of n) m a → FlushedFound (sizes_of n) m2 b
@@ -66,7 +66,7 @@ module _ (n : Machine) (m m2 : Place → ℕ) (k : Moves n m m2) (told_was : (p 
       elim (grown_before z m m2 a.steps b.steps (run_of v) (λ w. w == 2) g) [
         | inl now ↦
             (let t : m2 (run_of v) ≢ 0 = (λ o. let x = eqb-true (m2 (run_of v)) 2 now in omega arith) in
-            EachOf-all (λ x. ((m2 (run_of v) ≢ 0) ⊎ (((h2 v).cold ≡ true) ⊎ (told_value (place_at z x.step.place) x.found < m2 (flushed_of v)))) × ((m2 (run_of v) ≢ 0) ⊎ (((h2 v).cold ≡ true) ⊎ (told_value (place_at z x.step.place) (left_of x) < m2 (flushed_of v)))))
+            EachOf-all (λ x. ((m2 (run_of v) ≢ 0) ⊎ (((h2 v).cold ≡ true) ⊎ (clock_value (place_at z x.step.place) x.found < m2 (flushed_of v)))) × ((m2 (run_of v) ≢ 0) ⊎ (((h2 v).cold ≡ true) ⊎ (clock_value (place_at z x.step.place) (left_of x) < m2 (flushed_of v)))))
             (before_off z v b) (λ x. (inl t, inl t)))
         | inr old ↦ rw old (f c)
       ]
@@ -91,33 +91,33 @@ module _ (n : Machine) (m m2 : Place → ℕ) (h h2 : ℕ → Holdings) (v : ℕ
       let z = sizes_of n in
       rw ran
       (EachOf-map
-      (λ x. ((told_value (place_at z x.step.place) x.found ≤ m Clock) × (told_value (place_at z x.step.place) (left_of x) ≤ m Clock))
-      × (EachSince z (h v).ran Clock (λ w. told_value (place_at z x.step.place) x.found ≤ w) (h v).steps × EachSince z (h v).ran Clock (λ w. told_value (place_at z x.step.place) (left_of x) ≤ w) (h v).steps))
-      (λ x. EachSince z (h v).ran Clock (λ w. told_value (place_at z x.step.place) x.found ≤ w) (h2 v).steps × EachSince z (h v).ran Clock (λ w. told_value (place_at z x.step.place) (left_of x) ≤ w) (h2 v).steps)
+      (λ x. ((clock_value (place_at z x.step.place) x.found ≤ m Clock) × (clock_value (place_at z x.step.place) (left_of x) ≤ m Clock))
+      × (EachSince z (h v).ran Clock (λ w. clock_value (place_at z x.step.place) x.found ≤ w) (h v).steps × EachSince z (h v).ran Clock (λ w. clock_value (place_at z x.step.place) (left_of x) ≤ w) (h v).steps))
+      (λ x. EachSince z (h v).ran Clock (λ w. clock_value (place_at z x.step.place) x.found ≤ w) (h2 v).steps × EachSince z (h v).ran Clock (λ w. clock_value (place_at z x.step.place) (left_of x) ≤ w) (h2 v).steps)
       (before_off z v u)
       (λ x t. (
-        grown_each z m m2 (h v).steps (h2 v).steps (h v).ran Clock (λ w. told_value (place_at z x.step.place) x.found ≤ w) grown (λ r. (t.0).0) (λ r. let q = (t.0).0 in omega arith) (t.1).0,
-        grown_each z m m2 (h v).steps (h2 v).steps (h v).ran Clock (λ w. told_value (place_at z x.step.place) (left_of x) ≤ w) grown (λ r. (t.0).1) (λ r. let q = (t.0).1 in omega arith) (t.1).1,
+        grown_each z m m2 (h v).steps (h2 v).steps (h v).ran Clock (λ w. clock_value (place_at z x.step.place) x.found ≤ w) grown (λ r. (t.0).0) (λ r. let q = (t.0).0 in omega arith) (t.1).0,
+        grown_each z m m2 (h v).steps (h2 v).steps (h v).ran Clock (λ w. clock_value (place_at z x.step.place) (left_of x) ≤ w) grown (λ r. (t.0).1) (λ r. let q = (t.0).1 in omega arith) (t.1).1,
       ))
       (EachOf-both
-      (λ x. (told_value (place_at z x.step.place) x.found ≤ m Clock) × (told_value (place_at z x.step.place) (left_of x) ≤ m Clock))
-      (λ x. EachSince z (h v).ran Clock (λ w. told_value (place_at z x.step.place) x.found ≤ w) (h v).steps × EachSince z (h v).ran Clock (λ w. told_value (place_at z x.step.place) (left_of x) ≤ w) (h v).steps)
+      (λ x. (clock_value (place_at z x.step.place) x.found ≤ m Clock) × (clock_value (place_at z x.step.place) (left_of x) ≤ m Clock))
+      (λ x. EachSince z (h v).ran Clock (λ w. clock_value (place_at z x.step.place) x.found ≤ w) (h v).steps × EachSince z (h v).ran Clock (λ w. clock_value (place_at z x.step.place) (left_of x) ≤ w) (h v).steps)
       (before_off z v u)
-      (EachOf-before z (run_of v) (λ w. w == 2) (λ x. (told_value (place_at z x.step.place) x.found ≤ m Clock) × (told_value (place_at z x.step.place) (left_of x) ≤ m Clock)) u.steps found)
+      (EachOf-before z (run_of v) (λ w. w == 2) (λ x. (clock_value (place_at z x.step.place) x.found ≤ m Clock) × (clock_value (place_at z x.step.place) (left_of x) ≤ m Clock)) u.steps found)
       (c (sym cold ∙ is) (sym run ∙ was))))
 
 -- ---- a clock value that was found
-pub told_some : (z : Sizes) (n y bound : ℕ) (xs : List Made) →
-    EachOf (λ x. (told_value (place_at z x.step.place) x.found ≤ bound) × (told_value (place_at z x.step.place) (left_of x) ≤ bound)) xs →
+pub clock_some : (z : Sizes) (n y bound : ℕ) (xs : List Made) →
+    EachOf (λ x. (clock_value (place_at z x.step.place) x.found ≤ bound) × (clock_value (place_at z x.step.place) (left_of x) ≤ bound)) xs →
     IsTrue (some_since z n Clock (λ w. w == y) xs) → y ≤ bound
-unfolding some_step EachOf told_value
-told_some z n y bound [] h t = absurd cc
-told_some z n y bound (x ∷ xs) h t =
+unfolding some_step EachOf clock_value
+clock_some z n y bound [] h t = absurd cc
+clock_some z n y bound (x ∷ xs) h t =
     elim (some_since-cases z n Clock (λ w. w == y) x xs t) [
       | inl new ↦
           (let e = eqb-true (left_of x) y new.1 in
-          let k : told_value (place_at z x.step.place) (left_of x) ≡ left_of x = ap (λ p. told_value p (left_of x)) new.0 in
+          let k : clock_value (place_at z x.step.place) (left_of x) ≡ left_of x = ap (λ p. clock_value p (left_of x)) new.0 in
           let b = (h.0).1 in
           omega arith)
-      | inr old ↦ told_some z n y bound xs h.1 old
+      | inr old ↦ clock_some z n y bound xs h.1 old
     ]

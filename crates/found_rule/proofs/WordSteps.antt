@@ -5,7 +5,7 @@ use Rattle.xp_words.specs.Machine.{Machine}
 use Rattle.xp_words.specs.Places.{sizes_of, Place, Clock, Life, Vcpu, Refs, Kind, Cell, Priv, is_place, flushed_of, run_of}
 use Rattle.xp_board.specs.declared.step.Step.{Step}
 use Rattle.xp_board.specs.declared.holdings.Holdings.{Holdings}
-use Rattle.xp_board.specs.Readings.{told_value, has_now, has_ever}
+use Rattle.xp_board.specs.Readings.{clock_value, has_now, has_ever}
 use Rattle.xp_board.specs.Sound.{Sound}
 use Rattle.step_effects.proofs.ActEffects.{Ticked, Doomed, Buried, Privileged}
 use Rattle.found_rule.proofs.Learning.{Act, act}
@@ -38,7 +38,7 @@ module _ (n : Machine) (s : ℕ) (x : Step) (m m2 : Place → ℕ) (b c : ℕ �
   now_kept p off o d i few r h = let e = o (Priv d) (λ k. off d (sym k)) in rw e (had n m b sound d r i few (rw e at h))
 
   pub ticked_done : Ticked n x m m2 (b s) (c s) → Done n s m m2 b c
-  unfolding told_value
+  unfolding clock_value
   ticked_done d =
       let w = d.wrote in
       let a = act n s x Clock m m2 (b s) (b s) (c s) w.place w.real w.left w.others refl refl refl refl d.hand in
@@ -49,7 +49,7 @@ module _ (n : Machine) (s : ℕ) (x : Step) (m m2 : Place → ℕ) (b c : ℕ �
 
   -- a life word only goes from alive to dying to dead
   life_done : (g : ℕ) → Act n s (Life g) m m2 (b s) (b s) (c s) → ((w : ℕ) → w ≢ 0 → (m (Life g) ≡ w) ⊎ (m (Life g) ≡ 255) → (m2 (Life g) ≡ w) ⊎ (m2 (Life g) ≡ 255)) → Words n s m m2 b
-  unfolding told_value
+  unfolding clock_value
   life_done g a goes =
       words_lone n s m m2 b sound (Life g) a.others (λ f e. cc) (λ f e. cc) (λ f i e. cc)
       (lone_off n s m m2 b sound (Life g) a.others (λ v k e. cc) (clock_kept (Life g) (λ e. cc) a.others)
@@ -58,7 +58,7 @@ module _ (n : Machine) (s : ℕ) (x : Step) (m m2 : Place → ℕ) (b c : ℕ �
       (omega arith)
 
   pub privileged_done : (g : ℕ) → Privileged n s x g m m2 (b s) (c s) → Done n s m m2 b c
-  unfolding told_value
+  unfolding clock_value
   privileged_done g d =
       let w = d.wrote in
       let y = d.may in

@@ -7,11 +7,11 @@ use Rattle.xp_words.specs.KindWords.{kind_fields}
 use Rattle.xp_words.specs.Machine.{Machine}
 use Rattle.xp_words.specs.Places.{sizes_of, Place, Clock, Pages, Life, Vcpu, Refs, Kind, M2p, Cell, Map, Priv, flushed_of, run_of}
 use Rattle.xp_board.specs.declared.holdings.Holdings.{Holdings}
-use Rattle.xp_board.specs.Readings.{kind_at, is_live, owner_of, ref_count, type_count, told_value, free_stamp, kind_stamp}
+use Rattle.xp_board.specs.Readings.{kind_at, is_live, owner_of, ref_count, type_count, clock_value, free_stamp, kind_stamp}
 use Rattle.xp_board.specs.Hands.{works_on, endings_of, claims_of}
 use Rattle.xp_board.specs.Sound.{Sound}
 use Rattle.board_lemmas.proofs.PlaceTests.{same_or_other}
-use Rattle.found_rule.proofs.SoundWords.{told_within, had}
+use Rattle.found_rule.proofs.SoundWords.{clock_within, had}
 use Rattle.found_rule.proofs.HandFacts.{entry_kept, cell_kept}
 use Rattle.found_rule.proofs.Words.{Words}
 use Rattle.board_lemmas.proofs.HandLists.{EachOf-all}
@@ -35,34 +35,34 @@ read_own t k off = grind (arith, nat_tests)
 module _ (n : Machine) (s : ℕ) (m m2 : Place → ℕ) (b : ℕ → Holdings) (sound : Sound n m b) where
   -- ---- no word of which facts speak
   module _ (same : (q : Place) → IsTrue (is_read q) → m2 q ≡ m q) where
-    told_same : (q : Place) → told_value q (m2 q) ≤ m2 Clock
-    unfolding told_value
-    told_same Clock = omega arith
-    told_same (Pages d) = omega arith
-    told_same (Life d) = omega arith
-    told_same (Vcpu v k) =
+    clock_same : (q : Place) → clock_value q (m2 q) ≤ m2 Clock
+    unfolding clock_value
+    clock_same Clock = omega arith
+    clock_same (Pages d) = omega arith
+    clock_same (Life d) = omega arith
+    clock_same (Vcpu v k) =
         elim (cases_eq k 5) [
           | inl at ↦
-              (let u = told_within n m sound.stamped (flushed_of v) in
+              (let u = clock_within n m sound.stamped (flushed_of v) in
               let e = same (flushed_of v) refl in
               let o = same Clock refl in
               let t : (k == 5) ≡ true = grind (arith, nat_tests) in
               rw (t, at, e, o) u)
           | inr off ↦ (let t : (k == 5) ≡ false = grind (arith, nat_tests) in rw t (omega arith))
         ]
-    told_same (Refs f) = rw (same (Refs f) refl, same Clock refl) (told_within n m sound.stamped (Refs f))
-    told_same (Kind f) = rw (same (Kind f) refl, same Clock refl) (told_within n m sound.stamped (Kind f))
-    told_same (M2p f) = omega arith
-    told_same (Cell f i) = omega arith
-    told_same (Map k) = omega arith
-    told_same (Priv d) = omega arith
+    clock_same (Refs f) = rw (same (Refs f) refl, same Clock refl) (clock_within n m sound.stamped (Refs f))
+    clock_same (Kind f) = rw (same (Kind f) refl, same Clock refl) (clock_within n m sound.stamped (Kind f))
+    clock_same (M2p f) = omega arith
+    clock_same (Cell f i) = omega arith
+    clock_same (Map k) = omega arith
+    clock_same (Priv d) = omega arith
 
     pub words_quiet : Words n s m m2 b
     words_quiet =
         record {
           moves = record {
             clock = let e = same Clock refl in omega arith;
-            told = told_same;
+            clocks = clock_same;
             flushed = λ v. let e = same (flushed_of v) refl in omega arith;
             stopped = λ v o. same (run_of v) refl ∙ o;
             life = λ d w o h. rw (same (Life d) refl) h;
@@ -86,25 +86,25 @@ module _ (n : Machine) (s : ℕ) (m m2 : Place → ℕ) (b : ℕ → Holdings) (
           };
         }
 
-  -- ---- a told value at the place that is written, and nowhere else
+  -- ---- a clock value at the place that is written, and nowhere else
   module _ (p : Place) (others : (q : Place) → q ≢ p → m2 q ≡ m q) where
-    pub told_at : m Clock ≤ m2 Clock → told_value p (m2 p) ≤ m2 Clock → (q : Place) → told_value q (m2 q) ≤ m2 Clock
-    told_at o here q =
+    pub clock_at : m Clock ≤ m2 Clock → clock_value p (m2 p) ≤ m2 Clock → (q : Place) → clock_value q (m2 q) ≤ m2 Clock
+    clock_at o here q =
         elim (same_or_other q p) [
           | inl at ↦ rw at here
-          | inr off ↦ (let u = told_within n m sound.stamped q in let e = ap (told_value q) (others q off) in omega arith)
+          | inr off ↦ (let u = clock_within n m sound.stamped q in let e = ap (clock_value q) (others q off) in omega arith)
         ]
 
   -- ---- a reference word
   pub words_refs : (f : ℕ) → ((q : Place) → q ≢ Refs f → m2 q ≡ m q) → (0 < ref_count (m (Refs f)) → owner_of (m2 (Refs f)) ≡ owner_of (m (Refs f))) →
       free_stamp (m2 (Refs f)) ≤ m Clock →
       ((t : ℕ) → t < (sizes_of n).vcpus → t ≢ s → 0 < endings_of f (b t).ending + claims_of f (b t).claimed → ⊥) → Words n s m m2 b
-  unfolding told_value
+  unfolding clock_value
   words_refs f others owner stamp alone =
       record {
         moves = record {
           clock = let e = others Clock (λ k. cc) in omega arith;
-          told = let e = others Clock (λ k. cc) in told_at (Refs f) others (omega arith) (omega arith);
+          clocks = let e = others Clock (λ k. cc) in clock_at (Refs f) others (omega arith) (omega arith);
           flushed = λ v. let e = others (flushed_of v) (λ k. cc) in omega arith;
           stopped = λ v o. others (run_of v) (λ k. cc) ∙ o;
           life = λ d w o h. rw (others (Life d) (λ k. cc)) h;
@@ -132,12 +132,12 @@ module _ (n : Machine) (s : ℕ) (m m2 : Place → ℕ) (b : ℕ → Holdings) (
   pub words_kind : (f : ℕ) → ((q : Place) → q ≢ Kind f → m2 q ≡ m q) → (0 < type_count (kind_at m f) → IsTrue (is_live (kind_at m f)) → IsTrue (is_live (kind_at m2 f))) →
       (0 < type_count (kind_at m f) → (kind_at m2 f).kind ≡ (kind_at m f).kind) → kind_stamp (m2 (Kind f)) ≤ m Clock →
       ((t : ℕ) → t < (sizes_of n).vcpus → t ≢ s → 0 < works_on f (b t).works → ⊥) → Words n s m m2 b
-  unfolding told_value
+  unfolding clock_value
   words_kind f others live kind stamp alone =
       record {
         moves = record {
           clock = let e = others Clock (λ k. cc) in omega arith;
-          told = let e = others Clock (λ k. cc) in told_at (Kind f) others (omega arith) (omega arith);
+          clocks = let e = others Clock (λ k. cc) in clock_at (Kind f) others (omega arith) (omega arith);
           flushed = λ v. let e = others (flushed_of v) (λ k. cc) in omega arith;
           stopped = λ v o. others (run_of v) (λ k. cc) ∙ o;
           life = λ d w o h. rw (others (Life d) (λ k. cc)) h;

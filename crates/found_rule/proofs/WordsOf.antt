@@ -6,7 +6,7 @@ use Rattle.xp_words.specs.Machine.{Machine}
 use Rattle.xp_words.specs.Places.{sizes_of, Place, Clock, Life, Vcpu, Refs, Kind, Cell, Priv, is_place, flushed_of, run_of}
 use Rattle.xp_board.specs.declared.holdings.Holdings.{Holdings}
 use Rattle.xp_board.specs.Lists.{EachOf}
-use Rattle.xp_board.specs.Readings.{kind_at, owner_of, told_value, has_now, has_ever}
+use Rattle.xp_board.specs.Readings.{kind_at, owner_of, clock_value, has_now, has_ever}
 use Rattle.xp_board.specs.Hands.{works_on, locks_on, claims_of}
 use Rattle.xp_board.specs.Found.{is_known_inside, is_same_cell, is_same_entry}
 use Rattle.xp_board.specs.Sound.{Sound}
@@ -14,7 +14,7 @@ use Rattle.board_lemmas.proofs.PlaceTests.{same_or_other}
 use Rattle.found_rule.proofs.SoundWords.{had}
 use Rattle.found_rule.proofs.HandFacts.{entry_kept, cell_kept}
 use Rattle.found_rule.proofs.Words.{Words}
-use Rattle.found_rule.proofs.WordsAt.{told_at}
+use Rattle.found_rule.proofs.WordsAt.{clock_at}
 use Rattle.board_lemmas.proofs.HandLists.{EachOf-map, EachOf-all}
 
 -- ---- a place that is no frame's: what it leaves is told place by place
@@ -30,15 +30,15 @@ pub record Lone (n : Machine) (s : ℕ) (m m2 : Place → ℕ) : Type 0 where
   pub own : (t : ℕ) → t ≢ s → (k : ℕ) → k ≢ 4 → k ≢ 5 → m2 (run_of t) ≢ 1 → m2 (Vcpu t k) ≡ m (Vcpu t k)
 
 module _ (n : Machine) (s : ℕ) (m m2 : Place → ℕ) (b : ℕ → Holdings) (sound : Sound n m b) (p : Place) (others : (q : Place) → q ≢ p → m2 q ≡ m q) where
-  pub words_lone : ((f : ℕ) → p ≢ Refs f) → ((f : ℕ) → p ≢ Kind f) → ((f i : ℕ) → p ≢ Cell f i) → Lone n s m m2 → told_value p (m2 p) ≤ m2 Clock → Words n s m m2 b
-  words_lone refs kind cell lone told =
+  pub words_lone : ((f : ℕ) → p ≢ Refs f) → ((f : ℕ) → p ≢ Kind f) → ((f i : ℕ) → p ≢ Cell f i) → Lone n s m m2 → clock_value p (m2 p) ≤ m2 Clock → Words n s m m2 b
+  words_lone refs kind cell lone was_found =
       let r : (f : ℕ) → m2 (Refs f) ≡ m (Refs f) = (λ f. others (Refs f) (λ e. refs f (sym e))) in
       let k : (f : ℕ) → m2 (Kind f) ≡ m (Kind f) = (λ f. others (Kind f) (λ e. kind f (sym e))) in
       let c : (f i : ℕ) → m2 (Cell f i) ≡ m (Cell f i) = (λ f i. others (Cell f i) (λ e. cell f i (sym e))) in
       record {
         moves = record {
           clock = lone.clock;
-          told = told_at n s m m2 b sound p others lone.clock told;
+          clocks = clock_at n s m m2 b sound p others lone.clock was_found;
           flushed = lone.flushed;
           stopped = lone.stopped;
           life = lone.life;
@@ -111,7 +111,7 @@ module _ (n : Machine) (s : ℕ) (m m2 : Place → ℕ) (b : ℕ → Holdings) (
       }
 
 -- ---- a cell
--- what the write of cell i of frame f does to what another seat has in its hand
+-- what the write of cell i of frame f does to what another vCPU has in its hand
 pub record CellSpared (m m2 : Place → ℕ) (f i : ℕ) (u : Holdings) : Type 0 where
   pub claims : claims_of f u.claimed ≡ 0
   pub locks : 0 < locks_on f u.locks → IsTrue (is_same_entry (m2 (Cell f i)) (m (Cell f i)))
@@ -127,14 +127,14 @@ module _ (n : Machine) (s : ℕ) (m m2 : Place → ℕ) (b : ℕ → Holdings) (
       ]
 
   pub words_cell : ((t : ℕ) → t < (sizes_of n).vcpus → t ≢ s → CellSpared m m2 f i (b t)) → Words n s m m2 b
-  unfolding told_value
+  unfolding clock_value
   words_cell spared =
       let v : (t k : ℕ) → m2 (Vcpu t k) ≡ m (Vcpu t k) = (λ t k. others (Vcpu t k) (λ e. cc)) in
       let o = others Clock (λ e. cc) in
       record {
         moves = record {
           clock = omega arith;
-          told = told_at n s m m2 b sound (Cell f i) others (omega arith) (omega arith);
+          clocks = clock_at n s m m2 b sound (Cell f i) others (omega arith) (omega arith);
           flushed = λ t. let e = v t 5 in omega arith;
           stopped = λ t h. v t 6 ∙ h;
           life = λ d w h k. rw (others (Life d) (λ e. cc)) k;

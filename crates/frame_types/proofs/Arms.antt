@@ -81,19 +81,19 @@ module _ (v u w : PortValue) (f owner word stamp : ℕ) (a : Calmly v u f) (had 
   had_more before more = had_later v.post.machine (Kind f) word before (more ++ a.made) (had_earlier v.post.machine (Kind f) word a.made more had)
 
   waited : (answer : Result (Unit {0}) Stop) (b : EndsTaking u w f owner stamp answer) (before : List Made) →
-      waiting.ShowsWait v.post.machine v.post.seat owner stamp ((b.made ++ a.made) ++ before) answer
+      waiting.ShowsWait v.post.machine v.post.vcpu owner stamp ((b.made ++ a.made) ++ before) answer
   waited answer b before =
       let n = v.post.machine in
-      let s = v.post.seat in
+      let s = v.post.vcpu in
       shows_within n s owner stamp (b.made ++ a.made) ((b.made ++ a.made) ++ before) (later_within n before (b.made ++ a.made)) answer
       (shows_within n s owner stamp b.made (b.made ++ a.made) (later_within n a.made b.made) answer
-      (subst (λ (q : Post). waiting.ShowsWait q.machine q.seat owner stamp b.made answer) same_post b.shows))
+      (subst (λ (q : Post). waiting.ShowsWait q.machine q.vcpu owner stamp b.made answer) same_post b.shows))
 
   shown : (answer : Result (Unit {0}) Stop) (b : EndsTaking u w f owner stamp answer) → IsOpenKind (kind_fields word) → (before : List Made) →
-      ShowsType v.post.machine v.post.seat f owner ((b.made ++ a.made) ++ before) answer
+      ShowsType v.post.machine v.post.vcpu f owner ((b.made ++ a.made) ++ before) answer
   shown (Ok done) b fits before = (word, had_more before b.made, fits)
   shown (Err e) b fits before =
-      waited_cause v.post.machine v.post.seat f owner stamp ((b.made ++ a.made) ++ before) e (found_stamp _ (had_more before b.made)) (waited (Err e) b before)
+      waited_cause v.post.machine v.post.vcpu f owner stamp ((b.made ++ a.made) ++ before) e (found_stamp _ (had_more before b.made)) (waited (Err e) b before)
 
   pub finishes_taken : (answer : Result (Unit {0}) Stop) → EndsTaking u w f owner stamp answer → IsOpenKind (kind_fields word) → LeavesHand f owner answer v.holdings w.holdings →
       TakesAfter v w f owner word answer
@@ -107,14 +107,14 @@ module _ (v u w : PortValue) (f owner word stamp : ℕ) (a : Calmly v u f) (had 
       }
 
 pub finishes_not_lost : (u w : PortValue) (f owner stamp : ℕ) (answer : Result (Unit {0}) Stop) → EndsTaking u w f owner stamp answer → IsNotLost answer
-finishes_not_lost u w f owner stamp answer b = waited_not_lost u.post.machine u.post.seat owner stamp b.made answer b.shows
+finishes_not_lost u w f owner stamp answer b = waited_not_lost u.post.machine u.post.vcpu owner stamp b.made answer b.shows
 
 -- ---- behind the look
 -- a board that tells all words tells the word
 module _ (v u : PortValue) (f word : ℕ) (look : Makes v u (Kind f) Load None word) (tells : is_telling v ≡ true) where
-  pub word_told : told_word u (Kind f) ≡ word
+  pub word_known : told_word u (Kind f) ≡ word
   unfolding left_by
-  word_told = makes_here _ _ _ _ _ _ look tells
+  word_known = makes_here _ _ _ _ _ _ look tells
 
   pub still_telling : is_telling u ≡ true
   still_telling = makes_telling _ _ _ _ _ _ look ∙ tells
@@ -130,12 +130,12 @@ module _ (v u w : PortValue) (f owner word : ℕ) (look : Makes v u (Kind f) Loa
         flushes =
             flushes_more v.post.machine f first b.made (inl (makes_calm _ _ _ _ _ look refl))
             (subst (λ (q : Post). FlushesFor q.machine f b.made) post b.flushes);
-        shows = subst (λ (q : Post). ShowsAfter q.machine q.seat f owner word b.made answer) post b.shows first (makes_had _ _ _ _ _ look);
+        shows = subst (λ (q : Post). ShowsAfter q.machine q.vcpu f owner word b.made answer) post b.shows first (makes_had _ _ _ _ _ look);
         hand = leaves_after f owner answer v.holdings u.holdings w.holdings same b.hand;
       }
 
   -- the reference is given back at once, for a cause that the word shows
-  pub refused : (e : Stop) → SameHand v.holdings u.holdings → GivesUp u w f → ((made : List Made) → Had v.post.machine (Kind f) word made → TypeCause v.post.machine v.post.seat f owner made e) →
+  pub refused : (e : Stop) → SameHand v.holdings u.holdings → GivesUp u w f → ((made : List Made) → Had v.post.machine (Kind f) word made → TypeCause v.post.machine v.post.vcpu f owner made e) →
       Takes v w f owner (Err e)
   refused e same gives why =
       let first = at_kind v u f word Load look in

@@ -40,7 +40,7 @@ zero_test x is = grind (arith, nat_tests)
 module _ (v u t : PortValue) (a : Awaited) (k x y : ℕ) (run : Makes v u (run_of k) Load None x) (first : SameHand v.holdings u.holdings) (post : u.post ≡ v.post)
     (marked : IsMarked v.post.machine a.frame a.owner a.stamp v.holdings) (flushed : Makes u t (flushed_of k) Load None y) (second : SameHand u.holdings t.holdings) (again : t.post ≡ u.post) where
   -- flushed later than the stamp
-  pub found_late : Finds u.post.machine u.post.seat u.holdings (flushed_of k) y → a.stamp < y → Looks v t a k (Ok None)
+  pub found_late : Finds u.post.machine u.post.vcpu u.holdings (flushed_of k) y → a.stamp < y → Looks v t a k (Ok None)
   found_late finds late =
       let piece = vcpu_look v u k 6 x a.frame run in
       looks_after v u t a k (Ok None) _ piece (whole_same _ _ first)
@@ -72,25 +72,25 @@ module _ (v u t : PortValue) (a : Awaited) (k x y : ℕ) (run : Makes v u (run_o
     same_then : SameOrFlushed v.holdings r.holdings
     same_then = whole_more _ _ _ two_same weighs.hand
 
-    awaits_frame : (p : Place) (z : ℕ) → Finds v.post.machine v.post.seat v.holdings p z → AwaitsFrame v.post.machine (length v.holdings.steps) k a.stamp r.holdings
+    awaits_frame : (p : Place) (z : ℕ) → Finds v.post.machine v.post.vcpu v.holdings p z → AwaitsFrame v.post.machine (length v.holdings.steps) k a.stamp r.holdings
     awaits_frame p z finds =
         let n = v.post.machine in
         let grows : Grows v.holdings r.holdings = λ test h. grown test (makes_keeps v u (run_of k) Load None x run test h) in
         let m = marked_later n a.frame v.holdings r.holdings same_then grows a.owner a.stamp marked in
-        let frame = same_frame n v.post.seat v.holdings p z finds a.frame marked.work marked.here in
+        let frame = same_frame n v.post.vcpu v.holdings p z finds a.frame marked.work marked.here in
         record {
           work = marked.work;
           here = subst (λ f. work_on f r.holdings.works ≡ Some marked.work) (sym frame) (ap (λ ws. work_on a.frame ws) same_then.works ∙ marked.here);
           marked = marked.marked;
           stamped = marked.stamped;
-          locked = work_past n v.post.seat v.holdings p z finds a.frame marked.work marked.here;
+          locked = work_past n v.post.vcpu v.holdings p z finds a.frame marked.work marked.here;
           owner = a.owner;
           known = knows_later (sizes_of n) marked.work.frame a.owner v.holdings r.holdings grows same_then.refs same_then.typed same_then.rest.locks
               (subst (λ f. IsTrue (knows_owner (sizes_of n) f a.owner v.holdings)) (sym frame) marked.known);
           concerned = subst (λ (q : Post). (domain_of q.machine k ≡ a.owner) ⊎ IsTrue (some_since (sizes_of q.machine) 0 (Priv (domain_of q.machine k)) (has_ever a.owner) r.holdings.steps)) (again ∙ post) weighs.shows;
         }
 
-    pub may_ask : (p : Place) (z : ℕ) → Finds v.post.machine v.post.seat v.holdings p z → x ≡ 0 → y ≤ a.stamp → MayAsk r.post.machine k a.stamp r.holdings
+    pub may_ask : (p : Place) (z : ℕ) → Finds v.post.machine v.post.vcpu v.holdings p z → x ≡ 0 → y ≤ a.stamp → MayAsk r.post.machine k a.stamp r.holdings
     unfolding left_by
     may_ask p z finds idle behind =
         subst (λ (q : Post). MayAsk q.machine k a.stamp r.holdings) (sym (later ∙ again ∙ post))
@@ -105,7 +105,7 @@ module _ (v u t : PortValue) (a : Awaited) (k x y : ℕ) (run : Makes v u (run_o
         })
 
     -- asked
-    pub found_behind : (w : PortValue) (z : ℕ) → Makes r w (asked_of k) (Max a.stamp) None z → SameHand r.holdings w.holdings → k ≢ v.post.seat → x ≡ 0 → y ≤ a.stamp → Looks v w a k (Ok (Some y))
+    pub found_behind : (w : PortValue) (z : ℕ) → Makes r w (asked_of k) (Max a.stamp) None z → SameHand r.holdings w.holdings → k ≢ v.post.vcpu → x ≡ 0 → y ≤ a.stamp → Looks v w a k (Ok (Some y))
     found_behind w z ask third other idle behind =
         let n = v.post.machine in
         let before = flushes_both v t r a.frame looked weighs.made two_looks (ran_serves t r a.frame _ weighs) in

@@ -47,7 +47,7 @@ module _ (v u w : PortValue) (a : Awaited) (xs ys : List Made) (first : Serves v
 
   pub still_clear : (k : ℕ) → SameOrFlushed u.holdings w.holdings → IsClear v u a xs k → IsClear v w a (ys ++ xs) k
   still_clear k same c = (
-    clear_earlier v.post.machine xs ys v.post.seat a.owner a.stamp k c.0,
+    clear_earlier v.post.machine xs ys v.post.vcpu a.owner a.stamp k c.0,
     past_later v.post.machine a.frame u.holdings w.holdings same (went_grows u w ys second.went) k c.1,
   )
 
@@ -57,9 +57,9 @@ module _ (v u w : PortValue) (a : Awaited) (xs ys : List Made) (first : Serves v
   stands_in k (Err r) s = s
 
   append_stands : (k : ℕ) (r : Result (Option ℕ) Refusal) → Stands v w a ys k r → Stands v w a (ys ++ xs) k r
-  append_stands k (Ok None) c = (clear_later v.post.machine xs ys v.post.seat a.owner a.stamp k c.0, c.1)
-  append_stands k (Ok (Some found)) b = behind_later v.post.machine xs ys v.post.seat a.stamp k found b
-  append_stands k (Err r) e = last_later v.post.machine xs ys v.post.seat a.stamp r e
+  append_stands k (Ok None) c = (clear_later v.post.machine xs ys v.post.vcpu a.owner a.stamp k c.0, c.1)
+  append_stands k (Ok (Some found)) b = behind_later v.post.machine xs ys v.post.vcpu a.stamp k found b
+  append_stands k (Err r) e = last_later v.post.machine xs ys v.post.vcpu a.stamp r e
 
   pub then_stands : (k : ℕ) (r : Result (Option ℕ) Refusal) → Stands u w a ys k r → Stands v w a (ys ++ xs) k r
   then_stands k r s =

@@ -88,7 +88,7 @@ plain_partial k form partial plain = (grind (arith, nat_tests), grind (arith, na
 pub partial_marked : (w : ℕ) (k : KindWord) → kind_read w ≡ Some k → IsParted k → (k.unflushed ≡ true) × (k.progress ≡ 0)
 partial_marked w k read is = plain_partial k (form_read w k read) is.partial (ap is_table is.kind)
 
--- ---- a word that a seat finds is a spelling
+-- ---- a word that a vCPU finds is a spelling
 some_kind : (n : Machine) (o : Option KindWord) → IsTrue (is_kind_in n o) → IsTrue (is_some o)
 some_kind n None is = is
 some_kind n (Some k) is = refl

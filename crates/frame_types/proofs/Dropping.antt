@@ -32,14 +32,14 @@ use Rattle.frame_words.proofs.Stepping.{kind_there}
 use Rattle.frame_types.specs.Writable.{DroppedPlain}
 use Rattle.frame_types.proofs.Calmly.{clock_left}
 
--- ---- what a seat finds, while it works on a frame
+-- ---- what a vCPU finds, while it works on a frame
 -- the word of a frame in the own works has a form
 pub work_has_form : (n : Machine) (s : ℕ) (h : Holdings) (p : Place) (w f : ℕ) (e : Work) → f < n.frames → Finds n s h p w → work_on f h.works ≡ Some e → has_form (kind_fields e.word) ≡ true
 unfolding IsSpelling
 work_has_form n s h p w f e frame finds here =
     let m = finds.words in
-    let at : work_on f (finds.seats s).works ≡ Some e = ap (λ (u : Holdings). work_on f u.works) finds.mine ∙ here in
-    let found = EachOf-found (WorkFound n m finds.seats (finds.seats s)) (λ y. y.frame) f (finds.seats s).works e at (finds.sound.found s finds.real).works in
+    let at : work_on f (finds.hands s).works ≡ Some e = ap (λ (u : Holdings). work_on f u.works) finds.mine ∙ here in
+    let found = EachOf-found (WorkFound n m finds.hands (finds.hands s)) (λ y. y.frame) f (finds.hands s).works e at (finds.sound.found s finds.real).works in
     let word : m (Kind f) ≡ e.word = subst (λ g. m (Kind g) ≡ e.word) found.0 found.1.word in
     subst (λ y. has_form (kind_fields y) ≡ true) word (spelled_form n (m (Kind f)) (finds.sound.spelled.spelled (Kind f) (kind_there (sizes_of n) f frame)))
 

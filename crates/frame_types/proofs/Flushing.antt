@@ -33,7 +33,7 @@ module _ (u w : PortValue) (a : Awaited) (marked : IsMarked u.post.machine a.fra
 
   past_stamp : a.stamp < to
   past_stamp =
-      let low = stamp_low u.post.machine u.post.seat u.holdings f.clock f.finds a.frame a.owner a.stamp marked in
+      let low = stamp_low u.post.machine u.post.vcpu u.holdings f.clock f.finds a.frame a.owner a.stamp marked in
       let greater = f.greater in
       omega (arith, low, greater)
 
@@ -51,60 +51,60 @@ module _ (u w : PortValue) (a : Awaited) (marked : IsMarked u.post.machine a.fra
   longer : length u.holdings.steps ≤ length f.ticked.holdings.steps
   longer = went_longer u f.ticked ticks two_steps.piece.went
 
-  past_own : PastOn u.post.machine a.frame u.post.seat w.holdings
+  past_own : PastOn u.post.machine a.frame u.post.vcpu w.holdings
   unfolding left_by
   past_own e here =
       let before : work_on a.frame u.holdings.works ≡ Some e = ap (λ ws. work_on a.frame ws) (sym flushed.works) ∙ here in
-      let since = work_past u.post.machine u.post.seat u.holdings Clock f.clock f.finds a.frame e before in
+      let since = work_past u.post.machine u.post.vcpu u.holdings Clock f.clock f.finds a.frame e before in
       let more = longer in
       let late : (kind_fields e.word).number < to = subst (λ c. c < to) (sym (stamp_is u.post.machine a.frame a.owner a.stamp u.holdings e marked before)) past_stamp in
       inl (or_right _ _
-      (subst (λ (q : Post). IsTrue (some_since (sizes_of q.machine) e.since (flushed_of u.post.seat) (λ y. nat_lt (kind_fields e.word).number y) w.holdings.steps)) ticked_post
-      (makes_since f.ticked w (flushed_of u.post.seat) (Store to) None f.before f.ack e.since (λ y. nat_lt (kind_fields e.word).number y) (omega (arith, since, more)) (later _ to late))))
+      (subst (λ (q : Post). IsTrue (some_since (sizes_of q.machine) e.since (flushed_of u.post.vcpu) (λ y. nat_lt (kind_fields e.word).number y) w.holdings.steps)) ticked_post
+      (makes_since f.ticked w (flushed_of u.post.vcpu) (Store to) None f.before f.ack e.since (λ y. nat_lt (kind_fields e.word).number y) (omega (arith, since, more)) (later _ to late))))
 
-  pub own_flushed : Looks u w a u.post.seat (Ok None)
+  pub own_flushed : Looks u w a u.post.vcpu (Ok None)
   own_flushed =
-      let all = flushes_both u f.ticked w a.frame _ _ two_steps (makes_flushes f.ticked w (flushed_of u.post.seat) (Store to) f.before f.ack a.frame refl refl) in
-      let acked = made_of f.ticked w (flushed_of u.post.seat) (Store to) f.before f.ack ∷ [] in
-      let had = subst (λ (q : Post). HadAct q.machine (flushed_of u.post.seat) (Store to) f.before acked) ticked_post (makes_act f.ticked w (flushed_of u.post.seat) (Store to) f.before f.ack) in
+      let all = flushes_both u f.ticked w a.frame _ _ two_steps (makes_flushes f.ticked w (flushed_of u.post.vcpu) (Store to) f.before f.ack a.frame refl refl) in
+      let acked = made_of f.ticked w (flushed_of u.post.vcpu) (Store to) f.before f.ack ∷ [] in
+      let had = subst (λ (q : Post). HadAct q.machine (flushed_of u.post.vcpu) (Store to) f.before acked) ticked_post (makes_act f.ticked w (flushed_of u.post.vcpu) (Store to) f.before f.ack) in
       record {
-        made = made_of f.ticked w (flushed_of u.post.seat) (Store to) f.before f.ack ∷ ticks;
+        made = made_of f.ticked w (flushed_of u.post.vcpu) (Store to) f.before f.ack ∷ ticks;
         piece = all.piece;
         flushes = all.flushes;
         shows = (
-          FoundClear.own to f.before refl (act_later u.post.machine (flushed_of u.post.seat) (Store to) f.before ticks acked had) past_stamp,
+          FoundClear.own to f.before refl (act_later u.post.machine (flushed_of u.post.vcpu) (Store to) f.before ticks acked had) past_stamp,
           past_own,
         );
         hand = whole_flushed _ _ flushed;
       }
 
-module _ (v u w : PortValue) (a : Awaited) (x : ℕ) (look : Makes v u (flushed_of v.post.seat) Load None x) (same : SameHand v.holdings u.holdings) (post : u.post ≡ v.post) where
+module _ (v u w : PortValue) (a : Awaited) (x : ℕ) (look : Makes v u (flushed_of v.post.vcpu) Load None x) (same : SameHand v.holdings u.holdings) (post : u.post ≡ v.post) where
   -- flushed after the look
-  pub then_flushed : IsMarked v.post.machine a.frame a.owner a.stamp v.holdings → FlushesOwn u w → Flushed u.holdings w.holdings → Looks v w a v.post.seat (Ok None)
+  pub then_flushed : IsMarked v.post.machine a.frame a.owner a.stamp v.holdings → FlushesOwn u w → Flushed u.holdings w.holdings → Looks v w a v.post.vcpu (Ok None)
   then_flushed marked f flushed =
-      let piece = vcpu_look v u v.post.seat 5 x a.frame look in
-      looks_after v u w a v.post.seat (Ok None) _ piece (whole_same _ _ same)
-      (subst (λ (q : Post). Looks u w a q.seat (Ok None)) post (own_flushed u w a (marked_next v u a _ piece.piece post (whole_same _ _ same) marked) f flushed))
+      let piece = vcpu_look v u v.post.vcpu 5 x a.frame look in
+      looks_after v u w a v.post.vcpu (Ok None) _ piece (whole_same _ _ same)
+      (subst (λ (q : Post). Looks u w a q.vcpu (Ok None)) post (own_flushed u w a (marked_next v u a _ piece.piece post (whole_same _ _ same) marked) f flushed))
 
   -- refused after the look
-  pub then_refused : (r : Refusal) → x ≤ a.stamp → FindsLast u w r → SameHand u.holdings w.holdings → Looks v w a v.post.seat (Err r)
+  pub then_refused : (r : Refusal) → x ≤ a.stamp → FindsLast u w r → SameHand u.holdings w.holdings → Looks v w a v.post.vcpu (Err r)
   then_refused r behind last again =
       let n = v.post.machine in
-      let looked = made_of v u (flushed_of v.post.seat) Load x look ∷ [] in
+      let looked = made_of v u (flushed_of v.post.vcpu) Load x look ∷ [] in
       let told = made_of u w Clock Load last_clock last.look ∷ [] in
-      let all = flushes_both v u w a.frame _ _ (vcpu_look v u v.post.seat 5 x a.frame look) (makes_flushes u w Clock Load last_clock last.look a.frame refl refl) in
+      let all = flushes_both v u w a.frame _ _ (vcpu_look v u v.post.vcpu 5 x a.frame look) (makes_flushes u w Clock Load last_clock last.look a.frame refl refl) in
       let had_clock = subst (λ (q : Post). Had q.machine Clock last_clock told) post (makes_had u w Clock Load last_clock last.look) in
       record {
         made = made_of u w Clock Load last_clock last.look ∷ looked;
         piece = all.piece;
         flushes = all.flushes;
         shows =
-            subst (λ q. IsLastClock n v.post.seat a.stamp (made_of u w Clock Load last_clock last.look ∷ looked) q) (sym last.refusal) (
+            subst (λ q. IsLastClock n v.post.vcpu a.stamp (made_of u w Clock Load last_clock last.look ∷ looked) q) (sym last.refusal) (
               refl,
               record {
                 flushed = x;
                 behind = behind;
-                had_flushed = had_earlier n (flushed_of v.post.seat) x looked told (makes_had v u (flushed_of v.post.seat) Load x look);
+                had_flushed = had_earlier n (flushed_of v.post.vcpu) x looked told (makes_had v u (flushed_of v.post.vcpu) Load x look);
                 had_clock = had_later n Clock last_clock looked told had_clock;
               },
             );

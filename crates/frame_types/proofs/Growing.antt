@@ -1,4 +1,4 @@
--- Steps are only added to a hand: what its seat knew of a marked frame in its works, it knows later.
+-- Steps are only added to a hand: what its vCPU knew of a marked frame in its works, it knows later.
 use Rattle.std.proofs.Common.{◌≡◌, ℕ, ◌&&◌, ◌||◌, Bool, true, false, List, [], ◌∷◌, IsTrue, refl, sym, ap, ◌∙◌, subst, inl, inr}
 use Rattle.xp_words.specs.Machine.{Machine}
 use Rattle.xp_words.specs.Places.{Sizes, sizes_of}

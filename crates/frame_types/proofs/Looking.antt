@@ -52,10 +52,10 @@ module _ (v w : PortValue) (a : Awaited) (k x : ℕ) (same : SameHand v.holdings
   before e here = ap (λ ws. work_on a.frame ws) (sym same.rest.works) ∙ here
 
   -- the vCPU does not run
-  pub look_idle : Makes v w (run_of k) Load None x → Finds v.post.machine v.post.seat v.holdings (run_of k) x → k < length v.post.machine.vcpu_domain → x ≢ 0 → Looks v w a k (Ok None)
+  pub look_idle : Makes v w (run_of k) Load None x → Finds v.post.machine v.post.vcpu v.holdings (run_of k) x → k < length v.post.machine.vcpu_domain → x ≢ 0 → Looks v w a k (Ok None)
   unfolding left_by
   look_idle m finds real some =
-      let idle = idle_word x some (run_low v.post.machine v.post.seat v.holdings k x real finds) in
+      let idle = idle_word x some (run_low v.post.machine v.post.vcpu v.holdings k x real finds) in
       let one = vcpu_look v w k 6 x a.frame m in
       record {
         made = made_of v w (run_of k) Load x m ∷ [];
@@ -64,13 +64,13 @@ module _ (v w : PortValue) (a : Awaited) (k x : ℕ) (same : SameHand v.holdings
         shows = (
           FoundClear.idle x (makes_had v w (run_of k) Load x m) idle,
           λ e here.
-              inl (or_left _ _ (makes_since v w (run_of k) Load None x m e.since is_idle (work_past v.post.machine v.post.seat v.holdings (run_of k) x finds a.frame e (before e here)) idle)),
+              inl (or_left _ _ (makes_since v w (run_of k) Load None x m e.since is_idle (work_past v.post.machine v.post.vcpu v.holdings (run_of k) x finds a.frame e (before e here)) idle)),
         );
         hand = whole_same _ _ same;
       }
 
   -- it was flushed later than the stamp
-  pub look_late : Makes v w (flushed_of k) Load None x → Finds v.post.machine v.post.seat v.holdings (flushed_of k) x → IsMarked v.post.machine a.frame a.owner a.stamp v.holdings → a.stamp < x → Looks v w a k (Ok None)
+  pub look_late : Makes v w (flushed_of k) Load None x → Finds v.post.machine v.post.vcpu v.holdings (flushed_of k) x → IsMarked v.post.machine a.frame a.owner a.stamp v.holdings → a.stamp < x → Looks v w a k (Ok None)
   unfolding left_by
   look_late m finds marked late =
       let one = vcpu_look v w k 5 x a.frame m in
@@ -82,14 +82,14 @@ module _ (v w : PortValue) (a : Awaited) (k x : ℕ) (same : SameHand v.holdings
           FoundClear.flushed x (makes_had v w (flushed_of k) Load x m) late,
           λ e here.
               inl (or_right _ _
-              (makes_since v w (flushed_of k) Load None x m e.since (λ y. nat_lt (kind_fields e.word).number y) (work_past v.post.machine v.post.seat v.holdings (flushed_of k) x finds a.frame e (before e here))
+              (makes_since v w (flushed_of k) Load None x m e.since (λ y. nat_lt (kind_fields e.word).number y) (work_past v.post.machine v.post.vcpu v.holdings (flushed_of k) x finds a.frame e (before e here))
               (later _ x (subst (λ c. c < x) (sym (stamp_is v.post.machine a.frame a.owner a.stamp v.holdings e marked (before e here))) late)))),
         );
         hand = whole_same _ _ same;
       }
 
   -- its domain never had privilege over the owner
-  pub look_barred : (d : ℕ) → d ≡ domain_of v.post.machine k → Makes v w (Priv d) Load None x → Finds v.post.machine v.post.seat v.holdings (Priv d) x → IsMarked v.post.machine a.frame a.owner a.stamp v.holdings →
+  pub look_barred : (d : ℕ) → d ≡ domain_of v.post.machine k → Makes v w (Priv d) Load None x → Finds v.post.machine v.post.vcpu v.holdings (Priv d) x → IsMarked v.post.machine a.frame a.owner a.stamp v.holdings →
       d ≢ a.owner → IsTrue (not (has_ever a.owner x)) → Weighs v w a k false
   unfolding left_by
   look_barred d is m finds marked other never =
@@ -105,10 +105,10 @@ module _ (v w : PortValue) (a : Awaited) (k x : ℕ) (same : SameHand v.holdings
           λ e here.
               inr (record {
                 owner = a.owner;
-                known = subst (λ g. IsTrue (knows_owner (sizes_of v.post.machine) g a.owner w.holdings)) (sym (same_frame v.post.machine v.post.seat v.holdings (Priv d) x finds a.frame e (before e here))) after.known;
+                known = subst (λ g. IsTrue (knows_owner (sizes_of v.post.machine) g a.owner w.holdings)) (sym (same_frame v.post.machine v.post.vcpu v.holdings (Priv d) x finds a.frame e (before e here))) after.known;
                 other = off;
                 never = subst (λ c. IsTrue (some_since (sizes_of v.post.machine) e.since (Priv c) (λ y. not (has_ever a.owner y)) w.holdings.steps)) is
-                    (makes_since v w (Priv d) Load None x m e.since (λ y. not (has_ever a.owner y)) (work_past v.post.machine v.post.seat v.holdings (Priv d) x finds a.frame e (before e here)) never);
+                    (makes_since v w (Priv d) Load None x m e.since (λ y. not (has_ever a.owner y)) (work_past v.post.machine v.post.vcpu v.holdings (Priv d) x finds a.frame e (before e here)) never);
               }),
         );
         hand = whole_same _ _ same;
@@ -129,7 +129,7 @@ module _ (v w : PortValue) (a : Awaited) (k x : ℕ) (same : SameHand v.holdings
         hand = whole_same _ _ same;
       }
 
-  pub look_weighs : (d : ℕ) → d ≡ domain_of v.post.machine k → Makes v w (Priv d) Load None x → Finds v.post.machine v.post.seat v.holdings (Priv d) x → IsMarked v.post.machine a.frame a.owner a.stamp v.holdings →
+  pub look_weighs : (d : ℕ) → d ≡ domain_of v.post.machine k → Makes v w (Priv d) Load None x → Finds v.post.machine v.post.vcpu v.holdings (Priv d) x → IsMarked v.post.machine a.frame a.owner a.stamp v.holdings →
       d ≢ a.owner → (b : Bool) → b ≡ has_ever a.owner x → Weighs v w a k b
   look_weighs d is m finds marked other true at = look_concerned d is m (sym at)
   look_weighs d is m finds marked other false at = look_barred d is m finds marked other (ap not (sym at))

@@ -1,4 +1,4 @@
--- What a sound state tells of a marked frame in the works of a seat.
+-- What a sound state tells of a marked frame in the works of a vCPU.
 use Rattle.std.proofs.Common.{◌≡◌, ℕ, ◌<◌, ◌≤◌, nat_lt, nat_le, false, length, Option, Some, None, IsTrue, refl, sym, ap, ◌∙◌, subst, arith}
 use Rattle.std.proofs.lemmas.Bool.{and_parts}
 use Rattle.std.proofs.lemmas.Bool.Decides.{nat_tests}
@@ -21,8 +21,8 @@ use Rattle.frame_words.proofs.Stepping.{refs_there}
 use Rattle.frame_types.specs.Waiting.{IsMarked}
 
 module _ (n : Machine) (s : ℕ) (h : Holdings) (p : Place) (w : ℕ) (finds : Finds n s h p w) (f : ℕ) where
-  works : (e : Work) → work_on f h.works ≡ Some e → Works n finds.words finds.seats s f e
-  works e here = works_facts n finds.words finds.seats s f e finds.sound finds.real (subst (λ (u : Holdings). work_on f u.works ≡ Some e) (sym finds.mine) here)
+  works : (e : Work) → work_on f h.works ≡ Some e → Works n finds.words finds.hands s f e
+  works e here = works_facts n finds.words finds.hands s f e finds.sound finds.real (subst (λ (u : Holdings). work_on f u.works ≡ Some e) (sym finds.mine) here)
 
   pub same_frame : (e : Work) → work_on f h.works ≡ Some e → e.frame ≡ f
   same_frame e here = (works e here).frame

@@ -29,7 +29,7 @@ finished v u w f owner stamp answer a b =
     record {
       made = b.made ++ a.made;
       piece = serves_more v u w f [] [] a.made b.made a.piece b.piece;
-      shows = shows_within v.post.machine v.post.seat owner stamp a.made (b.made ++ a.made) (earlier_within v.post.machine a.made b.made) answer a.shows;
+      shows = shows_within v.post.machine v.post.vcpu owner stamp a.made (b.made ++ a.made) (earlier_within v.post.machine a.made b.made) answer a.shows;
     }
 
 -- ---- the cause, of a frame that was found waiting

@@ -32,18 +32,18 @@ up_to P k all here u below =
     ]
 
 clear_or_asked : (v w : PortValue) (a : Awaited) (made : List Made) (k : ℕ) (standing : Option ℕ) → Stands v w a made k (Ok standing) →
-    FoundClear v.post.machine v.post.seat a.owner a.stamp made k ⊎ WasAskedToFlush v.post.machine a.stamp made k
+    FoundClear v.post.machine v.post.vcpu a.owner a.stamp made k ⊎ WasAskedToFlush v.post.machine a.stamp made k
 clear_or_asked v w a made k None s = inl s.0
 clear_or_asked v w a made k (Some found) s = inr s.asked
 
 module _ (v u w : PortValue) (a : Awaited) (k : ℕ) (xs ys : List Made) (first : Serves v u a.frame [] xs) (second : Serves u w a.frame [] ys) where
-  others_more : (standing : Option ℕ) → ((j : ℕ) → j < k → FoundClear v.post.machine v.post.seat a.owner a.stamp xs j ⊎ WasAskedToFlush v.post.machine a.stamp xs j) → Stands v w a (ys ++ xs) k (Ok standing) →
-      (j : ℕ) → j < k + 1 → FoundClear v.post.machine v.post.seat a.owner a.stamp (ys ++ xs) j ⊎ WasAskedToFlush v.post.machine a.stamp (ys ++ xs) j
+  others_more : (standing : Option ℕ) → ((j : ℕ) → j < k → FoundClear v.post.machine v.post.vcpu a.owner a.stamp xs j ⊎ WasAskedToFlush v.post.machine a.stamp xs j) → Stands v w a (ys ++ xs) k (Ok standing) →
+      (j : ℕ) → j < k + 1 → FoundClear v.post.machine v.post.vcpu a.owner a.stamp (ys ++ xs) j ⊎ WasAskedToFlush v.post.machine a.stamp (ys ++ xs) j
   others_more standing others here =
-      up_to (λ j. FoundClear v.post.machine v.post.seat a.owner a.stamp (ys ++ xs) j ⊎ WasAskedToFlush v.post.machine a.stamp (ys ++ xs) j) k
+      up_to (λ j. FoundClear v.post.machine v.post.vcpu a.owner a.stamp (ys ++ xs) j ⊎ WasAskedToFlush v.post.machine a.stamp (ys ++ xs) j) k
       (λ j below.
       elim (others j below) [
-        | inl clear ↦ inl (clear_earlier v.post.machine xs ys v.post.seat a.owner a.stamp j clear)
+        | inl clear ↦ inl (clear_earlier v.post.machine xs ys v.post.vcpu a.owner a.stamp j clear)
         | inr asked ↦ inr (asked_earlier v.post.machine xs ys a.stamp j asked)
       ])
       (clear_or_asked v w a (ys ++ xs) k standing here)
@@ -54,14 +54,14 @@ module _ (v u w : PortValue) (a : Awaited) (k : ℕ) (xs ys : List Made) (first 
       record {
         below = omega arith;
         itself = here;
-        least = λ j below. clear_earlier v.post.machine xs ys v.post.seat a.owner a.stamp j (all j below).0;
+        least = λ j below. clear_earlier v.post.machine xs ys v.post.vcpu a.owner a.stamp j (all j below).0;
         others = others_more (Some found) (λ j below. inl (all j below).0) here;
       }
   all_more (Some b) standing same all here =
       record {
         below = (let below = all.below in omega (arith, below));
-        itself = behind_earlier v.post.machine xs ys v.post.seat a.stamp b.vcpu b.found all.itself;
-        least = λ j below. clear_earlier v.post.machine xs ys v.post.seat a.owner a.stamp j (all.least j below);
+        itself = behind_earlier v.post.machine xs ys v.post.vcpu a.stamp b.vcpu b.found all.itself;
+        least = λ j below. clear_earlier v.post.machine xs ys v.post.vcpu a.owner a.stamp j (all.least j below);
         others = others_more standing all.others here;
       }
 

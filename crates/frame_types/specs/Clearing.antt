@@ -36,7 +36,7 @@ pub record WasRunning (v w : PortValue) (f : ℕ) (Shown : List Made → Type 0)
 -- ---- one vCPU
 -- the steps from v to w found it clear
 abbrev pub IsClear : PortValue → PortValue → Awaited → List Made → ℕ → Type 0
-IsClear v w a made u = FoundClear v.post.machine v.post.seat a.owner a.stamp made u × PastOn v.post.machine a.frame u w.holdings
+IsClear v w a made u = FoundClear v.post.machine v.post.vcpu a.owner a.stamp made u × PastOn v.post.machine a.frame u w.holdings
 
 -- another one was found running and flushed no later than the stamp, and was asked
 pub record IsBehind (n : Machine) (s stamp : ℕ) (made : List Made) (u found : ℕ) : Type 0 where
@@ -53,8 +53,8 @@ IsLastClock n s stamp made _ = ⊥
 
 abbrev pub Stands : PortValue → PortValue → Awaited → List Made → ℕ → Result (Option ℕ) Refusal → Type 0
 Stands v w a made u (Ok None) = IsClear v w a made u
-Stands v w a made u (Ok (Some found)) = IsBehind v.post.machine v.post.seat a.stamp made u found
-Stands v w a made u (Err r) = IsLastClock v.post.machine v.post.seat a.stamp made r
+Stands v w a made u (Ok (Some found)) = IsBehind v.post.machine v.post.vcpu a.stamp made u found
+Stands v w a made u (Err r) = IsLastClock v.post.machine v.post.vcpu a.stamp made r
 
 -- the steps from v to w showed that vCPU u is clear, or flushed to the answer and behind
 abbrev pub Looks : PortValue → PortValue → Awaited → ℕ → Result (Option ℕ) Refusal → Type 0
@@ -84,8 +84,8 @@ pub record IsLeast (n : Machine) (s owner stamp : ℕ) (made : List Made) (upto 
 
 abbrev pub AllStand : PortValue → PortValue → Awaited → List Made → ℕ → Result (Option Behind) Refusal → Type 0
 AllStand v w a made upto (Ok None) = (u : ℕ) → u < upto → IsClear v w a made u
-AllStand v w a made upto (Ok (Some b)) = IsLeast v.post.machine v.post.seat a.owner a.stamp made upto b
-AllStand v w a made upto (Err r) = IsLastClock v.post.machine v.post.seat a.stamp made r
+AllStand v w a made upto (Ok (Some b)) = IsLeast v.post.machine v.post.vcpu a.owner a.stamp made upto b
+AllStand v w a made upto (Err r) = IsLastClock v.post.machine v.post.vcpu a.stamp made r
 
 -- the steps from v to w showed that all below that number are clear, or the least that is behind
 abbrev pub Waits : PortValue → PortValue → Awaited → ℕ → Result (Option Behind) Refusal → Type 0

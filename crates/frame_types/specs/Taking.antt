@@ -63,7 +63,7 @@ LeavesShared f owner (Err e) h k = Becomes (without_ref f h.refs) h.typed (witho
 pub record EndsTaking (v w : PortValue) (f owner stamp : ℕ) (answer : Result (Unit {0}) Stop) : Type 0 where
   pub made : List Made
   pub piece : Serves v w f [] made
-  pub shows : waiting.ShowsWait v.post.machine v.post.seat owner stamp made answer
+  pub shows : waiting.ShowsWait v.post.machine v.post.vcpu owner stamp made answer
 
 -- calm steps give the untyped reference back
 pub record GivesUp (v w : PortValue) (f : ℕ) : Type 0 where
@@ -81,5 +81,5 @@ pub record TakesAfter (v w : PortValue) (f owner word : ℕ) (answer : Result (U
   pub made : List Made
   pub piece : Serves v w f [] made
   pub flushes : FlushesFor v.post.machine f made
-  pub shows : ShowsAfter v.post.machine v.post.seat f owner word made answer
+  pub shows : ShowsAfter v.post.machine v.post.vcpu f owner word made answer
   pub hand : writable.LeavesHand f owner answer v.holdings w.holdings

@@ -84,5 +84,5 @@ pub record Clears (v w : PortValue) (f owner stamp : ℕ) (answer : Result (Unit
   pub made : List Made
   pub piece : Serves v w f [] made
   pub flushes : EachOf (IsOfFlush v.post.machine) made
-  pub shows : ShowsWait v.post.machine v.post.seat owner stamp made answer
+  pub shows : ShowsWait v.post.machine v.post.vcpu owner stamp made answer
   pub hand : SameOrFlushed v.holdings w.holdings

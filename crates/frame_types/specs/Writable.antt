@@ -44,7 +44,7 @@ pub record DroppedPlain (f : ℕ) (h k : Holdings) : Type 0 where
 abbrev pub IsOther : KindWord → Type 0
 IsOther k = (is_dead k ≡ false) × (k.kind ≢ Writable)
 
--- another seat works on it, or gives its last type count back
+-- another vCPU works on it, or gives its last type count back
 abbrev pub IsBusy : KindWord → Type 0
 IsBusy k = (k.kind ≡ Writable) × (IsTrue (is_work k) ⊎ IsTrue (is_closing k))
 
@@ -92,7 +92,7 @@ pub record Takes (v w : PortValue) (f owner : ℕ) (answer : Result (Unit {0}) S
   pub made : List Made
   pub piece : Serves v w f [] made
   pub flushes : FlushesFor v.post.machine f made
-  pub shows : ShowsType v.post.machine v.post.seat f owner made answer
+  pub shows : ShowsType v.post.machine v.post.vcpu f owner made answer
   pub hand : LeavesHand f owner answer v.holdings w.holdings
 
 -- ---- given back

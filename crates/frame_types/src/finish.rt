@@ -21,7 +21,7 @@ pub(crate) fn finish_own<P: Port>(
     requires frame { frame < (P.value port.old).post.machine.frames }
     requires running { (P.value port.old).holdings.run ≡ Some 0 }
     requires landed { (P.value port.old).holdings.walk ≡ None }
-    requires own { owner ≡ domain_of (P.value port.old).post.machine (P.value port.old).post.seat }
+    requires own { owner ≡ domain_of (P.value port.old).post.machine (P.value port.old).post.vcpu }
     requires marked { IsMarkedWork (P.value port.old).post.machine frame owner stamp (P.value port.old).holdings }
     requires held { 0 < typed_to frame (P.value port.old).holdings.typed }
     requires known { typed_owner frame (P.value port.old).holdings ≡ Of owner }

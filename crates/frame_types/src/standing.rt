@@ -13,7 +13,7 @@ pub(crate) enum Standing {
     Dead,
     /// Writable, and its flush was waited for in vain.
     Partial,
-    /// Writable, and in another seat's hand.
+    /// Writable, and in another vCPU's hand.
     Busy,
     /// Of another type.
     Other,

@@ -90,7 +90,7 @@ fn clear<P: Port>(port: &mut P, awaited: Awaited, vcpu: u32) -> Result<Option<u6
     requires marked { IsMarked (P.value port.old).post.machine awaited.frame awaited.owner awaited.stamp (P.value port.old).holdings }
     ensures { Looks (P.value port.old) (P.value port.new) awaited vcpu result }
 {
-    if vcpu == port.seat() {
+    if vcpu == port.vcpu() {
         clear_own(port, awaited)
     } else {
         Ok(clear_other(port, awaited, vcpu))
@@ -101,10 +101,10 @@ fn clear<P: Port>(port: &mut P, awaited: Awaited, vcpu: u32) -> Result<Option<u6
 fn clear_own<P: Port>(port: &mut P, awaited: Awaited) -> Result<Option<u64>, Refusal>
     requires landed { (P.value port.old).holdings.walk ≡ None }
     requires marked { IsMarked (P.value port.old).post.machine awaited.frame awaited.owner awaited.stamp (P.value port.old).holdings }
-    ensures { Looks (P.value port.old) (P.value port.new) awaited (P.value port.old).post.seat result }
+    ensures { Looks (P.value port.old) (P.value port.new) awaited (P.value port.old).post.vcpu result }
 {
-    let seat = port.seat();
-    if look_flushed(port, seat) > awaited.stamp {
+    let vcpu = port.vcpu();
+    if look_flushed(port, vcpu) > awaited.stamp {
         return Ok(None);
     }
     flush_own(port)?;
@@ -115,7 +115,7 @@ fn clear_own<P: Port>(port: &mut P, awaited: Awaited) -> Result<Option<u64>, Ref
 fn clear_other<P: Port>(port: &mut P, awaited: Awaited, vcpu: u32) -> Option<u64>
     requires frame { awaited.frame < (P.value port.old).post.machine.frames }
     requires vcpu { vcpu < length (P.value port.old).post.machine.vcpu_domain }
-    requires other { vcpu ≢ (P.value port.old).post.seat }
+    requires other { vcpu ≢ (P.value port.old).post.vcpu }
     requires running { (P.value port.old).holdings.run ≡ Some 0 }
     requires marked { IsMarked (P.value port.old).post.machine awaited.frame awaited.owner awaited.stamp (P.value port.old).holdings }
     ensures { Looks (P.value port.old) (P.value port.new) awaited vcpu (Ok result) }

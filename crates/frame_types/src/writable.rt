@@ -29,7 +29,7 @@ pub fn take_writable<P: Port>(port: &mut P, frame: u32, owner: u16) -> Result<()
     requires running { (P.value port.old).holdings.run ≡ Some 0 }
     requires landed { (P.value port.old).holdings.walk ≡ None }
     requires lent { LentBy frame owner (P.value port.old).holdings }
-    requires own { owner ≡ domain_of (P.value port.old).post.machine (P.value port.old).post.seat }
+    requires own { owner ≡ domain_of (P.value port.old).post.machine (P.value port.old).post.vcpu }
     requires apart { work_on frame (P.value port.old).holdings.works ≡ None }
     requires untyped { typed_to frame (P.value port.old).holdings.typed ≡ 0 }
     requires looked { (P.value port.old).holdings.looking ≡ [] }
@@ -98,7 +98,7 @@ fn validate_dead<P: Port>(
     requires running { (P.value port.old).holdings.run ≡ Some 0 }
     requires landed { (P.value port.old).holdings.walk ≡ None }
     requires ready { IsReady frame owner (P.value port.old).holdings }
-    requires own { owner ≡ domain_of (P.value port.old).post.machine (P.value port.old).post.seat }
+    requires own { owner ≡ domain_of (P.value port.old).post.machine (P.value port.old).post.vcpu }
     requires word { kind_read word ≡ Some kind }
     requires stands { standing_of kind ≡ Dead }
     ensures post { (P.value port.new).post ≡ (P.value port.old).post }
@@ -131,7 +131,7 @@ fn go_on<P: Port>(
     requires running { (P.value port.old).holdings.run ≡ Some 0 }
     requires landed { (P.value port.old).holdings.walk ≡ None }
     requires ready { IsReady frame owner (P.value port.old).holdings }
-    requires own { owner ≡ domain_of (P.value port.old).post.machine (P.value port.old).post.seat }
+    requires own { owner ≡ domain_of (P.value port.old).post.machine (P.value port.old).post.vcpu }
     requires word { kind_read word ≡ Some kind }
     requires stands { standing_of kind ≡ Partial }
     ensures post { (P.value port.new).post ≡ (P.value port.old).post }

@@ -49,7 +49,7 @@ pub flush_is_legal : (n : Machine) (s : ℕ) (h : Holdings) (i c : ℕ) → plac
     IsTrue (some_since (sizes_of n) h.acked Clock (λ w. w == c) h.steps) → (h.cold ≡ true → IsTrue (some_since (sizes_of n) h.ran Clock (λ w. nat_lt w c) h.steps)) → h.walk ≡ None →
     Legal n s h (record { place = i; act = Store c; kind = steps.Ack; mark = None })
 unfolding IsSpelling
-flush_is_legal n s h i c at real small told warmed landed =
+flush_is_legal n s h i c at real small was_found warmed landed =
     legal_at n s h i (flushed_of s) (Store c) steps.Ack None at
     (record {
       place = own_there (sizes_of n) s 5 real (lit< tt);
@@ -59,7 +59,7 @@ flush_is_legal n s h i c at real small told warmed landed =
       act = record {
         own = refl;
         word = refl;
-        told = told;
+        was_found = was_found;
         warmed = warmed;
         landed = landed;
       };

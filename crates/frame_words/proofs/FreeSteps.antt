@@ -165,8 +165,8 @@ without_none key f (x ∷ xs) none =
 first_ending : (f owner : ℕ) (h : Holdings) (e : IsEnding f owner h) → ending_of f h.ending ≡ Some e.ending
 first_ending f owner h e = ap (λ es. ending_of f es) e.newest ∙ first_by-cons_here (λ (y : Ending). y.frame) f e.ending e.others e.frame
 
-free_told : (n : Machine) (f owner stamp : ℕ) (h : Holdings) → IsEndingSince n f owner stamp h → IsFreeStamp n stamp h (ending_of f h.ending) (claim_of f h.claimed)
-free_told n f owner stamp h e = rw (first_ending f owner h e.ends) e.told
+free_found : (n : Machine) (f owner stamp : ℕ) (h : Holdings) → IsEndingSince n f owner stamp h → IsFreeStamp n stamp h (ending_of f h.ending) (claim_of f h.claimed)
+free_found n f owner stamp h e = rw (first_ending f owner h e.ends) e.was_found
 
 pub free_is_legal : (n : Machine) (s f owner stamp i : ℕ) (h : Holdings) → place_at (sizes_of n) i ≡ Refs f → f < n.frames → h.run ≡ Some 0 → stamp < 2 ^ 36 → IsEndingSince n f owner stamp h →
     0 < times f h.raised → Legal n s h (record { place = i; act = Store (ref_write (Free stamp)); kind = steps.Ref; mark = None })
@@ -179,7 +179,7 @@ free_is_legal n s f owner stamp i h at frame run low ends raised =
       marked = tt;
       running = λ needs. run;
       spelling = rw read refl;
-      act = rw read (record { raised = raised; told = free_told n f owner stamp h ends });
+      act = rw read (record { raised = raised; was_found = free_found n f owner stamp h ends });
     })
     refl
 

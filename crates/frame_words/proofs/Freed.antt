@@ -90,7 +90,7 @@ ending_since v a b f owner stamp x look bit same raised e =
     let post : b.post ≡ v.post = makes_post a b _ _ _ bit ∙ makes_post v a _ _ _ look in
     record {
       ends = still_ending f owner v.holdings b.holdings (raised.ending ∙ same.ending) e.ends;
-      told =
+      was_found =
           subst (λ (q : Post). IsTrue (some_since (sizes_of q.machine) e.ends.ending.since Clock (λ w. w == stamp) b.holdings.steps)) (sym post)
           (makes_keeps a b (Map (f / 64)) (Add (map_bit f)) None x bit _ (makes_since v a Clock Load None stamp look e.ends.ending.since (λ w. w == stamp) e.recent (when_eq stamp stamp refl)));
     }

@@ -52,17 +52,17 @@ module _ (v w : PortValue) (x : Step) (i found : ℕ) (p : Place) (mark : Option
   pub here : place_of v.post.machine x ≡ p
   here = ap (λ (y : Step). place_of v.post.machine y) is ∙ placed v.post.machine i p at real
 
-  pub look_now : Legal v.post.machine v.post.seat v.holdings x
-  look_now = rw is (look_is_legal v.post.machine v.post.seat v.holdings i p mark (placed v.post.machine i p at real) real proved)
+  pub look_now : Legal v.post.machine v.post.vcpu v.holdings x
+  look_now = rw is (look_is_legal v.post.machine v.post.vcpu v.holdings i p mark (placed v.post.machine i p at real) real proved)
 
   pub look_made : IsTold v.post.machine v.told (place_of v.post.machine x) found → w ≡ stepped v x found → Makes v w p Load mark found
   look_made told to =
       makes v w x p Load mark found here (ap (λ (y : Step). y.act) is) (ap (λ (y : Step). y.mark) is) look_now told to
 
-  pub look_left : w ≡ stepped v x found → w.holdings ≡ noted x found (after_move v.post.machine v.post.seat v.holdings p Load steps.Look mark found)
+  pub look_left : w ≡ stepped v x found → w.holdings ≡ noted x found (after_move v.post.machine v.post.vcpu v.holdings p Load steps.Look mark found)
   look_left to =
       hand_after v w x p found here to
-      ∙ ap (λ (y : Step). noted x found (after_move v.post.machine v.post.seat v.holdings p y.act y.kind y.mark found)) is
+      ∙ ap (λ (y : Step). noted x found (after_move v.post.machine v.post.vcpu v.holdings p y.act y.kind y.mark found)) is
 
 -- nothing changes
 pub same_hand : (h k : Holdings) (x : Step) (found : ℕ) → k ≡ noted x found h → SameHand h k
@@ -144,24 +144,24 @@ module _ (v w : PortValue) (x : Step) (i f e new found owner count : ℕ) (alloc
   raise_here : place_at (sizes_of v.post.machine) x.place ≡ Refs f
   raise_here = ap (λ (y : Step). place_at (sizes_of v.post.machine) y.place) is ∙ raise_place
 
-  pub raise_now : Legal v.post.machine v.post.seat v.holdings x
+  pub raise_now : Legal v.post.machine v.post.vcpu v.holdings x
   raise_now =
       rw raise_step
-      (raise_is_legal v.post.machine v.post.seat v.holdings i f e owner count allocated raise_place machine frame run read domain below small)
+      (raise_is_legal v.post.machine v.post.vcpu v.holdings i f e owner count allocated raise_place machine frame run read domain below small)
 
   pub raise_made : IsTold v.post.machine v.told (place_of v.post.machine x) found → w ≡ stepped v x found → Makes v w (Refs f) (Cas e (e + 1)) None found
   raise_made told to =
       makes v w x (Refs f) (Cas e (e + 1)) None found raise_here (ap (λ (y : Step). y.act) raise_step) (ap (λ (y : Step). y.mark) raise_step) raise_now told to
 
-  raise_left : w ≡ stepped v x found → w.holdings ≡ noted x found (after_move v.post.machine v.post.seat v.holdings (Refs f) (Cas e (e + 1)) steps.Ref None found)
+  raise_left : w ≡ stepped v x found → w.holdings ≡ noted x found (after_move v.post.machine v.post.vcpu v.holdings (Refs f) (Cas e (e + 1)) steps.Ref None found)
   raise_left to =
       hand_after v w x (Refs f) found raise_here to
-      ∙ ap (λ (y : Step). noted x found (after_move v.post.machine v.post.seat v.holdings (Refs f) y.act y.kind y.mark found)) raise_step
+      ∙ ap (λ (y : Step). noted x found (after_move v.post.machine v.post.vcpu v.holdings (Refs f) y.act y.kind y.mark found)) raise_step
 
   pub raise_took : found ≡ e → w ≡ stepped v x found → TookRef f owner v.holdings w.holdings
   raise_took same to =
       let limit = machine.few_counts in
-      raised_hand v.post.machine v.post.seat f e owner count allocated v.holdings w.holdings x found small read (omega arith) same (raise_left to)
+      raised_hand v.post.machine v.post.vcpu f e owner count allocated v.holdings w.holdings x found small read (omega arith) same (raise_left to)
 
   pub raise_lost : found ≢ e → w ≡ stepped v x found → SameHand v.holdings w.holdings
-  raise_lost other to = lost_hand v.post.machine v.post.seat f e v.holdings w.holdings x found other (raise_left to)
+  raise_lost other to = lost_hand v.post.machine v.post.vcpu f e v.holdings w.holdings x found other (raise_left to)

@@ -54,7 +54,7 @@ live_is_no_work w live work = no_work (kind_fields w).validated (kind_fields w).
 
 pub dropped_may_die : (n : Machine) (f found stamp : ℕ) (t : PageType) (h g u : Holdings) → DroppedType n f found true h g → u.works ≡ g.works → (kind_fields found).kind ≡ t →
     is_table t ≡ false → IsTrue (some_since (sizes_of n) (length h.steps + 1) Clock (λ w. w == stamp) u.steps) → MayLeaveDead n f t false stamp u
-dropped_may_die n f found stamp t h g u a same kind plain told =
+dropped_may_die n f found stamp t h g u a same kind plain was_found =
     let fields = a.works.fields in
     let none : ◌≡◌ {A = ℕ} (if is_table (kind_fields found).kind then 512 else 0) 0 = rw (kind, plain) refl in
     record {
@@ -64,7 +64,7 @@ dropped_may_die n f found stamp t h g u a same kind plain told =
         kind = sym (ap (λ (y : KindWord). y.kind) fields ∙ kind);
         none = none;
         mark = inl (sym (ap (λ (y : KindWord). y.unflushed) fields ∙ a.unmarked));
-        stamp = told;
+        stamp = was_found;
         counts = λ work. absurd (live_is_no_work (one_fewer found) (ap (λ (y : KindWord). y.validated) fields ∙ a.live) work);
       };
     }

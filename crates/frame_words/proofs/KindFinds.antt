@@ -1,4 +1,4 @@
--- What a kind word tells that a seat finds: facts of every sound state.
+-- What a kind word tells that a vCPU finds: facts of every sound state.
 use Rattle.std.proofs.Common.{◌≡◌, ℕ, ◌+◌, ◌^◌, ◌<◌, ◌≤◌, true, false, Option, Some, None, IsTrue, refl, sym, ap, ◌∙◌, subst, arith}
 use Rattle.xp_words.specs.Machine.{Machine}
 use Rattle.xp_words.specs.declared.kind.KindWord.{KindWord}
@@ -58,16 +58,16 @@ live_count : (k : KindWord) → IsTrue (is_live k) → type_count k ≡ k.number
 unfolding type_count
 live_count k live = rw live refl
 
--- the number of a live word that was found by a seat with an untyped reference is below the limit
+-- the number of a live word that was found by a vCPU with an untyped reference is below the limit
 pub type_is_below : (n : Machine) (s : ℕ) (h : Holdings) (f w : ℕ) (k : KindWord) → f < n.frames → Finds n s h (Kind f) w → kind_read w ≡ Some k → IsTrue (is_live k) → 0 < refs_to f h.refs → k.number < n.limit
 unfolding IsSpelling
 type_is_below n s h f w k frame finds read live held =
     let m = finds.words in
     let within = count_within n (m (Refs f)) (finds.sound.spelled.spelled (Refs f) (refs_there (sizes_of n) f frame)) in
-    let beside = types_beside (sizes_of n) m finds.seats s f finds.real finds.sound.counts in
+    let beside = types_beside (sizes_of n) m finds.hands s f finds.real finds.sound.counts in
     let is : kind_at m f ≡ k = ap (λ y. kind_fields y) finds.word ∙ fields_of w k read in
     let number : type_count (kind_at m f) ≡ k.number = ap (λ y. type_count y) is ∙ live_count k live in
-    let mine : refs_to f (finds.seats s).refs ≡ refs_to f h.refs = ap (λ (u : Holdings). refs_to f u.refs) finds.mine in
+    let mine : refs_to f (finds.hands s).refs ≡ refs_to f h.refs = ap (λ (u : Holdings). refs_to f u.refs) finds.mine in
     omega (arith, within, beside, number, mine, held)
 
 -- ---- the word of which a typed reference is given back
@@ -85,9 +85,9 @@ found_live n s h f w finds may =
     let known = subst (λ (u : Holdings). IsTrue (knows_live (sizes_of n) f may.kind u)) (sym finds.mine) may.live in
     let is = (finds.sound.found s finds.real).lives f may.kind known in
     let live : (kind_at m f).validated ≡ true = is.0 in
-    let counted = typed_counted (sizes_of n) m finds.seats s f finds.real finds.sound.counts in
+    let counted = typed_counted (sizes_of n) m finds.hands s f finds.real finds.sound.counts in
     let number = live_count (kind_at m f) live in
-    let held : 0 < typed_to f (finds.seats s).typed = subst (λ (u : Holdings). 0 < typed_to f u.typed) (sym finds.mine) may.in_hand in
+    let held : 0 < typed_to f (finds.hands s).typed = subst (λ (u : Holdings). 0 < typed_to f u.typed) (sym finds.mine) may.in_hand in
     let some : 0 < (kind_at m f).number = omega (arith, counted, number, held) in
     record {
       small = subst (λ y. y < 2 ^ 64) finds.word (finds.sound.spelled.small (Kind f));
@@ -99,11 +99,11 @@ found_live n s h f w finds may =
           ((finds.sound.found s finds.real).lives f t (subst (λ (u : Holdings). IsTrue (knows_live (sizes_of n) f t u)) (sym finds.mine) knows)).1;
       apart =
           subst (λ (u : Holdings). work_on f u.works ≡ None) finds.mine
-          (nobody_has n m finds.seats finds.sound.alone f (live_idle (kind_at m f) live some) s finds.real);
+          (nobody_has n m finds.hands finds.sound.alone f (live_idle (kind_at m f) live some) s finds.real);
     }
 
 -- a frame that is taken out of the own works stands there no more
 pub out_of_works : (n : Machine) (s : ℕ) (h : Holdings) (p : Place) (f w : ℕ) → Finds n s h p w → work_on f (without_work f h.works) ≡ None
 out_of_works n s h p f w finds =
-    let once = subst (λ (u : Holdings). works_on f u.works ≤ 1) finds.mine (one_works n finds.words finds.seats finds.sound.alone f s finds.real) in
+    let once = subst (λ (u : Holdings). works_on f u.works ≤ 1) finds.mine (one_works n finds.words finds.hands finds.sound.alone f s finds.real) in
     first_by-none (λ e. e.frame) f (without_work f h.works) (times_by-without_one (λ e. e.frame) f h.works once)

@@ -76,7 +76,7 @@ lost_kind f found h k x e =
 module _ (v w : PortValue) (x : Step) (i f e new found : ℕ) (k l : KindWord) (r : KindRow) (is : x ≡ exchange_step i e new) (next : new ≡ kind_write l)
     (at : i ≡ number (sizes_of v.post.machine) (Kind f)) (frame : f < v.post.machine.frames) (run : v.holdings.run ≡ Some 0)
     (read : kind_read e ≡ Some k) (spelled : IsTrue (is_kind l)) (fits : IsTrue (is_kind_in v.post.machine (Some l))) (row : kind_row k l ≡ r)
-    (may : AllowsKindRow r v.post.machine v.post.seat f k l v.holdings) where
+    (may : AllowsKindRow r v.post.machine v.post.vcpu f k l v.holdings) where
   step_is : x ≡ exchange_step i e (kind_write l)
   step_is = is ∙ ap (λ y. exchange_step i e y) next
 
@@ -86,29 +86,29 @@ module _ (v w : PortValue) (x : Step) (i f e new found : ℕ) (k l : KindWord) (
   here : place_at (sizes_of v.post.machine) x.place ≡ Kind f
   here = ap (λ (y : Step). place_at (sizes_of v.post.machine) y.place) is ∙ there
 
-  pub exchange_now : Legal v.post.machine v.post.seat v.holdings x
+  pub exchange_now : Legal v.post.machine v.post.vcpu v.holdings x
   exchange_now =
       rw step_is
-      (exchange_is_legal v.post.machine v.post.seat v.holdings i f e k l there frame run read spelled fits
-      (subst (λ y. AllowsKindRow y v.post.machine v.post.seat f k l v.holdings) (sym row) may))
+      (exchange_is_legal v.post.machine v.post.vcpu v.holdings i f e k l there frame run read spelled fits
+      (subst (λ y. AllowsKindRow y v.post.machine v.post.vcpu f k l v.holdings) (sym row) may))
 
   pub exchange_made : IsTold v.post.machine v.told (place_of v.post.machine x) found → w ≡ stepped v x found → Makes v w (Kind f) (Cas e (kind_write l)) None found
   exchange_made told to =
       makes v w x (Kind f) (Cas e (kind_write l)) None found here (ap (λ (y : Step). y.act) step_is) (ap (λ (y : Step). y.mark) step_is) exchange_now told to
 
-  left : w ≡ stepped v x found → w.holdings ≡ noted x found (after_move v.post.machine v.post.seat v.holdings (Kind f) (Cas e (kind_write l)) steps.Kind None found)
+  left : w ≡ stepped v x found → w.holdings ≡ noted x found (after_move v.post.machine v.post.vcpu v.holdings (Kind f) (Cas e (kind_write l)) steps.Kind None found)
   left to =
       hand_after v w x (Kind f) found here to
-      ∙ ap (λ (y : Step). noted x found (after_move v.post.machine v.post.seat v.holdings (Kind f) y.act y.kind y.mark found)) step_is
+      ∙ ap (λ (y : Step). noted x found (after_move v.post.machine v.post.vcpu v.holdings (Kind f) y.act y.kind y.mark found)) step_is
 
   pub exchange_done : found ≡ e → w ≡ stepped v x found →
       w.holdings ≡ noted x found (after_kind_row r f k l (kind_write l) (record v.holdings { looking = still_looking f (kind_write l) v.holdings.looking }))
   exchange_done same to =
-      left to ∙ ap (λ y. noted x found y) (exchanged v.post.machine v.post.seat f e found k l r v.holdings read spelled row same)
+      left to ∙ ap (λ y. noted x found y) (exchanged v.post.machine v.post.vcpu f e found k l r v.holdings read spelled row same)
 
   pub exchange_lost : found ≢ e → w ≡ stepped v x found → LostKind f found v.holdings w.holdings
   exchange_lost off to =
-      lost_kind f found v.holdings w.holdings x (left to ∙ ap (λ y. noted x found y) (unexchanged v.post.machine v.post.seat f e (kind_write l) found v.holdings off))
+      lost_kind f found v.holdings w.holdings x (left to ∙ ap (λ y. noted x found y) (unexchanged v.post.machine v.post.vcpu f e (kind_write l) found v.holdings off))
 
 -- ---- one type count more
 pub count_row : (k : KindWord) → IsTrue (is_live k) → kind_row k (raised_kind k) ≡ Count

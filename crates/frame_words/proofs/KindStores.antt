@@ -44,21 +44,21 @@ module _ (v w : PortValue) (x : Step) (i f new found : ℕ) (e : Work) (l : Kind
   step_there : place_at (sizes_of v.post.machine) x.place ≡ Kind f
   step_there = ap (λ (y : Step). place_at (sizes_of v.post.machine) y.place) is ∙ there
 
-  pub store_now : Legal v.post.machine v.post.seat v.holdings x
+  pub store_now : Legal v.post.machine v.post.vcpu v.holdings x
   store_now =
       rw step_is
-      (store_is_legal v.post.machine v.post.seat v.holdings i f e l there frame run here spelled fits
+      (store_is_legal v.post.machine v.post.vcpu v.holdings i f e l there frame run here spelled fits
       (subst (λ y. AllowsForm y v.post.machine f e l v.holdings) (sym form) may))
 
   pub store_made : IsTold v.post.machine v.told (place_of v.post.machine x) found → w ≡ stepped v x found → Makes v w (Kind f) (Store (kind_write l)) None found
   store_made told to =
       makes v w x (Kind f) (Store (kind_write l)) None found step_there (ap (λ (y : Step). y.act) step_is) (ap (λ (y : Step). y.mark) step_is) store_now told to
 
-  pub store_done : w ≡ stepped v x found → w.holdings ≡ noted x found (after_form r v.post.machine v.post.seat f e l (kind_write l) v.holdings)
+  pub store_done : w ≡ stepped v x found → w.holdings ≡ noted x found (after_form r v.post.machine v.post.vcpu f e l (kind_write l) v.holdings)
   store_done to =
       hand_after v w x (Kind f) found step_there to
-      ∙ ap (λ (y : Step). noted x found (after_move v.post.machine v.post.seat v.holdings (Kind f) y.act y.kind y.mark found)) step_is
-      ∙ ap (λ y. noted x found y) (stored v.post.machine v.post.seat f found e l r v.holdings here spelled form)
+      ∙ ap (λ (y : Step). noted x found (after_move v.post.machine v.post.vcpu v.holdings (Kind f) y.act y.kind y.mark found)) step_is
+      ∙ ap (λ y. noted x found y) (stored v.post.machine v.post.vcpu f found e l r v.holdings here spelled form)
 
 -- ---- live
 pub may_be_live : (n : Machine) (f : ℕ) (h : Holdings) (a : IsWritableWork n f h) → 0 < typed_to f h.typed → MayMakeLive n f a.work (live_kind kinds.Writable 1) h

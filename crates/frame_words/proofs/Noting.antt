@@ -30,7 +30,7 @@ module _ (v w : PortValue) (p : Place) (a : Act) (mark : Option Mark) (found : �
       let u = m.went.0 in
       ap (λ (y : PortValue). y.holdings.steps) m.went.4
       ∙ ap (λ (xs : List Made). made_now m.step found ∷ xs)
-      (move_steps u.post.machine u.post.seat u.holdings (place_at (sizes_of u.post.machine) m.step.place) m.step.act m.step.kind m.step.mark found)
+      (move_steps u.post.machine u.post.vcpu u.holdings (place_at (sizes_of u.post.machine) m.step.place) m.step.act m.step.kind m.step.mark found)
       ∙ ap (λ (y : PortValue). made_now m.step found ∷ y.holdings.steps) m.went.1
 
   here_is : is_same (place_at (sizes_of v.post.machine) m.step.place) p ≡ true

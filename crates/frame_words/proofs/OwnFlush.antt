@@ -11,7 +11,7 @@ use Rattle.xp_board.specs.declared.holdings.Holdings.{Holdings}
 use Rattle.xp_board.specs.Acts.{left_by}
 use Rattle.xp_board.specs.Found.{ClockFound}
 use Rattle.xp_board.specs.Lists.{EachOf}
-use Rattle.xp_board.specs.Readings.{last_clock, told_value}
+use Rattle.xp_board.specs.Readings.{last_clock, clock_value}
 use Rattle.xp_board.specs.Spelling.{IsSpelling}
 use Rattle.xp_board.specs.Steps.{left_of, some_since}
 use Rattle.xp_board.specs.Told.{Post, PortValue, Finds, Went}
@@ -25,7 +25,7 @@ use Rattle.frame_words.proofs.Piecing.{deeds_append}
 use Rattle.frame_words.proofs.Noting.{makes_steps, makes_since, makes_keeps, made_now}
 use Rattle.frame_words.proofs.Stepping.{clock_there}
 
--- ---- what a step tells of the seat that made it
+-- ---- what a step tells of the vCPU that made it
 module _ (n : Machine) (s : ℕ) (h : Holdings) (p : Place) (w : ℕ) (finds : Finds n s h p w) where
   formed : WellFormed n s h
   formed = subst (λ u. WellFormed n s u) finds.mine (finds.sound.formed s finds.real)
@@ -44,19 +44,19 @@ pub clock_below : (n : Machine) (s : ℕ) (h : Holdings) (c : ℕ) → Finds n s
 clock_below n s h c finds off = let low = clock_low n s h c finds in grind arith
 
 -- ---- the clock that was found is not above the one that is found later
-told_head : (z : Sizes) (words : Place → ℕ) (x : Made) (xs : List Made) → place_at z x.step.place ≡ Clock →
-    EachOf (λ y. (told_value (place_at z y.step.place) y.found ≤ words Clock) × (told_value (place_at z y.step.place) (left_of y) ≤ words Clock)) (x ∷ xs) → x.found ≤ words Clock
-unfolding EachOf told_value
-told_head z words x xs at each = subst (λ p. told_value p x.found ≤ words Clock) at each.0.0
+clock_head : (z : Sizes) (words : Place → ℕ) (x : Made) (xs : List Made) → place_at z x.step.place ≡ Clock →
+    EachOf (λ y. (clock_value (place_at z y.step.place) y.found ≤ words Clock) × (clock_value (place_at z y.step.place) (left_of y) ≤ words Clock)) (x ∷ xs) → x.found ≤ words Clock
+unfolding EachOf clock_value
+clock_head z words x xs at each = subst (λ p. clock_value p x.found ≤ words Clock) at each.0.0
 
-pub clock_later : (v u : PortValue) (c f : ℕ) → Makes v u Clock Load None c → u.post ≡ v.post → Finds u.post.machine u.post.seat u.holdings Clock f → c ≤ f
+pub clock_later : (v u : PortValue) (c f : ℕ) → Makes v u Clock Load None c → u.post ≡ v.post → Finds u.post.machine u.post.vcpu u.holdings Clock f → c ≤ f
 clock_later v u c f look post finds =
     let z = sizes_of u.post.machine in
-    let each = subst (λ (k : Holdings). ClockFound z finds.words k) finds.mine (finds.sound.found u.post.seat finds.real).clock in
+    let each = subst (λ (k : Holdings). ClockFound z finds.words k) finds.mine (finds.sound.found u.post.vcpu finds.real).clock in
     let at : place_at z look.step.place ≡ Clock = ap (λ (q : Post). place_at (sizes_of q.machine) look.step.place) post ∙ look.place in
     subst (λ y. c ≤ y) finds.word
-    (told_head z finds.words (made_now look.step c) v.holdings.steps at
-    (subst (λ (xs : List Made). EachOf (λ y. (told_value (place_at z y.step.place) y.found ≤ finds.words Clock) × (told_value (place_at z y.step.place) (left_of y) ≤ finds.words Clock)) xs)
+    (clock_head z finds.words (made_now look.step c) v.holdings.steps at
+    (subst (λ (xs : List Made). EachOf (λ y. (clock_value (place_at z y.step.place) y.found ≤ finds.words Clock) × (clock_value (place_at z y.step.place) (left_of y) ≤ finds.words Clock)) xs)
     (makes_steps v u Clock Load None c look) each))
 
 greater_by : (c f : ℕ) → c ≤ f → c < flushed_to c f
@@ -72,17 +72,17 @@ pub to_found : (c f : ℕ) → f ≢ c → flushed_to c f ≡ f
 to_found c f off = grind (arith, nat_tests)
 
 -- ---- the flush after the exchange
-module _ (v u t : PortValue) (c f x : ℕ) (look : Makes v u Clock Load None c) (before : SameHand v.holdings u.holdings) (post : u.post ≡ v.post) (found : Finds v.post.machine v.post.seat v.holdings Clock c)
-    (tick : Makes u t Clock (Cas c (c + 1)) None f) (after : SameHand u.holdings t.holdings) (later : t.post ≡ u.post) (again : Finds u.post.machine u.post.seat u.holdings Clock f)
+module _ (v u t : PortValue) (c f x : ℕ) (look : Makes v u Clock Load None c) (before : SameHand v.holdings u.holdings) (post : u.post ≡ v.post) (found : Finds v.post.machine v.post.vcpu v.holdings Clock c)
+    (tick : Makes u t Clock (Cas c (c + 1)) None f) (after : SameHand u.holdings t.holdings) (later : t.post ≡ u.post) (again : Finds u.post.machine u.post.vcpu u.holdings Clock f)
     (to : x ≡ flushed_to c f) where
   clock_less : c < x
   clock_less = subst (λ y. c < y) (sym to) (greater_by c f (clock_later v u c f look post again))
 
-  pub flush_told : IsTrue (some_since (sizes_of t.post.machine) t.holdings.acked Clock (λ w. w == x) t.holdings.steps)
+  pub flush_found : IsTrue (some_since (sizes_of t.post.machine) t.holdings.acked Clock (λ w. w == x) t.holdings.steps)
   unfolding left_by
-  flush_told =
+  flush_found =
       let late : t.holdings.acked ≤ length u.holdings.steps =
-      subst (λ k. k ≤ length u.holdings.steps) (sym after.rest.acked) (acked_past u.post.machine u.post.seat u.holdings Clock f again) in
+      subst (λ k. k ≤ length u.holdings.steps) (sym after.rest.acked) (acked_past u.post.machine u.post.vcpu u.holdings Clock f again) in
       subst (λ (q : Post). IsTrue (some_since (sizes_of q.machine) t.holdings.acked Clock (λ w. w == x) t.holdings.steps)) (sym later)
       (makes_since u t Clock (Cas c (c + 1)) None f tick t.holdings.acked (λ w. w == x) late (ap (λ y. flushed_to c f == y) to ∙ when_eq (flushed_to c f) (flushed_to c f) refl))
 
@@ -90,14 +90,14 @@ module _ (v u t : PortValue) (c f x : ℕ) (look : Makes v u Clock Load None c) 
   unfolding left_by
   flush_warmed =
       let late : t.holdings.ran ≤ length v.holdings.steps =
-      subst (λ k. k ≤ length v.holdings.steps) (sym (after.rest.ran ∙ before.rest.ran)) (ran_past v.post.machine v.post.seat v.holdings Clock c found) in
+      subst (λ k. k ≤ length v.holdings.steps) (sym (after.rest.ran ∙ before.rest.ran)) (ran_past v.post.machine v.post.vcpu v.holdings Clock c found) in
       subst (λ (q : Post). IsTrue (some_since (sizes_of q.machine) t.holdings.ran Clock (λ w. nat_lt w x) t.holdings.steps)) (sym (later ∙ post))
       (makes_keeps u t Clock (Cas c (c + 1)) None f tick _ (makes_since v u Clock Load None c look t.holdings.ran (λ w. nat_lt w x) late (less_is c x clock_less)))
 
   pub flush_landed : v.holdings.walk ≡ None → t.holdings.walk ≡ None
   flush_landed landed = after.rest.walk ∙ before.rest.walk ∙ landed
 
-  pub flushes_own : (w : PortValue) (was : ℕ) → c < last_clock → Makes t w (flushed_of t.post.seat) (Store x) None was → FlushesOwn v w
+  pub flushes_own : (w : PortValue) (was : ℕ) → c < last_clock → Makes t w (flushed_of t.post.vcpu) (Store x) None was → FlushesOwn v w
   flushes_own w was below ack =
       record {
         looked = u;
@@ -110,7 +110,7 @@ module _ (v u t : PortValue) (c f x : ℕ) (look : Makes v u Clock Load None c) 
         below = below;
         tick = tick;
         greater = greater_by c f (clock_later v u c f look post again);
-        ack = subst (λ y. Makes t w (flushed_of v.post.seat) (Store y) None was) to (subst (λ (q : Post). Makes t w (flushed_of q.seat) (Store x) None was) (later ∙ post) ack);
+        ack = subst (λ y. Makes t w (flushed_of v.post.vcpu) (Store y) None was) to (subst (λ (q : Post). Makes t w (flushed_of q.vcpu) (Store x) None was) (later ∙ post) ack);
       }
 
   pub flushed_hand : (k : Holdings) → Flushed t.holdings k → Flushed v.holdings k

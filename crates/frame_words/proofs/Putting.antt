@@ -38,7 +38,7 @@ module _ (n : Machine) (s f w owner : ℕ) (allocated : Bool) (h : Holdings) (fi
   none_held =
       elim (cases_zero (endings_of f h.ending + claims_of f h.claimed)) [
         | inl none ↦ none
-        | inr some ↦ absurd (not_dying (is_dying-mine n finds.words finds.seats finds.sound.alone f s finds.real (subst (λ (u : Holdings). 0 < endings_of f u.ending + claims_of f u.claimed) (sym finds.mine) some)))
+        | inr some ↦ absurd (not_dying (is_dying-mine n finds.words finds.hands finds.sound.alone f s finds.real (subst (λ (u : Holdings). 0 < endings_of f u.ending + claims_of f u.claimed) (sym finds.mine) some)))
       ]
     where
       cases_zero : (k : ℕ) → (k ≡ 0) ⊎ (0 < k)

@@ -140,7 +140,7 @@ whole_flushed h k a = record { refs = a.refs; typed = a.typed; works = a.works; 
 pub whole_more : (a b c : Holdings) → SameOrFlushed a b → SameOrFlushed b c → SameOrFlushed a c
 whole_more a b c p q = record { refs = q.refs ∙ p.refs; typed = q.typed ∙ p.typed; works = q.works ∙ p.works; rest = rest_more a b c p.rest q.rest }
 
--- ---- a seat that looks at no domain
+-- ---- a vCPU that looks at no domain
 pub still_none : (f w : ℕ) (xs : List Looking) → xs ≡ [] → still_looking f w xs ≡ xs
 unfolding kept_of
 still_none f w xs none = ap (λ ys. still_looking f w ys) none ∙ sym none

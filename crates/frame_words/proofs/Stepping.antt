@@ -109,12 +109,12 @@ map_is_legal n s h i f g at frame run small held = legal_at n s h i (M2p f) (Sto
 
 -- ---- what a step leaves
 pub makes : (v w : PortValue) (x : Step) (p : Place) (a : Act) (mark : Option Mark) (found : ℕ) → place_at (sizes_of v.post.machine) x.place ≡ p → x.act ≡ a → x.mark ≡ mark →
-    Legal v.post.machine v.post.seat v.holdings x → IsTold v.post.machine v.told (place_of v.post.machine x) found → w ≡ stepped v x found → Makes v w p a mark found
+    Legal v.post.machine v.post.vcpu v.holdings x → IsTold v.post.machine v.told (place_of v.post.machine x) found → w ≡ stepped v x found → Makes v w p a mark found
 makes v w x p a mark found at act is legal told to =
     record { step = x; place = at; act = act; mark_is = is; went = went_step v w x found legal told to }
 
 -- the hand after a step at that place
 pub hand_after : (v w : PortValue) (x : Step) (p : Place) (found : ℕ) → place_at (sizes_of v.post.machine) x.place ≡ p → w ≡ stepped v x found →
-    w.holdings ≡ noted x found (after_move v.post.machine v.post.seat v.holdings p x.act x.kind x.mark found)
+    w.holdings ≡ noted x found (after_move v.post.machine v.post.vcpu v.holdings p x.act x.kind x.mark found)
 hand_after v w x p found at to =
-    ap (λ (y : PortValue). y.holdings) to ∙ ap (λ q. noted x found (after_move v.post.machine v.post.seat v.holdings q x.act x.kind x.mark found)) at
+    ap (λ (y : PortValue). y.holdings) to ∙ ap (λ q. noted x found (after_move v.post.machine v.post.vcpu v.holdings q x.act x.kind x.mark found)) at

@@ -51,7 +51,7 @@ module _ (v w : PortValue) (p : Place) (a : Act) (mark : Option Mark) (found : �
       let n = m.went.0.post.machine in
       let one : told_word w (place_of n m.step) ≡ left_by m.step.act found =
       ap (λ (y : PortValue). told_word y (place_of n m.step)) m.went.4
-      ∙ word_here n m.went.0.post.seat found m.step _ m.went.0.told m.went.2.place m.went.3 (ap is_telling start ∙ is) in
+      ∙ word_here n m.went.0.post.vcpu found m.step _ m.went.0.told m.went.2.place m.went.3 (ap is_telling start ∙ is) in
       subst (λ q. told_word w q ≡ left_by a found) m.place
       (subst (λ b. told_word w (place_of v.post.machine m.step) ≡ left_by b found) m.act
       (subst (λ (u : PortValue). told_word w (place_of u.post.machine m.step) ≡ left_by m.step.act found) start one))
@@ -61,5 +61,5 @@ module _ (v w : PortValue) (p : Place) (a : Act) (mark : Option Mark) (found : �
       let n = m.went.0.post.machine in
       let at : place_of n m.step ≡ p = ap (λ (u : PortValue). place_of u.post.machine m.step) start ∙ m.place in
       ap (λ (y : PortValue). told_word y q) m.went.4
-      ∙ word_elsewhere n m.went.0.post.seat found m.step _ m.went.0.told q m.went.2.place (λ e. off (e ∙ at))
+      ∙ word_elsewhere n m.went.0.post.vcpu found m.step _ m.went.0.told q m.went.2.place (λ e. off (e ∙ at))
       ∙ ap (λ (u : PortValue). told_word u q) start

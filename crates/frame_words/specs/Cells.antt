@@ -1,4 +1,4 @@
--- Cells: what a load leaves in hand, and which frames are apart from all that the seat works on.
+-- Cells: what a load leaves in hand, and which frames are apart from all that the vCPU works on.
 use Rattle.std.specs.Prelude.{◌≡◌, ℕ, None}
 use Rattle.xp_board.specs.declared.holdings.Holdings.{Holdings}
 use Rattle.xp_board.specs.After.{learned_work, learned_lock, learned_claim}
@@ -10,7 +10,7 @@ pub record IsApart (f : ℕ) (h : Holdings) : Type 0 where
   pub locks : lock_on f h.locks ≡ None
   pub claimed : claim_of f h.claimed ≡ None
 
--- the word w was found in cell i of frame f: what the seat works on there learns it
+-- the word w was found in cell i of frame f: what the vCPU works on there learns it
 pub record SawCell (f i w : ℕ) (h k : Holdings) : Type 0 where
   pub refs : k.refs ≡ h.refs
   pub typed : k.typed ≡ h.typed

@@ -65,11 +65,11 @@ pub record FlushesOwn (v w : PortValue) : Type 0 where
   pub found : ℕ
   pub before : ℕ
   pub look : Makes v looked Clock Load None clock
-  pub finds : Finds v.post.machine v.post.seat v.holdings Clock clock
+  pub finds : Finds v.post.machine v.post.vcpu v.holdings Clock clock
   pub below : clock < last_clock
   pub tick : Makes looked ticked Clock (Cas clock (clock + 1)) None found
   pub greater : clock < flushed_to clock found
-  pub ack : Makes ticked w (flushed_of v.post.seat) (Store (flushed_to clock found)) None before
+  pub ack : Makes ticked w (flushed_of v.post.vcpu) (Store (flushed_to clock found)) None before
 
 -- the clock was found to be at its last value
 pub record FindsLast (v w : PortValue) (r : Refusal) : Type 0 where

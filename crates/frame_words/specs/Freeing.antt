@@ -46,7 +46,7 @@ pub record IsEnding (f owner : ℕ) (h : Holdings) : Type 0 where
 -- and that clock value was found since it came there
 pub record IsEndingSince (n : Machine) (f owner stamp : ℕ) (h : Holdings) : Type 0 where
   pub ends : IsEnding f owner h
-  pub told : IsTrue (some_since (sizes_of n) ends.ending.since Clock (λ w. w == stamp) h.steps)
+  pub was_found : IsTrue (some_since (sizes_of n) ends.ending.since Clock (λ w. w == stamp) h.steps)
 
 -- and it came there before this moment
 pub record IsEndingNow (f owner : ℕ) (h : Holdings) : Type 0 where

@@ -13,13 +13,13 @@ ghost use Rattle.frame_words.specs.Pieces.{Makes};
 use crate::rows::look;
 use xp_board::{Act, Port, Step, StepKind};
 
-/// Loads a cell. A frame that the seat works on learns the word; else the hand is as before.
+/// Loads a cell. A frame that the vCPU works on learns the word; else the hand is as before.
 pub fn look_cell<P: Port>(port: &mut P, frame: u32, index: u16) -> u64
     requires frame { frame < (P.value port.old).post.machine.frames }
     requires index { index < 512 }
     ensures post { (P.value port.new).post ≡ (P.value port.old).post }
     ensures made { Makes (P.value port.old) (P.value port.new) (Cell frame index) Load None result }
-    ensures found { Finds (P.value port.old).post.machine (P.value port.old).post.seat (P.value port.old).holdings (Cell frame index) result }
+    ensures found { Finds (P.value port.old).post.machine (P.value port.old).post.vcpu (P.value port.old).holdings (Cell frame index) result }
     ensures hand { SawCell frame index result (P.value port.old).holdings (P.value port.new).holdings }
     ensures apart { IsApart frame (P.value port.old).holdings → SameHand (P.value port.old).holdings (P.value port.new).holdings }
 {

@@ -25,7 +25,7 @@ pub fn look_flushed<P: Port>(port: &mut P, vcpu: u32) -> u64
     requires { vcpu < length (P.value port.old).post.machine.vcpu_domain }
     ensures post { (P.value port.new).post ≡ (P.value port.old).post }
     ensures made { Makes (P.value port.old) (P.value port.new) (flushed_of vcpu) Load None result }
-    ensures found { Finds (P.value port.old).post.machine (P.value port.old).post.seat (P.value port.old).holdings (flushed_of vcpu) result }
+    ensures found { Finds (P.value port.old).post.machine (P.value port.old).post.vcpu (P.value port.old).holdings (flushed_of vcpu) result }
     ensures hand { SameHand (P.value port.old).holdings (P.value port.new).holdings }
 {
     let place = port.layout().vcpu_place(vcpu, FLUSHED);
@@ -35,10 +35,10 @@ pub fn look_flushed<P: Port>(port: &mut P, vcpu: u32) -> u64
 /// Loads the run word of another vCPU.
 pub fn look_run_of<P: Port>(port: &mut P, vcpu: u32) -> u64
     requires vcpu { vcpu < length (P.value port.old).post.machine.vcpu_domain }
-    requires other { vcpu ≢ (P.value port.old).post.seat }
+    requires other { vcpu ≢ (P.value port.old).post.vcpu }
     ensures post { (P.value port.new).post ≡ (P.value port.old).post }
     ensures made { Makes (P.value port.old) (P.value port.new) (run_of vcpu) Load None result }
-    ensures found { Finds (P.value port.old).post.machine (P.value port.old).post.seat (P.value port.old).holdings (run_of vcpu) result }
+    ensures found { Finds (P.value port.old).post.machine (P.value port.old).post.vcpu (P.value port.old).holdings (run_of vcpu) result }
     ensures hand { SameHand (P.value port.old).holdings (P.value port.new).holdings }
 {
     let place = port.layout().vcpu_place(vcpu, RUN);
@@ -50,7 +50,7 @@ pub fn look_privileges<P: Port>(port: &mut P, domain: u16) -> u64
     requires { domain < length (P.value port.old).post.machine.page_limit }
     ensures post { (P.value port.new).post ≡ (P.value port.old).post }
     ensures made { Makes (P.value port.old) (P.value port.new) (Priv domain) Load None result }
-    ensures found { Finds (P.value port.old).post.machine (P.value port.old).post.seat (P.value port.old).holdings (Priv domain) result }
+    ensures found { Finds (P.value port.old).post.machine (P.value port.old).post.vcpu (P.value port.old).holdings (Priv domain) result }
     ensures hand { SameHand (P.value port.old).holdings (P.value port.new).holdings }
 {
     let place = port.layout().priv_place(domain);
@@ -63,7 +63,7 @@ pub fn look_life<P: Port>(port: &mut P, domain: u16) -> u64
     requires { domain < length (P.value port.old).post.machine.page_limit }
     ensures post { (P.value port.new).post ≡ (P.value port.old).post }
     ensures made { Makes (P.value port.old) (P.value port.new) (Life domain) Load None result }
-    ensures found { Finds (P.value port.old).post.machine (P.value port.old).post.seat (P.value port.old).holdings (Life domain) result }
+    ensures found { Finds (P.value port.old).post.machine (P.value port.old).post.vcpu (P.value port.old).holdings (Life domain) result }
     ensures hand { FoundLife domain result (P.value port.old).holdings (P.value port.new).holdings }
 {
     let place = port.layout().life_place(domain);
@@ -76,7 +76,7 @@ pub fn tick<P: Port>(port: &mut P, expected: u64) -> Result<(), u64>
     requires { expected < last_clock }
     ensures post { (P.value port.new).post ≡ (P.value port.old).post }
     ensures made { Makes (P.value port.old) (P.value port.new) Clock (Cas expected (expected + 1)) None (found_by expected result) }
-    ensures found { Finds (P.value port.old).post.machine (P.value port.old).post.seat (P.value port.old).holdings Clock (found_by expected result) }
+    ensures found { Finds (P.value port.old).post.machine (P.value port.old).post.vcpu (P.value port.old).holdings Clock (found_by expected result) }
     ensures lost { IfErr result (λ found. found ≢ expected) }
     ensures hand { SameHand (P.value port.old).holdings (P.value port.new).holdings }
 {
@@ -103,11 +103,11 @@ pub fn flush<P: Port>(port: &mut P, clock: u64) -> u64
     requires warmed { (P.value port.old).holdings.cold ≡ true → IsTrue (some_since (sizes_of (P.value port.old).post.machine) (P.value port.old).holdings.ran Clock (λ w. nat_lt w clock) (P.value port.old).holdings.steps) }
     requires landed { (P.value port.old).holdings.walk ≡ None }
     ensures post { (P.value port.new).post ≡ (P.value port.old).post }
-    ensures made { Makes (P.value port.old) (P.value port.new) (flushed_of (P.value port.old).post.seat) (Store clock) None result }
+    ensures made { Makes (P.value port.old) (P.value port.new) (flushed_of (P.value port.old).post.vcpu) (Store clock) None result }
     ensures hand { Flushed (P.value port.old).holdings (P.value port.new).holdings }
 {
-    let seat = port.seat();
-    let place = port.layout().vcpu_place(seat, FLUSHED);
+    let vcpu = port.vcpu();
+    let place = port.layout().vcpu_place(vcpu, FLUSHED);
     port.step(Step {
         place,
         act: Act::Store { new: clock },

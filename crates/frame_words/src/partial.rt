@@ -57,7 +57,7 @@ pub fn store_partial<P: Port>(
     requires typed { IsTrue (not (is_none kind)) }
     requires descriptors { IsTrue (not (type_number kind == 5) || kept) }
     requires clock { stamp < 2 ^ 36 }
-    requires may { MayLeavePartial (P.value port.old).post.machine (P.value port.old).post.seat frame kind stamp kept (P.value port.old).holdings }
+    requires may { MayLeavePartial (P.value port.old).post.machine (P.value port.old).post.vcpu frame kind stamp kept (P.value port.old).holdings }
     ensures post { (P.value port.new).post ≡ (P.value port.old).post }
     ensures made { Makes (P.value port.old) (P.value port.new) (Kind frame) (Store (kind_write (partial_kind kind stamp kept))) None result }
     ensures hand { MadePartial frame kept (P.value port.old).holdings (P.value port.new).holdings }

@@ -29,7 +29,7 @@ pub fn look_refs<P: Port>(port: &mut P, frame: u32) -> u64
     requires { frame < (P.value port.old).post.machine.frames }
     ensures post { (P.value port.new).post ≡ (P.value port.old).post }
     ensures made { Makes (P.value port.old) (P.value port.new) (Refs frame) Load None result }
-    ensures found { Finds (P.value port.old).post.machine (P.value port.old).post.seat (P.value port.old).holdings (Refs frame) result }
+    ensures found { Finds (P.value port.old).post.machine (P.value port.old).post.vcpu (P.value port.old).holdings (Refs frame) result }
     ensures hand { SameHand (P.value port.old).holdings (P.value port.new).holdings }
 {
     let place = port.layout().refs_place(frame);
@@ -41,7 +41,7 @@ pub fn look_kind<P: Port>(port: &mut P, frame: u32) -> u64
     requires { frame < (P.value port.old).post.machine.frames }
     ensures post { (P.value port.new).post ≡ (P.value port.old).post }
     ensures made { Makes (P.value port.old) (P.value port.new) (Kind frame) Load None result }
-    ensures found { Finds (P.value port.old).post.machine (P.value port.old).post.seat (P.value port.old).holdings (Kind frame) result }
+    ensures found { Finds (P.value port.old).post.machine (P.value port.old).post.vcpu (P.value port.old).holdings (Kind frame) result }
     ensures hand { SameHand (P.value port.old).holdings (P.value port.new).holdings }
 {
     let place = port.layout().kind_place(frame);
@@ -52,7 +52,7 @@ pub fn look_kind<P: Port>(port: &mut P, frame: u32) -> u64
 pub fn look_clock<P: Port>(port: &mut P) -> u64
     ensures post { (P.value port.new).post ≡ (P.value port.old).post }
     ensures made { Makes (P.value port.old) (P.value port.new) Clock Load None result }
-    ensures found { Finds (P.value port.old).post.machine (P.value port.old).post.seat (P.value port.old).holdings Clock result }
+    ensures found { Finds (P.value port.old).post.machine (P.value port.old).post.vcpu (P.value port.old).holdings Clock result }
     ensures hand { SameHand (P.value port.old).holdings (P.value port.new).holdings }
 {
     port.step(look(CLOCK, None))
@@ -70,23 +70,23 @@ pub fn end_answer<P: Port>(port: &mut P, call: u32) -> u64
 /// A turn begins: whether the vCPU was asked to flush.
 pub fn begin_turn<P: Port>(port: &mut P) -> u64
     ensures post { (P.value port.new).post ≡ (P.value port.old).post }
-    ensures made { Makes (P.value port.old) (P.value port.new) (asked_of (P.value port.old).post.seat) Load (Some Turn) result }
+    ensures made { Makes (P.value port.old) (P.value port.new) (asked_of (P.value port.old).post.vcpu) Load (Some Turn) result }
     ensures hand { BegunTurn (P.value port.old).holdings (P.value port.new).holdings }
 {
-    let seat = port.seat();
-    let place = port.layout().vcpu_place(seat, ASKED);
+    let vcpu = port.vcpu();
+    let place = port.layout().vcpu_place(vcpu, ASKED);
     port.step(look(place, Some(Mark::Turn)))
 }
 
 /// Loads the own run word.
 pub fn look_run<P: Port>(port: &mut P) -> u64
     ensures post { (P.value port.new).post ≡ (P.value port.old).post }
-    ensures made { Makes (P.value port.old) (P.value port.new) (run_of (P.value port.old).post.seat) Load None result }
+    ensures made { Makes (P.value port.old) (P.value port.new) (run_of (P.value port.old).post.vcpu) Load None result }
     ensures own { result ≡ own_run (P.value port.old) }
     ensures hand { FoundRun result (P.value port.old).holdings (P.value port.new).holdings }
 {
-    let seat = port.seat();
-    let place = port.layout().vcpu_place(seat, RUN);
+    let vcpu = port.vcpu();
+    let place = port.layout().vcpu_place(vcpu, RUN);
     port.step(look(place, None))
 }
 
@@ -134,7 +134,7 @@ pub fn lower_refs<P: Port>(port: &mut P, frame: u32) -> u64
     requires spares { SparesClosing frame (P.value port.old).holdings }
     ensures post { (P.value port.new).post ≡ (P.value port.old).post }
     ensures made { Makes (P.value port.old) (P.value port.new) (Refs frame) (Add one_down) None result }
-    ensures found { Finds (P.value port.old).post.machine (P.value port.old).post.seat (P.value port.old).holdings (Refs frame) result }
+    ensures found { Finds (P.value port.old).post.machine (P.value port.old).post.vcpu (P.value port.old).holdings (Refs frame) result }
     ensures hand { GaveRef frame result (P.value port.old).holdings (P.value port.new).holdings }
 {
     let place = port.layout().refs_place(frame);

@@ -16,11 +16,11 @@ pub fn stop_vcpu<P: Port>(port: &mut P) -> u64
     requires empty { IsEmptyHand (P.value port.old).holdings }
     requires landed { (P.value port.old).holdings.walk ≡ None }
     ensures post { (P.value port.new).post ≡ (P.value port.old).post }
-    ensures made { Makes (P.value port.old) (P.value port.new) (run_of (P.value port.old).post.seat) (Store 1) None result }
+    ensures made { Makes (P.value port.old) (P.value port.new) (run_of (P.value port.old).post.vcpu) (Store 1) None result }
     ensures hand { Stopped (P.value port.old).holdings (P.value port.new).holdings }
 {
-    let seat = port.seat();
-    let place = port.layout().vcpu_place(seat, RUN);
+    let vcpu = port.vcpu();
+    let place = port.layout().vcpu_place(vcpu, RUN);
     port.step(Step {
         place,
         act: Act::Store { new: STOPPED },

@@ -35,8 +35,8 @@ module _ (v u : PortValue) (d f : ℕ) (gets : Gets v u f d (Ok f)) (took : Took
             flushes_more v.post.machine f gets.made takes.made (inl gets.calm)
             (subst (λ (q : Post). FlushesFor q.machine f takes.made) after_reference takes.flushes);
         shows = inr
-            (cause_within v.post.machine v.post.seat takes.made (takes.made ++ gets.made) (later_within v.post.machine gets.made takes.made) f d e
-            (subst (λ (q : Post). writable.TypeCause q.machine q.seat f d takes.made e) after_reference takes.shows));
+            (cause_within v.post.machine v.post.vcpu takes.made (takes.made ++ gets.made) (later_within v.post.machine gets.made takes.made) f d e
+            (subst (λ (q : Post). writable.TypeCause q.machine q.vcpu f d takes.made e) after_reference takes.shows));
         hand = given_up f d v.holdings u.holdings took w.holdings takes.hand;
       }
 
@@ -81,18 +81,18 @@ module _ (v u : PortValue) (d f : ℕ) (gets : Gets v u f d (Ok f)) (took : Took
         let n = v.post.machine in
         within_more n xs ((stored ∷ []) ++ taken) all (within_more n xs taken ((stored ∷ []) ++ taken) a (earlier_within n taken (stored ∷ []))) (earlier_within n ((stored ∷ []) ++ taken) drops.made)
 
-    all_show : ShowsType v.post.machine v.post.seat f d all (Ok tt)
+    all_show : ShowsType v.post.machine v.post.vcpu f d all (Ok tt)
     unfolding taken
     all_show =
         let n = v.post.machine in
-        let a = subst (λ (q : Post). ShowsType q.machine q.seat f d takes.made (Ok tt)) after_reference takes.shows in
+        let a = subst (λ (q : Post). ShowsType q.machine q.vcpu f d takes.made (Ok tt)) after_reference takes.shows in
         (a.0, (among_all takes.made (later_within n gets.made takes.made)).had (Kind f) a.0 a.1, a.2)
 
     all_open : FoundOpen v.post.machine f d all
     unfolding taken
     all_open =
         let n = v.post.machine in
-        open_within n v.post.seat gets.made all (among_all gets.made (earlier_within n gets.made takes.made)) f d gets.shows
+        open_within n v.post.vcpu gets.made all (among_all gets.made (earlier_within n gets.made takes.made)) f d gets.shows
 
     pub written : f < v.post.machine.frames → SameHand x.holdings y.holdings → WritesWord v z d f i word (Ok tt)
     written real same =

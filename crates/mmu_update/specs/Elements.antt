@@ -64,5 +64,5 @@ pub record ElementFits (n : Machine) (s d : ℕ) (p : Pair) (made : List Made) (
 pub record Updates (v w : PortValue) (d : ℕ) (p : Pair) (answer : Result (Unit {0}) Stop) : Type 0 where
   pub made : List Made
   pub went : Went v made w
-  pub fits : ElementFits v.post.machine v.post.seat d p made answer
+  pub fits : ElementFits v.post.machine v.post.vcpu d p made answer
   pub hand : SameOrFlushed v.holdings w.holdings

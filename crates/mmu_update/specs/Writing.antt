@@ -13,5 +13,5 @@ pub record WritesWord (v w : PortValue) (d f i word : ℕ) (answer : Result (Uni
   pub made : List Made
   pub piece : Serves v w f (deeds_of (Write f i word) answer) made
   pub flushes : FlushesFor v.post.machine f made
-  pub shows : ShowsWrite v.post.machine v.post.seat d f made answer
+  pub shows : ShowsWrite v.post.machine v.post.vcpu d f made answer
   pub hand : SameOrFlushed v.holdings w.holdings

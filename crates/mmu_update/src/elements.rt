@@ -24,7 +24,7 @@ fn write_memory<P: Port>(
     requires running { (P.value port.old).holdings.run ≡ Some 0 }
     requires landed { (P.value port.old).holdings.walk ≡ None }
     requires empty { IsEmptyHand (P.value port.old).holdings }
-    requires own { domain ≡ domain_of (P.value port.old).post.machine (P.value port.old).post.seat }
+    requires own { domain ≡ domain_of (P.value port.old).post.machine (P.value port.old).post.vcpu }
     requires index { index < 512 }
     ensures post { (P.value port.new).post ≡ (P.value port.old).post }
     ensures writes { WritesWord (P.value port.old) (P.value port.new) domain f index word result }
@@ -43,7 +43,7 @@ pub fn update<P: Port>(port: &mut P, domain: u16, pair: Pair) -> Result<(), Stop
     requires running { (P.value port.old).holdings.run ≡ Some 0 }
     requires landed { (P.value port.old).holdings.walk ≡ None }
     requires empty { IsEmptyHand (P.value port.old).holdings }
-    requires own { domain ≡ domain_of (P.value port.old).post.machine (P.value port.old).post.seat }
+    requires own { domain ≡ domain_of (P.value port.old).post.machine (P.value port.old).post.vcpu }
     ensures post { (P.value port.new).post ≡ (P.value port.old).post }
     // The answer fits the steps, which leave nothing in hand.
     ensures updates { Updates (P.value port.old) (P.value port.new) domain pair result }

@@ -63,7 +63,7 @@ fn amiss_in<'a>(state: &State, verdict: &'a str) -> Option<&'a str> {
     }
 }
 
-/// A step of seat 0 is legal, and after it no part fails; or it is refused, and those that are named fail after it; or
+/// A step of vCPU 0 is legal, and after it no part fails; or it is refused, and those that are named fail after it; or
 /// it is legal, and leaves what is named.
 fn amiss_after<'a>(state: &State, step: &Step, verdict: &'a str) -> Option<&'a str> {
     let (word, rest) = parted(verdict);

@@ -1,4 +1,4 @@
-//! How a case differs from the small machine. An edit is of seat 0, or with `Other` in front of its name of seat 1.
+//! How a case differs from the small machine. An edit is of vCPU 0, or with `Other` in front of its name of vCPU 1.
 use crate::said::{Said, read};
 use plain_words::{
     Claimed, Ending, Frame, Hand, Held, Item, Live, Lock, Looking, Made, Owner, Place, Reached,
@@ -107,14 +107,14 @@ fn fitting_map(state: &State) -> u64 {
 
 /// Whether the edit is known.
 fn edits_machine(state: &mut State, edit: &Said) -> bool {
-    let (seat, name) = match edit.name.strip_prefix("Other") {
+    let (own, name) = match edit.name.strip_prefix("Other") {
         Some(name) => (1_u16, name),
         None => (0_u16, edit.name),
     };
-    let of_words = edits_words(state, seat, name, edit);
-    match state.hands.get_mut(usize::from(seat)) {
+    let of_words = edits_words(state, own, name, edit);
+    match state.hands.get_mut(usize::from(own)) {
         Some(hand) => {
-            let of_hand = edits_times(hand, seat, name, edit)
+            let of_hand = edits_times(hand, own, name, edit)
                 || edits_references(hand, name, edit)
                 || edits_works(hand, name, edit)
                 || edits_frames(hand, name, edit)
@@ -126,7 +126,7 @@ fn edits_machine(state: &mut State, edit: &Said) -> bool {
 }
 
 /// Edits of words, some of which are of hands, too.
-fn edits_words(state: &mut State, seat: u16, name: &str, edit: &Said) -> bool {
+fn edits_words(state: &mut State, own: u16, name: &str, edit: &Said) -> bool {
     let [first, second, _, _] = edit.numbers;
     match (name, edit.place) {
         // A word by its place, and one that is found there as well.
@@ -149,7 +149,7 @@ fn edits_words(state: &mut State, seat: u16, name: &str, edit: &Said) -> bool {
         // The vCPU is off, and has not found it.
         ("Off", None) => state.put_word(
             Place::Vcpu {
-                vcpu: seat,
+                vcpu: own,
                 word: 6,
             },
             2,
@@ -210,13 +210,13 @@ fn found(place: Place, word: u64) -> Made {
 }
 
 /// Edits of what was found, and when.
-fn edits_times(hand: &mut Hand, seat: u16, name: &str, edit: &Said) -> bool {
+fn edits_times(hand: &mut Hand, own: u16, name: &str, edit: &Said) -> bool {
     let [first, _, _, _] = edit.numbers;
     match (name, edit.place) {
         // What was found in a word: `Was` for what was found once, and what is not noted as an old word.
         ("Found" | "Was", Some(place)) => {
             append(&mut hand.steps, found(place, first));
-            notes_old(hand, seat, place, first);
+            notes_old(hand, own, place, first);
         }
         ("Unnoted", Some(place)) => append(&mut hand.steps, found(place, first)),
         // The own run word is not known.
@@ -237,10 +237,10 @@ fn edits_times(hand: &mut Hand, seat: u16, name: &str, edit: &Said) -> bool {
     true
 }
 
-fn notes_old(hand: &mut Hand, seat: u16, place: Place, found: u64) {
+fn notes_old(hand: &mut Hand, own: u16, place: Place, found: u64) {
     match place {
-        Place::Vcpu { vcpu, word: 2 } if vcpu == seat => hand.old0 = Some(found),
-        Place::Vcpu { vcpu, word: 3 } if vcpu == seat => hand.old1 = Some(found),
+        Place::Vcpu { vcpu, word: 2 } if vcpu == own => hand.old0 = Some(found),
+        Place::Vcpu { vcpu, word: 3 } if vcpu == own => hand.old1 = Some(found),
         _ => {}
     }
 }

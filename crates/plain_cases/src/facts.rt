@@ -1,4 +1,4 @@
-//! What a step leaves, as facts of the hand of seat 0 and of words. Numbers of frames come first.
+//! What a step leaves, as facts of the hand of vCPU 0 and of words. Numbers of frames come first.
 use crate::said::Said;
 use plain_words::{Hand, State, Walk, Work, is_bare, newest, times};
 

@@ -5,7 +5,7 @@ use plain_words::{
 use xp_board::Act;
 use xp_words::{Demand, KindWord, PageType};
 
-/// Exchanges from each form, counts that are given back, and stores by the seat that works on the frame.
+/// Exchanges from each form, counts that are given back, and stores by the vCPU that works on the frame.
 pub fn allows(state: &State, hand: &Hand, domain: u16, frame: u64, act: Act) -> bool {
     match act {
         Act::Cas { expected, new } => match (KindWord::read(expected), KindWord::read(new)) {

@@ -4,9 +4,9 @@ use plain_moves::{Step, marked};
 use plain_words::{Hand, Place, State, is_place, is_spelling, times};
 use xp_board::{Act, StepKind};
 
-/// Whether a step of a seat is legal. The mark is judged first, and the act by the hand that the mark leaves.
-pub fn judge(state: &State, seat: u16, step: &Step) -> bool {
-    let (Some(hand), Some(domain)) = (state.hands.get(usize::from(seat)), state.domain_of(seat))
+/// Whether a step of a vCPU is legal. The mark is judged first, and the act by the hand that the mark leaves.
+pub fn judge(state: &State, own: u16, step: &Step) -> bool {
+    let (Some(hand), Some(domain)) = (state.hands.get(usize::from(own)), state.domain_of(own))
     else {
         return false;
     };
@@ -15,7 +15,7 @@ pub fn judge(state: &State, seat: u16, step: &Step) -> bool {
         && marks::allows(hand, step.kind, step.mark)
         && (hand.run == Some(0) || !needs_running(step.kind))
         && writes_spelling(state, step)
-        && allows(state, &after, seat, domain, step)
+        && allows(state, &after, own, domain, step)
 }
 
 fn needs_running(kind: StepKind) -> bool {
@@ -32,7 +32,7 @@ fn writes_spelling(state: &State, step: &Step) -> bool {
     }
 }
 
-fn allows(state: &State, hand: &Hand, seat: u16, domain: u16, step: &Step) -> bool {
+fn allows(state: &State, hand: &Hand, own: u16, domain: u16, step: &Step) -> bool {
     let (kind, act) = (step.kind, step.act);
     if kind == StepKind::Look {
         return act == Act::Load;
@@ -41,10 +41,10 @@ fn allows(state: &State, hand: &Hand, seat: u16, domain: u16, step: &Step) -> bo
         Place::Clock => kind == StepKind::Tick && flushes::ticks(act),
         Place::Pages { domain: of } => kind == StepKind::Pages && allows_pages(hand, of, act),
         Place::Life { domain: of } => {
-            kind == StepKind::Life && lives::allows(state, hand, seat, of, act)
+            kind == StepKind::Life && lives::allows(state, hand, own, of, act)
         }
         Place::Priv { .. } => kind == StepKind::Priv && lives::sets_privilege(hand, domain, act),
-        Place::Vcpu { vcpu, word } => allows_of_vcpu(state, hand, seat, step, vcpu, word),
+        Place::Vcpu { vcpu, word } => allows_of_vcpu(state, hand, own, step, vcpu, word),
         Place::Refs { frame } => {
             kind == StepKind::Ref && references::allows(state, hand, domain, frame, act)
         }
@@ -60,14 +60,14 @@ fn allows(state: &State, hand: &Hand, seat: u16, domain: u16, step: &Step) -> bo
 fn allows_of_vcpu(
     state: &State,
     hand: &Hand,
-    seat: u16,
+    own: u16,
     step: &Step,
     vcpu: u16,
     word: u64,
 ) -> bool {
-    let own = vcpu == seat;
+    let own = vcpu == own;
     match step.kind {
-        StepKind::Context => contexts::allows(state, hand, seat, vcpu, word, step.act),
+        StepKind::Context => contexts::allows(state, hand, own, vcpu, word, step.act),
         StepKind::Fill => own && walks::starts(hand, word, step.act, step.mark),
         StepKind::Ask => word == 4 && flushes::asks(state, hand, vcpu, step.act),
         StepKind::Ack => own && word == 5 && flushes::acknowledges(hand, step.act),

@@ -1,4 +1,4 @@
-//! Whether a step on a small machine is legal, by the hand of the seat that makes it.
+//! Whether a step on a small machine is legal, by the hand of the vCPU that makes it.
 #![tactic(auto)]
 
 mod cells;

@@ -4,19 +4,19 @@ use plain_words::{
 };
 use xp_board::Act;
 
-/// A live domain is destroyed from now on, or this seat has found all of it empty.
-pub fn allows(state: &State, hand: &Hand, seat: u16, domain: u16, act: Act) -> bool {
+/// A live domain is destroyed from now on, or this vCPU has found all of it empty.
+pub fn allows(state: &State, hand: &Hand, own: u16, domain: u16, act: Act) -> bool {
     match act {
-        Act::Cas { expected, new } => expected == 0 && new == u64::from(seat) + 1,
-        Act::Store { new } => new == 255 && has_cleared_all(state, hand, seat, domain),
+        Act::Cas { expected, new } => expected == 0 && new == u64::from(own) + 1,
+        Act::Store { new } => new == 255 && has_cleared_all(state, hand, own, domain),
         _ => false,
     }
 }
 
 /// The number of steps after which each vCPU of the domain was found stopped, and after that each of its words that
 /// may name a frame 0.
-fn emptied_by(state: &State, hand: &Hand, seat: u16, domain: u16) -> Option<u64> {
-    let stopped = stopped_by(state, hand, seat, domain)?;
+fn emptied_by(state: &State, hand: &Hand, own: u16, domain: u16) -> Option<u64> {
+    let stopped = stopped_by(state, hand, own, domain)?;
     let mut by = stopped;
     for vcpu in 0..2_u16 {
         for word in 0..38_u64 {
@@ -31,8 +31,8 @@ fn emptied_by(state: &State, hand: &Hand, seat: u16, domain: u16) -> Option<u64>
 }
 
 /// After that each frame was found another's, or without its three marks.
-fn has_cleared_all(state: &State, hand: &Hand, seat: u16, domain: u16) -> bool {
-    let Some(since) = emptied_by(state, hand, seat, domain) else {
+fn has_cleared_all(state: &State, hand: &Hand, own: u16, domain: u16) -> bool {
+    let Some(since) = emptied_by(state, hand, own, domain) else {
         return false;
     };
     let mut all = true;

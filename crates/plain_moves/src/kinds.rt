@@ -34,7 +34,7 @@ pub fn moves(hand: &mut Hand, domain: u16, frame: u64, act: Act, found: u64) {
     }
 }
 
-/// An exchange that finds or leaves another word than the seat left there ends its looking.
+/// An exchange that finds or leaves another word than the vCPU left there ends its looking.
 fn still_looks(hand: &mut Hand, frame: u64, word: u64) {
     for slot in &mut hand.looking {
         if matches!(slot, Some(held) if held.frame == frame && held.is.word != word) {
@@ -188,7 +188,7 @@ fn stores(hand: &mut Hand, domain: u16, frame: u64, work: &Work, new: &KindWord,
 }
 
 /// From closing an untyped reference becomes the type count. `kept` takes the count out of the hand, and the
-/// seat looks at the life of another domain whose frame it is.
+/// vCPU looks at the life of another domain whose frame it is.
 fn leaves_partial(hand: &mut Hand, domain: u16, frame: u64, work: &Work, kept: bool, word: u64) {
     let closing = is_closing(work.word);
     let owner = if closing {

@@ -3,10 +3,10 @@ use plain_words::{Claimed, Hand, Held, Lock, Place, Seen, Unsettled, Work, chang
 use xp_words::{KindWord, PageType, fix};
 
 /// Learns from the word that a step found and the one that it left.
-pub fn learns(hand: &mut Hand, seat: u16, place: Place, found: u64, left: u64) {
+pub fn learns(hand: &mut Hand, own: u16, place: Place, found: u64, left: u64) {
     match place {
         Place::Cell { frame, index } => learns_cell(hand, frame, index, left),
-        Place::Vcpu { vcpu, word } if vcpu == seat => match word {
+        Place::Vcpu { vcpu, word } if vcpu == own => match word {
             2 => hand.old0 = Some(left),
             3 => hand.old1 = Some(left),
             6 => hand.run = Some(left),

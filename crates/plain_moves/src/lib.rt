@@ -1,4 +1,4 @@
-//! What a step leaves of the words of a small machine and of the hand of the seat that makes it, legal or not.
+//! What a step leaves of the words of a small machine and of the hand of the vCPU that makes it, legal or not.
 #![tactic(auto)]
 
 mod cells;

@@ -12,19 +12,19 @@ pub struct Step {
     pub mark: Option<Mark>,
 }
 
-/// The machine after a step of the seat, legal or not.
-pub fn moved(state: &State, seat: u16, step: &Step) -> State {
+/// The machine after a step of the vCPU, legal or not.
+pub fn moved(state: &State, own: u16, step: &Step) -> State {
     let mut next = *state;
-    let Some(domain) = state.domain_of(seat) else {
+    let Some(domain) = state.domain_of(own) else {
         return next;
     };
     let found = state.word(step.place);
     let left = left_by(step.act, found);
     next.put_word(step.place, left);
-    if let Some(hand) = next.hands.get_mut(usize::from(seat)) {
+    if let Some(hand) = next.hands.get_mut(usize::from(own)) {
         let mut after = marks::marked(hand, step.mark);
         acts(&mut after, domain, step, found);
-        learned::learns(&mut after, seat, step.place, found, left);
+        learned::learns(&mut after, own, step.place, found, left);
         let made = Made {
             place: step.place,
             found,

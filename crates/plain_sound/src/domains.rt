@@ -1,7 +1,7 @@
 //! Dead domains, and dying ones.
 use plain_words::{FRAMES, Finding, Hand, Place, State, names_frames, stopped_by};
 
-/// The seats still look at the frame for the domain.
+/// The vCPUs still look at the frame for the domain.
 fn is_looked_at(state: &State, domain: u16, frame: u64) -> bool {
     let word = state.word(Place::Kind { frame });
     let mut looked = false;
@@ -14,7 +14,7 @@ fn is_looked_at(state: &State, domain: u16, frame: u64) -> bool {
     looked
 }
 
-/// The frame has the mark of that finding no more; a `kept` mark may be one that a seat still looks at.
+/// The frame has the mark of that finding no more; a `kept` mark may be one that a vCPU still looks at.
 fn lacks(state: &State, domain: u16, frame: u64, mark: Finding) -> bool {
     let place = place_of(mark, frame);
     mark.holds(state.word(place))
@@ -68,16 +68,16 @@ fn vcpus_rest(state: &State, domain: u16) -> bool {
     rest
 }
 
-/// What the seat that destroys a domain found of it stays so.
+/// What the vCPU that destroys a domain found of it stays so.
 pub fn dying_rest(state: &State) -> bool {
     let mut rest = true;
     for domain in 0..2_u16 {
-        for seat in 0..2_u16 {
-            let dying = state.word(Place::Life { domain }) == u64::from(seat) + 1;
-            if let (true, Some(hand)) = (dying, state.hands.get(usize::from(seat))) {
+        for own in 0..2_u16 {
+            let dying = state.word(Place::Life { domain }) == u64::from(own) + 1;
+            if let (true, Some(hand)) = (dying, state.hands.get(usize::from(own))) {
                 rest = rest
-                    && words_stay_empty(state, hand, seat, domain)
-                    && frames_stay(state, hand, seat, domain);
+                    && words_stay_empty(state, hand, own, domain)
+                    && frames_stay(state, hand, own, domain);
             }
         }
     }
@@ -85,9 +85,9 @@ pub fn dying_rest(state: &State) -> bool {
 }
 
 /// Words of a vCPU that was found stopped, found 0 after that, are 0.
-fn words_stay_empty(state: &State, hand: &Hand, seat: u16, domain: u16) -> bool {
+fn words_stay_empty(state: &State, hand: &Hand, own: u16, domain: u16) -> bool {
     let dying = Finding::Equal {
-        word: u64::from(seat) + 1,
+        word: u64::from(own) + 1,
     };
     let Some(stored) = hand.first_since(0, Place::Life { domain }, dying) else {
         return true;
@@ -109,8 +109,8 @@ fn words_stay_empty(state: &State, hand: &Hand, seat: u16, domain: u16) -> bool 
 
 /// After all vCPUs were found stopped: marks of the domain's frames that were found absent are, and frames that
 /// were found another's are.
-fn frames_stay(state: &State, hand: &Hand, seat: u16, domain: u16) -> bool {
-    let Some(since) = stopped_by(state, hand, seat, domain) else {
+fn frames_stay(state: &State, hand: &Hand, own: u16, domain: u16) -> bool {
+    let Some(since) = stopped_by(state, hand, own, domain) else {
         return true;
     };
     let mut stay = true;

@@ -8,10 +8,10 @@ use xp_words::KindWord;
 /// Whether the hands fit themselves.
 pub fn is_formed(state: &State) -> bool {
     let mut formed = true;
-    for seat in 0..2_u16 {
+    for own in 0..2_u16 {
         if let (Some(hand), Some(domain)) = (
-            state.hands.get(usize::from(seat)),
-            state.domain_of(seat),
+            state.hands.get(usize::from(own)),
+            state.domain_of(own),
         ) {
             formed = formed
                 && works_formed(hand)
@@ -20,7 +20,7 @@ pub fn is_formed(state: &State) -> bool {
                 && raised_formed(hand)
                 && looking_formed(hand, domain)
                 && cache_formed(hand)
-                && own_formed(hand, seat);
+                && own_formed(hand, own);
         }
     }
     formed
@@ -168,7 +168,7 @@ fn touches_well(walk: &Walk, last: Reached, touching: Touching) -> bool {
 }
 
 /// What is noted of the own words is what was last found or left.
-fn own_formed(hand: &Hand, seat: u16) -> bool {
-    let last = |word: u64| hand.last_since(0, Place::Vcpu { vcpu: seat, word });
+fn own_formed(hand: &Hand, own: u16) -> bool {
+    let last = |word: u64| hand.last_since(0, Place::Vcpu { vcpu: own, word });
     hand.run == last(6) && hand.old0 == last(2) && hand.old1 == last(3)
 }

@@ -1,4 +1,4 @@
-//! What each seat found stays true.
+//! What each vCPU found stays true.
 use crate::fresh::comes_to;
 use crate::sound::Part;
 use plain_words::{Claimed, Finding, Hand, Held, Lock, Place, State, Work, is_marked};
@@ -14,28 +14,28 @@ const TYPES: [PageType; 7] = [
     PageType::Writable,
 ];
 
-/// Whether that part of what each seat found holds.
+/// Whether that part of what each vCPU found holds.
 pub fn stays(state: &State, part: Part) -> bool {
     let mut stays = true;
-    for seat in 0..2_u16 {
-        if let Some(hand) = state.hands.get(usize::from(seat)) {
-            stays = stays && stays_for(state, hand, seat, part);
+    for own in 0..2_u16 {
+        if let Some(hand) = state.hands.get(usize::from(own)) {
+            stays = stays && stays_for(state, hand, own, part);
         }
     }
     stays
 }
 
-fn stays_for(state: &State, hand: &Hand, seat: u16, part: Part) -> bool {
+fn stays_for(state: &State, hand: &Hand, own: u16, part: Part) -> bool {
     match part {
-        Part::FoundSinceAck => clock_since_ack(state, hand, seat),
+        Part::FoundSinceAck => clock_since_ack(state, hand, own),
         Part::FoundOwners => owners_found(state, hand),
         Part::FoundLives => lives_found(state, hand),
         Part::FoundPartials => partials_found(state, hand),
         Part::FoundWorks => works_found(state, hand),
         Part::FoundLocks => locks_found(state, hand),
         Part::FoundEndings => endings_found(state, hand),
-        Part::FoundClaims => claims_found(state, hand, seat),
-        Part::FoundOwn => own_found(state, hand, seat),
+        Part::FoundClaims => claims_found(state, hand, own),
+        Part::FoundOwn => own_found(state, hand, own),
         _ => of_each(state, hand, part),
     }
 }
@@ -73,7 +73,7 @@ fn stopped_found(state: &State, hand: &Hand, vcpu: u16) -> bool {
     state.word(place) == 1 || hand.each_since(0, place, Finding::Other { word: 1 })
 }
 
-/// A domain that was found dying is dying by the same seat, or dead.
+/// A domain that was found dying is dying by the same vCPU, or dead.
 fn life_found(state: &State, hand: &Hand, domain: u16) -> bool {
     let place = Place::Life { domain };
     let life = state.word(place);
@@ -231,17 +231,17 @@ fn endings_found(state: &State, hand: &Hand) -> bool {
     found
 }
 
-fn claims_found(state: &State, hand: &Hand, seat: u16) -> bool {
+fn claims_found(state: &State, hand: &Hand, own: u16) -> bool {
     let mut found = true;
     for held in hand.claimed.iter().flatten() {
-        found = found && claim_found(state, hand, seat, held);
+        found = found && claim_found(state, hand, own, held);
     }
     found
 }
 
 /// The frame is dying for the own domain, its cells are as found, and the first ones scrubbed.
-fn claim_found(state: &State, hand: &Hand, seat: u16, held: &Held<Claimed>) -> bool {
-    let own = match (state.refs_of(held.frame), state.domain_of(seat)) {
+fn claim_found(state: &State, hand: &Hand, own: u16, held: &Held<Claimed>) -> bool {
+    let own = match (state.refs_of(held.frame), state.domain_of(own)) {
         (Some(RefWord::Dying { owner }), Some(domain)) => owner == domain,
         _ => false,
     };
@@ -265,14 +265,14 @@ fn privileges_found(state: &State, hand: &Hand, domain: u16) -> bool {
 }
 
 /// The own run word; and the other own words while the vCPU is not stopped, but for those of flushes.
-fn own_found(state: &State, hand: &Hand, seat: u16) -> bool {
+fn own_found(state: &State, hand: &Hand, own: u16) -> bool {
     let run = state.word(Place::Vcpu {
-        vcpu: seat,
+        vcpu: own,
         word: 6,
     });
     let mut found = hand.run.unwrap_or(run) == run;
     for word in 0..38_u64 {
-        let place = Place::Vcpu { vcpu: seat, word };
+        let place = Place::Vcpu { vcpu: own, word };
         let is = state.word(place);
         let told = hand.last_since(0, place).unwrap_or(is);
         found = found && (word == 4 || word == 5 || run == 1 || told == is);

@@ -200,7 +200,7 @@ fn bears(state: &State, flushed: u64, frame: u64, made: Use) -> bool {
     typed && (!is_dead(&kind) || old)
 }
 
-/// The vCPU was not flushed since a clock value that a seat has found while the frame was ending, or in work, in
+/// The vCPU was not flushed since a clock value that a vCPU has found while the frame was ending, or in work, in
 /// its hand.
 fn is_awaited(hand: &Hand, flushed: u64, frame: u64, made: Use) -> bool {
     let least = Finding::AtLeast { word: flushed };

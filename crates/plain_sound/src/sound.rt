@@ -2,7 +2,7 @@
 use crate::{alone, counts, domains, formed, found, frames, fresh, valid};
 use plain_words::State;
 
-/// A part of what always holds. Those with `Found` say that what each seat found stays true.
+/// A part of what always holds. Those with `Found` say that what each vCPU found stays true.
 #[derive(Clone, Copy)]
 pub enum Part {
     /// Each word is a spelling.
@@ -59,7 +59,7 @@ pub enum Part {
     /// All uses of a frame but to read it are one.
     OneUse,
     Dead,
-    /// What the seat that destroys a domain found of it stays so.
+    /// What the vCPU that destroys a domain found of it stays so.
     Destroyed,
     /// The bits of free and raised frames are set, and no others.
     Map,

@@ -1,10 +1,10 @@
-//! What a seat has found and left.
+//! What a vCPU has found and left.
 use crate::hand::{Hand, Made};
 use crate::machine::Place;
 use crate::readings::{bit_of, free_stamp, kind_stamp, owner_of};
 use xp_words::{KindWord, PageType, RefWord};
 
-/// What a seat may have found in a word.
+/// What a vCPU may have found in a word.
 #[derive(Clone, Copy)]
 pub enum Finding {
     Equal { word: u64 },

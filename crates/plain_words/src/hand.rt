@@ -1,4 +1,4 @@
-//! What a seat has in its hand. Lists have the newest first.
+//! What a vCPU has in its hand. Lists have the newest first.
 use crate::lists::{is_bare, times};
 use crate::machine::Place;
 use crate::readings::is_closing;
@@ -82,7 +82,7 @@ pub struct Claimed {
     pub since: u64,
 }
 
-/// A frame of another domain that this seat left `kept`, and the kind word that it left there.
+/// A frame of another domain that this vCPU left `kept`, and the kind word that it left there.
 #[derive(Clone, Copy)]
 pub struct Looking {
     pub owner: u16,
@@ -133,7 +133,7 @@ pub struct Made {
     pub left: u64,
 }
 
-/// All that a seat holds. Of `steps` the number is the place in the list, the oldest first.
+/// All that a vCPU holds. Of `steps` the number is the place in the list, the oldest first.
 #[derive(Clone, Copy)]
 pub struct Hand {
     pub refs: [Option<Held<Owner>>; 3],

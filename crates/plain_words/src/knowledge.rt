@@ -1,4 +1,4 @@
-//! What a seat knows of a frame by the references in its hand.
+//! What a vCPU knows of a frame by the references in its hand.
 use crate::findings::Finding;
 use crate::hand::{Hand, Live, Owner};
 use crate::machine::{Place, State};
@@ -14,11 +14,11 @@ pub fn is_past(hand: &Hand, since: u64, stamp: u64, vcpu: u16) -> bool {
     hand.found_since(since, run, Finding::Idle) || hand.found_since(since, flushed, later)
 }
 
-/// The number of steps after which the seat had found each vCPU of the domain stopped, since it stored the
+/// The number of steps after which the vCPU had found each vCPU of the domain stopped, since it stored the
 /// life word.
-pub fn stopped_by(state: &State, hand: &Hand, seat: u16, domain: u16) -> Option<u64> {
+pub fn stopped_by(state: &State, hand: &Hand, own: u16, domain: u16) -> Option<u64> {
     let dying = Finding::Equal {
-        word: u64::from(seat) + 1,
+        word: u64::from(own) + 1,
     };
     let stored = hand.first_since(0, Place::Life { domain }, dying)?;
     let mut by = stored;
@@ -42,7 +42,7 @@ impl Hand {
         }
     }
 
-    /// Whether the seat knows by a reference in hand that the domain owns the frame.
+    /// Whether the vCPU knows by a reference in hand that the domain owns the frame.
     pub fn knows_owner(&self, frame: u64, domain: u16) -> bool {
         let mut known = false;
         for entry in &self.refs {
@@ -73,7 +73,7 @@ impl Hand {
         }
     }
 
-    /// Whether the seat knows by a typed reference or a lock that the frame is live with the type.
+    /// Whether the vCPU knows by a typed reference or a lock that the frame is live with the type.
     pub fn knows_live(&self, frame: u64, kind: PageType) -> bool {
         let mut known = false;
         for entry in &self.typed {
@@ -97,7 +97,7 @@ impl Hand {
         }
     }
 
-    /// Whether the seat last found or left the frame partial with the type since a typed reference came.
+    /// Whether the vCPU last found or left the frame partial with the type since a typed reference came.
     pub fn knows_partial(&self, frame: u64, kind: PageType) -> bool {
         let mut known = false;
         for entry in &self.typed {

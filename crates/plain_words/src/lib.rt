@@ -1,4 +1,4 @@
-//! A small machine as plain values: its words, what its seats have in their hands, and what they have found. It
+//! A small machine as plain values: its words, what its vCPUs have in their hands, and what they have found. It
 //! is written from the description of the machine, apart from the definitions and for tests alone, so that what
 //! the definitions say is said twice.
 #![tactic(auto)]

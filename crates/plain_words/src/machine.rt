@@ -178,7 +178,7 @@ impl State {
         }
     }
 
-    /// The number of recorded entries that the seat which works on the frame says.
+    /// The number of recorded entries that the vCPU which works on the frame says.
     fn recorded_in_work(&self, frame: u64) -> Option<u64> {
         let mut recorded = None;
         for hand in &self.hands {

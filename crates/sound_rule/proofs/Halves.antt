@@ -18,7 +18,7 @@ use Rattle.xp_board.specs.Runs.{Stepped}
 use Rattle.xp_board.specs.Keeping.{MayMark, Marked, MayAct, Acted}
 use Rattle.board_lemmas.proofs.Sums.{if_itself}
 
--- ---- a mark leaves the own run word as the seat knows it
+-- ---- a mark leaves the own run word as the vCPU knows it
 out_run : (d : Demand) (h : Holdings) → (demand_out d h).run ≡ h.run
 out_run Nothing h = refl
 out_run Bad h = refl

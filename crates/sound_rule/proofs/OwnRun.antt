@@ -1,4 +1,4 @@
--- A run word that its own seat has not looked at is as it opened.
+-- A run word that its own vCPU has not looked at is as it opened.
 use Rattle.std.proofs.Common.{◌≡◌, ◌≢◌, ℕ, ◌<◌, List, [], ◌∷◌, length, Some, None, Bool, true, false, if◌then◌else◌, arith, refl, sym, ap, ◌∙◌, subst, inl, inr, slice_set, get_or-set_same}
 use Rattle.std.proofs.Math.ListN.{set}
 use Rattle.std.proofs.lemmas.List.{get_or-set_other}
@@ -17,7 +17,7 @@ use Rattle.xp_board.specs.Legal.{Legal, LegalAs}
 use Rattle.xp_board.specs.Marks.{after_mark}
 use Rattle.xp_board.specs.Runs as runs
 use Rattle.xp_board.specs.Runs.{place_of, word_at}
-use Rattle.xp_board.specs.Sound.{SoundState, seat_of}
+use Rattle.xp_board.specs.Sound.{SoundState, hand_of}
 use Rattle.board_lemmas.proofs.PlaceTests.{same_or_other}
 use Rattle.board_lemmas.proofs.Numbers.{place_number}
 use Rattle.std.specs.Prelude.{nat_le}
@@ -45,7 +45,7 @@ others_run n s t h words x off legal whole found =
 
 -- ---- the own run word
 abbrev pub RunsSound : Type 0
-RunsSound = (n : Machine) (a b : runs.State) (log : List (ℕ × Step)) → runs.Run n a log b → SoundState n a.words a.seats → SoundState n b.words b.seats
+RunsSound = (n : Machine) (a b : runs.State) (log : List (ℕ × Step)) → runs.Run n a log b → SoundState n a.words a.hands → SoundState n b.words b.hands
 
 steps_after : (n : Machine) (s : ℕ) (h : Holdings) (x : Step) (w : ℕ) → (after n s h x w).steps ≡ record { step = x; found = w } ∷ h.steps
 steps_after n s h x w = ap (λ (xs : List Made). record { step = x; found = w } ∷ xs) (move_steps n s h (place_at (sizes_of n) x.place) x.act x.kind x.mark w)
@@ -63,7 +63,7 @@ unlooked z p x xs e =
 apart : (z : Sizes) (p : Place) (x : Made) → is_at z p x ≡ false → place_at z x.step.place ≢ p
 apart z p x off = λ at. (let here : is_at z p x ≡ true = ap (λ q. is_same q p) at ∙ is_same-refl p in let bad : true ≡ false = sym here ∙ off in cc)
 
--- a seat that has not looked at its run word, after a step of its own: it had not before, and the step was elsewhere
+-- a vCPU that has not looked at its run word, after a step of its own: it had not before, and the step was elsewhere
 own_step : (n : Machine) (s : ℕ) (h k : Holdings) (x : Step) (w : ℕ) → k ≡ after n s h x w → k.run ≡ last_since (sizes_of n) 0 (run_of s) k.steps → h.run ≡ last_since (sizes_of n) 0 (run_of s) h.steps → k.run ≡ None →
     (h.run ≡ None) × (place_of n x ≢ run_of s)
 own_step n s h k x w is now was none =
@@ -71,21 +71,21 @@ own_step n s h k x w is now was none =
     let u = unlooked (sizes_of n) (run_of s) (record { step = x; found = w }) h.steps (ap (λ l. last_since (sizes_of n) 0 (run_of s) l) (sym steps) ∙ sym now ∙ none) in
     (was ∙ u.1, apart (sizes_of n) (run_of s) (record { step = x; found = w }) u.0)
 
-one_more : (n : Machine) (s t : ℕ) (x : Step) (c b : runs.State) → SoundState n c.words c.seats → SoundState n b.words b.seats → s < (sizes_of n).vcpus → runs.Moves n c t x b → (seat_of b.seats s).run ≡ None →
-    ((seat_of c.seats s).run ≡ None) × (memory (sizes_of n) b.words (run_of s) ≡ memory (sizes_of n) c.words (run_of s))
+one_more : (n : Machine) (s t : ℕ) (x : Step) (c b : runs.State) → SoundState n c.words c.hands → SoundState n b.words b.hands → s < (sizes_of n).vcpus → runs.Moves n c t x b → (hand_of b.hands s).run ≡ None →
+    ((hand_of c.hands s).run ≡ None) × (memory (sizes_of n) b.words (run_of s) ≡ memory (sizes_of n) c.words (run_of s))
 one_more n s t x c b sound_c sound_b real move none =
     elim (cases_eq s t) [
       | inr off ↦ (
-          ap (λ (u : Holdings). u.run) (sym (ap (λ (a : runs.State). seat_of a.seats s) move.next_is ∙ get_or-set_other c.seats t s _ empty off)) ∙ none,
+          ap (λ (u : Holdings). u.run) (sym (ap (λ (a : runs.State). hand_of a.hands s) move.next_is ∙ get_or-set_other c.hands t s _ empty off)) ∙ none,
           ap (λ (a : runs.State). memory (sizes_of n) a.words (run_of s)) move.next_is
-          ∙ others_run n t s (seat_of c.seats t) c.words (record { step = x; found = word_at n c (place_of n x) }) off move.legal sound_c.all_words refl,
+          ∙ others_run n t s (hand_of c.hands t) c.words (record { step = x; found = word_at n c (place_of n x) }) off move.legal sound_c.all_words refl,
         )
       | inl at ↦
           let w = word_at n c (place_of n x) in
-          let there : t < length c.seats = subst (λ k. t < k) (sym sound_c.all_seats) move.seat in
-          let hand : seat_of b.seats s ≡ after n s (seat_of c.seats s) x w = ap (λ (a : runs.State). seat_of a.seats s) move.next_is
-              ∙ subst (λ i. seat_of (slice_set c.seats t (after n t (seat_of c.seats t) x w)) i ≡ after n i (seat_of c.seats i) x w) (sym at) (get_or-set_same c.seats t (after n t (seat_of c.seats t) x w) empty there) in
-          let o = own_step n s (seat_of c.seats s) (seat_of b.seats s) x w hand (sound_b.sound.formed s real).own.run (sound_c.sound.formed s real).own.run none in (
+          let there : t < length c.hands = subst (λ k. t < k) (sym sound_c.all_hands) move.vcpu in
+          let hand : hand_of b.hands s ≡ after n s (hand_of c.hands s) x w = ap (λ (a : runs.State). hand_of a.hands s) move.next_is
+              ∙ subst (λ i. hand_of (slice_set c.hands t (after n t (hand_of c.hands t) x w)) i ≡ after n i (hand_of c.hands i) x w) (sym at) (get_or-set_same c.hands t (after n t (hand_of c.hands t) x w) empty there) in
+          let o = own_step n s (hand_of c.hands s) (hand_of b.hands s) x w hand (sound_b.sound.formed s real).own.run (sound_c.sound.formed s real).own.run none in (
             o.0,
             ap (λ (a : runs.State). memory (sizes_of n) a.words (run_of s)) move.next_is
             ∙ ap (λ i. memory (sizes_of n) (set c.words i (left_by x.act w)) (run_of s)) (sym (place_number (sizes_of n) x.place move.legal.place))
@@ -93,11 +93,11 @@ one_more n s t x c b sound_c sound_b real move none =
           )
     ]
 
--- as long as a seat has not looked at its run word, that word is as it opened
-pub own_run : RunsSound → (n : Machine) (a b : runs.State) (log : List (ℕ × Step)) (s : ℕ) → SoundState n a.words a.seats → s < (sizes_of n).vcpus → runs.Run n a log b → (seat_of b.seats s).run ≡ None →
-    ((seat_of a.seats s).run ≡ None) × (memory (sizes_of n) b.words (run_of s) ≡ memory (sizes_of n) a.words (run_of s))
+-- as long as a vCPU has not looked at its run word, that word is as it opened
+pub own_run : RunsSound → (n : Machine) (a b : runs.State) (log : List (ℕ × Step)) (s : ℕ) → SoundState n a.words a.hands → s < (sizes_of n).vcpus → runs.Run n a log b → (hand_of b.hands s).run ≡ None →
+    ((hand_of a.hands s).run ≡ None) × (memory (sizes_of n) b.words (run_of s) ≡ memory (sizes_of n) a.words (run_of s))
 own_run law n a b [] s begun real run none =
-    (ap (λ (c : runs.State). (seat_of c.seats s).run) (sym run) ∙ none, ap (λ (c : runs.State). memory (sizes_of n) c.words (run_of s)) run)
+    (ap (λ (c : runs.State). (hand_of c.hands s).run) (sym run) ∙ none, ap (λ (c : runs.State). memory (sizes_of n) c.words (run_of s)) run)
 own_run law n a b (e ∷ es) s begun real run none =
     let c = run.0 in
     let more = one_more n s e.0 e.1 c b (law n a c es run.1 begun) (law n a b (e ∷ es) run begun) real run.2 none in

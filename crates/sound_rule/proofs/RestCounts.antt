@@ -1,4 +1,4 @@
--- What is counted is the same without the hands of seats that hold nothing.
+-- What is counted is the same without the hands of vCPUs that hold nothing.
 use Rattle.std.proofs.Common.{◌≡◌, ℕ, ◌+◌, ◌<◌, [], None, refl, sym, ap, subst, ◌∙◌}
 use Rattle.xp_words.specs.declared.entry.Demand.{Demand}
 use Rattle.xp_words.specs.Machine.{Machine}
@@ -14,7 +14,7 @@ use Rattle.xp_board.specs.Sound.{HeldAlone, FreeMap}
 use Rattle.board_lemmas.proofs.Sums.{sum_below-same}
 use Rattle.board_lemmas.proofs.Works.{work_of-none}
 
--- no seat holds anything
+-- no vCPU holds anything
 abbrev pub Nobody : ℕ → Holdings
 Nobody s = empty
 

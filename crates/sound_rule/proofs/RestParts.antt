@@ -1,4 +1,4 @@
--- Words that are sound while no seat holds anything are sound with empty hands.
+-- Words that are sound while no vCPU holds anything are sound with empty hands.
 use Rattle.std.proofs.Common.{◌≡◌, ℕ, ◌<◌, List, [], Some, IsTrue, refl, sym, subst, inl, inr}
 use Rattle.xp_words.specs.Machine.{Machine}
 use Rattle.xp_words.specs.Places.{Sizes, sizes_of, Place, memory}
@@ -14,7 +14,7 @@ use Rattle.xp_board.specs.Reach.{Use, Reach, cached, walked, entry}
 use Rattle.xp_board.specs.Fresh.{Fresh}
 use Rattle.xp_board.specs.Found.{Found}
 use Rattle.xp_board.specs.WellFormed.{WellFormed}
-use Rattle.xp_board.specs.Sound.{WorkAgrees, Idle, KeptForNobody, DeadDomain, DyingDomain, Domains, Sound, SoundState, SoundWords, seat_of}
+use Rattle.xp_board.specs.Sound.{WorkAgrees, Idle, KeptForNobody, DeadDomain, DyingDomain, Domains, Sound, SoundState, SoundWords, hand_of}
 use Rattle.sound_rule.proofs.RestCounts.{Nobody, held_rested, counts_rested, alone_rested, map_rested}
 use Rattle.xp_board.proofs.Empty.{empty_own_found}
 
@@ -100,7 +100,7 @@ module _ (n : Machine) (m : Place → ℕ) (h : ℕ → Holdings) (rest : (s : �
   leads_rested f i g (inl live) = inl live
   leads_rested f i g (inr (form, inl last)) = inr (form, inl last)
   leads_rested f i g (inr (form, inr open_yet)) =
-      absurd (no_work f (h open_yet.seat).works open_yet.work (rest open_yet.seat open_yet.real).works open_yet.here)
+      absurd (no_work f (h open_yet.vcpu).works open_yet.work (rest open_yet.vcpu open_yet.real).works open_yet.here)
 
   valid_rested : Valid (sizes_of n) m h → Valid (sizes_of n) m Nobody
   valid_rested t =
@@ -123,7 +123,7 @@ module _ (n : Machine) (m : Place → ℕ) (h : ℕ → Holdings) (rest : (s : �
   kept_rested : (d f : ℕ) → KeptForNobody n m h d f → KeptForNobody n m Nobody d f
   kept_rested d f (inl unkept) = inl unkept
   kept_rested d f (inr looked) =
-      absurd (no_looking (h looked.seat).looking looked.looking (rest looked.seat looked.real).looking looked.here)
+      absurd (no_looking (h looked.vcpu).looking looked.looking (rest looked.vcpu looked.real).looking looked.here)
 
   dead_rested : (d : ℕ) → DeadDomain n m h d → DeadDomain n m Nobody d
   dead_rested d t =
@@ -158,10 +158,10 @@ module _ (n : Machine) (m : Place → ℕ) (h : ℕ → Holdings) (rest : (s : �
         map = map_rested n m h rest t.map;
       }
 
-pub words_rested : ((n : Machine) (s : ℕ) → WellFormed n s empty) → (n : Machine) (words : List ℕ) (seats : List Holdings) → SoundState n words seats →
-    ((s : ℕ) → s < (sizes_of n).vcpus → IsEmptyHand (seat_of seats s)) → SoundWords n words
-words_rested formed n words seats state rest =
+pub words_rested : ((n : Machine) (s : ℕ) → WellFormed n s empty) → (n : Machine) (words : List ℕ) (hands : List Holdings) → SoundState n words hands →
+    ((s : ℕ) → s < (sizes_of n).vcpus → IsEmptyHand (hand_of hands s)) → SoundWords n words
+words_rested formed n words hands state rest =
     record {
       all_words = state.all_words;
-      sound = sound_rested n (memory (sizes_of n) words) (seat_of seats) rest (formed n) state.sound;
+      sound = sound_rested n (memory (sizes_of n) words) (hand_of hands) rest (formed n) state.sound;
     }

@@ -11,7 +11,7 @@ ghost use Rattle.xp_board.specs.Hands.{IsEmptyHand};
 ghost use Rattle.xp_board.specs.Legal.{Legal};
 ghost use Rattle.xp_board.specs.Runs.{State, Stepped, Run};
 ghost use Rattle.xp_board.specs.Safe.{Safe};
-ghost use Rattle.xp_board.specs.Sound.{Sound, SoundState, SoundWords, seat_of};
+ghost use Rattle.xp_board.specs.Sound.{Sound, SoundState, SoundWords, hand_of};
 
 use count_rule::{
     counts_stay_right, frames_stay_held_alone, idle_hands_stay_empty, stamps_stay_below_the_clock,
@@ -42,9 +42,9 @@ pub fn a_legal_step_keeps_the_machine_sound()
     the_map_stays_right();
 }
 
-/// A run of legal steps, of any seats in any order, leads from a sound state to a sound one.
+/// A run of legal steps, of any vCPUs in any order, leads from a sound state to a sound one.
 pub fn every_run_stays_sound()
-    ensures { (n : Machine) (a b : State) (log : List (ℕ × Step)) → Run n a log b → SoundState n a.words a.seats → SoundState n b.words b.seats }
+    ensures { (n : Machine) (a b : State) (log : List (ℕ × Step)) → Run n a log b → SoundState n a.words a.hands → SoundState n b.words b.hands }
 {
     a_legal_step_keeps_the_machine_sound();
 }
@@ -52,24 +52,24 @@ pub fn every_run_stays_sound()
 /// After each such run no page-table path and no cached translation writes a page table or descriptor page in use, or leads to a
 /// frame that its domain is not permitted, and the counts are right.
 pub fn a_run_leaves_it_safe()
-    ensures { (n : Machine) (a b : State) (log : List (ℕ × Step)) → Run n a log b → SoundState n a.words a.seats →
-        Safe n (memory (sizes_of n) b.words) (seat_of b.seats) }
+    ensures { (n : Machine) (a b : State) (log : List (ℕ × Step)) → Run n a log b → SoundState n a.words a.hands →
+        Safe n (memory (sizes_of n) b.words) (hand_of b.hands) }
 {
     every_run_stays_sound();
     a_sound_machine_is_safe();
 }
 
-/// Where no seat holds anything, the words are sound by themselves, whatever translations there are: a machine may begin with them.
+/// Where no vCPU holds anything, the words are sound by themselves, whatever translations there are: a machine may begin with them.
 pub fn rested_words_are_sound()
-    ensures { (n : Machine) (words : List ℕ) (seats : List Holdings) → SoundState n words seats → ((s : ℕ) → s < (sizes_of n).vcpus → IsEmptyHand (seat_of seats s)) → SoundWords n words }
+    ensures { (n : Machine) (words : List ℕ) (hands : List Holdings) → SoundState n words hands → ((s : ℕ) → s < (sizes_of n).vcpus → IsEmptyHand (hand_of hands s)) → SoundWords n words }
 {
     empty_hands_are_well_formed();
 }
 
 /// As long as a vCPU has not looked at its own run word, that word is as it was when the run began; and it had not looked at it then.
 pub fn an_unseen_run_word_stays()
-    ensures { (n : Machine) (a b : State) (log : List (ℕ × Step)) (s : ℕ) → SoundState n a.words a.seats → s < (sizes_of n).vcpus → Run n a log b → (seat_of b.seats s).run ≡ None →
-        ((seat_of a.seats s).run ≡ None) × (memory (sizes_of n) b.words (run_of s) ≡ memory (sizes_of n) a.words (run_of s)) }
+    ensures { (n : Machine) (a b : State) (log : List (ℕ × Step)) (s : ℕ) → SoundState n a.words a.hands → s < (sizes_of n).vcpus → Run n a log b → (hand_of b.hands s).run ≡ None →
+        ((hand_of a.hands s).run ≡ None) × (memory (sizes_of n) b.words (run_of s) ≡ memory (sizes_of n) a.words (run_of s)) }
 {
     every_run_stays_sound();
 }

@@ -17,7 +17,7 @@ use Rattle.step_effects.proofs.ActEffects.{Wrote}
 use Rattle.board_lemmas.proofs.PlaceTests.{same_or_other}
 use Rattle.stale_rule.proofs.CameFresh.{Came, PassesOn, alike_passes, came_all, came_fresh, came_one}
 use Rattle.stale_rule.proofs.Like.{HandLike}
-use Rattle.stale_rule.proofs.Moves.{by_seat, TellsClock, not_clock, awaits_on}
+use Rattle.stale_rule.proofs.Moves.{by_vcpu, TellsClock, not_clock, awaits_on}
 use Rattle.stale_rule.proofs.Stays.{ref_same, KeepsEver, ever_same, Bearable, fresh_at}
 use Rattle.board_lemmas.proofs.CellAlike.{alike_same}
 
@@ -32,7 +32,7 @@ came_law n m m2 h h2 sound ever before bears =
     }
 
 module _ (n : Machine) (s : ℕ) (x : Step) (found : ℕ) (m m2 : Place → ℕ) (b c : ℕ → Holdings) (y : Holdings) (real : s < (sizes_of n).vcpus) (sound : Sound n m b)
-    (others : (t : ℕ) → t ≢ s → c t ≡ b t) (hand : c s ≡ noted x found y) (like : HandLike (b s) y) (told : TellsClock n x (m Clock) found)
+    (others : (t : ℕ) → t ≢ s → c t ≡ b t) (hand : c s ≡ noted x found y) (like : HandLike (b s) y) (was_found : TellsClock n x (m Clock) found)
     (claims : (g : ℕ) → claims_of g (b s).claimed ≡ 0 → claims_of g y.claimed ≡ 0) (privileges : (d : ℕ) → m2 (Priv d) ≡ m (Priv d))
     (flushes : (v : ℕ) → m2 (flushed_of v) ≡ m (flushed_of v)) (refs : (f : ℕ) → m2 (Refs f) ≡ m (Refs f)) (frames : (f : ℕ) → m2 (Kind f) ≡ m (Kind f))
     (items : (i : Item) → Member i y.cache → Came n m b s i.frame (use_of i))
@@ -40,7 +40,7 @@ module _ (n : Machine) (s : ℕ) (x : Step) (found : ℕ) (m m2 : Place → ℕ)
     (passes : (v f i : ℕ) → v < (sizes_of n).vcpus → PassesOn n m m2 b v f i) where
   after_came : (v g : ℕ) (u : Use) → v < (sizes_of n).vcpus → Reach (sizes_of n) m2 (c v) g u → Came n m b v g u
   after_came v g u live =
-      by_seat (λ t k. t < (sizes_of n).vcpus → (g : ℕ) (u : Use) → Reach (sizes_of n) m2 k g u → Came n m b t g u) s v b c others
+      by_vcpu (λ t k. t < (sizes_of n).vcpus → (g : ℕ) (u : Use) → Reach (sizes_of n) m2 k g u → Came n m b t g u) s v b c others
       (λ at. subst (λ k. (g : ℕ) (u : Use) → Reach (sizes_of n) m2 k g u → Came n m b s g u) (sym hand)
       (came_all n m m2 b sound s (noted x found y) items tables (λ f i. passes s f i real)))
       (λ off at. came_all n m m2 b sound v (b v) (λ i e. inl (cached i e)) (λ i e. inl (walked i e)) (λ f i. passes v f i live)) live g u
@@ -53,9 +53,9 @@ module _ (n : Machine) (s : ℕ) (x : Step) (found : ℕ) (m m2 : Place → ℕ)
         flush = flushes v;
         ref = inl (ref_same _ _ (refs g));
         kind = λ e. rw (frames g) e;
-        claims = λ t at. by_seat (λ t k. claims_of g (b t).claimed ≡ 0 → claims_of g k.claimed ≡ 0) s t b c others
+        claims = λ t at. by_vcpu (λ t k. claims_of g (b t).claimed ≡ 0 → claims_of g k.claimed ≡ 0) s t b c others
             (λ e. ap (λ k. claims_of g k.claimed) hand ∙ claims g e) (λ off e. e);
-        awaits = λ t at. awaits_on n s x found m m2 b c y sound others hand like told v g t u;
+        awaits = λ t at. awaits_on n s x found m m2 b c y sound others hand like was_found v g t u;
       })
 
 -- a store into a cell

@@ -12,7 +12,7 @@ use Rattle.xp_board.specs.Keeping.{Acted}
 use Rattle.xp_board.specs.Sound.{Sound}
 use Rattle.step_effects.proofs.ActEffects.{Flushed}
 use Rattle.stale_rule.proofs.Like.{parts_like}
-use Rattle.stale_rule.proofs.Moves.{by_seat, awaits_on, not_clock}
+use Rattle.stale_rule.proofs.Moves.{by_vcpu, awaits_on, not_clock}
 use Rattle.stale_rule.proofs.Stays.{ref_same, ever_same, fresh_law}
 use Rattle.board_lemmas.proofs.ReachAll.{Reach-none, Reach-same}
 
@@ -37,7 +37,7 @@ module _ (n : Machine) (s : ℕ) (x : Step) (m m2 : Place → ℕ) (b c : ℕ �
         flush = d.wrote.others (flushed_of v) (λ k. not_mine v g u r (cc));
         ref = inl (ref_same _ _ (d.wrote.others (Refs g) (λ k. cc)));
         kind = λ e. rw (d.wrote.others (Kind g) (λ k. cc)) e;
-        claims = λ t live. by_seat (λ t k. claims_of g (b t).claimed ≡ 0 → claims_of g k.claimed ≡ 0) s t b c acted.others
+        claims = λ t live. by_vcpu (λ t k. claims_of g (b t).claimed ≡ 0 → claims_of g k.claimed ≡ 0) s t b c acted.others
             (λ e. ap (λ k. claims_of g k.claimed) d.hand ∙ e) (λ off e. e);
         awaits = λ t live.
             awaits_on n s x (m (flushed_of s)) m m2 b c (after_ack (b s)) sound acted.others d.hand (parts_like _ _ refl refl refl)

@@ -10,7 +10,7 @@ use Rattle.xp_board.specs.declared.holdings.Holdings.{Holdings}
 use Rattle.xp_board.specs.Lists.{times_by}
 use Rattle.xp_board.specs.Hands.{ending_of, claim_of, claims_of}
 use Rattle.xp_board.specs.RefSteps.{IsFreeStamp, claimed_frame, freed, given}
-use Rattle.xp_board.specs.Readings.{free_stamp, told_value}
+use Rattle.xp_board.specs.Readings.{free_stamp, clock_value}
 use Rattle.xp_board.specs.Reach.{Use, Reach}
 use Rattle.xp_board.specs.Fresh.{FreshAt, Fresh}
 use Rattle.xp_board.specs.Keeping.{Acted}
@@ -27,8 +27,8 @@ use Rattle.board_lemmas.proofs.RefForms.{free_number}
 
 -- ---- free words
 
-stamp_tells : (f w x stamp : ℕ) → (w == stamp) ≡ true → x ≡ stamp → free_stamp x ≡ stamp → told_value (Refs f) w ≡ stamp
-unfolding told_value
+stamp_tells : (f w x stamp : ℕ) → (w == stamp) ≡ true → x ≡ stamp → free_stamp x ≡ stamp → clock_value (Refs f) w ≡ stamp
+unfolding clock_value
 stamp_tells f w x stamp t e tells = let k : w ≡ x = grind (arith, nat_tests) in ap free_stamp k ∙ tells
 
 -- ---- hands
@@ -68,12 +68,12 @@ module _ (n : Machine) (s : ℕ) (x : Step) (m m2 : Place → ℕ) (b c : ℕ �
   -- ---- freed
   stamp_bound : (f stamp flushed : ℕ) (u : Use) (o : Option Ending) (q : Option Claimed) → ending_of f (b s).ending ≡ o → claim_of f (b s).claimed ≡ q →
       IsFreeStamp n stamp (b s) o q → (v : ℕ) → m (flushed_of v) ≡ flushed → FreshAt n m b v f u → flushed ≤ stamp
-  stamp_bound f stamp flushed u (Some e) q at at2 told v is fresh =
+  stamp_bound f stamp flushed u (Some e) q at at2 was_found v is fresh =
       since_each (sizes_of n) e.since Clock (λ w. w == stamp) (λ w. m (flushed_of v) ≤ w) (flushed ≤ stamp) (b s).steps
-      (EachOf-first _ (λ y. y.frame) f e (b s).ending (fresh.awaited s real).ending at (first-key (λ y. y.frame) f e (b s).ending at)) told
+      (EachOf-first _ (λ y. y.frame) f e (b s).ending (fresh.awaited s real).ending at (first-key (λ y. y.frame) f e (b s).ending at)) was_found
       (λ w t below. let k : w ≡ stamp = grind (arith, nat_tests) in omega arith)
-  stamp_bound f stamp flushed u None (Some e) at at2 told v is fresh = absurd (not_claimed f e (b s) (fresh.unclaimed s real) at2)
-  stamp_bound f stamp flushed u None None at at2 told v is fresh = absurd told
+  stamp_bound f stamp flushed u None (Some e) at at2 was_found v is fresh = absurd (not_claimed f e (b s) (fresh.unclaimed s real) at2)
+  stamp_bound f stamp flushed u None None at at2 was_found v is fresh = absurd was_found
 
   pub free_row : (f : ℕ) → Freed n s x f m m2 (b s) (c s) → Fresh n m2 c
   free_row f d =
@@ -84,7 +84,7 @@ module _ (n : Machine) (s : ℕ) (x : Step) (m m2 : Place → ℕ) (b c : ℕ �
       inr (record {
         owner = word.owned;
         free = word.free;
-        stamp = let e = word.stamp in let k = stamp_bound f d.stamp (m (flushed_of v)) u _ _ refl refl d.may.told v refl (sound.fresh.each v live f u r) in omega arith;
+        stamp = let e = word.stamp in let k = stamp_bound f d.stamp (m (flushed_of v)) u _ _ refl refl d.may.was_found v refl (sound.fresh.each v live f u r) in omega arith;
       }))
 
   -- ---- given

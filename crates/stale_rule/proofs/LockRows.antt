@@ -42,9 +42,9 @@ some_is x y o a b = let e : Some x ≡ Some y = sym a ∙ b in cc
 module _ (n : Machine) (s : ℕ) (m : Place → ℕ) (b : ℕ → Holdings) (real : s < (sizes_of n).vcpus) (sound : Sound n m b) where
   -- ---- a demand in hand
   ever_had : (t o since : ℕ) → o < 16 → IsTrue (some_since (sizes_of n) since (Priv t) (has_now o) (b s).steps) → IsTrue (has_ever o (m (Priv t)))
-  ever_had t o since few told =
+  ever_had t o since few was_found =
       since_each (sizes_of n) since (Priv t) (has_now o) (λ w. IsTrue (has_now o w || has_ever o w) → IsTrue (has_ever o (m (Priv t)))) (IsTrue (has_ever o (m (Priv t)))) (b s).steps
-      (since_later (sizes_of n) 0 since (Priv t) _ (b s).steps (omega arith) ((sound.found s real).privileges t o few)) told
+      (since_later (sizes_of n) 0 since (Priv t) _ (b s).steps (omega arith) ((sound.found s real).privileges t o few)) was_found
       (λ w now had. had (or_left (has_now o w) (has_ever o w) now))
 
   meets : (f g d : ℕ) (kind : PageType) → owner_of (m (Refs f)) ≡ Some d → OwnersMeet n f g kind (b s) → EntryPermitted m kind (Some d) g

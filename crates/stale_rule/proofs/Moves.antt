@@ -23,9 +23,9 @@ use Rattle.stale_rule.proofs.Like.{HandLike, HandStays}
 use Rattle.stale_rule.proofs.Stays.{RefStays, ref_same, KeepsEver, ever_same, fresh_law}
 use Rattle.board_lemmas.proofs.ReachAll.{Reach-same}
 
--- ---- of one seat and of the others
-pub by_seat : (P : ℕ → Holdings → Type 0) (s t : ℕ) (h h2 : ℕ → Holdings) → ((t : ℕ) → t ≢ s → h2 t ≡ h t) → P s (h2 s) → (t ≢ s → P t (h t)) → P t (h2 t)
-by_seat P s t h h2 others mine rest =
+-- ---- of one vCPU and of the others
+pub by_vcpu : (P : ℕ → Holdings → Type 0) (s t : ℕ) (h h2 : ℕ → Holdings) → ((t : ℕ) → t ≢ s → h2 t ≡ h t) → P s (h2 s) → (t ≢ s → P t (h t)) → P t (h2 t)
+by_vcpu P s t h h2 others mine rest =
     elim (cases_eq t s) [
       | inl at ↦ subst (λ k. P k (h2 k)) (sym at) mine
       | inr off ↦ subst (λ u. P t u) (sym (others t off)) (rest off)
@@ -37,16 +37,16 @@ mark_law n s m h b others stays fresh =
     fresh_law n m m h b (ever_same m m (λ d. refl))
     (λ v g u real r.
     Reach-same (λ f i. refl)
-    (λ x. by_seat (λ t k. Member x k.cache → Member x (h t).cache) s v h b others (stays.cache x) (λ off e. e))
-    (λ x. by_seat (λ t k. Member x (reached_by k.walk) → Member x (reached_by (h t).walk)) s v h b others (stays.walk x) (λ off e. e)) r)
+    (λ x. by_vcpu (λ t k. Member x k.cache → Member x (h t).cache) s v h b others (stays.cache x) (λ off e. e))
+    (λ x. by_vcpu (λ t k. Member x (reached_by k.walk) → Member x (reached_by (h t).walk)) s v h b others (stays.walk x) (λ off e. e)) r)
     (λ v g u real r old.
     record {
       flush = refl;
       ref = inl (ref_same _ _ refl);
       kind = λ e. e;
-      claims = λ t live. by_seat (λ t k. claims_of g (h t).claimed ≡ 0 → claims_of g k.claimed ≡ 0) s t h b others (stays.claims g) (λ off e. e);
+      claims = λ t live. by_vcpu (λ t k. claims_of g (h t).claimed ≡ 0 → claims_of g k.claimed ≡ 0) s t h b others (stays.claims g) (λ off e. e);
       awaits = λ t live.
-          by_seat (λ t k. Awaited (sizes_of n) (m (flushed_of v)) g u (h t) → Awaited (sizes_of n) (m (flushed_of v)) g u k) s t h b others
+          by_vcpu (λ t k. Awaited (sizes_of n) (m (flushed_of v)) g u (h t) → Awaited (sizes_of n) (m (flushed_of v)) g u k) s t h b others
           (awaited_same (sizes_of n) (m (flushed_of v)) g u (h s) (b s) stays.like) (λ off e. e);
     })
     fresh
@@ -60,15 +60,15 @@ pub not_clock : (n : Machine) (x : Step) (p : Place) (clock found : ℕ) → pla
 not_clock n x p clock found at off e = absurd (off (sym at ∙ e))
 
 module _ (n : Machine) (s : ℕ) (x : Step) (found : ℕ) (m m2 : Place → ℕ) (b c : ℕ → Holdings) (y : Holdings) (sound : Sound n m b)
-    (others : (t : ℕ) → t ≢ s → c t ≡ b t) (hand : c s ≡ noted x found y) (like : HandLike (b s) y) (told : TellsClock n x (m Clock) found) where
+    (others : (t : ℕ) → t ≢ s → c t ≡ b t) (hand : c s ≡ noted x found y) (like : HandLike (b s) y) (was_found : TellsClock n x (m Clock) found) where
   -- what was awaited still is
   pub awaits_on : (v g t : ℕ) (u : Use) → Awaited (sizes_of n) (m (flushed_of v)) g u (b t) → Awaited (sizes_of n) (m (flushed_of v)) g u (c t)
   awaits_on v g t u =
-      by_seat (λ t k. Awaited (sizes_of n) (m (flushed_of v)) g u (b t) → Awaited (sizes_of n) (m (flushed_of v)) g u k) s t b c others
+      by_vcpu (λ t k. Awaited (sizes_of n) (m (flushed_of v)) g u (b t) → Awaited (sizes_of n) (m (flushed_of v)) g u k) s t b c others
       (λ old.
       subst (λ k. Awaited (sizes_of n) (m (flushed_of v)) g u k) (sym hand)
       (awaited_more (sizes_of n) (m (flushed_of v)) g u x found (b s) y like
-      (λ at. let e = told at in let below = sound.stamped.flushed v in let f = e.0 in let l = e.1 in (omega arith, omega arith)) old))
+      (λ at. let e = was_found at in let below = sound.stamped.flushed v in let f = e.0 in let l = e.1 in (omega arith, omega arith)) old))
       (λ off e. e)
 
   -- no cell changes and nothing more is held
@@ -82,8 +82,8 @@ module _ (n : Machine) (s : ℕ) (x : Step) (found : ℕ) (m m2 : Place → ℕ)
       fresh_law n m m2 b c ever
       (λ v g u real r.
       Reach-same cells
-      (λ x. by_seat (λ t k. Member x k.cache → Member x (b t).cache) s v b c others (λ e. cache x (subst (λ k. Member x k.cache) hand e)) (λ off e. e))
-      (λ x. by_seat (λ t k. Member x (reached_by k.walk) → Member x (reached_by (b t).walk)) s v b c others
+      (λ x. by_vcpu (λ t k. Member x k.cache → Member x (b t).cache) s v b c others (λ e. cache x (subst (λ k. Member x k.cache) hand e)) (λ off e. e))
+      (λ x. by_vcpu (λ t k. Member x (reached_by k.walk) → Member x (reached_by (b t).walk)) s v b c others
       (λ e. walk x (subst (λ k. Member x (reached_by k.walk)) hand e)) (λ off e. e)) r)
       (λ v g u real r old.
       record {
@@ -91,7 +91,7 @@ module _ (n : Machine) (s : ℕ) (x : Step) (found : ℕ) (m m2 : Place → ℕ)
         ref = refs v g u real old;
         kind = kinds v g u real old;
         claims = λ t live.
-            by_seat (λ t k. claims_of g (b t).claimed ≡ 0 → claims_of g k.claimed ≡ 0) s t b c others
+            by_vcpu (λ t k. claims_of g (b t).claimed ≡ 0 → claims_of g k.claimed ≡ 0) s t b c others
             (λ e. ap (λ k. claims_of g k.claimed) hand ∙ claims v g u real old e) (λ off e. e);
         awaits = λ t live. awaits_on v g t u;
       })
@@ -101,8 +101,8 @@ module _ (n : Machine) (s : ℕ) (x : Step) (found : ℕ) (m m2 : Place → ℕ)
 pub quiet_law : (n : Machine) (s : ℕ) (x : Step) (found : ℕ) (m m2 : Place → ℕ) (b c : ℕ → Holdings) (y : Holdings) → Sound n m b →
     ((t : ℕ) → t ≢ s → c t ≡ b t) → c s ≡ noted x found y → HandStays (b s) y → TellsClock n x (m Clock) found → ((f i : ℕ) → m2 (Cell f i) ≡ m (Cell f i)) →
     KeepsEver m m2 → ((v : ℕ) → m2 (flushed_of v) ≡ m (flushed_of v)) → ((f : ℕ) → m2 (Refs f) ≡ m (Refs f)) → ((f : ℕ) → m2 (Kind f) ≡ m (Kind f)) → Fresh n m2 c
-quiet_law n s x found m m2 b c y sound others hand stays told cells ever flush refs kinds =
-    act_law n s x found m m2 b c y sound others hand stays.like told cells ever flush stays.cache stays.walk (λ v g u real r. stays.claims g)
+quiet_law n s x found m m2 b c y sound others hand stays was_found cells ever flush refs kinds =
+    act_law n s x found m m2 b c y sound others hand stays.like was_found cells ever flush stays.cache stays.walk (λ v g u real r. stays.claims g)
     (λ v g u real r. inl (ref_same _ _ (refs g))) (λ v g u real r old. rw (kinds g) old)
 
 -- an act that changes no word
@@ -117,7 +117,7 @@ still_law n s x p m m2 b c y sound others at words left hand stays =
 pub aside_law : (n : Machine) (s : ℕ) (x : Step) (p : Place) (what : StepKind) (m m2 : Place → ℕ) (b c : ℕ → Holdings) (y : Holdings) → Sound n m b →
     ((t : ℕ) → t ≢ s → c t ≡ b t) → Wrote n x p what m m2 (b s) → c s ≡ noted x (m p) y → HandStays (b s) y → TellsClock n x (m Clock) (m p) →
     ((f i : ℕ) → Cell f i ≢ p) → ((d : ℕ) → Priv d ≢ p) → ((v : ℕ) → flushed_of v ≢ p) → ((f : ℕ) → Refs f ≢ p) → ((f : ℕ) → Kind f ≢ p) → Fresh n m2 c
-aside_law n s x p what m m2 b c y sound others wrote hand stays told cells privileges flush refs kinds =
-    quiet_law n s x (m p) m m2 b c y sound others hand stays told (λ f i. wrote.others (Cell f i) (cells f i))
+aside_law n s x p what m m2 b c y sound others wrote hand stays was_found cells privileges flush refs kinds =
+    quiet_law n s x (m p) m m2 b c y sound others hand stays was_found (λ f i. wrote.others (Cell f i) (cells f i))
     (ever_same m m2 (λ d. wrote.others (Priv d) (privileges d))) (λ v. wrote.others (flushed_of v) (flush v)) (λ f. wrote.others (Refs f) (refs f))
     (λ f. wrote.others (Kind f) (kinds f))

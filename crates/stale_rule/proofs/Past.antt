@@ -1,4 +1,4 @@
--- What a seat found of a vCPU after it had found a stamp: the vCPU was flushed past it, or comes to nothing.
+-- What a vCPU found of a vCPU after it had found a stamp: the vCPU was flushed past it, or comes to nothing.
 use Rattle.std.proofs.Common.{◌≡◌, ◌≢◌, ℕ, ◌<◌, ◌≤◌, ◌==◌, ◌&&◌, ◌||◌, ◌⊎◌, inl, inr, nat_lt, nat_le, Bool, true, false, List, [], ◌∷◌, length, refl, ◌∙◌, ap, subst, arith, IsTrue, if◌then◌else◌}
 use Rattle.std.proofs.lemmas.Bool.Decides.{nat_tests}
 use Rattle.std.proofs.lemmas.Bool.{and_parts, or_cases, or_right}
@@ -8,9 +8,9 @@ use Rattle.xp_board.specs.declared.holdings.Made.{Made}
 use Rattle.xp_board.specs.declared.holdings.Holdings.{Holdings}
 use Rattle.xp_board.specs.Lists.{EachOf}
 use Rattle.xp_board.specs.Steps.{is_at, left_of, some_step, some_since, some_before, steps_before}
-use Rattle.xp_board.specs.Readings.{told_value}
+use Rattle.xp_board.specs.Readings.{clock_value}
 use Rattle.xp_board.specs.Flushes.{is_idle, is_past}
-use Rattle.xp_board.specs.Found.{EachTold}
+use Rattle.xp_board.specs.Found.{EachClockValue}
 use Rattle.xp_board.specs.Reach.{Use, Reach}
 use Rattle.xp_board.specs.Sound.{Sound}
 use Rattle.board_lemmas.proofs.PlaceTests.{same_place}
@@ -21,18 +21,18 @@ use Rattle.board_lemmas.proofs.MoreSteps.{since_each, since_later}
 -- ---- what was found in some step holds by what holds of each
 
 -- ---- a stamp that was found before the vCPU was found off
-told_before : (z : Sizes) (n : ℕ) (p : Place) (stamp : ℕ) (test : ℕ → Bool) (P : ℕ → Type 0) (Q : Type 0) (steps : List Made) →
-    ((w : ℕ) → test w ≡ true → told_value p w ≡ stamp) → (P stamp → Q) → EachTold z P steps → IsTrue (some_before z n p test steps) → Q
+clock_before : (z : Sizes) (n : ℕ) (p : Place) (stamp : ℕ) (test : ℕ → Bool) (P : ℕ → Type 0) (Q : Type 0) (steps : List Made) →
+    ((w : ℕ) → test w ≡ true → clock_value p w ≡ stamp) → (P stamp → Q) → EachClockValue z P steps → IsTrue (some_before z n p test steps) → Q
 unfolding some_step EachOf
-told_before z n p stamp test P Q [] tells f each some = absurd (cc)
-told_before z n p stamp test P Q (x ∷ xs) tells f each some =
+clock_before z n p stamp test P Q [] tells f each some = absurd (cc)
+clock_before z n p stamp test P Q (x ∷ xs) tells f each some =
     elim (or_cases (nat_lt (length xs) n && (is_at z p x && test (left_of x))) _ some) [
       | inl here ↦
           let a = and_parts (nat_lt (length xs) n) (is_at z p x && test (left_of x)) here in
           let b = and_parts (is_at z p x) (test (left_of x)) a.1 in
           let at = same_place (place_at z x.step.place) p b.0 in
-          f (subst P (ap (λ q. told_value q (left_of x)) at ∙ tells (left_of x) b.1) each.0.1)
-      | inr later ↦ told_before z n p stamp test P Q xs tells f each.1 later
+          f (subst P (ap (λ q. clock_value q (left_of x)) at ∙ tells (left_of x) b.1) each.0.1)
+      | inr later ↦ clock_before z n p stamp test P Q xs tells f each.1 later
     ]
 
 since_either : (z : Sizes) (n : ℕ) (p : Place) (test other : ℕ → Bool) (steps : List Made) → IsTrue (some_since z n p (λ w. test w || other w) steps) →
@@ -79,11 +79,11 @@ IsGone m h v stamp = (m (run_of v) ≢ 0) ⊎ (((h v).cold ≡ true) ⊎ (stamp 
 
 module _ (n : Machine) (m : Place → ℕ) (h : ℕ → Holdings) (sound : Sound n m h) where
   pub past_gone : (s v since stamp : ℕ) (p : Place) (test : ℕ → Bool) → s < (sizes_of n).vcpus → v < (sizes_of n).vcpus →
-      ((w : ℕ) → test w ≡ true → told_value p w ≡ stamp) → IsTrue (some_before (sizes_of n) since p test (h s).steps) →
+      ((w : ℕ) → test w ≡ true → clock_value p w ≡ stamp) → IsTrue (some_before (sizes_of n) since p test (h s).steps) →
       IsTrue (is_past (sizes_of n) since stamp v (h s).steps) → IsGone m h v stamp
-  past_gone s v since stamp p test seat real tells told past =
+  past_gone s v since stamp p test vcpu real tells was_found past =
       let steps = (h s).steps in
-      let found = sound.found s seat in
+      let found = sound.found s vcpu in
       elim (or_cases (some_since (sizes_of n) since (run_of v) is_idle steps) _ past) [
         | inr flushed ↦
             inr (inr (since_each (sizes_of n) since (flushed_of v) (λ w. nat_lt stamp w) (λ w. w ≤ m (flushed_of v)) (stamp < m (flushed_of v)) steps
@@ -96,8 +96,8 @@ module _ (n : Machine) (m : Place → ℕ) (h : ℕ → Holdings) (sound : Sound
                   (since_later (sizes_of n) 0 since (run_of v) (λ w. w ≡ 1 → m (run_of v) ≡ 1) steps (omega arith) (found.stopped v)) stopped
                   (λ w t one zero. let k : w ≡ 1 = grind (arith, nat_tests) in let e = one k in omega arith))
               | inr off ↦
-                  told_before (sizes_of n) since p stamp test (λ y. (m (run_of v) ≢ 0) ⊎ (((h v).cold ≡ true) ⊎ (y < m (flushed_of v)))) (IsGone m h v stamp) _
-                  tells (λ gone. gone) (found.since_off v real) (before_newest (sizes_of n) since (run_of v) p (λ w. w == 2) test steps off told)
+                  clock_before (sizes_of n) since p stamp test (λ y. (m (run_of v) ≢ 0) ⊎ (((h v).cold ≡ true) ⊎ (y < m (flushed_of v)))) (IsGone m h v stamp) _
+                  tells (λ gone. gone) (found.since_off v real) (before_newest (sizes_of n) since (run_of v) p (λ w. w == 2) test steps off was_found)
             ]
       ]
 

@@ -8,7 +8,7 @@ use Rattle.xp_words.specs.Places.{sizes_of, Place, Clock, Kind, flushed_of}
 use Rattle.xp_board.specs.declared.step.Step.{Step}
 use Rattle.xp_board.specs.declared.holdings.Work.{Work}
 use Rattle.xp_board.specs.declared.holdings.Holdings.{Holdings}
-use Rattle.xp_board.specs.Readings.{kind_at, kind_stamp, told_value, is_dead}
+use Rattle.xp_board.specs.Readings.{kind_at, kind_stamp, clock_value, is_dead}
 use Rattle.xp_board.specs.Steps.{some_since}
 use Rattle.xp_board.specs.Hands.{work_on}
 use Rattle.xp_board.specs.Flushes.{IsPastFlush}
@@ -29,8 +29,8 @@ use Rattle.board_lemmas.proofs.WorkFacts.{Works, works_facts}
 use Rattle.board_lemmas.proofs.MoreSteps.{since_each}
 
 -- the stamp that a marked word tells
-marked_tells : (f w x : ℕ) → (w == x) ≡ true → (kind_fields x).validated ≡ false → told_value (Kind f) w ≡ (kind_fields x).number
-unfolding told_value kind_stamp
+marked_tells : (f w x : ℕ) → (w == x) ≡ true → (kind_fields x).validated ≡ false → clock_value (Kind f) w ≡ (kind_fields x).number
+unfolding clock_value kind_stamp
 marked_tells f w x t dead = let e : w ≡ x = grind (arith, nat_tests) in rw (e, dead) refl
 
 module _ (n : Machine) (s : ℕ) (m : Place → ℕ) (b : ℕ → Holdings) (real : s < (sizes_of n).vcpus) (sound : Sound n m b) (f : ℕ) (e : Work)
@@ -52,7 +52,7 @@ module _ (n : Machine) (s : ℕ) (m : Place → ℕ) (b : ℕ → Holdings) (rea
       elim (past v live) [
         | inl flushed ↦
             let gone = past_gone n m b sound s v e.since (kind_fields e.word).number (Kind e.frame) (λ w. w == e.word) real live
-            (λ w t. marked_tells e.frame w e.word t dead) (facts.formed.told mark) flushed in
+            (λ w t. marked_tells e.frame w e.word t dead) (facts.formed.was_found mark) flushed in
             elim (old.typed other) [
               | inl plain ↦ absurd (let p = plain.0 in cc)
               | inr stamped ↦
@@ -80,9 +80,9 @@ module _ (n : Machine) (s : ℕ) (m : Place → ℕ) (b : ℕ → Holdings) (rea
   -- the stamp of a dead word is a clock value found since the frame came here
   stamp_bound : (v : ℕ) (u : Use) (stamp : ℕ) → v < (sizes_of n).vcpus → u ≢ Reads → Reach (sizes_of n) m (b v) f u →
       IsTrue (some_since (sizes_of n) e.since Clock (λ w. w == stamp) (b s).steps) → m (flushed_of v) ≤ stamp
-  stamp_bound v u stamp live other r told =
+  stamp_bound v u stamp live other r was_found =
       since_each (sizes_of n) e.since Clock (λ w. w == stamp) (λ w. m (flushed_of v) ≤ w) (m (flushed_of v) ≤ stamp) (b s).steps
-      (EachOf-first _ (λ y. y.frame) f e (b s).works (((sound.fresh.each v live f u r).awaited s real).work other) here facts.frame) told
+      (EachOf-first _ (λ y. y.frame) f e (b s).works (((sound.fresh.each v live f u r).awaited s real).work other) here facts.frame) was_found
       (λ w t below. let k : w ≡ stamp = grind (arith, nat_tests) in omega arith)
 
   dead_bears : (v : ℕ) (l : KindWord) (u : Use) → v < (sizes_of n).vcpus → MayMakeDead n f e l (b s) → Reach (sizes_of n) m (b v) f u →

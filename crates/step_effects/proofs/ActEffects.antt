@@ -1,4 +1,4 @@
--- What the act of a legal step does to the words and to the hand of its seat: one record for each row of the
+-- What the act of a legal step does to the words and to the hand of its vCPU: one record for each row of the
 -- table of steps. `b` is the hand that the mark left, `c` the hand after the step.
 use Rattle.std.proofs.Common.{◌≡◌, ◌≢◌, ℕ, ◌+◌, ◌-◌, ◌%◌, ◌^◌, ◌<◌, ◌⊎◌, Bool, true, false, Some, None, IsTrue}
 use Rattle.xp_words.specs.declared.refs.RefWord.{RefWord}
@@ -129,7 +129,7 @@ pub record Turned (n : Machine) (s : ℕ) (x : Step) (f : ℕ) (row : KindRow) (
   pub may : AllowsKindRow row n s f k l b
   pub hand : c ≡ noted x (m (Kind f)) (after_kind_row row f k l (m2 (Kind f)) (record b { looking = still_looking f (m2 (Kind f)) b.looking }))
 
--- an exchange that found another word: the seat does not look at the frame any more, unless the word is that which it left
+-- an exchange that found another word: the vCPU does not look at the frame any more, unless the word is that which it left
 pub record Missed (n : Machine) (x : Step) (f : ℕ) (m m2 : Place → ℕ) (b c : Holdings) : Type 0 where
   pub place : place_of n x ≡ Kind f
   pub real : IsTrue (is_place (sizes_of n) (Kind f))
@@ -153,7 +153,7 @@ pub record Unlocked (n : Machine) (x : Step) (f : ℕ) (m m2 : Place → ℕ) (b
   pub is : m2 (Kind f) ≡ (m (Kind f) + unlocked_down) % 2 ^ 64
   pub hand : c ≡ noted x (m (Kind f)) (unlocked f (m (Kind f)) (m2 (Kind f)) b)
 
--- a store by the seat that has the frame in work or closing, by the form that it leaves
+-- a store by the vCPU that has the frame in work or closing, by the form that it leaves
 pub record Stored (n : Machine) (s : ℕ) (x : Step) (f : ℕ) (form : Form) (m m2 : Place → ℕ) (b c : Holdings) : Type 0 where
   pub wrote : Wrote n x (Kind f) steps.Kind m m2 b
   pub e : Work
@@ -176,7 +176,7 @@ pub record Exchanged (n : Machine) (x : Step) (f i : ℕ) (m m2 : Place → ℕ)
   pub hand : c ≡ noted x (m (Cell f i))
       (learned_cell f i (m2 (Cell f i)) (demand_in true (demand_at e.kind i (m (Cell f i))) (demand_out (demand_at e.kind i (m2 (Cell f i))) b)))
 
--- the same demand as that of the entry that the seat last found or left there
+-- the same demand as that of the entry that the vCPU last found or left there
 pub record Rewrote (n : Machine) (x : Step) (f i : ℕ) (m m2 : Place → ℕ) (b c : Holdings) : Type 0 where
   pub wrote : Wrote n x (Cell f i) steps.Cell m m2 b
   pub e : Lock
@@ -297,7 +297,7 @@ pub record Ticked (n : Machine) (x : Step) (m m2 : Place → ℕ) (b c : Holding
   pub is : m2 Clock ≡ m Clock + 1
   pub hand : c ≡ noted x (m Clock) b
 
--- the seat destroys a domain from now on
+-- the vCPU destroys a domain from now on
 pub record Doomed (n : Machine) (s : ℕ) (x : Step) (d : ℕ) (m m2 : Place → ℕ) (b c : Holdings) : Type 0 where
   pub wrote : Wrote n x (Life d) steps.Life m m2 b
   pub was : m (Life d) ≡ 0

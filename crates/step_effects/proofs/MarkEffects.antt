@@ -1,4 +1,4 @@
--- What a legal mark does to the hand of its seat: `h` before, `b` after.
+-- What a legal mark does to the hand of its vCPU: `h` before, `b` after.
 use Rattle.std.proofs.Common.{◌≡◌, ℕ, ◌+◌, ◌==◌, not, length, is_none, Option, Some, None, ap, ◌∙◌}
 use Rattle.xp_words.specs.Machine.{Machine}
 use Rattle.xp_words.specs.Places.{sizes_of}

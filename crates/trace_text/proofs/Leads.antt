@@ -7,7 +7,7 @@ use Rattle.trace_lines.specs.Spelling.{IsSpellable, line_text}
 use Rattle.trace_lines.proofs.LineAgain.{again, feedless, uncommented}
 use Rattle.trace_text.specs.Fronts.{Front, front_after}
 use Rattle.trace_text.specs.Lines.{spelling}
-use Rattle.trace_text.specs.TraceOf.{step, is_comment, is_ended, lines_of, trace_from, told}
+use Rattle.trace_text.specs.TraceOf.{step, is_comment, is_ended, lines_of, trace_from, front_trace}
 use Rattle.trace_text.proofs.LineLoop.{by_line}
 
 -- one line that can be spelled, behind a front that is not ended
@@ -36,9 +36,9 @@ unfolding step
 stepped f h l is = rw (is.open_still, plain (line_text l) (uncommented l), again f.version l is.spelled) is.taken
 
 -- the lines lead to the end, so their texts are read as what that says
-pub leads_again : (f g : Front) (n : ℕ) (ls : List Line) → Leads f ls g → is_ended g ≡ true → trace_from f n (map line_text ls ++ [] ∷ []) ≡ Ok (told g)
+pub leads_again : (f g : Front) (n : ℕ) (ls : List Line) → Leads f ls g → is_ended g ≡ true → trace_from f n (map line_text ls ++ [] ∷ []) ≡ Ok (front_trace g)
 unfolding trace_from
-leads_again f g n [] same ended = subst (λ (k : Front). trace_from k n ([] ∷ []) ≡ Ok (told g)) (sym same) (rw ended refl)
+leads_again f g n [] same ended = subst (λ (k : Front). trace_from k n ([] ∷ []) ≡ Ok (front_trace g)) (sym same) (rw ended refl)
 leads_again f g n (l ∷ ls) leads ended =
     by_line f n (line_text l) (map line_text ls ++ [] ∷ []) (grind (arith, common_steps)) ∙ rw (stepped f leads.0 l leads.1) (leads_again leads.0 g (n + 1) ls leads.2 ended)
 

@@ -42,13 +42,13 @@ abbrev pub lines_of : List ℕ → List (List ℕ)
 lines_of bytes = slice_split (λ b. b == 10) bytes
 
 -- the trace that the lines say
-abbrev pub told : Front → Trace
-told f = record { version = f.version; layout = record { frames = f.frames; limit = f.limit; page_limit = f.domains; privilege = f.masks; vcpu_domain = f.vcpus }; clock = f.clock; owned = f.owned; cells = f.cells; scripts = f.scripts; turns = f.turns }
+abbrev pub front_trace : Front → Trace
+front_trace f = record { version = f.version; layout = record { frames = f.frames; limit = f.limit; page_limit = f.domains; privilege = f.masks; vcpu_domain = f.vcpus }; clock = f.clock; owned = f.owned; cells = f.cells; scripts = f.scripts; turns = f.turns }
 
 -- What lines from the n-th on make of the lines before them. No line feed ends the last.
 unfoldable pub trace_from : Front → ℕ → List (List ℕ) → Result Trace Fault
 trace_from f n [] = Err (record { line = n; cause = bad_end })
-trace_from f n (last ∷ []) = if is_ended f && is_empty last then Ok (told f) else Err (record { line = n; cause = bad_end })
+trace_from f n (last ∷ []) = if is_ended f && is_empty last then Ok (front_trace f) else Err (record { line = n; cause = bad_end })
 trace_from f n (line ∷ next ∷ lines) = at_line n (step f line) (λ g. trace_from g (n + 1) (next ∷ lines))
 
 -- More than 67,108,864 bytes are found before any line is read.

@@ -5,7 +5,7 @@ ghost use Rattle.trace_lines.specs.Steps.{Gives};
 ghost use Rattle.trace_lines.specs.declared.fault.LineError.TheVariants.{At};
 ghost use Rattle.trace_lines.specs.declared.fault.LineFault.TheVariants.{Passed};
 ghost use Rattle.trace_text.specs.Fronts.{empty_front, is_between, most_frames as most_frames_lem, front_after_header, front_after_frames, front_after_limit, front_after_clock, front_after_domain, front_after_priv, front_after_vcpu, front_after_own, may_own as may_own_lem, front_after_cell, may_fill as may_fill_lem, front_after_op, front_after_turn, front_after_end, front_after};
-ghost use Rattle.trace_text.specs.TraceOf.{is_ended, told};
+ghost use Rattle.trace_text.specs.TraceOf.{is_ended, front_trace};
 ghost use Rattle.trace_text.specs.WellFormed.{IsWellFormed};
 ghost use Rattle.trace_text.specs.Counted.{pages_of, is_apart};
 ghost use Rattle.std.specs.Bool.{OnTrue};
@@ -413,7 +413,7 @@ impl Part {
 
     pub(crate) fn into_trace(self) -> Trace
         requires { IsTrue (is_ended self) }
-        ensures told { result ≡ told self }
+        ensures front_trace { result ≡ front_trace self }
         ensures well { IsWellFormed result }
     {
         let Part {

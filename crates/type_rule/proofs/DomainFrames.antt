@@ -29,7 +29,7 @@ free_unallocated : (w t : ℕ) → ref_read w ≡ Some (Free t) → IsTrue (is_u
 unfolding allocated_mark
 free_unallocated w t e = rw e refl
 
--- ---- a frame that a seat has claimed is its domain's
+-- ---- a frame that a vCPU has claimed is its domain's
 pub domain_below : (n : Machine) (s : ℕ) → IsMachine n → s < (sizes_of n).vcpus → domain_of n s < 16
 domain_below n s k real =
     let few = k.few_domains in

@@ -120,7 +120,7 @@ module _ (n : Machine) (s : ℕ) (x : Step) (m m2 : Place → ℕ) (b c : ℕ �
   live_unkept : (f : ℕ) → (kind_at m f).validated ≡ true → (d : ℕ) → KeptForNobody n m b d f → (kind_at m f).kept ≡ false
   live_unkept f live d (inl unkept) = grind arith
   live_unkept f live d (inr l) =
-      let formed = member_each (IsLookingFormed n l.seat) l.looking (b l.seat).looking ((sound.formed l.seat l.real).looking) l.here in
+      let formed = member_each (IsLookingFormed n l.vcpu) l.looking (b l.vcpu).looking ((sound.formed l.vcpu l.real).looking) l.here in
       let p : is_partial (kind_at m f) ≡ true = rw (← l.word) formed.partial in
       absurd (cc)
 

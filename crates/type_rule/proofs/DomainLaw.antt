@@ -21,7 +21,7 @@ abbrev pub AllStopped : Machine → (Place → ℕ) → ℕ → Type 0
 AllStopped n m d = (v : ℕ) → v < (sizes_of n).vcpus → domain_of n v ≡ d → m (run_of v) ≡ 1
 
 -- What an act changes of the words, as far as these laws read them: a vCPU that is stopped stays so and gets no frame, and no
--- frame of a domain whose vCPUs are stopped comes to it or gets a mark, but `kept` by a seat that looks at the domain's life.
+-- frame of a domain whose vCPUs are stopped comes to it or gets a mark, but `kept` by a vCPU that looks at the domain's life.
 pub record DomainWords (n : Machine) (m m2 : Place → ℕ) (b c : ℕ → Holdings) : Type 0 where
   pub stopped : (v : ℕ) → m (run_of v) ≡ 1 → m2 (run_of v) ≡ 1
   pub empty : (v k : ℕ) → IsTrue (is_context k) → m (run_of v) ≡ 1 → m (Vcpu v k) ≡ 0 → m2 (Vcpu v k) ≡ 0
@@ -30,7 +30,7 @@ pub record DomainWords (n : Machine) (m m2 : Place → ℕ) (b c : ℕ → Holdi
   pub unpinned : (d f : ℕ) → AllStopped n m d → owner_of (m (Refs f)) ≡ Some d → IsTrue (is_unpinned (m (Kind f))) → IsTrue (is_unpinned (m2 (Kind f)))
   pub unkept : (d f : ℕ) → m (Life d) ≢ 0 → AllStopped n m d → owner_of (m (Refs f)) ≡ Some d → KeptForNobody n m b d f → KeptForNobody n m2 c d f
 
--- the words, and one more step of seat s
+-- the words, and one more step of vCPU s
 pub record DomainChange (n : Machine) (s : ℕ) (x : Step) (m m2 : Place → ℕ) (b c : ℕ → Holdings) : Type 0 where
   pub words : DomainWords n m m2 b c
   pub others : (t : ℕ) → t ≢ s → c t ≡ b t
@@ -68,7 +68,7 @@ module _ (n : Machine) (s : ℕ) (x : Step) (m m2 : Place → ℕ) (b c : ℕ �
         stopped = λ v l e. k.words.stopped v (y.stopped v l e);
       }
 
-  -- all vCPUs of a domain that a seat found stopped are stopped
+  -- all vCPUs of a domain that a vCPU found stopped are stopped
   all_stopped : (d t a : ℕ) → StoppedFound (sizes_of n) m (b t) → HasStopped n t d a (b t) → AllStopped n m d
   all_stopped d t a found y v l e =
       found_between (sizes_of n) y.since a (run_of v) (λ w. w == 1) (λ w. w ≡ 1 → m (run_of v) ≡ 1) (b t).steps (found v) (y.stopped v l e) (λ w r g. g (is_one w r))
@@ -81,7 +81,7 @@ module _ (n : Machine) (s : ℕ) (x : Step) (m m2 : Place → ℕ) (b c : ℕ �
         | inr off ↦ off
       ]
 
-  -- another seat destroys it
+  -- another vCPU destroys it
   others_law : (d t : ℕ) → t ≢ s → m (Life d) ≢ 0 → StoppedFound (sizes_of n) m (b t) → DyingDomain n m b d t → DyingDomain n m2 c d t
   others_law d t off gone stopped y =
       let same = k.others t off in
@@ -149,7 +149,7 @@ module _ (n : Machine) (s : ℕ) (x : Step) (m m2 : Place → ℕ) (b c : ℕ �
             (y.empty v j a e o l u was_stored order was_halted old)
       ]
 
-  -- the seat that makes the step destroys it
+  -- the vCPU that makes the step destroys it
   mine_law : (d : ℕ) → m (Life d) ≢ 0 → StoppedFound (sizes_of n) m (b s) → DyingDomain n m b d s → DyingDomain n m2 c d s
   mine_law d gone stopped y =
       record {

@@ -44,7 +44,7 @@ module _ (n : Machine) (s : ℕ) (m : Place → ℕ) (h b : ℕ → Holdings) (t
   kept_mark : (d f : ℕ) → KeptForNobody n m h d f → KeptForNobody n m b d f
   kept_mark d f (inl unkept) = inl unkept
   kept_mark d f (inr l) =
-      inr (record { seat = l.seat; real = l.real; looking = l.looking; here = rw (same_looking l.seat) l.here; frame = l.frame; owner = l.owner; word = l.word })
+      inr (record { vcpu = l.vcpu; real = l.real; looking = l.looking; here = rw (same_looking l.vcpu) l.here; frame = l.frame; owner = l.owner; word = l.word })
 
   dead_mark : (d : ℕ) → DeadDomain n m h d → DeadDomain n m b d
   dead_mark d y =

@@ -1,4 +1,4 @@
--- A domain that a seat destroys from now on, and one that is dead from now on.
+-- A domain that a vCPU destroys from now on, and one that is dead from now on.
 use Rattle.std.proofs.Common.{◌≡◌, ◌≢◌, ℕ, ◌+◌, ◌<◌, ◌≤◌, ◌==◌, ◌⊎◌, not, nat_lt, if◌then◌else◌, Bool, true, false, ◌∷◌, length, Some, IsTrue, refl, sym, ◌∙◌, ap, subst, inl, inr, arith}
 use Rattle.std.proofs.lemmas.Bool.{cases_eq, cases_Bool}
 use Rattle.std.proofs.lemmas.Bool.Decides.{nat_tests}
@@ -26,10 +26,10 @@ life_steps false d h = refl
 
 module _ (n : Machine) (s : ℕ) (x : Step) (m m2 : Place → ℕ) (b c : ℕ → Holdings) (real : s < (sizes_of n).vcpus) (sound : Sound n m b)
     (others : (t : ℕ) → t ≢ s → c t ≡ b t) where
-  few_seats : s < 16
-  few_seats = let k = sound.machine.few_vcpus in omega arith
+  few_vcpus : s < 16
+  few_vcpus = let k = sound.machine.few_vcpus in omega arith
 
-  -- what was found of the life word that the seat stored
+  -- what was found of the life word that the vCPU stored
   stored_is : (a d : ℕ) → IsTrue (some_before (sizes_of n) a (Life d) (λ w. w == s + 1) (b s).steps) → (m (Life d) ≡ s + 1) ⊎ (m (Life d) ≡ 255)
   stored_is a d h =
       found_before (sizes_of n) a (Life d) (λ w. w == s + 1) (λ w. w ≢ 0 → (m (Life d) ≡ w) ⊎ (m (Life d) ≡ 255)) (b s).steps ((sound.found s real).life d) h
@@ -90,7 +90,7 @@ module _ (n : Machine) (s : ℕ) (x : Step) (m m2 : Place → ℕ) (b c : ℕ �
   pub doomed_law : (d : ℕ) → Doomed n s x d m m2 (b s) (c s) → Domains n m2 c
   doomed_law d k =
       let change = doomed_change d k in
-      let few = few_seats in
+      let few = few_vcpus in
       record {
         dead = λ q l e. elim (cases_eq q d) [
           | inl at ↦ absurd (let i = k.is in let f = rw at at e in omega arith)
@@ -109,7 +109,7 @@ module _ (n : Machine) (s : ℕ) (x : Step) (m m2 : Place → ℕ) (b c : ℕ �
       (same_words n s x m m2 b c others (λ v j a e. k.wrote.others (Vcpu v j) (λ q. cc)) (λ f. k.wrote.others (Refs f) (λ q. cc)) (λ f. k.wrote.others (Kind f) (λ q. cc))
       (λ f e there at w alive. rw (ap (λ u. u.looking) k.hand) (learned_alive d (m (Life d)) (b s) e there (λ o. gone))))
 
-  -- what the destroying seat has found makes the domain dead
+  -- what the destroying vCPU has found makes the domain dead
   module _ (d new : ℕ) (may : MayBury n s d new (b s)) (dying : DyingDomain n m b d s) where
     before : HasStopped n s d may.since (b s)
     before =
@@ -156,7 +156,7 @@ module _ (n : Machine) (s : ℕ) (x : Step) (m m2 : Place → ℕ) (b c : ℕ �
 
   pub buried_law : (d : ℕ) → d < (sizes_of n).domains → Buried n s x d m m2 (b s) (c s) → Domains n m2 c
   buried_law d inside k =
-      let few = few_seats in
+      let few = few_vcpus in
       let is = stored_is k.may.emptied.stopped.since d k.may.emptied.stopped.stored in
       let gone : m (Life d) ≢ 0 = (λ z. elim is [ inl p ↦ absurd (omega arith) | inr p ↦ absurd (omega arith) ]) in
       let change = buried_change d k gone in

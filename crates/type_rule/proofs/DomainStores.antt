@@ -35,7 +35,7 @@ left_pinned Partial n f w e l h is at may = let k = is_partial_left l at in (par
 left_pinned InWork n f w e l h is at may = let k = is_work_left l at in (work_form w l is k.0 k.1 k.2).unpinned
 left_pinned Dead n f w e l h is at may = let k = is_dead_left l at in (dead_form w l is k.0 k.1 k.2).unpinned
 
--- ---- the owner that the seat knows
+-- ---- the owner that the vCPU knows
 first_passes : {A : Type 0} (key : A → ℕ) (f : ℕ) (xs : List A) (e : A) (test : A → Bool) → first_by key f xs ≡ Some e → test e ≡ true →
     some_of (λ y. (key y == f) && test y) xs ≡ true
 unfolding first_by some_of
@@ -124,7 +124,7 @@ module _ (n : Machine) (s : ℕ) (x : Step) (m m2 : Place → ℕ) (b c : ℕ �
             let looking : (c s).looking ≡ looking_at n s f (m2 (Kind f)) (kept_owner f d.e (b s)) (as_typed f d.e (b s)) = ap (λ u. u.looking) d.hand ∙ rw on refl in
             inr
             (record {
-              seat = s;
+              vcpu = s;
               real = real;
               looking = record { frame = f; owner = keep.owner; word = m2 (Kind f) };
               here = rw looking (looks_at n s f (m2 (Kind f)) keep.owner (kept_owner f d.e (b s)) (as_typed f d.e (b s)) keep.known other);

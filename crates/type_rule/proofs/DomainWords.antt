@@ -27,7 +27,7 @@ kept_member test e (y ∷ ys) (inr there) t =
       | inr out ↦ rw out (kept_member test e ys there t)
     ]
 
--- a seat that looks at a domain that is not alive goes on looking, when it finds a life word
+-- a vCPU that looks at a domain that is not alive goes on looking, when it finds a life word
 pub learned_alive : (d w : ℕ) (b : Holdings) (e : Looking) → Member e b.looking → (d ≡ e.owner → w ≢ 0) → Member e (learned_life d w b).looking
 learned_alive d w b e there alive =
     elim (cases_eq w 0) [
@@ -41,7 +41,7 @@ learned_alive d w b e there alive =
     ]
 
 module _ (n : Machine) (s : ℕ) (x : Step) (m m2 : Place → ℕ) (b c : ℕ → Holdings) (others : (t : ℕ) → t ≢ s → c t ≡ b t) where
-  -- the seat goes on looking at a frame whose kind word stays, where the domain is not alive
+  -- the vCPU goes on looking at a frame whose kind word stays, where the domain is not alive
   abbrev pub LooksOn : ℕ → Type 0
   LooksOn f = (e : Looking) → Member e (b s).looking → e.frame ≡ f → e.word ≡ m (Kind f) → m (Life e.owner) ≢ 0 → Member e (c s).looking
 
@@ -50,12 +50,12 @@ module _ (n : Machine) (s : ℕ) (x : Step) (m m2 : Place → ℕ) (b c : ℕ �
   kept_after d f gone same on (inr l) =
       inr
       (record {
-        seat = l.seat;
+        vcpu = l.vcpu;
         real = l.real;
         looking = l.looking;
-        here = elim (cases_eq l.seat s) [
+        here = elim (cases_eq l.vcpu s) [
           | inl at ↦ rw at (on l.looking (rw at at l.here) l.frame l.word (λ e. gone (ap (λ o. m (Life o)) (sym l.owner) ∙ e)))
-          | inr off ↦ rw (others l.seat off) l.here
+          | inr off ↦ rw (others l.vcpu off) l.here
         ];
         frame = l.frame;
         owner = l.owner;
@@ -86,7 +86,7 @@ module _ (n : Machine) (s : ℕ) (x : Step) (m m2 : Place → ℕ) (b c : ℕ �
         steps = ap (λ u. u.steps) hand ∙ ap (λ l. record { step = x; found = m p } ∷ l) same;
       }
 
-  -- a seat that makes this step runs
+  -- a vCPU that makes this step runs
   pub runs : Sound n m b → s < (sizes_of n).vcpus → (b s).run ≡ Some 0 → m (run_of s) ≡ 0
   runs sound real e = (sound.found s real).own.run 0 e
 

@@ -25,7 +25,7 @@ pub record OldEntry (n : Machine) (m m2 : Place → ℕ) (b : ℕ → Holdings) 
   pub demand : entry_demand m2 f i ≡ entry_demand m f i
   pub kind : (kind_at m2 f).kind ≡ (kind_at m f).kind
 
--- the seat makes one more step, and keeps what it has of frames in work but of those that a test names
+-- the vCPU makes one more step, and keeps what it has of frames in work but of those that a test names
 pub record OneStep (n : Machine) (s : ℕ) (x : Step) (m m2 : Place → ℕ) (b c : ℕ → Holdings) : Type 0 where
   pub others : (t : ℕ) → t ≢ s → c t ≡ b t
   pub found : ℕ
@@ -40,8 +40,8 @@ module _ (n : Machine) (s : ℕ) (x : Step) (m m2 : Place → ℕ) (b c : ℕ �
   pub stands : (p : Place) (test : ℕ → Bool) → Hit (sizes_of n) p test made → test (m2 p) ≡ true
   stands p test a = hit_left (sizes_of n) m2 p test made one.left a
 
-  -- ---- an unsettled entry, of a table of which the seats keep what they have
-  still_unfound : (f i g : ℕ) → WorkKeptIn (work_on f (b s).works) (work_on f (c s).works) → (u : IsUnsettled (sizes_of n) b f i g) → u.seat ≡ s →
+  -- ---- an unsettled entry, of a table of which the vCPUs keep what they have
+  still_unfound : (f i g : ℕ) → WorkKeptIn (work_on f (b s).works) (work_on f (c s).works) → (u : IsUnsettled (sizes_of n) b f i g) → u.vcpu ≡ s →
       IsTrue (is_live (kind_at m2 g)) ⊎ IsUnsettled (sizes_of n) c f i g
   still_unfound f i g works u at =
       let e = kept_work _ _ u.work works (rw at at u.here) in
@@ -52,7 +52,7 @@ module _ (n : Machine) (s : ℕ) (x : Step) (m m2 : Place → ℕ) (b c : ℕ �
         | inr unfound ↦
             inr
             (record {
-              seat = s;
+              vcpu = s;
               real = rw at at u.real;
               work = e.0;
               here = e.1;
@@ -66,13 +66,13 @@ module _ (n : Machine) (s : ℕ) (x : Step) (m m2 : Place → ℕ) (b c : ℕ �
   pub unsettled_after : (f i g : ℕ) → WorkKeptIn (work_on f (b s).works) (work_on f (c s).works) → IsUnsettled (sizes_of n) b f i g →
       IsTrue (is_live (kind_at m2 g)) ⊎ IsUnsettled (sizes_of n) c f i g
   unsettled_after f i g works u =
-      elim (cases_eq u.seat s) [
+      elim (cases_eq u.vcpu s) [
         | inl at ↦ still_unfound f i g works u at
         | inr off ↦
-            let same = one.others u.seat off in
+            let same = one.others u.vcpu off in
             inr
             (record {
-              seat = u.seat;
+              vcpu = u.vcpu;
               real = u.real;
               work = u.work;
               here = rw same u.here;
@@ -110,7 +110,7 @@ module _ (n : Machine) (s : ℕ) (x : Step) (m m2 : Place → ℕ) (b c : ℕ �
   -- ---- the kind word of frame q changes
   module _ (q : ℕ) (kinds : (g : ℕ) → g ≢ q → m2 (Kind g) ≡ m (Kind g)) (cells : (f i : ℕ) → m2 (Cell f i) ≡ m (Cell f i))
       (works : (g : ℕ) → g ≢ q → WorkKeptIn (work_on g (b s).works) (work_on g (c s).works)) (real : s < (sizes_of n).vcpus) where
-    -- what is to be shown of frame q: no other seat works on it, as many entries stay recorded, and its type stays where there are some
+    -- what is to be shown of frame q: no other vCPU works on it, as many entries stay recorded, and its type stays where there are some
     pub record SameTable : Type 0 where
       pub alone : (t : ℕ) → t < (sizes_of n).vcpus → t ≢ s → work_on q (b t).works ≡ None
       pub held : held_of (kind_at m2 q) (recorded_number (work_on q (c s).works)) ≡ held_of (kind_at m q) (recorded_number (work_on q (b s).works))

@@ -40,14 +40,14 @@ counted_form : (k : KindWord) → 0 < type_count k → is_live k ≡ false → I
 unfolding type_count
 counted_form k some off = grind (arith, nat_tests)
 
--- a typed demand of which the seat does not know that its frame is live is noted
+-- a typed demand of which the vCPU does not know that its frame is live is noted
 unsettled_some : (n : Machine) (h : Holdings) (e : Work) (g : ℕ) (t : PageType) → demand_seen e.recorded e ≡ Typed g t → knows_live (sizes_of n) g t h ≡ false →
     unsettled_by (sizes_of n) e h ≡ Some (record { since = length h.steps; word = Some (seen_word e.seen) })
 unsettled_some n h e g t asks off = rw (asks, off) refl
 
 module _ (n : Machine) (s : ℕ) (m : Place → ℕ) (h b : ℕ → Holdings) (real : s < (sizes_of n).vcpus) (sound : Sound n m h)
     (others : (t : ℕ) → t ≢ s → b t ≡ h t) (steps : (b s).steps ≡ (h s).steps) where
-  -- the number of entries of a table on which the seat works
+  -- the number of entries of a table on which the vCPU works
   held_mine : (u : ℕ → Holdings) (f : ℕ) (e : Work) → ((t : ℕ) → t < (sizes_of n).vcpus → t ≢ s → work_on f (u t).works ≡ None) → work_on f (u s).works ≡ Some e →
       is_table (kind_at m f).kind ≡ true → held (sizes_of n) m u f ≡ e.recorded
   unfolding recorded_in
@@ -108,7 +108,7 @@ module _ (n : Machine) (s : ℕ) (m : Place → ℕ) (h b : ℕ → Holdings) (r
                   counted_form (kind_at m g) (omega arith) off,
                   inr
                       (record {
-                        seat = s;
+                        vcpu = s;
                         real = real;
                         work = more d.e;
                         here = here;

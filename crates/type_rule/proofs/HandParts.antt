@@ -18,7 +18,7 @@ use Rattle.xp_board.specs.Readings.{is_work, is_closing}
 use Rattle.board_lemmas.proofs.HandParts.{Beside, beside_in, beside_out, beside_named_in, beside_named_out, beside_learned, beside_ran, beside_started, beside_descended, beside_loaded}
 use Rattle.board_lemmas.proofs.Sums.{either}
 
--- the steps and what the seat looks at
+-- the steps and what the vCPU looks at
 pub record SameTwo (a b : Holdings) : Type 0 where
   pub looking : b.looking ≡ a.looking
   pub steps : b.steps ≡ a.steps

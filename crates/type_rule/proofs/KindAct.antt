@@ -81,13 +81,13 @@ module _ (n : Machine) (s : ℕ) (x : Step) (m m2 : Place → ℕ) (b c : ℕ �
         contexts = contexts_permitted n s m m2 b real sound owners (λ v j u. same (Vcpu v j) (λ e. cc));
       })
 
-  -- ---- a frame that no seat has in its works
+  -- ---- a frame that no vCPU has in its works
   module _ (idle : is_busy (kind_at m q) ≡ false) where
     pub nobody : (t : ℕ) → t < (sizes_of n).vcpus → work_on q (b t).works ≡ None
     nobody = nobody_has n m b sound.alone q idle
 
     pub not_unsettled : (i g : ℕ) → IsUnsettled (sizes_of n) b q i g → ⊥
-    not_unsettled i g u = let none = nobody u.seat u.real in let some = u.here in cc
+    not_unsettled i g u = let none = nobody u.vcpu u.real in let some = u.here in cc
 
     -- a live frame that stays live with its type
     pub live_stays : IsTrue (is_live (kind_at m q)) → IsTrue (is_live (kind_at m2 q)) → (kind_at m2 q).kind ≡ (kind_at m q).kind →

@@ -1,4 +1,4 @@
--- How many entries a kind word holds before and after a step, and which forms are one seat's alone.
+-- How many entries a kind word holds before and after a step, and which forms are one vCPU's alone.
 use Rattle.std.proofs.Common.{◌≡◌, ℕ, ◌||◌, not, if◌then◌else◌, true, false, Some, None, IsTrue, refl, sym, inl, inr, arith, subst}
 use Rattle.std.proofs.lemmas.Bool.{cases_Bool, and_parts}
 use Rattle.xp_words.specs.declared.kind.KindWord.{KindWord}

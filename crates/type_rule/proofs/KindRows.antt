@@ -122,7 +122,7 @@ module _ (n : Machine) (s : ℕ) (x : Step) (m m2 : Place → ℕ) (b c : ℕ �
           form = λ g i t l q form. inr (rw d.fields_is (resumed_work d.k d.l may));
           last = λ i g last. inr
               (record {
-                seat = s;
+                vcpu = s;
                 real = real;
                 work = e;
                 here = here;

@@ -23,18 +23,18 @@ module _ (n : Machine) (s : ℕ) (m : Place → ℕ) (h b : ℕ → Holdings) (r
   contexts_valid : (v k g : ℕ) → v < (sizes_of n).vcpus → k < 38 → IsTrue (is_live_context k) → m (Vcpu v k) ≡ g + 1 → IsTrue (is_live (kind_at m g))
   contexts_valid v k g l e u at = sound.valid.contexts v k g l e u at
 
-  -- an unsettled entry of a table of which the seats have the same
+  -- an unsettled entry of a table of which the vCPUs have the same
   unsettled_same : (f i g : ℕ) → work_on f (b s).works ≡ work_on f (h s).works → IsUnsettled (sizes_of n) h f i g → IsUnsettled (sizes_of n) b f i g
   unsettled_same f i g same u =
       record {
-        seat = u.seat;
+        vcpu = u.vcpu;
         real = u.real;
         work = u.work;
-        here = elim (cases_eq u.seat s) [ inl at ↦ rw at (same ∙ rw at at u.here) | inr off ↦ rw (others u.seat off) u.here ];
+        here = elim (cases_eq u.vcpu s) [ inl at ↦ rw at (same ∙ rw at at u.here) | inr off ↦ rw (others u.vcpu off) u.here ];
         last = u.last;
         unsettled = u.unsettled;
         kept = u.kept;
-        unfound = elim (cases_eq u.seat s) [ inl at ↦ rw at (rw steps (rw at at u.unfound)) | inr off ↦ rw (others u.seat off) u.unfound ];
+        unfound = elim (cases_eq u.vcpu s) [ inl at ↦ rw at (rw steps (rw at at u.unfound)) | inr off ↦ rw (others u.vcpu off) u.unfound ];
       }
 
   leads_same : (f i g : ℕ) → work_on f (b s).works ≡ work_on f (h s).works → LeadsWell (sizes_of n) m h f i g → LeadsWell (sizes_of n) m b f i g

@@ -1,4 +1,4 @@
--- An entry that a seat makes or records: it is allowed, leads well, and its owner is permitted the frame.
+-- An entry that a vCPU makes or records: it is allowed, leads well, and its owner is permitted the frame.
 use Rattle.std.proofs.Common.{◌≡◌, ℕ, ◌<◌, ◌||◌, ◌⊎◌, true, Some, IsTrue, refl, sym, ◌∙◌, ap, inl, inr}
 use Rattle.xp_words.specs.declared.kind.PageType.{PageType}
 use Rattle.xp_words.specs.declared.entry.Demand.{Demand}
@@ -22,7 +22,7 @@ had_by o w e = rw e refl
 
 module _ (n : Machine) (s : ℕ) (m m2 : Place → ℕ) (b c : ℕ → Holdings) (real : s < (sizes_of n).vcpus) (sound : Sound n m b)
     (refs : (f : ℕ) → m2 (Refs f) ≡ m (Refs f)) (kinds : (f : ℕ) → m2 (Kind f) ≡ m (Kind f)) (privs : (d : ℕ) → m2 (Priv d) ≡ m (Priv d)) where
-  -- the owners that the seat knows meet
+  -- the owners that the vCPU knows meet
   meets : (f g : ℕ) (t : PageType) → (k : OwnersMeet n f g t (b s)) → (frame : ℕ) → owner_of (m (Refs g)) ≡ Some k.frame →
       (k.frame ≡ k.table) ⊎ (IsTrue (is_lowest t) × IsTrue (some_since (sizes_of n) (b s).turn (Priv k.table) (has_now k.frame) (b s).steps)) → EntryPermitted m2 t (Some k.table) g
   meets f g t k frame known (inl same) = inl (rw (refs g) (known ∙ ap Some same))

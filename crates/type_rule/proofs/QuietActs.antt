@@ -31,11 +31,11 @@ use Rattle.type_rule.proofs.QuietLaw.{QuietAct, same_owners, one_owner}
 use Rattle.board_lemmas.proofs.Works.{dying_in_hand}
 use Rattle.xp_board.proofs.RefWords.{owned_says, free_says}
 
-told_held : (n : Machine) (stamp f : ℕ) (h : Holdings) (e : Option Ending) (c : Option Claimed) → ending_of f h.ending ≡ e → claim_of f h.claimed ≡ c → IsFreeStamp n stamp h e c →
+clock_held : (n : Machine) (stamp f : ℕ) (h : Holdings) (e : Option Ending) (c : Option Claimed) → ending_of f h.ending ≡ e → claim_of f h.claimed ≡ c → IsFreeStamp n stamp h e c →
     0 < endings_of f h.ending + claims_of f h.claimed
-told_held n stamp f h (Some e) c at there k = let some = first-some (λ y. y.frame) f e h.ending at in omega arith
-told_held n stamp f h None (Some c) at there k = let some = first-some (λ y. y.frame) f c h.claimed there in omega arith
-told_held n stamp f h None None at there k = absurd k
+clock_held n stamp f h (Some e) c at there k = let some = first-some (λ y. y.frame) f e h.ending at in omega arith
+clock_held n stamp f h None (Some c) at there k = let some = first-some (λ y. y.frame) f c h.claimed there in omega arith
+clock_held n stamp f h None None at there k = absurd k
 
 module _ (n : Machine) (s : ℕ) (x : Step) (m m2 : Place → ℕ) (b c : ℕ → Holdings) (real : s < (sizes_of n).vcpus) (sound : Sound n m b)
     (others : (t : ℕ) → t ≢ s → c t ≡ b t) where
@@ -226,7 +226,7 @@ module _ (n : Machine) (s : ℕ) (x : Step) (m m2 : Place → ℕ) (b c : ℕ �
 
   pub freed_quiet : (f : ℕ) → Freed n s x f m m2 (b s) (c s) → QuietAct n s x m m2 b c
   freed_quiet f d =
-      let held = told_held n d.stamp f (b s) (ending_of f (b s).ending) (claim_of f (b s).claimed) refl refl d.may.told in
+      let held = clock_held n d.stamp f (b s) (ending_of f (b s).ending) (claim_of f (b s).claimed) refl refl d.may.was_found in
       at_refs f _ d.wrote.place d.wrote.left d.wrote.others d.hand refl refl (λ some. absurd (let k = dying_in_hand n m b sound.alone f s real held in omega arith))
 
   pub gave_quiet : (f : ℕ) → Gave n s x f m m2 (b s) (c s) → QuietAct n s x m m2 b c

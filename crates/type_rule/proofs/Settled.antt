@@ -1,4 +1,4 @@
--- A seat that is settled on the last recorded entry of a table in its work has found the entry's frame live.
+-- A vCPU that is settled on the last recorded entry of a table in its work has found the entry's frame live.
 use Rattle.std.proofs.Common.{◌≡◌, ◌≢◌, ℕ, ◌+◌, ◌-◌, true, false, List, Option, Some, None, IsTrue, refl, sym, ◌∙◌, inl, inr, arith, ◌<◌, ap}
 use Rattle.std.proofs.lemmas.Bool.{cases_Bool}
 use Rattle.xp_words.specs.declared.kind.KindWord.{KindWord}
@@ -22,7 +22,7 @@ use Rattle.board_lemmas.proofs.WorkFacts.{Works, seen_asks}
 use Rattle.xp_board.specs.Hands.{work_on}
 use Rattle.xp_board.specs.Valid.{IsUnsettled}
 use Rattle.xp_board.specs.Sound.{Sound}
-use Rattle.board_lemmas.proofs.Works.{one_seat}
+use Rattle.board_lemmas.proofs.Works.{one_vcpu}
 use Rattle.board_lemmas.proofs.HandLists.{first-some}
 
 pub unmarked_by : (k : KindWord) (r : ℕ) → (k.unflushed ≡ true → r ≡ 0) → r ≢ 0 → k.unflushed ≡ false
@@ -49,11 +49,11 @@ settled_found n m h s f i g t e u k table some last asks settled =
     let unmarked = unmarked_by (kind_fields e.word) e.recorded k.agrees.marked (λ z. absurd (omega arith)) in
     word_found n m h s f i g t e u u.word k table unmarked some refl (omega arith) asks (rw some at settled)
 
--- what is unsettled of a table on which a seat works is so by this seat
+-- what is unsettled of a table on which a vCPU works is so by this vCPU
 pub unsettled_mine : (n : Machine) (m : Place → ℕ) (h : ℕ → Holdings) (s f : ℕ) (e : Work) → Sound n m h → s < (sizes_of n).vcpus → Works n m h s f e →
-    (i g : ℕ) → (u : IsUnsettled (sizes_of n) h f i g) → work_on f (h s).works ≡ Some e → (u.seat ≡ s) × (u.work ≡ e)
+    (i g : ℕ) → (u : IsUnsettled (sizes_of n) h f i g) → work_on f (h s).works ≡ Some e → (u.vcpu ≡ s) × (u.work ≡ e)
 unsettled_mine n m h s f e sound real k i g u here =
-    let some = first-some (λ y. y.frame) f u.work (h u.seat).works u.here in
-    let at : u.seat ≡ s = sym (one_seat n m h sound.alone f s u.seat real u.real k.some some) in
+    let some = first-some (λ y. y.frame) f u.work (h u.vcpu).works u.here in
+    let at : u.vcpu ≡ s = sym (one_vcpu n m h sound.alone f s u.vcpu real u.real k.some some) in
     let same : Some u.work ≡ Some e = sym u.here ∙ ap (λ t. work_on f (h t).works) at ∙ here in
     (at, cc)

@@ -1,4 +1,4 @@
--- Frames in work: what a hand has of a frame after one is added, taken out or changed, and what all seats have of it.
+-- Frames in work: what a hand has of a frame after one is added, taken out or changed, and what all vCPUs have of it.
 use Rattle.std.proofs.Common.{◌≡◌, ℕ, ◌+◌, ◌==◌, if◌then◌else◌, Bool, true, false, List, [], ◌∷◌, Option, Some, None, refl, ap, inl, inr}
 use Rattle.std.proofs.lemmas.Bool.{cases_Bool}
 use Rattle.xp_words.specs.KindWords.{kind_fields}

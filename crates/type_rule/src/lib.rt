@@ -22,8 +22,8 @@ pub fn entries_stay_permitted()
     ensures acts { KeepsAct (λ n m h. Permitted n m h) }
 {}
 
-/// A dead domain has no frame that is allocated or pinned, and none that is kept but where a seat has still to look whether the domain
-/// lives; its vCPUs are stopped and name no frame. While a domain is dying, what its destroying seat has found so is so.
+/// A dead domain has no frame that is allocated or pinned, and none that is kept but where a vCPU has still to look whether the domain
+/// lives; its vCPUs are stopped and name no frame. While a domain is dying, what its destroying vCPU has found so is so.
 pub fn the_dead_stay_dead()
     ensures marks { KeepsMark (λ n m h. Domains n m h) }
     ensures acts { KeepsAct (λ n m h. Domains n m h) }

@@ -27,7 +27,7 @@ use Rattle.vcpu_turn.specs.Turning.{BeginsTurn, WasNotAsked, is_own_flush}
 pub record Begun (v w : PortValue) (made : List Made) : Type 0 where
   pub went : Went v made w
   pub first : BeginsTurn made
-  pub own : EachOf (λ x. IsTrue (is_load x.step.act || is_own_flush v.post.seat (place_of v.post.machine x.step))) made
+  pub own : EachOf (λ x. IsTrue (is_load x.step.act || is_own_flush v.post.vcpu (place_of v.post.machine x.step))) made
 
 pub own_by : (n : Machine) (s : ℕ) (x : Made) (p : Place) (a : Act) → place_of n x.step ≡ p → x.step.act ≡ a → IsTrue (is_load a || is_own_flush s p) →
     IsTrue (is_load x.step.act || is_own_flush s (place_of n x.step))
@@ -37,13 +37,13 @@ own_by n s x p a at act own =
 pub place_from : (v u : PortValue) (p : Place) (x : Made) → u.post ≡ v.post → place_of u.post.machine x.step ≡ p → place_of v.post.machine x.step ≡ p
 place_from v u p x post at = subst (λ (q : Post). place_of q.machine x.step ≡ p) post at
 
-pub begun_first : (v u : PortValue) (x : ℕ) (m : Makes v u (asked_of v.post.seat) Load (Some Turn) x) → Begun v u (made_now m.step x ∷ [])
+pub begun_first : (v u : PortValue) (x : ℕ) (m : Makes v u (asked_of v.post.vcpu) Load (Some Turn) x) → Begun v u (made_now m.step x ∷ [])
 unfolding EachOf
 begun_first v u x m =
     record {
       went = m.went;
       first = m.mark_is;
-      own = (own_by v.post.machine v.post.seat (made_now m.step x) (asked_of v.post.seat) Load m.place m.act refl, tt);
+      own = (own_by v.post.machine v.post.vcpu (made_now m.step x) (asked_of v.post.vcpu) Load m.place m.act refl, tt);
     }
 
 pub turn_more : (x : Made) (xs : List Made) → x.step.mark ≡ None → BeginsTurn xs → BeginsTurn (x ∷ xs)
@@ -51,13 +51,13 @@ turn_more x [] is b = absurd b
 turn_more x (y ∷ ys) is b = (is, b)
 
 pub begun_more : (v u w : PortValue) (p : Place) (a : Act) (x : ℕ) (made : List Made) (m : Makes u w p a None x) → u.post ≡ v.post → Begun v u made →
-    IsTrue (is_load a || is_own_flush v.post.seat p) → run_of v.post.seat ≢ p → Begun v w (made_now m.step x ∷ made)
+    IsTrue (is_load a || is_own_flush v.post.vcpu p) → run_of v.post.vcpu ≢ p → Begun v w (made_now m.step x ∷ made)
 unfolding EachOf
 begun_more v u w p a x made m post b own other =
     record {
       went = went_more v u w made (made_now m.step x ∷ []) b.went m.went;
       first = turn_more (made_now m.step x) made m.mark_is b.first;
-      own = (own_by v.post.machine v.post.seat (made_now m.step x) p a (place_from v u p (made_now m.step x) post m.place) m.act own, b.own);
+      own = (own_by v.post.machine v.post.vcpu (made_now m.step x) p a (place_from v u p (made_now m.step x) post m.place) m.act own, b.own);
     }
 
 pub is_look : (x : Made) → x.step.act ≡ Load → IsTrue (is_load x.step.act)
@@ -102,8 +102,8 @@ pub flushed_hand : (h k l m : Holdings) → BegunTurn h k → SameHand k l → F
 flushed_hand h k l m b s f = begun_then h k m b (whole_more k l m (whole_same k l s) (whole_flushed l m f))
 
 -- ---- the turn begins, and the flushed word is looked at
-module _ (v a b : PortValue) (x y : ℕ) (asked : Makes v a (asked_of v.post.seat) Load (Some Turn) x) (begun : BegunTurn v.holdings a.holdings) (later : a.post ≡ v.post)
-    (looked : Makes a b (flushed_of v.post.seat) Load None y) (same : SameHand a.holdings b.holdings) (after : b.post ≡ a.post) where
+module _ (v a b : PortValue) (x y : ℕ) (asked : Makes v a (asked_of v.post.vcpu) Load (Some Turn) x) (begun : BegunTurn v.holdings a.holdings) (later : a.post ≡ v.post)
+    (looked : Makes a b (flushed_of v.post.vcpu) Load None y) (same : SameHand a.holdings b.holdings) (after : b.post ≡ a.post) where
   first : Made
   first = made_now asked.step x
 
@@ -112,14 +112,14 @@ module _ (v a b : PortValue) (x y : ℕ) (asked : Makes v a (asked_of v.post.sea
 
   both : Begun v b (second ∷ first ∷ [])
   unfolding first second
-  both = begun_more v a b (flushed_of v.post.seat) Load y (made_now asked.step x ∷ []) looked later (begun_first v a x asked) refl (λ e. absurd (cc))
+  both = begun_more v a b (flushed_of v.post.vcpu) Load y (made_now asked.step x ∷ []) looked later (begun_first v a x asked) refl (λ e. absurd (cc))
 
   pub acks_idle : x < y → Acks v b
   unfolding first second EachOf
   acks_idle past =
       let all = both in
-      let not_asked : WasNotAsked v.post.machine v.post.seat (second ∷ first ∷ []) =
-      record { asked = x; flushed = y; had_asked = inr (inl (asked.place, refl)); had_flushed = inl (place_from v a (flushed_of v.post.seat) second later looked.place, refl); past = past } in
+      let not_asked : WasNotAsked v.post.machine v.post.vcpu (second ∷ first ∷ []) =
+      record { asked = x; flushed = y; had_asked = inr (inl (asked.place, refl)); had_flushed = inl (place_from v a (flushed_of v.post.vcpu) second later looked.place, refl); past = past } in
       record {
         made = second ∷ first ∷ [];
         went = all.went;
@@ -143,13 +143,13 @@ module _ (v a b : PortValue) (x y : ℕ) (asked : Makes v a (asked_of v.post.sea
   unfolding first second
   acks_flushed w behind f hand =
       let n = v.post.machine in
-      let s = v.post.seat in
+      let s = v.post.vcpu in
       let at_b = after ∙ later in
       let looks = begun_more v b f.looked Clock Load f.clock (second ∷ first ∷ []) f.look at_b both refl (λ e. absurd (cc)) in
       let at_l : f.looked.post ≡ v.post = went_post b f.looked (made_now f.look.step f.clock ∷ []) f.look.went ∙ at_b in
       let ticks = begun_more v f.looked f.ticked Clock _ f.found _ f.tick at_l looks refl (λ e. absurd (cc)) in
       let at_t : f.ticked.post ≡ v.post = went_post f.looked f.ticked (made_now f.tick.step f.found ∷ []) f.tick.went ∙ at_l in
-      let ack = subst (λ (q : Post). Makes f.ticked w (flushed_of q.seat) (Store (flushed_to f.clock f.found)) None f.before) at_b f.ack in
+      let ack = subst (λ (q : Post). Makes f.ticked w (flushed_of q.vcpu) (Store (flushed_to f.clock f.found)) None f.before) at_b f.ack in
       let all = begun_more v f.ticked w (flushed_of s) _ f.before _ ack at_t ticks (own_flushed s) (λ e. absurd (cc)) in
       record {
         made = made_now ack.step f.before ∷ (made_now f.tick.step f.found ∷ (made_now f.look.step f.clock ∷ (second ∷ first ∷ [])));

@@ -53,7 +53,7 @@ pub record Doing (v w : PortValue) (d : ℕ) (pairs : List Pair) (from to : ℕ)
   pub went : Went v did w
   pub on : from ≤ to
   pub most : to ≤ length pairs
-  pub elements : Did v.post.machine v.post.seat d (take (to - from) (drop from pairs)) did
+  pub elements : Did v.post.machine v.post.vcpu d (take (to - from) (drop from pairs)) did
   pub rests : Rests w.holdings
   pub run : w.holdings.run ≡ Some 0
 
@@ -65,7 +65,7 @@ doing_none v d pairs from most rests run =
       went = refl;
       on = omega arith;
       most = most;
-      elements = subst (λ k. Did v.post.machine v.post.seat d (take k (drop from pairs)) []) (sym zero_is) none;
+      elements = subst (λ k. Did v.post.machine v.post.vcpu d (take k (drop from pairs)) []) (sym zero_is) none;
       rests = rests;
       run = run;
     }
@@ -85,13 +85,13 @@ module _ (v u w : PortValue) (d : ℕ) (pairs : List Pair) (from to : ℕ) (q : 
 
   pub doing_more : Updates u w d (slice_index_or pairs to q) (Ok tt) → Doing v w d pairs from (to + 1)
   doing_more up =
-      let fits = subst (λ (o : Post). ElementFits o.machine o.seat d (slice_index_or pairs to q) up.made (Ok tt)) post up.fits in
+      let fits = subst (λ (o : Post). ElementFits o.machine o.vcpu d (slice_index_or pairs to q) up.made (Ok tt)) post up.fits in
       record {
         did = up.made ++ doing.did;
         went = went_more v u w doing.did up.made doing.went up.went;
         on = omega (arith, doing.on);
         most = omega (arith, less);
-        elements = subst (λ ps. Did v.post.machine v.post.seat d ps (up.made ++ doing.did)) (sym (one_more pairs from to q doing.on less))
+        elements = subst (λ ps. Did v.post.machine v.post.vcpu d ps (up.made ++ doing.did)) (sym (one_more pairs from to q doing.on less))
             (more (take (to - from) (drop from pairs)) (slice_index_or pairs to q) doing.did up.made doing.elements fits);
         rests = rests_on u.holdings w.holdings up.hand doing.rests;
         run = up.hand.rest.run ∙ doing.run;
@@ -100,7 +100,7 @@ module _ (v u w : PortValue) (d : ℕ) (pairs : List Pair) (from to : ℕ) (q : 
   -- the next element was refused or paused
   pub list_stopped : (e : Stop) → Updates u w d (slice_index_or pairs to q) (Err e) → WorksList v w d pairs from to (Err e)
   list_stopped e up =
-      let fits = subst (λ (o : Post). ElementFits o.machine o.seat d (slice_index_or pairs to q) up.made (Err e)) post up.fits in
+      let fits = subst (λ (o : Post). ElementFits o.machine o.vcpu d (slice_index_or pairs to q) up.made (Err e)) post up.fits in
       record {
         made = up.made ++ doing.did;
         went = went_more v u w doing.did up.made doing.went up.went;
@@ -111,15 +111,15 @@ module _ (v u w : PortValue) (d : ℕ) (pairs : List Pair) (from to : ℕ) (q : 
           on = doing.on;
           most = doing.most;
           elements = doing.elements;
-          ends = subst (λ ps. EndsList v.post.machine v.post.seat d ps from to up.made (Err e)) (sym (drop-cons pairs to q less))
-              (element_ends v.post.machine v.post.seat d (slice_index_or pairs to q) (drop (suc to) pairs) from to up.made e fits);
+          ends = subst (λ ps. EndsList v.post.machine v.post.vcpu d ps from to up.made (Err e)) (sym (drop-cons pairs to q less))
+              (element_ends v.post.machine v.post.vcpu d (slice_index_or pairs to q) (drop (suc to) pairs) from to up.made e fits);
         };
         rests = rests_on u.holdings w.holdings up.hand doing.rests;
         run = up.hand.rest.run ∙ doing.run;
       }
 
   pub stopped_not_due : (e : Stop) → Updates u w d (slice_index_or pairs to q) (Err e) → is_due_by (Err e) ≡ false
-  stopped_not_due e up = not_due u.post.machine u.post.seat d (slice_index_or pairs to q) up.made e up.fits
+  stopped_not_due e up = not_due u.post.machine u.post.vcpu d (slice_index_or pairs to q) up.made e up.fits
 
   -- the gate said yes before the next element
   pub list_due : from < to → WorksList v u d pairs from to (Err (Paused Due))
@@ -134,7 +134,7 @@ module _ (v u w : PortValue) (d : ℕ) (pairs : List Pair) (from to : ℕ) (q : 
           on = doing.on;
           most = doing.most;
           elements = doing.elements;
-          ends = subst (λ ps. EndsList v.post.machine v.post.seat d ps from to [] (Err (Paused Due))) (sym (drop-cons pairs to q less)) (refl, some);
+          ends = subst (λ ps. EndsList v.post.machine v.post.vcpu d ps from to [] (Err (Paused Due))) (sym (drop-cons pairs to q less)) (refl, some);
         };
         rests = doing.rests;
         run = doing.run;
@@ -152,7 +152,7 @@ list_done v w d pairs from to doing all =
         on = doing.on;
         most = doing.most;
         elements = doing.elements;
-        ends = subst (λ ps. EndsList v.post.machine v.post.seat d ps from to [] (Ok tt)) (sym (drop_all to pairs all)) refl;
+        ends = subst (λ ps. EndsList v.post.machine v.post.vcpu d ps from to [] (Ok tt)) (sym (drop_all to pairs all)) refl;
       };
       rests = doing.rests;
       run = doing.run;

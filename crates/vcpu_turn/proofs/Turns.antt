@@ -37,12 +37,12 @@ answered v w word reply m same rests run =
       run = same.run ∙ run;
     }
 
-pub stopped : (v w : PortValue) (c c' : Processing) (word : ℕ) → Makes v w (run_of v.post.seat) (Store 1) None word → c.vcpu ≡ v.post.seat → c' ≡ record c { retired = true } → MakesStop c c' v w
-stopped v w c c' word m seat is =
+pub stopped : (v w : PortValue) (c c' : Processing) (word : ℕ) → Makes v w (run_of v.post.vcpu) (Store 1) None word → c.vcpu ≡ v.post.vcpu → c' ≡ record c { retired = true } → MakesStop c c' v w
+stopped v w c c' word m vcpu is =
     record {
       made = made_now m.step word ∷ [];
       went = m.went;
-      stop = (m.mark_is, m.place ∙ ap (λ s. run_of s) (sym seat), m.act);
+      stop = (m.mark_is, m.place ∙ ap (λ s. run_of s) (sym vcpu), m.act);
       cpu = is;
     }
 
@@ -70,9 +70,9 @@ more_left v w c c' answer worked =
     subst (λ (x : Processing). length x.log < length x.script) (sym h.worked.cpu) (slice_get_within c.script (length c.log) h.op h.next)
 
 -- at the script's end
-pub turn_retires : (v a b w : PortValue) (c c1 c2 : Processing) → Wakes v a → a.post ≡ v.post → c.vcpu ≡ v.post.seat → WorkedBy (slice_get c.script (length c.log)) c c1 a b None → MakesStop c1 c2 b w →
+pub turn_retires : (v a b w : PortValue) (c c1 c2 : Processing) → Wakes v a → a.post ≡ v.post → c.vcpu ≡ v.post.vcpu → WorkedBy (slice_get c.script (length c.log)) c c1 a b None → MakesStop c1 c2 b w →
     MakesTurn c c2 ends.Retired v w
-turn_retires v a b w c c1 c2 wakes post seat worked stop =
+turn_retires v a b w c c1 c2 wakes post vcpu worked stop =
     let n = v.post.machine in
     let h = worked_none (slice_get c.script (length c.log)) c c1 a b worked in
     let post_b : b.post ≡ v.post = ap (λ (x : PortValue). x.post) h.2 ∙ post in
@@ -85,7 +85,7 @@ turn_retires v a b w c c1 c2 wakes post seat worked stop =
         work = [];
         last = stop.made;
         parts = refl;
-        begins = subst (λ s. Begins n s wakes.made) (sym seat) wakes.begins;
+        begins = subst (λ s. Begins n s wakes.made) (sym vcpu) wakes.begins;
         does = subst (λ o. Does n c o c2 [] ends.Retired) (sym h.0)
             (record { none = refl; end_is = refl; cpu = stop.cpu ∙ ap (λ (x : Processing). record x { retired = true }) h.1 });
         ends = subst (λ (x : Processing). IsStop n x.vcpu stop.made) h.1 is_stop;
@@ -98,17 +98,17 @@ after_same c k to (Ok ok) = refl
 after_same c k to (Err (Refused r)) = refl
 after_same c k to (Err (Paused p)) = refl
 
-pub turn_goes_on : (v a b w : PortValue) (c c1 c2 : Processing) (answer : Result (Unit {0}) Stop) → Wakes v a → a.post ≡ v.post → b.post ≡ a.post → c.vcpu ≡ v.post.seat →
+pub turn_goes_on : (v a b w : PortValue) (c c1 c2 : Processing) (answer : Result (Unit {0}) Stop) → Wakes v a → a.post ≡ v.post → b.post ≡ a.post → c.vcpu ≡ v.post.vcpu →
     WorkedBy (slice_get c.script (length c.log)) c c1 a b (Some answer) → c2 ≡ after_turn c1 c1.done (end_of c1.done answer) → Finishes b w (end_of c1.done answer) →
     MakesTurn c c2 (end_of c1.done answer) v w
-turn_goes_on v a b w c c1 c2 answer wakes post later seat worked cpu finishes =
+turn_goes_on v a b w c c1 c2 answer wakes post later vcpu worked cpu finishes =
     let n = v.post.machine in
     let end = end_of c1.done answer in
     let h = worked_some (slice_get c.script (length c.log)) c c1 a b answer worked in
     let work = h.worked.works in
-    let works : Works n v.post.seat c.domain (pairs_of h.op) c.done c1.done work.made answer =
-    subst (λ (q : Post). Works q.machine q.seat c.domain (pairs_of h.op) c.done c1.done work.made answer) post work.works in
-    let ends_is : EndsTurn n v.post.seat end finishes.made = subst (λ (q : Post). EndsTurn q.machine q.seat end finishes.made) (later ∙ post) finishes.ends in
+    let works : Works n v.post.vcpu c.domain (pairs_of h.op) c.done c1.done work.made answer =
+    subst (λ (q : Post). Works q.machine q.vcpu c.domain (pairs_of h.op) c.done c1.done work.made answer) post work.works in
+    let ends_is : EndsTurn n v.post.vcpu end finishes.made = subst (λ (q : Post). EndsTurn q.machine q.vcpu end finishes.made) (later ∙ post) finishes.ends in
     record {
       made = finishes.made ++ (work.made ++ wakes.made);
       went = went_more v b w (work.made ++ wakes.made) finishes.made (went_more v a b wakes.made work.made wakes.went work.went) finishes.went;
@@ -117,16 +117,16 @@ turn_goes_on v a b w c c1 c2 answer wakes post later seat worked cpu finishes =
         work = work.made;
         last = finishes.made;
         parts = refl;
-        begins = subst (λ s. Begins n s wakes.made) (sym seat) wakes.begins;
+        begins = subst (λ s. Begins n s wakes.made) (sym vcpu) wakes.begins;
         does = subst (λ o. Does n c o c2 work.made end) (sym h.next)
             (record {
               to = c1.done;
               answer = answer;
-              works = subst (λ s. Works n s c.domain (pairs_of h.op) c.done c1.done work.made answer) (sym seat) works;
+              works = subst (λ s. Works n s c.domain (pairs_of h.op) c.done c1.done work.made answer) (sym vcpu) works;
               end_is = refl;
               cpu = cpu ∙ ap (λ (x : Processing). after_turn x c1.done end) h.worked.cpu ∙ after_same c c1.done c1.done answer;
             });
-        ends = subst (λ s. EndsTurn n s end finishes.made) (sym seat) ends_is;
+        ends = subst (λ s. EndsTurn n s end finishes.made) (sym vcpu) ends_is;
       };
     }
 

@@ -92,14 +92,14 @@ heeds_more n s x made mark act b =
     answers_more (inr (inl f)) = inr (inl (record { to = f.to; before = f.before; stored = inr f.stored }))
     answers_more (inr (inr last)) = inr (inr (inr last))
 
-pub wakes : (v b w : PortValue) (y : ℕ) → Acks v b → b.post ≡ v.post → (m : Makes b w (run_of b.post.seat) Load None y) → y ≡ 0 → FoundRun y b.holdings w.holdings → Rests v.holdings → Wakes v w
+pub wakes : (v b w : PortValue) (y : ℕ) → Acks v b → b.post ≡ v.post → (m : Makes b w (run_of b.post.vcpu) Load None y) → y ≡ 0 → FoundRun y b.holdings w.holdings → Rests v.holdings → Wakes v w
 wakes v b w y a later m zero_is found rests =
     record {
       made = made_now m.step y ∷ a.made;
       went = went_more v b w a.made (made_now m.step y ∷ []) a.went m.went;
       begins = record {
-        heeds = heeds_more v.post.machine v.post.seat (made_now m.step y) a.made m.mark_is m.act a.heeds;
-        running = inl (subst (λ (q : Post). place_of q.machine m.step ≡ run_of q.seat) later m.place, zero_is);
+        heeds = heeds_more v.post.machine v.post.vcpu (made_now m.step y) a.made m.mark_is m.act a.heeds;
+        running = inl (subst (λ (q : Post). place_of q.machine m.step ≡ run_of q.vcpu) later m.place, zero_is);
       };
       rests = same_rests b.holdings w.holdings found.rest found.refs found.ending (acked_rests v b a rests);
       run = found.run ∙ ap (λ (k : ℕ). Some k) zero_is;

@@ -9,13 +9,13 @@ use Rattle.vcpu_turn.specs.Turning.{HeedsAsk, Begins, Rests}
 pub record Acks (v w : PortValue) : Type 0 where
   pub made : List Made
   pub went : Went v made w
-  pub heeds : HeedsAsk v.post.machine v.post.seat made
+  pub heeds : HeedsAsk v.post.machine v.post.vcpu made
   pub hand : SameOrFlushed (record v.holdings { turn = w.holdings.turn }) w.holdings
 
 -- from v to w the turn began, and the vCPU, which rests, was found running
 pub record Wakes (v w : PortValue) : Type 0 where
   pub made : List Made
   pub went : Went v made w
-  pub begins : Begins v.post.machine v.post.seat made
+  pub begins : Begins v.post.machine v.post.vcpu made
   pub rests : Rests w.holdings
   pub run : w.holdings.run ≡ Some 0

@@ -143,8 +143,8 @@ Runs v = own_run v ≡ 0
 
 -- the port is that of the vCPU, which rests, and runs unless it is retired
 pub record IsOf (v : PortValue) (c : Processing) : Type 0 where
-  pub seat : c.vcpu ≡ v.post.seat
-  pub domain : c.domain ≡ domain_of v.post.machine v.post.seat
+  pub vcpu : c.vcpu ≡ v.post.vcpu
+  pub domain : c.domain ≡ domain_of v.post.machine v.post.vcpu
   pub rests : Rests v.holdings
   pub runs : c.retired ≡ false → Runs v
 

@@ -22,7 +22,7 @@ is_due_by _ = false
 pub record WorksList (v w : PortValue) (d : ℕ) (pairs : List Pair) (from to : ℕ) (answer : Result (Unit {0}) Stop) : Type 0 where
   pub made : List Made
   pub went : Went v made w
-  pub list : DoesList v.post.machine v.post.seat d pairs from to made answer
+  pub list : DoesList v.post.machine v.post.vcpu d pairs from to made answer
   pub rests : Rests w.holdings
   pub run : w.holdings.run ≡ Some 0
 
@@ -30,7 +30,7 @@ pub record WorksList (v w : PortValue) (d : ℕ) (pairs : List Pair) (from to : 
 pub record WorksOn (v w : PortValue) (d : ℕ) (o : Option (List Pair)) (from to : ℕ) (answer : Result (Unit {0}) Stop) : Type 0 where
   pub made : List Made
   pub went : Went v made w
-  pub works : Works v.post.machine v.post.seat d o from to made answer
+  pub works : Works v.post.machine v.post.vcpu d o from to made answer
   pub rests : Rests w.holdings
   pub run : w.holdings.run ≡ Some 0
 
@@ -59,6 +59,6 @@ IsNotLostBy None = Unit {0}
 pub record Finishes (v w : PortValue) (end : TurnEnd) : Type 0 where
   pub made : List Made
   pub went : Went v made w
-  pub ends : EndsTurn v.post.machine v.post.seat end made
+  pub ends : EndsTurn v.post.machine v.post.vcpu end made
   pub rests : Rests w.holdings
   pub run : w.holdings.run ≡ Some 0

@@ -13,8 +13,8 @@ fn ack<P: Port>(port: &mut P)
     ensures acks { Acks (P.value port.old) (P.value port.new) }
 {
     let asked = begin_turn(port);
-    let seat = port.seat();
-    let flushed = look_flushed(port, seat);
+    let vcpu = port.vcpu();
+    let flushed = look_flushed(port, vcpu);
     if asked < flushed {
         return;
     }

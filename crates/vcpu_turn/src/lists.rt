@@ -42,7 +42,7 @@ fn update_list<P: Port>(
 ) -> Result<(), Stop>
     requires short { length pairs.now ≤ 512 }
     requires within { done.old ≤ length pairs.now }
-    requires own { domain ≡ domain_of (P.value port.old).post.machine (P.value port.old).post.seat }
+    requires own { domain ≡ domain_of (P.value port.old).post.machine (P.value port.old).post.vcpu }
     requires rests { Rests (P.value port.old).holdings }
     requires running { (P.value port.old).holdings.run ≡ Some 0 }
     ensures post { (P.value port.new).post ≡ (P.value port.old).post }
@@ -73,7 +73,7 @@ fn go_through<P: Port>(
     done: &mut u32,
 ) -> Result<(), Stop>
     requires within { done.old ≤ length pairs.now }
-    requires own { domain ≡ domain_of (P.value port.old).post.machine (P.value port.old).post.seat }
+    requires own { domain ≡ domain_of (P.value port.old).post.machine (P.value port.old).post.vcpu }
     requires rests { Rests (P.value port.old).holdings }
     requires running { (P.value port.old).holdings.run ≡ Some 0 }
     ensures post { (P.value port.new).post ≡ (P.value port.old).post }
@@ -98,7 +98,7 @@ pub(crate) fn work_on<P: Port>(
     done: &mut u32,
 ) -> Result<(), Stop>
     requires within { done.old ≤ elements_in (pairs_of op.now) }
-    requires own { domain ≡ domain_of (P.value port.old).post.machine (P.value port.old).post.seat }
+    requires own { domain ≡ domain_of (P.value port.old).post.machine (P.value port.old).post.vcpu }
     requires rests { Rests (P.value port.old).holdings }
     requires running { (P.value port.old).holdings.run ≡ Some 0 }
     ensures post { (P.value port.new).post ≡ (P.value port.old).post }

@@ -16,7 +16,7 @@ use xp_words::{LogLine, Refusal, Reply, Stop};
 
 // The next operation goes on; there is none at the script's end.
 fn go_on<P: Port>(port: &mut P, cpu: &mut Cpu, gate: &mut dyn Preempt) -> Option<Result<(), Stop>>
-    requires own { cpu.old.domain ≡ domain_of (P.value port.old).post.machine (P.value port.old).post.seat }
+    requires own { cpu.old.domain ≡ domain_of (P.value port.old).post.machine (P.value port.old).post.vcpu }
     requires rests { Rests (P.value port.old).holdings }
     requires running { (P.value port.old).holdings.run ≡ Some 0 }
     ensures post { (P.value port.new).post ≡ (P.value port.old).post }
@@ -78,7 +78,7 @@ fn finish<P: Port>(port: &mut P, cpu: &mut Cpu, answer: Result<(), Stop>) -> Tur
 
 // The vCPU stops for good.
 fn retire<P: Port>(port: &mut P, cpu: &mut Cpu)
-    requires seat { cpu.old.vcpu ≡ (P.value port.old).post.seat }
+    requires vcpu { cpu.old.vcpu ≡ (P.value port.old).post.vcpu }
     requires rests { Rests (P.value port.old).holdings }
     ensures post { (P.value port.new).post ≡ (P.value port.old).post }
     ensures stop { MakesStop cpu.old cpu.new (P.value port.old) (P.value port.new) }

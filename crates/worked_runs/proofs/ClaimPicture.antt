@@ -184,4 +184,4 @@ legal8 =
 
 legal9 : LegalMove machine 0 (hands_of machine 0 list8) (Refs 3) (Store 7) steps.Ref None
 unfolding hands_of left_by times_by first_by without_by changed_by some_of first_of kept_of place_at ref_read kind_read kind_fields has_form demand_of demand_at owner_of ref_count some_step last_since knows_owner knows_live knows_partial is_settled hand typed_hand is_place IsSpelling with_more with_fewer
-legal9 = record { place = refl; marked = tt; running = λ needs. refl; spelling = refl; act = record { raised = omega arith; told = refl } }
+legal9 = record { place = refl; marked = tt; running = λ needs. refl; spelling = refl; act = record { raised = omega arith; was_found = refl } }

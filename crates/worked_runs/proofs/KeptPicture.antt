@@ -1,4 +1,4 @@
--- A worked picture: a seat sets `kept` on a frame of another domain, looks whether that domain lives, and takes
+-- A worked picture: a vCPU sets `kept` on a frame of another domain, looks whether that domain lives, and takes
 -- the mark back.
 use Rattle.std.proofs.Common.{◌≡◌, ℕ, true, refl, Option, None, Some, List, [], ◌∷◌, arith, inl}
 use Rattle.xp_words.specs.Machine.{Machine}

@@ -142,5 +142,5 @@ legal6 =
       marked = tt;
       running = λ needs. absurd (cc);
       spelling = (omega arith, refl);
-      act = record { own = refl; word = refl; told = refl; warmed = λ c. refl; landed = refl };
+      act = record { own = refl; word = refl; was_found = refl; warmed = λ c. refl; landed = refl };
     }

@@ -1,4 +1,4 @@
--- A seat that has made no step.
+-- A vCPU that has made no step.
 use Rattle.std.proofs.Common.{ℕ, refl, arith}
 use Rattle.xp_words.specs.Machine.{Machine}
 use Rattle.xp_board.specs.Hands.{empty}

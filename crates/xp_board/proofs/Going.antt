@@ -25,9 +25,9 @@ telling_next s found x h (Some a) = refl
 
 pub went_telling : (v w : PortValue) (xs : List Made) → Went v xs w → is_telling w ≡ is_telling v
 went_telling v w [] a = ap is_telling a
-went_telling v w (y ∷ ys) a = ap is_telling a.4 ∙ telling_next a.0.post.seat y.found y.step _ a.0.told ∙ went_telling v a.0 ys a.1
+went_telling v w (y ∷ ys) a = ap is_telling a.4 ∙ telling_next a.0.post.vcpu y.found y.step _ a.0.told ∙ went_telling v a.0 ys a.1
 
-pub went_step : (v w : PortValue) (x : Step) (found : ℕ) → Legal v.post.machine v.post.seat v.holdings x →
+pub went_step : (v w : PortValue) (x : Step) (found : ℕ) → Legal v.post.machine v.post.vcpu v.holdings x →
     IsTold v.post.machine v.told (place_of v.post.machine x) found → w ≡ stepped v x found → Went v (record { step = x; found = found } ∷ []) w
 went_step v w x found legal told is = (v, refl, legal, told, is)
 
@@ -45,7 +45,7 @@ pub goes_self : (v : PortValue) → Goes v v
 unfolding Goes
 goes_self v = ([], refl)
 
-pub goes_step : (v w : PortValue) (x : Step) (found : ℕ) → Legal v.post.machine v.post.seat v.holdings x →
+pub goes_step : (v w : PortValue) (x : Step) (found : ℕ) → Legal v.post.machine v.post.vcpu v.holdings x →
     IsTold v.post.machine v.told (place_of v.post.machine x) found → w ≡ stepped v x found → Goes v w
 unfolding Goes
 goes_step v w x found legal told is = (record { step = x; found = found } ∷ [], went_step v w x found legal told is)
@@ -58,7 +58,7 @@ pub goes_post : (v w : PortValue) → Goes v w → w.post ≡ v.post
 unfolding Goes
 goes_post v w a = went_post v w a.0 a.1
 
-pub saw_step : (v w : PortValue) (x : Step) (found : ℕ) → Legal v.post.machine v.post.seat v.holdings x →
+pub saw_step : (v w : PortValue) (x : Step) (found : ℕ) → Legal v.post.machine v.post.vcpu v.holdings x →
     IsTold v.post.machine v.told (place_of v.post.machine x) found → w ≡ stepped v x found → Saw v w (place_of v.post.machine x) found
 unfolding Saw
 saw_step v w x found legal told is =

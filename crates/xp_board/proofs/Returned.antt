@@ -113,10 +113,10 @@ own_left n m h s k w sound real asked flushed running last = (sound.found s real
 own_learned : (s k found left : ℕ) (h : Holdings) → (learned s (run_of s) found left h).run ≡ Some left
 own_learned s k found left h = rw (same_frame s) refl
 
-pub run_known : (v : PortValue) (x : Step) (found : ℕ) → place_at (sizes_of v.post.machine) x.place ≡ run_of v.post.seat → own_run (stepped v x found) ≡ left_by x.act found
+pub run_known : (v : PortValue) (x : Step) (found : ℕ) → place_at (sizes_of v.post.machine) x.place ≡ run_of v.post.vcpu → own_run (stepped v x found) ≡ left_by x.act found
 run_known v x found at =
     let n = v.post.machine in
-    let s = v.post.seat in
+    let s = v.post.vcpu in
     let run : (after_move n s v.holdings (place_at (sizes_of n) x.place) x.act x.kind x.mark found).run ≡ Some (left_by x.act found) =
     subst (λ p. (after_move n s v.holdings p x.act x.kind x.mark found).run ≡ Some (left_by x.act found)) (sym at)
     (own_learned s 6 found (left_by x.act found) (after_act n s (run_of s) x.act x.kind x.mark found (after_mark n x.mark v.holdings))) in

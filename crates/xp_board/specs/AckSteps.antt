@@ -7,12 +7,12 @@ use Rattle.xp_board.specs.declared.step.Act.TheVariants.{Store}
 use Rattle.xp_board.specs.declared.holdings.Holdings.{Holdings}
 use Rattle.xp_board.specs.Steps.{some_since}
 
--- A clock value that the seat found or left since its last flush. Where it is cold, the value is above one
+-- A clock value that the vCPU found or left since its last flush. Where it is cold, the value is above one
 -- that it found since its last Run step.
 pub record MayAck (m : Machine) (s v k new : ℕ) (h : Holdings) : Type 0 where
   pub own : v ≡ s
   pub word : k ≡ 5
-  pub told : IsTrue (some_since (sizes_of m) h.acked Clock (λ w. w == new) h.steps)
+  pub was_found : IsTrue (some_since (sizes_of m) h.acked Clock (λ w. w == new) h.steps)
   pub warmed : h.cold ≡ true → IsTrue (some_since (sizes_of m) h.ran Clock (λ w. nat_lt w new) h.steps)
   pub landed : h.walk ≡ None
 

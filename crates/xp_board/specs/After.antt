@@ -1,4 +1,4 @@
--- What a seat holds after a step that found this word.
+-- What a vCPU holds after a step that found this word.
 use Rattle.std.specs.Prelude.{ℕ, ◌+◌, ◌==◌, ◌&&◌, not, if◌then◌else◌, Bool, false, List, [], ◌∷◌, Option, Some, None}
 use Rattle.xp_words.specs.declared.kind.PageType.TheVariants as kinds
 use Rattle.xp_words.specs.Entries.{fixed}
@@ -122,7 +122,7 @@ after_move m s h p a kind mark found = learned s p found (left_by a found) (afte
 abbrev pub after : Machine → ℕ → Holdings → Step → ℕ → Holdings
 after m s h x found = noted x found (after_move m s h (place_at (sizes_of m) x.place) x.act x.kind x.mark found)
 
--- the holdings of a seat are a function of its own steps and of the words that they found
+-- the holdings of a vCPU are a function of its own steps and of the words that they found
 unfoldable pub hands_of : Machine → ℕ → List Made → Holdings
 hands_of m s [] = empty
 hands_of m s (x ∷ xs) = after m s (hands_of m s xs) x.step x.found

@@ -31,7 +31,7 @@ abbrev pub is_same_as_seen : PageType → ℕ → ℕ → Option Seen → Bool
 is_same_as_seen kind i new (Some s) = if s.index == i then is_same_demand (demand_at kind i s.word) (demand_at kind i new) else false
 is_same_as_seen kind i new None = false
 
--- the entry that the seat last found or left there since it took the lock asks the same as the new one
+-- the entry that the vCPU last found or left there since it took the lock asks the same as the new one
 abbrev pub keeps_demand : Lock → ℕ → ℕ → Bool
 keeps_demand e i new = is_same_as_seen e.kind i new e.seen
 
@@ -39,13 +39,13 @@ keeps_demand e i new = is_same_as_seen e.kind i new e.seen
 abbrev pub MayExchange : Machine → ℕ → ℕ → ℕ → Holdings → Lock → Type 0
 MayExchange m f i new h e = IsTrue (keeps_demand e i new) ⊎ HasDemand m f e.kind h (demand_at e.kind i new)
 
--- an exchange is from the entry that the seat last found or left there since it took the lock
+-- an exchange is from the entry that the vCPU last found or left there since it took the lock
 pub record MayExchangeFrom (m : Machine) (f i expected new : ℕ) (h : Holdings) (e : Lock) : Type 0 where
   pub seen : e.seen ≡ Some (record { index = i; word = expected })
   pub may : MayExchange m f i new h e
 
 -- ---- a descriptor page in the own work, and an entry of ordinary memory
--- the word that the seat last found there is fixed
+-- the word that the vCPU last found there is fixed
 pub record MayFix (i new : ℕ) (e : Work) : Type 0 where
   pub work : IsTrue (is_work (kind_fields e.word))
   pub kind : (kind_fields e.word).kind ≡ kinds.Desc

@@ -1,4 +1,4 @@
--- Which translations are gone: what a seat has found of each vCPU after it had found a stamp.
+-- Which translations are gone: what a vCPU has found of each vCPU after it had found a stamp.
 use Rattle.std.specs.Prelude.{◌≢◌, ℕ, ◌<◌, ◌==◌, ◌||◌, ◌⊎◌, not, nat_lt, Bool, List, length, IsTrue}
 use Rattle.xp_words.specs.Machine.{Machine}
 use Rattle.xp_words.specs.Places.{Sizes, sizes_of, Priv, run_of, flushed_of}

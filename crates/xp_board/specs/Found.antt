@@ -1,4 +1,4 @@
--- What each seat found stays true: the facts on which legality lets a seat rely.
+-- What each vCPU found stays true: the facts on which legality lets a vCPU rely.
 use Rattle.std.specs.Prelude.{◌≡◌, ◌≢◌, ℕ, ◌+◌, ◌/◌, ◌%◌, ◌<◌, ◌≤◌, ◌==◌, ◌&&◌, ◌||◌, ◌*◌, ◌⊎◌, not, if◌then◌else◌, Bool, true, List, Some, IsTrue}
 use Rattle.xp_words.specs.declared.kind.PageType.{PageType}
 use Rattle.xp_words.specs.declared.kind.PageType.TheVariants as kinds
@@ -17,18 +17,18 @@ use Rattle.xp_board.specs.declared.holdings.Claimed.{Claimed}
 use Rattle.xp_board.specs.declared.holdings.Holdings.{Holdings}
 use Rattle.xp_board.specs.Lists.{EachOf}
 use Rattle.xp_board.specs.Steps.{left_of, some_since, EachSince, last_since, steps_before}
-use Rattle.xp_board.specs.Readings.{kind_at, is_live, is_type, owner_of, domain_of, told_value, has_now, has_ever}
+use Rattle.xp_board.specs.Readings.{kind_at, is_live, is_type, owner_of, domain_of, clock_value, has_now, has_ever}
 use Rattle.xp_board.specs.Knowledge.{knows_owner, knows_live, knows_partial}
 use Rattle.xp_board.specs.After.{is_fixed}
 use Rattle.xp_board.specs.Reach.{Use, Reads, Reach}
 
 -- ---- the clock and flushes
--- the clock is at least each clock value and stamp that the seat found or left
+-- the clock is at least each clock value and stamp that the vCPU found or left
 abbrev pub ClockFound : Sizes → (Place → ℕ) → Holdings → Type 0
 ClockFound z m u =
-    EachOf (λ x. (told_value (place_at z x.step.place) x.found ≤ m Clock) × (told_value (place_at z x.step.place) (left_of x) ≤ m Clock)) u.steps
+    EachOf (λ x. (clock_value (place_at z x.step.place) x.found ≤ m Clock) × (clock_value (place_at z x.step.place) (left_of x) ≤ m Clock)) u.steps
 
--- a vCPU's `flushed` is at least each value that the seat found or left there
+-- a vCPU's `flushed` is at least each value that the vCPU found or left there
 abbrev pub FlushedFound : Sizes → (Place → ℕ) → Holdings → Type 0
 FlushedFound z m u = (v : ℕ) → EachSince z 0 (flushed_of v) (λ w. w ≤ m (flushed_of v)) u.steps
 
@@ -40,27 +40,27 @@ StoppedFound z m u = (v : ℕ) → EachSince z 0 (run_of v) (λ w. w ≡ 1 → m
 abbrev pub ClockSinceAck : Sizes → (Place → ℕ) → ℕ → Holdings → Type 0
 ClockSinceAck z m s u = EachSince z u.acked Clock (λ w. m (flushed_of s) ≤ w) u.steps
 
--- a domain that it found or left dying is dying by the same seat, or dead
+-- a domain that it found or left dying is dying by the same vCPU, or dead
 abbrev pub LifeFound : Sizes → (Place → ℕ) → Holdings → Type 0
 LifeFound z m u = (d : ℕ) → EachSince z 0 (Life d) (λ w. w ≢ 0 → (m (Life d) ≡ w) ⊎ (m (Life d) ≡ 255)) u.steps
 
 -- ---- vCPUs that were found off
 -- each clock value and stamp that these steps found or left passes
-abbrev pub EachTold : Sizes → (ℕ → Type 0) → List Made → Type 0
-EachTold z P steps = EachOf (λ x. P (told_value (place_at z x.step.place) x.found) × P (told_value (place_at z x.step.place) (left_of x))) steps
+abbrev pub EachClockValue : Sizes → (ℕ → Type 0) → List Made → Type 0
+EachClockValue z P steps = EachOf (λ x. P (clock_value (place_at z x.step.place) x.found) × P (clock_value (place_at z x.step.place) (left_of x))) steps
 
--- what the seat had found before it last found the vCPU off
+-- what the vCPU had found before it last found the vCPU off
 abbrev pub before_off : Sizes → ℕ → Holdings → List Made
 before_off z v u = steps_before z (run_of v) (λ w. w == 2) u.steps
 
 -- the vCPU is off, stopped or cold, or was flushed later than each of these values
 abbrev pub FlushedSinceOff : Sizes → (Place → ℕ) → (ℕ → Holdings) → ℕ → Holdings → Type 0
-FlushedSinceOff z m h v u = EachTold z (λ y. (m (run_of v) ≢ 0) ⊎ (((h v).cold ≡ true) ⊎ (y < m (flushed_of v)))) (before_off z v u)
+FlushedSinceOff z m h v u = EachClockValue z (λ y. (m (run_of v) ≢ 0) ⊎ (((h v).cold ≡ true) ⊎ (y < m (flushed_of v)))) (before_off z v u)
 
 -- where it is cold and its run word is 0, each clock value that it found since its last Run step is at least each of these
 abbrev pub ColdSinceOff : Sizes → (Place → ℕ) → (ℕ → Holdings) → ℕ → Holdings → Type 0
 ColdSinceOff z m h v u =
-    (h v).cold ≡ true → m (run_of v) ≡ 0 → EachTold z (λ y. EachSince z (h v).ran Clock (λ w. y ≤ w) (h v).steps) (before_off z v u)
+    (h v).cold ≡ true → m (run_of v) ≡ 0 → EachClockValue z (λ y. EachSince z (h v).ran Clock (λ w. y ≤ w) (h v).steps) (before_off z v u)
 
 -- ---- frames of which it has references
 abbrev pub OwnersFound : Sizes → (Place → ℕ) → Holdings → Type 0
@@ -84,7 +84,7 @@ is_same_entry w x = without_bits w == without_bits x
 abbrev pub is_same_cell : PageType → ℕ → ℕ → Bool
 is_same_cell kind w x = if is_table kind then is_same_entry w x else w == x
 
--- the word that stands in a cell is that which the seat last found or left there from step n on
+-- the word that stands in a cell is that which the vCPU last found or left there from step n on
 abbrev pub CellsFound : Sizes → (Place → ℕ) → ℕ → ℕ → (ℕ → ℕ → Bool) → List Made → Type 0
 CellsFound z m n f same steps = (i w : ℕ) → last_since z n (Cell f i) steps ≡ Some w → IsTrue (same (m (Cell f i)) w)
 
@@ -93,7 +93,7 @@ CellsFound z m n f same steps = (i w : ℕ) → last_since z n (Cell f i) steps 
 abbrev pub is_known_inside : KindWord → Bool
 is_known_inside k = not k.unflushed && not (is_type k.kind kinds.Writable)
 
--- A frame in its works has the kind word that the seat last found or left there, and the cells; the first words
+-- A frame in its works has the kind word that the vCPU last found or left there, and the cells; the first words
 -- of a descriptor page are those found fixed. A vCPU of another domain, that was found without privilege over the
 -- owner of a marked frame since the frame came into work, can but read it.
 pub record WorkFound (n : Machine) (m : Place → ℕ) (h : ℕ → Holdings) (u : Holdings) (e : Work) : Type 0 where
@@ -110,7 +110,7 @@ pub record WorkFound (n : Machine) (m : Place → ℕ) (h : ℕ → Holdings) (u
 abbrev pub LockFound : Sizes → (Place → ℕ) → Holdings → Lock → Type 0
 LockFound z m u e = CellsFound z m e.since e.frame is_same_entry u.steps
 
--- a frame that is ending has the reference word that the seat left there
+-- a frame that is ending has the reference word that the vCPU left there
 abbrev pub EndingFound : (Place → ℕ) → Ending → Type 0
 EndingFound m e = m (Refs e.frame) ≡ ref_write (Dying e.owner)
 
@@ -128,13 +128,13 @@ PrivilegesFound z m u = (d o : ℕ) → o < 16 →
     EachSince z 0 (Priv d) (λ w. IsTrue (has_now o w || has_ever o w) → IsTrue (has_ever o (m (Priv d)))) u.steps
 
 -- ---- the own words
--- The run word is what the seat last found or left there. So is, while the vCPU is not stopped, each other own word but
--- those of flushes (4 asked, 5 flushed): of these other seats may write `asked`, and of a stopped vCPU they may empty the rest.
+-- The run word is what the vCPU last found or left there. So is, while the vCPU is not stopped, each other own word but
+-- those of flushes (4 asked, 5 flushed): of these other vCPUs may write `asked`, and of a stopped vCPU they may empty the rest.
 pub record OwnFound (z : Sizes) (m : Place → ℕ) (s : ℕ) (u : Holdings) : Type 0 where
   pub run : (w : ℕ) → u.run ≡ Some w → m (run_of s) ≡ w
   pub words : (k w : ℕ) → k ≢ 4 → k ≢ 5 → m (run_of s) ≢ 1 → last_since z 0 (Vcpu s k) u.steps ≡ Some w → m (Vcpu s k) ≡ w
 
--- ---- all of it, for seat s
+-- ---- all of it, for vCPU s
 pub record Found (n : Machine) (m : Place → ℕ) (h : ℕ → Holdings) (s : ℕ) : Type 0 where
   pub clock : ClockFound (sizes_of n) m (h s)
   pub flushed : FlushedFound (sizes_of n) m (h s)

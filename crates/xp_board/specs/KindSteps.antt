@@ -147,7 +147,7 @@ AllowsKind m s f h (Some k) (Some l) = AllowsKindRow (kind_row k l) m s f k l h
 AllowsKind m s f h _ _ = ⊥
 
 -- ---- legal sums
--- a type count is given back: the seat knows the frame live by a reference in hand
+-- a type count is given back: the vCPU knows the frame live by a reference in hand
 pub record MayDrop (m : Machine) (f : ℕ) (h : Holdings) : Type 0 where
   pub in_hand : 0 < typed_to f h.typed
   pub kind : PageType
@@ -156,7 +156,7 @@ pub record MayDrop (m : Machine) (f : ℕ) (h : Holdings) : Type 0 where
 abbrev pub AllowsKindAdd : Machine → ℕ → Holdings → ℕ → Type 0
 AllowsKindAdd m f h by = ((by ≡ one_down) × MayDrop m f h) ⊎ ((by ≡ unlocked_down) × (0 < locks_on f h.locks))
 
--- ---- legal stores: by the seat that has the frame in work or closing
+-- ---- legal stores: by the vCPU that has the frame in work or closing
 -- the type count is in hand; or it is another holder's, and an untyped reference becomes a second one
 abbrev pub CountsLive : ℕ → KindWord → Holdings → Type 0
 CountsLive f l h =
@@ -183,7 +183,7 @@ KeepsKept m e l h =
 abbrev pub kept_owner : ℕ → Work → Holdings → OwnerFound
 kept_owner f e h = if is_closing (kind_fields e.word) then ref_owner f h else typed_owner f h
 
--- the type count goes out of the hand into the mark, of a frame whose owner the seat knows by that reference
+-- the type count goes out of the hand into the mark, of a frame whose owner the vCPU knows by that reference
 pub record MayKeep (f : ℕ) (e : Work) (h : Holdings) : Type 0 where
   pub in_hand : IsTrue (is_work (kind_fields e.word)) → 0 < typed_to f h.typed
   pub owner : ℕ
@@ -307,7 +307,7 @@ after_kind_row Resume f k l new h = resumed f k new h
 after_kind_row TakeBack f k l new h = taken_back f k h
 after_kind_row Begin f k l new h = begun f l new h
 
--- an exchange that takes the seat's own `kept` mark back, or finds another word than it left, ends its looking
+-- an exchange that takes the vCPU's own `kept` mark back, or finds another word than it left, ends its looking
 abbrev pub still_looking : ℕ → ℕ → List Looking → List Looking
 still_looking f left xs = kept_of (λ e. not (e.frame == f) || (e.word == left)) xs
 
@@ -356,7 +356,7 @@ made_live f l h =
       works = without_work f h.works;
     }
 
--- the seat looks at the life of another domain on whose frame it has set `kept`
+-- the vCPU looks at the life of another domain on whose frame it has set `kept`
 abbrev pub looking_at : Machine → ℕ → ℕ → ℕ → OwnerFound → Holdings → List Looking
 looking_at m s f new (owners.Of o) h =
     if o == domain_of m s then h.looking else (record { frame = f; owner = o; word = new } ∷ h.looking)

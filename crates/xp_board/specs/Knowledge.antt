@@ -1,4 +1,4 @@
--- What a seat knows of a frame by the references in its hand: what it found or made so at or after the step
+-- What a vCPU knows of a frame by the references in its hand: what it found or made so at or after the step
 -- that brought one of them.
 use Rattle.std.specs.Prelude.{ℕ, ◌==◌, ◌&&◌, ◌||◌, Bool, false, List, Option, Some, None}
 use Rattle.xp_words.specs.declared.kind.PageType.{PageType}
@@ -18,7 +18,7 @@ abbrev pub tells_owner : Sizes → List Made → ℕ → ℕ → OwnerFound → 
 tells_owner z steps f o (owners.Of d) = d == o
 tells_owner z steps f o (owners.Since n) = some_since z n (Refs f) (is_owned_by o) steps
 
--- the seat knows that the frame is owned by o
+-- the vCPU knows that the frame is owned by o
 unfoldable pub knows_owner : Sizes → ℕ → ℕ → Holdings → Bool
 knows_owner z f o h =
     some_of (λ e. (e.frame == f) && tells_owner z h.steps f o e.owner) h.refs
@@ -34,7 +34,7 @@ abbrev pub tells_live : Sizes → List Made → ℕ → PageType → Option Page
 tells_live z steps f t kind lives.Found = is_kind_found kind t
 tells_live z steps f t kind (lives.Since n) = some_since z n (Kind f) (is_live_as t) steps
 
--- the seat knows by a typed reference or lock that the frame is live with type t
+-- the vCPU knows by a typed reference or lock that the frame is live with type t
 unfoldable pub knows_live : Sizes → ℕ → PageType → Holdings → Bool
 knows_live z f t h =
     some_of (λ e. (e.frame == f) && tells_live z h.steps f t e.kind e.live) h.typed || some_of (λ e. (e.frame == f) && is_type e.kind t) h.locks
@@ -48,6 +48,6 @@ abbrev pub tells_partial : Sizes → List Made → ℕ → PageType → Liveness
 tells_partial z steps f t lives.Found = false
 tells_partial z steps f t (lives.Since n) = passes (is_partial_as t) (last_since z n (Kind f) steps)
 
--- the seat last found or left the frame partial with type t since a typed reference to it came
+-- the vCPU last found or left the frame partial with type t since a typed reference to it came
 unfoldable pub knows_partial : Sizes → ℕ → PageType → Holdings → Bool
 knows_partial z f t h = some_of (λ e. (e.frame == f) && tells_partial z h.steps f t e.live) h.typed

@@ -1,4 +1,4 @@
--- When a seat may make a step, by its own holdings alone. A mark is judged first, and the act by the hand
+-- When a vCPU may make a step, by its own holdings alone. A mark is judged first, and the act by the hand
 -- that the mark leaves.
 use Rattle.std.specs.Prelude.{◌≡◌, ℕ, ◌^◌, ◌<◌, Bool, true, false, Option, Some, IsTrue}
 use Rattle.xp_words.specs.Machine.{Machine}
@@ -34,7 +34,7 @@ abbrev pub LegalLook : Act → Type 0
 LegalLook Load = Unit {0}
 LegalLook _ = ⊥
 
--- a vCPU that the seat has not found running makes steps of these kinds alone
+-- a vCPU that the vCPU has not found running makes steps of these kinds alone
 abbrev pub needs_running : StepKind → Bool
 needs_running steps.Look = false
 needs_running steps.Tick = false

@@ -9,13 +9,13 @@ use Rattle.xp_board.specs.declared.holdings.Holdings.{Holdings}
 use Rattle.xp_board.specs.Steps.{some_since, some_between, some_before}
 use Rattle.xp_board.specs.Readings.{domain_of, is_context, is_owned_by, allocated_mark}
 
--- the seat destroys a domain from now on
+-- the vCPU destroys a domain from now on
 pub record MayDoom (s expected new : ℕ) : Type 0 where
   pub lives : expected ≡ 0
   pub left : new ≡ s + 1
 
--- ---- what the destroying seat has found
--- by the step below `upto`: each vCPU of the domain stopped, since the seat stored the life word
+-- ---- what the destroying vCPU has found
+-- by the step below `upto`: each vCPU of the domain stopped, since the vCPU stored the life word
 pub record HasStopped (m : Machine) (s d upto : ℕ) (h : Holdings) : Type 0 where
   pub since : ℕ
   pub stored : IsTrue (some_before (sizes_of m) since (Life d) (λ w. w == s + 1) h.steps)

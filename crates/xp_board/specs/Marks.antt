@@ -63,7 +63,7 @@ seen_word None = 0
 abbrev pub demand_seen : ℕ → Work → Demand
 demand_seen i e = demand_at (kind_fields e.word).kind i (seen_word e.seen)
 
--- a typed demand of a frame that the seat doesn't know live
+-- a typed demand of a frame that the vCPU doesn't know live
 abbrev pub leaves_unsettled : Sizes → Holdings → Demand → Bool
 leaves_unsettled z h (demands.Typed g t) = not (knows_live z g t h)
 leaves_unsettled z h _ = false

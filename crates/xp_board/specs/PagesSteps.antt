@@ -10,7 +10,7 @@ use Rattle.xp_board.specs.Lists.{times, with_more, with_fewer}
 pub record MayCharge (expected new : ℕ) : Type 0 where
   pub more : expected < new
 
--- so many pages as the seat has counted without a frame are given back
+-- so many pages as the vCPU has counted without a frame are given back
 pub record MayRefund (d by : ℕ) (h : Holdings) : Type 0 where
   pub down : by < 2 ^ 64
   pub some : 0 < by

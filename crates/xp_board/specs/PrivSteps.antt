@@ -21,7 +21,7 @@ granted o w = with_bit (16 + o) (with_bit o w)
 abbrev pub revoked : ℕ → ℕ → ℕ
 revoked o w = without_bit o w
 
--- privilege over a domain over which the seat's own domain was found to have it
+-- privilege over a domain over which the vCPU's own domain was found to have it
 pub record MaySetPrivilege (m : Machine) (s expected new : ℕ) (h : Holdings) : Type 0 where
   pub over : ℕ
   pub domain : over < length m.page_limit

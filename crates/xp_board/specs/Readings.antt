@@ -62,7 +62,7 @@ abbrev pub is_dying_in : Option RefWord → Bool
 is_dying_in (Some (Dying owner)) = true
 is_dying_in _ = false
 
--- the count is 0, and the frame is in one seat's hand
+-- the count is 0, and the frame is in one vCPU's hand
 unfoldable pub is_dying : ℕ → Bool
 is_dying w = is_dying_in (ref_read w)
 
@@ -136,9 +136,9 @@ abbrev pub last_clock : ℕ
 last_clock = 68719476734
 
 -- the clock value or stamp that a word at that place tells; 0 where it tells none
-unfoldable pub told_value : Place → ℕ → ℕ
-told_value Clock w = w
-told_value (Vcpu v k) w = if k == 5 then w else 0
-told_value (Refs f) w = free_stamp w
-told_value (Kind f) w = kind_stamp w
-told_value _ w = 0
+unfoldable pub clock_value : Place → ℕ → ℕ
+clock_value Clock w = w
+clock_value (Vcpu v k) w = if k == 5 then w else 0
+clock_value (Refs f) w = free_stamp w
+clock_value (Kind f) w = kind_stamp w
+clock_value _ w = 0

@@ -1,4 +1,4 @@
--- The references that are recorded: by entries of tables, words of vCPUs, marks of frames and hands of seats.
+-- The references that are recorded: by entries of tables, words of vCPUs, marks of frames and hands of vCPUs.
 -- Each frame's two counts are the numbers of those that name it.
 use Rattle.std.specs.Prelude.{◌≡◌, ℕ, zero, suc, ◌+◌, ◌<◌, if◌then◌else◌, List, Option, Some, None, IsTrue}
 use Rattle.xp_words.specs.declared.kind.PageType.{PageType}
@@ -22,7 +22,7 @@ abbrev pub recorded_number : Option Work → Option ℕ
 recorded_number (Some e) = Some e.recorded
 recorded_number None = None
 
--- as the seat that has the frame in its works has recorded them
+-- as the vCPU that has the frame in its works has recorded them
 unfoldable pub recorded_in : List Work → ℕ → Option ℕ
 recorded_in works f = recorded_number (work_on f works)
 
@@ -30,12 +30,12 @@ abbrev pub or_else : Option ℕ → Option ℕ → Option ℕ
 or_else (Some n) other = Some n
 or_else None other = other
 
--- the same over the first n seats
+-- the same over the first n vCPUs
 unfoldable pub work_of : ℕ → (ℕ → Holdings) → ℕ → Option ℕ
 work_of zero h f = None
 work_of (suc n) h f = or_else (recorded_in (h n).works f) (work_of n h f)
 
--- without a seat that works on it: all of a live table, and as many as a partial one says
+-- without a vCPU that works on it: all of a live table, and as many as a partial one says
 abbrev pub held_by_form : KindWord → Option ℕ → ℕ
 held_by_form k (Some n) = n
 held_by_form k None = if k.validated then 512 else if k.partial then k.progress else 0
@@ -81,7 +81,7 @@ contexts z m g = sum_below z.vcpus (λ v. sum_below 38 (λ k. if is_context k th
 unfoldable pub marks : KindWord → ℕ
 marks k = bit k.pinned + bit k.kept
 
--- what c counts in the hands of all seats
+-- what c counts in the hands of all vCPUs
 unfoldable pub hands : (Holdings → ℕ) → Sizes → (ℕ → Holdings) → ℕ
 hands c z h = sum_below z.vcpus (λ s. c (h s))
 

@@ -87,7 +87,7 @@ IsFreeStamp m stamp h None None = ⊥
 
 pub record MayFree (m : Machine) (f stamp : ℕ) (h : Holdings) : Type 0 where
   pub raised : 0 < times f h.raised
-  pub told : IsFreeStamp m stamp h (ending_of f h.ending) (claim_of f h.claimed)
+  pub was_found : IsFreeStamp m stamp h (ending_of f h.ending) (claim_of f h.claimed)
 
 -- a scrubbed frame is given to the own domain
 pub record MayGive (m : Machine) (s f owner : ℕ) (allocated : Bool) (count : ℕ) (h : Holdings) : Type 0 where

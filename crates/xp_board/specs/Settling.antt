@@ -31,12 +31,12 @@ abbrev pub settles_last : Sizes → Work → List Made → Option Unsettled → 
 settles_last z e steps None = true
 settles_last z e steps (Some u) = settles_word z (kind_fields e.word).kind (e.recorded - 1) u.since steps u.word
 
--- the frame of the last recorded entry is live, as the seat knows
+-- the frame of the last recorded entry is live, as the vCPU knows
 unfoldable pub is_settled : Sizes → Holdings → Work → Bool
 is_settled z h e = settles_last z e h.steps e.unsettled
 
 -- ---- a demand that goes out of the hand into an entry of table f
--- The owners that the seat knows: one and the same, or at level 1 one over whose frames the table's owner
+-- The owners that the vCPU knows: one and the same, or at level 1 one over whose frames the table's owner
 -- has privilege, as was found in this turn.
 pub record OwnersMeet (m : Machine) (f g : ℕ) (kind : PageType) (h : Holdings) : Type 0 where
   pub table : ℕ

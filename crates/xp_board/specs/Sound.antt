@@ -32,7 +32,7 @@ pub record Spelled (n : Machine) (m : Place → ℕ) : Type 0 where
 abbrev pub is_busy : KindWord → Bool
 is_busy k = is_work k || is_closing k
 
--- A frame that is in work, closing, locked or dying stands once in one seat's works, locks, endings or claims,
+-- A frame that is in work, closing, locked or dying stands once in one vCPU's works, locks, endings or claims,
 -- and no other frame stands there. (That a locked one is live with a count above 0 is its spelling.)
 pub record HeldAlone (n : Machine) (m : Place → ℕ) (h : ℕ → Holdings) : Type 0 where
   pub works : (f : ℕ) → hands (λ u. works_on f u.works) (sizes_of n) h ≡ bit (is_busy (kind_at m f))
@@ -58,12 +58,12 @@ pub record Idle (n : Machine) (m : Place → ℕ) (h : ℕ → Holdings) (v : �
   pub cold_walk : (h v).cold ≡ true → (h v).walk ≡ None
 
 -- ---- dead and dying domains
--- a seat that has set `kept` on the frame for domain d, and has not yet looked whether d lives
+-- a vCPU that has set `kept` on the frame for domain d, and has not yet looked whether d lives
 pub record IsLookedAt (n : Machine) (m : Place → ℕ) (h : ℕ → Holdings) (d f : ℕ) : Type 0 where
-  pub seat : ℕ
-  pub real : seat < (sizes_of n).vcpus
+  pub vcpu : ℕ
+  pub real : vcpu < (sizes_of n).vcpus
   pub looking : Looking
-  pub here : Member looking (h seat).looking
+  pub here : Member looking (h vcpu).looking
   pub frame : looking.frame ≡ f
   pub owner : looking.owner ≡ d
   pub word : looking.word ≡ m (Kind f)
@@ -78,9 +78,9 @@ pub record DeadDomain (n : Machine) (m : Place → ℕ) (h : ℕ → Holdings) (
   pub empty : (v k : ℕ) → v < (sizes_of n).vcpus → domain_of n v ≡ d → k < 38 → IsTrue (is_context k) → m (Vcpu v k) ≡ 0
   pub stopped : (v : ℕ) → v < (sizes_of n).vcpus → domain_of n v ≡ d → m (run_of v) ≡ 1
 
--- While d is dying: what its destroying seat s has found so, or made so, since it stored the life word. Context
+-- While d is dying: what its destroying vCPU s has found so, or made so, since it stored the life word. Context
 -- words count from when their vCPU was found stopped, marks and owners from when all vCPUs of d were. (That a
--- vCPU found stopped is stopped holds for all seats, among what was found.)
+-- vCPU found stopped is stopped holds for all vCPUs, among what was found.)
 pub record DyingDomain (n : Machine) (m : Place → ℕ) (h : ℕ → Holdings) (d s : ℕ) : Type 0 where
   pub empty : (v k a b : ℕ) → domain_of n v ≡ d → k < 38 → IsTrue (is_context k) →
       IsTrue (some_before (sizes_of n) a (Life d) (λ w. w == s + 1) (h s).steps) → a ≤ b →
@@ -133,14 +133,14 @@ pub record Sound (n : Machine) (m : Place → ℕ) (h : ℕ → Holdings) : Type
   pub map : FreeMap n m h
 
 -- ---- words and lists of holdings
--- the holdings of seat s; empty where there is no such seat
-abbrev pub seat_of : List Holdings → ℕ → Holdings
-seat_of seats s = slice_index_or seats s empty
+-- the holdings of vCPU s; empty where there is no such vCPU
+abbrev pub hand_of : List Holdings → ℕ → Holdings
+hand_of hands s = slice_index_or hands s empty
 
-pub record SoundState (n : Machine) (words : List ℕ) (seats : List Holdings) : Type 0 where
+pub record SoundState (n : Machine) (words : List ℕ) (hands : List Holdings) : Type 0 where
   pub all_words : length words ≡ size (sizes_of n)
-  pub all_seats : length seats ≡ (sizes_of n).vcpus
-  pub sound : Sound n (memory (sizes_of n) words) (seat_of seats)
+  pub all_hands : length hands ≡ (sizes_of n).vcpus
+  pub sound : Sound n (memory (sizes_of n) words) (hand_of hands)
 
 -- words that are sound with empty hands and caches, and no step made
 pub record SoundWords (n : Machine) (words : List ℕ) : Type 0 where

@@ -1,4 +1,4 @@
--- Sums over frames, entries and seats.
+-- Sums over frames, entries and vCPUs.
 use Rattle.std.specs.Prelude.{ℕ, zero, suc, ◌+◌}
 
 -- the sum of what c gives at each number below n

@@ -1,4 +1,4 @@
--- A port as contracts see it: whose it is, what its seat holds, and the whole state where its board tells it.
+-- A port as contracts see it: whose it is, what its vCPU holds, and the whole state where its board tells it.
 use Rattle.std.specs.Prelude.{◌≡◌, ℕ, ◌==◌, ◌<◌, ◌&&◌, ◌⊎◌, not, is_some, Bool, true, false, List, [], ◌∷◌, length, slice_set, Option, Some, None}
 use Rattle.atomic_table.specs.Seated.{TableId}
 use Rattle.xp_words.specs.Machine.{Machine}
@@ -17,24 +17,24 @@ use Rattle.xp_board.specs.Runs.{place_of}
 -- which port it is: of which machine, vCPU and table, the run word with which that vCPU opened, and the name of the borrow that it holds
 pub record Post : Type 0 where
   pub machine : Machine
-  pub seat : ℕ
+  pub vcpu : ℕ
   pub run : ℕ
   pub lender : ℕ
   pub table : TableId
 
--- the words at the opening; all steps since, the newest first; and the words and the hands of all seats
+-- the words at the opening; all steps since, the newest first; and the words and the hands of all vCPUs
 pub record Story : Type 0 where
   pub opening : List ℕ
   pub log : List (ℕ × Step)
   pub words : List ℕ
-  pub seats : List Holdings
+  pub hands : List Holdings
 
 pub record PortValue : Type 0 where
   pub post : Post
   pub holdings : Holdings
   pub told : Option Story
 
--- what a board tells after a step, after which the seat holds h
+-- what a board tells after a step, after which the vCPU holds h
 abbrev pub tells : ℕ → Step → ℕ → Holdings → Option Story → Option Story
 tells s x found h None = None
 tells s x found h (Some story) =
@@ -42,14 +42,14 @@ tells s x found h (Some story) =
       opening = story.opening;
       log = (s, x) ∷ story.log;
       words = slice_set story.words x.place (left_by x.act found);
-      seats = slice_set story.seats s h;
+      hands = slice_set story.hands s h;
     })
 
 -- a port after a step that found this word
 abbrev pub stepped : PortValue → Step → ℕ → PortValue
 stepped v x found =
-    let h = after v.post.machine v.post.seat v.holdings x found in
-    record { post = v.post; holdings = h; told = tells v.post.seat x found h v.told }
+    let h = after v.post.machine v.post.vcpu v.holdings x found in
+    record { post = v.post; holdings = h; told = tells v.post.vcpu x found h v.told }
 
 -- the own run word: as it was last found or left, or else as the vCPU opened
 abbrev pub run_or : ℕ → Option ℕ → ℕ
@@ -75,14 +75,14 @@ word_in n (Some story) p = memory (sizes_of n) story.words p
 abbrev pub told_word : PortValue → Place → ℕ
 told_word v p = word_in v.post.machine v.told p
 
--- There is a sound state in which this seat has these holdings, and the word at that place is the one found.
--- This is all that a seat learns of the other seats.
+-- There is a sound state in which this vCPU has these holdings, and the word at that place is the one found.
+-- This is all that a vCPU learns of the other vCPUs.
 pub record Finds (n : Machine) (s : ℕ) (h : Holdings) (p : Place) (found : ℕ) : Type 0 where
   pub words : Place → ℕ
-  pub seats : ℕ → Holdings
+  pub hands : ℕ → Holdings
   pub real : s < (sizes_of n).vcpus
-  pub sound : Sound n words seats
-  pub mine : seats s ≡ h
+  pub sound : Sound n words hands
+  pub mine : hands s ≡ h
   pub word : words p ≡ found
 
 -- the newest cached translation of the page
@@ -97,7 +97,7 @@ cached_item user page xs = first_of (is_item user page) xs
 abbrev pub Went : PortValue → List Made → PortValue → Type 0
 Went v [] w = w ≡ v
 Went v (x ∷ xs) w =
-    (u : PortValue) × Went v xs u × Legal u.post.machine u.post.seat u.holdings x.step
+    (u : PortValue) × Went v xs u × Legal u.post.machine u.post.vcpu u.holdings x.step
     × IsTold u.post.machine u.told (place_of u.post.machine x.step) x.found × (w ≡ stepped u x.step x.found)
 
 -- the port came from v to w by legal steps

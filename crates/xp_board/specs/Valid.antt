@@ -16,16 +16,16 @@ use Rattle.xp_board.specs.Recorded.{held, entry_demand}
 use Rattle.xp_board.specs.After.{is_fixed}
 
 -- ---- validity
--- the last recorded entry of a table in that work is unsettled, and the seat has not found its frame g live since
+-- the last recorded entry of a table in that work is unsettled, and the vCPU has not found its frame g live since
 pub record IsUnsettled (z : Sizes) (h : ℕ → Holdings) (f i g : ℕ) : Type 0 where
-  pub seat : ℕ
-  pub real : seat < z.vcpus
+  pub vcpu : ℕ
+  pub real : vcpu < z.vcpus
   pub work : Work
-  pub here : work_on f (h seat).works ≡ Some work
+  pub here : work_on f (h vcpu).works ≡ Some work
   pub last : i + 1 ≡ work.recorded
   pub unsettled : Unsettled
   pub kept : work.unsettled ≡ Some unsettled
-  pub unfound : some_since z unsettled.since (Kind g) is_live_word (h seat).steps ≡ false
+  pub unfound : some_since z unsettled.since (Kind g) is_live_word (h vcpu).steps ≡ false
 
 -- the last recorded entry of a partial table
 pub record IsLastOfPartial (m : Place → ℕ) (f i : ℕ) : Type 0 where

@@ -40,7 +40,7 @@ pub record IsWorkFormed (n : Machine) (u : Holdings) (e : Work) : Type 0 where
   pub seen : SeenIs (sizes_of n) e.unmarked e.frame u.steps e.seen
   pub last : LastIs (sizes_of n) e u.steps e.unsettled
   pub unsettled : (x : Unsettled) → e.unsettled ≡ Some x → (0 < e.recorded) × (x.since ≤ length u.steps)
-  pub told : (kind_fields e.word).unflushed ≡ true → IsTrue (some_before (sizes_of n) e.since (Kind e.frame) (λ w. w == e.word) u.steps)
+  pub was_found : (kind_fields e.word).unflushed ≡ true → IsTrue (some_before (sizes_of n) e.since (Kind e.frame) (λ w. w == e.word) u.steps)
   pub fixed : 0 < e.fixed → ((kind_fields e.word).unflushed ≡ false) × ((kind_fields e.word).kind ≡ kinds.Desc)
   pub order : e.since ≤ e.unmarked
   pub past : e.unmarked ≤ length u.steps

@@ -1,5 +1,5 @@
-//! What a seat holds, as contracts see it. No value of these types is made: a running program needs the cache
-//! alone, and none keeps it yet. Lists have the newest first. A number of steps says when: it is how many steps the seat
+//! What a vCPU holds, as contracts see it. No value of these types is made: a running program needs the cache
+//! alone, and none keeps it yet. Lists have the newest first. A number of steps says when: it is how many steps the vCPU
 //! had made by then.
 use crate::step::{Item, Step};
 use std::collections::LinkedList;
@@ -12,15 +12,15 @@ pub struct Made {
     pub found: u64,
 }
 
-/// What the seat knows of the owner of a frame of which it has a reference: the step that brought the
-/// reference found it, or it is what the seat finds from that step on.
+/// What the vCPU knows of the owner of a frame of which it has a reference: the step that brought the
+/// reference found it, or it is what the vCPU finds from that step on.
 pub enum OwnerFound {
     Of { domain: u16 },
     Since { steps: u64 },
 }
 
-/// Whether the seat knows that the frame of a typed reference is live: the step that brought the reference
-/// found or made it so, or it is what the seat finds from that step on.
+/// Whether the vCPU knows that the frame of a typed reference is live: the step that brought the reference
+/// found or made it so, or it is what the vCPU finds from that step on.
 pub enum Liveness {
     Found,
     Since { steps: u64 },
@@ -41,7 +41,7 @@ pub struct TypedReference {
     pub live: Liveness,
 }
 
-/// The entry of a table that the seat loaded or stored last.
+/// The entry of a table that the vCPU loaded or stored last.
 pub struct Seen {
     pub index: u16,
     pub word: u64,
@@ -78,7 +78,7 @@ pub struct Lock {
     pub since: u64,
 }
 
-/// A frame whose last reference this seat gave back.
+/// A frame whose last reference this vCPU gave back.
 pub struct Ending {
     pub frame: u32,
     pub owner: u16,
@@ -94,7 +94,7 @@ pub struct Claimed {
     pub since: u64,
 }
 
-/// A frame of another domain on which this seat has set `kept`, with the kind word that it left there, while
+/// A frame of another domain on which this vCPU has set `kept`, with the kind word that it left there, while
 /// it has not yet looked whether that domain lives.
 pub struct Looking {
     pub frame: u32,
@@ -125,9 +125,9 @@ pub struct Walk {
     pub touching: Option<Touching>,
 }
 
-/// All that a seat holds. `credits` has a domain once for each page counted for it without a frame. `raised`
+/// All that a vCPU holds. `credits` has a domain once for each page counted for it without a frame. `raised`
 /// are frames in `ending` or `claimed` whose bit of the free map is set. `run`, `old0` and `old1` are the
-/// own words as this seat last found or left them. `turn`, `acked` and `ran` say when its last turn began,
+/// own words as this vCPU last found or left them. `turn`, `acked` and `ran` say when its last turn began,
 /// its last flush and its last Run step were made. A vCPU is cold from when it is put on a processor until
 /// it has flushed.
 pub struct Holdings {

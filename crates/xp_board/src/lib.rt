@@ -1,4 +1,4 @@
-//! The machine: the atomic steps of its vCPUs, what a seat holds, when a step is legal and what it leaves.
+//! The machine: the atomic steps of its vCPUs, what a vCPU holds, when a step is legal and what it leaves.
 #![tactic(auto)]
 
 mod holdings;

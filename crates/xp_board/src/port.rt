@@ -20,8 +20,8 @@ pub trait Port {
         ensures machine { IsMachine result.now };
 
     /// The number of the vCPU.
-    fn seat(&self) -> u32
-        ensures seat { result ≡ (value self.now).post.seat }
+    fn vcpu(&self) -> u32
+        ensures vcpu { result ≡ (value self.now).post.vcpu }
         ensures real { result < length (value self.now).post.machine.vcpu_domain };
 
     /// The newest cached translation of a page, which is bits 12 to 47 of the address. Its frame is one of the machine's.
@@ -32,11 +32,11 @@ pub trait Port {
     /// Makes one step, and answers the word that it found. At the own run word that is the one which the vCPU last found
     /// or left there, and before its first look the one with which it opened.
     fn step(&mut self, step: Step) -> u64
-        requires { Legal (value self.old).post.machine (value self.old).post.seat (value self.old).holdings step }
+        requires { Legal (value self.old).post.machine (value self.old).post.vcpu (value self.old).holdings step }
         ensures value { value self.new ≡ stepped (value self.old) step result }
         ensures goes { Goes (value self.old) (value self.new) }
         ensures saw { Saw (value self.old) (value self.new) (place_at (sizes_of (value self.old).post.machine) step.place) result }
-        ensures found { Finds (value self.old).post.machine (value self.old).post.seat (value self.old).holdings (place_at (sizes_of (value self.old).post.machine) step.place) result }
-        ensures own { place_at (sizes_of (value self.old).post.machine) step.place ≡ run_of (value self.old).post.seat → result ≡ own_run (value self.old) }
+        ensures found { Finds (value self.old).post.machine (value self.old).post.vcpu (value self.old).holdings (place_at (sizes_of (value self.old).post.machine) step.place) result }
+        ensures own { place_at (sizes_of (value self.old).post.machine) step.place ≡ run_of (value self.old).post.vcpu → result ≡ own_run (value self.old) }
         ensures told { IsTold (value self.old).post.machine (value self.old).told (place_at (sizes_of (value self.old).post.machine) step.place) result };
 }

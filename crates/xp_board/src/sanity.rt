@@ -61,7 +61,7 @@ pub fn a_map_is_legal()
     ensures { (n : Machine) (s f new : ℕ) (h : Holdings) → f < n.frames → h.run ≡ Some 0 → new < 2 ^ 64 → 0 < hand f h → LegalMove n s h (M2p f) (Store new) steps.M2p None }
 {}
 
-/// A seat that has made no step holds nothing, and that is well formed.
+/// A vCPU that has made no step holds nothing, and that is well formed.
 pub fn empty_hands_are_well_formed()
     ensures { (n : Machine) (s : ℕ) → WellFormed n s empty }
 {}
@@ -82,7 +82,7 @@ pub fn an_awaited_stamp_is_free()
     ensures { (n : Machine) (since stamp : ℕ) (h : Holdings) → AwaitsFree n since stamp h → IsTrue (is_free stamp) }
 {}
 
-/// Each own word of a vCPU that is not stopped, but the two of flushes, is what its seat last found or left there.
+/// Each own word of a vCPU that is not stopped, but the two of flushes, is what its vCPU last found or left there.
 pub fn an_own_word_is_as_it_was_left()
     ensures { (n : Machine) (m : Place → ℕ) (h : ℕ → Holdings) (s k w : ℕ) → Sound n m h → s < (sizes_of n).vcpus → k ≢ 4 → k ≢ 5 → m (run_of s) ≢ 1 →
         last_since (sizes_of n) 0 (Vcpu s k) (h s).steps ≡ Some w → m (Vcpu s k) ≡ w }
@@ -90,7 +90,7 @@ pub fn an_own_word_is_as_it_was_left()
 
 /// After a step at the own run word that word is known.
 pub fn a_step_tells_the_own_run_word()
-    ensures { (v : PortValue) (x : Step) (found : ℕ) → place_of v.post.machine x ≡ run_of v.post.seat → own_run (stepped v x found) ≡ left_by x.act found }
+    ensures { (v : PortValue) (x : Step) (found : ℕ) → place_of v.post.machine x ≡ run_of v.post.vcpu → own_run (stepped v x found) ≡ left_by x.act found }
 {}
 
 /// A reference that was counted up is in hand; a frame that is freed leaves a page counted for the domain that owned it; none of the cells

@@ -12,7 +12,7 @@ use Rattle.xp_board.specs.declared.holdings.Holdings.{Holdings}
 use Rattle.xp_board.specs.Acts.{left_by}
 use Rattle.xp_board.specs.AskSteps.{MayAsk}
 use Rattle.xp_board.specs.Readings.{domain_of}
-use Rattle.xp_board.specs.Sound.{seat_of}
+use Rattle.xp_board.specs.Sound.{hand_of}
 use Rattle.xp_board.specs.Steps.{some_since}
 use Rattle.xp_board.specs.Told.{Post, PortValue, Goes, run_or}
 use Rattle.frame_words.specs.Hands.{FoundRun}
@@ -71,14 +71,14 @@ still_rests w h k f r =
     }
 
 -- what one port of the board did
-takes_next : (b b2 : Board) (s lender : ℕ) → b2.machine ≡ b.machine → s < (sizes_of b.machine).vcpus → length b.story.seats ≡ (sizes_of b.machine).vcpus →
-    Goes (port_value b s lender) (port_value b2 s lender) → FoundRun 0 (seat_of b.story.seats s) (seat_of b2.story.seats s) → TakesFresh b → TakesFresh b2
+takes_next : (b b2 : Board) (s lender : ℕ) → b2.machine ≡ b.machine → s < (sizes_of b.machine).vcpus → length b.story.hands ≡ (sizes_of b.machine).vcpus →
+    Goes (port_value b s lender) (port_value b2 s lender) → FoundRun 0 (hand_of b.story.hands s) (hand_of b2.story.hands s) → TakesFresh b → TakesFresh b2
 unfolding Goes TakesFresh
-takes_next b b2 s lender machine real seats goes hand takes t other script there =
+takes_next b b2 s lender machine real hands goes hand takes t other script there =
     let rests = still_rests 0 _ _ hand (takes s lender [] real).rests in
-    let moved = (stepping b b2 s lender goes.0 real seats goes.1 rests).moved in
+    let moved = (stepping b b2 s lender goes.0 real hands goes.1 rests).moved in
     elim (cases_eq t s) [
-      | inl own ↦ rw own (record { seat = refl; domain = refl; rests = rests; runs = λ works. (λ i. run_or (memory (sizes_of b2.machine) b2.story.opening (run_of s)) (hand.run i)) })
+      | inl own ↦ rw own (record { vcpu = refl; domain = refl; rests = rests; runs = λ works. (λ i. run_or (memory (sizes_of b2.machine) b2.story.opening (run_of s)) (hand.run i)) })
       | inr off ↦
           subst (λ (n : Machine). IsOf (port_value b2 t other) (fresh t (domain_of n t) script)) (sym machine)
           (of_other b b2 t other (fresh t (domain_of b.machine t) script) machine moved.opening (moved.others t off)
@@ -87,16 +87,16 @@ takes_next b b2 s lender machine real seats goes hand takes t other script there
 
 -- as the code has it
 pub takes_after : (b b1 b2 : Board) (s s1 s2 l1 l2 : ℕ) → b1 ≡ b → s1 ≡ s → (port_value b2 s2 l2).post ≡ (port_value b1 s1 l1).post → s < (sizes_of b.machine).vcpus →
-    length b.story.seats ≡ (sizes_of b.machine).vcpus → Goes (port_value b1 s1 l1) (port_value b2 s2 l2) → FoundRun 0 (seat_of b1.story.seats s1) (seat_of b2.story.seats s2) → TakesFresh b → TakesFresh b2
-takes_after b b1 b2 s s1 s2 l1 l2 same seat post real seats goes hand takes =
-    let seat2 : s2 ≡ s = ap (λ (q : Post). q.seat) post ∙ seat in
+    length b.story.hands ≡ (sizes_of b.machine).vcpus → Goes (port_value b1 s1 l1) (port_value b2 s2 l2) → FoundRun 0 (hand_of b1.story.hands s1) (hand_of b2.story.hands s2) → TakesFresh b → TakesFresh b2
+takes_after b b1 b2 s s1 s2 l1 l2 same vcpu post real hands goes hand takes =
+    let vcpu2 : s2 ≡ s = ap (λ (q : Post). q.vcpu) post ∙ vcpu in
     let lender2 : l2 ≡ l1 = ap (λ (q : Post). q.lender) post in
     let machine2 : b2.machine ≡ b.machine = ap (λ (q : Post). q.machine) post ∙ ap (λ (x : Board). x.machine) same in
-    let before : port_value b1 s1 l1 ≡ port_value b s l1 = λ i. port_value (same i) (seat i) l1 in
-    let after : port_value b2 s2 l2 ≡ port_value b2 s l1 = λ i. port_value b2 (seat2 i) (lender2 i) in
-    takes_next b b2 s l1 machine2 real seats
+    let before : port_value b1 s1 l1 ≡ port_value b s l1 = λ i. port_value (same i) (vcpu i) l1 in
+    let after : port_value b2 s2 l2 ≡ port_value b2 s l1 = λ i. port_value b2 (vcpu2 i) (lender2 i) in
+    takes_next b b2 s l1 machine2 real hands
     (subst (λ v. Goes v (port_value b2 s l1)) before (subst (λ w. Goes (port_value b1 s1 l1) w) after goes))
-    (subst (λ (v : PortValue). FoundRun 0 v.holdings (seat_of b2.story.seats s)) before (subst (λ (w : PortValue). FoundRun 0 (seat_of b1.story.seats s1) w.holdings) after hand))
+    (subst (λ (v : PortValue). FoundRun 0 v.holdings (hand_of b2.story.hands s)) before (subst (λ (w : PortValue). FoundRun 0 (hand_of b1.story.hands s1) w.holdings) after hand))
     takes
 
 pub takes_back : (b c : Board) → b ≡ c → TakesFresh c → TakesFresh b

@@ -5,18 +5,18 @@ use Rattle.std.proofs.lemmas.List.{map-set, get_or-map, get_or-set_other, length
 use Rattle.xp_machine.specs.Gates.{is_calm, StayCalm, under_pace}
 
 -- one gate is another one, or was asked
-pub stay_calm : {A : Type 0} (calm : A → Bool) (seats : List A) (s : ℕ) (d y : A) → s < length seats → (calm (slice_index_or seats s d) ≡ true → calm y ≡ true) →
-    StayCalm (map calm seats) (map calm (slice_set seats s y))
-stay_calm calm seats s d y within keeps v was =
-    let calms = map calm seats in
+pub stay_calm : {A : Type 0} (calm : A → Bool) (runners : List A) (s : ℕ) (d y : A) → s < length runners → (calm (slice_index_or runners s d) ≡ true → calm y ≡ true) →
+    StayCalm (map calm runners) (map calm (slice_set runners s y))
+stay_calm calm runners s d y within keeps v was =
+    let calms = map calm runners in
     let now : is_calm (slice_set calms s (calm y)) v ≡ true =
     elim (cases_eq v s) [
       | inl same ↦
-          let here = sym (get_or-map calm seats s d true within) ∙ ap (λ k. is_calm calms k) (sym same) ∙ was in
-          ap (λ k. is_calm (slice_set calms s (calm y)) k) same ∙ get_or-set_same calms s (calm y) true (subst (λ k. s < k) (sym (length-map seats calm)) within) ∙ keeps here
+          let here = sym (get_or-map calm runners s d true within) ∙ ap (λ k. is_calm calms k) (sym same) ∙ was in
+          ap (λ k. is_calm (slice_set calms s (calm y)) k) same ∙ get_or-set_same calms s (calm y) true (subst (λ k. s < k) (sym (length-map runners calm)) within) ∙ keeps here
       | inr off ↦ get_or-set_other calms s v (calm y) true off ∙ was
     ] in
-    subst (λ cs. is_calm cs v ≡ true) (sym (map-set calm seats s y)) now
+    subst (λ cs. is_calm cs v ≡ true) (sym (map-set calm runners s y)) now
 
 -- ---- the pace
 in_pace : (every : ℕ) (calms : List Bool) (v : ℕ) → v < length calms → is_calm (under_pace (Some every) calms) v ≡ ((every == 0) && is_calm calms v)

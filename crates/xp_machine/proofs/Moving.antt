@@ -10,7 +10,7 @@ use Rattle.xp_words.specs.Places.{sizes_of, memory, run_of}
 use Rattle.xp_words.specs.declared.ops.Op.{Op}
 use Rattle.xp_board.specs.declared.holdings.Made.{Made}
 use Rattle.xp_board.specs.Readings.{domain_of}
-use Rattle.xp_board.specs.Sound.{seat_of}
+use Rattle.xp_board.specs.Sound.{hand_of}
 use Rattle.xp_board.specs.Told.{PortValue, Story, Went, run_or}
 use Rattle.shared_board.specs.Board.{Board, port_value}
 use Rattle.vcpu_turn.specs.Cpus.{Processing}
@@ -20,36 +20,36 @@ use Rattle.xp_machine.specs.Pieces.{Leads}
 use Rattle.xp_machine.specs.Ready.{Ready}
 use Rattle.xp_machine.proofs.Walking.{Walked, walked}
 
--- ---- the other seats
--- what steps of seat s leave as it was
+-- ---- the other vCPUs
+-- what steps of vCPU s leave as it was
 pub record Moved (n : Machine) (s : ℕ) (a b : Story) : Type 0 where
   pub opening : b.opening ≡ a.opening
-  pub seats : length b.seats ≡ length a.seats
-  pub others : (t : ℕ) → t ≢ s → seat_of b.seats t ≡ seat_of a.seats t
+  pub hands : length b.hands ≡ length a.hands
+  pub others : (t : ℕ) → t ≢ s → hand_of b.hands t ≡ hand_of a.hands t
 
 abbrev story_in : Story → Option Story → Story
 story_in d (Some a) = a
 story_in d None = d
 
 pub moved_none : (n : Machine) (s : ℕ) (a b : Story) → b ≡ a → Moved n s a b
-moved_none n s a b same = rw same (record { opening = refl; seats = refl; others = λ t off. refl })
+moved_none n s a b same = rw same (record { opening = refl; hands = refl; others = λ t off. refl })
 
 -- steps by a port of the board
 pub record Stepping (n : Machine) (s : ℕ) (a : Story) (made : List Made) (b : Story) : Type 0 where
   pub leads : Leads n s a made b
   pub moved : Moved n s a b
 
-pub stepping : (b b2 : Board) (s lender : ℕ) (made : List Made) → s < (sizes_of b.machine).vcpus → length b.story.seats ≡ (sizes_of b.machine).vcpus →
-    Went (port_value b s lender) made (port_value b2 s lender) → Rests (seat_of b2.story.seats s) → Stepping b.machine s b.story made b2.story
-stepping b b2 s lender made real seats went rests =
+pub stepping : (b b2 : Board) (s lender : ℕ) (made : List Made) → s < (sizes_of b.machine).vcpus → length b.story.hands ≡ (sizes_of b.machine).vcpus →
+    Went (port_value b s lender) made (port_value b2 s lender) → Rests (hand_of b2.story.hands s) → Stepping b.machine s b.story made b2.story
+stepping b b2 s lender made real hands went rests =
     let n = b.machine in
     let walk : Walked n s b.story (port_value b2 s lender) made =
-    walked (port_value b s lender) (port_value b2 s lender) b.story made refl refl (subst (λ k. s < k) (sym seats) real) real went in
+    walked (port_value b s lender) (port_value b2 s lender) b.story made refl refl (subst (λ k. s < k) (sym hands) real) real went in
     let same : b2.story ≡ walk.b = ap (story_in b.story) walk.told in
     subst (λ x. Stepping n s b.story made x) (sym same)
     (record {
-      leads = record { piece = walk.piece; log = walk.log; empty = (subst (λ (x : Story). Rests (seat_of x.seats s)) same rests).empty };
-      moved = record { opening = walk.opening; seats = walk.seats; others = walk.others };
+      leads = record { piece = walk.piece; log = walk.log; empty = (subst (λ (x : Story). Rests (hand_of x.hands s)) same rests).empty };
+      moved = record { opening = walk.opening; hands = walk.hands; others = walk.others };
     })
 
 -- no step
@@ -58,17 +58,17 @@ same_story b b2 s lender same = ap (λ (x : PortValue). story_in b.story x.told)
 
 -- ---- each port is still that of its vCPU
 of_lender : (b : Board) (s lender other : ℕ) (c : Processing) → IsOf (port_value b s lender) c → IsOf (port_value b s other) c
-of_lender b s lender other c o = record { seat = o.seat; domain = o.domain; rests = o.rests; runs = o.runs }
+of_lender b s lender other c o = record { vcpu = o.vcpu; domain = o.domain; rests = o.rests; runs = o.runs }
 
-still_runs : (b b2 : Board) (t lender : ℕ) → b2.machine ≡ b.machine → b2.story.opening ≡ b.story.opening → seat_of b2.story.seats t ≡ seat_of b.story.seats t → Runs (port_value b t lender) →
+still_runs : (b b2 : Board) (t lender : ℕ) → b2.machine ≡ b.machine → b2.story.opening ≡ b.story.opening → hand_of b2.story.hands t ≡ hand_of b.story.hands t → Runs (port_value b t lender) →
     Runs (port_value b2 t lender)
 still_runs b b2 t lender machine opening hand runs = (λ i. run_or (memory (sizes_of (machine i)) (opening i) (run_of t)) (hand i).run) ∙ runs
 
-pub of_other : (b b2 : Board) (t lender : ℕ) (c : Processing) → b2.machine ≡ b.machine → b2.story.opening ≡ b.story.opening → seat_of b2.story.seats t ≡ seat_of b.story.seats t →
+pub of_other : (b b2 : Board) (t lender : ℕ) (c : Processing) → b2.machine ≡ b.machine → b2.story.opening ≡ b.story.opening → hand_of b2.story.hands t ≡ hand_of b.story.hands t →
     IsOf (port_value b t lender) c → IsOf (port_value b2 t lender) c
 of_other b b2 t lender c machine opening hand o =
     record {
-      seat = o.seat;
+      vcpu = o.vcpu;
       domain = o.domain ∙ sym (λ i. domain_of (machine i) t);
       rests = subst Rests (sym hand) o.rests;
       runs = λ works. still_runs b b2 t lender machine opening hand (o.runs works);
@@ -94,7 +94,7 @@ ready_after b b2 s lender cpus c c2 ready machine moved here script own =
     let vcpus : (sizes_of b2.machine).vcpus ≡ (sizes_of b.machine).vcpus = ap (λ (n : Machine). (sizes_of n).vcpus) machine in
     record {
       all = length-set cpus s c2 ∙ ready.all ∙ sym vcpus;
-      seats = moved.seats ∙ ready.seats ∙ sym vcpus;
+      hands = moved.hands ∙ ready.hands ∙ sym vcpus;
       short = All-set IsShort cpus s c2 (subst (λ (l : List Op). length l < 2 ^ 32) (sym script) (short_at cpus s c ready.short here)) ready.short;
       of = λ t other x at. elim (set_at cpus s t c2 x (slice_get_within cpus s c here) at) [
         | inl same ↦ rw (same.0, same.1) (of_lender b2 s lender other c2 own)

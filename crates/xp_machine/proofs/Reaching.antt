@@ -14,7 +14,7 @@ use Rattle.xp_board.specs.Readings.{domain_of}
 use Rattle.xp_board.specs.declared.step.Step.{Step}
 use Rattle.xp_board.specs.declared.holdings.Holdings.{Holdings}
 use Rattle.xp_board.specs.Safe.{Safe}
-use Rattle.xp_board.specs.Sound.{seat_of, SoundState, SoundWords}
+use Rattle.xp_board.specs.Sound.{hand_of, SoundState, SoundWords}
 use Rattle.xp_board.specs.Told.{Story, run_or}
 use Rattle.xp_board.specs.Runs as runs
 use Rattle.trace_text.specs.declared.trace.Trace.{Trace}
@@ -66,7 +66,7 @@ takes_fresh t b opened opening machine story v lender script real =
     let there : v < (sizes_of n).vcpus = subst (λ (k : Machine). v < (sizes_of k).vcpus) machine real in
     rw (machine, story)
     (record {
-      seat = refl;
+      vcpu = refl;
       domain = refl;
       rests = subst Rests (sym (get_or-replicate (length n.vcpu_domain) v empty empty there)) empty_rests;
       runs = λ works.
@@ -89,21 +89,21 @@ ready_board t b opened cpus opening machine story scripts few first =
     subst (Ready b) (sym first)
     (record {
       all = length_first t.layout t.scripts ∙ scripts ∙ sym (ap (λ (n : Machine). (sizes_of n).vcpus) machine);
-      seats = ap (λ (a : Story). length a.seats) story ∙ length-replicate (length t.layout.vcpu_domain) empty ∙ sym (ap (λ (n : Machine). (sizes_of n).vcpus) machine);
+      hands = ap (λ (a : Story). length a.hands) story ∙ length-replicate (length t.layout.vcpu_domain) empty ∙ sym (ap (λ (n : Machine). (sizes_of n).vcpus) machine);
       short = short_first t.layout t.scripts few;
       of = of_first t.layout b t.scripts machine (takes_fresh t b opened opening machine story) scripts;
     })
 
 -- ---- the laws of the machine that the run rests on
 abbrev pub RunsSafe : Type 0
-RunsSafe = (n : Machine) (a b : runs.State) (log : List (ℕ × Step)) → runs.Run n a log b → SoundState n a.words a.seats → Safe n (memory (sizes_of n) b.words) (seat_of b.seats)
+RunsSafe = (n : Machine) (a b : runs.State) (log : List (ℕ × Step)) → runs.Run n a log b → SoundState n a.words a.hands → Safe n (memory (sizes_of n) b.words) (hand_of b.hands)
 
 abbrev pub RestsSound : Type 0
 RestsSound =
-    (n : Machine) (words : List ℕ) (seats : List Holdings) → SoundState n words seats → ((s : ℕ) → s < (sizes_of n).vcpus → IsEmptyHand (seat_of seats s)) → SoundWords n words
+    (n : Machine) (words : List ℕ) (hands : List Holdings) → SoundState n words hands → ((s : ℕ) → s < (sizes_of n).vcpus → IsEmptyHand (hand_of hands s)) → SoundWords n words
 
 -- ---- at the end
-rests_at : (b : Board) (cpus : List Processing) (s : ℕ) → Ready b cpus → s < (sizes_of b.machine).vcpus → Rests (seat_of b.story.seats s)
+rests_at : (b : Board) (cpus : List Processing) (s : ℕ) → Ready b cpus → s < (sizes_of b.machine).vcpus → Rests (hand_of b.story.hands s)
 rests_at b cpus s ready real =
     elim ((slice_get_cases cpus s).1) [
       | inl here ↦ (ready.of s 0 here.0 here.2).rests
@@ -139,8 +139,8 @@ ran guards rests t b b2 opened cpus cpus2 before calms vs text words opening mac
     let run : runs.Run z (runs.start z opened) closed.board.log (state_of closed.board) =
     subst (λ ws. runs.Run z (runs.start z ws) closed.board.log (state_of closed.board)) from2
     (subst (λ k. runs.Run k (runs.start k b2.story.opening) closed.board.log (state_of closed.board)) machine2 closes.run) in
-    let sound : SoundState z closed.board.words closed.board.seats = subst (λ k. SoundState k closed.board.words closed.board.seats) machine2 closes.sound in
-    let rested : (s : ℕ) → s < (sizes_of z).vcpus → Rests (seat_of b2.story.seats s) =
+    let sound : SoundState z closed.board.words closed.board.hands = subst (λ k. SoundState k closed.board.words closed.board.hands) machine2 closes.sound in
+    let rested : (s : ℕ) → s < (sizes_of z).vcpus → Rests (hand_of b2.story.hands s) =
     λ s real. rests_at b2 cpus2 s ready (subst (λ (k : Machine). s < (sizes_of k).vcpus) (sym machine2) real) in
     record {
       opened = opened;
@@ -152,9 +152,9 @@ ran guards rests t b b2 opened cpus cpus2 before calms vs text words opening mac
           (subst (λ cs. WorksOff b.machine calms vs (stage (opened_story z opened) cs) closed) first (subst (λ st. WorksOff b.machine calms vs (stage st cpus) closed) story works))));
       run = run;
       safe = λ newer older a parts run2. guards z (runs.start z opened) a older run2 begins;
-      sound = rests z closed.board.words closed.board.seats sound (λ s real. (rested s real).empty);
+      sound = rests z closed.board.words closed.board.hands sound (λ s real. (rested s real).empty);
       report = closes.report ∙ ap (λ k. report_at k closed) machine2;
     }
 
-pub short_seat : {A : Type 0} (cpu : A → Processing) (seats : List A) (i : ℕ) (d : A) → i < length seats → AreShort (map cpu seats) → IsShort (cpu (slice_index_or seats i d))
-short_seat cpu seats i d within all = subst IsShort (get_or-map cpu seats i d (cpu d) within) (All-get_or IsShort (map cpu seats) i (cpu d) (subst (λ k. i < k) (sym (length-map seats cpu)) within) all)
+pub short_runner : {A : Type 0} (cpu : A → Processing) (hands : List A) (i : ℕ) (d : A) → i < length hands → AreShort (map cpu hands) → IsShort (cpu (slice_index_or hands i d))
+short_runner cpu hands i d within all = subst IsShort (get_or-map cpu hands i d (cpu d) within) (All-get_or IsShort (map cpu hands) i (cpu d) (subst (λ k. i < k) (sym (length-map hands cpu)) within) all)

@@ -13,7 +13,7 @@ use Rattle.xp_board.specs.Hands.{empty}
 use Rattle.xp_board.specs.Legal.{Legal}
 use Rattle.xp_board.specs.Runs as runs
 use Rattle.xp_board.specs.Runs.{place_of, word_at}
-use Rattle.xp_board.specs.Sound.{seat_of}
+use Rattle.xp_board.specs.Sound.{hand_of}
 use Rattle.xp_board.specs.Told.{Post, PortValue, Story, IsTold, tells, stepped, Went}
 use Rattle.xp_board.proofs.Going.{went_post}
 use Rattle.shared_board.specs.Board.{state_of}
@@ -23,55 +23,55 @@ use Rattle.xp_machine.specs.Pieces.{Piece, log_by}
 record One (n : Machine) (s : ℕ) (a : Story) (w : PortValue) (x : Made) : Type 0 where
   b : Story
   told : w.told ≡ Some b
-  holdings : w.holdings ≡ seat_of b.seats s
+  holdings : w.holdings ≡ hand_of b.hands s
   moves : runs.Moves n (state_of a) s x.step (state_of b)
   found : x.found ≡ word_at n (state_of a) (place_of n x.step)
   opening : b.opening ≡ a.opening
   log : b.log ≡ (s, x.step) ∷ a.log
-  seats : length b.seats ≡ length a.seats
-  others : (t : ℕ) → t ≢ s → seat_of b.seats t ≡ seat_of a.seats t
+  hands : length b.hands ≡ length a.hands
+  others : (t : ℕ) → t ≢ s → hand_of b.hands t ≡ hand_of a.hands t
 
-one_step : (u w : PortValue) (x : Made) (c : Story) → u.told ≡ Some c → u.holdings ≡ seat_of c.seats u.post.seat → u.post.seat < length c.seats →
-    u.post.seat < (sizes_of u.post.machine).vcpus → Legal u.post.machine u.post.seat u.holdings x.step → IsTold u.post.machine u.told (place_of u.post.machine x.step) x.found →
-    w ≡ stepped u x.step x.found → One u.post.machine u.post.seat c w x
+one_step : (u w : PortValue) (x : Made) (c : Story) → u.told ≡ Some c → u.holdings ≡ hand_of c.hands u.post.vcpu → u.post.vcpu < length c.hands →
+    u.post.vcpu < (sizes_of u.post.machine).vcpus → Legal u.post.machine u.post.vcpu u.holdings x.step → IsTold u.post.machine u.told (place_of u.post.machine x.step) x.found →
+    w ≡ stepped u x.step x.found → One u.post.machine u.post.vcpu c w x
 one_step u w x c told hand there real legal found to =
     let n = u.post.machine in
-    let s = u.post.seat in
+    let s = u.post.vcpu in
     let h : Holdings = after n s u.holdings x.step x.found in
     let is : IsTold n (Some c) (place_of n x.step) x.found = subst (λ o. IsTold n o (place_of n x.step) x.found) told found in
-    let legal' : Legal n s (seat_of c.seats s) x.step = subst (λ y. Legal n s y x.step) hand legal in
+    let legal' : Legal n s (hand_of c.hands s) x.step = subst (λ y. Legal n s y x.step) hand legal in
     record {
-      b = record { opening = c.opening; log = (s, x.step) ∷ c.log; words = slice_set c.words x.step.place (left_by x.step.act x.found); seats = slice_set c.seats s h };
+      b = record { opening = c.opening; log = (s, x.step) ∷ c.log; words = slice_set c.words x.step.place (left_by x.step.act x.found); hands = slice_set c.hands s h };
       told = ap (λ (y : PortValue). y.told) to ∙ ap (λ o. tells s x.step x.found h o) told;
-      holdings = ap (λ (y : PortValue). y.holdings) to ∙ sym (get_or-set_same c.seats s h empty there);
+      holdings = ap (λ (y : PortValue). y.holdings) to ∙ sym (get_or-set_same c.hands s h empty there);
       moves = record {
-        seat = real;
+        vcpu = real;
         legal = legal';
         next_is = λ k. record {
           words = slice_set c.words x.step.place (left_by x.step.act (sym is.1 k));
-          seats = slice_set c.seats s (after n s (hand k) x.step (sym is.1 k));
+          hands = slice_set c.hands s (after n s (hand k) x.step (sym is.1 k));
         };
       };
       found = sym is.1;
       opening = refl;
       log = refl;
-      seats = length-set c.seats s h;
-      others = λ t off. get_or-set_other c.seats s t h empty off;
+      hands = length-set c.hands s h;
+      others = λ t off. get_or-set_other c.hands s t h empty off;
     }
 
 -- ---- all of them
 pub record Walked (n : Machine) (s : ℕ) (a : Story) (w : PortValue) (made : List Made) : Type 0 where
   pub b : Story
   pub told : w.told ≡ Some b
-  pub holdings : w.holdings ≡ seat_of b.seats s
+  pub holdings : w.holdings ≡ hand_of b.hands s
   pub piece : Piece n s (state_of a) made (state_of b)
   pub opening : b.opening ≡ a.opening
   pub log : b.log ≡ log_by s made ++ a.log
-  pub seats : length b.seats ≡ length a.seats
-  pub others : (t : ℕ) → t ≢ s → seat_of b.seats t ≡ seat_of a.seats t
+  pub hands : length b.hands ≡ length a.hands
+  pub others : (t : ℕ) → t ≢ s → hand_of b.hands t ≡ hand_of a.hands t
 
-pub walked : (v w : PortValue) (a : Story) (made : List Made) → v.told ≡ Some a → v.holdings ≡ seat_of a.seats v.post.seat → v.post.seat < length a.seats →
-    v.post.seat < (sizes_of v.post.machine).vcpus → Went v made w → Walked v.post.machine v.post.seat a w made
+pub walked : (v w : PortValue) (a : Story) (made : List Made) → v.told ≡ Some a → v.holdings ≡ hand_of a.hands v.post.vcpu → v.post.vcpu < length a.hands →
+    v.post.vcpu < (sizes_of v.post.machine).vcpus → Went v made w → Walked v.post.machine v.post.vcpu a w made
 walked v w a [] told hand there real went =
     record {
       b = a;
@@ -80,25 +80,25 @@ walked v w a [] told hand there real went =
       piece = refl;
       opening = refl;
       log = refl;
-      seats = refl;
+      hands = refl;
       others = λ t off. refl;
     }
 walked v w a (x ∷ xs) told hand there real went =
     let u : PortValue = went.0 in
     let before = walked v u a xs told hand there real went.1 in
     let post = went_post v u xs went.1 in
-    let one : One v.post.machine v.post.seat before.b w x =
-    subst (λ (q : Post). One q.machine q.seat before.b w x) post
-    (one_step u w x before.b before.told (before.holdings ∙ ap (λ (q : Post). seat_of before.b.seats q.seat) (sym post))
-    (subst (λ (q : Post). q.seat < length before.b.seats) (sym post) (subst (λ k. v.post.seat < k) (sym before.seats) there))
-    (subst (λ (q : Post). q.seat < (sizes_of q.machine).vcpus) (sym post) real) went.2 went.3 went.4) in
+    let one : One v.post.machine v.post.vcpu before.b w x =
+    subst (λ (q : Post). One q.machine q.vcpu before.b w x) post
+    (one_step u w x before.b before.told (before.holdings ∙ ap (λ (q : Post). hand_of before.b.hands q.vcpu) (sym post))
+    (subst (λ (q : Post). q.vcpu < length before.b.hands) (sym post) (subst (λ k. v.post.vcpu < k) (sym before.hands) there))
+    (subst (λ (q : Post). q.vcpu < (sizes_of q.machine).vcpus) (sym post) real) went.2 went.3 went.4) in
     record {
       b = one.b;
       told = one.told;
       holdings = one.holdings;
       piece = (state_of before.b, before.piece, one.moves, one.found);
       opening = one.opening ∙ before.opening;
-      log = one.log ∙ ap (λ (es : List (ℕ × Step)). (v.post.seat, x.step) ∷ es) before.log;
-      seats = one.seats ∙ before.seats;
+      log = one.log ∙ ap (λ (es : List (ℕ × Step)). (v.post.vcpu, x.step) ∷ es) before.log;
+      hands = one.hands ∙ before.hands;
       others = λ t off. one.others t off ∙ before.others t off;
     }

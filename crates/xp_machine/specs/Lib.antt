@@ -5,7 +5,7 @@ pub mod Pieces
 pub mod Ran
 pub mod Ready
 pub mod Rows
-pub mod Seats
+pub mod Runners
 pub mod Texts
 pub mod Turns
 pub mod Words

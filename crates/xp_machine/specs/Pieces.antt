@@ -5,7 +5,7 @@ use Rattle.xp_board.specs.declared.step.Step.{Step}
 use Rattle.xp_board.specs.declared.holdings.Made.{Made}
 use Rattle.xp_board.specs.Hands.{IsEmptyHand}
 use Rattle.xp_board.specs.Runs as runs
-use Rattle.xp_board.specs.Sound.{seat_of}
+use Rattle.xp_board.specs.Sound.{hand_of}
 use Rattle.xp_board.specs.Told.{Story}
 use Rattle.shared_board.specs.Board.{state_of}
 
@@ -24,4 +24,4 @@ log_by v made = map (λ x. (v, x.step)) made
 pub record Leads (n : Machine) (v : ℕ) (a : Story) (made : List Made) (b : Story) : Type 0 where
   pub piece : Piece n v (state_of a) made (state_of b)
   pub log : b.log ≡ log_by v made ++ a.log
-  pub empty : IsEmptyHand (seat_of b.seats v)
+  pub empty : IsEmptyHand (hand_of b.hands v)

@@ -8,7 +8,7 @@ use Rattle.xp_board.specs.declared.step.Step.{Step}
 use Rattle.xp_words.specs.Machine.{Machine}
 use Rattle.xp_words.specs.Places.{sizes_of, memory}
 use Rattle.xp_board.specs.Safe.{Safe}
-use Rattle.xp_board.specs.Sound.{seat_of, SoundState, SoundWords}
+use Rattle.xp_board.specs.Sound.{hand_of, SoundState, SoundWords}
 use Rattle.xp_board.specs.Runs as runs
 use Rattle.shared_board.specs.Board.{opened_story, state_of}
 use Rattle.vcpu_turn.specs.Cpus.{Processing, pending_of}
@@ -33,7 +33,7 @@ pub record Ran (t : Trace) (calms : List Bool) (text : List ℕ) : Type 0 where
   pub run : runs.Run t.layout (runs.start t.layout opened) closed.board.log (state_of closed.board)
   -- between any two of these steps, and behind the last, the machine is safe
   pub safe : (newer older : List (ℕ × Step)) (a : runs.State) → closed.board.log ≡ newer ++ older → runs.Run t.layout (runs.start t.layout opened) older a →
-      Safe t.layout (memory (sizes_of t.layout) a.words) (seat_of a.seats)
+      Safe t.layout (memory (sizes_of t.layout) a.words) (hand_of a.hands)
   -- the words that are printed are sound with empty hands
   pub sound : SoundWords t.layout closed.board.words
   pub report : text ≡ report_at t.layout closed
@@ -41,5 +41,5 @@ pub record Ran (t : Trace) (calms : List Bool) (text : List ℕ) : Type 0 where
 -- what a board with these words at its opening, and its vCPUs, are at the end
 pub record Closes (n : Machine) (opened : List ℕ) (closed : Stage) (text : List ℕ) : Type 0 where
   pub run : runs.Run n (runs.start n opened) closed.board.log (state_of closed.board)
-  pub sound : SoundState n closed.board.words closed.board.seats
+  pub sound : SoundState n closed.board.words closed.board.hands
   pub report : text ≡ report_at n closed

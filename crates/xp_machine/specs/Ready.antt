@@ -8,10 +8,10 @@ use Rattle.vcpu_turn.specs.Cpus.{Processing, fresh}
 use Rattle.vcpu_turn.specs.Turning.{IsOf}
 use Rattle.xp_machine.specs.Cpus.{AreShort}
 
--- There is one vCPU for each seat. It rests, and unless it is retired it runs, whoever lends it the board.
+-- There is one vCPU for each vCPU. It rests, and unless it is retired it runs, whoever lends it the board.
 pub record Ready (b : Board) (cpus : List Processing) : Type 0 where
   pub all : length cpus ≡ (sizes_of b.machine).vcpus
-  pub seats : length b.story.seats ≡ (sizes_of b.machine).vcpus
+  pub hands : length b.story.hands ≡ (sizes_of b.machine).vcpus
   pub short : AreShort cpus
   pub of : (v lender : ℕ) (c : Processing) → slice_get cpus v ≡ Some c → IsOf (port_value b v lender) c
 

@@ -6,7 +6,7 @@ ghost use Rattle.xp_machine.specs.Gates.{StayCalm};
 ghost use Rattle.xp_machine.specs.Ran.{Closes, Ran};
 ghost use Rattle.xp_machine.specs.Rows.{calms_of, cpus_of, stage_of};
 
-use crate::seat::Seat;
+use crate::runner::Runner;
 use crate::turns::run_all;
 use machine_build::opening;
 use opening_rule::opening_words_are_sound;
@@ -20,34 +20,34 @@ use xp_preempt::Preempt;
 use xp_words::Layout;
 
 // The vCPUs before their first turn, each with its gate. Gates that are left over are let go.
-fn first_seats(
+fn first_runners(
     alloc: Global,
     layout: &Layout,
     scripts: ScriptList,
     gates: Vec<Box<dyn Preempt + Send>>,
-) -> Result<Vec<Seat>, AllocError>
+) -> Result<Vec<Runner>, AllocError>
     requires scripts { length scripts ≡ (sizes_of layout.now).vcpus }
     requires gates { length scripts ≤ vec_len gates }
     ensures { IfOk result (λ v. (cpus_of v.items ≡ first_cpus layout.now scripts) × StayCalm (map calm gates.items) (calms_of calm v.items)) }
 {
-    let mut seats = Vec::new(alloc);
-    'seats: for ((vcpu, script), gate) in (0..layout.vcpus()).zip(scripts.into_items()).zip(gates) {
+    let mut runners = Vec::new(alloc);
+    'runners: for ((vcpu, script), gate) in (0..layout.vcpus()).zip(scripts.into_items()).zip(gates) {
         let cpu = Cpu::new(alloc, layout, vcpu, script)?;
-        seats.push(Seat::new(cpu, gate))?;
+        runners.push(Runner::new(cpu, gate))?;
     }
-    Ok(seats)
+    Ok(runners)
 }
 
 // The report of the board and of the vCPUs' logs.
-fn closing(alloc: Global, board: PlainBoard, seats: Vec<Seat>) -> Result<Vec<u8>, AllocError>
-    requires each { length seats.items ≡ (sizes_of board.machine).vcpus }
-    requires short { AreShort (cpus_of seats.items) }
-    ensures { IfOk result (λ v. Closes board.machine board.story.opening (stage_of board seats.items) v.items) }
+fn closing(alloc: Global, board: PlainBoard, runners: Vec<Runner>) -> Result<Vec<u8>, AllocError>
+    requires each { length runners.items ≡ (sizes_of board.machine).vcpus }
+    requires short { AreShort (cpus_of runners.items) }
+    ensures { IfOk result (λ v. Closes board.machine board.story.opening (stage_of board runners.items) v.items) }
 {
     let mut logs = Vec::new(alloc);
     let mut pending = Vec::new(alloc);
-    'seats: for seat in seats {
-        let cpu = seat.into_cpu();
+    'runners: for runner in runners {
+        let cpu = runner.into_cpu();
         pending.push(cpu.pending())?;
         logs.push(cpu.into_log())?;
     }
@@ -81,8 +81,8 @@ pub fn execute(
         scripts,
         turns,
     } = trace;
-    let seats = first_seats(alloc, &layout, scripts, gates)?;
+    let runners = first_runners(alloc, &layout, scripts, gates)?;
     let board = PlainBoard::make(alloc, layout, words)?;
-    let (board, seats) = run_all(board, seats, turns.as_slice());
-    closing(alloc, board, seats)
+    let (board, runners) = run_all(board, runners, turns.as_slice());
+    closing(alloc, board, runners)
 }

@@ -6,7 +6,7 @@ mod board_tests;
 mod execute;
 #[cfg(test)]
 mod list_tests;
-mod seat;
+mod runner;
 mod status;
 #[cfg(test)]
 mod step_tests;

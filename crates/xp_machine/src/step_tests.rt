@@ -81,7 +81,7 @@ fn a_vcpu_opens_without_translations(rt: HostRuntime) {
 // Another vCPU is asked to flush past the clock value that is found. Answers that value.
 fn ask_another<P: Port>(rt: &impl Abort, port: &mut P, vcpu: u32) -> u64
     requires vcpu { vcpu < length (P.value port.old).post.machine.vcpu_domain }
-    requires other { vcpu ≢ (P.value port.old).post.seat }
+    requires other { vcpu ≢ (P.value port.old).post.vcpu }
     ensures post { (P.value port.new).post ≡ (P.value port.old).post }
     ensures goes { Goes (P.value port.old) (P.value port.new) }
     ensures hand { FoundRun 0 (P.value port.old).holdings (P.value port.new).holdings }
@@ -100,7 +100,7 @@ fn ask_another<P: Port>(rt: &impl Abort, port: &mut P, vcpu: u32) -> u64
 // vCPU 0 of a board asks another one, which may take its first turn then.
 fn ask_by_first(rt: &impl Abort, board: &mut PlainBoard, vcpu: u32) -> u64
     requires fresh { TakesFresh board.old }
-    requires seats { length board.old.story.seats ≡ (sizes_of board.old.machine).vcpus }
+    requires runners { length board.old.story.hands ≡ (sizes_of board.old.machine).vcpus }
     ensures { TakesFresh board.new }
 {
     assert!(rt; vcpu != 0);
@@ -146,7 +146,7 @@ fn count_twice<P: Port>(port: &mut P, f: u64, domain: u16) -> Option<u64>
     requires running { (P.value port.old).holdings.run ≡ Some 0 }
     requires landed { (P.value port.old).holdings.walk ≡ None }
     requires empty { IsEmptyHand (P.value port.old).holdings }
-    requires own { domain ≡ domain_of (P.value port.old).post.machine (P.value port.old).post.seat }
+    requires own { domain ≡ domain_of (P.value port.old).post.machine (P.value port.old).post.vcpu }
 {
     let Ok(frame) = get_ref(port, f, domain) else {
         return None;

@@ -5,33 +5,33 @@ ghost use Rattle.xp_machine.specs.Ready.{Ready};
 ghost use Rattle.xp_machine.specs.Rows.{cpus_of, stage_of};
 ghost use Rattle.xp_machine.specs.Turns.{IsStagedStop, Stops};
 
-use crate::seat::Seat;
+use crate::runner::Runner;
 use shared_board::PlainBoard;
 
 // Stops one vCPU, unless it is retired.
-fn stop_of(board: &mut PlainBoard, seats: &mut [Seat], vcpu: u32)
-    requires known { vcpu < length seats.old }
-    requires ready { Ready board.old (cpus_of seats.old) }
+fn stop_of(board: &mut PlainBoard, runners: &mut [Runner], vcpu: u32)
+    requires known { vcpu < length runners.old }
+    requires ready { Ready board.old (cpus_of runners.old) }
     ensures machine { board.new.machine ≡ board.old.machine }
     ensures opening { board.new.story.opening ≡ board.old.story.opening }
-    ensures stop { IsStagedStop board.old.machine vcpu (stage_of board.old seats.old) (stage_of board.new seats.new) }
-    ensures ready { Ready board.new (cpus_of seats.new) }
+    ensures stop { IsStagedStop board.old.machine vcpu (stage_of board.old runners.old) (stage_of board.new runners.new) }
+    ensures ready { Ready board.new (cpus_of runners.new) }
 {
-    let seat = &mut seats[vcpu as usize];
+    let runner = &mut runners[vcpu as usize];
     let mut port = board.port(vcpu);
-    seat.stop(&mut port);
+    runner.stop(&mut port);
 }
 
 /// Stops all vCPUs that are not retired, from the first to the last.
-pub fn stop_all(board: &mut PlainBoard, seats: &mut [Seat])
-    requires ready { Ready board.old (cpus_of seats.old) }
+pub fn stop_all(board: &mut PlainBoard, runners: &mut [Runner])
+    requires ready { Ready board.old (cpus_of runners.old) }
     ensures machine { board.new.machine ≡ board.old.machine }
     ensures opening { board.new.story.opening ≡ board.old.story.opening }
-    ensures stops { Stops board.old.machine (range_with_len 0 (sizes_of board.old.machine).vcpus) (stage_of board.old seats.old) (stage_of board.new seats.new) }
-    ensures ready { Ready board.new (cpus_of seats.new) }
+    ensures stops { Stops board.old.machine (range_with_len 0 (sizes_of board.old.machine).vcpus) (stage_of board.old runners.old) (stage_of board.new runners.new) }
+    ensures ready { Ready board.new (cpus_of runners.new) }
 {
     let vcpus = board.layout().vcpus();
     'stops: for vcpu in 0..vcpus {
-        stop_of(board, seats, vcpu);
+        stop_of(board, runners, vcpu);
     }
 }

@@ -5,69 +5,69 @@ ghost use Rattle.xp_machine.specs.Ready.{Ready};
 ghost use Rattle.xp_machine.specs.Rows.{calms_of, cpus_of, stage_of};
 ghost use Rattle.xp_machine.specs.Turns.{IsStagedTurn, Turns, WorksOff};
 
-use crate::seat::Seat;
+use crate::runner::Runner;
 use crate::stops::stop_all;
 use shared_board::PlainBoard;
 use trace_text::TurnRun;
 
 // One turn of one vCPU.
-fn turn_of(board: &mut PlainBoard, seats: &mut [Seat], vcpu: u32)
-    requires known { vcpu < length seats.old }
-    requires ready { Ready board.old (cpus_of seats.old) }
+fn turn_of(board: &mut PlainBoard, runners: &mut [Runner], vcpu: u32)
+    requires known { vcpu < length runners.old }
+    requires ready { Ready board.old (cpus_of runners.old) }
     ensures machine { board.new.machine ≡ board.old.machine }
     ensures opening { board.new.story.opening ≡ board.old.story.opening }
-    ensures turn { IsStagedTurn board.old.machine (calms_of calm seats.old) vcpu (stage_of board.old seats.old) (stage_of board.new seats.new) }
-    ensures ready { Ready board.new (cpus_of seats.new) }
-    ensures calm { StayCalm (calms_of calm seats.old) (calms_of calm seats.new) }
+    ensures turn { IsStagedTurn board.old.machine (calms_of calm runners.old) vcpu (stage_of board.old runners.old) (stage_of board.new runners.new) }
+    ensures ready { Ready board.new (cpus_of runners.new) }
+    ensures calm { StayCalm (calms_of calm runners.old) (calms_of calm runners.new) }
 {
-    let seat = &mut seats[vcpu as usize];
+    let runner = &mut runners[vcpu as usize];
     let mut port = board.port(vcpu);
-    seat.turn(&mut port);
+    runner.turn(&mut port);
 }
 
 // So many turns of one vCPU in a row.
-fn turns_of(board: &mut PlainBoard, seats: &mut [Seat], vcpu: u32, count: u32)
-    requires known { vcpu < length seats.old }
-    requires ready { Ready board.old (cpus_of seats.old) }
+fn turns_of(board: &mut PlainBoard, runners: &mut [Runner], vcpu: u32, count: u32)
+    requires known { vcpu < length runners.old }
+    requires ready { Ready board.old (cpus_of runners.old) }
     ensures machine { board.new.machine ≡ board.old.machine }
     ensures opening { board.new.story.opening ≡ board.old.story.opening }
-    ensures turns { Turns board.old.machine (calms_of calm seats.old) (replicate count vcpu) (stage_of board.old seats.old) (stage_of board.new seats.new) }
-    ensures ready { Ready board.new (cpus_of seats.new) }
-    ensures calm { StayCalm (calms_of calm seats.old) (calms_of calm seats.new) }
+    ensures turns { Turns board.old.machine (calms_of calm runners.old) (replicate count vcpu) (stage_of board.old runners.old) (stage_of board.new runners.new) }
+    ensures ready { Ready board.new (cpus_of runners.new) }
+    ensures calm { StayCalm (calms_of calm runners.old) (calms_of calm runners.new) }
 {
     'turns: for _turn in 0..count {
-        turn_of(board, seats, vcpu);
+        turn_of(board, runners, vcpu);
     }
 }
 
 // The turns of the vCPUs, in the order of the runs.
-fn take_turns(board: &mut PlainBoard, seats: &mut [Seat], runs: &[TurnRun])
-    requires known { All (λ r. r.vcpu < length seats.old) runs.now }
-    requires ready { Ready board.old (cpus_of seats.old) }
+fn take_turns(board: &mut PlainBoard, runners: &mut [Runner], runs: &[TurnRun])
+    requires known { All (λ r. r.vcpu < length runners.old) runs.now }
+    requires ready { Ready board.old (cpus_of runners.old) }
     ensures machine { board.new.machine ≡ board.old.machine }
     ensures opening { board.new.story.opening ≡ board.old.story.opening }
-    ensures turns { Turns board.old.machine (calms_of calm seats.old) (order runs.now) (stage_of board.old seats.old) (stage_of board.new seats.new) }
-    ensures ready { Ready board.new (cpus_of seats.new) }
+    ensures turns { Turns board.old.machine (calms_of calm runners.old) (order runs.now) (stage_of board.old runners.old) (stage_of board.new runners.new) }
+    ensures ready { Ready board.new (cpus_of runners.new) }
 {
     'runs: for run in runs {
-        turns_of(board, seats, run.vcpu, run.count);
+        turns_of(board, runners, run.vcpu, run.count);
     }
 }
 
 /// The board and the vCPUs after all turns, and after all that were not retired have stopped.
 pub fn run_all(
     mut board: PlainBoard,
-    mut seats: Vec<Seat>,
+    mut runners: Vec<Runner>,
     runs: &[TurnRun],
-) -> (PlainBoard, Vec<Seat>)
-    requires known { All (λ r. r.vcpu < length seats.items) runs.now }
-    requires ready { Ready board (cpus_of seats.items) }
+) -> (PlainBoard, Vec<Runner>)
+    requires known { All (λ r. r.vcpu < length runners.items) runs.now }
+    requires ready { Ready board (cpus_of runners.items) }
     ensures machine { result.0.machine ≡ board.machine }
     ensures opening { result.0.story.opening ≡ board.story.opening }
-    ensures works { WorksOff board.machine (calms_of calm seats.items) (order runs.now) (stage_of board seats.items) (stage_of result.0 result.1.items) }
+    ensures works { WorksOff board.machine (calms_of calm runners.items) (order runs.now) (stage_of board runners.items) (stage_of result.0 result.1.items) }
     ensures ready { Ready result.0 (cpus_of result.1.items) }
 {
-    take_turns(&mut board, &mut seats, runs);
-    stop_all(&mut board, &mut seats);
-    (board, seats)
+    take_turns(&mut board, &mut runners, runs);
+    stop_all(&mut board, &mut runners);
+    (board, runners)
 }

@@ -16,7 +16,7 @@ store_dead-requires-clause-typed g c =
     let hand = subst (λ b. DroppedType v.post.machine c.args.frame drops.found b v.holdings d.holdings) c.if-drop_type.true drops.hand in
     let frame = subst (λ (q : Post). c.args.frame < q.machine.frames) (sym c.drop_type.ensures.post) c.requires.frame in
     let drop = subst (λ (q : Post). DroppedType q.machine c.args.frame drops.found true v.holdings d.holdings) (sym c.drop_type.ensures.post) hand in
-    closing_is_typed d.post.machine d.post.seat v.holdings d.holdings d.holdings _ _ c.args.frame drops.found c.args.kind frame drop refl (drops.hand.kind c.args.kind c.requires.live)
+    closing_is_typed d.post.machine d.post.vcpu v.holdings d.holdings d.holdings _ _ c.args.frame drops.found c.args.kind frame drop refl (drops.hand.kind c.args.kind c.requires.live)
     c.look_clock-stamp.ensures.found
 
 pub store_dead-requires-clause-clock : goal.store_dead-requires-clause-clock

@@ -7,7 +7,7 @@ use Rattle.frame_types.proofs.waiting.is_concerned.Goals as goal
 pub had_privilege-requires : goal.had_privilege-requires
 had_privilege-requires g c =
     let v = g.P.Port.value c.args.port.now in
-    owner_low v.post.machine v.post.seat v.holdings _ _ c.look_privileges.ensures.found c.args.awaited.frame c.args.awaited.owner c.args.awaited.stamp c.requires.frame c.requires.marked
+    owner_low v.post.machine v.post.vcpu v.holdings _ _ c.look_privileges.ensures.found c.args.awaited.frame c.args.awaited.owner c.args.awaited.stamp c.requires.frame c.requires.marked
 
 pub returns-then-domain-awaited : goal.returns-then-domain-awaited
 returns-then-domain-awaited g c =

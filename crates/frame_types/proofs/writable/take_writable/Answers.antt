@@ -7,7 +7,7 @@ use Rattle.xp_board.specs.Hands.{refs_to}
 use Rattle.xp_board.specs.Told.{Post}
 use Rattle.frame_words.proofs.KindFinds.{type_is_below}
 use Rattle.frame_types.specs.Writable.{IsOther, IsBusy, Takes}
-use Rattle.frame_types.proofs.Arms.{takes_after, word_told, still_telling, refused}
+use Rattle.frame_types.proofs.Arms.{takes_after, word_known, still_telling, refused}
 use Rattle.frame_types.proofs.Classing.{when_counted, when_busy, when_other, found_spelled}
 use Rattle.frame_types.proofs.Taken.{lent_held, ready_same}
 use Rattle.frame_types.proofs.writable.take_writable.Goals as goal
@@ -16,14 +16,14 @@ use Rattle.board_lemmas.proofs.KindForms.{fields_of}
 pub read_kind-kind-requires : goal.read_kind-kind-requires
 read_kind-kind-requires g c =
     let v = g.P.Port.value c.args.port.now in
-    found_spelled v.post.machine v.post.seat v.holdings c.args.frame c.look_kind-word.result c.requires.frame c.look_kind-word.ensures.found
+    found_spelled v.post.machine v.post.vcpu v.holdings c.args.frame c.look_kind-word.result c.requires.frame c.look_kind-word.ensures.found
 
 pub count_up-requires-clause-low : goal.count_up-requires-clause-low
 count_up-requires-clause-low g c =
     let v = g.P.Port.value c.args.port.now in
     let counted = when_counted c.read_kind-kind.result (sym c.in-Counted.ensures) in
     subst (λ (q : Post). c.read_kind-kind.result.number < q.machine.limit) (sym c.look_kind-word.ensures.post)
-    (type_is_below v.post.machine v.post.seat v.holdings c.args.frame c.look_kind-word.result c.read_kind-kind.result c.requires.frame c.look_kind-word.ensures.found c.read_kind-kind.ensures counted.live
+    (type_is_below v.post.machine v.post.vcpu v.holdings c.args.frame c.look_kind-word.result c.read_kind-kind.result c.requires.frame c.look_kind-word.ensures.found c.read_kind-kind.ensures counted.live
     (lent_held c.args.frame c.args.owner v.holdings c.requires.lent))
 
 pub give_up-requires-clause-held : goal.give_up-requires-clause-held
@@ -41,7 +41,7 @@ returns-in-Counted-clause-takes g c =
 pub returns-in-Counted-clause-told : goal.returns-in-Counted-clause-told
 returns-in-Counted-clause-told g c tells =
     let look = c.look_kind-word.ensures.made in
-    c.count_up.ensures.told (still_telling (g.P.Port.value c.args.port.now) _ c.args.frame _ look tells) (word_told (g.P.Port.value c.args.port.now) _ c.args.frame _ look tells)
+    c.count_up.ensures.told (still_telling (g.P.Port.value c.args.port.now) _ c.args.frame _ look tells) (word_known (g.P.Port.value c.args.port.now) _ c.args.frame _ look tells)
 
 pub returns-in-Dead-clause-takes : goal.returns-in-Dead-clause-takes
 returns-in-Dead-clause-takes g c =
@@ -50,7 +50,7 @@ returns-in-Dead-clause-takes g c =
 pub returns-in-Dead-clause-told : goal.returns-in-Dead-clause-told
 returns-in-Dead-clause-told g c tells =
     let look = c.look_kind-word.ensures.made in
-    c.validate_dead.ensures.told (still_telling (g.P.Port.value c.args.port.now) _ c.args.frame _ look tells) (word_told (g.P.Port.value c.args.port.now) _ c.args.frame _ look tells)
+    c.validate_dead.ensures.told (still_telling (g.P.Port.value c.args.port.now) _ c.args.frame _ look tells) (word_known (g.P.Port.value c.args.port.now) _ c.args.frame _ look tells)
 
 pub returns-in-Partial-clause-takes : goal.returns-in-Partial-clause-takes
 returns-in-Partial-clause-takes g c =
@@ -59,7 +59,7 @@ returns-in-Partial-clause-takes g c =
 pub returns-in-Partial-clause-told : goal.returns-in-Partial-clause-told
 returns-in-Partial-clause-told g c tells =
     let look = c.look_kind-word.ensures.made in
-    c.go_on.ensures.told (still_telling (g.P.Port.value c.args.port.now) _ c.args.frame _ look tells) (word_told (g.P.Port.value c.args.port.now) _ c.args.frame _ look tells)
+    c.go_on.ensures.told (still_telling (g.P.Port.value c.args.port.now) _ c.args.frame _ look tells) (word_known (g.P.Port.value c.args.port.now) _ c.args.frame _ look tells)
 
 pub returns-in-Busy-clause-takes : goal.returns-in-Busy-clause-takes
 returns-in-Busy-clause-takes g c =

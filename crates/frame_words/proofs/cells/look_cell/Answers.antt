@@ -22,14 +22,14 @@ pub returns-clause-found : goal.returns-clause-found
 returns-clause-found g c =
     let v = g.P.Port.value c.args.port.now in
     let at = c.cell_place-place.ensures ∙ ap (λ (n : Machine). number (sizes_of n) (Cell c.args.frame c.args.index)) c.layout.ensures.layout in
-    subst (λ p. Finds v.post.machine v.post.seat v.holdings p c.step.result)
+    subst (λ p. Finds v.post.machine v.post.vcpu v.holdings p c.step.result)
     (here v v c.look.result _ 0 _ _ c.look.ensures at (cell_there (sizes_of v.post.machine) c.args.frame c.args.index c.requires.frame c.requires.index) refl) c.step.ensures.found
 
 pub returns-clause-hand : goal.returns-clause-hand
 returns-clause-hand g c =
     let v = g.P.Port.value c.args.port.now in
     let at = c.cell_place-place.ensures ∙ ap (λ (n : Machine). number (sizes_of n) (Cell c.args.frame c.args.index)) c.layout.ensures.layout in
-    seen_hand v.post.machine v.post.seat c.args.frame c.args.index _ _ c.look.result _ (look_left v _ c.look.result _ _ _ _ c.look.ensures at (cell_there (sizes_of v.post.machine) c.args.frame c.args.index c.requires.frame c.requires.index) refl c.step.ensures.value)
+    seen_hand v.post.machine v.post.vcpu c.args.frame c.args.index _ _ c.look.result _ (look_left v _ c.look.result _ _ _ _ c.look.ensures at (cell_there (sizes_of v.post.machine) c.args.frame c.args.index c.requires.frame c.requires.index) refl c.step.ensures.value)
 
 pub returns-clause-apart : goal.returns-clause-apart
 returns-clause-apart g c = saw_apart c.args.frame c.args.index _ _ _ (returns-clause-hand g c)

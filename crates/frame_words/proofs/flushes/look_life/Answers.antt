@@ -22,11 +22,11 @@ pub returns-clause-found : goal.returns-clause-found
 returns-clause-found g c =
     let v = g.P.Port.value c.args.port.now in
     let at = c.life_place-place.ensures ∙ ap (λ (n : Machine). number (sizes_of n) (Life c.args.domain)) c.layout.ensures.layout in
-    subst (λ p. Finds v.post.machine v.post.seat v.holdings p c.step.result)
+    subst (λ p. Finds v.post.machine v.post.vcpu v.holdings p c.step.result)
     (here v v c.look.result _ 0 _ _ c.look.ensures at (life_there (sizes_of v.post.machine) c.args.domain c.requires) refl) c.step.ensures.found
 
 pub returns-clause-hand : goal.returns-clause-hand
 returns-clause-hand g c =
     let v = g.P.Port.value c.args.port.now in
     let at = c.life_place-place.ensures ∙ ap (λ (n : Machine). number (sizes_of n) (Life c.args.domain)) c.layout.ensures.layout in
-    life_hand v.post.machine v.post.seat c.args.domain _ _ c.look.result _ (look_left v _ c.look.result _ _ _ _ c.look.ensures at (life_there (sizes_of v.post.machine) c.args.domain c.requires) refl c.step.ensures.value)
+    life_hand v.post.machine v.post.vcpu c.args.domain _ _ c.look.result _ (look_left v _ c.look.result _ _ _ _ c.look.ensures at (life_there (sizes_of v.post.machine) c.args.domain c.requires) refl c.step.ensures.value)

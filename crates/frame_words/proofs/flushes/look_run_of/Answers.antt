@@ -23,11 +23,11 @@ pub returns-clause-found : goal.returns-clause-found
 returns-clause-found g c =
     let v = g.P.Port.value c.args.port.now in
     let at = c.vcpu_place-place.ensures ∙ ap (λ (n : Machine). number (sizes_of n) (run_of c.args.vcpu)) c.layout.ensures.layout in
-    subst (λ p. Finds v.post.machine v.post.seat v.holdings p c.step.result)
+    subst (λ p. Finds v.post.machine v.post.vcpu v.holdings p c.step.result)
     (here v v c.look.result _ 0 _ _ c.look.ensures at (own_there (sizes_of v.post.machine) c.args.vcpu 6 c.requires.vcpu (lit< tt)) refl) c.step.ensures.found
 
 pub returns-clause-hand : goal.returns-clause-hand
 returns-clause-hand g c =
     let v = g.P.Port.value c.args.port.now in
     let at = c.vcpu_place-place.ensures ∙ ap (λ (n : Machine). number (sizes_of n) (run_of c.args.vcpu)) c.layout.ensures.layout in
-    run_of_hand v.post.machine v.post.seat c.args.vcpu _ _ c.look.result _ c.requires.other (look_left v _ c.look.result _ _ _ _ c.look.ensures at (own_there (sizes_of v.post.machine) c.args.vcpu 6 c.requires.vcpu (lit< tt)) refl c.step.ensures.value)
+    run_of_hand v.post.machine v.post.vcpu c.args.vcpu _ _ c.look.result _ c.requires.other (look_left v _ c.look.result _ _ _ _ c.look.ensures at (own_there (sizes_of v.post.machine) c.args.vcpu 6 c.requires.vcpu (lit< tt)) refl c.step.ensures.value)

@@ -6,7 +6,7 @@ use Rattle.frame_words.proofs.freeing.free_frame.Goals as goal
 pub store_free-requires-clause-clock : goal.store_free-requires-clause-clock
 store_free-requires-clause-clock g c =
     let v = g.P.Port.value c.args.port.now in
-    let low = clock_low v.post.machine v.post.seat v.holdings c.look_clock-clock.result c.look_clock-clock.ensures.found in
+    let low = clock_low v.post.machine v.post.vcpu v.holdings c.look_clock-clock.result c.look_clock-clock.ensures.found in
     omega (arith, low)
 
 pub store_free-requires-clause-ending : goal.store_free-requires-clause-ending

@@ -24,6 +24,6 @@ pub returns-clause-hand : goal.returns-clause-hand
 returns-clause-hand g c =
     let v = g.P.Port.value c.args.port.now in
     let at = c.kind_place-place.ensures ∙ ap (λ (n : Machine). number (sizes_of n) (Kind c.args.frame)) c.layout.ensures.layout in
-    let out = out_of_works v.post.machine v.post.seat v.holdings _ c.args.frame _ c.step.ensures.found in
+    let out = out_of_works v.post.machine v.post.vcpu v.holdings _ c.args.frame _ c.step.ensures.found in
     dead_hand c.args.frame c.step.result c.requires.may.work v.holdings _ _ out c.requires.may.here
     (store_done v _ _ _ c.args.frame _ c.step.result c.requires.may.work (dead_kind c.args.kind c.args.unflushed c.args.stamp) Dead c.store.ensures c.dead_word-new.ensures at c.requires.frame c.requires.running c.requires.may.here (dead_is c.args.kind c.args.unflushed c.args.stamp c.requires.typed c.requires.clock) (dead_fits v.post.machine c.args.kind c.args.unflushed c.args.stamp) refl (c.requires.may.may) c.step.ensures.value)

@@ -28,6 +28,6 @@ returns-clause-hand g c =
     let v = g.P.Port.value c.args.port.now in
     let at = c.kind_place-place.ensures ∙ ap (λ (n : Machine). number (sizes_of n) (Kind c.args.frame)) c.layout.ensures.layout in
     let some = (subst IsMachine c.layout.ensures.layout c.layout.ensures.machine).some_count in
-    let out = out_of_works v.post.machine v.post.seat v.holdings _ c.args.frame _ c.step.ensures.found in
+    let out = out_of_works v.post.machine v.post.vcpu v.holdings _ c.args.frame _ c.step.ensures.found in
     live_hand c.args.frame c.step.result v.holdings _ _ out
     (store_done v _ _ _ c.args.frame _ c.step.result c.requires.work.work (live_kind kinds.Writable 1) Live c.store.ensures c.live_word-new.ensures at c.requires.frame c.requires.running c.requires.work.here writable_is (live_fits v.post.machine kinds.Writable some) refl (may_be_live v.post.machine c.args.frame v.holdings c.requires.work c.requires.held) c.step.ensures.value)

@@ -17,7 +17,7 @@ raise_refs-requires-clause-owner g c =
     let frames = ap (λ (n : Machine). n.frames) (c.behind-port.view_is ∙ c.layout.ensures.layout) in
     let frame = subst (λ k. c.args.f < k) (c.from-frames.ensures ∙ frames) c.if-f-frames.false in
     subst (λ (q : Post). c.args.owner < length q.machine.page_limit) (sym c.look_refs-found.ensures.post)
-    (domain_known v.post.machine v.post.seat v.holdings c.args.f c.look_refs-found.result c.args.owner c.in-Ok.field-0.count c.in-Ok.field-0.allocated frame c.look_refs-found.ensures.found c.in-Ok.ensures.reads)
+    (domain_known v.post.machine v.post.vcpu v.holdings c.args.f c.look_refs-found.result c.args.owner c.in-Ok.field-0.count c.in-Ok.field-0.allocated frame c.look_refs-found.ensures.found c.in-Ok.ensures.reads)
 
 pub returns-in-Err-clause-piece : goal.returns-in-Err-clause-piece
 returns-in-Err-clause-piece g c =
@@ -34,7 +34,7 @@ returns-in-Ok-raise_refs-clause-piece g c =
 pub returns-in-Ok-raise_refs-clause-spares : goal.returns-in-Ok-raise_refs-clause-spares
 returns-in-Ok-raise_refs-clause-spares g c =
     let v = g.P.Port.value c.args.port.now in
-    taken_spares v.post.machine v.post.seat v.holdings _ _ c.args.f c.look_refs-found.result c.args.owner c.look_refs-found.ensures.found c.look_refs-found.ensures.hand c.in-Ok-raise_refs.ensures.hand
+    taken_spares v.post.machine v.post.vcpu v.holdings _ _ c.args.f c.look_refs-found.result c.args.owner c.look_refs-found.ensures.found c.look_refs-found.ensures.hand c.in-Ok-raise_refs.ensures.hand
 
 pub returns-in-Ok-raise_refs-clause-told : goal.returns-in-Ok-raise_refs-clause-told
 returns-in-Ok-raise_refs-clause-told g c tells =

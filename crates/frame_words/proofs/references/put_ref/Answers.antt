@@ -8,7 +8,7 @@ pub free_frame-requires-clause-domain : goal.free_frame-requires-clause-domain
 free_frame-requires-clause-domain g c =
     let v = g.P.Port.value c.args.port.now in
     subst (λ (q : Post). c.in-Some.owner < length q.machine.page_limit) (sym c.lower_refs-found.ensures.post)
-    (domain_known v.post.machine v.post.seat v.holdings c.args.frame c.lower_refs-found.result c.in-Some.owner 1 c.in-Some.ensures.0 c.requires.frame c.lower_refs-found.ensures.found c.in-Some.ensures.1)
+    (domain_known v.post.machine v.post.vcpu v.holdings c.args.frame c.lower_refs-found.result c.in-Some.owner 1 c.in-Some.ensures.0 c.requires.frame c.lower_refs-found.ensures.found c.in-Some.ensures.1)
 
 pub free_frame-requires-clause-ending : goal.free_frame-requires-clause-ending
 free_frame-requires-clause-ending g c =
@@ -18,13 +18,13 @@ pub free_frame-requires-clause-lowered : goal.free_frame-requires-clause-lowered
 free_frame-requires-clause-lowered g c =
     let v = g.P.Port.value c.args.port.now in
     gave_lowered c.args.frame c.lower_refs-found.result v.holdings _ c.lower_refs-found.ensures.hand
-    (last_lowered v.post.machine v.post.seat c.args.frame c.lower_refs-found.result c.in-Some.owner c.in-Some.ensures.0 v.holdings c.lower_refs-found.ensures.found c.in-Some.ensures.1)
+    (last_lowered v.post.machine v.post.vcpu c.args.frame c.lower_refs-found.result c.in-Some.owner c.in-Some.ensures.0 v.holdings c.lower_refs-found.ensures.found c.in-Some.ensures.1)
 
 pub free_frame-requires-clause-unclaimed : goal.free_frame-requires-clause-unclaimed
 free_frame-requires-clause-unclaimed g c =
     let v = g.P.Port.value c.args.port.now in
     gave_unclaimed c.args.frame c.lower_refs-found.result v.holdings _ c.lower_refs-found.ensures.hand
-    (last_unclaimed v.post.machine v.post.seat c.args.frame c.lower_refs-found.result c.in-Some.owner c.in-Some.ensures.0 v.holdings c.lower_refs-found.ensures.found c.in-Some.ensures.1)
+    (last_unclaimed v.post.machine v.post.vcpu c.args.frame c.lower_refs-found.result c.in-Some.owner c.in-Some.ensures.0 v.holdings c.lower_refs-found.ensures.found c.in-Some.ensures.1)
 
 pub returns-in-Some-clause-puts : goal.returns-in-Some-clause-puts
 returns-in-Some-clause-puts g c =

@@ -21,7 +21,7 @@ pub returns-clause-found : goal.returns-clause-found
 returns-clause-found g c =
     let v = g.P.Port.value c.args.port.now in
     let at = clock_number (sizes_of v.post.machine) in
-    subst (λ p. Finds v.post.machine v.post.seat v.holdings p c.step.result)
+    subst (λ p. Finds v.post.machine v.post.vcpu v.holdings p c.step.result)
     (here v v c.look.result _ 0 Clock _ c.look.ensures at (clock_there (sizes_of v.post.machine)) refl) c.step.ensures.found
 
 pub returns-clause-hand : goal.returns-clause-hand

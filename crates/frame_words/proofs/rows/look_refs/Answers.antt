@@ -22,7 +22,7 @@ pub returns-clause-found : goal.returns-clause-found
 returns-clause-found g c =
     let v = g.P.Port.value c.args.port.now in
     let at = c.refs_place-place.ensures ∙ ap (λ (n : Machine). number (sizes_of n) (Refs c.args.frame)) c.layout.ensures.layout in
-    subst (λ p. Finds v.post.machine v.post.seat v.holdings p c.step.result)
+    subst (λ p. Finds v.post.machine v.post.vcpu v.holdings p c.step.result)
     (here v v c.look.result _ 0 _ _ c.look.ensures at (refs_there (sizes_of v.post.machine) c.args.frame c.requires) refl) c.step.ensures.found
 
 pub returns-clause-hand : goal.returns-clause-hand

@@ -12,7 +12,7 @@ step-requires g c =
     let v = g.P.Port.value c.args.port.now in
     let i = c.m2p_place-place.ensures ∙ ap (λ (n : Machine). number (sizes_of n) (M2p c.args.frame)) c.layout.ensures.layout in
     let at = placed v.post.machine _ (M2p c.args.frame) i (m2p_there (sizes_of v.post.machine) c.args.frame c.requires.frame) in
-    map_is_legal v.post.machine v.post.seat v.holdings _ c.args.frame c.args.gpfn at c.requires.frame c.requires.running c.ranges.gpfn.fits c.requires.held
+    map_is_legal v.post.machine v.post.vcpu v.holdings _ c.args.frame c.args.gpfn at c.requires.frame c.requires.running c.ranges.gpfn.fits c.requires.held
 
 pub returns-clause-made : goal.returns-clause-made
 returns-clause-made g c =
@@ -20,7 +20,7 @@ returns-clause-made g c =
     let i = c.m2p_place-place.ensures ∙ ap (λ (n : Machine). number (sizes_of n) (M2p c.args.frame)) c.layout.ensures.layout in
     let at = placed v.post.machine _ (M2p c.args.frame) i (m2p_there (sizes_of v.post.machine) c.args.frame c.requires.frame) in
     makes v _ _ (M2p c.args.frame) (Store c.args.gpfn) None _ at refl refl
-    (map_is_legal v.post.machine v.post.seat v.holdings _ c.args.frame c.args.gpfn at c.requires.frame c.requires.running c.ranges.gpfn.fits c.requires.held) c.step.ensures.told c.step.ensures.value
+    (map_is_legal v.post.machine v.post.vcpu v.holdings _ c.args.frame c.args.gpfn at c.requires.frame c.requires.running c.ranges.gpfn.fits c.requires.held) c.step.ensures.told c.step.ensures.value
 
 pub returns-clause-told : goal.returns-clause-told
 returns-clause-told g c = makes_elsewhere _ _ _ _ _ _ (returns-clause-made g c) (Refs c.args.frame) (λ e. cc)

@@ -9,24 +9,24 @@ use Rattle.frame_words.proofs.stopping.stop_vcpu.Goals as goal
 pub step-requires : goal.step-requires
 step-requires g c =
     let v = g.P.Port.value c.args.port.now in
-    let real = subst (λ k. k < length v.post.machine.vcpu_domain) c.seat-seat.ensures.seat c.seat-seat.ensures.real in
-    let i = c.vcpu_place-place.ensures ∙ ap (λ (n : Machine). number (sizes_of n) (run_of c.seat-seat.result)) c.layout.ensures.layout ∙ ap (λ s. number (sizes_of v.post.machine) (run_of s)) c.seat-seat.ensures.seat in
-    let at = placed v.post.machine _ (run_of v.post.seat) i (own_there (sizes_of v.post.machine) v.post.seat 6 real (lit< tt)) in
-    stop_is_legal v.post.machine v.post.seat v.holdings _ at real c.requires.empty c.requires.landed
+    let real = subst (λ k. k < length v.post.machine.vcpu_domain) c.vcpu-vcpu.ensures.vcpu c.vcpu-vcpu.ensures.real in
+    let i = c.vcpu_place-place.ensures ∙ ap (λ (n : Machine). number (sizes_of n) (run_of c.vcpu-vcpu.result)) c.layout.ensures.layout ∙ ap (λ s. number (sizes_of v.post.machine) (run_of s)) c.vcpu-vcpu.ensures.vcpu in
+    let at = placed v.post.machine _ (run_of v.post.vcpu) i (own_there (sizes_of v.post.machine) v.post.vcpu 6 real (lit< tt)) in
+    stop_is_legal v.post.machine v.post.vcpu v.holdings _ at real c.requires.empty c.requires.landed
 
 pub returns-clause-made : goal.returns-clause-made
 returns-clause-made g c =
     let v = g.P.Port.value c.args.port.now in
-    let real = subst (λ k. k < length v.post.machine.vcpu_domain) c.seat-seat.ensures.seat c.seat-seat.ensures.real in
-    let i = c.vcpu_place-place.ensures ∙ ap (λ (n : Machine). number (sizes_of n) (run_of c.seat-seat.result)) c.layout.ensures.layout ∙ ap (λ s. number (sizes_of v.post.machine) (run_of s)) c.seat-seat.ensures.seat in
-    let at = placed v.post.machine _ (run_of v.post.seat) i (own_there (sizes_of v.post.machine) v.post.seat 6 real (lit< tt)) in
-    makes v _ _ (run_of v.post.seat) (Store 1) None _ at refl refl
-    (stop_is_legal v.post.machine v.post.seat v.holdings _ at real c.requires.empty c.requires.landed) c.step.ensures.told c.step.ensures.value
+    let real = subst (λ k. k < length v.post.machine.vcpu_domain) c.vcpu-vcpu.ensures.vcpu c.vcpu-vcpu.ensures.real in
+    let i = c.vcpu_place-place.ensures ∙ ap (λ (n : Machine). number (sizes_of n) (run_of c.vcpu-vcpu.result)) c.layout.ensures.layout ∙ ap (λ s. number (sizes_of v.post.machine) (run_of s)) c.vcpu-vcpu.ensures.vcpu in
+    let at = placed v.post.machine _ (run_of v.post.vcpu) i (own_there (sizes_of v.post.machine) v.post.vcpu 6 real (lit< tt)) in
+    makes v _ _ (run_of v.post.vcpu) (Store 1) None _ at refl refl
+    (stop_is_legal v.post.machine v.post.vcpu v.holdings _ at real c.requires.empty c.requires.landed) c.step.ensures.told c.step.ensures.value
 
 pub returns-clause-hand : goal.returns-clause-hand
 returns-clause-hand g c =
     let v = g.P.Port.value c.args.port.now in
-    let real = subst (λ k. k < length v.post.machine.vcpu_domain) c.seat-seat.ensures.seat c.seat-seat.ensures.real in
-    let i = c.vcpu_place-place.ensures ∙ ap (λ (n : Machine). number (sizes_of n) (run_of c.seat-seat.result)) c.layout.ensures.layout ∙ ap (λ s. number (sizes_of v.post.machine) (run_of s)) c.seat-seat.ensures.seat in
-    let at = placed v.post.machine _ (run_of v.post.seat) i (own_there (sizes_of v.post.machine) v.post.seat 6 real (lit< tt)) in
-    stopped_hand v.post.machine v.post.seat v.holdings _ _ c.step.result (hand_after v _ _ (run_of v.post.seat) c.step.result at c.step.ensures.value)
+    let real = subst (λ k. k < length v.post.machine.vcpu_domain) c.vcpu-vcpu.ensures.vcpu c.vcpu-vcpu.ensures.real in
+    let i = c.vcpu_place-place.ensures ∙ ap (λ (n : Machine). number (sizes_of n) (run_of c.vcpu-vcpu.result)) c.layout.ensures.layout ∙ ap (λ s. number (sizes_of v.post.machine) (run_of s)) c.vcpu-vcpu.ensures.vcpu in
+    let at = placed v.post.machine _ (run_of v.post.vcpu) i (own_there (sizes_of v.post.machine) v.post.vcpu 6 real (lit< tt)) in
+    stopped_hand v.post.machine v.post.vcpu v.holdings _ _ c.step.result (hand_after v _ _ (run_of v.post.vcpu) c.step.result at c.step.ensures.value)

@@ -9,7 +9,7 @@ pub returns-in-None-clause-turn : goal.returns-in-None-clause-turn
 returns-in-None-clause-turn g c =
     let runs = sym (ap (λ (x : Processing). x.retired) c.cpu.view_is) ∙ c.if-cpu.false in
     turn_by _ _ _ _ _ runs
-    (turn_retires _ _ _ _ _ _ _ c.begin.ensures.wakes c.begin.ensures.post c.requires.of.seat c.in-None.ensures.worked c.retire.ensures.stop)
+    (turn_retires _ _ _ _ _ _ _ c.begin.ensures.wakes c.begin.ensures.post c.requires.of.vcpu c.in-None.ensures.worked c.retire.ensures.stop)
 
 pub returns-in-Some-clause-turn : goal.returns-in-Some-clause-turn
 returns-in-Some-clause-turn g c =
@@ -18,7 +18,7 @@ returns-in-Some-clause-turn g c =
     let runs = sym (ap (λ (x : Processing). x.retired) c.cpu.view_is) ∙ c.if-cpu.false in
     subst (λ end. TurnBy c.args.cpu.now.retired c.args.cpu.now c.finish.new.cpu end v w) (sym c.finish.ensures.end)
     (turn_by _ _ _ _ _ runs
-    (turn_goes_on _ _ _ _ _ _ _ _ c.begin.ensures.wakes c.begin.ensures.post c.in-Some.ensures.post c.requires.of.seat c.in-Some.ensures.worked c.finish.ensures.cpu c.finish.ensures.finishes))
+    (turn_goes_on _ _ _ _ _ _ _ _ c.begin.ensures.wakes c.begin.ensures.post c.in-Some.ensures.post c.requires.of.vcpu c.in-Some.ensures.worked c.finish.ensures.cpu c.finish.ensures.finishes))
 
 pub finish-requires-clause-more : goal.finish-requires-clause-more
 finish-requires-clause-more g c =

@@ -11,12 +11,12 @@ use Rattle.xp_machine.proofs.execute.execute.Goals as goal
 pub run_all-board-requires-clause-known : goal.run_all-board-requires-clause-known
 run_all-board-requires-clause-known g c =
     let t = c.args.trace in
-    let all = sym (length-map c.in_ok-seats.seats.items (λ s. s.cpu)) ∙ ap length c.in_ok-seats.ensures.0 ∙ length_first t.layout t.scripts ∙ c.requires.well.scripts in
+    let all = sym (length-map c.in_ok-runners.runners.items (λ s. s.cpu)) ∙ ap length c.in_ok-runners.ensures.0 ∙ length_first t.layout t.scripts ∙ c.requires.well.scripts in
     rw c.as_slice.ensures (subst (λ k. All (λ (r : TurnRun). r.vcpu < k) t.turns) (sym all) c.requires.well.turns)
 
 pub run_all-board-requires-clause-ready : goal.run_all-board-requires-clause-ready
 run_all-board-requires-clause-ready g c =
-    ready_board c.args.trace c.in_ok-board.board c.in_ok-words.words.items _ c.in_ok-words.ensures c.in_ok-board.ensures.0 c.in_ok-board.ensures.1 c.requires.well.scripts c.requires.well.few_ops c.in_ok-seats.ensures.0
+    ready_board c.args.trace c.in_ok-board.board c.in_ok-words.words.items _ c.in_ok-words.ensures c.in_ok-board.ensures.0 c.in_ok-board.ensures.1 c.requires.well.scripts c.requires.well.few_ops c.in_ok-runners.ensures.0
 
 pub returns : goal.returns
 returns g c =
@@ -25,6 +25,6 @@ returns g c =
     let sound = c.opening_words_are_sound.ensures c.args.trace c.in_ok-words.words.items c.requires.well c.in_ok-words.ensures in
     if_ok c.closing.result (λ v. Closes b2.machine b2.story.opening (stage b2.story closed) v.items) (λ v. Ran c.args.trace _ v.items)
     (λ v closes. ran c.a_run_leaves_it_safe.ensures c.rested_words_are_sound.ensures c.args.trace c.in_ok-board.board b2 c.in_ok-words.words.items _ closed _ _ (order c.as_slice.result.now) v.items
-    sound c.in_ok-words.ensures c.in_ok-board.ensures.0 c.in_ok-board.ensures.1 c.run_all-board.ensures.machine c.run_all-board.ensures.opening c.run_all-board.ensures.ready c.in_ok-seats.ensures.0
-    c.in_ok-seats.ensures.1 (ap order c.as_slice.ensures) c.run_all-board.ensures.works closes)
+    sound c.in_ok-words.ensures c.in_ok-board.ensures.0 c.in_ok-board.ensures.1 c.run_all-board.ensures.machine c.run_all-board.ensures.opening c.run_all-board.ensures.ready c.in_ok-runners.ensures.0
+    c.in_ok-runners.ensures.1 (ap order c.as_slice.ensures) c.run_all-board.ensures.works closes)
     c.closing.ensures

@@ -9,6 +9,6 @@ abbrev pub invariant-stops : goal.invariant-stops
 invariant-stops g l = record {
   machine : l.board.machine ≡ l.initial.board.machine;
   opening : l.board.story.opening ≡ l.initial.board.story.opening;
-  stops : Stops l.initial.board.machine (range_with_len 0 l.vcpu) (stage_of l.initial.board l.initial.seats) (stage_of l.board l.seats);
-  ready : Ready l.board (cpus_of l.seats);
+  stops : Stops l.initial.board.machine (range_with_len 0 l.vcpu) (stage_of l.initial.board l.initial.runners) (stage_of l.board l.runners);
+  ready : Ready l.board (cpus_of l.runners);
 }

@@ -10,7 +10,7 @@ abbrev pub invariant-turns : goal.invariant-turns
 invariant-turns g l = record {
   machine : l.board.machine ≡ l.initial.board.machine;
   opening : l.board.story.opening ≡ l.initial.board.story.opening;
-  turns : Turns l.initial.board.machine (calms_of (λ x. (goal.Preempt-dyn g (x.vtable, x.value)).calm x.value) l.initial.seats) (replicate l._turn l.vcpu) (stage_of l.initial.board l.initial.seats) (stage_of l.board l.seats);
-  ready : Ready l.board (cpus_of l.seats);
-  calm : StayCalm (calms_of (λ x. (goal.Preempt-dyn g (x.vtable, x.value)).calm x.value) l.initial.seats) (calms_of (λ x. (goal.Preempt-dyn g (x.vtable, x.value)).calm x.value) l.seats);
+  turns : Turns l.initial.board.machine (calms_of (λ x. (goal.Preempt-dyn g (x.vtable, x.value)).calm x.value) l.initial.runners) (replicate l._turn l.vcpu) (stage_of l.initial.board l.initial.runners) (stage_of l.board l.runners);
+  ready : Ready l.board (cpus_of l.runners);
+  calm : StayCalm (calms_of (λ x. (goal.Preempt-dyn g (x.vtable, x.value)).calm x.value) l.initial.runners) (calms_of (λ x. (goal.Preempt-dyn g (x.vtable, x.value)).calm x.value) l.runners);
 }

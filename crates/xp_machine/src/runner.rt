@@ -1,7 +1,7 @@
 ghost use Rattle.std.specs.Prelude.{◌≡◌, ◌<◌, ◌^◌, true, false, not, is_some, length};
 ghost use Rattle.vcpu_turn.specs.Turning.{IsOf, StopsBy};
 ghost use Rattle.xp_machine.specs.Gates.{calm_in};
-ghost use Rattle.xp_machine.specs.Seats.{TakesTurn};
+ghost use Rattle.xp_machine.specs.Runners.{TakesTurn};
 
 use vcpu_turn::{Cpu, stop, turn};
 use xp_board::Port;
@@ -9,20 +9,20 @@ use xp_preempt::Preempt;
 
 /// A virtual processor, and the gate that it asks for as long as it makes turns.
 #[derive(Drop)]
-pub struct Seat {
+pub struct Runner {
     pub cpu: Cpu,
     gate: Option<Box<dyn Preempt + Send>>,
     ghost paired: { is_some gate ≡ not cpu.retired },
 }
 
-impl Seat {
+impl Runner {
     /// A vCPU that makes turns yet, with the gate that is its own from now on.
-    pub fn new(cpu: Cpu, gate: Box<dyn Preempt + Send>) -> Seat
+    pub fn new(cpu: Cpu, gate: Box<dyn Preempt + Send>) -> Runner
         requires { cpu.retired ≡ false }
         ensures cpu { result.cpu ≡ cpu }
         ensures calm { calm_in calm result.gate ≡ calm gate }
     {
-        Seat {
+        Runner {
             cpu,
             gate: Some(gate),
         }

@@ -8,24 +8,24 @@ use Rattle.std.proofs.lemmas.Iterator.Consumers.{YieldsList-at, YieldsList-turn,
 use Rattle.std.proofs.lemmas.List.{map-id}
 use Rattle.xp_machine.specs.Cpus.{first_cpu}
 use Rattle.xp_machine.proofs.Starting.{cpus_first, calms_first, number_below}
-use Rattle.xp_machine.proofs.execute.first_seats.Goals as goal
+use Rattle.xp_machine.proofs.execute.first_runners.Goals as goal
 
 pub new-requires : goal.new-requires
 new-requires g c =
     let numbers = YieldsList-from_zip (YieldsList-at c.zip.ensures.first (YieldsList-from_range 0 c.vcpus.result c.vcpus.result refl (omega arith))) (YieldsList-from_vec {s = zip_second c.zip.result} c.into_items.result.items (search rules) (search rules)) in
     let road = YieldsList-from_zip (YieldsList-at c.zip-vcpu-items.ensures.first numbers) (YieldsList-from_vec {s = zip_second c.zip-vcpu-items.result} c.args.gates.items (search rules) (search rules)) in
-    let turn = YieldsList-turn (YieldsList-at c.into_iter-vcpu-iterator.ensures.into_iter_gives road) c.seats.yielded c.seats.vcpu-iterator c.seats.yielded_by c.next.result c.next.new.self ((c.in-Some.vcpu, c.in-Some.script), c.in-Some.gate) c.in-Some.is c.next.ensures.steps in
+    let turn = YieldsList-turn (YieldsList-at c.into_iter-vcpu-iterator.ensures.into_iter_gives road) c.runners.yielded c.runners.vcpu-iterator c.runners.yielded_by c.next.result c.next.new.self ((c.in-Some.vcpu, c.in-Some.script), c.in-Some.gate) c.in-Some.is c.next.ensures.steps in
     number_below c.vcpus.result _ c.into_items.result.items c.args.gates.items _ _ _ turn.0 (ap (λ p. p.0.0) turn.1) c.vcpus.ensures.vcpus
 
 pub returns : goal.returns
 returns g c =
     let numbers = YieldsList-from_zip (YieldsList-at c.zip.ensures.first (YieldsList-from_range 0 c.vcpus.result c.vcpus.result refl (omega arith))) (YieldsList-from_vec {s = zip_second c.zip.result} c.into_items.result.items (search rules) (search rules)) in
     let road = YieldsList-from_zip (YieldsList-at c.zip-vcpu-items.ensures.first numbers) (YieldsList-from_vec {s = zip_second c.zip-vcpu-items.result} c.args.gates.items (search rules) (search rules)) in
-    let end = YieldsList-end (YieldsList-at c.into_iter-vcpu-iterator.ensures.into_iter_gives road) c.seats.yielded c.seats.vcpu-iterator c.seats.yielded_by c.next.result c.next.new.self c.in-None.is c.next.ensures.steps in
-    let all = sym (map-id c.seats.yielded) ∙ end.0 in
+    let end = YieldsList-end (YieldsList-at c.into_iter-vcpu-iterator.ensures.into_iter_gives road) c.runners.yielded c.runners.vcpu-iterator c.runners.yielded_by c.next.result c.next.new.self c.in-None.is c.next.ensures.steps in
+    let all = sym (map-id c.runners.yielded) ∙ end.0 in
     let few : length c.args.scripts ≤ length c.args.gates.items = search rules in (
-      c.seats.invariant.cpus ∙ ap (map (λ p. first_cpu c.args.layout.now p.0)) all
+      c.runners.invariant.cpus ∙ ap (map (λ p. first_cpu c.args.layout.now p.0)) all
           ∙ ap (λ (scripts : List (List Op)). map (λ p. first_cpu c.args.layout.now p.0) (zip (zip (range_with_len 0 c.vcpus.result) scripts) c.args.gates.items)) c.into_items.ensures
           ∙ cpus_first c.args.layout.now c.vcpus.result c.args.scripts c.args.gates.items (c.vcpus.ensures.vcpus ∙ sym c.requires.scripts) few,
-      calms_first _ (zip (range_with_len 0 c.vcpus.result) c.into_items.result.items) c.args.gates.items _ (c.seats.invariant.calms ∙ ap (map (λ p. (goal.Preempt-dyn g (p.1.vtable, p.1.value)).calm p.1.value)) all),
+      calms_first _ (zip (range_with_len 0 c.vcpus.result) c.into_items.result.items) c.args.gates.items _ (c.runners.invariant.calms ∙ ap (map (λ p. (goal.Preempt-dyn g (p.1.vtable, p.1.value)).calm p.1.value)) all),
     )
