@@ -1,18 +1,18 @@
--- The last recorded entry of a table in work, where nothing of it is open: its frame is live.
+-- The last recorded entry of a table in work leads where the table may; where nothing of it is open, its frame is live.
 use Rattle.std.proofs.Common.{◌≡◌, ℕ, ◌+◌, ◌<◌, Some, None, sym, ap, ◌∙◌, inl, inr, arith}
 use Rattle.xp_words.specs.declared.kind.PageType.{PageType}
 use Rattle.xp_words.specs.declared.entry.Demand.TheVariants.{Typed}
 use Rattle.xp_words.specs.Entries.{demand_at}
 use Rattle.xp_words.specs.KindWords.{kind_fields}
 use Rattle.xp_words.specs.Machine.{Machine}
-use Rattle.xp_words.specs.Places.{Place, sizes_of}
+use Rattle.xp_words.specs.Places.{Place, Refs, sizes_of}
 use Rattle.xp_board.specs.declared.holdings.Work.{Work}
 use Rattle.xp_board.specs.declared.holdings.Holdings.{Holdings}
 use Rattle.xp_board.specs.Hands.{work_on}
-use Rattle.xp_board.specs.Readings.{kind_at}
+use Rattle.xp_board.specs.Readings.{kind_at, owner_of}
 use Rattle.xp_board.specs.Marks.{MayShed, demand_seen, seen_word}
 use Rattle.xp_board.specs.Recorded.{held, entry_demand}
-use Rattle.xp_board.specs.Valid.{IsUnsettled}
+use Rattle.xp_board.specs.Valid.{IsUnsettled, EntryPermitted}
 use Rattle.xp_board.specs.Sound.{Sound}
 use Rattle.board_lemmas.proofs.HandLists.{first-some}
 use Rattle.board_lemmas.proofs.WorkFacts.{Works, works_facts, work_held, loaded_asks}
@@ -37,10 +37,19 @@ module _ (n : Machine) (s : ℕ) (m : Place → ℕ) (h : ℕ → Holdings) (l :
       let stands : e.unsettled ≡ Some u.unsettled = sym (ap (λ y. y.unsettled) work) ∙ kept in
       cc
 
+  inside : upto < held (sizes_of n) m h f
+  inside = let all = held_is in omega arith
+
+  asked_there : (g : ℕ) (t : PageType) → demand_seen upto e ≡ Typed g t → entry_demand m f upto ≡ Typed g t
+  asked_there g t seen = sym (loaded_asks n m h s f e k upto may.word may.table may.seen) ∙ sym (ap (λ o. demand_at (kind_fields e.word).kind upto (seen_word o)) may.seen) ∙ seen
+
+  -- the owner of its frame is one that the table's owner may map, by the table's level
+  pub shed_permitted : (g : ℕ) (t : PageType) → demand_seen upto e ≡ Typed g t → EntryPermitted m (kind_at m f).kind (owner_of (m (Refs f))) g
+  shed_permitted g t seen = sound.permitted.typed f upto g t inside (asked_there g t seen)
+
   pub shed_live : (g : ℕ) (t : PageType) → e.unsettled ≡ None → demand_seen upto e ≡ Typed g t → IsLiveAs m g t
   shed_live g t none seen =
-      let asked : entry_demand m f upto ≡ Typed g t = sym (loaded_asks n m h s f e k upto may.word may.table may.seen) ∙ sym (ap (λ o. demand_at (kind_fields e.word).kind upto (seen_word o)) may.seen) ∙ seen in
-      let all = held_is in let inside : upto < held (sizes_of n) m h f = omega arith in
+      let asked = asked_there g t seen in
       let kind = sound.counts.kinds.entries f upto g t inside asked in
       elim (sound.valid.live f upto g t inside asked) [
         | inl live ↦ (live, kind)

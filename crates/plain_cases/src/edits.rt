@@ -147,13 +147,7 @@ fn edits_words(state: &mut State, own: u16, name: &str, edit: &Said) -> bool {
         // A page is charged and its credit in hand.
         ("Charged", None) => state.pages[0] = 4,
         // The vCPU is off, and has not found it.
-        ("Off", None) => state.put_word(
-            Place::Vcpu {
-                vcpu: own,
-                word: 6,
-            },
-            2,
-        ),
+        ("Off", None) => state.put_word(Place::Vcpu { vcpu: own, word: 6 }, 2),
         ("Tower", None) => put_tower(state),
         _ => return false,
     }

@@ -57,14 +57,7 @@ fn allows(state: &State, hand: &Hand, own: u16, domain: u16, step: &Step) -> boo
     }
 }
 
-fn allows_of_vcpu(
-    state: &State,
-    hand: &Hand,
-    own: u16,
-    step: &Step,
-    vcpu: u16,
-    word: u64,
-) -> bool {
+fn allows_of_vcpu(state: &State, hand: &Hand, own: u16, step: &Step, vcpu: u16, word: u64) -> bool {
     let own = vcpu == own;
     match step.kind {
         StepKind::Context => contexts::allows(state, hand, own, vcpu, word, step.act),

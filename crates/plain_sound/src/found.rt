@@ -266,10 +266,7 @@ fn privileges_found(state: &State, hand: &Hand, domain: u16) -> bool {
 
 /// The own run word; and the other own words while the vCPU is not stopped, but for those of flushes.
 fn own_found(state: &State, hand: &Hand, own: u16) -> bool {
-    let run = state.word(Place::Vcpu {
-        vcpu: own,
-        word: 6,
-    });
+    let run = state.word(Place::Vcpu { vcpu: own, word: 6 });
     let mut found = hand.run.unwrap_or(run) == run;
     for word in 0..38_u64 {
         let place = Place::Vcpu { vcpu: own, word };

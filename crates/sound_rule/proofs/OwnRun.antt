@@ -76,20 +76,20 @@ one_more : (n : Machine) (s t : ℕ) (x : Step) (c b : runs.State) → SoundStat
 one_more n s t x c b sound_c sound_b real move none =
     elim (cases_eq s t) [
       | inr off ↦ (
-          ap (λ (u : Holdings). u.run) (sym (ap (λ (a : runs.State). hand_of a.hands s) move.next_is ∙ get_or-set_other c.hands t s _ empty off)) ∙ none,
-          ap (λ (a : runs.State). memory (sizes_of n) a.words (run_of s)) move.next_is
-          ∙ others_run n t s (hand_of c.hands t) c.words (record { step = x; found = word_at n c (place_of n x) }) off move.legal sound_c.all_words refl,
-        )
+        ap (λ (u : Holdings). u.run) (sym (ap (λ (a : runs.State). hand_of a.hands s) move.next_is ∙ get_or-set_other c.hands t s _ empty off)) ∙ none,
+        ap (λ (a : runs.State). memory (sizes_of n) a.words (run_of s)) move.next_is
+            ∙ others_run n t s (hand_of c.hands t) c.words (record { step = x; found = word_at n c (place_of n x) }) off move.legal sound_c.all_words refl,
+      )
       | inl at ↦
           let w = word_at n c (place_of n x) in
           let there : t < length c.hands = subst (λ k. t < k) (sym sound_c.all_hands) move.vcpu in
           let hand : hand_of b.hands s ≡ after n s (hand_of c.hands s) x w = ap (λ (a : runs.State). hand_of a.hands s) move.next_is
-              ∙ subst (λ i. hand_of (slice_set c.hands t (after n t (hand_of c.hands t) x w)) i ≡ after n i (hand_of c.hands i) x w) (sym at) (get_or-set_same c.hands t (after n t (hand_of c.hands t) x w) empty there) in
+          ∙ subst (λ i. hand_of (slice_set c.hands t (after n t (hand_of c.hands t) x w)) i ≡ after n i (hand_of c.hands i) x w) (sym at) (get_or-set_same c.hands t (after n t (hand_of c.hands t) x w) empty there) in
           let o = own_step n s (hand_of c.hands s) (hand_of b.hands s) x w hand (sound_b.sound.formed s real).own.run (sound_c.sound.formed s real).own.run none in (
             o.0,
             ap (λ (a : runs.State). memory (sizes_of n) a.words (run_of s)) move.next_is
-            ∙ ap (λ i. memory (sizes_of n) (set c.words i (left_by x.act w)) (run_of s)) (sym (place_number (sizes_of n) x.place move.legal.place))
-            ∙ memory_other (sizes_of n) c.words (place_of n x) (run_of s) (left_by x.act w) move.legal.place (λ e. o.1 (sym e)),
+                ∙ ap (λ i. memory (sizes_of n) (set c.words i (left_by x.act w)) (run_of s)) (sym (place_number (sizes_of n) x.place move.legal.place))
+                ∙ memory_other (sizes_of n) c.words (place_of n x) (run_of s) (left_by x.act w) move.legal.place (λ e. o.1 (sym e)),
           )
     ]
 

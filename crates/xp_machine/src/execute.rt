@@ -31,7 +31,10 @@ fn first_runners(
     ensures { IfOk result (λ v. (cpus_of v.items ≡ first_cpus layout.now scripts) × StayCalm (map calm gates.items) (calms_of calm v.items)) }
 {
     let mut runners = Vec::new(alloc);
-    'runners: for ((vcpu, script), gate) in (0..layout.vcpus()).zip(scripts.into_items()).zip(gates) {
+    'runners: for ((vcpu, script), gate) in (0..layout.vcpus())
+        .zip(scripts.into_items())
+        .zip(gates)
+    {
         let cpu = Cpu::new(alloc, layout, vcpu, script)?;
         runners.push(Runner::new(cpu, gate))?;
     }
