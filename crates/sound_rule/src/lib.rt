@@ -71,5 +71,5 @@ pub fn an_unseen_run_word_stays()
     ensures { (n : Machine) (a b : State) (log : List (ℕ × Step)) (s : ℕ) → SoundState n a.words a.hands → s < (sizes_of n).vcpus → Run n a log b → (hand_of b.hands s).run ≡ None →
         ((hand_of a.hands s).run ≡ None) × (memory (sizes_of n) b.words (run_of s) ≡ memory (sizes_of n) a.words (run_of s)) }
 {
-    every_run_stays_sound();
+    every_run_stays_sound()
 }
