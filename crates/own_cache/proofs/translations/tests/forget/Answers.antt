@@ -1,0 +1,18 @@
+use Rattle.std.proofs.Common.{◌≡◌, ◌<◌, ◌≤◌, ℕ, Option, Some, length, ap, sym, subst, ◌∙◌, arith}
+use Rattle.xp_words.specs.Machine.{Machine}
+use Rattle.xp_words.specs.Places.{Place, Vcpu, Cell, Clock, sizes_of}
+use Rattle.xp_board.specs.Spelling.{IsSpelling}
+use Rattle.xp_board.specs.declared.step.Act.TheVariants.{Cas}
+use Rattle.own_cache.specs.declared.flight.Flight.{Flight}
+use Rattle.own_cache.specs.Keeping.{AwaitsTouch}
+use Rattle.own_cache.specs.Translating.{Translating}
+use Rattle.own_cache.proofs.Telling.{Stands, cell_stands, vcpu_stands, clock_stands, cell_spelled, base_spelled, flushed_spelled, clock_spelled}
+use Rattle.own_cache.proofs.translations.tests.forget.Goals as goal
+
+pub hear-requires-clause-real : goal.hear-requires-clause-real
+hear-requires-clause-real c = let there = clock_stands (sizes_of c.args.layout.now) in there.real
+
+pub hear-requires-clause-small : goal.hear-requires-clause-small
+hear-requires-clause-small c =
+    let there = clock_stands (sizes_of c.args.layout.now) in
+    subst (λ (p : Place). IsSpelling c.args.layout.now p 5) (sym there.at) (clock_spelled c.args.layout.now)
