@@ -1,8 +1,8 @@
 -- Words at which the tests tell of steps: where each stands, and that a word may stand there.
-use Rattle.std.proofs.Common.{◌≡◌, ℕ, ◌^◌, ◌<◌, ◌≤◌, ◌==◌, List, length, Some, None, IsTrue, refl, sym, ap, ◌∙◌, subst, arith}
+use Rattle.std.proofs.Common.{◌≡◌, ℕ, ◌^◌, ◌<◌, ◌≤◌, IsTrue, refl, sym, ap, ◌∙◌, subst, arith}
 use Rattle.std.proofs.lemmas.Bool.Decides.{nat_tests}
 use Rattle.xp_words.specs.Machine.{Machine}
-use Rattle.xp_words.specs.Places.{Sizes, Place, Clock, Vcpu, Cell, number, place_at, is_place, sizes_of}
+use Rattle.xp_words.specs.Places.{Sizes, Place, Clock, Vcpu, Cell, number, place_at, is_place}
 use Rattle.xp_words.proofs.PlaceLaws.{place_back}
 use Rattle.xp_board.specs.Spelling.{IsSpelling}
 

@@ -10,8 +10,11 @@ use xp_words::{Domains, Layout, Limits, Masks};
 
 // The bits of entries: present, writable and for the user; accessed too; accessed and not writable; accessed and dirty.
 const FRESH: u64 = 7;
+
 const ACCESSED: u64 = 7 + 32;
+
 const FIXED: u64 = 5 + 32;
+
 const DIRTY: u64 = 7 + 32 + 64;
 
 fn machine() -> Layout

@@ -1,12 +1,8 @@
-use Rattle.std.proofs.Common.{◌≡◌, ◌<◌, ◌≤◌, ℕ, Option, Some, length, ap, sym, subst, ◌∙◌, arith}
+use Rattle.std.proofs.Common.{◌<◌, ◌≤◌, length, ap, sym, subst, arith}
 use Rattle.xp_words.specs.Machine.{Machine}
-use Rattle.xp_words.specs.Places.{Place, Vcpu, Cell, Clock, sizes_of}
+use Rattle.xp_words.specs.Places.{Place, Vcpu, sizes_of}
 use Rattle.xp_board.specs.Spelling.{IsSpelling}
-use Rattle.xp_board.specs.declared.step.Act.TheVariants.{Cas}
-use Rattle.own_cache.specs.declared.flight.Flight.{Flight}
-use Rattle.own_cache.specs.Keeping.{AwaitsTouch}
-use Rattle.own_cache.specs.Translating.{Translating}
-use Rattle.own_cache.proofs.Telling.{Stands, cell_stands, vcpu_stands, clock_stands, cell_spelled, base_spelled, flushed_spelled, clock_spelled}
+use Rattle.own_cache.proofs.Telling.{Stands, vcpu_stands, base_spelled}
 use Rattle.own_cache.proofs.translations.tests.begin.Goals as goal
 
 here : (c : goal.After-from) → Stands (sizes_of c.args.layout.now) c.vcpu_place.result (Vcpu 0 c.args.base)

@@ -1,12 +1,7 @@
-use Rattle.std.proofs.Common.{◌≡◌, ◌<◌, ◌≤◌, ℕ, Option, Some, length, ap, sym, subst, ◌∙◌, arith}
-use Rattle.xp_words.specs.Machine.{Machine}
-use Rattle.xp_words.specs.Places.{Place, Vcpu, Cell, Clock, sizes_of}
+use Rattle.std.proofs.Common.{sym, subst}
+use Rattle.xp_words.specs.Places.{Place, sizes_of}
 use Rattle.xp_board.specs.Spelling.{IsSpelling}
-use Rattle.xp_board.specs.declared.step.Act.TheVariants.{Cas}
-use Rattle.own_cache.specs.declared.flight.Flight.{Flight}
-use Rattle.own_cache.specs.Keeping.{AwaitsTouch}
-use Rattle.own_cache.specs.Translating.{Translating}
-use Rattle.own_cache.proofs.Telling.{Stands, cell_stands, vcpu_stands, clock_stands, cell_spelled, base_spelled, flushed_spelled, clock_spelled}
+use Rattle.own_cache.proofs.Telling.{clock_stands, clock_spelled}
 use Rattle.own_cache.proofs.translations.tests.forget.Goals as goal
 
 pub hear-requires-clause-real : goal.hear-requires-clause-real

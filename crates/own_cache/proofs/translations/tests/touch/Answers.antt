@@ -1,12 +1,11 @@
-use Rattle.std.proofs.Common.{Bool, true, false, not, refl, ◌≡◌, ◌<◌, ◌≤◌, ℕ, Option, Some, length, ap, sym, subst, ◌∙◌, arith}
+use Rattle.std.proofs.Common.{Bool, true, false, not, refl, ◌≡◌, ◌<◌, Some, ap, sym, subst, ◌∙◌}
 use Rattle.xp_words.specs.Machine.{Machine}
-use Rattle.xp_words.specs.Places.{Place, Vcpu, Cell, Clock, sizes_of}
+use Rattle.xp_words.specs.Places.{Place, Cell, sizes_of}
 use Rattle.xp_board.specs.Spelling.{IsSpelling}
 use Rattle.xp_board.specs.declared.step.Act.TheVariants.{Cas}
-use Rattle.own_cache.specs.declared.flight.Flight.{Flight}
 use Rattle.own_cache.specs.Keeping.{AwaitsTouch}
 use Rattle.own_cache.specs.Translating.{Translating}
-use Rattle.own_cache.proofs.Telling.{Stands, cell_stands, vcpu_stands, clock_stands, cell_spelled, base_spelled, flushed_spelled, clock_spelled}
+use Rattle.own_cache.proofs.Telling.{Stands, cell_stands, cell_spelled}
 use Rattle.own_cache.proofs.translations.tests.touch.Goals as goal
 
 here : (c : goal.After-hear-arg-1) → Stands (sizes_of c.args.layout.now) c.cell_place.result (Cell c.in-Some.flight.table c.args.index)
