@@ -133,13 +133,14 @@ fn frame_of(t: &Translations, page: u64) -> Option<u32> {
     t.cached(false, page).map(|item| item.frame)
 }
 
+// Entries 1, 2, 3 and 4 of the four tables are those of the address 0x80_8060_4000.
 #[test]
 fn a_walk_for_a_write_sets_its_bits_and_makes_an_item(rt: HostRuntime) -> Result<(), Fail> {
     let layout = machine();
     let mut t = Translations::new(rt.alloc())?;
     let first = entry(FRESH, 20);
     let last = entry(ACCESSED, 50);
-    let page = 0x0808_0604;
+    let page = 0x80_8060_4000 >> 12;
     assert!(rt; begin(&mut t, &layout, 1, true, 11));
     assert!(rt; load(&mut t, &layout, 10, 1, first));
     assert!(rt; touch(&mut t, &layout, 1, first, first));
