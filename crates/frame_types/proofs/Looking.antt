@@ -21,13 +21,13 @@ use Rattle.frame_words.specs.Pieces.{Makes}
 use Rattle.frame_words.proofs.Noting.{makes_since, makes_keeps}
 use Rattle.frame_words.proofs.Piecing.{made_of, makes_had}
 use Rattle.frame_words.proofs.Rests.{whole_self, whole_same}
-use Rattle.frame_words.proofs.Stepping.{own_there}
 use Rattle.frame_types.specs.declared.waiting.Awaited.{Awaited}
 use Rattle.frame_types.specs.Clearing.{Looks, Weighs}
 use Rattle.frame_types.specs.Waiting.{FoundClear, IsMarked}
 use Rattle.frame_types.proofs.FlushSteps.{flushes_nothing, makes_flushes, vcpu_look}
 use Rattle.frame_types.proofs.Growing.{marked_later}
 use Rattle.frame_types.proofs.Marked.{same_frame, work_past}
+use Rattle.board_lemmas.proofs.Numbers.{vcpu_there}
 
 pub stamp_is : (n : Machine) (f owner stamp : ℕ) (h : Holdings) (e : Work) → IsMarked n f owner stamp h → work_on f h.works ≡ Some e → (kind_fields e.word).number ≡ stamp
 stamp_is n f owner stamp h e m here =
@@ -41,7 +41,7 @@ idle_word w some low = grind (arith, nat_tests)
 run_low : (n : Machine) (s : ℕ) (h : Holdings) (k w : ℕ) → k < length n.vcpu_domain → Finds n s h (run_of k) w → nat_lt w 3 ≡ true
 unfolding IsSpelling
 run_low n s h k w real finds =
-    (subst (λ y. IsSpelling n (run_of k) y) finds.word (finds.sound.spelled.spelled (run_of k) (own_there (sizes_of n) k 6 real (lit< tt)))).1
+    (subst (λ y. IsSpelling n (run_of k) y) finds.word (finds.sound.spelled.spelled (run_of k) (vcpu_there (sizes_of n) k 6 real (lit< tt)))).1
 
 pub later : (c w : ℕ) → c < w → nat_lt c w ≡ true
 later c w l = grind (arith, nat_tests)

@@ -1,9 +1,8 @@
 -- Cells: when a store is legal, and what a load or a store leaves in hand.
-use Rattle.std.proofs.Common.{◌≡◌, ℕ, ◌^◌, ◌<◌, ◌==◌, if◌then◌else◌, true, false, List, [], ◌∷◌, Some, None, IsTrue, refl, sym, ap, ◌∙◌, subst, inl, arith}
-use Rattle.std.proofs.lemmas.Bool.Decides.{nat_tests}
+use Rattle.std.proofs.Common.{◌≡◌, ℕ, ◌^◌, ◌<◌, ◌==◌, if◌then◌else◌, true, false, List, [], ◌∷◌, Some, None, IsTrue, refl, sym, ap, ◌∙◌, subst, inl}
 use Rattle.xp_words.specs.declared.kind.PageType.TheVariants.{Writable}
 use Rattle.xp_words.specs.Machine.{Machine}
-use Rattle.xp_words.specs.Places.{Sizes, Cell, is_place, sizes_of, place_at}
+use Rattle.xp_words.specs.Places.{Cell, sizes_of, place_at}
 use Rattle.xp_board.specs.declared.step.Act.TheVariants.{Load, Store}
 use Rattle.xp_board.specs.declared.step.Step.{Step}
 use Rattle.xp_board.specs.declared.step.StepKind.TheVariants as steps
@@ -19,10 +18,7 @@ use Rattle.xp_board.specs.Spelling.{IsSpelling}
 use Rattle.frame_words.specs.Cells.{IsApart, SawCell}
 use Rattle.frame_words.specs.Hands.{SameHand}
 use Rattle.frame_words.proofs.Stepping.{legal_at}
-
-pub cell_there : (z : Sizes) (f i : ℕ) → f < z.frames → i < 512 → IsTrue (is_place z (Cell f i))
-unfolding is_place
-cell_there z f i h l = grind (arith, nat_tests)
+use Rattle.board_lemmas.proofs.Numbers.{cell_there}
 
 pub cell_is_legal : (n : Machine) (s : ℕ) (h : Holdings) (j f i w : ℕ) → place_at (sizes_of n) j ≡ Cell f i → f < n.frames → i < 512 → h.run ≡ Some 0 → w < 2 ^ 64 → 0 < typed_to f h.typed →
     IsTrue (knows_live (sizes_of n) f Writable h) → IsApart f h → Legal n s h (record { place = j; act = Store w; kind = steps.Cell; mark = None })

@@ -17,9 +17,10 @@ use Rattle.xp_board.specs.Spelling.{IsSpelling}
 use Rattle.xp_board.specs.Steps.{some_since}
 use Rattle.frame_words.specs.Flushing.{Flushed, FoundLife}
 use Rattle.frame_words.specs.Hands.{SameHand}
-use Rattle.frame_words.proofs.Stepping.{clock_there, own_there, legal_at}
+use Rattle.frame_words.proofs.Stepping.{clock_there, legal_at}
 use Rattle.frame_words.proofs.Hands.{same_hand}
 use Rattle.board_lemmas.proofs.Sums.{when_lost}
+use Rattle.board_lemmas.proofs.Numbers.{vcpu_there}
 
 -- ---- places
 pub life_there : (z : Sizes) (d : ℕ) → d < z.domains → IsTrue (is_place z (Life d))
@@ -52,7 +53,7 @@ unfolding IsSpelling
 flush_is_legal n s h i c at real small was_found warmed landed =
     legal_at n s h i (flushed_of s) (Store c) steps.Ack None at
     (record {
-      place = own_there (sizes_of n) s 5 real (lit< tt);
+      place = vcpu_there (sizes_of n) s 5 real (lit< tt);
       marked = tt;
       running = λ needs. absurd (cc);
       spelling = (small, refl);
@@ -71,7 +72,7 @@ pub ask_is_legal : (n : Machine) (s : ℕ) (h : Holdings) (i v t : ℕ) → plac
 ask_is_legal n s h i v t at real run small may =
     legal_at n s h i (asked_of v) (Max t) steps.Ask None at
     (record {
-      place = own_there (sizes_of n) v 4 real (lit< tt);
+      place = vcpu_there (sizes_of n) v 4 real (lit< tt);
       marked = tt;
       running = λ needs. run;
       spelling = small;

@@ -77,12 +77,6 @@ left_free f owner v a b d w look bit free pages =
 still_ending : (f owner : ℕ) (h k : Holdings) → k.ending ≡ h.ending → IsEnding f owner h → IsEnding f owner k
 still_ending f owner h k same e = record { ending = e.ending; others = e.others; newest = same ∙ e.newest; frame = e.frame; owner_is = e.owner_is }
 
-pub looked_ending : (f owner : ℕ) (h k : Holdings) → SameHand h k → IsEndingNow f owner h → IsEnding f owner k
-looked_ending f owner h k same e = still_ending f owner h k same.ending e.ends
-
-pub looked_lowered : (f : ℕ) (h k : Holdings) → SameHand h k → times f h.raised ≡ 0 → times f k.raised ≡ 0
-looked_lowered f h k same none = ap (λ xs. times f xs) same.rest.raised ∙ none
-
 pub ending_since : (v a b : PortValue) (f owner stamp x : ℕ) → Makes v a Clock Load None stamp → Makes a b (Map (f / 64)) (Add (map_bit f)) None x → SameHand v.holdings a.holdings →
     RaisedBit f a.holdings b.holdings → IsEndingNow f owner v.holdings → IsEndingSince b.post.machine f owner stamp b.holdings
 unfolding left_by still_ending

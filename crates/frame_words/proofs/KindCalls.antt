@@ -8,26 +8,19 @@ use Rattle.xp_words.specs.KindWords.{kind_fields, kind_write}
 use Rattle.xp_words.specs.PageTypes.{is_table}
 use Rattle.xp_words.specs.Places.{Clock, sizes_of}
 use Rattle.xp_board.specs.declared.holdings.Reference.{Reference}
-use Rattle.xp_board.specs.declared.holdings.TypedReference.{TypedReference}
 use Rattle.xp_board.specs.declared.holdings.Work.{Work}
 use Rattle.xp_board.specs.declared.holdings.Holdings.{Holdings}
 use Rattle.xp_board.specs.Flushes.{IsPastFlush}
-use Rattle.xp_board.specs.Hands.{refs_to, without_ref, typed_on, without_typed, work_on, ref_owner, typed_owner, owner_by_typed, owner_from}
+use Rattle.xp_board.specs.Hands.{refs_to, without_ref, work_on, ref_owner}
 use Rattle.xp_board.specs.Lists.{without_by}
-use Rattle.xp_board.specs.KindSteps.{live_typed, MayDrop, begun_kind, is_stale, new_work}
+use Rattle.xp_board.specs.KindSteps.{live_typed, begun_kind, is_stale, new_work}
 use Rattle.xp_board.specs.Readings.{is_work}
-use Rattle.xp_board.specs.RefSteps.{SparesClosing, is_closing_on}
 use Rattle.xp_board.specs.Steps.{some_since}
 use Rattle.board_lemmas.proofs.ListCounts.{first_by-cons_here, newest_held}
 use Rattle.board_lemmas.proofs.Sums.{when_eq}
-use Rattle.frame_words.specs.Kinds.{CountedType, BegunWork, IsWritableWork, MadeLive, DroppedType, MayLeaveDead, MadeDead, is_in_work, one_fewer}
+use Rattle.frame_words.specs.Kinds.{BegunWork, IsWritableWork, DroppedType, MayLeaveDead, MadeDead, is_in_work, one_fewer}
 
 -- ---- a type count may be given back
-pub counted_may_drop : (n : Machine) (f : ℕ) (k : KindWord) (h g : Holdings) → CountedType f k h g → MayDrop n f g
-counted_may_drop n f k h g a = record { in_hand = a.held; kind = k.kind; live = a.known (sizes_of n) }
-
-pub live_may_drop : (n : Machine) (f : ℕ) (t : PageType) (h g : Holdings) → MadeLive f t h g → MayDrop n f g
-live_may_drop n f t h g a = record { in_hand = a.held; kind = t; live = a.known (sizes_of n) }
 
 -- ---- a frame that came into work may be made live: at once where it is unmarked
 pub work_here : (f : ℕ) (e : Work) (h : Holdings) (xs : List Work) → e.frame ≡ f → h.works ≡ e ∷ xs → work_on f h.works ≡ Some e
@@ -70,12 +63,6 @@ dropped_may_die n f found stamp t h g u a same kind plain was_found =
     }
 
 -- ---- an untyped reference may be given back where the frame is not in the own works
-pub apart_spares : (f : ℕ) (h : Holdings) → work_on f h.works ≡ None → SparesClosing f h
-apart_spares f h apart closing = absurd (let off : is_closing_on (work_on f h.works) ≡ false = ap is_closing_on apart in cc)
-
--- one that was not closed by the count given back
-pub dropped_spares : (n : Machine) (f found : ℕ) (h g : Holdings) → DroppedType n f found false h g → SparesClosing f g
-dropped_spares n f found h g a = apart_spares f g (ap (λ ws. work_on f ws) a.works ∙ a.apart)
 
 -- ---- an untyped reference is in hand of a frame that was left dead
 
@@ -100,15 +87,3 @@ pub record TookWritable (f : ℕ) (h g : Holdings) : Type 0 where
   pub refs : g.refs ≡ without_ref f h.refs
   pub typed : g.typed ≡ live_typed f kinds.Writable (ref_owner f h) ∷ h.typed
   pub works : g.works ≡ h.works
-
-pub writable_taken : (f : ℕ) (k : KindWord) (h u g : Holdings) → BegunWork f k kinds.Writable h u → MadeLive f kinds.Writable u g → TookWritable f h g
-writable_taken f k h u g a b =
-    let owner : typed_owner f u ≡ ref_owner f h =
-    ap (λ o. owner_by_typed o (owner_from u)) (ap (λ xs. typed_on f xs) a.typed ∙ first_by-cons_here (λ (y : TypedReference). y.frame) f _ h.typed refl) in
-    record {
-      refs = b.refs ∙ a.refs;
-      typed =
-          b.typed ∙ ap (λ o. live_typed f kinds.Writable o ∷ without_typed f u.typed) owner
-          ∙ ap (λ (xs : List TypedReference). live_typed f kinds.Writable (ref_owner f h) ∷ xs) (without_newest (λ (y : TypedReference). y.frame) f _ h.typed u.typed refl a.typed);
-      works = b.works ∙ without_newest (λ (y : Work). y.frame) f _ h.works u.works refl a.works;
-    }

@@ -1,10 +1,8 @@
 -- The own flush: what its steps find.
-use Rattle.std.proofs.Common.{◌≡◌, ◌≢◌, ℕ, ◌+◌, ◌<◌, ◌≤◌, ◌==◌, nat_lt, true, [], ◌∷◌, ◌++◌, List, length, Option, None, IsTrue, refl, sym, ap, ◌∙◌, subst, arith}
+use Rattle.std.proofs.Common.{◌≡◌, ◌≢◌, ℕ, ◌+◌, ◌<◌, ◌≤◌, ◌==◌, nat_lt, true, ◌∷◌, List, length, None, IsTrue, refl, sym, ap, ◌∙◌, subst, arith}
 use Rattle.std.proofs.lemmas.Bool.Decides.{nat_tests}
 use Rattle.xp_words.specs.Machine.{Machine}
 use Rattle.xp_words.specs.Places.{Sizes, Place, Clock, sizes_of, place_at, flushed_of}
-use Rattle.xp_board.specs.declared.step.Act.{Act}
-use Rattle.xp_board.specs.declared.step.Mark.{Mark}
 use Rattle.xp_board.specs.declared.step.Act.TheVariants.{Load, Cas, Store}
 use Rattle.xp_board.specs.declared.holdings.Made.{Made}
 use Rattle.xp_board.specs.declared.holdings.Holdings.{Holdings}
@@ -14,14 +12,12 @@ use Rattle.xp_board.specs.Lists.{EachOf}
 use Rattle.xp_board.specs.Readings.{last_clock, clock_value}
 use Rattle.xp_board.specs.Spelling.{IsSpelling}
 use Rattle.xp_board.specs.Steps.{left_of, some_since}
-use Rattle.xp_board.specs.Told.{Post, PortValue, Finds, Went}
+use Rattle.xp_board.specs.Told.{Post, PortValue, Finds}
 use Rattle.xp_board.specs.WellFormed.{WellFormed}
 use Rattle.frame_words.specs.Flushing.{Flushed, flushed_to, FlushesOwn}
 use Rattle.frame_words.specs.Hands.{SameHand}
-use Rattle.frame_words.specs.Pieces.{Makes, Deed, deeds_by, deeds}
-use Rattle.xp_board.proofs.Going.{went_more, went_post}
+use Rattle.frame_words.specs.Pieces.{Makes}
 use Rattle.board_lemmas.proofs.Sums.{when_eq}
-use Rattle.frame_words.proofs.Piecing.{deeds_append}
 use Rattle.frame_words.proofs.Noting.{makes_steps, makes_since, makes_keeps, made_now}
 use Rattle.frame_words.proofs.Stepping.{clock_there}
 
@@ -94,9 +90,6 @@ module _ (v u t : PortValue) (c f x : ℕ) (look : Makes v u Clock Load None c) 
       subst (λ (q : Post). IsTrue (some_since (sizes_of q.machine) t.holdings.ran Clock (λ w. nat_lt w x) t.holdings.steps)) (sym (later ∙ post))
       (makes_keeps u t Clock (Cas c (c + 1)) None f tick _ (makes_since v u Clock Load None c look t.holdings.ran (λ w. nat_lt w x) late (less_is c x clock_less)))
 
-  pub flush_landed : v.holdings.walk ≡ None → t.holdings.walk ≡ None
-  flush_landed landed = after.rest.walk ∙ before.rest.walk ∙ landed
-
   pub flushes_own : (w : PortValue) (was : ℕ) → c < last_clock → Makes t w (flushed_of t.post.vcpu) (Store x) None was → FlushesOwn v w
   flushes_own w was below ack =
       record {
@@ -135,33 +128,3 @@ module _ (v u t : PortValue) (c f x : ℕ) (look : Makes v u Clock Load None c) 
         acked = g.acked;
         ran = g.ran ∙ after.rest.ran ∙ before.rest.ran;
       }
-
--- ---- its steps, of which a guest sees none
-pub record UnseenSteps (v w : PortValue) : Type 0 where
-  pub made : List Made
-  pub went : Went v made w
-  pub deeds_are : deeds v.post.machine made ≡ []
-
-makes_unseen : (v w : PortValue) (p : Place) (a : Act) (mark : Option Mark) (found : ℕ) → Makes v w p a mark found → deeds_by p a ≡ [] → UnseenSteps v w
-makes_unseen v w p a mark found m none =
-    record {
-      made = made_now m.step found ∷ [];
-      went = m.went;
-      deeds_are = ap (λ q. deeds_by q m.step.act ++ []) m.place ∙ ap (λ b. deeds_by p b ++ []) m.act ∙ ap (λ (ds : List Deed). ds ++ []) none;
-    }
-
-unseen_after : (v u w : PortValue) → UnseenSteps v u → UnseenSteps u w → UnseenSteps v w
-unseen_after v u w a b =
-    record {
-      made = b.made ++ a.made;
-      went = went_more v u w a.made b.made a.went b.went;
-      deeds_are =
-          deeds_append v.post.machine a.made b.made
-          ∙ ap (λ (ds : List Deed). ds ++ deeds v.post.machine a.made) (subst (λ (q : Post). deeds q.machine b.made ≡ []) (went_post v u a.made a.went) b.deeds_are)
-          ∙ a.deeds_are;
-    }
-
-pub own_flush_unseen : (v w : PortValue) → FlushesOwn v w → UnseenSteps v w
-own_flush_unseen v w f =
-    unseen_after v f.looked w (makes_unseen _ _ _ _ _ _ f.look refl)
-    (unseen_after f.looked f.ticked w (makes_unseen _ _ _ _ _ _ f.tick refl) (makes_unseen _ _ _ _ _ _ f.ack refl))

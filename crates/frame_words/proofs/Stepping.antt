@@ -4,7 +4,7 @@ use Rattle.std.proofs.lemmas.Bool.Decides.{nat_tests}
 use Rattle.xp_words.specs.Machine.{Machine, IsMachine}
 use Rattle.xp_words.specs.RefWords.{ref_read, ref_write}
 use Rattle.xp_words.specs.declared.refs.RefWord.TheVariants.{Owned}
-use Rattle.xp_words.specs.Places.{Sizes, Place, Clock, Vcpu, Refs, Kind, M2p, is_place, number, sizes_of, place_at}
+use Rattle.xp_words.specs.Places.{Sizes, Place, Clock, Refs, Kind, M2p, is_place, number, sizes_of, place_at}
 use Rattle.xp_words.proofs.PlaceLaws.{place_back}
 use Rattle.xp_board.specs.declared.step.Act.{Act}
 use Rattle.xp_board.specs.declared.step.Act.TheVariants.{Load, Cas, Store, Add}
@@ -37,10 +37,6 @@ kind_there z f h = grind (arith, nat_tests)
 pub m2p_there : (z : Sizes) (f : ℕ) → f < z.frames → IsTrue (is_place z (M2p f))
 unfolding is_place
 m2p_there z f h = grind (arith, nat_tests)
-
-pub own_there : (z : Sizes) (v k : ℕ) → v < z.vcpus → k < 38 → IsTrue (is_place z (Vcpu v k))
-unfolding is_place
-own_there z v k h l = grind (arith, nat_tests)
 
 pub clock_there : (z : Sizes) → IsTrue (is_place z Clock)
 unfolding is_place

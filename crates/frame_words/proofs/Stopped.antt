@@ -13,8 +13,9 @@ use Rattle.xp_board.specs.Legal.{Legal}
 use Rattle.xp_board.specs.RunSteps.{ran_now}
 use Rattle.xp_board.specs.Spelling.{IsSpelling}
 use Rattle.frame_words.specs.Hands.{Stopped}
-use Rattle.frame_words.proofs.Stepping.{own_there, legal_at}
+use Rattle.frame_words.proofs.Stepping.{legal_at}
 use Rattle.board_lemmas.proofs.Sums.{if_itself}
+use Rattle.board_lemmas.proofs.Numbers.{vcpu_there}
 
 pub stop_is_legal : (n : Machine) (s : ℕ) (h : Holdings) (i : ℕ) → place_at (sizes_of n) i ≡ run_of s → s < length n.vcpu_domain → IsEmptyHand h → h.walk ≡ None →
     Legal n s h (record { place = i; act = Store 1; kind = steps.Run; mark = None })
@@ -22,7 +23,7 @@ unfolding IsSpelling
 stop_is_legal n s h i at real empty landed =
     legal_at n s h i (run_of s) (Store 1) steps.Run None at
     (record {
-      place = own_there (sizes_of n) s 6 real (lit< tt);
+      place = vcpu_there (sizes_of n) s 6 real (lit< tt);
       marked = tt;
       running = λ needs. absurd (cc);
       spelling = (lit< tt, refl);

@@ -63,17 +63,6 @@ same_after a b c r s =
       rest = rest_after a b c r.rest s.rest;
     }
 
-pub took_after : (f owner : ℕ) (a b c : Holdings) → SameHand a b → TookRef f owner b c → TookRef f owner a c
-took_after f owner a b c r s =
-    record {
-      refs = s.refs ∙ ap (λ (rs : List Reference). record { frame = f; owner = owners.Of owner } ∷ rs) r.refs;
-      held = s.held;
-      ending = s.ending ∙ r.ending;
-      run = s.run ∙ r.run;
-      turn = s.turn ∙ r.turn;
-      rest = rest_after a b c r.rest s.rest;
-    }
-
 -- ---- what a look at a reference word tells
 pub domain_known : (n : Machine) (s : ℕ) (h : Holdings) (f found owner count : ℕ) (allocated : Bool) → f < n.frames → Finds n s h (Refs f) found → ref_read found ≡ Some (Owned owner allocated count) →
     owner < length n.page_limit

@@ -5,6 +5,7 @@ use Rattle.xp_words.specs.Machine.{Machine}
 use Rattle.xp_words.specs.Places.{Sizes, Place, Clock, Vcpu, Cell, number, place_at, is_place}
 use Rattle.xp_words.proofs.PlaceLaws.{place_back}
 use Rattle.xp_board.specs.Spelling.{IsSpelling}
+use Rattle.board_lemmas.proofs.Numbers.{cell_there, vcpu_there}
 
 pub record Stands (z : Sizes) (n : ℕ) (p : Place) : Type 0 where
   pub at : place_at z n ≡ p
@@ -15,19 +16,11 @@ stands z n p real is =
     let at : place_at z n ≡ p = ap (place_at z) is ∙ place_back z p real in
     record { at = at; real = subst (λ q. IsTrue (is_place z q)) (sym at) real }
 
-cell_real : (z : Sizes) (f i : ℕ) → f < z.frames → i < 512 → IsTrue (is_place z (Cell f i))
-unfolding is_place
-cell_real z f i frame index = grind (arith, nat_tests)
-
 pub cell_stands : (z : Sizes) (f i n : ℕ) → f < z.frames → i < 512 → n ≡ number z (Cell f i) → Stands z n (Cell f i)
-cell_stands z f i n frame index is = stands z n (Cell f i) (cell_real z f i frame index) is
-
-vcpu_real : (z : Sizes) (v k : ℕ) → v < z.vcpus → k < 38 → IsTrue (is_place z (Vcpu v k))
-unfolding is_place
-vcpu_real z v k vcpu word = grind (arith, nat_tests)
+cell_stands z f i n frame index is = stands z n (Cell f i) (cell_there z f i frame index) is
 
 pub vcpu_stands : (z : Sizes) (v k n : ℕ) → v < z.vcpus → k < 38 → n ≡ number z (Vcpu v k) → Stands z n (Vcpu v k)
-vcpu_stands z v k n vcpu word is = stands z n (Vcpu v k) (vcpu_real z v k vcpu word) is
+vcpu_stands z v k n vcpu word is = stands z n (Vcpu v k) (vcpu_there z v k vcpu word) is
 
 pub clock_stands : (z : Sizes) → Stands z 0 Clock
 unfolding place_at is_place

@@ -9,9 +9,9 @@ pub fn allows(state: &State, hand: &Hand, own: u16, vcpu: u16, word: u64, act: A
         return false;
     };
     let names = names_frames(word) && (new == 0 || names_well(hand, domain, word, new - 1));
-    let own = vcpu == own && (names || word == 7);
+    let owns = vcpu == own && (names || word == 7);
     let empties = new == 0 && (names_frames(word) || word == 7);
-    own || (empties && has_stopped(hand, own, vcpu, domain))
+    owns || (empties && has_stopped(hand, own, vcpu, domain))
 }
 
 /// A typed reference is in hand; of other words than the old ones it is to a live frame of the own domain.
@@ -26,7 +26,7 @@ fn names_well(hand: &Hand, domain: u16, word: u64, frame: u64) -> bool {
     0 < hand.typed_plain(frame) && (old || fits)
 }
 
-/// The vCPU destroys the vCPU's domain, and found the vCPU stopped.
+/// The own vCPU destroys the domain of the other one, and found that one stopped.
 fn has_stopped(hand: &Hand, own: u16, vcpu: u16, domain: u16) -> bool {
     let dying = Finding::Equal {
         word: u64::from(own) + 1,

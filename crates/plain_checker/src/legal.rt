@@ -58,13 +58,13 @@ fn allows(state: &State, hand: &Hand, own: u16, domain: u16, step: &Step) -> boo
 }
 
 fn allows_of_vcpu(state: &State, hand: &Hand, own: u16, step: &Step, vcpu: u16, word: u64) -> bool {
-    let own = vcpu == own;
+    let owns = vcpu == own;
     match step.kind {
         StepKind::Context => contexts::allows(state, hand, own, vcpu, word, step.act),
-        StepKind::Fill => own && walks::starts(hand, word, step.act, step.mark),
+        StepKind::Fill => owns && walks::starts(hand, word, step.act, step.mark),
         StepKind::Ask => word == 4 && flushes::asks(state, hand, vcpu, step.act),
-        StepKind::Ack => own && word == 5 && flushes::acknowledges(hand, step.act),
-        StepKind::Run => own && word == 6 && lives::runs(hand, step.act),
+        StepKind::Ack => owns && word == 5 && flushes::acknowledges(hand, step.act),
+        StepKind::Run => owns && word == 6 && lives::runs(hand, step.act),
         _ => false,
     }
 }

@@ -1,5 +1,5 @@
 -- The words of a call are read as that call.
-use Rattle.std.proofs.Common.{◌≡◌, ℕ, ◌<◌, ◌^◌, List, [], ◌∷◌, Result, Ok, refl, ap, ◌∙◌}
+use Rattle.std.proofs.Common.{◌≡◌, ℕ, ◌<◌, ◌^◌, List, [], ◌∷◌, Ok, refl}
 use Rattle.std.specs.Prelude.{decimal}
 use Rattle.std.specs.List.{flat_map, All}
 use Rattle.std.proofs.lemmas.List.Elements.{All-head, All-tail}
@@ -7,8 +7,6 @@ use Rattle.xp_words.specs.declared.ops.Pair.{Pair}
 use Rattle.xp_words.specs.declared.ops.ExtOp.{ExtOp}
 use Rattle.xp_words.specs.declared.ops.Call.{Call}
 use Rattle.xp_words.specs.declared.ops.Call.TheVariants as calls
-use Rattle.trace_lines.specs.declared.fault.LineFault.{LineFault}
-use Rattle.trace_lines.specs.Steps.{◌>>=◌}
 use Rattle.trace_lines.specs.Words.{next_word, next_number, end_at, each}
 use Rattle.trace_lines.specs.Grammar.{numbers_of, pairs_from, triples_from, mmu_of, ext_of, va_of, va_other_of, gdt_of, desc_of, mem_of, hypercall_of, call_by, call_of}
 use Rattle.trace_lines.specs.Spelling.{number_words, pair_words, triple_words, call_words, IsSpellablePair, IsSpellableExt, IsSpellableCall, AreWords}
@@ -38,9 +36,6 @@ pair_numbers_again : (ps : List Pair) → pairs_from (pair_numbers ps) ≡ Ok ps
 unfolding pairs_from pair_numbers
 pair_numbers_again [] = refl
 pair_numbers_again (p ∷ ps) = rw (pair_numbers_again ps) refl
-
-pub pairs_again : (ps : List Pair) → All IsSpellablePair ps → (numbers_of (pair_words ps) >>= pairs_from) ≡ Ok ps
-pairs_again ps h = ap (λ (r : Result (List ℕ) LineFault). r >>= pairs_from) (pair_words_again ps h) ∙ pair_numbers_again ps
 
 triple_numbers : List ExtOp → List ℕ
 triple_numbers xs = flat_map (λ x. x.command ∷ x.first ∷ x.second ∷ []) xs

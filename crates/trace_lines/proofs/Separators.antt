@@ -1,9 +1,9 @@
 -- The first word `;` of a line.
-use Rattle.std.proofs.Common.{◌≡◌, ℕ, suc, ◌+◌, ◌-◌, ◌<◌, ◌≤◌, List, [], ◌∷◌, ◌++◌, length, take, drop, Bool, true, false, cond, eqb, get_or, refl, sym, ap, ◌∙◌, subst, arith, append_assoc}
+use Rattle.std.proofs.Common.{◌≡◌, ℕ, suc, ◌+◌, ◌-◌, ◌<◌, ◌≤◌, List, [], ◌∷◌, ◌++◌, length, take, drop, Bool, true, false, cond, eqb, get_or, refl, sym, ap, ◌∙◌, arith, append_assoc}
 use Rattle.std.specs.Prelude.{codes}
 use Rattle.std.specs.List.{slice_split, onto_first, All}
 use Rattle.std.proofs.Math.Seq.{take-add}
-use Rattle.std.proofs.lemmas.List.{get_or-take, get_or-drop, take_all, drop-drop, length-take-le, length-drop, length-append}
+use Rattle.std.proofs.lemmas.List.{get_or-take, get_or-drop, drop-drop, length-take-le, length-drop, length-append}
 use Rattle.std.proofs.lemmas.List.Elements.{All-nil, All-cons, All-append}
 use Rattle.std.proofs.lemmas.List.Splits.{slice_split_none, slice_split_at}
 use Rattle.std.proofs.lemmas.List.Sums.{fails_before_first, passes_at_first}
@@ -42,9 +42,6 @@ pub record IsPassed (spaced : List ℕ) (place : ℕ) : Type 0 where
   pub whole : spaced_words spaced ≡ spaced_words (take place spaced) ++ spaced_words (drop place spaced)
   pub none : All (λ w. is_separator w ≡ false) (spaced_words (take place spaced))
 
-pub passed_nothing : (spaced : List ℕ) → IsPassed spaced 0
-passed_nothing spaced = record { within = omega arith; space = λ pos lt. absurd (omega (arith, pos)); whole = refl; none = All-nil _ }
-
 abbrev pub line_behind : List ℕ → ℕ → List ℕ
 line_behind spaced place = drop (place + 1) spaced
 
@@ -82,9 +79,6 @@ passed_more spaced place passed lt other =
       whole = passed.whole ∙ rw (words_from spaced place lt, words_more spaced place passed lt) (sym (append_assoc (spaced_words (take place spaced)) (word_of line ∷ []) (spaced_words (drop (next spaced place) spaced))));
       none = rw (words_more spaced place passed lt) (All-append (λ w. is_separator w ≡ false) (spaced_words (take place spaced)) (word_of line ∷ []) passed.none (All-cons (λ w. is_separator w ≡ false) (word_of line) [] other (All-nil (λ w. is_separator w ≡ false))));
     }
-
-pub passed_all : (spaced : List ℕ) (place : ℕ) → IsPassed spaced place → length spaced ≤ place → All (λ w. is_separator w ≡ false) (spaced_words spaced)
-passed_all spaced place passed le = subst (λ (l : List ℕ). All (λ w. is_separator w ≡ false) (spaced_words l)) (take_all place spaced le) passed.none
 
 pub is_separator_means : (w : List ℕ) → is_separator w ≡ true → w ≡ codes ";"
 is_separator_means w e = (bytes_eq-Decides w (codes ";")).0 e

@@ -54,10 +54,6 @@ pub goes_trans : (v u w : PortValue) → Goes v u → Goes u w → Goes v w
 unfolding Goes
 goes_trans v u w a b = (b.0 ++ a.0, went_more v u w a.0 b.0 a.1 b.1)
 
-pub goes_post : (v w : PortValue) → Goes v w → w.post ≡ v.post
-unfolding Goes
-goes_post v w a = went_post v w a.0 a.1
-
 pub saw_step : (v w : PortValue) (x : Step) (found : ℕ) → Legal v.post.machine v.post.vcpu v.holdings x →
     IsTold v.post.machine v.told (place_of v.post.machine x) found → w ≡ stepped v x found → Saw v w (place_of v.post.machine x) found
 unfolding Saw

@@ -1,5 +1,5 @@
 -- Reference words: what they say, and one up and one down.
-use Rattle.std.proofs.Common.{◌≡◌, ◌≢◌, ℕ, zero, suc, ◌+◌, ◌-◌, ◌%◌, ◌^◌, ◌<◌, ◌≤◌, Bool, true, false, length, Option, Some, None, IsTrue, refl, ◌∙◌, arith, nat_lt, nat_le, inl, inr}
+use Rattle.std.proofs.Common.{◌≡◌, ℕ, zero, suc, ◌+◌, ◌-◌, ◌%◌, ◌^◌, ◌<◌, ◌≤◌, Bool, true, false, length, Option, Some, None, IsTrue, refl, ◌∙◌, arith, nat_lt, nat_le, inl, inr}
 use Rattle.std.proofs.lemmas.Bool.Decides.{nat_tests}
 use Rattle.xp_words.specs.declared.refs.RefWord.{RefWord}
 use Rattle.xp_words.specs.declared.refs.RefWord.TheVariants.{Free, Owned, Dying}
@@ -86,9 +86,6 @@ fits_dying n o h = grind (arith, nat_tests)
 pub read_small : (w : ℕ) (r : RefWord) → ref_read w ≡ Some r → w < 2 ^ 64
 unfolding ref_read
 read_small w r e = grind (arith, nat_tests)
-
-pub one_down_moves : (w : ℕ) → w < 2 ^ 64 → (w + one_down) % 2 ^ 64 ≢ w
-one_down_moves w b e = omega arith
 
 -- a free word
 pub record SaysFree (w value : ℕ) : Type 0 where

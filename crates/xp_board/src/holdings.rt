@@ -1,5 +1,5 @@
-//! What a vCPU holds, as contracts see it. No value of these types is made: a running program needs the cache
-//! alone, and none keeps it yet. Lists have the newest first. A number of steps says when: it is how many steps the vCPU
+//! What a vCPU holds, as contracts see it. No value of these types is made: a running program needs the cache and the
+//! walk in flight alone, and boards keep these. Lists have the newest first. A number of steps says when: it is how many steps the vCPU
 //! had made by then.
 use crate::step::{Item, Step};
 use std::collections::LinkedList;

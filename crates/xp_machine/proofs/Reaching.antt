@@ -21,7 +21,6 @@ use Rattle.trace_text.specs.declared.trace.Trace.{Trace}
 use Rattle.machine_build.specs.Opening.{IsOpening, opening_at}
 use Rattle.shared_board.specs.Board.{Board, opened_story, port_value, state_of}
 use Rattle.shared_board.proofs.Opened.{start_sound}
-use Rattle.frame_words.proofs.Stepping.{own_there}
 use Rattle.vcpu_turn.specs.Cpus.{Processing, fresh}
 use Rattle.vcpu_turn.specs.Turning.{IsOf, Rests}
 use Rattle.xp_machine.specs.Cpus.{AreShort, IsShort, order, first_cpu, first_cpus}
@@ -31,6 +30,7 @@ use Rattle.xp_machine.specs.Ready.{Ready, TakesFresh}
 use Rattle.xp_machine.specs.Turns.{Stage, WorksOff, stage}
 use Rattle.xp_machine.proofs.Starting.{length_first, short_first}
 use Rattle.xp_machine.proofs.Turning.{turns_fewer}
+use Rattle.board_lemmas.proofs.Numbers.{vcpu_there}
 
 -- what follows of each value follows of the value of a call
 pub if_ok : {A E : Type 0} (r : Result A E) (P Q : A → Type 0) → ((x : A) → P x → Q x) → IfOk r P → IfOk r Q
@@ -71,7 +71,7 @@ takes_fresh t b opened opening machine story v lender script real =
       rests = subst Rests (sym (get_or-replicate (length n.vcpu_domain) v empty empty there)) empty_rests;
       runs = λ works.
           (λ i. run_or (memory (sizes_of n) opened (run_of v)) (get_or-replicate (length n.vcpu_domain) v empty empty there i).run)
-          ∙ opening.places (run_of v) (own_there (sizes_of n) v 6 there (lit< tt)) ∙ runs_at_first t v;
+          ∙ opening.places (run_of v) (vcpu_there (sizes_of n) v 6 there (lit< tt)) ∙ runs_at_first t v;
     })
 
 of_first : (n : Machine) (b : Board) (scripts : List (List Op)) → b.machine ≡ n → TakesFresh b → length scripts ≡ length n.vcpu_domain →

@@ -50,11 +50,6 @@ module _ (n p u k l a v i t : ℕ) (hn : n < 2 ^ 36) (hp : p < 2 ^ 10) (hu : u <
   unfolding packed
   packed_type = omega arith
 
-unpacked : (w : ℕ) →
-    packed (w % 2 ^ 36) (w / 2 ^ 36 % 2 ^ 10) (w / 2 ^ 46 % 2) (w / 2 ^ 47 % 2) (w / 2 ^ 48 % 2) (w / 2 ^ 49 % 2) (w / 2 ^ 50 % 2) (w / 2 ^ 51 % 2) (w / 2 ^ 52) ≡ w
-unfolding packed
-unpacked w = omega arith
-
 bit_lt : (b : Bool) → bit b < 2
 bit_lt true = lit< tt
 bit_lt false = lit< tt

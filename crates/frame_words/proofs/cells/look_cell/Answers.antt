@@ -3,8 +3,9 @@ use Rattle.xp_words.specs.Machine.{Machine}
 use Rattle.xp_words.specs.Places.{Cell, number, sizes_of}
 use Rattle.xp_board.specs.Told.{Finds}
 use Rattle.frame_words.proofs.Hands.{here, look_now, look_made, look_left}
-use Rattle.frame_words.proofs.CellHands.{cell_there, seen_hand, saw_apart}
+use Rattle.frame_words.proofs.CellHands.{seen_hand, saw_apart}
 use Rattle.frame_words.proofs.cells.look_cell.Goals as goal
+use Rattle.board_lemmas.proofs.Numbers.{cell_there}
 
 pub step-requires : goal.step-requires
 step-requires g c =

@@ -3,8 +3,9 @@ use Rattle.xp_words.specs.Machine.{Machine}
 use Rattle.xp_words.specs.Places.{Cell, number, sizes_of}
 use Rattle.xp_board.specs.declared.step.Act.TheVariants.{Store}
 use Rattle.frame_words.proofs.Stepping.{placed, makes, hand_after}
-use Rattle.frame_words.proofs.CellHands.{cell_there, cell_is_legal, stored_hand}
+use Rattle.frame_words.proofs.CellHands.{cell_is_legal, stored_hand}
 use Rattle.frame_words.proofs.cells.store_cell.Goals as goal
+use Rattle.board_lemmas.proofs.Numbers.{cell_there}
 
 pub step-requires : goal.step-requires
 step-requires g c =

@@ -1,34 +1,34 @@
 use Rattle.std.proofs.Common.{◌<◌, length, lit<, ap, ◌∙◌, refl, subst}
 use Rattle.xp_words.specs.Machine.{Machine}
 use Rattle.xp_words.specs.Places.{number, sizes_of, run_of}
-use Rattle.frame_words.proofs.Stepping.{own_there}
 use Rattle.frame_words.proofs.Hands.{here, look_now, look_made, look_left, run_hand}
 use Rattle.frame_words.proofs.rows.look_run.Goals as goal
+use Rattle.board_lemmas.proofs.Numbers.{vcpu_there}
 
 pub step-requires : goal.step-requires
 step-requires g c =
     let v = g.P.Port.value c.args.port.now in
     let real = subst (λ k. k < length v.post.machine.vcpu_domain) c.vcpu-vcpu.ensures.vcpu c.vcpu-vcpu.ensures.real in
     let at = c.vcpu_place-place.ensures ∙ ap (λ (n : Machine). number (sizes_of n) (run_of c.vcpu-vcpu.result)) c.layout.ensures.layout ∙ ap (λ s. number (sizes_of v.post.machine) (run_of s)) c.vcpu-vcpu.ensures.vcpu in
-    look_now v v c.look.result _ 0 (run_of v.post.vcpu) _ c.look.ensures at (own_there (sizes_of v.post.machine) v.post.vcpu 6 real (lit< tt)) refl
+    look_now v v c.look.result _ 0 (run_of v.post.vcpu) _ c.look.ensures at (vcpu_there (sizes_of v.post.machine) v.post.vcpu 6 real (lit< tt)) refl
 
 pub returns-clause-made : goal.returns-clause-made
 returns-clause-made g c =
     let v = g.P.Port.value c.args.port.now in
     let real = subst (λ k. k < length v.post.machine.vcpu_domain) c.vcpu-vcpu.ensures.vcpu c.vcpu-vcpu.ensures.real in
     let at = c.vcpu_place-place.ensures ∙ ap (λ (n : Machine). number (sizes_of n) (run_of c.vcpu-vcpu.result)) c.layout.ensures.layout ∙ ap (λ s. number (sizes_of v.post.machine) (run_of s)) c.vcpu-vcpu.ensures.vcpu in
-    look_made v _ c.look.result _ _ (run_of v.post.vcpu) _ c.look.ensures at (own_there (sizes_of v.post.machine) v.post.vcpu 6 real (lit< tt)) refl c.step.ensures.told c.step.ensures.value
+    look_made v _ c.look.result _ _ (run_of v.post.vcpu) _ c.look.ensures at (vcpu_there (sizes_of v.post.machine) v.post.vcpu 6 real (lit< tt)) refl c.step.ensures.told c.step.ensures.value
 
 pub returns-clause-hand : goal.returns-clause-hand
 returns-clause-hand g c =
     let v = g.P.Port.value c.args.port.now in
     let real = subst (λ k. k < length v.post.machine.vcpu_domain) c.vcpu-vcpu.ensures.vcpu c.vcpu-vcpu.ensures.real in
     let at = c.vcpu_place-place.ensures ∙ ap (λ (n : Machine). number (sizes_of n) (run_of c.vcpu-vcpu.result)) c.layout.ensures.layout ∙ ap (λ s. number (sizes_of v.post.machine) (run_of s)) c.vcpu-vcpu.ensures.vcpu in
-    run_hand v.post.machine v.post.vcpu _ _ c.look.result _ (look_left v _ c.look.result _ _ (run_of v.post.vcpu) _ c.look.ensures at (own_there (sizes_of v.post.machine) v.post.vcpu 6 real (lit< tt)) refl c.step.ensures.value)
+    run_hand v.post.machine v.post.vcpu _ _ c.look.result _ (look_left v _ c.look.result _ _ (run_of v.post.vcpu) _ c.look.ensures at (vcpu_there (sizes_of v.post.machine) v.post.vcpu 6 real (lit< tt)) refl c.step.ensures.value)
 
 pub returns-clause-own : goal.returns-clause-own
 returns-clause-own g c =
     let v = g.P.Port.value c.args.port.now in
     let real = subst (λ k. k < length v.post.machine.vcpu_domain) c.vcpu-vcpu.ensures.vcpu c.vcpu-vcpu.ensures.real in
     let at = c.vcpu_place-place.ensures ∙ ap (λ (n : Machine). number (sizes_of n) (run_of c.vcpu-vcpu.result)) c.layout.ensures.layout ∙ ap (λ s. number (sizes_of v.post.machine) (run_of s)) c.vcpu-vcpu.ensures.vcpu in
-    c.step.ensures.own (here v v c.look.result _ 0 (run_of v.post.vcpu) _ c.look.ensures at (own_there (sizes_of v.post.machine) v.post.vcpu 6 real (lit< tt)) refl)
+    c.step.ensures.own (here v v c.look.result _ 0 (run_of v.post.vcpu) _ c.look.ensures at (vcpu_there (sizes_of v.post.machine) v.post.vcpu 6 real (lit< tt)) refl)

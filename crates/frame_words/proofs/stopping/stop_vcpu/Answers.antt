@@ -2,16 +2,17 @@ use Rattle.std.proofs.Common.{◌<◌, length, lit<, ap, ◌∙◌, refl, None, 
 use Rattle.xp_words.specs.Machine.{Machine}
 use Rattle.xp_words.specs.Places.{number, sizes_of, run_of}
 use Rattle.xp_board.specs.declared.step.Act.TheVariants.{Store}
-use Rattle.frame_words.proofs.Stepping.{own_there, placed, makes, hand_after}
+use Rattle.frame_words.proofs.Stepping.{placed, makes, hand_after}
 use Rattle.frame_words.proofs.Stopped.{stop_is_legal, stopped_hand}
 use Rattle.frame_words.proofs.stopping.stop_vcpu.Goals as goal
+use Rattle.board_lemmas.proofs.Numbers.{vcpu_there}
 
 pub step-requires : goal.step-requires
 step-requires g c =
     let v = g.P.Port.value c.args.port.now in
     let real = subst (λ k. k < length v.post.machine.vcpu_domain) c.vcpu-vcpu.ensures.vcpu c.vcpu-vcpu.ensures.real in
     let i = c.vcpu_place-place.ensures ∙ ap (λ (n : Machine). number (sizes_of n) (run_of c.vcpu-vcpu.result)) c.layout.ensures.layout ∙ ap (λ s. number (sizes_of v.post.machine) (run_of s)) c.vcpu-vcpu.ensures.vcpu in
-    let at = placed v.post.machine _ (run_of v.post.vcpu) i (own_there (sizes_of v.post.machine) v.post.vcpu 6 real (lit< tt)) in
+    let at = placed v.post.machine _ (run_of v.post.vcpu) i (vcpu_there (sizes_of v.post.machine) v.post.vcpu 6 real (lit< tt)) in
     stop_is_legal v.post.machine v.post.vcpu v.holdings _ at real c.requires.empty c.requires.landed
 
 pub returns-clause-made : goal.returns-clause-made
@@ -19,7 +20,7 @@ returns-clause-made g c =
     let v = g.P.Port.value c.args.port.now in
     let real = subst (λ k. k < length v.post.machine.vcpu_domain) c.vcpu-vcpu.ensures.vcpu c.vcpu-vcpu.ensures.real in
     let i = c.vcpu_place-place.ensures ∙ ap (λ (n : Machine). number (sizes_of n) (run_of c.vcpu-vcpu.result)) c.layout.ensures.layout ∙ ap (λ s. number (sizes_of v.post.machine) (run_of s)) c.vcpu-vcpu.ensures.vcpu in
-    let at = placed v.post.machine _ (run_of v.post.vcpu) i (own_there (sizes_of v.post.machine) v.post.vcpu 6 real (lit< tt)) in
+    let at = placed v.post.machine _ (run_of v.post.vcpu) i (vcpu_there (sizes_of v.post.machine) v.post.vcpu 6 real (lit< tt)) in
     makes v _ _ (run_of v.post.vcpu) (Store 1) None _ at refl refl
     (stop_is_legal v.post.machine v.post.vcpu v.holdings _ at real c.requires.empty c.requires.landed) c.step.ensures.told c.step.ensures.value
 
@@ -28,5 +29,5 @@ returns-clause-hand g c =
     let v = g.P.Port.value c.args.port.now in
     let real = subst (λ k. k < length v.post.machine.vcpu_domain) c.vcpu-vcpu.ensures.vcpu c.vcpu-vcpu.ensures.real in
     let i = c.vcpu_place-place.ensures ∙ ap (λ (n : Machine). number (sizes_of n) (run_of c.vcpu-vcpu.result)) c.layout.ensures.layout ∙ ap (λ s. number (sizes_of v.post.machine) (run_of s)) c.vcpu-vcpu.ensures.vcpu in
-    let at = placed v.post.machine _ (run_of v.post.vcpu) i (own_there (sizes_of v.post.machine) v.post.vcpu 6 real (lit< tt)) in
+    let at = placed v.post.machine _ (run_of v.post.vcpu) i (vcpu_there (sizes_of v.post.machine) v.post.vcpu 6 real (lit< tt)) in
     stopped_hand v.post.machine v.post.vcpu v.holdings _ _ c.step.result (hand_after v _ _ (run_of v.post.vcpu) c.step.result at c.step.ensures.value)
