@@ -6,3 +6,4 @@ mod Picture
 mod ProcessorPicture
 mod ReleasePicture
 mod WalkPicture
+mod LawfulPicture
