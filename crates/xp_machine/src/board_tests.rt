@@ -28,7 +28,7 @@ pub(crate) const TWO_DOMAINS: &str =
 fn board_of(alloc: Global, trace: Trace) -> Result<(PlainBoard, ScriptList), AllocError>
     requires { IsWellFormed trace }
     ensures fresh { IfOk result (λ b. TakesFresh b.0) }
-    ensures runners { IfOk result (λ b. length b.0.story.hands ≡ (sizes_of b.0.machine).vcpus) }
+    ensures hands { IfOk result (λ b. length b.0.story.hands ≡ (sizes_of b.0.machine).vcpus) }
 {
     opening_words_are_sound();
     let words = opening(alloc, &trace)?;
@@ -48,7 +48,7 @@ fn board_of(alloc: Global, trace: Trace) -> Result<(PlainBoard, ScriptList), All
 // The same of its text, with the script of the last vCPU.
 pub(crate) fn opened(alloc: Global, text: &str) -> Option<(PlainBoard, Script)>
     ensures fresh { IfSome result (λ b. TakesFresh b.0) }
-    ensures runners { IfSome result (λ b. length b.0.story.hands ≡ (sizes_of b.0.machine).vcpus) }
+    ensures hands { IfSome result (λ b. length b.0.story.hands ≡ (sizes_of b.0.machine).vcpus) }
 {
     match read_trace(alloc, text.as_bytes()) {
         Err(_) => None,
@@ -164,8 +164,8 @@ impl<P: Port> Port for Counting<P> {
         self.port.layout()
     }
 
-    fn runner(&self) -> u32 {
-        self.port.runner()
+    fn vcpu(&self) -> u32 {
+        self.port.vcpu()
     }
 
     fn cached(&self, user: bool, page: u64) -> Option<Item> {

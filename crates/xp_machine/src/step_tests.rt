@@ -100,7 +100,7 @@ fn ask_another<P: Port>(rt: &impl Abort, port: &mut P, vcpu: u32) -> u64
 // vCPU 0 of a board asks another one, which may take its first turn then.
 fn ask_by_first(rt: &impl Abort, board: &mut PlainBoard, vcpu: u32) -> u64
     requires fresh { TakesFresh board.old }
-    requires runners { length board.old.story.hands ≡ (sizes_of board.old.machine).vcpus }
+    requires hands { length board.old.story.hands ≡ (sizes_of board.old.machine).vcpus }
     ensures { TakesFresh board.new }
 {
     assert!(rt; vcpu != 0);

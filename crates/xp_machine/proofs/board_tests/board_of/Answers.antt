@@ -10,7 +10,7 @@ use Rattle.xp_machine.proofs.board_tests.board_of.Goals as goal
 pub returns-clause-fresh : goal.returns-clause-fresh
 returns-clause-fresh c = takes_fresh c.args.trace c.in_ok-board.board c.in_ok-words.words.items c.in_ok-words.ensures c.in_ok-board.ensures.0 c.in_ok-board.ensures.1
 
-pub returns-clause-runners : goal.returns-clause-runners
-returns-clause-runners c =
-    ap (λ (a : Story). length a.runners) c.in_ok-board.ensures.1 ∙ length-replicate (length c.args.trace.layout.vcpu_domain) empty
+pub returns-clause-hands : goal.returns-clause-hands
+returns-clause-hands c =
+    ap (λ (a : Story). length a.hands) c.in_ok-board.ensures.1 ∙ length-replicate (length c.args.trace.layout.vcpu_domain) empty
     ∙ sym (ap (λ (n : Machine). (sizes_of n).vcpus) c.in_ok-board.ensures.0)
