@@ -10,3 +10,6 @@ pub mod WordsAgain
 pub mod CallsAgain
 pub mod MultiAgain
 pub mod LineAgain
+pub mod DigitTable
+pub mod FarPlaces
+pub mod FirstWords

@@ -1,6 +1,6 @@
 -- Numbers in decimal and hexadecimal.
-use Rattle.std.specs.Prelude.{ℕ, ◌^◌, List, [], ◌∷◌, drop, slice_index, Option, Some, None, Bool, true, false, ◌==◌, nat_lt, nat_le, ◌&&◌, not, if◌then◌else◌}
-use Rattle.std.specs.List.{list_all}
+use Rattle.std.specs.Prelude.{ℕ, ◌^◌, List, [], ◌∷◌, drop, take, slice_index, Option, Some, None, Bool, true, false, ◌==◌, nat_lt, nat_le, ◌&&◌, not, if◌then◌else◌}
+use Rattle.std.specs.List.{list_all, position_or_len}
 use Rattle.std.specs.Char.{digit_value}
 use Rattle.std.specs.Str.Parse.{digits_value_after}
 
@@ -25,3 +25,11 @@ numeral base ds = if is_proper ds then numeral_after base 0 ds else None
 -- decimal, or hexadecimal behind 0x
 unfoldable pub number_of : List ℕ → Option ℕ
 number_of w = if (slice_index w 0 == 48) && (slice_index w 1 == 120) then numeral 16 (drop 2 w) else numeral 10 w
+
+-- how many bytes stand before the first space of a text
+abbrev pub word_len : List ℕ → ℕ
+word_len text = position_or_len (λ b. b == 32) text
+
+-- the first word of a text
+abbrev pub word_of : List ℕ → List ℕ
+word_of text = take (word_len text) text

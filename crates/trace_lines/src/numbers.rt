@@ -1,23 +1,52 @@
-ghost use Rattle.std.specs.Prelude.{◌≡◌, ◌≤◌, ◌<◌, ◌∷◌, [], true, false, Some, None, if◌then◌else◌};
+ghost use Rattle.std.specs.Prelude.{◌≡◌, ◌≤◌, ◌<◌, ◌∷◌, [], true, false, Some, None, MatchOption, IfSome, length, if◌then◌else◌};
 ghost use Rattle.std.specs.Char.{digit_value};
-ghost use Rattle.trace_lines.specs.Numbers.{is_digit, is_proper as is_proper_lem, numeral_after, numeral, number_of};
+ghost use Rattle.trace_lines.specs.Numbers.{is_digit, is_proper as is_proper_lem, numeral_after, numeral, number_of, word_of, word_len};
 
-// The value of a digit, and 16 or more where it is none. It has no branch, since the digits of numbers
-// are hard to foretell.
+// The value of each byte as a digit, and 255 where it is none.
+static DIGITS: [u8; 256] = [
+    255, 255, 255, 255, 255, 255, 255, 255, 255, 255, 255, 255, 255, 255, 255, 255, 255, 255, 255,
+    255, 255, 255, 255, 255, 255, 255, 255, 255, 255, 255, 255, 255, 255, 255, 255, 255, 255, 255,
+    255, 255, 255, 255, 255, 255, 255, 255, 255, 255, 0, 1, 2, 3, 4, 5, 6, 7, 8, 9, 255, 255, 255,
+    255, 255, 255, 255, 255, 255, 255, 255, 255, 255, 255, 255, 255, 255, 255, 255, 255, 255, 255,
+    255, 255, 255, 255, 255, 255, 255, 255, 255, 255, 255, 255, 255, 255, 255, 255, 255, 10, 11,
+    12, 13, 14, 15, 255, 255, 255, 255, 255, 255, 255, 255, 255, 255, 255, 255, 255, 255, 255, 255,
+    255, 255, 255, 255, 255, 255, 255, 255, 255, 255, 255, 255, 255, 255, 255, 255, 255, 255, 255,
+    255, 255, 255, 255, 255, 255, 255, 255, 255, 255, 255, 255, 255, 255, 255, 255, 255, 255, 255,
+    255, 255, 255, 255, 255, 255, 255, 255, 255, 255, 255, 255, 255, 255, 255, 255, 255, 255, 255,
+    255, 255, 255, 255, 255, 255, 255, 255, 255, 255, 255, 255, 255, 255, 255, 255, 255, 255, 255,
+    255, 255, 255, 255, 255, 255, 255, 255, 255, 255, 255, 255, 255, 255, 255, 255, 255, 255, 255,
+    255, 255, 255, 255, 255, 255, 255, 255, 255, 255, 255, 255, 255, 255, 255, 255, 255, 255, 255,
+    255, 255, 255, 255, 255, 255, 255, 255, 255, 255, 255, 255, 255, 255, 255, 255, 255, 255, 255,
+    255, 255, 255, 255,
+];
+
+// The value of a digit, and 16 or more where it is none. It is looked up, since the digits of numbers are hard to
+// foretell, and a choice between two sums is built as a branch.
 fn lower_digit(c: u8) -> u8
     ensures some { is_digit 16 c ≡ true → result ≡ digit_value c }
     ensures none { is_digit 16 c ≡ false → 16 ≤ result }
 {
-    let low = c.wrapping_sub(b'0');
-    let high = c.wrapping_sub(b'a').saturating_add(10);
-    if low < 10 { low } else { high }
+    DIGITS[c as usize]
+}
+
+// The same for decimal digits alone, which need no table.
+fn decimal_digit(c: u8) -> u8
+    ensures some { is_digit 10 c ≡ true → result ≡ digit_value c }
+    ensures none { is_digit 10 c ≡ false → 10 ≤ result }
+{
+    c.wrapping_sub(b'0')
 }
 
 fn digit<const BASE: u64>(c: u8) -> Option<u64>
     requires { BASE ≤ 16 }
     ensures { result ≡ (if is_digit BASE c then Some (digit_value c) else None) }
 {
-    let value = u64::from(lower_digit(c));
+    let value = if BASE <= 10 {
+        decimal_digit(c)
+    } else {
+        lower_digit(c)
+    };
+    let value = u64::from(value);
     if value < BASE { Some(value) } else { None }
 }
 
@@ -41,39 +70,53 @@ fn is_proper(ds: &[u8]) -> bool
     }
 }
 
-// The number that digits in a base stand for.
-fn value<const BASE: u64>(ds: &[u8]) -> Option<u64>
+// The number that the digits up to the first space stand for, and how many they are: no digit is a space, so no byte is
+// looked at twice.
+fn scanned<const BASE: u64>(text: &[u8]) -> Option<(u64, usize)>
     requires low { 0 < BASE }
     requires high { BASE ≤ 16 }
-    ensures { result ≡ numeral_after BASE 0 ds.now }
+    ensures within { IfSome result (λ x. x.1 ≤ length text.now) }
+    ensures number { MatchOption result (numeral_after BASE 0 (word_of text.now) ≡ None) (λ x. (numeral_after BASE 0 (word_of text.now) ≡ Some x.0) × (x.1 ≡ word_len text.now)) }
 {
     let mut value = 0u64;
-    for c in ds {
-        value = with_digit::<BASE>(value, *c)?;
+    let mut len = 0usize;
+    'digits: while len < text.len() {
+        let c = text[len];
+        match with_digit::<BASE>(value, c) {
+            Some(next) => value = next,
+            None => return if c == b' ' { Some((value, len)) } else { None },
+        }
+        len += 1;
     }
-    Some(value)
+    Some((value, len))
 }
 
 #[tactic(auto, unfolding(crate::specs::Numbers::numeral))]
-fn digits<const BASE: u64>(ds: &[u8]) -> Option<u64>
+fn digits<const BASE: u64>(text: &[u8]) -> Option<(u64, usize)>
     requires low { 0 < BASE }
     requires high { BASE ≤ 16 }
-    ensures { result ≡ numeral BASE ds.now }
+    ensures within { IfSome result (λ x. x.1 ≤ length text.now) }
+    ensures number { MatchOption result (numeral BASE (word_of text.now) ≡ None) (λ x. (numeral BASE (word_of text.now) ≡ Some x.0) × (x.1 ≡ word_len text.now)) }
 {
-    if is_proper(ds) {
-        value::<BASE>(ds)
+    let (value, len) = scanned::<BASE>(text)?;
+    if is_proper(&text[..len]) {
+        Some((value, len))
     } else {
         None
     }
 }
 
-/// The number that a word spells.
+/// The number that the first word of a text spells, and how long the word is.
 #[tactic(auto, unfolding(crate::specs::Numbers::number_of))]
-pub fn number(word: &[u8]) -> Option<u64>
-    ensures { result ≡ number_of word.now }
+pub fn first_number(text: &[u8]) -> Option<(u64, usize)>
+    ensures within { IfSome result (λ x. x.1 ≤ length text.now) }
+    ensures number { MatchOption result (number_of (word_of text.now) ≡ None) (λ x. (number_of (word_of text.now) ≡ Some x.0) × (x.1 ≡ word_len text.now)) }
 {
-    match word {
-        [b'0', b'x', rest @ ..] => digits::<16>(rest),
-        _ => digits::<10>(word),
+    match text {
+        [b'0', b'x', rest @ ..] => {
+            let (value, len) = digits::<16>(rest)?;
+            Some((value, len + 2))
+        }
+        _ => digits::<10>(text),
     }
 }

@@ -1,4 +1,4 @@
-use crate::numbers::number;
+use crate::numbers::first_number;
 use crate::{
     Cause, Line, LineError, LineFault, line_of, put_cell, put_clock, put_domain, put_end,
     put_frames, put_header, put_limit, put_op, put_own, put_priv, put_turn, put_vcpu,
@@ -29,8 +29,13 @@ fn numbers_are_spelled_in_one_way(rt: HostRuntime) {
         (b"+1".as_slice(), None),
         (b"1a".as_slice(), None),
         (b"1_0".as_slice(), None),
+        (b"12 34".as_slice(), Some(12)),
     ] {
-        assert_eq!(rt; number(word), want, "at {word:?}");
+        let value = match first_number(word) {
+            Some((value, _)) => Some(value),
+            None => None,
+        };
+        assert_eq!(rt; value, want, "at {word:?}");
     }
 }
 

@@ -4,7 +4,8 @@ ghost use Rattle.trace_lines.specs.Steps.{Gives};
 ghost use Rattle.trace_lines.specs.Words.{words_of, next_word, next_number, end_at, is_nil, is_separator, spaced_words, IsSeparated};
 
 use crate::fault::LineError;
-use crate::numbers::number;
+use crate::numbers::first_number;
+use memchr::memchr;
 use std::marker::Model;
 
 // Where a byte first stands.
@@ -25,13 +26,31 @@ fn len_before(byte: u8, bytes: &[u8]) -> usize
     }
 }
 
+// Where a byte first stands that is likely to be far away.
+fn far_place_of(byte: u8, bytes: &[u8]) -> Option<usize>
+    ensures { result ≡ position (λ b. b == byte) bytes.now }
+{
+    memchr(byte, bytes)
+}
+
+// How many bytes stand before the first such byte, which is likely to be far away.
+fn far_len_before(byte: u8, bytes: &[u8]) -> usize
+    ensures place { result ≡ position_or_len (λ b. b == byte) bytes.now }
+    ensures within { result ≤ length bytes.now }
+{
+    match far_place_of(byte, bytes) {
+        None => bytes.len(),
+        Some(at) => at,
+    }
+}
+
 /// What stands before the first such byte, and what stands behind it.
 pub fn split_off(byte: u8, bytes: &[u8]) -> Option<(&[u8], &[u8])>
     ensures shorter { IfSome result (λ x. length x.1.now < length bytes.now) }
     ensures parts { MatchOption result (slice_split (λ b. b == byte) bytes.now ≡ bytes.now ∷ [])
         (λ x. slice_split (λ b. b == byte) bytes.now ≡ x.0.now ∷ slice_split (λ b. b == byte) x.1.now) }
 {
-    let at = len_before(byte, bytes);
+    let at = far_len_before(byte, bytes);
     if at == bytes.len() {
         return None;
     }
@@ -108,10 +127,16 @@ impl<'a> Words<'a> {
     pub fn number(&mut self) -> Result<u64, LineError>
         ensures { Gives (λ n. (n, self.new)) result (next_number self.old) }
     {
-        let word = self.word()?;
-        match number(word) {
-            None => Err(LineError::LINE),
-            Some(n) => Ok(n),
+        match self.rest {
+            [] => Err(LineError::LINE),
+            [_, spaced @ ..] => match first_number(spaced) {
+                None => Err(LineError::LINE),
+                Some((n, len)) => {
+                    let (_, behind) = spaced.split_at(len);
+                    self.rest = behind;
+                    Ok(n)
+                }
+            },
         }
     }
 
