@@ -6,7 +6,9 @@ use Rattle.xp_words.specs.declared.entry.Demand.TheVariants.{Nothing, Bad, Read,
 use Rattle.xp_words.specs.KindWords.{kind_fields}
 use Rattle.xp_words.specs.PageTypes.{is_table}
 use Rattle.xp_words.specs.Machine.{Machine}
-use Rattle.xp_words.specs.Places.{Sizes, sizes_of, is_place, Place, Vcpu, Refs, Kind}
+use Rattle.xp_words.specs.declared.place.Place.{Place}
+use Rattle.xp_words.specs.declared.place.Place.TheVariants.{Vcpu, Refs, Kind}
+use Rattle.xp_words.specs.Places.{Sizes, sizes_of, is_place}
 use Rattle.xp_board.specs.Readings.{kind_at, is_context, ref_count, type_count, allocated_mark}
 use Rattle.xp_board.specs.Hands.{hand, typed_hand, refs_to, typed_to, locks_on}
 use Rattle.xp_board.specs.Recorded.{names, CountsAgree, work_of, held, held_of, names_typed, entry_demand, table_entries, entries, contexts, HasType}

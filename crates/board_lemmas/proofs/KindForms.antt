@@ -3,7 +3,9 @@ use Rattle.std.proofs.Common.{Option, None, IsTrue, ap, ◌∙◌, inl, inr, ◌
 use Rattle.std.proofs.lemmas.Bool.{cases_Bool}
 use Rattle.xp_words.proofs.KindLaws.{when_some, kind_write-read}
 use Rattle.xp_words.specs.Machine.{Machine}
-use Rattle.xp_words.specs.Places.{Place, Kind, sizes_of, is_place}
+use Rattle.xp_words.specs.declared.place.Place.{Place}
+use Rattle.xp_words.specs.declared.place.Place.TheVariants.{Kind}
+use Rattle.xp_words.specs.Places.{sizes_of, is_place}
 use Rattle.xp_board.specs.Readings.{kind_at}
 use Rattle.xp_board.specs.Spelling.{IsSpelling, is_kind_in}
 use Rattle.xp_board.specs.Sound.{Spelled}

@@ -7,7 +7,9 @@ use Rattle.xp_words.specs.declared.kind.KindWord.{KindWord}
 use Rattle.xp_words.specs.declared.entry.Demand.TheVariants.{Typed}
 use Rattle.xp_words.specs.PageTypes.{type_number, is_table}
 use Rattle.xp_words.specs.Machine.{Machine}
-use Rattle.xp_words.specs.Places.{sizes_of, Place, is_place, Kind, Vcpu, Refs}
+use Rattle.xp_words.specs.declared.place.Place.{Place}
+use Rattle.xp_words.specs.declared.place.Place.TheVariants.{Kind, Vcpu, Refs}
+use Rattle.xp_words.specs.Places.{sizes_of, is_place}
 use Rattle.xp_board.specs.declared.holdings.Holdings.{Holdings}
 use Rattle.xp_board.specs.Readings.{kind_at, is_context, domain_of, owner_of}
 use Rattle.xp_board.specs.Hands.{work_on}

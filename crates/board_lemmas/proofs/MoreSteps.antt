@@ -2,7 +2,8 @@
 use Rattle.std.proofs.Common.{◌≡◌, ◌≢◌, ℕ, ◌≤◌, ◌&&◌, nat_le, if◌then◌else◌, Bool, true, false, List, [], ◌∷◌, length, Option, Some, None, IsTrue, refl, ◌⊎◌, inl, inr, arith}
 use Rattle.std.proofs.lemmas.Bool.{or_cases, and_parts, and_from, cases_Bool}
 use Rattle.std.proofs.lemmas.Bool.Decides.{nat_tests}
-use Rattle.xp_words.specs.Places.{Sizes, Place, place_at}
+use Rattle.xp_words.specs.declared.place.Place.{Place}
+use Rattle.xp_words.specs.Places.{Sizes, place_at}
 use Rattle.xp_board.specs.declared.holdings.Made.{Made}
 use Rattle.xp_board.specs.Lists.{EachOf}
 use Rattle.xp_board.specs.Steps.{is_at, left_of, some_step, some_since, last_since, EachStep, EachSince, steps_before}

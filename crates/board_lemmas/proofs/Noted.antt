@@ -6,7 +6,8 @@ use Rattle.xp_words.specs.declared.refs.RefWord.{RefWord}
 use Rattle.xp_words.specs.declared.refs.RefWord.TheVariants.{Free}
 use Rattle.xp_words.specs.KindWords.{kind_fields}
 use Rattle.xp_words.specs.Machine.{Machine}
-use Rattle.xp_words.specs.Places.{Place, Clock, Pages, Life, Vcpu, Refs, Kind, M2p, Cell, Map, Priv}
+use Rattle.xp_words.specs.declared.place.Place.{Place}
+use Rattle.xp_words.specs.declared.place.Place.TheVariants.{Clock, Pages, Life, Vcpu, Refs, Kind, M2p, Cell, Map, Priv}
 use Rattle.xp_board.specs.declared.step.Act.{Act}
 use Rattle.xp_board.specs.declared.step.Act.TheVariants.{Cas, Store, Add}
 use Rattle.xp_board.specs.declared.step.Mark.{Mark}

@@ -2,7 +2,8 @@
 use Rattle.std.proofs.Common.{◌≡◌, ℕ, ◌-◌, ◌<◌, Bool, true, false, nat_lt, List, IsTrue, refl, ap, subst, arith}
 use Rattle.std.specs.Prelude.{slice_index}
 use Rattle.std.proofs.lemmas.Bool.Decides.{nat_tests}
-use Rattle.xp_words.specs.Places.{Sizes, Priv, place_at, is_place, memory, number, size, first_priv, Vcpu, Cell}
+use Rattle.xp_words.specs.declared.place.Place.TheVariants.{Priv, Vcpu, Cell}
+use Rattle.xp_words.specs.Places.{Sizes, place_at, is_place, memory, number, size, first_priv}
 use Rattle.xp_words.proofs.PlaceLaws.{place_there}
 
 past_last : (z : Sizes) (n : ℕ) → nat_lt n (first_priv z) ≡ false → place_at z n ≡ Priv (n - first_priv z)

@@ -7,7 +7,9 @@ use Rattle.xp_words.specs.declared.entry.Demand.TheVariants.{Nothing, Bad, Read,
 use Rattle.xp_words.specs.PageTypes.{type_number}
 use Rattle.xp_words.specs.Entries.{is_bit, frame_of, demand_at}
 use Rattle.xp_words.specs.Machine.{Machine}
-use Rattle.xp_words.specs.Places.{sizes_of, Place, Cell}
+use Rattle.xp_words.specs.declared.place.Place.{Place}
+use Rattle.xp_words.specs.declared.place.Place.TheVariants.{Cell}
+use Rattle.xp_words.specs.Places.{sizes_of}
 use Rattle.xp_board.specs.declared.holdings.Holdings.{Holdings}
 use Rattle.xp_board.specs.FillSteps.{is_walked}
 use Rattle.xp_board.specs.Readings.{kind_at}

@@ -1,7 +1,9 @@
 -- What a walk comes to: through an entry that reads alike to the same, and one level down to what the entry of its table leads to.
 use Rattle.std.proofs.Common.{◌≡◌, ℕ, ◌-◌, ◌<◌, ◌==◌, if◌then◌else◌, Bool, true, false, List, ◌∷◌, Some, IsTrue, refl, sym, ap, subst, ◌∙◌, inl, inr}
 use Rattle.xp_words.specs.Entries.{is_bit, frame_of}
-use Rattle.xp_words.specs.Places.{Sizes, Place, Cell}
+use Rattle.xp_words.specs.declared.place.Place.{Place}
+use Rattle.xp_words.specs.declared.place.Place.TheVariants.{Cell}
+use Rattle.xp_words.specs.Places.{Sizes}
 use Rattle.xp_board.specs.declared.step.Item.{Item}
 use Rattle.xp_board.specs.declared.holdings.Reached.{Reached}
 use Rattle.xp_board.specs.declared.holdings.Walk.{Walk}

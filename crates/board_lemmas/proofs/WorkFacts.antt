@@ -1,7 +1,9 @@
 -- What is known of a frame that a vCPU has in its works.
 use Rattle.std.proofs.Common.{◌≡◌, ℕ, ◌<◌, true, Some, Bool, false, None, Option, List, IsTrue, refl, sym, ◌∙◌, ap, arith}
 use Rattle.xp_words.specs.Machine.{Machine}
-use Rattle.xp_words.specs.Places.{Place, Kind, sizes_of, Sizes, Cell}
+use Rattle.xp_words.specs.declared.place.Place.{Place}
+use Rattle.xp_words.specs.declared.place.Place.TheVariants.{Kind, Cell}
+use Rattle.xp_words.specs.Places.{sizes_of, Sizes}
 use Rattle.xp_board.specs.declared.holdings.Work.{Work}
 use Rattle.xp_board.specs.declared.holdings.Holdings.{Holdings}
 use Rattle.xp_board.specs.Readings.{kind_at}

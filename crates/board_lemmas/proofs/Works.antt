@@ -3,7 +3,9 @@ use Rattle.std.proofs.Common.{Option, sym, ◌≡◌, ◌≢◌, ℕ, zero, suc,
 use Rattle.std.proofs.lemmas.Bool.{cases_eq}
 use Rattle.xp_words.specs.RefWords.{bit}
 use Rattle.xp_words.specs.Machine.{Machine}
-use Rattle.xp_words.specs.Places.{sizes_of, Place, Refs}
+use Rattle.xp_words.specs.declared.place.Place.{Place}
+use Rattle.xp_words.specs.declared.place.Place.TheVariants.{Refs}
+use Rattle.xp_words.specs.Places.{sizes_of}
 use Rattle.xp_board.specs.declared.holdings.Holdings.{Holdings}
 use Rattle.xp_board.specs.declared.holdings.Work.{Work}
 use Rattle.xp_board.specs.Readings.{kind_at, is_locked, is_dying, ref_count}

@@ -12,7 +12,7 @@ use Rattle.xp_board.specs.Recorded.{names, names_typed}
 use Rattle.xp_board.specs.Settling.{HasDemand, HasLastDemand, demand_in, demand_out}
 use Rattle.xp_board.specs.RefSteps.{SparesClosing}
 use Rattle.xp_words.specs.Machine.{Machine}
-use Rattle.xp_words.specs.Places.{Place}
+use Rattle.xp_words.specs.declared.place.Place.{Place}
 use Rattle.xp_board.specs.Readings.{kind_at}
 use Rattle.board_lemmas.proofs.Sums.{one_at-same, one_at-other}
 use Rattle.count_rule.proofs.Quiet.{is_closing_at}

@@ -1,7 +1,9 @@
 -- An act that moves references between the hand and what is recorded, and no word of a frame's own.
 use Rattle.std.proofs.Common.{◌≡◌, ◌≢◌, ℕ, ◌+◌, ◌/◌, ◌<◌, refl, ap, arith, IsTrue}
 use Rattle.xp_words.specs.Machine.{Machine}
-use Rattle.xp_words.specs.Places.{sizes_of, Place, Pages, Refs, Kind, Map}
+use Rattle.xp_words.specs.declared.place.Place.{Place}
+use Rattle.xp_words.specs.declared.place.Place.TheVariants.{Pages, Refs, Kind, Map}
+use Rattle.xp_words.specs.Places.{sizes_of}
 use Rattle.xp_board.specs.declared.holdings.Holdings.{Holdings}
 use Rattle.xp_board.specs.Hands.{refs_to, endings_of, hand, typed_hand}
 use Rattle.xp_board.specs.Recorded.{names, names_typed, entries, contexts, is_page_of, TypesAgree}

@@ -3,7 +3,9 @@ use Rattle.xp_words.specs.RefWords.{bit}
 use Rattle.std.proofs.Common.{◌≡◌, ◌≢◌, ℕ, ◌+◌, ◌<◌, Bool, true, List, Some, sym, ◌∙◌, ap, arith, IsTrue, inl, inr}
 use Rattle.std.proofs.lemmas.Bool.{cases_eq}
 use Rattle.xp_words.specs.Machine.{Machine}
-use Rattle.xp_words.specs.Places.{sizes_of, Place, Pages, Vcpu, Refs, Kind}
+use Rattle.xp_words.specs.declared.place.Place.{Place}
+use Rattle.xp_words.specs.declared.place.Place.TheVariants.{Pages, Vcpu, Refs, Kind}
+use Rattle.xp_words.specs.Places.{sizes_of}
 use Rattle.xp_words.specs.KindWords.{kind_fields}
 use Rattle.xp_board.specs.declared.holdings.Holdings.{Holdings}
 use Rattle.xp_board.specs.declared.holdings.Work.{Work}

@@ -5,7 +5,9 @@ use Rattle.xp_words.specs.KindWords.{kind_fields, has_form}
 use Rattle.xp_words.specs.PageTypes.{is_table}
 use Rattle.xp_words.specs.RefWords.{bit}
 use Rattle.xp_words.specs.Machine.{Machine}
-use Rattle.xp_words.specs.Places.{sizes_of, Place, Clock, Kind}
+use Rattle.xp_words.specs.declared.place.Place.{Place}
+use Rattle.xp_words.specs.declared.place.Place.TheVariants.{Clock, Kind}
+use Rattle.xp_words.specs.Places.{sizes_of}
 use Rattle.xp_board.specs.declared.holdings.Holdings.{Holdings}
 use Rattle.xp_board.specs.declared.holdings.Work.{Work}
 use Rattle.xp_board.specs.declared.step.Step.{Step}

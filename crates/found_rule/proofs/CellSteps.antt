@@ -8,7 +8,9 @@ use Rattle.xp_words.specs.declared.entry.Demand.TheVariants.{Typed}
 use Rattle.std.proofs.lemmas.Bool.Decides.{nat_tests}
 use Rattle.xp_words.specs.Entries.{demand_at}
 use Rattle.xp_words.specs.Machine.{Machine}
-use Rattle.xp_words.specs.Places.{sizes_of, is_place, Place, Refs, Kind, Cell, flushed_of, run_of}
+use Rattle.xp_words.specs.declared.place.Place.{Place}
+use Rattle.xp_words.specs.declared.place.Place.TheVariants.{Refs, Kind, Cell}
+use Rattle.xp_words.specs.Places.{sizes_of, is_place, flushed_of, run_of}
 use Rattle.xp_board.specs.declared.step.Step.{Step}
 use Rattle.xp_board.specs.declared.holdings.Lock.{Lock}
 use Rattle.xp_board.specs.declared.holdings.Holdings.{Holdings}

@@ -5,7 +5,9 @@ use Rattle.std.proofs.lemmas.Bool.Decides.{nat_tests}
 use Rattle.xp_words.specs.declared.refs.RefWord.TheVariants.{Dying}
 use Rattle.xp_words.specs.RefWords.{ref_read}
 use Rattle.xp_words.specs.Machine.{Machine}
-use Rattle.xp_words.specs.Places.{sizes_of, Place, Clock, Refs, Kind, Cell, flushed_of, run_of}
+use Rattle.xp_words.specs.declared.place.Place.{Place}
+use Rattle.xp_words.specs.declared.place.Place.TheVariants.{Clock, Refs, Kind, Cell}
+use Rattle.xp_words.specs.Places.{sizes_of, flushed_of, run_of}
 use Rattle.xp_board.specs.declared.step.Step.{Step}
 use Rattle.xp_board.specs.declared.holdings.Ending.{Ending}
 use Rattle.xp_board.specs.declared.holdings.Claimed.{Claimed}

@@ -1,6 +1,7 @@
 -- The steps of a vCPU: those of another vCPU stay, and the vCPU that acts has one more.
 use Rattle.std.proofs.Common.{◌≡◌, ◌≢◌, ℕ, suc, ◌≤◌, ◌&&◌, nat_lt, Bool, List, ◌∷◌, length, Some, IsTrue, sym, ap, subst, ◌∙◌, ◌⊎◌, inl, inr, arith}
-use Rattle.xp_words.specs.Places.{Sizes, Place, is_place, place_at}
+use Rattle.xp_words.specs.declared.place.Place.{Place}
+use Rattle.xp_words.specs.Places.{Sizes, is_place, place_at}
 use Rattle.xp_board.specs.declared.holdings.Made.{Made}
 use Rattle.xp_board.specs.Lists.{EachOf}
 use Rattle.xp_board.specs.Steps.{is_at, left_of, some_since, some_before, last_since, EachSince, steps_before}

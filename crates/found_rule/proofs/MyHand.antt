@@ -4,7 +4,9 @@ use Rattle.std.proofs.lemmas.Bool.{cases_lt, eqb-true, and_parts}
 use Rattle.xp_words.specs.declared.kind.PageType.TheVariants as kinds
 use Rattle.xp_words.specs.KindWords.{kind_fields}
 use Rattle.xp_words.specs.Machine.{Machine}
-use Rattle.xp_words.specs.Places.{Sizes, sizes_of, Place, Refs, Kind, Cell, flushed_of}
+use Rattle.xp_words.specs.declared.place.Place.{Place}
+use Rattle.xp_words.specs.declared.place.Place.TheVariants.{Refs, Kind, Cell}
+use Rattle.xp_words.specs.Places.{Sizes, sizes_of, flushed_of}
 use Rattle.xp_board.specs.declared.holdings.Work.{Work}
 use Rattle.xp_board.specs.declared.holdings.Claimed.{Claimed}
 use Rattle.xp_board.specs.declared.holdings.Holdings.{Holdings}

@@ -1,7 +1,9 @@
 -- Loads, exchanges that found another word, and steps on words of which no fact speaks.
 use Rattle.std.proofs.Common.{◌≡◌, ◌≢◌, ℕ, ◌-◌, ◌^◌, ◌<◌, ◌==◌, ◌||◌, not, false, List, IsTrue, refl, sym, ap, ◌∙◌}
 use Rattle.xp_words.specs.Machine.{Machine}
-use Rattle.xp_words.specs.Places.{sizes_of, Place, Pages, Refs, Kind, M2p, Cell, flushed_of, run_of, asked_of}
+use Rattle.xp_words.specs.declared.place.Place.{Place}
+use Rattle.xp_words.specs.declared.place.Place.TheVariants.{Pages, Refs, Kind, M2p, Cell}
+use Rattle.xp_words.specs.Places.{sizes_of, flushed_of, run_of, asked_of}
 use Rattle.xp_board.specs.declared.step.Step.{Step}
 use Rattle.xp_board.specs.declared.holdings.Looking.{Looking}
 use Rattle.xp_board.specs.declared.holdings.Holdings.{Holdings}

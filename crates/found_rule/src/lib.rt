@@ -4,7 +4,9 @@
 
 ghost use Rattle.std.specs.Prelude.{◌≡◌, ℕ, ◌<◌, None, IsTrue};
 ghost use Rattle.xp_words.specs.Machine.{Machine};
-ghost use Rattle.xp_words.specs.Places.{Place, Refs, sizes_of};
+ghost use Rattle.xp_words.specs.declared.place.Place.{Place};
+ghost use Rattle.xp_words.specs.declared.place.Place.TheVariants.{Refs};
+ghost use Rattle.xp_words.specs.Places.{sizes_of};
 ghost use Rattle.xp_words.specs.declared.entry.Demand.TheVariants.{Typed};
 ghost use Rattle.xp_words.specs.declared.kind.PageType.{PageType};
 ghost use Rattle.xp_board.specs.Keeping.{KeepsMark, KeepsAct};

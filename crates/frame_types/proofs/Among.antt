@@ -1,7 +1,7 @@
 -- What steps showed of a wait, they show among more steps.
 use Rattle.std.proofs.Common.{ℕ, List, ◌++◌, inl, inr, ◌⊎◌}
 use Rattle.xp_words.specs.Machine.{Machine}
-use Rattle.xp_words.specs.Places.{Place}
+use Rattle.xp_words.specs.declared.place.Place.{Place}
 use Rattle.xp_board.specs.declared.step.Act.{Act}
 use Rattle.xp_board.specs.declared.holdings.Made.{Made}
 use Rattle.xp_board.specs.Told.{Had}

@@ -1,7 +1,9 @@
 -- Another vCPU: it is looked at, and asked to flush where it is behind.
 use Rattle.std.proofs.Common.{◌≡◌, ◌≢◌, ℕ, ◌<◌, ◌≤◌, ◌==◌, ◌⊎◌, nat_le, true, false, List, [], ◌∷◌, ◌++◌, length, Some, None, Ok, IsTrue, refl, sym, ap, ◌∙◌, subst, inl, inr, arith}
 use Rattle.std.proofs.lemmas.Bool.Decides.{nat_tests}
-use Rattle.xp_words.specs.Places.{Place, Priv, sizes_of, run_of, flushed_of, asked_of}
+use Rattle.xp_words.specs.declared.place.Place.{Place}
+use Rattle.xp_words.specs.declared.place.Place.TheVariants.{Priv}
+use Rattle.xp_words.specs.Places.{sizes_of, run_of, flushed_of, asked_of}
 use Rattle.xp_board.specs.declared.step.Act.TheVariants.{Load, Max}
 use Rattle.xp_board.specs.declared.holdings.Made.{Made}
 use Rattle.xp_board.specs.Acts.{left_by}

@@ -2,7 +2,8 @@
 use Rattle.std.specs.Prelude.{◌≡◌, ◌≢◌, ◌⊎◌, ℕ, ◌<◌, ◌≤◌, Bool, true, false, List, [], Option, Some, None, Result, Ok, Err, IsTrue}
 use Rattle.xp_words.specs.Machine.{Machine}
 use Rattle.xp_words.specs.KindWords.{kind_fields}
-use Rattle.xp_words.specs.Places.{Priv, sizes_of, run_of, flushed_of}
+use Rattle.xp_words.specs.declared.place.Place.TheVariants.{Priv}
+use Rattle.xp_words.specs.Places.{sizes_of, run_of, flushed_of}
 use Rattle.xp_words.specs.declared.reply.Refusal.{Refusal}
 use Rattle.xp_words.specs.declared.reply.Refusal.TheVariants as refusals
 use Rattle.xp_board.specs.declared.holdings.Made.{Made}

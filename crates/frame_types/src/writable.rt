@@ -1,7 +1,8 @@
 //! Frames that are taken as ordinary memory.
 ghost use Rattle.std.specs.Prelude.{◌≡◌, ◌∷◌, ◌<◌, [], true, Some, None, Err};
 ghost use Rattle.xp_words.specs.KindWords.{kind_read};
-ghost use Rattle.xp_words.specs.Places.{Kind, number, sizes_of};
+ghost use Rattle.xp_words.specs.declared.place.Place.TheVariants.{Kind};
+ghost use Rattle.xp_words.specs.Places.{number, sizes_of};
 ghost use Rattle.xp_words.specs.declared.reply.Pause.TheVariants.{Lost};
 ghost use Rattle.xp_words.specs.declared.reply.Stop.TheVariants.{Paused};
 ghost use Rattle.xp_board.specs.Hands.{refs_to, work_on, typed_to};

@@ -2,7 +2,8 @@
 use Rattle.std.proofs.Common.{◌≡◌, ℕ, ◌^◌, ◌<◌, ◌==◌, if◌then◌else◌, true, false, List, [], ◌∷◌, Some, None, IsTrue, refl, sym, ap, ◌∙◌, subst, inl}
 use Rattle.xp_words.specs.declared.kind.PageType.TheVariants.{Writable}
 use Rattle.xp_words.specs.Machine.{Machine}
-use Rattle.xp_words.specs.Places.{Cell, sizes_of, place_at}
+use Rattle.xp_words.specs.declared.place.Place.TheVariants.{Cell}
+use Rattle.xp_words.specs.Places.{sizes_of, place_at}
 use Rattle.xp_board.specs.declared.step.Act.TheVariants.{Load, Store}
 use Rattle.xp_board.specs.declared.step.Step.{Step}
 use Rattle.xp_board.specs.declared.step.StepKind.TheVariants as steps

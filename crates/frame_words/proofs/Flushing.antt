@@ -2,7 +2,8 @@
 use Rattle.std.proofs.Common.{◌≡◌, ◌≢◌, ℕ, ◌+◌, ◌^◌, ◌<◌, ◌==◌, nat_lt, if◌then◌else◌, Bool, true, false, length, Some, None, IsTrue, refl, sym, ap, ◌∙◌, subst, arith, lit<}
 use Rattle.std.proofs.lemmas.Bool.Decides.{nat_tests}
 use Rattle.xp_words.specs.Machine.{Machine}
-use Rattle.xp_words.specs.Places.{Sizes, Clock, Life, Priv, is_place, sizes_of, place_at, flushed_of, asked_of, run_of}
+use Rattle.xp_words.specs.declared.place.Place.TheVariants.{Clock, Life, Priv}
+use Rattle.xp_words.specs.Places.{Sizes, is_place, sizes_of, place_at, flushed_of, asked_of, run_of}
 use Rattle.xp_board.specs.declared.step.Act.TheVariants.{Load, Cas, Store, Max}
 use Rattle.xp_board.specs.declared.step.Step.{Step}
 use Rattle.xp_board.specs.declared.step.StepKind.TheVariants as steps

@@ -6,7 +6,8 @@ use Rattle.std.proofs.lemmas.Bool.Decides.{nat_tests}
 use Rattle.xp_words.specs.Machine.{Machine}
 use Rattle.xp_words.specs.RefWords.{ref_read, ref_write, IsRef}
 use Rattle.xp_words.specs.declared.refs.RefWord.TheVariants.{Free}
-use Rattle.xp_words.specs.Places.{Sizes, Refs, Map, Pages, is_place, sizes_of, place_at}
+use Rattle.xp_words.specs.declared.place.Place.TheVariants.{Refs, Map, Pages}
+use Rattle.xp_words.specs.Places.{Sizes, is_place, sizes_of, place_at}
 use Rattle.xp_words.proofs.RefLaws.{ref_read-write}
 use Rattle.xp_board.specs.declared.step.Act.TheVariants.{Store, Add}
 use Rattle.xp_board.specs.declared.step.Step.{Step}

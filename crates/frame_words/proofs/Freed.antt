@@ -2,7 +2,8 @@
 use Rattle.std.proofs.Common.{◌≡◌, ℕ, ◌/◌, ◌<◌, ◌≤◌, ◌==◌, List, [], ◌∷◌, ◌++◌, None, IsTrue, refl, sym, ap, ◌∙◌, subst, arith}
 use Rattle.xp_words.specs.RefWords.{ref_write}
 use Rattle.xp_words.specs.declared.refs.RefWord.TheVariants.{Free}
-use Rattle.xp_words.specs.Places.{Clock, Refs, Map, Pages, sizes_of}
+use Rattle.xp_words.specs.declared.place.Place.TheVariants.{Clock, Refs, Map, Pages}
+use Rattle.xp_words.specs.Places.{sizes_of}
 use Rattle.xp_board.specs.declared.step.Act.TheVariants.{Load, Store, Add}
 use Rattle.xp_board.specs.declared.holdings.Made.{Made}
 use Rattle.xp_board.specs.declared.holdings.Holdings.{Holdings}

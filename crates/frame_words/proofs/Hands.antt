@@ -4,7 +4,9 @@ use Rattle.std.proofs.lemmas.Bool.Decides.{nat_tests}
 use Rattle.xp_words.specs.Machine.{Machine, IsMachine}
 use Rattle.xp_words.specs.RefWords.{ref_read}
 use Rattle.xp_words.specs.declared.refs.RefWord.TheVariants.{Owned}
-use Rattle.xp_words.specs.Places.{Place, Refs, is_place, number, sizes_of, place_at, asked_of, run_of}
+use Rattle.xp_words.specs.declared.place.Place.{Place}
+use Rattle.xp_words.specs.declared.place.Place.TheVariants.{Refs}
+use Rattle.xp_words.specs.Places.{is_place, number, sizes_of, place_at, asked_of, run_of}
 use Rattle.xp_board.specs.declared.step.Act.TheVariants.{Load, Cas, Add}
 use Rattle.xp_board.specs.declared.step.Mark.{Mark}
 use Rattle.xp_board.specs.declared.step.Mark.TheVariants as marks

@@ -7,7 +7,8 @@ use Rattle.xp_words.specs.declared.kind.KindWord.{KindWord}
 use Rattle.xp_words.specs.declared.kind.PageType.{PageType}
 use Rattle.xp_words.specs.KindWords.{is_kind, kind_read, kind_write}
 use Rattle.xp_words.specs.PageTypes.{is_none, type_number}
-use Rattle.xp_words.specs.Places.{Sizes, Kind, number, sizes_of, place_at}
+use Rattle.xp_words.specs.declared.place.Place.TheVariants.{Kind}
+use Rattle.xp_words.specs.Places.{Sizes, number, sizes_of, place_at}
 use Rattle.xp_board.specs.declared.step.Act.TheVariants.{Cas}
 use Rattle.xp_board.specs.declared.step.Step.{Step}
 use Rattle.xp_board.specs.declared.step.StepKind.TheVariants as steps

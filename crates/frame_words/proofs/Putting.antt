@@ -4,7 +4,7 @@ use Rattle.std.proofs.lemmas.Bool.Decides.{nat_tests}
 use Rattle.xp_words.specs.Machine.{Machine}
 use Rattle.xp_words.specs.RefWords.{ref_read}
 use Rattle.xp_words.specs.declared.refs.RefWord.TheVariants.{Owned, Dying}
-use Rattle.xp_words.specs.Places.{Clock, Refs}
+use Rattle.xp_words.specs.declared.place.Place.TheVariants.{Clock, Refs}
 use Rattle.xp_board.specs.declared.step.Act.TheVariants.{Add}
 use Rattle.xp_board.specs.declared.holdings.Made.{Made}
 use Rattle.xp_board.specs.declared.holdings.Claimed.{Claimed}

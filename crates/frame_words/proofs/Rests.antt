@@ -1,6 +1,6 @@
 -- Hands over several steps in which the own translations may be flushed.
 use Rattle.std.proofs.Common.{◌≡◌, ℕ, ◌<◌, ◌≤◌, ◌⊎◌, false, List, [], ◌∷◌, length, Option, refl, sym, ap, ◌∙◌, inl, inr, arith}
-use Rattle.xp_words.specs.Places.{Place}
+use Rattle.xp_words.specs.declared.place.Place.{Place}
 use Rattle.xp_board.specs.declared.step.Act.{Act}
 use Rattle.xp_board.specs.declared.step.Mark.{Mark}
 use Rattle.xp_board.specs.declared.holdings.Looking.{Looking}

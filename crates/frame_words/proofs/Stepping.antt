@@ -4,7 +4,9 @@ use Rattle.std.proofs.lemmas.Bool.Decides.{nat_tests}
 use Rattle.xp_words.specs.Machine.{Machine, IsMachine}
 use Rattle.xp_words.specs.RefWords.{ref_read, ref_write}
 use Rattle.xp_words.specs.declared.refs.RefWord.TheVariants.{Owned}
-use Rattle.xp_words.specs.Places.{Sizes, Place, Clock, Refs, Kind, M2p, is_place, number, sizes_of, place_at}
+use Rattle.xp_words.specs.declared.place.Place.{Place}
+use Rattle.xp_words.specs.declared.place.Place.TheVariants.{Clock, Refs, Kind, M2p}
+use Rattle.xp_words.specs.Places.{Sizes, is_place, number, sizes_of, place_at}
 use Rattle.xp_words.proofs.PlaceLaws.{place_back}
 use Rattle.xp_board.specs.declared.step.Act.{Act}
 use Rattle.xp_board.specs.declared.step.Act.TheVariants.{Load, Cas, Store, Add}

@@ -1,7 +1,8 @@
 -- What a board that tells all words tells after one step.
 use Rattle.std.proofs.Common.{◌≡◌, [], ◌∷◌, ◌≢◌, ℕ, true, is_some, Option, Some, None, IsTrue, refl, sym, ap, ◌∙◌, subst}
 use Rattle.xp_words.specs.Machine.{Machine}
-use Rattle.xp_words.specs.Places.{Place, is_place, sizes_of, memory}
+use Rattle.xp_words.specs.declared.place.Place.{Place}
+use Rattle.xp_words.specs.Places.{is_place, sizes_of, memory}
 use Rattle.xp_words.proofs.PlaceLaws.{memory_same, memory_other}
 use Rattle.std.proofs.Math.ListN.{set}
 use Rattle.xp_board.specs.declared.step.Act.{Act}

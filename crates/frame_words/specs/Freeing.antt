@@ -2,7 +2,8 @@
 use Rattle.std.specs.Prelude.{◌≡◌, ◌≢◌, ℕ, ◌≤◌, ◌==◌, Bool, List, [], ◌∷◌, ◌++◌, length, Option, Some, None, IsTrue}
 use Rattle.xp_words.specs.declared.refs.RefWord.TheVariants.{Owned}
 use Rattle.xp_words.specs.Machine.{Machine}
-use Rattle.xp_words.specs.Places.{Clock, Refs, sizes_of}
+use Rattle.xp_words.specs.declared.place.Place.TheVariants.{Clock, Refs}
+use Rattle.xp_words.specs.Places.{sizes_of}
 use Rattle.xp_words.specs.RefWords.{ref_read}
 use Rattle.xp_board.specs.declared.step.Act.TheVariants.{Add}
 use Rattle.xp_board.specs.declared.holdings.Made.{Made}

@@ -1,7 +1,8 @@
 //! Cells of frames, one step each. Both answer the word that was found.
 ghost use Rattle.std.specs.Prelude.{◌≡◌, ◌<◌, Some, None, IsTrue};
 ghost use Rattle.xp_words.specs.declared.kind.PageType.TheVariants.{Writable};
-ghost use Rattle.xp_words.specs.Places.{Cell, sizes_of};
+ghost use Rattle.xp_words.specs.declared.place.Place.TheVariants.{Cell};
+ghost use Rattle.xp_words.specs.Places.{sizes_of};
 ghost use Rattle.xp_board.specs.Hands.{typed_to};
 ghost use Rattle.xp_board.specs.Knowledge.{knows_live};
 ghost use Rattle.xp_board.specs.Told.{Finds};

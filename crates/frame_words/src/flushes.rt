@@ -1,6 +1,7 @@
 //! The clock, flushes and what they await, and the words of a domain, one step each.
 ghost use Rattle.std.specs.Prelude.{◌≡◌, ◌≢◌, ◌+◌, ◌==◌, ◌<◌, nat_lt, true, length, Some, None, IfErr, MatchResult, IsTrue};
-ghost use Rattle.xp_words.specs.Places.{Clock, Life, Priv, sizes_of, flushed_of, run_of, asked_of};
+ghost use Rattle.xp_words.specs.declared.place.Place.TheVariants.{Clock, Life, Priv};
+ghost use Rattle.xp_words.specs.Places.{sizes_of, flushed_of, run_of, asked_of};
 ghost use Rattle.xp_board.specs.AskSteps.{MayAsk};
 ghost use Rattle.xp_board.specs.Readings.{last_clock};
 ghost use Rattle.xp_board.specs.Steps.{some_since};

@@ -1,6 +1,6 @@
 //! A frame whose last reference was given back becomes free.
 ghost use Rattle.std.specs.Prelude.{◌≡◌, ◌/◌, ◌^◌, ◌<◌, ◌≤◌, length, Some, None};
-ghost use Rattle.xp_words.specs.Places.{Refs, Map, Pages};
+ghost use Rattle.xp_words.specs.declared.place.Place.TheVariants.{Refs, Map, Pages};
 ghost use Rattle.xp_words.specs.RefWords.{ref_write};
 ghost use Rattle.xp_words.specs.declared.refs.RefWord.TheVariants.{Free};
 ghost use Rattle.xp_board.specs.HintSteps.{map_bit};

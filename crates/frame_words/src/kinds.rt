@@ -1,6 +1,6 @@
 //! One step each, on the kind word of a frame: types that are taken and given back.
 ghost use Rattle.std.specs.Prelude.{◌≡◌, ◌≢◌, ◌^◌, ◌<◌, ◌==◌, not, if◌then◌else◌, Some, None, IfErr, MatchResult, IsTrue};
-ghost use Rattle.xp_words.specs.Places.{Kind};
+ghost use Rattle.xp_words.specs.declared.place.Place.TheVariants.{Kind};
 ghost use Rattle.xp_words.specs.KindWords.{kind_read, kind_write, kind_fields};
 ghost use Rattle.xp_words.specs.declared.kind.PageType.TheVariants.{Writable};
 ghost use Rattle.xp_words.specs.PageTypes.{is_none};

@@ -1,6 +1,6 @@
 //! One step each, on the kind word of a frame that is partial, and of one whose type count is another holder's.
 ghost use Rattle.std.specs.Prelude.{◌≡◌, ◌≢◌, ◌^◌, ◌<◌, ◌||◌, ◌==◌, not, Some, None, IfErr, MatchResult, IsTrue};
-ghost use Rattle.xp_words.specs.Places.{Kind};
+ghost use Rattle.xp_words.specs.declared.place.Place.TheVariants.{Kind};
 ghost use Rattle.xp_words.specs.KindWords.{kind_read, kind_write};
 ghost use Rattle.xp_words.specs.PageTypes.{is_none, type_number};
 ghost use Rattle.xp_words.specs.declared.kind.PageType.TheVariants.{Writable};

@@ -1,6 +1,7 @@
 //! One step each. All but `raise_refs` answer the word that was found.
 ghost use Rattle.std.specs.Prelude.{◌≡◌, ◌≢◌, ◌+◌, ◌^◌, ◌<◌, true, Some, None, IfErr, MatchResult, length};
-ghost use Rattle.xp_words.specs.Places.{Clock, Refs, Kind, M2p, asked_of, run_of};
+ghost use Rattle.xp_words.specs.declared.place.Place.TheVariants.{Clock, Refs, Kind, M2p};
+ghost use Rattle.xp_words.specs.Places.{asked_of, run_of};
 ghost use Rattle.xp_words.specs.RefWords.{ref_read};
 ghost use Rattle.xp_words.specs.declared.refs.RefWord.TheVariants.{Owned};
 ghost use Rattle.xp_board.specs.Hands.{hand, refs_to};

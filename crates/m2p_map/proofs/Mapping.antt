@@ -1,6 +1,6 @@
 -- A reference that is taken, used and given back.
 use Rattle.std.proofs.Common.{◌≡◌, ℕ, ◌<◌, List, [], ◌∷◌, ◌++◌, None, Ok, refl, ap, ◌∙◌, subst, arith}
-use Rattle.xp_words.specs.Places.{Refs, M2p}
+use Rattle.xp_words.specs.declared.place.Place.TheVariants.{Refs, M2p}
 use Rattle.xp_board.specs.declared.step.Act.TheVariants.{Store}
 use Rattle.xp_board.specs.declared.holdings.Made.{Made}
 use Rattle.xp_board.specs.declared.holdings.Reference.{Reference}

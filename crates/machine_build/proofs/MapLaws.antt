@@ -4,7 +4,7 @@ use Rattle.std.proofs.lemmas.Bool.{cases_lt}
 use Rattle.std.proofs.lemmas.Nat.Bits.{bit_at_cat_low, bit_at_cat_high}
 use Rattle.xp_words.specs.RefWords.{bit}
 use Rattle.xp_words.specs.Entries.{is_bit}
-use Rattle.xp_words.specs.Places.{Map}
+use Rattle.xp_words.specs.declared.place.Place.TheVariants.{Map}
 use Rattle.trace_text.specs.declared.trace.Trace.{Trace}
 use Rattle.machine_build.specs.Opening.{bits_below, is_unowned, opening_at}
 use Rattle.machine_build.proofs.Steps.{bits_below-lt}

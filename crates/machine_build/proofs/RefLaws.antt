@@ -1,6 +1,6 @@
 use Rattle.std.proofs.Common.{◌≡◌, ℕ, suc, ◌<◌, ◌^◌, Bool, true, false, cond, List, [], ◌∷◌, All, find, Option, Some, arith, lit<, refl}
 use Rattle.xp_words.specs.RefWords.{ref_read, IsRef}
-use Rattle.xp_words.specs.Places.{Refs, Kind}
+use Rattle.xp_words.specs.declared.place.Place.TheVariants.{Refs, Kind}
 use Rattle.xp_words.specs.KindWords.{kind_read, kind_fields, has_form}
 use Rattle.xp_words.proofs.RefLaws.{ref_read-write}
 use Rattle.trace_text.specs.declared.trace.Own.{Own}

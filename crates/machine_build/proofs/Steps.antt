@@ -5,7 +5,9 @@ use Rattle.std.proofs.lemmas.List.{map-append, reverse-append, take_more}
 use Rattle.std.proofs.Math.ListN.{set, length-set}
 use Rattle.std.proofs.lemmas.Bool.{cases_eq}
 use Rattle.std.proofs.lemmas.Bool.Decides.{nat_tests}
-use Rattle.xp_words.specs.Places.{Sizes, Place, Clock, Pages, Vcpu, Refs, M2p, Cell, Map, Priv, is_place, number, memory, size, map_words, flushed_of}
+use Rattle.xp_words.specs.declared.place.Place.{Place}
+use Rattle.xp_words.specs.declared.place.Place.TheVariants.{Clock, Pages, Vcpu, Refs, M2p, Cell, Map, Priv}
+use Rattle.xp_words.specs.Places.{Sizes, is_place, number, memory, size, map_words, flushed_of}
 use Rattle.xp_words.proofs.PlaceLaws.{memory_same, memory_other, number-lt}
 use Rattle.xp_words.specs.RefWords.{ref_write}
 use Rattle.xp_words.specs.declared.refs.RefWord.TheVariants.{Owned}

@@ -2,7 +2,9 @@ use Rattle.std.proofs.Common.{◌≡◌, ℕ, ◌+◌, ◌*◌, ◌==◌, ◌&&�
 use Rattle.std.proofs.Math.ListN.{set}
 use Rattle.std.proofs.lemmas.Bool.Decides.{nat_tests}
 use Rattle.xp_words.specs.RefWords.{ref_write}
-use Rattle.xp_words.specs.Places.{Sizes, Place, Clock, Pages, Life, Vcpu, Refs, Kind, M2p, Cell, Map, Priv, sizes_of, is_place, number, memory, size, map_words}
+use Rattle.xp_words.specs.declared.place.Place.{Place}
+use Rattle.xp_words.specs.declared.place.Place.TheVariants.{Clock, Pages, Life, Vcpu, Refs, Kind, M2p, Cell, Map, Priv}
+use Rattle.xp_words.specs.Places.{Sizes, sizes_of, is_place, number, memory, size, map_words}
 use Rattle.xp_words.proofs.PlaceLaws.{memory_same, memory_other}
 use Rattle.trace_text.specs.declared.trace.Trace.{Trace}
 use Rattle.trace_text.specs.declared.trace.Own.{Own}

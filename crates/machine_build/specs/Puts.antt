@@ -1,6 +1,7 @@
 -- The words after each part of the opening was put, from those before it.
 use Rattle.std.specs.Prelude.{ℕ, ◌+◌, ◌-◌, ◌*◌, ◌^◌, ◌==◌, ◌&&◌, nat_lt, if◌then◌else◌, Bool, List, find, slice_index, Option, Some, None}
-use Rattle.xp_words.specs.Places.{Place, Clock, Pages, Vcpu, Refs, M2p, Cell, Map, Priv}
+use Rattle.xp_words.specs.declared.place.Place.{Place}
+use Rattle.xp_words.specs.declared.place.Place.TheVariants.{Clock, Pages, Vcpu, Refs, M2p, Cell, Map, Priv}
 use Rattle.trace_text.specs.declared.trace.Own.{Own}
 use Rattle.trace_text.specs.declared.trace.CellRun.{CellRun}
 use Rattle.trace_text.specs.declared.trace.Trace.{Trace}

@@ -4,7 +4,7 @@ ghost use Rattle.std.specs.Prelude.{◌≡◌, ◌<◌, ◌^◌, ◌+◌, ◌*�
 ghost use Rattle.xp_words.specs.RefWords.{ref_read};
 ghost use Rattle.xp_words.specs.Entries.{is_bit};
 ghost use Rattle.xp_words.specs.KindWords.{kind_read};
-ghost use Rattle.xp_words.specs.Places.{Refs, Kind, Map};
+ghost use Rattle.xp_words.specs.declared.place.Place.TheVariants.{Refs, Kind, Map};
 ghost use Rattle.trace_text.specs.declared.trace.Trace.{Trace};
 ghost use Rattle.trace_text.specs.WellFormed.{IsWellFormed};
 ghost use Rattle.trace_text.specs.Counted.{has_frame};

@@ -2,7 +2,8 @@
 #![tactic(auto)]
 
 ghost use Rattle.std.specs.Prelude.{◌≡◌, IfOk, length, reverse};
-ghost use Rattle.xp_words.specs.Places.{Place, sizes_of, size, memory};
+ghost use Rattle.xp_words.specs.declared.place.Place.{Place};
+ghost use Rattle.xp_words.specs.Places.{sizes_of, size, memory};
 ghost use Rattle.trace_text.specs.WellFormed.{IsWellFormed};
 ghost use Rattle.machine_build.specs.Opening.{IsOpening};
 ghost use Rattle.machine_build.specs.Puts.{all_zero, with_cells};

@@ -2,7 +2,8 @@
 #![tactic(auto, using(crate::proofs::Steps::inside))]
 
 ghost use Rattle.std.specs.Prelude.{◌≡◌, ◌<◌, ◌+◌, ◌*◌, ℕ, length};
-ghost use Rattle.xp_words.specs.Places.{Place, sizes_of, size, memory, map_words};
+ghost use Rattle.xp_words.specs.declared.place.Place.{Place};
+ghost use Rattle.xp_words.specs.Places.{sizes_of, size, memory, map_words};
 ghost use Rattle.machine_build.specs.Opening.{bits_below};
 ghost use Rattle.machine_build.specs.Puts.{is_zero, with_map};
 

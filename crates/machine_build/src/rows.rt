@@ -2,7 +2,8 @@
 #![tactic(auto, using(crate::proofs::Steps::inside))]
 
 ghost use Rattle.std.specs.Prelude.{◌≡◌, ◌≤◌, ◌<◌, ◌^◌, ℕ, length};
-ghost use Rattle.xp_words.specs.Places.{Place, sizes_of, size, memory};
+ghost use Rattle.xp_words.specs.declared.place.Place.{Place};
+ghost use Rattle.xp_words.specs.Places.{sizes_of, size, memory};
 ghost use Rattle.trace_text.specs.Counted.{pages_of};
 ghost use Rattle.trace_text.specs.WellFormed.{IsWellFormed};
 ghost use Rattle.machine_build.specs.Puts.{with_domains, with_vcpus, with_m2p};

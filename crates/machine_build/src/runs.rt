@@ -2,7 +2,8 @@
 #![tactic(auto, using(crate::proofs::Steps::inside))]
 
 ghost use Rattle.std.specs.Prelude.{◌≡◌, ◌≤◌, ◌<◌, ◌+◌, ◌∷◌, [], ℕ, List, length, reverse, All, OnOk, max, nat_lt, if◌then◌else◌, slice_index, vec_len};
-ghost use Rattle.xp_words.specs.Places.{Place, sizes_of, size, memory};
+ghost use Rattle.xp_words.specs.declared.place.Place.{Place};
+ghost use Rattle.xp_words.specs.Places.{sizes_of, size, memory};
 ghost use Rattle.xp_words.specs.Machine.{IsMachine};
 ghost use Rattle.trace_text.specs.WellFormed.{IsOwn, IsCellRun};
 ghost use Rattle.machine_build.specs.Puts.{with_owned, with_cells};

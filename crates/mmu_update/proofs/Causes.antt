@@ -1,7 +1,7 @@
 -- What steps showed they go on to show among more steps.
 use Rattle.std.proofs.Common.{ℕ, List}
 use Rattle.xp_words.specs.Machine.{Machine}
-use Rattle.xp_words.specs.Places.{Refs, Kind}
+use Rattle.xp_words.specs.declared.place.Place.TheVariants.{Refs, Kind}
 use Rattle.xp_words.specs.declared.reply.Stop.{Stop}
 use Rattle.xp_words.specs.declared.reply.Stop.TheVariants.{Refused, Paused}
 use Rattle.xp_words.specs.declared.reply.Refusal.TheVariants as refusals

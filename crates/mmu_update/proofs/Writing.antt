@@ -1,7 +1,7 @@
 -- The steps of a write, put together from those of its calls.
 use Rattle.std.proofs.Common.{◌≡◌, ℕ, ◌<◌, true, List, [], ◌∷◌, ◌++◌, None, Ok, Err, refl, ◌∙◌, subst, inl, inr}
 use Rattle.xp_words.specs.declared.reply.Stop.{Stop}
-use Rattle.xp_words.specs.Places.{Kind, Cell}
+use Rattle.xp_words.specs.declared.place.Place.TheVariants.{Kind, Cell}
 use Rattle.xp_board.specs.declared.step.Act.TheVariants.{Store}
 use Rattle.xp_board.specs.declared.holdings.Made.{Made}
 use Rattle.xp_board.specs.Told.{Post, PortValue, is_telling}

@@ -3,7 +3,9 @@ use Rattle.std.proofs.Common.{◌≡◌, ℕ, ◌+◌, ◌<◌, if◌then◌else
 use Rattle.std.proofs.lemmas.Bool.Decides.{nat_tests}
 use Rattle.xp_words.specs.declared.kind.KindWord.{KindWord}
 use Rattle.xp_words.specs.declared.entry.Demand.{Demand}
-use Rattle.xp_words.specs.Places.{Sizes, Place, Pages, Vcpu, Refs, sizes_of, is_place}
+use Rattle.xp_words.specs.declared.place.Place.{Place}
+use Rattle.xp_words.specs.declared.place.Place.TheVariants.{Pages, Vcpu, Refs}
+use Rattle.xp_words.specs.Places.{Sizes, sizes_of, is_place}
 use Rattle.xp_board.specs.declared.holdings.Holdings.{Holdings}
 use Rattle.xp_board.specs.Sums.{sum_below}
 use Rattle.xp_board.specs.Lists.{one_at, times, times_by, EachOf}

@@ -1,7 +1,9 @@
 -- What entries and words of vCPUs lead to: nothing is recorded, and each such word is 0.
 use Rattle.std.proofs.Common.{◌≡◌, ℕ, false, IsTrue, refl, arith}
 use Rattle.std.proofs.lemmas.Bool.{and_parts}
-use Rattle.xp_words.specs.Places.{Place, Vcpu, sizes_of}
+use Rattle.xp_words.specs.declared.place.Place.{Place}
+use Rattle.xp_words.specs.declared.place.Place.TheVariants.{Vcpu}
+use Rattle.xp_words.specs.Places.{sizes_of}
 use Rattle.xp_board.specs.Hands.{empty}
 use Rattle.xp_board.specs.Readings.{kind_at, is_live}
 use Rattle.xp_board.specs.Valid.{Valid, Permitted, is_live_context}

@@ -1,7 +1,8 @@
 -- What holds of empty hands on the opening words.
 use Rattle.std.proofs.Common.{◌≡◌, ℕ, ◌+◌, refl, arith}
 use Rattle.xp_words.specs.Machine.{Machine}
-use Rattle.xp_words.specs.Places.{Sizes, Place, sizes_of}
+use Rattle.xp_words.specs.declared.place.Place.{Place}
+use Rattle.xp_words.specs.Places.{Sizes, sizes_of}
 use Rattle.xp_board.specs.Lists.{times_by, some_of, Member, EachOf}
 use Rattle.xp_board.specs.Steps.{EachStep, steps_before}
 use Rattle.xp_board.specs.Knowledge.{knows_owner, knows_live, knows_partial}

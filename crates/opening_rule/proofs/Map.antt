@@ -3,7 +3,9 @@ use Rattle.std.proofs.Common.{◌≡◌, ℕ, ◌+◌, ◌*◌, ◌/◌, ◌%◌
 use Rattle.std.proofs.lemmas.Bool.Decides.{nat_tests}
 use Rattle.xp_words.specs.RefWords.{bit}
 use Rattle.xp_words.specs.Entries.{is_bit}
-use Rattle.xp_words.specs.Places.{Place, Refs, Map, sizes_of, is_place, map_words}
+use Rattle.xp_words.specs.declared.place.Place.{Place}
+use Rattle.xp_words.specs.declared.place.Place.TheVariants.{Refs, Map}
+use Rattle.xp_words.specs.Places.{sizes_of, is_place, map_words}
 use Rattle.xp_board.specs.Lists.{times, times_by}
 use Rattle.xp_board.specs.Readings.{is_free}
 use Rattle.xp_board.specs.Hands.{empty}

@@ -2,7 +2,8 @@
 use Rattle.std.proofs.Common.{◌≡◌, ℕ, false, find, is_none, Option, Some, None, refl, ◌∙◌, ap}
 use Rattle.xp_words.specs.KindWords.{kind_fields}
 use Rattle.xp_words.specs.RefWords.{ref_read}
-use Rattle.xp_words.specs.Places.{Place, Refs, Kind}
+use Rattle.xp_words.specs.declared.place.Place.{Place}
+use Rattle.xp_words.specs.declared.place.Place.TheVariants.{Refs, Kind}
 use Rattle.xp_board.specs.Readings.{kind_at, ref_count, allocated_mark, count_in, allocated_in, owner_of, free_stamp, stamp_in, is_free, is_free_in, is_dying, is_dying_in, kind_stamp}
 use Rattle.xp_board.specs.Recorded.{is_page_of}
 use Rattle.trace_text.specs.declared.trace.Own.{Own}

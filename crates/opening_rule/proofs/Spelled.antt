@@ -6,7 +6,9 @@ use Rattle.std.proofs.lemmas.List.Elements.{All-get_or}
 use Rattle.xp_words.specs.Machine.{Machine}
 use Rattle.xp_words.specs.RefWords.{ref_write}
 use Rattle.xp_words.specs.ContextWords.{ldt_read}
-use Rattle.xp_words.specs.Places.{Place, Clock, Pages, Life, Vcpu, Refs, Kind, M2p, Cell, Map, Priv, sizes_of, is_place}
+use Rattle.xp_words.specs.declared.place.Place.{Place}
+use Rattle.xp_words.specs.declared.place.Place.TheVariants.{Clock, Pages, Life, Vcpu, Refs, Kind, M2p, Cell, Map, Priv}
+use Rattle.xp_words.specs.Places.{sizes_of, is_place}
 use Rattle.xp_board.specs.Spelling.{IsSpelling, is_ref_in, is_vcpu_word}
 use Rattle.xp_board.specs.Sound.{Spelled}
 use Rattle.trace_text.specs.declared.trace.Own.{Own}

@@ -2,7 +2,9 @@
 use Rattle.std.proofs.Common.{◌≡◌, ℕ, ◌^◌, ◌<◌, ◌≤◌, IsTrue, refl, sym, ap, ◌∙◌, subst, arith}
 use Rattle.std.proofs.lemmas.Bool.Decides.{nat_tests}
 use Rattle.xp_words.specs.Machine.{Machine}
-use Rattle.xp_words.specs.Places.{Sizes, Place, Clock, Vcpu, Cell, number, place_at, is_place}
+use Rattle.xp_words.specs.declared.place.Place.{Place}
+use Rattle.xp_words.specs.declared.place.Place.TheVariants.{Clock, Vcpu, Cell}
+use Rattle.xp_words.specs.Places.{Sizes, number, place_at, is_place}
 use Rattle.xp_words.proofs.PlaceLaws.{place_back}
 use Rattle.xp_board.specs.Spelling.{IsSpelling}
 use Rattle.board_lemmas.proofs.Numbers.{cell_there, vcpu_there}

@@ -2,7 +2,7 @@
 use Rattle.std.proofs.Common.{◌≡◌, ℕ, ◌+◌, List, [], ◌++◌, refl, ap, ◌∙◌, append-nil, append_assoc, add-zero, true, false}
 use Rattle.std.specs.Prelude.{slice_index, slice_index_or}
 use Rattle.xp_words.specs.declared.reply.LogLine.{LogLine}
-use Rattle.xp_words.specs.Places.{Refs, Kind, M2p}
+use Rattle.xp_words.specs.declared.place.Place.TheVariants.{Refs, Kind, M2p}
 use Rattle.report_text.specs.Memories.{Memory, word}
 use Rattle.report_text.specs.ReportOf.{vcpu_text, vcpu_texts, domain_line, domain_lines, is_free_word, frame_by, frame_text, frame_texts, free_frames}
 use Rattle.report_text.proofs.Ranges.{texts_more, count_more}

@@ -1,7 +1,8 @@
 -- A machine with its words.
 use Rattle.std.specs.Prelude.{◌≡◌, ℕ, List, length}
 use Rattle.xp_words.specs.Machine.{Machine}
-use Rattle.xp_words.specs.Places.{Place, sizes_of, size, memory}
+use Rattle.xp_words.specs.declared.place.Place.{Place}
+use Rattle.xp_words.specs.Places.{sizes_of, size, memory}
 
 pub record Memory : Type 0 where
   pub machine : Machine

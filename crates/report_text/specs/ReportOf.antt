@@ -7,7 +7,8 @@ use Rattle.xp_words.specs.declared.refs.RefWord.TheVariants.{Free, Owned, Dying}
 use Rattle.xp_words.specs.declared.reply.LogLine.{LogLine}
 use Rattle.xp_words.specs.KindWords.{kind_read}
 use Rattle.xp_words.specs.Machine.{Machine}
-use Rattle.xp_words.specs.Places.{Pages, Life, Refs, Kind, M2p, base_of, user_base_of, old0_of, old1_of}
+use Rattle.xp_words.specs.declared.place.Place.TheVariants.{Pages, Life, Refs, Kind, M2p}
+use Rattle.xp_words.specs.Places.{base_of, user_base_of, old0_of, old1_of}
 use Rattle.xp_words.specs.RefWords.{ref_read}
 use Rattle.report_text.specs.LogTexts.{log_lines}
 use Rattle.report_text.specs.Memories.{Memory, word}

@@ -1,5 +1,6 @@
 ghost use Rattle.std.specs.Prelude.{◌≡◌, ◌<◌, length};
-ghost use Rattle.xp_words.specs.Places.{sizes_of, size, Pages, Life, Vcpu, Refs, Kind, M2p};
+ghost use Rattle.xp_words.specs.declared.place.Place.TheVariants.{Pages, Life, Vcpu, Refs, Kind, M2p};
+ghost use Rattle.xp_words.specs.Places.{sizes_of, size};
 ghost use Rattle.report_text.specs.Memories.{word};
 
 use std::marker::Model;

@@ -4,7 +4,7 @@ use Rattle.std.proofs.lemmas.Bool.Decides.{nat_tests}
 use Rattle.xp_words.specs.declared.entry.Demand.{Demand}
 use Rattle.xp_words.specs.declared.entry.Demand.TheVariants.{Nothing, Bad, Read, Typed}
 use Rattle.xp_words.specs.Machine.{Machine}
-use Rattle.xp_words.specs.Places.{Place}
+use Rattle.xp_words.specs.declared.place.Place.{Place}
 use Rattle.xp_board.specs.declared.step.Mark.{Mark}
 use Rattle.xp_board.specs.declared.step.Mark.TheVariants as marks
 use Rattle.xp_board.specs.declared.step.Step.{Step}

@@ -1,6 +1,7 @@
 -- Clock values that are found once more are no lower than any vCPU's flush.
 use Rattle.std.proofs.Common.{◌≡◌, ℕ, ◌+◌, ◌≤◌, ◌∷◌, length, sym, ap, subst, arith}
-use Rattle.xp_words.specs.Places.{Sizes, Clock, place_at}
+use Rattle.xp_words.specs.declared.place.Place.TheVariants.{Clock}
+use Rattle.xp_words.specs.Places.{Sizes, place_at}
 use Rattle.xp_board.specs.declared.step.Step.{Step}
 use Rattle.xp_board.specs.declared.holdings.Made.{Made}
 use Rattle.xp_board.specs.declared.holdings.Holdings.{Holdings}

@@ -1,7 +1,9 @@
 -- Fresh after a vCPU has flushed its translations: it comes to nothing, and the others come to what they did.
 use Rattle.std.proofs.Common.{◌≡◌, ◌≢◌, ℕ, inl, refl, ◌∙◌, ap, subst}
 use Rattle.xp_words.specs.Machine.{Machine}
-use Rattle.xp_words.specs.Places.{sizes_of, Place, Refs, Kind, Cell, Priv, flushed_of}
+use Rattle.xp_words.specs.declared.place.Place.{Place}
+use Rattle.xp_words.specs.declared.place.Place.TheVariants.{Refs, Kind, Cell, Priv}
+use Rattle.xp_words.specs.Places.{sizes_of, flushed_of}
 use Rattle.xp_board.specs.declared.step.Step.{Step}
 use Rattle.xp_board.specs.declared.holdings.Holdings.{Holdings}
 use Rattle.xp_board.specs.Hands.{claims_of}

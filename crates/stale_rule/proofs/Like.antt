@@ -2,7 +2,7 @@
 use Rattle.std.proofs.Common.{◌≡◌, ℕ, ◌+◌, ◌==◌, Bool, length, refl, sym, ◌∙◌, ap, subst}
 use Rattle.xp_words.specs.declared.entry.Demand.{Demand}
 use Rattle.xp_words.specs.KindWords.{kind_fields}
-use Rattle.xp_words.specs.Places.{Place}
+use Rattle.xp_words.specs.declared.place.Place.{Place}
 use Rattle.xp_board.specs.declared.step.Item.{Item}
 use Rattle.xp_board.specs.declared.holdings.Reached.{Reached}
 use Rattle.xp_board.specs.declared.holdings.Holdings.{Holdings}

@@ -1,7 +1,8 @@
 -- Each legal act leaves Fresh.
 use Rattle.std.proofs.Common.{ℕ, ◌<◌}
 use Rattle.xp_words.specs.Machine.{Machine}
-use Rattle.xp_words.specs.Places.{sizes_of, Place}
+use Rattle.xp_words.specs.declared.place.Place.{Place}
+use Rattle.xp_words.specs.Places.{sizes_of}
 use Rattle.xp_board.specs.declared.step.Step.{Step}
 use Rattle.xp_board.specs.declared.holdings.Holdings.{Holdings}
 use Rattle.xp_board.specs.Fresh.{Fresh}

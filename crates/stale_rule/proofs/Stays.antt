@@ -1,7 +1,9 @@
 -- Fresh holds on where no more is reached than before, and what is reached bears the change.
 use Rattle.std.proofs.Common.{◌≡◌, ℕ, ◌<◌, ◌≤◌, ◌⊎◌, inl, inr, true, sym, ◌∙◌, ap, subst, arith, IsTrue, Option, Some, None}
 use Rattle.xp_words.specs.Machine.{Machine}
-use Rattle.xp_words.specs.Places.{sizes_of, Place, Refs, Priv, flushed_of}
+use Rattle.xp_words.specs.declared.place.Place.{Place}
+use Rattle.xp_words.specs.declared.place.Place.TheVariants.{Refs, Priv}
+use Rattle.xp_words.specs.Places.{sizes_of, flushed_of}
 use Rattle.xp_board.specs.declared.holdings.Holdings.{Holdings}
 use Rattle.xp_board.specs.Readings.{kind_at, is_free, free_stamp, owner_of, domain_of, has_ever}
 use Rattle.xp_board.specs.Hands.{claims_of}

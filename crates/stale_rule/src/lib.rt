@@ -4,7 +4,7 @@
 
 ghost use Rattle.std.specs.Prelude.{ℕ};
 ghost use Rattle.xp_words.specs.Machine.{Machine};
-ghost use Rattle.xp_words.specs.Places.{Place};
+ghost use Rattle.xp_words.specs.declared.place.Place.{Place};
 ghost use Rattle.xp_board.specs.declared.holdings.Holdings.{Holdings};
 ghost use Rattle.xp_board.specs.Fresh.{Fresh};
 ghost use Rattle.xp_board.specs.Safe.{Safe};

@@ -1,7 +1,8 @@
 -- What is known of a step that is made at a place by an act.
 use Rattle.std.proofs.Common.{◌≡◌, ◌≢◌, ℕ, Option, Some, IsTrue, refl, sym, ◌∙◌, inl, inr}
 use Rattle.xp_words.specs.Machine.{Machine}
-use Rattle.xp_words.specs.Places.{Place, is_place, sizes_of}
+use Rattle.xp_words.specs.declared.place.Place.{Place}
+use Rattle.xp_words.specs.Places.{is_place, sizes_of}
 use Rattle.xp_board.specs.declared.step.Act.{Act}
 use Rattle.xp_board.specs.declared.step.Act.TheVariants.{Load, Cas, Store}
 use Rattle.xp_board.specs.declared.step.Mark.{Mark}

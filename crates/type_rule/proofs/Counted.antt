@@ -3,7 +3,9 @@ use Rattle.std.proofs.Common.{◌≡◌, ℕ, ◌+◌, ◌<◌, ◌≤◌, IsTru
 use Rattle.xp_words.specs.declared.kind.PageType.{PageType}
 use Rattle.xp_words.specs.declared.entry.Demand.TheVariants.{Typed}
 use Rattle.xp_words.specs.Machine.{Machine}
-use Rattle.xp_words.specs.Places.{sizes_of, Place, Vcpu}
+use Rattle.xp_words.specs.declared.place.Place.{Place}
+use Rattle.xp_words.specs.declared.place.Place.TheVariants.{Vcpu}
+use Rattle.xp_words.specs.Places.{sizes_of}
 use Rattle.xp_board.specs.declared.holdings.Holdings.{Holdings}
 use Rattle.xp_board.specs.Readings.{kind_at, type_count, is_context}
 use Rattle.xp_board.specs.Hands.{typed_hand}

@@ -4,7 +4,9 @@ use Rattle.std.proofs.lemmas.Bool.{cases_eq}
 use Rattle.xp_words.specs.declared.refs.RefWord.TheVariants.{Free, Owned, Dying}
 use Rattle.xp_words.specs.RefWords.{ref_read, ref_write, IsRef}
 use Rattle.xp_words.specs.Machine.{Machine, IsMachine}
-use Rattle.xp_words.specs.Places.{Place, Vcpu, Refs, Kind, sizes_of, run_of}
+use Rattle.xp_words.specs.declared.place.Place.{Place}
+use Rattle.xp_words.specs.declared.place.Place.TheVariants.{Vcpu, Refs, Kind}
+use Rattle.xp_words.specs.Places.{sizes_of, run_of}
 use Rattle.xp_board.specs.declared.step.Step.{Step}
 use Rattle.xp_board.specs.declared.holdings.Holdings.{Holdings}
 use Rattle.xp_board.specs.Readings.{owner_of, domain_of, allocated_mark}

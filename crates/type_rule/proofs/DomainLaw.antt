@@ -3,7 +3,9 @@ use Rattle.std.proofs.Common.{◌≡◌, ◌≢◌, ℕ, ◌+◌, ◌<◌, ◌�
 use Rattle.std.proofs.lemmas.Bool.{cases_eq, cases_Bool, not-true}
 use Rattle.std.proofs.lemmas.Bool.Decides.{nat_tests}
 use Rattle.xp_words.specs.Machine.{Machine}
-use Rattle.xp_words.specs.Places.{Place, Life, Vcpu, Refs, Kind, sizes_of, run_of}
+use Rattle.xp_words.specs.declared.place.Place.{Place}
+use Rattle.xp_words.specs.declared.place.Place.TheVariants.{Life, Vcpu, Refs, Kind}
+use Rattle.xp_words.specs.Places.{sizes_of, run_of}
 use Rattle.xp_board.specs.declared.step.Step.{Step}
 use Rattle.xp_board.specs.declared.holdings.Made.{Made}
 use Rattle.xp_board.specs.declared.holdings.Holdings.{Holdings}

@@ -8,7 +8,9 @@ use Rattle.xp_words.specs.Entries.{demand_at}
 use Rattle.xp_words.specs.PageTypes.{is_table}
 use Rattle.xp_words.specs.KindWords.{kind_fields}
 use Rattle.xp_words.specs.Machine.{Machine}
-use Rattle.xp_words.specs.Places.{Sizes, Place, Kind, Cell, sizes_of}
+use Rattle.xp_words.specs.declared.place.Place.{Place}
+use Rattle.xp_words.specs.declared.place.Place.TheVariants.{Kind, Cell}
+use Rattle.xp_words.specs.Places.{Sizes, sizes_of}
 use Rattle.xp_board.specs.declared.holdings.Made.{Made}
 use Rattle.xp_board.specs.declared.holdings.Unsettled.{Unsettled}
 use Rattle.xp_board.specs.declared.holdings.Work.{Work}

@@ -1,7 +1,8 @@
 -- A turn, by the calls that it is made of.
 use Rattle.std.proofs.Common.{◌≡◌, ℕ, ◌<◌, true, false, [], ◌∷◌, ◌++◌, length, slice_get, Option, Some, None, Result, Ok, Err, refl, sym, ap, ◌∙◌, subst}
 use Rattle.std.proofs.lemmas.Option.{slice_get_within}
-use Rattle.xp_words.specs.Places.{Clock, run_of}
+use Rattle.xp_words.specs.declared.place.Place.TheVariants.{Clock}
+use Rattle.xp_words.specs.Places.{run_of}
 use Rattle.xp_words.specs.declared.ops.Op.{Op}
 use Rattle.xp_words.specs.declared.reply.Reply.{Reply}
 use Rattle.xp_words.specs.declared.reply.Stop.{Stop}

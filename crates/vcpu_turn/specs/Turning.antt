@@ -1,7 +1,9 @@
 -- Turns: how one begins, what it does and how it ends.
 use Rattle.std.specs.Prelude.{◌≡◌, ◌⊎◌, ℕ, ◌<◌, ◌≤◌, ◌==◌, ◌||◌, if◌then◌else◌, Bool, true, false, List, [], ◌∷◌, ◌++◌, length, slice_get, Option, Some, None, Result, IsTrue}
 use Rattle.xp_words.specs.Machine.{Machine}
-use Rattle.xp_words.specs.Places.{Place, Clock, Vcpu, asked_of, flushed_of, run_of}
+use Rattle.xp_words.specs.declared.place.Place.{Place}
+use Rattle.xp_words.specs.declared.place.Place.TheVariants.{Clock, Vcpu}
+use Rattle.xp_words.specs.Places.{asked_of, flushed_of, run_of}
 use Rattle.xp_words.specs.declared.ops.Op.{Op}
 use Rattle.xp_words.specs.declared.reply.Stop.{Stop}
 use Rattle.xp_words.specs.declared.reply.Pause.TheVariants.{Due, Lost}

@@ -1,7 +1,8 @@
 -- A worked picture: a free frame is claimed, scrubbed in part, and given back with its old stamp.
 use Rattle.std.proofs.Common.{◌≡◌, ◌<◌, ℕ, IsTrue, refl, Option, None, List, [], ◌∷◌, arith, inl, inr, zero, suc}
 use Rattle.xp_words.specs.Machine.{Machine}
-use Rattle.xp_words.specs.Places.{Pages, Map, Refs, is_place, place_at, sizes_of}
+use Rattle.xp_words.specs.declared.place.Place.TheVariants.{Pages, Map, Refs}
+use Rattle.xp_words.specs.Places.{is_place, place_at, sizes_of}
 use Rattle.xp_words.specs.RefWords.{ref_read}
 use Rattle.xp_words.specs.KindWords.{kind_read, kind_fields, has_form}
 use Rattle.xp_words.specs.Entries.{demand_of, demand_at}

@@ -2,7 +2,8 @@
 -- vCPUs 0 and 1 are of domain 0, which owns the frame; vCPU 2 is of domain 1.
 use Rattle.std.proofs.Common.{◌≡◌, ℕ, refl, Option, None, Some, List, [], ◌∷◌, arith, inl, inr, zero, suc}
 use Rattle.xp_words.specs.Machine.{Machine}
-use Rattle.xp_words.specs.Places.{Vcpu, Kind, is_place, place_at, asked_of}
+use Rattle.xp_words.specs.declared.place.Place.TheVariants.{Vcpu, Kind}
+use Rattle.xp_words.specs.Places.{is_place, place_at, asked_of}
 use Rattle.xp_words.specs.RefWords.{ref_read}
 use Rattle.xp_words.specs.KindWords.{kind_read, kind_fields, has_form}
 use Rattle.xp_words.specs.Entries.{demand_of, demand_at}

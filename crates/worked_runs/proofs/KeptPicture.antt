@@ -2,7 +2,8 @@
 -- the mark back.
 use Rattle.std.proofs.Common.{◌≡◌, ℕ, true, refl, Option, None, Some, List, [], ◌∷◌, arith, inl}
 use Rattle.xp_words.specs.Machine.{Machine}
-use Rattle.xp_words.specs.Places.{Kind, is_place, place_at, sizes_of}
+use Rattle.xp_words.specs.declared.place.Place.TheVariants.{Kind}
+use Rattle.xp_words.specs.Places.{is_place, place_at, sizes_of}
 use Rattle.xp_words.specs.RefWords.{ref_read}
 use Rattle.xp_words.specs.KindWords.{kind_read, kind_fields, has_form}
 use Rattle.xp_words.specs.Entries.{demand_of, demand_at}

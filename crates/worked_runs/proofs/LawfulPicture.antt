@@ -11,7 +11,8 @@ use Rattle.std.proofs.lemmas.Bool.Decides.{nat_tests}
 use Rattle.xp_words.specs.declared.entry.Demand.TheVariants.{Nothing, Bad, Read, Typed}
 use Rattle.xp_words.specs.Entries.{demand_at, demand_of}
 use Rattle.xp_words.specs.Machine.{Machine}
-use Rattle.xp_words.specs.Places.{Place, Refs, Cell}
+use Rattle.xp_words.specs.declared.place.Place.{Place}
+use Rattle.xp_words.specs.declared.place.Place.TheVariants.{Refs, Cell}
 use Rattle.xp_words.specs.PageTypes.{is_table}
 use Rattle.xp_board.specs.Lawful.{Tree, root, below, IsNode, asked_by, IsOwned, Lawful}
 use Rattle.xp_board.specs.Lists.{one_at}

@@ -2,7 +2,8 @@
 -- it; then the work is put down with the `kept` mark. Each step is legal, and leaves the hand that it should.
 use Rattle.std.proofs.Common.{◌≡◌, ℕ, refl, Option, None, Some, List, [], ◌∷◌, arith, inl}
 use Rattle.xp_words.specs.Machine.{Machine}
-use Rattle.xp_words.specs.Places.{Refs, Kind, Cell, is_place, place_at}
+use Rattle.xp_words.specs.declared.place.Place.TheVariants.{Refs, Kind, Cell}
+use Rattle.xp_words.specs.Places.{is_place, place_at}
 use Rattle.xp_words.specs.RefWords.{ref_read}
 use Rattle.xp_words.specs.KindWords.{kind_read, kind_fields, has_form}
 use Rattle.xp_words.specs.Entries.{demand_of, demand_at}

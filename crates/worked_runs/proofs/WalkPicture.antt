@@ -2,7 +2,8 @@
 -- (entries 0, 1, 0, 2), through which the guest then writes.
 use Rattle.std.proofs.Common.{◌≡◌, ℕ, true, false, refl, Option, None, Some, List, [], ◌∷◌, arith}
 use Rattle.xp_words.specs.Machine.{Machine}
-use Rattle.xp_words.specs.Places.{Vcpu, Cell, is_place, place_at, base_of}
+use Rattle.xp_words.specs.declared.place.Place.TheVariants.{Vcpu, Cell}
+use Rattle.xp_words.specs.Places.{is_place, place_at, base_of}
 use Rattle.xp_words.specs.RefWords.{ref_read}
 use Rattle.xp_words.specs.KindWords.{kind_read, kind_fields, has_form}
 use Rattle.xp_words.specs.Entries.{demand_of, demand_at}

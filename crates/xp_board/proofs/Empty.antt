@@ -6,7 +6,8 @@ use Rattle.xp_board.specs.Lists.{times_by, EachOf}
 use Rattle.xp_board.specs.Steps.{last_since}
 use Rattle.xp_board.specs.WellFormed.{WellFormed, IsRaisedFormed, IsCacheFormed, IsOwnFormed}
 use Rattle.xp_board.specs.Found.{OwnFound}
-use Rattle.xp_words.specs.Places.{Place, Sizes}
+use Rattle.xp_words.specs.declared.place.Place.{Place}
+use Rattle.xp_words.specs.Places.{Sizes}
 
 empty_raised : IsRaisedFormed empty
 unfolding times_by

@@ -3,3 +3,4 @@ pub mod Going
 pub mod RefWords
 pub mod Rows
 pub mod Returned
+pub mod Trees

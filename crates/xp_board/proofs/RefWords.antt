@@ -10,7 +10,9 @@ use Rattle.xp_board.specs.RefSteps.{one_down}
 use Rattle.xp_board.specs.Readings.{ref_count, allocated_mark, owner_of, is_free, free_stamp, is_dying, owner_in}
 use Rattle.xp_board.specs.Spelling.{is_ref_in, IsSpelling}
 use Rattle.std.proofs.lemmas.Bool.{cases_Bool, and_parts}
-use Rattle.xp_words.specs.Places.{Place, Refs, sizes_of, is_place}
+use Rattle.xp_words.specs.declared.place.Place.{Place}
+use Rattle.xp_words.specs.declared.place.Place.TheVariants.{Refs}
+use Rattle.xp_words.specs.Places.{sizes_of, is_place}
 use Rattle.xp_board.specs.declared.holdings.Holdings.{Holdings}
 use Rattle.xp_board.specs.Sound.{Sound}
 

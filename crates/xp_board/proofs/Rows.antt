@@ -3,7 +3,8 @@ use Rattle.std.proofs.Common.{◌≡◌, ◌<◌, ◌≤◌, ◌+◌, ◌^◌, �
 use Rattle.std.proofs.lemmas.Bool.Decides.{nat_tests}
 use Rattle.xp_words.specs.declared.refs.RefWord.TheVariants.{Owned}
 use Rattle.xp_words.specs.Machine.{Machine}
-use Rattle.xp_words.specs.Places.{Refs, M2p, is_place}
+use Rattle.xp_words.specs.declared.place.Place.TheVariants.{Refs, M2p}
+use Rattle.xp_words.specs.Places.{is_place}
 use Rattle.xp_words.specs.RefWords.{ref_write, ref_read, IsRef}
 use Rattle.xp_words.proofs.RefLaws.{ref_read-write}
 use Rattle.xp_board.specs.declared.step.Act.TheVariants.{Cas, Store}

@@ -7,7 +7,9 @@ use Rattle.xp_words.specs.declared.entry.Demand.TheVariants.{Nothing, Read, Type
 use Rattle.xp_words.specs.Entries.{demand_at, fixed}
 use Rattle.xp_words.specs.KindWords.{kind_fields}
 use Rattle.xp_words.specs.Machine.{Machine}
-use Rattle.xp_words.specs.Places.{Place, Cell, sizes_of}
+use Rattle.xp_words.specs.declared.place.Place.{Place}
+use Rattle.xp_words.specs.declared.place.Place.TheVariants.{Cell}
+use Rattle.xp_words.specs.Places.{sizes_of}
 use Rattle.xp_board.specs.declared.step.Act.{Act}
 use Rattle.xp_board.specs.declared.step.Act.TheVariants.{Cas, Store}
 use Rattle.xp_board.specs.declared.holdings.Lock.{Lock}

@@ -1,7 +1,8 @@
 -- Which translations are gone: what a vCPU has found of each vCPU after it had found a stamp.
 use Rattle.std.specs.Prelude.{◌≢◌, ℕ, ◌<◌, ◌==◌, ◌||◌, ◌⊎◌, not, nat_lt, Bool, List, length, IsTrue}
 use Rattle.xp_words.specs.Machine.{Machine}
-use Rattle.xp_words.specs.Places.{Sizes, sizes_of, Priv, run_of, flushed_of}
+use Rattle.xp_words.specs.declared.place.Place.TheVariants.{Priv}
+use Rattle.xp_words.specs.Places.{Sizes, sizes_of, run_of, flushed_of}
 use Rattle.xp_words.specs.KindWords.{kind_fields}
 use Rattle.xp_board.specs.declared.holdings.Made.{Made}
 use Rattle.xp_board.specs.declared.holdings.Holdings.{Holdings}

@@ -2,7 +2,8 @@
 -- that brought one of them.
 use Rattle.std.specs.Prelude.{ℕ, ◌==◌, ◌&&◌, ◌||◌, Bool, false, List, Option, Some, None}
 use Rattle.xp_words.specs.declared.kind.PageType.{PageType}
-use Rattle.xp_words.specs.Places.{Sizes, Refs, Kind}
+use Rattle.xp_words.specs.declared.place.Place.TheVariants.{Refs, Kind}
+use Rattle.xp_words.specs.Places.{Sizes}
 use Rattle.xp_board.specs.declared.holdings.Made.{Made}
 use Rattle.xp_board.specs.declared.holdings.OwnerFound.{OwnerFound}
 use Rattle.xp_board.specs.declared.holdings.OwnerFound.TheVariants as owners

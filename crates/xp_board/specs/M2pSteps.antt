@@ -1,6 +1,7 @@
 -- Steps on a frame's machine-to-physical word.
 use Rattle.std.specs.Prelude.{ℕ, ◌<◌, ◌⊎◌}
-use Rattle.xp_words.specs.Places.{Place, M2p}
+use Rattle.xp_words.specs.declared.place.Place.{Place}
+use Rattle.xp_words.specs.declared.place.Place.TheVariants.{M2p}
 use Rattle.xp_board.specs.declared.step.Act.{Act}
 use Rattle.xp_board.specs.declared.step.Act.TheVariants.{Store}
 use Rattle.xp_board.specs.declared.holdings.Holdings.{Holdings}

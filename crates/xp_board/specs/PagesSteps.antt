@@ -1,6 +1,7 @@
 -- Steps on a domain's number of pages.
 use Rattle.std.specs.Prelude.{ℕ, ◌-◌, ◌<◌, ◌≤◌, ◌^◌, ◌==◌, if◌then◌else◌}
-use Rattle.xp_words.specs.Places.{Place, Pages}
+use Rattle.xp_words.specs.declared.place.Place.{Place}
+use Rattle.xp_words.specs.declared.place.Place.TheVariants.{Pages}
 use Rattle.xp_board.specs.declared.step.Act.{Act}
 use Rattle.xp_board.specs.declared.step.Act.TheVariants.{Cas, Add}
 use Rattle.xp_board.specs.declared.holdings.Holdings.{Holdings}

@@ -8,7 +8,9 @@ use Rattle.xp_words.specs.declared.entry.Demand.TheVariants.{Nothing, Bad, Read,
 use Rattle.xp_words.specs.Entries.{demand_at}
 use Rattle.xp_words.specs.PageTypes.{is_table}
 use Rattle.xp_words.specs.RefWords.{bit}
-use Rattle.xp_words.specs.Places.{Sizes, Place, Pages, Vcpu, Refs, Cell}
+use Rattle.xp_words.specs.declared.place.Place.{Place}
+use Rattle.xp_words.specs.declared.place.Place.TheVariants.{Pages, Vcpu, Refs, Cell}
+use Rattle.xp_words.specs.Places.{Sizes}
 use Rattle.xp_board.specs.declared.holdings.Work.{Work}
 use Rattle.xp_board.specs.declared.holdings.Holdings.{Holdings}
 use Rattle.xp_board.specs.Lists.{one_at, times, EachOf}

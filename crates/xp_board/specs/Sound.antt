@@ -5,7 +5,9 @@ use Rattle.xp_words.specs.KindWords.{kind_fields}
 use Rattle.xp_words.specs.RefWords.{bit}
 use Rattle.xp_words.specs.Entries.{is_bit}
 use Rattle.xp_words.specs.Machine.{Machine, IsMachine}
-use Rattle.xp_words.specs.Places.{sizes_of, Place, Clock, Life, Vcpu, Refs, Kind, Map, is_place, memory, size, flushed_of, run_of}
+use Rattle.xp_words.specs.declared.place.Place.{Place}
+use Rattle.xp_words.specs.declared.place.Place.TheVariants.{Clock, Life, Vcpu, Refs, Kind, Map}
+use Rattle.xp_words.specs.Places.{sizes_of, is_place, memory, size, flushed_of, run_of}
 use Rattle.xp_board.specs.declared.holdings.Work.{Work}
 use Rattle.xp_board.specs.declared.holdings.Looking.{Looking}
 use Rattle.xp_board.specs.declared.holdings.Holdings.{Holdings}

@@ -8,7 +8,8 @@ use Rattle.xp_words.specs.KindWords.{kind_read}
 use Rattle.xp_words.specs.ContextWords.{ldt_read}
 use Rattle.xp_words.specs.Entries.{is_bit}
 use Rattle.xp_words.specs.Machine.{Machine}
-use Rattle.xp_words.specs.Places.{Place, Clock, Pages, Life, Vcpu, Refs, Kind, M2p, Cell, Map, Priv}
+use Rattle.xp_words.specs.declared.place.Place.{Place}
+use Rattle.xp_words.specs.declared.place.Place.TheVariants.{Clock, Pages, Life, Vcpu, Refs, Kind, M2p, Cell, Map, Priv}
 use Rattle.xp_board.specs.Readings.{is_context, last_clock}
 
 -- an owner that the machine has, and a count within its limit

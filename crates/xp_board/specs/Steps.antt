@@ -1,7 +1,9 @@
 -- What a vCPU has found and left, as its steps tell it. Steps have numbers: the number of a step is how many
 -- the vCPU had made before it.
 use Rattle.std.specs.Prelude.{ℕ, ◌==◌, ◌&&◌, ◌||◌, nat_lt, nat_le, if◌then◌else◌, Bool, true, false, List, [], ◌∷◌, length, Option, Some, None, IsTrue}
-use Rattle.xp_words.specs.Places.{Sizes, Place, Clock, Pages, Life, Vcpu, Refs, Kind, M2p, Cell, Map, Priv, place_at}
+use Rattle.xp_words.specs.declared.place.Place.{Place}
+use Rattle.xp_words.specs.declared.place.Place.TheVariants.{Clock, Pages, Life, Vcpu, Refs, Kind, M2p, Cell, Map, Priv}
+use Rattle.xp_words.specs.Places.{Sizes, place_at}
 use Rattle.xp_board.specs.declared.holdings.Made.{Made}
 use Rattle.xp_board.specs.Acts.{left_by}
 

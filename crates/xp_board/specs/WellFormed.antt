@@ -6,7 +6,8 @@ use Rattle.xp_words.specs.PageTypes.{is_table}
 use Rattle.xp_words.specs.Entries.{is_bit}
 use Rattle.xp_words.specs.KindWords.{kind_fields}
 use Rattle.xp_words.specs.Machine.{Machine}
-use Rattle.xp_words.specs.Places.{Sizes, sizes_of, Kind, Cell, place_at, is_place, run_of, old0_of, old1_of}
+use Rattle.xp_words.specs.declared.place.Place.TheVariants.{Kind, Cell}
+use Rattle.xp_words.specs.Places.{Sizes, sizes_of, place_at, is_place, run_of, old0_of, old1_of}
 use Rattle.xp_board.specs.declared.holdings.Made.{Made}
 use Rattle.xp_board.specs.declared.holdings.Seen.{Seen}
 use Rattle.xp_board.specs.declared.holdings.Unsettled.{Unsettled}

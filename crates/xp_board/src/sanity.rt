@@ -2,15 +2,18 @@
 ghost use Rattle.std.specs.Prelude.{◌≡◌, ◌≢◌, ◌<◌, ◌≤◌, ◌+◌, ◌^◌, ◌∷◌, ℕ, suc, Bool, false, IsTrue, None, Some, length};
 ghost use Rattle.xp_words.specs.Entries.{demand_at};
 ghost use Rattle.xp_words.specs.Machine.{Machine};
-ghost use Rattle.xp_words.specs.Places.{Place, Vcpu, Refs, M2p, Cell, is_place, sizes_of, run_of};
+ghost use Rattle.xp_words.specs.declared.place.Place.{Place};
+ghost use Rattle.xp_words.specs.declared.place.Place.TheVariants.{Vcpu, Refs, M2p, Cell};
+ghost use Rattle.xp_words.specs.Places.{is_place, sizes_of, run_of};
 ghost use Rattle.xp_words.specs.declared.entry.Demand.TheVariants.{Typed};
 ghost use Rattle.xp_words.specs.declared.kind.PageType.{PageType};
 ghost use Rattle.xp_board.specs.AskSteps.{AwaitsFree};
 ghost use Rattle.xp_board.specs.CellSteps.{after_cell, keeps_demand};
 ghost use Rattle.xp_board.specs.ContextSteps.{after_context, context_type};
 ghost use Rattle.xp_board.specs.Knowledge.{knows_live};
+ghost use Rattle.xp_board.specs.Lawful.{Lawful};
 ghost use Rattle.xp_board.specs.Marks.{after_mark, demand_seen};
-ghost use Rattle.xp_board.specs.Readings.{is_context, is_free};
+ghost use Rattle.xp_board.specs.Readings.{is_context, is_dead, is_free, kind_at, ref_count};
 ghost use Rattle.xp_board.specs.RefSteps.{Claim, Raise, after_ref_row, after_ref_store};
 ghost use Rattle.xp_board.specs.Runs.{place_of};
 ghost use Rattle.xp_board.specs.Sound.{Sound};
@@ -22,7 +25,9 @@ ghost use Rattle.xp_board.specs.declared.holdings.Lock.{Lock};
 ghost use Rattle.xp_board.specs.declared.holdings.Work.{Work};
 ghost use Rattle.xp_board.specs.declared.step.Mark.TheVariants.{Shed};
 ghost use Rattle.xp_board.specs.declared.step.Step.{Step};
+ghost use Rattle.xp_words.specs.PageTypes.{is_table};
 ghost use Rattle.xp_words.specs.RefWords.{ref_write};
+ghost use Rattle.xp_words.specs.declared.kind.PageType.TheVariants.{Writable};
 ghost use Rattle.xp_words.specs.declared.refs.RefWord.TheVariants.{Free, Owned};
 ghost use Rattle.xp_board.specs.AckSteps.{after_ack};
 ghost use Rattle.xp_board.specs.Acts.{left_by};
@@ -101,4 +106,15 @@ pub fn what_steps_move_in_hand()
         (after_ref_store (Some (Free stamp)) n s f h).credits ≡ e.owner ∷ h.credits }
     ensures claimed { (n : Machine) (s f w : ℕ) (h : Holdings) (e : Claimed) → claim_of f (after_ref_row Claim n s f w h).claimed ≡ Some e → e.scrubbed ≡ 0 }
     ensures flushed { (h : Holdings) → (after_ack h).cold ≡ false }
+{}
+
+/// A table that would map itself writable is not lawful: two types would be asked of one frame.
+pub fn a_table_does_not_map_itself_writable()
+    ensures { (n : Machine) (owner f i : ℕ) (m : Place → ℕ) (t : PageType) → IsTrue (is_dead (kind_at m f)) → IsTrue (is_table t) → i < 512 →
+        demand_at t i (m (Cell f i)) ≡ Typed f Writable → Lawful n owner m f t → ⊥ }
+{}
+
+/// Where a tree is lawful, the count of its top frame is below the limit.
+pub fn a_lawful_tree_has_room_at_its_top()
+    ensures { (n : Machine) (owner f : ℕ) (m : Place → ℕ) (t : PageType) → Lawful n owner m f t → ref_count (m (Refs f)) < n.limit }
 {}

@@ -1,7 +1,9 @@
 use Rattle.std.proofs.Common.{◌≡◌, ◌≢◌, ℕ, ◌+◌, ◌*◌, ◌-◌, ◌/◌, ◌%◌, ◌<◌, ◌==◌, Bool, true, false, List, length, get_or, IsTrue, refl, sym, ◌∙◌, ap, arith, if◌then◌else◌, get_or-set_other, get_or-set_same}
 use Rattle.std.proofs.Math.ListN.{set}
 use Rattle.std.proofs.lemmas.Bool.Decides.{nat_tests}
-use Rattle.xp_words.specs.Places.{Sizes, Place, Clock, Pages, Life, Vcpu, Refs, Kind, M2p, Cell, Map, Priv, is_place, number, place_at, memory, size, first_vcpu, first_frame, frame_place}
+use Rattle.xp_words.specs.declared.place.Place.{Place}
+use Rattle.xp_words.specs.declared.place.Place.TheVariants.{Clock, Pages, Life, Vcpu, Refs, Kind, M2p, Cell, Map, Priv}
+use Rattle.xp_words.specs.Places.{Sizes, is_place, number, place_at, memory, size, first_vcpu, first_frame, frame_place}
 
 pub place_back : (z : Sizes) (p : Place) → IsTrue (is_place z p) → place_at z (number z p) ≡ p
 unfolding place_at number is_place

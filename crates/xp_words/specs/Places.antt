@@ -1,6 +1,8 @@
 -- The words of a machine by name, and where each stands in the list of all words.
 use Rattle.std.specs.Prelude.{ℕ, ◌+◌, ◌*◌, ◌-◌, ◌/◌, ◌%◌, ◌==◌, ◌&&◌, nat_lt, if◌then◌else◌, Bool, true, List, length, slice_index}
 use Rattle.xp_words.specs.Machine.{Machine}
+use Rattle.xp_words.specs.declared.place.Place.{Place}
+use Rattle.xp_words.specs.declared.place.Place.TheVariants.{Clock, Pages, Life, Vcpu, Refs, Kind, M2p, Cell, Map, Priv}
 
 -- how many domains, vCPUs and frames there are
 pub record Sizes : Type 0 where
@@ -10,21 +12,6 @@ pub record Sizes : Type 0 where
 
 abbrev pub sizes_of : Machine → Sizes
 sizes_of m = record { domains = length m.page_limit; vcpus = length m.vcpu_domain; frames = m.frames }
-
-pub data Place : Type 0 where
-  Clock : Place
-  Pages : (d : ℕ) → Place
-  Life : (d : ℕ) → Place
-  -- word k of vCPU v: 0 base, 1 user, 2 and 3 old, 4 asked, 5 flushed, 6 run, 7 ldtbase, 8 to 21 GDT, 22 to 37 LDT
-  Vcpu : (v k : ℕ) → Place
-  Refs : (f : ℕ) → Place
-  Kind : (f : ℕ) → Place
-  M2p : (f : ℕ) → Place
-  Cell : (f i : ℕ) → Place
-  -- word k of the free map: bit b belongs to frame 64k + b
-  Map : (k : ℕ) → Place
-  -- bits 0 to 15: over which domains d has privilege now; bits 16 to 31: over which it ever had
-  Priv : (d : ℕ) → Place
 
 -- ---- the words of a vCPU by name
 -- the bases of its page tables, for kernel and user mode

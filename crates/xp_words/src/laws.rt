@@ -11,7 +11,8 @@ ghost use Rattle.xp_words.specs.KindWords.{is_kind, kind_read, kind_write};
 ghost use Rattle.xp_words.specs.PageTypes.{type_number, type_of};
 ghost use Rattle.xp_words.specs.ContextWords.{context_read, context_write, IsContext, ldt_read, ldt_write, IsLdtBase};
 ghost use Rattle.xp_words.specs.Entries.{fixed};
-ghost use Rattle.xp_words.specs.Places.{Sizes, Place, is_place, number, place_at, size, memory};
+ghost use Rattle.xp_words.specs.declared.place.Place.{Place};
+ghost use Rattle.xp_words.specs.Places.{Sizes, is_place, number, place_at, size, memory};
 
 /// Each reference that has a word is read back from it, and no word but its own is read as it.
 pub fn each_reference_has_one_word()

@@ -1,7 +1,9 @@
-ghost use Rattle.std.specs.Prelude.{◌≡◌, ℕ, ◌+◌, ◌*◌, ◌/◌, ◌<◌, ◌≤◌, length};
+ghost use Rattle.std.specs.Prelude.{◌≡◌, ℕ, ◌+◌, ◌*◌, ◌/◌, ◌<◌, ◌≤◌, IsTrue, length};
 ghost use Rattle.xp_words.specs.Machine.{Machine, IsMachine};
-ghost use Rattle.xp_words.specs.Places.{sizes_of, size, number, map_words, Pages, Life, Vcpu, Refs, Kind, M2p, Cell, Map, Priv};
+ghost use Rattle.xp_words.specs.declared.place.Place.TheVariants.{Pages, Life, Vcpu, Refs, Kind, M2p, Cell, Map, Priv};
+ghost use Rattle.xp_words.specs.Places.{sizes_of, size, number, is_place, map_words};
 
+use crate::place::Place;
 use crate::short_list::ShortList;
 use std::marker::Model;
 
@@ -170,6 +172,26 @@ impl Layout {
             + 515 * self.frames
             + self.map_words()
             + u32::from(domain)
+    }
+
+    /// Where a word stands.
+    #[tactic(auto, unfolding(crate::specs::Places::number, crate::specs::Places::is_place), using(std::proofs::lemmas::Bool::Decides::nat_tests))]
+    pub fn place(&self, place: Place) -> u32
+        requires { IsTrue (is_place (sizes_of self.now) place) }
+        ensures { result ≡ number (sizes_of self.now) place }
+    {
+        match place {
+            Place::Clock => 0,
+            Place::Pages { domain } => self.pages_place(domain),
+            Place::Life { domain } => self.life_place(domain),
+            Place::Vcpu { vcpu, word } => self.vcpu_place(vcpu, word),
+            Place::Refs { frame } => self.refs_place(frame),
+            Place::Kind { frame } => self.kind_place(frame),
+            Place::M2p { frame } => self.m2p_place(frame),
+            Place::Cell { frame, index } => self.cell_place(frame, index),
+            Place::Map { word } => self.map_place(word),
+            Place::Priv { domain } => self.priv_place(domain),
+        }
     }
 
     /// The number of words. A machine of 4,096 frames has 16.9 MB of them, one of 65,536 frames 270 MB.

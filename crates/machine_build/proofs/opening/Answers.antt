@@ -1,5 +1,6 @@
 use Rattle.std.proofs.Common.{◌≡◌, ◌∙◌, ℕ, List, [], ap, reverse}
-use Rattle.xp_words.specs.Places.{Place, sizes_of, memory}
+use Rattle.xp_words.specs.declared.place.Place.{Place}
+use Rattle.xp_words.specs.Places.{sizes_of, memory}
 use Rattle.machine_build.specs.Puts.{all_zero, with_cells}
 use Rattle.machine_build.proofs.CellRuns.{zeros_added, same_words, no_words}
 use Rattle.machine_build.proofs.Steps.{same_cells}

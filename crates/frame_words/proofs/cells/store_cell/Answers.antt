@@ -1,6 +1,7 @@
 use Rattle.std.proofs.Common.{ap, ◌∙◌, refl, None}
 use Rattle.xp_words.specs.Machine.{Machine}
-use Rattle.xp_words.specs.Places.{Cell, number, sizes_of}
+use Rattle.xp_words.specs.declared.place.Place.TheVariants.{Cell}
+use Rattle.xp_words.specs.Places.{number, sizes_of}
 use Rattle.xp_board.specs.declared.step.Act.TheVariants.{Store}
 use Rattle.frame_words.proofs.Stepping.{placed, makes, hand_after}
 use Rattle.frame_words.proofs.CellHands.{cell_is_legal, stored_hand}

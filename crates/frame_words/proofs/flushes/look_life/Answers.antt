@@ -1,6 +1,7 @@
 use Rattle.std.proofs.Common.{ap, ◌∙◌, refl, subst}
 use Rattle.xp_words.specs.Machine.{Machine}
-use Rattle.xp_words.specs.Places.{Life, number, sizes_of}
+use Rattle.xp_words.specs.declared.place.Place.TheVariants.{Life}
+use Rattle.xp_words.specs.Places.{number, sizes_of}
 use Rattle.xp_board.specs.Told.{Finds}
 use Rattle.frame_words.proofs.Hands.{here, look_now, look_made, look_left}
 use Rattle.frame_words.proofs.Flushing.{life_there, life_hand}

@@ -1,6 +1,7 @@
 use Rattle.std.proofs.Common.{ap, ◌∙◌, refl, subst}
 use Rattle.xp_words.specs.Machine.{Machine}
-use Rattle.xp_words.specs.Places.{Priv, number, sizes_of}
+use Rattle.xp_words.specs.declared.place.Place.TheVariants.{Priv}
+use Rattle.xp_words.specs.Places.{number, sizes_of}
 use Rattle.xp_board.specs.Told.{Finds}
 use Rattle.frame_words.proofs.Hands.{here, look_now, look_made, look_left, same_hand}
 use Rattle.frame_words.proofs.Flushing.{priv_there}

@@ -1,5 +1,6 @@
 use Rattle.std.proofs.Common.{◌+◌, refl, None, subst}
-use Rattle.xp_words.specs.Places.{Clock, sizes_of}
+use Rattle.xp_words.specs.declared.place.Place.TheVariants.{Clock}
+use Rattle.xp_words.specs.Places.{sizes_of}
 use Rattle.xp_board.specs.declared.step.Act.TheVariants.{Cas}
 use Rattle.xp_board.specs.Told.{Finds}
 use Rattle.frame_words.specs.Pieces.{Makes}

@@ -1,6 +1,7 @@
 use Rattle.std.proofs.Common.{ap, ◌∙◌, refl, None}
 use Rattle.xp_words.specs.Machine.{Machine}
-use Rattle.xp_words.specs.Places.{Pages, number, sizes_of}
+use Rattle.xp_words.specs.declared.place.Place.TheVariants.{Pages}
+use Rattle.xp_words.specs.Places.{number, sizes_of}
 use Rattle.xp_board.specs.declared.step.Act.TheVariants.{Add}
 use Rattle.xp_board.specs.RefSteps.{one_down}
 use Rattle.frame_words.proofs.Stepping.{placed, makes, hand_after}

@@ -1,6 +1,7 @@
 use Rattle.std.proofs.Common.{◌/◌, ap, ◌∙◌, refl, sym, subst, None}
 use Rattle.xp_words.specs.Machine.{Machine}
-use Rattle.xp_words.specs.Places.{Map, number, sizes_of}
+use Rattle.xp_words.specs.declared.place.Place.TheVariants.{Map}
+use Rattle.xp_words.specs.Places.{number, sizes_of}
 use Rattle.xp_board.specs.declared.step.Act.TheVariants.{Add}
 use Rattle.xp_board.specs.HintSteps.{map_bit}
 use Rattle.xp_board.specs.After.{after_move, noted}

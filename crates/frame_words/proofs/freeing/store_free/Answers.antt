@@ -1,6 +1,7 @@
 use Rattle.std.proofs.Common.{ap, ◌∙◌, refl, sym, subst, None}
 use Rattle.xp_words.specs.Machine.{Machine}
-use Rattle.xp_words.specs.Places.{Refs, number, sizes_of}
+use Rattle.xp_words.specs.declared.place.Place.TheVariants.{Refs}
+use Rattle.xp_words.specs.Places.{number, sizes_of}
 use Rattle.xp_words.specs.RefWords.{ref_write}
 use Rattle.xp_words.specs.declared.refs.RefWord.TheVariants.{Free}
 use Rattle.xp_board.specs.declared.step.Act.TheVariants.{Store}

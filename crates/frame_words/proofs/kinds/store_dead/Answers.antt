@@ -1,6 +1,7 @@
 use Rattle.std.proofs.Common.{ap, ◌∙◌, refl}
 use Rattle.xp_words.specs.Machine.{Machine}
-use Rattle.xp_words.specs.Places.{Kind, number, sizes_of}
+use Rattle.xp_words.specs.declared.place.Place.TheVariants.{Kind}
+use Rattle.xp_words.specs.Places.{number, sizes_of}
 use Rattle.xp_board.specs.KindSteps.{Dead}
 use Rattle.frame_words.specs.Kinds.{dead_kind}
 use Rattle.frame_words.proofs.KindWriting.{dead_is, dead_fits}

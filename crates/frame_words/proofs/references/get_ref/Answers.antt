@@ -1,6 +1,7 @@
 use Rattle.std.proofs.Common.{◌<◌, ◌≤◌, ap, ◌∙◌, refl, subst, sym, length, arith}
 use Rattle.xp_words.specs.Machine.{Machine, IsMachine}
-use Rattle.xp_words.specs.Places.{Refs, number, sizes_of}
+use Rattle.xp_words.specs.declared.place.Place.TheVariants.{Refs}
+use Rattle.xp_words.specs.Places.{number, sizes_of}
 use Rattle.xp_board.specs.Told.{Post}
 use Rattle.frame_words.specs.References.{RefusesWord}
 use Rattle.frame_words.proofs.Taking.{got_none, got_refused, got_lost, got, never_lost, then_lent, taken_spares, domain_known}

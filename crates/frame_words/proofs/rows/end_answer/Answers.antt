@@ -1,5 +1,6 @@
 use Rattle.std.proofs.Common.{refl}
-use Rattle.xp_words.specs.Places.{Clock, sizes_of}
+use Rattle.xp_words.specs.declared.place.Place.TheVariants.{Clock}
+use Rattle.xp_words.specs.Places.{sizes_of}
 use Rattle.frame_words.proofs.Stepping.{clock_there, clock_number}
 use Rattle.frame_words.proofs.Hands.{look_now, look_made, look_left, same_hand}
 use Rattle.frame_words.proofs.rows.end_answer.Goals as goal

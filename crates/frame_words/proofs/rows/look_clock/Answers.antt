@@ -1,5 +1,6 @@
 use Rattle.std.proofs.Common.{refl, subst}
-use Rattle.xp_words.specs.Places.{Clock, sizes_of}
+use Rattle.xp_words.specs.declared.place.Place.TheVariants.{Clock}
+use Rattle.xp_words.specs.Places.{sizes_of}
 use Rattle.xp_board.specs.Told.{Finds}
 use Rattle.frame_words.proofs.Stepping.{clock_there, clock_number}
 use Rattle.frame_words.proofs.Hands.{here, look_now, look_made, look_left, same_hand}

@@ -1,6 +1,7 @@
 use Rattle.std.proofs.Common.{ap, ◌∙◌, refl, subst}
 use Rattle.xp_words.specs.Machine.{Machine}
-use Rattle.xp_words.specs.Places.{Refs, number, sizes_of}
+use Rattle.xp_words.specs.declared.place.Place.TheVariants.{Refs}
+use Rattle.xp_words.specs.Places.{number, sizes_of}
 use Rattle.xp_board.specs.Told.{Finds}
 use Rattle.frame_words.proofs.Stepping.{refs_there}
 use Rattle.frame_words.proofs.Hands.{here, look_now, look_made, look_left, same_hand}

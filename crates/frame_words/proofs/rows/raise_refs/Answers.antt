@@ -1,6 +1,7 @@
 use Rattle.std.proofs.Common.{◌+◌, ap, ◌∙◌, refl, None, subst}
 use Rattle.xp_words.specs.Machine.{Machine, IsMachine}
-use Rattle.xp_words.specs.Places.{Refs, number, sizes_of}
+use Rattle.xp_words.specs.declared.place.Place.TheVariants.{Refs}
+use Rattle.xp_words.specs.Places.{number, sizes_of}
 use Rattle.xp_board.specs.declared.step.Act.TheVariants.{Cas}
 use Rattle.frame_words.specs.Pieces.{Makes}
 use Rattle.frame_words.proofs.Hands.{raise_now, raise_made, raise_took, raise_lost}

@@ -1,6 +1,7 @@
 use Rattle.std.proofs.Common.{ap, ◌∙◌, refl, None}
 use Rattle.xp_words.specs.Machine.{Machine}
-use Rattle.xp_words.specs.Places.{Refs, M2p, number, sizes_of}
+use Rattle.xp_words.specs.declared.place.Place.TheVariants.{Refs, M2p}
+use Rattle.xp_words.specs.Places.{number, sizes_of}
 use Rattle.xp_board.specs.declared.step.Act.TheVariants.{Store}
 use Rattle.frame_words.proofs.Stepping.{m2p_there, placed, map_is_legal, makes, hand_after}
 use Rattle.frame_words.proofs.Hands.{same_hand}

@@ -1,5 +1,6 @@
 use Rattle.std.proofs.Common.{◌≡◌}
-use Rattle.xp_words.specs.Places.{Place, sizes_of, memory}
+use Rattle.xp_words.specs.declared.place.Place.{Place}
+use Rattle.xp_words.specs.Places.{sizes_of, memory}
 use Rattle.machine_build.specs.Puts.{with_m2p}
 use Rattle.machine_build.proofs.rows.put_m2p.Given as goal
 

@@ -1,5 +1,6 @@
 use Rattle.std.proofs.Common.{◌≡◌, ◌≤◌, reverse, take, vec_len}
-use Rattle.xp_words.specs.Places.{Place, sizes_of, size, memory}
+use Rattle.xp_words.specs.declared.place.Place.{Place}
+use Rattle.xp_words.specs.Places.{sizes_of, size, memory}
 use Rattle.machine_build.specs.Puts.{with_cells}
 use Rattle.machine_build.proofs.runs.put_cells.Given as goal
 

@@ -1,5 +1,6 @@
 use Rattle.std.proofs.Common.{◌≡◌, reverse, map}
-use Rattle.xp_words.specs.Places.{Place, sizes_of, memory}
+use Rattle.xp_words.specs.declared.place.Place.{Place}
+use Rattle.xp_words.specs.Places.{sizes_of, memory}
 use Rattle.machine_build.specs.Puts.{with_owned}
 use Rattle.machine_build.proofs.runs.put_owned.Given as goal
 

@@ -1,6 +1,7 @@
 use Rattle.std.proofs.Common.{◌≡◌, ◌≤◌, ◌<◌, ◌∙◌, ◌+◌, refl, length, sym, ap, arith, Ok, Err, Result, OnOk, max, vec_len, lit<}
 use Rattle.std.proofs.Math.ListN.{length-set}
-use Rattle.xp_words.specs.Places.{Cell, sizes_of, size, number}
+use Rattle.xp_words.specs.declared.place.Place.TheVariants.{Cell}
+use Rattle.xp_words.specs.Places.{sizes_of, size, number}
 use Rattle.machine_build.proofs.Steps.{cell-inside}
 use Rattle.machine_build.proofs.CellRuns.{none_written, one_more, grown, run_written}
 use Rattle.machine_build.proofs.runs.put_run.Goals as goal

@@ -1,6 +1,8 @@
 use Rattle.std.proofs.Common.{◌<◌, ◌≤◌, length, ap, sym, subst, arith}
 use Rattle.xp_words.specs.Machine.{Machine}
-use Rattle.xp_words.specs.Places.{Place, Vcpu, sizes_of}
+use Rattle.xp_words.specs.declared.place.Place.{Place}
+use Rattle.xp_words.specs.declared.place.Place.TheVariants.{Vcpu}
+use Rattle.xp_words.specs.Places.{sizes_of}
 use Rattle.xp_board.specs.Spelling.{IsSpelling}
 use Rattle.own_cache.proofs.Telling.{Stands, vcpu_stands, base_spelled}
 use Rattle.own_cache.proofs.translations.tests.begin.Goals as goal

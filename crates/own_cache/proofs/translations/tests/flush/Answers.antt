@@ -1,5 +1,6 @@
 use Rattle.std.proofs.Common.{sym, subst, arith}
-use Rattle.xp_words.specs.Places.{Place, sizes_of}
+use Rattle.xp_words.specs.declared.place.Place.{Place}
+use Rattle.xp_words.specs.Places.{sizes_of}
 use Rattle.xp_board.specs.Spelling.{IsSpelling}
 use Rattle.own_cache.proofs.Telling.{vcpu_stands, flushed_spelled}
 use Rattle.own_cache.proofs.translations.tests.flush.Goals as goal

@@ -1,6 +1,7 @@
 use Rattle.std.proofs.Common.{◌≡◌, ◌<◌, Some, ap, sym, subst, ◌∙◌}
 use Rattle.xp_words.specs.Machine.{Machine}
-use Rattle.xp_words.specs.Places.{Place, sizes_of}
+use Rattle.xp_words.specs.declared.place.Place.{Place}
+use Rattle.xp_words.specs.Places.{sizes_of}
 use Rattle.xp_board.specs.Spelling.{IsSpelling}
 use Rattle.own_cache.specs.Translating.{Translating}
 use Rattle.own_cache.proofs.Telling.{cell_stands, cell_spelled}

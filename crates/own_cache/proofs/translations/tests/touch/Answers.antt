@@ -1,6 +1,8 @@
 use Rattle.std.proofs.Common.{Bool, true, false, not, refl, ◌≡◌, ◌<◌, Some, ap, sym, subst, ◌∙◌}
 use Rattle.xp_words.specs.Machine.{Machine}
-use Rattle.xp_words.specs.Places.{Place, Cell, sizes_of}
+use Rattle.xp_words.specs.declared.place.Place.{Place}
+use Rattle.xp_words.specs.declared.place.Place.TheVariants.{Cell}
+use Rattle.xp_words.specs.Places.{sizes_of}
 use Rattle.xp_board.specs.Spelling.{IsSpelling}
 use Rattle.xp_board.specs.declared.step.Act.TheVariants.{Cas}
 use Rattle.own_cache.specs.Keeping.{AwaitsTouch}
