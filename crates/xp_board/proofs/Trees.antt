@@ -1,6 +1,5 @@
 -- What no lawful tree of page tables has.
-use Rattle.std.proofs.Common.{◌≡◌, ℕ, ◌+◌, ◌<◌, ◌≤◌, IsTrue, Some, ap, subst, sym, ◌∙◌, refl, arith}
-use Rattle.std.proofs.lemmas.Bool.{eqb-true}
+use Rattle.std.proofs.Common.{◌≡◌, ℕ, ◌<◌, ◌≤◌, IsTrue, subst, arith}
 use Rattle.std.proofs.lemmas.Bool.Decides.{nat_tests}
 use Rattle.xp_words.specs.Entries.{demand_at}
 use Rattle.xp_words.specs.Machine.{Machine}
@@ -19,7 +18,7 @@ pub not_writable_itself : (n : Machine) (owner f i : ℕ) (m : Place → ℕ) (t
     demand_at t i (m (Cell f i)) ≡ Typed f Writable → Lawful n owner m f t → ⊥
 not_writable_itself n owner f i m t dead table few asks l =
     let same = l.one_type f t Writable root (below f i f t Writable root dead table few asks) in
-    subst (λ u. IsTrue (is_table u)) same table
+    let none = subst (λ u. IsTrue (is_table u)) same table in cc
 
 one_here : (f : ℕ) → 1 ≤ one_at f f
 one_here f = grind (arith, nat_tests)

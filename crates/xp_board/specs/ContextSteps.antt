@@ -41,7 +41,7 @@ pub record MaySetBase (s v k : ℕ) : Type 0 where
   pub own : v ≡ s
   pub word : k ≡ 7
 
--- a word of a vCPU that was found stopped, of a domain that this vCPU destroys
+-- a word of vCPU v, which was found stopped, of a domain that the vCPU of this hand (s) destroys
 pub record MayEmpty (m : Machine) (s v k new : ℕ) (h : Holdings) : Type 0 where
   pub word : IsTrue (is_context k || (k == 7))
   pub none : new ≡ 0

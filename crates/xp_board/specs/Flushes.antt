@@ -15,12 +15,12 @@ use Rattle.xp_board.specs.Knowledge.{knows_owner}
 abbrev pub is_idle : ℕ → Bool
 is_idle w = (w == 1) || (w == 2)
 
--- from step n on the vCPU was found stopped or off, or flushed later than the stamp
+-- from step n on vCPU v was found stopped or off, or flushed later than the stamp
 abbrev pub is_past : Sizes → ℕ → ℕ → ℕ → List Made → Bool
 is_past z n stamp v steps =
     some_since z n (run_of v) is_idle steps || some_since z n (flushed_of v) (λ w. nat_lt stamp w) steps
 
--- from step n on the vCPU's domain was found never to have had privilege over the frame's owner
+-- from step n on the domain of vCPU v was found never to have had privilege over the frame's owner
 pub record PassedOver (m : Machine) (n f v : ℕ) (h : Holdings) : Type 0 where
   pub owner : ℕ
   pub known : IsTrue (knows_owner (sizes_of m) f owner h)

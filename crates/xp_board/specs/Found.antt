@@ -30,7 +30,7 @@ abbrev pub ClockFound : Sizes → (Place → ℕ) → Holdings → Type 0
 ClockFound z m u =
     EachOf (λ x. (clock_value (place_at z x.step.place) x.found ≤ m Clock) × (clock_value (place_at z x.step.place) (left_of x) ≤ m Clock)) u.steps
 
--- a vCPU's `flushed` is at least each value that the vCPU found or left there
+-- the `flushed` of each vCPU is at least each value that this one found or left there
 abbrev pub FlushedFound : Sizes → (Place → ℕ) → Holdings → Type 0
 FlushedFound z m u = (v : ℕ) → EachSince z 0 (flushed_of v) (λ w. w ≤ m (flushed_of v)) u.steps
 
@@ -51,11 +51,11 @@ LifeFound z m u = (d : ℕ) → EachSince z 0 (Life d) (λ w. w ≢ 0 → (m (Li
 abbrev pub EachClockValue : Sizes → (ℕ → Type 0) → List Made → Type 0
 EachClockValue z P steps = EachOf (λ x. P (clock_value (place_at z x.step.place) x.found) × P (clock_value (place_at z x.step.place) (left_of x))) steps
 
--- what the vCPU had found before it last found the vCPU off
+-- what this vCPU had found before it last found vCPU v off
 abbrev pub before_off : Sizes → ℕ → Holdings → List Made
 before_off z v u = steps_before z (run_of v) (λ w. w == 2) u.steps
 
--- the vCPU is off, stopped or cold, or was flushed later than each of these values
+-- vCPU v is off, stopped or cold, or was flushed later than each of these values
 abbrev pub FlushedSinceOff : Sizes → (Place → ℕ) → (ℕ → Holdings) → ℕ → Holdings → Type 0
 FlushedSinceOff z m h v u = EachClockValue z (λ y. (m (run_of v) ≢ 0) ⊎ (((h v).cold ≡ true) ⊎ (y < m (flushed_of v)))) (before_off z v u)
 

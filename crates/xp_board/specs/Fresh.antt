@@ -33,7 +33,8 @@ pub record Bears (flushed : ℕ) (k : KindWord) (u : Use) : Type 0 where
   pub typed : u ≢ Reads → ((k.unflushed ≡ false) × Matches k.kind u) ⊎ ((k.unflushed ≡ true) × (flushed ≤ k.number))
   pub dead : u ≢ Reads → IsTrue (is_dead k) → flushed ≤ k.number
 
--- the vCPU was not flushed since any clock value that a vCPU has found while the frame was ending, or in work, in its hand
+-- who flushed at that clock did not flush since any clock value that the vCPU with this hand has found while the frame
+-- was ending, or in work, in it
 pub record Awaited (z : Sizes) (flushed g : ℕ) (u : Use) (h : Holdings) : Type 0 where
   pub ending : EachOf (λ e. e.frame ≡ g → EachSince z e.since Clock (λ w. flushed ≤ w) h.steps) h.ending
   pub work : u ≢ Reads → EachOf (λ e. e.frame ≡ g → EachSince z e.since Clock (λ w. flushed ≤ w) h.steps) h.works
