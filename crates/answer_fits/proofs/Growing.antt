@@ -1,0 +1,222 @@
+-- What a request within another asks and finds is a cause for the other too: one case for each refusal and pause.
+use Rattle.std.proofs.Common.{◌≡◌, ◌⊎◌, ℕ, ◌≤◌, Bool, true, false, Option, Some, None, IsTrue, inl, inr, refl, ap, arith}
+use Rattle.xp_words.specs.Machine.{Machine}
+use Rattle.xp_words.specs.declared.place.Place.{Place}
+use Rattle.xp_words.specs.declared.place.Place.TheVariants.{Clock, Pages, Life, Vcpu, Refs, Kind, M2p, Cell, Map, Priv}
+use Rattle.xp_words.specs.declared.kind.PageType.{PageType}
+use Rattle.xp_words.specs.declared.reply.Refusal.{Refusal}
+use Rattle.xp_words.specs.declared.reply.Refusal.TheVariants as r
+use Rattle.xp_words.specs.declared.reply.Pause.{Pause}
+use Rattle.xp_words.specs.declared.reply.Pause.TheVariants.{Due, Lost, Busy, Flush, Alive}
+use Rattle.xp_words.specs.declared.reply.Stop.{Stop}
+use Rattle.xp_words.specs.declared.reply.Stop.TheVariants.{Refused, Paused}
+use Rattle.xp_board.specs.declared.holdings.Holdings.{Holdings}
+use Rattle.xp_board.specs.declared.step.Act.{Act}
+use Rattle.xp_board.specs.declared.step.Act.TheVariants.{Load, Cas, Store, Add, Max}
+use Rattle.xp_board.specs.Readings.{domain_of}
+use Rattle.answer_fits.specs.Answers.{Causes}
+use Rattle.answer_fits.specs.Asked.{Request, Asked, IsAsked, of, back, Within, HasNoMore, NoMore, Passed, checked, old, Implies}
+use Rattle.step_maker.specs.Moves.{Moment}
+use Rattle.answer_fits.specs.Finding.{Finding, Found, FoundWith, Did}
+use Rattle.answer_fits.specs.Licences.{Licensed, HasTaken}
+use Rattle.answer_fits.specs.Pauses.{Awaits, Progress, Loses, Clear, idle, flushed, own, barred, AskedTo, MayReach, Behind, entry, live}
+use Rattle.answer_fits.specs.Reasons.{Awaited, marked, other, free, begun, MayFlush, MayCountPages, taken, MayMark, IsRefChange, MayType, MayWriteOwn, MayChangeVcpu, Reason, HasReason}
+use Rattle.answer_fits.specs.Reasons as reasons
+
+module _ (n : Machine) (s : ℕ) (q : Request) (F : Finding) (t : Request) (G : Finding) (w : Within n s q F t G) where
+  pub found : (p : Place) (x : ℕ) → Found F p x → Found G p x
+  found p x a = record { moment = a.moment; was = w.moments a.moment a.was; place = a.place; word = a.word }
+
+  pub did : (p : Place) (b : Act) (x : ℕ) → Did F p b x → Did G p b x
+  did p b x a = record { moment = a.moment; was = w.moments a.moment a.was; place = a.place; act = a.act; word = a.word }
+
+  pub found_with : (p : Place) (x : ℕ) (h : Holdings) → FoundWith F p x h → FoundWith G p x h
+  found_with p x h a = record { moment = a.moment; was = w.moments a.moment a.was; place = a.place; word = a.word; hand = a.hand }
+
+  abbrev loses : (p : Place) (e x : ℕ) → Loses n F p e x → Loses n G p e x
+  loses p e x a =
+      record {
+        before = a.before;
+        exchange = a.exchange;
+        new = a.new;
+        was_before = w.moments a.before a.was_before;
+        was_exchange = w.moments a.exchange a.was_exchange;
+        place_before = a.place_before;
+        place = a.place;
+        act = a.act;
+        word = a.word;
+        last = a.last;
+        other = a.other;
+      }
+
+  pub asks : (f : ℕ) → IsAsked n s q F f → IsAsked n s t G f
+  asks f (of o k a) = of o k (w.asked f o k a)
+  asks f (back a) = w.backs f a
+
+  passed : (f o : ℕ) (h : Holdings) → Passed q f o h → Passed t f o h
+  passed f o h (checked a b) = checked a b
+  passed f o h (old a) = old (w.contexts a)
+
+  -- ---- why a word may change
+  awaited : (whose : Option ℕ) (stamp : ℕ) → Awaited n s q F whose stamp → Awaited n s t G whose stamp
+  awaited whose stamp (marked f x o k h a b c d e i) = marked f x o k h (w.asked f o k a) (found_with _ x h b) (passed f o h c) d e i
+  awaited whose stamp (other f x o want h a b c d e i j) = other f x o want h (w.asked f o (Some want) a) (found_with _ x h b) (passed f o h c) d e i j
+  awaited whose stamp (free f x k o a b c d e) = free f x k (w.pages k o) (asks f a) (found _ x b) c d e
+  awaited whose stamp (begun a b c) = begun (w.flushes a) (found _ stamp b) c
+
+  flushing : (h : Holdings) → MayFlush n s q F h → MayFlush n s t G h
+  flushing h (reasons.own a) = reasons.own (w.flushes a)
+  flushing h (reasons.asked x a b) = reasons.asked x a b
+  flushing h (reasons.awaited o x a b) = reasons.awaited o x (awaited o x a) b
+
+  counting : (d : ℕ) → MayCountPages n s q F d → MayCountPages n s t G d
+  counting d (reasons.found f x a b c) = reasons.found f x (asks f a) (found _ x b) c
+  counting d (taken k a b) = taken k (w.pages k a) b
+
+  changing : (b : Act) → IsRefChange q b → IsRefChange t b
+  changing (Cas e x) a = λ is. let k = a is in (k.0, w.pages k.0 k.1)
+  changing Load a = tt
+  changing (Store x) a = tt
+  changing (Add x) a = tt
+  changing (Max x) a = tt
+
+  marking : (f x y : ℕ) → MayMark n s q F f x y → MayMark n s t G f x y
+  marking f x y a = (w.locks a.0, asks f a.1, a.2)
+
+  typing : (f : ℕ) (b : Act) (x : ℕ) → MayType n s q F f b x → MayType n s t G f b x
+  typing f (Cas e y) x (inl a) = inl (a.0, w.asked f a.0 _ a.1)
+  typing f (Cas e y) x (inr a) = inr (marking f e y a)
+  typing f (Store y) x (inl a) = inl (a.0, w.asked f a.0 _ a.1)
+  typing f (Store y) x (inr a) = inr (marking f x y a)
+  typing f (Add y) x (inl a) = inl (a.0, w.asked f a.0 _ a.1)
+  typing f (Add y) x (inr a) = inr (marking f x x a)
+  typing f Load x a = a
+  typing f (Max y) x a = a
+
+  writing : (v k : ℕ) (h : Holdings) → MayWriteOwn n s q F v k h → MayWriteOwn n s t G v k h
+  writing v k h (inl (a, inl b)) = inl (a, inl b)
+  writing v k h (inl (a, inr b)) = inl (a, inr (flushing h b))
+  writing v k h (inr a) = inr (w.destroys _ a)
+
+  of_vcpu : (v k : ℕ) (b : Act) (h : Holdings) → MayChangeVcpu n s q F v k b h → MayChangeVcpu n s t G v k b h
+  of_vcpu v k (Max x) h a = (a.0, (a.1.0, awaited a.1.0 x a.1.1), a.2)
+  of_vcpu v k (Cas e x) h a = writing v k h a
+  of_vcpu v k (Store x) h a = writing v k h a
+  of_vcpu v k (Add x) h a = writing v k h a
+  of_vcpu v k Load h a = a
+
+  pub reason : (p : Place) (b : Act) (x : ℕ) (h : Holdings) → Reason n s q F p b x h → Reason n s t G p b x h
+  reason Clock b x h a = flushing h a
+  reason (Pages d) b x h a = counting d a
+  reason (Life d) b x h a = w.destroys d a
+  reason (Vcpu v k) b x h a = of_vcpu v k b h a
+  reason (Refs f) b x h a = (asks f a.0, changing b a.1)
+  reason (Kind f) b x h a = typing f b x a
+  reason (M2p f) b x h a = asks f a
+  reason (Cell f i) b x h a = asks f a
+  reason (Map k) b x h a = (a.0, a.1, asks a.0 a.2)
+  reason (Priv d) b x h a = a
+
+  pub has_reason : (p : Place) (b : Act) (x : ℕ) (h : Holdings) → HasReason n s q F p b x h → HasReason n s t G p b x h
+  has_reason p Load x h a = a
+  has_reason p (Cas e y) x h a = reason p (Cas e y) x h a
+  has_reason p (Store y) x h a = reason p (Store y) x h a
+  has_reason p (Add y) x h a = reason p (Add y) x h a
+  has_reason p (Max y) x h a = reason p (Max y) x h a
+
+  taken_in : (size block : ℕ) → HasTaken size F block → HasTaken size G block
+  taken_in size block a =
+      record { frame = a.frame; inside = a.inside; word = a.word; hand = a.hand; found = found_with _ a.word a.hand a.found; taken = a.taken; unclaimed = a.unclaimed }
+
+  -- ---- pauses
+  progress : Progress F → Progress G
+  progress (entry m a b) = entry m (w.moments m a) b
+  progress (live m f x a b c d) = live m f x (w.moments m a) b c d
+
+  clear : (o : Option ℕ) (stamp v : ℕ) → Clear n s o stamp F v → Clear n s o stamp G v
+  clear o stamp v (idle x a b) = idle x (found _ x a) b
+  clear o stamp v (flushed x a b) = flushed x (found _ x a) b
+  clear o stamp v (own x y a b c) = own x y a (did _ _ y b) c
+  clear o stamp v (barred d x a b c e) = barred d x a b (found _ x c) e
+
+  reaching : (o : Option ℕ) (v : ℕ) → MayReach n o F v → MayReach n o G v
+  reaching None v a = a
+  reaching (Some o) v (inl a) = inl a
+  reaching (Some o) v (inr a) = inr (a.0, found _ a.0 a.1, a.2)
+
+  cleared : (o : Option ℕ) (stamp v : ℕ) → Clear n s o stamp F v ⊎ AskedTo stamp F v → Clear n s o stamp G v ⊎ AskedTo stamp G v
+  cleared o stamp v (inl a) = inl (clear o stamp v a)
+  cleared o stamp v (inr a) = inr (record { before = a.before; did = did _ _ a.before a.did })
+
+  pub awaits : (x : Pause) → Awaits n s q F x → Awaits n s t G x
+  awaits Due a = (w.rose a.0, progress a.1)
+  awaits (Lost place e x) a = (a.0, a.1, (loses a.0 e x a.2.0, reason a.0 (Cas e a.2.0.new) x a.2.0.exchange.hand a.2.1))
+  awaits (Busy f x) (inl a) = inl (a.0, a.1, a.2, w.asked f a.0 a.1 a.3, found_with _ x a.2 a.4, passed f a.0 a.2 a.5, a.6, a.7)
+  awaits (Busy f x) (inr (d, a, inl b)) = inr (d, w.destroys d a, inl (found _ x b.0, b.1))
+  awaits (Busy f x) (inr (d, a, inr b)) = inr (d, w.destroys d a, inr (found _ x b.0, b.1))
+  awaits (Flush v stamp x) a =
+      (
+        a.0,
+        record {
+          other = a.1.other;
+          real = a.1.real;
+          running = found _ 0 a.1.running;
+          flushed = found _ x a.1.flushed;
+          behind = a.1.behind;
+          asked = record { before = a.1.asked.before; did = did _ _ a.1.asked.before a.1.asked.did };
+          reach = reaching a.0 v a.1.reach;
+          least = λ u b. clear a.0 stamp u (a.1.least u b);
+          others = λ u b. cleared a.0 stamp u (a.1.others u b);
+        },
+        awaited a.0 stamp a.2,
+      )
+  awaits (Alive v x) a = (w.destroys _ a.0, found _ x a.1, a.2)
+
+  -- ---- refusals: what the vCPU has as the inner piece begins is no more than what it had as the outer one began
+  module _ (b c : Holdings) (less : NoMore t b c) where
+    not_within : (x y : Bool) → Implies x y → y ≡ false → x ≡ false
+    not_within true y a off = absurd (let on = a refl in cc)
+    not_within false y a off = refl
+
+    no_more : (f : ℕ) (h : Holdings) → HasNoMore q f h b → HasNoMore t f h c
+    no_more f h a =
+        record {
+          refs = let one = a.refs in let two = (less f).refs in omega (arith, one, two);
+          typed = λ off. let one = a.typed (not_within q.entries t.entries w.entries off) in let two = (less f).typed off in omega (arith, one, two);
+        }
+
+    pub licensed : (x : Refusal) → Licensed n s b q F x → Licensed n s c t G x
+    licensed (r.NoFrame f) a = (asks f a.0, a.1)
+    licensed (r.WrongOwner f x) (o, k, a, b, inl c) = (o, k, w.asked f o k a, found _ x b, inl c)
+    licensed (r.WrongOwner f x) (o, k, a, b, inr c) = (o, k, w.asked f o k a, found _ x b, inr (w.returns c.0, c.1))
+    licensed (r.OtherType f k x) (inl a) = inl (a.0, a.1, w.asked f a.0 (Some k) a.2, found_with _ x a.1 a.3, passed f a.0 a.1 a.4, a.5)
+    licensed (r.OtherType f k x) (inr a) = inr (asks f a.0, found _ x a.1, w.walks a.2, a.3, a.4)
+    licensed (r.Reserved f i e) (inl a) = inl (a.0, found_with _ e a.0 a.1, a.2)
+    licensed (r.Reserved f i e) (inr a) = inr (asks f a.0, w.index i a.1, w.new_word e a.2)
+    licensed (r.CountFull f x) a = (a.0, a.1, a.2, w.asked f a.0 a.1 a.3, found_with _ x a.2 a.4, a.5, no_more f a.2 a.6)
+    licensed (r.AlreadyPinned x) a = (a.0, a.1, a.2, a.3, w.asked a.0 a.1 (Some a.2) a.4, found_with _ x a.3 a.5, passed a.0 a.1 a.3 a.6, a.7, a.8)
+    licensed (r.NotPinned x) a = (a.0, a.1, a.2, a.3, w.asked a.0 a.1 a.2 a.4, found_with _ x a.3 a.5, passed a.0 a.1 a.3 a.6, a.7)
+    licensed (r.Slot i) (a, inl b) = (a, inl (w.by_numbers _ b))
+    licensed (r.Slot i) (a, inr b) = (a, inr (b.0, b.1, asks b.0 b.2, found _ b.1 b.3, b.4, w.index i b.5))
+    licensed (r.NotMapped level e) (inl a) = inl (a.0, a.1, (a.2.0, a.2.1, found _ 0 a.2.2))
+    licensed (r.NotMapped level e) (inr a) = inr (a.0, a.1, w.walks a.2, (a.3.0, a.3.1, found _ e a.3.2, a.3.3))
+    licensed (r.ReadOnly e) (a, inl b) = (w.walks a, inl (b.0, b.1, found _ e b.2, b.3))
+    licensed (r.ReadOnly e) (a, inr b) = (w.walks a, inr (b.0, b.1, asks b.0 b.2, found _ b.1 b.3, b.4))
+    licensed r.NonCanonical a = w.by_numbers _ a
+    licensed (r.NoPrivilege c d) a = (a.0, a.1, (a.2.0, found _ a.2.0 a.2.1, a.2.2))
+    licensed r.NoDomain a = w.by_numbers _ a
+    licensed (r.Dying d x) a = (found _ x a.0, a.1)
+    licensed (r.DomainFull x) a = (a.0, found_with _ x a.0 a.1, a.2, (a.3.0, w.pages _ a.3.1, a.3.2))
+    licensed r.NoFree a = (a.0, w.block _ a.1, λ b inside. taken_in a.0 b (a.2 b inside))
+    licensed r.BadRange (inl a) = inl (w.by_numbers _ a)
+    licensed r.BadRange (inr a) = inr (a.0, a.1, w.index _ a.2, found _ a.1 a.3, a.4)
+    licensed (r.BadDescriptor f i x) (a, inl b) = (a, inl (asks f b.0, found _ x b.1))
+    licensed (r.BadDescriptor f i x) (a, inr b) = (a, inr (w.index i b.0, w.new_word x b.1))
+    licensed r.BadCommand a = w.by_numbers _ a
+    licensed (r.Clock x) a = (a.0, (a.1.0, found_with _ x a.1.0 a.1.1, flushing a.1.0 a.1.2))
+    licensed r.BatchLong a = w.by_numbers _ a
+    licensed (r.InUse f x) a = (asks f a.0, (a.1.0, found_with _ x a.1.0 a.1.1, a.1.2, no_more f a.1.0 a.1.3))
+
+    pub causes : (e : Stop) → Causes n s b q F e → Causes n s c t G e
+    causes (Refused x) a = licensed x a
+    causes (Paused x) a = awaits x a

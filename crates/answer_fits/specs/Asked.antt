@@ -1,0 +1,186 @@
+-- What a call is asked, and which frames that asks of it: for which owner, and for which type.
+use Rattle.std.specs.Prelude.{◌≡◌, ◌⊎◌, ℕ, ◌+◌, ◌<◌, ◌≤◌, ◌==◌, nat_lt, nat_le, if◌then◌else◌, Bool, true, false, Option, Some, None, IsTrue}
+use Rattle.xp_words.specs.Machine.{Machine}
+use Rattle.xp_words.specs.declared.place.Place.{Place}
+use Rattle.xp_words.specs.declared.place.Place.TheVariants.{Cell, Vcpu}
+use Rattle.xp_words.specs.Entries.{demand_at, frame_of}
+use Rattle.xp_words.specs.KindWords.{kind_fields}
+use Rattle.xp_words.specs.declared.entry.Demand.{Demand}
+use Rattle.xp_words.specs.declared.entry.Demand.TheVariants as demands
+use Rattle.xp_words.specs.declared.kind.PageType.{PageType}
+use Rattle.xp_words.specs.declared.kind.PageType.TheVariants as kinds
+use Rattle.xp_words.specs.declared.reply.Refusal.{Refusal}
+use Rattle.xp_board.specs.declared.holdings.Holdings.{Holdings}
+use Rattle.xp_board.specs.declared.holdings.Lock.{Lock}
+use Rattle.xp_board.specs.declared.holdings.Work.{Work}
+use Rattle.xp_board.specs.declared.holdings.OwnerFound.TheVariants as owners
+use Rattle.xp_board.specs.Hands.{work_on, lock_on, refs_to, typed_hand, ref_owner}
+use Rattle.xp_board.specs.Readings.{is_type, is_context, is_frame_word, domain_of}
+use Rattle.step_maker.specs.Moves.{Moment}
+use Rattle.answer_fits.specs.Finding.{Finding, Found, FoundWith}
+
+-- what a call is asked: by its own numbers, and beside what its steps find
+pub record Request : Type 0 where
+  -- the frames that it names, whose they must be, and the type that it wants of them
+  pub names : ℕ → Bool
+  -- the frames of which it gives back what the vCPU has, whoever owns them
+  pub backs : ℕ → Bool
+  pub owner : ℕ
+  pub want : Option PageType
+  -- whose the frames are to be that entries of level 1 name
+  pub pages_of : ℕ
+  -- whether the frames must be allocated (they are given back)
+  pub returns : Bool
+  -- the refusal that its numbers alone call for
+  pub by_numbers : Option Refusal
+  -- the cell that it writes, and the new word of it
+  pub index : Option ℕ
+  pub new_word : Option ℕ
+  -- whether entries of the tables that it works on ask frames; whether context words do
+  pub entries : Bool
+  pub contexts : Bool
+  -- whether it may mark live frames that it names, or take marks off, and leave them their type (an entry lock, a pin)
+  pub locks : Bool
+  -- whether it walks the own tables; whether it ends with a flush of its own
+  pub walks : Bool
+  pub flushes : Bool
+  -- the domain that it destroys; the one whose life word it looks at
+  pub destroys : Option ℕ
+  -- how many pages it takes, in blocks of so many frames
+  pub pages : Option ℕ
+  pub block : Option ℕ
+  -- whether the gate of this turn said yes
+  pub rose : Bool
+
+-- a call on one frame of that owner
+abbrev pub of_frame : ℕ → ℕ → Option PageType → Request
+of_frame f owner want =
+    record {
+      names = λ g. g == f;
+      backs = λ g. false;
+      owner = owner;
+      want = want;
+      pages_of = owner;
+      returns = false;
+      by_numbers = None;
+      index = None;
+      new_word = None;
+      entries = false;
+      contexts = false;
+      locks = false;
+      walks = false;
+      flushes = false;
+      destroys = None;
+      pages = None;
+      block = None;
+      rose = false;
+    }
+
+-- a call on a table of that owner, whose entries ask frames: those of level 1 of `pages_of`, the others of the owner. `rose`: the gate said yes
+abbrev pub of_table : ℕ → ℕ → Option PageType → ℕ → Bool → Request
+of_table f owner want pages_of rose = record (of_frame f owner want) { entries = true; pages_of = pages_of; rose = rose }
+
+-- a call that gives back what the vCPU has of one frame
+abbrev pub of_back : ℕ → Request
+of_back f = record (of_frame 0 0 None) { names = λ g. false; backs = λ g. g == f }
+
+-- a call that its numbers alone refuse
+abbrev pub of_numbers : Refusal → Request
+of_numbers x = record (of_frame 0 0 None) { names = λ g. false; by_numbers = Some x }
+
+-- ---- entries
+abbrev pub demand_by : ℕ → ℕ → Option Work → Option Lock → Option Demand
+demand_by i w (Some e) o = Some (demand_at (kind_fields e.word).kind i w)
+demand_by i w None (Some e) = Some (demand_at e.kind i w)
+demand_by i w None None = None
+
+-- what the entry asks, in a table of the own work or under the own entry lock
+abbrev pub demand_held : ℕ → ℕ → ℕ → Holdings → Option Demand
+demand_held f i w h = demand_by i w (work_on f h.works) (lock_on f h.locks)
+
+-- the owner that a frame must have which an entry asks: in L1 that of the pages, above it that of the table
+abbrev pub level_by : Option Work → Option Lock → Option PageType
+level_by (Some e) o = Some (kind_fields e.word).kind
+level_by None (Some e) = Some e.kind
+level_by None None = None
+
+abbrev pub owner_below : Request → Option PageType → ℕ
+owner_below r (Some kinds.L1) = r.pages_of
+owner_below r _ = r.owner
+
+-- what is asked for a type is asked without one, too
+abbrev pub IsFor : Option PageType → Option PageType → Type 0
+IsFor None asked = Unit {0}
+IsFor (Some t) asked = asked ≡ Some t
+
+-- the demand is of that frame, for that type
+abbrev pub IsDemandOf : ℕ → Option PageType → Option Demand → Type 0
+IsDemandOf f want (Some (demands.Read g)) = (g ≡ f) × IsFor want None
+IsDemandOf f want (Some (demands.Typed g t)) = (g ≡ f) × IsFor want (Some t)
+IsDemandOf f want _ = ⊥
+
+-- the type of the frame that a context word names, where the word says it
+abbrev pub context_type : ℕ → Option PageType
+context_type k = if nat_lt k 2 then Some kinds.L4 else if nat_le 8 k then Some kinds.Desc else None
+
+-- ---- frames
+-- a frame is asked, of that owner and for that type
+pub data Asked (n : Machine) (s : ℕ) (r : Request) (F : Finding) (f owner : ℕ) (want : Option PageType) : Type 0 where
+  -- the call names it
+  named : IsTrue (r.names f) → owner ≡ r.owner → IsFor want r.want → Asked n s r F f owner want
+  -- an entry asks it that was found in a table of the own work, or under the own entry lock
+  demanded : (t i w : ℕ) (h : Holdings) → r.entries ≡ true → FoundWith F (Cell t i) w h → IsDemandOf f want (demand_held t i w h) →
+      owner ≡ owner_below r (level_by (work_on t h.works) (lock_on t h.locks)) → Asked n s r F f owner want
+  -- it was found in the walk
+  walked : (t i w : ℕ) → r.walks ≡ true → Found F (Cell t i) w → f ≡ frame_of w → owner ≡ r.owner → IsFor want r.want → Asked n s r F f owner want
+  -- a context word names it, of the own vCPU or of one of the domain under destruction
+  context : (v k w : ℕ) → r.contexts ≡ true → Found F (Vcpu v k) w → IsTrue (is_context k) → IsTrue (is_frame_word f w) → (v ≡ s) ⊎ (r.destroys ≡ Some (domain_of n v)) →
+      owner ≡ domain_of n v → IsFor want (context_type k) → Asked n s r F f owner want
+
+-- of some owner and for some type; or the call gives it back
+pub data IsAsked (n : Machine) (s : ℕ) (r : Request) (F : Finding) (f : ℕ) : Type 0 where
+  of : (owner : ℕ) (want : Option PageType) → Asked n s r F f owner want → IsAsked n s r F f
+  back : IsTrue (r.backs f) → IsAsked n s r F f
+
+-- ---- what the vCPU itself has of a frame
+-- Holding h it has no more of the frame than it had when it held b, as the piece began. Where entries ask frames, the typed
+-- references that earlier entries took do not matter, for each entry counts.
+pub record HasNoMore (r : Request) (f : ℕ) (h b : Holdings) : Type 0 where
+  pub refs : refs_to f h.refs ≤ refs_to f b.refs
+  pub typed : r.entries ≡ false → typed_hand f h ≤ typed_hand f b
+
+-- the same of all frames
+abbrev pub NoMore : Request → Holdings → Holdings → Type 0
+NoMore r h b = (f : ℕ) → HasNoMore r f h b
+
+-- The checks of the reference word are past: it holds a reference which a step found to be that owner's. What an old word
+-- of a context names was checked in an earlier turn.
+pub data Passed (r : Request) (f owner : ℕ) (h : Holdings) : Type 0 where
+  checked : 0 < refs_to f h.refs → ref_owner f h ≡ owners.Of owner → Passed r f owner h
+  old : r.contexts ≡ true → Passed r f owner h
+
+-- ---- requests within others
+abbrev pub Implies : Bool → Bool → Type 0
+Implies a b = a ≡ true → b ≡ true
+
+abbrev pub Keeps : {A : Type 0} → Option A → Option A → Type 0
+Keeps {A} a b = (x : A) → a ≡ Some x → b ≡ Some x
+
+-- what r asks and F found is asked by q and found by G
+pub record Within (n : Machine) (s : ℕ) (r : Request) (F : Finding) (q : Request) (G : Finding) : Type 0 where
+  pub asked : (f owner : ℕ) (want : Option PageType) → Asked n s r F f owner want → Asked n s q G f owner want
+  pub backs : (f : ℕ) → IsTrue (r.backs f) → IsAsked n s q G f
+  pub moments : (m : Moment) → F m → G m
+  pub returns : Implies r.returns q.returns
+  pub by_numbers : Keeps r.by_numbers q.by_numbers
+  pub index : Keeps r.index q.index
+  pub new_word : Keeps r.new_word q.new_word
+  pub walks : Implies r.walks q.walks
+  pub flushes : Implies r.flushes q.flushes
+  pub destroys : Keeps r.destroys q.destroys
+  pub pages : Keeps r.pages q.pages
+  pub block : Keeps r.block q.block
+  pub rose : Implies r.rose q.rose
+  pub entries : Implies r.entries q.entries
+  pub contexts : Implies r.contexts q.contexts
+  pub locks : Implies r.locks q.locks

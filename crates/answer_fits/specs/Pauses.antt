@@ -1,0 +1,101 @@
+-- Why an operation goes on in a later turn: one equation for each pause.
+use Rattle.std.specs.Prelude.{◌≡◌, ◌≢◌, ◌⊎◌, ℕ, ◌<◌, ◌≤◌, ◌||◌, ◌&&◌, not, Bool, true, false, length, Option, Some, None, IsTrue}
+use Rattle.xp_words.specs.Machine.{Machine}
+use Rattle.xp_words.specs.declared.place.Place.{Place}
+use Rattle.xp_words.specs.declared.place.Place.TheVariants.{Vcpu, Refs, Kind, Priv}
+use Rattle.xp_words.specs.Places.{number, sizes_of}
+use Rattle.xp_words.specs.KindWords.{kind_fields}
+use Rattle.xp_words.specs.PageTypes.{is_table}
+use Rattle.xp_words.specs.declared.kind.PageType.TheVariants as kinds
+use Rattle.xp_words.specs.declared.reply.Pause.{Pause}
+use Rattle.xp_words.specs.declared.reply.Pause.TheVariants.{Due, Lost, Busy, Flush, Alive}
+use Rattle.xp_board.specs.declared.step.Act.{Act}
+use Rattle.xp_board.specs.declared.step.Act.TheVariants.{Cas, Max, Store}
+use Rattle.xp_board.specs.declared.step.Mark.{Mark}
+use Rattle.xp_board.specs.declared.step.Mark.TheVariants as marks
+use Rattle.xp_board.specs.declared.holdings.Holdings.{Holdings}
+use Rattle.xp_board.specs.Steps.{last_since}
+use Rattle.xp_board.specs.Flushes.{is_idle}
+use Rattle.xp_board.specs.Hands.{work_on, lock_on, ending_of}
+use Rattle.xp_board.specs.Readings.{is_work, is_locked, is_closing, is_live, is_live_as, is_type, is_dying, domain_of, has_ever}
+use Rattle.xp_words.specs.declared.kind.PageType.{PageType}
+use Rattle.answer_fits.specs.Asked.{Request, Asked, Passed}
+use Rattle.step_maker.specs.Moves.{Moment}
+use Rattle.answer_fits.specs.Finding.{Finding, Found, FoundWith, Did}
+use Rattle.answer_fits.specs.Reasons.{Awaited, Reason}
+
+-- ---- progress
+abbrev pub is_entry_mark : Option Mark → Bool
+is_entry_mark (Some (marks.Record f upto)) = true
+is_entry_mark (Some (marks.Shed f upto)) = true
+is_entry_mark _ = false
+
+-- one of the steps recorded or shed an entry, or made a frame live
+pub data Progress (F : Finding) : Type 0 where
+  entry : (m : Moment) → F m → IsTrue (is_entry_mark m.mark) → Progress F
+  live : (m : Moment) (f new : ℕ) → F m → m.place ≡ Kind f → m.act ≡ Store new → IsTrue (is_live (kind_fields new)) → Progress F
+
+-- ---- exchanges
+-- an exchange found another word than the last step of this piece at that place had found or left there
+pub record Loses (n : Machine) (F : Finding) (p : Place) (expected found : ℕ) : Type 0 where
+  pub before : Moment
+  pub exchange : Moment
+  pub new : ℕ
+  pub was_before : F before
+  pub was_exchange : F exchange
+  pub place_before : before.place ≡ p
+  pub place : exchange.place ≡ p
+  pub act : exchange.act ≡ Cas expected new
+  pub word : exchange.found ≡ found
+  pub last : last_since (sizes_of n) (length before.hand.steps) p exchange.hand.steps ≡ Some expected
+  pub other : found ≢ expected
+
+-- ---- frames of others
+abbrev pub IsElsewhere : ℕ → Holdings → Type 0
+IsElsewhere f h = (work_on f h.works ≡ None) × (lock_on f h.locks ≡ None) × (ending_of f h.ending ≡ None)
+
+abbrev pub is_busy : ℕ → Bool
+is_busy w = is_work (kind_fields w) || (is_locked (kind_fields w) || is_closing (kind_fields w))
+
+abbrev pub is_in_use : ℕ → Bool
+is_in_use w = is_live (kind_fields w) && (is_table (kind_fields w).kind || is_type (kind_fields w).kind kinds.Desc)
+
+-- ---- flushes
+-- a vCPU was found clear of that stamp
+pub data Clear (n : Machine) (s : ℕ) (whose : Option ℕ) (stamp : ℕ) (F : Finding) (v : ℕ) : Type 0 where
+  idle : (w : ℕ) → Found F (Vcpu v 6) w → IsTrue (is_idle w) → Clear n s whose stamp F v
+  flushed : (w : ℕ) → Found F (Vcpu v 5) w → stamp < w → Clear n s whose stamp F v
+  own : (w before : ℕ) → v ≡ s → Did F (Vcpu v 5) (Store w) before → stamp < w → Clear n s whose stamp F v
+  barred : (owner w : ℕ) → whose ≡ Some owner → domain_of n v ≢ owner → Found F (Priv (domain_of n v)) w → IsTrue (not (has_ever owner w)) → Clear n s whose stamp F v
+
+pub record AskedTo (stamp : ℕ) (F : Finding) (v : ℕ) : Type 0 where
+  pub before : ℕ
+  pub did : Did F (Vcpu v 4) (Max stamp) before
+
+-- the vCPU is of the domain whose frame it is, or was found with the privilege for that domain: it may have a translation of it
+abbrev pub MayReach : Machine → Option ℕ → Finding → ℕ → Type 0
+MayReach n None F v = Unit {0}
+MayReach n (Some owner) F v = (domain_of n v ≡ owner) ⊎ ((w : ℕ) × Found F (Priv (domain_of n v)) w × IsTrue (has_ever owner w))
+
+-- the least vCPU that is behind, and all that are were asked, it too
+pub record Behind (n : Machine) (s : ℕ) (whose : Option ℕ) (stamp : ℕ) (F : Finding) (v found : ℕ) : Type 0 where
+  pub other : v ≢ s
+  pub real : v < length n.vcpu_domain
+  pub running : Found F (Vcpu v 6) 0
+  pub flushed : Found F (Vcpu v 5) found
+  pub behind : found ≤ stamp
+  pub asked : AskedTo stamp F v
+  pub reach : MayReach n whose F v
+  pub least : (u : ℕ) → u < v → Clear n s whose stamp F u
+  pub others : (u : ℕ) → u < length n.vcpu_domain → Clear n s whose stamp F u ⊎ AskedTo stamp F u
+
+-- ---- by pause
+abbrev pub Awaits : Machine → ℕ → Request → Finding → Pause → Type 0
+Awaits n s r F Due = (r.rose ≡ true) × Progress F
+Awaits n s r F (Lost place expected found) =
+    (p : Place) × (place ≡ number (sizes_of n) p) × ((l : Loses n F p expected found) × Reason n s r F p (Cas expected l.new) found l.exchange.hand)
+Awaits n s r F (Busy f w) =
+    ((owner : ℕ) × (want : Option PageType) × (h : Holdings) × Asked n s r F f owner want × FoundWith F (Kind f) w h × Passed r f owner h × IsTrue (is_busy w) × IsElsewhere f h)
+    ⊎ ((d : ℕ) × (r.destroys ≡ Some d) × ((Found F (Kind f) w × IsTrue (is_in_use w)) ⊎ (Found F (Refs f) w × IsTrue (is_dying w))))
+Awaits n s r F (Flush v stamp found) = (whose : Option ℕ) × Behind n s whose stamp F v found × Awaited n s r F whose stamp
+Awaits n s r F (Alive v w) = (r.destroys ≡ Some (domain_of n v)) × Found F (Vcpu v 6) w × (w ≡ 0)

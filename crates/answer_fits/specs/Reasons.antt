@@ -1,0 +1,105 @@
+-- Why a step may change a word: it serves a frame that is asked, or a flush that is asked or awaited.
+use Rattle.std.specs.Prelude.{◌≡◌, ◌≢◌, ◌⊎◌, ℕ, ◌/◌, ◌==◌, ◌&&◌, ◌≤◌, not, Bool, true, false, Option, Some, None, IsTrue}
+use Rattle.xp_words.specs.Machine.{Machine}
+use Rattle.xp_words.specs.declared.place.Place.{Place}
+use Rattle.xp_words.specs.declared.place.Place.TheVariants.{Clock, Pages, Life, Vcpu, Refs, Kind, M2p, Cell, Map, Priv}
+use Rattle.xp_words.specs.Places.{sizes_of}
+use Rattle.xp_words.specs.KindWords.{kind_fields}
+use Rattle.xp_words.specs.declared.kind.PageType.{PageType}
+use Rattle.xp_board.specs.declared.step.Act.{Act}
+use Rattle.xp_board.specs.declared.step.Act.TheVariants.{Load, Cas, Store, Add, Max}
+use Rattle.xp_board.specs.declared.holdings.Holdings.{Holdings}
+use Rattle.xp_board.specs.KindSteps.{is_stale}
+use Rattle.xp_board.specs.Readings.{is_dead, is_type, is_free, owner_of, domain_of, free_stamp}
+use Rattle.xp_board.specs.Steps.{last_since}
+use Rattle.answer_fits.specs.Asked.{Request, Asked, IsAsked, Passed}
+use Rattle.answer_fits.specs.Finding.{Finding, Found, FoundWith}
+
+-- ---- flushes
+-- the stamps that flushes are awaited for, and whose the frame is where one domain's vCPUs and those with privilege for it matter
+pub data Awaited (n : Machine) (s : ℕ) (r : Request) (F : Finding) (whose : Option ℕ) (stamp : ℕ) : Type 0 where
+  -- found in a marked kind word of an asked frame
+  marked : (f w owner : ℕ) (want : Option PageType) (h : Holdings) → Asked n s r F f owner want → FoundWith F (Kind f) w h → Passed r f owner h → (kind_fields w).unflushed ≡ true →
+      whose ≡ Some owner → stamp ≡ (kind_fields w).number → Awaited n s r F whose stamp
+  -- found in a dead word of an asked frame whose type is neither None nor the one asked
+  other : (f w owner : ℕ) (want : PageType) (h : Holdings) → Asked n s r F f owner (Some want) → FoundWith F (Kind f) w h → Passed r f owner h → IsTrue (is_dead (kind_fields w)) →
+      is_stale (kind_fields w) want ≡ true → whose ≡ Some owner → stamp ≡ (kind_fields w).number → Awaited n s r F whose stamp
+  -- found in a free word by a call that takes pages
+  free : (f w k : ℕ) → r.pages ≡ Some k → IsAsked n s r F f → Found F (Refs f) w → is_free w ≡ true → whose ≡ None → stamp ≡ free_stamp w → Awaited n s r F whose stamp
+  -- the clock that was found when the call's own wait began
+  begun : r.flushes ≡ true → Found F Clock stamp → whose ≡ None → Awaited n s r F whose stamp
+
+-- the word that the vCPU last found or left there is at most the stamp
+pub record LastAtMost (n : Machine) (p : Place) (stamp : ℕ) (h : Holdings) : Type 0 where
+  pub last : ℕ
+  pub was : last_since (sizes_of n) 0 p h.steps ≡ Some last
+  pub most : last ≤ stamp
+
+-- the own flush: the call ends with it; or the own flushed word, as the vCPU last knew it, is at most what it was asked for, or at most an awaited stamp
+pub data MayFlush (n : Machine) (s : ℕ) (r : Request) (F : Finding) (h : Holdings) : Type 0 where
+  own : r.flushes ≡ true → MayFlush n s r F h
+  asked : (stamp : ℕ) → last_since (sizes_of n) 0 (Vcpu s 4) h.steps ≡ Some stamp → LastAtMost n (Vcpu s 5) stamp h → MayFlush n s r F h
+  awaited : (whose : Option ℕ) (stamp : ℕ) → Awaited n s r F whose stamp → LastAtMost n (Vcpu s 5) stamp h → MayFlush n s r F h
+
+-- a vCPU may be asked to flush past an awaited stamp, where it was found flushed no later
+abbrev pub MayAskFor : Machine → ℕ → Request → Finding → ℕ → ℕ → ℕ → Holdings → Type 0
+MayAskFor n s r F v k stamp h = (k ≡ 4) × ((whose : Option ℕ) × Awaited n s r F whose stamp) × LastAtMost n (Vcpu v 5) stamp h
+
+-- ---- words of frames
+-- the page count is that of the owner that was found of an asked frame, or of the domain that takes pages
+pub data MayCountPages (n : Machine) (s : ℕ) (r : Request) (F : Finding) (d : ℕ) : Type 0 where
+  found : (f w : ℕ) → IsAsked n s r F f → Found F (Refs f) w → owner_of w ≡ Some d → MayCountPages n s r F d
+  taken : (k : ℕ) → r.pages ≡ Some k → d ≡ domain_of n s → MayCountPages n s r F d
+
+-- a free frame is claimed only where the call takes pages. (That a count goes one up or down, and which stores there are, are laws of steps; all else is a deed.)
+abbrev pub IsRefChange : Request → Act → Type 0
+IsRefChange r (Cas e w) = is_free e ≡ true → ((k : ℕ) × (r.pages ≡ Some k))
+IsRefChange r _ = Unit {0}
+
+abbrev pub IsTypeAsked : Machine → ℕ → Request → Finding → ℕ → PageType → Type 0
+IsTypeAsked n s r F f t = (owner : ℕ) × Asked n s r F f owner (Some t)
+
+abbrev pub keeps_type : ℕ → ℕ → Bool
+keeps_type old new = is_type (kind_fields old).kind (kind_fields new).kind && not (is_dead (kind_fields old))
+
+-- the call may mark frames, and this one keeps its type
+abbrev pub MayMark : Machine → ℕ → Request → Finding → ℕ → ℕ → ℕ → Type 0
+MayMark n s r F f old new = (r.locks ≡ true) × IsAsked n s r F f × IsTrue (keeps_type old new)
+
+-- A kind word gets a type only that is asked of that frame. A call that asks no type and marks nothing changes none.
+abbrev pub MayType : Machine → ℕ → Request → Finding → ℕ → Act → ℕ → Type 0
+MayType n s r F f (Cas e w) x = IsTypeAsked n s r F f (kind_fields w).kind ⊎ MayMark n s r F f e w
+MayType n s r F f (Store w) x = IsTypeAsked n s r F f (kind_fields w).kind ⊎ MayMark n s r F f x w
+MayType n s r F f (Add by) x = IsTypeAsked n s r F f (kind_fields x).kind ⊎ MayMark n s r F f x x
+MayType n s r F f _ x = ⊥
+
+-- ---- words of vCPUs
+abbrev pub MayWriteOwn : Machine → ℕ → Request → Finding → ℕ → ℕ → Holdings → Type 0
+MayWriteOwn n s r F v k h = ((v ≡ s) × ((k ≢ 5) ⊎ MayFlush n s r F h)) ⊎ (r.destroys ≡ Some (domain_of n v))
+
+abbrev pub MayChangeVcpu : Machine → ℕ → Request → Finding → ℕ → ℕ → Act → Holdings → Type 0
+MayChangeVcpu n s r F v k (Max stamp) h = MayAskFor n s r F v k stamp h
+MayChangeVcpu n s r F v k (Cas e w) h = MayWriteOwn n s r F v k h
+MayChangeVcpu n s r F v k (Store w) h = MayWriteOwn n s r F v k h
+MayChangeVcpu n s r F v k (Add by) h = MayWriteOwn n s r F v k h
+MayChangeVcpu n s r F v k _ h = ⊥
+
+-- ---- by place: the act there, the word that it found, and what the vCPU held
+abbrev pub Reason : Machine → ℕ → Request → Finding → Place → Act → ℕ → Holdings → Type 0
+Reason n s r F Clock a x h = MayFlush n s r F h
+Reason n s r F (Pages d) a x h = MayCountPages n s r F d
+Reason n s r F (Life d) a x h = r.destroys ≡ Some d
+Reason n s r F (Vcpu v k) a x h = MayChangeVcpu n s r F v k a h
+Reason n s r F (Refs f) a x h = IsAsked n s r F f × IsRefChange r a
+Reason n s r F (Kind f) a x h = MayType n s r F f a x
+Reason n s r F (M2p f) a x h = IsAsked n s r F f
+Reason n s r F (Cell f i) a x h = IsAsked n s r F f
+Reason n s r F (Map k) a x h = (f : ℕ) × (k ≡ f / 64) × IsAsked n s r F f
+Reason n s r F (Priv d) a x h = ⊥
+
+abbrev pub HasReason : Machine → ℕ → Request → Finding → Place → Act → ℕ → Holdings → Type 0
+HasReason n s r F p Load x h = Unit {0}
+HasReason n s r F p (Cas e w) x h = Reason n s r F p (Cas e w) x h
+HasReason n s r F p (Store w) x h = Reason n s r F p (Store w) x h
+HasReason n s r F p (Add w) x h = Reason n s r F p (Add w) x h
+HasReason n s r F p (Max w) x h = Reason n s r F p (Max w) x h

@@ -1,0 +1,22 @@
+-- What a port holds, but for its steps and for what its board tells: one equation.
+use Rattle.std.specs.Prelude.{◌≡◌, [], None, Some}
+use Rattle.xp_words.specs.Machine.{IsMachine}
+use Rattle.xp_board.specs.declared.holdings.Holdings.{Holdings}
+use Rattle.xp_board.specs.Told.{PortValue}
+
+abbrev pub still : PortValue → PortValue
+still v = record { post = v.post; holdings = record v.holdings { steps = [] }; told = None }
+
+-- w is the same port as v, and holds h
+abbrev pub Holds : PortValue → PortValue → Holdings → Type 0
+Holds v w h = still w ≡ record { post = v.post; holdings = record h { steps = [] }; told = None }
+
+-- the same port, with the same in hand
+abbrev pub Same : PortValue → PortValue → Type 0
+Same v w = still w ≡ still v
+
+-- the vCPU runs, no walk is in flight, and the machine is one
+pub record MayWork (v : PortValue) : Type 0 where
+  pub running : v.holdings.run ≡ Some 0
+  pub no_walk : v.holdings.walk ≡ None
+  pub machine : IsMachine v.post.machine

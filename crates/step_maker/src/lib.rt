@@ -1,0 +1,54 @@
+//! One atomic step at a word that is given by name.
+#![tactic(auto)]
+
+ghost use Rattle.std.specs.Prelude.{◌≡◌, ◌≢◌, IsTrue, IfErr, None};
+ghost use Rattle.xp_board.specs.declared.step.Act.TheVariants.{Load, Cas};
+ghost use Rattle.xp_board.specs.declared.step.StepKind.TheVariants as kinds;
+ghost use Rattle.xp_words.specs.Places.{is_place, sizes_of};
+ghost use Rattle.step_maker.specs.Moves.{Moves, May, found_by};
+
+use xp_board::{Act, Mark, Port, Step, StepKind};
+use xp_words::Place;
+
+/// Makes one step at that word, and answers what it found.
+pub fn make<P: Port>(port: &mut P, place: Place, act: Act, kind: StepKind, mark: Option<Mark>) -> u64
+    requires { May (P.value port.old) place act kind mark }
+    ensures { Moves (P.value port.old) (P.value port.new) place act kind mark result }
+{
+    let at = port.layout().place(place);
+    port.step(Step {
+        place: at,
+        act,
+        kind,
+        mark,
+    })
+}
+
+/// A load.
+#[tactic(auto, using(crate::proofs::Moving::may_look))]
+pub fn look<P: Port>(port: &mut P, place: Place) -> u64
+    requires { IsTrue (is_place (sizes_of (P.value port.old).post.machine) place) }
+    ensures { Moves (P.value port.old) (P.value port.new) place Load kinds.Look None result }
+{
+    make(port, place, Act::Load, StepKind::Look, None)
+}
+
+/// One exchange. One that finds another word answers it.
+pub fn exchange<P: Port>(
+    port: &mut P,
+    place: Place,
+    expected: u64,
+    new: u64,
+    kind: StepKind,
+) -> Result<(), u64>
+    requires { May (P.value port.old) place (Cas expected new) kind None }
+    ensures moves { Moves (P.value port.old) (P.value port.new) place (Cas expected new) kind None (found_by expected result) }
+    ensures lost { IfErr result (λ found. found ≢ expected) }
+{
+    let found = make(port, place, Act::Cas { expected, new }, kind, None);
+    if found == expected {
+        Ok(())
+    } else {
+        Err(found)
+    }
+}
