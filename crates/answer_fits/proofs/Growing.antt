@@ -1,9 +1,8 @@
 -- What a request within another asks and finds is a cause for the other too: one case for each refusal and pause.
-use Rattle.std.proofs.Common.{◌≡◌, ◌⊎◌, ℕ, ◌≤◌, Bool, true, false, Option, Some, None, IsTrue, inl, inr, refl, ap, arith}
+use Rattle.std.proofs.Common.{◌≡◌, ◌⊎◌, ℕ, Bool, true, false, Option, Some, None, inl, inr, refl, arith}
 use Rattle.xp_words.specs.Machine.{Machine}
 use Rattle.xp_words.specs.declared.place.Place.{Place}
 use Rattle.xp_words.specs.declared.place.Place.TheVariants.{Clock, Pages, Life, Vcpu, Refs, Kind, M2p, Cell, Map, Priv}
-use Rattle.xp_words.specs.declared.kind.PageType.{PageType}
 use Rattle.xp_words.specs.declared.reply.Refusal.{Refusal}
 use Rattle.xp_words.specs.declared.reply.Refusal.TheVariants as r
 use Rattle.xp_words.specs.declared.reply.Pause.{Pause}
@@ -13,13 +12,11 @@ use Rattle.xp_words.specs.declared.reply.Stop.TheVariants.{Refused, Paused}
 use Rattle.xp_board.specs.declared.holdings.Holdings.{Holdings}
 use Rattle.xp_board.specs.declared.step.Act.{Act}
 use Rattle.xp_board.specs.declared.step.Act.TheVariants.{Load, Cas, Store, Add, Max}
-use Rattle.xp_board.specs.Readings.{domain_of}
 use Rattle.answer_fits.specs.Answers.{Causes}
-use Rattle.answer_fits.specs.Asked.{Request, Asked, IsAsked, of, back, Within, HasNoMore, NoMore, Passed, checked, old, Implies}
-use Rattle.step_maker.specs.Moves.{Moment}
+use Rattle.answer_fits.specs.Asked.{Request, IsAsked, of, back, Within, HasNoMore, NoMore, Passed, checked, old, Implies}
 use Rattle.answer_fits.specs.Finding.{Finding, Found, FoundWith, Did}
 use Rattle.answer_fits.specs.Licences.{Licensed, HasTaken}
-use Rattle.answer_fits.specs.Pauses.{Awaits, Progress, Loses, Clear, idle, flushed, own, barred, AskedTo, MayReach, Behind, entry, live}
+use Rattle.answer_fits.specs.Pauses.{Awaits, Progress, Loses, Clear, idle, flushed, own, barred, AskedTo, MayReach, entry, live}
 use Rattle.answer_fits.specs.Reasons.{Awaited, marked, other, free, begun, MayFlush, MayCountPages, taken, MayMark, IsRefChange, MayType, MayWriteOwn, MayChangeVcpu, Reason, HasReason}
 use Rattle.answer_fits.specs.Reasons as reasons
 

@@ -1,27 +1,24 @@
 -- Pieces of steps one behind the other, and what they show of an answer.
-use Rattle.std.proofs.Common.{◌≡◌, ℕ, List, [], ◌∷◌, ◌++◌, ◌==◌, if◌then◌else◌, Option, Some, None, IsTrue, inl, inr, arith, refl, sym, ap, ◌∙◌, subst, append_assoc, append-nil}
+use Rattle.std.proofs.Common.{◌≡◌, ℕ, List, [], ◌∷◌, ◌++◌, ◌==◌, if◌then◌else◌, Option, Some, None, IsTrue, arith, refl, sym, ap, ◌∙◌, subst, append_assoc, append-nil}
 use Rattle.xp_words.specs.Machine.{Machine}
 use Rattle.std.proofs.lemmas.Bool.Decides.{nat_tests}
 use Rattle.xp_words.specs.declared.place.Place.{Place}
-use Rattle.xp_words.specs.declared.place.Place.TheVariants.{Clock, Pages, Life, Vcpu, Refs, Kind, M2p, Cell, Map, Priv}
 use Rattle.xp_words.specs.declared.entry.Demand.{Demand}
 use Rattle.xp_words.specs.declared.entry.Demand.TheVariants as demands
 use Rattle.xp_words.specs.declared.kind.PageType.{PageType}
 use Rattle.xp_words.specs.declared.reply.Stop.{Stop}
 use Rattle.xp_board.specs.declared.step.Act.{Act}
-use Rattle.xp_board.specs.declared.step.Act.TheVariants.{Load, Cas, Store, Add, Max}
 use Rattle.xp_board.specs.declared.step.Mark.{Mark}
 use Rattle.xp_board.specs.declared.step.StepKind.{StepKind}
 use Rattle.xp_board.specs.declared.holdings.Holdings.{Holdings}
 use Rattle.xp_board.specs.Lists.{EachOf}
 use Rattle.xp_board.specs.Told.{Post, PortValue}
-use Rattle.step_maker.specs.Moves.{Moves, Moment, Ran, Came, Met}
-use Rattle.step_maker.proofs.Coming.{ran_more, ran_post, came_self, came_trans, came_post, moment_of, moves_by, moves_came, moves_ran, met_before, met_after}
-use Rattle.answer_fits.specs.Answers.{Changes, changes, is_load, Deed, deeds_by, deeds, Piece, Serves, Causes, Stops}
-use Rattle.answer_fits.specs.Asked.{Request, of_frame, IsFor, IsDemandOf, demand_held, context_type, Asked, IsAsked, of, back, of_back, Within, NoMore, named, demanded, walked, context}
-use Rattle.answer_fits.specs.Finding.{Finding, Found, FoundWith}
-use Rattle.answer_fits.specs.Reasons.{Awaited, marked, other, free, begun, MayFlush, MayCountPages, taken, Reason, HasReason}
-use Rattle.answer_fits.specs.Reasons as reasons
+use Rattle.step_maker.specs.Moves.{Moves, Moment, Came, Met}
+use Rattle.step_maker.proofs.Coming.{ran_more, came_post, moment_of, moves_by, moves_came, moves_ran, met_before, met_after}
+use Rattle.answer_fits.specs.Answers.{Changes, is_load, Deed, deeds_by, deeds, Serves, Causes, Stops}
+use Rattle.answer_fits.specs.Asked.{Request, of_frame, IsFor, IsDemandOf, demand_held, context_type, Asked, IsAsked, back, of_back, Within, NoMore, named, demanded, walked, context}
+use Rattle.answer_fits.specs.Finding.{Finding}
+use Rattle.answer_fits.specs.Reasons.{HasReason}
 use Rattle.answer_fits.proofs.Growing.{has_reason, causes}
 
 -- ---- the same request, more found

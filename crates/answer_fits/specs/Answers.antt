@@ -1,8 +1,8 @@
 -- The steps that a call made, and what they show of its answer.
-use Rattle.std.specs.Prelude.{◌≡◌, ◌≢◌, ◌&&◌, ◌||◌, ◌==◌, nat_lt, not, is_some, if◌then◌else◌, ℕ, Bool, true, false, List, [], ◌∷◌, ◌++◌, Option, Some, Result, Ok, Err}
+use Rattle.std.specs.Prelude.{◌≡◌, ◌&&◌, ◌||◌, ◌==◌, nat_lt, not, is_some, if◌then◌else◌, ℕ, Bool, true, false, List, [], ◌∷◌, ◌++◌, Result, Ok, Err}
 use Rattle.xp_words.specs.Machine.{Machine}
 use Rattle.xp_words.specs.declared.place.Place.{Place}
-use Rattle.xp_words.specs.declared.place.Place.TheVariants.{Life, Vcpu, Refs, Kind, M2p, Cell}
+use Rattle.xp_words.specs.declared.place.Place.TheVariants.{Clock, Life, Vcpu, Refs, Kind, M2p, Cell}
 use Rattle.xp_words.specs.Places.{place_at, sizes_of}
 use Rattle.xp_words.specs.KindWords.{kind_fields}
 use Rattle.xp_words.specs.declared.reply.Pause.TheVariants.{Lost}
@@ -69,8 +69,13 @@ stored (Refs f) w h = only_if (allocated_mark w == 1) (Gives f)
 stored (Life d) w h = SetsLife d w ∷ []
 stored _ w h = []
 
+-- a lost exchange; where the clock went on meanwhile, that is as good as the own tick
+abbrev pub missed_at : Place → List Deed
+missed_at Clock = []
+missed_at p = Misses p ∷ []
+
 abbrev pub deeds_by : Place → Act → ℕ → Holdings → List Deed
-deeds_by p (Cas e w) found h = if found == e then exchanged p e w else Misses p ∷ []
+deeds_by p (Cas e w) found h = if found == e then exchanged p e w else missed_at p
 deeds_by p (Store w) found h = stored p w h
 deeds_by p _ found h = []
 
@@ -81,7 +86,7 @@ deeds (m ∷ ms) = deeds_by m.place m.act m.found m.hand ++ deeds ms
 
 -- a call that stops for a lost exchange shows that one, and any other answer of a call shows none: nothing is tried again
 abbrev pub missed : Machine → Stop → List Deed
-missed n (Paused (Lost place expected found)) = Misses (place_at (sizes_of n) place) ∷ []
+missed n (Paused (Lost place expected found)) = missed_at (place_at (sizes_of n) place)
 missed n _ = []
 
 abbrev pub misses : {A : Type 0} → Machine → Result A Stop → List Deed

@@ -1,7 +1,6 @@
 -- What a call is asked, and which frames that asks of it: for which owner, and for which type.
-use Rattle.std.specs.Prelude.{◌≡◌, ◌⊎◌, ℕ, ◌+◌, ◌<◌, ◌≤◌, ◌==◌, nat_lt, nat_le, if◌then◌else◌, Bool, true, false, Option, Some, None, IsTrue}
+use Rattle.std.specs.Prelude.{◌≡◌, ◌⊎◌, ℕ, ◌<◌, ◌≤◌, ◌==◌, nat_lt, nat_le, if◌then◌else◌, Bool, true, false, Option, Some, None, IsTrue}
 use Rattle.xp_words.specs.Machine.{Machine}
-use Rattle.xp_words.specs.declared.place.Place.{Place}
 use Rattle.xp_words.specs.declared.place.Place.TheVariants.{Cell, Vcpu}
 use Rattle.xp_words.specs.Entries.{demand_at, frame_of}
 use Rattle.xp_words.specs.KindWords.{kind_fields}
@@ -15,7 +14,7 @@ use Rattle.xp_board.specs.declared.holdings.Lock.{Lock}
 use Rattle.xp_board.specs.declared.holdings.Work.{Work}
 use Rattle.xp_board.specs.declared.holdings.OwnerFound.TheVariants as owners
 use Rattle.xp_board.specs.Hands.{work_on, lock_on, refs_to, typed_hand, ref_owner}
-use Rattle.xp_board.specs.Readings.{is_type, is_context, is_frame_word, domain_of}
+use Rattle.xp_board.specs.Readings.{is_context, is_frame_word, domain_of}
 use Rattle.step_maker.specs.Moves.{Moment}
 use Rattle.answer_fits.specs.Finding.{Finding, Found, FoundWith}
 

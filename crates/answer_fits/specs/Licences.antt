@@ -1,7 +1,6 @@
 -- Why an operation or an element is refused: one equation for each refusal.
-use Rattle.std.specs.Prelude.{◌≡◌, ◌≢◌, ◌⊎◌, ℕ, ◌+◌, ◌*◌, ◌/◌, ◌==◌, ◌&&◌, ◌||◌, ◌<◌, ◌≤◌, not, nat_lt, nat_le, Bool, true, false, slice_index, Option, Some, None, IsTrue}
+use Rattle.std.specs.Prelude.{◌≡◌, ◌≢◌, ◌⊎◌, ℕ, ◌+◌, ◌*◌, ◌/◌, ◌&&◌, ◌||◌, ◌<◌, ◌≤◌, not, nat_lt, Bool, true, false, slice_index, Option, Some, None, IsTrue}
 use Rattle.xp_words.specs.Machine.{Machine}
-use Rattle.xp_words.specs.declared.place.Place.{Place}
 use Rattle.xp_words.specs.declared.place.Place.TheVariants.{Pages, Life, Vcpu, Refs, Kind, M2p, Cell, Map, Priv}
 use Rattle.xp_words.specs.ContextWords.{ldt_read}
 use Rattle.xp_words.specs.Entries.{fixed, frame_of, is_bit, is_slot}
@@ -22,7 +21,7 @@ use Rattle.xp_board.specs.Lists.{times}
 use Rattle.xp_board.specs.Readings.{is_dead, is_type, is_live_as, is_free, has_now, domain_of, last_clock}
 use Rattle.answer_fits.specs.Asked.{Request, Asked, IsAsked, HasNoMore, Passed, demand_held}
 use Rattle.answer_fits.specs.Finding.{Finding, Found, FoundWith}
-use Rattle.answer_fits.specs.Reasons.{Awaited, MayFlush}
+use Rattle.answer_fits.specs.Reasons.{MayFlush}
 
 -- ---- reference words
 abbrev pub IsOwnedBy : ℕ → Option RefWord → Type 0

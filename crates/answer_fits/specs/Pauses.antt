@@ -9,7 +9,6 @@ use Rattle.xp_words.specs.PageTypes.{is_table}
 use Rattle.xp_words.specs.declared.kind.PageType.TheVariants as kinds
 use Rattle.xp_words.specs.declared.reply.Pause.{Pause}
 use Rattle.xp_words.specs.declared.reply.Pause.TheVariants.{Due, Lost, Busy, Flush, Alive}
-use Rattle.xp_board.specs.declared.step.Act.{Act}
 use Rattle.xp_board.specs.declared.step.Act.TheVariants.{Cas, Max, Store}
 use Rattle.xp_board.specs.declared.step.Mark.{Mark}
 use Rattle.xp_board.specs.declared.step.Mark.TheVariants as marks
@@ -17,7 +16,7 @@ use Rattle.xp_board.specs.declared.holdings.Holdings.{Holdings}
 use Rattle.xp_board.specs.Steps.{last_since}
 use Rattle.xp_board.specs.Flushes.{is_idle}
 use Rattle.xp_board.specs.Hands.{work_on, lock_on, ending_of}
-use Rattle.xp_board.specs.Readings.{is_work, is_locked, is_closing, is_live, is_live_as, is_type, is_dying, domain_of, has_ever}
+use Rattle.xp_board.specs.Readings.{is_work, is_locked, is_closing, is_live, is_type, is_dying, domain_of, has_ever}
 use Rattle.xp_words.specs.declared.kind.PageType.{PageType}
 use Rattle.answer_fits.specs.Asked.{Request, Asked, Passed}
 use Rattle.step_maker.specs.Moves.{Moment}

@@ -1,5 +1,5 @@
 -- Why a step may change a word: it serves a frame that is asked, or a flush that is asked or awaited.
-use Rattle.std.specs.Prelude.{◌≡◌, ◌≢◌, ◌⊎◌, ℕ, ◌/◌, ◌==◌, ◌&&◌, ◌≤◌, not, Bool, true, false, Option, Some, None, IsTrue}
+use Rattle.std.specs.Prelude.{◌≡◌, ◌≢◌, ◌⊎◌, ℕ, ◌/◌, ◌&&◌, ◌≤◌, not, Bool, true, Option, Some, None, IsTrue}
 use Rattle.xp_words.specs.Machine.{Machine}
 use Rattle.xp_words.specs.declared.place.Place.{Place}
 use Rattle.xp_words.specs.declared.place.Place.TheVariants.{Clock, Pages, Life, Vcpu, Refs, Kind, M2p, Cell, Map, Priv}
