@@ -7,24 +7,24 @@ use Rattle.xp_words.specs.Machine.{Machine}
 use Rattle.xp_words.specs.RefWords.{ref_read, ref_write, IsRef}
 use Rattle.xp_words.specs.declared.refs.RefWord.TheVariants.{Free}
 use Rattle.xp_words.specs.declared.place.Place.TheVariants.{Refs, Map, Pages}
-use Rattle.xp_words.specs.Places.{Sizes, is_place, sizes_of, place_at}
+use Rattle.xp_words.specs.Places.{Sizes, is_place, sizes_of}
 use Rattle.xp_words.proofs.RefLaws.{ref_read-write}
 use Rattle.xp_board.specs.declared.step.Act.TheVariants.{Store, Add}
-use Rattle.xp_board.specs.declared.step.Step.{Step}
-use Rattle.xp_board.specs.declared.step.StepKind.TheVariants as steps
+use Rattle.xp_board.specs.declared.step.StepKind.TheVariants as kinds
 use Rattle.xp_board.specs.declared.holdings.Ending.{Ending}
 use Rattle.xp_board.specs.declared.holdings.Holdings.{Holdings}
-use Rattle.xp_board.specs.After.{after_move, noted}
 use Rattle.xp_board.specs.Hands.{endings_of, ending_of, claim_of}
 use Rattle.xp_board.specs.HintSteps.{map_bit, is_raise, is_lower, lowered_frame, raised_frame, raised_by}
-use Rattle.xp_board.specs.Legal.{Legal}
 use Rattle.xp_board.specs.Lists.{one_at, times, times_by, first_by, without_by, first_of, with_fewer}
-use Rattle.xp_board.specs.RefSteps.{one_down, IsFreeStamp, credited, freed, after_ref_store}
+use Rattle.xp_board.specs.RefSteps.{one_down, IsFreeStamp, credited, after_ref_store}
 use Rattle.xp_board.specs.Spelling.{IsSpelling}
-use Rattle.board_lemmas.proofs.ListCounts.{first_by-cons_here, times_by-cons_here}
-use Rattle.board_lemmas.proofs.Sums.{when_eq}
-use Rattle.frame_words.specs.Freeing.{SameKept, IsEnding, IsEndingSince, RaisedBit, MadeFree, Refunded}
-use Rattle.frame_words.proofs.Stepping.{refs_there, legal_at}
+use Rattle.xp_board.specs.Told.{PortValue}
+use Rattle.xp_board.proofs.ListCounts.{first_by-cons_here, times_by-cons_here}
+use Rattle.xp_board.proofs.Sums.{when_eq}
+use Rattle.step_maker.specs.Holds.{Holds, MayWork, still}
+use Rattle.step_maker.specs.Moves.{May, Moves}
+use Rattle.frame_words.specs.Freeing.{IsEnding, IsEndingSince, raised_bit, made_free, refunded}
+use Rattle.frame_words.proofs.RowSteps.{refs_there}
 
 -- ---- places and words
 pub map_there : (z : Sizes) (f : ℕ) → f < z.frames → IsTrue (is_place z (Map (f / 64)))
@@ -49,6 +49,13 @@ pub free_read : (stamp : ℕ) → stamp < 2 ^ 36 → ref_read (ref_write (Free s
 free_read stamp low = ref_read-write (Free stamp) (free_is stamp low)
 
 -- ---- the bit of a frame
+pow_same : (i j : ℕ) → 2 ^ i ≡ 2 ^ j → i ≡ j
+pow_same i j e =
+    elim (cases_order i j) [
+      | inl at ↦ at
+      | inr (inl below) ↦ absurd (let k = pow-lt below in omega arith)
+      | inr (inr above) ↦ absurd (let k = pow-lt above in omega arith)
+    ]
 
 pow_le : (i j : ℕ) → i ≤ j → 2 ^ i ≤ 2 ^ j
 pow_le i j l =
@@ -108,50 +115,24 @@ raised_by_bit f owner h e none =
     let raise : raised_frame (f / 64) (map_bit f) h ≡ Some f = rw e.newest (first_raise f e.ending.frame _ e.frame) in
     ap (λ o. raised_by o (raised_frame (f / 64) (map_bit f) h) h.raised) (none_lower f h.raised none) ∙ ap (λ o. raised_by None o h.raised) raise
 
-pub bit_is_legal : (n : Machine) (s f owner i : ℕ) (h : Holdings) → place_at (sizes_of n) i ≡ Map (f / 64) → f < n.frames → h.run ≡ Some 0 → IsEnding f owner h → times f h.raised ≡ 0 →
-    Legal n s h (record { place = i; act = Add (map_bit f); kind = steps.Hint; mark = None })
-bit_is_legal n s f owner i h at frame run ends none =
-    let held = ending_held f owner h ends in
-    legal_at n s h i (Map (f / 64)) (Add (map_bit f)) steps.Hint None at
-    (record {
-      place = map_there (sizes_of n) f frame;
-      marked = tt;
-      running = λ needs. run;
-      spelling = bit_fits f;
-      act = inl (record { frame = f; adds = raises_itself f; held = omega arith; lowered = none });
-    })
-    refl
-
-kept : (h k : Holdings) → k.refs ≡ h.refs → k.typed ≡ h.typed → k.works ≡ h.works → k.locks ≡ h.locks → k.claimed ≡ h.claimed → k.looking ≡ h.looking → k.cache ≡ h.cache → k.walk ≡ h.walk → k.cold ≡ h.cold → k.run ≡ h.run → k.old0 ≡ h.old0 → k.old1 ≡ h.old1 → k.turn ≡ h.turn → k.acked ≡ h.acked → k.ran ≡ h.ran → SameKept h k
-kept h k a b c d e f g i j l m n o p q =
+pub may_bit : (v : PortValue) (f owner : ℕ) → f < v.post.machine.frames → MayWork v → IsEnding f owner v.holdings → times f v.holdings.raised ≡ 0 → May v (Map (f / 64)) (Add (map_bit f)) kinds.Hint None
+may_bit v f owner frame may ends none =
+    let held = ending_held f owner v.holdings ends in
     record {
-      refs = a;
-      typed = b;
-      works = c;
-      locks = d;
-      claimed = e;
-      looking = f;
-      cache = g;
-      walk = i;
-      cold = j;
-      run = l;
-      old0 = m;
-      old1 = n;
-      turn = o;
-      acked = p;
-      ran = q;
+      legal = record {
+        place = map_there (sizes_of v.post.machine) f frame;
+        marked = tt;
+        running = λ needs. may.running;
+        spelling = bit_fits f;
+        act = inl (record { frame = f; adds = raises_itself f; held = omega arith; lowered = none });
+      };
+      taken = refl;
     }
 
-pub bit_hand : (n : Machine) (s f owner : ℕ) (h k : Holdings) (x : Step) (found : ℕ) → IsEnding f owner h → times f h.raised ≡ 0 →
-    k ≡ noted x found (after_move n s h (Map (f / 64)) (Add (map_bit f)) steps.Hint None found) → RaisedBit f h k
-bit_hand n s f owner h k x found ends none e =
-    subst (λ y. RaisedBit f h y) (sym e)
-    (record {
-      ending = refl;
-      raised = raised_by_bit f owner h ends none;
-      credits = refl;
-      rest = kept h _ refl refl refl refl refl refl refl refl refl refl refl refl refl refl refl;
-    })
+pub bit_hand : (v w : PortValue) (f owner found : ℕ) → IsEnding f owner v.holdings → times f v.holdings.raised ≡ 0 → Moves v w (Map (f / 64)) (Add (map_bit f)) kinds.Hint None found →
+    Holds v w (raised_bit f v.holdings)
+bit_hand v w f owner found ends none m =
+    ap still m.to ∙ ap (λ xs. still (record v { holdings = record v.holdings { raised = xs } })) (raised_by_bit f owner v.holdings ends none)
 
 -- ---- the free word
 without_none : {A : Type 0} (key : A → ℕ) (f : ℕ) (xs : List A) → first_by key f xs ≡ None → without_by key f xs ≡ xs
@@ -166,64 +147,48 @@ without_none key f (x ∷ xs) none =
 first_ending : (f owner : ℕ) (h : Holdings) (e : IsEnding f owner h) → ending_of f h.ending ≡ Some e.ending
 first_ending f owner h e = ap (λ es. ending_of f es) e.newest ∙ first_by-cons_here (λ (y : Ending). y.frame) f e.ending e.others e.frame
 
-free_found : (n : Machine) (f owner stamp : ℕ) (h : Holdings) → IsEndingSince n f owner stamp h → IsFreeStamp n stamp h (ending_of f h.ending) (claim_of f h.claimed)
-free_found n f owner stamp h e = rw (first_ending f owner h e.ends) e.was_found
+free_told : (v : PortValue) (f owner stamp : ℕ) → IsEndingSince v.post.machine f owner stamp v.holdings → IsFreeStamp v.post.machine stamp v.holdings (ending_of f v.holdings.ending) (claim_of f v.holdings.claimed)
+free_told v f owner stamp e = rw (first_ending f owner v.holdings e.ends) e.told
 
-pub free_is_legal : (n : Machine) (s f owner stamp i : ℕ) (h : Holdings) → place_at (sizes_of n) i ≡ Refs f → f < n.frames → h.run ≡ Some 0 → stamp < 2 ^ 36 → IsEndingSince n f owner stamp h →
-    0 < times f h.raised → Legal n s h (record { place = i; act = Store (ref_write (Free stamp)); kind = steps.Ref; mark = None })
+pub may_free : (v : PortValue) (f owner stamp n : ℕ) → f < v.post.machine.frames → MayWork v → stamp < 2 ^ 36 → IsEndingSince v.post.machine f owner stamp v.holdings → 0 < times f v.holdings.raised →
+    n ≡ ref_write (Free stamp) → May v (Refs f) (Store n) kinds.Ref None
 unfolding IsSpelling
-free_is_legal n s f owner stamp i h at frame run low ends raised =
+may_free v f owner stamp n frame may low ends raised is =
     let read = free_read stamp low in
-    legal_at n s h i (Refs f) (Store (ref_write (Free stamp))) steps.Ref None at
+    rw is
     (record {
-      place = refs_there (sizes_of n) f frame;
-      marked = tt;
-      running = λ needs. run;
-      spelling = rw read refl;
-      act = rw read (record { raised = raised; was_found = free_found n f owner stamp h ends });
-    })
-    refl
-
-freed_hand : (n : Machine) (s f owner : ℕ) (h k : Holdings) (x : Step) (found : ℕ) → IsEnding f owner h → claim_of f h.claimed ≡ None → k ≡ noted x found (freed n s f h) → MadeFree f owner h k
-freed_hand n s f owner h k x found ends unclaimed e =
-    subst (λ y. MadeFree f owner h y) (sym e)
-    (record {
-      ending = refl;
-      raised = refl;
-      credits = ap (λ o. credited n s o ∷ h.credits) (first_ending f owner h ends) ∙ ap (λ (o : ℕ). o ∷ h.credits) ends.owner_is;
-      rest = kept h _ refl refl refl refl (without_none (λ c. c.frame) f h.claimed unclaimed) refl refl refl refl refl refl refl refl refl refl;
+      legal = record {
+        place = refs_there (sizes_of v.post.machine) f frame;
+        marked = tt;
+        running = λ needs. may.running;
+        spelling = rw read refl;
+        act = rw read (record { raised = raised; told = free_told v f owner stamp ends });
+      };
+      taken = refl;
     })
 
-pub free_hand : (n : Machine) (s f owner stamp : ℕ) (h k : Holdings) (x : Step) (found : ℕ) → stamp < 2 ^ 36 → IsEnding f owner h → claim_of f h.claimed ≡ None →
-    k ≡ noted x found (after_move n s h (Refs f) (Store (ref_write (Free stamp))) steps.Ref None found) → MadeFree f owner h k
-free_hand n s f owner stamp h k x found low ends unclaimed e =
-    freed_hand n s f owner h k x found ends unclaimed (e ∙ ap (λ o. noted x found (after_ref_store o n s f h)) (free_read stamp low))
+pub free_hand : (v w : PortValue) (f owner stamp found : ℕ) → stamp < 2 ^ 36 → IsEnding f owner v.holdings → Moves v w (Refs f) (Store (ref_write (Free stamp))) kinds.Ref None found →
+    Holds v w (made_free f owner v.holdings)
+free_hand v w f owner stamp found low ends m =
+    ap still m.to
+    ∙ ap (λ o. still (record v { holdings = after_ref_store o v.post.machine v.post.vcpu f v.holdings })) (free_read stamp low)
+    ∙ ap (λ cs. still (record v { holdings = record (made_free f (credited v.post.machine v.post.vcpu (ending_of f v.holdings.ending)) v.holdings) { claimed = cs } })) (without_none (λ c. c.frame) f v.holdings.claimed ends.unclaimed)
+    ∙ ap (λ d. still (record v { holdings = made_free f d v.holdings })) (ap (λ o. credited v.post.machine v.post.vcpu o) (first_ending f owner v.holdings ends) ∙ ends.owner_is)
 
 -- ---- pages
-pub refund_is_legal : (n : Machine) (s d i : ℕ) (h : Holdings) → place_at (sizes_of n) i ≡ Pages d → d < length n.page_limit → h.run ≡ Some 0 → 1 ≤ times d h.credits →
-    Legal n s h (record { place = i; act = Add one_down; kind = steps.Pages; mark = None })
-refund_is_legal n s d i h at domain run credit =
-    legal_at n s h i (Pages d) (Add one_down) steps.Pages None at
-    (record {
-      place = pages_there (sizes_of n) d domain;
-      marked = tt;
-      running = λ needs. run;
-      spelling = lit< tt;
-      act = record { down = lit< tt; some = lit< tt; credits = credit };
-    })
-    refl
+pub may_refund : (v : PortValue) (d : ℕ) → d < length v.post.machine.page_limit → MayWork v → 1 ≤ times d v.holdings.credits → May v (Pages d) (Add one_down) kinds.Pages None
+may_refund v d domain may credit =
+    record {
+      legal = record {
+        place = pages_there (sizes_of v.post.machine) d domain;
+        marked = tt;
+        running = λ needs. may.running;
+        spelling = lit< tt;
+        act = record { down = lit< tt; some = lit< tt; credits = credit };
+      };
+      taken = refl;
+    }
 
-with_one_fewer : (d : ℕ) (xs : List ℕ) → with_fewer (2 ^ 64 - one_down) d xs ≡ without_by (λ e. e) d xs
+pub refund_hand : (v w : PortValue) (d found : ℕ) → Moves v w (Pages d) (Add one_down) kinds.Pages None found → Holds v w (refunded d v.holdings)
 unfolding with_fewer
-with_one_fewer d xs = refl
-
-pub refund_hand : (n : Machine) (s d : ℕ) (h k : Holdings) (x : Step) (found : ℕ) →
-    k ≡ noted x found (after_move n s h (Pages d) (Add one_down) steps.Pages None found) → Refunded d h k
-refund_hand n s d h k x found e =
-    subst (λ y. Refunded d h y) (sym e)
-    (record {
-      ending = refl;
-      raised = refl;
-      credits = with_one_fewer d h.credits;
-      rest = kept h _ refl refl refl refl refl refl refl refl refl refl refl refl refl refl refl;
-    })
+refund_hand v w d found m = ap still m.to

@@ -1,165 +1,208 @@
--- A reference is given back: what its last one leaves, and the piece of its steps.
-use Rattle.std.proofs.Common.{◌≡◌, ◌≢◌, ℕ, ◌+◌, ◌<◌, ◌==◌, ◌⊎◌, zero, suc, Bool, true, false, List, [], ◌∷◌, ◌++◌, length, Some, None, refl, sym, ap, ◌∙◌, subst, arith, inl, inr}
+-- A reference is given back: what the last one leaves, and its steps.
+use Rattle.std.proofs.Common.{◌≡◌, ◌≢◌, ℕ, ◌+◌, ◌/◌, ◌^◌, ◌<◌, ◌≤◌, ◌==◌, ◌&&◌, ◌||◌, nat_le, ◌⊎◌, if◌then◌else◌, zero, suc, Bool, true, false, List, [], ◌∷◌, ◌++◌, length, Some, None, IsTrue, refl, sym, ap, ◌∙◌, subst, arith, inl, inr}
 use Rattle.std.proofs.lemmas.Bool.Decides.{nat_tests}
 use Rattle.xp_words.specs.Machine.{Machine}
-use Rattle.xp_words.specs.RefWords.{ref_read}
-use Rattle.xp_words.specs.declared.refs.RefWord.TheVariants.{Owned, Dying}
-use Rattle.xp_words.specs.declared.place.Place.TheVariants.{Clock, Refs}
-use Rattle.xp_board.specs.declared.step.Act.TheVariants.{Add}
+use Rattle.xp_words.specs.RefWords.{ref_read, ref_write}
+use Rattle.xp_words.specs.declared.refs.RefWord.TheVariants.{Free, Owned, Dying}
+use Rattle.xp_words.specs.declared.place.Place.TheVariants.{Clock, Refs, Map, Pages}
+use Rattle.xp_words.specs.Places.{sizes_of, place_at}
+use Rattle.xp_words.proofs.PlaceLaws.{place_back}
+use Rattle.xp_board.specs.declared.step.Act.TheVariants.{Load, Store, Add}
+use Rattle.xp_board.specs.declared.step.StepKind.TheVariants as kinds
 use Rattle.xp_board.specs.declared.holdings.Made.{Made}
 use Rattle.xp_board.specs.declared.holdings.Claimed.{Claimed}
 use Rattle.xp_board.specs.declared.holdings.Ending.{Ending}
 use Rattle.xp_board.specs.declared.holdings.Holdings.{Holdings}
-use Rattle.xp_board.specs.Hands.{endings_of, claims_of, claim_of}
-use Rattle.xp_board.specs.Lists.{times}
-use Rattle.xp_board.specs.Readings.{ref_count, is_dying}
-use Rattle.xp_board.specs.RefSteps.{one_down}
-use Rattle.xp_board.specs.Told.{Post, PortValue, Finds, Had}
+use Rattle.xp_board.specs.Acts.{left_by}
+use Rattle.xp_board.specs.Hands.{endings_of, claims_of, claim_of, without_ref, without_ending}
+use Rattle.xp_board.specs.HintSteps.{map_bit}
+use Rattle.xp_board.specs.Lists.{times, times_by, without_by}
+use Rattle.xp_board.specs.Readings.{allocated_mark, ref_count, owner_of, is_dying, last_clock}
+use Rattle.xp_board.specs.RefSteps.{one_down, gave_ref, owner_number}
+use Rattle.xp_board.specs.Steps.{is_at, is_same, some_step, some_since}
+use Rattle.xp_board.specs.Spelling.{IsSpelling}
+use Rattle.xp_board.specs.Told.{PortValue, Finds}
 use Rattle.xp_board.specs.WellFormed.{WellFormed}
-use Rattle.xp_board.proofs.Going.{had_later}
-use Rattle.board_lemmas.proofs.ListCounts.{first_by-none}
+use Rattle.xp_board.proofs.ListCounts.{first_by-none, times_by-cons_here}
 use Rattle.xp_board.proofs.RefWords.{is_dying-read}
-use Rattle.board_lemmas.proofs.Works.{is_dying-mine}
-use Rattle.frame_words.specs.Freeing.{IsEndingNow, LeftFree, FreesFrame}
-use Rattle.frame_words.specs.Hands.{GaveRef, GaveBack, EndsIf}
-use Rattle.frame_words.specs.Pieces.{Makes, changes}
-use Rattle.frame_words.specs.References.{freeing, Puts}
-use Rattle.frame_words.proofs.Counting.{count_is, owner_is}
-use Rattle.frame_words.proofs.KindCalls.{without_newest}
-use Rattle.frame_words.proofs.Noting.{makes_steps}
-use Rattle.frame_words.proofs.Piecing.{calmly_more, made_of, makes_post, makes_calmly, makes_act, act_earlier, changes_append, makes_changes, this_frame}
+use Rattle.xp_board.proofs.Sums.{when_eq}
+use Rattle.xp_board.proofs.Works.{is_dying-mine}
+use Rattle.step_maker.specs.Holds.{Holds, Same, still}
+use Rattle.step_maker.specs.Moves.{Moves, Came, Met, step_at}
+use Rattle.step_maker.proofs.Coming.{moment_of, moves_met, moves_came, came_trans, met_before}
+use Rattle.answer_fits.specs.Answers.{Serves, Deed, deeds_by, only_if}
+use Rattle.answer_fits.specs.Asked.{of_back, IsAsked}
+use Rattle.answer_fits.specs.Finding.{Finding, Found}
+use Rattle.answer_fits.specs.Reasons as reasons
+use Rattle.answer_fits.proofs.Piecing.{changes_nothing, changes_step, serves_step, moves_serves}
+use Rattle.frame_words.specs.Freeing.{IsEnding, IsEndingSince, raised_bit, made_free, refunded, left_free, gave, Frees, Puts, more, last}
+use Rattle.frame_words.proofs.FreeSteps.{free_read}
+use Rattle.frame_words.proofs.RowSteps.{clock_there}
+use Rattle.frame_words.proofs.Taking.{backs_itself}
+
+-- ---- what comes into the hand last goes out first
+pub without_newest : {A : Type 0} (key : A → ℕ) (f : ℕ) (x : A) (xs : List A) → key x ≡ f → without_by key f (x ∷ xs) ≡ xs
+unfolding without_by
+without_newest key f x xs is = ap (λ b. if b then xs else x ∷ without_by key f xs) (when_eq (key x) f is)
+
+pub left : (v a b d w : PortValue) (f owner : ℕ) → Same v a → Holds a b (raised_bit f a.holdings) → Holds b d (made_free f owner b.holdings) → Holds d w (refunded owner d.holdings) → Holds v w (left_free f v.holdings)
+left v a b d w f owner look bit free pages =
+    let first = bit ∙ ap (λ (q : PortValue). still (record q { holdings = raised_bit f q.holdings })) look in
+    let second = free ∙ ap (λ (q : PortValue). still (record q { holdings = made_free f owner q.holdings })) first in
+    let third = pages ∙ ap (λ (q : PortValue). still (record q { holdings = refunded owner q.holdings })) second in
+    third
+    ∙ ap (λ xs. still (record v { holdings = record (left_free f v.holdings) { raised = xs; credits = without_by (λ e. e) owner (owner ∷ v.holdings.credits) } })) (without_newest (λ g. g) f f v.holdings.raised refl)
+    ∙ ap (λ xs. still (record v { holdings = record (left_free f v.holdings) { credits = xs } })) (without_newest (λ g. g) owner owner v.holdings.credits refl)
+
+-- ---- what the steps ask
+pub clock_low : (v w : PortValue) (c : ℕ) → Moves v w Clock Load kinds.Look None c → c < 2 ^ 36
+unfolding IsSpelling
+clock_low v w c m =
+    let low = (subst (λ y. IsSpelling v.post.machine Clock y) m.finds.word (m.finds.sound.spelled.spelled Clock (clock_there (sizes_of v.post.machine)))).1 in
+    omega (arith, low)
+
+or_right : (a b : Bool) → b ≡ true → (a || b) ≡ true
+or_right true b is = refl
+or_right false b is = is
+
+or_left : (a b : Bool) → a ≡ true → (a || b) ≡ true
+or_left true b is = refl
+or_left false b is = absurd cc
+
+all_three : (a b c : Bool) → a ≡ true → b ≡ true → c ≡ true → (a && (b && c)) ≡ true
+all_three a b c x y z = rw (x, y, z) refl
+
+is_least : (k l : ℕ) → k ≤ l → nat_le k l ≡ true
+is_least k l h = grind (arith, nat_tests)
+
+pub ending_since : (v a b : PortValue) (f owner stamp x : ℕ) → Moves v a Clock Load kinds.Look None stamp → Moves a b (Map (f / 64)) (Add (map_bit f)) kinds.Hint None x → Same v a →
+    Holds a b (raised_bit f a.holdings) → IsEnding f owner v.holdings → IsEndingSince b.post.machine f owner stamp b.holdings
+unfolding some_step left_by
+ending_since v a b f owner stamp x look bit same raised e =
+    let n = v.post.machine in
+    let z = sizes_of n in
+    let test = λ (k : ℕ) (y : Made). nat_le e.ending.since k && (is_at z Clock y && (left_by y.step.act y.found == stamp)) in
+    let first : Made = record { step = step_at n Clock Load kinds.Look None; found = stamp } in
+    let here : is_at z Clock first ≡ true = ap (λ p. is_same p Clock) (place_back z Clock look.may.legal.place) in
+    let seen : some_step test a.holdings.steps ≡ true =
+        ap (λ (q : PortValue). some_step test q.holdings.steps) look.to
+        ∙ or_left (test (length v.holdings.steps) first) (some_step test v.holdings.steps) (all_three _ _ _ (is_least e.ending.since (length v.holdings.steps) e.recent) here (when_eq stamp stamp refl)) in
+    let told : some_step test b.holdings.steps ≡ true = ap (λ (q : PortValue). some_step test q.holdings.steps) bit.to ∙ or_right _ (some_step test a.holdings.steps) seen in
+    let whole = raised ∙ ap (λ (q : PortValue). still (record q { holdings = raised_bit f q.holdings })) same in
+    let post = ap (λ (q : PortValue). q.post.machine) whole in
+    let more : length v.holdings.steps ≤ length b.holdings.steps = rw (ap (λ (q : PortValue). length q.holdings.steps) bit.to, ap (λ (q : PortValue). length q.holdings.steps) look.to) (omega arith) in
+    record {
+      ends = record {
+        ending = e.ending;
+        others = e.others;
+        newest = ap (λ (q : PortValue). q.holdings.ending) whole ∙ e.newest;
+        frame = e.frame;
+        owner_is = e.owner_is;
+        recent = let r = e.recent in omega (arith, more, r);
+        unclaimed = ap (λ (q : PortValue). claim_of f q.holdings.claimed) whole ∙ e.unclaimed;
+      };
+      told = subst (λ m. IsTrue (some_since (sizes_of m) e.ending.since Clock (λ y. y == stamp) b.holdings.steps)) (sym post) told;
+    }
+
+pub bit_raised : (a b : PortValue) (f : ℕ) → Holds a b (raised_bit f a.holdings) → 0 < times f b.holdings.raised
+bit_raised a b f holds = let one = times_by-cons_here (λ (g : ℕ). g) f f a.holdings.raised refl in rw (ap (λ (q : PortValue). q.holdings.raised) holds) (omega (arith, one))
+
+pub page_credited : (b d : PortValue) (f owner : ℕ) → Holds b d (made_free f owner b.holdings) → 1 ≤ times owner d.holdings.credits
+page_credited b d f owner holds = let one = times_by-cons_here (λ (g : ℕ). g) owner owner b.holdings.credits refl in rw (ap (λ (q : PortValue). q.holdings.credits) holds) (omega (arith, one))
+
+free_is_no_deed : (f stamp found : ℕ) (h : Holdings) → stamp < 2 ^ 36 → deeds_by (Refs f) (Store (ref_write (Free stamp))) found h ≡ []
+unfolding allocated_mark
+free_is_no_deed f stamp found h low = rw (free_read stamp low) refl
 
 -- ---- a frame of which the word counts a reference is not ending or claimed
-module _ (n : Machine) (s f w owner : ℕ) (allocated : Bool) (h : Holdings) (finds : Finds n s h (Refs f) w) (read : ref_read w ≡ Some (Owned owner allocated 1)) where
-  not_dying : is_dying (finds.words (Refs f)) ≡ true → ⊥
-  not_dying dying = let e = is_dying-read (finds.words (Refs f)) dying in let o = ap (λ x. ref_read x) finds.word ∙ read in let k : Some (Dying e.0) ≡ Some (Owned owner allocated 1) = sym e.1 ∙ o in absurd (cc)
+module _ (v u : PortValue) (f w owner : ℕ) (allocated : Bool) (lower : Moves v u (Refs f) (Add one_down) kinds.Ref None w) (gives : Holds v u (gave_ref f w v.holdings)) (read : ref_read w ≡ Some (Owned owner allocated 1)) where
+  not_dying : is_dying (lower.finds.words (Refs f)) ≡ true → ⊥
+  not_dying dying =
+      let e = is_dying-read (lower.finds.words (Refs f)) dying in
+      let o = ap (λ x. ref_read x) lower.finds.word ∙ read in
+      let k : Some (Dying e.0) ≡ Some (Owned owner allocated 1) = sym e.1 ∙ o in
+      absurd (cc)
 
-  none_held : endings_of f h.ending + claims_of f h.claimed ≡ 0
+  none_held : endings_of f v.holdings.ending + claims_of f v.holdings.claimed ≡ 0
   none_held =
-      elim (cases_zero (endings_of f h.ending + claims_of f h.claimed)) [
+      elim (cases_zero (endings_of f v.holdings.ending + claims_of f v.holdings.claimed)) [
         | inl none ↦ none
-        | inr some ↦ absurd (not_dying (is_dying-mine n finds.words finds.hands finds.sound.alone f s finds.real (subst (λ (u : Holdings). 0 < endings_of f u.ending + claims_of f u.claimed) (sym finds.mine) some)))
+        | inr some ↦ absurd (not_dying (is_dying-mine v.post.machine lower.finds.words lower.finds.seats lower.finds.sound.alone f v.post.vcpu lower.finds.real (subst (λ (h : Holdings). 0 < endings_of f h.ending + claims_of f h.claimed) (sym lower.finds.mine) some)))
       ]
     where
       cases_zero : (k : ℕ) → (k ≡ 0) ⊎ (0 < k)
       cases_zero zero = inl refl
       cases_zero (suc k) = inr (omega arith)
 
-  formed : WellFormed n s h
-  formed = subst (λ (u : Holdings). WellFormed n s u) finds.mine (finds.sound.formed s finds.real)
+  formed : WellFormed v.post.machine v.post.vcpu v.holdings
+  formed = subst (λ (h : Holdings). WellFormed v.post.machine v.post.vcpu h) lower.finds.mine (lower.finds.sound.formed v.post.vcpu lower.finds.real)
 
-  pub last_lowered : times f h.raised ≡ 0
-  last_lowered = let most = formed.raised.held f in let none = none_held in omega (arith, most, none)
+  pub last_lowered : times f u.holdings.raised ≡ 0
+  last_lowered = let most = formed.raised.held f in let none = none_held in ap (λ (q : PortValue). times f q.holdings.raised) gives ∙ omega (arith, most, none)
 
-  pub last_unclaimed : claim_of f h.claimed ≡ None
-  last_unclaimed = first_by-none (λ (e : Claimed). e.frame) f h.claimed (let none = none_held in omega (arith, none))
+  one_left : ref_count w ≡ 1
+  unfolding ref_count
+  one_left = rw read refl
 
--- ---- the last reference
-one_is : (1 == 1) ≡ true
-one_is = refl
+  owner_found : owner_of w ≡ Some owner
+  unfolding owner_of
+  owner_found = rw read refl
 
-pub last_ending : (v u : PortValue) (f w owner : ℕ) (allocated : Bool) → Makes v u (Refs f) (Add one_down) None w → GaveRef f w v.holdings u.holdings → ref_read w ≡ Some (Owned owner allocated 1) →
-    u.holdings.ending ≡ record { frame = f; owner = owner; since = length v.holdings.steps + 1 } ∷ v.holdings.ending
-last_ending v u f w owner allocated lower gave read =
-    let last : (ref_count w == 1) ≡ true = ap (λ k. k == 1) (count_is w owner 1 allocated read) in
-    subst (λ b. EndsIf b f w v.holdings u.holdings) last gave.ending
-    ∙ ap (λ o. record { frame = f; owner = o; since = length v.holdings.steps + 1 } ∷ v.holdings.ending) (owner_is w owner 1 allocated read)
+  last_ending : u.holdings.ending ≡ record { frame = f; owner = owner; since = length v.holdings.steps + 1 } ∷ v.holdings.ending
+  last_ending = ap (λ (q : PortValue). q.holdings.ending) gives ∙ rw (one_left, owner_found) refl
 
-pub last_ends : (v u : PortValue) (f w owner : ℕ) (allocated : Bool) → Makes v u (Refs f) (Add one_down) None w → GaveRef f w v.holdings u.holdings → ref_read w ≡ Some (Owned owner allocated 1) →
-    IsEndingNow f owner u.holdings
-last_ends v u f w owner allocated lower gave read =
-    let more : length u.holdings.steps ≡ length v.holdings.steps + 1 = ap (λ xs. length xs) (makes_steps v u (Refs f) (Add one_down) None w lower) ∙ suc_is (length v.holdings.steps) in
-    record {
-      ends = record {
+  pub last_ends : IsEnding f owner u.holdings
+  last_ends =
+      let more : length u.holdings.steps ≡ length v.holdings.steps + 1 = ap (λ (q : PortValue). length q.holdings.steps) lower.to ∙ omega arith in
+      record {
         ending = record { frame = f; owner = owner; since = length v.holdings.steps + 1 };
         others = v.holdings.ending;
-        newest = last_ending v u f w owner allocated lower gave read;
+        newest = last_ending;
         frame = refl;
         owner_is = refl;
-      };
-      recent = omega (arith, more);
-    }
-  where
-    suc_is : (k : ℕ) → suc k ≡ k + 1
-    suc_is k = omega arith
+        recent = omega (arith, more);
+        unclaimed = ap (λ (q : PortValue). claim_of f q.holdings.claimed) gives ∙ first_by-none (λ (e : Claimed). e.frame) f v.holdings.claimed (let none = none_held in omega (arith, none));
+      }
 
--- ---- the hand
-pub gave_last : (v u : PortValue) (w : Holdings) (f word owner : ℕ) (allocated : Bool) → Makes v u (Refs f) (Add one_down) None word → GaveRef f word v.holdings u.holdings →
-    ref_read word ≡ Some (Owned owner allocated 1) → LeftFree f u.holdings w → GaveBack f v.holdings w
-gave_last v u w f word owner allocated lower gave read left =
-    record {
-      refs = left.rest.refs ∙ gave.refs;
-      ending = left.ending ∙ without_newest (λ (e : Ending). e.frame) f _ v.holdings.ending u.holdings.ending refl (last_ending v u f word owner allocated lower gave read);
-      run = left.rest.run ∙ gave.run;
-      turn = left.rest.turn ∙ gave.turn;
-      rest = record {
-        typed = left.rest.typed ∙ gave.rest.typed;
-        works = left.rest.works ∙ gave.rest.works;
-        locks = left.rest.locks ∙ gave.rest.locks;
-        claimed = left.rest.claimed ∙ gave.rest.claimed;
-        raised = left.raised ∙ gave.rest.raised;
-        credits = left.credits ∙ gave.rest.credits;
-        looking = left.rest.looking ∙ gave.rest.looking;
-        cache = left.rest.cache ∙ gave.rest.cache;
-        walk = left.rest.walk ∙ gave.rest.walk;
-        cold = left.rest.cold ∙ gave.rest.cold;
-        old0 = left.rest.old0 ∙ gave.rest.old0;
-        old1 = left.rest.old1 ∙ gave.rest.old1;
-        acked = left.rest.acked ∙ gave.rest.acked;
-        ran = left.rest.ran ∙ gave.rest.ran;
-      };
-    }
+  module _ (x : PortValue) (frees : Frees u x f owner) where
+    pub gave_last : Holds v x (gave f v.holdings)
+    gave_last =
+        frees.hand ∙ ap (λ (q : PortValue). still (record q { holdings = left_free f q.holdings })) gives
+        ∙ ap (λ es. still (record v { holdings = record (gave f v.holdings) { ending = without_ending f es } })) (rw (one_left, owner_found) refl)
+        ∙ ap (λ es. still (record v { holdings = record (gave f v.holdings) { ending = es } })) (without_newest (λ (e : Ending). e.frame) f (record { frame = f; owner = owner; since = length v.holdings.steps + 1 }) v.holdings.ending refl)
 
+    pub puts_last : Serves v x (of_back f) []
+    unfolding moment_of
+    puts_last =
+        let r = of_back f in
+        let asks : (F : Finding) → IsAsked v.post.machine v.post.vcpu (of_back f) F f = λ F. backs_itself v.post.machine v.post.vcpu f F in
+        let one = moves_serves v u r _ _ _ _ _ lower (asks _, tt) in
+        let two = serves_step v u frees.a r [] _ _ _ _ _ one frees.look tt in
+        let three = serves_step v frees.a frees.b r [] _ _ _ _ _ two frees.bit (f, refl, asks _) in
+        let four = serves_step v frees.b frees.d r [] _ _ _ _ _ three frees.free (asks _, tt) in
+        let after : Came u x = came_trans u frees.b x (came_trans u frees.a frees.b (moves_came _ _ _ _ _ _ _ frees.look) (moves_came _ _ _ _ _ _ _ frees.bit))
+            (came_trans frees.b frees.d x (moves_came _ _ _ _ _ _ _ frees.free) (moves_came _ _ _ _ _ _ _ frees.pages)) in
+        let seen : Found (Met v x) (Refs f) w = found_first after in
+        serves_step v frees.d x r [] _ _ _ _ _ (subst (λ ds. Serves v frees.d r (ds ++ [])) (free_is_no_deed f frees.stamp frees.y frees.b.holdings (clock_low u frees.a frees.stamp frees.look)) four) frees.pages
+        (reasons.found f w (asks _) seen owner_found)
+      where
+        found_first : Came u x → Found (Met v x) (Refs f) w
+        found_first after = record { moment = moment_of v (Refs f) (Add one_down) kinds.Ref None w; was = met_before v u x _ (moves_met v u _ _ _ _ _ lower) after; place = refl; word = refl }
+
+    pub changes_last : Puts v x f
+    changes_last =
+        let one = changes_step v v u [] _ _ _ _ _ (changes_nothing v) lower in
+        let two = changes_step v u frees.a _ _ _ _ _ _ one frees.look in
+        let three = changes_step v frees.a frees.b _ _ _ _ _ _ two frees.bit in
+        let four = changes_step v frees.b frees.d _ _ _ _ _ _ three frees.free in
+        last owner frees.stamp (changes_step v frees.d x _ _ _ _ _ _ four frees.pages)
+
+pub changes_more : (v u : PortValue) (f w : ℕ) → Moves v u (Refs f) (Add one_down) kinds.Ref None w → Puts v u f
+changes_more v u f w lower = more (changes_step v v u [] _ _ _ _ _ (changes_nothing v) lower)
+
+-- ---- not the last one
 not_one : (k : ℕ) → k ≢ 1 → (k == 1) ≡ false
 not_one k off = grind (arith, nat_tests)
 
-gave_more : (f w : ℕ) (h k : Holdings) → GaveRef f w h k → ref_count w ≢ 1 → GaveBack f h k
-gave_more f w h k gave off =
-    record { refs = gave.refs; ending = subst (λ b. EndsIf b f w h k) (not_one (ref_count w) off) gave.ending; run = gave.run; turn = gave.turn; rest = gave.rest }
-
--- ---- the pieces
-pub puts_more : (v u : PortValue) (f w : ℕ) → Makes v u (Refs f) (Add one_down) None w → GaveRef f w v.holdings u.holdings → ref_count w ≢ 1 → Puts v u f
-puts_more v u f w lower gave off =
-    let one = makes_calmly _ _ _ _ _ lower f (this_frame f) refl in
-    record {
-      made = made_of _ _ _ _ _ lower ∷ [];
-      piece = one.piece;
-      calm = one.calm;
-      found = w;
-      lowered = makes_act _ _ _ _ _ lower;
-      kept = λ more. makes_changes _ _ _ _ _ lower;
-      freed = λ owner allocated read. absurd (off (count_is w owner 1 allocated read));
-      hand = gave_more f w v.holdings u.holdings gave off;
-    }
-
-pub puts_last : (v u x : PortValue) (f w owner : ℕ) (allocated : Bool) → Makes v u (Refs f) (Add one_down) None w → GaveRef f w v.holdings u.holdings → ref_read w ≡ Some (Owned owner allocated 1) →
-    FreesFrame u x f owner → Puts v x f
-puts_last v u x f w owner allocated lower gave read free =
-    let first : List Made = made_of _ _ _ _ _ lower ∷ [] in
-    let post : u.post ≡ v.post = makes_post v u _ _ _ lower in
-    let all = calmly_more v u x f [] [] _ _ (makes_calmly _ _ _ _ _ lower f (this_frame f) refl) (record { piece = free.piece; calm = free.calm }) in
-    record {
-      made = free.made ++ first;
-      piece = all.piece;
-      calm = all.calm;
-      found = w;
-      lowered = act_earlier v.post.machine (Refs f) (Add one_down) w first free.made (makes_act _ _ _ _ _ lower);
-      kept = λ off. absurd (off (count_is w owner 1 allocated read));
-      freed = λ other mark is.
-          record {
-            stamp = free.stamp;
-            clock = had_later v.post.machine Clock free.stamp first free.made (subst (λ (q : Post). Had q.machine Clock free.stamp free.made) post free.clock);
-            changed =
-                changes_append v.post.machine first free.made
-                ∙ ap (λ cs. changes v.post.machine free.made ++ cs) (makes_changes _ _ _ _ _ lower)
-                ∙ subst (λ (q : Post). changes q.machine free.made ++ ((Refs f, Add one_down) ∷ []) ≡ freeing f owner free.stamp) post free.changed
-                ∙ ap (λ o. freeing f o free.stamp) (sym (owner_is w owner 1 allocated read) ∙ owner_is w other 1 mark is);
-          };
-      hand = gave_last v u x.holdings f w owner allocated lower gave read free.hand;
-    }
-
-pub gave_lowered : (f w : ℕ) (h k : Holdings) → GaveRef f w h k → times f h.raised ≡ 0 → times f k.raised ≡ 0
-gave_lowered f w h k gave none = ap (λ xs. times f xs) gave.rest.raised ∙ none
-
-pub gave_unclaimed : (f w : ℕ) (h k : Holdings) → GaveRef f w h k → claim_of f h.claimed ≡ None → claim_of f k.claimed ≡ None
-gave_unclaimed f w h k gave none = ap (λ xs. claim_of f xs) gave.rest.claimed ∙ none
+pub puts_more : (v u : PortValue) (f w : ℕ) → Moves v u (Refs f) (Add one_down) kinds.Ref None w → Serves v u (of_back f) []
+puts_more v u f w lower = moves_serves v u (of_back f) _ _ _ _ _ lower (backs_itself v.post.machine v.post.vcpu f _, tt)

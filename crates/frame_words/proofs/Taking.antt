@@ -1,68 +1,46 @@
--- References that are taken and given back.
-use Rattle.std.proofs.Common.{◌≡◌, ◌≢◌, ℕ, ◌+◌, ◌^◌, ◌<◌, ◌≤◌, ◌==◌, if◌then◌else◌, Bool, true, false, List, [], ◌∷◌, length, Option, Some, None, Ok, Err, IsTrue, refl, sym, ap, ◌∙◌, subst, arith, inl, inr}
+-- A reference is taken: what its steps show, and what it leaves.
+use Rattle.std.proofs.Common.{◌≡◌, ◌≢◌, ℕ, ◌+◌, ◌<◌, ◌≤◌, ◌^◌, ◌==◌, ◌&&◌, nat_le, if◌then◌else◌, Bool, true, false, List, [], ◌∷◌, ◌++◌, length, Option, Some, None, IsTrue, refl, sym, ap, ◌∙◌, subst, arith, inl, inr}
 use Rattle.std.proofs.lemmas.Bool.Decides.{nat_tests}
 use Rattle.xp_words.specs.Machine.{Machine}
-use Rattle.xp_words.specs.RefWords.{ref_read}
+use Rattle.xp_words.specs.declared.place.Place.TheVariants.{Refs}
+use Rattle.xp_words.specs.Places.{number, sizes_of, place_at}
+use Rattle.xp_words.specs.RefWords.{ref_read, ref_write, IsRef, bit}
+use Rattle.xp_words.specs.declared.kind.PageType.{PageType}
 use Rattle.xp_words.specs.declared.refs.RefWord.TheVariants.{Owned}
 use Rattle.xp_words.specs.declared.reply.Refusal.{Refusal}
-use Rattle.xp_words.specs.declared.reply.Refusal.TheVariants.{NoFrame}
+use Rattle.xp_words.specs.declared.reply.Refusal.TheVariants.{NoFrame, WrongOwner, CountFull}
 use Rattle.xp_words.specs.declared.reply.Pause.TheVariants.{Lost}
 use Rattle.xp_words.specs.declared.reply.Stop.TheVariants.{Refused, Paused}
-use Rattle.xp_words.specs.declared.place.Place.TheVariants.{Refs}
-use Rattle.xp_words.specs.Places.{number, sizes_of}
+use Rattle.xp_words.proofs.PlaceLaws.{place_back}
+use Rattle.xp_words.proofs.RefLaws.{ref_read-write, ref_write-read}
 use Rattle.xp_board.specs.declared.step.Act.TheVariants.{Load, Cas}
-use Rattle.xp_board.specs.declared.holdings.Reference.{Reference}
-use Rattle.xp_board.specs.declared.holdings.Work.{Work}
-use Rattle.xp_board.specs.declared.holdings.Made.{Made}
+use Rattle.xp_board.specs.declared.step.StepKind.TheVariants as kinds
 use Rattle.xp_board.specs.declared.holdings.Holdings.{Holdings}
-use Rattle.xp_board.specs.declared.holdings.OwnerFound.TheVariants as owners
+use Rattle.xp_board.specs.declared.holdings.Reference.{Reference}
+use Rattle.xp_board.specs.declared.holdings.Made.{Made}
 use Rattle.xp_board.specs.Acts.{left_by}
+use Rattle.xp_board.specs.Steps.{is_at, is_same, last_since}
+use Rattle.xp_board.specs.Readings.{allocated_mark, is_free}
+use Rattle.xp_board.specs.declared.holdings.OwnerFound.TheVariants as owners
+use Rattle.xp_board.specs.declared.holdings.Work.{Work}
 use Rattle.xp_board.specs.Hands.{refs_to, work_on}
-use Rattle.xp_board.specs.Lists.{EachOf, times_by, first_by, one_at}
+use Rattle.xp_board.specs.Lists.{EachOf, first_by, times_by, one_at}
 use Rattle.xp_board.specs.RefSteps.{SparesClosing, is_closing_on}
 use Rattle.xp_board.specs.Sound.{WorkAgrees}
 use Rattle.xp_board.specs.Spelling.{IsSpelling}
-use Rattle.xp_board.specs.Told.{Post, PortValue, Finds, Had, is_telling, told_word}
-use Rattle.xp_board.proofs.Going.{went_post, had_earlier, had_later}
-use Rattle.frame_words.specs.Hands.{SameRest, SameHand, TookRef}
-use Rattle.frame_words.specs.Pieces.{Makes, Serves, Calm}
-use Rattle.frame_words.specs.References.{Gets, RefusesWord, IsLent}
-use Rattle.frame_words.proofs.Counting.{counted, next_read, count_is}
-use Rattle.frame_words.proofs.Hands.{one_there}
-use Rattle.frame_words.proofs.Piecing.{serves_nothing, serves_more, made_of, makes_had, makes_serves, makes_calm, calm_nothing, calm_more, this_frame}
-use Rattle.frame_words.proofs.Stepping.{refs_there}
-use Rattle.frame_words.proofs.Telling.{makes_telling, makes_found, makes_here}
-use Rattle.board_lemmas.proofs.Sums.{if_itself}
-
--- ---- hands, one behind the other
-pub rest_after : (a b c : Holdings) → SameRest a b → SameRest b c → SameRest a c
-rest_after a b c r s =
-    record {
-      typed = s.typed ∙ r.typed;
-      works = s.works ∙ r.works;
-      locks = s.locks ∙ r.locks;
-      claimed = s.claimed ∙ r.claimed;
-      raised = s.raised ∙ r.raised;
-      credits = s.credits ∙ r.credits;
-      looking = s.looking ∙ r.looking;
-      cache = s.cache ∙ r.cache;
-      walk = s.walk ∙ r.walk;
-      cold = s.cold ∙ r.cold;
-      old0 = s.old0 ∙ r.old0;
-      old1 = s.old1 ∙ r.old1;
-      acked = s.acked ∙ r.acked;
-      ran = s.ran ∙ r.ran;
-    }
-
-pub same_after : (a b c : Holdings) → SameHand a b → SameHand b c → SameHand a c
-same_after a b c r s =
-    record {
-      refs = s.refs ∙ r.refs;
-      ending = s.ending ∙ r.ending;
-      run = s.run ∙ r.run;
-      turn = s.turn ∙ r.turn;
-      rest = rest_after a b c r.rest s.rest;
-    }
+use Rattle.xp_board.specs.Told.{PortValue, Finds}
+use Rattle.xp_board.proofs.Sums.{one_at-same}
+use Rattle.step_maker.specs.Holds.{Holds, Same, MayWork, still}
+use Rattle.step_maker.specs.Moves.{Moves, Met, step_at}
+use Rattle.step_maker.proofs.Coming.{moment_of, moves_met, moves_came, met_before, met_after}
+use Rattle.answer_fits.specs.Answers.{Serves, Stops, Deed, Returns, Misses, deeds_by, exchanged, only_if}
+use Rattle.answer_fits.specs.Asked.{Request, of_frame, of_back, IsFor, IsAsked, of, back, named}
+use Rattle.answer_fits.specs.Finding.{Finding, Found, FoundWith}
+use Rattle.answer_fits.specs.Reasons.{Reason, IsRefChange}
+use Rattle.answer_fits.proofs.Piecing.{serves_step, moves_serves, no_more}
+use Rattle.frame_words.specs.declared.rows.Open.{Open}
+use Rattle.frame_words.specs.Refs.{open_word, raised_word, IsOpen, took, MayGive, RefusesWord}
+use Rattle.frame_words.proofs.RowSteps.{refs_there}
 
 -- ---- what a look at a reference word tells
 pub domain_known : (n : Machine) (s : ℕ) (h : Holdings) (f found owner count : ℕ) (allocated : Bool) → f < n.frames → Finds n s h (Refs f) found → ref_read found ≡ Some (Owned owner allocated count) →
@@ -73,6 +51,137 @@ domain_known n s h f found owner count allocated frame finds read =
     let is = rw read at spelled in
     grind (arith, nat_tests)
 
+least : (k : ℕ) → nat_le k k ≡ true
+least k = grind (arith, nat_tests)
+
+same_place : (f : ℕ) → (f == f) ≡ true
+same_place f = grind (arith, nat_tests)
+
+pub just_looked : (v u : PortValue) (f word : ℕ) → Moves v u (Refs f) Load kinds.Look None word → last_since (sizes_of v.post.machine) (length v.holdings.steps) (Refs f) u.holdings.steps ≡ Some word
+unfolding last_since left_by
+just_looked v u f word m =
+    let z = sizes_of v.post.machine in
+    let x : Made = record { step = step_at v.post.machine (Refs f) Load kinds.Look None; found = word } in
+    let at : is_at z (Refs f) x ≡ true = ap (λ p. is_same p (Refs f)) (place_back z (Refs f) m.may.legal.place) ∙ same_place f in
+    ap (λ (q : PortValue). last_since z (length v.holdings.steps) (Refs f) q.holdings.steps) m.to
+    ∙ ap (λ b. if b then (if is_at z (Refs f) x then Some word else last_since z (length v.holdings.steps) (Refs f) v.holdings.steps) else None) (least (length v.holdings.steps))
+    ∙ ap (λ b. if b then Some word else last_since z (length v.holdings.steps) (Refs f) v.holdings.steps) at
+
+none_by : (b : Bool) (d : Deed) → only_if ((bit b == 1) && (bit b == 0)) d ≡ []
+none_by true d = refl
+none_by false d = refl
+
+same_word : (w : ℕ) → (w == w) ≡ true
+same_word w = grind (arith, nat_tests)
+
+other_word : (x w : ℕ) → x ≢ w → (x == w) ≡ false
+other_word x w off = grind (arith, nat_tests)
+
+-- counting up is no deed: the allocated mark stays. Nor does it claim.
+module _ (f : ℕ) (o : Open) (is : IsRef (Owned o.owner o.allocated o.count)) (below : o.count + 1 < 2 ^ 26) (h : Holdings) where
+  raise_is_no_deed : deeds_by (Refs f) (Cas (open_word o) (raised_word o)) (open_word o) h ≡ []
+  unfolding allocated_mark IsRef
+  raise_is_no_deed =
+      let before = ref_read-write (Owned o.owner o.allocated o.count) is in
+      let next = ref_read-write (Owned o.owner o.allocated (o.count + 1)) (is.0, omega arith, below) in
+      rw (same_word (open_word o), before, next) (none_by o.allocated (Returns f))
+
+  raise_changes : (r : Request) → IsRefChange r (Cas (open_word o) (raised_word o))
+  unfolding is_free
+  raise_changes r free = absurd (let off : is_free (open_word o) ≡ false = rw (ref_read-write (Owned o.owner o.allocated o.count) is) refl in cc)
+
+-- ---- what is asked
+same_is : (f : ℕ) → IsTrue (f == f)
+same_is f = grind (arith, nat_tests)
+
+for_itself : (want : Option PageType) → IsFor want want
+for_itself None = tt
+for_itself (Some t) = refl
+
+pub names_itself : (n : Machine) (s f owner : ℕ) (want : _) (F : Finding) → IsAsked n s (of_frame f owner want) F f
+names_itself n s f owner want F = of owner want (named (same_is f) refl (for_itself want))
+
+pub backs_itself : (n : Machine) (s f : ℕ) (F : Finding) → IsAsked n s (of_back f) F f
+backs_itself n s f F = back (same_is f)
+
+-- ---- refused
+pub no_frame : (v : PortValue) (f owner : ℕ) → v.post.machine.frames ≤ f → Stops v v (of_frame f owner None) (Refused (NoFrame f))
+unfolding Stops
+no_frame v f owner past = (names_itself _ _ f owner None _, past)
+
+module _ (v u : PortValue) (f owner word : ℕ) (look : Moves v u (Refs f) Load kinds.Look None word) where
+  found_word : Found (Met v u) (Refs f) word
+  unfolding moment_of
+  found_word = record { moment = moment_of v (Refs f) Load kinds.Look None word; was = moves_met v u _ _ _ _ _ look; place = refl; word = refl }
+
+  found_with : FoundWith (Met v u) (Refs f) word v.holdings
+  unfolding moment_of
+  found_with = record { moment = moment_of v (Refs f) Load kinds.Look None word; was = moves_met v u _ _ _ _ _ look; place = refl; word = refl; hand = refl }
+
+  pub refused : (x : Refusal) → RefusesWord f owner v.post.machine.limit word x → Stops v u (of_frame f owner None) (Refused x)
+  unfolding Stops
+  refused (WrongOwner g found) (is, at, why) = rw (is, at) (owner, None, named (same_is f) refl tt, found_word, inl why)
+  refused (CountFull g found) (is, at, why) = rw (is, at) (owner, None, v.holdings, named (same_is f) refl tt, found_with, why, no_more (of_frame f owner None) v.holdings f)
+  refused _ why = absurd why
+
+  pub looked : Serves v u (of_frame f owner None) []
+  looked = moves_serves v u (of_frame f owner None) _ _ _ _ _ look tt
+
+  -- ---- taken
+  pub word_law : (o : Open) → word < 2 ^ 64 → ref_read word ≡ Some (Owned o.owner o.allocated o.count) → (IsRef (Owned o.owner o.allocated o.count)) × (open_word o ≡ word)
+  word_law o small read = ref_write-read word (Owned o.owner o.allocated o.count) small read
+
+  some_count : (o : Open) → IsRef (Owned o.owner o.allocated o.count) → 0 < o.count
+  unfolding IsRef
+  some_count o is = is.1
+
+  pub opened : (o : Open) → f < v.post.machine.frames → Same v u → word < 2 ^ 64 → ref_read word ≡ Some (Owned o.owner o.allocated o.count) → o.count < v.post.machine.limit → IsOpen u.post.machine o
+  opened o frame same small read low =
+      let known = domain_known v.post.machine v.post.vcpu v.holdings f word o.owner o.count o.allocated frame look.finds read in
+      subst (λ (q : PortValue). IsOpen q.post.machine o) (sym same) (record { owner = known; some = some_count o (word_law o small read).0; below = low })
+
+  module _ (w : PortValue) (o : Open) (small : word < 2 ^ 64) (read : ref_read word ≡ Some (Owned o.owner o.allocated o.count)) (below : o.count + 1 < 2 ^ 26) (found : ℕ)
+      (raise : Moves u w (Refs f) (Cas (open_word o) (raised_word o)) kinds.Ref None found) where
+    asks : (F : Finding) → Reason v.post.machine v.post.vcpu (of_frame f owner None) F (Refs f) (Cas (open_word o) (raised_word o)) found u.holdings
+    asks F = (names_itself _ _ f owner None F, raise_changes f o (word_law o small read).0 below u.holdings (of_frame f owner None))
+
+    tried : Serves v w (of_frame f owner None) (deeds_by (Refs f) (Cas (open_word o) (raised_word o)) found u.holdings ++ [])
+    tried = serves_step v u w (of_frame f owner None) [] _ _ _ _ _ looked raise (asks _)
+
+    pub taken : found ≡ open_word o → Serves v w (of_frame f owner None) []
+    taken at =
+        subst (λ ds. Serves v w (of_frame f owner None) (ds ++ []))
+        (ap (λ x. deeds_by (Refs f) (Cas (open_word o) (raised_word o)) x u.holdings) at ∙ raise_is_no_deed f o (word_law o small read).0 below u.holdings) tried
+
+    pub missed_there : (place : ℕ) → place ≡ number (sizes_of v.post.machine) (Refs f) → found ≢ open_word o → Serves v w (of_frame f owner None) (Misses (place_at (sizes_of v.post.machine) place) ∷ [])
+    missed_there place at off =
+        let is : place_at (sizes_of v.post.machine) place ≡ Refs f = ap (λ i. place_at (sizes_of v.post.machine) i) at ∙ place_back (sizes_of v.post.machine) (Refs f) look.may.legal.place in
+        rw is (subst (λ b. Serves v w (of_frame f owner None) ((if b then exchanged (Refs f) (open_word o) (raised_word o) else (Misses (Refs f) ∷ [])) ++ [])) (other_word found (open_word o) off) tried)
+
+    pub lost : (place : ℕ) → place ≡ number (sizes_of v.post.machine) (Refs f) → found ≢ open_word o → Stops v w (of_frame f owner None) (Paused (Lost place word found))
+    unfolding Stops moment_of
+    lost place at off =
+        let is = (word_law o small read).1 in
+        let asks_word = subst (λ e. Reason v.post.machine v.post.vcpu (of_frame f owner None) (Met v w) (Refs f) (Cas e (raised_word o)) found u.holdings) is (asks (Met v w)) in
+        (
+          Refs f,
+          at,
+          (record {
+            before = moment_of v (Refs f) Load kinds.Look None word;
+            exchange = moment_of u (Refs f) (Cas (open_word o) (raised_word o)) kinds.Ref None found;
+            new = raised_word o;
+            was_before = met_before v u w _ (moves_met v u _ _ _ _ _ look) (moves_came u w _ _ _ _ _ raise);
+            was_exchange = met_after v u w _ (moves_came v u _ _ _ _ _ look) (moves_met u w _ _ _ _ _ raise);
+            place_before = refl;
+            place = refl;
+            act = ap (λ y. Cas y (raised_word o)) is;
+            word = refl;
+            last = just_looked v u f word look;
+            other = λ e. off (e ∙ sym is);
+          }, asks_word),
+        )
+
+-- a frame that is closing in the hand keeps a reference beside the new one
 same_frame : (g f : ℕ) → (g == f) ≡ true → g ≡ f
 same_frame g f e = grind (arith, nat_tests)
 
@@ -86,100 +195,18 @@ unfolding EachOf first_by
 closing_by f h [] all closing = absurd (cc)
 closing_by f h (e ∷ es) all closing = closing_head (e.frame == f) f h e (work_on f es) refl all.0 (closing_by f h es all.1) closing
 
-two_held : (f : ℕ) (e : Reference) (xs : List Reference) → e.frame ≡ f → 0 < refs_to f xs → 2 ≤ refs_to f (e ∷ xs)
+more_held : (f : ℕ) (e : Reference) (xs : List Reference) → e.frame ≡ f → refs_to f (e ∷ xs) ≡ refs_to f xs + 1
 unfolding times_by
-two_held f e xs is some = let one : one_at f e.frame ≡ 1 = one_there f e.frame is in omega (arith, one)
+more_held f e xs is = let one : one_at f e.frame ≡ 1 = ap (λ g. one_at f g) is ∙ one_at-same f in omega (arith, one)
 
--- a frame that is closing in the hand keeps a reference beside the new one
-pub taken_spares : (n : Machine) (s : ℕ) (h a k : Holdings) (f found owner : ℕ) → Finds n s h (Refs f) found → SameHand h a → TookRef f owner a k → SparesClosing f k
-taken_spares n s h a k f found owner finds same took closing =
-    let works : k.works ≡ h.works = took.rest.works ∙ same.rest.works in
-    let before = subst (λ (u : Holdings). EachOf (WorkAgrees u) u.works) finds.mine (finds.sound.works s finds.real) in
-    let some = closing_by f h h.works before (subst (λ (ws : List Work). IsTrue (is_closing_on (work_on f ws))) works closing) in
+pub taken_gives : (v u w : PortValue) (f found owner : ℕ) → Moves v u (Refs f) Load kinds.Look None found → Same v u → Holds u w (took f owner u.holdings) → MayGive f w.holdings
+taken_gives v u w f found owner look same holds =
     let e : Reference = record { frame = f; owner = owners.Of owner } in
-    let refs : k.refs ≡ e ∷ h.refs = took.refs ∙ ap (λ (rs : List Reference). e ∷ rs) same.refs in
-    rw refs (two_held f e h.refs refl some)
-
--- ---- pieces
-pub got_none : (v : PortValue) (f owner : ℕ) → v.post.machine.frames ≤ f → Gets v v f owner (Err (Refused (NoFrame f)))
-got_none v f owner past = record { made = []; piece = serves_nothing v f; calm = calm_nothing v.post.machine; shows = inl (past, refl) }
-
-module _ (v u : PortValue) (f owner word : ℕ) (look : Makes v u (Refs f) Load None word) where
-  pub got_refused : (r : Refusal) → RefusesWord f owner v.post.machine.limit word r → Gets v u f owner (Err (Refused r))
-  got_refused r why =
-      record {
-        made = made_of _ _ _ _ _ look ∷ [];
-        piece = makes_serves _ _ _ _ _ look f refl;
-        calm = makes_calm _ _ _ _ _ look refl;
-        shows = inr (record { word = word; had = makes_had _ _ _ _ _ look; refuses = why });
-      }
-
-  module _ (w : PortValue) (found : ℕ) (raise : Makes u w (Refs f) (Cas word (word + 1)) None found) where
-    same_post : u.post ≡ v.post
-    same_post = went_post v u (record { step = look.step; found = word } ∷ []) look.went
-
-    both : List Made
-    both = made_of _ _ _ _ _ raise ∷ (made_of _ _ _ _ _ look ∷ [])
-
-    both_serve : Serves v w f [] both
-    unfolding both
-    both_serve = serves_more v u w f [] [] _ _ (makes_serves _ _ _ _ _ look f refl) (makes_serves _ _ _ _ _ raise f (this_frame f))
-
-    both_calm : Calm v.post.machine both
-    unfolding both
-    both_calm =
-        calm_more v.post.machine _ _ (makes_calm _ _ _ _ _ look refl)
-        (subst (λ (q : Post). Calm q.machine (made_of _ _ _ _ _ raise ∷ [])) same_post (makes_calm _ _ _ _ _ raise refl))
-
-    had_first : Had v.post.machine (Refs f) word both
-    unfolding both
-    had_first = had_earlier v.post.machine (Refs f) word (made_of _ _ _ _ _ look ∷ []) (made_of _ _ _ _ _ raise ∷ []) (makes_had _ _ _ _ _ look)
-
-    had_second : Had v.post.machine (Refs f) found both
-    unfolding both
-    had_second =
-        had_later v.post.machine (Refs f) found (made_of _ _ _ _ _ look ∷ []) (made_of _ _ _ _ _ raise ∷ [])
-        (subst (λ (q : Post). Had q.machine (Refs f) found (made_of _ _ _ _ _ raise ∷ [])) same_post (makes_had _ _ _ _ _ raise))
-
-    pub got_lost : (place : ℕ) → place ≡ number (sizes_of v.post.machine) (Refs f) → found ≢ word → Gets v w f owner (Err (Paused (Lost place word found)))
-    got_lost place at off =
-        record {
-          made = both;
-          piece = both_serve;
-          calm = both_calm;
-          shows = record {
-            expected = word;
-            found = found;
-            had_expected = had_first;
-            had_found = had_second;
-            other = off;
-            lost = ap (λ i. Lost i word found) at;
-          };
-        }
-
-    pub got : (g count : ℕ) (allocated : Bool) → ref_read word ≡ Some (Owned owner allocated count) → count < v.post.machine.limit → Gets v w f owner (Ok g)
-    got g count allocated read below =
-        record {
-          made = both;
-          piece = both_serve;
-          calm = both_calm;
-          shows = record { word = word; had = had_first; is_open = rw read (refl, below) };
-        }
-
-    -- ---- on a board that tells all words
-    told_before : is_telling v ≡ true → told_word u (Refs f) ≡ word
-    unfolding left_by
-    told_before tells = makes_here _ _ _ _ _ _ look tells
-
-    pub never_lost : is_telling v ≡ true → found ≢ word → ⊥
-    never_lost tells off = off (sym (makes_found _ _ _ _ _ _ raise (makes_telling _ _ _ _ _ _ look ∙ tells)) ∙ told_before tells)
-
-    pub then_lent : (count : ℕ) (allocated : Bool) → ref_read word ≡ Some (Owned owner allocated count) → word < 2 ^ 64 → count + 1 < 2 ^ 26 → found ≡ word → is_telling v ≡ true → IsLent f w
-    unfolding left_by
-    then_lent count allocated read small below at tells =
-        let c = counted word owner count allocated small read in
-        let told : told_word w (Refs f) ≡ word + 1 =
-        makes_here _ _ _ _ _ _ raise (makes_telling _ _ _ _ _ _ look ∙ tells) ∙ ap (λ y. if y == word then word + 1 else y) at ∙ if_itself word (word + 1) word in
-        let two = count_is (word + 1) owner (count + 1) allocated (next_read word owner count allocated c below) in
-        let some = c.some in
-        rw (told, two) (omega arith)
+    let refs : w.holdings.refs ≡ e ∷ v.holdings.refs = ap (λ (q : PortValue). q.holdings.refs) (holds ∙ ap (λ (q : PortValue). still (record q { holdings = took f owner q.holdings })) same) in
+    let works : w.holdings.works ≡ v.holdings.works = ap (λ (q : PortValue). q.holdings.works) holds ∙ ap (λ (q : PortValue). q.holdings.works) same in
+    let agree = subst (λ (h : Holdings). EachOf (WorkAgrees h) h.works) look.finds.mine (look.finds.sound.works v.post.vcpu look.finds.real) in
+    let more = more_held f e v.holdings.refs refl in
+    record {
+      held = rw refs (omega (arith, more));
+      spares = λ closing. rw refs (let some = closing_by f v.holdings v.holdings.works agree (subst (λ (ws : List Work). IsTrue (is_closing_on (work_on f ws))) works closing) in omega (arith, more, some));
+    }

@@ -5,6 +5,8 @@ ghost use Rattle.std.specs.Prelude.{◌≡◌, ◌≢◌, IsTrue, IfErr, None};
 ghost use Rattle.xp_board.specs.declared.step.Act.TheVariants.{Load, Cas};
 ghost use Rattle.xp_board.specs.declared.step.StepKind.TheVariants as kinds;
 ghost use Rattle.xp_words.specs.Places.{is_place, sizes_of};
+ghost use Rattle.xp_words.specs.declared.place.Place.TheVariants.{Clock};
+ghost use Rattle.step_maker.specs.Holds.{Same};
 ghost use Rattle.step_maker.specs.Moves.{Moves, May, found_by};
 
 use xp_board::{Act, Mark, Port, Step, StepKind};
@@ -51,4 +53,13 @@ pub fn exchange<P: Port>(
     } else {
         Err(found)
     }
+}
+
+/// Loads the clock of flushes.
+#[tactic(auto, unfolding(xp_words::specs::Places::is_place))]
+pub fn look_clock<P: Port>(port: &mut P) -> u64
+    ensures moves { Moves (P.value port.old) (P.value port.new) Clock Load kinds.Look None result }
+    ensures hand { Same (P.value port.old) (P.value port.new) }
+{
+    look(port, Place::Clock)
 }

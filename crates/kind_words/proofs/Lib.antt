@@ -1,0 +1,2 @@
+pub mod KindWriting
+pub mod RowSteps
