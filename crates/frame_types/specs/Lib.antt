@@ -1,5 +1,3 @@
-pub mod Clearing
+pub mod Plain
 pub mod Standing
 pub mod Taking
-pub mod Waiting
-pub mod Writable

@@ -1,12 +1,12 @@
-//! Types of frames, taken and given back, and the flushes that a change of type waits for.
+//! Types of frames, taken and given back.
 #![tactic(auto)]
 
-mod finish;
+mod memory;
 mod plain;
 mod standing;
-mod waiting;
-mod writable;
+mod taking;
 
+pub use memory::take_writable;
 pub use plain::drop_plain;
-pub use waiting::clear_stale;
-pub use writable::take_writable;
+pub use standing::Standing;
+pub use taking::{Taken, take_type};

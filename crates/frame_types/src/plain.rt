@@ -1,32 +1,32 @@
 //! Types given back of frames that hold no entries.
-ghost use Rattle.std.specs.Prelude.{◌≡◌, ◌<◌, Some, None, false, IsTrue};
-ghost use Rattle.xp_words.specs.PageTypes.{is_table};
-ghost use Rattle.xp_words.specs.Places.{sizes_of};
-ghost use Rattle.xp_board.specs.Hands.{typed_to, work_on};
-ghost use Rattle.xp_board.specs.Knowledge.{knows_live};
-ghost use Rattle.frame_types.specs.Writable.{DropsPlain};
+ghost use Rattle.std.specs.Prelude.{◌<◌, ◌≡◌, ℕ, [], true, Some};
+ghost use Rattle.xp_board.specs.Told.{is_telling, told_word};
+ghost use Rattle.step_maker.specs.Holds.{Holds, MayWork};
+ghost use Rattle.step_maker.specs.Plain.{Leaves};
+ghost use Rattle.answer_fits.specs.Answers.{Serves};
+ghost use Rattle.answer_fits.specs.Asked.{of_frame};
+ghost use Rattle.frame_types.specs.Plain.{dropped_plain};
+ghost use Rattle.frame_types.specs.Taking.{MayDropPlain, untyped};
 
-use frame_words::{drop_type, look_clock, put_ref, store_dead};
+use frame_words::put_ref;
+use kind_words::{counts_one, leave, lower_type};
+use step_maker::look_clock;
 use xp_board::Port;
-use xp_words::PageType;
+use xp_words::{KindWord, PageType};
 
 /// Gives a typed reference to a live writable frame or descriptor page back, its type count first. After the last type count the
 /// clock is loaded and the frame left dead with that stamp.
 pub fn drop_plain<P: Port>(port: &mut P, frame: u32, kind: PageType)
     requires frame { frame < (P.value port.old).post.machine.frames }
-    requires running { (P.value port.old).holdings.run ≡ Some 0 }
-    requires held { 0 < typed_to frame (P.value port.old).holdings.typed }
-    requires live { IsTrue (knows_live (sizes_of (P.value port.old).post.machine) frame kind (P.value port.old).holdings) }
-    requires plain { is_table kind ≡ false }
-    requires apart { work_on frame (P.value port.old).holdings.works ≡ None }
-    ensures post { (P.value port.new).post ≡ (P.value port.old).post }
-    ensures drops { DropsPlain (P.value port.old) (P.value port.new) frame }
+    requires may { MayWork (P.value port.old) }
+    requires drops { MayDropPlain (P.value port.old).post.machine frame kind (P.value port.old).holdings }
+    ensures serves { (owner : ℕ) → Serves (P.value port.old) (P.value port.new) (of_frame frame owner (Some kind)) [] }
+    ensures hand { Holds (P.value port.old) (P.value port.new) (untyped frame (P.value port.old).holdings) }
+    ensures plain { is_telling (P.value port.old) ≡ true → Leaves (P.value port.new) (dropped_plain frame kind (told_word (P.value port.old))) }
 {
-    if drop_type(port, frame) {
+    if counts_one(lower_type(port, frame)) {
         let stamp = look_clock(port);
-        store_dead(port, frame, kind, false, stamp);
-        put_ref(port, frame);
-    } else {
-        put_ref(port, frame);
+        leave(port, frame, dead_kind(kind, false, stamp));
     }
+    put_ref(port, frame);
 }

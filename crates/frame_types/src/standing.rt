@@ -1,36 +1,37 @@
-//! How a frame stands to being ordinary memory.
+//! How a frame stands to a type.
 ghost use Rattle.std.specs.Prelude.{◌≡◌, is_some, Some, IsTrue};
 ghost use Rattle.xp_words.specs.KindWords.{kind_read};
-ghost use Rattle.frame_types.specs.Standing.{is_writable, standing_of};
+ghost use Rattle.frame_types.specs.Standing.{is_same_type, standing_of};
 
 use xp_words::{KindWord, PageType};
 
-/// What a kind word says of a frame that is to be writable.
-pub(crate) enum Standing {
-    /// Writable, with type counts.
+/// What a kind word says of a frame that is to have a type.
+#[derive(Clone, Copy, Debug, PartialEq, Eq)]
+pub enum Standing {
+    /// Of the type, with type counts.
     Counted,
     /// Of no type, whatever it was.
     Dead,
-    /// Writable, and its flush was waited for in vain.
+    /// Of the type, and its validation or its flush is unfinished.
     Partial,
-    /// Writable, and in another vCPU's hand.
+    /// Of the type, and in another vCPU's hand.
     Busy,
     /// Of another type.
     Other,
 }
 
-fn is_writable(kind: PageType) -> bool
-    ensures { result ≡ is_writable kind }
+fn is_same_type(kind: PageType, want: PageType) -> bool
+    ensures { result ≡ is_same_type kind want }
 {
-    matches!(kind, PageType::Writable)
+    kind.number() == want.number()
 }
 
-pub(crate) fn classify(kind: KindWord) -> Standing
-    ensures { result ≡ standing_of kind }
+pub(crate) fn classify(kind: KindWord, want: PageType) -> Standing
+    ensures { result ≡ standing_of kind want }
 {
     if !kind.validated && !kind.partial && !kind.locked {
         Standing::Dead
-    } else if !is_writable(kind.kind) {
+    } else if !is_same_type(kind.kind, want) {
         Standing::Other
     } else if kind.validated {
         if kind.number == 0 {

@@ -1,10 +1,15 @@
 //! Flushes that a change of type waits for.
-ghost use Rattle.std.specs.Prelude.{◌≡◌, ◌≢◌, ◌<◌, Some, None, Ok, IfOk, length};
-ghost use Rattle.xp_board.specs.Readings.{has_ever};
-ghost use Rattle.frame_types.specs.Clearing.{Looks, Weighs, Waits, first_behind};
-ghost use Rattle.frame_types.specs.Waiting.{IsMarked, IsFlushed, Clears};
+#![tactic(auto)]
 
-use frame_words::{ask, flush_own, look_flushed, look_privileges, look_run_of};
+ghost use Rattle.std.specs.Prelude.{◌≡◌, ◌≢◌, ◌<◌, true, Ok, IfOk, IfErr, length};
+ghost use Rattle.xp_board.specs.Readings.{has_ever};
+ghost use Rattle.xp_board.specs.Told.{is_telling, told_word};
+ghost use Rattle.answer_fits.specs.Twins.{Alike};
+ghost use Rattle.step_maker.specs.Holds.{FlushedSame, MayWork};
+ghost use Rattle.flush_waits.specs.Clearing.{Looks, Weighs, Waits, first_behind};
+ghost use Rattle.flush_waits.specs.Waiting.{IsMarked, IsFlushed, IsWait, ServesBehind, StopsBehind};
+
+use flush_words::{ask, flush_own, look_flushed, look_privileges, look_run_of};
 use xp_board::Port;
 use xp_words::{Pause, Refusal, Stop};
 
@@ -17,22 +22,25 @@ const RUNNING: u64 = 0;
 /// all were asked.
 pub fn clear_stale<P: Port>(port: &mut P, frame: u32, owner: u16, stamp: u64) -> Result<(), Stop>
     requires frame { frame < (P.value port.old).post.machine.frames }
-    requires running { (P.value port.old).holdings.run ≡ Some 0 }
-    requires landed { (P.value port.old).holdings.walk ≡ None }
-    requires marked { IsMarked (P.value port.old).post.machine frame owner stamp (P.value port.old).holdings }
-    ensures post { (P.value port.new).post ≡ (P.value port.old).post }
-    // No guest sees the steps. They change words of flushes alone, and show the cause of a refusal and a pause.
-    ensures clears { Clears (P.value port.old) (P.value port.new) frame owner stamp result }
+    requires may { MayWork (P.value port.old) }
+    requires marked { IsMarked frame owner stamp (P.value port.old).holdings }
+    // No guest sees the steps. Behind any piece that awaits the stamp they fit it, and show the cause of a refusal or a pause.
+    ensures serves { ServesBehind (P.value port.old) (P.value port.new) owner stamp }
+    ensures stops { IfErr result (λ e. StopsBehind (P.value port.old) (P.value port.new) owner stamp e) }
+    ensures waits { IfErr result IsWait }
+    ensures hand { FlushedSame (P.value port.old) (P.value port.new) }
     ensures past { IfOk result (λ _. IsFlushed (P.value port.new).post.machine frame (P.value port.new).holdings) }
+    // On a board that tells all words, these are as before but for flushes.
+    ensures plain { is_telling (P.value port.old) ≡ true → Alike (told_word (P.value port.new)) (told_word (P.value port.old)) }
 {
-    let awaited = Awaited {
+    let awaited = Awaiting {
         frame,
         owner,
         stamp,
     };
     match clear_all(port, awaited) {
         Ok(None) => Ok(()),
-        Ok(Some(Behind { vcpu, found })) => {
+        Ok(Some(Late { vcpu, found })) => {
             Err(Stop::Paused(Pause::Flush { vcpu, stamp, found }))
         }
         Err(refusal) => Err(Stop::Refused(refusal)),
@@ -42,7 +50,7 @@ pub fn clear_stale<P: Port>(port: &mut P, frame: u32, owner: u16, stamp: u64) ->
 // A marked frame in the own works, its owner, and the clock value that each flush has to be later than. Only contracts
 // read which frame it is.
 #[derive(Clone, Copy)]
-struct Awaited {
+struct Awaiting {
     frame: u32,
     owner: u16,
     stamp: u64,
@@ -50,17 +58,16 @@ struct Awaited {
 
 // A vCPU that runs and may have an older translation, and the clock value to which it was flushed.
 #[derive(Clone, Copy)]
-struct Behind {
+struct Late {
     vcpu: u32,
     found: u64,
 }
 
 // Clears each vCPU, and answers the least that is behind.
-fn clear_all<P: Port>(port: &mut P, awaited: Awaited) -> Result<Option<Behind>, Refusal>
+fn clear_all<P: Port>(port: &mut P, awaited: Awaiting) -> Result<Option<Late>, Refusal>
     requires frame { awaited.frame < (P.value port.old).post.machine.frames }
-    requires running { (P.value port.old).holdings.run ≡ Some 0 }
-    requires landed { (P.value port.old).holdings.walk ≡ None }
-    requires marked { IsMarked (P.value port.old).post.machine awaited.frame awaited.owner awaited.stamp (P.value port.old).holdings }
+    requires may { MayWork (P.value port.old) }
+    requires marked { IsMarked awaited.frame awaited.owner awaited.stamp (P.value port.old).holdings }
     ensures { Waits (P.value port.old) (P.value port.new) awaited (length (P.value port.old).post.machine.vcpu_domain) result }
 {
     let mut first = None;
@@ -72,22 +79,21 @@ fn clear_all<P: Port>(port: &mut P, awaited: Awaited) -> Result<Option<Behind>, 
 }
 
 // The vCPU that was behind first.
-fn first_of(first: Option<Behind>, vcpu: u32, standing: Option<u64>) -> Option<Behind>
+fn first_of(first: Option<Late>, vcpu: u32, standing: Option<u64>) -> Option<Late>
     ensures { result ≡ first_behind first vcpu standing }
 {
     match (first, standing) {
-        (None, Some(found)) => Some(Behind { vcpu, found }),
+        (None, Some(found)) => Some(Late { vcpu, found }),
         (first, _) => first,
     }
 }
 
 // None where no older translation of the vCPU is left, else the clock value to which it was flushed.
-fn clear<P: Port>(port: &mut P, awaited: Awaited, vcpu: u32) -> Result<Option<u64>, Refusal>
+fn clear<P: Port>(port: &mut P, awaited: Awaiting, vcpu: u32) -> Result<Option<u64>, Refusal>
     requires frame { awaited.frame < (P.value port.old).post.machine.frames }
     requires vcpu { vcpu < length (P.value port.old).post.machine.vcpu_domain }
-    requires running { (P.value port.old).holdings.run ≡ Some 0 }
-    requires landed { (P.value port.old).holdings.walk ≡ None }
-    requires marked { IsMarked (P.value port.old).post.machine awaited.frame awaited.owner awaited.stamp (P.value port.old).holdings }
+    requires may { MayWork (P.value port.old) }
+    requires marked { IsMarked awaited.frame awaited.owner awaited.stamp (P.value port.old).holdings }
     ensures { Looks (P.value port.old) (P.value port.new) awaited vcpu result }
 {
     if vcpu == port.vcpu() {
@@ -98,9 +104,9 @@ fn clear<P: Port>(port: &mut P, awaited: Awaited, vcpu: u32) -> Result<Option<u6
 }
 
 // Flushes the own translations unless they were flushed later than the stamp.
-fn clear_own<P: Port>(port: &mut P, awaited: Awaited) -> Result<Option<u64>, Refusal>
-    requires landed { (P.value port.old).holdings.walk ≡ None }
-    requires marked { IsMarked (P.value port.old).post.machine awaited.frame awaited.owner awaited.stamp (P.value port.old).holdings }
+fn clear_own<P: Port>(port: &mut P, awaited: Awaiting) -> Result<Option<u64>, Refusal>
+    requires may { MayWork (P.value port.old) }
+    requires marked { IsMarked awaited.frame awaited.owner awaited.stamp (P.value port.old).holdings }
     ensures { Looks (P.value port.old) (P.value port.new) awaited (P.value port.old).post.vcpu result }
 {
     let vcpu = port.vcpu();
@@ -112,12 +118,12 @@ fn clear_own<P: Port>(port: &mut P, awaited: Awaited) -> Result<Option<u64>, Ref
 }
 
 // Asks another vCPU to flush where it may have an older translation.
-fn clear_other<P: Port>(port: &mut P, awaited: Awaited, vcpu: u32) -> Option<u64>
+fn clear_other<P: Port>(port: &mut P, awaited: Awaiting, vcpu: u32) -> Option<u64>
     requires frame { awaited.frame < (P.value port.old).post.machine.frames }
     requires vcpu { vcpu < length (P.value port.old).post.machine.vcpu_domain }
     requires other { vcpu ≢ (P.value port.old).post.vcpu }
-    requires running { (P.value port.old).holdings.run ≡ Some 0 }
-    requires marked { IsMarked (P.value port.old).post.machine awaited.frame awaited.owner awaited.stamp (P.value port.old).holdings }
+    requires may { MayWork (P.value port.old) }
+    requires marked { IsMarked awaited.frame awaited.owner awaited.stamp (P.value port.old).holdings }
     ensures { Looks (P.value port.old) (P.value port.new) awaited vcpu (Ok result) }
 {
     if look_run_of(port, vcpu) != RUNNING {
@@ -135,10 +141,10 @@ fn clear_other<P: Port>(port: &mut P, awaited: Awaited, vcpu: u32) -> Option<u64
 }
 
 // Whether the vCPU's domain owns the frame or ever had privilege over the owner.
-fn is_concerned<P: Port>(port: &mut P, awaited: Awaited, vcpu: u32) -> bool
+fn is_concerned<P: Port>(port: &mut P, awaited: Awaiting, vcpu: u32) -> bool
     requires frame { awaited.frame < (P.value port.old).post.machine.frames }
     requires vcpu { vcpu < length (P.value port.old).post.machine.vcpu_domain }
-    requires marked { IsMarked (P.value port.old).post.machine awaited.frame awaited.owner awaited.stamp (P.value port.old).holdings }
+    requires marked { IsMarked awaited.frame awaited.owner awaited.stamp (P.value port.old).holdings }
     ensures { Weighs (P.value port.old) (P.value port.new) awaited vcpu result }
 {
     let domain = port.layout().vcpu_domain.as_slice()[vcpu as usize];

@@ -1,0 +1,44 @@
+//! Ordinary memory.
+ghost use Rattle.std.specs.Prelude.{◌≡◌, ◌<◌, [], None, Some, IfErr, MatchResult};
+ghost use Rattle.xp_words.specs.declared.kind.PageType.TheVariants.{Writable};
+ghost use Rattle.xp_board.specs.Hands.{work_on, typed_to};
+ghost use Rattle.xp_board.specs.Readings.{domain_of};
+ghost use Rattle.step_maker.specs.Holds.{FlushedHolds, MayWork};
+ghost use Rattle.answer_fits.specs.Answers.{Serves, Stops, misses};
+ghost use Rattle.answer_fits.specs.Asked.{of_frame};
+ghost use Rattle.frame_words.specs.Freeing.{gave};
+ghost use Rattle.frame_types.specs.Plain.{TwinMemory};
+ghost use Rattle.frame_types.specs.Taking.{LentBy, typed_as};
+
+use crate::taking::{Taken, take_type};
+use frame_words::put_ref;
+use kind_words::leave;
+use step_maker::look_clock;
+use xp_board::Port;
+use xp_words::{KindWord, PageType, Stop};
+
+/// Takes a frame of the own domain as writable: an untyped reference in hand becomes a typed one. A frame that was of
+/// another type, or is marked, is flushed first. On a refusal or a pause the reference is given back, or stays in the
+/// frame's own word as its `kept` mark until the frame is taken again.
+pub fn take_writable<P: Port>(port: &mut P, frame: u32, owner: u16) -> Result<(), Stop>
+    requires frame { frame < (P.value port.old).post.machine.frames }
+    requires may { MayWork (P.value port.old) }
+    requires lent { LentBy frame owner (P.value port.old).holdings }
+    requires own { owner ≡ domain_of (P.value port.old).post.machine (P.value port.old).post.vcpu }
+    requires apart { work_on frame (P.value port.old).holdings.works ≡ None }
+    requires untyped { typed_to frame (P.value port.old).holdings.typed ≡ 0 }
+    requires looked { (P.value port.old).holdings.looking ≡ [] }
+    ensures serves { Serves (P.value port.old) (P.value port.new) (of_frame frame owner (Some Writable)) (misses (P.value port.old).post.machine result) }
+    ensures stops { IfErr result (λ e. Stops (P.value port.old) (P.value port.new) (of_frame frame owner (Some Writable)) e) }
+    ensures hand { MatchResult result (λ _. FlushedHolds (P.value port.old) (P.value port.new) (typed_as frame owner Writable (P.value port.old).holdings)) (λ _. FlushedHolds (P.value port.old) (P.value port.new) (gave frame (P.value port.old).holdings)) }
+    ensures plain { TwinMemory (P.value port.old) (P.value port.new) frame result }
+{
+    match take_type(port, frame, owner, PageType::Writable) {
+        Ok(Taken::Waiting { own, stamp, stop }) => Err(give_up(port, frame, own, stamp, stop)),
+        Ok(_) => Ok(()),
+        Err(stop) => {
+            put_ref(port, frame);
+            Err(stop)
+        }
+    }
+}
