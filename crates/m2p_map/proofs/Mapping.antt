@@ -1,58 +1,97 @@
 -- A reference that is taken, used and given back.
-use Rattle.std.proofs.Common.{◌≡◌, ℕ, ◌<◌, List, [], ◌∷◌, ◌++◌, None, Ok, refl, ap, ◌∙◌, subst, arith}
-use Rattle.xp_words.specs.declared.place.Place.TheVariants.{Refs, M2p}
+use Rattle.std.proofs.Common.{◌≡◌, ℕ, ◌/◌, ◌<◌, ◌==◌, nat_lt, if◌then◌else◌, Bool, true, false, List, [], ◌∷◌, ◌++◌, None, Ok, Err, refl, ap, ◌∙◌, subst, arith}
+use Rattle.std.proofs.lemmas.Bool.Decides.{nat_tests}
+use Rattle.xp_words.specs.declared.place.Place.TheVariants.{M2p}
 use Rattle.xp_board.specs.declared.step.Act.TheVariants.{Store}
-use Rattle.xp_board.specs.declared.holdings.Made.{Made}
-use Rattle.xp_board.specs.declared.holdings.Reference.{Reference}
+use Rattle.xp_board.specs.declared.step.StepKind.TheVariants as kinds
 use Rattle.xp_board.specs.declared.holdings.Holdings.{Holdings}
-use Rattle.xp_board.specs.Hands.{hand, refs_to, without_ref}
+use Rattle.xp_board.specs.declared.holdings.Reference.{Reference}
+use Rattle.xp_board.specs.declared.holdings.OwnerFound.TheVariants as owners
+use Rattle.xp_board.specs.Hands.{hand, refs_to}
 use Rattle.xp_board.specs.Told.{PortValue}
-use Rattle.xp_board.proofs.Going.{had_earlier}
-use Rattle.frame_words.specs.Hands.{SameHand, TookRef, GaveBack}
-use Rattle.frame_words.specs.Pieces.{Makes, SetsM2p}
-use Rattle.frame_words.specs.References.{Gets, Puts, FoundOpen}
-use Rattle.frame_words.proofs.KindCalls.{without_newest}
-use Rattle.frame_words.proofs.Piecing.{calmly_more, made_of, makes_calmly, this_frame}
-use Rattle.frame_words.proofs.Taking.{rest_after}
-use Rattle.m2p_map.specs.Maps.{Maps}
+use Rattle.step_maker.specs.Holds.{Holds, Same, still}
+use Rattle.step_maker.specs.Moves.{Moves}
+use Rattle.answer_fits.specs.Answers.{Serves, Deed, SetsM2p, only_if}
+use Rattle.answer_fits.specs.Asked.{of_frame, of_back}
+use Rattle.answer_fits.proofs.Piecing.{serves_step, serves_back}
+use Rattle.xp_words.specs.declared.place.Place.{Place}
+use Rattle.xp_words.specs.declared.place.Place.TheVariants.{Clock, Pages, Refs, Map}
+use Rattle.xp_words.specs.RefWords.{ref_write}
+use Rattle.xp_words.specs.declared.refs.RefWord.TheVariants.{Free}
+use Rattle.xp_words.specs.declared.reply.Stop.{Stop}
+use Rattle.xp_words.specs.declared.reply.Stop.TheVariants.{Refused, Paused}
+use Rattle.xp_board.specs.declared.step.Act.TheVariants.{Add}
+use Rattle.xp_board.specs.HintSteps.{map_bit}
+use Rattle.xp_board.specs.Readings.{ref_count, owner_of}
+use Rattle.xp_board.specs.RefSteps.{one_down, owner_number}
+use Rattle.xp_board.specs.Told.{is_telling, told_word}
+use Rattle.step_maker.specs.Moves.{Came}
+use Rattle.answer_fits.specs.Asked.{Request}
+use Rattle.answer_fits.proofs.Piecing.{serves_came}
+use Rattle.frame_words.specs.Plain.{Words, change, Leaves, got, lowered, freed, put, TwinGet}
+use Rattle.frame_words.proofs.Twinning.{tells_on, leaves, leaves_then, changed}
+use Rattle.m2p_map.specs.Maps.{TwinSet}
+use Rattle.m2p_map.proofs.NothingLost.{ran_telling}
+use Rattle.frame_words.specs.Refs.{took, MayGive}
+use Rattle.frame_words.specs.Freeing.{gave}
+use Rattle.frame_words.proofs.Putting.{without_newest}
+use Rattle.frame_words.proofs.Taking.{names_itself}
 
-pub held : (f : ℕ) (h : Holdings) → 0 < refs_to f h.refs → 0 < hand f h
+pub held : (f : ℕ) (h : Holdings) → MayGive f h → 0 < hand f h
 unfolding hand
-held f h some = omega arith
+held f h gives = let some = gives.held in omega arith
 
--- ---- the hand
-pub mapped_hand : (f owner : ℕ) (h a b k : Holdings) → TookRef f owner h a → SameHand a b → GaveBack f b k → SameHand h k
-mapped_hand f owner h a b k took same gave =
-    record {
-      refs = gave.refs ∙ ap (without_ref f) same.refs ∙ without_newest (λ (e : Reference). e.frame) f _ h.refs a.refs refl took.refs;
-      ending = gave.ending ∙ same.ending ∙ took.ending;
-      run = gave.run ∙ same.run ∙ took.run;
-      turn = gave.turn ∙ same.turn ∙ took.turn;
-      rest = rest_after h b k (rest_after h a b took.rest same.rest) gave.rest;
-    }
+pub given_back : (v u x w : PortValue) (f owner : ℕ) → Holds v u (took f owner v.holdings) → Same u x → Holds x w (gave f x.holdings) → Same v w
+given_back v u x w f owner took_one same gives =
+    gives ∙ ap (λ (q : PortValue). still (record q { holdings = gave f q.holdings })) (same ∙ took_one)
+    ∙ ap (λ rs. still (record v { holdings = record v.holdings { refs = rs } })) (without_newest (λ (e : Reference). e.frame) f (record { frame = f; owner = owners.Of owner }) v.holdings.refs refl)
 
--- ---- the steps
-pub mapped_piece : (v u x w : PortValue) (f owner gpfn g other : ℕ) → g ≡ f → f < v.post.machine.frames → Gets v u f owner (Ok g) → Makes u x (M2p g) (Store gpfn) None other →
-    Puts x w g → Maps v w f owner gpfn (Ok tt)
-mapped_piece v u x w f owner gpfn g other at frame gets store puts =
-    let store' : Makes u x (M2p f) (Store gpfn) None other = subst (λ j. Makes u x (M2p j) (Store gpfn) None other) at store in
-    let puts' : Puts x w f = subst (λ j. Puts x w j) at puts in
-    let stored : List Made = made_of _ _ _ _ _ store' ∷ [] in
-    let one = calmly_more v u x f [] (SetsM2p f gpfn ∷ []) gets.made stored (record { piece = gets.piece; calm = gets.calm }) (makes_calmly _ _ _ _ _ store' f (this_frame f) refl) in
-    let two = calmly_more v x w f (SetsM2p f gpfn ∷ []) [] (stored ++ gets.made) puts'.made one (record { piece = puts'.piece; calm = puts'.calm }) in
-    let opened : FoundOpen v.post.machine f owner gets.made = gets.shows in
-    record {
-      made = puts'.made ++ (stored ++ gets.made);
-      piece = two.piece;
-      calm = two.calm;
-      shows = (
-        frame,
-        record {
-          word = opened.word;
-          had =
-              had_earlier v.post.machine (Refs f) opened.word (stored ++ gets.made) puts'.made
-              (had_earlier v.post.machine (Refs f) opened.word gets.made stored opened.had);
-          is_open = opened.is_open;
-        },
-      );
-    }
+yes : (k : ℕ) → 0 < k → nat_lt 0 k ≡ true
+yes k some = grind (arith, nat_tests)
+
+pub maps : (v u x w : PortValue) (f owner gpfn other : ℕ) → Serves v u (of_frame f owner None) [] → MayGive f u.holdings → Moves u x (M2p f) (Store gpfn) kinds.M2p None other →
+    Serves x w (of_back f) [] → Serves v w (of_frame f owner None) (SetsM2p f gpfn ∷ [])
+maps v u x w f owner gpfn other gets gives store puts =
+    let r = of_frame f owner None in
+    let stored = serves_step v u x r [] _ _ _ _ _ gets store (names_itself v.post.machine v.post.vcpu f owner None _) in
+    let deed = ap (λ b. only_if b (SetsM2p f gpfn) ++ []) (yes (hand f u.holdings) (held f u.holdings gives)) in
+    serves_back v x w r (SetsM2p f gpfn ∷ []) [] (subst (Serves v x r) deed stored) f (names_itself v.post.machine v.post.vcpu f owner None _) puts
+
+pub maps_at : (v u x w : PortValue) (g f owner gpfn other : ℕ) → g ≡ f → Serves v u (of_frame f owner None) [] → MayGive g u.holdings → Moves u x (M2p g) (Store gpfn) kinds.M2p None other →
+    Serves x w (of_back g) [] → Serves v w (of_frame f owner None) (SetsM2p f gpfn ∷ [])
+maps_at v u x w g f owner gpfn other is gets gives store puts =
+    maps v u x w f owner gpfn other gets (subst (λ k. MayGive k u.holdings) is gives) (subst (λ k. Moves u x (M2p k) (Store gpfn) kinds.M2p None other) is store) (subst (λ k. Serves x w (of_back k) []) is puts)
+
+-- ---- on a board that tells all words
+pub came_telling : (v u : PortValue) → Came v u → is_telling u ≡ is_telling v
+unfolding Came
+came_telling v u a = ran_telling v u a.0 a.1
+
+freed_same : (f owner : ℕ) (m n : Words) → ((q : Place) → m q ≡ n q) → (q : Place) → freed f owner m q ≡ freed f owner n q
+freed_same f owner m n same q =
+    ap (λ y. change (Add one_down) (Pages owner) (change (Store (ref_write (Free y))) (Refs f) (change (Add (map_bit f)) (Map (f / 64)) m)) q) (same Clock)
+    ∙ changed (Add one_down) (Pages owner) _ _ (changed (Store (ref_write (Free (n Clock)))) (Refs f) _ _ (changed (Add (map_bit f)) (Map (f / 64)) m n same)) q
+
+put_by : (b : Bool) (f : ℕ) (owner other : ℕ) (m n : Words) → owner ≡ other → ((q : Place) → m q ≡ n q) → (q : Place) → (if b then freed f owner m else m) q ≡ (if b then freed f other n else n) q
+put_by true f owner other m n is same q = ap (λ d. freed f d m q) is ∙ freed_same f other m n same q
+put_by false f owner other m n is same q = same q
+
+put_same : (f : ℕ) (m n : Words) → ((q : Place) → m q ≡ n q) → (q : Place) → put f m q ≡ put f n q
+put_same f m n same q =
+    ap (λ b. (if b then freed f (owner_number (owner_of (m (Refs f)))) (lowered f m) else lowered f m) q) (ap (λ y. ref_count y == 1) (same (Refs f)))
+    ∙ put_by (ref_count (n (Refs f)) == 1) f (owner_number (owner_of (m (Refs f)))) (owner_number (owner_of (n (Refs f)))) (lowered f m) (lowered f n)
+        (ap (λ y. owner_number (owner_of y)) (same (Refs f))) (changed (Add one_down) (Refs f) m n same) q
+
+pub set_twin : (v u x w : PortValue) (g f owner gpfn other : ℕ) (r : Request) (ds : List Deed) → g ≡ f → Serves v u r ds → TwinGet {A = ℕ} v u f owner (Ok g) → Moves u x (M2p g) (Store gpfn) kinds.M2p None other →
+    (is_telling x ≡ true → Leaves w (put g (told_word x))) → TwinSet v w f owner gpfn (Ok tt)
+set_twin v u x w g f owner gpfn other r ds is gets gives store puts telling =
+    let got_it = gives telling in
+    let at_u : is_telling u ≡ true = came_telling v u (serves_came v u r ds gets) ∙ telling in
+    let at_x = tells_on u x (M2p g) (Store gpfn) kinds.M2p None other store at_u in
+    let set_it : Leaves x (change (Store gpfn) (M2p f) (got f (told_word v))) =
+        subst (λ k. Leaves x (change (Store gpfn) (M2p k) (got f (told_word v)))) is (leaves_then u x (Store gpfn) (M2p g) (got f (told_word v)) got_it.1 (leaves u x (M2p g) (Store gpfn) kinds.M2p None other store at_u)) in
+    (got_it.0, λ q. subst (λ k. told_word w q ≡ put k (told_word x) q) is (puts at_x q) ∙ put_same f (told_word x) _ set_it q)
+
+pub set_stops : (v w : PortValue) (f owner gpfn : ℕ) (e : Stop) → TwinGet {A = ℕ} v w f owner (Err e) → TwinSet v w f owner gpfn (Err e)
+set_stops v w f owner gpfn (Refused x) twin = twin
+set_stops v w f owner gpfn (Paused x) twin = twin

@@ -1,24 +1,22 @@
--- A machine-to-physical word that is set.
-use Rattle.std.specs.Prelude.{ℕ, ◌<◌, List, [], ◌∷◌, Result, Ok, Err}
-use Rattle.xp_words.specs.declared.reply.Stop.{Stop}
+-- The deeds of a machine-to-physical word that is set.
+use Rattle.std.specs.Prelude.{ℕ, List, [], ◌∷◌, Result, Ok, Err}
 use Rattle.xp_words.specs.Machine.{Machine}
-use Rattle.xp_board.specs.declared.holdings.Made.{Made}
-use Rattle.xp_board.specs.Told.{PortValue}
-use Rattle.frame_words.specs.Pieces.{Deed, SetsM2p, Serves, Calm}
-use Rattle.frame_words.specs.References.{FoundOpen, ReferenceCause}
+use Rattle.xp_words.specs.declared.reply.Stop.{Stop}
+use Rattle.xp_words.specs.declared.place.Place.TheVariants.{Refs, M2p}
+use Rattle.xp_board.specs.declared.step.Act.TheVariants.{Store}
+use Rattle.xp_board.specs.Told.{PortValue, told_word}
+use Rattle.step_maker.specs.Plain.{Words, change}
+use Rattle.answer_fits.specs.Twins.{Twin}
+use Rattle.frame_words.specs.Plain.{got, put, refer}
+use Rattle.answer_fits.specs.Answers.{Deed, SetsM2p, missed}
 
-abbrev pub map_deeds : ℕ → ℕ → Result (Unit {0}) Stop → List Deed
-map_deeds f gpfn (Ok done) = SetsM2p f gpfn ∷ []
-map_deeds f gpfn (Err e) = []
+abbrev pub deeds_of : Machine → ℕ → ℕ → Result (Unit {0}) Stop → List Deed
+deeds_of n f gpfn (Ok done) = SetsM2p f gpfn ∷ []
+deeds_of n f gpfn (Err e) = missed n e
 
--- Ok: the frame was found the domain's own, with room for a reference. Else the cause.
-abbrev pub ShowsMap : Machine → ℕ → ℕ → List Made → Result (Unit {0}) Stop → Type 0
-ShowsMap n f owner made (Ok done) = (f < n.frames) × FoundOpen n f owner made
-ShowsMap n f owner made (Err e) = ReferenceCause n f owner made e
+-- a reference, the word, and the reference back
+abbrev pub set_word : ℕ → ℕ → Words → Words
+set_word f gpfn m = put f (change (Store gpfn) (M2p f) (got f m))
 
--- the steps from v to w, and what they show of the answer
-pub record Maps (v w : PortValue) (f owner gpfn : ℕ) (answer : Result (Unit {0}) Stop) : Type 0 where
-  pub made : List Made
-  pub piece : Serves v w f (map_deeds f gpfn answer) made
-  pub calm : Calm v.post.machine made
-  pub shows : ShowsMap v.post.machine f owner made answer
+abbrev pub TwinSet : PortValue → PortValue → ℕ → ℕ → ℕ → Result (Unit {0}) Stop → Type 0
+TwinSet v w f owner gpfn answer = Twin v w (refer v.post.machine owner f (told_word v (Refs f))) (set_word f gpfn (told_word v)) answer

@@ -1,18 +1,13 @@
--- The elements of `mmu_update`: what each asks for, and which steps fit its answer.
-use Rattle.std.specs.Prelude.{◌≡◌, ◌⊎◌, ℕ, ◌/◌, ◌%◌, ◌<◌, ◌==◌, nat_le, if◌then◌else◌, List, [], ◌∷◌, Result, Ok, Err}
+-- The elements of `mmu_update`: what each asks for, and what a guest sees of it.
+use Rattle.std.specs.Prelude.{ℕ, ◌/◌, ◌%◌, ◌==◌, nat_le, if◌then◌else◌, List, [], ◌∷◌, Some, None, Result, Ok, Err}
 use Rattle.xp_words.specs.Machine.{Machine}
+use Rattle.xp_words.specs.declared.kind.PageType.TheVariants.{Writable}
 use Rattle.xp_words.specs.declared.ops.Pair.{Pair}
 use Rattle.xp_words.specs.declared.reply.Stop.{Stop}
-use Rattle.xp_words.specs.declared.reply.Stop.TheVariants.{Refused}
-use Rattle.xp_words.specs.declared.reply.Refusal.TheVariants as refusals
-use Rattle.xp_board.specs.declared.holdings.Made.{Made}
-use Rattle.xp_board.specs.Lists.{EachOf}
-use Rattle.xp_board.specs.Told.{PortValue, Went}
-use Rattle.frame_words.specs.Hands.{SameOrFlushed}
-use Rattle.frame_words.specs.Pieces.{Deed, SetsM2p, Writes, deeds, StaysIn, Calm, FlushesFor}
-use Rattle.frame_words.specs.References.{FoundOpen}
-use Rattle.frame_words.specs.References as references
-use Rattle.frame_types.specs.Writable as writable
+use Rattle.xp_words.specs.declared.reply.Refusal.TheVariants.{BadRange, BadCommand}
+use Rattle.answer_fits.specs.Answers.{Deed, Writes, missed}
+use Rattle.answer_fits.specs.Asked.{Request, of_frame, of_numbers}
+use Rattle.m2p_map.specs.Maps as maps
 use Rattle.mmu_update.specs.declared.element.Element.{Element}
 use Rattle.mmu_update.specs.declared.element.Element.TheVariants.{SetM2p, Write, Misaligned, Unknown}
 
@@ -27,42 +22,17 @@ element_of p =
     else if p.ptr % 4 == 3 then Unknown
     else written p
 
--- ---- which steps fit its answer
--- the one deed of an element that is done; one that is not has none
-abbrev pub deeds_of : Element → Result (Unit {0}) Stop → List Deed
-deeds_of (SetM2p f w) (Ok done) = SetsM2p f w ∷ []
-deeds_of (Write f i w) (Ok done) = Writes f i w ∷ []
-deeds_of _ _ = []
+-- the frame that it names, of domain d, and the type; or the refusal that its numbers alone call for
+abbrev pub request_of : ℕ → Element → Request
+request_of d (SetM2p f w) = of_frame f d None
+request_of d (Write f i w) = of_frame f d (Some Writable)
+request_of d Misaligned = of_numbers BadRange
+request_of d Unknown = of_numbers BadCommand
 
--- the words of the named frame alone are changed, and nothing is flushed but for it
-abbrev pub Serve : Machine → Element → List Made → Type 0
-Serve n (SetM2p f w) made = EachOf (StaysIn n f) made × Calm n made
-Serve n (Write f i w) made = EachOf (StaysIn n f) made × FlushesFor n f made
-Serve n Misaligned made = made ≡ []
-Serve n Unknown made = made ≡ []
-
--- ordinary memory: the frame was found the domain's own, with room for a reference, and then one that can be written
-abbrev pub ShowsWrite : Machine → ℕ → ℕ → ℕ → List Made → Result (Unit {0}) Stop → Type 0
-ShowsWrite n s d f made (Ok done) = (f < n.frames) × FoundOpen n f d made × writable.ShowsType n s f d made (Ok done)
-ShowsWrite n s d f made (Err e) = references.ReferenceCause n f d made e ⊎ writable.TypeCause n s f d made e
-
--- why vCPU s of that domain answers so: by the numbers of the pair, or by what these steps found
-abbrev pub ShowsElement : Machine → ℕ → ℕ → Element → List Made → Result (Unit {0}) Stop → Type 0
-ShowsElement n s d (SetM2p f w) made (Ok done) = (f < n.frames) × FoundOpen n f d made
-ShowsElement n s d (SetM2p f w) made (Err e) = references.ReferenceCause n f d made e
-ShowsElement n s d (Write f i w) made answer = ShowsWrite n s d f made answer
-ShowsElement n s d Misaligned made answer = answer ≡ Err (Refused refusals.BadRange)
-ShowsElement n s d Unknown made answer = answer ≡ Err (Refused refusals.BadCommand)
-
--- the answer to an element fits the steps that were made for it
-pub record ElementFits (n : Machine) (s d : ℕ) (p : Pair) (made : List Made) (answer : Result (Unit {0}) Stop) : Type 0 where
-  pub deeds_are : deeds n made ≡ deeds_of (element_of p) answer
-  pub serve : Serve n (element_of p) made
-  pub shows : ShowsElement n s d (element_of p) made answer
-
--- the steps from v to w answer an element, and leave nothing in hand
-pub record Updates (v w : PortValue) (d : ℕ) (p : Pair) (answer : Result (Unit {0}) Stop) : Type 0 where
-  pub made : List Made
-  pub went : Went v made w
-  pub fits : ElementFits v.post.machine v.post.vcpu d p made answer
-  pub hand : SameOrFlushed v.holdings w.holdings
+-- ---- what a guest sees
+-- the one deed of an element that is done; one that is not has none, but for the exchange that was lost
+abbrev pub deeds_of : Machine → Element → Result (Unit {0}) Stop → List Deed
+deeds_of n (SetM2p f w) answer = maps.deeds_of n f w answer
+deeds_of n (Write f i w) (Ok done) = Writes f i w ∷ []
+deeds_of n _ (Ok done) = []
+deeds_of n _ (Err e) = missed n e

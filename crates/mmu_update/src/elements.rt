@@ -1,10 +1,14 @@
-ghost use Rattle.std.specs.Prelude.{◌≡◌, ◌<◌, true, Some, None};
-ghost use Rattle.xp_board.specs.Hands.{IsEmptyHand};
+ghost use Rattle.std.specs.Prelude.{◌≡◌, ◌<◌, Some, Err, IfErr};
+ghost use Rattle.xp_words.specs.declared.kind.PageType.TheVariants.{Writable};
+ghost use Rattle.xp_words.specs.declared.reply.Refusal.{Refusal};
+ghost use Rattle.xp_words.specs.declared.reply.Stop.TheVariants.{Refused};
 ghost use Rattle.xp_board.specs.Readings.{domain_of};
-ghost use Rattle.xp_board.specs.Told.{is_telling};
-ghost use Rattle.frame_types.specs.Writable.{IsNotLost};
-ghost use Rattle.mmu_update.specs.Elements.{Updates};
-ghost use Rattle.mmu_update.specs.Writing.{WritesWord};
+ghost use Rattle.step_maker.specs.Holds.{FlushedSame, Rests};
+ghost use Rattle.answer_fits.specs.Answers.{Serves, Stops};
+ghost use Rattle.answer_fits.specs.Asked.{of_frame};
+ghost use Rattle.mmu_update.specs.Elements.{deeds_of, element_of, request_of};
+ghost use Rattle.mmu_update.specs.Plain.{TwinUpdate, TwinWrite};
+ghost use Rattle.mmu_update.specs.declared.element.Element.TheVariants.{Write};
 
 use crate::element::{Element, element_of};
 use frame_types::{drop_plain, take_writable};
@@ -21,14 +25,13 @@ fn write_memory<P: Port>(
     index: u16,
     word: u64,
 ) -> Result<(), Stop>
-    requires running { (P.value port.old).holdings.run ≡ Some 0 }
-    requires landed { (P.value port.old).holdings.walk ≡ None }
-    requires empty { IsEmptyHand (P.value port.old).holdings }
+    requires rests { Rests (P.value port.old) }
     requires own { domain ≡ domain_of (P.value port.old).post.machine (P.value port.old).post.vcpu }
     requires index { index < 512 }
-    ensures post { (P.value port.new).post ≡ (P.value port.old).post }
-    ensures writes { WritesWord (P.value port.old) (P.value port.new) domain f index word result }
-    ensures told { is_telling (P.value port.old) ≡ true → IsNotLost result }
+    ensures serves { Serves (P.value port.old) (P.value port.new) (of_frame f domain (Some Writable)) (deeds_of (P.value port.old).post.machine (Write f index word) result) }
+    ensures stops { IfErr result (λ e. Stops (P.value port.old) (P.value port.new) (of_frame f domain (Some Writable)) e) }
+    ensures hand { FlushedSame (P.value port.old) (P.value port.new) }
+    ensures plain { TwinWrite (P.value port.old) (P.value port.new) domain f index word result }
 {
     let frame = get_ref(port, f, domain)?;
     take_writable(port, frame, domain)?;
@@ -40,15 +43,16 @@ fn write_memory<P: Port>(
 /// One element of `mmu_update`, for frames of the caller's own domain. A frame that is a table is refused, as no
 /// table is made yet.
 pub fn update<P: Port>(port: &mut P, domain: u16, pair: Pair) -> Result<(), Stop>
-    requires running { (P.value port.old).holdings.run ≡ Some 0 }
-    requires landed { (P.value port.old).holdings.walk ≡ None }
-    requires empty { IsEmptyHand (P.value port.old).holdings }
+    requires rests { Rests (P.value port.old) }
     requires own { domain ≡ domain_of (P.value port.old).post.machine (P.value port.old).post.vcpu }
-    ensures post { (P.value port.new).post ≡ (P.value port.old).post }
-    // The answer fits the steps, which leave nothing in hand.
-    ensures updates { Updates (P.value port.old) (P.value port.new) domain pair result }
-    // On a board that tells all words nothing is lost.
-    ensures told { is_telling (P.value port.old) ≡ true → IsNotLost result }
+    // The steps serve what the element asks for, and show why it stops.
+    ensures serves { Serves (P.value port.old) (P.value port.new) (request_of domain (element_of pair)) (deeds_of (P.value port.old).post.machine (element_of pair) result) }
+    ensures stops { IfErr result (λ e. Stops (P.value port.old) (P.value port.new) (request_of domain (element_of pair)) e) }
+    // What its numbers alone refuse is refused.
+    ensures numbers { (x : Refusal) → (request_of domain (element_of pair)).by_numbers ≡ Some x → result ≡ Err (Refused x) }
+    ensures hand { FlushedSame (P.value port.old) (P.value port.new) }
+    // On a board that tells all words it answers, and leaves them, as its plain meaning says.
+    ensures plain { TwinUpdate (P.value port.old) (P.value port.new) domain (element_of pair) result }
 {
     match element_of(pair) {
         Element::SetM2p { frame, gpfn } => set_m2p(port, frame, domain, gpfn),

@@ -1,15 +1,17 @@
-use Rattle.std.proofs.Common.{◌<◌, subst}
-use Rattle.m2p_map.proofs.Mapping.{held, mapped_hand, mapped_piece}
+use Rattle.m2p_map.proofs.Mapping.{held, given_back, maps_at, set_twin, set_stops}
 use Rattle.m2p_map.proofs.set_m2p.Goals as goal
 
 pub store_m2p-requires-clause-held : goal.store_m2p-requires-clause-held
-store_m2p-requires-clause-held g c = held _ _ c.in_ok-frame.ensures.hand.held
+store_m2p-requires-clause-held g c = held _ _ c.in_ok-frame.ensures.gives
 
-pub returns-clause-piece : goal.returns-clause-piece
-returns-clause-piece g c =
-    let v = g.P.Port.value c.args.port.now in
-    let frame = subst (λ k. k < v.post.machine.frames) c.in_ok-frame.ensures.frame.0 c.in_ok-frame.ensures.frame.1 in
-    mapped_piece _ _ _ _ c.args.f c.args.owner c.args.gpfn _ _ c.in_ok-frame.ensures.frame.0 frame c.in_ok-frame.ensures.piece c.store_m2p.ensures.made c.put_ref.ensures.puts
+pub returns-clause-serves : goal.returns-clause-serves
+returns-clause-serves g c = maps_at _ _ _ _ _ c.args.f c.args.owner c.args.gpfn _ c.in_ok-frame.ensures.frame.0 c.in_ok-frame.ensures.serves c.in_ok-frame.ensures.gives c.store_m2p.ensures.moves c.put_ref.ensures.serves
 
 pub returns-clause-hand : goal.returns-clause-hand
-returns-clause-hand g c = mapped_hand _ _ _ _ _ _ c.in_ok-frame.ensures.hand c.store_m2p.ensures.hand c.put_ref.ensures.puts.hand
+returns-clause-hand g c =
+    given_back (g.P.Port.value c.args.port.now) (g.P.Port.value c.get_ref.new.port) (g.P.Port.value c.store_m2p.new.port) (g.P.Port.value c.put_ref.new.port) c.in_ok-frame.frame c.args.owner
+    c.in_ok-frame.ensures.hand c.store_m2p.ensures.hand c.put_ref.ensures.hand
+
+pub returns-clause-plain : goal.returns-clause-plain
+returns-clause-plain g c =
+    set_twin _ _ _ (g.P.Port.value c.put_ref.new.port) _ c.args.f c.args.owner c.args.gpfn _ _ _ c.in_ok-frame.ensures.frame.0 c.in_ok-frame.ensures.serves c.in_ok-frame.ensures.plain c.store_m2p.ensures.moves c.put_ref.ensures.plain
