@@ -1,8 +1,11 @@
 -- What a request within another asks and finds is a cause for the other too: one case for each refusal and pause.
-use Rattle.std.proofs.Common.{◌≡◌, ◌⊎◌, ℕ, Bool, true, false, Option, Some, None, inl, inr, refl, arith}
+use Rattle.std.proofs.Common.{◌≡◌, ◌≢◌, ◌⊎◌, ℕ, Bool, true, false, Option, Some, None, inl, inr, refl, subst, ◌∙◌, arith}
 use Rattle.xp_words.specs.Machine.{Machine}
 use Rattle.xp_words.specs.declared.place.Place.{Place}
 use Rattle.xp_words.specs.declared.place.Place.TheVariants.{Clock, Pages, Life, Vcpu, Refs, Kind, M2p, Cell, Map, Priv}
+use Rattle.xp_words.specs.RefWords.{ref_read}
+use Rattle.xp_words.specs.declared.kind.PageType.{PageType}
+use Rattle.xp_board.specs.Readings.{domain_of}
 use Rattle.xp_words.specs.declared.reply.Refusal.{Refusal}
 use Rattle.xp_words.specs.declared.reply.Refusal.TheVariants as r
 use Rattle.xp_words.specs.declared.reply.Pause.{Pause}
@@ -13,11 +16,11 @@ use Rattle.xp_board.specs.declared.holdings.Holdings.{Holdings}
 use Rattle.xp_board.specs.declared.step.Act.{Act}
 use Rattle.xp_board.specs.declared.step.Act.TheVariants.{Load, Cas, Store, Add, Max}
 use Rattle.answer_fits.specs.Answers.{Causes}
-use Rattle.answer_fits.specs.Asked.{Request, IsAsked, of, back, Within, HasNoMore, NoMore, Passed, checked, old, Implies}
+use Rattle.answer_fits.specs.Asked.{Request, IsAsked, of, back, Within, HasNoMore, NoMore, Passed, checked, given, old, Implies}
 use Rattle.answer_fits.specs.Finding.{Finding, Found, FoundWith, Did}
-use Rattle.answer_fits.specs.Licences.{Licensed, HasTaken}
-use Rattle.answer_fits.specs.Pauses.{Awaits, Progress, Loses, Clear, idle, flushed, own, barred, AskedTo, MayReach, entry, live}
-use Rattle.answer_fits.specs.Reasons.{Awaited, marked, other, free, begun, MayFlush, MayCountPages, taken, MayMark, IsRefChange, MayType, MayWriteOwn, MayChangeVcpu, Reason, HasReason}
+use Rattle.answer_fits.specs.Licences.{IsNewWord, IsOwnedBy, Licensed, HasTaken}
+use Rattle.answer_fits.specs.Pauses.{Awaits, Progress, Loses, IsWanted, Clear, idle, flushed, own, barred, AskedTo, entry, live}
+use Rattle.answer_fits.specs.Reasons.{Awaited, marked, other, free, begun, MayFlush, NeedsFlush, MayCountPages, MayReach, taken, MayMark, IsPagesChange, IsRefChange, MayType, MayWriteOwn, MayChangeVcpu, Reason, HasReason}
 use Rattle.answer_fits.specs.Reasons as reasons
 
 module _ (n : Machine) (s : ℕ) (q : Request) (F : Finding) (t : Request) (G : Finding) (w : Within n s q F t G) where
@@ -50,21 +53,30 @@ module _ (n : Machine) (s : ℕ) (q : Request) (F : Finding) (t : Request) (G : 
   asks f (of o k a) = of o k (w.asked f o k a)
   asks f (back a) = w.backs f a
 
-  passed : (f o : ℕ) (h : Holdings) → Passed q f o h → Passed t f o h
-  passed f o h (checked a b) = checked a b
-  passed f o h (old a) = old (w.contexts a)
+  passed : (f o : ℕ) (h : Holdings) → Passed n q F f o h → Passed n t G f o h
+  passed f o h (checked a) = checked a
+  passed f o h (given k a b) = given k a b
+  passed f o h (old v k x a b c d) = old v k x (w.contexts a) (found _ x b) c d
 
   -- ---- why a word may change
   awaited : (whose : Option ℕ) (stamp : ℕ) → Awaited n s q F whose stamp → Awaited n s t G whose stamp
-  awaited whose stamp (marked f x o k h a b c d e i) = marked f x o k h (w.asked f o k a) (found_with _ x h b) (passed f o h c) d e i
+  awaited whose stamp (marked f x o want h a b c d e i j) = marked f x o want h (w.asked f o (Some want) a) (found_with _ x h b) (passed f o h c) d e i j
   awaited whose stamp (other f x o want h a b c d e i j) = other f x o want h (w.asked f o (Some want) a) (found_with _ x h b) (passed f o h c) d e i j
   awaited whose stamp (free f x k o a b c d e) = free f x k (w.pages k o) (asks f a) (found _ x b) c d e
   awaited whose stamp (begun a b c) = begun (w.flushes a) (found _ stamp b) c
 
+  needing : (h : Holdings) → NeedsFlush n s q F h → NeedsFlush n s t G h
+  needing h (reasons.own a) = reasons.own (w.flushes a)
+  needing h (reasons.awaited o x a b) = reasons.awaited o x (awaited o x a) b
+
   flushing : (h : Holdings) → MayFlush n s q F h → MayFlush n s t G h
-  flushing h (reasons.own a) = reasons.own (w.flushes a)
+  flushing h (reasons.needed a) = reasons.needed (needing h a)
   flushing h (reasons.asked x a b) = reasons.asked x a b
-  flushing h (reasons.awaited o x a b) = reasons.awaited o x (awaited o x a) b
+
+  reaching : (o : Option ℕ) (v : ℕ) → MayReach n o F v → MayReach n o G v
+  reaching None v a = a
+  reaching (Some o) v (inl a) = inl a
+  reaching (Some o) v (inr a) = inr (a.0, found _ a.0 a.1, a.2)
 
   counting : (d : ℕ) → MayCountPages n s q F d → MayCountPages n s t G d
   counting d (reasons.found f x a b c) = reasons.found f x (asks f a) (found _ x b) c
@@ -77,16 +89,21 @@ module _ (n : Machine) (s : ℕ) (q : Request) (F : Finding) (t : Request) (G : 
   changing (Add x) a = tt
   changing (Max x) a = tt
 
+  paging : (b : Act) → IsPagesChange q b → IsPagesChange t b
+  paging (Cas e x) a = (a.0, w.pages a.0 a.1)
+  paging Load a = tt
+  paging (Store x) a = tt
+  paging (Add x) a = tt
+  paging (Max x) a = tt
+
   marking : (f x y : ℕ) → MayMark n s q F f x y → MayMark n s t G f x y
   marking f x y a = (w.locks a.0, asks f a.1, a.2)
 
   typing : (f : ℕ) (b : Act) (x : ℕ) → MayType n s q F f b x → MayType n s t G f b x
   typing f (Cas e y) x (inl a) = inl (a.0, w.asked f a.0 _ a.1)
   typing f (Cas e y) x (inr a) = inr (marking f e y a)
-  typing f (Store y) x (inl a) = inl (a.0, w.asked f a.0 _ a.1)
-  typing f (Store y) x (inr a) = inr (marking f x y a)
-  typing f (Add y) x (inl a) = inl (a.0, w.asked f a.0 _ a.1)
-  typing f (Add y) x (inr a) = inr (marking f x x a)
+  typing f (Store y) x a = (asks f a.0, a.1)
+  typing f (Add y) x a = asks f a
   typing f Load x a = a
   typing f (Max y) x a = a
 
@@ -96,7 +113,7 @@ module _ (n : Machine) (s : ℕ) (q : Request) (F : Finding) (t : Request) (G : 
   writing v k h (inr a) = inr (w.destroys _ a)
 
   of_vcpu : (v k : ℕ) (b : Act) (h : Holdings) → MayChangeVcpu n s q F v k b h → MayChangeVcpu n s t G v k b h
-  of_vcpu v k (Max x) h a = (a.0, (a.1.0, awaited a.1.0 x a.1.1), a.2)
+  of_vcpu v k (Max x) h a = (a.0, (a.1.0, awaited a.1.0 x a.1.1, reaching a.1.0 v a.1.2), a.2)
   of_vcpu v k (Cas e x) h a = writing v k h a
   of_vcpu v k (Store x) h a = writing v k h a
   of_vcpu v k (Add x) h a = writing v k h a
@@ -104,7 +121,7 @@ module _ (n : Machine) (s : ℕ) (q : Request) (F : Finding) (t : Request) (G : 
 
   pub reason : (p : Place) (b : Act) (x : ℕ) (h : Holdings) → Reason n s q F p b x h → Reason n s t G p b x h
   reason Clock b x h a = flushing h a
-  reason (Pages d) b x h a = counting d a
+  reason (Pages d) b x h a = (counting d a.0, paging b a.1)
   reason (Life d) b x h a = w.destroys d a
   reason (Vcpu v k) b x h a = of_vcpu v k b h a
   reason (Refs f) b x h a = (asks f a.0, changing b a.1)
@@ -128,7 +145,7 @@ module _ (n : Machine) (s : ℕ) (q : Request) (F : Finding) (t : Request) (G : 
   -- ---- pauses
   progress : Progress F → Progress G
   progress (entry m a b) = entry m (w.moments m a) b
-  progress (live m f x a b c d) = live m f x (w.moments m a) b c d
+  progress (live m f x y a b c d e i) = live m f x y (w.moments m a) b c d (found _ y e) i
 
   clear : (o : Option ℕ) (stamp v : ℕ) → Clear n s o stamp F v → Clear n s o stamp G v
   clear o stamp v (idle x a b) = idle x (found _ x a) b
@@ -136,21 +153,21 @@ module _ (n : Machine) (s : ℕ) (q : Request) (F : Finding) (t : Request) (G : 
   clear o stamp v (own x y a b c) = own x y a (did _ _ y b) c
   clear o stamp v (barred d x a b c e) = barred d x a b (found _ x c) e
 
-  reaching : (o : Option ℕ) (v : ℕ) → MayReach n o F v → MayReach n o G v
-  reaching None v a = a
-  reaching (Some o) v (inl a) = inl a
-  reaching (Some o) v (inr a) = inr (a.0, found _ a.0 a.1, a.2)
-
   cleared : (o : Option ℕ) (stamp v : ℕ) → Clear n s o stamp F v ⊎ AskedTo stamp F v → Clear n s o stamp G v ⊎ AskedTo stamp G v
   cleared o stamp v (inl a) = inl (clear o stamp v a)
   cleared o stamp v (inr a) = inr (record { before = a.before; did = did _ _ a.before a.did })
 
+  wanted : (o : Option PageType) (x : ℕ) → IsWanted q o x → IsWanted t o x
+  wanted (Some k) x a = a
+  wanted None x (inl a) = inl (w.locks a)
+  wanted None x (inr a) = inr (w.contexts a)
+
   pub awaits : (x : Pause) → Awaits n s q F x → Awaits n s t G x
   awaits Due a = (w.rose a.0, progress a.1)
-  awaits (Lost place e x) a = (a.0, a.1, (loses a.0 e x a.2.0, reason a.0 (Cas e a.2.0.new) x a.2.0.exchange.hand a.2.1))
-  awaits (Busy f x) (inl a) = inl (a.0, a.1, a.2, w.asked f a.0 a.1 a.3, found_with _ x a.2 a.4, passed f a.0 a.2 a.5, a.6, a.7)
-  awaits (Busy f x) (inr (d, a, inl b)) = inr (d, w.destroys d a, inl (found _ x b.0, b.1))
-  awaits (Busy f x) (inr (d, a, inr b)) = inr (d, w.destroys d a, inr (found _ x b.0, b.1))
+  awaits (Lost place e x) a = (a.0, a.1, a.2, (loses a.0 e x a.3.0, reason a.0 (Cas e a.3.0.new) x a.3.0.exchange.hand a.3.1))
+  awaits (Busy f x) (inl a) = inl (a.0, a.1, a.2, w.asked f a.0 a.1 a.3, found_with _ x a.2 a.4, passed f a.0 a.2 a.5, a.6, wanted a.1 x a.7, a.8)
+  awaits (Busy f x) (inr (d, a, (y, b, c, inl e))) = inr (d, w.destroys d a, (y, found _ y b, c, inl (found _ x e.0, e.1)))
+  awaits (Busy f x) (inr (d, a, (y, b, c, inr e))) = inr (d, w.destroys d a, (y, found _ y b, c, inr e))
   awaits (Flush v stamp x) a =
       (
         a.0,
@@ -182,37 +199,50 @@ module _ (n : Machine) (s : ℕ) (q : Request) (F : Finding) (t : Request) (G : 
           typed = λ off. let one = a.typed (not_within q.entries t.entries w.entries off) in let two = (less f).typed off in omega (arith, one, two);
         }
 
+    new_word : (f i y e : ℕ) → IsNewWord F f i y e → IsNewWord G f i y e
+    new_word f i y e (inl a) = inl a
+    new_word f i y e (inr a) = inr (a.0, found _ a.0 a.1, a.2)
+
+    caller : (c : ℕ) → q.owner ≡ t.owner → (c ≡ domain_of n s) ⊎ (c ≡ q.owner) → (c ≡ domain_of n s) ⊎ (c ≡ t.owner)
+    caller c same (inl a) = inl a
+    caller c same (inr a) = inr (a ∙ same)
+
+    other_or : (c d : ℕ) → (c ≢ d) ⊎ (q.destroys ≡ Some d) → (c ≢ d) ⊎ (t.destroys ≡ Some d)
+    other_or c d (inl a) = inl a
+    other_or c d (inr a) = inr (w.destroys d a)
+
     pub licensed : (x : Refusal) → Licensed n s b q F x → Licensed n s c t G x
     licensed (r.NoFrame f) a = (asks f a.0, a.1)
     licensed (r.WrongOwner f x) (o, k, a, b, inl c) = (o, k, w.asked f o k a, found _ x b, inl c)
     licensed (r.WrongOwner f x) (o, k, a, b, inr c) = (o, k, w.asked f o k a, found _ x b, inr (w.returns c.0, c.1))
     licensed (r.OtherType f k x) (inl a) = inl (a.0, a.1, w.asked f a.0 (Some k) a.2, found_with _ x a.1 a.3, passed f a.0 a.1 a.4, a.5)
     licensed (r.OtherType f k x) (inr a) = inr (asks f a.0, found _ x a.1, w.walks a.2, a.3, a.4)
-    licensed (r.Reserved f i e) (inl a) = inl (a.0, found_with _ e a.0 a.1, a.2)
-    licensed (r.Reserved f i e) (inr a) = inr (asks f a.0, w.index i a.1, w.new_word e a.2)
+    licensed (r.Reserved f i e) (inl a) = inl (a.0, w.entries a.1, found_with _ e a.0 a.2, a.3)
+    licensed (r.Reserved f i e) (inr a) = inr (a.0, a.1, w.names (inr (inr (i, a.3))) f a.2, w.index i a.3, w.new_word a.0 a.4, w.moments a.1 a.5, a.6, new_word f i a.0 e a.7)
     licensed (r.CountFull f x) a = (a.0, a.1, a.2, w.asked f a.0 a.1 a.3, found_with _ x a.2 a.4, a.5, no_more f a.2 a.6)
-    licensed (r.AlreadyPinned x) a = (a.0, a.1, a.2, a.3, w.asked a.0 a.1 (Some a.2) a.4, found_with _ x a.3 a.5, passed a.0 a.1 a.3 a.6, a.7, a.8)
-    licensed (r.NotPinned x) a = (a.0, a.1, a.2, a.3, w.asked a.0 a.1 a.2 a.4, found_with _ x a.3 a.5, passed a.0 a.1 a.3 a.6, a.7)
+    licensed (r.AlreadyPinned x) a = (a.0, a.1, a.2, a.3, w.asked a.0 a.1 (Some a.2) a.4, found_with _ x a.3 a.5, passed a.0 a.1 a.3 a.6, w.pins a.7, w.names (inl a.7) a.0 a.8, a.9, a.10)
+    licensed (r.NotPinned x) a = (a.0, a.1, a.2, a.3, w.asked a.0 a.1 a.2 a.4, found_with _ x a.3 a.5, passed a.0 a.1 a.3 a.6, w.pins a.7, w.names (inl a.7) a.0 a.8, a.9)
     licensed (r.Slot i) (a, inl b) = (a, inl (w.by_numbers _ b))
     licensed (r.Slot i) (a, inr b) = (a, inr (b.0, b.1, asks b.0 b.2, found _ b.1 b.3, b.4, w.index i b.5))
-    licensed (r.NotMapped level e) (inl a) = inl (a.0, a.1, (a.2.0, a.2.1, found _ 0 a.2.2))
+    licensed (r.NotMapped level e) (inl a) = inl (a.0, a.1, w.walks a.2, (a.3.0, a.3.1, found _ 0 a.3.2))
     licensed (r.NotMapped level e) (inr a) = inr (a.0, a.1, w.walks a.2, (a.3.0, a.3.1, found _ e a.3.2, a.3.3))
     licensed (r.ReadOnly e) (a, inl b) = (w.walks a, inl (b.0, b.1, found _ e b.2, b.3))
     licensed (r.ReadOnly e) (a, inr b) = (w.walks a, inr (b.0, b.1, asks b.0 b.2, found _ b.1 b.3, b.4))
     licensed r.NonCanonical a = w.by_numbers _ a
-    licensed (r.NoPrivilege c d) a = (a.0, a.1, (a.2.0, found _ a.2.0 a.2.1, a.2.2))
+    licensed (r.NoPrivilege c d) a = ((w.over d a.0).0, caller c (w.over d a.0).1 a.1, other_or c d a.2, (a.3.0, found _ a.3.0 a.3.1, a.3.2))
     licensed r.NoDomain a = w.by_numbers _ a
-    licensed (r.Dying d x) a = (found _ x a.0, a.1)
+    licensed (r.Dying d x) a = ((w.over d a.0).0, found _ x a.1, a.2)
     licensed (r.DomainFull x) a = (a.0, found_with _ x a.0 a.1, a.2, (a.3.0, w.pages _ a.3.1, a.3.2))
     licensed r.NoFree a = (a.0, w.block _ a.1, λ b inside. taken_in a.0 b (a.2 b inside))
     licensed r.BadRange (inl a) = inl (w.by_numbers _ a)
-    licensed r.BadRange (inr a) = inr (a.0, a.1, w.index _ a.2, found _ a.1 a.3, a.4)
-    licensed (r.BadDescriptor f i x) (a, inl b) = (a, inl (asks f b.0, found _ x b.1))
-    licensed (r.BadDescriptor f i x) (a, inr b) = (a, inr (w.index i b.0, w.new_word x b.1))
+    licensed r.BadRange (inr a) = inr (a.0, a.1, w.ldt_page _ a.2, found _ a.1 a.3, a.4)
+    licensed (r.BadDescriptor f i x) (a, inl b) = (a, inl (b.0, asks f b.1, found_with _ x b.0 b.2, b.3))
+    licensed (r.BadDescriptor f i x) (a, inr b) = (a, inr (w.names (inr (inr (i, b.1))) f b.0, w.index i b.1, w.descriptor x b.2))
     licensed r.BadCommand a = w.by_numbers _ a
-    licensed (r.Clock x) a = (a.0, (a.1.0, found_with _ x a.1.0 a.1.1, flushing a.1.0 a.1.2))
+    licensed (r.Clock x) a = (a.0, (a.1.0, found_with _ x a.1.0 a.1.1, needing a.1.0 a.1.2))
     licensed r.BatchLong a = w.by_numbers _ a
-    licensed (r.InUse f x) a = (asks f a.0, (a.1.0, found_with _ x a.1.0 a.1.1, a.1.2, no_more f a.1.0 a.1.3))
+    licensed (r.InUse f x) a =
+        (w.alone a.0, w.names (inr (inl a.0)) f a.1, subst (λ o. IsOwnedBy o (ref_read x)) (w.owner a.0) a.2, (a.3.0, found_with _ x a.3.0 a.3.1, a.3.2, no_more f a.3.0 a.3.3))
 
     pub causes : (e : Stop) → Causes n s b q F e → Causes n s c t G e
     causes (Refused x) a = licensed x a

@@ -1,10 +1,12 @@
 -- Pieces of steps one behind the other, and what they show of an answer.
-use Rattle.std.proofs.Common.{◌≡◌, ℕ, List, [], ◌∷◌, ◌++◌, ◌==◌, if◌then◌else◌, Option, Some, None, IsTrue, arith, refl, sym, ap, ◌∙◌, subst, append_assoc, append-nil}
+use Rattle.std.proofs.Common.{◌≡◌, ℕ, List, [], ◌∷◌, ◌++◌, ◌==◌, if◌then◌else◌, Option, Some, None, IsTrue, arith, inl, inr, refl, sym, ap, ◌∙◌, subst, append_assoc, append-nil}
 use Rattle.xp_words.specs.Machine.{Machine}
 use Rattle.std.proofs.lemmas.Bool.Decides.{nat_tests}
 use Rattle.xp_words.specs.declared.place.Place.{Place}
 use Rattle.xp_words.specs.declared.entry.Demand.{Demand}
 use Rattle.xp_words.specs.declared.entry.Demand.TheVariants as demands
+use Rattle.xp_words.specs.Entries.{demand_at}
+use Rattle.xp_words.specs.KindWords.{kind_fields}
 use Rattle.xp_words.specs.declared.kind.PageType.{PageType}
 use Rattle.xp_words.specs.declared.reply.Stop.{Stop}
 use Rattle.xp_board.specs.declared.step.Act.{Act}
@@ -15,8 +17,8 @@ use Rattle.xp_board.specs.Lists.{EachOf}
 use Rattle.xp_board.specs.Told.{Post, PortValue}
 use Rattle.step_maker.specs.Moves.{Moves, Moment, Came, Met}
 use Rattle.step_maker.proofs.Coming.{ran_more, came_post, moment_of, moves_by, moves_came, moves_ran, met_before, met_after}
-use Rattle.answer_fits.specs.Answers.{Changes, is_load, Deed, deeds_by, deeds, Serves, Causes, Stops}
-use Rattle.answer_fits.specs.Asked.{Request, of_frame, IsFor, IsDemandOf, demand_held, context_type, Asked, IsAsked, back, of_back, Within, NoMore, named, demanded, walked, context}
+use Rattle.answer_fits.specs.Answers.{Changes, is_load, Deed, deeds_by, marked_by, deeds, Serves, Causes, Stops}
+use Rattle.answer_fits.specs.Asked.{Request, of_frame, IsFor, IsDemandOf, demand_held, context_type, Asked, IsAsked, back, of_back, IsNaming, Within, NoMore, named, demanded, walked, context, entered, of_old}
 use Rattle.answer_fits.specs.Finding.{Finding}
 use Rattle.answer_fits.specs.Reasons.{HasReason}
 use Rattle.answer_fits.proofs.Growing.{has_reason, causes}
@@ -27,6 +29,10 @@ asked_grows n s r F G more f owner want (named a b c) = named a b c
 asked_grows n s r F G more f owner want (demanded t i w h e a b c) =
     demanded t i w h e (record { moment = a.moment; was = more a.moment a.was; place = a.place; word = a.word; hand = a.hand }) b c
 asked_grows n s r F G more f owner want (walked t i w k a b c d) = walked t i w k (record { moment = a.moment; was = more a.moment a.was; place = a.place; word = a.word }) b c d
+asked_grows n s r F G more f owner want (entered t i w o m a b c d e j k x) = entered t i w o m a b c d (more m e) j k x
+asked_grows n s r F G more f owner want (of_old v k w x c a d e i b j o l) =
+    of_old v k w x c (record { moment = a.moment; was = more a.moment a.was; place = a.place; word = a.word }) d e i
+    (record { moment = b.moment; was = more b.moment b.was; place = b.place; word = b.word }) j o l
 asked_grows n s r F G more f owner want (context v k w x a b c d e i) = context v k w x (record { moment = a.moment; was = more a.moment a.was; place = a.place; word = a.word }) b c d e i
 
 pub same_request : (n : Machine) (s : ℕ) (r : Request) (F G : Finding) → ((m : Moment) → F m → G m) → Within n s r F r G
@@ -48,6 +54,13 @@ same_request n s r F G more =
       entries = λ a. a;
       contexts = λ a. a;
       locks = λ a. a;
+      pins = λ a. a;
+      alone = λ a. a;
+      names = λ a f b. b;
+      owner = λ a. refl;
+      over = λ d a. (a, refl);
+      ldt_page = λ x a. a;
+      descriptor = λ x a. a;
     }
 
 pub each_append : {A : Type 0} (P : A → Type 0) (xs ys : List A) → EachOf P xs → EachOf P ys → EachOf P (ys ++ xs)
@@ -63,7 +76,9 @@ each_map P Q (x ∷ xs) f a = (f x a.0, each_map P Q xs f a.1)
 pub deeds_append : (xs ys : List Moment) → deeds (ys ++ xs) ≡ deeds ys ++ deeds xs
 deeds_append xs [] = refl
 deeds_append xs (y ∷ ys) =
-    ap (λ (ds : List Deed). deeds_by y.place y.act y.found y.hand ++ ds) (deeds_append xs ys) ∙ sym (append_assoc (deeds_by y.place y.act y.found y.hand) (deeds ys) (deeds xs))
+    let d = deeds_by y.place y.act y.kind y.found y.hand in
+    ap (λ (ds : List Deed). marked_by y.mark ++ (d ++ ds)) (deeds_append xs ys) ∙ ap (λ (ds : List Deed). marked_by y.mark ++ ds) (sym (append_assoc d (deeds ys) (deeds xs)))
+    ∙ sym (append_assoc (marked_by y.mark) (d ++ deeds ys) (deeds xs))
 
 -- ---- pieces
 pub serves_came : (v w : PortValue) (r : Request) (ds : List Deed) → Serves v w r ds → Came v w
@@ -88,11 +103,11 @@ serves_within v w r q ds within a = (
 
 -- one step
 pub moves_serves : (v w : PortValue) (r : Request) (p : Place) (a : Act) (kind : StepKind) (mark : Option Mark) (found : ℕ) → Moves v w p a kind mark found →
-    HasReason v.post.machine v.post.vcpu r (Met v w) p a found v.holdings → Serves v w r (deeds_by p a found v.holdings)
+    HasReason v.post.machine v.post.vcpu r (Met v w) p a found v.holdings → Serves v w r (marked_by mark ++ deeds_by p a kind found v.holdings)
 unfolding Serves EachOf moment_of
 moves_serves v w r p a kind mark found m reason = (
   moment_of v p a kind mark found ∷ [],
-  record { ran = moves_ran v w p a kind mark found m; deeds_are = append-nil (deeds_by p a found v.holdings); reasons = (reason, tt) },
+  record { ran = moves_ran v w p a kind mark found m; deeds_are = ap (λ (xs : List Deed). marked_by mark ++ xs) (append-nil (deeds_by p a kind found v.holdings)); reasons = (reason, tt) },
 )
 
 -- ---- answers
@@ -124,7 +139,7 @@ changes_step v u w cs p a kind mark found before m = (
 
 -- steps, and one more behind them
 pub serves_step : (v u w : PortValue) (r : Request) (ds : List Deed) (p : Place) (a : Act) (kind : StepKind) (mark : Option Mark) (found : ℕ) → Serves v u r ds → Moves u w p a kind mark found →
-    HasReason v.post.machine v.post.vcpu r (Met v w) p a found u.holdings → Serves v w r (deeds_by p a found u.holdings ++ ds)
+    HasReason v.post.machine v.post.vcpu r (Met v w) p a found u.holdings → Serves v w r (marked_by mark ++ (deeds_by p a kind found u.holdings ++ ds))
 unfolding Serves EachOf moment_of
 serves_step v u w r ds p a kind mark found before m reason =
     let second : Came u w = moves_came u w p a kind mark found m in
@@ -134,7 +149,7 @@ serves_step v u w r ds p a kind mark found before m reason =
       moment_of u p a kind mark found ∷ before.0,
       record {
         ran = (u, before.1.ran, moves_by u w p a kind mark found m);
-        deeds_are = ap (λ (xs : List Deed). deeds_by p a found u.holdings ++ xs) before.1.deeds_are;
+        deeds_are = ap (λ (xs : List Deed). marked_by mark ++ (deeds_by p a kind found u.holdings ++ xs)) before.1.deeds_are;
         reasons = (
           reason,
           each_map _ _ before.0 (λ m. has_reason n s r (Met v u) r (Met v w) (same_request n s r (Met v u) (Met v w) (λ k x. met_before v u w k x second)) m.place m.act m.found m.hand) before.1.reasons,
@@ -159,7 +174,19 @@ pub asked_less : (n : Machine) (s : ℕ) (r : Request) (F : Finding) (f owner : 
 asked_less n s r F f owner k want x (named a b c) = named a b (for_less k want r.want x c)
 asked_less n s r F f owner k want x (demanded t i w h e a b c) = demanded t i w h e a (demand_less f k want (demand_held t i w h) x b) c
 asked_less n s r F f owner k want x (walked t i w y a b c d) = walked t i w y a b c (for_less k want r.want x d)
+asked_less n s r F f owner k want x (entered t i w o m a b c d e j l y) = entered t i w o m a b c d e j (demand_less f k want (Some (demand_at o.kind i w)) x l) y
+asked_less n s r F f owner k want x (of_old v j w y c a d e i b g o l) = of_old v j w y c a d e i b g o (for_less k want (Some (kind_fields y).kind) x l)
 asked_less n s r F f owner k want x (context v j w y a b c d e i) = context v j w y a b c d e (for_less k want (context_type j) x i)
+
+plain_frame : (f owner : ℕ) (want : Option PageType) → IsNaming (of_frame f owner want) → ⊥
+plain_frame f owner want (inl a) = absurd cc
+plain_frame f owner want (inr (inl a)) = absurd cc
+plain_frame f owner want (inr (inr a)) = absurd (let b = a.1 in cc)
+
+plain_back : (f : ℕ) → IsNaming (of_back f) → ⊥
+plain_back f (inl a) = absurd cc
+plain_back f (inr (inl a)) = absurd cc
+plain_back f (inr (inr a)) = absurd (let b = a.1 in cc)
 
 pub within_frame : (n : Machine) (s f owner : ℕ) (want : Option PageType) (r : Request) (F G : Finding) → ((m : Moment) → F m → G m) → Asked n s r G f owner want → Within n s (of_frame f owner want) F r G
 within_frame n s f owner want r F G more asks =
@@ -180,6 +207,13 @@ within_frame n s f owner want r F G more asks =
       entries = λ a. absurd cc;
       contexts = λ a. absurd cc;
       locks = λ a. absurd cc;
+      pins = λ a. absurd cc;
+      alone = λ a. absurd cc;
+      names = λ a. absurd (plain_frame f owner want a);
+      owner = λ a. absurd cc;
+      over = λ d a. absurd cc;
+      ldt_page = λ x a. absurd cc;
+      descriptor = λ x a. absurd cc;
     }
   where
     only_named : (g o : ℕ) (k : Option PageType) → Asked n s (of_frame f owner want) F g o k → Asked n s r G g o k
@@ -187,6 +221,8 @@ within_frame n s f owner want r F G more asks =
     only_named g o k (demanded t i w h e a b c) = absurd cc
     only_named g o k (walked t i w x a b c d) = absurd cc
     only_named g o k (context v j w x a b c d e i) = absurd cc
+    only_named g o k (entered t i w l m a b c d e j x y) = absurd cc
+    only_named g o k (of_old v j w y a b c d e i l x z) = absurd cc
 
 -- a call that gives a frame back which is asked, of whatever owner
 pub within_back : (n : Machine) (s f : ℕ) (r : Request) (F G : Finding) → ((m : Moment) → F m → G m) → IsAsked n s r G f → Within n s (of_back f) F r G
@@ -208,6 +244,13 @@ within_back n s f r F G more asks =
       entries = λ a. absurd cc;
       contexts = λ a. absurd cc;
       locks = λ a. absurd cc;
+      pins = λ a. absurd cc;
+      alone = λ a. absurd cc;
+      names = λ a. absurd (plain_back f a);
+      owner = λ a. absurd cc;
+      over = λ d a. absurd cc;
+      ldt_page = λ x a. absurd cc;
+      descriptor = λ x a. absurd cc;
     }
   where
     none_named : (g o : ℕ) (k : Option PageType) → Asked n s (of_back f) F g o k → ⊥
@@ -215,6 +258,8 @@ within_back n s f r F G more asks =
     none_named g o k (demanded t i w h e a b c) = cc
     none_named g o k (walked t i w x a b c d) = cc
     none_named g o k (context v j w x a b c d e i) = cc
+    none_named g o k (entered t i w l m a b c d e j x y) = cc
+    none_named g o k (of_old v j w y a b c d e i l x z) = cc
 
 -- steps, and behind them a call whose request is within this one
 pub serves_inner : (v u w : PortValue) (r q : Request) (ds es : List Deed) → Within v.post.machine v.post.vcpu q (Met u w) r (Met v w) → Serves v u r ds → Serves u w q es → Serves v w r (es ++ ds)

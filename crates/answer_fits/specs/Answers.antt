@@ -1,5 +1,9 @@
 -- The steps that a call made, and what they show of its answer.
-use Rattle.std.specs.Prelude.{◌≡◌, ◌&&◌, ◌||◌, ◌==◌, nat_lt, not, is_some, if◌then◌else◌, ℕ, Bool, true, false, List, [], ◌∷◌, ◌++◌, Result, Ok, Err}
+use Rattle.std.specs.Prelude.{◌≡◌, ◌&&◌, ◌||◌, ◌==◌, nat_lt, not, is_some, if◌then◌else◌, ℕ, Bool, true, false, List, [], ◌∷◌, ◌++◌, Option, Some, Result, Ok, Err}
+use Rattle.xp_board.specs.declared.step.StepKind.{StepKind}
+use Rattle.xp_board.specs.declared.step.StepKind.TheVariants as steps
+use Rattle.xp_board.specs.declared.step.Mark.{Mark}
+use Rattle.xp_board.specs.declared.step.Mark.TheVariants as marks
 use Rattle.xp_words.specs.Machine.{Machine}
 use Rattle.xp_words.specs.declared.place.Place.{Place}
 use Rattle.xp_words.specs.declared.place.Place.TheVariants.{Clock, Life, Vcpu, Refs, Kind, M2p, Cell}
@@ -11,7 +15,7 @@ use Rattle.xp_words.specs.declared.reply.Stop.TheVariants.{Refused, Paused}
 use Rattle.xp_board.specs.declared.step.Act.{Act}
 use Rattle.xp_board.specs.declared.step.Act.TheVariants.{Load, Cas, Store}
 use Rattle.xp_board.specs.declared.holdings.Holdings.{Holdings}
-use Rattle.xp_board.specs.Hands.{hand, work_on, claim_of}
+use Rattle.xp_board.specs.Hands.{hand, work_on, lock_on, claim_of}
 use Rattle.xp_board.specs.Lists.{EachOf}
 use Rattle.xp_board.specs.Readings.{allocated_mark, is_context}
 use Rattle.xp_board.specs.Told.{PortValue}
@@ -36,6 +40,11 @@ pub data Deed : Type 0 where
   Gives : (f : ℕ) → Deed
   Returns : (f : ℕ) → Deed
   SetsLife : (d w : ℕ) → Deed
+  -- the translations of a page are dropped
+  Forgets : (page : ℕ) → Deed
+  -- an answer ends, or a turn begins
+  Cuts : (call : ℕ) → Deed
+  BeginsTurn : Deed
   -- an exchange there found another word than it expected
   Misses : (p : Place) → Deed
 
@@ -50,7 +59,7 @@ abbrev pub pin_deed : ℕ → Bool → Bool → List Deed
 pin_deed f old new = only_if (new && not old) (Pins f) ++ only_if (old && not new) (Unpins f)
 
 abbrev pub is_told_word : ℕ → Bool
-is_told_word k = is_context k && not ((k == 2) || (k == 3))
+is_told_word k = (is_context k || (k == 7)) && not ((k == 2) || (k == 3))
 
 -- by an exchange that found what it expected
 abbrev pub exchanged : Place → ℕ → ℕ → List Deed
@@ -69,20 +78,42 @@ stored (Refs f) w h = only_if (allocated_mark w == 1) (Gives f)
 stored (Life d) w h = SetsLife d w ∷ []
 stored _ w h = []
 
--- a lost exchange; where the clock went on meanwhile, that is as good as the own tick
+-- a lost exchange; where the clock went on meanwhile, that is as good as the own tick, and a domain that another vCPU destroys is refused
 abbrev pub missed_at : Place → List Deed
 missed_at Clock = []
+missed_at (Life d) = []
 missed_at p = Misses p ∷ []
 
-abbrev pub deeds_by : Place → Act → ℕ → Holdings → List Deed
-deeds_by p (Cas e w) found h = if found == e then exchanged p e w else missed_at p
-deeds_by p (Store w) found h = stored p w h
-deeds_by p _ found h = []
+-- a bit that a walk sets is none
+abbrev pub exchanged_as : StepKind → Place → ℕ → ℕ → List Deed
+exchanged_as steps.Touch p e w = []
+exchanged_as _ p e w = exchanged p e w
+
+-- an entry is stored, too; and a store of the guest is one wherever it goes
+abbrev pub stored_cell : ℕ → ℕ → ℕ → ℕ → Holdings → List Deed
+stored_cell f i found w h = if is_some (lock_on f h.locks) then (SetsEntry f i found w ∷ []) else only_if (is_apart f h) (Writes f i w)
+
+abbrev pub stored_as : StepKind → Place → ℕ → ℕ → Holdings → List Deed
+stored_as steps.Guest (Cell f i) found w h = Writes f i w ∷ []
+stored_as _ (Cell f i) found w h = stored_cell f i found w h
+stored_as _ p found w h = stored p w h
+
+abbrev pub deeds_by : Place → Act → StepKind → ℕ → Holdings → List Deed
+deeds_by p (Cas e w) how found h = if found == e then exchanged_as how p e w else missed_at p
+deeds_by p (Store w) how found h = stored_as how p found w h
+deeds_by p _ how found h = []
+
+-- a mark that is seen: it drops translations, ends an answer or begins a turn
+abbrev pub marked_by : Option Mark → List Deed
+marked_by (Some (marks.Forget page)) = Forgets page ∷ []
+marked_by (Some (marks.Cut call)) = Cuts call ∷ []
+marked_by (Some marks.Turn) = BeginsTurn ∷ []
+marked_by _ = []
 
 -- the newest first
 abbrev pub deeds : List Moment → List Deed
 deeds [] = []
-deeds (m ∷ ms) = deeds_by m.place m.act m.found m.hand ++ deeds ms
+deeds (m ∷ ms) = marked_by m.mark ++ (deeds_by m.place m.act m.kind m.found m.hand ++ deeds ms)
 
 -- a call that stops for a lost exchange shows that one, and any other answer of a call shows none: nothing is tried again
 abbrev pub missed : Machine → Stop → List Deed

@@ -1,7 +1,11 @@
 -- What a call is asked, and which frames that asks of it: for which owner, and for which type.
-use Rattle.std.specs.Prelude.{◌≡◌, ◌⊎◌, ℕ, ◌<◌, ◌≤◌, ◌==◌, nat_lt, nat_le, if◌then◌else◌, Bool, true, false, Option, Some, None, IsTrue}
+use Rattle.std.specs.Prelude.{◌≡◌, ◌⊎◌, ℕ, ◌<◌, ◌≤◌, ◌==◌, nat_lt, nat_le, if◌then◌else◌, ◌&&◌, not, Bool, true, false, Option, Some, None, IsTrue}
+use Rattle.xp_words.specs.PageTypes.{is_table}
+use Rattle.xp_words.specs.Places.{sizes_of}
+use Rattle.xp_words.specs.declared.kind.KindWord.{KindWord}
+use Rattle.xp_board.specs.Knowledge.{knows_owner}
 use Rattle.xp_words.specs.Machine.{Machine}
-use Rattle.xp_words.specs.declared.place.Place.TheVariants.{Cell, Vcpu}
+use Rattle.xp_words.specs.declared.place.Place.TheVariants.{Cell, Vcpu, Kind}
 use Rattle.xp_words.specs.Entries.{demand_at, frame_of}
 use Rattle.xp_words.specs.KindWords.{kind_fields}
 use Rattle.xp_words.specs.declared.entry.Demand.{Demand}
@@ -13,8 +17,8 @@ use Rattle.xp_board.specs.declared.holdings.Holdings.{Holdings}
 use Rattle.xp_board.specs.declared.holdings.Lock.{Lock}
 use Rattle.xp_board.specs.declared.holdings.Work.{Work}
 use Rattle.xp_board.specs.declared.holdings.OwnerFound.TheVariants as owners
-use Rattle.xp_board.specs.Hands.{work_on, lock_on, refs_to, typed_hand, ref_owner}
-use Rattle.xp_board.specs.Readings.{is_context, is_frame_word, domain_of}
+use Rattle.xp_board.specs.Hands.{work_on, lock_on, refs_to, typed_to, typed_hand, typed_owner}
+use Rattle.xp_board.specs.Readings.{is_context, is_dead, is_frame_word, domain_of}
 use Rattle.step_maker.specs.Moves.{Moment}
 use Rattle.answer_fits.specs.Finding.{Finding, Found, FoundWith}
 
@@ -50,6 +54,14 @@ pub record Request : Type 0 where
   pub block : Option ℕ
   -- whether the gate of this turn said yes
   pub rose : Bool
+  -- whether it sets or clears a pin; whether nobody else may refer to the frames that it names
+  pub pins : Bool
+  pub alone : Bool
+  -- the domains that it names
+  pub over : ℕ → Bool
+  -- the page of the own LDT that it touches; the descriptor that it writes
+  pub ldt_page : Option ℕ
+  pub descriptor : Option ℕ
 
 -- a call on one frame of that owner
 abbrev pub of_frame : ℕ → ℕ → Option PageType → Request
@@ -73,6 +85,11 @@ of_frame f owner want =
       pages = None;
       block = None;
       rose = false;
+      pins = false;
+      alone = false;
+      over = λ d. false;
+      ldt_page = None;
+      descriptor = None;
     }
 
 -- a call on a table of that owner, whose entries ask frames: those of level 1 of `pages_of`, the others of the owner. `rose`: the gate said yes
@@ -88,8 +105,12 @@ abbrev pub of_numbers : Refusal → Request
 of_numbers x = record (of_frame 0 0 None) { names = λ g. false; by_numbers = Some x }
 
 -- ---- entries
+-- a table whose entries may be read: past its flush
+abbrev pub is_read : KindWord → Bool
+is_read k = is_table k.kind && not k.unflushed
+
 abbrev pub demand_by : ℕ → ℕ → Option Work → Option Lock → Option Demand
-demand_by i w (Some e) o = Some (demand_at (kind_fields e.word).kind i w)
+demand_by i w (Some e) o = if is_read (kind_fields e.word) then Some (demand_at (kind_fields e.word).kind i w) else None
 demand_by i w None (Some e) = Some (demand_at e.kind i w)
 demand_by i w None None = None
 
@@ -106,6 +127,12 @@ level_by None None = None
 abbrev pub owner_below : Request → Option PageType → ℕ
 owner_below r (Some kinds.L1) = r.pages_of
 owner_below r _ = r.owner
+
+-- the entries of a table in the own work ask frames of the owner that the call was told; the one under the own entry lock by its level
+abbrev pub owner_in : Request → Option Work → Option Lock → ℕ
+owner_in r (Some e) o = r.owner
+owner_in r None (Some o) = owner_below r (Some o.kind)
+owner_in r None None = r.owner
 
 -- what is asked for a type is asked without one, too
 abbrev pub IsFor : Option PageType → Option PageType → Type 0
@@ -129,12 +156,18 @@ pub data Asked (n : Machine) (s : ℕ) (r : Request) (F : Finding) (f owner : �
   named : IsTrue (r.names f) → owner ≡ r.owner → IsFor want r.want → Asked n s r F f owner want
   -- an entry asks it that was found in a table of the own work, or under the own entry lock
   demanded : (t i w : ℕ) (h : Holdings) → r.entries ≡ true → FoundWith F (Cell t i) w h → IsDemandOf f want (demand_held t i w h) →
-      owner ≡ owner_below r (level_by (work_on t h.works) (lock_on t h.locks)) → Asked n s r F f owner want
+      owner ≡ owner_in r (work_on t h.works) (lock_on t h.locks) → Asked n s r F f owner want
+  -- the word that the call puts into a table asks it, as that table was under the own entry lock
+  entered : (t i w : ℕ) (o : Lock) (m : Moment) → r.entries ≡ true → IsTrue (r.names t) → r.index ≡ Some i → r.new_word ≡ Some w → F m → lock_on t m.hand.locks ≡ Some o →
+      IsDemandOf f want (Some (demand_at o.kind i w)) → owner ≡ owner_below r (Some o.kind) → Asked n s r F f owner want
   -- it was found in the walk
   walked : (t i w : ℕ) → r.walks ≡ true → Found F (Cell t i) w → f ≡ frame_of w → owner ≡ r.owner → IsFor want r.want → Asked n s r F f owner want
   -- a context word names it, of the own vCPU or of one of the domain under destruction
   context : (v k w : ℕ) → r.contexts ≡ true → Found F (Vcpu v k) w → IsTrue (is_context k) → IsTrue (is_frame_word f w) → (v ≡ s) ⊎ (r.destroys ≡ Some (domain_of n v)) →
       owner ≡ domain_of n v → IsFor want (context_type k) → Asked n s r F f owner want
+  -- an old word names it, which has the frame's own type
+  of_old : (v k w x : ℕ) → r.contexts ≡ true → Found F (Vcpu v k) w → (k ≡ 2) ⊎ (k ≡ 3) → IsTrue (is_frame_word f w) → (v ≡ s) ⊎ (r.destroys ≡ Some (domain_of n v)) →
+      Found F (Kind f) x → IsTrue (not (is_dead (kind_fields x))) → owner ≡ domain_of n v → IsFor want (Some (kind_fields x).kind) → Asked n s r F f owner want
 
 -- of some owner and for some type; or the call gives it back
 pub data IsAsked (n : Machine) (s : ℕ) (r : Request) (F : Finding) (f : ℕ) : Type 0 where
@@ -154,9 +187,11 @@ NoMore r h b = (f : ℕ) → HasNoMore r f h b
 
 -- The checks of the reference word are past: it holds a reference which a step found to be that owner's. What an old word
 -- of a context names was checked in an earlier turn.
-pub data Passed (r : Request) (f owner : ℕ) (h : Holdings) : Type 0 where
-  checked : 0 < refs_to f h.refs → ref_owner f h ≡ owners.Of owner → Passed r f owner h
-  old : r.contexts ≡ true → Passed r f owner h
+pub data Passed (n : Machine) (r : Request) (F : Finding) (f owner : ℕ) (h : Holdings) : Type 0 where
+  checked : IsTrue (knows_owner (sizes_of n) f owner h) → Passed n r F f owner h
+  -- a typed reference that came out of an entry, a mark or a context word
+  given : (k : ℕ) → 0 < typed_to f h.typed → typed_owner f h ≡ owners.Since k → Passed n r F f owner h
+  old : (v k w : ℕ) → r.contexts ≡ true → Found F (Vcpu v k) w → IsTrue (is_context k) → IsTrue (is_frame_word f w) → Passed n r F f owner h
 
 -- ---- requests within others
 abbrev pub Implies : Bool → Bool → Type 0
@@ -164,6 +199,10 @@ Implies a b = a ≡ true → b ≡ true
 
 abbrev pub Keeps : {A : Type 0} → Option A → Option A → Type 0
 Keeps {A} a b = (x : A) → a ≡ Some x → b ≡ Some x
+
+-- the request has a part which looks at the frames themselves that it names
+abbrev pub IsNaming : Request → Type 0
+IsNaming r = (r.pins ≡ true) ⊎ ((r.alone ≡ true) ⊎ ((i : ℕ) × (r.index ≡ Some i)))
 
 -- what r asks and F found is asked by q and found by G
 pub record Within (n : Machine) (s : ℕ) (r : Request) (F : Finding) (q : Request) (G : Finding) : Type 0 where
@@ -183,3 +222,10 @@ pub record Within (n : Machine) (s : ℕ) (r : Request) (F : Finding) (q : Reque
   pub entries : Implies r.entries q.entries
   pub contexts : Implies r.contexts q.contexts
   pub locks : Implies r.locks q.locks
+  pub pins : Implies r.pins q.pins
+  pub alone : Implies r.alone q.alone
+  pub names : IsNaming r → (f : ℕ) → IsTrue (r.names f) → IsTrue (q.names f)
+  pub owner : r.alone ≡ true → r.owner ≡ q.owner
+  pub over : (d : ℕ) → IsTrue (r.over d) → IsTrue (q.over d) × (r.owner ≡ q.owner)
+  pub ldt_page : Keeps r.ldt_page q.ldt_page
+  pub descriptor : Keeps r.descriptor q.descriptor

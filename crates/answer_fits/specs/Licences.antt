@@ -1,9 +1,13 @@
 -- Why an operation or an element is refused: one equation for each refusal.
-use Rattle.std.specs.Prelude.{◌≡◌, ◌≢◌, ◌⊎◌, ℕ, ◌+◌, ◌*◌, ◌/◌, ◌&&◌, ◌||◌, ◌<◌, ◌≤◌, not, nat_lt, Bool, true, false, slice_index, Option, Some, None, IsTrue}
+use Rattle.std.specs.Prelude.{◌≡◌, ◌≢◌, ◌⊎◌, ℕ, ◌+◌, ◌*◌, ◌/◌, ◌&&◌, ◌||◌, ◌<◌, ◌≤◌, not, nat_lt, if◌then◌else◌, Bool, true, false, slice_index, Option, Some, None, IsTrue}
+use Rattle.xp_board.specs.declared.holdings.Lock.{Lock}
+use Rattle.xp_board.specs.declared.holdings.Work.{Work}
+use Rattle.step_maker.specs.Moves.{Moment}
+use Rattle.xp_board.specs.FillSteps.{with_bit}
 use Rattle.xp_words.specs.Machine.{Machine}
 use Rattle.xp_words.specs.declared.place.Place.TheVariants.{Pages, Life, Vcpu, Refs, Kind, M2p, Cell, Map, Priv}
 use Rattle.xp_words.specs.ContextWords.{ldt_read}
-use Rattle.xp_words.specs.Entries.{fixed, frame_of, is_bit, is_slot}
+use Rattle.xp_words.specs.Entries.{fixed, demand_at, frame_of, is_bit, is_slot}
 use Rattle.xp_words.specs.KindWords.{kind_fields}
 use Rattle.xp_words.specs.RefWords.{ref_read}
 use Rattle.xp_words.specs.declared.context.LdtBase.{LdtBase}
@@ -16,12 +20,12 @@ use Rattle.xp_words.specs.declared.reply.Refusal.{Refusal}
 use Rattle.xp_words.specs.declared.reply.Refusal.TheVariants.{NoFrame, WrongOwner, OtherType, Reserved, CountFull, AlreadyPinned, NotPinned, Slot, NotMapped, ReadOnly, NonCanonical, NoPrivilege, NoDomain, Dying, DomainFull, NoFree, BadRange, BadDescriptor, BadCommand, Clock, BatchLong, InUse}
 use Rattle.xp_words.specs.declared.place.Place.TheVariants as places
 use Rattle.xp_board.specs.declared.holdings.Holdings.{Holdings}
-use Rattle.xp_board.specs.Hands.{claim_of}
+use Rattle.xp_board.specs.Hands.{claim_of, work_on, lock_on}
 use Rattle.xp_board.specs.Lists.{times}
 use Rattle.xp_board.specs.Readings.{is_dead, is_type, is_live_as, is_free, has_now, domain_of, last_clock}
 use Rattle.answer_fits.specs.Asked.{Request, Asked, IsAsked, HasNoMore, Passed, demand_held}
 use Rattle.answer_fits.specs.Finding.{Finding, Found, FoundWith}
-use Rattle.answer_fits.specs.Reasons.{MayFlush}
+use Rattle.answer_fits.specs.Reasons.{NeedsFlush}
 
 -- ---- reference words
 abbrev pub IsOwnedBy : ℕ → Option RefWord → Type 0
@@ -70,6 +74,22 @@ abbrev pub WritesSlot : Machine → ℕ → Request → Finding → ℕ → Type
 WritesSlot n s r F i =
     (r.by_numbers ≡ Some (Slot i)) ⊎ ((f w : ℕ) × IsAsked n s r F f × Found F (Kind f) w × IsTrue (is_live_as kinds.L4 w) × (r.index ≡ Some i))
 
+-- the table is under the own entry lock, and the entry asks what no entry may
+abbrev pub IsBadUnder : ℕ → ℕ → Option Lock → Type 0
+IsBadUnder i e (Some o) = demand_at o.kind i e ≡ demands.Bad
+IsBadUnder i e None = ⊥
+
+abbrev pub with_old_bit : ℕ → ℕ → ℕ → ℕ
+with_old_bit i x w = if is_bit i x then with_bit i w else w
+
+-- the new word, or it with bits 5 and 6 of the word that was found there
+abbrev pub IsNewWord : Finding → ℕ → ℕ → ℕ → ℕ → Type 0
+IsNewWord F f i w e = (e ≡ w) ⊎ ((x : ℕ) × Found F (Cell f i) x × (e ≡ with_old_bit 6 x (with_old_bit 5 x w)))
+
+abbrev pub is_desc_work : Option Work → Bool
+is_desc_work (Some e) = is_type (kind_fields e.word).kind kinds.Desc && not (kind_fields e.word).unflushed
+is_desc_work None = false
+
 -- ---- by refusal
 -- b is what the vCPU held as the piece began
 abbrev pub Licensed : Machine → ℕ → Holdings → Request → Finding → Refusal → Type 0
@@ -78,35 +98,36 @@ Licensed n s b r F (WrongOwner f w) =
     (owner : ℕ) × (want : Option PageType) × Asked n s r F f owner want × Found F (Refs f) w
     × ((IsOwnedBy owner (ref_read w) → ⊥) ⊎ ((r.returns ≡ true) × (is_allocated (ref_read w) ≡ false)))
 Licensed n s b r F (OtherType f want w) =
-    ((owner : ℕ) × (h : Holdings) × Asked n s r F f owner (Some want) × FoundWith F (Kind f) w h × Passed r f owner h × IsTrue (is_other want w))
+    ((owner : ℕ) × (h : Holdings) × Asked n s r F f owner (Some want) × FoundWith F (Kind f) w h × Passed n r F f owner h × IsTrue (is_other want w))
     ⊎ (IsAsked n s r F f × Found F (Kind f) w × (r.walks ≡ true) × (want ≡ kinds.L1) × IsTrue (not (is_live_as kinds.L1 w)))
 Licensed n s b r F (Reserved f i e) =
-    ((h : Holdings) × FoundWith F (Cell f i) e h × (demand_held f i e h ≡ Some demands.Bad)) ⊎ (IsAsked n s r F f × (r.index ≡ Some i) × (r.new_word ≡ Some e))
+    ((h : Holdings) × (r.entries ≡ true) × FoundWith F (Cell f i) e h × (demand_held f i e h ≡ Some demands.Bad))
+    ⊎ ((w : ℕ) × (m : Moment) × IsTrue (r.names f) × (r.index ≡ Some i) × (r.new_word ≡ Some w) × F m × IsBadUnder i e (lock_on f m.hand.locks) × IsNewWord F f i w e)
 Licensed n s b r F (CountFull f w) =
     (owner : ℕ) × (want : Option PageType) × (h : Holdings) × Asked n s r F f owner want × FoundWith F (Refs f) w h × IsFull owner n.limit (ref_read w) × HasNoMore r f h b
 Licensed n s b r F (AlreadyPinned w) =
-    (f owner : ℕ) × (want : PageType) × (h : Holdings) × Asked n s r F f owner (Some want) × FoundWith F (Kind f) w h × Passed r f owner h
-    × ((kind_fields w).pinned ≡ true) × ((kind_fields w).kind ≡ want)
+    (f owner : ℕ) × (want : PageType) × (h : Holdings) × Asked n s r F f owner (Some want) × FoundWith F (Kind f) w h × Passed n r F f owner h
+    × (r.pins ≡ true) × IsTrue (r.names f) × ((kind_fields w).pinned ≡ true) × ((kind_fields w).kind ≡ want)
 Licensed n s b r F (NotPinned w) =
-    (f owner : ℕ) × (want : Option PageType) × (h : Holdings) × Asked n s r F f owner want × FoundWith F (Kind f) w h × Passed r f owner h × ((kind_fields w).pinned ≡ false)
+    (f owner : ℕ) × (want : Option PageType) × (h : Holdings) × Asked n s r F f owner want × FoundWith F (Kind f) w h × Passed n r F f owner h × (r.pins ≡ true) × IsTrue (r.names f) × ((kind_fields w).pinned ≡ false)
 Licensed n s b r F (Slot i) = IsTrue (is_slot kinds.L4 i) × WritesSlot n s r F i
 Licensed n s b r F (NotMapped level e) =
-    ((level ≡ 5) × (e ≡ 0) × ((k : ℕ) × (k < 2) × Found F (Vcpu s k) 0))
+    ((level ≡ 5) × (e ≡ 0) × (r.walks ≡ true) × ((k : ℕ) × (k < 2) × Found F (Vcpu s k) 0))
     ⊎ ((0 < level) × (level < 5) × (r.walks ≡ true) × ((t i : ℕ) × Found F (Cell t i) e × IsTrue (is_unmapped n e)))
 Licensed n s b r F (ReadOnly e) =
     (r.walks ≡ true)
     × (((t i : ℕ) × Found F (Cell t i) e × (is_bit 1 e ≡ false)) ⊎ ((f w : ℕ) × IsAsked n s r F f × Found F (Kind f) w × IsTrue (not (is_live_as kinds.L1 w))))
 Licensed n s b r F NonCanonical = r.by_numbers ≡ Some NonCanonical
-Licensed n s b r F (NoPrivilege c d) = (c ≡ domain_of n s) × (c ≢ d) × ((w : ℕ) × Found F (Priv c) w × IsTrue (not (has_now d w)))
+Licensed n s b r F (NoPrivilege c d) = IsTrue (r.over d) × ((c ≡ domain_of n s) ⊎ (c ≡ r.owner)) × ((c ≢ d) ⊎ (r.destroys ≡ Some d)) × ((w : ℕ) × Found F (Priv c) w × IsTrue (not (has_now d w)))
 Licensed n s b r F NoDomain = r.by_numbers ≡ Some NoDomain
-Licensed n s b r F (Dying d w) = Found F (Life d) w × (w ≢ 0)
+Licensed n s b r F (Dying d w) = IsTrue (r.over d) × Found F (Life d) w × (w ≢ 0)
 Licensed n s b r F (DomainFull w) =
     (h : Holdings) × FoundWith F (Pages (domain_of n s)) w h × (times (domain_of n s) h.credits ≡ 0) × ((k : ℕ) × (r.pages ≡ Some k) × (slice_index n.page_limit (domain_of n s) < w + k))
 Licensed n s b r F NoFree = (size : ℕ) × (r.block ≡ Some size) × ((block : ℕ) → block * size + size ≤ n.frames → HasTaken size F block)
-Licensed n s b r F BadRange = (r.by_numbers ≡ Some BadRange) ⊎ ((page w : ℕ) × (r.index ≡ Some page) × Found F (Vcpu s 7) w × IsBeyond page (ldt_read w))
+Licensed n s b r F BadRange = (r.by_numbers ≡ Some BadRange) ⊎ ((page w : ℕ) × (r.ldt_page ≡ Some page) × Found F (Vcpu s 7) w × IsBeyond page (ldt_read w))
 Licensed n s b r F (BadDescriptor f i w) =
-    (fixed w ≡ None) × ((IsAsked n s r F f × Found F (Cell f i) w) ⊎ ((r.index ≡ Some i) × (r.new_word ≡ Some w)))
+    (fixed w ≡ None) × (((h : Holdings) × IsAsked n s r F f × FoundWith F (Cell f i) w h × IsTrue (is_desc_work (work_on f h.works))) ⊎ (IsTrue (r.names f) × (r.index ≡ Some i) × (r.descriptor ≡ Some w)))
 Licensed n s b r F BadCommand = r.by_numbers ≡ Some BadCommand
-Licensed n s b r F (Clock w) = (w ≡ last_clock) × ((h : Holdings) × FoundWith F places.Clock w h × MayFlush n s r F h)
+Licensed n s b r F (Clock w) = (w ≡ last_clock) × ((h : Holdings) × FoundWith F places.Clock w h × NeedsFlush n s r F h)
 Licensed n s b r F BatchLong = r.by_numbers ≡ Some BatchLong
-Licensed n s b r F (InUse f w) = IsAsked n s r F f × ((h : Holdings) × FoundWith F (Refs f) w h × IsShared (ref_read w) × HasNoMore r f h b)
+Licensed n s b r F (InUse f w) = (r.alone ≡ true) × IsTrue (r.names f) × IsOwnedBy r.owner (ref_read w) × ((h : Holdings) × FoundWith F (Refs f) w h × IsShared (ref_read w) × HasNoMore r f h b)

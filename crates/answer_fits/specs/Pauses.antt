@@ -1,5 +1,6 @@
 -- Why an operation goes on in a later turn: one equation for each pause.
 use Rattle.std.specs.Prelude.{◌≡◌, ◌≢◌, ◌⊎◌, ℕ, ◌<◌, ◌≤◌, ◌||◌, ◌&&◌, not, Bool, true, false, length, Option, Some, None, IsTrue}
+use Rattle.xp_words.specs.declared.place.Place.TheVariants as places
 use Rattle.xp_words.specs.Machine.{Machine}
 use Rattle.xp_words.specs.declared.place.Place.{Place}
 use Rattle.xp_words.specs.declared.place.Place.TheVariants.{Vcpu, Refs, Kind, Priv}
@@ -16,12 +17,12 @@ use Rattle.xp_board.specs.declared.holdings.Holdings.{Holdings}
 use Rattle.xp_board.specs.Steps.{last_since}
 use Rattle.xp_board.specs.Flushes.{is_idle}
 use Rattle.xp_board.specs.Hands.{work_on, lock_on, ending_of}
-use Rattle.xp_board.specs.Readings.{is_work, is_locked, is_closing, is_live, is_type, is_dying, domain_of, has_ever}
+use Rattle.xp_board.specs.Readings.{is_work, is_locked, is_closing, is_live, is_partial, is_type, is_dying, owner_of, domain_of, has_ever}
 use Rattle.xp_words.specs.declared.kind.PageType.{PageType}
 use Rattle.answer_fits.specs.Asked.{Request, Asked, Passed}
 use Rattle.step_maker.specs.Moves.{Moment}
 use Rattle.answer_fits.specs.Finding.{Finding, Found, FoundWith, Did}
-use Rattle.answer_fits.specs.Reasons.{Awaited, Reason}
+use Rattle.answer_fits.specs.Reasons.{Awaited, Reason, MayReach}
 
 -- ---- progress
 abbrev pub is_entry_mark : Option Mark → Bool
@@ -32,7 +33,7 @@ is_entry_mark _ = false
 -- one of the steps recorded or shed an entry, or made a frame live
 pub data Progress (F : Finding) : Type 0 where
   entry : (m : Moment) → F m → IsTrue (is_entry_mark m.mark) → Progress F
-  live : (m : Moment) (f new : ℕ) → F m → m.place ≡ Kind f → m.act ≡ Store new → IsTrue (is_live (kind_fields new)) → Progress F
+  live : (m : Moment) (f new x : ℕ) → F m → m.place ≡ Kind f → m.act ≡ Store new → IsTrue (is_live (kind_fields new)) → Found F (Kind f) x → IsTrue (is_partial (kind_fields x)) → Progress F
 
 -- ---- exchanges
 -- an exchange found another word than the last step of this piece at that place had found or left there
@@ -59,6 +60,11 @@ is_busy w = is_work (kind_fields w) || (is_locked (kind_fields w) || is_closing 
 abbrev pub is_in_use : ℕ → Bool
 is_in_use w = is_live (kind_fields w) && (is_table (kind_fields w).kind || is_type (kind_fields w).kind kinds.Desc)
 
+-- of the type that is asked; where none is asked the call locks tables, or releases old ones
+abbrev pub IsWanted : Request → Option PageType → ℕ → Type 0
+IsWanted r (Some t) w = IsTrue (is_type (kind_fields w).kind t)
+IsWanted r None w = (r.locks ≡ true) ⊎ (r.contexts ≡ true)
+
 -- ---- flushes
 -- a vCPU was found clear of that stamp
 pub data Clear (n : Machine) (s : ℕ) (whose : Option ℕ) (stamp : ℕ) (F : Finding) (v : ℕ) : Type 0 where
@@ -70,11 +76,6 @@ pub data Clear (n : Machine) (s : ℕ) (whose : Option ℕ) (stamp : ℕ) (F : F
 pub record AskedTo (stamp : ℕ) (F : Finding) (v : ℕ) : Type 0 where
   pub before : ℕ
   pub did : Did F (Vcpu v 4) (Max stamp) before
-
--- the vCPU is of the domain whose frame it is, or was found with the privilege for that domain: it may have a translation of it
-abbrev pub MayReach : Machine → Option ℕ → Finding → ℕ → Type 0
-MayReach n None F v = Unit {0}
-MayReach n (Some owner) F v = (domain_of n v ≡ owner) ⊎ ((w : ℕ) × Found F (Priv (domain_of n v)) w × IsTrue (has_ever owner w))
 
 -- the least vCPU that is behind, and all that are were asked, it too
 pub record Behind (n : Machine) (s : ℕ) (whose : Option ℕ) (stamp : ℕ) (F : Finding) (v found : ℕ) : Type 0 where
@@ -92,9 +93,9 @@ pub record Behind (n : Machine) (s : ℕ) (whose : Option ℕ) (stamp : ℕ) (F 
 abbrev pub Awaits : Machine → ℕ → Request → Finding → Pause → Type 0
 Awaits n s r F Due = (r.rose ≡ true) × Progress F
 Awaits n s r F (Lost place expected found) =
-    (p : Place) × (place ≡ number (sizes_of n) p) × ((l : Loses n F p expected found) × Reason n s r F p (Cas expected l.new) found l.exchange.hand)
+    (p : Place) × (place ≡ number (sizes_of n) p) × (p ≢ places.Clock) × ((l : Loses n F p expected found) × Reason n s r F p (Cas expected l.new) found l.exchange.hand)
 Awaits n s r F (Busy f w) =
-    ((owner : ℕ) × (want : Option PageType) × (h : Holdings) × Asked n s r F f owner want × FoundWith F (Kind f) w h × Passed r f owner h × IsTrue (is_busy w) × IsElsewhere f h)
-    ⊎ ((d : ℕ) × (r.destroys ≡ Some d) × ((Found F (Kind f) w × IsTrue (is_in_use w)) ⊎ (Found F (Refs f) w × IsTrue (is_dying w))))
+    ((owner : ℕ) × (want : Option PageType) × (h : Holdings) × Asked n s r F f owner want × FoundWith F (Kind f) w h × Passed n r F f owner h × IsTrue (is_busy w) × IsWanted r want w × IsElsewhere f h)
+    ⊎ ((d : ℕ) × (r.destroys ≡ Some d) × ((x : ℕ) × Found F (Refs f) x × (owner_of x ≡ Some d) × ((Found F (Kind f) w × IsTrue (is_in_use w)) ⊎ ((w ≡ x) × IsTrue (is_dying w)))))
 Awaits n s r F (Flush v stamp found) = (whose : Option ℕ) × Behind n s whose stamp F v found × Awaited n s r F whose stamp
-Awaits n s r F (Alive v w) = (r.destroys ≡ Some (domain_of n v)) × Found F (Vcpu v 6) w × (w ≡ 0)
+Awaits n s r F (Alive v w) = (r.destroys ≡ Some (domain_of n v)) × Found F (Vcpu v 6) w × (w ≢ 1)

@@ -1,5 +1,5 @@
 -- Why a step may change a word: it serves a frame that is asked, or a flush that is asked or awaited.
-use Rattle.std.specs.Prelude.{◌≡◌, ◌≢◌, ◌⊎◌, ℕ, ◌/◌, ◌&&◌, ◌≤◌, not, Bool, true, Option, Some, None, IsTrue}
+use Rattle.std.specs.Prelude.{◌≡◌, ◌≢◌, ◌⊎◌, ℕ, ◌/◌, ◌&&◌, ◌||◌, ◌≤◌, not, Bool, true, Option, Some, None, IsTrue}
 use Rattle.xp_words.specs.Machine.{Machine}
 use Rattle.xp_words.specs.declared.place.Place.{Place}
 use Rattle.xp_words.specs.declared.place.Place.TheVariants.{Clock, Pages, Life, Vcpu, Refs, Kind, M2p, Cell, Map, Priv}
@@ -10,7 +10,7 @@ use Rattle.xp_board.specs.declared.step.Act.{Act}
 use Rattle.xp_board.specs.declared.step.Act.TheVariants.{Load, Cas, Store, Add, Max}
 use Rattle.xp_board.specs.declared.holdings.Holdings.{Holdings}
 use Rattle.xp_board.specs.KindSteps.{is_stale}
-use Rattle.xp_board.specs.Readings.{is_dead, is_type, is_free, owner_of, domain_of, free_stamp}
+use Rattle.xp_board.specs.Readings.{is_dead, is_type, is_free, owner_of, domain_of, free_stamp, has_ever}
 use Rattle.xp_board.specs.Steps.{last_since}
 use Rattle.answer_fits.specs.Asked.{Request, Asked, IsAsked, Passed}
 use Rattle.answer_fits.specs.Finding.{Finding, Found, FoundWith}
@@ -19,10 +19,11 @@ use Rattle.answer_fits.specs.Finding.{Finding, Found, FoundWith}
 -- the stamps that flushes are awaited for, and whose the frame is where one domain's vCPUs and those with privilege for it matter
 pub data Awaited (n : Machine) (s : ℕ) (r : Request) (F : Finding) (whose : Option ℕ) (stamp : ℕ) : Type 0 where
   -- found in a marked kind word of an asked frame
-  marked : (f w owner : ℕ) (want : Option PageType) (h : Holdings) → Asked n s r F f owner want → FoundWith F (Kind f) w h → Passed r f owner h → (kind_fields w).unflushed ≡ true →
+  marked : (f w owner : ℕ) (want : PageType) (h : Holdings) → Asked n s r F f owner (Some want) → FoundWith F (Kind f) w h → Passed n r F f owner h → (kind_fields w).unflushed ≡ true →
+      IsTrue (is_dead (kind_fields w) || is_type (kind_fields w).kind want) →
       whose ≡ Some owner → stamp ≡ (kind_fields w).number → Awaited n s r F whose stamp
   -- found in a dead word of an asked frame whose type is neither None nor the one asked
-  other : (f w owner : ℕ) (want : PageType) (h : Holdings) → Asked n s r F f owner (Some want) → FoundWith F (Kind f) w h → Passed r f owner h → IsTrue (is_dead (kind_fields w)) →
+  other : (f w owner : ℕ) (want : PageType) (h : Holdings) → Asked n s r F f owner (Some want) → FoundWith F (Kind f) w h → Passed n r F f owner h → IsTrue (is_dead (kind_fields w)) →
       is_stale (kind_fields w) want ≡ true → whose ≡ Some owner → stamp ≡ (kind_fields w).number → Awaited n s r F whose stamp
   -- found in a free word by a call that takes pages
   free : (f w k : ℕ) → r.pages ≡ Some k → IsAsked n s r F f → Found F (Refs f) w → is_free w ≡ true → whose ≡ None → stamp ≡ free_stamp w → Awaited n s r F whose stamp
@@ -36,14 +37,22 @@ pub record LastAtMost (n : Machine) (p : Place) (stamp : ℕ) (h : Holdings) : T
   pub most : last ≤ stamp
 
 -- the own flush: the call ends with it; or the own flushed word, as the vCPU last knew it, is at most what it was asked for, or at most an awaited stamp
+pub data NeedsFlush (n : Machine) (s : ℕ) (r : Request) (F : Finding) (h : Holdings) : Type 0 where
+  own : r.flushes ≡ true → NeedsFlush n s r F h
+  awaited : (whose : Option ℕ) (stamp : ℕ) → Awaited n s r F whose stamp → LastAtMost n (Vcpu s 5) stamp h → NeedsFlush n s r F h
+
 pub data MayFlush (n : Machine) (s : ℕ) (r : Request) (F : Finding) (h : Holdings) : Type 0 where
-  own : r.flushes ≡ true → MayFlush n s r F h
+  needed : NeedsFlush n s r F h → MayFlush n s r F h
   asked : (stamp : ℕ) → last_since (sizes_of n) 0 (Vcpu s 4) h.steps ≡ Some stamp → LastAtMost n (Vcpu s 5) stamp h → MayFlush n s r F h
-  awaited : (whose : Option ℕ) (stamp : ℕ) → Awaited n s r F whose stamp → LastAtMost n (Vcpu s 5) stamp h → MayFlush n s r F h
+
+-- the vCPU is of the domain whose frame it is, or was found with the privilege for that domain: it may have a translation of it
+abbrev pub MayReach : Machine → Option ℕ → Finding → ℕ → Type 0
+MayReach n None F v = Unit {0}
+MayReach n (Some owner) F v = (domain_of n v ≡ owner) ⊎ ((w : ℕ) × Found F (Priv (domain_of n v)) w × IsTrue (has_ever owner w))
 
 -- a vCPU may be asked to flush past an awaited stamp, where it was found flushed no later
 abbrev pub MayAskFor : Machine → ℕ → Request → Finding → ℕ → ℕ → ℕ → Holdings → Type 0
-MayAskFor n s r F v k stamp h = (k ≡ 4) × ((whose : Option ℕ) × Awaited n s r F whose stamp) × LastAtMost n (Vcpu v 5) stamp h
+MayAskFor n s r F v k stamp h = (k ≡ 4) × ((whose : Option ℕ) × Awaited n s r F whose stamp × MayReach n whose F v) × LastAtMost n (Vcpu v 5) stamp h
 
 -- ---- words of frames
 -- the page count is that of the owner that was found of an asked frame, or of the domain that takes pages
@@ -55,6 +64,11 @@ pub data MayCountPages (n : Machine) (s : ℕ) (r : Request) (F : Finding) (d : 
 abbrev pub IsRefChange : Request → Act → Type 0
 IsRefChange r (Cas e w) = is_free e ≡ true → ((k : ℕ) × (r.pages ≡ Some k))
 IsRefChange r _ = Unit {0}
+
+-- a page is counted before there is a frame only where the call takes pages
+abbrev pub IsPagesChange : Request → Act → Type 0
+IsPagesChange r (Cas e w) = (k : ℕ) × (r.pages ≡ Some k)
+IsPagesChange r _ = Unit {0}
 
 abbrev pub IsTypeAsked : Machine → ℕ → Request → Finding → ℕ → PageType → Type 0
 IsTypeAsked n s r F f t = (owner : ℕ) × Asked n s r F f owner (Some t)
@@ -69,8 +83,8 @@ MayMark n s r F f old new = (r.locks ≡ true) × IsAsked n s r F f × IsTrue (k
 -- A kind word gets a type only that is asked of that frame. A call that asks no type and marks nothing changes none.
 abbrev pub MayType : Machine → ℕ → Request → Finding → ℕ → Act → ℕ → Type 0
 MayType n s r F f (Cas e w) x = IsTypeAsked n s r F f (kind_fields w).kind ⊎ MayMark n s r F f e w
-MayType n s r F f (Store w) x = IsTypeAsked n s r F f (kind_fields w).kind ⊎ MayMark n s r F f x w
-MayType n s r F f (Add by) x = IsTypeAsked n s r F f (kind_fields x).kind ⊎ MayMark n s r F f x x
+MayType n s r F f (Store w) x = IsAsked n s r F f × IsTrue (keeps_type x w)
+MayType n s r F f (Add by) x = IsAsked n s r F f
 MayType n s r F f _ x = ⊥
 
 -- ---- words of vCPUs
@@ -87,7 +101,7 @@ MayChangeVcpu n s r F v k _ h = ⊥
 -- ---- by place: the act there, the word that it found, and what the vCPU held
 abbrev pub Reason : Machine → ℕ → Request → Finding → Place → Act → ℕ → Holdings → Type 0
 Reason n s r F Clock a x h = MayFlush n s r F h
-Reason n s r F (Pages d) a x h = MayCountPages n s r F d
+Reason n s r F (Pages d) a x h = MayCountPages n s r F d × IsPagesChange r a
 Reason n s r F (Life d) a x h = r.destroys ≡ Some d
 Reason n s r F (Vcpu v k) a x h = MayChangeVcpu n s r F v k a h
 Reason n s r F (Refs f) a x h = IsAsked n s r F f × IsRefChange r a

@@ -1,10 +1,10 @@
 //! Types given back of frames that hold no entries.
-ghost use Rattle.std.specs.Prelude.{◌<◌, ◌≡◌, ℕ, [], true, Some};
+ghost use Rattle.std.specs.Prelude.{◌<◌, ◌≡◌, [], true};
 ghost use Rattle.xp_board.specs.Told.{is_telling, told_word};
 ghost use Rattle.step_maker.specs.Holds.{Holds, MayWork};
 ghost use Rattle.step_maker.specs.Plain.{Leaves};
 ghost use Rattle.answer_fits.specs.Answers.{Serves};
-ghost use Rattle.answer_fits.specs.Asked.{of_frame};
+ghost use Rattle.answer_fits.specs.Asked.{of_back};
 ghost use Rattle.frame_types.specs.Plain.{dropped_plain};
 ghost use Rattle.frame_types.specs.Taking.{MayDropPlain, untyped};
 
@@ -20,7 +20,7 @@ pub fn drop_plain<P: Port>(port: &mut P, frame: u32, kind: PageType)
     requires frame { frame < (P.value port.old).post.machine.frames }
     requires may { MayWork (P.value port.old) }
     requires drops { MayDropPlain (P.value port.old).post.machine frame kind (P.value port.old).holdings }
-    ensures serves { (owner : ℕ) → Serves (P.value port.old) (P.value port.new) (of_frame frame owner (Some kind)) [] }
+    ensures serves { Serves (P.value port.old) (P.value port.new) (of_back frame) [] }
     ensures hand { Holds (P.value port.old) (P.value port.new) (untyped frame (P.value port.old).holdings) }
     ensures plain { is_telling (P.value port.old) ≡ true → Leaves (P.value port.new) (dropped_plain frame kind (told_word (P.value port.old))) }
 {
