@@ -1,5 +1,5 @@
 //! Operations that are lists: they go on from item to item until the gate says yes.
-ghost use Rattle.std.specs.Prelude.{ℕ, ◌≡◌, ◌+◌, ◌≤◌, true, if◌then◌else◌};
+ghost use Rattle.std.specs.Prelude.{ℕ, ◌≡◌, ◌+◌, ◌≤◌, true, false, if◌then◌else◌};
 ghost use Rattle.step_maker.specs.Holds.{Rests};
 ghost use Rattle.vcpu_turn.specs.Lists.{Heard, WorksOn, is_due_by};
 
@@ -9,7 +9,7 @@ use xp_words::{Pause, Stop};
 
 /// What an operation is made of, by number: pairs, extended operations, extents, calls, or the whole operation as one.
 pub trait Items {
-    ghost use Rattle.std.specs.Prelude.{ℕ, ◌≡◌, ◌+◌, ◌<◌, true, if◌then◌else◌, Result};
+    ghost use Rattle.std.specs.Prelude.{ℕ, ◌≡◌, ◌+◌, ◌<◌, true, false, if◌then◌else◌, Result};
     ghost use Rattle.xp_words.specs.declared.reply.Stop.{Stop};
     ghost use Rattle.xp_board.specs.Told.{Post, PortValue};
     ghost use Rattle.step_maker.specs.Holds.{Rests};
@@ -43,7 +43,7 @@ pub trait Items {
         ensures heard { Heard (says gate.old) (count_asks gate.old) (count_asks gate.new) (is_due_by result) }
         ensures says { (n : ℕ) → says gate.new n ≡ says gate.old n }
         ensures paces { paces gate.new ≡ paces gate.old }
-        ensures calm { calm gate.old ≡ true → calm gate.new ≡ true };
+        ensures calm { calm gate.old ≡ true → (is_due_by result ≡ false) × (calm gate.new ≡ true) };
 }
 
 /// Goes on from item number `done`, which says in the end how many are done. The gate is asked after each but the last.
@@ -63,7 +63,7 @@ pub fn go_on<P: Port, L: Items>(
     ensures heard { Heard (says gate.old) (count_asks gate.old) (count_asks gate.new) (is_due_by result) }
     ensures says { (n : ℕ) → says gate.new n ≡ says gate.old n }
     ensures paces { paces gate.new ≡ paces gate.old }
-    ensures calm { calm gate.old ≡ true → calm gate.new ≡ true }
+    ensures calm { calm gate.old ≡ true → (is_due_by result ≡ false) × (calm gate.new ≡ true) }
 {
     while *done < items.len() {
         items.element(port, gate, *done)?;

@@ -1,4 +1,4 @@
-ghost use Rattle.std.specs.Prelude.{ℕ, ◌≡◌, ◌+◌, ◌<◌, ◌^◌, true, length, slice_get, if◌then◌else◌};
+ghost use Rattle.std.specs.Prelude.{ℕ, ◌≡◌, ◌+◌, ◌<◌, ◌^◌, true, false, length, slice_get, if◌then◌else◌};
 ghost use Rattle.xp_board.specs.Readings.{domain_of};
 ghost use Rattle.step_maker.specs.Holds.{Rests};
 ghost use Rattle.vcpu_turn.specs.Cpus.{reply_of, end_of, after_turn};
@@ -25,7 +25,7 @@ fn go_on<P: Port>(port: &mut P, cpu: &mut Cpu, gate: &mut dyn Preempt) -> Option
     ensures heard { Heard (says gate.old) (count_asks gate.old) (count_asks gate.new) (asks_due result) }
     ensures says { (n : ℕ) → says gate.new n ≡ says gate.old n }
     ensures paces { paces gate.new ≡ paces gate.old }
-    ensures calm { calm gate.old ≡ true → calm gate.new ≡ true }
+    ensures calm { calm gate.old ≡ true → (asks_due result ≡ false) × (calm gate.new ≡ true) }
 {
     match cpu.script.as_slice().get(cpu.log.len()) {
         None => None,
@@ -103,7 +103,7 @@ pub fn turn<P: Port>(port: &mut P, cpu: &mut Cpu, gate: &mut dyn Preempt) -> Tur
     ensures gate { count_yes gate.new ≡ (if is_due result then count_yes gate.old + 1 else count_yes gate.old) }
     ensures says { (n : ℕ) → says gate.new n ≡ says gate.old n }
     ensures paces { paces gate.new ≡ paces gate.old }
-    ensures calm { calm gate.old ≡ true → calm gate.new ≡ true }
+    ensures calm { calm gate.old ≡ true → (is_due result ≡ false) × (calm gate.new ≡ true) }
 {
     if cpu.retired {
         return TurnEnd::Retired;

@@ -1,5 +1,5 @@
 //! The work of a turn on an operation.
-ghost use Rattle.std.specs.Prelude.{ℕ, ◌≡◌, ◌+◌, ◌≤◌, true, Some, None, IfSome, IfNone, length, if◌then◌else◌};
+ghost use Rattle.std.specs.Prelude.{ℕ, ◌≡◌, ◌+◌, ◌≤◌, true, false, Some, None, IfSome, IfNone, length, if◌then◌else◌};
 ghost use Rattle.xp_board.specs.Readings.{domain_of};
 ghost use Rattle.step_maker.specs.Holds.{Rests};
 ghost use Rattle.vcpu_turn.specs.Cpus.{pairs_of, elements_in};
@@ -49,7 +49,7 @@ fn go_through<P: Port>(
     ensures heard { Heard (says gate.old) (count_asks gate.old) (count_asks gate.new) (is_due_by result) }
     ensures says { (n : ℕ) → says gate.new n ≡ says gate.old n }
     ensures paces { paces gate.new ≡ paces gate.old }
-    ensures calm { calm gate.old ≡ true → calm gate.new ≡ true }
+    ensures calm { calm gate.old ≡ true → (is_due_by result ≡ false) × (calm gate.new ≡ true) }
 {
     if pairs.len() > LONGEST {
         *done = 0;
@@ -79,7 +79,7 @@ pub(crate) fn work_on<P: Port>(
     ensures heard { Heard (says gate.old) (count_asks gate.old) (count_asks gate.new) (is_due_by result) }
     ensures says { (n : ℕ) → says gate.new n ≡ says gate.old n }
     ensures paces { paces gate.new ≡ paces gate.old }
-    ensures calm { calm gate.old ≡ true → calm gate.new ≡ true }
+    ensures calm { calm gate.old ≡ true → (is_due_by result ≡ false) × (calm gate.new ≡ true) }
 {
     match pairs_of(op) {
         None => {
