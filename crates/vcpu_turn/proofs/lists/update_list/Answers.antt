@@ -39,7 +39,7 @@ loop-done-preserved g c =
       post = c.in_ok-update.ensures.post ∙ c.loop-done.invariant.post;
       doing = doing_more _ _ _ _ _ _ _ _ c.loop-done.invariant.doing c.loop-done-test.true c.in_ok-update.ensures.updates;
       gate = c.if-due.ensures.0 ∙ c.loop-done.invariant.gate;
-      calm = λ calm. (c.if-due.ensures.1 (c.loop-done.invariant.calm calm)).1;
+      calm = λ calm. (c.if-due.ensures.1.1.1.1.1 (c.loop-done.invariant.calm calm)).1;
     }
 
 pub returns-then-done-pairs-clause-works : goal.returns-then-done-pairs-clause-works
