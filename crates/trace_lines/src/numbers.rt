@@ -50,13 +50,20 @@ fn digit<const BASE: u64>(c: u8) -> Option<u64>
     if value < BASE { Some(value) } else { None }
 }
 
-// One more digit behind a number.
+// A number below this one stays below 2^64 with one more digit, in each base up to 16.
+const SURELY_FITS: u64 = 1 << 59;
+
+// One more digit behind a number. One test is enough for nearly all numbers.
 fn with_digit<const BASE: u64>(n: u64, c: u8) -> Option<u64>
     requires { BASE ≤ 16 }
     ensures { result ≡ numeral_after BASE n (c ∷ []) }
 {
     let next = digit::<BASE>(c)?;
-    n.checked_mul(BASE)?.checked_add(next)
+    if n < SURELY_FITS {
+        Some(n * BASE + next)
+    } else {
+        n.checked_mul(BASE)?.checked_add(next)
+    }
 }
 
 // One digit, or more without a leading zero.
