@@ -7,7 +7,7 @@ use Rattle.trace_lines.specs.declared.fault.LineError.TheVariants as errors
 use Rattle.trace_lines.specs.Steps.{◌>>=◌, with_front, Fails}
 use Rattle.trace_lines.specs.Numbers.{number_of}
 use Rattle.trace_lines.specs.Words.{next_word, next_number, ok_or_line, is_nil, each}
-use Rattle.trace_lines.specs.Grammar.{numbers_of, pairs_from, pairs_of, next_pair}
+use Rattle.trace_lines.specs.Grammar.{numbers_of, pairs_from, spelled_pairs, next_pair}
 
 pub regroup : {B : Type 0} (front : List B) (y : B) (r : Result (List B) LineFault) → with_front front (with_front (y ∷ []) r) ≡ with_front (front ++ y ∷ []) r
 regroup front y (Ok ys) = ap Ok (sym (append_assoc front (y ∷ []) ys))
@@ -61,23 +61,23 @@ unfolding pairs_from
 after_two n m (Ok ns) = refl
 after_two n m (Err s) = refl
 
-by_second : (n : ℕ) (o : Option ℕ) (ws : List (List ℕ)) → (((ok_or_line o >>= λ m. numbers_of ws >>= λ ns. Ok (m ∷ ns)) >>= λ ns. Ok (n ∷ ns)) >>= pairs_from) ≡ (((ok_or_line o >>= with_rest ws) >>= pair_with n) >>= first_of pairs_of)
+by_second : (n : ℕ) (o : Option ℕ) (ws : List (List ℕ)) → (((ok_or_line o >>= λ m. numbers_of ws >>= λ ns. Ok (m ∷ ns)) >>= λ ns. Ok (n ∷ ns)) >>= pairs_from) ≡ (((ok_or_line o >>= with_rest ws) >>= pair_with n) >>= first_of spelled_pairs)
 by_second n None ws = refl
 by_second n (Some m) ws = after_two n m (numbers_of ws)
 
-by_pair : (o : Option ℕ) (ws : List (List ℕ)) → ((ok_or_line o >>= λ n. numbers_of ws >>= λ ns. Ok (n ∷ ns)) >>= pairs_from) ≡ (((ok_or_line o >>= with_rest ws) >>= λ ptr. next_number ptr.1 >>= pair_with ptr.0) >>= first_of pairs_of)
+by_pair : (o : Option ℕ) (ws : List (List ℕ)) → ((ok_or_line o >>= λ n. numbers_of ws >>= λ ns. Ok (n ∷ ns)) >>= pairs_from) ≡ (((ok_or_line o >>= with_rest ws) >>= λ ptr. next_number ptr.1 >>= pair_with ptr.0) >>= first_of spelled_pairs)
 unfolding each next_number next_word pairs_from
 by_pair None ws = refl
 by_pair (Some n) [] = refl
 by_pair (Some n) (v ∷ ws) = by_second n (number_of v) ws
 
 -- one pair more, by what next_pair says
-pub one_pair : (ws : List (List ℕ)) → is_nil ws ≡ false → pairs_of ws ≡ (next_pair ws >>= first_of pairs_of)
+pub one_pair : (ws : List (List ℕ)) → is_nil ws ≡ false → spelled_pairs ws ≡ (next_pair ws >>= first_of spelled_pairs)
 unfolding each next_number next_word next_pair
 one_pair [] e = absurd cc
 one_pair (w ∷ ws) e = by_pair (number_of w) ws
 
-pub no_pair : (ws : List (List ℕ)) → is_nil ws ≡ true → pairs_of ws ≡ Ok []
+pub no_pair : (ws : List (List ℕ)) → is_nil ws ≡ true → spelled_pairs ws ≡ Ok []
 unfolding each pairs_from
 no_pair [] e = refl
 no_pair (w ∷ ws) e = absurd cc

@@ -36,8 +36,8 @@ pairs_from (a ∷ b ∷ ns) = do
   Ok (record { ptr = a; val = b } ∷ others)
 
 -- the pairs that words spell
-abbrev pub pairs_of : List (List ℕ) → Result (List Pair) LineFault
-pairs_of ws = do
+abbrev pub spelled_pairs : List (List ℕ) → Result (List Pair) LineFault
+spelled_pairs ws = do
   numbers ← numbers_of ws
   pairs_from numbers
 

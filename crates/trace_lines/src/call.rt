@@ -1,6 +1,6 @@
 ghost use Rattle.std.specs.Prelude.{◌≡◌, ◌∷◌, [], map, IfOk};
 ghost use Rattle.trace_lines.specs.Steps.{Gives, with_front};
-ghost use Rattle.trace_lines.specs.Grammar.{numbers_of, triple_from, pairs_of, next_pair, triples_from, mmu_of, ext_of, va_of, va_other_of, gdt_of, desc_of, mem_of, hypercall_of, call_by, call_of};
+ghost use Rattle.trace_lines.specs.Grammar.{numbers_of, triple_from, spelled_pairs, next_pair, triples_from, mmu_of, ext_of, va_of, va_other_of, gdt_of, desc_of, mem_of, hypercall_of, call_by, call_of};
 
 use crate::fault::LineError;
 use crate::words::Words;
@@ -70,7 +70,7 @@ fn pair(words: &mut Words<'_>) -> Result<Pair, LineError>
 
 // All the words that are left, as pairs behind a first one.
 fn pairs_behind(alloc: Global, first: Pair, words: &mut Words<'_>) -> Result<Pairs, LineError>
-    ensures { Gives (λ p. p) result (with_front (first ∷ []) (pairs_of words.old)) }
+    ensures { Gives (λ p. p) result (with_front (first ∷ []) (spelled_pairs words.old)) }
 {
     let mut items = vec![in alloc; first]?;
     'words: while !words.is_done() {
@@ -81,7 +81,7 @@ fn pairs_behind(alloc: Global, first: Pair, words: &mut Words<'_>) -> Result<Pai
 
 // All the words that are left, as pairs; most lists have one.
 fn pairs(alloc: Global, words: &mut Words<'_>) -> Result<Pairs, LineError>
-    ensures { Gives (λ p. p) result (pairs_of words.old) }
+    ensures { Gives (λ p. p) result (spelled_pairs words.old) }
 {
     if words.is_done() {
         return Ok(Pairs::new(Vec::new(alloc)));
