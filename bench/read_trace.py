@@ -109,7 +109,7 @@ def main():
             if not timing.output([arguments.program, "turns"], trace).endswith(b"\nend\n"):
                 raise SystemExit("the program printed no whole report")
             counted = timing.output([loop], trace).decode().strip()
-            program, plain = timing.least(arguments.runs, ([arguments.program, "turns"], trace), ([loop], trace))
+            program, plain = timing.least(arguments.runs, os.devnull, ([arguments.program, "turns"], trace), ([loop], trace))
             print(f"{name:5}  {len(text)} bytes, {counted}")
             print(f"       program {program * 1e3:6.1f} ms ({len(text) / program / 1e6:.0f} MB/s), "
                   f"C loop {plain * 1e3:6.1f} ms ({len(text) / plain / 1e6:.0f} MB/s), ratio {program / plain:.2f}")

@@ -36,9 +36,9 @@ def output(command, source):
     return run.stdout
 
 
-def seconds(command, source):
-    """Processor time of one run, its user's and the system's part together. What it writes is thrown away."""
-    with open(source, "rb") as stdin, open(os.devnull, "wb") as stdout:
+def seconds(command, source, sink):
+    """Processor time of one run, its user's and the system's part together."""
+    with open(source, "rb") as stdin, open(sink, "wb") as stdout:
         process = subprocess.Popen(command, stdin=stdin, stdout=stdout)
         _, status, usage = os.wait4(process.pid, 0)
     process.returncode = os.waitstatus_to_exitcode(status)
@@ -47,10 +47,10 @@ def seconds(command, source):
     return usage.ru_utime + usage.ru_stime
 
 
-def least(runs, *jobs):
-    """The least time of each job, a command and its standard input. They are run in turn."""
+def least(runs, sink, *jobs):
+    """The least time of each job, a command and its standard input, which writes to the file `sink`. They are run in turn."""
     times = [[] for _ in jobs]
     for _ in range(runs):
         for kept, (command, source) in zip(times, jobs):
-            kept.append(seconds(command, source))
+            kept.append(seconds(command, source, sink))
     return [min(kept) for kept in times]
