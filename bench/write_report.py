@@ -62,7 +62,8 @@ def main():
             ([plain_write, kept], os.devnull), ([plain_write, empty], os.devnull))
         program, plain = answered - read, written - started
         print(f"{answers} answers, {len(report)} bytes")
-        print(f"answers {program * 1e3:.1f} ms ({program * 1e9 / answers:.0f} ns each), plain write {plain * 1e3:.1f} ms, ratio {program / plain:.1f}")
+        print(f"answers {program * 1e3:.1f} ms ({program * 1e9 / answers:.0f} ns each), "
+              f"plain write {plain * 1e3:.1f} ms, ratio {program / plain:.1f}")
 
 
 if __name__ == "__main__":
