@@ -40,9 +40,7 @@ pub fn clear_stale<P: Port>(port: &mut P, frame: u32, owner: u16, stamp: u64) ->
     };
     match clear_all(port, awaited) {
         Ok(None) => Ok(()),
-        Ok(Some(Late { vcpu, found })) => {
-            Err(Stop::Paused(Pause::Flush { vcpu, stamp, found }))
-        }
+        Ok(Some(Late { vcpu, found })) => { Err(Stop::Paused(Pause::Flush { vcpu, stamp, found })) }
         Err(refusal) => Err(Stop::Refused(refusal)),
     }
 }

@@ -1,0 +1,6 @@
+pub mod FlushTwin
+pub mod FlushServes
+pub mod Flushed
+pub mod Lasting
+pub mod OwnFlush
+pub mod RowSteps

@@ -18,7 +18,9 @@ use xp_words::{Place, Refusal};
 
 // Words of a vCPU.
 pub(crate) const ASKED: u32 = 4;
+
 const FLUSHED: u32 = 5;
+
 pub(crate) const RUN: u32 = 6;
 
 // The clock goes no further.

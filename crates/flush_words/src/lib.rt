@@ -1,5 +1,5 @@
 //! The clock, flushes of translations and what they await, and the words of vCPUs and domains: one step each.
-#![tactic(auto)]
+#![tactic(auto, using(crate::proofs::RowSteps::rows))]
 
 mod flushes;
 mod turns;

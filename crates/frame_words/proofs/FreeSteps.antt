@@ -1,9 +1,8 @@
 -- A frame becomes free: when its steps are legal, and what they leave in hand.
-use Rattle.std.proofs.Common.{◌≡◌, ℕ, ◌-◌, ◌/◌, ◌%◌, ◌^◌, ◌<◌, ◌≤◌, ◌==◌, true, List, [], ◌∷◌, length, Some, None, IsTrue, refl, sym, ap, ◌∙◌, subst, arith, inl, inr, lit<}
+use Rattle.std.proofs.Common.{◌≡◌, ℕ, ◌-◌, ◌/◌, ◌%◌, ◌^◌, ◌<◌, ◌≤◌, ◌==◌, true, List, [], ◌∷◌, length, Some, None, IsTrue, refl, ap, ◌∙◌, arith, inl, inr, lit<}
 use Rattle.std.proofs.Math.Pow.{pow-lt}
 use Rattle.std.proofs.lemmas.Bool.{cases_order, cases_Bool, eqb-true, and_parts}
 use Rattle.std.proofs.lemmas.Bool.Decides.{nat_tests}
-use Rattle.xp_words.specs.Machine.{Machine}
 use Rattle.xp_words.specs.RefWords.{ref_read, ref_write, IsRef}
 use Rattle.xp_words.specs.declared.refs.RefWord.TheVariants.{Free}
 use Rattle.xp_words.specs.declared.place.Place.TheVariants.{Refs, Map, Pages}
@@ -19,8 +18,8 @@ use Rattle.xp_board.specs.Lists.{one_at, times, times_by, first_by, without_by, 
 use Rattle.xp_board.specs.RefSteps.{one_down, IsFreeStamp, credited, after_ref_store}
 use Rattle.xp_board.specs.Spelling.{IsSpelling}
 use Rattle.xp_board.specs.Told.{PortValue}
-use Rattle.xp_board.proofs.ListCounts.{first_by-cons_here, times_by-cons_here}
-use Rattle.xp_board.proofs.Sums.{when_eq}
+use Rattle.board_lemmas.proofs.ListCounts.{first_by-cons_here, times_by-cons_here}
+use Rattle.board_lemmas.proofs.Sums.{when_eq}
 use Rattle.step_maker.specs.Holds.{Holds, MayWork, still}
 use Rattle.step_maker.specs.Moves.{May, Moves}
 use Rattle.frame_words.specs.Freeing.{IsEnding, IsEndingSince, raised_bit, made_free, refunded}
@@ -119,14 +118,11 @@ pub may_bit : (v : PortValue) (f owner : ℕ) → f < v.post.machine.frames → 
 may_bit v f owner frame may ends none =
     let held = ending_held f owner v.holdings ends in
     record {
-      legal = record {
-        place = map_there (sizes_of v.post.machine) f frame;
-        marked = tt;
-        running = λ needs. may.running;
-        spelling = bit_fits f;
-        act = inl (record { frame = f; adds = raises_itself f; held = omega arith; lowered = none });
-      };
-      taken = refl;
+      place = map_there (sizes_of v.post.machine) f frame;
+      marked = tt;
+      running = λ needs. may.running;
+      spelling = bit_fits f;
+      act = inl (record { frame = f; adds = raises_itself f; held = omega arith; lowered = none });
     }
 
 pub bit_hand : (v w : PortValue) (f owner found : ℕ) → IsEnding f owner v.holdings → times f v.holdings.raised ≡ 0 → Moves v w (Map (f / 64)) (Add (map_bit f)) kinds.Hint None found →
@@ -157,14 +153,11 @@ may_free v f owner stamp n frame may low ends raised is =
     let read = free_read stamp low in
     rw is
     (record {
-      legal = record {
-        place = refs_there (sizes_of v.post.machine) f frame;
-        marked = tt;
-        running = λ needs. may.running;
-        spelling = rw read refl;
-        act = rw read (record { raised = raised; told = free_told v f owner stamp ends });
-      };
-      taken = refl;
+      place = refs_there (sizes_of v.post.machine) f frame;
+      marked = tt;
+      running = λ needs. may.running;
+      spelling = rw read refl;
+      act = rw read (record { raised = raised; was_found = free_told v f owner stamp ends });
     })
 
 pub free_hand : (v w : PortValue) (f owner stamp found : ℕ) → stamp < 2 ^ 36 → IsEnding f owner v.holdings → Moves v w (Refs f) (Store (ref_write (Free stamp))) kinds.Ref None found →
@@ -179,14 +172,11 @@ free_hand v w f owner stamp found low ends m =
 pub may_refund : (v : PortValue) (d : ℕ) → d < length v.post.machine.page_limit → MayWork v → 1 ≤ times d v.holdings.credits → May v (Pages d) (Add one_down) kinds.Pages None
 may_refund v d domain may credit =
     record {
-      legal = record {
-        place = pages_there (sizes_of v.post.machine) d domain;
-        marked = tt;
-        running = λ needs. may.running;
-        spelling = lit< tt;
-        act = record { down = lit< tt; some = lit< tt; credits = credit };
-      };
-      taken = refl;
+      place = pages_there (sizes_of v.post.machine) d domain;
+      marked = tt;
+      running = λ needs. may.running;
+      spelling = lit< tt;
+      act = record { down = lit< tt; some = lit< tt; credits = credit };
     }
 
 pub refund_hand : (v w : PortValue) (d found : ℕ) → Moves v w (Pages d) (Add one_down) kinds.Pages None found → Holds v w (refunded d v.holdings)

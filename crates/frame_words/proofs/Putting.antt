@@ -1,43 +1,39 @@
 -- A reference is given back: what the last one leaves, and its steps.
-use Rattle.std.proofs.Common.{◌≡◌, ◌≢◌, ℕ, ◌+◌, ◌/◌, ◌^◌, ◌<◌, ◌≤◌, ◌==◌, ◌&&◌, ◌||◌, nat_le, ◌⊎◌, if◌then◌else◌, zero, suc, Bool, true, false, List, [], ◌∷◌, ◌++◌, length, Some, None, IsTrue, refl, sym, ap, ◌∙◌, subst, arith, inl, inr}
-use Rattle.std.proofs.lemmas.Bool.Decides.{nat_tests}
-use Rattle.xp_words.specs.Machine.{Machine}
+use Rattle.std.proofs.Common.{◌≡◌, ℕ, ◌+◌, ◌/◌, ◌^◌, ◌<◌, ◌≤◌, ◌==◌, ◌⊎◌, if◌then◌else◌, zero, suc, Bool, true, List, [], ◌∷◌, ◌++◌, length, Some, None, IsTrue, refl, sym, ap, ◌∙◌, subst, arith, inl, inr}
 use Rattle.xp_words.specs.RefWords.{ref_read, ref_write}
 use Rattle.xp_words.specs.declared.refs.RefWord.TheVariants.{Free, Owned, Dying}
-use Rattle.xp_words.specs.declared.place.Place.TheVariants.{Clock, Refs, Map, Pages}
-use Rattle.xp_words.specs.Places.{sizes_of, place_at}
-use Rattle.xp_words.proofs.PlaceLaws.{place_back}
+use Rattle.xp_words.specs.declared.place.Place.TheVariants.{Clock, Refs, Map}
+use Rattle.xp_words.specs.Places.{sizes_of}
 use Rattle.xp_board.specs.declared.step.Act.TheVariants.{Load, Store, Add}
 use Rattle.xp_board.specs.declared.step.StepKind.TheVariants as kinds
-use Rattle.xp_board.specs.declared.holdings.Made.{Made}
 use Rattle.xp_board.specs.declared.holdings.Claimed.{Claimed}
 use Rattle.xp_board.specs.declared.holdings.Ending.{Ending}
 use Rattle.xp_board.specs.declared.holdings.Holdings.{Holdings}
 use Rattle.xp_board.specs.Acts.{left_by}
-use Rattle.xp_board.specs.Hands.{endings_of, claims_of, claim_of, without_ref, without_ending}
+use Rattle.xp_board.specs.Hands.{endings_of, claims_of, claim_of, without_ending}
 use Rattle.xp_board.specs.HintSteps.{map_bit}
-use Rattle.xp_board.specs.Lists.{times, times_by, without_by}
-use Rattle.xp_board.specs.Readings.{allocated_mark, ref_count, owner_of, is_dying, last_clock}
-use Rattle.xp_board.specs.RefSteps.{one_down, gave_ref, owner_number}
-use Rattle.xp_board.specs.Steps.{is_at, is_same, some_step, some_since}
+use Rattle.xp_board.specs.Lists.{times, without_by}
+use Rattle.xp_board.specs.Readings.{allocated_mark, ref_count, owner_of, is_dying}
+use Rattle.xp_board.specs.RefSteps.{one_down, gave_ref}
+use Rattle.xp_board.specs.Steps.{some_since}
 use Rattle.xp_board.specs.Spelling.{IsSpelling}
-use Rattle.xp_board.specs.Told.{PortValue, Finds}
+use Rattle.xp_board.specs.Told.{PortValue}
 use Rattle.xp_board.specs.WellFormed.{WellFormed}
-use Rattle.xp_board.proofs.ListCounts.{first_by-none, times_by-cons_here}
+use Rattle.board_lemmas.proofs.ListCounts.{first_by-none, times_by-cons_here}
 use Rattle.xp_board.proofs.RefWords.{is_dying-read}
-use Rattle.xp_board.proofs.Sums.{when_eq}
-use Rattle.xp_board.proofs.Works.{is_dying-mine}
+use Rattle.board_lemmas.proofs.Sums.{when_eq}
+use Rattle.board_lemmas.proofs.Works.{is_dying-mine}
 use Rattle.step_maker.specs.Holds.{Holds, Same, still}
-use Rattle.step_maker.specs.Moves.{Moves, Came, Met, step_at}
+use Rattle.step_maker.specs.Moves.{Moves, Came, Met}
+use Rattle.step_maker.proofs.Noting.{moves_since, moves_keeps}
 use Rattle.step_maker.proofs.Coming.{moment_of, moves_met, moves_came, came_trans, met_before}
-use Rattle.answer_fits.specs.Answers.{Serves, Deed, deeds_by, only_if}
+use Rattle.answer_fits.specs.Answers.{Serves, deeds_by}
 use Rattle.answer_fits.specs.Asked.{of_back, IsAsked}
 use Rattle.answer_fits.specs.Finding.{Finding, Found}
 use Rattle.answer_fits.specs.Reasons as reasons
 use Rattle.answer_fits.proofs.Piecing.{changes_nothing, changes_step, serves_step, moves_serves}
 use Rattle.frame_words.specs.Freeing.{IsEnding, IsEndingSince, raised_bit, made_free, refunded, left_free, gave, Frees, Puts, more, last}
 use Rattle.frame_words.proofs.FreeSteps.{free_read}
-use Rattle.frame_words.proofs.RowSteps.{clock_there}
 use Rattle.frame_words.proofs.Taking.{backs_itself}
 
 -- ---- what comes into the hand last goes out first
@@ -58,36 +54,16 @@ left v a b d w f owner look bit free pages =
 pub clock_low : (v w : PortValue) (c : ℕ) → Moves v w Clock Load kinds.Look None c → c < 2 ^ 36
 unfolding IsSpelling
 clock_low v w c m =
-    let low = (subst (λ y. IsSpelling v.post.machine Clock y) m.finds.word (m.finds.sound.spelled.spelled Clock (clock_there (sizes_of v.post.machine)))).1 in
+    let low = (subst (λ y. IsSpelling v.post.machine Clock y) m.finds.word (m.finds.sound.spelled.spelled Clock m.may.place)).1 in
     omega (arith, low)
-
-or_right : (a b : Bool) → b ≡ true → (a || b) ≡ true
-or_right true b is = refl
-or_right false b is = is
-
-or_left : (a b : Bool) → a ≡ true → (a || b) ≡ true
-or_left true b is = refl
-or_left false b is = absurd cc
-
-all_three : (a b c : Bool) → a ≡ true → b ≡ true → c ≡ true → (a && (b && c)) ≡ true
-all_three a b c x y z = rw (x, y, z) refl
-
-is_least : (k l : ℕ) → k ≤ l → nat_le k l ≡ true
-is_least k l h = grind (arith, nat_tests)
 
 pub ending_since : (v a b : PortValue) (f owner stamp x : ℕ) → Moves v a Clock Load kinds.Look None stamp → Moves a b (Map (f / 64)) (Add (map_bit f)) kinds.Hint None x → Same v a →
     Holds a b (raised_bit f a.holdings) → IsEnding f owner v.holdings → IsEndingSince b.post.machine f owner stamp b.holdings
-unfolding some_step left_by
+unfolding left_by
 ending_since v a b f owner stamp x look bit same raised e =
-    let n = v.post.machine in
-    let z = sizes_of n in
-    let test = λ (k : ℕ) (y : Made). nat_le e.ending.since k && (is_at z Clock y && (left_by y.step.act y.found == stamp)) in
-    let first : Made = record { step = step_at n Clock Load kinds.Look None; found = stamp } in
-    let here : is_at z Clock first ≡ true = ap (λ p. is_same p Clock) (place_back z Clock look.may.legal.place) in
-    let seen : some_step test a.holdings.steps ≡ true =
-        ap (λ (q : PortValue). some_step test q.holdings.steps) look.to
-        ∙ or_left (test (length v.holdings.steps) first) (some_step test v.holdings.steps) (all_three _ _ _ (is_least e.ending.since (length v.holdings.steps) e.recent) here (when_eq stamp stamp refl)) in
-    let told : some_step test b.holdings.steps ≡ true = ap (λ (q : PortValue). some_step test q.holdings.steps) bit.to ∙ or_right _ (some_step test a.holdings.steps) seen in
+    let z = sizes_of v.post.machine in
+    let seen : IsTrue (some_since z e.ending.since Clock (λ y. y == stamp) a.holdings.steps) = moves_since v a Clock Load kinds.Look None stamp look e.ending.since (λ y. y == stamp) e.recent (when_eq stamp stamp refl) in
+    let told : IsTrue (some_since z e.ending.since Clock (λ y. y == stamp) b.holdings.steps) = moves_keeps a b (Map (f / 64)) (Add (map_bit f)) kinds.Hint None x bit _ seen in
     let whole = raised ∙ ap (λ (q : PortValue). still (record q { holdings = raised_bit f q.holdings })) same in
     let post = ap (λ (q : PortValue). q.post.machine) whole in
     let more : length v.holdings.steps ≤ length b.holdings.steps = rw (ap (λ (q : PortValue). length q.holdings.steps) bit.to, ap (λ (q : PortValue). length q.holdings.steps) look.to) (omega arith) in
@@ -110,7 +86,7 @@ bit_raised a b f holds = let one = times_by-cons_here (λ (g : ℕ). g) f f a.ho
 pub page_credited : (b d : PortValue) (f owner : ℕ) → Holds b d (made_free f owner b.holdings) → 1 ≤ times owner d.holdings.credits
 page_credited b d f owner holds = let one = times_by-cons_here (λ (g : ℕ). g) owner owner b.holdings.credits refl in rw (ap (λ (q : PortValue). q.holdings.credits) holds) (omega (arith, one))
 
-free_is_no_deed : (f stamp found : ℕ) (h : Holdings) → stamp < 2 ^ 36 → deeds_by (Refs f) (Store (ref_write (Free stamp))) found h ≡ []
+free_is_no_deed : (f stamp found : ℕ) (h : Holdings) → stamp < 2 ^ 36 → deeds_by (Refs f) (Store (ref_write (Free stamp))) kinds.Ref found h ≡ []
 unfolding allocated_mark
 free_is_no_deed f stamp found h low = rw (free_read stamp low) refl
 
@@ -127,7 +103,7 @@ module _ (v u : PortValue) (f w owner : ℕ) (allocated : Bool) (lower : Moves v
   none_held =
       elim (cases_zero (endings_of f v.holdings.ending + claims_of f v.holdings.claimed)) [
         | inl none ↦ none
-        | inr some ↦ absurd (not_dying (is_dying-mine v.post.machine lower.finds.words lower.finds.seats lower.finds.sound.alone f v.post.vcpu lower.finds.real (subst (λ (h : Holdings). 0 < endings_of f h.ending + claims_of f h.claimed) (sym lower.finds.mine) some)))
+        | inr some ↦ absurd (not_dying (is_dying-mine v.post.machine lower.finds.words lower.finds.hands lower.finds.sound.alone f v.post.vcpu lower.finds.real (subst (λ (h : Holdings). 0 < endings_of f h.ending + claims_of f h.claimed) (sym lower.finds.mine) some)))
       ]
     where
       cases_zero : (k : ℕ) → (k ≡ 0) ⊎ (0 < k)
@@ -181,10 +157,10 @@ module _ (v u : PortValue) (f w owner : ℕ) (allocated : Bool) (lower : Moves v
         let three = serves_step v frees.a frees.b r [] _ _ _ _ _ two frees.bit (f, refl, asks _) in
         let four = serves_step v frees.b frees.d r [] _ _ _ _ _ three frees.free (asks _, tt) in
         let after : Came u x = came_trans u frees.b x (came_trans u frees.a frees.b (moves_came _ _ _ _ _ _ _ frees.look) (moves_came _ _ _ _ _ _ _ frees.bit))
-            (came_trans frees.b frees.d x (moves_came _ _ _ _ _ _ _ frees.free) (moves_came _ _ _ _ _ _ _ frees.pages)) in
+        (came_trans frees.b frees.d x (moves_came _ _ _ _ _ _ _ frees.free) (moves_came _ _ _ _ _ _ _ frees.pages)) in
         let seen : Found (Met v x) (Refs f) w = found_first after in
         serves_step v frees.d x r [] _ _ _ _ _ (subst (λ ds. Serves v frees.d r (ds ++ [])) (free_is_no_deed f frees.stamp frees.y frees.b.holdings (clock_low u frees.a frees.stamp frees.look)) four) frees.pages
-        (reasons.found f w (asks _) seen owner_found)
+        (reasons.found f w (asks _) seen owner_found, tt)
       where
         found_first : Came u x → Found (Met v x) (Refs f) w
         found_first after = record { moment = moment_of v (Refs f) (Add one_down) kinds.Ref None w; was = met_before v u x _ (moves_met v u _ _ _ _ _ lower) after; place = refl; word = refl }
@@ -201,8 +177,5 @@ pub changes_more : (v u : PortValue) (f w : ℕ) → Moves v u (Refs f) (Add one
 changes_more v u f w lower = more (changes_step v v u [] _ _ _ _ _ (changes_nothing v) lower)
 
 -- ---- not the last one
-not_one : (k : ℕ) → k ≢ 1 → (k == 1) ≡ false
-not_one k off = grind (arith, nat_tests)
-
 pub puts_more : (v u : PortValue) (f w : ℕ) → Moves v u (Refs f) (Add one_down) kinds.Ref None w → Serves v u (of_back f) []
 puts_more v u f w lower = moves_serves v u (of_back f) _ _ _ _ _ lower (backs_itself v.post.machine v.post.vcpu f _, tt)

@@ -1,49 +1,28 @@
 -- When each row may be made, and what it leaves in hand.
-use Rattle.std.proofs.Common.{◌≡◌, ◌≢◌, ℕ, ◌+◌, ◌<◌, ◌≤◌, ◌^◌, ◌==◌, if◌then◌else◌, not, Option, Result, Ok, Err, IfErr, MatchResult, Bool, true, false, Some, None, IsTrue, refl, sym, ap, ◌∙◌, subst, arith, lit<, length}
+use Rattle.std.proofs.Common.{◌≡◌, ◌≢◌, ℕ, ◌+◌, ◌<◌, ◌^◌, if◌then◌else◌, Result, Ok, Err, IfErr, MatchResult, true, false, Some, None, IsTrue, refl, ap, ◌∙◌, arith, lit<}
 use Rattle.std.proofs.lemmas.Bool.Decides.{nat_tests}
-use Rattle.xp_words.specs.Machine.{Machine}
-use Rattle.xp_words.specs.declared.place.Place.{Place}
-use Rattle.xp_words.specs.declared.place.Place.TheVariants.{Clock, Refs, Kind, M2p}
+use Rattle.xp_words.specs.declared.place.Place.TheVariants.{Refs, M2p}
 use Rattle.xp_words.specs.Places.{Sizes, is_place, sizes_of}
-use Rattle.xp_words.specs.RefWords.{ref_read, ref_write, IsRef}
+use Rattle.xp_words.specs.RefWords.{ref_read, IsRef}
 use Rattle.xp_words.specs.declared.refs.RefWord.TheVariants.{Owned}
 use Rattle.xp_words.proofs.RefLaws.{ref_read-write}
-use Rattle.xp_words.specs.declared.kind.KindWord.{KindWord}
-use Rattle.xp_words.specs.declared.kind.PageType.{PageType}
-use Rattle.xp_words.specs.KindWords.{is_kind, kind_read, kind_fields, kind_write}
-use Rattle.xp_words.specs.PageTypes.{is_none}
-use Rattle.xp_words.proofs.KindLaws.{kind_read-write}
-use Rattle.xp_board.specs.declared.step.Act.TheVariants.{Load, Cas, Store, Add}
+use Rattle.xp_board.specs.declared.step.Act.TheVariants.{Cas, Store, Add}
 use Rattle.xp_board.specs.declared.step.StepKind.TheVariants as kinds
-use Rattle.xp_board.specs.declared.holdings.Holdings.{Holdings}
-use Rattle.xp_board.specs.Hands.{hand, refs_to}
-use Rattle.xp_board.specs.declared.holdings.Work.{Work}
-use Rattle.xp_board.specs.KindSteps.{AllowsKind, AllowsForm, form_of, AllowsKindStore, KindRow, Count, Begin, AllowsKindRow, kind_row, after_kind_row, begun_kind, raised_kind, still_looking}
-use Rattle.xp_board.specs.Readings.{is_live, is_dead, owner_of, owner_in}
+use Rattle.xp_board.specs.Hands.{hand}
+use Rattle.xp_board.specs.Readings.{owner_of, owner_in}
 use Rattle.xp_board.specs.RefSteps.{Raise, one_down, after_ref_row, ref_row, owner_number}
-use Rattle.xp_board.specs.Spelling.{IsSpelling, is_kind_in}
 use Rattle.xp_board.specs.Told.{PortValue}
 use Rattle.xp_board.proofs.Rows.{raise_legal, map_legal}
-use Rattle.xp_board.proofs.Sums.{when_ne, if_itself}
+use Rattle.board_lemmas.proofs.Sums.{when_ne, if_itself}
 use Rattle.step_maker.specs.Holds.{Holds, Same, MayWork, still}
 use Rattle.step_maker.specs.Moves.{May, Moves, found_by}
 use Rattle.frame_words.specs.declared.rows.Open.{Open}
-use Rattle.frame_words.specs.Kinds.{looked_at, counted_type, begun_work, MayLeave, left}
 use Rattle.frame_words.specs.Refs.{open_word, raised_word, IsOpen, took, MayGive}
-use Rattle.frame_words.proofs.KindWriting.{fields_write, raised_is, begun_is}
 
 -- ---- places
 pub refs_there : (z : Sizes) (f : ℕ) → f < z.frames → IsTrue (is_place z (Refs f))
 unfolding is_place
 refs_there z f h = grind (arith, nat_tests)
-
-pub kind_there : (z : Sizes) (f : ℕ) → f < z.frames → IsTrue (is_place z (Kind f))
-unfolding is_place
-kind_there z f h = grind (arith, nat_tests)
-
-pub clock_there : (z : Sizes) → IsTrue (is_place z Clock)
-unfolding is_place
-clock_there z = refl
 
 -- ---- reference words
 pub open_is_ref : (v : PortValue) (o : Open) → MayWork v → IsOpen v.post.machine o → IsRef (Owned o.owner o.allocated o.count)
@@ -57,26 +36,20 @@ raised_is_ref v o may room = let few = may.machine.few_counts in let domains = m
 pub may_raise : (v : PortValue) (f e n : ℕ) (o : Open) → f < v.post.machine.frames → MayWork v → IsOpen v.post.machine o → e ≡ open_word o → n ≡ raised_word o → May v (Refs f) (Cas e n) kinds.Ref None
 may_raise v f e n o frame may room is next =
     rw (is, next)
-    (record {
-      legal = raise_legal v.post.machine v.post.vcpu f o.owner o.count o.allocated v.holdings may.machine.few_counts may.machine.few_domains frame may.running room.owner room.some room.below;
-      taken = refl;
-    })
+    (raise_legal v.post.machine v.post.vcpu f o.owner o.count o.allocated v.holdings may.machine.few_counts may.machine.few_domains frame may.running room.owner room.some room.below)
 
 pub may_lower : (v : PortValue) (f : ℕ) → f < v.post.machine.frames → MayWork v → MayGive f v.holdings → May v (Refs f) (Add one_down) kinds.Ref None
 may_lower v f frame may give =
     record {
-      legal = record {
-        place = refs_there (sizes_of v.post.machine) f frame;
-        marked = tt;
-        running = λ needs. may.running;
-        spelling = lit< tt;
-        act = record { one = refl; in_hand = give.held; spares = give.spares };
-      };
-      taken = refl;
+      place = refs_there (sizes_of v.post.machine) f frame;
+      marked = tt;
+      running = λ needs. may.running;
+      spelling = lit< tt;
+      act = record { one = refl; in_hand = give.held; spares = give.spares };
     }
 
 pub may_map : (v : PortValue) (f g : ℕ) → f < v.post.machine.frames → MayWork v → g < 2 ^ 64 → 0 < hand f v.holdings → May v (M2p f) (Store g) kinds.M2p None
-may_map v f g frame may small held = record { legal = map_legal v.post.machine v.post.vcpu f g v.holdings frame may.running small held; taken = refl }
+may_map v f g frame may small held = map_legal v.post.machine v.post.vcpu f g v.holdings frame may.running small held
 
 -- an exchange of a reference word that found another
 pub lost_refs : (v w : PortValue) (f e n found : ℕ) → Moves v w (Refs f) (Cas e n) kinds.Ref None found → found ≢ e → Same v w
@@ -107,4 +80,4 @@ pub raised_hand : (v w : PortValue) (f : ℕ) (o : Open) (r : Result (Unit {0}) 
 raised_hand v w f o (Ok done) may room m off = took_refs v w f o may room m
 raised_hand v w f o (Err found) may room m off = lost_refs v w f _ _ found m off
 
-pub ruleset rows = (clock_there, refs_there, kind_there, open_is_ref, raised_is_ref, may_raise, may_lower, may_map, raised_hand, may_count, count_hand, may_begin, begin_hand, may_leave)
+pub ruleset rows = (refs_there, open_is_ref, raised_is_ref, may_raise, may_lower, may_map, raised_hand)

@@ -1,10 +1,10 @@
 -- A reference is taken: what its steps show, and what it leaves.
-use Rattle.std.proofs.Common.{◌≡◌, ◌≢◌, ℕ, ◌+◌, ◌<◌, ◌≤◌, ◌^◌, ◌==◌, ◌&&◌, nat_le, if◌then◌else◌, Bool, true, false, List, [], ◌∷◌, ◌++◌, length, Option, Some, None, IsTrue, refl, sym, ap, ◌∙◌, subst, arith, inl, inr}
+use Rattle.std.proofs.Common.{◌≡◌, ◌≢◌, ℕ, ◌+◌, ◌<◌, ◌≤◌, ◌^◌, ◌==◌, ◌&&◌, nat_le, if◌then◌else◌, Bool, true, false, List, [], ◌∷◌, ◌++◌, length, Option, Some, None, IsTrue, refl, sym, ap, ◌∙◌, subst, arith, inl}
 use Rattle.std.proofs.lemmas.Bool.Decides.{nat_tests}
 use Rattle.xp_words.specs.Machine.{Machine}
 use Rattle.xp_words.specs.declared.place.Place.TheVariants.{Refs}
 use Rattle.xp_words.specs.Places.{number, sizes_of, place_at}
-use Rattle.xp_words.specs.RefWords.{ref_read, ref_write, IsRef, bit}
+use Rattle.xp_words.specs.RefWords.{ref_read, IsRef, bit}
 use Rattle.xp_words.specs.declared.kind.PageType.{PageType}
 use Rattle.xp_words.specs.declared.refs.RefWord.TheVariants.{Owned}
 use Rattle.xp_words.specs.declared.reply.Refusal.{Refusal}
@@ -25,15 +25,15 @@ use Rattle.xp_board.specs.declared.holdings.OwnerFound.TheVariants as owners
 use Rattle.xp_board.specs.declared.holdings.Work.{Work}
 use Rattle.xp_board.specs.Hands.{refs_to, work_on}
 use Rattle.xp_board.specs.Lists.{EachOf, first_by, times_by, one_at}
-use Rattle.xp_board.specs.RefSteps.{SparesClosing, is_closing_on}
+use Rattle.xp_board.specs.RefSteps.{is_closing_on}
 use Rattle.xp_board.specs.Sound.{WorkAgrees}
 use Rattle.xp_board.specs.Spelling.{IsSpelling}
 use Rattle.xp_board.specs.Told.{PortValue, Finds}
-use Rattle.xp_board.proofs.Sums.{one_at-same}
-use Rattle.step_maker.specs.Holds.{Holds, Same, MayWork, still}
+use Rattle.board_lemmas.proofs.Sums.{one_at-same, when_eq, when_ne}
+use Rattle.step_maker.specs.Holds.{Holds, Same, still}
 use Rattle.step_maker.specs.Moves.{Moves, Met, step_at}
 use Rattle.step_maker.proofs.Coming.{moment_of, moves_met, moves_came, met_before, met_after}
-use Rattle.answer_fits.specs.Answers.{Serves, Stops, Deed, Returns, Misses, deeds_by, exchanged, only_if}
+use Rattle.answer_fits.specs.Answers.{Serves, Stops, Deed, Returns, Misses, missed_at, deeds_by, exchanged, only_if}
 use Rattle.answer_fits.specs.Asked.{Request, of_frame, of_back, IsFor, IsAsked, of, back, named}
 use Rattle.answer_fits.specs.Finding.{Finding, Found, FoundWith}
 use Rattle.answer_fits.specs.Reasons.{Reason, IsRefChange}
@@ -54,15 +54,12 @@ domain_known n s h f found owner count allocated frame finds read =
 least : (k : ℕ) → nat_le k k ≡ true
 least k = grind (arith, nat_tests)
 
-same_place : (f : ℕ) → (f == f) ≡ true
-same_place f = grind (arith, nat_tests)
-
 pub just_looked : (v u : PortValue) (f word : ℕ) → Moves v u (Refs f) Load kinds.Look None word → last_since (sizes_of v.post.machine) (length v.holdings.steps) (Refs f) u.holdings.steps ≡ Some word
 unfolding last_since left_by
 just_looked v u f word m =
     let z = sizes_of v.post.machine in
     let x : Made = record { step = step_at v.post.machine (Refs f) Load kinds.Look None; found = word } in
-    let at : is_at z (Refs f) x ≡ true = ap (λ p. is_same p (Refs f)) (place_back z (Refs f) m.may.legal.place) ∙ same_place f in
+    let at : is_at z (Refs f) x ≡ true = ap (λ p. is_same p (Refs f)) (place_back z (Refs f) m.may.place) ∙ when_eq f f refl in
     ap (λ (q : PortValue). last_since z (length v.holdings.steps) (Refs f) q.holdings.steps) m.to
     ∙ ap (λ b. if b then (if is_at z (Refs f) x then Some word else last_since z (length v.holdings.steps) (Refs f) v.holdings.steps) else None) (least (length v.holdings.steps))
     ∙ ap (λ b. if b then Some word else last_since z (length v.holdings.steps) (Refs f) v.holdings.steps) at
@@ -71,38 +68,29 @@ none_by : (b : Bool) (d : Deed) → only_if ((bit b == 1) && (bit b == 0)) d ≡
 none_by true d = refl
 none_by false d = refl
 
-same_word : (w : ℕ) → (w == w) ≡ true
-same_word w = grind (arith, nat_tests)
-
-other_word : (x w : ℕ) → x ≢ w → (x == w) ≡ false
-other_word x w off = grind (arith, nat_tests)
-
 -- counting up is no deed: the allocated mark stays. Nor does it claim.
 module _ (f : ℕ) (o : Open) (is : IsRef (Owned o.owner o.allocated o.count)) (below : o.count + 1 < 2 ^ 26) (h : Holdings) where
-  raise_is_no_deed : deeds_by (Refs f) (Cas (open_word o) (raised_word o)) (open_word o) h ≡ []
+  raise_is_no_deed : deeds_by (Refs f) (Cas (open_word o) (raised_word o)) kinds.Ref (open_word o) h ≡ []
   unfolding allocated_mark IsRef
   raise_is_no_deed =
       let before = ref_read-write (Owned o.owner o.allocated o.count) is in
       let next = ref_read-write (Owned o.owner o.allocated (o.count + 1)) (is.0, omega arith, below) in
-      rw (same_word (open_word o), before, next) (none_by o.allocated (Returns f))
+      rw (when_eq (open_word o) (open_word o) refl, before, next) (none_by o.allocated (Returns f))
 
   raise_changes : (r : Request) → IsRefChange r (Cas (open_word o) (raised_word o))
   unfolding is_free
   raise_changes r free = absurd (let off : is_free (open_word o) ≡ false = rw (ref_read-write (Owned o.owner o.allocated o.count) is) refl in cc)
 
 -- ---- what is asked
-same_is : (f : ℕ) → IsTrue (f == f)
-same_is f = grind (arith, nat_tests)
-
 for_itself : (want : Option PageType) → IsFor want want
 for_itself None = tt
 for_itself (Some t) = refl
 
 pub names_itself : (n : Machine) (s f owner : ℕ) (want : _) (F : Finding) → IsAsked n s (of_frame f owner want) F f
-names_itself n s f owner want F = of owner want (named (same_is f) refl (for_itself want))
+names_itself n s f owner want F = of owner want (named (when_eq f f refl) refl (for_itself want))
 
 pub backs_itself : (n : Machine) (s f : ℕ) (F : Finding) → IsAsked n s (of_back f) F f
-backs_itself n s f F = back (same_is f)
+backs_itself n s f F = back (when_eq f f refl)
 
 -- ---- refused
 pub no_frame : (v : PortValue) (f owner : ℕ) → v.post.machine.frames ≤ f → Stops v v (of_frame f owner None) (Refused (NoFrame f))
@@ -120,8 +108,8 @@ module _ (v u : PortValue) (f owner word : ℕ) (look : Moves v u (Refs f) Load 
 
   pub refused : (x : Refusal) → RefusesWord f owner v.post.machine.limit word x → Stops v u (of_frame f owner None) (Refused x)
   unfolding Stops
-  refused (WrongOwner g found) (is, at, why) = rw (is, at) (owner, None, named (same_is f) refl tt, found_word, inl why)
-  refused (CountFull g found) (is, at, why) = rw (is, at) (owner, None, v.holdings, named (same_is f) refl tt, found_with, why, no_more (of_frame f owner None) v.holdings f)
+  refused (WrongOwner g found) (is, at, why) = rw (is, at) (owner, None, named (when_eq f f refl) refl tt, found_word, inl why)
+  refused (CountFull g found) (is, at, why) = rw (is, at) (owner, None, v.holdings, named (when_eq f f refl) refl tt, found_with, why, no_more (of_frame f owner None) v.holdings f)
   refused _ why = absurd why
 
   pub looked : Serves v u (of_frame f owner None) []
@@ -145,40 +133,43 @@ module _ (v u : PortValue) (f owner word : ℕ) (look : Moves v u (Refs f) Load 
     asks : (F : Finding) → Reason v.post.machine v.post.vcpu (of_frame f owner None) F (Refs f) (Cas (open_word o) (raised_word o)) found u.holdings
     asks F = (names_itself _ _ f owner None F, raise_changes f o (word_law o small read).0 below u.holdings (of_frame f owner None))
 
-    tried : Serves v w (of_frame f owner None) (deeds_by (Refs f) (Cas (open_word o) (raised_word o)) found u.holdings ++ [])
+    tried : Serves v w (of_frame f owner None) (deeds_by (Refs f) (Cas (open_word o) (raised_word o)) kinds.Ref found u.holdings ++ [])
     tried = serves_step v u w (of_frame f owner None) [] _ _ _ _ _ looked raise (asks _)
 
     pub taken : found ≡ open_word o → Serves v w (of_frame f owner None) []
     taken at =
         subst (λ ds. Serves v w (of_frame f owner None) (ds ++ []))
-        (ap (λ x. deeds_by (Refs f) (Cas (open_word o) (raised_word o)) x u.holdings) at ∙ raise_is_no_deed f o (word_law o small read).0 below u.holdings) tried
+        (ap (λ x. deeds_by (Refs f) (Cas (open_word o) (raised_word o)) kinds.Ref x u.holdings) at ∙ raise_is_no_deed f o (word_law o small read).0 below u.holdings) tried
 
-    pub missed_there : (place : ℕ) → place ≡ number (sizes_of v.post.machine) (Refs f) → found ≢ open_word o → Serves v w (of_frame f owner None) (Misses (place_at (sizes_of v.post.machine) place) ∷ [])
+    pub missed_there : (place : ℕ) → place ≡ number (sizes_of v.post.machine) (Refs f) → found ≢ open_word o → Serves v w (of_frame f owner None) (missed_at (place_at (sizes_of v.post.machine) place))
     missed_there place at off =
-        let is : place_at (sizes_of v.post.machine) place ≡ Refs f = ap (λ i. place_at (sizes_of v.post.machine) i) at ∙ place_back (sizes_of v.post.machine) (Refs f) look.may.legal.place in
-        rw is (subst (λ b. Serves v w (of_frame f owner None) ((if b then exchanged (Refs f) (open_word o) (raised_word o) else (Misses (Refs f) ∷ [])) ++ [])) (other_word found (open_word o) off) tried)
+        let is : place_at (sizes_of v.post.machine) place ≡ Refs f = ap (λ i. place_at (sizes_of v.post.machine) i) at ∙ place_back (sizes_of v.post.machine) (Refs f) look.may.place in
+        rw is (subst (λ b. Serves v w (of_frame f owner None) ((if b then exchanged (Refs f) (open_word o) (raised_word o) else (Misses (Refs f) ∷ [])) ++ [])) (when_ne found (open_word o) off) tried)
 
     pub lost : (place : ℕ) → place ≡ number (sizes_of v.post.machine) (Refs f) → found ≢ open_word o → Stops v w (of_frame f owner None) (Paused (Lost place word found))
     unfolding Stops moment_of
     lost place at off =
         let is = (word_law o small read).1 in
-        let asks_word = subst (λ e. Reason v.post.machine v.post.vcpu (of_frame f owner None) (Met v w) (Refs f) (Cas e (raised_word o)) found u.holdings) is (asks (Met v w)) in
-        (
+        let asks_word = subst (λ e. Reason v.post.machine v.post.vcpu (of_frame f owner None) (Met v w) (Refs f) (Cas e (raised_word o)) found u.holdings) is (asks (Met v w)) in (
           Refs f,
           at,
-          (record {
-            before = moment_of v (Refs f) Load kinds.Look None word;
-            exchange = moment_of u (Refs f) (Cas (open_word o) (raised_word o)) kinds.Ref None found;
-            new = raised_word o;
-            was_before = met_before v u w _ (moves_met v u _ _ _ _ _ look) (moves_came u w _ _ _ _ _ raise);
-            was_exchange = met_after v u w _ (moves_came v u _ _ _ _ _ look) (moves_met u w _ _ _ _ _ raise);
-            place_before = refl;
-            place = refl;
-            act = ap (λ y. Cas y (raised_word o)) is;
-            word = refl;
-            last = just_looked v u f word look;
-            other = λ e. off (e ∙ sym is);
-          }, asks_word),
+          (λ e. cc),
+          (
+            record {
+              before = moment_of v (Refs f) Load kinds.Look None word;
+              exchange = moment_of u (Refs f) (Cas (open_word o) (raised_word o)) kinds.Ref None found;
+              new = raised_word o;
+              was_before = met_before v u w _ (moves_met v u _ _ _ _ _ look) (moves_came u w _ _ _ _ _ raise);
+              was_exchange = met_after v u w _ (moves_came v u _ _ _ _ _ look) (moves_met u w _ _ _ _ _ raise);
+              place_before = refl;
+              place = refl;
+              act = ap (λ y. Cas y (raised_word o)) is;
+              word = refl;
+              last = just_looked v u f word look;
+              other = λ e. off (e ∙ sym is);
+            },
+            asks_word,
+          ),
         )
 
 -- a frame that is closing in the hand keeps a reference beside the new one

@@ -9,7 +9,7 @@ use Rattle.xp_words.specs.RefWords.{ref_read, ref_write}
 use Rattle.xp_board.specs.declared.holdings.Ending.{Ending}
 use Rattle.xp_board.specs.declared.holdings.Holdings.{Holdings}
 use Rattle.xp_board.specs.Hands.{claim_of, without_ref, without_ending}
-use Rattle.xp_board.specs.Lists.{times, without_by}
+use Rattle.xp_board.specs.Lists.{without_by}
 use Rattle.xp_board.specs.Readings.{ref_count}
 use Rattle.xp_board.specs.HintSteps.{map_bit}
 use Rattle.xp_board.specs.RefSteps.{one_down}

@@ -85,7 +85,7 @@ fn free_word(stamp: u64) -> u64
     requires clock { stamp < 2 ^ 36 }
     ensures { result ≡ ref_write (Free stamp) }
 {
-    let free = RefPlace::Free { stamp };
+    let free = RefWord::Free { stamp };
     free.write()
 }
 
@@ -94,9 +94,9 @@ fn free_word(stamp: u64) -> u64
 pub(crate) fn last_owner(word: u64) -> Option<u16>
     ensures { LastOf word result }
 {
-    match RefPlace::read(word) {
+    match RefWord::read(word) {
         Some(
-            RefPlace::Owned {
+            RefWord::Owned {
                 owner,
                 allocated: _,
                 count,

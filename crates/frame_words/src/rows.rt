@@ -41,13 +41,13 @@ pub fn raise_refs<P: Port>(port: &mut P, frame: u32, from: Open) -> Result<(), u
     ensures lost { IfErr result (λ found. found ≢ open_word from) }
     ensures hand { MatchResult result (λ _. Holds (P.value port.old) (P.value port.new) (took frame from.owner (P.value port.old).holdings)) (λ _. Same (P.value port.old) (P.value port.new)) }
 {
-    let expected = RefPlace::Owned {
+    let expected = RefWord::Owned {
         owner: from.owner,
         allocated: from.allocated,
         count: from.count,
     }
     .write();
-    let new = RefPlace::Owned {
+    let new = RefWord::Owned {
         owner: from.owner,
         allocated: from.allocated,
         count: from.count + 1,
@@ -89,4 +89,3 @@ pub fn store_m2p<P: Port>(port: &mut P, frame: u32, gpfn: u64) -> u64
         None,
     )
 }
-

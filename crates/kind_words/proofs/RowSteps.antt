@@ -1,49 +1,34 @@
 -- When each row may be made, and what it leaves in hand.
-use Rattle.std.proofs.Common.{◌≡◌, ◌≢◌, ℕ, ◌+◌, ◌<◌, ◌≤◌, ◌^◌, ◌==◌, if◌then◌else◌, not, Option, Result, Ok, Err, IfErr, MatchResult, Bool, true, false, Some, None, IsTrue, refl, sym, ap, ◌∙◌, subst, arith, lit<, length}
+use Rattle.std.proofs.Common.{◌≡◌, ◌≢◌, ℕ, ◌<◌, if◌then◌else◌, not, Option, Result, Ok, Err, IfErr, MatchResult, Some, None, IsTrue, refl, sym, ap, ◌∙◌, subst, arith, lit<, inl}
 use Rattle.std.proofs.lemmas.Bool.Decides.{nat_tests}
 use Rattle.xp_words.specs.Machine.{Machine}
-use Rattle.xp_words.specs.declared.place.Place.{Place}
-use Rattle.xp_words.specs.declared.place.Place.TheVariants.{Clock, Refs, Kind, M2p}
+use Rattle.xp_words.specs.declared.place.Place.TheVariants.{Kind}
 use Rattle.xp_words.specs.Places.{Sizes, is_place, sizes_of}
-use Rattle.xp_words.specs.RefWords.{ref_read, ref_write, IsRef}
-use Rattle.xp_words.specs.declared.refs.RefWord.TheVariants.{Owned}
-use Rattle.xp_words.proofs.RefLaws.{ref_read-write}
 use Rattle.xp_words.specs.declared.kind.KindWord.{KindWord}
 use Rattle.xp_words.specs.declared.kind.PageType.{PageType}
-use Rattle.xp_words.specs.KindWords.{is_kind, kind_read, kind_fields, kind_write}
+use Rattle.xp_words.specs.KindWords.{is_kind, kind_fields, kind_write}
 use Rattle.xp_words.specs.PageTypes.{is_none}
 use Rattle.xp_words.proofs.KindLaws.{kind_read-write}
-use Rattle.xp_board.specs.declared.step.Act.TheVariants.{Load, Cas, Store, Add}
+use Rattle.xp_board.specs.declared.step.Act.TheVariants.{Cas, Store, Add}
 use Rattle.xp_board.specs.declared.step.StepKind.TheVariants as kinds
 use Rattle.xp_board.specs.declared.holdings.Holdings.{Holdings}
-use Rattle.xp_board.specs.Hands.{hand, refs_to}
+use Rattle.xp_board.specs.Hands.{refs_to}
 use Rattle.xp_board.specs.declared.holdings.Work.{Work}
-use Rattle.xp_board.specs.KindSteps.{AllowsKind, AllowsForm, form_of, AllowsKindStore, KindRow, Count, Begin, AllowsKindRow, kind_row, after_kind_row, begun_kind, raised_kind, still_looking}
-use Rattle.xp_board.specs.Readings.{is_live, is_dead, owner_of, owner_in}
-use Rattle.xp_board.specs.RefSteps.{Raise, one_down, after_ref_row, ref_row, owner_number}
+use Rattle.xp_board.specs.KindSteps.{AllowsKind, AllowsForm, form_of, AllowsKindStore, KindRow, Count, Begin, Resume, AllowsKindRow, kind_row, after_kind_row, begun_kind, raised_kind, resumed_kind, MayDrop}
+use Rattle.xp_board.specs.Readings.{is_live, is_dead, is_partial}
+use Rattle.xp_board.specs.RefSteps.{one_down}
 use Rattle.xp_board.specs.Spelling.{IsSpelling, is_kind_in}
 use Rattle.xp_board.specs.Told.{PortValue}
-use Rattle.xp_board.proofs.Rows.{raise_legal, map_legal}
-use Rattle.xp_board.proofs.Sums.{when_ne, if_itself}
-use Rattle.step_maker.specs.Holds.{Holds, Same, MayWork, still}
+use Rattle.board_lemmas.proofs.Sums.{when_ne, if_itself}
+use Rattle.step_maker.specs.Holds.{Holds, MayWork, still}
 use Rattle.step_maker.specs.Moves.{May, Moves, found_by}
-use Rattle.kind_words.specs.declared.rows.Open.{Open}
-use Rattle.kind_words.specs.Kinds.{looked_at, counted_type, begun_work, MayLeave, left}
-use Rattle.kind_words.specs.Refs.{open_word, raised_word, IsOpen, took, MayGive}
-use Rattle.kind_words.proofs.KindWriting.{fields_write, raised_is, begun_is}
+use Rattle.kind_words.specs.Kinds.{looked_at, counted_type, begun_work, resumed_work, MayLeave}
+use Rattle.kind_words.proofs.KindWriting.{fields_write, raised_is, begun_is, resumed_is}
 
 -- ---- places
-pub refs_there : (z : Sizes) (f : ℕ) → f < z.frames → IsTrue (is_place z (Refs f))
-unfolding is_place
-refs_there z f h = grind (arith, nat_tests)
-
 pub kind_there : (z : Sizes) (f : ℕ) → f < z.frames → IsTrue (is_place z (Kind f))
 unfolding is_place
 kind_there z f h = grind (arith, nat_tests)
-
-pub clock_there : (z : Sizes) → IsTrue (is_place z Clock)
-unfolding is_place
-clock_there z = refl
 
 -- ---- kind words
 allows_by : (n : Machine) (s f : ℕ) (h : Holdings) (o p : Option KindWord) (k l : KindWord) (r : KindRow) → o ≡ Some k → p ≡ Some l → kind_row k l ≡ r → AllowsKindRow r n s f k l h → AllowsKind n s f h o p
@@ -55,20 +40,17 @@ module _ (v : PortValue) (f : ℕ) (k l : KindWord) (r : KindRow) (before : IsTr
   may_exchange e n frame may fits allows is to =
       rw (is, to)
       (record {
-        legal = record {
-          place = kind_there (sizes_of v.post.machine) f frame;
-          marked = tt;
-          running = λ needs. may.running;
-          spelling = subst (λ o. IsTrue (is_kind_in v.post.machine o)) (sym (kind_read-write l next)) fits;
-          act = allows_by v.post.machine v.post.vcpu f v.holdings _ _ k l r (kind_read-write k before) (kind_read-write l next) row allows;
-        };
-        taken = refl;
+        place = kind_there (sizes_of v.post.machine) f frame;
+        marked = tt;
+        running = λ needs. may.running;
+        spelling = subst (λ o. IsTrue (is_kind_in v.post.machine o)) (sym (kind_read-write l next)) fits;
+        act = allows_by v.post.machine v.post.vcpu f v.holdings _ _ k l r (kind_read-write k before) (kind_read-write l next) row allows;
       })
 
   pub exchanged : (w : PortValue) (e n : ℕ) → e ≡ kind_write k → n ≡ kind_write l → Moves v w (Kind f) (Cas e n) kinds.Kind None e → Holds v w (after_kind_row r f k l (kind_write l) (looked_at f (kind_write l) v.holdings))
   exchanged w e n is_e is_n moved =
       let m : Moves v w (Kind f) (Cas (kind_write k) (kind_write l)) kinds.Kind None (kind_write k) =
-          subst (λ y. Moves v w (Kind f) (Cas y (kind_write l)) kinds.Kind None y) is_e (subst (λ y. Moves v w (Kind f) (Cas e y) kinds.Kind None e) is_n moved) in
+      subst (λ y. Moves v w (Kind f) (Cas y (kind_write l)) kinds.Kind None y) is_e (subst (λ y. Moves v w (Kind f) (Cas e y) kinds.Kind None e) is_n moved) in
       let g = looked_at f (kind_write l) v.holdings in
       ap still m.to
       ∙ ap (λ h. still (record v { holdings = h }))
@@ -127,14 +109,35 @@ unfolding IsSpelling
 may_leave v f n l frame may leaves is =
     rw is
     (record {
-      legal = record {
-        place = kind_there (sizes_of v.post.machine) f frame;
-        marked = tt;
-        running = λ needs. may.running;
-        spelling = subst (λ o. IsTrue (is_kind_in v.post.machine o)) (sym (kind_read-write l leaves.is)) leaves.fits;
-        act = stores_by v.post.machine f v.holdings _ _ leaves.work l leaves.here (kind_read-write l leaves.is) leaves.may;
-      };
-      taken = refl;
+      place = kind_there (sizes_of v.post.machine) f frame;
+      marked = tt;
+      running = λ needs. may.running;
+      spelling = subst (λ o. IsTrue (is_kind_in v.post.machine o)) (sym (kind_read-write l leaves.is)) leaves.fits;
+      act = stores_by v.post.machine f v.holdings _ _ leaves.work l leaves.here (kind_read-write l leaves.is) leaves.may;
     })
 
-pub ruleset rows = (clock_there, refs_there, kind_there, open_is_ref, raised_is_ref, may_raise, may_lower, may_map, raised_hand, may_count, count_hand, may_begin, begin_hand, may_leave)
+-- from partial to work
+resume_row : (k : KindWord) → IsTrue (is_partial k) → kind_row k (resumed_kind k) ≡ Resume
+resume_row k partial = grind (arith, nat_tests)
+
+resumed_fits : (n : Machine) (k : KindWord) → IsTrue (is_partial k) → IsTrue (is_kind_in n (Some (resumed_kind k)))
+resumed_fits n k partial = grind (arith, nat_tests)
+
+module _ (v : PortValue) (f : ℕ) (k : KindWord) (may : MayWork v) (is : IsTrue (is_kind k)) (partial : IsTrue (is_partial k)) where
+  pub may_resume : (e n : ℕ) → f < v.post.machine.frames → e ≡ kind_write k → n ≡ kind_write (resumed_kind k) → May v (Kind f) (Cas e n) kinds.Kind None
+  may_resume e n frame =
+      may_exchange v f k (resumed_kind k) Resume is (resumed_is k is partial) (resume_row k partial) e n frame may (resumed_fits v.post.machine k partial)
+      (record { partial = partial; left = refl })
+
+  pub resume_hand : (w : PortValue) (e n : ℕ) (r : Result (Unit {0}) ℕ) → e ≡ kind_write k → n ≡ kind_write (resumed_kind k) → Moves v w (Kind f) (Cas e n) kinds.Kind None (found_by e r) → IfErr r (λ found. found ≢ e) →
+      MatchResult r (λ done. Holds v w (resumed_work f k v.holdings)) (λ found. Holds v w (looked_at f found v.holdings))
+  resume_hand w e n (Ok done) is_e is_n m off = exchanged v f k (resumed_kind k) Resume is (resumed_is k is partial) (resume_row k partial) w e n is_e is_n m
+  resume_hand w e n (Err found) is_e is_n m off = unexchanged v w f _ _ found m off
+
+-- a type count goes down
+pub may_lower : (v : PortValue) (f : ℕ) → f < v.post.machine.frames → MayWork v → MayDrop v.post.machine f v.holdings → May v (Kind f) (Add one_down) kinds.Kind None
+unfolding IsSpelling
+may_lower v f frame may drops =
+    record { place = kind_there (sizes_of v.post.machine) f frame; marked = tt; running = λ needs. may.running; spelling = lit< tt; act = inl (refl, drops) }
+
+pub ruleset rows = (kind_there, may_count, count_hand, may_begin, begin_hand, may_leave, may_resume, resume_hand, may_lower)

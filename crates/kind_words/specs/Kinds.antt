@@ -1,8 +1,13 @@
 -- Kind words, and what the steps on them leave in hand.
-use Rattle.std.specs.Prelude.{◌≡◌, ℕ, ◌+◌, ◌<◌, not, Bool, true, false, Option, Some, None, IsTrue}
+use Rattle.std.specs.Prelude.{◌≡◌, ℕ, Bool, true, false, Some, IsTrue}
 use Rattle.xp_words.specs.Machine.{Machine}
-use Rattle.xp_words.specs.KindWords.{is_kind, kind_write}
-use Rattle.xp_words.specs.PageTypes.{is_none}
+use Rattle.xp_words.specs.Places.{sizes_of}
+use Rattle.xp_words.specs.KindWords.{is_kind, kind_fields, kind_write}
+use Rattle.xp_words.specs.PageTypes.{is_table}
+use Rattle.xp_words.specs.declared.kind.PageType.TheVariants.{Desc}
+use Rattle.xp_board.specs.Flushes.{IsPastFlush}
+use Rattle.xp_board.specs.Readings.{is_work}
+use Rattle.xp_board.specs.Settling.{is_settled}
 use Rattle.xp_words.specs.declared.kind.KindWord.{KindWord}
 use Rattle.xp_words.specs.declared.kind.PageType.{PageType}
 use Rattle.xp_board.specs.declared.holdings.Holdings.{Holdings}
@@ -39,3 +44,61 @@ left v f l = after_kind_store v.post.machine v.post.vcpu f (kind_write l) (work_
 -- a frame came into work again; with a `kept` mark its reference came into the hand
 abbrev pub resumed_work : ℕ → KindWord → Holdings → Holdings
 resumed_work f k h = resumed f k (kind_write (resumed_kind k)) (looked_at f (kind_write (resumed_kind k)) h)
+
+-- ---- words that may be left
+-- live with that type and so many type counts, with no mark
+abbrev pub live_kind : PageType → ℕ → KindWord
+live_kind kind number =
+    record {
+      kind = kind;
+      pinned = false;
+      validated = true;
+      partial = false;
+      locked = false;
+      kept = false;
+      unflushed = false;
+      progress = 0;
+      number = number;
+    }
+
+-- partial, with so many entries recorded; marked with that stamp, or not marked and 0
+abbrev pub partial_kind : PageType → Bool → Bool → ℕ → ℕ → KindWord
+partial_kind kind kept unflushed progress number =
+    record {
+      kind = kind;
+      pinned = false;
+      validated = false;
+      partial = true;
+      locked = false;
+      kept = kept;
+      unflushed = unflushed;
+      progress = progress;
+      number = number;
+    }
+
+-- in work as before, without the mark
+abbrev pub unmarked_kind : KindWord → KindWord
+unmarked_kind k = record k { unflushed = false; number = 0 }
+
+-- dead, of that type, with a stamp
+abbrev pub dead_kind : PageType → Bool → ℕ → KindWord
+dead_kind kind unflushed stamp =
+    record {
+      kind = kind;
+      pinned = false;
+      validated = false;
+      partial = false;
+      locked = false;
+      kept = false;
+      unflushed = unflushed;
+      progress = 0;
+      number = stamp;
+    }
+
+-- all of a frame in the own work for that type is validated, and flushed where it was marked
+pub record IsWhole (n : Machine) (f : ℕ) (want : PageType) (h : Holdings) (e : Work) : Type 0 where
+  pub work : IsTrue (is_work (kind_fields e.word))
+  pub kind : (kind_fields e.word).kind ≡ want
+  pub past : (kind_fields e.word).unflushed ≡ true → IsPastFlush n h e
+  pub table : IsTrue (is_table want) → (e.recorded ≡ 512) × IsTrue (is_settled (sizes_of n) h e)
+  pub descriptors : want ≡ Desc → e.fixed ≡ 512

@@ -51,7 +51,12 @@ pub fn count_type<P: Port>(port: &mut P, frame: u32, kind: KindWord) -> Result<(
 }
 
 /// Takes a dead frame into work for the type `want`. An untyped reference in hand becomes its type count.
-pub fn begin_work<P: Port>(port: &mut P, frame: u32, kind: KindWord, want: PageType) -> Result<(), u64>
+pub fn begin_work<P: Port>(
+    port: &mut P,
+    frame: u32,
+    kind: KindWord,
+    want: PageType,
+) -> Result<(), u64>
     requires frame { frame < (P.value port.old).post.machine.frames }
     requires may { MayWork (P.value port.old) }
     requires is { IsTrue (is_kind kind) }

@@ -1,5 +1,3 @@
-use Rattle.std.proofs.Common.{refl}
-use Rattle.xp_board.specs.declared.step.Act.TheVariants.{Add}
 use Rattle.frame_words.proofs.FreeSteps.{may_bit, bit_hand}
 use Rattle.frame_words.proofs.freeing.set_free_bit.Goals as goal
 

@@ -46,7 +46,7 @@ returns-in-Ok-raise_refs-clause-gives g c =
 
 pub returns-in-Err-raise_refs-clause-serves : goal.returns-in-Err-raise_refs-clause-serves
 returns-in-Err-raise_refs-clause-serves g c =
-    let at = c.place_of-place.ensures ∙ ap (λ (n : Machine). number (sizes_of n) (Refs c.args.f)) c.layout-3.ensures.layout in
+    let at = c.place-place.ensures ∙ ap (λ (n : Machine). number (sizes_of n) (Refs c.args.f)) c.layout-3.ensures.layout in
     let limit = ap (λ (n : Machine). n.limit) (c.behind-port-2.view_is ∙ c.layout-2.ensures.layout) in
     let low = subst (λ k. c.in-Ok.open.count < k) limit c.in-Ok.ensures.low in
     let few = c.requires.machine.few_counts in
@@ -55,7 +55,7 @@ returns-in-Err-raise_refs-clause-serves g c =
 
 pub returns-in-Err-raise_refs-clause-stops : goal.returns-in-Err-raise_refs-clause-stops
 returns-in-Err-raise_refs-clause-stops g c =
-    let at = c.place_of-place.ensures ∙ ap (λ (n : Machine). number (sizes_of n) (Refs c.args.f)) c.layout-3.ensures.layout in
+    let at = c.place-place.ensures ∙ ap (λ (n : Machine). number (sizes_of n) (Refs c.args.f)) c.layout-3.ensures.layout in
     let limit = ap (λ (n : Machine). n.limit) (c.behind-port-2.view_is ∙ c.layout-2.ensures.layout) in
     let low = subst (λ k. c.in-Ok.open.count < k) limit c.in-Ok.ensures.low in
     let few = c.requires.machine.few_counts in

@@ -1,4 +1,4 @@
-use Rattle.std.proofs.Common.{◌<◌, length, sym, subst, ap}
+use Rattle.std.proofs.Common.{◌<◌, length, sym, subst}
 use Rattle.xp_board.specs.Told.{PortValue}
 use Rattle.frame_words.proofs.Taking.{domain_known}
 use Rattle.frame_words.proofs.Putting.{last_lowered, last_ends, gave_last, puts_last, puts_more, changes_last, changes_more}

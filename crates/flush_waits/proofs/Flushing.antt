@@ -1,0 +1,89 @@
+-- The own vCPU: it is flushed, or the clock is at its last value.
+use Rattle.std.proofs.Common.{◌≡◌, ℕ, ◌<◌, ◌≤◌, Some, None, Result, Ok, Err, sym, ap, ◌∙◌, subst, inl}
+use Rattle.std.proofs.lemmas.Bool.{or_right}
+use Rattle.xp_words.specs.KindWords.{kind_fields}
+use Rattle.xp_words.specs.Places.{flushed_of}
+use Rattle.xp_words.specs.declared.place.Place.TheVariants.{Clock}
+use Rattle.xp_words.specs.declared.reply.Refusal.{Refusal}
+use Rattle.xp_words.specs.declared.reply.Stop.TheVariants.{Refused}
+use Rattle.xp_board.specs.declared.holdings.Work.{Work}
+use Rattle.xp_board.specs.Hands.{work_on}
+use Rattle.xp_board.specs.declared.step.Act.TheVariants.{Load}
+use Rattle.xp_board.specs.declared.step.StepKind.TheVariants as kinds
+use Rattle.xp_board.specs.Told.{Post, PortValue, told_word}
+use Rattle.step_maker.specs.Holds.{FlushedSame, Same}
+use Rattle.step_maker.specs.Moves.{Came, Met, Moves}
+use Rattle.step_maker.proofs.Coming.{came_post, came_trans}
+use Rattle.answer_fits.specs.Asked.{Request}
+use Rattle.answer_fits.specs.Reasons.{Awaited, NeedsFlush, needed}
+use Rattle.answer_fits.proofs.Alikes.{alike_trans}
+use Rattle.answer_fits.proofs.Piecing.{serves_came}
+use Rattle.flush_words.specs.Flushing.{FlushesOwn, spent}
+use Rattle.flush_words.proofs.Flushed.{Flushed, flushed_clear, flushed_since, marked_less, own_came, own_flushed}
+use Rattle.flush_words.proofs.FlushServes.{awaited_flush, own_serves, own_stops}
+use Rattle.flush_words.proofs.FlushTwin.{own_alike}
+use Rattle.flush_waits.specs.declared.Awaiting.{Awaiting}
+use Rattle.flush_waits.specs.Clearing.{Clears, IsClear, Looks}
+use Rattle.flush_waits.specs.Waiting.{IsMarked, IsWait, ServesBehind, StopsBehind}
+use Rattle.flush_waits.proofs.Chaining.{then_stands}
+use Rattle.flush_waits.proofs.Growing.{flushed_then, marked_later}
+use Rattle.flush_waits.proofs.Marked.{stamp_is, work_past}
+use Rattle.flush_waits.proofs.Pieces.{clears_look}
+
+-- flushed
+module _ (u w : PortValue) (a : Awaiting) (marked : IsMarked a.frame a.owner a.stamp u.holdings) (f : Flushed u w) (same : FlushedSame u w) where
+  past_stamp : a.stamp < f.to
+  past_stamp = subst (λ c. c < f.to) marked.stamped (marked_less u w f a.frame marked.work marked.here marked.marked)
+
+  still : (e : Work) → work_on a.frame w.holdings.works ≡ Some e → work_on a.frame u.holdings.works ≡ Some e
+  still e here = ap (λ (y : PortValue). work_on a.frame y.holdings.works) (sym same) ∙ here
+
+  pub own_clear : IsClear u w a u.post.vcpu
+  own_clear = (
+    flushed_clear u w f (Some a.owner) a.stamp past_stamp,
+    λ e here.
+        inl (or_right _ _
+        (flushed_since u w f e.since (kind_fields e.word).number (work_past u.post.machine u.post.vcpu u.holdings Clock f.clock f.look.finds a.frame e (still e here))
+        (subst (λ c. c < f.to) (sym (stamp_is a.frame a.owner a.stamp u.holdings e marked (still e here))) past_stamp))),
+  )
+
+module _ (v u w : PortValue) (a : Awaiting) (x : ℕ) (look : Moves v u (flushed_of v.post.vcpu) Load kinds.Look None x) (same : Same v u) (low : x ≤ a.stamp) where
+  first : Clears v u a
+  first = clears_look v u (flushed_of v.post.vcpu) x a look same
+
+  -- the look found that it needs the flush
+  needs : (t : PortValue) (r : Request) → Came t v → Awaited v.post.machine v.post.vcpu r (Met t v) (Some a.owner) a.stamp → NeedsFlush t.post.machine t.post.vcpu r (Met t u) u.holdings
+  needs t r to awaits =
+      awaited_flush t v u r (Some a.owner) a.stamp x to (subst (λ (q : Post). Awaited q.machine q.vcpu r (Met t v) (Some a.owner) a.stamp) (came_post t v to) awaits) look low
+
+  own_clears : (answer : Result (Unit {0}) Refusal) → FlushesOwn u w answer → FlushedSame u w → Clears v w a
+  unfolding ServesBehind
+  own_clears answer f hand =
+      record {
+        came = came_trans v u w first.came (own_came u w answer f);
+        serves = λ t r ds before awaits.
+            own_serves t u w r ds (first.serves t r ds before awaits) (needed (needs t r (serves_came t v r ds before) awaits)) answer f;
+        hand = flushed_then v u w first.hand hand;
+        plain = λ tells. alike_trans (told_word w) (told_word u) (told_word v) (own_alike u w answer f) (first.plain tells);
+      }
+
+  is_wait : (r : Refusal) → FlushesOwn u w (Err r) → IsWait (Refused r)
+  is_wait r (spent m) = tt
+
+  -- flushed after the look
+  pub then_flushed : IsMarked a.frame a.owner a.stamp v.holdings → FlushesOwn u w (Ok tt) → FlushedSame u w → Looks v w a v.post.vcpu (Ok None)
+  then_flushed marked f hand =
+      record {
+        clears = own_clears (Ok tt) f hand;
+        shows = subst (λ (q : Post). IsClear v w a q.vcpu) (came_post v u first.came)
+            (then_stands v u w a first.came (own_came u w (Ok tt) f) u.post.vcpu (Ok None) (own_clear u w a (marked_later v u first.hand a.frame a.owner a.stamp marked) (own_flushed u w f) hand));
+      }
+
+  -- refused after the look
+  pub then_refused : (r : Refusal) → FlushesOwn u w (Err r) → FlushedSame u w → Looks v w a v.post.vcpu (Err r)
+  unfolding StopsBehind
+  then_refused r f hand =
+      record {
+        clears = own_clears (Err r) f hand;
+        shows = (λ t q to awaits. own_stops t u w q r (came_trans t v u to first.came) (needs t q to awaits) f, is_wait r f);
+      }

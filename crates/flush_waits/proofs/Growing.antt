@@ -1,0 +1,179 @@
+-- Steps are only added to a hand: what its vCPU knew of a marked frame in its works, it knows later.
+use Rattle.std.proofs.Common.{◌≡◌, ℕ, ◌<◌, ◌==◌, ◌&&◌, ◌||◌, Bool, true, false, List, [], ◌∷◌, length, Option, Some, None, IsTrue, refl, sym, ap, ◌∙◌, subst, inl, inr, arith}
+use Rattle.std.proofs.lemmas.Bool.{cases_eq, or_left, or_right}
+use Rattle.std.proofs.lemmas.Bool.Decides.{nat_tests}
+use Rattle.xp_words.specs.Machine.{Machine, IsMachine}
+use Rattle.xp_words.specs.Places.{Sizes, sizes_of}
+use Rattle.xp_board.specs.declared.holdings.Holdings.{Holdings}
+use Rattle.xp_board.specs.declared.holdings.Made.{Made}
+use Rattle.xp_board.specs.declared.holdings.OwnerFound.{OwnerFound}
+use Rattle.xp_board.specs.declared.holdings.OwnerFound.TheVariants as owners
+use Rattle.xp_board.specs.declared.holdings.Reference.{Reference}
+use Rattle.xp_board.specs.declared.holdings.TypedReference.{TypedReference}
+use Rattle.xp_board.specs.Flushes.{PassedOver}
+use Rattle.xp_board.specs.Hands.{work_on, refs_to, ref_to, typed_to, typed_on, owner_by, owner_by_typed}
+use Rattle.xp_board.specs.Knowledge.{tells_owner, knows_owner}
+use Rattle.xp_board.specs.Lists.{some_of, first_by}
+use Rattle.xp_board.specs.Steps.{some_step}
+use Rattle.xp_board.specs.Told.{PortValue, is_telling}
+use Rattle.step_maker.specs.Holds.{FlushedSame, MayWork, Same, quiet}
+use Rattle.step_maker.specs.Moves.{Came, Moment, Ran}
+use Rattle.step_maker.proofs.Telling.{moves_telling}
+use Rattle.flush_words.proofs.Lasting.{came_keeps}
+use Rattle.flush_waits.specs.Clearing.{PastOn}
+use Rattle.flush_waits.specs.Waiting.{IsKnownOwner, IsMarked}
+
+-- ---- the hand
+pub same_flushed : (v w : PortValue) → Same v w → FlushedSame v w
+same_flushed v w same = ap quiet same
+
+pub flushed_self : (v : PortValue) → FlushedSame v v
+flushed_self v = refl
+
+pub flushed_then : (v u w : PortValue) → FlushedSame v u → FlushedSame u w → FlushedSame v w
+flushed_then v u w a b = b ∙ a
+
+pub may_later : (v w : PortValue) → FlushedSame v w → MayWork v → MayWork w
+may_later v w same m =
+    record {
+      running = ap (λ (y : PortValue). y.holdings.run) same ∙ m.running;
+      no_walk = ap (λ (y : PortValue). y.holdings.walk) same ∙ m.no_walk;
+      machine = subst (λ (n : Machine). IsMachine n) (sym (ap (λ (y : PortValue). y.post.machine) same)) m.machine;
+    }
+
+-- ---- its steps
+-- what some step of h passes, some step of k does
+abbrev pub Grows : Holdings → Holdings → Type 0
+Grows h k = (test : ℕ → Made → Bool) → IsTrue (some_step test h.steps) → IsTrue (some_step test k.steps)
+
+pub came_grows : (v w : PortValue) → Came v w → Grows v.holdings w.holdings
+came_grows v w a test = came_keeps v w test a
+
+-- whether its board tells all words
+ran_telling : (v w : PortValue) (ms : List Moment) → Ran v ms w → is_telling w ≡ is_telling v
+ran_telling v w [] a = ap (λ (y : PortValue). is_telling y) a
+ran_telling v w (m ∷ ms) a = moves_telling a.0 w m.place m.act m.kind m.mark m.found a.2.moves ∙ ran_telling v a.0 ms a.1
+
+pub came_telling : (v w : PortValue) → Came v w → is_telling w ≡ is_telling v
+unfolding Came
+came_telling v w a = ran_telling v w a.0 a.1
+
+-- ---- the owner
+either : (a b c d : Bool) → (IsTrue a → IsTrue c) → (IsTrue b → IsTrue d) → IsTrue (a || b) → IsTrue (c || d)
+either true b c d f g h = rw (f refl) refl
+either false b true d f g h = refl
+either false b false d f g h = g h
+
+both : (a b c : Bool) → (IsTrue b → IsTrue c) → IsTrue (a && b) → IsTrue (a && c)
+both true b c f h = f h
+both false b c f h = h
+
+some_weaker : {A : Type 0} (p q : A → Bool) (xs : List A) → ((x : A) → IsTrue (p x) → IsTrue (q x)) → IsTrue (some_of p xs) → IsTrue (some_of q xs)
+unfolding some_of
+some_weaker p q [] f h = h
+some_weaker p q (x ∷ xs) f h = either (p x) (some_of p xs) (q x) (some_of q xs) (f x) (some_weaker p q xs f) h
+
+tells_later : (z : Sizes) (h k : Holdings) (f o : ℕ) (e : OwnerFound) → Grows h k → IsTrue (tells_owner z h.steps f o e) → IsTrue (tells_owner z k.steps f o e)
+tells_later z h k f o (owners.Of d) grows t = t
+tells_later z h k f o (owners.Since n) grows t = grows _ t
+
+pub knows_later : (z : Sizes) (f o : ℕ) (h k : Holdings) → Grows h k → k.refs ≡ h.refs → k.typed ≡ h.typed → k.locks ≡ h.locks → IsTrue (knows_owner z f o h) → IsTrue (knows_owner z f o k)
+unfolding knows_owner
+knows_later z f o h k grows refs typed locks knows =
+    rw (refs, typed, locks)
+    (either _ _ _ _ (some_weaker _ _ h.refs (λ e. both _ _ _ (tells_later z h k f o e.owner grows)))
+    (either _ _ _ _ (some_weaker _ _ h.typed (λ e. both _ _ _ (tells_later z h k f o e.owner grows)))
+    (some_weaker _ _ h.locks (λ e. both _ _ _ (tells_later z h k f o e.owner grows)))) knows)
+
+-- a reference that says whose the frame is
+first_passes : {A : Type 0} (key : A → ℕ) (f : ℕ) (xs : List A) (e : A) (test : A → Bool) → first_by key f xs ≡ Some e → test e ≡ true → some_of (λ y. (key y == f) && test y) xs ≡ true
+unfolding first_by some_of
+first_passes key f [] e test h t = absurd (cc)
+first_passes key f (y ∷ ys) e test h t =
+    elim (cases_eq (key y) f) [
+      | inl at ↦
+          (let u : (key y == f) ≡ true = grind (arith, nat_tests) in
+          let k : y ≡ e = (let q : Some y ≡ Some e = rw u at h in cc) in
+          let v : test y ≡ true = ap test k ∙ t in
+          rw (u, v) refl)
+      | inr off ↦ (let u : (key y == f) ≡ false = grind (arith, nat_tests) in rw u (first_passes key f ys e test (rw u at h) t))
+    ]
+
+tells_of : (z : Sizes) (xs : List Made) (f o : ℕ) (w : OwnerFound) → w ≡ owners.Of o → tells_owner z xs f o w ≡ true
+tells_of z xs f o w e = rw e (grind (arith, nat_tests))
+
+ref_knows : (z : Sizes) (f o : ℕ) (h : Holdings) (r : Option Reference) → ref_to f h.refs ≡ r → owner_by r (owners.Since (length h.steps)) ≡ owners.Of o →
+    some_of (λ e. (e.frame == f) && tells_owner z h.steps f o e.owner) h.refs ≡ true
+ref_knows z f o h (Some r) at k = first_passes (λ e. e.frame) f h.refs r (λ e. tells_owner z h.steps f o e.owner) at (tells_of z h.steps f o r.owner k)
+ref_knows z f o h None at k = absurd cc
+
+typed_knows : (z : Sizes) (f o : ℕ) (h : Holdings) (r : Option TypedReference) → typed_on f h.typed ≡ r → owner_by_typed r (owners.Since (length h.steps)) ≡ owners.Of o →
+    some_of (λ e. (e.frame == f) && tells_owner z h.steps f o e.owner) h.typed ≡ true
+typed_knows z f o h (Some r) at k = first_passes (λ e. e.frame) f h.typed r (λ e. tells_owner z h.steps f o e.owner) at (tells_of z h.steps f o r.owner k)
+typed_knows z f o h None at k = absurd cc
+
+pub known_knows : (z : Sizes) (f o : ℕ) (h : Holdings) → IsKnownOwner f o h → IsTrue (knows_owner z f o h)
+unfolding knows_owner
+known_knows z f o h (inl a) = or_left _ _ (ref_knows z f o h (ref_to f h.refs) refl a.1)
+known_knows z f o h (inr a) = or_right _ _ (or_left _ _ (typed_knows z f o h (typed_on f h.typed) refl a.1))
+
+ref_kept : (r : Option Reference) (m k o : ℕ) → owner_by r (owners.Since m) ≡ owners.Of o → owner_by r (owners.Since k) ≡ owners.Of o
+ref_kept (Some r) m k o at = at
+ref_kept None m k o at = absurd cc
+
+typed_kept : (r : Option TypedReference) (m k o : ℕ) → owner_by_typed r (owners.Since m) ≡ owners.Of o → owner_by_typed r (owners.Since k) ≡ owners.Of o
+typed_kept (Some r) m k o at = at
+typed_kept None m k o at = absurd cc
+
+known_later : (f o : ℕ) (h k : Holdings) → k.refs ≡ h.refs → k.typed ≡ h.typed → IsKnownOwner f o h → IsKnownOwner f o k
+known_later f o h k refs typed (inl a) =
+    inl (
+      subst (λ (xs : List Reference). 0 < refs_to f xs) (sym refs) a.0,
+      ref_kept (ref_to f k.refs) (length h.steps) (length k.steps) o (ap (λ xs. owner_by (ref_to f xs) (owners.Since (length h.steps))) refs ∙ a.1),
+    )
+known_later f o h k refs typed (inr a) =
+    inr (
+      subst (λ (xs : List TypedReference). 0 < typed_to f xs) (sym typed) a.0,
+      typed_kept (typed_on f k.typed) (length h.steps) (length k.steps) o (ap (λ xs. owner_by_typed (typed_on f xs) (owners.Since (length h.steps))) typed ∙ a.1),
+    )
+
+-- ---- the marked frame
+module _ (v w : PortValue) (same : FlushedSame v w) where
+  abbrev works : w.holdings.works ≡ v.holdings.works
+  works = ap (λ (y : PortValue). y.holdings.works) same
+
+  abbrev refs : w.holdings.refs ≡ v.holdings.refs
+  refs = ap (λ (y : PortValue). y.holdings.refs) same
+
+  abbrev typed : w.holdings.typed ≡ v.holdings.typed
+  typed = ap (λ (y : PortValue). y.holdings.typed) same
+
+  pub marked_later : (f owner stamp : ℕ) → IsMarked f owner stamp v.holdings → IsMarked f owner stamp w.holdings
+  marked_later f owner stamp m =
+      record {
+        work = m.work;
+        here = ap (λ ws. work_on f ws) works ∙ m.here;
+        marked = m.marked;
+        stamped = m.stamped;
+        known = known_later f owner v.holdings w.holdings refs typed m.known;
+      }
+
+  module _ (came : Came v w) where
+    pub owner_later : (z : Sizes) (g o : ℕ) → IsTrue (knows_owner z g o v.holdings) → IsTrue (knows_owner z g o w.holdings)
+    owner_later z g o = knows_later z g o v.holdings w.holdings (came_grows v w came) refs typed (ap (λ (y : PortValue). y.holdings.locks) same)
+
+    passed_later : (n : Machine) (since g u : ℕ) → PassedOver n since g u v.holdings → PassedOver n since g u w.holdings
+    passed_later n since g u p =
+        record {
+          owner = p.owner;
+          known = owner_later (sizes_of n) g p.owner p.known;
+          other = p.other;
+          never = came_grows v w came _ p.never;
+        }
+
+    pub past_later : (n : Machine) (f u : ℕ) → PastOn n f u v.holdings → PastOn n f u w.holdings
+    past_later n f u past e here =
+        elim (past e (ap (λ ws. work_on f ws) (sym works) ∙ here)) [
+          | inl now ↦ inl (either _ _ _ _ (came_grows v w came _) (came_grows v w came _) now)
+          | inr over ↦ inr (passed_later n e.since e.frame u over)
+        ]

@@ -1,0 +1,131 @@
+-- The wait as a whole: one vCPU more, and what its end shows.
+use Rattle.std.proofs.Common.{◌≡◌, ℕ, ◌+◌, ◌<◌, ◌⊎◌, length, Option, Some, None, Ok, Err, sym, subst, inl, inr, arith}
+use Rattle.xp_words.specs.declared.reply.Pause.TheVariants.{Flush}
+use Rattle.xp_words.specs.declared.reply.Refusal.{Refusal}
+use Rattle.xp_words.specs.declared.reply.Stop.TheVariants.{Paused}
+use Rattle.xp_board.specs.Told.{Post, PortValue}
+use Rattle.step_maker.specs.Moves.{Came, Met, Moment}
+use Rattle.step_maker.proofs.Coming.{came_post, met_after, met_before}
+use Rattle.answer_fits.specs.Answers.{Stops}
+use Rattle.answer_fits.specs.Asked.{Request}
+use Rattle.answer_fits.specs.Pauses.{AskedTo, Awaits, Behind, Clear}
+use Rattle.answer_fits.specs.Reasons.{Awaited}
+use Rattle.flush_words.proofs.FlushServes.{awaited_more}
+use Rattle.flush_waits.specs.declared.Awaiting.{Awaiting}
+use Rattle.flush_waits.specs.declared.Late.{Late}
+use Rattle.flush_waits.specs.Clearing.{AllStand, Clears, IsClear, IsLeast, Looks, Stands, Waits, first_behind}
+use Rattle.flush_waits.specs.Waiting.{IsFlushed, IsMarked, StopsBehind}
+use Rattle.flush_waits.proofs.Chaining.{asked_earlier, behind_earlier, clear_earlier, still_clear, then_stands}
+use Rattle.flush_waits.proofs.Growing.{marked_later}
+use Rattle.flush_waits.proofs.Pieces.{asked_more, clear_more, clears_nothing, clears_then, found_more, reach_more}
+
+pub waits_none : (v : PortValue) (a : Awaiting) → Waits v v a 0 (Ok None)
+waits_none v a = record { clears = clears_nothing v a; shows = λ u below. absurd (omega (arith, below)) }
+
+-- ---- one vCPU more
+below_or : (u k : ℕ) → u < k + 1 → (u < k) ⊎ (u ≡ k)
+below_or u k l = grind arith
+
+up_to : (P : ℕ → Type 0) (k : ℕ) → ((u : ℕ) → u < k → P u) → P k → (u : ℕ) → u < k + 1 → P u
+up_to P k all here u below =
+    elim (below_or u k below) [
+      | inl under ↦ all u under
+      | inr is ↦ subst P (sym is) here
+    ]
+
+-- clear, or asked
+abbrev IsDone : PortValue → PortValue → Awaiting → ℕ → Type 0
+IsDone v w a u = Clear v.post.machine v.post.vcpu (Some a.owner) a.stamp (Met v w) u ⊎ AskedTo a.stamp (Met v w) u
+
+clear_or_asked : (v w : PortValue) (a : Awaiting) (k : ℕ) (standing : Option ℕ) → Stands v w a k (Ok standing) → IsDone v w a k
+clear_or_asked v w a k None s = inl s.0
+clear_or_asked v w a k (Some found) s = inr s.asked
+
+module _ (v u w : PortValue) (a : Awaiting) (k : ℕ) (first : Clears v u a) (second : Clears u w a) where
+  others_more : (standing : Option ℕ) → ((j : ℕ) → j < k → IsDone v u a j) → Stands v w a k (Ok standing) → (j : ℕ) → j < k + 1 → IsDone v w a j
+  others_more standing others here =
+      up_to (λ j. IsDone v w a j) k
+      (λ j below.
+      elim (others j below) [
+        | inl clear ↦ inl (clear_earlier v u w a first.came second.came j clear)
+        | inr asked ↦ inr (asked_earlier v u w a first.came second.came j asked)
+      ])
+      (clear_or_asked v w a k standing here)
+
+  all_more : (o : Option Late) (standing : Option ℕ) → AllStand v u a k (Ok o) → Stands v w a k (Ok standing) → AllStand v w a (k + 1) (Ok (first_behind o k standing))
+  all_more None None all here = up_to (λ j. IsClear v w a j) k (λ j below. still_clear v u w a first.came second.came j second.hand (all j below)) here
+  all_more None (Some found) all here =
+      record {
+        below = omega arith;
+        itself = here;
+        least = λ j below. clear_earlier v u w a first.came second.came j (all j below).0;
+        others = others_more (Some found) (λ j below. inl (all j below).0) here;
+      }
+  all_more (Some b) standing all here =
+      record {
+        below = (let below = all.below in omega (arith, below));
+        itself = behind_earlier v u w a first.came second.came b.vcpu b.found all.itself;
+        least = λ j below. clear_earlier v u w a first.came second.came j (all.least j below);
+        others = others_more standing all.others here;
+      }
+
+pub waits_more : (v u w : PortValue) (a : Awaiting) (k : ℕ) (o : Option Late) (standing : Option ℕ) → Waits v u a k (Ok o) → Looks u w a k (Ok standing) → Waits v w a (k + 1) (Ok (first_behind o k standing))
+waits_more v u w a k o standing so l =
+    record {
+      clears = clears_then v u w a so.clears l.clears;
+      shows = all_more v u w a k so.clears l.clears o standing so.shows (then_stands v u w a so.clears.came l.clears.came k (Ok standing) l.shows);
+    }
+
+pub waits_refused : (v u w : PortValue) (a : Awaiting) (k n : ℕ) (o : Option Late) (r : Refusal) → Waits v u a k (Ok o) → Looks u w a k (Err r) → Waits v w a n (Err r)
+waits_refused v u w a k n o r so l =
+    record {
+      clears = clears_then v u w a so.clears l.clears;
+      shows = then_stands v u w a so.clears.came l.clears.came k (Err r) l.shows;
+    }
+
+-- ---- its end
+module _ (v w : PortValue) (a : Awaiting) where
+  abbrev all : ℕ
+  all = length v.post.machine.vcpu_domain
+
+  pub past_all : IsMarked a.frame a.owner a.stamp v.holdings → Waits v w a all (Ok None) → IsFlushed w.post.machine a.frame w.holdings
+  past_all marked so =
+      let m = marked_later v w so.clears.hand a.frame a.owner a.stamp marked in
+      subst (λ (q : Post). IsFlushed q.machine a.frame w.holdings) (sym (came_post v w so.clears.came))
+      (record { work = m.work; here = m.here; past = λ u real. (so.shows u real).1 m.work m.here })
+
+  -- in front of the wait there may be more steps
+  module _ (t : PortValue) (r : Request) (to : Came t v) (came : Came v w) where
+    behind : (m : Moment) → Met v w m → Met t w m
+    behind m b = met_after t v w m to b
+
+    done_behind : (u : ℕ) → IsDone v w a u → Clear v.post.machine v.post.vcpu (Some a.owner) a.stamp (Met t w) u ⊎ AskedTo a.stamp (Met t w) u
+    done_behind u (inl c) = inl (clear_more (Met v w) (Met t w) behind v.post.machine v.post.vcpu (Some a.owner) a.stamp u c)
+    done_behind u (inr c) = inr (asked_more (Met v w) (Met t w) behind v.post.machine v.post.vcpu a.stamp u c)
+
+    least_behind : (b : Late) → IsLeast v w a all b → Behind v.post.machine v.post.vcpu (Some a.owner) a.stamp (Met t w) b.vcpu b.found
+    least_behind b l =
+        let n = v.post.machine in
+        let s = v.post.vcpu in
+        let i = l.itself in
+        record {
+          other = i.other;
+          real = l.below;
+          running = found_more (Met v w) (Met t w) behind n s _ 0 i.running;
+          flushed = found_more (Met v w) (Met t w) behind n s _ b.found i.flushed;
+          behind = i.behind;
+          asked = asked_more (Met v w) (Met t w) behind n s a.stamp b.vcpu i.asked;
+          reach = reach_more (Met v w) (Met t w) behind n s a.owner b.vcpu i.reach;
+          least = λ u below. clear_more (Met v w) (Met t w) behind n s (Some a.owner) a.stamp u (l.least u below);
+          others = λ u real. done_behind u (l.others u real);
+        }
+
+    awaits_behind : (b : Late) → IsLeast v w a all b → Awaited v.post.machine v.post.vcpu r (Met t v) (Some a.owner) a.stamp → Stops t w r (Paused (Flush b.vcpu a.stamp b.found))
+    unfolding Stops
+    awaits_behind b l awaits =
+        subst (λ (q : Post). Awaits q.machine q.vcpu r (Met t w) (Flush b.vcpu a.stamp b.found)) (came_post t v to)
+        (Some a.owner, least_behind b l, awaited_more v.post.machine v.post.vcpu r (Met t v) (Met t w) (λ m c. met_before t v w m c came) (Some a.owner) a.stamp awaits)
+
+  pub stops_late : (b : Late) → Waits v w a all (Ok (Some b)) → StopsBehind v w a.owner a.stamp (Paused (Flush b.vcpu a.stamp b.found))
+  unfolding StopsBehind
+  stops_late b so t r to awaits = awaits_behind t r to so.clears.came b so.shows awaits

@@ -1,0 +1,11 @@
+use Rattle.flush_waits.proofs.Waits.{past_all, stops_late}
+use Rattle.flush_waits.proofs.clear_stale.Goals as goal
+
+pub returns-in-Ok-None-clause-past : goal.returns-in-Ok-None-clause-past
+returns-in-Ok-None-clause-past g c =
+    past_all (g.P.Port.value c.args.port.now) (g.P.Port.value c.clear_all.new.port) (record { frame = c.args.frame; owner = c.args.owner; stamp = c.args.stamp }) c.requires.marked (rw c.in-Ok-None.field-0-is at c.in-Ok-None.ensures)
+
+pub returns-in-Ok-Some-clause-stops : goal.returns-in-Ok-Some-clause-stops
+returns-in-Ok-Some-clause-stops g c =
+    stops_late (g.P.Port.value c.args.port.now) (g.P.Port.value c.clear_all.new.port) (record { frame = c.args.frame; owner = c.args.owner; stamp = c.args.stamp }) c.in-Ok-Some.field-0-0
+    (rw c.in-Ok-Some.field-0-is at c.in-Ok-Some.ensures)

@@ -1,0 +1,94 @@
+-- What a wait for flushes has found so far: of one vCPU, and of all below a number.
+use Rattle.std.specs.Prelude.{◌≡◌, ◌≢◌, ◌⊎◌, ℕ, ◌<◌, ◌≤◌, Bool, true, Option, Some, None, Result, Ok, Err, IsTrue}
+use Rattle.xp_words.specs.Machine.{Machine}
+use Rattle.xp_words.specs.KindWords.{kind_fields}
+use Rattle.xp_words.specs.Places.{sizes_of, run_of, flushed_of}
+use Rattle.xp_words.specs.declared.place.Place.TheVariants.{Priv}
+use Rattle.xp_words.specs.declared.reply.Refusal.{Refusal}
+use Rattle.xp_words.specs.declared.reply.Stop.TheVariants.{Refused}
+use Rattle.xp_board.specs.declared.holdings.Holdings.{Holdings}
+use Rattle.xp_board.specs.declared.holdings.Work.{Work}
+use Rattle.xp_board.specs.declared.step.Act.TheVariants.{Load}
+use Rattle.xp_board.specs.declared.step.StepKind.TheVariants as kinds
+use Rattle.xp_board.specs.Flushes.{is_past, PassedOver}
+use Rattle.xp_board.specs.Hands.{work_on}
+use Rattle.xp_board.specs.Readings.{domain_of, has_ever}
+use Rattle.xp_board.specs.Told.{PortValue, is_telling, told_word}
+use Rattle.step_maker.specs.Holds.{FlushedSame, Same}
+use Rattle.step_maker.specs.Moves.{Came, Met, Moves}
+use Rattle.answer_fits.specs.Finding.{Found}
+use Rattle.answer_fits.specs.Pauses.{AskedTo, Clear}
+use Rattle.answer_fits.specs.Reasons.{MayReach}
+use Rattle.answer_fits.specs.Twins.{Alike}
+use Rattle.flush_waits.specs.declared.Awaiting.{Awaiting}
+use Rattle.flush_waits.specs.declared.Late.{Late}
+use Rattle.flush_waits.specs.Waiting.{IsWait, ServesBehind, StopsBehind}
+
+-- no older translation of vCPU u leads to frame f of the own works, but to read it
+abbrev pub PastOn : Machine → ℕ → ℕ → Holdings → Type 0
+PastOn n f u h =
+    (e : Work) → work_on f h.works ≡ Some e → IsTrue (is_past (sizes_of n) e.since (kind_fields e.word).number u h.steps) ⊎ PassedOver n e.since e.frame u h
+
+-- From v to w the port made steps that serve whatever awaits the stamp. Beside them it is the same, but for flushes.
+pub record Clears (v w : PortValue) (a : Awaiting) : Type 0 where
+  pub came : Came v w
+  pub serves : ServesBehind v w a.owner a.stamp
+  pub hand : FlushedSame v w
+  pub plain : is_telling v ≡ true → Alike (told_word w) (told_word v)
+
+-- ---- one vCPU
+-- the steps from v to w found it clear
+abbrev pub IsClear : PortValue → PortValue → Awaiting → ℕ → Type 0
+IsClear v w a u = Clear v.post.machine v.post.vcpu (Some a.owner) a.stamp (Met v w) u × PastOn v.post.machine a.frame u w.holdings
+
+-- another one was found running and flushed no later than the stamp, and was asked
+pub record IsBehind (v w : PortValue) (a : Awaiting) (u found : ℕ) : Type 0 where
+  pub other : u ≢ v.post.vcpu
+  pub running : Found (Met v w) (run_of u) 0
+  pub flushed : Found (Met v w) (flushed_of u) found
+  pub behind : found ≤ a.stamp
+  pub asked : AskedTo a.stamp (Met v w) u
+  pub reach : MayReach v.post.machine (Some a.owner) (Met v w) u
+
+-- the clock was at its last value
+abbrev pub IsSpent : PortValue → PortValue → Awaiting → Refusal → Type 0
+IsSpent v w a r = StopsBehind v w a.owner a.stamp (Refused r) × IsWait (Refused r)
+
+abbrev pub Stands : PortValue → PortValue → Awaiting → ℕ → Result (Option ℕ) Refusal → Type 0
+Stands v w a u (Ok None) = IsClear v w a u
+Stands v w a u (Ok (Some found)) = IsBehind v w a u found
+Stands v w a u (Err r) = IsSpent v w a r
+
+-- the steps from v to w showed that vCPU u is clear, or flushed to the answer and behind
+pub record Looks (v w : PortValue) (a : Awaiting) (u : ℕ) (answer : Result (Option ℕ) Refusal) : Type 0 where
+  pub clears : Clears v w a
+  pub shows : Stands v w a u answer
+
+-- whether the domain of vCPU u owns the frame, or was found to have ever had privilege over the owner
+pub data Weighs (v w : PortValue) (a : Awaiting) (u : ℕ) (answer : Bool) : Type 0 where
+  owns : w ≡ v → domain_of v.post.machine u ≡ a.owner → answer ≡ true → Weighs v w a u answer
+  looked : (word : ℕ) → domain_of v.post.machine u ≢ a.owner → Moves v w (Priv (domain_of v.post.machine u)) Load kinds.Look None word → Same v w → answer ≡ has_ever a.owner word → Weighs v w a u answer
+
+-- ---- all below a number
+-- the least that is behind, after another one
+abbrev pub first_behind : Option Late → ℕ → Option ℕ → Option Late
+first_behind (Some b) u standing = Some b
+first_behind None u (Some found) = Some (record { vcpu = u; found = found })
+first_behind None u None = None
+
+-- b is the least vCPU that is behind, and all that are were asked
+pub record IsLeast (v w : PortValue) (a : Awaiting) (upto : ℕ) (b : Late) : Type 0 where
+  pub below : b.vcpu < upto
+  pub itself : IsBehind v w a b.vcpu b.found
+  pub least : (u : ℕ) → u < b.vcpu → Clear v.post.machine v.post.vcpu (Some a.owner) a.stamp (Met v w) u
+  pub others : (u : ℕ) → u < upto → Clear v.post.machine v.post.vcpu (Some a.owner) a.stamp (Met v w) u ⊎ AskedTo a.stamp (Met v w) u
+
+abbrev pub AllStand : PortValue → PortValue → Awaiting → ℕ → Result (Option Late) Refusal → Type 0
+AllStand v w a upto (Ok None) = (u : ℕ) → u < upto → IsClear v w a u
+AllStand v w a upto (Ok (Some b)) = IsLeast v w a upto b
+AllStand v w a upto (Err r) = IsSpent v w a r
+
+-- the steps from v to w showed that all below that number are clear, or the least that is behind
+pub record Waits (v w : PortValue) (a : Awaiting) (upto : ℕ) (answer : Result (Option Late) Refusal) : Type 0 where
+  pub clears : Clears v w a
+  pub shows : AllStand v w a upto answer

@@ -1,0 +1,209 @@
+-- The own flush that was made: what its steps found and left.
+use Rattle.std.proofs.Common.{◌≡◌, ◌≢◌, ℕ, ◌+◌, ◌<◌, ◌≤◌, ◌&&◌, ◌||◌, ◌==◌, not, nat_lt, Bool, true, false, List, [], ◌∷◌, length, Option, Some, None, Ok, Err, Result, IsTrue, refl, sym, ap, ◌∙◌, subst, inl, inr, arith}
+use Rattle.std.proofs.lemmas.Bool.{and_parts}
+use Rattle.std.proofs.lemmas.Bool.Decides.{nat_tests}
+use Rattle.xp_words.specs.Machine.{Machine}
+use Rattle.xp_words.specs.declared.place.Place.{Place}
+use Rattle.xp_words.specs.declared.place.Place.TheVariants.{Clock, Refs, Kind}
+use Rattle.xp_words.specs.declared.reply.Refusal.{Refusal}
+use Rattle.xp_words.specs.KindWords.{kind_fields}
+use Rattle.xp_words.specs.Places.{Sizes, sizes_of, place_at, flushed_of}
+use Rattle.xp_board.specs.declared.step.Act.TheVariants.{Load, Cas, Store}
+use Rattle.xp_board.specs.declared.step.StepKind.TheVariants as kinds
+use Rattle.xp_board.specs.declared.holdings.Made.{Made}
+use Rattle.xp_board.specs.declared.holdings.Work.{Work}
+use Rattle.xp_board.specs.declared.holdings.Holdings.{Holdings}
+use Rattle.xp_board.specs.Acts.{left_by}
+use Rattle.xp_board.specs.Hands.{work_on}
+use Rattle.xp_board.specs.Lists.{EachOf}
+use Rattle.xp_board.specs.Readings.{last_clock, clock_value, kind_stamp}
+use Rattle.xp_board.specs.Steps.{is_at, left_of, some_step, some_since}
+use Rattle.xp_board.specs.Told.{Post, PortValue}
+use Rattle.board_lemmas.proofs.Sums.{when_eq}
+use Rattle.board_lemmas.proofs.KindForms.{marked_unlive}
+use Rattle.board_lemmas.proofs.KindReadings.{stamp_of}
+use Rattle.board_lemmas.proofs.PlaceTests.{same_place, is_same-by}
+use Rattle.board_lemmas.proofs.StepLists.{head_or_tail}
+use Rattle.board_lemmas.proofs.WorkFacts.{works_facts}
+use Rattle.xp_words.proofs.PlaceLaws.{place_back}
+use Rattle.step_maker.specs.Moves.{Moves, Moment, Came, Met}
+use Rattle.step_maker.proofs.Coming.{came_trans, came_self, came_post, moves_came, moves_by, moment_of, met_after}
+use Rattle.step_maker.proofs.Noting.{moves_steps, moves_since}
+use Rattle.answer_fits.specs.Finding.{Found, FoundWith, Did}
+use Rattle.answer_fits.specs.Asked.{Request}
+use Rattle.answer_fits.specs.Reasons.{Awaited}
+use Rattle.answer_fits.specs.Reasons as reasons
+use Rattle.answer_fits.specs.Pauses.{Clear, own}
+use Rattle.answer_fits.proofs.Piecing.{each_map}
+use Rattle.flush_words.specs.Flushing.{FlushesOwn, spent, ticked, overtaken}
+use Rattle.flush_words.proofs.Lasting.{came_keeps, came_longer}
+use Rattle.flush_words.proofs.OwnFlush.{all_below, clock_less, less_is, to_next, to_found}
+
+-- v loads the clock, `loaded` exchanges it, and `exchanged` stores what the clock was then
+pub record Flushed (v w : PortValue) : Type 0 where
+  pub loaded : PortValue
+  pub exchanged : PortValue
+  pub clock : ℕ
+  pub found : ℕ
+  pub to : ℕ
+  pub before : ℕ
+  pub some : clock ≢ last_clock
+  pub look : Moves v loaded Clock Load kinds.Look None clock
+  pub tick : Moves loaded exchanged Clock (Cas clock (clock + 1)) kinds.Tick None found
+  pub left : left_by (Cas clock (clock + 1)) found ≡ to
+  pub ack : Moves exchanged w (flushed_of v.post.vcpu) (Store to) kinds.Ack None before
+
+own_by : (v w : PortValue) (o : Result (Unit {0}) Refusal) → o ≡ Ok tt → FlushesOwn v w o → Flushed v w
+own_by v w (Ok tt) e (ticked a b clock before some look tick ack) =
+    record { loaded = a; exchanged = b; clock = clock; found = clock; to = clock + 1; before = before; some = some; look = look; tick = tick; left = to_next clock; ack = ack }
+own_by v w (Ok tt) e (overtaken a b clock found before some off look tick ack) =
+    record { loaded = a; exchanged = b; clock = clock; found = found; to = found; before = before; some = some; look = look; tick = tick; left = to_found clock found off; ack = ack }
+own_by v w (Err r) e f = absurd cc
+
+pub own_flushed : (v w : PortValue) → FlushesOwn v w (Ok tt) → Flushed v w
+own_flushed v w f = own_by v w (Ok tt) refl f
+
+-- ---- the steps are one behind the other
+ticks_came : (v a b : PortValue) (c f : ℕ) → Moves v a Clock Load kinds.Look None c → Moves a b Clock (Cas c (c + 1)) kinds.Tick None f → Came v b
+ticks_came v a b c f look tick = came_trans v a b (moves_came v a Clock Load kinds.Look None c look) (moves_came a b Clock (Cas c (c + 1)) kinds.Tick None f tick)
+
+pub flushed_came : (v w : PortValue) → Flushed v w → Came v w
+flushed_came v w f =
+    came_trans v f.exchanged w (ticks_came v f.loaded f.exchanged f.clock f.found f.look f.tick) (moves_came f.exchanged w (flushed_of v.post.vcpu) (Store f.to) kinds.Ack None f.before f.ack)
+
+pub own_came : (v w : PortValue) (answer : Result (Unit {0}) Refusal) → FlushesOwn v w answer → Came v w
+own_came v w (Ok tt) f = flushed_came v w (own_flushed v w f)
+own_came v w (Err r) (spent m) = moves_came v w Clock Load kinds.Look None last_clock m
+
+module _ (v w : PortValue) (f : Flushed v w) where
+  before_ack : Came v f.exchanged
+  before_ack = ticks_came v f.loaded f.exchanged f.clock f.found f.look f.tick
+
+  exchanged_post : f.exchanged.post ≡ v.post
+  exchanged_post = came_post v f.exchanged before_ack
+
+  -- the own flush was stored
+  pub flushed_did : Did (Met v w) (flushed_of v.post.vcpu) (Store f.to) f.before
+  unfolding moment_of
+  flushed_did =
+      record {
+        moment = moment_of f.exchanged (flushed_of v.post.vcpu) (Store f.to) kinds.Ack None f.before;
+        was = record {
+          from = f.exchanged;
+          to = w;
+          before = before_ack;
+          moved = moves_by f.exchanged w (flushed_of v.post.vcpu) (Store f.to) kinds.Ack None f.before f.ack;
+          after = came_self w;
+        };
+        place = refl;
+        act = refl;
+        word = refl;
+      }
+
+  pub flushed_clear : (whose : Option ℕ) (stamp : ℕ) → stamp < f.to → Clear v.post.machine v.post.vcpu whose stamp (Met v w) v.post.vcpu
+  flushed_clear whose stamp less = own f.to f.before refl flushed_did less
+
+  -- it is later than the clock that was found, and so than each clock value and stamp that the vCPU had found or left
+  clock_under : f.clock < f.to
+  clock_under = clock_less v f.loaded f.exchanged f.clock f.found f.look f.tick f.to f.left
+
+  under : (x : ℕ) → x ≤ f.look.finds.words Clock → x < f.to
+  under x l =
+      let is = f.look.finds.word in
+      let less = clock_under in
+      omega (arith, is, less, l)
+
+  pub flushed_above : EachOf (λ (x : Made). (clock_value (place_at (sizes_of v.post.machine) x.step.place) x.found < f.to) × (clock_value (place_at (sizes_of v.post.machine) x.step.place) (left_of x) < f.to)) v.holdings.steps
+  flushed_above = each_map _ _ v.holdings.steps (λ x l. (under _ l.0, under _ l.1)) (all_below v.post.machine v.post.vcpu v.holdings Clock f.clock f.look.finds)
+
+  -- a marked frame in the own works was marked before
+  pub marked_less : (g : ℕ) (e : Work) → work_on g v.holdings.works ≡ Some e → (kind_fields e.word).unflushed ≡ true → (kind_fields e.word).number < f.to
+  marked_less g e here marked =
+      let m = f.look.finds.words in
+      let sound = f.look.finds.sound in
+      let word = (works_facts v.post.machine m f.look.finds.hands v.post.vcpu g e sound f.look.finds.real (subst (λ (u : Holdings). work_on g u.works ≡ Some e) (sym f.look.finds.mine) here)).word in
+      let unlive = marked_unlive v.post.machine m g sound.spelled (ap (λ x. (kind_fields x).unflushed) word ∙ marked) in
+      let number : kind_stamp (m (Kind g)) ≡ (kind_fields e.word).number = stamp_of (m (Kind g)) (kind_fields e.word) (ap kind_fields word) (ap (λ x. (kind_fields x).validated) (sym word) ∙ unlive) in
+      subst (λ y. y < f.to) number (under _ (sound.stamped.kinds g))
+
+  -- the steps show it
+  pub flushed_since : (k stamp : ℕ) → k ≤ length v.holdings.steps → stamp < f.to → IsTrue (some_since (sizes_of v.post.machine) k (flushed_of v.post.vcpu) (λ y. nat_lt stamp y) w.holdings.steps)
+  unfolding left_by
+  flushed_since k stamp late less =
+      let more = came_longer v f.exchanged before_ack in
+      subst (λ (q : Post). IsTrue (some_since (sizes_of q.machine) k (flushed_of v.post.vcpu) (λ y. nat_lt stamp y) w.holdings.steps)) exchanged_post
+      (moves_since f.exchanged w (flushed_of v.post.vcpu) (Store f.to) kinds.Ack None f.before f.ack k (λ y. nat_lt stamp y) (omega (arith, late, more)) (less_is stamp f.to less))
+
+-- ---- what steps before the flush found
+is_head : (a b c : Bool) → a ≡ true → b ≡ true → IsTrue ((a && b) || c)
+is_head a b c x y = rw (x, y) refl
+
+abbrev is_found : Sizes → Place → ℕ → ℕ → Made → Bool
+is_found z p y k x = is_at z p x && (x.found == y)
+
+met_found : (u v : PortValue) (m : Moment) → Met u v m → IsTrue (some_step (is_found (sizes_of v.post.machine) m.place m.found) v.holdings.steps)
+unfolding some_step
+met_found u v m a =
+    let moves = a.moved.moves in
+    let same : a.from.post ≡ v.post = sym (came_post a.to v a.after ∙ ap (λ (y : PortValue). y.post) moves.to) in
+    came_keeps a.to v (is_found (sizes_of v.post.machine) m.place m.found) a.after
+    (subst (λ (q : Post). IsTrue (some_step (is_found (sizes_of q.machine) m.place m.found) a.to.holdings.steps)) same
+    (rw (moves_steps a.from a.to m.place m.act m.kind m.mark m.found moves)
+    (is_head _ _ _ (is_same-by _ m.place (place_back (sizes_of a.from.post.machine) m.place moves.may.place)) (when_eq m.found m.found refl))))
+
+some_each : (P : Made → Type 0) (test : ℕ → Made → Bool) (xs : List Made) → EachOf P xs → IsTrue (some_step test xs) → (k : ℕ) × ((x : Made) × IsTrue (test k x) × P x)
+unfolding EachOf some_step
+some_each P test [] e h = absurd cc
+some_each P test (x ∷ xs) e h =
+    elim (head_or_tail test x xs h) [
+      | inl here ↦ (length xs, (x, here, e.0))
+      | inr there ↦ some_each P test xs e.1 there
+    ]
+
+same_number : (x y : ℕ) → (x == y) ≡ true → x ≡ y
+same_number x y e = grind (arith, nat_tests)
+
+-- the stamp of a kind word that is not validated
+unlive_stamp : (w : ℕ) → (kind_fields w).validated ≡ false → kind_stamp w ≡ (kind_fields w).number
+unlive_stamp w unlive = stamp_of w (kind_fields w) refl unlive
+
+not_true : (b : Bool) → not b ≡ true → b ≡ false
+not_true true e = absurd cc
+not_true false e = refl
+
+module _ (u v w : PortValue) (f : Flushed v w) where
+  -- the flush is later than each clock value and stamp that one of them found
+  pub met_less : (m : Moment) → Met u v m → clock_value m.place m.found < f.to
+  met_less m a =
+      let one = some_each _ (is_found (sizes_of v.post.machine) m.place m.found) v.holdings.steps (flushed_above v w f) (met_found u v m a) in
+      let both = and_parts (is_at (sizes_of v.post.machine) m.place one.1.0) (one.1.0.found == m.found) one.1.1 in
+      subst (λ y. clock_value m.place y < f.to) (same_number _ _ both.1) (subst (λ q. clock_value q one.1.0.found < f.to) (same_place _ m.place both.0) one.1.2.0)
+
+  pub found_less : (p : Place) (x : ℕ) → Found (Met u v) p x → clock_value p x < f.to
+  found_less p x a = subst (λ y. clock_value p y < f.to) a.word (subst (λ q. clock_value q a.moment.found < f.to) a.place (met_less a.moment a.was))
+
+  -- a marked word is not validated
+  marked_word : (g x : ℕ) (h : Holdings) → FoundWith (Met u v) (Kind g) x h → (kind_fields x).unflushed ≡ true → (kind_fields x).validated ≡ false
+  marked_word g x h a marked =
+      let finds = a.was.moved.moves.finds in
+      let is : finds.words (Kind g) ≡ x = ap finds.words (sym a.place) ∙ finds.word ∙ a.word in
+      ap (λ y. (kind_fields y).validated) (sym is) ∙ marked_unlive a.was.from.post.machine finds.words g finds.sound.spelled (ap (λ y. (kind_fields y).unflushed) is ∙ marked)
+
+  stamp_less : (g x : ℕ) (h : Holdings) → FoundWith (Met u v) (Kind g) x h → (kind_fields x).validated ≡ false → (kind_fields x).number < f.to
+  unfolding clock_value
+  stamp_less g x h a unlive = subst (λ y. y < f.to) (unlive_stamp x unlive) (found_less (Kind g) x (record { moment = a.moment; was = a.was; place = a.place; word = a.word }))
+
+  -- so it is later than each stamp that is awaited
+  pub awaited_less : (n : Machine) (s : ℕ) (r : Request) (whose : Option ℕ) (stamp : ℕ) → Awaited n s r (Met u v) whose stamp → stamp < f.to
+  unfolding clock_value
+  awaited_less n s r whose stamp (reasons.marked g x owner want h a b c d e i j) = rw j (stamp_less g x h b (marked_word g x h b d))
+  awaited_less n s r whose stamp (reasons.other g x owner want h a b c d e i j) = rw j (stamp_less g x h b (not_true _ (and_parts _ _ d).0))
+  awaited_less n s r whose stamp (reasons.free g x k a b c d e i) = rw i (found_less (Refs g) x c)
+  awaited_less n s r whose stamp (reasons.begun a b c) = found_less Clock stamp b
+
+  -- and the own vCPU is clear of it
+  pub own_clear : (r : Request) (whose : Option ℕ) (stamp : ℕ) → Came u v → Awaited u.post.machine u.post.vcpu r (Met u v) whose stamp → Clear u.post.machine u.post.vcpu whose stamp (Met u w) u.post.vcpu
+  own_clear r whose stamp came a =
+      let d = flushed_did v w f in
+      subst (λ (q : Post). Clear q.machine q.vcpu whose stamp (Met u w) q.vcpu) (came_post u v came)
+      (own f.to f.before refl (record { moment = d.moment; was = met_after u v w d.moment came d.was; place = d.place; act = d.act; word = d.word }) (awaited_less u.post.machine u.post.vcpu r whose stamp a))
