@@ -19,7 +19,7 @@ use Rattle.answer_fits.specs.Twins.{Alike}
 use Rattle.frame_words.specs.Plain.{put}
 use Rattle.kind_words.specs.Kinds.{live_kind, dead_kind, partial_kind}
 use Rattle.frame_types.specs.Standing.{standing_of}
-use Rattle.frame_types.specs.Taking.{stamp_by, work_kind}
+use Rattle.frame_types.specs.Taking.{work_kind}
 use Rattle.frame_types.specs.declared.standing.Standing.{Standing}
 use Rattle.frame_types.specs.declared.standing.Standing.TheVariants as stands
 use Rattle.frame_types.specs.declared.taking.Taken.{Taken}
@@ -102,9 +102,9 @@ GoesPlainly v w f want marked own Counted = (is_read_first want ≡ false) × Al
 GoesPlainly v w f want marked own (InWork progress mine) = (is_read_first want ≡ true) × (mine ≡ own) × Alike (told_word w) (set_kind f (work_kind want false 0) (told_word v))
 GoesPlainly v w f want marked own (Waiting mine stamp stop) = (marked ≡ true) × (mine ≡ own) × Alike (told_word w) (told_word v)
 
-abbrev pub TwinOn : PortValue → PortValue → ℕ → PageType → Bool → KindWord → Bool → Taken → Type 0
-TwinOn v w f want marked k own t =
-    is_telling v ≡ true → told_word v (Kind f) ≡ kind_write (work_kind want marked (stamp_by marked k)) → GoesPlainly v w f want marked own t
+abbrev pub TwinOn : PortValue → PortValue → ℕ → PageType → Bool → Bool → Taken → Type 0
+TwinOn v w f want marked own t =
+    is_telling v ≡ true → (marked ≡ false → told_word v (Kind f) ≡ kind_write (work_kind want false 0)) → GoesPlainly v w f want marked own t
 
 -- ---- ordinary memory
 -- the words where the flush was not to be had: refused, an own frame is dead with its mark; paused, it is partial with the

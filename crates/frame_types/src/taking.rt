@@ -131,11 +131,11 @@ fn go_on<P: Port>(
     ensures serves { ServesOn (P.value port.old) (P.value port.new) frame owner want marked kind.number }
     ensures waits { WaitsOn (P.value port.old) (P.value port.new) frame owner want marked kind.number result }
     ensures hand { HoldsOn (P.value port.old) (P.value port.new) frame owner want marked kind own result }
-    ensures plain { TwinOn (P.value port.old) (P.value port.new) frame want marked kind own result }
+    ensures plain { TwinOn (P.value port.old) (P.value port.new) frame want marked own result }
 {
     if marked {
         match clear_stale(port, frame, owner, kind.number) {
-            Ok(()) => finish(port, frame, owner, want, true, kind, own),
+            Ok(()) => finish(port, frame, owner, want, marked, kind, own),
             Err(stop) => Taken::Waiting {
                 own,
                 stamp: kind.number,
@@ -143,7 +143,7 @@ fn go_on<P: Port>(
             },
         }
     } else {
-        finish(port, frame, owner, want, false, kind, own)
+        finish(port, frame, owner, want, marked, kind, own)
     }
 }
 
@@ -165,7 +165,7 @@ fn finish<P: Port>(
     ensures serves { (u : PortValue) (ds : List Deed) → Serves u (P.value port.old) (of_frame frame owner (Some want)) ds → Serves u (P.value port.new) (of_frame frame owner (Some want)) ds }
     ensures done { IsDone result }
     ensures hand { HoldsOn (P.value port.old) (P.value port.new) frame owner want marked kind own result }
-    ensures plain { TwinOn (P.value port.old) (P.value port.new) frame want marked kind own result }
+    ensures plain { TwinOn (P.value port.old) (P.value port.new) frame want marked own result }
 {
     if !is_read_first(want) {
         leave(port, frame, live_kind(want, counts(own)));
