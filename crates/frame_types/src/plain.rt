@@ -28,6 +28,8 @@ pub fn drop_plain<P: Port>(port: &mut P, frame: u32, kind: PageType)
     if counts_one(lower_type(port, frame)) {
         let stamp = look_clock(port);
         leave(port, frame, dead_kind(kind, false, stamp));
+        put_ref(port, frame);
+    } else {
+        put_ref(port, frame);
     }
-    put_ref(port, frame);
 }
