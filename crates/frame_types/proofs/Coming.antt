@@ -22,7 +22,7 @@ use Rattle.xp_board.specs.KindSteps.{begun_kind, is_stale, live_typed, new_work,
 use Rattle.xp_board.specs.Lists.{kept_of}
 use Rattle.xp_board.specs.Readings.{is_dead, is_live, is_partial, is_work}
 use Rattle.xp_board.specs.Told.{PortValue}
-use Rattle.board_lemmas.proofs.KindForms.{fields_of, partial_form}
+use Rattle.board_lemmas.proofs.KindForms.{fields_of, PartialForm, partial_form}
 use Rattle.board_lemmas.proofs.KindReadings.{partial_parts}
 use Rattle.step_maker.specs.Holds.{FlushedHolds, Holds, Same, quiet, still}
 use Rattle.step_maker.specs.Moves.{Moves}
@@ -108,4 +108,98 @@ module _ (b v : PortValue) (f owner : ℕ) (want : PageType) (word : ℕ) (l : L
           hand = begun_hand;
           lent = l.lent;
           aside = l.aside (dead_apart b.post.machine b.post.vcpu b.holdings f word k l.look.finds (fields_of word k read) dead);
+        }
+
+-- ---- from partial to work again
+by_number : (u : Bool) (k : KindWord) → (u ≡ false → k.number ≡ 0) → k.number ≡ stamp_by u k
+by_number true k none = refl
+by_number false k none = none refl
+
+work_again : (k : KindWord) (want : PageType) → k.kind ≡ want → k.pinned ≡ false → k.validated ≡ false → k.number ≡ stamp_by k.unflushed k → resumed_kind k ≡ work_kind want k.unflushed (stamp_by k.unflushed k)
+work_again k want kind pinned unlive number =
+    ap (λ t. record (resumed_kind k) { kind = t }) kind ∙ ap (λ p. record (resumed_kind k) { kind = want; pinned = p }) pinned
+    ∙ ap (λ p. record (resumed_kind k) { kind = want; pinned = false; validated = p }) unlive
+    ∙ ap (λ n. record (resumed_kind k) { kind = want; pinned = false; validated = false; number = n }) number
+
+module _ (b v : PortValue) (f owner : ℕ) (want : PageType) (word : ℕ) (l : Looked b v f owner want word) (k : KindWord) (read : kind_read word ≡ Some k) (is : IsTrue (is_kind k)) (parted : IsParted k want) (w : PortValue) (a : _) (found : ℕ)
+    (change : Moves v w (Kind f) a kinds.Kind None found) (holds : Holds v w (resumed_work f k v.holdings)) where
+  form : PartialForm k
+  form = partial_form word k read (partial_parts k parted.partial).0 (partial_parts k parted.partial).1
+
+  again : resumed_kind k ≡ work_kind want k.unflushed (stamp_by k.unflushed k)
+  again = work_again k want parted.kind form.unpinned (partial_parts k parted.partial).0 (by_number k.unflushed k form.number)
+
+  item : Work
+  item = new_work f (kind_write (resumed_kind k)) k.progress (unsettled_from k.progress v.holdings) v.holdings
+
+  parted_progress : k.progress ≡ progress_of k
+  parted_progress = ap (λ y. if y then k.progress else 0) (sym (partial_parts k parted.partial).1)
+
+  no_typed : typed_to f b.holdings.typed ≡ 0
+  no_typed = l.aside (partial_apart b.post.machine b.post.vcpu b.holdings f word k l.look.finds (fields_of word k read) parted.partial)
+
+  -- with the reference of its mark: the one in hand is one too many
+  module _ (kept : k.kept ≡ true) where
+    kept_hand : quiet w ≡ quiet (record b { holdings = record b.holdings { typed = record { frame = f; kind = Some want; owner = owners.Of owner; live = lives.Since (length v.holdings.steps) } ∷ b.holdings.typed; works = item ∷ b.holdings.works } })
+    unfolding item
+    kept_hand =
+        let since = length v.holdings.steps in
+        ap quiet holds ∙ ap (λ h. quiet (record v { holdings = h })) (resumed_kept f k v.holdings kept)
+        ∙ ap (λ xs. quiet (record v { holdings = record v.holdings { looking = xs; typed = record { frame = f; kind = Some k.kind; owner = ref_owner f v.holdings; live = lives.Since since } ∷ v.holdings.typed; works = item ∷ v.holdings.works } })) (looking b v f owner want word l (kind_write (resumed_kind k)))
+        ∙ ap (λ t. quiet (record v { holdings = record v.holdings { looking = b.holdings.looking; typed = record { frame = f; kind = Some t; owner = ref_owner f v.holdings; live = lives.Since since } ∷ v.holdings.typed; works = item ∷ v.holdings.works } })) parted.kind
+        ∙ ap (λ (o : OwnerFound). quiet (record v { holdings = record v.holdings { looking = b.holdings.looking; typed = record { frame = f; kind = Some want; owner = o; live = lives.Since since } ∷ v.holdings.typed; works = item ∷ v.holdings.works } })) (owned b v f owner want word l)
+        ∙ ap (λ (q : PortValue). quiet (record q { holdings = record q.holdings { looking = b.holdings.looking; typed = record { frame = f; kind = Some want; owner = owners.Of owner; live = lives.Since since } ∷ q.holdings.typed; works = item ∷ q.holdings.works } })) l.same
+
+    pub kept_gives : MayGive f w.holdings
+    unfolding item
+    kept_gives =
+        let here = work_here f item b.holdings.works w.holdings.works refl (ap (λ (q : PortValue). q.holdings.works) kept_hand) in
+        record {
+          held = subst (λ rs. 0 < refs_to f rs) (sym (ap (λ (q : PortValue). q.holdings.refs) kept_hand)) (lent_held f owner b.holdings l.lent);
+          spares = work_spares f w.holdings item here (subst (λ y. IsTrue (is_work y)) (sym (resumed_fields k is parted.partial)) (resumed_in_work k parted.partial));
+        }
+
+    pub kept_enters : (y : PortValue) → Holds w y (gave f w.holdings) → length w.holdings.steps ≤ length y.holdings.steps → Enters b y f owner want k.unflushed (stamp_by k.unflushed k) (progress_of k) true
+    unfolding item
+    kept_enters y gives later =
+        let more = moves_longer v w (Kind f) a kinds.Kind None found change in
+        record {
+          work = item;
+          since = length v.holdings.steps;
+          frame = refl;
+          word = ap (λ z. kind_write z) again;
+          spelled = subst (λ z. IsTrue (is_kind z)) again (resumed_is k is parted.partial);
+          recorded = parted_progress;
+          none = λ on. sym parted_progress ∙ form.marked on;
+          earlier = omega (arith, more, later);
+          hand = ap quiet gives ∙ ap (λ (q : PortValue). quiet (record q { holdings = gave f q.holdings })) kept_hand;
+          lent = l.lent;
+          aside = no_typed;
+        }
+
+  -- its type count is another holder's
+  module _ (unkept : k.kept ≡ false) where
+    unkept_hand : quiet w ≡ quiet (record b { holdings = record b.holdings { works = item ∷ b.holdings.works } })
+    unfolding item
+    unkept_hand =
+        ap quiet holds ∙ ap (λ h. quiet (record v { holdings = h })) (resumed_unkept f k v.holdings unkept)
+        ∙ ap (λ xs. quiet (record v { holdings = record v.holdings { looking = xs; works = item ∷ v.holdings.works } })) (looking b v f owner want word l (kind_write (resumed_kind k)))
+        ∙ ap (λ (q : PortValue). quiet (record q { holdings = record q.holdings { looking = b.holdings.looking; works = item ∷ q.holdings.works } })) l.same
+
+    pub unkept_enters : Enters b w f owner want k.unflushed (stamp_by k.unflushed k) (progress_of k) false
+    unfolding item
+    unkept_enters =
+        let more = moves_longer v w (Kind f) a kinds.Kind None found change in
+        record {
+          work = item;
+          since = length v.holdings.steps;
+          frame = refl;
+          word = ap (λ z. kind_write z) again;
+          spelled = subst (λ z. IsTrue (is_kind z)) again (resumed_is k is parted.partial);
+          recorded = parted_progress;
+          none = λ on. sym parted_progress ∙ form.marked on;
+          earlier = omega (arith, more);
+          hand = unkept_hand;
+          lent = l.lent;
+          aside = no_typed;
         }

@@ -85,10 +85,13 @@ fn take_found<P: Port>(
         }
         Standing::Partial => match resume_work(port, frame, kind) {
             Ok(()) => {
+                let marked = kind.unflushed;
                 if kind.kept {
                     put_ref(port, frame);
+                    Ok(go_on(port, frame, owner, want, marked, kind, true))
+                } else {
+                    Ok(go_on(port, frame, owner, want, marked, kind, false))
                 }
-                Ok(go_on(port, frame, owner, want, kind.unflushed, kind, kind.kept))
             }
             Err(found) => Err(lost(port, frame, word, found)),
         },
