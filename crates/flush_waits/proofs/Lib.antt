@@ -1,7 +1,8 @@
 mod Asking
+pub mod Behind
 mod Chaining
 mod Flushing
-mod Growing
+pub mod Growing
 mod Looking
 mod Marked
 mod Pieces

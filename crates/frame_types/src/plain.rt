@@ -8,11 +8,12 @@ ghost use Rattle.answer_fits.specs.Asked.{of_back};
 ghost use Rattle.frame_types.specs.Plain.{dropped_plain};
 ghost use Rattle.frame_types.specs.Taking.{MayDropPlain, untyped};
 
+use crate::words::dead_kind;
 use frame_words::put_ref;
 use kind_words::{counts_one, leave, lower_type};
 use step_maker::look_clock;
 use xp_board::Port;
-use xp_words::{KindWord, PageType};
+use xp_words::PageType;
 
 /// Gives a typed reference to a live writable frame or descriptor page back, its type count first. After the last type count the
 /// clock is loaded and the frame left dead with that stamp.
@@ -27,6 +28,8 @@ pub fn drop_plain<P: Port>(port: &mut P, frame: u32, kind: PageType)
     if counts_one(lower_type(port, frame)) {
         let stamp = look_clock(port);
         leave(port, frame, dead_kind(kind, false, stamp));
+        put_ref(port, frame);
+    } else {
+        put_ref(port, frame);
     }
-    put_ref(port, frame);
 }
