@@ -108,7 +108,7 @@ twin_more v u f w lower off telling q =
     leaves v u (Refs f) _ kinds.Ref None w lower telling q
     ∙ ap (λ b. (if b then freed f (owner_number (owner_of (m (Refs f)))) (lowered f m) else lowered f m) q) (sym (ap (λ y. ref_count y == 1) at ∙ when_ne (ref_count w) 1 off))
 
-low_rest : (y : ℕ) → y < 2 ^ 36 → y % 2 ^ 36 ≡ y
+pub low_rest : (y : ℕ) → y < 2 ^ 36 → y % 2 ^ 36 ≡ y
 low_rest y low = omega (arith, low)
 
 pub twin_last : (v u x : PortValue) (f w owner : ℕ) (allocated : Bool) → Moves v u (Refs f) (Add one_down) kinds.Ref None w → ref_read w ≡ Some (Owned owner allocated 1) → Frees u x f owner → is_telling v ≡ true →
