@@ -63,7 +63,7 @@ same_ref : (x y : ℕ) → is_free x ≡ false → IsAlikeRef x y → x ≡ y
 same_ref x y off (inl e) = e
 same_ref x y off (inr e) = absurd (let k = sym e.0 ∙ off in cc)
 
-stamp_low : (y : ℕ) → y % 2 ^ 36 < 2 ^ 36
+pub stamp_low : (y : ℕ) → y % 2 ^ 36 < 2 ^ 36
 stamp_low y = omega arith
 
 is_free_stamp : (stamp : ℕ) → stamp < 2 ^ 36 → is_free (ref_write (Free stamp)) ≡ true
