@@ -80,7 +80,7 @@ keeps_type old new = is_type (kind_fields old).kind (kind_fields new).kind && no
 abbrev pub MayMark : Machine → ℕ → Request → Finding → ℕ → ℕ → ℕ → Type 0
 MayMark n s r F f old new = (r.locks ≡ true) × IsAsked n s r F f × IsTrue (keeps_type old new)
 
--- A kind word gets a type only that is asked of that frame. A call that asks no type and marks nothing changes none.
+-- A kind word gets a type only that is asked of that frame, by an exchange; a store keeps the type, and a sum gives back what is in hand.
 abbrev pub MayType : Machine → ℕ → Request → Finding → ℕ → Act → ℕ → Type 0
 MayType n s r F f (Cas e w) x = IsTypeAsked n s r F f (kind_fields w).kind ⊎ MayMark n s r F f e w
 MayType n s r F f (Store w) x = IsAsked n s r F f × IsTrue (keeps_type x w)

@@ -53,7 +53,7 @@ left_ref f h = record { frame = f; owner = typed_owner f h }
 
 module _ (v a : PortValue) (f found : ℕ) (kind : PageType) (frame : f < v.post.machine.frames) (drops : MayDropPlain v.post.machine f kind v.holdings)
     (lower : Moves v a (Kind f) (Add one_down) kinds.Kind None found) (hand : Holds v a (dropped f found (left_by (Add one_down) found) v.holdings)) where
-  found_is : IsFoundLive v.post.machine f found v.holdings
+  pub found_is : IsFoundLive v.post.machine f found v.holdings
   found_is = found_live v.post.machine v.post.vcpu v.holdings f found lower.finds (record { in_hand = drops.held; kind = kind; live = drops.live })
 
   pub kind_is : (kind_fields found).kind ≡ kind
@@ -121,7 +121,7 @@ module _ (v a : PortValue) (f found : ℕ) (kind : PageType) (frame : f < v.post
             dead ∙ ap (λ (h : Holdings). still (record b { holdings = h })) (left_dead_closing b f kind closing here typed false stamp small is_closed)
             ∙ ap (λ (q : PortValue). still (record q { holdings = record q.holdings { works = without_work f q.holdings.works } })) looked
             ∙ ap (λ (ws : List Work). still (record v { holdings = record v.holdings { refs = left_ref f v.holdings ∷ v.holdings.refs; typed = without_typed f v.holdings.typed; works = ws } }))
-              (without_newest (λ (y : Work). y.frame) f closing v.holdings.works _ refl refl)
+            (without_newest (λ (y : Work). y.frame) f closing v.holdings.works _ refl refl)
 
         pub last_gives : MayGive f d.holdings
         last_gives =

@@ -52,7 +52,6 @@ same_type t = when_eq (type_number t) (type_number t) refl
 quietly : (b v w : PortValue) (k : Holdings) → Holds v w k → quiet w ≡ quiet (record v { holdings = k })
 quietly b v w k holds = ap quiet holds
 
-
 module _ (b v : PortValue) (f owner : ℕ) (want : PageType) (marked : Bool) (stamp progress : ℕ) (own : Bool) (e : Enters b v f owner want marked stamp progress own) where
   here : work_on f v.holdings.works ≡ Some e.work
   here = entered_here b v f owner want marked stamp progress own e
@@ -108,7 +107,7 @@ module _ (b v : PortValue) (f owner : ℕ) (want : PageType) (marked : Bool) (st
     shared_live w holds =
         ap quiet holds ∙ ap (λ k. quiet (record v { holdings = k })) (left_shared v f want e.work here wanted)
         ∙ ap (λ (o : OwnerFound). quiet (record v { holdings = record v.holdings { refs = without_ref f v.holdings.refs; typed = live_typed f want o ∷ v.holdings.typed; works = without_work f v.holdings.works } }))
-            (lent_owner f owner v.holdings (shared_lent b v f owner want marked stamp progress own e shared))
+        (lent_owner f owner v.holdings (shared_lent b v f owner want marked stamp progress own e shared))
         ∙ ap (λ ys. quiet (record v { holdings = record v.holdings { refs = without_ref f v.holdings.refs; typed = live_typed f want (owners.Of owner) ∷ v.holdings.typed; works = ys } })) no_works
         ∙ ap (λ (q : PortValue). quiet (record q { holdings = record q.holdings { refs = without_ref f q.holdings.refs; typed = live_typed f want (owners.Of owner) ∷ q.holdings.typed; works = b.holdings.works } })) e.hand
         ∙ ap (λ (o : Bool). quiet (record b { holdings = record (working f owner want o e.work e.since b.holdings) { refs = without_ref f (working f owner want o e.work e.since b.holdings).refs; typed = live_typed f want (owners.Of owner) ∷ (working f owner want o e.work e.since b.holdings).typed; works = b.holdings.works } })) shared
@@ -164,8 +163,8 @@ module _ (b v : PortValue) (f owner : ℕ) (want : PageType) (stamp progress : �
         ap quiet holds ∙ ap (λ k. quiet (record v { holdings = left v f k })) (is ∙ sym unmarked_is)
         ∙ ap (λ k. quiet (record v { holdings = k })) (left_unmarked v f e.work (here b v f owner want true stamp progress own e) spelled (in_work b v f owner want true stamp progress own e))
         ∙ ap (λ ys. quiet (record v { holdings = record v.holdings { works = ys } }))
-            (changed_newest f (λ y. record y { word = kind_write (unmarked_kind (kind_fields e.work.word)); unmarked = length v.holdings.steps + 1 }) e.work b.holdings.works v.holdings.works e.frame (entered_works b v f owner want true stamp progress own e)
-            ∙ ap (λ k. record e.work { word = kind_write k; unmarked = length v.holdings.steps + 1 } ∷ b.holdings.works) unmarked_is)
+        (changed_newest f (λ y. record y { word = kind_write (unmarked_kind (kind_fields e.work.word)); unmarked = length v.holdings.steps + 1 }) e.work b.holdings.works v.holdings.works e.frame (entered_works b v f owner want true stamp progress own e)
+        ∙ ap (λ k. record e.work { word = kind_write k; unmarked = length v.holdings.steps + 1 } ∷ b.holdings.works) unmarked_is)
         ∙ ap (λ (q : PortValue). quiet (record q { holdings = record q.holdings { works = item ∷ b.holdings.works } })) e.hand
         ∙ ap (λ k. quiet (record b { holdings = k })) (working_again f owner want own e.work item e.since b.holdings)
 

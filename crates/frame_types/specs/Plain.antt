@@ -16,7 +16,7 @@ use Rattle.xp_board.specs.RefSteps.{one_down}
 use Rattle.xp_board.specs.Told.{PortValue, is_telling, told_word}
 use Rattle.step_maker.specs.Plain.{Words, change, Leaves}
 use Rattle.answer_fits.specs.Twins.{Alike}
-use Rattle.frame_words.specs.Plain.{put}
+use Rattle.frame_words.specs.Plain.{put, stamp_now}
 use Rattle.kind_words.specs.Kinds.{live_kind, dead_kind, partial_kind}
 use Rattle.frame_types.specs.Standing.{standing_of}
 use Rattle.frame_types.specs.Taking.{work_kind}
@@ -130,7 +130,7 @@ TwinMemory v w f answer = is_telling v ≡ true → TakesMemory v w f answer
 -- a type is given back of a frame that holds no entries, and the reference with it
 abbrev pub dropped_plain : ℕ → PageType → Words → Words
 dropped_plain f kind m =
-    put f (if (kind_fields (m (Kind f))).number == 1 then set_kind f (dead_kind kind false (m Clock)) (change (Add one_down) (Kind f) m) else change (Add one_down) (Kind f) m)
+    put f (if (kind_fields (m (Kind f))).number == 1 then set_kind f (dead_kind kind false (stamp_now m)) (change (Add one_down) (Kind f) m) else change (Add one_down) (Kind f) m)
 
 -- a frame that waits is given up: the words after that
 abbrev pub is_refused : Stop → Bool
@@ -138,7 +138,7 @@ is_refused (Refused x) = true
 is_refused (Paused x) = false
 
 abbrev pub left_waiting : ℕ → Bool → Bool → ℕ → Words → Words
-left_waiting f true true stamp m = put f (set_kind f (dead_kind Writable true (m Clock)) m)
+left_waiting f true true stamp m = put f (set_kind f (dead_kind Writable true (stamp_now m)) m)
 left_waiting f true false stamp m = set_kind f (partial_kind Writable true true 0 stamp) m
 left_waiting f false refused stamp m = put f (set_kind f (partial_kind Writable false true 0 stamp) m)
 

@@ -6,6 +6,9 @@ use Rattle.xp_words.specs.KindWords.{is_kind, kind_fields, kind_write}
 use Rattle.xp_words.specs.PageTypes.{is_table}
 use Rattle.xp_words.specs.declared.kind.PageType.{PageType}
 use Rattle.xp_words.specs.declared.reply.Stop.{Stop}
+use Rattle.xp_words.specs.declared.reply.Stop.TheVariants.{Refused, Paused}
+use Rattle.xp_words.specs.declared.reply.Refusal.TheVariants as refusals
+use Rattle.xp_words.specs.declared.reply.Pause.TheVariants.{Busy, Flush, Lost}
 use Rattle.xp_board.specs.declared.holdings.Holdings.{Holdings}
 use Rattle.xp_board.specs.declared.holdings.Liveness.TheVariants.{Since}
 use Rattle.xp_board.specs.declared.holdings.OwnerFound.TheVariants as owners
@@ -201,3 +204,12 @@ ServesMemory v w f =
 -- from wherever the frame came into the own works, the untyped reference went out of the hand
 abbrev pub GivesUp : PortValue → PortValue → ℕ → Bool → ℕ → Type 0
 GivesUp v w f own stamp = (b : PortValue) (owner : ℕ) → WaitsIn b v f owner own stamp → FlushedHolds b w (gave f b.holdings)
+
+-- ---- why a type is not to be had
+abbrev pub IsTypeStop : Stop → Type 0
+IsTypeStop (Refused (refusals.OtherType f want found)) = Unit {0}
+IsTypeStop (Refused (refusals.Clock found)) = Unit {0}
+IsTypeStop (Paused (Lost place expected found)) = Unit {0}
+IsTypeStop (Paused (Busy f found)) = Unit {0}
+IsTypeStop (Paused (Flush vcpu stamp found)) = Unit {0}
+IsTypeStop _ = ⊥

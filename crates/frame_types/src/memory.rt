@@ -8,7 +8,7 @@ ghost use Rattle.answer_fits.specs.Answers.{Serves, Stops, misses};
 ghost use Rattle.answer_fits.specs.Asked.{of_frame};
 ghost use Rattle.frame_words.specs.Freeing.{gave};
 ghost use Rattle.frame_types.specs.Plain.{TwinGiveUp, TwinMemory};
-ghost use Rattle.frame_types.specs.Taking.{GivesUp, IsWaiting, LentBy, ServesMemory, typed_as};
+ghost use Rattle.frame_types.specs.Taking.{GivesUp, IsTypeStop, IsWaiting, LentBy, ServesMemory, typed_as};
 
 use crate::taking::{Taken, take_type};
 use crate::words::{dead_kind, partial_kind};
@@ -31,6 +31,7 @@ pub fn take_writable<P: Port>(port: &mut P, frame: u32, owner: u16) -> Result<()
     requires looked { (P.value port.old).holdings.looking ≡ [] }
     ensures serves { Serves (P.value port.old) (P.value port.new) (of_frame frame owner (Some Writable)) (misses (P.value port.old).post.machine result) }
     ensures stops { IfErr result (λ e. Stops (P.value port.old) (P.value port.new) (of_frame frame owner (Some Writable)) e) }
+    ensures kinds { IfErr result IsTypeStop }
     ensures hand { MatchResult result (λ _. FlushedHolds (P.value port.old) (P.value port.new) (typed_as frame owner Writable (P.value port.old).holdings)) (λ _. FlushedHolds (P.value port.old) (P.value port.new) (gave frame (P.value port.old).holdings)) }
     ensures plain { TwinMemory (P.value port.old) (P.value port.new) frame result }
 {

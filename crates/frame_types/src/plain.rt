@@ -1,5 +1,8 @@
 //! Types given back of frames that hold no entries.
-ghost use Rattle.std.specs.Prelude.{◌<◌, ◌≡◌, [], true};
+ghost use Rattle.std.specs.Prelude.{◌<◌, ◌≡◌, [], true, false};
+ghost use Rattle.xp_words.specs.KindWords.{kind_fields};
+ghost use Rattle.xp_words.specs.declared.place.Place.TheVariants.{Refs, Kind};
+ghost use Rattle.xp_board.specs.Readings.{is_free};
 ghost use Rattle.xp_board.specs.Told.{is_telling, told_word};
 ghost use Rattle.step_maker.specs.Holds.{Holds, MayWork};
 ghost use Rattle.step_maker.specs.Plain.{Leaves};
@@ -24,6 +27,7 @@ pub fn drop_plain<P: Port>(port: &mut P, frame: u32, kind: PageType)
     ensures serves { Serves (P.value port.old) (P.value port.new) (of_back frame) [] }
     ensures hand { Holds (P.value port.old) (P.value port.new) (untyped frame (P.value port.old).holdings) }
     ensures plain { is_telling (P.value port.old) ≡ true → Leaves (P.value port.new) (dropped_plain frame kind (told_word (P.value port.old))) }
+    ensures stands { is_telling (P.value port.old) ≡ true → (is_free (told_word (P.value port.old) (Refs frame)) ≡ false) × ((kind_fields (told_word (P.value port.old) (Kind frame))).validated ≡ true) }
 {
     if counts_one(lower_type(port, frame)) {
         let stamp = look_clock(port);

@@ -12,7 +12,7 @@ ghost use Rattle.answer_fits.specs.Answers.{Deed, Serves, Stops, misses};
 ghost use Rattle.answer_fits.specs.Asked.{of_frame};
 ghost use Rattle.flush_waits.specs.Waiting.{IsFlushed};
 ghost use Rattle.frame_types.specs.Plain.{TwinOn, TwinTake};
-ghost use Rattle.frame_types.specs.Taking.{HasEntered, HoldsOn, IsDone, IsLooked, IsOfOther, LentBy, Looked, ServesOn, ShowsWait, Takes, TakesAs, WaitsOn};
+ghost use Rattle.frame_types.specs.Taking.{HasEntered, HoldsOn, IsDone, IsLooked, IsOfOther, IsTypeStop, LentBy, Looked, ServesOn, ShowsWait, Takes, TakesAs, WaitsOn};
 
 use crate::standing::{Standing, classify, read_kind};
 use crate::words::{counts, is_read_first, live_kind, progress_of, work_kind};
@@ -37,7 +37,12 @@ pub enum Taken {
 /// Takes a frame for the type `want`, under the untyped reference in hand. A frame that was of another type, or is marked,
 /// is flushed first. What is read before it is live (a table, a descriptor page) comes into the own works. A refusal or a
 /// pause leaves the reference in hand. A frame that the vCPU works on itself is to be of another type.
-pub fn take_type<P: Port>(port: &mut P, frame: u32, owner: u16, want: PageType) -> Result<Taken, Stop>
+pub fn take_type<P: Port>(
+    port: &mut P,
+    frame: u32,
+    owner: u16,
+    want: PageType,
+) -> Result<Taken, Stop>
     requires frame { frame < (P.value port.old).post.machine.frames }
     requires may { MayWork (P.value port.old) }
     requires wanted { IsTrue (not (is_none want)) }
@@ -47,6 +52,7 @@ pub fn take_type<P: Port>(port: &mut P, frame: u32, owner: u16, want: PageType) 
     requires looked { (P.value port.old).holdings.looking ≡ [] }
     ensures serves { Serves (P.value port.old) (P.value port.new) (of_frame frame owner (Some want)) (misses (P.value port.old).post.machine result) }
     ensures stops { IfErr result (λ e. Stops (P.value port.old) (P.value port.new) (of_frame frame owner (Some want)) e) }
+    ensures kinds { IfErr result IsTypeStop }
     ensures waits { IfOk result (λ t. ShowsWait (P.value port.old) (P.value port.new) frame owner want t) }
     ensures hand { MatchResult result (λ t. TakesAs (P.value port.old) (P.value port.new) frame owner want t) (λ _. Same (P.value port.old) (P.value port.new)) }
     ensures plain { TwinTake (P.value port.old) (P.value port.new) frame want result }

@@ -1,5 +1,5 @@
 -- Steps on a board that tells all words, and what they leave.
-use Rattle.std.proofs.Common.{◌≡◌, ◌≢◌, ℕ, ◌/◌, ◌<◌, ◌≤◌, ◌==◌, nat_lt, nat_le, if◌then◌else◌, Bool, true, false, Option, Some, None, Ok, Err, refl, sym, ap, ◌∙◌, arith}
+use Rattle.std.proofs.Common.{◌≡◌, ◌≢◌, ℕ, ◌/◌, ◌%◌, ◌^◌, ◌<◌, ◌≤◌, ◌==◌, nat_lt, nat_le, if◌then◌else◌, Bool, true, false, Option, Some, None, Ok, Err, refl, sym, ap, ◌∙◌, arith}
 use Rattle.std.proofs.lemmas.Bool.Decides.{nat_tests}
 use Rattle.xp_words.specs.declared.place.Place.TheVariants.{Clock, Pages, Refs, M2p, Cell, Map}
 use Rattle.xp_words.specs.RefWords.{ref_read, ref_write}
@@ -23,8 +23,9 @@ use Rattle.step_maker.proofs.Telling.{moves_telling, told_there, leaves, leaves_
 use Rattle.answer_fits.specs.Licences.{IsOwnedBy, IsFull}
 use Rattle.frame_words.specs.declared.rows.Open.{Open}
 use Rattle.frame_words.specs.Freeing.{Frees}
-use Rattle.frame_words.specs.Plain.{refer_by, one_more, lowered, freed, put, TwinGet}
+use Rattle.frame_words.specs.Plain.{refer_by, one_more, lowered, freed, put, stamp_now, TwinGet}
 use Rattle.frame_words.specs.Refs.{open_word, raised_word, RefusesWord}
+use Rattle.frame_words.proofs.Putting.{clock_low}
 
 -- ---- a reference is taken
 inside : (f k : ℕ) → f < k → nat_lt f k ≡ true
@@ -107,6 +108,9 @@ twin_more v u f w lower off telling q =
     leaves v u (Refs f) _ kinds.Ref None w lower telling q
     ∙ ap (λ b. (if b then freed f (owner_number (owner_of (m (Refs f)))) (lowered f m) else lowered f m) q) (sym (ap (λ y. ref_count y == 1) at ∙ when_ne (ref_count w) 1 off))
 
+pub low_rest : (y : ℕ) → y < 2 ^ 36 → y % 2 ^ 36 ≡ y
+low_rest y low = omega (arith, low)
+
 pub twin_last : (v u x : PortValue) (f w owner : ℕ) (allocated : Bool) → Moves v u (Refs f) (Add one_down) kinds.Ref None w → ref_read w ≡ Some (Owned owner allocated 1) → Frees u x f owner → is_telling v ≡ true →
     Leaves x (put f (told_word v))
 unfolding ref_count owner_of
@@ -120,7 +124,8 @@ twin_last v u x f w owner allocated lower read frees telling q =
     let one : Leaves u (lowered f m) = leaves v u _ _ _ _ _ lower telling in
     let two : Leaves frees.a (lowered f m) = λ p. load_tells u frees.a Clock kinds.Look None frees.stamp frees.look t1 p ∙ one p in
     let three = leaves_then frees.a frees.b (Add (map_bit f)) (Map (f / 64)) (lowered f m) two (leaves frees.a frees.b _ _ _ _ _ frees.bit t2) in
-    let stamp : frees.stamp ≡ lowered f m Clock = sym (told_there u frees.a Clock _ _ _ _ frees.look t1) ∙ one Clock in
+    let stamp : frees.stamp ≡ stamp_now (lowered f m) =
+    sym (low_rest frees.stamp (clock_low u frees.a frees.stamp frees.look)) ∙ ap (λ y. y % 2 ^ 36) (sym (told_there u frees.a Clock _ _ _ _ frees.look t1) ∙ one Clock) in
     let four = leaves_then frees.b frees.d (Store (ref_write (Free frees.stamp))) (Refs f) _ three (leaves frees.b frees.d _ _ _ _ _ frees.free t3) in
     let five = leaves_then frees.d x (Add one_down) (Pages owner) _ four (leaves frees.d x _ _ _ _ _ frees.pages t4) in
     let who : owner_number (owner_of w) ≡ owner = rw read refl in

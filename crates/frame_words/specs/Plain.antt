@@ -1,5 +1,5 @@
 -- Calls as plain functions of the words: what they answer and leave on a board that tells all words.
-use Rattle.std.specs.Prelude.{ℕ, ◌+◌, ◌/◌, ◌==◌, nat_lt, nat_le, if◌then◌else◌, Option, Some, None, Result}
+use Rattle.std.specs.Prelude.{ℕ, ◌+◌, ◌/◌, ◌%◌, ◌^◌, ◌==◌, nat_lt, nat_le, if◌then◌else◌, Option, Some, None, Result}
 use Rattle.xp_words.specs.Machine.{Machine}
 use Rattle.xp_words.specs.declared.place.Place.TheVariants.{Clock, Pages, Refs, Map}
 use Rattle.xp_words.specs.RefWords.{ref_read, ref_write}
@@ -36,8 +36,12 @@ got f m = change (Store (one_more (m (Refs f)) (ref_read (m (Refs f))))) (Refs f
 abbrev pub lowered : ℕ → Words → Words
 lowered f m = change (Add one_down) (Refs f) m
 
+-- the clock as a stamp, which has 36 bits
+abbrev pub stamp_now : Words → ℕ
+stamp_now m = m Clock % 2 ^ 36
+
 abbrev pub freed : ℕ → ℕ → Words → Words
-freed f owner m = change (Add one_down) (Pages owner) (change (Store (ref_write (Free (m Clock)))) (Refs f) (change (Add (map_bit f)) (Map (f / 64)) m))
+freed f owner m = change (Add one_down) (Pages owner) (change (Store (ref_write (Free (stamp_now m)))) (Refs f) (change (Add (map_bit f)) (Map (f / 64)) m))
 
 abbrev pub put : ℕ → Words → Words
 put f m = if ref_count (m (Refs f)) == 1 then freed f (owner_number (owner_of (m (Refs f)))) (lowered f m) else lowered f m

@@ -1,11 +1,13 @@
 //! References that are taken and given back.
-ghost use Rattle.std.specs.Prelude.{◌≡◌, ◌<◌, true, [], length, Some, None, IfOk, IfErr, MatchResult};
+ghost use Rattle.std.specs.Prelude.{◌≡◌, ◌<◌, true, false, [], length, Some, None, IfOk, IfErr, MatchResult};
 ghost use Rattle.xp_words.specs.RefWords.{ref_read};
+ghost use Rattle.xp_words.specs.declared.place.Place.TheVariants.{Refs};
 ghost use Rattle.xp_words.specs.declared.refs.RefWord.TheVariants.{Owned};
 ghost use Rattle.step_maker.specs.Holds.{Holds, Same, MayWork};
 ghost use Rattle.answer_fits.specs.Answers.{Serves, Stops, misses};
 ghost use Rattle.answer_fits.specs.Asked.{of_frame, of_back};
 ghost use Rattle.xp_board.specs.Lists.{times};
+ghost use Rattle.xp_board.specs.Readings.{is_free};
 ghost use Rattle.frame_words.specs.Freeing.{IsEnding, Frees, Puts, gave};
 ghost use Rattle.xp_board.specs.Told.{is_telling, told_word};
 ghost use Rattle.step_maker.specs.Plain.{Leaves};
@@ -91,6 +93,7 @@ pub fn put_ref<P: Port>(port: &mut P, frame: u32)
     ensures puts { Puts (P.value port.old) (P.value port.new) frame }
     ensures hand { Holds (P.value port.old) (P.value port.new) (gave frame (P.value port.old).holdings) }
     ensures plain { is_telling (P.value port.old) ≡ true → Leaves (P.value port.new) (put frame (told_word (P.value port.old))) }
+    ensures owned { is_telling (P.value port.old) ≡ true → is_free (told_word (P.value port.old) (Refs frame)) ≡ false }
 {
     let found = lower_refs(port, frame);
     match last_owner(found) {

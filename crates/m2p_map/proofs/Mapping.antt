@@ -1,5 +1,5 @@
 -- A reference that is taken, used and given back.
-use Rattle.std.proofs.Common.{◌≡◌, ℕ, ◌/◌, ◌<◌, ◌==◌, nat_lt, if◌then◌else◌, Bool, true, false, List, [], ◌∷◌, ◌++◌, None, Ok, Err, refl, ap, ◌∙◌, subst, arith}
+use Rattle.std.proofs.Common.{◌≡◌, ℕ, ◌<◌, nat_lt, true, List, [], ◌∷◌, ◌++◌, None, Ok, Err, refl, ap, ◌∙◌, subst, arith}
 use Rattle.std.proofs.lemmas.Bool.Decides.{nat_tests}
 use Rattle.xp_words.specs.declared.place.Place.TheVariants.{M2p}
 use Rattle.xp_board.specs.declared.step.Act.TheVariants.{Store}
@@ -7,7 +7,7 @@ use Rattle.xp_board.specs.declared.step.StepKind.TheVariants as kinds
 use Rattle.xp_board.specs.declared.holdings.Holdings.{Holdings}
 use Rattle.xp_board.specs.declared.holdings.Reference.{Reference}
 use Rattle.xp_board.specs.declared.holdings.OwnerFound.TheVariants as owners
-use Rattle.xp_board.specs.Hands.{hand, refs_to}
+use Rattle.xp_board.specs.Hands.{hand}
 use Rattle.xp_board.specs.Told.{PortValue}
 use Rattle.step_maker.specs.Holds.{Holds, Same, still}
 use Rattle.step_maker.specs.Moves.{Moves}
@@ -15,23 +15,16 @@ use Rattle.answer_fits.specs.Answers.{Serves, Deed, SetsM2p, only_if}
 use Rattle.answer_fits.specs.Asked.{of_frame, of_back}
 use Rattle.answer_fits.proofs.Piecing.{serves_step, serves_back}
 use Rattle.xp_words.specs.declared.place.Place.{Place}
-use Rattle.xp_words.specs.declared.place.Place.TheVariants.{Clock, Pages, Refs, Map}
-use Rattle.xp_words.specs.RefWords.{ref_write}
-use Rattle.xp_words.specs.declared.refs.RefWord.TheVariants.{Free}
 use Rattle.xp_words.specs.declared.reply.Stop.{Stop}
 use Rattle.xp_words.specs.declared.reply.Stop.TheVariants.{Refused, Paused}
-use Rattle.xp_board.specs.declared.step.Act.TheVariants.{Add}
-use Rattle.xp_board.specs.HintSteps.{map_bit}
-use Rattle.xp_board.specs.Readings.{ref_count, owner_of}
-use Rattle.xp_board.specs.RefSteps.{one_down, owner_number}
 use Rattle.xp_board.specs.Told.{is_telling, told_word}
-use Rattle.step_maker.specs.Moves.{Came}
+use Rattle.step_maker.specs.Moves.{Came, Moment, Ran}
 use Rattle.answer_fits.specs.Asked.{Request}
 use Rattle.answer_fits.proofs.Piecing.{serves_came}
-use Rattle.frame_words.specs.Plain.{Words, change, Leaves, got, lowered, freed, put, TwinGet}
-use Rattle.frame_words.proofs.Twinning.{tells_on, leaves, leaves_then, changed}
+use Rattle.step_maker.specs.Plain.{Words, change, Leaves}
+use Rattle.step_maker.proofs.Telling.{moves_telling, leaves, leaves_then}
+use Rattle.frame_words.specs.Plain.{got, put, TwinGet}
 use Rattle.m2p_map.specs.Maps.{TwinSet}
-use Rattle.m2p_map.proofs.NothingLost.{ran_telling}
 use Rattle.frame_words.specs.Refs.{took, MayGive}
 use Rattle.frame_words.specs.Freeing.{gave}
 use Rattle.frame_words.proofs.Putting.{without_newest}
@@ -63,34 +56,27 @@ maps_at v u x w g f owner gpfn other is gets gives store puts =
     maps v u x w f owner gpfn other gets (subst (λ k. MayGive k u.holdings) is gives) (subst (λ k. Moves u x (M2p k) (Store gpfn) kinds.M2p None other) is store) (subst (λ k. Serves x w (of_back k) []) is puts)
 
 -- ---- on a board that tells all words
+ran_telling : (v u : PortValue) (ms : List Moment) → Ran v ms u → is_telling u ≡ is_telling v
+ran_telling v u [] a = ap is_telling a
+ran_telling v u (m ∷ ms) a = moves_telling a.0 u m.place m.act m.kind m.mark m.found a.2.moves ∙ ran_telling v a.0 ms a.1
+
 pub came_telling : (v u : PortValue) → Came v u → is_telling u ≡ is_telling v
 unfolding Came
 came_telling v u a = ran_telling v u a.0 a.1
 
-freed_same : (f owner : ℕ) (m n : Words) → ((q : Place) → m q ≡ n q) → (q : Place) → freed f owner m q ≡ freed f owner n q
-freed_same f owner m n same q =
-    ap (λ y. change (Add one_down) (Pages owner) (change (Store (ref_write (Free y))) (Refs f) (change (Add (map_bit f)) (Map (f / 64)) m)) q) (same Clock)
-    ∙ changed (Add one_down) (Pages owner) _ _ (changed (Store (ref_write (Free (n Clock)))) (Refs f) _ _ (changed (Add (map_bit f)) (Map (f / 64)) m n same)) q
-
-put_by : (b : Bool) (f : ℕ) (owner other : ℕ) (m n : Words) → owner ≡ other → ((q : Place) → m q ≡ n q) → (q : Place) → (if b then freed f owner m else m) q ≡ (if b then freed f other n else n) q
-put_by true f owner other m n is same q = ap (λ d. freed f d m q) is ∙ freed_same f other m n same q
-put_by false f owner other m n is same q = same q
-
-put_same : (f : ℕ) (m n : Words) → ((q : Place) → m q ≡ n q) → (q : Place) → put f m q ≡ put f n q
-put_same f m n same q =
-    ap (λ b. (if b then freed f (owner_number (owner_of (m (Refs f)))) (lowered f m) else lowered f m) q) (ap (λ y. ref_count y == 1) (same (Refs f)))
-    ∙ put_by (ref_count (n (Refs f)) == 1) f (owner_number (owner_of (m (Refs f)))) (owner_number (owner_of (n (Refs f)))) (lowered f m) (lowered f n)
-        (ap (λ y. owner_number (owner_of y)) (same (Refs f))) (changed (Add one_down) (Refs f) m n same) q
+-- words that are the same everywhere are one
+pub same_words : (m n : Words) → ((q : Place) → m q ≡ n q) → m ≡ n
+same_words m n same = λ i q. same q i
 
 pub set_twin : (v u x w : PortValue) (g f owner gpfn other : ℕ) (r : Request) (ds : List Deed) → g ≡ f → Serves v u r ds → TwinGet {A = ℕ} v u f owner (Ok g) → Moves u x (M2p g) (Store gpfn) kinds.M2p None other →
     (is_telling x ≡ true → Leaves w (put g (told_word x))) → TwinSet v w f owner gpfn (Ok tt)
 set_twin v u x w g f owner gpfn other r ds is gets gives store puts telling =
     let got_it = gives telling in
     let at_u : is_telling u ≡ true = came_telling v u (serves_came v u r ds gets) ∙ telling in
-    let at_x = tells_on u x (M2p g) (Store gpfn) kinds.M2p None other store at_u in
+    let at_x = moves_telling u x (M2p g) (Store gpfn) kinds.M2p None other store ∙ at_u in
     let set_it : Leaves x (change (Store gpfn) (M2p f) (got f (told_word v))) =
-        subst (λ k. Leaves x (change (Store gpfn) (M2p k) (got f (told_word v)))) is (leaves_then u x (Store gpfn) (M2p g) (got f (told_word v)) got_it.1 (leaves u x (M2p g) (Store gpfn) kinds.M2p None other store at_u)) in
-    (got_it.0, λ q. subst (λ k. told_word w q ≡ put k (told_word x) q) is (puts at_x q) ∙ put_same f (told_word x) _ set_it q)
+    subst (λ k. Leaves x (change (Store gpfn) (M2p k) (got f (told_word v)))) is (leaves_then u x (Store gpfn) (M2p g) (got f (told_word v)) got_it.1 (leaves u x (M2p g) (Store gpfn) kinds.M2p None other store at_u)) in
+    (got_it.0, λ q. subst (λ k. told_word w q ≡ put k (told_word x) q) is (puts at_x q) ∙ ap (λ (m : Words). put f m q) (same_words (told_word x) _ set_it))
 
 pub set_stops : (v w : PortValue) (f owner gpfn : ℕ) (e : Stop) → TwinGet {A = ℕ} v w f owner (Err e) → TwinSet v w f owner gpfn (Err e)
 set_stops v w f owner gpfn (Refused x) twin = twin

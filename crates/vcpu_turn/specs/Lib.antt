@@ -1,4 +1,3 @@
-pub mod Beginning
 pub mod Cpus
 pub mod Lists
 pub mod Turning

@@ -1,54 +1,56 @@
--- Operations that are lists: which elements a turn does, and how it ends.
-use Rattle.std.specs.Prelude.{◌≡◌, ◌⊎◌, ℕ, ◌<◌, ◌≤◌, ◌-◌, List, [], ◌∷◌, ◌++◌, length, take, drop, Option, Some, None, Result, Ok, Err}
-use Rattle.xp_words.specs.Machine.{Machine}
-use Rattle.xp_words.specs.declared.ops.Pair.{Pair}
+-- Operations that are lists of items, whatever these are: which a turn does, how it ends, and when it asks its gate.
+use Rattle.std.specs.Prelude.{◌≡◌, ◌⊎◌, ℕ, zero, suc, ◌+◌, ◌<◌, ◌≤◌, ◌==◌, ◌&&◌, Bool, true, false, Result, Ok, Err}
 use Rattle.xp_words.specs.declared.reply.Stop.{Stop}
-use Rattle.xp_words.specs.declared.reply.Stop.TheVariants.{Refused, Paused}
-use Rattle.xp_words.specs.declared.reply.Refusal.TheVariants as refusals
+use Rattle.xp_words.specs.declared.reply.Stop.TheVariants.{Paused}
 use Rattle.xp_words.specs.declared.reply.Pause.TheVariants.{Due}
-use Rattle.xp_board.specs.declared.holdings.Made.{Made}
-use Rattle.mmu_update.specs.Elements.{ElementFits}
+use Rattle.xp_preempt.specs.Gates.{next_ask}
+use Rattle.xp_board.specs.Told.{PortValue}
 
--- ---- elements that were done
--- The steps, the newest first, did these elements one after the other: each was Ok, and its steps fit it.
-pub data Did (n : Machine) (s d : ℕ) : List Pair → List Made → Type 0 where
-  none : Did n s d [] []
-  more : (ps : List Pair) (p : Pair) (older newer : List Made) → Did n s d ps older → ElementFits n s d p newer (Ok tt) → Did n s d (ps ++ p ∷ []) (newer ++ older)
+abbrev pub Fitting : Type 1
+Fitting = ℕ → PortValue → PortValue → Result (Unit {0}) Stop → Type 0
 
--- ---- how the list ends in this turn, with these elements left
--- Done: none is left. Due: the gate said yes after an element of this turn. Else the next element was refused or paused.
-abbrev pub EndsList : Machine → ℕ → ℕ → List Pair → ℕ → ℕ → List Made → Result (Unit {0}) Stop → Type 0
-EndsList n s d [] from to last (Ok done) = last ≡ []
-EndsList n s d [] from to last (Err e) = ⊥
-EndsList n s d (p ∷ ps) from to last (Ok done) = ⊥
-EndsList n s d (p ∷ ps) from to last (Err (Paused Due)) = (last ≡ []) × (from < to)
-EndsList n s d (p ∷ ps) from to last (Err e) = ElementFits n s d p last (Err e)
+abbrev pub Asking : Type 0
+Asking = ℕ → PortValue → PortValue → Result (Unit {0}) Stop → ℕ
 
--- the steps did the elements with numbers from `from` to below `to`, and then the list ended in this way
-pub record DoesList (n : Machine) (s d : ℕ) (pairs : List Pair) (from to : ℕ) (made : List Made) (answer : Result (Unit {0}) Stop) : Type 0 where
-  pub last : List Made
-  pub did : List Made
-  pub parts : made ≡ last ++ did
-  pub on : from ≤ to
-  pub most : to ≤ length pairs
-  pub elements : Did n s d (take (to - from) (drop from pairs)) did
-  pub ends : EndsList n s d (drop to pairs) from to last answer
+-- ---- asks
+-- the count of asks after so many more, which stands still at the end of the numbers
+unfoldable pub asks_on : ℕ → ℕ → ℕ
+asks_on zero asks = asks
+asks_on (suc k) asks = next_ask (asks_on k asks)
 
--- A list of more than 512 is refused before any element.
-pub record IsTooLong (pairs : List Pair) (to : ℕ) (made : List Made) (answer : Result (Unit {0}) Stop) : Type 0 where
-  pub long : 512 < length pairs
-  pub none : to ≡ 0
-  pub no_step : made ≡ []
-  pub refused : answer ≡ Err (Refused refusals.BatchLong)
+-- A gate that says this at each ask was asked from behind number `before` to number `after`: it said no, but at the last
+-- of them, where what asked it is due.
+pub record Heard (says : ℕ → Bool) (before after : ℕ) (due : Bool) : Type 0 where
+  pub on : before ≤ after
+  pub told : (k : ℕ) → before < k → k ≤ after → says k ≡ (due && (k == after))
+  pub some : due ≡ true → before < after
 
--- an operation that is not built is refused
-pub record IsUnbuilt (to : ℕ) (made : List Made) (answer : Result (Unit {0}) Stop) : Type 0 where
-  pub none : to ≡ 0
-  pub no_step : made ≡ []
-  pub refused : answer ≡ Err (Refused refusals.BadCommand)
+-- the gate said yes
+abbrev pub is_due_by : Result (Unit {0}) Stop → Bool
+is_due_by (Err (Paused Due)) = true
+is_due_by _ = false
 
--- the work of one turn on an operation, of which `from` elements were done before and `to` are then
-abbrev pub Works : Machine → ℕ → ℕ → Option (List Pair) → ℕ → ℕ → List Made → Result (Unit {0}) Stop → Type 0
-Works n s d None from to made answer = IsUnbuilt to made answer
-Works n s d (Some pairs) from to made answer =
-    IsTooLong pairs to made answer ⊎ ((length pairs ≤ 512) × DoesList n s d pairs from to made answer)
+-- ---- items
+-- From v to w the items with numbers from `from` to below `to` were done, one after the other. Where the gate was asked
+-- after each of them, it was asked so often: once each, and what each item asked itself.
+pub data Did (fits : Fitting) (asks : Asking) (from : ℕ) (v : PortValue) : ℕ → ℕ → PortValue → Type 0 where
+  none : Did fits asks from v from 0 v
+  more : (k n : ℕ) (u w : PortValue) → Did fits asks from v k n u → fits k u w (Ok tt) → Did fits asks from v (k + 1) (n + asks k u w (Ok tt) + 1) w
+
+-- how the list ends behind `to` items, and how often the gate was asked
+-- Ok: none is left, and it was not asked after the last. Due: the gate said yes after one of this turn. Else the next item was refused or paused.
+abbrev pub Ends : Fitting → Asking → ℕ → ℕ → ℕ → ℕ → ℕ → PortValue → PortValue → Result (Unit {0}) Stop → Type 0
+Ends fits asks count from to n asked u w (Ok done) = (to ≡ count) × (w ≡ u) × (((from ≡ to) × (asked ≡ n)) ⊎ ((from < to) × (asked + 1 ≡ n)))
+Ends fits asks count from to n asked u w (Err e) =
+    ((e ≡ Paused Due) × (from < to) × (to < count) × (w ≡ u) × (asked ≡ n)) ⊎ ((to < count) × fits to u w (Err e) × (asked ≡ n + asks to u w (Err e)))
+
+-- From v to w the list of so many items went on from item `from` to item `to`, and ended with that answer. The count of
+-- asks was `before`, and is `after`.
+pub record WorksOn (fits : Fitting) (asks : Asking) (count : ℕ) (v w : PortValue) (from to before after : ℕ) (answer : Result (Unit {0}) Stop) : Type 0 where
+  pub last : PortValue
+  pub number : ℕ
+  pub asked : ℕ
+  pub did : Did fits asks from v to number last
+  pub most : to ≤ count
+  pub ends : Ends fits asks count from to number asked last w answer
+  pub gate : after ≡ asks_on asked before

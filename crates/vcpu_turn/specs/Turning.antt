@@ -1,153 +1,113 @@
 -- Turns: how one begins, what it does and how it ends.
-use Rattle.std.specs.Prelude.{◌≡◌, ◌⊎◌, ℕ, ◌<◌, ◌≤◌, ◌==◌, ◌||◌, if◌then◌else◌, Bool, true, false, List, [], ◌∷◌, ◌++◌, length, slice_get, Option, Some, None, Result, IsTrue}
-use Rattle.xp_words.specs.Machine.{Machine}
-use Rattle.xp_words.specs.declared.place.Place.{Place}
-use Rattle.xp_words.specs.declared.place.Place.TheVariants.{Clock, Vcpu}
+use Rattle.std.specs.Prelude.{◌≡◌, ℕ, ◌<◌, nat_lt, Bool, true, false, length, slice_get, Option, Some, None, Result}
+use Rattle.xp_words.specs.Machine.{IsMachine}
 use Rattle.xp_words.specs.Places.{asked_of, flushed_of, run_of}
+use Rattle.xp_words.specs.declared.place.Place.TheVariants.{Clock}
 use Rattle.xp_words.specs.declared.ops.Op.{Op}
+use Rattle.xp_words.specs.declared.reply.Refusal.{Refusal}
 use Rattle.xp_words.specs.declared.reply.Stop.{Stop}
-use Rattle.xp_words.specs.declared.reply.Pause.TheVariants.{Due, Lost}
-use Rattle.xp_board.specs.declared.step.Act.TheVariants.{Store}
+use Rattle.xp_words.specs.declared.reply.Pause.TheVariants.{Due}
+use Rattle.xp_board.specs.declared.step.Act.TheVariants.{Load, Store}
 use Rattle.xp_board.specs.declared.step.Mark.TheVariants.{Cut, Turn}
-use Rattle.xp_board.specs.declared.holdings.Made.{Made}
-use Rattle.xp_board.specs.declared.holdings.Holdings.{Holdings}
+use Rattle.xp_board.specs.declared.step.StepKind.TheVariants as kinds
 use Rattle.xp_board.specs.Hands.{IsEmptyHand}
-use Rattle.xp_board.specs.Lists.{EachOf}
-use Rattle.xp_board.specs.Readings.{domain_of, last_clock}
-use Rattle.xp_board.specs.Runs.{place_of}
-use Rattle.xp_board.specs.Told.{PortValue, Went, Had, own_run}
-use Rattle.frame_words.specs.Pieces.{is_load, HadAct}
+use Rattle.xp_board.specs.Readings.{domain_of}
+use Rattle.xp_board.specs.Told.{PortValue, own_run}
+use Rattle.step_maker.specs.Moves.{Moves}
+use Rattle.flush_words.specs.Flushing.{FlushesOwn}
 use Rattle.vcpu_turn.specs.Cpus.{Processing, pairs_of, end_of, after_turn}
-use Rattle.vcpu_turn.specs.Lists.{Works}
+use Rattle.vcpu_turn.specs.Lists.{is_due_by}
+use Rattle.vcpu_turn.specs.Working.{Works}
 use Rattle.vcpu_turn.specs.declared.cpu.TurnEnd.{TurnEnd}
 use Rattle.vcpu_turn.specs.declared.cpu.TurnEnd.TheVariants as ends
 
 -- ---- the beginning
--- the first step carries the mark Turn, and no other step a mark
-abbrev pub BeginsTurn : List Made → Type 0
-BeginsTurn [] = ⊥
-BeginsTurn (x ∷ []) = x.step.mark ≡ Some Turn
-BeginsTurn (x ∷ y ∷ xs) = (x.step.mark ≡ None) × BeginsTurn (y ∷ xs)
+-- the own translations are flushed where the vCPU was asked to, past the clock value to which they are flushed; where the
+-- clock is at its end the ask stays unanswered
+abbrev pub Heeds : Bool → PortValue → PortValue → Type 0
+Heeds true v w = w ≡ v
+Heeds false v w = (answer : Result (Unit {0}) Refusal) × FlushesOwn v w answer
 
--- the words that the own flush changes
-abbrev pub is_own_flush : ℕ → Place → Bool
-is_own_flush s Clock = true
-is_own_flush s (Vcpu v k) = if v == s then k == 5 else false
-is_own_flush s _ = false
-
--- the vCPU was found asked to flush, past the clock value to which it is flushed
-pub record WasAsked (n : Machine) (s : ℕ) (made : List Made) : Type 0 where
+-- By exactly these steps a turn begins: the word that says what the vCPU is asked is loaded with the mark Turn, and the one
+-- to which it is flushed; an ask is heeded; and the run word is loaded, and found 0: it runs.
+pub record Begins (v w : PortValue) : Type 0 where
+  pub a : PortValue
+  pub b : PortValue
+  pub d : PortValue
   pub asked : ℕ
   pub flushed : ℕ
-  pub had_asked : Had n (asked_of s) asked made
-  pub had_flushed : Had n (flushed_of s) flushed made
-  pub behind : flushed ≤ asked
-
--- the vCPU was found flushed past all that it was asked for
-pub record WasNotAsked (n : Machine) (s : ℕ) (made : List Made) : Type 0 where
-  pub asked : ℕ
-  pub flushed : ℕ
-  pub had_asked : Had n (asked_of s) asked made
-  pub had_flushed : Had n (flushed_of s) flushed made
-  pub past : asked < flushed
-
--- the own flush was stored
-pub record HasFlushed (n : Machine) (s : ℕ) (made : List Made) : Type 0 where
-  pub to : ℕ
-  pub before : ℕ
-  pub stored : HadAct n (flushed_of s) (Store to) before made
-
--- Nobody asked, or it flushed. Only where the clock is at its last value does an ask stay unanswered.
-abbrev pub AnswersAsk : Machine → ℕ → List Made → Type 0
-AnswersAsk n s made = WasNotAsked n s made ⊎ (HasFlushed n s made ⊎ Had n Clock last_clock made)
-
--- Loads; and the own flush, where the vCPU was asked for it.
-pub record HeedsAsk (n : Machine) (s : ℕ) (made : List Made) : Type 0 where
-  pub first : BeginsTurn made
-  pub own : EachOf (λ x. IsTrue (is_load x.step.act || is_own_flush s (place_of n x.step))) made
-  pub asked : EachOf (λ x. IsTrue (is_load x.step.act)) made ⊎ WasAsked n s made
-  pub answers : AnswersAsk n s made
-
--- An ask is heeded, and the run word of the vCPU was looked at and found 0: it runs.
-pub record Begins (n : Machine) (s : ℕ) (made : List Made) : Type 0 where
-  pub heeds : HeedsAsk n s made
-  pub running : Had n (run_of s) 0 made
+  pub marked : Moves v a (asked_of v.post.vcpu) Load kinds.Look (Some Turn) asked
+  pub looked : Moves a b (flushed_of v.post.vcpu) Load kinds.Look None flushed
+  pub heeds : Heeds (nat_lt asked flushed) b d
+  pub running : Moves d w (run_of v.post.vcpu) Load kinds.Look None 0
 
 -- ---- the end
--- one load, which carries the mark Cut
-abbrev pub IsCut : List Made → Type 0
-IsCut (x ∷ []) = (x.step.mark ≡ Some (Cut 0)) × IsTrue (is_load x.step.act)
-IsCut _ = ⊥
-
 -- one step, which stores in the own run word that the vCPU is stopped
-abbrev pub IsStop : Machine → ℕ → List Made → Type 0
-IsStop n s (x ∷ []) = (x.step.mark ≡ None) × (place_of n x.step ≡ run_of s) × (x.step.act ≡ Store 1)
-IsStop n s _ = ⊥
+abbrev pub IsStop : PortValue → PortValue → Type 0
+IsStop v w = (found : ℕ) × Moves v w (run_of v.post.vcpu) (Store 1) kinds.Run None found
 
-abbrev pub EndsTurn : Machine → ℕ → TurnEnd → List Made → Type 0
-EndsTurn n s (ends.Answered reply) last = IsCut last
-EndsTurn n s (ends.Paused p) last = last ≡ []
-EndsTurn n s ends.Retired last = IsStop n s last
+-- an answer ends with one load of the clock, with the mark Cut
+abbrev pub EndsTurn : TurnEnd → PortValue → PortValue → Type 0
+EndsTurn (ends.Answered reply) v w = (found : ℕ) × Moves v w Clock Load kinds.Look (Some (Cut 0)) found
+EndsTurn (ends.Paused p) v w = w ≡ v
+EndsTurn ends.Retired v w = IsStop v w
 
 -- ---- what it does between
--- The next operation goes on until it answers or pauses. At the script's end the vCPU is retired.
-pub record GoesOnWith (n : Machine) (c : Processing) (op : Op) (c' : Processing) (work : List Made) (end : TurnEnd) : Type 0 where
+-- The next operation goes on until it answers or pauses. At the script's end the vCPU is retired. The count of asks of the
+-- own gate was `before`, and is `after`.
+pub record GoesOnWith (c : Processing) (op : Op) (c' : Processing) (v w : PortValue) (before after : ℕ) (end : TurnEnd) : Type 0 where
   pub to : ℕ
   pub answer : Result (Unit {0}) Stop
-  pub works : Works n c.vcpu c.domain (pairs_of op) c.done to work answer
+  pub works : Works c.domain (pairs_of op) v w c.done to before after answer
   pub end_is : end ≡ end_of to answer
   pub cpu : c' ≡ after_turn c to end
 
-pub record Retires (c c' : Processing) (work : List Made) (end : TurnEnd) : Type 0 where
-  pub none : work ≡ []
+pub record Retires (c c' : Processing) (v w : PortValue) (before after : ℕ) (end : TurnEnd) : Type 0 where
+  pub no_step : w ≡ v
+  pub no_ask : after ≡ before
   pub end_is : end ≡ ends.Retired
   pub cpu : c' ≡ record c { retired = true }
 
-abbrev pub Does : Machine → Processing → Option Op → Processing → List Made → TurnEnd → Type 0
-Does n c (Some op) c' work end = GoesOnWith n c op c' work end
-Does n c None c' work end = Retires c c' work end
+abbrev pub Does : Processing → Option Op → Processing → PortValue → PortValue → ℕ → ℕ → TurnEnd → Type 0
+Does c (Some op) c' v w before after end = GoesOnWith c op c' v w before after end
+Does c None c' v w before after end = Retires c c' v w before after end
 
 -- ---- all of it
--- a turn of a vCPU that is not retired, by these steps
-pub record IsTurn (n : Machine) (c c' : Processing) (end : TurnEnd) (made : List Made) : Type 0 where
-  pub begin : List Made
-  pub work : List Made
-  pub last : List Made
-  pub parts : made ≡ last ++ (work ++ begin)
-  pub begins : Begins n c.vcpu begin
-  pub does : Does n c (slice_get c.script (length c.log)) c' work end
-  pub ends : EndsTurn n c.vcpu end last
+-- from v to w a vCPU that is not retired made a turn
+pub record IsTurn (c c' : Processing) (end : TurnEnd) (v w : PortValue) (before after : ℕ) : Type 0 where
+  pub begun : PortValue
+  pub worked : PortValue
+  pub begins : Begins v begun
+  pub does : Does c (slice_get c.script (length c.log)) c' begun worked before after end
+  pub ends : EndsTurn end worked w
 
--- a retired vCPU makes no step
-pub record StaysRetired (c c' : Processing) (end : TurnEnd) (v w : PortValue) : Type 0 where
+-- a retired vCPU makes no step, and asks nothing
+pub record StaysRetired (c c' : Processing) (end : TurnEnd) (v w : PortValue) (before after : ℕ) : Type 0 where
   pub end_is : end ≡ ends.Retired
   pub cpu : c' ≡ c
   pub port : w ≡ v
+  pub no_ask : after ≡ before
 
-pub record MakesTurn (c c' : Processing) (end : TurnEnd) (v w : PortValue) : Type 0 where
-  pub made : List Made
-  pub went : Went v made w
-  pub turn : IsTurn v.post.machine c c' end made
-
-abbrev pub TurnBy : Bool → Processing → Processing → TurnEnd → PortValue → PortValue → Type 0
-TurnBy true c c' end v w = StaysRetired c c' end v w
-TurnBy false c c' end v w = MakesTurn c c' end v w
+abbrev pub TurnBy : Bool → Processing → Processing → TurnEnd → PortValue → PortValue → ℕ → ℕ → Type 0
+TurnBy true c c' end v w before after = StaysRetired c c' end v w before after
+TurnBy false c c' end v w before after = IsTurn c c' end v w before after
 
 -- ---- between turns
 -- nothing in hand, and no walk under way; translations may stay
-pub record Rests (h : Holdings) : Type 0 where
-  pub empty : IsEmptyHand h
-  pub walk : h.walk ≡ None
+pub record Idles (v : PortValue) : Type 0 where
+  pub empty : IsEmptyHand v.holdings
+  pub no_walk : v.holdings.walk ≡ None
+  pub machine : IsMachine v.post.machine
 
 -- the vCPU is known to run: it found so, or it opened so
 abbrev pub Runs : PortValue → Type 0
 Runs v = own_run v ≡ 0
 
--- the port is that of the vCPU, which rests, and runs unless it is retired
+-- the port is that of the vCPU, which idles, and runs unless it is retired
 pub record IsOf (v : PortValue) (c : Processing) : Type 0 where
   pub vcpu : c.vcpu ≡ v.post.vcpu
   pub domain : c.domain ≡ domain_of v.post.machine v.post.vcpu
-  pub rests : Rests v.holdings
+  pub idles : Idles v
   pub runs : c.retired ≡ false → Runs v
 
 -- the gate may say yes only where the turn is paused for it
@@ -157,16 +117,25 @@ is_due _ = false
 
 -- ---- a vCPU that is stopped between its turns
 pub record MakesStop (c c' : Processing) (v w : PortValue) : Type 0 where
-  pub made : List Made
-  pub went : Went v made w
-  pub stop : IsStop v.post.machine c.vcpu made
+  pub stop : IsStop v w
   pub cpu : c' ≡ record c { retired = true }
 
 abbrev pub StopsBy : Bool → Processing → Processing → PortValue → PortValue → Type 0
 StopsBy true c c' v w = (c' ≡ c) × (w ≡ v)
 StopsBy false c c' v w = MakesStop c c' v w
 
--- it is paused because an exchange found another word than the load before it
-abbrev pub is_lost : TurnEnd → Bool
-is_lost (ends.Paused (Lost place expected found)) = true
-is_lost _ = false
+-- ---- a vCPU whose next operation goes on
+pub record Worked (op : Op) (c c' : Processing) (v w : PortValue) (before after : ℕ) (answer : Result (Unit {0}) Stop) : Type 0 where
+  pub works : Works c.domain (pairs_of op) v w c.done c'.done before after answer
+  pub cpu : c' ≡ record c { done = c'.done }
+
+-- the next operation went on, where there is one
+abbrev pub WorkedBy : Option Op → Processing → Processing → PortValue → PortValue → ℕ → ℕ → Option (Result (Unit {0}) Stop) → Type 0
+WorkedBy (Some op) c c' v w before after (Some answer) = Worked op c c' v w before after answer
+WorkedBy (Some op) c c' v w before after None = ⊥
+WorkedBy None c c' v w before after (Some answer) = ⊥
+WorkedBy None c c' v w before after None = (c' ≡ c) × (w ≡ v) × (after ≡ before)
+
+abbrev pub asks_due : Option (Result (Unit {0}) Stop) → Bool
+asks_due (Some answer) = is_due_by answer
+asks_due None = false

@@ -4,7 +4,10 @@
 mod beginning;
 mod cpu;
 mod lists;
+mod pairs;
 mod turning;
+mod working;
 
 pub use cpu::{Cpu, TurnEnd};
+pub use lists::{Items, go_on};
 pub use turning::{stop, turn};

@@ -1,60 +1,74 @@
-//! Operations that are lists: they go on from element to element until the gate says yes.
-ghost use Rattle.std.specs.Prelude.{◌≡◌, ◌+◌, ◌≤◌, true, false, Some, None, IfSome, IfNone, length, if◌then◌else◌};
-ghost use Rattle.xp_board.specs.Readings.{domain_of};
-ghost use Rattle.xp_board.specs.Told.{is_telling};
-ghost use Rattle.frame_types.specs.Writable.{IsNotLost};
-ghost use Rattle.vcpu_turn.specs.Cpus.{pairs_of, elements_in};
-ghost use Rattle.vcpu_turn.specs.Turning.{Rests};
-ghost use Rattle.vcpu_turn.specs.Working.{WorksList, WorksOn, is_due_by};
+//! Operations that are lists: they go on from item to item until the gate says yes.
+ghost use Rattle.std.specs.Prelude.{ℕ, ◌≡◌, ◌+◌, ◌≤◌, true, false, if◌then◌else◌};
+ghost use Rattle.step_maker.specs.Holds.{Rests};
+ghost use Rattle.vcpu_turn.specs.Lists.{Heard, WorksOn, is_due_by};
 
-use mmu_update::update;
 use xp_board::Port;
 use xp_preempt::Preempt;
-use xp_words::{Call, Op, Pair, Pause, Refusal, Stop};
+use xp_words::{Pause, Stop};
 
-// The caller's own domain, as `mmu_update` names it (`DOMID_SELF` of `xen.h`).
-const DOMID_SELF: u64 = 0x7ff0;
+/// What an operation is made of, by number: pairs, extended operations, extents, calls, or the whole operation as one.
+pub trait Items {
+    ghost use Rattle.std.specs.Prelude.{ℕ, ◌≡◌, ◌+◌, ◌<◌, true, false, if◌then◌else◌, Result};
+    ghost use Rattle.xp_words.specs.declared.reply.Stop.{Stop};
+    ghost use Rattle.xp_board.specs.Told.{Post, PortValue};
+    ghost use Rattle.step_maker.specs.Holds.{Rests};
+    ghost use Rattle.vcpu_turn.specs.Lists.{Heard, asks_on, is_due_by};
 
-// The most elements that a list may have.
-const LONGEST: usize = 512;
+    /// How many there are.
+    ghost count: { Self → ℕ };
 
-// The elements of an operation that is built.
-fn pairs_of(op: &Op) -> Option<&[Pair]>
-    ensures some { IfSome result (λ pairs. pairs_of op.now ≡ Some pairs.now) }
-    ensures none { IfNone result (pairs_of op.now ≡ None) }
-{
-    match op {
-        Op::One {
-            call: Call::Mmu { foreign, pairs },
-        } if *foreign == DOMID_SELF => Some(pairs.as_slice()),
-        _ => None,
-    }
+    /// That they are items for that vCPU of that machine.
+    ghost suits: { Self → Post → Type 0 };
+
+    /// That the steps from one port to another fit such an answer to the item of that number.
+    ghost fits: { Self → ℕ → PortValue → PortValue → Result (Unit {0}) Stop → Type 0 };
+
+    /// How often doing the item of that number asks the gate: by what the steps show.
+    ghost asks: { Self → ℕ → PortValue → PortValue → Result (Unit {0}) Stop → ℕ };
+
+    fn len(&self) -> usize
+        ensures { result ≡ count self.now };
+
+    /// Does one, or says why not. Nothing is left in hand.
+    fn element<P: Port>(&self, port: &mut P, gate: &mut dyn Preempt, index: usize) -> Result<(), Stop>
+        requires index { index < count self.now }
+        requires suits { suits self.now (P.value port.old).post }
+        requires rests { Rests (P.value port.old) }
+        ensures post { (P.value port.new).post ≡ (P.value port.old).post }
+        ensures fits { fits self.now index (P.value port.old) (P.value port.new) result }
+        ensures rests { Rests (P.value port.new) }
+        ensures gate { count_yes gate.new ≡ (if is_due_by result then count_yes gate.old + 1 else count_yes gate.old) }
+        ensures asked { count_asks gate.new ≡ asks_on (asks self.now index (P.value port.old) (P.value port.new) result) (count_asks gate.old) }
+        ensures heard { Heard (says gate.old) (count_asks gate.old) (count_asks gate.new) (is_due_by result) }
+        ensures says { (n : ℕ) → says gate.new n ≡ says gate.old n }
+        ensures paces { paces gate.new ≡ paces gate.old }
+        ensures calm { calm gate.old ≡ true → (is_due_by result ≡ false) × (calm gate.new ≡ true) };
 }
 
-// The elements of `mmu_update` from number `done` on, which says in the end how many are done. The gate is asked
-// after each but the last.
-fn update_list<P: Port>(
+/// Goes on from item number `done`, which says in the end how many are done. The gate is asked after each but the last.
+pub fn go_on<P: Port, L: Items>(
     port: &mut P,
     gate: &mut dyn Preempt,
-    domain: u16,
-    pairs: &[Pair],
-    done: &mut u32,
+    items: &L,
+    done: &mut usize,
 ) -> Result<(), Stop>
-    requires short { length pairs.now ≤ 512 }
-    requires within { done.old ≤ length pairs.now }
-    requires own { domain ≡ domain_of (P.value port.old).post.machine (P.value port.old).post.vcpu }
-    requires rests { Rests (P.value port.old).holdings }
-    requires running { (P.value port.old).holdings.run ≡ Some 0 }
+    requires within { done.old ≤ L.count items.now }
+    requires suits { L.suits items.now (P.value port.old).post }
+    requires rests { Rests (P.value port.old) }
     ensures post { (P.value port.new).post ≡ (P.value port.old).post }
-    ensures works { WorksList (P.value port.old) (P.value port.new) domain pairs.now done.old done.new result }
+    ensures works { WorksOn (L.fits items.now) (L.asks items.now) (L.count items.now) (P.value port.old) (P.value port.new) done.old done.new (count_asks gate.old) (count_asks gate.new) result }
+    ensures rests { Rests (P.value port.new) }
     ensures gate { count_yes gate.new ≡ (if is_due_by result then count_yes gate.old + 1 else count_yes gate.old) }
+    ensures heard { Heard (says gate.old) (count_asks gate.old) (count_asks gate.new) (is_due_by result) }
+    ensures says { (n : ℕ) → says gate.new n ≡ says gate.old n }
+    ensures paces { paces gate.new ≡ paces gate.old }
     ensures calm { calm gate.old ≡ true → (is_due_by result ≡ false) × (calm gate.new ≡ true) }
-    ensures told { is_telling (P.value port.old) ≡ true → IsNotLost result }
 {
-    while (*done as usize) < pairs.len() {
-        update(port, domain, pairs[*done as usize])?;
+    while *done < items.len() {
+        items.element(port, gate, *done)?;
         *done += 1;
-        if *done as usize == pairs.len() {
+        if *done == items.len() {
             return Ok(());
         }
         if gate.due() {
@@ -62,56 +76,4 @@ fn update_list<P: Port>(
         }
     }
     Ok(())
-}
-
-// The same of a list of any length.
-fn go_through<P: Port>(
-    port: &mut P,
-    gate: &mut dyn Preempt,
-    domain: u16,
-    pairs: &[Pair],
-    done: &mut u32,
-) -> Result<(), Stop>
-    requires within { done.old ≤ length pairs.now }
-    requires own { domain ≡ domain_of (P.value port.old).post.machine (P.value port.old).post.vcpu }
-    requires rests { Rests (P.value port.old).holdings }
-    requires running { (P.value port.old).holdings.run ≡ Some 0 }
-    ensures post { (P.value port.new).post ≡ (P.value port.old).post }
-    ensures works { WorksOn (P.value port.old) (P.value port.new) domain (Some pairs.now) done.old done.new result }
-    ensures gate { count_yes gate.new ≡ (if is_due_by result then count_yes gate.old + 1 else count_yes gate.old) }
-    ensures calm { calm gate.old ≡ true → (is_due_by result ≡ false) × (calm gate.new ≡ true) }
-    ensures told { is_telling (P.value port.old) ≡ true → IsNotLost result }
-{
-    if pairs.len() > LONGEST {
-        *done = 0;
-        return Err(Stop::Refused(Refusal::BatchLong));
-    }
-    update_list(port, gate, domain, pairs, done)
-}
-
-// An operation goes on from its element `done`.
-pub(crate) fn work_on<P: Port>(
-    port: &mut P,
-    gate: &mut dyn Preempt,
-    domain: u16,
-    op: &Op,
-    done: &mut u32,
-) -> Result<(), Stop>
-    requires within { done.old ≤ elements_in (pairs_of op.now) }
-    requires own { domain ≡ domain_of (P.value port.old).post.machine (P.value port.old).post.vcpu }
-    requires rests { Rests (P.value port.old).holdings }
-    requires running { (P.value port.old).holdings.run ≡ Some 0 }
-    ensures post { (P.value port.new).post ≡ (P.value port.old).post }
-    ensures works { WorksOn (P.value port.old) (P.value port.new) domain (pairs_of op.now) done.old done.new result }
-    ensures gate { count_yes gate.new ≡ (if is_due_by result then count_yes gate.old + 1 else count_yes gate.old) }
-    ensures calm { calm gate.old ≡ true → (is_due_by result ≡ false) × (calm gate.new ≡ true) }
-    ensures told { is_telling (P.value port.old) ≡ true → IsNotLost result }
-{
-    match pairs_of(op) {
-        None => {
-            *done = 0;
-            Err(Stop::Refused(Refusal::BadCommand))
-        }
-        Some(pairs) => go_through(port, gate, domain, pairs, done),
-    }
 }

@@ -1,15 +1,15 @@
-ghost use Rattle.std.specs.Prelude.{◌≡◌, ◌+◌, ◌<◌, ◌≤◌, ◌^◌, true, false, Some, length, slice_get, if◌then◌else◌};
+ghost use Rattle.std.specs.Prelude.{ℕ, ◌≡◌, ◌+◌, ◌<◌, ◌^◌, true, false, length, slice_get, if◌then◌else◌};
 ghost use Rattle.xp_board.specs.Readings.{domain_of};
-ghost use Rattle.xp_board.specs.Told.{is_telling};
+ghost use Rattle.step_maker.specs.Holds.{Rests};
 ghost use Rattle.vcpu_turn.specs.Cpus.{reply_of, end_of, after_turn};
-ghost use Rattle.vcpu_turn.specs.Turning.{TurnBy, IsOf, Rests, MakesStop, StopsBy, is_due, is_lost};
-ghost use Rattle.vcpu_turn.specs.Working.{WorkedBy, Finishes, IsNotLostBy, asks_due};
+ghost use Rattle.vcpu_turn.specs.Lists.{Heard};
+ghost use Rattle.vcpu_turn.specs.Turning.{EndsTurn, Idles, TurnBy, IsOf, MakesStop, StopsBy, WorkedBy, asks_due, is_due};
 ghost use Rattle.vcpu_turn.specs.declared.cpu.TurnEnd.TheVariants.{Answered};
 
 use crate::beginning::begin;
 use crate::cpu::{Cpu, TurnEnd};
-use crate::lists::work_on;
-use frame_words::{end_answer, stop_vcpu};
+use crate::working::work_on;
+use flush_words::{end_answer, stop_vcpu};
 use xp_board::Port;
 use xp_preempt::Preempt;
 use xp_words::{LogLine, Refusal, Reply, Stop};
@@ -17,13 +17,15 @@ use xp_words::{LogLine, Refusal, Reply, Stop};
 // The next operation goes on; there is none at the script's end.
 fn go_on<P: Port>(port: &mut P, cpu: &mut Cpu, gate: &mut dyn Preempt) -> Option<Result<(), Stop>>
     requires own { cpu.old.domain ≡ domain_of (P.value port.old).post.machine (P.value port.old).post.vcpu }
-    requires rests { Rests (P.value port.old).holdings }
-    requires running { (P.value port.old).holdings.run ≡ Some 0 }
+    requires rests { Rests (P.value port.old) }
     ensures post { (P.value port.new).post ≡ (P.value port.old).post }
-    ensures worked { WorkedBy (slice_get cpu.old.script (length cpu.old.log)) cpu.old cpu.new (P.value port.old) (P.value port.new) result }
+    ensures worked { WorkedBy (slice_get cpu.old.script (length cpu.old.log)) cpu.old cpu.new (P.value port.old) (P.value port.new) (count_asks gate.old) (count_asks gate.new) result }
+    ensures rests { Rests (P.value port.new) }
     ensures gate { count_yes gate.new ≡ (if asks_due result then count_yes gate.old + 1 else count_yes gate.old) }
+    ensures heard { Heard (says gate.old) (count_asks gate.old) (count_asks gate.new) (asks_due result) }
+    ensures says { (n : ℕ) → says gate.new n ≡ says gate.old n }
+    ensures paces { paces gate.new ≡ paces gate.old }
     ensures calm { calm gate.old ≡ true → (asks_due result ≡ false) × (calm gate.new ≡ true) }
-    ensures told { is_telling (P.value port.old) ≡ true → IsNotLostBy result }
 {
     match cpu.script.as_slice().get(cpu.log.len()) {
         None => None,
@@ -35,12 +37,12 @@ fn go_on<P: Port>(port: &mut P, cpu: &mut Cpu, gate: &mut dyn Preempt) -> Option
 fn log_answer<P: Port>(port: &mut P, cpu: &mut Cpu, refusal: Option<Refusal>) -> Reply
     requires short { length cpu.old.script < 2 ^ 32 }
     requires more { length cpu.old.log < length cpu.old.script }
-    requires rests { Rests (P.value port.old).holdings }
-    requires running { (P.value port.old).holdings.run ≡ Some 0 }
+    requires rests { Rests (P.value port.old) }
     ensures post { (P.value port.new).post ≡ (P.value port.old).post }
     ensures reply { result ≡ reply_of cpu.old.done refusal }
     ensures cpu { cpu.new ≡ after_turn cpu.old cpu.old.done (Answered result) }
-    ensures finishes { Finishes (P.value port.old) (P.value port.new) (Answered result) }
+    ensures ends { EndsTurn (Answered result) (P.value port.old) (P.value port.new) }
+    ensures rests { Rests (P.value port.new) }
 {
     end_answer(port, 0);
     let reply = Reply {
@@ -62,12 +64,12 @@ fn log_answer<P: Port>(port: &mut P, cpu: &mut Cpu, refusal: Option<Refusal>) ->
 fn finish<P: Port>(port: &mut P, cpu: &mut Cpu, answer: Result<(), Stop>) -> TurnEnd
     requires short { length cpu.old.script < 2 ^ 32 }
     requires more { length cpu.old.log < length cpu.old.script }
-    requires rests { Rests (P.value port.old).holdings }
-    requires running { (P.value port.old).holdings.run ≡ Some 0 }
+    requires rests { Rests (P.value port.old) }
     ensures post { (P.value port.new).post ≡ (P.value port.old).post }
     ensures end { result ≡ end_of cpu.old.done answer }
     ensures cpu { cpu.new ≡ after_turn cpu.old cpu.old.done (end_of cpu.old.done answer) }
-    ensures finishes { Finishes (P.value port.old) (P.value port.new) (end_of cpu.old.done answer) }
+    ensures ends { EndsTurn (end_of cpu.old.done answer) (P.value port.old) (P.value port.new) }
+    ensures rests { Rests (P.value port.new) }
 {
     match answer {
         Ok(()) => TurnEnd::Answered(log_answer(port, cpu, None)),
@@ -78,11 +80,10 @@ fn finish<P: Port>(port: &mut P, cpu: &mut Cpu, answer: Result<(), Stop>) -> Tur
 
 // The vCPU stops for good.
 fn retire<P: Port>(port: &mut P, cpu: &mut Cpu)
-    requires vcpu { cpu.old.vcpu ≡ (P.value port.old).post.vcpu }
-    requires rests { Rests (P.value port.old).holdings }
+    requires idles { Idles (P.value port.old) }
     ensures post { (P.value port.new).post ≡ (P.value port.old).post }
     ensures stop { MakesStop cpu.old cpu.new (P.value port.old) (P.value port.new) }
-    ensures rests { Rests (P.value port.new).holdings }
+    ensures idles { Idles (P.value port.new) }
 {
     stop_vcpu(port);
     cpu.retired = true;
@@ -95,13 +96,14 @@ pub fn turn<P: Port>(port: &mut P, cpu: &mut Cpu, gate: &mut dyn Preempt) -> Tur
     requires short { length cpu.old.script < 2 ^ 32 }
     requires of { IsOf (P.value port.old) cpu.old }
     ensures post { (P.value port.new).post ≡ (P.value port.old).post }
-    ensures turn { TurnBy cpu.old.retired cpu.old cpu.new result (P.value port.old) (P.value port.new) }
+    ensures turn { TurnBy cpu.old.retired cpu.old cpu.new result (P.value port.old) (P.value port.new) (count_asks gate.old) (count_asks gate.new) }
     ensures of { IsOf (P.value port.new) cpu.new }
-    // `yes` of the gate rises by the asks alone, and the turn is paused where it rose.
+    // The gate is asked after each element but the last, and the turn is paused for it where it says yes.
+    ensures heard { Heard (says gate.old) (count_asks gate.old) (count_asks gate.new) (is_due result) }
     ensures gate { count_yes gate.new ≡ (if is_due result then count_yes gate.old + 1 else count_yes gate.old) }
+    ensures says { (n : ℕ) → says gate.new n ≡ says gate.old n }
+    ensures paces { paces gate.new ≡ paces gate.old }
     ensures calm { calm gate.old ≡ true → (is_due result ≡ false) × (calm gate.new ≡ true) }
-    // On a board that tells all words no exchange is lost.
-    ensures told { is_telling (P.value port.old) ≡ true → is_lost result ≡ false }
 {
     if cpu.retired {
         return TurnEnd::Retired;

@@ -1,19 +1,44 @@
--- Which vCPUs have a calm gate, one that never says yes.
-use Rattle.std.specs.Prelude.{◌≡◌, ℕ, ◌==◌, ◌&&◌, Bool, true, List, map, slice_index_or, Option, Some, None}
+-- Gates as the clause of `run` sees them.
+use Rattle.std.specs.Prelude.{◌≡◌, ℕ, Bool, true, false, List, [], ◌∷◌, Option, Some, None}
+use Rattle.xp_preempt.specs.Gates.{is_in_step}
+use Rattle.vcpu_turn.specs.Lists.{Heard}
 
--- a vCPU without a gate asks none
-abbrev pub is_calm : List Bool → ℕ → Bool
-is_calm calms v = slice_index_or calms v true
+-- whether it never says yes; whether it has a pace; how often it was asked; and at which asks it says yes
+pub record Gate : Type 0 where
+  pub calm : Bool
+  pub paces : Bool
+  pub asks : ℕ
+  pub says : ℕ → Bool
 
-abbrev pub calm_in : {A : Type 0} → (A → Bool) → Option A → Bool
-calm_in calm None = true
-calm_in calm (Some gate) = calm gate
+-- the gate of a box, by what the box tells
+abbrev pub gate_of : {A : Type 0} → (A → Bool) → (A → Bool) → (A → ℕ) → (A → ℕ → Bool) → A → Gate
+gate_of calm paces asks says box = record { calm = calm box; paces = paces box; asks = asks box; says = says box }
 
--- each gate that was calm is calm
-abbrev pub StayCalm : List Bool → List Bool → Type 0
-StayCalm before after = (v : ℕ) → is_calm before v ≡ true → is_calm after v ≡ true
+-- a vCPU that let its gate go has none
+abbrev pub gate_in : {A : Type 0} → (A → Gate) → Option A → Option Gate
+gate_in gate None = None
+gate_in gate (Some box) = Some (gate box)
 
--- which gates stay calm when the words ask for this pace: those that were, where it is 0
-unfoldable pub under_pace : Option ℕ → List Bool → List Bool
-under_pace None calms = calms
-under_pace (Some every) calms = map (λ calm. (every == 0) && calm) calms
+-- h is g after it was told this pace: one that has a pace says yes at each so many asks, and 0 stands for never
+pub record IsPaced (every : ℕ) (g h : Gate) : Type 0 where
+  pub asks : h.asks ≡ g.asks
+  pub paces : h.paces ≡ g.paces
+  pub says : g.paces ≡ true → (n : ℕ) → h.says n ≡ is_in_step every n
+  pub calm : (g.calm ≡ true) × (every ≡ 0) → h.calm ≡ true
+
+abbrev pub ArePaced : ℕ → List Gate → List Gate → Type 0
+ArePaced every [] [] = Unit {0}
+ArePaced every (g ∷ gs) (h ∷ hs) = IsPaced every g h × ArePaced every gs hs
+ArePaced every _ _ = ⊥
+
+-- the gates after the words were read: where these ask for no run, as they were
+abbrev pub SetBy : Option ℕ → List Gate → List Gate → Type 0
+SetBy None before after = after ≡ before
+SetBy (Some every) before after = ArePaced every before after
+
+-- h is g after a turn that was paused for it, or was not
+pub record IsConsulted (g h : Gate) (due : Bool) : Type 0 where
+  pub heard : Heard g.says g.asks h.asks due
+  pub says : (n : ℕ) → h.says n ≡ g.says n
+  pub paces : h.paces ≡ g.paces
+  pub calm : g.calm ≡ true → (due ≡ false) × (h.calm ≡ true)

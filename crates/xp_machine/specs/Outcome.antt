@@ -1,5 +1,5 @@
 -- What each status of a run says of the source and of the sink.
-use Rattle.std.specs.Prelude.{◌≡◌, ℕ, ◌⊎◌, Bool, List, length, Result, Ok, Err}
+use Rattle.std.specs.Prelude.{◌≡◌, ℕ, ◌⊎◌, List, length, Result, Ok, Err}
 use Rattle.std.specs.declared.option.Option.{Option}
 use Rattle.std.specs.Io.KnownBytes.{Consumes, IsAtEnd, Appends, Keeps}
 use Rattle.xp_io.specs.Causes.{AppendsFront}
@@ -8,6 +8,7 @@ use Rattle.trace_text.specs.TraceOf.{Fault, trace_of}
 use Rattle.xp_machine.specs.declared.status.Status.{Status}
 use Rattle.xp_machine.specs.declared.status.Status.TheVariants as status
 use Rattle.xp_machine.specs.Texts.{fault_text, fault_status}
+use Rattle.xp_machine.specs.Gates.{Gate}
 use Rattle.xp_machine.specs.Ran.{Ran}
 
 -- these bytes were taken: all that were left, or one more than a trace may have, and no further one
@@ -15,28 +16,28 @@ pub record Took (old new : Option (List ℕ)) (bytes : List ℕ) : Type 0 where
   pub consumed : Consumes old new bytes
   pub enough : IsAtEnd new ⊎ (length bytes ≡ 67108865)
 
--- the status and the text that are due for what the bytes spell: a trace, which is run with these gates calm, or a fault
-abbrev pub IsAnswer : List Bool → Result Trace Fault → Status → List ℕ → Type 0
-IsAnswer calms (Ok t) answer text = (answer ≡ status.Done) × Ran t calms text
-IsAnswer calms (Err e) answer text = (answer ≡ fault_status e.cause) × (text ≡ fault_text e.line e.cause)
+-- the status and the text that are due for what the bytes spell: a trace, which is run with these gates, or a fault
+abbrev pub IsAnswer : List Gate → Result Trace Fault → Status → List ℕ → Type 0
+IsAnswer gates (Ok t) answer text = (answer ≡ status.Done) × Ran t gates text
+IsAnswer gates (Err e) answer text = (answer ≡ fault_status e.cause) × (text ≡ fault_text e.line e.cause)
 
 -- the status and the text that are due for the bytes that were taken
-abbrev pub IsDue : List Bool → Option (List ℕ) → Option (List ℕ) → Status → List ℕ → Type 0
-IsDue calms from from' answer text = (bytes : List ℕ) × Took from from' bytes × IsAnswer calms (trace_of bytes) answer text
+abbrev pub IsDue : List Gate → Option (List ℕ) → Option (List ℕ) → Status → List ℕ → Type 0
+IsDue gates from from' answer text = (bytes : List ℕ) × Took from from' bytes × IsAnswer gates (trace_of bytes) answer text
 
 -- the status is that of the bytes that were taken, and their text was written
-abbrev pub Wrote : List Bool → Option (List ℕ) → Option (List ℕ) → Option (List ℕ) → Option (List ℕ) → Status → Type 0
-Wrote calms from from' to to' answer = (text : List ℕ) × IsDue calms from from' answer text × Appends to to' text
+abbrev pub Wrote : List Gate → Option (List ℕ) → Option (List ℕ) → Option (List ℕ) → Option (List ℕ) → Status → Type 0
+Wrote gates from from' to to' answer = (text : List ℕ) × IsDue gates from from' answer text × Appends to to' text
 
 -- a front of the text that was due was written
-abbrev pub Broke : List Bool → Option (List ℕ) → Option (List ℕ) → Option (List ℕ) → Option (List ℕ) → Type 0
-Broke calms from from' to to' = (text : List ℕ) × (answer : Status) × IsDue calms from from' answer text × AppendsFront to to' text
+abbrev pub Broke : List Gate → Option (List ℕ) → Option (List ℕ) → Option (List ℕ) → Option (List ℕ) → Type 0
+Broke gates from from' to to' = (text : List ℕ) × (answer : Status) × IsDue gates from from' answer text × AppendsFront to to' text
 
-abbrev pub Outcome : List Bool → Option (List ℕ) → Option (List ℕ) → Option (List ℕ) → Option (List ℕ) → Status → Type 0
-Outcome calms from from' to to' status.Done = Wrote calms from from' to to' status.Done
-Outcome calms from from' to to' status.BadTrace = Wrote calms from from' to to' status.BadTrace
-Outcome calms from from' to to' status.TooLarge = Wrote calms from from' to to' status.TooLarge
-Outcome calms from from' to to' status.WriteFault = Broke calms from from' to to'
-Outcome calms from from' to to' status.ReadFault = Keeps to to'
-Outcome calms from from' to to' status.Memory = Keeps to to'
-Outcome calms from from' to to' status.BadWords = Keeps from from' × Keeps to to'
+abbrev pub Outcome : List Gate → Option (List ℕ) → Option (List ℕ) → Option (List ℕ) → Option (List ℕ) → Status → Type 0
+Outcome gates from from' to to' status.Done = Wrote gates from from' to to' status.Done
+Outcome gates from from' to to' status.BadTrace = Wrote gates from from' to to' status.BadTrace
+Outcome gates from from' to to' status.TooLarge = Wrote gates from from' to to' status.TooLarge
+Outcome gates from from' to to' status.WriteFault = Broke gates from from' to to'
+Outcome gates from from' to to' status.ReadFault = Keeps to to'
+Outcome gates from from' to to' status.Memory = Keeps to to'
+Outcome gates from from' to to' status.BadWords = Keeps from from' × Keeps to to'

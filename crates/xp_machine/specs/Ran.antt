@@ -1,5 +1,5 @@
 -- A whole run of a trace.
-use Rattle.std.specs.Prelude.{◌++◌, ◌≡◌, ℕ, Bool, List, map}
+use Rattle.std.specs.Prelude.{◌++◌, ◌≡◌, ℕ, List, map, take, Option, Some}
 use Rattle.xp_words.specs.declared.reply.LogLine.{LogLine}
 use Rattle.trace_text.specs.declared.trace.Trace.{Trace}
 use Rattle.machine_build.specs.Opening.{IsOpening}
@@ -13,7 +13,12 @@ use Rattle.xp_board.specs.Runs as runs
 use Rattle.shared_board.specs.Board.{opened_story, state_of}
 use Rattle.vcpu_turn.specs.Cpus.{Processing, pending_of}
 use Rattle.xp_machine.specs.Cpus.{order, first_cpus}
+use Rattle.xp_machine.specs.Gates.{Gate}
 use Rattle.xp_machine.specs.Turns.{Stage, stage, WorksOff}
+
+-- gate v is that of vCPU v, and the further ones are let go
+abbrev pub first_gates : Machine → List Gate → List (Option Gate)
+first_gates n gates = map (λ g. Some g) (take (sizes_of n).vcpus gates)
 
 abbrev pub log_of : Processing → List LogLine
 log_of c = c.log
@@ -23,12 +28,12 @@ abbrev pub report_at : Machine → Stage → List ℕ
 report_at n s = report_of n s.board.words (map log_of s.cpus) (map pending_of s.cpus)
 
 -- The text is the report of words that legal steps lead to. From the opening words, with empty hands, the vCPUs make the
--- turns that the trace asks for, in its order; then each stops that is not retired. `calms` says which gates are calm.
-pub record Ran (t : Trace) (calms : List Bool) (text : List ℕ) : Type 0 where
+-- turns that the trace asks for, in its order, each with the own gate; then each stops that is not retired.
+pub record Ran (t : Trace) (gates : List Gate) (text : List ℕ) : Type 0 where
   pub opened : List ℕ
   pub opening : IsOpening t opened
   pub closed : Stage
-  pub works : WorksOff t.layout calms (order t.turns) (stage (opened_story t.layout opened) (first_cpus t.layout t.scripts)) closed
+  pub works : WorksOff t.layout (order t.turns) (stage (opened_story t.layout opened) (first_cpus t.layout t.scripts) (first_gates t.layout gates)) closed
   -- the list of all steps that were made on the board
   pub run : runs.Run t.layout (runs.start t.layout opened) closed.board.log (state_of closed.board)
   -- between any two of these steps, and behind the last, the machine is safe

@@ -1,43 +1,75 @@
 -- Turns and stops of vCPUs as runs of legal steps, each a piece of the board's list of steps.
-use Rattle.std.specs.Prelude.{◌≡◌, ℕ, Bool, true, false, List, [], ◌∷◌, ◌++◌, slice_get, slice_set, Option, Some, None}
+use Rattle.std.specs.Prelude.{◌≡◌, ℕ, ◌<◌, Bool, true, false, List, [], ◌∷◌, ◌++◌, if◌then◌else◌, length, slice_get, slice_set, Option, Some, None}
 use Rattle.std.specs.List.{range_with_len}
 use Rattle.xp_words.specs.Machine.{Machine}
 use Rattle.xp_words.specs.Places.{sizes_of}
+use Rattle.xp_words.specs.declared.reply.Pause.TheVariants.{Due, Lost, Busy, Flush, Alive}
 use Rattle.xp_board.specs.declared.holdings.Made.{Made}
-use Rattle.xp_board.specs.Told.{Story}
+use Rattle.xp_board.specs.Sound.{hand_of}
+use Rattle.xp_board.specs.Told.{PortValue, Story}
 use Rattle.vcpu_turn.specs.declared.cpu.TurnEnd.{TurnEnd}
+use Rattle.vcpu_turn.specs.declared.cpu.TurnEnd.TheVariants as ends
 use Rattle.vcpu_turn.specs.Cpus.{Processing}
-use Rattle.vcpu_turn.specs.Turning.{is_due, is_lost}
+use Rattle.vcpu_turn.specs.Turning.{is_due}
 use Rattle.vcpu_turn.specs.Turning as turning
-use Rattle.xp_machine.specs.Gates.{is_calm}
+use Rattle.xp_machine.specs.Gates.{Gate, IsConsulted}
 use Rattle.xp_machine.specs.Pieces.{Leads}
 
--- the list of steps, the words and the hands of the board, and how far the vCPUs have come
+-- the list of steps, the words and the hands of the board; how far the vCPUs have come; and the gate of each, until it lets it go
 pub record Stage : Type 0 where
   pub board : Story
   pub cpus : List Processing
+  pub gates : List (Option Gate)
 
-abbrev pub stage : Story → List Processing → Stage
-stage a cpus = record { board = a; cpus = cpus }
+abbrev pub stage : Story → List Processing → List (Option Gate) → Stage
+stage a cpus gates = record { board = a; cpus = cpus; gates = gates }
 
--- vCPU v makes a turn by steps that lead from one stage to the other. A calm gate does not pause it, and no exchange of it
--- is lost, as one thread makes all steps.
-pub record MakesStagedTurn (n : Machine) (calm : Bool) (v : ℕ) (c : Processing) (s s' : Stage) : Type 0 where
+-- v is a port of that vCPU on a board that tells this
+pub record IsPortOf (n : Machine) (vcpu : ℕ) (a : Story) (v : PortValue) : Type 0 where
+  pub machine : v.post.machine ≡ n
+  pub vcpu_is : v.post.vcpu ≡ vcpu
+  pub hand : v.holdings ≡ hand_of a.hands vcpu
+  pub told : v.told ≡ Some a
+
+-- One thread makes all steps, and between turns no vCPU holds anything. So no turn is paused for a lost exchange, for a frame in
+-- another hand, or for a vCPU that is to stop; and for a flush only where there is another vCPU.
+abbrev pub IsUnhindered : Machine → TurnEnd → Type 0
+IsUnhindered n (ends.Paused (Lost place expected found)) = ⊥
+IsUnhindered n (ends.Paused (Busy frame found)) = ⊥
+IsUnhindered n (ends.Paused (Alive vcpu found)) = ⊥
+IsUnhindered n (ends.Paused (Flush vcpu stamp found)) = 1 < length n.vcpu_domain
+IsUnhindered n _ = Unit {0}
+
+-- vCPU v makes a turn by steps that lead from one stage to the other, and asks its own gate. One that retires lets that go.
+pub record MakesStagedTurn (n : Machine) (v : ℕ) (c : Processing) (s s' : Stage) : Type 0 where
+  pub gate : Gate
+  pub asked : Gate
+  pub own : slice_get s.gates v ≡ Some (Some gate)
   pub after : Processing
   pub end : TurnEnd
   pub made : List Made
   pub leads : Leads n v s.board made s'.board
-  pub turn : turning.IsTurn n c after end made
-  pub unpaused : calm ≡ true → is_due end ≡ false
-  pub kept : is_lost end ≡ false
+  pub from : PortValue
+  pub to : PortValue
+  pub from_is : IsPortOf n v s.board from
+  pub to_is : IsPortOf n v s'.board to
+  pub turn : turning.IsTurn c after end from to gate.asks asked.asks
+  pub consulted : IsConsulted gate asked (is_due end)
+  pub unhindered : IsUnhindered n end
   pub cpus : s'.cpus ≡ slice_set s.cpus v after
+  pub gates : s'.gates ≡ slice_set s.gates v (if after.retired then None else Some asked)
 
--- vCPU v stops between its turns, by one step
+-- vCPU v stops between its turns, by one step, and lets its gate go
 pub record MakesStagedStop (n : Machine) (v : ℕ) (c : Processing) (s s' : Stage) : Type 0 where
   pub made : List Made
   pub leads : Leads n v s.board made s'.board
-  pub stop : turning.IsStop n c.vcpu made
+  pub from : PortValue
+  pub to : PortValue
+  pub from_is : IsPortOf n v s.board from
+  pub to_is : IsPortOf n v s'.board to
+  pub stop : turning.IsStop from to
   pub cpus : s'.cpus ≡ slice_set s.cpus v (record c { retired = true })
+  pub gates : s'.gates ≡ slice_set s.gates v None
 
 -- what a vCPU does of its own, and a retired one makes no step
 abbrev pub UnlessRetired : (Processing → Stage → Stage → Type 0) → Processing → Bool → Stage → Stage → Type 0
@@ -48,8 +80,8 @@ abbrev pub ByCpu : (Processing → Stage → Stage → Type 0) → Option Proces
 ByCpu Does None s s' = ⊥
 ByCpu Does (Some c) s s' = UnlessRetired Does c c.retired s s'
 
-abbrev pub IsStagedTurn : Machine → List Bool → ℕ → Stage → Stage → Type 0
-IsStagedTurn n calms v s s' = ByCpu (MakesStagedTurn n (is_calm calms v) v) (slice_get s.cpus v) s s'
+abbrev pub IsStagedTurn : Machine → ℕ → Stage → Stage → Type 0
+IsStagedTurn n v s s' = ByCpu (MakesStagedTurn n v) (slice_get s.cpus v) s s'
 
 abbrev pub IsStagedStop : Machine → ℕ → Stage → Stage → Type 0
 IsStagedStop n v s s' = ByCpu (MakesStagedStop n v) (slice_get s.cpus v) s s'
@@ -59,15 +91,14 @@ pub data InOrder (Does : ℕ → Stage → Stage → Type 0) : List ℕ → Stag
   none : (s : Stage) → InOrder Does [] s s
   more : (vs : List ℕ) (v : ℕ) (s m s' : Stage) → InOrder Does vs s m → Does v m s' → InOrder Does (vs ++ v ∷ []) s s'
 
--- turns, with these gates calm
-abbrev pub Turns : Machine → List Bool → List ℕ → Stage → Stage → Type 0
-Turns n calms vs s s' = InOrder (IsStagedTurn n calms) vs s s'
+abbrev pub Turns : Machine → List ℕ → Stage → Stage → Type 0
+Turns n vs s s' = InOrder (IsStagedTurn n) vs s s'
 
 abbrev pub Stops : Machine → List ℕ → Stage → Stage → Type 0
 Stops n vs s s' = InOrder (IsStagedStop n) vs s s'
 
 -- these turns, and then a stop of each vCPU that is not retired
-pub record WorksOff (n : Machine) (calms : List Bool) (vs : List ℕ) (s s' : Stage) : Type 0 where
+pub record WorksOff (n : Machine) (vs : List ℕ) (s s' : Stage) : Type 0 where
   pub worked : Stage
-  pub turns : Turns n calms vs s worked
+  pub turns : Turns n vs s worked
   pub stops : Stops n (range_with_len 0 (sizes_of n).vcpus) worked s'

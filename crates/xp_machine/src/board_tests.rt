@@ -202,7 +202,7 @@ pub(crate) fn steps_of(
         stores: 0,
         sums: 0,
     };
-    let mut gate = Never;
+    let mut gate = Never::new();
     turn(&mut port, &mut cpu, &mut gate);
     Ok((port.loads, port.exchanges, port.stores, port.sums))
 }

@@ -1,5 +1,5 @@
 //! Operations that are lists, and the gates that pause them.
-ghost use Rattle.std.specs.Prelude.{true};
+ghost use Rattle.std.specs.Prelude.{false, true};
 
 use crate::tests::{bytes, runs_by, runs_to, turns, with_pace};
 use crate::{Status, run};
@@ -79,23 +79,33 @@ fn a_long_list_is_refused_and_an_empty_one_is_done(rt: HostRuntime) -> Result<()
 // A gate that says when it is let go.
 struct Counted {
     gone: Arc<AtomicU64, Global>,
+    asks: u64,
 }
 
 impl Drop for Counted {
     fn drop(self) {
         self.gone.fetch_add(1, Ordering::SeqCst);
-        let Counted { gone: _ } = self;
+        let Counted { gone: _, asks: _ } = self;
     }
 }
 
 impl Preempt for Counted {
     ghost count_yes = { λ _. 0 };
 
+    ghost count_asks = { λ g. g.asks };
+
+    ghost says = { λ _ _. false };
+
+    ghost paces = { λ _. false };
+
     ghost calm = { λ _. true };
 
     fn pace(&mut self, every: u32) {}
 
     fn due(&mut self) -> bool {
+        if self.asks != u64::MAX {
+            self.asks += 1;
+        }
         false
     }
 
@@ -110,6 +120,7 @@ fn gates_gone(rt: &(impl Abort + AllocGlobal), words: &[String], trace: &str) ->
     for _ in 0..16 {
         let gate = Counted {
             gone: Arc::try_clone(&gone).expect(rt, "memory"),
+            asks: 0,
         };
         gates
             .push(Box::new(rt.alloc(), gate).expect(rt, "memory"))

@@ -1,13 +1,31 @@
 ghost use Rattle.std.specs.Prelude.{◌≡◌, true, false};
+ghost use Rattle.xp_preempt.specs.Gates.{next_ask};
 
 use crate::gate::Preempt;
 
 /// A gate that never says yes.
 #[derive(Drop)]
-pub struct Never;
+pub struct Never {
+    asks: u64,
+}
+
+impl Never {
+    /// A gate that was never asked.
+    pub fn new() -> Never
+        ensures { result ≡ record { asks = 0 } }
+    {
+        Never { asks: 0 }
+    }
+}
 
 impl Preempt for Never {
     ghost count_yes = { λ _. 0 };
+
+    ghost count_asks = { λ g. g.asks };
+
+    ghost says = { λ _ _. false };
+
+    ghost paces = { λ _. false };
 
     ghost calm = { λ _. true };
 
@@ -15,7 +33,11 @@ impl Preempt for Never {
 
     fn due(&mut self) -> bool
         ensures never { result ≡ false }
+        ensures asked { self.new.asks ≡ next_ask self.old.asks }
     {
+        if self.asks != u64::MAX {
+            self.asks += 1;
+        }
         false
     }
 

@@ -46,6 +46,12 @@ fn is_in_step(every: u32, ask: u64) -> bool
 impl Preempt for Paced {
     ghost count_yes = { λ g. g.yes };
 
+    ghost count_asks = { λ g. g.asks };
+
+    ghost says = { λ g n. is_in_step g.every n };
+
+    ghost paces = { λ _. true };
+
     ghost calm = { λ g. g.every == 0 };
 
     fn pace(&mut self, every: u32)

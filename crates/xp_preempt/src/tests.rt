@@ -36,7 +36,7 @@ fn a_listed_gate_says_yes_where_its_list_says_so(rt: HostRuntime) {
 
 #[test]
 fn a_third_gate_says_no_whatever_its_pace(rt: HostRuntime) {
-    let mut gate = Never;
+    let mut gate = Never::new();
     gate.pace(1);
     assert!(rt; asked(&mut gate, 4) == 0);
     assert!(rt; gate.yes() == 0);

@@ -1,4 +1,4 @@
-use Rattle.m2p_map.proofs.Mapping.{held, given_back, maps_at, set_twin, set_stops}
+use Rattle.m2p_map.proofs.Mapping.{held, given_back, maps_at, set_twin}
 use Rattle.m2p_map.proofs.set_m2p.Goals as goal
 
 pub store_m2p-requires-clause-held : goal.store_m2p-requires-clause-held

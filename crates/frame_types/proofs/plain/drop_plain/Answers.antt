@@ -6,7 +6,7 @@ use Rattle.xp_board.specs.declared.step.StepKind.TheVariants as kinds
 use Rattle.step_maker.specs.Holds.{Holds}
 use Rattle.step_maker.specs.Moves.{Moves}
 use Rattle.kind_words.specs.Kinds.{left}
-use Rattle.frame_types.proofs.Dropped.{last_serves, last_words, more_serves, more_words}
+use Rattle.frame_types.proofs.Dropped.{last_serves, last_stands, last_words, more_serves, more_stands, more_words}
 use Rattle.frame_types.proofs.Dropping.{last_may, last_gives, last_left, more_gives, more_left}
 use Rattle.frame_types.proofs.plain.drop_plain.Goals as goal
 
@@ -70,3 +70,12 @@ pub returns-else-counts_one-clause-plain : goal.returns-else-counts_one-clause-p
 returns-else-counts_one-clause-plain g c =
     more_words (g.P.Port.value c.args.port.now) (g.P.Port.value c.lower_type.new.port) (g.P.Port.value c.put_ref-else-counts_one.new.port) c.args.frame c.lower_type.result c.args.kind c.lower_type.ensures.moves
     (sym c.counts_one.ensures ∙ c.if-counts_one.false) c.put_ref-else-counts_one.ensures.plain
+
+pub returns-then-counts_one-clause-stands : goal.returns-then-counts_one-clause-stands
+returns-then-counts_one-clause-stands g c =
+    last_stands (g.P.Port.value c.args.port.now) (g.P.Port.value c.lower_type.new.port) c.args.frame c.lower_type.result c.args.kind c.requires.frame c.requires.drops c.lower_type.ensures.moves c.lower_type.ensures.hand
+    (g.P.Port.value c.look_clock-stamp.new.port) (g.P.Port.value c.leave.new.port) c.look_clock-stamp.result c.leave.result _ c.look_clock-stamp.ensures.moves c.leave.ensures.moves c.put_ref.ensures.owned
+
+pub returns-else-counts_one-clause-stands : goal.returns-else-counts_one-clause-stands
+returns-else-counts_one-clause-stands g c =
+    more_stands (g.P.Port.value c.args.port.now) (g.P.Port.value c.lower_type.new.port) c.args.frame c.lower_type.result c.args.kind c.requires.frame c.requires.drops c.lower_type.ensures.moves c.lower_type.ensures.hand c.put_ref-else-counts_one.ensures.owned

@@ -3,6 +3,7 @@ use Rattle.xp_board.specs.Told.{PortValue}
 use Rattle.frame_words.proofs.Taking.{domain_known}
 use Rattle.frame_words.proofs.Putting.{last_lowered, last_ends, gave_last, puts_last, puts_more, changes_last, changes_more}
 use Rattle.frame_words.proofs.Twinning.{twin_last, twin_more}
+use Rattle.frame_words.proofs.Alike.{told_owned}
 use Rattle.frame_words.proofs.references.put_ref.Goals as goal
 
 pub free_frame-requires-clause-domain : goal.free_frame-requires-clause-domain
@@ -42,3 +43,9 @@ returns-in-Some-clause-puts g c =
 
 pub returns-in-None-clause-puts : goal.returns-in-None-clause-puts
 returns-in-None-clause-puts g c = changes_more _ _ c.args.frame c.lower_refs-found.result c.lower_refs-found.ensures.moves
+
+pub returns-in-Some-clause-owned : goal.returns-in-Some-clause-owned
+returns-in-Some-clause-owned g c = told_owned _ _ c.args.frame c.lower_refs-found.result c.lower_refs-found.ensures.moves c.requires.gives
+
+pub returns-in-None-clause-owned : goal.returns-in-None-clause-owned
+returns-in-None-clause-owned g c = told_owned _ _ c.args.frame c.lower_refs-found.result c.lower_refs-found.ensures.moves c.requires.gives
