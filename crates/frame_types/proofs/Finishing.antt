@@ -45,6 +45,9 @@ no_table t off = grind arith
 no_descriptors : (t : PageType) → is_read_first t ≡ false → t ≢ types.Desc
 no_descriptors t off is = absurd (let e = subst (λ y. is_read_first y ≡ false) is off in cc)
 
+pub no_memory : (t : PageType) → is_read_first t ≡ true → t ≢ types.Writable
+no_memory t on is = absurd (let e = subst (λ y. is_read_first y ≡ true) is on in cc)
+
 same_type : (t : PageType) → is_type t t ≡ true
 same_type t = when_eq (type_number t) (type_number t) refl
 

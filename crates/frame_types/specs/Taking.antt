@@ -1,5 +1,5 @@
 -- Types that are taken and given back: what they leave in hand.
-use Rattle.std.specs.Prelude.{◌≡◌, ℕ, ◌<◌, ◌≤◌, if◌then◌else◌, Bool, true, false, List, [], ◌∷◌, length, Option, Some, None, Result, IfOk, IfErr, MatchResult, IsTrue}
+use Rattle.std.specs.Prelude.{◌≡◌, ◌≢◌, ℕ, ◌<◌, ◌≤◌, if◌then◌else◌, Bool, true, false, List, [], ◌∷◌, length, Option, Some, None, Result, IfOk, IfErr, MatchResult, IsTrue}
 use Rattle.xp_words.specs.Machine.{Machine}
 use Rattle.xp_words.specs.Places.{sizes_of}
 use Rattle.xp_words.specs.KindWords.{is_kind, kind_fields, kind_write}
@@ -82,7 +82,7 @@ pub record WaitsWith (v w : PortValue) (f owner : ℕ) (want : PageType) (own : 
 
 abbrev pub TakesAs : PortValue → PortValue → ℕ → ℕ → PageType → Taken → Type 0
 TakesAs v w f owner want Counted = FlushedHolds v w (typed_as f owner want v.holdings)
-TakesAs v w f owner want (InWork progress own) = WorksFrom v w f owner want progress own
+TakesAs v w f owner want (InWork progress own) = (want ≢ Writable) × WorksFrom v w f owner want progress own
 TakesAs v w f owner want (Waiting own stamp stop) = WaitsWith v w f owner want own stamp
 
 -- why the flush is not to be had

@@ -7,7 +7,7 @@ use Rattle.answer_fits.proofs.Alikes.{same_alike}
 use Rattle.kind_words.specs.Kinds.{live_kind}
 use Rattle.frame_types.specs.Taking.{Enters, stamp_by, progress_of, work_kind}
 use Rattle.frame_types.proofs.Entering.{work_spelled}
-use Rattle.frame_types.proofs.Finishing.{live_leaves, live_hand, live_spelled, unmarked_leaves, unmarked_works, plain_works, left_serves}
+use Rattle.frame_types.proofs.Finishing.{no_memory, live_leaves, live_hand, live_spelled, unmarked_leaves, unmarked_works, plain_works, left_serves}
 use Rattle.frame_types.proofs.Storing.{store_same, stored_alike}
 use Rattle.frame_types.proofs.taking.finish.Goals as goal
 
@@ -53,8 +53,9 @@ returns-then-marked-clause-serves g c u ds before =
 pub returns-then-marked-clause-hand : goal.returns-then-marked-clause-hand
 returns-then-marked-clause-hand g c b e =
     let v = g.P.Port.value c.args.port.now in
+    let read = no_memory c.args.want (sym c.is_read_first.ensures ∙ c.if-not-is_read_first.false) in
     rw c.progress_of.ensures
-    (unmarked_works b v c.args.frame c.args.owner c.args.want (stamp_by true c.args.kind) (progress_of c.args.kind) c.args.own
+    (read, unmarked_works b v c.args.frame c.args.owner c.args.want (stamp_by true c.args.kind) (progress_of c.args.kind) c.args.own
     (subst (λ m. Enters b v c.args.frame c.args.owner c.args.want m (stamp_by m c.args.kind) (progress_of c.args.kind) c.args.own) c.if-marked.true e) (g.P.Port.value c.leave-then-marked.new.port)
     c.work_kind.result c.work_kind.ensures c.leave-then-marked.result c.leave-then-marked.ensures.moves c.leave-then-marked.ensures.hand
     (subst (λ k. IsTrue (is_kind k)) (sym c.work_kind.ensures) (work_spelled c.args.want c.requires.wanted)))
@@ -69,8 +70,9 @@ returns-then-marked-clause-plain g c telling same = (
 pub returns-else-marked-clause-hand : goal.returns-else-marked-clause-hand
 returns-else-marked-clause-hand g c b e =
     let v = g.P.Port.value c.args.port.now in
+    let read = no_memory c.args.want (sym c.is_read_first.ensures ∙ c.if-not-is_read_first.false) in
     rw c.progress_of-else-marked.ensures
-    (plain_works b v c.args.frame c.args.owner c.args.want (stamp_by false c.args.kind) (progress_of c.args.kind) c.args.own
+    (read, plain_works b v c.args.frame c.args.owner c.args.want (stamp_by false c.args.kind) (progress_of c.args.kind) c.args.own
     (subst (λ m. Enters b v c.args.frame c.args.owner c.args.want m (stamp_by m c.args.kind) (progress_of c.args.kind) c.args.own) c.if-marked.false e))
 
 pub returns-else-marked-clause-plain : goal.returns-else-marked-clause-plain
