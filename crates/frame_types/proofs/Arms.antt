@@ -39,10 +39,10 @@ use Rattle.frame_types.proofs.Exchanging.{asked, busy_stops, exchange_lost, exch
 module _ (b v : PortValue) (f owner : ℕ) (want : PageType) (word : ℕ) (l : Looked b v f owner want word) where
   -- ---- the look alone
   pub busy_takes : (k : KindWord) → kind_read word ≡ Some k → IsInHand k want → Takes b v f owner want (Err (Paused (Busy f word)))
-  busy_takes k read is = record { serves = looked b v f owner want word l; stops = busy_stops b v f owner want word l k read is; waits = tt; hand = l.same }
+  busy_takes k read is = record { serves = looked b v f owner want word l; stops = busy_stops b v f owner want word l k read is; kinds = tt; waits = tt; hand = l.same }
 
   pub other_takes : (k : KindWord) → kind_read word ≡ Some k → IsOther k want → Takes b v f owner want (Err (Refused (OtherType f want word)))
-  other_takes k read is = record { serves = looked b v f owner want word l; stops = other_stops b v f owner want word l k read is; waits = tt; hand = l.same }
+  other_takes k read is = record { serves = looked b v f owner want word l; stops = other_stops b v f owner want word l k read is; kinds = tt; waits = tt; hand = l.same }
 
   -- ---- the exchange
   module _ (w : PortValue) (k new : KindWord) (is : IsTrue (is_kind k)) (next : IsTrue (is_kind new)) (kind : new.kind ≡ want) (pin : new.pinned ≡ k.pinned) (was : word ≡ kind_write k) where
@@ -56,6 +56,7 @@ module _ (b v : PortValue) (f owner : ℕ) (want : PageType) (word : ℕ) (l : L
         (record {
           serves = exchange_misses b v w f owner want word l k new is next kind pin was found change (number (sizes_of w.post.machine) (Kind f)) at off;
           stops = exchange_lost b v w f owner want word l k new is next kind pin was found change (number (sizes_of w.post.machine) (Kind f)) at off;
+          kinds = tt;
           waits = tt;
           hand = lost_same b v f owner want word l w found holds;
         })
@@ -66,7 +67,7 @@ module _ (b v : PortValue) (f owner : ℕ) (want : PageType) (word : ℕ) (l : L
   pub counted_takes : (w : PortValue) (k : KindWord) → IsTrue (is_kind k) → IsTrue (is_kind (raised_kind k)) → k.kind ≡ want → word ≡ kind_write k →
       Moves v w (Kind f) (Cas (kind_write k) (kind_write (raised_kind k))) kinds.Kind None (kind_write k) → Holds v w (counted_type f k v.holdings) → Takes b w f owner want (Ok Counted)
   counted_takes w k is next kind was change holds =
-      record { serves = came_serves w k (raised_kind k) is next kind refl was change; stops = tt; waits = tt; hand = counted_hand b v f owner want word l k w kind holds }
+      record { serves = came_serves w k (raised_kind k) is next kind refl was change; stops = tt; kinds = tt; waits = tt; hand = counted_hand b v f owner want word l k w kind holds }
 
   -- ---- what the flush waits for
   found_with : (w : PortValue) → Came v w → FoundWith (Met b w) (Kind f) word b.holdings
@@ -96,4 +97,4 @@ module _ (b v : PortValue) (f owner : ℕ) (want : PageType) (word : ℕ) (l : L
 pub goes_takes : (b x w : PortValue) (f owner : ℕ) (want : PageType) (waiting : Bool) (k : KindWord) (own : Bool) (t : Taken) → Serves b x (of_frame f owner (Some want)) [] → AwaitedThere b x f owner want waiting k.number →
     Enters b x f owner want waiting (stamp_by waiting k) (progress_of k) own → ServesOn x w f owner want waiting k.number → WaitsOn x w f owner want waiting k.number t → HoldsOn x w f owner want waiting k own t → Takes b w f owner want (Ok t)
 goes_takes b x w f owner want waiting k own t before awaits enters serves waits holds =
-    record { serves = serves b [] before awaits; stops = tt; waits = waits b (serves_came b x (of_frame f owner (Some want)) [] before) awaits; hand = holds b enters }
+    record { serves = serves b [] before awaits; stops = tt; kinds = tt; waits = waits b (serves_came b x (of_frame f owner (Some want)) [] before) awaits; hand = holds b enters }

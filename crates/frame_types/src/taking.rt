@@ -112,6 +112,7 @@ fn take_found<P: Port>(
 
 // An exchange of the kind word found another one than was expected.
 fn lost<P: Port>(port: &P, frame: u32, expected: u64, found: u64) -> Stop
+    requires { frame < (P.value port.now).post.machine.frames }
     ensures { result ≡ Paused (Lost (number (sizes_of (P.value port.now).post.machine) (Kind frame)) expected found) }
 {
     let place = port.layout().place(Place::Kind { frame });
