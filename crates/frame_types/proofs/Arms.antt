@@ -1,5 +1,5 @@
 -- What a call that takes a type ensures, by each of its ways.
-use Rattle.std.proofs.Common.{◌≡◌, ◌≢◌, ℕ, ◌+◌, ◌≤◌, ◌||◌, ◌++◌, Bool, true, false, List, [], length, Option, Some, None, Ok, Err, IsTrue, refl, sym, ap, ◌∙◌, subst, inl, inr}
+use Rattle.std.proofs.Common.{◌≡◌, ◌≢◌, ℕ, ◌+◌, ◌≤◌, ◌||◌, ◌++◌, not, Bool, true, false, List, [], length, Option, Some, None, Ok, Err, IsTrue, refl, sym, ap, ◌∙◌, subst, inl, inr}
 use Rattle.std.proofs.lemmas.Bool.{or_left, or_right}
 use Rattle.xp_words.specs.Machine.{Machine}
 use Rattle.xp_words.specs.declared.kind.KindWord.{KindWord}
@@ -10,12 +10,12 @@ use Rattle.xp_words.specs.declared.reply.Refusal.TheVariants.{OtherType}
 use Rattle.xp_words.specs.declared.reply.Stop.{Stop}
 use Rattle.xp_words.specs.declared.reply.Stop.TheVariants.{Refused, Paused}
 use Rattle.xp_words.specs.KindWords.{is_kind, kind_read, kind_fields, kind_write}
-use Rattle.xp_words.specs.PageTypes.{type_number}
+use Rattle.xp_words.specs.PageTypes.{is_none, type_number}
 use Rattle.xp_words.specs.Places.{number, sizes_of}
 use Rattle.xp_board.specs.declared.step.Act.TheVariants.{Load, Cas}
 use Rattle.xp_board.specs.declared.step.StepKind.TheVariants as kinds
 use Rattle.xp_board.specs.declared.holdings.Holdings.{Holdings}
-use Rattle.xp_board.specs.KindSteps.{is_stale, raised_kind}
+use Rattle.xp_board.specs.KindSteps.{begun_kind, is_stale, raised_kind, resumed_kind}
 use Rattle.xp_board.specs.Readings.{is_dead, is_partial, is_type}
 use Rattle.xp_board.specs.Told.{Post, PortValue}
 use Rattle.board_lemmas.proofs.KindForms.{fields_of}
@@ -24,15 +24,17 @@ use Rattle.step_maker.specs.Holds.{Holds, Same}
 use Rattle.step_maker.specs.Moves.{Moves, Came, Met}
 use Rattle.step_maker.proofs.Coming.{moment_of, moves_met, moves_came, met_before, came_trans, came_post}
 use Rattle.answer_fits.specs.Answers.{Serves, Stops, misses}
-use Rattle.answer_fits.specs.Asked.{of_frame}
+use Rattle.answer_fits.specs.Asked.{of_back, of_frame}
 use Rattle.answer_fits.specs.Finding.{FoundWith}
 use Rattle.answer_fits.specs.Reasons.{Awaited, marked, other}
-use Rattle.answer_fits.proofs.Piecing.{serves_came}
+use Rattle.answer_fits.proofs.Piecing.{serves_back, serves_came}
+use Rattle.frame_words.proofs.Taking.{names_itself}
+use Rattle.kind_words.proofs.KindWriting.{begun_is, resumed_is}
 use Rattle.kind_words.specs.Kinds.{counted_type, looked_at}
 use Rattle.frame_types.specs.declared.taking.Taken.{Taken}
 use Rattle.frame_types.specs.declared.taking.Taken.TheVariants.{Counted}
 use Rattle.frame_types.specs.Taking.{AwaitedThere, Enters, HoldsOn, Looked, ServesOn, Takes, WaitsOn, progress_of, stamp_by}
-use Rattle.frame_types.proofs.Classing.{IsInHand, IsOther, IsParted}
+use Rattle.frame_types.proofs.Classing.{IsInHand, IsOther, IsParted, dead_unpinned}
 use Rattle.frame_types.proofs.Coming.{counted_hand, lost_same}
 use Rattle.frame_types.proofs.Exchanging.{asked, busy_stops, exchange_lost, exchange_misses, exchange_serves, looked, other_stops, passed}
 
@@ -98,3 +100,33 @@ pub goes_takes : (b x w : PortValue) (f owner : ℕ) (want : PageType) (waiting 
     Enters b x f owner want waiting (stamp_by waiting k) (progress_of k) own → ServesOn x w f owner want waiting k.number → WaitsOn x w f owner want waiting k.number t → HoldsOn x w f owner want waiting k own t → Takes b w f owner want (Ok t)
 goes_takes b x w f owner want waiting k own t before awaits enters serves waits holds =
     record { serves = serves b [] before awaits; stops = tt; kinds = tt; waits = waits b (serves_came b x (of_frame f owner (Some want)) [] before) awaits; hand = holds b enters }
+
+module _ (b v : PortValue) (f owner : ℕ) (want : PageType) (word : ℕ) (l : Looked b v f owner want word) (k : KindWord) (read : kind_read word ≡ Some k) (is : IsTrue (is_kind k)) (was : word ≡ kind_write k) (x w : PortValue) (t : Taken) where
+  -- from dead
+  pub dead_takes : IsTrue (is_dead k) → IsTrue (not (is_none want)) → (m : Bool) → m ≡ is_stale k want → Moves v x (Kind f) (Cas (kind_write k) (kind_write (begun_kind k want))) kinds.Kind None (kind_write k) →
+      Enters b x f owner want (is_stale k want) (stamp_by (is_stale k want) k) (progress_of k) true →
+      ServesOn x w f owner want m k.number → WaitsOn x w f owner want m k.number t → HoldsOn x w f owner want m k true t → Takes b w f owner want (Ok t)
+  dead_takes dead wanted m stale change enters serves waits holds =
+      let came = moves_came v x (Kind f) (Cas (kind_write k) (kind_write (begun_kind k want))) kinds.Kind None (kind_write k) change in
+      goes_takes b x w f owner want m k true t (came_serves b v f owner want word l x k (begun_kind k want) is (begun_is k want is dead wanted) refl (sym (dead_unpinned word k read dead)) was change)
+      (subst (λ y. AwaitedThere b x f owner want y k.number) (sym stale) (dead_awaits b v f owner want word l x k came read dead)) (subst (λ y. Enters b x f owner want y (stamp_by y k) (progress_of k) true) (sym stale) enters) serves waits holds
+
+  -- from partial
+  module _ (parted : IsParted k want) (change : Moves v x (Kind f) (Cas (kind_write k) (kind_write (resumed_kind k))) kinds.Kind None (kind_write k)) where
+    resumed_serves : Serves b x (of_frame f owner (Some want)) []
+    resumed_serves = came_serves b v f owner want word l x k (resumed_kind k) is (resumed_is k is parted.partial) parted.kind refl was change
+
+    resumed_came : Came v x
+    resumed_came = moves_came v x (Kind f) (Cas (kind_write k) (kind_write (resumed_kind k))) kinds.Kind None (kind_write k) change
+
+    pub unkept_takes : Enters b x f owner want k.unflushed (stamp_by k.unflushed k) (progress_of k) false → ServesOn x w f owner want k.unflushed k.number → WaitsOn x w f owner want k.unflushed k.number t → HoldsOn x w f owner want k.unflushed k false t →
+        Takes b w f owner want (Ok t)
+    unkept_takes enters serves waits holds =
+        goes_takes b x w f owner want k.unflushed k false t resumed_serves (partial_awaits b v f owner want word l x k resumed_came read parted.kind) enters serves waits holds
+
+    -- behind the reference that is given back
+    pub kept_takes : (y : PortValue) → Serves x y (of_back f) [] → Enters b y f owner want k.unflushed (stamp_by k.unflushed k) (progress_of k) true → ServesOn y w f owner want k.unflushed k.number → WaitsOn y w f owner want k.unflushed k.number t →
+        HoldsOn y w f owner want k.unflushed k true t → Takes b w f owner want (Ok t)
+    kept_takes y puts enters serves waits holds =
+        let back = serves_back b x y (of_frame f owner (Some want)) [] [] resumed_serves f (names_itself b.post.machine b.post.vcpu f owner (Some want) (Met b y)) puts in
+        goes_takes b y w f owner want k.unflushed k true t back (partial_awaits b v f owner want word l y k (came_trans v x y resumed_came (serves_came x y (of_back f) [] puts)) read parted.kind) enters serves waits holds

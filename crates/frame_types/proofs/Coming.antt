@@ -24,14 +24,14 @@ use Rattle.xp_board.specs.Readings.{is_dead, is_live, is_partial, is_work}
 use Rattle.xp_board.specs.Told.{PortValue}
 use Rattle.board_lemmas.proofs.KindForms.{fields_of, PartialForm, partial_form}
 use Rattle.board_lemmas.proofs.KindReadings.{partial_parts}
-use Rattle.step_maker.specs.Holds.{FlushedHolds, Holds, Same, quiet, still}
+use Rattle.step_maker.specs.Holds.{FlushedHolds, Holds, MayWork, Same, quiet, still}
 use Rattle.step_maker.specs.Moves.{Moves}
 use Rattle.frame_words.specs.Freeing.{gave}
 use Rattle.frame_words.specs.Refs.{MayGive}
 use Rattle.kind_words.specs.Kinds.{begun_work, counted_type, looked_at, resumed_work}
 use Rattle.kind_words.proofs.KindFacts.{dead_apart, partial_apart, type_is_below}
 use Rattle.kind_words.proofs.KindHands.{resumed_in_work, resumed_kept, resumed_unkept, resumed_fields, work_here, work_spares}
-use Rattle.kind_words.proofs.KindWriting.{begun_is, resumed_is}
+use Rattle.kind_words.proofs.KindWriting.{begun_is, raised_is, resumed_is}
 use Rattle.flush_words.proofs.Lasting.{moves_longer}
 use Rattle.frame_types.specs.Taking.{Enters, Looked, LentBy, progress_of, stamp_by, typed_as, work_kind, working}
 use Rattle.frame_types.proofs.Classing.{IsCounted, IsParted, dead_unparted}
@@ -126,7 +126,7 @@ module _ (b v : PortValue) (f owner : ℕ) (want : PageType) (word : ℕ) (l : L
   form : PartialForm k
   form = partial_form word k read (partial_parts k parted.partial).0 (partial_parts k parted.partial).1
 
-  again : resumed_kind k ≡ work_kind want k.unflushed (stamp_by k.unflushed k)
+  pub again : resumed_kind k ≡ work_kind want k.unflushed (stamp_by k.unflushed k)
   again = work_again k want parted.kind form.unpinned (partial_parts k parted.partial).0 (by_number k.unflushed k form.number)
 
   item : Work
@@ -203,3 +203,7 @@ module _ (b v : PortValue) (f owner : ℕ) (want : PageType) (word : ℕ) (l : L
           lent = l.lent;
           aside = no_typed;
         }
+
+-- ---- a word with one type count more
+pub raised_spelled : (v : PortValue) (k : KindWord) (want : PageType) → MayWork v → IsTrue (is_kind k) → IsCounted k want → k.number < v.post.machine.limit → IsTrue (is_kind (raised_kind k))
+raised_spelled v k want may is counted low = let few = may.machine.few_counts in raised_is k is counted.live counted.some (omega (arith, few, low))
