@@ -45,7 +45,7 @@ pub lent_known : (z : Sizes) (f owner : ℕ) (h : Holdings) → LentBy f owner h
 unfolding knows_owner some_of
 lent_known z f owner h a = rw a.refs (or_left _ _ (or_left _ _ (owned_here z h.steps f owner)))
 
-typed_owned : (f owner : ℕ) (e : TypedReference) (xs : List TypedReference) (h : Holdings) → h.typed ≡ e ∷ xs → e.frame ≡ f → e.owner ≡ owners.Of owner → typed_owner f h ≡ owners.Of owner
+pub typed_owned : (f owner : ℕ) (e : TypedReference) (xs : List TypedReference) (h : Holdings) → h.typed ≡ e ∷ xs → e.frame ≡ f → e.owner ≡ owners.Of owner → typed_owner f h ≡ owners.Of owner
 typed_owned f owner e xs h typed frame owned =
     ap (λ o. owner_by_typed o (owner_from h)) (ap (λ ys. typed_on f ys) typed ∙ first_by-cons_here (λ (y : TypedReference). y.frame) f e xs frame) ∙ owned
 
