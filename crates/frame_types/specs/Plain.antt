@@ -16,9 +16,10 @@ use Rattle.xp_board.specs.RefSteps.{one_down}
 use Rattle.xp_board.specs.Told.{PortValue, is_telling, told_word}
 use Rattle.step_maker.specs.Plain.{Words, change, Leaves}
 use Rattle.answer_fits.specs.Twins.{Alike}
-use Rattle.frame_words.specs.Plain.{put}
+use Rattle.frame_words.specs.Plain.{put, stamp_now}
 use Rattle.kind_words.specs.Kinds.{live_kind, dead_kind, partial_kind}
 use Rattle.frame_types.specs.Standing.{standing_of}
+use Rattle.frame_types.specs.Taking.{work_kind}
 use Rattle.frame_types.specs.declared.standing.Standing.{Standing}
 use Rattle.frame_types.specs.declared.standing.Standing.TheVariants as stands
 use Rattle.frame_types.specs.declared.taking.Taken.{Taken}
@@ -94,14 +95,25 @@ TakesPlainly v w f want (Err e) = (type_stop f want (told_word v (Kind f)) ≡ S
 abbrev pub TwinTake : PortValue → PortValue → ℕ → PageType → Result Taken Stop → Type 0
 TwinTake v w f want answer = is_telling v ≡ true → TakesPlainly v w f want answer
 
+-- ---- a frame that came into work
+-- Behind the flush, or where none is awaited, the frame is live or in work without its mark; else it waits.
+abbrev pub GoesPlainly : PortValue → PortValue → ℕ → PageType → Bool → Bool → Taken → Type 0
+GoesPlainly v w f want marked own Counted = (is_read_first want ≡ false) × Alike (told_word w) (set_kind f (live_kind want (if own then 1 else 2)) (told_word v))
+GoesPlainly v w f want marked own (InWork progress mine) = (is_read_first want ≡ true) × (mine ≡ own) × Alike (told_word w) (set_kind f (work_kind want false 0) (told_word v))
+GoesPlainly v w f want marked own (Waiting mine stamp stop) = (marked ≡ true) × (mine ≡ own) × Alike (told_word w) (told_word v)
+
+abbrev pub TwinOn : PortValue → PortValue → ℕ → PageType → Bool → Bool → Taken → Type 0
+TwinOn v w f want marked own t =
+    is_telling v ≡ true → (marked ≡ false → told_word v (Kind f) ≡ kind_write (work_kind want false 0)) → GoesPlainly v w f want marked own t
+
 -- ---- ordinary memory
 -- the words where the flush was not to be had: refused, an own frame is dead with its mark; paused, it is partial with the
 -- reference in its `kept` mark; and one that another holder left partial is so again, and the reference given back
 abbrev pub given_up_by : ℕ → KindWord → Standing → Bool → Words → Words
 given_up_by f k s true m =
-    if is_own k s then put f (set_kind f (dead_kind Writable true 0) (less_kept f k s m)) else put f (set_kind f (partial_kind Writable 0 false) m)
+    if is_own k s then put f (set_kind f (dead_kind Writable true 0) (less_kept f k s m)) else put f (set_kind f (partial_kind Writable false true 0 0) m)
 given_up_by f k s false m =
-    if is_own k s then set_kind f (partial_kind Writable 0 true) (less_kept f k s m) else put f (set_kind f (partial_kind Writable 0 false) m)
+    if is_own k s then set_kind f (partial_kind Writable true true 0 0) (less_kept f k s m) else put f (set_kind f (partial_kind Writable false true 0 0) m)
 
 abbrev pub given_up : ℕ → Bool → Words → Words
 given_up f refused m = given_up_by f (kind_fields (m (Kind f))) (standing_of (kind_fields (m (Kind f))) Writable) refused m
@@ -118,4 +130,17 @@ TwinMemory v w f answer = is_telling v ≡ true → TakesMemory v w f answer
 -- a type is given back of a frame that holds no entries, and the reference with it
 abbrev pub dropped_plain : ℕ → PageType → Words → Words
 dropped_plain f kind m =
-    put f (if (kind_fields (m (Kind f))).number == 1 then set_kind f (dead_kind kind false (m Clock)) (change (Add one_down) (Kind f) m) else change (Add one_down) (Kind f) m)
+    put f (if (kind_fields (m (Kind f))).number == 1 then set_kind f (dead_kind kind false (stamp_now m)) (change (Add one_down) (Kind f) m) else change (Add one_down) (Kind f) m)
+
+-- a frame that waits is given up: the words after that
+abbrev pub is_refused : Stop → Bool
+is_refused (Refused x) = true
+is_refused (Paused x) = false
+
+abbrev pub left_waiting : ℕ → Bool → Bool → ℕ → Words → Words
+left_waiting f true true stamp m = put f (set_kind f (dead_kind Writable true (stamp_now m)) m)
+left_waiting f true false stamp m = set_kind f (partial_kind Writable true true 0 stamp) m
+left_waiting f false refused stamp m = put f (set_kind f (partial_kind Writable false true 0 stamp) m)
+
+abbrev pub TwinGiveUp : PortValue → PortValue → ℕ → Bool → ℕ → Stop → Type 0
+TwinGiveUp v w f own stamp stop = is_telling v ≡ true → Leaves w (left_waiting f own (is_refused stop) stamp (told_word v))

@@ -1,11 +1,14 @@
 -- Types that are taken and given back: what they leave in hand.
-use Rattle.std.specs.Prelude.{◌≡◌, ℕ, ◌<◌, ◌≤◌, if◌then◌else◌, Bool, true, false, List, [], ◌∷◌, length, Option, Some, None, Result, Ok, Err, IsTrue}
+use Rattle.std.specs.Prelude.{◌≡◌, ◌≢◌, ℕ, ◌<◌, ◌≤◌, if◌then◌else◌, Bool, true, false, List, [], ◌∷◌, length, Option, Some, None, Result, IfOk, IfErr, MatchResult, IsTrue}
 use Rattle.xp_words.specs.Machine.{Machine}
 use Rattle.xp_words.specs.Places.{sizes_of}
-use Rattle.xp_words.specs.KindWords.{kind_fields}
+use Rattle.xp_words.specs.KindWords.{is_kind, kind_fields, kind_write}
 use Rattle.xp_words.specs.PageTypes.{is_table}
 use Rattle.xp_words.specs.declared.kind.PageType.{PageType}
 use Rattle.xp_words.specs.declared.reply.Stop.{Stop}
+use Rattle.xp_words.specs.declared.reply.Stop.TheVariants.{Refused, Paused}
+use Rattle.xp_words.specs.declared.reply.Refusal.TheVariants as refusals
+use Rattle.xp_words.specs.declared.reply.Pause.TheVariants.{Busy, Flush, Lost}
 use Rattle.xp_board.specs.declared.holdings.Holdings.{Holdings}
 use Rattle.xp_board.specs.declared.holdings.Liveness.TheVariants.{Since}
 use Rattle.xp_board.specs.declared.holdings.OwnerFound.TheVariants as owners
@@ -15,10 +18,18 @@ use Rattle.xp_board.specs.declared.holdings.Work.{Work}
 use Rattle.xp_board.specs.Hands.{without_ref, without_typed, typed_to, work_on}
 use Rattle.xp_board.specs.Knowledge.{knows_live}
 use Rattle.xp_board.specs.KindSteps.{live_typed}
-use Rattle.xp_board.specs.Readings.{is_work}
+use Rattle.xp_board.specs.Readings.{domain_of, is_type, is_work}
 use Rattle.xp_board.specs.Told.{PortValue}
 use Rattle.step_maker.specs.Holds.{FlushedHolds, Same}
-use Rattle.answer_fits.specs.Answers.{Deed, Stops, missed}
+use Rattle.step_maker.specs.Moves.{Came, Met, Moves}
+use Rattle.frame_words.specs.Freeing.{gave}
+use Rattle.xp_board.specs.declared.step.Act.TheVariants.{Load}
+use Rattle.xp_board.specs.declared.step.StepKind.TheVariants as kinds
+use Rattle.xp_words.specs.declared.place.Place.TheVariants.{Kind}
+use Rattle.xp_words.specs.declared.kind.KindWord.{KindWord}
+use Rattle.xp_words.specs.declared.kind.PageType.TheVariants.{Writable}
+use Rattle.answer_fits.specs.Answers.{Deed, Serves, Stops, misses}
+use Rattle.answer_fits.specs.Reasons.{Awaited}
 use Rattle.answer_fits.specs.Asked.{of_frame}
 use Rattle.flush_waits.specs.Waiting.{IsFlushed, IsWait}
 use Rattle.frame_types.specs.declared.taking.Taken.{Taken}
@@ -28,6 +39,10 @@ use Rattle.frame_types.specs.declared.taking.Taken.TheVariants.{Counted, InWork,
 pub record LentBy (f owner : ℕ) (h : Holdings) : Type 0 where
   pub others : List Reference
   pub refs : h.refs ≡ record { frame = f; owner = owners.Of owner } ∷ others
+
+-- a frame that it works on itself is of another type
+abbrev pub IsOfOther : ℕ → PageType → Holdings → Type 0
+IsOfOther f want h = (e : Work) → work_on f h.works ≡ Some e → is_type (kind_fields e.word).kind want ≡ false
 
 -- an untyped reference became a typed one, known live
 abbrev pub typed_as : ℕ → ℕ → PageType → Holdings → Holdings
@@ -67,13 +82,22 @@ pub record WaitsWith (v w : PortValue) (f owner : ℕ) (want : PageType) (own : 
 
 abbrev pub TakesAs : PortValue → PortValue → ℕ → ℕ → PageType → Taken → Type 0
 TakesAs v w f owner want Counted = FlushedHolds v w (typed_as f owner want v.holdings)
-TakesAs v w f owner want (InWork progress own) = WorksFrom v w f owner want progress own
+TakesAs v w f owner want (InWork progress own) = (want ≢ Writable) × WorksFrom v w f owner want progress own
 TakesAs v w f owner want (Waiting own stamp stop) = WaitsWith v w f owner want own stamp
 
 -- why the flush is not to be had
 abbrev pub ShowsWait : PortValue → PortValue → ℕ → ℕ → PageType → Taken → Type 0
 ShowsWait v w f owner want (Waiting own stamp stop) = IsWait stop × Stops v w (of_frame f owner (Some want)) stop
 ShowsWait v w f owner want _ = Unit {0}
+
+-- ---- why a type is not to be had
+abbrev pub IsTypeStop : Stop → Type 0
+IsTypeStop (Refused (refusals.OtherType f want found)) = Unit {0}
+IsTypeStop (Refused (refusals.Clock found)) = Unit {0}
+IsTypeStop (Paused (Lost place expected found)) = Unit {0}
+IsTypeStop (Paused (Busy f found)) = Unit {0}
+IsTypeStop (Paused (Flush vcpu stamp found)) = Unit {0}
+IsTypeStop _ = ⊥
 
 -- ---- given back
 -- the frame is known live by a typed reference in hand, and is no table
@@ -86,3 +110,107 @@ pub record MayDropPlain (n : Machine) (f : ℕ) (kind : PageType) (h : Holdings)
 -- a typed reference went out of the hand
 abbrev pub untyped : ℕ → Holdings → Holdings
 untyped f h = record h { typed = without_typed f h.typed }
+
+-- ---- between the steps
+-- a look found that word, before any other step of the call
+pub record Looked (b v : PortValue) (f owner : ℕ) (want : PageType) (word : ℕ) : Type 0 where
+  pub look : Moves b v (Kind f) Load kinds.Look None word
+  pub same : Same b v
+  pub frame : f < b.post.machine.frames
+  pub lent : LentBy f owner b.holdings
+  pub aside : work_on f b.holdings.works ≡ None → typed_to f b.holdings.typed ≡ 0
+  pub other : IsOfOther f want b.holdings
+  pub looked : b.holdings.looking ≡ []
+
+abbrev pub IsLooked : PortValue → ℕ → ℕ → PageType → ℕ → Type 0
+IsLooked v f owner want word = (b : PortValue) × Looked b v f owner want word
+
+-- what the call ensures
+pub record Takes (v w : PortValue) (f owner : ℕ) (want : PageType) (answer : Result Taken Stop) : Type 0 where
+  pub serves : Serves v w (of_frame f owner (Some want)) (misses v.post.machine answer)
+  pub stops : IfErr answer (λ e. Stops v w (of_frame f owner (Some want)) e)
+  pub kinds : IfErr answer IsTypeStop
+  pub waits : IfOk answer (λ t. ShowsWait v w f owner want t)
+  pub hand : MatchResult answer (λ t. TakesAs v w f owner want t) (λ e. Same v w)
+
+-- the word of a frame in work for that type
+abbrev pub work_kind : PageType → Bool → ℕ → KindWord
+work_kind want unflushed number =
+    record {
+      kind = want;
+      pinned = false;
+      validated = false;
+      partial = false;
+      locked = true;
+      kept = false;
+      unflushed = unflushed;
+      progress = 0;
+      number = number;
+    }
+
+-- the stamp of a word that is marked
+abbrev pub stamp_by : Bool → KindWord → ℕ
+stamp_by marked k = if marked then k.number else 0
+
+-- how many entries are recorded of a frame that is partial
+abbrev pub progress_of : KindWord → ℕ
+progress_of k = if k.partial then k.progress else 0
+
+-- From b to v the frame came into the own works, and nothing else changed in hand.
+pub record Enters (b v : PortValue) (f owner : ℕ) (want : PageType) (marked : Bool) (stamp progress : ℕ) (own : Bool) : Type 0 where
+  pub work : Work
+  pub since : ℕ
+  pub frame : work.frame ≡ f
+  pub word : work.word ≡ kind_write (work_kind want marked stamp)
+  pub spelled : IsTrue (is_kind (work_kind want marked stamp))
+  pub recorded : work.recorded ≡ progress
+  pub none : marked ≡ true → progress ≡ 0
+  pub earlier : work.since ≤ length v.holdings.steps
+  pub hand : FlushedHolds b v (working f owner want own work since b.holdings)
+  pub lent : LentBy f owner b.holdings
+  pub aside : typed_to f b.holdings.typed ≡ 0
+
+abbrev pub HasEntered : PortValue → ℕ → ℕ → PageType → Bool → KindWord → Bool → Type 0
+HasEntered v f owner want marked k own = (b : PortValue) × Enters b v f owner want marked (stamp_by marked k) (progress_of k) own
+
+-- the flush that a marked frame waits for is one that a piece from u to v awaits
+abbrev pub AwaitedThere : PortValue → PortValue → ℕ → ℕ → PageType → Bool → ℕ → Type 0
+AwaitedThere u v f owner want marked stamp = marked ≡ true → Awaited v.post.machine v.post.vcpu (of_frame f owner (Some want)) (Met u v) (Some owner) stamp
+
+-- Behind any steps for that type which await the flush, those from v to w serve it too; and they show there why it waits.
+abbrev pub ServesOn : PortValue → PortValue → ℕ → ℕ → PageType → Bool → ℕ → Type 0
+ServesOn v w f owner want marked stamp =
+    (u : PortValue) (ds : List Deed) → Serves u v (of_frame f owner (Some want)) ds → AwaitedThere u v f owner want marked stamp → Serves u w (of_frame f owner (Some want)) ds
+
+abbrev pub WaitsOn : PortValue → PortValue → ℕ → ℕ → PageType → Bool → ℕ → Taken → Type 0
+WaitsOn v w f owner want marked stamp t =
+    (u : PortValue) → Came u v → AwaitedThere u v f owner want marked stamp → ShowsWait u w f owner want t
+
+-- the hand, from wherever the frame came into the own works
+abbrev pub HoldsOn : PortValue → PortValue → ℕ → ℕ → PageType → Bool → KindWord → Bool → Taken → Type 0
+HoldsOn v w f owner want marked k own t =
+    (b : PortValue) → Enters b v f owner want marked (stamp_by marked k) (progress_of k) own → TakesAs b w f owner want t
+
+-- what is known where a frame is done: it does not wait
+abbrev pub IsDone : Taken → Type 0
+IsDone (Waiting own stamp stop) = ⊥
+IsDone _ = Unit {0}
+
+-- ---- ordinary memory that waits
+-- From b to v a frame of the own domain came into the own works, and waits there. From b on it was held by the untyped reference alone.
+pub record WaitsIn (b v : PortValue) (f owner : ℕ) (own : Bool) (stamp : ℕ) : Type 0 where
+  pub waits : WaitsWith b v f owner Writable own stamp
+  pub lent : LentBy f owner b.holdings
+  pub domain : owner ≡ domain_of v.post.machine v.post.vcpu
+
+abbrev pub IsWaiting : PortValue → ℕ → Bool → ℕ → Type 0
+IsWaiting v f own stamp = (b : PortValue) × (owner : ℕ) × WaitsIn b v f owner own stamp
+
+-- behind steps for the frame, those from v to w serve it too
+abbrev pub ServesMemory : PortValue → PortValue → ℕ → Type 0
+ServesMemory v w f =
+    (u : PortValue) (owner : ℕ) (ds : List Deed) → Serves u v (of_frame f owner (Some Writable)) ds → Serves u w (of_frame f owner (Some Writable)) ds
+
+-- from wherever the frame came into the own works, the untyped reference went out of the hand
+abbrev pub GivesUp : PortValue → PortValue → ℕ → Bool → ℕ → Type 0
+GivesUp v w f own stamp = (b : PortValue) (owner : ℕ) → WaitsIn b v f owner own stamp → FlushedHolds b w (gave f b.holdings)

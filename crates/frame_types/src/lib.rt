@@ -5,6 +5,7 @@ mod memory;
 mod plain;
 mod standing;
 mod taking;
+mod words;
 
 pub use memory::take_writable;
 pub use plain::drop_plain;

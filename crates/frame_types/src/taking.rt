@@ -1,14 +1,21 @@
 //! Frames that are taken for a type.
-ghost use Rattle.std.specs.Prelude.{◌≡◌, ◌<◌, [], not, None, Some, IfOk, IfErr, MatchResult, IsTrue};
+ghost use Rattle.std.specs.Prelude.{◌≡◌, ◌<◌, List, [], true, not, None, Some, IfOk, IfErr, MatchResult, IsTrue};
+ghost use Rattle.xp_words.specs.Places.{number, sizes_of};
+ghost use Rattle.xp_words.specs.declared.place.Place.TheVariants.{Kind};
+ghost use Rattle.xp_words.specs.declared.reply.Pause.TheVariants.{Lost};
+ghost use Rattle.xp_words.specs.declared.reply.Stop.TheVariants.{Paused};
+ghost use Rattle.xp_board.specs.Told.{PortValue};
 ghost use Rattle.xp_words.specs.PageTypes.{is_none};
 ghost use Rattle.xp_board.specs.Hands.{work_on, typed_to};
 ghost use Rattle.step_maker.specs.Holds.{MayWork, Same};
-ghost use Rattle.answer_fits.specs.Answers.{Serves, Stops, misses};
+ghost use Rattle.answer_fits.specs.Answers.{Deed, Serves, Stops, misses};
 ghost use Rattle.answer_fits.specs.Asked.{of_frame};
-ghost use Rattle.frame_types.specs.Plain.{TwinTake};
-ghost use Rattle.frame_types.specs.Taking.{LentBy, ShowsWait, TakesAs};
+ghost use Rattle.flush_waits.specs.Waiting.{IsFlushed};
+ghost use Rattle.frame_types.specs.Plain.{TwinOn, TwinTake};
+ghost use Rattle.frame_types.specs.Taking.{HasEntered, HoldsOn, IsDone, IsLooked, IsOfOther, IsTypeStop, LentBy, Looked, ServesOn, ShowsWait, Takes, TakesAs, WaitsOn};
 
 use crate::standing::{Standing, classify, read_kind};
+use crate::words::{counts, is_read_first, live_kind, progress_of, work_kind};
 use flush_waits::clear_stale;
 use frame_words::put_ref;
 use kind_words::{begin_work, count_type, is_stale_for, leave, look_kind, resume_work};
@@ -29,37 +36,68 @@ pub enum Taken {
 
 /// Takes a frame for the type `want`, under the untyped reference in hand. A frame that was of another type, or is marked,
 /// is flushed first. What is read before it is live (a table, a descriptor page) comes into the own works. A refusal or a
-/// pause leaves the reference in hand.
-pub fn take_type<P: Port>(port: &mut P, frame: u32, owner: u16, want: PageType) -> Result<Taken, Stop>
+/// pause leaves the reference in hand. A frame that the vCPU works on itself is to be of another type.
+pub fn take_type<P: Port>(
+    port: &mut P,
+    frame: u32,
+    owner: u16,
+    want: PageType,
+) -> Result<Taken, Stop>
     requires frame { frame < (P.value port.old).post.machine.frames }
     requires may { MayWork (P.value port.old) }
     requires wanted { IsTrue (not (is_none want)) }
     requires lent { LentBy frame owner (P.value port.old).holdings }
     requires aside { work_on frame (P.value port.old).holdings.works ≡ None → typed_to frame (P.value port.old).holdings.typed ≡ 0 }
+    requires other { IsOfOther frame want (P.value port.old).holdings }
     requires looked { (P.value port.old).holdings.looking ≡ [] }
     ensures serves { Serves (P.value port.old) (P.value port.new) (of_frame frame owner (Some want)) (misses (P.value port.old).post.machine result) }
     ensures stops { IfErr result (λ e. Stops (P.value port.old) (P.value port.new) (of_frame frame owner (Some want)) e) }
+    ensures kinds { IfErr result IsTypeStop }
     ensures waits { IfOk result (λ t. ShowsWait (P.value port.old) (P.value port.new) frame owner want t) }
     ensures hand { MatchResult result (λ t. TakesAs (P.value port.old) (P.value port.new) frame owner want t) (λ _. Same (P.value port.old) (P.value port.new)) }
     ensures plain { TwinTake (P.value port.old) (P.value port.new) frame want result }
 {
     let word = look_kind(port, frame);
+    take_found(port, frame, owner, want, word)
+}
+
+// The same, where a look just found that kind word.
+fn take_found<P: Port>(
+    port: &mut P,
+    frame: u32,
+    owner: u16,
+    want: PageType,
+    word: u64,
+) -> Result<Taken, Stop>
+    requires frame { frame < (P.value port.old).post.machine.frames }
+    requires may { MayWork (P.value port.old) }
+    requires wanted { IsTrue (not (is_none want)) }
+    requires looked { IsLooked (P.value port.old) frame owner want word }
+    ensures takes { (b : PortValue) → Looked b (P.value port.old) frame owner want word → Takes b (P.value port.new) frame owner want result }
+    ensures plain { (b : PortValue) → Looked b (P.value port.old) frame owner want word → TwinTake b (P.value port.new) frame want result }
+{
     let kind = read_kind(word);
     match classify(kind, want) {
         Standing::Counted => match count_type(port, frame, kind) {
             Ok(()) => Ok(Taken::Counted),
             Err(found) => Err(lost(port, frame, word, found)),
         },
-        Standing::Dead => match begin_work(port, frame, kind, want) {
-            Ok(()) => Ok(go_on(port, frame, owner, want, is_stale_for(kind, want), kind, true)),
-            Err(found) => Err(lost(port, frame, word, found)),
-        },
+        Standing::Dead => {
+            let marked = is_stale_for(kind, want);
+            match begin_work(port, frame, kind, want) {
+                Ok(()) => Ok(go_on(port, frame, owner, want, marked, kind, true)),
+                Err(found) => Err(lost(port, frame, word, found)),
+            }
+        }
         Standing::Partial => match resume_work(port, frame, kind) {
             Ok(()) => {
+                let marked = kind.unflushed;
                 if kind.kept {
                     put_ref(port, frame);
+                    Ok(go_on(port, frame, owner, want, marked, kind, true))
+                } else {
+                    Ok(go_on(port, frame, owner, want, marked, kind, false))
                 }
-                Ok(go_on(port, frame, owner, want, kind.unflushed, kind, kind.kept))
             }
             Err(found) => Err(lost(port, frame, word, found)),
         },
@@ -69,5 +107,89 @@ pub fn take_type<P: Port>(port: &mut P, frame: u32, owner: u16, want: PageType) 
             want,
             found: word,
         })),
+    }
+}
+
+// An exchange of the kind word found another one than was expected.
+fn lost<P: Port>(port: &P, frame: u32, expected: u64, found: u64) -> Stop
+    requires { frame < (P.value port.now).post.machine.frames }
+    ensures { result ≡ Paused (Lost (number (sizes_of (P.value port.now).post.machine) (Kind frame)) expected found) }
+{
+    let place = port.layout().place(Place::Kind { frame });
+    Stop::Paused(Pause::Lost {
+        place,
+        expected,
+        found,
+    })
+}
+
+// Goes on with a frame that has come into the own works. `marked`: it waits for flushes. `kind`: what its word said before.
+// `own`: its type count is in hand.
+fn go_on<P: Port>(
+    port: &mut P,
+    frame: u32,
+    owner: u16,
+    want: PageType,
+    marked: bool,
+    kind: KindWord,
+    own: bool,
+) -> Taken
+    requires frame { frame < (P.value port.old).post.machine.frames }
+    requires may { MayWork (P.value port.old) }
+    requires wanted { IsTrue (not (is_none want)) }
+    requires enters { HasEntered (P.value port.old) frame owner want marked kind own }
+    ensures serves { ServesOn (P.value port.old) (P.value port.new) frame owner want marked kind.number }
+    ensures waits { WaitsOn (P.value port.old) (P.value port.new) frame owner want marked kind.number result }
+    ensures hand { HoldsOn (P.value port.old) (P.value port.new) frame owner want marked kind own result }
+    ensures plain { TwinOn (P.value port.old) (P.value port.new) frame want marked own result }
+{
+    if marked {
+        match clear_stale(port, frame, owner, kind.number) {
+            Ok(()) => finish(port, frame, owner, want, marked, kind, own),
+            Err(stop) => Taken::Waiting {
+                own,
+                stamp: kind.number,
+                stop,
+            },
+        }
+    } else {
+        finish(port, frame, owner, want, marked, kind, own)
+    }
+}
+
+// Makes a frame in the own works live, or takes its mark off where it is read first. Behind its flush, where it is marked.
+fn finish<P: Port>(
+    port: &mut P,
+    frame: u32,
+    owner: u16,
+    want: PageType,
+    marked: bool,
+    kind: KindWord,
+    own: bool,
+) -> Taken
+    requires frame { frame < (P.value port.old).post.machine.frames }
+    requires may { MayWork (P.value port.old) }
+    requires wanted { IsTrue (not (is_none want)) }
+    requires enters { HasEntered (P.value port.old) frame owner want marked kind own }
+    requires past { marked ≡ true → IsFlushed (P.value port.old).post.machine frame (P.value port.old).holdings }
+    ensures serves { (u : PortValue) (ds : List Deed) → Serves u (P.value port.old) (of_frame frame owner (Some want)) ds → Serves u (P.value port.new) (of_frame frame owner (Some want)) ds }
+    ensures done { IsDone result }
+    ensures hand { HoldsOn (P.value port.old) (P.value port.new) frame owner want marked kind own result }
+    ensures plain { TwinOn (P.value port.old) (P.value port.new) frame want marked own result }
+{
+    if !is_read_first(want) {
+        leave(port, frame, live_kind(want, counts(own)));
+        Taken::Counted
+    } else if marked {
+        leave(port, frame, work_kind(want));
+        Taken::InWork {
+            progress: progress_of(kind),
+            own,
+        }
+    } else {
+        Taken::InWork {
+            progress: progress_of(kind),
+            own,
+        }
     }
 }
