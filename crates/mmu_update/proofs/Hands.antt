@@ -1,19 +1,17 @@
 -- The hand of a write: a reference that becomes a typed one, and both given back.
-use Rattle.std.proofs.Common.{◌≡◌, ℕ, ◌<◌, List, [], ◌∷◌, None, refl, ap, ◌∙◌, subst}
-use Rattle.xp_words.specs.Machine.{IsMachine, Machine}
+use Rattle.std.proofs.Common.{◌≡◌, ℕ, List, [], None, refl, ap, ◌∙◌}
 use Rattle.xp_words.specs.declared.kind.PageType.TheVariants.{Writable}
 use Rattle.xp_board.specs.declared.holdings.Claimed.{Claimed}
-use Rattle.xp_board.specs.declared.holdings.Holdings.{Holdings}
 use Rattle.xp_board.specs.declared.holdings.Lock.{Lock}
 use Rattle.xp_board.specs.declared.holdings.OwnerFound.TheVariants as owners
 use Rattle.xp_board.specs.declared.holdings.Reference.{Reference}
 use Rattle.xp_board.specs.declared.holdings.TypedReference.{TypedReference}
 use Rattle.xp_board.specs.declared.holdings.Work.{Work}
-use Rattle.xp_board.specs.Hands.{IsEmptyHand, typed_to, work_on}
+use Rattle.xp_board.specs.Hands.{typed_to, work_on}
 use Rattle.xp_board.specs.KindSteps.{live_typed}
 use Rattle.xp_board.specs.Lists.{first_by, times_by}
 use Rattle.xp_board.specs.Told.{PortValue}
-use Rattle.step_maker.specs.Holds.{FlushedHolds, FlushedSame, Holds, MayWork, Rests, Same, quiet}
+use Rattle.step_maker.specs.Holds.{FlushedHolds, FlushedSame, Holds, Rests, Same, quiet}
 use Rattle.frame_words.specs.Cells.{IsApart, MayWrite}
 use Rattle.frame_words.specs.Freeing.{gave}
 use Rattle.frame_words.specs.Refs.{took}

@@ -1,5 +1,5 @@
 -- A write on a board that tells all words.
-use Rattle.std.proofs.Common.{◌≡◌, ℕ, true, false, List, [], Option, Some, None, Result, Ok, Err, refl, sym, ap, ◌∙◌, subst}
+use Rattle.std.proofs.Common.{◌≡◌, ℕ, true, false, Option, None, Result, Ok, Err, sym, ◌∙◌, subst}
 use Rattle.xp_words.specs.declared.kind.PageType.TheVariants.{Writable}
 use Rattle.xp_words.specs.declared.place.Place.TheVariants.{Cell, Refs}
 use Rattle.xp_words.specs.declared.reply.Pause.TheVariants.{Flush}
@@ -18,7 +18,7 @@ use Rattle.step_maker.specs.Plain.{Leaves, Words, change}
 use Rattle.step_maker.proofs.Telling.{leaves, moves_telling}
 use Rattle.answer_fits.specs.Twins.{Alike}
 use Rattle.answer_fits.proofs.Alikes.{alike_store}
-use Rattle.frame_words.specs.Plain.{TwinGet, got, refer}
+use Rattle.frame_words.specs.Plain.{TwinGet, got}
 use Rattle.frame_types.specs.Plain.{TakesMemory, TwinMemory, dropped_plain, taken}
 use Rattle.frame_types.specs.declared.taking.Taken.TheVariants.{Counted}
 use Rattle.frame_types.proofs.Alike.{dropped_alike}

@@ -1,7 +1,5 @@
 -- The steps of a write: those of its calls, one behind the other, and why it stops.
-use Rattle.std.proofs.Common.{◌≡◌, ℕ, ◌&&◌, not, is_some, if◌then◌else◌, true, List, [], ◌∷◌, ◌++◌, Some, None, refl, sym, ap, ◌∙◌, subst, append-nil}
-use Rattle.xp_words.specs.Machine.{Machine}
-use Rattle.xp_words.specs.declared.kind.PageType.{PageType}
+use Rattle.std.proofs.Common.{◌≡◌, ℕ, not, List, [], ◌∷◌, ◌++◌, Some, None, refl, subst, append-nil}
 use Rattle.xp_words.specs.declared.kind.PageType.TheVariants.{Writable}
 use Rattle.xp_words.specs.declared.place.Place.TheVariants.{Cell}
 use Rattle.xp_words.specs.declared.reply.Stop.{Stop}
@@ -16,8 +14,7 @@ use Rattle.board_lemmas.proofs.Sums.{when_eq}
 use Rattle.step_maker.specs.Moves.{Met, Moves}
 use Rattle.step_maker.proofs.Coming.{came_post}
 use Rattle.answer_fits.specs.Answers.{Deed, Serves, Stops, Writes, deeds_by, missed}
-use Rattle.answer_fits.specs.Asked.{Asked, Within, named, of_back, of_frame}
-use Rattle.answer_fits.specs.Finding.{Finding}
+use Rattle.answer_fits.specs.Asked.{Within, named, of_back, of_frame}
 use Rattle.answer_fits.proofs.Later.{IsUncounted, stops_then}
 use Rattle.answer_fits.proofs.Piecing.{serves_back, serves_came, serves_step, serves_then, serves_within, stops_within, within_frame}
 use Rattle.frame_words.specs.Cells.{IsApart}
