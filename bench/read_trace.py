@@ -1,24 +1,24 @@
 #!/usr/bin/env python3
-"""How long the program takes to read a long trace, beside a plain C loop over the same bytes.
+"""How long the program takes to read a trace, beside a plain C loop over the same bytes.
 
     python3 bench/read_trace.py [PROGRAM] [--runs N]
 
-PROGRAM is the built program, by default crates/ptmac/out/ptmac, where `rt run` leaves it.
-The trace has 32 MiB: cells, and operations with long lists, all well formed and within the limits. It has no
-`turn` line, so next to nothing is run. The C loop reads the same bytes and adds up the numbers of each line; it checks
-nothing and keeps nothing. Both are run N times in turn, and the medians are compared. Nothing is kept afterwards.
+Three traces are read, all well formed and within the limits: short lines (60,000 operations of one pair), long lines
+(32 MiB in operations of 500 pairs), and mixed ones (32 MiB of cells and of operations with some numbers each). None has a
+`turn` line, so next to nothing is run. The C loop reads the same bytes and adds up the numbers; it checks
+nothing and keeps nothing. Both are run N times in turn, and the least times are compared. Nothing is kept afterwards.
 """
 import argparse
 import os
 import random
-import statistics
-import subprocess
-import sys
 import tempfile
-import time
+
+import timing
 
 BYTES = 32 * 1024 * 1024
 OPERATIONS = 60_000
+HEAD = "xen-pv-trace 1\nframes 64\ndomain 64\nvcpu 0\nvcpu 0\nown 0 0 64\n"
+END = "end\n"
 
 C_LOOP = r"""
 #include <stdint.h>
@@ -75,66 +75,44 @@ def operation_line(rng):
     return f"op {rng.randrange(2)} multi {calls}\n"
 
 
-def write_trace(path):
-    """Writes a trace of BYTES bytes, or a few less, and returns how many."""
+def short_trace():
+    return HEAD + "".join(f"op 0 mmu 0x7ff0 {k % 4096 * 4096 + 1} {k}\n" for k in range(OPERATIONS)) + END
+
+
+def long_trace():
+    line = "op 0 mmu 0x7ff0 " + " ".join(f"{k * 4096 + 1} {k}" for k in range(500)) + "\n"
+    return HEAD + line * ((BYTES - len(HEAD) - len(END)) // len(line)) + END
+
+
+def mixed_trace():
     rng = random.Random(1)
-    head = "xen-pv-trace 1\nframes 64\ndomain 64\nvcpu 0\nvcpu 0\nown 0 0 64\n"
-    operations = [operation_line(rng) for _ in range(OPERATIONS)]
-    left = BYTES - len(head) - sum(map(len, operations)) - len("end\n")
+    operations = "".join(operation_line(rng) for _ in range(OPERATIONS))
+    left = BYTES - len(HEAD) - len(operations) - len(END)
     cells = []
-    while True:
-        line = cell_line(rng)
-        if len(line) > left:
-            break
+    while len(line := cell_line(rng)) <= left:
         cells.append(line)
         left -= len(line)
-    text = head + "".join(cells) + "".join(operations) + "end\n"
-    assert len(text) <= BYTES
-    with open(path, "w", encoding="ascii") as out:
-        out.write(text)
-    return len(text)
-
-
-def timed(command, trace):
-    """Seconds and standard output of one run over the trace."""
-    with open(trace, "rb") as source:
-        begin = time.perf_counter()
-        run = subprocess.run(command, stdin=source, stdout=subprocess.PIPE, check=False)
-        seconds = time.perf_counter() - begin
-    if run.returncode != 0:
-        sys.exit(f"{command[0]} ended with status {run.returncode}: {run.stdout[:200]!r}")
-    return seconds, run.stdout
+    return HEAD + "".join(cells) + operations + END
 
 
 def main():
-    top = os.path.dirname(os.path.dirname(os.path.abspath(__file__)))
-    parser = argparse.ArgumentParser(description="Times the reading of a long trace.")
-    parser.add_argument("program", nargs="?", default=os.path.join(top, "crates", "ptmac", "out", "ptmac"))
-    parser.add_argument("--runs", type=int, default=5)
+    parser = argparse.ArgumentParser(description="Times the reading of traces.")
+    timing.add_arguments(parser)
     arguments = parser.parse_args()
-    if not os.path.exists(arguments.program):
-        sys.exit(f"{arguments.program} is not there; build it with: "
-                 "(cd crates/ptmac && rt run -- turns < ../../examples/first-update.trace)")
+    timing.must_be_there(arguments.program)
     with tempfile.TemporaryDirectory() as folder:
-        trace = os.path.join(folder, "long.trace")
-        size = write_trace(trace)
-        source, loop = os.path.join(folder, "loop.c"), os.path.join(folder, "loop")
-        with open(source, "w", encoding="ascii") as out:
-            out.write(C_LOOP)
-        subprocess.run(["gcc", "-O2", "-o", loop, source], check=True)
-        program_times, loop_times = [], []
-        for _ in range(arguments.runs):
-            seconds, report = timed([arguments.program, "turns"], trace)
-            if not report.endswith(b"\nend\n"):
-                sys.exit("the program printed no whole report")
-            program_times.append(seconds)
-            seconds, counted = timed([loop], trace)
-            loop_times.append(seconds)
-        program, plain = statistics.median(program_times), statistics.median(loop_times)
-        print(f"trace    {size} bytes, {counted.decode().strip()}")
-        print(f"program  {program:.3f} s  ({size / program / 1e6:.0f} MB/s)")
-        print(f"C loop   {plain:.3f} s  ({size / plain / 1e6:.0f} MB/s)")
-        print(f"ratio    {program / plain:.2f}")
+        loop = timing.compiled(folder, "loop", C_LOOP)
+        for name, text in [("short", short_trace()), ("long", long_trace()), ("mixed", mixed_trace())]:
+            trace = os.path.join(folder, name + ".trace")
+            with open(trace, "w", encoding="ascii") as out:
+                out.write(text)
+            if not timing.output([arguments.program, "turns"], trace).endswith(b"\nend\n"):
+                raise SystemExit("the program printed no whole report")
+            counted = timing.output([loop], trace).decode().strip()
+            program, plain = timing.least(arguments.runs, os.devnull, ([arguments.program, "turns"], trace), ([loop], trace))
+            print(f"{name:5}  {len(text)} bytes, {counted}")
+            print(f"       program {program * 1e3:6.1f} ms ({len(text) / program / 1e6:.0f} MB/s), "
+                  f"C loop {plain * 1e3:6.1f} ms ({len(text) / plain / 1e6:.0f} MB/s), ratio {program / plain:.2f}")
 
 
 if __name__ == "__main__":

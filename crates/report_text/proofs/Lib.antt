@@ -1,2 +1,3 @@
 mod Ranges
 pub mod Blocks
+pub mod HexDigits

@@ -3,6 +3,7 @@
 
 mod log;
 mod memory;
+mod numbers;
 mod whole;
 mod words;
 

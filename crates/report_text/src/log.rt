@@ -1,10 +1,11 @@
-ghost use Rattle.std.specs.Prelude.{◌≡◌, ◌++◌, Some, OnOk, string_bytes};
-ghost use Rattle.report_text.specs.LogTexts.{refusal_number, refusal_text, step_text, log_line, log_lines};
+ghost use Rattle.std.specs.Prelude.{◌≡◌, ◌++◌, Some, OnOk, string_bytes, codes};
+ghost use Rattle.report_text.specs.LogTexts.{refusal_number, refusal_text, step_text, answer_text, log_line, log_lines};
 
+use crate::numbers::{put_hex_digits, put_number};
 use crate::words::{KindText, RefText, TypeText};
 use std::alloc::AllocError;
 use std::fmt;
-use xp_words::{LogLine, Refusal};
+use xp_words::{LogLine, Refusal, Reply};
 
 fn number(refusal: Refusal) -> u8
     ensures { result ≡ refusal_number refusal }
@@ -109,25 +110,39 @@ impl fmt::Display for RefusalText {
     }
 }
 
-/// The operation and the call of a line; call 0 is the operation itself.
-#[derive(Clone, Copy)]
-struct StepText {
-    op: u32,
-    call: u32,
+// The operation and the call of a line; call 0 is the operation itself.
+#[tactic(auto, unfolding(crate::specs::LogTexts::step_text))]
+fn put_step(out: &mut String, op: u32, call: u32) -> Result<(), AllocError>
+    ensures { OnOk result (string_bytes out.new ≡ string_bytes out.old ++ step_text op call) }
+{
+    out.push_str("op ")?;
+    put_number(out, u64::from(op))?;
+    if call == 0 {
+        return Ok(());
+    }
+    out.push_str(" call ")?;
+    put_number(out, u64::from(call))
 }
 
-#[tactic(auto, unfolding(crate::specs::LogTexts::step_text))]
-impl fmt::Display for StepText {
-    ghost output = { λ s. Some (step_text s.op s.call) };
-
-    fn fmt<W: fmt::Write>(&self, f: &mut fmt::Formatter<W>) -> fmt::Result {
-        let op = self.op;
-        let call = self.call;
-        if call == 0 {
-            write!(f, "op {op}")
-        } else {
-            write!(f, "op {op} call {call}")
+// How an operation or a call ended. Most answers have no refusal, and a push takes less time than a format.
+fn put_answer(out: &mut String, reply: Reply) -> Result<(), AllocError>
+    ensures { OnOk result (string_bytes out.new ≡ string_bytes out.old ++ (answer_text reply.done reply.value reply.refusal ++ codes "\n")) }
+{
+    let done = reply.done;
+    match reply.refusal {
+        None => {
+            out.push_str(" ok done ")?;
+            put_number(out, u64::from(done))?;
+            out.push_str(" value 0x")?;
+            put_hex_digits(out, reply.value)?;
+            out.push_str("\n")
         }
+        Some(refusal) => writeln!(
+            out,
+            " refused {} done {done} {}",
+            number(refusal),
+            RefusalText(refusal)
+        ),
     }
 }
 
@@ -137,18 +152,8 @@ fn put_line(out: &mut String, line: LogLine) -> Result<(), AllocError>
 {
     match line {
         LogLine::Answer { op, call, reply } => {
-            let step = StepText { op, call };
-            let done = reply.done;
-            let value = reply.value;
-            match reply.refusal {
-                None => writeln!(out, "{step} ok done {done} value 0x{value:x}"),
-                Some(refusal) => writeln!(
-                    out,
-                    "{step} refused {} done {done} {}",
-                    number(refusal),
-                    RefusalText(refusal)
-                ),
-            }
+            put_step(out, op, call)?;
+            put_answer(out, reply)
         }
         LogLine::Given {
             op,
@@ -156,8 +161,8 @@ fn put_line(out: &mut String, line: LogLine) -> Result<(), AllocError>
             extent,
             frame,
         } => {
-            let step = StepText { op, call };
-            writeln!(out, "{step} given {extent} {frame}")
+            put_step(out, op, call)?;
+            writeln!(out, " given {extent} {frame}")
         }
         LogLine::Left { op, frame, found } => writeln!(
             out,

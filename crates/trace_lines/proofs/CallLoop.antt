@@ -5,10 +5,10 @@ use Rattle.xp_words.specs.declared.ops.Call.{Call}
 use Rattle.trace_lines.specs.declared.fault.LineFault.{LineFault}
 use Rattle.trace_lines.specs.declared.fault.LineError.{LineError}
 use Rattle.trace_lines.specs.declared.fault.LineError.TheVariants as errors
-use Rattle.trace_lines.specs.Steps.{◌>>=◌, Fails}
+use Rattle.trace_lines.specs.Steps.{◌>>=◌, with_front, Fails}
 use Rattle.trace_lines.specs.Words.{is_separator, each}
 use Rattle.trace_lines.specs.Grammar.{call_of, calls_of}
-use Rattle.trace_lines.proofs.ListLoop.{with_front, regroup}
+use Rattle.trace_lines.proofs.ListLoop.{regroup}
 
 abbrev before : Result (List Call) LineFault → Call → Result (List Call) LineFault
 before r call = with_front (call ∷ []) r

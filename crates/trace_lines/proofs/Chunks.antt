@@ -1,24 +1,8 @@
--- Numbers that are cut into pairs and triples.
+-- Numbers that are cut into triples.
 use Rattle.std.proofs.Common.{◌≡◌, ℕ, zero, suc, ◌+◌, ◌*◌, ◌<◌, ◌/◌, ◌%◌, List, [], ◌∷◌, length, map, Ok, Err, refl, arith}
 use Rattle.std.specs.Simd.{first_chunks}
 use Rattle.trace_lines.specs.Steps.{bad_line}
-use Rattle.trace_lines.specs.Grammar.{pair_from, triple_from, pairs_from, triples_from}
-
-pairs_even_by : (ns : List ℕ) (k : ℕ) → length ns ≡ 2 * k → pairs_from ns ≡ Ok (map pair_from (first_chunks 2 k ns))
-unfolding pairs_from
-pairs_even_by [] zero e = refl
-pairs_even_by [] (suc k) e = absurd (omega (arith, e))
-pairs_even_by (a ∷ []) zero e = absurd (omega (arith, e))
-pairs_even_by (a ∷ []) (suc k) e = absurd (omega (arith, e))
-pairs_even_by (a ∷ b ∷ ns) zero e = absurd (omega (arith, e))
-pairs_even_by (a ∷ b ∷ ns) (suc k) e = rw (pairs_even_by ns k (omega (arith, e))) refl
-
-pairs_odd_by : (ns : List ℕ) (k : ℕ) → length ns ≡ 2 * k + 1 → pairs_from ns ≡ Err bad_line
-unfolding pairs_from
-pairs_odd_by [] k e = absurd (omega (arith, e))
-pairs_odd_by (a ∷ []) k e = refl
-pairs_odd_by (a ∷ b ∷ ns) zero e = absurd (omega (arith, e))
-pairs_odd_by (a ∷ b ∷ ns) (suc k) e = rw (pairs_odd_by ns k (omega (arith, e))) refl
+use Rattle.trace_lines.specs.Grammar.{triple_from, triples_from}
 
 triples_even_by : (ns : List ℕ) (k : ℕ) → length ns ≡ 3 * k → triples_from ns ≡ Ok (map triple_from (first_chunks 3 k ns))
 unfolding triples_from
@@ -36,12 +20,6 @@ triples_odd_by (a ∷ []) k r e pos small = refl
 triples_odd_by (a ∷ b ∷ []) k r e pos small = refl
 triples_odd_by (a ∷ b ∷ c ∷ ns) zero r e pos small = absurd (omega (arith, e))
 triples_odd_by (a ∷ b ∷ c ∷ ns) (suc k) r e pos small = rw (triples_odd_by ns k r (omega (arith, e)) pos small) refl
-
-pub pairs_even : (ns : List ℕ) → length ns % 2 ≡ 0 → pairs_from ns ≡ Ok (map pair_from (first_chunks 2 (length ns / 2) ns))
-pairs_even ns e = pairs_even_by ns (length ns / 2) (omega (arith, e))
-
-pub pairs_odd : (ns : List ℕ) → 0 < length ns % 2 → pairs_from ns ≡ Err bad_line
-pairs_odd ns e = pairs_odd_by ns (length ns / 2) (omega (arith, e))
 
 pub triples_even : (ns : List ℕ) → length ns % 3 ≡ 0 → triples_from ns ≡ Ok (map triple_from (first_chunks 3 (length ns / 3) ns))
 triples_even ns e = triples_even_by ns (length ns / 3) (omega (arith, e))

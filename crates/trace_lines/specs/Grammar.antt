@@ -23,10 +23,6 @@ use Rattle.trace_lines.specs.Words.{words_of, next_word, next_number, end_at, ok
 abbrev pub numbers_of : List (List ℕ) → Result (List ℕ) LineFault
 numbers_of ws = each (λ w. ok_or_line (number_of w)) ws
 
--- the pair that two numbers make
-abbrev pub pair_from : List ℕ → Pair
-pair_from ns = record { ptr = slice_index ns 0; val = slice_index ns 1 }
-
 -- the element that three numbers make
 abbrev pub triple_from : List ℕ → ExtOp
 triple_from ns = record { command = slice_index ns 0; first = slice_index ns 1; second = slice_index ns 2 }
@@ -38,6 +34,19 @@ pairs_from (a ∷ []) = Err bad_line
 pairs_from (a ∷ b ∷ ns) = do
   others ← pairs_from ns
   Ok (record { ptr = a; val = b } ∷ others)
+
+-- the pairs that words spell
+abbrev pub spelled_pairs : List (List ℕ) → Result (List Pair) LineFault
+spelled_pairs ws = do
+  numbers ← numbers_of ws
+  pairs_from numbers
+
+-- the pair that the next two words spell, and the words behind them
+unfoldable pub next_pair : List (List ℕ) → Result (Pair × List (List ℕ)) LineFault
+next_pair ws = do
+  ptr ← next_number ws
+  val ← next_number ptr.1
+  Ok (record { ptr = ptr.0; val = val.0 }, val.1)
 
 -- numbers, three by three
 unfoldable pub triples_from : List ℕ → Result (List ExtOp) LineFault

@@ -1,5 +1,5 @@
 -- Steps that give a value, or what is wrong with the line.
-use Rattle.std.specs.Prelude.{◌≡◌, Result, Ok, Err}
+use Rattle.std.specs.Prelude.{◌≡◌, List, ◌++◌, Result, Ok, Err}
 use Rattle.trace_lines.specs.declared.fault.Cause.TheVariants as causes
 use Rattle.trace_lines.specs.declared.fault.LineFault.{LineFault}
 use Rattle.trace_lines.specs.declared.fault.LineFault.TheVariants as faults
@@ -10,6 +10,10 @@ infixl 10 ◌>>=◌
 abbrev pub ◌>>=◌ : {A B : Type 0} → Result A LineFault → (A → Result B LineFault) → Result B LineFault
 (Ok x) >>= f = f x
 (Err e) >>= f = Err e
+
+-- what a list gives that has items in front
+abbrev pub with_front : {A : Type 0} → List A → Result (List A) LineFault → Result (List A) LineFault
+with_front front r = r >>= λ xs. Ok (front ++ xs)
 
 abbrev pub bad_end : LineFault
 bad_end = faults.Bad causes.End

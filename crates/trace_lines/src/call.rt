@@ -1,6 +1,6 @@
-ghost use Rattle.std.specs.Prelude.{◌≡◌, map, IfOk};
-ghost use Rattle.trace_lines.specs.Steps.{Gives};
-ghost use Rattle.trace_lines.specs.Grammar.{numbers_of, pair_from, triple_from, pairs_from, triples_from, mmu_of, ext_of, va_of, va_other_of, gdt_of, desc_of, mem_of, hypercall_of, call_by, call_of};
+ghost use Rattle.std.specs.Prelude.{◌≡◌, ◌∷◌, [], map, IfOk};
+ghost use Rattle.trace_lines.specs.Steps.{Gives, with_front};
+ghost use Rattle.trace_lines.specs.Grammar.{numbers_of, triple_from, spelled_pairs, next_pair, triples_from, mmu_of, ext_of, va_of, va_other_of, gdt_of, desc_of, mem_of, hypercall_of, call_by, call_of};
 
 use crate::fault::LineError;
 use crate::words::Words;
@@ -59,27 +59,38 @@ pub fn read_numbers(alloc: Global, words: &mut Words<'_>) -> Result<Vec<u64>, Li
     Ok(items)
 }
 
-fn pairs(alloc: Global, numbers: &[u64]) -> Result<Pairs, LineError>
-    ensures { Gives (λ p. p) result (pairs_from numbers.now) }
+#[tactic(auto, unfolding(crate::specs::Grammar::next_pair))]
+fn pair(words: &mut Words<'_>) -> Result<Pair, LineError>
+    ensures { Gives (λ p. (p, words.new)) result (next_pair words.old) }
 {
-    let (chunks, odd) = numbers.as_chunks::<2>();
-    if !odd.is_empty() {
-        return Err(LineError::LINE);
+    let ptr = words.number()?;
+    let val = words.number()?;
+    Ok(Pair { ptr, val })
+}
+
+// All the words that are left, as pairs behind a first one.
+fn pairs_behind(alloc: Global, first: Pair, words: &mut Words<'_>) -> Result<Pairs, LineError>
+    ensures { Gives (λ p. p) result (with_front (first ∷ []) (spelled_pairs words.old)) }
+{
+    let mut items = vec![in alloc; first]?;
+    'words: while !words.is_done() {
+        items.push(pair(words)?)?;
     }
-    let items = pair_items(alloc, chunks)?;
     Ok(Pairs::new(items))
 }
 
-fn pair_items(alloc: Global, chunks: &[[u64; 2]]) -> Result<Vec<Pair>, AllocError>
-    ensures { IfOk result (λ v. v.items ≡ map pair_from chunks.now) }
+// All the words that are left, as pairs; most lists have one.
+fn pairs(alloc: Global, words: &mut Words<'_>) -> Result<Pairs, LineError>
+    ensures { Gives (λ p. p) result (spelled_pairs words.old) }
 {
-    chunks
-        .iter()
-        .map(|[ptr, val]| Pair {
-            ptr: *ptr,
-            val: *val,
-        })
-        .collect(alloc)
+    if words.is_done() {
+        return Ok(Pairs::new(Vec::new(alloc)));
+    }
+    let first = pair(words)?;
+    if words.is_done() {
+        return Ok(Pairs::one(first));
+    }
+    pairs_behind(alloc, first, words)
 }
 
 fn triples(alloc: Global, numbers: &[u64]) -> Result<ExtList, LineError>
@@ -111,8 +122,7 @@ fn mmu(alloc: Global, words: &mut Words<'_>) -> Result<Call, LineError>
     ensures { Gives (λ c. c) result (mmu_of words.old) }
 {
     let foreign = words.number()?;
-    let numbers = read_numbers(alloc, words)?;
-    let pairs = pairs(alloc, numbers.as_slice())?;
+    let pairs = pairs(alloc, words)?;
     Ok(Call::Mmu { foreign, pairs })
 }
 

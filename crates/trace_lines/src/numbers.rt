@@ -37,25 +37,33 @@ fn decimal_digit(c: u8) -> u8
     c.wrapping_sub(b'0')
 }
 
-fn digit<const BASE: u64>(c: u8) -> Option<u64>
+fn digit<const BASE: u64>(c: u8) -> u64
     requires { BASE ≤ 16 }
-    ensures { result ≡ (if is_digit BASE c then Some (digit_value c) else None) }
+    ensures some { is_digit BASE c ≡ true → result ≡ digit_value c }
+    ensures none { is_digit BASE c ≡ false → BASE ≤ result }
 {
-    let value = if BASE <= 10 {
+    u64::from(if BASE <= 10 {
         decimal_digit(c)
     } else {
         lower_digit(c)
-    };
-    let value = u64::from(value);
-    if value < BASE { Some(value) } else { None }
+    })
 }
 
-// One more digit behind a number.
+// A number below this one stays below 2^64 with one more digit, in each base up to 16.
+const SURELY_FITS: u64 = 1 << 59;
+
+// One more digit behind a number. Nearly all numbers are small enough for the first answer.
 fn with_digit<const BASE: u64>(n: u64, c: u8) -> Option<u64>
     requires { BASE ≤ 16 }
     ensures { result ≡ numeral_after BASE n (c ∷ []) }
 {
-    let next = digit::<BASE>(c)?;
+    let next = digit::<BASE>(c);
+    if next >= BASE {
+        return None;
+    }
+    if n < SURELY_FITS {
+        return Some(n * BASE + next);
+    }
     n.checked_mul(BASE)?.checked_add(next)
 }
 

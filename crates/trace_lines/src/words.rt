@@ -1,6 +1,6 @@
-ghost use Rattle.std.specs.Prelude.{◌≡◌, ◌==◌, [], ◌∷◌, Some, None, MatchOption, IfSome, ◌<◌, ◌≤◌, ◌+◌, length, take, drop, false};
+ghost use Rattle.std.specs.Prelude.{◌≡◌, ◌==◌, [], ◌∷◌, Some, None, Ok, Err, MatchOption, IfSome, ◌<◌, ◌≤◌, ◌+◌, length, take, drop, false};
 ghost use Rattle.std.specs.List.{position, position_or_len, slice_split, All};
-ghost use Rattle.trace_lines.specs.Steps.{Gives};
+ghost use Rattle.trace_lines.specs.Steps.{Gives, bad_line};
 ghost use Rattle.trace_lines.specs.Words.{words_of, next_word, next_number, end_at, is_nil, is_separator, spaced_words, IsSeparated};
 
 use crate::fault::LineError;
@@ -123,18 +123,29 @@ impl<'a> Words<'a> {
     }
 
     /// The next word, which has to spell a number.
-    #[tactic(auto, unfolding(crate::specs::Words::next_number))]
+    #[inline(always)]
     pub fn number(&mut self) -> Result<u64, LineError>
         ensures { Gives (λ n. (n, self.new)) result (next_number self.old) }
     {
+        match self.spelled() {
+            None => Err(LineError::LINE),
+            Some(n) => Ok(n),
+        }
+    }
+
+    // The same without its error, which is too large for a register.
+    #[tactic(auto, unfolding(crate::specs::Words::next_number))]
+    fn spelled(&mut self) -> Option<u64>
+        ensures { MatchOption result (next_number self.old ≡ Err bad_line) (λ n. next_number self.old ≡ Ok (n, self.new)) }
+    {
         match self.rest {
-            [] => Err(LineError::LINE),
+            [] => None,
             [_, spaced @ ..] => match first_number(spaced) {
-                None => Err(LineError::LINE),
+                None => None,
                 Some((n, len)) => {
                     let (_, behind) = spaced.split_at(len);
                     self.rest = behind;
-                    Ok(n)
+                    Some(n)
                 }
             },
         }

@@ -3,6 +3,7 @@
 
 mod beginning;
 mod cpu;
+pub mod laws;
 mod lists;
 mod pairs;
 mod turning;

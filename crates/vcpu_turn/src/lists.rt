@@ -31,7 +31,12 @@ pub trait Items {
         ensures { result ≡ count self.now };
 
     /// Does one, or says why not. Nothing is left in hand.
-    fn element<P: Port>(&self, port: &mut P, gate: &mut dyn Preempt, index: usize) -> Result<(), Stop>
+    fn element<P: Port>(
+        &self,
+        port: &mut P,
+        gate: &mut dyn Preempt,
+        index: usize,
+    ) -> Result<(), Stop>
         requires index { index < count self.now }
         requires suits { suits self.now (P.value port.old).post }
         requires rests { Rests (P.value port.old) }

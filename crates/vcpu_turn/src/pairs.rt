@@ -8,6 +8,7 @@ use xp_preempt::Preempt;
 use xp_words::{Pair, Stop};
 
 /// Pairs, for frames of the caller's own domain.
+#[derive(Drop)]
 pub(crate) struct OwnPairs<'a> {
     pub pairs: &'a [Pair],
     pub domain: u16,
@@ -30,7 +31,12 @@ impl<'a> Items for OwnPairs<'a> {
         self.pairs.len()
     }
 
-    fn element<P: Port>(&self, port: &mut P, _gate: &mut dyn Preempt, index: usize) -> Result<(), Stop> {
+    fn element<P: Port>(
+        &self,
+        port: &mut P,
+        _gate: &mut dyn Preempt,
+        index: usize,
+    ) -> Result<(), Stop> {
         update(port, self.domain, self.pairs[index])
     }
 }

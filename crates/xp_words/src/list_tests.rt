@@ -8,8 +8,8 @@ use std::test::Fail;
 fn lists_of_operations_take_what_is_pushed(rt: HostRuntime) -> Result<(), Fail> {
     let mut calls = CallList::new(vec![in rt.alloc()]?);
     assert!(rt; calls.is_empty());
-    let mut pairs = Pairs::new(vec![in rt.alloc()]?);
-    pairs.push(Pair { ptr: 4096, val: 3 })?;
+    let pairs = Pairs::one(Pair { ptr: 4096, val: 3 });
+    assert_eq!(rt; pairs.as_slice(), [Pair { ptr: 4096, val: 3 }].as_slice());
     calls.push(Call::Mmu {
         foreign: 0x7ff0,
         pairs,

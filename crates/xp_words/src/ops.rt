@@ -1,8 +1,8 @@
-ghost use Rattle.std.specs.Prelude.{◌≡◌, ◌<◌, ◌^◌, ◌++◌, ◌∷◌, ◌↔◌, [], length, IsTrue, OnOk, OnErr};
+ghost use Rattle.std.specs.Prelude.{◌≡◌, ◌<◌, ◌^◌, ◌∷◌, ◌↔◌, [], length, IsTrue};
 
 use crate::item_list::ItemList;
-use std::alloc::AllocError;
 use std::marker::Model;
+use std::slice::from_ref;
 
 /// One element of `mmu_update` (`struct mmu_update` of `xen.h`): the low two bits of `ptr` are the command.
 #[derive(Clone, Copy, Debug, PartialEq, Eq)]
@@ -19,60 +19,67 @@ pub struct ExtOp {
     pub second: u64,
 }
 
+// Where the items of a list stand: most lists have one, which needs no memory of its own.
+#[derive(Drop)]
+enum PairStore {
+    One { item: Pair },
+    Many { items: Vec<Pair> },
+}
+
 /// The pairs of one `mmu_update`, in order. Contracts see the list of its items.
 #[derive(Drop)]
 pub struct Pairs {
-    items: Vec<Pair>,
+    store: PairStore,
 }
 
 impl Model for Pairs {
     ghost use Rattle.std.specs.Prelude.{List};
     ghost use Rattle.xp_words.specs.declared.ops.Pair.{Pair};
+    ghost use Rattle.xp_words.specs.PairStores.{stored};
 
     ghost Value = { List Pair };
 
-    ghost view = { λ s. s.items.items };
+    ghost view = { λ s. stored s.store };
 }
 
 impl Pairs {
     pub fn new(items: Vec<Pair>) -> Pairs
         ensures { result ≡ items.items }
     {
-        Pairs { items }
+        Pairs {
+            store: PairStore::Many { items },
+        }
+    }
+
+    /// A list of one item. It needs no memory.
+    pub fn one(item: Pair) -> Pairs
+        ensures { result ≡ item ∷ [] }
+    {
+        Pairs {
+            store: PairStore::One { item },
+        }
     }
 
     pub fn as_slice(&self) -> &[Pair]
         ensures { result.now ≡ self.now }
     {
-        &self.items
+        match &self.store {
+            PairStore::One { item } => from_ref(item),
+            PairStore::Many { items } => items.as_slice(),
+        }
     }
 
     pub fn len(&self) -> usize
         ensures value { result ≡ length self.now }
         ensures room { result < 2 ^ 63 }
     {
-        self.items.len()
+        self.as_slice().len()
     }
 
     pub fn is_empty(&self) -> bool
         ensures { IsTrue result ↔ (self.now ≡ []) }
     {
-        self.items.is_empty()
-    }
-
-    /// One more item at the end. After want of memory the list is as it was.
-    pub fn push(&mut self, item: Pair) -> Result<(), AllocError>
-        ensures ok { OnOk result (self.new ≡ self.old ++ item ∷ []) }
-        ensures err { OnErr result (self.new ≡ self.old) }
-    {
-        self.items.push(item)?;
-        Ok(())
-    }
-
-    pub fn into_items(self) -> Vec<Pair>
-        ensures { result.items ≡ self }
-    {
-        self.items
+        self.as_slice().is_empty()
     }
 }
 

@@ -1,6 +1,6 @@
 use Rattle.std.proofs.Common.{◌≡◌, length}
+use Rattle.trace_lines.specs.Steps.{with_front}
 use Rattle.trace_lines.specs.Grammar.{numbers_of}
-use Rattle.trace_lines.proofs.ListLoop.{with_front}
 use Rattle.trace_lines.proofs.call.read_numbers.Given as goal
 
 abbrev pub invariant-words : goal.invariant-words

@@ -1,6 +1,6 @@
 use Rattle.std.proofs.Common.{◌≡◌, length}
 use Rattle.trace_lines.specs.Grammar.{calls_of}
-use Rattle.trace_lines.proofs.ListLoop.{with_front}
+use Rattle.trace_lines.specs.Steps.{with_front}
 use Rattle.trace_lines.proofs.operation.calls.Given as goal
 
 abbrev pub invariant-calls : goal.invariant-calls

@@ -1,7 +1,7 @@
 use Rattle.std.proofs.Common.{◌∙◌, sym, ap, arith}
 use Rattle.trace_lines.specs.Numbers.{number_of, word_of}
 use Rattle.trace_lines.proofs.FirstWords.{no_number_at, no_number_spelled, number_spelled, tail_is}
-use Rattle.trace_lines.proofs.words.Words.number.Goals as goal
+use Rattle.trace_lines.proofs.words.Words.spelled.Goals as goal
 
 pub returns-in-empty : goal.returns-in-empty
 returns-in-empty c = rw (← c.self.view_is) (no_number_at c.self.inside.rest.now c.in-empty.len_below)

@@ -1,0 +1,56 @@
+"""Times of whole runs, for the other programs of this folder."""
+import os
+import subprocess
+import sys
+
+TOP = os.path.dirname(os.path.dirname(os.path.abspath(__file__)))
+BUILT = os.path.join(TOP, "crates", "ptmac", "out", "ptmac")
+
+
+def add_arguments(parser):
+    parser.add_argument("program", nargs="?", default=BUILT, help="the built program, by default where `rt run` leaves it")
+    parser.add_argument("--runs", type=int, default=9, help="how often each command is run")
+
+
+def must_be_there(program):
+    if not os.path.exists(program):
+        sys.exit(f"{program} is not there; build it with: "
+                 "(cd crates/ptmac && rt run -- turns < ../../examples/first-update.trace)")
+
+
+def compiled(folder, name, code):
+    """The path of a C program, compiled in that folder."""
+    source, program = os.path.join(folder, name + ".c"), os.path.join(folder, name)
+    with open(source, "w", encoding="ascii") as out:
+        out.write(code)
+    subprocess.run(["gcc", "-O2", "-o", program, source], check=True)
+    return program
+
+
+def output(command, source):
+    """Standard output of one run."""
+    with open(source, "rb") as stdin:
+        run = subprocess.run(command, stdin=stdin, stdout=subprocess.PIPE, check=False)
+    if run.returncode != 0:
+        sys.exit(f"{command[0]} ended with status {run.returncode}: {run.stdout[:200]!r}")
+    return run.stdout
+
+
+def seconds(command, source, sink):
+    """Processor time of one run, its user's and the system's part together."""
+    with open(source, "rb") as stdin, open(sink, "wb") as stdout:
+        process = subprocess.Popen(command, stdin=stdin, stdout=stdout)
+        _, status, usage = os.wait4(process.pid, 0)
+    process.returncode = os.waitstatus_to_exitcode(status)
+    if process.returncode != 0:
+        sys.exit(f"{command[0]} ended with status {process.returncode}")
+    return usage.ru_utime + usage.ru_stime
+
+
+def least(runs, sink, *jobs):
+    """The least time of each job, a command and its standard input, which writes to the file `sink`. They are run in turn."""
+    times = [[] for _ in jobs]
+    for _ in range(runs):
+        for kept, (command, source) in zip(times, jobs):
+            kept.append(seconds(command, source, sink))
+    return [min(kept) for kept in times]
