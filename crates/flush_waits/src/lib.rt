@@ -6,6 +6,7 @@ ghost use Rattle.xp_board.specs.Readings.{has_ever};
 ghost use Rattle.xp_board.specs.Told.{is_telling, told_word};
 ghost use Rattle.answer_fits.specs.Twins.{Alike};
 ghost use Rattle.step_maker.specs.Holds.{FlushedSame, MayWork};
+ghost use Rattle.step_maker.specs.Moves.{Came};
 ghost use Rattle.flush_waits.specs.Clearing.{Looks, Weighs, Waits, first_behind};
 ghost use Rattle.flush_waits.specs.Waiting.{IsMarked, IsFlushed, IsWait, ServesBehind, StopsBehind};
 
@@ -27,6 +28,7 @@ pub fn clear_stale<P: Port>(port: &mut P, frame: u32, owner: u16, stamp: u64) ->
     // No guest sees the steps. Behind any piece that awaits the stamp they fit it, and show the cause of a refusal or a pause.
     ensures serves { ServesBehind (P.value port.old) (P.value port.new) owner stamp }
     ensures stops { IfErr result (λ e. StopsBehind (P.value port.old) (P.value port.new) owner stamp e) }
+    ensures came { Came (P.value port.old) (P.value port.new) }
     ensures waits { IfErr result IsWait }
     ensures hand { FlushedSame (P.value port.old) (P.value port.new) }
     ensures past { IfOk result (λ _. IsFlushed (P.value port.new).post.machine frame (P.value port.new).holdings) }

@@ -1,11 +1,12 @@
 -- A frame that came into the own works, and the reference under which it came.
-use Rattle.std.proofs.Common.{◌≡◌, ℕ, ◌<◌, ◌≤◌, ◌==◌, ◌&&◌, ◌⊎◌, if◌then◌else◌, Bool, true, false, List, [], ◌∷◌, length, Some, None, IsTrue, refl, sym, ap, ◌∙◌, subst, arith, inl, inr}
+use Rattle.std.proofs.Common.{◌≡◌, ℕ, ◌<◌, ◌≤◌, ◌==◌, ◌&&◌, ◌⊎◌, not, if◌then◌else◌, Bool, true, false, List, [], ◌∷◌, length, Some, None, IsTrue, refl, sym, ap, ◌∙◌, subst, arith, inl, inr}
 use Rattle.std.proofs.lemmas.Bool.{or_left}
 use Rattle.std.proofs.lemmas.Bool.Decides.{nat_tests}
 use Rattle.xp_words.specs.Machine.{Machine}
 use Rattle.xp_words.specs.declared.kind.KindWord.{KindWord}
 use Rattle.xp_words.specs.declared.kind.PageType.{PageType}
-use Rattle.xp_words.specs.KindWords.{is_kind, kind_fields, kind_write}
+use Rattle.xp_words.specs.KindWords.{is_kind, kind_fields, kind_write, has_form}
+use Rattle.xp_words.specs.PageTypes.{is_none}
 use Rattle.xp_words.specs.Places.{Sizes}
 use Rattle.xp_board.specs.declared.holdings.Made.{Made}
 use Rattle.xp_board.specs.declared.holdings.Holdings.{Holdings}
@@ -44,7 +45,7 @@ pub lent_known : (z : Sizes) (f owner : ℕ) (h : Holdings) → LentBy f owner h
 unfolding knows_owner some_of
 lent_known z f owner h a = rw a.refs (or_left _ _ (or_left _ _ (owned_here z h.steps f owner)))
 
-typed_owned : (f owner : ℕ) (e : TypedReference) (xs : List TypedReference) (h : Holdings) → h.typed ≡ e ∷ xs → e.frame ≡ f → e.owner ≡ owners.Of owner → typed_owner f h ≡ owners.Of owner
+pub typed_owned : (f owner : ℕ) (e : TypedReference) (xs : List TypedReference) (h : Holdings) → h.typed ≡ e ∷ xs → e.frame ≡ f → e.owner ≡ owners.Of owner → typed_owner f h ≡ owners.Of owner
 typed_owned f owner e xs h typed frame owned =
     ap (λ o. owner_by_typed o (owner_from h)) (ap (λ ys. typed_on f ys) typed ∙ first_by-cons_here (λ (y : TypedReference). y.frame) f e xs frame) ∙ owned
 
@@ -140,3 +141,7 @@ pub entered_past : (b v : PortValue) (f owner : ℕ) (want : PageType) (marked :
     IsPastFlush v.post.machine v.holdings e.work
 entered_past b v f owner want marked stamp progress own e flushed =
     subst (λ y. IsPastFlush v.post.machine v.holdings y) (same_work flushed.work e.work (sym flushed.here ∙ entered_here b v f owner want marked stamp progress own e)) flushed.past
+
+pub work_spelled : (want : PageType) → IsTrue (not (is_none want)) → IsTrue (is_kind (work_kind want false 0))
+unfolding has_form
+work_spelled want wanted = grind (arith, nat_tests)

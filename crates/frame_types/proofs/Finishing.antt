@@ -1,5 +1,5 @@
 -- A frame in the own works that is made live, or loses its mark.
-use Rattle.std.proofs.Common.{◌≡◌, ◌≢◌, ℕ, ◌+◌, ◌<◌, ◌≤◌, ◌==◌, ◌&&◌, ◌||◌, not, if◌then◌else◌, Bool, true, false, List, [], ◌∷◌, ◌++◌, length, Some, None, IsTrue, refl, sym, ap, ◌∙◌, subst, arith, inl, inr}
+use Rattle.std.proofs.Common.{◌≡◌, ◌≢◌, ℕ, ◌+◌, ◌<◌, ◌≤◌, ◌==◌, ◌&&◌, ◌||◌, not, if◌then◌else◌, Bool, true, false, List, [], ◌∷◌, ◌++◌, length, Some, None, IsTrue, refl, sym, ap, ◌∙◌, subst, arith, lit<, inl, inr}
 use Rattle.std.proofs.lemmas.Bool.Decides.{nat_tests}
 use Rattle.xp_words.specs.Machine.{Machine}
 use Rattle.xp_words.specs.declared.kind.KindWord.{KindWord}
@@ -44,6 +44,9 @@ no_table t off = grind arith
 
 no_descriptors : (t : PageType) → is_read_first t ≡ false → t ≢ types.Desc
 no_descriptors t off is = absurd (let e = subst (λ y. is_read_first y ≡ false) is off in cc)
+
+pub no_memory : (t : PageType) → is_read_first t ≡ true → t ≢ types.Writable
+no_memory t on is = absurd (let e = subst (λ y. is_read_first y ≡ true) is on in cc)
 
 same_type : (t : PageType) → is_type t t ≡ true
 same_type t = when_eq (type_number t) (type_number t) refl
@@ -218,3 +221,8 @@ left_serves u b v w f owner want marked stamp progress own e l is kind found sto
     let word : found ≡ e.work.word = work_word v.post.machine v.post.vcpu v.holdings f found e.work store.finds (here b v f owner want marked stamp progress own e) in
     serves_step u v w (of_frame f owner (Some want)) ds (Kind f) (Store (kind_write l)) kinds.Kind None found before store
     (names_itself u.post.machine u.post.vcpu f owner (Some want) (Met u w), kept_type found (kind_write l) (work_kind want marked stamp) l (ap (λ y. kind_fields y) word ∙ fields b v f owner want marked stamp progress own e) (fields_write l is) kind refl)
+
+-- the words of frames that are left so
+pub live_spelled : (want : PageType) (own : Bool) → IsTrue (not (is_none want)) → IsTrue (is_kind (live_kind want (if own then 1 else 2)))
+live_spelled want true wanted = live_is want wanted 1 (lit< tt)
+live_spelled want false wanted = live_is want wanted 2 (lit< tt)

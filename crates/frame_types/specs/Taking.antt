@@ -1,5 +1,5 @@
 -- Types that are taken and given back: what they leave in hand.
-use Rattle.std.specs.Prelude.{◌≡◌, ℕ, ◌<◌, ◌≤◌, if◌then◌else◌, Bool, true, false, List, [], ◌∷◌, length, Option, Some, None, Result, IfOk, IfErr, MatchResult, IsTrue}
+use Rattle.std.specs.Prelude.{◌≡◌, ◌≢◌, ℕ, ◌<◌, ◌≤◌, if◌then◌else◌, Bool, true, false, List, [], ◌∷◌, length, Option, Some, None, Result, IfOk, IfErr, MatchResult, IsTrue}
 use Rattle.xp_words.specs.Machine.{Machine}
 use Rattle.xp_words.specs.Places.{sizes_of}
 use Rattle.xp_words.specs.KindWords.{is_kind, kind_fields, kind_write}
@@ -82,13 +82,22 @@ pub record WaitsWith (v w : PortValue) (f owner : ℕ) (want : PageType) (own : 
 
 abbrev pub TakesAs : PortValue → PortValue → ℕ → ℕ → PageType → Taken → Type 0
 TakesAs v w f owner want Counted = FlushedHolds v w (typed_as f owner want v.holdings)
-TakesAs v w f owner want (InWork progress own) = WorksFrom v w f owner want progress own
+TakesAs v w f owner want (InWork progress own) = (want ≢ Writable) × WorksFrom v w f owner want progress own
 TakesAs v w f owner want (Waiting own stamp stop) = WaitsWith v w f owner want own stamp
 
 -- why the flush is not to be had
 abbrev pub ShowsWait : PortValue → PortValue → ℕ → ℕ → PageType → Taken → Type 0
 ShowsWait v w f owner want (Waiting own stamp stop) = IsWait stop × Stops v w (of_frame f owner (Some want)) stop
 ShowsWait v w f owner want _ = Unit {0}
+
+-- ---- why a type is not to be had
+abbrev pub IsTypeStop : Stop → Type 0
+IsTypeStop (Refused (refusals.OtherType f want found)) = Unit {0}
+IsTypeStop (Refused (refusals.Clock found)) = Unit {0}
+IsTypeStop (Paused (Lost place expected found)) = Unit {0}
+IsTypeStop (Paused (Busy f found)) = Unit {0}
+IsTypeStop (Paused (Flush vcpu stamp found)) = Unit {0}
+IsTypeStop _ = ⊥
 
 -- ---- given back
 -- the frame is known live by a typed reference in hand, and is no table
@@ -120,6 +129,7 @@ IsLooked v f owner want word = (b : PortValue) × Looked b v f owner want word
 pub record Takes (v w : PortValue) (f owner : ℕ) (want : PageType) (answer : Result Taken Stop) : Type 0 where
   pub serves : Serves v w (of_frame f owner (Some want)) (misses v.post.machine answer)
   pub stops : IfErr answer (λ e. Stops v w (of_frame f owner (Some want)) e)
+  pub kinds : IfErr answer IsTypeStop
   pub waits : IfOk answer (λ t. ShowsWait v w f owner want t)
   pub hand : MatchResult answer (λ t. TakesAs v w f owner want t) (λ e. Same v w)
 
@@ -204,12 +214,3 @@ ServesMemory v w f =
 -- from wherever the frame came into the own works, the untyped reference went out of the hand
 abbrev pub GivesUp : PortValue → PortValue → ℕ → Bool → ℕ → Type 0
 GivesUp v w f own stamp = (b : PortValue) (owner : ℕ) → WaitsIn b v f owner own stamp → FlushedHolds b w (gave f b.holdings)
-
--- ---- why a type is not to be had
-abbrev pub IsTypeStop : Stop → Type 0
-IsTypeStop (Refused (refusals.OtherType f want found)) = Unit {0}
-IsTypeStop (Refused (refusals.Clock found)) = Unit {0}
-IsTypeStop (Paused (Lost place expected found)) = Unit {0}
-IsTypeStop (Paused (Busy f found)) = Unit {0}
-IsTypeStop (Paused (Flush vcpu stamp found)) = Unit {0}
-IsTypeStop _ = ⊥

@@ -91,10 +91,13 @@ fn take_found<P: Port>(
         }
         Standing::Partial => match resume_work(port, frame, kind) {
             Ok(()) => {
+                let marked = kind.unflushed;
                 if kind.kept {
                     put_ref(port, frame);
+                    Ok(go_on(port, frame, owner, want, marked, kind, true))
+                } else {
+                    Ok(go_on(port, frame, owner, want, marked, kind, false))
                 }
-                Ok(go_on(port, frame, owner, want, kind.unflushed, kind, kind.kept))
             }
             Err(found) => Err(lost(port, frame, word, found)),
         },
@@ -109,6 +112,7 @@ fn take_found<P: Port>(
 
 // An exchange of the kind word found another one than was expected.
 fn lost<P: Port>(port: &P, frame: u32, expected: u64, found: u64) -> Stop
+    requires { frame < (P.value port.now).post.machine.frames }
     ensures { result ≡ Paused (Lost (number (sizes_of (P.value port.now).post.machine) (Kind frame)) expected found) }
 {
     let place = port.layout().place(Place::Kind { frame });

@@ -1,0 +1,29 @@
+-- Kind words that are stored, on a board that tells all words.
+use Rattle.std.proofs.Common.{◌≡◌, ℕ, if◌then◌else◌, Bool, true, false, None, refl, sym, ap, ◌∙◌, subst}
+use Rattle.xp_words.specs.declared.kind.KindWord.{KindWord}
+use Rattle.xp_words.specs.declared.kind.PageType.{PageType}
+use Rattle.xp_words.specs.declared.place.Place.{Place}
+use Rattle.xp_words.specs.declared.place.Place.TheVariants.{Kind}
+use Rattle.xp_words.specs.KindWords.{kind_write}
+use Rattle.xp_board.specs.declared.step.Act.TheVariants.{Store}
+use Rattle.xp_board.specs.declared.step.StepKind.TheVariants as kinds
+use Rattle.xp_board.specs.Acts.{left_by}
+use Rattle.xp_board.specs.Steps.{is_same}
+use Rattle.xp_board.specs.Told.{PortValue, is_telling, told_word}
+use Rattle.board_lemmas.proofs.PlaceTests.{same_place}
+use Rattle.step_maker.specs.Moves.{Moves}
+use Rattle.step_maker.specs.Plain.{Words, change}
+use Rattle.step_maker.proofs.Telling.{by_test, leaves}
+use Rattle.answer_fits.specs.Twins.{Alike}
+use Rattle.answer_fits.proofs.Alikes.{same_alike}
+use Rattle.frame_types.specs.Plain.{set_kind}
+
+-- the word that is there already
+pub store_same : (y : ℕ) (p : Place) (m : Words) → m p ≡ y → (q : Place) → m q ≡ change (Store y) p m q
+unfolding left_by
+store_same y p m is q = by_test (is_same q p) y (m q) (m q) (λ on. ap m (same_place q p on) ∙ is) (λ off. refl)
+
+pub stored_alike : (v w : PortValue) (f : ℕ) (k l : KindWord) (found : ℕ) → Moves v w (Kind f) (Store (kind_write l)) kinds.Kind None found → l ≡ k → is_telling v ≡ true → Alike (told_word w) (set_kind f k (told_word v))
+stored_alike v w f k l found store is telling =
+    subst (λ y. Alike (told_word w) (set_kind f y (told_word v))) is
+    (same_alike (told_word w) (set_kind f l (told_word v)) (leaves v w (Kind f) (Store (kind_write l)) kinds.Kind None found store telling))

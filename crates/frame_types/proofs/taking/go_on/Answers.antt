@@ -1,0 +1,55 @@
+use Rattle.std.proofs.Common.{true, sym, ap, ◌∙◌, subst}
+use Rattle.frame_types.specs.Taking.{Enters, stamp_by, progress_of}
+use Rattle.frame_types.proofs.Entering.{entered_marked, entered_after}
+use Rattle.frame_types.proofs.GoingOn.{serves_after, stops_after, done_waits, still_waits, plain_after}
+use Rattle.frame_types.proofs.taking.go_on.Goals as goal
+
+pub clear_stale-requires-clause-marked : goal.clear_stale-requires-clause-marked
+clear_stale-requires-clause-marked g c =
+    let e = c.requires.enters in
+    let v = g.P.Port.value c.args.port.now in
+    entered_marked e.0 v c.args.frame c.args.owner c.args.want c.args.kind.number (progress_of c.args.kind) c.args.own
+    (subst (λ m. Enters e.0 v c.args.frame c.args.owner c.args.want m (stamp_by m c.args.kind) (progress_of c.args.kind) c.args.own) c.if-marked.true e.1)
+
+pub finish-requires-clause-enters : goal.finish-requires-clause-enters
+finish-requires-clause-enters g c =
+    let e = c.requires.enters in (
+      e.0,
+      entered_after e.0 (g.P.Port.value c.args.port.now) (g.P.Port.value c.clear_stale.new.port) c.args.frame c.args.owner c.args.want c.args.marked (stamp_by c.args.marked c.args.kind) (progress_of c.args.kind) c.args.own e.1
+          c.in-Ok.ensures.came c.in-Ok.ensures.hand,
+    )
+
+pub returns-in-Ok-clause-serves : goal.returns-in-Ok-clause-serves
+returns-in-Ok-clause-serves g c u ds before awaits =
+    c.finish.ensures.serves u ds
+    (serves_after (g.P.Port.value c.args.port.now) (g.P.Port.value c.clear_stale.new.port) c.args.frame c.args.owner c.args.want c.args.kind.number c.in-Ok.ensures.serves u ds before (awaits c.if-marked.true))
+
+pub returns-in-Ok-clause-waits : goal.returns-in-Ok-clause-waits
+returns-in-Ok-clause-waits g c u came awaits = done_waits u (g.P.Port.value c.finish.new.port) c.args.frame c.args.owner c.args.want c.finish.result c.finish.ensures.done
+
+pub returns-in-Ok-clause-hand : goal.returns-in-Ok-clause-hand
+returns-in-Ok-clause-hand g c b e =
+    c.finish.ensures.hand b
+    (entered_after b (g.P.Port.value c.args.port.now) (g.P.Port.value c.clear_stale.new.port) c.args.frame c.args.owner c.args.want c.args.marked (stamp_by c.args.marked c.args.kind) (progress_of c.args.kind) c.args.own e
+    c.in-Ok.ensures.came c.in-Ok.ensures.hand)
+
+pub returns-in-Ok-clause-plain : goal.returns-in-Ok-clause-plain
+returns-in-Ok-clause-plain g c telling same =
+    plain_after (g.P.Port.value c.args.port.now) (g.P.Port.value c.clear_stale.new.port) (g.P.Port.value c.finish.new.port) c.args.frame c.args.want c.args.marked c.args.own c.finish.result c.in-Ok.ensures.came
+    (c.in-Ok.ensures.plain telling) telling c.if-marked.true c.finish.ensures.plain
+
+pub returns-in-Err-clause-serves : goal.returns-in-Err-clause-serves
+returns-in-Err-clause-serves g c u ds before awaits =
+    serves_after (g.P.Port.value c.args.port.now) (g.P.Port.value c.clear_stale.new.port) c.args.frame c.args.owner c.args.want c.args.kind.number c.in-Err.ensures.serves u ds before (awaits c.if-marked.true)
+
+pub returns-in-Err-clause-waits : goal.returns-in-Err-clause-waits
+returns-in-Err-clause-waits g c u came awaits = (
+  c.in-Err.ensures.waits,
+  stops_after (g.P.Port.value c.args.port.now) (g.P.Port.value c.clear_stale.new.port) c.args.frame c.args.owner c.args.want c.args.kind.number c.in-Err.stop c.in-Err.ensures.stops u came (awaits c.if-marked.true),
+)
+
+pub returns-in-Err-clause-hand : goal.returns-in-Err-clause-hand
+returns-in-Err-clause-hand g c b e =
+    let v = g.P.Port.value c.args.port.now in
+    still_waits b v (g.P.Port.value c.clear_stale.new.port) c.args.frame c.args.owner c.args.want c.args.kind.number (progress_of c.args.kind) c.args.own
+    (subst (λ m. Enters b v c.args.frame c.args.owner c.args.want m (stamp_by m c.args.kind) (progress_of c.args.kind) c.args.own) c.if-marked.true e) c.in-Err.ensures.came c.in-Err.ensures.hand
