@@ -14,7 +14,7 @@ use Rattle.board_lemmas.proofs.MoreSteps.{last_since-cases, last_since-here, las
 use Rattle.step_maker.specs.Moves.{Moment, Ran, Came, step_at}
 use Rattle.step_maker.proofs.Coming.{ran_post}
 use Rattle.step_maker.proofs.Noting.{made_now, moves_steps}
-use Rattle.step_maker.proofs.Telling.{moves_telling, told_there, told_here, told_elsewhere}
+use Rattle.step_maker.proofs.Telling.{moves_telling, ran_telling, told_there, told_here, told_elsewhere}
 use Rattle.answer_fits.specs.Answers.{Stops}
 use Rattle.answer_fits.specs.Asked.{Request}
 
@@ -46,9 +46,6 @@ ran_longer v u (m ∷ ms) a =
     let more = ap (λ (xs : List Made). length xs) (moves_steps a.0 u m.place m.act m.kind m.mark m.found a.2.moves) in
     omega (arith, before, more)
 
-ran_telling : (v u : PortValue) (ms : List Moment) → Ran v ms u → is_telling u ≡ is_telling v
-ran_telling v u [] a = ap is_telling a
-ran_telling v u (m ∷ ms) a = moves_telling a.0 u m.place m.act m.kind m.mark m.found a.2.moves ∙ ran_telling v a.0 ms a.1
 
 -- what the last step there left is what the board tells
 told_last : (v u : PortValue) (ms : List Moment) (p : Place) (e : ℕ) → Ran v ms u → is_telling v ≡ true → last_since (sizes_of v.post.machine) (length v.holdings.steps) p u.holdings.steps ≡ Some e →

@@ -18,7 +18,6 @@ use Rattle.xp_board.specs.Steps.{some_step}
 use Rattle.xp_board.specs.Told.{PortValue, is_telling}
 use Rattle.step_maker.specs.Holds.{FlushedSame, MayWork, Same, quiet}
 use Rattle.step_maker.specs.Moves.{Came, Moment, Ran}
-use Rattle.step_maker.proofs.Telling.{moves_telling}
 use Rattle.flush_words.proofs.Lasting.{came_keeps}
 use Rattle.flush_waits.specs.Clearing.{PastOn}
 use Rattle.flush_waits.specs.Waiting.{IsKnownOwner, IsMarked}
@@ -48,15 +47,6 @@ Grows h k = (test : ℕ → Made → Bool) → IsTrue (some_step test h.steps) �
 
 pub came_grows : (v w : PortValue) → Came v w → Grows v.holdings w.holdings
 came_grows v w a test = came_keeps v w test a
-
--- whether its board tells all words
-ran_telling : (v w : PortValue) (ms : List Moment) → Ran v ms w → is_telling w ≡ is_telling v
-ran_telling v w [] a = ap (λ (y : PortValue). is_telling y) a
-ran_telling v w (m ∷ ms) a = moves_telling a.0 w m.place m.act m.kind m.mark m.found a.2.moves ∙ ran_telling v a.0 ms a.1
-
-pub came_telling : (v w : PortValue) → Came v w → is_telling w ≡ is_telling v
-unfolding Came
-came_telling v w a = ran_telling v w a.0 a.1
 
 -- ---- the owner
 either : (a b c d : Bool) → (IsTrue a → IsTrue c) → (IsTrue b → IsTrue d) → IsTrue (a || b) → IsTrue (c || d)

@@ -13,7 +13,7 @@ use Rattle.board_lemmas.proofs.PlaceTests.{same_or_other}
 use Rattle.step_maker.specs.Holds.{Same}
 use Rattle.step_maker.specs.Moves.{Came, Met, Moment, Moves}
 use Rattle.step_maker.proofs.Coming.{came_post, came_self, came_trans, met_after, met_before, moment_of, moves_came, moves_met}
-use Rattle.step_maker.proofs.Telling.{load_tells, told_elsewhere}
+use Rattle.step_maker.proofs.Telling.{came_telling, load_tells, told_elsewhere}
 use Rattle.answer_fits.specs.Asked.{Request, of_back, Within}
 use Rattle.answer_fits.specs.Finding.{Did, Finding, Found}
 use Rattle.answer_fits.specs.Pauses.{AskedTo, Clear, idle, flushed, own, barred}
@@ -26,7 +26,7 @@ use Rattle.flush_words.proofs.FlushServes.{awaited_more}
 use Rattle.flush_waits.specs.declared.Awaiting.{Awaiting}
 use Rattle.flush_waits.specs.Clearing.{Clears}
 use Rattle.flush_waits.specs.Waiting.{ServesBehind}
-use Rattle.flush_waits.proofs.Growing.{came_telling, flushed_then, same_flushed}
+use Rattle.flush_waits.proofs.Growing.{flushed_then, same_flushed}
 
 -- ---- more is found
 module _ (F G : Finding) (more : (m : Moment) → F m → G m) where

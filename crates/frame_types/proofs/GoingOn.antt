@@ -16,7 +16,7 @@ use Rattle.answer_fits.specs.Twins.{Alike}
 use Rattle.answer_fits.proofs.Alikes.{alike_trans, alike_store}
 use Rattle.kind_words.specs.Kinds.{live_kind}
 use Rattle.flush_waits.specs.Waiting.{ServesBehind, StopsBehind}
-use Rattle.flush_waits.proofs.Growing.{came_telling}
+use Rattle.step_maker.proofs.Telling.{came_telling}
 use Rattle.frame_types.specs.declared.taking.Taken.{Taken}
 use Rattle.frame_types.specs.declared.taking.Taken.TheVariants.{Counted, InWork, Waiting}
 use Rattle.frame_types.specs.Plain.{GoesPlainly, TwinOn, set_kind}

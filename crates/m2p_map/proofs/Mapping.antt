@@ -22,7 +22,7 @@ use Rattle.step_maker.specs.Moves.{Came, Moment, Ran}
 use Rattle.answer_fits.specs.Asked.{Request}
 use Rattle.answer_fits.proofs.Piecing.{serves_came}
 use Rattle.step_maker.specs.Plain.{Words, change, Leaves}
-use Rattle.step_maker.proofs.Telling.{moves_telling, leaves, leaves_then}
+use Rattle.step_maker.proofs.Telling.{came_telling, moves_telling, leaves, leaves_then}
 use Rattle.frame_words.specs.Plain.{got, put, TwinGet}
 use Rattle.m2p_map.specs.Maps.{TwinSet}
 use Rattle.frame_words.specs.Refs.{took, MayGive}
@@ -56,14 +56,6 @@ maps_at v u x w g f owner gpfn other is gets gives store puts =
     maps v u x w f owner gpfn other gets (subst (λ k. MayGive k u.holdings) is gives) (subst (λ k. Moves u x (M2p k) (Store gpfn) kinds.M2p None other) is store) (subst (λ k. Serves x w (of_back k) []) is puts)
 
 -- ---- on a board that tells all words
-ran_telling : (v u : PortValue) (ms : List Moment) → Ran v ms u → is_telling u ≡ is_telling v
-ran_telling v u [] a = ap is_telling a
-ran_telling v u (m ∷ ms) a = moves_telling a.0 u m.place m.act m.kind m.mark m.found a.2.moves ∙ ran_telling v a.0 ms a.1
-
-pub came_telling : (v u : PortValue) → Came v u → is_telling u ≡ is_telling v
-unfolding Came
-came_telling v u a = ran_telling v u a.0 a.1
-
 -- words that are the same everywhere are one
 pub same_words : (m n : Words) → ((q : Place) → m q ≡ n q) → m ≡ n
 same_words m n same = λ i q. same q i

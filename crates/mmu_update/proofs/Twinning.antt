@@ -15,14 +15,14 @@ use Rattle.xp_board.specs.declared.step.StepKind.TheVariants as kinds
 use Rattle.xp_board.specs.Told.{PortValue, is_telling, told_word}
 use Rattle.step_maker.specs.Moves.{Came, Moves}
 use Rattle.step_maker.specs.Plain.{Leaves, Words, change}
-use Rattle.step_maker.proofs.Telling.{leaves, moves_telling}
+use Rattle.step_maker.proofs.Telling.{came_telling, leaves, moves_telling}
 use Rattle.answer_fits.specs.Twins.{Alike}
 use Rattle.answer_fits.proofs.Alikes.{alike_store}
 use Rattle.frame_words.specs.Plain.{TwinGet, got}
 use Rattle.frame_types.specs.Plain.{TakesMemory, TwinMemory, dropped_plain, taken}
 use Rattle.frame_types.specs.declared.taking.Taken.TheVariants.{Counted}
 use Rattle.frame_types.proofs.Alike.{dropped_alike}
-use Rattle.m2p_map.proofs.Mapping.{came_telling, same_words}
+use Rattle.m2p_map.proofs.Mapping.{same_words}
 use Rattle.mmu_update.specs.Plain.{StoresPlainly, TwinWrite, WritesBy, stored}
 
 -- ---- not stored

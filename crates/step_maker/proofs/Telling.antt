@@ -1,5 +1,5 @@
 -- What a board that tells all words tells after one step.
-use Rattle.std.proofs.Common.{◌≡◌, ◌≢◌, ℕ, if◌then◌else◌, Bool, true, false, [], ◌∷◌, is_some, Option, Some, None, IsTrue, refl, sym, ap, ◌∙◌, subst}
+use Rattle.std.proofs.Common.{◌≡◌, ◌≢◌, ℕ, if◌then◌else◌, Bool, true, false, List, [], ◌∷◌, is_some, Option, Some, None, IsTrue, refl, sym, ap, ◌∙◌, subst}
 use Rattle.std.proofs.Math.ListN.{set}
 use Rattle.xp_words.specs.Machine.{Machine}
 use Rattle.xp_words.specs.declared.place.Place.{Place}
@@ -20,7 +20,7 @@ use Rattle.xp_board.specs.Told.{PortValue, Story, IsTold, Went, tells, is_tellin
 use Rattle.xp_board.proofs.Going.{went_step, went_telling}
 use Rattle.board_lemmas.proofs.Numbers.{place_number}
 use Rattle.board_lemmas.proofs.PlaceTests.{same_place, is_same-refl}
-use Rattle.step_maker.specs.Moves.{Moves, step_at}
+use Rattle.step_maker.specs.Moves.{Moment, Moves, Ran, Came, step_at}
 use Rattle.step_maker.specs.Plain.{Words, change, Leaves}
 use Rattle.step_maker.proofs.Moving.{legal_there}
 use Rattle.step_maker.proofs.Noting.{made_now}
@@ -105,3 +105,12 @@ load_leaves p m q = sym (by_test (is_same q p) (m p) (m q) (m q) (λ on. ap m (s
 
 pub load_tells : (v u : PortValue) (p : Place) (k : StepKind) (mark : Option Mark) (x : ℕ) → Moves v u p Load k mark x → is_telling v ≡ true → Leaves u (told_word v)
 load_tells v u p k mark x m telling q = leaves v u p Load k mark x m telling q ∙ load_leaves p (told_word v) q
+
+-- steps of the call change not whether all words are told
+pub ran_telling : (v w : PortValue) (ms : List Moment) → Ran v ms w → is_telling w ≡ is_telling v
+ran_telling v w [] a = ap (λ (y : PortValue). is_telling y) a
+ran_telling v w (m ∷ ms) a = moves_telling a.0 w m.place m.act m.kind m.mark m.found a.2.moves ∙ ran_telling v a.0 ms a.1
+
+pub came_telling : (v w : PortValue) → Came v w → is_telling w ≡ is_telling v
+unfolding Came
+came_telling v w a = ran_telling v w a.0 a.1

@@ -1,20 +1,23 @@
 -- What a board and its vCPUs are after steps of one of them.
-use Rattle.std.proofs.Common.{◌≡◌, ◌≢◌, ℕ, ◌^◌, ◌<◌, ◌⊎◌, List, length, Option, Some, None, refl, sym, ap, ◌∙◌, subst, inl, inr, slice_set, slice_index_or, length-set, get_or-set_same}
+use Rattle.std.proofs.Common.{◌≡◌, ◌≢◌, ℕ, ◌^◌, ◌<◌, ◌⊎◌, List, length, Option, Some, None, refl, sym, ap, ◌∙◌, subst, inl, inr, slice_set, slice_index_or, length-set, get_or-set_same, arith}
 use Rattle.std.specs.Prelude.{slice_get}
 use Rattle.std.proofs.lemmas.Bool.{cases_eq}
 use Rattle.std.proofs.lemmas.List.{get_or-set_other}
 use Rattle.std.proofs.lemmas.List.Elements.{All-set, All-get_or}
-use Rattle.std.proofs.lemmas.Option.{slice_get-get_or, slice_get_within, get_or_from_slice_get}
-use Rattle.xp_words.specs.Machine.{Machine}
+use Rattle.std.proofs.lemmas.Option.{slice_get-get_or, slice_get_cases, slice_get_within, get_or_from_slice_get}
+use Rattle.xp_words.specs.Machine.{IsMachine, Machine}
 use Rattle.xp_words.specs.Places.{sizes_of, memory, run_of}
 use Rattle.xp_words.specs.declared.ops.Op.{Op}
+use Rattle.xp_board.specs.declared.holdings.Holdings.{Holdings}
 use Rattle.xp_board.specs.declared.holdings.Made.{Made}
 use Rattle.xp_board.specs.Readings.{domain_of}
-use Rattle.xp_board.specs.Sound.{hand_of}
-use Rattle.xp_board.specs.Told.{PortValue, Story, Went, run_or}
+use Rattle.xp_board.specs.Hands.{IsEmptyHand}
+use Rattle.xp_board.specs.Sound.{SoundState, hand_of}
+use Rattle.xp_board.specs.Told.{PortValue, Story, Goes, run_or}
+use Rattle.answer_laws.specs.Alone.{IsAlone}
 use Rattle.shared_board.specs.Board.{Board, port_value}
 use Rattle.vcpu_turn.specs.Cpus.{Processing}
-use Rattle.vcpu_turn.specs.Turning.{IsOf, Rests, Runs}
+use Rattle.vcpu_turn.specs.Turning.{Idles, IsOf, Runs}
 use Rattle.xp_machine.specs.Cpus.{AreShort, IsShort}
 use Rattle.xp_machine.specs.Pieces.{Leads}
 use Rattle.xp_machine.specs.Ready.{Ready}
@@ -35,20 +38,24 @@ pub moved_none : (n : Machine) (s : ℕ) (a b : Story) → b ≡ a → Moved n s
 moved_none n s a b same = rw same (record { opening = refl; hands = refl; others = λ t off. refl })
 
 -- steps by a port of the board
-pub record Stepping (n : Machine) (s : ℕ) (a : Story) (made : List Made) (b : Story) : Type 0 where
+pub record Stepping (n : Machine) (s : ℕ) (a b : Story) : Type 0 where
+  pub made : List Made
   pub leads : Leads n s a made b
   pub moved : Moved n s a b
 
-pub stepping : (b b2 : Board) (s lender : ℕ) (made : List Made) → s < (sizes_of b.machine).vcpus → length b.story.hands ≡ (sizes_of b.machine).vcpus →
-    Went (port_value b s lender) made (port_value b2 s lender) → Rests (hand_of b2.story.hands s) → Stepping b.machine s b.story made b2.story
-stepping b b2 s lender made real hands went rests =
+pub stepping : (b b2 : Board) (s lender : ℕ) → s < (sizes_of b.machine).vcpus → length b.story.hands ≡ (sizes_of b.machine).vcpus →
+    Goes (port_value b s lender) (port_value b2 s lender) → IsEmptyHand (hand_of b2.story.hands s) → Stepping b.machine s b.story b2.story
+unfolding Goes
+stepping b b2 s lender real hands goes empty =
     let n = b.machine in
+    let made : List Made = goes.0 in
     let walk : Walked n s b.story (port_value b2 s lender) made =
-    walked (port_value b s lender) (port_value b2 s lender) b.story made refl refl (subst (λ k. s < k) (sym hands) real) real went in
+    walked (port_value b s lender) (port_value b2 s lender) b.story made refl refl (subst (λ k. s < k) (sym hands) real) real goes.1 in
     let same : b2.story ≡ walk.b = ap (story_in b.story) walk.told in
-    subst (λ x. Stepping n s b.story made x) (sym same)
+    subst (λ x. Stepping n s b.story x) (sym same)
     (record {
-      leads = record { piece = walk.piece; log = walk.log; empty = (subst (λ (x : Story). Rests (hand_of x.hands s)) same rests).empty };
+      made = made;
+      leads = record { piece = walk.piece; log = walk.log; empty = subst (λ (x : Story). IsEmptyHand (hand_of x.hands s)) same empty };
       moved = record { opening = walk.opening; hands = walk.hands; others = walk.others };
     })
 
@@ -58,7 +65,8 @@ same_story b b2 s lender same = ap (λ (x : PortValue). story_in b.story x.told)
 
 -- ---- each port is still that of its vCPU
 of_lender : (b : Board) (s lender other : ℕ) (c : Processing) → IsOf (port_value b s lender) c → IsOf (port_value b s other) c
-of_lender b s lender other c o = record { vcpu = o.vcpu; domain = o.domain; rests = o.rests; runs = o.runs }
+of_lender b s lender other c o = 
+    record { vcpu = o.vcpu; domain = o.domain; idles = record { empty = o.idles.empty; no_walk = o.idles.no_walk; machine = o.idles.machine }; runs = o.runs }
 
 still_runs : (b b2 : Board) (t lender : ℕ) → b2.machine ≡ b.machine → b2.story.opening ≡ b.story.opening → hand_of b2.story.hands t ≡ hand_of b.story.hands t → Runs (port_value b t lender) →
     Runs (port_value b2 t lender)
@@ -70,7 +78,11 @@ of_other b b2 t lender c machine opening hand o =
     record {
       vcpu = o.vcpu;
       domain = o.domain ∙ sym (λ i. domain_of (machine i) t);
-      rests = subst Rests (sym hand) o.rests;
+      idles = record {
+        empty = subst IsEmptyHand (sym hand) o.idles.empty;
+        no_walk = ap (λ (h : Holdings). h.walk) hand ∙ o.idles.no_walk;
+        machine = subst IsMachine (sym machine) o.idles.machine;
+      };
       runs = λ works. still_runs b b2 t lender machine opening hand (o.runs works);
     }
 
@@ -89,15 +101,30 @@ short_at cpus s c all here = subst IsShort (get_or_from_slice_get cpus s c c her
 
 -- ---- all of it
 pub ready_after : (b b2 : Board) (s lender : ℕ) (cpus : List Processing) (c c2 : Processing) → Ready b cpus → b2.machine ≡ b.machine → Moved b.machine s b.story b2.story → slice_get cpus s ≡ Some c →
-    c2.script ≡ c.script → IsOf (port_value b2 s lender) c2 → Ready b2 (slice_set cpus s c2)
-ready_after b b2 s lender cpus c c2 ready machine moved here script own =
+    c2.script ≡ c.script → SoundState b2.machine b2.story.words b2.story.hands → IsOf (port_value b2 s lender) c2 → Ready b2 (slice_set cpus s c2)
+ready_after b b2 s lender cpus c c2 ready machine moved here script sound own =
     let vcpus : (sizes_of b2.machine).vcpus ≡ (sizes_of b.machine).vcpus = ap (λ (n : Machine). (sizes_of n).vcpus) machine in
     record {
       all = length-set cpus s c2 ∙ ready.all ∙ sym vcpus;
       hands = moved.hands ∙ ready.hands ∙ sym vcpus;
       short = All-set IsShort cpus s c2 (subst (λ (l : List Op). length l < 2 ^ 32) (sym script) (short_at cpus s c ready.short here)) ready.short;
+      sound = sound;
       of = λ t other x at. elim (set_at cpus s t c2 x (slice_get_within cpus s c here) at) [
         | inl same ↦ rw (same.0, same.1) (of_lender b2 s lender other c2 own)
         | inr off ↦ of_other b b2 t other x machine moved.opening (moved.others t off.0) (ready.of t other x off.1)
       ];
     }
+
+-- ---- the vCPU whose turn it is, while all others have nothing in hand
+pub empty_at : (b : Board) (cpus : List Processing) (s : ℕ) → Ready b cpus → s < (sizes_of b.machine).vcpus → IsEmptyHand (hand_of b.story.hands s)
+empty_at b cpus s ready real =
+    elim ((slice_get_cases cpus s).1) [
+      | inl here ↦ (ready.of s 0 here.0 here.2).idles.empty
+      | inr past ↦ absurd (let all = ready.all in let far = past.0 in omega arith)
+    ]
+
+pub alone_at : (b : Board) (cpus : List Processing) (s lender : ℕ) → Ready b cpus → IsAlone (port_value b s lender)
+alone_at b cpus s lender ready = record { story = b.story; telling = refl; state = ready.sound; mine = refl; others = λ t real off. empty_at b cpus t ready real }
+
+pub sound_alone : (b : Board) (s lender : ℕ) → IsAlone (port_value b s lender) → SoundState b.machine b.story.words b.story.hands
+sound_alone b s lender alone = subst (λ (a : Story). SoundState b.machine a.words a.hands) (sym (ap (story_in b.story) alone.telling)) alone.state

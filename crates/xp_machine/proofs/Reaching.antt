@@ -1,12 +1,12 @@
 -- What the code makes of a trace is what legal steps make of it.
-use Rattle.std.proofs.Common.{◌≡◌, ℕ, ◌<◌, ◌≤◌, Bool, Some, List, [], length, map, Result, Ok, Err, IfOk, refl, sym, ap, ◌∙◌, subst, inl, inr, lit<, arith, slice_index_or}
+use Rattle.std.proofs.Common.{◌≡◌, ℕ, ◌<◌, ◌≤◌, Option, Some, List, [], length, map, Result, Ok, Err, IfOk, refl, sym, ap, ◌∙◌, subst, inl, inr, lit<, arith, slice_index_or}
 use Rattle.std.specs.Prelude.{slice_get, sum_by}
 use Rattle.std.specs.List.{enumerate_from}
 use Rattle.std.proofs.lemmas.List.{length-map, get_or-map, length-replicate, get_or-replicate}
 use Rattle.std.proofs.lemmas.List.Elements.{All-get_or}
 use Rattle.std.proofs.lemmas.List.FromFn.{length-enumerate_from, get_or-enumerate_from}
 use Rattle.std.proofs.lemmas.Option.{slice_get_within, slice_get_cases, get_or_from_slice_get}
-use Rattle.xp_words.specs.Machine.{Machine}
+use Rattle.xp_words.specs.Machine.{IsMachine, Machine}
 use Rattle.xp_words.specs.Places.{sizes_of, memory, run_of}
 use Rattle.xp_words.specs.declared.ops.Op.{Op}
 use Rattle.xp_board.specs.Hands.{empty, IsEmptyHand}
@@ -22,14 +22,14 @@ use Rattle.machine_build.specs.Opening.{IsOpening, opening_at}
 use Rattle.shared_board.specs.Board.{Board, opened_story, port_value, state_of}
 use Rattle.shared_board.proofs.Opened.{start_sound}
 use Rattle.vcpu_turn.specs.Cpus.{Processing, fresh}
-use Rattle.vcpu_turn.specs.Turning.{IsOf, Rests}
+use Rattle.vcpu_turn.specs.Turning.{IsOf}
 use Rattle.xp_machine.specs.Cpus.{AreShort, IsShort, order, first_cpu, first_cpus}
-use Rattle.xp_machine.specs.Gates.{StayCalm}
-use Rattle.xp_machine.specs.Ran.{Ran, Closes, report_at}
+use Rattle.xp_machine.specs.Gates.{Gate}
+use Rattle.xp_machine.specs.Ran.{Ran, Closes, first_gates, report_at}
 use Rattle.xp_machine.specs.Ready.{Ready, TakesFresh}
 use Rattle.xp_machine.specs.Turns.{Stage, WorksOff, stage}
+use Rattle.xp_machine.proofs.Moving.{empty_at}
 use Rattle.xp_machine.proofs.Starting.{length_first, short_first}
-use Rattle.xp_machine.proofs.Turning.{turns_fewer}
 use Rattle.board_lemmas.proofs.Numbers.{vcpu_there}
 
 -- what follows of each value follows of the value of a call
@@ -38,12 +38,8 @@ if_ok (Ok x) P Q f p = f x p
 if_ok (Err e) P Q f p = tt
 
 -- ---- the board before the first turn
-empty_rests : Rests empty
-empty_rests =
-    record {
-      empty = record { refs = refl; typed = refl; works = refl; locks = refl; ending = refl; claimed = refl; raised = refl; credits = refl; looking = refl };
-      walk = refl;
-    }
+empty_idles : IsEmptyHand empty
+empty_idles = record { refs = refl; typed = refl; works = refl; locks = refl; ending = refl; claimed = refl; raised = refl; credits = refl; looking = refl }
 
 runs_at_first : (t : Trace) (v : ℕ) → opening_at t (run_of v) ≡ 0
 unfolding opening_at
@@ -59,16 +55,20 @@ first_at n scripts v c at =
     let is = sym (get_or_from_slice_get (map (first_cpu n) numbered) v c (first_cpu n none) at) in
     (slice_index_or scripts v [], is ∙ get_or-map (first_cpu n) numbered v none (first_cpu n none) within ∙ ap (first_cpu n) (get_or-enumerate_from 0 scripts v none there ∙ ap (λ k. (k, slice_index_or scripts v [])) (omega arith)))
 
-pub takes_fresh : (t : Trace) (b : Board) (opened : List ℕ) → IsOpening t opened → b.machine ≡ t.layout → b.story ≡ opened_story t.layout opened → TakesFresh b
+pub takes_fresh : (t : Trace) (b : Board) (opened : List ℕ) → IsMachine t.layout → IsOpening t opened → b.machine ≡ t.layout → b.story ≡ opened_story t.layout opened → TakesFresh b
 unfolding TakesFresh
-takes_fresh t b opened opening machine story v lender script real =
+takes_fresh t b opened is opening machine story v lender script real =
     let n = t.layout in
     let there : v < (sizes_of n).vcpus = subst (λ (k : Machine). v < (sizes_of k).vcpus) machine real in
     rw (machine, story)
     (record {
       vcpu = refl;
       domain = refl;
-      rests = subst Rests (sym (get_or-replicate (length n.vcpu_domain) v empty empty there)) empty_rests;
+      idles = record {
+        empty = subst IsEmptyHand (sym (get_or-replicate (length n.vcpu_domain) v empty empty there)) empty_idles;
+        no_walk = ap (λ (h : Holdings). h.walk) (get_or-replicate (length n.vcpu_domain) v empty empty there);
+        machine = is;
+      };
       runs = λ works.
           (λ i. run_or (memory (sizes_of n) opened (run_of v)) (get_or-replicate (length n.vcpu_domain) v empty empty there i).run)
           ∙ opening.places (run_of v) (vcpu_there (sizes_of n) v 6 there (lit< tt)) ∙ runs_at_first t v;
@@ -83,15 +83,16 @@ of_first n b scripts machine takes all v lender c at =
     subst (IsOf (port_value b v lender)) (ap (λ (k : Machine). fresh v (domain_of k v) first.0) machine ∙ sym first.1)
     (takes v lender first.0 (subst (λ (k : Machine). v < (sizes_of k).vcpus) (sym machine) real))
 
-pub ready_board : (t : Trace) (b : Board) (opened : List ℕ) (cpus : List Processing) → IsOpening t opened → b.machine ≡ t.layout → b.story ≡ opened_story t.layout opened →
+pub ready_board : (t : Trace) (b : Board) (opened : List ℕ) (cpus : List Processing) → SoundWords t.layout opened → IsOpening t opened → b.machine ≡ t.layout → b.story ≡ opened_story t.layout opened →
     length t.scripts ≡ length t.layout.vcpu_domain → sum_by length t.scripts ≤ 65536 → cpus ≡ first_cpus t.layout t.scripts → Ready b cpus
-ready_board t b opened cpus opening machine story scripts few first =
+ready_board t b opened cpus words opening machine story scripts few first =
     subst (Ready b) (sym first)
     (record {
       all = length_first t.layout t.scripts ∙ scripts ∙ sym (ap (λ (n : Machine). (sizes_of n).vcpus) machine);
       hands = ap (λ (a : Story). length a.hands) story ∙ length-replicate (length t.layout.vcpu_domain) empty ∙ sym (ap (λ (n : Machine). (sizes_of n).vcpus) machine);
       short = short_first t.layout t.scripts few;
-      of = of_first t.layout b t.scripts machine (takes_fresh t b opened opening machine story) scripts;
+      sound = rw (machine, story) (start_sound t.layout opened words);
+      of = of_first t.layout b t.scripts machine (takes_fresh t b opened words.sound.machine opening machine story) scripts;
     })
 
 -- ---- the laws of the machine that the run rests on
@@ -103,36 +104,13 @@ RestsSound =
     (n : Machine) (words : List ℕ) (hands : List Holdings) → SoundState n words hands → ((s : ℕ) → s < (sizes_of n).vcpus → IsEmptyHand (hand_of hands s)) → SoundWords n words
 
 -- ---- at the end
-rests_at : (b : Board) (cpus : List Processing) (s : ℕ) → Ready b cpus → s < (sizes_of b.machine).vcpus → Rests (hand_of b.story.hands s)
-rests_at b cpus s ready real =
-    elim ((slice_get_cases cpus s).1) [
-      | inl here ↦ (ready.of s 0 here.0 here.2).rests
-      | inr past ↦ absurd (let all = ready.all in let far = past.0 in omega arith)
-    ]
-
-works_fewer : (n : Machine) (before after : List Bool) (vs : List ℕ) (s s' : Stage) → StayCalm before after → WorksOff n after vs s s' → WorksOff n before vs s s'
-works_fewer n before after vs s s' stay w = record { worked = w.worked; turns = turns_fewer n before after stay vs s w.worked w.turns; stops = w.stops }
-
-pub ran_fewer : (t : Trace) (before after : List Bool) (text : List ℕ) → StayCalm before after → Ran t after text → Ran t before text
-ran_fewer t before after text stay r =
-    record {
-      opened = r.opened;
-      opening = r.opening;
-      closed = r.closed;
-      works = works_fewer t.layout before after (order t.turns) (stage (opened_story t.layout r.opened) (first_cpus t.layout t.scripts)) r.closed stay r.works;
-      run = r.run;
-      safe = r.safe;
-      sound = r.sound;
-      report = r.report;
-    }
-
 -- the report of a board that was closed, and the run that led to it
-pub ran : RunsSafe → RestsSound → (t : Trace) (b b2 : Board) (opened : List ℕ) (cpus cpus2 : List Processing) (before calms : List Bool) (vs text : List ℕ) → SoundWords t.layout opened → IsOpening t opened →
-    b.machine ≡ t.layout → b.story ≡ opened_story t.layout opened → b2.machine ≡ b.machine → b2.story.opening ≡ b.story.opening → Ready b2 cpus2 → cpus ≡ first_cpus t.layout t.scripts → StayCalm before calms →
-    vs ≡ order t.turns → WorksOff b.machine calms vs (stage b.story cpus) (stage b2.story cpus2) → Closes b2.machine b2.story.opening (stage b2.story cpus2) text → Ran t before text
-ran guards rests t b b2 opened cpus cpus2 before calms vs text words opening machine story kept opens ready first stay those works closes =
+pub ran : RunsSafe → RestsSound → (t : Trace) (b b2 : Board) (opened : List ℕ) (cpus cpus2 : List Processing) (all : List Gate) (gates gates2 : List (Option Gate)) (vs text : List ℕ) → SoundWords t.layout opened → IsOpening t opened →
+    b.machine ≡ t.layout → b.story ≡ opened_story t.layout opened → b2.machine ≡ b.machine → b2.story.opening ≡ b.story.opening → Ready b2 cpus2 → cpus ≡ first_cpus t.layout t.scripts → gates ≡ first_gates t.layout all →
+    vs ≡ order t.turns → WorksOff b.machine vs (stage b.story cpus gates) (stage b2.story cpus2 gates2) → Closes b2.machine b2.story.opening (stage b2.story cpus2 gates2) text → Ran t all text
+ran guards rests t b b2 opened cpus cpus2 all gates gates2 vs text words opening machine story kept opens ready first own those works closes =
     let z = t.layout in
-    let closed : Stage = stage b2.story cpus2 in
+    let closed : Stage = stage b2.story cpus2 gates2 in
     let begins = start_sound z opened words in
     let machine2 : b2.machine ≡ z = kept ∙ machine in
     let from2 : b2.story.opening ≡ opened = opens ∙ ap (λ (x : Story). x.opening) story in
@@ -140,19 +118,17 @@ ran guards rests t b b2 opened cpus cpus2 before calms vs text words opening mac
     subst (λ ws. runs.Run z (runs.start z ws) closed.board.log (state_of closed.board)) from2
     (subst (λ k. runs.Run k (runs.start k b2.story.opening) closed.board.log (state_of closed.board)) machine2 closes.run) in
     let sound : SoundState z closed.board.words closed.board.hands = subst (λ k. SoundState k closed.board.words closed.board.hands) machine2 closes.sound in
-    let rested : (s : ℕ) → s < (sizes_of z).vcpus → Rests (hand_of b2.story.hands s) =
-    λ s real. rests_at b2 cpus2 s ready (subst (λ (k : Machine). s < (sizes_of k).vcpus) (sym machine2) real) in
     record {
       opened = opened;
       opening = opening;
       closed = closed;
-      works = works_fewer z before calms (order t.turns) (stage (opened_story z opened) (first_cpus z t.scripts)) closed stay
-          (subst (λ k. WorksOff k calms (order t.turns) (stage (opened_story z opened) (first_cpus z t.scripts)) closed) machine
-          (subst (λ us. WorksOff b.machine calms us (stage (opened_story z opened) (first_cpus z t.scripts)) closed) those
-          (subst (λ cs. WorksOff b.machine calms vs (stage (opened_story z opened) cs) closed) first (subst (λ st. WorksOff b.machine calms vs (stage st cpus) closed) story works))));
+      works = subst (λ k. WorksOff k (order t.turns) (stage (opened_story z opened) (first_cpus z t.scripts) (first_gates z all)) closed) machine
+          (subst (λ us. WorksOff b.machine us (stage (opened_story z opened) (first_cpus z t.scripts) (first_gates z all)) closed) those
+          (subst (λ gs. WorksOff b.machine vs (stage (opened_story z opened) (first_cpus z t.scripts) gs) closed) own
+          (subst (λ cs. WorksOff b.machine vs (stage (opened_story z opened) cs gates) closed) first (subst (λ st. WorksOff b.machine vs (stage st cpus gates) closed) story works))));
       run = run;
       safe = λ newer older a parts run2. guards z (runs.start z opened) a older run2 begins;
-      sound = rests z closed.board.words closed.board.hands sound (λ s real. (rested s real).empty);
+      sound = rests z closed.board.words closed.board.hands sound (λ s real. empty_at b2 cpus2 s ready (subst (λ (k : Machine). s < (sizes_of k).vcpus) (sym machine2) real));
       report = closes.report ∙ ap (λ k. report_at k closed) machine2;
     }
 

@@ -1,5 +1,5 @@
 -- The vCPUs of a trace before their first turn, with their gates.
-use Rattle.std.proofs.Common.{◌≡◌, ℕ, zero, suc, ◌+◌, ◌^◌, ◌<◌, ◌≤◌, Bool, true, List, [], ◌∷◌, length, map, refl, sym, ap, ◌∙◌, subst, arith, slice_index_or}
+use Rattle.std.proofs.Common.{◌≡◌, ℕ, zero, suc, ◌+◌, ◌^◌, ◌<◌, ◌≤◌, List, [], ◌∷◌, length, map, take, Option, Some, refl, sym, ap, ◌∙◌, subst, arith, slice_index_or}
 use Rattle.std.specs.Prelude.{sum_by}
 use Rattle.std.specs.List.{enumerate_from, range_with_len, zip}
 use Rattle.std.proofs.lemmas.List.{get_or-map, length-map}
@@ -9,7 +9,7 @@ use Rattle.std.proofs.lemmas.List.Sums.{get_or-le-sum_by}
 use Rattle.xp_words.specs.declared.ops.Op.{Op}
 use Rattle.xp_words.specs.Machine.{Machine}
 use Rattle.xp_machine.specs.Cpus.{IsShort, AreShort, first_cpu, first_cpus}
-use Rattle.xp_machine.specs.Gates.{is_calm, StayCalm}
+use Rattle.xp_machine.specs.Gates.{Gate}
 
 -- ---- numbers, scripts and gates side by side
 numbered : (a : ℕ) (scripts : List (List Op)) → zip (range_with_len a (length scripts)) scripts ≡ enumerate_from a scripts
@@ -29,14 +29,17 @@ cpus_first n vcpus scripts gates all few =
     ap (λ l. map (λ p. first_cpu n p.0) (zip l gates)) numbers
     ∙ firsts (first_cpu n) (enumerate_from 0 scripts) gates (subst (λ k. k ≤ length gates) (sym (length-enumerate_from 0 scripts)) few)
 
-calm_zip : {A G : Type 0} (calm : G → Bool) (xs : List A) (gates : List G) (v : ℕ) → is_calm (map calm gates) v ≡ true → is_calm (map (λ p. calm p.1) (zip xs gates)) v ≡ true
-calm_zip calm [] gates v h = refl
-calm_zip calm (x ∷ xs) [] v h = refl
-calm_zip calm (x ∷ xs) (g ∷ gs) zero h = h
-calm_zip calm (x ∷ xs) (g ∷ gs) (suc v) h = calm_zip calm xs gs v h
+gates_zip : {A G : Type 0} (gate : G → Gate) (xs : List A) (gates : List G) → map (λ p. Some (gate p.1)) (zip xs gates) ≡ map (λ g. Some g) (take (length xs) (map gate gates))
+gates_zip gate [] gates = refl
+gates_zip gate (x ∷ xs) [] = refl
+gates_zip gate (x ∷ xs) (g ∷ gs) = ap (λ (l : List (Option Gate)). Some (gate g) ∷ l) (gates_zip gate xs gs)
 
-pub calms_first : {A G : Type 0} (calm : G → Bool) (xs : List A) (gates : List G) (calms : List Bool) → calms ≡ map (λ p. calm p.1) (zip xs gates) → StayCalm (map calm gates) calms
-calms_first calm xs gates calms is v h = subst (λ cs. is_calm cs v ≡ true) (sym is) (calm_zip calm xs gates v h)
+pub gates_first : {G : Type 0} (gate : G → Gate) (n vcpus : ℕ) (scripts : List (List Op)) (gates : List G) → n ≡ length scripts → vcpus ≡ length scripts →
+    map (λ p. Some (gate p.1)) (zip (zip (range_with_len 0 vcpus) scripts) gates) ≡ map (λ g. Some g) (take n (map gate gates))
+gates_first gate n vcpus scripts gates few all =
+    let numbers : zip (range_with_len 0 vcpus) scripts ≡ enumerate_from 0 scripts = ap (λ k. zip (range_with_len 0 k) scripts) all ∙ numbered 0 scripts in
+    ap (λ l. map (λ p. Some (gate p.1)) (zip l gates)) numbers ∙ gates_zip gate (enumerate_from 0 scripts) gates
+    ∙ ap (λ k. map (λ g. Some g) (take k (map gate gates))) (length-enumerate_from 0 scripts ∙ sym few)
 
 -- the number of each is one of the machine's
 number_real : {X G : Type 0} (a n : ℕ) (xs : List X) (gates : List G) (k : ℕ) (d : (ℕ × X) × G) → k < length (zip (zip (range_with_len a n) xs) gates) →

@@ -8,7 +8,7 @@ use Rattle.trace_text.specs.TraceOf.{Fault, trace_of}
 use Rattle.xp_machine.specs.declared.status.Status.{Status}
 use Rattle.xp_machine.specs.declared.status.Status.TheVariants as status
 use Rattle.xp_machine.specs.Texts.{fault_text, fault_status}
-use Rattle.xp_machine.specs.Gates.{Gate}
+use Rattle.xp_machine.specs.Gates.{Gate, SetBy}
 use Rattle.xp_machine.specs.Ran.{Ran}
 
 -- these bytes were taken: all that were left, or one more than a trace may have, and no further one
@@ -41,3 +41,7 @@ Outcome gates from from' to to' status.WriteFault = Broke gates from from' to to
 Outcome gates from from' to to' status.ReadFault = Keeps to to'
 Outcome gates from from' to to' status.Memory = Keeps to to'
 Outcome gates from from' to to' status.BadWords = Keeps from from' × Keeps to to'
+
+-- the same where the gates are first told the pace that the words ask for
+abbrev pub OutcomeBy : Option ℕ → List Gate → Option (List ℕ) → Option (List ℕ) → Option (List ℕ) → Option (List ℕ) → Status → Type 0
+OutcomeBy asked gates from from' to to' answer = (set : List Gate) × SetBy asked gates set × Outcome set from from' to to' answer

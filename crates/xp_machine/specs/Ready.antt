@@ -3,16 +3,19 @@ use Rattle.std.specs.Prelude.{◌≡◌, ◌<◌, ℕ, List, length, slice_get, 
 use Rattle.xp_words.specs.Places.{sizes_of}
 use Rattle.xp_words.specs.declared.ops.Op.{Op}
 use Rattle.xp_board.specs.Readings.{domain_of}
+use Rattle.xp_board.specs.Sound.{SoundState}
 use Rattle.shared_board.specs.Board.{Board, port_value}
 use Rattle.vcpu_turn.specs.Cpus.{Processing, fresh}
 use Rattle.vcpu_turn.specs.Turning.{IsOf}
 use Rattle.xp_machine.specs.Cpus.{AreShort}
 
--- There is one vCPU for each vCPU. It rests, and unless it is retired it runs, whoever lends it the board.
+-- The words and hands are sound. There is one vCPU for each vCPU. It idles, and unless it is retired it runs, whoever lends it
+-- the board.
 pub record Ready (b : Board) (cpus : List Processing) : Type 0 where
   pub all : length cpus ≡ (sizes_of b.machine).vcpus
   pub hands : length b.story.hands ≡ (sizes_of b.machine).vcpus
   pub short : AreShort cpus
+  pub sound : SoundState b.machine b.story.words b.story.hands
   pub of : (v lender : ℕ) (c : Processing) → slice_get cpus v ≡ Some c → IsOf (port_value b v lender) c
 
 -- a vCPU with any script may begin on this board

@@ -2,9 +2,9 @@ ghost use Rattle.std.specs.Prelude.{◌≡◌, ◌≤◌, length, map, vec_len, 
 ghost use Rattle.xp_words.specs.Places.{sizes_of};
 ghost use Rattle.trace_text.specs.WellFormed.{IsWellFormed};
 ghost use Rattle.xp_machine.specs.Cpus.{AreShort, first_cpus};
-ghost use Rattle.xp_machine.specs.Gates.{StayCalm};
-ghost use Rattle.xp_machine.specs.Ran.{Closes, Ran};
-ghost use Rattle.xp_machine.specs.Rows.{calms_of, cpus_of, stage_of};
+ghost use Rattle.xp_machine.specs.Gates.{gate_of};
+ghost use Rattle.xp_machine.specs.Ran.{Closes, Ran, first_gates};
+ghost use Rattle.xp_machine.specs.Rows.{cpus_of, gates_of, stage_of};
 
 use crate::runner::Runner;
 use crate::turns::run_all;
@@ -28,7 +28,7 @@ fn first_runners(
 ) -> Result<Vec<Runner>, AllocError>
     requires scripts { length scripts ≡ (sizes_of layout.now).vcpus }
     requires gates { length scripts ≤ vec_len gates }
-    ensures { IfOk result (λ v. (cpus_of v.items ≡ first_cpus layout.now scripts) × StayCalm (map calm gates.items) (calms_of calm v.items)) }
+    ensures { IfOk result (λ v. (cpus_of v.items ≡ first_cpus layout.now scripts) × (gates_of (gate_of calm paces count_asks says) v.items ≡ first_gates layout.now (map (gate_of calm paces count_asks says) gates.items))) }
 {
     let mut runners = Vec::new(alloc);
     'runners: for ((vcpu, script), gate) in (0..layout.vcpus())
@@ -45,7 +45,7 @@ fn first_runners(
 fn closing(alloc: Global, board: PlainBoard, runners: Vec<Runner>) -> Result<Vec<u8>, AllocError>
     requires each { length runners.items ≡ (sizes_of board.machine).vcpus }
     requires short { AreShort (cpus_of runners.items) }
-    ensures { IfOk result (λ v. Closes board.machine board.story.opening (stage_of board runners.items) v.items) }
+    ensures { IfOk result (λ v. Closes board.machine board.story.opening (stage_of (gate_of calm paces count_asks says) board runners.items) v.items) }
 {
     let mut logs = Vec::new(alloc);
     let mut pending = Vec::new(alloc);
@@ -68,7 +68,7 @@ pub fn execute(
 ) -> Result<Vec<u8>, AllocError>
     requires well { IsWellFormed trace }
     requires gates { 16 ≤ vec_len gates }
-    ensures { IfOk result (λ v. Ran trace (map calm gates.items) v.items) }
+    ensures { IfOk result (λ v. Ran trace (map (gate_of calm paces count_asks says) gates.items) v.items) }
 {
     // What the steps keep is law: these calls do nothing.
     opening_words_are_sound();

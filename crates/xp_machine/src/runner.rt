@@ -1,7 +1,7 @@
-ghost use Rattle.std.specs.Prelude.{◌≡◌, ◌<◌, ◌^◌, true, false, not, is_some, length};
+ghost use Rattle.std.specs.Prelude.{◌≡◌, ◌<◌, ◌^◌, Some, None, false, not, is_some, length};
 ghost use Rattle.vcpu_turn.specs.Turning.{IsOf, StopsBy};
-ghost use Rattle.xp_machine.specs.Gates.{calm_in};
-ghost use Rattle.xp_machine.specs.Runners.{TakesTurn};
+ghost use Rattle.xp_machine.specs.Gates.{gate_in, gate_of};
+ghost use Rattle.xp_machine.specs.Runners.{TakesTurnBy};
 
 use vcpu_turn::{Cpu, stop, turn};
 use xp_board::Port;
@@ -20,7 +20,7 @@ impl Runner {
     pub fn new(cpu: Cpu, gate: Box<dyn Preempt + Send>) -> Runner
         requires { cpu.retired ≡ false }
         ensures cpu { result.cpu ≡ cpu }
-        ensures calm { calm_in calm result.gate ≡ calm gate }
+        ensures gate { gate_in (gate_of calm paces count_asks says) result.gate ≡ Some (gate_of calm paces count_asks says gate) }
     {
         Runner {
             cpu,
@@ -33,9 +33,8 @@ impl Runner {
         requires short { length self.old.cpu.script < 2 ^ 32 }
         requires of { IsOf (P.value port.old) self.old.cpu }
         ensures post { (P.value port.new).post ≡ (P.value port.old).post }
-        ensures turn { TakesTurn (calm_in calm self.old.gate) self.old.cpu self.new.cpu (P.value port.old) (P.value port.new) }
+        ensures turn { TakesTurnBy self.old.cpu.retired (gate_in (gate_of calm paces count_asks says) self.old.gate) (gate_in (gate_of calm paces count_asks says) self.new.gate) self.old.cpu self.new.cpu (P.value port.old) (P.value port.new) }
         ensures of { IsOf (P.value port.new) self.new.cpu }
-        ensures calm { calm_in calm self.old.gate ≡ true → calm_in calm self.new.gate ≡ true }
     {
         let Some(gate) = &mut self.gate else {
             return;
@@ -51,6 +50,7 @@ impl Runner {
         requires of { IsOf (P.value port.old) self.old.cpu }
         ensures post { (P.value port.new).post ≡ (P.value port.old).post }
         ensures stop { StopsBy self.old.cpu.retired self.old.cpu self.new.cpu (P.value port.old) (P.value port.new) }
+        ensures gate { gate_in (gate_of calm paces count_asks says) self.new.gate ≡ None }
         ensures of { IsOf (P.value port.new) self.new.cpu }
     {
         stop(port, &mut self.cpu);

@@ -1,8 +1,8 @@
-ghost use Rattle.std.specs.Prelude.{◌≡◌, ◌≤◌, ◌↔◌, Bool, true, Some, None, map, string_bytes, List, ℕ, length, vec_len, IfOk, IsErrOf};
+ghost use Rattle.std.specs.Prelude.{◌≡◌, ◌≤◌, ◌↔◌, None, map, string_bytes, List, ℕ, length, vec_len, IfOk, IsErrOf};
 ghost use Rattle.xp_io.specs.Causes.{Rose};
 ghost use Rattle.trace_text.specs.TraceOf.{trace_of};
-ghost use Rattle.xp_machine.specs.Gates.{StayCalm, under_pace};
-ghost use Rattle.xp_machine.specs.Outcome.{IsAnswer, IsDue, Outcome};
+ghost use Rattle.xp_machine.specs.Gates.{ArePaced, Gate, IsPaced, gate_of};
+ghost use Rattle.xp_machine.specs.Outcome.{IsAnswer, IsDue, OutcomeBy};
 ghost use Rattle.xp_machine.specs.Words.{pace_of};
 
 use crate::execute::execute;
@@ -30,7 +30,7 @@ fn answer(
     gates: Vec<Box<dyn Preempt + Send>>,
 ) -> Result<Due, AllocError>
     requires { 16 ≤ vec_len gates }
-    ensures { IfOk result (λ d. IsAnswer (map calm gates.items) (trace_of bytes.now) d.status d.text.items) }
+    ensures { IfOk result (λ d. IsAnswer (map (gate_of calm paces count_asks says) gates.items) (trace_of bytes.now) d.status d.text.items) }
 {
     match read_trace(alloc, bytes) {
         Ok(trace) => {
@@ -61,7 +61,7 @@ fn answer(
 // What is due for more bytes than a trace may have.
 #[tactic(auto, unfolding(crate::specs::Texts::fault_status, trace_text::specs::TraceOf::trace_of))]
 fn too_long(alloc: Global) -> Result<Due, AllocError>
-    ensures { IfOk result (λ d. (calms : List Bool) (bytes : List ℕ) → length bytes ≡ 67108865 → IsAnswer calms (trace_of bytes) d.status d.text.items) }
+    ensures { IfOk result (λ d. (set : List Gate) (bytes : List ℕ) → length bytes ≡ 67108865 → IsAnswer set (trace_of bytes) d.status d.text.items) }
 {
     let text = large_text(alloc, 0, What::Bytes, 67_108_865)?;
     Ok(Due {
@@ -83,7 +83,7 @@ fn gather<S: Source>(
     gates: Vec<Box<dyn Preempt + Send>>,
 ) -> Result<Due, Early>
     requires { 16 ≤ vec_len gates }
-    ensures due { IfOk result (λ d. IsDue (map calm gates.items) (S.left source.old) (S.left source.new) d.status d.text.items) }
+    ensures due { IfOk result (λ d. IsDue (map (gate_of calm paces count_asks says) gates.items) (S.left source.old) (S.left source.new) d.status d.text.items) }
     ensures failed { IsErrOf result Early.Failed → Rose (S.faults source.old) (S.faults source.new) }
     ensures later { S.faults source.old ≤ S.faults source.new }
 {
@@ -102,13 +102,13 @@ fn gather<S: Source>(
 }
 
 fn set_pace(gate: &mut Box<dyn Preempt + Send>, every: u32)
-    ensures { (calm gate.old ≡ true) × (every ≡ 0) → calm gate.new ≡ true }
+    ensures { IsPaced every (gate_of calm paces count_asks says gate.old) (gate_of calm paces count_asks says gate.new) }
 {
     gate.pace(every);
 }
 
 fn set_paces(gates: &mut [Box<dyn Preempt + Send>], every: u32)
-    ensures { StayCalm (under_pace (Some every) (map calm gates.old)) (map calm gates.new) }
+    ensures { ArePaced every (map (gate_of calm paces count_asks says) gates.old) (map (gate_of calm paces count_asks says) gates.new) }
 {
     'gates: for gate in gates.iter_mut() {
         set_pace(gate, every);
@@ -118,7 +118,7 @@ fn set_paces(gates: &mut [Box<dyn Preempt + Send>], every: u32)
 // The gates, each told the pace.
 fn paced(mut gates: Vec<Box<dyn Preempt + Send>>, every: u32) -> Vec<Box<dyn Preempt + Send>>
     ensures len { vec_len result ≡ vec_len gates }
-    ensures calm { StayCalm (under_pace (Some every) (map calm gates.items)) (map calm result.items) }
+    ensures paced { ArePaced every (map (gate_of calm paces count_asks says) gates.items) (map (gate_of calm paces count_asks says) result.items) }
 {
     set_paces(&mut gates, every);
     gates
@@ -138,7 +138,7 @@ pub fn run<S: Source, K: Sink>(
     requires gates { 16 ≤ vec_len gates }
 
     // Which bytes were taken, what they spell, and what was written of the text that is due for it.
-    ensures outcome { Outcome (under_pace (pace_of (map string_bytes words.now)) (map calm gates.items)) (S.left source.old) (S.left source.new) (K.taken sink.old) (K.taken sink.new) result }
+    ensures outcome { OutcomeBy (pace_of (map string_bytes words.now)) (map (gate_of calm paces count_asks says) gates.items) (S.left source.old) (S.left source.new) (K.taken sink.old) (K.taken sink.new) result }
 
     // The words are refused exactly where they ask for no run.
     ensures words { (result ≡ Status.BadWords) ↔ (pace_of (map string_bytes words.now) ≡ None) }

@@ -7,7 +7,7 @@ use Rattle.answer_fits.specs.Answers.{Serves, Stops, missed, misses}
 use Rattle.answer_fits.specs.Asked.{of_frame}
 use Rattle.answer_fits.proofs.Piecing.{serves_back, serves_came, stops_before}
 use Rattle.xp_board.specs.Told.{is_telling}
-use Rattle.flush_waits.proofs.Growing.{came_telling}
+use Rattle.step_maker.proofs.Telling.{came_telling}
 use Rattle.frame_types.proofs.GivenUp.{after_stop, after_wait, found_stamp}
 use Rattle.frame_types.proofs.Waiting.{back_serves, err_gives, wait_kinds, wait_stops}
 use Rattle.frame_types.proofs.memory.take_writable.Goals as goal

@@ -7,7 +7,7 @@ use Rattle.xp_board.specs.KindSteps.{begun_kind, is_stale, raised_kind, resumed_
 use Rattle.step_maker.proofs.Coming.{moves_came, came_trans}
 use Rattle.answer_fits.specs.Asked.{of_back}
 use Rattle.answer_fits.proofs.Piecing.{serves_came}
-use Rattle.flush_waits.proofs.Growing.{came_telling}
+use Rattle.step_maker.proofs.Telling.{came_telling}
 use Rattle.flush_words.proofs.Lasting.{came_longer}
 use Rattle.kind_words.proofs.KindFacts.{kind_is_some, read_is}
 use Rattle.kind_words.proofs.KindWriting.{raised_is, begun_is, resumed_is}

@@ -7,7 +7,8 @@ use Rattle.report_text.specs.ReportOf.{report_of}
 use Rattle.vcpu_turn.specs.Cpus.{pending_of}
 use Rattle.xp_machine.specs.Cpus.{IsShort}
 use Rattle.xp_machine.specs.Ran.{log_of, Closes}
-use Rattle.xp_machine.specs.Turns.{stage}
+use Rattle.xp_machine.specs.Gates.{gate_of}
+use Rattle.xp_machine.specs.Rows.{stage_of}
 use Rattle.xp_machine.proofs.Reaching.{if_ok, short_runner}
 use Rattle.xp_machine.proofs.execute.closing.Goals as goal
 
@@ -40,7 +41,7 @@ returns g c =
     c.deref-3.ensures.value ∙ c.runners.invariant.pending ∙ ap (map (λ s. pending_of s.cpu)) all ∙ sym (map-map pending_of (λ s. s.cpu) c.args.runners.items) in
     let words = c.deref.ensures.value ∙ c.into_words-words.ensures.words in
     if_ok c.report.result (λ v. v.items ≡ report_of c.copy-layout.result c.deref.result.now c.deref-2.result.now c.deref-3.result.now)
-    (λ v. Closes c.args.board.machine c.args.board.story.opening (stage c.args.board.story (map (λ s. s.cpu) c.args.runners.items)) v.items)
+    (λ v. Closes c.args.board.machine c.args.board.story.opening (stage_of (gate_of (λ x. (goal.Preempt-dyn g (x.vtable, x.value)).calm x.value) (λ x. (goal.Preempt-dyn g (x.vtable, x.value)).paces x.value) (λ x. (goal.Preempt-dyn g (x.vtable, x.value)).count_asks x.value) (λ x. (goal.Preempt-dyn g (x.vtable, x.value)).says x.value)) c.args.board c.args.runners.items) v.items)
     (λ v is. record {
       run = c.into_words-words.ensures.run;
       sound = c.into_words-words.ensures.sound;

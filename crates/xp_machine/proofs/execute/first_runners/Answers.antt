@@ -1,4 +1,4 @@
-use Rattle.std.proofs.Common.{◌∙◌, ◌≤◌, length, refl, sym, ap, map, List, rules, arith}
+use Rattle.std.proofs.Common.{◌∙◌, ◌≤◌, length, refl, sym, ap, map, List, Some, rules, arith}
 use Rattle.std.specs.List.{range_with_len, zip}
 use Rattle.xp_words.specs.declared.ops.Op.{Op}
 use Rattle.std.specs.Iterator.Adapters.{zip_second}
@@ -7,7 +7,8 @@ use Rattle.std.proofs.lemmas.Iterator.Adapters.{YieldsList-from_vec}
 use Rattle.std.proofs.lemmas.Iterator.Consumers.{YieldsList-at, YieldsList-turn, YieldsList-end}
 use Rattle.std.proofs.lemmas.List.{map-id}
 use Rattle.xp_machine.specs.Cpus.{first_cpu}
-use Rattle.xp_machine.proofs.Starting.{cpus_first, calms_first, number_below}
+use Rattle.xp_machine.specs.Gates.{gate_of}
+use Rattle.xp_machine.proofs.Starting.{cpus_first, gates_first, number_below}
 use Rattle.xp_machine.proofs.execute.first_runners.Goals as goal
 
 pub new-requires : goal.new-requires
@@ -27,5 +28,7 @@ returns g c =
       c.runners.invariant.cpus ∙ ap (map (λ p. first_cpu c.args.layout.now p.0)) all
           ∙ ap (λ (scripts : List (List Op)). map (λ p. first_cpu c.args.layout.now p.0) (zip (zip (range_with_len 0 c.vcpus.result) scripts) c.args.gates.items)) c.into_items.ensures
           ∙ cpus_first c.args.layout.now c.vcpus.result c.args.scripts c.args.gates.items (c.vcpus.ensures.vcpus ∙ sym c.requires.scripts) few,
-      calms_first _ (zip (range_with_len 0 c.vcpus.result) c.into_items.result.items) c.args.gates.items _ (c.runners.invariant.calms ∙ ap (map (λ p. (goal.Preempt-dyn g (p.1.vtable, p.1.value)).calm p.1.value)) all),
+      c.runners.invariant.gates ∙ ap (map (λ p. Some ((gate_of (λ x. (goal.Preempt-dyn g (x.vtable, x.value)).calm x.value) (λ x. (goal.Preempt-dyn g (x.vtable, x.value)).paces x.value) (λ x. (goal.Preempt-dyn g (x.vtable, x.value)).count_asks x.value) (λ x. (goal.Preempt-dyn g (x.vtable, x.value)).says x.value)) p.1))) all
+          ∙ ap (λ (scripts : List (List Op)). map (λ p. Some ((gate_of (λ x. (goal.Preempt-dyn g (x.vtable, x.value)).calm x.value) (λ x. (goal.Preempt-dyn g (x.vtable, x.value)).paces x.value) (λ x. (goal.Preempt-dyn g (x.vtable, x.value)).count_asks x.value) (λ x. (goal.Preempt-dyn g (x.vtable, x.value)).says x.value)) p.1)) (zip (zip (range_with_len 0 c.vcpus.result) scripts) c.args.gates.items)) c.into_items.ensures
+          ∙ gates_first (gate_of (λ x. (goal.Preempt-dyn g (x.vtable, x.value)).calm x.value) (λ x. (goal.Preempt-dyn g (x.vtable, x.value)).paces x.value) (λ x. (goal.Preempt-dyn g (x.vtable, x.value)).count_asks x.value) (λ x. (goal.Preempt-dyn g (x.vtable, x.value)).says x.value)) _ c.vcpus.result c.args.scripts c.args.gates.items (sym c.requires.scripts) (c.vcpus.ensures.vcpus ∙ sym c.requires.scripts),
     )

@@ -1,10 +1,11 @@
-use Rattle.std.proofs.Common.{◌≡◌, map}
+use Rattle.std.proofs.Common.{◌≡◌, map, Some}
 use Rattle.xp_machine.specs.Cpus.{first_cpu}
-use Rattle.xp_machine.specs.Rows.{calms_of, cpus_of}
+use Rattle.xp_machine.specs.Gates.{gate_of}
+use Rattle.xp_machine.specs.Rows.{gates_of, cpus_of}
 use Rattle.xp_machine.proofs.execute.first_runners.Given as goal
 
 abbrev pub invariant-runners : goal.invariant-runners
 invariant-runners g l = record {
   cpus : cpus_of l.runners.items ≡ map (λ p. first_cpu l.layout p.0) l.yielded;
-  calms : calms_of (λ x. (goal.Preempt-dyn g (x.vtable, x.value)).calm x.value) l.runners.items ≡ map (λ p. (goal.Preempt-dyn g (p.1.vtable, p.1.value)).calm p.1.value) l.yielded;
+  gates : gates_of (gate_of (λ x. (goal.Preempt-dyn g (x.vtable, x.value)).calm x.value) (λ x. (goal.Preempt-dyn g (x.vtable, x.value)).paces x.value) (λ x. (goal.Preempt-dyn g (x.vtable, x.value)).count_asks x.value) (λ x. (goal.Preempt-dyn g (x.vtable, x.value)).says x.value)) l.runners.items ≡ map (λ p. Some ((gate_of (λ x. (goal.Preempt-dyn g (x.vtable, x.value)).calm x.value) (λ x. (goal.Preempt-dyn g (x.vtable, x.value)).paces x.value) (λ x. (goal.Preempt-dyn g (x.vtable, x.value)).count_asks x.value) (λ x. (goal.Preempt-dyn g (x.vtable, x.value)).says x.value)) p.1)) l.yielded;
 }

@@ -1,12 +1,12 @@
-use Rattle.std.proofs.Common.{◌∙◌, sym}
-use Rattle.xp_machine.proofs.Statuses.{due_has_text, due_fewer, under_words}
+use Rattle.std.proofs.Common.{rules, sym, ◌∙◌}
+use Rattle.xp_machine.proofs.Statuses.{due_has_text, not_set, set_by}
 use Rattle.xp_machine.proofs.top.run.Goals as goal
 
 pub returns-in-Ok-write_whole-clause-outcome : goal.returns-in-Ok-write_whole-clause-outcome
 returns-in-Ok-write_whole-clause-outcome g c =
-    let stay = under_words _ _ _ _ (sym c.pace_of.ensures ∙ c.in-Some.is) c.paced.ensures.calm in
-    (due_has_text _ _ _ _ _ c.in-Ok.ensures.due).wrote _ _ _ _ _
-    (c.in-Ok.due.text.items, due_fewer _ _ _ _ _ _ stay c.in-Ok.ensures.due, rw (← c.deref.ensures.value) c.in-Ok-write_whole.ensures.whole)
+    let set = set_by _ _ _ _ (sym c.pace_of.ensures ∙ c.in-Some.is) c.paced.ensures.paced in
+    (_, set, (due_has_text _ _ _ _ _ c.in-Ok.ensures.due).wrote _ _ _ _ _
+    (c.in-Ok.due.text.items, c.in-Ok.ensures.due, rw (← c.deref.ensures.value) c.in-Ok-write_whole.ensures.whole))
 
 pub returns-in-Ok-write_whole-clause-words : goal.returns-in-Ok-write_whole-clause-words
 returns-in-Ok-write_whole-clause-words g c = (
@@ -22,5 +22,14 @@ returns-in-Ok-write_whole-clause-write g c e = absurd ((due_has_text _ _ _ _ _ c
 
 pub returns-clause-outcome : goal.returns-clause-outcome
 returns-clause-outcome g c =
-    let stay = under_words _ _ _ _ (sym c.pace_of.ensures ∙ c.in-Some.is) c.paced.ensures.calm in
-    (c.in-Ok.due.text.items, c.in-Ok.due.status, due_fewer _ _ _ _ _ _ stay c.in-Ok.ensures.due, rw (← c.deref.ensures.value) c.in-Err.ensures.front)
+    let set = set_by _ _ _ _ (sym c.pace_of.ensures ∙ c.in-Some.is) c.paced.ensures.paced in
+    (_, set, (c.in-Ok.due.text.items, c.in-Ok.due.status, c.in-Ok.ensures.due, rw (← c.deref.ensures.value) c.in-Err.ensures.front))
+
+pub returns-in_default-clause-outcome : goal.returns-in_default-clause-outcome
+returns-in_default-clause-outcome g c = (_, not_set _ _ (sym c.pace_of.ensures ∙ c.in_default.is), search rules)
+
+pub returns-in-Err-Failed-clause-outcome : goal.returns-in-Err-Failed-clause-outcome
+returns-in-Err-Failed-clause-outcome g c = (_, set_by _ _ _ _ (sym c.pace_of.ensures ∙ c.in-Some.is) c.paced.ensures.paced, search rules)
+
+pub returns-in-Err-Memory-clause-outcome : goal.returns-in-Err-Memory-clause-outcome
+returns-in-Err-Memory-clause-outcome g c = (_, set_by _ _ _ _ (sym c.pace_of.ensures ∙ c.in-Some.is) c.paced.ensures.paced, search rules)

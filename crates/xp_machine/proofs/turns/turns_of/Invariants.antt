@@ -1,16 +1,15 @@
 use Rattle.std.proofs.Common.{◌≡◌}
 use Rattle.std.specs.Prelude.{replicate}
-use Rattle.xp_machine.specs.Gates.{StayCalm}
+use Rattle.xp_machine.specs.Gates.{gate_of}
 use Rattle.xp_machine.specs.Turns.{Turns}
 use Rattle.xp_machine.specs.Ready.{Ready}
-use Rattle.xp_machine.specs.Rows.{calms_of, cpus_of, stage_of}
+use Rattle.xp_machine.specs.Rows.{cpus_of, stage_of}
 use Rattle.xp_machine.proofs.turns.turns_of.Given as goal
 
 abbrev pub invariant-turns : goal.invariant-turns
 invariant-turns g l = record {
   machine : l.board.machine ≡ l.initial.board.machine;
   opening : l.board.story.opening ≡ l.initial.board.story.opening;
-  turns : Turns l.initial.board.machine (calms_of (λ x. (goal.Preempt-dyn g (x.vtable, x.value)).calm x.value) l.initial.runners) (replicate l._turn l.vcpu) (stage_of l.initial.board l.initial.runners) (stage_of l.board l.runners);
+  turns : Turns l.initial.board.machine (replicate l._turn l.vcpu) (stage_of (gate_of (λ x. (goal.Preempt-dyn g (x.vtable, x.value)).calm x.value) (λ x. (goal.Preempt-dyn g (x.vtable, x.value)).paces x.value) (λ x. (goal.Preempt-dyn g (x.vtable, x.value)).count_asks x.value) (λ x. (goal.Preempt-dyn g (x.vtable, x.value)).says x.value)) l.initial.board l.initial.runners) (stage_of (gate_of (λ x. (goal.Preempt-dyn g (x.vtable, x.value)).calm x.value) (λ x. (goal.Preempt-dyn g (x.vtable, x.value)).paces x.value) (λ x. (goal.Preempt-dyn g (x.vtable, x.value)).count_asks x.value) (λ x. (goal.Preempt-dyn g (x.vtable, x.value)).says x.value)) l.board l.runners);
   ready : Ready l.board (cpus_of l.runners);
-  calm : StayCalm (calms_of (λ x. (goal.Preempt-dyn g (x.vtable, x.value)).calm x.value) l.initial.runners) (calms_of (λ x. (goal.Preempt-dyn g (x.vtable, x.value)).calm x.value) l.runners);
 }
