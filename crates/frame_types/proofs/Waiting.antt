@@ -148,7 +148,7 @@ module _ (b v : PortValue) (f owner : ℕ) (own : Bool) (stamp : ℕ) (w : Waits
             ap quiet left_so ∙ ap (λ k. quiet (record a { holdings = k })) (left_dead a f Writable e at_a written_type true clock small w.waits.works.in_work)
             ∙ ap (λ (q : PortValue). quiet (record q { holdings = record q.holdings { refs = record { frame = f; owner = typed_owner f a.holdings } ∷ q.holdings.refs; typed = without_typed f q.holdings.typed; works = without_work f q.holdings.works } })) same
             ∙ ap (λ (o : OwnerFound). quiet (record v { holdings = record v.holdings { refs = record { frame = f; owner = o } ∷ v.holdings.refs; typed = without_typed f v.holdings.typed; works = without_work f v.holdings.works } }))
-                (typed_owned f owner typed b.holdings.typed a.holdings (ap (λ (q : PortValue). q.holdings.typed) same ∙ own_typed) refl refl)
+            (typed_owned f owner typed b.holdings.typed a.holdings (ap (λ (q : PortValue). q.holdings.typed) same ∙ own_typed) refl refl)
             ∙ ap (λ xs. quiet (record v { holdings = record v.holdings { refs = record { frame = f; owner = owners.Of owner } ∷ v.holdings.refs; typed = xs; works = without_work f v.holdings.works } })) no_typed
             ∙ ap (λ ys. quiet (record v { holdings = record v.holdings { refs = record { frame = f; owner = owners.Of owner } ∷ v.holdings.refs; typed = b.holdings.typed; works = ys } })) no_works
             ∙ ap (λ (q : PortValue). quiet (record q { holdings = record q.holdings { refs = record { frame = f; owner = owners.Of owner } ∷ q.holdings.refs; typed = b.holdings.typed; works = b.holdings.works } })) w.waits.works.hand
