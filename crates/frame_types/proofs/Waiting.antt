@@ -1,10 +1,10 @@
 -- Ordinary memory in the own works that waits for a flush which is not to be had, and how it is left.
-use Rattle.std.proofs.Common.{◌≡◌, ℕ, ◌+◌, ◌<◌, ◌≤◌, ◌^◌, ◌==◌, ◌&&◌, ◌||◌, not, Bool, true, false, List, [], ◌∷◌, ◌++◌, length, Some, None, IsTrue, refl, sym, ap, ◌∙◌, subst, arith, inl, inr}
+use Rattle.std.proofs.Common.{◌≡◌, ℕ, ◌+◌, ◌<◌, ◌≤◌, ◌%◌, ◌^◌, ◌==◌, ◌&&◌, ◌||◌, not, Bool, true, false, List, [], ◌∷◌, ◌++◌, length, Some, None, IsTrue, refl, sym, ap, ◌∙◌, subst, arith, inl, inr}
 use Rattle.xp_words.specs.KindWords.{is_kind, kind_fields, kind_write}
 use Rattle.xp_words.specs.PageTypes.{is_none}
 use Rattle.xp_words.specs.declared.kind.KindWord.{KindWord}
 use Rattle.xp_words.specs.declared.kind.PageType.TheVariants.{Writable}
-use Rattle.xp_words.specs.declared.place.Place.TheVariants.{Clock, Kind}
+use Rattle.xp_words.specs.declared.place.Place.TheVariants.{Clock, Kind, Refs}
 use Rattle.xp_board.specs.declared.holdings.Holdings.{Holdings}
 use Rattle.xp_board.specs.declared.holdings.OwnerFound.{OwnerFound}
 use Rattle.xp_board.specs.declared.holdings.OwnerFound.TheVariants as owners
@@ -14,7 +14,7 @@ use Rattle.xp_board.specs.declared.holdings.Work.{Work}
 use Rattle.xp_board.specs.declared.step.Act.TheVariants.{Load, Store}
 use Rattle.xp_board.specs.declared.step.StepKind.TheVariants as kinds
 use Rattle.xp_board.specs.Hands.{refs_to, typed_owner, typed_to, without_ref, without_typed, without_work, work_on}
-use Rattle.xp_board.specs.Readings.{is_dead, is_type, is_work}
+use Rattle.xp_board.specs.Readings.{is_dead, is_free, is_type, is_work}
 use Rattle.xp_board.specs.Told.{Finds, PortValue, is_telling, told_word}
 use Rattle.xp_words.specs.declared.place.Place.{Place}
 use Rattle.step_maker.specs.Plain.{Words, Leaves}
@@ -24,12 +24,13 @@ use Rattle.frame_types.specs.Plain.{left_waiting, set_kind}
 use Rattle.board_lemmas.proofs.ListCounts.{newest_held}
 use Rattle.step_maker.specs.Holds.{FlushedHolds, FlushedSame, Holds, Same, quiet}
 use Rattle.step_maker.specs.Moves.{Moves, Met}
-use Rattle.answer_fits.specs.Answers.{Deed, Serves}
+use Rattle.answer_fits.specs.Answers.{Deed, Serves, Stops}
 use Rattle.answer_fits.specs.Asked.{of_frame}
-use Rattle.answer_fits.proofs.Piecing.{serves_back, serves_step}
+use Rattle.answer_fits.proofs.Piecing.{serves_back, serves_came, serves_nothing, serves_step, stops_before}
 use Rattle.frame_words.specs.Freeing.{gave}
 use Rattle.frame_words.specs.Refs.{MayGive}
 use Rattle.frame_words.proofs.Taking.{names_itself}
+use Rattle.frame_words.proofs.Twinning.{low_rest}
 use Rattle.answer_fits.specs.Asked.{of_back}
 use Rattle.answer_fits.specs.Reasons.{keeps_type}
 use Rattle.kind_words.specs.Kinds.{MayLeave, dead_kind, left, partial_kind}
@@ -37,7 +38,12 @@ use Rattle.kind_words.proofs.KindFacts.{clock_is_small, out_of_works, work_word}
 use Rattle.kind_words.proofs.KindHands.{apart_spares, clock_since, typed_held, work_here}
 use Rattle.kind_words.proofs.KindWriting.{fields_write}
 use Rattle.kind_words.proofs.Leaving.{left_dead, left_kept, left_partial, may_keep, may_leave_dead, may_leave_marked, without_newest}
-use Rattle.frame_types.specs.Taking.{LentBy, WaitsIn, WaitsWith, working, working_typed}
+use Rattle.xp_words.specs.declared.reply.Stop.{Stop}
+use Rattle.xp_words.specs.declared.reply.Stop.TheVariants.{Refused, Paused}
+use Rattle.xp_words.specs.declared.reply.Refusal.TheVariants as refusals
+use Rattle.xp_words.specs.declared.reply.Pause.TheVariants as pauses
+use Rattle.flush_waits.specs.Waiting.{IsWait}
+use Rattle.frame_types.specs.Taking.{IsTypeStop, LentBy, ServesMemory, WaitsIn, WaitsWith, working, working_typed}
 use Rattle.frame_types.proofs.Entering.{lent_held, typed_owned}
 
 works_of : (f owner : ℕ) (own : Bool) (e : Work) (since : ℕ) (h : Holdings) → (working f owner Writable own e since h).works ≡ e ∷ h.works
@@ -223,4 +229,36 @@ dead_words v a d w f x stamp clock look store after telling q =
     let at_a : told_word a ≡ told_word v = λ i p. load_tells v a Clock kinds.Look None clock look telling p i in
     after (telling_on a d f x _ store on_a) q
     ∙ ap (λ (m : Words). put f m q) (stored_words a d f x _ store on_a ∙ ap (λ (m : Words). set_kind f (dead_kind Writable true clock) m) at_a
-    ∙ ap (λ c. set_kind f (dead_kind Writable true c) (told_word v)) (sym (told_there v a Clock Load kinds.Look None clock look telling)))
+    ∙ ap (λ c. set_kind f (dead_kind Writable true c) (told_word v)) (sym (low_rest clock (clock_is_small v.post.machine v.post.vcpu v.holdings clock look.finds)) ∙ ap (λ y. y % 2 ^ 36) (sym (told_there v a Clock Load kinds.Look None clock look telling))))
+
+-- a frame whose reference is given back then is owned
+pub owned_before : (v d : PortValue) (f x : ℕ) (l : KindWord) → Moves v d (Kind f) (Store (kind_write l)) kinds.Kind None x → is_telling v ≡ true → (is_telling d ≡ true → is_free (told_word d (Refs f)) ≡ false) → is_free (told_word v (Refs f)) ≡ false
+owned_before v d f x l store telling owned = ap (λ (m : Words). is_free (m (Refs f))) (sym (stored_words v d f x l store telling)) ∙ owned (telling_on v d f x l store telling)
+
+pub owned_behind : (v a d : PortValue) (f x clock : ℕ) (l : KindWord) → Moves v a Clock Load kinds.Look None clock → Moves a d (Kind f) (Store (kind_write l)) kinds.Kind None x → is_telling v ≡ true →
+    (is_telling d ≡ true → is_free (told_word d (Refs f)) ≡ false) → is_free (told_word v (Refs f)) ≡ false
+owned_behind v a d f x clock l look store telling owned =
+    ap is_free (sym (load_tells v a Clock kinds.Look None clock look telling (Refs f))) ∙ owned_before a d f x l store (moves_telling v a Clock Load kinds.Look None clock look ∙ telling) owned
+
+-- ---- a frame that is to be ordinary memory
+pub err_gives : (v u : PortValue) (f owner : ℕ) → LentBy f owner v.holdings → work_on f v.holdings.works ≡ None → Same v u → MayGive f u.holdings
+err_gives v u f owner lent apart same =
+    record {
+      held = subst (λ rs. 0 < refs_to f rs) (sym (ap (λ (q : PortValue). q.holdings.refs) same)) (lent_held f owner v.holdings lent);
+      spares = apart_spares f u.holdings (ap (λ (q : PortValue). work_on f q.holdings.works) same ∙ apart);
+    }
+
+-- behind a wait
+pub wait_stops : (v u w : PortValue) (f owner : ℕ) (e x : Stop) → x ≡ e → Stops v u (of_frame f owner (Some Writable)) e → ServesMemory u w f → Stops v w (of_frame f owner (Some Writable)) x
+wait_stops v u w f owner e x is stops serves =
+    subst (λ y. Stops v w (of_frame f owner (Some Writable)) y) (sym is)
+    (stops_before v u w (of_frame f owner (Some Writable)) e stops (serves_came u w (of_frame f owner (Some Writable)) [] (serves u owner [] (serves_nothing u (of_frame f owner (Some Writable))))))
+
+pub wait_kinds : (e x : Stop) → x ≡ e → IsWait e → IsTypeStop x
+wait_kinds e x is wait = subst IsTypeStop (sym is) (by e wait)
+  where
+    by : (y : Stop) → IsWait y → IsTypeStop y
+    by (Refused (refusals.Clock found)) a = tt
+    by (Paused (pauses.Flush vcpu stamp found)) a = tt
+    by (Refused _) a = absurd a
+    by (Paused _) a = absurd a

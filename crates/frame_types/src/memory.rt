@@ -1,13 +1,15 @@
 //! Ordinary memory.
-ghost use Rattle.std.specs.Prelude.{◌≡◌, ◌<◌, [], None, Some, IfErr, MatchResult};
+ghost use Rattle.std.specs.Prelude.{◌≡◌, ◌<◌, ◌||◌, not, true, false, [], None, Some, IfErr, IsTrue, MatchResult};
 ghost use Rattle.xp_words.specs.declared.kind.PageType.TheVariants.{Writable};
 ghost use Rattle.xp_board.specs.Hands.{work_on, typed_to};
-ghost use Rattle.xp_board.specs.Readings.{domain_of};
+ghost use Rattle.xp_board.specs.Readings.{domain_of, is_free};
+ghost use Rattle.xp_board.specs.Told.{is_telling, told_word};
+ghost use Rattle.xp_words.specs.declared.place.Place.TheVariants.{Refs};
 ghost use Rattle.step_maker.specs.Holds.{FlushedHolds, MayWork};
 ghost use Rattle.answer_fits.specs.Answers.{Serves, Stops, misses};
 ghost use Rattle.answer_fits.specs.Asked.{of_frame};
 ghost use Rattle.frame_words.specs.Freeing.{gave};
-ghost use Rattle.frame_types.specs.Plain.{TwinGiveUp, TwinMemory};
+ghost use Rattle.frame_types.specs.Plain.{TwinGiveUp, TwinMemory, is_refused};
 ghost use Rattle.frame_types.specs.Taking.{GivesUp, IsTypeStop, IsWaiting, LentBy, ServesMemory, typed_as};
 
 use crate::taking::{Taken, take_type};
@@ -37,7 +39,8 @@ pub fn take_writable<P: Port>(port: &mut P, frame: u32, owner: u16) -> Result<()
 {
     match take_type(port, frame, owner, PageType::Writable) {
         Ok(Taken::Waiting { own, stamp, stop }) => Err(give_up(port, frame, own, stamp, stop)),
-        Ok(_) => Ok(()),
+        Ok(Taken::Counted) => Ok(()),
+        Ok(Taken::InWork { .. }) => unreachable!("ordinary memory has no entries to read"),
         Err(stop) => {
             put_ref(port, frame);
             Err(stop)
@@ -56,6 +59,7 @@ fn give_up<P: Port>(port: &mut P, frame: u32, own: bool, stamp: u64, stop: Stop)
     ensures serves { ServesMemory (P.value port.old) (P.value port.new) frame }
     ensures hand { GivesUp (P.value port.old) (P.value port.new) frame own stamp }
     ensures plain { TwinGiveUp (P.value port.old) (P.value port.new) frame own stamp stop }
+    ensures owned { IsTrue (not own || is_refused stop) → is_telling (P.value port.old) ≡ true → is_free (told_word (P.value port.old) (Refs frame)) ≡ false }
 {
     if !own {
         leave(port, frame, partial_kind(PageType::Writable, stamp, false));

@@ -9,7 +9,7 @@ use Rattle.xp_board.specs.Told.{PortValue}
 use Rattle.step_maker.specs.Holds.{Holds}
 use Rattle.step_maker.specs.Moves.{Moves}
 use Rattle.kind_words.specs.Kinds.{left}
-use Rattle.frame_types.proofs.Waiting.{alone, at_a, dead_back, dead_gives, dead_gone, dead_may, dead_words, here, kept_back, kept_may, kept_words, back_serves, look_serves, shared_back, shared_gives, shared_gone, shared_may, shared_words, store_serves}
+use Rattle.frame_types.proofs.Waiting.{alone, at_a, dead_back, dead_gives, dead_gone, dead_may, dead_words, here, kept_back, kept_may, kept_words, back_serves, look_serves, shared_back, shared_gives, shared_gone, shared_may, shared_words, store_serves, owned_before, owned_behind}
 use Rattle.frame_types.specs.Plain.{TwinGiveUp, is_refused}
 use Rattle.frame_types.proofs.memory.give_up.Goals as goal
 
@@ -139,3 +139,13 @@ returns-in-Paused-clause-plain g c =
     subst (λ e. TwinGiveUp v d c.args.frame c.args.own c.args.stamp e) (sym c.in-Paused.is)
     (subst (λ b. TwinGiveUp v d c.args.frame b c.args.stamp (Paused c.in-Paused.field-0)) (sym c.if-not-own.false)
     (kept_words v d c.args.frame c.leave-in-Paused.result c.args.stamp (moved_as v d c.args.frame c.leave-in-Paused.result _ _ c.partial_kind-in-Paused.ensures c.leave-in-Paused.ensures.moves)))
+
+-- ---- a frame whose reference is given back is owned
+pub returns-then-not-own-clause-owned : goal.returns-then-not-own-clause-owned
+returns-then-not-own-clause-owned g c puts telling =
+    owned_before (g.P.Port.value c.args.port.now) (g.P.Port.value c.leave.new.port) c.args.frame c.leave.result _ c.leave.ensures.moves telling c.put_ref.ensures.owned
+
+pub returns-in-Refused-clause-owned : goal.returns-in-Refused-clause-owned
+returns-in-Refused-clause-owned g c puts telling =
+    owned_behind (g.P.Port.value c.args.port.now) (g.P.Port.value c.look_clock-clock.new.port) (g.P.Port.value c.leave-in-Refused.new.port) c.args.frame c.leave-in-Refused.result c.look_clock-clock.result _
+    c.look_clock-clock.ensures.moves c.leave-in-Refused.ensures.moves telling c.put_ref-in-Refused.ensures.owned
