@@ -1,5 +1,5 @@
 -- Words that are alike, after a type is given back.
-use Rattle.std.proofs.Common.{◌≡◌, ◌⊎◌, ℕ, ◌%◌, ◌^◌, ◌<◌, ◌==◌, nat_lt, if◌then◌else◌, Bool, true, false, IsTrue, refl, sym, ap, ◌∙◌, subst, arith, inl, inr}
+use Rattle.std.proofs.Common.{◌≡◌, ◌⊎◌, ℕ, ◌^◌, ◌<◌, ◌==◌, if◌then◌else◌, Bool, true, false, IsTrue, refl, sym, ap, ◌∙◌, subst, arith, inl, inr}
 use Rattle.std.proofs.lemmas.Bool.Decides.{nat_tests}
 use Rattle.xp_words.specs.KindWords.{is_kind, kind_fields, kind_write, has_form}
 use Rattle.xp_words.specs.declared.kind.KindWord.{KindWord}
@@ -9,7 +9,7 @@ use Rattle.xp_board.specs.declared.step.Act.TheVariants.{Add}
 use Rattle.xp_board.specs.Readings.{is_free}
 use Rattle.xp_board.specs.RefSteps.{one_down}
 use Rattle.step_maker.specs.Plain.{Words, change}
-use Rattle.answer_fits.specs.Twins.{Alike, IsAlike, IsAlikeKind}
+use Rattle.answer_fits.specs.Twins.{Alike, IsAlikeKind}
 use Rattle.frame_words.specs.Plain.{put, stamp_now}
 use Rattle.frame_words.proofs.Alike.{alike_act, alike_stores, put_alike, stamp_low}
 use Rattle.kind_words.specs.Kinds.{dead_kind}

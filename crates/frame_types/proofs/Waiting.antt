@@ -1,6 +1,6 @@
 -- Ordinary memory in the own works that waits for a flush which is not to be had, and how it is left.
-use Rattle.std.proofs.Common.{◌≡◌, ℕ, ◌+◌, ◌<◌, ◌≤◌, ◌%◌, ◌^◌, ◌==◌, ◌&&◌, ◌||◌, not, Bool, true, false, List, [], ◌∷◌, ◌++◌, length, Some, None, IsTrue, refl, sym, ap, ◌∙◌, subst, arith, inl, inr}
-use Rattle.xp_words.specs.KindWords.{is_kind, kind_fields, kind_write}
+use Rattle.std.proofs.Common.{◌≡◌, ℕ, ◌<◌, ◌%◌, ◌^◌, ◌&&◌, not, Bool, true, false, List, [], ◌∷◌, Some, None, IsTrue, refl, sym, ap, ◌∙◌, subst, inl}
+use Rattle.xp_words.specs.KindWords.{kind_fields, kind_write}
 use Rattle.xp_words.specs.PageTypes.{is_none}
 use Rattle.xp_words.specs.declared.kind.KindWord.{KindWord}
 use Rattle.xp_words.specs.declared.kind.PageType.TheVariants.{Writable}
@@ -23,7 +23,7 @@ use Rattle.frame_words.specs.Plain.{put}
 use Rattle.frame_types.specs.Plain.{left_waiting, set_kind}
 use Rattle.board_lemmas.proofs.ListCounts.{newest_held}
 use Rattle.step_maker.specs.Holds.{FlushedHolds, FlushedSame, Holds, Same, quiet}
-use Rattle.step_maker.specs.Moves.{Moves, Met}
+use Rattle.step_maker.specs.Moves.{Moves}
 use Rattle.answer_fits.specs.Answers.{Deed, Serves, Stops}
 use Rattle.answer_fits.specs.Asked.{of_frame}
 use Rattle.answer_fits.proofs.Piecing.{serves_back, serves_came, serves_nothing, serves_step, stops_before}
@@ -43,7 +43,7 @@ use Rattle.xp_words.specs.declared.reply.Stop.TheVariants.{Refused, Paused}
 use Rattle.xp_words.specs.declared.reply.Refusal.TheVariants as refusals
 use Rattle.xp_words.specs.declared.reply.Pause.TheVariants as pauses
 use Rattle.flush_waits.specs.Waiting.{IsWait}
-use Rattle.frame_types.specs.Taking.{IsTypeStop, LentBy, ServesMemory, WaitsIn, WaitsWith, working, working_typed}
+use Rattle.frame_types.specs.Taking.{IsTypeStop, LentBy, ServesMemory, WaitsIn, working, working_typed}
 use Rattle.frame_types.proofs.Entering.{lent_held, typed_owned}
 
 works_of : (f owner : ℕ) (own : Bool) (e : Work) (since : ℕ) (h : Holdings) → (working f owner Writable own e since h).works ≡ e ∷ h.works
