@@ -1,7 +1,6 @@
 -- What a call that takes a type ensures, by each of its ways.
-use Rattle.std.proofs.Common.{◌≡◌, ◌≢◌, ℕ, ◌+◌, ◌≤◌, ◌||◌, ◌++◌, not, Bool, true, false, List, [], length, Option, Some, None, Ok, Err, IsTrue, refl, sym, ap, ◌∙◌, subst, inl, inr}
-use Rattle.std.proofs.lemmas.Bool.{or_left, or_right}
-use Rattle.xp_words.specs.Machine.{Machine}
+use Rattle.std.proofs.Common.{◌≡◌, ◌≢◌, ℕ, not, Bool, true, false, [], Some, None, Ok, Err, IsTrue, refl, sym, ap, ◌∙◌, subst}
+use Rattle.std.proofs.lemmas.Bool.{or_right}
 use Rattle.xp_words.specs.declared.kind.KindWord.{KindWord}
 use Rattle.xp_words.specs.declared.kind.PageType.{PageType}
 use Rattle.xp_words.specs.declared.place.Place.TheVariants.{Kind}
@@ -9,21 +8,20 @@ use Rattle.xp_words.specs.declared.reply.Pause.TheVariants.{Lost, Busy}
 use Rattle.xp_words.specs.declared.reply.Refusal.TheVariants.{OtherType}
 use Rattle.xp_words.specs.declared.reply.Stop.{Stop}
 use Rattle.xp_words.specs.declared.reply.Stop.TheVariants.{Refused, Paused}
-use Rattle.xp_words.specs.KindWords.{is_kind, kind_read, kind_fields, kind_write}
+use Rattle.xp_words.specs.KindWords.{is_kind, kind_read, kind_write}
 use Rattle.xp_words.specs.PageTypes.{is_none, type_number}
 use Rattle.xp_words.specs.Places.{number, sizes_of}
 use Rattle.xp_board.specs.declared.step.Act.TheVariants.{Load, Cas}
 use Rattle.xp_board.specs.declared.step.StepKind.TheVariants as kinds
-use Rattle.xp_board.specs.declared.holdings.Holdings.{Holdings}
 use Rattle.xp_board.specs.KindSteps.{begun_kind, is_stale, raised_kind, resumed_kind}
-use Rattle.xp_board.specs.Readings.{is_dead, is_partial, is_type}
+use Rattle.xp_board.specs.Readings.{is_dead, is_type}
 use Rattle.xp_board.specs.Told.{Post, PortValue}
 use Rattle.board_lemmas.proofs.KindForms.{fields_of}
 use Rattle.board_lemmas.proofs.Sums.{when_eq}
-use Rattle.step_maker.specs.Holds.{Holds, Same}
+use Rattle.step_maker.specs.Holds.{Holds}
 use Rattle.step_maker.specs.Moves.{Moves, Came, Met}
 use Rattle.step_maker.proofs.Coming.{moment_of, moves_met, moves_came, met_before, came_trans, came_post}
-use Rattle.answer_fits.specs.Answers.{Serves, Stops, misses}
+use Rattle.answer_fits.specs.Answers.{Serves}
 use Rattle.answer_fits.specs.Asked.{of_back, of_frame}
 use Rattle.answer_fits.specs.Finding.{FoundWith}
 use Rattle.answer_fits.specs.Reasons.{Awaited, marked, other}

@@ -1,5 +1,5 @@
 -- What the standing of a frame says of its kind word.
-use Rattle.std.proofs.Common.{◌≡◌, ℕ, ◌<◌, ◌==◌, ◌||◌, ◌⊎◌, not, Bool, true, false, Option, Some, None, IsTrue, refl, sym, ap, ◌∙◌, arith, inl, inr}
+use Rattle.std.proofs.Common.{◌≡◌, ℕ, ◌<◌, ◌==◌, ◌||◌, not, Bool, true, false, Some, IsTrue, refl, sym, ap, ◌∙◌, arith}
 use Rattle.std.proofs.lemmas.Bool.Decides.{nat_tests}
 use Rattle.xp_words.specs.declared.kind.KindWord.{KindWord}
 use Rattle.xp_words.specs.declared.kind.PageType.{PageType}
@@ -7,8 +7,7 @@ use Rattle.xp_words.specs.KindWords.{kind_read}
 use Rattle.xp_words.specs.PageTypes.{type_number, type_of}
 use Rattle.xp_words.proofs.KindLaws.{type_back}
 use Rattle.xp_board.specs.Readings.{is_dead, is_live, is_partial, is_type, is_work, is_closing, is_locked}
-use Rattle.board_lemmas.proofs.KindForms.{live_form, partial_form, dead_form}
-use Rattle.board_lemmas.proofs.KindReadings.{partial_parts}
+use Rattle.board_lemmas.proofs.KindForms.{live_form, dead_form}
 use Rattle.frame_types.specs.Standing.{is_same_type, standing_of}
 use Rattle.frame_types.specs.declared.standing.Standing.TheVariants.{Counted, Dead, Partial, Busy, Other}
 

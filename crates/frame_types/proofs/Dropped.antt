@@ -1,17 +1,14 @@
 -- What the steps show that give a type back, and the words that they leave on a board that tells all words.
-use Rattle.std.proofs.Common.{◌≡◌, ℕ, ◌%◌, ◌^◌, ◌<◌, ◌==◌, ◌&&◌, if◌then◌else◌, not, Bool, true, false, [], Some, None, IsTrue, refl, sym, ap, ◌∙◌, subst}
+use Rattle.std.proofs.Common.{◌≡◌, ℕ, ◌%◌, ◌^◌, ◌<◌, ◌==◌, ◌&&◌, if◌then◌else◌, not, Bool, true, false, [], None, IsTrue, refl, sym, ap, ◌∙◌}
 use Rattle.board_lemmas.proofs.Sums.{when_eq}
 use Rattle.xp_words.specs.KindWords.{kind_fields, kind_write}
 use Rattle.xp_words.specs.PageTypes.{type_number}
 use Rattle.xp_words.specs.declared.kind.KindWord.{KindWord}
 use Rattle.xp_words.specs.declared.kind.PageType.{PageType}
-use Rattle.xp_words.specs.declared.place.Place.{Place}
 use Rattle.xp_words.specs.declared.place.Place.TheVariants.{Clock, Kind, Refs}
-use Rattle.xp_board.specs.declared.holdings.Work.{Work}
 use Rattle.xp_board.specs.declared.step.Act.TheVariants.{Load, Store, Add}
 use Rattle.xp_board.specs.declared.step.StepKind.TheVariants as kinds
 use Rattle.xp_board.specs.Acts.{left_by}
-use Rattle.xp_board.specs.Hands.{work_on}
 use Rattle.xp_board.specs.KindSteps.{dropped}
 use Rattle.xp_board.specs.Readings.{is_closing, is_dead, is_free, is_type}
 use Rattle.xp_board.specs.RefSteps.{one_down}
@@ -31,7 +28,6 @@ use Rattle.frame_words.proofs.Taking.{backs_itself}
 use Rattle.kind_words.specs.Kinds.{dead_kind}
 use Rattle.kind_words.proofs.KindFacts.{work_word}
 use Rattle.kind_words.proofs.KindWriting.{fields_write}
-use Rattle.board_lemmas.proofs.KindReadings.{closing_alone}
 use Rattle.frame_types.specs.Plain.{dropped_plain, set_kind}
 use Rattle.frame_types.specs.Taking.{MayDropPlain}
 use Rattle.frame_types.proofs.Dropping.{closing, found_is, here, is_closed, fields, kind_is, last_may}

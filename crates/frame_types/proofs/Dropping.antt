@@ -1,5 +1,5 @@
 -- A typed reference given back of a frame that holds no entries, and the frame that is left dead after the last.
-use Rattle.std.proofs.Common.{◌≡◌, ℕ, ◌+◌, ◌^◌, ◌<◌, ◌≤◌, ◌==◌, ◌&&◌, nat_lt, if◌then◌else◌, not, Bool, true, false, List, [], ◌∷◌, ◌++◌, length, Some, None, IsTrue, refl, sym, ap, ◌∙◌, subst, inl, inr, arith}
+use Rattle.std.proofs.Common.{◌≡◌, ℕ, ◌+◌, ◌^◌, ◌<◌, ◌≤◌, ◌==◌, ◌&&◌, nat_lt, if◌then◌else◌, not, Bool, true, false, List, ◌∷◌, length, Some, None, IsTrue, refl, sym, ap, ◌∙◌, subst, inl, arith}
 use Rattle.std.proofs.lemmas.Bool.{and_parts}
 use Rattle.std.proofs.lemmas.Bool.Decides.{nat_tests}
 use Rattle.xp_words.specs.KindWords.{is_kind, kind_fields, has_form}
@@ -10,15 +10,15 @@ use Rattle.xp_words.specs.declared.place.Place.TheVariants.{Clock, Kind}
 use Rattle.xp_board.specs.declared.holdings.Holdings.{Holdings}
 use Rattle.xp_board.specs.declared.holdings.Reference.{Reference}
 use Rattle.xp_board.specs.declared.holdings.Work.{Work}
-use Rattle.xp_board.specs.declared.step.Act.TheVariants.{Load, Store, Add}
+use Rattle.xp_board.specs.declared.step.Act.TheVariants.{Load, Add}
 use Rattle.xp_board.specs.declared.step.StepKind.TheVariants as kinds
 use Rattle.xp_board.specs.Acts.{left_by}
-use Rattle.xp_board.specs.Hands.{work_on, without_ref, without_typed, typed_owner, without_work}
+use Rattle.xp_board.specs.Hands.{work_on, without_typed, typed_owner, without_work}
 use Rattle.xp_board.specs.KindSteps.{dropped, new_work}
 use Rattle.xp_board.specs.Readings.{is_closing, is_work}
-use Rattle.xp_board.specs.RefSteps.{one_down, SparesClosing}
+use Rattle.xp_board.specs.RefSteps.{one_down}
 use Rattle.xp_board.specs.Told.{PortValue}
-use Rattle.step_maker.specs.Holds.{Holds, Same, MayWork, still}
+use Rattle.step_maker.specs.Holds.{Holds, Same, still}
 use Rattle.step_maker.specs.Moves.{Moves}
 use Rattle.flush_words.proofs.Lasting.{moves_longer}
 use Rattle.frame_words.specs.Freeing.{gave}

@@ -1,5 +1,5 @@
 -- A look at the kind word, and an exchange of it: what they serve, and why they stop.
-use Rattle.std.proofs.Common.{◌≡◌, ◌≢◌, ℕ, ◌+◌, ◌<◌, ◌≤◌, ◌==◌, ◌&&◌, ◌||◌, ◌⊎◌, not, if◌then◌else◌, Bool, true, false, List, [], ◌∷◌, ◌++◌, length, Option, Some, None, IsTrue, refl, sym, ap, ◌∙◌, subst, arith, inl, inr}
+use Rattle.std.proofs.Common.{◌≡◌, ◌≢◌, ℕ, ◌<◌, if◌then◌else◌, Bool, true, false, [], ◌∷◌, ◌++◌, length, Option, Some, None, IsTrue, refl, sym, ap, ◌∙◌, subst, arith, inl}
 use Rattle.xp_words.specs.Machine.{Machine}
 use Rattle.xp_words.specs.declared.kind.KindWord.{KindWord}
 use Rattle.xp_words.specs.declared.kind.PageType.{PageType}
@@ -17,8 +17,8 @@ use Rattle.xp_board.specs.declared.holdings.Holdings.{Holdings}
 use Rattle.xp_board.specs.declared.holdings.Lock.{Lock}
 use Rattle.xp_board.specs.declared.holdings.Work.{Work}
 use Rattle.xp_board.specs.Acts.{left_by}
-use Rattle.xp_board.specs.Hands.{refs_to, work_on, lock_on, locks_on, ending_of, endings_of, claims_of}
-use Rattle.xp_board.specs.Readings.{kind_at, is_type, is_locked, ref_count}
+use Rattle.xp_board.specs.Hands.{refs_to, work_on, lock_on, locks_on, ending_of, endings_of}
+use Rattle.xp_board.specs.Readings.{is_type, is_locked, ref_count}
 use Rattle.xp_board.specs.Steps.{last_since}
 use Rattle.xp_board.specs.Told.{PortValue, Finds}
 use Rattle.board_lemmas.proofs.KindForms.{fields_of}
@@ -27,7 +27,7 @@ use Rattle.board_lemmas.proofs.Sums.{when_eq, when_ne}
 use Rattle.board_lemmas.proofs.Works.{nobody_locks, counted_alive}
 use Rattle.step_maker.specs.Moves.{Moves, Met}
 use Rattle.step_maker.proofs.Coming.{moment_of, moves_met, moves_came, met_before, met_after}
-use Rattle.answer_fits.specs.Answers.{Deed, Serves, Stops, Misses, missed_at, deeds_by, exchanged, pin_deed}
+use Rattle.answer_fits.specs.Answers.{Serves, Stops, Misses, missed_at, deeds_by, exchanged, pin_deed}
 use Rattle.answer_fits.specs.Asked.{of_frame, Asked, named, Passed, checked}
 use Rattle.answer_fits.specs.Finding.{Finding, FoundWith}
 use Rattle.answer_fits.specs.Pauses.{IsElsewhere}
@@ -97,8 +97,17 @@ module _ (b v : PortValue) (f owner : ℕ) (want : PageType) (word : ℕ) (l : L
     pub busy_stops : IsInHand k want → Stops b v (of_frame f owner (Some want)) (Paused (Busy f word))
     unfolding Stops
     busy_stops is =
-        inl (owner, Some want, b.holdings, asked b.post.machine b.post.vcpu (Met b v), found_there, passed (Met b v), rw (fields_of word k read) is.busy, rw (fields_of word k read) is.kind,
-        is_elsewhere b.post.machine b.post.vcpu f word b.holdings k l.look.finds read want l.other is (lent_held f owner b.holdings l.lent))
+        inl (
+          owner,
+          Some want,
+          b.holdings,
+          asked b.post.machine b.post.vcpu (Met b v),
+          found_there,
+          passed (Met b v),
+          rw (fields_of word k read) is.busy,
+          rw (fields_of word k read) is.kind,
+          is_elsewhere b.post.machine b.post.vcpu f word b.holdings k l.look.finds read want l.other is (lent_held f owner b.holdings l.lent),
+        )
 
 -- ---- an exchange behind it
 no_pin : (f : ℕ) (p q : Bool) → q ≡ p → pin_deed f p q ≡ []

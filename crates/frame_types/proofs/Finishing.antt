@@ -1,7 +1,5 @@
 -- A frame in the own works that is made live, or loses its mark.
-use Rattle.std.proofs.Common.{◌≡◌, ◌≢◌, ℕ, ◌+◌, ◌<◌, ◌≤◌, ◌==◌, ◌&&◌, ◌||◌, not, if◌then◌else◌, Bool, true, false, List, [], ◌∷◌, ◌++◌, length, Some, None, IsTrue, refl, sym, ap, ◌∙◌, subst, arith, lit<, inl, inr}
-use Rattle.std.proofs.lemmas.Bool.Decides.{nat_tests}
-use Rattle.xp_words.specs.Machine.{Machine}
+use Rattle.std.proofs.Common.{◌≡◌, ◌≢◌, ℕ, ◌+◌, not, if◌then◌else◌, Bool, true, false, List, ◌∷◌, length, Some, None, IsTrue, refl, sym, ap, ◌∙◌, subst, arith, lit<}
 use Rattle.xp_words.specs.declared.kind.KindWord.{KindWord}
 use Rattle.xp_words.specs.declared.kind.PageType.{PageType}
 use Rattle.xp_words.specs.declared.kind.PageType.TheVariants as types
@@ -15,7 +13,7 @@ use Rattle.xp_board.specs.declared.holdings.TypedReference.{TypedReference}
 use Rattle.xp_board.specs.declared.holdings.Work.{Work}
 use Rattle.xp_board.specs.declared.holdings.OwnerFound.{OwnerFound}
 use Rattle.xp_board.specs.declared.holdings.OwnerFound.TheVariants as owners
-use Rattle.xp_board.specs.Hands.{without_ref, without_typed, work_on, without_work, changed_work, ref_owner, typed_owner}
+use Rattle.xp_board.specs.Hands.{without_ref, without_typed, work_on, without_work, changed_work}
 use Rattle.xp_board.specs.KindSteps.{live_typed}
 use Rattle.xp_board.specs.Lists.{changed_by}
 use Rattle.xp_board.specs.Readings.{is_dead, is_type, is_work}
@@ -37,7 +35,7 @@ use Rattle.flush_words.proofs.Lasting.{moves_longer}
 use Rattle.flush_waits.specs.Waiting.{IsFlushed}
 use Rattle.frame_types.specs.Plain.{is_read_first}
 use Rattle.frame_types.specs.Taking.{Enters, IsWorking, WorksFrom, typed_as, work_kind, working, working_typed}
-use Rattle.frame_types.proofs.Entering.{entered_works, entered_here, entered_fields, entered_past, own_typed, own_held, own_owner, shared_lent, shared_refs, shared_typed, shared_aside, lent_held, lent_owner}
+use Rattle.frame_types.proofs.Entering.{entered_works, entered_here, entered_fields, entered_past, own_typed, own_held, own_owner, shared_lent, shared_aside, lent_held, lent_owner}
 
 no_table : (t : PageType) → is_read_first t ≡ false → is_table t ≡ false
 no_table t off = grind arith

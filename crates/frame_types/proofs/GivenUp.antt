@@ -1,6 +1,6 @@
 -- What is left of ordinary memory whose flush was not to be had, in plain words.
-use Rattle.std.proofs.Common.{◌≡◌, ◌≢◌, ℕ, ◌<◌, ◌%◌, ◌^◌, ◌&&◌, ◌||◌, not, if◌then◌else◌, Bool, true, false, IsTrue, Some, None, Ok, Err, refl, sym, ap, ◌∙◌, subst, arith, inl, inr}
-use Rattle.xp_words.specs.KindWords.{is_kind, kind_fields, kind_write}
+use Rattle.std.proofs.Common.{◌≡◌, ℕ, ◌<◌, ◌^◌, ◌||◌, not, if◌then◌else◌, Bool, true, false, IsTrue, Some, Ok, Err, refl, sym, ap, ◌∙◌, subst, arith, inr}
+use Rattle.xp_words.specs.KindWords.{kind_fields, kind_write}
 use Rattle.xp_words.specs.declared.kind.KindWord.{KindWord}
 use Rattle.xp_words.specs.declared.kind.PageType.TheVariants.{Writable}
 use Rattle.xp_words.specs.declared.place.Place.{Place}
@@ -9,25 +9,23 @@ use Rattle.xp_words.specs.declared.reply.Pause.TheVariants as pauses
 use Rattle.xp_words.specs.declared.reply.Refusal.TheVariants as refusals
 use Rattle.xp_words.specs.declared.reply.Stop.{Stop}
 use Rattle.xp_words.specs.declared.reply.Stop.TheVariants.{Refused, Paused}
-use Rattle.xp_board.specs.declared.step.Act.TheVariants.{Store}
 use Rattle.xp_board.specs.Acts.{left_by}
 use Rattle.xp_board.specs.Readings.{is_free}
 use Rattle.xp_board.specs.Steps.{is_same}
-use Rattle.xp_board.specs.Told.{PortValue, is_telling, told_word}
-use Rattle.step_maker.specs.Plain.{Leaves, Words, change}
-use Rattle.answer_fits.specs.Twins.{Alike, IsAlike, IsAlikeKind}
-use Rattle.answer_fits.proofs.Alikes.{alike_store, alike_trans, same_alike}
+use Rattle.xp_board.specs.Told.{PortValue, told_word}
+use Rattle.step_maker.specs.Plain.{Leaves, Words}
+use Rattle.answer_fits.specs.Twins.{Alike, IsAlikeKind}
+use Rattle.answer_fits.proofs.Alikes.{alike_trans, same_alike}
 use Rattle.frame_words.specs.Plain.{put, stamp_now}
 use Rattle.frame_words.proofs.Alike.{alike_stores, put_alike, stamp_low}
 use Rattle.kind_words.specs.Kinds.{dead_kind, partial_kind}
 use Rattle.kind_words.proofs.KindWriting.{dead_is, fields_write, marked_is}
 use Rattle.flush_waits.specs.Waiting.{IsWait}
-use Rattle.frame_types.specs.Plain.{IsTakenBy, less_kept, TakesMemory, TakesPlainly, TwinGiveUp, given_up, given_up_by, is_refused, left_waiting, set_kind, stop_by, taken_by, waits_by, type_stop, type_waits}
+use Rattle.frame_types.specs.Plain.{IsTakenBy, TakesMemory, TakesPlainly, given_up, given_up_by, is_refused, left_waiting, set_kind, stop_by, taken_by, waits_by}
 use Rattle.frame_types.specs.Standing.{standing_of}
-use Rattle.frame_types.specs.Taking.{IsTypeStop, ShowsWait}
 use Rattle.frame_types.specs.declared.standing.Standing.{Standing}
 use Rattle.frame_types.specs.declared.standing.Standing.TheVariants as stands
-use Rattle.frame_types.specs.declared.taking.Taken.TheVariants.{Counted, InWork, Waiting}
+use Rattle.frame_types.specs.declared.taking.Taken.TheVariants.{Waiting}
 
 -- ---- a store over a store
 pub over : (f : ℕ) (k l : KindWord) (x : Words) (q : Place) → set_kind f l (set_kind f k x) q ≡ set_kind f l x q
@@ -117,14 +115,16 @@ found_stamp w stamp is = omega (arith, is)
 module _ (v u w : PortValue) (f stamp : ℕ) (own : Bool) (low : stamp < 2 ^ 36) where
   pub after_wait : (e : Stop) → IsWait e → TakesPlainly v u f Writable (Ok (Waiting own stamp e)) → Leaves w (left_waiting f own (is_refused e) stamp (told_word u)) →
       (IsTrue (not own || is_refused e) → is_free (told_word u (Refs f)) ≡ false) → TakesMemory v w f (Err e)
-  after_wait (Refused (refusals.Clock x)) wait plain leaves owned =
-      (waits_so Writable (kind_fields (told_word v (Kind f))) (standing_of (kind_fields (told_word v (Kind f))) Writable) own stamp (Refused (refusals.Clock x)) plain.1,
-       alike_trans (told_word w) (left_waiting f own true stamp (told_word u)) (given_up f true (told_word v)) (same_alike _ _ leaves)
-       (waiting_words f stamp low (Refused (refusals.Clock x)) own (told_word v) (told_word u) true (kind_fields (told_word v (Kind f))) (standing_of (kind_fields (told_word v (Kind f))) Writable) plain.1 plain.2 owned))
-  after_wait (Paused (pauses.Flush t s x)) wait plain leaves owned =
-      (waits_so Writable (kind_fields (told_word v (Kind f))) (standing_of (kind_fields (told_word v (Kind f))) Writable) own stamp (Paused (pauses.Flush t s x)) plain.1,
-       alike_trans (told_word w) (left_waiting f own false stamp (told_word u)) (given_up f false (told_word v)) (same_alike _ _ leaves)
-       (waiting_words f stamp low (Paused (pauses.Flush t s x)) own (told_word v) (told_word u) false (kind_fields (told_word v (Kind f))) (standing_of (kind_fields (told_word v (Kind f))) Writable) plain.1 plain.2 owned))
+  after_wait (Refused (refusals.Clock x)) wait plain leaves owned = (
+    waits_so Writable (kind_fields (told_word v (Kind f))) (standing_of (kind_fields (told_word v (Kind f))) Writable) own stamp (Refused (refusals.Clock x)) plain.1,
+    alike_trans (told_word w) (left_waiting f own true stamp (told_word u)) (given_up f true (told_word v)) (same_alike _ _ leaves)
+        (waiting_words f stamp low (Refused (refusals.Clock x)) own (told_word v) (told_word u) true (kind_fields (told_word v (Kind f))) (standing_of (kind_fields (told_word v (Kind f))) Writable) plain.1 plain.2 owned),
+  )
+  after_wait (Paused (pauses.Flush t s x)) wait plain leaves owned = (
+    waits_so Writable (kind_fields (told_word v (Kind f))) (standing_of (kind_fields (told_word v (Kind f))) Writable) own stamp (Paused (pauses.Flush t s x)) plain.1,
+    alike_trans (told_word w) (left_waiting f own false stamp (told_word u)) (given_up f false (told_word v)) (same_alike _ _ leaves)
+        (waiting_words f stamp low (Paused (pauses.Flush t s x)) own (told_word v) (told_word u) false (kind_fields (told_word v (Kind f))) (standing_of (kind_fields (told_word v (Kind f))) Writable) plain.1 plain.2 owned),
+  )
   after_wait (Refused _) wait plain leaves owned = absurd wait
   after_wait (Paused _) wait plain leaves owned = absurd wait
 

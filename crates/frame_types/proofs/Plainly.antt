@@ -1,5 +1,5 @@
 -- A type that is taken on a board that tells all words.
-use Rattle.std.proofs.Common.{◌≡◌, ◌≢◌, ℕ, ◌==◌, ◌||◌, if◌then◌else◌, Bool, true, false, Option, Some, None, Ok, Err, IsTrue, refl, sym, ap, ◌∙◌, subst, inl, inr}
+use Rattle.std.proofs.Common.{◌≡◌, ◌≢◌, ℕ, ◌==◌, if◌then◌else◌, Bool, true, false, Some, None, Ok, Err, refl, sym, ap, ◌∙◌, subst}
 use Rattle.xp_words.specs.declared.kind.KindWord.{KindWord}
 use Rattle.xp_words.specs.declared.kind.PageType.{PageType}
 use Rattle.xp_words.specs.declared.place.Place.{Place}
@@ -9,7 +9,7 @@ use Rattle.xp_words.specs.declared.reply.Refusal.TheVariants.{OtherType}
 use Rattle.xp_words.specs.declared.reply.Stop.{Stop}
 use Rattle.xp_words.specs.declared.reply.Stop.TheVariants.{Refused, Paused}
 use Rattle.xp_words.specs.KindWords.{kind_read, kind_fields, kind_write}
-use Rattle.xp_board.specs.declared.step.Act.TheVariants.{Load, Cas, Store}
+use Rattle.xp_board.specs.declared.step.Act.TheVariants.{Load, Cas}
 use Rattle.xp_board.specs.declared.step.StepKind.TheVariants as kinds
 use Rattle.xp_board.specs.Acts.{left_by}
 use Rattle.xp_board.specs.KindSteps.{begun_kind, is_stale, raised_kind, resumed_kind}
@@ -30,7 +30,7 @@ use Rattle.frame_types.specs.declared.standing.Standing.{Standing}
 use Rattle.frame_types.specs.declared.standing.Standing.TheVariants as stands
 use Rattle.frame_types.specs.declared.taking.Taken.{Taken}
 use Rattle.frame_types.specs.declared.taking.Taken.TheVariants.{Counted, InWork, Waiting}
-use Rattle.frame_types.specs.Plain.{GoesPlainly, IsTakenBy, TakesPlainly, TwinOn, is_own, is_read_first, less_kept, set_kind, stop_by, taken_by, type_stop, unmarked_kind}
+use Rattle.frame_types.specs.Plain.{GoesPlainly, IsTakenBy, TakesPlainly, TwinOn, is_read_first, less_kept, set_kind, stop_by, taken_by, type_stop, unmarked_kind}
 use Rattle.frame_types.specs.Standing.{standing_of}
 use Rattle.frame_types.specs.Taking.{Looked, stamp_by, work_kind}
 

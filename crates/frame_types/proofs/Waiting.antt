@@ -1,6 +1,6 @@
 -- Ordinary memory in the own works that waits for a flush which is not to be had, and how it is left.
-use Rattle.std.proofs.Common.{◌≡◌, ℕ, ◌+◌, ◌<◌, ◌≤◌, ◌%◌, ◌^◌, ◌==◌, ◌&&◌, ◌||◌, not, Bool, true, false, List, [], ◌∷◌, ◌++◌, length, Some, None, IsTrue, refl, sym, ap, ◌∙◌, subst, arith, inl, inr}
-use Rattle.xp_words.specs.KindWords.{is_kind, kind_fields, kind_write}
+use Rattle.std.proofs.Common.{◌≡◌, ℕ, ◌<◌, ◌%◌, ◌^◌, ◌&&◌, not, Bool, true, false, List, [], ◌∷◌, Some, None, IsTrue, refl, sym, ap, ◌∙◌, subst, inl}
+use Rattle.xp_words.specs.KindWords.{kind_fields, kind_write}
 use Rattle.xp_words.specs.PageTypes.{is_none}
 use Rattle.xp_words.specs.declared.kind.KindWord.{KindWord}
 use Rattle.xp_words.specs.declared.kind.PageType.TheVariants.{Writable}
@@ -23,7 +23,7 @@ use Rattle.frame_words.specs.Plain.{put}
 use Rattle.frame_types.specs.Plain.{left_waiting, set_kind}
 use Rattle.board_lemmas.proofs.ListCounts.{newest_held}
 use Rattle.step_maker.specs.Holds.{FlushedHolds, FlushedSame, Holds, Same, quiet}
-use Rattle.step_maker.specs.Moves.{Moves, Met}
+use Rattle.step_maker.specs.Moves.{Moves}
 use Rattle.answer_fits.specs.Answers.{Deed, Serves, Stops}
 use Rattle.answer_fits.specs.Asked.{of_frame}
 use Rattle.answer_fits.proofs.Piecing.{serves_back, serves_came, serves_nothing, serves_step, stops_before}
@@ -43,7 +43,7 @@ use Rattle.xp_words.specs.declared.reply.Stop.TheVariants.{Refused, Paused}
 use Rattle.xp_words.specs.declared.reply.Refusal.TheVariants as refusals
 use Rattle.xp_words.specs.declared.reply.Pause.TheVariants as pauses
 use Rattle.flush_waits.specs.Waiting.{IsWait}
-use Rattle.frame_types.specs.Taking.{IsTypeStop, LentBy, ServesMemory, WaitsIn, WaitsWith, working, working_typed}
+use Rattle.frame_types.specs.Taking.{IsTypeStop, LentBy, ServesMemory, WaitsIn, working, working_typed}
 use Rattle.frame_types.proofs.Entering.{lent_held, typed_owned}
 
 works_of : (f owner : ℕ) (own : Bool) (e : Work) (since : ℕ) (h : Holdings) → (working f owner Writable own e since h).works ≡ e ∷ h.works
@@ -154,7 +154,7 @@ module _ (b v : PortValue) (f owner : ℕ) (own : Bool) (stamp : ℕ) (w : Waits
             ap quiet left_so ∙ ap (λ k. quiet (record a { holdings = k })) (left_dead a f Writable e at_a written_type true clock small w.waits.works.in_work)
             ∙ ap (λ (q : PortValue). quiet (record q { holdings = record q.holdings { refs = record { frame = f; owner = typed_owner f a.holdings } ∷ q.holdings.refs; typed = without_typed f q.holdings.typed; works = without_work f q.holdings.works } })) same
             ∙ ap (λ (o : OwnerFound). quiet (record v { holdings = record v.holdings { refs = record { frame = f; owner = o } ∷ v.holdings.refs; typed = without_typed f v.holdings.typed; works = without_work f v.holdings.works } }))
-                (typed_owned f owner typed b.holdings.typed a.holdings (ap (λ (q : PortValue). q.holdings.typed) same ∙ own_typed) refl refl)
+            (typed_owned f owner typed b.holdings.typed a.holdings (ap (λ (q : PortValue). q.holdings.typed) same ∙ own_typed) refl refl)
             ∙ ap (λ xs. quiet (record v { holdings = record v.holdings { refs = record { frame = f; owner = owners.Of owner } ∷ v.holdings.refs; typed = xs; works = without_work f v.holdings.works } })) no_typed
             ∙ ap (λ ys. quiet (record v { holdings = record v.holdings { refs = record { frame = f; owner = owners.Of owner } ∷ v.holdings.refs; typed = b.holdings.typed; works = ys } })) no_works
             ∙ ap (λ (q : PortValue). quiet (record q { holdings = record q.holdings { refs = record { frame = f; owner = owners.Of owner } ∷ q.holdings.refs; typed = b.holdings.typed; works = b.holdings.works } })) w.waits.works.hand

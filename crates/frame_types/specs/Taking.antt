@@ -1,5 +1,5 @@
 -- Types that are taken and given back: what they leave in hand.
-use Rattle.std.specs.Prelude.{◌≡◌, ◌≢◌, ℕ, ◌<◌, ◌≤◌, if◌then◌else◌, Bool, true, false, List, [], ◌∷◌, length, Option, Some, None, Result, IfOk, IfErr, MatchResult, IsTrue}
+use Rattle.std.specs.Prelude.{◌≡◌, ◌≢◌, ℕ, ◌<◌, ◌≤◌, if◌then◌else◌, Bool, true, false, List, [], ◌∷◌, length, Some, None, Result, IfOk, IfErr, MatchResult, IsTrue}
 use Rattle.xp_words.specs.Machine.{Machine}
 use Rattle.xp_words.specs.Places.{sizes_of}
 use Rattle.xp_words.specs.KindWords.{is_kind, kind_fields, kind_write}
@@ -31,7 +31,7 @@ use Rattle.xp_words.specs.declared.kind.PageType.TheVariants.{Writable}
 use Rattle.answer_fits.specs.Answers.{Deed, Serves, Stops, misses}
 use Rattle.answer_fits.specs.Reasons.{Awaited}
 use Rattle.answer_fits.specs.Asked.{of_frame}
-use Rattle.flush_waits.specs.Waiting.{IsFlushed, IsWait}
+use Rattle.flush_waits.specs.Waiting.{IsWait}
 use Rattle.frame_types.specs.declared.taking.Taken.{Taken}
 use Rattle.frame_types.specs.declared.taking.Taken.TheVariants.{Counted, InWork, Waiting}
 

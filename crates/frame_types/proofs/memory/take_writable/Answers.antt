@@ -1,15 +1,13 @@
-use Rattle.std.proofs.Common.{◌≡◌, ◌∙◌, true, sym, ap, subst, refl, Some, None, [], Ok, Err}
+use Rattle.std.proofs.Common.{◌≡◌, ◌∙◌, true, sym, subst, refl, [], Ok, Err}
 use Rattle.frame_types.specs.Plain.{TakesMemory, TakesPlainly}
 use Rattle.frame_types.specs.Taking.{ShowsWait, TakesAs}
 use Rattle.frame_types.specs.declared.taking.Taken.TheVariants.{Waiting}
 use Rattle.xp_words.specs.declared.kind.PageType.TheVariants.{Writable}
-use Rattle.answer_fits.specs.Answers.{Serves, Stops, missed, misses}
-use Rattle.answer_fits.specs.Asked.{of_frame}
-use Rattle.answer_fits.proofs.Piecing.{serves_back, serves_came, stops_before}
+use Rattle.answer_fits.proofs.Piecing.{serves_came, stops_before}
 use Rattle.xp_board.specs.Told.{is_telling}
 use Rattle.step_maker.proofs.Telling.{came_telling}
 use Rattle.frame_types.proofs.GivenUp.{after_stop, after_wait, found_stamp}
-use Rattle.frame_types.proofs.Waiting.{back_serves, err_gives, wait_kinds, wait_stops}
+use Rattle.frame_types.proofs.Waiting.{back_serves, err_gives, wait_stops}
 use Rattle.frame_types.proofs.memory.take_writable.Goals as goal
 
 pub put_ref-requires-clause-gives : goal.put_ref-requires-clause-gives
@@ -21,7 +19,7 @@ returns-in-Ok-Waiting-clause-stops g c =
     let v = g.P.Port.value c.args.port.now in
     let u = g.P.Port.value c.take_type.new.port in
     let shows : ShowsWait v u c.args.frame c.args.owner Writable (Waiting c.in-Ok-Waiting.own c.in-Ok-Waiting.stamp c.in-Ok-Waiting.stop) =
-      subst (λ t. ShowsWait v u c.args.frame c.args.owner Writable t) c.in-Ok-Waiting.field-0-is c.in-Ok-Waiting.ensures.waits in
+    subst (λ t. ShowsWait v u c.args.frame c.args.owner Writable t) c.in-Ok-Waiting.field-0-is c.in-Ok-Waiting.ensures.waits in
     wait_stops v u (g.P.Port.value c.give_up.new.port) c.args.frame c.args.owner c.in-Ok-Waiting.stop c.give_up.result c.give_up.ensures.answer shows.1 c.give_up.ensures.serves
 
 pub returns-in-Err-clause-serves : goal.returns-in-Err-clause-serves

@@ -1,4 +1,4 @@
-use Rattle.std.proofs.Common.{◌≡◌, Bool, if◌then◌else◌, true, false, IsTrue, refl, sym, ap, ◌∙◌, subst}
+use Rattle.std.proofs.Common.{if◌then◌else◌, true, false, IsTrue, refl, sym, ap, ◌∙◌, subst}
 use Rattle.xp_words.specs.KindWords.{is_kind, kind_write}
 use Rattle.xp_words.specs.declared.kind.KindWord.{KindWord}
 use Rattle.xp_words.specs.declared.place.Place.TheVariants.{Kind}
@@ -54,11 +54,13 @@ pub returns-then-marked-clause-hand : goal.returns-then-marked-clause-hand
 returns-then-marked-clause-hand g c b e =
     let v = g.P.Port.value c.args.port.now in
     let read = no_memory c.args.want (sym c.is_read_first.ensures ∙ c.if-not-is_read_first.false) in
-    rw c.progress_of.ensures
-    (read, unmarked_works b v c.args.frame c.args.owner c.args.want (stamp_by true c.args.kind) (progress_of c.args.kind) c.args.own
-    (subst (λ m. Enters b v c.args.frame c.args.owner c.args.want m (stamp_by m c.args.kind) (progress_of c.args.kind) c.args.own) c.if-marked.true e) (g.P.Port.value c.leave-then-marked.new.port)
-    c.work_kind.result c.work_kind.ensures c.leave-then-marked.result c.leave-then-marked.ensures.moves c.leave-then-marked.ensures.hand
-    (subst (λ k. IsTrue (is_kind k)) (sym c.work_kind.ensures) (work_spelled c.args.want c.requires.wanted)))
+    rw c.progress_of.ensures (
+      read,
+      unmarked_works b v c.args.frame c.args.owner c.args.want (stamp_by true c.args.kind) (progress_of c.args.kind) c.args.own
+          (subst (λ m. Enters b v c.args.frame c.args.owner c.args.want m (stamp_by m c.args.kind) (progress_of c.args.kind) c.args.own) c.if-marked.true e) (g.P.Port.value c.leave-then-marked.new.port)
+          c.work_kind.result c.work_kind.ensures c.leave-then-marked.result c.leave-then-marked.ensures.moves c.leave-then-marked.ensures.hand
+          (subst (λ k. IsTrue (is_kind k)) (sym c.work_kind.ensures) (work_spelled c.args.want c.requires.wanted)),
+    )
 
 pub returns-then-marked-clause-plain : goal.returns-then-marked-clause-plain
 returns-then-marked-clause-plain g c telling same = (
@@ -71,9 +73,11 @@ pub returns-else-marked-clause-hand : goal.returns-else-marked-clause-hand
 returns-else-marked-clause-hand g c b e =
     let v = g.P.Port.value c.args.port.now in
     let read = no_memory c.args.want (sym c.is_read_first.ensures ∙ c.if-not-is_read_first.false) in
-    rw c.progress_of-else-marked.ensures
-    (read, plain_works b v c.args.frame c.args.owner c.args.want (stamp_by false c.args.kind) (progress_of c.args.kind) c.args.own
-    (subst (λ m. Enters b v c.args.frame c.args.owner c.args.want m (stamp_by m c.args.kind) (progress_of c.args.kind) c.args.own) c.if-marked.false e))
+    rw c.progress_of-else-marked.ensures (
+      read,
+      plain_works b v c.args.frame c.args.owner c.args.want (stamp_by false c.args.kind) (progress_of c.args.kind) c.args.own
+          (subst (λ m. Enters b v c.args.frame c.args.owner c.args.want m (stamp_by m c.args.kind) (progress_of c.args.kind) c.args.own) c.if-marked.false e),
+    )
 
 pub returns-else-marked-clause-plain : goal.returns-else-marked-clause-plain
 returns-else-marked-clause-plain g c telling same =

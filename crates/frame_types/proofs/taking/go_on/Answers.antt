@@ -1,4 +1,4 @@
-use Rattle.std.proofs.Common.{true, sym, ap, ◌∙◌, subst}
+use Rattle.std.proofs.Common.{subst}
 use Rattle.frame_types.specs.Taking.{Enters, stamp_by, progress_of}
 use Rattle.frame_types.proofs.Entering.{entered_marked, entered_after}
 use Rattle.frame_types.proofs.GoingOn.{serves_after, stops_after, done_waits, still_waits, plain_after}

@@ -1,16 +1,13 @@
-use Rattle.std.proofs.Common.{◌≡◌, ◌+◌, ◌<◌, ◌^◌, [], true, false, Some, IsTrue, refl, sym, ap, ◌∙◌, subst, arith}
-use Rattle.xp_words.specs.declared.place.Place.TheVariants.{Kind}
-use Rattle.xp_words.specs.KindWords.{is_kind, kind_write}
+use Rattle.std.proofs.Common.{[], true, refl, sym, ◌∙◌, subst}
+use Rattle.xp_words.specs.KindWords.{kind_write}
 use Rattle.xp_board.specs.declared.step.Act.TheVariants.{Cas}
-use Rattle.xp_board.specs.declared.step.StepKind.TheVariants as kinds
-use Rattle.xp_board.specs.KindSteps.{begun_kind, is_stale, raised_kind, resumed_kind}
-use Rattle.step_maker.proofs.Coming.{moves_came, came_trans}
+use Rattle.xp_board.specs.KindSteps.{begun_kind, raised_kind, resumed_kind}
 use Rattle.answer_fits.specs.Asked.{of_back}
 use Rattle.answer_fits.proofs.Piecing.{serves_came}
 use Rattle.step_maker.proofs.Telling.{came_telling}
 use Rattle.flush_words.proofs.Lasting.{came_longer}
 use Rattle.kind_words.proofs.KindFacts.{kind_is_some, read_is}
-use Rattle.kind_words.proofs.KindWriting.{raised_is, begun_is, resumed_is}
+use Rattle.kind_words.proofs.KindWriting.{begun_is, resumed_is}
 use Rattle.frame_types.specs.Plain.{TwinOn}
 use Rattle.frame_types.specs.Taking.{Enters, progress_of, stamp_by}
 use Rattle.frame_types.proofs.Arms.{busy_takes, counted_takes, dead_takes, kept_takes, lost_takes, other_takes, unkept_takes}
