@@ -8,3 +8,4 @@ mod Starting
 mod Reaching
 mod Statuses
 mod Pacing
+mod Testing

@@ -2,18 +2,21 @@
 ghost use Rattle.std.specs.Prelude.{◌≡◌, ◌<◌, ◌^◌, IfOk, IfSome, length};
 ghost use Rattle.trace_text.specs.WellFormed.{IsWellFormed};
 ghost use Rattle.xp_words.specs.Places.{sizes_of};
+ghost use Rattle.step_maker.specs.Holds.{MayWork, Rests};
+ghost use Rattle.shared_board.specs.Board.{port_value};
 ghost use Rattle.xp_machine.specs.Ready.{TakesFresh};
 
-use frame_words::{
-    begin_turn, end_answer, get_ref, look_clock, look_kind, look_refs, look_run, put_ref,
-    raise_refs,
-};
+use flush_words::{begin_turn, end_answer, look_run};
+use frame_words::{Open, get_ref, look_refs, put_ref, raise_refs};
+use kind_words::look_kind;
 use m2p_map::set_m2p;
 use machine_build::opening;
 use opening_rule::opening_words_are_sound;
-use shared_board::PlainBoard;
+use shared_board::{PlainBoard, PlainPort};
 use std::alloc::{AllocError, Global};
+use std::process::Abort;
 use std::test::Fail;
+use step_maker::look_clock;
 use trace_text::{ScriptList, Trace, read_trace};
 use vcpu_turn::{Cpu, turn};
 use xp_board::{Act, Item, Port, Step};
@@ -62,56 +65,49 @@ pub(crate) fn opened(alloc: Global, text: &str) -> Option<(PlainBoard, Script)>
     }
 }
 
-// What an update of a machine-to-physical word answers; nothing where the vCPU is not running.
-fn update(
-    board: &mut PlainBoard,
-    vcpu: u32,
-    f: u64,
-    owner: u16,
-    gpfn: u64,
-) -> Option<Result<(), Stop>> {
-    if vcpu >= board.layout().vcpus() {
-        return None;
-    }
-    let mut port = board.port(vcpu);
-    if look_run(&mut port) != 0 {
-        return None;
-    }
-    Some(set_m2p(&mut port, f, owner, gpfn))
+// The port of vCPU 0, which runs and has nothing in hand.
+pub(crate) fn at_work<'a>(rt: &impl Abort, board: &'a mut PlainBoard) -> PlainPort<'a>
+    requires { TakesFresh board.old }
+    ensures rests { Rests (port_value result.board.now result.vcpu result.board.ghost_name) }
+{
+    assert!(rt; board.layout().vcpus() != 0);
+    let mut port = board.port(0);
+    assert!(rt; look_run(&mut port) == 0);
+    port
 }
 
 // Takes a reference to a frame of domain 0, and keeps it or gives it back.
-fn take(board: &mut PlainBoard, f: u64, keep: bool) -> Option<Result<u32, Stop>> {
-    if board.layout().vcpus() == 0 {
-        return None;
-    }
-    let mut port = board.port(0);
-    if look_run(&mut port) != 0 {
-        return None;
-    }
-    let taken = get_ref(&mut port, f, 0);
+fn take<P: Port>(port: &mut P, f: u64, keep: bool) -> Result<u32, Stop>
+    requires { MayWork (P.value port.old) }
+    ensures { MayWork (P.value port.new) }
+{
+    let taken = get_ref(port, f, 0);
     if let Ok(frame) = taken {
         if !keep {
-            put_ref(&mut port, frame);
+            put_ref(port, frame);
         }
     }
-    Some(taken)
+    taken
 }
 
-// The reference word of a frame as vCPU 0 finds it.
-fn refs_of(board: &mut PlainBoard, frame: u32) -> Option<u64> {
-    if board.layout().vcpus() == 0 || frame >= board.layout().frames {
+// The reference word of a frame.
+fn refs_of<P: Port>(port: &mut P, frame: u32) -> Option<u64>
+    requires { MayWork (P.value port.old) }
+    ensures { MayWork (P.value port.new) }
+{
+    if frame >= port.layout().frames {
         return None;
     }
-    let mut port = board.port(0);
-    Some(look_refs(&mut port, frame))
+    Some(look_refs(port, frame))
 }
 
 // An exchange of a word that was found before; nothing where that word says that there is no room.
-fn exchange(board: &mut PlainBoard, frame: u32, expected: u64) -> Option<Result<(), u64>> {
-    let limit = board.layout().limit;
-    let domains = board.layout().domains();
-    if board.layout().vcpus() == 0 || frame >= board.layout().frames {
+fn exchange<P: Port>(port: &mut P, frame: u32, expected: u64) -> Option<Result<(), u64>>
+    requires { MayWork (P.value port.old) }
+    ensures { MayWork (P.value port.new) }
+{
+    let layout = port.layout();
+    if frame >= layout.frames {
         return None;
     }
     let Some(
@@ -124,14 +120,15 @@ fn exchange(board: &mut PlainBoard, frame: u32, expected: u64) -> Option<Result<
     else {
         return None;
     };
-    if count >= limit || u32::from(owner) >= domains {
+    if count == 0 || count >= layout.limit || u32::from(owner) >= layout.domains() {
         return None;
     }
-    let mut port = board.port(0);
-    if look_run(&mut port) != 0 {
-        return None;
-    }
-    Some(raise_refs(&mut port, frame, expected, owner, allocated, count))
+    let from = Open {
+        owner,
+        allocated,
+        count,
+    };
+    Some(raise_refs(port, frame, from))
 }
 
 // The own ask as a turn of vCPU 0 begins, the clock before and as its answer ends, and a frame's kind word.
@@ -145,6 +142,15 @@ fn looks(board: &mut PlainBoard, frame: u32) -> Option<(u64, u64, u64, u64)> {
     let kind = look_kind(&mut port, frame);
     let end = end_answer(&mut port, 0);
     Some((asked, clock, end, kind))
+}
+
+// The reference word of a frame as vCPU 0 finds it.
+fn refs_at(board: &mut PlainBoard, frame: u32) -> Option<u64> {
+    if board.layout().vcpus() == 0 || frame >= board.layout().frames {
+        return None;
+    }
+    let mut port = board.port(0);
+    Some(look_refs(&mut port, frame))
 }
 
 // A port that counts the steps made on another one.
@@ -216,7 +222,7 @@ fn a_turn_of_an_update_makes_eight_steps(rt: HostRuntime) -> Result<(), Fail> {
     if script.len() == 1 && board.layout().vcpus() == 2 {
         let steps = steps_of(rt.alloc(), &mut board, 1, script)?;
         assert!(rt; steps == (5, 1, 1, 1));
-        assert!(rt; refs_of(&mut board, 1) == Some(0x8000_0001_8000_0001));
+        assert!(rt; refs_at(&mut board, 1) == Some(0x8000_0001_8000_0001));
     }
     Ok(())
 }
@@ -224,9 +230,10 @@ fn a_turn_of_an_update_makes_eight_steps(rt: HostRuntime) -> Result<(), Fail> {
 #[test]
 fn an_update_is_ok_on_an_own_frame_and_leaves_its_count(rt: HostRuntime) -> Result<(), Fail> {
     let (mut board, _) = opened(rt.alloc(), TWO_DOMAINS).expect(&rt, "a board");
-    let before = refs_of(&mut board, 0);
-    assert!(rt; update(&mut board, 0, 0, 0, 7) == Some(Ok(())));
-    assert!(rt; refs_of(&mut board, 0) == before);
+    let mut port = at_work(&rt, &mut board);
+    let before = refs_of(&mut port, 0);
+    assert!(rt; set_m2p(&mut port, 0, 0, 7) == Ok(()));
+    assert!(rt; refs_of(&mut port, 0) == before);
     let m2p = if board.layout().frames > 0 {
         board.layout().m2p_place(0)
     } else {
@@ -240,22 +247,21 @@ fn an_update_is_ok_on_an_own_frame_and_leaves_its_count(rt: HostRuntime) -> Resu
 #[test]
 fn references_are_refused_with_what_was_found(rt: HostRuntime) -> Result<(), Fail> {
     let (mut board, _) = opened(rt.alloc(), TWO_DOMAINS).expect(&rt, "a board");
+    let mut port = at_work(&rt, &mut board);
+    assert!(rt; take(&mut port, 3, true) == Err(Stop::Refused(Refusal::NoFrame { frame: 3 })));
     assert!(rt;
-        take(&mut board, 3, true) == Some(Err(Stop::Refused(Refusal::NoFrame { frame: 3 })))
+        take(&mut port, 2, true)
+            == Err(Stop::Refused(Refusal::WrongOwner { frame: 2, found: 0 }))
     );
-    assert!(rt;
-        take(&mut board, 2, true)
-            == Some(Err(Stop::Refused(Refusal::WrongOwner { frame: 2, found: 0 })))
-    );
-    assert!(rt; take(&mut board, 0, false) == Some(Ok(0)));
-    assert!(rt; take(&mut board, 0, true) == Some(Ok(0)));
+    assert!(rt; take(&mut port, 0, false) == Ok(0));
+    assert!(rt; take(&mut port, 0, true) == Ok(0));
     let two = 0x8000_0000_8000_0002;
     assert!(rt;
-        take(&mut board, 0, true)
-            == Some(Err(Stop::Refused(Refusal::CountFull {
+        take(&mut port, 0, true)
+            == Err(Stop::Refused(Refusal::CountFull {
                 frame: 0,
                 found: two
-            })))
+            }))
     );
     Ok(())
 }
@@ -263,10 +269,11 @@ fn references_are_refused_with_what_was_found(rt: HostRuntime) -> Result<(), Fai
 #[test]
 fn an_exchange_of_an_old_word_is_lost(rt: HostRuntime) {
     let (mut board, _) = opened(rt.alloc(), TWO_DOMAINS).expect(&rt, "a board");
-    let old = refs_of(&mut board, 0).expect(&rt, "a word");
-    assert!(rt; take(&mut board, 0, true) == Some(Ok(0)));
-    assert!(rt; exchange(&mut board, 0, old) == Some(Err(0x8000_0000_8000_0002)));
-    assert!(rt; refs_of(&mut board, 0) == Some(0x8000_0000_8000_0002));
+    let mut port = at_work(&rt, &mut board);
+    let old = refs_of(&mut port, 0).expect(&rt, "a word");
+    assert!(rt; take(&mut port, 0, true) == Ok(0));
+    assert!(rt; exchange(&mut port, 0, old) == Some(Err(0x8000_0000_8000_0002)));
+    assert!(rt; refs_of(&mut port, 0) == Some(0x8000_0000_8000_0002));
 }
 
 #[test]

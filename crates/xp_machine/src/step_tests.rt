@@ -2,21 +2,21 @@
 
 ghost use Rattle.std.specs.Prelude.{◌≡◌, ◌≢◌, ◌<◌, length, Some, None};
 ghost use Rattle.xp_words.specs.Places.{sizes_of};
-ghost use Rattle.xp_board.specs.Hands.{IsEmptyHand};
 ghost use Rattle.xp_board.specs.Readings.{domain_of};
-ghost use Rattle.xp_board.specs.Told.{Goes};
-ghost use Rattle.frame_words.specs.Hands.{FoundRun};
+ghost use Rattle.step_maker.specs.Holds.{Holds, Rests};
+ghost use Rattle.step_maker.specs.Moves.{Came};
+ghost use Rattle.vcpu_turn.specs.Turning.{Idles};
 ghost use Rattle.xp_machine.specs.Ready.{TakesFresh};
 
-use crate::board_tests::{TWO_DOMAINS, opened, steps_of};
+use crate::board_tests::{TWO_DOMAINS, at_work, opened, steps_of};
+use flush_words::{ask, look_flushed, look_life, look_privileges, look_run, look_run_of};
 use frame_types::take_writable;
-use frame_words::{
-    ask, count_type, get_ref, look_cell, look_clock, look_flushed, look_kind, look_life,
-    look_privileges, look_run, look_run_of,
-};
+use frame_words::{get_ref, look_cell};
+use kind_words::{count_type, look_kind};
 use shared_board::PlainBoard;
 use std::process::Abort;
 use std::test::Fail;
+use step_maker::look_clock;
 use xp_board::Port;
 use xp_words::KindWord;
 
@@ -82,9 +82,9 @@ fn a_vcpu_opens_without_translations(rt: HostRuntime) {
 fn ask_another<P: Port>(rt: &impl Abort, port: &mut P, vcpu: u32) -> u64
     requires vcpu { vcpu < length (P.value port.old).post.machine.vcpu_domain }
     requires other { vcpu ≢ (P.value port.old).post.vcpu }
-    ensures post { (P.value port.new).post ≡ (P.value port.old).post }
-    ensures goes { Goes (P.value port.old) (P.value port.new) }
-    ensures hand { FoundRun 0 (P.value port.old).holdings (P.value port.new).holdings }
+    requires idles { Idles (P.value port.old) }
+    ensures came { Came (P.value port.old) (P.value port.new) }
+    ensures hand { Holds (P.value port.old) (P.value port.new) (record (P.value port.old).holdings { run = Some 0 }) }
 {
     let own = look_run(port);
     assert!(rt; own == 0);
@@ -143,9 +143,7 @@ fn a_vcpu_that_was_asked_flushes_as_its_turn_begins(rt: HostRuntime) -> Result<(
 
 // How many type counts a frame has that is taken as writable, and counted once more.
 fn count_twice<P: Port>(port: &mut P, f: u64, domain: u16) -> Option<u64>
-    requires running { (P.value port.old).holdings.run ≡ Some 0 }
-    requires landed { (P.value port.old).holdings.walk ≡ None }
-    requires empty { IsEmptyHand (P.value port.old).holdings }
+    requires rests { Rests (P.value port.old) }
     requires own { domain ≡ domain_of (P.value port.old).post.machine (P.value port.old).post.vcpu }
 {
     let Ok(frame) = get_ref(port, f, domain) else {
@@ -157,14 +155,13 @@ fn count_twice<P: Port>(port: &mut P, f: u64, domain: u16) -> Option<u64>
     let Ok(again) = get_ref(port, f, domain) else {
         return None;
     };
-    let word = look_kind(port, again);
-    let Some(kind) = KindWord::read(word) else {
+    let Some(kind) = KindWord::read(look_kind(port, again)) else {
         return None;
     };
     if !kind.validated || kind.number == 0 || kind.number >= u64::from(port.layout().limit) {
         return None;
     }
-    if count_type(port, again, word, kind).is_err() {
+    if count_type(port, again, kind).is_err() {
         return None;
     }
     let Some(counted) = KindWord::read(look_kind(port, again)) else {
@@ -173,23 +170,11 @@ fn count_twice<P: Port>(port: &mut P, f: u64, domain: u16) -> Option<u64>
     Some(counted.number)
 }
 
-// The same of a frame of vCPU 0's domain.
-fn types_counted(board: &mut PlainBoard, f: u64) -> Option<u64>
-    requires { TakesFresh board.old }
-{
-    if board.layout().vcpus() == 0 {
-        return None;
-    }
-    let domain = board.layout().vcpu_domain.as_slice()[0];
-    let mut port = board.port(0);
-    if look_run(&mut port) != 0 {
-        return None;
-    }
-    count_twice(&mut port, f, domain)
-}
-
 #[test]
 fn a_writable_frame_has_a_type_count_for_each_holder(rt: HostRuntime) {
     let (mut board, _) = opened(rt.alloc(), PRIVILEGED).expect(&rt, "a board");
-    assert!(rt; types_counted(&mut board, 0) == Some(2));
+    let mut port = at_work(&rt, &mut board);
+    let vcpu = port.vcpu();
+    let domain = port.layout().vcpu_domain.as_slice()[vcpu as usize];
+    assert!(rt; count_twice(&mut port, 0, domain) == Some(2));
 }
