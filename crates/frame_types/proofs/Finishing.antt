@@ -5,7 +5,7 @@ use Rattle.xp_words.specs.declared.kind.PageType.{PageType}
 use Rattle.xp_words.specs.declared.kind.PageType.TheVariants as types
 use Rattle.xp_words.specs.declared.place.Place.TheVariants.{Kind}
 use Rattle.xp_words.specs.KindWords.{is_kind, kind_fields, kind_write}
-use Rattle.xp_words.specs.PageTypes.{is_none, is_table, type_number}
+use Rattle.xp_words.specs.PageTypes.{is_none, is_table}
 use Rattle.xp_board.specs.declared.step.Act.TheVariants.{Store}
 use Rattle.xp_board.specs.declared.step.StepKind.TheVariants as kinds
 use Rattle.xp_board.specs.declared.holdings.Holdings.{Holdings}
@@ -16,8 +16,9 @@ use Rattle.xp_board.specs.declared.holdings.OwnerFound.TheVariants as owners
 use Rattle.xp_board.specs.Hands.{without_ref, without_typed, work_on, without_work, changed_work}
 use Rattle.xp_board.specs.KindSteps.{live_typed}
 use Rattle.xp_board.specs.Lists.{changed_by}
-use Rattle.xp_board.specs.Readings.{is_dead, is_type, is_work}
+use Rattle.xp_board.specs.Readings.{is_dead, is_work}
 use Rattle.xp_board.specs.Told.{PortValue}
+use Rattle.xp_board.proofs.Returned.{same_type}
 use Rattle.board_lemmas.proofs.Sums.{when_eq}
 use Rattle.step_maker.specs.Holds.{FlushedHolds, Holds, MayWork, quiet}
 use Rattle.step_maker.specs.Moves.{Moves, Met}
@@ -45,9 +46,6 @@ no_descriptors t off is = absurd (let e = subst (λ y. is_read_first y ≡ false
 
 pub no_memory : (t : PageType) → is_read_first t ≡ true → t ≢ types.Writable
 no_memory t on is = absurd (let e = subst (λ y. is_read_first y ≡ true) is on in cc)
-
-same_type : (t : PageType) → is_type t t ≡ true
-same_type t = when_eq (type_number t) (type_number t) refl
 
 -- a step that changes the hand alone, behind a wait
 quietly : (b v w : PortValue) (k : Holdings) → Holds v w k → quiet w ≡ quiet (record v { holdings = k })

@@ -30,6 +30,8 @@ use Rattle.xp_board.specs.Sound.{WorkAgrees}
 use Rattle.xp_board.specs.Spelling.{IsSpelling}
 use Rattle.xp_board.specs.Told.{PortValue, Finds}
 use Rattle.board_lemmas.proofs.Sums.{one_at-same, when_eq, when_ne}
+use Rattle.board_lemmas.proofs.Numbers.{refs_there}
+use Rattle.board_lemmas.proofs.PlaceTests.{equal_by}
 use Rattle.step_maker.specs.Holds.{Holds, Same, still}
 use Rattle.step_maker.specs.Moves.{Moves, Met, step_at}
 use Rattle.step_maker.proofs.Coming.{moment_of, moves_met, moves_came, met_before, met_after}
@@ -40,7 +42,6 @@ use Rattle.answer_fits.specs.Reasons.{Reason, IsRefChange}
 use Rattle.answer_fits.proofs.Piecing.{serves_step, moves_serves, no_more}
 use Rattle.frame_words.specs.declared.rows.Open.{Open}
 use Rattle.frame_words.specs.Refs.{open_word, raised_word, IsOpen, took, MayGive, RefusesWord}
-use Rattle.frame_words.proofs.RowSteps.{refs_there}
 
 -- ---- what a look at a reference word tells
 pub domain_known : (n : Machine) (s : ℕ) (h : Holdings) (f found owner count : ℕ) (allocated : Bool) → f < n.frames → Finds n s h (Refs f) found → ref_read found ≡ Some (Owned owner allocated count) →
@@ -173,12 +174,9 @@ module _ (v u : PortValue) (f owner word : ℕ) (look : Moves v u (Refs f) Load 
         )
 
 -- a frame that is closing in the hand keeps a reference beside the new one
-same_frame : (g f : ℕ) → (g == f) ≡ true → g ≡ f
-same_frame g f e = grind (arith, nat_tests)
-
 closing_head : (b : Bool) (f : ℕ) (h : Holdings) (e : Work) (o : Option Work) → (e.frame == f) ≡ b → WorkAgrees h e → (IsTrue (is_closing_on o) → 0 < refs_to f h.refs) →
     IsTrue (is_closing_on (if b then Some e else o)) → 0 < refs_to f h.refs
-closing_head true f h e o is agrees rest closing = subst (λ g. 0 < refs_to g h.refs) (same_frame e.frame f is) (agrees.closing closing)
+closing_head true f h e o is agrees rest closing = subst (λ g. 0 < refs_to g h.refs) (equal_by e.frame f is) (agrees.closing closing)
 closing_head false f h e o is agrees rest closing = rest closing
 
 closing_by : (f : ℕ) (h : Holdings) (works : List Work) → EachOf (WorkAgrees h) works → IsTrue (is_closing_on (work_on f works)) → 0 < refs_to f h.refs

@@ -62,9 +62,6 @@ begun_fields k want is dead wanted = fields_write (begun_kind k want) (begun_is 
 pub resumed_fields : (k : KindWord) → IsTrue (is_kind k) → IsTrue (is_partial k) → kind_fields (kind_write (resumed_kind k)) ≡ resumed_kind k
 resumed_fields k is partial = fields_write (resumed_kind k) (resumed_is k is partial)
 
-pub resumed_in_work : (k : KindWord) → IsTrue (is_partial k) → IsTrue (is_work (resumed_kind k))
-resumed_in_work k partial = grind arith
-
 -- from a `kept` mark the reference comes into the hand
 pub resumed_kept : (f : ℕ) (k : KindWord) (h : Holdings) → k.kept ≡ true →
     resumed_work f k h
