@@ -18,7 +18,7 @@ use Rattle.xp_board.specs.Told.{Post, PortValue}
 use Rattle.step_maker.specs.Moves.{Moves, Moment, Came, Met}
 use Rattle.step_maker.proofs.Coming.{ran_more, came_post, moment_of, moves_by, moves_came, moves_ran, met_before, met_after}
 use Rattle.answer_fits.specs.Answers.{Changes, is_load, Deed, deeds_by, marked_by, deeds, Serves, Causes, Stops}
-use Rattle.answer_fits.specs.Asked.{Request, of_frame, IsFor, IsDemandOf, demand_held, context_type, Asked, IsAsked, back, of_back, IsNaming, Within, NoMore, named, demanded, walked, context, entered, of_old}
+use Rattle.answer_fits.specs.Asked.{Request, of_frame, IsFor, IsDemandOf, demand_held, named_type, Asked, IsAsked, back, of_back, IsNaming, Within, NoMore, named, demanded, walked, context, entered, of_old}
 use Rattle.answer_fits.specs.Finding.{Finding}
 use Rattle.answer_fits.specs.Reasons.{HasReason}
 use Rattle.answer_fits.proofs.Growing.{has_reason, causes}
@@ -172,7 +172,7 @@ asked_less n s r F f owner k want x (demanded t i w h e a b c) = demanded t i w 
 asked_less n s r F f owner k want x (walked t i w y a b c d) = walked t i w y a b c (for_less k want r.want x d)
 asked_less n s r F f owner k want x (entered t i w o m a b c d e j l y) = entered t i w o m a b c d e j (demand_less f k want (Some (demand_at o.kind i w)) x l) y
 asked_less n s r F f owner k want x (of_old v j w y c a d e i b g o l) = of_old v j w y c a d e i b g o (for_less k want (Some (kind_fields y).kind) x l)
-asked_less n s r F f owner k want x (context v j w y a b c d e i) = context v j w y a b c d e (for_less k want (context_type j) x i)
+asked_less n s r F f owner k want x (context v j w y a b c d e i) = context v j w y a b c d e (for_less k want (named_type j) x i)
 
 plain_frame : (f owner : ℕ) (want : Option PageType) → IsNaming (of_frame f owner want) → ⊥
 plain_frame f owner want (inl a) = absurd cc

@@ -29,9 +29,9 @@ use Rattle.xp_words.proofs.PlaceLaws.{place_back}
 use Rattle.step_maker.specs.Moves.{Moves, Moment, Came, Met}
 use Rattle.step_maker.proofs.Coming.{came_trans, came_self, came_post, moves_came, moves_by, moment_of, met_after}
 use Rattle.step_maker.proofs.Noting.{moves_steps, moves_since}
-use Rattle.answer_fits.specs.Finding.{Found, FoundWith, Did}
+use Rattle.answer_fits.specs.Finding.{FoundAt, FoundWith, Did}
 use Rattle.answer_fits.specs.Asked.{Request}
-use Rattle.answer_fits.specs.Reasons.{Awaited}
+use Rattle.answer_fits.specs.Reasons.{AwaitsStamp}
 use Rattle.answer_fits.specs.Reasons as reasons
 use Rattle.answer_fits.specs.Pauses.{Clear, own}
 use Rattle.flush_words.specs.Flushing.{FlushesOwn, spent, ticked, overtaken}
@@ -171,7 +171,7 @@ module _ (u v w : PortValue) (f : Flushed v w) where
       let both = and_parts (is_at (sizes_of v.post.machine) m.place one.1.0) (one.1.0.found == m.found) one.1.1 in
       subst (λ y. clock_value m.place y < f.to) (equal_by _ _ both.1) (subst (λ q. clock_value q one.1.0.found < f.to) (same_place _ m.place both.0) one.1.2.0)
 
-  pub found_less : (p : Place) (x : ℕ) → Found (Met u v) p x → clock_value p x < f.to
+  pub found_less : (p : Place) (x : ℕ) → FoundAt (Met u v) p x → clock_value p x < f.to
   found_less p x a = subst (λ y. clock_value p y < f.to) a.word (subst (λ q. clock_value q a.moment.found < f.to) a.place (met_less a.moment a.was))
 
   -- a marked word is not validated
@@ -186,7 +186,7 @@ module _ (u v w : PortValue) (f : Flushed v w) where
   stamp_less g x h a unlive = subst (λ y. y < f.to) (unlive_stamp x unlive) (found_less (Kind g) x (record { moment = a.moment; was = a.was; place = a.place; word = a.word }))
 
   -- so it is later than each stamp that is awaited
-  pub awaited_less : (n : Machine) (s : ℕ) (r : Request) (whose : Option ℕ) (stamp : ℕ) → Awaited n s r (Met u v) whose stamp → stamp < f.to
+  pub awaited_less : (n : Machine) (s : ℕ) (r : Request) (whose : Option ℕ) (stamp : ℕ) → AwaitsStamp n s r (Met u v) whose stamp → stamp < f.to
   unfolding clock_value
   awaited_less n s r whose stamp (reasons.marked g x owner want h a b c d e i j) = rw j (stamp_less g x h b (marked_word g x h b d))
   awaited_less n s r whose stamp (reasons.other g x owner want h a b c d e i j) = rw j (stamp_less g x h b (not-true _ (and_parts _ _ d).0))
@@ -194,7 +194,7 @@ module _ (u v w : PortValue) (f : Flushed v w) where
   awaited_less n s r whose stamp (reasons.begun a b c) = found_less Clock stamp b
 
   -- and the own vCPU is clear of it
-  pub own_clear : (r : Request) (whose : Option ℕ) (stamp : ℕ) → Came u v → Awaited u.post.machine u.post.vcpu r (Met u v) whose stamp → Clear u.post.machine u.post.vcpu whose stamp (Met u w) u.post.vcpu
+  pub own_clear : (r : Request) (whose : Option ℕ) (stamp : ℕ) → Came u v → AwaitsStamp u.post.machine u.post.vcpu r (Met u v) whose stamp → Clear u.post.machine u.post.vcpu whose stamp (Met u w) u.post.vcpu
   own_clear r whose stamp came a =
       let d = flushed_did v w f in
       subst (λ (q : Post). Clear q.machine q.vcpu whose stamp (Met u w) q.vcpu) (came_post u v came)

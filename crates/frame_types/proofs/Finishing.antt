@@ -27,7 +27,7 @@ use Rattle.answer_fits.specs.Asked.{of_frame}
 use Rattle.answer_fits.specs.Reasons.{keeps_type}
 use Rattle.answer_fits.proofs.Piecing.{serves_step}
 use Rattle.frame_words.proofs.Taking.{names_itself}
-use Rattle.kind_words.specs.Kinds.{IsWhole, MayLeave, left, live_kind, unmarked_kind}
+use Rattle.kind_words.specs.Kinds.{IsWholeWork, MayLeave, left, live_kind, unmarked_kind}
 use Rattle.kind_words.proofs.KindFacts.{work_word}
 use Rattle.kind_words.proofs.KindHands.{plain_whole}
 use Rattle.kind_words.proofs.KindWriting.{fields_write, live_is}
@@ -67,7 +67,7 @@ module _ (b v : PortValue) (f owner : ℕ) (want : PageType) (marked : Bool) (st
   of_mark : (kind_fields e.work.word).unflushed ≡ marked
   of_mark = ap (λ (k : KindWord). k.unflushed) fields
 
-  whole : is_read_first want ≡ false → (marked ≡ true → IsFlushed v.post.machine f v.holdings) → IsWhole v.post.machine f want v.holdings e.work
+  whole : is_read_first want ≡ false → (marked ≡ true → IsFlushed v.post.machine f v.holdings) → IsWholeWork v.post.machine f want v.holdings e.work
   whole plain past =
       plain_whole v.post.machine f want v.holdings e.work (no_table want plain) (no_descriptors want plain) in_work of_kind
       (λ on. entered_past b v f owner want marked stamp progress own e (past (sym of_mark ∙ on)))

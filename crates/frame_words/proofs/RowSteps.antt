@@ -17,7 +17,7 @@ use Rattle.board_lemmas.proofs.Numbers.{refs_there}
 use Rattle.step_maker.specs.Holds.{Holds, Same, MayWork, still}
 use Rattle.step_maker.specs.Moves.{May, Moves, found_by}
 use Rattle.frame_words.specs.declared.rows.Open.{Open}
-use Rattle.frame_words.specs.Refs.{open_word, raised_word, IsOpen, took, MayGive}
+use Rattle.frame_words.specs.Refs.{open_word, raised_word, IsOpen, took, MayPut}
 
 -- ---- reference words
 pub open_is_ref : (v : PortValue) (o : Open) → MayWork v → IsOpen v.post.machine o → IsRef (Owned o.owner o.allocated o.count)
@@ -33,7 +33,7 @@ may_raise v f e n o frame may room is next =
     rw (is, next)
     (raise_legal v.post.machine v.post.vcpu f o.owner o.count o.allocated v.holdings may.machine.few_counts may.machine.few_domains frame may.running room.owner room.some room.below)
 
-pub may_lower : (v : PortValue) (f : ℕ) → f < v.post.machine.frames → MayWork v → MayGive f v.holdings → May v (Refs f) (Add one_down) kinds.Ref None
+pub may_lower : (v : PortValue) (f : ℕ) → f < v.post.machine.frames → MayWork v → MayPut f v.holdings → May v (Refs f) (Add one_down) kinds.Ref None
 may_lower v f frame may give =
     record {
       place = refs_there (sizes_of v.post.machine) f frame;

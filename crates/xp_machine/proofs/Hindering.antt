@@ -17,13 +17,13 @@ use Rattle.answer_fits.specs.Answers.{Stops}
 use Rattle.answer_fits.specs.Asked.{Request}
 use Rattle.answer_fits.proofs.Piecing.{serves_came}
 use Rattle.answer_laws.specs.Alone.{IsAlone, IsDueOrFlush}
-use Rattle.mmu_update.specs.Elements.{element_of, request_of, deeds_of}
+use Rattle.mmu_update.specs.Elements.{element_of, request_of, element_deeds}
 use Rattle.mmu_update.specs.declared.element.Element.{Element}
 use Rattle.mmu_update.specs.declared.element.Element.TheVariants.{SetM2p, Write, Misaligned, Unknown}
 use Rattle.vcpu_turn.specs.declared.cpu.TurnEnd.{TurnEnd}
 use Rattle.vcpu_turn.specs.declared.cpu.TurnEnd.TheVariants as ends
 use Rattle.vcpu_turn.specs.Cpus.{Processing, pairs_of, end_of}
-use Rattle.vcpu_turn.specs.Lists.{Did, Ends, none, more}
+use Rattle.vcpu_turn.specs.Lists.{DidItems, Ends, none, more}
 use Rattle.vcpu_turn.specs.Working.{FitsPair, PairFits, no_asks, Works}
 use Rattle.vcpu_turn.specs.Turning.{Does, EndsTurn, IsStop, IsTurn}
 use Rattle.vcpu_turn.proofs.Turns.{begins_came}
@@ -43,9 +43,9 @@ ends_came ends.Retired v w e = stop_came v w e
 
 fits_came : (d : ℕ) (o : Option Pair) (v w : PortValue) (answer : Result (Unit {0}) Stop) → FitsPair d o v w answer → Came v w
 fits_came d None v w answer f = absurd f
-fits_came d (Some p) v w answer f = serves_came v w (request_of d (element_of p)) (deeds_of v.post.machine (element_of p) answer) f.serves
+fits_came d (Some p) v w answer f = serves_came v w (request_of d (element_of p)) (element_deeds v.post.machine (element_of p) answer) f.serves
 
-did_came : (d : ℕ) (pairs : List Pair) (from : ℕ) (v : PortValue) (k n : ℕ) (w : PortValue) → Did (PairFits d pairs) no_asks from v k n w → Came v w
+did_came : (d : ℕ) (pairs : List Pair) (from : ℕ) (v : PortValue) (k n : ℕ) (w : PortValue) → DidItems (PairFits d pairs) no_asks from v k n w → Came v w
 did_came d pairs from v _ _ _ none = came_self v
 did_came d pairs from v _ _ _ (more k n u w a f) = came_trans v u w (did_came d pairs from v k n u a) (fits_came d (slice_get pairs k) u w (Ok tt) f)
 
