@@ -17,14 +17,14 @@ use Rattle.xp_board.specs.declared.step.Act.{Act}
 use Rattle.xp_board.specs.declared.step.Act.TheVariants.{Load, Cas, Store, Add, Max}
 use Rattle.answer_fits.specs.Answers.{Causes}
 use Rattle.answer_fits.specs.Asked.{Request, IsAsked, of, back, Within, HasNoMore, NoMore, Passed, checked, given, old, Implies}
-use Rattle.answer_fits.specs.Finding.{Finding, Found, FoundWith, Did}
+use Rattle.answer_fits.specs.Finding.{Finding, FoundAt, FoundWith, Did}
 use Rattle.answer_fits.specs.Licences.{IsNewWord, IsOwnedBy, Licensed, HasTaken}
-use Rattle.answer_fits.specs.Pauses.{Awaits, Progress, Loses, IsWanted, Clear, idle, flushed, own, barred, AskedTo, entry, live}
-use Rattle.answer_fits.specs.Reasons.{Awaited, marked, other, free, begun, MayFlush, NeedsFlush, MayCountPages, MayReach, taken, MayMark, IsPagesChange, IsRefChange, MayType, MayWriteOwn, MayChangeVcpu, Reason, HasReason}
+use Rattle.answer_fits.specs.Pauses.{PausesFor, Progress, Loses, IsWanted, Clear, idle, flushed, own, barred, AskedTo, entry, live}
+use Rattle.answer_fits.specs.Reasons.{AwaitsStamp, marked, other, free, begun, MayFlush, NeedsFlush, MayCountPages, MayReach, taken, IsMarkAsked, IsPagesChange, IsRefChange, MayType, MayWriteOwn, MayChangeVcpu, Reason, HasReason}
 use Rattle.answer_fits.specs.Reasons as reasons
 
 module _ (n : Machine) (s : ℕ) (q : Request) (F : Finding) (t : Request) (G : Finding) (w : Within n s q F t G) where
-  pub found : (p : Place) (x : ℕ) → Found F p x → Found G p x
+  pub found : (p : Place) (x : ℕ) → FoundAt F p x → FoundAt G p x
   found p x a = record { moment = a.moment; was = w.moments a.moment a.was; place = a.place; word = a.word }
 
   pub did : (p : Place) (b : Act) (x : ℕ) → Did F p b x → Did G p b x
@@ -59,7 +59,7 @@ module _ (n : Machine) (s : ℕ) (q : Request) (F : Finding) (t : Request) (G : 
   passed f o h (old v k x a b c d) = old v k x (w.contexts a) (found _ x b) c d
 
   -- ---- why a word may change
-  awaited : (whose : Option ℕ) (stamp : ℕ) → Awaited n s q F whose stamp → Awaited n s t G whose stamp
+  awaited : (whose : Option ℕ) (stamp : ℕ) → AwaitsStamp n s q F whose stamp → AwaitsStamp n s t G whose stamp
   awaited whose stamp (marked f x o want h a b c d e i j) = marked f x o want h (w.asked f o (Some want) a) (found_with _ x h b) (passed f o h c) d e i j
   awaited whose stamp (other f x o want h a b c d e i j) = other f x o want h (w.asked f o (Some want) a) (found_with _ x h b) (passed f o h c) d e i j
   awaited whose stamp (free f x k o a b c d e) = free f x k (w.pages k o) (asks f a) (found _ x b) c d e
@@ -96,7 +96,7 @@ module _ (n : Machine) (s : ℕ) (q : Request) (F : Finding) (t : Request) (G : 
   paging (Add x) a = tt
   paging (Max x) a = tt
 
-  marking : (f x y : ℕ) → MayMark n s q F f x y → MayMark n s t G f x y
+  marking : (f x y : ℕ) → IsMarkAsked n s q F f x y → IsMarkAsked n s t G f x y
   marking f x y a = (w.locks a.0, asks f a.1, a.2)
 
   typing : (f : ℕ) (b : Act) (x : ℕ) → MayType n s q F f b x → MayType n s t G f b x
@@ -162,7 +162,7 @@ module _ (n : Machine) (s : ℕ) (q : Request) (F : Finding) (t : Request) (G : 
   wanted None x (inl a) = inl (w.locks a)
   wanted None x (inr a) = inr (w.contexts a)
 
-  pub awaits : (x : Pause) → Awaits n s q F x → Awaits n s t G x
+  pub awaits : (x : Pause) → PausesFor n s q F x → PausesFor n s t G x
   awaits Due a = (w.rose a.0, progress a.1)
   awaits (Lost place e x) a = (a.0, a.1, a.2, (loses a.0 e x a.3.0, reason a.0 (Cas e a.3.0.new) x a.3.0.exchange.hand a.3.1))
   awaits (Busy f x) (inl a) = inl (a.0, a.1, a.2, w.asked f a.0 a.1 a.3, found_with _ x a.2 a.4, passed f a.0 a.2 a.5, a.6, wanted a.1 x a.7, a.8)

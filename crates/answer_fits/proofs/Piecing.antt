@@ -18,10 +18,11 @@ use Rattle.xp_board.specs.Told.{Post, PortValue}
 use Rattle.step_maker.specs.Moves.{Moves, Moment, Came, Met}
 use Rattle.step_maker.proofs.Coming.{ran_more, came_post, moment_of, moves_by, moves_came, moves_ran, met_before, met_after}
 use Rattle.answer_fits.specs.Answers.{Changes, is_load, Deed, deeds_by, marked_by, deeds, Serves, Causes, Stops}
-use Rattle.answer_fits.specs.Asked.{Request, of_frame, IsFor, IsDemandOf, demand_held, context_type, Asked, IsAsked, back, of_back, IsNaming, Within, NoMore, named, demanded, walked, context, entered, of_old}
+use Rattle.answer_fits.specs.Asked.{Request, of_frame, IsFor, IsDemandOf, demand_held, named_type, Asked, IsAsked, back, of_back, IsNaming, Within, NoMore, named, demanded, walked, context, entered, of_old}
 use Rattle.answer_fits.specs.Finding.{Finding}
 use Rattle.answer_fits.specs.Reasons.{HasReason}
 use Rattle.answer_fits.proofs.Growing.{has_reason, causes}
+use Rattle.board_lemmas.proofs.HandLists.{EachOf-map}
 
 -- ---- the same request, more found
 asked_grows : (n : Machine) (s : ℕ) (r : Request) (F G : Finding) (more : (m : Moment) → F m → G m) (f owner : ℕ) (want : Option PageType) → Asked n s r F f owner want → Asked n s r G f owner want
@@ -68,11 +69,6 @@ unfolding EachOf
 each_append P xs [] a b = a
 each_append P xs (y ∷ ys) a b = (b.0, each_append P xs ys a b.1)
 
-pub each_map : {A : Type 0} (P Q : A → Type 0) (xs : List A) → ((x : A) → P x → Q x) → EachOf P xs → EachOf Q xs
-unfolding EachOf
-each_map P Q [] f a = tt
-each_map P Q (x ∷ xs) f a = (f x a.0, each_map P Q xs f a.1)
-
 pub deeds_append : (xs ys : List Moment) → deeds (ys ++ xs) ≡ deeds ys ++ deeds xs
 deeds_append xs [] = refl
 deeds_append xs (y ∷ ys) =
@@ -97,7 +93,7 @@ serves_within v w r q ds within a = (
   record {
     ran = a.1.ran;
     deeds_are = a.1.deeds_are;
-    reasons = each_map _ _ a.0 (λ m. has_reason v.post.machine v.post.vcpu r (Met v w) q (Met v w) within m.place m.act m.found m.hand) a.1.reasons;
+    reasons = EachOf-map _ _ a.0 (λ m. has_reason v.post.machine v.post.vcpu r (Met v w) q (Met v w) within m.place m.act m.found m.hand) a.1.reasons;
   },
 )
 
@@ -152,7 +148,7 @@ serves_step v u w r ds p a kind mark found before m reason =
         deeds_are = ap (λ (xs : List Deed). marked_by mark ++ (deeds_by p a kind found u.holdings ++ xs)) before.1.deeds_are;
         reasons = (
           reason,
-          each_map _ _ before.0 (λ m. has_reason n s r (Met v u) r (Met v w) (same_request n s r (Met v u) (Met v w) (λ k x. met_before v u w k x second)) m.place m.act m.found m.hand) before.1.reasons,
+          EachOf-map _ _ before.0 (λ m. has_reason n s r (Met v u) r (Met v w) (same_request n s r (Met v u) (Met v w) (λ k x. met_before v u w k x second)) m.place m.act m.found m.hand) before.1.reasons,
         );
       },
     )
@@ -176,7 +172,7 @@ asked_less n s r F f owner k want x (demanded t i w h e a b c) = demanded t i w 
 asked_less n s r F f owner k want x (walked t i w y a b c d) = walked t i w y a b c (for_less k want r.want x d)
 asked_less n s r F f owner k want x (entered t i w o m a b c d e j l y) = entered t i w o m a b c d e j (demand_less f k want (Some (demand_at o.kind i w)) x l) y
 asked_less n s r F f owner k want x (of_old v j w y c a d e i b g o l) = of_old v j w y c a d e i b g o (for_less k want (Some (kind_fields y).kind) x l)
-asked_less n s r F f owner k want x (context v j w y a b c d e i) = context v j w y a b c d e (for_less k want (context_type j) x i)
+asked_less n s r F f owner k want x (context v j w y a b c d e i) = context v j w y a b c d e (for_less k want (named_type j) x i)
 
 plain_frame : (f owner : ℕ) (want : Option PageType) → IsNaming (of_frame f owner want) → ⊥
 plain_frame f owner want (inl a) = absurd cc
@@ -274,8 +270,8 @@ serves_inner v u w r q ds es within a b =
         ran = ran_more v u w a.0 b.0 a.1.ran b.1.ran;
         deeds_are = deeds_append a.0 b.0 ∙ ap (λ (xs : List Deed). xs ++ deeds a.0) b.1.deeds_are ∙ ap (λ (xs : List Deed). es ++ xs) a.1.deeds_are;
         reasons = each_append _ a.0 b.0
-            (each_map _ _ a.0 (λ m. has_reason n s r (Met v u) r (Met v w) (same_request n s r (Met v u) (Met v w) (λ k x. met_before v u w k x second)) m.place m.act m.found m.hand) a.1.reasons)
-            (each_map _ _ b.0 (λ m. has_reason n s q (Met u w) r (Met v w) within m.place m.act m.found m.hand)
+            (EachOf-map _ _ a.0 (λ m. has_reason n s r (Met v u) r (Met v w) (same_request n s r (Met v u) (Met v w) (λ k x. met_before v u w k x second)) m.place m.act m.found m.hand) a.1.reasons)
+            (EachOf-map _ _ b.0 (λ m. has_reason n s q (Met u w) r (Met v w) within m.place m.act m.found m.hand)
             (subst (λ (p : Post). EachOf (λ (m : Moment). HasReason p.machine p.vcpu q (Met u w) m.place m.act m.found m.hand) b.0) (came_post v u (a.0, a.1.ran)) b.1.reasons));
       },
     )

@@ -23,7 +23,7 @@ use Rattle.step_maker.specs.Moves.{Moment, Ran, Met}
 use Rattle.answer_fits.specs.Asked.{Request}
 use Rattle.answer_fits.specs.Finding.{Finding}
 use Rattle.answer_fits.specs.Licences.{Licensed}
-use Rattle.answer_fits.specs.Pauses.{Awaits}
+use Rattle.answer_fits.specs.Pauses.{PausesFor}
 use Rattle.answer_fits.specs.Reasons.{HasReason}
 
 -- ---- deeds: the steps that a guest can see; and the exchanges that were lost, of which no answer but that pause has one
@@ -152,7 +152,7 @@ Changes v w cs = (ms : List Moment) × Ran v ms w × (changes ms ≡ cs)
 -- why a call ends otherwise than asked
 abbrev pub Causes : Machine → ℕ → Holdings → Request → Finding → Stop → Type 0
 Causes n s b r F (Refused x) = Licensed n s b r F x
-Causes n s b r F (Paused x) = Awaits n s r F x
+Causes n s b r F (Paused x) = PausesFor n s r F x
 
 -- what the steps from v to w show of a call that stops
 unfoldable pub Stops : PortValue → PortValue → Request → Stop → Type 0

@@ -20,7 +20,7 @@ use Rattle.xp_board.specs.declared.holdings.OwnerFound.TheVariants as owners
 use Rattle.xp_board.specs.Hands.{work_on, lock_on, refs_to, typed_to, typed_hand, typed_owner}
 use Rattle.xp_board.specs.Readings.{is_context, is_dead, is_frame_word, domain_of}
 use Rattle.step_maker.specs.Moves.{Moment}
-use Rattle.answer_fits.specs.Finding.{Finding, Found, FoundWith}
+use Rattle.answer_fits.specs.Finding.{Finding, FoundAt, FoundWith}
 
 -- what a call is asked: by its own numbers, and beside what its steps find
 pub record Request : Type 0 where
@@ -129,10 +129,10 @@ owner_below r (Some kinds.L1) = r.pages_of
 owner_below r _ = r.owner
 
 -- the entries of a table in the own work ask frames of the owner that the call was told; the one under the own entry lock by its level
-abbrev pub owner_in : Request → Option Work → Option Lock → ℕ
-owner_in r (Some e) o = r.owner
-owner_in r None (Some o) = owner_below r (Some o.kind)
-owner_in r None None = r.owner
+abbrev pub entry_owner : Request → Option Work → Option Lock → ℕ
+entry_owner r (Some e) o = r.owner
+entry_owner r None (Some o) = owner_below r (Some o.kind)
+entry_owner r None None = r.owner
 
 -- what is asked for a type is asked without one, too
 abbrev pub IsFor : Option PageType → Option PageType → Type 0
@@ -146,8 +146,8 @@ IsDemandOf f want (Some (demands.Typed g t)) = (g ≡ f) × IsFor want (Some t)
 IsDemandOf f want _ = ⊥
 
 -- the type of the frame that a context word names, where the word says it
-abbrev pub context_type : ℕ → Option PageType
-context_type k = if nat_lt k 2 then Some kinds.L4 else if nat_le 8 k then Some kinds.Desc else None
+abbrev pub named_type : ℕ → Option PageType
+named_type k = if nat_lt k 2 then Some kinds.L4 else if nat_le 8 k then Some kinds.Desc else None
 
 -- ---- frames
 -- a frame is asked, of that owner and for that type
@@ -156,18 +156,18 @@ pub data Asked (n : Machine) (s : ℕ) (r : Request) (F : Finding) (f owner : �
   named : IsTrue (r.names f) → owner ≡ r.owner → IsFor want r.want → Asked n s r F f owner want
   -- an entry asks it that was found in a table of the own work, or under the own entry lock
   demanded : (t i w : ℕ) (h : Holdings) → r.entries ≡ true → FoundWith F (Cell t i) w h → IsDemandOf f want (demand_held t i w h) →
-      owner ≡ owner_in r (work_on t h.works) (lock_on t h.locks) → Asked n s r F f owner want
+      owner ≡ entry_owner r (work_on t h.works) (lock_on t h.locks) → Asked n s r F f owner want
   -- the word that the call puts into a table asks it, as that table was under the own entry lock
   entered : (t i w : ℕ) (o : Lock) (m : Moment) → r.entries ≡ true → IsTrue (r.names t) → r.index ≡ Some i → r.new_word ≡ Some w → F m → lock_on t m.hand.locks ≡ Some o →
       IsDemandOf f want (Some (demand_at o.kind i w)) → owner ≡ owner_below r (Some o.kind) → Asked n s r F f owner want
   -- it was found in the walk
-  walked : (t i w : ℕ) → r.walks ≡ true → Found F (Cell t i) w → f ≡ frame_of w → owner ≡ r.owner → IsFor want r.want → Asked n s r F f owner want
+  walked : (t i w : ℕ) → r.walks ≡ true → FoundAt F (Cell t i) w → f ≡ frame_of w → owner ≡ r.owner → IsFor want r.want → Asked n s r F f owner want
   -- a context word names it, of the own vCPU or of one of the domain under destruction
-  context : (v k w : ℕ) → r.contexts ≡ true → Found F (Vcpu v k) w → IsTrue (is_context k) → IsTrue (is_frame_word f w) → (v ≡ s) ⊎ (r.destroys ≡ Some (domain_of n v)) →
-      owner ≡ domain_of n v → IsFor want (context_type k) → Asked n s r F f owner want
+  context : (v k w : ℕ) → r.contexts ≡ true → FoundAt F (Vcpu v k) w → IsTrue (is_context k) → IsTrue (is_frame_word f w) → (v ≡ s) ⊎ (r.destroys ≡ Some (domain_of n v)) →
+      owner ≡ domain_of n v → IsFor want (named_type k) → Asked n s r F f owner want
   -- an old word names it, which has the frame's own type
-  of_old : (v k w x : ℕ) → r.contexts ≡ true → Found F (Vcpu v k) w → (k ≡ 2) ⊎ (k ≡ 3) → IsTrue (is_frame_word f w) → (v ≡ s) ⊎ (r.destroys ≡ Some (domain_of n v)) →
-      Found F (Kind f) x → IsTrue (not (is_dead (kind_fields x))) → owner ≡ domain_of n v → IsFor want (Some (kind_fields x).kind) → Asked n s r F f owner want
+  of_old : (v k w x : ℕ) → r.contexts ≡ true → FoundAt F (Vcpu v k) w → (k ≡ 2) ⊎ (k ≡ 3) → IsTrue (is_frame_word f w) → (v ≡ s) ⊎ (r.destroys ≡ Some (domain_of n v)) →
+      FoundAt F (Kind f) x → IsTrue (not (is_dead (kind_fields x))) → owner ≡ domain_of n v → IsFor want (Some (kind_fields x).kind) → Asked n s r F f owner want
 
 -- of some owner and for some type; or the call gives it back
 pub data IsAsked (n : Machine) (s : ℕ) (r : Request) (F : Finding) (f : ℕ) : Type 0 where
@@ -191,7 +191,7 @@ pub data Passed (n : Machine) (r : Request) (F : Finding) (f owner : ℕ) (h : H
   checked : IsTrue (knows_owner (sizes_of n) f owner h) → Passed n r F f owner h
   -- a typed reference that came out of an entry, a mark or a context word
   given : (k : ℕ) → 0 < typed_to f h.typed → typed_owner f h ≡ owners.Since k → Passed n r F f owner h
-  old : (v k w : ℕ) → r.contexts ≡ true → Found F (Vcpu v k) w → IsTrue (is_context k) → IsTrue (is_frame_word f w) → Passed n r F f owner h
+  old : (v k w : ℕ) → r.contexts ≡ true → FoundAt F (Vcpu v k) w → IsTrue (is_context k) → IsTrue (is_frame_word f w) → Passed n r F f owner h
 
 -- ---- requests within others
 abbrev pub Implies : Bool → Bool → Type 0

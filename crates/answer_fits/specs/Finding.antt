@@ -10,7 +10,7 @@ abbrev pub Finding : Type 1
 Finding = Moment → Type 0
 
 -- one of the steps found that word there
-pub record Found (F : Finding) (p : Place) (w : ℕ) : Type 0 where
+pub record FoundAt (F : Finding) (p : Place) (w : ℕ) : Type 0 where
   pub moment : Moment
   pub was : F moment
   pub place : moment.place ≡ p

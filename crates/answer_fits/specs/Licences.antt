@@ -24,7 +24,7 @@ use Rattle.xp_board.specs.Hands.{claim_of, work_on, lock_on}
 use Rattle.xp_board.specs.Lists.{times}
 use Rattle.xp_board.specs.Readings.{is_dead, is_type, is_live_as, is_free, has_now, domain_of, last_clock}
 use Rattle.answer_fits.specs.Asked.{Request, Asked, IsAsked, HasNoMore, Passed, demand_held}
-use Rattle.answer_fits.specs.Finding.{Finding, Found, FoundWith}
+use Rattle.answer_fits.specs.Finding.{Finding, FoundAt, FoundWith}
 use Rattle.answer_fits.specs.Reasons.{NeedsFlush}
 
 -- ---- reference words
@@ -72,7 +72,7 @@ pub record HasTaken (size : ℕ) (F : Finding) (block : ℕ) : Type 0 where
 -- the call writes slot i of a top table: by its numbers, or of one that was found live
 abbrev pub WritesSlot : Machine → ℕ → Request → Finding → ℕ → Type 0
 WritesSlot n s r F i =
-    (r.by_numbers ≡ Some (Slot i)) ⊎ ((f w : ℕ) × IsAsked n s r F f × Found F (Kind f) w × IsTrue (is_live_as kinds.L4 w) × (r.index ≡ Some i))
+    (r.by_numbers ≡ Some (Slot i)) ⊎ ((f w : ℕ) × IsAsked n s r F f × FoundAt F (Kind f) w × IsTrue (is_live_as kinds.L4 w) × (r.index ≡ Some i))
 
 -- the table is under the own entry lock, and the entry asks what no entry may
 abbrev pub IsBadUnder : ℕ → ℕ → Option Lock → Type 0
@@ -84,7 +84,7 @@ with_old_bit i x w = if is_bit i x then with_bit i w else w
 
 -- the new word, or it with bits 5 and 6 of the word that was found there
 abbrev pub IsNewWord : Finding → ℕ → ℕ → ℕ → ℕ → Type 0
-IsNewWord F f i w e = (e ≡ w) ⊎ ((x : ℕ) × Found F (Cell f i) x × (e ≡ with_old_bit 6 x (with_old_bit 5 x w)))
+IsNewWord F f i w e = (e ≡ w) ⊎ ((x : ℕ) × FoundAt F (Cell f i) x × (e ≡ with_old_bit 6 x (with_old_bit 5 x w)))
 
 abbrev pub is_desc_work : Option Work → Bool
 is_desc_work (Some e) = is_type (kind_fields e.word).kind kinds.Desc && not (kind_fields e.word).unflushed
@@ -95,11 +95,11 @@ is_desc_work None = false
 abbrev pub Licensed : Machine → ℕ → Holdings → Request → Finding → Refusal → Type 0
 Licensed n s b r F (NoFrame f) = IsAsked n s r F f × (n.frames ≤ f)
 Licensed n s b r F (WrongOwner f w) =
-    (owner : ℕ) × (want : Option PageType) × Asked n s r F f owner want × Found F (Refs f) w
+    (owner : ℕ) × (want : Option PageType) × Asked n s r F f owner want × FoundAt F (Refs f) w
     × ((IsOwnedBy owner (ref_read w) → ⊥) ⊎ ((r.returns ≡ true) × (is_allocated (ref_read w) ≡ false)))
 Licensed n s b r F (OtherType f want w) =
     ((owner : ℕ) × (h : Holdings) × Asked n s r F f owner (Some want) × FoundWith F (Kind f) w h × Passed n r F f owner h × IsTrue (is_other want w))
-    ⊎ (IsAsked n s r F f × Found F (Kind f) w × (r.walks ≡ true) × (want ≡ kinds.L1) × IsTrue (not (is_live_as kinds.L1 w)))
+    ⊎ (IsAsked n s r F f × FoundAt F (Kind f) w × (r.walks ≡ true) × (want ≡ kinds.L1) × IsTrue (not (is_live_as kinds.L1 w)))
 Licensed n s b r F (Reserved f i e) =
     ((h : Holdings) × (r.entries ≡ true) × FoundWith F (Cell f i) e h × (demand_held f i e h ≡ Some demands.Bad))
     ⊎ ((w : ℕ) × (m : Moment) × IsTrue (r.names f) × (r.index ≡ Some i) × (r.new_word ≡ Some w) × F m × IsBadUnder i e (lock_on f m.hand.locks) × IsNewWord F f i w e)
@@ -112,19 +112,19 @@ Licensed n s b r F (NotPinned w) =
     (f owner : ℕ) × (want : Option PageType) × (h : Holdings) × Asked n s r F f owner want × FoundWith F (Kind f) w h × Passed n r F f owner h × (r.pins ≡ true) × IsTrue (r.names f) × ((kind_fields w).pinned ≡ false)
 Licensed n s b r F (Slot i) = IsTrue (is_slot kinds.L4 i) × WritesSlot n s r F i
 Licensed n s b r F (NotMapped level e) =
-    ((level ≡ 5) × (e ≡ 0) × (r.walks ≡ true) × ((k : ℕ) × (k < 2) × Found F (Vcpu s k) 0))
-    ⊎ ((0 < level) × (level < 5) × (r.walks ≡ true) × ((t i : ℕ) × Found F (Cell t i) e × IsTrue (is_unmapped n e)))
+    ((level ≡ 5) × (e ≡ 0) × (r.walks ≡ true) × ((k : ℕ) × (k < 2) × FoundAt F (Vcpu s k) 0))
+    ⊎ ((0 < level) × (level < 5) × (r.walks ≡ true) × ((t i : ℕ) × FoundAt F (Cell t i) e × IsTrue (is_unmapped n e)))
 Licensed n s b r F (ReadOnly e) =
     (r.walks ≡ true)
-    × (((t i : ℕ) × Found F (Cell t i) e × (is_bit 1 e ≡ false)) ⊎ ((f w : ℕ) × IsAsked n s r F f × Found F (Kind f) w × IsTrue (not (is_live_as kinds.L1 w))))
+    × (((t i : ℕ) × FoundAt F (Cell t i) e × (is_bit 1 e ≡ false)) ⊎ ((f w : ℕ) × IsAsked n s r F f × FoundAt F (Kind f) w × IsTrue (not (is_live_as kinds.L1 w))))
 Licensed n s b r F NonCanonical = r.by_numbers ≡ Some NonCanonical
-Licensed n s b r F (NoPrivilege c d) = IsTrue (r.over d) × ((c ≡ domain_of n s) ⊎ (c ≡ r.owner)) × ((c ≢ d) ⊎ (r.destroys ≡ Some d)) × ((w : ℕ) × Found F (Priv c) w × IsTrue (not (has_now d w)))
+Licensed n s b r F (NoPrivilege c d) = IsTrue (r.over d) × ((c ≡ domain_of n s) ⊎ (c ≡ r.owner)) × ((c ≢ d) ⊎ (r.destroys ≡ Some d)) × ((w : ℕ) × FoundAt F (Priv c) w × IsTrue (not (has_now d w)))
 Licensed n s b r F NoDomain = r.by_numbers ≡ Some NoDomain
-Licensed n s b r F (Dying d w) = IsTrue (r.over d) × Found F (Life d) w × (w ≢ 0)
+Licensed n s b r F (Dying d w) = IsTrue (r.over d) × FoundAt F (Life d) w × (w ≢ 0)
 Licensed n s b r F (DomainFull w) =
     (h : Holdings) × FoundWith F (Pages (domain_of n s)) w h × (times (domain_of n s) h.credits ≡ 0) × ((k : ℕ) × (r.pages ≡ Some k) × (slice_index n.page_limit (domain_of n s) < w + k))
 Licensed n s b r F NoFree = (size : ℕ) × (r.block ≡ Some size) × ((block : ℕ) → block * size + size ≤ n.frames → HasTaken size F block)
-Licensed n s b r F BadRange = (r.by_numbers ≡ Some BadRange) ⊎ ((page w : ℕ) × (r.ldt_page ≡ Some page) × Found F (Vcpu s 7) w × IsBeyond page (ldt_read w))
+Licensed n s b r F BadRange = (r.by_numbers ≡ Some BadRange) ⊎ ((page w : ℕ) × (r.ldt_page ≡ Some page) × FoundAt F (Vcpu s 7) w × IsBeyond page (ldt_read w))
 Licensed n s b r F (BadDescriptor f i w) =
     (fixed w ≡ None) × (((h : Holdings) × IsAsked n s r F f × FoundWith F (Cell f i) w h × IsTrue (is_desc_work (work_on f h.works))) ⊎ (IsTrue (r.names f) × (r.index ≡ Some i) × (r.descriptor ≡ Some w)))
 Licensed n s b r F BadCommand = r.by_numbers ≡ Some BadCommand

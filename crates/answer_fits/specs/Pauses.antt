@@ -21,8 +21,8 @@ use Rattle.xp_board.specs.Readings.{is_work, is_locked, is_closing, is_live, is_
 use Rattle.xp_words.specs.declared.kind.PageType.{PageType}
 use Rattle.answer_fits.specs.Asked.{Request, Asked, Passed}
 use Rattle.step_maker.specs.Moves.{Moment}
-use Rattle.answer_fits.specs.Finding.{Finding, Found, FoundWith, Did}
-use Rattle.answer_fits.specs.Reasons.{Awaited, Reason, MayReach}
+use Rattle.answer_fits.specs.Finding.{Finding, FoundAt, FoundWith, Did}
+use Rattle.answer_fits.specs.Reasons.{AwaitsStamp, Reason, MayReach}
 
 -- ---- progress
 abbrev pub is_entry_mark : Option Mark → Bool
@@ -33,7 +33,7 @@ is_entry_mark _ = false
 -- one of the steps recorded or shed an entry, or made a frame live
 pub data Progress (F : Finding) : Type 0 where
   entry : (m : Moment) → F m → IsTrue (is_entry_mark m.mark) → Progress F
-  live : (m : Moment) (f new x : ℕ) → F m → m.place ≡ Kind f → m.act ≡ Store new → IsTrue (is_live (kind_fields new)) → Found F (Kind f) x → IsTrue (is_partial (kind_fields x)) → Progress F
+  live : (m : Moment) (f new x : ℕ) → F m → m.place ≡ Kind f → m.act ≡ Store new → IsTrue (is_live (kind_fields new)) → FoundAt F (Kind f) x → IsTrue (is_partial (kind_fields x)) → Progress F
 
 -- ---- exchanges
 -- an exchange found another word than the last step of this piece at that place had found or left there
@@ -54,11 +54,11 @@ pub record Loses (n : Machine) (F : Finding) (p : Place) (expected found : ℕ) 
 abbrev pub IsElsewhere : ℕ → Holdings → Type 0
 IsElsewhere f h = (work_on f h.works ≡ None) × (lock_on f h.locks ≡ None) × (ending_of f h.ending ≡ None)
 
-abbrev pub is_busy : ℕ → Bool
-is_busy w = is_work (kind_fields w) || (is_locked (kind_fields w) || is_closing (kind_fields w))
+abbrev pub found_busy : ℕ → Bool
+found_busy w = is_work (kind_fields w) || (is_locked (kind_fields w) || is_closing (kind_fields w))
 
-abbrev pub is_in_use : ℕ → Bool
-is_in_use w = is_live (kind_fields w) && (is_table (kind_fields w).kind || is_type (kind_fields w).kind kinds.Desc)
+abbrev pub found_in_use : ℕ → Bool
+found_in_use w = is_live (kind_fields w) && (is_table (kind_fields w).kind || is_type (kind_fields w).kind kinds.Desc)
 
 -- of the type that is asked; where none is asked the call locks tables, or releases old ones
 abbrev pub IsWanted : Request → Option PageType → ℕ → Type 0
@@ -68,10 +68,10 @@ IsWanted r None w = (r.locks ≡ true) ⊎ (r.contexts ≡ true)
 -- ---- flushes
 -- a vCPU was found clear of that stamp
 pub data Clear (n : Machine) (s : ℕ) (whose : Option ℕ) (stamp : ℕ) (F : Finding) (v : ℕ) : Type 0 where
-  idle : (w : ℕ) → Found F (Vcpu v 6) w → IsTrue (is_idle w) → Clear n s whose stamp F v
-  flushed : (w : ℕ) → Found F (Vcpu v 5) w → stamp < w → Clear n s whose stamp F v
+  idle : (w : ℕ) → FoundAt F (Vcpu v 6) w → IsTrue (is_idle w) → Clear n s whose stamp F v
+  flushed : (w : ℕ) → FoundAt F (Vcpu v 5) w → stamp < w → Clear n s whose stamp F v
   own : (w before : ℕ) → v ≡ s → Did F (Vcpu v 5) (Store w) before → stamp < w → Clear n s whose stamp F v
-  barred : (owner w : ℕ) → whose ≡ Some owner → domain_of n v ≢ owner → Found F (Priv (domain_of n v)) w → IsTrue (not (has_ever owner w)) → Clear n s whose stamp F v
+  barred : (owner w : ℕ) → whose ≡ Some owner → domain_of n v ≢ owner → FoundAt F (Priv (domain_of n v)) w → IsTrue (not (has_ever owner w)) → Clear n s whose stamp F v
 
 pub record AskedTo (stamp : ℕ) (F : Finding) (v : ℕ) : Type 0 where
   pub before : ℕ
@@ -81,8 +81,8 @@ pub record AskedTo (stamp : ℕ) (F : Finding) (v : ℕ) : Type 0 where
 pub record Behind (n : Machine) (s : ℕ) (whose : Option ℕ) (stamp : ℕ) (F : Finding) (v found : ℕ) : Type 0 where
   pub other : v ≢ s
   pub real : v < length n.vcpu_domain
-  pub running : Found F (Vcpu v 6) 0
-  pub flushed : Found F (Vcpu v 5) found
+  pub running : FoundAt F (Vcpu v 6) 0
+  pub flushed : FoundAt F (Vcpu v 5) found
   pub behind : found ≤ stamp
   pub asked : AskedTo stamp F v
   pub reach : MayReach n whose F v
@@ -90,12 +90,12 @@ pub record Behind (n : Machine) (s : ℕ) (whose : Option ℕ) (stamp : ℕ) (F 
   pub others : (u : ℕ) → u < length n.vcpu_domain → Clear n s whose stamp F u ⊎ AskedTo stamp F u
 
 -- ---- by pause
-abbrev pub Awaits : Machine → ℕ → Request → Finding → Pause → Type 0
-Awaits n s r F Due = (r.rose ≡ true) × Progress F
-Awaits n s r F (Lost place expected found) =
+abbrev pub PausesFor : Machine → ℕ → Request → Finding → Pause → Type 0
+PausesFor n s r F Due = (r.rose ≡ true) × Progress F
+PausesFor n s r F (Lost place expected found) =
     (p : Place) × (place ≡ number (sizes_of n) p) × (p ≢ places.Clock) × ((l : Loses n F p expected found) × Reason n s r F p (Cas expected l.new) found l.exchange.hand)
-Awaits n s r F (Busy f w) =
-    ((owner : ℕ) × (want : Option PageType) × (h : Holdings) × Asked n s r F f owner want × FoundWith F (Kind f) w h × Passed n r F f owner h × IsTrue (is_busy w) × IsWanted r want w × IsElsewhere f h)
-    ⊎ ((d : ℕ) × (r.destroys ≡ Some d) × ((x : ℕ) × Found F (Refs f) x × (owner_of x ≡ Some d) × ((Found F (Kind f) w × IsTrue (is_in_use w)) ⊎ ((w ≡ x) × IsTrue (is_dying w)))))
-Awaits n s r F (Flush v stamp found) = (whose : Option ℕ) × Behind n s whose stamp F v found × Awaited n s r F whose stamp
-Awaits n s r F (Alive v w) = (r.destroys ≡ Some (domain_of n v)) × Found F (Vcpu v 6) w × (w ≢ 1)
+PausesFor n s r F (Busy f w) =
+    ((owner : ℕ) × (want : Option PageType) × (h : Holdings) × Asked n s r F f owner want × FoundWith F (Kind f) w h × Passed n r F f owner h × IsTrue (found_busy w) × IsWanted r want w × IsElsewhere f h)
+    ⊎ ((d : ℕ) × (r.destroys ≡ Some d) × ((x : ℕ) × FoundAt F (Refs f) x × (owner_of x ≡ Some d) × ((FoundAt F (Kind f) w × IsTrue (found_in_use w)) ⊎ ((w ≡ x) × IsTrue (is_dying w)))))
+PausesFor n s r F (Flush v stamp found) = (whose : Option ℕ) × Behind n s whose stamp F v found × AwaitsStamp n s r F whose stamp
+PausesFor n s r F (Alive v w) = (r.destroys ≡ Some (domain_of n v)) × FoundAt F (Vcpu v 6) w × (w ≢ 1)

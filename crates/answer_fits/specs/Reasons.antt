@@ -13,22 +13,22 @@ use Rattle.xp_board.specs.KindSteps.{is_stale}
 use Rattle.xp_board.specs.Readings.{is_dead, is_type, is_free, owner_of, domain_of, free_stamp, has_ever}
 use Rattle.xp_board.specs.Steps.{last_since}
 use Rattle.answer_fits.specs.Asked.{Request, Asked, IsAsked, Passed}
-use Rattle.answer_fits.specs.Finding.{Finding, Found, FoundWith}
+use Rattle.answer_fits.specs.Finding.{Finding, FoundAt, FoundWith}
 
 -- ---- flushes
 -- the stamps that flushes are awaited for, and whose the frame is where one domain's vCPUs and those with privilege for it matter
-pub data Awaited (n : Machine) (s : ℕ) (r : Request) (F : Finding) (whose : Option ℕ) (stamp : ℕ) : Type 0 where
+pub data AwaitsStamp (n : Machine) (s : ℕ) (r : Request) (F : Finding) (whose : Option ℕ) (stamp : ℕ) : Type 0 where
   -- found in a marked kind word of an asked frame
   marked : (f w owner : ℕ) (want : PageType) (h : Holdings) → Asked n s r F f owner (Some want) → FoundWith F (Kind f) w h → Passed n r F f owner h → (kind_fields w).unflushed ≡ true →
       IsTrue (is_dead (kind_fields w) || is_type (kind_fields w).kind want) →
-      whose ≡ Some owner → stamp ≡ (kind_fields w).number → Awaited n s r F whose stamp
+      whose ≡ Some owner → stamp ≡ (kind_fields w).number → AwaitsStamp n s r F whose stamp
   -- found in a dead word of an asked frame whose type is neither None nor the one asked
   other : (f w owner : ℕ) (want : PageType) (h : Holdings) → Asked n s r F f owner (Some want) → FoundWith F (Kind f) w h → Passed n r F f owner h → IsTrue (is_dead (kind_fields w)) →
-      is_stale (kind_fields w) want ≡ true → whose ≡ Some owner → stamp ≡ (kind_fields w).number → Awaited n s r F whose stamp
+      is_stale (kind_fields w) want ≡ true → whose ≡ Some owner → stamp ≡ (kind_fields w).number → AwaitsStamp n s r F whose stamp
   -- found in a free word by a call that takes pages
-  free : (f w k : ℕ) → r.pages ≡ Some k → IsAsked n s r F f → Found F (Refs f) w → is_free w ≡ true → whose ≡ None → stamp ≡ free_stamp w → Awaited n s r F whose stamp
+  free : (f w k : ℕ) → r.pages ≡ Some k → IsAsked n s r F f → FoundAt F (Refs f) w → is_free w ≡ true → whose ≡ None → stamp ≡ free_stamp w → AwaitsStamp n s r F whose stamp
   -- the clock that was found when the call's own wait began
-  begun : r.flushes ≡ true → Found F Clock stamp → whose ≡ None → Awaited n s r F whose stamp
+  begun : r.flushes ≡ true → FoundAt F Clock stamp → whose ≡ None → AwaitsStamp n s r F whose stamp
 
 -- the word that the vCPU last found or left there is at most the stamp
 pub record LastAtMost (n : Machine) (p : Place) (stamp : ℕ) (h : Holdings) : Type 0 where
@@ -39,7 +39,7 @@ pub record LastAtMost (n : Machine) (p : Place) (stamp : ℕ) (h : Holdings) : T
 -- the own flush: the call ends with it; or the own flushed word, as the vCPU last knew it, is at most what it was asked for, or at most an awaited stamp
 pub data NeedsFlush (n : Machine) (s : ℕ) (r : Request) (F : Finding) (h : Holdings) : Type 0 where
   own : r.flushes ≡ true → NeedsFlush n s r F h
-  awaited : (whose : Option ℕ) (stamp : ℕ) → Awaited n s r F whose stamp → LastAtMost n (Vcpu s 5) stamp h → NeedsFlush n s r F h
+  awaited : (whose : Option ℕ) (stamp : ℕ) → AwaitsStamp n s r F whose stamp → LastAtMost n (Vcpu s 5) stamp h → NeedsFlush n s r F h
 
 pub data MayFlush (n : Machine) (s : ℕ) (r : Request) (F : Finding) (h : Holdings) : Type 0 where
   needed : NeedsFlush n s r F h → MayFlush n s r F h
@@ -48,16 +48,16 @@ pub data MayFlush (n : Machine) (s : ℕ) (r : Request) (F : Finding) (h : Holdi
 -- the vCPU is of the domain whose frame it is, or was found with the privilege for that domain: it may have a translation of it
 abbrev pub MayReach : Machine → Option ℕ → Finding → ℕ → Type 0
 MayReach n None F v = Unit {0}
-MayReach n (Some owner) F v = (domain_of n v ≡ owner) ⊎ ((w : ℕ) × Found F (Priv (domain_of n v)) w × IsTrue (has_ever owner w))
+MayReach n (Some owner) F v = (domain_of n v ≡ owner) ⊎ ((w : ℕ) × FoundAt F (Priv (domain_of n v)) w × IsTrue (has_ever owner w))
 
 -- a vCPU may be asked to flush past an awaited stamp, where it was found flushed no later
 abbrev pub MayAskFor : Machine → ℕ → Request → Finding → ℕ → ℕ → ℕ → Holdings → Type 0
-MayAskFor n s r F v k stamp h = (k ≡ 4) × ((whose : Option ℕ) × Awaited n s r F whose stamp × MayReach n whose F v) × LastAtMost n (Vcpu v 5) stamp h
+MayAskFor n s r F v k stamp h = (k ≡ 4) × ((whose : Option ℕ) × AwaitsStamp n s r F whose stamp × MayReach n whose F v) × LastAtMost n (Vcpu v 5) stamp h
 
 -- ---- words of frames
 -- the page count is that of the owner that was found of an asked frame, or of the domain that takes pages
 pub data MayCountPages (n : Machine) (s : ℕ) (r : Request) (F : Finding) (d : ℕ) : Type 0 where
-  found : (f w : ℕ) → IsAsked n s r F f → Found F (Refs f) w → owner_of w ≡ Some d → MayCountPages n s r F d
+  found : (f w : ℕ) → IsAsked n s r F f → FoundAt F (Refs f) w → owner_of w ≡ Some d → MayCountPages n s r F d
   taken : (k : ℕ) → r.pages ≡ Some k → d ≡ domain_of n s → MayCountPages n s r F d
 
 -- a free frame is claimed only where the call takes pages. (That a count goes one up or down, and which stores there are, are laws of steps; all else is a deed.)
@@ -77,12 +77,12 @@ abbrev pub keeps_type : ℕ → ℕ → Bool
 keeps_type old new = is_type (kind_fields old).kind (kind_fields new).kind && not (is_dead (kind_fields old))
 
 -- the call may mark frames, and this one keeps its type
-abbrev pub MayMark : Machine → ℕ → Request → Finding → ℕ → ℕ → ℕ → Type 0
-MayMark n s r F f old new = (r.locks ≡ true) × IsAsked n s r F f × IsTrue (keeps_type old new)
+abbrev pub IsMarkAsked : Machine → ℕ → Request → Finding → ℕ → ℕ → ℕ → Type 0
+IsMarkAsked n s r F f old new = (r.locks ≡ true) × IsAsked n s r F f × IsTrue (keeps_type old new)
 
 -- A kind word gets a type only that is asked of that frame, by an exchange; a store keeps the type, and a sum gives back what is in hand.
 abbrev pub MayType : Machine → ℕ → Request → Finding → ℕ → Act → ℕ → Type 0
-MayType n s r F f (Cas e w) x = IsTypeAsked n s r F f (kind_fields w).kind ⊎ MayMark n s r F f e w
+MayType n s r F f (Cas e w) x = IsTypeAsked n s r F f (kind_fields w).kind ⊎ IsMarkAsked n s r F f e w
 MayType n s r F f (Store w) x = IsAsked n s r F f × IsTrue (keeps_type x w)
 MayType n s r F f (Add by) x = IsAsked n s r F f
 MayType n s r F f _ x = ⊥

@@ -24,7 +24,7 @@ use Rattle.step_maker.proofs.Telling.{moves_went}
 use Rattle.answer_fits.specs.Answers.{Stops}
 use Rattle.answer_fits.specs.Asked.{Request}
 use Rattle.answer_fits.specs.Finding.{FoundWith}
-use Rattle.answer_fits.specs.Pauses.{IsElsewhere, is_busy}
+use Rattle.answer_fits.specs.Pauses.{IsElsewhere, found_busy}
 use Rattle.answer_laws.specs.Alone.{IsAlone, IsDueOrFlush}
 use Rattle.answer_laws.proofs.Holding.{nobody_busies, empty_elsewhere}
 use Rattle.answer_laws.proofs.Meeting.{none_some}
@@ -71,7 +71,7 @@ abbrev pub AloneStays : Type 0
 AloneStays = (v w : PortValue) → IsAlone v → Came v w → IsAlone w
 
 -- what a vCPU that is alone does not hold it finds not busy
-spared : (u : PortValue) (f x : ℕ) → IsAlone u → IsTold u.post.machine u.told (Kind f) x → IsTrue (is_busy x) → IsElsewhere f u.holdings → ⊥
+spared : (u : PortValue) (f x : ℕ) → IsAlone u → IsTold u.post.machine u.told (Kind f) x → IsTrue (found_busy x) → IsElsewhere f u.holdings → ⊥
 spared u f x alone told busy off =
     let n = u.post.machine in
     let s = u.post.vcpu in
@@ -82,9 +82,9 @@ spared u f x alone told busy off =
       | inl at ↦ subst (λ (h : Holdings). IsElsewhere f h) (sym alone.mine ∙ ap (hand_of a.hands) (sym at)) off
       | inr away ↦ empty_elsewhere f (hand_of a.hands t) (alone.others t real away)
     ])
-    (subst (λ y. IsTrue (is_busy y)) (sym all.1) busy)
+    (subst (λ y. IsTrue (found_busy y)) (sym all.1) busy)
 
-busy_then : AloneStays → (v w : PortValue) (f x : ℕ) (h : Holdings) → IsAlone v → FoundWith (Met v w) (Kind f) x h → IsTrue (is_busy x) → IsElsewhere f h → ⊥
+busy_then : AloneStays → (v w : PortValue) (f x : ℕ) (h : Holdings) → IsAlone v → FoundWith (Met v w) (Kind f) x h → IsTrue (found_busy x) → IsElsewhere f h → ⊥
 busy_then stays v w f x h alone a busy off =
     let met = a.was in
     let u = met.from in

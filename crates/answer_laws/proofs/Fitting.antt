@@ -1,7 +1,6 @@
 -- What each step of a piece that fits is like.
-use Rattle.std.proofs.Common.{◌≡◌, ◌≢◌, ◌⊎◌, ℕ, ◌==◌, if◌then◌else◌, true, false, List, [], ◌∷◌, ◌++◌, Option, Some, None, refl, sym, subst, inl, inr, arith}
+use Rattle.std.proofs.Common.{◌≡◌, ◌≢◌, ◌⊎◌, ℕ, ◌==◌, if◌then◌else◌, false, List, [], ◌∷◌, ◌++◌, Option, Some, None, refl, sym, subst, inl, inr, arith}
 use Rattle.std.proofs.lemmas.Bool.{cases_Bool, and_parts}
-use Rattle.std.proofs.lemmas.Bool.Decides.{nat_tests}
 use Rattle.xp_words.specs.declared.place.Place.{Place}
 use Rattle.xp_words.specs.declared.place.Place.TheVariants.{Clock, Pages, Life, Vcpu, Refs, Kind, M2p, Cell, Map, Priv}
 use Rattle.xp_words.specs.KindWords.{kind_read, kind_fields}
@@ -27,6 +26,7 @@ use Rattle.answer_fits.specs.Reasons.{MayFlush, MayAskFor, HasReason}
 use Rattle.xp_words.specs.Machine.{Machine}
 use Rattle.board_lemmas.proofs.EntryWords.{type_same}
 use Rattle.board_lemmas.proofs.Sums.{when_eq}
+use Rattle.board_lemmas.proofs.PlaceTests.{equal_by}
 use Rattle.answer_laws.proofs.Meeting.{none_some, member_may}
 
 each_at : {A : Type 0} (P : A → Type 0) (xs : List A) (x : A) → EachOf P xs → Member x xs → P x
@@ -43,12 +43,9 @@ module _ (v w : PortValue) (r : Request) (ds : List Deed) (ms : List Moment) (m 
   reason_at p a is by = subst (λ b. HasReason v.post.machine v.post.vcpu r (Met v w) p b m.found m.hand) by (subst (λ q. HasReason v.post.machine v.post.vcpu r (Met v w) q m.act m.found m.hand) is reason_of)
 
 -- ---- kinds
-same_number : (g f : ℕ) → (g == f) ≡ true → g ≡ f
-same_number g f e = grind (arith, nat_tests)
-
 -- a call on one frame asks of that one alone, and for its own type alone
 its_frame : (n : Machine) (s f owner : ℕ) (want : Option PageType) (F : Finding) (g o : ℕ) (k : Option PageType) → Asked n s (of_frame f owner want) F g o k → (g ≡ f) × IsFor k want
-its_frame n s f owner want F g o k (named a b c) = (same_number g f a, c)
+its_frame n s f owner want F g o k (named a b c) = (equal_by g f a, c)
 its_frame n s f owner want F g o k (demanded i j w h e a b c) = absurd cc
 its_frame n s f owner want F g o k (entered i j w l m e a b c d q p u) = absurd cc
 its_frame n s f owner want F g o k (walked i j w a b c d e) = absurd cc
@@ -161,7 +158,7 @@ pub all_found : (v w : PortValue) (r : Request) (ds : List Deed) (ms : List Mome
     (m.found ≡ e) ⊎ Member (Misses m.place) ds
 all_found v w r ds ms m e x piece at tick life by =
     elim (cases_Bool (m.found == e)) [
-      | inl on ↦ inl (same_number m.found e on)
+      | inl on ↦ inl (equal_by m.found e on)
       | inr off ↦ inr (subst (λ es. Member (Misses m.place) es) piece.deeds_are (deed_in ms m (Misses m.place) at
           (subst (λ a. Member (Misses m.place) (deeds_by m.place a m.kind m.found m.hand)) (sym by)
           (subst (λ b. Member (Misses m.place) (if b then exchanged_as m.kind m.place e x else missed_at m.place)) (sym off)

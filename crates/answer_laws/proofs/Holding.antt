@@ -14,7 +14,7 @@ use Rattle.xp_board.specs.Sound.{HeldAlone}
 use Rattle.board_lemmas.proofs.ListCounts.{first_by-some}
 use Rattle.board_lemmas.proofs.Sums.{hands-some}
 use Rattle.board_lemmas.proofs.Works.{in_works}
-use Rattle.answer_fits.specs.Pauses.{IsElsewhere, is_busy}
+use Rattle.answer_fits.specs.Pauses.{IsElsewhere, found_busy}
 use Rattle.answer_laws.proofs.Meeting.{none_some}
 
 which : (w c l : Bool) → IsTrue (w || (l || c)) → ((w || c) ≡ true) ⊎ (l ≡ true)
@@ -24,7 +24,7 @@ which false false true is = inr refl
 which false false false is = absurd cc
 
 -- what no vCPU has in its works or locks is neither in work nor locked nor closing
-pub nobody_busies : (n : Machine) (m : Place → ℕ) (h : ℕ → Holdings) (f : ℕ) → HeldAlone n m h → ((t : ℕ) → t < (sizes_of n).vcpus → IsElsewhere f (h t)) → IsTrue (is_busy (m (Kind f))) → ⊥
+pub nobody_busies : (n : Machine) (m : Place → ℕ) (h : ℕ → Holdings) (f : ℕ) → HeldAlone n m h → ((t : ℕ) → t < (sizes_of n).vcpus → IsElsewhere f (h t)) → IsTrue (found_busy (m (Kind f))) → ⊥
 nobody_busies n m h f alone off busy =
     let k = kind_at m f in
     elim (which (is_work k) (is_closing k) (is_locked k) busy) [

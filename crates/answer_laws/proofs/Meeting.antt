@@ -8,7 +8,7 @@ use Rattle.xp_board.specs.Legal.{LegalMove}
 use Rattle.xp_board.specs.Lists.{Member}
 use Rattle.step_maker.specs.Moves.{Moment, Ran, Met}
 use Rattle.step_maker.proofs.Coming.{ran_post, came_post}
-use Rattle.answer_fits.specs.Finding.{Found, FoundWith}
+use Rattle.answer_fits.specs.Finding.{FoundAt, FoundWith}
 
 pub none_some : {A : Type 0} (o : Option A) (x : A) → o ≡ None → o ≡ Some x → ⊥
 none_some o x a b = let e = sym a ∙ b in absurd cc
@@ -26,7 +26,7 @@ found_finds v w p x h a =
     (subst (λ q. Finds v.post.machine v.post.vcpu h q a.moment.found) a.place (subst (λ (k : Holdings). Finds v.post.machine v.post.vcpu k a.moment.place a.moment.found) a.hand at))
 
 -- a vCPU that found anything is one of the machine
-pub found_real : (v w : PortValue) (p : Place) (x : ℕ) → Found (Met v w) p x → v.post.vcpu < (sizes_of v.post.machine).vcpus
+pub found_real : (v w : PortValue) (p : Place) (x : ℕ) → FoundAt (Met v w) p x → v.post.vcpu < (sizes_of v.post.machine).vcpus
 found_real v w p x a = (met_finds v w a.moment a.was).real
 
 -- each step of a list was legal by the hand of its moment

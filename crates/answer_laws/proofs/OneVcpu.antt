@@ -13,7 +13,7 @@ use Rattle.xp_board.specs.Told.{Post, PortValue, Finds}
 use Rattle.step_maker.proofs.Coming.{came_post}
 use Rattle.answer_fits.specs.Answers.{Stops}
 use Rattle.answer_fits.specs.Asked.{Request}
-use Rattle.answer_fits.specs.Pauses.{IsElsewhere, is_busy}
+use Rattle.answer_fits.specs.Pauses.{IsElsewhere, found_busy}
 use Rattle.answer_laws.proofs.Holding.{nobody_busies}
 use Rattle.answer_laws.proofs.Meeting.{none_some, found_finds, found_real}
 
@@ -21,11 +21,11 @@ one_of : (n s t : ℕ) → n ≡ 1 → s < n → t < n → t ≡ s
 one_of n s t one a b = omega (arith, one, a, b)
 
 -- a busy word is that of a frame in the own works or under the own entry lock
-mine : (n : Machine) (s : ℕ) (h : Holdings) (f x : ℕ) → length n.vcpu_domain ≡ 1 → Finds n s h (Kind f) x → IsTrue (is_busy x) → IsElsewhere f h → ⊥
+mine : (n : Machine) (s : ℕ) (h : Holdings) (f x : ℕ) → length n.vcpu_domain ≡ 1 → Finds n s h (Kind f) x → IsTrue (found_busy x) → IsElsewhere f h → ⊥
 mine n s h f x one finds busy off =
     nobody_busies n finds.words finds.hands f finds.sound.alone
     (λ t real. subst (λ (k : Holdings). IsElsewhere f k) (sym finds.mine ∙ ap finds.hands (sym (one_of (length n.vcpu_domain) s t one finds.real real))) off)
-    (subst (λ y. IsTrue (is_busy y)) (sym finds.word) busy)
+    (subst (λ y. IsTrue (found_busy y)) (sym finds.word) busy)
 
 pub never_busy : (v w : PortValue) (r : Request) (f x : ℕ) → length v.post.machine.vcpu_domain ≡ 1 → r.destroys ≡ None → Stops v w r (Paused (Busy f x)) → ⊥
 unfolding Stops

@@ -4,6 +4,7 @@ use Rattle.std.proofs.lemmas.Bool.{or_cases, and_parts}
 use Rattle.std.proofs.lemmas.Bool.Decides.{nat_tests}
 use Rattle.xp_words.specs.declared.kind.KindWord.{KindWord}
 use Rattle.xp_words.specs.KindWords.{kind_fields}
+use Rattle.xp_board.specs.KindSteps.{resumed_kind}
 use Rattle.xp_board.specs.Readings.{is_partial, is_work, is_dead, is_closing, type_count, kind_stamp}
 use Rattle.xp_board.specs.Sound.{is_busy}
 
@@ -13,6 +14,9 @@ work_alone k work = grind (arith, nat_tests)
 
 pub closing_alone : (k : KindWord) → IsTrue (is_closing k) → is_work k ≡ false
 closing_alone k closing = grind (arith, nat_tests)
+
+pub resumed_in_work : (k : KindWord) → IsTrue (is_partial k) → IsTrue (is_work (resumed_kind k))
+resumed_in_work k partial = grind arith
 
 pub work_unlive : (k : KindWord) → IsTrue (is_work k) → k.validated ≡ false
 work_unlive k work = grind (arith, nat_tests)

@@ -30,3 +30,4 @@ pub mod HandTypes
 pub mod WalkDown
 pub mod CountsDown
 pub mod Serving
+pub mod Owners

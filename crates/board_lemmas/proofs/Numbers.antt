@@ -2,7 +2,7 @@
 use Rattle.std.proofs.Common.{◌≡◌, ℕ, ◌-◌, ◌<◌, Bool, true, false, nat_lt, List, IsTrue, refl, ap, subst, arith}
 use Rattle.std.specs.Prelude.{slice_index}
 use Rattle.std.proofs.lemmas.Bool.Decides.{nat_tests}
-use Rattle.xp_words.specs.declared.place.Place.TheVariants.{Priv, Vcpu, Cell}
+use Rattle.xp_words.specs.declared.place.Place.TheVariants.{Priv, Vcpu, Refs, Cell}
 use Rattle.xp_words.specs.Places.{Sizes, place_at, is_place, memory, number, size, first_priv}
 use Rattle.xp_words.proofs.PlaceLaws.{place_there}
 
@@ -29,6 +29,10 @@ word_there z words n h = rw h (ap (λ i. slice_index words i) (place_number z n 
 pub vcpu_there : (z : Sizes) (s k : ℕ) → s < z.vcpus → k < 38 → IsTrue (is_place z (Vcpu s k))
 unfolding is_place
 vcpu_there z s k l few = grind (arith, nat_tests)
+
+pub refs_there : (z : Sizes) (f : ℕ) → f < z.frames → IsTrue (is_place z (Refs f))
+unfolding is_place
+refs_there z f h = grind (arith, nat_tests)
 
 pub cell_there : (z : Sizes) (f i : ℕ) → f < z.frames → i < 512 → IsTrue (is_place z (Cell f i))
 unfolding is_place

@@ -23,7 +23,7 @@ is_same-refl (Priv d) = equal_refl d
 pub is_same-by : (p q : Place) → p ≡ q → is_same p q ≡ true
 is_same-by p q e = rw e (is_same-refl q)
 
-equal_by : (x y : ℕ) → (x == y) ≡ true → x ≡ y
+pub equal_by : (x y : ℕ) → (x == y) ≡ true → x ≡ y
 equal_by x y e = grind (arith, nat_tests)
 
 both_equal : (x y v w : ℕ) → (if x == y then v == w else false) ≡ true → (x ≡ y) × (v ≡ w)

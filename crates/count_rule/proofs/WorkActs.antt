@@ -31,7 +31,7 @@ use Rattle.count_rule.proofs.TurnActs.{turned_hand, left_says, stamp_kept}
 use Rattle.count_rule.proofs.Outcome.{Outcome}
 use Rattle.board_lemmas.proofs.KindForms.{form_read}
 use Rattle.board_lemmas.proofs.Sums.{no_bit, if_fewer}
-use Rattle.board_lemmas.proofs.KindReadings.{dead_unlive, stamp_number, stamp_of}
+use Rattle.board_lemmas.proofs.KindReadings.{dead_unlive, stamp_number, stamp_of, resumed_in_work}
 use Rattle.board_lemmas.proofs.HandLists.{EachOf-maybe}
 
 marked_none : (k : KindWord) → has_form k ≡ true → IsTrue (is_partial k) → k.unflushed ≡ true → k.progress ≡ 0
@@ -40,9 +40,6 @@ marked_none k form partial marked = grind (arith, nat_tests)
 
 pub not_closing : (k : KindWord) → IsTrue (is_work k) → IsTrue (is_closing k) → ⊥
 not_closing k work closing = grind (arith, nat_tests)
-
-resumed_work : (k : KindWord) → IsTrue (is_partial k) → IsTrue (is_work (resumed_kind k))
-resumed_work k partial = grind (arith, nat_tests)
 
 module _ (n : Machine) (s : ℕ) (x : Step) (m m2 : Place → ℕ) (b c : ℕ → Holdings) (vcpu : s < (sizes_of n).vcpus) (others : (t : ℕ) → t ≢ s → c t ≡ b t) (may : MayAct n s x (b s)) (sound : Sound n m b) (f : ℕ) where
   -- a frame that comes into work
@@ -78,8 +75,8 @@ module _ (n : Machine) (s : ℕ) (x : Step) (m m2 : Place → ℕ) (b c : ℕ �
       let left = d.may.left in
       let form = form_read _ k d.was in
       let was = partial_says k form d.may.partial in
-      let is = work_says (resumed_kind k) (ap has_form (sym left) ∙ form_read _ l d.is) (resumed_work k d.may.partial) in
-      let work : IsTrue (is_work l) = subst (λ y. IsTrue (is_work y)) (sym left) (resumed_work k d.may.partial) in
+      let is = work_says (resumed_kind k) (ap has_form (sym left) ∙ form_read _ l d.is) (resumed_in_work k d.may.partial) in
+      let work : IsTrue (is_work l) = subst (λ y. IsTrue (is_work y)) (sym left) (resumed_in_work k d.may.partial) in
       let free = no_bit (is_busy k) was.busy_is in
       let kind : l.kind ≡ k.kind = ap (λ (y : KindWord). y.kind) left in
       let now : (c s).works ≡ u.works = ap (λ y. y.works) d.hand in

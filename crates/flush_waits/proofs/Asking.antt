@@ -17,7 +17,7 @@ use Rattle.step_maker.specs.Holds.{MayWork, Same}
 use Rattle.step_maker.specs.Moves.{Came, Met, Moves}
 use Rattle.step_maker.proofs.Coming.{came_post, came_trans, met_after, met_before, moves_came}
 use Rattle.step_maker.proofs.Noting.{moves_since}
-use Rattle.answer_fits.specs.Finding.{Found}
+use Rattle.answer_fits.specs.Finding.{FoundAt}
 use Rattle.answer_fits.specs.Reasons.{LastAtMost, MayReach}
 use Rattle.flush_words.proofs.Lasting.{came_longer, last_at_most, last_kept}
 use Rattle.flush_waits.specs.declared.Awaiting.{Awaiting}
@@ -148,7 +148,7 @@ module _ (v u t : PortValue) (a : Awaiting) (k x y : ℕ) (run : Moves v u (run_
           clears = clears;
           shows = record {
             other = other;
-            running = subst (λ c. Found (Met v w) (run_of k) c) idle
+            running = subst (λ c. FoundAt (Met v w) (run_of k) c) idle
                 (found_more (Met v u) (Met v w) (λ m b. met_before v u w m b (came_trans u r w flushed_then_weighed more)) n v.post.vcpu (run_of k) x
                 (moves_found v u (run_of k) Load kinds.Look None x run));
             flushed = found_more (Met u t) (Met v w) (λ m b. met_after v u w m running_look.came (met_before u t w m b (came_trans t r w weighed.came more))) n v.post.vcpu (flushed_of k) y

@@ -15,7 +15,7 @@ use Rattle.step_maker.specs.Holds.{FlushedSame, Same}
 use Rattle.step_maker.specs.Moves.{Came, Met, Moves}
 use Rattle.step_maker.proofs.Coming.{came_post, came_trans}
 use Rattle.answer_fits.specs.Asked.{Request}
-use Rattle.answer_fits.specs.Reasons.{Awaited, NeedsFlush, needed}
+use Rattle.answer_fits.specs.Reasons.{AwaitsStamp, NeedsFlush, needed}
 use Rattle.answer_fits.proofs.Alikes.{alike_trans}
 use Rattle.answer_fits.proofs.Piecing.{serves_came}
 use Rattle.flush_words.specs.Flushing.{FlushesOwn, spent}
@@ -52,9 +52,9 @@ module _ (v u w : PortValue) (a : Awaiting) (x : ℕ) (look : Moves v u (flushed
   first = clears_look v u (flushed_of v.post.vcpu) x a look same
 
   -- the look found that it needs the flush
-  needs : (t : PortValue) (r : Request) → Came t v → Awaited v.post.machine v.post.vcpu r (Met t v) (Some a.owner) a.stamp → NeedsFlush t.post.machine t.post.vcpu r (Met t u) u.holdings
+  needs : (t : PortValue) (r : Request) → Came t v → AwaitsStamp v.post.machine v.post.vcpu r (Met t v) (Some a.owner) a.stamp → NeedsFlush t.post.machine t.post.vcpu r (Met t u) u.holdings
   needs t r to awaits =
-      awaited_flush t v u r (Some a.owner) a.stamp x to (subst (λ (q : Post). Awaited q.machine q.vcpu r (Met t v) (Some a.owner) a.stamp) (came_post t v to) awaits) look low
+      awaited_flush t v u r (Some a.owner) a.stamp x to (subst (λ (q : Post). AwaitsStamp q.machine q.vcpu r (Met t v) (Some a.owner) a.stamp) (came_post t v to) awaits) look low
 
   own_clears : (answer : Result (Unit {0}) Refusal) → FlushesOwn u w answer → FlushedSame u w → Clears v w a
   unfolding ServesBehind

@@ -1,7 +1,6 @@
 -- Steps are only added to a hand: what its vCPU knew of a marked frame in its works, it knows later.
-use Rattle.std.proofs.Common.{◌≡◌, ℕ, ◌<◌, ◌==◌, ◌&&◌, ◌||◌, Bool, true, false, List, [], ◌∷◌, length, Option, Some, None, IsTrue, refl, sym, ap, ◌∙◌, subst, inl, inr, arith}
-use Rattle.std.proofs.lemmas.Bool.{cases_eq, or_left, or_right}
-use Rattle.std.proofs.lemmas.Bool.Decides.{nat_tests}
+use Rattle.std.proofs.Common.{◌≡◌, ℕ, ◌<◌, ◌&&◌, ◌||◌, Bool, true, false, List, [], ◌∷◌, length, Option, Some, None, IsTrue, refl, sym, ap, ◌∙◌, subst, inl, inr}
+use Rattle.std.proofs.lemmas.Bool.{or_left, or_right}
 use Rattle.xp_words.specs.Machine.{Machine, IsMachine}
 use Rattle.xp_words.specs.Places.{Sizes, sizes_of}
 use Rattle.xp_board.specs.declared.holdings.Holdings.{Holdings}
@@ -13,14 +12,15 @@ use Rattle.xp_board.specs.declared.holdings.TypedReference.{TypedReference}
 use Rattle.xp_board.specs.Flushes.{PassedOver}
 use Rattle.xp_board.specs.Hands.{work_on, refs_to, ref_to, typed_to, typed_on, owner_by, owner_by_typed}
 use Rattle.xp_board.specs.Knowledge.{tells_owner, knows_owner}
-use Rattle.xp_board.specs.Lists.{some_of, first_by}
+use Rattle.xp_board.specs.Lists.{some_of}
 use Rattle.xp_board.specs.Steps.{some_step}
-use Rattle.xp_board.specs.Told.{PortValue, is_telling}
+use Rattle.xp_board.specs.Told.{PortValue}
 use Rattle.step_maker.specs.Holds.{FlushedSame, MayWork, Same, quiet}
-use Rattle.step_maker.specs.Moves.{Came, Moment, Ran}
+use Rattle.step_maker.specs.Moves.{Came}
 use Rattle.flush_words.proofs.Lasting.{came_keeps}
 use Rattle.flush_waits.specs.Clearing.{PastOn}
 use Rattle.flush_waits.specs.Waiting.{IsKnownOwner, IsMarked}
+use Rattle.board_lemmas.proofs.Owners.{ref_knows, typed_knows}
 
 -- ---- the hand
 pub same_flushed : (v w : PortValue) → Same v w → FlushedSame v w
@@ -76,32 +76,6 @@ knows_later z f o h k grows refs typed locks knows =
     (some_weaker _ _ h.locks (λ e. both _ _ _ (tells_later z h k f o e.owner grows)))) knows)
 
 -- a reference that says whose the frame is
-first_passes : {A : Type 0} (key : A → ℕ) (f : ℕ) (xs : List A) (e : A) (test : A → Bool) → first_by key f xs ≡ Some e → test e ≡ true → some_of (λ y. (key y == f) && test y) xs ≡ true
-unfolding first_by some_of
-first_passes key f [] e test h t = absurd (cc)
-first_passes key f (y ∷ ys) e test h t =
-    elim (cases_eq (key y) f) [
-      | inl at ↦
-          (let u : (key y == f) ≡ true = grind (arith, nat_tests) in
-          let k : y ≡ e = (let q : Some y ≡ Some e = rw u at h in cc) in
-          let v : test y ≡ true = ap test k ∙ t in
-          rw (u, v) refl)
-      | inr off ↦ (let u : (key y == f) ≡ false = grind (arith, nat_tests) in rw u (first_passes key f ys e test (rw u at h) t))
-    ]
-
-tells_of : (z : Sizes) (xs : List Made) (f o : ℕ) (w : OwnerFound) → w ≡ owners.Of o → tells_owner z xs f o w ≡ true
-tells_of z xs f o w e = rw e (grind (arith, nat_tests))
-
-ref_knows : (z : Sizes) (f o : ℕ) (h : Holdings) (r : Option Reference) → ref_to f h.refs ≡ r → owner_by r (owners.Since (length h.steps)) ≡ owners.Of o →
-    some_of (λ e. (e.frame == f) && tells_owner z h.steps f o e.owner) h.refs ≡ true
-ref_knows z f o h (Some r) at k = first_passes (λ e. e.frame) f h.refs r (λ e. tells_owner z h.steps f o e.owner) at (tells_of z h.steps f o r.owner k)
-ref_knows z f o h None at k = absurd cc
-
-typed_knows : (z : Sizes) (f o : ℕ) (h : Holdings) (r : Option TypedReference) → typed_on f h.typed ≡ r → owner_by_typed r (owners.Since (length h.steps)) ≡ owners.Of o →
-    some_of (λ e. (e.frame == f) && tells_owner z h.steps f o e.owner) h.typed ≡ true
-typed_knows z f o h (Some r) at k = first_passes (λ e. e.frame) f h.typed r (λ e. tells_owner z h.steps f o e.owner) at (tells_of z h.steps f o r.owner k)
-typed_knows z f o h None at k = absurd cc
-
 pub known_knows : (z : Sizes) (f o : ℕ) (h : Holdings) → IsKnownOwner f o h → IsTrue (knows_owner z f o h)
 unfolding knows_owner
 known_knows z f o h (inl a) = or_left _ _ (ref_knows z f o h (ref_to f h.refs) refl a.1)

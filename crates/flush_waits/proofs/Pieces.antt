@@ -15,9 +15,9 @@ use Rattle.step_maker.specs.Moves.{Came, Met, Moment, Moves}
 use Rattle.step_maker.proofs.Coming.{came_post, came_self, came_trans, met_after, met_before, moment_of, moves_came, moves_met}
 use Rattle.step_maker.proofs.Telling.{came_telling, load_tells, told_elsewhere}
 use Rattle.answer_fits.specs.Asked.{Request, of_back, Within}
-use Rattle.answer_fits.specs.Finding.{Did, Finding, Found}
+use Rattle.answer_fits.specs.Finding.{Did, Finding, FoundAt}
 use Rattle.answer_fits.specs.Pauses.{AskedTo, Clear, idle, flushed, own, barred}
-use Rattle.answer_fits.specs.Reasons.{Awaited, LastAtMost, MayAskFor, MayReach}
+use Rattle.answer_fits.specs.Reasons.{AwaitsStamp, LastAtMost, MayAskFor, MayReach}
 use Rattle.answer_fits.specs.Twins.{Alike, IsAlike}
 use Rattle.answer_fits.proofs.Alikes.{alike_same, alike_trans, same_alike}
 use Rattle.answer_fits.proofs.Growing.{did, found}
@@ -33,7 +33,7 @@ module _ (F G : Finding) (more : (m : Moment) → F m → G m) where
   abbrev within : (n : Machine) (s : ℕ) → Within n s (of_back 0) F (of_back 0) G
   within n s = same_request n s (of_back 0) F G more
 
-  pub found_more : (n : Machine) (s : ℕ) (p : Place) (w : ℕ) → Found F p w → Found G p w
+  pub found_more : (n : Machine) (s : ℕ) (p : Place) (w : ℕ) → FoundAt F p w → FoundAt G p w
   found_more n s = found n s (of_back 0) F (of_back 0) G (within n s)
 
   pub clear_more : (n : Machine) (s : ℕ) (whose : Option ℕ) (stamp u : ℕ) → Clear n s whose stamp F u → Clear n s whose stamp G u
@@ -51,7 +51,7 @@ module _ (F G : Finding) (more : (m : Moment) → F m → G m) where
 
 -- ---- what one step found and did
 module _ (v w : PortValue) (p : Place) (a : Act) (k : StepKind) (mark : Option Mark) (x : ℕ) (m : Moves v w p a k mark x) where
-  pub moves_found : Found (Met v w) p x
+  pub moves_found : FoundAt (Met v w) p x
   unfolding moment_of
   moves_found = record { moment = moment_of v p a k mark x; was = moves_met v w p a k mark x m; place = refl; word = refl }
 
@@ -60,9 +60,9 @@ module _ (v w : PortValue) (p : Place) (a : Act) (k : StepKind) (mark : Option M
   moves_did = record { moment = moment_of v p a k mark x; was = moves_met v w p a k mark x m; place = refl; act = refl; word = refl }
 
 -- ---- what awaits the stamp, it awaits later
-pub awaited_later : (x v w : PortValue) (r : Request) (whose : Option ℕ) (stamp : ℕ) → Came v w → Awaited v.post.machine v.post.vcpu r (Met x v) whose stamp → Awaited w.post.machine w.post.vcpu r (Met x w) whose stamp
+pub awaited_later : (x v w : PortValue) (r : Request) (whose : Option ℕ) (stamp : ℕ) → Came v w → AwaitsStamp v.post.machine v.post.vcpu r (Met x v) whose stamp → AwaitsStamp w.post.machine w.post.vcpu r (Met x w) whose stamp
 awaited_later x v w r whose stamp came a =
-    subst (λ (q : Post). Awaited q.machine q.vcpu r (Met x w) whose stamp) (sym (came_post v w came))
+    subst (λ (q : Post). AwaitsStamp q.machine q.vcpu r (Met x w) whose stamp) (sym (came_post v w came))
     (awaited_more v.post.machine v.post.vcpu r (Met x v) (Met x w) (λ m b. met_before x v w m b came) whose stamp a)
 
 -- ---- pieces

@@ -8,8 +8,8 @@ use Rattle.step_maker.specs.Moves.{Came, Met, Moment}
 use Rattle.step_maker.proofs.Coming.{came_post, met_after, met_before}
 use Rattle.answer_fits.specs.Answers.{Stops}
 use Rattle.answer_fits.specs.Asked.{Request}
-use Rattle.answer_fits.specs.Pauses.{AskedTo, Awaits, Behind, Clear}
-use Rattle.answer_fits.specs.Reasons.{Awaited}
+use Rattle.answer_fits.specs.Pauses.{AskedTo, PausesFor, Behind, Clear}
+use Rattle.answer_fits.specs.Reasons.{AwaitsStamp}
 use Rattle.flush_words.proofs.FlushServes.{awaited_more}
 use Rattle.flush_waits.specs.declared.Awaiting.{Awaiting}
 use Rattle.flush_waits.specs.declared.Late.{Late}
@@ -120,10 +120,10 @@ module _ (v w : PortValue) (a : Awaiting) where
           others = λ u real. done_behind u (l.others u real);
         }
 
-    awaits_behind : (b : Late) → IsLeast v w a all b → Awaited v.post.machine v.post.vcpu r (Met t v) (Some a.owner) a.stamp → Stops t w r (Paused (Flush b.vcpu a.stamp b.found))
+    awaits_behind : (b : Late) → IsLeast v w a all b → AwaitsStamp v.post.machine v.post.vcpu r (Met t v) (Some a.owner) a.stamp → Stops t w r (Paused (Flush b.vcpu a.stamp b.found))
     unfolding Stops
     awaits_behind b l awaits =
-        subst (λ (q : Post). Awaits q.machine q.vcpu r (Met t w) (Flush b.vcpu a.stamp b.found)) (came_post t v to)
+        subst (λ (q : Post). PausesFor q.machine q.vcpu r (Met t w) (Flush b.vcpu a.stamp b.found)) (came_post t v to)
         (Some a.owner, least_behind b l, awaited_more v.post.machine v.post.vcpu r (Met t v) (Met t w) (λ m c. met_before t v w m c came) (Some a.owner) a.stamp awaits)
 
   pub stops_late : (b : Late) → Waits v w a all (Ok (Some b)) → StopsBehind v w a.owner a.stamp (Paused (Flush b.vcpu a.stamp b.found))

@@ -16,7 +16,7 @@ use Rattle.xp_board.specs.Readings.{domain_of, has_ever}
 use Rattle.xp_board.specs.Told.{PortValue, is_telling, told_word}
 use Rattle.step_maker.specs.Holds.{FlushedSame, Same}
 use Rattle.step_maker.specs.Moves.{Came, Met, Moves}
-use Rattle.answer_fits.specs.Finding.{Found}
+use Rattle.answer_fits.specs.Finding.{FoundAt}
 use Rattle.answer_fits.specs.Pauses.{AskedTo, Clear}
 use Rattle.answer_fits.specs.Reasons.{MayReach}
 use Rattle.answer_fits.specs.Twins.{Alike}
@@ -44,8 +44,8 @@ IsClear v w a u = Clear v.post.machine v.post.vcpu (Some a.owner) a.stamp (Met v
 -- another one was found running and flushed no later than the stamp, and was asked
 pub record IsBehind (v w : PortValue) (a : Awaiting) (u found : ℕ) : Type 0 where
   pub other : u ≢ v.post.vcpu
-  pub running : Found (Met v w) (run_of u) 0
-  pub flushed : Found (Met v w) (flushed_of u) found
+  pub running : FoundAt (Met v w) (run_of u) 0
+  pub flushed : FoundAt (Met v w) (flushed_of u) found
   pub behind : found ≤ a.stamp
   pub asked : AskedTo a.stamp (Met v w) u
   pub reach : MayReach v.post.machine (Some a.owner) (Met v w) u

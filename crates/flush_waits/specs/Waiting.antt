@@ -15,7 +15,7 @@ use Rattle.xp_board.specs.Told.{PortValue}
 use Rattle.step_maker.specs.Moves.{Came, Met}
 use Rattle.answer_fits.specs.Answers.{Deed, Serves, Stops}
 use Rattle.answer_fits.specs.Asked.{Request}
-use Rattle.answer_fits.specs.Reasons.{Awaited}
+use Rattle.answer_fits.specs.Reasons.{AwaitsStamp}
 
 -- a reference in hand says whose the frame is
 abbrev pub IsKnownOwner : ℕ → ℕ → Holdings → Type 0
@@ -38,12 +38,12 @@ pub record IsFlushed (n : Machine) (f : ℕ) (h : Holdings) : Type 0 where
 -- Behind any piece that awaits that stamp for a frame of that owner, the steps from v to w fit it.
 unfoldable pub ServesBehind : PortValue → PortValue → ℕ → ℕ → Type 0
 ServesBehind v w owner stamp =
-    (u : PortValue) (r : Request) (ds : List Deed) → Serves u v r ds → Awaited v.post.machine v.post.vcpu r (Met u v) (Some owner) stamp → Serves u w r ds
+    (u : PortValue) (r : Request) (ds : List Deed) → Serves u v r ds → AwaitsStamp v.post.machine v.post.vcpu r (Met u v) (Some owner) stamp → Serves u w r ds
 
 -- and they show there why it stops
 unfoldable pub StopsBehind : PortValue → PortValue → ℕ → ℕ → Stop → Type 0
 StopsBehind v w owner stamp e =
-    (u : PortValue) (r : Request) → Came u v → Awaited v.post.machine v.post.vcpu r (Met u v) (Some owner) stamp → Stops u w r e
+    (u : PortValue) (r : Request) → Came u v → AwaitsStamp v.post.machine v.post.vcpu r (Met u v) (Some owner) stamp → Stops u w r e
 
 -- the clock is at its last value, or a vCPU is waited for
 abbrev pub IsWait : Stop → Type 0

@@ -20,7 +20,7 @@ use Rattle.step_maker.proofs.Coming.{came_trans, came_post, moves_came, moves_me
 use Rattle.answer_fits.specs.Answers.{Deed, Serves, Stops}
 use Rattle.answer_fits.specs.Asked.{Request, Within, Passed, checked, given, old}
 use Rattle.answer_fits.specs.Finding.{Finding}
-use Rattle.answer_fits.specs.Reasons.{Awaited, marked, other, free, begun, LastAtMost, NeedsFlush, own, awaited, MayFlush, needed, asked}
+use Rattle.answer_fits.specs.Reasons.{AwaitsStamp, marked, other, free, begun, LastAtMost, NeedsFlush, own, awaited, MayFlush, needed, asked}
 use Rattle.answer_fits.proofs.Growing.{found, found_with, asks}
 use Rattle.answer_fits.proofs.Piecing.{same_request, serves_came, serves_step}
 use Rattle.flush_words.specs.Flushing.{FlushesOwn, spent}
@@ -38,7 +38,7 @@ module _ (n : Machine) (s : ℕ) (r : Request) (F G : Finding) (more : (m : Mome
   passed_more f o h (given k a b) = given k a b
   passed_more f o h (old v k x a b c d) = old v k x a (found n s r F r G same _ x b) c d
 
-  pub awaited_more : (whose : Option ℕ) (stamp : ℕ) → Awaited n s r F whose stamp → Awaited n s r G whose stamp
+  pub awaited_more : (whose : Option ℕ) (stamp : ℕ) → AwaitsStamp n s r F whose stamp → AwaitsStamp n s r G whose stamp
   awaited_more whose stamp (marked f x o want h a b c d e i j) = marked f x o want h (same.asked f o (Some want) a) (found_with n s r F r G same _ x h b) (passed_more f o h c) d e i j
   awaited_more whose stamp (other f x o want h a b c d e i j) = other f x o want h (same.asked f o (Some want) a) (found_with n s r F r G same _ x h b) (passed_more f o h c) d e i j
   awaited_more whose stamp (free f x k o a b c d e) = free f x k o (asks n s r F r G same f a) (found n s r F r G same _ x b) c d e
@@ -126,7 +126,7 @@ own_stops u v w r e came needs (spent m) =
 
 -- ---- two licenses
 -- an awaited stamp, and a look that found the own flush to go no further
-pub awaited_flush : (u t v : PortValue) (r : Request) (whose : Option ℕ) (stamp x : ℕ) → Came u t → Awaited u.post.machine u.post.vcpu r (Met u t) whose stamp →
+pub awaited_flush : (u t v : PortValue) (r : Request) (whose : Option ℕ) (stamp x : ℕ) → Came u t → AwaitsStamp u.post.machine u.post.vcpu r (Met u t) whose stamp →
     Moves t v (flushed_of t.post.vcpu) Load kinds.Look None x → x ≤ stamp → NeedsFlush u.post.machine u.post.vcpu r (Met u v) v.holdings
 awaited_flush u t v r whose stamp x came a look low =
     let same = came_post u t came in

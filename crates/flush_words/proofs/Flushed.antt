@@ -1,7 +1,6 @@
 -- The own flush that was made: what its steps found and left.
-use Rattle.std.proofs.Common.{◌≡◌, ◌≢◌, ℕ, ◌+◌, ◌<◌, ◌≤◌, ◌&&◌, ◌||◌, ◌==◌, not, nat_lt, Bool, true, false, List, [], ◌∷◌, length, Option, Some, None, Ok, Err, Result, IsTrue, refl, sym, ap, ◌∙◌, subst, inl, inr, arith}
-use Rattle.std.proofs.lemmas.Bool.{and_parts}
-use Rattle.std.proofs.lemmas.Bool.Decides.{nat_tests}
+use Rattle.std.proofs.Common.{◌≡◌, ◌≢◌, ℕ, ◌+◌, ◌<◌, ◌≤◌, ◌&&◌, ◌||◌, ◌==◌, nat_lt, Bool, true, false, List, [], ◌∷◌, length, Option, Some, None, Ok, Err, Result, IsTrue, refl, sym, ap, ◌∙◌, subst, inl, inr, arith}
+use Rattle.std.proofs.lemmas.Bool.{and_parts, not-true}
 use Rattle.xp_words.specs.Machine.{Machine}
 use Rattle.xp_words.specs.declared.place.Place.{Place}
 use Rattle.xp_words.specs.declared.place.Place.TheVariants.{Clock, Refs, Kind}
@@ -22,19 +21,19 @@ use Rattle.xp_board.specs.Told.{Post, PortValue}
 use Rattle.board_lemmas.proofs.Sums.{when_eq}
 use Rattle.board_lemmas.proofs.KindForms.{marked_unlive}
 use Rattle.board_lemmas.proofs.KindReadings.{stamp_of}
-use Rattle.board_lemmas.proofs.PlaceTests.{same_place, is_same-by}
+use Rattle.board_lemmas.proofs.PlaceTests.{same_place, is_same-by, equal_by}
 use Rattle.board_lemmas.proofs.StepLists.{head_or_tail}
 use Rattle.board_lemmas.proofs.WorkFacts.{works_facts}
+use Rattle.board_lemmas.proofs.HandLists.{EachOf-map}
 use Rattle.xp_words.proofs.PlaceLaws.{place_back}
 use Rattle.step_maker.specs.Moves.{Moves, Moment, Came, Met}
 use Rattle.step_maker.proofs.Coming.{came_trans, came_self, came_post, moves_came, moves_by, moment_of, met_after}
 use Rattle.step_maker.proofs.Noting.{moves_steps, moves_since}
-use Rattle.answer_fits.specs.Finding.{Found, FoundWith, Did}
+use Rattle.answer_fits.specs.Finding.{FoundAt, FoundWith, Did}
 use Rattle.answer_fits.specs.Asked.{Request}
-use Rattle.answer_fits.specs.Reasons.{Awaited}
+use Rattle.answer_fits.specs.Reasons.{AwaitsStamp}
 use Rattle.answer_fits.specs.Reasons as reasons
 use Rattle.answer_fits.specs.Pauses.{Clear, own}
-use Rattle.answer_fits.proofs.Piecing.{each_map}
 use Rattle.flush_words.specs.Flushing.{FlushesOwn, spent, ticked, overtaken}
 use Rattle.flush_words.proofs.Lasting.{came_keeps, came_longer}
 use Rattle.flush_words.proofs.OwnFlush.{all_below, clock_less, less_is, to_next, to_found}
@@ -114,7 +113,7 @@ module _ (v w : PortValue) (f : Flushed v w) where
       omega (arith, is, less, l)
 
   pub flushed_above : EachOf (λ (x : Made). (clock_value (place_at (sizes_of v.post.machine) x.step.place) x.found < f.to) × (clock_value (place_at (sizes_of v.post.machine) x.step.place) (left_of x) < f.to)) v.holdings.steps
-  flushed_above = each_map _ _ v.holdings.steps (λ x l. (under _ l.0, under _ l.1)) (all_below v.post.machine v.post.vcpu v.holdings Clock f.clock f.look.finds)
+  flushed_above = EachOf-map _ _ v.holdings.steps (λ x l. (under _ l.0, under _ l.1)) (all_below v.post.machine v.post.vcpu v.holdings Clock f.clock f.look.finds)
 
   -- a marked frame in the own works was marked before
   pub marked_less : (g : ℕ) (e : Work) → work_on g v.holdings.works ≡ Some e → (kind_fields e.word).unflushed ≡ true → (kind_fields e.word).number < f.to
@@ -160,16 +159,9 @@ some_each P test (x ∷ xs) e h =
       | inr there ↦ some_each P test xs e.1 there
     ]
 
-same_number : (x y : ℕ) → (x == y) ≡ true → x ≡ y
-same_number x y e = grind (arith, nat_tests)
-
 -- the stamp of a kind word that is not validated
 unlive_stamp : (w : ℕ) → (kind_fields w).validated ≡ false → kind_stamp w ≡ (kind_fields w).number
 unlive_stamp w unlive = stamp_of w (kind_fields w) refl unlive
-
-not_true : (b : Bool) → not b ≡ true → b ≡ false
-not_true true e = absurd cc
-not_true false e = refl
 
 module _ (u v w : PortValue) (f : Flushed v w) where
   -- the flush is later than each clock value and stamp that one of them found
@@ -177,9 +169,9 @@ module _ (u v w : PortValue) (f : Flushed v w) where
   met_less m a =
       let one = some_each _ (is_found (sizes_of v.post.machine) m.place m.found) v.holdings.steps (flushed_above v w f) (met_found u v m a) in
       let both = and_parts (is_at (sizes_of v.post.machine) m.place one.1.0) (one.1.0.found == m.found) one.1.1 in
-      subst (λ y. clock_value m.place y < f.to) (same_number _ _ both.1) (subst (λ q. clock_value q one.1.0.found < f.to) (same_place _ m.place both.0) one.1.2.0)
+      subst (λ y. clock_value m.place y < f.to) (equal_by _ _ both.1) (subst (λ q. clock_value q one.1.0.found < f.to) (same_place _ m.place both.0) one.1.2.0)
 
-  pub found_less : (p : Place) (x : ℕ) → Found (Met u v) p x → clock_value p x < f.to
+  pub found_less : (p : Place) (x : ℕ) → FoundAt (Met u v) p x → clock_value p x < f.to
   found_less p x a = subst (λ y. clock_value p y < f.to) a.word (subst (λ q. clock_value q a.moment.found < f.to) a.place (met_less a.moment a.was))
 
   -- a marked word is not validated
@@ -194,15 +186,15 @@ module _ (u v w : PortValue) (f : Flushed v w) where
   stamp_less g x h a unlive = subst (λ y. y < f.to) (unlive_stamp x unlive) (found_less (Kind g) x (record { moment = a.moment; was = a.was; place = a.place; word = a.word }))
 
   -- so it is later than each stamp that is awaited
-  pub awaited_less : (n : Machine) (s : ℕ) (r : Request) (whose : Option ℕ) (stamp : ℕ) → Awaited n s r (Met u v) whose stamp → stamp < f.to
+  pub awaited_less : (n : Machine) (s : ℕ) (r : Request) (whose : Option ℕ) (stamp : ℕ) → AwaitsStamp n s r (Met u v) whose stamp → stamp < f.to
   unfolding clock_value
   awaited_less n s r whose stamp (reasons.marked g x owner want h a b c d e i j) = rw j (stamp_less g x h b (marked_word g x h b d))
-  awaited_less n s r whose stamp (reasons.other g x owner want h a b c d e i j) = rw j (stamp_less g x h b (not_true _ (and_parts _ _ d).0))
+  awaited_less n s r whose stamp (reasons.other g x owner want h a b c d e i j) = rw j (stamp_less g x h b (not-true _ (and_parts _ _ d).0))
   awaited_less n s r whose stamp (reasons.free g x k a b c d e i) = rw i (found_less (Refs g) x c)
   awaited_less n s r whose stamp (reasons.begun a b c) = found_less Clock stamp b
 
   -- and the own vCPU is clear of it
-  pub own_clear : (r : Request) (whose : Option ℕ) (stamp : ℕ) → Came u v → Awaited u.post.machine u.post.vcpu r (Met u v) whose stamp → Clear u.post.machine u.post.vcpu whose stamp (Met u w) u.post.vcpu
+  pub own_clear : (r : Request) (whose : Option ℕ) (stamp : ℕ) → Came u v → AwaitsStamp u.post.machine u.post.vcpu r (Met u v) whose stamp → Clear u.post.machine u.post.vcpu whose stamp (Met u w) u.post.vcpu
   own_clear r whose stamp came a =
       let d = flushed_did v w f in
       subst (λ (q : Post). Clear q.machine q.vcpu whose stamp (Met u w) q.vcpu) (came_post u v came)

@@ -17,14 +17,14 @@ use Rattle.xp_board.specs.Lists.{kept_of}
 use Rattle.xp_board.specs.Readings.{is_dead, is_work}
 use Rattle.xp_board.specs.Told.{PortValue}
 use Rattle.board_lemmas.proofs.KindForms.{fields_of, PartialForm, partial_form}
-use Rattle.board_lemmas.proofs.KindReadings.{partial_parts}
+use Rattle.board_lemmas.proofs.KindReadings.{partial_parts, resumed_in_work}
 use Rattle.step_maker.specs.Holds.{FlushedHolds, Holds, MayWork, Same, quiet, still}
 use Rattle.step_maker.specs.Moves.{Moves}
 use Rattle.frame_words.specs.Freeing.{gave}
-use Rattle.frame_words.specs.Refs.{MayGive}
+use Rattle.frame_words.specs.Refs.{MayPut}
 use Rattle.kind_words.specs.Kinds.{begun_work, counted_type, looked_at, resumed_work}
 use Rattle.kind_words.proofs.KindFacts.{dead_apart, partial_apart, type_is_below}
-use Rattle.kind_words.proofs.KindHands.{resumed_in_work, resumed_kept, resumed_unkept, resumed_fields, work_here, work_spares}
+use Rattle.kind_words.proofs.KindHands.{resumed_kept, resumed_unkept, resumed_fields, work_here, work_spares}
 use Rattle.kind_words.proofs.KindWriting.{begun_is, raised_is, resumed_is}
 use Rattle.flush_words.proofs.Lasting.{moves_longer}
 use Rattle.frame_types.specs.Taking.{Enters, Looked, LentBy, progress_of, stamp_by, typed_as, work_kind, working}
@@ -144,7 +144,7 @@ module _ (b v : PortValue) (f owner : ℕ) (want : PageType) (word : ℕ) (l : L
         ∙ ap (λ (o : OwnerFound). quiet (record v { holdings = record v.holdings { looking = b.holdings.looking; typed = record { frame = f; kind = Some want; owner = o; live = lives.Since since } ∷ v.holdings.typed; works = item ∷ v.holdings.works } })) (owned b v f owner want word l)
         ∙ ap (λ (q : PortValue). quiet (record q { holdings = record q.holdings { looking = b.holdings.looking; typed = record { frame = f; kind = Some want; owner = owners.Of owner; live = lives.Since since } ∷ q.holdings.typed; works = item ∷ q.holdings.works } })) l.same
 
-    pub kept_gives : MayGive f w.holdings
+    pub kept_gives : MayPut f w.holdings
     unfolding item
     kept_gives =
         let here = work_here f item b.holdings.works w.holdings.works refl (ap (λ (q : PortValue). q.holdings.works) kept_hand) in

@@ -22,13 +22,13 @@ use Rattle.step_maker.specs.Holds.{Holds, Same, still}
 use Rattle.step_maker.specs.Moves.{Moves}
 use Rattle.flush_words.proofs.Lasting.{moves_longer}
 use Rattle.frame_words.specs.Freeing.{gave}
-use Rattle.frame_words.specs.Refs.{MayGive}
+use Rattle.frame_words.specs.Refs.{MayPut}
 use Rattle.kind_words.specs.Kinds.{MayLeave, dead_kind, left}
 use Rattle.board_lemmas.proofs.ListCounts.{newest_held}
 use Rattle.kind_words.proofs.KindFacts.{IsFoundLive, found_live, kind_found, clock_is_small}
 use Rattle.kind_words.proofs.KindHands.{apart_spares, clock_since, closes, lowered_fields, lowered_last, lowered_more, work_here}
 use Rattle.kind_words.proofs.Leaving.{left_dead_closing, may_leave_dead, without_newest}
-use Rattle.frame_types.specs.Taking.{MayDropPlain, untyped}
+use Rattle.frame_types.specs.Taking.{MayDropPlain, gave_type}
 
 typed_form : (k : KindWord) → has_form k ≡ true → k.validated ≡ true → IsTrue (not (is_none k.kind))
 unfolding has_form
@@ -69,14 +69,14 @@ module _ (v a : PortValue) (f found : ℕ) (kind : PageType) (frame : f < v.post
   pub more_hand : ((kind_fields found).number == 1) ≡ false → Holds v a (record v.holdings { refs = left_ref f v.holdings ∷ v.holdings.refs; typed = without_typed f v.holdings.typed })
   more_hand off = hand ∙ ap (λ (h : Holdings). still (record v { holdings = h })) (lowered_more f found _ v.holdings off)
 
-  pub more_gives : ((kind_fields found).number == 1) ≡ false → MayGive f a.holdings
+  pub more_gives : ((kind_fields found).number == 1) ≡ false → MayPut f a.holdings
   more_gives off =
       record {
         held = rw (ap (λ (q : PortValue). q.holdings.refs) (more_hand off)) (newest_held f (left_ref f v.holdings) v.holdings.refs refl);
         spares = apart_spares f a.holdings (ap (λ (q : PortValue). work_on f q.holdings.works) (more_hand off) ∙ drops.apart);
       }
 
-  pub more_left : (w : PortValue) → ((kind_fields found).number == 1) ≡ false → Holds a w (gave f a.holdings) → Holds v w (untyped f v.holdings)
+  pub more_left : (w : PortValue) → ((kind_fields found).number == 1) ≡ false → Holds a w (gave f a.holdings) → Holds v w (gave_type f v.holdings)
   more_left w off put =
       put ∙ ap (λ (q : PortValue). still (record q { holdings = gave f q.holdings })) (more_hand off)
       ∙ ap (λ (rs : List Reference). still (record v { holdings = record v.holdings { refs = rs; typed = without_typed f v.holdings.typed } })) (without_newest (λ (y : Reference). y.frame) f (left_ref f v.holdings) v.holdings.refs _ refl refl)
@@ -123,14 +123,14 @@ module _ (v a : PortValue) (f found : ℕ) (kind : PageType) (frame : f < v.post
             ∙ ap (λ (ws : List Work). still (record v { holdings = record v.holdings { refs = left_ref f v.holdings ∷ v.holdings.refs; typed = without_typed f v.holdings.typed; works = ws } }))
             (without_newest (λ (y : Work). y.frame) f closing v.holdings.works _ refl refl)
 
-        pub last_gives : MayGive f d.holdings
+        pub last_gives : MayPut f d.holdings
         last_gives =
             record {
               held = rw (ap (λ (q : PortValue). q.holdings.refs) dead_hand) (newest_held f (left_ref f v.holdings) v.holdings.refs refl);
               spares = apart_spares f d.holdings (ap (λ (q : PortValue). work_on f q.holdings.works) dead_hand ∙ drops.apart);
             }
 
-        pub last_left : (w : PortValue) → Holds d w (gave f d.holdings) → Holds v w (untyped f v.holdings)
+        pub last_left : (w : PortValue) → Holds d w (gave f d.holdings) → Holds v w (gave_type f v.holdings)
         last_left w put =
             put ∙ ap (λ (q : PortValue). still (record q { holdings = gave f q.holdings })) dead_hand
             ∙ ap (λ (rs : List Reference). still (record v { holdings = record v.holdings { refs = rs; typed = without_typed f v.holdings.typed } })) (without_newest (λ (y : Reference). y.frame) f (left_ref f v.holdings) v.holdings.refs _ refl refl)

@@ -5,7 +5,7 @@ use Rattle.xp_words.specs.declared.kind.PageType.{PageType}
 use Rattle.xp_words.specs.declared.kind.PageType.TheVariants as types
 use Rattle.xp_words.specs.declared.place.Place.TheVariants.{Kind}
 use Rattle.xp_words.specs.KindWords.{is_kind, kind_fields, kind_write}
-use Rattle.xp_words.specs.PageTypes.{is_none, is_table, type_number}
+use Rattle.xp_words.specs.PageTypes.{is_none, is_table}
 use Rattle.xp_board.specs.declared.step.Act.TheVariants.{Store}
 use Rattle.xp_board.specs.declared.step.StepKind.TheVariants as kinds
 use Rattle.xp_board.specs.declared.holdings.Holdings.{Holdings}
@@ -16,8 +16,9 @@ use Rattle.xp_board.specs.declared.holdings.OwnerFound.TheVariants as owners
 use Rattle.xp_board.specs.Hands.{without_ref, without_typed, work_on, without_work, changed_work}
 use Rattle.xp_board.specs.KindSteps.{live_typed}
 use Rattle.xp_board.specs.Lists.{changed_by}
-use Rattle.xp_board.specs.Readings.{is_dead, is_type, is_work}
+use Rattle.xp_board.specs.Readings.{is_dead, is_work}
 use Rattle.xp_board.specs.Told.{PortValue}
+use Rattle.xp_board.proofs.Returned.{same_type}
 use Rattle.board_lemmas.proofs.Sums.{when_eq}
 use Rattle.step_maker.specs.Holds.{FlushedHolds, Holds, MayWork, quiet}
 use Rattle.step_maker.specs.Moves.{Moves, Met}
@@ -26,7 +27,7 @@ use Rattle.answer_fits.specs.Asked.{of_frame}
 use Rattle.answer_fits.specs.Reasons.{keeps_type}
 use Rattle.answer_fits.proofs.Piecing.{serves_step}
 use Rattle.frame_words.proofs.Taking.{names_itself}
-use Rattle.kind_words.specs.Kinds.{IsWhole, MayLeave, left, live_kind, unmarked_kind}
+use Rattle.kind_words.specs.Kinds.{IsWholeWork, MayLeave, left, live_kind, unmarked_kind}
 use Rattle.kind_words.proofs.KindFacts.{work_word}
 use Rattle.kind_words.proofs.KindHands.{plain_whole}
 use Rattle.kind_words.proofs.KindWriting.{fields_write, live_is}
@@ -45,9 +46,6 @@ no_descriptors t off is = absurd (let e = subst (λ y. is_read_first y ≡ false
 
 pub no_memory : (t : PageType) → is_read_first t ≡ true → t ≢ types.Writable
 no_memory t on is = absurd (let e = subst (λ y. is_read_first y ≡ true) is on in cc)
-
-same_type : (t : PageType) → is_type t t ≡ true
-same_type t = when_eq (type_number t) (type_number t) refl
 
 -- a step that changes the hand alone, behind a wait
 quietly : (b v w : PortValue) (k : Holdings) → Holds v w k → quiet w ≡ quiet (record v { holdings = k })
@@ -69,7 +67,7 @@ module _ (b v : PortValue) (f owner : ℕ) (want : PageType) (marked : Bool) (st
   of_mark : (kind_fields e.work.word).unflushed ≡ marked
   of_mark = ap (λ (k : KindWord). k.unflushed) fields
 
-  whole : is_read_first want ≡ false → (marked ≡ true → IsFlushed v.post.machine f v.holdings) → IsWhole v.post.machine f want v.holdings e.work
+  whole : is_read_first want ≡ false → (marked ≡ true → IsFlushed v.post.machine f v.holdings) → IsWholeWork v.post.machine f want v.holdings e.work
   whole plain past =
       plain_whole v.post.machine f want v.holdings e.work (no_table want plain) (no_descriptors want plain) in_work of_kind
       (λ on. entered_past b v f owner want marked stamp progress own e (past (sym of_mark ∙ on)))

@@ -24,13 +24,13 @@ use Rattle.step_maker.specs.Plain.{Words, change, Leaves}
 use Rattle.step_maker.proofs.Telling.{leaves, load_tells, moves_telling, told_there}
 use Rattle.answer_fits.specs.Twins.{Alike}
 use Rattle.answer_fits.proofs.Alikes.{same_alike}
-use Rattle.frame_words.specs.Plain.{freed, lowered, put}
+use Rattle.frame_words.specs.Plain.{set_free, lowered, put}
 use Rattle.kind_words.specs.Kinds.{live_kind}
 use Rattle.frame_types.specs.declared.standing.Standing.{Standing}
 use Rattle.frame_types.specs.declared.standing.Standing.TheVariants as stands
 use Rattle.frame_types.specs.declared.taking.Taken.{Taken}
 use Rattle.frame_types.specs.declared.taking.Taken.TheVariants.{Counted, InWork, Waiting}
-use Rattle.frame_types.specs.Plain.{GoesPlainly, IsTakenBy, TakesPlainly, TwinOn, is_read_first, less_kept, set_kind, stop_by, taken_by, type_stop, unmarked_kind}
+use Rattle.frame_types.specs.Plain.{GoesPlainly, IsTakenBy, TakesPlainly, TwinOn, is_read_first, less_kept, set_kind, stop_by, taken_by, type_stop, work_unmarked}
 use Rattle.frame_types.specs.Standing.{standing_of}
 use Rattle.frame_types.specs.Taking.{Looked, stamp_by, work_kind}
 
@@ -49,7 +49,7 @@ stored_there f l m = ap (λ b. if b then kind_write l else m (Kind f)) (when_eq 
 
 -- a reference that is given back does not change it
 put_beside : (b : Bool) (f owner : ℕ) (l : KindWord) (m : Words) (q : Place) →
-    (if b then freed f owner (lowered f (set_kind f l m)) else lowered f (set_kind f l m)) q ≡ set_kind f l (if b then freed f owner (lowered f m) else lowered f m) q
+    (if b then set_free f owner (lowered f (set_kind f l m)) else lowered f (set_kind f l m)) q ≡ set_kind f l (if b then set_free f owner (lowered f m) else lowered f m) q
 put_beside true f owner l m Clock = refl
 put_beside true f owner l m (Pages d) = refl
 put_beside true f owner l m (Life d) = refl
@@ -149,7 +149,7 @@ module _ (x w : PortValue) (f : ℕ) (want : PageType) (marked : Bool) (k : Kind
   ends t telling twin = ends_by t (twin telling unmarked)
 
 -- ---- from dead
-unmarked_work : (u : Bool) (want : PageType) (n : ℕ) → unmarked_kind (work_kind want u (if u then n else 0)) ≡ work_kind want false 0
+unmarked_work : (u : Bool) (want : PageType) (n : ℕ) → work_unmarked (work_kind want u (if u then n else 0)) ≡ work_kind want false 0
 unmarked_work true want n = refl
 unmarked_work false want n = refl
 
@@ -168,7 +168,7 @@ module _ (w : PortValue) (f : ℕ) (want : PageType) (k : KindWord) (m : Words) 
     partial_way : (t : Taken) → Ends w f want k.unflushed (stamp_by k.unflushed k) own n t → IsTakenBy want k stands.Partial t × Alike (told_word w) (taken_by f want k stands.Partial t m)
     partial_way Counted e = (e.0, instead (live_kind want (if own then 1 else 2)) (live_kind want (if k.kept then 1 else 2)) (ap (λ y. live_kind want (if y then 1 else 2)) (sym kept)) e.1)
     partial_way (InWork progress mine) e =
-        ((e.0, e.1 ∙ sym kept), instead (work_kind want false 0) (unmarked_kind (resumed_kind k)) (sym (ap (λ y. unmarked_kind y) again ∙ unmarked_work k.unflushed want k.number)) e.2)
+        ((e.0, e.1 ∙ sym kept), instead (work_kind want false 0) (work_unmarked (resumed_kind k)) (sym (ap (λ y. work_unmarked y) again ∙ unmarked_work k.unflushed want k.number)) e.2)
     partial_way (Waiting mine stamp stop) e = ((e.0, e.1 ∙ sym kept), instead (work_kind want k.unflushed (stamp_by k.unflushed k)) (resumed_kind k) (sym again) e.2)
 
 -- ---- the ways of the call

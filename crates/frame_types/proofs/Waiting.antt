@@ -28,7 +28,7 @@ use Rattle.answer_fits.specs.Answers.{Deed, Serves, Stops}
 use Rattle.answer_fits.specs.Asked.{of_frame}
 use Rattle.answer_fits.proofs.Piecing.{serves_back, serves_came, serves_nothing, serves_step, stops_before}
 use Rattle.frame_words.specs.Freeing.{gave}
-use Rattle.frame_words.specs.Refs.{MayGive}
+use Rattle.frame_words.specs.Refs.{MayPut}
 use Rattle.frame_words.proofs.Taking.{names_itself}
 use Rattle.frame_words.proofs.Twinning.{low_rest}
 use Rattle.answer_fits.specs.Asked.{of_back}
@@ -167,7 +167,7 @@ module _ (b v : PortValue) (f owner : ℕ) (own : Bool) (stamp : ℕ) (w : Waits
   alone a p x same finds =
       ap (λ ys. work_on f ys) (sym (no_works b v f owner own stamp w) ∙ ap (λ ys. without_work f ys) (sym same)) ∙ out_of_works a.post.machine a.post.vcpu a.holdings p x finds f
 
-  pub shared_gives : (d : PortValue) → FlushedSame b d → work_on f b.holdings.works ≡ None → MayGive f d.holdings
+  pub shared_gives : (d : PortValue) → FlushedSame b d → work_on f b.holdings.works ≡ None → MayPut f d.holdings
   shared_gives d back none =
       record {
         held = subst (λ rs. 0 < refs_to f rs) (sym (ap (λ (q : PortValue). q.holdings.refs) back)) (lent_held f owner b.holdings w.lent);
@@ -177,7 +177,7 @@ module _ (b v : PortValue) (f owner : ℕ) (own : Bool) (stamp : ℕ) (w : Waits
   abbrev back_ref : Reference
   back_ref = record { frame = f; owner = owners.Of owner }
 
-  pub dead_gives : (d : PortValue) → FlushedHolds b d (record b.holdings { refs = back_ref ∷ without_ref f b.holdings.refs }) → work_on f b.holdings.works ≡ None → MayGive f d.holdings
+  pub dead_gives : (d : PortValue) → FlushedHolds b d (record b.holdings { refs = back_ref ∷ without_ref f b.holdings.refs }) → work_on f b.holdings.works ≡ None → MayPut f d.holdings
   dead_gives d back none =
       record {
         held = subst (λ rs. 0 < refs_to f rs) (sym (ap (λ (q : PortValue). q.holdings.refs) back)) (newest_held f back_ref (without_ref f b.holdings.refs) refl);
@@ -241,7 +241,7 @@ owned_behind v a d f x clock l look store telling owned =
     ap is_free (sym (load_tells v a Clock kinds.Look None clock look telling (Refs f))) ∙ owned_before a d f x l store (moves_telling v a Clock Load kinds.Look None clock look ∙ telling) owned
 
 -- ---- a frame that is to be ordinary memory
-pub err_gives : (v u : PortValue) (f owner : ℕ) → LentBy f owner v.holdings → work_on f v.holdings.works ≡ None → Same v u → MayGive f u.holdings
+pub err_gives : (v u : PortValue) (f owner : ℕ) → LentBy f owner v.holdings → work_on f v.holdings.works ≡ None → Same v u → MayPut f u.holdings
 err_gives v u f owner lent apart same =
     record {
       held = subst (λ rs. 0 < refs_to f rs) (sym (ap (λ (q : PortValue). q.holdings.refs) same)) (lent_held f owner v.holdings lent);

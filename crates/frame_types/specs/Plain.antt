@@ -57,8 +57,8 @@ abbrev pub work_by : KindWord → PageType → Standing → KindWord
 work_by k want stands.Partial = resumed_kind k
 work_by k want _ = begun_kind k want
 
-abbrev pub unmarked_kind : KindWord → KindWord
-unmarked_kind k = if k.unflushed then record k { unflushed = false; number = 0 } else k
+abbrev pub work_unmarked : KindWord → KindWord
+work_unmarked k = if k.unflushed then record k { unflushed = false; number = 0 } else k
 
 -- of a reference that stood in the frame's own mark, the one in hand is one too many
 abbrev pub less_kept : ℕ → KindWord → Standing → Words → Words
@@ -72,7 +72,7 @@ set_kind f k m = change (Store (kind_write k)) (Kind f) m
 abbrev pub taken_by : ℕ → PageType → KindWord → Standing → Taken → Words → Words
 taken_by f want k stands.Counted t m = set_kind f (raised_kind k) m
 taken_by f want k s Counted m = set_kind f (live_kind want (if is_own k s then 1 else 2)) (less_kept f k s m)
-taken_by f want k s (InWork progress own) m = set_kind f (unmarked_kind (work_by k want s)) (less_kept f k s m)
+taken_by f want k s (InWork progress own) m = set_kind f (work_unmarked (work_by k want s)) (less_kept f k s m)
 taken_by f want k s (Waiting own stamp stop) m = set_kind f (work_by k want s) (less_kept f k s m)
 
 abbrev pub taken : ℕ → PageType → Taken → Words → Words

@@ -29,7 +29,7 @@ use Rattle.xp_words.specs.declared.place.Place.TheVariants.{Kind}
 use Rattle.xp_words.specs.declared.kind.KindWord.{KindWord}
 use Rattle.xp_words.specs.declared.kind.PageType.TheVariants.{Writable}
 use Rattle.answer_fits.specs.Answers.{Deed, Serves, Stops, misses}
-use Rattle.answer_fits.specs.Reasons.{Awaited}
+use Rattle.answer_fits.specs.Reasons.{AwaitsStamp}
 use Rattle.answer_fits.specs.Asked.{of_frame}
 use Rattle.flush_waits.specs.Waiting.{IsWait}
 use Rattle.frame_types.specs.declared.taking.Taken.{Taken}
@@ -108,8 +108,8 @@ pub record MayDropPlain (n : Machine) (f : ℕ) (kind : PageType) (h : Holdings)
   pub apart : work_on f h.works ≡ None
 
 -- a typed reference went out of the hand
-abbrev pub untyped : ℕ → Holdings → Holdings
-untyped f h = record h { typed = without_typed f h.typed }
+abbrev pub gave_type : ℕ → Holdings → Holdings
+gave_type f h = record h { typed = without_typed f h.typed }
 
 -- ---- between the steps
 -- a look found that word, before any other step of the call
@@ -175,7 +175,7 @@ HasEntered v f owner want marked k own = (b : PortValue) × Enters b v f owner w
 
 -- the flush that a marked frame waits for is one that a piece from u to v awaits
 abbrev pub AwaitedThere : PortValue → PortValue → ℕ → ℕ → PageType → Bool → ℕ → Type 0
-AwaitedThere u v f owner want marked stamp = marked ≡ true → Awaited v.post.machine v.post.vcpu (of_frame f owner (Some want)) (Met u v) (Some owner) stamp
+AwaitedThere u v f owner want marked stamp = marked ≡ true → AwaitsStamp v.post.machine v.post.vcpu (of_frame f owner (Some want)) (Met u v) (Some owner) stamp
 
 -- Behind any steps for that type which await the flush, those from v to w serve it too; and they show there why it waits.
 abbrev pub ServesOn : PortValue → PortValue → ℕ → ℕ → PageType → Bool → ℕ → Type 0

@@ -24,12 +24,12 @@ use Rattle.step_maker.specs.Plain.{Words, change}
 use Rattle.step_maker.proofs.Telling.{told_there}
 use Rattle.answer_fits.specs.Twins.{Alike, IsAlike, IsAlikeRef}
 use Rattle.answer_fits.proofs.Alikes.{alike_same}
-use Rattle.frame_words.specs.Plain.{freed, lowered, put, stamp_now}
-use Rattle.frame_words.specs.Refs.{MayGive}
+use Rattle.frame_words.specs.Plain.{set_free, lowered, put, stamp_now}
+use Rattle.frame_words.specs.Refs.{MayPut}
 use Rattle.frame_words.proofs.FreeSteps.{free_read}
 
 -- ---- a frame with a reference in hand is not free
-pub owned_word : (v u : PortValue) (f w : ℕ) → Moves v u (Refs f) (Add one_down) kinds.Ref None w → MayGive f v.holdings → is_free w ≡ false
+pub owned_word : (v u : PortValue) (f w : ℕ) → Moves v u (Refs f) (Add one_down) kinds.Ref None w → MayPut f v.holdings → is_free w ≡ false
 unfolding hand
 owned_word v u f w lower gives =
     let finds = lower.finds in
@@ -38,7 +38,7 @@ owned_word v u f w lower gives =
     let held : 0 < refs_to f (finds.hands v.post.vcpu).refs = subst (λ (h : Holdings). 0 < refs_to f h.refs) (sym finds.mine) gives.held in
     subst (λ y. is_free y ≡ false) finds.word (counted_word (finds.words (Refs f)) (omega (arith, all, mine, held))).0
 
-pub told_owned : (v u : PortValue) (f w : ℕ) → Moves v u (Refs f) (Add one_down) kinds.Ref None w → MayGive f v.holdings → is_telling v ≡ true → is_free (told_word v (Refs f)) ≡ false
+pub told_owned : (v u : PortValue) (f w : ℕ) → Moves v u (Refs f) (Add one_down) kinds.Ref None w → MayPut f v.holdings → is_telling v ≡ true → is_free (told_word v (Refs f)) ≡ false
 told_owned v u f w lower gives telling = ap is_free (told_there v u (Refs f) (Add one_down) kinds.Ref None w lower telling) ∙ owned_word v u f w lower gives
 
 -- ---- the same act at a word that is the same
@@ -70,14 +70,14 @@ is_free_stamp : (stamp : ℕ) → stamp < 2 ^ 36 → is_free (ref_write (Free st
 unfolding is_free
 is_free_stamp stamp low = rw (free_read stamp low) refl
 
-freed_alike : (f owner : ℕ) (m n : Words) → Alike m n → Alike (freed f owner m) (freed f owner n)
+freed_alike : (f owner : ℕ) (m n : Words) → Alike m n → Alike (set_free f owner m) (set_free f owner n)
 freed_alike f owner m n all =
     let one = alike_act (Add (map_bit f)) (Map (f / 64)) m n (all (Map (f / 64))) all in
     let two = alike_stores (Refs f) (ref_write (Free (stamp_now m))) (ref_write (Free (stamp_now n))) _ _
     (inr (is_free_stamp (stamp_now m) (stamp_low (m Clock)), is_free_stamp (stamp_now n) (stamp_low (n Clock)))) one in
     alike_act (Add one_down) (Pages owner) _ _ (two (Pages owner)) two
 
-put_by : (b : Bool) (f owner : ℕ) (m n : Words) → Alike m n → Alike (if b then freed f owner m else m) (if b then freed f owner n else n)
+put_by : (b : Bool) (f owner : ℕ) (m n : Words) → Alike m n → Alike (if b then set_free f owner m else m) (if b then set_free f owner n else n)
 put_by true f owner m n all = freed_alike f owner m n all
 put_by false f owner m n all = all
 
@@ -86,5 +86,5 @@ pub put_alike : (f : ℕ) (m n : Words) → is_free (m (Refs f)) ≡ false → A
 put_alike f m n owned all =
     let same = same_ref (m (Refs f)) (n (Refs f)) owned (all (Refs f)) in
     let less = alike_act (Add one_down) (Refs f) m n same all in
-    subst (λ y. Alike (put f m) (if ref_count y == 1 then freed f (owner_number (owner_of y)) (lowered f n) else lowered f n)) same
+    subst (λ y. Alike (put f m) (if ref_count y == 1 then set_free f (owner_number (owner_of y)) (lowered f n) else lowered f n)) same
     (put_by (ref_count (m (Refs f)) == 1) f (owner_number (owner_of (m (Refs f)))) (lowered f m) (lowered f n) less)

@@ -21,10 +21,10 @@ use Rattle.board_lemmas.proofs.Numbers.{cell_there}
 use Rattle.board_lemmas.proofs.Sums.{when_eq}
 use Rattle.step_maker.specs.Holds.{Holds, Same, MayWork, still}
 use Rattle.step_maker.specs.Moves.{May, Moves}
-use Rattle.frame_words.specs.Cells.{IsApart, MayWrite}
+use Rattle.frame_words.specs.Cells.{IsApart, MayStoreCell}
 
 -- ---- when a store may be made
-pub may_store : (v : PortValue) (f i w : ℕ) → f < v.post.machine.frames → i < 512 → w < 2 ^ 64 → MayWork v → MayWrite v.post.machine f v.holdings → May v (Cell f i) (Store w) steps.Cell None
+pub may_store : (v : PortValue) (f i w : ℕ) → f < v.post.machine.frames → i < 512 → w < 2 ^ 64 → MayWork v → MayStoreCell v.post.machine f v.holdings → May v (Cell f i) (Store w) steps.Cell None
 unfolding IsSpelling
 may_store v f i w frame index small may writes =
     record {
@@ -71,7 +71,7 @@ store_hand v w f i word found m apart =
 head_live : (a b c d : Bool) → a ≡ true → b ≡ true → IsTrue (((a && b) || c) || d)
 head_live a b c d x y = rw (x, y) refl
 
-pub writes_live : (v : PortValue) (f : ℕ) (owner : OwnerFound) (others : List TypedReference) → v.holdings.typed ≡ live_typed f Writable owner ∷ others → IsApart f v.holdings → MayWrite v.post.machine f v.holdings
+pub writes_live : (v : PortValue) (f : ℕ) (owner : OwnerFound) (others : List TypedReference) → v.holdings.typed ≡ live_typed f Writable owner ∷ others → IsApart f v.holdings → MayStoreCell v.post.machine f v.holdings
 unfolding knows_live some_of
 writes_live v f owner others typed apart =
     let e = live_typed f Writable owner in

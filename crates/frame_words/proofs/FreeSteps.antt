@@ -20,10 +20,10 @@ use Rattle.xp_board.specs.Spelling.{IsSpelling}
 use Rattle.xp_board.specs.Told.{PortValue}
 use Rattle.board_lemmas.proofs.ListCounts.{first_by-cons_here, times_by-cons_here}
 use Rattle.board_lemmas.proofs.Sums.{when_eq}
+use Rattle.board_lemmas.proofs.Numbers.{refs_there}
 use Rattle.step_maker.specs.Holds.{Holds, MayWork, still}
 use Rattle.step_maker.specs.Moves.{May, Moves}
 use Rattle.frame_words.specs.Freeing.{IsEnding, IsEndingSince, raised_bit, made_free, refunded}
-use Rattle.frame_words.proofs.RowSteps.{refs_there}
 
 -- ---- places and words
 pub map_there : (z : Sizes) (f : ℕ) → f < z.frames → IsTrue (is_place z (Map (f / 64)))
@@ -48,14 +48,6 @@ pub free_read : (stamp : ℕ) → stamp < 2 ^ 36 → ref_read (ref_write (Free s
 free_read stamp low = ref_read-write (Free stamp) (free_is stamp low)
 
 -- ---- the bit of a frame
-pow_same : (i j : ℕ) → 2 ^ i ≡ 2 ^ j → i ≡ j
-pow_same i j e =
-    elim (cases_order i j) [
-      | inl at ↦ at
-      | inr (inl below) ↦ absurd (let k = pow-lt below in omega arith)
-      | inr (inr above) ↦ absurd (let k = pow-lt above in omega arith)
-    ]
-
 pow_le : (i j : ℕ) → i ≤ j → 2 ^ i ≤ 2 ^ j
 pow_le i j l =
     elim (cases_order i j) [

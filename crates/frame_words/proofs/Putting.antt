@@ -29,7 +29,7 @@ use Rattle.step_maker.proofs.Noting.{moves_since, moves_keeps}
 use Rattle.step_maker.proofs.Coming.{moment_of, moves_met, moves_came, came_trans, met_before}
 use Rattle.answer_fits.specs.Answers.{Serves, deeds_by}
 use Rattle.answer_fits.specs.Asked.{of_back, IsAsked}
-use Rattle.answer_fits.specs.Finding.{Finding, Found}
+use Rattle.answer_fits.specs.Finding.{Finding, FoundAt}
 use Rattle.answer_fits.specs.Reasons as reasons
 use Rattle.answer_fits.proofs.Piecing.{changes_nothing, changes_step, serves_step, moves_serves}
 use Rattle.frame_words.specs.Freeing.{IsEnding, IsEndingSince, raised_bit, made_free, refunded, left_free, gave, Frees, Puts, more, last}
@@ -158,11 +158,11 @@ module _ (v u : PortValue) (f w owner : ℕ) (allocated : Bool) (lower : Moves v
         let four = serves_step v frees.b frees.d r [] _ _ _ _ _ three frees.free (asks _, tt) in
         let after : Came u x = came_trans u frees.b x (came_trans u frees.a frees.b (moves_came _ _ _ _ _ _ _ frees.look) (moves_came _ _ _ _ _ _ _ frees.bit))
         (came_trans frees.b frees.d x (moves_came _ _ _ _ _ _ _ frees.free) (moves_came _ _ _ _ _ _ _ frees.pages)) in
-        let seen : Found (Met v x) (Refs f) w = found_first after in
+        let seen : FoundAt (Met v x) (Refs f) w = found_first after in
         serves_step v frees.d x r [] _ _ _ _ _ (subst (λ ds. Serves v frees.d r (ds ++ [])) (free_is_no_deed f frees.stamp frees.y frees.b.holdings (clock_low u frees.a frees.stamp frees.look)) four) frees.pages
         (reasons.found f w (asks _) seen owner_found, tt)
       where
-        found_first : Came u x → Found (Met v x) (Refs f) w
+        found_first : Came u x → FoundAt (Met v x) (Refs f) w
         found_first after = record { moment = moment_of v (Refs f) (Add one_down) kinds.Ref None w; was = met_before v u x _ (moves_met v u _ _ _ _ _ lower) after; place = refl; word = refl }
 
     pub changes_last : Puts v x f

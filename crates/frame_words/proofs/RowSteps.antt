@@ -1,8 +1,7 @@
 -- When each row may be made, and what it leaves in hand.
-use Rattle.std.proofs.Common.{◌≡◌, ◌≢◌, ℕ, ◌+◌, ◌<◌, ◌^◌, if◌then◌else◌, Result, Ok, Err, IfErr, MatchResult, true, false, Some, None, IsTrue, refl, ap, ◌∙◌, arith, lit<}
-use Rattle.std.proofs.lemmas.Bool.Decides.{nat_tests}
+use Rattle.std.proofs.Common.{◌≡◌, ◌≢◌, ℕ, ◌+◌, ◌<◌, ◌^◌, if◌then◌else◌, Result, Ok, Err, IfErr, MatchResult, true, false, Some, None, refl, ap, ◌∙◌, arith, lit<}
 use Rattle.xp_words.specs.declared.place.Place.TheVariants.{Refs, M2p}
-use Rattle.xp_words.specs.Places.{Sizes, is_place, sizes_of}
+use Rattle.xp_words.specs.Places.{sizes_of}
 use Rattle.xp_words.specs.RefWords.{ref_read, IsRef}
 use Rattle.xp_words.specs.declared.refs.RefWord.TheVariants.{Owned}
 use Rattle.xp_words.proofs.RefLaws.{ref_read-write}
@@ -14,15 +13,11 @@ use Rattle.xp_board.specs.RefSteps.{Raise, one_down, after_ref_row, ref_row, own
 use Rattle.xp_board.specs.Told.{PortValue}
 use Rattle.xp_board.proofs.Rows.{raise_legal, map_legal}
 use Rattle.board_lemmas.proofs.Sums.{when_ne, if_itself}
+use Rattle.board_lemmas.proofs.Numbers.{refs_there}
 use Rattle.step_maker.specs.Holds.{Holds, Same, MayWork, still}
 use Rattle.step_maker.specs.Moves.{May, Moves, found_by}
 use Rattle.frame_words.specs.declared.rows.Open.{Open}
-use Rattle.frame_words.specs.Refs.{open_word, raised_word, IsOpen, took, MayGive}
-
--- ---- places
-pub refs_there : (z : Sizes) (f : ℕ) → f < z.frames → IsTrue (is_place z (Refs f))
-unfolding is_place
-refs_there z f h = grind (arith, nat_tests)
+use Rattle.frame_words.specs.Refs.{open_word, raised_word, IsOpen, took, MayPut}
 
 -- ---- reference words
 pub open_is_ref : (v : PortValue) (o : Open) → MayWork v → IsOpen v.post.machine o → IsRef (Owned o.owner o.allocated o.count)
@@ -38,7 +33,7 @@ may_raise v f e n o frame may room is next =
     rw (is, next)
     (raise_legal v.post.machine v.post.vcpu f o.owner o.count o.allocated v.holdings may.machine.few_counts may.machine.few_domains frame may.running room.owner room.some room.below)
 
-pub may_lower : (v : PortValue) (f : ℕ) → f < v.post.machine.frames → MayWork v → MayGive f v.holdings → May v (Refs f) (Add one_down) kinds.Ref None
+pub may_lower : (v : PortValue) (f : ℕ) → f < v.post.machine.frames → MayWork v → MayPut f v.holdings → May v (Refs f) (Add one_down) kinds.Ref None
 may_lower v f frame may give =
     record {
       place = refs_there (sizes_of v.post.machine) f frame;

@@ -30,17 +30,18 @@ use Rattle.xp_board.specs.Sound.{WorkAgrees}
 use Rattle.xp_board.specs.Spelling.{IsSpelling}
 use Rattle.xp_board.specs.Told.{PortValue, Finds}
 use Rattle.board_lemmas.proofs.Sums.{one_at-same, when_eq, when_ne}
+use Rattle.board_lemmas.proofs.Numbers.{refs_there}
+use Rattle.board_lemmas.proofs.PlaceTests.{equal_by}
 use Rattle.step_maker.specs.Holds.{Holds, Same, still}
 use Rattle.step_maker.specs.Moves.{Moves, Met, step_at}
 use Rattle.step_maker.proofs.Coming.{moment_of, moves_met, moves_came, met_before, met_after}
 use Rattle.answer_fits.specs.Answers.{Serves, Stops, Deed, Returns, Misses, missed_at, deeds_by, exchanged, only_if}
 use Rattle.answer_fits.specs.Asked.{Request, of_frame, of_back, IsFor, IsAsked, of, back, named}
-use Rattle.answer_fits.specs.Finding.{Finding, Found, FoundWith}
+use Rattle.answer_fits.specs.Finding.{Finding, FoundAt, FoundWith}
 use Rattle.answer_fits.specs.Reasons.{Reason, IsRefChange}
 use Rattle.answer_fits.proofs.Piecing.{serves_step, moves_serves, no_more}
 use Rattle.frame_words.specs.declared.rows.Open.{Open}
-use Rattle.frame_words.specs.Refs.{open_word, raised_word, IsOpen, took, MayGive, RefusesWord}
-use Rattle.frame_words.proofs.RowSteps.{refs_there}
+use Rattle.frame_words.specs.Refs.{open_word, raised_word, IsOpen, took, MayPut, RefusesWord}
 
 -- ---- what a look at a reference word tells
 pub domain_known : (n : Machine) (s : ℕ) (h : Holdings) (f found owner count : ℕ) (allocated : Bool) → f < n.frames → Finds n s h (Refs f) found → ref_read found ≡ Some (Owned owner allocated count) →
@@ -98,7 +99,7 @@ unfolding Stops
 no_frame v f owner past = (names_itself _ _ f owner None _, past)
 
 module _ (v u : PortValue) (f owner word : ℕ) (look : Moves v u (Refs f) Load kinds.Look None word) where
-  found_word : Found (Met v u) (Refs f) word
+  found_word : FoundAt (Met v u) (Refs f) word
   unfolding moment_of
   found_word = record { moment = moment_of v (Refs f) Load kinds.Look None word; was = moves_met v u _ _ _ _ _ look; place = refl; word = refl }
 
@@ -173,12 +174,9 @@ module _ (v u : PortValue) (f owner word : ℕ) (look : Moves v u (Refs f) Load 
         )
 
 -- a frame that is closing in the hand keeps a reference beside the new one
-same_frame : (g f : ℕ) → (g == f) ≡ true → g ≡ f
-same_frame g f e = grind (arith, nat_tests)
-
 closing_head : (b : Bool) (f : ℕ) (h : Holdings) (e : Work) (o : Option Work) → (e.frame == f) ≡ b → WorkAgrees h e → (IsTrue (is_closing_on o) → 0 < refs_to f h.refs) →
     IsTrue (is_closing_on (if b then Some e else o)) → 0 < refs_to f h.refs
-closing_head true f h e o is agrees rest closing = subst (λ g. 0 < refs_to g h.refs) (same_frame e.frame f is) (agrees.closing closing)
+closing_head true f h e o is agrees rest closing = subst (λ g. 0 < refs_to g h.refs) (equal_by e.frame f is) (agrees.closing closing)
 closing_head false f h e o is agrees rest closing = rest closing
 
 closing_by : (f : ℕ) (h : Holdings) (works : List Work) → EachOf (WorkAgrees h) works → IsTrue (is_closing_on (work_on f works)) → 0 < refs_to f h.refs
@@ -190,7 +188,7 @@ more_held : (f : ℕ) (e : Reference) (xs : List Reference) → e.frame ≡ f �
 unfolding times_by
 more_held f e xs is = let one : one_at f e.frame ≡ 1 = ap (λ g. one_at f g) is ∙ one_at-same f in omega (arith, one)
 
-pub taken_gives : (v u w : PortValue) (f found owner : ℕ) → Moves v u (Refs f) Load kinds.Look None found → Same v u → Holds u w (took f owner u.holdings) → MayGive f w.holdings
+pub taken_gives : (v u w : PortValue) (f found owner : ℕ) → Moves v u (Refs f) Load kinds.Look None found → Same v u → Holds u w (took f owner u.holdings) → MayPut f w.holdings
 taken_gives v u w f found owner look same holds =
     let e : Reference = record { frame = f; owner = owners.Of owner } in
     let refs : w.holdings.refs ≡ e ∷ v.holdings.refs = ap (λ (q : PortValue). q.holdings.refs) (holds ∙ ap (λ (q : PortValue). still (record q { holdings = took f owner q.holdings })) same) in

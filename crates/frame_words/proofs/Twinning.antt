@@ -23,7 +23,7 @@ use Rattle.step_maker.proofs.Telling.{moves_telling, told_there, leaves, leaves_
 use Rattle.answer_fits.specs.Licences.{IsOwnedBy, IsFull}
 use Rattle.frame_words.specs.declared.rows.Open.{Open}
 use Rattle.frame_words.specs.Freeing.{Frees}
-use Rattle.frame_words.specs.Plain.{refer_by, one_more, lowered, freed, put, stamp_now, TwinGet}
+use Rattle.frame_words.specs.Plain.{refer_by, one_more, lowered, set_free, put, stamp_now, TwinGet}
 use Rattle.frame_words.specs.Refs.{open_word, raised_word, RefusesWord}
 use Rattle.frame_words.proofs.Putting.{clock_low}
 
@@ -106,7 +106,7 @@ twin_more v u f w lower off telling q =
     let m : Words = told_word v in
     let at : m (Refs f) ≡ w = told_there v u (Refs f) _ kinds.Ref None w lower telling in
     leaves v u (Refs f) _ kinds.Ref None w lower telling q
-    ∙ ap (λ b. (if b then freed f (owner_number (owner_of (m (Refs f)))) (lowered f m) else lowered f m) q) (sym (ap (λ y. ref_count y == 1) at ∙ when_ne (ref_count w) 1 off))
+    ∙ ap (λ b. (if b then set_free f (owner_number (owner_of (m (Refs f)))) (lowered f m) else lowered f m) q) (sym (ap (λ y. ref_count y == 1) at ∙ when_ne (ref_count w) 1 off))
 
 pub low_rest : (y : ℕ) → y < 2 ^ 36 → y % 2 ^ 36 ≡ y
 low_rest y low = omega (arith, low)
@@ -132,8 +132,8 @@ twin_last v u x f w owner allocated lower read frees telling q =
     let last : (ref_count w == 1) ≡ true = rw read refl in
     five q
     ∙ ap (λ y. change (Add one_down) (Pages owner) (change (Store (ref_write (Free y))) (Refs f) (change (Add (map_bit f)) (Map (f / 64)) (lowered f m))) q) stamp
-    ∙ ap (λ d. freed f d (lowered f m) q) (sym (ap (λ y. owner_number (owner_of y)) at ∙ who))
-    ∙ ap (λ b. (if b then freed f (owner_number (owner_of (m (Refs f)))) (lowered f m) else lowered f m) q) (sym (ap (λ y. ref_count y == 1) at ∙ last))
+    ∙ ap (λ d. set_free f d (lowered f m) q) (sym (ap (λ y. owner_number (owner_of y)) at ∙ who))
+    ∙ ap (λ b. (if b then set_free f (owner_number (owner_of (m (Refs f)))) (lowered f m) else lowered f m) q) (sym (ap (λ y. ref_count y == 1) at ∙ last))
 
 -- ---- for callers: stores, and the cells and words that they leave
 pub store_m2p_leaves : (v w : PortValue) (f gpfn found : ℕ) → Moves v w (M2p f) (Store gpfn) kinds.M2p None found → is_telling v ≡ true → Leaves w (change (Store gpfn) (M2p f) (told_word v))

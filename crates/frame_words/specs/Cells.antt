@@ -14,7 +14,7 @@ pub record IsApart (f : ℕ) (h : Holdings) : Type 0 where
   pub claimed : claim_of f h.claimed ≡ None
 
 -- a typed reference in hand keeps the frame live and writable
-pub record MayWrite (n : Machine) (f : ℕ) (h : Holdings) : Type 0 where
+pub record MayStoreCell (n : Machine) (f : ℕ) (h : Holdings) : Type 0 where
   pub held : 0 < typed_to f h.typed
   pub live : IsTrue (knows_live (sizes_of n) f Writable h)
   pub apart : IsApart f h

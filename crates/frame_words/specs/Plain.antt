@@ -40,11 +40,11 @@ lowered f m = change (Add one_down) (Refs f) m
 abbrev pub stamp_now : Words → ℕ
 stamp_now m = m Clock % 2 ^ 36
 
-abbrev pub freed : ℕ → ℕ → Words → Words
-freed f owner m = change (Add one_down) (Pages owner) (change (Store (ref_write (Free (stamp_now m)))) (Refs f) (change (Add (map_bit f)) (Map (f / 64)) m))
+abbrev pub set_free : ℕ → ℕ → Words → Words
+set_free f owner m = change (Add one_down) (Pages owner) (change (Store (ref_write (Free (stamp_now m)))) (Refs f) (change (Add (map_bit f)) (Map (f / 64)) m))
 
 abbrev pub put : ℕ → Words → Words
-put f m = if ref_count (m (Refs f)) == 1 then freed f (owner_number (owner_of (m (Refs f)))) (lowered f m) else lowered f m
+put f m = if ref_count (m (Refs f)) == 1 then set_free f (owner_number (owner_of (m (Refs f)))) (lowered f m) else lowered f m
 
 abbrev pub TwinGet : {A : Type 0} → PortValue → PortValue → ℕ → ℕ → Result A Stop → Type 0
 TwinGet v w f owner answer = Twin v w (refer v.post.machine owner f (told_word v (Refs f))) (got f (told_word v)) answer

@@ -29,7 +29,7 @@ abbrev pub took : ℕ → ℕ → Holdings → Holdings
 took f owner h = record h { refs = record { frame = f; owner = owners.Of owner } ∷ h.refs }
 
 -- an untyped reference may go out of the hand
-pub record MayGive (f : ℕ) (h : Holdings) : Type 0 where
+pub record MayPut (f : ℕ) (h : Holdings) : Type 0 where
   pub held : 0 < refs_to f h.refs
   pub spares : SparesClosing f h
 

@@ -6,7 +6,7 @@ ghost use Rattle.xp_board.specs.declared.step.Act.TheVariants.{Load, Store};
 ghost use Rattle.xp_board.specs.declared.step.StepKind.TheVariants as kinds;
 ghost use Rattle.step_maker.specs.Holds.{Holds, Same, MayWork};
 ghost use Rattle.step_maker.specs.Moves.{Moves};
-ghost use Rattle.frame_words.specs.Cells.{IsApart, MayWrite};
+ghost use Rattle.frame_words.specs.Cells.{IsApart, MayStoreCell};
 
 use step_maker::{look, make};
 use xp_board::{Act, Port, StepKind};
@@ -28,7 +28,7 @@ pub fn store_cell<P: Port>(port: &mut P, frame: u32, index: u16, word: u64) -> u
     requires frame { frame < (P.value port.old).post.machine.frames }
     requires index { index < 512 }
     requires may { MayWork (P.value port.old) }
-    requires writes { MayWrite (P.value port.old).post.machine frame (P.value port.old).holdings }
+    requires writes { MayStoreCell (P.value port.old).post.machine frame (P.value port.old).holdings }
     ensures moves { Moves (P.value port.old) (P.value port.new) (Cell frame index) (Store word) kinds.Cell None result }
     ensures hand { Same (P.value port.old) (P.value port.new) }
 {

@@ -12,7 +12,7 @@ ghost use Rattle.frame_words.specs.Freeing.{IsEnding, Frees, Puts, gave};
 ghost use Rattle.xp_board.specs.Told.{is_telling, told_word};
 ghost use Rattle.step_maker.specs.Plain.{Leaves};
 ghost use Rattle.frame_words.specs.Plain.{TwinGet, put};
-ghost use Rattle.frame_words.specs.Refs.{took, MayGive, RefusesWord};
+ghost use Rattle.frame_words.specs.Refs.{took, MayPut, RefusesWord};
 
 use crate::freeing::{last_owner, lower_pages, set_free_bit, store_free};
 use crate::rows::{Open, look_refs, lower_refs, raise_refs};
@@ -60,7 +60,7 @@ pub fn get_ref<P: Port>(port: &mut P, f: u64, owner: u16) -> Result<u32, Stop>
     ensures hand { MatchResult result (λ g. Holds (P.value port.old) (P.value port.new) (took g owner (P.value port.old).holdings)) (λ _. Same (P.value port.old) (P.value port.new)) }
     ensures plain { TwinGet (P.value port.old) (P.value port.new) f owner result }
     // It may be given back, also where the frame was closing in the hand.
-    ensures gives { IfOk result (λ g. MayGive g (P.value port.new).holdings) }
+    ensures gives { IfOk result (λ g. MayPut g (P.value port.new).holdings) }
 {
     let frames = u64::from(port.layout().frames);
     let limit = port.layout().limit;
@@ -88,7 +88,7 @@ pub fn get_ref<P: Port>(port: &mut P, f: u64, owner: u16) -> Result<u32, Stop>
 pub fn put_ref<P: Port>(port: &mut P, frame: u32)
     requires frame { frame < (P.value port.old).post.machine.frames }
     requires may { MayWork (P.value port.old) }
-    requires gives { MayGive frame (P.value port.old).holdings }
+    requires gives { MayPut frame (P.value port.old).holdings }
     ensures serves { Serves (P.value port.old) (P.value port.new) (of_back frame) [] }
     ensures puts { Puts (P.value port.old) (P.value port.new) frame }
     ensures hand { Holds (P.value port.old) (P.value port.new) (gave frame (P.value port.old).holdings) }

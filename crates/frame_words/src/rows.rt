@@ -7,7 +7,7 @@ ghost use Rattle.xp_board.specs.declared.step.Act.TheVariants.{Load, Cas, Store,
 ghost use Rattle.xp_board.specs.declared.step.StepKind.TheVariants as kinds;
 ghost use Rattle.step_maker.specs.Holds.{Holds, Same, MayWork};
 ghost use Rattle.step_maker.specs.Moves.{Moves, found_by};
-ghost use Rattle.frame_words.specs.Refs.{open_word, raised_word, IsOpen, took, MayGive};
+ghost use Rattle.frame_words.specs.Refs.{open_word, raised_word, IsOpen, took, MayPut};
 
 use step_maker::{exchange, look, make};
 use xp_board::{Act, Port, StepKind};
@@ -60,7 +60,7 @@ pub fn raise_refs<P: Port>(port: &mut P, frame: u32, from: Open) -> Result<(), u
 pub fn lower_refs<P: Port>(port: &mut P, frame: u32) -> u64
     requires frame { frame < (P.value port.old).post.machine.frames }
     requires may { MayWork (P.value port.old) }
-    requires gives { MayGive frame (P.value port.old).holdings }
+    requires gives { MayPut frame (P.value port.old).holdings }
     ensures moves { Moves (P.value port.old) (P.value port.new) (Refs frame) (Add one_down) kinds.Ref None result }
     ensures hand { Holds (P.value port.old) (P.value port.new) (gave_ref frame result (P.value port.old).holdings) }
 {

@@ -1,7 +1,5 @@
 -- What a vCPU learns of a frame by the words that it finds: facts of every sound state.
-use Rattle.std.proofs.Common.{◌≡◌, ℕ, ◌+◌, ◌^◌, ◌<◌, ◌≤◌, nat_lt, nat_le, is_some, true, false, length, Option, Some, None, IsTrue, refl, sym, ap, ◌∙◌, subst, arith}
-use Rattle.std.proofs.lemmas.Bool.{and_parts}
-use Rattle.std.proofs.lemmas.Bool.Decides.{nat_tests}
+use Rattle.std.proofs.Common.{◌≡◌, ℕ, ◌+◌, ◌^◌, ◌<◌, ◌≤◌, is_some, true, false, length, Option, Some, None, IsTrue, refl, sym, ap, ◌∙◌, subst, arith}
 use Rattle.xp_words.specs.Machine.{Machine}
 use Rattle.xp_words.specs.declared.kind.KindWord.{KindWord}
 use Rattle.xp_words.specs.declared.kind.PageType.{PageType}
@@ -18,7 +16,7 @@ use Rattle.xp_board.specs.declared.holdings.Work.{Work}
 use Rattle.xp_board.specs.Hands.{refs_to, typed_to, hand, typed_hand, works_on, work_on, without_work}
 use Rattle.xp_board.specs.Knowledge.{knows_owner, knows_live}
 use Rattle.xp_board.specs.KindSteps.{MayDrop}
-use Rattle.xp_board.specs.Readings.{kind_at, is_live, is_partial, is_dead, owner_of, owner_in, ref_count, count_in, type_count, kind_stamp}
+use Rattle.xp_board.specs.Readings.{kind_at, is_live, is_partial, is_dead, owner_of, ref_count, count_in, type_count, kind_stamp}
 use Rattle.xp_board.specs.Recorded.{CountsAgree}
 use Rattle.xp_board.specs.Sound.{is_busy}
 use Rattle.xp_board.specs.Spelling.{IsSpelling, is_kind_in, is_ref_in}
@@ -32,11 +30,9 @@ use Rattle.board_lemmas.proofs.ListCounts.{first_by-none, times_by-without_one}
 use Rattle.board_lemmas.proofs.Sums.{hands-plus, hands-part}
 use Rattle.board_lemmas.proofs.WorkFacts.{Works, works_facts}
 use Rattle.board_lemmas.proofs.Works.{nobody_has, one_works}
+use Rattle.board_lemmas.proofs.Owners.{owner_is_real}
+use Rattle.board_lemmas.proofs.Numbers.{refs_there}
 use Rattle.kind_words.proofs.RowSteps.{kind_there}
-
-refs_there : (z : Sizes) (f : ℕ) → f < z.frames → IsTrue (is_place z (Refs f))
-unfolding is_place
-refs_there z f h = grind (arith, nat_tests)
 
 -- ---- a clock value has a place in a kind word
 pub clock_is_small : (n : Machine) (s : ℕ) (h : Holdings) (w : ℕ) → Finds n s h Clock w → w < 2 ^ 36
@@ -215,20 +211,9 @@ work_stamp n s h c f e finds here marked =
     subst (λ y. (kind_fields e.word).number ≤ y) finds.word (subst (λ y. y ≤ m Clock) number (finds.sound.stamped.kinds f))
 
 -- ---- the owner that the vCPU knows is a domain of the machine
-owner_by : (n : Machine) (o : Option RefWord) (owner : ℕ) → IsTrue (is_ref_in n o) → owner_in o ≡ Some owner → owner < length n.page_limit
-owner_by n (Some (Free stamp)) owner is at = absurd (cc)
-owner_by n (Some (Owned d allocated count)) owner is at =
-    let low = (and_parts (nat_lt d (length n.page_limit)) (nat_le count n.limit) is).0 in
-    let same : d ≡ owner = cc in
-    subst (λ k. k < length n.page_limit) same (grind (arith, nat_tests))
-owner_by n (Some (Dying d)) owner is at =
-    let same : d ≡ owner = cc in
-    subst (λ k. k < length n.page_limit) same (grind (arith, nat_tests))
-owner_by n None owner is at = absurd (cc)
-
 pub known_owner : (n : Machine) (s : ℕ) (h : Holdings) (p : Place) (w : ℕ) → Finds n s h p w → (f owner : ℕ) → f < n.frames → IsTrue (knows_owner (sizes_of n) f owner h) → owner < length n.page_limit
 unfolding IsSpelling owner_of
 known_owner n s h p w finds f owner frame knows =
     let known = subst (λ (u : Holdings). IsTrue (knows_owner (sizes_of n) f owner u)) (sym finds.mine) knows in
     let owned = (finds.sound.found s finds.real).owners f owner known in
-    owner_by n (ref_read (finds.words (Refs f))) owner (finds.sound.spelled.spelled (Refs f) (refs_there (sizes_of n) f frame)) owned
+    owner_is_real n (ref_read (finds.words (Refs f))) owner (finds.sound.spelled.spelled (Refs f) (refs_there (sizes_of n) f frame)) owned

@@ -33,7 +33,7 @@ use Rattle.board_lemmas.proofs.ListCounts.{first_by-cons_here, times_by-cons_her
 use Rattle.board_lemmas.proofs.Sums.{when_eq}
 use Rattle.step_maker.specs.Moves.{Moves}
 use Rattle.step_maker.proofs.Noting.{moves_since}
-use Rattle.kind_words.specs.Kinds.{looked_at, resumed_work, IsWhole}
+use Rattle.kind_words.specs.Kinds.{looked_at, resumed_work, IsWholeWork}
 use Rattle.kind_words.proofs.KindWriting.{fields_write, begun_is, resumed_is}
 use Rattle.kind_words.proofs.KindFacts.{IsFoundLive}
 
@@ -62,9 +62,6 @@ begun_fields k want is dead wanted = fields_write (begun_kind k want) (begun_is 
 pub resumed_fields : (k : KindWord) → IsTrue (is_kind k) → IsTrue (is_partial k) → kind_fields (kind_write (resumed_kind k)) ≡ resumed_kind k
 resumed_fields k is partial = fields_write (resumed_kind k) (resumed_is k is partial)
 
-pub resumed_in_work : (k : KindWord) → IsTrue (is_partial k) → IsTrue (is_work (resumed_kind k))
-resumed_in_work k partial = grind arith
-
 -- from a `kept` mark the reference comes into the hand
 pub resumed_kept : (f : ℕ) (k : KindWord) (h : Holdings) → k.kept ≡ true →
     resumed_work f k h
@@ -81,12 +78,12 @@ resumed_unkept f k h off = rw off refl
 
 -- a frame that holds no entries and no descriptors may be made live, past its flush where it is marked
 pub plain_whole : (n : Machine) (f : ℕ) (want : PageType) (h : Holdings) (e : Work) → is_table want ≡ false → want ≢ types.Desc → IsTrue (is_work (kind_fields e.word)) → (kind_fields e.word).kind ≡ want →
-    ((kind_fields e.word).unflushed ≡ true → IsPastFlush n h e) → IsWhole n f want h e
+    ((kind_fields e.word).unflushed ≡ true → IsPastFlush n h e) → IsWholeWork n f want h e
 plain_whole n f want h e plain page working kind past =
     record { work = working; kind = kind; past = past; table = λ t. absurd (cc); descriptors = λ d. absurd (page d) }
 
 pub writable_whole : (n : Machine) (f : ℕ) (h : Holdings) (e : Work) → IsTrue (is_work (kind_fields e.word)) → (kind_fields e.word).kind ≡ types.Writable →
-    ((kind_fields e.word).unflushed ≡ true → IsPastFlush n h e) → IsWhole n f types.Writable h e
+    ((kind_fields e.word).unflushed ≡ true → IsPastFlush n h e) → IsWholeWork n f types.Writable h e
 writable_whole n f h e working kind past = plain_whole n f types.Writable h e refl (λ d. absurd (cc)) working kind past
 
 -- ---- a clock value that was found since

@@ -25,7 +25,7 @@ use Rattle.xp_board.specs.Told.{PortValue}
 use Rattle.board_lemmas.proofs.KindReadings.{work_alone, closing_alone, work_unlive}
 use Rattle.board_lemmas.proofs.Sums.{when_eq, when_ne}
 use Rattle.step_maker.specs.Holds.{MayWork}
-use Rattle.kind_words.specs.Kinds.{MayLeave, left, IsWhole, live_kind, partial_kind, unmarked_kind, dead_kind}
+use Rattle.kind_words.specs.Kinds.{MayLeave, left, IsWholeWork, live_kind, partial_kind, unmarked_kind, dead_kind}
 use Rattle.kind_words.proofs.KindWriting.{fields_write, live_is, marked_is, partial_is, unmarked_is, dead_is, live_fits, unlive_fits}
 
 work_form : (l : KindWord) → IsTrue (is_work l) → form_of l ≡ InWork
@@ -42,7 +42,7 @@ left_is v f e l r here is form =
 module _ (v : PortValue) (f : ℕ) (want : PageType) (e : Work) (here : work_on f v.holdings.works ≡ Some e) (typed : IsTrue (not (is_none want))) where
   -- ---- live
   -- the type count is in hand
-  pub may_leave_live : MayWork v → IsWhole v.post.machine f want v.holdings e → 0 < typed_to f v.holdings.typed → MayLeave v f (live_kind want 1)
+  pub may_leave_live : MayWork v → IsWholeWork v.post.machine f want v.holdings e → 0 < typed_to f v.holdings.typed → MayLeave v f (live_kind want 1)
   may_leave_live may whole held =
       let some = may.machine.some_count in
       record {
@@ -66,7 +66,7 @@ module _ (v : PortValue) (f : ℕ) (want : PageType) (e : Work) (here : work_on 
   left_live = left_is v f e (live_kind want 1) Live here (live_is want typed 1 (lit< tt)) refl
 
   -- the type count is another holder's, and an untyped reference in hand becomes a second one
-  pub may_leave_shared : MayWork v → IsWhole v.post.machine f want v.holdings e → typed_to f v.holdings.typed ≡ 0 → 0 < refs_to f v.holdings.refs → MayLeave v f (live_kind want 2)
+  pub may_leave_shared : MayWork v → IsWholeWork v.post.machine f want v.holdings e → typed_to f v.holdings.typed ≡ 0 → 0 < refs_to f v.holdings.refs → MayLeave v f (live_kind want 2)
   may_leave_shared may whole untyped held =
       record {
         is = live_is want typed 2 (lit< tt);

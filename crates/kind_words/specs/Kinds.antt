@@ -96,7 +96,7 @@ dead_kind kind unflushed stamp =
     }
 
 -- all of a frame in the own work for that type is validated, and flushed where it was marked
-pub record IsWhole (n : Machine) (f : ℕ) (want : PageType) (h : Holdings) (e : Work) : Type 0 where
+pub record IsWholeWork (n : Machine) (f : ℕ) (want : PageType) (h : Holdings) (e : Work) : Type 0 where
   pub work : IsTrue (is_work (kind_fields e.word))
   pub kind : (kind_fields e.word).kind ≡ want
   pub past : (kind_fields e.word).unflushed ≡ true → IsPastFlush n h e

@@ -25,12 +25,12 @@ use Rattle.step_maker.specs.Plain.{Words, change, Leaves}
 use Rattle.step_maker.proofs.Telling.{came_telling, moves_telling, leaves, leaves_then}
 use Rattle.frame_words.specs.Plain.{got, put, TwinGet}
 use Rattle.m2p_map.specs.Maps.{TwinSet}
-use Rattle.frame_words.specs.Refs.{took, MayGive}
+use Rattle.frame_words.specs.Refs.{took, MayPut}
 use Rattle.frame_words.specs.Freeing.{gave}
 use Rattle.frame_words.proofs.Putting.{without_newest}
 use Rattle.frame_words.proofs.Taking.{names_itself}
 
-pub held : (f : ℕ) (h : Holdings) → MayGive f h → 0 < hand f h
+pub held : (f : ℕ) (h : Holdings) → MayPut f h → 0 < hand f h
 unfolding hand
 held f h gives = let some = gives.held in omega arith
 
@@ -42,7 +42,7 @@ given_back v u x w f owner took_one same gives =
 yes : (k : ℕ) → 0 < k → nat_lt 0 k ≡ true
 yes k some = grind (arith, nat_tests)
 
-pub maps : (v u x w : PortValue) (f owner gpfn other : ℕ) → Serves v u (of_frame f owner None) [] → MayGive f u.holdings → Moves u x (M2p f) (Store gpfn) kinds.M2p None other →
+pub maps : (v u x w : PortValue) (f owner gpfn other : ℕ) → Serves v u (of_frame f owner None) [] → MayPut f u.holdings → Moves u x (M2p f) (Store gpfn) kinds.M2p None other →
     Serves x w (of_back f) [] → Serves v w (of_frame f owner None) (SetsM2p f gpfn ∷ [])
 maps v u x w f owner gpfn other gets gives store puts =
     let r = of_frame f owner None in
@@ -50,10 +50,10 @@ maps v u x w f owner gpfn other gets gives store puts =
     let deed = ap (λ b. only_if b (SetsM2p f gpfn) ++ []) (yes (hand f u.holdings) (held f u.holdings gives)) in
     serves_back v x w r (SetsM2p f gpfn ∷ []) [] (subst (Serves v x r) deed stored) f (names_itself v.post.machine v.post.vcpu f owner None _) puts
 
-pub maps_at : (v u x w : PortValue) (g f owner gpfn other : ℕ) → g ≡ f → Serves v u (of_frame f owner None) [] → MayGive g u.holdings → Moves u x (M2p g) (Store gpfn) kinds.M2p None other →
+pub maps_at : (v u x w : PortValue) (g f owner gpfn other : ℕ) → g ≡ f → Serves v u (of_frame f owner None) [] → MayPut g u.holdings → Moves u x (M2p g) (Store gpfn) kinds.M2p None other →
     Serves x w (of_back g) [] → Serves v w (of_frame f owner None) (SetsM2p f gpfn ∷ [])
 maps_at v u x w g f owner gpfn other is gets gives store puts =
-    maps v u x w f owner gpfn other gets (subst (λ k. MayGive k u.holdings) is gives) (subst (λ k. Moves u x (M2p k) (Store gpfn) kinds.M2p None other) is store) (subst (λ k. Serves x w (of_back k) []) is puts)
+    maps v u x w f owner gpfn other gets (subst (λ k. MayPut k u.holdings) is gives) (subst (λ k. Moves u x (M2p k) (Store gpfn) kinds.M2p None other) is store) (subst (λ k. Serves x w (of_back k) []) is puts)
 
 -- ---- on a board that tells all words
 -- words that are the same everywhere are one

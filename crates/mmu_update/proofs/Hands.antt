@@ -12,12 +12,12 @@ use Rattle.xp_board.specs.KindSteps.{live_typed}
 use Rattle.xp_board.specs.Lists.{first_by, times_by}
 use Rattle.xp_board.specs.Told.{PortValue}
 use Rattle.step_maker.specs.Holds.{FlushedHolds, FlushedSame, Holds, Rests, Same, quiet}
-use Rattle.frame_words.specs.Cells.{IsApart, MayWrite}
+use Rattle.frame_words.specs.Cells.{IsApart, MayStoreCell}
 use Rattle.frame_words.specs.Freeing.{gave}
 use Rattle.frame_words.specs.Refs.{took}
 use Rattle.frame_words.proofs.CellSteps.{writes_live}
 use Rattle.frame_words.proofs.Putting.{without_newest}
-use Rattle.frame_types.specs.Taking.{MayDropPlain, typed_as, untyped}
+use Rattle.frame_types.specs.Taking.{MayDropPlain, typed_as, gave_type}
 
 none_on : {A : Type 0} (key : A → ℕ) (f : ℕ) (xs : List A) → xs ≡ [] → first_by key f xs ≡ None
 unfolding first_by
@@ -53,15 +53,15 @@ module _ (v u : PortValue) (f d : ℕ) (rests : Rests v) (takes : Holds v u (too
           claimed = none_on (λ (y : Claimed). y.frame) f x.holdings.claimed (ap (λ (q : PortValue). q.holdings.claimed) whole ∙ rests.empty.claimed);
         }
 
-    pub may_write : MayWrite x.post.machine f x.holdings
+    pub may_write : MayStoreCell x.post.machine f x.holdings
     may_write = writes_live x f (owners.Of d) v.holdings.typed (ap (λ (q : PortValue). q.holdings.typed) whole) apart
 
     -- and was given back
-    pub given_back : (y z : PortValue) → Same x y → Holds y z (untyped f y.holdings) → FlushedSame v z
+    pub given_back : (y z : PortValue) → Same x y → Holds y z (gave_type f y.holdings) → FlushedSame v z
     given_back y z same drops =
         ap quiet drops
-        ∙ ap (λ (q : PortValue). quiet (record q { holdings = untyped f q.holdings })) (ap quiet same ∙ whole)
-        ∙ ap (λ (rs : List Reference). quiet (record v { holdings = untyped f (record (typed_as f d Writable v.holdings) { refs = rs }) })) (without_newest (λ (e : Reference). e.frame) f (record { frame = f; owner = owners.Of d }) v.holdings.refs refl)
+        ∙ ap (λ (q : PortValue). quiet (record q { holdings = gave_type f q.holdings })) (ap quiet same ∙ whole)
+        ∙ ap (λ (rs : List Reference). quiet (record v { holdings = gave_type f (record (typed_as f d Writable v.holdings) { refs = rs }) })) (without_newest (λ (e : Reference). e.frame) f (record { frame = f; owner = owners.Of d }) v.holdings.refs refl)
         ∙ ap (λ (ts : List TypedReference). quiet (record v { holdings = record v.holdings { typed = ts } })) (without_newest (λ (e : TypedReference). e.frame) f (live_typed f Writable (owners.Of d)) v.holdings.typed refl)
 
 pub may_drop : (v u x y : PortValue) (f d : ℕ) → Rests v → Holds v u (took f d v.holdings) → FlushedHolds u x (typed_as f d Writable u.holdings) → Same x y → MayDropPlain y.post.machine f Writable y.holdings

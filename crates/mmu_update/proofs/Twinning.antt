@@ -23,7 +23,7 @@ use Rattle.frame_types.specs.Plain.{TakesMemory, TwinMemory, dropped_plain, take
 use Rattle.frame_types.specs.declared.taking.Taken.TheVariants.{Counted}
 use Rattle.frame_types.proofs.Alike.{dropped_alike}
 use Rattle.m2p_map.proofs.Mapping.{same_words}
-use Rattle.mmu_update.specs.Plain.{StoresPlainly, TwinWrite, WritesBy, stored}
+use Rattle.mmu_update.specs.Plain.{StoresPlainly, TwinWrite, WritesBy, write_word}
 
 -- ---- not stored
 same_stop : (u w : PortValue) (f i word : ℕ) (e : Stop) → TakesMemory u w f (Err e) → StoresPlainly w (told_word u) f i word (Err e)
@@ -62,7 +62,7 @@ module _ (v u : PortValue) (d f g i word : ℕ) (at : g ≡ f) (came : Came v u)
         subst (λ (m : Words). Alike m (change (Store word) (Cell g i) (taken g Writable Counted (told_word u)))) (sym at_y) (alike_store word (Cell g i) (told_word x) (taken g Writable Counted (told_word u)) took.1) in
         let stood = stands on_y in (
           took.0,
-          subst (λ (m : Words). Alike m (stored g i word (told_word u))) (sym at_z) (dropped_alike g Writable (told_word y) _ stood.0 stood.1 alike),
+          subst (λ (m : Words). Alike m (write_word g i word (told_word u))) (sym at_z) (dropped_alike g Writable (told_word y) _ stood.0 stood.1 alike),
         )
 
     pub twin_stores : TwinWrite v z d f i word (Ok tt)

@@ -31,8 +31,8 @@ request_of d Unknown = of_numbers BadCommand
 
 -- ---- what a guest sees
 -- the one deed of an element that is done; one that is not has none, but for the exchange that was lost
-abbrev pub deeds_of : Machine → Element → Result (Unit {0}) Stop → List Deed
-deeds_of n (SetM2p f w) answer = maps.deeds_of n f w answer
-deeds_of n (Write f i w) (Ok done) = Writes f i w ∷ []
-deeds_of n _ (Ok done) = []
-deeds_of n _ (Err e) = missed n e
+abbrev pub element_deeds : Machine → Element → Result (Unit {0}) Stop → List Deed
+element_deeds n (SetM2p f w) answer = maps.deeds_of n f w answer
+element_deeds n (Write f i w) (Ok done) = Writes f i w ∷ []
+element_deeds n _ (Ok done) = []
+element_deeds n _ (Err e) = missed n e

@@ -19,13 +19,13 @@ use Rattle.mmu_update.specs.declared.element.Element.{Element}
 use Rattle.mmu_update.specs.declared.element.Element.TheVariants.{SetM2p, Write, Misaligned, Unknown}
 
 -- the word stored, and the type and the reference given back, where both were taken in m
-abbrev pub stored : ℕ → ℕ → ℕ → Words → Words
-stored f i x m = dropped_plain f Writable (change (Store x) (Cell f i) (taken f Writable Counted m))
+abbrev pub write_word : ℕ → ℕ → ℕ → Words → Words
+write_word f i x m = dropped_plain f Writable (change (Store x) (Cell f i) (taken f Writable Counted m))
 
 -- Behind a reference that was taken, which left m: the word is stored; or the type is not to be had, by the kind word alone;
 -- or the frame awaits a flush that is not to be had.
 abbrev pub StoresPlainly : PortValue → Words → ℕ → ℕ → ℕ → Result (Unit {0}) Stop → Type 0
-StoresPlainly w m f i x (Ok done) = (type_stop f Writable (m (Kind f)) ≡ None) × Alike (told_word w) (stored f i x m)
+StoresPlainly w m f i x (Ok done) = (type_stop f Writable (m (Kind f)) ≡ None) × Alike (told_word w) (write_word f i x m)
 StoresPlainly w m f i x (Err (Refused (refusals.Clock y))) = (type_waits Writable (m (Kind f)) ≡ true) × Alike (told_word w) (given_up f true m)
 StoresPlainly w m f i x (Err (Paused (Flush u t y))) = (type_waits Writable (m (Kind f)) ≡ true) × Alike (told_word w) (given_up f false m)
 StoresPlainly w m f i x (Err e) = (type_stop f Writable (m (Kind f)) ≡ Some e) × Leaves w (put f m)

@@ -6,7 +6,7 @@ ghost use Rattle.xp_board.specs.Readings.{domain_of};
 ghost use Rattle.step_maker.specs.Holds.{FlushedSame, Rests};
 ghost use Rattle.answer_fits.specs.Answers.{Serves, Stops};
 ghost use Rattle.answer_fits.specs.Asked.{of_frame};
-ghost use Rattle.mmu_update.specs.Elements.{deeds_of, element_of, request_of};
+ghost use Rattle.mmu_update.specs.Elements.{element_deeds, element_of, request_of};
 ghost use Rattle.mmu_update.specs.Plain.{TwinUpdate, TwinWrite};
 ghost use Rattle.mmu_update.specs.declared.element.Element.TheVariants.{Write};
 
@@ -28,7 +28,7 @@ fn write_memory<P: Port>(
     requires rests { Rests (P.value port.old) }
     requires own { domain ≡ domain_of (P.value port.old).post.machine (P.value port.old).post.vcpu }
     requires index { index < 512 }
-    ensures serves { Serves (P.value port.old) (P.value port.new) (of_frame f domain (Some Writable)) (deeds_of (P.value port.old).post.machine (Write f index word) result) }
+    ensures serves { Serves (P.value port.old) (P.value port.new) (of_frame f domain (Some Writable)) (element_deeds (P.value port.old).post.machine (Write f index word) result) }
     ensures stops { IfErr result (λ e. Stops (P.value port.old) (P.value port.new) (of_frame f domain (Some Writable)) e) }
     ensures hand { FlushedSame (P.value port.old) (P.value port.new) }
     ensures plain { TwinWrite (P.value port.old) (P.value port.new) domain f index word result }
@@ -46,7 +46,7 @@ pub fn update<P: Port>(port: &mut P, domain: u16, pair: Pair) -> Result<(), Stop
     requires rests { Rests (P.value port.old) }
     requires own { domain ≡ domain_of (P.value port.old).post.machine (P.value port.old).post.vcpu }
     // The steps serve what the element asks for, and show why it stops.
-    ensures serves { Serves (P.value port.old) (P.value port.new) (request_of domain (element_of pair)) (deeds_of (P.value port.old).post.machine (element_of pair) result) }
+    ensures serves { Serves (P.value port.old) (P.value port.new) (request_of domain (element_of pair)) (element_deeds (P.value port.old).post.machine (element_of pair) result) }
     ensures stops { IfErr result (λ e. Stops (P.value port.old) (P.value port.new) (request_of domain (element_of pair)) e) }
     // What its numbers alone refuse is refused.
     ensures numbers { (x : Refusal) → (request_of domain (element_of pair)).by_numbers ≡ Some x → result ≡ Err (Refused x) }

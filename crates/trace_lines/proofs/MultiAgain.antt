@@ -6,6 +6,7 @@ use Rattle.std.proofs.lemmas.List.Elements.{All-head, All-tail}
 use Rattle.std.proofs.lemmas.List.Folds.{list_all-append}
 use Rattle.std.proofs.lemmas.List.Splits.{slice_split_none, slice_split_at}
 use Rattle.std.proofs.lemmas.List.Sums.{AllPass-from_list_all}
+use Rattle.std.proofs.lemmas.Bool.{not-true}
 use Rattle.xp_words.specs.declared.ops.Pair.{Pair}
 use Rattle.xp_words.specs.declared.ops.ExtOp.{ExtOp}
 use Rattle.xp_words.specs.declared.ops.Call.{Call}
@@ -62,12 +63,8 @@ words_of_call c h = words_only (call_words c) (all_call_words c h)
 pub words_of_numbers : (ns : List ℕ) → AreWords ns → list_all is_word (number_words ns) ≡ true
 words_of_numbers ns h = words_only (number_words ns) (number_call_words ns h)
 
-not_false : (b : Bool) → not b ≡ true → b ≡ false
-not_false true e = absurd cc
-not_false false e = refl
-
 no_separator : (c : Call) → IsSpellableCall c → All (λ w. is_separator w ≡ false) (call_words c)
-no_separator c h = λ k d lt. not_false _ (both (is_word (get_or (call_words c) k d)) (not (is_separator (get_or (call_words c) k d))) (AllPass-from_list_all is_call_word (call_words c) (all_call_words c h) k d lt)).1
+no_separator c h = λ k d lt. not-true _ (both (is_word (get_or (call_words c) k d)) (not (is_separator (get_or (call_words c) k d))) (AllPass-from_list_all is_call_word (call_words c) (all_call_words c h) k d lt)).1
 
 abbrev words_behind : List Call → List (List ℕ)
 words_behind cs = flat_map (λ d. codes ";" ∷ call_words d) cs

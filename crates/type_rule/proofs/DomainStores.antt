@@ -1,6 +1,6 @@
 -- Dying and dead domains: stores of the kind word of a frame in work or closing.
-use Rattle.std.proofs.Common.{◌≡◌, ◌≢◌, ℕ, ◌<◌, ◌==◌, ◌&&◌, ◌||◌, if◌then◌else◌, Bool, true, false, List, [], ◌∷◌, length, Option, Some, None, IsTrue, refl, sym, ◌∙◌, ap, inl, inr, arith}
-use Rattle.std.proofs.lemmas.Bool.{cases_eq, cases_Bool}
+use Rattle.std.proofs.Common.{◌≡◌, ◌≢◌, ℕ, ◌<◌, ◌==◌, ◌||◌, if◌then◌else◌, Bool, true, false, List, ◌∷◌, Some, IsTrue, refl, sym, ◌∙◌, ap, inl, inr, arith}
+use Rattle.std.proofs.lemmas.Bool.{cases_Bool}
 use Rattle.std.proofs.lemmas.Bool.Decides.{nat_tests}
 use Rattle.xp_words.specs.declared.kind.KindWord.{KindWord}
 use Rattle.xp_words.specs.KindWords.{kind_read, kind_fields}
@@ -9,18 +9,15 @@ use Rattle.xp_words.specs.declared.place.Place.{Place}
 use Rattle.xp_words.specs.declared.place.Place.TheVariants.{Refs, Kind}
 use Rattle.xp_words.specs.Places.{Sizes, sizes_of}
 use Rattle.xp_board.specs.declared.step.Step.{Step}
-use Rattle.xp_board.specs.declared.holdings.Made.{Made}
 use Rattle.xp_board.specs.declared.holdings.Work.{Work}
-use Rattle.xp_board.specs.declared.holdings.Reference.{Reference}
-use Rattle.xp_board.specs.declared.holdings.TypedReference.{TypedReference}
 use Rattle.xp_board.specs.declared.holdings.Looking.{Looking}
 use Rattle.xp_board.specs.declared.holdings.OwnerFound.{OwnerFound}
 use Rattle.xp_board.specs.declared.holdings.OwnerFound.TheVariants as owners
 use Rattle.xp_board.specs.declared.holdings.Holdings.{Holdings}
-use Rattle.xp_board.specs.Lists.{Member, first_by, some_of}
+use Rattle.xp_board.specs.Lists.{Member}
 use Rattle.xp_board.specs.Readings.{kind_at, is_closing, owner_of, domain_of}
-use Rattle.xp_board.specs.Hands.{ref_to, typed_on, ref_owner, typed_owner, owner_by, owner_by_typed}
-use Rattle.xp_board.specs.Knowledge.{knows_owner, tells_owner}
+use Rattle.xp_board.specs.Hands.{ref_to, typed_on, ref_owner, typed_owner}
+use Rattle.xp_board.specs.Knowledge.{knows_owner}
 use Rattle.xp_board.specs.KindSteps.{Form, Live, Partial, InWork, Dead, form_of, AllowsForm, after_form, kept_owner, looking_at, as_typed}
 use Rattle.xp_board.specs.Sound.{Sound, KeptForNobody}
 use Rattle.board_lemmas.proofs.KindForms.{live_form, partial_form, work_form, dead_form}
@@ -30,6 +27,7 @@ use Rattle.type_rule.proofs.DomainLaw.{AllStopped, DomainChange}
 use Rattle.type_rule.proofs.DomainWords.{change_by, not_stopped}
 use Rattle.type_rule.proofs.DomainKinds.{kind_words, by_kept, or_true}
 use Rattle.board_lemmas.proofs.FormsLeft.{is_live_left, is_partial_left, is_work_left, is_dead_left}
+use Rattle.board_lemmas.proofs.Owners.{ref_knows, typed_knows}
 
 left_pinned : (form : Form) (n : Machine) (f w : ℕ) (e : Work) (l : KindWord) (h : Holdings) → kind_read w ≡ Some l → form_of l ≡ form → AllowsForm form n f e l h → l.pinned ≡ false
 left_pinned Live n f w e l h is at may = may.unpinned
@@ -38,33 +36,6 @@ left_pinned InWork n f w e l h is at may = let k = is_work_left l at in (work_fo
 left_pinned Dead n f w e l h is at may = let k = is_dead_left l at in (dead_form w l is k.0 k.1 k.2).unpinned
 
 -- ---- the owner that the vCPU knows
-first_passes : {A : Type 0} (key : A → ℕ) (f : ℕ) (xs : List A) (e : A) (test : A → Bool) → first_by key f xs ≡ Some e → test e ≡ true →
-    some_of (λ y. (key y == f) && test y) xs ≡ true
-unfolding first_by some_of
-first_passes key f [] e test h t = absurd (cc)
-first_passes key f (y ∷ ys) e test h t =
-    elim (cases_eq (key y) f) [
-      | inl at ↦
-          (let u : (key y == f) ≡ true = grind (arith, nat_tests) in
-          let k : y ≡ e = (let q : Some y ≡ Some e = rw u at h in cc) in
-          let v : test y ≡ true = ap test k ∙ t in
-          rw (u, v) refl)
-      | inr off ↦ (let u : (key y == f) ≡ false = grind (arith, nat_tests) in rw u (first_passes key f ys e test (rw u at h) t))
-    ]
-
-tells_of : (z : Sizes) (xs : List Made) (f o : ℕ) (w : OwnerFound) → w ≡ owners.Of o → tells_owner z xs f o w ≡ true
-tells_of z xs f o w e = rw e (grind (arith, nat_tests))
-
-ref_knows : (z : Sizes) (f o : ℕ) (h : Holdings) (r : Option Reference) → ref_to f h.refs ≡ r → owner_by r (owners.Since (length h.steps)) ≡ owners.Of o →
-    some_of (λ e. (e.frame == f) && tells_owner z h.steps f o e.owner) h.refs ≡ true
-ref_knows z f o h (Some r) at k = first_passes (λ e. e.frame) f h.refs r (λ e. tells_owner z h.steps f o e.owner) at (tells_of z h.steps f o r.owner k)
-ref_knows z f o h None at k = absurd cc
-
-typed_knows : (z : Sizes) (f o : ℕ) (h : Holdings) (r : Option TypedReference) → typed_on f h.typed ≡ r → owner_by_typed r (owners.Since (length h.steps)) ≡ owners.Of o →
-    some_of (λ e. (e.frame == f) && tells_owner z h.steps f o e.owner) h.typed ≡ true
-typed_knows z f o h (Some r) at k = first_passes (λ e. e.frame) f h.typed r (λ e. tells_owner z h.steps f o e.owner) at (tells_of z h.steps f o r.owner k)
-typed_knows z f o h None at k = absurd cc
-
 or_first : (a t : Bool) → a ≡ true → (a || t) ≡ true
 or_first a t e = rw e refl
 

@@ -7,7 +7,7 @@ use Rattle.xp_words.specs.declared.reply.Stop.TheVariants.{Paused}
 use Rattle.xp_words.specs.declared.reply.Pause.TheVariants.{Due}
 use Rattle.xp_board.specs.Told.{PortValue}
 use Rattle.xp_preempt.specs.Gates.{next_ask}
-use Rattle.vcpu_turn.specs.Lists.{Fitting, Asking, Did, none, more, WorksOn, asks_on}
+use Rattle.vcpu_turn.specs.Lists.{Fitting, Asking, DidItems, none, more, WorksOn, asks_on}
 use Rattle.vcpu_turn.proofs.Hearing.{no}
 
 pub never : (k : ℕ) → k < k → ⊥
@@ -28,11 +28,11 @@ unfolding asks_on
 asks_one a = refl
 
 module _ (fits : Fitting) (asks : Asking) (count from : ℕ) (v : PortValue) (before : ℕ) where
-  pub did_on : (to n : ℕ) (u : PortValue) → Did fits asks from v to n u → from ≤ to
+  pub did_on : (to n : ℕ) (u : PortValue) → DidItems fits asks from v to n u → from ≤ to
   did_on _ _ _ none = omega arith
   did_on _ _ _ (more k n u w d f) = let on = did_on k n u d in omega arith
 
-  module _ (k n gate after : ℕ) (u w : PortValue) (did : Did fits asks from v k n u) (is : gate ≡ asks_on n before) where
+  module _ (k n gate after : ℕ) (u w : PortValue) (did : DidItems fits asks from v k n u) (is : gate ≡ asks_on n before) where
     so_far : (own : ℕ) → after ≡ asks_on own gate → after ≡ asks_on (n + own) before
     so_far own element = element ∙ ap (asks_on own) is ∙ asks_more n own before
 
@@ -67,7 +67,7 @@ module _ (fits : Fitting) (asks : Asking) (count from : ℕ) (v : PortValue) (be
             gate = asked_then last one;
           }
 
-      pub goes_on : (last : ℕ) → last ≡ next_ask after → Did fits asks from v (k + 1) (n + asks k u w (Ok tt) + 1) w × (last ≡ asks_on (n + asks k u w (Ok tt) + 1) before)
+      pub goes_on : (last : ℕ) → last ≡ next_ask after → DidItems fits asks from v (k + 1) (n + asks k u w (Ok tt) + 1) w × (last ≡ asks_on (n + asks k u w (Ok tt) + 1) before)
       goes_on last one = (more k n u w did fit, asked_then last one)
 
     -- the next item was refused or paused
@@ -85,7 +85,7 @@ module _ (fits : Fitting) (asks : Asking) (count from : ℕ) (v : PortValue) (be
         })
 
   -- a list that has no item left as the turn begins
-  pub works_none : (to n gate : ℕ) (u : PortValue) → Did fits asks from v to n u → gate ≡ asks_on n before → to ≡ count → (from < to → to < count) → WorksOn fits asks count v u from to before gate (Ok tt)
+  pub works_none : (to n gate : ℕ) (u : PortValue) → DidItems fits asks from v to n u → gate ≡ asks_on n before → to ≡ count → (from < to → to < count) → WorksOn fits asks count v u from to before gate (Ok tt)
   works_none to n gate u did is all less =
       let on = did_on to n u did in
       record { last = u; number = n; asked = n; did = did; most = omega (arith, all); ends = (all, refl, inl (same_then on all less, refl)); gate = is }
@@ -99,7 +99,7 @@ module _ (fits : Fitting) (asks : Asking) (count from : ℕ) (v : PortValue) (be
 
 -- ---- how often a list that is done asked the gate, where its items ask nothing: once less than it did items in this turn
 module _ (fits : Fitting) (asks : Asking) (count from : ℕ) (v : PortValue) (quiet : (k : ℕ) (u w : PortValue) (a : Result (Unit {0}) Stop) → asks k u w a ≡ 0) where
-  did_count : (to n : ℕ) (u : PortValue) → Did fits asks from v to n u → n + from ≡ to
+  did_count : (to n : ℕ) (u : PortValue) → DidItems fits asks from v to n u → n + from ≡ to
   did_count _ _ _ none = omega arith
   did_count _ _ _ (more k n u w d f) = let before = did_count k n u d in let no_asks = quiet k u w (Ok tt) in omega (arith, before, no_asks)
 

@@ -33,9 +33,9 @@ is_due_by _ = false
 -- ---- items
 -- From v to w the items with numbers from `from` to below `to` were done, one after the other. Where the gate was asked
 -- after each of them, it was asked so often: once each, and what each item asked itself.
-pub data Did (fits : Fitting) (asks : Asking) (from : ℕ) (v : PortValue) : ℕ → ℕ → PortValue → Type 0 where
-  none : Did fits asks from v from 0 v
-  more : (k n : ℕ) (u w : PortValue) → Did fits asks from v k n u → fits k u w (Ok tt) → Did fits asks from v (k + 1) (n + asks k u w (Ok tt) + 1) w
+pub data DidItems (fits : Fitting) (asks : Asking) (from : ℕ) (v : PortValue) : ℕ → ℕ → PortValue → Type 0 where
+  none : DidItems fits asks from v from 0 v
+  more : (k n : ℕ) (u w : PortValue) → DidItems fits asks from v k n u → fits k u w (Ok tt) → DidItems fits asks from v (k + 1) (n + asks k u w (Ok tt) + 1) w
 
 -- how the list ends behind `to` items, and how often the gate was asked
 -- Ok: none is left, and it was not asked after the last. Due: the gate said yes after one of this turn. Else the next item was refused or paused.
@@ -50,7 +50,7 @@ pub record WorksOn (fits : Fitting) (asks : Asking) (count : ℕ) (v w : PortVal
   pub last : PortValue
   pub number : ℕ
   pub asked : ℕ
-  pub did : Did fits asks from v to number last
+  pub did : DidItems fits asks from v to number last
   pub most : to ≤ count
   pub ends : Ends fits asks count from to number asked last w answer
   pub gate : after ≡ asks_on asked before

@@ -39,7 +39,7 @@ use Rattle.xp_board.specs.Steps.{some_step, some_before, last_since, is_at, left
 use Rattle.xp_board.specs.Told.{PortValue, stepped, own_run, run_or}
 
 -- ---- it is known live
-same_type : (t : PageType) → is_type t t ≡ true
+pub same_type : (t : PageType) → is_type t t ≡ true
 same_type kinds.None = refl
 same_type kinds.L1 = refl
 same_type kinds.L2 = refl

@@ -1,10 +1,8 @@
 -- A turn as steps of its port, and what pauses it where no other vCPU holds anything.
-use Rattle.std.proofs.Common.{◌≡◌, ℕ, ◌<◌, nat_lt, Bool, true, false, List, length, Option, Some, None, Result, Ok, Err, refl, sym, ap, ◌∙◌, subst, inl, inr, arith}
+use Rattle.std.proofs.Common.{◌≡◌, ℕ, ◌<◌, List, length, Option, Some, None, Result, Ok, Err, refl, sym, subst, inl, inr, arith}
 use Rattle.std.specs.Prelude.{slice_get}
 use Rattle.std.proofs.lemmas.Bool.{cases_eq}
 use Rattle.xp_words.specs.Machine.{Machine}
-use Rattle.xp_words.specs.Places.{asked_of, flushed_of, run_of}
-use Rattle.xp_words.specs.declared.place.Place.TheVariants.{Clock}
 use Rattle.xp_words.specs.declared.ops.Op.{Op}
 use Rattle.xp_words.specs.declared.ops.Pair.{Pair}
 use Rattle.xp_words.specs.declared.reply.Pause.{Pause}
@@ -19,37 +17,21 @@ use Rattle.answer_fits.specs.Answers.{Stops}
 use Rattle.answer_fits.specs.Asked.{Request}
 use Rattle.answer_fits.proofs.Piecing.{serves_came}
 use Rattle.answer_laws.specs.Alone.{IsAlone, IsDueOrFlush}
-use Rattle.flush_words.specs.Flushing.{FlushesOwn, spent, ticked, overtaken}
-use Rattle.mmu_update.specs.Elements.{element_of, request_of, deeds_of}
+use Rattle.mmu_update.specs.Elements.{element_of, request_of, element_deeds}
 use Rattle.mmu_update.specs.declared.element.Element.{Element}
 use Rattle.mmu_update.specs.declared.element.Element.TheVariants.{SetM2p, Write, Misaligned, Unknown}
 use Rattle.vcpu_turn.specs.declared.cpu.TurnEnd.{TurnEnd}
 use Rattle.vcpu_turn.specs.declared.cpu.TurnEnd.TheVariants as ends
 use Rattle.vcpu_turn.specs.Cpus.{Processing, pairs_of, end_of}
-use Rattle.vcpu_turn.specs.Lists.{Did, Ends, none, more}
+use Rattle.vcpu_turn.specs.Lists.{DidItems, Ends, none, more}
 use Rattle.vcpu_turn.specs.Working.{FitsPair, PairFits, no_asks, Works}
-use Rattle.vcpu_turn.specs.Turning.{Heeds, Begins, Does, EndsTurn, IsStop, IsTurn}
+use Rattle.vcpu_turn.specs.Turning.{Does, EndsTurn, IsStop, IsTurn}
+use Rattle.vcpu_turn.proofs.Turns.{begins_came}
 use Rattle.xp_machine.specs.Turns.{IsUnhindered}
 
 -- ---- steps
 same_came : (v w : PortValue) → w ≡ v → Came v w
 same_came v w same = subst (Came v) (sym same) (came_self v)
-
-flush_came : (v w : PortValue) (answer : Result (Unit {0}) Refusal) → FlushesOwn v w answer → Came v w
-flush_came v w _ (spent a) = moves_came v w _ _ _ _ _ a
-flush_came v w _ (ticked a b clock before off x y z) = came_trans v a w (moves_came v a _ _ _ _ _ x) (came_trans a b w (moves_came a b _ _ _ _ _ y) (moves_came b w _ _ _ _ _ z))
-flush_came v w _ (overtaken a b clock found before off other x y z) =
-    came_trans v a w (moves_came v a _ _ _ _ _ x) (came_trans a b w (moves_came a b _ _ _ _ _ y) (moves_came b w _ _ _ _ _ z))
-
-heeds_came : (clear : Bool) (v w : PortValue) → Heeds clear v w → Came v w
-heeds_came true v w h = same_came v w h
-heeds_came false v w h = flush_came v w h.0 h.1
-
-begins_came : (v w : PortValue) → Begins v w → Came v w
-begins_came v w b =
-    came_trans v b.a w (moves_came v b.a _ _ _ _ _ b.marked)
-    (came_trans b.a b.b w (moves_came b.a b.b _ _ _ _ _ b.looked)
-    (came_trans b.b b.d w (heeds_came (nat_lt b.asked b.flushed) b.b b.d b.heeds) (moves_came b.d w _ _ _ _ _ b.running)))
 
 pub stop_came : (v w : PortValue) → IsStop v w → Came v w
 stop_came v w s = moves_came v w _ _ _ _ _ s.1
@@ -61,9 +43,9 @@ ends_came ends.Retired v w e = stop_came v w e
 
 fits_came : (d : ℕ) (o : Option Pair) (v w : PortValue) (answer : Result (Unit {0}) Stop) → FitsPair d o v w answer → Came v w
 fits_came d None v w answer f = absurd f
-fits_came d (Some p) v w answer f = serves_came v w (request_of d (element_of p)) (deeds_of v.post.machine (element_of p) answer) f.serves
+fits_came d (Some p) v w answer f = serves_came v w (request_of d (element_of p)) (element_deeds v.post.machine (element_of p) answer) f.serves
 
-did_came : (d : ℕ) (pairs : List Pair) (from : ℕ) (v : PortValue) (k n : ℕ) (w : PortValue) → Did (PairFits d pairs) no_asks from v k n w → Came v w
+did_came : (d : ℕ) (pairs : List Pair) (from : ℕ) (v : PortValue) (k n : ℕ) (w : PortValue) → DidItems (PairFits d pairs) no_asks from v k n w → Came v w
 did_came d pairs from v _ _ _ none = came_self v
 did_came d pairs from v _ _ _ (more k n u w a f) = came_trans v u w (did_came d pairs from v k n u a) (fits_came d (slice_get pairs k) u w (Ok tt) f)
 

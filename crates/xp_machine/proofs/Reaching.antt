@@ -25,7 +25,7 @@ use Rattle.vcpu_turn.specs.Cpus.{Processing, fresh}
 use Rattle.vcpu_turn.specs.Turning.{IsOf}
 use Rattle.xp_machine.specs.Cpus.{AreShort, IsShort, order, first_cpu, first_cpus}
 use Rattle.xp_machine.specs.Gates.{Gate}
-use Rattle.xp_machine.specs.Ran.{Ran, Closes, first_gates, report_at}
+use Rattle.xp_machine.specs.Ran.{RanTrace, Closes, first_gates, report_at}
 use Rattle.xp_machine.specs.Ready.{Ready, TakesFresh}
 use Rattle.xp_machine.specs.Turns.{Stage, WorksOff, stage}
 use Rattle.xp_machine.proofs.Moving.{empty_at}
@@ -107,7 +107,7 @@ RestsSound =
 -- the report of a board that was closed, and the run that led to it
 pub ran : RunsSafe → RestsSound → (t : Trace) (b b2 : Board) (opened : List ℕ) (cpus cpus2 : List Processing) (all : List Gate) (gates gates2 : List (Option Gate)) (vs text : List ℕ) → SoundWords t.layout opened → IsOpening t opened →
     b.machine ≡ t.layout → b.story ≡ opened_story t.layout opened → b2.machine ≡ b.machine → b2.story.opening ≡ b.story.opening → Ready b2 cpus2 → cpus ≡ first_cpus t.layout t.scripts → gates ≡ first_gates t.layout all →
-    vs ≡ order t.turns → WorksOff b.machine vs (stage b.story cpus gates) (stage b2.story cpus2 gates2) → Closes b2.machine b2.story.opening (stage b2.story cpus2 gates2) text → Ran t all text
+    vs ≡ order t.turns → WorksOff b.machine vs (stage b.story cpus gates) (stage b2.story cpus2 gates2) → Closes b2.machine b2.story.opening (stage b2.story cpus2 gates2) text → RanTrace t all text
 ran guards rests t b b2 opened cpus cpus2 all gates gates2 vs text words opening machine story kept opens ready first own those works closes =
     let z = t.layout in
     let closed : Stage = stage b2.story cpus2 gates2 in

@@ -9,7 +9,7 @@ use Rattle.xp_machine.specs.declared.status.Status.{Status}
 use Rattle.xp_machine.specs.declared.status.Status.TheVariants as status
 use Rattle.xp_machine.specs.Texts.{fault_text, fault_status}
 use Rattle.xp_machine.specs.Gates.{Gate, SetBy}
-use Rattle.xp_machine.specs.Ran.{Ran}
+use Rattle.xp_machine.specs.Ran.{RanTrace}
 
 -- these bytes were taken: all that were left, or one more than a trace may have, and no further one
 pub record Took (old new : Option (List ℕ)) (bytes : List ℕ) : Type 0 where
@@ -18,7 +18,7 @@ pub record Took (old new : Option (List ℕ)) (bytes : List ℕ) : Type 0 where
 
 -- the status and the text that are due for what the bytes spell: a trace, which is run with these gates, or a fault
 abbrev pub IsAnswer : List Gate → Result Trace Fault → Status → List ℕ → Type 0
-IsAnswer gates (Ok t) answer text = (answer ≡ status.Done) × Ran t gates text
+IsAnswer gates (Ok t) answer text = (answer ≡ status.Done) × RanTrace t gates text
 IsAnswer gates (Err e) answer text = (answer ≡ fault_status e.cause) × (text ≡ fault_text e.line e.cause)
 
 -- the status and the text that are due for the bytes that were taken

@@ -29,7 +29,7 @@ report_at n s = report_of n s.board.words (map log_of s.cpus) (map pending_of s.
 
 -- The text is the report of words that legal steps lead to. From the opening words, with empty hands, the vCPUs make the
 -- turns that the trace asks for, in its order, each with the own gate; then each stops that is not retired.
-pub record Ran (t : Trace) (gates : List Gate) (text : List ℕ) : Type 0 where
+pub record RanTrace (t : Trace) (gates : List Gate) (text : List ℕ) : Type 0 where
   pub opened : List ℕ
   pub opening : IsOpening t opened
   pub closed : Stage

@@ -3,7 +3,7 @@ ghost use Rattle.xp_words.specs.Places.{sizes_of};
 ghost use Rattle.trace_text.specs.WellFormed.{IsWellFormed};
 ghost use Rattle.xp_machine.specs.Cpus.{AreShort, first_cpus};
 ghost use Rattle.xp_machine.specs.Gates.{gate_of};
-ghost use Rattle.xp_machine.specs.Ran.{Closes, Ran, first_gates};
+ghost use Rattle.xp_machine.specs.Ran.{Closes, RanTrace, first_gates};
 ghost use Rattle.xp_machine.specs.Rows.{cpus_of, gates_of, stage_of};
 
 use crate::runner::Runner;
@@ -68,7 +68,7 @@ pub fn execute(
 ) -> Result<Vec<u8>, AllocError>
     requires well { IsWellFormed trace }
     requires gates { 16 ≤ vec_len gates }
-    ensures { IfOk result (λ v. Ran trace (map (gate_of calm paces count_asks says) gates.items) v.items) }
+    ensures { IfOk result (λ v. RanTrace trace (map (gate_of calm paces count_asks says) gates.items) v.items) }
 {
     // What the steps keep is law: these calls do nothing.
     opening_words_are_sound();

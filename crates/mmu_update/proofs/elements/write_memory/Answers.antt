@@ -5,7 +5,7 @@ use Rattle.xp_words.specs.declared.reply.Stop.{Stop}
 use Rattle.answer_fits.specs.Answers.{Serves, Stops, missed}
 use Rattle.answer_fits.specs.Asked.{of_frame}
 use Rattle.answer_fits.proofs.Piecing.{serves_came}
-use Rattle.mmu_update.specs.Elements.{deeds_of}
+use Rattle.mmu_update.specs.Elements.{element_deeds}
 use Rattle.mmu_update.specs.Plain.{TwinWrite}
 use Rattle.mmu_update.specs.declared.element.Element.TheVariants.{Write}
 use Rattle.mmu_update.proofs.Hands.{given_back, given_up, may_drop, may_write, no_type, no_work}
@@ -18,7 +18,7 @@ returns-in_err-frame-clause-serves g c =
     let v = g.P.Port.value c.args.port.now in
     let u = g.P.Port.value c.get_ref.new.port in
     let answer = err_from_is_err_and c.from_residual.result c.from_residual.ensures.1 in
-    subst (λ (r : Result (Unit {0}) Stop). Serves v u (of_frame c.args.f c.args.domain (Some Writable)) (deeds_of v.post.machine (Write c.args.f c.args.index c.args.word) r)) (sym (answer.1 ∙ ap Err answer.2))
+    subst (λ (r : Result (Unit {0}) Stop). Serves v u (of_frame c.args.f c.args.domain (Some Writable)) (element_deeds v.post.machine (Write c.args.f c.args.index c.args.word) r)) (sym (answer.1 ∙ ap Err answer.2))
     (referred v u c.args.f c.args.domain (missed v.post.machine c.in_err-frame.field-0.0) c.in_err-frame.ensures.serves)
 
 pub returns-in_err-frame-clause-stops : goal.returns-in_err-frame-clause-stops
@@ -47,7 +47,7 @@ returns-in_err-take_writable-clause-serves g c =
     let u = g.P.Port.value c.get_ref.new.port in
     let x = g.P.Port.value c.take_writable.new.port in
     let answer = err_from_is_err_and c.from_residual-in_err-take_writable.result c.from_residual-in_err-take_writable.ensures.1 in
-    subst (λ (r : Result (Unit {0}) Stop). Serves v x (of_frame c.args.f c.args.domain (Some Writable)) (deeds_of v.post.machine (Write c.args.f c.args.index c.args.word) r)) (sym (answer.1 ∙ ap Err answer.2))
+    subst (λ (r : Result (Unit {0}) Stop). Serves v x (of_frame c.args.f c.args.domain (Some Writable)) (element_deeds v.post.machine (Write c.args.f c.args.index c.args.word) r)) (sym (answer.1 ∙ ap Err answer.2))
     (not_taken v u c.args.f c.args.domain c.in_ok-frame.frame c.in_ok-frame.ensures.frame.0 c.in_ok-frame.ensures.serves x c.in_err-take_writable.field-0.0 c.in_err-take_writable.ensures.serves)
 
 pub returns-in_err-take_writable-clause-stops : goal.returns-in_err-take_writable-clause-stops

@@ -1,12 +1,12 @@
 use Rattle.std.proofs.Common.{◌≡◌, ◌<◌, ◌≤◌, ◌-◌, ℕ, true, false}
 use Rattle.step_maker.specs.Holds.{Rests}
-use Rattle.vcpu_turn.specs.Lists.{Did, Heard, asks_on}
+use Rattle.vcpu_turn.specs.Lists.{DidItems, Heard, asks_on}
 use Rattle.vcpu_turn.proofs.lists.go_on.Given as goal
 
 abbrev pub invariant-loop-done : goal.invariant-loop-done
 invariant-loop-done g l = record {
   asked : ℕ;
-  did : Did (g.L.Items.fits l.items) (g.L.Items.asks l.items) l.fn.done (g.P.Port.value l.fn.port) l.done asked (g.P.Port.value l.port);
+  did : DidItems (g.L.Items.fits l.items) (g.L.Items.asks l.items) l.fn.done (g.P.Port.value l.fn.port) l.done asked (g.P.Port.value l.port);
   asks : (goal.Preempt-dyn g l.gate.now).count_asks l.gate.now.1 ≡ asks_on asked ((goal.Preempt-dyn g l.fn.gate.now).count_asks l.fn.gate.now.1);
   most : l.done ≤ g.L.Items.count l.items;
   less : l.fn.done < l.done → l.done < g.L.Items.count l.items;

@@ -2,7 +2,7 @@ use Rattle.std.proofs.Common.{◌<◌, ◌∙◌, ap, sym, subst, length, map, A
 use Rattle.std.proofs.lemmas.List.{length-map}
 use Rattle.trace_text.specs.declared.trace.TurnRun.{TurnRun}
 use Rattle.xp_machine.specs.Cpus.{order}
-use Rattle.xp_machine.specs.Ran.{Closes, Ran}
+use Rattle.xp_machine.specs.Ran.{Closes, RanTrace}
 use Rattle.xp_machine.specs.Gates.{gate_of}
 use Rattle.xp_machine.specs.Rows.{stage_of}
 use Rattle.xp_machine.proofs.Reaching.{if_ok, ran, ready_board}
@@ -24,7 +24,7 @@ returns g c =
     let closed = stage_of (gate_of (λ x. (goal.Preempt-dyn g (x.vtable, x.value)).calm x.value) (λ x. (goal.Preempt-dyn g (x.vtable, x.value)).paces x.value) (λ x. (goal.Preempt-dyn g (x.vtable, x.value)).count_asks x.value) (λ x. (goal.Preempt-dyn g (x.vtable, x.value)).says x.value)) c.run_all-board.result.0 c.run_all-board.result.1.items in
     let b2 = c.run_all-board.result.0 in
     let sound = c.opening_words_are_sound.ensures c.args.trace c.in_ok-words.words.items c.requires.well c.in_ok-words.ensures in
-    if_ok c.closing.result (λ v. Closes b2.machine b2.story.opening closed v.items) (λ v. Ran c.args.trace _ v.items)
+    if_ok c.closing.result (λ v. Closes b2.machine b2.story.opening closed v.items) (λ v. RanTrace c.args.trace _ v.items)
     (λ v closes. ran c.a_run_leaves_it_safe.ensures c.rested_words_are_sound.ensures c.args.trace c.in_ok-board.board b2 c.in_ok-words.words.items _ closed.cpus _ _ closed.gates (order c.as_slice.result.now) v.items
     sound c.in_ok-words.ensures c.in_ok-board.ensures.0 c.in_ok-board.ensures.1 c.run_all-board.ensures.machine c.run_all-board.ensures.opening c.run_all-board.ensures.ready c.in_ok-runners.ensures.0
     c.in_ok-runners.ensures.1 (ap order c.as_slice.ensures) c.run_all-board.ensures.works closes)
