@@ -14,7 +14,7 @@ use Rattle.board_lemmas.proofs.MoreSteps.{last_since-cases, last_since-here, las
 use Rattle.step_maker.specs.Moves.{Moment, Ran, Came, step_at}
 use Rattle.step_maker.proofs.Coming.{ran_post}
 use Rattle.step_maker.proofs.Noting.{made_now, moves_steps}
-use Rattle.step_maker.proofs.Telling.{moves_telling, ran_telling, told_there, told_here, told_elsewhere}
+use Rattle.step_maker.proofs.Telling.{ran_telling, told_there, told_here, told_elsewhere}
 use Rattle.answer_fits.specs.Answers.{Stops}
 use Rattle.answer_fits.specs.Asked.{Request}
 

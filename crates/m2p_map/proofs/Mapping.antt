@@ -18,7 +18,6 @@ use Rattle.xp_words.specs.declared.place.Place.{Place}
 use Rattle.xp_words.specs.declared.reply.Stop.{Stop}
 use Rattle.xp_words.specs.declared.reply.Stop.TheVariants.{Refused, Paused}
 use Rattle.xp_board.specs.Told.{is_telling, told_word}
-use Rattle.step_maker.specs.Moves.{Came, Moment, Ran}
 use Rattle.answer_fits.specs.Asked.{Request}
 use Rattle.answer_fits.proofs.Piecing.{serves_came}
 use Rattle.step_maker.specs.Plain.{Words, change, Leaves}
