@@ -72,7 +72,7 @@ own_step n s h k x w is now was none =
     let u = unlooked (sizes_of n) (run_of s) (record { step = x; found = w }) h.steps (ap (λ l. last_since (sizes_of n) 0 (run_of s) l) (sym steps) ∙ sym now ∙ none) in
     (was ∙ u.1, apart (sizes_of n) (run_of s) (record { step = x; found = w }) u.0)
 
-one_more : (n : Machine) (s t : ℕ) (x : Step) (c b : runs.State) → SoundState n c.words c.hands → SoundState n b.words b.hands → s < (sizes_of n).vcpus → runs.Moves n c t x b → (hand_of b.hands s).run ≡ None →
+one_more : (n : Machine) (s t : ℕ) (x : Step) (c b : runs.State) → SoundState n c.words c.hands → SoundState n b.words b.hands → s < (sizes_of n).vcpus → runs.StepsTo n c t x b → (hand_of b.hands s).run ≡ None →
     ((hand_of c.hands s).run ≡ None) × (memory (sizes_of n) b.words (run_of s) ≡ memory (sizes_of n) c.words (run_of s))
 one_more n s t x c b sound_c sound_b real move none =
     elim (cases_eq s t) [

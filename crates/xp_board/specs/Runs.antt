@@ -46,7 +46,7 @@ next n a s x =
 
 -- ---- runs
 -- vCPU s may make the step in state a, which then is b
-pub record Moves (n : Machine) (a : State) (s : ℕ) (x : Step) (b : State) : Type 0 where
+pub record StepsTo (n : Machine) (a : State) (s : ℕ) (x : Step) (b : State) : Type 0 where
   pub vcpu : s < (sizes_of n).vcpus
   pub legal : Legal n s (hand_of a.hands s) x
   pub next_is : b ≡ next n a s x
@@ -54,7 +54,7 @@ pub record Moves (n : Machine) (a : State) (s : ℕ) (x : Step) (b : State) : Ty
 -- from state a the steps, each with its vCPU and the newest first, lead to b; each is legal by its vCPU's holdings at that moment
 abbrev pub Run : Machine → State → List (ℕ × Step) → State → Type 0
 Run n a [] b = b ≡ a
-Run n a (e ∷ es) b = (c : State) × Run n a es c × Moves n c e.0 e.1 b
+Run n a (e ∷ es) b = (c : State) × Run n a es c × StepsTo n c e.0 e.1 b
 
 -- the vCPUs' own lists of steps, with the words that they found, are one run from the opening words to state b
 pub record IsOneRun (n : Machine) (opening : List ℕ) (lists : ℕ → List Made) (b : State) : Type 0 where

@@ -24,7 +24,7 @@ record One (n : Machine) (s : ℕ) (a : Story) (w : PortValue) (x : Made) : Type
   b : Story
   told : w.told ≡ Some b
   holdings : w.holdings ≡ hand_of b.hands s
-  moves : runs.Moves n (state_of a) s x.step (state_of b)
+  moves : runs.StepsTo n (state_of a) s x.step (state_of b)
   found : x.found ≡ word_at n (state_of a) (place_of n x.step)
   opening : b.opening ≡ a.opening
   log : b.log ≡ (s, x.step) ∷ a.log

@@ -14,7 +14,7 @@ use Rattle.shared_board.specs.Board.{state_of}
 abbrev pub Piece : Machine → ℕ → runs.State → List Made → runs.State → Type 0
 Piece n v a [] b = b ≡ a
 Piece n v a (x ∷ xs) b =
-    (c : runs.State) × Piece n v a xs c × runs.Moves n c v x.step b × (x.found ≡ runs.word_at n c (runs.place_of n x.step))
+    (c : runs.State) × Piece n v a xs c × runs.StepsTo n c v x.step b × (x.found ≡ runs.word_at n c (runs.place_of n x.step))
 
 -- the steps as a part of a run
 abbrev pub log_by : ℕ → List Made → List (ℕ × Step)
