@@ -13,7 +13,6 @@ use Rattle.xp_board.specs.declared.step.StepKind.{StepKind}
 use Rattle.xp_board.specs.declared.holdings.Holdings.{Holdings}
 use Rattle.xp_board.specs.Acts.{left_by}
 use Rattle.xp_board.specs.After.{noted, after_move}
-use Rattle.xp_board.specs.Legal.{Legal, LegalMove}
 use Rattle.xp_board.specs.Runs.{place_of}
 use Rattle.xp_board.specs.Steps.{is_same}
 use Rattle.xp_board.specs.Told.{PortValue, Story, IsTold, Went, tells, is_telling, word_in, told_word}

@@ -1,5 +1,5 @@
 -- Steps at words by name, as steps of the list of all steps.
-use Rattle.std.proofs.Common.{List, [], ◌∷◌, subst, sym}
+use Rattle.std.proofs.Common.{List, [], ◌∷◌}
 use Rattle.xp_board.specs.Told.{PortValue, Went, Goes}
 use Rattle.xp_board.specs.declared.holdings.Made.{Made}
 use Rattle.xp_board.proofs.Going.{went_more}
