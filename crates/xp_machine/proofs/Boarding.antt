@@ -4,7 +4,6 @@ use Rattle.std.specs.Prelude.{slice_get}
 use Rattle.std.specs.Option.{option_map}
 use Rattle.std.proofs.lemmas.List.{set-get_or, map-set, length-map}
 use Rattle.std.proofs.lemmas.Option.{slice_get-get_or, slice_get-map, get_or_from_slice_get}
-use Rattle.xp_words.specs.Machine.{Machine}
 use Rattle.xp_words.specs.Places.{sizes_of}
 use Rattle.xp_words.specs.declared.ops.Op.{Op}
 use Rattle.xp_board.specs.Told.{Post, PortValue, Story}
@@ -15,12 +14,12 @@ use Rattle.shared_board.specs.Board.{Board, port_value}
 use Rattle.vcpu_turn.specs.Cpus.{Processing, after_turn}
 use Rattle.vcpu_turn.specs.declared.cpu.TurnEnd.{TurnEnd}
 use Rattle.vcpu_turn.specs.declared.cpu.TurnEnd.TheVariants as ends
-use Rattle.vcpu_turn.specs.Turning.{Does, IsOf, IsTurn, StopsBy}
+use Rattle.vcpu_turn.specs.Turning.{Does, IsOf, StopsBy}
 use Rattle.xp_machine.specs.Cpus.{IsShort}
 use Rattle.xp_machine.specs.Gates.{Gate, gate_in}
 use Rattle.xp_machine.specs.Ready.{Ready}
 use Rattle.xp_machine.specs.Runners.{TakesTurnBy}
-use Rattle.xp_machine.specs.Turns.{Stage, stage, IsPortOf, MakesStagedTurn, MakesStagedStop, UnlessRetired, ByCpu, IsStagedTurn, IsStagedStop}
+use Rattle.xp_machine.specs.Turns.{Stage, stage, IsPortOf, MakesStagedTurn, MakesStagedStop, UnlessRetired, ByCpu}
 use Rattle.xp_machine.proofs.Hindering.{AloneStays, NeitherLostNorBusy, NobodyWaitedFor, turn_came, stop_came, turn_unhindered}
 use Rattle.xp_machine.proofs.Moving.{Stepping, moved_none, stepping, same_story, ready_after, short_at, alone_at, sound_alone}
 
@@ -183,7 +182,7 @@ module _ {A : Type 0} (cpu : A → Processing) (gate : A → Option Gate) (b b1 
   -- what vCPU s did, and the lists of all after it
   as_done : (Does : Processing → Stage → Stage → Type 0) →
       Done (UnlessRetired Does (cpu (slice_index_or runners s d)) (cpu (slice_index_or runners s d)).retired) b b2 (map cpu runners) (slice_set (map cpu runners) s (cpu y)) (map gate runners)
-          (slice_set (map gate runners) s (gate y)) →
+      (slice_set (map gate runners) s (gate y)) →
       Done (λ x x'. ByCpu Does (slice_get (map cpu runners) s) x x') b b2 (map cpu runners) (map cpu (slice_set runners s y)) (map gate runners) (map gate (slice_set runners s y))
   as_done Does done =
       let c = cpu (slice_index_or runners s d) in
@@ -205,7 +204,7 @@ module _ {A : Type 0} (cpu : A → Processing) (gate : A → Option Gate) (b b1 
       let c = cpu (slice_index_or runners s d) in
       let has = gate (slice_index_or runners s d) in
       let by = subst (λ v. TakesTurnBy c.retired has (gate y) c (cpu y) v (port_value b2 s l1)) before_is
-          (subst (λ w. TakesTurnBy c.retired has (gate y) c (cpu y) (port_value b1 s1 l1) w) after_is t) in
+      (subst (λ w. TakesTurnBy c.retired has (gate y) c (cpu y) (port_value b1 s1 l1) w) after_is t) in
       as_done (MakesStagedTurn b.machine s)
       (turn_by stays neither nobody b b2 s l1 (map cpu runners) (map gate runners) c (cpu y) has (gate y) c.retired (real cpu b b1 s s1 l1 runners d same runner within ready) ready same_machine
       (at_place cpu runners s d within) (at_place gate runners s d within) by is_of_now)

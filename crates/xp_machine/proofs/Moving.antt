@@ -17,7 +17,7 @@ use Rattle.xp_board.specs.Told.{PortValue, Story, Goes, run_or}
 use Rattle.answer_laws.specs.Alone.{IsAlone}
 use Rattle.shared_board.specs.Board.{Board, port_value}
 use Rattle.vcpu_turn.specs.Cpus.{Processing}
-use Rattle.vcpu_turn.specs.Turning.{Idles, IsOf, Runs}
+use Rattle.vcpu_turn.specs.Turning.{IsOf, Runs}
 use Rattle.xp_machine.specs.Cpus.{AreShort, IsShort}
 use Rattle.xp_machine.specs.Pieces.{Leads}
 use Rattle.xp_machine.specs.Ready.{Ready}
@@ -65,7 +65,7 @@ same_story b b2 s lender same = ap (λ (x : PortValue). story_in b.story x.told)
 
 -- ---- each port is still that of its vCPU
 of_lender : (b : Board) (s lender other : ℕ) (c : Processing) → IsOf (port_value b s lender) c → IsOf (port_value b s other) c
-of_lender b s lender other c o = 
+of_lender b s lender other c o =
     record { vcpu = o.vcpu; domain = o.domain; idles = record { empty = o.idles.empty; no_walk = o.idles.no_walk; machine = o.idles.machine }; runs = o.runs }
 
 still_runs : (b b2 : Board) (t lender : ℕ) → b2.machine ≡ b.machine → b2.story.opening ≡ b.story.opening → hand_of b2.story.hands t ≡ hand_of b.story.hands t → Runs (port_value b t lender) →

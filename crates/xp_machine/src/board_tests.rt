@@ -250,8 +250,7 @@ fn references_are_refused_with_what_was_found(rt: HostRuntime) -> Result<(), Fai
     let mut port = at_work(&rt, &mut board);
     assert!(rt; take(&mut port, 3, true) == Err(Stop::Refused(Refusal::NoFrame { frame: 3 })));
     assert!(rt;
-        take(&mut port, 2, true)
-            == Err(Stop::Refused(Refusal::WrongOwner { frame: 2, found: 0 }))
+        take(&mut port, 2, true) == Err(Stop::Refused(Refusal::WrongOwner { frame: 2, found: 0 }))
     );
     assert!(rt; take(&mut port, 0, false) == Ok(0));
     assert!(rt; take(&mut port, 0, true) == Ok(0));

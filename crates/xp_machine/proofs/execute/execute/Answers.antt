@@ -1,4 +1,4 @@
-use Rattle.std.proofs.Common.{◌<◌, ◌∙◌, ap, sym, subst, length, map, All}
+use Rattle.std.proofs.Common.{◌<◌, ◌∙◌, ap, sym, subst, length, All}
 use Rattle.std.proofs.lemmas.List.{length-map}
 use Rattle.trace_text.specs.declared.trace.TurnRun.{TurnRun}
 use Rattle.xp_machine.specs.Cpus.{order}

@@ -4,9 +4,12 @@ use Rattle.xp_machine.proofs.top.run.Goals as goal
 
 pub returns-in-Ok-write_whole-clause-outcome : goal.returns-in-Ok-write_whole-clause-outcome
 returns-in-Ok-write_whole-clause-outcome g c =
-    let set = set_by _ _ _ _ (sym c.pace_of.ensures ∙ c.in-Some.is) c.paced.ensures.paced in
-    (_, set, (due_has_text _ _ _ _ _ c.in-Ok.ensures.due).wrote _ _ _ _ _
-    (c.in-Ok.due.text.items, c.in-Ok.ensures.due, rw (← c.deref.ensures.value) c.in-Ok-write_whole.ensures.whole))
+    let set = set_by _ _ _ _ (sym c.pace_of.ensures ∙ c.in-Some.is) c.paced.ensures.paced in (
+      _,
+      set,
+      (due_has_text _ _ _ _ _ c.in-Ok.ensures.due).wrote _ _ _ _ _
+          (c.in-Ok.due.text.items, c.in-Ok.ensures.due, rw (← c.deref.ensures.value) c.in-Ok-write_whole.ensures.whole),
+    )
 
 pub returns-in-Ok-write_whole-clause-words : goal.returns-in-Ok-write_whole-clause-words
 returns-in-Ok-write_whole-clause-words g c = (
