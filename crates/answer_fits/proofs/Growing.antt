@@ -168,22 +168,21 @@ module _ (n : Machine) (s : ℕ) (q : Request) (F : Finding) (t : Request) (G : 
   awaits (Busy f x) (inl a) = inl (a.0, a.1, a.2, w.asked f a.0 a.1 a.3, found_with _ x a.2 a.4, passed f a.0 a.2 a.5, a.6, wanted a.1 x a.7, a.8)
   awaits (Busy f x) (inr (d, a, (y, b, c, inl e))) = inr (d, w.destroys d a, (y, found _ y b, c, inl (found _ x e.0, e.1)))
   awaits (Busy f x) (inr (d, a, (y, b, c, inr e))) = inr (d, w.destroys d a, (y, found _ y b, c, inr e))
-  awaits (Flush v stamp x) a =
-      (
-        a.0,
-        record {
-          other = a.1.other;
-          real = a.1.real;
-          running = found _ 0 a.1.running;
-          flushed = found _ x a.1.flushed;
-          behind = a.1.behind;
-          asked = record { before = a.1.asked.before; did = did _ _ a.1.asked.before a.1.asked.did };
-          reach = reaching a.0 v a.1.reach;
-          least = λ u b. clear a.0 stamp u (a.1.least u b);
-          others = λ u b. cleared a.0 stamp u (a.1.others u b);
-        },
-        awaited a.0 stamp a.2,
-      )
+  awaits (Flush v stamp x) a = (
+    a.0,
+    record {
+      other = a.1.other;
+      real = a.1.real;
+      running = found _ 0 a.1.running;
+      flushed = found _ x a.1.flushed;
+      behind = a.1.behind;
+      asked = record { before = a.1.asked.before; did = did _ _ a.1.asked.before a.1.asked.did };
+      reach = reaching a.0 v a.1.reach;
+      least = λ u b. clear a.0 stamp u (a.1.least u b);
+      others = λ u b. cleared a.0 stamp u (a.1.others u b);
+    },
+    awaited a.0 stamp a.2,
+  )
   awaits (Alive v x) a = (w.destroys _ a.0, found _ x a.1, a.2)
 
   -- ---- refusals: what the vCPU has as the inner piece begins is no more than what it had as the outer one began

@@ -140,8 +140,7 @@ unfolding Serves EachOf moment_of
 serves_step v u w r ds p a kind mark found before m reason =
     let second : Came u w = moves_came u w p a kind mark found m in
     let n = v.post.machine in
-    let s = v.post.vcpu in
-    (
+    let s = v.post.vcpu in (
       moment_of u p a kind mark found ∷ before.0,
       record {
         ran = (u, before.1.ran, moves_by u w p a kind mark found m);
@@ -263,8 +262,7 @@ unfolding Serves Came
 serves_inner v u w r q ds es within a b =
     let n = v.post.machine in
     let s = v.post.vcpu in
-    let second : Came u w = (b.0, b.1.ran) in
-    (
+    let second : Came u w = (b.0, b.1.ran) in (
       b.0 ++ a.0,
       record {
         ran = ran_more v u w a.0 b.0 a.1.ran b.1.ran;

@@ -46,7 +46,6 @@ ran_longer v u (m ∷ ms) a =
     let more = ap (λ (xs : List Made). length xs) (moves_steps a.0 u m.place m.act m.kind m.mark m.found a.2.moves) in
     omega (arith, before, more)
 
-
 -- what the last step there left is what the board tells
 told_last : (v u : PortValue) (ms : List Moment) (p : Place) (e : ℕ) → Ran v ms u → is_telling v ≡ true → last_since (sizes_of v.post.machine) (length v.holdings.steps) p u.holdings.steps ≡ Some e →
     told_word u p ≡ e

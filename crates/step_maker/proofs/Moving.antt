@@ -31,7 +31,7 @@ module _ (v : PortValue) (p : Place) (a : Act) (kind : StepKind) (mark : Option 
       IsTold v.post.machine v.told (place_at (sizes_of v.post.machine) i) found → w ≡ stepped v (record { place = i; act = a; kind = kind; mark = mark }) found → Moves v w p a kind mark found
   moves_there w found finds own told to =
       let hand = ap (λ (x : Step). noted x found (after_move v.post.machine v.post.vcpu v.holdings (place_at (sizes_of v.post.machine) i) a kind mark found)) step_is
-          ∙ ap (λ q. noted (step_at v.post.machine p a kind mark) found (after_move v.post.machine v.post.vcpu v.holdings q a kind mark found)) at in
+      ∙ ap (λ q. noted (step_at v.post.machine p a kind mark) found (after_move v.post.machine v.post.vcpu v.holdings q a kind mark found)) at in
       record {
         may = may;
         finds = found_there found finds;

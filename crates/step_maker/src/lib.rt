@@ -13,7 +13,13 @@ use xp_board::{Act, Mark, Port, Step, StepKind};
 use xp_words::Place;
 
 /// Makes one step at that word, and answers what it found.
-pub fn make<P: Port>(port: &mut P, place: Place, act: Act, kind: StepKind, mark: Option<Mark>) -> u64
+pub fn make<P: Port>(
+    port: &mut P,
+    place: Place,
+    act: Act,
+    kind: StepKind,
+    mark: Option<Mark>,
+) -> u64
     requires { May (P.value port.old) place act kind mark }
     ensures { Moves (P.value port.old) (P.value port.new) place act kind mark result }
 {
