@@ -4,7 +4,7 @@ use crate::facts::is_left;
 use crate::said::{Said, read};
 use plain_checker::judge;
 use plain_moves::{Step, moved};
-use plain_sound::{PARTS, keeps};
+use plain_sound::{PARTS, is_lawful, keeps};
 use plain_words::State;
 use xp_board::{Act, Mark, StepKind};
 
@@ -54,11 +54,21 @@ fn parted(text: &str) -> (&str, &str) {
     text.split_once(' ').unwrap_or((text, ""))
 }
 
-/// A state keeps all parts, or those that are named fail and no others.
+/// The tree below that frame, as a table of that type of domain 0, is lawful, or it is not.
+fn amiss_of_tree<'a>(state: &State, verdict: &'a str) -> Option<&'a str> {
+    let Some(tree) = read(verdict) else {
+        return Some(UNREAD);
+    };
+    let lawful = is_lawful(state, 0, tree.numbers[0], tree.kind);
+    (lawful != (tree.name == "lawful")).then_some(verdict)
+}
+
+/// A state keeps all parts, or those that are named fail and no others; or it has such a tree.
 fn amiss_in<'a>(state: &State, verdict: &'a str) -> Option<&'a str> {
     match parted(verdict) {
         ("sound", "") => amiss_of_parts(state, ""),
         ("fails", parts) => amiss_of_parts(state, parts),
+        ("lawful" | "unlawful", _) => amiss_of_tree(state, verdict),
         _ => Some(UNREAD),
     }
 }

@@ -8,7 +8,9 @@ mod formed;
 mod found;
 mod frames;
 mod fresh;
+mod lawful;
 mod sound;
 mod valid;
 
+pub use lawful::is_lawful;
 pub use sound::{PARTS, Part, keeps};
