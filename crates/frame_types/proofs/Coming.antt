@@ -22,12 +22,12 @@ use Rattle.step_maker.specs.Holds.{FlushedHolds, Holds, MayWork, Same, quiet, st
 use Rattle.step_maker.specs.Moves.{Moves}
 use Rattle.frame_words.specs.Freeing.{gave}
 use Rattle.frame_words.specs.Refs.{MayPut}
-use Rattle.kind_words.specs.Kinds.{begun_work, counted_type, looked_at, resumed_work}
+use Rattle.kind_words.specs.Kinds.{begun_work, counted_type, looked_at, resumed_work, work_kind}
 use Rattle.kind_words.proofs.KindFacts.{dead_apart, partial_apart, type_is_below}
 use Rattle.kind_words.proofs.KindHands.{resumed_kept, resumed_unkept, resumed_fields, work_here, work_spares}
 use Rattle.kind_words.proofs.KindWriting.{begun_is, raised_is, resumed_is}
 use Rattle.flush_words.proofs.Lasting.{moves_longer}
-use Rattle.frame_types.specs.Taking.{Enters, Looked, LentBy, progress_of, stamp_by, typed_as, work_kind, working}
+use Rattle.frame_types.specs.Taking.{Enters, Looked, LentBy, progress_of, stamp_by, typed_as, working}
 use Rattle.frame_types.proofs.Classing.{IsCounted, IsParted, dead_unparted}
 use Rattle.frame_types.proofs.Entering.{lent_held, lent_owner}
 

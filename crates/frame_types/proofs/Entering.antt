@@ -25,7 +25,8 @@ use Rattle.kind_words.proofs.KindHands.{typed_held, work_here}
 use Rattle.kind_words.proofs.KindWriting.{fields_write}
 use Rattle.flush_words.proofs.Lasting.{came_longer}
 use Rattle.flush_waits.specs.Waiting.{IsMarked, IsFlushed}
-use Rattle.frame_types.specs.Taking.{LentBy, Enters, work_kind, working, working_typed}
+use Rattle.kind_words.specs.Kinds.{work_kind}
+use Rattle.frame_types.specs.Taking.{LentBy, Enters, working, working_typed}
 
 -- ---- the reference that is lent
 pub lent_owner : (f owner : ℕ) (h : Holdings) → LentBy f owner h → ref_owner f h ≡ owners.Of owner

@@ -27,7 +27,7 @@ use Rattle.answer_fits.specs.Asked.{of_frame}
 use Rattle.answer_fits.specs.Reasons.{keeps_type}
 use Rattle.answer_fits.proofs.Piecing.{serves_step}
 use Rattle.frame_words.proofs.Taking.{names_itself}
-use Rattle.kind_words.specs.Kinds.{IsWholeWork, MayLeave, left, live_kind, unmarked_kind}
+use Rattle.kind_words.specs.Kinds.{IsWholeWork, MayLeave, left, live_kind, unmarked_kind, work_kind}
 use Rattle.kind_words.proofs.KindFacts.{work_word}
 use Rattle.kind_words.proofs.KindHands.{plain_whole}
 use Rattle.kind_words.proofs.KindWriting.{fields_write, live_is}
@@ -35,7 +35,7 @@ use Rattle.kind_words.proofs.Leaving.{may_leave_live, left_live, may_leave_share
 use Rattle.flush_words.proofs.Lasting.{moves_longer}
 use Rattle.flush_waits.specs.Waiting.{IsFlushed}
 use Rattle.frame_types.specs.Plain.{is_read_first}
-use Rattle.frame_types.specs.Taking.{Enters, IsWorking, WorksFrom, typed_as, work_kind, working, working_typed}
+use Rattle.frame_types.specs.Taking.{Enters, IsWorking, WorksFrom, typed_as, working, working_typed}
 use Rattle.frame_types.proofs.Entering.{entered_works, entered_here, entered_fields, entered_past, own_typed, own_held, own_owner, shared_lent, shared_aside, lent_held, lent_owner}
 
 no_table : (t : PageType) → is_read_first t ≡ false → is_table t ≡ false

@@ -13,13 +13,13 @@ use Rattle.answer_fits.specs.Asked.{of_frame}
 use Rattle.answer_fits.specs.Reasons.{AwaitsStamp}
 use Rattle.answer_fits.specs.Twins.{Alike}
 use Rattle.answer_fits.proofs.Alikes.{alike_trans, alike_store}
-use Rattle.kind_words.specs.Kinds.{live_kind}
+use Rattle.kind_words.specs.Kinds.{live_kind, work_kind}
 use Rattle.flush_waits.specs.Waiting.{ServesBehind, StopsBehind}
 use Rattle.step_maker.proofs.Telling.{came_telling}
 use Rattle.frame_types.specs.declared.taking.Taken.{Taken}
 use Rattle.frame_types.specs.declared.taking.Taken.TheVariants.{Counted, InWork, Waiting}
 use Rattle.frame_types.specs.Plain.{GoesPlainly, TwinOn, set_kind}
-use Rattle.frame_types.specs.Taking.{Enters, IsDone, ShowsWait, WaitsWith, work_kind}
+use Rattle.frame_types.specs.Taking.{Enters, IsDone, ShowsWait, WaitsWith}
 use Rattle.frame_types.proofs.Entering.{entered_after, entered_fields}
 use Rattle.frame_types.proofs.Finishing.{entered_working}
 

@@ -25,14 +25,14 @@ use Rattle.step_maker.proofs.Telling.{leaves, load_tells, moves_telling, told_th
 use Rattle.answer_fits.specs.Twins.{Alike}
 use Rattle.answer_fits.proofs.Alikes.{same_alike}
 use Rattle.frame_words.specs.Plain.{set_free, lowered, put}
-use Rattle.kind_words.specs.Kinds.{live_kind}
+use Rattle.kind_words.specs.Kinds.{live_kind, work_kind}
 use Rattle.frame_types.specs.declared.standing.Standing.{Standing}
 use Rattle.frame_types.specs.declared.standing.Standing.TheVariants as stands
 use Rattle.frame_types.specs.declared.taking.Taken.{Taken}
 use Rattle.frame_types.specs.declared.taking.Taken.TheVariants.{Counted, InWork, Waiting}
 use Rattle.frame_types.specs.Plain.{GoesPlainly, IsTakenBy, TakesPlainly, TwinOn, is_read_first, less_kept, set_kind, stop_by, taken_by, type_stop, work_unmarked}
 use Rattle.frame_types.specs.Standing.{standing_of}
-use Rattle.frame_types.specs.Taking.{Looked, stamp_by, work_kind}
+use Rattle.frame_types.specs.Taking.{Looked, stamp_by}
 
 -- ---- stores of a kind word
 stored_over : (f : ℕ) (l j : KindWord) (m : Words) → set_kind f l (set_kind f j m) ≡ set_kind f l m

@@ -17,9 +17,8 @@ use Rattle.xp_board.specs.Told.{PortValue, is_telling, told_word}
 use Rattle.step_maker.specs.Plain.{Words, change, Leaves}
 use Rattle.answer_fits.specs.Twins.{Alike}
 use Rattle.frame_words.specs.Plain.{put, stamp_now}
-use Rattle.kind_words.specs.Kinds.{live_kind, dead_kind, partial_kind}
+use Rattle.kind_words.specs.Kinds.{live_kind, dead_kind, partial_kind, work_kind}
 use Rattle.frame_types.specs.Standing.{standing_of}
-use Rattle.frame_types.specs.Taking.{work_kind}
 use Rattle.frame_types.specs.declared.standing.Standing.{Standing}
 use Rattle.frame_types.specs.declared.standing.Standing.TheVariants as stands
 use Rattle.frame_types.specs.declared.taking.Taken.{Taken}

@@ -27,6 +27,7 @@ use Rattle.xp_board.specs.declared.step.Act.TheVariants.{Load}
 use Rattle.xp_board.specs.declared.step.StepKind.TheVariants as kinds
 use Rattle.xp_words.specs.declared.place.Place.TheVariants.{Kind}
 use Rattle.xp_words.specs.declared.kind.KindWord.{KindWord}
+use Rattle.kind_words.specs.Kinds.{work_kind}
 use Rattle.xp_words.specs.declared.kind.PageType.TheVariants.{Writable}
 use Rattle.answer_fits.specs.Answers.{Deed, Serves, Stops, misses}
 use Rattle.answer_fits.specs.Reasons.{AwaitsStamp}
@@ -132,21 +133,6 @@ pub record Takes (v w : PortValue) (f owner : ℕ) (want : PageType) (answer : R
   pub kinds : IfErr answer IsTypeStop
   pub waits : IfOk answer (λ t. ShowsWait v w f owner want t)
   pub hand : MatchResult answer (λ t. TakesAs v w f owner want t) (λ e. Same v w)
-
--- the word of a frame in work for that type
-abbrev pub work_kind : PageType → Bool → ℕ → KindWord
-work_kind want unflushed number =
-    record {
-      kind = want;
-      pinned = false;
-      validated = false;
-      partial = false;
-      locked = true;
-      kept = false;
-      unflushed = unflushed;
-      progress = 0;
-      number = number;
-    }
 
 -- the stamp of a word that is marked
 abbrev pub stamp_by : Bool → KindWord → ℕ

@@ -1,8 +1,8 @@
 //! Kind words that frames are left with.
 ghost use Rattle.std.specs.Prelude.{◌≡◌, false, true, if◌then◌else◌};
-ghost use Rattle.kind_words.specs.Kinds.{dead_kind, live_kind, partial_kind};
+ghost use Rattle.kind_words.specs.Kinds.{dead_kind, live_kind, partial_kind, work_kind};
 ghost use Rattle.frame_types.specs.Plain.{is_read_first};
-ghost use Rattle.frame_types.specs.Taking.{progress_of, work_kind};
+ghost use Rattle.frame_types.specs.Taking.{progress_of};
 
 use xp_words::{KindWord, PageType};
 

@@ -61,6 +61,21 @@ live_kind kind number =
       number = number;
     }
 
+-- in work for that type, marked with that stamp, or not marked and 0
+abbrev pub work_kind : PageType → Bool → ℕ → KindWord
+work_kind want unflushed number =
+    record {
+      kind = want;
+      pinned = false;
+      validated = false;
+      partial = false;
+      locked = true;
+      kept = false;
+      unflushed = unflushed;
+      progress = 0;
+      number = number;
+    }
+
 -- partial, with so many entries recorded; marked with that stamp, or not marked and 0
 abbrev pub partial_kind : PageType → Bool → Bool → ℕ → ℕ → KindWord
 partial_kind kind kept unflushed progress number =

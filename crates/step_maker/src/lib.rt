@@ -13,6 +13,8 @@ use xp_board::{Act, Mark, Port, Step, StepKind};
 use xp_words::Place;
 
 /// Makes one step at that word, and answers what it found.
+// Where it is inlined, the tests of the step's kind, mark and place are decided when the program is built.
+#[inline(always)]
 pub fn make<P: Port>(
     port: &mut P,
     place: Place,
@@ -33,6 +35,7 @@ pub fn make<P: Port>(
 }
 
 /// A load.
+#[inline(always)]
 #[tactic(auto, using(crate::proofs::Moving::may_look))]
 pub fn look<P: Port>(port: &mut P, place: Place) -> u64
     requires { IsTrue (is_place (sizes_of (P.value port.old).post.machine) place) }
@@ -42,6 +45,7 @@ pub fn look<P: Port>(port: &mut P, place: Place) -> u64
 }
 
 /// One exchange. One that finds another word answers it.
+#[inline(always)]
 pub fn exchange<P: Port>(
     port: &mut P,
     place: Place,

@@ -175,6 +175,7 @@ impl Layout {
     }
 
     /// Where a word stands.
+    #[inline(always)]
     #[tactic(auto, unfolding(crate::specs::Places::number, crate::specs::Places::is_place), using(std::proofs::lemmas::Bool::Decides::nat_tests))]
     pub fn place(&self, place: Place) -> u32
         requires { IsTrue (is_place (sizes_of self.now) place) }

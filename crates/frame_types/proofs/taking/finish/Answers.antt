@@ -4,8 +4,8 @@ use Rattle.xp_words.specs.declared.kind.KindWord.{KindWord}
 use Rattle.xp_words.specs.declared.place.Place.TheVariants.{Kind}
 use Rattle.xp_board.specs.Told.{told_word}
 use Rattle.answer_fits.proofs.Alikes.{same_alike}
-use Rattle.kind_words.specs.Kinds.{live_kind}
-use Rattle.frame_types.specs.Taking.{Enters, stamp_by, progress_of, work_kind}
+use Rattle.kind_words.specs.Kinds.{live_kind, work_kind}
+use Rattle.frame_types.specs.Taking.{Enters, stamp_by, progress_of}
 use Rattle.frame_types.proofs.Entering.{work_spelled}
 use Rattle.frame_types.proofs.Finishing.{no_memory, live_leaves, live_hand, live_spelled, unmarked_leaves, unmarked_works, plain_works, left_serves}
 use Rattle.frame_types.proofs.Storing.{store_same, stored_alike}
