@@ -20,7 +20,7 @@ use Rattle.answer_fits.specs.Asked.{Request, IsAsked, of, back, Within, HasNoMor
 use Rattle.answer_fits.specs.Finding.{Finding, FoundAt, FoundWith, Did}
 use Rattle.answer_fits.specs.Licences.{IsNewWord, IsOwnedBy, Licensed, HasTaken}
 use Rattle.answer_fits.specs.Pauses.{PausesFor, Progress, Loses, IsWanted, Clear, idle, flushed, own, barred, AskedTo, entry, live}
-use Rattle.answer_fits.specs.Reasons.{AwaitsStamp, marked, other, free, begun, MayFlush, NeedsFlush, MayCountPages, MayReach, taken, IsMarkAsked, IsPagesChange, IsRefChange, MayType, MayWriteOwn, MayChangeVcpu, Reason, HasReason}
+use Rattle.answer_fits.specs.Reasons.{AwaitsStamp, marked, other, free, begun, MayFlush, NeedsFlush, MayCountPages, MayReach, taken, IsMarkAsked, IsPagesChange, IsRefChange, MayType, MayWriteOwn, MayChangeVcpu, Reason, MayLook, HasReason}
 use Rattle.answer_fits.specs.Reasons as reasons
 
 module _ (n : Machine) (s : ℕ) (q : Request) (F : Finding) (t : Request) (G : Finding) (w : Within n s q F t G) where
@@ -131,8 +131,22 @@ module _ (n : Machine) (s : ℕ) (q : Request) (F : Finding) (t : Request) (G : 
   reason (Map k) b x h a = (a.0, a.1, asks a.0 a.2)
   reason (Priv d) b x h a = a
 
+  may_look : (p : Place) → MayLook q p → MayLook t p
+  may_look (Cell f i) (inl a) = inl (w.entries a)
+  may_look (Cell f i) (inr (inl a)) = inr (inl (w.walks a))
+  may_look (Cell f i) (inr (inr a)) = inr (inr (a.0, w.index a.0 a.1))
+  may_look Clock a = a
+  may_look (Pages d) a = a
+  may_look (Life d) a = a
+  may_look (Vcpu v k) a = a
+  may_look (Refs f) a = a
+  may_look (Kind f) a = a
+  may_look (M2p f) a = a
+  may_look (Map k) a = a
+  may_look (Priv d) a = a
+
   pub has_reason : (p : Place) (b : Act) (x : ℕ) (h : Holdings) → HasReason n s q F p b x h → HasReason n s t G p b x h
-  has_reason p Load x h a = a
+  has_reason p Load x h a = may_look p a
   has_reason p (Cas e y) x h a = reason p (Cas e y) x h a
   has_reason p (Store y) x h a = reason p (Store y) x h a
   has_reason p (Add y) x h a = reason p (Add y) x h a

@@ -111,8 +111,14 @@ Reason n s r F (Cell f i) a x h = IsAsked n s r F f
 Reason n s r F (Map k) a x h = (f : ℕ) × (k ≡ f / 64) × IsAsked n s r F f
 Reason n s r F (Priv d) a x h = ⊥
 
+-- ---- looks
+-- Cells are read by a call that reads entries or walks tables, or that writes a cell. All other words may be looked at.
+abbrev pub MayLook : Request → Place → Type 0
+MayLook r (Cell f i) = (r.entries ≡ true) ⊎ ((r.walks ≡ true) ⊎ ((k : ℕ) × (r.index ≡ Some k)))
+MayLook r _ = Unit {0}
+
 abbrev pub HasReason : Machine → ℕ → Request → Finding → Place → Act → ℕ → Holdings → Type 0
-HasReason n s r F p Load x h = Unit {0}
+HasReason n s r F p Load x h = MayLook r p
 HasReason n s r F p (Cas e w) x h = Reason n s r F p (Cas e w) x h
 HasReason n s r F p (Store w) x h = Reason n s r F p (Store w) x h
 HasReason n s r F p (Add w) x h = Reason n s r F p (Add w) x h

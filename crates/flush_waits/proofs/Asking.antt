@@ -36,7 +36,7 @@ weighs_looked v w a k d x is other m same b answer =
 
 pub clears_weighs : (v w : PortValue) (a : Awaiting) (k : ℕ) (b : Bool) → Weighs v w a k b → Clears v w a
 clears_weighs v w a k b (owns is domain answer) = subst (λ (y : PortValue). Clears v y a) (sym is) (clears_nothing v a)
-clears_weighs v w a k b (looked x other m same answer) = clears_look v w (Priv (domain_of v.post.machine k)) x a m same
+clears_weighs v w a k b (looked x other m same answer) = clears_look v w (Priv (domain_of v.post.machine k)) x a (λ r. tt) m same
 
 reach_weighs : (v w : PortValue) (a : Awaiting) (k : ℕ) → Weighs v w a k true → MayReach v.post.machine (Some a.owner) (Met v w) k
 reach_weighs v w a k (owns is domain answer) = inl domain
@@ -64,10 +64,10 @@ zero_test x is = grind (arith, nat_tests)
 module _ (v u t : PortValue) (a : Awaiting) (k x y : ℕ) (run : Moves v u (run_of k) Load kinds.Look None x) (one : Same v u) (flushed : Moves u t (flushed_of k) Load kinds.Look None y) (two : Same u t)
     (marked : IsMarked a.frame a.owner a.stamp v.holdings) where
   running_look : Clears v u a
-  running_look = clears_look v u (run_of k) x a run one
+  running_look = clears_look v u (run_of k) x a (λ r. tt) run one
 
   flushed_look : Clears u t a
-  flushed_look = clears_look u t (flushed_of k) y a flushed two
+  flushed_look = clears_look u t (flushed_of k) y a (λ r. tt) flushed two
 
   two_looks : Clears v t a
   two_looks = clears_then v u t a running_look flushed_look

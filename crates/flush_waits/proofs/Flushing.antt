@@ -49,7 +49,7 @@ module _ (u w : PortValue) (a : Awaiting) (marked : IsMarked a.frame a.owner a.s
 
 module _ (v u w : PortValue) (a : Awaiting) (x : ℕ) (look : Moves v u (flushed_of v.post.vcpu) Load kinds.Look None x) (same : Same v u) (low : x ≤ a.stamp) where
   first : Clears v u a
-  first = clears_look v u (flushed_of v.post.vcpu) x a look same
+  first = clears_look v u (flushed_of v.post.vcpu) x a (λ r. tt) look same
 
   -- the look found that it needs the flush
   needs : (t : PortValue) (r : Request) → Came t v → AwaitsStamp v.post.machine v.post.vcpu r (Met t v) (Some a.owner) a.stamp → NeedsFlush t.post.machine t.post.vcpu r (Met t u) u.holdings

@@ -52,7 +52,7 @@ module _ (v w : PortValue) (a : Awaiting) (k x : ℕ) (same : Same v w) where
   look_idle m real some =
       let is = idle_word x some (run_low v.post.machine v.post.vcpu v.holdings k x real m.finds) in
       record {
-        clears = clears_look v w (run_of k) x a m same;
+        clears = clears_look v w (run_of k) x a (λ r. tt) m same;
         shows = (
           idle x (moves_found v w (run_of k) Load kinds.Look None x m) is,
           λ e here.
@@ -65,7 +65,7 @@ module _ (v w : PortValue) (a : Awaiting) (k x : ℕ) (same : Same v w) where
   unfolding left_by
   look_late m marked late =
       record {
-        clears = clears_look v w (flushed_of k) x a m same;
+        clears = clears_look v w (flushed_of k) x a (λ r. tt) m same;
         shows = (
           flushed x (moves_found v w (flushed_of k) Load kinds.Look None x m) late,
           λ e here.
@@ -81,7 +81,7 @@ module _ (v w : PortValue) (a : Awaiting) (k x : ℕ) (same : Same v w) where
   unfolding left_by
   look_barred m marked other never =
       let n = v.post.machine in
-      let clears = clears_look v w (Priv (domain_of n k)) x a m same in
+      let clears = clears_look v w (Priv (domain_of n k)) x a (λ r. tt) m same in
       record {
         clears = clears;
         shows = (

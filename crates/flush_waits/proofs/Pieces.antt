@@ -17,7 +17,7 @@ use Rattle.step_maker.proofs.Telling.{came_telling, load_tells, told_elsewhere}
 use Rattle.answer_fits.specs.Asked.{Request, of_back, Within}
 use Rattle.answer_fits.specs.Finding.{Did, Finding, FoundAt}
 use Rattle.answer_fits.specs.Pauses.{AskedTo, Clear, idle, flushed, own, barred}
-use Rattle.answer_fits.specs.Reasons.{AwaitsStamp, LastAtMost, MayAskFor, MayReach}
+use Rattle.answer_fits.specs.Reasons.{AwaitsStamp, LastAtMost, MayAskFor, MayReach, MayLook}
 use Rattle.answer_fits.specs.Twins.{Alike, IsAlike}
 use Rattle.answer_fits.proofs.Alikes.{alike_same, alike_trans, same_alike}
 use Rattle.answer_fits.proofs.Growing.{did, found}
@@ -84,13 +84,13 @@ clears_then v u w a b c =
       plain = λ tells. alike_trans (told_word w) (told_word u) (told_word v) (c.plain (came_telling v u b.came ∙ tells)) (b.plain tells);
     }
 
--- a look
-pub clears_look : (v w : PortValue) (p : Place) (x : ℕ) (a : Awaiting) → Moves v w p Load kinds.Look None x → Same v w → Clears v w a
+-- a look at a word that each call may look at
+pub clears_look : (v w : PortValue) (p : Place) (x : ℕ) (a : Awaiting) → ((r : Request) → MayLook r p) → Moves v w p Load kinds.Look None x → Same v w → Clears v w a
 unfolding ServesBehind
-clears_look v w p x a m same =
+clears_look v w p x a free m same =
     record {
       came = moves_came v w p Load kinds.Look None x m;
-      serves = λ u r ds before awaits. serves_step u v w r ds p Load kinds.Look None x before m tt;
+      serves = λ u r ds before awaits. serves_step u v w r ds p Load kinds.Look None x before m (free r);
       hand = same_flushed v w same;
       plain = λ tells. same_alike (told_word w) (told_word v) (load_tells v w p kinds.Look None x m tells);
     }
