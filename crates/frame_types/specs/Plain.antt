@@ -19,6 +19,7 @@ use Rattle.answer_fits.specs.Twins.{Alike}
 use Rattle.frame_words.specs.Plain.{put, stamp_now}
 use Rattle.kind_words.specs.Kinds.{live_kind, dead_kind, partial_kind, work_kind}
 use Rattle.frame_types.specs.Standing.{standing_of}
+use Rattle.frame_types.specs.Taking.{progress_of}
 use Rattle.frame_types.specs.declared.standing.Standing.{Standing}
 use Rattle.frame_types.specs.declared.standing.Standing.TheVariants as stands
 use Rattle.frame_types.specs.declared.taking.Taken.{Taken}
@@ -77,11 +78,11 @@ taken_by f want k s (Waiting own stamp stop) m = set_kind f (work_by k want s) (
 abbrev pub taken : ℕ → PageType → Taken → Words → Words
 taken f want t m = taken_by f want (kind_fields (m (Kind f))) (standing_of (kind_fields (m (Kind f))) want) t m
 
--- which way: counted; live at once, or in work; waiting only where it waits
+-- which way: counted; live at once, or in work with what its word says recorded; waiting only where it waits
 abbrev pub IsTakenBy : PageType → KindWord → Standing → Taken → Type 0
 IsTakenBy want k stands.Counted t = t ≡ Counted
 IsTakenBy want k s Counted = is_read_first want ≡ false
-IsTakenBy want k s (InWork progress own) = (is_read_first want ≡ true) × (own ≡ is_own k s)
+IsTakenBy want k s (InWork progress own) = (is_read_first want ≡ true) × (own ≡ is_own k s) × (progress ≡ progress_of k)
 IsTakenBy want k s (Waiting own stamp stop) = (waits_by k want s ≡ true) × (own ≡ is_own k s)
 
 -- On a board that tells all words the type is taken just so, or not to be had just so, by the kind word before.
@@ -96,14 +97,14 @@ TwinTake v w f want answer = is_telling v ≡ true → TakesPlainly v w f want a
 
 -- ---- a frame that came into work
 -- Behind the flush, or where none is awaited, the frame is live or in work without its mark; else it waits.
-abbrev pub GoesPlainly : PortValue → PortValue → ℕ → PageType → Bool → Bool → Taken → Type 0
-GoesPlainly v w f want marked own Counted = (is_read_first want ≡ false) × Alike (told_word w) (set_kind f (live_kind want (if own then 1 else 2)) (told_word v))
-GoesPlainly v w f want marked own (InWork progress mine) = (is_read_first want ≡ true) × (mine ≡ own) × Alike (told_word w) (set_kind f (work_kind want false 0) (told_word v))
-GoesPlainly v w f want marked own (Waiting mine stamp stop) = (marked ≡ true) × (mine ≡ own) × Alike (told_word w) (told_word v)
+abbrev pub GoesPlainly : PortValue → PortValue → ℕ → PageType → Bool → Bool → ℕ → Taken → Type 0
+GoesPlainly v w f want marked own recorded Counted = (is_read_first want ≡ false) × Alike (told_word w) (set_kind f (live_kind want (if own then 1 else 2)) (told_word v))
+GoesPlainly v w f want marked own recorded (InWork progress mine) = (is_read_first want ≡ true) × (mine ≡ own) × (progress ≡ recorded) × Alike (told_word w) (set_kind f (work_kind want false 0) (told_word v))
+GoesPlainly v w f want marked own recorded (Waiting mine stamp stop) = (marked ≡ true) × (mine ≡ own) × Alike (told_word w) (told_word v)
 
-abbrev pub TwinOn : PortValue → PortValue → ℕ → PageType → Bool → Bool → Taken → Type 0
-TwinOn v w f want marked own t =
-    is_telling v ≡ true → (marked ≡ false → told_word v (Kind f) ≡ kind_write (work_kind want false 0)) → GoesPlainly v w f want marked own t
+abbrev pub TwinOn : PortValue → PortValue → ℕ → PageType → Bool → Bool → ℕ → Taken → Type 0
+TwinOn v w f want marked own recorded t =
+    is_telling v ≡ true → (marked ≡ false → told_word v (Kind f) ≡ kind_write (work_kind want false 0)) → GoesPlainly v w f want marked own recorded t
 
 -- ---- ordinary memory
 -- the words where the flush was not to be had: refused, an own frame is dead with its mark; paused, it is partial with the

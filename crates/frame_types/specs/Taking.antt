@@ -1,9 +1,9 @@
 -- Types that are taken and given back: what they leave in hand.
-use Rattle.std.specs.Prelude.{◌≡◌, ◌≢◌, ℕ, ◌<◌, ◌≤◌, if◌then◌else◌, Bool, true, false, List, [], ◌∷◌, length, Some, None, Result, IfOk, IfErr, MatchResult, IsTrue}
+use Rattle.std.specs.Prelude.{◌≡◌, ◌≢◌, ℕ, ◌<◌, ◌≤◌, ◌==◌, ◌||◌, not, if◌then◌else◌, Bool, true, false, List, [], ◌∷◌, length, Some, None, Result, IfOk, IfErr, MatchResult, IsTrue}
 use Rattle.xp_words.specs.Machine.{Machine}
 use Rattle.xp_words.specs.Places.{sizes_of}
 use Rattle.xp_words.specs.KindWords.{is_kind, kind_fields, kind_write}
-use Rattle.xp_words.specs.PageTypes.{is_table}
+use Rattle.xp_words.specs.PageTypes.{is_none, is_table, type_number}
 use Rattle.xp_words.specs.declared.kind.PageType.{PageType}
 use Rattle.xp_words.specs.declared.reply.Stop.{Stop}
 use Rattle.xp_words.specs.declared.reply.Stop.TheVariants.{Refused, Paused}
@@ -18,11 +18,10 @@ use Rattle.xp_board.specs.declared.holdings.Work.{Work}
 use Rattle.xp_board.specs.Hands.{without_ref, without_typed, typed_to, work_on}
 use Rattle.xp_board.specs.Knowledge.{knows_live}
 use Rattle.xp_board.specs.KindSteps.{live_typed}
-use Rattle.xp_board.specs.Readings.{domain_of, is_type, is_work}
+use Rattle.xp_board.specs.Readings.{is_type, is_work}
 use Rattle.xp_board.specs.Told.{PortValue}
 use Rattle.step_maker.specs.Holds.{FlushedHolds, Same}
 use Rattle.step_maker.specs.Moves.{Came, Met, Moves}
-use Rattle.frame_words.specs.Freeing.{gave}
 use Rattle.xp_board.specs.declared.step.Act.TheVariants.{Load}
 use Rattle.xp_board.specs.declared.step.StepKind.TheVariants as kinds
 use Rattle.xp_words.specs.declared.place.Place.TheVariants.{Kind}
@@ -60,26 +59,30 @@ working f owner want own e since h =
 
 pub record IsWorking (v w : PortValue) (f owner : ℕ) (want : PageType) (own : Bool) (e : Work) : Type 0 where
   pub since : ℕ
+  pub taken : since ≤ length w.holdings.steps
   pub frame : e.frame ≡ f
   pub in_work : IsTrue (is_work (kind_fields e.word))
   pub kind : (kind_fields e.word).kind ≡ want
   pub earlier : e.since ≤ length w.holdings.steps
   pub hand : FlushedHolds v w (working f owner want own e since v.holdings)
 
--- in work, with its entries recorded up to there, and past its flush
+-- in work, with its entries recorded up to there, and past its flush; where none is recorded, none is unsettled
 pub record WorksFrom (v w : PortValue) (f owner : ℕ) (want : PageType) (progress : ℕ) (own : Bool) : Type 0 where
   pub work : Work
   pub works : IsWorking v w f owner want own work
   pub recorded : work.recorded ≡ progress
+  pub settled : progress ≡ 0 → work.unsettled ≡ None
   pub unmarked : (kind_fields work.word).unflushed ≡ false
 
--- in work, marked with that stamp, and nothing recorded
+-- in work, marked with that stamp, and nothing recorded; a descriptor page with its type count in hand
 pub record WaitsWith (v w : PortValue) (f owner : ℕ) (want : PageType) (own : Bool) (stamp : ℕ) : Type 0 where
   pub work : Work
   pub works : IsWorking v w f owner want own work
   pub none : work.recorded ≡ 0
   pub marked : (kind_fields work.word).unflushed ≡ true
   pub stamped : (kind_fields work.word).number ≡ stamp
+  pub typed : IsTrue (not (is_none want))
+  pub whose : IsTrue (not (type_number want == 5) || own)
 
 abbrev pub TakesAs : PortValue → PortValue → ℕ → ℕ → PageType → Taken → Type 0
 TakesAs v w f owner want Counted = FlushedHolds v w (typed_as f owner want v.holdings)
@@ -146,12 +149,15 @@ progress_of k = if k.partial then k.progress else 0
 pub record Enters (b v : PortValue) (f owner : ℕ) (want : PageType) (marked : Bool) (stamp progress : ℕ) (own : Bool) : Type 0 where
   pub work : Work
   pub since : ℕ
+  pub taken : since ≤ length v.holdings.steps
   pub frame : work.frame ≡ f
   pub word : work.word ≡ kind_write (work_kind want marked stamp)
   pub spelled : IsTrue (is_kind (work_kind want marked stamp))
   pub recorded : work.recorded ≡ progress
+  pub settled : progress ≡ 0 → work.unsettled ≡ None
   pub none : marked ≡ true → progress ≡ 0
   pub earlier : work.since ≤ length v.holdings.steps
+  pub whose : IsTrue (not (type_number want == 5) || own)
   pub hand : FlushedHolds b v (working f owner want own work since b.holdings)
   pub lent : LentBy f owner b.holdings
   pub aside : typed_to f b.holdings.typed ≡ 0
@@ -181,22 +187,3 @@ HoldsOn v w f owner want marked k own t =
 abbrev pub IsDone : Taken → Type 0
 IsDone (Waiting own stamp stop) = ⊥
 IsDone _ = Unit {0}
-
--- ---- ordinary memory that waits
--- From b to v a frame of the own domain came into the own works, and waits there. From b on it was held by the untyped reference alone.
-pub record WaitsIn (b v : PortValue) (f owner : ℕ) (own : Bool) (stamp : ℕ) : Type 0 where
-  pub waits : WaitsWith b v f owner Writable own stamp
-  pub lent : LentBy f owner b.holdings
-  pub domain : owner ≡ domain_of v.post.machine v.post.vcpu
-
-abbrev pub IsWaiting : PortValue → ℕ → Bool → ℕ → Type 0
-IsWaiting v f own stamp = (b : PortValue) × (owner : ℕ) × WaitsIn b v f owner own stamp
-
--- behind steps for the frame, those from v to w serve it too
-abbrev pub ServesMemory : PortValue → PortValue → ℕ → Type 0
-ServesMemory v w f =
-    (u : PortValue) (owner : ℕ) (ds : List Deed) → Serves u v (of_frame f owner (Some Writable)) ds → Serves u w (of_frame f owner (Some Writable)) ds
-
--- from wherever the frame came into the own works, the untyped reference went out of the hand
-abbrev pub GivesUp : PortValue → PortValue → ℕ → Bool → ℕ → Type 0
-GivesUp v w f own stamp = (b : PortValue) (owner : ℕ) → WaitsIn b v f owner own stamp → FlushedHolds b w (gave f b.holdings)

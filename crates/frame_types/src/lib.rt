@@ -1,12 +1,14 @@
 //! Types of frames, taken and given back.
 #![tactic(auto)]
 
+mod leaving;
 mod memory;
 mod plain;
 mod standing;
 mod taking;
 mod words;
 
+pub use leaving::{leave_dead, leave_shared, leave_unsettled};
 pub use memory::take_writable;
 pub use plain::drop_plain;
 pub use standing::Standing;

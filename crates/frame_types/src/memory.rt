@@ -10,7 +10,8 @@ ghost use Rattle.answer_fits.specs.Answers.{Serves, Stops, misses};
 ghost use Rattle.answer_fits.specs.Asked.{of_frame};
 ghost use Rattle.frame_words.specs.Freeing.{gave};
 ghost use Rattle.frame_types.specs.Plain.{TwinGiveUp, TwinMemory, is_refused};
-ghost use Rattle.frame_types.specs.Taking.{GivesUp, IsTypeStop, IsWaiting, LentBy, ServesMemory, typed_as};
+ghost use Rattle.frame_types.specs.Leaving.{GivesUp, IsMemoryWaiting, ServesType};
+ghost use Rattle.frame_types.specs.Taking.{IsTypeStop, LentBy, typed_as};
 
 use crate::taking::{Taken, take_type};
 use crate::words::{dead_kind, partial_kind};
@@ -54,9 +55,9 @@ pub fn take_writable<P: Port>(port: &mut P, frame: u32, owner: u16) -> Result<()
 fn give_up<P: Port>(port: &mut P, frame: u32, own: bool, stamp: u64, stop: Stop) -> Stop
     requires frame { frame < (P.value port.old).post.machine.frames }
     requires may { MayWork (P.value port.old) }
-    requires waits { IsWaiting (P.value port.old) frame own stamp }
+    requires waits { IsMemoryWaiting (P.value port.old) frame own stamp }
     ensures answer { result ≡ stop }
-    ensures serves { ServesMemory (P.value port.old) (P.value port.new) frame }
+    ensures serves { ServesType (P.value port.old) (P.value port.new) frame Writable }
     ensures hand { GivesUp (P.value port.old) (P.value port.new) frame own stamp }
     ensures plain { TwinGiveUp (P.value port.old) (P.value port.new) frame own stamp stop }
     ensures owned { IsTrue (not own || is_refused stop) → is_telling (P.value port.old) ≡ true → is_free (told_word (P.value port.old) (Refs frame)) ≡ false }

@@ -12,7 +12,7 @@ ghost use Rattle.answer_fits.specs.Answers.{Deed, Serves, Stops, misses};
 ghost use Rattle.answer_fits.specs.Asked.{of_frame};
 ghost use Rattle.flush_waits.specs.Waiting.{IsFlushed};
 ghost use Rattle.frame_types.specs.Plain.{TwinOn, TwinTake};
-ghost use Rattle.frame_types.specs.Taking.{HasEntered, HoldsOn, IsDone, IsLooked, IsOfOther, IsTypeStop, LentBy, Looked, ServesOn, ShowsWait, Takes, TakesAs, WaitsOn};
+ghost use Rattle.frame_types.specs.Taking.{HasEntered, HoldsOn, IsDone, IsLooked, IsOfOther, IsTypeStop, LentBy, Looked, ServesOn, ShowsWait, Takes, TakesAs, WaitsOn, progress_of};
 
 use crate::standing::{Standing, classify, read_kind};
 use crate::words::{counts, is_read_first, live_kind, progress_of, work_kind};
@@ -141,7 +141,7 @@ fn go_on<P: Port>(
     ensures serves { ServesOn (P.value port.old) (P.value port.new) frame owner want marked kind.number }
     ensures waits { WaitsOn (P.value port.old) (P.value port.new) frame owner want marked kind.number result }
     ensures hand { HoldsOn (P.value port.old) (P.value port.new) frame owner want marked kind own result }
-    ensures plain { TwinOn (P.value port.old) (P.value port.new) frame want marked own result }
+    ensures plain { TwinOn (P.value port.old) (P.value port.new) frame want marked own (progress_of kind) result }
 {
     if marked {
         match clear_stale(port, frame, owner, kind.number) {
@@ -175,7 +175,7 @@ fn finish<P: Port>(
     ensures serves { (u : PortValue) (ds : List Deed) → Serves u (P.value port.old) (of_frame frame owner (Some want)) ds → Serves u (P.value port.new) (of_frame frame owner (Some want)) ds }
     ensures done { IsDone result }
     ensures hand { HoldsOn (P.value port.old) (P.value port.new) frame owner want marked kind own result }
-    ensures plain { TwinOn (P.value port.old) (P.value port.new) frame want marked own result }
+    ensures plain { TwinOn (P.value port.old) (P.value port.new) frame want marked own (progress_of kind) result }
 {
     if !is_read_first(want) {
         leave(port, frame, live_kind(want, counts(own)));
