@@ -1,11 +1,13 @@
 -- A frame comes into the own works, or is counted: the hand after the exchange.
-use Rattle.std.proofs.Common.{◌≡◌, ℕ, ◌<◌, ◌≤◌, not, if◌then◌else◌, Bool, true, false, List, [], ◌∷◌, length, Some, None, IsTrue, refl, sym, ap, ◌∙◌, subst, arith}
+use Rattle.std.proofs.Common.{◌≡◌, ℕ, ◌<◌, ◌≤◌, ◌==◌, ◌||◌, not, if◌then◌else◌, Bool, true, false, List, [], ◌∷◌, length, Some, None, IsTrue, refl, sym, ap, ◌∙◌, subst, arith}
 use Rattle.xp_words.specs.declared.kind.KindWord.{KindWord}
 use Rattle.xp_words.specs.declared.kind.PageType.{PageType}
 use Rattle.xp_words.specs.declared.place.Place.TheVariants.{Kind}
-use Rattle.xp_words.specs.KindWords.{is_kind, kind_read, kind_write}
-use Rattle.xp_words.specs.PageTypes.{is_none}
+use Rattle.std.proofs.lemmas.Bool.Decides.{nat_tests}
+use Rattle.xp_words.specs.KindWords.{has_form, is_kind, kind_read, kind_write}
+use Rattle.xp_words.specs.PageTypes.{is_none, type_number}
 use Rattle.xp_board.specs.declared.step.StepKind.TheVariants as kinds
+use Rattle.xp_board.specs.declared.holdings.Holdings.{Holdings}
 use Rattle.xp_board.specs.declared.holdings.Liveness.TheVariants as lives
 use Rattle.xp_board.specs.declared.holdings.Looking.{Looking}
 use Rattle.xp_board.specs.declared.holdings.OwnerFound.{OwnerFound}
@@ -14,7 +16,7 @@ use Rattle.xp_board.specs.declared.holdings.Work.{Work}
 use Rattle.xp_board.specs.Hands.{refs_to, without_ref, typed_to, ref_owner}
 use Rattle.xp_board.specs.KindSteps.{begun_kind, is_stale, live_typed, new_work, raised_kind, resumed_kind, still_looking, unsettled_from}
 use Rattle.xp_board.specs.Lists.{kept_of}
-use Rattle.xp_board.specs.Readings.{is_dead, is_work}
+use Rattle.xp_board.specs.Readings.{is_dead, is_partial, is_work}
 use Rattle.xp_board.specs.Told.{PortValue}
 use Rattle.board_lemmas.proofs.KindForms.{fields_of, PartialForm, partial_form}
 use Rattle.board_lemmas.proofs.KindReadings.{partial_parts, resumed_in_work}
@@ -34,6 +36,20 @@ use Rattle.frame_types.proofs.Entering.{lent_held, lent_owner}
 none_looking : (f w : ℕ) (xs : List Looking) → xs ≡ [] → still_looking f w xs ≡ []
 unfolding kept_of
 none_looking f w xs none = ap (λ ys. still_looking f w ys) none
+
+-- ---- what comes into work
+-- with its type count in hand it may be of any type
+own_type : (b : Bool) → IsTrue (b || true)
+own_type true = refl
+own_type false = refl
+
+-- a descriptor page is partial with its `kept` mark alone
+unkept_type : (k : KindWord) → IsTrue (is_kind k) → IsTrue (is_partial k) → k.kept ≡ false → IsTrue (not (type_number k.kind == 5) || false)
+unfolding has_form
+unkept_type k is partial unkept = grind (arith, nat_tests)
+
+none_unsettled : (progress : ℕ) (h : Holdings) → progress ≡ 0 → unsettled_from progress h ≡ None
+none_unsettled progress h zero = rw zero refl
 
 module _ (b v : PortValue) (f owner : ℕ) (want : PageType) (word : ℕ) (l : Looked b v f owner want word) where
   same_refs : v.holdings.refs ≡ b.holdings.refs
@@ -93,12 +109,15 @@ module _ (b v : PortValue) (f owner : ℕ) (want : PageType) (word : ℕ) (l : L
         record {
           work = begun;
           since = length v.holdings.steps;
+          taken = omega (arith, more);
           frame = refl;
           word = refl;
           spelled = begun_is k want is dead wanted;
           recorded = sym none;
+          settled = λ zero. refl;
           none = λ on. none;
           earlier = omega (arith, more);
+          whose = own_type (not (type_number want == 5));
           hand = begun_hand;
           lent = l.lent;
           aside = l.aside (dead_apart b.post.machine b.post.vcpu b.holdings f word k l.look.finds (fields_of word k read) dead);
@@ -160,12 +179,15 @@ module _ (b v : PortValue) (f owner : ℕ) (want : PageType) (word : ℕ) (l : L
         record {
           work = item;
           since = length v.holdings.steps;
+          taken = omega (arith, more, later);
           frame = refl;
           word = ap (λ z. kind_write z) again;
           spelled = subst (λ z. IsTrue (is_kind z)) again (resumed_is k is parted.partial);
           recorded = parted_progress;
+          settled = λ zero. none_unsettled k.progress v.holdings (parted_progress ∙ zero);
           none = λ on. sym parted_progress ∙ form.marked on;
           earlier = omega (arith, more, later);
+          whose = own_type (not (type_number want == 5));
           hand = ap quiet gives ∙ ap (λ (q : PortValue). quiet (record q { holdings = gave f q.holdings })) kept_hand;
           lent = l.lent;
           aside = no_typed;
@@ -187,12 +209,15 @@ module _ (b v : PortValue) (f owner : ℕ) (want : PageType) (word : ℕ) (l : L
         record {
           work = item;
           since = length v.holdings.steps;
+          taken = omega (arith, more);
           frame = refl;
           word = ap (λ z. kind_write z) again;
           spelled = subst (λ z. IsTrue (is_kind z)) again (resumed_is k is parted.partial);
           recorded = parted_progress;
+          settled = λ zero. none_unsettled k.progress v.holdings (parted_progress ∙ zero);
           none = λ on. sym parted_progress ∙ form.marked on;
           earlier = omega (arith, more);
+          whose = subst (λ t. IsTrue (not (type_number t == 5) || false)) parted.kind (unkept_type k is parted.partial unkept);
           hand = unkept_hand;
           lent = l.lent;
           aside = no_typed;

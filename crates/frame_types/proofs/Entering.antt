@@ -102,15 +102,19 @@ pub entered_after : (b v w : PortValue) (f owner : ℕ) (want : PageType) (marke
 entered_after b v w f owner want marked stamp progress own e came same =
     let more = came_longer v w came in
     let earlier = e.earlier in
+    let taken = e.taken in
     record {
       work = e.work;
       since = e.since;
+      taken = omega (arith, more, taken);
       frame = e.frame;
       word = e.word;
       spelled = e.spelled;
       recorded = e.recorded;
+      settled = e.settled;
       none = e.none;
       earlier = omega (arith, more, earlier);
+      whose = e.whose;
       hand = same ∙ e.hand;
       lent = e.lent;
       aside = e.aside;
@@ -141,6 +145,11 @@ pub entered_past : (b v : PortValue) (f owner : ℕ) (want : PageType) (marked :
     IsPastFlush v.post.machine v.holdings e.work
 entered_past b v f owner want marked stamp progress own e flushed =
     subst (λ y. IsPastFlush v.post.machine v.holdings y) (same_work flushed.work e.work (sym flushed.here ∙ entered_here b v f owner want marked stamp progress own e)) flushed.past
+
+-- it has a type
+pub work_typed : (want : PageType) (marked : Bool) (stamp : ℕ) → IsTrue (is_kind (work_kind want marked stamp)) → IsTrue (not (is_none want))
+unfolding has_form
+work_typed want marked stamp is = grind (arith, nat_tests)
 
 pub work_spelled : (want : PageType) → IsTrue (not (is_none want)) → IsTrue (is_kind (work_kind want false 0))
 unfolding has_form

@@ -172,10 +172,12 @@ module _ (b v : PortValue) (f owner : ℕ) (want : PageType) (stamp progress : �
     unmarked_works =
         let more = moves_longer v w (Kind f) (Store (kind_write l)) kinds.Kind None found store in
         let earlier = e.earlier in
+        let taken = e.taken in
         record {
           work = item;
           works = record {
             since = e.since;
+            taken = omega (arith, more, taken);
             frame = e.frame;
             in_work = ap (λ (k : KindWord). is_work k) item_fields;
             kind = ap (λ (k : KindWord). k.kind) item_fields;
@@ -183,6 +185,7 @@ module _ (b v : PortValue) (f owner : ℕ) (want : PageType) (stamp progress : �
             hand = item_hand;
           };
           recorded = e.recorded;
+          settled = e.settled;
           unmarked = ap (λ (k : KindWord). k.unflushed) item_fields;
         }
 
@@ -191,6 +194,7 @@ pub entered_working : (b v : PortValue) (f owner : ℕ) (want : PageType) (marke
 entered_working b v f owner want marked stamp progress own e =
     record {
       since = e.since;
+      taken = e.taken;
       frame = e.frame;
       in_work = in_work b v f owner want marked stamp progress own e;
       kind = of_kind b v f owner want marked stamp progress own e;
@@ -204,6 +208,7 @@ plain_works b v f owner want stamp progress own e =
       work = e.work;
       works = entered_working b v f owner want false stamp progress own e;
       recorded = e.recorded;
+      settled = e.settled;
       unmarked = of_mark b v f owner want false stamp progress own e;
     }
 

@@ -20,7 +20,7 @@ use Rattle.frame_types.specs.declared.taking.Taken.{Taken}
 use Rattle.frame_types.specs.declared.taking.Taken.TheVariants.{Counted, InWork, Waiting}
 use Rattle.frame_types.specs.Plain.{GoesPlainly, TwinOn, set_kind}
 use Rattle.frame_types.specs.Taking.{Enters, IsDone, ShowsWait, WaitsWith}
-use Rattle.frame_types.proofs.Entering.{entered_after, entered_fields}
+use Rattle.frame_types.proofs.Entering.{entered_after, entered_fields, work_typed}
 use Rattle.frame_types.proofs.Finishing.{entered_working}
 
 module _ (v w : PortValue) (f owner : ℕ) (want : PageType) (stamp : ℕ) where
@@ -49,19 +49,21 @@ still_waits b v w f owner want stamp progress own entered came same =
       none = e.recorded ∙ e.none refl;
       marked = ap (λ (k : KindWord). k.unflushed) fields;
       stamped = ap (λ (k : KindWord). k.number) fields;
+      typed = work_typed want true stamp e.spelled;
+      whose = e.whose;
     }
 
 -- ---- on a board that tells all words
-goes_after : (v a w : PortValue) (f : ℕ) (want : PageType) (marked own : Bool) (t : Taken) → Alike (told_word a) (told_word v) → GoesPlainly a w f want marked own t → GoesPlainly v w f want marked own t
-goes_after v a w f want marked own Counted alike goes =
+goes_after : (v a w : PortValue) (f : ℕ) (want : PageType) (marked own : Bool) (recorded : ℕ) (t : Taken) → Alike (told_word a) (told_word v) → GoesPlainly a w f want marked own recorded t → GoesPlainly v w f want marked own recorded t
+goes_after v a w f want marked own recorded Counted alike goes =
     let l = live_kind want (if own then 1 else 2) in
     (goes.0, alike_trans (told_word w) (set_kind f l (told_word a)) (set_kind f l (told_word v)) goes.1 (alike_store (kind_write l) (Kind f) (told_word a) (told_word v) alike))
-goes_after v a w f want marked own (InWork progress mine) alike goes =
+goes_after v a w f want marked own recorded (InWork progress mine) alike goes =
     let l = work_kind want false 0 in
-    (goes.0, goes.1, alike_trans (told_word w) (set_kind f l (told_word a)) (set_kind f l (told_word v)) goes.2 (alike_store (kind_write l) (Kind f) (told_word a) (told_word v) alike))
-goes_after v a w f want marked own (Waiting mine stamp stop) alike goes = (goes.0, goes.1, alike_trans (told_word w) (told_word a) (told_word v) goes.2 alike)
+    (goes.0, goes.1, goes.2, alike_trans (told_word w) (set_kind f l (told_word a)) (set_kind f l (told_word v)) goes.3 (alike_store (kind_write l) (Kind f) (told_word a) (told_word v) alike))
+goes_after v a w f want marked own recorded (Waiting mine stamp stop) alike goes = (goes.0, goes.1, alike_trans (told_word w) (told_word a) (told_word v) goes.2 alike)
 
-pub plain_after : (v a w : PortValue) (f : ℕ) (want : PageType) (marked own : Bool) (t : Taken) → Came v a → Alike (told_word a) (told_word v) → is_telling v ≡ true → marked ≡ true → TwinOn a w f want marked own t →
-    GoesPlainly v w f want marked own t
-plain_after v a w f want marked own t came alike telling on twin =
-    goes_after v a w f want marked own t alike (twin (came_telling v a came ∙ telling) (λ off. absurd (let both : true ≡ false = sym on ∙ off in cc)))
+pub plain_after : (v a w : PortValue) (f : ℕ) (want : PageType) (marked own : Bool) (recorded : ℕ) (t : Taken) → Came v a → Alike (told_word a) (told_word v) → is_telling v ≡ true → marked ≡ true → TwinOn a w f want marked own recorded t →
+    GoesPlainly v w f want marked own recorded t
+plain_after v a w f want marked own recorded t came alike telling on twin =
+    goes_after v a w f want marked own recorded t alike (twin (came_telling v a came ∙ telling) (λ off. absurd (let both : true ≡ false = sym on ∙ off in cc)))

@@ -32,7 +32,7 @@ use Rattle.frame_types.specs.declared.taking.Taken.{Taken}
 use Rattle.frame_types.specs.declared.taking.Taken.TheVariants.{Counted, InWork, Waiting}
 use Rattle.frame_types.specs.Plain.{GoesPlainly, IsTakenBy, TakesPlainly, TwinOn, is_read_first, less_kept, set_kind, stop_by, taken_by, type_stop, work_unmarked}
 use Rattle.frame_types.specs.Standing.{standing_of}
-use Rattle.frame_types.specs.Taking.{Looked, stamp_by}
+use Rattle.frame_types.specs.Taking.{Looked, progress_of, stamp_by}
 
 -- ---- stores of a kind word
 stored_over : (f : ℕ) (l j : KindWord) (m : Words) → set_kind f l (set_kind f j m) ≡ set_kind f l m
@@ -127,25 +127,25 @@ module _ (b v : PortValue) (f owner : ℕ) (want : PageType) (word : ℕ) (l : L
     changed_telling change = moves_telling v w (Kind f) (Cas (kind_write k) (kind_write new)) kinds.Kind None (kind_write k) change ∙ telling_then
 
 -- ---- behind the exchange: from words m with that kind word
-abbrev Ends : PortValue → ℕ → PageType → Bool → ℕ → Bool → Words → Taken → Type 0
-Ends w f want marked stamp own m Counted = (is_read_first want ≡ false) × Alike (told_word w) (set_kind f (live_kind want (if own then 1 else 2)) m)
-Ends w f want marked stamp own m (InWork progress mine) = (is_read_first want ≡ true) × (mine ≡ own) × Alike (told_word w) (set_kind f (work_kind want false 0) m)
-Ends w f want marked stamp own m (Waiting mine number stop) = (marked ≡ true) × (mine ≡ own) × Alike (told_word w) (set_kind f (work_kind want marked stamp) m)
+abbrev Ends : PortValue → ℕ → PageType → Bool → ℕ → Bool → ℕ → Words → Taken → Type 0
+Ends w f want marked stamp own recorded m Counted = (is_read_first want ≡ false) × Alike (told_word w) (set_kind f (live_kind want (if own then 1 else 2)) m)
+Ends w f want marked stamp own recorded m (InWork progress mine) = (is_read_first want ≡ true) × (mine ≡ own) × (progress ≡ recorded) × Alike (told_word w) (set_kind f (work_kind want false 0) m)
+Ends w f want marked stamp own recorded m (Waiting mine number stop) = (marked ≡ true) × (mine ≡ own) × Alike (told_word w) (set_kind f (work_kind want marked stamp) m)
 
 module _ (x w : PortValue) (f : ℕ) (want : PageType) (marked : Bool) (k : KindWord) (own : Bool) (m : Words) (words : told_word x ≡ set_kind f (work_kind want marked (stamp_by marked k)) m) where
   over : (l : KindWord) → Alike (told_word w) (set_kind f l (told_word x)) → Alike (told_word w) (set_kind f l m)
   over l alike = subst (λ (y : Words). Alike (told_word w) y) (ap (λ (y : Words). set_kind f l y) words ∙ stored_over f l (work_kind want marked (stamp_by marked k)) m) alike
 
-  ends_by : (t : Taken) → GoesPlainly x w f want marked own t → Ends w f want marked (stamp_by marked k) own m t
+  ends_by : (t : Taken) → GoesPlainly x w f want marked own (progress_of k) t → Ends w f want marked (stamp_by marked k) own (progress_of k) m t
   ends_by Counted goes = (goes.0, over (live_kind want (if own then 1 else 2)) goes.1)
-  ends_by (InWork progress mine) goes = (goes.0, goes.1, over (work_kind want false 0) goes.2)
+  ends_by (InWork progress mine) goes = (goes.0, goes.1, goes.2, over (work_kind want false 0) goes.3)
   ends_by (Waiting mine stamp stop) goes = (goes.0, goes.1, subst (λ (y : Words). Alike (told_word w) y) words goes.2)
 
   unmarked : marked ≡ false → told_word x (Kind f) ≡ kind_write (work_kind want false 0)
   unmarked off =
       ap (λ (y : Words). y (Kind f)) words ∙ stored_there f (work_kind want marked (stamp_by marked k)) m ∙ ap (λ y. kind_write (work_kind want y (stamp_by y k))) off
 
-  pub ends : (t : Taken) → is_telling x ≡ true → TwinOn x w f want marked own t → Ends w f want marked (stamp_by marked k) own m t
+  pub ends : (t : Taken) → is_telling x ≡ true → TwinOn x w f want marked own (progress_of k) t → Ends w f want marked (stamp_by marked k) own (progress_of k) m t
   ends t telling twin = ends_by t (twin telling unmarked)
 
 -- ---- from dead
@@ -154,10 +154,10 @@ unmarked_work true want n = refl
 unmarked_work false want n = refl
 
 module _ (w : PortValue) (f : ℕ) (want : PageType) (k : KindWord) (m : Words) where
-  dead_way : (t : Taken) → Ends w f want (is_stale k want) (stamp_by (is_stale k want) k) true m t → IsTakenBy want k stands.Dead t × Alike (told_word w) (taken_by f want k stands.Dead t m)
+  dead_way : (t : Taken) → Ends w f want (is_stale k want) (stamp_by (is_stale k want) k) true (progress_of k) m t → IsTakenBy want k stands.Dead t × Alike (told_word w) (taken_by f want k stands.Dead t m)
   dead_way Counted e = e
   dead_way (InWork progress mine) e =
-      ((e.0, e.1), subst (λ y. Alike (told_word w) (set_kind f y m)) (sym (unmarked_work (is_stale k want) want k.number)) e.2)
+      ((e.0, e.1, e.2), subst (λ y. Alike (told_word w) (set_kind f y m)) (sym (unmarked_work (is_stale k want) want k.number)) e.3)
   dead_way (Waiting mine stamp stop) e = ((e.0, e.1), e.2)
 
   -- ---- from partial
@@ -165,10 +165,10 @@ module _ (w : PortValue) (f : ℕ) (want : PageType) (k : KindWord) (m : Words) 
     instead : (l j : KindWord) → l ≡ j → Alike (told_word w) (set_kind f l n) → Alike (told_word w) (set_kind f j (less_kept f k stands.Partial m))
     instead l j is alike = subst (λ y. Alike (told_word w) (set_kind f y (less_kept f k stands.Partial m))) is (subst (λ (y : Words). Alike (told_word w) (set_kind f l y)) rest alike)
 
-    partial_way : (t : Taken) → Ends w f want k.unflushed (stamp_by k.unflushed k) own n t → IsTakenBy want k stands.Partial t × Alike (told_word w) (taken_by f want k stands.Partial t m)
+    partial_way : (t : Taken) → Ends w f want k.unflushed (stamp_by k.unflushed k) own (progress_of k) n t → IsTakenBy want k stands.Partial t × Alike (told_word w) (taken_by f want k stands.Partial t m)
     partial_way Counted e = (e.0, instead (live_kind want (if own then 1 else 2)) (live_kind want (if k.kept then 1 else 2)) (ap (λ y. live_kind want (if y then 1 else 2)) (sym kept)) e.1)
     partial_way (InWork progress mine) e =
-        ((e.0, e.1 ∙ sym kept), instead (work_kind want false 0) (work_unmarked (resumed_kind k)) (sym (ap (λ y. work_unmarked y) again ∙ unmarked_work k.unflushed want k.number)) e.2)
+        ((e.0, e.1 ∙ sym kept, e.2), instead (work_kind want false 0) (work_unmarked (resumed_kind k)) (sym (ap (λ y. work_unmarked y) again ∙ unmarked_work k.unflushed want k.number)) e.3)
     partial_way (Waiting mine stamp stop) e = ((e.0, e.1 ∙ sym kept), instead (work_kind want k.unflushed (stamp_by k.unflushed k)) (resumed_kind k) (sym again) e.2)
 
 -- ---- the ways of the call
@@ -193,7 +193,7 @@ module _ (b v : PortValue) (f owner : ℕ) (want : PageType) (word : ℕ) (l : L
       plain_taken b w f want word k stands.Counted there of stand Counted refl refl
       (same_alike (told_word w) (set_kind f (raised_kind k) (told_word b)) (λ q. ap (λ (m : Words). m q) (changed_words b v f owner want word l telling w k (raised_kind k) was step)))
 
-  pub plain_dead : (x w : PortValue) (t : Taken) → standing_of k want ≡ stands.Dead → Moves v x (Kind f) (Cas (kind_write k) (kind_write (begun_kind k want))) kinds.Kind None (kind_write k) → TwinOn x w f want (is_stale k want) true t →
+  pub plain_dead : (x w : PortValue) (t : Taken) → standing_of k want ≡ stands.Dead → Moves v x (Kind f) (Cas (kind_write k) (kind_write (begun_kind k want))) kinds.Kind None (kind_write k) → TwinOn x w f want (is_stale k want) true (progress_of k) t →
       TakesPlainly b w f want (Ok t)
   plain_dead x w t stand step twin =
       let way = dead_way w f want k (told_word b) t
@@ -208,13 +208,13 @@ module _ (b v : PortValue) (f owner : ℕ) (want : PageType) (word : ℕ) (l : L
     telling_x : is_telling x ≡ true
     telling_x = changed_telling b v f owner want word l telling x k (resumed_kind k) was change
 
-    pub plain_unkept : (w : PortValue) (t : Taken) → k.kept ≡ false → TwinOn x w f want k.unflushed false t → TakesPlainly b w f want (Ok t)
+    pub plain_unkept : (w : PortValue) (t : Taken) → k.kept ≡ false → TwinOn x w f want k.unflushed false (progress_of k) t → TakesPlainly b w f want (Ok t)
     plain_unkept w t kept twin =
         let way = partial_way w f want k (told_word b) false kept again (told_word b) (ap (λ y. if y then put f (told_word b) else told_word b) (sym kept)) t
         (ends x w f want k.unflushed k false (told_word b) words t telling_x twin) in
         plain_taken b w f want word k stands.Partial there of stand t refl way.0 way.1
 
-    pub plain_kept : (y w : PortValue) (t : Taken) → k.kept ≡ true → is_telling y ≡ is_telling x → (is_telling x ≡ true → Leaves y (put f (told_word x))) → TwinOn y w f want k.unflushed true t → TakesPlainly b w f want (Ok t)
+    pub plain_kept : (y w : PortValue) (t : Taken) → k.kept ≡ true → is_telling y ≡ is_telling x → (is_telling x ≡ true → Leaves y (put f (told_word x))) → TwinOn y w f want k.unflushed true (progress_of k) t → TakesPlainly b w f want (Ok t)
     plain_kept y w t kept on puts twin =
         let after : told_word y ≡ put f (told_word x) = (λ i q. puts telling_x q i) in
         let all = after ∙ ap (λ (m : Words). put f m) words ∙ put_apart f (work_kind want k.unflushed (stamp_by k.unflushed k)) (told_word b) in

@@ -66,6 +66,7 @@ pub returns-then-marked-clause-plain : goal.returns-then-marked-clause-plain
 returns-then-marked-clause-plain g c telling same = (
   sym c.is_read_first.ensures ∙ c.if-not-is_read_first.false,
   refl,
+  c.progress_of.ensures,
   stored_alike (g.P.Port.value c.args.port.now) (g.P.Port.value c.leave-then-marked.new.port) c.args.frame (work_kind c.args.want false 0) c.work_kind.result c.leave-then-marked.result c.leave-then-marked.ensures.moves c.work_kind.ensures telling,
 )
 
@@ -84,5 +85,6 @@ returns-else-marked-clause-plain g c telling same =
     let v = g.P.Port.value c.args.port.now in (
       sym c.is_read_first.ensures ∙ c.if-not-is_read_first.false,
       refl,
+      c.progress_of-else-marked.ensures,
       same_alike (told_word v) _ (store_same (kind_write (work_kind c.args.want false 0)) (Kind c.args.frame) (told_word v) (same c.if-marked.false)),
     )

@@ -35,7 +35,7 @@ returns-in-Ok-clause-hand g c b e =
 
 pub returns-in-Ok-clause-plain : goal.returns-in-Ok-clause-plain
 returns-in-Ok-clause-plain g c telling same =
-    plain_after (g.P.Port.value c.args.port.now) (g.P.Port.value c.clear_stale.new.port) (g.P.Port.value c.finish.new.port) c.args.frame c.args.want c.args.marked c.args.own c.finish.result c.in-Ok.ensures.came
+    plain_after (g.P.Port.value c.args.port.now) (g.P.Port.value c.clear_stale.new.port) (g.P.Port.value c.finish.new.port) c.args.frame c.args.want c.args.marked c.args.own (progress_of c.args.kind) c.finish.result c.in-Ok.ensures.came
     (c.in-Ok.ensures.plain telling) telling c.if-marked.true c.finish.ensures.plain
 
 pub returns-in-Err-clause-serves : goal.returns-in-Err-clause-serves

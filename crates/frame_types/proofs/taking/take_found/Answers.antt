@@ -132,7 +132,7 @@ returns-in-Ok-begin_work-clause-plain g c b l telling =
     let x = g.P.Port.value c.begin_work.new.port in
     let w = g.P.Port.value c.go_on.new.port in
     plain_dead b (g.P.Port.value c.args.port.now) c.args.frame c.args.owner c.args.want c.args.word l k c.read_kind-kind.ensures (read_is c.args.word k c.read_kind-kind.ensures).1 telling x w c.go_on.result
-    (sym c.classify.ensures ∙ c.in-Dead.is) c.in-Ok-begin_work.ensures.moves (subst (λ m. TwinOn x w c.args.frame c.args.want m true c.go_on.result) c.is_stale_for-marked.ensures c.go_on.ensures.plain)
+    (sym c.classify.ensures ∙ c.in-Dead.is) c.in-Ok-begin_work.ensures.moves (subst (λ m. TwinOn x w c.args.frame c.args.want m true (progress_of k) c.go_on.result) c.is_stale_for-marked.ensures c.go_on.ensures.plain)
 
 pub returns-in-Err-begin_work-clause-takes : goal.returns-in-Err-begin_work-clause-takes
 returns-in-Err-begin_work-clause-takes g c b l =
