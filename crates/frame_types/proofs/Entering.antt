@@ -50,7 +50,7 @@ typed_owned f owner e xs h typed frame owned =
     ap (λ o. owner_by_typed o (owner_from h)) (ap (λ ys. typed_on f ys) typed ∙ first_by-cons_here (λ (y : TypedReference). y.frame) f e xs frame) ∙ owned
 
 -- ---- the hand
-working_works : (f owner : ℕ) (want : PageType) (own : Bool) (e : Work) (since : ℕ) (h : Holdings) → (working f owner want own e since h).works ≡ e ∷ h.works
+pub working_works : (f owner : ℕ) (want : PageType) (own : Bool) (e : Work) (since : ℕ) (h : Holdings) → (working f owner want own e since h).works ≡ e ∷ h.works
 working_works f owner want true e since h = refl
 working_works f owner want false e since h = refl
 

@@ -10,11 +10,13 @@ use Rattle.xp_board.specs.Acts.{left_by}
 use Rattle.xp_board.specs.Steps.{is_same}
 use Rattle.xp_board.specs.Told.{PortValue, is_telling, told_word}
 use Rattle.board_lemmas.proofs.PlaceTests.{same_place}
+use Rattle.step_maker.specs.Holds.{Holds}
 use Rattle.step_maker.specs.Moves.{Moves}
 use Rattle.step_maker.specs.Plain.{Words, change}
 use Rattle.step_maker.proofs.Telling.{by_test, leaves}
 use Rattle.answer_fits.specs.Twins.{Alike}
 use Rattle.answer_fits.proofs.Alikes.{same_alike}
+use Rattle.kind_words.specs.Kinds.{left}
 use Rattle.frame_types.specs.Plain.{set_kind}
 
 -- the word that is there already
@@ -26,3 +28,10 @@ pub stored_alike : (v w : PortValue) (f : ℕ) (k l : KindWord) (found : ℕ) �
 stored_alike v w f k l found store is telling =
     subst (λ y. Alike (told_word w) (set_kind f y (told_word v))) is
     (same_alike (told_word w) (set_kind f l (told_word v)) (leaves v w (Kind f) (Store (kind_write l)) kinds.Kind None found store telling))
+
+-- ---- a word that is left, by its value
+abbrev pub moved_as : (v d : PortValue) (f x : ℕ) (k l : KindWord) → k ≡ l → Moves v d (Kind f) (Store (kind_write k)) kinds.Kind None x → Moves v d (Kind f) (Store (kind_write l)) kinds.Kind None x
+moved_as v d f x k l is m = subst (λ y. Moves v d (Kind f) (Store (kind_write y)) kinds.Kind None x) is m
+
+abbrev pub held_as : (v d : PortValue) (f : ℕ) (k l : KindWord) → k ≡ l → Holds v d (left v f k) → Holds v d (left v f l)
+held_as v d f k l is h = subst (λ y. Holds v d (left v f y)) is h
