@@ -16,19 +16,14 @@ use Rattle.xp_board.specs.declared.holdings.OwnerFound.TheVariants as owners
 use Rattle.xp_board.specs.Hands.{without_ref, without_typed, work_on, without_work, changed_work}
 use Rattle.xp_board.specs.KindSteps.{live_typed}
 use Rattle.xp_board.specs.Lists.{changed_by}
-use Rattle.xp_board.specs.Readings.{is_dead, is_work}
+use Rattle.xp_board.specs.Readings.{is_work}
 use Rattle.xp_board.specs.Told.{PortValue}
-use Rattle.xp_board.proofs.Returned.{same_type}
 use Rattle.board_lemmas.proofs.Sums.{when_eq}
 use Rattle.step_maker.specs.Holds.{FlushedHolds, Holds, MayWork, quiet}
-use Rattle.step_maker.specs.Moves.{Moves, Met}
+use Rattle.step_maker.specs.Moves.{Moves}
 use Rattle.answer_fits.specs.Answers.{Deed, Serves}
 use Rattle.answer_fits.specs.Asked.{of_frame}
-use Rattle.answer_fits.specs.Reasons.{keeps_type}
-use Rattle.answer_fits.proofs.Piecing.{serves_step}
-use Rattle.frame_words.proofs.Taking.{names_itself}
 use Rattle.kind_words.specs.Kinds.{IsWholeWork, MayLeave, left, live_kind, unmarked_kind, work_kind}
-use Rattle.kind_words.proofs.KindFacts.{work_word}
 use Rattle.kind_words.proofs.KindHands.{plain_whole}
 use Rattle.kind_words.proofs.KindWriting.{fields_write, live_is}
 use Rattle.kind_words.proofs.Leaving.{may_leave_live, left_live, may_leave_shared, left_shared, may_leave_unmarked, left_unmarked, without_newest}
@@ -37,6 +32,7 @@ use Rattle.flush_waits.specs.Waiting.{IsFlushed}
 use Rattle.frame_types.specs.Plain.{is_read_first}
 use Rattle.frame_types.specs.Taking.{Enters, IsWorking, WorksFrom, typed_as, working, working_typed}
 use Rattle.frame_types.proofs.Entering.{entered_works, entered_here, entered_fields, entered_past, own_typed, own_held, own_owner, shared_lent, shared_aside, lent_held, lent_owner}
+use Rattle.frame_types.proofs.Serving.{store_serves}
 
 no_table : (t : PageType) → is_read_first t ≡ false → is_table t ≡ false
 no_table t off = grind arith
@@ -213,15 +209,10 @@ plain_works b v f owner want stamp progress own e =
     }
 
 -- ---- its steps serve the type that is asked
-kept_type : (found new : ℕ) (k l : KindWord) → kind_fields found ≡ k → kind_fields new ≡ l → l.kind ≡ k.kind → is_dead k ≡ false → IsTrue (keeps_type found new)
-kept_type found new k l is to same alive = rw (is, to, same, alive, same_type k.kind) refl
-
 pub left_serves : (u b v w : PortValue) (f owner : ℕ) (want : PageType) (marked : Bool) (stamp progress : ℕ) (own : Bool) → Enters b v f owner want marked stamp progress own → (l : KindWord) → IsTrue (is_kind l) → l.kind ≡ want →
     (found : ℕ) → Moves v w (Kind f) (Store (kind_write l)) kinds.Kind None found → (ds : List Deed) → Serves u v (of_frame f owner (Some want)) ds → Serves u w (of_frame f owner (Some want)) ds
 left_serves u b v w f owner want marked stamp progress own e l is kind found store ds before =
-    let word : found ≡ e.work.word = work_word v.post.machine v.post.vcpu v.holdings f found e.work store.finds (here b v f owner want marked stamp progress own e) in
-    serves_step u v w (of_frame f owner (Some want)) ds (Kind f) (Store (kind_write l)) kinds.Kind None found before store
-    (names_itself u.post.machine u.post.vcpu f owner (Some want) (Met u w), kept_type found (kind_write l) (work_kind want marked stamp) l (ap (λ y. kind_fields y) word ∙ fields b v f owner want marked stamp progress own e) (fields_write l is) kind refl)
+    store_serves u v w f owner want ds before e.work l found (here b v f owner want marked stamp progress own e) (in_work b v f owner want marked stamp progress own e) (of_kind b v f owner want marked stamp progress own e) is kind store
 
 -- the words of frames that are left so
 pub live_spelled : (want : PageType) (own : Bool) → IsTrue (not (is_none want)) → IsTrue (is_kind (live_kind want (if own then 1 else 2)))

@@ -33,7 +33,8 @@ pub fn leave_shared<P: Port>(port: &mut P, frame: u32, want: PageType, stamp: u6
     ensures plain { is_telling (P.value port.old) ≡ true → Leaves (P.value port.new) (put frame (set_kind frame (partial_kind want false true 0 stamp) (told_word (P.value port.old)))) }
     ensures owned { is_telling (P.value port.old) ≡ true → is_free (told_word (P.value port.old) (Refs frame)) ≡ false }
 {
-    leave(port, frame, partial_kind(want, stamp, false));
+    let as_found = partial_kind(want, stamp, false);
+    leave(port, frame, as_found);
     put_ref(port, frame);
 }
 

@@ -13,11 +13,11 @@ ghost use Rattle.frame_types.specs.Plain.{TwinGiveUp, TwinMemory, is_refused};
 ghost use Rattle.frame_types.specs.Leaving.{GivesUp, IsMemoryWaiting, ServesType};
 ghost use Rattle.frame_types.specs.Taking.{IsTypeStop, LentBy, typed_as};
 
+use crate::leaving::{leave_dead, leave_shared};
 use crate::taking::{Taken, take_type};
-use crate::words::{dead_kind, partial_kind};
+use crate::words::partial_kind;
 use frame_words::put_ref;
 use kind_words::leave;
-use step_maker::look_clock;
 use xp_board::Port;
 use xp_words::{PageType, Stop};
 
@@ -63,15 +63,10 @@ fn give_up<P: Port>(port: &mut P, frame: u32, own: bool, stamp: u64, stop: Stop)
     ensures owned { IsTrue (not own || is_refused stop) → is_telling (P.value port.old) ≡ true → is_free (told_word (P.value port.old) (Refs frame)) ≡ false }
 {
     if !own {
-        leave(port, frame, partial_kind(PageType::Writable, stamp, false));
-        put_ref(port, frame);
+        leave_shared(port, frame, PageType::Writable, stamp);
     } else {
         match stop {
-            Stop::Refused(_) => {
-                let clock = look_clock(port);
-                leave(port, frame, dead_kind(PageType::Writable, true, clock));
-                put_ref(port, frame);
-            }
+            Stop::Refused(_) => leave_dead(port, frame, PageType::Writable),
             Stop::Paused(_) => {
                 leave(port, frame, partial_kind(PageType::Writable, stamp, true));
             }

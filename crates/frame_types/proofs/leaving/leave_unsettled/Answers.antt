@@ -1,4 +1,4 @@
-use Rattle.std.proofs.Common.{true, refl, ap, ◌∙◌}
+use Rattle.std.proofs.Common.{true, refl, ap}
 use Rattle.std.proofs.lemmas.Bool.{or_left}
 use Rattle.step_maker.specs.Plain.{Words}
 use Rattle.step_maker.proofs.Coming.{moves_came}

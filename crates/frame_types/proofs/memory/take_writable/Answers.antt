@@ -7,7 +7,8 @@ use Rattle.answer_fits.proofs.Piecing.{serves_came, stops_before}
 use Rattle.xp_board.specs.Told.{is_telling}
 use Rattle.step_maker.proofs.Telling.{came_telling}
 use Rattle.frame_types.proofs.GivenUp.{after_stop, after_wait, found_stamp}
-use Rattle.frame_types.proofs.Waiting.{back_serves, err_gives, wait_stops}
+use Rattle.frame_types.proofs.Serving.{back_serves}
+use Rattle.frame_types.proofs.Waiting.{err_gives, wait_stops}
 use Rattle.frame_types.proofs.memory.take_writable.Goals as goal
 
 pub put_ref-requires-clause-gives : goal.put_ref-requires-clause-gives
@@ -24,7 +25,7 @@ returns-in-Ok-Waiting-clause-stops g c =
 
 pub returns-in-Err-clause-serves : goal.returns-in-Err-clause-serves
 returns-in-Err-clause-serves g c =
-    back_serves (g.P.Port.value c.args.port.now) (g.P.Port.value c.take_type.new.port) (g.P.Port.value c.put_ref.new.port) c.args.frame c.args.owner _ c.in-Err.ensures.serves c.put_ref.ensures.serves
+    back_serves (g.P.Port.value c.args.port.now) (g.P.Port.value c.take_type.new.port) (g.P.Port.value c.put_ref.new.port) c.args.frame c.args.owner Writable _ c.in-Err.ensures.serves c.put_ref.ensures.serves
 
 pub returns-in-Err-clause-stops : goal.returns-in-Err-clause-stops
 returns-in-Err-clause-stops g c =
