@@ -1,3 +1,4 @@
+pub mod Lowering
 pub mod Plain
 pub mod Standing
 pub mod Taking

@@ -1,12 +1,14 @@
 //! Types of frames, taken and given back.
 #![tactic(auto)]
 
+mod lowering;
 mod memory;
 mod plain;
 mod standing;
 mod taking;
 mod words;
 
+pub use lowering::drop_type;
 pub use memory::take_writable;
 pub use plain::drop_plain;
 pub use standing::Standing;

@@ -1,0 +1,2 @@
+pub mod PinWords
+pub mod RowSteps
