@@ -1,2 +1,3 @@
 pub mod PinWords
+pub mod OldHands
 pub mod RowSteps

@@ -1,5 +1,5 @@
 //! Tables in work, pins, and the own words that name frames whose release is unfinished: one step each, and what these leave in hand.
-#![tactic(auto, using(crate::proofs::RowSteps::rows))]
+#![tactic(auto)]
 
 mod entries;
 mod old_words;
