@@ -1,3 +1,4 @@
-pub mod PinWords
 pub mod OldHands
+pub mod PinSteps
+pub mod PinWords
 pub mod RowSteps
