@@ -1,3 +1,5 @@
+pub mod EntryHands
+pub mod Knowing
 pub mod OldHands
 pub mod PinSteps
 pub mod PinWords
