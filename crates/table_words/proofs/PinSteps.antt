@@ -1,5 +1,5 @@
 -- When a pin may be set and cleared, and what that leaves in hand.
-use Rattle.std.proofs.Common.{◌≡◌, ◌≢◌, ℕ, ◌<◌, true, false, Result, Ok, Err, IfErr, MatchResult, Some, None, IsTrue, refl, arith}
+use Rattle.std.proofs.Common.{◌≡◌, ◌≢◌, ℕ, ◌<◌, true, false, Result, Ok, Err, IfErr, MatchResult, Some, None, IsTrue, arith}
 use Rattle.std.proofs.lemmas.Bool.Decides.{nat_tests}
 use Rattle.xp_words.specs.KindWords.{is_kind, kind_write}
 use Rattle.xp_words.specs.declared.kind.KindWord.{KindWord}

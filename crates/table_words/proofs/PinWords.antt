@@ -1,5 +1,5 @@
 -- The kind words with a pin and without are spellings.
-use Rattle.std.proofs.Common.{ℕ, ◌<◌, IsTrue, arith}
+use Rattle.std.proofs.Common.{◌<◌, IsTrue, arith}
 use Rattle.std.proofs.lemmas.Bool.Decides.{nat_tests}
 use Rattle.xp_words.specs.KindWords.{is_kind, has_form}
 use Rattle.xp_words.specs.PageTypes.{is_table}

@@ -1,5 +1,5 @@
 -- When each row may be made.
-use Rattle.std.proofs.Common.{◌≡◌, ℕ, ◌+◌, ◌<◌, ◌^◌, ◌≤◌, nat_lt, nat_le, length, Some, None, IsTrue, refl, sym, ap, subst, arith, lit<, inl, inr}
+use Rattle.std.proofs.Common.{◌≡◌, ℕ, ◌+◌, ◌<◌, ◌≤◌, length, Some, None, IsTrue, refl, sym, subst, arith, lit<, inl, inr}
 use Rattle.std.proofs.lemmas.Bool.Decides.{nat_tests}
 use Rattle.xp_words.specs.Machine.{Machine}
 use Rattle.xp_words.specs.declared.place.Place.TheVariants.{Clock, Kind, Vcpu}
@@ -18,7 +18,7 @@ use Rattle.kind_words.proofs.RowSteps.{kind_there}
 use Rattle.step_maker.specs.Holds.{MayWork}
 use Rattle.step_maker.specs.Moves.{May}
 use Rattle.table_words.specs.Entries.{RecordsNext, ShedsLast}
-use Rattle.table_words.specs.OldWords.{old_number, old_place}
+use Rattle.table_words.specs.OldWords.{old_number}
 use Rattle.table_words.specs.declared.old_words.OldWord.{OldWord}
 use Rattle.table_words.specs.declared.old_words.OldWord.TheVariants.{First, Second}
 
@@ -77,4 +77,3 @@ module _ (v : PortValue) (s k : ℕ) (which : OldWord) (own : s ≡ v.post.vcpu)
 
   pub may_take_old : May v (Vcpu s k) (Store 0) kinds.Context None
   may_take_old = may_name 0 (omega arith) (record { own = own; word = old_in_context which; names = inl refl })
-
