@@ -8,19 +8,17 @@ use Rattle.xp_words.specs.declared.kind.PageType.{PageType}
 use Rattle.xp_words.specs.declared.place.Place.TheVariants.{Clock, Kind, Refs}
 use Rattle.xp_board.specs.declared.step.Act.TheVariants.{Load, Store, Add}
 use Rattle.xp_board.specs.declared.step.StepKind.TheVariants as kinds
-use Rattle.xp_board.specs.Acts.{left_by}
-use Rattle.xp_board.specs.KindSteps.{dropped}
 use Rattle.xp_board.specs.Readings.{is_closing, is_dead, is_free, is_type}
 use Rattle.xp_board.specs.RefSteps.{one_down}
 use Rattle.xp_board.specs.Told.{PortValue, is_telling, told_word}
-use Rattle.step_maker.specs.Holds.{Holds, Same}
+use Rattle.step_maker.specs.Holds.{Same}
 use Rattle.step_maker.specs.Moves.{Moves}
 use Rattle.step_maker.specs.Plain.{Words, change, Leaves}
 use Rattle.step_maker.proofs.Telling.{leaves, load_tells, moves_telling, told_there, told_elsewhere}
 use Rattle.answer_fits.specs.Answers.{Serves}
 use Rattle.answer_fits.specs.Asked.{of_back}
 use Rattle.answer_fits.specs.Reasons.{keeps_type}
-use Rattle.answer_fits.proofs.Piecing.{moves_serves, serves_step, serves_then}
+use Rattle.answer_fits.proofs.Piecing.{serves_step, serves_then}
 use Rattle.frame_words.specs.Plain.{put, stamp_now}
 use Rattle.frame_words.proofs.Putting.{clock_low}
 use Rattle.frame_words.proofs.Twinning.{low_rest}
@@ -30,18 +28,13 @@ use Rattle.kind_words.proofs.KindFacts.{work_word}
 use Rattle.kind_words.proofs.KindWriting.{fields_write}
 use Rattle.frame_types.specs.Plain.{dropped_plain, set_kind}
 use Rattle.frame_types.specs.Taking.{MayDropPlain}
+use Rattle.frame_types.proofs.Lowered.{lowered_words, lowers}
 use Rattle.frame_types.proofs.Dropping.{closing, found_is, here, is_closed, fields, kind_is, last_may}
 
 -- ---- not the last
 module _ (v a w : PortValue) (f found : ℕ) (kind : PageType) (lower : Moves v a (Kind f) (Add one_down) kinds.Kind None found) where
-  lowers : Serves v a (of_back f) []
-  lowers = moves_serves v a (of_back f) _ _ _ _ _ lower (backs_itself v.post.machine v.post.vcpu f _)
-
   pub more_serves : Serves a w (of_back f) [] → Serves v w (of_back f) []
-  more_serves put = serves_then v a w (of_back f) [] [] lowers put
-
-  lowered_words : is_telling v ≡ true → told_word a ≡ change (Add one_down) (Kind f) (told_word v)
-  lowered_words telling = λ i q. leaves v a (Kind f) (Add one_down) kinds.Kind None found lower telling q i
+  more_serves put = serves_then v a w (of_back f) [] [] (lowers v a f found lower) put
 
   pub telling_a : is_telling v ≡ true → is_telling a ≡ true
   telling_a telling = moves_telling v a (Kind f) (Add one_down) kinds.Kind None found lower ∙ telling
@@ -51,14 +44,13 @@ module _ (v a w : PortValue) (f found : ℕ) (kind : PageType) (lower : Moves v 
 
   pub more_words : ((kind_fields found).number == 1) ≡ false → (is_telling a ≡ true → Leaves w (put f (told_word a))) → is_telling v ≡ true → Leaves w (dropped_plain f kind (told_word v))
   more_words off after telling q =
-      after (telling_a telling) q ∙ ap (λ (m : Words). put f m q) (lowered_words telling)
+      after (telling_a telling) q ∙ ap (λ (m : Words). put f m q) (λ i p. lowered_words v a f found lower telling p i)
       ∙ sym (ap (λ b. put f (if b then set_kind f (dead_kind kind false (stamp_now (told_word v))) (change (Add one_down) (Kind f) (told_word v)) else change (Add one_down) (Kind f) (told_word v)) q) (by_number false off telling))
 
 -- ---- the frame stands live, and is not free
-module _ (v a : PortValue) (f found : ℕ) (kind : PageType) (frame : f < v.post.machine.frames) (drops : MayDropPlain v.post.machine f kind v.holdings) (lower : Moves v a (Kind f) (Add one_down) kinds.Kind None found)
-    (hand : Holds v a (dropped f found (left_by (Add one_down) found) v.holdings)) where
+module _ (v a : PortValue) (f found : ℕ) (kind : PageType) (frame : f < v.post.machine.frames) (drops : MayDropPlain v.post.machine f kind v.holdings) (lower : Moves v a (Kind f) (Add one_down) kinds.Kind None found) where
   stands_live : is_telling v ≡ true → (kind_fields (told_word v (Kind f))).validated ≡ true
-  stands_live telling = ap (λ x. (kind_fields x).validated) (told_there v a (Kind f) (Add one_down) kinds.Kind None found lower telling) ∙ (found_is v a f found kind frame drops lower hand).live
+  stands_live telling = ap (λ x. (kind_fields x).validated) (told_there v a (Kind f) (Add one_down) kinds.Kind None found lower telling) ∙ (found_is v a f found kind frame drops lower).live
 
   pub more_stands : (is_telling a ≡ true → is_free (told_word a (Refs f)) ≡ false) → is_telling v ≡ true → (is_free (told_word v (Refs f)) ≡ false) × ((kind_fields (told_word v (Kind f))).validated ≡ true)
   more_stands owned telling = (
@@ -87,23 +79,23 @@ keeps_by : (t : PageType) (k l : KindWord) → k.kind ≡ t → l.kind ≡ t →
 keeps_by t k l a b live = rw (a, b, live) (same_type t)
 
 module _ (v a b d w : PortValue) (f found stamp x : ℕ) (kind : PageType) (frame : f < v.post.machine.frames) (drops : MayDropPlain v.post.machine f kind v.holdings)
-    (lower : Moves v a (Kind f) (Add one_down) kinds.Kind None found) (hand : Holds v a (dropped f found (left_by (Add one_down) found) v.holdings)) (last : ((kind_fields found).number == 1) ≡ true)
+    (lower : Moves v a (Kind f) (Add one_down) kinds.Kind None found) (last : ((kind_fields found).number == 1) ≡ true)
     (look : Moves a b Clock Load kinds.Look None stamp) (same : Same a b) (dead : Moves b d (Kind f) (Store (kind_write (dead_kind kind false stamp))) kinds.Kind None x) where
   -- the word found is that of the closing frame
-  closing_word : x ≡ (closing v a f found kind frame drops lower hand last).word
-  closing_word = work_word b.post.machine b.post.vcpu b.holdings f x _ dead.finds (here v a f found kind frame drops lower hand last b stamp look same)
+  closing_word : x ≡ (closing v a f found kind frame drops lower last).word
+  closing_word = work_word b.post.machine b.post.vcpu b.holdings f x _ dead.finds (here v a f found kind frame drops lower last b stamp look same)
 
   keeps : IsTrue (keeps_type x (kind_write (dead_kind kind false stamp)))
   keeps =
-      rw (closing_word, fields_write (dead_kind kind false stamp) (last_may v a f found kind frame drops lower hand last b stamp look same).is)
-      (keeps_by kind (kind_fields (closing v a f found kind frame drops lower hand last).word) (dead_kind kind false stamp)
-      (ap (λ (y : KindWord). y.kind) (fields v a f found kind frame drops lower hand last) ∙ kind_is v a f found kind frame drops lower hand) refl
-      (closed_lives (kind_fields (closing v a f found kind frame drops lower hand last).word) (is_closed v a f found kind frame drops lower hand last b stamp look same)))
+      rw (closing_word, fields_write (dead_kind kind false stamp) (last_may v a f found kind frame drops lower last b stamp look same).is)
+      (keeps_by kind (kind_fields (closing v a f found kind frame drops lower last).word) (dead_kind kind false stamp)
+      (ap (λ (y : KindWord). y.kind) (fields v a f found kind frame drops lower last) ∙ kind_is v a f found kind frame drops lower) refl
+      (closed_lives (kind_fields (closing v a f found kind frame drops lower last).word) (is_closed v a f found kind frame drops lower last b stamp look same)))
 
   pub last_serves : Serves d w (of_back f) [] → Serves v w (of_back f) []
   last_serves put =
       let asks = backs_itself v.post.machine v.post.vcpu f in
-      let one = lowers v a w f found kind lower in
+      let one = lowers v a f found lower in
       let two = serves_step v a b (of_back f) [] _ _ _ _ _ one look tt in
       let three = serves_step v b d (of_back f) [] _ _ _ _ _ two dead (asks _, keeps) in
       serves_then v d w (of_back f) [] [] three put
@@ -115,7 +107,7 @@ module _ (v a b d w : PortValue) (f found stamp x : ℕ) (kind : PageType) (fram
       let on_d = moves_telling b d _ _ _ _ _ dead ∙ on_b in
       let at_b : told_word b ≡ told_word a = λ i p. load_tells a b Clock kinds.Look None stamp look on_a p i in
       let at_d : told_word d ≡ change (Store (kind_write (dead_kind kind false stamp))) (Kind f) (told_word b) = λ i p. leaves b d _ _ _ _ _ dead on_b p i in
-      let at_a = lowered_words v a w f found kind lower telling in
+      let at_a : told_word a ≡ change (Add one_down) (Kind f) (told_word v) = λ i p. lowered_words v a f found lower telling p i in
       let clock : stamp ≡ stamp_now (told_word v) =
       sym (low_rest stamp (clock_low a b stamp look))
       ∙ ap (λ y. y % 2 ^ 36) (sym (told_there a b Clock Load kinds.Look None stamp look on_a) ∙ told_elsewhere v a (Kind f) (Add one_down) kinds.Kind None found lower Clock (λ e. cc)) in

@@ -14,7 +14,7 @@ use Rattle.xp_board.specs.declared.step.Act.TheVariants.{Load, Add}
 use Rattle.xp_board.specs.declared.step.StepKind.TheVariants as kinds
 use Rattle.xp_board.specs.Acts.{left_by}
 use Rattle.xp_board.specs.Hands.{work_on, without_typed, typed_owner, without_work}
-use Rattle.xp_board.specs.KindSteps.{dropped, new_work}
+use Rattle.xp_board.specs.KindSteps.{new_work}
 use Rattle.xp_board.specs.Readings.{is_closing, is_work}
 use Rattle.xp_board.specs.RefSteps.{one_down}
 use Rattle.xp_board.specs.Told.{PortValue}
@@ -29,6 +29,7 @@ use Rattle.kind_words.proofs.KindFacts.{IsFoundLive, found_live, kind_found, clo
 use Rattle.kind_words.proofs.KindHands.{apart_spares, clock_since, closes, lowered_fields, lowered_last, lowered_more, work_here}
 use Rattle.kind_words.proofs.Leaving.{left_dead_closing, may_leave_dead, without_newest}
 use Rattle.frame_types.specs.Taking.{MayDropPlain, gave_type}
+use Rattle.frame_types.proofs.Lowered.{dropped_hand}
 
 typed_form : (k : KindWord) → has_form k ≡ true → k.validated ≡ true → IsTrue (not (is_none k.kind))
 unfolding has_form
@@ -52,7 +53,7 @@ abbrev left_ref : ℕ → Holdings → Reference
 left_ref f h = record { frame = f; owner = typed_owner f h }
 
 module _ (v a : PortValue) (f found : ℕ) (kind : PageType) (frame : f < v.post.machine.frames) (drops : MayDropPlain v.post.machine f kind v.holdings)
-    (lower : Moves v a (Kind f) (Add one_down) kinds.Kind None found) (hand : Holds v a (dropped f found (left_by (Add one_down) found) v.holdings)) where
+    (lower : Moves v a (Kind f) (Add one_down) kinds.Kind None found) where
   pub found_is : IsFoundLive v.post.machine f found v.holdings
   found_is = found_live v.post.machine v.post.vcpu v.holdings f found lower.finds (record { in_hand = drops.held; kind = kind; live = drops.live })
 
@@ -67,7 +68,7 @@ module _ (v a : PortValue) (f found : ℕ) (kind : PageType) (frame : f < v.post
 
   -- ---- not the last
   pub more_hand : ((kind_fields found).number == 1) ≡ false → Holds v a (record v.holdings { refs = left_ref f v.holdings ∷ v.holdings.refs; typed = without_typed f v.holdings.typed })
-  more_hand off = hand ∙ ap (λ (h : Holdings). still (record v { holdings = h })) (lowered_more f found _ v.holdings off)
+  more_hand off = dropped_hand v a f found lower ∙ ap (λ (h : Holdings). still (record v { holdings = h })) (lowered_more f found _ v.holdings off)
 
   pub more_gives : ((kind_fields found).number == 1) ≡ false → MayPut f a.holdings
   more_gives off =
@@ -87,7 +88,7 @@ module _ (v a : PortValue) (f found : ℕ) (kind : PageType) (frame : f < v.post
     closing = new_work f (left_by (Add one_down) found) (if is_table (kind_fields found).kind then 512 else 0) None v.holdings
 
     last_hand : Holds v a (record v.holdings { refs = left_ref f v.holdings ∷ v.holdings.refs; typed = without_typed f v.holdings.typed; works = closing ∷ v.holdings.works })
-    last_hand = hand ∙ ap (λ (h : Holdings). still (record v { holdings = h })) (lowered_last f found _ v.holdings last)
+    last_hand = dropped_hand v a f found lower ∙ ap (λ (h : Holdings). still (record v { holdings = h })) (lowered_last f found _ v.holdings last)
 
     pub fields : kind_fields (left_by (Add one_down) found) ≡ record (kind_fields found) { number = 0 }
     fields = lowered_fields v.post.machine f found v.holdings found_is last

@@ -1,4 +1,5 @@
 pub mod Leaving
+pub mod Lowering
 pub mod Plain
 pub mod Standing
 pub mod Taking

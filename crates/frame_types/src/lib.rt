@@ -2,6 +2,7 @@
 #![tactic(auto)]
 
 mod leaving;
+mod lowering;
 mod memory;
 mod plain;
 mod standing;
@@ -9,6 +10,7 @@ mod taking;
 mod words;
 
 pub use leaving::{leave_dead, leave_shared, leave_unsettled};
+pub use lowering::drop_type;
 pub use memory::take_writable;
 pub use plain::drop_plain;
 pub use standing::Standing;

@@ -11,9 +11,10 @@ ghost use Rattle.answer_fits.specs.Asked.{of_back};
 ghost use Rattle.frame_types.specs.Plain.{dropped_plain};
 ghost use Rattle.frame_types.specs.Taking.{MayDropPlain, gave_type};
 
+use crate::lowering::drop_type;
 use crate::words::dead_kind;
 use frame_words::put_ref;
-use kind_words::{counts_one, leave, lower_type};
+use kind_words::leave;
 use step_maker::look_clock;
 use xp_board::Port;
 use xp_words::PageType;
@@ -29,7 +30,7 @@ pub fn drop_plain<P: Port>(port: &mut P, frame: u32, kind: PageType)
     ensures plain { is_telling (P.value port.old) ≡ true → Leaves (P.value port.new) (dropped_plain frame kind (told_word (P.value port.old))) }
     ensures stands { is_telling (P.value port.old) ≡ true → (is_free (told_word (P.value port.old) (Refs frame)) ≡ false) × ((kind_fields (told_word (P.value port.old) (Kind frame))).validated ≡ true) }
 {
-    if counts_one(lower_type(port, frame)) {
+    if drop_type(port, frame) {
         let stamp = look_clock(port);
         leave(port, frame, dead_kind(kind, false, stamp));
         put_ref(port, frame);

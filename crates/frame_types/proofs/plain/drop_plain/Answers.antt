@@ -13,69 +13,69 @@ use Rattle.frame_types.proofs.plain.drop_plain.Goals as goal
 pub leave-requires-clause-leaves : goal.leave-requires-clause-leaves
 leave-requires-clause-leaves g c =
     rw c.dead_kind.ensures
-    (last_may (g.P.Port.value c.args.port.now) (g.P.Port.value c.lower_type.new.port) c.args.frame c.lower_type.result c.args.kind c.requires.frame c.requires.drops c.lower_type.ensures.moves c.lower_type.ensures.hand
-    (sym c.counts_one.ensures ∙ c.if-counts_one.true) (g.P.Port.value c.look_clock-stamp.new.port) c.look_clock-stamp.result c.look_clock-stamp.ensures.moves c.look_clock-stamp.ensures.hand)
+    (last_may (g.P.Port.value c.args.port.now) (g.P.Port.value c.drop_type.new.port) c.args.frame c.drop_type.ensures.drops.found c.args.kind c.requires.frame c.requires.drops c.drop_type.ensures.drops.lowers.step
+    (sym c.drop_type.ensures.drops.counts ∙ c.if-drop_type.true) (g.P.Port.value c.look_clock-stamp.new.port) c.look_clock-stamp.result c.look_clock-stamp.ensures.moves c.look_clock-stamp.ensures.hand)
 
 pub put_ref-requires-clause-gives : goal.put_ref-requires-clause-gives
 put_ref-requires-clause-gives g c =
     let b = g.P.Port.value c.look_clock-stamp.new.port in
     let d = g.P.Port.value c.leave.new.port in
-    last_gives (g.P.Port.value c.args.port.now) (g.P.Port.value c.lower_type.new.port) c.args.frame c.lower_type.result c.args.kind c.requires.frame c.requires.drops c.lower_type.ensures.moves c.lower_type.ensures.hand
-    (sym c.counts_one.ensures ∙ c.if-counts_one.true) b c.look_clock-stamp.result c.look_clock-stamp.ensures.moves c.look_clock-stamp.ensures.hand d
+    last_gives (g.P.Port.value c.args.port.now) (g.P.Port.value c.drop_type.new.port) c.args.frame c.drop_type.ensures.drops.found c.args.kind c.requires.frame c.requires.drops c.drop_type.ensures.drops.lowers.step
+    (sym c.drop_type.ensures.drops.counts ∙ c.if-drop_type.true) b c.look_clock-stamp.result c.look_clock-stamp.ensures.moves c.look_clock-stamp.ensures.hand d
     (subst (λ k. Holds b d (left b c.args.frame k)) c.dead_kind.ensures c.leave.ensures.hand)
 
-pub put_ref-requires-else-counts_one-clause-gives : goal.put_ref-requires-else-counts_one-clause-gives
-put_ref-requires-else-counts_one-clause-gives g c =
-    more_gives (g.P.Port.value c.args.port.now) (g.P.Port.value c.lower_type.new.port) c.args.frame c.lower_type.result c.args.kind c.requires.frame c.requires.drops c.lower_type.ensures.moves c.lower_type.ensures.hand
-    (sym c.counts_one.ensures ∙ c.if-counts_one.false)
+pub put_ref-requires-else-drop_type-clause-gives : goal.put_ref-requires-else-drop_type-clause-gives
+put_ref-requires-else-drop_type-clause-gives g c =
+    more_gives (g.P.Port.value c.args.port.now) (g.P.Port.value c.drop_type.new.port) c.args.frame c.drop_type.ensures.drops.found c.args.kind c.requires.frame c.requires.drops c.drop_type.ensures.drops.lowers.step
+    (sym c.drop_type.ensures.drops.counts ∙ c.if-drop_type.false)
 
-pub returns-then-counts_one-clause-serves : goal.returns-then-counts_one-clause-serves
-returns-then-counts_one-clause-serves g c =
+pub returns-then-drop_type-clause-serves : goal.returns-then-drop_type-clause-serves
+returns-then-drop_type-clause-serves g c =
     let b = g.P.Port.value c.look_clock-stamp.new.port in
     let d = g.P.Port.value c.leave.new.port in
-    last_serves (g.P.Port.value c.args.port.now) (g.P.Port.value c.lower_type.new.port) b d (g.P.Port.value c.put_ref.new.port) c.args.frame c.lower_type.result
-    c.look_clock-stamp.result c.leave.result c.args.kind c.requires.frame c.requires.drops c.lower_type.ensures.moves c.lower_type.ensures.hand (sym c.counts_one.ensures ∙ c.if-counts_one.true) c.look_clock-stamp.ensures.moves
+    last_serves (g.P.Port.value c.args.port.now) (g.P.Port.value c.drop_type.new.port) b d (g.P.Port.value c.put_ref.new.port) c.args.frame c.drop_type.ensures.drops.found
+    c.look_clock-stamp.result c.leave.result c.args.kind c.requires.frame c.requires.drops c.drop_type.ensures.drops.lowers.step (sym c.drop_type.ensures.drops.counts ∙ c.if-drop_type.true) c.look_clock-stamp.ensures.moves
     c.look_clock-stamp.ensures.hand
     (subst (λ k. Moves b d (Kind c.args.frame) (Store (kind_write k)) kinds.Kind None c.leave.result) c.dead_kind.ensures c.leave.ensures.moves)
     c.put_ref.ensures.serves
 
-pub returns-then-counts_one-clause-hand : goal.returns-then-counts_one-clause-hand
-returns-then-counts_one-clause-hand g c =
+pub returns-then-drop_type-clause-hand : goal.returns-then-drop_type-clause-hand
+returns-then-drop_type-clause-hand g c =
     let b = g.P.Port.value c.look_clock-stamp.new.port in
     let d = g.P.Port.value c.leave.new.port in
-    last_left (g.P.Port.value c.args.port.now) (g.P.Port.value c.lower_type.new.port) c.args.frame c.lower_type.result c.args.kind c.requires.frame c.requires.drops c.lower_type.ensures.moves c.lower_type.ensures.hand
-    (sym c.counts_one.ensures ∙ c.if-counts_one.true) b c.look_clock-stamp.result c.look_clock-stamp.ensures.moves c.look_clock-stamp.ensures.hand d
+    last_left (g.P.Port.value c.args.port.now) (g.P.Port.value c.drop_type.new.port) c.args.frame c.drop_type.ensures.drops.found c.args.kind c.requires.frame c.requires.drops c.drop_type.ensures.drops.lowers.step
+    (sym c.drop_type.ensures.drops.counts ∙ c.if-drop_type.true) b c.look_clock-stamp.result c.look_clock-stamp.ensures.moves c.look_clock-stamp.ensures.hand d
     (subst (λ k. Holds b d (left b c.args.frame k)) c.dead_kind.ensures c.leave.ensures.hand) (g.P.Port.value c.put_ref.new.port) c.put_ref.ensures.hand
 
-pub returns-then-counts_one-clause-plain : goal.returns-then-counts_one-clause-plain
-returns-then-counts_one-clause-plain g c =
+pub returns-then-drop_type-clause-plain : goal.returns-then-drop_type-clause-plain
+returns-then-drop_type-clause-plain g c =
     let b = g.P.Port.value c.look_clock-stamp.new.port in
     let d = g.P.Port.value c.leave.new.port in
-    last_words (g.P.Port.value c.args.port.now) (g.P.Port.value c.lower_type.new.port) b d (g.P.Port.value c.put_ref.new.port) c.args.frame c.lower_type.result
-    c.look_clock-stamp.result c.leave.result c.args.kind c.requires.frame c.requires.drops c.lower_type.ensures.moves c.lower_type.ensures.hand (sym c.counts_one.ensures ∙ c.if-counts_one.true) c.look_clock-stamp.ensures.moves
+    last_words (g.P.Port.value c.args.port.now) (g.P.Port.value c.drop_type.new.port) b d (g.P.Port.value c.put_ref.new.port) c.args.frame c.drop_type.ensures.drops.found
+    c.look_clock-stamp.result c.leave.result c.args.kind c.requires.frame c.requires.drops c.drop_type.ensures.drops.lowers.step (sym c.drop_type.ensures.drops.counts ∙ c.if-drop_type.true) c.look_clock-stamp.ensures.moves
     c.look_clock-stamp.ensures.hand
     (subst (λ k. Moves b d (Kind c.args.frame) (Store (kind_write k)) kinds.Kind None c.leave.result) c.dead_kind.ensures c.leave.ensures.moves)
     c.put_ref.ensures.plain
 
-pub returns-else-counts_one-clause-serves : goal.returns-else-counts_one-clause-serves
-returns-else-counts_one-clause-serves g c =
-    more_serves (g.P.Port.value c.args.port.now) (g.P.Port.value c.lower_type.new.port) _ c.args.frame c.lower_type.result c.args.kind c.lower_type.ensures.moves c.put_ref-else-counts_one.ensures.serves
+pub returns-else-drop_type-clause-serves : goal.returns-else-drop_type-clause-serves
+returns-else-drop_type-clause-serves g c =
+    more_serves (g.P.Port.value c.args.port.now) (g.P.Port.value c.drop_type.new.port) _ c.args.frame c.drop_type.ensures.drops.found c.args.kind c.drop_type.ensures.drops.lowers.step c.put_ref-else-drop_type.ensures.serves
 
-pub returns-else-counts_one-clause-hand : goal.returns-else-counts_one-clause-hand
-returns-else-counts_one-clause-hand g c =
-    more_left (g.P.Port.value c.args.port.now) (g.P.Port.value c.lower_type.new.port) c.args.frame c.lower_type.result c.args.kind c.requires.frame c.requires.drops c.lower_type.ensures.moves c.lower_type.ensures.hand
-    (g.P.Port.value c.put_ref-else-counts_one.new.port) (sym c.counts_one.ensures ∙ c.if-counts_one.false) c.put_ref-else-counts_one.ensures.hand
+pub returns-else-drop_type-clause-hand : goal.returns-else-drop_type-clause-hand
+returns-else-drop_type-clause-hand g c =
+    more_left (g.P.Port.value c.args.port.now) (g.P.Port.value c.drop_type.new.port) c.args.frame c.drop_type.ensures.drops.found c.args.kind c.requires.frame c.requires.drops c.drop_type.ensures.drops.lowers.step
+    (g.P.Port.value c.put_ref-else-drop_type.new.port) (sym c.drop_type.ensures.drops.counts ∙ c.if-drop_type.false) c.put_ref-else-drop_type.ensures.hand
 
-pub returns-else-counts_one-clause-plain : goal.returns-else-counts_one-clause-plain
-returns-else-counts_one-clause-plain g c =
-    more_words (g.P.Port.value c.args.port.now) (g.P.Port.value c.lower_type.new.port) (g.P.Port.value c.put_ref-else-counts_one.new.port) c.args.frame c.lower_type.result c.args.kind c.lower_type.ensures.moves
-    (sym c.counts_one.ensures ∙ c.if-counts_one.false) c.put_ref-else-counts_one.ensures.plain
+pub returns-else-drop_type-clause-plain : goal.returns-else-drop_type-clause-plain
+returns-else-drop_type-clause-plain g c =
+    more_words (g.P.Port.value c.args.port.now) (g.P.Port.value c.drop_type.new.port) (g.P.Port.value c.put_ref-else-drop_type.new.port) c.args.frame c.drop_type.ensures.drops.found c.args.kind c.drop_type.ensures.drops.lowers.step
+    (sym c.drop_type.ensures.drops.counts ∙ c.if-drop_type.false) c.put_ref-else-drop_type.ensures.plain
 
-pub returns-then-counts_one-clause-stands : goal.returns-then-counts_one-clause-stands
-returns-then-counts_one-clause-stands g c =
-    last_stands (g.P.Port.value c.args.port.now) (g.P.Port.value c.lower_type.new.port) c.args.frame c.lower_type.result c.args.kind c.requires.frame c.requires.drops c.lower_type.ensures.moves c.lower_type.ensures.hand
+pub returns-then-drop_type-clause-stands : goal.returns-then-drop_type-clause-stands
+returns-then-drop_type-clause-stands g c =
+    last_stands (g.P.Port.value c.args.port.now) (g.P.Port.value c.drop_type.new.port) c.args.frame c.drop_type.ensures.drops.found c.args.kind c.requires.frame c.requires.drops c.drop_type.ensures.drops.lowers.step
     (g.P.Port.value c.look_clock-stamp.new.port) (g.P.Port.value c.leave.new.port) c.look_clock-stamp.result c.leave.result _ c.look_clock-stamp.ensures.moves c.leave.ensures.moves c.put_ref.ensures.owned
 
-pub returns-else-counts_one-clause-stands : goal.returns-else-counts_one-clause-stands
-returns-else-counts_one-clause-stands g c =
-    more_stands (g.P.Port.value c.args.port.now) (g.P.Port.value c.lower_type.new.port) c.args.frame c.lower_type.result c.args.kind c.requires.frame c.requires.drops c.lower_type.ensures.moves c.lower_type.ensures.hand c.put_ref-else-counts_one.ensures.owned
+pub returns-else-drop_type-clause-stands : goal.returns-else-drop_type-clause-stands
+returns-else-drop_type-clause-stands g c =
+    more_stands (g.P.Port.value c.args.port.now) (g.P.Port.value c.drop_type.new.port) c.args.frame c.drop_type.ensures.drops.found c.args.kind c.requires.frame c.requires.drops c.drop_type.ensures.drops.lowers.step c.put_ref-else-drop_type.ensures.owned

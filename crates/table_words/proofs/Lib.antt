@@ -1,0 +1,9 @@
+pub mod Closing
+pub mod EntryHands
+pub mod Knowing
+pub mod OldHands
+pub mod PinSteps
+pub mod PinWords
+pub mod RowSteps
+pub mod Shedding
+pub mod Showing
