@@ -5,8 +5,9 @@ ghost use Rattle.xp_board.specs.Acts.{left_by};
 ghost use Rattle.xp_board.specs.FillSteps.{is_walked};
 ghost use Rattle.xp_board.specs.Readings.{owner_of, free_stamp, is_free, is_work, is_dead, is_context};
 
+use pte_check::demand;
 use xp_board::Act;
-use xp_words::{Demand, Entry, KindWord, PageType, RefWord};
+use xp_words::{Demand, KindWord, PageType, RefWord};
 
 /// Whether a word of a vCPU may name a frame.
 pub fn names_frames(word: u64) -> bool
@@ -15,16 +16,12 @@ pub fn names_frames(word: u64) -> bool
     word < 4 || (8 <= word && word < 38)
 }
 
-/// What an entry of a frame of that type asks; the hypervisor's slots of a top table ask nothing.
-#[tactic(auto, unfolding(xp_words::specs::Entries::demand_at))]
+/// What an entry of a frame of that type asks. An index that no table has asks what any does that is no slot of the hypervisor's.
+#[tactic(auto, unfolding(xp_words::specs::Entries::demand_at), using(std::proofs::lemmas::Bool::Decides::nat_tests))]
 pub fn demand_at(kind: PageType, index: u64, word: u64) -> Demand
     ensures { result ≡ demand_at kind index word }
 {
-    if kind == PageType::L4 && 256 <= index && index < 272 {
-        Demand::Nothing
-    } else {
-        Entry { word }.demand(kind)
-    }
+    demand(kind, index.min(u64::from(u16::MAX)) as u16, word)
 }
 
 /// Whether a bit is set; none is from 64 on.

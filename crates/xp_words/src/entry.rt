@@ -1,5 +1,5 @@
 ghost use Rattle.std.specs.Prelude.{◌≡◌};
-ghost use Rattle.xp_words.specs.Entries.{is_bit, frame_of, is_reserved, demand_of, fixed};
+ghost use Rattle.xp_words.specs.Entries.{is_bit, frame_of, fixed};
 
 use crate::kind::PageType;
 
@@ -42,43 +42,6 @@ impl Entry {
         ensures { result ≡ frame_of self.now.word }
     {
         (self.word >> 12) & 0xff_ffff_ffff
-    }
-
-    /// What it asks as an entry of a table of that type, L1 to L4.
-    #[tactic(auto, unfolding(crate::specs::Entries::demand_of), using(std::proofs::lemmas::Bool::Decides::nat_tests))]
-    pub fn demand(&self, table: PageType) -> Demand
-        ensures { result ≡ demand_of table self.now.word }
-    {
-        let lowest = matches!(table, PageType::L1);
-        if !self.present() {
-            Demand::Nothing
-        } else if self.reserved(lowest) {
-            Demand::Bad
-        } else if lowest && !self.writable() {
-            Demand::Read {
-                frame: self.frame(),
-            }
-        } else {
-            let kind = match table {
-                PageType::L4 => PageType::L3,
-                PageType::L3 => PageType::L2,
-                PageType::L2 => PageType::L1,
-                _ => PageType::Writable,
-            };
-            Demand::Typed {
-                frame: self.frame(),
-                kind,
-            }
-        }
-    }
-
-    fn reserved(&self, lowest: bool) -> bool
-        ensures { result ≡ is_reserved lowest self.now.word }
-    {
-        (self.word >> 3) & 3 != 0
-            || (self.word >> 7) & 1 == 1
-            || (!lowest && (self.word >> 8) & 1 == 1)
-            || (self.word >> 52) & 0x7ff != 0
     }
 }
 

@@ -1,5 +1,5 @@
 //! Examples from the format's description.
-use crate::{ContextWord, Demand, Entry, KindWord, LdtBase, PageType, RefWord, fix};
+use crate::{ContextWord, Entry, KindWord, LdtBase, PageType, RefWord, fix};
 
 #[test]
 #[tactic(auto, unfolding(crate::specs::RefWords::IsRef))]
@@ -63,23 +63,11 @@ fn bases_of_vcpus_are_spelled_and_read(rt: HostRuntime) {
 }
 
 #[test]
-fn entries_ask_what_their_bits_say(rt: HostRuntime) {
+fn entries_say_what_they_name(rt: HostRuntime) {
     let entry = Entry { word: 0x40003 };
     assert!(rt; entry.present());
     assert!(rt; entry.writable());
     assert_eq!(rt; entry.frame(), 64);
-    assert_eq!(rt;
-        entry.demand(PageType::L1),
-        Demand::Typed {
-            frame: 64,
-            kind: PageType::Writable
-        }
-    );
-    assert_eq!(rt;
-        Entry { word: 0x40001 }.demand(PageType::L1),
-        Demand::Read { frame: 64 }
-    );
-    assert_eq!(rt; Entry { word: 0x40103 }.demand(PageType::L2), Demand::Bad);
 }
 
 #[test]

@@ -1,0 +1,27 @@
+-- Levels of page tables, and the types of what their entries name.
+use Rattle.std.proofs.Common.{◌≡◌, ℕ, zero, suc, ◌<◌, ◌≤◌, true, refl, arith}
+use Rattle.xp_words.specs.Entries.{below}
+use Rattle.xp_words.specs.PageTypes.{is_table, type_number}
+use Rattle.partial_state.specs.Levels.{level_type}
+
+pub level_type-below : (l : ℕ) → l < 4 → below (level_type (suc l)) ≡ level_type l
+level_type-below zero b = refl
+level_type-below (suc zero) b = refl
+level_type-below (suc (suc zero)) b = refl
+level_type-below (suc (suc (suc zero))) b = refl
+level_type-below (suc (suc (suc (suc l)))) b = absurd (omega arith)
+
+pub level_type-number : (l : ℕ) → 1 ≤ l → l ≤ 4 → type_number (level_type l) ≡ l
+level_type-number zero b c = absurd (omega arith)
+level_type-number (suc zero) b c = refl
+level_type-number (suc (suc zero)) b c = refl
+level_type-number (suc (suc (suc zero))) b c = refl
+level_type-number (suc (suc (suc (suc zero)))) b c = refl
+level_type-number (suc (suc (suc (suc (suc l))))) b c = absurd (omega arith)
+
+pub level_type-table : (l : ℕ) → 1 ≤ l → is_table (level_type l) ≡ true
+level_type-table zero b = absurd (omega arith)
+level_type-table (suc zero) b = refl
+level_type-table (suc (suc zero)) b = refl
+level_type-table (suc (suc (suc zero))) b = refl
+level_type-table (suc (suc (suc (suc l)))) b = refl

@@ -1,0 +1,4 @@
+pub mod LevelFacts
+pub mod StackFacts
+pub mod WeightFacts
+pub mod WorkFacts

@@ -1,0 +1,4 @@
+pub mod Levels
+pub mod Stacks
+pub mod Weights
+pub mod Works

@@ -1,0 +1,11 @@
+//! The page tables that a vCPU has in work, one in the other.
+#![tactic(auto)]
+
+mod levels;
+mod stack;
+
+pub use levels::level_type;
+pub use stack::{Stack, TableWork};
+
+#[cfg(test)]
+mod tests;

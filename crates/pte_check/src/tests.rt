@@ -1,0 +1,31 @@
+//! Examples from the format's description.
+use crate::{EntryBits, demand};
+use bitflags::Flags;
+use xp_words::{Demand, PageType};
+
+#[test]
+fn entries_ask_what_their_bits_say(rt: HostRuntime) {
+    assert_eq!(rt;
+        demand(PageType::L1, 0, 0x40003),
+        Demand::Typed {
+            frame: 64,
+            kind: PageType::Writable
+        }
+    );
+    assert_eq!(rt;
+        demand(PageType::L1, 0, 0x40001),
+        Demand::Read { frame: 64 }
+    );
+    assert_eq!(rt; demand(PageType::L2, 0, 0x40103), Demand::Bad);
+    assert_eq!(rt; demand(PageType::L4, 0, 0x40002), Demand::Nothing);
+    assert_eq!(rt; demand(PageType::L4, 256, 0x40003), Demand::Nothing);
+}
+
+#[test]
+fn bits_have_names(rt: HostRuntime) {
+    let bits = EntryBits(0x8000_0000_0004_0067);
+    assert!(rt; bits.contains(EntryBits::NX.union(EntryBits::DIRTY)));
+    assert!(rt; !bits.intersects(EntryBits::RESERVED_ABOVE));
+    assert!(rt; EntryBits(0x140).is_reserved(PageType::L3));
+    assert!(rt; !EntryBits(0x140).is_reserved(PageType::L1));
+}
