@@ -5,3 +5,7 @@ pub mod Referring
 pub mod Meeting
 pub mod Taking
 pub mod Lawfully
+pub mod Steps
+pub mod Undoing
+pub mod Parking
+pub mod Examples

@@ -1,0 +1,5 @@
+use Rattle.table_law.proofs.Parking.{resumed_is}
+use Rattle.table_law.proofs.stack.a_pause_parks_what_a_resumption_reads.Goals as goal
+
+pub returns-clause-resumed : goal.returns-clause-resumed
+returns-clause-resumed c stack kept p is g = resumed_is stack kept p is g
