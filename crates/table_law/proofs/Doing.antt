@@ -13,7 +13,7 @@ use Rattle.xp_board.specs.Sums.{sum_below}
 use Rattle.table_law.specs.Plain.{Plain, Share}
 use Rattle.table_law.specs.Alone.{Cause, PlainOutcome, fine, refused}
 use Rattle.table_law.specs.Levels.{entry_of, type_at}
-use Rattle.table_law.specs.Lawful.{PlainTree, IsPlainOwned, PlainLawful, share_count}
+use Rattle.table_law.specs.Lawful.{PlainTree, IsPlainOwned, PlainLawful, IsRested, share_count}
 
 -- frame `top` is acquired for that owner with type `kind`, and the frames are `before`
 pub record Case : Type 0 where
@@ -23,10 +23,9 @@ pub record Case : Type 0 where
   pub kind : PageType
   pub before : Plain
 
--- each frame is dead or validated, and no count is above the limit
-pub record IsCalm (c : Case) : Type 0 where
-  pub formed : (g : ℕ) → g < c.machine.frames → is_dead (c.before.kinds g) ≡ false → (c.before.kinds g).validated ≡ true
-  pub room : (g : ℕ) → g < c.machine.frames → share_count (c.before.shares g) ≤ c.machine.limit
+-- nothing is unfinished before
+abbrev pub IsCalm : Case → Type 0
+IsCalm c = IsRested c.machine c.before
 
 abbrev pub IsLawful : Case → Type 0
 IsLawful c = PlainLawful c.machine c.owner c.before c.top c.kind

@@ -11,10 +11,11 @@ use Rattle.xp_board.specs.Readings.{is_dead}
 use Rattle.xp_board.specs.Sums.{sum_below}
 use Rattle.xp_board.specs.Recorded.{names}
 use Rattle.board_lemmas.proofs.Sums.{sum_below-none, sum_below-same}
+use Rattle.xp_words.specs.Machine.{Machine}
 use Rattle.table_law.specs.Plain.{Plain, Share}
 use Rattle.table_law.specs.Alone.{Cause, PlainOutcome, fine, refused, then_by, take_reference, take_at, alone}
 use Rattle.table_law.specs.Levels.{type_at, entry_of}
-use Rattle.table_law.specs.Lawful.{PlainTree, root, below, IsPlainNode, IsPlainOwned, PlainLawful, plain_asked_by, share_count}
+use Rattle.table_law.specs.Lawful.{PlainTree, root, below, IsPlainNode, IsPlainOwned, PlainLawful, IsRested, plain_asked_by, share_count}
 use Rattle.table_law.proofs.Doing.{Case, IsCalm, Doing, Doings, IsLawful, IsSame, IsTaken, Above, IsMet, AllMet, HasType, Grows, Done, Failed, Goes, total, more, asked}
 use Rattle.table_law.proofs.Counting.{total_most, table_at}
 use Rattle.table_law.proofs.Growing.{grows_none}
@@ -192,3 +193,7 @@ module _ (c : Case) (calm : IsCalm c) (l : ℕ) (low : l ≤ 4) (kind : c.kind �
 
   pub fine_where_lawful : (IsLawful c → (alone c.machine c.owner l c.top c.before).refusal ≡ None) × ((alone c.machine c.owner l c.top c.before).refusal ≡ None → IsLawful c)
   fine_where_lawful = (fine_by alone_goes, lawful_by alone_goes)
+
+pub fine_by_rest : (n : Machine) (owner l f : ℕ) (p : Plain) → l ≤ 4 → IsRested n p → (PlainLawful n owner p f (type_at l) → (alone n owner l f p).refusal ≡ None) × ((alone n owner l f p).refusal ≡ None → PlainLawful n owner p f (type_at l))
+fine_by_rest n owner l f p low rested =
+    fine_where_lawful (record { machine = n; owner = owner; top = f; kind = type_at l; before = p }) rested l low refl

@@ -9,3 +9,6 @@ pub mod Steps
 pub mod Undoing
 pub mod Parking
 pub mod Examples
+pub mod Describing
+pub mod OnWords
+pub mod Telling
