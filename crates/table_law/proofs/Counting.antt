@@ -1,12 +1,11 @@
 -- Levels and types, and how often an acquisition has named a frame.
-use Rattle.std.proofs.Common.{◌≡◌, ◌≢◌, ℕ, zero, suc, ◌+◌, ◌<◌, ◌≤◌, ◌==◌, if◌then◌else◌, Bool, true, false, Option, Some, None, IsTrue, refl, sym, ap, ◌∙◌, subst, inl, inr, arith}
-use Rattle.std.proofs.lemmas.Bool.Decides.{nat_tests}
+use Rattle.std.proofs.Common.{◌≡◌, ◌≢◌, ℕ, zero, suc, ◌+◌, ◌<◌, ◌≤◌, if◌then◌else◌, Bool, true, false, Option, Some, None, IsTrue, refl, sym, ap, ◌∙◌, subst, inl, inr, arith}
 use Rattle.std.proofs.lemmas.Bool.{cases_eq}
 use Rattle.xp_words.specs.declared.kind.PageType.{PageType}
 use Rattle.xp_words.specs.declared.kind.PageType.TheVariants as kinds
 use Rattle.xp_words.specs.declared.entry.Demand.{Demand}
 use Rattle.xp_words.specs.declared.entry.Demand.TheVariants.{Nothing, Bad, Read, Typed}
-use Rattle.xp_words.specs.Entries.{demand_of, demand_at, below, is_slot, is_bit, is_reserved, is_lowest, frame_of}
+use Rattle.xp_words.specs.Entries.{demand_of, demand_at, below, is_slot, frame_of}
 use Rattle.xp_words.specs.PageTypes.{is_table}
 use Rattle.xp_board.specs.Lists.{one_at}
 use Rattle.xp_board.specs.Recorded.{names}
@@ -15,7 +14,7 @@ use Rattle.board_lemmas.proofs.Sums.{when_eq, when_ne, sum_below-one, sum_below-
 use Rattle.table_law.specs.Plain.{Plain, Share, at}
 use Rattle.table_law.specs.Levels.{entry_of, type_at}
 use Rattle.table_law.specs.Lawful.{plain_asked_by}
-use Rattle.table_law.proofs.Doing.{Case, Doing, Doings, IsLawful, asked, total, IsTaken}
+use Rattle.table_law.proofs.Doing.{Case, Doing, IsLawful, asked, total, IsTaken}
 
 -- ---- levels
 level_of : PageType → ℕ
@@ -92,9 +91,9 @@ total_met c d x l g inside took =
     let p = λ (y : ℕ). asked c g (d.taken y) (at x (suc (d.met x)) d.met y) y in
     let q = λ (y : ℕ). asked c g (d.taken y) (d.met y) y in
     let one : sum_below c.machine.frames p + q x ≡ sum_below c.machine.frames q + p x =
-        sum_below-one c.machine.frames p q x inside (λ y off. ap (λ k. asked c g (d.taken y) k y) (at_there x y (suc (d.met x)) d.met off)) in
+    sum_below-one c.machine.frames p q x inside (λ y off. ap (λ k. asked c g (d.taken y) k y) (at_there x y (suc (d.met x)) d.met off)) in
     let here : p x ≡ sum_below (suc (d.met x)) (λ i. names g (entry_of c.before (type_at (suc l)) x i)) =
-        ap (λ k. asked c g (d.taken x) k x) (at_here x (suc (d.met x)) d.met) ∙ ap (λ o. asked c g o (suc (d.met x)) x) took in
+    ap (λ k. asked c g (d.taken x) k x) (at_here x (suc (d.met x)) d.met) ∙ ap (λ o. asked c g o (suc (d.met x)) x) took in
     let was : q x ≡ sum_below (d.met x) (λ i. names g (entry_of c.before (type_at (suc l)) x i)) = ap (λ o. asked c g o (d.met x) x) took in
     omega arith
 

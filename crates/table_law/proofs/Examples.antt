@@ -1,13 +1,12 @@
 -- Small machines: what the plain acquisition answers and leaves.
-use Rattle.std.proofs.Common.{◌≡◌, ℕ, ◌==◌, if◌then◌else◌, Bool, true, false, [], Option, Some, None, refl}
+use Rattle.std.proofs.Common.{◌≡◌, ℕ, ◌==◌, if◌then◌else◌, true, false, [], Some, refl}
 use Rattle.xp_words.specs.declared.kind.PageType.TheVariants as kinds
 use Rattle.xp_words.specs.Machine.{Machine}
 use Rattle.xp_words.specs.Entries.{demand_of, demand_at}
 use Rattle.kind_words.specs.Kinds.{live_kind, work_kind, dead_kind}
 use Rattle.table_law.specs.Plain.{Plain, Share}
-use Rattle.table_law.specs.Levels.{type_at}
 use Rattle.table_law.specs.Release.{let_go, drop_first}
-use Rattle.table_law.specs.Alone.{Cause, CountFull, OtherType, PlainOutcome, alone, meet_last, take_at}
+use Rattle.table_law.specs.Alone.{CountFull, OtherType, PlainOutcome, alone, meet_last, take_at}
 
 machine : ℕ → Machine
 machine limit = record { frames = 3; limit = limit; page_limit = []; privilege = []; vcpu_domain = [] }

@@ -1,20 +1,16 @@
 -- What an acquisition does, one thing behind the other.
-use Rattle.std.proofs.Common.{◌≡◌, ◌≢◌, ℕ, zero, suc, ◌+◌, ◌<◌, ◌≤◌, ◌==◌, ◌⊎◌, if◌then◌else◌, Bool, true, false, Option, Some, None, IsTrue, refl, sym, ap, ◌∙◌, subst, inl, inr, arith}
+use Rattle.std.proofs.Common.{◌≡◌, ℕ, suc, ◌<◌, ◌≤◌, Option, Some, None, refl, sym, ap, ◌∙◌, subst, inl, inr, arith}
 use Rattle.std.proofs.lemmas.Bool.{cases_eq}
+use Rattle.std.proofs.lemmas.Option.{same_Some}
 use Rattle.xp_words.specs.declared.kind.KindWord.{KindWord}
 use Rattle.xp_words.specs.declared.kind.PageType.{PageType}
 use Rattle.xp_words.specs.declared.entry.Demand.{Demand}
 use Rattle.xp_words.specs.declared.entry.Demand.TheVariants.{Nothing, Bad, Read, Typed}
 use Rattle.xp_board.specs.Readings.{is_dead}
 use Rattle.table_law.specs.Plain.{Plain, at}
-use Rattle.table_law.specs.Alone.{PlainOutcome, fine, then_by}
-use Rattle.table_law.specs.Levels.{type_at}
 use Rattle.table_law.specs.Lawful.{share_count}
-use Rattle.table_law.proofs.Doing.{Case, Doing, Doings, IsSame, IsTaken, Above, HasType, IsMet, AllMet, Grows, total, more}
+use Rattle.table_law.proofs.Doing.{Case, Doing, Doings, IsSame, Above, HasType, IsMet, AllMet, Grows, total, more}
 use Rattle.table_law.proofs.Counting.{met_more, at_here, at_there}
-
-pub some_is : {A : Type 0} (x y : A) → Some x ≡ Some y → x ≡ y
-some_is x y e = cc
 
 -- ---- demands stay met
 has_more : (c : Case) (d e : Doing) → ((x l : ℕ) → d.taken x ≡ Some l → e.taken x ≡ Some l) → (g : ℕ) (w : PageType) → HasType c d g w → HasType c e g w
@@ -45,7 +41,7 @@ module _ (c : Case) (p : Plain) (d : Doing) (q : Plain) (e : Doing) (r : Plain) 
   closed_by : (x l : ℕ) (o : Option ℕ) → e.taken x ≡ o → d.taken x ≡ None → f.taken x ≡ Some (suc l) → (f.met x ≡ 512) × AllMet c f l x
   closed_by x l None was none some = two.closed x l was some
   closed_by x l (Some k) was none some =
-      let same : k ≡ suc l = some_is k (suc l) (sym (two.keeps x k was) ∙ some) in
+      let same : k ≡ suc l = same_Some k (suc l) (sym (two.keeps x k was) ∙ some) in
       let done = one.closed x l none (was ∙ ap Some same) in
       (two.still x k was (λ b. but x b none) ∙ done.0, λ i b. met_stays c e f two.keeps _ (done.1 i b))
 

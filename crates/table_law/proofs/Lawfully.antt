@@ -1,10 +1,9 @@
 -- An acquisition alone is fine exactly where the tree is lawful.
-use Rattle.std.proofs.Common.{◌≡◌, ◌≢◌, ℕ, zero, suc, ◌+◌, ◌<◌, ◌≤◌, ◌==◌, ◌⊎◌, if◌then◌else◌, Bool, true, false, Option, Some, None, IsTrue, refl, sym, ap, ◌∙◌, subst, inl, inr, arith}
+use Rattle.std.proofs.Common.{◌≡◌, ℕ, zero, suc, ◌+◌, ◌<◌, ◌≤◌, ◌⊎◌, Option, Some, None, IsTrue, refl, sym, ap, ◌∙◌, subst, inl, inr, arith}
 use Rattle.std.proofs.lemmas.Bool.Decides.{nat_tests}
-use Rattle.std.proofs.lemmas.Bool.{cases_eq}
 use Rattle.xp_words.specs.declared.kind.PageType.{PageType}
 use Rattle.xp_words.specs.declared.entry.Demand.{Demand}
-use Rattle.xp_words.specs.declared.entry.Demand.TheVariants.{Nothing, Bad, Read, Typed}
+use Rattle.xp_words.specs.declared.entry.Demand.TheVariants.{Bad, Read, Typed}
 use Rattle.xp_words.specs.PageTypes.{is_table}
 use Rattle.xp_board.specs.Lists.{one_at}
 use Rattle.xp_board.specs.Readings.{is_dead}
@@ -13,13 +12,12 @@ use Rattle.xp_board.specs.Recorded.{names}
 use Rattle.board_lemmas.proofs.Sums.{sum_below-none, sum_below-same}
 use Rattle.xp_words.specs.Machine.{Machine}
 use Rattle.table_law.specs.Plain.{Plain, Share}
-use Rattle.table_law.specs.Alone.{Cause, PlainOutcome, fine, refused, then_by, take_reference, take_at, alone}
+use Rattle.table_law.specs.Alone.{PlainOutcome, then_by, take_reference, take_at, alone}
 use Rattle.table_law.specs.Levels.{type_at, entry_of}
 use Rattle.table_law.specs.Lawful.{PlainTree, root, below, IsPlainNode, IsPlainOwned, PlainLawful, IsRested, plain_asked_by, share_count}
-use Rattle.table_law.proofs.Doing.{Case, IsCalm, Doing, Doings, IsLawful, IsSame, IsTaken, Above, IsMet, AllMet, HasType, Grows, Done, Failed, Goes, total, more, asked}
+use Rattle.table_law.proofs.Doing.{Case, IsCalm, Doing, Doings, IsLawful, IsSame, IsMet, AllMet, HasType, Grows, Failed, Goes, total, more, asked}
 use Rattle.table_law.proofs.Counting.{total_most, table_at}
-use Rattle.table_law.proofs.Growing.{grows_none}
-use Rattle.table_law.proofs.Meeting.{Took, Take}
+use Rattle.table_law.proofs.Meeting.{Took}
 use Rattle.table_law.proofs.Referring.{Referred, refer_goes}
 use Rattle.table_law.proofs.Taking.{take_goes}
 

@@ -3,6 +3,7 @@ pub mod Counting
 pub mod Growing
 pub mod Referring
 pub mod Meeting
+pub mod TakingLive
 pub mod Taking
 pub mod Lawfully
 pub mod Steps

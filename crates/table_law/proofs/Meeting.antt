@@ -1,5 +1,5 @@
 -- The entries of a table that was taken, one after the other.
-use Rattle.std.proofs.Common.{◌≡◌, ◌≢◌, ℕ, zero, suc, ◌+◌, ◌-◌, ◌<◌, ◌≤◌, ◌==◌, ◌⊎◌, if◌then◌else◌, Bool, true, false, Option, Some, None, IsTrue, refl, sym, ap, ◌∙◌, subst, inl, inr, arith}
+use Rattle.std.proofs.Common.{◌≡◌, ◌≢◌, ℕ, zero, suc, ◌+◌, ◌-◌, ◌<◌, ◌≤◌, ◌⊎◌, Some, refl, sym, ap, ◌∙◌, subst, inl, inr, arith}
 use Rattle.std.proofs.lemmas.Bool.{cases_eq}
 use Rattle.xp_words.specs.declared.kind.PageType.{PageType}
 use Rattle.xp_words.specs.declared.entry.Demand.{Demand}
@@ -8,11 +8,11 @@ use Rattle.xp_words.specs.Entries.{demand_at}
 use Rattle.xp_board.specs.Lists.{one_at}
 use Rattle.xp_board.specs.Recorded.{names}
 use Rattle.table_law.specs.Plain.{Plain, Share}
-use Rattle.table_law.specs.Alone.{Cause, Reserved, PlainOutcome, fine, refused, then_by, then_or, take_reference, meet, meet_last, take_at}
+use Rattle.table_law.specs.Alone.{Reserved, PlainOutcome, then_by, then_or, take_reference, meet, meet_last, take_at}
 use Rattle.table_law.specs.Release.{let_go, drop_first}
 use Rattle.table_law.specs.Levels.{entry_of, type_at}
-use Rattle.table_law.specs.Lawful.{PlainTree, IsPlainNode, IsPlainOwned, share_count, below}
-use Rattle.table_law.proofs.Doing.{Case, Doing, Doings, IsLawful, Above, IsMet, AllMet, HasType, Grows, total, more, Done, Failed, Goes, IsTaken}
+use Rattle.table_law.specs.Lawful.{PlainTree, IsPlainNode, IsPlainOwned, below}
+use Rattle.table_law.proofs.Doing.{Case, Doing, Doings, IsLawful, Above, IsMet, HasType, Grows, total, more, Done, Failed, Goes}
 use Rattle.table_law.proofs.Counting.{met_more, at_here, total_met, total_most, table_at, asks_at}
 use Rattle.table_law.proofs.Growing.{grows_none, grows_more, grows_less, above_more, met_stays, doings_met, grows_met, most_more}
 use Rattle.table_law.proofs.Referring.{Referred, refer_goes}

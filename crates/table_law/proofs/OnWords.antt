@@ -1,12 +1,11 @@
 -- A tree is lawful on words exactly where it is on the plain value that describes them.
-use Rattle.std.proofs.Common.{◌≡◌, ◌≢◌, ℕ, ◌+◌, ◌<◌, ◌≤◌, ◌⊎◌, true, false, Option, Some, None, IsTrue, refl, sym, ap, ◌∙◌, subst, inl, inr, arith}
+use Rattle.std.proofs.Common.{◌≡◌, ◌≢◌, ℕ, ◌+◌, ◌<◌, ◌≤◌, ◌⊎◌, Option, Some, None, IsTrue, refl, sym, ap, ◌∙◌, subst, inl, inr, arith}
 use Rattle.xp_words.specs.declared.kind.KindWord.{KindWord}
 use Rattle.xp_words.specs.declared.kind.PageType.{PageType}
 use Rattle.xp_words.specs.declared.entry.Demand.{Demand}
 use Rattle.xp_words.specs.declared.entry.Demand.TheVariants.{Nothing, Bad, Read, Typed}
 use Rattle.xp_words.specs.declared.place.Place.TheVariants.{Refs, Cell}
 use Rattle.xp_words.specs.Entries.{demand_at}
-use Rattle.xp_words.specs.PageTypes.{is_table}
 use Rattle.xp_words.specs.Machine.{Machine}
 use Rattle.xp_board.specs.Lawful.{Tree, root, below, IsNode, asked_by, IsOwned, Lawful}
 use Rattle.xp_board.specs.Lists.{one_at}

@@ -1,12 +1,11 @@
 -- A reference that is taken, or that a lawful acquisition would not be refused.
-use Rattle.std.proofs.Common.{◌≡◌, ◌≢◌, ℕ, ◌+◌, ◌<◌, ◌≤◌, ◌==◌, ◌⊎◌, not, nat_lt, nat_le, if◌then◌else◌, Bool, true, false, Option, Some, None, IsTrue, refl, sym, ap, ◌∙◌, subst, inl, inr, arith}
+use Rattle.std.proofs.Common.{◌≡◌, ◌≢◌, ℕ, ◌+◌, ◌<◌, ◌≤◌, ◌==◌, ◌⊎◌, nat_lt, nat_le, Bool, true, false, Option, Some, None, refl, sym, ap, ◌∙◌, subst, inl, inr, arith}
 use Rattle.std.proofs.lemmas.Bool.Decides.{nat_tests}
 use Rattle.std.proofs.lemmas.Bool.{cases_eq}
-use Rattle.xp_words.specs.declared.kind.KindWord.{KindWord}
 use Rattle.xp_board.specs.Lists.{one_at}
 use Rattle.board_lemmas.proofs.Sums.{one_at-same, one_at-other}
 use Rattle.table_law.specs.Plain.{Plain, Share, at, with_share, raised_share}
-use Rattle.table_law.specs.Alone.{Cause, NoFrame, WrongOwner, CountFull, PlainOutcome, fine, refused, take_reference, take_reference_of}
+use Rattle.table_law.specs.Alone.{NoFrame, WrongOwner, CountFull, PlainOutcome, fine, take_reference, take_reference_of}
 use Rattle.table_law.specs.Lawful.{IsPlainOwned, IsShareOf, share_count}
 use Rattle.table_law.proofs.Doing.{Case, IsLawful, more, Failed}
 use Rattle.table_law.proofs.Counting.{at_here, at_there}
@@ -23,7 +22,6 @@ pub record Referred (c : Case) (p : Plain) (g : ℕ) (after : ℕ → ℕ) (o : 
 module _ (c : Case) (p : Plain) (g : ℕ) (before after : ℕ → ℕ) (shares : (h : ℕ) → p.shares h ≡ more (before h) (c.before.shares h))
     (one : (h : ℕ) → after h ≡ before h + one_at h g) (room : (h : ℕ) → h < c.machine.frames → share_count (p.shares h) ≤ c.machine.limit)
     (owned : IsLawful c → IsPlainOwned c.machine c.owner c.before g) (bound : (s : Share) → g < c.machine.frames → c.before.shares g ≡ Some s → IsLawful c → s.count + after g ≤ c.machine.limit) where
-
   one_more : after g ≡ before g + 1
   one_more = one g ∙ ap (λ k. before g + k) (one_at-same g)
 

@@ -1,15 +1,14 @@
 -- What is left to do, one entry at a time: each thing that a loop over the stack does leaves it as it was.
-use Rattle.std.proofs.Common.{◌≡◌, ℕ, zero, suc, ◌-◌, true, false, List, [], ◌∷◌, Option, Some, None, IsTrue, refl, sym, ap, ◌∙◌, subst, arith}
+use Rattle.std.proofs.Common.{◌≡◌, ℕ, suc, ◌-◌, true, false, List, [], ◌∷◌, Option, Some, None, refl, ap, ◌∙◌, arith}
 use Rattle.xp_words.specs.declared.kind.PageType.{PageType}
-use Rattle.xp_words.specs.declared.entry.Demand.{Demand}
-use Rattle.xp_words.specs.declared.entry.Demand.TheVariants.{Nothing, Bad, Read, Typed}
+use Rattle.xp_words.specs.declared.entry.Demand.TheVariants.{Typed}
 use Rattle.xp_words.specs.Machine.{Machine}
 use Rattle.xp_board.specs.Readings.{is_dead}
 use Rattle.kind_words.specs.Kinds.{live_kind, work_kind}
 use Rattle.table_law.specs.Plain.{Plain, with_kind}
 use Rattle.table_law.specs.Levels.{TableLeft, type_at, entry_of, closed}
 use Rattle.table_law.specs.Release.{let_go, drop_first, undo, undo_below}
-use Rattle.table_law.specs.Alone.{Cause, PlainOutcome, fine, refused, back_or, then_or, then_by, take_reference, meet, meet_last, take_at, take_kind, alone}
+use Rattle.table_law.specs.Alone.{Cause, PlainOutcome, fine, refused, back_or, then_or, then_by, take_reference, meet, meet_last, take_at, alone}
 use Rattle.table_law.specs.Stack.{rest, table_left, next_met}
 
 assoc_on : (c : Option Cause) (p : Plain) (b d : Plain → Plain) (f g : Plain → PlainOutcome) → then_or (back_or c p b f) d g ≡ back_or c p (λ q. d (b q)) (λ q. then_or (f q) d g)

@@ -1,12 +1,12 @@
 -- The partial words of a pause tell the stack of tables in work.
-use Rattle.std.proofs.Common.{◌≡◌, ◌≢◌, ℕ, zero, suc, ◌+◌, ◌-◌, ◌<◌, ◌≤◌, ◌==◌, ◌&&◌, ◌⊎◌, if◌then◌else◌, Bool, true, false, List, [], ◌∷◌, Option, Some, None, refl, sym, ap, ◌∙◌, subst, inl, inr, arith}
+use Rattle.std.proofs.Common.{◌≡◌, ◌≢◌, ℕ, zero, suc, ◌-◌, ◌<◌, ◌≤◌, ◌==◌, ◌&&◌, ◌⊎◌, if◌then◌else◌, Bool, true, false, List, [], ◌∷◌, Some, None, refl, sym, ap, ◌∙◌, inl, inr, arith}
 use Rattle.std.proofs.lemmas.Bool.{cases_eq}
-use Rattle.std.proofs.lemmas.Bool.Decides.{nat_tests}
 use Rattle.xp_words.specs.declared.kind.KindWord.{KindWord}
 use Rattle.xp_words.specs.declared.kind.PageType.{PageType}
 use Rattle.xp_words.specs.declared.entry.Demand.{Demand}
 use Rattle.xp_words.specs.declared.entry.Demand.TheVariants.{Nothing, Bad, Read, Typed}
 use Rattle.xp_words.specs.Entries.{demand_at}
+use Rattle.xp_board.proofs.Returned.{same_type}
 use Rattle.xp_board.specs.Readings.{is_partial, is_type}
 use Rattle.board_lemmas.proofs.EntryWords.{type_same}
 use Rattle.board_lemmas.proofs.Sums.{when_eq, when_ne}
@@ -57,17 +57,15 @@ still_parked (x ∷ xs) f k old off are =
 all_parked : (x : TableLeft) (xs : List TableLeft) (kept : Bool) (p : Plain) → IsStack (x ∷ xs) p → IsChain (x ∷ xs) p → AreParked (parked_kinds (x ∷ xs) kept p.kinds) (x ∷ xs)
 all_parked x [] kept p is chain = ((kept, let here = when_eq x.frame x.frame refl in rw here refl), tt)
 all_parked x (y ∷ ys) kept p is chain =
-    let next = is.2 in
-    ((false, let here = when_eq x.frame x.frame refl in rw here refl),
-    still_parked (y ∷ ys) x.frame (parked_kind x false) (parked_kinds (y ∷ ys) kept p.kinds) (off_all y ys p x.frame x.level is.4 chain.1 is.0 (omega arith)) (all_parked y ys kept p is.4 chain.1))
+    let next = is.2 in (
+      (false, let here = when_eq x.frame x.frame refl in rw here refl),
+      still_parked (y ∷ ys) x.frame (parked_kind x false) (parked_kinds (y ∷ ys) kept p.kinds) (off_all y ys p x.frame x.level is.4 chain.1 is.0 (omega arith)) (all_parked y ys kept p is.4 chain.1),
+    )
 
 -- ---- one step down
-type_itself : (t : PageType) → is_type t t ≡ true
-type_itself t = grind (arith, nat_tests)
-
 partial_at : (q : Plain) (g : ℕ) (t : PageType) → is_partial (q.kinds g) ≡ true → (q.kinds g).kind ≡ t → partial_in q (Typed g t) ≡ Some g
 partial_at q g t part is =
-    let typed : is_type (q.kinds g).kind t ≡ true = ap (λ u. is_type u t) is ∙ type_itself t in
+    let typed : is_type (q.kinds g).kind t ≡ true = ap (λ u. is_type u t) is ∙ same_type t in
     rw (part, typed) refl
 
 table_back : (q : Plain) (y : TableLeft) (b : Bool) → y.ahead ≤ 512 → q.kinds y.frame ≡ parked_kind y b → table_told q y.level y.frame ≡ y
@@ -91,7 +89,7 @@ told_down : (q : Plain) (y x : TableLeft) (ys : List TableLeft) (b d : Bool) →
 told_down q y x ys b d up few at_y at_x asks =
     let progress : (q.kinds y.frame).progress ≡ suc (511 - y.ahead) = ap (λ (w : KindWord). w.progress) at_y ∙ (let e : 512 - y.ahead ≡ suc (511 - y.ahead) = omega arith in e) in
     let inner : partial_in q (Typed x.frame (type_at y.level)) ≡ Some x.frame =
-        partial_at q x.frame (type_at y.level) (ap is_partial at_x) (ap (λ (w : KindWord). w.kind) at_x ∙ ap type_at (sym up)) in
+    partial_at q x.frame (type_at y.level) (ap is_partial at_x) (ap (λ (w : KindWord). w.kind) at_x ∙ ap type_at (sym up)) in
     let found = ap (λ k. partial_in q (last_entry q (type_at (suc y.level)) y.frame k)) progress ∙ ap (partial_in q) asks ∙ inner in
     ap (λ j. stack_told j y.frame q ys) up
     ∙ one_down q x.level y.frame x.frame ys (ap (λ j. partial_in q (last_entry q (type_at (suc j)) y.frame (q.kinds y.frame).progress)) (sym up) ∙ found)
@@ -134,11 +132,11 @@ not_partial q p g j t low is none (inr other) =
     let few = other.1 in
     let high = other.2 in
     let off : is_type (q.kinds g).kind t ≡ false =
-        false_by (is_type (q.kinds g).kind t)
-        (λ on.
-            let same = sym other.3 ∙ type_same (q.kinds g).kind t on ∙ is in
-            let level = level_apart (suc other.0) (suc j) (omega arith) (omega arith) same in
-            omega arith) in
+    false_by (is_type (q.kinds g).kind t)
+    (λ on.
+    let same = sym other.3 ∙ type_same (q.kinds g).kind t on ∙ is in
+    let level = level_apart (suc other.0) (suc j) (omega arith) (omega arith) same in
+    omega arith) in
     let all : (is_partial (q.kinds g) && is_type (q.kinds g).kind t) ≡ false = grind arith in
     rw all refl
 

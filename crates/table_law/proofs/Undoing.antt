@@ -1,12 +1,10 @@
 -- What is left to give back, one entry at a time: each thing that a loop over the stack does leaves it as it was.
-use Rattle.std.proofs.Common.{◌≡◌, ℕ, zero, suc, ◌-◌, ◌≤◌, ◌<◌, ◌&&◌, nat_lt, true, false, List, [], ◌∷◌, IsTrue, refl, sym, ap, ◌∙◌, subst, arith}
-use Rattle.xp_words.specs.declared.kind.KindWord.{KindWord}
+use Rattle.std.proofs.Common.{◌≡◌, ℕ, zero, suc, ◌-◌, ◌<◌, true, false, List, [], ◌∷◌, refl, ap, ◌∙◌, arith}
 use Rattle.xp_words.specs.declared.kind.PageType.{PageType}
-use Rattle.xp_words.specs.declared.entry.Demand.{Demand}
-use Rattle.xp_words.specs.declared.entry.Demand.TheVariants.{Nothing, Bad, Read, Typed}
-use Rattle.table_law.specs.Plain.{Plain, with_kind, reference_back}
+use Rattle.xp_words.specs.declared.entry.Demand.TheVariants.{Typed}
+use Rattle.table_law.specs.Plain.{Plain}
 use Rattle.table_law.specs.Levels.{TableLeft, type_at, entry_of, closed}
-use Rattle.table_law.specs.Release.{is_counted_on, count_back, drop_kind, drop_demand, drop_first, let_go, undo, undo_below}
+use Rattle.table_law.specs.Release.{is_counted_on, count_back, drop_demand, drop_first, let_go, undo, undo_below}
 use Rattle.table_law.specs.Stack.{table_left}
 
 -- the last recorded entry of the innermost table is given back
