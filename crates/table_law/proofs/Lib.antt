@@ -13,3 +13,6 @@ pub mod Examples
 pub mod Describing
 pub mod OnWords
 pub mod Telling
+pub mod Returning
+pub mod ReturningKinds
+pub mod ReturningTables

@@ -11,5 +11,8 @@ pub use lawful::{
     a_plain_acquisition_is_fine_where_lawful, an_acquisition_is_fine_where_the_words_are_lawful,
     words_are_described,
 };
-pub use release::what_is_held_is_given_back_by_entries;
+pub use release::{
+    a_refused_acquisition_changes_only_types, a_release_undoes_an_acquisition,
+    what_is_held_is_given_back_by_entries,
+};
 pub use stack::{a_pause_parks_what_a_resumption_reads, the_rest_goes_on_by_entries};
