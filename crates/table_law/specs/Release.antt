@@ -1,0 +1,51 @@
+-- The plain release: a type count and its reference are given back, and behind a last one the entries, from the highest down.
+use Rattle.std.specs.Prelude.{ℕ, zero, suc, ◌-◌, ◌&&◌, nat_lt, if◌then◌else◌, Bool, List, [], ◌∷◌}
+use Rattle.xp_words.specs.declared.kind.KindWord.{KindWord}
+use Rattle.xp_words.specs.declared.kind.PageType.{PageType}
+use Rattle.xp_words.specs.declared.kind.PageType.TheVariants as kinds
+use Rattle.xp_words.specs.declared.entry.Demand.{Demand}
+use Rattle.xp_words.specs.declared.entry.Demand.TheVariants.{Nothing, Bad, Read, Typed}
+use Rattle.table_law.specs.Plain.{Plain, with_kind, reference_back}
+use Rattle.table_law.specs.Levels.{type_at, entry_of, closed, TableLeft}
+
+-- ---- one type
+-- live, with other type counts beside one
+abbrev pub is_counted_on : KindWord → Bool
+is_counted_on k = k.validated && nat_lt 1 k.number
+
+-- one type count of frame g less, whose kind word is k, and one reference
+abbrev pub count_back : ℕ → KindWord → Plain → Plain
+count_back g k p = reference_back g (with_kind g (record k { number = k.number - 1 }) p)
+
+-- Of several type counts one goes. Else it was the last, and what the frame holds is given back.
+abbrev pub drop_kind : (Plain → Plain) → ℕ → PageType → Plain → KindWord → Plain
+drop_kind empty g t p k = if is_counted_on k then count_back g k p else closed g t (empty p)
+
+-- ---- entries
+abbrev pub drop_demand : (ℕ → Plain → Plain) → Plain → Demand → Plain
+drop_demand below p Nothing = p
+drop_demand below p Bad = p
+drop_demand below p (Read g) = reference_back g p
+drop_demand below p (Typed g t) = below g p
+
+-- the first k entries of frame f, a table of that type, the highest first
+unfoldable pub drop_first : (ℕ → Plain → Plain) → PageType → ℕ → ℕ → Plain → Plain
+drop_first below t f zero p = p
+drop_first below t f (suc k) p = drop_first below t f k (drop_demand below p (entry_of p t f k))
+
+-- ---- a frame by level: its type count and its reference
+unfoldable pub let_go : ℕ → ℕ → Plain → Plain
+let_go zero g p = drop_kind (λ q. q) g kinds.Writable p (p.kinds g)
+let_go (suc l) g p = drop_kind (drop_first (let_go l) (type_at (suc l)) g 512) g (type_at (suc l)) p (p.kinds g)
+
+-- ---- unfinished tables, the innermost first
+-- behind the innermost one, which was an entry of the next
+unfoldable pub undo_below : List TableLeft → Plain → Plain
+undo_below [] p = p
+undo_below (x ∷ xs) p =
+    undo_below xs (closed x.frame (type_at (suc x.level)) (drop_first (let_go x.level) (type_at (suc x.level)) x.frame (511 - x.ahead) p))
+
+-- `held` of the entries of the innermost one are recorded
+abbrev pub undo : List TableLeft → ℕ → Plain → Plain
+undo [] held p = p
+undo (x ∷ xs) held p = undo_below xs (closed x.frame (type_at (suc x.level)) (drop_first (let_go x.level) (type_at (suc x.level)) x.frame held p))
