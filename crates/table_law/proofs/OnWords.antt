@@ -1,5 +1,5 @@
 -- A tree is lawful on words exactly where it is on the plain value that describes them.
-use Rattle.std.proofs.Common.{◌≡◌, ◌≢◌, ℕ, ◌+◌, ◌<◌, ◌≤◌, ◌⊎◌, Option, Some, None, IsTrue, refl, sym, ap, ◌∙◌, subst, inl, inr, arith}
+use Rattle.std.proofs.Common.{◌≡◌, ◌≢◌, ℕ, ◌+◌, ◌<◌, ◌≤◌, ◌⊎◌, true, Option, Some, None, IsTrue, refl, sym, ap, ◌∙◌, subst, inl, inr, arith}
 use Rattle.xp_words.specs.declared.kind.KindWord.{KindWord}
 use Rattle.xp_words.specs.declared.kind.PageType.{PageType}
 use Rattle.xp_words.specs.declared.entry.Demand.{Demand}
@@ -14,7 +14,8 @@ use Rattle.xp_board.specs.Recorded.{names}
 use Rattle.xp_board.specs.Sums.{sum_below}
 use Rattle.board_lemmas.proofs.Sums.{sum_below-same, sum_below-none, one_at-other}
 use Rattle.step_maker.specs.Plain.{Words}
-use Rattle.table_law.specs.Plain.{Plain, Share, Describes, share_of}
+use Rattle.table_law.specs.Plain.{Plain, Share, Describes, share_of, sober}
+use Rattle.table_law.specs.Undone.{CountsSome}
 use Rattle.table_law.specs.Levels.{entry_of}
 use Rattle.table_law.specs.Lawful.{PlainTree, IsPlainNode, plain_asked_by, IsShareOf, IsPlainOwned, PlainLawful, IsRested, IsAtRest, share_count}
 use Rattle.table_law.specs.Lawful.{root as plain_root, below as plain_below}
@@ -194,3 +195,18 @@ rested_plain n m p d rest =
           ∙ rest.formed g inside (sym (sober_dead (kind_at m g)) ∙ sym (ap is_dead k) ∙ off);
       room = λ g inside. let count = share_most (m (Refs g)) in let same = ap share_count (d.shares g inside) in let most = rest.room g inside in omega arith;
     }
+
+-- where each live frame has a type count, each count is one of the plain value, too
+pub counts_plain : (n : Machine) (m : Words) (p : Plain) → Describes n m p → ((g : ℕ) → g < n.frames → (kind_at m g).validated ≡ true → 0 < (kind_at m g).number) → CountsSome n p
+counts_plain n m p d some =
+    record {
+      types = λ g inside live.
+          let same = ap (λ (k : KindWord). k.validated) (d.kinds g inside) ∙ sober_live (kind_at m g) in
+          let number = ap (λ (k : KindWord). k.number) (d.kinds g inside) ∙ live_number (kind_at m g) (sym same ∙ live) in
+          let count = some g inside (sym same ∙ live) in
+          omega arith;
+      refs = λ g s inside is. (owns_word (m (Refs g)) s (sym (d.shares g inside) ∙ is)).some;
+    }
+  where
+    live_number : (k : KindWord) → k.validated ≡ true → (sober k).number ≡ k.number
+    live_number k on = rw on refl
