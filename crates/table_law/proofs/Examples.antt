@@ -6,7 +6,7 @@ use Rattle.xp_words.specs.Entries.{demand_of, demand_at}
 use Rattle.kind_words.specs.Kinds.{live_kind, work_kind, dead_kind}
 use Rattle.table_law.specs.Plain.{Plain, Share}
 use Rattle.table_law.specs.Release.{let_go, drop_first}
-use Rattle.table_law.specs.Alone.{CountFull, OtherType, PlainOutcome, alone, meet_last, take_at}
+use Rattle.table_law.specs.Alone.{WrongOwner, CountFull, OtherType, Reserved, PlainOutcome, alone, meet_last, take_at}
 
 machine : ℕ → Machine
 machine limit = record { frames = 3; limit = limit; page_limit = []; privilege = []; vcpu_domain = [] }
@@ -54,3 +54,31 @@ back_kind = refl
 back_table : ((acquired 10 0x1003 0x3).left.kinds 0) ≡ dead_kind kinds.L1 false 0
 unfolding acquired machine start one meet_last take_at demand_at demand_of let_go drop_first
 back_table = refl
+
+-- the last entry is looked at, too
+last_bad : Plain
+last_bad = record { shares = λ g. Some one; kinds = λ g. dead_kind kinds.None false 0; cells = λ g i. if g == 0 then (if i == 511 then 0x81 else 0) else 0 }
+
+last_is_read : (alone (machine 10) 0 1 0 last_bad).refusal ≡ Some (Reserved 0 511 0x81)
+unfolding machine last_bad one meet_last take_at demand_at demand_of
+last_is_read = refl
+
+-- frame 1 is another domain's
+foreign : Plain
+foreign = record { shares = λ g. Some (record { owner = if g == 1 then 1 else 0; allocated = true; count = 1 }); kinds = λ g. dead_kind kinds.None false 0; cells = λ g i. 0x1003 }
+
+not_foreign : (alone (machine 10) 0 1 0 foreign).refusal ≡ Some (WrongOwner 1 (Some (record { owner = 1; allocated = true; count = 1 })))
+unfolding machine foreign meet_last take_at demand_at demand_of
+not_foreign = refl
+
+-- frame 1 is live as a table: its type stays, and the reference that was taken for it goes
+table : Plain
+table = record { shares = λ g. Some one; kinds = λ g. if g == 1 then live_kind kinds.L1 1 else dead_kind kinds.None false 0; cells = λ g i. if g == 0 then 0x1003 else 0 }
+
+not_table : (alone (machine 10) 0 1 0 table).refusal ≡ Some (OtherType 1 kinds.Writable (live_kind kinds.L1 1))
+unfolding machine table one meet_last take_at demand_at demand_of
+not_table = refl
+
+table_count : ((alone (machine 10) 0 1 0 table).left.shares 1) ≡ Some one
+unfolding machine table one meet_last take_at demand_at demand_of let_go drop_first
+table_count = refl
