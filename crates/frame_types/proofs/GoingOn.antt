@@ -47,6 +47,7 @@ still_waits b v w f owner want stamp progress own entered came same =
       work = e.work;
       works = entered_working b w f owner want true stamp progress own e;
       none = e.recorded ∙ e.none refl;
+      settled = e.settled (e.none refl);
       marked = ap (λ (k : KindWord). k.unflushed) fields;
       stamped = ap (λ (k : KindWord). k.number) fields;
       typed = work_typed want true stamp e.spelled;

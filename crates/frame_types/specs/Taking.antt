@@ -79,6 +79,7 @@ pub record WaitsWith (v w : PortValue) (f owner : ℕ) (want : PageType) (own : 
   pub work : Work
   pub works : IsWorking v w f owner want own work
   pub none : work.recorded ≡ 0
+  pub settled : work.unsettled ≡ None
   pub marked : (kind_fields work.word).unflushed ≡ true
   pub stamped : (kind_fields work.word).number ≡ stamp
   pub typed : IsTrue (not (is_none want))
