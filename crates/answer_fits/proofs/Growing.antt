@@ -120,7 +120,7 @@ module _ (n : Machine) (s : ℕ) (q : Request) (F : Finding) (t : Request) (G : 
   of_vcpu v k Load h a = a
 
   pub reason : (p : Place) (b : Act) (x : ℕ) (h : Holdings) → Reason n s q F p b x h → Reason n s t G p b x h
-  reason Clock b x h a = flushing h a
+  reason Clock b x h a = (flushing h a.0, record { moment = a.1.moment; was = w.moments a.1.moment a.1.was; place = a.1.place; act = a.1.act; next = a.1.next })
   reason (Pages d) b x h a = (counting d a.0, paging b a.1)
   reason (Life d) b x h a = w.destroys d a
   reason (Vcpu v k) b x h a = of_vcpu v k b h a

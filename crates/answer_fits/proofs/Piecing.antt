@@ -16,7 +16,7 @@ use Rattle.xp_board.specs.declared.holdings.Holdings.{Holdings}
 use Rattle.xp_board.specs.Lists.{EachOf}
 use Rattle.xp_board.specs.Told.{Post, PortValue}
 use Rattle.step_maker.specs.Moves.{Moves, Moment, Came, Met}
-use Rattle.step_maker.proofs.Coming.{ran_more, came_post, moment_of, moves_by, moves_came, moves_ran, met_before, met_after}
+use Rattle.step_maker.proofs.Coming.{ran_more, came_post, came_trans, moment_of, moves_by, moves_came, moves_ran, met_before, met_after}
 use Rattle.answer_fits.specs.Answers.{Changes, is_load, Deed, deeds_by, marked_by, deeds, Serves, Causes, Stops}
 use Rattle.answer_fits.specs.Asked.{Request, of_frame, IsFor, IsDemandOf, demand_held, named_type, Asked, IsAsked, back, of_back, IsNaming, Within, NoMore, named, demanded, walked, context, entered, of_old}
 use Rattle.answer_fits.specs.Finding.{Finding}
@@ -148,6 +148,26 @@ serves_step v u w r ds p a kind mark found before m reason =
         reasons = (
           reason,
           EachOf-map _ _ before.0 (λ m. has_reason n s r (Met v u) r (Met v w) (same_request n s r (Met v u) (Met v w) (λ k x. met_before v u w k x second)) m.place m.act m.found m.hand) before.1.reasons,
+        );
+      },
+    )
+
+-- steps, and two more behind them, of which the first may have its reason in the second
+pub serves_two : (v u x w : PortValue) (r : Request) (ds : List Deed) (p q : Place) (a b : Act) (j k : StepKind) (y z : ℕ) → Serves v u r ds → Moves u x p a j None y → Moves x w q b k None z →
+    HasReason v.post.machine v.post.vcpu r (Met v w) p a y u.holdings → HasReason v.post.machine v.post.vcpu r (Met v w) q b z x.holdings →
+    Serves v w r (deeds_by q b k z x.holdings ++ (deeds_by p a j y u.holdings ++ ds))
+unfolding Serves EachOf moment_of
+serves_two v u x w r ds p q a b j k y z before one two why and =
+    let second : Came u w = came_trans u x w (moves_came u x p a j None y one) (moves_came x w q b k None z two) in
+    let n = v.post.machine in
+    let s = v.post.vcpu in (
+      moment_of x q b k None z ∷ (moment_of u p a j None y ∷ before.0),
+      record {
+        ran = (x, (u, before.1.ran, moves_by u x p a j None y one), moves_by x w q b k None z two);
+        deeds_are = ap (λ (xs : List Deed). deeds_by q b k z x.holdings ++ (deeds_by p a j y u.holdings ++ xs)) before.1.deeds_are;
+        reasons = (
+          and,
+          (why, EachOf-map _ _ before.0 (λ m. has_reason n s r (Met v u) r (Met v w) (same_request n s r (Met v u) (Met v w) (λ k x. met_before v u w k x second)) m.place m.act m.found m.hand) before.1.reasons),
         );
       },
     )

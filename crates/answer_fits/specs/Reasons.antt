@@ -1,5 +1,5 @@
 -- Why a step may change a word: it serves a frame that is asked, or a flush that is asked or awaited.
-use Rattle.std.specs.Prelude.{◌≡◌, ◌≢◌, ◌⊎◌, ℕ, ◌/◌, ◌&&◌, ◌||◌, ◌≤◌, not, Bool, true, Option, Some, None, IsTrue}
+use Rattle.std.specs.Prelude.{◌≡◌, ◌≢◌, ◌⊎◌, ℕ, ◌+◌, ◌/◌, ◌&&◌, ◌||◌, ◌≤◌, not, Bool, true, length, Option, Some, None, IsTrue}
 use Rattle.xp_words.specs.Machine.{Machine}
 use Rattle.xp_words.specs.declared.place.Place.{Place}
 use Rattle.xp_words.specs.declared.place.Place.TheVariants.{Clock, Pages, Life, Vcpu, Refs, Kind, M2p, Cell, Map, Priv}
@@ -9,9 +9,11 @@ use Rattle.xp_words.specs.declared.kind.PageType.{PageType}
 use Rattle.xp_board.specs.declared.step.Act.{Act}
 use Rattle.xp_board.specs.declared.step.Act.TheVariants.{Load, Cas, Store, Add, Max}
 use Rattle.xp_board.specs.declared.holdings.Holdings.{Holdings}
+use Rattle.xp_board.specs.Acts.{left_by}
 use Rattle.xp_board.specs.KindSteps.{is_stale}
 use Rattle.xp_board.specs.Readings.{is_dead, is_type, is_free, owner_of, domain_of, free_stamp, has_ever}
 use Rattle.xp_board.specs.Steps.{last_since}
+use Rattle.step_maker.specs.Moves.{Moment}
 use Rattle.answer_fits.specs.Asked.{Request, Asked, IsAsked, Passed}
 use Rattle.answer_fits.specs.Finding.{Finding, FoundAt, FoundWith}
 
@@ -44,6 +46,14 @@ pub data NeedsFlush (n : Machine) (s : ℕ) (r : Request) (F : Finding) (h : Hol
 pub data MayFlush (n : Machine) (s : ℕ) (r : Request) (F : Finding) (h : Holdings) : Type 0 where
   needed : NeedsFlush n s r F h → MayFlush n s r F h
   asked : (stamp : ℕ) → last_since (sizes_of n) 0 (Vcpu s 4) h.steps ≡ Some stamp → LastAtMost n (Vcpu s 5) stamp h → MayFlush n s r F h
+
+-- the next step of the piece is the flush of the own translations to that clock value
+pub record IsFlushedNext (s : ℕ) (F : Finding) (clock : ℕ) (h : Holdings) : Type 0 where
+  pub moment : Moment
+  pub was : F moment
+  pub place : moment.place ≡ Vcpu s 5
+  pub act : moment.act ≡ Store clock
+  pub next : length moment.hand.steps ≡ length h.steps + 1
 
 -- the vCPU is of the domain whose frame it is, or was found with the privilege for that domain: it may have a translation of it
 abbrev pub MayReach : Machine → Option ℕ → Finding → ℕ → Type 0
@@ -100,7 +110,7 @@ MayChangeVcpu n s r F v k _ h = ⊥
 
 -- ---- by place: the act there, the word that it found, and what the vCPU held
 abbrev pub Reason : Machine → ℕ → Request → Finding → Place → Act → ℕ → Holdings → Type 0
-Reason n s r F Clock a x h = MayFlush n s r F h
+Reason n s r F Clock a x h = MayFlush n s r F h × IsFlushedNext s F (left_by a x) h
 Reason n s r F (Pages d) a x h = MayCountPages n s r F d × IsPagesChange r a
 Reason n s r F (Life d) a x h = r.destroys ≡ Some d
 Reason n s r F (Vcpu v k) a x h = MayChangeVcpu n s r F v k a h

@@ -1,5 +1,5 @@
 -- The own flush behind other steps: where they license it, all of them serve the same request.
-use Rattle.std.proofs.Common.{◌≡◌, ℕ, ◌+◌, ◌≤◌, ◌==◌, if◌then◌else◌, Bool, true, false, List, [], ◌++◌, Option, None, Ok, Err, Result, refl, ap, ◌∙◌, subst, inl, inr, arith, Some}
+use Rattle.std.proofs.Common.{◌≡◌, ℕ, ◌+◌, ◌≤◌, ◌==◌, if◌then◌else◌, Bool, true, false, List, [], ◌++◌, Option, None, Ok, Err, Result, refl, sym, ap, ◌∙◌, subst, inl, inr, arith, Some}
 use Rattle.xp_words.specs.Machine.{Machine}
 use Rattle.xp_words.specs.declared.place.Place.{Place}
 use Rattle.xp_words.specs.declared.place.Place.TheVariants.{Clock, Vcpu}
@@ -12,6 +12,7 @@ use Rattle.xp_board.specs.declared.step.Mark.{Mark}
 use Rattle.xp_board.specs.declared.step.StepKind.{StepKind}
 use Rattle.xp_board.specs.declared.step.StepKind.TheVariants as kinds
 use Rattle.xp_board.specs.declared.holdings.Holdings.{Holdings}
+use Rattle.xp_board.specs.Acts.{left_by}
 use Rattle.xp_board.specs.Readings.{last_clock}
 use Rattle.xp_board.specs.Steps.{last_since}
 use Rattle.xp_board.specs.Told.{Post, PortValue}
@@ -20,12 +21,12 @@ use Rattle.step_maker.proofs.Coming.{came_trans, came_post, moves_came, moves_me
 use Rattle.answer_fits.specs.Answers.{Deed, Serves, Stops}
 use Rattle.answer_fits.specs.Asked.{Request, Within, Passed, checked, given, old}
 use Rattle.answer_fits.specs.Finding.{Finding}
-use Rattle.answer_fits.specs.Reasons.{AwaitsStamp, marked, other, free, begun, LastAtMost, NeedsFlush, own, awaited, MayFlush, needed, asked}
+use Rattle.answer_fits.specs.Reasons.{AwaitsStamp, marked, other, free, begun, LastAtMost, NeedsFlush, own, awaited, IsFlushedNext, MayFlush, needed, asked}
 use Rattle.answer_fits.proofs.Growing.{found, found_with, asks}
-use Rattle.answer_fits.proofs.Piecing.{same_request, serves_came, serves_step}
+use Rattle.answer_fits.proofs.Piecing.{same_request, serves_came, serves_step, serves_two}
 use Rattle.flush_words.specs.Flushing.{FlushesOwn, spent}
 use Rattle.flush_words.proofs.Flushed.{Flushed, own_flushed}
-use Rattle.flush_words.proofs.Lasting.{last_kept, last_looked, last_at_most}
+use Rattle.flush_words.proofs.Lasting.{last_kept, last_looked, last_at_most, moves_longer}
 
 -- ---- the license
 -- more is found, and what was found stays
@@ -73,6 +74,20 @@ clock_step u v w r a k found came m may =
 may_more : (u v w : PortValue) (r : Request) (h : Holdings) → Came v w → MayFlush u.post.machine u.post.vcpu r (Met u v) h → MayFlush u.post.machine u.post.vcpu r (Met u w) h
 may_more u v w r h came may = may_as u.post.machine u.post.vcpu r (Met u v) (Met u w) (λ y x. met_before u v w y x came) h h (λ j. refl) may
 
+-- the flush is the next step, and goes to what the exchange left
+flush_next : (u v w : PortValue) (f : Flushed v w) → Came u f.loaded → v.post.vcpu ≡ u.post.vcpu → IsFlushedNext u.post.vcpu (Met u w) (left_by (Cas f.clock (f.clock + 1)) f.found) f.loaded.holdings
+unfolding moment_of
+flush_next u v w f to_a mine =
+    let x = f.exchanged in
+    let to_b = came_trans u f.loaded x to_a (moves_came f.loaded x Clock (Cas f.clock (f.clock + 1)) kinds.Tick None f.found f.tick) in
+    record {
+      moment = moment_of x (flushed_of v.post.vcpu) (Store f.to) kinds.Ack None f.before;
+      was = met_after u x w _ to_b (moves_met x w (flushed_of v.post.vcpu) (Store f.to) kinds.Ack None f.before f.ack);
+      place = ap flushed_of mine;
+      act = ap Store (sym f.left);
+      next = moves_longer f.loaded x Clock (Cas f.clock (f.clock + 1)) kinds.Tick None f.found f.tick;
+    }
+
 -- ---- steps, and the own flush behind them
 none_either : (b : Bool) → ◌≡◌ {A = List Deed} (if b then [] else []) []
 none_either true = refl
@@ -93,12 +108,12 @@ module _ (u v w : PortValue) (r : Request) (ds : List Deed) (before : Serves u v
         let to_a = came_trans u v a came (moves_came v a Clock Load kinds.Look None f.clock f.look) in
         let may_a = clock_step u v a r Load kinds.Look f.clock came f.look may in
         let may_b = clock_step u a b r (Cas f.clock (f.clock + 1)) kinds.Tick f.found to_a f.tick may_a in
-        let tick : Serves u b r ((if f.found == f.clock then [] else []) ++ ds) =
-        serves_step u a b r ds Clock (Cas f.clock (f.clock + 1)) kinds.Tick None f.found (looked a f.clock f.look) f.tick
-        (may_more u a b r a.holdings (moves_came a b Clock (Cas f.clock (f.clock + 1)) kinds.Tick None f.found f.tick) may_a) in
+        let ticked = moves_came a b Clock (Cas f.clock (f.clock + 1)) kinds.Tick None f.found f.tick in
         let acked = moves_came b w (flushed_of v.post.vcpu) (Store f.to) kinds.Ack None f.before f.ack in
-        serves_step u b w r ds (flushed_of v.post.vcpu) (Store f.to) kinds.Ack None f.before (subst (λ (xs : List Deed). Serves u b r (xs ++ ds)) (none_either (f.found == f.clock)) tick) f.ack
-        (inl (ap (λ (q : Post). q.vcpu) (came_post u v came), inr (may_more u b w r b.holdings acked may_b)))
+        let mine : v.post.vcpu ≡ u.post.vcpu = ap (λ (q : Post). q.vcpu) (came_post u v came) in
+        subst (λ (xs : List Deed). Serves u w r (xs ++ ds)) (none_either (f.found == f.clock))
+        (serves_two u a b w r ds Clock (flushed_of v.post.vcpu) (Cas f.clock (f.clock + 1)) (Store f.to) kinds.Tick kinds.Ack f.found f.before (looked a f.clock f.look) f.tick f.ack
+        (may_more u a w r a.holdings (came_trans a b w ticked acked) may_a, flush_next u v w f to_a mine) (inl (mine, inr (may_more u b w r b.holdings acked may_b))))
 
     -- whether it is made or not
     pub own_serves : (answer : Result (Unit {0}) Refusal) → FlushesOwn v w answer → Serves u w r ds

@@ -8,10 +8,10 @@ use Rattle.vcpu_turn.specs.Lists.{Heard}
 pub no : (a b : ℕ) → a ≤ b → b < a → ⊥
 no a b x y = omega (arith, x, y)
 
-not_there : (k c : ℕ) → k < c → (k == c) ≡ false
+pub not_there : (k c : ℕ) → k < c → (k == c) ≡ false
 not_there k c l = grind (arith, nat_tests)
 
-is_there : (k c : ℕ) → k ≡ c → (k == c) ≡ true
+pub is_there : (k c : ℕ) → k ≡ c → (k == c) ≡ true
 is_there k c e = grind (arith, nat_tests)
 
 before_last : (due : Bool) (k c : ℕ) → (due ≡ true → k < c) → false ≡ (due && (k == c))

@@ -7,7 +7,7 @@ use Rattle.xp_words.specs.declared.reply.Stop.TheVariants.{Paused}
 use Rattle.xp_words.specs.declared.reply.Pause.TheVariants.{Due}
 use Rattle.xp_board.specs.Told.{PortValue}
 use Rattle.xp_preempt.specs.Gates.{next_ask}
-use Rattle.vcpu_turn.specs.Lists.{Fitting, Asking, DidItems, none, more, WorksOn, asks_on}
+use Rattle.vcpu_turn.specs.Lists.{Fitting, Asking, DidItems, none, more, WorksOn, asks_between, asks_on}
 use Rattle.vcpu_turn.proofs.Hearing.{no}
 
 pub never : (k : ℕ) → k < k → ⊥
@@ -103,11 +103,18 @@ module _ (fits : Fitting) (asks : Asking) (count from : ℕ) (v : PortValue) (qu
   did_count _ _ _ none = omega arith
   did_count _ _ _ (more k n u w d f) = let before = did_count k n u d in let no_asks = quiet k u w (Ok tt) in omega (arith, before, no_asks)
 
-  pub asked_exactly : (w : PortValue) (to before after : ℕ) → from < to → WorksOn fits asks count v w from to before after (Ok tt) → after ≡ asks_on (to - from - 1) before
-  asked_exactly w to before after some works =
+  pub asked_exactly : (w : PortValue) (to before after : ℕ) (answer : Result (Unit {0}) Stop) → WorksOn fits asks count v w from to before after answer → after ≡ asks_on (asks_between from to answer) before
+  asked_exactly w to before after (Ok done) works =
       let number = did_count to works.number works.last works.did in
       let times : works.asked ≡ to - from - 1 = elim works.ends.2 [
-        | inl (same, is) ↦ absurd (never to (subst (λ k. k < to) same some))
+        | inl (same, is) ↦ omega (arith, number, is, same)
         | inr (less, is) ↦ omega (arith, number, is, less)
+      ] in
+      works.gate ∙ ap (λ k. asks_on k before) times
+  asked_exactly w to before after (Err e) works =
+      let number = did_count to works.number works.last works.did in
+      let times : works.asked ≡ to - from = elim works.ends [
+        | inl (due, some, less, same, is) ↦ omega (arith, number, is)
+        | inr (less, fit, is) ↦ (let none = quiet to works.last w (Err e) in omega (arith, number, is, none))
       ] in
       works.gate ∙ ap (λ k. asks_on k before) times

@@ -1,5 +1,5 @@
 -- Operations that are lists of items, whatever these are: which a turn does, how it ends, and when it asks its gate.
-use Rattle.std.specs.Prelude.{◌≡◌, ◌⊎◌, ℕ, zero, suc, ◌+◌, ◌<◌, ◌≤◌, ◌==◌, ◌&&◌, Bool, true, false, Result, Ok, Err}
+use Rattle.std.specs.Prelude.{◌≡◌, ◌⊎◌, ℕ, zero, suc, ◌+◌, ◌-◌, ◌<◌, ◌≤◌, ◌==◌, ◌&&◌, Bool, true, false, Result, Ok, Err}
 use Rattle.xp_words.specs.declared.reply.Stop.{Stop}
 use Rattle.xp_words.specs.declared.reply.Stop.TheVariants.{Paused}
 use Rattle.xp_words.specs.declared.reply.Pause.TheVariants.{Due}
@@ -17,6 +17,11 @@ Asking = ℕ → PortValue → PortValue → Result (Unit {0}) Stop → ℕ
 unfoldable pub asks_on : ℕ → ℕ → ℕ
 asks_on zero asks = asks
 asks_on (suc k) asks = next_ask (asks_on k asks)
+
+-- How often a list whose items ask nothing asks its gate in a turn: behind each item that it does, but for the last of the list.
+abbrev pub asks_between : ℕ → ℕ → Result (Unit {0}) Stop → ℕ
+asks_between from to (Ok done) = to - from - 1
+asks_between from to (Err e) = to - from
 
 -- A gate that says this at each ask was asked from behind number `before` to number `after`: it said no, but at the last
 -- of them, where what asked it is due.

@@ -16,7 +16,7 @@ use Rattle.xp_board.specs.Told.{PortValue, own_run}
 use Rattle.step_maker.specs.Moves.{Moves}
 use Rattle.flush_words.specs.Flushing.{FlushesOwn}
 use Rattle.vcpu_turn.specs.Cpus.{Processing, pairs_of, end_of, after_turn}
-use Rattle.vcpu_turn.specs.Lists.{is_due_by}
+use Rattle.vcpu_turn.specs.Lists.{asks_between, asks_on, is_due_by}
 use Rattle.vcpu_turn.specs.Working.{Works}
 use Rattle.vcpu_turn.specs.declared.cpu.TurnEnd.{TurnEnd}
 use Rattle.vcpu_turn.specs.declared.cpu.TurnEnd.TheVariants as ends
@@ -80,6 +80,13 @@ pub record IsTurn (c c' : Processing) (end : TurnEnd) (v w : PortValue) (before 
   pub begins : Begins v begun
   pub does : Does c (slice_get c.script (length c.log)) c' begun worked before after end
   pub ends : EndsTurn end worked w
+
+-- In a turn a list whose items ask nothing went on from element `from` to element `to`, and ended so; and the gate was asked so often.
+pub record CountsAsks (from : ℕ) (end : TurnEnd) (before after : ℕ) : Type 0 where
+  pub to : ℕ
+  pub answer : Result (Unit {0}) Stop
+  pub end_is : end ≡ end_of to answer
+  pub asks : after ≡ asks_on (asks_between from to answer) before
 
 -- a retired vCPU makes no step, and asks nothing
 pub record StaysRetired (c c' : Processing) (end : TurnEnd) (v w : PortValue) (before after : ℕ) : Type 0 where
