@@ -3,7 +3,10 @@ use Rattle.std.specs.Prelude.{◌≡◌, ℕ, ◌+◌, ◌<◌, ◌∷◌, lengt
 use Rattle.xp_words.specs.Machine.{Machine}
 use Rattle.xp_words.specs.RefWords.{ref_read, ref_write}
 use Rattle.xp_words.specs.declared.reply.Refusal.{Refusal}
-use Rattle.xp_words.specs.declared.reply.Refusal.TheVariants.{WrongOwner, CountFull}
+use Rattle.xp_words.specs.declared.reply.Pause.TheVariants.{Lost}
+use Rattle.xp_words.specs.declared.reply.Refusal.TheVariants.{WrongOwner, CountFull, NoFrame}
+use Rattle.xp_words.specs.declared.reply.Stop.{Stop}
+use Rattle.xp_words.specs.declared.reply.Stop.TheVariants.{Refused, Paused}
 use Rattle.answer_fits.specs.Licences.{IsOwnedBy, IsFull}
 use Rattle.xp_words.specs.declared.refs.RefWord.TheVariants.{Owned}
 use Rattle.xp_board.specs.declared.holdings.Holdings.{Holdings}
@@ -38,3 +41,11 @@ abbrev pub RefusesWord : ℕ → ℕ → ℕ → ℕ → Refusal → Type 0
 RefusesWord f owner limit w (WrongOwner frame found) = (frame ≡ f) × (found ≡ w) × (IsOwnedBy owner (ref_read w) → ⊥)
 RefusesWord f owner limit w (CountFull frame found) = (frame ≡ f) × (found ≡ w) × IsFull owner limit (ref_read w)
 RefusesWord f owner limit w _ = ⊥
+
+-- why a reference is not to be had
+abbrev pub IsRefStop : Stop → Type 0
+IsRefStop (Refused (NoFrame f)) = Unit {0}
+IsRefStop (Refused (WrongOwner f found)) = Unit {0}
+IsRefStop (Refused (CountFull f found)) = Unit {0}
+IsRefStop (Paused (Lost place expected found)) = Unit {0}
+IsRefStop _ = ⊥
