@@ -1,5 +1,5 @@
 -- Reference words, and what the steps on them leave in hand.
-use Rattle.std.specs.Prelude.{◌≡◌, ℕ, ◌+◌, ◌<◌, ◌∷◌, length}
+use Rattle.std.specs.Prelude.{◌≡◌, ℕ, ◌+◌, ◌<◌, List, [], ◌∷◌, length}
 use Rattle.xp_words.specs.Machine.{Machine}
 use Rattle.xp_words.specs.RefWords.{ref_read, ref_write}
 use Rattle.xp_words.specs.declared.reply.Refusal.{Refusal}
@@ -10,6 +10,12 @@ use Rattle.xp_board.specs.declared.holdings.Holdings.{Holdings}
 use Rattle.xp_board.specs.declared.holdings.OwnerFound.TheVariants as owners
 use Rattle.xp_board.specs.Hands.{refs_to}
 use Rattle.xp_board.specs.RefSteps.{SparesClosing}
+use Rattle.xp_board.specs.Told.{PortValue}
+use Rattle.xp_board.specs.declared.step.Act.{Act}
+use Rattle.xp_board.specs.declared.step.Act.TheVariants.{Cas}
+use Rattle.xp_words.specs.declared.place.Place.{Place}
+use Rattle.xp_words.specs.declared.place.Place.TheVariants.{Refs}
+use Rattle.answer_fits.specs.Answers.{Changes}
 use Rattle.frame_words.specs.declared.rows.Open.{Open}
 
 abbrev pub open_word : Open → ℕ
@@ -38,3 +44,8 @@ abbrev pub RefusesWord : ℕ → ℕ → ℕ → ℕ → Refusal → Type 0
 RefusesWord f owner limit w (WrongOwner frame found) = (frame ≡ f) × (found ≡ w) × (IsOwnedBy owner (ref_read w) → ⊥)
 RefusesWord f owner limit w (CountFull frame found) = (frame ≡ f) × (found ≡ w) × IsFull owner limit (ref_read w)
 RefusesWord f owner limit w _ = ⊥
+
+-- What taking a reference changes: nothing, or its word by one exchange.
+pub data Gets (v w : PortValue) (f : ℕ) : Type 0 where
+  no_change : Changes v w [] → Gets v w f
+  one_change : (e x : ℕ) → Changes v w ((Refs f, Cas e x) ∷ []) → Gets v w f
