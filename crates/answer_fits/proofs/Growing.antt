@@ -192,6 +192,7 @@ module _ (n : Machine) (s : ℕ) (q : Request) (F : Finding) (t : Request) (G : 
       behind = a.1.behind;
       asked = record { before = a.1.asked.before; did = did _ _ a.1.asked.before a.1.asked.did };
       reach = reaching a.0 v a.1.reach;
+      own = clear a.0 stamp s a.1.own;
       least = λ u b. clear a.0 stamp u (a.1.least u b);
       others = λ u b. cleared a.0 stamp u (a.1.others u b);
     },

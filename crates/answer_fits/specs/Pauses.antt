@@ -77,7 +77,7 @@ pub record AskedTo (stamp : ℕ) (F : Finding) (v : ℕ) : Type 0 where
   pub before : ℕ
   pub did : Did F (Vcpu v 4) (Max stamp) before
 
--- the least vCPU that is behind, and all that are were asked, it too
+-- the least vCPU that is behind, and all that are were asked, it too; the own one is clear, and not only asked
 pub record Behind (n : Machine) (s : ℕ) (whose : Option ℕ) (stamp : ℕ) (F : Finding) (v found : ℕ) : Type 0 where
   pub other : v ≢ s
   pub real : v < length n.vcpu_domain
@@ -86,6 +86,7 @@ pub record Behind (n : Machine) (s : ℕ) (whose : Option ℕ) (stamp : ℕ) (F 
   pub behind : found ≤ stamp
   pub asked : AskedTo stamp F v
   pub reach : MayReach n whose F v
+  pub own : Clear n s whose stamp F s
   pub least : (u : ℕ) → u < v → Clear n s whose stamp F u
   pub others : (u : ℕ) → u < length n.vcpu_domain → Clear n s whose stamp F u ⊎ AskedTo stamp F u
 

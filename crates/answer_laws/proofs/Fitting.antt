@@ -11,6 +11,7 @@ use Rattle.xp_board.specs.declared.step.Mark.{Mark}
 use Rattle.xp_board.specs.declared.step.StepKind.{StepKind}
 use Rattle.xp_board.specs.declared.step.StepKind.TheVariants as steps
 use Rattle.xp_board.specs.declared.holdings.Holdings.{Holdings}
+use Rattle.xp_board.specs.Acts.{left_by}
 use Rattle.xp_board.specs.Hands.{work_on, typed_hand}
 use Rattle.xp_board.specs.KindSteps.{AllowsKindStore}
 use Rattle.xp_board.specs.Legal.{LegalAs}
@@ -22,7 +23,7 @@ use Rattle.step_maker.specs.Moves.{Moment, Met}
 use Rattle.answer_fits.specs.Answers.{Deed, Piece, Misses, Returns, deeds, deeds_by, marked_by, exchanged, exchanged_as, missed_at}
 use Rattle.answer_fits.specs.Asked.{Request, of_frame, IsFor, Asked, named, demanded, entered, walked, context, of_old, IsAsked, of, back}
 use Rattle.answer_fits.specs.Finding.{Finding}
-use Rattle.answer_fits.specs.Reasons.{MayFlush, MayAskFor, HasReason}
+use Rattle.answer_fits.specs.Reasons.{IsFlushedNext, MayFlush, MayAskFor, HasReason}
 use Rattle.xp_words.specs.Machine.{Machine}
 use Rattle.board_lemmas.proofs.EntryWords.{type_same}
 use Rattle.board_lemmas.proofs.Sums.{when_eq}
@@ -206,3 +207,7 @@ flushes v w r ds ms m x piece at alive is by = by_case (reason_at v w r ds ms m 
 pub asks : (v w : PortValue) (r : Request) (ds : List Deed) (ms : List Moment) (m : Moment) (u k stamp : ℕ) → Piece v w r ds ms → Member m ms → m.place ≡ Vcpu u k → m.act ≡ Max stamp →
     MayAskFor v.post.machine v.post.vcpu r (Met v w) u k stamp m.hand
 asks v w r ds ms m u k stamp piece at is by = reason_at v w r ds ms m piece at (Vcpu u k) (Max stamp) is by
+
+pub clock_flushed : (v w : PortValue) (r : Request) (ds : List Deed) (ms : List Moment) (m : Moment) (e x : ℕ) → Piece v w r ds ms → Member m ms → m.place ≡ Clock → m.act ≡ Cas e x →
+    IsFlushedNext v.post.vcpu (Met v w) (left_by (Cas e x) m.found) m.hand
+clock_flushed v w r ds ms m e x piece at is by = (reason_at v w r ds ms m piece at Clock (Cas e x) is by).1

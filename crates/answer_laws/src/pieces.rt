@@ -4,6 +4,7 @@ ghost use Rattle.xp_words.specs.declared.place.Place.TheVariants.{Clock, Life, R
 ghost use Rattle.xp_words.specs.KindWords.{kind_fields};
 ghost use Rattle.xp_words.specs.declared.kind.PageType.{PageType};
 ghost use Rattle.xp_board.specs.declared.step.Act.TheVariants.{Load, Cas, Store, Max};
+ghost use Rattle.xp_board.specs.Acts.{left_by};
 ghost use Rattle.xp_board.specs.Hands.{work_on, typed_hand};
 ghost use Rattle.xp_board.specs.Lists.{Member};
 ghost use Rattle.xp_board.specs.Marks.{after_mark};
@@ -12,7 +13,7 @@ ghost use Rattle.xp_board.specs.Told.{PortValue};
 ghost use Rattle.step_maker.specs.Moves.{Moment, Met};
 ghost use Rattle.answer_fits.specs.Answers.{Deed, Piece, Misses, Returns};
 ghost use Rattle.answer_fits.specs.Asked.{Request, of_frame};
-ghost use Rattle.answer_fits.specs.Reasons.{MayFlush, MayAskFor};
+ghost use Rattle.answer_fits.specs.Reasons.{IsFlushedNext, MayFlush, MayAskFor};
 
 /// A call on one frame changes no kind word but that frame's.
 #[tactic(auto, using(crate::proofs::Fitting::others_stay))]
@@ -84,4 +85,11 @@ pub fn no_needless_flush()
 pub fn asks_are_of_awaited_stamps()
     ensures { (v w : PortValue) (r : Request) (ds : List Deed) (ms : List Moment) (m : Moment) (u k stamp : ℕ) → Piece v w r ds ms → Member m ms → m.place ≡ Vcpu u k → m.act ≡ Max stamp →
         MayAskFor v.post.machine v.post.vcpu r (Met v w) u k stamp m.hand }
+{}
+
+/// The clock is moved on only for the own flush, which is the next step and goes to what the exchange left. So no call moves it
+/// on twice for one flush, nor to its last value to be refused.
+pub fn the_clock_goes_on_for_a_flush_alone()
+    ensures { (v w : PortValue) (r : Request) (ds : List Deed) (ms : List Moment) (m : Moment) (e x : ℕ) → Piece v w r ds ms → Member m ms → m.place ≡ Clock → m.act ≡ Cas e x →
+        IsFlushedNext v.post.vcpu (Met v w) (left_by (Cas e x) m.found) m.hand }
 {}

@@ -13,7 +13,7 @@ use Rattle.answer_fits.specs.Reasons.{AwaitsStamp}
 use Rattle.flush_words.proofs.FlushServes.{awaited_more}
 use Rattle.flush_waits.specs.declared.Awaiting.{Awaiting}
 use Rattle.flush_waits.specs.declared.Late.{Late}
-use Rattle.flush_waits.specs.Clearing.{AllStand, Clears, IsClear, IsLeast, Looks, Stands, Waits, first_behind}
+use Rattle.flush_waits.specs.Clearing.{AllStand, Clears, IsBehind, IsClear, IsLeast, Looks, Stands, Waits, first_behind}
 use Rattle.flush_waits.specs.Waiting.{IsFlushed, IsMarked, StopsBehind}
 use Rattle.flush_waits.proofs.Chaining.{asked_earlier, behind_earlier, clear_earlier, still_clear, then_stands}
 use Rattle.flush_waits.proofs.Growing.{marked_later}
@@ -52,12 +52,26 @@ module _ (v u w : PortValue) (a : Awaiting) (k : ℕ) (first : Clears v u a) (se
       ])
       (clear_or_asked v w a k standing here)
 
+  -- the own vCPU is never one that is behind
+  own_clear : (s : ℕ) (standing : Option ℕ) → s ≡ v.post.vcpu → Stands v w a s (Ok standing) → Clear v.post.machine v.post.vcpu (Some a.owner) a.stamp (Met v w) s
+  own_clear s None is here = here.0
+  own_clear s (Some found) is here = absurd (here.other is)
+
+  own_more : (standing : Option ℕ) → (v.post.vcpu < k → Clear v.post.machine v.post.vcpu (Some a.owner) a.stamp (Met v u) v.post.vcpu) → Stands v w a k (Ok standing) → v.post.vcpu < k + 1 →
+      Clear v.post.machine v.post.vcpu (Some a.owner) a.stamp (Met v w) v.post.vcpu
+  own_more standing before here below =
+      elim (below_or v.post.vcpu k below) [
+        | inl low ↦ clear_earlier v u w a first.came second.came v.post.vcpu (before low)
+        | inr is ↦ subst (λ j. Clear v.post.machine v.post.vcpu (Some a.owner) a.stamp (Met v w) j) (sym is) (own_clear k standing (sym is) here)
+      ]
+
   all_more : (o : Option Late) (standing : Option ℕ) → AllStand v u a k (Ok o) → Stands v w a k (Ok standing) → AllStand v w a (k + 1) (Ok (first_behind o k standing))
   all_more None None all here = up_to (λ j. IsClear v w a j) k (λ j below. still_clear v u w a first.came second.came j second.hand (all j below)) here
   all_more None (Some found) all here =
       record {
         below = omega arith;
         itself = here;
+        own = λ below. own_more (Some found) (λ low. (all v.post.vcpu low).0) here below;
         least = λ j below. clear_earlier v u w a first.came second.came j (all j below).0;
         others = others_more (Some found) (λ j below. inl (all j below).0) here;
       }
@@ -65,6 +79,7 @@ module _ (v u w : PortValue) (a : Awaiting) (k : ℕ) (first : Clears v u a) (se
       record {
         below = (let below = all.below in omega (arith, below));
         itself = behind_earlier v u w a first.came second.came b.vcpu b.found all.itself;
+        own = λ below. own_more standing all.own here below;
         least = λ j below. clear_earlier v u w a first.came second.came j (all.least j below);
         others = others_more standing all.others here;
       }
@@ -103,6 +118,12 @@ module _ (v w : PortValue) (a : Awaiting) where
     done_behind u (inl c) = inl (clear_more (Met v w) (Met t w) behind v.post.machine v.post.vcpu (Some a.owner) a.stamp u c)
     done_behind u (inr c) = inr (asked_more (Met v w) (Met t w) behind v.post.machine v.post.vcpu a.stamp u c)
 
+    -- it made a step, so it is one of the machine's
+    own_real : (b : Late) → IsBehind v w a b.vcpu b.found → v.post.vcpu < all
+    own_real b i =
+        let m = i.running.was in
+        subst (λ (q : Post). q.vcpu < length q.machine.vcpu_domain) (came_post v m.from m.before) m.moved.moves.finds.real
+
     least_behind : (b : Late) → IsLeast v w a all b → Behind v.post.machine v.post.vcpu (Some a.owner) a.stamp (Met t w) b.vcpu b.found
     least_behind b l =
         let n = v.post.machine in
@@ -116,6 +137,7 @@ module _ (v w : PortValue) (a : Awaiting) where
           behind = i.behind;
           asked = asked_more (Met v w) (Met t w) behind n s a.stamp b.vcpu i.asked;
           reach = reach_more (Met v w) (Met t w) behind n s a.owner b.vcpu i.reach;
+          own = clear_more (Met v w) (Met t w) behind n s (Some a.owner) a.stamp s (l.own (own_real b i));
           least = λ u below. clear_more (Met v w) (Met t w) behind n s (Some a.owner) a.stamp u (l.least u below);
           others = λ u real. done_behind u (l.others u real);
         }

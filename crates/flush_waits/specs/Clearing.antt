@@ -80,6 +80,7 @@ first_behind None u None = None
 pub record IsLeast (v w : PortValue) (a : Awaiting) (upto : ℕ) (b : Late) : Type 0 where
   pub below : b.vcpu < upto
   pub itself : IsBehind v w a b.vcpu b.found
+  pub own : v.post.vcpu < upto → Clear v.post.machine v.post.vcpu (Some a.owner) a.stamp (Met v w) v.post.vcpu
   pub least : (u : ℕ) → u < b.vcpu → Clear v.post.machine v.post.vcpu (Some a.owner) a.stamp (Met v w) u
   pub others : (u : ℕ) → u < upto → Clear v.post.machine v.post.vcpu (Some a.owner) a.stamp (Met v w) u ⊎ AskedTo a.stamp (Met v w) u
 

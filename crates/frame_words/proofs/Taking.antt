@@ -35,13 +35,13 @@ use Rattle.board_lemmas.proofs.PlaceTests.{equal_by}
 use Rattle.step_maker.specs.Holds.{Holds, Same, still}
 use Rattle.step_maker.specs.Moves.{Moves, Met, step_at}
 use Rattle.step_maker.proofs.Coming.{moment_of, moves_met, moves_came, met_before, met_after}
-use Rattle.answer_fits.specs.Answers.{Serves, Stops, Deed, Returns, Misses, missed_at, deeds_by, exchanged, only_if}
+use Rattle.answer_fits.specs.Answers.{Changes, Serves, Stops, Deed, Returns, Misses, missed_at, deeds_by, exchanged, only_if}
 use Rattle.answer_fits.specs.Asked.{Request, of_frame, of_back, IsFor, IsAsked, of, back, named}
 use Rattle.answer_fits.specs.Finding.{Finding, FoundAt, FoundWith}
 use Rattle.answer_fits.specs.Reasons.{Reason, IsRefChange}
-use Rattle.answer_fits.proofs.Piecing.{serves_step, moves_serves, no_more}
+use Rattle.answer_fits.proofs.Piecing.{changes_nothing, changes_step, serves_step, moves_serves, no_more}
 use Rattle.frame_words.specs.declared.rows.Open.{Open}
-use Rattle.frame_words.specs.Refs.{open_word, raised_word, IsOpen, took, MayPut, RefusesWord}
+use Rattle.frame_words.specs.Refs.{open_word, raised_word, IsOpen, took, MayPut, RefusesWord, Gets, no_change, one_change}
 
 -- ---- what a look at a reference word tells
 pub domain_known : (n : Machine) (s : ℕ) (h : Holdings) (f found owner count : ℕ) (allocated : Bool) → f < n.frames → Finds n s h (Refs f) found → ref_read found ≡ Some (Owned owner allocated count) →
@@ -199,3 +199,17 @@ taken_gives v u w f found owner look same holds =
       held = rw refs (omega (arith, more));
       spares = λ closing. rw refs (let some = closing_by f v.holdings v.holdings.works agree (subst (λ (ws : List Work). IsTrue (is_closing_on (work_on f ws))) works closing) in omega (arith, more, some));
     }
+
+-- ---- what it changes
+pub gets_nothing : (v : PortValue) (f : ℕ) → Gets v v f
+gets_nothing v f = no_change (changes_nothing v)
+
+module _ (v u : PortValue) (f word : ℕ) (look : Moves v u (Refs f) Load kinds.Look None word) where
+  looked_alone : Changes v u []
+  looked_alone = changes_step v v u [] _ _ _ _ _ (changes_nothing v) look
+
+  pub gets_look : Gets v u f
+  gets_look = no_change looked_alone
+
+  pub gets_exchange : (w : PortValue) (e x found : ℕ) → Moves u w (Refs f) (Cas e x) kinds.Ref None found → Gets v w f
+  gets_exchange w e x found raise = one_change e x (changes_step v u w [] _ _ _ _ _ looked_alone raise)

@@ -1,5 +1,5 @@
 -- Reference words, and what the steps on them leave in hand.
-use Rattle.std.specs.Prelude.{◌≡◌, ℕ, ◌+◌, ◌<◌, ◌∷◌, length}
+use Rattle.std.specs.Prelude.{◌≡◌, ℕ, ◌+◌, ◌<◌, List, [], ◌∷◌, length}
 use Rattle.xp_words.specs.Machine.{Machine}
 use Rattle.xp_words.specs.RefWords.{ref_read, ref_write}
 use Rattle.xp_words.specs.declared.reply.Refusal.{Refusal}
@@ -13,6 +13,12 @@ use Rattle.xp_board.specs.declared.holdings.Holdings.{Holdings}
 use Rattle.xp_board.specs.declared.holdings.OwnerFound.TheVariants as owners
 use Rattle.xp_board.specs.Hands.{refs_to}
 use Rattle.xp_board.specs.RefSteps.{SparesClosing}
+use Rattle.xp_board.specs.Told.{PortValue}
+use Rattle.xp_board.specs.declared.step.Act.{Act}
+use Rattle.xp_board.specs.declared.step.Act.TheVariants.{Cas}
+use Rattle.xp_words.specs.declared.place.Place.{Place}
+use Rattle.xp_words.specs.declared.place.Place.TheVariants.{Refs}
+use Rattle.answer_fits.specs.Answers.{Changes}
 use Rattle.frame_words.specs.declared.rows.Open.{Open}
 
 abbrev pub open_word : Open → ℕ
@@ -49,3 +55,8 @@ IsRefStop (Refused (WrongOwner f found)) = Unit {0}
 IsRefStop (Refused (CountFull f found)) = Unit {0}
 IsRefStop (Paused (Lost place expected found)) = Unit {0}
 IsRefStop _ = ⊥
+
+-- What taking a reference changes: nothing, or its word by one exchange.
+pub data Gets (v w : PortValue) (f : ℕ) : Type 0 where
+  no_change : Changes v w [] → Gets v w f
+  one_change : (e x : ℕ) → Changes v w ((Refs f, Cas e x) ∷ []) → Gets v w f

@@ -12,7 +12,7 @@ ghost use Rattle.frame_words.specs.Freeing.{IsEnding, Frees, Puts, gave};
 ghost use Rattle.xp_board.specs.Told.{is_telling, told_word};
 ghost use Rattle.step_maker.specs.Plain.{Leaves};
 ghost use Rattle.frame_words.specs.Plain.{TwinGet, put};
-ghost use Rattle.frame_words.specs.Refs.{took, IsRefStop, MayPut, RefusesWord};
+ghost use Rattle.frame_words.specs.Refs.{Gets, took, IsRefStop, MayPut, RefusesWord};
 
 use crate::freeing::{last_owner, lower_pages, set_free_bit, store_free};
 use crate::rows::{Open, look_refs, lower_refs, raise_refs};
@@ -60,6 +60,7 @@ pub fn get_ref<P: Port>(port: &mut P, f: u64, owner: u16) -> Result<u32, Stop>
     ensures kinds { IfErr result IsRefStop }
     ensures hand { MatchResult result (λ g. Holds (P.value port.old) (P.value port.new) (took g owner (P.value port.old).holdings)) (λ _. Same (P.value port.old) (P.value port.new)) }
     ensures plain { TwinGet (P.value port.old) (P.value port.new) f owner result }
+    ensures gets { Gets (P.value port.old) (P.value port.new) f }
     // It may be given back, also where the frame was closing in the hand.
     ensures gives { IfOk result (λ g. MayPut g (P.value port.new).holdings) }
 {

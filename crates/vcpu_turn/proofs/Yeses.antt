@@ -2,12 +2,14 @@
 use Rattle.std.proofs.Common.{◌≡◌, ℕ, zero, suc, ◌+◌, ◌-◌, ◌<◌, ◌≤◌, ◌==◌, ◌&&◌, if◌then◌else◌, Bool, true, false, List, length, slice_get, Some, Result, Ok, Err, refl, sym, ap, ◌∙◌, arith, inl, inr, subst}
 use Rattle.std.proofs.lemmas.Bool.{cases_order}
 use Rattle.xp_words.specs.declared.reply.Stop.{Stop}
+use Rattle.xp_words.specs.declared.reply.Stop.TheVariants.{Refused, Paused}
+use Rattle.xp_words.specs.declared.reply.Pause.TheVariants.{Due, Lost, Busy, Flush, Alive}
 use Rattle.xp_board.specs.Told.{PortValue}
 use Rattle.xp_preempt.specs.Gates.{last_ask, next_ask}
 use Rattle.xp_words.specs.declared.ops.Op.{Op}
 use Rattle.xp_words.specs.declared.ops.Pair.{Pair}
-use Rattle.vcpu_turn.specs.Cpus.{Processing, pairs_of}
-use Rattle.vcpu_turn.specs.Turning.{CountsAsks, Does, IsTurn}
+use Rattle.vcpu_turn.specs.Cpus.{Processing, end_of, pairs_of}
+use Rattle.vcpu_turn.specs.Turning.{CountsAsks, Does, GoesNoFurther, IsTurn, is_due}
 use Rattle.vcpu_turn.specs.Working.{PairFits, Works, no_asks}
 use Rattle.vcpu_turn.specs.declared.cpu.TurnEnd.{TurnEnd}
 use Rattle.vcpu_turn.specs.Lists.{Fitting, Asking, Heard, WorksOn, asks_between, asks_on, is_due_by}
@@ -108,9 +110,34 @@ module _ (d from : ℕ) (pairs : List Pair) (v w : PortValue) where
     | inr (within, on) ↦ asked_exactly (PairFits d pairs) no_asks (length pairs) from v (λ k u x a. refl) w to before after answer on
   ]
 
+  list_within : (to before after : ℕ) (answer : Result (Unit {0}) Stop) → length pairs ≤ 512 → Works d (Some pairs) v w from to before after answer → (says : ℕ → Bool) → Heard says before after (is_due_by answer) →
+      (j : ℕ) → 0 < j → before + j < last_ask → says (before + j) ≡ true → to ≤ from + j
+  list_within to before after answer most works says heard j some less is_yes = elim works [
+    | inl (above, whole) ↦ absurd (no_list (length pairs) above most)
+    | inr (within, on) ↦ never_past_a_yes (PairFits d pairs) no_asks (length pairs) from v w (λ k u x a. refl) to before after says answer on heard j some less is_yes
+  ]
+
 pub turn_asks : (c c' : Processing) (op : Op) (pairs : List Pair) (end : TurnEnd) (v w : PortValue) (before after : ℕ) →
     slice_get c.script (length c.log) ≡ Some op → pairs_of op ≡ Some pairs → length pairs ≤ 512 → IsTurn c c' end v w before after → CountsAsks c.done end before after
 turn_asks c c' op pairs end v w before after next built most turn =
     let on = subst (λ o. Does c o c' turn.begun turn.worked before after end) next turn.does in
     let works = subst (λ o. Works c.domain o turn.begun turn.worked c.done on.to before after on.answer) built on.works in
     record { to = on.to; answer = on.answer; end_is = on.end_is; asks = list_asks c.domain c.done pairs turn.begun turn.worked on.to before after on.answer most works }
+
+due_same : (to : ℕ) (answer : Result (Unit {0}) Stop) → is_due (end_of to answer) ≡ is_due_by answer
+due_same to (Ok done) = refl
+due_same to (Err (Refused r)) = refl
+due_same to (Err (Paused Due)) = refl
+due_same to (Err (Paused (Lost a b c))) = refl
+due_same to (Err (Paused (Busy a b))) = refl
+due_same to (Err (Paused (Flush a b c))) = refl
+due_same to (Err (Paused (Alive a b))) = refl
+
+pub turn_never_past : (c c' : Processing) (op : Op) (pairs : List Pair) (end : TurnEnd) (v w : PortValue) (before after : ℕ) (says : ℕ → Bool) →
+    slice_get c.script (length c.log) ≡ Some op → pairs_of op ≡ Some pairs → length pairs ≤ 512 → IsTurn c c' end v w before after → Heard says before after (is_due end) →
+    (j : ℕ) → 0 < j → before + j < last_ask → says (before + j) ≡ true → GoesNoFurther c c' end (c.done + j)
+turn_never_past c c' op pairs end v w before after says next built most turn heard j some less is_yes =
+    let on = subst (λ o. Does c o c' turn.begun turn.worked before after end) next turn.does in
+    let works = subst (λ o. Works c.domain o turn.begun turn.worked c.done on.to before after on.answer) built on.works in
+    let hears : Heard says before after (is_due_by on.answer) = subst (λ b. Heard says before after b) (ap is_due on.end_is ∙ due_same on.to on.answer) heard in
+    record { to = on.to; answer = on.answer; end_is = on.end_is; cpu = on.cpu; within = list_within c.domain c.done pairs turn.begun turn.worked on.to before after on.answer most works says hears j some less is_yes }

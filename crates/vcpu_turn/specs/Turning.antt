@@ -1,5 +1,5 @@
 -- Turns: how one begins, what it does and how it ends.
-use Rattle.std.specs.Prelude.{◌≡◌, ℕ, nat_lt, Bool, true, false, length, slice_get, Option, Some, None, Result}
+use Rattle.std.specs.Prelude.{◌≡◌, ℕ, ◌≤◌, nat_lt, Bool, true, false, length, slice_get, Option, Some, None, Result}
 use Rattle.xp_words.specs.Machine.{IsMachine}
 use Rattle.xp_words.specs.Places.{asked_of, flushed_of, run_of}
 use Rattle.xp_words.specs.declared.place.Place.TheVariants.{Clock}
@@ -87,6 +87,14 @@ pub record CountsAsks (from : ℕ) (end : TurnEnd) (before after : ℕ) : Type 0
   pub answer : Result (Unit {0}) Stop
   pub end_is : end ≡ end_of to answer
   pub asks : after ≡ asks_on (asks_between from to answer) before
+
+-- the turn went on with a list to element `to`, and no further than up to `most`
+pub record GoesNoFurther (c c' : Processing) (end : TurnEnd) (most : ℕ) : Type 0 where
+  pub to : ℕ
+  pub answer : Result (Unit {0}) Stop
+  pub end_is : end ≡ end_of to answer
+  pub cpu : c' ≡ after_turn c to end
+  pub within : to ≤ most
 
 -- a retired vCPU makes no step, and asks nothing
 pub record StaysRetired (c c' : Processing) (end : TurnEnd) (v w : PortValue) (before after : ℕ) : Type 0 where

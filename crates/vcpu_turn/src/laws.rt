@@ -7,7 +7,7 @@ ghost use Rattle.xp_board.specs.Told.{PortValue};
 ghost use Rattle.xp_preempt.specs.Gates.{last_ask};
 ghost use Rattle.vcpu_turn.specs.Cpus.{Processing, pairs_of};
 ghost use Rattle.vcpu_turn.specs.Lists.{Heard, WorksOn, asks_between, asks_on, is_due_by};
-ghost use Rattle.vcpu_turn.specs.Turning.{CountsAsks, IsTurn};
+ghost use Rattle.vcpu_turn.specs.Turning.{CountsAsks, GoesNoFurther, IsTurn, is_due};
 ghost use Rattle.vcpu_turn.specs.declared.cpu.TurnEnd.{TurnEnd};
 
 use crate::lists::Items;
@@ -31,4 +31,9 @@ pub fn due_at_a_yes<L: Items>()
 /// So a turn of a list of `mmu_update` asks the own gate between the elements, and no more.
 pub fn a_turn_counts_its_asks()
     ensures { (c d : Processing) (op : Op) (pairs : List Pair) (end : TurnEnd) (v w : PortValue) (before after : ℕ) → slice_get c.script (length c.log) ≡ Some op → pairs_of op ≡ Some pairs → length pairs ≤ 512 → IsTurn c d end v w before after → CountsAsks c.done end before after }
+{}
+
+/// And it does not go on past the element behind which the own gate says yes.
+pub fn a_turn_never_passes_a_yes()
+    ensures { (c d : Processing) (op : Op) (pairs : List Pair) (end : TurnEnd) (v w : PortValue) (before after : ℕ) (says : ℕ → Bool) → slice_get c.script (length c.log) ≡ Some op → pairs_of op ≡ Some pairs → length pairs ≤ 512 → IsTurn c d end v w before after → Heard says before after (is_due end) → (j : ℕ) → 0 < j → before + j < last_ask → says (before + j) ≡ true → GoesNoFurther c d end (c.done + j) }
 {}

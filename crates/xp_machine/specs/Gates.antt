@@ -19,11 +19,12 @@ abbrev pub gate_in : {A : Type 0} → (A → Gate) → Option A → Option Gate
 gate_in gate None = None
 gate_in gate (Some box) = Some (gate box)
 
--- h is g after it was told this pace: one that has a pace says yes at each so many asks, and 0 stands for never
+-- h is g after it was told this pace: one that has a pace says yes at each so many asks, and 0 stands for never; another says what it said
 pub record IsPaced (every : ℕ) (g h : Gate) : Type 0 where
   pub asks : h.asks ≡ g.asks
   pub paces : h.paces ≡ g.paces
   pub says : g.paces ≡ true → (n : ℕ) → h.says n ≡ is_in_step every n
+  pub unpaced : g.paces ≡ false → (n : ℕ) → h.says n ≡ g.says n
   pub calm : (g.calm ≡ true) × (every ≡ 0) → h.calm ≡ true
 
 abbrev pub ArePaced : ℕ → List Gate → List Gate → Type 0

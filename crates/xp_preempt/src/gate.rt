@@ -18,11 +18,12 @@ pub trait Preempt: Drop {
     /// A calm gate never says yes.
     ghost calm: { Self → Bool };
 
-    /// Sets the pace of a gate that has one; 0 stands for never.
+    /// Sets the pace of a gate that has one; 0 stands for never. Another gate says what it said.
     fn pace(&mut self, every: u32)
         ensures yes { count_yes self.new ≡ count_yes self.old }
         ensures asks { count_asks self.new ≡ count_asks self.old }
         ensures paced { paces self.old ≡ true → (n : ℕ) → says self.new n ≡ is_in_step every n }
+        ensures unpaced { paces self.old ≡ false → (n : ℕ) → says self.new n ≡ says self.old n }
         ensures keeps { paces self.new ≡ paces self.old }
         ensures calm { (calm self.old ≡ true) × (every ≡ 0) → calm self.new ≡ true };
 
