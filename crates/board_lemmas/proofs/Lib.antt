@@ -31,3 +31,4 @@ pub mod WalkDown
 pub mod CountsDown
 pub mod Serving
 pub mod Owners
+pub mod Learned

@@ -5,6 +5,10 @@ use Rattle.xp_words.specs.declared.kind.KindWord.{KindWord}
 use Rattle.xp_words.specs.declared.kind.PageType.{PageType}
 use Rattle.xp_words.specs.declared.place.Place.TheVariants.{Clock, Kind, Refs}
 use Rattle.xp_words.specs.KindWords.{is_kind, kind_fields, kind_write}
+use Rattle.xp_words.specs.declared.reply.Stop.{Stop}
+use Rattle.xp_words.specs.declared.reply.Stop.TheVariants.{Refused, Paused}
+use Rattle.xp_words.specs.declared.reply.Refusal.TheVariants as refusals
+use Rattle.xp_words.specs.declared.reply.Pause.TheVariants.{Busy, Flush, Lost}
 use Rattle.xp_board.specs.declared.step.Act.TheVariants.{Load, Store}
 use Rattle.xp_board.specs.declared.step.StepKind.TheVariants as kinds
 use Rattle.xp_board.specs.declared.holdings.Work.{Work}
@@ -18,6 +22,7 @@ use Rattle.step_maker.proofs.Telling.{leaves, load_tells, moves_telling, told_th
 use Rattle.answer_fits.specs.Answers.{Deed, Serves}
 use Rattle.answer_fits.specs.Asked.{of_back, of_frame}
 use Rattle.answer_fits.specs.Reasons.{keeps_type}
+use Rattle.answer_fits.proofs.Later.{IsUncounted}
 use Rattle.answer_fits.proofs.Piecing.{serves_back, serves_came, serves_nothing, serves_step}
 use Rattle.frame_words.proofs.Taking.{names_itself}
 use Rattle.frame_words.proofs.Twinning.{low_rest}
@@ -26,6 +31,7 @@ use Rattle.kind_words.specs.Kinds.{dead_kind}
 use Rattle.kind_words.proofs.KindFacts.{clock_is_small, work_word}
 use Rattle.kind_words.proofs.KindWriting.{fields_write}
 use Rattle.frame_types.specs.Leaving.{ServesType}
+use Rattle.frame_types.specs.Taking.{IsTypeStop}
 use Rattle.frame_types.specs.Plain.{set_kind}
 
 -- ---- they serve the type that is asked
@@ -88,3 +94,12 @@ module _ (v a d : PortValue) (f x clock : ℕ) (look : Moves v a Clock Load kind
 
   pub owned_behind : (l : KindWord) → Moves a d (Kind f) (Store (kind_write l)) kinds.Kind None x → (is_telling d ≡ true → is_free (told_word d (Refs f)) ≡ false) → is_free (told_word v (Refs f)) ≡ false
   owned_behind l store owned = ap (λ (m : Words). is_free (m (Refs f))) (sym same_words) ∙ owned_before a d f x l store telling_a owned
+
+-- a type is not to be had for no count
+pub type_uncounted : (e : Stop) → IsTypeStop e → IsUncounted e
+type_uncounted (Refused (refusals.OtherType f want x)) is = tt
+type_uncounted (Refused (refusals.Clock x)) is = tt
+type_uncounted (Paused (Lost place e x)) is = tt
+type_uncounted (Paused (Busy f x)) is = tt
+type_uncounted (Paused (Flush v stamp x)) is = tt
+type_uncounted _ is = absurd is

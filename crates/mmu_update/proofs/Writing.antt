@@ -3,9 +3,6 @@ use Rattle.std.proofs.Common.{◌≡◌, ℕ, List, [], ◌∷◌, ◌++◌, Som
 use Rattle.xp_words.specs.declared.kind.PageType.TheVariants.{Writable}
 use Rattle.xp_words.specs.declared.place.Place.TheVariants.{Cell}
 use Rattle.xp_words.specs.declared.reply.Stop.{Stop}
-use Rattle.xp_words.specs.declared.reply.Stop.TheVariants.{Refused, Paused}
-use Rattle.xp_words.specs.declared.reply.Refusal.TheVariants as refusals
-use Rattle.xp_words.specs.declared.reply.Pause.TheVariants.{Busy, Flush, Lost}
 use Rattle.xp_board.specs.declared.step.Act.TheVariants.{Store}
 use Rattle.xp_board.specs.declared.step.StepKind.TheVariants as kinds
 use Rattle.xp_board.specs.declared.holdings.Holdings.{Holdings}
@@ -15,11 +12,12 @@ use Rattle.step_maker.specs.Moves.{Met, Moves}
 use Rattle.step_maker.proofs.Coming.{came_post}
 use Rattle.answer_fits.specs.Answers.{Deed, Serves, Stops, Writes, deeds_by, missed}
 use Rattle.answer_fits.specs.Asked.{Within, named, of_back, of_frame}
-use Rattle.answer_fits.proofs.Later.{IsUncounted, stops_then}
+use Rattle.answer_fits.proofs.Later.{stops_then}
 use Rattle.answer_fits.proofs.Piecing.{serves_back, serves_came, serves_step, serves_then, serves_within, stops_within, within_frame}
 use Rattle.frame_words.specs.Cells.{IsApart}
 use Rattle.frame_words.proofs.Taking.{names_itself}
 use Rattle.frame_types.specs.Taking.{IsTypeStop}
+use Rattle.frame_types.proofs.Serving.{type_uncounted}
 
 -- a reference that is asked is asked for a type, too
 untyped_within : (v w : PortValue) (f d : ℕ) → Within v.post.machine v.post.vcpu (of_frame f d None) (Met v w) (of_frame f d (Some Writable)) (Met v w)
@@ -30,15 +28,6 @@ referred v w f d ds a = serves_within v w (of_frame f d None) (of_frame f d (Som
 
 pub not_referred : (v w : PortValue) (f d : ℕ) (e : Stop) → Stops v w (of_frame f d None) e → Stops v w (of_frame f d (Some Writable)) e
 not_referred v w f d e a = stops_within v w (of_frame f d None) (of_frame f d (Some Writable)) e (untyped_within v w f d) a
-
--- a type is not to be had for no count
-uncounted : (e : Stop) → IsTypeStop e → IsUncounted e
-uncounted (Refused (refusals.OtherType f want x)) is = tt
-uncounted (Refused (refusals.Clock x)) is = tt
-uncounted (Paused (Lost place e x)) is = tt
-uncounted (Paused (Busy f x)) is = tt
-uncounted (Paused (Flush v stamp x)) is = tt
-uncounted _ is = absurd is
 
 -- a store in a frame that the vCPU does not work on is a deed
 store_deed : (f i word found : ℕ) (h : Holdings) → IsApart f h → deeds_by (Cell f i) (Store word) kinds.Cell found h ≡ Writes f i word ∷ []
@@ -57,7 +46,7 @@ module _ (v u : PortValue) (f d g : ℕ) (at : g ≡ f) (gets : Serves v u (of_f
 
     pub stops_behind : IsTypeStop e → Stops u w (of_frame g d (Some Writable)) e → Stops v w (of_frame f d (Some Writable)) e
     stops_behind is stops =
-        stops_then v u w (of_frame f d (Some Writable)) e (uncounted e is) (serves_came v u (of_frame f d None) [] gets) (subst (λ k. Stops u w (of_frame k d (Some Writable)) e) at stops)
+        stops_then v u w (of_frame f d (Some Writable)) e (type_uncounted e is) (serves_came v u (of_frame f d None) [] gets) (subst (λ k. Stops u w (of_frame k d (Some Writable)) e) at stops)
 
   pub writes : (x y z : PortValue) (i word found : ℕ) → Serves u x (of_frame g d (Some Writable)) [] → IsApart g x.holdings → Moves x y (Cell g i) (Store word) kinds.Cell None found → Serves y z (of_back g) [] →
       Serves v z (of_frame f d (Some Writable)) (Writes f i word ∷ [])

@@ -6,7 +6,7 @@ use Rattle.board_lemmas.proofs.Sums.{when_eq, when_ne}
 use Rattle.table_law.specs.Plain.{Plain}
 use Rattle.kind_words.specs.Kinds.{work_kind}
 use Rattle.table_law.specs.Levels.{TableLeft, type_at}
-use Rattle.table_law.specs.Stack.{parked_kind, parked_kinds, resumed_kinds, IsStack}
+use Rattle.table_law.specs.Stack.{parked_kind, parked_kinds, resumed_kinds, IsStackIn}
 
 abbrev pub IsOff : List TableLeft → ℕ → Type 0
 IsOff [] g = Unit {0}
@@ -25,7 +25,7 @@ off_parked (x ∷ []) kept old g off = chosen g x.frame (parked_kind x kept) (ol
 off_parked (x ∷ y ∷ ys) kept old g off =
     chosen g x.frame (parked_kind x false) (parked_kinds (y ∷ ys) kept old g) (old g) (λ e. absurd (off.0 e)) (λ e. off_parked (y ∷ ys) kept old g off.1)
 
-on_stack : (stack : List TableLeft) (p : Plain) (h : ℕ → KindWord) (g : ℕ) → IsStack stack p → (IsOff stack g → h g ≡ p.kinds g) → resumed_kinds stack h g ≡ p.kinds g
+on_stack : (stack : List TableLeft) (p : Plain) (h : ℕ → KindWord) (g : ℕ) → IsStackIn stack p → (IsOff stack g → h g ≡ p.kinds g) → resumed_kinds stack h g ≡ p.kinds g
 on_stack [] p h g is away = away tt
 on_stack (x ∷ []) p h g is away = chosen g x.frame (work_kind (type_at (suc x.level)) false 0) (h g) (p.kinds g) (λ e. sym is.0 ∙ ap p.kinds (sym e)) (λ e. away (e, tt))
 on_stack (x ∷ y ∷ ys) p h g is away =
@@ -33,5 +33,5 @@ on_stack (x ∷ y ∷ ys) p h g is away =
     (λ e. on_stack (y ∷ ys) p h g is.4 (λ off. away (e, off)))
 
 -- a frame not on the stack is as it was; one on it is as it was before the pause
-pub resumed_is : (stack : List TableLeft) (kept : Bool) (p : Plain) → IsStack stack p → (g : ℕ) → resumed_kinds stack (parked_kinds stack kept p.kinds) g ≡ p.kinds g
+pub resumed_is : (stack : List TableLeft) (kept : Bool) (p : Plain) → IsStackIn stack p → (g : ℕ) → resumed_kinds stack (parked_kinds stack kept p.kinds) g ≡ p.kinds g
 resumed_is stack kept p is g = on_stack stack p (parked_kinds stack kept p.kinds) g is (off_parked stack kept p.kinds g)

@@ -13,20 +13,20 @@ use Rattle.board_lemmas.proofs.Sums.{when_eq, when_ne}
 use Rattle.kind_words.specs.Kinds.{work_kind}
 use Rattle.table_law.specs.Plain.{Plain}
 use Rattle.table_law.specs.Levels.{TableLeft, type_at, entry_of}
-use Rattle.table_law.specs.Stack.{table_left, table_told, parked, parked_kind, parked_kinds, last_entry, partial_in, told_by, stack_told, outermost, IsStack, IsChain}
+use Rattle.table_law.specs.Stack.{table_left, table_told, parked, parked_kind, parked_kinds, last_entry, partial_in, told_by, stack_told, outermost, IsStackIn, IsChain}
 use Rattle.table_law.proofs.Counting.{level_apart, asks_at}
 use Rattle.table_law.proofs.Parking.{IsOff}
 
 -- ---- levels
-low_at : (x : TableLeft) (xs : List TableLeft) (p : Plain) → IsStack (x ∷ xs) p → IsChain (x ∷ xs) p → x.level ≤ 3
+low_at : (x : TableLeft) (xs : List TableLeft) (p : Plain) → IsStackIn (x ∷ xs) p → IsChain (x ∷ xs) p → x.level ≤ 3
 low_at x [] p is chain = chain
 low_at x (y ∷ ys) p is chain = let up = low_at y ys p is.4 chain.1 in let next = is.2 in omega arith
 
-in_work : (x : TableLeft) (xs : List TableLeft) (p : Plain) → IsStack (x ∷ xs) p → p.kinds x.frame ≡ work_kind (type_at (suc x.level)) false 0
+in_work : (x : TableLeft) (xs : List TableLeft) (p : Plain) → IsStackIn (x ∷ xs) p → p.kinds x.frame ≡ work_kind (type_at (suc x.level)) false 0
 in_work x [] p is = is.0
 in_work x (y ∷ ys) p is = is.0
 
-few_ahead : (x : TableLeft) (xs : List TableLeft) (p : Plain) → IsStack (x ∷ xs) p → x.ahead ≤ 512
+few_ahead : (x : TableLeft) (xs : List TableLeft) (p : Plain) → IsStackIn (x ∷ xs) p → x.ahead ≤ 512
 few_ahead x [] p is = is.1
 few_ahead x (y ∷ ys) p is = is.1
 
@@ -37,7 +37,7 @@ off_one p f g k l at_f at_g low few e =
     let level = level_apart (suc k) (suc l) (omega arith) (omega arith) same in
     omega arith
 
-off_all : (x : TableLeft) (xs : List TableLeft) (p : Plain) (f k : ℕ) → IsStack (x ∷ xs) p → IsChain (x ∷ xs) p → p.kinds f ≡ work_kind (type_at (suc k)) false 0 → k < x.level → IsOff (x ∷ xs) f
+off_all : (x : TableLeft) (xs : List TableLeft) (p : Plain) (f k : ℕ) → IsStackIn (x ∷ xs) p → IsChain (x ∷ xs) p → p.kinds f ≡ work_kind (type_at (suc k)) false 0 → k < x.level → IsOff (x ∷ xs) f
 off_all x [] p f k is chain at_f low = (off_one p f x.frame k x.level at_f is.0 low chain, tt)
 off_all x (y ∷ ys) p f k is chain at_f low =
     let next = is.2 in
@@ -54,7 +54,7 @@ still_parked (x ∷ xs) f k old off are =
     let away = when_ne x.frame f (λ e. off.0 (sym e)) in
     ((are.0.0, rw away are.0.1), still_parked xs f k old off.1 are.1)
 
-all_parked : (x : TableLeft) (xs : List TableLeft) (kept : Bool) (p : Plain) → IsStack (x ∷ xs) p → IsChain (x ∷ xs) p → AreParked (parked_kinds (x ∷ xs) kept p.kinds) (x ∷ xs)
+all_parked : (x : TableLeft) (xs : List TableLeft) (kept : Bool) (p : Plain) → IsStackIn (x ∷ xs) p → IsChain (x ∷ xs) p → AreParked (parked_kinds (x ∷ xs) kept p.kinds) (x ∷ xs)
 all_parked x [] kept p is chain = ((kept, let here = when_eq x.frame x.frame refl in rw here refl), tt)
 all_parked x (y ∷ ys) kept p is chain =
     let next = is.2 in (
@@ -96,7 +96,7 @@ told_down q y x ys b d up few at_y at_x asks =
     ∙ ap (λ z. stack_told x.level x.frame q (z ∷ ys)) (ap (λ j. table_told q j y.frame) (sym up) ∙ table_back q y b (omega arith) at_y)
 
 -- all the way down
-told_all : (q p : Plain) (x : TableLeft) (xs : List TableLeft) → q.cells ≡ p.cells → AreParked q.kinds (x ∷ xs) → IsStack (x ∷ xs) p → IsChain (x ∷ xs) p →
+told_all : (q p : Plain) (x : TableLeft) (xs : List TableLeft) → q.cells ≡ p.cells → AreParked q.kinds (x ∷ xs) → IsStackIn (x ∷ xs) p → IsChain (x ∷ xs) p →
     stack_told (outermost (x ∷ xs)).level (outermost (x ∷ xs)).frame q [] ≡ stack_told x.level x.frame q xs
 told_all q p x [] cells are is chain = refl
 told_all q p x (y ∷ ys) cells are is chain =
@@ -110,7 +110,7 @@ told_all q p x (y ∷ ys) cells are is chain =
 abbrev IsOther : Plain → Plain → ℕ → ℕ → Type 0
 IsOther q p l g = (q.kinds g ≡ p.kinds g) ⊎ ((k : ℕ) × (l < suc k) × (k ≤ 3) × ((q.kinds g).kind ≡ type_at (suc k)))
 
-other_of : (x : TableLeft) (xs : List TableLeft) (kept : Bool) (p : Plain) (l g : ℕ) → IsStack (x ∷ xs) p → IsChain (x ∷ xs) p → l ≤ x.level → IsOther (parked (x ∷ xs) kept p) p l g
+other_of : (x : TableLeft) (xs : List TableLeft) (kept : Bool) (p : Plain) (l g : ℕ) → IsStackIn (x ∷ xs) p → IsChain (x ∷ xs) p → l ≤ x.level → IsOther (parked (x ∷ xs) kept p) p l g
 other_of x [] kept p l g is chain low =
     elim (cases_eq g x.frame) [
       | inl e ↦ inr (x.level, omega arith, chain, let here = when_eq g x.frame e in rw here refl)
@@ -158,7 +158,7 @@ unfolding stack_told
 told_end q p zero f outer low none other = refl
 told_end q p (suc j) f outer low none other = none_down q j f outer (ends_at q p j f (q.kinds f).progress low none other)
 
-pub stack_told_is : (x : TableLeft) (xs : List TableLeft) (kept : Bool) (p : Plain) → IsStack (x ∷ xs) p → IsChain (x ∷ xs) p → ((g : ℕ) → is_partial (p.kinds g) ≡ false) →
+pub stack_told_is : (x : TableLeft) (xs : List TableLeft) (kept : Bool) (p : Plain) → IsStackIn (x ∷ xs) p → IsChain (x ∷ xs) p → ((g : ℕ) → is_partial (p.kinds g) ≡ false) →
     stack_told (outermost (x ∷ xs)).level (outermost (x ∷ xs)).frame (parked (x ∷ xs) kept p) [] ≡ x ∷ xs
 stack_told_is x xs kept p is chain none =
     let q = parked (x ∷ xs) kept p in

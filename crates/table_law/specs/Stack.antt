@@ -44,11 +44,11 @@ abbrev pub parked : List TableLeft → Bool → Plain → Plain
 parked stack kept p = record { shares = p.shares; kinds = parked_kinds stack kept p.kinds; cells = p.cells }
 
 -- each table is in work, one level below the next, so none stands twice
-abbrev pub IsStack : List TableLeft → Plain → Type 0
-IsStack [] p = Unit {0}
-IsStack (x ∷ []) p = (p.kinds x.frame ≡ work_kind (type_at (suc x.level)) false 0) × (x.ahead ≤ 512)
-IsStack (x ∷ y ∷ ys) p =
-    (p.kinds x.frame ≡ work_kind (type_at (suc x.level)) false 0) × (x.ahead ≤ 512) × (y.level ≡ x.level + 1) × (y.ahead < 512) × IsStack (y ∷ ys) p
+abbrev pub IsStackIn : List TableLeft → Plain → Type 0
+IsStackIn [] p = Unit {0}
+IsStackIn (x ∷ []) p = (p.kinds x.frame ≡ work_kind (type_at (suc x.level)) false 0) × (x.ahead ≤ 512)
+IsStackIn (x ∷ y ∷ ys) p =
+    (p.kinds x.frame ≡ work_kind (type_at (suc x.level)) false 0) × (x.ahead ≤ 512) × (y.level ≡ x.level + 1) × (y.ahead < 512) × IsStackIn (y ∷ ys) p
 
 -- ---- what a resumption reads
 -- the frames where each table of the stack is taken into work again

@@ -9,7 +9,7 @@ ghost use Rattle.table_law.specs.Alone.{Cause, fine, refused, take_reference, al
 ghost use Rattle.table_law.specs.Levels.{TableLeft, type_at, entry_of};
 ghost use Rattle.table_law.specs.Plain.{Plain, with_kind};
 ghost use Rattle.table_law.specs.Release.{undo};
-ghost use Rattle.table_law.specs.Stack.{rest, table_left, next_met, parked, resumed_kinds, stack_told, IsStack, IsChain, outermost};
+ghost use Rattle.table_law.specs.Stack.{rest, table_left, next_met, parked, resumed_kinds, stack_told, IsStackIn, IsChain, outermost};
 
 /// A loop over the stack of tables in work does the plain acquisition: each thing that it does next leaves as it was what
 /// there is to do and to answer. The acquisition begins with a dead table, of which all entries are ahead. An entry is met;
@@ -34,7 +34,7 @@ pub fn the_rest_goes_on_by_entries()
 /// again, all frames are as they were; and the partial words tell the stack itself, from the outermost table down, each
 /// table as what the last recorded entry of the one above asks, and how far each has come.
 pub fn a_pause_parks_what_a_resumption_reads()
-    ensures resumed { (stack : List TableLeft) (kept : Bool) (p : Plain) → IsStack stack p → (g : ℕ) → resumed_kinds stack (parked stack kept p).kinds g ≡ p.kinds g }
-    ensures told { (x : TableLeft) (xs : List TableLeft) (kept : Bool) (p : Plain) → IsStack (x ∷ xs) p → IsChain (x ∷ xs) p → ((g : ℕ) → is_partial (p.kinds g) ≡ false) →
+    ensures resumed { (stack : List TableLeft) (kept : Bool) (p : Plain) → IsStackIn stack p → (g : ℕ) → resumed_kinds stack (parked stack kept p).kinds g ≡ p.kinds g }
+    ensures told { (x : TableLeft) (xs : List TableLeft) (kept : Bool) (p : Plain) → IsStackIn (x ∷ xs) p → IsChain (x ∷ xs) p → ((g : ℕ) → is_partial (p.kinds g) ≡ false) →
         stack_told (outermost (x ∷ xs)).level (outermost (x ∷ xs)).frame (parked (x ∷ xs) kept p) [] ≡ x ∷ xs }
 {}

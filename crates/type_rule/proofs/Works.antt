@@ -8,6 +8,7 @@ use Rattle.xp_board.specs.Lists.{first_by, changed_by}
 use Rattle.xp_board.specs.Hands.{work_on, changed_work}
 use Rattle.xp_board.specs.After.{learned_last, learned_work}
 use Rattle.xp_board.specs.Recorded.{recorded_in, recorded_number}
+use Rattle.board_lemmas.proofs.Learned.{learned_frame}
 
 -- ---- as many entries recorded, and unsettled since the same step or settled
 abbrev pub SinceKept : Option Unsettled → Option Unsettled → Type 0
@@ -72,15 +73,8 @@ kept_by : (t : Bool) (i w fixed : ℕ) (e : Work) → WorkKept e (if t then e el
 kept_by true i w fixed e = work_same e
 kept_by false i w fixed e = record { recorded = refl; unsettled = since_last i e.recorded w e.unsettled }
 
-frame_by : (t : Bool) (i w fixed : ℕ) (e : Work) → (if t then e else learned_more i w fixed e).frame ≡ e.frame
-frame_by true i w fixed e = refl
-frame_by false i w fixed e = refl
-
 learned_kept : (i w : ℕ) (e : Work) → WorkKept e (learned_work i w e)
 learned_kept i w e = kept_by (kind_fields e.word).unflushed i w _ e
-
-learned_frame : (i w : ℕ) (e : Work) → (learned_work i w e).frame ≡ e.frame
-learned_frame i w e = frame_by (kind_fields e.word).unflushed i w _ e
 
 -- ---- lists
 either : (t : Bool) (a b c d : Option Work) → WorkKeptIn a b → WorkKeptIn c d → WorkKeptIn (if t then a else c) (if t then b else d)
