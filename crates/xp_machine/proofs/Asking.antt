@@ -1,12 +1,18 @@
 -- A turn asks the gate that the vCPU has.
-use Rattle.std.proofs.Common.{◌≡◌, ℕ, Bool, true, false, if◌then◌else◌, not, is_some, Option, Some, None, refl, sym, ap, ◌∙◌}
+use Rattle.std.proofs.Common.{◌≡◌, ℕ, ◌+◌, ◌<◌, ◌≤◌, Bool, true, false, if◌then◌else◌, not, is_some, List, length, slice_get, Option, Some, None, refl, sym, ap, ◌∙◌, subst}
+use Rattle.xp_words.specs.Machine.{Machine}
+use Rattle.xp_words.specs.declared.ops.Op.{Op}
+use Rattle.xp_words.specs.declared.ops.Pair.{Pair}
+use Rattle.xp_preempt.specs.Gates.{last_ask}
 use Rattle.xp_board.specs.Told.{PortValue}
 use Rattle.vcpu_turn.specs.declared.cpu.TurnEnd.{TurnEnd}
-use Rattle.vcpu_turn.specs.Cpus.{Processing}
+use Rattle.vcpu_turn.specs.Cpus.{Processing, pairs_of}
 use Rattle.vcpu_turn.specs.Lists.{Heard}
 use Rattle.vcpu_turn.specs.Turning.{TurnBy, is_due}
 use Rattle.xp_machine.specs.Gates.{Gate, gate_in, IsConsulted}
+use Rattle.vcpu_turn.proofs.Yeses.{turn_never_past}
 use Rattle.xp_machine.specs.Runners.{TakesTurnBy}
+use Rattle.xp_machine.specs.Turns.{MakesStagedTurn, Stage, StaysWithin}
 
 -- what is left of it
 pub let_go : {A : Type 0} (retired : Bool) (x : A) → retired ≡ true → None ≡ (if retired then None else Some x)
@@ -28,3 +34,19 @@ pub takes : {A X : Type 0} (gate : A → Gate) (told : X → Gate) (o : Option A
 takes gate told o box x y z left c c2 end v w own paired is at turn heard same keeps quiet left_is =
     takes_by c.retired (gate_in gate o) left (told x) (told y) c c2 end v w (ap (gate_in gate) own ∙ ap (λ k. Some k) (is ∙ ap told (sym at))) (sym (ap is_some own) ∙ paired) turn
     (record { heard = heard; says = same; paces = keeps; calm = quiet }) left_is
+
+-- ---- a turn on a stage, and the gate of its vCPU
+gate_same : (o : Option (Option Gate)) (g k : Gate) → o ≡ Some (Some g) → o ≡ Some (Some k) → g ≡ k
+gate_same o g k a b = cc
+
+pub own_turn_stops : (n : Machine) (v : ℕ) (c : Processing) (s t : Stage) (g : Gate) (op : Op) (pairs : List Pair) (j : ℕ) → MakesStagedTurn n v c s t → slice_get s.gates v ≡ Some (Some g) →
+    slice_get c.script (length c.log) ≡ Some op → pairs_of op ≡ Some pairs → length pairs ≤ 512 → 0 < j → g.asks + j < last_ask → g.says (g.asks + j) ≡ true → StaysWithin v c s t (c.done + j)
+own_turn_stops n v c s t g op pairs j turn has next built most some less is_yes =
+    let same = gate_same (slice_get s.gates v) g turn.gate has turn.own in
+    record {
+      after = turn.after;
+      end = turn.end;
+      cpus = turn.cpus;
+      within = turn_never_past c turn.after op pairs turn.end turn.from turn.to turn.gate.asks turn.asked.asks turn.gate.says next built most turn.turn turn.consulted.heard j some
+          (subst (λ (k : Gate). k.asks + j < last_ask) same less) (subst (λ (k : Gate). k.says (k.asks + j) ≡ true) same is_yes);
+    }

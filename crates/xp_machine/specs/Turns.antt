@@ -59,6 +59,13 @@ pub record MakesStagedTurn (n : Machine) (v : ℕ) (c : Processing) (s s' : Stag
   pub cpus : s'.cpus ≡ slice_set s.cpus v after
   pub gates : s'.gates ≡ slice_set s.gates v (if after.retired then None else Some asked)
 
+-- vCPU v went on with its list no further than so far
+pub record StaysWithin (v : ℕ) (c : Processing) (s s' : Stage) (most : ℕ) : Type 0 where
+  pub after : Processing
+  pub end : TurnEnd
+  pub cpus : s'.cpus ≡ slice_set s.cpus v after
+  pub within : turning.GoesNoFurther c after end most
+
 -- vCPU v stops between its turns, by one step, and lets its gate go
 pub record MakesStagedStop (n : Machine) (v : ℕ) (c : Processing) (s s' : Stage) : Type 0 where
   pub made : List Made

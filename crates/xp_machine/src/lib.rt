@@ -4,6 +4,7 @@
 #[cfg(test)]
 mod board_tests;
 mod execute;
+pub mod laws;
 #[cfg(test)]
 mod list_tests;
 mod runner;
