@@ -18,7 +18,8 @@ use Rattle.xp_board.specs.declared.holdings.Work.{Work}
 use Rattle.xp_board.specs.Hands.{without_ref, without_typed, typed_to, work_on}
 use Rattle.xp_board.specs.Knowledge.{knows_live}
 use Rattle.xp_board.specs.KindSteps.{live_typed}
-use Rattle.xp_board.specs.Readings.{is_type, is_work}
+use Rattle.xp_board.specs.Readings.{is_live_word, is_type, is_work}
+use Rattle.xp_board.specs.Steps.{some_since}
 use Rattle.xp_board.specs.Told.{PortValue}
 use Rattle.step_maker.specs.Holds.{FlushedHolds, Same}
 use Rattle.step_maker.specs.Moves.{Came, Met, Moves}
@@ -89,6 +90,11 @@ abbrev pub TakesAs : PortValue → PortValue → ℕ → ℕ → PageType → Ta
 TakesAs v w f owner want Counted = FlushedHolds v w (typed_as f owner want v.holdings)
 TakesAs v w f owner want (InWork progress own) = (want ≢ Writable) × WorksFrom v w f owner want progress own
 TakesAs v w f owner want (Waiting own stamp stop) = WaitsWith v w f owner want own stamp
+
+-- a live frame was found or left live by the steps
+abbrev pub LeavesLive : PortValue → PortValue → ℕ → Taken → Type 0
+LeavesLive v w f Counted = (n : ℕ) → n ≤ length v.holdings.steps → IsTrue (some_since (sizes_of v.post.machine) n (Kind f) is_live_word w.holdings.steps)
+LeavesLive v w f _ = Unit {0}
 
 -- why the flush is not to be had
 abbrev pub ShowsWait : PortValue → PortValue → ℕ → ℕ → PageType → Taken → Type 0

@@ -12,7 +12,7 @@ ghost use Rattle.answer_fits.specs.Answers.{Deed, Serves, Stops, misses};
 ghost use Rattle.answer_fits.specs.Asked.{of_frame};
 ghost use Rattle.flush_waits.specs.Waiting.{IsFlushed};
 ghost use Rattle.frame_types.specs.Plain.{TwinOn, TwinTake};
-ghost use Rattle.frame_types.specs.Taking.{HasEntered, HoldsOn, IsDone, IsLooked, IsOfOther, IsTypeStop, LentBy, Looked, ServesOn, ShowsWait, Takes, TakesAs, WaitsOn, progress_of};
+ghost use Rattle.frame_types.specs.Taking.{HasEntered, HoldsOn, IsDone, IsLooked, IsOfOther, IsTypeStop, LeavesLive, LentBy, Looked, ServesOn, ShowsWait, Takes, TakesAs, WaitsOn, progress_of};
 
 use crate::standing::{Standing, classify, read_kind};
 use crate::words::{counts, is_read_first, live_kind, progress_of, work_kind};
@@ -55,6 +55,7 @@ pub fn take_type<P: Port>(
     ensures kinds { IfErr result IsTypeStop }
     ensures waits { IfOk result (λ t. ShowsWait (P.value port.old) (P.value port.new) frame owner want t) }
     ensures hand { MatchResult result (λ t. TakesAs (P.value port.old) (P.value port.new) frame owner want t) (λ _. Same (P.value port.old) (P.value port.new)) }
+    ensures live { IfOk result (λ t. LeavesLive (P.value port.old) (P.value port.new) frame t) }
     ensures plain { TwinTake (P.value port.old) (P.value port.new) frame want result }
 {
     let word = look_kind(port, frame);
@@ -74,6 +75,7 @@ fn take_found<P: Port>(
     requires wanted { IsTrue (not (is_none want)) }
     requires looked { IsLooked (P.value port.old) frame owner want word }
     ensures takes { (b : PortValue) → Looked b (P.value port.old) frame owner want word → Takes b (P.value port.new) frame owner want result }
+    ensures live { IfOk result (λ t. LeavesLive (P.value port.old) (P.value port.new) frame t) }
     ensures plain { (b : PortValue) → Looked b (P.value port.old) frame owner want word → TwinTake b (P.value port.new) frame want result }
 {
     let kind = read_kind(word);
@@ -141,6 +143,7 @@ fn go_on<P: Port>(
     ensures serves { ServesOn (P.value port.old) (P.value port.new) frame owner want marked kind.number }
     ensures waits { WaitsOn (P.value port.old) (P.value port.new) frame owner want marked kind.number result }
     ensures hand { HoldsOn (P.value port.old) (P.value port.new) frame owner want marked kind own result }
+    ensures live { LeavesLive (P.value port.old) (P.value port.new) frame result }
     ensures plain { TwinOn (P.value port.old) (P.value port.new) frame want marked own (progress_of kind) result }
 {
     if marked {
@@ -175,6 +178,7 @@ fn finish<P: Port>(
     ensures serves { (u : PortValue) (ds : List Deed) → Serves u (P.value port.old) (of_frame frame owner (Some want)) ds → Serves u (P.value port.new) (of_frame frame owner (Some want)) ds }
     ensures done { IsDone result }
     ensures hand { HoldsOn (P.value port.old) (P.value port.new) frame owner want marked kind own result }
+    ensures live { LeavesLive (P.value port.old) (P.value port.new) frame result }
     ensures plain { TwinOn (P.value port.old) (P.value port.new) frame want marked own (progress_of kind) result }
 {
     if !is_read_first(want) {

@@ -8,6 +8,7 @@ use Rattle.kind_words.specs.Kinds.{live_kind, work_kind}
 use Rattle.frame_types.specs.Taking.{Enters, stamp_by, progress_of}
 use Rattle.frame_types.proofs.Entering.{work_spelled}
 use Rattle.frame_types.proofs.Finishing.{no_memory, live_leaves, live_hand, live_spelled, unmarked_leaves, unmarked_works, plain_works, left_serves}
+use Rattle.frame_types.proofs.Living.{lives_by_store}
 use Rattle.frame_types.proofs.Storing.{store_same, stored_alike}
 use Rattle.frame_types.proofs.taking.finish.Goals as goal
 
@@ -36,6 +37,12 @@ pub returns-then-not-is_read_first-clause-hand : goal.returns-then-not-is_read_f
 returns-then-not-is_read_first-clause-hand g c b e =
     live_hand b (g.P.Port.value c.args.port.now) c.args.frame c.args.owner c.args.want c.args.marked (stamp_by c.args.marked c.args.kind) (progress_of c.args.kind) c.live_kind.result c.counts.result c.requires.wanted c.live_kind.ensures
     c.args.own e c.counts.ensures (g.P.Port.value c.leave.new.port) c.leave.ensures.hand
+
+pub returns-then-not-is_read_first-clause-live : goal.returns-then-not-is_read_first-clause-live
+returns-then-not-is_read_first-clause-live g c =
+    let is = c.live_kind.ensures ∙ ap (live_kind c.args.want) c.counts.ensures in
+    lives_by_store (g.P.Port.value c.args.port.now) (g.P.Port.value c.leave.new.port) c.args.frame c.live_kind.result _ _ c.leave.result
+    (subst (λ k. IsTrue (is_kind k)) (sym is) (live_spelled c.args.want c.args.own c.requires.wanted)) (ap (λ (k : KindWord). k.validated) c.live_kind.ensures) c.leave.ensures.moves
 
 pub returns-then-not-is_read_first-clause-plain : goal.returns-then-not-is_read_first-clause-plain
 returns-then-not-is_read_first-clause-plain g c telling same = (

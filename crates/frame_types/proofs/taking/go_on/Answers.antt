@@ -2,6 +2,7 @@ use Rattle.std.proofs.Common.{subst}
 use Rattle.frame_types.specs.Taking.{Enters, stamp_by, progress_of}
 use Rattle.frame_types.proofs.Entering.{entered_marked, entered_after}
 use Rattle.frame_types.proofs.GoingOn.{serves_after, stops_after, done_waits, still_waits, plain_after}
+use Rattle.frame_types.proofs.Living.{lives_behind}
 use Rattle.frame_types.proofs.taking.go_on.Goals as goal
 
 pub clear_stale-requires-clause-marked : goal.clear_stale-requires-clause-marked
@@ -32,6 +33,10 @@ returns-in-Ok-clause-hand g c b e =
     c.finish.ensures.hand b
     (entered_after b (g.P.Port.value c.args.port.now) (g.P.Port.value c.clear_stale.new.port) c.args.frame c.args.owner c.args.want c.args.marked (stamp_by c.args.marked c.args.kind) (progress_of c.args.kind) c.args.own e
     c.in-Ok.ensures.came c.in-Ok.ensures.hand)
+
+pub returns-in-Ok-clause-live : goal.returns-in-Ok-clause-live
+returns-in-Ok-clause-live g c =
+    lives_behind (g.P.Port.value c.args.port.now) (g.P.Port.value c.clear_stale.new.port) (g.P.Port.value c.finish.new.port) c.args.frame c.finish.result c.in-Ok.ensures.came c.finish.ensures.live
 
 pub returns-in-Ok-clause-plain : goal.returns-in-Ok-clause-plain
 returns-in-Ok-clause-plain g c telling same =

@@ -4,6 +4,7 @@ use Rattle.xp_board.specs.declared.step.Act.TheVariants.{Cas}
 use Rattle.xp_board.specs.KindSteps.{begun_kind, raised_kind, resumed_kind}
 use Rattle.answer_fits.specs.Asked.{of_back}
 use Rattle.answer_fits.proofs.Piecing.{serves_came}
+use Rattle.step_maker.proofs.Coming.{came_trans, moves_came}
 use Rattle.step_maker.proofs.Telling.{came_telling}
 use Rattle.flush_words.proofs.Lasting.{came_longer}
 use Rattle.kind_words.proofs.KindFacts.{kind_is_some, read_is}
@@ -13,6 +14,7 @@ use Rattle.frame_types.specs.Taking.{Enters, progress_of, stamp_by}
 use Rattle.frame_types.proofs.Arms.{busy_takes, counted_takes, dead_takes, kept_takes, lost_takes, other_takes, unkept_takes}
 use Rattle.frame_types.proofs.Classing.{dead_unpinned, when_busy, when_counted, when_dead, when_other, when_partial}
 use Rattle.frame_types.proofs.Coming.{again, begun_enters, kept_enters, kept_gives, looked_held, looked_low, raised_spelled, unkept_enters}
+use Rattle.frame_types.proofs.Living.{lives_behind, lives_by_exchange}
 use Rattle.frame_types.proofs.Plainly.{plain_busy, plain_counted, plain_dead, plain_kept, plain_lost, plain_other, plain_unkept}
 use Rattle.frame_types.proofs.taking.take_found.Goals as goal
 
@@ -91,6 +93,16 @@ returns-in-Ok-clause-takes g c b l =
     counted_takes b v c.args.frame c.args.owner c.args.want c.args.word l (g.P.Port.value c.count_type.new.port) k spelled.0
     (raised_spelled v k c.args.want c.requires.may spelled.0 is (looked_low b v c.args.frame c.args.owner c.args.want c.args.word l k c.read_kind-kind.ensures is)) is.kind spelled.1 c.in-Ok.ensures.moves c.in-Ok.ensures.hand
 
+pub returns-in-Ok-clause-live : goal.returns-in-Ok-clause-live
+returns-in-Ok-clause-live g c =
+    let v = g.P.Port.value c.args.port.now in
+    let l = c.requires.looked in
+    let k = c.read_kind-kind.result in
+    let spelled = read_is c.args.word k c.read_kind-kind.ensures in
+    let is = when_counted k c.args.want (sym c.classify.ensures ∙ c.in-Counted.is) in
+    lives_by_exchange v (g.P.Port.value c.count_type.new.port) c.args.frame (kind_write k) (raised_kind k) _ _
+    (raised_spelled v k c.args.want c.requires.may spelled.0 is (looked_low l.0 v c.args.frame c.args.owner c.args.want c.args.word l.1 k c.read_kind-kind.ensures is)) is.live c.in-Ok.ensures.moves
+
 pub returns-in-Ok-clause-plain : goal.returns-in-Ok-clause-plain
 returns-in-Ok-clause-plain g c b l telling =
     let k = c.read_kind-kind.result in
@@ -125,6 +137,12 @@ returns-in-Ok-begin_work-clause-takes g c b l =
     c.is_stale_for-marked.ensures c.in-Ok-begin_work.ensures.moves
     (begun_enters b v c.args.frame c.args.owner c.args.want c.args.word l k c.read_kind-kind.ensures spelled.0 dead c.requires.wanted x (Cas (kind_write k) (kind_write (begun_kind k c.args.want))) (kind_write k)
     c.in-Ok-begin_work.ensures.moves c.in-Ok-begin_work.ensures.hand) c.go_on.ensures.serves c.go_on.ensures.waits c.go_on.ensures.hand
+
+pub returns-in-Ok-begin_work-clause-live : goal.returns-in-Ok-begin_work-clause-live
+returns-in-Ok-begin_work-clause-live g c =
+    let v = g.P.Port.value c.args.port.now in
+    let x = g.P.Port.value c.begin_work.new.port in
+    lives_behind v x (g.P.Port.value c.go_on.new.port) c.args.frame c.go_on.result (moves_came v x _ _ _ _ _ c.in-Ok-begin_work.ensures.moves) c.go_on.ensures.live
 
 pub returns-in-Ok-begin_work-clause-plain : goal.returns-in-Ok-begin_work-clause-plain
 returns-in-Ok-begin_work-clause-plain g c b l telling =
@@ -235,3 +253,18 @@ pub returns-in-Other-clause-plain : goal.returns-in-Other-clause-plain
 returns-in-Other-clause-plain g c b l telling =
     let k = c.read_kind-kind.result in
     plain_other b (g.P.Port.value c.args.port.now) c.args.frame c.args.owner c.args.want c.args.word l k c.read_kind-kind.ensures (read_is c.args.word k c.read_kind-kind.ensures).1 telling (sym c.classify.ensures ∙ c.in-Other.is)
+
+-- ---- live behind the exchange
+pub returns-then-kind-clause-live : goal.returns-then-kind-clause-live
+returns-then-kind-clause-live g c =
+    let v = g.P.Port.value c.args.port.now in
+    let x = g.P.Port.value c.resume_work.new.port in
+    let y = g.P.Port.value c.put_ref.new.port in
+    lives_behind v y (g.P.Port.value c.go_on-then-kind.new.port) c.args.frame c.go_on-then-kind.result
+    (came_trans v x y (moves_came v x _ _ _ _ _ c.in-Ok-resume_work.ensures.moves) (serves_came x y (of_back c.args.frame) [] c.put_ref.ensures.serves)) c.go_on-then-kind.ensures.live
+
+pub returns-else-kind-clause-live : goal.returns-else-kind-clause-live
+returns-else-kind-clause-live g c =
+    let v = g.P.Port.value c.args.port.now in
+    let x = g.P.Port.value c.resume_work.new.port in
+    lives_behind v x (g.P.Port.value c.go_on-else-kind.new.port) c.args.frame c.go_on-else-kind.result (moves_came v x _ _ _ _ _ c.in-Ok-resume_work.ensures.moves) c.go_on-else-kind.ensures.live

@@ -1,0 +1,109 @@
+-- The next entry: what its steps are and show, by what became of it.
+use Rattle.std.proofs.Common.{ℕ, [], Bool, Option, Some, None, Ok, Err}
+use Rattle.xp_words.specs.declared.kind.PageType.{PageType}
+use Rattle.xp_words.specs.declared.place.Place.TheVariants.{Clock}
+use Rattle.xp_words.specs.declared.reply.Stop.{Stop}
+use Rattle.xp_board.specs.declared.step.Act.TheVariants.{Load}
+use Rattle.xp_board.specs.declared.step.Mark.TheVariants.{Record}
+use Rattle.xp_board.specs.declared.step.StepKind.TheVariants as kinds
+use Rattle.xp_board.specs.Told.{PortValue}
+use Rattle.step_maker.specs.Moves.{Came, Met, Moves}
+use Rattle.step_maker.proofs.Coming.{came_trans, moves_came}
+use Rattle.answer_fits.specs.Answers.{Serves, Stops, missed}
+use Rattle.answer_fits.specs.Asked.{Asked, NoMore, of_back, of_frame}
+use Rattle.answer_fits.proofs.Piecing.{asked_less, serves_came, stops_before}
+use Rattle.frame_types.specs.Leaving.{ServesType}
+use Rattle.frame_types.specs.Taking.{IsTypeStop}
+use Rattle.frame_words.specs.Refs.{IsRefStop}
+use Rattle.flush_waits.specs.Waiting.{IsWait}
+use Rattle.table_entries.specs.Asking.{of_entries}
+use Rattle.table_entries.specs.Between.{MeetsEntry}
+use Rattle.table_entries.specs.declared.entries.Entered.TheVariants.{Opened, Recorded, Unsettled}
+use Rattle.table_entries.proofs.PiecesTaking.{Goes, goes_back, goes_call, goes_came, goes_missed, goes_record, goes_stops, goes_stops_later, asks_still, left_serves, record_shows, ref_kinds, type_stop, wait_kinds, wait_missed}
+
+-- the entry is recorded
+pub enters_recorded : (b v w : PortValue) (f i owner pages g upto found : ℕ) → Goes b v f i owner pages [] → Moves v w Clock Load kinds.Look (Some (Record g upto)) found → MeetsEntry b w f i owner pages (Ok Recorded)
+enters_recorded b v w f i owner pages g upto found goes m =
+    let next = goes_record b v f i owner pages [] goes w g upto found m in
+    record { serves = next.serves; stops = tt; kinds = tt; shows = record_shows b v f i owner pages [] goes w g upto found m; looks = next.looks }
+
+-- ---- behind the looks: the frame that the entry asks is asked so
+module _ (b v : PortValue) (f i owner pages g : ℕ) (want : Option PageType) (goes : Goes b v f i owner pages []) (asks : Asked b.post.machine b.post.vcpu (of_entries owner pages) (Met b v) g owner want) where
+  asks_ref : Asked b.post.machine b.post.vcpu (of_entries owner pages) (Met b v) g owner None
+  asks_ref = asked_less b.post.machine b.post.vcpu (of_entries owner pages) (Met b v) g owner None want tt asks
+
+  -- its reference is not to be had
+  module _ (more : NoMore (of_entries owner pages) v.holdings b.holdings) (x : PortValue) (e : Stop) (is : IsRefStop e) (serves : Serves v x (of_frame g owner None) (missed v.post.machine e)) (stops : Stops v x (of_frame g owner None) e) where
+    pub refused_goes : Goes b x f i owner pages (missed b.post.machine e)
+    refused_goes = goes_missed b v x f i owner pages e (goes_came b v f i owner pages [] goes) (goes_call b v f i owner pages [] goes x g None asks_ref (missed v.post.machine e) serves)
+
+    pub refused_stops : Stops b x (of_entries owner pages) e
+    refused_stops = goes_stops b v f i owner pages [] goes x g None asks_ref e (serves_came v x (of_frame g owner None) (missed v.post.machine e) serves) more stops
+
+    pub enters_unreferred : MeetsEntry b x f i owner pages (Err e)
+    enters_unreferred = record { serves = refused_goes.serves; stops = refused_stops; kinds = ref_kinds e is; shows = tt; looks = refused_goes.looks }
+
+  -- its reference was taken
+  module _ (x : PortValue) (refers : Serves v x (of_frame g owner None) []) where
+    pub referred : Goes b x f i owner pages []
+    referred = goes_call b v f i owner pages [] goes x g None asks_ref [] refers
+
+    pub asks_referred : Asked b.post.machine b.post.vcpu (of_entries owner pages) (Met b x) g owner want
+    asks_referred = asks_still b v f i owner pages [] goes x g want asks (serves_came v x (of_frame g owner None) [] refers)
+
+-- ---- behind its reference: the entry asks that type of the frame
+module _ (b x : PortValue) (f i owner pages g : ℕ) (t : PageType) (goes : Goes b x f i owner pages []) (asks : Asked b.post.machine b.post.vcpu (of_entries owner pages) (Met b x) g owner (Some t)) where
+  -- it was taken
+  pub typed : (y : PortValue) → Serves x y (of_frame g owner (Some t)) [] → Goes b y f i owner pages []
+  typed y types = goes_call b x f i owner pages [] goes y g (Some t) asks [] types
+
+  -- it is not to be had, and the reference was given back
+  module _ (y z : PortValue) (e : Stop) (is : IsTypeStop e) (types : Serves x y (of_frame g owner (Some t)) (missed x.post.machine e)) (stops : Stops x y (of_frame g owner (Some t)) e) (back : Serves y z (of_back g) []) where
+    came : Came x y
+    came = serves_came x y (of_frame g owner (Some t)) (missed x.post.machine e) types
+
+    pub untyped_goes : Goes b z f i owner pages (missed b.post.machine e)
+    untyped_goes =
+        let there = goes_missed b x y f i owner pages e (goes_came b x f i owner pages [] goes) (goes_call b x f i owner pages [] goes y g (Some t) asks (missed x.post.machine e) types) in
+        goes_back b y f i owner pages (missed b.post.machine e) there z g (Some t) (asks_still b x f i owner pages [] goes y g (Some t) asks came) back
+
+    pub untyped_stops : Stops b z (of_entries owner pages) e
+    untyped_stops = stops_before b y z (of_entries owner pages) e (goes_stops_later b x f i owner pages [] goes y g (Some t) asks e came is stops) (serves_came y z (of_back g) [] back)
+
+    pub enters_untyped : MeetsEntry b z f i owner pages (Err e)
+    enters_untyped = record { serves = untyped_goes.serves; stops = untyped_stops; kinds = (type_stop e is).0; shows = tt; looks = untyped_goes.looks }
+
+  -- it waits for a flush
+  module _ (y : PortValue) (stop : Stop) (is : IsWait stop) (types : Serves x y (of_frame g owner (Some t)) []) (stops : Stops x y (of_frame g owner (Some t)) stop) where
+    pub waits_stops : Stops b y (of_entries owner pages) stop
+    waits_stops = goes_stops_later b x f i owner pages [] goes y g (Some t) asks stop (serves_came x y (of_frame g owner (Some t)) [] types) (wait_kinds stop is) stops
+
+    -- and the frame is left so
+    module _ (z : PortValue) (left : ServesType y z g t) where
+      left_goes : Goes b z f i owner pages []
+      left_goes =
+          goes_call b y f i owner pages [] (typed y types) z g (Some t) (asks_still b x f i owner pages [] goes y g (Some t) asks (serves_came x y (of_frame g owner (Some t)) [] types)) [] (left_serves y z g owner t left)
+
+      left_came : Came y z
+      left_came = serves_came y z (of_frame g owner (Some t)) [] (left_serves y z g owner t left)
+
+      pub enters_left : MeetsEntry b z f i owner pages (Err stop)
+      enters_left =
+          let next = wait_missed b z f i owner pages stop is left_goes in
+          record { serves = next.serves; stops = stops_before b y z (of_entries owner pages) stop waits_stops left_came; kinds = (type_stop stop (wait_kinds stop is)).0; shows = tt; looks = next.looks }
+
+      pub enters_unsettled : (w : PortValue) (k upto found : ℕ) → Moves z w Clock Load kinds.Look (Some (Record k upto)) found → MeetsEntry b w f i owner pages (Ok (Unsettled stop))
+      enters_unsettled w k upto found m =
+          let next = goes_record b z f i owner pages [] left_goes w k upto found m in
+          let late = came_trans y z w left_came (moves_came z w Clock Load kinds.Look (Some (Record k upto)) found m) in
+          record {
+            serves = next.serves;
+            stops = tt;
+            kinds = tt;
+            shows = (record_shows b z f i owner pages [] left_goes w k upto found m, is, stops_before b y w (of_entries owner pages) stop waits_stops late);
+            looks = next.looks;
+          }
+
+-- the next one is to be worked on first
+pub enters_opened : (b y : PortValue) (f i owner pages g progress : ℕ) (own : Bool) → Goes b y f i owner pages [] → MeetsEntry b y f i owner pages (Ok (Opened g progress own))
+enters_opened b y f i owner pages g progress own goes = record { serves = goes.serves; stops = tt; kinds = tt; shows = tt; looks = goes.looks }

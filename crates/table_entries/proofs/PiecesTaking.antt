@@ -1,0 +1,118 @@
+-- The steps behind a look at an entry: each call goes on with the piece of the whole.
+use Rattle.std.proofs.Common.{ℕ, List, [], ◌++◌, Option, Some, None, refl, subst, append-nil}
+use Rattle.xp_words.specs.declared.kind.PageType.{PageType}
+use Rattle.xp_words.specs.declared.place.Place.TheVariants.{Clock, Kind}
+use Rattle.xp_words.specs.declared.reply.Pause.TheVariants.{Busy, Flush, Lost}
+use Rattle.xp_words.specs.declared.reply.Refusal.TheVariants as refusals
+use Rattle.xp_words.specs.declared.reply.Stop.{Stop}
+use Rattle.xp_words.specs.declared.reply.Stop.TheVariants.{Refused, Paused}
+use Rattle.xp_board.specs.declared.step.Act.TheVariants.{Load}
+use Rattle.xp_board.specs.declared.step.Mark.TheVariants.{Record}
+use Rattle.xp_board.specs.declared.step.StepKind.TheVariants as kinds
+use Rattle.xp_board.specs.Told.{Post, PortValue}
+use Rattle.step_maker.specs.Moves.{Came, Met, Moves}
+use Rattle.step_maker.proofs.Coming.{came_post, met_after, met_before, moment_of, moves_met}
+use Rattle.answer_fits.specs.Answers.{Deed, Serves, Stops, missed}
+use Rattle.answer_fits.specs.Asked.{Asked, NoMore, of, of_back, of_frame}
+use Rattle.answer_fits.specs.Pauses.{Progress, entry}
+use Rattle.answer_fits.proofs.Later.{IsUncounted, stops_later}
+use Rattle.answer_fits.proofs.Piecing.{same_request, serves_back, serves_call, serves_came, serves_nothing, serves_step, stops_call, within_frame}
+use Rattle.frame_types.specs.Leaving.{ServesType}
+use Rattle.frame_types.specs.Taking.{IsTypeStop}
+use Rattle.frame_words.specs.Refs.{IsRefStop}
+use Rattle.flush_waits.specs.Waiting.{IsWait}
+use Rattle.table_entries.specs.Asking.{IsEntryStop, LooksOnly, of_entries}
+use Rattle.table_entries.proofs.PiecesLooking.{looks_aside, looks_step, looks_then}
+
+-- ---- by kind of stop
+pub ref_kinds : (e : Stop) → IsRefStop e → IsEntryStop e
+ref_kinds (Refused (refusals.NoFrame f)) is = tt
+ref_kinds (Refused (refusals.WrongOwner f x)) is = tt
+ref_kinds (Refused (refusals.CountFull f x)) is = tt
+ref_kinds (Paused (Lost place e x)) is = tt
+ref_kinds _ is = absurd is
+
+-- a type is not to be had for no count
+pub type_stop : (e : Stop) → IsTypeStop e → IsEntryStop e × IsUncounted e
+type_stop (Refused (refusals.OtherType f want x)) is = (tt, tt)
+type_stop (Refused (refusals.Clock x)) is = (tt, tt)
+type_stop (Paused (Lost place e x)) is = (tt, tt)
+type_stop (Paused (Busy f x)) is = (tt, tt)
+type_stop (Paused (Flush v stamp x)) is = (tt, tt)
+type_stop _ is = absurd is
+
+pub wait_kinds : (e : Stop) → IsWait e → IsTypeStop e
+wait_kinds (Refused (refusals.Clock x)) is = tt
+wait_kinds (Paused (Flush v stamp x)) is = tt
+wait_kinds _ is = absurd is
+
+-- ---- from b to v the steps of an entry so far
+pub record Goes (b v : PortValue) (f i owner pages : ℕ) (ds : List Deed) : Type 0 where
+  pub serves : Serves b v (of_entries owner pages) ds
+  pub looks : LooksOnly b v f i
+
+module _ (b v : PortValue) (f i owner pages : ℕ) (ds : List Deed) (goes : Goes b v f i owner pages ds) where
+  pub goes_came : Came b v
+  goes_came = serves_came b v (of_entries owner pages) ds goes.serves
+
+  -- a look at another word than a cell
+  pub goes_kind : (w : PortValue) (g found : ℕ) → Moves v w (Kind g) Load kinds.Look None found → Goes b w f i owner pages ds
+  goes_kind w g found m =
+      record {
+        serves = serves_step b v w (of_entries owner pages) ds (Kind g) Load kinds.Look None found goes.serves m tt;
+        looks = looks_then b v w f i goes.looks (looks_step v w f i (Kind g) Load kinds.Look None found m (λ h j at. absurd (let same = at in cc)));
+      }
+
+  pub goes_record : (w : PortValue) (g upto found : ℕ) → Moves v w Clock Load kinds.Look (Some (Record g upto)) found → Goes b w f i owner pages ds
+  goes_record w g upto found m =
+      record {
+        serves = serves_step b v w (of_entries owner pages) ds Clock Load kinds.Look (Some (Record g upto)) found goes.serves m tt;
+        looks = looks_then b v w f i goes.looks (looks_step v w f i Clock Load kinds.Look (Some (Record g upto)) found m (λ h j at. absurd (let same = at in cc)));
+      }
+
+  pub record_shows : (w : PortValue) (g upto found : ℕ) → Moves v w Clock Load kinds.Look (Some (Record g upto)) found → Progress (Met b w)
+  unfolding moment_of
+  record_shows w g upto found m =
+      entry (moment_of v Clock Load kinds.Look (Some (Record g upto)) found) (met_after b v w _ goes_came (moves_met v w Clock Load kinds.Look (Some (Record g upto)) found m)) refl
+
+  -- a call on a frame that is asked so
+  module _ (w : PortValue) (g : ℕ) (want : Option PageType) (asks : Asked b.post.machine b.post.vcpu (of_entries owner pages) (Met b v) g owner want) where
+    pub goes_call : (es : List Deed) → Serves v w (of_frame g owner want) es → Goes b w f i owner pages (es ++ ds)
+    goes_call es a =
+        record {
+          serves = serves_call b v w (of_entries owner pages) ds es goes.serves g owner want asks (serves_came v w (of_frame g owner want) es a) a;
+          looks = looks_then b v w f i goes.looks (looks_aside v w f i (of_frame g owner want) es (record { entries = refl; walks = refl; index = refl }) a);
+        }
+
+    pub asks_still : Came v w → Asked b.post.machine b.post.vcpu (of_entries owner pages) (Met b w) g owner want
+    asks_still came = (same_request b.post.machine b.post.vcpu (of_entries owner pages) (Met b v) (Met b w) (λ m x. met_before b v w m x came)).asked g owner want asks
+
+    -- why it stops, as a call does that finds no more in hand; and as one does whose stop counts nothing in hand
+    pub goes_stops : (e : Stop) → Came v w → NoMore (of_entries owner pages) v.holdings b.holdings → Stops v w (of_frame g owner want) e → Stops b w (of_entries owner pages) e
+    goes_stops e came more stops = stops_call b v w (of_entries owner pages) ds [] goes.serves g owner want asks came e more stops
+
+    pub goes_stops_later : (e : Stop) → Came v w → IsTypeStop e → Stops v w (of_frame g owner want) e → Stops b w (of_entries owner pages) e
+    goes_stops_later e came is stops =
+        stops_later b v w (of_entries owner pages) (of_frame g owner want) e (type_stop e is).1
+        (within_frame b.post.machine b.post.vcpu g owner want (of_entries owner pages) (Met v w) (Met b w) (λ m x. met_after b v w m goes_came x) (asks_still came)) goes_came stops
+
+    pub goes_back : Serves v w (of_back g) [] → Goes b w f i owner pages ds
+    goes_back a =
+        record {
+          serves = serves_back b v w (of_entries owner pages) ds [] goes.serves g (of owner want (asks_still (serves_came v w (of_back g) [] a))) a;
+          looks = looks_then b v w f i goes.looks (looks_aside v w f i (of_back g) [] (record { entries = refl; walks = refl; index = refl }) a);
+        }
+
+-- what serves the type behind any steps for it
+pub left_serves : (v w : PortValue) (g owner : ℕ) (want : PageType) → ServesType v w g want → Serves v w (of_frame g owner (Some want)) []
+left_serves v w g owner want a = a v owner [] (serves_nothing v (of_frame g owner (Some want)))
+
+-- ---- the deeds of a stop
+pub goes_missed : (b v w : PortValue) (f i owner pages : ℕ) (e : Stop) → Came b v → Goes b w f i owner pages (missed v.post.machine e ++ []) → Goes b w f i owner pages (missed b.post.machine e)
+goes_missed b v w f i owner pages e came goes =
+    subst (λ (p : Post). Goes b w f i owner pages (missed p.machine e)) (came_post b v came) (subst (Goes b w f i owner pages) (append-nil (missed v.post.machine e)) goes)
+
+pub wait_missed : (b w : PortValue) (f i owner pages : ℕ) (e : Stop) → IsWait e → Goes b w f i owner pages [] → Goes b w f i owner pages (missed b.post.machine e)
+wait_missed b w f i owner pages (Refused (refusals.Clock x)) is goes = goes
+wait_missed b w f i owner pages (Paused (Flush v stamp x)) is goes = goes
+wait_missed b w f i owner pages _ is goes = absurd is

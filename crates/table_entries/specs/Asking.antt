@@ -1,0 +1,72 @@
+-- What the entries of a table in the own works ask, which cells are looked at for it, and what the steps show.
+use Rattle.std.specs.Prelude.{◌≡◌, ◌⊎◌, ℕ, ◌≤◌, true, false, List, None, Result, Ok}
+use Rattle.xp_words.specs.Entries.{below, demand_at}
+use Rattle.xp_words.specs.declared.entry.Demand.TheVariants.{Typed}
+use Rattle.xp_words.specs.declared.kind.PageType.{PageType}
+use Rattle.xp_words.specs.declared.place.Place.TheVariants.{Cell, Kind}
+use Rattle.xp_words.specs.declared.reply.Pause.TheVariants.{Busy, Flush, Lost}
+use Rattle.xp_words.specs.declared.reply.Refusal.TheVariants as refusals
+use Rattle.xp_words.specs.declared.reply.Stop.{Stop}
+use Rattle.xp_words.specs.declared.reply.Stop.TheVariants.{Refused, Paused}
+use Rattle.xp_board.specs.declared.step.Act.TheVariants.{Load}
+use Rattle.xp_board.specs.Lists.{EachOf}
+use Rattle.xp_board.specs.Readings.{is_live_word}
+use Rattle.xp_board.specs.Told.{PortValue}
+use Rattle.step_maker.specs.Moves.{Moment, Ran, Met}
+use Rattle.answer_fits.specs.Answers.{Stops}
+use Rattle.answer_fits.specs.Asked.{Request, of_frame}
+use Rattle.answer_fits.specs.Finding.{FoundAt}
+use Rattle.answer_fits.specs.Pauses.{Progress}
+use Rattle.flush_waits.specs.Waiting.{IsWait}
+use Rattle.table_entries.specs.declared.entries.Entered.{Entered}
+use Rattle.table_entries.specs.declared.entries.Entered.TheVariants.{Recorded, Unsettled}
+use Rattle.table_entries.specs.declared.resuming.Resumed.{Resumed}
+use Rattle.table_entries.specs.declared.resuming.Resumed.TheVariants as again
+
+-- The entries of the tables in the own works are asked of that owner, and nothing else is. (Pages are asked by entries of level 1
+-- under an entry lock alone.)
+abbrev pub of_entries : ℕ → ℕ → Request
+of_entries owner pages = record (of_frame 0 owner None) { names = λ g. false; entries = true; pages_of = pages }
+
+-- from v to w no cell was looked at but entry i of frame f
+abbrev pub LooksAt : ℕ → ℕ → Moment → Type 0
+LooksAt f i m = m.act ≡ Load → (g j : ℕ) → m.place ≡ Cell g j → (g ≡ f) × (j ≡ i)
+
+unfoldable pub LooksOnly : PortValue → PortValue → ℕ → ℕ → Type 0
+LooksOnly v w f i = (ms : List Moment) × Ran v ms w × EachOf (LooksAt f i) ms
+
+-- why an entry is not met
+abbrev pub IsEntryStop : Stop → Type 0
+IsEntryStop (Refused (refusals.NoFrame f)) = Unit {0}
+IsEntryStop (Refused (refusals.WrongOwner f found)) = Unit {0}
+IsEntryStop (Refused (refusals.CountFull f found)) = Unit {0}
+IsEntryStop (Refused (refusals.OtherType f want found)) = Unit {0}
+IsEntryStop (Refused (refusals.Reserved f i entry)) = Unit {0}
+IsEntryStop (Refused (refusals.Clock found)) = Unit {0}
+IsEntryStop (Paused (Lost place expected found)) = Unit {0}
+IsEntryStop (Paused (Busy f found)) = Unit {0}
+IsEntryStop (Paused (Flush vcpu stamp found)) = Unit {0}
+IsEntryStop _ = ⊥
+
+-- what the steps show where the entry was met: it is recorded; and where its frame waits for a flush, why that is not to be had
+abbrev pub ShowsEntered : PortValue → PortValue → ℕ → ℕ → Entered → Type 0
+ShowsEntered v w owner pages Recorded = Progress (Met v w)
+ShowsEntered v w owner pages (Unsettled stop) = Progress (Met v w) × IsWait stop × Stops v w (of_entries owner pages) stop
+ShowsEntered v w owner pages _ = Unit {0}
+
+abbrev pub ShowsResumed : PortValue → PortValue → ℕ → ℕ → Resumed → Type 0
+ShowsResumed v w owner pages (again.Waiting frame own stamp stop) = IsWait stop × Stops v w (of_entries owner pages) stop
+ShowsResumed v w owner pages _ = Unit {0}
+
+-- the last recorded entry asks a type of a frame that the machine has not, or that was found not live
+pub record FoundOther (v w : PortValue) (f i : ℕ) (t : PageType) : Type 0 where
+  pub word : ℕ
+  pub frame : ℕ
+  pub found : FoundAt (Met v w) (Cell f i) word
+  pub asks : demand_at t i word ≡ Typed frame (below t)
+  pub other : (v.post.machine.frames ≤ frame) ⊎ ((x : ℕ) × FoundAt (Met v w) (Kind frame) x × (is_live_word x ≡ false))
+
+-- it is taken again only then
+abbrev pub ShowsOther : PortValue → PortValue → ℕ → PageType → ℕ → Result Resumed Stop → Type 0
+ShowsOther v w f t i (Ok again.Settled) = Unit {0}
+ShowsOther v w f t i _ = FoundOther v w f i t

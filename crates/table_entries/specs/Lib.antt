@@ -1,0 +1,4 @@
+pub mod Asking
+pub mod Tops
+pub mod Plain
+pub mod Between

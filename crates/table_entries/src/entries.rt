@@ -1,0 +1,140 @@
+//! The next entry of a table in work.
+ghost use Rattle.std.specs.Prelude.{◌≡◌, ◌<◌, ℕ, [], IfOk, IfErr, MatchResult};
+ghost use Rattle.xp_words.specs.Entries.{below};
+ghost use Rattle.xp_words.specs.declared.entry.Demand.TheVariants.{Read, Typed};
+ghost use Rattle.answer_fits.specs.Answers.{Serves, Stops, misses};
+ghost use Rattle.flush_waits.specs.Waiting.{IsKnownOwner};
+ghost use Rattle.frame_types.specs.Taking.{IsOfOther};
+ghost use Rattle.step_maker.specs.Holds.{MayWork};
+ghost use Rattle.table_entries.specs.Asking.{IsEntryStop, LooksOnly, ShowsEntered, of_entries};
+ghost use Rattle.table_entries.specs.Between.{MeetsEntry, FromLook, HandEntered, HasLooked};
+ghost use Rattle.table_entries.specs.Plain.{TwinEntry};
+ghost use Rattle.table_entries.specs.Tops.{HoldsWorks, LeavesEntered, LookedAnd, WorksNext, as_it_was};
+
+use crate::waiting::{Late, wait_entry};
+use frame_types::{Taken, take_type};
+use frame_words::{get_ref, look_cell, put_ref};
+use pte_check::demand;
+use table_words::record_entry;
+use xp_board::Port;
+use xp_words::{Demand, PageType, Refusal, Stop};
+
+/// An entry of a table in the own works: the table and its type, L1 to L4; the entry's index, below 512; and the domain whose frame
+/// it is to ask.
+#[derive(Clone, Copy, Debug, PartialEq, Eq)]
+pub struct TableEntry {
+    pub table: u32,
+    pub kind: PageType,
+    pub index: u16,
+    pub owner: u16,
+}
+
+/// What became of the next entry of a table in work.
+#[derive(Clone, Copy, Debug, PartialEq, Eq, Drop)]
+pub enum Entered {
+    /// It is recorded: what it asks was taken, or it asks nothing.
+    Recorded,
+    /// It names a frame that is to be validated first. That one is in the own works now, past its flush and with so many of its
+    /// entries recorded; the entry is not recorded yet. `own`: the frame's type count is in hand; else another holder has it, and
+    /// an untyped reference is in hand.
+    Opened {
+        frame: u32,
+        progress: u16,
+        own: bool,
+    },
+    /// It is recorded as the last one. Its frame waits for a flush that is not to be had, and why.
+    Unsettled {
+        stop: Stop,
+    },
+}
+
+/// SeesEntry at the next entry of the newest table in the own works, and takes what it asks. Where that is to be had the entry is
+/// recorded. A refusal or a pause leaves the table as it was.
+pub fn take_entry<P: Port>(port: &mut P, at: TableEntry) -> Result<Entered, Stop>
+    requires frame { at.table < (P.value port.old).post.machine.frames }
+    requires index { at.index < 512 }
+    requires may { MayWork (P.value port.old) }
+    requires works { WorksNext (P.value port.old).post.machine at.table at.kind at.index (P.value port.old).holdings }
+    requires known { IsKnownOwner at.table at.owner (P.value port.old).holdings }
+    requires held { HoldsWorks (P.value port.old).holdings }
+    // No frame in the own works is of the type that the entries ask: each is of a level above.
+    requires above { (g : ℕ) → IsOfOther g (below at.kind) (P.value port.old).holdings }
+    requires looked { (P.value port.old).holdings.looking ≡ [] }
+    ensures serves { (pages : ℕ) → Serves (P.value port.old) (P.value port.new) (of_entries at.owner pages) (misses (P.value port.old).post.machine result) }
+    ensures stops { (pages : ℕ) → IfErr result (λ e. Stops (P.value port.old) (P.value port.new) (of_entries at.owner pages) e) }
+    ensures kinds { IfErr result IsEntryStop }
+    ensures shows { (pages : ℕ) → IfOk result (λ a. ShowsEntered (P.value port.old) (P.value port.new) at.owner pages a) }
+    ensures looks { LooksOnly (P.value port.old) (P.value port.new) at.table at.index }
+    ensures hand { MatchResult result (λ a. LeavesEntered (P.value port.old) (P.value port.new) at.table at.kind at.index at.owner a) (λ _. LookedAnd (P.value port.old) (P.value port.new) at.table at.index as_it_was) }
+    // On a board that tells all words.
+    ensures plain { TwinEntry (P.value port.old) (P.value port.new) at.table at.kind at.index at.owner result }
+{
+    let word = look_cell(port, at.table, at.index);
+    match demand(at.kind, at.index, word) {
+        Demand::Nothing => {
+            record_entry(port, at.table, at.index + 1);
+            Ok(Entered::Recorded)
+        }
+        Demand::Bad => Err(Stop::Refused(Refusal::Reserved {
+            frame: at.table,
+            index: at.index,
+            entry: word,
+        })),
+        Demand::Read { frame } => take_plain(port, at, frame),
+        Demand::Typed { frame, kind } => take_typed(port, at, frame, kind),
+    }
+}
+
+// The entry asks a reference alone.
+fn take_plain<P: Port>(port: &mut P, at: TableEntry, frame: u64) -> Result<Entered, Stop>
+    requires may { MayWork (P.value port.old) }
+    requires looked { HasLooked (P.value port.old) at.table at.index at.owner at.kind (Read frame) }
+    ensures enters { FromLook (P.value port.old) at.table at.index at.owner at.kind (Read frame) (λ b. (pages : ℕ) → MeetsEntry b (P.value port.new) at.table at.index at.owner pages result) }
+    ensures hand { FromLook (P.value port.old) at.table at.index at.owner at.kind (Read frame) (λ b. HandEntered b (P.value port.new) at.table at.index at.owner at.kind result) }
+    ensures plain { FromLook (P.value port.old) at.table at.index at.owner at.kind (Read frame) (λ b. TwinEntry b (P.value port.new) at.table at.kind at.index at.owner result) }
+{
+    get_ref(port, frame, at.owner)?;
+    record_entry(port, at.table, at.index + 1);
+    Ok(Entered::Recorded)
+}
+
+// The entry asks a type.
+fn take_typed<P: Port>(
+    port: &mut P,
+    at: TableEntry,
+    frame: u64,
+    want: PageType,
+) -> Result<Entered, Stop>
+    requires may { MayWork (P.value port.old) }
+    requires looked { HasLooked (P.value port.old) at.table at.index at.owner at.kind (Typed frame want) }
+    ensures enters { FromLook (P.value port.old) at.table at.index at.owner at.kind (Typed frame want) (λ b. (pages : ℕ) → MeetsEntry b (P.value port.new) at.table at.index at.owner pages result) }
+    ensures hand { FromLook (P.value port.old) at.table at.index at.owner at.kind (Typed frame want) (λ b. HandEntered b (P.value port.new) at.table at.index at.owner at.kind result) }
+    ensures plain { FromLook (P.value port.old) at.table at.index at.owner at.kind (Typed frame want) (λ b. TwinEntry b (P.value port.new) at.table at.kind at.index at.owner result) }
+{
+    let frame = get_ref(port, frame, at.owner)?;
+    match take_type(port, frame, at.owner, want) {
+        Ok(Taken::Counted) => {
+            record_entry(port, at.table, at.index + 1);
+            Ok(Entered::Recorded)
+        }
+        Ok(Taken::InWork { progress, own }) => Ok(Entered::Opened {
+            frame,
+            progress,
+            own,
+        }),
+        Ok(Taken::Waiting { own, stamp, stop }) => {
+            let late = Late {
+                frame,
+                want,
+                own,
+                stamp,
+                stop,
+            };
+            wait_entry(port, at, late)
+        }
+        Err(stop) => {
+            put_ref(port, frame);
+            Err(stop)
+        }
+    }
+}

@@ -1,0 +1,5 @@
+pub mod Sharing
+pub mod Referring
+pub mod Kinding
+pub mod Typing
+pub mod Entering
