@@ -99,13 +99,13 @@ module _ (n : Machine) (s : ℕ) (q : Request) (F : Finding) (t : Request) (G : 
   marking : (f x y : ℕ) → IsMarkAsked n s q F f x y → IsMarkAsked n s t G f x y
   marking f x y a = (w.locks a.0, asks f a.1, a.2)
 
-  typing : (f : ℕ) (b : Act) (x : ℕ) → MayType n s q F f b x → MayType n s t G f b x
-  typing f (Cas e y) x (inl a) = inl (a.0, w.asked f a.0 _ a.1)
-  typing f (Cas e y) x (inr a) = inr (marking f e y a)
-  typing f (Store y) x a = (asks f a.0, a.1)
-  typing f (Add y) x a = asks f a
-  typing f Load x a = a
-  typing f (Max y) x a = a
+  typing : (f : ℕ) (b : Act) (x : ℕ) (h : Holdings) → MayType n s q F f b x h → MayType n s t G f b x h
+  typing f (Cas e y) x h (inl a) = inl (a.0, w.asked f a.0 _ a.1, passed f a.0 h a.2)
+  typing f (Cas e y) x h (inr a) = inr (marking f e y a)
+  typing f (Store y) x h a = (asks f a.0, a.1)
+  typing f (Add y) x h a = asks f a
+  typing f Load x h a = a
+  typing f (Max y) x h a = a
 
   writing : (v k : ℕ) (h : Holdings) → MayWriteOwn n s q F v k h → MayWriteOwn n s t G v k h
   writing v k h (inl (a, inl b)) = inl (a, inl b)
@@ -125,7 +125,7 @@ module _ (n : Machine) (s : ℕ) (q : Request) (F : Finding) (t : Request) (G : 
   reason (Life d) b x h a = w.destroys d a
   reason (Vcpu v k) b x h a = of_vcpu v k b h a
   reason (Refs f) b x h a = (asks f a.0, changing b a.1)
-  reason (Kind f) b x h a = typing f b x a
+  reason (Kind f) b x h a = typing f b x h a
   reason (M2p f) b x h a = asks f a
   reason (Cell f i) b x h a = asks f a
   reason (Map k) b x h a = (a.0, a.1, asks a.0 a.2)

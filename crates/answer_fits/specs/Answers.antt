@@ -135,14 +135,23 @@ pub record Piece (v w : PortValue) (r : Request) (ds : List Deed) (ms : List Mom
 unfoldable pub Serves : PortValue → PortValue → Request → List Deed → Type 0
 Serves v w r ds = (ms : List Moment) × Piece v w r ds ms
 
--- ---- what the steps change: all but the loads, the newest first
-abbrev pub is_load : Act → Bool
-is_load Load = true
-is_load _ = false
+-- ---- what the steps change
+-- a load changes nothing, and an exchange that is lost does not
+abbrev pub is_change : Act → ℕ → Bool
+is_change Load found = false
+is_change (Cas e w) found = found == e
+is_change _ found = true
 
+-- the clock, and the words of flushes: what a vCPU was asked for, and what it did
+abbrev pub is_flush_word : Place → Bool
+is_flush_word Clock = true
+is_flush_word (Vcpu v k) = (k == 4) || (k == 5)
+is_flush_word _ = false
+
+-- all changes but those of flushes, the newest first
 abbrev pub changes : List Moment → List (Place × Act)
 changes [] = []
-changes (m ∷ ms) = if is_load m.act then changes ms else ((m.place, m.act) ∷ changes ms)
+changes (m ∷ ms) = if is_change m.act m.found && not (is_flush_word m.place) then ((m.place, m.act) ∷ changes ms) else changes ms
 
 -- from v to w the port made steps that change just these
 unfoldable pub Changes : PortValue → PortValue → List (Place × Act) → Type 0

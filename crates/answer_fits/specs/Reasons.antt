@@ -80,8 +80,9 @@ abbrev pub IsPagesChange : Request → Act → Type 0
 IsPagesChange r (Cas e w) = (k : ℕ) × (r.pages ≡ Some k)
 IsPagesChange r _ = Unit {0}
 
-abbrev pub IsTypeAsked : Machine → ℕ → Request → Finding → ℕ → PageType → Type 0
-IsTypeAsked n s r F f t = (owner : ℕ) × Asked n s r F f owner (Some t)
+-- the type is asked of the frame for an owner who was found to have it, before its type is touched
+abbrev pub IsTypeAsked : Machine → ℕ → Request → Finding → ℕ → PageType → Holdings → Type 0
+IsTypeAsked n s r F f t h = (owner : ℕ) × Asked n s r F f owner (Some t) × Passed n r F f owner h
 
 abbrev pub keeps_type : ℕ → ℕ → Bool
 keeps_type old new = is_type (kind_fields old).kind (kind_fields new).kind && not (is_dead (kind_fields old))
@@ -91,11 +92,11 @@ abbrev pub IsMarkAsked : Machine → ℕ → Request → Finding → ℕ → ℕ
 IsMarkAsked n s r F f old new = (r.locks ≡ true) × IsAsked n s r F f × IsTrue (keeps_type old new)
 
 -- A kind word gets a type only that is asked of that frame, by an exchange; a store keeps the type, and a sum gives back what is in hand.
-abbrev pub MayType : Machine → ℕ → Request → Finding → ℕ → Act → ℕ → Type 0
-MayType n s r F f (Cas e w) x = IsTypeAsked n s r F f (kind_fields w).kind ⊎ IsMarkAsked n s r F f e w
-MayType n s r F f (Store w) x = IsAsked n s r F f × IsTrue (keeps_type x w)
-MayType n s r F f (Add by) x = IsAsked n s r F f
-MayType n s r F f _ x = ⊥
+abbrev pub MayType : Machine → ℕ → Request → Finding → ℕ → Act → ℕ → Holdings → Type 0
+MayType n s r F f (Cas e w) x h = IsTypeAsked n s r F f (kind_fields w).kind h ⊎ IsMarkAsked n s r F f e w
+MayType n s r F f (Store w) x h = IsAsked n s r F f × IsTrue (keeps_type x w)
+MayType n s r F f (Add by) x h = IsAsked n s r F f
+MayType n s r F f _ x h = ⊥
 
 -- ---- words of vCPUs
 abbrev pub MayWriteOwn : Machine → ℕ → Request → Finding → ℕ → ℕ → Holdings → Type 0
@@ -115,7 +116,7 @@ Reason n s r F (Pages d) a x h = MayCountPages n s r F d × IsPagesChange r a
 Reason n s r F (Life d) a x h = r.destroys ≡ Some d
 Reason n s r F (Vcpu v k) a x h = MayChangeVcpu n s r F v k a h
 Reason n s r F (Refs f) a x h = IsAsked n s r F f × IsRefChange r a
-Reason n s r F (Kind f) a x h = MayType n s r F f a x
+Reason n s r F (Kind f) a x h = MayType n s r F f a x h
 Reason n s r F (M2p f) a x h = IsAsked n s r F f
 Reason n s r F (Cell f i) a x h = IsAsked n s r F f
 Reason n s r F (Map k) a x h = (f : ℕ) × (k ≡ f / 64) × IsAsked n s r F f

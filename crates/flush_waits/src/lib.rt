@@ -1,9 +1,10 @@
 //! Flushes that a change of type waits for.
 #![tactic(auto)]
 
-ghost use Rattle.std.specs.Prelude.{◌≡◌, ◌≢◌, ◌<◌, true, Ok, IfOk, IfErr, length};
+ghost use Rattle.std.specs.Prelude.{◌≡◌, ◌≢◌, ◌<◌, [], true, Ok, IfOk, IfErr, length};
 ghost use Rattle.xp_board.specs.Readings.{has_ever};
 ghost use Rattle.xp_board.specs.Told.{is_telling, told_word};
+ghost use Rattle.answer_fits.specs.Answers.{Changes};
 ghost use Rattle.answer_fits.specs.Twins.{Alike};
 ghost use Rattle.step_maker.specs.Holds.{FlushedSame, MayWork};
 ghost use Rattle.step_maker.specs.Moves.{Came};
@@ -29,6 +30,8 @@ pub fn clear_stale<P: Port>(port: &mut P, frame: u32, owner: u16, stamp: u64) ->
     ensures serves { ServesBehind (P.value port.old) (P.value port.new) owner stamp }
     ensures stops { IfErr result (λ e. StopsBehind (P.value port.old) (P.value port.new) owner stamp e) }
     ensures came { Came (P.value port.old) (P.value port.new) }
+    // No word is changed but those of flushes.
+    ensures changes { Changes (P.value port.old) (P.value port.new) [] }
     ensures waits { IfErr result IsWait }
     ensures hand { FlushedSame (P.value port.old) (P.value port.new) }
     ensures past { IfOk result (λ _. IsFlushed (P.value port.new).post.machine frame (P.value port.new).holdings) }

@@ -11,6 +11,7 @@ ghost use Rattle.step_maker.specs.Moves.{Came};
 ghost use Rattle.step_maker.specs.Plain.{Leaves};
 ghost use Rattle.frame_words.specs.Plain.{put, stamp_now};
 ghost use Rattle.kind_words.specs.Kinds.{dead_kind, partial_kind};
+ghost use Rattle.frame_types.specs.Changing.{LeavesDead, LeavesShared, LeavesUnsettled};
 ghost use Rattle.frame_types.specs.Leaving.{GivesBack, IsWaiting, KeepsType, ServesType};
 ghost use Rattle.frame_types.specs.Plain.{set_kind};
 
@@ -30,6 +31,7 @@ pub fn leave_shared<P: Port>(port: &mut P, frame: u32, want: PageType, stamp: u6
     ensures came { Came (P.value port.old) (P.value port.new) }
     ensures serves { ServesType (P.value port.old) (P.value port.new) frame want }
     ensures hand { GivesBack (P.value port.old) (P.value port.new) frame want false }
+    ensures changes { LeavesShared (P.value port.old) (P.value port.new) frame want stamp }
     ensures plain { is_telling (P.value port.old) ≡ true → Leaves (P.value port.new) (put frame (set_kind frame (partial_kind want false true 0 stamp) (told_word (P.value port.old)))) }
     ensures owned { is_telling (P.value port.old) ≡ true → is_free (told_word (P.value port.old) (Refs frame)) ≡ false }
 {
@@ -47,6 +49,7 @@ pub fn leave_dead<P: Port>(port: &mut P, frame: u32, want: PageType)
     ensures came { Came (P.value port.old) (P.value port.new) }
     ensures serves { ServesType (P.value port.old) (P.value port.new) frame want }
     ensures hand { GivesBack (P.value port.old) (P.value port.new) frame want true }
+    ensures changes { LeavesDead (P.value port.old) (P.value port.new) frame want }
     ensures plain { is_telling (P.value port.old) ≡ true → Leaves (P.value port.new) (put frame (set_kind frame (dead_kind want true (stamp_now (told_word (P.value port.old)))) (told_word (P.value port.old)))) }
     ensures owned { is_telling (P.value port.old) ≡ true → is_free (told_word (P.value port.old) (Refs frame)) ≡ false }
 {
@@ -65,6 +68,7 @@ pub fn leave_unsettled<P: Port>(port: &mut P, frame: u32, want: PageType, stamp:
     ensures came { Came (P.value port.old) (P.value port.new) }
     ensures serves { ServesType (P.value port.old) (P.value port.new) frame want }
     ensures hand { KeepsType (P.value port.old) (P.value port.new) frame want }
+    ensures changes { LeavesUnsettled (P.value port.old) (P.value port.new) frame want stamp }
     ensures partial { IsTrue (knows_partial (sizes_of (P.value port.old).post.machine) frame want (P.value port.new).holdings) }
     ensures plain { is_telling (P.value port.old) ≡ true → Leaves (P.value port.new) (set_kind frame (partial_kind want false true 0 stamp) (told_word (P.value port.old))) }
 {

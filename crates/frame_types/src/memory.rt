@@ -9,6 +9,7 @@ ghost use Rattle.step_maker.specs.Holds.{FlushedHolds, MayWork};
 ghost use Rattle.answer_fits.specs.Answers.{Serves, Stops, misses};
 ghost use Rattle.answer_fits.specs.Asked.{of_frame};
 ghost use Rattle.frame_words.specs.Freeing.{gave};
+ghost use Rattle.frame_types.specs.Changing.{GivenUp, MemoryFound};
 ghost use Rattle.frame_types.specs.Plain.{TwinGiveUp, TwinMemory, is_refused};
 ghost use Rattle.frame_types.specs.Leaving.{GivesUp, IsMemoryWaiting, ServesType};
 ghost use Rattle.frame_types.specs.Taking.{IsTypeStop, LentBy, typed_as};
@@ -36,6 +37,7 @@ pub fn take_writable<P: Port>(port: &mut P, frame: u32, owner: u16) -> Result<()
     ensures stops { IfErr result (λ e. Stops (P.value port.old) (P.value port.new) (of_frame frame owner (Some Writable)) e) }
     ensures kinds { IfErr result IsTypeStop }
     ensures hand { MatchResult result (λ _. FlushedHolds (P.value port.old) (P.value port.new) (typed_as frame owner Writable (P.value port.old).holdings)) (λ _. FlushedHolds (P.value port.old) (P.value port.new) (gave frame (P.value port.old).holdings)) }
+    ensures found { MemoryFound (P.value port.old) (P.value port.new) frame result }
     ensures plain { TwinMemory (P.value port.old) (P.value port.new) frame result }
 {
     match take_type(port, frame, owner, PageType::Writable) {
@@ -59,6 +61,7 @@ fn give_up<P: Port>(port: &mut P, frame: u32, own: bool, stamp: u64, stop: Stop)
     ensures answer { result ≡ stop }
     ensures serves { ServesType (P.value port.old) (P.value port.new) frame Writable }
     ensures hand { GivesUp (P.value port.old) (P.value port.new) frame own stamp }
+    ensures changes { GivenUp (P.value port.old) (P.value port.new) frame own stamp stop }
     ensures plain { TwinGiveUp (P.value port.old) (P.value port.new) frame own stamp stop }
     ensures owned { IsTrue (not own || is_refused stop) → is_telling (P.value port.old) ≡ true → is_free (told_word (P.value port.old) (Refs frame)) ≡ false }
 {

@@ -11,6 +11,7 @@ ghost use Rattle.step_maker.specs.Holds.{MayWork, Same};
 ghost use Rattle.answer_fits.specs.Answers.{Deed, Serves, Stops, misses};
 ghost use Rattle.answer_fits.specs.Asked.{of_frame};
 ghost use Rattle.flush_waits.specs.Waiting.{IsFlushed};
+ghost use Rattle.frame_types.specs.Changing.{TakesFound};
 ghost use Rattle.frame_types.specs.Plain.{TwinOn, TwinTake};
 ghost use Rattle.frame_types.specs.Taking.{HasEntered, HoldsOn, IsDone, IsLooked, IsOfOther, IsTypeStop, LeavesLive, LentBy, Looked, ServesOn, ShowsWait, Takes, TakesAs, WaitsOn, progress_of};
 
@@ -55,6 +56,7 @@ pub fn take_type<P: Port>(
     ensures kinds { IfErr result IsTypeStop }
     ensures waits { IfOk result (λ t. ShowsWait (P.value port.old) (P.value port.new) frame owner want t) }
     ensures hand { MatchResult result (λ t. TakesAs (P.value port.old) (P.value port.new) frame owner want t) (λ _. Same (P.value port.old) (P.value port.new)) }
+    ensures found { TakesFound (P.value port.old) (P.value port.new) frame want result }
     ensures live { IfOk result (λ t. LeavesLive (P.value port.old) (P.value port.new) frame t) }
     ensures plain { TwinTake (P.value port.old) (P.value port.new) frame want result }
 {
@@ -75,6 +77,7 @@ fn take_found<P: Port>(
     requires wanted { IsTrue (not (is_none want)) }
     requires looked { IsLooked (P.value port.old) frame owner want word }
     ensures takes { (b : PortValue) → Looked b (P.value port.old) frame owner want word → Takes b (P.value port.new) frame owner want result }
+    ensures found { (b : PortValue) → Looked b (P.value port.old) frame owner want word → TakesFound b (P.value port.new) frame want result }
     ensures live { IfOk result (λ t. LeavesLive (P.value port.old) (P.value port.new) frame t) }
     ensures plain { (b : PortValue) → Looked b (P.value port.old) frame owner want word → TwinTake b (P.value port.new) frame want result }
 {

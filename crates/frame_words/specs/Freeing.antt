@@ -79,6 +79,11 @@ pub record Frees (v w : PortValue) (f owner : ℕ) : Type 0 where
 abbrev pub freeing : ℕ → ℕ → ℕ → List (Place × Act)
 freeing f owner stamp = (Pages owner, Add one_down) ∷ ((Refs f, Store (ref_write (Free stamp))) ∷ ((Map (f / 64), Add (map_bit f)) ∷ ((Refs f, Add one_down) ∷ [])))
 
-pub data Puts (v w : PortValue) (f : ℕ) : Type 0 where
-  more : Changes v w ((Refs f, Add one_down) ∷ []) → Puts v w f
-  last : (owner stamp : ℕ) → Changes v w (freeing f owner stamp) → Puts v w f
+pub data IsPut (f : ℕ) : List (Place × Act) → Type 0 where
+  more : IsPut f ((Refs f, Add one_down) ∷ [])
+  last : (owner stamp : ℕ) → IsPut f (freeing f owner stamp)
+
+pub record Puts (v w : PortValue) (f : ℕ) : Type 0 where
+  pub list : List (Place × Act)
+  pub put : IsPut f list
+  pub changed : Changes v w list

@@ -1,5 +1,5 @@
 -- Reference words, and what the steps on them leave in hand.
-use Rattle.std.specs.Prelude.{◌≡◌, ℕ, ◌+◌, ◌<◌, List, [], ◌∷◌, length}
+use Rattle.std.specs.Prelude.{◌≡◌, ℕ, ◌+◌, ◌<◌, List, [], ◌∷◌, length, Some, None, Result, Ok, Err}
 use Rattle.xp_words.specs.Machine.{Machine}
 use Rattle.xp_words.specs.RefWords.{ref_read, ref_write}
 use Rattle.xp_words.specs.declared.reply.Refusal.{Refusal}
@@ -19,6 +19,9 @@ use Rattle.xp_board.specs.declared.step.Act.TheVariants.{Cas}
 use Rattle.xp_words.specs.declared.place.Place.{Place}
 use Rattle.xp_words.specs.declared.place.Place.TheVariants.{Refs}
 use Rattle.answer_fits.specs.Answers.{Changes}
+use Rattle.answer_fits.specs.Finding.{FoundAt}
+use Rattle.step_maker.specs.Moves.{Met}
+use Rattle.frame_words.specs.Plain.{refer}
 use Rattle.frame_words.specs.declared.rows.Open.{Open}
 
 abbrev pub open_word : Open → ℕ
@@ -56,7 +59,16 @@ IsRefStop (Refused (CountFull f found)) = Unit {0}
 IsRefStop (Paused (Lost place expected found)) = Unit {0}
 IsRefStop _ = ⊥
 
--- What taking a reference changes: nothing, or its word by one exchange.
-pub data Gets (v w : PortValue) (f : ℕ) : Type 0 where
-  no_change : Changes v w [] → Gets v w f
-  one_change : (e x : ℕ) → Changes v w ((Refs f, Cas e x) ∷ []) → Gets v w f
+-- ---- by the words found
+-- The reference is to be had, by the word that a step found; or it is not, and why. (Of a frame that the machine has not there is no word.)
+abbrev pub IsReferred : PortValue → PortValue → ℕ → ℕ → ℕ → Type 0
+IsReferred v w f owner x = FoundAt (Met v w) (Refs f) x × (refer v.post.machine owner f x ≡ None)
+
+abbrev pub IsUnreferred : PortValue → PortValue → ℕ → ℕ → Refusal → Type 0
+IsUnreferred v w f owner r = (x : ℕ) × (f < v.post.machine.frames → FoundAt (Met v w) (Refs f) x) × (refer v.post.machine owner f x ≡ Some r)
+
+-- What taking a reference changes: where it is to be had, its word by one exchange, and else nothing.
+abbrev pub Gets : {A : Type 0} → PortValue → PortValue → ℕ → ℕ → Result A Stop → Type 0
+Gets v w f owner (Ok g) = (x : ℕ) × (y : ℕ) × IsReferred v w f owner x × Changes v w ((Refs f, Cas x y) ∷ [])
+Gets v w f owner (Err (Refused r)) = IsUnreferred v w f owner r × Changes v w []
+Gets v w f owner (Err (Paused r)) = Changes v w []

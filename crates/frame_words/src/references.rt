@@ -60,7 +60,7 @@ pub fn get_ref<P: Port>(port: &mut P, f: u64, owner: u16) -> Result<u32, Stop>
     ensures kinds { IfErr result IsRefStop }
     ensures hand { MatchResult result (λ g. Holds (P.value port.old) (P.value port.new) (took g owner (P.value port.old).holdings)) (λ _. Same (P.value port.old) (P.value port.new)) }
     ensures plain { TwinGet (P.value port.old) (P.value port.new) f owner result }
-    ensures gets { Gets (P.value port.old) (P.value port.new) f }
+    ensures gets { Gets (P.value port.old) (P.value port.new) f owner result }
     // It may be given back, also where the frame was closing in the hand.
     ensures gives { IfOk result (λ g. MayPut g (P.value port.new).holdings) }
 {

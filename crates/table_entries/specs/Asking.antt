@@ -57,16 +57,3 @@ ShowsEntered v w owner pages _ = Unit {0}
 abbrev pub ShowsResumed : PortValue → PortValue → ℕ → ℕ → Resumed → Type 0
 ShowsResumed v w owner pages (again.Waiting frame own stamp stop) = IsWait stop × Stops v w (of_entries owner pages) stop
 ShowsResumed v w owner pages _ = Unit {0}
-
--- the last recorded entry asks a type of a frame that the machine has not, or that was found not live
-pub record FoundOther (v w : PortValue) (f i : ℕ) (t : PageType) : Type 0 where
-  pub word : ℕ
-  pub frame : ℕ
-  pub found : FoundAt (Met v w) (Cell f i) word
-  pub asks : demand_at t i word ≡ Typed frame (below t)
-  pub other : (v.post.machine.frames ≤ frame) ⊎ ((x : ℕ) × FoundAt (Met v w) (Kind frame) x × (is_live_word x ≡ false))
-
--- it is taken again only then
-abbrev pub ShowsOther : PortValue → PortValue → ℕ → PageType → ℕ → Result Resumed Stop → Type 0
-ShowsOther v w f t i (Ok again.Settled) = Unit {0}
-ShowsOther v w f t i _ = FoundOther v w f i t

@@ -16,12 +16,13 @@ use Rattle.step_maker.specs.Moves.{Moves}
 use Rattle.answer_fits.specs.Answers.{Serves, Stops, misses}
 use Rattle.answer_fits.specs.Asked.{of_frame}
 use Rattle.flush_waits.specs.Waiting.{IsKnownOwner}
+use Rattle.frame_types.specs.Changing.{TakesFound}
 use Rattle.frame_types.specs.Plain.{TwinTake}
 use Rattle.frame_types.specs.Taking.{IsOfOther, ShowsWait, WaitsWith}
 use Rattle.frame_types.specs.declared.taking.Taken.TheVariants.{Waiting}
 use Rattle.frame_words.specs.Plain.{TwinGet}
-use Rattle.frame_words.specs.Refs.{took}
-use Rattle.table_entries.specs.Asking.{IsEntryStop, LooksOnly, ShowsEntered, ShowsOther, ShowsResumed, of_entries}
+use Rattle.frame_words.specs.Refs.{Gets, took}
+use Rattle.table_entries.specs.Asking.{IsEntryStop, LooksOnly, ShowsEntered, ShowsResumed, of_entries}
 use Rattle.table_entries.specs.Tops.{HoldsWorks, LeavesEntered, LeavesResumed, LookedAnd, WorksNext, WorksAtTop, as_it_was}
 use Rattle.table_entries.specs.declared.entries.Entered.{Entered}
 use Rattle.table_entries.specs.declared.resuming.Resumed.{Resumed}
@@ -77,7 +78,6 @@ pub record Resumes (v w : PortValue) (f i owner pages : ℕ) (t : PageType) (ans
   pub stops : IfErr answer (λ e. Stops v w (of_entries owner pages) e)
   pub kinds : IfErr answer IsEntryStop
   pub shows : IfOk answer (λ a. ShowsResumed v w owner pages a)
-  pub other : ShowsOther v w f t i answer
   pub looks : LooksOnly v w f i
 
 -- and what it leaves in hand
@@ -109,10 +109,12 @@ pub record LeftWaiting (b v : PortValue) (f i owner : ℕ) (t : PageType) (g : �
   pub refers : Serves u x (of_frame g owner None) []
   pub lent : Holds u x (took g owner u.holdings)
   pub referred : TwinGet u x g owner (Ok g)
+  pub gets : Gets u x g owner (Ok g)
   pub types : Serves x v (of_frame g owner (Some want)) []
   pub shows : ShowsWait x v g owner want (Waiting own stamp stop)
   pub waits : WaitsWith x v g owner want own stamp
   pub typed : TwinTake x v g want (Ok (Waiting own stamp stop))
+  pub takes : TakesFound x v g want (Ok (Waiting own stamp stop))
 
 abbrev pub HasWaited : PortValue → ℕ → ℕ → ℕ → PageType → ℕ → PageType → Bool → ℕ → Stop → Type 0
 HasWaited v f i owner t g want own stamp stop = (b : PortValue) × LeftWaiting b v f i owner t g want own stamp stop

@@ -1,4 +1,5 @@
 pub mod Asking
 pub mod Tops
 pub mod Plain
+pub mod Found
 pub mod Between

@@ -8,6 +8,7 @@ ghost use Rattle.frame_types.specs.Taking.{IsOfOther};
 ghost use Rattle.step_maker.specs.Holds.{MayWork};
 ghost use Rattle.table_entries.specs.Asking.{IsEntryStop, LooksOnly, ShowsEntered, of_entries};
 ghost use Rattle.table_entries.specs.Between.{MeetsEntry, FromLook, HandEntered, HasLooked};
+ghost use Rattle.table_entries.specs.Found.{EntersFound};
 ghost use Rattle.table_entries.specs.Plain.{TwinEntry};
 ghost use Rattle.table_entries.specs.Tops.{HoldsWorks, LeavesEntered, LookedAnd, WorksNext, as_it_was};
 
@@ -65,6 +66,8 @@ pub fn take_entry<P: Port>(port: &mut P, at: TableEntry) -> Result<Entered, Stop
     ensures kinds { IfErr result IsEntryStop }
     ensures shows { (pages : ℕ) → IfOk result (λ a. ShowsEntered (P.value port.old) (P.value port.new) at.owner pages a) }
     ensures looks { LooksOnly (P.value port.old) (P.value port.new) at.table at.index }
+    // By the words that the steps found.
+    ensures found { EntersFound (P.value port.old) (P.value port.new) at.table at.index at.kind at.owner result }
     ensures hand { MatchResult result (λ a. LeavesEntered (P.value port.old) (P.value port.new) at.table at.kind at.index at.owner a) (λ _. LookedAnd (P.value port.old) (P.value port.new) at.table at.index as_it_was) }
     // On a board that tells all words.
     ensures plain { TwinEntry (P.value port.old) (P.value port.new) at.table at.kind at.index at.owner result }
@@ -91,6 +94,7 @@ fn take_plain<P: Port>(port: &mut P, at: TableEntry, frame: u64) -> Result<Enter
     requires looked { HasLooked (P.value port.old) at.table at.index at.owner at.kind (Read frame) }
     ensures enters { FromLook (P.value port.old) at.table at.index at.owner at.kind (Read frame) (λ b. (pages : ℕ) → MeetsEntry b (P.value port.new) at.table at.index at.owner pages result) }
     ensures hand { FromLook (P.value port.old) at.table at.index at.owner at.kind (Read frame) (λ b. HandEntered b (P.value port.new) at.table at.index at.owner at.kind result) }
+    ensures found { FromLook (P.value port.old) at.table at.index at.owner at.kind (Read frame) (λ b. EntersFound b (P.value port.new) at.table at.index at.kind at.owner result) }
     ensures plain { FromLook (P.value port.old) at.table at.index at.owner at.kind (Read frame) (λ b. TwinEntry b (P.value port.new) at.table at.kind at.index at.owner result) }
 {
     get_ref(port, frame, at.owner)?;
@@ -109,6 +113,7 @@ fn take_typed<P: Port>(
     requires looked { HasLooked (P.value port.old) at.table at.index at.owner at.kind (Typed frame want) }
     ensures enters { FromLook (P.value port.old) at.table at.index at.owner at.kind (Typed frame want) (λ b. (pages : ℕ) → MeetsEntry b (P.value port.new) at.table at.index at.owner pages result) }
     ensures hand { FromLook (P.value port.old) at.table at.index at.owner at.kind (Typed frame want) (λ b. HandEntered b (P.value port.new) at.table at.index at.owner at.kind result) }
+    ensures found { FromLook (P.value port.old) at.table at.index at.owner at.kind (Typed frame want) (λ b. EntersFound b (P.value port.new) at.table at.index at.kind at.owner result) }
     ensures plain { FromLook (P.value port.old) at.table at.index at.owner at.kind (Typed frame want) (λ b. TwinEntry b (P.value port.new) at.table at.kind at.index at.owner result) }
 {
     let frame = get_ref(port, frame, at.owner)?;

@@ -5,8 +5,9 @@ ghost use Rattle.xp_words.specs.declared.entry.Demand.TheVariants.{Typed};
 ghost use Rattle.answer_fits.specs.Answers.{Serves, Stops, misses};
 ghost use Rattle.frame_types.specs.Taking.{IsOfOther};
 ghost use Rattle.step_maker.specs.Holds.{MayWork};
-ghost use Rattle.table_entries.specs.Asking.{IsEntryStop, LooksOnly, ShowsOther, ShowsResumed, of_entries};
+ghost use Rattle.table_entries.specs.Asking.{IsEntryStop, LooksOnly, ShowsResumed, of_entries};
 ghost use Rattle.table_entries.specs.Between.{FromLooks, HandResumed, HasFoundOther, LooksLive, Resumes};
+ghost use Rattle.table_entries.specs.Found.{ResumesFound};
 ghost use Rattle.table_entries.specs.Plain.{TwinResume};
 ghost use Rattle.table_entries.specs.Tops.{HoldsWorks, LeavesResumed, LookedAnd, WorksAtTop, as_it_was};
 
@@ -57,8 +58,9 @@ pub fn resume_entry<P: Port>(port: &mut P, at: TableEntry) -> Result<Resumed, St
     ensures stops { (pages : ℕ) → IfErr result (λ e. Stops (P.value port.old) (P.value port.new) (of_entries at.owner pages) e) }
     ensures kinds { IfErr result IsEntryStop }
     ensures shows { (pages : ℕ) → IfOk result (λ a. ShowsResumed (P.value port.old) (P.value port.new) at.owner pages a) }
-    ensures other { ShowsOther (P.value port.old) (P.value port.new) at.table at.kind at.index result }
     ensures looks { LooksOnly (P.value port.old) (P.value port.new) at.table at.index }
+    // By the words that the steps found: it is taken again only where its frame was not found live.
+    ensures found { ResumesFound (P.value port.old) (P.value port.new) at.table at.index at.kind at.owner result }
     ensures hand { MatchResult result (λ a. LeavesResumed (P.value port.old) (P.value port.new) at.table at.kind at.index at.owner a) (λ _. LookedAnd (P.value port.old) (P.value port.new) at.table at.index as_it_was) }
     ensures plain { TwinResume (P.value port.old) (P.value port.new) at.table at.kind at.index at.owner result }
 {
@@ -101,6 +103,7 @@ fn take_again<P: Port>(
     requires looked { HasFoundOther (P.value port.old) at.table at.index at.kind (Typed frame want) }
     ensures resumes { FromLooks (P.value port.old) at.table at.index at.kind (Typed frame want) (λ b. (pages : ℕ) → Resumes b (P.value port.new) at.table at.index at.owner pages at.kind result) }
     ensures hand { FromLooks (P.value port.old) at.table at.index at.kind (Typed frame want) (λ b. HandResumed b (P.value port.new) at.table at.index at.owner at.kind result) }
+    ensures found { FromLooks (P.value port.old) at.table at.index at.kind (Typed frame want) (λ b. ResumesFound b (P.value port.new) at.table at.index at.kind at.owner result) }
     ensures plain { FromLooks (P.value port.old) at.table at.index at.kind (Typed frame want) (λ b. TwinResume b (P.value port.new) at.table at.kind at.index at.owner result) }
 {
     let frame = get_ref(port, frame, at.owner)?;

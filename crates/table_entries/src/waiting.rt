@@ -2,6 +2,7 @@
 ghost use Rattle.std.specs.Prelude.{ℕ};
 ghost use Rattle.step_maker.specs.Holds.{MayWork};
 ghost use Rattle.table_entries.specs.Between.{MeetsEntry, FromWait, HandEntered, HasWaited};
+ghost use Rattle.table_entries.specs.Found.{EntersFound};
 ghost use Rattle.table_entries.specs.Plain.{TwinEntry};
 
 use crate::entries::{Entered, TableEntry};
@@ -28,6 +29,7 @@ pub(crate) fn wait_entry<P: Port>(port: &mut P, at: TableEntry, late: Late) -> R
     requires waits { HasWaited (P.value port.old) at.table at.index at.owner at.kind late.frame late.want late.own late.stamp late.stop }
     ensures enters { FromWait (P.value port.old) at.table at.index at.owner at.kind late.frame late.want late.own late.stamp late.stop (λ b. (pages : ℕ) → MeetsEntry b (P.value port.new) at.table at.index at.owner pages result) }
     ensures hand { FromWait (P.value port.old) at.table at.index at.owner at.kind late.frame late.want late.own late.stamp late.stop (λ b. HandEntered b (P.value port.new) at.table at.index at.owner at.kind result) }
+    ensures found { FromWait (P.value port.old) at.table at.index at.owner at.kind late.frame late.want late.own late.stamp late.stop (λ b. EntersFound b (P.value port.new) at.table at.index at.kind at.owner result) }
     ensures plain { FromWait (P.value port.old) at.table at.index at.owner at.kind late.frame late.want late.own late.stamp late.stop (λ b. TwinEntry b (P.value port.new) at.table at.kind at.index at.owner result) }
 {
     if !late.own {
