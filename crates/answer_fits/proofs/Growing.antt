@@ -16,7 +16,7 @@ use Rattle.xp_board.specs.declared.holdings.Holdings.{Holdings}
 use Rattle.xp_board.specs.declared.step.Act.{Act}
 use Rattle.xp_board.specs.declared.step.Act.TheVariants.{Load, Cas, Store, Add, Max}
 use Rattle.answer_fits.specs.Answers.{Causes}
-use Rattle.answer_fits.specs.Asked.{Request, IsAsked, of, back, Within, HasNoMore, NoMore, Passed, checked, given, old, Implies}
+use Rattle.answer_fits.specs.Asked.{Request, IsAsked, of, back, Within, HasNoMore, NoMore, Passed, checked, given, old, stands, Implies}
 use Rattle.answer_fits.specs.Finding.{Finding, FoundAt, FoundWith, Did}
 use Rattle.answer_fits.specs.Licences.{IsNewWord, IsOwnedBy, Licensed, HasTaken}
 use Rattle.answer_fits.specs.Pauses.{PausesFor, Progress, Loses, IsWanted, Clear, idle, flushed, own, barred, AskedTo, entry, live}
@@ -57,6 +57,7 @@ module _ (n : Machine) (s : ℕ) (q : Request) (F : Finding) (t : Request) (G : 
   passed f o h (checked a) = checked a
   passed f o h (given k a b) = given k a b
   passed f o h (old v k x a b c d) = old v k x (w.contexts a) (found _ x b) c d
+  passed f o h (stands u i x e a b c d j) = stands u i x e (w.entries a) (found _ x b) c d j
 
   -- ---- why a word may change
   awaited : (whose : Option ℕ) (stamp : ℕ) → AwaitsStamp n s q F whose stamp → AwaitsStamp n s t G whose stamp

@@ -186,12 +186,13 @@ abbrev pub NoMore : Request → Holdings → Holdings → Type 0
 NoMore r h b = (f : ℕ) → HasNoMore r f h b
 
 -- The checks of the reference word are past: it holds a reference which a step found to be that owner's. What an old word
--- of a context names was checked in an earlier turn.
+-- of a context names was checked in an earlier turn, and what a recorded entry asks when it was recorded.
 pub data Passed (n : Machine) (r : Request) (F : Finding) (f owner : ℕ) (h : Holdings) : Type 0 where
   checked : IsTrue (knows_owner (sizes_of n) f owner h) → Passed n r F f owner h
   -- a typed reference that came out of an entry, a mark or a context word
   given : (k : ℕ) → 0 < typed_to f h.typed → typed_owner f h ≡ owners.Since k → Passed n r F f owner h
   old : (v k w : ℕ) → r.contexts ≡ true → FoundAt F (Vcpu v k) w → IsTrue (is_context k) → IsTrue (is_frame_word f w) → Passed n r F f owner h
+  stands : (t i w : ℕ) (e : Work) → r.entries ≡ true → FoundAt F (Cell t i) w → work_on t h.works ≡ Some e → i < e.recorded → IsDemandOf f None (demand_held t i w h) → Passed n r F f owner h
 
 -- ---- requests within others
 abbrev pub Implies : Bool → Bool → Type 0

@@ -12,7 +12,7 @@ use Rattle.xp_words.specs.Places.{sizes_of}
 use Rattle.xp_board.specs.Told.{PortValue}
 use Rattle.step_maker.specs.Moves.{Moment, Met}
 use Rattle.answer_fits.specs.Answers.{Stops}
-use Rattle.answer_fits.specs.Asked.{Request, of_frame, Asked, named, demanded, entered, walked, context, of_old, Passed, checked, given, old}
+use Rattle.answer_fits.specs.Asked.{Request, of_frame, Asked, named, demanded, entered, walked, context, of_old, Passed, checked, given, old, stands}
 use Rattle.answer_fits.specs.Pauses.{AskedTo, IsElsewhere}
 use Rattle.answer_laws.proofs.Meeting.{none_some}
 
@@ -68,6 +68,7 @@ foreign v w f owner t x off stops = by_case stops
     not_passed h unknown none (checked a) = cc
     not_passed h unknown none (given k a b) = never _ _ a (let z = none in omega (arith, z))
     not_passed h unknown none (old q k y a b c d) = cc
+    not_passed h unknown none (stands u i y e a b c d j) = cc
 
     by_case : Stops v w (of_frame f owner (Some t)) (Refused (OtherType f t x)) → ⊥
     by_case (inl b) =

@@ -19,7 +19,7 @@ use Rattle.xp_board.specs.Told.{Post, PortValue}
 use Rattle.step_maker.specs.Moves.{Moves, Moment, Came, Met}
 use Rattle.step_maker.proofs.Coming.{came_trans, came_post, moves_came, moves_met, moment_of, met_before, met_after}
 use Rattle.answer_fits.specs.Answers.{Deed, Serves, Stops}
-use Rattle.answer_fits.specs.Asked.{Request, Within, Passed, checked, given, old}
+use Rattle.answer_fits.specs.Asked.{Request, Within, Passed, checked, given, old, stands}
 use Rattle.answer_fits.specs.Finding.{Finding}
 use Rattle.answer_fits.specs.Reasons.{AwaitsStamp, marked, other, free, begun, LastAtMost, NeedsFlush, own, awaited, IsFlushedNext, MayFlush, needed, asked}
 use Rattle.answer_fits.proofs.Growing.{found, found_with, asks}
@@ -38,6 +38,7 @@ module _ (n : Machine) (s : ℕ) (r : Request) (F G : Finding) (more : (m : Mome
   passed_more f o h (checked a) = checked a
   passed_more f o h (given k a b) = given k a b
   passed_more f o h (old v k x a b c d) = old v k x a (found n s r F r G same _ x b) c d
+  passed_more f o h (stands u i x e a b c d j) = stands u i x e a (found n s r F r G same _ x b) c d j
 
   pub awaited_more : (whose : Option ℕ) (stamp : ℕ) → AwaitsStamp n s r F whose stamp → AwaitsStamp n s r G whose stamp
   awaited_more whose stamp (marked f x o want h a b c d e i j) = marked f x o want h (same.asked f o (Some want) a) (found_with n s r F r G same _ x h b) (passed_more f o h c) d e i j
