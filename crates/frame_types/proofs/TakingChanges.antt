@@ -1,5 +1,5 @@
 -- What the steps of a type that is taken change, by the words that they found.
-use Rattle.std.proofs.Common.{◌≡◌, ◌≢◌, ℕ, ◌==◌, ◌&&◌, ◌++◌, if◌then◌else◌, Bool, true, false, List, [], ◌∷◌, Some, None, Ok, Err, refl, sym, ap, ◌∙◌, subst, append-nil}
+use Rattle.std.proofs.Common.{◌≡◌, ◌≢◌, ℕ, ◌++◌, if◌then◌else◌, Bool, true, false, List, [], ◌∷◌, Some, None, Ok, Err, refl, sym, ap, ◌∙◌, subst, append-nil}
 use Rattle.xp_words.specs.KindWords.{kind_read, kind_fields, kind_write}
 use Rattle.xp_words.specs.declared.kind.KindWord.{KindWord}
 use Rattle.xp_words.specs.declared.kind.PageType.{PageType}
@@ -15,11 +15,11 @@ use Rattle.xp_board.specs.declared.step.StepKind.TheVariants as kinds
 use Rattle.xp_board.specs.KindSteps.{begun_kind, is_stale, raised_kind, resumed_kind}
 use Rattle.xp_board.specs.Told.{PortValue}
 use Rattle.board_lemmas.proofs.KindForms.{fields_of}
-use Rattle.board_lemmas.proofs.Sums.{when_eq, when_ne}
 use Rattle.step_maker.specs.Moves.{Moves, Came, Met}
-use Rattle.step_maker.proofs.Coming.{came_self, moment_of, moves_met, met_before}
+use Rattle.step_maker.proofs.Coming.{came_self}
 use Rattle.answer_fits.specs.Answers.{Changes}
 use Rattle.answer_fits.specs.Finding.{FoundAt}
+use Rattle.answer_fits.proofs.Changing.{changes_exchange, changes_look, changes_lost, found_before, moves_found}
 use Rattle.answer_fits.proofs.Piecing.{changes_nothing, changes_step, changes_then, changes_came}
 use Rattle.kind_words.specs.Kinds.{live_kind, work_kind}
 use Rattle.frame_words.specs.Freeing.{IsPut, Puts}
@@ -32,24 +32,6 @@ use Rattle.frame_types.specs.Plain.{IsTakenBy, is_own, is_read_first, stop_by, t
 use Rattle.frame_types.specs.Standing.{standing_of}
 use Rattle.frame_types.specs.Taking.{Looked, progress_of}
 
--- ---- one step at a kind word
-pub kind_looked : (v w : PortValue) (f found : ℕ) → Moves v w (Kind f) Load kinds.Look None found → Changes v w []
-kind_looked v w f found step = changes_step v v w [] (Kind f) Load kinds.Look None found (changes_nothing v) step
-
-pub kind_stored : (v w : PortValue) (f new found : ℕ) → Moves v w (Kind f) (Store new) kinds.Kind None found → Changes v w ((Kind f, Store new) ∷ [])
-kind_stored v w f new found step = changes_step v v w [] (Kind f) (Store new) kinds.Kind None found (changes_nothing v) step
-
-module _ (v w : PortValue) (f expected new found : ℕ) (step : Moves v w (Kind f) (Cas expected new) kinds.Kind None found) where
-  exchanged : (won : Bool) → (found == expected) ≡ won → Changes v w (if won then ((Kind f, Cas expected new) ∷ []) else [])
-  exchanged true won = subst (λ b. Changes v w (if b && true then ((Kind f, Cas expected new) ∷ []) else [])) won (changes_step v v w [] (Kind f) (Cas expected new) kinds.Kind None found (changes_nothing v) step)
-  exchanged false lost = subst (λ b. Changes v w (if b && true then ((Kind f, Cas expected new) ∷ []) else [])) lost (changes_step v v w [] (Kind f) (Cas expected new) kinds.Kind None found (changes_nothing v) step)
-
-  pub kind_won : found ≡ expected → Changes v w ((Kind f, Cas expected new) ∷ [])
-  kind_won won = exchanged true (when_eq found expected won)
-
-  pub kind_lost : found ≢ expected → Changes v w []
-  kind_lost lost = exchanged false (when_ne found expected lost)
-
 -- ---- pieces that change nothing, before others
 pub changes_behind : (v u w : PortValue) (cs : List (Place × Act)) → Changes v u [] → Changes u w cs → Changes v w cs
 changes_behind v u w cs before after = subst (Changes v w) (append-nil cs) (changes_then v u w [] cs before after)
@@ -57,7 +39,7 @@ changes_behind v u w cs before after = subst (Changes v w) (append-nil cs) (chan
 -- ---- a frame that came into work goes on
 module _ (v w : PortValue) (f : ℕ) (want : PageType) (marked own : Bool) (recorded : ℕ) where
   stored_as : (l k : KindWord) → l ≡ k → (found : ℕ) → Moves v w (Kind f) (Store (kind_write l)) kinds.Kind None found → Changes v w (stores_kind f k ∷ [])
-  stored_as l k is found step = subst (λ y. Changes v w (stores_kind f y ∷ [])) is (kind_stored v w f (kind_write l) found step)
+  stored_as l k is found step = subst (λ y. Changes v w (stores_kind f y ∷ [])) is (changes_step v v w [] (Kind f) (Store (kind_write l)) kinds.Kind None found (changes_nothing v) step)
 
   pub goes_live : is_read_first want ≡ false → (l : KindWord) → l ≡ live_kind want (if own then 1 else 2) → (found : ℕ) → Moves v w (Kind f) (Store (kind_write l)) kinds.Kind None found → GoesOn v w f want marked own recorded Counted
   goes_live plain l is found step = (plain, stored_as l (live_kind want (if own then 1 else 2)) is found step)
@@ -101,12 +83,10 @@ module _ (b v : PortValue) (f owner : ℕ) (want : PageType) (word : ℕ) (l : L
   of = fields_of word k read
 
   found_there : (w : PortValue) → Came v w → FoundAt (Met b w) (Kind f) word
-  unfolding moment_of
-  found_there w came =
-      record { moment = moment_of b (Kind f) Load kinds.Look None word; was = met_before b v w _ (moves_met b v (Kind f) Load kinds.Look None word l.look) came; place = refl; word = refl }
+  found_there w came = found_before b v w (Kind f) word came (moves_found b v (Kind f) Load kinds.Look None word l.look)
 
   look_alone : Changes b v []
-  look_alone = kind_looked b v f word l.look
+  look_alone = changes_look b b v [] (Kind f) kinds.Look None (changes_nothing b) word l.look
 
   module _ (s : Standing) (stand : standing_of k want ≡ s) where
     standing : standing_of (kind_fields word) want ≡ s
@@ -138,7 +118,7 @@ module _ (b v : PortValue) (f owner : ℕ) (want : PageType) (word : ℕ) (l : L
   won : (w : PortValue) (new : KindWord → KindWord) → Moves v w (Kind f) (Cas (kind_write k) (kind_write (new k))) kinds.Kind None (kind_write k) → Changes v w ((Kind f, Cas word (kind_write (new (kind_fields word)))) ∷ [])
   won w new step =
       subst (λ y. Changes v w ((Kind f, Cas word (kind_write (new y))) ∷ [])) (sym of)
-      (subst (λ y. Changes v w ((Kind f, Cas y (kind_write (new k))) ∷ [])) (sym was) (kind_won v w f (kind_write k) (kind_write (new k)) (kind_write k) step refl))
+      (subst (λ y. Changes v w ((Kind f, Cas y (kind_write (new k))) ∷ [])) (sym was) (changes_exchange v v w [] (Kind f) kinds.Kind None (changes_nothing v) (kind_write k) (kind_write (new k)) (kind_write k) step refl refl))
 
   pub busy_found : standing_of k want ≡ stands.Busy → TakesFound b v f want (Err (Paused (Busy f word)))
   busy_found stand = (stopped stands.Busy stand (Paused (Busy f word)) refl, look_alone)
@@ -148,7 +128,7 @@ module _ (b v : PortValue) (f owner : ℕ) (want : PageType) (word : ℕ) (l : L
 
   pub lost_found : (w : PortValue) (expected new found : ℕ) → Moves v w (Kind f) (Cas expected new) kinds.Kind None found → found ≢ expected → (place at : ℕ) (e : Stop) → e ≡ Paused (Lost place at found) → TakesFound b w f want (Err e)
   lost_found w expected new found step off place at e is =
-      subst (λ y. TakesFound b w f want (Err y)) (sym is) (changes_behind b v w [] look_alone (kind_lost v w f expected new found step off))
+      subst (λ y. TakesFound b w f want (Err y)) (sym is) (changes_lost b v w [] (Kind f) kinds.Kind None look_alone expected new found step off)
 
   pub counted_found : (w : PortValue) → standing_of k want ≡ stands.Counted → Moves v w (Kind f) (Cas (kind_write k) (kind_write (raised_kind k))) kinds.Kind None (kind_write k) → TakesFound b w f want (Ok Counted)
   counted_found w stand step =
