@@ -22,7 +22,7 @@ use Rattle.answer_fits.specs.Finding.{FoundAt}
 use Rattle.answer_fits.proofs.Changing.{changes_exchange, changes_look, changes_lost, found_before, moves_found}
 use Rattle.answer_fits.proofs.Piecing.{changes_nothing, changes_step, changes_then, changes_came}
 use Rattle.kind_words.specs.Kinds.{live_kind, work_kind}
-use Rattle.frame_words.specs.Freeing.{IsPut, Puts}
+use Rattle.frame_words.specs.Freeing.{Puts}
 use Rattle.frame_types.specs.declared.standing.Standing.{Standing}
 use Rattle.frame_types.specs.declared.standing.Standing.TheVariants as stands
 use Rattle.frame_types.specs.declared.taking.Taken.{Taken}
