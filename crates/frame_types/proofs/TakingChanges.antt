@@ -104,7 +104,7 @@ module _ (b v : PortValue) (f owner : ℕ) (want : PageType) (word : ℕ) (l : L
       record {
         word = word;
         found = found_there w (changes_came v w cs changed);
-        «open» = stop_is ∙ none;
+        free = stop_is ∙ none;
         way = subst (λ y. IsTakenBy want (kind_fields word) y t) (sym standing) (subst (λ y. IsTakenBy want y s t) (sym of) way);
         changed = subst (λ y. TakesBy f want word y t cs) (sym standing) takes;
       },

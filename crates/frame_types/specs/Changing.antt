@@ -57,7 +57,7 @@ TakesBy f want x s t cs =
 pub record TakesOf (v w : PortValue) (f : ℕ) (want : PageType) (t : Taken) (cs : List (Place × Act)) : Type 0 where
   pub word : ℕ
   pub found : FoundAt (Met v w) (Kind f) word
-  pub «open» : type_stop f want word ≡ None
+  pub free : type_stop f want word ≡ None
   pub way : IsTakenBy want (kind_fields word) (standing_of (kind_fields word) want) t
   pub changed : TakesBy f want word (standing_of (kind_fields word) want) t cs
 
