@@ -27,7 +27,7 @@ use Rattle.frame_types.specs.declared.standing.Standing.{Standing}
 use Rattle.frame_types.specs.declared.standing.Standing.TheVariants as stands
 use Rattle.frame_types.specs.declared.taking.Taken.{Taken}
 use Rattle.frame_types.specs.declared.taking.Taken.TheVariants.{Counted, InWork, Waiting}
-use Rattle.frame_types.specs.Changing.{GoesOn, IsStopped, IsWayOn, LessMarked, TakesBy, TakesFound, ends_by, ends_on, stores_kind}
+use Rattle.frame_types.specs.Changing.{FinishesAs, IsStopped, IsWayOn, LessMarked, TakesBy, TakesFound, ends_by, ends_on, stores_kind}
 use Rattle.frame_types.specs.Plain.{IsTakenBy, is_own, is_read_first, stop_by, type_stop, waits_by}
 use Rattle.frame_types.specs.Standing.{standing_of}
 use Rattle.frame_types.specs.Taking.{Looked, progress_of}
@@ -41,24 +41,24 @@ module _ (v w : PortValue) (f : ℕ) (want : PageType) (marked own : Bool) (reco
   stored_as : (l k : KindWord) → l ≡ k → (found : ℕ) → Moves v w (Kind f) (Store (kind_write l)) kinds.Kind None found → Changes v w (stores_kind f k ∷ [])
   stored_as l k is found step = subst (λ y. Changes v w (stores_kind f y ∷ [])) is (changes_step v v w [] (Kind f) (Store (kind_write l)) kinds.Kind None found (changes_nothing v) step)
 
-  pub goes_live : is_read_first want ≡ false → (l : KindWord) → l ≡ live_kind want (if own then 1 else 2) → (found : ℕ) → Moves v w (Kind f) (Store (kind_write l)) kinds.Kind None found → GoesOn v w f want marked own recorded Counted
+  pub goes_live : is_read_first want ≡ false → (l : KindWord) → l ≡ live_kind want (if own then 1 else 2) → (found : ℕ) → Moves v w (Kind f) (Store (kind_write l)) kinds.Kind None found → FinishesAs v w f want marked own recorded Counted
   goes_live plain l is found step = (plain, stored_as l (live_kind want (if own then 1 else 2)) is found step)
 
   pub goes_unmarked : is_read_first want ≡ true → (progress : ℕ) → progress ≡ recorded → marked ≡ true → (l : KindWord) → l ≡ work_kind want false 0 → (found : ℕ) → Moves v w (Kind f) (Store (kind_write l)) kinds.Kind None found →
-      GoesOn v w f want marked own recorded (InWork progress own)
+      FinishesAs v w f want marked own recorded (InWork progress own)
   goes_unmarked first progress so on l is found step = (
     (first, refl, so),
     subst (λ m. Changes v w (if m then (stores_kind f (work_kind want false 0) ∷ []) else [])) (sym on) (stored_as l (work_kind want false 0) is found step),
   )
 
-pub goes_as_it_was : (v : PortValue) (f : ℕ) (want : PageType) (marked own : Bool) (recorded : ℕ) → is_read_first want ≡ true → (progress : ℕ) → progress ≡ recorded → marked ≡ false → GoesOn v v f want marked own recorded (InWork progress own)
+pub goes_as_it_was : (v : PortValue) (f : ℕ) (want : PageType) (marked own : Bool) (recorded : ℕ) → is_read_first want ≡ true → (progress : ℕ) → progress ≡ recorded → marked ≡ false → FinishesAs v v f want marked own recorded (InWork progress own)
 goes_as_it_was v f want marked own recorded first progress so off = (
   (first, refl, so),
   subst (λ m. Changes v v (if m then (stores_kind f (work_kind want false 0) ∷ []) else [])) (sym off) (changes_nothing v),
 )
 
 -- behind its flush, or where it waits
-pub goes_behind : (v u w : PortValue) (f : ℕ) (want : PageType) (marked own : Bool) (recorded : ℕ) (t : Taken) → Changes v u [] → GoesOn u w f want marked own recorded t → GoesOn v w f want marked own recorded t
+pub goes_behind : (v u w : PortValue) (f : ℕ) (want : PageType) (marked own : Bool) (recorded : ℕ) (t : Taken) → Changes v u [] → FinishesAs u w f want marked own recorded t → FinishesAs v w f want marked own recorded t
 goes_behind v u w f want marked own recorded t flushed goes = (goes.0, changes_behind v u w (ends_on f want marked own t) flushed goes.1)
 
 -- ---- which way the call goes, and how it ends, by how the frame stood
@@ -135,7 +135,7 @@ module _ (b v : PortValue) (f owner : ℕ) (want : PageType) (word : ℕ) (l : L
       taken stands.Counted stand w Counted ((Kind f, Cas word (kind_write (raised_kind (kind_fields word)))) ∷ []) refl refl refl (won w (λ y. raised_kind y) step)
 
   pub dead_found : (x w : PortValue) (t : Taken) → standing_of k want ≡ stands.Dead → Moves v x (Kind f) (Cas (kind_write k) (kind_write (begun_kind k want))) kinds.Kind None (kind_write k) →
-      GoesOn x w f want (is_stale k want) true (progress_of k) t → TakesFound b w f want (Ok t)
+      FinishesAs x w f want (is_stale k want) true (progress_of k) t → TakesFound b w f want (Ok t)
   dead_found x w t stand step goes =
       let cas = (Kind f, Cas word (kind_write (begun_kind (kind_fields word) want))) ∷ [] in
       let ends = ends_by f want (kind_fields word) stands.Dead t in
@@ -144,17 +144,17 @@ module _ (b v : PortValue) (f owner : ℕ) (want : PageType) (word : ℕ) (l : L
 
   module _ (x : PortValue) (stand : standing_of k want ≡ stands.Partial) (step : Moves v x (Kind f) (Cas (kind_write k) (kind_write (resumed_kind k))) kinds.Kind None (kind_write k)) where
     -- behind the reference that was given back, if one was
-    resumed_found : (y w : PortValue) (t : Taken) (own : Bool) → k.kept ≡ own → (ps : List (Place × Act)) → LessMarked own f ps → Changes x y ps → GoesOn y w f want k.unflushed own (progress_of k) t → TakesFound b w f want (Ok t)
+    resumed_found : (y w : PortValue) (t : Taken) (own : Bool) → k.kept ≡ own → (ps : List (Place × Act)) → LessMarked own f ps → Changes x y ps → FinishesAs y w f want k.unflushed own (progress_of k) t → TakesFound b w f want (Ok t)
     resumed_found y w t own kept ps less puts goes =
         let cas = (Kind f, Cas word (kind_write (resumed_kind (kind_fields word)))) ∷ [] in
         let ends = ends_by f want (kind_fields word) stands.Partial t in
-        let on : GoesOn y w f want k.unflushed k.kept (progress_of k) t = subst (λ o. GoesOn y w f want k.unflushed o (progress_of k) t) (sym kept) goes in
+        let on : FinishesAs y w f want k.unflushed k.kept (progress_of k) t = subst (λ o. FinishesAs y w f want k.unflushed o (progress_of k) t) (sym kept) goes in
         taken stands.Partial stand w t (ends ++ (ps ++ cas)) refl (partial_way want k t on.0)
         (ps, subst (λ o. LessMarked o f ps) (sym kept ∙ ap (λ (y : KindWord). y.kept) (sym of)) less, refl)
         (changes_then v y w (ps ++ cas) ends (changes_then v x y cas ps (won x (λ y. resumed_kind y) step) puts) (subst (Changes y w) (ends_are stands.Partial stand t) on.1))
 
-    pub unkept_found : (w : PortValue) (t : Taken) → k.kept ≡ false → GoesOn x w f want k.unflushed false (progress_of k) t → TakesFound b w f want (Ok t)
+    pub unkept_found : (w : PortValue) (t : Taken) → k.kept ≡ false → FinishesAs x w f want k.unflushed false (progress_of k) t → TakesFound b w f want (Ok t)
     unkept_found w t unkept goes = resumed_found x w t false unkept [] refl (changes_nothing x) goes
 
-    pub kept_found : (y w : PortValue) (t : Taken) → k.kept ≡ true → Puts x y f → GoesOn y w f want k.unflushed true (progress_of k) t → TakesFound b w f want (Ok t)
+    pub kept_found : (y w : PortValue) (t : Taken) → k.kept ≡ true → Puts x y f → FinishesAs y w f want k.unflushed true (progress_of k) t → TakesFound b w f want (Ok t)
     kept_found y w t kept puts goes = resumed_found y w t true kept puts.list puts.put puts.changed goes

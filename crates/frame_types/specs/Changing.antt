@@ -84,8 +84,8 @@ ends_on f want marked own Counted = stores_kind f (live_kind want (if own then 1
 ends_on f want marked own (InWork progress mine) = if marked then (stores_kind f (work_kind want false 0) ∷ []) else []
 ends_on f want marked own (Waiting mine stamp stop) = []
 
-abbrev pub GoesOn : PortValue → PortValue → ℕ → PageType → Bool → Bool → ℕ → Taken → Type 0
-GoesOn v w f want marked own recorded t = IsWayOn want marked own recorded t × Changes v w (ends_on f want marked own t)
+abbrev pub FinishesAs : PortValue → PortValue → ℕ → PageType → Bool → Bool → ℕ → Taken → Type 0
+FinishesAs v w f want marked own recorded t = IsWayOn want marked own recorded t × Changes v w (ends_on f want marked own t)
 
 -- ---- a frame that waits is left
 -- partial as another holder left it, and the reference given back
