@@ -1,5 +1,5 @@
 -- What taking a frame as ordinary memory finds and changes, over its pieces.
-use Rattle.std.proofs.Common.{ℕ, Bool, true, false, List, [], ◌++◌, Ok, Err, subst, append-nil}
+use Rattle.std.proofs.Common.{ℕ, Bool, true, false, List, [], Ok, Err}
 use Rattle.xp_words.specs.declared.kind.PageType.{PageType}
 use Rattle.xp_words.specs.declared.kind.PageType.TheVariants.{Writable}
 use Rattle.xp_words.specs.declared.place.Place.{Place}
@@ -21,6 +21,7 @@ use Rattle.frame_types.specs.Plain.{is_refused}
 use Rattle.frame_types.specs.declared.taking.Taken.{Taken}
 use Rattle.frame_types.specs.declared.taking.Taken.TheVariants.{Waiting}
 use Rattle.frame_types.proofs.GivenUp.{no_clock, no_flush}
+use Rattle.frame_types.proofs.TakingChanges.{changes_behind}
 
 -- ---- what was found, in a longer piece
 module _ (v u w : PortValue) (f : ℕ) (want : PageType) where
@@ -59,16 +60,16 @@ module _ (v u w : PortValue) (f : ℕ) where
   memory_waits_found own stamp (Refused _) wait taken up = absurd wait
   memory_waits_found own stamp (Paused _) wait taken up = absurd wait
 
-  given_back : Changes v u [] → Puts u w f → GivenBack v w f
-  given_back same back = (back.list, back.put, subst (λ cs. Changes v w cs) (append-nil back.list) (changes_then v u w [] back.list same back.changed))
+  back_found : Changes v u [] → Puts u w f → GivenBack v w f
+  back_found same back = (back.list, back.put, changes_behind v u w back.list same back.changed)
 
   not_taken : (e : Stop) → IsStopped v u f Writable e → Changes v u [] → Puts u w f → IsStopped v w f Writable e × GivenBack v w f
-  not_taken e stopped same back = (stopped_longer v u w f Writable e (changes_came u w back.list back.changed) stopped, given_back same back)
+  not_taken e stopped same back = (stopped_longer v u w f Writable e (changes_came u w back.list back.changed) stopped, back_found same back)
 
   -- it is not to be had, and the reference given back
   pub memory_stops_found : (e : Stop) → TakesFound v u f Writable (Err e) → Puts u w f → MemoryFound v w f (Err e)
   memory_stops_found (Refused (refusals.Clock x)) a back = absurd (no_clock f a.0.word x _ a.0.stops)
   memory_stops_found (Paused (pauses.Flush t s x)) a back = absurd (no_flush f a.0.word t s x _ a.0.stops)
-  memory_stops_found (Paused (pauses.Lost place expected found)) a back = given_back a back
+  memory_stops_found (Paused (pauses.Lost place expected found)) a back = back_found a back
   memory_stops_found (Refused _) a back = not_taken _ a.0 a.1 back
   memory_stops_found (Paused _) a back = not_taken _ a.0 a.1 back
