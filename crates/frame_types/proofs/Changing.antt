@@ -1,13 +1,11 @@
 -- What the calls change that leave a frame or give a type of it back.
-use Rattle.std.proofs.Common.{◌≡◌, ℕ, ◌==◌, Bool, true, false, List, [], ◌∷◌, ◌++◌, Some, None, Ok, Err, refl, sym, subst}
+use Rattle.std.proofs.Common.{◌≡◌, ℕ, ◌==◌, Bool, true, false, List, [], ◌∷◌, ◌++◌, None, refl, sym, subst}
 use Rattle.xp_words.specs.KindWords.{kind_fields, kind_write}
 use Rattle.xp_words.specs.declared.kind.KindWord.{KindWord}
 use Rattle.xp_words.specs.declared.kind.PageType.{PageType}
 use Rattle.xp_words.specs.declared.kind.PageType.TheVariants.{Writable}
 use Rattle.xp_words.specs.declared.place.Place.{Place}
 use Rattle.xp_words.specs.declared.place.Place.TheVariants.{Clock, Kind}
-use Rattle.xp_words.specs.declared.reply.Pause.TheVariants as pauses
-use Rattle.xp_words.specs.declared.reply.Refusal.TheVariants as refusals
 use Rattle.xp_words.specs.declared.reply.Stop.{Stop}
 use Rattle.xp_words.specs.declared.reply.Stop.TheVariants.{Refused, Paused}
 use Rattle.xp_board.specs.declared.step.Act.{Act}
@@ -21,10 +19,9 @@ use Rattle.answer_fits.specs.Answers.{Changes}
 use Rattle.answer_fits.specs.Finding.{FoundAt}
 use Rattle.answer_fits.proofs.Changing.{changes_look, found_after, found_before, moves_found}
 use Rattle.answer_fits.proofs.Piecing.{changes_came, changes_nothing, changes_step, changes_then}
-use Rattle.frame_words.specs.Freeing.{IsPut, Puts}
+use Rattle.frame_words.specs.Freeing.{Puts}
 use Rattle.kind_words.specs.Kinds.{dead_kind, partial_kind}
-use Rattle.frame_types.specs.Changing.{DeadBy, DropsPlain, GivenUp, LeavesDead, LeavesShared, LeavesUnsettled, LowersBy, stores_kind}
-use Rattle.frame_types.specs.Plain.{is_refused}
+use Rattle.frame_types.specs.Changing.{DropsPlain, GivenUp, LeavesDead, LeavesShared, LeavesUnsettled, LowersBy, stores_kind}
 
 -- a kind word is left
 pub stored_changes : (u v d : PortValue) (cs : List (Place × Act)) (f x : ℕ) (k : KindWord) → Changes u v cs → Moves v d (Kind f) (Store (kind_write k)) kinds.Kind None x → Changes u d (stores_kind f k ∷ cs)
