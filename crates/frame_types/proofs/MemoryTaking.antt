@@ -26,7 +26,7 @@ use Rattle.frame_types.proofs.TakingChanges.{changes_behind}
 -- ---- what was found, in a longer piece
 module _ (v u w : PortValue) (f : ℕ) (want : PageType) where
   pub takes_longer : (t : Taken) (cs : List (Place × Act)) → Came u w → TakesOf v u f want t cs → TakesOf v w f want t cs
-  takes_longer t cs after a = record { word = a.word; found = found_before v u w (Kind f) a.word after a.found; «open» = a.«open»; way = a.way; changed = a.changed }
+  takes_longer t cs after a = record { word = a.word; found = found_before v u w (Kind f) a.word after a.found; free = a.free; way = a.way; changed = a.changed }
 
   pub stopped_longer : (e : Stop) → Came u w → IsStopped v u f want e → IsStopped v w f want e
   stopped_longer e after a = record { word = a.word; found = found_before v u w (Kind f) a.word after a.found; stops = a.stops }
