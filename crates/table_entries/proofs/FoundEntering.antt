@@ -2,6 +2,7 @@
 use Rattle.std.proofs.Common.{◌≡◌, ℕ, List, [], ◌∷◌, ◌++◌, Bool, None, Result, Ok, Err, refl, sym, subst}
 use Rattle.xp_words.specs.Entries.{demand_at}
 use Rattle.xp_words.specs.declared.entry.Demand.{Demand}
+use Rattle.xp_words.specs.declared.entry.Demand.TheVariants.{Typed}
 use Rattle.xp_words.specs.declared.kind.PageType.{PageType}
 use Rattle.xp_words.specs.declared.place.Place.{Place}
 use Rattle.xp_words.specs.declared.place.Place.TheVariants.{Cell, Refs}
@@ -14,7 +15,7 @@ use Rattle.xp_board.specs.declared.step.Act.TheVariants.{Cas, Load}
 use Rattle.xp_board.specs.declared.step.StepKind.TheVariants as kinds
 use Rattle.xp_board.specs.Told.{PortValue}
 use Rattle.step_maker.specs.Moves.{Came, Met}
-use Rattle.step_maker.proofs.Coming.{came_self}
+use Rattle.step_maker.proofs.Coming.{came_self, came_trans}
 use Rattle.answer_fits.specs.Answers.{Changes}
 use Rattle.answer_fits.specs.Finding.{FoundAt}
 use Rattle.answer_fits.proofs.Piecing.{changes_came, changes_nothing, changes_then}
@@ -27,7 +28,7 @@ use Rattle.frame_types.specs.declared.taking.Taken.TheVariants as types
 use Rattle.table_entries.specs.Between.{SeesEntry}
 use Rattle.table_entries.specs.Found.{EntersBy, EntersFound, PutBack, ReadFound, TakenFound, TypeAsked, TypedAgain, TypedFound, had, lost, refused}
 use Rattle.table_entries.specs.declared.entries.Entered.{Entered}
-use Rattle.table_entries.specs.declared.entries.Entered.TheVariants.{Recorded, Opened}
+use Rattle.table_entries.specs.declared.entries.Entered.TheVariants.{Recorded}
 use Rattle.table_entries.proofs.FoundWider.{found_wider, load_changes, referred_wider, step_found, stopped_wider, takes_wider, unreferred_wider}
 use Rattle.table_entries.proofs.TwinsTyped.{not_awaited}
 
@@ -102,3 +103,19 @@ module _ (b x : PortValue) (g : ℕ) (t : PageType) (gs : List (Place × Act)) (
     again_stopped_found (Paused (pauses.Lost place expected word)) a = put_back a
     again_stopped_found (Refused r) a = stopped_back (Refused r) a
     again_stopped_found (Paused r) a = stopped_back (Paused r) a
+
+-- ---- an entry that asks a type, behind its reference
+module _ (b v : PortValue) (f i : ℕ) (t : PageType) (word : ℕ) (looks : SeesEntry b v f i t word) (owner g : ℕ) (want : PageType) (asks : demand_at t i word ≡ Typed g want) (x : PortValue) (k : ℕ) (got : Gets {A = ℕ} v x g owner (Ok k)) where
+  pub enters_had : (w : PortValue) (answer : Result Entered Stop) → Came x w → ((gs : List (Place × Act)) → Changes b x gs → TypedFound b w g want answer gs) → EntersFound b w f i t owner answer
+  enters_had w answer came way =
+      enters_by b v f i t word looks owner (Typed g want) asks w answer (came_trans v x w (changes_came v x ((Refs g, Cas got.0 got.1) ∷ []) got.3) came)
+      (asked_had b v x g owner (looked_changes b v f i t word looks) k got w (λ gs. TypedFound b w g want answer gs) answer came way)
+
+  -- the type was taken that way
+  pub enters_taken : (y w : PortValue) (way : Taken) → TakesFound x y g want (Ok way) → Changes y w [] → (answer : Result Entered Stop) → ((gs : List (Place × Act)) → TakenFound b w g want way gs → TypedFound b w g want answer gs) →
+      EntersFound b w f i t owner answer
+  enters_taken y w way takes after answer by =
+      enters_had w answer (came_trans x y w (changes_came x y takes.0 takes.2) (changes_came y w [] after)) (λ gs before. by gs (taken_found b x g want gs before y w way takes after))
+
+  pub enters_stopped : (y z : PortValue) (e : Stop) → Came x y → TakesFound x y g want (Err e) → Puts y z g → EntersFound b z f i t owner (Err e)
+  enters_stopped y z e came stops puts = enters_had z (Err e) (came_trans x y z came (changes_came y z puts.list puts.changed)) (λ gs before. typed_stopped b x g want gs before y z puts e stops)
