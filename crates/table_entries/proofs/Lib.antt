@@ -21,3 +21,5 @@ pub mod TwinsWaiting
 pub mod TwinsLeft
 pub mod FoundWider
 pub mod FoundEntering
+pub mod FoundWaiting
+pub mod FoundResuming
