@@ -1,5 +1,5 @@
 -- The next entry by the words found: what is answered and changed, by what became of it.
-use Rattle.std.proofs.Common.{◌≡◌, ℕ, List, [], ◌∷◌, ◌++◌, Bool, None, Result, Ok, Err, refl, sym, subst}
+use Rattle.std.proofs.Common.{◌≡◌, ℕ, List, [], ◌∷◌, ◌++◌, None, Result, Ok, Err, refl, sym, subst}
 use Rattle.xp_words.specs.Entries.{demand_at}
 use Rattle.xp_words.specs.declared.entry.Demand.{Demand}
 use Rattle.xp_words.specs.declared.entry.Demand.TheVariants.{Typed}
@@ -19,12 +19,10 @@ use Rattle.step_maker.proofs.Coming.{came_self, came_trans}
 use Rattle.answer_fits.specs.Answers.{Changes}
 use Rattle.answer_fits.specs.Finding.{FoundAt}
 use Rattle.answer_fits.proofs.Piecing.{changes_came, changes_nothing, changes_then}
-use Rattle.flush_waits.specs.Waiting.{IsWait}
 use Rattle.frame_words.specs.Freeing.{Puts}
 use Rattle.frame_words.specs.Refs.{Gets, IsRefStop}
 use Rattle.frame_types.specs.Changing.{IsStopped, TakesFound}
 use Rattle.frame_types.specs.declared.taking.Taken.{Taken}
-use Rattle.frame_types.specs.declared.taking.Taken.TheVariants as types
 use Rattle.table_entries.specs.Between.{SeesEntry}
 use Rattle.table_entries.specs.Found.{EntersBy, EntersFound, PutBack, ReadFound, TakenFound, TypeAsked, TypedAgain, TypedFound, had, lost, refused}
 use Rattle.table_entries.specs.declared.entries.Entered.{Entered}

@@ -1,5 +1,5 @@
 -- The next entry asks a frame that waits for a flush which is not to be had: what is changed, by the words found.
-use Rattle.std.proofs.Common.{◌≡◌, ℕ, List, [], ◌∷◌, ◌++◌, Bool, true, false, None, Ok, Err, Result, sym, subst}
+use Rattle.std.proofs.Common.{◌≡◌, ℕ, List, [], ◌∷◌, ◌++◌, Bool, true, false, Result, Ok, Err, subst}
 use Rattle.xp_words.specs.PageTypes.{is_table}
 use Rattle.xp_words.specs.declared.kind.PageType.{PageType}
 use Rattle.xp_words.specs.declared.place.Place.{Place}
@@ -19,7 +19,7 @@ use Rattle.frame_types.specs.Changing.{DeadBy, LeavesDead, LeavesShared, LeavesU
 use Rattle.frame_types.specs.Plain.{is_read_first, is_refused}
 use Rattle.frame_types.specs.declared.taking.Taken.TheVariants.{Waiting}
 use Rattle.table_entries.specs.Between.{LeftWaiting}
-use Rattle.table_entries.specs.Found.{EntersFound, LeftBy, TypedFound, UnsettledFound, WaitFound}
+use Rattle.table_entries.specs.Found.{EntersFound, LeftBy, TypedFound, WaitFound}
 use Rattle.table_entries.specs.declared.entries.Entered.{Entered}
 use Rattle.table_entries.specs.declared.entries.Entered.TheVariants.{Unsettled}
 use Rattle.table_entries.proofs.FoundEntering.{enters_had}

@@ -10,7 +10,7 @@ use Rattle.xp_board.specs.declared.step.Act.TheVariants.{Load}
 use Rattle.xp_board.specs.declared.step.Mark.{Mark}
 use Rattle.xp_board.specs.Told.{Post, PortValue}
 use Rattle.step_maker.specs.Moves.{Came, Met, Moves}
-use Rattle.step_maker.proofs.Coming.{came_post, came_self, met_after, met_before, moment_of, moves_met}
+use Rattle.step_maker.proofs.Coming.{came_post, met_after, met_before, moment_of, moves_met}
 use Rattle.answer_fits.specs.Answers.{Changes}
 use Rattle.answer_fits.specs.Finding.{FoundAt}
 use Rattle.answer_fits.proofs.Piecing.{changes_step}
