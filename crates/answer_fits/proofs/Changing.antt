@@ -1,5 +1,5 @@
 -- What single steps found, and what they change.
-use Rattle.std.proofs.Common.{◌≡◌, ◌≢◌, ℕ, ◌&&◌, not, if◌then◌else◌, true, false, List, ◌∷◌, Option, refl, subst}
+use Rattle.std.proofs.Common.{◌≡◌, ◌≢◌, ℕ, ◌&&◌, not, if◌then◌else◌, true, false, List, [], ◌∷◌, Option, refl, subst, append-nil}
 use Rattle.xp_words.specs.declared.place.Place.{Place}
 use Rattle.xp_board.specs.declared.step.Act.{Act}
 use Rattle.xp_board.specs.declared.step.Act.TheVariants.{Load, Cas}
@@ -11,7 +11,7 @@ use Rattle.step_maker.specs.Moves.{Moves, Came, Met}
 use Rattle.step_maker.proofs.Coming.{moment_of, moves_met, met_before, met_after}
 use Rattle.answer_fits.specs.Answers.{Changes, is_change, is_flush_word}
 use Rattle.answer_fits.specs.Finding.{FoundAt, Did}
-use Rattle.answer_fits.proofs.Piecing.{changes_step}
+use Rattle.answer_fits.proofs.Piecing.{changes_step, changes_then}
 
 -- ---- what was found
 module _ (v w : PortValue) (p : Place) (a : Act) (k : StepKind) (mark : Option Mark) (x : ℕ) (m : Moves v w p a k mark x) where
@@ -29,7 +29,15 @@ found_before v u w p x came a = record { moment = a.moment; was = met_before v u
 pub found_after : (v u w : PortValue) (p : Place) (x : ℕ) → Came v u → FoundAt (Met u w) p x → FoundAt (Met v w) p x
 found_after v u w p x came a = record { moment = a.moment; was = met_after v u w a.moment came a.was; place = a.place; word = a.word }
 
+-- by a piece within others
+pub found_wider : (v a x w : PortValue) → Came v a → Came x w → (p : Place) (word : ℕ) → FoundAt (Met a x) p word → FoundAt (Met v w) p word
+found_wider v a x w before after p word found = found_before v x w p word after (found_after v a x p word before found)
+
 -- ---- what is changed
+-- a piece behind one that changes nothing
+pub changes_behind : (v u w : PortValue) (cs : List (Place × Act)) → Changes v u [] → Changes u w cs → Changes v w cs
+changes_behind v u w cs before after = subst (Changes v w) (append-nil cs) (changes_then v u w [] cs before after)
+
 module _ (v u w : PortValue) (cs : List (Place × Act)) (p : Place) (kind : StepKind) (mark : Option Mark) (before : Changes v u cs) where
   -- a look
   pub changes_look : (found : ℕ) → Moves u w p Load kind mark found → Changes v w cs

@@ -11,8 +11,9 @@ use Rattle.xp_words.specs.declared.reply.Stop.TheVariants.{Refused, Paused}
 use Rattle.xp_board.specs.declared.step.Act.{Act}
 use Rattle.xp_board.specs.Told.{PortValue}
 use Rattle.step_maker.specs.Moves.{Came}
+use Rattle.step_maker.proofs.Coming.{came_self}
 use Rattle.answer_fits.specs.Answers.{Changes}
-use Rattle.answer_fits.proofs.Changing.{found_after, found_before}
+use Rattle.answer_fits.proofs.Changing.{changes_behind}
 use Rattle.answer_fits.proofs.Piecing.{changes_came, changes_then}
 use Rattle.flush_waits.specs.Waiting.{IsWait}
 use Rattle.frame_words.specs.Freeing.{Puts}
@@ -21,23 +22,12 @@ use Rattle.frame_types.specs.Plain.{is_refused}
 use Rattle.frame_types.specs.declared.taking.Taken.{Taken}
 use Rattle.frame_types.specs.declared.taking.Taken.TheVariants.{Waiting}
 use Rattle.frame_types.proofs.GivenUp.{no_clock, no_flush}
-use Rattle.frame_types.proofs.TakingChanges.{changes_behind}
-
--- ---- what was found, in a longer piece
-module _ (v u w : PortValue) (f : ℕ) (want : PageType) where
-  pub takes_longer : (t : Taken) (cs : List (Place × Act)) → Came u w → TakesOf v u f want t cs → TakesOf v w f want t cs
-  takes_longer t cs after a = record { word = a.word; found = found_before v u w (Kind f) a.word after a.found; free = a.free; way = a.way; changed = a.changed }
-
-  pub stopped_longer : (e : Stop) → Came u w → IsStopped v u f want e → IsStopped v w f want e
-  stopped_longer e after a = record { word = a.word; found = found_before v u w (Kind f) a.word after a.found; stops = a.stops }
-
-  pub dead_longer : (cs : List (Place × Act)) → Came v u → DeadBy u w f want cs → DeadBy v w f want cs
-  dead_longer cs before a = record { clock = a.clock; found = found_after v u w Clock a.clock before a.found; back = a.back; put = a.put; list = a.list }
+use Rattle.frame_types.proofs.Wider.{dead_wider, stopped_wider, takes_wider}
 
 -- ---- the pieces
 module _ (v u w : PortValue) (f : ℕ) where
   up_longer : (own refused : Bool) (stamp : ℕ) (cs : List (Place × Act)) → Came v u → GivenUpBy u w f own refused stamp cs → GivenUpBy v w f own refused stamp cs
-  up_longer true true stamp cs before a = dead_longer v u w f Writable cs before a
+  up_longer true true stamp cs before a = dead_wider v u w w before (came_self w) f Writable cs a
   up_longer true false stamp cs before a = a
   up_longer false refused stamp cs before a = a
 
@@ -47,7 +37,7 @@ module _ (v u w : PortValue) (f : ℕ) where
         own = own;
         stamp = stamp;
         taking = taken.0;
-        takes = takes_longer v u w f Writable (Waiting own stamp stop) taken.0 (changes_came u w up.0 up.2) taken.1;
+        takes = takes_wider v v u w (came_self v) (changes_came u w up.0 up.2) f Writable (Waiting own stamp stop) taken.0 taken.1;
         leaving = up.0;
         left = up_longer own (is_refused stop) stamp up.0 (changes_came v u taken.0 taken.2) up.1;
         changed = changes_then v u w taken.0 up.0 taken.2 up.2;
@@ -64,7 +54,7 @@ module _ (v u w : PortValue) (f : ℕ) where
   back_found same back = (back.list, back.put, changes_behind v u w back.list same back.changed)
 
   not_taken : (e : Stop) → IsStopped v u f Writable e → Changes v u [] → Puts u w f → IsStopped v w f Writable e × GivenBack v w f
-  not_taken e stopped same back = (stopped_longer v u w f Writable e (changes_came u w back.list back.changed) stopped, back_found same back)
+  not_taken e stopped same back = (stopped_wider v v u w (came_self v) (changes_came u w back.list back.changed) f Writable e stopped, back_found same back)
 
   -- it is not to be had, and the reference given back
   pub memory_stops_found : (e : Stop) → TakesFound v u f Writable (Err e) → Puts u w f → MemoryFound v w f (Err e)

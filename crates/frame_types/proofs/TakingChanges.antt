@@ -19,7 +19,7 @@ use Rattle.step_maker.specs.Moves.{Moves, Came, Met}
 use Rattle.step_maker.proofs.Coming.{came_self}
 use Rattle.answer_fits.specs.Answers.{Changes}
 use Rattle.answer_fits.specs.Finding.{FoundAt}
-use Rattle.answer_fits.proofs.Changing.{changes_exchange, changes_look, changes_lost, found_before, moves_found}
+use Rattle.answer_fits.proofs.Changing.{changes_behind, changes_exchange, changes_look, changes_lost, found_before, moves_found}
 use Rattle.answer_fits.proofs.Piecing.{changes_nothing, changes_step, changes_then, changes_came}
 use Rattle.kind_words.specs.Kinds.{live_kind, work_kind}
 use Rattle.frame_words.specs.Freeing.{Puts}
@@ -27,19 +27,16 @@ use Rattle.frame_types.specs.declared.standing.Standing.{Standing}
 use Rattle.frame_types.specs.declared.standing.Standing.TheVariants as stands
 use Rattle.frame_types.specs.declared.taking.Taken.{Taken}
 use Rattle.frame_types.specs.declared.taking.Taken.TheVariants.{Counted, InWork, Waiting}
+use Rattle.frame_types.proofs.Changing.{stored_changes}
 use Rattle.frame_types.specs.Changing.{FinishesAs, IsStopped, IsWayOn, LessMarked, TakesBy, TakesFound, ends_by, ends_on, stores_kind}
 use Rattle.frame_types.specs.Plain.{IsTakenBy, is_own, is_read_first, stop_by, type_stop, waits_by}
 use Rattle.frame_types.specs.Standing.{standing_of}
 use Rattle.frame_types.specs.Taking.{Looked, progress_of}
 
--- ---- pieces that change nothing, before others
-pub changes_behind : (v u w : PortValue) (cs : List (Place × Act)) → Changes v u [] → Changes u w cs → Changes v w cs
-changes_behind v u w cs before after = subst (Changes v w) (append-nil cs) (changes_then v u w [] cs before after)
-
 -- ---- a frame that came into work goes on
 module _ (v w : PortValue) (f : ℕ) (want : PageType) (marked own : Bool) (recorded : ℕ) where
   stored_as : (l k : KindWord) → l ≡ k → (found : ℕ) → Moves v w (Kind f) (Store (kind_write l)) kinds.Kind None found → Changes v w (stores_kind f k ∷ [])
-  stored_as l k is found step = subst (λ y. Changes v w (stores_kind f y ∷ [])) is (changes_step v v w [] (Kind f) (Store (kind_write l)) kinds.Kind None found (changes_nothing v) step)
+  stored_as l k is found step = subst (λ y. Changes v w (stores_kind f y ∷ [])) is (stored_changes v v w [] f found l (changes_nothing v) step)
 
   pub goes_live : is_read_first want ≡ false → (l : KindWord) → l ≡ live_kind want (if own then 1 else 2) → (found : ℕ) → Moves v w (Kind f) (Store (kind_write l)) kinds.Kind None found → FinishesAs v w f want marked own recorded Counted
   goes_live plain l is found step = (plain, stored_as l (live_kind want (if own then 1 else 2)) is found step)

@@ -1,5 +1,5 @@
 -- What taking a reference changes, by the word that the look found.
-use Rattle.std.proofs.Common.{◌≡◌, ◌≢◌, ℕ, ◌<◌, ◌≤◌, if◌then◌else◌, [], ◌∷◌, Some, None, Ok, Err, arith, refl, ap, ◌∙◌, subst}
+use Rattle.std.proofs.Common.{◌≡◌, ◌≢◌, ℕ, ◌<◌, ◌≤◌, if◌then◌else◌, [], ◌∷◌, Some, None, Ok, Err, arith, refl, sym, ap, ◌∙◌, subst}
 use Rattle.xp_words.specs.declared.place.Place.TheVariants.{Refs}
 use Rattle.xp_words.specs.RefWords.{ref_read}
 use Rattle.xp_words.specs.declared.refs.RefWord.TheVariants.{Owned}
@@ -9,15 +9,15 @@ use Rattle.xp_words.specs.declared.reply.Refusal.TheVariants.{NoFrame}
 use Rattle.xp_words.specs.declared.reply.Stop.TheVariants.{Refused, Paused}
 use Rattle.xp_board.specs.declared.step.Act.TheVariants.{Load, Cas}
 use Rattle.xp_board.specs.declared.step.StepKind.TheVariants as kinds
-use Rattle.xp_board.specs.Told.{PortValue}
-use Rattle.step_maker.specs.Moves.{Moves}
-use Rattle.step_maker.proofs.Coming.{moves_came}
+use Rattle.xp_board.specs.Told.{Post, PortValue}
+use Rattle.step_maker.specs.Moves.{Came, Moves}
+use Rattle.step_maker.proofs.Coming.{came_post, moves_came}
 use Rattle.answer_fits.specs.Answers.{Changes}
 use Rattle.answer_fits.proofs.Piecing.{changes_nothing}
-use Rattle.answer_fits.proofs.Changing.{moves_found, found_before, changes_look, changes_lost, changes_exchange}
+use Rattle.answer_fits.proofs.Changing.{moves_found, found_before, found_wider, changes_look, changes_lost, changes_exchange}
 use Rattle.frame_words.specs.declared.rows.Open.{Open}
 use Rattle.frame_words.specs.Plain.{refer, refer_by}
-use Rattle.frame_words.specs.Refs.{open_word, raised_word, RefusesWord, Gets}
+use Rattle.frame_words.specs.Refs.{open_word, raised_word, RefusesWord, Gets, IsReferred, IsUnreferred}
 use Rattle.frame_words.proofs.Twinning.{inside, outside, refused_by, refer_none}
 
 pub gets_no_frame : (v : PortValue) (f owner : ℕ) → v.post.machine.frames ≤ f → Gets {A = ℕ} v v f owner (Err (Refused (NoFrame f)))
@@ -45,3 +45,18 @@ module _ (v u : PortValue) (f owner word : ℕ) (look : Moves v u (Refs f) Load 
       (found_before v u w (Refs f) word (moves_came u w _ _ _ _ _ raise) (moves_found v u _ _ _ _ word look), refer_is ∙ refer_none v u f owner word look real w o read is whose low),
       subst (λ e. Changes v w ((Refs f, Cas e (raised_word o)) ∷ [])) is (changes_exchange v u w [] _ _ _ looked_alone _ _ found raise at refl),
     )
+
+-- ---- the piece from a to x, of the steps from v to w
+module _ (v a x w : PortValue) (before : Came v a) (after : Came x w) where
+  post_there : a.post ≡ v.post
+  post_there = came_post v a before
+
+  pub referred_wider : (g owner word : ℕ) → IsReferred a x g owner word → IsReferred v w g owner word
+  referred_wider g owner word is = (found_wider v a x w before after _ word is.0, subst (λ (p : Post). refer p.machine owner g word ≡ None) post_there is.1)
+
+  pub unreferred_wider : (g owner : ℕ) (r : Refusal) → IsUnreferred a x g owner r → IsUnreferred v w g owner r
+  unreferred_wider g owner r is = (
+    is.0,
+    λ inside. found_wider v a x w before after _ is.0 (is.1 (subst (λ (p : Post). g < p.machine.frames) (sym post_there) inside)),
+    subst (λ (p : Post). refer p.machine owner g is.0 ≡ Some r) post_there is.2,
+  )

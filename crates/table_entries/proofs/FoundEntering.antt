@@ -27,16 +27,18 @@ use Rattle.table_entries.specs.Between.{SeesEntry}
 use Rattle.table_entries.specs.Found.{EntersBy, EntersFound, PutBack, ReadFound, TakenFound, TypeAsked, TypedAgain, TypedFound, had, lost, refused}
 use Rattle.table_entries.specs.declared.entries.Entered.{Entered}
 use Rattle.table_entries.specs.declared.entries.Entered.TheVariants.{Recorded}
-use Rattle.table_entries.proofs.FoundWider.{found_wider, load_changes, referred_wider, step_found, stopped_wider, takes_wider, unreferred_wider}
+use Rattle.answer_fits.proofs.Changing.{changes_look, found_wider, moves_found}
+use Rattle.frame_types.proofs.Wider.{stopped_wider, takes_wider}
+use Rattle.frame_words.proofs.Getting.{referred_wider, unreferred_wider}
 use Rattle.table_entries.proofs.TwinsTyped.{not_awaited}
 
 -- ---- the look at it
 module _ (b v : PortValue) (f i : ℕ) (t : PageType) (word : ℕ) (looks : SeesEntry b v f i t word) where
   pub looked_changes : Changes b v []
-  looked_changes = load_changes b b v [] (Cell f i) kinds.Look None word (changes_nothing b) looks.look
+  looked_changes = changes_look b b v [] (Cell f i) kinds.Look None (changes_nothing b) word looks.look
 
   pub looked_found : (w : PortValue) → Came v w → FoundAt (Met b w) (Cell f i) word
-  looked_found w came = found_wider b b v w (came_self b) came (Cell f i) word (step_found b v (Cell f i) Load kinds.Look None word looks.look)
+  looked_found w came = found_wider b b v w (came_self b) came (Cell f i) word (moves_found b v (Cell f i) Load kinds.Look None word looks.look)
 
   -- by what it asks
   pub enters_by : (owner : ℕ) (d : Demand) → demand_at t i word ≡ d → (w : PortValue) (answer : Result Entered Stop) → Came v w → EntersBy b w f i owner answer word d → EntersFound b w f i t owner answer

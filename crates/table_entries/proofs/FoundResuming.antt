@@ -26,20 +26,20 @@ use Rattle.table_entries.specs.Found.{LastFound, ResumesBy, ResumesFound, TakenF
 use Rattle.table_entries.specs.declared.resuming.Resumed.{Resumed}
 use Rattle.table_entries.specs.declared.resuming.Resumed.TheVariants.{Settled}
 use Rattle.table_entries.proofs.FoundEntering.{again_stopped_found, asked_had, asked_refused, looked_changes, looked_found, taken_found}
-use Rattle.table_entries.proofs.FoundWider.{found_wider, load_changes, step_found}
+use Rattle.answer_fits.proofs.Changing.{changes_look, found_wider, moves_found}
 use Rattle.table_entries.proofs.PiecesStanding.{AsksNoType}
 
 -- ---- the look at the frame itself
 live_changes : (u v : PortValue) (g : ℕ) (live : Bool) → LooksLive u v g live → Changes u v []
 live_changes u v g _ (outside past is) = subst (λ x. Changes u x []) (sym is) (changes_nothing u)
-live_changes u v g _ (found word live inside m same is) = load_changes u u v [] (Kind g) kinds.Look None word (changes_nothing u) m
+live_changes u v g _ (found word live inside m same is) = changes_look u u v [] (Kind g) kinds.Look None (changes_nothing u) word m
 
 live_there : (b u v : PortValue) (g : ℕ) → Came b u → LooksLive u v g true → (x : ℕ) × FoundAt (Met b v) (Kind g) x × (is_live_word x ≡ true)
-live_there b u v g came (found word _ inside m same is) = (word, found_wider b u v v came (came_self v) (Kind g) word (step_found u v (Kind g) Load kinds.Look None word m), is)
+live_there b u v g came (found word _ inside m same is) = (word, found_wider b u v v came (came_self v) (Kind g) word (moves_found u v (Kind g) Load kinds.Look None word m), is)
 
 other_there : (b u v w : PortValue) (g : ℕ) → Came b u → Came v w → LooksLive u v g false → (b.post.machine.frames ≤ g) ⊎ ((x : ℕ) × FoundAt (Met b w) (Kind g) x × (is_live_word x ≡ false))
 other_there b u v w g came more (outside past is) = inl (subst (λ (p : Post). p.machine.frames ≤ g) (came_post b u came) past)
-other_there b u v w g came more (found word _ inside m same is) = inr (word, found_wider b u v w came more (Kind g) word (step_found u v (Kind g) Load kinds.Look None word m), is)
+other_there b u v w g came more (found word _ inside m same is) = inr (word, found_wider b u v w came more (Kind g) word (moves_found u v (Kind g) Load kinds.Look None word m), is)
 
 no_type_by : (b u : PortValue) (owner : ℕ) (d : Demand) → AsksNoType d → Changes b u [] → ResumesBy b u owner (Ok Settled) d
 no_type_by b u owner Nothing none same = (refl, same)

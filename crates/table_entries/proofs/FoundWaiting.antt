@@ -23,7 +23,7 @@ use Rattle.table_entries.specs.Found.{EntersFound, LeftBy, TypedFound, WaitFound
 use Rattle.table_entries.specs.declared.entries.Entered.{Entered}
 use Rattle.table_entries.specs.declared.entries.Entered.TheVariants.{Unsettled}
 use Rattle.table_entries.proofs.FoundEntering.{enters_had}
-use Rattle.table_entries.proofs.FoundWider.{dead_wider, takes_wider}
+use Rattle.frame_types.proofs.Wider.{dead_wider, takes_wider}
 use Rattle.table_entries.proofs.TwinsLeft.{reads_no_words}
 
 -- ---- by why it waits

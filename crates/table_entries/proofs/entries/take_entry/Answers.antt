@@ -14,7 +14,7 @@ use Rattle.table_entries.proofs.TwinsLooked.{load_keeps, twin_entry}
 use Rattle.step_maker.proofs.Coming.{came_self}
 use Rattle.answer_fits.proofs.Piecing.{changes_came, changes_nothing, changes_then}
 use Rattle.table_entries.proofs.FoundEntering.{enters_by, looked_changes}
-use Rattle.table_entries.proofs.FoundWider.{load_changes}
+use Rattle.answer_fits.proofs.Changing.{changes_look}
 use Rattle.table_entries.proofs.entries.take_entry.Goals as goal
 use Rattle.xp_words.specs.declared.entry.Demand.TheVariants as demands
 use Rattle.xp_board.specs.declared.step.StepKind.TheVariants as kinds
@@ -207,7 +207,7 @@ returns-in-Nothing-clause-found g c =
     let w = g.P.Port.value c.record_entry.new.port in
     let looks : SeesEntry v u at.table at.index at.kind c.look_cell-word.result =
     record { look = c.look_cell-word.ensures.moves; hand = c.look_cell-word.ensures.hand; frame = c.requires.frame; index = c.requires.index; held = c.requires.held; above = c.requires.above; looked = c.requires.looked } in
-    let records = load_changes u u w [] Clock kinds.Look _ c.record_entry.result (changes_nothing u) c.record_entry.ensures.moves in
+    let records = changes_look u u w [] Clock kinds.Look _ (changes_nothing u) c.record_entry.result c.record_entry.ensures.moves in
     enters_by v u at.table at.index at.kind c.look_cell-word.result looks at.owner demands.Nothing (sym c.demand.ensures ∙ c.in-Nothing.is) w (Ok Recorded) (changes_came u w [] records)
     (refl, changes_then v u w [] [] (looked_changes v u at.table at.index at.kind c.look_cell-word.result looks) records)
 

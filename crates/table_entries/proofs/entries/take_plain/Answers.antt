@@ -22,7 +22,7 @@ use Rattle.step_maker.proofs.Coming.{came_trans}
 use Rattle.answer_fits.proofs.Piecing.{changes_came, changes_nothing}
 use Rattle.table_entries.specs.Found.{EntersFound}
 use Rattle.table_entries.proofs.FoundEntering.{enters_by, looked_changes, read_found, read_refused_found}
-use Rattle.table_entries.proofs.FoundWider.{load_changes}
+use Rattle.answer_fits.proofs.Changing.{changes_look}
 use Rattle.table_entries.proofs.entries.take_plain.Goals as goal
 use Rattle.xp_board.specs.declared.step.StepKind.TheVariants as kinds
 
@@ -102,7 +102,7 @@ returns-clause-found g c b word next asks =
     let x = g.P.Port.value c.get_ref.new.port in
     let w = g.P.Port.value c.record_entry.new.port in
     let at = c.args.at in
-    let records = load_changes x x w [] Clock kinds.Look _ c.record_entry.result (changes_nothing x) c.record_entry.ensures.moves in
+    let records = changes_look x x w [] Clock kinds.Look _ (changes_nothing x) c.record_entry.result c.record_entry.ensures.moves in
     enters_by b v at.table at.index at.kind word next.looks at.owner (Read c.args.frame) asks w (Ok Recorded)
     (came_trans v x w (serves_came v x (of_frame c.args.frame at.owner None) [] c.in_ok-get_ref.ensures.serves) (changes_came x w [] records))
     (read_found b v x c.args.frame at.owner (looked_changes b v at.table at.index at.kind word next.looks) c.in_ok-get_ref.field-0 c.in_ok-get_ref.ensures.gets w records)

@@ -29,7 +29,7 @@ use Rattle.frame_words.specs.Refs.{Gets}
 use Rattle.frame_types.specs.declared.taking.Taken.TheVariants as types
 use Rattle.table_entries.specs.Found.{EntersFound, TypedFound}
 use Rattle.table_entries.proofs.FoundEntering.{asked_refused, enters_by, enters_stopped, enters_taken, looked_changes}
-use Rattle.table_entries.proofs.FoundWider.{load_changes}
+use Rattle.answer_fits.proofs.Changing.{changes_look}
 use Rattle.table_entries.proofs.entries.take_typed.Goals as goal
 use Rattle.xp_board.specs.declared.step.StepKind.TheVariants as kinds
 
@@ -276,7 +276,7 @@ returns-in-Ok-Counted-clause-found g c b word next asks =
     let f = c.in_ok-frame.frame in
     let same = sym c.in_ok-frame.ensures.frame.0 in
     enters_taken b v at.table at.index at.kind word next.looks at.owner f c.args.want (asks ∙ ap (λ k. Typed k c.args.want) same) x f (subst (λ k. Gets v x k at.owner (Ok f)) same c.in_ok-frame.ensures.gets) y w types.Counted
-    (subst (λ k. TakesFound x y f c.args.want (Ok k)) c.in-Ok-Counted.field-0-is c.in-Ok-Counted.ensures.found) (load_changes y y w [] Clock kinds.Look _ c.record_entry.result (changes_nothing y) c.record_entry.ensures.moves)
+    (subst (λ k. TakesFound x y f c.args.want (Ok k)) c.in-Ok-Counted.field-0-is c.in-Ok-Counted.ensures.found) (changes_look y y w [] Clock kinds.Look _ (changes_nothing y) c.record_entry.result c.record_entry.ensures.moves)
     (Ok Recorded) (λ gs a. a)
 
 pub returns-in-Ok-InWork-clause-found : goal.returns-in-Ok-InWork-clause-found

@@ -8,7 +8,7 @@ use Rattle.table_entries.proofs.TwinsLooked.{load_keeps}
 use Rattle.table_entries.proofs.TwinsLeft.{own_is_not, twin_dead, twin_shared, twin_unsettled}
 use Rattle.answer_fits.proofs.Piecing.{changes_nothing}
 use Rattle.table_entries.proofs.FoundWaiting.{dead_found, shared_found, unsettled_found}
-use Rattle.table_entries.proofs.FoundWider.{load_changes}
+use Rattle.answer_fits.proofs.Changing.{changes_look}
 use Rattle.table_entries.proofs.waiting.wait_entry.Goals.{in-Refused, in_default}
 use Rattle.table_entries.proofs.waiting.wait_entry.Goals as goal
 use Rattle.xp_board.specs.declared.step.StepKind.TheVariants as kinds
@@ -149,4 +149,4 @@ returns-clause-found g c b late =
     let y = g.P.Port.value c.leave_unsettled.new.port in
     let w = g.P.Port.value c.record_entry.new.port in
     unsettled_found b v c.args.at.table c.args.at.index c.args.at.owner c.args.at.kind c.args.late.frame c.args.late.want c.args.late.own c.args.late.stamp c.args.late.stop late y w (own_is_not c.args.late.own false c.if-not-late.false)
-    c.leave_unsettled.ensures.changes (load_changes y y w [] Clock kinds.Look _ c.record_entry.result (changes_nothing y) c.record_entry.ensures.moves)
+    c.leave_unsettled.ensures.changes (changes_look y y w [] Clock kinds.Look _ (changes_nothing y) c.record_entry.result c.record_entry.ensures.moves)
