@@ -68,7 +68,7 @@ partial_in p (Typed g t) = if is_partial (p.kinds g) && is_type (p.kinds g).kind
 partial_in p _ = None
 
 -- No table is below the innermost one, of level l + 1 with k entries recorded: the last of them asks no frame that is partial with
--- its type, as one that waits for a flush would be. Level 0 is ordinary memory, and no table.
+-- its type, as one that waits for a flush would be. What a table of level 1 asks is ordinary memory, and no table.
 abbrev pub IsInnermost : Plain → ℕ → ℕ → ℕ → Type 0
 IsInnermost p f zero k = Unit {0}
 IsInnermost p f (suc l) k = partial_in p (last_entry p (level_type (suc (suc l))) f k) ≡ None
