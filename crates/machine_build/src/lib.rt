@@ -45,6 +45,3 @@ fn put_words(trace: &Trace, words: &mut [u64])
     runs::put_owned(layout, trace.owned.as_slice(), words);
     map::put_map(layout, words);
 }
-
-#[cfg(test)]
-mod tests;

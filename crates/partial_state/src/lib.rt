@@ -6,6 +6,3 @@ mod stack;
 
 pub use levels::level_type;
 pub use stack::{Stack, TableWork};
-
-#[cfg(test)]
-mod tests;

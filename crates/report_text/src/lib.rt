@@ -8,6 +8,3 @@ mod whole;
 mod words;
 
 pub use whole::report;
-
-#[cfg(test)]
-mod tests;

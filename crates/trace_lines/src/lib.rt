@@ -20,6 +20,3 @@ pub use put::{
     put_priv, put_turn, put_vcpu,
 };
 pub use words::split_off;
-
-#[cfg(test)]
-mod tests;

@@ -5,8 +5,6 @@ mod counts;
 mod part;
 mod read;
 mod taken;
-#[cfg(test)]
-mod tests;
 mod trace;
 mod write;
 

@@ -5,8 +5,6 @@
 mod memory;
 mod outside;
 mod streams;
-#[cfg(test)]
-mod tests;
 mod whole;
 
 pub use memory::{HonestSink, HonestSource, MemorySink, MemorySource};

@@ -1,11 +1,10 @@
 mod Hindering
-mod Moving
+pub mod Moving
 mod Walking
-mod Boarding
+pub mod Boarding
 mod Turning
 mod Asking
 mod Starting
-mod Reaching
+pub mod Reaching
 mod Statuses
 mod Pacing
-mod Testing

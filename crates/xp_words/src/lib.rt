@@ -24,10 +24,3 @@ pub use place::Place;
 pub use refs::RefWord;
 pub use reply::{Log, LogLine, Pause, Refusal, Reply, Stop};
 pub use short_list::ShortList;
-
-#[cfg(test)]
-mod layout_tests;
-#[cfg(test)]
-mod list_tests;
-#[cfg(test)]
-mod tests;

@@ -1,0 +1,12 @@
+//! Tests of the machine as a whole: runs from a trace to its report, and single calls on the plain board. There is nothing to
+//! call.
+#![tactic(auto)]
+
+#[cfg(test)]
+mod boards;
+#[cfg(test)]
+mod lists;
+#[cfg(test)]
+mod runs;
+#[cfg(test)]
+mod steps;

@@ -1,0 +1,22 @@
+//! Tests of the crates of words, gates, streams, translations, stacks and texts, with values that were worked out by hand.
+//! There is nothing to call.
+#![tactic(auto)]
+
+#[cfg(test)]
+mod gates;
+#[cfg(test)]
+mod lines;
+#[cfg(test)]
+mod openings;
+#[cfg(test)]
+mod reports;
+#[cfg(test)]
+mod stacks;
+#[cfg(test)]
+mod streams;
+#[cfg(test)]
+mod traces;
+#[cfg(test)]
+mod walks;
+#[cfg(test)]
+mod words;
