@@ -74,15 +74,19 @@ module _ (v a w : PortValue) (f found : ℕ) (kind : PageType) (lower : Moves v 
 
   pub more_drops : ((kind_fields found).number == 1) ≡ false → Puts a w f → DropsPlain v w f kind
   more_drops more back =
-      record {
-        word = found;
-        found = lowered_found (changes_came a w back.list back.changed);
-        lowering = (Kind f, Add one_down) ∷ [];
-        lowers = subst (λ b. LowersBy v w f kind b ((Kind f, Add one_down) ∷ [])) (sym more) refl;
-        back = back.list;
-        put = back.put;
-        changed = changes_then v a w ((Kind f, Add one_down) ∷ []) back.list lowered back.changed;
-      }
+      let cs = (Kind f, Add one_down) ∷ [] in (
+        back.list ++ cs,
+        record {
+          word = found;
+          found = lowered_found (changes_came a w back.list back.changed);
+          lowering = cs;
+          lowers = subst (λ b. LowersBy v w f kind b cs) (sym more) refl;
+          back = back.list;
+          put = back.put;
+          list = refl;
+        },
+        changes_then v a w cs back.list lowered back.changed,
+      )
 
   pub last_drops : (b d : PortValue) (clock x : ℕ) → ((kind_fields found).number == 1) ≡ true → Moves a b Clock Load kinds.Look None clock → Moves b d (Kind f) (Store (kind_write (dead_kind kind false clock))) kinds.Kind None x →
       Puts d w f → DropsPlain v w f kind
@@ -90,13 +94,16 @@ module _ (v a w : PortValue) (f found : ℕ) (kind : PageType) (lower : Moves v 
       let k = dead_kind kind false clock in
       let cs = stores_kind f k ∷ ((Kind f, Add one_down) ∷ []) in
       let after = came_trans b d w (moves_came b d _ _ _ _ x store) (changes_came d w back.list back.changed) in
-      let seen : FoundAt (Met v w) Clock clock = found_after v a w Clock clock (moves_came v a _ _ _ _ found lower) (found_before a b w Clock clock after (moves_found a b Clock Load kinds.Look None clock look)) in
-      record {
-        word = found;
-        found = lowered_found (came_trans a b w (moves_came a b _ _ _ _ clock look) after);
-        lowering = cs;
-        lowers = subst (λ y. LowersBy v w f kind y cs) (sym last) (clock, seen, refl);
-        back = back.list;
-        put = back.put;
-        changed = changes_then v d w cs back.list (stored_changes v b d ((Kind f, Add one_down) ∷ []) f x k (changes_look v a b ((Kind f, Add one_down) ∷ []) Clock kinds.Look None lowered clock look) store) back.changed;
-      }
+      let seen : FoundAt (Met v w) Clock clock = found_after v a w Clock clock (moves_came v a _ _ _ _ found lower) (found_before a b w Clock clock after (moves_found a b Clock Load kinds.Look None clock look)) in (
+        back.list ++ cs,
+        record {
+          word = found;
+          found = lowered_found (came_trans a b w (moves_came a b _ _ _ _ clock look) after);
+          lowering = cs;
+          lowers = subst (λ y. LowersBy v w f kind y cs) (sym last) (clock, seen, refl);
+          back = back.list;
+          put = back.put;
+          list = refl;
+        },
+        changes_then v d w cs back.list (stored_changes v b d ((Kind f, Add one_down) ∷ []) f x k (changes_look v a b ((Kind f, Add one_down) ∷ []) Clock kinds.Look None lowered clock look) store) back.changed,
+      )

@@ -1,5 +1,5 @@
 -- What the steps of a type that is taken change, by the words that they found.
-use Rattle.std.proofs.Common.{◌≡◌, ◌≢◌, ℕ, ◌++◌, if◌then◌else◌, Bool, true, false, List, [], ◌∷◌, Some, None, Ok, Err, refl, sym, ap, ◌∙◌, subst, append-nil}
+use Rattle.std.proofs.Common.{◌≡◌, ◌≢◌, ℕ, ◌++◌, if◌then◌else◌, Bool, true, false, List, [], ◌∷◌, Some, None, Ok, Err, refl, sym, ap, ◌∙◌, subst}
 use Rattle.xp_words.specs.KindWords.{kind_read, kind_fields, kind_write}
 use Rattle.xp_words.specs.declared.kind.KindWord.{KindWord}
 use Rattle.xp_words.specs.declared.kind.PageType.{PageType}
@@ -20,7 +20,7 @@ use Rattle.step_maker.proofs.Coming.{came_self}
 use Rattle.answer_fits.specs.Answers.{Changes}
 use Rattle.answer_fits.specs.Finding.{FoundAt}
 use Rattle.answer_fits.proofs.Changing.{changes_behind, changes_exchange, changes_look, changes_lost, found_before, moves_found}
-use Rattle.answer_fits.proofs.Piecing.{changes_nothing, changes_step, changes_then, changes_came}
+use Rattle.answer_fits.proofs.Piecing.{changes_nothing, changes_then, changes_came}
 use Rattle.kind_words.specs.Kinds.{live_kind, work_kind}
 use Rattle.frame_words.specs.Freeing.{Puts}
 use Rattle.frame_types.specs.declared.standing.Standing.{Standing}

@@ -119,24 +119,25 @@ abbrev pub GivenUp : PortValue → PortValue → ℕ → Bool → ℕ → Stop �
 GivenUp v w f own stamp stop = (cs : List (Place × Act)) × GivenUpBy v w f own (is_refused stop) stamp cs × Changes v w cs
 
 -- the flush was not to be had
-pub record WaitsFound (v w : PortValue) (f : ℕ) (stop : Stop) : Type 0 where
+pub record WaitsBy (v w : PortValue) (f : ℕ) (stop : Stop) (cs : List (Place × Act)) : Type 0 where
   pub own : Bool
   pub stamp : ℕ
   pub taking : List (Place × Act)
   pub takes : TakesOf v w f Writable (Waiting own stamp stop) taking
   pub leaving : List (Place × Act)
   pub left : GivenUpBy v w f own (is_refused stop) stamp leaving
-  pub changed : Changes v w (leaving ++ taking)
+  pub list : cs ≡ leaving ++ taking
 
-abbrev pub GivenBack : PortValue → PortValue → ℕ → Type 0
-GivenBack v w f = (ps : List (Place × Act)) × IsPut f ps × Changes v w ps
+-- It is ordinary memory by these changes; or it is not, and the reference is given back, or in the frame's own mark.
+abbrev pub MemoryBy : PortValue → PortValue → ℕ → Result (Unit {0}) Stop → List (Place × Act) → Type 0
+MemoryBy v w f (Ok done) cs = TakesOf v w f Writable Counted cs
+MemoryBy v w f (Err (Refused (refusals.Clock x))) cs = WaitsBy v w f (Refused (refusals.Clock x)) cs
+MemoryBy v w f (Err (Paused (Flush u stamp x))) cs = WaitsBy v w f (Paused (Flush u stamp x)) cs
+MemoryBy v w f (Err (Paused (Lost place expected found))) cs = IsPut f cs
+MemoryBy v w f (Err e) cs = IsStopped v w f Writable e × IsPut f cs
 
 abbrev pub MemoryFound : PortValue → PortValue → ℕ → Result (Unit {0}) Stop → Type 0
-MemoryFound v w f (Ok done) = (cs : List (Place × Act)) × TakesOf v w f Writable Counted cs × Changes v w cs
-MemoryFound v w f (Err (Refused (refusals.Clock x))) = WaitsFound v w f (Refused (refusals.Clock x))
-MemoryFound v w f (Err (Paused (Flush u stamp x))) = WaitsFound v w f (Paused (Flush u stamp x))
-MemoryFound v w f (Err (Paused (Lost place expected found))) = GivenBack v w f
-MemoryFound v w f (Err e) = IsStopped v w f Writable e × GivenBack v w f
+MemoryFound v w f answer = (cs : List (Place × Act)) × MemoryBy v w f answer cs × Changes v w cs
 
 -- ---- a type is given back of a frame that holds no entries
 -- x: the kind word
@@ -144,11 +145,14 @@ abbrev pub LowersBy : PortValue → PortValue → ℕ → PageType → Bool → 
 LowersBy v w f kind true cs = (clock : ℕ) × FoundAt (Met v w) Clock clock × (cs ≡ stores_kind f (dead_kind kind false clock) ∷ ((Kind f, Add one_down) ∷ []))
 LowersBy v w f kind false cs = cs ≡ (Kind f, Add one_down) ∷ []
 
-pub record DropsPlain (v w : PortValue) (f : ℕ) (kind : PageType) : Type 0 where
+pub record DropsBy (v w : PortValue) (f : ℕ) (kind : PageType) (cs : List (Place × Act)) : Type 0 where
   pub word : ℕ
   pub found : FoundAt (Met v w) (Kind f) word
   pub lowering : List (Place × Act)
   pub lowers : LowersBy v w f kind ((kind_fields word).number == 1) lowering
   pub back : List (Place × Act)
   pub put : IsPut f back
-  pub changed : Changes v w (back ++ lowering)
+  pub list : cs ≡ back ++ lowering
+
+abbrev pub DropsPlain : PortValue → PortValue → ℕ → PageType → Type 0
+DropsPlain v w f kind = (cs : List (Place × Act)) × DropsBy v w f kind cs × Changes v w cs

@@ -1,5 +1,5 @@
 -- Reference words, and what the steps on them leave in hand.
-use Rattle.std.specs.Prelude.{◌≡◌, ℕ, ◌+◌, ◌<◌, [], ◌∷◌, length, Some, None, Result, Ok, Err}
+use Rattle.std.specs.Prelude.{◌≡◌, ℕ, ◌+◌, ◌<◌, List, [], ◌∷◌, length, Some, None, Result, Ok, Err}
 use Rattle.xp_words.specs.Machine.{Machine}
 use Rattle.xp_words.specs.RefWords.{ref_read, ref_write}
 use Rattle.xp_words.specs.declared.reply.Refusal.{Refusal}
@@ -14,7 +14,9 @@ use Rattle.xp_board.specs.declared.holdings.OwnerFound.TheVariants as owners
 use Rattle.xp_board.specs.Hands.{refs_to}
 use Rattle.xp_board.specs.RefSteps.{SparesClosing}
 use Rattle.xp_board.specs.Told.{PortValue}
+use Rattle.xp_board.specs.declared.step.Act.{Act}
 use Rattle.xp_board.specs.declared.step.Act.TheVariants.{Cas}
+use Rattle.xp_words.specs.declared.place.Place.{Place}
 use Rattle.xp_words.specs.declared.place.Place.TheVariants.{Refs}
 use Rattle.answer_fits.specs.Answers.{Changes}
 use Rattle.answer_fits.specs.Finding.{FoundAt}
@@ -70,3 +72,9 @@ abbrev pub Gets : {A : Type 0} → PortValue → PortValue → ℕ → ℕ → R
 Gets v w f owner (Ok g) = (x : ℕ) × (y : ℕ) × IsReferred v w f owner x × Changes v w ((Refs f, Cas x y) ∷ [])
 Gets v w f owner (Err (Refused r)) = IsUnreferred v w f owner r × Changes v w []
 Gets v w f owner (Err (Paused r)) = Changes v w []
+
+-- A call that takes a reference first: it is refused or lost, and nothing is changed; or it is had, by those changes, and P of these.
+pub data TakesFirst {A : Type 0} (v w : PortValue) (f owner : ℕ) (P : List (Place × Act) → Type 0) (answer : Result A Stop) : Type 0 where
+  refused : (r : Refusal) → answer ≡ Err (Refused r) → IsUnreferred v w f owner r → Changes v w [] → TakesFirst v w f owner P answer
+  lost : (place expected found : ℕ) → answer ≡ Err (Paused (Lost place expected found)) → Changes v w [] → TakesFirst v w f owner P answer
+  had : (x y : ℕ) → IsReferred v w f owner x → P ((Refs f, Cas x y) ∷ []) → TakesFirst v w f owner P answer

@@ -1,12 +1,13 @@
 -- Elements that their numbers alone refuse.
-use Rattle.std.proofs.Common.{[], refl, inl}
+use Rattle.std.proofs.Common.{[], Err, refl, inl}
 use Rattle.xp_words.specs.declared.reply.Refusal.TheVariants.{BadRange, BadCommand}
 use Rattle.xp_words.specs.declared.reply.Stop.TheVariants.{Refused}
 use Rattle.xp_words.specs.declared.reply.Refusal.{Refusal}
 use Rattle.xp_board.specs.Told.{PortValue}
 use Rattle.answer_fits.specs.Answers.{Serves, Stops}
 use Rattle.answer_fits.specs.Asked.{of_numbers}
-use Rattle.answer_fits.proofs.Piecing.{serves_nothing}
+use Rattle.answer_fits.proofs.Piecing.{changes_nothing, serves_nothing}
+use Rattle.mmu_update.specs.Found.{NumbersFound}
 
 pub no_step : (v : PortValue) (x : Refusal) → Serves v v (of_numbers x) []
 no_step v x = serves_nothing v (of_numbers x)
@@ -18,3 +19,6 @@ misaligned v = inl refl
 pub unknown : (v : PortValue) → Stops v v (of_numbers BadCommand) (Refused BadCommand)
 unfolding Stops
 unknown v = refl
+
+pub no_change : (v : PortValue) (x : Refusal) → NumbersFound v v x (Err (Refused x))
+no_change v x = (refl, changes_nothing v)

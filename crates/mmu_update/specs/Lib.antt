@@ -1,3 +1,4 @@
 pub mod Elements
 pub mod Fits
+pub mod Found
 pub mod Plain

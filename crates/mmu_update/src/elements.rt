@@ -7,6 +7,7 @@ ghost use Rattle.step_maker.specs.Holds.{FlushedSame, Rests};
 ghost use Rattle.answer_fits.specs.Answers.{Serves, Stops};
 ghost use Rattle.answer_fits.specs.Asked.{of_frame};
 ghost use Rattle.mmu_update.specs.Elements.{element_deeds, element_of, request_of};
+ghost use Rattle.mmu_update.specs.Found.{UpdateFound, WriteFound};
 ghost use Rattle.mmu_update.specs.Plain.{TwinUpdate, TwinWrite};
 ghost use Rattle.mmu_update.specs.declared.element.Element.TheVariants.{Write};
 
@@ -31,6 +32,7 @@ fn write_memory<P: Port>(
     ensures serves { Serves (P.value port.old) (P.value port.new) (of_frame f domain (Some Writable)) (element_deeds (P.value port.old).post.machine (Write f index word) result) }
     ensures stops { IfErr result (λ e. Stops (P.value port.old) (P.value port.new) (of_frame f domain (Some Writable)) e) }
     ensures hand { FlushedSame (P.value port.old) (P.value port.new) }
+    ensures found { WriteFound (P.value port.old) (P.value port.new) domain f index word result }
     ensures plain { TwinWrite (P.value port.old) (P.value port.new) domain f index word result }
 {
     let frame = get_ref(port, f, domain)?;
@@ -51,6 +53,8 @@ pub fn update<P: Port>(port: &mut P, domain: u16, pair: Pair) -> Result<(), Stop
     // What its numbers alone refuse is refused.
     ensures numbers { (x : Refusal) → (request_of domain (element_of pair)).by_numbers ≡ Some x → result ≡ Err (Refused x) }
     ensures hand { FlushedSame (P.value port.old) (P.value port.new) }
+    // It answers, and changes the words, by those that its steps found.
+    ensures found { UpdateFound (P.value port.old) (P.value port.new) domain (element_of pair) result }
     // On a board that tells all words it answers, and leaves them, as its plain meaning says.
     ensures plain { TwinUpdate (P.value port.old) (P.value port.new) domain (element_of pair) result }
 {

@@ -1,5 +1,5 @@
 -- The next entry by the words found: what is answered and changed, by what became of it.
-use Rattle.std.proofs.Common.{◌≡◌, ℕ, List, [], ◌∷◌, ◌++◌, None, Result, Ok, Err, refl, sym, subst}
+use Rattle.std.proofs.Common.{◌≡◌, ℕ, List, [], ◌∷◌, ◌++◌, None, Result, Ok, Err, sym, subst}
 use Rattle.xp_words.specs.Entries.{demand_at}
 use Rattle.xp_words.specs.declared.entry.Demand.{Demand}
 use Rattle.xp_words.specs.declared.entry.Demand.TheVariants.{Typed}
@@ -20,15 +20,16 @@ use Rattle.answer_fits.specs.Answers.{Changes}
 use Rattle.answer_fits.specs.Finding.{FoundAt}
 use Rattle.answer_fits.proofs.Piecing.{changes_came, changes_nothing, changes_then}
 use Rattle.frame_words.specs.Freeing.{Puts}
-use Rattle.frame_words.specs.Refs.{Gets, IsRefStop}
+use Rattle.frame_words.specs.Refs.{Gets}
 use Rattle.frame_types.specs.Changing.{IsStopped, TakesFound}
 use Rattle.frame_types.specs.declared.taking.Taken.{Taken}
 use Rattle.table_entries.specs.Between.{SeesEntry}
-use Rattle.table_entries.specs.Found.{EntersBy, EntersFound, PutBack, ReadFound, TakenFound, TypeAsked, TypedAgain, TypedFound, had, lost, refused}
+use Rattle.table_entries.specs.Found.{EntersBy, EntersFound, PutBack, ReadFound, TakenFound, TypedAgain, TypedFound}
 use Rattle.table_entries.specs.declared.entries.Entered.{Entered}
 use Rattle.table_entries.specs.declared.entries.Entered.TheVariants.{Recorded}
 use Rattle.answer_fits.proofs.Changing.{changes_look, found_wider, moves_found}
 use Rattle.frame_types.proofs.Wider.{stopped_wider, takes_wider}
+use Rattle.frame_words.proofs.First.{first_had}
 use Rattle.frame_words.proofs.Getting.{referred_wider, unreferred_wider}
 use Rattle.table_entries.proofs.TwinsTyped.{not_awaited}
 
@@ -51,11 +52,6 @@ module _ (b v x : PortValue) (g owner : ℕ) (before : Changes b v []) where
   read_refused_found (Refused r) got = (unreferred_wider b v x x (changes_came b v [] before) (came_self x) g owner r got.0, changes_then b v x [] [] before got.1)
   read_refused_found (Paused r) got = changes_then b v x [] [] before got
 
-  pub asked_refused : {A : Type 0} (P : List (Place × Act) → Type 0) (e : Stop) → IsRefStop e → Gets {A = ℕ} v x g owner (Err e) → TypeAsked {A = A} b x g owner P (Err e)
-  asked_refused P (Refused r) is got = refused r refl (unreferred_wider b v x x (changes_came b v [] before) (came_self x) g owner r got.0) (changes_then b v x [] [] before got.1)
-  asked_refused P (Paused (pauses.Lost place expected word)) is got = lost place expected word refl (changes_then b v x [] [] before got)
-  asked_refused P (Paused _) is got = absurd is
-
   -- it is had
   module _ (k : ℕ) (got : Gets {A = ℕ} v x g owner (Ok k)) where
     got_changes : Changes b x ((Refs g, Cas got.0 got.1) ∷ [])
@@ -68,10 +64,6 @@ module _ (b v x : PortValue) (g owner : ℕ) (before : Changes b v []) where
       referred_wider b v x w (changes_came b v [] before) (changes_came x w [] after) g owner got.0 got.2,
       changes_then b x w ((Refs g, Cas got.0 got.1) ∷ []) [] got_changes after,
     )
-
-    pub asked_had : {A : Type 0} (w : PortValue) (P : List (Place × Act) → Type 0) (answer : Result A Stop) → Came x w → ((gs : List (Place × Act)) → Changes b x gs → P gs) → TypeAsked b w g owner P answer
-    asked_had w P answer after way =
-        had got.0 got.1 (referred_wider b v x w (changes_came b v [] before) after g owner got.0 got.2) (way ((Refs g, Cas got.0 got.1) ∷ []) got_changes)
 
 -- ---- behind its reference, by those changes: the type
 module _ (b x : PortValue) (g : ℕ) (t : PageType) (gs : List (Place × Act)) (before : Changes b x gs) where
@@ -109,7 +101,7 @@ module _ (b v : PortValue) (f i : ℕ) (t : PageType) (word : ℕ) (looks : Sees
   pub enters_had : (w : PortValue) (answer : Result Entered Stop) → Came x w → ((gs : List (Place × Act)) → Changes b x gs → TypedFound b w g want answer gs) → EntersFound b w f i t owner answer
   enters_had w answer came way =
       enters_by b v f i t word looks owner (Typed g want) asks w answer (came_trans v x w (changes_came v x ((Refs g, Cas got.0 got.1) ∷ []) got.3) came)
-      (asked_had b v x g owner (looked_changes b v f i t word looks) k got w (λ gs. TypedFound b w g want answer gs) answer came way)
+      (first_had b v x g owner (looked_changes b v f i t word looks) (λ gs. TypedFound b w g want answer gs) k got w answer came way)
 
   -- the type was taken that way
   pub enters_taken : (y w : PortValue) (way : Taken) → TakesFound x y g want (Ok way) → Changes y w [] → (answer : Result Entered Stop) → ((gs : List (Place × Act)) → TakenFound b w g want way gs → TypedFound b w g want answer gs) →

@@ -18,14 +18,15 @@ use Rattle.answer_fits.specs.Answers.{Changes}
 use Rattle.answer_fits.specs.Finding.{FoundAt}
 use Rattle.answer_fits.proofs.Piecing.{changes_came, changes_nothing, changes_then}
 use Rattle.frame_words.specs.Freeing.{Puts}
-use Rattle.frame_words.specs.Refs.{Gets, IsRefStop}
+use Rattle.frame_words.specs.Refs.{Gets, IsRefStop, TakesFirst}
 use Rattle.frame_types.specs.Changing.{TakesFound}
 use Rattle.frame_types.specs.declared.taking.Taken.{Taken}
 use Rattle.table_entries.specs.Between.{LooksLive, SeesEntry, found, outside}
-use Rattle.table_entries.specs.Found.{LastFound, ResumesBy, ResumesFound, TakenFound, TypeAsked, TypedAgain, other, settled}
+use Rattle.table_entries.specs.Found.{LastFound, ResumesBy, ResumesFound, TakenFound, TypedAgain, other, settled}
 use Rattle.table_entries.specs.declared.resuming.Resumed.{Resumed}
 use Rattle.table_entries.specs.declared.resuming.Resumed.TheVariants.{Settled}
-use Rattle.table_entries.proofs.FoundEntering.{again_stopped_found, asked_had, asked_refused, looked_changes, looked_found, taken_found}
+use Rattle.frame_words.proofs.First.{first_had, first_refused}
+use Rattle.table_entries.proofs.FoundEntering.{again_stopped_found, looked_changes, looked_found, taken_found}
 use Rattle.answer_fits.proofs.Changing.{changes_look, found_wider, moves_found}
 use Rattle.table_entries.proofs.PiecesStanding.{AsksNoType}
 
@@ -71,19 +72,19 @@ module _ (b u : PortValue) (f i : ℕ) (t : PageType) (word : ℕ) (looks : Sees
 
     -- or it is not, and is taken again
     module _ (off : LooksLive u v g false) where
-      resumes_asked : (w : PortValue) (answer : Result Resumed Stop) → Came v w → TypeAsked b w g owner (λ gs. TypedAgain b w g want answer gs) answer → ResumesFound b w f i t owner answer
+      resumes_asked : (w : PortValue) (answer : Result Resumed Stop) → Came v w → TakesFirst b w g owner (λ gs. TypedAgain b w g want answer gs) answer → ResumesFound b w f i t owner answer
       resumes_asked w answer came way =
           resumes_by w answer (came_trans u v w (changes_came u v [] (live_changes u v g false off)) came) (other (other_there b u v w g looked_came came off) way)
 
       -- no reference was to be had
       pub unreferred_found : (x : PortValue) (e : Stop) → IsRefStop e → Came v x → Gets {A = ℕ} v x g owner (Err e) → ResumesFound b x f i t owner (Err e)
-      unreferred_found x e is came got = resumes_asked x (Err e) came (asked_refused b v x g owner (both_changes false off) (λ gs. TypedAgain b x g want (Err e) gs) e is got)
+      unreferred_found x e is came got = resumes_asked x (Err e) came (first_refused b v x g owner (both_changes false off) (λ gs. TypedAgain b x g want (Err e) gs) e is got)
 
       module _ (x : PortValue) (k : ℕ) (got : Gets {A = ℕ} v x g owner (Ok k)) where
         resumes_had : (w : PortValue) (answer : Result Resumed Stop) → Came x w → ((gs : List (Place × Act)) → Changes b x gs → TypedAgain b w g want answer gs) → ResumesFound b w f i t owner answer
         resumes_had w answer came way =
             resumes_asked w answer (came_trans v x w (changes_came v x ((Refs g, Cas got.0 got.1) ∷ []) got.3) came)
-            (asked_had b v x g owner (both_changes false off) k got w (λ gs. TypedAgain b w g want answer gs) answer came way)
+            (first_had b v x g owner (both_changes false off) (λ gs. TypedAgain b w g want answer gs) k got w answer came way)
 
         -- the type was taken that way
         pub retaken_found : (y : PortValue) (way : Taken) → TakesFound x y g want (Ok way) → (answer : Result Resumed Stop) → ((gs : List (Place × Act)) → TakenFound b y g want way gs → TypedAgain b y g want answer gs) →

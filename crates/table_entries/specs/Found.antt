@@ -7,7 +7,6 @@ use Rattle.xp_words.specs.declared.kind.PageType.{PageType}
 use Rattle.xp_words.specs.declared.place.Place.{Place}
 use Rattle.xp_words.specs.declared.place.Place.TheVariants.{Cell, Kind, Refs}
 use Rattle.xp_words.specs.declared.reply.Pause.TheVariants.{Flush, Lost}
-use Rattle.xp_words.specs.declared.reply.Refusal.{Refusal}
 use Rattle.xp_words.specs.declared.reply.Refusal.TheVariants as refusals
 use Rattle.xp_words.specs.declared.reply.Stop.{Stop}
 use Rattle.xp_words.specs.declared.reply.Stop.TheVariants.{Refused, Paused}
@@ -19,7 +18,7 @@ use Rattle.step_maker.specs.Moves.{Met}
 use Rattle.answer_fits.specs.Answers.{Changes}
 use Rattle.answer_fits.specs.Finding.{FoundAt}
 use Rattle.frame_words.specs.Freeing.{IsPut}
-use Rattle.frame_words.specs.Refs.{IsReferred, IsUnreferred}
+use Rattle.frame_words.specs.Refs.{IsReferred, IsUnreferred, TakesFirst}
 use Rattle.kind_words.specs.Kinds.{partial_kind}
 use Rattle.frame_types.specs.Changing.{DeadBy, IsStopped, SharedBy, TakesOf, stores_kind}
 use Rattle.frame_types.specs.Plain.{is_read_first}
@@ -31,12 +30,6 @@ use Rattle.table_entries.specs.declared.resuming.Resumed.{Resumed}
 use Rattle.table_entries.specs.declared.resuming.Resumed.TheVariants as again
 
 -- ---- an entry that asks a type
--- The reference is refused or lost; or it is had, by those changes, and P of these.
-pub data TypeAsked {A : Type 0} (v w : PortValue) (g owner : ℕ) (P : List (Place × Act) → Type 0) (answer : Result A Stop) : Type 0 where
-  refused : (r : Refusal) → answer ≡ Err (Refused r) → IsUnreferred v w g owner r → Changes v w [] → TypeAsked v w g owner P answer
-  lost : (place expected found : ℕ) → answer ≡ Err (Paused (Lost place expected found)) → Changes v w [] → TypeAsked v w g owner P answer
-  had : (x y : ℕ) → IsReferred v w g owner x → P ((Refs g, Cas x y) ∷ []) → TypeAsked v w g owner P answer
-
 -- gs: the changes before
 pub record TakenFound (v w : PortValue) (g : ℕ) (t : PageType) (way : Taken) (gs : List (Place × Act)) : Type 0 where
   pub taking : List (Place × Act)
@@ -90,7 +83,7 @@ abbrev pub EntersBy : PortValue → PortValue → ℕ → ℕ → ℕ → Result
 EntersBy v w f i owner answer word demands.Nothing = (answer ≡ Ok Recorded) × Changes v w []
 EntersBy v w f i owner answer word demands.Bad = (answer ≡ Err (Refused (refusals.Reserved f i word))) × Changes v w []
 EntersBy v w f i owner answer word (demands.Read g) = ReadFound v w g owner answer
-EntersBy v w f i owner answer word (demands.Typed g t) = TypeAsked v w g owner (λ gs. TypedFound v w g t answer gs) answer
+EntersBy v w f i owner answer word (demands.Typed g t) = TakesFirst v w g owner (λ gs. TypedFound v w g t answer gs) answer
 
 -- a look found the entry so; by what it asks
 pub record EntersFound (v w : PortValue) (f i : ℕ) (t : PageType) (owner : ℕ) (answer : Result Entered Stop) : Type 0 where
@@ -110,7 +103,7 @@ TypedAgain v w g t (Err e) gs = IsStopped v w g t e × PutBack v w g gs
 -- the frame was found live; or the machine has no such frame, or it was found otherwise, and its type is taken again
 pub data LastFound (v w : PortValue) (g : ℕ) (t : PageType) (owner : ℕ) (answer : Result Resumed Stop) : Type 0 where
   settled : (x : ℕ) → FoundAt (Met v w) (Kind g) x → is_live_word x ≡ true → answer ≡ Ok again.Settled → Changes v w [] → LastFound v w g t owner answer
-  other : (v.post.machine.frames ≤ g) ⊎ ((x : ℕ) × FoundAt (Met v w) (Kind g) x × (is_live_word x ≡ false)) → TypeAsked v w g owner (λ gs. TypedAgain v w g t answer gs) answer →
+  other : (v.post.machine.frames ≤ g) ⊎ ((x : ℕ) × FoundAt (Met v w) (Kind g) x × (is_live_word x ≡ false)) → TakesFirst v w g owner (λ gs. TypedAgain v w g t answer gs) answer →
       LastFound v w g t owner answer
 
 abbrev pub ResumesBy : PortValue → PortValue → ℕ → Result Resumed Stop → Demand → Type 0

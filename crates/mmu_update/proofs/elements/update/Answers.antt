@@ -1,5 +1,5 @@
 use Rattle.std.proofs.Common.{sym, ◌∙◌}
-use Rattle.mmu_update.proofs.Numbers.{misaligned, no_step, unknown}
+use Rattle.mmu_update.proofs.Numbers.{misaligned, no_change, no_step, unknown}
 use Rattle.mmu_update.proofs.elements.update.Goals as goal
 
 pub returns-in-Misaligned-clause-serves : goal.returns-in-Misaligned-clause-serves
@@ -13,3 +13,12 @@ returns-in-Unknown-clause-serves g c = rw (sym c.element_of.ensures ∙ c.in-Unk
 
 pub returns-in-Unknown-clause-stops : goal.returns-in-Unknown-clause-stops
 returns-in-Unknown-clause-stops g c = rw (sym c.element_of.ensures ∙ c.in-Unknown.is) (unknown _)
+
+pub returns-in-Write-clause-found : goal.returns-in-Write-clause-found
+returns-in-Write-clause-found g c = rw (sym c.element_of.ensures ∙ c.in-Write.is) c.write_memory.ensures.found
+
+pub returns-in-Misaligned-clause-found : goal.returns-in-Misaligned-clause-found
+returns-in-Misaligned-clause-found g c = rw (sym c.element_of.ensures ∙ c.in-Misaligned.is) (no_change _ _)
+
+pub returns-in-Unknown-clause-found : goal.returns-in-Unknown-clause-found
+returns-in-Unknown-clause-found g c = rw (sym c.element_of.ensures ∙ c.in-Unknown.is) (no_change _ _)

@@ -6,8 +6,10 @@ use Rattle.answer_fits.specs.Answers.{Serves, Stops, missed}
 use Rattle.answer_fits.specs.Asked.{of_frame}
 use Rattle.answer_fits.proofs.Piecing.{serves_came}
 use Rattle.mmu_update.specs.Elements.{element_deeds}
+use Rattle.mmu_update.specs.Found.{WriteFound}
 use Rattle.mmu_update.specs.Plain.{TwinWrite}
 use Rattle.mmu_update.specs.declared.element.Element.TheVariants.{Write}
+use Rattle.mmu_update.proofs.Finding.{not_stored_found, stored_found, unreferred_found}
 use Rattle.mmu_update.proofs.Hands.{given_back, given_up, may_drop, may_write, no_type, no_work}
 use Rattle.mmu_update.proofs.Twinning.{twin_stops, twin_stores}
 use Rattle.mmu_update.proofs.Writing.{not_referred, not_taken, referred, stops_behind, writes}
@@ -120,3 +122,26 @@ returns-clause-plain g c =
     twin_stores v u c.args.domain c.args.f c.in_ok-frame.frame c.args.index c.args.word c.in_ok-frame.ensures.frame.0 (serves_came v u (of_frame c.args.f c.args.domain None) [] c.in_ok-frame.ensures.serves) c.in_ok-frame.ensures.plain x y z c.store_cell.result c.in_ok-take_writable.ensures.plain
     (serves_came u x (of_frame c.in_ok-frame.frame c.args.domain (Some Writable)) [] c.in_ok-take_writable.ensures.serves)
     c.store_cell.ensures.moves c.drop_plain.ensures.plain c.drop_plain.ensures.stands
+
+-- ---- what is found and changed
+pub returns-in_err-frame-clause-found : goal.returns-in_err-frame-clause-found
+returns-in_err-frame-clause-found g c =
+    let v = g.P.Port.value c.args.port.now in
+    let u = g.P.Port.value c.get_ref.new.port in
+    let answer = err_from_is_err_and c.from_residual.result c.from_residual.ensures.1 in
+    subst (λ (r : Result (Unit {0}) Stop). WriteFound v u c.args.domain c.args.f c.args.index c.args.word r) (sym (answer.1 ∙ ap Err answer.2))
+    (unreferred_found v u c.args.domain c.args.f c.args.index c.args.word c.in_err-frame.field-0.0 c.in_err-frame.ensures.kinds c.in_err-frame.ensures.gets)
+
+pub returns-in_err-take_writable-clause-found : goal.returns-in_err-take_writable-clause-found
+returns-in_err-take_writable-clause-found g c =
+    let v = g.P.Port.value c.args.port.now in
+    let u = g.P.Port.value c.get_ref.new.port in
+    let x = g.P.Port.value c.take_writable.new.port in
+    let answer = err_from_is_err_and c.from_residual-in_err-take_writable.result c.from_residual-in_err-take_writable.ensures.1 in
+    subst (λ (r : Result (Unit {0}) Stop). WriteFound v x c.args.domain c.args.f c.args.index c.args.word r) (sym (answer.1 ∙ ap Err answer.2))
+    (not_stored_found v u c.args.domain c.args.f c.in_ok-frame.frame c.args.index c.args.word c.in_ok-frame.ensures.frame.0 c.in_ok-frame.ensures.gets x c.in_err-take_writable.field-0.0 c.in_err-take_writable.ensures.found)
+
+pub returns-clause-found : goal.returns-clause-found
+returns-clause-found g c =
+    stored_found (g.P.Port.value c.args.port.now) (g.P.Port.value c.get_ref.new.port) c.args.domain c.args.f c.in_ok-frame.frame c.args.index c.args.word c.in_ok-frame.ensures.frame.0 c.in_ok-frame.ensures.gets
+    (g.P.Port.value c.take_writable.new.port) (g.P.Port.value c.store_cell.new.port) (g.P.Port.value c.drop_plain.new.port) c.store_cell.result c.in_ok-take_writable.ensures.found c.store_cell.ensures.moves c.drop_plain.ensures.changes

@@ -28,7 +28,8 @@ use Rattle.answer_fits.proofs.Piecing.{changes_nothing}
 use Rattle.frame_words.specs.Refs.{Gets}
 use Rattle.frame_types.specs.declared.taking.Taken.TheVariants as types
 use Rattle.table_entries.specs.Found.{EntersFound, TypedFound}
-use Rattle.table_entries.proofs.FoundEntering.{asked_refused, enters_by, enters_stopped, enters_taken, looked_changes}
+use Rattle.frame_words.proofs.First.{first_refused}
+use Rattle.table_entries.proofs.FoundEntering.{enters_by, enters_stopped, enters_taken, looked_changes}
 use Rattle.answer_fits.proofs.Changing.{changes_look}
 use Rattle.table_entries.proofs.entries.take_typed.Goals as goal
 use Rattle.xp_board.specs.declared.step.StepKind.TheVariants as kinds
@@ -264,7 +265,7 @@ returns-in_err-frame-clause-found g c b word next asks =
     let answer = err_from_is_err_and c.from_residual.result c.from_residual.ensures.1 in
     subst (λ (r : Result Entered Stop). EntersFound b x at.table at.index at.kind at.owner r) (sym (answer.1 ∙ ap Err answer.2))
     (enters_by b v at.table at.index at.kind word next.looks at.owner (Typed c.args.frame c.args.want) asks x (Err e) (serves_came v x (of_frame c.args.frame at.owner None) (missed v.post.machine e) c.in_err-frame.ensures.serves)
-    (asked_refused b v x c.args.frame at.owner (looked_changes b v at.table at.index at.kind word next.looks) (λ gs. TypedFound b x c.args.frame c.args.want (Err e) gs) e c.in_err-frame.ensures.kinds c.in_err-frame.ensures.gets))
+    (first_refused b v x c.args.frame at.owner (looked_changes b v at.table at.index at.kind word next.looks) (λ gs. TypedFound b x c.args.frame c.args.want (Err e) gs) e c.in_err-frame.ensures.kinds c.in_err-frame.ensures.gets))
 
 pub returns-in-Ok-Counted-clause-found : goal.returns-in-Ok-Counted-clause-found
 returns-in-Ok-Counted-clause-found g c b word next asks =

@@ -8,7 +8,7 @@ use Rattle.vcpu_turn.proofs.pairs.OwnPairsItems.element.Goals as goal
 pub returns-clause-fits : goal.returns-clause-fits
 returns-clause-fits g c =
     rw (slice_get-get_or c.args.self.now.pairs.now c.args.index (record { ptr = 0; val = 0 }) c.requires.index)
-    (record { serves = c.update.ensures.serves; stops = c.update.ensures.stops; numbers = c.update.ensures.numbers; hand = c.update.ensures.hand; plain = c.update.ensures.plain })
+    (record { serves = c.update.ensures.serves; stops = c.update.ensures.stops; numbers = c.update.ensures.numbers; hand = c.update.ensures.hand; found = c.update.ensures.found; plain = c.update.ensures.plain })
 
 pub returns-clause-gate : goal.returns-clause-gate
 returns-clause-gate g c =
