@@ -1,30 +1,19 @@
 -- What an entry takes, on a board that tells all words: behind the look at it.
-use Rattle.std.proofs.Common.{◌≡◌, ℕ, Bool, true, false, Option, Some, None, Result, Ok, Err, refl, sym, ap, ◌∙◌, subst}
-use Rattle.xp_words.specs.Machine.{Machine}
+use Rattle.std.proofs.Common.{◌≡◌, ℕ, true, Option, Some, None, Result, Ok, Err, refl, sym, ap, ◌∙◌, subst}
 use Rattle.xp_words.specs.declared.entry.Demand.TheVariants.{Read, Typed}
 use Rattle.xp_words.specs.declared.kind.PageType.{PageType}
-use Rattle.xp_words.specs.declared.place.Place.TheVariants.{Kind, Refs}
-use Rattle.xp_words.specs.declared.reply.Pause.TheVariants as pauses
+use Rattle.xp_words.specs.declared.place.Place.TheVariants.{Refs}
 use Rattle.xp_words.specs.declared.reply.Refusal.{Refusal}
-use Rattle.xp_words.specs.declared.reply.Refusal.TheVariants as refusals
 use Rattle.xp_words.specs.declared.reply.Stop.{Stop}
 use Rattle.xp_words.specs.declared.reply.Stop.TheVariants.{Refused, Paused}
 use Rattle.xp_board.specs.Told.{PortValue, is_telling, told_word}
-use Rattle.step_maker.specs.Moves.{Came}
 use Rattle.step_maker.specs.Plain.{Leaves, Words}
-use Rattle.step_maker.proofs.Telling.{came_telling}
-use Rattle.answer_fits.specs.Twins.{Alike, AnswersAs}
-use Rattle.frame_words.specs.Plain.{TwinGet, got, put, refer}
-use Rattle.frame_types.specs.Plain.{TakesPlainly, TwinTake, stop_by}
-use Rattle.frame_types.specs.Standing.{standing_of}
-use Rattle.frame_types.specs.declared.standing.Standing.{Standing}
-use Rattle.frame_types.specs.declared.standing.Standing.TheVariants as stands
-use Rattle.frame_types.specs.declared.taking.Taken.TheVariants as types
+use Rattle.answer_fits.specs.Twins.{AnswersAs}
+use Rattle.frame_words.specs.Plain.{TwinGet, got, refer}
 use Rattle.table_entries.specs.Plain.{AgainBy, EntersPlainly, RefersPlainly, TypedPlainly, TypesAgain, TypesPlainly}
 use Rattle.table_entries.specs.declared.entries.Entered.{Entered}
-use Rattle.table_entries.specs.declared.entries.Entered.TheVariants.{Recorded, Opened}
+use Rattle.table_entries.specs.declared.entries.Entered.TheVariants.{Recorded}
 use Rattle.table_entries.specs.declared.resuming.Resumed.{Resumed}
-use Rattle.table_entries.specs.declared.resuming.Resumed.TheVariants as again
 use Rattle.table_entries.proofs.TwinsLooked.{told_all}
 
 -- ---- the reference is refused

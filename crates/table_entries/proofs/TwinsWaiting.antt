@@ -1,7 +1,7 @@
 -- The words of a frame that waits for a flush which is not to be had, and how it is left.
-use Rattle.std.proofs.Common.{◌≡◌, ℕ, ◌<◌, ◌^◌, ◌==◌, ◌||◌, not, if◌then◌else◌, Bool, true, false, IsTrue, None, Ok, refl, sym, ap, ◌∙◌, subst, arith, inr}
+use Rattle.std.proofs.Common.{◌≡◌, ℕ, ◌<◌, ◌^◌, ◌==◌, ◌||◌, not, if◌then◌else◌, Bool, true, false, IsTrue, refl, sym, ap, ◌∙◌, subst, arith, inr}
 use Rattle.xp_words.specs.KindWords.{kind_fields, kind_write}
-use Rattle.xp_words.specs.PageTypes.{is_none, is_table, type_number}
+use Rattle.xp_words.specs.PageTypes.{is_none, type_number}
 use Rattle.xp_words.specs.declared.kind.KindWord.{KindWord}
 use Rattle.xp_words.specs.declared.kind.PageType.{PageType}
 use Rattle.xp_words.specs.declared.place.Place.{Place}

@@ -1,6 +1,6 @@
 -- Entries as plain functions of the words: what is answered and left on a board that tells all words.
 use Rattle.std.specs.Prelude.{◌≡◌, ℕ, ◌&&◌, nat_lt, Bool, true, false, Option, Some, None, Result, Ok, Err}
-use Rattle.xp_words.specs.Entries.{below, demand_at}
+use Rattle.xp_words.specs.Entries.{demand_at}
 use Rattle.xp_words.specs.KindWords.{kind_fields}
 use Rattle.xp_words.specs.Machine.{Machine}
 use Rattle.xp_words.specs.declared.entry.Demand.{Demand}

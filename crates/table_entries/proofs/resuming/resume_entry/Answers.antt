@@ -1,4 +1,4 @@
-use Rattle.std.proofs.Common.{sym, subst, ◌∙◌, true, false}
+use Rattle.std.proofs.Common.{sym, subst, ◌∙◌, true}
 use Rattle.table_entries.specs.Between.{LooksLive, SeesEntry}
 use Rattle.table_entries.proofs.HandAgain.{live_hand, may_again}
 use Rattle.xp_words.specs.Entries.{demand_at}
