@@ -1,0 +1,6 @@
+//! Page tables of four levels: validated.
+#![tactic(auto)]
+
+mod completing;
+mod entering;
+mod unwinding;
