@@ -1,28 +1,28 @@
 //! Tables of which all entries are recorded.
-ghost use Rattle.std.specs.Prelude.{◌≡◌, ◌<◌, [], ℕ};
-ghost use Rattle.step_maker.specs.Holds.{MayWork};
-ghost use Rattle.partial_state.specs.Stacks.{done_on_top};
-ghost use Rattle.level_validate.specs.Tables.{IsReady, IsStanding, StandsOn};
+ghost use Rattle.std.specs.Prelude.{◌≡◌, ◌<◌, ◌∷◌, List, [], ℕ};
+ghost use Rattle.xp_board.specs.Hands.{without_typed};
+ghost use Rattle.xp_board.specs.declared.holdings.TypedReference.{TypedReference};
+ghost use Rattle.step_maker.specs.Holds.{Holds, MayWork};
+ghost use Rattle.step_maker.specs.Moves.{Came};
+ghost use Rattle.frame_types.specs.Taking.{gave_type};
+ghost use Rattle.level_validate.specs.Giving.{MayGiveBack};
 
 use frame_types::drop_type;
 use frame_words::put_ref;
-use kind_words::leave;
-use partial_state::{Stack, TableWork, level_type};
-use step_maker::look_clock;
-use table_words::record_entry;
 use xp_board::Port;
-use xp_words::PageType;
 
-/// Makes the innermost table live, which is not the outermost. The entry that names it is recorded; or, where it was recorded before, the
-/// reference in hand is given back.
-pub(crate) fn complete_inner<P: Port>(port: &mut P, stack: &mut Stack)
+/// Gives a typed reference in hand back, of a frame that is known live and whose type an entry of a table in work has too: so it is not
+/// the last one.
+pub(crate) fn give_back<P: Port>(port: &mut P, frame: u32)
+    requires frame { frame < (P.value port.old).post.machine.frames }
+    requires may { MayWork (P.value port.old) }
+    requires gives { MayGiveBack (P.value port.old).post.machine (P.value port.old).post.vcpu frame (P.value port.old).holdings }
+    ensures came { Came (P.value port.old) (P.value port.new) }
+    ensures hand { Holds (P.value port.old) (P.value port.new) (gave_type frame (P.value port.old).holdings) }
 {
-    unreachable!()
-}
-
-/// Gives a complete typed reference back, of a frame that is known live with that type and that an entry holds beside it. (Were it a
-/// table's last after all, the table would be left partial with all its entries and its `kept` mark.)
-pub(crate) fn give_back<P: Port>(port: &mut P, frame: u32, kind: PageType)
-{
-    unreachable!()
+    if drop_type(port, frame) {
+        unreachable!("an entry has the type too")
+    } else {
+        put_ref(port, frame)
+    }
 }

@@ -2,5 +2,4 @@
 #![tactic(auto)]
 
 mod completing;
-mod entering;
 mod unwinding;
