@@ -1,0 +1,5 @@
+mod LeavingLent
+mod LeavingOwn
+mod LeavingTables
+mod StandsFacts
+mod Unwound

@@ -4,3 +4,4 @@
 mod completing;
 mod entering;
 mod unwinding;
+mod words;
