@@ -5,6 +5,7 @@ use Rattle.xp_words.specs.KindWords.{is_kind, kind_fields, kind_write}
 use Rattle.xp_words.specs.Machine.{IsMachine}
 use Rattle.xp_words.specs.PageTypes.{is_none, is_table}
 use Rattle.xp_words.specs.Places.{Sizes, sizes_of}
+use Rattle.xp_words.specs.declared.place.Place.TheVariants.{Kind}
 use Rattle.xp_words.specs.declared.entry.Demand.TheVariants.{Typed}
 use Rattle.xp_words.specs.declared.kind.PageType.{PageType}
 use Rattle.xp_words.specs.declared.kind.PageType.TheVariants as kinds
@@ -13,6 +14,8 @@ use Rattle.xp_board.specs.declared.holdings.Made.{Made}
 use Rattle.xp_board.specs.declared.holdings.OwnerFound.TheVariants as owners
 use Rattle.xp_board.specs.declared.holdings.Seen.{Seen}
 use Rattle.xp_board.specs.declared.holdings.Work.{Work}
+use Rattle.xp_board.specs.declared.step.Act.TheVariants.{Store}
+use Rattle.xp_board.specs.declared.step.StepKind.TheVariants as steps
 use Rattle.xp_board.specs.Hands.{typed_owner, typed_to, without_work, work_on}
 use Rattle.xp_board.specs.KindSteps.{MayKeep}
 use Rattle.xp_board.specs.Readings.{is_closing, is_work}
@@ -20,6 +23,7 @@ use Rattle.xp_board.specs.Settling.{settles_last}
 use Rattle.xp_board.specs.Told.{Post, PortValue}
 use Rattle.board_lemmas.proofs.KindReadings.{work_alone}
 use Rattle.step_maker.specs.Holds.{Holds, MayWork}
+use Rattle.step_maker.specs.Moves.{Moves}
 use Rattle.frame_types.specs.Taking.{working_typed}
 use Rattle.kind_words.specs.Kinds.{MayLeave, left, partial_kind}
 use Rattle.kind_words.proofs.KindHands.{typed_held, work_here}
@@ -125,6 +129,14 @@ module _ (v w : PortValue) (owner : ℕ) (t : TableWork) (ts : List TableWork) (
             left_partial w t.frame (level_type t.level) top.work top_here false t.done 0 top.is.work (subst (λ b. IsTrue (is_kind (partial_kind (level_type t.level) b false t.done 0))) (sym off) top_spelled)
 
 -- ---- after the store
+-- with its `kept` mark or without, by what that is
+pub store_as : (w d : PortValue) (t : TableWork) (found : ℕ) (b kept : Bool) → b ≡ kept → Moves w d (Kind t.frame) (Store (kind_write (partial_kind (level_type t.level) b false t.done 0))) steps.Kind None found →
+    Moves w d (Kind t.frame) (Store (kind_write (partial_kind (level_type t.level) kept false t.done 0))) steps.Kind None found
+store_as w d t found b kept is store = subst (λ y. Moves w d (Kind t.frame) (Store (kind_write (partial_kind (level_type t.level) y false t.done 0))) steps.Kind None found) is store
+
+pub left_as : (w d : PortValue) (f : ℕ) (b kept : Bool) → b ≡ kept → Holds w d (left_so b f w.holdings) → Holds w d (left_so kept f w.holdings)
+left_as w d f b kept is hand = subst (λ y. Holds w d (left_so y f w.holdings)) is hand
+
 module _ (w d : PortValue) (kept : Bool) (f : ℕ) (hand : Holds w d (left_so kept f w.holdings)) where
   pub left_may : MayWork w → MayWork d
   left_may m =

@@ -1,23 +1,29 @@
 -- The tables in work are left, one after the other.
-use Rattle.std.proofs.Common.{◌≡◌, ◌≢◌, ℕ, ◌+◌, ◌&&◌, ◌<◌, not, if◌then◌else◌, Bool, true, false, List, [], ◌∷◌, length, Option, Some, None, IsTrue, refl, sym, ap, ◌∙◌, subst}
+use Rattle.std.proofs.Common.{◌≡◌, ◌≢◌, ℕ, ◌+◌, ◌-◌, ◌&&◌, ◌<◌, not, if◌then◌else◌, Bool, true, false, List, [], ◌∷◌, length, Option, Some, None, IsTrue, refl, sym, ap, ◌∙◌, subst}
+use Rattle.xp_words.specs.KindWords.{kind_write}
 use Rattle.xp_words.specs.Places.{sizes_of}
+use Rattle.xp_words.specs.declared.place.Place.TheVariants.{Kind}
 use Rattle.xp_board.specs.declared.holdings.Holdings.{Holdings}
 use Rattle.xp_board.specs.declared.holdings.TypedReference.{TypedReference}
+use Rattle.xp_board.specs.declared.step.Act.TheVariants.{Store}
+use Rattle.xp_board.specs.declared.step.StepKind.TheVariants as steps
 use Rattle.xp_board.specs.Hands.{typed_to, without_typed, without_work}
 use Rattle.xp_board.specs.Readings.{domain_of}
 use Rattle.xp_board.specs.Told.{Post, PortValue}
-use Rattle.kind_words.proofs.Leaving.{without_newest}
+use Rattle.kind_words.specs.Kinds.{partial_kind}
+use Rattle.frame_words.specs.Freeing.{gave}
 use Rattle.step_maker.specs.Holds.{FlushedHolds, Holds, MayWork, quiet}
-use Rattle.step_maker.specs.Moves.{Came}
+use Rattle.step_maker.specs.Moves.{Came, Moves}
 use Rattle.step_maker.proofs.Coming.{came_post, came_self, came_trans}
 use Rattle.table_words.specs.OldWords.{kept_in_old, known_old}
 use Rattle.table_words.specs.declared.old_words.OldWord.TheVariants.{First}
 use Rattle.partial_state.specs.declared.stack.TableWork.{TableWork}
-use Rattle.partial_state.specs.Stacks.{retreated}
+use Rattle.partial_state.specs.Levels.{level_type}
 use Rattle.level_validate.specs.Tables.{AreTables, IsStanding, Stands}
 use Rattle.level_validate.specs.Unwinding.{Unwinds, UnwindsTo, UnwoundTo, around_lent, left_so, named_unless, outermost_named, own_domain}
-use Rattle.level_validate.proofs.LeavingTables.{top, top_gone}
-use Rattle.level_validate.proofs.LeavingOwn.{kept_by, own_typed, typed_gone}
+use Rattle.level_validate.proofs.LeavingTables.{top, top_gone, top_typed}
+use Rattle.level_validate.proofs.LeavingLent.{lent_stands}
+use Rattle.level_validate.proofs.LeavingOwn.{kept_by, typed_gone}
 use Rattle.level_validate.proofs.StandsFacts.{may_back, may_stands, refs_own, stands_none, tables_none}
 
 -- ---- the outermost table
@@ -41,8 +47,16 @@ outer_kept v w owner t kept s own on d hand came =
     stands_none v d owner (kept_by v w owner t [] s own d hand came (no_tables v w d owner t s)) ∙ ap (λ b. quiet (record v { holdings = named_unless b t v.holdings })) (sym on)
 
 -- another holder has it
-pub outer_lent : (v d : PortValue) (owner : ℕ) (t : TableWork) (kept : Bool) → t.own ≡ false → Stands v d owner [] → FlushedHolds v d (outermost_named kept (t ∷ []) v.holdings)
-outer_lent v d owner t kept lent s = stands_none v d owner s ∙ ap (λ h. quiet (record v { holdings = h })) (sym (named_lent kept t v.holdings lent))
+around_none : (b : Bool) → around_lent b [] ≡ []
+around_none true = refl
+around_none false = refl
+
+pub outer_lent : (v w : PortValue) (owner : ℕ) (t : TableWork) (kept : Bool) (s : Stands v w owner (t ∷ [])) (lent : t.own ≡ false) (d : PortValue) (found : ℕ) →
+    Moves w d (Kind t.frame) (Store (kind_write (partial_kind (level_type t.level) false false t.done 0))) steps.Kind None found → Holds w d (left_so false t.frame w.holdings) → (x : PortValue) → Holds d x (gave t.frame d.holdings) → Came w x →
+    FlushedHolds v x (outermost_named kept (t ∷ []) v.holdings)
+outer_lent v w owner t kept s lent d found store hand x put came =
+    stands_none v x owner (subst (λ us. Stands v x owner us) (around_none t.recorded) (lent_stands v w owner t [] s lent d found store hand x put came t.recorded refl))
+    ∙ ap (λ h. quiet (record v { holdings = h })) (sym (named_lent kept t v.holdings lent))
 
 -- the first old word has it
 module _ (v w : PortValue) (owner : ℕ) (t : TableWork) (s : Stands v w owner (t ∷ [])) (own : t.own ≡ true) (d : PortValue) (hand : Holds w d (left_so false t.frame w.holdings)) where
@@ -54,7 +68,7 @@ module _ (v w : PortValue) (owner : ℕ) (t : TableWork) (s : Stands v w owner (
 
   pub outer_named : (kept : Bool) → kept ≡ false → (x : PortValue) → Holds d x (kept_in_old First t.frame d.holdings) → FlushedHolds v x (outermost_named kept (t ∷ []) v.holdings)
   outer_named kept off x put =
-      let y = own_typed v w owner t [] s own in
+      let y = top_typed v w owner t [] s own in
       let e = top v w owner t [] s in
       ap quiet put ∙ ap (λ (q : PortValue). quiet (record q { holdings = kept_in_old First t.frame q.holdings })) hand
       ∙ ap (λ ys. quiet (record w { holdings = record w.holdings { typed = ys; works = without_work t.frame w.holdings.works; old0 = Some (t.frame + 1) } })) (typed_gone v w owner t [] s own ∙ y.around ∙ sym s.idle.typed)
@@ -76,7 +90,7 @@ same_named kept u n (r ∷ rs) h = refl
 pub outermost_around : (b : Bool) (ts : List TableWork) (kept : Bool) (h : Holdings) → outermost_named kept (around_lent b ts) h ≡ outermost_named kept ts h
 outermost_around true ts kept h = refl
 outermost_around false [] kept h = refl
-outermost_around false (u ∷ us) kept h = same_named kept u _ us h
+outermost_around false (u ∷ us) kept h = same_named kept u (u.done - 1) us h
 
 pub around_some : (b : Bool) (ts : List TableWork) → ts ≢ [] → around_lent b ts ≢ []
 around_some true ts some = some
