@@ -108,18 +108,3 @@ module _ (v w : PortValue) (owner : ℕ) (t : TableWork) (ts : List TableWork) (
         (around_by b (sizes_of v.post.machine) w.holdings x.holdings t ts (top v w owner t ts s).others (came_grows w x came) longer is (top v w owner t ts s).around)
         (refs_around b owner ts v.holdings.refs)
         (typed_around b (length x.holdings.steps) owner ts w.holdings.typed (typed_later (length w.holdings.steps) (length x.holdings.steps) owner ts w.holdings.typed longer (typed_lent (length w.holdings.steps) owner t ts w.holdings.typed lent s.typed).1))
-
--- ---- whether the entry that names it was recorded before
-not_true : (b : Bool) → not b ≡ true → b ≡ false
-not_true true e = absurd cc
-not_true false e = refl
-
-not_false : (b : Bool) → not b ≡ false → b ≡ true
-not_false true e = refl
-not_false false e = absurd cc
-
-pub is_new : (t : TableWork) → not t.recorded ≡ true → t.recorded ≡ false
-is_new t e = not_true t.recorded e
-
-pub is_old : (t : TableWork) → not t.recorded ≡ false → t.recorded ≡ true
-is_old t e = not_false t.recorded e

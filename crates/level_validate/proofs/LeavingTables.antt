@@ -148,3 +148,12 @@ module _ (w d : PortValue) (kept : Bool) (f : ℕ) (hand : Holds w d (left_so ke
 
   pub left_inside : f < w.post.machine.frames → f < d.post.machine.frames
   left_inside inside = subst (λ (p : Post). f < p.machine.frames) (sym (ap (λ (q : PortValue). q.post) hand)) inside
+
+-- ---- what a test says
+pub not_so : (b : Bool) → not b ≡ true → b ≡ false
+not_so true e = absurd cc
+not_so false e = refl
+
+pub is_so : (b : Bool) → not b ≡ false → b ≡ true
+is_so true e = refl
+is_so false e = absurd cc

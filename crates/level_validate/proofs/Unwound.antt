@@ -22,7 +22,6 @@ use Rattle.partial_state.specs.Levels.{level_type}
 use Rattle.level_validate.specs.Tables.{AreTables, IsStanding, Stands}
 use Rattle.level_validate.specs.Unwinding.{Unwinds, UnwindsTo, UnwoundTo, around_lent, left_so, named_unless, outermost_named, own_domain}
 use Rattle.level_validate.proofs.LeavingTables.{top, top_gone, top_typed}
-use Rattle.level_validate.proofs.LeavingLent.{lent_stands}
 use Rattle.level_validate.proofs.LeavingOwn.{kept_by, typed_gone}
 use Rattle.level_validate.proofs.StandsFacts.{may_back, may_stands, refs_own, stands_none, tables_none}
 
@@ -51,12 +50,9 @@ around_none : (b : Bool) → around_lent b [] ≡ []
 around_none true = refl
 around_none false = refl
 
-pub outer_lent : (v w : PortValue) (owner : ℕ) (t : TableWork) (kept : Bool) (s : Stands v w owner (t ∷ [])) (lent : t.own ≡ false) (d : PortValue) (found : ℕ) →
-    Moves w d (Kind t.frame) (Store (kind_write (partial_kind (level_type t.level) false false t.done 0))) steps.Kind None found → Holds w d (left_so false t.frame w.holdings) → (x : PortValue) → Holds d x (gave t.frame d.holdings) → Came w x →
-    FlushedHolds v x (outermost_named kept (t ∷ []) v.holdings)
-outer_lent v w owner t kept s lent d found store hand x put came =
-    stands_none v x owner (subst (λ us. Stands v x owner us) (around_none t.recorded) (lent_stands v w owner t [] s lent d found store hand x put came t.recorded refl))
-    ∙ ap (λ h. quiet (record v { holdings = h })) (sym (named_lent kept t v.holdings lent))
+pub outer_lent : (v x : PortValue) (owner : ℕ) (t : TableWork) (kept : Bool) → t.own ≡ false → Stands v x owner (around_lent t.recorded []) → FlushedHolds v x (outermost_named kept (t ∷ []) v.holdings)
+outer_lent v x owner t kept lent s =
+    stands_none v x owner (subst (λ us. Stands v x owner us) (around_none t.recorded) s) ∙ ap (λ h. quiet (record v { holdings = h })) (sym (named_lent kept t v.holdings lent))
 
 -- the first old word has it
 module _ (v w : PortValue) (owner : ℕ) (t : TableWork) (s : Stands v w owner (t ∷ [])) (own : t.own ≡ true) (d : PortValue) (hand : Holds w d (left_so false t.frame w.holdings)) where

@@ -1,5 +1,5 @@
 //! Tables in work that are left unfinished.
-ghost use Rattle.std.specs.Prelude.{◌≡◌, ◌≢◌, ◌∷◌, [], List, Some, None, true, false, length};
+ghost use Rattle.std.specs.Prelude.{◌≡◌, ◌≢◌, ◌∷◌, Bool, [], List, Some, None, true, false, length};
 ghost use Rattle.xp_words.specs.KindWords.{kind_write};
 ghost use Rattle.xp_words.specs.declared.place.Place.TheVariants.{Kind};
 ghost use Rattle.xp_board.specs.Told.{PortValue};
@@ -48,10 +48,8 @@ fn leave_table<P: Port>(port: &mut P, stack: &mut Stack, table: TableWork, kept:
 {
     if stack.is_empty() {
         leave_outermost(port, table, kept);
-    } else if table.own {
-        leave_own(port, stack, table);
     } else {
-        leave_lent(port, stack, table);
+        leave_inner(port, stack, table);
     }
 }
 
@@ -63,11 +61,44 @@ fn leave_outermost<P: Port>(port: &mut P, table: TableWork, kept: bool)
     ensures came { Came (P.value port.old) (P.value port.new) }
     ensures hand { Unwinds (P.value port.old) (P.value port.new) kept (table ∷ []) }
 {
-    leave_partial(port, table, kept && table.own);
-    if !table.own {
-        put_ref(port, table.frame);
-    } else if !kept {
+    if table.own {
+        leave_named(port, table, kept);
+    } else {
+        leave_lent(port, table);
+    }
+}
+
+// The outermost table, whose type count is in hand.
+fn leave_named<P: Port>(port: &mut P, table: TableWork, kept: bool)
+    requires may { MayWork (P.value port.old) }
+    requires stands { IsStanding (P.value port.old) (own_domain (P.value port.old)) (table ∷ []) }
+    requires own { table.own ≡ true }
+    requires room { kept ≡ false → known_old First (P.value port.old).holdings ≡ Some 0 }
+    ensures came { Came (P.value port.old) (P.value port.new) }
+    ensures hand { Unwinds (P.value port.old) (P.value port.new) kept (table ∷ []) }
+{
+    leave_partial(port, table, kept);
+    if !kept {
         put_old(port, OldWord::First, table.frame);
+    }
+}
+
+// A table inside another one. Where its type count is another holder's, an entry that is under way is not done with any more.
+fn leave_inner<P: Port>(port: &mut P, stack: &mut Stack, table: TableWork)
+    requires may { MayWork (P.value port.old) }
+    requires stands { IsStanding (P.value port.old) (own_domain (P.value port.old)) (table ∷ stack.old) }
+    requires inner { stack.old ≢ [] }
+    ensures came { Came (P.value port.old) (P.value port.new) }
+    ensures stands { StandsOn (P.value port.old) (P.value port.new) (own_domain (P.value port.old)) (table ∷ stack.old) stack.new }
+    ensures around { (b : Bool) × (stack.new ≡ around_lent b stack.old) }
+{
+    if table.own {
+        leave_own(port, stack, table);
+    } else {
+        leave_lent(port, table);
+        if !table.recorded {
+            stack.retreat();
+        }
     }
 }
 
@@ -89,21 +120,16 @@ fn leave_own<P: Port>(port: &mut P, stack: &Stack, table: TableWork)
     }
 }
 
-// A table inside another one, whose type count is another holder's. An entry that is under way is not done with any more.
-fn leave_lent<P: Port>(port: &mut P, stack: &mut Stack, table: TableWork)
+// A table whose type count is another holder's.
+fn leave_lent<P: Port>(port: &mut P, table: TableWork)
     requires may { MayWork (P.value port.old) }
-    requires stands { IsStanding (P.value port.old) (own_domain (P.value port.old)) (table ∷ stack.old) }
+    requires stands { (ts : List TableWork) × IsStanding (P.value port.old) (own_domain (P.value port.old)) (table ∷ ts) }
     requires lent { table.own ≡ false }
-    requires inner { stack.old ≢ [] }
     ensures came { Came (P.value port.old) (P.value port.new) }
-    ensures stands { StandsOn (P.value port.old) (P.value port.new) (own_domain (P.value port.old)) (table ∷ stack.old) stack.new }
-    ensures around { stack.new ≡ around_lent table.recorded stack.old }
+    ensures stands { (ts : List TableWork) → StandsOn (P.value port.old) (P.value port.new) (own_domain (P.value port.old)) (table ∷ ts) (around_lent table.recorded ts) }
 {
     leave_partial(port, table, false);
     put_ref(port, table.frame);
-    if !table.recorded {
-        stack.retreat();
-    }
 }
 
 // The innermost table's kind word.
