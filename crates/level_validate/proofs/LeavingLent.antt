@@ -1,5 +1,5 @@
 -- The innermost table is left partial as another holder's, and the reference in hand is given back.
-use Rattle.std.proofs.Common.{◌≡◌, ◌≢◌, ℕ, ◌+◌, ◌-◌, ◌<◌, ◌≤◌, not, Bool, true, false, List, [], ◌∷◌, length, Option, Some, None, IsTrue, refl, sym, ap, ◌∙◌, subst, arith}
+use Rattle.std.proofs.Common.{◌≡◌, ◌≢◌, ℕ, ◌-◌, ◌<◌, ◌≤◌, Bool, true, false, List, [], ◌∷◌, length, Some, None, refl, sym, ap, ◌∙◌, subst, arith}
 use Rattle.xp_words.specs.KindWords.{kind_write}
 use Rattle.xp_words.specs.Places.{Sizes, sizes_of}
 use Rattle.xp_words.specs.declared.place.Place.TheVariants.{Kind}
@@ -11,7 +11,7 @@ use Rattle.xp_board.specs.declared.holdings.TypedReference.{TypedReference}
 use Rattle.xp_board.specs.declared.holdings.Work.{Work}
 use Rattle.xp_board.specs.declared.step.Act.TheVariants.{Store}
 use Rattle.xp_board.specs.declared.step.StepKind.TheVariants as kinds
-use Rattle.xp_board.specs.Hands.{refs_to, without_ref, without_work, work_on}
+use Rattle.xp_board.specs.Hands.{refs_to, without_work, work_on}
 use Rattle.xp_board.specs.Told.{PortValue}
 use Rattle.board_lemmas.proofs.ListCounts.{newest_held}
 use Rattle.step_maker.specs.Holds.{FlushedHolds, Holds, quiet}
@@ -28,10 +28,10 @@ use Rattle.partial_state.proofs.StackFacts.{stack_retreated}
 use Rattle.partial_state.specs.declared.stack.TableWork.{TableWork}
 use Rattle.partial_state.specs.Levels.{level_type}
 use Rattle.partial_state.specs.Stacks.{IsStack, done_on_top, retreated}
-use Rattle.level_validate.specs.Tables.{AreTables, AreTyped, Reaches, Stands, innermost, refs_for}
+use Rattle.level_validate.specs.Tables.{AreTables, AreTyped, Stands, innermost, refs_for}
 use Rattle.level_validate.specs.Unwinding.{around_lent, left_so}
 use Rattle.level_validate.proofs.LeavingTables.{reaches_taken, reaches_under, top, top_gone}
-use Rattle.level_validate.proofs.StandsFacts.{refs_done, refs_lent, stands_by, tables_inner, tables_later, tables_none, typed_done, typed_lent, typed_later, work_done}
+use Rattle.level_validate.proofs.StandsFacts.{refs_done, refs_lent, stands_by, tables_inner, tables_later, typed_done, typed_lent, typed_later, work_done}
 
 -- ---- the tables around it
 -- its entry was recorded before

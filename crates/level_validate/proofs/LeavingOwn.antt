@@ -1,24 +1,19 @@
 -- The innermost table is left partial, and its type count goes into its `kept` mark, or into the entry that names it.
-use Rattle.std.proofs.Common.{◌≡◌, ℕ, ◌+◌, ◌-◌, ◌<◌, ◌≤◌, if◌then◌else◌, Bool, true, false, List, [], ◌∷◌, length, Option, Some, None, IsTrue, refl, sym, ap, ◌∙◌, subst, arith, inl, inr}
+use Rattle.std.proofs.Common.{◌≡◌, ℕ, ◌<◌, if◌then◌else◌, Bool, true, false, List, ◌∷◌, length, Some, None, IsTrue, refl, sym, ap, ◌∙◌, subst, arith, inl, inr}
 use Rattle.xp_words.specs.Entries.{demand_at}
-use Rattle.xp_words.specs.KindWords.{is_kind, kind_fields, kind_write}
+use Rattle.xp_words.specs.KindWords.{is_kind, kind_write}
 use Rattle.xp_words.specs.PageTypes.{is_table}
 use Rattle.xp_words.specs.Places.{Sizes, sizes_of}
-use Rattle.xp_words.specs.declared.entry.Demand.{Demand}
 use Rattle.xp_words.specs.declared.entry.Demand.TheVariants.{Typed}
 use Rattle.xp_words.specs.declared.kind.PageType.{PageType}
 use Rattle.xp_words.specs.declared.place.Place.TheVariants.{Kind}
 use Rattle.xp_board.specs.declared.holdings.Holdings.{Holdings}
-use Rattle.xp_board.specs.declared.holdings.Made.{Made}
-use Rattle.xp_board.specs.declared.holdings.Liveness.TheVariants as lives
-use Rattle.xp_board.specs.declared.holdings.OwnerFound.TheVariants as owners
 use Rattle.xp_board.specs.declared.holdings.TypedReference.{TypedReference}
-use Rattle.xp_board.specs.declared.holdings.Unsettled.{Unsettled}
 use Rattle.xp_board.specs.declared.holdings.Work.{Work}
 use Rattle.xp_board.specs.declared.step.Act.TheVariants.{Store}
 use Rattle.xp_board.specs.declared.step.StepKind.TheVariants as kinds
 use Rattle.xp_board.specs.Acts.{left_by}
-use Rattle.xp_board.specs.Hands.{changed_work, typed_to, without_typed, without_work, work_on}
+use Rattle.xp_board.specs.Hands.{changed_work, typed_to, without_typed, without_work}
 use Rattle.xp_board.specs.Knowledge.{knows_partial}
 use Rattle.xp_board.specs.Lists.{changed_by}
 use Rattle.xp_board.specs.Marks.{leaves_unsettled}
@@ -31,7 +26,7 @@ use Rattle.step_maker.specs.Holds.{FlushedHolds, Holds, quiet}
 use Rattle.step_maker.specs.Moves.{Came, Moves}
 use Rattle.step_maker.proofs.Coming.{moves_came}
 use Rattle.flush_words.proofs.Lasting.{came_longer}
-use Rattle.flush_waits.proofs.Growing.{Grows, came_grows}
+use Rattle.flush_waits.proofs.Growing.{came_grows}
 use Rattle.frame_types.specs.Taking.{working_typed}
 use Rattle.kind_words.specs.Kinds.{partial_kind}
 use Rattle.kind_words.proofs.KindHands.{typed_held, work_here}
@@ -39,13 +34,13 @@ use Rattle.kind_words.proofs.KindWriting.{fields_write}
 use Rattle.kind_words.proofs.Leaving.{without_newest}
 use Rattle.table_words.specs.Entries.{RecordsNext, entry_recorded}
 use Rattle.table_words.proofs.EntryHands.{next_asks, record_left, unsettled_for}
-use Rattle.table_words.proofs.Knowing.{partial_by_step}
+use Rattle.kind_words.proofs.Knowing.{partial_by_step}
 use Rattle.table_entries.proofs.HandOwners.{typed_knows_its, typed_knows_still}
 use Rattle.table_entries.proofs.HandReady.{settled_more}
 use Rattle.partial_state.proofs.LevelFacts.{level_type-table}
 use Rattle.partial_state.specs.declared.stack.TableWork.{TableWork}
 use Rattle.partial_state.specs.Levels.{level_type}
-use Rattle.level_validate.specs.Tables.{AreTables, AreTyped, IsTableWork, Reaches, Stands, innermost, refs_for}
+use Rattle.level_validate.specs.Tables.{AreTables, IsTableWork, Stands, innermost, refs_for}
 use Rattle.level_validate.specs.Unwinding.{left_so}
 use Rattle.level_validate.proofs.LeavingLent.{around_taken}
 use Rattle.level_validate.proofs.LeavingTables.{UnderWay, reaches_under, top, top_gone, top_spelled, top_typed}

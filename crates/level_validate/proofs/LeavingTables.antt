@@ -1,24 +1,19 @@
 -- The innermost table is left partial: when it may be, and what is in hand then.
-use Rattle.std.proofs.Common.{◌≡◌, ℕ, ◌+◌, ◌-◌, ◌<◌, ◌≤◌, not, Bool, true, false, List, [], ◌∷◌, length, Option, Some, None, IsTrue, refl, sym, ap, ◌∙◌, subst, arith, inl}
+use Rattle.std.proofs.Common.{◌≡◌, ℕ, ◌+◌, ◌<◌, ◌≤◌, not, Bool, true, false, List, ◌∷◌, length, Option, Some, None, IsTrue, refl, sym, ap, ◌∙◌, subst, arith, inl}
 use Rattle.xp_words.specs.Entries.{demand_at}
 use Rattle.xp_words.specs.KindWords.{is_kind, kind_fields, kind_write}
 use Rattle.xp_words.specs.Machine.{IsMachine}
-use Rattle.xp_words.specs.PageTypes.{is_none, is_table}
+use Rattle.xp_words.specs.PageTypes.{is_table}
 use Rattle.xp_words.specs.Places.{Sizes, sizes_of}
 use Rattle.xp_words.specs.declared.place.Place.TheVariants.{Kind}
 use Rattle.xp_words.specs.declared.entry.Demand.TheVariants.{Typed}
-use Rattle.xp_words.specs.declared.kind.PageType.{PageType}
-use Rattle.xp_words.specs.declared.kind.PageType.TheVariants as kinds
-use Rattle.xp_board.specs.declared.holdings.Holdings.{Holdings}
 use Rattle.xp_board.specs.declared.holdings.Made.{Made}
 use Rattle.xp_board.specs.declared.holdings.OwnerFound.TheVariants as owners
-use Rattle.xp_board.specs.declared.holdings.Seen.{Seen}
 use Rattle.xp_board.specs.declared.holdings.Work.{Work}
 use Rattle.xp_board.specs.declared.step.Act.TheVariants.{Store}
 use Rattle.xp_board.specs.declared.step.StepKind.TheVariants as steps
 use Rattle.xp_board.specs.Hands.{typed_owner, typed_to, without_work, work_on}
 use Rattle.xp_board.specs.KindSteps.{MayKeep}
-use Rattle.xp_board.specs.Readings.{is_closing, is_work}
 use Rattle.xp_board.specs.Settling.{settles_last}
 use Rattle.xp_board.specs.Told.{Post, PortValue}
 use Rattle.board_lemmas.proofs.KindReadings.{work_alone}
@@ -27,9 +22,8 @@ use Rattle.step_maker.specs.Moves.{Moves}
 use Rattle.frame_types.specs.Taking.{working_typed}
 use Rattle.kind_words.specs.Kinds.{MayLeave, left, partial_kind}
 use Rattle.kind_words.proofs.KindHands.{typed_held, work_here}
-use Rattle.kind_words.proofs.KindWriting.{partial_is}
 use Rattle.kind_words.proofs.Leaving.{left_kept, left_partial, may_keep, may_leave_partial, without_newest}
-use Rattle.partial_state.proofs.LevelFacts.{level_type-table}
+use Rattle.partial_state.proofs.LevelFacts.{level_type-table, level_type-typed}
 use Rattle.partial_state.specs.declared.stack.TableWork.{TableWork}
 use Rattle.partial_state.specs.Levels.{level_type}
 use Rattle.level_validate.specs.Tables.{Reaches, Stands, innermost, taken_on, under_way}
@@ -63,15 +57,6 @@ reaches_under z steps t e g o inner new (under_way h word new2 next settled seen
 reaches_under z steps t e g o inner new (taken_on h word old all some last seen asks) = absurd cc
 
 -- ---- the store
-table_some : (k : PageType) → is_table k ≡ true → IsTrue (not (is_none k))
-table_some kinds.None is = absurd cc
-table_some kinds.L1 is = refl
-table_some kinds.L2 is = refl
-table_some kinds.L3 is = refl
-table_some kinds.L4 is = refl
-table_some kinds.Desc is = refl
-table_some kinds.Writable is = refl
-
 module _ (v w : PortValue) (owner : ℕ) (t : TableWork) (ts : List TableWork) (s : Stands v w owner (t ∷ ts)) where
   pub top : TopTable (sizes_of v.post.machine) w.holdings.steps None t ts w.holdings.works
   top = tables_top (sizes_of v.post.machine) w.holdings.steps None t ts w.holdings.works s.tables
@@ -90,9 +75,6 @@ module _ (v w : PortValue) (owner : ℕ) (t : TableWork) (ts : List TableWork) (
 
   pub top_table : is_table (level_type t.level) ≡ true
   top_table = level_type-table t.level s.stack.0.low
-
-  some_type : IsTrue (not (is_none (level_type t.level)))
-  some_type = table_some (level_type t.level) top_table
 
   pub top_typed : t.own ≡ true → TopTyped (length w.holdings.steps) owner t ts w.holdings.typed
   top_typed own = typed_own (length w.holdings.steps) owner t ts w.holdings.typed own s.typed
@@ -113,7 +95,7 @@ module _ (v w : PortValue) (owner : ℕ) (t : TableWork) (ts : List TableWork) (
     pub top_leaves : MayLeave w t.frame (partial_kind (level_type t.level) kept false t.done 0)
     top_leaves =
         subst (λ n. MayLeave w t.frame (partial_kind (level_type t.level) kept false n 0)) top_done
-        (may_leave_partial w t.frame (level_type t.level) top.work top_here some_type top.is.kind kept keeps top_table few (inl top.is.unmarked) (λ closing. absurd (let off = work_alone (kind_fields top.work.word) top.is.work in cc)))
+        (may_leave_partial w t.frame (level_type t.level) top.work top_here (level_type-typed t.level) top.is.kind kept keeps top_table few (inl top.is.unmarked) (λ closing. absurd (let off = work_alone (kind_fields top.work.word) top.is.work in cc)))
 
     pub top_spelled : IsTrue (is_kind (partial_kind (level_type t.level) kept false t.done 0))
     top_spelled = top_leaves.is

@@ -1,7 +1,5 @@
 -- Tables in work: the innermost, what is known of each by its references, and how they stand when steps are noted.
-use Rattle.std.proofs.Common.{◌≡◌, ℕ, ◌+◌, ◌-◌, ◌<◌, ◌≤◌, Bool, true, false, List, [], ◌∷◌, length, Option, Some, None, IsTrue, refl, sym, ap, ◌∙◌, subst, arith, inl, inr}
-use Rattle.xp_words.specs.Entries.{demand_at}
-use Rattle.xp_words.specs.KindWords.{kind_fields}
+use Rattle.std.proofs.Common.{◌≡◌, ℕ, ◌<◌, ◌≤◌, Bool, true, false, List, [], ◌∷◌, length, Option, Some, None, IsTrue, refl, sym, ap, ◌∙◌, subst, arith, inl, inr}
 use Rattle.xp_words.specs.Machine.{IsMachine}
 use Rattle.xp_words.specs.Places.{Sizes, sizes_of}
 use Rattle.xp_words.specs.declared.entry.Demand.TheVariants.{Typed}
@@ -10,17 +8,14 @@ use Rattle.xp_board.specs.declared.holdings.Made.{Made}
 use Rattle.xp_board.specs.declared.holdings.OwnerFound.TheVariants as owners
 use Rattle.xp_board.specs.declared.holdings.Reference.{Reference}
 use Rattle.xp_board.specs.declared.holdings.TypedReference.{TypedReference}
-use Rattle.xp_board.specs.declared.holdings.Unsettled.{Unsettled}
 use Rattle.xp_board.specs.declared.holdings.Work.{Work}
 use Rattle.xp_board.specs.Hands.{owner_by, owner_by_typed, owner_from, ref_owner, ref_to, refs_to, typed_on, typed_owner, typed_to}
 use Rattle.xp_board.specs.Settling.{is_settled, settles_last}
 use Rattle.xp_board.specs.Told.{Post, PortValue}
 use Rattle.board_lemmas.proofs.ListCounts.{first_by-cons_here, newest_held}
 use Rattle.step_maker.specs.Holds.{FlushedHolds, MayWork, quiet}
-use Rattle.step_maker.specs.Moves.{Came}
-use Rattle.flush_words.proofs.Lasting.{came_longer}
 use Rattle.flush_waits.specs.Waiting.{IsKnownOwner}
-use Rattle.flush_waits.proofs.Growing.{Grows, came_grows}
+use Rattle.flush_waits.proofs.Growing.{Grows}
 use Rattle.frame_types.specs.Taking.{working_typed}
 use Rattle.kind_words.proofs.KindHands.{typed_held}
 use Rattle.table_entries.proofs.HandReady.{settled_more}
@@ -112,8 +107,10 @@ top_known made owner t ts rs h refs typed = by t.own refl
         inr (subst (λ xs. 0 < typed_to t.frame xs) (sym y.are) (typed_held t.frame e y.others refl), typed_owned t.frame owner e y.others h y.are refl refl)
     by false lent =
         let is = refs ∙ refs_lent owner t ts rs lent in
-        inl (subst (λ xs. 0 < refs_to t.frame xs) (sym is) (newest_held t.frame (record { frame = t.frame; owner = owners.Of owner }) (refs_for owner ts rs) refl),
-          ref_owned t.frame owner (record { frame = t.frame; owner = owners.Of owner }) (refs_for owner ts rs) h is refl refl)
+        inl (
+          subst (λ xs. 0 < refs_to t.frame xs) (sym is) (newest_held t.frame (record { frame = t.frame; owner = owners.Of owner }) (refs_for owner ts rs) refl),
+          ref_owned t.frame owner (record { frame = t.frame; owner = owners.Of owner }) (refs_for owner ts rs) h is refl refl,
+        )
 
 -- ---- another hand of these parts
 pub may_after : (w d : PortValue) (rs : List Reference) (ys : List TypedReference) (ws : List Work) → FlushedHolds w d (record w.holdings { refs = rs; typed = ys; works = ws }) → MayWork w → MayWork d

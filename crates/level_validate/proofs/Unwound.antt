@@ -1,24 +1,16 @@
 -- The tables in work are left, one after the other.
-use Rattle.std.proofs.Common.{◌≡◌, ◌≢◌, ℕ, ◌+◌, ◌-◌, ◌&&◌, ◌<◌, not, if◌then◌else◌, Bool, true, false, List, [], ◌∷◌, length, Option, Some, None, IsTrue, refl, sym, ap, ◌∙◌, subst}
-use Rattle.xp_words.specs.KindWords.{kind_write}
+use Rattle.std.proofs.Common.{◌≡◌, ◌≢◌, ℕ, ◌+◌, ◌-◌, ◌<◌, Bool, true, false, List, [], ◌∷◌, length, Some, None, refl, sym, ap, ◌∙◌, subst}
 use Rattle.xp_words.specs.Places.{sizes_of}
-use Rattle.xp_words.specs.declared.place.Place.TheVariants.{Kind}
 use Rattle.xp_board.specs.declared.holdings.Holdings.{Holdings}
-use Rattle.xp_board.specs.declared.holdings.TypedReference.{TypedReference}
-use Rattle.xp_board.specs.declared.step.Act.TheVariants.{Store}
-use Rattle.xp_board.specs.declared.step.StepKind.TheVariants as steps
-use Rattle.xp_board.specs.Hands.{typed_to, without_typed, without_work}
+use Rattle.xp_board.specs.Hands.{typed_to, without_work}
 use Rattle.xp_board.specs.Readings.{domain_of}
 use Rattle.xp_board.specs.Told.{Post, PortValue}
-use Rattle.kind_words.specs.Kinds.{partial_kind}
-use Rattle.frame_words.specs.Freeing.{gave}
 use Rattle.step_maker.specs.Holds.{FlushedHolds, Holds, MayWork, quiet}
-use Rattle.step_maker.specs.Moves.{Came, Moves}
+use Rattle.step_maker.specs.Moves.{Came}
 use Rattle.step_maker.proofs.Coming.{came_post, came_self, came_trans}
 use Rattle.table_words.specs.OldWords.{kept_in_old, known_old}
 use Rattle.table_words.specs.declared.old_words.OldWord.TheVariants.{First}
 use Rattle.partial_state.specs.declared.stack.TableWork.{TableWork}
-use Rattle.partial_state.specs.Levels.{level_type}
 use Rattle.level_validate.specs.Tables.{AreTables, IsStanding, Stands}
 use Rattle.level_validate.specs.Unwinding.{Unwinds, UnwindsTo, UnwoundTo, around_lent, left_so, named_unless, outermost_named, own_domain}
 use Rattle.level_validate.proofs.LeavingTables.{top, top_gone, top_typed}

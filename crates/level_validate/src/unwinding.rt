@@ -140,5 +140,9 @@ fn leave_partial<P: Port>(port: &mut P, table: TableWork, kept: bool) -> u64
     ensures moves { Moves (P.value port.old) (P.value port.new) (Kind table.frame) (Store (kind_write (partial_kind (level_type table.level) kept false table.done 0))) kinds.Kind None result }
     ensures hand { Holds (P.value port.old) (P.value port.new) (left_so kept table.frame (P.value port.old).holdings) }
 {
-    leave(port, table.frame, partial_kind(level_type(table.level), kept, table.done))
+    leave(
+        port,
+        table.frame,
+        partial_kind(level_type(table.level), kept, table.done),
+    )
 }
