@@ -1,7 +1,10 @@
-pub mod LeavingTables
-pub mod Looking
-pub mod Opening
-pub mod Pushing
-pub mod Sharing
-pub mod Standing
-pub mod StandsFacts
+mod LeavingLent
+mod LeavingOwn
+mod LeavingTables
+mod Looking
+mod Opening
+mod Pushing
+mod Sharing
+mod Standing
+mod StandsFacts
+mod Unwound

@@ -3,3 +3,4 @@
 
 mod completing;
 mod unwinding;
+mod words;

@@ -1,7 +1,9 @@
 -- Levels of page tables, and the types of what their entries name.
-use Rattle.std.proofs.Common.{◌≡◌, ℕ, zero, suc, ◌<◌, ◌≤◌, true, refl, arith}
+use Rattle.std.proofs.Common.{◌≡◌, ℕ, zero, suc, ◌<◌, ◌≤◌, ◌==◌, not, true, IsTrue, refl, sym, ap, ◌∙◌, arith}
+use Rattle.xp_words.specs.declared.kind.PageType.{PageType}
+use Rattle.xp_words.specs.declared.kind.PageType.TheVariants.{L1, L2, L3, L4}
 use Rattle.xp_words.specs.Entries.{below}
-use Rattle.xp_words.specs.PageTypes.{is_table, type_number}
+use Rattle.xp_words.specs.PageTypes.{is_none, is_table, type_number}
 use Rattle.partial_state.specs.Levels.{level_type}
 
 pub level_type-below : (l : ℕ) → l < 4 → below (level_type (suc l)) ≡ level_type l
@@ -25,3 +27,38 @@ level_type-table (suc zero) b = refl
 level_type-table (suc (suc zero)) b = refl
 level_type-table (suc (suc (suc zero))) b = refl
 level_type-table (suc (suc (suc (suc l)))) b = refl
+
+-- each is a type, and none that of descriptor pages
+pub level_type-typed : (l : ℕ) → IsTrue (not (is_none (level_type l)))
+level_type-typed zero = refl
+level_type-typed (suc zero) = refl
+level_type-typed (suc (suc zero)) = refl
+level_type-typed (suc (suc (suc zero))) = refl
+level_type-typed (suc (suc (suc (suc l)))) = refl
+
+pub level_type-plain : (l : ℕ) → IsTrue (not (type_number (level_type l) == 5))
+level_type-plain zero = refl
+level_type-plain (suc zero) = refl
+level_type-plain (suc (suc zero)) = refl
+level_type-plain (suc (suc (suc zero))) = refl
+level_type-plain (suc (suc (suc (suc l)))) = refl
+
+-- two levels have two types
+level_of : PageType → ℕ
+level_of L1 = 1
+level_of L2 = 2
+level_of L3 = 3
+level_of L4 = 4
+level_of _ = 0
+
+level_back : (l : ℕ) → l ≤ 4 → level_of (level_type l) ≡ l
+unfolding level_of
+level_back zero b = refl
+level_back (suc zero) b = refl
+level_back (suc (suc zero)) b = refl
+level_back (suc (suc (suc zero))) b = refl
+level_back (suc (suc (suc (suc zero)))) b = refl
+level_back (suc (suc (suc (suc (suc l))))) b = absurd (omega arith)
+
+pub level_type-apart : (k l : ℕ) → k ≤ 4 → l ≤ 4 → level_type k ≡ level_type l → k ≡ l
+level_type-apart k l a b e = sym (level_back k a) ∙ ap level_of e ∙ level_back l b

@@ -29,3 +29,29 @@ fn bits_have_names(rt: HostRuntime) {
     assert!(rt; EntryBits(0x140).is_reserved(PageType::L3));
     assert!(rt; !EntryBits(0x140).is_reserved(PageType::L1));
 }
+
+// Where Xen's `put_pte_flags` puts flags, which its headers number without the frame number between them.
+fn put_pte_flags(flags: u64) -> u64 {
+    ((flags & !0xfff) << 40) | (flags & 0xfff)
+}
+
+#[test]
+fn bits_are_those_of_the_headers(rt: HostRuntime) {
+    let named = [
+        (EntryBits::PRESENT, 0x001),
+        (EntryBits::RW, 0x002),
+        (EntryBits::USER, 0x004),
+        (EntryBits::PWT, 0x008),
+        (EntryBits::PCD, 0x010),
+        (EntryBits::ACCESSED, 0x020),
+        (EntryBits::DIRTY, 0x040),
+        (EntryBits::PSE, 0x080),
+        (EntryBits::GLOBAL, 0x100),
+        (EntryBits::AVAIL, 0xe00),
+        (EntryBits::AVAIL_HIGH, 0x7ff << 12),
+        (EntryBits::NX, 1 << 23),
+    ];
+    for (bits, flags) in named {
+        assert_eq!(rt; bits, EntryBits(put_pte_flags(flags)));
+    }
+}

@@ -19,3 +19,6 @@ pub mod TwinsTaken
 pub mod TwinsTyped
 pub mod TwinsWaiting
 pub mod TwinsLeft
+pub mod FoundEntering
+pub mod FoundWaiting
+pub mod FoundResuming

@@ -1,53 +1,20 @@
--- Levels and types, and how often an acquisition has named a frame.
-use Rattle.std.proofs.Common.{◌≡◌, ◌≢◌, ℕ, zero, suc, ◌+◌, ◌<◌, ◌≤◌, if◌then◌else◌, Bool, true, false, Option, Some, None, IsTrue, refl, sym, ap, ◌∙◌, subst, inl, inr, arith}
+-- How often an acquisition has named a frame.
+use Rattle.std.proofs.Common.{◌≡◌, ◌≢◌, ℕ, zero, suc, ◌+◌, ◌<◌, ◌≤◌, if◌then◌else◌, Bool, true, false, Option, Some, None, refl, sym, ap, ◌∙◌, subst, inl, inr, arith}
 use Rattle.std.proofs.lemmas.Bool.{cases_eq}
 use Rattle.xp_words.specs.declared.kind.PageType.{PageType}
-use Rattle.xp_words.specs.declared.kind.PageType.TheVariants as kinds
 use Rattle.xp_words.specs.declared.entry.Demand.{Demand}
 use Rattle.xp_words.specs.declared.entry.Demand.TheVariants.{Nothing, Bad, Read, Typed}
 use Rattle.xp_words.specs.Entries.{demand_of, demand_at, below, is_slot, frame_of}
-use Rattle.xp_words.specs.PageTypes.{is_table}
 use Rattle.xp_board.specs.Lists.{one_at}
 use Rattle.xp_board.specs.Recorded.{names}
 use Rattle.xp_board.specs.Sums.{sum_below}
 use Rattle.board_lemmas.proofs.Sums.{when_eq, when_ne, sum_below-one, sum_below-same, sum_below-fewer}
+use Rattle.partial_state.specs.Levels.{level_type}
+use Rattle.partial_state.proofs.LevelFacts.{level_type-below, level_type-table}
 use Rattle.table_law.specs.Plain.{Plain, Share, at}
-use Rattle.table_law.specs.Levels.{entry_of, type_at}
+use Rattle.table_law.specs.Levels.{entry_of}
 use Rattle.table_law.specs.Lawful.{plain_asked_by}
 use Rattle.table_law.proofs.Doing.{Case, Doing, IsLawful, asked, total, IsTaken}
-
--- ---- levels
-level_of : PageType → ℕ
-level_of kinds.L1 = 1
-level_of kinds.L2 = 2
-level_of kinds.L3 = 3
-level_of kinds.L4 = 4
-level_of _ = 0
-
-level_back : (l : ℕ) → l ≤ 4 → level_of (type_at l) ≡ l
-unfolding level_of
-level_back zero b = refl
-level_back (suc zero) b = refl
-level_back (suc (suc zero)) b = refl
-level_back (suc (suc (suc zero))) b = refl
-level_back (suc (suc (suc (suc zero)))) b = refl
-level_back (suc (suc (suc (suc (suc l))))) b = absurd (omega arith)
-
-pub level_apart : (k l : ℕ) → k ≤ 4 → l ≤ 4 → type_at k ≡ type_at l → k ≡ l
-level_apart k l a b e = sym (level_back k a) ∙ ap level_of e ∙ level_back l b
-
-pub table_at : (l : ℕ) → IsTrue (is_table (type_at (suc l)))
-table_at zero = refl
-table_at (suc zero) = refl
-table_at (suc (suc zero)) = refl
-table_at (suc (suc (suc l))) = refl
-
-below_at : (l : ℕ) → l ≤ 3 → below (type_at (suc l)) ≡ type_at l
-below_at zero b = refl
-below_at (suc zero) b = refl
-below_at (suc (suc zero)) b = refl
-below_at (suc (suc (suc zero))) b = refl
-below_at (suc (suc (suc (suc l)))) b = absurd (omega arith)
 
 -- ---- what an entry asks is of the level below
 asked_kind : PageType → Demand → PageType
@@ -66,9 +33,9 @@ asks_below : (t : PageType) (i w : ℕ) → asked_kind (below t) (demand_at t i 
 unfolding demand_at demand_of
 asks_below t i w = by_tests (is_slot t i) _ _ _ (frame_of w) (below t)
 
-pub asks_at : (l i w g : ℕ) (t : PageType) → l ≤ 3 → demand_at (type_at (suc l)) i w ≡ Typed g t → t ≡ type_at l
+pub asks_at : (l i w g : ℕ) (t : PageType) → l ≤ 3 → demand_at (level_type (suc l)) i w ≡ Typed g t → t ≡ level_type l
 unfolding asked_kind
-asks_at l i w g t b e = ap (asked_kind (below (type_at (suc l)))) (sym e) ∙ asks_below (type_at (suc l)) i w ∙ below_at l b
+asks_at l i w g t b e = ap (asked_kind (below (level_type (suc l)))) (sym e) ∙ asks_below (level_type (suc l)) i w ∙ level_type-below l (omega arith)
 
 -- ---- changes of what was done
 abbrev pub met_more : ℕ → Doing → Doing
@@ -85,16 +52,16 @@ at_there f g x old off = rw (when_ne g f off) refl
 
 -- an entry of a table is met
 pub total_met : (c : Case) (d : Doing) (x l g : ℕ) → x < c.machine.frames → d.taken x ≡ Some (suc l) →
-    total c (met_more x d) g ≡ total c d g + names g (entry_of c.before (type_at (suc l)) x (d.met x))
+    total c (met_more x d) g ≡ total c d g + names g (entry_of c.before (level_type (suc l)) x (d.met x))
 unfolding sum_below
 total_met c d x l g inside took =
     let p = λ (y : ℕ). asked c g (d.taken y) (at x (suc (d.met x)) d.met y) y in
     let q = λ (y : ℕ). asked c g (d.taken y) (d.met y) y in
     let one : sum_below c.machine.frames p + q x ≡ sum_below c.machine.frames q + p x =
     sum_below-one c.machine.frames p q x inside (λ y off. ap (λ k. asked c g (d.taken y) k y) (at_there x y (suc (d.met x)) d.met off)) in
-    let here : p x ≡ sum_below (suc (d.met x)) (λ i. names g (entry_of c.before (type_at (suc l)) x i)) =
+    let here : p x ≡ sum_below (suc (d.met x)) (λ i. names g (entry_of c.before (level_type (suc l)) x i)) =
     ap (λ k. asked c g (d.taken x) k x) (at_here x (suc (d.met x)) d.met) ∙ ap (λ o. asked c g o (suc (d.met x)) x) took in
-    let was : q x ≡ sum_below (d.met x) (λ i. names g (entry_of c.before (type_at (suc l)) x i)) = ap (λ o. asked c g o (d.met x) x) took in
+    let was : q x ≡ sum_below (d.met x) (λ i. names g (entry_of c.before (level_type (suc l)) x i)) = ap (λ o. asked c g o (d.met x) x) took in
     omega arith
 
 none_asked : (c : Case) (g x l : ℕ) → asked c g (Some l) 0 x ≡ 0
@@ -131,8 +98,8 @@ module _ (c : Case) (p : Plain) (d : Doing) (took : (x l : ℕ) → d.taken x �
   part_most x (Some zero) e = omega arith
   part_most x (Some (suc l)) e =
       let is = took x (suc l) e in
-      let node = ap (λ o. plain_asked_by c.before g o x) (w.all x (type_at (suc l)) (record { tree = is.tree; dead = is.dead; table = table_at l })) in
-      let up = sum_most (d.met x) 512 (λ i. names g (entry_of c.before (type_at (suc l)) x i)) (most x) in
+      let node = ap (λ o. plain_asked_by c.before g o x) (w.all x (level_type (suc l)) (record { tree = is.tree; dead = is.dead; table = level_type-table (suc l) (omega arith) })) in
+      let up = sum_most (d.met x) 512 (λ i. names g (entry_of c.before (level_type (suc l)) x i)) (most x) in
       omega arith
 
   pub total_most : s.count + total c d g ≤ c.machine.limit

@@ -1,6 +1,6 @@
 -- What an acquisition has done so far, beside the frames as they stand: which dead frames it took, with their levels, and how many of
 -- the entries of each it has met.
-use Rattle.std.proofs.Common.{◌≡◌, ℕ, zero, suc, ◌+◌, ◌<◌, ◌≤◌, ◌⊎◌, false, Option, Some, None, IsTrue}
+use Rattle.std.proofs.Common.{◌≡◌, ℕ, zero, suc, ◌+◌, ◌<◌, ◌≤◌, ◌⊎◌, true, false, Option, Some, None, IsTrue}
 use Rattle.xp_words.specs.declared.kind.KindWord.{KindWord}
 use Rattle.xp_words.specs.declared.kind.PageType.{PageType}
 use Rattle.xp_words.specs.declared.entry.Demand.{Demand}
@@ -10,9 +10,10 @@ use Rattle.xp_board.specs.Lists.{one_at}
 use Rattle.xp_board.specs.Readings.{is_dead}
 use Rattle.xp_board.specs.Recorded.{names}
 use Rattle.xp_board.specs.Sums.{sum_below}
+use Rattle.partial_state.specs.Levels.{level_type}
 use Rattle.table_law.specs.Plain.{Plain, Share}
 use Rattle.table_law.specs.Alone.{Cause, PlainOutcome, fine, refused}
-use Rattle.table_law.specs.Levels.{entry_of, type_at}
+use Rattle.table_law.specs.Levels.{entry_of}
 use Rattle.table_law.specs.Lawful.{PlainTree, IsPlainOwned, PlainLawful, IsRested, share_count}
 
 -- frame `top` is acquired for that owner with type `kind`, and the frames are `before`
@@ -38,7 +39,7 @@ pub record Doing : Type 0 where
 abbrev pub asked : Case → ℕ → Option ℕ → ℕ → ℕ → ℕ
 asked c g None k x = 0
 asked c g (Some zero) k x = 0
-asked c g (Some (suc l)) k x = sum_below k (λ i. names g (entry_of c.before (type_at (suc l)) x i))
+asked c g (Some (suc l)) k x = sum_below k (λ i. names g (entry_of c.before (level_type (suc l)) x i))
 
 -- how often the acquisition has named frame g
 abbrev pub total : Case → Doing → ℕ → ℕ
@@ -48,19 +49,21 @@ abbrev pub more : ℕ → Option Share → Option Share
 more k None = None
 more k (Some s) = Some (record { owner = s.owner; allocated = s.allocated; count = s.count + k })
 
--- a frame that was not taken has its type and form
+-- a frame that was not taken has its type and form, and no fewer type counts
 pub record IsSame (a b : KindWord) : Type 0 where
   pub kind : b.kind ≡ a.kind
   pub live : b.validated ≡ a.validated
   pub dead : is_dead b ≡ is_dead a
+  pub more : a.number ≤ b.number
 
 pub record IsTaken (c : Case) (p : Plain) (x l : ℕ) : Type 0 where
   pub dead : IsTrue (is_dead (c.before.kinds x))
-  pub tree : PlainTree c.before c.top c.kind x (type_at l)
+  pub tree : PlainTree c.before c.top c.kind x (level_type l)
   pub low : l ≤ 4
   pub inside : x < c.machine.frames
-  pub kind : (p.kinds x).kind ≡ type_at l
+  pub kind : (p.kinds x).kind ≡ level_type l
   pub now : is_dead (p.kinds x) ≡ false
+  pub counted : (p.kinds x).validated ≡ true → 0 < (p.kinds x).number
 
 pub record Doings (c : Case) (p : Plain) (d : Doing) : Type 0 where
   pub cells : (g i : ℕ) → p.cells g i ≡ c.before.cells g i
@@ -76,7 +79,7 @@ Above p d l = (x k : ℕ) → d.taken x ≡ Some k → (p.kinds x).validated ≡
 
 -- ---- demands that were met
 abbrev pub HasType : Case → Doing → ℕ → PageType → Type 0
-HasType c d g w = ((l : ℕ) × (d.taken g ≡ Some l) × (type_at l ≡ w)) ⊎ ((is_dead (c.before.kinds g) ≡ false) × ((c.before.kinds g).kind ≡ w))
+HasType c d g w = ((l : ℕ) × (d.taken g ≡ Some l) × (level_type l ≡ w)) ⊎ ((is_dead (c.before.kinds g) ≡ false) × ((c.before.kinds g).kind ≡ w))
 
 abbrev pub IsMet : Case → Doing → Demand → Type 0
 IsMet c d Nothing = Unit {0}
@@ -85,7 +88,7 @@ IsMet c d (Read g) = IsPlainOwned c.machine c.owner c.before g
 IsMet c d (Typed g w) = IsPlainOwned c.machine c.owner c.before g × HasType c d g w
 
 abbrev pub AllMet : Case → Doing → ℕ → ℕ → Type 0
-AllMet c d l x = (i : ℕ) → i < 512 → IsMet c d (entry_of c.before (type_at (suc l)) x i)
+AllMet c d l x = (i : ℕ) → i < 512 → IsMet c d (entry_of c.before (level_type (suc l)) x i)
 
 -- from (p, d) to (q, e): what was taken stays so, and what came is complete; of frame `but` entries may have been met
 pub record Grows (c : Case) (p : Plain) (d : Doing) (q : Plain) (e : Doing) (IsBut : ℕ → Type 0) : Type 0 where

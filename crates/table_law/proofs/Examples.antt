@@ -82,3 +82,11 @@ not_table = refl
 table_count : ((alone (machine 10) 0 1 0 table).left.shares 1) ≡ Some one
 unfolding machine table one meet_last take_at demand_at demand_of let_go drop_first
 table_count = refl
+
+-- frame 1 is closing: it has its type still, and is not counted
+closing : Plain
+closing = record { shares = λ g. Some one; kinds = λ g. if g == 1 then live_kind kinds.Writable 0 else dead_kind kinds.None false 0; cells = λ g i. if g == 0 then 0x1003 else 0 }
+
+not_closing : (alone (machine 10) 0 1 0 closing).refusal ≡ Some (OtherType 1 kinds.Writable (live_kind kinds.Writable 0))
+unfolding machine closing one meet_last take_at demand_at demand_of
+not_closing = refl

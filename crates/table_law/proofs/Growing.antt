@@ -1,5 +1,5 @@
 -- What an acquisition does, one thing behind the other.
-use Rattle.std.proofs.Common.{◌≡◌, ℕ, suc, ◌<◌, ◌≤◌, Option, Some, None, refl, sym, ap, ◌∙◌, subst, inl, inr, arith}
+use Rattle.std.proofs.Common.{◌≡◌, ℕ, suc, ◌<◌, ◌≤◌, true, Option, Some, None, refl, sym, ap, ◌∙◌, subst, inl, inr, arith}
 use Rattle.std.proofs.lemmas.Bool.{cases_eq}
 use Rattle.std.proofs.lemmas.Option.{same_Some}
 use Rattle.xp_words.specs.declared.kind.KindWord.{KindWord}
@@ -58,6 +58,10 @@ module _ (c : Case) (p : Plain) (d : Doing) (q : Plain) (e : Doing) (r : Plain) 
 pub grows_less : (c : Case) (p : Plain) (d : Doing) (q : Plain) (e : Doing) (B : ℕ → Type 0) → Grows c p d q e (λ x. ⊥) → Grows c p d q e B
 grows_less c p d q e B g = record { keeps = g.keeps; still = λ x l a off. g.still x l a (λ n. n); settled = g.settled; closed = g.closed }
 
+-- the same kind word has as many type counts
+pub counted_as : (a b : KindWord) → b ≡ a → (a.validated ≡ true → 0 < a.number) → b.validated ≡ true → 0 < b.number
+counted_as a b same some = subst (λ (k : KindWord). k.validated ≡ true → 0 < k.number) (sym same) some
+
 -- ---- an entry of frame x is met by a reference
 module _ (c : Case) (p : Plain) (d : Doing) (x l : ℕ) (does : Doings c p d) (took : d.taken x ≡ Some l) (low : d.met x < 512) where
   pub most_more : (y : ℕ) → (met_more x d).met y ≤ 512
@@ -79,7 +83,7 @@ module _ (c : Case) (p : Plain) (d : Doing) (x l : ℕ) (does : Doings c p d) (t
           shares = shares;
           room = room;
           same = λ y none. subst (λ k. IsSame (c.before.kinds y) k) (sym (same_kind y)) (does.same y none);
-          took = λ y k some. (let t = does.took y k some in record { dead = t.dead; tree = t.tree; low = t.low; inside = t.inside; kind = ap (λ (k : KindWord). k.kind) (same_kind y) ∙ t.kind; now = ap is_dead (same_kind y) ∙ t.now });
+          took = λ y k some. (let t = does.took y k some in record { dead = t.dead; tree = t.tree; low = t.low; inside = t.inside; kind = ap (λ (k : KindWord). k.kind) (same_kind y) ∙ t.kind; now = ap is_dead (same_kind y) ∙ t.now; counted = counted_as (p.kinds y) (q.kinds y) (same_kind y) t.counted });
           most = most_more;
         }
 

@@ -11,12 +11,14 @@ use Rattle.xp_board.specs.Sums.{sum_below}
 use Rattle.xp_board.specs.Recorded.{names}
 use Rattle.board_lemmas.proofs.Sums.{sum_below-none, sum_below-same}
 use Rattle.xp_words.specs.Machine.{Machine}
+use Rattle.partial_state.specs.Levels.{level_type}
+use Rattle.partial_state.proofs.LevelFacts.{level_type-table}
 use Rattle.table_law.specs.Plain.{Plain, Share}
 use Rattle.table_law.specs.Alone.{PlainOutcome, then_by, take_reference, take_at, alone}
-use Rattle.table_law.specs.Levels.{type_at, entry_of}
+use Rattle.table_law.specs.Levels.{entry_of}
 use Rattle.table_law.specs.Lawful.{PlainTree, root, below, IsPlainNode, IsPlainOwned, PlainLawful, IsRested, plain_asked_by, share_count}
 use Rattle.table_law.proofs.Doing.{Case, IsCalm, Doing, Doings, IsLawful, IsSame, IsMet, AllMet, HasType, Grows, Failed, Goes, total, more, asked}
-use Rattle.table_law.proofs.Counting.{total_most, table_at}
+use Rattle.table_law.proofs.Counting.{total_most}
 use Rattle.table_law.proofs.Meeting.{Took}
 use Rattle.table_law.proofs.Referring.{Referred, refer_goes}
 use Rattle.table_law.proofs.Taking.{take_goes}
@@ -25,7 +27,7 @@ use Rattle.table_law.proofs.Taking.{take_goes}
 abbrev pub nothing : Doing
 nothing = record { taken = λ x. None; met = λ x. 0 }
 
-module _ (c : Case) (calm : IsCalm c) (l : ℕ) (low : l ≤ 4) (kind : c.kind ≡ type_at l) where
+module _ (c : Case) (calm : IsCalm c) (l : ℕ) (low : l ≤ 4) (kind : c.kind ≡ level_type l) where
   first_total : (h : ℕ) → total c nothing h ≡ one_at h c.top
   first_total h =
       let n = sum_below-none c.machine.frames (λ x. 0) (λ k b. refl) in
@@ -48,7 +50,7 @@ module _ (c : Case) (calm : IsCalm c) (l : ℕ) (low : l ≤ 4) (kind : c.kind �
         cells = λ g i. ap (λ (k : ℕ → ℕ → ℕ). k g i) r.cells;
         shares = r.shares;
         room = r.room;
-        same = λ x none. subst (λ k. IsSame (c.before.kinds x) k) (sym (ap (λ k. k x) r.kinds)) (record { kind = refl; live = refl; dead = refl });
+        same = λ x none. subst (λ k. IsSame (c.before.kinds x) k) (sym (ap (λ k. k x) r.kinds)) (record { kind = refl; live = refl; dead = refl; more = omega arith });
         took = λ x k some. absurd (cc);
         most = λ x. omega arith;
       }
@@ -98,10 +100,10 @@ module _ (c : Case) (calm : IsCalm c) (l : ℕ) (low : l ≤ 4) (kind : c.kind �
     pub record TookTable (x : ℕ) (u : PageType) : Type 0 where
       pub level : ℕ
       pub taken : e.taken x ≡ Some (suc level)
-      pub type : type_at (suc level) ≡ u
+      pub type : level_type (suc level) ≡ u
 
-    by_level : (x : ℕ) (u : PageType) (k : ℕ) → e.taken x ≡ Some k → type_at k ≡ u → IsTrue (is_table u) → TookTable x u
-    by_level x u zero some is table = absurd (let t : IsTrue (is_table (type_at 0)) = subst (λ w. IsTrue (is_table w)) (sym is) table in cc)
+    by_level : (x : ℕ) (u : PageType) (k : ℕ) → e.taken x ≡ Some k → level_type k ≡ u → IsTrue (is_table u) → TookTable x u
+    by_level x u zero some is table = absurd (let t : IsTrue (is_table (level_type 0)) = subst (λ w. IsTrue (is_table w)) (sym is) table in cc)
     by_level x u (suc k) some is table = record { level = k; taken = some; type = is }
 
     took_table : (x : ℕ) (u : PageType) → HasType c e x u → IsTrue (is_dead (c.before.kinds x)) → IsTrue (is_table u) → TookTable x u
@@ -125,7 +127,7 @@ module _ (c : Case) (calm : IsCalm c) (l : ℕ) (low : l ≤ 4) (kind : c.kind �
     one_by g u w (inl a) (inl b) =
         let same : Some a.0 ≡ Some b.0 = sym a.1 ∙ b.1 in
         let k : a.0 ≡ b.0 = cc in
-        sym a.2 ∙ ap type_at k ∙ b.2
+        sym a.2 ∙ ap level_type k ∙ b.2
     one_by g u w (inl a) (inr b) = absurd (let t = does.took g a.0 a.1 in let d = t.dead in let n = b.0 in cc)
     one_by g u w (inr a) (inl b) = absurd (let t = does.took g b.0 b.1 in let d = t.dead in let n = a.0 in cc)
     one_by g u w (inr a) (inr b) = sym a.1 ∙ b.1
@@ -138,7 +140,7 @@ module _ (c : Case) (calm : IsCalm c) (l : ℕ) (low : l ≤ 4) (kind : c.kind �
     node_of : Option ℕ → Option PageType
     node_of None = None
     node_of (Some zero) = None
-    node_of (Some (suc k)) = Some (type_at (suc k))
+    node_of (Some (suc k)) = Some (level_type (suc k))
 
     node_by : (x : ℕ) (u : PageType) (o : Option ℕ) → e.taken x ≡ o → node_of o ≡ Some u → IsPlainNode c.before c.top c.kind x u
     unfolding node_of
@@ -146,8 +148,8 @@ module _ (c : Case) (calm : IsCalm c) (l : ℕ) (low : l ≤ 4) (kind : c.kind �
     node_by x u (Some zero) some is = absurd (cc)
     node_by x u (Some (suc k)) some is =
         let t = does.took x (suc k) some in
-        let same : type_at (suc k) ≡ u = cc in
-        subst (λ v. IsPlainNode c.before c.top c.kind x v) same (record { tree = t.tree; dead = t.dead; table = table_at k })
+        let same : level_type (suc k) ≡ u = cc in
+        subst (λ v. IsPlainNode c.before c.top c.kind x v) same (record { tree = t.tree; dead = t.dead; table = level_type-table (suc k) (omega arith) })
 
     is_node_of : (x : ℕ) (u : PageType) → TookTable x u → node_of (e.taken x) ≡ Some u
     unfolding node_of
@@ -157,7 +159,7 @@ module _ (c : Case) (calm : IsCalm c) (l : ℕ) (low : l ≤ 4) (kind : c.kind �
     unfolding node_of
     counted_by g x None some = refl
     counted_by g x (Some zero) some = refl
-    counted_by g x (Some (suc k)) some = ap (λ m. sum_below m (λ i. names g (entry_of c.before (type_at (suc k)) x i))) (met_full x k some)
+    counted_by g x (Some (suc k)) some = ap (λ m. sum_below m (λ i. names g (entry_of c.before (level_type (suc k)) x i))) (met_full x k some)
 
     within_by : (g : ℕ) (s : Share) → g < c.machine.frames → c.before.shares g ≡ Some s → s.count + (one_at c.top g + sum_below c.machine.frames (λ x. plain_asked_by c.before g (node_of (e.taken x)) x)) ≤ c.machine.limit
     within_by g s real was =
@@ -192,6 +194,6 @@ module _ (c : Case) (calm : IsCalm c) (l : ℕ) (low : l ≤ 4) (kind : c.kind �
   pub fine_where_lawful : (IsLawful c → (alone c.machine c.owner l c.top c.before).refusal ≡ None) × ((alone c.machine c.owner l c.top c.before).refusal ≡ None → IsLawful c)
   fine_where_lawful = (fine_by alone_goes, lawful_by alone_goes)
 
-pub fine_by_rest : (n : Machine) (owner l f : ℕ) (p : Plain) → l ≤ 4 → IsRested n p → (PlainLawful n owner p f (type_at l) → (alone n owner l f p).refusal ≡ None) × ((alone n owner l f p).refusal ≡ None → PlainLawful n owner p f (type_at l))
+pub fine_by_rest : (n : Machine) (owner l f : ℕ) (p : Plain) → l ≤ 4 → IsRested n p → (PlainLawful n owner p f (level_type l) → (alone n owner l f p).refusal ≡ None) × ((alone n owner l f p).refusal ≡ None → PlainLawful n owner p f (level_type l))
 fine_by_rest n owner l f p low rested =
-    fine_where_lawful (record { machine = n; owner = owner; top = f; kind = type_at l; before = p }) rested l low refl
+    fine_where_lawful (record { machine = n; owner = owner; top = f; kind = level_type l; before = p }) rested l low refl

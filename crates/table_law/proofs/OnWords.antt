@@ -186,6 +186,17 @@ module _ (n : Machine) (owner f : ℕ) (t : PageType) (m : Words) (p : Plain) (d
         }
 
 -- ---- at rest
+live_number : (k : KindWord) → k.validated ≡ true → (sober k).number ≡ k.number
+live_number k on = rw on refl
+
+-- where each live frame of the words has a type count, so it has on the plain value
+counts_types : (n : Machine) (m : Words) (p : Plain) → Describes n m p → ((g : ℕ) → g < n.frames → (kind_at m g).validated ≡ true → 0 < (kind_at m g).number) → (g : ℕ) → g < n.frames → (p.kinds g).validated ≡ true → 0 < (p.kinds g).number
+counts_types n m p d some g inside live =
+    let same = ap (λ (k : KindWord). k.validated) (d.kinds g inside) ∙ sober_live (kind_at m g) in
+    let number = ap (λ (k : KindWord). k.number) (d.kinds g inside) ∙ live_number (kind_at m g) (sym same ∙ live) in
+    let count = some g inside (sym same ∙ live) in
+    omega arith
+
 pub rested_plain : (n : Machine) (m : Words) (p : Plain) → Describes n m p → IsAtRest n m → IsRested n p
 rested_plain n m p d rest =
     record {
@@ -193,6 +204,7 @@ rested_plain n m p d rest =
           let k = d.kinds g inside in
           ap (λ (w : KindWord). w.validated) k ∙ sober_live (kind_at m g)
           ∙ rest.formed g inside (sym (sober_dead (kind_at m g)) ∙ sym (ap is_dead k) ∙ off);
+      counted = counts_types n m p d rest.counted;
       room = λ g inside. let count = share_most (m (Refs g)) in let same = ap share_count (d.shares g inside) in let most = rest.room g inside in omega arith;
     }
 
@@ -200,13 +212,6 @@ rested_plain n m p d rest =
 pub counts_plain : (n : Machine) (m : Words) (p : Plain) → Describes n m p → ((g : ℕ) → g < n.frames → (kind_at m g).validated ≡ true → 0 < (kind_at m g).number) → CountsSome n p
 counts_plain n m p d some =
     record {
-      types = λ g inside live.
-          let same = ap (λ (k : KindWord). k.validated) (d.kinds g inside) ∙ sober_live (kind_at m g) in
-          let number = ap (λ (k : KindWord). k.number) (d.kinds g inside) ∙ live_number (kind_at m g) (sym same ∙ live) in
-          let count = some g inside (sym same ∙ live) in
-          omega arith;
+      types = counts_types n m p d some;
       refs = λ g s inside is. (owns_word (m (Refs g)) s (sym (d.shares g inside) ∙ is)).some;
     }
-  where
-    live_number : (k : KindWord) → k.validated ≡ true → (sober k).number ≡ k.number
-    live_number k on = rw on refl

@@ -3,9 +3,10 @@ use Rattle.std.proofs.Common.{◌≡◌, ◌≢◌, ℕ, suc, ◌==◌, if◌the
 use Rattle.std.proofs.lemmas.Bool.{cases_eq}
 use Rattle.xp_words.specs.declared.kind.KindWord.{KindWord}
 use Rattle.board_lemmas.proofs.Sums.{when_eq, when_ne}
+use Rattle.partial_state.specs.Levels.{level_type}
 use Rattle.table_law.specs.Plain.{Plain}
 use Rattle.kind_words.specs.Kinds.{work_kind}
-use Rattle.table_law.specs.Levels.{TableLeft, type_at}
+use Rattle.table_law.specs.Levels.{TableLeft}
 use Rattle.table_law.specs.Stack.{parked_kind, parked_kinds, resumed_kinds, IsStackIn}
 
 abbrev pub IsOff : List TableLeft → ℕ → Type 0
@@ -27,9 +28,9 @@ off_parked (x ∷ y ∷ ys) kept old g off =
 
 on_stack : (stack : List TableLeft) (p : Plain) (h : ℕ → KindWord) (g : ℕ) → IsStackIn stack p → (IsOff stack g → h g ≡ p.kinds g) → resumed_kinds stack h g ≡ p.kinds g
 on_stack [] p h g is away = away tt
-on_stack (x ∷ []) p h g is away = chosen g x.frame (work_kind (type_at (suc x.level)) false 0) (h g) (p.kinds g) (λ e. sym is.0 ∙ ap p.kinds (sym e)) (λ e. away (e, tt))
+on_stack (x ∷ []) p h g is away = chosen g x.frame (work_kind (level_type (suc x.level)) false 0) (h g) (p.kinds g) (λ e. sym is.0 ∙ ap p.kinds (sym e)) (λ e. away (e, tt))
 on_stack (x ∷ y ∷ ys) p h g is away =
-    chosen g x.frame (work_kind (type_at (suc x.level)) false 0) (resumed_kinds (y ∷ ys) h g) (p.kinds g) (λ e. sym is.0 ∙ ap p.kinds (sym e))
+    chosen g x.frame (work_kind (level_type (suc x.level)) false 0) (resumed_kinds (y ∷ ys) h g) (p.kinds g) (λ e. sym is.0 ∙ ap p.kinds (sym e))
     (λ e. on_stack (y ∷ ys) p h g is.4 (λ off. away (e, off)))
 
 -- a frame not on the stack is as it was; one on it is as it was before the pause

@@ -9,7 +9,7 @@ use Rattle.xp_board.specs.KindSteps.{raised_kind}
 use Rattle.xp_board.specs.Readings.{is_dead, is_type}
 use Rattle.kind_words.specs.Kinds.{live_kind, work_kind, dead_kind}
 use Rattle.table_law.specs.Plain.{Plain, Share, at, with_share, with_kind, raised_share, reference_back}
-use Rattle.table_law.specs.Alone.{OtherType, PlainOutcome, fine, then_or, take_kind}
+use Rattle.table_law.specs.Alone.{OtherType, PlainOutcome, fine, is_counted, then_or, take_kind}
 use Rattle.table_law.specs.Levels.{closed}
 use Rattle.table_law.specs.Release.{is_counted_on, drop_kind}
 use Rattle.table_law.specs.Undone.{IsSameButType, CountsSome}
@@ -257,7 +257,7 @@ module _ (n : Machine) (p : Plain) (g : ℕ) (t : PageType) (s : Share) (inside 
   by_fill dead fill empty (inl filled) = inl (live_dead dead fill empty filled)
   by_fill dead fill empty (inr failed) = inr (refused_dead dead fill failed)
 
-  by_type : (fill : Plain → PlainOutcome) (empty : Plain → Plain) → is_dead (p.kinds g) ≡ false → (b : Bool) → (p.kinds g).validated && is_type (p.kinds g).kind t ≡ b → Kinds fill empty
+  by_type : (fill : Plain → PlainOutcome) (empty : Plain → Plain) → is_dead (p.kinds g) ≡ false → (b : Bool) → is_counted (p.kinds g) && is_type (p.kinds g).kind t ≡ b → Kinds fill empty
   unfolding left
   by_type fill empty undead true on =
       let live : (p.kinds g).validated ≡ true = grind arith in
@@ -273,7 +273,7 @@ module _ (n : Machine) (p : Plain) (g : ℕ) (t : PageType) (s : Share) (inside 
 
   by_form : (fill : Plain → PlainOutcome) (empty : Plain → Plain) → ((dead : is_dead (p.kinds g) ≡ true) → Either n (begun dead) (fill (begun dead)) empty) → (b : Bool) → is_dead (p.kinds g) ≡ b → Kinds fill empty
   by_form fill empty fills true dead = by_fill dead fill empty (fills dead)
-  by_form fill empty fills false undead = by_type fill empty undead ((p.kinds g).validated && is_type (p.kinds g).kind t) refl
+  by_form fill empty fills false undead = by_type fill empty undead (is_counted (p.kinds g) && is_type (p.kinds g).kind t) refl
 
   pub kinds_go : (fill : Plain → PlainOutcome) (empty : Plain → Plain) → ((dead : is_dead (p.kinds g) ≡ true) → Either n (begun dead) (fill (begun dead)) empty) → Kinds fill empty
   kinds_go fill empty fills = by_form fill empty fills (is_dead (p.kinds g)) refl

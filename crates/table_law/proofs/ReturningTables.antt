@@ -5,9 +5,10 @@ use Rattle.xp_words.specs.declared.entry.Demand.{Demand}
 use Rattle.xp_words.specs.declared.entry.Demand.TheVariants.{Nothing, Bad, Read, Typed}
 use Rattle.xp_words.specs.Entries.{demand_at}
 use Rattle.xp_words.specs.Machine.{Machine}
+use Rattle.partial_state.specs.Levels.{level_type}
 use Rattle.table_law.specs.Plain.{Plain, Share, with_share, raised_share, reference_back}
 use Rattle.table_law.specs.Alone.{Cause, Reserved, PlainOutcome, fine, refused, then_by, then_or, take_reference, meet, meet_last, take_at, alone}
-use Rattle.table_law.specs.Levels.{type_at, entry_of}
+use Rattle.table_law.specs.Levels.{entry_of}
 use Rattle.table_law.specs.Release.{drop_demand, drop_first, let_go}
 use Rattle.table_law.specs.Undone.{CountsSome, IsSameButTypes}
 use Rattle.table_law.proofs.Returning.{IsStuck, Like, AreStuck, GoesOn, Undoable, Refusing, Either, Lent, like_itself, share_back, share_on, refers}
@@ -52,7 +53,7 @@ module _ (n : Machine) (owner l f : ℕ) (returns : Returns n owner l) where
   -- the last k of them were met from p on: what is like q comes to be like p
   record Emptied (but : ℕ → Bool) (k : ℕ) (p q : Plain) : Type 0 where
     pub to : Plain
-    pub is : drop_first (let_go l) (type_at (suc l)) f 512 q ≡ drop_first (let_go l) (type_at (suc l)) f (512 - k) to
+    pub is : drop_first (let_go l) (level_type (suc l)) f 512 q ≡ drop_first (let_go l) (level_type (suc l)) f (512 - k) to
     pub like : Like but p to
 
   record LoopDone (k : ℕ) (p : Plain) (o : PlainOutcome) : Type 0 where
@@ -64,37 +65,37 @@ module _ (n : Machine) (owner l f : ℕ) (returns : Returns n owner l) where
   record LoopRefused (k : ℕ) (p : Plain) (o : PlainOutcome) : Type 0 where
     pub cause : Cause
     pub to : Plain
-    pub is : o ≡ refused cause (drop_first (let_go l) (type_at (suc l)) f (512 - k) to)
+    pub is : o ≡ refused cause (drop_first (let_go l) (level_type (suc l)) f (512 - k) to)
     pub like : Like (λ x. false) p to
 
   abbrev Loops : ℕ → Plain → PlainOutcome → Type 0
   Loops k p o = LoopDone k p o ⊎ LoopRefused k p o
 
   -- the entry before is given back too
-  same_entry : (but : ℕ → Bool) (p to : Plain) (i : ℕ) → Like but p to → entry_of to (type_at (suc l)) f i ≡ entry_of p (type_at (suc l)) f i
-  same_entry but p to i like = ap (demand_at (type_at (suc l)) i) (like.cells f i)
+  same_entry : (but : ℕ → Bool) (p to : Plain) (i : ℕ) → Like but p to → entry_of to (level_type (suc l)) f i ≡ entry_of p (level_type (suc l)) f i
+  same_entry but p to i like = ap (demand_at (level_type (suc l)) i) (like.cells f i)
 
-  one_back : (k : ℕ) (q : Plain) (a : Demand) → suc k ≤ 512 → entry_of q (type_at (suc l)) f (512 - suc k) ≡ a →
-      drop_first (let_go l) (type_at (suc l)) f (512 - k) q ≡ drop_first (let_go l) (type_at (suc l)) f (512 - suc k) (drop_demand (let_go l) q a)
+  one_back : (k : ℕ) (q : Plain) (a : Demand) → suc k ≤ 512 → entry_of q (level_type (suc l)) f (512 - suc k) ≡ a →
+      drop_first (let_go l) (level_type (suc l)) f (512 - k) q ≡ drop_first (let_go l) (level_type (suc l)) f (512 - suc k) (drop_demand (let_go l) q a)
   unfolding drop_first
-  one_back k q a few asks = ap (λ j. drop_first (let_go l) (type_at (suc l)) f j q) (let e : 512 - k ≡ suc (512 - suc k) = omega arith in e) ∙ next (512 - suc k) asks
+  one_back k q a few asks = ap (λ j. drop_first (let_go l) (level_type (suc l)) f j q) (let e : 512 - k ≡ suc (512 - suc k) = omega arith in e) ∙ next (512 - suc k) asks
     where
-      next : (i : ℕ) → entry_of q (type_at (suc l)) f i ≡ a → drop_first (let_go l) (type_at (suc l)) f (suc i) q ≡ drop_first (let_go l) (type_at (suc l)) f i (drop_demand (let_go l) q a)
-      next i is = ap (λ d. drop_first (let_go l) (type_at (suc l)) f i (drop_demand (let_go l) q d)) is
+      next : (i : ℕ) → entry_of q (level_type (suc l)) f i ≡ a → drop_first (let_go l) (level_type (suc l)) f (suc i) q ≡ drop_first (let_go l) (level_type (suc l)) f i (drop_demand (let_go l) q a)
+      next i is = ap (λ d. drop_first (let_go l) (level_type (suc l)) f i (drop_demand (let_go l) q d)) is
 
   -- an entry is met, and then the others
   module _ (k : ℕ) (p : Plain) (few : suc k ≤ 512) where
     asked : Demand
-    asked = entry_of p (type_at (suc l)) f (512 - suc k)
+    asked = entry_of p (level_type (suc l)) f (512 - suc k)
 
     first : PlainOutcome
-    first = meet n owner (take_at l n owner) f (512 - suc k) p (entry_of p (type_at (suc l)) f (512 - suc k))
+    first = meet n owner (take_at l n owner) f (512 - suc k) p (entry_of p (level_type (suc l)) f (512 - suc k))
 
     others : Plain → PlainOutcome
-    others = meet_last n owner (take_at l n owner) (let_go l) (type_at (suc l)) f k
+    others = meet_last n owner (take_at l n owner) (let_go l) (level_type (suc l)) f k
 
     back : Plain → Plain
-    back = drop_first (let_go l) (type_at (suc l)) f (512 - suc k)
+    back = drop_first (let_go l) (level_type (suc l)) f (512 - suc k)
 
     module _ (one : Undoable n p first (λ q. drop_demand (let_go l) q asked)) where
       on_from : then_or first back others ≡ others one.left
@@ -102,11 +103,11 @@ module _ (n : Machine) (owner l f : ℕ) (returns : Returns n owner l) where
 
       -- what comes to be like the frames behind the entry comes to be like those before it
       step_back : (but : ℕ → Bool) (to : Plain) → AreStuck but p → Like but one.left to →
-          drop_first (let_go l) (type_at (suc l)) f (512 - k) to ≡ drop_first (let_go l) (type_at (suc l)) f (512 - suc k) (drop_demand (let_go l) to asked)
+          drop_first (let_go l) (level_type (suc l)) f (512 - k) to ≡ drop_first (let_go l) (level_type (suc l)) f (512 - suc k) (drop_demand (let_go l) to asked)
       unfolding asked
       step_back but to stuck like =
           one_back k to asked few
-          (same_entry but one.left to (512 - suc k) like ∙ ap (demand_at (type_at (suc l)) (512 - suc k)) (one.on.cells f (512 - suc k)))
+          (same_entry but one.left to (512 - suc k) like ∙ ap (demand_at (level_type (suc l)) (512 - suc k)) (one.on.cells f (512 - suc k)))
 
       then_others : Loops k one.left (others one.left) → Loops (suc k) p (then_or first back others)
       then_others (inl done) =
@@ -139,7 +140,7 @@ module _ (n : Machine) (owner l f : ℕ) (returns : Returns n owner l) where
     with_others (inr stopped) loops =
         inr (record { cause = stopped.cause; to = stopped.left; is = ap (λ o. then_or o back others) stopped.is; like = stopped.same })
 
-  loop_goes : (k : ℕ) (p : Plain) → k ≤ 512 → CountsSome n p → Loops k p (meet_last n owner (take_at l n owner) (let_go l) (type_at (suc l)) f k p)
+  loop_goes : (k : ℕ) (p : Plain) → k ≤ 512 → CountsSome n p → Loops k p (meet_last n owner (take_at l n owner) (let_go l) (level_type (suc l)) f k p)
   unfolding meet_last first others back asked
   loop_goes zero p few counts =
       inl
@@ -150,11 +151,11 @@ module _ (n : Machine) (owner l f : ℕ) (returns : Returns n owner l) where
         undone = λ but q stuck like. record { to = q; is = refl; like = like };
       })
   loop_goes (suc k) p few counts =
-      with_others k p few (met (512 - suc k) p (entry_of p (type_at (suc l)) f (512 - suc k)) counts) (λ q c. loop_goes k q (omega arith) c)
+      with_others k p few (met (512 - suc k) p (entry_of p (level_type (suc l)) f (512 - suc k)) counts) (λ q c. loop_goes k q (omega arith) c)
 
   -- all entries
-  whole : (p : Plain) → Loops 512 p (meet_last n owner (take_at l n owner) (let_go l) (type_at (suc l)) f 512 p) →
-      Either n p (meet_last n owner (take_at l n owner) (let_go l) (type_at (suc l)) f 512 p) (drop_first (let_go l) (type_at (suc l)) f 512)
+  whole : (p : Plain) → Loops 512 p (meet_last n owner (take_at l n owner) (let_go l) (level_type (suc l)) f 512 p) →
+      Either n p (meet_last n owner (take_at l n owner) (let_go l) (level_type (suc l)) f 512 p) (drop_first (let_go l) (level_type (suc l)) f 512)
   unfolding drop_first
   whole p (inl done) =
       inl
@@ -166,7 +167,7 @@ module _ (n : Machine) (owner l f : ℕ) (returns : Returns n owner l) where
       })
   whole p (inr stopped) = inr (record { cause = stopped.cause; left = stopped.to; is = stopped.is; same = stopped.like })
 
-  pub table_goes : (p : Plain) → CountsSome n p → Either n p (meet_last n owner (take_at l n owner) (let_go l) (type_at (suc l)) f 512 p) (drop_first (let_go l) (type_at (suc l)) f 512)
+  pub table_goes : (p : Plain) → CountsSome n p → Either n p (meet_last n owner (take_at l n owner) (let_go l) (level_type (suc l)) f 512 p) (drop_first (let_go l) (level_type (suc l)) f 512)
   table_goes p counts = whole p (loop_goes 512 p (omega arith) counts)
 
 -- ---- a frame by level
@@ -200,11 +201,11 @@ higher : (n : Machine) (owner l g : ℕ) (p : Plain) → Returns n owner l → C
 unfolding take_at let_go
 higher n owner l g p returns counts lent =
     behind n owner (suc l) g p lent.share (let_go (suc l) g) lent.is
-    (kinds_go n p g (type_at (suc l)) lent.share lent.inside lent.was lent.some counts
-    (meet_last n owner (take_at l n owner) (let_go l) (type_at (suc l)) g 512) (drop_first (let_go l) (type_at (suc l)) g 512)
+    (kinds_go n p g (level_type (suc l)) lent.share lent.inside lent.was lent.some counts
+    (meet_last n owner (take_at l n owner) (let_go l) (level_type (suc l)) g 512) (drop_first (let_go l) (level_type (suc l)) g 512)
     (λ dead.
-    table_goes n owner l g returns (begun n p g (type_at (suc l)) lent.share lent.inside lent.was lent.some counts dead)
-    (begun_counts n p g (type_at (suc l)) lent.share lent.inside lent.was lent.some counts dead)))
+    table_goes n owner l g returns (begun n p g (level_type (suc l)) lent.share lent.inside lent.was lent.some counts dead)
+    (begun_counts n p g (level_type (suc l)) lent.share lent.inside lent.was lent.some counts dead)))
 
 by_lent : (n : Machine) (owner l g : ℕ) (p : Plain) (back : Plain → Plain) → (Lent n p g (take_reference n owner g p) → Either n p (alone n owner l g p) back) →
     Lent n p g (take_reference n owner g p) ⊎ Refusing p (take_reference n owner g p) → Either n p (alone n owner l g p) back

@@ -5,19 +5,20 @@ use Rattle.std.proofs.lemmas.Option.{same_Some}
 use Rattle.xp_words.specs.declared.kind.KindWord.{KindWord}
 use Rattle.xp_board.specs.Readings.{is_dead, is_type}
 use Rattle.kind_words.specs.Kinds.{live_kind, work_kind}
+use Rattle.partial_state.specs.Levels.{level_type}
 use Rattle.table_law.specs.Plain.{Plain, at, with_kind}
-use Rattle.table_law.specs.Alone.{PlainOutcome, fine, then_or, take_kind, take_at, meet_last}
+use Rattle.table_law.specs.Alone.{PlainOutcome, fine, is_counted, then_or, take_kind, take_at, meet_last}
 use Rattle.table_law.specs.Release.{let_go}
-use Rattle.table_law.specs.Levels.{closed, type_at}
+use Rattle.table_law.specs.Levels.{closed}
 use Rattle.table_law.specs.Lawful.{PlainTree, IsPlainOwned}
 use Rattle.table_law.proofs.Doing.{Case, IsCalm, Doing, Doings, IsSame, IsTaken, Above, AllMet, Grows, Failed, Goes, more}
 use Rattle.table_law.proofs.Counting.{took_more, at_here, at_there, total_took}
-use Rattle.table_law.proofs.Growing.{grows_none}
+use Rattle.table_law.proofs.Growing.{counted_as, grows_none}
 use Rattle.table_law.proofs.TakingLive.{by_type}
 use Rattle.table_law.proofs.Meeting.{Took, Take, Looped, Loop, loop}
 
 module _ (c : Case) (l : ℕ) (low : l ≤ 4) (g : ℕ) (p : Plain) (d : Doing) (does : Doings c p d) (above : Above p d l) (owned : IsPlainOwned c.machine c.owner c.before g)
-    (tree : PlainTree c.before c.top c.kind g (type_at l)) where
+    (tree : PlainTree c.before c.top c.kind g (level_type l)) where
   -- ---- a dead one
   module _ (dead : is_dead (p.kinds g) ≡ true) where
     untaken_by : (o : Option ℕ) → d.taken g ≡ o → d.taken g ≡ None
@@ -31,30 +32,39 @@ module _ (c : Case) (l : ℕ) (low : l ≤ 4) (g : ℕ) (p : Plain) (d : Doing) 
     was_dead = sym (does.same g untaken).dead ∙ dead
 
     pub begun : Plain
-    begun = with_kind g (work_kind (type_at l) false 0) p
+    begun = with_kind g (work_kind (level_type l) false 0) p
 
     pub begun_doing : Doing
     begun_doing = took_more g l d
 
     -- with any kind that is not dead
-    now_taken : (q : Plain) (e : Doing) (k : KindWord) → k.kind ≡ type_at l → is_dead k ≡ false → ((x j : ℕ) → x ≢ g → e.taken x ≡ Some j → IsTaken c q x j) → e.taken g ≡ Some l → (x j : ℕ) → e.taken x ≡ Some j → IsTaken c (with_kind g k q) x j
-    now_taken q e k kind off others mine x j some =
+    now_taken : (q : Plain) (e : Doing) (k : KindWord) → k.kind ≡ level_type l → is_dead k ≡ false → (k.validated ≡ true → 0 < k.number) → ((x j : ℕ) → x ≢ g → e.taken x ≡ Some j → IsTaken c q x j) → e.taken g ≡ Some l → (x j : ℕ) → e.taken x ≡ Some j → IsTaken c (with_kind g k q) x j
+    now_taken q e k kind off counts others mine x j some =
         elim (cases_eq x g) [
           | inl at_g ↦
               let is = ap (at g k q.kinds) at_g ∙ at_here g k q.kinds in
               let same : j ≡ l = same_Some j l (sym some ∙ ap e.taken at_g ∙ mine) in
               record {
                 dead = subst (λ y. IsTrue (is_dead (c.before.kinds y))) (sym at_g) was_dead;
-                tree = subst (λ y. PlainTree c.before c.top c.kind y (type_at j)) (sym at_g) (subst (λ i. PlainTree c.before c.top c.kind g (type_at i)) (sym same) tree);
+                tree = subst (λ y. PlainTree c.before c.top c.kind y (level_type j)) (sym at_g) (subst (λ i. PlainTree c.before c.top c.kind g (level_type i)) (sym same) tree);
                 low = omega arith;
                 inside = subst (λ y. y < c.machine.frames) (sym at_g) owned.inside;
-                kind = ap (λ (y : KindWord). y.kind) is ∙ kind ∙ sym (ap type_at same);
+                kind = ap (λ (y : KindWord). y.kind) is ∙ kind ∙ sym (ap level_type same);
                 now = ap is_dead is ∙ off;
+                counted = counted_as k (at g k q.kinds x) is counts;
               }
           | inr away ↦
               let is = at_there g x k q.kinds away in
               let t = others x j away some in
-              record { dead = t.dead; tree = t.tree; low = t.low; inside = t.inside; kind = ap (λ (y : KindWord). y.kind) is ∙ t.kind; now = ap is_dead is ∙ t.now }
+              record {
+                dead = t.dead;
+                tree = t.tree;
+                low = t.low;
+                inside = t.inside;
+                kind = ap (λ (y : KindWord). y.kind) is ∙ t.kind;
+                now = ap is_dead is ∙ t.now;
+                counted = counted_as (q.kinds x) (at g k q.kinds x) is t.counted;
+              }
         ]
 
     now_same : (q : Plain) (e : Doing) (k : KindWord) → ((x : ℕ) → x ≢ g → e.taken x ≡ None → IsSame (c.before.kinds x) (q.kinds x)) → e.taken g ≡ Some l → (x : ℕ) → e.taken x ≡ None → IsSame (c.before.kinds x) (at g k q.kinds x)
@@ -87,15 +97,15 @@ module _ (c : Case) (l : ℕ) (low : l ≤ 4) (g : ℕ) (p : Plain) (d : Doing) 
           cells = does.cells;
           shares = λ h. does.shares h ∙ ap (λ k. more k (c.before.shares h)) (sym (total_took c d g l h untaken));
           room = does.room;
-          same = now_same p begun_doing (work_kind (type_at l) false 0) (λ x away none. does.same x (sym (taken_there x away) ∙ none)) taken_here;
-          took = now_taken p begun_doing (work_kind (type_at l) false 0) refl refl (λ x j away some. does.took x j (sym (taken_there x away) ∙ some)) taken_here;
+          same = now_same p begun_doing (work_kind (level_type l) false 0) (λ x away none. does.same x (sym (taken_there x away) ∙ none)) taken_here;
+          took = now_taken p begun_doing (work_kind (level_type l) false 0) refl refl (λ live. absurd (cc)) (λ x j away some. does.took x j (sym (taken_there x away) ∙ some)) taken_here;
           most = begun_most;
         }
 
     -- ---- and made live, once it is complete
     module _ (q : Plain) (e : Doing) (after : Doings c q e) (grows : Grows c begun begun_doing q e (λ y. y ≡ g)) (full : (k : ℕ) → l ≡ suc k → (e.met g ≡ 512) × AllMet c e k g) where
       finished : Plain
-      finished = with_kind g (live_kind (type_at l) 1) q
+      finished = with_kind g (live_kind (level_type l) 1) q
 
       mine_still : e.taken g ≡ Some l
       mine_still = grows.keeps g l taken_here
@@ -107,22 +117,22 @@ module _ (c : Case) (l : ℕ) (low : l ≤ 4) (g : ℕ) (p : Plain) (d : Doing) 
             cells = after.cells;
             shares = after.shares;
             room = after.room;
-            same = now_same q e (live_kind (type_at l) 1) (λ x away none. after.same x none) mine_still;
-            took = now_taken q e (live_kind (type_at l) 1) refl refl (λ x j away some. after.took x j some) mine_still;
+            same = now_same q e (live_kind (level_type l) 1) (λ x away none. after.same x none) mine_still;
+            took = now_taken q e (live_kind (level_type l) 1) refl refl (λ live. omega arith) (λ x j away some. after.took x j some) mine_still;
             most = after.most;
           }
 
       not_mine : (x k : ℕ) → d.taken x ≡ Some k → x ≢ g
       not_mine x k some e = let n = sym some ∙ ap d.taken e ∙ untaken in absurd (cc)
 
-      settled_still : (x k : ℕ) → e.taken x ≡ Some k → (at g (live_kind (type_at l) 1) q.kinds x).validated ≡ false → (d.taken x ≡ Some k) × ((p.kinds x).validated ≡ false)
+      settled_still : (x k : ℕ) → e.taken x ≡ Some k → (at g (live_kind (level_type l) 1) q.kinds x).validated ≡ false → (d.taken x ≡ Some k) × ((p.kinds x).validated ≡ false)
       unfolding begun
       settled_still x k some off =
           elim (cases_eq x g) [
-            | inl at_g ↦ absurd (let v = ap (λ (y : KindWord). y.validated) (ap (at g (live_kind (type_at l) 1) q.kinds) at_g ∙ at_here g (live_kind (type_at l) 1) q.kinds) in cc)
+            | inl at_g ↦ absurd (let v = ap (λ (y : KindWord). y.validated) (ap (at g (live_kind (level_type l) 1) q.kinds) at_g ∙ at_here g (live_kind (level_type l) 1) q.kinds) in cc)
             | inr away ↦
-                let s = grows.settled x k some (sym (ap (λ (y : KindWord). y.validated) (at_there g x (live_kind (type_at l) 1) q.kinds away)) ∙ off) in
-                (sym (taken_there x away) ∙ s.0, sym (ap (λ (y : KindWord). y.validated) (at_there g x (work_kind (type_at l) false 0) p.kinds away)) ∙ s.1)
+                let s = grows.settled x k some (sym (ap (λ (y : KindWord). y.validated) (at_there g x (live_kind (level_type l) 1) q.kinds away)) ∙ off) in
+                (sym (taken_there x away) ∙ s.0, sym (ap (λ (y : KindWord). y.validated) (at_there g x (work_kind (level_type l) false 0) p.kinds away)) ∙ s.1)
           ]
 
       closed_now : (x k : ℕ) → d.taken x ≡ None → e.taken x ≡ Some (suc k) → (e.met x ≡ 512) × AllMet c e k x
@@ -151,36 +161,36 @@ module _ (c : Case) (l : ℕ) (low : l ≤ 4) (g : ℕ) (p : Plain) (d : Doing) 
             has = inl (l, mine_still, refl);
           }
 
-      pub done_all : (fill : Plain → PlainOutcome) → fill begun ≡ fine q → Goes c (take_kind fill g (type_at l) p (p.kinds g)) (Took c p d g l)
+      pub done_all : (fill : Plain → PlainOutcome) → fill begun ≡ fine q → Goes c (take_kind fill g (level_type l) p (p.kinds g)) (Took c p d g l)
       unfolding finished begun
       done_all fill filled =
           inl
           (record {
             left = finished;
             doing = e;
-            is = rw dead (ap (λ o. then_or o (closed g (type_at l)) (λ r. fine (with_kind g (live_kind (type_at l) 1) r))) filled);
+            is = rw dead (ap (λ o. then_or o (closed g (level_type l)) (λ r. fine (with_kind g (live_kind (level_type l) 1) r))) filled);
             holds = took_all;
           })
 
-    pub failed_all : (fill : Plain → PlainOutcome) → Failed c (fill begun) → Goes c (take_kind fill g (type_at l) p (p.kinds g)) (Took c p d g l)
+    pub failed_all : (fill : Plain → PlainOutcome) → Failed c (fill begun) → Goes c (take_kind fill g (level_type l) p (p.kinds g)) (Took c p d g l)
     unfolding begun
     failed_all fill failed =
-        inr (record { cause = failed.cause; left = closed g (type_at l) failed.left; is = rw dead (ap (λ o. then_or o (closed g (type_at l)) (λ r. fine (with_kind g (live_kind (type_at l) 1) r))) failed.is); why = failed.why })
+        inr (record { cause = failed.cause; left = closed g (level_type l) failed.left; is = rw dead (ap (λ o. then_or o (closed g (level_type l)) (λ r. fine (with_kind g (live_kind (level_type l) 1) r))) failed.is); why = failed.why })
 
   -- how the tables of the level below are filled
   abbrev pub Fills : (Plain → PlainOutcome) → Type 0
   Fills fill = (dead : is_dead (p.kinds g) ≡ true) → Goes c (fill (begun dead)) (λ q e. Doings c q e × Grows c (begun dead) (begun_doing dead) q e (λ y. y ≡ g) × ((k : ℕ) → l ≡ suc k → (e.met g ≡ 512) × AllMet c e k g))
 
   by_filled : (fill : Plain → PlainOutcome) (dead : is_dead (p.kinds g) ≡ true) → Goes c (fill (begun dead)) (λ q e. Doings c q e × Grows c (begun dead) (begun_doing dead) q e (λ y. y ≡ g) × ((k : ℕ) → l ≡ suc k → (e.met g ≡ 512) × AllMet c e k g)) →
-      Goes c (take_kind fill g (type_at l) p (p.kinds g)) (Took c p d g l)
+      Goes c (take_kind fill g (level_type l) p (p.kinds g)) (Took c p d g l)
   by_filled fill dead (inl done) = done_all dead done.left done.doing done.holds.0 done.holds.1 done.holds.2 fill done.is
   by_filled fill dead (inr failed) = failed_all dead fill failed
 
-  by_form : IsCalm c → (fill : Plain → PlainOutcome) → Fills fill → (b : Bool) → is_dead (p.kinds g) ≡ b → Goes c (take_kind fill g (type_at l) p (p.kinds g)) (Took c p d g l)
+  by_form : IsCalm c → (fill : Plain → PlainOutcome) → Fills fill → (b : Bool) → is_dead (p.kinds g) ≡ b → Goes c (take_kind fill g (level_type l) p (p.kinds g)) (Took c p d g l)
   by_form calm fill fills true dead = by_filled fill dead (fills dead)
-  by_form calm fill fills false live = by_type c l low g p d does above owned tree live calm fill ((p.kinds g).validated && is_type (p.kinds g).kind (type_at l)) refl
+  by_form calm fill fills false live = by_type c l low g p d does above owned tree live calm fill (is_counted (p.kinds g) && is_type (p.kinds g).kind (level_type l)) refl
 
-  pub taken_goes : IsCalm c → (fill : Plain → PlainOutcome) → Fills fill → Goes c (take_kind fill g (type_at l) p (p.kinds g)) (Took c p d g l)
+  pub taken_goes : IsCalm c → (fill : Plain → PlainOutcome) → Fills fill → Goes c (take_kind fill g (level_type l) p (p.kinds g)) (Took c p d g l)
   taken_goes calm fill fills = by_form calm fill fills (is_dead (p.kinds g)) refl
 
   -- level 0 has no entries
@@ -202,7 +212,7 @@ module _ (c : Case) (l : ℕ) (low : l ≤ 4) (g : ℕ) (p : Plain) (d : Doing) 
         elim (cases_eq x g) [
           | inl e ↦ let same : j ≡ l = same_Some j l (sym some ∙ ap (begun_doing dead).taken e ∙ taken_here dead) in omega arith
           | inr away ↦
-              let up = above x j (sym (taken_there dead x away) ∙ some) (sym (ap (λ (y : KindWord). y.validated) (at_there g x (work_kind (type_at l) false 0) p.kinds away)) ∙ off) in
+              let up = above x j (sym (taken_there dead x away) ∙ some) (sym (ap (λ (y : KindWord). y.validated) (at_there g x (work_kind (level_type l) false 0) p.kinds away)) ∙ off) in
               omega arith
         ]
 
@@ -219,7 +229,7 @@ module _ (c : Case) (l : ℕ) (low : l ≤ 4) (g : ℕ) (p : Plain) (d : Doing) 
         let n = none_met in
         subst (λ i. (e.met g ≡ 512) × AllMet c e i g) same (looped.full, λ i b. looped.met i (omega arith) b)
 
-  pub fills_table : (k : ℕ) → l ≡ suc k → Take c k → Fills (meet_last c.machine c.owner (take_at k c.machine c.owner) (let_go k) (type_at (suc k)) g 512)
+  pub fills_table : (k : ℕ) → l ≡ suc k → Take c k → Fills (meet_last c.machine c.owner (take_at k c.machine c.owner) (let_go k) (level_type (suc k)) g 512)
   unfolding Loop
   fills_table k is take dead =
       elim (loop c k (omega arith) take g 512 (begun dead) (begun_doing dead) (begun_does dead) (above_begun k is dead) (table_taken k is dead) (let n = none_met k is dead in omega arith)) [
@@ -239,5 +249,5 @@ pub take_goes : (c : Case) → IsCalm c → (l : ℕ) → l ≤ 4 → Take c l
 unfolding take_at
 take_goes c calm zero low g p d does above owned tree = taken_goes c zero low g p d does above owned tree calm fine (fills_none c zero low g p d does above owned tree refl)
 take_goes c calm (suc l) low g p d does above owned tree =
-    taken_goes c (suc l) low g p d does above owned tree calm (meet_last c.machine c.owner (take_at l c.machine c.owner) (let_go l) (type_at (suc l)) g 512)
+    taken_goes c (suc l) low g p d does above owned tree calm (meet_last c.machine c.owner (take_at l c.machine c.owner) (let_go l) (level_type (suc l)) g 512)
     (fills_table c (suc l) low g p d does above owned tree l refl (take_goes c calm l (omega arith)))

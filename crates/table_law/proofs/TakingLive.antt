@@ -1,21 +1,37 @@
 -- The type of a live frame to which a reference was taken: it is counted, or it is another one.
-use Rattle.std.proofs.Common.{◌≡◌, ◌≢◌, ℕ, ◌≤◌, ◌&&◌, Bool, true, false, Option, Some, None, refl, sym, ap, ◌∙◌, subst, inl, inr, arith}
-use Rattle.std.proofs.lemmas.Bool.{cases_eq}
+use Rattle.std.proofs.Common.{◌≡◌, ◌≢◌, ℕ, ◌<◌, ◌≤◌, ◌&&◌, Bool, true, false, Option, Some, None, refl, sym, ap, ◌∙◌, subst, inl, inr, arith}
+use Rattle.std.proofs.lemmas.Bool.{cases_Bool, cases_eq}
+use Rattle.std.proofs.lemmas.Bool.Decides.{nat_tests}
 use Rattle.xp_words.specs.declared.kind.KindWord.{KindWord}
+use Rattle.xp_words.specs.declared.kind.PageType.{PageType}
 use Rattle.xp_board.specs.KindSteps.{raised_kind}
 use Rattle.xp_board.proofs.Returned.{same_type}
 use Rattle.xp_board.specs.Readings.{is_dead, is_type}
 use Rattle.board_lemmas.proofs.EntryWords.{type_same}
+use Rattle.partial_state.specs.Levels.{level_type}
+use Rattle.partial_state.proofs.LevelFacts.{level_type-apart}
 use Rattle.table_law.specs.Plain.{Plain, at, with_kind, reference_back}
-use Rattle.table_law.specs.Alone.{OtherType, PlainOutcome, take_kind}
-use Rattle.table_law.specs.Levels.{type_at}
+use Rattle.table_law.specs.Alone.{OtherType, PlainOutcome, is_counted, take_kind}
 use Rattle.table_law.specs.Lawful.{PlainTree, IsPlainOwned}
 use Rattle.table_law.proofs.Doing.{Case, IsCalm, Doing, Doings, IsLawful, IsSame, IsTaken, Above, HasType, Goes}
-use Rattle.table_law.proofs.Counting.{at_here, at_there, level_apart}
+use Rattle.table_law.proofs.Counting.{at_here, at_there}
+use Rattle.table_law.proofs.Growing.{counted_as}
 use Rattle.table_law.proofs.Meeting.{Took}
 
+-- ---- counted or not
+-- where a live frame has type counts, one that has none is not live
+uncounted : (k : KindWord) → (k.validated ≡ true → 0 < k.number) → is_counted k ≡ false → k.validated ≡ false
+uncounted k some off =
+    elim (cases_Bool k.validated) [
+      | inl on ↦ absurd (let count = some on in grind (arith, nat_tests))
+      | inr out ↦ out
+    ]
+
+has_counts : (k : KindWord) (t : PageType) → k.validated ≡ true → 0 < k.number → is_type k.kind t ≡ true → is_counted k && is_type k.kind t ≡ true
+has_counts k t live some typed = grind (arith, nat_tests)
+
 module _ (c : Case) (l : ℕ) (low : l ≤ 4) (g : ℕ) (p : Plain) (d : Doing) (does : Doings c p d) (above : Above p d l) (owned : IsPlainOwned c.machine c.owner c.before g)
-    (tree : PlainTree c.before c.top c.kind g (type_at l)) where
+    (tree : PlainTree c.before c.top c.kind g (level_type l)) where
   module _ (live : is_dead (p.kinds g) ≡ false) where
     kind_now : at g (raised_kind (p.kinds g)) p.kinds g ≡ raised_kind (p.kinds g)
     kind_now = at_here g (raised_kind (p.kinds g)) p.kinds
@@ -28,7 +44,7 @@ module _ (c : Case) (l : ℕ) (low : l ≤ 4) (g : ℕ) (p : Plain) (d : Doing) 
         elim (cases_eq x g) [
           | inl e ↦
               subst (λ y. IsSame (c.before.kinds y) (at g (raised_kind (p.kinds g)) p.kinds y)) (sym e)
-              (subst (λ k. IsSame (c.before.kinds g) k) (sym kind_now) (let s = does.same g (ap d.taken (sym e) ∙ none) in record { kind = s.kind; live = s.live; dead = s.dead }))
+              (subst (λ k. IsSame (c.before.kinds g) k) (sym kind_now) (let s = does.same g (ap d.taken (sym e) ∙ none) in record { kind = s.kind; live = s.live; dead = s.dead; more = (let up = s.more in omega arith) }))
           | inr off ↦ subst (λ k. IsSame (c.before.kinds x) k) (sym (kind_other x off)) (does.same x none)
         ]
 
@@ -38,10 +54,10 @@ module _ (c : Case) (l : ℕ) (low : l ≤ 4) (g : ℕ) (p : Plain) (d : Doing) 
         elim (cases_eq x g) [
           | inl e ↦
               let is = ap (at g (raised_kind (p.kinds g)) p.kinds) e ∙ kind_now ∙ sym (ap (λ y. raised_kind (p.kinds y)) e) in
-              record { dead = t.dead; tree = t.tree; low = t.low; inside = t.inside; kind = ap (λ (y : KindWord). y.kind) is ∙ t.kind; now = ap is_dead is ∙ t.now }
+              record { dead = t.dead; tree = t.tree; low = t.low; inside = t.inside; kind = ap (λ (y : KindWord). y.kind) is ∙ t.kind; now = ap is_dead is ∙ t.now; counted = λ live. (let number = ap (λ (y : KindWord). y.number) is in omega arith) }
           | inr off ↦
               let is = kind_other x off in
-              record { dead = t.dead; tree = t.tree; low = t.low; inside = t.inside; kind = ap (λ (y : KindWord). y.kind) is ∙ t.kind; now = ap is_dead is ∙ t.now }
+              record { dead = t.dead; tree = t.tree; low = t.low; inside = t.inside; kind = ap (λ (y : KindWord). y.kind) is ∙ t.kind; now = ap is_dead is ∙ t.now; counted = counted_as (p.kinds x) (at g (raised_kind (p.kinds g)) p.kinds x) is t.counted }
         ]
 
     counted_live : (x : ℕ) → (at g (raised_kind (p.kinds g)) p.kinds x).validated ≡ (p.kinds x).validated
@@ -51,14 +67,14 @@ module _ (c : Case) (l : ℕ) (low : l ≤ 4) (g : ℕ) (p : Plain) (d : Doing) 
           | inr off ↦ ap (λ (y : KindWord). y.validated) (kind_other x off)
         ]
 
-    has_by : (o : Option ℕ) → d.taken g ≡ o → (p.kinds g).kind ≡ type_at l → HasType c d g (type_at l)
+    has_by : (o : Option ℕ) → d.taken g ≡ o → (p.kinds g).kind ≡ level_type l → HasType c d g (level_type l)
     has_by (Some k) some is = inl (k, some, sym (does.took g k some).kind ∙ is)
     has_by None none is = let s = does.same g none in inr (sym s.dead ∙ live, sym s.kind ∙ is)
 
-    counted_is : (p.kinds g).validated && is_type (p.kinds g).kind (type_at l) ≡ true → (p.kinds g).kind ≡ type_at l
-    counted_is on = type_same (p.kinds g).kind (type_at l) (grind arith)
+    counted_is : is_counted (p.kinds g) && is_type (p.kinds g).kind (level_type l) ≡ true → (p.kinds g).kind ≡ level_type l
+    counted_is on = type_same (p.kinds g).kind (level_type l) (grind arith)
 
-    counted : (p.kinds g).validated && is_type (p.kinds g).kind (type_at l) ≡ true → Took c p d g l (with_kind g (raised_kind (p.kinds g)) p) d
+    counted : is_counted (p.kinds g) && is_type (p.kinds g).kind (level_type l) ≡ true → Took c p d g l (with_kind g (raised_kind (p.kinds g)) p) d
     counted on =
         record {
           doings = record { cells = does.cells; shares = does.shares; room = does.room; same = counted_same; took = counted_took; most = does.most };
@@ -67,27 +83,32 @@ module _ (c : Case) (l : ℕ) (low : l ≤ 4) (g : ℕ) (p : Plain) (d : Doing) 
         }
 
     -- of another type, or in work
-    other_by : IsCalm c → (o : Option ℕ) → d.taken g ≡ o → (p.kinds g).validated && is_type (p.kinds g).kind (type_at l) ≡ false → IsLawful c → ⊥
+    other_by : IsCalm c → (o : Option ℕ) → d.taken g ≡ o → is_counted (p.kinds g) && is_type (p.kinds g).kind (level_type l) ≡ false → IsLawful c → ⊥
     other_by calm (Some k) some off law =
         let t = does.took g k some in
-        let same : k ≡ l = level_apart k l t.low low (law.one_type g (type_at k) (type_at l) t.tree tree) in
-        let is : (p.kinds g).kind ≡ type_at l = t.kind ∙ ap type_at same in
-        let typed : is_type (p.kinds g).kind (type_at l) ≡ true = ap (λ y. is_type y (type_at l)) is ∙ same_type (type_at l) in
-        let work : (p.kinds g).validated ≡ false = grind arith in
+        let same : k ≡ l = level_type-apart k l t.low low (law.one_type g (level_type k) (level_type l) t.tree tree) in
+        let is : (p.kinds g).kind ≡ level_type l = t.kind ∙ ap level_type same in
+        let typed : is_type (p.kinds g).kind (level_type l) ≡ true = ap (λ y. is_type y (level_type l)) is ∙ same_type (level_type l) in
+        let out : is_counted (p.kinds g) ≡ false = grind arith in
+        let work = uncounted (p.kinds g) t.counted out in
         let up = above g k some work in
         omega arith
     other_by calm None none off law =
         let s = does.same g none in
         let undead : is_dead (c.before.kinds g) ≡ false = sym s.dead ∙ live in
-        elim (law.right_type g (type_at l) tree) [
+        elim (law.right_type g (level_type l) tree) [
           | inl dead ↦ absurd (cc)
           | inr is ↦
-              let typed : is_type (p.kinds g).kind (type_at l) ≡ true = ap (λ y. is_type y (type_at l)) (s.kind ∙ is) ∙ same_type (type_at l) in
+              let typed : is_type (p.kinds g).kind (level_type l) ≡ true = ap (λ y. is_type y (level_type l)) (s.kind ∙ is) ∙ same_type (level_type l) in
               let valid : (p.kinds g).validated ≡ true = s.live ∙ calm.formed g owned.inside undead in
-              absurd (grind arith)
+              let few = calm.counted g owned.inside (calm.formed g owned.inside undead) in
+              let up = s.more in
+              let some : 0 < (p.kinds g).number = omega arith in
+              let all : is_counted (p.kinds g) && is_type (p.kinds g).kind (level_type l) ≡ true = has_counts (p.kinds g) (level_type l) valid some typed in
+              absurd (let no = off in cc)
         ]
 
-    pub by_type : IsCalm c → (fill : Plain → PlainOutcome) → (b : Bool) → (p.kinds g).validated && is_type (p.kinds g).kind (type_at l) ≡ b → Goes c (take_kind fill g (type_at l) p (p.kinds g)) (Took c p d g l)
+    pub by_type : IsCalm c → (fill : Plain → PlainOutcome) → (b : Bool) → is_counted (p.kinds g) && is_type (p.kinds g).kind (level_type l) ≡ b → Goes c (take_kind fill g (level_type l) p (p.kinds g)) (Took c p d g l)
     by_type calm fill true on = inl (record { left = with_kind g (raised_kind (p.kinds g)) p; doing = d; is = rw (live, on) refl; holds = counted on })
     by_type calm fill false off =
-        inr (record { cause = OtherType g (type_at l) (p.kinds g); left = reference_back g p; is = rw (live, off) refl; why = other_by calm (d.taken g) refl off })
+        inr (record { cause = OtherType g (level_type l) (p.kinds g); left = reference_back g p; is = rw (live, off) refl; why = other_by calm (d.taken g) refl off })

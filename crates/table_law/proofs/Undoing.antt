@@ -2,14 +2,15 @@
 use Rattle.std.proofs.Common.{◌≡◌, ℕ, zero, suc, ◌-◌, ◌<◌, true, false, List, [], ◌∷◌, refl, ap, ◌∙◌, arith}
 use Rattle.xp_words.specs.declared.kind.PageType.{PageType}
 use Rattle.xp_words.specs.declared.entry.Demand.TheVariants.{Typed}
+use Rattle.partial_state.specs.Levels.{level_type}
 use Rattle.table_law.specs.Plain.{Plain}
-use Rattle.table_law.specs.Levels.{TableLeft, type_at, entry_of, closed}
+use Rattle.table_law.specs.Levels.{TableLeft, entry_of, closed}
 use Rattle.table_law.specs.Release.{is_counted_on, count_back, drop_demand, drop_first, let_go, undo, undo_below}
 use Rattle.table_law.specs.Stack.{table_left}
 
 -- the last recorded entry of the innermost table is given back
 pub undo_entry : (f l a k : ℕ) (xs : List TableLeft) (p : Plain) →
-    undo (table_left f l a ∷ xs) (suc k) p ≡ undo (table_left f l a ∷ xs) k (drop_demand (let_go l) p (entry_of p (type_at (suc l)) f k))
+    undo (table_left f l a ∷ xs) (suc k) p ≡ undo (table_left f l a ∷ xs) k (drop_demand (let_go l) p (entry_of p (level_type (suc l)) f k))
 unfolding drop_first
 undo_entry f l a k xs p = refl
 
@@ -19,7 +20,7 @@ unfolding let_go
 counted zero g p more = rw more refl
 counted (suc l) g p more = rw more refl
 
-pub undo_counted : (f l a k g : ℕ) (t : PageType) (xs : List TableLeft) (p : Plain) → entry_of p (type_at (suc l)) f k ≡ Typed g t →
+pub undo_counted : (f l a k g : ℕ) (t : PageType) (xs : List TableLeft) (p : Plain) → entry_of p (level_type (suc l)) f k ≡ Typed g t →
     is_counted_on (p.kinds g) ≡ true →
     undo (table_left f l a ∷ xs) (suc k) p ≡ undo (table_left f l a ∷ xs) k (count_back g (p.kinds g) p)
 undo_counted f l a k g t xs p asks more =
@@ -27,16 +28,16 @@ undo_counted f l a k g t xs p asks more =
 
 -- the last type count of a table: it is the innermost one now
 opened : (l g : ℕ) (p : Plain) → is_counted_on (p.kinds g) ≡ false →
-    let_go (suc l) g p ≡ closed g (type_at (suc l)) (drop_first (let_go l) (type_at (suc l)) g 512 p)
+    let_go (suc l) g p ≡ closed g (level_type (suc l)) (drop_first (let_go l) (level_type (suc l)) g 512 p)
 unfolding let_go
 opened l g p last = rw last refl
 
-pub undo_opened : (f l a k g : ℕ) (t : PageType) (xs : List TableLeft) (p : Plain) → k < 512 → entry_of p (type_at (suc (suc l))) f k ≡ Typed g t →
+pub undo_opened : (f l a k g : ℕ) (t : PageType) (xs : List TableLeft) (p : Plain) → k < 512 → entry_of p (level_type (suc (suc l))) f k ≡ Typed g t →
     is_counted_on (p.kinds g) ≡ false →
     undo (table_left f (suc l) a ∷ xs) (suc k) p ≡ undo (table_left g l 0 ∷ table_left f (suc l) (511 - k) ∷ xs) 512 p
 unfolding undo_below
 undo_opened f l a k g t xs p inside asks last =
-    let inner = closed g (type_at (suc l)) (drop_first (let_go l) (type_at (suc l)) g 512 p) in
+    let inner = closed g (level_type (suc l)) (drop_first (let_go l) (level_type (suc l)) g 512 p) in
     let same : k ≡ 511 - (511 - k) = omega arith in
     undo_entry f (suc l) a k xs p
     ∙ ap (λ d. undo (table_left f (suc l) a ∷ xs) k (drop_demand (let_go (suc l)) p d)) asks
@@ -45,11 +46,11 @@ undo_opened f l a k g t xs p inside asks last =
 
 -- nothing is recorded any more: the frame is dead, and the next one goes on
 pub undo_empty : (f l a g m b : ℕ) (xs : List TableLeft) (p : Plain) →
-    undo (table_left f l a ∷ table_left g m b ∷ xs) 0 p ≡ undo (table_left g m b ∷ xs) (511 - b) (closed f (type_at (suc l)) p)
+    undo (table_left f l a ∷ table_left g m b ∷ xs) 0 p ≡ undo (table_left g m b ∷ xs) (511 - b) (closed f (level_type (suc l)) p)
 unfolding drop_first undo_below
 undo_empty f l a g m b xs p = refl
 
-pub undo_last : (f l a : ℕ) (p : Plain) → undo (table_left f l a ∷ []) 0 p ≡ closed f (type_at (suc l)) p
+pub undo_last : (f l a : ℕ) (p : Plain) → undo (table_left f l a ∷ []) 0 p ≡ closed f (level_type (suc l)) p
 unfolding drop_first undo_below
 undo_last f l a p = refl
 

@@ -1,6 +1,6 @@
 -- The plain acquisition: tables depth first by entry, each reference added to the counts at once. It knows no pause, no
 -- progress and no stack.
-use Rattle.std.specs.Prelude.{ℕ, zero, suc, ◌-◌, ◌==◌, ◌&&◌, not, nat_lt, nat_le, if◌then◌else◌, false, Option, Some, None}
+use Rattle.std.specs.Prelude.{ℕ, zero, suc, ◌-◌, ◌==◌, ◌&&◌, not, nat_lt, nat_le, if◌then◌else◌, Bool, false, Option, Some, None}
 use Rattle.xp_words.specs.declared.kind.KindWord.{KindWord}
 use Rattle.xp_words.specs.declared.kind.PageType.{PageType}
 use Rattle.xp_words.specs.declared.kind.PageType.TheVariants as kinds
@@ -10,7 +10,8 @@ use Rattle.xp_words.specs.Machine.{Machine}
 use Rattle.xp_board.specs.KindSteps.{raised_kind}
 use Rattle.xp_board.specs.Readings.{is_dead, is_type}
 use Rattle.kind_words.specs.Kinds.{live_kind, work_kind}
-use Rattle.table_law.specs.Levels.{type_at, entry_of, closed}
+use Rattle.partial_state.specs.Levels.{level_type}
+use Rattle.table_law.specs.Levels.{entry_of, closed}
 use Rattle.table_law.specs.Release.{let_go, drop_first}
 use Rattle.table_law.specs.Plain.{Plain, Share, with_share, with_kind, raised_share, reference_back}
 
@@ -61,12 +62,16 @@ abbrev pub take_reference : Machine → ℕ → ℕ → Plain → PlainOutcome
 take_reference n owner g p = if nat_lt g n.frames then take_reference_of n owner g p (p.shares g) else refused (NoFrame g) p
 
 -- ---- one type
--- A live frame of that type is counted once more; a dead one is filled and made live. Of any other the reference is given
+-- live with type counts; one without is closing, and its holder alone may change it
+abbrev pub is_counted : KindWord → Bool
+is_counted k = k.validated && nat_lt 0 k.number
+
+-- A counted frame of that type is counted once more; a dead one is filled and made live. Of any other the reference is given
 -- back.
 abbrev pub take_kind : (Plain → PlainOutcome) → ℕ → PageType → Plain → KindWord → PlainOutcome
 take_kind fill g t p k =
     if is_dead k then then_or (fill (with_kind g (work_kind t false 0) p)) (closed g t) (λ q. fine (with_kind g (live_kind t 1) q))
-    else if k.validated && is_type k.kind t then fine (with_kind g (raised_kind k) p)
+    else if is_counted k && is_type k.kind t then fine (with_kind g (raised_kind k) p)
     else refused (OtherType g t k) (reference_back g p)
 
 -- ---- entries
@@ -87,7 +92,7 @@ meet_last n owner below drop t f (suc k) p =
 -- the type of a frame to which a reference was taken
 unfoldable pub take_at : ℕ → Machine → ℕ → ℕ → Plain → PlainOutcome
 take_at zero n owner g p = take_kind fine g kinds.Writable p (p.kinds g)
-take_at (suc l) n owner g p = take_kind (meet_last n owner (take_at l n owner) (let_go l) (type_at (suc l)) g 512) g (type_at (suc l)) p (p.kinds g)
+take_at (suc l) n owner g p = take_kind (meet_last n owner (take_at l n owner) (let_go l) (level_type (suc l)) g 512) g (level_type (suc l)) p (p.kinds g)
 
 -- the whole acquisition of frame f with the type of level l
 abbrev pub alone : Machine → ℕ → ℕ → ℕ → Plain → PlainOutcome

@@ -55,12 +55,15 @@ pub record PlainLawful (n : Machine) (owner : ℕ) (p : Plain) (f : ℕ) (t : Pa
   pub all : (g : ℕ) (u : PageType) → IsPlainNode p f t g u → nodes g ≡ Some u
   pub within : (g : ℕ) (s : Share) → g < n.frames → p.shares g ≡ Some s → s.count + (one_at f g + sum_below n.frames (λ x. plain_asked_by p g (nodes x) x)) ≤ n.limit
 
--- nothing is unfinished: each frame is dead or validated; and no count is above the limit
+-- Nothing is unfinished: each frame is dead, or validated with type counts (without one it would be closing); and no count is
+-- above the limit.
 pub record IsRested (n : Machine) (p : Plain) : Type 0 where
   pub formed : (g : ℕ) → g < n.frames → is_dead (p.kinds g) ≡ false → (p.kinds g).validated ≡ true
+  pub counted : (g : ℕ) → g < n.frames → (p.kinds g).validated ≡ true → 0 < (p.kinds g).number
   pub room : (g : ℕ) → g < n.frames → share_count (p.shares g) ≤ n.limit
 
 -- the same of words; the word of a free or dying frame counts nothing
 pub record IsAtRest (n : Machine) (m : Words) : Type 0 where
   pub formed : (g : ℕ) → g < n.frames → is_dead (kind_at m g) ≡ false → (kind_at m g).validated ≡ true
+  pub counted : (g : ℕ) → g < n.frames → (kind_at m g).validated ≡ true → 0 < (kind_at m g).number
   pub room : (g : ℕ) → g < n.frames → ref_count (m (Refs g)) ≤ n.limit

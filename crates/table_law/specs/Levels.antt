@@ -1,19 +1,10 @@
--- Levels and their types, what an entry asks, and the tables in work.
-use Rattle.std.specs.Prelude.{ℕ, zero, suc, false}
+-- What an entry asks, and the tables in work.
+use Rattle.std.specs.Prelude.{ℕ, false}
 use Rattle.xp_words.specs.declared.kind.PageType.{PageType}
-use Rattle.xp_words.specs.declared.kind.PageType.TheVariants as kinds
 use Rattle.xp_words.specs.declared.entry.Demand.{Demand}
 use Rattle.xp_words.specs.Entries.{demand_at}
 use Rattle.kind_words.specs.Kinds.{dead_kind}
 use Rattle.table_law.specs.Plain.{Plain, with_kind, reference_back}
-
--- the type that a table of level l + 1 asks of what its entries name; level 0 is ordinary memory
-abbrev pub type_at : ℕ → PageType
-type_at zero = kinds.Writable
-type_at (suc zero) = kinds.L1
-type_at (suc (suc zero)) = kinds.L2
-type_at (suc (suc (suc zero))) = kinds.L3
-type_at (suc (suc (suc (suc l)))) = kinds.L4
 
 abbrev pub entry_of : Plain → PageType → ℕ → ℕ → Demand
 entry_of p t f i = demand_at t i (p.cells f i)

@@ -5,8 +5,9 @@ use Rattle.xp_words.specs.declared.kind.PageType.{PageType}
 use Rattle.xp_words.specs.declared.kind.PageType.TheVariants as kinds
 use Rattle.xp_words.specs.declared.entry.Demand.{Demand}
 use Rattle.xp_words.specs.declared.entry.Demand.TheVariants.{Nothing, Bad, Read, Typed}
+use Rattle.partial_state.specs.Levels.{level_type}
 use Rattle.table_law.specs.Plain.{Plain, with_kind, reference_back}
-use Rattle.table_law.specs.Levels.{type_at, entry_of, closed, TableLeft}
+use Rattle.table_law.specs.Levels.{entry_of, closed, TableLeft}
 
 -- ---- one type
 -- live, with other type counts beside one
@@ -36,16 +37,16 @@ drop_first below t f (suc k) p = drop_first below t f k (drop_demand below p (en
 -- ---- a frame by level: its type count and its reference
 unfoldable pub let_go : ℕ → ℕ → Plain → Plain
 let_go zero g p = drop_kind (λ q. q) g kinds.Writable p (p.kinds g)
-let_go (suc l) g p = drop_kind (drop_first (let_go l) (type_at (suc l)) g 512) g (type_at (suc l)) p (p.kinds g)
+let_go (suc l) g p = drop_kind (drop_first (let_go l) (level_type (suc l)) g 512) g (level_type (suc l)) p (p.kinds g)
 
 -- ---- unfinished tables, the innermost first
 -- behind the innermost one, which was an entry of the next
 unfoldable pub undo_below : List TableLeft → Plain → Plain
 undo_below [] p = p
 undo_below (x ∷ xs) p =
-    undo_below xs (closed x.frame (type_at (suc x.level)) (drop_first (let_go x.level) (type_at (suc x.level)) x.frame (511 - x.ahead) p))
+    undo_below xs (closed x.frame (level_type (suc x.level)) (drop_first (let_go x.level) (level_type (suc x.level)) x.frame (511 - x.ahead) p))
 
 -- `held` of the entries of the innermost one are recorded
 abbrev pub undo : List TableLeft → ℕ → Plain → Plain
 undo [] held p = p
-undo (x ∷ xs) held p = undo_below xs (closed x.frame (type_at (suc x.level)) (drop_first (let_go x.level) (type_at (suc x.level)) x.frame held p))
+undo (x ∷ xs) held p = undo_below xs (closed x.frame (level_type (suc x.level)) (drop_first (let_go x.level) (level_type (suc x.level)) x.frame held p))

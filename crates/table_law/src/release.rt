@@ -3,9 +3,10 @@ ghost use Rattle.std.specs.Prelude.{◌≡◌, ℕ, suc, ◌-◌, ◌<◌, true,
 ghost use Rattle.xp_words.specs.declared.kind.PageType.{PageType};
 ghost use Rattle.xp_words.specs.declared.entry.Demand.TheVariants.{Typed};
 ghost use Rattle.xp_words.specs.Machine.{Machine};
+ghost use Rattle.partial_state.specs.Levels.{level_type};
 ghost use Rattle.table_law.specs.Alone.{Cause, alone};
 ghost use Rattle.table_law.specs.Undone.{CountsSome, IsSameButTypes};
-ghost use Rattle.table_law.specs.Levels.{TableLeft, type_at, entry_of, closed};
+ghost use Rattle.table_law.specs.Levels.{TableLeft, entry_of, closed};
 ghost use Rattle.table_law.specs.Plain.{Plain};
 ghost use Rattle.table_law.specs.Release.{let_go, undo, drop_demand, is_counted_on, count_back};
 ghost use Rattle.table_law.specs.Stack.{table_left};
@@ -16,15 +17,15 @@ ghost use Rattle.table_law.specs.Stack.{table_left};
 /// dead. The release of the last type count of a table begins with that table alone.
 pub fn what_is_held_is_given_back_by_entries()
     ensures entry { (f l a k : ℕ) (xs : List TableLeft) (p : Plain) →
-        undo (table_left f l a ∷ xs) (suc k) p ≡ undo (table_left f l a ∷ xs) k (drop_demand (let_go l) p (entry_of p (type_at (suc l)) f k)) }
-    ensures counted { (f l a k g : ℕ) (t : PageType) (xs : List TableLeft) (p : Plain) → entry_of p (type_at (suc l)) f k ≡ Typed g t → is_counted_on (p.kinds g) ≡ true →
+        undo (table_left f l a ∷ xs) (suc k) p ≡ undo (table_left f l a ∷ xs) k (drop_demand (let_go l) p (entry_of p (level_type (suc l)) f k)) }
+    ensures counted { (f l a k g : ℕ) (t : PageType) (xs : List TableLeft) (p : Plain) → entry_of p (level_type (suc l)) f k ≡ Typed g t → is_counted_on (p.kinds g) ≡ true →
         undo (table_left f l a ∷ xs) (suc k) p ≡ undo (table_left f l a ∷ xs) k (count_back g (p.kinds g) p) }
-    ensures opened { (f l a k g : ℕ) (t : PageType) (xs : List TableLeft) (p : Plain) → k < 512 → entry_of p (type_at (suc (suc l))) f k ≡ Typed g t →
+    ensures opened { (f l a k g : ℕ) (t : PageType) (xs : List TableLeft) (p : Plain) → k < 512 → entry_of p (level_type (suc (suc l))) f k ≡ Typed g t →
         is_counted_on (p.kinds g) ≡ false →
         undo (table_left f (suc l) a ∷ xs) (suc k) p ≡ undo (table_left g l 0 ∷ table_left f (suc l) (511 - k) ∷ xs) 512 p }
     ensures empty { (f l a g m b : ℕ) (xs : List TableLeft) (p : Plain) →
-        undo (table_left f l a ∷ table_left g m b ∷ xs) 0 p ≡ undo (table_left g m b ∷ xs) (511 - b) (closed f (type_at (suc l)) p) }
-    ensures last { (f l a : ℕ) (p : Plain) → undo (table_left f l a ∷ []) 0 p ≡ closed f (type_at (suc l)) p }
+        undo (table_left f l a ∷ table_left g m b ∷ xs) 0 p ≡ undo (table_left g m b ∷ xs) (511 - b) (closed f (level_type (suc l)) p) }
+    ensures last { (f l a : ℕ) (p : Plain) → undo (table_left f l a ∷ []) 0 p ≡ closed f (level_type (suc l)) p }
     ensures released { (l f : ℕ) (p : Plain) → is_counted_on (p.kinds f) ≡ false → let_go (suc l) f p ≡ undo (table_left f l 0 ∷ []) 512 p }
 {}
 

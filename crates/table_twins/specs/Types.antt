@@ -13,8 +13,8 @@ use Rattle.frame_types.specs.declared.standing.Standing.{Standing}
 use Rattle.frame_types.specs.declared.standing.Standing.TheVariants as stands
 use Rattle.frame_types.specs.declared.taking.Taken.{Taken}
 use Rattle.frame_types.specs.declared.taking.Taken.TheVariants.{Counted, InWork, Waiting}
+use Rattle.partial_state.specs.Levels.{level_type}
 use Rattle.table_law.specs.Alone.{Cause, fine, refused, take_at}
-use Rattle.table_law.specs.Levels.{type_at}
 use Rattle.table_law.specs.Plain.{Describes, Plain, reference_back, with_kind}
 use Rattle.table_twins.specs.Answers.{IsCause}
 
@@ -40,13 +40,13 @@ pub record IsOpenedPlain (n : Machine) (l g progress : ℕ) (own : Bool) (q : Pl
   pub dead : is_dead (q.kinds g) ≡ true
   pub none : progress ≡ 0
   pub mine : own ≡ true
-  pub describes : Describes n words (with_kind g (work_kind (type_at l) false 0) q)
+  pub describes : Describes n words (with_kind g (work_kind (level_type l) false 0) q)
 
--- q: the plain value with the reference taken
+-- q: the plain value with the reference taken; it knows no waiting, and has a frame that waits in work, with nothing recorded
 abbrev pub TakesAsPlain : Machine → ℕ → ℕ → ℕ → Plain → Words → Taken → Type 0
 TakesAsPlain n l owner g q words Counted = IsTakenPlain n l owner g q words
 TakesAsPlain n l owner g q words (InWork progress own) = IsOpenedPlain n l g progress own q words
-TakesAsPlain n l owner g q words (Waiting own stamp stop) = Unit {0}
+TakesAsPlain n l owner g q words (Waiting own stamp stop) = IsOpenedPlain n l g 0 own q words
 
 -- it is refused there for the same cause, and the reference given back
 pub record IsRefusedPlain (n : Machine) (l owner g : ℕ) (q : Plain) (x : Refusal) : Type 0 where
