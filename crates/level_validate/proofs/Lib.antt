@@ -1,3 +1,4 @@
+mod Entered
 mod LeavingLent
 mod LeavingOwn
 mod LeavingTables
@@ -8,3 +9,4 @@ mod Sharing
 mod Standing
 mod StandsFacts
 mod Unwound
+mod Waiting

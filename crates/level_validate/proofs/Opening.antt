@@ -53,7 +53,7 @@ progress_few v w g x found =
     let m = found.was in
     let inside = subst (λ (p : Post). g < p.machine.frames) (sym (came_post v m.from m.before)) (kind_inside v w g x found) in
     let finds = subst (λ y. Finds m.from.post.machine m.from.post.vcpu m.from.holdings (Kind g) y) found.word
-        (subst (λ (p : Place). Finds m.from.post.machine m.from.post.vcpu m.from.holdings p found.moment.found) found.place m.moved.moves.finds) in
+    (subst (λ (p : Place). Finds m.from.post.machine m.from.post.vcpu m.from.holdings p found.moment.found) found.place m.moved.moves.finds) in
     let k = kind_found m.from.post.machine m.from.post.vcpu m.from.holdings g x inside finds in
     subst (λ y. progress_of y ≤ 512) (sym k.fields) (progress_by x k.kind k.kind.validated k.kind.partial k.read refl refl)
 

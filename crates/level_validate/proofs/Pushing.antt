@@ -14,6 +14,7 @@ use Rattle.xp_board.specs.Hands.{changed_work, typed_to, work_on}
 use Rattle.xp_board.specs.Readings.{is_work}
 use Rattle.xp_board.specs.Settling.{is_settled, settles_last}
 use Rattle.xp_board.specs.Told.{Post, PortValue}
+use Rattle.board_lemmas.proofs.Learned.{learned_frame}
 use Rattle.step_maker.specs.Holds.{FlushedHolds, quiet}
 use Rattle.step_maker.specs.Moves.{Came}
 use Rattle.flush_words.proofs.Lasting.{came_longer}
@@ -22,7 +23,7 @@ use Rattle.frame_types.specs.Taking.{working, working_typed}
 use Rattle.kind_words.proofs.KindHands.{work_here}
 use Rattle.kind_words.proofs.Leaving.{without_newest}
 use Rattle.table_entries.specs.Tops.{Opens, with_recorded}
-use Rattle.table_entries.proofs.HandReady.{learned_keeps, settled_more, unmarked_learns}
+use Rattle.table_entries.proofs.HandReady.{learned_word, settled_more, unmarked_learns}
 use Rattle.partial_state.specs.declared.stack.TableWork.{TableWork}
 use Rattle.partial_state.specs.Levels.{level_type}
 use Rattle.partial_state.specs.Stacks.{IsStack}
@@ -48,10 +49,10 @@ unfolding is_settled
 settled_none z h e none = rw none refl
 
 module _ (v u w : PortValue) (owner : ℕ) (t : TableWork) (ts : List TableWork) (s : Stands v u owner (t ∷ ts)) (came : Came u w) (first : FirstFound u) (i word : ℕ) where
-  pub e : Work
+  unfoldable pub e : Work
   e = (top v u owner t ts s).work
 
-  pub es : List Work
+  unfoldable pub es : List Work
   es = (top v u owner t ts s).others
 
   works_were : u.holdings.works ≡ e ∷ es
@@ -77,7 +78,7 @@ module _ (v u w : PortValue) (owner : ℕ) (t : TableWork) (ts : List TableWork)
   typed_now = typed_later (length u.holdings.steps) (length w.holdings.steps) owner (t ∷ ts) u.holdings.typed (came_longer u w came) s.typed
 
   -- its work after the look
-  pub seen : Work
+  unfoldable pub seen : Work
   seen = learned_work i word e
 
   seen_is : seen ≡ record e { seen = seen.seen; unsettled = learned_last i e.recorded word e.unsettled; fixed = seen.fixed }
@@ -99,9 +100,8 @@ module _ (v u w : PortValue) (owner : ℕ) (t : TableWork) (ts : List TableWork)
   pub seen_table : IsTableWork (sizes_of v.post.machine) t seen
   unfolding seen
   seen_table =
-      let k = learned_keeps i word e in
       let is = is_table_work in
-      record { inside = is.inside; frame = k.0 ∙ is.frame; work = subst (λ y. IsTrue (is_work (kind_fields y))) (sym k.1) is.work; kind = ap (λ y. (kind_fields y).kind) k.1 ∙ is.kind; unmarked = ap (λ y. (kind_fields y).unflushed) k.1 ∙ is.unmarked }
+      record { inside = is.inside; frame = learned_frame i word e ∙ is.frame; work = subst (λ y. IsTrue (is_work (kind_fields y))) (sym (learned_word i word e)) is.work; kind = ap (λ y. (kind_fields y).kind) (learned_word i word e) ∙ is.kind; unmarked = ap (λ y. (kind_fields y).unflushed) (learned_word i word e) ∙ is.unmarked }
 
   -- ---- the hand
   pub looked_hand : learned_cell t.frame i word u.holdings ≡ record u.holdings { works = seen ∷ es }
@@ -120,7 +120,7 @@ module _ (v u w : PortValue) (owner : ℕ) (t : TableWork) (ts : List TableWork)
   looked_only hand = hand ∙ ap (λ h. quiet (record u { holdings = h })) looked_hand
 
   -- ---- recorded
-  pub next : Option Unsettled → Work
+  unfoldable pub next : Option Unsettled → Work
   next r = record seen { recorded = i + 1; unsettled = r }
 
   pub recorded_hand : (r : Option Unsettled) → FlushedHolds u w (with_recorded t.frame (i + 1) r (learned_cell t.frame i word u.holdings)) → FlushedHolds u w (record u.holdings { works = next r ∷ es })

@@ -2,5 +2,6 @@
 #![tactic(auto)]
 
 mod completing;
+mod entering;
 mod unwinding;
 mod words;
