@@ -1,8 +1,8 @@
 -- An entry whose frame came into the own works: what the steps found of that frame.
-use Rattle.std.proofs.Common.{◌≡◌, ℕ, zero, suc, ◌+◌, ◌-◌, ◌<◌, ◌≤◌, if◌then◌else◌, Bool, true, false, List, Some, Result, Ok, Err, IsTrue, refl, sym, ap, ◌∙◌, subst, arith}
+use Rattle.std.proofs.Common.{◌≡◌, ℕ, zero, suc, ◌-◌, ◌<◌, ◌≤◌, if◌then◌else◌, Bool, true, false, List, Some, Ok, IsTrue, refl, sym, ap, ◌∙◌, subst, arith}
 use Rattle.std.proofs.lemmas.Bool.Decides.{nat_tests}
 use Rattle.xp_words.specs.Entries.{below, demand_at}
-use Rattle.xp_words.specs.KindWords.{has_form, is_live_form, kind_fields, kind_read}
+use Rattle.xp_words.specs.KindWords.{has_form, kind_fields, kind_read}
 use Rattle.xp_words.specs.Machine.{Machine}
 use Rattle.xp_words.specs.Places.{is_place, sizes_of}
 use Rattle.xp_words.specs.declared.entry.Demand.{Demand}
@@ -24,8 +24,7 @@ use Rattle.frame_types.specs.Standing.{standing_of}
 use Rattle.frame_types.specs.Taking.{progress_of}
 use Rattle.frame_types.specs.declared.standing.Standing.{Standing}
 use Rattle.frame_types.specs.declared.standing.Standing.TheVariants as stands
-use Rattle.frame_types.specs.declared.taking.Taken.{Taken}
-use Rattle.frame_types.specs.declared.taking.Taken.TheVariants.{InWork, Waiting}
+use Rattle.frame_types.specs.declared.taking.Taken.TheVariants.{InWork}
 use Rattle.table_entries.specs.Found.{EntersBy, EntersFound, LastFound, ResumesBy, ResumesFound, TypeAsked, TypedAgain, TypedFound, had, lost, other, refused, settled}
 use Rattle.table_entries.specs.declared.entries.Entered.TheVariants.{Opened}
 use Rattle.table_entries.specs.declared.resuming.Resumed.TheVariants as again

@@ -1,5 +1,5 @@
 -- The innermost table after a look at one of its entries: the hand, and how the tables stand then.
-use Rattle.std.proofs.Common.{◌≡◌, ◌≢◌, ℕ, ◌+◌, ◌-◌, ◌<◌, ◌≤◌, Bool, true, false, List, [], ◌∷◌, length, Option, Some, None, IsTrue, refl, sym, ap, ◌∙◌, subst, arith}
+use Rattle.std.proofs.Common.{◌≡◌, ◌≢◌, ℕ, ◌+◌, ◌-◌, ◌<◌, ◌≤◌, Bool, true, false, List, ◌∷◌, length, Option, Some, None, IsTrue, refl, sym, ap, ◌∙◌, subst, arith}
 use Rattle.xp_words.specs.Entries.{below, demand_at}
 use Rattle.xp_words.specs.KindWords.{kind_fields}
 use Rattle.xp_words.specs.Places.{Sizes, sizes_of}
@@ -10,7 +10,7 @@ use Rattle.xp_board.specs.declared.holdings.Reference.{Reference}
 use Rattle.xp_board.specs.declared.holdings.Unsettled.{Unsettled}
 use Rattle.xp_board.specs.declared.holdings.Work.{Work}
 use Rattle.xp_board.specs.After.{learned_cell, learned_last, learned_work}
-use Rattle.xp_board.specs.Hands.{changed_work, typed_to, work_on}
+use Rattle.xp_board.specs.Hands.{typed_to}
 use Rattle.xp_board.specs.Readings.{is_work}
 use Rattle.xp_board.specs.Settling.{is_settled, settles_last}
 use Rattle.xp_board.specs.Told.{Post, PortValue}
@@ -22,12 +22,12 @@ use Rattle.flush_waits.proofs.Growing.{came_grows}
 use Rattle.frame_types.specs.Taking.{working, working_typed}
 use Rattle.kind_words.proofs.KindHands.{work_here}
 use Rattle.kind_words.proofs.Leaving.{without_newest}
-use Rattle.table_entries.specs.Tops.{Opens, with_recorded}
+use Rattle.table_entries.specs.Tops.{with_recorded}
 use Rattle.table_entries.proofs.HandReady.{learned_word, settled_more, unmarked_learns}
 use Rattle.partial_state.specs.declared.stack.TableWork.{TableWork}
 use Rattle.partial_state.specs.Levels.{level_type}
 use Rattle.partial_state.specs.Stacks.{IsStack}
-use Rattle.level_validate.specs.Tables.{AreTables, AreTyped, IsLastWord, IsReady, IsTableWork, Reaches, Stands, innermost, refs_for, taken_on, under_way}
+use Rattle.level_validate.specs.Tables.{AreTables, AreTyped, IsLastWord, IsReady, IsTableWork, Reaches, Stands, innermost, taken_on, under_way}
 use Rattle.level_validate.proofs.LeavingTables.{top, top_done}
 use Rattle.level_validate.proofs.Looking.{FirstFound, changed_first, last_looked, last_other, looked_apart}
 use Rattle.level_validate.proofs.Opening.{CameOpen, level_below, read_level}

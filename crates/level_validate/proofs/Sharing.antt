@@ -1,5 +1,5 @@
 -- A typed reference in hand to a frame whose type an entry of a table in work has too: it is not the last one.
-use Rattle.std.proofs.Common.{◌≡◌, ℕ, ◌+◌, ◌==◌, ◌<◌, ◌≤◌, Bool, true, false, List, [], ◌∷◌, length, Option, Some, None, IsTrue, refl, sym, ap, ◌∙◌, subst, arith}
+use Rattle.std.proofs.Common.{◌≡◌, ℕ, ◌==◌, ◌<◌, ◌≤◌, Bool, true, false, Some, refl, sym, ap, ◌∙◌, subst, arith}
 use Rattle.std.proofs.lemmas.Bool.Decides.{nat_tests}
 use Rattle.xp_words.specs.Entries.{demand_at}
 use Rattle.xp_words.specs.KindWords.{kind_fields}
@@ -7,29 +7,27 @@ use Rattle.xp_words.specs.Machine.{Machine}
 use Rattle.xp_words.specs.PageTypes.{is_table}
 use Rattle.xp_words.specs.Places.{sizes_of}
 use Rattle.xp_words.specs.declared.entry.Demand.TheVariants.{Typed}
-use Rattle.xp_words.specs.declared.kind.KindWord.{KindWord}
 use Rattle.xp_words.specs.declared.kind.PageType.{PageType}
 use Rattle.xp_words.specs.declared.place.Place.{Place}
 use Rattle.xp_board.specs.declared.holdings.Holdings.{Holdings}
 use Rattle.xp_board.specs.declared.holdings.Reference.{Reference}
-use Rattle.xp_board.specs.declared.holdings.Seen.{Seen}
 use Rattle.xp_board.specs.declared.holdings.Work.{Work}
 use Rattle.xp_board.specs.Hands.{refs_to, typed_hand, typed_owner, typed_to, without_typed, work_on}
 use Rattle.xp_board.specs.Readings.{kind_at, type_count}
-use Rattle.xp_board.specs.Recorded.{entries, entry_demand, held, named_typed, names_typed}
+use Rattle.xp_board.specs.Recorded.{entry_demand, held, named_typed, names_typed}
 use Rattle.xp_board.specs.Sound.{Sound}
 use Rattle.xp_board.specs.Told.{PortValue}
 use Rattle.board_lemmas.proofs.Counted.{entries-part, held_inside, names_typed-typed, typed_hand_is}
 use Rattle.board_lemmas.proofs.KindReadings.{live_count}
 use Rattle.board_lemmas.proofs.ListCounts.{newest_held}
 use Rattle.board_lemmas.proofs.Sums.{hands-part}
-use Rattle.board_lemmas.proofs.WorkFacts.{Works, loaded_asks, work_held, works_facts}
+use Rattle.board_lemmas.proofs.WorkFacts.{loaded_asks, work_held, works_facts}
 use Rattle.step_maker.specs.Holds.{Holds, still}
 use Rattle.frame_words.specs.Freeing.{gave}
 use Rattle.frame_words.specs.Refs.{MayPut}
 use Rattle.kind_words.proofs.KindHands.{apart_spares}
 use Rattle.kind_words.proofs.Leaving.{without_newest}
-use Rattle.frame_types.specs.Lowering.{DropsType, uncounted}
+use Rattle.frame_types.specs.Lowering.{DropsType}
 use Rattle.frame_types.specs.Taking.{gave_type}
 use Rattle.frame_types.proofs.Lowered.{type_counted}
 use Rattle.level_validate.specs.Giving.{MayGiveBack}

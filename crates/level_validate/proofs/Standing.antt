@@ -1,31 +1,29 @@
 -- What the call at an entry asks of the hand: the tables in work have it.
-use Rattle.std.proofs.Common.{◌≡◌, ◌≢◌, ℕ, zero, suc, ◌+◌, ◌==◌, ◌<◌, ◌≤◌, Bool, true, false, List, [], ◌∷◌, length, Option, Some, None, IsTrue, refl, sym, ap, ◌∙◌, subst, arith, inl, inr}
+use Rattle.std.proofs.Common.{◌≡◌, ◌≢◌, ℕ, zero, suc, ◌==◌, ◌≤◌, Bool, true, false, List, [], ◌∷◌, length, Option, Some, None, refl, sym, ap, ◌∙◌, subst, arith, inl, inr}
 use Rattle.std.proofs.lemmas.Bool.{cases_eq}
 use Rattle.xp_words.specs.Entries.{below}
 use Rattle.xp_words.specs.KindWords.{kind_fields}
-use Rattle.xp_words.specs.PageTypes.{is_table, type_number}
+use Rattle.xp_words.specs.PageTypes.{type_number}
 use Rattle.xp_words.specs.Places.{Sizes, sizes_of}
-use Rattle.xp_words.specs.declared.kind.PageType.{PageType}
 use Rattle.xp_board.specs.declared.holdings.Made.{Made}
 use Rattle.xp_board.specs.declared.holdings.TypedReference.{TypedReference}
 use Rattle.xp_board.specs.declared.holdings.Work.{Work}
 use Rattle.xp_board.specs.Hands.{typed_to, work_on}
 use Rattle.xp_board.specs.Lists.{first_by, times_by}
 use Rattle.xp_board.specs.Readings.{is_type}
-use Rattle.xp_board.specs.Settling.{is_settled}
-use Rattle.xp_board.specs.Told.{Post, PortValue}
+use Rattle.xp_board.specs.Told.{PortValue}
 use Rattle.board_lemmas.proofs.ListCounts.{first_by-cons_here, first_by-cons_other, times_by-cons_other}
 use Rattle.board_lemmas.proofs.Sums.{when_ne}
 use Rattle.flush_waits.specs.Waiting.{IsKnownOwner}
 use Rattle.frame_types.specs.Taking.{IsOfOther, working_typed}
 use Rattle.table_entries.specs.Tops.{HoldsWorks, WorksAtTop, WorksNext}
-use Rattle.partial_state.proofs.LevelFacts.{level_type-below, level_type-number, level_type-table}
+use Rattle.partial_state.proofs.LevelFacts.{level_type-number, level_type-table}
 use Rattle.partial_state.specs.declared.stack.TableWork.{TableWork}
 use Rattle.partial_state.specs.Levels.{level_type}
 use Rattle.partial_state.specs.Stacks.{IsStack}
 use Rattle.level_validate.specs.Tables.{AreTables, AreTyped, IsReady, Stands, TypedFor}
 use Rattle.level_validate.proofs.LeavingTables.{top, top_done}
-use Rattle.level_validate.proofs.StandsFacts.{stands_post, top_known}
+use Rattle.level_validate.proofs.StandsFacts.{top_known}
 
 -- ---- a list without that number
 none_here : {A : Type 0} (x : A) (o : Option A) → o ≡ Some x → o ≡ None → ⊥

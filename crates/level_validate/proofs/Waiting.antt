@@ -1,5 +1,5 @@
 -- The frame of the last recorded entry waits for a flush: it is left as it was found.
-use Rattle.std.proofs.Common.{◌≡◌, ℕ, ◌+◌, ◌-◌, ◌==◌, ◌<◌, ◌≤◌, not, ◌||◌, Bool, true, false, List, [], ◌∷◌, Some, None, Result, Ok, IsTrue, refl, sym, ap, ◌∙◌, subst}
+use Rattle.std.proofs.Common.{◌≡◌, ℕ, ◌==◌, ◌<◌, not, Bool, true, Ok, refl, sym, ap, ◌∙◌, subst}
 use Rattle.std.proofs.lemmas.Bool.{or_left}
 use Rattle.xp_words.specs.Entries.{below, demand_at}
 use Rattle.xp_words.specs.KindWords.{kind_fields}
@@ -21,7 +21,6 @@ use Rattle.frame_words.specs.Refs.{took}
 use Rattle.kind_words.proofs.Leaving.{without_newest}
 use Rattle.frame_types.specs.Leaving.{GivesBack, IsWaiting, WaitsFrom}
 use Rattle.frame_types.specs.Taking.{working}
-use Rattle.frame_types.specs.declared.taking.Taken.TheVariants.{Counted, Waiting}
 use Rattle.table_entries.specs.Asking.{IsEntryStop}
 use Rattle.table_entries.specs.Found.{LastFound, ResumesBy, ResumesFound, TypeAsked, TypedAgain, had, lost, other, refused, settled}
 use Rattle.table_entries.specs.Tops.{LookedAnd, Opens, as_it_was}

@@ -1,15 +1,13 @@
-use Rattle.std.proofs.Common.{◌≡◌, ◌<◌, ◌+◌, ◌-◌, ◌∷◌, [], drop, true, false, Ok, refl, sym, ap, ◌∙◌, subst, arith}
+use Rattle.std.proofs.Common.{◌≡◌, ◌<◌, ◌+◌, ◌-◌, ◌∷◌, [], drop, true, false, Ok, sym, ap, ◌∙◌, subst, arith}
 use Rattle.xp_words.specs.Entries.{below}
 use Rattle.xp_words.specs.declared.kind.PageType.{PageType}
-use Rattle.xp_board.specs.Told.{Post, PortValue}
+use Rattle.xp_board.specs.Told.{Post}
 use Rattle.step_maker.proofs.Coming.{came_post, came_self, came_trans}
-use Rattle.answer_fits.specs.Answers.{misses}
 use Rattle.answer_fits.proofs.Piecing.{serves_came}
 use Rattle.frame_types.specs.Taking.{IsOfOther}
 use Rattle.table_entries.specs.Asking.{ShowsResumed, of_entries}
 use Rattle.table_entries.specs.Found.{ResumesFound}
 use Rattle.table_entries.specs.Tops.{LeavesResumed, Opens, WorksAtTop}
-use Rattle.partial_state.specs.declared.stack.TableWork.{TableWork}
 use Rattle.partial_state.specs.Levels.{level_type}
 use Rattle.level_validate.specs.Tables.{Stands}
 use Rattle.level_validate.proofs.Entered.{after_again, after_look, after_settled, back_one, fresh_ready, taken_gives, taken_ready, taken_stands}
@@ -18,7 +16,7 @@ use Rattle.level_validate.proofs.Looking.{met_first}
 use Rattle.xp_words.specs.KindWords.{kind_fields}
 use Rattle.table_entries.specs.declared.resuming.Resumed.TheVariants as again
 use Rattle.level_validate.proofs.Pushing.{pushed}
-use Rattle.level_validate.proofs.Opening.{again_found, level_below, read_level}
+use Rattle.level_validate.proofs.Opening.{again_found, level_below}
 use Rattle.level_validate.proofs.Standing.{standing_above, standing_held, standing_looked, standing_top}
 use Rattle.level_validate.proofs.StandsFacts.{may_back, may_stands}
 use Rattle.level_validate.proofs.Waiting.{left_waiting, taken_found, wait_stops, waited_found, waits_there}

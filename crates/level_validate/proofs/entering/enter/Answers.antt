@@ -1,4 +1,4 @@
-use Rattle.std.proofs.Common.{◌≡◌, ◌+◌, ◌-◌, ◌<◌, ◌∷◌, [], drop, true, false, None, Ok, refl, sym, ap, ◌∙◌, subst, arith}
+use Rattle.std.proofs.Common.{◌-◌, ◌<◌, ◌∷◌, [], drop, false, None, Ok, sym, ap, ◌∙◌, subst, arith}
 use Rattle.xp_words.specs.Entries.{below}
 use Rattle.xp_words.specs.declared.kind.PageType.{PageType}
 use Rattle.step_maker.proofs.Coming.{came_trans}
