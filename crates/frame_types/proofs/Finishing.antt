@@ -178,6 +178,7 @@ module _ (b v : PortValue) (f owner : ℕ) (want : PageType) (stamp progress : �
             in_work = ap (λ (k : KindWord). is_work k) item_fields;
             kind = ap (λ (k : KindWord). k.kind) item_fields;
             earlier = omega (arith, more, earlier);
+            aside = e.aside;
             hand = item_hand;
           };
           recorded = e.recorded;
@@ -195,6 +196,7 @@ entered_working b v f owner want marked stamp progress own e =
       in_work = in_work b v f owner want marked stamp progress own e;
       kind = of_kind b v f owner want marked stamp progress own e;
       earlier = e.earlier;
+      aside = e.aside;
       hand = e.hand;
     }
 

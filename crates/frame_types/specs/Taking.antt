@@ -65,6 +65,7 @@ pub record IsWorking (v w : PortValue) (f owner : ℕ) (want : PageType) (own : 
   pub in_work : IsTrue (is_work (kind_fields e.word))
   pub kind : (kind_fields e.word).kind ≡ want
   pub earlier : e.since ≤ length w.holdings.steps
+  pub aside : typed_to f v.holdings.typed ≡ 0
   pub hand : FlushedHolds v w (working f owner want own e since v.holdings)
 
 -- in work, with its entries recorded up to there, and past its flush; where none is recorded, none is unsettled

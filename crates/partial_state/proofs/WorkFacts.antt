@@ -1,5 +1,5 @@
 -- Tables in work as what the vCPU holds, while entries are gone through.
-use Rattle.std.proofs.Common.{◌≡◌, ℕ, ◌+◌, ◌-◌, Bool, true, false, List, [], ◌∷◌, Option, Some, refl, arith}
+use Rattle.std.proofs.Common.{◌≡◌, ℕ, ◌+◌, ◌-◌, not, Bool, true, false, List, [], ◌∷◌, Option, Some, refl, arith}
 use Rattle.std.proofs.lemmas.Bool.Decides.{nat_tests}
 use Rattle.xp_words.specs.RefWords.{bit}
 use Rattle.xp_board.specs.declared.holdings.Unsettled.{Unsettled}
@@ -16,7 +16,7 @@ pub record HasTop (under_way : Bool) (t : TableWork) (ts : List TableWork) (work
   pub others : List Work
   pub are : works ≡ work ∷ others
   pub is : IsWorkOn under_way t work
-  pub around : AreWorks t.own ts others
+  pub around : AreWorks (not t.recorded) ts others
 
 pub works_top : (b : Bool) (t : TableWork) (ts : List TableWork) (works : List Work) → AreWorks b (t ∷ ts) works → HasTop b t ts works
 works_top b t ts [] are = absurd are

@@ -1,5 +1,5 @@
 -- The tables in work as what the vCPU holds.
-use Rattle.std.specs.Prelude.{◌≡◌, ◌+◌, Bool, false, List, [], ◌∷◌, IsTrue}
+use Rattle.std.specs.Prelude.{◌≡◌, ◌+◌, not, Bool, false, List, [], ◌∷◌, IsTrue}
 use Rattle.xp_words.specs.KindWords.{kind_fields}
 use Rattle.xp_words.specs.RefWords.{bit}
 use Rattle.xp_board.specs.declared.holdings.Work.{Work}
@@ -17,8 +17,8 @@ pub record IsWorkOn (under_way : Bool) (t : TableWork) (e : Work) : Type 0 where
   pub recorded : e.recorded + bit under_way ≡ t.done
 
 -- These are all frames in work, the newest first, and an entry of the innermost table is under way or not. Of a table around
--- another the entry that names the inner one is under way, where the inner one's type count is in hand; else it is recorded.
+-- another the entry that names the inner one is under way, unless it was recorded before.
 abbrev pub AreWorks : Bool → List TableWork → List Work → Type 0
 AreWorks under_way [] [] = Unit {0}
-AreWorks under_way (t ∷ ts) (e ∷ es) = IsWorkOn under_way t e × AreWorks t.own ts es
+AreWorks under_way (t ∷ ts) (e ∷ es) = IsWorkOn under_way t e × AreWorks (not t.recorded) ts es
 AreWorks under_way _ _ = ⊥

@@ -12,8 +12,10 @@ pub struct TableWork {
     pub level: u8,
     /// How many of its entries are done with. The last of them names the table inside this one, if there is one.
     pub done: u16,
-    /// Its type count is in hand; else another holder has that.
+    /// Its type count is in hand; else another holder has that, and an untyped reference is in hand.
     pub own: bool,
+    /// The entry that names it was recorded before, and is taken on again; else that entry is recorded when this table is live.
+    pub recorded: bool,
 }
 
 /// The tables that a vCPU has in work, at most four: each was named by an entry of the one around it, and is one

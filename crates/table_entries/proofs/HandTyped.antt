@@ -90,6 +90,8 @@ module _ (b v : PortValue) (f i : ℕ) (t : PageType) (word : ℕ) (l : SeesEntr
         recorded = recorded;
         settled = settled;
         earlier = works.earlier;
+        taken = works.taken;
+        aside = sym (ap (λ (q : PortValue). typed_to g q.holdings.typed) lent_all) ∙ works.aside;
         hand = subst (λ k. FlushedHolds b x (working g owner k own e works.since (took g owner (learned_cell f i word b.holdings)))) is
             (works_behind b u x (took g owner (learned_cell f i word b.holdings)) g owner want own e works.since lent_all works.hand);
       }

@@ -64,6 +64,8 @@ pub record Opens (v w : PortValue) (f i : ℕ) (t : PageType) (g owner progress 
   pub recorded : work.recorded ≡ progress
   pub settled : progress ≡ 0 → work.unsettled ≡ None
   pub earlier : work.since ≤ length w.holdings.steps
+  pub taken : since ≤ length w.holdings.steps
+  pub aside : typed_to g v.holdings.typed ≡ 0
   pub hand : FlushedHolds v w (working g owner (below t) own work since (took g owner (learned_cell f i word v.holdings)))
 
 -- the entry was looked at, and else the hand is that one

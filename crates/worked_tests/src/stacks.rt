@@ -16,12 +16,14 @@ fn a_stack_is_left_as_it_was_entered(rt: HostRuntime) {
         level: 2,
         done: 0,
         own: true,
+        recorded: false,
     };
     let inner = TableWork {
         frame: 9,
         level: 1,
         done: 511,
         own: false,
+        recorded: true,
     };
     let mut stack = Stack::new();
     assert!(rt; stack.is_empty());

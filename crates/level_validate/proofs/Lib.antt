@@ -1,0 +1,12 @@
+mod Entered
+mod LeavingLent
+mod LeavingOwn
+mod LeavingTables
+mod Looking
+mod Opening
+mod Pushing
+mod Sharing
+mod Standing
+mod StandsFacts
+mod Unwound
+mod Waiting

@@ -1,0 +1,110 @@
+-- A look at an entry of a frame in the own works changes nothing but what is known of that frame.
+use Rattle.std.proofs.Common.{◌≡◌, ◌≢◌, ℕ, ◌+◌, ◌<◌, if◌then◌else◌, false, List, [], ◌∷◌, Option, Some, None, IsTrue, refl, sym, ap, ◌∙◌, subst, arith}
+use Rattle.xp_words.specs.KindWords.{kind_fields}
+use Rattle.xp_words.specs.Machine.{Machine}
+use Rattle.xp_words.specs.Places.{is_place, sizes_of}
+use Rattle.xp_words.specs.declared.place.Place.{Place}
+use Rattle.xp_words.specs.declared.place.Place.TheVariants.{Refs}
+use Rattle.xp_board.specs.declared.holdings.Claimed.{Claimed}
+use Rattle.xp_board.specs.declared.holdings.Holdings.{Holdings}
+use Rattle.xp_board.specs.declared.holdings.Lock.{Lock}
+use Rattle.xp_board.specs.declared.holdings.Unsettled.{Unsettled}
+use Rattle.xp_board.specs.declared.holdings.Work.{Work}
+use Rattle.xp_board.specs.After.{learned_cell, learned_claim, learned_last, learned_lock, learned_work}
+use Rattle.xp_board.specs.Hands.{changed_claim, changed_lock, changed_work, claim_of, claims_of, endings_of, lock_on, locks_on, work_on}
+use Rattle.xp_board.specs.Lists.{changed_by, first_by}
+use Rattle.xp_board.specs.Readings.{is_locked, is_work, kind_at, ref_count, type_count}
+use Rattle.xp_board.specs.Told.{Finds, Post, PortValue}
+use Rattle.board_lemmas.proofs.Counted.{type_below}
+use Rattle.board_lemmas.proofs.KindReadings.{work_count, work_unlive}
+use Rattle.board_lemmas.proofs.ListCounts.{first_by-none}
+use Rattle.board_lemmas.proofs.Sums.{when_eq, when_ne}
+use Rattle.board_lemmas.proofs.WorkFacts.{Works, works_facts}
+use Rattle.board_lemmas.proofs.Works.{counted_alive, nobody_locks}
+use Rattle.step_maker.specs.Moves.{Came, Met, Moment, MovesBy, Ran}
+use Rattle.step_maker.proofs.Coming.{came_post}
+use Rattle.frame_words.proofs.CellSteps.{learned_apart}
+use Rattle.level_validate.specs.Tables.{IsLastWord}
+
+-- ---- what the first step shows of the hand before it
+pub record FirstFound (u : PortValue) : Type 0 where
+  pub place : Place
+  pub word : ℕ
+  pub finds : Finds u.post.machine u.post.vcpu u.holdings place word
+
+first_by_ran : (u x y : PortValue) (ms : List Moment) → Ran u ms x → (m : Moment) → MovesBy x y m → FirstFound u
+first_by_ran u x y [] ran m moves = subst (λ (q : PortValue). FirstFound q) ran (record { place = m.place; word = m.found; finds = moves.moves.finds })
+first_by_ran u x y (k ∷ ks) ran m moves = first_by_ran u ran.0 x ks ran.1 k ran.2
+
+pub met_first : (u w : PortValue) (m : Moment) → Met u w m → FirstFound u
+unfolding Came
+met_first u w m met = let b = met.before in first_by_ran u met.from met.to b.0 b.1 m met.moved
+
+-- the place of a step is one of the machine
+pub met_place : (u w : PortValue) (m : Moment) → Met u w m → IsTrue (is_place (sizes_of u.post.machine) m.place)
+met_place u w m met = subst (λ (p : Post). IsTrue (is_place (sizes_of p.machine) m.place)) (came_post u met.from met.before) met.moved.moves.may.place
+
+-- ---- neither a lock nor a claim is one of a frame in work
+no_claims : (a b : ℕ) → a + b ≡ 0 → b ≡ 0
+no_claims a b none = omega arith
+
+module _ (n : Machine) (s : ℕ) (h : Holdings) (p : Place) (w : ℕ) (finds : Finds n s h p w) (f : ℕ) (e : Work) (here : work_on f h.works ≡ Some e) (work : IsTrue (is_work (kind_fields e.word))) where
+  facts : Works n finds.words finds.hands s f e
+  facts = works_facts n finds.words finds.hands s f e finds.sound finds.real (subst (λ (u : Holdings). work_on f u.works ≡ Some e) (sym finds.mine) here)
+
+  kind_there : kind_at finds.words f ≡ kind_fields e.word
+  kind_there = ap kind_fields facts.word
+
+  not_locked : is_locked (kind_at finds.words f) ≡ false
+  not_locked = ap is_locked kind_there ∙ rw (work_unlive (kind_fields e.word) work) refl
+
+  no_lock : lock_on f h.locks ≡ None
+  no_lock =
+      first_by-none (λ (y : Lock). y.frame) f h.locks
+      (subst (λ (u : Holdings). locks_on f u.locks ≡ 0) finds.mine (nobody_locks n finds.words finds.hands finds.sound.alone f not_locked s finds.real))
+
+  counted : 0 < ref_count (finds.words (Refs f))
+  counted =
+      let one : type_count (kind_at finds.words f) ≡ 1 = ap type_count kind_there ∙ work_count (kind_fields e.word) work in
+      let low = type_below (sizes_of n) finds.words finds.hands f finds.sound.counts in
+      omega (arith, one, low)
+
+  no_claim : claim_of f h.claimed ≡ None
+  no_claim =
+      first_by-none (λ (y : Claimed). y.frame) f h.claimed
+      (subst (λ (u : Holdings). claims_of f u.claimed ≡ 0) finds.mine (no_claims (endings_of f (finds.hands s).ending) (claims_of f (finds.hands s).claimed)
+      (counted_alive n finds.words finds.hands finds.sound.alone f s finds.real counted)))
+
+  bare : Holdings
+  bare = record h { works = [] }
+
+  nothing_learned : (i word : ℕ) → learned_cell f i word bare ≡ bare
+  unfolding bare first_by
+  nothing_learned i word = learned_apart f i word bare (record { works = refl; locks = no_lock; claimed = no_claim })
+
+  locks_are : (i word : ℕ) → changed_lock f (learned_lock i word) h.locks ≡ h.locks
+  unfolding bare
+  locks_are i word = ap (λ (k : Holdings). k.locks) (nothing_learned i word)
+
+  claims_are : (i word : ℕ) → changed_claim f (learned_claim i word) h.claimed ≡ h.claimed
+  unfolding bare
+  claims_are i word = ap (λ (k : Holdings). k.claimed) (nothing_learned i word)
+
+  pub looked_apart : (i word : ℕ) → learned_cell f i word h ≡ record h { works = changed_work f (learned_work i word) h.works }
+  looked_apart i word =
+      ap (λ ls. record h { works = changed_work f (learned_work i word) h.works; locks = ls; claimed = changed_claim f (learned_claim i word) h.claimed }) (locks_are i word)
+      ∙ ap (λ cs. record h { works = changed_work f (learned_work i word) h.works; claimed = cs }) (claims_are i word)
+
+-- ---- the newest work is changed
+pub changed_first : (f : ℕ) (c : Work → Work) (e : Work) (es ws : List Work) → ws ≡ e ∷ es → e.frame ≡ f → changed_work f c ws ≡ c e ∷ es
+unfolding changed_by
+changed_first f c e es ws are is = ap (λ zs. changed_work f c zs) are ∙ ap (λ b. if b then (c e ∷ es) else (e ∷ changed_work f c es)) (when_eq e.frame f is)
+
+-- ---- the last recorded entry, where that one was looked at or another one
+pub last_other : (i n w : ℕ) (u : Option Unsettled) → i + 1 ≢ n → learned_last i n w u ≡ u
+last_other i n w None off = refl
+last_other i n w (Some u) off = rw (when_ne (i + 1) n off) refl
+
+pub last_looked : (i n w : ℕ) (u : Option Unsettled) → i + 1 ≡ n → IsLastWord w (learned_last i n w u)
+last_looked i n w None is = tt
+last_looked i n w (Some u) is = rw (when_eq (i + 1) n is) refl

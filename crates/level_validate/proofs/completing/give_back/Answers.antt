@@ -1,0 +1,23 @@
+use Rattle.std.proofs.Common.{[]}
+use Rattle.answer_fits.specs.Asked.{of_back}
+use Rattle.answer_fits.proofs.Piecing.{serves_came}
+use Rattle.step_maker.proofs.Coming.{came_trans}
+use Rattle.level_validate.proofs.Sharing.{back_given, back_puts, never_last}
+use Rattle.level_validate.proofs.completing.give_back.Goals as goal
+
+pub unreachable-requires : goal.unreachable-requires
+unreachable-requires g c = never_last (g.P.Port.value c.args.port.now) (g.P.Port.value c.drop_type.new.port) c.args.frame c.drop_type.result c.drop_type.ensures.drops c.requires.gives c.if-drop_type.true
+
+pub put_ref-requires-clause-gives : goal.put_ref-requires-clause-gives
+put_ref-requires-clause-gives g c = back_puts (g.P.Port.value c.args.port.now) (g.P.Port.value c.drop_type.new.port) c.args.frame c.drop_type.result c.drop_type.ensures.drops c.if-drop_type.false
+
+pub returns-clause-came : goal.returns-clause-came
+returns-clause-came g c =
+    let v = g.P.Port.value c.args.port.now in
+    let a = g.P.Port.value c.drop_type.new.port in
+    let w = g.P.Port.value c.put_ref.new.port in
+    came_trans v a w (serves_came v a (of_back c.args.frame) [] c.drop_type.ensures.serves) (serves_came a w (of_back c.args.frame) [] c.put_ref.ensures.serves)
+
+pub returns-clause-hand : goal.returns-clause-hand
+returns-clause-hand g c =
+    back_given (g.P.Port.value c.args.port.now) (g.P.Port.value c.drop_type.new.port) c.args.frame c.drop_type.result c.drop_type.ensures.drops c.if-drop_type.false (g.P.Port.value c.put_ref.new.port) c.put_ref.ensures.hand

@@ -1,0 +1,440 @@
+use Rattle.std.proofs.Common.{◌≡◌, ◌<◌, ◌+◌, ◌-◌, ◌∷◌, [], drop, true, false, Ok, sym, ap, ◌∙◌, subst, arith}
+use Rattle.xp_words.specs.Entries.{below}
+use Rattle.xp_words.specs.declared.kind.PageType.{PageType}
+use Rattle.xp_board.specs.Told.{Post}
+use Rattle.step_maker.proofs.Coming.{came_post, came_self, came_trans}
+use Rattle.answer_fits.proofs.Piecing.{serves_came}
+use Rattle.frame_types.specs.Taking.{IsOfOther}
+use Rattle.table_entries.specs.Asking.{ShowsResumed, of_entries}
+use Rattle.table_entries.specs.Found.{ResumesFound}
+use Rattle.table_entries.specs.Tops.{LeavesResumed, Opens, WorksAtTop}
+use Rattle.partial_state.specs.Levels.{level_type}
+use Rattle.level_validate.specs.Tables.{Stands}
+use Rattle.level_validate.proofs.Entered.{after_again, after_look, after_settled, back_one, fresh_ready, taken_gives, taken_ready, taken_stands}
+use Rattle.level_validate.proofs.LeavingTables.{top_inside}
+use Rattle.level_validate.proofs.Looking.{met_first}
+use Rattle.xp_words.specs.KindWords.{kind_fields}
+use Rattle.table_entries.specs.declared.resuming.Resumed.TheVariants as again
+use Rattle.level_validate.proofs.Pushing.{pushed}
+use Rattle.level_validate.proofs.Opening.{again_found, level_below}
+use Rattle.level_validate.proofs.Standing.{standing_above, standing_held, standing_looked, standing_top}
+use Rattle.level_validate.proofs.StandsFacts.{may_back, may_stands}
+use Rattle.level_validate.proofs.Waiting.{left_waiting, taken_found, wait_stops, waited_found, waits_there}
+use Rattle.level_validate.proofs.entering.+take_on.Goals as goal
+
+pub returns-then-top-eq0-clause-came : goal.returns-then-top-eq0-clause-came
+returns-then-top-eq0-clause-came g n c = came_self (g.P.Port.value c.args.port.now)
+
+pub returns-then-top-eq0-clause-ready : goal.returns-then-top-eq0-clause-ready
+returns-then-top-eq0-clause-ready g n c = c.requires.fresh c.if-top-eq0.true
+
+pub resume_entry-requires-clause-frame : goal.resume_entry-requires-clause-frame
+resume_entry-requires-clause-frame g n c =
+    let a = c.requires.stands in
+    top_inside a.0 (g.P.Port.value c.args.port.now) c.args.owner c.args.top (drop 1 c.args.stack.now) (subst (λ xs. Stands a.0 (g.P.Port.value c.args.port.now) c.args.owner xs) c.requires.top a.1)
+
+pub resume_entry-requires-clause-works : goal.resume_entry-requires-clause-works
+resume_entry-requires-clause-works g n c =
+    let a = c.requires.stands in
+    let u = g.P.Port.value c.args.port.now in
+    let t = c.args.top in
+    let one = sym (back_one t.done c.if-top-eq0.false) in
+    subst (λ (k : PageType). WorksAtTop t.frame k (t.done - 1 + 1) u.holdings) (sym c.level_type.ensures)
+    (subst (λ n. WorksAtTop t.frame (level_type t.level) n u.holdings) one (standing_top a.0 u c.args.owner t (drop 1 c.args.stack.now) (subst (λ xs. Stands a.0 u c.args.owner xs) c.requires.top a.1)))
+
+pub resume_entry-requires-clause-held : goal.resume_entry-requires-clause-held
+resume_entry-requires-clause-held g n c =
+    let a = c.requires.stands in
+    standing_held a.0 (g.P.Port.value c.args.port.now) c.args.owner c.args.top (drop 1 c.args.stack.now) (subst (λ xs. Stands a.0 (g.P.Port.value c.args.port.now) c.args.owner xs) c.requires.top a.1)
+
+pub resume_entry-requires-clause-above : goal.resume_entry-requires-clause-above
+resume_entry-requires-clause-above g n c f =
+    let a = c.requires.stands in
+    let u = g.P.Port.value c.args.port.now in
+    subst (λ (k : PageType). IsOfOther f (below k) u.holdings) (sym c.level_type.ensures)
+    (standing_above a.0 u c.args.owner c.args.top (drop 1 c.args.stack.now) (subst (λ xs. Stands a.0 u c.args.owner xs) c.requires.top a.1) f)
+
+pub resume_entry-requires-clause-looked : goal.resume_entry-requires-clause-looked
+resume_entry-requires-clause-looked g n c =
+    let a = c.requires.stands in
+    standing_looked a.0 (g.P.Port.value c.args.port.now) c.args.owner c.args.top (drop 1 c.args.stack.now) (subst (λ xs. Stands a.0 (g.P.Port.value c.args.port.now) c.args.owner xs) c.requires.top a.1)
+
+pub returns-in_err-resume_entry-clause-came : goal.returns-in_err-resume_entry-clause-came
+returns-in_err-resume_entry-clause-came g n c = serves_came (g.P.Port.value c.args.port.now) (g.P.Port.value c.resume_entry.new.port) (of_entries c.args.owner 0) _ (c.in_err-resume_entry.ensures.serves 0)
+
+pub returns-in_err-resume_entry-clause-stands : goal.returns-in_err-resume_entry-clause-stands
+returns-in_err-resume_entry-clause-stands g n c v s =
+    let u = g.P.Port.value c.args.port.now in
+    let w = g.P.Port.value c.resume_entry.new.port in
+    let found = c.in_err-resume_entry.ensures.found.found in
+    subst (λ xs. Stands v w c.args.owner xs) (sym c.requires.top)
+    (after_look v u w c.args.owner c.args.top (drop 1 c.args.stack.now) (subst (λ xs. Stands v u c.args.owner xs) c.requires.top s) (serves_came u w (of_entries c.args.owner 0) _ (c.in_err-resume_entry.ensures.serves 0))
+    (met_first u w found.moment found.was) (c.args.top.done - 1) c.in_err-resume_entry.ensures.hand)
+
+pub returns-in-Settled-clause-came : goal.returns-in-Settled-clause-came
+returns-in-Settled-clause-came g n c = serves_came (g.P.Port.value c.args.port.now) (g.P.Port.value c.resume_entry.new.port) (of_entries c.args.owner 0) [] (c.in_ok-resume_entry.ensures.serves 0)
+
+pub returns-in-Settled-clause-stands : goal.returns-in-Settled-clause-stands
+returns-in-Settled-clause-stands g n c v s =
+    let u = g.P.Port.value c.args.port.now in
+    let w = g.P.Port.value c.resume_entry.new.port in
+    let found = c.in_ok-resume_entry.ensures.found.found in
+    let left = subst (λ r. LeavesResumed u w c.args.top.frame c.level_type.result (c.args.top.done - 1) c.args.owner r) c.in-Settled.is c.in_ok-resume_entry.ensures.hand in
+    subst (λ xs. Stands v w c.args.owner xs) (sym c.requires.top)
+    (after_look v u w c.args.owner c.args.top (drop 1 c.args.stack.now) (subst (λ xs. Stands v u c.args.owner xs) c.requires.top s) (serves_came u w (of_entries c.args.owner 0) [] (c.in_ok-resume_entry.ensures.serves 0))
+    (met_first u w found.moment found.was) (c.args.top.done - 1) left.0)
+
+pub returns-in-Settled-clause-ready : goal.returns-in-Settled-clause-ready
+returns-in-Settled-clause-ready g n c =
+    let a = c.requires.stands in
+    let u = g.P.Port.value c.args.port.now in
+    let w = g.P.Port.value c.resume_entry.new.port in
+    let found = c.in_ok-resume_entry.ensures.found.found in
+    let left = subst (λ r. LeavesResumed u w c.args.top.frame c.level_type.result (c.args.top.done - 1) c.args.owner r) c.in-Settled.is c.in_ok-resume_entry.ensures.hand in
+    after_settled a.0 u w c.args.owner c.args.top (drop 1 c.args.stack.now) (subst (λ xs. Stands a.0 u c.args.owner xs) c.requires.top a.1) (serves_came u w (of_entries c.args.owner 0) [] (c.in_ok-resume_entry.ensures.serves 0))
+    (met_first u w found.moment found.was) (c.args.top.done - 1) left.0 left.1
+
+pub take_on-requires : goal.take_on-requires
+take_on-requires g n c κs low =
+    let u = g.P.Port.value c.args.port.now in
+    let x = g.P.Port.value c.resume_entry.new.port in
+    let t = c.args.top in
+    let ts = drop 1 c.args.stack.now in
+    let owner = c.args.owner in
+    let i = t.done - 1 in
+    let at = back_one t.done c.if-top-eq0.false in
+    let found = c.in_ok-resume_entry.ensures.found in
+    let came = serves_came u x (of_entries owner 0) [] (c.in_ok-resume_entry.ensures.serves 0) in
+    let first = met_first u x found.found.moment found.found.was in
+    let a = c.requires.stands in
+    let s0 = subst (λ xs. Stands a.0 u owner xs) c.requires.top a.1 in
+    let left = subst (λ k. LeavesResumed u x t.frame k i owner (again.Opened c.in-Opened.frame c.in-Opened.progress c.in-Opened.own)) c.level_type.ensures (subst (λ r. LeavesResumed u x t.frame c.level_type.result i owner r) c.in-Opened.is c.in_ok-resume_entry.ensures.hand) in
+    let way = subst (λ k. ResumesFound u x t.frame i k owner (Ok (again.Opened c.in-Opened.frame c.in-Opened.progress c.in-Opened.own))) c.level_type.ensures (subst (λ r. ResumesFound u x t.frame i c.level_type.result owner (Ok r)) c.in-Opened.is found) in
+    let open_ = again_found u x t.frame i (level_type t.level) owner c.in-Opened.frame c.in-Opened.progress c.in-Opened.own way in
+    let inner = pushed t c.in-Opened.frame c.in-Opened.progress c.in-Opened.own true in
+    let st = after_again a.0 u x owner t ts s0 came first i c.in-Opened.frame c.in-Opened.progress c.in-Opened.own at open_ left in (
+      let d = c.decreases in let least = s0.stack.0.low in omega (arith, d, least),
+      (
+        low,
+        (
+          may_stands a.0 x owner (inner ∷ t ∷ ts) st (may_back a.0 u owner c.args.stack.now a.1 c.requires.may),
+          (
+            c.push.ensures.pushed ∙ ap (λ ys. inner ∷ ys) (sym (ap (λ ys. drop 1 ys) c.push.ensures.pushed)),
+            (
+              (a.0, subst (λ xs. Stands a.0 x owner xs) (sym (c.push.ensures.pushed ∙ ap (λ ys. inner ∷ ys) c.requires.top)) st),
+              λ zero. fresh_ready u x t.frame i (level_type t.level) c.in-Opened.frame owner c.in-Opened.progress c.in-Opened.own left zero,
+            ),
+          ),
+        ),
+      ),
+    )
+
+pub push-requires-clause-table : goal.push-requires-clause-table
+push-requires-clause-table g n c =
+    let u = g.P.Port.value c.args.port.now in
+    let x = g.P.Port.value c.resume_entry.new.port in
+    let t = c.args.top in
+    let ts = drop 1 c.args.stack.now in
+    let owner = c.args.owner in
+    let i = t.done - 1 in
+    let at = back_one t.done c.if-top-eq0.false in
+    let found = c.in_ok-resume_entry.ensures.found in
+    let came = serves_came u x (of_entries owner 0) [] (c.in_ok-resume_entry.ensures.serves 0) in
+    let first = met_first u x found.found.moment found.found.was in
+    let a = c.requires.stands in
+    let s0 = subst (λ xs. Stands a.0 u owner xs) c.requires.top a.1 in
+    let left = subst (λ k. LeavesResumed u x t.frame k i owner (again.Opened c.in-Opened.frame c.in-Opened.progress c.in-Opened.own)) c.level_type.ensures (subst (λ r. LeavesResumed u x t.frame c.level_type.result i owner r) c.in-Opened.is c.in_ok-resume_entry.ensures.hand) in
+    let way = subst (λ k. ResumesFound u x t.frame i k owner (Ok (again.Opened c.in-Opened.frame c.in-Opened.progress c.in-Opened.own))) c.level_type.ensures (subst (λ r. ResumesFound u x t.frame i c.level_type.result owner (Ok r)) c.in-Opened.is found) in
+    let open_ = again_found u x t.frame i (level_type t.level) owner c.in-Opened.frame c.in-Opened.progress c.in-Opened.own way in
+    let inner = pushed t c.in-Opened.frame c.in-Opened.progress c.in-Opened.own true in
+    (after_again a.0 u x owner t ts s0 came first i c.in-Opened.frame c.in-Opened.progress c.in-Opened.own at open_ left).stack.0
+
+pub returns-in-Opened-clause-came : goal.returns-in-Opened-clause-came
+returns-in-Opened-clause-came g n c =
+    let u = g.P.Port.value c.args.port.now in
+    let x = g.P.Port.value c.resume_entry.new.port in
+    let t = c.args.top in
+    let ts = drop 1 c.args.stack.now in
+    let owner = c.args.owner in
+    let i = t.done - 1 in
+    let at = back_one t.done c.if-top-eq0.false in
+    let found = c.in_ok-resume_entry.ensures.found in
+    let came = serves_came u x (of_entries owner 0) [] (c.in_ok-resume_entry.ensures.serves 0) in
+    let first = met_first u x found.found.moment found.found.was in
+    came_trans u x (g.P.Port.value c.take_on.new.port) came c.take_on.ensures.came
+
+pub returns-in-Opened-clause-stands : goal.returns-in-Opened-clause-stands
+returns-in-Opened-clause-stands g n c v s =
+    let u = g.P.Port.value c.args.port.now in
+    let x = g.P.Port.value c.resume_entry.new.port in
+    let t = c.args.top in
+    let ts = drop 1 c.args.stack.now in
+    let owner = c.args.owner in
+    let i = t.done - 1 in
+    let at = back_one t.done c.if-top-eq0.false in
+    let found = c.in_ok-resume_entry.ensures.found in
+    let came = serves_came u x (of_entries owner 0) [] (c.in_ok-resume_entry.ensures.serves 0) in
+    let first = met_first u x found.found.moment found.found.was in
+    let s0 = subst (λ xs. Stands v u owner xs) c.requires.top s in
+    let left = subst (λ k. LeavesResumed u x t.frame k i owner (again.Opened c.in-Opened.frame c.in-Opened.progress c.in-Opened.own)) c.level_type.ensures (subst (λ r. LeavesResumed u x t.frame c.level_type.result i owner r) c.in-Opened.is c.in_ok-resume_entry.ensures.hand) in
+    let way = subst (λ k. ResumesFound u x t.frame i k owner (Ok (again.Opened c.in-Opened.frame c.in-Opened.progress c.in-Opened.own))) c.level_type.ensures (subst (λ r. ResumesFound u x t.frame i c.level_type.result owner (Ok r)) c.in-Opened.is found) in
+    let open_ = again_found u x t.frame i (level_type t.level) owner c.in-Opened.frame c.in-Opened.progress c.in-Opened.own way in
+    let inner = pushed t c.in-Opened.frame c.in-Opened.progress c.in-Opened.own true in
+    c.take_on.ensures.stands v (subst (λ xs. Stands v x owner xs) (sym (c.push.ensures.pushed ∙ ap (λ ys. inner ∷ ys) c.requires.top))
+    (after_again v u x owner t ts s0 came first i c.in-Opened.frame c.in-Opened.progress c.in-Opened.own at open_ left))
+
+pub give_back-requires-clause-frame : goal.give_back-requires-clause-frame
+give_back-requires-clause-frame g n c =
+    let u = g.P.Port.value c.args.port.now in
+    let x = g.P.Port.value c.resume_entry.new.port in
+    let t = c.args.top in
+    let ts = drop 1 c.args.stack.now in
+    let owner = c.args.owner in
+    let i = t.done - 1 in
+    let at = back_one t.done c.if-top-eq0.false in
+    let found = c.in_ok-resume_entry.ensures.found in
+    let came = serves_came u x (of_entries owner 0) [] (c.in_ok-resume_entry.ensures.serves 0) in
+    let first = met_first u x found.found.moment found.found.was in
+    let left = subst (λ k. LeavesResumed u x t.frame k i owner (again.Taken c.in-Taken.frame)) c.level_type.ensures (subst (λ r. LeavesResumed u x t.frame c.level_type.result i owner r) c.in-Taken.is c.in_ok-resume_entry.ensures.hand) in
+    let way = subst (λ k. ResumesFound u x t.frame i k owner (Ok (again.Taken c.in-Taken.frame))) c.level_type.ensures (subst (λ r. ResumesFound u x t.frame i c.level_type.result owner (Ok r)) c.in-Taken.is found) in
+    subst (λ (p : Post). c.in-Taken.frame < p.machine.frames) (sym (came_post u x came)) (taken_found u x t.frame i (level_type t.level) owner c.in-Taken.frame way)
+
+pub give_back-requires-clause-gives : goal.give_back-requires-clause-gives
+give_back-requires-clause-gives g n c =
+    let u = g.P.Port.value c.args.port.now in
+    let x = g.P.Port.value c.resume_entry.new.port in
+    let t = c.args.top in
+    let ts = drop 1 c.args.stack.now in
+    let owner = c.args.owner in
+    let i = t.done - 1 in
+    let at = back_one t.done c.if-top-eq0.false in
+    let found = c.in_ok-resume_entry.ensures.found in
+    let came = serves_came u x (of_entries owner 0) [] (c.in_ok-resume_entry.ensures.serves 0) in
+    let first = met_first u x found.found.moment found.found.was in
+    let a = c.requires.stands in
+    let s0 = subst (λ xs. Stands a.0 u owner xs) c.requires.top a.1 in
+    let left = subst (λ k. LeavesResumed u x t.frame k i owner (again.Taken c.in-Taken.frame)) c.level_type.ensures (subst (λ r. LeavesResumed u x t.frame c.level_type.result i owner r) c.in-Taken.is c.in_ok-resume_entry.ensures.hand) in
+    let way = subst (λ k. ResumesFound u x t.frame i k owner (Ok (again.Taken c.in-Taken.frame))) c.level_type.ensures (subst (λ r. ResumesFound u x t.frame i c.level_type.result owner (Ok r)) c.in-Taken.is found) in
+    taken_gives a.0 u x owner t ts s0 came first i c.in-Taken.frame at left.0
+
+pub returns-in-Taken-clause-came : goal.returns-in-Taken-clause-came
+returns-in-Taken-clause-came g n c =
+    let u = g.P.Port.value c.args.port.now in
+    let x = g.P.Port.value c.resume_entry.new.port in
+    let t = c.args.top in
+    let ts = drop 1 c.args.stack.now in
+    let owner = c.args.owner in
+    let i = t.done - 1 in
+    let at = back_one t.done c.if-top-eq0.false in
+    let found = c.in_ok-resume_entry.ensures.found in
+    let came = serves_came u x (of_entries owner 0) [] (c.in_ok-resume_entry.ensures.serves 0) in
+    let first = met_first u x found.found.moment found.found.was in
+    came_trans u x (g.P.Port.value c.give_back.new.port) came c.give_back.ensures.came
+
+pub returns-in-Taken-clause-stands : goal.returns-in-Taken-clause-stands
+returns-in-Taken-clause-stands g n c v s =
+    let u = g.P.Port.value c.args.port.now in
+    let x = g.P.Port.value c.resume_entry.new.port in
+    let t = c.args.top in
+    let ts = drop 1 c.args.stack.now in
+    let owner = c.args.owner in
+    let i = t.done - 1 in
+    let at = back_one t.done c.if-top-eq0.false in
+    let found = c.in_ok-resume_entry.ensures.found in
+    let came = serves_came u x (of_entries owner 0) [] (c.in_ok-resume_entry.ensures.serves 0) in
+    let first = met_first u x found.found.moment found.found.was in
+    let s0 = subst (λ xs. Stands v u owner xs) c.requires.top s in
+    let left = subst (λ k. LeavesResumed u x t.frame k i owner (again.Taken c.in-Taken.frame)) c.level_type.ensures (subst (λ r. LeavesResumed u x t.frame c.level_type.result i owner r) c.in-Taken.is c.in_ok-resume_entry.ensures.hand) in
+    let way = subst (λ k. ResumesFound u x t.frame i k owner (Ok (again.Taken c.in-Taken.frame))) c.level_type.ensures (subst (λ r. ResumesFound u x t.frame i c.level_type.result owner (Ok r)) c.in-Taken.is found) in
+    subst (λ xs. Stands v (g.P.Port.value c.give_back.new.port) owner xs) (sym c.requires.top)
+    (taken_stands v u x owner t ts s0 came first i c.in-Taken.frame at left.0 (g.P.Port.value c.give_back.new.port) c.give_back.ensures.hand c.give_back.ensures.came)
+
+pub returns-in-Taken-clause-ready : goal.returns-in-Taken-clause-ready
+returns-in-Taken-clause-ready g n c =
+    let u = g.P.Port.value c.args.port.now in
+    let x = g.P.Port.value c.resume_entry.new.port in
+    let t = c.args.top in
+    let ts = drop 1 c.args.stack.now in
+    let owner = c.args.owner in
+    let i = t.done - 1 in
+    let at = back_one t.done c.if-top-eq0.false in
+    let found = c.in_ok-resume_entry.ensures.found in
+    let came = serves_came u x (of_entries owner 0) [] (c.in_ok-resume_entry.ensures.serves 0) in
+    let first = met_first u x found.found.moment found.found.was in
+    let a = c.requires.stands in
+    let s0 = subst (λ xs. Stands a.0 u owner xs) c.requires.top a.1 in
+    let left = subst (λ k. LeavesResumed u x t.frame k i owner (again.Taken c.in-Taken.frame)) c.level_type.ensures (subst (λ r. LeavesResumed u x t.frame c.level_type.result i owner r) c.in-Taken.is c.in_ok-resume_entry.ensures.hand) in
+    let way = subst (λ k. ResumesFound u x t.frame i k owner (Ok (again.Taken c.in-Taken.frame))) c.level_type.ensures (subst (λ r. ResumesFound u x t.frame i c.level_type.result owner (Ok r)) c.in-Taken.is found) in
+    taken_ready a.0 u x owner t ts s0 came first i c.in-Taken.frame at left.0 (g.P.Port.value c.give_back.new.port) c.give_back.ensures.hand c.give_back.ensures.came left.1
+
+pub leave_dead-requires-clause-frame : goal.leave_dead-requires-clause-frame
+leave_dead-requires-clause-frame g n c =
+    let u = g.P.Port.value c.args.port.now in
+    let x = g.P.Port.value c.resume_entry.new.port in
+    let t = c.args.top in
+    let ts = drop 1 c.args.stack.now in
+    let owner = c.args.owner in
+    let i = t.done - 1 in
+    let at = back_one t.done c.if-top-eq0.false in
+    let found = c.in_ok-resume_entry.ensures.found in
+    let came = serves_came u x (of_entries owner 0) [] (c.in_ok-resume_entry.ensures.serves 0) in
+    let first = met_first u x found.found.moment found.found.was in
+    let left = subst (λ k. LeavesResumed u x t.frame k i owner (again.Waiting c.in-Waiting.frame c.in-Waiting.own c.in-Waiting.stamp c.in-Waiting.stop)) c.level_type.ensures (subst (λ r. LeavesResumed u x t.frame c.level_type.result i owner r) c.in-Waiting.is c.in_ok-resume_entry.ensures.hand) in
+    let way = subst (λ k. ResumesFound u x t.frame i k owner (Ok (again.Waiting c.in-Waiting.frame c.in-Waiting.own c.in-Waiting.stamp c.in-Waiting.stop))) c.level_type.ensures (subst (λ r. ResumesFound u x t.frame i c.level_type.result owner (Ok r)) c.in-Waiting.is found) in
+    subst (λ (p : Post). c.in-Waiting.frame < p.machine.frames) (sym (came_post u x came)) (waited_found u x t.frame i (level_type t.level) owner c.in-Waiting.frame c.in-Waiting.own c.in-Waiting.stamp c.in-Waiting.stop way)
+
+pub leave_dead-requires-clause-waits : goal.leave_dead-requires-clause-waits
+leave_dead-requires-clause-waits g n c =
+    let u = g.P.Port.value c.args.port.now in
+    let x = g.P.Port.value c.resume_entry.new.port in
+    let t = c.args.top in
+    let ts = drop 1 c.args.stack.now in
+    let owner = c.args.owner in
+    let i = t.done - 1 in
+    let at = back_one t.done c.if-top-eq0.false in
+    let found = c.in_ok-resume_entry.ensures.found in
+    let came = serves_came u x (of_entries owner 0) [] (c.in_ok-resume_entry.ensures.serves 0) in
+    let first = met_first u x found.found.moment found.found.was in
+    let a = c.requires.stands in
+    let s0 = subst (λ xs. Stands a.0 u owner xs) c.requires.top a.1 in
+    let left = subst (λ k. LeavesResumed u x t.frame k i owner (again.Waiting c.in-Waiting.frame c.in-Waiting.own c.in-Waiting.stamp c.in-Waiting.stop)) c.level_type.ensures (subst (λ r. LeavesResumed u x t.frame c.level_type.result i owner r) c.in-Waiting.is c.in_ok-resume_entry.ensures.hand) in
+    let way = subst (λ k. ResumesFound u x t.frame i k owner (Ok (again.Waiting c.in-Waiting.frame c.in-Waiting.own c.in-Waiting.stamp c.in-Waiting.stop))) c.level_type.ensures (subst (λ r. ResumesFound u x t.frame i c.level_type.result owner (Ok r)) c.in-Waiting.is found) in
+    let mine = subst (λ b. (o : Opens u x t.frame i (level_type t.level) c.in-Waiting.frame owner 0 b true) × ((kind_fields o.work.word).number ≡ c.in-Waiting.stamp)) c.if-own.true left in
+    let is = level_below t.level s0.stack.0.low s0.stack.0.high in
+    (c.in-Waiting.stamp, waits_there u x t.frame i (level_type t.level) (t.level - 1) c.in-Waiting.frame owner true is mine.0 c.level_type-kind.result c.in-Waiting.stamp c.level_type-kind.ensures mine.1)
+
+pub returns-then-own-clause-came : goal.returns-then-own-clause-came
+returns-then-own-clause-came g n c =
+    let u = g.P.Port.value c.args.port.now in
+    let x = g.P.Port.value c.resume_entry.new.port in
+    let t = c.args.top in
+    let ts = drop 1 c.args.stack.now in
+    let owner = c.args.owner in
+    let i = t.done - 1 in
+    let at = back_one t.done c.if-top-eq0.false in
+    let found = c.in_ok-resume_entry.ensures.found in
+    let came = serves_came u x (of_entries owner 0) [] (c.in_ok-resume_entry.ensures.serves 0) in
+    let first = met_first u x found.found.moment found.found.was in
+    came_trans u x (g.P.Port.value c.leave_dead.new.port) came c.leave_dead.ensures.came
+
+pub returns-then-own-clause-stands : goal.returns-then-own-clause-stands
+returns-then-own-clause-stands g n c v s =
+    let u = g.P.Port.value c.args.port.now in
+    let x = g.P.Port.value c.resume_entry.new.port in
+    let t = c.args.top in
+    let ts = drop 1 c.args.stack.now in
+    let owner = c.args.owner in
+    let i = t.done - 1 in
+    let at = back_one t.done c.if-top-eq0.false in
+    let found = c.in_ok-resume_entry.ensures.found in
+    let came = serves_came u x (of_entries owner 0) [] (c.in_ok-resume_entry.ensures.serves 0) in
+    let first = met_first u x found.found.moment found.found.was in
+    let s0 = subst (λ xs. Stands v u owner xs) c.requires.top s in
+    let left = subst (λ k. LeavesResumed u x t.frame k i owner (again.Waiting c.in-Waiting.frame c.in-Waiting.own c.in-Waiting.stamp c.in-Waiting.stop)) c.level_type.ensures (subst (λ r. LeavesResumed u x t.frame c.level_type.result i owner r) c.in-Waiting.is c.in_ok-resume_entry.ensures.hand) in
+    let way = subst (λ k. ResumesFound u x t.frame i k owner (Ok (again.Waiting c.in-Waiting.frame c.in-Waiting.own c.in-Waiting.stamp c.in-Waiting.stop))) c.level_type.ensures (subst (λ r. ResumesFound u x t.frame i c.level_type.result owner (Ok r)) c.in-Waiting.is found) in
+    let mine = subst (λ b. (o : Opens u x t.frame i (level_type t.level) c.in-Waiting.frame owner 0 b true) × ((kind_fields o.work.word).number ≡ c.in-Waiting.stamp)) c.if-own.true left in
+    let is = level_below t.level s0.stack.0.low s0.stack.0.high in
+    let y = g.P.Port.value c.leave_dead.new.port in
+    subst (λ xs. Stands v y owner xs) (sym c.requires.top)
+    (after_look v u y owner t ts s0 (came_trans u x y came c.leave_dead.ensures.came) (met_first u x found.found.moment found.found.was) i
+    (left_waiting u x t.frame i (level_type t.level) (t.level - 1) c.in-Waiting.frame owner true is mine.0 y c.level_type-kind.result c.level_type-kind.ensures c.leave_dead.ensures.hand))
+
+pub returns-then-own-clause-kinds : goal.returns-then-own-clause-kinds
+returns-then-own-clause-kinds g n c =
+    let u = g.P.Port.value c.args.port.now in
+    let x = g.P.Port.value c.resume_entry.new.port in
+    let t = c.args.top in
+    let ts = drop 1 c.args.stack.now in
+    let owner = c.args.owner in
+    let i = t.done - 1 in
+    let at = back_one t.done c.if-top-eq0.false in
+    let found = c.in_ok-resume_entry.ensures.found in
+    let came = serves_came u x (of_entries owner 0) [] (c.in_ok-resume_entry.ensures.serves 0) in
+    let first = met_first u x found.found.moment found.found.was in
+    wait_stops c.in-Waiting.stop (subst (λ r. ShowsResumed u x owner 0 r) c.in-Waiting.is (c.in_ok-resume_entry.ensures.shows 0)).0
+
+pub leave_shared-requires-clause-frame : goal.leave_shared-requires-clause-frame
+leave_shared-requires-clause-frame g n c =
+    let u = g.P.Port.value c.args.port.now in
+    let x = g.P.Port.value c.resume_entry.new.port in
+    let t = c.args.top in
+    let ts = drop 1 c.args.stack.now in
+    let owner = c.args.owner in
+    let i = t.done - 1 in
+    let at = back_one t.done c.if-top-eq0.false in
+    let found = c.in_ok-resume_entry.ensures.found in
+    let came = serves_came u x (of_entries owner 0) [] (c.in_ok-resume_entry.ensures.serves 0) in
+    let first = met_first u x found.found.moment found.found.was in
+    let left = subst (λ k. LeavesResumed u x t.frame k i owner (again.Waiting c.in-Waiting.frame c.in-Waiting.own c.in-Waiting.stamp c.in-Waiting.stop)) c.level_type.ensures (subst (λ r. LeavesResumed u x t.frame c.level_type.result i owner r) c.in-Waiting.is c.in_ok-resume_entry.ensures.hand) in
+    let way = subst (λ k. ResumesFound u x t.frame i k owner (Ok (again.Waiting c.in-Waiting.frame c.in-Waiting.own c.in-Waiting.stamp c.in-Waiting.stop))) c.level_type.ensures (subst (λ r. ResumesFound u x t.frame i c.level_type.result owner (Ok r)) c.in-Waiting.is found) in
+    subst (λ (p : Post). c.in-Waiting.frame < p.machine.frames) (sym (came_post u x came)) (waited_found u x t.frame i (level_type t.level) owner c.in-Waiting.frame c.in-Waiting.own c.in-Waiting.stamp c.in-Waiting.stop way)
+
+pub leave_shared-requires-clause-waits : goal.leave_shared-requires-clause-waits
+leave_shared-requires-clause-waits g n c =
+    let u = g.P.Port.value c.args.port.now in
+    let x = g.P.Port.value c.resume_entry.new.port in
+    let t = c.args.top in
+    let ts = drop 1 c.args.stack.now in
+    let owner = c.args.owner in
+    let i = t.done - 1 in
+    let at = back_one t.done c.if-top-eq0.false in
+    let found = c.in_ok-resume_entry.ensures.found in
+    let came = serves_came u x (of_entries owner 0) [] (c.in_ok-resume_entry.ensures.serves 0) in
+    let first = met_first u x found.found.moment found.found.was in
+    let a = c.requires.stands in
+    let s0 = subst (λ xs. Stands a.0 u owner xs) c.requires.top a.1 in
+    let left = subst (λ k. LeavesResumed u x t.frame k i owner (again.Waiting c.in-Waiting.frame c.in-Waiting.own c.in-Waiting.stamp c.in-Waiting.stop)) c.level_type.ensures (subst (λ r. LeavesResumed u x t.frame c.level_type.result i owner r) c.in-Waiting.is c.in_ok-resume_entry.ensures.hand) in
+    let way = subst (λ k. ResumesFound u x t.frame i k owner (Ok (again.Waiting c.in-Waiting.frame c.in-Waiting.own c.in-Waiting.stamp c.in-Waiting.stop))) c.level_type.ensures (subst (λ r. ResumesFound u x t.frame i c.level_type.result owner (Ok r)) c.in-Waiting.is found) in
+    let mine = subst (λ b. (o : Opens u x t.frame i (level_type t.level) c.in-Waiting.frame owner 0 b true) × ((kind_fields o.work.word).number ≡ c.in-Waiting.stamp)) c.if-own.false left in
+    let is = level_below t.level s0.stack.0.low s0.stack.0.high in
+    waits_there u x t.frame i (level_type t.level) (t.level - 1) c.in-Waiting.frame owner false is mine.0 c.level_type-kind.result c.in-Waiting.stamp c.level_type-kind.ensures mine.1
+
+pub returns-else-own-clause-came : goal.returns-else-own-clause-came
+returns-else-own-clause-came g n c =
+    let u = g.P.Port.value c.args.port.now in
+    let x = g.P.Port.value c.resume_entry.new.port in
+    let t = c.args.top in
+    let ts = drop 1 c.args.stack.now in
+    let owner = c.args.owner in
+    let i = t.done - 1 in
+    let at = back_one t.done c.if-top-eq0.false in
+    let found = c.in_ok-resume_entry.ensures.found in
+    let came = serves_came u x (of_entries owner 0) [] (c.in_ok-resume_entry.ensures.serves 0) in
+    let first = met_first u x found.found.moment found.found.was in
+    came_trans u x (g.P.Port.value c.leave_shared.new.port) came c.leave_shared.ensures.came
+
+pub returns-else-own-clause-stands : goal.returns-else-own-clause-stands
+returns-else-own-clause-stands g n c v s =
+    let u = g.P.Port.value c.args.port.now in
+    let x = g.P.Port.value c.resume_entry.new.port in
+    let t = c.args.top in
+    let ts = drop 1 c.args.stack.now in
+    let owner = c.args.owner in
+    let i = t.done - 1 in
+    let at = back_one t.done c.if-top-eq0.false in
+    let found = c.in_ok-resume_entry.ensures.found in
+    let came = serves_came u x (of_entries owner 0) [] (c.in_ok-resume_entry.ensures.serves 0) in
+    let first = met_first u x found.found.moment found.found.was in
+    let s0 = subst (λ xs. Stands v u owner xs) c.requires.top s in
+    let left = subst (λ k. LeavesResumed u x t.frame k i owner (again.Waiting c.in-Waiting.frame c.in-Waiting.own c.in-Waiting.stamp c.in-Waiting.stop)) c.level_type.ensures (subst (λ r. LeavesResumed u x t.frame c.level_type.result i owner r) c.in-Waiting.is c.in_ok-resume_entry.ensures.hand) in
+    let way = subst (λ k. ResumesFound u x t.frame i k owner (Ok (again.Waiting c.in-Waiting.frame c.in-Waiting.own c.in-Waiting.stamp c.in-Waiting.stop))) c.level_type.ensures (subst (λ r. ResumesFound u x t.frame i c.level_type.result owner (Ok r)) c.in-Waiting.is found) in
+    let mine = subst (λ b. (o : Opens u x t.frame i (level_type t.level) c.in-Waiting.frame owner 0 b true) × ((kind_fields o.work.word).number ≡ c.in-Waiting.stamp)) c.if-own.false left in
+    let is = level_below t.level s0.stack.0.low s0.stack.0.high in
+    let y = g.P.Port.value c.leave_shared.new.port in
+    subst (λ xs. Stands v y owner xs) (sym c.requires.top)
+    (after_look v u y owner t ts s0 (came_trans u x y came c.leave_shared.ensures.came) (met_first u x found.found.moment found.found.was) i
+    (left_waiting u x t.frame i (level_type t.level) (t.level - 1) c.in-Waiting.frame owner false is mine.0 y c.level_type-kind.result c.level_type-kind.ensures c.leave_shared.ensures.hand))
+
+pub returns-else-own-clause-kinds : goal.returns-else-own-clause-kinds
+returns-else-own-clause-kinds g n c =
+    let u = g.P.Port.value c.args.port.now in
+    let x = g.P.Port.value c.resume_entry.new.port in
+    let t = c.args.top in
+    let ts = drop 1 c.args.stack.now in
+    let owner = c.args.owner in
+    let i = t.done - 1 in
+    let at = back_one t.done c.if-top-eq0.false in
+    let found = c.in_ok-resume_entry.ensures.found in
+    let came = serves_came u x (of_entries owner 0) [] (c.in_ok-resume_entry.ensures.serves 0) in
+    let first = met_first u x found.found.moment found.found.was in
+    wait_stops c.in-Waiting.stop (subst (λ r. ShowsResumed u x owner 0 r) c.in-Waiting.is (c.in_ok-resume_entry.ensures.shows 0)).0

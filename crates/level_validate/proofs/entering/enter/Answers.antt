@@ -1,0 +1,305 @@
+use Rattle.std.proofs.Common.{◌-◌, ◌<◌, ◌∷◌, [], drop, false, None, Ok, sym, ap, ◌∙◌, subst, arith}
+use Rattle.xp_words.specs.Entries.{below}
+use Rattle.xp_words.specs.declared.kind.PageType.{PageType}
+use Rattle.step_maker.proofs.Coming.{came_trans}
+use Rattle.answer_fits.proofs.Piecing.{serves_came}
+use Rattle.frame_types.specs.Taking.{IsOfOther}
+use Rattle.table_entries.specs.Asking.{ShowsEntered, of_entries}
+use Rattle.table_entries.specs.Found.{EntersFound}
+use Rattle.table_entries.specs.Tops.{LeavesEntered, WorksNext}
+use Rattle.table_entries.specs.declared.entries.Entered.TheVariants as entered
+use Rattle.partial_state.specs.Levels.{level_type}
+use Rattle.partial_state.specs.Stacks.{advanced, left_on_top}
+use Rattle.level_validate.specs.Tables.{Stands}
+use Rattle.level_validate.proofs.Entered.{after_look, after_next, after_record, after_record_ready, fresh_ready}
+use Rattle.level_validate.proofs.LeavingTables.{top_inside}
+use Rattle.level_validate.proofs.Looking.{met_first}
+use Rattle.level_validate.proofs.Opening.{opened_found}
+use Rattle.level_validate.proofs.Pushing.{pushed}
+use Rattle.level_validate.proofs.Standing.{standing_above, standing_held, standing_known, standing_looked, standing_next}
+use Rattle.level_validate.proofs.StandsFacts.{may_back, may_stands}
+use Rattle.level_validate.proofs.Waiting.{wait_stops}
+use Rattle.level_validate.proofs.entering.enter.Goals as goal
+
+pub take_entry-requires-clause-frame : goal.take_entry-requires-clause-frame
+take_entry-requires-clause-frame g c =
+    let u = g.P.Port.value c.args.port.now in
+    let t = c.in-Some.top in
+    let ts = drop 1 c.args.stack.now in
+    let owner = c.args.owner in
+    let is = c.in-Some.ensures.some in
+    let a = c.requires.stands in
+    let s0 = subst (λ xs. Stands a.0 u owner xs) is a.1 in
+    top_inside a.0 u owner t ts s0
+
+pub take_entry-requires-clause-works : goal.take_entry-requires-clause-works
+take_entry-requires-clause-works g c =
+    let u = g.P.Port.value c.args.port.now in
+    let t = c.in-Some.top in
+    let ts = drop 1 c.args.stack.now in
+    let owner = c.args.owner in
+    let is = c.in-Some.ensures.some in
+    let a = c.requires.stands in
+    let s0 = subst (λ xs. Stands a.0 u owner xs) is a.1 in
+    subst (λ (k : PageType). WorksNext u.post.machine t.frame k t.done u.holdings) (sym c.level_type.ensures) (standing_next a.0 u owner t ts s0 c.requires.ready)
+
+pub take_entry-requires-clause-known : goal.take_entry-requires-clause-known
+take_entry-requires-clause-known g c =
+    let u = g.P.Port.value c.args.port.now in
+    let t = c.in-Some.top in
+    let ts = drop 1 c.args.stack.now in
+    let owner = c.args.owner in
+    let is = c.in-Some.ensures.some in
+    let a = c.requires.stands in
+    let s0 = subst (λ xs. Stands a.0 u owner xs) is a.1 in
+    standing_known a.0 u owner t ts s0
+
+pub take_entry-requires-clause-held : goal.take_entry-requires-clause-held
+take_entry-requires-clause-held g c =
+    let u = g.P.Port.value c.args.port.now in
+    let t = c.in-Some.top in
+    let ts = drop 1 c.args.stack.now in
+    let owner = c.args.owner in
+    let is = c.in-Some.ensures.some in
+    let a = c.requires.stands in
+    let s0 = subst (λ xs. Stands a.0 u owner xs) is a.1 in
+    standing_held a.0 u owner t ts s0
+
+pub take_entry-requires-clause-above : goal.take_entry-requires-clause-above
+take_entry-requires-clause-above g c f =
+    let u = g.P.Port.value c.args.port.now in
+    let t = c.in-Some.top in
+    let ts = drop 1 c.args.stack.now in
+    let owner = c.args.owner in
+    let is = c.in-Some.ensures.some in
+    let a = c.requires.stands in
+    let s0 = subst (λ xs. Stands a.0 u owner xs) is a.1 in
+    subst (λ (k : PageType). IsOfOther f (below k) u.holdings) (sym c.level_type.ensures) (standing_above a.0 u owner t ts s0 f)
+
+pub take_entry-requires-clause-looked : goal.take_entry-requires-clause-looked
+take_entry-requires-clause-looked g c =
+    let u = g.P.Port.value c.args.port.now in
+    let t = c.in-Some.top in
+    let ts = drop 1 c.args.stack.now in
+    let owner = c.args.owner in
+    let is = c.in-Some.ensures.some in
+    let a = c.requires.stands in
+    let s0 = subst (λ xs. Stands a.0 u owner xs) is a.1 in
+    standing_looked a.0 u owner t ts s0
+
+pub returns-in_err-take_entry-clause-came : goal.returns-in_err-take_entry-clause-came
+returns-in_err-take_entry-clause-came g c =
+    serves_came (g.P.Port.value c.args.port.now) (g.P.Port.value c.take_entry.new.port) (of_entries c.args.owner 0) _ (c.in_err-take_entry.ensures.serves 0)
+
+pub returns-in_err-take_entry-clause-stands : goal.returns-in_err-take_entry-clause-stands
+returns-in_err-take_entry-clause-stands g c v s =
+    let u = g.P.Port.value c.args.port.now in
+    let t = c.in-Some.top in
+    let ts = drop 1 c.args.stack.now in
+    let owner = c.args.owner in
+    let is = c.in-Some.ensures.some in
+    let s0 = subst (λ xs. Stands v u owner xs) is s in
+    let x = g.P.Port.value c.take_entry.new.port in
+    let found = c.in_err-take_entry.ensures.found.found in
+    subst (λ xs. Stands v x owner xs) (sym is) (after_look v u x owner t ts s0 (serves_came u x (of_entries owner 0) _ (c.in_err-take_entry.ensures.serves 0)) (met_first u x found.moment found.was) t.done c.in_err-take_entry.ensures.hand)
+
+pub push-requires-clause-table : goal.push-requires-clause-table
+push-requires-clause-table g c =
+    let u = g.P.Port.value c.args.port.now in
+    let t = c.in-Some.top in
+    let ts = drop 1 c.args.stack.now in
+    let owner = c.args.owner in
+    let is = c.in-Some.ensures.some in
+    let a = c.requires.stands in
+    let s0 = subst (λ xs. Stands a.0 u owner xs) is a.1 in
+    let x = g.P.Port.value c.take_entry.new.port in
+    let found = c.in_ok-take_entry.ensures.found in
+    let came = serves_came u x (of_entries owner 0) [] (c.in_ok-take_entry.ensures.serves 0) in
+    let first = met_first u x found.found.moment found.found.was in
+    let room : 0 < 512 - t.done = subst (λ xs. 0 < left_on_top xs) is c.requires.left in
+    let left = subst (λ k. LeavesEntered u x t.frame k t.done owner (entered.Opened c.in-Opened.frame c.in-Opened.progress c.in-Opened.own)) c.level_type.ensures (subst (λ r. LeavesEntered u x t.frame c.level_type.result t.done owner r) c.in-Opened.is c.in_ok-take_entry.ensures.hand) in
+    let way = subst (λ k. EntersFound u x t.frame t.done k owner (Ok (entered.Opened c.in-Opened.frame c.in-Opened.progress c.in-Opened.own))) c.level_type.ensures (subst (λ r. EntersFound u x t.frame t.done c.level_type.result owner (Ok r)) c.in-Opened.is found) in
+    let came_open = opened_found u x t.frame t.done (level_type t.level) owner c.in-Opened.frame c.in-Opened.progress c.in-Opened.own way in
+    let inner = pushed t c.in-Opened.frame c.in-Opened.progress c.in-Opened.own false in
+    (after_next a.0 u x owner t ts s0 came first c.in-Opened.frame c.in-Opened.progress c.in-Opened.own (omega (arith, room)) c.requires.ready came_open left).stack.0
+
+pub take_on-requires-clause-may : goal.take_on-requires-clause-may
+take_on-requires-clause-may g c =
+    let u = g.P.Port.value c.args.port.now in
+    let t = c.in-Some.top in
+    let ts = drop 1 c.args.stack.now in
+    let owner = c.args.owner in
+    let is = c.in-Some.ensures.some in
+    let a = c.requires.stands in
+    let s0 = subst (λ xs. Stands a.0 u owner xs) is a.1 in
+    let x = g.P.Port.value c.take_entry.new.port in
+    let found = c.in_ok-take_entry.ensures.found in
+    let came = serves_came u x (of_entries owner 0) [] (c.in_ok-take_entry.ensures.serves 0) in
+    let first = met_first u x found.found.moment found.found.was in
+    let room : 0 < 512 - t.done = subst (λ xs. 0 < left_on_top xs) is c.requires.left in
+    let left = subst (λ k. LeavesEntered u x t.frame k t.done owner (entered.Opened c.in-Opened.frame c.in-Opened.progress c.in-Opened.own)) c.level_type.ensures (subst (λ r. LeavesEntered u x t.frame c.level_type.result t.done owner r) c.in-Opened.is c.in_ok-take_entry.ensures.hand) in
+    let way = subst (λ k. EntersFound u x t.frame t.done k owner (Ok (entered.Opened c.in-Opened.frame c.in-Opened.progress c.in-Opened.own))) c.level_type.ensures (subst (λ r. EntersFound u x t.frame t.done c.level_type.result owner (Ok r)) c.in-Opened.is found) in
+    let came_open = opened_found u x t.frame t.done (level_type t.level) owner c.in-Opened.frame c.in-Opened.progress c.in-Opened.own way in
+    let inner = pushed t c.in-Opened.frame c.in-Opened.progress c.in-Opened.own false in
+    may_stands a.0 x owner _ (after_next a.0 u x owner t ts s0 came first c.in-Opened.frame c.in-Opened.progress c.in-Opened.own (omega (arith, room)) c.requires.ready came_open left) (may_back a.0 u owner c.args.stack.now a.1 c.requires.may)
+
+pub take_on-requires-clause-stands : goal.take_on-requires-clause-stands
+take_on-requires-clause-stands g c =
+    let u = g.P.Port.value c.args.port.now in
+    let t = c.in-Some.top in
+    let ts = drop 1 c.args.stack.now in
+    let owner = c.args.owner in
+    let is = c.in-Some.ensures.some in
+    let a = c.requires.stands in
+    let s0 = subst (λ xs. Stands a.0 u owner xs) is a.1 in
+    let x = g.P.Port.value c.take_entry.new.port in
+    let found = c.in_ok-take_entry.ensures.found in
+    let came = serves_came u x (of_entries owner 0) [] (c.in_ok-take_entry.ensures.serves 0) in
+    let first = met_first u x found.found.moment found.found.was in
+    let room : 0 < 512 - t.done = subst (λ xs. 0 < left_on_top xs) is c.requires.left in
+    let left = subst (λ k. LeavesEntered u x t.frame k t.done owner (entered.Opened c.in-Opened.frame c.in-Opened.progress c.in-Opened.own)) c.level_type.ensures (subst (λ r. LeavesEntered u x t.frame c.level_type.result t.done owner r) c.in-Opened.is c.in_ok-take_entry.ensures.hand) in
+    let way = subst (λ k. EntersFound u x t.frame t.done k owner (Ok (entered.Opened c.in-Opened.frame c.in-Opened.progress c.in-Opened.own))) c.level_type.ensures (subst (λ r. EntersFound u x t.frame t.done c.level_type.result owner (Ok r)) c.in-Opened.is found) in
+    let came_open = opened_found u x t.frame t.done (level_type t.level) owner c.in-Opened.frame c.in-Opened.progress c.in-Opened.own way in
+    let inner = pushed t c.in-Opened.frame c.in-Opened.progress c.in-Opened.own false in
+    (a.0, subst (λ xs. Stands a.0 x owner xs) (sym (c.push.ensures.pushed ∙ ap (λ ys. inner ∷ ys) (c.advance-in-Opened.ensures.advanced ∙ ap advanced is))) (after_next a.0 u x owner t ts s0 came first c.in-Opened.frame c.in-Opened.progress c.in-Opened.own (omega (arith, room)) c.requires.ready came_open left))
+
+pub take_on-requires-clause-top : goal.take_on-requires-clause-top
+take_on-requires-clause-top g c =
+    let u = g.P.Port.value c.args.port.now in
+    let t = c.in-Some.top in
+    let ts = drop 1 c.args.stack.now in
+    let owner = c.args.owner in
+    let is = c.in-Some.ensures.some in
+    let inner = pushed t c.in-Opened.frame c.in-Opened.progress c.in-Opened.own false in
+    c.push.ensures.pushed ∙ ap (λ ys. inner ∷ ys) (sym (ap (λ ys. drop 1 ys) c.push.ensures.pushed))
+
+pub take_on-requires-clause-fresh : goal.take_on-requires-clause-fresh
+take_on-requires-clause-fresh g c zero =
+    let u = g.P.Port.value c.args.port.now in
+    let t = c.in-Some.top in
+    let ts = drop 1 c.args.stack.now in
+    let owner = c.args.owner in
+    let is = c.in-Some.ensures.some in
+    let x = g.P.Port.value c.take_entry.new.port in
+    let left = subst (λ k. LeavesEntered u x t.frame k t.done owner (entered.Opened c.in-Opened.frame c.in-Opened.progress c.in-Opened.own)) c.level_type.ensures (subst (λ r. LeavesEntered u x t.frame c.level_type.result t.done owner r) c.in-Opened.is c.in_ok-take_entry.ensures.hand) in
+    fresh_ready u x t.frame t.done (level_type t.level) c.in-Opened.frame owner c.in-Opened.progress c.in-Opened.own left zero
+
+pub returns-in-Recorded-clause-came : goal.returns-in-Recorded-clause-came
+returns-in-Recorded-clause-came g c =
+    let u = g.P.Port.value c.args.port.now in
+    let t = c.in-Some.top in
+    let ts = drop 1 c.args.stack.now in
+    let owner = c.args.owner in
+    let is = c.in-Some.ensures.some in
+    let x = g.P.Port.value c.take_entry.new.port in
+    let found = c.in_ok-take_entry.ensures.found in
+    let came = serves_came u x (of_entries owner 0) [] (c.in_ok-take_entry.ensures.serves 0) in
+    let first = met_first u x found.found.moment found.found.was in
+    let room : 0 < 512 - t.done = subst (λ xs. 0 < left_on_top xs) is c.requires.left in
+    came
+
+pub returns-in-Recorded-clause-stands : goal.returns-in-Recorded-clause-stands
+returns-in-Recorded-clause-stands g c v s =
+    let u = g.P.Port.value c.args.port.now in
+    let t = c.in-Some.top in
+    let ts = drop 1 c.args.stack.now in
+    let owner = c.args.owner in
+    let is = c.in-Some.ensures.some in
+    let s0 = subst (λ xs. Stands v u owner xs) is s in
+    let x = g.P.Port.value c.take_entry.new.port in
+    let found = c.in_ok-take_entry.ensures.found in
+    let came = serves_came u x (of_entries owner 0) [] (c.in_ok-take_entry.ensures.serves 0) in
+    let first = met_first u x found.found.moment found.found.was in
+    let room : 0 < 512 - t.done = subst (λ xs. 0 < left_on_top xs) is c.requires.left in
+    let left = subst (λ k. LeavesEntered u x t.frame k t.done owner entered.Recorded) c.level_type.ensures (subst (λ r. LeavesEntered u x t.frame c.level_type.result t.done owner r) c.in-Recorded.is c.in_ok-take_entry.ensures.hand) in
+    subst (λ xs. Stands v x owner xs) (sym (c.advance.ensures.advanced ∙ ap advanced is)) (after_record v u x owner t ts s0 came first None room left)
+
+pub returns-in-Recorded-clause-ready : goal.returns-in-Recorded-clause-ready
+returns-in-Recorded-clause-ready g c =
+    let u = g.P.Port.value c.args.port.now in
+    let t = c.in-Some.top in
+    let ts = drop 1 c.args.stack.now in
+    let owner = c.args.owner in
+    let is = c.in-Some.ensures.some in
+    let a = c.requires.stands in
+    let s0 = subst (λ xs. Stands a.0 u owner xs) is a.1 in
+    let x = g.P.Port.value c.take_entry.new.port in
+    let found = c.in_ok-take_entry.ensures.found in
+    let came = serves_came u x (of_entries owner 0) [] (c.in_ok-take_entry.ensures.serves 0) in
+    let first = met_first u x found.found.moment found.found.was in
+    let room : 0 < 512 - t.done = subst (λ xs. 0 < left_on_top xs) is c.requires.left in
+    let left = subst (λ k. LeavesEntered u x t.frame k t.done owner entered.Recorded) c.level_type.ensures (subst (λ r. LeavesEntered u x t.frame c.level_type.result t.done owner r) c.in-Recorded.is c.in_ok-take_entry.ensures.hand) in
+    after_record_ready a.0 u x owner t ts s0 came first left
+
+pub returns-in-Opened-clause-came : goal.returns-in-Opened-clause-came
+returns-in-Opened-clause-came g c =
+    let u = g.P.Port.value c.args.port.now in
+    let t = c.in-Some.top in
+    let ts = drop 1 c.args.stack.now in
+    let owner = c.args.owner in
+    let is = c.in-Some.ensures.some in
+    let x = g.P.Port.value c.take_entry.new.port in
+    let found = c.in_ok-take_entry.ensures.found in
+    let came = serves_came u x (of_entries owner 0) [] (c.in_ok-take_entry.ensures.serves 0) in
+    let first = met_first u x found.found.moment found.found.was in
+    let room : 0 < 512 - t.done = subst (λ xs. 0 < left_on_top xs) is c.requires.left in
+    came_trans u x (g.P.Port.value c.take_on.new.port) came c.take_on.ensures.came
+
+pub returns-in-Opened-clause-stands : goal.returns-in-Opened-clause-stands
+returns-in-Opened-clause-stands g c v s =
+    let u = g.P.Port.value c.args.port.now in
+    let t = c.in-Some.top in
+    let ts = drop 1 c.args.stack.now in
+    let owner = c.args.owner in
+    let is = c.in-Some.ensures.some in
+    let s0 = subst (λ xs. Stands v u owner xs) is s in
+    let x = g.P.Port.value c.take_entry.new.port in
+    let found = c.in_ok-take_entry.ensures.found in
+    let came = serves_came u x (of_entries owner 0) [] (c.in_ok-take_entry.ensures.serves 0) in
+    let first = met_first u x found.found.moment found.found.was in
+    let room : 0 < 512 - t.done = subst (λ xs. 0 < left_on_top xs) is c.requires.left in
+    let left = subst (λ k. LeavesEntered u x t.frame k t.done owner (entered.Opened c.in-Opened.frame c.in-Opened.progress c.in-Opened.own)) c.level_type.ensures (subst (λ r. LeavesEntered u x t.frame c.level_type.result t.done owner r) c.in-Opened.is c.in_ok-take_entry.ensures.hand) in
+    let way = subst (λ k. EntersFound u x t.frame t.done k owner (Ok (entered.Opened c.in-Opened.frame c.in-Opened.progress c.in-Opened.own))) c.level_type.ensures (subst (λ r. EntersFound u x t.frame t.done c.level_type.result owner (Ok r)) c.in-Opened.is found) in
+    let came_open = opened_found u x t.frame t.done (level_type t.level) owner c.in-Opened.frame c.in-Opened.progress c.in-Opened.own way in
+    let inner = pushed t c.in-Opened.frame c.in-Opened.progress c.in-Opened.own false in
+    c.take_on.ensures.stands v (subst (λ xs. Stands v x owner xs) (sym (c.push.ensures.pushed ∙ ap (λ ys. inner ∷ ys) (c.advance-in-Opened.ensures.advanced ∙ ap advanced is))) (after_next v u x owner t ts s0 came first c.in-Opened.frame c.in-Opened.progress c.in-Opened.own (omega (arith, room)) c.requires.ready came_open left))
+
+pub returns-in-Unsettled-clause-came : goal.returns-in-Unsettled-clause-came
+returns-in-Unsettled-clause-came g c =
+    let u = g.P.Port.value c.args.port.now in
+    let t = c.in-Some.top in
+    let ts = drop 1 c.args.stack.now in
+    let owner = c.args.owner in
+    let is = c.in-Some.ensures.some in
+    let x = g.P.Port.value c.take_entry.new.port in
+    let found = c.in_ok-take_entry.ensures.found in
+    let came = serves_came u x (of_entries owner 0) [] (c.in_ok-take_entry.ensures.serves 0) in
+    let first = met_first u x found.found.moment found.found.was in
+    let room : 0 < 512 - t.done = subst (λ xs. 0 < left_on_top xs) is c.requires.left in
+    came
+
+pub returns-in-Unsettled-clause-stands : goal.returns-in-Unsettled-clause-stands
+returns-in-Unsettled-clause-stands g c v s =
+    let u = g.P.Port.value c.args.port.now in
+    let t = c.in-Some.top in
+    let ts = drop 1 c.args.stack.now in
+    let owner = c.args.owner in
+    let is = c.in-Some.ensures.some in
+    let s0 = subst (λ xs. Stands v u owner xs) is s in
+    let x = g.P.Port.value c.take_entry.new.port in
+    let found = c.in_ok-take_entry.ensures.found in
+    let came = serves_came u x (of_entries owner 0) [] (c.in_ok-take_entry.ensures.serves 0) in
+    let first = met_first u x found.found.moment found.found.was in
+    let room : 0 < 512 - t.done = subst (λ xs. 0 < left_on_top xs) is c.requires.left in
+    let left = subst (λ k. LeavesEntered u x t.frame k t.done owner (entered.Unsettled c.in-Unsettled.stop)) c.level_type.ensures (subst (λ r. LeavesEntered u x t.frame c.level_type.result t.done owner r) c.in-Unsettled.is c.in_ok-take_entry.ensures.hand) in
+    subst (λ xs. Stands v x owner xs) (sym (c.advance-in-Unsettled.ensures.advanced ∙ ap advanced is)) (after_record v u x owner t ts s0 came first left.0 room left.1)
+
+pub returns-in-Unsettled-clause-kinds : goal.returns-in-Unsettled-clause-kinds
+returns-in-Unsettled-clause-kinds g c =
+    let u = g.P.Port.value c.args.port.now in
+    let t = c.in-Some.top in
+    let ts = drop 1 c.args.stack.now in
+    let owner = c.args.owner in
+    let is = c.in-Some.ensures.some in
+    let x = g.P.Port.value c.take_entry.new.port in
+    wait_stops c.in-Unsettled.stop (subst (λ r. ShowsEntered u x owner 0 r) c.in-Unsettled.is (c.in_ok-take_entry.ensures.shows 0)).1

@@ -1,0 +1,28 @@
+use Rattle.std.proofs.Common.{[], refl}
+use Rattle.step_maker.proofs.Coming.{came_trans, moves_came}
+use Rattle.answer_fits.specs.Asked.{of_back}
+use Rattle.answer_fits.proofs.Piecing.{serves_came}
+use Rattle.level_validate.specs.Unwinding.{own_domain}
+use Rattle.level_validate.proofs.LeavingLent.{lent_puts, lent_stands}
+use Rattle.level_validate.proofs.unwinding.leave_lent.Goals as goal
+
+pub put_ref-requires-clause-gives : goal.put_ref-requires-clause-gives
+put_ref-requires-clause-gives g c =
+    let a = c.requires.stands in
+    let w = g.P.Port.value c.args.port.now in
+    lent_puts a.1.0 w (own_domain w) c.args.table a.0 a.1.1 c.requires.lent (g.P.Port.value c.leave_partial.new.port) c.leave_partial.result c.leave_partial.ensures.moves c.leave_partial.ensures.hand
+
+pub returns-clause-came : goal.returns-clause-came
+returns-clause-came g c =
+    let w = g.P.Port.value c.args.port.now in
+    let d = g.P.Port.value c.leave_partial.new.port in
+    let x = g.P.Port.value c.put_ref.new.port in
+    came_trans w d x (moves_came w d _ _ _ _ c.leave_partial.result c.leave_partial.ensures.moves) (serves_came d x (of_back c.args.table.frame) [] c.put_ref.ensures.serves)
+
+pub returns-clause-stands : goal.returns-clause-stands
+returns-clause-stands g c ts v s =
+    let w = g.P.Port.value c.args.port.now in
+    let d = g.P.Port.value c.leave_partial.new.port in
+    let x = g.P.Port.value c.put_ref.new.port in
+    let came = came_trans w d x (moves_came w d _ _ _ _ c.leave_partial.result c.leave_partial.ensures.moves) (serves_came d x (of_back c.args.table.frame) [] c.put_ref.ensures.serves) in
+    lent_stands v w (own_domain w) c.args.table ts s c.requires.lent d c.leave_partial.result c.leave_partial.ensures.moves c.leave_partial.ensures.hand x c.put_ref.ensures.hand came c.args.table.recorded refl

@@ -1,0 +1,8 @@
+use Rattle.std.proofs.Common.{[]}
+use Rattle.level_validate.specs.Unwinding.{own_domain}
+use Rattle.level_validate.proofs.Unwound.{outer_lent}
+use Rattle.level_validate.proofs.unwinding.leave_outermost.Goals as goal
+
+pub returns-else-table-clause-hand : goal.returns-else-table-clause-hand
+returns-else-table-clause-hand g c v s =
+    outer_lent v (g.P.Port.value c.leave_lent.new.port) (own_domain (g.P.Port.value c.args.port.now)) c.args.table c.args.kept c.if-table.false (c.leave_lent.ensures.stands [] v s)

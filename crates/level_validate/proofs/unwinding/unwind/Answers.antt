@@ -1,0 +1,13 @@
+use Rattle.std.proofs.Common.{subst}
+use Rattle.level_validate.proofs.Unwound.{Unwinding, unwinding_begins, unwinding_on}
+use Rattle.level_validate.proofs.unwinding.unwind.Goals as goal
+
+pub loop-table-init : goal.loop-table-init
+loop-table-init g c = unwinding_begins (g.P.Port.value c.args.port.now) c.args.kept c.args.stack.now
+
+pub loop-table-preserved : goal.loop-table-preserved
+loop-table-preserved g c =
+    let u = g.P.Port.value c.args.port.now in
+    let w = g.P.Port.value c.loop-table.port in
+    unwinding_on u w c.args.kept c.args.stack.now c.in-Some.table c.pop.new.self (subst (λ us. Unwinding u w c.args.kept c.args.stack.now us) c.in-Some.ensures.some c.loop-table.invariant)
+    (g.P.Port.value c.leave_table.new.port) c.leave_table.new.stack c.leave_table.ensures.came c.leave_table.ensures.hand

@@ -1,0 +1,121 @@
+//! The next entry of the innermost table, and the last recorded one of a table that was left unfinished.
+ghost use Rattle.std.specs.Prelude.{◌≡◌, ◌<◌, ◌∷◌, ℕ, drop, IfOk, IfErr};
+ghost use Rattle.step_maker.specs.Holds.{MayWork};
+ghost use Rattle.step_maker.specs.Moves.{Came};
+ghost use Rattle.table_entries.specs.Asking.{IsEntryStop};
+ghost use Rattle.partial_state.specs.Stacks.{left_on_top};
+ghost use Rattle.level_validate.specs.Tables.{IsReady, IsStanding, StandsOn};
+
+use crate::completing::give_back;
+use frame_types::{leave_dead, leave_shared};
+use partial_state::{Stack, TableWork, level_type};
+use table_entries::{Entered, Resumed, TableEntry, resume_entry, take_entry};
+use xp_board::Port;
+use xp_words::Stop;
+
+/// Takes the next entry of the innermost table. Where it names a table that is to be validated first, that one is the innermost then.
+pub(crate) fn enter<P: Port>(port: &mut P, owner: u16, stack: &mut Stack) -> Result<(), Stop>
+    requires may { MayWork (P.value port.old) }
+    requires stands { IsStanding (P.value port.old) owner stack.old }
+    requires ready { IsReady (P.value port.old) }
+    requires left { 0 < left_on_top stack.old }
+    ensures came { Came (P.value port.old) (P.value port.new) }
+    ensures stands { StandsOn (P.value port.old) (P.value port.new) owner stack.old stack.new }
+    ensures ready { IfOk result (λ _. IsReady (P.value port.new)) }
+    ensures kinds { IfErr result IsEntryStop }
+{
+    let Some(top) = stack.top() else {
+        unreachable!()
+    };
+    let at = TableEntry {
+        table: top.frame,
+        kind: level_type(top.level),
+        index: top.done,
+        owner,
+    };
+    match take_entry(port, at)? {
+        Entered::Recorded => {
+            stack.advance();
+            Ok(())
+        }
+        Entered::Opened {
+            frame,
+            progress,
+            own,
+        } => {
+            stack.advance();
+            let inner = TableWork {
+                frame,
+                level: top.level - 1,
+                done: progress,
+                own,
+                recorded: false,
+            };
+            stack.push(inner);
+            take_on(port, owner, stack, inner)
+        }
+        Entered::Unsettled { stop } => {
+            stack.advance();
+            Err(stop)
+        }
+    }
+}
+
+// Looks at the last recorded entry of the innermost table, which came into work with some of its entries recorded. Its frame may have
+// been left unfinished: then that one is taken on, and is the innermost table.
+fn take_on<P: Port>(port: &mut P, owner: u16, stack: &mut Stack, top: TableWork) -> Result<(), Stop>
+    requires may { MayWork (P.value port.old) }
+    requires top { stack.old ≡ top ∷ drop 1 stack.old }
+    requires stands { IsStanding (P.value port.old) owner stack.old }
+    requires fresh { top.done ≡ 0 → IsReady (P.value port.old) }
+    ensures came { Came (P.value port.old) (P.value port.new) }
+    ensures stands { StandsOn (P.value port.old) (P.value port.new) owner stack.old stack.new }
+    ensures ready { IfOk result (λ _. IsReady (P.value port.new)) }
+    ensures kinds { IfErr result IsEntryStop }
+{
+    if top.done == 0 {
+        return Ok(());
+    }
+    let at = TableEntry {
+        table: top.frame,
+        kind: level_type(top.level),
+        index: top.done - 1,
+        owner,
+    };
+    match resume_entry(port, at)? {
+        Resumed::Settled => Ok(()),
+        Resumed::Taken { frame } => {
+            give_back(port, frame);
+            Ok(())
+        }
+        Resumed::Opened {
+            frame,
+            progress,
+            own,
+        } => {
+            let inner = TableWork {
+                frame,
+                level: top.level - 1,
+                done: progress,
+                own,
+                recorded: true,
+            };
+            stack.push(inner);
+            take_on(port, owner, stack, inner)
+        }
+        Resumed::Waiting {
+            frame,
+            own,
+            stamp,
+            stop,
+        } => {
+            let kind = level_type(top.level - 1);
+            if own {
+                leave_dead(port, frame, kind);
+            } else {
+                leave_shared(port, frame, kind, stamp);
+            }
+            Err(stop)
+        }
+    }
+}

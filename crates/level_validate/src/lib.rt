@@ -1,0 +1,7 @@
+//! Page tables of four levels: validated.
+#![tactic(auto)]
+
+mod completing;
+mod entering;
+mod unwinding;
+mod words;

@@ -1,0 +1,148 @@
+//! Tables in work that are left unfinished.
+ghost use Rattle.std.specs.Prelude.{◌≡◌, ◌≢◌, ◌∷◌, Bool, [], List, Some, None, true, false, length};
+ghost use Rattle.xp_words.specs.KindWords.{kind_write};
+ghost use Rattle.xp_words.specs.declared.place.Place.TheVariants.{Kind};
+ghost use Rattle.xp_board.specs.Told.{PortValue};
+ghost use Rattle.xp_board.specs.declared.step.Act.TheVariants.{Store};
+ghost use Rattle.xp_board.specs.declared.step.StepKind.TheVariants as kinds;
+ghost use Rattle.step_maker.specs.Holds.{Holds, MayWork};
+ghost use Rattle.step_maker.specs.Moves.{Came, Moves};
+ghost use Rattle.kind_words.specs.Kinds.{partial_kind};
+ghost use Rattle.table_words.specs.OldWords.{known_old};
+ghost use Rattle.table_words.specs.declared.old_words.OldWord.TheVariants.{First};
+ghost use Rattle.partial_state.specs.Levels.{level_type};
+ghost use Rattle.partial_state.specs.declared.stack.TableWork.{TableWork};
+ghost use Rattle.level_validate.specs.Tables.{IsStanding, StandsOn};
+ghost use Rattle.level_validate.specs.Unwinding.{Unwinds, UnwindsTo, around_lent, left_so, own_domain};
+
+use crate::words::partial_kind;
+use frame_words::put_ref;
+use kind_words::leave;
+use partial_state::{Stack, TableWork, level_type};
+use table_words::{OldWord, put_old, record_entry};
+use xp_board::Port;
+
+/// Leaves all tables partial, the innermost first. `kept`: the outermost one's reference goes into its `kept` mark (a pause); else into the
+/// first old word (a refusal), which is known to name none. The tables' owner is the own domain.
+pub(crate) fn unwind<P: Port>(port: &mut P, stack: &mut Stack, kept: bool)
+    requires may { MayWork (P.value port.old) }
+    requires stands { IsStanding (P.value port.old) (own_domain (P.value port.old)) stack.old }
+    requires room { kept ≡ false → known_old First (P.value port.old).holdings ≡ Some 0 }
+    ensures came { Came (P.value port.old) (P.value port.new) }
+    ensures hand { Unwinds (P.value port.old) (P.value port.new) kept stack.old }
+    ensures done { stack.new ≡ [] }
+{
+    while let Some(table) = stack.pop() {
+        leave_table(port, stack, table, kept);
+    }
+}
+
+// Leaves the innermost table, which was popped from the stack.
+fn leave_table<P: Port>(port: &mut P, stack: &mut Stack, table: TableWork, kept: bool)
+    requires may { MayWork (P.value port.old) }
+    requires stands { IsStanding (P.value port.old) (own_domain (P.value port.old)) (table ∷ stack.old) }
+    requires room { kept ≡ false → known_old First (P.value port.old).holdings ≡ Some 0 }
+    ensures came { Came (P.value port.old) (P.value port.new) }
+    ensures hand { UnwindsTo (P.value port.old) (P.value port.new) kept (table ∷ stack.old) stack.new }
+    ensures fewer { length stack.new ≡ length stack.old }
+{
+    if stack.is_empty() {
+        leave_outermost(port, table, kept);
+    } else {
+        leave_inner(port, stack, table);
+    }
+}
+
+// The outermost table.
+fn leave_outermost<P: Port>(port: &mut P, table: TableWork, kept: bool)
+    requires may { MayWork (P.value port.old) }
+    requires stands { IsStanding (P.value port.old) (own_domain (P.value port.old)) (table ∷ []) }
+    requires room { kept ≡ false → known_old First (P.value port.old).holdings ≡ Some 0 }
+    ensures came { Came (P.value port.old) (P.value port.new) }
+    ensures hand { Unwinds (P.value port.old) (P.value port.new) kept (table ∷ []) }
+{
+    if table.own {
+        leave_named(port, table, kept);
+    } else {
+        leave_lent(port, table);
+    }
+}
+
+// The outermost table, whose type count is in hand.
+fn leave_named<P: Port>(port: &mut P, table: TableWork, kept: bool)
+    requires may { MayWork (P.value port.old) }
+    requires stands { IsStanding (P.value port.old) (own_domain (P.value port.old)) (table ∷ []) }
+    requires own { table.own ≡ true }
+    requires room { kept ≡ false → known_old First (P.value port.old).holdings ≡ Some 0 }
+    ensures came { Came (P.value port.old) (P.value port.new) }
+    ensures hand { Unwinds (P.value port.old) (P.value port.new) kept (table ∷ []) }
+{
+    leave_partial(port, table, kept);
+    if !kept {
+        put_old(port, OldWord::First, table.frame);
+    }
+}
+
+// A table inside another one. Where its type count is another holder's, an entry that is under way is not done with any more.
+fn leave_inner<P: Port>(port: &mut P, stack: &mut Stack, table: TableWork)
+    requires may { MayWork (P.value port.old) }
+    requires stands { IsStanding (P.value port.old) (own_domain (P.value port.old)) (table ∷ stack.old) }
+    requires inner { stack.old ≢ [] }
+    ensures came { Came (P.value port.old) (P.value port.new) }
+    ensures stands { StandsOn (P.value port.old) (P.value port.new) (own_domain (P.value port.old)) (table ∷ stack.old) stack.new }
+    ensures around { (b : Bool) × (stack.new ≡ around_lent b stack.old) }
+{
+    if table.own {
+        leave_own(port, stack, table);
+    } else {
+        leave_lent(port, table);
+        if !table.recorded {
+            stack.retreat();
+        }
+    }
+}
+
+// A table inside another one, whose type count is in hand. That goes into the entry that names the table, which is recorded with it; or
+// back into the `kept` mark from which it came.
+fn leave_own<P: Port>(port: &mut P, stack: &Stack, table: TableWork)
+    requires may { MayWork (P.value port.old) }
+    requires stands { IsStanding (P.value port.old) (own_domain (P.value port.old)) (table ∷ stack.now) }
+    requires own { table.own ≡ true }
+    requires inner { stack.now ≢ [] }
+    ensures came { Came (P.value port.old) (P.value port.new) }
+    ensures stands { StandsOn (P.value port.old) (P.value port.new) (own_domain (P.value port.old)) (table ∷ stack.now) stack.now }
+{
+    leave_partial(port, table, table.recorded);
+    if !table.recorded {
+        if let Some(outer) = stack.top() {
+            record_entry(port, outer.frame, outer.done);
+        }
+    }
+}
+
+// A table whose type count is another holder's.
+fn leave_lent<P: Port>(port: &mut P, table: TableWork)
+    requires may { MayWork (P.value port.old) }
+    requires stands { (ts : List TableWork) × IsStanding (P.value port.old) (own_domain (P.value port.old)) (table ∷ ts) }
+    requires lent { table.own ≡ false }
+    ensures came { Came (P.value port.old) (P.value port.new) }
+    ensures stands { (ts : List TableWork) → StandsOn (P.value port.old) (P.value port.new) (own_domain (P.value port.old)) (table ∷ ts) (around_lent table.recorded ts) }
+{
+    leave_partial(port, table, false);
+    put_ref(port, table.frame);
+}
+
+// The innermost table's kind word.
+fn leave_partial<P: Port>(port: &mut P, table: TableWork, kept: bool) -> u64
+    requires may { MayWork (P.value port.old) }
+    requires stands { (ts : List TableWork) × IsStanding (P.value port.old) (own_domain (P.value port.old)) (table ∷ ts) }
+    requires counted { kept ≡ true → table.own ≡ true }
+    ensures moves { Moves (P.value port.old) (P.value port.new) (Kind table.frame) (Store (kind_write (partial_kind (level_type table.level) kept false table.done 0))) kinds.Kind None result }
+    ensures hand { Holds (P.value port.old) (P.value port.new) (left_so kept table.frame (P.value port.old).holdings) }
+{
+    leave(
+        port,
+        table.frame,
+        partial_kind(level_type(table.level), kept, table.done),
+    )
+}
