@@ -1,3 +1,4 @@
+mod Completed
 mod Entered
 mod LeavingLent
 mod LeavingOwn
