@@ -1,5 +1,5 @@
 -- Tables that are made live.
-use Rattle.std.specs.Prelude.{ℕ, if◌then◌else◌, Bool, [], ◌∷◌}
+use Rattle.std.specs.Prelude.{◌≡◌, ℕ, if◌then◌else◌, Bool, List, [], ◌∷◌}
 use Rattle.xp_board.specs.declared.holdings.OwnerFound.TheVariants as owners
 use Rattle.xp_board.specs.KindSteps.{live_typed}
 use Rattle.xp_board.specs.Told.{PortValue}
@@ -16,3 +16,9 @@ count_for own = if own then 1 else 2
 abbrev pub Completes : PortValue → PortValue → TableWork → Type 0
 Completes u w t =
     (v : PortValue) (owner : ℕ) → Stands v u owner (t ∷ []) → FlushedHolds v w (record v.holdings { typed = live_typed t.frame (level_type t.level) (owners.Of owner) ∷ v.holdings.typed })
+
+-- all entries of the innermost table are recorded, which is not the only one
+abbrev pub IsInnerFull : List TableWork → Type 0
+IsInnerFull [] = ⊥
+IsInnerFull (t ∷ []) = ⊥
+IsInnerFull (t ∷ u ∷ us) = t.done ≡ 512
