@@ -1,8 +1,10 @@
+mod Completed
 mod Entered
 mod LeavingLent
 mod LeavingOwn
 mod LeavingTables
 mod Looking
+mod Nested
 mod Opening
 mod Pushing
 mod Sharing

@@ -88,7 +88,7 @@ pub typed_lent : (made owner : ℕ) (t : TableWork) (ts : List TableWork) (ys : 
 typed_lent made owner t ts ys lent are = subst (λ b. TypedFor b made owner t (AreTyped made owner ts) ys) lent are
 
 -- ---- owners
-ref_owned : (f owner : ℕ) (e : Reference) (rs : List Reference) (h : Holdings) → h.refs ≡ e ∷ rs → e.frame ≡ f → e.owner ≡ owners.Of owner → ref_owner f h ≡ owners.Of owner
+pub ref_owned : (f owner : ℕ) (e : Reference) (rs : List Reference) (h : Holdings) → h.refs ≡ e ∷ rs → e.frame ≡ f → e.owner ≡ owners.Of owner → ref_owner f h ≡ owners.Of owner
 ref_owned f owner e rs h refs frame owned =
     ap (λ o. owner_by o (owner_from h)) (ap (λ xs. ref_to f xs) refs ∙ first_by-cons_here (λ (y : Reference). y.frame) f e rs frame) ∙ owned
 

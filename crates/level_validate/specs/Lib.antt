@@ -1,3 +1,4 @@
+pub mod Completing
 pub mod Giving
 pub mod Tables
 pub mod Unwinding

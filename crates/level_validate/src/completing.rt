@@ -1,15 +1,92 @@
 //! Tables of which all entries are recorded.
-ghost use Rattle.std.specs.Prelude.{◌≡◌, ◌<◌, ◌∷◌, List, [], ℕ};
-ghost use Rattle.xp_board.specs.Hands.{without_typed};
-ghost use Rattle.xp_board.specs.declared.holdings.TypedReference.{TypedReference};
+ghost use Rattle.std.specs.Prelude.{◌≡◌, ◌<◌, ◌∷◌, List, [], ℕ, None, drop};
+ghost use Rattle.xp_words.specs.KindWords.{kind_write};
+ghost use Rattle.xp_words.specs.declared.place.Place.TheVariants.{Kind};
+ghost use Rattle.xp_board.specs.declared.step.Act.TheVariants.{Store};
+ghost use Rattle.xp_board.specs.declared.step.StepKind.TheVariants as kinds;
 ghost use Rattle.step_maker.specs.Holds.{Holds, MayWork};
-ghost use Rattle.step_maker.specs.Moves.{Came};
+ghost use Rattle.step_maker.specs.Moves.{Came, Moves};
+ghost use Rattle.kind_words.specs.Kinds.{MayLeave, left, live_kind};
 ghost use Rattle.frame_types.specs.Taking.{gave_type};
+ghost use Rattle.partial_state.specs.Levels.{level_type};
+ghost use Rattle.partial_state.specs.declared.stack.TableWork.{TableWork};
+ghost use Rattle.level_validate.specs.Completing.{Completes, IsInnerFull, count_for};
 ghost use Rattle.level_validate.specs.Giving.{MayGiveBack};
+ghost use Rattle.level_validate.specs.Tables.{IsReady, IsStanding, StandsOn};
 
+use crate::words::live_kind;
 use frame_types::drop_type;
 use frame_words::put_ref;
+use kind_words::leave;
+use partial_state::{Stack, TableWork, level_type};
+use table_words::record_entry;
 use xp_board::Port;
+
+/// Makes the only table in work live, of which all entries are recorded. A typed reference to it is in hand.
+pub(crate) fn complete_outer<P: Port>(port: &mut P, table: TableWork)
+    requires may { MayWork (P.value port.old) }
+    requires stands { (owner : ℕ) × IsStanding (P.value port.old) owner (table ∷ []) }
+    requires ready { IsReady (P.value port.old) }
+    requires full { table.done ≡ 512 }
+    ensures came { Came (P.value port.old) (P.value port.new) }
+    ensures hand { Completes (P.value port.old) (P.value port.new) table }
+{
+    make_live(port, table);
+}
+
+/// Makes the innermost table live, of which all entries are recorded, and which is not the only one. The entry that names it is recorded; or,
+/// where it was recorded before, the reference in hand is given back.
+pub(crate) fn complete_inner<P: Port>(port: &mut P, stack: &mut Stack)
+    requires may { MayWork (P.value port.old) }
+    requires stands { (owner : ℕ) × IsStanding (P.value port.old) owner stack.old }
+    requires ready { IsReady (P.value port.old) }
+    requires full { IsInnerFull stack.old }
+    ensures came { Came (P.value port.old) (P.value port.new) }
+    ensures stands { (owner : ℕ) → StandsOn (P.value port.old) (P.value port.new) owner stack.old stack.new }
+    ensures popped { stack.new ≡ drop 1 stack.old }
+    ensures ready { IsReady (P.value port.new) }
+{
+    if let Some(table) = stack.pop() {
+        if let Some(outer) = stack.top() {
+            complete_in(port, table, outer);
+        } else {
+            unreachable!()
+        }
+    } else {
+        unreachable!()
+    }
+}
+
+// The same by the two innermost tables.
+fn complete_in<P: Port>(port: &mut P, table: TableWork, outer: TableWork)
+    requires may { MayWork (P.value port.old) }
+    requires stands { (owner : ℕ) × (us : List TableWork) × IsStanding (P.value port.old) owner (table ∷ outer ∷ us) }
+    requires ready { IsReady (P.value port.old) }
+    requires full { table.done ≡ 512 }
+    ensures came { Came (P.value port.old) (P.value port.new) }
+    ensures stands { (owner : ℕ) (us : List TableWork) → StandsOn (P.value port.old) (P.value port.new) owner (table ∷ outer ∷ us) (outer ∷ us) }
+    ensures ready { IsReady (P.value port.new) }
+{
+    make_live(port, table);
+    if table.recorded {
+        give_back(port, table.frame);
+    } else {
+        record_entry(port, outer.frame, outer.done);
+    }
+}
+
+// The innermost table is live then, with its type count in hand, or with a second one beside another holder's.
+fn make_live<P: Port>(port: &mut P, table: TableWork) -> u64
+    requires frame { table.frame < (P.value port.old).post.machine.frames }
+    requires may { MayWork (P.value port.old) }
+    requires leaves { MayLeave (P.value port.old) table.frame (live_kind (level_type table.level) (count_for table.own)) }
+    ensures moves { Moves (P.value port.old) (P.value port.new) (Kind table.frame) (Store (kind_write (live_kind (level_type table.level) (count_for table.own)))) kinds.Kind None result }
+    ensures hand { Holds (P.value port.old) (P.value port.new) (left (P.value port.old) table.frame (live_kind (level_type table.level) (count_for table.own))) }
+{
+    let number = if table.own { 1 } else { 2 };
+    let live = live_kind(level_type(table.level), number);
+    leave(port, table.frame, live)
+}
 
 /// Gives a typed reference in hand back, of a frame that is known live and whose type an entry of a table in work has too: so it is not
 /// the last one.

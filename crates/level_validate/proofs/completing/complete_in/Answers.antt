@@ -1,0 +1,152 @@
+use Rattle.std.proofs.Common.{◌≡◌, ◌∷◌, ◌<◌, true, false, None, refl, sym, ap, subst}
+use Rattle.xp_board.specs.Told.{Post}
+use Rattle.step_maker.specs.Moves.{Came}
+use Rattle.step_maker.proofs.Coming.{came_post, came_trans, moves_came}
+use Rattle.level_validate.proofs.Completed.{live_hand, live_leaves}
+use Rattle.level_validate.proofs.LeavingTables.{top_inside}
+use Rattle.level_validate.proofs.Nested.{live_gives, live_records, new_ready, new_stands, old_ready, old_stands}
+use Rattle.level_validate.proofs.completing.complete_in.Goals as goal
+
+pub make_live-requires-clause-frame : goal.make_live-requires-clause-frame
+make_live-requires-clause-frame g c =
+    let w = g.P.Port.value c.args.port.now in
+    let t = c.args.table in
+    let u = c.args.outer in
+    let a = c.requires.stands in
+    let owner = a.0 in
+    let us = a.1 in
+    let v = a.2.0 in
+    let s = a.2.1 in
+    top_inside v w owner t (u ∷ us) s
+
+pub make_live-requires-clause-leaves : goal.make_live-requires-clause-leaves
+make_live-requires-clause-leaves g c =
+    let w = g.P.Port.value c.args.port.now in
+    let t = c.args.table in
+    let u = c.args.outer in
+    let a = c.requires.stands in
+    let owner = a.0 in
+    let us = a.1 in
+    let v = a.2.0 in
+    let s = a.2.1 in
+    live_leaves v w owner t (u ∷ us) s c.requires.full c.requires.ready t.own refl c.requires.may
+
+pub give_back-requires-clause-frame : goal.give_back-requires-clause-frame
+give_back-requires-clause-frame g c =
+    let w = g.P.Port.value c.args.port.now in
+    let t = c.args.table in
+    let u = c.args.outer in
+    let a = c.requires.stands in
+    let owner = a.0 in
+    let us = a.1 in
+    let v = a.2.0 in
+    let s = a.2.1 in
+    let d = g.P.Port.value c.make_live.new.port in
+    let came_d = moves_came w d _ _ _ _ c.make_live.result c.make_live.ensures.moves in
+    subst (λ (p : Post). t.frame < p.machine.frames) (sym (came_post w d came_d)) (top_inside v w owner t (u ∷ us) s)
+
+pub give_back-requires-clause-gives : goal.give_back-requires-clause-gives
+give_back-requires-clause-gives g c =
+    let w = g.P.Port.value c.args.port.now in
+    let t = c.args.table in
+    let u = c.args.outer in
+    let a = c.requires.stands in
+    let owner = a.0 in
+    let us = a.1 in
+    let v = a.2.0 in
+    let s = a.2.1 in
+    let d = g.P.Port.value c.make_live.new.port in
+    let came_d = moves_came w d _ _ _ _ c.make_live.result c.make_live.ensures.moves in
+    let l = live_hand v w owner t (u ∷ us) s t.own refl d c.make_live.ensures.hand in
+    live_gives v w owner t u us s d c.make_live.result c.make_live.ensures.moves l c.if-table.true
+
+pub record_entry-requires : goal.record_entry-requires
+record_entry-requires g c =
+    let w = g.P.Port.value c.args.port.now in
+    let t = c.args.table in
+    let u = c.args.outer in
+    let a = c.requires.stands in
+    let owner = a.0 in
+    let us = a.1 in
+    let v = a.2.0 in
+    let s = a.2.1 in
+    let d = g.P.Port.value c.make_live.new.port in
+    let came_d = moves_came w d _ _ _ _ c.make_live.result c.make_live.ensures.moves in
+    let l = live_hand v w owner t (u ∷ us) s t.own refl d c.make_live.ensures.hand in
+    live_records v w owner t u us s d c.make_live.result c.make_live.ensures.moves l c.if-table.false
+
+pub returns-then-table-clause-came : goal.returns-then-table-clause-came
+returns-then-table-clause-came g c =
+    let w = g.P.Port.value c.args.port.now in
+    let t = c.args.table in
+    let u = c.args.outer in
+    let d = g.P.Port.value c.make_live.new.port in
+    let came_d = moves_came w d _ _ _ _ c.make_live.result c.make_live.ensures.moves in
+    let x = g.P.Port.value c.give_back.new.port in
+    came_trans w d x came_d c.give_back.ensures.came
+
+pub returns-then-table-clause-stands : goal.returns-then-table-clause-stands
+returns-then-table-clause-stands g c owner us v s =
+    let w = g.P.Port.value c.args.port.now in
+    let t = c.args.table in
+    let u = c.args.outer in
+    let d = g.P.Port.value c.make_live.new.port in
+    let came_d = moves_came w d _ _ _ _ c.make_live.result c.make_live.ensures.moves in
+    let x = g.P.Port.value c.give_back.new.port in
+    let l = live_hand v w owner t (u ∷ us) s t.own refl d c.make_live.ensures.hand in
+    let b = c.requires.stands in
+    old_stands v w owner t u us s d c.make_live.result c.make_live.ensures.moves l c.if-table.true (live_leaves b.2.0 w b.0 t (u ∷ b.1) b.2.1 c.requires.full c.requires.ready t.own refl c.requires.may).is x c.give_back.ensures.hand c.give_back.ensures.came
+
+pub returns-then-table-clause-ready : goal.returns-then-table-clause-ready
+returns-then-table-clause-ready g c =
+    let w = g.P.Port.value c.args.port.now in
+    let t = c.args.table in
+    let u = c.args.outer in
+    let a = c.requires.stands in
+    let owner = a.0 in
+    let us = a.1 in
+    let v = a.2.0 in
+    let s = a.2.1 in
+    let d = g.P.Port.value c.make_live.new.port in
+    let came_d = moves_came w d _ _ _ _ c.make_live.result c.make_live.ensures.moves in
+    let x = g.P.Port.value c.give_back.new.port in
+    let l = live_hand v w owner t (u ∷ us) s t.own refl d c.make_live.ensures.hand in
+    let b = c.requires.stands in
+    old_ready v w owner t u us s d c.make_live.result c.make_live.ensures.moves l c.if-table.true (live_leaves b.2.0 w b.0 t (u ∷ b.1) b.2.1 c.requires.full c.requires.ready t.own refl c.requires.may).is x c.give_back.ensures.hand c.give_back.ensures.came
+
+pub returns-else-table-clause-came : goal.returns-else-table-clause-came
+returns-else-table-clause-came g c =
+    let w = g.P.Port.value c.args.port.now in
+    let t = c.args.table in
+    let u = c.args.outer in
+    let d = g.P.Port.value c.make_live.new.port in
+    let came_d = moves_came w d _ _ _ _ c.make_live.result c.make_live.ensures.moves in
+    let x = g.P.Port.value c.record_entry.new.port in
+    came_trans w d x came_d (moves_came d x _ _ _ _ c.record_entry.result c.record_entry.ensures.moves)
+
+pub returns-else-table-clause-stands : goal.returns-else-table-clause-stands
+returns-else-table-clause-stands g c owner us v s =
+    let w = g.P.Port.value c.args.port.now in
+    let t = c.args.table in
+    let u = c.args.outer in
+    let d = g.P.Port.value c.make_live.new.port in
+    let came_d = moves_came w d _ _ _ _ c.make_live.result c.make_live.ensures.moves in
+    let x = g.P.Port.value c.record_entry.new.port in
+    let l = live_hand v w owner t (u ∷ us) s t.own refl d c.make_live.ensures.hand in
+    new_stands v w owner t u us s d c.make_live.result c.make_live.ensures.moves l c.if-table.false x c.record_entry.ensures.hand (came_trans w d x came_d (moves_came d x _ _ _ _ c.record_entry.result c.record_entry.ensures.moves))
+
+pub returns-else-table-clause-ready : goal.returns-else-table-clause-ready
+returns-else-table-clause-ready g c =
+    let w = g.P.Port.value c.args.port.now in
+    let t = c.args.table in
+    let u = c.args.outer in
+    let a = c.requires.stands in
+    let owner = a.0 in
+    let us = a.1 in
+    let v = a.2.0 in
+    let s = a.2.1 in
+    let d = g.P.Port.value c.make_live.new.port in
+    let came_d = moves_came w d _ _ _ _ c.make_live.result c.make_live.ensures.moves in
+    let x = g.P.Port.value c.record_entry.new.port in
+    let l = live_hand v w owner t (u ∷ us) s t.own refl d c.make_live.ensures.hand in
+    new_ready v w owner t u us s d c.make_live.result c.make_live.ensures.moves l c.if-table.false x c.record_entry.ensures.hand (came_trans w d x came_d (moves_came d x _ _ _ _ c.record_entry.result c.record_entry.ensures.moves))

@@ -1,0 +1,21 @@
+use Rattle.std.proofs.Common.{◌∷◌, [], refl}
+use Rattle.step_maker.proofs.Coming.{moves_came}
+use Rattle.level_validate.proofs.Completed.{live_hand, live_leaves, outer_live}
+use Rattle.level_validate.proofs.LeavingTables.{top_inside}
+use Rattle.level_validate.proofs.completing.complete_outer.Goals as goal
+
+pub make_live-requires-clause-frame : goal.make_live-requires-clause-frame
+make_live-requires-clause-frame g c = let a = c.requires.stands in top_inside a.1.0 (g.P.Port.value c.args.port.now) a.0 c.args.table [] a.1.1
+
+pub make_live-requires-clause-leaves : goal.make_live-requires-clause-leaves
+make_live-requires-clause-leaves g c =
+    let a = c.requires.stands in live_leaves a.1.0 (g.P.Port.value c.args.port.now) a.0 c.args.table [] a.1.1 c.requires.full c.requires.ready c.args.table.own refl c.requires.may
+
+pub returns-clause-came : goal.returns-clause-came
+returns-clause-came g c = moves_came (g.P.Port.value c.args.port.now) (g.P.Port.value c.make_live.new.port) _ _ _ _ c.make_live.result c.make_live.ensures.moves
+
+pub returns-clause-hand : goal.returns-clause-hand
+returns-clause-hand g c v owner s =
+    let w = g.P.Port.value c.args.port.now in
+    let d = g.P.Port.value c.make_live.new.port in
+    outer_live v w d owner c.args.table s (live_hand v w owner c.args.table [] s c.args.table.own refl d c.make_live.ensures.hand)
