@@ -25,7 +25,8 @@ use Rattle.frame_types.specs.Taking.{progress_of}
 use Rattle.frame_types.specs.declared.standing.Standing.{Standing}
 use Rattle.frame_types.specs.declared.standing.Standing.TheVariants as stands
 use Rattle.frame_types.specs.declared.taking.Taken.TheVariants.{InWork}
-use Rattle.table_entries.specs.Found.{EntersBy, EntersFound, LastFound, ResumesBy, ResumesFound, TypeAsked, TypedAgain, TypedFound, had, lost, other, refused, settled}
+use Rattle.frame_words.specs.Refs.{TakesFirst, had, lost, refused}
+use Rattle.table_entries.specs.Found.{EntersBy, EntersFound, LastFound, ResumesBy, ResumesFound, TypedAgain, TypedFound, other, settled}
 use Rattle.table_entries.specs.declared.entries.Entered.TheVariants.{Opened}
 use Rattle.table_entries.specs.declared.resuming.Resumed.TheVariants as again
 use Rattle.table_entries.proofs.HandLists.{asks_below}
@@ -76,7 +77,7 @@ came_open v w g want progress own cs takes =
 
 -- ---- the next entry
 module _ (v w : PortValue) (f i : ℕ) (t : PageType) (owner g progress : ℕ) (own : Bool) where
-  opened_asked : (h : ℕ) (want : PageType) → want ≡ below t → TypeAsked v w h owner (λ gs. TypedFound v w h want (Ok (Opened g progress own)) gs) (Ok (Opened g progress own)) → CameOpen v g (below t) progress
+  opened_asked : (h : ℕ) (want : PageType) → want ≡ below t → TakesFirst v w h owner (λ gs. TypedFound v w h want (Ok (Opened g progress own)) gs) (Ok (Opened g progress own)) → CameOpen v g (below t) progress
   opened_asked h want is (refused r answer why none) = absurd cc
   opened_asked h want is (lost place expected found answer none) = absurd cc
   opened_asked h want is (had x y referred found) =
@@ -93,7 +94,7 @@ module _ (v w : PortValue) (f i : ℕ) (t : PageType) (owner g progress : ℕ) (
 
 -- ---- the last recorded one again
 module _ (v w : PortValue) (f i : ℕ) (t : PageType) (owner g progress : ℕ) (own : Bool) where
-  again_asked : (h : ℕ) (want : PageType) → want ≡ below t → TypeAsked v w h owner (λ gs. TypedAgain v w h want (Ok (again.Opened g progress own)) gs) (Ok (again.Opened g progress own)) → CameOpen v g (below t) progress
+  again_asked : (h : ℕ) (want : PageType) → want ≡ below t → TakesFirst v w h owner (λ gs. TypedAgain v w h want (Ok (again.Opened g progress own)) gs) (Ok (again.Opened g progress own)) → CameOpen v g (below t) progress
   again_asked h want is (refused r answer why none) = absurd cc
   again_asked h want is (lost place expected found answer none) = absurd cc
   again_asked h want is (had x y referred found) =

@@ -17,12 +17,12 @@ use Rattle.xp_board.specs.After.{learned_cell}
 use Rattle.xp_board.specs.Told.{PortValue}
 use Rattle.step_maker.specs.Holds.{FlushedHolds, quiet}
 use Rattle.flush_waits.specs.Waiting.{IsWait}
-use Rattle.frame_words.specs.Refs.{took}
+use Rattle.frame_words.specs.Refs.{TakesFirst, had, lost, refused, took}
 use Rattle.kind_words.proofs.Leaving.{without_newest}
 use Rattle.frame_types.specs.Leaving.{GivesBack, IsWaiting, WaitsFrom}
 use Rattle.frame_types.specs.Taking.{working}
 use Rattle.table_entries.specs.Asking.{IsEntryStop}
-use Rattle.table_entries.specs.Found.{LastFound, ResumesBy, ResumesFound, TypeAsked, TypedAgain, had, lost, other, refused, settled}
+use Rattle.table_entries.specs.Found.{LastFound, ResumesBy, ResumesFound, TypedAgain, other, settled}
 use Rattle.table_entries.specs.Tops.{LookedAnd, Opens, as_it_was}
 use Rattle.table_entries.specs.declared.resuming.Resumed.TheVariants as again
 use Rattle.table_entries.proofs.HandLists.{asks_some}
@@ -38,7 +38,7 @@ wait_stops _ wait = absurd wait
 -- ---- the frame is one of the machine's
 module _ (v w : PortValue) (f i : ℕ) (t : PageType) (owner g : ℕ) where
   module _ (own : Bool) (stamp : ℕ) (stop : Stop) where
-    waited_asked : (h : ℕ) (want : PageType) → TypeAsked v w h owner (λ gs. TypedAgain v w h want (Ok (again.Waiting g own stamp stop)) gs) (Ok (again.Waiting g own stamp stop)) → g < v.post.machine.frames
+    waited_asked : (h : ℕ) (want : PageType) → TakesFirst v w h owner (λ gs. TypedAgain v w h want (Ok (again.Waiting g own stamp stop)) gs) (Ok (again.Waiting g own stamp stop)) → g < v.post.machine.frames
     waited_asked h want (refused r answer why none) = absurd cc
     waited_asked h want (lost place expected found answer none) = absurd cc
     waited_asked h want (had x y referred found) = subst (λ j. j < v.post.machine.frames) (sym found.0) (kind_inside v w h found.1.takes.word found.1.takes.found)
@@ -56,7 +56,7 @@ module _ (v w : PortValue) (f i : ℕ) (t : PageType) (owner g : ℕ) where
     pub waited_found : ResumesFound v w f i t owner (Ok (again.Waiting g own stamp stop)) → g < v.post.machine.frames
     waited_found e = waited_by (demand_at t i e.word) e.way
 
-  taken_asked : (h : ℕ) (want : PageType) → TypeAsked v w h owner (λ gs. TypedAgain v w h want (Ok (again.Taken g)) gs) (Ok (again.Taken g)) → g < v.post.machine.frames
+  taken_asked : (h : ℕ) (want : PageType) → TakesFirst v w h owner (λ gs. TypedAgain v w h want (Ok (again.Taken g)) gs) (Ok (again.Taken g)) → g < v.post.machine.frames
   taken_asked h want (refused r answer why none) = absurd cc
   taken_asked h want (lost place expected found answer none) = absurd cc
   taken_asked h want (had x y referred found) = subst (λ j. j < v.post.machine.frames) (sym found.0) (kind_inside v w h found.1.takes.word found.1.takes.found)
