@@ -27,7 +27,8 @@ use Rattle.flush_waits.proofs.Growing.{came_grows, known_knows, marked_later, ma
 use Rattle.flush_waits.proofs.Chaining.{looks_after}
 use Rattle.flush_waits.proofs.Looking.{look_barred, look_late}
 use Rattle.flush_waits.proofs.Marked.{same_frame, work_past}
-use Rattle.flush_waits.proofs.Pieces.{asked_more, clears_ask, clears_look, clears_nothing, clears_then, found_more, moves_did, moves_found, reach_more}
+use Rattle.answer_fits.proofs.Changing.{moves_did, moves_found}
+use Rattle.flush_waits.proofs.Pieces.{asked_more, clears_ask, clears_look, clears_nothing, clears_then, found_more, reach_more}
 
 -- ---- whether it is concerned
 pub weighs_looked : (v w : PortValue) (a : Awaiting) (k d x : ℕ) → d ≡ domain_of v.post.machine k → d ≢ a.owner → Moves v w (Priv d) Load kinds.Look None x → Same v w → (b : Bool) → b ≡ has_ever a.owner x → Weighs v w a k b

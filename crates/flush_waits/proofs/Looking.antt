@@ -27,7 +27,8 @@ use Rattle.flush_waits.specs.Clearing.{Looks}
 use Rattle.flush_waits.specs.Waiting.{IsMarked}
 use Rattle.flush_waits.proofs.Growing.{known_knows, owner_later, same_flushed}
 use Rattle.flush_waits.proofs.Marked.{same_frame, stamp_is, work_past}
-use Rattle.flush_waits.proofs.Pieces.{clears_look, moves_found}
+use Rattle.answer_fits.proofs.Changing.{moves_found}
+use Rattle.flush_waits.proofs.Pieces.{clears_look}
 
 idle_word : (w : ℕ) → w ≢ 0 → nat_lt w 3 ≡ true → is_idle w ≡ true
 idle_word w some low = grind (arith, nat_tests)

@@ -1,5 +1,5 @@
 -- Steps of a wait, one behind the other: whatever awaits the stamp they serve, and what they found stays found.
-use Rattle.std.proofs.Common.{ℕ, Option, Some, None, refl, sym, ◌∙◌, subst, inl, inr}
+use Rattle.std.proofs.Common.{ℕ, [], Option, Some, None, refl, sym, ◌∙◌, subst, inl, inr}
 use Rattle.xp_words.specs.Machine.{Machine}
 use Rattle.xp_words.specs.declared.place.Place.{Place}
 use Rattle.xp_words.specs.Places.{asked_of, flushed_of}
@@ -12,16 +12,17 @@ use Rattle.xp_board.specs.Told.{Post, PortValue, told_word}
 use Rattle.board_lemmas.proofs.PlaceTests.{same_or_other}
 use Rattle.step_maker.specs.Holds.{Same}
 use Rattle.step_maker.specs.Moves.{Came, Met, Moment, Moves}
-use Rattle.step_maker.proofs.Coming.{came_post, came_self, came_trans, met_after, met_before, moment_of, moves_came, moves_met}
+use Rattle.step_maker.proofs.Coming.{came_post, came_self, came_trans, met_after, met_before, moves_came}
 use Rattle.step_maker.proofs.Telling.{came_telling, load_tells, told_elsewhere}
 use Rattle.answer_fits.specs.Asked.{Request, of_back, Within}
-use Rattle.answer_fits.specs.Finding.{Did, Finding, FoundAt}
+use Rattle.answer_fits.specs.Finding.{Finding, FoundAt}
 use Rattle.answer_fits.specs.Pauses.{AskedTo, Clear, idle, flushed, own, barred}
 use Rattle.answer_fits.specs.Reasons.{AwaitsStamp, LastAtMost, MayAskFor, MayReach, MayLook}
 use Rattle.answer_fits.specs.Twins.{Alike, IsAlike}
 use Rattle.answer_fits.proofs.Alikes.{alike_same, alike_trans, same_alike}
 use Rattle.answer_fits.proofs.Growing.{did, found}
-use Rattle.answer_fits.proofs.Piecing.{same_request, serves_came, serves_step}
+use Rattle.answer_fits.proofs.Piecing.{changes_nothing, changes_then, same_request, serves_came, serves_step}
+use Rattle.answer_fits.proofs.Changing.{changes_flush, changes_look}
 use Rattle.flush_words.proofs.FlushServes.{awaited_more}
 use Rattle.flush_waits.specs.declared.Awaiting.{Awaiting}
 use Rattle.flush_waits.specs.Clearing.{Clears}
@@ -49,16 +50,6 @@ module _ (F G : Finding) (more : (m : Moment) → F m → G m) where
   reach_more n s o u (inl a) = inl a
   reach_more n s o u (inr a) = inr (a.0, found_more n s _ a.0 a.1, a.2)
 
--- ---- what one step found and did
-module _ (v w : PortValue) (p : Place) (a : Act) (k : StepKind) (mark : Option Mark) (x : ℕ) (m : Moves v w p a k mark x) where
-  pub moves_found : FoundAt (Met v w) p x
-  unfolding moment_of
-  moves_found = record { moment = moment_of v p a k mark x; was = moves_met v w p a k mark x m; place = refl; word = refl }
-
-  pub moves_did : Did (Met v w) p a x
-  unfolding moment_of
-  moves_did = record { moment = moment_of v p a k mark x; was = moves_met v w p a k mark x m; place = refl; act = refl; word = refl }
-
 -- ---- what awaits the stamp, it awaits later
 pub awaited_later : (x v w : PortValue) (r : Request) (whose : Option ℕ) (stamp : ℕ) → Came v w → AwaitsStamp v.post.machine v.post.vcpu r (Met x v) whose stamp → AwaitsStamp w.post.machine w.post.vcpu r (Met x w) whose stamp
 awaited_later x v w r whose stamp came a =
@@ -72,13 +63,14 @@ alike_itself v = same_alike (told_word v) (told_word v) (λ q. refl)
 pub clears_nothing : (v : PortValue) (a : Awaiting) → Clears v v a
 unfolding ServesBehind
 clears_nothing v a =
-    record { came = came_self v; serves = λ x r ds before awaits. before; hand = refl; plain = λ tells. alike_itself v }
+    record { came = came_self v; changes = changes_nothing v; serves = λ x r ds before awaits. before; hand = refl; plain = λ tells. alike_itself v }
 
 pub clears_then : (v u w : PortValue) (a : Awaiting) → Clears v u a → Clears u w a → Clears v w a
 unfolding ServesBehind
 clears_then v u w a b c =
     record {
       came = came_trans v u w b.came c.came;
+      changes = changes_then v u w [] [] b.changes c.changes;
       serves = λ x r ds before awaits. c.serves x r ds (b.serves x r ds before awaits) (awaited_later x v u r (Some a.owner) a.stamp b.came awaits);
       hand = flushed_then v u w b.hand c.hand;
       plain = λ tells. alike_trans (told_word w) (told_word u) (told_word v) (c.plain (came_telling v u b.came ∙ tells)) (b.plain tells);
@@ -90,6 +82,7 @@ unfolding ServesBehind
 clears_look v w p x a free m same =
     record {
       came = moves_came v w p Load kinds.Look None x m;
+      changes = changes_look v v w [] p kinds.Look None (changes_nothing v) x m;
       serves = λ u r ds before awaits. serves_step u v w r ds p Load kinds.Look None x before m (free r);
       hand = same_flushed v w same;
       plain = λ tells. same_alike (told_word w) (told_word v) (load_tells v w p kinds.Look None x m tells);
@@ -112,6 +105,7 @@ clears_ask v u w k x a first reach last m same =
     let all = came_trans v u w first.came more in
     record {
       came = all;
+      changes = changes_flush v u w [] (asked_of k) kinds.Ask None first.changes (Max a.stamp) x refl m;
       serves = λ t r ds before awaits.
           let to = serves_came t v r ds before in
           let post = came_post t v to in

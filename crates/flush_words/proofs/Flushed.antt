@@ -29,6 +29,9 @@ use Rattle.xp_words.proofs.PlaceLaws.{place_back}
 use Rattle.step_maker.specs.Moves.{Moves, Moment, Came, Met}
 use Rattle.step_maker.proofs.Coming.{came_trans, came_self, came_post, moves_came, moves_by, moment_of, met_after}
 use Rattle.step_maker.proofs.Noting.{moves_steps, moves_since}
+use Rattle.answer_fits.specs.Answers.{Changes}
+use Rattle.answer_fits.proofs.Changing.{changes_flush, changes_look}
+use Rattle.answer_fits.proofs.Piecing.{changes_nothing}
 use Rattle.answer_fits.specs.Finding.{FoundAt, FoundWith, Did}
 use Rattle.answer_fits.specs.Asked.{Request}
 use Rattle.answer_fits.specs.Reasons.{AwaitsStamp}
@@ -73,6 +76,17 @@ flushed_came v w f =
 pub own_came : (v w : PortValue) (answer : Result (Unit {0}) Refusal) → FlushesOwn v w answer → Came v w
 own_came v w (Ok tt) f = flushed_came v w (own_flushed v w f)
 own_came v w (Err r) (spent m) = moves_came v w Clock Load kinds.Look None last_clock m
+
+-- and change only words of flushes
+flushed_changes : (v w : PortValue) → Flushed v w → Changes v w []
+flushed_changes v w f =
+    let one = changes_look v v f.loaded [] Clock kinds.Look None (changes_nothing v) f.clock f.look in
+    let two = changes_flush v f.loaded f.exchanged [] Clock kinds.Tick None one (Cas f.clock (f.clock + 1)) f.found refl f.tick in
+    changes_flush v f.exchanged w [] (flushed_of v.post.vcpu) kinds.Ack None two (Store f.to) f.before refl f.ack
+
+pub own_changes : (v w : PortValue) (answer : Result (Unit {0}) Refusal) → FlushesOwn v w answer → Changes v w []
+own_changes v w (Ok tt) f = flushed_changes v w (own_flushed v w f)
+own_changes v w (Err r) (spent m) = changes_look v v w [] Clock kinds.Look None (changes_nothing v) last_clock m
 
 module _ (v w : PortValue) (f : Flushed v w) where
   before_ack : Came v f.exchanged

@@ -26,13 +26,14 @@ use Rattle.board_lemmas.proofs.Works.{is_dying-mine}
 use Rattle.step_maker.specs.Holds.{Holds, Same, still}
 use Rattle.step_maker.specs.Moves.{Moves, Came, Met}
 use Rattle.step_maker.proofs.Noting.{moves_since, moves_keeps}
-use Rattle.step_maker.proofs.Coming.{moment_of, moves_met, moves_came, came_trans, met_before}
+use Rattle.step_maker.proofs.Coming.{moves_came, came_trans}
 use Rattle.answer_fits.specs.Answers.{Serves, deeds_by}
 use Rattle.answer_fits.specs.Asked.{of_back, IsAsked}
 use Rattle.answer_fits.specs.Finding.{Finding, FoundAt}
 use Rattle.answer_fits.specs.Reasons as reasons
 use Rattle.answer_fits.proofs.Piecing.{changes_nothing, changes_step, serves_step, moves_serves}
-use Rattle.frame_words.specs.Freeing.{IsEnding, IsEndingSince, raised_bit, made_free, refunded, left_free, gave, Frees, Puts, more, last}
+use Rattle.answer_fits.proofs.Changing.{found_before, moves_found}
+use Rattle.frame_words.specs.Freeing.{IsEnding, IsEndingSince, raised_bit, made_free, refunded, left_free, gave, Frees, freeing, Puts, more, last}
 use Rattle.frame_words.proofs.FreeSteps.{free_read}
 use Rattle.frame_words.proofs.Taking.{backs_itself}
 
@@ -148,7 +149,6 @@ module _ (v u : PortValue) (f w owner : ℕ) (allocated : Bool) (lower : Moves v
         ∙ ap (λ es. still (record v { holdings = record (gave f v.holdings) { ending = es } })) (without_newest (λ (e : Ending). e.frame) f (record { frame = f; owner = owner; since = length v.holdings.steps + 1 }) v.holdings.ending refl)
 
     pub puts_last : Serves v x (of_back f) []
-    unfolding moment_of
     puts_last =
         let r = of_back f in
         let asks : (F : Finding) → IsAsked v.post.machine v.post.vcpu (of_back f) F f = λ F. backs_itself v.post.machine v.post.vcpu f F in
@@ -158,12 +158,9 @@ module _ (v u : PortValue) (f w owner : ℕ) (allocated : Bool) (lower : Moves v
         let four = serves_step v frees.b frees.d r [] _ _ _ _ _ three frees.free (asks _, tt) in
         let after : Came u x = came_trans u frees.b x (came_trans u frees.a frees.b (moves_came _ _ _ _ _ _ _ frees.look) (moves_came _ _ _ _ _ _ _ frees.bit))
         (came_trans frees.b frees.d x (moves_came _ _ _ _ _ _ _ frees.free) (moves_came _ _ _ _ _ _ _ frees.pages)) in
-        let seen : FoundAt (Met v x) (Refs f) w = found_first after in
+        let seen : FoundAt (Met v x) (Refs f) w = found_before v u x (Refs f) w after (moves_found v u _ _ _ _ w lower) in
         serves_step v frees.d x r [] _ _ _ _ _ (subst (λ ds. Serves v frees.d r (ds ++ [])) (free_is_no_deed f frees.stamp frees.y frees.b.holdings (clock_low u frees.a frees.stamp frees.look)) four) frees.pages
         (reasons.found f w (asks _) seen owner_found, tt)
-      where
-        found_first : Came u x → FoundAt (Met v x) (Refs f) w
-        found_first after = record { moment = moment_of v (Refs f) (Add one_down) kinds.Ref None w; was = met_before v u x _ (moves_met v u _ _ _ _ _ lower) after; place = refl; word = refl }
 
     pub changes_last : Puts v x f
     changes_last =
@@ -171,10 +168,10 @@ module _ (v u : PortValue) (f w owner : ℕ) (allocated : Bool) (lower : Moves v
         let two = changes_step v u frees.a _ _ _ _ _ _ one frees.look in
         let three = changes_step v frees.a frees.b _ _ _ _ _ _ two frees.bit in
         let four = changes_step v frees.b frees.d _ _ _ _ _ _ three frees.free in
-        last owner frees.stamp (changes_step v frees.d x _ _ _ _ _ _ four frees.pages)
+        record { list = freeing f owner frees.stamp; put = last owner frees.stamp; changed = changes_step v frees.d x _ _ _ _ _ _ four frees.pages }
 
 pub changes_more : (v u : PortValue) (f w : ℕ) → Moves v u (Refs f) (Add one_down) kinds.Ref None w → Puts v u f
-changes_more v u f w lower = more (changes_step v v u [] _ _ _ _ _ (changes_nothing v) lower)
+changes_more v u f w lower = record { list = (Refs f, Add one_down) ∷ []; put = more; changed = changes_step v v u [] _ _ _ _ _ (changes_nothing v) lower }
 
 -- ---- not the last one
 pub puts_more : (v u : PortValue) (f w : ℕ) → Moves v u (Refs f) (Add one_down) kinds.Ref None w → Serves v u (of_back f) []

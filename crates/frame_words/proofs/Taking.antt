@@ -35,13 +35,14 @@ use Rattle.board_lemmas.proofs.PlaceTests.{equal_by}
 use Rattle.step_maker.specs.Holds.{Holds, Same, still}
 use Rattle.step_maker.specs.Moves.{Moves, Met, step_at}
 use Rattle.step_maker.proofs.Coming.{moment_of, moves_met, moves_came, met_before, met_after}
-use Rattle.answer_fits.specs.Answers.{Changes, Serves, Stops, Deed, Returns, Misses, missed_at, deeds_by, exchanged, only_if}
+use Rattle.answer_fits.specs.Answers.{Serves, Stops, Deed, Returns, Misses, missed_at, deeds_by, exchanged, only_if}
 use Rattle.answer_fits.specs.Asked.{Request, of_frame, of_back, IsFor, IsAsked, of, back, named}
-use Rattle.answer_fits.specs.Finding.{Finding, FoundAt, FoundWith}
+use Rattle.answer_fits.specs.Finding.{Finding, FoundWith}
 use Rattle.answer_fits.specs.Reasons.{Reason, IsRefChange}
-use Rattle.answer_fits.proofs.Piecing.{changes_nothing, changes_step, serves_step, moves_serves, no_more}
+use Rattle.answer_fits.proofs.Piecing.{serves_step, moves_serves, no_more}
+use Rattle.answer_fits.proofs.Changing.{moves_found}
 use Rattle.frame_words.specs.declared.rows.Open.{Open}
-use Rattle.frame_words.specs.Refs.{open_word, raised_word, IsOpen, took, MayPut, RefusesWord, Gets, no_change, one_change}
+use Rattle.frame_words.specs.Refs.{open_word, raised_word, IsOpen, took, MayPut, RefusesWord}
 
 -- ---- what a look at a reference word tells
 pub domain_known : (n : Machine) (s : ℕ) (h : Holdings) (f found owner count : ℕ) (allocated : Bool) → f < n.frames → Finds n s h (Refs f) found → ref_read found ≡ Some (Owned owner allocated count) →
@@ -99,17 +100,13 @@ unfolding Stops
 no_frame v f owner past = (names_itself _ _ f owner None _, past)
 
 module _ (v u : PortValue) (f owner word : ℕ) (look : Moves v u (Refs f) Load kinds.Look None word) where
-  found_word : FoundAt (Met v u) (Refs f) word
-  unfolding moment_of
-  found_word = record { moment = moment_of v (Refs f) Load kinds.Look None word; was = moves_met v u _ _ _ _ _ look; place = refl; word = refl }
-
   found_with : FoundWith (Met v u) (Refs f) word v.holdings
   unfolding moment_of
   found_with = record { moment = moment_of v (Refs f) Load kinds.Look None word; was = moves_met v u _ _ _ _ _ look; place = refl; word = refl; hand = refl }
 
   pub refused : (x : Refusal) → RefusesWord f owner v.post.machine.limit word x → Stops v u (of_frame f owner None) (Refused x)
   unfolding Stops
-  refused (WrongOwner g found) (is, at, why) = rw (is, at) (owner, None, named (when_eq f f refl) refl tt, found_word, inl why)
+  refused (WrongOwner g found) (is, at, why) = rw (is, at) (owner, None, named (when_eq f f refl) refl tt, moves_found v u _ _ _ _ word look, inl why)
   refused (CountFull g found) (is, at, why) = rw (is, at) (owner, None, v.holdings, named (when_eq f f refl) refl tt, found_with, why, no_more (of_frame f owner None) v.holdings f)
   refused _ why = absurd why
 
@@ -199,17 +196,3 @@ taken_gives v u w f found owner look same holds =
       held = rw refs (omega (arith, more));
       spares = λ closing. rw refs (let some = closing_by f v.holdings v.holdings.works agree (subst (λ (ws : List Work). IsTrue (is_closing_on (work_on f ws))) works closing) in omega (arith, more, some));
     }
-
--- ---- what it changes
-pub gets_nothing : (v : PortValue) (f : ℕ) → Gets v v f
-gets_nothing v f = no_change (changes_nothing v)
-
-module _ (v u : PortValue) (f word : ℕ) (look : Moves v u (Refs f) Load kinds.Look None word) where
-  looked_alone : Changes v u []
-  looked_alone = changes_step v v u [] _ _ _ _ _ (changes_nothing v) look
-
-  pub gets_look : Gets v u f
-  gets_look = no_change looked_alone
-
-  pub gets_exchange : (w : PortValue) (e x found : ℕ) → Moves u w (Refs f) (Cas e x) kinds.Ref None found → Gets v w f
-  gets_exchange w e x found raise = one_change e x (changes_step v u w [] _ _ _ _ _ looked_alone raise)

@@ -28,10 +28,10 @@ use Rattle.frame_words.specs.Refs.{open_word, raised_word, RefusesWord}
 use Rattle.frame_words.proofs.Putting.{clock_low}
 
 -- ---- a reference is taken
-inside : (f k : ℕ) → f < k → nat_lt f k ≡ true
+pub inside : (f k : ℕ) → f < k → nat_lt f k ≡ true
 inside f k h = grind (arith, nat_tests)
 
-outside : (f k : ℕ) → k ≤ f → nat_lt f k ≡ false
+pub outside : (f k : ℕ) → k ≤ f → nat_lt f k ≡ false
 outside f k h = grind (arith, nat_tests)
 
 full : (a b : ℕ) → a ≤ b → nat_le a b ≡ true
@@ -52,7 +52,7 @@ count_full limit owner f w (Some (Free stamp)) is = absurd is
 count_full limit owner f w (Some (Dying d)) is = absurd is
 count_full limit owner f w (Some (Owned d allocated count)) is = rw (when_eq d owner is.0, full limit count is.1) refl
 
-refused_by : (limit owner f w : ℕ) (x : Refusal) → RefusesWord f owner limit w x → refer_by limit owner f w (ref_read w) ≡ Some x
+pub refused_by : (limit owner f w : ℕ) (x : Refusal) → RefusesWord f owner limit w x → refer_by limit owner f w (ref_read w) ≡ Some x
 refused_by limit owner f w (WrongOwner g found) (is, at, why) = rw (is, at) (wrong_owner limit owner f w (ref_read w) why)
 refused_by limit owner f w (CountFull g found) (is, at, why) = rw (is, at) (count_full limit owner f w (ref_read w) why)
 refused_by limit owner f w _ why = absurd why
@@ -75,7 +75,7 @@ module _ (v u : PortValue) (f owner word : ℕ) (look : Moves v u (Refs f) Load 
         let on = moves_telling v u (Refs f) Load kinds.Look None word look ∙ telling in
         off (sym (told_there u w (Refs f) _ kinds.Ref None found raise on) ∙ load_tells v u (Refs f) kinds.Look None word look telling (Refs f) ∙ told_there v u (Refs f) Load kinds.Look None word look telling ∙ sym is)
 
-    refer_none : o.owner ≡ owner → o.count < v.post.machine.limit → refer_by v.post.machine.limit owner f word (ref_read word) ≡ None
+    pub refer_none : o.owner ≡ owner → o.count < v.post.machine.limit → refer_by v.post.machine.limit owner f word (ref_read word) ≡ None
     refer_none whose low = ap (refer_by v.post.machine.limit owner f word) read ∙ rw (when_eq o.owner owner whose, room v.post.machine.limit o.count low) refl
 
     cas_left : (y : ℕ) → y ≡ open_word o → left_by (Cas (open_word o) (raised_word o)) y ≡ raised_word o

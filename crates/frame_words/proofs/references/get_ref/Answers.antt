@@ -4,7 +4,8 @@ use Rattle.xp_words.specs.declared.place.Place.TheVariants.{Refs}
 use Rattle.xp_words.specs.Places.{number, sizes_of}
 use Rattle.answer_fits.proofs.Piecing.{serves_nothing}
 use Rattle.frame_words.specs.Refs.{RefusesWord}
-use Rattle.frame_words.proofs.Taking.{gets_nothing, gets_look, gets_exchange, no_frame, refused, looked, opened, taken, missed_there, lost, taken_gives, word_law}
+use Rattle.frame_words.proofs.Taking.{no_frame, refused, looked, opened, taken, missed_there, lost, taken_gives, word_law}
+use Rattle.frame_words.proofs.Getting.{gets_no_frame, gets_refused, gets_one, gets_lost}
 use Rattle.frame_words.proofs.Twinning.{twin_refused, twin_got, twin_lost}
 use Rattle.frame_words.proofs.references.get_ref.Goals as goal
 
@@ -84,13 +85,27 @@ returns-in-Err-raise_refs-clause-plain g c =
     (word_law _ _ c.args.f c.args.owner c.look_refs-found.result c.look_refs-found.ensures.moves c.in-Ok.open c.look_refs-found.type_inv c.in-Ok.ensures.reads).1 _ c.in-Err-raise_refs.ensures.moves c.in-Err-raise_refs.ensures.lost
 
 pub returns-then-f-frames-clause-gets : goal.returns-then-f-frames-clause-gets
-returns-then-f-frames-clause-gets g c = gets_nothing _ _
+returns-then-f-frames-clause-gets g c =
+    let frames = ap (λ (n : Machine). n.frames) (c.behind-port.view_is ∙ c.layout.ensures.layout) in
+    gets_no_frame _ c.args.f c.args.owner (subst (λ k. k ≤ c.args.f) (c.from-frames.ensures ∙ frames) c.if-f-frames.true)
 
 pub returns-in-Err-clause-gets : goal.returns-in-Err-clause-gets
-returns-in-Err-clause-gets g c = gets_look _ _ c.args.f c.look_refs-found.result c.look_refs-found.ensures.moves
+returns-in-Err-clause-gets g c =
+    let limit = ap (λ (n : Machine). n.limit) (c.behind-port-2.view_is ∙ c.layout-2.ensures.layout) in
+    let frames = ap (λ (n : Machine). n.frames) (c.behind-port.view_is ∙ c.layout.ensures.layout) in
+    gets_refused _ _ c.args.f c.args.owner c.look_refs-found.result c.look_refs-found.ensures.moves (subst (λ k. c.args.f < k) (c.from-frames.ensures ∙ frames) c.if-f-frames.false) c.in-Err.refusal
+    (subst (λ k. RefusesWord c.args.f c.args.owner k c.look_refs-found.result c.in-Err.refusal) limit c.in-Err.ensures.cause)
 
 pub returns-in-Ok-raise_refs-clause-gets : goal.returns-in-Ok-raise_refs-clause-gets
-returns-in-Ok-raise_refs-clause-gets g c = gets_exchange _ _ c.args.f c.look_refs-found.result c.look_refs-found.ensures.moves _ _ _ _ c.in-Ok-raise_refs.ensures.moves
+returns-in-Ok-raise_refs-clause-gets g c =
+    let limit = ap (λ (n : Machine). n.limit) (c.behind-port-2.view_is ∙ c.layout-2.ensures.layout) in
+    let frames = ap (λ (n : Machine). n.frames) (c.behind-port.view_is ∙ c.layout.ensures.layout) in
+    gets_one _ _ c.args.f c.args.owner c.look_refs-found.result c.look_refs-found.ensures.moves (subst (λ k. c.args.f < k) (c.from-frames.ensures ∙ frames) c.if-f-frames.false) _ c.in-Ok.open c.in-Ok.ensures.reads
+    (word_law _ _ c.args.f c.args.owner c.look_refs-found.result c.look_refs-found.ensures.moves c.in-Ok.open c.look_refs-found.type_inv c.in-Ok.ensures.reads).1 _ c.in-Ok-raise_refs.ensures.moves c.args.f refl c.in-Ok.ensures.owner
+    (subst (λ k. c.in-Ok.open.count < k) limit c.in-Ok.ensures.low)
 
 pub returns-in-Err-raise_refs-clause-gets : goal.returns-in-Err-raise_refs-clause-gets
-returns-in-Err-raise_refs-clause-gets g c = gets_exchange _ _ c.args.f c.look_refs-found.result c.look_refs-found.ensures.moves _ _ _ _ c.in-Err-raise_refs.ensures.moves
+returns-in-Err-raise_refs-clause-gets g c =
+    let frames = ap (λ (n : Machine). n.frames) (c.behind-port.view_is ∙ c.layout.ensures.layout) in
+    gets_lost _ _ c.args.f c.args.owner c.look_refs-found.result c.look_refs-found.ensures.moves (subst (λ k. c.args.f < k) (c.from-frames.ensures ∙ frames) c.if-f-frames.false) _ c.in-Ok.open c.in-Ok.ensures.reads
+    (word_law _ _ c.args.f c.args.owner c.look_refs-found.result c.look_refs-found.ensures.moves c.in-Ok.open c.look_refs-found.type_inv c.in-Ok.ensures.reads).1 _ c.in-Err-raise_refs.ensures.moves 0 0 0 c.in-Err-raise_refs.ensures.lost
