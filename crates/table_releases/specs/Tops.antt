@@ -73,7 +73,7 @@ pub record Opens (v w : PortValue) (f i : ℕ) (t : PageType) (g recorded : ℕ)
 -- shed, and what it asked given back; or its frame is to be released first
 abbrev pub LeavesReleased : PortValue → PortValue → ℕ → PageType → ℕ → Released → Type 0
 LeavesReleased v w f t i Given = (word : ℕ) × Holds v w (shed_once f i word v.holdings)
-LeavesReleased v w f t i (Opened g recorded closing) = Opens v w f t i g recorded closing
+LeavesReleased v w f t i (Opened g recorded closing) = Opens v w f i t g recorded closing
 
 -- only looked at
 abbrev pub StaysRecorded : PortValue → PortValue → ℕ → ℕ → Type 0

@@ -1,5 +1,5 @@
 //! The last recorded entry of a table, given back.
-ghost use Rattle.std.specs.Prelude.{◌≡◌, ◌+◌, ◌<◌, ℕ, [], Some, None, Ok, IfOk, IfErr, MatchResult, IsTrue, is_some};
+ghost use Rattle.std.specs.Prelude.{◌≡◌, ◌+◌, ◌<◌, ℕ, [], Some, None, Ok, true, IfOk, IfErr, MatchResult, IsTrue, is_some};
 ghost use Rattle.xp_words.specs.Entries.{below};
 ghost use Rattle.xp_words.specs.KindWords.{kind_read};
 ghost use Rattle.xp_words.specs.Places.{number, sizes_of};
