@@ -48,8 +48,8 @@ use Rattle.table_entries.specs.Tops.{with_recorded}
 use Rattle.table_entries.proofs.HandLists.{asks_below}
 use Rattle.table_words.specs.Entries.{entry_shed}
 use Rattle.table_words.proofs.Shedding.{shed_known}
-use Rattle.table_releases.specs.Between.{SeesKind}
-use Rattle.table_releases.specs.Tops.{Opens, shed_once}
+use Rattle.table_releases.specs.Between.{SeesKind, SeesTyped}
+use Rattle.table_releases.specs.Tops.{Opens, StaysRecorded, shed_once}
 use Rattle.table_releases.proofs.FrameSeen.{from_seen, kind_frame, kind_post, now_seen}
 use Rattle.table_releases.proofs.LastSeen.{SeenLast, finds_counts, finds_kind, finds_leads, seen_asks, seen_sheds}
 use Rattle.table_releases.proofs.Looking.{shed_typed}
@@ -239,3 +239,32 @@ module _ (b v : PortValue) (f i : ℕ) (t : PageType) (word g : ℕ) (want : Pag
             holding = record { untyped = λ on. (closed_ref, refl, refl); typed = λ off. absurd cc };
             hand = hand_behind z (λ rs. closed_ref ∷ rs) (λ ys. ys) (λ ws. closing ∷ shed_works ws) closed;
           }
+
+-- the vCPU may still work
+pub may_dropped : (v w : PortValue) (g : ℕ) (last : Bool) → DropsType v w g last → MayWork v → MayWork w
+may_dropped v w g last d m =
+    record {
+      running = by_run last d.hand ∙ m.running;
+      no_walk = by_walk last d.hand ∙ m.no_walk;
+      machine = subst (λ (p : Post). IsMachine p.machine) (sym (by_post last d.hand)) m.machine;
+    }
+  where
+    by_run : (b : Bool) → Holds v w (if b then closing_in g d.found v.holdings else uncounted g v.holdings) → w.holdings.run ≡ v.holdings.run
+    by_run true h = ap (λ (q : PortValue). q.holdings.run) h
+    by_run false h = ap (λ (q : PortValue). q.holdings.run) h
+
+    by_walk : (b : Bool) → Holds v w (if b then closing_in g d.found v.holdings else uncounted g v.holdings) → w.holdings.walk ≡ v.holdings.walk
+    by_walk true h = ap (λ (q : PortValue). q.holdings.walk) h
+    by_walk false h = ap (λ (q : PortValue). q.holdings.walk) h
+
+    by_post : (b : Bool) → Holds v w (if b then closing_in g d.found v.holdings else uncounted g v.holdings) → w.post ≡ v.post
+    by_post true h = ap (λ (q : PortValue). q.post) h
+    by_post false h = ap (λ (q : PortValue). q.post) h
+
+-- ---- a look at the kind word behind the one at the entry
+pub sees_kind : (b v u : PortValue) (f i : ℕ) (t : PageType) (word g : ℕ) (want : PageType) (x : ℕ) → SeesTyped b v f i t word g want → Moves v u (Kind g) Load kinds.Look None x → Same v u → SeesKind b u f i t word g want x
+sees_kind b v u f i t word g want x l look same = record { from = v; sees = l; look = look; same = same }
+
+-- nothing more was done
+pub stays_recorded : (b v : PortValue) (f i : ℕ) (t : PageType) (word g : ℕ) (want : PageType) (x : ℕ) → SeesKind b v f i t word g want x → StaysRecorded b v f i
+stays_recorded b v f i t word g want x l = (word, l.same ∙ l.sees.sees.hand)

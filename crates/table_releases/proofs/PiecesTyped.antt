@@ -13,6 +13,7 @@ use Rattle.xp_words.specs.declared.reply.Pause.TheVariants.{Busy, Lost}
 use Rattle.xp_words.specs.declared.reply.Stop.TheVariants.{Paused}
 use Rattle.xp_board.specs.declared.holdings.Holdings.{Holdings}
 use Rattle.xp_board.specs.declared.step.Act.TheVariants.{Cas, Load, Store}
+use Rattle.xp_board.specs.declared.step.Mark.TheVariants.{Shed}
 use Rattle.xp_board.specs.declared.step.StepKind.TheVariants as kinds
 use Rattle.xp_board.specs.Acts.{left_by}
 use Rattle.xp_board.specs.KindSteps.{resumed_kind}
@@ -24,19 +25,19 @@ use Rattle.board_lemmas.proofs.Sums.{when_eq, when_ne}
 use Rattle.step_maker.specs.Moves.{Came, Met, Moves}
 use Rattle.step_maker.proofs.Coming.{came_trans, met_after, met_before, moment_of, moves_came, moves_met}
 use Rattle.answer_fits.specs.Answers.{Misses, Serves, Stops, deeds_by, exchanged, missed_at, pin_deed}
-use Rattle.answer_fits.specs.Asked.{Asked, Passed}
+use Rattle.answer_fits.specs.Asked.{Asked, Passed, of_back}
 use Rattle.answer_fits.specs.Finding.{Finding, FoundWith}
 use Rattle.answer_fits.specs.Reasons.{MayType}
-use Rattle.answer_fits.proofs.Piecing.{serves_step}
+use Rattle.answer_fits.proofs.Piecing.{serves_step, serves_then}
 use Rattle.kind_words.proofs.KindFacts.{read_is}
 use Rattle.kind_words.proofs.KindWriting.{fields_write, resumed_is}
 use Rattle.flush_words.proofs.Lasting.{last_left}
 use Rattle.table_entries.specs.Asking.{of_entries}
-use Rattle.table_entries.proofs.PiecesTaking.{Goes, asks_still, goes_came, goes_kind}
+use Rattle.table_entries.proofs.PiecesTaking.{Goes, asks_still, goes_back, goes_came, goes_kind}
 use Rattle.table_releases.specs.Between.{Releases, SeesKind}
 use Rattle.table_releases.specs.declared.entries.Released.{Released}
 use Rattle.table_releases.proofs.FrameSeen.{found_elsewhere, found_kind, found_work, from_seen, kind_post, now_seen}
-use Rattle.table_releases.proofs.Pieces.{asks_typed, goes_step, look_goes, passed_by}
+use Rattle.table_releases.proofs.Pieces.{asks_typed, goes_shed_kind, goes_step, look_goes, passed_by}
 
 no_pin : (f : ℕ) (p : Bool) → pin_deed f p p ≡ []
 no_pin f true = refl
@@ -141,7 +142,7 @@ module _ (b v : PortValue) (f i : ℕ) (t : PageType) (word g : ℕ) (want : Pag
                 before = moment_of l.from (Kind g) Load kinds.Look None x;
                 exchange = moment_of v (Kind g) (Cas (kind_write k) (kind_write (resumed_kind k))) kinds.Kind None found;
                 new = kind_write (resumed_kind k);
-                was_before = met_before b v w _ found_there.was (moves_came v w (Kind g) (Cas (kind_write k) (kind_write (resumed_kind k))) kinds.Kind None found change);
+                was_before = met_before b v w _ (met_after b l.from v _ (goes_came b l.from f i owner pages [] from_goes) (moves_met l.from v (Kind g) Load kinds.Look None x l.look)) (moves_came v w (Kind g) (Cas (kind_write k) (kind_write (resumed_kind k))) kinds.Kind None found change);
                 was_exchange = met_after b v w _ (goes_came b v f i owner pages [] kind_goes) (moves_met v w (Kind g) (Cas (kind_write k) (kind_write (resumed_kind k))) kinds.Kind None found change);
                 place_before = refl;
                 place = refl;
@@ -156,3 +157,19 @@ module _ (b v : PortValue) (f i : ℕ) (t : PageType) (word g : ℕ) (want : Pag
           kinds = tt;
           looks = (goes_step b v w f i owner pages [] (Kind g) (Cas (kind_write k) (kind_write (resumed_kind k))) kinds.Kind None found _ kind_goes change (λ h j same. let y = same in cc) tried).looks;
         }
+
+  -- ---- it is live: shed by a look at it again, and its type count given back
+  module _ (w : PortValue) (upto y : ℕ) (look : Moves v w (Kind g) Load kinds.Look (Some (Shed f upto)) y) where
+    live_goes : Goes b w f i owner pages []
+    live_goes = goes_shed_kind b v w f i owner pages [] kind_goes f upto y g look
+
+    live_asks : Asked b.post.machine b.post.vcpu (of_entries owner pages) (Met b w) g owner (Some want)
+    live_asks = asks_still b v f i owner pages [] kind_goes w g (Some want) kind_asks (moves_came v w (Kind g) Load kinds.Look (Some (Shed f upto)) y look)
+
+    pub back_releases : (z : PortValue) (a : Released) → Serves w z (of_back g) [] → Releases b z f i owner pages (Ok a)
+    back_releases z a back =
+        let goes = goes_back b w f i owner pages [] live_goes z g (Some want) live_asks back in
+        record { serves = goes.serves; stops = tt; kinds = tt; looks = goes.looks }
+
+    pub two_back_releases : (z q : PortValue) (a : Released) → Serves w z (of_back g) [] → Serves z q (of_back g) [] → Releases b q f i owner pages (Ok a)
+    two_back_releases z q a one two = back_releases q a (serves_then w z q (of_back g) [] [] one two)

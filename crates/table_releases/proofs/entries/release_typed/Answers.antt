@@ -1,8 +1,36 @@
-use Rattle.std.proofs.Common.{sym, subst, ap, ◌∙◌}
+use Rattle.std.proofs.Common.{◌≡◌, true, sym, subst, ap, ◌∙◌, Ok, Err, refl}
+use Rattle.table_releases.specs.declared.entries.Released.{Released}
+use Rattle.table_releases.specs.Between.{SeesKind, SeesTyped}
+use Rattle.board_lemmas.proofs.KindForms.{fields_of}
+use Rattle.kind_words.proofs.KindFacts.{kind_is_some}
 use Rattle.table_releases.proofs.FrameSeen.{typed_frame}
+use Rattle.table_releases.proofs.Finding.{busy_found}
+use Rattle.table_releases.proofs.HandLive.{sees_kind, stays_recorded}
 use Rattle.table_releases.proofs.PiecesTyped.{busy_releases}
-use Rattle.table_releases.proofs.HandLive.{closed_opens}
 use Rattle.table_releases.proofs.entries.release_typed.Goals as goal
 
 pub look_kind-word-requires : goal.look_kind-word-requires
 look_kind-word-requires g c = let l = c.requires.seen in typed_frame l.0 (g.P.Port.value c.args.port.now) c.args.table c.args.index l.1 l.2 c.args.frame c.args.want l.3
+
+pub read_kind-kind-requires : goal.read_kind-kind-requires
+read_kind-kind-requires g c =
+    let l = c.requires.seen in
+    let v = g.P.Port.value c.args.port.now in
+    kind_is_some v.post.machine v.post.vcpu v.holdings c.args.frame c.look_kind-word.result (typed_frame l.0 v c.args.table c.args.index l.1 l.2 c.args.frame c.args.want l.3) c.look_kind-word.ensures.moves.finds
+
+pub release_live-requires-clause-seen : goal.release_live-requires-clause-seen
+release_live-requires-clause-seen g c =
+    let l = c.requires.seen in
+    let v = g.P.Port.value c.args.port.now in
+    let u = g.P.Port.value c.look_kind-word.new.port in (
+      c.look_kind-word.result,
+      (l.0, l.1, l.2, sees_kind l.0 v u c.args.table c.args.index l.1 l.2 c.args.frame c.args.want c.look_kind-word.result l.3 c.look_kind-word.ensures.moves c.look_kind-word.ensures.hand),
+      ap (λ k. k.validated) (fields_of c.look_kind-word.result c.read_kind-kind.result c.read_kind-kind.ensures) ∙ c.if-kind.true,
+    )
+
+pub release_partial-requires-clause-seen : goal.release_partial-requires-clause-seen
+release_partial-requires-clause-seen g c =
+    let l = c.requires.seen in
+    let v = g.P.Port.value c.args.port.now in
+    let u = g.P.Port.value c.look_kind-word.new.port in
+    (l.0, l.1, l.2, sees_kind l.0 v u c.args.table c.args.index l.1 l.2 c.args.frame c.args.want c.look_kind-word.result l.3 c.look_kind-word.ensures.moves c.look_kind-word.ensures.hand)
