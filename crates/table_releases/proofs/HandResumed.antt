@@ -88,7 +88,7 @@ module _ (b v : PortValue) (f i : ℕ) (t : PageType) (word g : ℕ) (want : Pag
   no_looking : r.from.holdings.looking ≡ []
   no_looking = ap (λ (q : PortValue). q.holdings.looking) r.sees.same ∙ ap (λ (q : PortValue). q.holdings.looking) r.sees.sees.sees.hand ∙ r.sees.sees.sees.looked
 
-  came_in : Holds r.from v (record r.from.holdings { works = new ∷ r.from.holdings.works })
+  pub came_in : Holds r.from v (record r.from.holdings { works = new ∷ r.from.holdings.works })
   came_in =
       r.hand ∙ ap (λ (h : Holdings). still (record r.from { holdings = h })) (resumed_unkept g k r.from.holdings (found_unkept b r.from f i t word g want r.found r.sees k r.read r.partial))
       ∙ ap (λ ys. still (record r.from { holdings = record r.from.holdings { looking = ys; works = new ∷ r.from.holdings.works } })) (looks_none g (kind_write (resumed_kind k)) r.from.holdings.looking no_looking)
@@ -118,7 +118,7 @@ module _ (b v : PortValue) (f i : ℕ) (t : PageType) (word g : ℕ) (want : Pag
 
   -- ---- shed
   module _ (w : PortValue) (shed : Holds v w (entry_shed f i v.holdings)) where
-    abbrev newest : TypedReference
+    abbrev pub newest : TypedReference
     newest = brought_as (is_none resumed_seen.work.unsettled) g want v.holdings
 
     abbrev shed_all : List Work → List Work
@@ -167,7 +167,7 @@ module _ (b v : PortValue) (f i : ℕ) (t : PageType) (word g : ℕ) (want : Pag
           settled = λ none. rw (when_eq k.progress 0 none) refl;
           earlier = omega (arith, one, two);
           after = record (shed_once f i word b.holdings) { typed = newest ∷ b.holdings.typed; works = new ∷ (shed_once f i word b.holdings).works };
-          holding = record { untyped = λ on. absurd cc; typed = λ off. (newest, refl, refl, refl) };
+          holding = record { untyped = λ on. absurd cc; typed = λ off. (newest, refl, ap (λ x. Some x) is, refl) };
           hand = hand_behind b r.from f i t word g want r.found r.sees w (λ rs. rs) (λ ys. newest ∷ ys) (λ ws. new ∷ shed_all ws) resumed_shed;
         }
       where

@@ -1,5 +1,5 @@
 -- Behind the exchange that brought a partial frame into the own works: the steps, and what they change.
-use Rattle.std.proofs.Common.{◌≡◌, ℕ, ◌+◌, ◌<◌, ◌&&◌, not, if◌then◌else◌, Bool, true, false, List, [], ◌∷◌, ◌++◌, Option, Some, None, IsTrue, Result, Ok, Err, refl, sym, ap, ◌∙◌, subst, arith, inl, inr, append-assoc}
+use Rattle.std.proofs.Common.{◌≡◌, ℕ, ◌+◌, ◌<◌, ◌&&◌, not, if◌then◌else◌, Bool, true, false, List, [], ◌∷◌, ◌++◌, Option, Some, None, IsTrue, Result, Ok, Err, refl, sym, ap, ◌∙◌, subst, arith, inl, inr, append_assoc}
 use Rattle.xp_words.specs.KindWords.{is_kind, kind_fields, kind_read, kind_write}
 use Rattle.xp_words.specs.PageTypes.{is_none, is_table}
 use Rattle.xp_words.specs.declared.kind.KindWord.{KindWord}
@@ -123,6 +123,6 @@ module _ (b v : PortValue) (f i : ℕ) (t : PageType) (word g : ℕ) (want : Pag
             put = puts.put;
             list = refl;
           },
-          subst (λ cs. Changes b z cs) (sym (append-assoc puts.list _ _)) (changes_then b d z _ puts.list two puts.changed),
+          subst (λ cs. Changes b z cs) (sym (append_assoc puts.list _ _)) (changes_then b d z _ puts.list two puts.changed),
         ),
       )

@@ -3,6 +3,7 @@ use Rattle.kind_words.specs.Kinds.{MayLeave, dead_kind, left}
 use Rattle.step_maker.specs.Holds.{Holds}
 use Rattle.table_releases.proofs.LastSeen.{seen_sheds}
 use Rattle.table_releases.proofs.HandResumed.{dead_given, dead_gives, dead_may, dead_works, new, new_in_work, new_kind, resumed_frame, resumed_opens, resumed_seen, shed_here, shed_may}
+use Rattle.table_releases.proofs.Owning.{resumed_owned}
 use Rattle.table_releases.proofs.PiecesResumed.{memory_found, memory_releases, table_found, table_releases}
 use Rattle.table_releases.specs.declared.entries.Released.TheVariants.{Given, Opened}
 use Rattle.xp_words.specs.KindWords.{kind_write}
@@ -100,3 +101,12 @@ returns-else-is_table-clause-found g c b t word r =
     let d = g.P.Port.value c.leave.new.port in
     memory_found b v c.args.table c.args.index t word c.args.frame c.args.want c.args.kind r w d (g.P.Port.value c.put_ref.new.port) c.shed_entry-clock.result c.leave.result c.shed_entry-clock.ensures.moves
     (subst (λ y. Moves w d (Kind c.args.frame) (Store (kind_write y)) kinds.Kind None c.leave.result) c.waiting_kind.ensures c.leave.ensures.moves) c.put_ref.ensures.puts (sym c.is_table.ensures ∙ c.if-is_table.false)
+
+pub returns-then-is_table-clause-hand : goal.returns-then-is_table-clause-hand
+returns-then-is_table-clause-hand g c b t word r =
+    let v = g.P.Port.value c.args.port.now in
+    let w = g.P.Port.value c.shed_by_owner.new.port in
+    let table = sym c.is_table.ensures ∙ c.if-is_table.true in (
+      resumed_opens b v c.args.table c.args.index t word c.args.frame c.args.want c.args.kind r w c.shed_by_owner.ensures.hand _ _ c.shed_by_owner.result c.shed_by_owner.ensures.moves table,
+      λ off owner knows. resumed_owned b v c.args.table c.args.index t word c.args.frame c.args.want c.args.kind r w c.shed_by_owner.result c.shed_by_owner.ensures.moves c.shed_by_owner.ensures.hand table owner knows,
+    )
