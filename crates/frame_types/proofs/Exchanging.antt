@@ -36,7 +36,7 @@ use Rattle.answer_fits.proofs.Piecing.{moves_serves, serves_step}
 use Rattle.kind_words.proofs.KindFacts.{types_beside, work_word}
 use Rattle.kind_words.proofs.KindWriting.{fields_write}
 use Rattle.flush_words.proofs.Lasting.{last_left}
-use Rattle.frame_types.specs.Taking.{Looked, IsOfOther}
+use Rattle.frame_types.specs.Taking.{Looked, LentBy, IsOfOther}
 use Rattle.frame_types.proofs.Classing.{IsInHand, IsOther, busy_unlocked}
 use Rattle.frame_types.proofs.Entering.{lent_held, lent_known}
 
@@ -116,8 +116,12 @@ no_pin f false q is = rw is refl
 
 module _ (b v w : PortValue) (f owner : ℕ) (want : PageType) (word : ℕ) (l : Looked b v f owner want word) (k new : KindWord) (is : IsTrue (is_kind k)) (next : IsTrue (is_kind new)) (kind : new.kind ≡ want)
     (pin : new.pinned ≡ k.pinned) (was : word ≡ kind_write k) (found : ℕ) (change : Moves v w (Kind f) (Cas (kind_write k) (kind_write new)) kinds.Kind None found) where
-  asks : (n : Machine) (s : ℕ) (F : Finding) → MayType n s (of_frame f owner (Some want)) F f (Cas (kind_write k) (kind_write new)) found
-  asks n s F = inl (owner, named (when_eq f f refl) refl (sym (ap (λ (y : KindWord). Some y.kind) (fields_write new next) ∙ ap (λ t. Some t) kind)))
+  -- the untyped reference is in hand still, so the owner was checked
+  lent_still : LentBy f owner v.holdings
+  lent_still = record { others = l.lent.others; refs = ap (λ (q : PortValue). q.holdings.refs) l.same ∙ l.lent.refs }
+
+  asks : (n : Machine) (s : ℕ) (F : Finding) → MayType n s (of_frame f owner (Some want)) F f (Cas (kind_write k) (kind_write new)) found v.holdings
+  asks n s F = inl (owner, named (when_eq f f refl) refl (sym (ap (λ (y : KindWord). Some y.kind) (fields_write new next) ∙ ap (λ t. Some t) kind)), checked (lent_known (sizes_of n) f owner v.holdings lent_still))
 
   tried : Serves b w (of_frame f owner (Some want)) (deeds_by (Kind f) (Cas (kind_write k) (kind_write new)) kinds.Kind found v.holdings ++ [])
   tried = serves_step b v w (of_frame f owner (Some want)) [] (Kind f) (Cas (kind_write k) (kind_write new)) kinds.Kind None found (looked b v f owner want word l) change (asks b.post.machine b.post.vcpu (Met b w))
@@ -161,6 +165,6 @@ module _ (b v w : PortValue) (f owner : ℕ) (want : PageType) (word : ℕ) (l :
         last = just_looked;
         other = λ e. off (e ∙ was);
       },
-      subst (λ y. MayType b.post.machine b.post.vcpu (of_frame f owner (Some want)) (Met b w) f (Cas y (kind_write new)) found) (sym was) (asks b.post.machine b.post.vcpu (Met b w)),
+      subst (λ y. MayType b.post.machine b.post.vcpu (of_frame f owner (Some want)) (Met b w) f (Cas y (kind_write new)) found v.holdings) (sym was) (asks b.post.machine b.post.vcpu (Met b w)),
     ),
   )

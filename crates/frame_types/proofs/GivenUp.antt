@@ -129,14 +129,14 @@ module _ (v u w : PortValue) (f stamp : ℕ) (own : Bool) (low : stamp < 2 ^ 36)
   after_wait (Paused _) wait plain leaves owned = absurd wait
 
 -- ---- where the type is not to be had
-no_clock : (f w x : ℕ) (s : Standing) → stop_by f Writable w s ≡ Some (Refused (refusals.Clock x)) → ⊥
+pub no_clock : (f w x : ℕ) (s : Standing) → stop_by f Writable w s ≡ Some (Refused (refusals.Clock x)) → ⊥
 no_clock f w x stands.Counted e = absurd cc
 no_clock f w x stands.Dead e = absurd cc
 no_clock f w x stands.Partial e = absurd cc
 no_clock f w x stands.Other e = absurd cc
 no_clock f w x stands.Busy e = absurd cc
 
-no_flush : (f w t s x : ℕ) (d : Standing) → stop_by f Writable w d ≡ Some (Paused (pauses.Flush t s x)) → ⊥
+pub no_flush : (f w t s x : ℕ) (d : Standing) → stop_by f Writable w d ≡ Some (Paused (pauses.Flush t s x)) → ⊥
 no_flush f w t s x stands.Counted e = absurd cc
 no_flush f w t s x stands.Dead e = absurd cc
 no_flush f w t s x stands.Partial e = absurd cc

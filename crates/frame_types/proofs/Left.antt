@@ -1,12 +1,11 @@
 -- The hand in which a frame waits, and the hand after it is left.
-use Rattle.std.proofs.Common.{◌≡◌, ℕ, ◌<◌, ◌^◌, ◌==◌, ◌||◌, not, Bool, true, false, List, ◌∷◌, Some, None, IsTrue, refl, sym, ap, ◌∙◌, subst, inl}
+use Rattle.std.proofs.Common.{◌≡◌, ℕ, ◌<◌, ◌^◌, ◌==◌, ◌||◌, not, Bool, true, false, ◌∷◌, Some, None, IsTrue, refl, sym, ap, ◌∙◌, subst, inl}
 use Rattle.xp_words.specs.declared.kind.PageType.{PageType}
 use Rattle.xp_words.specs.declared.place.Place.{Place}
 use Rattle.xp_words.specs.declared.place.Place.TheVariants.{Clock, Kind}
 use Rattle.xp_words.specs.KindWords.{is_kind, kind_write}
 use Rattle.xp_words.specs.PageTypes.{type_number}
-use Rattle.xp_words.specs.Places.{Sizes, sizes_of}
-use Rattle.xp_board.specs.declared.holdings.Holdings.{Holdings}
+use Rattle.xp_words.specs.Places.{sizes_of}
 use Rattle.xp_board.specs.declared.holdings.OwnerFound.{OwnerFound}
 use Rattle.xp_board.specs.declared.holdings.OwnerFound.TheVariants as owners
 use Rattle.xp_board.specs.declared.holdings.Reference.{Reference}
@@ -16,13 +15,11 @@ use Rattle.xp_board.specs.declared.step.Act.TheVariants.{Load, Store}
 use Rattle.xp_board.specs.declared.step.StepKind.TheVariants as kinds
 use Rattle.xp_board.specs.Acts.{left_by}
 use Rattle.xp_board.specs.Hands.{refs_to, typed_owner, typed_to, without_ref, without_typed, without_work, work_on}
-use Rattle.xp_board.specs.Knowledge.{knows_partial, passes, tells_partial}
-use Rattle.xp_board.specs.Lists.{some_of}
+use Rattle.xp_board.specs.Knowledge.{knows_partial}
 use Rattle.xp_board.specs.Readings.{is_partial_as}
 use Rattle.xp_board.specs.Told.{Finds, PortValue}
 use Rattle.xp_board.proofs.Returned.{same_type}
 use Rattle.board_lemmas.proofs.ListCounts.{newest_held}
-use Rattle.board_lemmas.proofs.Sums.{when_eq}
 use Rattle.step_maker.specs.Holds.{FlushedHolds, FlushedSame, Holds, Same, quiet}
 use Rattle.step_maker.specs.Moves.{Moves}
 use Rattle.frame_words.specs.Freeing.{gave}
@@ -32,16 +29,12 @@ use Rattle.kind_words.proofs.KindFacts.{clock_is_small, out_of_works}
 use Rattle.kind_words.proofs.KindHands.{apart_spares, clock_since, typed_held, work_here}
 use Rattle.kind_words.proofs.Leaving.{left_dead, left_partial, may_leave_dead, may_leave_marked, without_newest}
 use Rattle.kind_words.proofs.KindWriting.{fields_write}
-use Rattle.flush_words.proofs.Lasting.{last_left}
+use Rattle.kind_words.proofs.Knowing.{partial_by_step}
 use Rattle.frame_types.specs.Leaving.{StaysTyped, WaitsFrom, unsettled_typed}
 use Rattle.frame_types.specs.Taking.{working, working_typed}
 use Rattle.frame_types.proofs.Entering.{lent_held, typed_owned, working_works}
 
 -- ---- what is known partial
-partial_here : (z : Sizes) (f : ℕ) (t : PageType) (e : TypedReference) (xs : List TypedReference) (h : Holdings) → h.typed ≡ e ∷ xs → e.frame ≡ f → tells_partial z h.steps f t e.live ≡ true → IsTrue (knows_partial z f t h)
-unfolding knows_partial some_of
-partial_here z f t e xs h typed frame tells = rw (typed, when_eq e.frame f frame, tells) refl
-
 partial_as : (want : PageType) (n : ℕ) → IsTrue (is_kind (partial_kind want false true 0 n)) → is_partial_as want (kind_write (partial_kind want false true 0 n)) ≡ true
 partial_as want n is = rw (fields_write (partial_kind want false true 0 n) is) (same_type want)
 
@@ -127,8 +120,7 @@ module _ (b v : PortValue) (f owner : ℕ) (want : PageType) (stamp : ℕ) (w : 
     pub stays_known : (x : ℕ) → Moves v d (Kind f) (Store (kind_write (partial_kind want false true 0 n))) kinds.Kind None x → IsTrue (knows_partial (sizes_of v.post.machine) f want d.holdings)
     unfolding left_by
     stays_known x store =
-        let last = last_left v d (Kind f) (Store (kind_write (partial_kind want false true 0 n))) kinds.Kind None x store w.waits.works.since w.waits.works.taken in
-        partial_here (sizes_of v.post.machine) f want typed b.holdings.typed d.holdings stays_typed refl (ap (passes (is_partial_as want)) last ∙ partial_as want n is)
+        partial_by_step v d f want (Store (kind_write (partial_kind want false true 0 n))) kinds.Kind None x store typed b.holdings.typed w.waits.works.since stays_typed refl refl w.waits.works.taken (partial_as want n is)
 
   -- dead with its mark, and a clock value that was found then
   module _ (a : PortValue) (clock : ℕ) (look : Moves v a Clock Load kinds.Look None clock) (same : Same v a) where

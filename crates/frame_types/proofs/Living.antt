@@ -1,10 +1,9 @@
 -- A type that is counted: the steps found or left its frame live.
-use Rattle.std.proofs.Common.{◌≡◌, ℕ, ◌≤◌, true, Option, IsTrue, if◌then◌else◌, refl, sym, ap, ◌∙◌, subst, arith}
+use Rattle.std.proofs.Common.{◌≡◌, ℕ, true, Option, IsTrue, if◌then◌else◌, refl, sym, ap, ◌∙◌, subst, arith}
 use Rattle.xp_words.specs.KindWords.{is_kind, kind_write}
 use Rattle.xp_words.specs.Places.{sizes_of}
 use Rattle.xp_words.specs.declared.kind.KindWord.{KindWord}
 use Rattle.xp_words.specs.declared.place.Place.TheVariants.{Kind}
-use Rattle.xp_board.specs.declared.step.Act.{Act}
 use Rattle.xp_board.specs.declared.step.Act.TheVariants.{Cas, Store}
 use Rattle.xp_board.specs.declared.step.Mark.{Mark}
 use Rattle.xp_board.specs.declared.step.StepKind.{StepKind}

@@ -1,6 +1,7 @@
 -- Ordinary memory in the own works that waits for a flush which is not to be had.
-use Rattle.std.proofs.Common.{◌≡◌, ℕ, ◌<◌, Bool, true, false, Some, None, refl, sym, ap, ◌∙◌, subst}
+use Rattle.std.proofs.Common.{◌≡◌, ℕ, ◌<◌, Bool, true, false, [], Some, None, refl, sym, ap, ◌∙◌, subst}
 use Rattle.xp_words.specs.KindWords.{kind_write}
+use Rattle.xp_words.specs.Machine.{Machine}
 use Rattle.xp_words.specs.declared.kind.PageType.TheVariants.{Writable}
 use Rattle.xp_words.specs.declared.place.Place.TheVariants.{Kind}
 use Rattle.xp_words.specs.declared.reply.Pause.TheVariants as pauses
@@ -11,11 +12,13 @@ use Rattle.xp_board.specs.declared.step.Act.TheVariants.{Store}
 use Rattle.xp_board.specs.declared.step.StepKind.TheVariants as kinds
 use Rattle.xp_board.specs.declared.holdings.OwnerFound.TheVariants as owners
 use Rattle.xp_board.specs.Hands.{refs_to, work_on, without_work}
-use Rattle.xp_board.specs.Told.{PortValue, is_telling, told_word}
+use Rattle.xp_board.specs.Readings.{domain_of}
+use Rattle.xp_board.specs.Told.{Post, PortValue, is_telling, told_word}
 use Rattle.step_maker.specs.Holds.{FlushedHolds, Holds, Same, quiet}
-use Rattle.step_maker.specs.Moves.{Moves}
+use Rattle.step_maker.specs.Moves.{Came, Moves}
+use Rattle.step_maker.proofs.Coming.{came_post}
 use Rattle.step_maker.specs.Plain.{Leaves, Words}
-use Rattle.answer_fits.specs.Answers.{Stops}
+use Rattle.answer_fits.specs.Answers.{Serves, Stops, missed}
 use Rattle.answer_fits.specs.Asked.{of_frame}
 use Rattle.answer_fits.proofs.Piecing.{stops_before}
 use Rattle.flush_waits.specs.Waiting.{IsWait}
@@ -26,7 +29,7 @@ use Rattle.kind_words.proofs.KindHands.{apart_spares}
 use Rattle.kind_words.proofs.Leaving.{left_kept, may_keep, may_leave_marked}
 use Rattle.frame_types.specs.Leaving.{GivesBack, GivesUp, IsMemoryWaiting, IsWaiting, ServesType, WaitsFrom, WaitsIn}
 use Rattle.frame_types.specs.Plain.{left_waiting}
-use Rattle.frame_types.specs.Taking.{IsTypeStop, LentBy}
+use Rattle.frame_types.specs.Taking.{IsTypeStop, LentBy, WaitsWith}
 use Rattle.frame_types.proofs.Entering.{lent_held}
 use Rattle.frame_types.proofs.Left.{here, no_typed, no_works, own_held, own_owner}
 use Rattle.frame_types.proofs.Serving.{stored_words, type_came}
@@ -82,3 +85,18 @@ wait_kinds e x is wait = subst IsTypeStop (sym is) (by e wait)
     by (Paused (pauses.Flush vcpu stamp found)) a = tt
     by (Refused _) a = absurd a
     by (Paused _) a = absurd a
+
+none_missed : (n : Machine) (e : Stop) → IsWait e → missed n e ≡ []
+none_missed n (Refused x) a = refl
+none_missed n (Paused (pauses.Flush vcpu stamp found)) a = refl
+none_missed n (Paused _) a = absurd a
+
+pub wait_serves : (v u w : PortValue) (f owner : ℕ) (e x : Stop) → x ≡ e → IsWait e → Serves v u (of_frame f owner (Some Writable)) [] → ServesType u w f Writable →
+    Serves v w (of_frame f owner (Some Writable)) (missed v.post.machine x)
+wait_serves v u w f owner e x is wait before serves =
+    subst (λ ds. Serves v w (of_frame f owner (Some Writable)) ds) (sym (ap (λ y. missed v.post.machine y) is ∙ none_missed v.post.machine e wait)) (serves v owner [] before)
+
+pub wait_gives : (v u w : PortValue) (f owner stamp : ℕ) (own : Bool) → LentBy f owner v.holdings → owner ≡ domain_of v.post.machine v.post.vcpu → Came v u → WaitsWith v u f owner Writable own stamp → GivesUp u w f own stamp →
+    FlushedHolds v w (gave f v.holdings)
+wait_gives v u w f owner stamp own lent domain came waits gives =
+    gives v owner (record { from = record { waits = waits; lent = lent }; domain = domain ∙ ap (λ (q : Post). domain_of q.machine q.vcpu) (sym (came_post v u came)) })

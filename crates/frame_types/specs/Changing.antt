@@ -20,7 +20,7 @@ use Rattle.answer_fits.specs.Answers.{Changes}
 use Rattle.answer_fits.specs.Finding.{FoundAt}
 use Rattle.frame_words.specs.Freeing.{IsPut}
 use Rattle.kind_words.specs.Kinds.{dead_kind, live_kind, partial_kind, work_kind}
-use Rattle.frame_types.specs.Plain.{IsTakenBy, is_own, is_refused, type_stop, waits_by, work_by}
+use Rattle.frame_types.specs.Plain.{IsTakenBy, is_own, is_read_first, is_refused, type_stop, waits_by, work_by}
 use Rattle.frame_types.specs.Standing.{standing_of}
 use Rattle.frame_types.specs.declared.standing.Standing.{Standing}
 use Rattle.frame_types.specs.declared.standing.Standing.TheVariants as stands
@@ -57,7 +57,7 @@ TakesBy f want x s t cs =
 pub record TakesOf (v w : PortValue) (f : ℕ) (want : PageType) (t : Taken) (cs : List (Place × Act)) : Type 0 where
   pub word : ℕ
   pub found : FoundAt (Met v w) (Kind f) word
-  pub open : type_stop f want word ≡ None
+  pub «open» : type_stop f want word ≡ None
   pub way : IsTakenBy want (kind_fields word) (standing_of (kind_fields word) want) t
   pub changed : TakesBy f want word (standing_of (kind_fields word) want) t cs
 
@@ -71,6 +71,21 @@ abbrev pub TakesFound : PortValue → PortValue → ℕ → PageType → Result 
 TakesFound v w f want (Ok t) = (cs : List (Place × Act)) × TakesOf v w f want t cs × Changes v w cs
 TakesFound v w f want (Err (Paused (Lost place expected found))) = Changes v w []
 TakesFound v w f want (Err e) = IsStopped v w f want e × Changes v w []
+
+-- ---- a frame that came into work goes on
+-- `marked`: it waits for flushes; `own`: its type count is in hand; `recorded`: so many of its entries are recorded
+abbrev pub IsWayOn : PageType → Bool → Bool → ℕ → Taken → Type 0
+IsWayOn want marked own recorded Counted = is_read_first want ≡ false
+IsWayOn want marked own recorded (InWork progress mine) = (is_read_first want ≡ true) × (mine ≡ own) × (progress ≡ recorded)
+IsWayOn want marked own recorded (Waiting mine stamp stop) = (marked ≡ true) × (mine ≡ own)
+
+abbrev pub ends_on : ℕ → PageType → Bool → Bool → Taken → List (Place × Act)
+ends_on f want marked own Counted = stores_kind f (live_kind want (if own then 1 else 2)) ∷ []
+ends_on f want marked own (InWork progress mine) = if marked then (stores_kind f (work_kind want false 0) ∷ []) else []
+ends_on f want marked own (Waiting mine stamp stop) = []
+
+abbrev pub GoesOn : PortValue → PortValue → ℕ → PageType → Bool → Bool → ℕ → Taken → Type 0
+GoesOn v w f want marked own recorded t = IsWayOn want marked own recorded t × Changes v w (ends_on f want marked own t)
 
 -- ---- a frame that waits is left
 -- partial as another holder left it, and the reference given back

@@ -1,6 +1,5 @@
 pub mod Closing
 pub mod EntryHands
-pub mod Knowing
 pub mod OldHands
 pub mod PinSteps
 pub mod PinWords

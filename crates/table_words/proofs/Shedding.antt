@@ -28,7 +28,7 @@ use Rattle.step_maker.specs.Moves.{Moves}
 use Rattle.step_maker.proofs.Noting.{moves_since}
 use Rattle.table_words.specs.Entries.{ShedsLast, entry_shed}
 use Rattle.table_words.proofs.EntryHands.{last_asks, shed_left}
-use Rattle.table_words.proofs.Knowing.{live_by_step}
+use Rattle.kind_words.proofs.Knowing.{live_by_step}
 
 -- ---- shed
 module _ (v w : PortValue) (f upto g : ℕ) (t : PageType) (last : ShedsLast f upto v.holdings) (asks : last_asks f upto v.holdings last ≡ Typed g t) (hand : Holds v w (entry_shed f upto v.holdings)) where
