@@ -39,7 +39,8 @@ use Rattle.frame_types.specs.Taking.{LeavesLive, typed_as}
 use Rattle.frame_types.specs.declared.taking.Taken.TheVariants.{Counted}
 use Rattle.table_entries.specs.Between.{LooksAgain, LooksLive, found, outside}
 use Rattle.table_entries.specs.Tops.{IsSettledNow, LookedAnd, as_it_was}
-use Rattle.table_entries.proofs.HandReady.{learned_keeps, unmarked_learns}
+use Rattle.board_lemmas.proofs.Learned.{learned_frame}
+use Rattle.table_entries.proofs.HandReady.{unmarked_learns}
 
 -- a look at the frame leaves the hand
 pub live_same : (v w : PortValue) (g : ℕ) (live : Bool) → LooksLive v w g live → Same v w
@@ -74,7 +75,7 @@ module _ (b u : PortValue) (f i : ℕ) (t : PageType) (word : ℕ) (l : LooksAga
   since_low q at = ((EachOf-first _ (λ (y : Work). y.frame) f l.works.top b.holdings.works formed.works top_here).unsettled q at).1
 
   here_again : work_on f u.holdings.works ≡ Some (learned_work i word l.works.top)
-  here_again = ap (λ (q : PortValue). work_on f q.holdings.works) l.looks.hand ∙ first_by-changed_here (λ (y : Work). y.frame) f (learned_work i word) b.holdings.works l.works.top (λ y. (learned_keeps i word y).0) top_here
+  here_again = ap (λ (q : PortValue). work_on f q.holdings.works) l.looks.hand ∙ first_by-changed_here (λ (y : Work). y.frame) f (learned_work i word) b.holdings.works l.works.top (learned_frame i word) top_here
 
   settled_top : (z : Sizes) (h : Holdings) → ((n : ℕ) → n ≤ length b.holdings.steps → IsTrue (settles z n h.steps (demand_at t i word))) → IsTrue (is_settled z h (learned_work i word l.works.top))
   unfolding is_settled

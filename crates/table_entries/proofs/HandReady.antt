@@ -18,6 +18,7 @@ use Rattle.xp_board.specs.After.{counts_fixed, learned_last, learned_work}
 use Rattle.xp_board.specs.Hands.{changed_work, work_on}
 use Rattle.xp_board.specs.Settling.{is_settled, settles, settles_last, settles_word}
 use Rattle.xp_board.specs.Told.{PortValue}
+use Rattle.board_lemmas.proofs.Learned.{learned_frame}
 use Rattle.board_lemmas.proofs.ListChanges.{first_by-changed_here}
 use Rattle.board_lemmas.proofs.ListCounts.{first_by-cons_here}
 use Rattle.board_lemmas.proofs.Sums.{when_ne}
@@ -79,15 +80,15 @@ ready_later m f i t word h k works grows r =
     }
 
 -- ---- from a look at the next entry on
--- it stays the same frame, with the same kind word
-same_if : (u : Bool) (e x : Work) → x.frame ≡ e.frame → x.word ≡ e.word → ((if u then e else x).frame ≡ e.frame) × ((if u then e else x).word ≡ e.word)
-same_if true e x frame word = (refl, refl)
-same_if false e x frame word = (frame, word)
+-- its kind word stays the same
+same_if : (u : Bool) (e x : Work) → x.word ≡ e.word → (if u then e else x).word ≡ e.word
+same_if true e x word = refl
+same_if false e x word = word
 
-pub learned_keeps : (i w : ℕ) (e : Work) → ((learned_work i w e).frame ≡ e.frame) × ((learned_work i w e).word ≡ e.word)
-learned_keeps i w e =
+pub learned_word : (i w : ℕ) (e : Work) → (learned_work i w e).word ≡ e.word
+learned_word i w e =
     same_if (kind_fields e.word).unflushed e
-    (record e { seen = Some (record { index = i; word = w }); unsettled = learned_last i e.recorded w e.unsettled; fixed = if counts_fixed i w e then e.fixed + 1 else e.fixed }) refl refl
+    (record e { seen = Some (record { index = i; word = w }); unsettled = learned_last i e.recorded w e.unsettled; fixed = if counts_fixed i w e then e.fixed + 1 else e.fixed }) refl
 
 with_fixed : (i w n : ℕ) (e : Work) → Work
 with_fixed i w n e = record e { seen = Some (record { index = i; word = w }); fixed = n }
@@ -110,7 +111,7 @@ module _ (b v : PortValue) (f i owner : ℕ) (t : PageType) (word : ℕ) (l : Lo
   here_now : work_on f v.holdings.works ≡ Some (with_fixed i word (learned_work i word l.works.on.top).fixed l.works.on.top)
   here_now =
       ap (λ ws. work_on f ws) works_are
-      ∙ first_by-changed_here (λ (y : Work). y.frame) f (learned_work i word) b.holdings.works l.works.on.top (λ y. (learned_keeps i word y).0)
+      ∙ first_by-changed_here (λ (y : Work). y.frame) f (learned_work i word) b.holdings.works l.works.on.top (learned_frame i word)
       (ap (λ ws. work_on f ws) l.works.on.works ∙ first_by-cons_here (λ (y : Work). y.frame) f l.works.on.top l.works.on.others l.works.on.frame)
       ∙ ap (λ e. Some e) learned
 

@@ -21,7 +21,8 @@ use Rattle.frame_types.specs.Taking.{IsOfOther, IsWorking, WaitsWith, WorksFrom,
 use Rattle.table_entries.specs.Between.{SeesEntry}
 use Rattle.table_entries.specs.Tops.{LookedAnd, Opens, TakesAgain, as_it_was}
 use Rattle.table_entries.proofs.HandLists.{asks_below, none_before, was_in}
-use Rattle.table_entries.proofs.HandReady.{learned_keeps}
+use Rattle.board_lemmas.proofs.Learned.{learned_frame}
+use Rattle.table_entries.proofs.HandReady.{learned_word}
 
 -- what came into the own works, from where more was in hand
 works_behind : (v u w : PortValue) (k : Holdings) (g owner : ℕ) (want : PageType) (own : Bool) (e : Work) (since : ℕ) → Holds v u k →
@@ -40,15 +41,15 @@ module _ (b v : PortValue) (f i : ℕ) (t : PageType) (word : ℕ) (l : SeesEntr
   pub take_aside : work_on g u.holdings.works ≡ None → typed_to g u.holdings.typed ≡ 0
   take_aside none =
       ap (λ (q : PortValue). typed_to g q.holdings.typed) lent_all
-      ∙ l.held g (none_before (λ (y : Work). y.frame) g f (learned_work i word) b.holdings.works (λ y. (learned_keeps i word y).0) (ap (λ ws. work_on g ws) (sym works_are) ∙ none))
+      ∙ l.held g (none_before (λ (y : Work). y.frame) g f (learned_work i word) b.holdings.works (learned_frame i word) (ap (λ ws. work_on g ws) (sym works_are) ∙ none))
 
   same_word : (e x : Work) → (e ≡ x) ⊎ (e ≡ learned_work i word x) → e.word ≡ x.word
   same_word e x (inl is) = ap (λ (y : Work). y.word) is
-  same_word e x (inr is) = ap (λ (y : Work). y.word) is ∙ (learned_keeps i word x).1
+  same_word e x (inr is) = ap (λ (y : Work). y.word) is ∙ learned_word i word x
 
   pub take_other : IsOfOther g want u.holdings
   take_other e here =
-      let w = was_in (λ (y : Work). y.frame) g f (learned_work i word) b.holdings.works e (λ y. (learned_keeps i word y).0) (ap (λ ws. work_on g ws) (sym works_are) ∙ here) in
+      let w = was_in (λ (y : Work). y.frame) g f (learned_work i word) b.holdings.works e (learned_frame i word) (ap (λ ws. work_on g ws) (sym works_are) ∙ here) in
       ap (λ n. is_type (kind_fields n).kind want) (same_word e w.was w.is) ∙ ap (λ k. is_type (kind_fields w.was.word).kind k) (asks_below t i word g want asks) ∙ l.above g w.was w.here
 
   pub take_looking : u.holdings.looking ≡ []

@@ -19,7 +19,8 @@ use Rattle.answer_fits.specs.Answers.{Serves}
 use Rattle.answer_fits.specs.Asked.{of_frame}
 use Rattle.answer_fits.proofs.Piecing.{serves_came}
 use Rattle.frame_words.specs.Plain.{TwinGet}
-use Rattle.frame_words.specs.Refs.{took}
+use Rattle.frame_words.specs.Refs.{Gets, took}
+use Rattle.frame_types.specs.Changing.{TakesFound}
 use Rattle.frame_types.specs.Leaving.{GivesBack, IsWaiting, KeepsType, StaysTyped, WaitsFrom}
 use Rattle.frame_types.specs.Plain.{TwinTake}
 use Rattle.frame_types.specs.Taking.{ShowsWait, WaitsWith, working_typed}
@@ -34,10 +35,10 @@ use Rattle.table_entries.proofs.HandTyped.{gave_up, typed_from}
 
 -- ---- from the look on
 pub waits_from : (b v u x : PortValue) (f i owner : ℕ) (t : PageType) (word : ℕ) (n g : ℕ) (want : PageType) (own : Bool) (stamp : ℕ) (stop : Stop) → LooksNext b v f i owner t word → demand_at t i word ≡ Typed n want →
-    (g ≡ n) × (g < v.post.machine.frames) → Serves v u (of_frame n owner None) [] → Holds v u (took g owner v.holdings) → TwinGet v u n owner (Ok g) →
-    Serves u x (of_frame g owner (Some want)) [] → ShowsWait u x g owner want (Waiting own stamp stop) → WaitsWith u x g owner want own stamp → TwinTake u x g want (Ok (Waiting own stamp stop)) →
+    (g ≡ n) × (g < v.post.machine.frames) → Serves v u (of_frame n owner None) [] → Holds v u (took g owner v.holdings) → TwinGet v u n owner (Ok g) → Gets v u n owner (Ok g) →
+    Serves u x (of_frame g owner (Some want)) [] → ShowsWait u x g owner want (Waiting own stamp stop) → WaitsWith u x g owner want own stamp → TwinTake u x g want (Ok (Waiting own stamp stop)) → TakesFound u x g want (Ok (Waiting own stamp stop)) →
     LeftWaiting b x f i owner t g want own stamp stop
-waits_from b v u x f i owner t word n g want own stamp stop l asks is refers lent referred types shows waits typed =
+waits_from b v u x f i owner t word n g want own stamp stop l asks is refers lent referred gets types shows waits typed takes =
     record {
       u = v;
       x = u;
@@ -48,10 +49,12 @@ waits_from b v u x f i owner t word n g want own stamp stop l asks is refers len
       refers = subst (λ k. Serves v u (of_frame k owner None) []) (sym is.0) refers;
       lent = lent;
       referred = subst (λ k. TwinGet v u k owner (Ok g)) (sym is.0) referred;
+      gets = subst (λ k. Gets v u k owner (Ok g)) (sym is.0) gets;
       types = types;
       shows = shows;
       waits = waits;
       typed = typed;
+      takes = takes;
     }
 
 entries_below : (t : PageType) → IsTrue (not (type_number (below t) == 5))

@@ -19,3 +19,7 @@ pub mod TwinsTaken
 pub mod TwinsTyped
 pub mod TwinsWaiting
 pub mod TwinsLeft
+pub mod FoundWider
+pub mod FoundEntering
+pub mod FoundWaiting
+pub mod FoundResuming

@@ -19,7 +19,7 @@ use Rattle.flush_waits.specs.Waiting.{IsWait}
 use Rattle.table_entries.specs.Asking.{of_entries}
 use Rattle.table_entries.specs.Between.{MeetsEntry}
 use Rattle.table_entries.specs.declared.entries.Entered.TheVariants.{Opened, Recorded, Unsettled}
-use Rattle.table_entries.proofs.PiecesTaking.{Goes, goes_back, goes_call, goes_came, goes_missed, goes_record, goes_stops, goes_stops_later, asks_still, left_serves, record_shows, ref_kinds, type_stop, wait_kinds, wait_missed}
+use Rattle.table_entries.proofs.PiecesTaking.{Goes, goes_back, goes_call, goes_came, goes_missed, goes_record, goes_stops, goes_stops_later, asks_still, left_serves, record_shows, ref_kinds, type_kinds, wait_kinds, wait_missed}
 
 -- the entry is recorded
 pub enters_recorded : (b v w : PortValue) (f i owner pages g upto found : ℕ) → Goes b v f i owner pages [] → Moves v w Clock Load kinds.Look (Some (Record g upto)) found → MeetsEntry b w f i owner pages (Ok Recorded)
@@ -71,7 +71,7 @@ module _ (b x : PortValue) (f i owner pages g : ℕ) (t : PageType) (goes : Goes
     untyped_stops = stops_before b y z (of_entries owner pages) e (goes_stops_later b x f i owner pages [] goes y g (Some t) asks e came is stops) (serves_came y z (of_back g) [] back)
 
     pub enters_untyped : MeetsEntry b z f i owner pages (Err e)
-    enters_untyped = record { serves = untyped_goes.serves; stops = untyped_stops; kinds = (type_stop e is).0; shows = tt; looks = untyped_goes.looks }
+    enters_untyped = record { serves = untyped_goes.serves; stops = untyped_stops; kinds = type_kinds e is; shows = tt; looks = untyped_goes.looks }
 
   -- it waits for a flush
   module _ (y : PortValue) (stop : Stop) (is : IsWait stop) (types : Serves x y (of_frame g owner (Some t)) []) (stops : Stops x y (of_frame g owner (Some t)) stop) where
@@ -90,7 +90,7 @@ module _ (b x : PortValue) (f i owner pages g : ℕ) (t : PageType) (goes : Goes
       pub enters_left : MeetsEntry b z f i owner pages (Err stop)
       enters_left =
           let next = wait_missed b z f i owner pages stop is left_goes in
-          record { serves = next.serves; stops = stops_before b y z (of_entries owner pages) stop waits_stops left_came; kinds = (type_stop stop (wait_kinds stop is)).0; shows = tt; looks = next.looks }
+          record { serves = next.serves; stops = stops_before b y z (of_entries owner pages) stop waits_stops left_came; kinds = type_kinds stop (wait_kinds stop is); shows = tt; looks = next.looks }
 
       pub enters_unsettled : (w : PortValue) (k upto found : ℕ) → Moves z w Clock Load kinds.Look (Some (Record k upto)) found → MeetsEntry b w f i owner pages (Ok (Unsettled stop))
       enters_unsettled w k upto found m =

@@ -1,31 +1,26 @@
 -- The last recorded entry again: what its steps are and show, by what became of it.
-use Rattle.std.proofs.Common.{◌≡◌, ◌⊎◌, ℕ, ◌+◌, ◌≤◌, [], Bool, false, Some, None, Ok, Err, refl, sym, ap, ◌∙◌, subst, inl, inr}
+use Rattle.std.proofs.Common.{◌≡◌, ℕ, ◌+◌, [], Bool, false, Some, None, Ok, Err, sym, ap, subst}
 use Rattle.xp_words.specs.Entries.{demand_at}
 use Rattle.xp_words.specs.declared.entry.Demand.TheVariants.{Typed}
 use Rattle.xp_words.specs.declared.kind.PageType.{PageType}
-use Rattle.xp_words.specs.declared.place.Place.{Place}
 use Rattle.xp_words.specs.declared.place.Place.TheVariants.{Kind}
 use Rattle.xp_words.specs.declared.reply.Stop.{Stop}
 use Rattle.xp_board.specs.declared.step.Act.TheVariants.{Load}
 use Rattle.xp_board.specs.declared.step.StepKind.TheVariants as kinds
-use Rattle.xp_board.specs.Readings.{is_live_word}
-use Rattle.xp_board.specs.Told.{Post, PortValue}
+use Rattle.xp_board.specs.Told.{PortValue}
 use Rattle.step_maker.specs.Moves.{Came, Met}
-use Rattle.step_maker.proofs.Coming.{came_post, came_self, came_trans, met_after, met_before, moment_of, moves_came, moves_met}
+use Rattle.step_maker.proofs.Coming.{came_self, moves_came}
 use Rattle.answer_fits.specs.Answers.{Serves, Stops, missed}
 use Rattle.answer_fits.specs.Asked.{Asked, NoMore, of_back, of_frame}
-use Rattle.answer_fits.specs.Finding.{Finding, FoundAt}
-use Rattle.answer_fits.proofs.Piecing.{serves_came}
 use Rattle.frame_types.specs.Taking.{IsTypeStop}
 use Rattle.frame_words.specs.Refs.{IsRefStop}
 use Rattle.flush_waits.specs.Waiting.{IsWait}
-use Rattle.table_entries.specs.Asking.{FoundOther, of_entries}
+use Rattle.table_entries.specs.Asking.{of_entries}
 use Rattle.table_entries.specs.Between.{LooksAgain, LooksLive, Resumes, found, outside}
 use Rattle.table_entries.specs.declared.resuming.Resumed.TheVariants as again
-use Rattle.table_entries.proofs.HandLists.{asks_below}
-use Rattle.table_entries.proofs.PiecesAsking.{asks_typed, look_found, look_more, looked_goes}
+use Rattle.table_entries.proofs.PiecesAsking.{asks_typed, look_more, looked_goes}
 use Rattle.table_entries.proofs.PiecesEntering.{asks_referred, referred, refused_goes, refused_stops, typed, untyped_goes, untyped_stops, waits_stops}
-use Rattle.table_entries.proofs.PiecesTaking.{Goes, asks_still, goes_came, goes_kind, ref_kinds, type_stop}
+use Rattle.table_entries.proofs.PiecesTaking.{Goes, asks_still, goes_kind, ref_kinds, type_kinds}
 
 -- ---- the look at the frame itself
 pub live_goes : (b u v : PortValue) (f i owner pages g : ℕ) (live : Bool) → Goes b u f i owner pages [] → LooksLive u v g live → Goes b v f i owner pages []
@@ -40,15 +35,6 @@ live_came : (u v : PortValue) (g : ℕ) (live : Bool) → LooksLive u v g live �
 live_came u v g _ (outside past is) = subst (Came u) (sym is) (came_self u)
 live_came u v g _ (found word live inside m same is) = moves_came u v (Kind g) Load kinds.Look None word m
 
-found_more : (F G : Finding) (p : Place) (w : ℕ) → FoundAt F p w → ((m : _) → F m → G m) → FoundAt G p w
-found_more F G p w a more = record { moment = a.moment; was = more a.moment a.was; place = a.place; word = a.word }
-
-live_found : (u v : PortValue) (g : ℕ) → LooksLive u v g false → (u.post.machine.frames ≤ g) ⊎ ((x : ℕ) × FoundAt (Met u v) (Kind g) x × (is_live_word x ≡ false))
-unfolding moment_of
-live_found u v g (outside past is) = inl past
-live_found u v g (found word _ inside m same is) =
-    inr (word, record { moment = moment_of u (Kind g) Load kinds.Look None word; was = moves_met u v (Kind g) Load kinds.Look None word m; place = refl; word = refl }, is)
-
 -- ---- behind both looks
 module _ (b u v : PortValue) (f i owner pages : ℕ) (t : PageType) (word g : ℕ) (want : PageType) (looks : LooksAgain b u f i t word) (asks : demand_at t i word ≡ Typed g want) (other : LooksLive u v g false) where
   again_goes : Goes b v f i owner pages []
@@ -60,25 +46,6 @@ module _ (b u v : PortValue) (f i owner pages : ℕ) (t : PageType) (word g : �
   again_asks : Asked b.post.machine b.post.vcpu (of_entries owner pages) (Met b v) g owner (Some want)
   again_asks = asks_still b u f i owner pages [] (looked_goes b u f i t word looks.looks owner pages) v g (Some want) (asks_typed b u f i t word looks.looks (i + 1) owner pages looks.works g want asks) (live_came u v g false other)
 
-  -- the frame was found otherwise
-  again_other : (w : PortValue) → Came v w → FoundOther b w f i t
-  again_other w came =
-      let looked = goes_came b u f i owner pages [] (looked_goes b u f i t word looks.looks owner pages) in
-      let there = goes_came b v f i owner pages [] again_goes in
-      record {
-        word = word;
-        frame = g;
-        found = let a = look_found b u f i t word looks.looks in record { moment = a.moment; was = met_before b v w a.moment (met_before b u v a.moment a.was (live_came u v g false other)) came; place = a.place; word = a.word };
-        asks = asks ∙ ap (λ k. Typed g k) (asks_below t i word g want asks);
-        other = other_there looked w came (live_found u v g other);
-      }
-    where
-      other_there : Came b u → (w : PortValue) → Came v w → (u.post.machine.frames ≤ g) ⊎ ((x : ℕ) × FoundAt (Met u v) (Kind g) x × (is_live_word x ≡ false)) →
-          (b.post.machine.frames ≤ g) ⊎ ((x : ℕ) × FoundAt (Met b w) (Kind g) x × (is_live_word x ≡ false))
-      other_there came w more (inl past) = inl (subst (λ (p : Post). p.machine.frames ≤ g) (came_post b u came) past)
-      other_there came w more (inr (x, a, is)) =
-          inr (x, record { moment = a.moment; was = met_before b v w a.moment (met_after b u v a.moment came a.was) more; place = a.place; word = a.word }, is)
-
   -- no reference was to be had
   pub resumes_unreferred : (x : PortValue) (e : Stop) → IsRefStop e → Serves v x (of_frame g owner None) (missed v.post.machine e) → Stops v x (of_frame g owner None) e → Resumes b x f i owner pages t (Err e)
   resumes_unreferred x e is serves stops =
@@ -88,7 +55,6 @@ module _ (b u v : PortValue) (f i owner pages : ℕ) (t : PageType) (word g : �
         stops = refused_stops b v f i owner pages g (Some want) again_goes again_asks again_more x e is serves stops;
         kinds = ref_kinds e is;
         shows = tt;
-        other = again_other x (serves_came v x (of_frame g owner None) (missed v.post.machine e) serves);
         looks = next.looks;
       }
 
@@ -100,38 +66,30 @@ module _ (b u v : PortValue) (f i owner pages : ℕ) (t : PageType) (word g : �
     two : Asked b.post.machine b.post.vcpu (of_entries owner pages) (Met b x) g owner (Some want)
     two = asks_referred b v f i owner pages g (Some want) again_goes again_asks x refers
 
-    x_came : Came v x
-    x_came = serves_came v x (of_frame g owner None) [] refers
-
     -- and the type
     module _ (y : PortValue) (types : Serves x y (of_frame g owner (Some want)) []) where
-      y_other : FoundOther b y f i t
-      y_other = again_other y (came_trans v x y x_came (serves_came x y (of_frame g owner (Some want)) [] types))
-
       y_goes : Goes b y f i owner pages []
       y_goes = typed b x f i owner pages g want one two y types
 
       pub resumes_taken : (frame : ℕ) → Resumes b y f i owner pages t (Ok (again.Taken frame))
-      resumes_taken frame = record { serves = y_goes.serves; stops = tt; kinds = tt; shows = tt; other = y_other; looks = y_goes.looks }
+      resumes_taken frame = record { serves = y_goes.serves; stops = tt; kinds = tt; shows = tt; looks = y_goes.looks }
 
       pub resumes_opened : (frame progress : ℕ) (own : Bool) → Resumes b y f i owner pages t (Ok (again.Opened frame progress own))
-      resumes_opened frame progress own = record { serves = y_goes.serves; stops = tt; kinds = tt; shows = tt; other = y_other; looks = y_goes.looks }
+      resumes_opened frame progress own = record { serves = y_goes.serves; stops = tt; kinds = tt; shows = tt; looks = y_goes.looks }
 
       pub resumes_waiting : (frame : ℕ) (own : Bool) (stamp : ℕ) (stop : Stop) → IsWait stop → Stops x y (of_frame g owner (Some want)) stop → Resumes b y f i owner pages t (Ok (again.Waiting frame own stamp stop))
       resumes_waiting frame own stamp stop is stops =
-          record { serves = y_goes.serves; stops = tt; kinds = tt; shows = (is, waits_stops b x f i owner pages g want one two y stop is types stops); other = y_other; looks = y_goes.looks }
+          record { serves = y_goes.serves; stops = tt; kinds = tt; shows = (is, waits_stops b x f i owner pages g want one two y stop is types stops); looks = y_goes.looks }
 
     -- the type is not to be had, and the reference was given back
     pub resumes_untyped : (y z : PortValue) (e : Stop) → IsTypeStop e → Serves x y (of_frame g owner (Some want)) (missed x.post.machine e) → Stops x y (of_frame g owner (Some want)) e → Serves y z (of_back g) [] →
         Resumes b z f i owner pages t (Err e)
     resumes_untyped y z e is types stops back =
         let next = untyped_goes b x f i owner pages g want one two y z e is types stops back in
-        let came = came_trans x y z (serves_came x y (of_frame g owner (Some want)) (missed x.post.machine e) types) (serves_came y z (of_back g) [] back) in
         record {
           serves = next.serves;
           stops = untyped_stops b x f i owner pages g want one two y z e is types stops back;
-          kinds = (type_stop e is).0;
+          kinds = type_kinds e is;
           shows = tt;
-          other = again_other z (came_trans v x z x_came came);
           looks = next.looks;
         }

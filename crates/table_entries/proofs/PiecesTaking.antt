@@ -15,10 +15,11 @@ use Rattle.step_maker.proofs.Coming.{came_post, met_after, met_before, moment_of
 use Rattle.answer_fits.specs.Answers.{Deed, Serves, Stops, missed}
 use Rattle.answer_fits.specs.Asked.{Asked, NoMore, of, of_back, of_frame}
 use Rattle.answer_fits.specs.Pauses.{Progress, entry}
-use Rattle.answer_fits.proofs.Later.{IsUncounted, stops_later}
+use Rattle.answer_fits.proofs.Later.{stops_later}
 use Rattle.answer_fits.proofs.Piecing.{same_request, serves_back, serves_call, serves_came, serves_nothing, serves_step, stops_call, within_frame}
 use Rattle.frame_types.specs.Leaving.{ServesType}
 use Rattle.frame_types.specs.Taking.{IsTypeStop}
+use Rattle.frame_types.proofs.Serving.{type_uncounted}
 use Rattle.frame_words.specs.Refs.{IsRefStop}
 use Rattle.flush_waits.specs.Waiting.{IsWait}
 use Rattle.table_entries.specs.Asking.{IsEntryStop, LooksOnly, of_entries}
@@ -32,14 +33,13 @@ ref_kinds (Refused (refusals.CountFull f x)) is = tt
 ref_kinds (Paused (Lost place e x)) is = tt
 ref_kinds _ is = absurd is
 
--- a type is not to be had for no count
-pub type_stop : (e : Stop) → IsTypeStop e → IsEntryStop e × IsUncounted e
-type_stop (Refused (refusals.OtherType f want x)) is = (tt, tt)
-type_stop (Refused (refusals.Clock x)) is = (tt, tt)
-type_stop (Paused (Lost place e x)) is = (tt, tt)
-type_stop (Paused (Busy f x)) is = (tt, tt)
-type_stop (Paused (Flush v stamp x)) is = (tt, tt)
-type_stop _ is = absurd is
+pub type_kinds : (e : Stop) → IsTypeStop e → IsEntryStop e
+type_kinds (Refused (refusals.OtherType f want x)) is = tt
+type_kinds (Refused (refusals.Clock x)) is = tt
+type_kinds (Paused (Lost place e x)) is = tt
+type_kinds (Paused (Busy f x)) is = tt
+type_kinds (Paused (Flush v stamp x)) is = tt
+type_kinds _ is = absurd is
 
 pub wait_kinds : (e : Stop) → IsWait e → IsTypeStop e
 wait_kinds (Refused (refusals.Clock x)) is = tt
@@ -93,7 +93,7 @@ module _ (b v : PortValue) (f i owner pages : ℕ) (ds : List Deed) (goes : Goes
 
     pub goes_stops_later : (e : Stop) → Came v w → IsTypeStop e → Stops v w (of_frame g owner want) e → Stops b w (of_entries owner pages) e
     goes_stops_later e came is stops =
-        stops_later b v w (of_entries owner pages) (of_frame g owner want) e (type_stop e is).1
+        stops_later b v w (of_entries owner pages) (of_frame g owner want) e (type_uncounted e is)
         (within_frame b.post.machine b.post.vcpu g owner want (of_entries owner pages) (Met v w) (Met b w) (λ m x. met_after b v w m goes_came x) (asks_still came)) goes_came stops
 
     pub goes_back : Serves v w (of_back g) [] → Goes b w f i owner pages ds

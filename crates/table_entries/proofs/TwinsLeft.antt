@@ -69,6 +69,9 @@ module _ (b v : PortValue) (f i owner : ℕ) (t : PageType) (g : ℕ) (want : Pa
   no_desc : (type_number want == 5) ≡ false
   no_desc = subst (λ k. (type_number k == 5) ≡ false) (sym (asks_below t i late.word g want late.asks)) (not_desc t)
 
+  pub reads_no_words : is_table want ≡ false → is_read_first want ≡ false
+  reads_no_words plain = not_or (is_table want) (type_number want == 5) plain no_desc
+
   mark : IsTrue (not (type_number want == 5) || false)
   mark = ap (λ k. not k || false) no_desc
 
@@ -113,7 +116,7 @@ module _ (b v : PortValue) (f i owner : ℕ) (t : PageType) (g : ℕ) (want : Pa
   twin_dead w mine refused plain leaves owned =
       behind_ref w (Err stop)
       (λ telling.
-      dead_by w (told_word late.x) g want stop late.shows.0 refused (not_or (is_table want) (type_number want == 5) plain no_desc) (waits_is telling).0 (sym (waits_is telling).1 ∙ mine)
+      dead_by w (told_word late.x) g want stop late.shows.0 refused (reads_no_words plain) (waits_is telling).0 (sym (waits_is telling).1 ∙ mine)
       (told_alike w _ (left_dead g want (told_word late.x)) (leaves (on_v telling)) (dead_left g want some mark own stamp low stop (told_word late.x) (told_word v) (way telling) (waiting telling).2 (owned (on_v telling)))))
 
   -- partial, and recorded

@@ -24,7 +24,7 @@ use Rattle.table_entries.specs.declared.resuming.Resumed.TheVariants as again
 use Rattle.table_entries.proofs.TwinsLooked.{told_all}
 
 -- what keeps a type from being had is no flush that is waited for
-not_awaited : (g : ℕ) (t : PageType) (w : ℕ) (s : Standing) (e : Stop) → stop_by g t w s ≡ Some e → IsWait e → ⊥
+pub not_awaited : (g : ℕ) (t : PageType) (w : ℕ) (s : Standing) (e : Stop) → stop_by g t w s ≡ Some e → IsWait e → ⊥
 not_awaited g t w stands.Counted e is wait = absurd (let k = is in cc)
 not_awaited g t w stands.Dead e is wait = absurd (let k = is in cc)
 not_awaited g t w stands.Partial e is wait = absurd (let k = is in cc)

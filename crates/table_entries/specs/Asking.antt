@@ -1,21 +1,16 @@
 -- What the entries of a table in the own works ask, which cells are looked at for it, and what the steps show.
-use Rattle.std.specs.Prelude.{◌≡◌, ◌⊎◌, ℕ, ◌≤◌, true, false, List, None, Result, Ok}
-use Rattle.xp_words.specs.Entries.{below, demand_at}
-use Rattle.xp_words.specs.declared.entry.Demand.TheVariants.{Typed}
-use Rattle.xp_words.specs.declared.kind.PageType.{PageType}
-use Rattle.xp_words.specs.declared.place.Place.TheVariants.{Cell, Kind}
+use Rattle.std.specs.Prelude.{◌≡◌, ℕ, true, false, List, None}
+use Rattle.xp_words.specs.declared.place.Place.TheVariants.{Cell}
 use Rattle.xp_words.specs.declared.reply.Pause.TheVariants.{Busy, Flush, Lost}
 use Rattle.xp_words.specs.declared.reply.Refusal.TheVariants as refusals
 use Rattle.xp_words.specs.declared.reply.Stop.{Stop}
 use Rattle.xp_words.specs.declared.reply.Stop.TheVariants.{Refused, Paused}
 use Rattle.xp_board.specs.declared.step.Act.TheVariants.{Load}
 use Rattle.xp_board.specs.Lists.{EachOf}
-use Rattle.xp_board.specs.Readings.{is_live_word}
 use Rattle.xp_board.specs.Told.{PortValue}
 use Rattle.step_maker.specs.Moves.{Moment, Ran, Met}
 use Rattle.answer_fits.specs.Answers.{Stops}
 use Rattle.answer_fits.specs.Asked.{Request, of_frame}
-use Rattle.answer_fits.specs.Finding.{FoundAt}
 use Rattle.answer_fits.specs.Pauses.{Progress}
 use Rattle.flush_waits.specs.Waiting.{IsWait}
 use Rattle.table_entries.specs.declared.entries.Entered.{Entered}

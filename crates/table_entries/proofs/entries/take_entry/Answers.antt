@@ -1,4 +1,4 @@
-use Rattle.std.proofs.Common.{◌∙◌, sym, ◌+◌, None, Ok, Err, refl, ap, subst}
+use Rattle.std.proofs.Common.{[], ◌∙◌, sym, ◌+◌, None, Ok, Err, refl, ap, subst}
 use Rattle.table_entries.proofs.HandRecords.{looks_next, nothing_hand, nothing_records}
 use Rattle.table_entries.specs.Between.{SeesEntry}
 use Rattle.table_entries.proofs.PiecesAsking.{look_bad, looked_goes}
@@ -11,6 +11,10 @@ use Rattle.step_maker.proofs.Telling.{told_there}
 use Rattle.step_maker.specs.Plain.{Words}
 use Rattle.table_entries.specs.declared.entries.Entered.TheVariants.{Recorded}
 use Rattle.table_entries.proofs.TwinsLooked.{load_keeps, twin_entry}
+use Rattle.step_maker.proofs.Coming.{came_self}
+use Rattle.answer_fits.proofs.Piecing.{changes_came, changes_nothing, changes_then}
+use Rattle.table_entries.proofs.FoundEntering.{enters_by, looked_changes}
+use Rattle.table_entries.proofs.FoundWider.{load_changes}
 use Rattle.table_entries.proofs.entries.take_entry.Goals as goal
 use Rattle.xp_words.specs.declared.entry.Demand.TheVariants as demands
 use Rattle.xp_board.specs.declared.step.StepKind.TheVariants as kinds
@@ -194,3 +198,43 @@ returns-in-Bad-clause-plain g c telling =
     let found = ap (λ (m : Words). m (Cell c.args.at.table c.args.at.index)) same ∙ told_there v u (Cell c.args.at.table c.args.at.index) Load kinds.Look None c.look_cell-word.result c.look_cell-word.ensures.moves telling in
     twin_entry v u c.args.at.table c.args.at.index c.args.at.owner c.args.at.kind c.look_cell-word.result demands.Bad c.look_cell-word.ensures.moves (sym c.demand.ensures ∙ c.in-Bad.is) u answer
     (λ on. (sym (ap (λ y. Err (Refused (Reserved c.args.at.table c.args.at.index y))) found), λ q. refl)) telling
+
+pub returns-in-Nothing-clause-found : goal.returns-in-Nothing-clause-found
+returns-in-Nothing-clause-found g c =
+    let v = g.P.Port.value c.args.port.now in
+    let u = g.P.Port.value c.look_cell-word.new.port in
+    let at = c.args.at in
+    let w = g.P.Port.value c.record_entry.new.port in
+    let looks : SeesEntry v u at.table at.index at.kind c.look_cell-word.result =
+    record { look = c.look_cell-word.ensures.moves; hand = c.look_cell-word.ensures.hand; frame = c.requires.frame; index = c.requires.index; held = c.requires.held; above = c.requires.above; looked = c.requires.looked } in
+    let records = load_changes u u w [] Clock kinds.Look _ c.record_entry.result (changes_nothing u) c.record_entry.ensures.moves in
+    enters_by v u at.table at.index at.kind c.look_cell-word.result looks at.owner demands.Nothing (sym c.demand.ensures ∙ c.in-Nothing.is) w (Ok Recorded) (changes_came u w [] records)
+    (refl, changes_then v u w [] [] (looked_changes v u at.table at.index at.kind c.look_cell-word.result looks) records)
+
+pub returns-in-Bad-clause-found : goal.returns-in-Bad-clause-found
+returns-in-Bad-clause-found g c =
+    let v = g.P.Port.value c.args.port.now in
+    let u = g.P.Port.value c.look_cell-word.new.port in
+    let at = c.args.at in
+    let looks : SeesEntry v u at.table at.index at.kind c.look_cell-word.result =
+    record { look = c.look_cell-word.ensures.moves; hand = c.look_cell-word.ensures.hand; frame = c.requires.frame; index = c.requires.index; held = c.requires.held; above = c.requires.above; looked = c.requires.looked } in
+    enters_by v u at.table at.index at.kind c.look_cell-word.result looks at.owner demands.Bad (sym c.demand.ensures ∙ c.in-Bad.is) u (Err (Refused (Reserved at.table at.index c.look_cell-word.result))) (came_self u)
+    (refl, looked_changes v u at.table at.index at.kind c.look_cell-word.result looks)
+
+pub returns-in-Read-clause-found : goal.returns-in-Read-clause-found
+returns-in-Read-clause-found g c =
+    let v = g.P.Port.value c.args.port.now in
+    let u = g.P.Port.value c.look_cell-word.new.port in
+    let at = c.args.at in
+    let looks : SeesEntry v u at.table at.index at.kind c.look_cell-word.result =
+    record { look = c.look_cell-word.ensures.moves; hand = c.look_cell-word.ensures.hand; frame = c.requires.frame; index = c.requires.index; held = c.requires.held; above = c.requires.above; looked = c.requires.looked } in
+    c.take_plain.ensures.found v c.look_cell-word.result (record { looks = looks; works = c.requires.works; known = c.requires.known }) (sym c.demand.ensures ∙ c.in-Read.is)
+
+pub returns-in-Typed-clause-found : goal.returns-in-Typed-clause-found
+returns-in-Typed-clause-found g c =
+    let v = g.P.Port.value c.args.port.now in
+    let u = g.P.Port.value c.look_cell-word.new.port in
+    let at = c.args.at in
+    let looks : SeesEntry v u at.table at.index at.kind c.look_cell-word.result =
+    record { look = c.look_cell-word.ensures.moves; hand = c.look_cell-word.ensures.hand; frame = c.requires.frame; index = c.requires.index; held = c.requires.held; above = c.requires.above; looked = c.requires.looked } in
+    c.take_typed.ensures.found v c.look_cell-word.result (record { looks = looks; works = c.requires.works; known = c.requires.known }) (sym c.demand.ensures ∙ c.in-Typed.is)

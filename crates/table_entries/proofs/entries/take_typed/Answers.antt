@@ -1,8 +1,9 @@
-use Rattle.std.proofs.Common.{[], None, Some, Ok, ap, sym, subst, ◌∙◌, ◌+◌, Result, Err}
+use Rattle.std.proofs.Common.{[], None, Some, Ok, refl, ap, sym, subst, ◌∙◌, ◌+◌, Result, Err}
 use Rattle.xp_words.specs.declared.entry.Demand.TheVariants.{Typed}
 use Rattle.answer_fits.specs.Asked.{of_frame}
 use Rattle.answer_fits.proofs.Piecing.{serves_came}
 use Rattle.step_maker.proofs.Coming.{came_trans}
+use Rattle.frame_types.specs.Changing.{TakesFound}
 use Rattle.frame_types.specs.Plain.{TwinTake}
 use Rattle.frame_types.specs.Taking.{ShowsWait, TakesAs}
 use Rattle.table_entries.proofs.HandLists.{asks_some}
@@ -11,8 +12,6 @@ use Rattle.table_entries.proofs.HandTyped.{given_up, opens_from, take_aside, tak
 use Rattle.table_entries.proofs.HandWaits.{waits_from}
 use Rattle.std.proofs.lemmas.Result.{err_from_is_err_and}
 use Rattle.xp_words.specs.declared.reply.Stop.{Stop}
-use Rattle.answer_fits.specs.Answers.{Serves}
-use Rattle.frame_words.specs.Plain.{TwinGet}
 use Rattle.table_entries.specs.Between.{MeetsEntry}
 use Rattle.table_entries.specs.declared.entries.Entered.{Entered}
 use Rattle.table_entries.proofs.PiecesAsking.{asks_typed, look_more, looked_goes}
@@ -24,6 +23,13 @@ use Rattle.table_entries.specs.declared.entries.Entered.TheVariants.{Recorded, O
 use Rattle.table_entries.proofs.TwinsLooked.{load_keeps, twin_entry}
 use Rattle.table_entries.proofs.TwinsTaken.{typed_behind, typed_refused}
 use Rattle.table_entries.proofs.TwinsTyped.{types_counted, types_opened, types_stopped}
+use Rattle.answer_fits.specs.Answers.{Serves, missed}
+use Rattle.answer_fits.proofs.Piecing.{changes_nothing}
+use Rattle.frame_words.specs.Refs.{Gets}
+use Rattle.frame_types.specs.declared.taking.Taken.TheVariants as types
+use Rattle.table_entries.specs.Found.{EntersFound, TypedFound}
+use Rattle.table_entries.proofs.FoundEntering.{asked_refused, enters_by, enters_stopped, enters_taken, looked_changes}
+use Rattle.table_entries.proofs.FoundWider.{load_changes}
 use Rattle.table_entries.proofs.entries.take_typed.Goals as goal
 use Rattle.xp_board.specs.declared.step.StepKind.TheVariants as kinds
 
@@ -71,9 +77,9 @@ wait_entry-requires-clause-waits g c =
     let got = c.in_ok-frame.ensures in
     let way = c.in-Ok-Waiting in (
       l.0,
-      waits_from l.0 v u x at.table at.index at.owner at.kind l.1 c.args.frame c.in_ok-frame.frame c.args.want way.own way.stamp way.stop l.2 l.3 got.frame got.serves got.hand got.plain way.ensures.serves
+      waits_from l.0 v u x at.table at.index at.owner at.kind l.1 c.args.frame c.in_ok-frame.frame c.args.want way.own way.stamp way.stop l.2 l.3 got.frame got.serves got.hand got.plain got.gets way.ensures.serves
           (subst (λ k. ShowsWait u x c.in_ok-frame.frame at.owner c.args.want k) way.field-0-is way.ensures.waits) (subst (λ k. TakesAs u x c.in_ok-frame.frame at.owner c.args.want k) way.field-0-is way.ensures.hand)
-          (subst (λ k. TwinTake u x c.in_ok-frame.frame c.args.want (Ok k)) way.field-0-is way.ensures.plain),
+          (subst (λ k. TwinTake u x c.in_ok-frame.frame c.args.want (Ok k)) way.field-0-is way.ensures.plain) (subst (λ k. TakesFound u x c.in_ok-frame.frame c.args.want (Ok k)) way.field-0-is way.ensures.found),
     )
 
 pub returns-in-Ok-Counted-clause-hand : goal.returns-in-Ok-Counted-clause-hand
@@ -105,9 +111,9 @@ returns-in-Ok-Waiting-clause-hand g c b word l asks =
     let at = c.args.at in
     let got = c.in_ok-frame.ensures in
     let way = c.in-Ok-Waiting in
-    c.wait_entry.ensures.hand b (waits_from b v u x at.table at.index at.owner at.kind word c.args.frame c.in_ok-frame.frame c.args.want way.own way.stamp way.stop l asks got.frame got.serves got.hand got.plain way.ensures.serves
+    c.wait_entry.ensures.hand b (waits_from b v u x at.table at.index at.owner at.kind word c.args.frame c.in_ok-frame.frame c.args.want way.own way.stamp way.stop l asks got.frame got.serves got.hand got.plain got.gets way.ensures.serves
     (subst (λ k. ShowsWait u x c.in_ok-frame.frame at.owner c.args.want k) way.field-0-is way.ensures.waits) (subst (λ k. TakesAs u x c.in_ok-frame.frame at.owner c.args.want k) way.field-0-is way.ensures.hand)
-    (subst (λ k. TwinTake u x c.in_ok-frame.frame c.args.want (Ok k)) way.field-0-is way.ensures.plain))
+    (subst (λ k. TwinTake u x c.in_ok-frame.frame c.args.want (Ok k)) way.field-0-is way.ensures.plain) (subst (λ k. TakesFound u x c.in_ok-frame.frame c.args.want (Ok k)) way.field-0-is way.ensures.found))
 
 pub returns-in-Err-clause-hand : goal.returns-in-Err-clause-hand
 returns-in-Err-clause-hand g c b word l asks =
@@ -183,24 +189,12 @@ returns-in-Ok-Waiting-clause-enters g c b word next is pages =
     let x = g.P.Port.value c.get_ref.new.port in
     let y = g.P.Port.value c.take_type.new.port in
     let at = c.args.at in
-    let f = c.in_ok-frame.frame in
-    let same = sym c.in_ok-frame.ensures.frame.0 in
+    let way = c.in-Ok-Waiting in
+    let got = c.in_ok-frame.ensures in
     c.wait_entry.ensures.enters b
-    (record {
-      u = v;
-      x = x;
-      word = word;
-      looks = next;
-      asks = is ∙ ap (λ k. Typed k c.args.want) same;
-      inside = c.in_ok-frame.ensures.frame.1;
-      refers = subst (λ k. Serves v x (of_frame k at.owner None) []) same c.in_ok-frame.ensures.serves;
-      lent = c.in_ok-frame.ensures.hand;
-      referred = subst (λ k. TwinGet v x k at.owner (Ok f)) same c.in_ok-frame.ensures.plain;
-      types = c.in-Ok-Waiting.ensures.serves;
-      shows = subst (λ t. ShowsWait x y f at.owner c.args.want t) c.in-Ok-Waiting.field-0-is c.in-Ok-Waiting.ensures.waits;
-      waits = subst (λ t. TakesAs x y f at.owner c.args.want t) c.in-Ok-Waiting.field-0-is c.in-Ok-Waiting.ensures.hand;
-      typed = subst (λ t. TwinTake x y f c.args.want (Ok t)) c.in-Ok-Waiting.field-0-is c.in-Ok-Waiting.ensures.plain;
-    }) pages
+    (waits_from b v x y at.table at.index at.owner at.kind word c.args.frame c.in_ok-frame.frame c.args.want way.own way.stamp way.stop next is got.frame got.serves got.hand got.plain got.gets way.ensures.serves
+    (subst (λ k. ShowsWait x y c.in_ok-frame.frame at.owner c.args.want k) way.field-0-is way.ensures.waits) (subst (λ k. TakesAs x y c.in_ok-frame.frame at.owner c.args.want k) way.field-0-is way.ensures.hand)
+    (subst (λ k. TwinTake x y c.in_ok-frame.frame c.args.want (Ok k)) way.field-0-is way.ensures.plain) (subst (λ k. TakesFound x y c.in_ok-frame.frame c.args.want (Ok k)) way.field-0-is way.ensures.found)) pages
 
 pub returns-in_err-frame-clause-plain : goal.returns-in_err-frame-clause-plain
 returns-in_err-frame-clause-plain g c b word looks asks =
@@ -257,6 +251,68 @@ returns-in-Ok-Waiting-clause-plain g c b word looks asks =
     let way = c.in-Ok-Waiting in
     let got = c.in_ok-frame.ensures in
     c.wait_entry.ensures.plain b
-    (waits_from b v x y c.args.at.table c.args.at.index c.args.at.owner c.args.at.kind word c.args.frame c.in_ok-frame.frame c.args.want way.own way.stamp way.stop looks asks got.frame got.serves got.hand got.plain way.ensures.serves
+    (waits_from b v x y c.args.at.table c.args.at.index c.args.at.owner c.args.at.kind word c.args.frame c.in_ok-frame.frame c.args.want way.own way.stamp way.stop looks asks got.frame got.serves got.hand got.plain got.gets way.ensures.serves
     (subst (λ k. ShowsWait x y c.in_ok-frame.frame c.args.at.owner c.args.want k) way.field-0-is way.ensures.waits) (subst (λ k. TakesAs x y c.in_ok-frame.frame c.args.at.owner c.args.want k) way.field-0-is way.ensures.hand)
-    (subst (λ k. TwinTake x y c.in_ok-frame.frame c.args.want (Ok k)) way.field-0-is way.ensures.plain))
+    (subst (λ k. TwinTake x y c.in_ok-frame.frame c.args.want (Ok k)) way.field-0-is way.ensures.plain) (subst (λ k. TakesFound x y c.in_ok-frame.frame c.args.want (Ok k)) way.field-0-is way.ensures.found))
+
+pub returns-in_err-frame-clause-found : goal.returns-in_err-frame-clause-found
+returns-in_err-frame-clause-found g c b word next asks =
+    let v = g.P.Port.value c.args.port.now in
+    let x = g.P.Port.value c.get_ref.new.port in
+    let at = c.args.at in
+    let e = c.in_err-frame.field-0.0 in
+    let answer = err_from_is_err_and c.from_residual.result c.from_residual.ensures.1 in
+    subst (λ (r : Result Entered Stop). EntersFound b x at.table at.index at.kind at.owner r) (sym (answer.1 ∙ ap Err answer.2))
+    (enters_by b v at.table at.index at.kind word next.looks at.owner (Typed c.args.frame c.args.want) asks x (Err e) (serves_came v x (of_frame c.args.frame at.owner None) (missed v.post.machine e) c.in_err-frame.ensures.serves)
+    (asked_refused b v x c.args.frame at.owner (looked_changes b v at.table at.index at.kind word next.looks) (λ gs. TypedFound b x c.args.frame c.args.want (Err e) gs) e c.in_err-frame.ensures.kinds c.in_err-frame.ensures.gets))
+
+pub returns-in-Ok-Counted-clause-found : goal.returns-in-Ok-Counted-clause-found
+returns-in-Ok-Counted-clause-found g c b word next asks =
+    let v = g.P.Port.value c.args.port.now in
+    let x = g.P.Port.value c.get_ref.new.port in
+    let y = g.P.Port.value c.take_type.new.port in
+    let w = g.P.Port.value c.record_entry.new.port in
+    let at = c.args.at in
+    let f = c.in_ok-frame.frame in
+    let same = sym c.in_ok-frame.ensures.frame.0 in
+    enters_taken b v at.table at.index at.kind word next.looks at.owner f c.args.want (asks ∙ ap (λ k. Typed k c.args.want) same) x f (subst (λ k. Gets v x k at.owner (Ok f)) same c.in_ok-frame.ensures.gets) y w types.Counted
+    (subst (λ k. TakesFound x y f c.args.want (Ok k)) c.in-Ok-Counted.field-0-is c.in-Ok-Counted.ensures.found) (load_changes y y w [] Clock kinds.Look _ c.record_entry.result (changes_nothing y) c.record_entry.ensures.moves)
+    (Ok Recorded) (λ gs a. a)
+
+pub returns-in-Ok-InWork-clause-found : goal.returns-in-Ok-InWork-clause-found
+returns-in-Ok-InWork-clause-found g c b word next asks =
+    let v = g.P.Port.value c.args.port.now in
+    let x = g.P.Port.value c.get_ref.new.port in
+    let y = g.P.Port.value c.take_type.new.port in
+    let at = c.args.at in
+    let f = c.in_ok-frame.frame in
+    let way = c.in-Ok-InWork in
+    let same = sym c.in_ok-frame.ensures.frame.0 in
+    enters_taken b v at.table at.index at.kind word next.looks at.owner f c.args.want (asks ∙ ap (λ k. Typed k c.args.want) same) x f (subst (λ k. Gets v x k at.owner (Ok f)) same c.in_ok-frame.ensures.gets) y y
+    (types.InWork way.progress way.own) (subst (λ k. TakesFound x y f c.args.want (Ok k)) way.field-0-is way.ensures.found) (changes_nothing y) (Ok (Opened f way.progress way.own)) (λ gs a. (refl, a))
+
+pub returns-in-Ok-Waiting-clause-found : goal.returns-in-Ok-Waiting-clause-found
+returns-in-Ok-Waiting-clause-found g c b word next asks =
+    let v = g.P.Port.value c.args.port.now in
+    let x = g.P.Port.value c.get_ref.new.port in
+    let y = g.P.Port.value c.take_type.new.port in
+    let at = c.args.at in
+    let way = c.in-Ok-Waiting in
+    let got = c.in_ok-frame.ensures in
+    c.wait_entry.ensures.found b
+    (waits_from b v x y at.table at.index at.owner at.kind word c.args.frame c.in_ok-frame.frame c.args.want way.own way.stamp way.stop next asks got.frame got.serves got.hand got.plain got.gets way.ensures.serves
+    (subst (λ k. ShowsWait x y c.in_ok-frame.frame at.owner c.args.want k) way.field-0-is way.ensures.waits) (subst (λ k. TakesAs x y c.in_ok-frame.frame at.owner c.args.want k) way.field-0-is way.ensures.hand)
+    (subst (λ k. TwinTake x y c.in_ok-frame.frame c.args.want (Ok k)) way.field-0-is way.ensures.plain) (subst (λ k. TakesFound x y c.in_ok-frame.frame c.args.want (Ok k)) way.field-0-is way.ensures.found))
+
+pub returns-in-Err-clause-found : goal.returns-in-Err-clause-found
+returns-in-Err-clause-found g c b word next asks =
+    let v = g.P.Port.value c.args.port.now in
+    let x = g.P.Port.value c.get_ref.new.port in
+    let y = g.P.Port.value c.take_type.new.port in
+    let z = g.P.Port.value c.put_ref.new.port in
+    let at = c.args.at in
+    let f = c.in_ok-frame.frame in
+    let e = c.in-Err.stop in
+    let same = sym c.in_ok-frame.ensures.frame.0 in
+    enters_stopped b v at.table at.index at.kind word next.looks at.owner f c.args.want (asks ∙ ap (λ k. Typed k c.args.want) same) x f (subst (λ k. Gets v x k at.owner (Ok f)) same c.in_ok-frame.ensures.gets) y z e
+    (serves_came x y (of_frame f at.owner (Some c.args.want)) (missed x.post.machine e) c.in-Err.ensures.serves) c.in-Err.ensures.found c.put_ref.ensures.puts

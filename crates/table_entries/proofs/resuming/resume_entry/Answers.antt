@@ -2,6 +2,7 @@ use Rattle.std.proofs.Common.{sym, subst, ◌∙◌, true, false}
 use Rattle.table_entries.specs.Between.{LooksLive, SeesEntry}
 use Rattle.table_entries.proofs.HandAgain.{live_hand, may_again}
 use Rattle.xp_words.specs.Entries.{demand_at}
+use Rattle.table_entries.proofs.FoundResuming.{live_found, standing_found}
 use Rattle.table_entries.proofs.PiecesAsking.{looked_goes}
 use Rattle.table_entries.proofs.PiecesResuming.{live_goes}
 use Rattle.table_entries.proofs.PiecesStanding.{AsksNoType, standing_hand, standing_twin}
@@ -99,17 +100,6 @@ returns-else-is_live_there-clause-shows g c pages =
     (c.take_again.ensures.resumes v u c.look_cell-word.result (record { looks = looks; works = c.requires.works }) (sym c.demand.ensures ∙ c.in-Typed.is)
     (subst (λ y. LooksLive u x c.in-Typed.frame y) c.if-is_live_there.false c.is_live_there.ensures) pages).shows
 
-pub returns-else-is_live_there-clause-other : goal.returns-else-is_live_there-clause-other
-returns-else-is_live_there-clause-other g c =
-    let v = g.P.Port.value c.args.port.now in
-    let u = g.P.Port.value c.look_cell-word.new.port in
-    let at = c.args.at in
-    let x = g.P.Port.value c.is_live_there.new.port in
-    let looks : SeesEntry v u at.table at.index at.kind c.look_cell-word.result =
-    record { look = c.look_cell-word.ensures.moves; hand = c.look_cell-word.ensures.hand; frame = c.requires.frame; index = c.requires.index; held = c.requires.held; above = c.requires.above; looked = c.requires.looked } in
-    (c.take_again.ensures.resumes v u c.look_cell-word.result (record { looks = looks; works = c.requires.works }) (sym c.demand.ensures ∙ c.in-Typed.is)
-    (subst (λ y. LooksLive u x c.in-Typed.frame y) c.if-is_live_there.false c.is_live_there.ensures) 0).other
-
 pub returns-else-is_live_there-clause-looks : goal.returns-else-is_live_there-clause-looks
 returns-else-is_live_there-clause-looks g c =
     let v = g.P.Port.value c.args.port.now in
@@ -135,8 +125,8 @@ returns-in_default g c =
       stops = λ pages. tt;
       kinds = tt;
       shows = λ pages. tt;
-      other = tt;
       looks = (goes 0).looks;
+      found = standing_found v u at.table at.index at.kind c.look_cell-word.result looks at.owner other;
       hand = standing_hand v u at.table at.index at.kind c.look_cell-word.result looks c.requires.works other;
       plain = standing_twin v u at.table at.index at.owner at.kind c.look_cell-word.result looks other;
     }
@@ -157,4 +147,26 @@ returns-else-is_live_there-clause-plain g c =
     let looks : SeesEntry v u c.args.at.table c.args.at.index c.args.at.kind c.look_cell-word.result =
     record { look = c.look_cell-word.ensures.moves; hand = c.look_cell-word.ensures.hand; frame = c.requires.frame; index = c.requires.index; held = c.requires.held; above = c.requires.above; looked = c.requires.looked } in
     c.take_again.ensures.plain v u c.look_cell-word.result (record { looks = looks; works = c.requires.works }) (sym c.demand.ensures ∙ c.in-Typed.is)
+    (subst (λ y. LooksLive u x c.in-Typed.frame y) c.if-is_live_there.false c.is_live_there.ensures)
+
+pub returns-then-is_live_there-clause-found : goal.returns-then-is_live_there-clause-found
+returns-then-is_live_there-clause-found g c =
+    let v = g.P.Port.value c.args.port.now in
+    let u = g.P.Port.value c.look_cell-word.new.port in
+    let x = g.P.Port.value c.is_live_there.new.port in
+    let at = c.args.at in
+    let looks : SeesEntry v u at.table at.index at.kind c.look_cell-word.result =
+    record { look = c.look_cell-word.ensures.moves; hand = c.look_cell-word.ensures.hand; frame = c.requires.frame; index = c.requires.index; held = c.requires.held; above = c.requires.above; looked = c.requires.looked } in
+    live_found v u at.table at.index at.kind c.look_cell-word.result looks at.owner c.in-Typed.frame c.in-Typed.kind (sym c.demand.ensures ∙ c.in-Typed.is) x
+    (subst (λ y. LooksLive u x c.in-Typed.frame y) c.if-is_live_there.true c.is_live_there.ensures)
+
+pub returns-else-is_live_there-clause-found : goal.returns-else-is_live_there-clause-found
+returns-else-is_live_there-clause-found g c =
+    let v = g.P.Port.value c.args.port.now in
+    let u = g.P.Port.value c.look_cell-word.new.port in
+    let x = g.P.Port.value c.is_live_there.new.port in
+    let at = c.args.at in
+    let looks : SeesEntry v u at.table at.index at.kind c.look_cell-word.result =
+    record { look = c.look_cell-word.ensures.moves; hand = c.look_cell-word.ensures.hand; frame = c.requires.frame; index = c.requires.index; held = c.requires.held; above = c.requires.above; looked = c.requires.looked } in
+    c.take_again.ensures.found v u c.look_cell-word.result (record { looks = looks; works = c.requires.works }) (sym c.demand.ensures ∙ c.in-Typed.is)
     (subst (λ y. LooksLive u x c.in-Typed.frame y) c.if-is_live_there.false c.is_live_there.ensures)

@@ -1,4 +1,4 @@
-use Rattle.std.proofs.Common.{[], false, Err, None, ap, sym, subst, ◌∙◌, Result, Some, Ok}
+use Rattle.std.proofs.Common.{[], false, Err, None, refl, ap, sym, subst, ◌∙◌, Result, Some, Ok}
 use Rattle.std.proofs.lemmas.Result.{err_from_is_err_and}
 use Rattle.xp_words.specs.declared.entry.Demand.TheVariants.{Typed}
 use Rattle.answer_fits.specs.Asked.{of_frame}
@@ -9,7 +9,6 @@ use Rattle.table_entries.proofs.HandLists.{asks_some}
 use Rattle.table_entries.proofs.HandTyped.{given_up, opens_from, opens_waiting, take_aside, take_looking, take_other, takes_again}
 use Rattle.table_entries.proofs.HandAgain.{live_same, looked_again, taken_settled, takes_behind}
 use Rattle.xp_words.specs.declared.reply.Stop.{Stop}
-use Rattle.answer_fits.specs.Answers.{Serves}
 use Rattle.table_entries.specs.declared.resuming.Resumed.{Resumed}
 use Rattle.table_entries.proofs.PiecesResuming.{resumes_opened, resumes_taken, resumes_unreferred, resumes_untyped, resumes_waiting}
 use Rattle.step_maker.proofs.Telling.{came_telling}
@@ -18,6 +17,12 @@ use Rattle.table_entries.specs.Plain.{TwinResume}
 use Rattle.table_entries.proofs.TwinsLooked.{twin_again}
 use Rattle.table_entries.proofs.TwinsTaken.{again_behind, again_refused}
 use Rattle.table_entries.proofs.TwinsTyped.{again_counted, again_opened, again_stopped, again_waiting}
+use Rattle.answer_fits.specs.Answers.{Serves, missed}
+use Rattle.frame_words.specs.Refs.{Gets}
+use Rattle.frame_types.specs.Changing.{TakesFound}
+use Rattle.frame_types.specs.declared.taking.Taken.TheVariants as types
+use Rattle.table_entries.specs.Found.{ResumesFound}
+use Rattle.table_entries.proofs.FoundResuming.{retaken_found, unreferred_found, untaken_found}
 use Rattle.table_entries.proofs.resuming.take_again.Goals as goal
 use Rattle.table_entries.specs.declared.resuming.Resumed.TheVariants as again
 
@@ -228,3 +233,63 @@ returns-in-Err-clause-plain g c b u word looks asks live =
     again_behind v x c.args.frame c.in_ok-frame.frame c.args.at.owner c.in_ok-frame.ensures.plain telling z c.args.want (Err c.in-Err.stop)
     (again_stopped x y c.args.frame c.in_ok-frame.frame c.args.want c.in_ok-frame.ensures.frame.0 (came_telling v x (serves_came v x (of_frame c.args.frame c.args.at.owner None) [] c.in_ok-frame.ensures.serves) ∙ telling) z
     (serves_came x y (of_frame c.in_ok-frame.frame c.args.at.owner (Some c.args.want)) _ c.in-Err.ensures.serves) c.put_ref.ensures.plain c.in-Err.stop c.in-Err.ensures.plain))
+
+pub returns-in_err-frame-clause-found : goal.returns-in_err-frame-clause-found
+returns-in_err-frame-clause-found g c b u word looks asks off =
+    let v = g.P.Port.value c.args.port.now in
+    let x = g.P.Port.value c.get_ref.new.port in
+    let at = c.args.at in
+    let e = c.in_err-frame.field-0.0 in
+    let answer = err_from_is_err_and c.from_residual.result c.from_residual.ensures.1 in
+    subst (λ (r : Result Resumed Stop). ResumesFound b x at.table at.index at.kind at.owner r) (sym (answer.1 ∙ ap Err answer.2))
+    (unreferred_found b u at.table at.index at.kind word looks.looks at.owner c.args.frame c.args.want asks v off x e c.in_err-frame.ensures.kinds (serves_came v x (of_frame c.args.frame at.owner None) (missed v.post.machine e) c.in_err-frame.ensures.serves)
+    c.in_err-frame.ensures.gets)
+
+pub returns-in-Ok-Counted-clause-found : goal.returns-in-Ok-Counted-clause-found
+returns-in-Ok-Counted-clause-found g c b u word looks asks off =
+    let v = g.P.Port.value c.args.port.now in
+    let x = g.P.Port.value c.get_ref.new.port in
+    let y = g.P.Port.value c.take_type.new.port in
+    let at = c.args.at in
+    let f = c.in_ok-frame.frame in
+    let way = c.in-Ok-Counted in
+    let same = sym c.in_ok-frame.ensures.frame.0 in
+    retaken_found b u at.table at.index at.kind word looks.looks at.owner f c.args.want (asks ∙ ap (λ k. Typed k c.args.want) same) v (subst (λ k. LooksLive u v k false) same off) x f
+    (subst (λ k. Gets v x k at.owner (Ok f)) same c.in_ok-frame.ensures.gets) y types.Counted (subst (λ k. TakesFound x y f c.args.want (Ok k)) way.field-0-is way.ensures.found) (Ok (again.Taken f)) (λ gs a. (refl, a))
+
+pub returns-in-Ok-InWork-clause-found : goal.returns-in-Ok-InWork-clause-found
+returns-in-Ok-InWork-clause-found g c b u word looks asks off =
+    let v = g.P.Port.value c.args.port.now in
+    let x = g.P.Port.value c.get_ref.new.port in
+    let y = g.P.Port.value c.take_type.new.port in
+    let at = c.args.at in
+    let f = c.in_ok-frame.frame in
+    let way = c.in-Ok-InWork in
+    let same = sym c.in_ok-frame.ensures.frame.0 in
+    retaken_found b u at.table at.index at.kind word looks.looks at.owner f c.args.want (asks ∙ ap (λ k. Typed k c.args.want) same) v (subst (λ k. LooksLive u v k false) same off) x f
+    (subst (λ k. Gets v x k at.owner (Ok f)) same c.in_ok-frame.ensures.gets) y (types.InWork way.progress way.own) (subst (λ k. TakesFound x y f c.args.want (Ok k)) way.field-0-is way.ensures.found) (Ok (again.Opened f way.progress way.own)) (λ gs a. (refl, a))
+
+pub returns-in-Ok-Waiting-clause-found : goal.returns-in-Ok-Waiting-clause-found
+returns-in-Ok-Waiting-clause-found g c b u word looks asks off =
+    let v = g.P.Port.value c.args.port.now in
+    let x = g.P.Port.value c.get_ref.new.port in
+    let y = g.P.Port.value c.take_type.new.port in
+    let at = c.args.at in
+    let f = c.in_ok-frame.frame in
+    let way = c.in-Ok-Waiting in
+    let same = sym c.in_ok-frame.ensures.frame.0 in
+    retaken_found b u at.table at.index at.kind word looks.looks at.owner f c.args.want (asks ∙ ap (λ k. Typed k c.args.want) same) v (subst (λ k. LooksLive u v k false) same off) x f
+    (subst (λ k. Gets v x k at.owner (Ok f)) same c.in_ok-frame.ensures.gets) y (types.Waiting way.own way.stamp way.stop) (subst (λ k. TakesFound x y f c.args.want (Ok k)) way.field-0-is way.ensures.found) (Ok (again.Waiting f way.own way.stamp way.stop)) (λ gs a. (refl, a))
+
+pub returns-in-Err-clause-found : goal.returns-in-Err-clause-found
+returns-in-Err-clause-found g c b u word looks asks off =
+    let v = g.P.Port.value c.args.port.now in
+    let x = g.P.Port.value c.get_ref.new.port in
+    let y = g.P.Port.value c.take_type.new.port in
+    let z = g.P.Port.value c.put_ref.new.port in
+    let at = c.args.at in
+    let f = c.in_ok-frame.frame in
+    let e = c.in-Err.stop in
+    let same = sym c.in_ok-frame.ensures.frame.0 in
+    untaken_found b u at.table at.index at.kind word looks.looks at.owner f c.args.want (asks ∙ ap (λ k. Typed k c.args.want) same) v (subst (λ k. LooksLive u v k false) same off) x f
+    (subst (λ k. Gets v x k at.owner (Ok f)) same c.in_ok-frame.ensures.gets) y z e (serves_came x y (of_frame f at.owner (Some c.args.want)) (missed x.post.machine e) c.in-Err.ensures.serves) c.in-Err.ensures.found c.put_ref.ensures.puts
