@@ -18,6 +18,7 @@ ghost use Rattle.step_maker.specs.Moves.{Moves};
 ghost use Rattle.table_entries.specs.Asking.{LooksOnly, of_entries};
 ghost use Rattle.table_releases.specs.Between.{FromKind, FromLive, FromResumed, FromTyped, HandReleased, HasResumed, HasSeenKind, HasSeenLive, HasSeenTyped, Releases};
 ghost use Rattle.table_releases.specs.Found.{ReleasesFound};
+ghost use Rattle.table_releases.specs.Plain.{TwinRelease};
 ghost use Rattle.table_releases.specs.Tops.{IsReleaseStop, LeavesReleased, OwnsReleased, ReleasesTop, StaysRecorded};
 ghost use Rattle.table_words.specs.Entries.{ShedsLast, entry_shed};
 
@@ -69,6 +70,8 @@ pub fn release_entry<P: Port>(
     ensures owned { IfOk result (λ a. OwnsReleased (P.value port.old) (P.value port.new) table a) }
     // By the words that the steps found.
     ensures found { ReleasesFound (P.value port.old) (P.value port.new) table index kind result }
+    // On a board that tells all words.
+    ensures plain { TwinRelease (P.value port.old) (P.value port.new) table kind index result }
 {
     let word = look_cell(port, table, index);
     match demand(kind, index, word) {
@@ -100,6 +103,7 @@ fn release_typed<P: Port>(
     ensures goes { FromTyped (P.value port.old) table index frame want (λ b t. (owner pages : ℕ) → Releases b (P.value port.new) table index owner pages result) }
     ensures hand { FromTyped (P.value port.old) table index frame want (λ b t. HandReleased b (P.value port.new) table index t result) }
     ensures found { FromTyped (P.value port.old) table index frame want (λ b t. ReleasesFound b (P.value port.new) table index t result) }
+    ensures plain { FromTyped (P.value port.old) table index frame want (λ b t. TwinRelease b (P.value port.new) table t index result) }
 {
     let word = look_kind(port, frame);
     let kind = read_kind(word);
@@ -125,6 +129,7 @@ fn release_live<P: Port>(
     ensures goes { FromLive (P.value port.old) table index frame want (λ b t. (owner pages : ℕ) → Releases b (P.value port.new) table index owner pages (Ok result)) }
     ensures hand { FromLive (P.value port.old) table index frame want (λ b t. HandReleased b (P.value port.new) table index t (Ok result)) }
     ensures found { FromLive (P.value port.old) table index frame want (λ b t. ReleasesFound b (P.value port.new) table index t (Ok result)) }
+    ensures plain { FromLive (P.value port.old) table index frame want (λ b t. TwinRelease b (P.value port.new) table t index (Ok result)) }
 {
     shed_entry_by_look(port, table, index, frame);
     if !want.is_table() {
@@ -159,6 +164,7 @@ fn release_partial<P: Port>(
     ensures goes { FromKind (P.value port.old) table index frame want word (λ b t. (owner pages : ℕ) → Releases b (P.value port.new) table index owner pages result) }
     ensures hand { FromKind (P.value port.old) table index frame want word (λ b t. HandReleased b (P.value port.new) table index t result) }
     ensures found { FromKind (P.value port.old) table index frame want word (λ b t. ReleasesFound b (P.value port.new) table index t result) }
+    ensures plain { FromKind (P.value port.old) table index frame want word (λ b t. TwinRelease b (P.value port.new) table t index result) }
 {
     match resume_work(port, frame, kind) {
         Ok(()) => Ok(shed_resumed(port, table, index, frame, want, kind)),
@@ -180,6 +186,7 @@ fn shed_resumed<P: Port>(
     ensures goes { FromResumed (P.value port.old) table index frame want kind (λ b t. (owner pages : ℕ) → Releases b (P.value port.new) table index owner pages (Ok result)) }
     ensures hand { FromResumed (P.value port.old) table index frame want kind (λ b t. HandReleased b (P.value port.new) table index t (Ok result)) }
     ensures found { FromResumed (P.value port.old) table index frame want kind (λ b t. ReleasesFound b (P.value port.new) table index t (Ok result)) }
+    ensures plain { FromResumed (P.value port.old) table index frame want kind (λ b t. TwinRelease b (P.value port.new) table t index (Ok result)) }
 {
     if want.is_table() {
         shed_by_owner(port, table, index, frame);

@@ -6,6 +6,7 @@ use Rattle.table_releases.specs.Between.{SeesLast, SeesTyped}
 use Rattle.table_releases.proofs.Entry.{frame_fits, hand_left, hand_owned, nothing_found, nothing_hand, plain_found, plain_gives, plain_goes, plain_hand, plain_post, shed_goes}
 use Rattle.table_releases.proofs.Looking.{looked_seen, plain_there, typed_there}
 use Rattle.table_releases.proofs.LastSeen.{seen_sheds}
+use Rattle.table_releases.proofs.Twins.{nothing_twin, plain_twin}
 use Rattle.table_releases.proofs.entries.release_entry.Goals as goal
 
 pub shed_entry-requires : goal.shed_entry-requires
@@ -200,3 +201,28 @@ returns-in-Typed-clause-found g c =
     record { look = c.look_cell-word.ensures.moves; hand = c.look_cell-word.ensures.hand; frame = c.requires.frame; index = c.requires.index; works = c.requires.works; above = c.requires.above; looked = c.requires.looked } in
     let s : SeesTyped b v c.args.table c.args.index c.args.kind c.look_cell-word.result c.in-Typed.frame c.in-Typed.want = record { sees = l; asks = sym c.demand.ensures ∙ c.in-Typed.is; inside = typed_there b v c.args.table c.args.index c.args.kind c.look_cell-word.result l c.in-Typed.frame c.in-Typed.want (sym c.demand.ensures ∙ c.in-Typed.is) } in
     c.release_typed.ensures.found b c.args.kind c.look_cell-word.result s
+
+pub returns-in-Nothing-clause-plain : goal.returns-in-Nothing-clause-plain
+returns-in-Nothing-clause-plain g c =
+    let b = g.P.Port.value c.args.port.now in
+    let v = g.P.Port.value c.look_cell-word.new.port in
+    let l : SeesLast b v c.args.table c.args.index c.args.kind c.look_cell-word.result =
+    record { look = c.look_cell-word.ensures.moves; hand = c.look_cell-word.ensures.hand; frame = c.requires.frame; index = c.requires.index; works = c.requires.works; above = c.requires.above; looked = c.requires.looked } in
+    nothing_twin b v c.args.table c.args.index c.args.kind c.look_cell-word.result l (g.P.Port.value c.shed_entry.new.port) _ _ c.shed_entry.result c.shed_entry.ensures.moves (subst (λ d. (d ≡ Nothing) ⊎ (d ≡ Bad)) c.demand.ensures c.in-Nothing.is)
+
+pub returns-in-Read-clause-plain : goal.returns-in-Read-clause-plain
+returns-in-Read-clause-plain g c =
+    let b = g.P.Port.value c.args.port.now in
+    let v = g.P.Port.value c.look_cell-word.new.port in
+    let l : SeesLast b v c.args.table c.args.index c.args.kind c.look_cell-word.result =
+    record { look = c.look_cell-word.ensures.moves; hand = c.look_cell-word.ensures.hand; frame = c.requires.frame; index = c.requires.index; works = c.requires.works; above = c.requires.above; looked = c.requires.looked } in
+    plain_twin b v c.args.table c.args.index c.args.kind c.look_cell-word.result l (g.P.Port.value c.shed_entry-in-Read.new.port) (g.P.Port.value c.put_ref.new.port) _ _ c.shed_entry-in-Read.result c.in-Read.frame c.shed_entry-in-Read.ensures.moves (sym c.demand.ensures ∙ c.in-Read.is) c.put_ref.ensures.plain
+
+pub returns-in-Typed-clause-plain : goal.returns-in-Typed-clause-plain
+returns-in-Typed-clause-plain g c =
+    let b = g.P.Port.value c.args.port.now in
+    let v = g.P.Port.value c.look_cell-word.new.port in
+    let l : SeesLast b v c.args.table c.args.index c.args.kind c.look_cell-word.result =
+    record { look = c.look_cell-word.ensures.moves; hand = c.look_cell-word.ensures.hand; frame = c.requires.frame; index = c.requires.index; works = c.requires.works; above = c.requires.above; looked = c.requires.looked } in
+    let s : SeesTyped b v c.args.table c.args.index c.args.kind c.look_cell-word.result c.in-Typed.frame c.in-Typed.want = record { sees = l; asks = sym c.demand.ensures ∙ c.in-Typed.is; inside = typed_there b v c.args.table c.args.index c.args.kind c.look_cell-word.result l c.in-Typed.frame c.in-Typed.want (sym c.demand.ensures ∙ c.in-Typed.is) } in
+    c.release_typed.ensures.plain b c.args.kind c.look_cell-word.result s

@@ -6,6 +6,7 @@ use Rattle.table_releases.specs.declared.entries.Released.TheVariants.{Given, Op
 use Rattle.table_releases.proofs.Finding.{closed_found, counted_found, plain_found}
 use Rattle.table_releases.proofs.HandLive.{closed_opens, counted_gives, counted_given, live_drops, live_drops_plain, live_may, may_dropped, plain_given}
 use Rattle.table_releases.proofs.PiecesTyped.{back_releases, two_back_releases}
+use Rattle.table_releases.proofs.Twins.{closed_twin, counted_twin, dropped_twin}
 use Rattle.table_releases.proofs.entries.release_live.Goals as goal
 
 pub shed_entry_by_look-requires-clause-may : goal.shed_entry_by_look-requires-clause-may
@@ -105,3 +106,18 @@ pub returns-else-drop_type-clause-found : goal.returns-else-drop_type-clause-fou
 returns-else-drop_type-clause-found g c x live b t word l =
     counted_found b (g.P.Port.value c.args.port.now) c.args.table c.args.index t word c.args.frame c.args.want x l live (g.P.Port.value c.shed_entry_by_look.new.port) _ c.shed_entry_by_look.result c.shed_entry_by_look.ensures.moves
     (g.P.Port.value c.drop_type.new.port) c.drop_type.result c.drop_type.ensures.drops (sym c.is_table.ensures ∙ c.if-not-is_table.false) c.if-drop_type.false (g.P.Port.value c.put_ref.new.port) c.put_ref.ensures.puts
+
+pub returns-then-not-is_table-clause-plain : goal.returns-then-not-is_table-clause-plain
+returns-then-not-is_table-clause-plain g c x live b t word l =
+    dropped_twin b (g.P.Port.value c.args.port.now) c.args.table c.args.index t word c.args.frame c.args.want x l live (g.P.Port.value c.shed_entry_by_look.new.port) _ c.shed_entry_by_look.result c.shed_entry_by_look.ensures.moves
+    (g.P.Port.value c.drop_plain.new.port) (sym c.is_table.ensures ∙ c.if-not-is_table.true) c.drop_plain.ensures.plain
+
+pub returns-then-drop_type-clause-plain : goal.returns-then-drop_type-clause-plain
+returns-then-drop_type-clause-plain g c x live b t word l =
+    closed_twin b (g.P.Port.value c.args.port.now) c.args.table c.args.index t word c.args.frame c.args.want x l live (g.P.Port.value c.shed_entry_by_look.new.port) _ c.shed_entry_by_look.result c.shed_entry_by_look.ensures.moves
+    (g.P.Port.value c.drop_type.new.port) c.drop_type.result c.drop_type.ensures.drops (sym c.is_table.ensures ∙ c.if-not-is_table.false) c.drop_type.ensures.plain c.if-drop_type.true
+
+pub returns-else-drop_type-clause-plain : goal.returns-else-drop_type-clause-plain
+returns-else-drop_type-clause-plain g c x live b t word l =
+    counted_twin b (g.P.Port.value c.args.port.now) c.args.table c.args.index t word c.args.frame c.args.want x l live (g.P.Port.value c.shed_entry_by_look.new.port) _ c.shed_entry_by_look.result c.shed_entry_by_look.ensures.moves
+    (g.P.Port.value c.drop_type.new.port) c.drop_type.result c.drop_type.ensures.drops (sym c.is_table.ensures ∙ c.if-not-is_table.false) c.drop_type.ensures.plain c.if-drop_type.false (g.P.Port.value c.put_ref.new.port) c.put_ref.ensures.plain

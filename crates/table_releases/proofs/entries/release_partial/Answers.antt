@@ -14,6 +14,7 @@ use Rattle.table_releases.specs.declared.entries.Released.{Released}
 use Rattle.table_releases.proofs.FrameSeen.{kind_post}
 use Rattle.table_releases.proofs.Lost.{lost_found, lost_stays, resumed_from}
 use Rattle.table_releases.proofs.PiecesTyped.{lost_releases}
+use Rattle.table_releases.proofs.TwinsResumed.{never_lost}
 use Rattle.table_releases.proofs.entries.release_partial.Goals as goal
 
 pub resume_work-requires-clause-is : goal.resume_work-requires-clause-is
@@ -69,3 +70,13 @@ returns-in-Err-clause-found g c b t word l =
     let w = g.P.Port.value c.resume_work.new.port in
     subst (λ (e : Stop). ReleasesFound b w c.args.table c.args.index t (Err e)) (sym c.lost.ensures)
     (lost_found b v c.args.table c.args.index t word c.args.frame c.args.want c.args.word l w c.in-Err.found c.args.kind c.requires.read c.requires.partial c.in-Err.ensures.moves _ c.in-Err.ensures.lost)
+
+pub returns-in-Ok-clause-plain : goal.returns-in-Ok-clause-plain
+returns-in-Ok-clause-plain g c b t word l =
+    let v = g.P.Port.value c.args.port.now in
+    let w = g.P.Port.value c.resume_work.new.port in
+    c.shed_resumed.ensures.plain b t word (resumed_from b v w c.args.table c.args.index t word c.args.frame c.args.want c.args.word l c.args.kind c.requires.read c.requires.partial c.in-Ok.ensures.moves c.in-Ok.ensures.hand)
+
+pub returns-in-Err-clause-plain : goal.returns-in-Err-clause-plain
+returns-in-Err-clause-plain g c b t word l =
+    never_lost b (g.P.Port.value c.args.port.now) (g.P.Port.value c.resume_work.new.port) c.args.table c.args.index t word c.args.frame c.args.want c.args.word l c.args.kind c.requires.read _ c.in-Err.found c.in-Err.ensures.moves c.in-Err.ensures.lost _

@@ -7,6 +7,7 @@ use Rattle.table_releases.proofs.FrameSeen.{typed_frame}
 use Rattle.table_releases.proofs.Finding.{busy_found}
 use Rattle.table_releases.proofs.HandLive.{sees_kind, stays_recorded}
 use Rattle.table_releases.proofs.PiecesTyped.{busy_releases}
+use Rattle.table_releases.proofs.Twins.{busy_twin}
 use Rattle.table_releases.proofs.entries.release_typed.Goals as goal
 
 pub look_kind-word-requires : goal.look_kind-word-requires
@@ -92,3 +93,22 @@ returns-else-kind-2-clause-hand g c b t word l =
     let v = g.P.Port.value c.args.port.now in
     let u = g.P.Port.value c.look_kind-word.new.port in
     stays_recorded b u c.args.table c.args.index t word c.args.frame c.args.want c.look_kind-word.result (sees_kind b v u c.args.table c.args.index t word c.args.frame c.args.want c.look_kind-word.result l c.look_kind-word.ensures.moves c.look_kind-word.ensures.hand)
+
+pub returns-then-kind-clause-plain : goal.returns-then-kind-clause-plain
+returns-then-kind-clause-plain g c b t word l =
+    let v = g.P.Port.value c.args.port.now in
+    let u = g.P.Port.value c.look_kind-word.new.port in
+    c.release_live.ensures.plain c.look_kind-word.result (ap (λ k. k.validated) (fields_of c.look_kind-word.result c.read_kind-kind.result c.read_kind-kind.ensures) ∙ c.if-kind.true) b t word (sees_kind b v u c.args.table c.args.index t word c.args.frame c.args.want c.look_kind-word.result l c.look_kind-word.ensures.moves c.look_kind-word.ensures.hand)
+
+pub returns-then-kind-2-clause-plain : goal.returns-then-kind-2-clause-plain
+returns-then-kind-2-clause-plain g c b t word l =
+    let v = g.P.Port.value c.args.port.now in
+    let u = g.P.Port.value c.look_kind-word.new.port in
+    c.release_partial.ensures.plain b t word (sees_kind b v u c.args.table c.args.index t word c.args.frame c.args.want c.look_kind-word.result l c.look_kind-word.ensures.moves c.look_kind-word.ensures.hand)
+
+pub returns-else-kind-2-clause-plain : goal.returns-else-kind-2-clause-plain
+returns-else-kind-2-clause-plain g c b t word l =
+    let v = g.P.Port.value c.args.port.now in
+    let u = g.P.Port.value c.look_kind-word.new.port in
+    let fields = fields_of c.look_kind-word.result c.read_kind-kind.result c.read_kind-kind.ensures in
+    busy_twin b u c.args.table c.args.index t word c.args.frame c.args.want c.look_kind-word.result (sees_kind b v u c.args.table c.args.index t word c.args.frame c.args.want c.look_kind-word.result l c.look_kind-word.ensures.moves c.look_kind-word.ensures.hand) (ap (λ k. k.validated) fields ∙ c.if-kind.false) (ap (λ k. k.partial) fields ∙ c.if-kind-2.false)

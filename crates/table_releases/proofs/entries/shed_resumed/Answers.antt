@@ -11,6 +11,7 @@ use Rattle.xp_words.specs.declared.place.Place.TheVariants.{Kind}
 use Rattle.xp_board.specs.declared.step.Act.TheVariants.{Store}
 use Rattle.xp_board.specs.declared.step.StepKind.TheVariants as kinds
 use Rattle.step_maker.specs.Moves.{Moves}
+use Rattle.table_releases.proofs.TwinsResumed.{memory_twin, table_twin}
 use Rattle.table_releases.proofs.entries.shed_resumed.Goals as goal
 
 pub shed_by_owner-requires-clause-may : goal.shed_by_owner-requires-clause-may
@@ -110,3 +111,14 @@ returns-then-is_table-clause-hand g c b t word r =
       resumed_opens b v c.args.table c.args.index t word c.args.frame c.args.want c.args.kind r w c.shed_by_owner.ensures.hand _ _ c.shed_by_owner.result c.shed_by_owner.ensures.moves table,
       λ off owner knows. resumed_owned b v c.args.table c.args.index t word c.args.frame c.args.want c.args.kind r w c.shed_by_owner.result c.shed_by_owner.ensures.moves c.shed_by_owner.ensures.hand table owner knows,
     )
+
+pub returns-then-is_table-clause-plain : goal.returns-then-is_table-clause-plain
+returns-then-is_table-clause-plain g c b t word r =
+    table_twin b (g.P.Port.value c.args.port.now) c.args.table c.args.index t word c.args.frame c.args.want c.args.kind r (g.P.Port.value c.shed_by_owner.new.port) _ c.shed_by_owner.result c.shed_by_owner.ensures.moves (sym c.is_table.ensures ∙ c.if-is_table.true)
+
+pub returns-else-is_table-clause-plain : goal.returns-else-is_table-clause-plain
+returns-else-is_table-clause-plain g c b t word r =
+    let w = g.P.Port.value c.shed_entry-clock.new.port in
+    let d = g.P.Port.value c.leave.new.port in
+    memory_twin b (g.P.Port.value c.args.port.now) c.args.table c.args.index t word c.args.frame c.args.want c.args.kind r w d (g.P.Port.value c.put_ref.new.port) _ c.shed_entry-clock.result c.leave.result c.shed_entry-clock.ensures.moves
+    (subst (λ y. Moves w d (Kind c.args.frame) (Store (kind_write y)) kinds.Kind None c.leave.result) c.waiting_kind.ensures c.leave.ensures.moves) c.put_ref.ensures.plain (sym c.is_table.ensures ∙ c.if-is_table.false)
