@@ -22,6 +22,7 @@ use Rattle.xp_board.specs.Steps.{some_since}
 use Rattle.xp_board.specs.Told.{Finds, Post, PortValue}
 use Rattle.board_lemmas.proofs.EntryWords.{type_same}
 use Rattle.board_lemmas.proofs.KindForms.{fields_of}
+use Rattle.board_lemmas.proofs.Learned.{learned_frame}
 use Rattle.board_lemmas.proofs.ListCounts.{first_by-none}
 use Rattle.board_lemmas.proofs.Sums.{when_eq}
 use Rattle.board_lemmas.proofs.Works.{counted_alive, nobody_locks}
@@ -29,7 +30,7 @@ use Rattle.answer_fits.specs.Pauses.{IsElsewhere}
 use Rattle.kind_words.proofs.KindFacts.{kind_found, work_word}
 use Rattle.frame_types.specs.Taking.{IsOfOther}
 use Rattle.table_entries.proofs.HandLists.{asks_below, was_in}
-use Rattle.table_entries.proofs.HandReady.{learned_keeps}
+use Rattle.table_entries.proofs.HandReady.{learned_word}
 use Rattle.table_releases.specs.Between.{SeesKind, SeesLast, SeesTyped}
 use Rattle.table_releases.proofs.LastSeen.{SeenLast, finds_counts, finds_kind, finds_leads, finds_referred, finds_unkept, seen_asks}
 use Rattle.table_releases.proofs.Looking.{looked_seen}
@@ -46,12 +47,12 @@ typed_frame b v f i t word g want l = subst (λ (p : Post). g < p.machine.frames
 
 same_word : (i word : ℕ) (e x : Work) → (e ≡ x) ⊎ (e ≡ learned_work i word x) → e.word ≡ x.word
 same_word i word e x (inl is) = ap (λ (y : Work). y.word) is
-same_word i word e x (inr is) = ap (λ (y : Work). y.word) is ∙ (learned_keeps i word x).1
+same_word i word e x (inr is) = ap (λ (y : Work). y.word) is ∙ learned_word i word x
 
 -- a frame of the own works is of another type
 pub typed_other : (b v : PortValue) (f i : ℕ) (t : PageType) (word g : ℕ) (want : PageType) → SeesTyped b v f i t word g want → IsOfOther g want v.holdings
 typed_other b v f i t word g want l e here =
-    let w = was_in (λ (y : Work). y.frame) g f (learned_work i word) b.holdings.works e (λ y. (learned_keeps i word y).0) (ap (λ (q : PortValue). work_on g q.holdings.works) (sym l.sees.hand) ∙ here) in
+    let w = was_in (λ (y : Work). y.frame) g f (learned_work i word) b.holdings.works e (λ y. learned_frame i word y) (ap (λ (q : PortValue). work_on g q.holdings.works) (sym l.sees.hand) ∙ here) in
     ap (λ n. is_type (kind_fields n).kind want) (same_word i word e w.was w.is) ∙ ap (λ k. is_type (kind_fields w.was.word).kind k) (asks_below t i word g want l.asks) ∙ l.sees.above g w.was w.here
 
 -- ---- by the look at its kind word

@@ -16,6 +16,7 @@ use Rattle.xp_board.specs.Hands.{brought, brought_as, changed_work, work_on}
 use Rattle.xp_board.specs.Recorded.{entry_demand}
 use Rattle.xp_board.specs.Settling.{demand_in}
 use Rattle.xp_board.specs.Told.{Finds, PortValue}
+use Rattle.board_lemmas.proofs.Learned.{learned_frame}
 use Rattle.board_lemmas.proofs.ListChanges.{first_by-changed_here}
 use Rattle.board_lemmas.proofs.ListCounts.{first_by-cons_here}
 use Rattle.board_lemmas.proofs.WorkFacts.{work_word, works_facts}
@@ -25,7 +26,7 @@ use Rattle.frame_words.proofs.Putting.{without_newest}
 use Rattle.table_words.specs.Entries.{entry_shed}
 use Rattle.table_words.proofs.EntryHands.{shed_left}
 use Rattle.table_entries.specs.Tops.{with_recorded}
-use Rattle.table_entries.proofs.HandReady.{learned_keeps, unmarked_learns}
+use Rattle.table_entries.proofs.HandReady.{learned_word, unmarked_learns}
 use Rattle.table_releases.specs.Between.{SeesLast}
 use Rattle.table_releases.specs.Tops.{shed_once}
 use Rattle.table_releases.proofs.LastSeen.{SeenLast, finds_inside, finds_plain, seen_sheds}
@@ -57,10 +58,10 @@ module _ (b v : PortValue) (f i : ℕ) (t : PageType) (word : ℕ) (l : SeesLast
       let learns = unmarked_learns i word l.works.top l.works.unmarked in
       record {
         work = learned_work i word l.works.top;
-        here = ap (λ (q : PortValue). work_on f q.holdings.works) l.hand ∙ first_by-changed_here (λ (y : Work). y.frame) f (learned_work i word) b.holdings.works l.works.top (λ y. (learned_keeps i word y).0) top_here;
-        kind = ap (λ w. (kind_fields w).kind) (learned_keeps i word l.works.top).1 ∙ l.works.kind;
+        here = ap (λ (q : PortValue). work_on f q.holdings.works) l.hand ∙ first_by-changed_here (λ (y : Work). y.frame) f (learned_work i word) b.holdings.works l.works.top (λ y. learned_frame i word y) top_here;
+        kind = ap (λ w. (kind_fields w).kind) (learned_word i word l.works.top) ∙ l.works.kind;
         table = l.works.table;
-        unmarked = ap (λ w. (kind_fields w).unflushed) (learned_keeps i word l.works.top).1 ∙ l.works.unmarked;
+        unmarked = ap (λ w. (kind_fields w).unflushed) (learned_word i word l.works.top) ∙ l.works.unmarked;
         last = ap (λ (y : Work). y.recorded) learns ∙ l.works.recorded;
         seen = ap (λ (y : Work). y.seen) learns;
       }
