@@ -1,5 +1,5 @@
 -- What the steps of a release found and changed, from before its looks on.
-use Rattle.std.proofs.Common.{◌≡◌, ℕ, ◌==◌, if◌then◌else◌, Bool, true, false, List, [], ◌∷◌, ◌++◌, None, Some, Option, IsTrue, Result, Ok, Err, refl, sym, ap, ◌∙◌, subst, append-nil}
+use Rattle.std.proofs.Common.{◌≡◌, ℕ, ◌==◌, if◌then◌else◌, Bool, true, false, List, [], ◌∷◌, ◌++◌, None, Option, Result, Ok, Err, refl, sym, ap, ◌∙◌, subst, append-nil}
 use Rattle.xp_words.specs.Entries.{demand_at}
 use Rattle.xp_words.specs.KindWords.{kind_fields}
 use Rattle.xp_words.specs.PageTypes.{is_table}
@@ -9,7 +9,7 @@ use Rattle.xp_words.specs.declared.kind.KindWord.{KindWord}
 use Rattle.xp_words.specs.declared.kind.PageType.{PageType}
 use Rattle.xp_words.specs.declared.place.Place.{Place}
 use Rattle.xp_words.specs.declared.place.Place.TheVariants.{Cell, Clock, Kind}
-use Rattle.xp_words.specs.declared.reply.Pause.TheVariants.{Busy, Lost}
+use Rattle.xp_words.specs.declared.reply.Pause.TheVariants.{Busy}
 use Rattle.xp_words.specs.declared.reply.Stop.{Stop}
 use Rattle.xp_words.specs.declared.reply.Stop.TheVariants.{Paused}
 use Rattle.xp_board.specs.declared.step.Act.{Act}
@@ -17,7 +17,7 @@ use Rattle.xp_board.specs.declared.step.Act.TheVariants.{Add, Load}
 use Rattle.xp_board.specs.declared.step.Mark.{Mark}
 use Rattle.xp_board.specs.declared.step.StepKind.{StepKind}
 use Rattle.xp_board.specs.declared.step.StepKind.TheVariants as kinds
-use Rattle.xp_board.specs.KindSteps.{Dead, Form, InWork, Live, Partial, form_of, resumed_kind}
+use Rattle.xp_board.specs.KindSteps.{Dead, Form, InWork, Live, form_of}
 use Rattle.xp_board.specs.Readings.{is_live_word}
 use Rattle.xp_board.specs.RefSteps.{one_down}
 use Rattle.xp_board.specs.Told.{PortValue}
@@ -26,11 +26,11 @@ use Rattle.step_maker.proofs.Coming.{came_self, came_trans, met_after, met_befor
 use Rattle.answer_fits.specs.Answers.{Changes}
 use Rattle.answer_fits.specs.Finding.{FoundAt}
 use Rattle.answer_fits.proofs.Piecing.{changes_came, changes_nothing, changes_step, changes_then}
-use Rattle.frame_words.specs.Freeing.{IsPut, Puts}
+use Rattle.frame_words.specs.Freeing.{Puts}
 use Rattle.frame_types.specs.Changing.{DropsPlain, LowersBy}
 use Rattle.frame_types.specs.Lowering.{DropsType}
 use Rattle.table_releases.specs.Between.{SeesKind, SeesLast}
-use Rattle.table_releases.specs.Found.{ByForm, LiveFound, ReleasesBy, ReleasesFound, TypedFound}
+use Rattle.table_releases.specs.Found.{ByForm, LiveFound, ReleasesBy, ReleasesFound}
 use Rattle.table_releases.specs.declared.entries.Released.{Released}
 use Rattle.table_releases.specs.declared.entries.Released.TheVariants.{Given, Opened}
 
@@ -100,8 +100,7 @@ module _ (b v : PortValue) (f i : ℕ) (t : PageType) (word g : ℕ) (want : Pag
     -- a frame without entries
     pub plain_found : (z : PortValue) → is_table want ≡ false → DropsPlain w z g want → ReleasesFound b z f i t (Ok Given)
     plain_found z plain d =
-        live_found z (Ok Given) false plain (changes_came w z (d.back ++ d.lowering) d.changed)
-        (
+        live_found z (Ok Given) false plain (changes_came w z (d.back ++ d.lowering) d.changed) (
           refl,
           record {
             word = d.word;

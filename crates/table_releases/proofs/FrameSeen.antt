@@ -1,9 +1,7 @@
 -- A frame that the last recorded entry names, and the kind word that was found of it.
-use Rattle.std.proofs.Common.{◌≡◌, ◌≢◌, ◌⊎◌, ℕ, ◌+◌, ◌<◌, ◌||◌, Bool, true, false, List, [], Option, Some, None, IsTrue, refl, sym, ap, ◌∙◌, subst, arith, inl, inr}
-use Rattle.xp_words.specs.Entries.{below, demand_at}
+use Rattle.std.proofs.Common.{◌≡◌, ◌⊎◌, ℕ, ◌<◌, ◌||◌, true, false, Option, Some, None, IsTrue, refl, sym, ap, ◌∙◌, subst, arith, inl, inr}
+use Rattle.xp_words.specs.Entries.{demand_at}
 use Rattle.xp_words.specs.KindWords.{kind_fields, kind_read}
-use Rattle.xp_words.specs.Machine.{Machine}
-use Rattle.xp_words.specs.Places.{sizes_of}
 use Rattle.xp_words.specs.declared.entry.Demand.{Demand}
 use Rattle.xp_words.specs.declared.entry.Demand.TheVariants.{Typed}
 use Rattle.xp_words.specs.declared.kind.KindWord.{KindWord}
@@ -12,27 +10,24 @@ use Rattle.xp_words.specs.declared.place.Place.TheVariants.{Kind, Refs}
 use Rattle.xp_board.specs.declared.holdings.Ending.{Ending}
 use Rattle.xp_board.specs.declared.holdings.Holdings.{Holdings}
 use Rattle.xp_board.specs.declared.holdings.Lock.{Lock}
-use Rattle.xp_board.specs.declared.holdings.Unsettled.{Unsettled}
 use Rattle.xp_board.specs.declared.holdings.Work.{Work}
-use Rattle.xp_board.specs.After.{learned_cell, learned_work}
+use Rattle.xp_board.specs.After.{learned_work}
 use Rattle.xp_board.specs.Hands.{ending_of, endings_of, lock_on, locks_on, work_on}
-use Rattle.xp_board.specs.Readings.{is_live, is_live_word, is_locked, is_partial, is_type, is_work, kind_at, ref_count, type_count}
+use Rattle.xp_board.specs.Readings.{is_live, is_locked, is_partial, is_type, is_work, kind_at, ref_count}
 use Rattle.xp_board.specs.Recorded.{entry_demand}
-use Rattle.xp_board.specs.Steps.{some_since}
 use Rattle.xp_board.specs.Told.{Finds, Post, PortValue}
-use Rattle.board_lemmas.proofs.EntryWords.{type_same}
 use Rattle.board_lemmas.proofs.KindForms.{fields_of}
 use Rattle.board_lemmas.proofs.Learned.{learned_frame}
 use Rattle.board_lemmas.proofs.ListCounts.{first_by-none}
 use Rattle.board_lemmas.proofs.Sums.{when_eq}
 use Rattle.board_lemmas.proofs.Works.{counted_alive, nobody_locks}
 use Rattle.answer_fits.specs.Pauses.{IsElsewhere}
-use Rattle.kind_words.proofs.KindFacts.{kind_found, work_word}
+use Rattle.kind_words.proofs.KindFacts.{work_word}
 use Rattle.frame_types.specs.Taking.{IsOfOther}
 use Rattle.table_entries.proofs.HandLists.{asks_below, was_in}
 use Rattle.table_entries.proofs.HandReady.{learned_word}
-use Rattle.table_releases.specs.Between.{SeesKind, SeesLast, SeesTyped}
-use Rattle.table_releases.proofs.LastSeen.{SeenLast, finds_counts, finds_kind, finds_leads, finds_referred, finds_unkept, seen_asks}
+use Rattle.table_releases.specs.Between.{SeesKind, SeesTyped}
+use Rattle.table_releases.proofs.LastSeen.{SeenLast, finds_kind, finds_leads, finds_referred, finds_unkept, seen_asks}
 use Rattle.table_releases.proofs.Looking.{looked_seen}
 
 -- it stays the last one in a hand with the same works

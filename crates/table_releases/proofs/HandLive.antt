@@ -1,12 +1,11 @@
 -- A frame that was found live, and its entry shed by a second look at it.
-use Rattle.std.proofs.Common.{◌≡◌, ◌≢◌, ◌⊎◌, ℕ, ◌+◌, ◌<◌, ◌≤◌, ◌==◌, ◌&&◌, ◌||◌, if◌then◌else◌, is_none, Bool, true, false, List, ◌∷◌, length, Option, Some, None, IsTrue, refl, sym, ap, ◌∙◌, subst, arith, inl, inr}
-use Rattle.xp_words.specs.Entries.{below, demand_at}
+use Rattle.std.proofs.Common.{◌≡◌, ◌⊎◌, ℕ, ◌<◌, ◌≤◌, ◌||◌, if◌then◌else◌, is_none, Bool, true, false, List, ◌∷◌, length, Some, None, IsTrue, refl, sym, ap, ◌∙◌, subst, arith, inl, inr}
+use Rattle.xp_words.specs.Entries.{demand_at}
 use Rattle.xp_words.specs.KindWords.{kind_fields}
-use Rattle.xp_words.specs.Machine.{IsMachine, Machine}
-use Rattle.xp_words.specs.PageTypes.{is_table, type_number}
+use Rattle.xp_words.specs.Machine.{IsMachine}
+use Rattle.xp_words.specs.PageTypes.{is_table}
 use Rattle.xp_words.specs.Places.{sizes_of}
 use Rattle.xp_words.specs.declared.entry.Demand.TheVariants.{Typed}
-use Rattle.xp_words.specs.declared.kind.KindWord.{KindWord}
 use Rattle.xp_words.specs.declared.kind.PageType.{PageType}
 use Rattle.xp_words.specs.declared.place.Place.TheVariants.{Kind}
 use Rattle.xp_board.specs.declared.holdings.Holdings.{Holdings}
@@ -23,10 +22,10 @@ use Rattle.xp_board.specs.Hands.{brought_as, changed_work, refs_to, typed_owner,
 use Rattle.xp_board.specs.KindSteps.{MayDrop}
 use Rattle.xp_board.specs.Knowledge.{knows_live}
 use Rattle.xp_board.specs.Lists.{changed_by, first_by}
-use Rattle.xp_board.specs.Readings.{is_closing, is_live, is_live_as, is_live_word, is_partial, is_type, is_work, kind_at, type_count}
+use Rattle.xp_board.specs.Readings.{is_live, is_live_as, is_live_word, is_partial, is_type, is_work, kind_at}
 use Rattle.xp_board.specs.Recorded.{entry_demand}
 use Rattle.xp_board.specs.Steps.{some_since}
-use Rattle.xp_board.specs.Told.{Finds, Post, PortValue}
+use Rattle.xp_board.specs.Told.{Post, PortValue}
 use Rattle.board_lemmas.proofs.HandLists.{times-changed}
 use Rattle.board_lemmas.proofs.KindReadings.{live_count}
 use Rattle.board_lemmas.proofs.ListCounts.{first_by-absent, first_by-none, newest_held}
@@ -50,7 +49,7 @@ use Rattle.table_words.specs.Entries.{entry_shed}
 use Rattle.table_words.proofs.Shedding.{shed_known}
 use Rattle.table_releases.specs.Between.{SeesKind, SeesTyped}
 use Rattle.table_releases.specs.Tops.{Opens, StaysRecorded, shed_once}
-use Rattle.table_releases.proofs.FrameSeen.{from_seen, kind_frame, kind_post, now_seen}
+use Rattle.table_releases.proofs.FrameSeen.{from_seen, kind_frame, now_seen}
 use Rattle.table_releases.proofs.LastSeen.{SeenLast, finds_counts, finds_kind, finds_leads, seen_asks, seen_sheds}
 use Rattle.table_releases.proofs.Looking.{shed_typed}
 

@@ -1,29 +1,27 @@
 -- A partial frame that came into the own works, and its entry shed then.
-use Rattle.std.proofs.Common.{◌≡◌, ◌≢◌, ◌⊎◌, ℕ, ◌+◌, ◌<◌, ◌≤◌, ◌^◌, ◌==◌, ◌&&◌, ◌||◌, not, if◌then◌else◌, is_none, Bool, true, false, List, [], ◌∷◌, length, Option, Some, None, IsTrue, refl, sym, ap, ◌∙◌, subst, arith, inl, inr}
-use Rattle.xp_words.specs.Entries.{below, demand_at, is_lowest}
-use Rattle.xp_words.specs.KindWords.{is_kind, kind_fields, kind_read, kind_write}
-use Rattle.xp_words.specs.Machine.{IsMachine, Machine}
+use Rattle.std.proofs.Common.{◌≡◌, ◌≢◌, ℕ, ◌<◌, ◌^◌, ◌==◌, not, is_none, Bool, true, false, List, [], ◌∷◌, Some, None, IsTrue, refl, sym, ap, ◌∙◌, subst, arith, inl}
+use Rattle.xp_words.specs.KindWords.{is_kind, kind_fields, kind_write}
+use Rattle.xp_words.specs.Machine.{IsMachine}
 use Rattle.xp_words.specs.PageTypes.{is_table}
 use Rattle.xp_words.specs.PageTypes as types
-use Rattle.xp_words.specs.Places.{Sizes, sizes_of}
+use Rattle.xp_words.specs.Places.{sizes_of}
 use Rattle.xp_words.specs.declared.entry.Demand.TheVariants.{Typed}
 use Rattle.xp_words.specs.declared.kind.KindWord.{KindWord}
 use Rattle.xp_words.specs.declared.kind.PageType.{PageType}
-use Rattle.xp_words.specs.declared.place.Place.TheVariants.{Clock, Kind, Refs}
+use Rattle.xp_words.specs.declared.place.Place.TheVariants.{Clock}
 use Rattle.xp_board.specs.declared.holdings.Holdings.{Holdings}
 use Rattle.xp_board.specs.declared.holdings.Looking.{Looking}
 use Rattle.xp_board.specs.declared.holdings.Reference.{Reference}
 use Rattle.xp_board.specs.declared.holdings.TypedReference.{TypedReference}
 use Rattle.xp_board.specs.declared.holdings.Work.{Work}
-use Rattle.xp_board.specs.declared.step.Act.TheVariants.{Cas, Load}
+use Rattle.xp_board.specs.declared.step.Act.TheVariants.{Load}
 use Rattle.xp_board.specs.declared.step.Mark.TheVariants.{Shed}
 use Rattle.xp_board.specs.declared.step.StepKind.TheVariants as kinds
 use Rattle.xp_board.specs.Acts.{left_by}
-use Rattle.xp_board.specs.After.{learned_cell}
 use Rattle.xp_board.specs.Hands.{brought_as, changed_work, refs_to, typed_owner, typed_to, without_typed, without_work, work_on}
 use Rattle.xp_board.specs.KindSteps.{new_work, resumed_kind, still_looking, unsettled_from}
 use Rattle.xp_board.specs.Lists.{changed_by, kept_of}
-use Rattle.xp_board.specs.Readings.{is_closing, is_partial, is_work}
+use Rattle.xp_board.specs.Readings.{is_work}
 use Rattle.xp_board.specs.Steps.{some_since}
 use Rattle.xp_board.specs.Told.{Post, PortValue}
 use Rattle.board_lemmas.proofs.KindForms.{PartialForm, fields_of, partial_form}
@@ -41,7 +39,6 @@ use Rattle.kind_words.specs.Kinds.{MayLeave, dead_kind, left}
 use Rattle.kind_words.proofs.KindFacts.{clock_is_small, partial_apart, read_is}
 use Rattle.kind_words.proofs.KindHands.{apart_spares, resumed_fields, resumed_unkept, typed_held, work_here}
 use Rattle.kind_words.proofs.Leaving.{left_dead, may_leave_dead}
-use Rattle.table_entries.specs.Tops.{with_recorded}
 use Rattle.table_entries.proofs.HandLists.{asks_below, asks_some}
 use Rattle.table_words.specs.Entries.{entry_shed}
 use Rattle.table_releases.specs.Between.{Resumed}

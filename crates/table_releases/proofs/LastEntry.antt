@@ -1,12 +1,11 @@
 -- What any sound state says of the last recorded entry of a table in the own works, and of the frame that it names.
-use Rattle.std.proofs.Common.{◌≡◌, ◌≢◌, ◌⊎◌, ℕ, ◌+◌, ◌<◌, ◌≤◌, ◌||◌, nat_lt, Bool, true, false, Option, Some, None, IsTrue, refl, sym, ap, ◌∙◌, subst, arith, inl, inr}
-use Rattle.xp_words.specs.Entries.{demand_at, is_lowest}
+use Rattle.std.proofs.Common.{◌≡◌, ◌⊎◌, ℕ, ◌+◌, ◌<◌, ◌≤◌, ◌||◌, nat_lt, true, false, Option, Some, None, IsTrue, refl, sym, ap, ◌∙◌, subst, arith, inl, inr}
+use Rattle.xp_words.specs.Entries.{is_lowest}
 use Rattle.xp_words.specs.KindWords.{kind_fields}
 use Rattle.xp_words.specs.Machine.{Machine}
 use Rattle.xp_words.specs.PageTypes.{is_table}
 use Rattle.xp_words.specs.Places.{is_place, sizes_of}
-use Rattle.xp_words.specs.RefWords.{bit, ref_read}
-use Rattle.xp_words.specs.declared.entry.Demand.{Demand}
+use Rattle.xp_words.specs.RefWords.{ref_read}
 use Rattle.xp_words.specs.declared.entry.Demand.TheVariants.{Read, Typed}
 use Rattle.xp_words.specs.declared.kind.KindWord.{KindWord}
 use Rattle.xp_words.specs.declared.kind.PageType.{PageType}
@@ -15,17 +14,17 @@ use Rattle.xp_words.specs.declared.place.Place.TheVariants.{Kind, Refs}
 use Rattle.xp_board.specs.declared.holdings.Holdings.{Holdings}
 use Rattle.xp_board.specs.declared.holdings.Unsettled.{Unsettled}
 use Rattle.xp_board.specs.declared.holdings.Work.{Work}
-use Rattle.xp_board.specs.Hands.{typed_hand, work_on}
+use Rattle.xp_board.specs.Hands.{work_on}
 use Rattle.xp_board.specs.Readings.{is_live, is_live_word, is_partial, is_work, kind_at, ref_count, type_count, owner_of}
-use Rattle.xp_board.specs.Recorded.{contexts, entries, entry_demand, hands, held, marks, names, names_typed}
-use Rattle.xp_board.specs.Sound.{Sound, is_busy}
+use Rattle.xp_board.specs.Recorded.{entries, entry_demand, held, marks, names_typed}
+use Rattle.xp_board.specs.Sound.{Sound}
 use Rattle.xp_board.specs.Steps.{some_since}
 use Rattle.xp_board.specs.Valid.{EntryPermitted, IsLastOfPartial, IsUnsettled}
 use Rattle.std.proofs.lemmas.Bool.{cases_Bool}
 use Rattle.std.proofs.lemmas.Bool.Decides.{nat_tests}
 use Rattle.board_lemmas.proofs.HandLists.{first-some}
 use Rattle.board_lemmas.proofs.Sums.{no_bit}
-use Rattle.board_lemmas.proofs.Counted.{entries-part, held_inside, names-read, names_typed-typed, plain_counted, type_below}
+use Rattle.board_lemmas.proofs.Counted.{entries-part, held_inside, names_typed-typed, plain_counted, type_below}
 use Rattle.board_lemmas.proofs.KindReadings.{busy_partial, partial_parts}
 use Rattle.board_lemmas.proofs.WorkFacts.{Works, work_held, work_word, works_facts}
 use Rattle.board_lemmas.proofs.Works.{one_vcpu}

@@ -1,5 +1,5 @@
 -- A hand in which the last recorded entry of a table was loaded last: what each step finds then.
-use Rattle.std.proofs.Common.{◌≡◌, ◌≢◌, ◌⊎◌, ℕ, ◌+◌, ◌<◌, ◌||◌, if◌then◌else◌, Bool, true, false, List, ◌∷◌, Option, Some, None, IsTrue, refl, sym, ap, ◌∙◌, subst, arith, inl, inr}
+use Rattle.std.proofs.Common.{◌≡◌, ◌⊎◌, ℕ, ◌+◌, ◌<◌, ◌||◌, true, false, Some, IsTrue, sym, ap, ◌∙◌, subst}
 use Rattle.xp_words.specs.Entries.{demand_at, is_lowest}
 use Rattle.xp_words.specs.KindWords.{kind_fields}
 use Rattle.xp_words.specs.Machine.{Machine}
@@ -7,27 +7,20 @@ use Rattle.xp_words.specs.PageTypes.{is_table}
 use Rattle.xp_words.specs.Places.{sizes_of}
 use Rattle.xp_words.specs.declared.entry.Demand.{Demand}
 use Rattle.xp_words.specs.declared.entry.Demand.TheVariants.{Read, Typed}
-use Rattle.xp_words.specs.declared.kind.KindWord.{KindWord}
 use Rattle.xp_words.specs.declared.kind.PageType.{PageType}
 use Rattle.xp_words.specs.declared.place.Place.{Place}
-use Rattle.xp_words.specs.declared.place.Place.TheVariants.{Cell, Kind, Refs}
+use Rattle.xp_words.specs.declared.place.Place.TheVariants.{Kind, Refs}
 use Rattle.xp_board.specs.declared.holdings.Holdings.{Holdings}
 use Rattle.xp_board.specs.declared.holdings.Unsettled.{Unsettled}
 use Rattle.xp_board.specs.declared.holdings.Work.{Work}
-use Rattle.xp_board.specs.After.{counts_fixed, learned_cell, learned_last, learned_work}
 use Rattle.xp_board.specs.Hands.{work_on}
 use Rattle.xp_board.specs.Readings.{is_live, is_live_word, is_partial, is_work, kind_at, owner_of, ref_count, type_count}
 use Rattle.xp_board.specs.Recorded.{entry_demand}
 use Rattle.xp_board.specs.Steps.{some_since}
-use Rattle.xp_board.specs.Told.{Finds, PortValue}
-use Rattle.board_lemmas.proofs.ListChanges.{first_by-changed_here}
-use Rattle.board_lemmas.proofs.ListCounts.{first_by-cons_here, first_by-cons_other}
+use Rattle.xp_board.specs.Told.{Finds}
 use Rattle.board_lemmas.proofs.WorkFacts.{loaded_asks, works_facts}
-use Rattle.step_maker.specs.Holds.{Holds}
 use Rattle.table_words.specs.Entries.{ShedsLast}
-use Rattle.table_releases.specs.Between.{SeesLast}
-use Rattle.table_releases.specs.Tops.{ReleasesTop}
-use Rattle.table_releases.proofs.LastEntry.{plain_inside, table_kind, typed_counts, typed_inside, typed_kind, typed_leads, typed_owned, typed_referred, typed_unkept}
+use Rattle.table_releases.proofs.LastEntry.{plain_inside, typed_counts, typed_inside, typed_kind, typed_leads, typed_owned, typed_referred, typed_unkept}
 
 pub record SeenLast (f i : ℕ) (t : PageType) (word : ℕ) (h : Holdings) : Type 0 where
   pub work : Work

@@ -1,5 +1,5 @@
 -- The exchange that is to bring a partial frame into the own works: it came, or the exchange found another word.
-use Rattle.std.proofs.Common.{◌≡◌, ◌≢◌, ℕ, ◌+◌, ◌<◌, ◌&&◌, if◌then◌else◌, true, false, List, [], ◌∷◌, Some, None, IsTrue, Ok, Err, refl, sym, ap, ◌∙◌, subst, arith}
+use Rattle.std.proofs.Common.{◌≡◌, ◌≢◌, ℕ, ◌&&◌, if◌then◌else◌, true, List, [], ◌∷◌, Some, None, IsTrue, Err, refl, sym, ap, ◌∙◌, subst}
 use Rattle.xp_words.specs.KindWords.{kind_fields, kind_read, kind_write}
 use Rattle.xp_words.specs.declared.kind.KindWord.{KindWord}
 use Rattle.xp_words.specs.declared.kind.PageType.{PageType}
@@ -16,7 +16,7 @@ use Rattle.xp_board.specs.Told.{PortValue}
 use Rattle.board_lemmas.proofs.KindForms.{fields_of}
 use Rattle.board_lemmas.proofs.KindReadings.{partial_parts}
 use Rattle.board_lemmas.proofs.Sums.{when_ne}
-use Rattle.step_maker.specs.Holds.{Holds, MayWork, still}
+use Rattle.step_maker.specs.Holds.{Holds, still}
 use Rattle.step_maker.specs.Moves.{Moves}
 use Rattle.step_maker.proofs.Coming.{moves_came}
 use Rattle.answer_fits.specs.Answers.{Changes}

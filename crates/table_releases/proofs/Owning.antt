@@ -1,8 +1,7 @@
 -- Who owns a partial frame: the owner of the table that names it, found by the look that sheds the entry.
-use Rattle.std.proofs.Common.{◌≡◌, ℕ, ◌+◌, ◌<◌, ◌≤◌, ◌==◌, ◌&&◌, ◌||◌, if◌then◌else◌, is_none, Bool, true, false, List, [], ◌∷◌, length, Option, Some, None, IsTrue, refl, sym, ap, ◌∙◌, subst, arith, inl, inr}
+use Rattle.std.proofs.Common.{◌≡◌, ℕ, ◌==◌, ◌&&◌, ◌||◌, if◌then◌else◌, Bool, true, false, List, [], ◌∷◌, length, Some, None, IsTrue, refl, sym, ap, ◌∙◌, subst, arith}
 use Rattle.std.proofs.lemmas.Bool.{or_left, or_right}
-use Rattle.xp_words.specs.Entries.{below, demand_at, is_lowest}
-use Rattle.xp_words.specs.Machine.{Machine}
+use Rattle.xp_words.specs.Entries.{below, is_lowest}
 use Rattle.xp_words.specs.PageTypes.{is_table}
 use Rattle.xp_words.specs.Places.{Sizes, sizes_of}
 use Rattle.xp_words.specs.declared.entry.Demand.TheVariants.{Typed}
@@ -17,12 +16,11 @@ use Rattle.xp_board.specs.declared.step.Act.TheVariants.{Load}
 use Rattle.xp_board.specs.declared.step.Mark.TheVariants.{Shed}
 use Rattle.xp_board.specs.declared.step.StepKind.TheVariants as kinds
 use Rattle.xp_board.specs.Acts.{left_by}
-use Rattle.xp_board.specs.After.{learned_cell, learned_lock}
+use Rattle.xp_board.specs.After.{learned_lock}
 use Rattle.xp_board.specs.Hands.{changed_lock}
 use Rattle.xp_board.specs.Knowledge.{knows_owner, tells_owner}
 use Rattle.xp_board.specs.Lists.{changed_by, some_of}
 use Rattle.xp_board.specs.Readings.{is_owned_by, owner_of}
-use Rattle.xp_board.specs.Steps.{some_since}
 use Rattle.xp_board.specs.Told.{Post, PortValue}
 use Rattle.board_lemmas.proofs.Sums.{when_eq}
 use Rattle.step_maker.specs.Holds.{Holds}

@@ -1,36 +1,32 @@
 -- The steps of a release, each as one more of the piece of the whole.
-use Rattle.std.proofs.Common.{◌≡◌, ◌≢◌, ℕ, ◌+◌, ◌<◌, ◌&&◌, ◌||◌, not, if◌then◌else◌, Bool, true, false, List, [], ◌∷◌, ◌++◌, length, Option, Some, None, IsTrue, refl, sym, ap, ◌∙◌, subst, arith, inl, inr, append-nil}
+use Rattle.std.proofs.Common.{◌≡◌, ℕ, ◌&&◌, not, if◌then◌else◌, true, false, List, [], Option, Some, None, IsTrue, refl, sym, ap, ◌∙◌, subst, arith, inl}
 use Rattle.xp_words.specs.Entries.{demand_at}
-use Rattle.xp_words.specs.KindWords.{is_kind, kind_fields, kind_read, kind_write}
-use Rattle.xp_words.specs.Machine.{Machine}
+use Rattle.xp_words.specs.KindWords.{kind_fields}
 use Rattle.xp_words.specs.PageTypes.{is_table}
-use Rattle.xp_words.specs.Places.{number, place_at, sizes_of}
 use Rattle.xp_words.specs.declared.entry.Demand.TheVariants as demands
-use Rattle.xp_words.specs.declared.kind.KindWord.{KindWord}
 use Rattle.xp_words.specs.declared.kind.PageType.{PageType}
 use Rattle.xp_words.specs.declared.place.Place.{Place}
 use Rattle.xp_words.specs.declared.place.Place.TheVariants.{Cell, Clock, Kind, Refs}
 use Rattle.xp_board.specs.declared.holdings.Holdings.{Holdings}
 use Rattle.xp_board.specs.declared.holdings.Work.{Work}
 use Rattle.xp_board.specs.declared.step.Act.{Act}
-use Rattle.xp_board.specs.declared.step.Act.TheVariants.{Cas, Load, Store}
+use Rattle.xp_board.specs.declared.step.Act.TheVariants.{Load}
 use Rattle.xp_board.specs.declared.step.Mark.TheVariants.{Shed}
 use Rattle.xp_board.specs.declared.step.StepKind.TheVariants as kinds
 use Rattle.xp_board.specs.Hands.{lock_on, work_on}
 use Rattle.xp_board.specs.Told.{PortValue}
-use Rattle.step_maker.specs.Moves.{Came, Met, Moves}
-use Rattle.step_maker.proofs.Coming.{met_after, met_before, moment_of, moves_came, moves_met}
+use Rattle.step_maker.specs.Moves.{Met, Moves}
+use Rattle.step_maker.proofs.Coming.{moment_of, moves_met}
 use Rattle.answer_fits.specs.Answers.{Deed, Serves}
-use Rattle.answer_fits.specs.Asked.{Asked, IsAsked, IsDemandOf, Passed, demand_by, demand_held, demanded, entry_owner, of, of_back, stands}
-use Rattle.answer_fits.specs.Finding.{Finding, FoundAt, FoundWith}
-use Rattle.answer_fits.specs.Reasons.{HasReason}
+use Rattle.answer_fits.specs.Asked.{Asked, IsDemandOf, Passed, demand_by, demand_held, demanded, entry_owner, stands}
+use Rattle.answer_fits.specs.Finding.{Finding, FoundWith}
 use Rattle.answer_fits.proofs.Piecing.{moves_serves, serves_step}
-use Rattle.table_entries.specs.Asking.{LooksOnly, of_entries}
+use Rattle.table_entries.specs.Asking.{of_entries}
 use Rattle.table_entries.proofs.PiecesLooking.{looks_step, looks_then}
-use Rattle.table_entries.proofs.PiecesTaking.{Goes, asks_still, goes_back, goes_came, goes_kind}
-use Rattle.table_releases.specs.Between.{SeesKind, SeesLast, SeesTyped}
+use Rattle.table_entries.proofs.PiecesTaking.{Goes}
+use Rattle.table_releases.specs.Between.{SeesLast}
 use Rattle.table_releases.proofs.LastSeen.{SeenLast}
-use Rattle.table_releases.proofs.Looking.{looked_seen, top_here}
+use Rattle.table_releases.proofs.Looking.{top_here}
 
 -- ---- any step but at a cell
 pub goes_step : (b v w : PortValue) (f i owner pages : ℕ) (ds : List Deed) (p : Place) (a : Act) (kind : _) (mark : _) (found : ℕ) (es : List Deed) → Goes b v f i owner pages ds → Moves v w p a kind mark found →

@@ -1,21 +1,17 @@
 -- Behind the exchange that brought a partial frame into the own works: the steps, and what they change.
-use Rattle.std.proofs.Common.{◌≡◌, ℕ, ◌+◌, ◌<◌, ◌&&◌, not, if◌then◌else◌, Bool, true, false, List, [], ◌∷◌, ◌++◌, Option, Some, None, IsTrue, Result, Ok, Err, refl, sym, ap, ◌∙◌, subst, arith, inl, inr, append_assoc}
-use Rattle.xp_words.specs.KindWords.{is_kind, kind_fields, kind_read, kind_write}
-use Rattle.xp_words.specs.PageTypes.{is_none, is_table}
+use Rattle.std.proofs.Common.{◌≡◌, ℕ, ◌&&◌, not, if◌then◌else◌, Bool, true, false, [], ◌∷◌, ◌++◌, Some, None, IsTrue, Ok, refl, sym, ap, ◌∙◌, subst, arith, append_assoc}
+use Rattle.xp_words.specs.KindWords.{is_kind, kind_fields, kind_write}
+use Rattle.xp_words.specs.PageTypes.{is_table}
 use Rattle.xp_words.specs.declared.kind.KindWord.{KindWord}
 use Rattle.xp_words.specs.declared.kind.PageType.{PageType}
-use Rattle.xp_words.specs.declared.place.Place.{Place}
 use Rattle.xp_words.specs.declared.place.Place.TheVariants.{Clock, Kind, Refs}
-use Rattle.xp_words.specs.declared.reply.Stop.{Stop}
 use Rattle.xp_board.specs.declared.holdings.Work.{Work}
-use Rattle.xp_board.specs.declared.step.Act.{Act}
 use Rattle.xp_board.specs.declared.step.Act.TheVariants.{Cas, Load, Store}
-use Rattle.xp_board.specs.declared.step.Mark.{Mark}
 use Rattle.xp_board.specs.declared.step.Mark.TheVariants.{Shed}
 use Rattle.xp_board.specs.declared.step.StepKind.TheVariants as kinds
 use Rattle.xp_board.specs.Hands.{work_on}
-use Rattle.xp_board.specs.KindSteps.{Form, Partial, form_of, resumed_kind}
-use Rattle.xp_board.specs.Readings.{is_dead, is_partial, is_type, is_work}
+use Rattle.xp_board.specs.KindSteps.{Partial, form_of, resumed_kind}
+use Rattle.xp_board.specs.Readings.{is_dead, is_type, is_work}
 use Rattle.xp_board.specs.Told.{PortValue}
 use Rattle.board_lemmas.proofs.KindForms.{fields_of}
 use Rattle.board_lemmas.proofs.KindReadings.{partial_parts}
@@ -24,16 +20,15 @@ use Rattle.step_maker.specs.Moves.{Came, Met, Moves}
 use Rattle.step_maker.proofs.Coming.{came_trans, moves_came}
 use Rattle.answer_fits.specs.Answers.{Changes, Serves}
 use Rattle.answer_fits.specs.Asked.{Asked, of, of_back}
-use Rattle.answer_fits.specs.Finding.{FoundAt}
 use Rattle.answer_fits.proofs.Piecing.{changes_came, changes_nothing, changes_step, changes_then, serves_step}
-use Rattle.frame_words.specs.Freeing.{IsPut, Puts}
+use Rattle.frame_words.specs.Freeing.{Puts}
 use Rattle.kind_words.specs.Kinds.{dead_kind}
 use Rattle.kind_words.proofs.KindFacts.{read_is, work_word}
 use Rattle.kind_words.proofs.KindWriting.{fields_write}
 use Rattle.table_entries.specs.Asking.{of_entries}
-use Rattle.table_entries.proofs.PiecesTaking.{Goes, asks_still, goes_back, goes_came}
+use Rattle.table_entries.proofs.PiecesTaking.{Goes, asks_still, goes_back}
 use Rattle.table_releases.specs.Between.{Releases, Resumed}
-use Rattle.table_releases.specs.Found.{ByForm, PartialFound, ReleasesFound, ResumesBy, resumes}
+use Rattle.table_releases.specs.Found.{ByForm, ReleasesFound, ResumesBy, resumes}
 use Rattle.table_releases.specs.declared.entries.Released.{Released}
 use Rattle.table_releases.specs.declared.entries.Released.TheVariants.{Given, Opened}
 use Rattle.table_releases.proofs.Finding.{changes_behind, found_before, found_later, kind_changes, kind_found, look_changes, step_found}
@@ -111,8 +106,7 @@ module _ (b v : PortValue) (f i : ℕ) (t : PageType) (word g : ℕ) (want : Pag
       let two = changes_step b w d _ (Kind g) (Store (kind_write (dead_kind want true clock))) kinds.Kind None x one store in
       let came = came_trans w d z (moves_came w d (Kind g) _ kinds.Kind None x store) (changes_came d z puts.list puts.changed) in
       let shown = moves_came v w Clock Load kinds.Look (Some (Shed f i)) clock shed in
-      partial_found z Given false plain (came_trans v w z shown came)
-      (
+      partial_found z Given false plain (came_trans v w z shown came) (
         refl,
         (
           puts.list ++ ((Kind g, Store (kind_write (dead_kind want true clock))) ∷ []),

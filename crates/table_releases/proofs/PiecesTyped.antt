@@ -1,23 +1,19 @@
 -- Behind both looks: the steps of the release of an entry that asks a type, and why it stops.
-use Rattle.std.proofs.Common.{◌≡◌, ◌≢◌, ℕ, ◌+◌, ◌<◌, ◌||◌, if◌then◌else◌, Bool, true, false, List, [], ◌∷◌, ◌++◌, length, Option, Some, None, IsTrue, Ok, Err, refl, sym, ap, ◌∙◌, subst, arith, inl, inr}
-use Rattle.xp_words.specs.Entries.{demand_at}
+use Rattle.std.proofs.Common.{◌≡◌, ◌≢◌, ℕ, if◌then◌else◌, Bool, true, false, [], ◌∷◌, ◌++◌, length, Some, None, IsTrue, Ok, Err, refl, sym, ap, ◌∙◌, subst, arith, inl}
 use Rattle.xp_words.specs.KindWords.{is_kind, kind_fields, kind_read, kind_write}
-use Rattle.xp_words.specs.Machine.{Machine}
 use Rattle.xp_words.specs.Places.{is_place, number, place_at, sizes_of}
 use Rattle.xp_words.proofs.PlaceLaws.{place_back}
-use Rattle.xp_words.specs.declared.entry.Demand.TheVariants.{Typed}
 use Rattle.xp_words.specs.declared.kind.KindWord.{KindWord}
 use Rattle.xp_words.specs.declared.kind.PageType.{PageType}
-use Rattle.xp_words.specs.declared.place.Place.TheVariants.{Kind, Refs}
+use Rattle.xp_words.specs.declared.place.Place.TheVariants.{Kind}
 use Rattle.xp_words.specs.declared.reply.Pause.TheVariants.{Busy, Lost}
 use Rattle.xp_words.specs.declared.reply.Stop.TheVariants.{Paused}
-use Rattle.xp_board.specs.declared.holdings.Holdings.{Holdings}
-use Rattle.xp_board.specs.declared.step.Act.TheVariants.{Cas, Load, Store}
+use Rattle.xp_board.specs.declared.step.Act.TheVariants.{Cas, Load}
 use Rattle.xp_board.specs.declared.step.Mark.TheVariants.{Shed}
 use Rattle.xp_board.specs.declared.step.StepKind.TheVariants as kinds
 use Rattle.xp_board.specs.Acts.{left_by}
 use Rattle.xp_board.specs.KindSteps.{resumed_kind}
-use Rattle.xp_board.specs.Readings.{is_partial, is_type, is_work}
+use Rattle.xp_board.specs.Readings.{is_partial}
 use Rattle.xp_board.specs.Steps.{last_since}
 use Rattle.xp_board.specs.Told.{Post, PortValue}
 use Rattle.board_lemmas.proofs.KindForms.{fields_of}
@@ -25,8 +21,8 @@ use Rattle.board_lemmas.proofs.Sums.{when_eq, when_ne}
 use Rattle.step_maker.specs.Moves.{Came, Met, Moves}
 use Rattle.step_maker.proofs.Coming.{came_trans, met_after, met_before, moment_of, moves_came, moves_met}
 use Rattle.answer_fits.specs.Answers.{Misses, Serves, Stops, deeds_by, exchanged, missed_at, pin_deed}
-use Rattle.answer_fits.specs.Asked.{Asked, Passed, of_back}
-use Rattle.answer_fits.specs.Finding.{Finding, FoundWith}
+use Rattle.answer_fits.specs.Asked.{Asked, of_back}
+use Rattle.answer_fits.specs.Finding.{FoundWith}
 use Rattle.answer_fits.specs.Reasons.{MayType}
 use Rattle.answer_fits.proofs.Piecing.{serves_step, serves_then}
 use Rattle.kind_words.proofs.KindFacts.{read_is}

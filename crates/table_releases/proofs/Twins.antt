@@ -1,27 +1,27 @@
 -- Releases on a board that tells all words: what is left by each of their ways.
-use Rattle.std.proofs.Common.{◌≡◌, ◌≢◌, ◌⊎◌, ℕ, ◌==◌, ◌^◌, ◌%◌, if◌then◌else◌, Bool, true, false, List, Option, Some, None, IsTrue, Result, Ok, Err, refl, sym, ap, ◌∙◌, subst, arith, inl, inr}
+use Rattle.std.proofs.Common.{◌≡◌, ◌⊎◌, ℕ, ◌==◌, if◌then◌else◌, Bool, true, false, Option, None, Result, Ok, Err, refl, sym, ap, ◌∙◌, subst, inl, inr}
 use Rattle.xp_words.specs.Entries.{demand_at}
-use Rattle.xp_words.specs.KindWords.{kind_fields, kind_read, kind_write}
+use Rattle.xp_words.specs.KindWords.{kind_fields}
 use Rattle.xp_words.specs.PageTypes.{is_table}
 use Rattle.xp_words.specs.declared.entry.Demand.{Demand}
 use Rattle.xp_words.specs.declared.entry.Demand.TheVariants.{Bad, Nothing, Read, Typed}
 use Rattle.xp_words.specs.declared.kind.KindWord.{KindWord}
 use Rattle.xp_words.specs.declared.kind.PageType.{PageType}
-use Rattle.xp_words.specs.declared.place.Place.TheVariants.{Cell, Clock, Kind, Refs}
-use Rattle.xp_words.specs.declared.reply.Pause.TheVariants.{Busy, Lost}
+use Rattle.xp_words.specs.declared.place.Place.TheVariants.{Cell, Kind}
+use Rattle.xp_words.specs.declared.reply.Pause.TheVariants.{Busy}
 use Rattle.xp_words.specs.declared.reply.Stop.{Stop}
 use Rattle.xp_words.specs.declared.reply.Stop.TheVariants.{Paused}
-use Rattle.xp_board.specs.declared.step.Act.TheVariants.{Add, Cas, Load, Store}
+use Rattle.xp_board.specs.declared.step.Act.TheVariants.{Add, Load}
 use Rattle.xp_board.specs.declared.step.Mark.{Mark}
 use Rattle.xp_board.specs.declared.step.StepKind.TheVariants as kinds
-use Rattle.xp_board.specs.KindSteps.{Dead, Form, InWork, Live, Partial, form_of, resumed_kind}
+use Rattle.xp_board.specs.KindSteps.{Dead, Form, InWork, Live, form_of}
 use Rattle.xp_board.specs.Readings.{is_live_word}
 use Rattle.xp_board.specs.RefSteps.{one_down}
 use Rattle.xp_board.specs.Told.{PortValue, is_telling, told_word}
 use Rattle.step_maker.specs.Moves.{Moves}
 use Rattle.step_maker.specs.Plain.{Leaves, Words, change}
-use Rattle.step_maker.proofs.Telling.{leaves, load_tells, moves_telling, told_there}
-use Rattle.frame_words.specs.Plain.{put, stamp_now}
+use Rattle.step_maker.proofs.Telling.{load_tells, moves_telling, told_there}
+use Rattle.frame_words.specs.Plain.{put}
 use Rattle.frame_types.specs.Lowering.{DropsType}
 use Rattle.frame_types.specs.Plain.{dropped_plain}
 use Rattle.table_releases.specs.Between.{SeesKind, SeesLast}

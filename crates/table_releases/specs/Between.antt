@@ -1,5 +1,5 @@
 -- Between the steps of a release: what the looks found, and what is to hold at the end.
-use Rattle.std.specs.Prelude.{◌≡◌, ℕ, ◌+◌, ◌<◌, true, [], None, Some, IsTrue, Ok, Result, IfOk, IfErr, MatchResult}
+use Rattle.std.specs.Prelude.{◌≡◌, ℕ, ◌+◌, ◌<◌, true, [], None, Some, IsTrue, Result, IfErr, MatchResult}
 use Rattle.xp_words.specs.Entries.{below, demand_at}
 use Rattle.xp_words.specs.declared.entry.Demand.TheVariants.{Typed}
 use Rattle.xp_words.specs.KindWords.{kind_read, kind_write}
@@ -19,7 +19,6 @@ use Rattle.answer_fits.specs.Answers.{Serves, Stops, misses}
 use Rattle.frame_types.specs.Taking.{IsOfOther}
 use Rattle.kind_words.specs.Kinds.{resumed_work}
 use Rattle.table_entries.specs.Asking.{LooksOnly, of_entries}
-use Rattle.table_releases.specs.Found.{ReleasesFound}
 use Rattle.table_releases.specs.Tops.{IsReleaseStop, LeavesReleased, OwnsReleased, ReleasesTop, StaysRecorded}
 use Rattle.table_releases.specs.declared.entries.Released.{Released}
 

@@ -1,6 +1,5 @@
-use Rattle.std.proofs.Common.{◌≡◌, ◌+◌, ◌⊎◌, ◌<◌, None, sym, subst, ap, ◌∙◌, Ok, Err, refl, inl, inr}
-use Rattle.xp_words.specs.Entries.{demand_at}
-use Rattle.xp_words.specs.declared.entry.Demand.TheVariants.{Bad, Nothing, Read, Typed}
+use Rattle.std.proofs.Common.{◌≡◌, ◌⊎◌, ◌<◌, sym, subst, ◌∙◌}
+use Rattle.xp_words.specs.declared.entry.Demand.TheVariants.{Bad, Nothing}
 use Rattle.xp_board.specs.Told.{Post}
 use Rattle.table_releases.specs.Between.{SeesLast, SeesTyped}
 use Rattle.table_releases.proofs.Entry.{frame_fits, hand_left, hand_owned, nothing_found, nothing_hand, plain_found, plain_gives, plain_goes, plain_hand, plain_post, shed_goes}

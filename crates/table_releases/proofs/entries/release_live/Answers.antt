@@ -1,4 +1,4 @@
-use Rattle.std.proofs.Common.{true, sym, subst, ap, ◌∙◌}
+use Rattle.std.proofs.Common.{true, sym, subst, ◌∙◌}
 use Rattle.table_releases.proofs.FrameSeen.{now_seen}
 use Rattle.table_releases.proofs.LastSeen.{seen_sheds}
 use Rattle.frame_types.specs.Lowering.{DropsType}

@@ -1,16 +1,11 @@
-use Rattle.std.proofs.Common.{◌≡◌, ◌≢◌, None, sym, subst, ap, ◌∙◌, Ok, Err, refl}
-use Rattle.xp_words.specs.KindWords.{kind_write}
+use Rattle.std.proofs.Common.{sym, subst, ap, ◌∙◌, Err}
 use Rattle.xp_words.specs.Places.{number, sizes_of}
 use Rattle.xp_words.specs.declared.place.Place.TheVariants.{Kind}
-use Rattle.xp_words.specs.declared.reply.Pause.TheVariants.{Lost}
 use Rattle.xp_words.specs.declared.reply.Stop.{Stop}
-use Rattle.xp_words.specs.declared.reply.Stop.TheVariants.{Paused}
 use Rattle.xp_board.specs.Told.{Post}
 use Rattle.kind_words.proofs.KindFacts.{read_is}
-use Rattle.table_releases.specs.Between.{HandReleased, Releases, Resumed}
+use Rattle.table_releases.specs.Between.{Releases}
 use Rattle.table_releases.specs.Found.{ReleasesFound}
-use Rattle.table_releases.specs.Tops.{StaysRecorded}
-use Rattle.table_releases.specs.declared.entries.Released.{Released}
 use Rattle.table_releases.proofs.FrameSeen.{kind_post}
 use Rattle.table_releases.proofs.Lost.{lost_found, lost_stays, resumed_from}
 use Rattle.table_releases.proofs.PiecesTyped.{lost_releases}

@@ -1,6 +1,4 @@
-use Rattle.std.proofs.Common.{◌≡◌, true, sym, subst, ap, ◌∙◌, Ok, Err, refl}
-use Rattle.table_releases.specs.declared.entries.Released.{Released}
-use Rattle.table_releases.specs.Between.{SeesKind, SeesTyped}
+use Rattle.std.proofs.Common.{ap, ◌∙◌}
 use Rattle.board_lemmas.proofs.KindForms.{fields_of}
 use Rattle.kind_words.proofs.KindFacts.{kind_is_some}
 use Rattle.table_releases.proofs.FrameSeen.{typed_frame}

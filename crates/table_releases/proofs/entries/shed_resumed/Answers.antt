@@ -1,8 +1,8 @@
-use Rattle.std.proofs.Common.{None, refl, false, true, sym, subst, ap, ◌∙◌}
+use Rattle.std.proofs.Common.{None, refl, false, true, sym, subst, ◌∙◌}
 use Rattle.kind_words.specs.Kinds.{MayLeave, dead_kind, left}
 use Rattle.step_maker.specs.Holds.{Holds}
 use Rattle.table_releases.proofs.LastSeen.{seen_sheds}
-use Rattle.table_releases.proofs.HandResumed.{dead_given, dead_gives, dead_may, dead_works, new, new_in_work, new_kind, resumed_frame, resumed_opens, resumed_seen, shed_here, shed_may}
+use Rattle.table_releases.proofs.HandResumed.{dead_given, dead_gives, dead_may, dead_works, new, new_in_work, new_kind, resumed_opens, resumed_seen, shed_here, shed_may}
 use Rattle.table_releases.proofs.Owning.{resumed_owned}
 use Rattle.table_releases.proofs.PiecesResumed.{memory_found, memory_releases, table_found, table_releases}
 use Rattle.table_releases.specs.declared.entries.Released.TheVariants.{Given, Opened}
