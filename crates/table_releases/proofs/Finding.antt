@@ -134,7 +134,7 @@ module _ (b v : PortValue) (f i : ℕ) (t : PageType) (word g : ℕ) (want : Pag
           (d.found, found_before b z q (Kind g) d.found table_step came, rw (sym d.counts ∙ is) (refl, (p.list, p.put, changes_then b z q _ p.list table_changes p.changed)))
 
 -- ---- in another vCPU's hand
-form_other : (k : KindWord) → k.validated ≡ false → k.partial ≡ false → (P : Form → Type 0) → P InWork → P Dead → P (form_of k)
+pub form_other : (k : KindWord) → k.validated ≡ false → k.partial ≡ false → (P : Form → Type 0) → P InWork → P Dead → P (form_of k)
 form_other k off none P work dead = rw (off, none) (elim k.locked as (λ c. P (if c then InWork else Dead)) [ true ↦ work | false ↦ dead ])
 
 pub busy_found : (b v : PortValue) (f i : ℕ) (t : PageType) (word g : ℕ) (want : PageType) (x : ℕ) → SeesKind b v f i t word g want x → (kind_fields x).validated ≡ false → (kind_fields x).partial ≡ false →

@@ -13,10 +13,12 @@ use Rattle.xp_board.specs.declared.holdings.Lock.{Lock}
 use Rattle.xp_board.specs.declared.holdings.Work.{Work}
 use Rattle.xp_board.specs.After.{learned_work}
 use Rattle.xp_board.specs.Hands.{ending_of, endings_of, lock_on, locks_on, work_on}
+use Rattle.xp_board.specs.KindSteps.{Partial, form_of}
 use Rattle.xp_board.specs.Readings.{is_live, is_locked, is_partial, is_type, is_work, kind_at, ref_count}
 use Rattle.xp_board.specs.Recorded.{entry_demand}
 use Rattle.xp_board.specs.Told.{Finds, Post, PortValue}
 use Rattle.board_lemmas.proofs.KindForms.{fields_of}
+use Rattle.board_lemmas.proofs.KindReadings.{partial_parts}
 use Rattle.board_lemmas.proofs.Learned.{learned_frame}
 use Rattle.board_lemmas.proofs.ListCounts.{first_by-none}
 use Rattle.board_lemmas.proofs.Sums.{when_eq}
@@ -49,6 +51,10 @@ pub typed_other : (b v : PortValue) (f i : ℕ) (t : PageType) (word g : ℕ) (w
 typed_other b v f i t word g want l e here =
     let w = was_in (λ (y : Work). y.frame) g f (learned_work i word) b.holdings.works e (λ y. learned_frame i word y) (ap (λ (q : PortValue). work_on g q.holdings.works) (sym l.sees.hand) ∙ here) in
     ap (λ n. is_type (kind_fields n).kind want) (same_word i word e w.was w.is) ∙ ap (λ k. is_type (kind_fields w.was.word).kind k) (asks_below t i word g want l.asks) ∙ l.sees.above g w.was w.here
+
+-- a word that is read as partial
+pub form_partial_is : (x : ℕ) (k : KindWord) → kind_read x ≡ Some k → IsTrue (is_partial k) → form_of (kind_fields x) ≡ Partial
+form_partial_is x k read partial = let parts = partial_parts k partial in ap form_of (fields_of x k read) ∙ rw (parts.0, parts.1) refl
 
 -- ---- by the look at its kind word
 module _ (b v : PortValue) (f i : ℕ) (t : PageType) (word g : ℕ) (want : PageType) (x : ℕ) (l : SeesKind b v f i t word g want x) where

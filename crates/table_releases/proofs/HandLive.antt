@@ -1,5 +1,5 @@
 -- A frame that was found live, and its entry shed by a second look at it.
-use Rattle.std.proofs.Common.{◌≡◌, ◌⊎◌, ℕ, ◌<◌, ◌≤◌, ◌||◌, if◌then◌else◌, is_none, Bool, true, false, List, ◌∷◌, length, Some, None, IsTrue, refl, sym, ap, ◌∙◌, subst, arith, inl, inr}
+use Rattle.std.proofs.Common.{◌≡◌, ◌⊎◌, ℕ, ◌<◌, ◌≤◌, ◌||◌, if◌then◌else◌, is_none, Bool, true, false, List, [], ◌∷◌, length, Some, None, IsTrue, refl, sym, ap, ◌∙◌, subst, arith, inl, inr}
 use Rattle.xp_words.specs.Entries.{demand_at}
 use Rattle.xp_words.specs.KindWords.{kind_fields}
 use Rattle.xp_words.specs.Machine.{IsMachine}
@@ -9,6 +9,7 @@ use Rattle.xp_words.specs.declared.entry.Demand.TheVariants.{Typed}
 use Rattle.xp_words.specs.declared.kind.PageType.{PageType}
 use Rattle.xp_words.specs.declared.place.Place.TheVariants.{Kind}
 use Rattle.xp_board.specs.declared.holdings.Holdings.{Holdings}
+use Rattle.xp_board.specs.declared.holdings.Looking.{Looking}
 use Rattle.xp_board.specs.declared.holdings.Reference.{Reference}
 use Rattle.xp_board.specs.declared.holdings.TypedReference.{TypedReference}
 use Rattle.xp_board.specs.declared.holdings.Unsettled.{Unsettled}
@@ -19,9 +20,9 @@ use Rattle.xp_board.specs.declared.step.StepKind.TheVariants as kinds
 use Rattle.xp_board.specs.Acts.{left_by}
 use Rattle.xp_board.specs.After.{learned_cell}
 use Rattle.xp_board.specs.Hands.{brought_as, changed_work, refs_to, typed_owner, typed_to, without_typed, work_on}
-use Rattle.xp_board.specs.KindSteps.{MayDrop}
+use Rattle.xp_board.specs.KindSteps.{MayDrop, still_looking}
 use Rattle.xp_board.specs.Knowledge.{knows_live}
-use Rattle.xp_board.specs.Lists.{changed_by, first_by}
+use Rattle.xp_board.specs.Lists.{changed_by, first_by, kept_of}
 use Rattle.xp_board.specs.Readings.{is_live, is_live_as, is_live_word, is_partial, is_type, is_work, kind_at}
 use Rattle.xp_board.specs.Recorded.{entry_demand}
 use Rattle.xp_board.specs.Steps.{some_since}
@@ -54,10 +55,16 @@ use Rattle.table_releases.proofs.LastSeen.{SeenLast, finds_counts, finds_kind, f
 use Rattle.table_releases.proofs.Looking.{shed_typed}
 
 -- ---- lists
+-- a vCPU that looks at nothing goes on so
+pub looks_none : (g w : ℕ) (xs : List Looking) → xs ≡ [] → still_looking g w xs ≡ xs
+unfolding kept_of
+looks_none g w [] none = refl
+looks_none g w (x ∷ xs) none = absurd cc
+
 pub none_after : {A : Type 0} (key : A → ℕ) (g f : ℕ) (change : A → A) (xs : List A) → ((x : A) → key (change x) ≡ key x) → first_by key g xs ≡ None → first_by key g (changed_by key f change xs) ≡ None
 none_after key g f change xs kept none = first_by-none key g (changed_by key f change xs) (times-changed key g f change xs kept ∙ first_by-absent key g xs none)
 
-same_type : (t : PageType) → is_type t t ≡ true
+pub same_type : (t : PageType) → is_type t t ≡ true
 same_type t = when_eq _ _ refl
 
 live_as_is : (w : ℕ) (t : PageType) → IsTrue (is_live (kind_fields w)) → (kind_fields w).kind ≡ t → is_live_as t w ≡ true

@@ -10,7 +10,6 @@ use Rattle.xp_words.specs.declared.kind.KindWord.{KindWord}
 use Rattle.xp_words.specs.declared.kind.PageType.{PageType}
 use Rattle.xp_words.specs.declared.place.Place.TheVariants.{Clock}
 use Rattle.xp_board.specs.declared.holdings.Holdings.{Holdings}
-use Rattle.xp_board.specs.declared.holdings.Looking.{Looking}
 use Rattle.xp_board.specs.declared.holdings.Reference.{Reference}
 use Rattle.xp_board.specs.declared.holdings.TypedReference.{TypedReference}
 use Rattle.xp_board.specs.declared.holdings.Work.{Work}
@@ -19,8 +18,8 @@ use Rattle.xp_board.specs.declared.step.Mark.TheVariants.{Shed}
 use Rattle.xp_board.specs.declared.step.StepKind.TheVariants as kinds
 use Rattle.xp_board.specs.Acts.{left_by}
 use Rattle.xp_board.specs.Hands.{brought_as, changed_work, refs_to, typed_owner, typed_to, without_typed, without_work, work_on}
-use Rattle.xp_board.specs.KindSteps.{new_work, resumed_kind, still_looking, unsettled_from}
-use Rattle.xp_board.specs.Lists.{changed_by, kept_of}
+use Rattle.xp_board.specs.KindSteps.{new_work, resumed_kind, unsettled_from}
+use Rattle.xp_board.specs.Lists.{changed_by}
 use Rattle.xp_board.specs.Readings.{is_work}
 use Rattle.xp_board.specs.Steps.{some_since}
 use Rattle.xp_board.specs.Told.{Post, PortValue}
@@ -44,14 +43,9 @@ use Rattle.table_words.specs.Entries.{entry_shed}
 use Rattle.table_releases.specs.Between.{Resumed}
 use Rattle.table_releases.specs.Tops.{Opens, shed_once}
 use Rattle.table_releases.proofs.FrameSeen.{found_kind, found_unkept, kind_post, now_seen, seen_same}
-use Rattle.table_releases.proofs.HandLive.{hand_behind, none_after, shed_works}
+use Rattle.table_releases.proofs.HandLive.{hand_behind, looks_none, none_after, shed_works}
 use Rattle.table_releases.proofs.LastSeen.{SeenLast}
 use Rattle.table_releases.proofs.Looking.{shed_typed}
-
-looks_none : (g w : ℕ) (xs : List Looking) → xs ≡ [] → still_looking g w xs ≡ xs
-unfolding kept_of
-looks_none g w [] none = refl
-looks_none g w (x ∷ xs) none = absurd cc
 
 changed_behind : (f : ℕ) (change : Work → Work) (e : Work) (xs : List Work) → e.frame ≢ f → changed_work f change (e ∷ xs) ≡ e ∷ changed_work f change xs
 unfolding changed_by

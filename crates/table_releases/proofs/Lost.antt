@@ -1,20 +1,16 @@
 -- The exchange that is to bring a partial frame into the own works: it came, or the exchange found another word.
-use Rattle.std.proofs.Common.{◌≡◌, ◌≢◌, ℕ, ◌&&◌, if◌then◌else◌, true, List, [], ◌∷◌, Some, None, IsTrue, Err, refl, sym, ap, ◌∙◌, subst}
-use Rattle.xp_words.specs.KindWords.{kind_fields, kind_read, kind_write}
+use Rattle.std.proofs.Common.{◌≡◌, ◌≢◌, ℕ, ◌&&◌, if◌then◌else◌, true, [], ◌∷◌, Some, None, IsTrue, Err, sym, ap, ◌∙◌, subst}
+use Rattle.xp_words.specs.KindWords.{kind_read, kind_write}
 use Rattle.xp_words.specs.declared.kind.KindWord.{KindWord}
 use Rattle.xp_words.specs.declared.kind.PageType.{PageType}
 use Rattle.xp_words.specs.declared.place.Place.TheVariants.{Kind}
 use Rattle.xp_words.specs.declared.reply.Pause.TheVariants.{Lost}
 use Rattle.xp_words.specs.declared.reply.Stop.TheVariants.{Paused}
-use Rattle.xp_board.specs.declared.holdings.Looking.{Looking}
 use Rattle.xp_board.specs.declared.step.Act.TheVariants.{Cas}
 use Rattle.xp_board.specs.declared.step.StepKind.TheVariants as kinds
-use Rattle.xp_board.specs.KindSteps.{Partial, form_of, resumed_kind, still_looking}
-use Rattle.xp_board.specs.Lists.{kept_of}
+use Rattle.xp_board.specs.KindSteps.{resumed_kind}
 use Rattle.xp_board.specs.Readings.{is_partial}
 use Rattle.xp_board.specs.Told.{PortValue}
-use Rattle.board_lemmas.proofs.KindForms.{fields_of}
-use Rattle.board_lemmas.proofs.KindReadings.{partial_parts}
 use Rattle.board_lemmas.proofs.Sums.{when_ne}
 use Rattle.step_maker.specs.Holds.{Holds, still}
 use Rattle.step_maker.specs.Moves.{Moves}
@@ -25,17 +21,13 @@ use Rattle.kind_words.specs.Kinds.{looked_at, resumed_work}
 use Rattle.table_releases.specs.Between.{Resumed, SeesKind}
 use Rattle.table_releases.specs.Found.{ByForm, ReleasesFound}
 use Rattle.table_releases.specs.Tops.{StaysRecorded}
+use Rattle.table_releases.proofs.FrameSeen.{form_partial_is}
 use Rattle.table_releases.proofs.Finding.{changes_behind, kind_changes, kind_found}
-use Rattle.table_releases.proofs.HandLive.{stays_recorded}
+use Rattle.table_releases.proofs.HandLive.{looks_none, stays_recorded}
 
 pub resumed_from : (b v w : PortValue) (f i : ℕ) (t : PageType) (word g : ℕ) (want : PageType) (x : ℕ) → SeesKind b v f i t word g want x → (k : KindWord) → kind_read x ≡ Some k → IsTrue (is_partial k) →
     Moves v w (Kind g) (Cas (kind_write k) (kind_write (resumed_kind k))) kinds.Kind None (kind_write k) → Holds v w (resumed_work g k v.holdings) → Resumed b w f i t word g want k
 resumed_from b v w f i t word g want x l k read partial step hand = record { from = v; found = x; sees = l; read = read; partial = partial; step = step; hand = hand }
-
-looks_none : (g w : ℕ) (xs : List Looking) → xs ≡ [] → still_looking g w xs ≡ xs
-unfolding kept_of
-looks_none g w [] none = refl
-looks_none g w (x ∷ xs) none = absurd cc
 
 module _ (b v : PortValue) (f i : ℕ) (t : PageType) (word g : ℕ) (want : PageType) (x : ℕ) (l : SeesKind b v f i t word g want x) (w : PortValue) (found : ℕ) where
   no_looking : v.holdings.looking ≡ []
@@ -54,10 +46,7 @@ module _ (b v : PortValue) (f i : ℕ) (t : PageType) (word g : ℕ) (want : Pag
         (subst (λ c. Changes v w (if c && true then ((Kind g, Cas (kind_write k) (kind_write (resumed_kind k))) ∷ []) else [])) (when_ne found (kind_write k) off)
         (changes_step v v w [] (Kind g) (Cas (kind_write k) (kind_write (resumed_kind k))) kinds.Kind None found (changes_nothing v) change))
 
-    was_partial : form_of (kind_fields x) ≡ Partial
-    was_partial = let parts = partial_parts k partial in ap form_of (fields_of x k read) ∙ rw (parts.0, parts.1) refl
-
     pub lost_found : (place : ℕ) → found ≢ kind_write k → ReleasesFound b w f i t (Err (Paused (Lost place x found)))
     lost_found place off =
         kind_found b v f i t word g want x l w (Err (Paused (Lost place x found))) (moves_came v w (Kind g) (Cas (kind_write k) (kind_write (resumed_kind k))) kinds.Kind None found change)
-        (subst (λ c. ByForm b w g want x (Err (Paused (Lost place x found))) c) (sym was_partial) (lost_changes off))
+        (subst (λ c. ByForm b w g want x (Err (Paused (Lost place x found))) c) (sym (form_partial_is x k read partial)) (lost_changes off))

@@ -10,11 +10,10 @@ use Rattle.xp_board.specs.declared.step.Act.TheVariants.{Cas, Load, Store}
 use Rattle.xp_board.specs.declared.step.Mark.TheVariants.{Shed}
 use Rattle.xp_board.specs.declared.step.StepKind.TheVariants as kinds
 use Rattle.xp_board.specs.Hands.{work_on}
-use Rattle.xp_board.specs.KindSteps.{Partial, form_of, resumed_kind}
+use Rattle.xp_board.specs.KindSteps.{resumed_kind}
 use Rattle.xp_board.specs.Readings.{is_dead, is_type, is_work}
 use Rattle.xp_board.specs.Told.{PortValue}
 use Rattle.board_lemmas.proofs.KindForms.{fields_of}
-use Rattle.board_lemmas.proofs.KindReadings.{partial_parts}
 use Rattle.board_lemmas.proofs.Sums.{when_eq}
 use Rattle.step_maker.specs.Moves.{Came, Met, Moves}
 use Rattle.step_maker.proofs.Coming.{came_trans, moves_came}
@@ -31,15 +30,14 @@ use Rattle.table_releases.specs.Between.{Releases, Resumed}
 use Rattle.table_releases.specs.Found.{ByForm, ReleasesFound, ResumesBy, resumes}
 use Rattle.table_releases.specs.declared.entries.Released.{Released}
 use Rattle.table_releases.specs.declared.entries.Released.TheVariants.{Given, Opened}
+use Rattle.table_releases.proofs.HandLive.{same_type}
+use Rattle.table_releases.proofs.FrameSeen.{form_partial_is}
 use Rattle.table_releases.proofs.Finding.{changes_behind, found_before, found_later, kind_changes, kind_found, look_changes, step_found}
 use Rattle.table_releases.proofs.Pieces.{goes_shed, goes_shed_refs, goes_step}
 use Rattle.table_releases.proofs.PiecesTyped.{kind_asks, kind_goes, resumed_goes}
 
-same_kind : (t : PageType) → is_type t t ≡ true
-same_kind t = when_eq _ _ refl
-
 kept_type : (found new : ℕ) (k l : KindWord) → kind_fields found ≡ k → kind_fields new ≡ l → l.kind ≡ k.kind → is_dead k ≡ false → IsTrue (is_type (kind_fields found).kind (kind_fields new).kind && not (is_dead (kind_fields found)))
-kept_type found new k l is to same alive = rw (is, to, same, alive, same_kind k.kind) refl
+kept_type found new k l is to same alive = rw (is, to, same, alive, same_type k.kind) refl
 
 work_alive : (k : KindWord) → IsTrue (is_work k) → is_dead k ≡ false
 work_alive k work = grind arith
@@ -86,13 +84,10 @@ module _ (b v : PortValue) (f i : ℕ) (t : PageType) (word g : ℕ) (want : Pag
   in_came : Came r.from v
   in_came = moves_came r.from v (Kind g) _ kinds.Kind None (kind_write k) r.step
 
-  was_partial : form_of (kind_fields r.found) ≡ Partial
-  was_partial = let parts = partial_parts k r.partial in ap form_of (fields_of r.found k r.read) ∙ rw (parts.0, parts.1) refl
-
   partial_found : (z : PortValue) (a : Released) (table : Bool) → is_table want ≡ table → Came v z → ResumesBy b z g want r.found (Ok a) table → ReleasesFound b z f i t (Ok a)
   partial_found z a table is came way =
       kind_found b r.from f i t word g want r.found r.sees z (Ok a) (came_trans r.from v z in_came came)
-      (subst (λ c. ByForm b z g want r.found (Ok a) c) (sym was_partial) (subst (ResumesBy b z g want r.found (Ok a)) (sym is) way))
+      (subst (λ c. ByForm b z g want r.found (Ok a) c) (sym (form_partial_is r.found k r.read r.partial)) (subst (ResumesBy b z g want r.found (Ok a)) (sym is) way))
 
   pub table_found : (w : PortValue) (y : ℕ) → Moves v w (Refs g) Load kinds.Look (Some (Shed f i)) y → is_table want ≡ true → ReleasesFound b w f i t (Ok (Opened g k.progress false))
   table_found w y step table =

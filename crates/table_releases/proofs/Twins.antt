@@ -5,7 +5,6 @@ use Rattle.xp_words.specs.KindWords.{kind_fields}
 use Rattle.xp_words.specs.PageTypes.{is_table}
 use Rattle.xp_words.specs.declared.entry.Demand.{Demand}
 use Rattle.xp_words.specs.declared.entry.Demand.TheVariants.{Bad, Nothing, Read, Typed}
-use Rattle.xp_words.specs.declared.kind.KindWord.{KindWord}
 use Rattle.xp_words.specs.declared.kind.PageType.{PageType}
 use Rattle.xp_words.specs.declared.place.Place.TheVariants.{Cell, Kind}
 use Rattle.xp_words.specs.declared.reply.Pause.TheVariants.{Busy}
@@ -14,7 +13,7 @@ use Rattle.xp_words.specs.declared.reply.Stop.TheVariants.{Paused}
 use Rattle.xp_board.specs.declared.step.Act.TheVariants.{Add, Load}
 use Rattle.xp_board.specs.declared.step.Mark.{Mark}
 use Rattle.xp_board.specs.declared.step.StepKind.TheVariants as kinds
-use Rattle.xp_board.specs.KindSteps.{Dead, Form, InWork, Live, form_of}
+use Rattle.xp_board.specs.KindSteps.{Live, form_of}
 use Rattle.xp_board.specs.Readings.{is_live_word}
 use Rattle.xp_board.specs.RefSteps.{one_down}
 use Rattle.xp_board.specs.Told.{PortValue, is_telling, told_word}
@@ -28,6 +27,7 @@ use Rattle.table_releases.specs.Between.{SeesKind, SeesLast}
 use Rattle.table_releases.specs.Plain.{FormPlainly, LivePlainly, ReleasesPlainly, TwinRelease, lowered_type}
 use Rattle.table_releases.specs.declared.entries.Released.{Released}
 use Rattle.table_releases.specs.declared.entries.Released.TheVariants.{Given, Opened}
+use Rattle.table_releases.proofs.Finding.{form_other}
 
 -- a look leaves all words
 pub look_words : (v w : PortValue) (p : _) (mark : Option Mark) (x : ℕ) → Moves v w p Load kinds.Look mark x → is_telling v ≡ true → told_word w ≡ told_word v
@@ -74,14 +74,11 @@ module _ (b v : PortValue) (f i : ℕ) (t : PageType) (word g : ℕ) (want : Pag
       (λ telling. subst (λ y. FormPlainly w (told_word b) g want answer (form_of (kind_fields y))) (sym (kind_told telling)) (way telling))
 
   -- ---- in another vCPU's hand
-  other_form : (k : KindWord) → k.validated ≡ false → k.partial ≡ false → (P : Form → Type 0) → P InWork → P Dead → P (form_of k)
-  other_form k off none P work dead = rw (off, none) (elim k.locked as (λ c. P (if c then InWork else Dead)) [ true ↦ work | false ↦ dead ])
-
   pub busy_twin : (kind_fields x).validated ≡ false → (kind_fields x).partial ≡ false → TwinRelease b v f t i (Err (Paused (Busy g x)))
   busy_twin off none =
       twin_kind v (Err (Paused (Busy g x)))
       (λ telling.
-      other_form (kind_fields x) off none (λ r. FormPlainly v (told_word b) g want (Err (Paused (Busy g x))) r)
+      form_other (kind_fields x) off none (λ r. FormPlainly v (told_word b) g want (Err (Paused (Busy g x))) r)
       (ap (λ y. Err (Paused (Busy g y))) (sym (kind_told telling)), λ q j. kind_words telling j q) (ap (λ y. Err (Paused (Busy g y))) (sym (kind_told telling)), λ q j. kind_words telling j q))
 
   -- ---- live

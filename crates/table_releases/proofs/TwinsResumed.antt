@@ -9,11 +9,10 @@ use Rattle.xp_board.specs.Acts.{left_by}
 use Rattle.xp_board.specs.declared.step.Act.TheVariants.{Cas, Load, Store}
 use Rattle.xp_board.specs.declared.step.Mark.{Mark}
 use Rattle.xp_board.specs.declared.step.StepKind.TheVariants as kinds
-use Rattle.xp_board.specs.KindSteps.{Partial, form_of, resumed_kind}
+use Rattle.xp_board.specs.KindSteps.{resumed_kind}
 use Rattle.xp_board.specs.Steps.{is_same}
 use Rattle.xp_board.specs.Told.{PortValue, is_telling, told_word}
 use Rattle.board_lemmas.proofs.KindForms.{fields_of}
-use Rattle.board_lemmas.proofs.KindReadings.{partial_parts}
 use Rattle.board_lemmas.proofs.Sums.{when_eq}
 use Rattle.step_maker.specs.Moves.{Moves}
 use Rattle.step_maker.specs.Plain.{Leaves, Words, change}
@@ -26,6 +25,7 @@ use Rattle.table_releases.specs.Between.{Resumed, SeesKind}
 use Rattle.table_releases.specs.Plain.{FormPlainly, PartialPlainly, TwinRelease, resumed_words}
 use Rattle.table_releases.specs.declared.entries.Released.{Released}
 use Rattle.table_releases.specs.declared.entries.Released.TheVariants.{Given, Opened}
+use Rattle.table_releases.proofs.FrameSeen.{form_partial_is}
 use Rattle.table_releases.proofs.Twins.{kind_telling, kind_told, kind_words, look_words, twin_kind}
 
 low_rest : (n : ℕ) → n < 2 ^ 36 → n % 2 ^ 36 ≡ n
@@ -61,13 +61,10 @@ module _ (b v : PortValue) (f i : ℕ) (t : PageType) (word g : ℕ) (want : Pag
       in
       two ∙ (λ j q. if is_same q (Kind g) then three j else told_word b q)
 
-  was_partial : form_of (kind_fields r.found) ≡ Partial
-  was_partial = let parts = partial_parts k r.partial in ap form_of (fields_of r.found k r.read) ∙ rw (parts.0, parts.1) refl
-
   partial_twin : (z : PortValue) (a : Released) (table : Bool) → is_table want ≡ table → (is_telling b ≡ true → PartialPlainly z (told_word b) g want (Ok a) table) → TwinRelease b z f t i (Ok a)
   partial_twin z a table is way =
       twin_kind b r.from f i t word g want r.found r.sees z (Ok a)
-      (λ telling. subst (λ c. FormPlainly z (told_word b) g want (Ok a) c) (sym was_partial) (subst (PartialPlainly z (told_word b) g want (Ok a)) (sym is) (way telling)))
+      (λ telling. subst (λ c. FormPlainly z (told_word b) g want (Ok a) c) (sym (form_partial_is r.found k r.read r.partial)) (subst (PartialPlainly z (told_word b) g want (Ok a)) (sym is) (way telling)))
 
   pub table_twin : (w : PortValue) (mark : Option Mark) (y : ℕ) → Moves v w (Refs g) Load kinds.Look mark y → is_table want ≡ true → TwinRelease b w f t i (Ok (Opened g k.progress false))
   table_twin w mark y m table =
