@@ -38,7 +38,7 @@ use Rattle.frame_types.specs.Plain.{set_kind}
 kept_type : (found new : ℕ) (k l : KindWord) → kind_fields found ≡ k → kind_fields new ≡ l → l.kind ≡ k.kind → is_dead k ≡ false → IsTrue (keeps_type found new)
 kept_type found new k l is to same alive = rw (is, to, same, alive, same_type k.kind) refl
 
-work_alive : (k : KindWord) → IsTrue (is_work k) → is_dead k ≡ false
+pub work_alive : (k : KindWord) → IsTrue (is_work k) → is_dead k ≡ false
 work_alive k work = grind (arith, nat_tests)
 
 module _ (u v d : PortValue) (f owner : ℕ) (want : PageType) (ds : List Deed) (before : Serves u v (of_frame f owner (Some want)) ds) where

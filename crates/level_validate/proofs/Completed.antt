@@ -20,7 +20,7 @@ use Rattle.partial_state.proofs.LevelFacts.{level_type-plain, level_type-typed}
 use Rattle.partial_state.specs.declared.stack.TableWork.{TableWork}
 use Rattle.partial_state.specs.Levels.{level_type}
 use Rattle.level_validate.specs.Completing.{count_for}
-use Rattle.level_validate.specs.Tables.{AreTyped, IsReady, Stands, refs_for}
+use Rattle.level_validate.specs.Tables.{AreTyped, IsTopReady, Carries, refs_for}
 use Rattle.level_validate.proofs.LeavingOwn.{refs_are, typed_gone}
 use Rattle.level_validate.proofs.LeavingTables.{top, top_done, top_gone, top_held, top_here, top_owned, top_typed}
 use Rattle.level_validate.proofs.StandsFacts.{ref_owned, refs_lent, tables_none, typed_lent}
@@ -31,8 +31,8 @@ no_page l is = absurd (let k = subst (λ y. IsTrue (not (type_number y == 5))) i
 unmarked_past : (b : Bool) → b ≡ false → b ≡ true → ⊥
 unmarked_past b off on = absurd cc
 
-module _ (v w : PortValue) (owner : ℕ) (t : TableWork) (ts : List TableWork) (s : Stands v w owner (t ∷ ts)) where
-  module _ (full : t.done ≡ 512) (ready : IsReady w) where
+module _ (v w : PortValue) (owner : ℕ) (t : TableWork) (ts : List TableWork) (s : Carries v w owner (t ∷ ts)) where
+  module _ (full : t.done ≡ 512) (ready : IsTopReady w) where
     whole : IsWholeWork w.post.machine t.frame (level_type t.level) w.holdings (top v w owner t ts s).work
     whole =
         let e = top v w owner t ts s in
@@ -86,7 +86,7 @@ module _ (v w : PortValue) (owner : ℕ) (t : TableWork) (ts : List TableWork) (
       }
 
 -- ---- the outermost one: nothing else of the tables is in hand
-pub outer_live : (v w d : PortValue) (owner : ℕ) (t : TableWork) (s : Stands v w owner (t ∷ [])) → LiveHand v w owner t [] s d → FlushedHolds v d (record v.holdings { typed = live_typed t.frame (level_type t.level) (owners.Of owner) ∷ v.holdings.typed })
+pub outer_live : (v w d : PortValue) (owner : ℕ) (t : TableWork) (s : Carries v w owner (t ∷ [])) → LiveHand v w owner t [] s d → FlushedHolds v d (record v.holdings { typed = live_typed t.frame (level_type t.level) (owners.Of owner) ∷ v.holdings.typed })
 outer_live v w d owner t s l =
     let e = top v w owner t [] s in
     let r = live_typed t.frame (level_type t.level) (owners.Of owner) in

@@ -26,21 +26,22 @@ use Rattle.partial_state.proofs.LevelFacts.{level_type-table}
 use Rattle.partial_state.specs.declared.stack.TableWork.{TableWork}
 use Rattle.partial_state.specs.Levels.{level_type}
 use Rattle.level_validate.specs.Giving.{MayGiveBack}
-use Rattle.level_validate.specs.Tables.{IsReady, Stands}
+use Rattle.level_validate.specs.Tables.{IsTopReady, Carries}
 use Rattle.level_validate.proofs.Looking.{FirstFound}
 use Rattle.level_validate.proofs.Opening.{CameOpen}
-use Rattle.level_validate.proofs.Pushing.{e, es, looked_hand, looked_only, looked_stands, next, pushed, pushed_lent, pushed_own, reach_again, reach_next, ready_by, recorded_hand, recorded_stands, seen, seen_recorded, seen_table, seen_word, settled_none}
+use Rattle.level_validate.proofs.Pushing.{e, es, looked_hand, looked_only, looked_stands, next, pushed, pushed_lent, pushed_own, reach_again, reach_next, ready_by, recorded_hand, recorded_stands, seen, seen_recorded, seen_table, seen_word}
 use Rattle.level_validate.proofs.Sharing.{shared_by}
+use Rattle.table_words.proofs.Shedding.{none_unsettled}
 
 pub back_one : (n : ℕ) → (n ≡ 0 → ⊥) → n - 1 + 1 ≡ n
 back_one n some = omega (arith, some)
 
-module _ (v u w : PortValue) (owner : ℕ) (t : TableWork) (ts : List TableWork) (s : Stands v u owner (t ∷ ts)) (came : Came u w) (first : FirstFound u) where
+module _ (v u w : PortValue) (owner : ℕ) (t : TableWork) (ts : List TableWork) (s : Carries v u owner (t ∷ ts)) (came : Came u w) (first : FirstFound u) where
   -- ---- looked at alone
-  pub after_look : (i : ℕ) → LookedAnd u w t.frame i as_it_was → Stands v w owner (t ∷ ts)
+  pub after_look : (i : ℕ) → LookedAnd u w t.frame i as_it_was → Carries v w owner (t ∷ ts)
   after_look i l = looked_stands v u w owner t ts s came first i l.0 (looked_only v u w owner t ts s came first i l.0 l.1)
 
-  pub after_settled : (i : ℕ) → LookedAnd u w t.frame i as_it_was → IsSettledNow w t.frame → IsReady w
+  pub after_settled : (i : ℕ) → LookedAnd u w t.frame i as_it_was → IsSettledNow w t.frame → IsTopReady w
   after_settled i l now =
       let x = seen v u w owner t ts s came first i l.0 in
       let xs = es v u w owner t ts s came first i l.0 in
@@ -48,22 +49,22 @@ module _ (v u w : PortValue) (owner : ℕ) (t : TableWork) (ts : List TableWork)
       ready_by w x xs are (now x (work_here t.frame x xs w.holdings.works (seen_table v u w owner t ts s came first i l.0).frame are))
 
   -- ---- recorded
-  pub after_record : (r : Option Unsettled) → 0 < 512 - t.done → LookedAnd u w t.frame t.done (λ word h. with_recorded t.frame (t.done + 1) r h) → Stands v w owner (record t { done = t.done + 1 } ∷ ts)
+  pub after_record : (r : Option Unsettled) → 0 < 512 - t.done → LookedAnd u w t.frame t.done (λ word h. with_recorded t.frame (t.done + 1) r h) → Carries v w owner (record t { done = t.done + 1 } ∷ ts)
   after_record r left l = recorded_stands v u w owner t ts s came first t.done l.0 r refl left (recorded_hand v u w owner t ts s came first t.done l.0 r l.1)
 
-  pub after_record_ready : LookedAnd u w t.frame t.done (λ word h. with_recorded t.frame (t.done + 1) None h) → IsReady w
+  pub after_record_ready : LookedAnd u w t.frame t.done (λ word h. with_recorded t.frame (t.done + 1) None h) → IsTopReady w
   unfolding next
   after_record_ready l =
       let x = next v u w owner t ts s came first t.done l.0 None in
       let xs = es v u w owner t ts s came first t.done l.0 in
-      ready_by w x xs (ap (λ (q : PortValue). q.holdings.works) (recorded_hand v u w owner t ts s came first t.done l.0 None l.1)) (settled_none (sizes_of w.post.machine) w.holdings x (none_next l.0))
+      ready_by w x xs (ap (λ (q : PortValue). q.holdings.works) (recorded_hand v u w owner t ts s came first t.done l.0 None l.1)) (none_unsettled (sizes_of w.post.machine) w.holdings x (none_next l.0))
     where
       none_next : (word : ℕ) → (next v u w owner t ts s came first t.done word None).unsettled ≡ None
       none_next word = refl
 
   -- ---- another table came into work
-  pub after_next : (g progress : ℕ) (own : Bool) → t.done < 512 → IsReady u → CameOpen u g (below (level_type t.level)) progress → Opens u w t.frame t.done (level_type t.level) g owner progress own false →
-      Stands v w owner (pushed t g progress own false ∷ record t { done = t.done + 1 } ∷ ts)
+  pub after_next : (g progress : ℕ) (own : Bool) → t.done < 512 → IsTopReady u → CameOpen u g (below (level_type t.level)) progress → Opens u w t.frame t.done (level_type t.level) g owner progress own false →
+      Carries v w owner (pushed t g progress own false ∷ record t { done = t.done + 1 } ∷ ts)
   after_next g progress true left ready c o =
       pushed_own v u w owner t ts s came first t.done o.word g progress (t.done + 1) false o.work c (omega (arith, left)) o.frame o.in_work o.kind o.flushed o.recorded o.since o.taken
       (reach_next v u w owner t ts s came first t.done o.word g progress true refl ready o.asks) o.hand
@@ -72,7 +73,7 @@ module _ (v u w : PortValue) (owner : ℕ) (t : TableWork) (ts : List TableWork)
       (reach_next v u w owner t ts s came first t.done o.word g progress false refl ready o.asks) o.hand
 
   pub after_again : (i g progress : ℕ) (own : Bool) → i + 1 ≡ t.done → CameOpen u g (below (level_type t.level)) progress → Opens u w t.frame i (level_type t.level) g owner progress own false →
-      Stands v w owner (pushed t g progress own true ∷ t ∷ ts)
+      Carries v w owner (pushed t g progress own true ∷ t ∷ ts)
   after_again i g progress true at c o =
       pushed_own v u w owner t ts s came first i o.word g progress t.done true o.work c s.stack.0.done o.frame o.in_work o.kind o.flushed o.recorded o.since o.taken
       (reach_again v u w owner t ts s came first i o.word g progress true at o.asks) o.hand
@@ -85,13 +86,13 @@ works_opened : (b : Bool) (u w : PortValue) (f i : ℕ) (k : PageType) (g owner 
 works_opened true u w f i k g owner progress o = (_, ap (λ (q : PortValue). q.holdings.works) o.hand)
 works_opened false u w f i k g owner progress o = (_, ap (λ (q : PortValue). q.holdings.works) o.hand)
 
-pub fresh_ready : (u w : PortValue) (f i : ℕ) (k : PageType) (g owner progress : ℕ) (own : Bool) → Opens u w f i k g owner progress own false → progress ≡ 0 → IsReady w
+pub fresh_ready : (u w : PortValue) (f i : ℕ) (k : PageType) (g owner progress : ℕ) (own : Bool) → Opens u w f i k g owner progress own false → progress ≡ 0 → IsTopReady w
 fresh_ready u w f i k g owner progress own o zero =
     let xs = works_opened own u w f i k g owner progress o in
-    ready_by w o.work xs.0 xs.1 (settled_none (sizes_of w.post.machine) w.holdings o.work (o.settled zero))
+    ready_by w o.work xs.0 xs.1 (none_unsettled (sizes_of w.post.machine) w.holdings o.work (o.settled zero))
 
 -- ---- it was live: one typed reference more
-module _ (v u x : PortValue) (owner : ℕ) (t : TableWork) (ts : List TableWork) (s : Stands v u owner (t ∷ ts)) (came : Came u x) (first : FirstFound u) (i g : ℕ) (at : i + 1 ≡ t.done) (k : TakesAgain u x t.frame i (level_type t.level) g owner) where
+module _ (v u x : PortValue) (owner : ℕ) (t : TableWork) (ts : List TableWork) (s : Carries v u owner (t ∷ ts)) (came : Came u x) (first : FirstFound u) (i g : ℕ) (at : i + 1 ≡ t.done) (k : TakesAgain u x t.frame i (level_type t.level) g owner) where
   abbrev more : TypedReference
   more = live_typed g (below (level_type t.level)) (owners.Of owner)
 
@@ -133,11 +134,11 @@ module _ (v u x : PortValue) (owner : ℕ) (t : TableWork) (ts : List TableWork)
         ap quiet gives ∙ ap (λ (q : PortValue). quiet (record q { holdings = gave_type g q.holdings })) taken_hand
         ∙ ap (λ ys. quiet (record u { holdings = record u.holdings { typed = ys; works = top_seen ∷ top_others } })) (without_newest (λ (y : TypedReference). y.frame) g more u.holdings.typed _ refl refl)
 
-    pub taken_stands : Stands v w owner (t ∷ ts)
+    pub taken_stands : Carries v w owner (t ∷ ts)
     unfolding top_seen top_others seen e es
     taken_stands = looked_stands v u w owner t ts s (came_trans u x w came on) first i k.word given_hand
 
-    pub taken_ready : IsSettledNow x t.frame → IsReady w
+    pub taken_ready : IsSettledNow x t.frame → IsTopReady w
     unfolding top_seen top_others
     taken_ready now =
         let is = seen_table v u x owner t ts s came first i k.word in

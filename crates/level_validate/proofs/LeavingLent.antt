@@ -28,7 +28,7 @@ use Rattle.partial_state.proofs.StackFacts.{stack_retreated}
 use Rattle.partial_state.specs.declared.stack.TableWork.{TableWork}
 use Rattle.partial_state.specs.Levels.{level_type}
 use Rattle.partial_state.specs.Stacks.{IsStack, done_on_top, retreated}
-use Rattle.level_validate.specs.Tables.{AreTables, AreTyped, Stands, innermost, refs_for}
+use Rattle.level_validate.specs.Tables.{AreTables, AreTyped, Carries, innermost, refs_for}
 use Rattle.level_validate.specs.Unwinding.{around_lent, left_so}
 use Rattle.level_validate.proofs.LeavingTables.{reaches_taken, reaches_under, top, top_gone}
 use Rattle.level_validate.proofs.StandsFacts.{refs_done, refs_lent, stands_by, tables_inner, tables_later, typed_done, typed_lent, typed_later, work_done}
@@ -76,10 +76,10 @@ under_some z steps t [] es new some are = absurd (some refl)
 under_some z steps t (u ∷ us) [] new some are = absurd are
 under_some z steps t (u ∷ us) (e ∷ es) new some are = let next = (reaches_under z steps u e t (Some t) refl new are.1).next in omega (arith, next)
 
-pub retreat_some : (v w : PortValue) (owner : ℕ) (t : TableWork) (ts : List TableWork) → Stands v w owner (t ∷ ts) → t.recorded ≡ false → ts ≢ [] → 0 < done_on_top ts
+pub retreat_some : (v w : PortValue) (owner : ℕ) (t : TableWork) (ts : List TableWork) → Carries v w owner (t ∷ ts) → t.recorded ≡ false → ts ≢ [] → 0 < done_on_top ts
 retreat_some v w owner t ts s new some = let e = top v w owner t ts s in under_some (sizes_of v.post.machine) w.holdings.steps t ts e.others new some e.around
 
-module _ (v w : PortValue) (owner : ℕ) (t : TableWork) (ts : List TableWork) (s : Stands v w owner (t ∷ ts)) (lent : t.own ≡ false) (d : PortValue) (found : ℕ)
+module _ (v w : PortValue) (owner : ℕ) (t : TableWork) (ts : List TableWork) (s : Carries v w owner (t ∷ ts)) (lent : t.own ≡ false) (d : PortValue) (found : ℕ)
     (store : Moves w d (Kind t.frame) (Store (kind_write (partial_kind (level_type t.level) false false t.done 0))) kinds.Kind None found) (hand : Holds w d (left_so false t.frame w.holdings)) where
   abbrev lent_ref : Reference
   lent_ref = record { frame = t.frame; owner = owners.Of owner }
@@ -101,7 +101,7 @@ module _ (v w : PortValue) (owner : ℕ) (t : TableWork) (ts : List TableWork) (
         ∙ ap (λ rs. quiet (record w { holdings = record w.holdings { refs = rs; works = without_work t.frame w.holdings.works } })) (without_newest (λ (y : Reference). y.frame) t.frame lent_ref (refs_for owner ts v.holdings.refs) w.holdings.refs refl refs_were)
         ∙ ap (λ ws. quiet (record w { holdings = record w.holdings { refs = refs_for owner ts v.holdings.refs; works = ws } })) (top_gone v w owner t ts s)
 
-    pub lent_stands : (b : Bool) → t.recorded ≡ b → Stands v x owner (around_lent b ts)
+    pub lent_stands : (b : Bool) → t.recorded ≡ b → Carries v x owner (around_lent b ts)
     lent_stands b is =
         let longer = came_longer w x came in
         stands_by v w x owner (t ∷ ts) (around_lent b ts) (refs_for owner ts v.holdings.refs) w.holdings.typed (top v w owner t ts s).others s lent_gone (stack_around b ts s.stack.2)

@@ -40,7 +40,7 @@ use Rattle.table_entries.proofs.HandReady.{settled_more}
 use Rattle.partial_state.proofs.LevelFacts.{level_type-table}
 use Rattle.partial_state.specs.declared.stack.TableWork.{TableWork}
 use Rattle.partial_state.specs.Levels.{level_type}
-use Rattle.level_validate.specs.Tables.{AreTables, IsTableWork, Stands, innermost, refs_for}
+use Rattle.level_validate.specs.Tables.{AreTables, IsTableWork, Carries, innermost, refs_for}
 use Rattle.level_validate.specs.Unwinding.{left_so}
 use Rattle.level_validate.proofs.LeavingLent.{around_taken}
 use Rattle.level_validate.proofs.LeavingTables.{UnderWay, reaches_under, top, top_gone, top_spelled, top_typed}
@@ -49,7 +49,7 @@ use Rattle.level_validate.proofs.StandsFacts.{TopTable, TopTyped, refs_own, stan
 partial_as : (t : PageType) (p : ℕ) → IsTrue (is_kind (partial_kind t false false p 0)) → is_partial_as t (kind_write (partial_kind t false false p 0)) ≡ true
 partial_as t p is = rw (fields_write (partial_kind t false false p 0) is) (same_type t)
 
-module _ (v w : PortValue) (owner : ℕ) (t : TableWork) (ts : List TableWork) (s : Stands v w owner (t ∷ ts)) (own : t.own ≡ true) where
+module _ (v w : PortValue) (owner : ℕ) (t : TableWork) (ts : List TableWork) (s : Carries v w owner (t ∷ ts)) (own : t.own ≡ true) where
   abbrev own_typed : TopTyped (length w.holdings.steps) owner t ts w.holdings.typed
   own_typed = top_typed v w owner t ts s own
 
@@ -69,12 +69,12 @@ module _ (v w : PortValue) (owner : ℕ) (t : TableWork) (ts : List TableWork) (
         ap quiet hand ∙ ap (λ ys. quiet (record w { holdings = record w.holdings { typed = ys; works = without_work t.frame w.holdings.works } })) typed_gone
         ∙ ap (λ ws. quiet (record w { holdings = record w.holdings { typed = own_typed.others; works = ws } })) (top_gone v w owner t ts s)
 
-    pub kept_by : AreTables (sizes_of v.post.machine) d.holdings.steps None ts (top v w owner t ts s).others → Stands v d owner ts
+    pub kept_by : AreTables (sizes_of v.post.machine) d.holdings.steps None ts (top v w owner t ts s).others → Carries v d owner ts
     kept_by tables =
         stands_by v w d owner (t ∷ ts) ts w.holdings.refs own_typed.others (top v w owner t ts s).others s kept_gone s.stack.2 tables refs_are
         (typed_later (length w.holdings.steps) (length d.holdings.steps) owner ts own_typed.others (came_longer w d came) own_typed.around)
 
-    pub kept_stands : t.recorded ≡ true → Stands v d owner ts
+    pub kept_stands : t.recorded ≡ true → Carries v d owner ts
     kept_stands old = kept_by (around_taken (sizes_of v.post.machine) w.holdings d.holdings t ts (top v w owner t ts s).others (came_grows w d came) (came_longer w d came) old (top v w owner t ts s).around)
 
 changed_newest : (f : ℕ) (e : Work) (es ws : List Work) (c : Work → Work) → e.frame ≡ f → ws ≡ e ∷ es → changed_work f c ws ≡ c e ∷ es
@@ -82,7 +82,7 @@ unfolding changed_by
 changed_newest f e es ws c is are = ap (λ xs. changed_work f c xs) are ∙ ap (λ b. if b then (c e ∷ es) else (e ∷ changed_work f c es)) (when_eq e.frame f is)
 
 -- ---- into the entry of the table around it
-module _ (v w : PortValue) (owner : ℕ) (t u : TableWork) (us : List TableWork) (s : Stands v w owner (t ∷ u ∷ us)) (own : t.own ≡ true) (new : t.recorded ≡ false) (d : PortValue) (found : ℕ)
+module _ (v w : PortValue) (owner : ℕ) (t u : TableWork) (us : List TableWork) (s : Carries v w owner (t ∷ u ∷ us)) (own : t.own ≡ true) (new : t.recorded ≡ false) (d : PortValue) (found : ℕ)
     (store : Moves w d (Kind t.frame) (Store (kind_write (partial_kind (level_type t.level) false false t.done 0))) kinds.Kind None found) (hand : Holds w d (left_so false t.frame w.holdings)) where
   abbrev z : Sizes
   z = sizes_of v.post.machine
@@ -196,7 +196,7 @@ module _ (v w : PortValue) (owner : ℕ) (t u : TableWork) (us : List TableWork)
         ap quiet holds ∙ ap (λ h. quiet (record d { holdings = h })) own_left
         ∙ ap (λ (q : PortValue). quiet (record q { holdings = record q.holdings { typed = mine.others; works = recorded_now outer.work ∷ outer.others } })) hand
 
-    pub own_stands : Stands v x owner (u ∷ us)
+    pub own_stands : Carries v x owner (u ∷ us)
     own_stands =
         let longer = came_longer w x came in
         stands_by v w x owner (t ∷ u ∷ us) (u ∷ us) w.holdings.refs mine.others (recorded_now outer.work ∷ outer.others) s own_gone s.stack.2

@@ -26,9 +26,10 @@ use Rattle.kind_words.proofs.Leaving.{left_kept, left_partial, may_keep, may_lea
 use Rattle.partial_state.proofs.LevelFacts.{level_type-table, level_type-typed}
 use Rattle.partial_state.specs.declared.stack.TableWork.{TableWork}
 use Rattle.partial_state.specs.Levels.{level_type}
-use Rattle.level_validate.specs.Tables.{Reaches, Stands, innermost, taken_on, under_way}
+use Rattle.level_validate.specs.Tables.{Reaches, Carries, innermost, taken_on, under_way}
 use Rattle.level_validate.specs.Unwinding.{left_so, own_domain}
-use Rattle.level_validate.proofs.StandsFacts.{TopTable, TopTyped, inner_is, stands_post, tables_top, typed_own, typed_owned}
+use Rattle.level_validate.proofs.StandsFacts.{TopTable, TopTyped, inner_is, stands_post, tables_top, typed_own}
+use Rattle.frame_types.proofs.Entering.{typed_owned}
 
 -- ---- how far a table is recorded
 pub reaches_all : (z : Sizes) (steps : List Made) (t : TableWork) (e : Work) (o : Option TableWork) → o ≡ None → Reaches z steps t e o → e.recorded ≡ t.done
@@ -57,7 +58,7 @@ reaches_under z steps t e g o inner new (under_way h word new2 next settled seen
 reaches_under z steps t e g o inner new (taken_on h word old all some last seen asks) = absurd cc
 
 -- ---- the store
-module _ (v w : PortValue) (owner : ℕ) (t : TableWork) (ts : List TableWork) (s : Stands v w owner (t ∷ ts)) where
+module _ (v w : PortValue) (owner : ℕ) (t : TableWork) (ts : List TableWork) (s : Carries v w owner (t ∷ ts)) where
   pub top : TopTable (sizes_of v.post.machine) w.holdings.steps None t ts w.holdings.works
   top = tables_top (sizes_of v.post.machine) w.holdings.steps None t ts w.holdings.works s.tables
 

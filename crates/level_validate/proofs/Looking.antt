@@ -101,10 +101,6 @@ unfolding changed_by
 changed_first f c e es ws are is = ap (λ zs. changed_work f c zs) are ∙ ap (λ b. if b then (c e ∷ es) else (e ∷ changed_work f c es)) (when_eq e.frame f is)
 
 -- ---- the last recorded entry, where that one was looked at or another one
-pub last_other : (i n w : ℕ) (u : Option Unsettled) → i + 1 ≢ n → learned_last i n w u ≡ u
-last_other i n w None off = refl
-last_other i n w (Some u) off = rw (when_ne (i + 1) n off) refl
-
 pub last_looked : (i n w : ℕ) (u : Option Unsettled) → i + 1 ≡ n → IsLastWord w (learned_last i n w u)
 last_looked i n w None is = tt
 last_looked i n w (Some u) is = rw (when_eq (i + 1) n is) refl

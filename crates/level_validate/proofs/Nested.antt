@@ -51,13 +51,14 @@ use Rattle.partial_state.specs.declared.stack.TableWork.{TableWork}
 use Rattle.partial_state.specs.Levels.{level_type}
 use Rattle.level_validate.specs.Completing.{count_for}
 use Rattle.level_validate.specs.Giving.{MayGiveBack}
-use Rattle.level_validate.specs.Tables.{IsLastWord, IsReady, IsTableWork, Reaches, Stands, innermost, refs_for, taken_on, under_way}
+use Rattle.level_validate.specs.Tables.{IsLastWord, IsTopReady, IsTableWork, Reaches, Carries, innermost, refs_for, taken_on, under_way}
 use Rattle.level_validate.proofs.Completed.{LiveHand}
 use Rattle.level_validate.proofs.LeavingTables.{UnderWay, reaches_under, top}
 use Rattle.level_validate.proofs.Looking.{changed_first}
-use Rattle.level_validate.proofs.Pushing.{ready_by, settled_none}
+use Rattle.level_validate.proofs.Pushing.{ready_by}
 use Rattle.level_validate.proofs.Sharing.{shared_by}
 use Rattle.level_validate.proofs.StandsFacts.{TopTable, inner_is, stands_by, stands_post, tables_later, tables_top, top_known, typed_later}
+use Rattle.table_words.proofs.Shedding.{none_unsettled}
 
 -- ---- the entry that was recorded before
 pub record TakenOn (t : TableWork) (e : Work) (g : TableWork) : Type 0 where
@@ -88,7 +89,7 @@ second_of : (n : Machine) (h : Holdings) (x y : Work) (zs ws : List Work) → ws
 unfolding EachOf
 second_of n h x y zs ws are each = (subst (λ us. EachOf (IsWorkFormed n h) us) are each).1.0
 
-module _ (v w : PortValue) (owner : ℕ) (t u : TableWork) (us : List TableWork) (s : Stands v w owner (t ∷ u ∷ us)) (d : PortValue) (found : ℕ)
+module _ (v w : PortValue) (owner : ℕ) (t u : TableWork) (us : List TableWork) (s : Carries v w owner (t ∷ u ∷ us)) (d : PortValue) (found : ℕ)
     (store : Moves w d (Kind t.frame) (Store (kind_write (live_kind (level_type t.level) (count_for t.own)))) kinds.Kind None found) (l : LiveHand v w owner t (u ∷ us) s d) where
   abbrev z : Sizes
   z = sizes_of v.post.machine
@@ -124,7 +125,7 @@ module _ (v w : PortValue) (owner : ℕ) (t u : TableWork) (us : List TableWork)
   in_hand = subst (λ ys. 0 < typed_to t.frame ys) (sym typed_d) (typed_held t.frame mine l.rest refl)
 
   -- what stands then
-  stands_then : (x : PortValue) (e : Work) → Came w x → FlushedHolds w x (record w.holdings { refs = refs_for owner (u ∷ us) v.holdings.refs; typed = l.rest; works = e ∷ outer.others }) → IsTableWork z u e → e.recorded ≡ u.done → Stands v x owner (u ∷ us)
+  stands_then : (x : PortValue) (e : Work) → Came w x → FlushedHolds w x (record w.holdings { refs = refs_for owner (u ∷ us) v.holdings.refs; typed = l.rest; works = e ∷ outer.others }) → IsTableWork z u e → e.recorded ≡ u.done → Carries v x owner (u ∷ us)
   stands_then x e came hand is all =
       let longer = came_longer w x came in
       stands_by v w x owner (t ∷ u ∷ us) (u ∷ us) (refs_for owner (u ∷ us) v.holdings.refs) l.rest (e ∷ outer.others) s hand s.stack.2
@@ -203,13 +204,13 @@ module _ (v w : PortValue) (owner : ℕ) (t u : TableWork) (us : List TableWork)
           ap quiet holds ∙ ap (λ h. quiet (record d { holdings = h })) recorded_left
           ∙ ap (λ (q : PortValue). quiet (record q { holdings = record q.holdings { typed = l.rest; works = recorded_now outer.work ∷ outer.others } })) l.hand
 
-      pub new_stands : Stands v x owner (u ∷ us)
+      pub new_stands : Carries v x owner (u ∷ us)
       unfolding recorded_now
       new_stands = stands_then x (recorded_now outer.work) came recorded_hand (record { inside = outer.is.inside; frame = outer.is.frame; work = outer.is.work; kind = outer.is.kind; unmarked = outer.is.unmarked }) refl
 
-      pub new_ready : IsReady x
+      pub new_ready : IsTopReady x
       unfolding recorded_now
-      new_ready = ready_by x (recorded_now outer.work) outer.others (ap (λ (q : PortValue). q.holdings.works) recorded_hand) (settled_none (sizes_of x.post.machine) x.holdings (recorded_now outer.work) refl)
+      new_ready = ready_by x (recorded_now outer.work) outer.others (ap (λ (q : PortValue). q.holdings.works) recorded_hand) (none_unsettled (sizes_of x.post.machine) x.holdings (recorded_now outer.work) refl)
 
   -- ---- recorded before
   module _ (old : t.recorded ≡ true) where
@@ -242,7 +243,7 @@ module _ (v w : PortValue) (owner : ℕ) (t u : TableWork) (us : List TableWork)
           ∙ ap (λ ys. quiet (record w { holdings = record w.holdings { refs = refs_for owner (u ∷ us) v.holdings.refs; typed = ys; works = inner.others } })) (without_newest (λ (y : TypedReference). y.frame) t.frame mine l.rest _ refl refl)
           ∙ ap (λ ws. quiet (record w { holdings = record w.holdings { refs = refs_for owner (u ∷ us) v.holdings.refs; typed = l.rest; works = ws } })) outer.are
 
-      pub old_stands : Stands v x owner (u ∷ us)
+      pub old_stands : Carries v x owner (u ∷ us)
       old_stands = stands_then x outer.work (came_trans w d x came_d came) given_hand outer.is on.all
 
       live_there : (y : Unsettled) → outer.work.unsettled ≡ Some y → IsTrue (some_since (sizes_of w.post.machine) y.since (Kind t.frame) is_live_word x.holdings.steps)
@@ -251,7 +252,7 @@ module _ (v w : PortValue) (owner : ℕ) (t u : TableWork) (us : List TableWork)
           let k = live_kind (level_type t.level) (count_for t.own) in
           came_grows d x came _ (moves_since w d (Kind t.frame) (Store (kind_write k)) kinds.Kind None found store y.since is_live_word (since_low y is) (ap (λ (q : KindWord). q.validated) (fields_write k spelled)))
 
-      pub old_ready : IsReady x
+      pub old_ready : IsTopReady x
       unfolding is_settled
       old_ready =
           ready_by x outer.work outer.others (ap (λ (q : PortValue). q.holdings.works) given_hand)

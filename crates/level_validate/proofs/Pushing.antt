@@ -23,13 +23,13 @@ use Rattle.frame_types.specs.Taking.{working, working_typed}
 use Rattle.kind_words.proofs.KindHands.{work_here}
 use Rattle.kind_words.proofs.Leaving.{without_newest}
 use Rattle.table_entries.specs.Tops.{with_recorded}
-use Rattle.table_entries.proofs.HandReady.{learned_word, settled_more, unmarked_learns}
+use Rattle.table_entries.proofs.HandReady.{last_other, learned_word, settled_more, unmarked_learns}
 use Rattle.partial_state.specs.declared.stack.TableWork.{TableWork}
 use Rattle.partial_state.specs.Levels.{level_type}
 use Rattle.partial_state.specs.Stacks.{IsStack}
-use Rattle.level_validate.specs.Tables.{AreTables, AreTyped, IsLastWord, IsReady, IsTableWork, Reaches, Stands, innermost, taken_on, under_way}
+use Rattle.level_validate.specs.Tables.{AreTables, AreTyped, IsLastWord, IsTopReady, IsTableWork, Reaches, Carries, innermost, taken_on, under_way}
 use Rattle.level_validate.proofs.LeavingTables.{top, top_done}
-use Rattle.level_validate.proofs.Looking.{FirstFound, changed_first, last_looked, last_other, looked_apart}
+use Rattle.level_validate.proofs.Looking.{FirstFound, changed_first, last_looked, looked_apart}
 use Rattle.level_validate.proofs.Opening.{CameOpen, level_below, read_level}
 use Rattle.level_validate.proofs.StandsFacts.{stands_by, stands_post, tables_inner, tables_later, typed_done, typed_later, work_done}
 
@@ -41,14 +41,10 @@ head_is : (x y : Work) (xs ys : List Work) → x ∷ xs ≡ y ∷ ys → y ≡ x
 head_is x y xs ys is = cc
 
 -- the innermost one is ready where its work is settled
-pub ready_by : (w : PortValue) (x : Work) (xs : List Work) → w.holdings.works ≡ x ∷ xs → IsTrue (is_settled (sizes_of w.post.machine) w.holdings x) → IsReady w
+pub ready_by : (w : PortValue) (x : Work) (xs : List Work) → w.holdings.works ≡ x ∷ xs → IsTrue (is_settled (sizes_of w.post.machine) w.holdings x) → IsTopReady w
 ready_by w x xs are settled e es is = subst (λ y. IsTrue (is_settled (sizes_of w.post.machine) w.holdings y)) (sym (head_is x e xs es (sym are ∙ is))) settled
 
-pub settled_none : (z : Sizes) (h : Holdings) (e : Work) → e.unsettled ≡ None → IsTrue (is_settled z h e)
-unfolding is_settled
-settled_none z h e none = rw none refl
-
-module _ (v u w : PortValue) (owner : ℕ) (t : TableWork) (ts : List TableWork) (s : Stands v u owner (t ∷ ts)) (came : Came u w) (first : FirstFound u) (i word : ℕ) where
+module _ (v u w : PortValue) (owner : ℕ) (t : TableWork) (ts : List TableWork) (s : Carries v u owner (t ∷ ts)) (came : Came u w) (first : FirstFound u) (i word : ℕ) where
   unfoldable pub e : Work
   e = (top v u owner t ts s).work
 
@@ -111,7 +107,7 @@ module _ (v u w : PortValue) (owner : ℕ) (t : TableWork) (ts : List TableWork)
       ∙ ap (λ ws. record u.holdings { works = ws }) (changed_first t.frame (learned_work i word) e es u.holdings.works works_were is_table_work.frame)
 
   -- ---- looked at alone
-  pub looked_stands : FlushedHolds u w (record u.holdings { works = seen ∷ es }) → Stands v w owner (t ∷ ts)
+  pub looked_stands : FlushedHolds u w (record u.holdings { works = seen ∷ es }) → Carries v w owner (t ∷ ts)
   looked_stands hand =
       stands_by v u w owner (t ∷ ts) (t ∷ ts) u.holdings.refs u.holdings.typed (seen ∷ es) s hand s.stack
       (seen_table, innermost seen_recorded, around_later) s.refs typed_now
@@ -129,7 +125,7 @@ module _ (v u w : PortValue) (owner : ℕ) (t : TableWork) (ts : List TableWork)
       hand ∙ ap (λ h. quiet (record u { holdings = with_recorded t.frame (i + 1) r h })) looked_hand
       ∙ ap (λ ws. quiet (record u { holdings = record u.holdings { works = ws } })) (changed_first t.frame (λ y. record y { recorded = i + 1; unsettled = r }) seen es (seen ∷ es) refl seen_table.frame)
 
-  pub recorded_stands : (r : Option Unsettled) → i ≡ t.done → 0 < 512 - t.done → FlushedHolds u w (record u.holdings { works = next r ∷ es }) → Stands v w owner (record t { done = t.done + 1 } ∷ ts)
+  pub recorded_stands : (r : Option Unsettled) → i ≡ t.done → 0 < 512 - t.done → FlushedHolds u w (record u.holdings { works = next r ∷ es }) → Carries v w owner (record t { done = t.done + 1 } ∷ ts)
   unfolding next
   recorded_stands r at left hand =
       let is = seen_table in
@@ -178,7 +174,7 @@ module _ (v u w : PortValue) (owner : ℕ) (t : TableWork) (ts : List TableWork)
 
     pub pushed_own : (since : ℕ) → since ≤ length w.holdings.steps → Reaches (sizes_of v.post.machine) w.holdings.steps (record t { done = d }) seen (Some (pushed t g progress true r)) →
         FlushedHolds u w (working g owner (below (level_type t.level)) true x since (record (learned_cell t.frame i word u.holdings) { refs = record { frame = g; owner = owners.Of owner } ∷ u.holdings.refs })) →
-        Stands v w owner (pushed t g progress true r ∷ record t { done = d } ∷ ts)
+        Carries v w owner (pushed t g progress true r ∷ record t { done = d } ∷ ts)
     pushed_own since taken reach hand =
         stands_by v u w owner (t ∷ ts) (pushed t g progress true r ∷ record t { done = d } ∷ ts) u.holdings.refs (working_typed g owner (below (level_type t.level)) since ∷ u.holdings.typed) (x ∷ seen ∷ es) s
         (hand ∙ ap (λ h. quiet (record u { holdings = working g owner (below (level_type t.level)) true x since (record h { refs = record { frame = g; owner = owners.Of owner } ∷ u.holdings.refs }) })) looked_hand
@@ -189,7 +185,7 @@ module _ (v u w : PortValue) (owner : ℕ) (t : TableWork) (ts : List TableWork)
 
     pub pushed_lent : (since : ℕ) → typed_to g u.holdings.typed ≡ 0 → Reaches (sizes_of v.post.machine) w.holdings.steps (record t { done = d }) seen (Some (pushed t g progress false r)) →
         FlushedHolds u w (working g owner (below (level_type t.level)) false x since (record (learned_cell t.frame i word u.holdings) { refs = record { frame = g; owner = owners.Of owner } ∷ u.holdings.refs })) →
-        Stands v w owner (pushed t g progress false r ∷ record t { done = d } ∷ ts)
+        Carries v w owner (pushed t g progress false r ∷ record t { done = d } ∷ ts)
     pushed_lent since aside reach hand =
         stands_by v u w owner (t ∷ ts) (pushed t g progress false r ∷ record t { done = d } ∷ ts) (record { frame = g; owner = owners.Of owner } ∷ u.holdings.refs) u.holdings.typed (x ∷ seen ∷ es) s
         (hand ∙ ap (λ h. quiet (record u { holdings = working g owner (below (level_type t.level)) false x since (record h { refs = record { frame = g; owner = owners.Of owner } ∷ u.holdings.refs }) })) looked_hand)
@@ -205,7 +201,7 @@ module _ (v u w : PortValue) (owner : ℕ) (t : TableWork) (ts : List TableWork)
       subst (λ y. IsTrue (settles_last (sizes_of v.post.machine) y w.holdings.steps y.unsettled)) (sym is)
       (subst (λ (p : Post). IsTrue (settles_last (sizes_of p.machine) e w.holdings.steps e.unsettled)) (stands_post v u owner (t ∷ ts) s) more)
 
-  pub reach_next : (g progress : ℕ) (own : Bool) → i ≡ t.done → IsReady u → demand_at (level_type t.level) i word ≡ Typed g (below (level_type t.level)) →
+  pub reach_next : (g progress : ℕ) (own : Bool) → i ≡ t.done → IsTopReady u → demand_at (level_type t.level) i word ≡ Typed g (below (level_type t.level)) →
       Reaches (sizes_of v.post.machine) w.holdings.steps (record t { done = t.done + 1 }) seen (Some (pushed t g progress own false))
   reach_next g progress own at ready asks =
       under_way (pushed t g progress own false) word refl (ap (λ n. n + 1) seen_recorded)

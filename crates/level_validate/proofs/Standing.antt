@@ -21,7 +21,7 @@ use Rattle.partial_state.proofs.LevelFacts.{level_type-number, level_type-table}
 use Rattle.partial_state.specs.declared.stack.TableWork.{TableWork}
 use Rattle.partial_state.specs.Levels.{level_type}
 use Rattle.partial_state.specs.Stacks.{IsStack}
-use Rattle.level_validate.specs.Tables.{AreTables, AreTyped, IsReady, Stands, TypedFor}
+use Rattle.level_validate.specs.Tables.{AreTables, AreTyped, IsTopReady, Carries, TypedFor}
 use Rattle.level_validate.proofs.LeavingTables.{top, top_done}
 use Rattle.level_validate.proofs.StandsFacts.{top_known}
 
@@ -105,7 +105,7 @@ other_type l m a b c =
     ap (λ n. n == type_number (below (level_type l))) number ∙ when_ne m (type_number (below (level_type l))) (λ same. other_number l m a b c (sym same))
 
 -- ---- the hand
-module _ (v w : PortValue) (owner : ℕ) (t : TableWork) (ts : List TableWork) (s : Stands v w owner (t ∷ ts)) where
+module _ (v w : PortValue) (owner : ℕ) (t : TableWork) (ts : List TableWork) (s : Carries v w owner (t ∷ ts)) where
   pub standing_top : WorksAtTop t.frame (level_type t.level) t.done w.holdings
   standing_top =
       let e = top v w owner t ts s in
@@ -121,7 +121,7 @@ module _ (v w : PortValue) (owner : ℕ) (t : TableWork) (ts : List TableWork) (
         recorded = top_done v w owner t ts s;
       }
 
-  pub standing_next : IsReady w → WorksNext w.post.machine t.frame (level_type t.level) t.done w.holdings
+  pub standing_next : IsTopReady w → WorksNext w.post.machine t.frame (level_type t.level) t.done w.holdings
   unfolding standing_top
   standing_next ready = let e = top v w owner t ts s in record { on = standing_top; settled = ready e.work e.others e.are }
 

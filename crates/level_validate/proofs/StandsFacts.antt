@@ -22,7 +22,8 @@ use Rattle.table_entries.proofs.HandReady.{settled_more}
 use Rattle.partial_state.specs.declared.stack.TableWork.{TableWork}
 use Rattle.partial_state.specs.Levels.{level_type}
 use Rattle.partial_state.specs.Stacks.{IsStack}
-use Rattle.level_validate.specs.Tables.{AreTables, AreTyped, IsTableWork, Reaches, Stands, TypedFor, innermost, refs_for, taken_on, under_way}
+use Rattle.level_validate.specs.Tables.{AreTables, AreTyped, IsTableWork, Reaches, Carries, TypedFor, innermost, refs_for, taken_on, under_way}
+use Rattle.frame_types.proofs.Entering.{typed_owned}
 
 -- ---- the innermost table is the newest of the own works
 pub record TopTable (z : Sizes) (steps : List Made) (inner : Option TableWork) (t : TableWork) (ts : List TableWork) (works : List Work) : Type 0 where
@@ -92,10 +93,6 @@ pub ref_owned : (f owner : ℕ) (e : Reference) (rs : List Reference) (h : Holdi
 ref_owned f owner e rs h refs frame owned =
     ap (λ o. owner_by o (owner_from h)) (ap (λ xs. ref_to f xs) refs ∙ first_by-cons_here (λ (y : Reference). y.frame) f e rs frame) ∙ owned
 
-pub typed_owned : (f owner : ℕ) (e : TypedReference) (xs : List TypedReference) (h : Holdings) → h.typed ≡ e ∷ xs → e.frame ≡ f → e.owner ≡ owners.Of owner → typed_owner f h ≡ owners.Of owner
-typed_owned f owner e xs h typed frame owned =
-    ap (λ o. owner_by_typed o (owner_from h)) (ap (λ ys. typed_on f ys) typed ∙ first_by-cons_here (λ (y : TypedReference). y.frame) f e xs frame) ∙ owned
-
 -- the owner of the innermost table is known by its reference
 pub top_known : (made owner : ℕ) (t : TableWork) (ts : List TableWork) (rs : List Reference) (h : Holdings) → h.refs ≡ refs_for owner (t ∷ ts) rs → AreTyped made owner (t ∷ ts) h.typed → IsKnownOwner t.frame owner h
 top_known made owner t ts rs h refs typed = by t.own refl
@@ -122,8 +119,8 @@ may_after w d rs ys ws hand m =
     }
 
 -- other tables stand then
-pub stands_by : (v w d : PortValue) (owner : ℕ) (ts us : List TableWork) (rs : List Reference) (ys : List TypedReference) (ws : List Work) → Stands v w owner ts → FlushedHolds w d (record w.holdings { refs = rs; typed = ys; works = ws }) →
-    IsStack us → AreTables (sizes_of v.post.machine) d.holdings.steps None us ws → rs ≡ refs_for owner us v.holdings.refs → AreTyped (length d.holdings.steps) owner us ys → Stands v d owner us
+pub stands_by : (v w d : PortValue) (owner : ℕ) (ts us : List TableWork) (rs : List Reference) (ys : List TypedReference) (ws : List Work) → Carries v w owner ts → FlushedHolds w d (record w.holdings { refs = rs; typed = ys; works = ws }) →
+    IsStack us → AreTables (sizes_of v.post.machine) d.holdings.steps None us ws → rs ≡ refs_for owner us v.holdings.refs → AreTyped (length d.holdings.steps) owner us ys → Carries v d owner us
 stands_by v w d owner ts us rs ys ws s hand stack tables refs typed =
     record {
       idle = s.idle;
@@ -135,7 +132,7 @@ stands_by v w d owner ts us rs ys ws s hand stack tables refs typed =
           ∙ ap (λ (q : PortValue). quiet (record v { holdings = record v.holdings { refs = q.holdings.refs; typed = q.holdings.typed; works = q.holdings.works } })) (sym hand);
     }
 
-pub stands_post : (v w : PortValue) (owner : ℕ) (ts : List TableWork) → Stands v w owner ts → w.post ≡ v.post
+pub stands_post : (v w : PortValue) (owner : ℕ) (ts : List TableWork) → Carries v w owner ts → w.post ≡ v.post
 stands_post v w owner ts s = ap (λ (q : PortValue). q.post) s.hand
 
 -- ---- a table with another number of entries that are done with
@@ -172,7 +169,7 @@ pub typed_done : (made owner : ℕ) (t : TableWork) (n : ℕ) (ts : List TableWo
 typed_done made owner t n ts ys are = typed_for_done t.own made owner t n (AreTyped made owner ts) ys are
 
 -- the vCPU may work before and after alike
-pub may_back : (v w : PortValue) (owner : ℕ) (ts : List TableWork) → Stands v w owner ts → MayWork w → MayWork v
+pub may_back : (v w : PortValue) (owner : ℕ) (ts : List TableWork) → Carries v w owner ts → MayWork w → MayWork v
 may_back v w owner ts s m =
     record {
       running = sym (ap (λ (q : PortValue). q.holdings.run) s.hand) ∙ m.running;
@@ -180,7 +177,7 @@ may_back v w owner ts s m =
       machine = subst (λ (p : Post). IsMachine p.machine) (stands_post v w owner ts s) m.machine;
     }
 
-pub may_stands : (v w : PortValue) (owner : ℕ) (ts : List TableWork) → Stands v w owner ts → MayWork v → MayWork w
+pub may_stands : (v w : PortValue) (owner : ℕ) (ts : List TableWork) → Carries v w owner ts → MayWork v → MayWork w
 may_stands v w owner ts s m =
     record {
       running = ap (λ (q : PortValue). q.holdings.run) s.hand ∙ m.running;
@@ -189,7 +186,7 @@ may_stands v w owner ts s m =
     }
 
 -- no table is left
-pub stands_none : (v w : PortValue) (owner : ℕ) → Stands v w owner [] → FlushedHolds v w v.holdings
+pub stands_none : (v w : PortValue) (owner : ℕ) → Carries v w owner [] → FlushedHolds v w v.holdings
 stands_none v w owner s =
     s.hand ∙ ap (λ rs. quiet (record v { holdings = record v.holdings { refs = rs; typed = w.holdings.typed; works = w.holdings.works } })) s.refs
     ∙ ap (λ ys. quiet (record v { holdings = record v.holdings { typed = ys; works = w.holdings.works } })) (s.typed ∙ sym s.idle.typed)

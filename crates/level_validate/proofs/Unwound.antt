@@ -11,14 +11,14 @@ use Rattle.step_maker.proofs.Coming.{came_post, came_self, came_trans}
 use Rattle.table_words.specs.OldWords.{kept_in_old, known_old}
 use Rattle.table_words.specs.declared.old_words.OldWord.TheVariants.{First}
 use Rattle.partial_state.specs.declared.stack.TableWork.{TableWork}
-use Rattle.level_validate.specs.Tables.{AreTables, IsStanding, Stands}
+use Rattle.level_validate.specs.Tables.{AreTables, IsStanding, Carries}
 use Rattle.level_validate.specs.Unwinding.{Unwinds, UnwindsTo, UnwoundTo, around_lent, left_so, named_unless, outermost_named, own_domain}
 use Rattle.level_validate.proofs.LeavingTables.{top, top_gone, top_typed}
 use Rattle.level_validate.proofs.LeavingOwn.{kept_by, typed_gone}
 use Rattle.level_validate.proofs.StandsFacts.{may_back, may_stands, refs_own, stands_none, tables_none}
 
 -- ---- the outermost table
-no_tables : (v w : PortValue) (d : PortValue) (owner : ℕ) (t : TableWork) (s : Stands v w owner (t ∷ [])) → AreTables (sizes_of v.post.machine) d.holdings.steps None [] (top v w owner t [] s).others
+no_tables : (v w : PortValue) (d : PortValue) (owner : ℕ) (t : TableWork) (s : Carries v w owner (t ∷ [])) → AreTables (sizes_of v.post.machine) d.holdings.steps None [] (top v w owner t [] s).others
 no_tables v w d owner t s =
     subst (λ es. AreTables (sizes_of v.post.machine) d.holdings.steps None [] es) (sym (tables_none (sizes_of v.post.machine) w.holdings.steps (Some t) (top v w owner t [] s).others (top v w owner t [] s).around)) tt
 
@@ -33,7 +33,7 @@ named_own : (t : TableWork) (h : Holdings) → t.own ≡ true → named_unless f
 named_own t h own = rw own refl
 
 -- its `kept` mark has the type count
-pub outer_kept : (v w : PortValue) (owner : ℕ) (t : TableWork) (kept : Bool) → Stands v w owner (t ∷ []) → t.own ≡ true → kept ≡ true → (d : PortValue) → Holds w d (left_so true t.frame w.holdings) → Came w d → FlushedHolds v d (outermost_named kept (t ∷ []) v.holdings)
+pub outer_kept : (v w : PortValue) (owner : ℕ) (t : TableWork) (kept : Bool) → Carries v w owner (t ∷ []) → t.own ≡ true → kept ≡ true → (d : PortValue) → Holds w d (left_so true t.frame w.holdings) → Came w d → FlushedHolds v d (outermost_named kept (t ∷ []) v.holdings)
 outer_kept v w owner t kept s own on d hand came =
     stands_none v d owner (kept_by v w owner t [] s own d hand came (no_tables v w d owner t s)) ∙ ap (λ b. quiet (record v { holdings = named_unless b t v.holdings })) (sym on)
 
@@ -42,12 +42,12 @@ around_none : (b : Bool) → around_lent b [] ≡ []
 around_none true = refl
 around_none false = refl
 
-pub outer_lent : (v x : PortValue) (owner : ℕ) (t : TableWork) (kept : Bool) → t.own ≡ false → Stands v x owner (around_lent t.recorded []) → FlushedHolds v x (outermost_named kept (t ∷ []) v.holdings)
+pub outer_lent : (v x : PortValue) (owner : ℕ) (t : TableWork) (kept : Bool) → t.own ≡ false → Carries v x owner (around_lent t.recorded []) → FlushedHolds v x (outermost_named kept (t ∷ []) v.holdings)
 outer_lent v x owner t kept lent s =
-    stands_none v x owner (subst (λ us. Stands v x owner us) (around_none t.recorded) s) ∙ ap (λ h. quiet (record v { holdings = h })) (sym (named_lent kept t v.holdings lent))
+    stands_none v x owner (subst (λ us. Carries v x owner us) (around_none t.recorded) s) ∙ ap (λ h. quiet (record v { holdings = h })) (sym (named_lent kept t v.holdings lent))
 
 -- the first old word has it
-module _ (v w : PortValue) (owner : ℕ) (t : TableWork) (s : Stands v w owner (t ∷ [])) (own : t.own ≡ true) (d : PortValue) (hand : Holds w d (left_so false t.frame w.holdings)) where
+module _ (v w : PortValue) (owner : ℕ) (t : TableWork) (s : Carries v w owner (t ∷ [])) (own : t.own ≡ true) (d : PortValue) (hand : Holds w d (left_so false t.frame w.holdings)) where
   pub outer_held : 0 < typed_to t.frame w.holdings.typed → 0 < typed_to t.frame d.holdings.typed
   outer_held held = subst (λ xs. 0 < typed_to t.frame xs) (sym (ap (λ (q : PortValue). q.holdings.typed) hand)) held
 
@@ -90,7 +90,7 @@ around_length true ts = refl
 around_length false [] = refl
 around_length false (u ∷ us) = refl
 
-pub stands_unwound : (v w : PortValue) (owner : ℕ) (kept : Bool) (us : List TableWork) (h : Holdings) → us ≢ [] → Stands v w owner us → outermost_named kept us v.holdings ≡ h → UnwoundTo v w owner kept us h
+pub stands_unwound : (v w : PortValue) (owner : ℕ) (kept : Bool) (us : List TableWork) (h : Holdings) → us ≢ [] → Carries v w owner us → outermost_named kept us v.holdings ≡ h → UnwoundTo v w owner kept us h
 stands_unwound v w owner kept [] h some s is = absurd (some refl)
 stands_unwound v w owner kept (u ∷ us) h some s is = (s, is)
 
@@ -99,7 +99,7 @@ pub record Unwinding (u w : PortValue) (kept : Bool) (ts us : List TableWork) : 
   pub came : Came u w
   pub hand : UnwindsTo u w kept ts us
 
-begins : (u v : PortValue) (kept : Bool) (ts : List TableWork) → Stands v u (own_domain u) ts → UnwoundTo v u (own_domain u) kept ts (outermost_named kept ts v.holdings)
+begins : (u v : PortValue) (kept : Bool) (ts : List TableWork) → Carries v u (own_domain u) ts → UnwoundTo v u (own_domain u) kept ts (outermost_named kept ts v.holdings)
 begins u v kept [] s = stands_none v u (own_domain u) s
 begins u v kept (t ∷ ts) s = (s, refl)
 
@@ -115,17 +115,17 @@ module _ (u w : PortValue) (kept : Bool) (ts : List TableWork) (t : TableWork) (
     unwinding_may may = may_stands a.0 w (own_domain u) (t ∷ us) (g.hand a.0 a.1).0 (may_back a.0 u (own_domain u) ts a.1 may)
 
     pub unwinding_stands : IsStanding w (own_domain w) (t ∷ us)
-    unwinding_stands = (a.0, subst (λ o. Stands a.0 w o (t ∷ us)) same_domain (g.hand a.0 a.1).0)
+    unwinding_stands = (a.0, subst (λ o. Carries a.0 w o (t ∷ us)) same_domain (g.hand a.0 a.1).0)
 
     -- the first old word stays as it was
     pub unwinding_room : known_old First u.holdings ≡ Some 0 → known_old First w.holdings ≡ Some 0
     unwinding_room room = ap (λ (q : PortValue). q.holdings.old0) (g.hand a.0 a.1).0.hand ∙ sym (ap (λ (q : PortValue). q.holdings.old0) a.1.hand) ∙ room
 
-  on_from : (x : PortValue) (rs : List TableWork) → UnwindsTo w x kept (t ∷ us) rs → (v : PortValue) → Stands v u (own_domain u) ts → UnwoundTo v x (own_domain u) kept rs (outermost_named kept ts v.holdings)
+  on_from : (x : PortValue) (rs : List TableWork) → UnwindsTo w x kept (t ∷ us) rs → (v : PortValue) → Carries v u (own_domain u) ts → UnwoundTo v x (own_domain u) kept rs (outermost_named kept ts v.holdings)
   on_from x rs hand v s =
       let before = g.hand v s in
       subst (λ o. UnwoundTo v x o kept rs (outermost_named kept ts v.holdings)) (sym same_domain)
-      (subst (λ h. UnwoundTo v x (own_domain w) kept rs h) before.1 (hand v (subst (λ o. Stands v w o (t ∷ us)) same_domain before.0)))
+      (subst (λ h. UnwoundTo v x (own_domain w) kept rs h) before.1 (hand v (subst (λ o. Carries v w o (t ∷ us)) same_domain before.0)))
 
   pub unwinding_on : (x : PortValue) (rs : List TableWork) → Came w x → UnwindsTo w x kept (t ∷ us) rs → Unwinding u x kept ts rs
   unwinding_on x rs came hand = record { came = came_trans u w x g.came came; hand = on_from x rs hand }

@@ -6,7 +6,7 @@ use Rattle.xp_board.specs.Told.{PortValue}
 use Rattle.step_maker.specs.Holds.{FlushedHolds}
 use Rattle.partial_state.specs.declared.stack.TableWork.{TableWork}
 use Rattle.partial_state.specs.Levels.{level_type}
-use Rattle.level_validate.specs.Tables.{Stands}
+use Rattle.level_validate.specs.Tables.{Carries}
 
 -- how many type counts it has then: the own one, or another holder's too
 abbrev pub count_for : Bool → ℕ
@@ -15,7 +15,7 @@ count_for own = if own then 1 else 2
 -- wherever that one table of any owner came into work, the hand is what it was, and a typed reference to it, known live
 abbrev pub Completes : PortValue → PortValue → TableWork → Type 0
 Completes u w t =
-    (v : PortValue) (owner : ℕ) → Stands v u owner (t ∷ []) → FlushedHolds v w (record v.holdings { typed = live_typed t.frame (level_type t.level) (owners.Of owner) ∷ v.holdings.typed })
+    (v : PortValue) (owner : ℕ) → Carries v u owner (t ∷ []) → FlushedHolds v w (record v.holdings { typed = live_typed t.frame (level_type t.level) (owners.Of owner) ∷ v.holdings.typed })
 
 -- all entries of the innermost table are recorded, which is not the only one
 abbrev pub IsInnerFull : List TableWork → Type 0

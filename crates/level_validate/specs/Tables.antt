@@ -73,7 +73,7 @@ pub record IsIdle (v : PortValue) : Type 0 where
   pub looking : v.holdings.looking ≡ []
 
 -- From v to w these tables of that owner came into work. Beside them w holds what v held.
-pub record Stands (v w : PortValue) (owner : ℕ) (ts : List TableWork) : Type 0 where
+pub record Carries (v w : PortValue) (owner : ℕ) (ts : List TableWork) : Type 0 where
   pub idle : IsIdle v
   pub stack : IsStack ts
   pub tables : AreTables (sizes_of v.post.machine) w.holdings.steps None ts w.holdings.works
@@ -83,15 +83,15 @@ pub record Stands (v w : PortValue) (owner : ℕ) (ts : List TableWork) : Type 0
 
 -- some port was before
 abbrev pub IsStanding : PortValue → ℕ → List TableWork → Type 0
-IsStanding w owner ts = (v : PortValue) × Stands v w owner ts
+IsStanding w owner ts = (v : PortValue) × Carries v w owner ts
 
 -- the last recorded entry of the innermost table is settled
-abbrev pub IsReady : PortValue → Type 0
-IsReady w = (e : Work) (es : List Work) → w.holdings.works ≡ e ∷ es → IsTrue (is_settled (sizes_of w.post.machine) w.holdings e)
+abbrev pub IsTopReady : PortValue → Type 0
+IsTopReady w = (e : Work) (es : List Work) → w.holdings.works ≡ e ∷ es → IsTrue (is_settled (sizes_of w.post.machine) w.holdings e)
 
 -- from any port before, the tables of this stack are in work now
 abbrev pub StandsOn : PortValue → PortValue → ℕ → List TableWork → List TableWork → Type 0
-StandsOn u w owner ts us = (v : PortValue) → Stands v u owner ts → Stands v w owner us
+StandsOn u w owner ts us = (v : PortValue) → Carries v u owner ts → Carries v w owner us
 
 -- the level of the innermost table: what makes the way down end
 abbrev pub level_on_top : List TableWork → ℕ

@@ -12,7 +12,7 @@ ghost use Rattle.partial_state.specs.Levels.{level_type};
 ghost use Rattle.partial_state.specs.declared.stack.TableWork.{TableWork};
 ghost use Rattle.level_validate.specs.Completing.{Completes, IsInnerFull, count_for};
 ghost use Rattle.level_validate.specs.Giving.{MayGiveBack};
-ghost use Rattle.level_validate.specs.Tables.{IsReady, IsStanding, StandsOn};
+ghost use Rattle.level_validate.specs.Tables.{IsTopReady, IsStanding, StandsOn};
 
 use crate::words::live_kind;
 use frame_types::drop_type;
@@ -26,7 +26,7 @@ use xp_board::Port;
 pub(crate) fn complete_outer<P: Port>(port: &mut P, table: TableWork)
     requires may { MayWork (P.value port.old) }
     requires stands { (owner : ℕ) × IsStanding (P.value port.old) owner (table ∷ []) }
-    requires ready { IsReady (P.value port.old) }
+    requires ready { IsTopReady (P.value port.old) }
     requires full { table.done ≡ 512 }
     ensures came { Came (P.value port.old) (P.value port.new) }
     ensures hand { Completes (P.value port.old) (P.value port.new) table }
@@ -39,12 +39,12 @@ pub(crate) fn complete_outer<P: Port>(port: &mut P, table: TableWork)
 pub(crate) fn complete_inner<P: Port>(port: &mut P, stack: &mut Stack)
     requires may { MayWork (P.value port.old) }
     requires stands { (owner : ℕ) × IsStanding (P.value port.old) owner stack.old }
-    requires ready { IsReady (P.value port.old) }
+    requires ready { IsTopReady (P.value port.old) }
     requires full { IsInnerFull stack.old }
     ensures came { Came (P.value port.old) (P.value port.new) }
     ensures stands { (owner : ℕ) → StandsOn (P.value port.old) (P.value port.new) owner stack.old stack.new }
     ensures popped { stack.new ≡ drop 1 stack.old }
-    ensures ready { IsReady (P.value port.new) }
+    ensures ready { IsTopReady (P.value port.new) }
 {
     if let Some(table) = stack.pop() {
         if let Some(outer) = stack.top() {
@@ -61,11 +61,11 @@ pub(crate) fn complete_inner<P: Port>(port: &mut P, stack: &mut Stack)
 fn complete_in<P: Port>(port: &mut P, table: TableWork, outer: TableWork)
     requires may { MayWork (P.value port.old) }
     requires stands { (owner : ℕ) × (us : List TableWork) × IsStanding (P.value port.old) owner (table ∷ outer ∷ us) }
-    requires ready { IsReady (P.value port.old) }
+    requires ready { IsTopReady (P.value port.old) }
     requires full { table.done ≡ 512 }
     ensures came { Came (P.value port.old) (P.value port.new) }
     ensures stands { (owner : ℕ) (us : List TableWork) → StandsOn (P.value port.old) (P.value port.new) owner (table ∷ outer ∷ us) (outer ∷ us) }
-    ensures ready { IsReady (P.value port.new) }
+    ensures ready { IsTopReady (P.value port.new) }
 {
     make_live(port, table);
     if table.recorded {

@@ -4,7 +4,7 @@ ghost use Rattle.step_maker.specs.Holds.{MayWork};
 ghost use Rattle.step_maker.specs.Moves.{Came};
 ghost use Rattle.table_entries.specs.Asking.{IsEntryStop};
 ghost use Rattle.partial_state.specs.Stacks.{left_on_top};
-ghost use Rattle.level_validate.specs.Tables.{IsReady, IsStanding, StandsOn};
+ghost use Rattle.level_validate.specs.Tables.{IsTopReady, IsStanding, StandsOn};
 
 use crate::completing::give_back;
 use frame_types::{leave_dead, leave_shared};
@@ -17,11 +17,11 @@ use xp_words::Stop;
 pub(crate) fn enter<P: Port>(port: &mut P, owner: u16, stack: &mut Stack) -> Result<(), Stop>
     requires may { MayWork (P.value port.old) }
     requires stands { IsStanding (P.value port.old) owner stack.old }
-    requires ready { IsReady (P.value port.old) }
+    requires ready { IsTopReady (P.value port.old) }
     requires left { 0 < left_on_top stack.old }
     ensures came { Came (P.value port.old) (P.value port.new) }
     ensures stands { StandsOn (P.value port.old) (P.value port.new) owner stack.old stack.new }
-    ensures ready { IfOk result (λ _. IsReady (P.value port.new)) }
+    ensures ready { IfOk result (λ _. IsTopReady (P.value port.new)) }
     ensures kinds { IfErr result IsEntryStop }
 {
     let Some(top) = stack.top() else {
@@ -67,10 +67,10 @@ fn take_on<P: Port>(port: &mut P, owner: u16, stack: &mut Stack, top: TableWork)
     requires may { MayWork (P.value port.old) }
     requires top { stack.old ≡ top ∷ drop 1 stack.old }
     requires stands { IsStanding (P.value port.old) owner stack.old }
-    requires fresh { top.done ≡ 0 → IsReady (P.value port.old) }
+    requires fresh { top.done ≡ 0 → IsTopReady (P.value port.old) }
     ensures came { Came (P.value port.old) (P.value port.new) }
     ensures stands { StandsOn (P.value port.old) (P.value port.new) owner stack.old stack.new }
-    ensures ready { IfOk result (λ _. IsReady (P.value port.new)) }
+    ensures ready { IfOk result (λ _. IsTopReady (P.value port.new)) }
     ensures kinds { IfErr result IsEntryStop }
 {
     if top.done == 0 {

@@ -46,7 +46,7 @@ unfolding is_settled
 settled_more z h k e grows s = settles_last_more z e h k e.unsettled grows s
 
 -- ---- a look at another entry than the last recorded one leaves that as it was
-last_other : (i n w : ℕ) (u : Option Unsettled) → i + 1 ≢ n → learned_last i n w u ≡ u
+pub last_other : (i n w : ℕ) (u : Option Unsettled) → i + 1 ≢ n → learned_last i n w u ≡ u
 last_other i n w None off = refl
 last_other i n w (Some u) off = rw (when_ne (i + 1) n off) refl
 

@@ -9,7 +9,7 @@ use Rattle.table_entries.specs.Asking.{ShowsResumed, of_entries}
 use Rattle.table_entries.specs.Found.{ResumesFound}
 use Rattle.table_entries.specs.Tops.{LeavesResumed, Opens, WorksAtTop}
 use Rattle.partial_state.specs.Levels.{level_type}
-use Rattle.level_validate.specs.Tables.{Stands}
+use Rattle.level_validate.specs.Tables.{Carries}
 use Rattle.level_validate.proofs.Entered.{after_again, after_look, after_settled, back_one, fresh_ready, taken_gives, taken_ready, taken_stands}
 use Rattle.level_validate.proofs.LeavingTables.{top_inside}
 use Rattle.level_validate.proofs.Looking.{met_first}
@@ -31,7 +31,7 @@ returns-then-top-eq0-clause-ready g n c = c.requires.fresh c.if-top-eq0.true
 pub resume_entry-requires-clause-frame : goal.resume_entry-requires-clause-frame
 resume_entry-requires-clause-frame g n c =
     let a = c.requires.stands in
-    top_inside a.0 (g.P.Port.value c.args.port.now) c.args.owner c.args.top (drop 1 c.args.stack.now) (subst (λ xs. Stands a.0 (g.P.Port.value c.args.port.now) c.args.owner xs) c.requires.top a.1)
+    top_inside a.0 (g.P.Port.value c.args.port.now) c.args.owner c.args.top (drop 1 c.args.stack.now) (subst (λ xs. Carries a.0 (g.P.Port.value c.args.port.now) c.args.owner xs) c.requires.top a.1)
 
 pub resume_entry-requires-clause-works : goal.resume_entry-requires-clause-works
 resume_entry-requires-clause-works g n c =
@@ -40,24 +40,24 @@ resume_entry-requires-clause-works g n c =
     let t = c.args.top in
     let one = sym (back_one t.done c.if-top-eq0.false) in
     subst (λ (k : PageType). WorksAtTop t.frame k (t.done - 1 + 1) u.holdings) (sym c.level_type.ensures)
-    (subst (λ n. WorksAtTop t.frame (level_type t.level) n u.holdings) one (standing_top a.0 u c.args.owner t (drop 1 c.args.stack.now) (subst (λ xs. Stands a.0 u c.args.owner xs) c.requires.top a.1)))
+    (subst (λ n. WorksAtTop t.frame (level_type t.level) n u.holdings) one (standing_top a.0 u c.args.owner t (drop 1 c.args.stack.now) (subst (λ xs. Carries a.0 u c.args.owner xs) c.requires.top a.1)))
 
 pub resume_entry-requires-clause-held : goal.resume_entry-requires-clause-held
 resume_entry-requires-clause-held g n c =
     let a = c.requires.stands in
-    standing_held a.0 (g.P.Port.value c.args.port.now) c.args.owner c.args.top (drop 1 c.args.stack.now) (subst (λ xs. Stands a.0 (g.P.Port.value c.args.port.now) c.args.owner xs) c.requires.top a.1)
+    standing_held a.0 (g.P.Port.value c.args.port.now) c.args.owner c.args.top (drop 1 c.args.stack.now) (subst (λ xs. Carries a.0 (g.P.Port.value c.args.port.now) c.args.owner xs) c.requires.top a.1)
 
 pub resume_entry-requires-clause-above : goal.resume_entry-requires-clause-above
 resume_entry-requires-clause-above g n c f =
     let a = c.requires.stands in
     let u = g.P.Port.value c.args.port.now in
     subst (λ (k : PageType). IsOfOther f (below k) u.holdings) (sym c.level_type.ensures)
-    (standing_above a.0 u c.args.owner c.args.top (drop 1 c.args.stack.now) (subst (λ xs. Stands a.0 u c.args.owner xs) c.requires.top a.1) f)
+    (standing_above a.0 u c.args.owner c.args.top (drop 1 c.args.stack.now) (subst (λ xs. Carries a.0 u c.args.owner xs) c.requires.top a.1) f)
 
 pub resume_entry-requires-clause-looked : goal.resume_entry-requires-clause-looked
 resume_entry-requires-clause-looked g n c =
     let a = c.requires.stands in
-    standing_looked a.0 (g.P.Port.value c.args.port.now) c.args.owner c.args.top (drop 1 c.args.stack.now) (subst (λ xs. Stands a.0 (g.P.Port.value c.args.port.now) c.args.owner xs) c.requires.top a.1)
+    standing_looked a.0 (g.P.Port.value c.args.port.now) c.args.owner c.args.top (drop 1 c.args.stack.now) (subst (λ xs. Carries a.0 (g.P.Port.value c.args.port.now) c.args.owner xs) c.requires.top a.1)
 
 pub returns-in_err-resume_entry-clause-came : goal.returns-in_err-resume_entry-clause-came
 returns-in_err-resume_entry-clause-came g n c = serves_came (g.P.Port.value c.args.port.now) (g.P.Port.value c.resume_entry.new.port) (of_entries c.args.owner 0) _ (c.in_err-resume_entry.ensures.serves 0)
@@ -67,8 +67,8 @@ returns-in_err-resume_entry-clause-stands g n c v s =
     let u = g.P.Port.value c.args.port.now in
     let w = g.P.Port.value c.resume_entry.new.port in
     let found = c.in_err-resume_entry.ensures.found.found in
-    subst (λ xs. Stands v w c.args.owner xs) (sym c.requires.top)
-    (after_look v u w c.args.owner c.args.top (drop 1 c.args.stack.now) (subst (λ xs. Stands v u c.args.owner xs) c.requires.top s) (serves_came u w (of_entries c.args.owner 0) _ (c.in_err-resume_entry.ensures.serves 0))
+    subst (λ xs. Carries v w c.args.owner xs) (sym c.requires.top)
+    (after_look v u w c.args.owner c.args.top (drop 1 c.args.stack.now) (subst (λ xs. Carries v u c.args.owner xs) c.requires.top s) (serves_came u w (of_entries c.args.owner 0) _ (c.in_err-resume_entry.ensures.serves 0))
     (met_first u w found.moment found.was) (c.args.top.done - 1) c.in_err-resume_entry.ensures.hand)
 
 pub returns-in-Settled-clause-came : goal.returns-in-Settled-clause-came
@@ -80,8 +80,8 @@ returns-in-Settled-clause-stands g n c v s =
     let w = g.P.Port.value c.resume_entry.new.port in
     let found = c.in_ok-resume_entry.ensures.found.found in
     let left = subst (λ r. LeavesResumed u w c.args.top.frame c.level_type.result (c.args.top.done - 1) c.args.owner r) c.in-Settled.is c.in_ok-resume_entry.ensures.hand in
-    subst (λ xs. Stands v w c.args.owner xs) (sym c.requires.top)
-    (after_look v u w c.args.owner c.args.top (drop 1 c.args.stack.now) (subst (λ xs. Stands v u c.args.owner xs) c.requires.top s) (serves_came u w (of_entries c.args.owner 0) [] (c.in_ok-resume_entry.ensures.serves 0))
+    subst (λ xs. Carries v w c.args.owner xs) (sym c.requires.top)
+    (after_look v u w c.args.owner c.args.top (drop 1 c.args.stack.now) (subst (λ xs. Carries v u c.args.owner xs) c.requires.top s) (serves_came u w (of_entries c.args.owner 0) [] (c.in_ok-resume_entry.ensures.serves 0))
     (met_first u w found.moment found.was) (c.args.top.done - 1) left.0)
 
 pub returns-in-Settled-clause-ready : goal.returns-in-Settled-clause-ready
@@ -91,7 +91,7 @@ returns-in-Settled-clause-ready g n c =
     let w = g.P.Port.value c.resume_entry.new.port in
     let found = c.in_ok-resume_entry.ensures.found.found in
     let left = subst (λ r. LeavesResumed u w c.args.top.frame c.level_type.result (c.args.top.done - 1) c.args.owner r) c.in-Settled.is c.in_ok-resume_entry.ensures.hand in
-    after_settled a.0 u w c.args.owner c.args.top (drop 1 c.args.stack.now) (subst (λ xs. Stands a.0 u c.args.owner xs) c.requires.top a.1) (serves_came u w (of_entries c.args.owner 0) [] (c.in_ok-resume_entry.ensures.serves 0))
+    after_settled a.0 u w c.args.owner c.args.top (drop 1 c.args.stack.now) (subst (λ xs. Carries a.0 u c.args.owner xs) c.requires.top a.1) (serves_came u w (of_entries c.args.owner 0) [] (c.in_ok-resume_entry.ensures.serves 0))
     (met_first u w found.moment found.was) (c.args.top.done - 1) left.0 left.1
 
 pub take_on-requires : goal.take_on-requires
@@ -107,7 +107,7 @@ take_on-requires g n c κs low =
     let came = serves_came u x (of_entries owner 0) [] (c.in_ok-resume_entry.ensures.serves 0) in
     let first = met_first u x found.found.moment found.found.was in
     let a = c.requires.stands in
-    let s0 = subst (λ xs. Stands a.0 u owner xs) c.requires.top a.1 in
+    let s0 = subst (λ xs. Carries a.0 u owner xs) c.requires.top a.1 in
     let left = subst (λ k. LeavesResumed u x t.frame k i owner (again.Opened c.in-Opened.frame c.in-Opened.progress c.in-Opened.own)) c.level_type.ensures (subst (λ r. LeavesResumed u x t.frame c.level_type.result i owner r) c.in-Opened.is c.in_ok-resume_entry.ensures.hand) in
     let way = subst (λ k. ResumesFound u x t.frame i k owner (Ok (again.Opened c.in-Opened.frame c.in-Opened.progress c.in-Opened.own))) c.level_type.ensures (subst (λ r. ResumesFound u x t.frame i c.level_type.result owner (Ok r)) c.in-Opened.is found) in
     let open_ = again_found u x t.frame i (level_type t.level) owner c.in-Opened.frame c.in-Opened.progress c.in-Opened.own way in
@@ -121,7 +121,7 @@ take_on-requires g n c κs low =
           (
             c.push.ensures.pushed ∙ ap (λ ys. inner ∷ ys) (sym (ap (λ ys. drop 1 ys) c.push.ensures.pushed)),
             (
-              (a.0, subst (λ xs. Stands a.0 x owner xs) (sym (c.push.ensures.pushed ∙ ap (λ ys. inner ∷ ys) c.requires.top)) st),
+              (a.0, subst (λ xs. Carries a.0 x owner xs) (sym (c.push.ensures.pushed ∙ ap (λ ys. inner ∷ ys) c.requires.top)) st),
               λ zero. fresh_ready u x t.frame i (level_type t.level) c.in-Opened.frame owner c.in-Opened.progress c.in-Opened.own left zero,
             ),
           ),
@@ -142,7 +142,7 @@ push-requires-clause-table g n c =
     let came = serves_came u x (of_entries owner 0) [] (c.in_ok-resume_entry.ensures.serves 0) in
     let first = met_first u x found.found.moment found.found.was in
     let a = c.requires.stands in
-    let s0 = subst (λ xs. Stands a.0 u owner xs) c.requires.top a.1 in
+    let s0 = subst (λ xs. Carries a.0 u owner xs) c.requires.top a.1 in
     let left = subst (λ k. LeavesResumed u x t.frame k i owner (again.Opened c.in-Opened.frame c.in-Opened.progress c.in-Opened.own)) c.level_type.ensures (subst (λ r. LeavesResumed u x t.frame c.level_type.result i owner r) c.in-Opened.is c.in_ok-resume_entry.ensures.hand) in
     let way = subst (λ k. ResumesFound u x t.frame i k owner (Ok (again.Opened c.in-Opened.frame c.in-Opened.progress c.in-Opened.own))) c.level_type.ensures (subst (λ r. ResumesFound u x t.frame i c.level_type.result owner (Ok r)) c.in-Opened.is found) in
     let open_ = again_found u x t.frame i (level_type t.level) owner c.in-Opened.frame c.in-Opened.progress c.in-Opened.own way in
@@ -175,12 +175,12 @@ returns-in-Opened-clause-stands g n c v s =
     let found = c.in_ok-resume_entry.ensures.found in
     let came = serves_came u x (of_entries owner 0) [] (c.in_ok-resume_entry.ensures.serves 0) in
     let first = met_first u x found.found.moment found.found.was in
-    let s0 = subst (λ xs. Stands v u owner xs) c.requires.top s in
+    let s0 = subst (λ xs. Carries v u owner xs) c.requires.top s in
     let left = subst (λ k. LeavesResumed u x t.frame k i owner (again.Opened c.in-Opened.frame c.in-Opened.progress c.in-Opened.own)) c.level_type.ensures (subst (λ r. LeavesResumed u x t.frame c.level_type.result i owner r) c.in-Opened.is c.in_ok-resume_entry.ensures.hand) in
     let way = subst (λ k. ResumesFound u x t.frame i k owner (Ok (again.Opened c.in-Opened.frame c.in-Opened.progress c.in-Opened.own))) c.level_type.ensures (subst (λ r. ResumesFound u x t.frame i c.level_type.result owner (Ok r)) c.in-Opened.is found) in
     let open_ = again_found u x t.frame i (level_type t.level) owner c.in-Opened.frame c.in-Opened.progress c.in-Opened.own way in
     let inner = pushed t c.in-Opened.frame c.in-Opened.progress c.in-Opened.own true in
-    c.take_on.ensures.stands v (subst (λ xs. Stands v x owner xs) (sym (c.push.ensures.pushed ∙ ap (λ ys. inner ∷ ys) c.requires.top))
+    c.take_on.ensures.stands v (subst (λ xs. Carries v x owner xs) (sym (c.push.ensures.pushed ∙ ap (λ ys. inner ∷ ys) c.requires.top))
     (after_again v u x owner t ts s0 came first i c.in-Opened.frame c.in-Opened.progress c.in-Opened.own at open_ left))
 
 pub give_back-requires-clause-frame : goal.give_back-requires-clause-frame
@@ -212,7 +212,7 @@ give_back-requires-clause-gives g n c =
     let came = serves_came u x (of_entries owner 0) [] (c.in_ok-resume_entry.ensures.serves 0) in
     let first = met_first u x found.found.moment found.found.was in
     let a = c.requires.stands in
-    let s0 = subst (λ xs. Stands a.0 u owner xs) c.requires.top a.1 in
+    let s0 = subst (λ xs. Carries a.0 u owner xs) c.requires.top a.1 in
     let left = subst (λ k. LeavesResumed u x t.frame k i owner (again.Taken c.in-Taken.frame)) c.level_type.ensures (subst (λ r. LeavesResumed u x t.frame c.level_type.result i owner r) c.in-Taken.is c.in_ok-resume_entry.ensures.hand) in
     let way = subst (λ k. ResumesFound u x t.frame i k owner (Ok (again.Taken c.in-Taken.frame))) c.level_type.ensures (subst (λ r. ResumesFound u x t.frame i c.level_type.result owner (Ok r)) c.in-Taken.is found) in
     taken_gives a.0 u x owner t ts s0 came first i c.in-Taken.frame at left.0
@@ -243,10 +243,10 @@ returns-in-Taken-clause-stands g n c v s =
     let found = c.in_ok-resume_entry.ensures.found in
     let came = serves_came u x (of_entries owner 0) [] (c.in_ok-resume_entry.ensures.serves 0) in
     let first = met_first u x found.found.moment found.found.was in
-    let s0 = subst (λ xs. Stands v u owner xs) c.requires.top s in
+    let s0 = subst (λ xs. Carries v u owner xs) c.requires.top s in
     let left = subst (λ k. LeavesResumed u x t.frame k i owner (again.Taken c.in-Taken.frame)) c.level_type.ensures (subst (λ r. LeavesResumed u x t.frame c.level_type.result i owner r) c.in-Taken.is c.in_ok-resume_entry.ensures.hand) in
     let way = subst (λ k. ResumesFound u x t.frame i k owner (Ok (again.Taken c.in-Taken.frame))) c.level_type.ensures (subst (λ r. ResumesFound u x t.frame i c.level_type.result owner (Ok r)) c.in-Taken.is found) in
-    subst (λ xs. Stands v (g.P.Port.value c.give_back.new.port) owner xs) (sym c.requires.top)
+    subst (λ xs. Carries v (g.P.Port.value c.give_back.new.port) owner xs) (sym c.requires.top)
     (taken_stands v u x owner t ts s0 came first i c.in-Taken.frame at left.0 (g.P.Port.value c.give_back.new.port) c.give_back.ensures.hand c.give_back.ensures.came)
 
 pub returns-in-Taken-clause-ready : goal.returns-in-Taken-clause-ready
@@ -262,7 +262,7 @@ returns-in-Taken-clause-ready g n c =
     let came = serves_came u x (of_entries owner 0) [] (c.in_ok-resume_entry.ensures.serves 0) in
     let first = met_first u x found.found.moment found.found.was in
     let a = c.requires.stands in
-    let s0 = subst (λ xs. Stands a.0 u owner xs) c.requires.top a.1 in
+    let s0 = subst (λ xs. Carries a.0 u owner xs) c.requires.top a.1 in
     let left = subst (λ k. LeavesResumed u x t.frame k i owner (again.Taken c.in-Taken.frame)) c.level_type.ensures (subst (λ r. LeavesResumed u x t.frame c.level_type.result i owner r) c.in-Taken.is c.in_ok-resume_entry.ensures.hand) in
     let way = subst (λ k. ResumesFound u x t.frame i k owner (Ok (again.Taken c.in-Taken.frame))) c.level_type.ensures (subst (λ r. ResumesFound u x t.frame i c.level_type.result owner (Ok r)) c.in-Taken.is found) in
     taken_ready a.0 u x owner t ts s0 came first i c.in-Taken.frame at left.0 (g.P.Port.value c.give_back.new.port) c.give_back.ensures.hand c.give_back.ensures.came left.1
@@ -296,7 +296,7 @@ leave_dead-requires-clause-waits g n c =
     let came = serves_came u x (of_entries owner 0) [] (c.in_ok-resume_entry.ensures.serves 0) in
     let first = met_first u x found.found.moment found.found.was in
     let a = c.requires.stands in
-    let s0 = subst (λ xs. Stands a.0 u owner xs) c.requires.top a.1 in
+    let s0 = subst (λ xs. Carries a.0 u owner xs) c.requires.top a.1 in
     let left = subst (λ k. LeavesResumed u x t.frame k i owner (again.Waiting c.in-Waiting.frame c.in-Waiting.own c.in-Waiting.stamp c.in-Waiting.stop)) c.level_type.ensures (subst (λ r. LeavesResumed u x t.frame c.level_type.result i owner r) c.in-Waiting.is c.in_ok-resume_entry.ensures.hand) in
     let way = subst (λ k. ResumesFound u x t.frame i k owner (Ok (again.Waiting c.in-Waiting.frame c.in-Waiting.own c.in-Waiting.stamp c.in-Waiting.stop))) c.level_type.ensures (subst (λ r. ResumesFound u x t.frame i c.level_type.result owner (Ok r)) c.in-Waiting.is found) in
     let mine = subst (λ b. (o : Opens u x t.frame i (level_type t.level) c.in-Waiting.frame owner 0 b true) × ((kind_fields o.work.word).number ≡ c.in-Waiting.stamp)) c.if-own.true left in
@@ -329,13 +329,13 @@ returns-then-own-clause-stands g n c v s =
     let found = c.in_ok-resume_entry.ensures.found in
     let came = serves_came u x (of_entries owner 0) [] (c.in_ok-resume_entry.ensures.serves 0) in
     let first = met_first u x found.found.moment found.found.was in
-    let s0 = subst (λ xs. Stands v u owner xs) c.requires.top s in
+    let s0 = subst (λ xs. Carries v u owner xs) c.requires.top s in
     let left = subst (λ k. LeavesResumed u x t.frame k i owner (again.Waiting c.in-Waiting.frame c.in-Waiting.own c.in-Waiting.stamp c.in-Waiting.stop)) c.level_type.ensures (subst (λ r. LeavesResumed u x t.frame c.level_type.result i owner r) c.in-Waiting.is c.in_ok-resume_entry.ensures.hand) in
     let way = subst (λ k. ResumesFound u x t.frame i k owner (Ok (again.Waiting c.in-Waiting.frame c.in-Waiting.own c.in-Waiting.stamp c.in-Waiting.stop))) c.level_type.ensures (subst (λ r. ResumesFound u x t.frame i c.level_type.result owner (Ok r)) c.in-Waiting.is found) in
     let mine = subst (λ b. (o : Opens u x t.frame i (level_type t.level) c.in-Waiting.frame owner 0 b true) × ((kind_fields o.work.word).number ≡ c.in-Waiting.stamp)) c.if-own.true left in
     let is = level_below t.level s0.stack.0.low s0.stack.0.high in
     let y = g.P.Port.value c.leave_dead.new.port in
-    subst (λ xs. Stands v y owner xs) (sym c.requires.top)
+    subst (λ xs. Carries v y owner xs) (sym c.requires.top)
     (after_look v u y owner t ts s0 (came_trans u x y came c.leave_dead.ensures.came) (met_first u x found.found.moment found.found.was) i
     (left_waiting u x t.frame i (level_type t.level) (t.level - 1) c.in-Waiting.frame owner true is mine.0 y c.level_type-kind.result c.level_type-kind.ensures c.leave_dead.ensures.hand))
 
@@ -382,7 +382,7 @@ leave_shared-requires-clause-waits g n c =
     let came = serves_came u x (of_entries owner 0) [] (c.in_ok-resume_entry.ensures.serves 0) in
     let first = met_first u x found.found.moment found.found.was in
     let a = c.requires.stands in
-    let s0 = subst (λ xs. Stands a.0 u owner xs) c.requires.top a.1 in
+    let s0 = subst (λ xs. Carries a.0 u owner xs) c.requires.top a.1 in
     let left = subst (λ k. LeavesResumed u x t.frame k i owner (again.Waiting c.in-Waiting.frame c.in-Waiting.own c.in-Waiting.stamp c.in-Waiting.stop)) c.level_type.ensures (subst (λ r. LeavesResumed u x t.frame c.level_type.result i owner r) c.in-Waiting.is c.in_ok-resume_entry.ensures.hand) in
     let way = subst (λ k. ResumesFound u x t.frame i k owner (Ok (again.Waiting c.in-Waiting.frame c.in-Waiting.own c.in-Waiting.stamp c.in-Waiting.stop))) c.level_type.ensures (subst (λ r. ResumesFound u x t.frame i c.level_type.result owner (Ok r)) c.in-Waiting.is found) in
     let mine = subst (λ b. (o : Opens u x t.frame i (level_type t.level) c.in-Waiting.frame owner 0 b true) × ((kind_fields o.work.word).number ≡ c.in-Waiting.stamp)) c.if-own.false left in
@@ -415,13 +415,13 @@ returns-else-own-clause-stands g n c v s =
     let found = c.in_ok-resume_entry.ensures.found in
     let came = serves_came u x (of_entries owner 0) [] (c.in_ok-resume_entry.ensures.serves 0) in
     let first = met_first u x found.found.moment found.found.was in
-    let s0 = subst (λ xs. Stands v u owner xs) c.requires.top s in
+    let s0 = subst (λ xs. Carries v u owner xs) c.requires.top s in
     let left = subst (λ k. LeavesResumed u x t.frame k i owner (again.Waiting c.in-Waiting.frame c.in-Waiting.own c.in-Waiting.stamp c.in-Waiting.stop)) c.level_type.ensures (subst (λ r. LeavesResumed u x t.frame c.level_type.result i owner r) c.in-Waiting.is c.in_ok-resume_entry.ensures.hand) in
     let way = subst (λ k. ResumesFound u x t.frame i k owner (Ok (again.Waiting c.in-Waiting.frame c.in-Waiting.own c.in-Waiting.stamp c.in-Waiting.stop))) c.level_type.ensures (subst (λ r. ResumesFound u x t.frame i c.level_type.result owner (Ok r)) c.in-Waiting.is found) in
     let mine = subst (λ b. (o : Opens u x t.frame i (level_type t.level) c.in-Waiting.frame owner 0 b true) × ((kind_fields o.work.word).number ≡ c.in-Waiting.stamp)) c.if-own.false left in
     let is = level_below t.level s0.stack.0.low s0.stack.0.high in
     let y = g.P.Port.value c.leave_shared.new.port in
-    subst (λ xs. Stands v y owner xs) (sym c.requires.top)
+    subst (λ xs. Carries v y owner xs) (sym c.requires.top)
     (after_look v u y owner t ts s0 (came_trans u x y came c.leave_shared.ensures.came) (met_first u x found.found.moment found.found.was) i
     (left_waiting u x t.frame i (level_type t.level) (t.level - 1) c.in-Waiting.frame owner false is mine.0 y c.level_type-kind.result c.level_type-kind.ensures c.leave_shared.ensures.hand))
 

@@ -10,7 +10,7 @@ use Rattle.table_entries.specs.Tops.{LeavesEntered, WorksNext}
 use Rattle.table_entries.specs.declared.entries.Entered.TheVariants as entered
 use Rattle.partial_state.specs.Levels.{level_type}
 use Rattle.partial_state.specs.Stacks.{advanced, left_on_top}
-use Rattle.level_validate.specs.Tables.{Stands}
+use Rattle.level_validate.specs.Tables.{Carries}
 use Rattle.level_validate.proofs.Entered.{after_look, after_next, after_record, after_record_ready, fresh_ready}
 use Rattle.level_validate.proofs.LeavingTables.{top_inside}
 use Rattle.level_validate.proofs.Looking.{met_first}
@@ -29,7 +29,7 @@ take_entry-requires-clause-frame g c =
     let owner = c.args.owner in
     let is = c.in-Some.ensures.some in
     let a = c.requires.stands in
-    let s0 = subst (λ xs. Stands a.0 u owner xs) is a.1 in
+    let s0 = subst (λ xs. Carries a.0 u owner xs) is a.1 in
     top_inside a.0 u owner t ts s0
 
 pub take_entry-requires-clause-works : goal.take_entry-requires-clause-works
@@ -40,7 +40,7 @@ take_entry-requires-clause-works g c =
     let owner = c.args.owner in
     let is = c.in-Some.ensures.some in
     let a = c.requires.stands in
-    let s0 = subst (λ xs. Stands a.0 u owner xs) is a.1 in
+    let s0 = subst (λ xs. Carries a.0 u owner xs) is a.1 in
     subst (λ (k : PageType). WorksNext u.post.machine t.frame k t.done u.holdings) (sym c.level_type.ensures) (standing_next a.0 u owner t ts s0 c.requires.ready)
 
 pub take_entry-requires-clause-known : goal.take_entry-requires-clause-known
@@ -51,7 +51,7 @@ take_entry-requires-clause-known g c =
     let owner = c.args.owner in
     let is = c.in-Some.ensures.some in
     let a = c.requires.stands in
-    let s0 = subst (λ xs. Stands a.0 u owner xs) is a.1 in
+    let s0 = subst (λ xs. Carries a.0 u owner xs) is a.1 in
     standing_known a.0 u owner t ts s0
 
 pub take_entry-requires-clause-held : goal.take_entry-requires-clause-held
@@ -62,7 +62,7 @@ take_entry-requires-clause-held g c =
     let owner = c.args.owner in
     let is = c.in-Some.ensures.some in
     let a = c.requires.stands in
-    let s0 = subst (λ xs. Stands a.0 u owner xs) is a.1 in
+    let s0 = subst (λ xs. Carries a.0 u owner xs) is a.1 in
     standing_held a.0 u owner t ts s0
 
 pub take_entry-requires-clause-above : goal.take_entry-requires-clause-above
@@ -73,7 +73,7 @@ take_entry-requires-clause-above g c f =
     let owner = c.args.owner in
     let is = c.in-Some.ensures.some in
     let a = c.requires.stands in
-    let s0 = subst (λ xs. Stands a.0 u owner xs) is a.1 in
+    let s0 = subst (λ xs. Carries a.0 u owner xs) is a.1 in
     subst (λ (k : PageType). IsOfOther f (below k) u.holdings) (sym c.level_type.ensures) (standing_above a.0 u owner t ts s0 f)
 
 pub take_entry-requires-clause-looked : goal.take_entry-requires-clause-looked
@@ -84,7 +84,7 @@ take_entry-requires-clause-looked g c =
     let owner = c.args.owner in
     let is = c.in-Some.ensures.some in
     let a = c.requires.stands in
-    let s0 = subst (λ xs. Stands a.0 u owner xs) is a.1 in
+    let s0 = subst (λ xs. Carries a.0 u owner xs) is a.1 in
     standing_looked a.0 u owner t ts s0
 
 pub returns-in_err-take_entry-clause-came : goal.returns-in_err-take_entry-clause-came
@@ -98,10 +98,10 @@ returns-in_err-take_entry-clause-stands g c v s =
     let ts = drop 1 c.args.stack.now in
     let owner = c.args.owner in
     let is = c.in-Some.ensures.some in
-    let s0 = subst (λ xs. Stands v u owner xs) is s in
+    let s0 = subst (λ xs. Carries v u owner xs) is s in
     let x = g.P.Port.value c.take_entry.new.port in
     let found = c.in_err-take_entry.ensures.found.found in
-    subst (λ xs. Stands v x owner xs) (sym is) (after_look v u x owner t ts s0 (serves_came u x (of_entries owner 0) _ (c.in_err-take_entry.ensures.serves 0)) (met_first u x found.moment found.was) t.done c.in_err-take_entry.ensures.hand)
+    subst (λ xs. Carries v x owner xs) (sym is) (after_look v u x owner t ts s0 (serves_came u x (of_entries owner 0) _ (c.in_err-take_entry.ensures.serves 0)) (met_first u x found.moment found.was) t.done c.in_err-take_entry.ensures.hand)
 
 pub push-requires-clause-table : goal.push-requires-clause-table
 push-requires-clause-table g c =
@@ -111,7 +111,7 @@ push-requires-clause-table g c =
     let owner = c.args.owner in
     let is = c.in-Some.ensures.some in
     let a = c.requires.stands in
-    let s0 = subst (λ xs. Stands a.0 u owner xs) is a.1 in
+    let s0 = subst (λ xs. Carries a.0 u owner xs) is a.1 in
     let x = g.P.Port.value c.take_entry.new.port in
     let found = c.in_ok-take_entry.ensures.found in
     let came = serves_came u x (of_entries owner 0) [] (c.in_ok-take_entry.ensures.serves 0) in
@@ -131,7 +131,7 @@ take_on-requires-clause-may g c =
     let owner = c.args.owner in
     let is = c.in-Some.ensures.some in
     let a = c.requires.stands in
-    let s0 = subst (λ xs. Stands a.0 u owner xs) is a.1 in
+    let s0 = subst (λ xs. Carries a.0 u owner xs) is a.1 in
     let x = g.P.Port.value c.take_entry.new.port in
     let found = c.in_ok-take_entry.ensures.found in
     let came = serves_came u x (of_entries owner 0) [] (c.in_ok-take_entry.ensures.serves 0) in
@@ -151,7 +151,7 @@ take_on-requires-clause-stands g c =
     let owner = c.args.owner in
     let is = c.in-Some.ensures.some in
     let a = c.requires.stands in
-    let s0 = subst (λ xs. Stands a.0 u owner xs) is a.1 in
+    let s0 = subst (λ xs. Carries a.0 u owner xs) is a.1 in
     let x = g.P.Port.value c.take_entry.new.port in
     let found = c.in_ok-take_entry.ensures.found in
     let came = serves_came u x (of_entries owner 0) [] (c.in_ok-take_entry.ensures.serves 0) in
@@ -161,7 +161,7 @@ take_on-requires-clause-stands g c =
     let way = subst (λ k. EntersFound u x t.frame t.done k owner (Ok (entered.Opened c.in-Opened.frame c.in-Opened.progress c.in-Opened.own))) c.level_type.ensures (subst (λ r. EntersFound u x t.frame t.done c.level_type.result owner (Ok r)) c.in-Opened.is found) in
     let came_open = opened_found u x t.frame t.done (level_type t.level) owner c.in-Opened.frame c.in-Opened.progress c.in-Opened.own way in
     let inner = pushed t c.in-Opened.frame c.in-Opened.progress c.in-Opened.own false in
-    (a.0, subst (λ xs. Stands a.0 x owner xs) (sym (c.push.ensures.pushed ∙ ap (λ ys. inner ∷ ys) (c.advance-in-Opened.ensures.advanced ∙ ap advanced is))) (after_next a.0 u x owner t ts s0 came first c.in-Opened.frame c.in-Opened.progress c.in-Opened.own (omega (arith, room)) c.requires.ready came_open left))
+    (a.0, subst (λ xs. Carries a.0 x owner xs) (sym (c.push.ensures.pushed ∙ ap (λ ys. inner ∷ ys) (c.advance-in-Opened.ensures.advanced ∙ ap advanced is))) (after_next a.0 u x owner t ts s0 came first c.in-Opened.frame c.in-Opened.progress c.in-Opened.own (omega (arith, room)) c.requires.ready came_open left))
 
 pub take_on-requires-clause-top : goal.take_on-requires-clause-top
 take_on-requires-clause-top g c =
@@ -205,14 +205,14 @@ returns-in-Recorded-clause-stands g c v s =
     let ts = drop 1 c.args.stack.now in
     let owner = c.args.owner in
     let is = c.in-Some.ensures.some in
-    let s0 = subst (λ xs. Stands v u owner xs) is s in
+    let s0 = subst (λ xs. Carries v u owner xs) is s in
     let x = g.P.Port.value c.take_entry.new.port in
     let found = c.in_ok-take_entry.ensures.found in
     let came = serves_came u x (of_entries owner 0) [] (c.in_ok-take_entry.ensures.serves 0) in
     let first = met_first u x found.found.moment found.found.was in
     let room : 0 < 512 - t.done = subst (λ xs. 0 < left_on_top xs) is c.requires.left in
     let left = subst (λ k. LeavesEntered u x t.frame k t.done owner entered.Recorded) c.level_type.ensures (subst (λ r. LeavesEntered u x t.frame c.level_type.result t.done owner r) c.in-Recorded.is c.in_ok-take_entry.ensures.hand) in
-    subst (λ xs. Stands v x owner xs) (sym (c.advance.ensures.advanced ∙ ap advanced is)) (after_record v u x owner t ts s0 came first None room left)
+    subst (λ xs. Carries v x owner xs) (sym (c.advance.ensures.advanced ∙ ap advanced is)) (after_record v u x owner t ts s0 came first None room left)
 
 pub returns-in-Recorded-clause-ready : goal.returns-in-Recorded-clause-ready
 returns-in-Recorded-clause-ready g c =
@@ -222,7 +222,7 @@ returns-in-Recorded-clause-ready g c =
     let owner = c.args.owner in
     let is = c.in-Some.ensures.some in
     let a = c.requires.stands in
-    let s0 = subst (λ xs. Stands a.0 u owner xs) is a.1 in
+    let s0 = subst (λ xs. Carries a.0 u owner xs) is a.1 in
     let x = g.P.Port.value c.take_entry.new.port in
     let found = c.in_ok-take_entry.ensures.found in
     let came = serves_came u x (of_entries owner 0) [] (c.in_ok-take_entry.ensures.serves 0) in
@@ -252,7 +252,7 @@ returns-in-Opened-clause-stands g c v s =
     let ts = drop 1 c.args.stack.now in
     let owner = c.args.owner in
     let is = c.in-Some.ensures.some in
-    let s0 = subst (λ xs. Stands v u owner xs) is s in
+    let s0 = subst (λ xs. Carries v u owner xs) is s in
     let x = g.P.Port.value c.take_entry.new.port in
     let found = c.in_ok-take_entry.ensures.found in
     let came = serves_came u x (of_entries owner 0) [] (c.in_ok-take_entry.ensures.serves 0) in
@@ -262,7 +262,7 @@ returns-in-Opened-clause-stands g c v s =
     let way = subst (λ k. EntersFound u x t.frame t.done k owner (Ok (entered.Opened c.in-Opened.frame c.in-Opened.progress c.in-Opened.own))) c.level_type.ensures (subst (λ r. EntersFound u x t.frame t.done c.level_type.result owner (Ok r)) c.in-Opened.is found) in
     let came_open = opened_found u x t.frame t.done (level_type t.level) owner c.in-Opened.frame c.in-Opened.progress c.in-Opened.own way in
     let inner = pushed t c.in-Opened.frame c.in-Opened.progress c.in-Opened.own false in
-    c.take_on.ensures.stands v (subst (λ xs. Stands v x owner xs) (sym (c.push.ensures.pushed ∙ ap (λ ys. inner ∷ ys) (c.advance-in-Opened.ensures.advanced ∙ ap advanced is))) (after_next v u x owner t ts s0 came first c.in-Opened.frame c.in-Opened.progress c.in-Opened.own (omega (arith, room)) c.requires.ready came_open left))
+    c.take_on.ensures.stands v (subst (λ xs. Carries v x owner xs) (sym (c.push.ensures.pushed ∙ ap (λ ys. inner ∷ ys) (c.advance-in-Opened.ensures.advanced ∙ ap advanced is))) (after_next v u x owner t ts s0 came first c.in-Opened.frame c.in-Opened.progress c.in-Opened.own (omega (arith, room)) c.requires.ready came_open left))
 
 pub returns-in-Unsettled-clause-came : goal.returns-in-Unsettled-clause-came
 returns-in-Unsettled-clause-came g c =
@@ -285,14 +285,14 @@ returns-in-Unsettled-clause-stands g c v s =
     let ts = drop 1 c.args.stack.now in
     let owner = c.args.owner in
     let is = c.in-Some.ensures.some in
-    let s0 = subst (λ xs. Stands v u owner xs) is s in
+    let s0 = subst (λ xs. Carries v u owner xs) is s in
     let x = g.P.Port.value c.take_entry.new.port in
     let found = c.in_ok-take_entry.ensures.found in
     let came = serves_came u x (of_entries owner 0) [] (c.in_ok-take_entry.ensures.serves 0) in
     let first = met_first u x found.found.moment found.found.was in
     let room : 0 < 512 - t.done = subst (λ xs. 0 < left_on_top xs) is c.requires.left in
     let left = subst (λ k. LeavesEntered u x t.frame k t.done owner (entered.Unsettled c.in-Unsettled.stop)) c.level_type.ensures (subst (λ r. LeavesEntered u x t.frame c.level_type.result t.done owner r) c.in-Unsettled.is c.in_ok-take_entry.ensures.hand) in
-    subst (λ xs. Stands v x owner xs) (sym (c.advance-in-Unsettled.ensures.advanced ∙ ap advanced is)) (after_record v u x owner t ts s0 came first left.0 room left.1)
+    subst (λ xs. Carries v x owner xs) (sym (c.advance-in-Unsettled.ensures.advanced ∙ ap advanced is)) (after_record v u x owner t ts s0 came first left.0 room left.1)
 
 pub returns-in-Unsettled-clause-kinds : goal.returns-in-Unsettled-clause-kinds
 returns-in-Unsettled-clause-kinds g c =

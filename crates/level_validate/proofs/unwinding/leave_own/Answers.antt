@@ -1,5 +1,5 @@
 use Rattle.std.proofs.Common.{true, false, ◌∷◌, drop, sym, subst}
-use Rattle.level_validate.specs.Tables.{Stands}
+use Rattle.level_validate.specs.Tables.{Carries}
 use Rattle.level_validate.specs.Unwinding.{own_domain}
 use Rattle.step_maker.proofs.Coming.{came_trans, moves_came}
 use Rattle.level_validate.proofs.LeavingOwn.{kept_stands, own_records, own_stands}
@@ -13,7 +13,7 @@ record_entry-requires g c =
     let d = g.P.Port.value c.leave_partial.new.port in
     let t = c.args.table in
     let new = not_so t.recorded c.if-not-table.true in
-    own_records a.0 w (own_domain w) t c.in-Some.outer (drop 1 c.args.stack.now) (subst (λ ts. Stands a.0 w (own_domain w) (t ∷ ts)) c.in-Some.ensures.some a.1) c.requires.own new d c.leave_partial.result
+    own_records a.0 w (own_domain w) t c.in-Some.outer (drop 1 c.args.stack.now) (subst (λ ts. Carries a.0 w (own_domain w) (t ∷ ts)) c.in-Some.ensures.some a.1) c.requires.own new d c.leave_partial.result
     (store_as w d t c.leave_partial.result t.recorded false new c.leave_partial.ensures.moves) (left_as w d t.frame t.recorded false new c.leave_partial.ensures.hand)
 
 pub returns-in-Some-clause-came : goal.returns-in-Some-clause-came
@@ -31,8 +31,8 @@ returns-in-Some-clause-stands g c v s =
     let t = c.args.table in
     let new = not_so t.recorded c.if-not-table.true in
     let came = came_trans w d x (moves_came w d _ _ _ _ c.leave_partial.result c.leave_partial.ensures.moves) (moves_came d x _ _ _ _ c.record_entry.result c.record_entry.ensures.moves) in
-    subst (λ ts. Stands v x (own_domain w) ts) (sym c.in-Some.ensures.some)
-    (own_stands v w (own_domain w) t c.in-Some.outer (drop 1 c.args.stack.now) (subst (λ ts. Stands v w (own_domain w) (t ∷ ts)) c.in-Some.ensures.some s) c.requires.own new d c.leave_partial.result
+    subst (λ ts. Carries v x (own_domain w) ts) (sym c.in-Some.ensures.some)
+    (own_stands v w (own_domain w) t c.in-Some.outer (drop 1 c.args.stack.now) (subst (λ ts. Carries v w (own_domain w) (t ∷ ts)) c.in-Some.ensures.some s) c.requires.own new d c.leave_partial.result
     (store_as w d t c.leave_partial.result t.recorded false new c.leave_partial.ensures.moves) (left_as w d t.frame t.recorded false new c.leave_partial.ensures.hand) x c.record_entry.ensures.hand came)
 
 pub returns-else-not-table-clause-came : goal.returns-else-not-table-clause-came

@@ -1,0 +1,274 @@
+-- A frame that was found live, and its entry shed by a second look at it.
+use Rattle.std.proofs.Common.{◌≡◌, ◌⊎◌, ℕ, ◌<◌, ◌≤◌, ◌||◌, if◌then◌else◌, is_none, Bool, true, false, List, [], ◌∷◌, length, Some, None, IsTrue, refl, sym, ap, ◌∙◌, subst, arith, inl, inr}
+use Rattle.xp_words.specs.Entries.{demand_at}
+use Rattle.xp_words.specs.KindWords.{kind_fields}
+use Rattle.xp_words.specs.Machine.{IsMachine}
+use Rattle.xp_words.specs.PageTypes.{is_table}
+use Rattle.xp_words.specs.Places.{sizes_of}
+use Rattle.xp_words.specs.declared.entry.Demand.TheVariants.{Typed}
+use Rattle.xp_words.specs.declared.kind.PageType.{PageType}
+use Rattle.xp_words.specs.declared.place.Place.TheVariants.{Kind}
+use Rattle.xp_board.specs.declared.holdings.Holdings.{Holdings}
+use Rattle.xp_board.specs.declared.holdings.Looking.{Looking}
+use Rattle.xp_board.specs.declared.holdings.Reference.{Reference}
+use Rattle.xp_board.specs.declared.holdings.TypedReference.{TypedReference}
+use Rattle.xp_board.specs.declared.holdings.Unsettled.{Unsettled}
+use Rattle.xp_board.specs.declared.holdings.Work.{Work}
+use Rattle.xp_board.specs.declared.step.Act.TheVariants.{Load}
+use Rattle.xp_board.specs.declared.step.Mark.TheVariants.{Shed}
+use Rattle.xp_board.specs.declared.step.StepKind.TheVariants as kinds
+use Rattle.xp_board.specs.Acts.{left_by}
+use Rattle.xp_board.specs.After.{learned_cell}
+use Rattle.xp_board.specs.Hands.{brought_as, changed_work, refs_to, typed_owner, typed_to, without_typed, work_on}
+use Rattle.xp_board.specs.KindSteps.{MayDrop, still_looking}
+use Rattle.xp_board.specs.Knowledge.{knows_live}
+use Rattle.xp_board.specs.Lists.{changed_by, first_by, kept_of}
+use Rattle.xp_board.specs.Readings.{is_live, is_live_as, is_live_word, is_partial, is_type, is_work, kind_at}
+use Rattle.xp_board.specs.Recorded.{entry_demand}
+use Rattle.xp_board.specs.Steps.{some_since}
+use Rattle.xp_board.specs.Told.{Post, PortValue}
+use Rattle.board_lemmas.proofs.HandLists.{times-changed}
+use Rattle.board_lemmas.proofs.KindReadings.{live_count}
+use Rattle.board_lemmas.proofs.ListCounts.{first_by-absent, first_by-none, newest_held}
+use Rattle.board_lemmas.proofs.Sums.{when_eq}
+use Rattle.board_lemmas.proofs.WorkFacts.{works_facts}
+use Rattle.step_maker.specs.Holds.{Holds, MayWork, Same, still}
+use Rattle.step_maker.specs.Moves.{Moves}
+use Rattle.step_maker.proofs.Noting.{moves_since}
+use Rattle.flush_words.proofs.Lasting.{moves_longer}
+use Rattle.frame_words.specs.Freeing.{gave}
+use Rattle.frame_words.specs.Refs.{MayPut}
+use Rattle.frame_words.proofs.Putting.{without_newest}
+use Rattle.kind_words.proofs.KindFacts.{live_apart}
+use Rattle.kind_words.proofs.KindHands.{apart_spares, typed_held}
+use Rattle.frame_types.specs.Lowering.{DropsType, closing_from, closing_in, uncounted}
+use Rattle.frame_types.specs.Taking.{MayDropPlain, gave_type}
+use Rattle.frame_types.proofs.Lowered.{closed_is, closed_kind, closed_unmarked, type_closed, type_counted}
+use Rattle.table_entries.specs.Tops.{with_recorded}
+use Rattle.table_entries.proofs.HandLists.{asks_below}
+use Rattle.table_words.specs.Entries.{entry_shed}
+use Rattle.table_words.proofs.Shedding.{shed_known}
+use Rattle.table_releases.specs.Between.{SeesKind, SeesTyped}
+use Rattle.table_releases.specs.Tops.{Reopens, StaysRecorded, shed_once}
+use Rattle.table_releases.proofs.FrameSeen.{from_seen, kind_frame, now_seen}
+use Rattle.table_releases.proofs.LastSeen.{SeenLast, finds_counts, finds_kind, finds_leads, seen_asks, seen_sheds}
+use Rattle.table_releases.proofs.Looking.{shed_typed}
+use Rattle.xp_board.proofs.Returned.{same_type}
+
+-- ---- lists
+-- a vCPU that looks at nothing goes on so
+pub looks_none : (g w : ℕ) (xs : List Looking) → xs ≡ [] → still_looking g w xs ≡ xs
+unfolding kept_of
+looks_none g w [] none = refl
+looks_none g w (x ∷ xs) none = absurd cc
+
+pub none_after : {A : Type 0} (key : A → ℕ) (g f : ℕ) (change : A → A) (xs : List A) → ((x : A) → key (change x) ≡ key x) → first_by key g xs ≡ None → first_by key g (changed_by key f change xs) ≡ None
+none_after key g f change xs kept none = first_by-none key g (changed_by key f change xs) (times-changed key g f change xs kept ∙ first_by-absent key g xs none)
+
+live_as_is : (w : ℕ) (t : PageType) → IsTrue (is_live (kind_fields w)) → (kind_fields w).kind ≡ t → is_live_as t w ≡ true
+live_as_is w t live kind = rw (live, kind) (same_type t)
+
+module _ (b v : PortValue) (f i : ℕ) (t : PageType) (word g : ℕ) (want : PageType) (x : ℕ) (l : SeesKind b v f i t word g want x) where
+  -- the hand, from before the looks
+  pub hand_behind : (w : PortValue) (r : List Reference → List Reference) (y : List TypedReference → List TypedReference) (e : List Work → List Work) →
+      Holds v w (record v.holdings { refs = r v.holdings.refs; typed = y v.holdings.typed; works = e v.holdings.works }) →
+      Holds b w (record (learned_cell f i word b.holdings) { refs = r b.holdings.refs; typed = y b.holdings.typed; works = e (learned_cell f i word b.holdings).works })
+  hand_behind w r y e holds =
+      holds ∙ ap (λ (q : PortValue). still (record q { holdings = record q.holdings { refs = r q.holdings.refs; typed = y q.holdings.typed; works = e q.holdings.works } })) l.same
+      ∙ ap (λ (q : PortValue). still (record q { holdings = record q.holdings { refs = r q.holdings.refs; typed = y q.holdings.typed; works = e q.holdings.works } })) l.sees.sees.hand
+
+  -- nothing but the recorded entries is changed
+  abbrev pub shed_works : List Work → List Work
+  shed_works ws = changed_work f (λ (e : Work). record e { recorded = i; unsettled = None }) ws
+
+  module _ (live : is_live_word x ≡ true) (w : PortValue) (y : ℕ) (look : Moves v w (Kind g) Load kinds.Look (Some (Shed f i)) y) (shed : Holds v w (entry_shed f i v.holdings)) where
+    abbrev seen : SeenLast f i t word v.holdings
+    seen = now_seen b v f i t word g want x l
+
+    asked : entry_demand look.finds.words f i ≡ Typed g want
+    asked = seen_asks v.post.machine v.post.vcpu v.holdings (Kind g) y look.finds f i t word seen ∙ l.sees.asks
+
+    -- it was found live since the entry is unsettled
+    low_since : (u : Unsettled) → seen.work.unsettled ≡ Some u → u.since ≤ length l.from.holdings.steps
+    low_since u at =
+        let first = from_seen b v f i t word g want x l in
+        let finds = l.look.finds in
+        let mine : work_on f (finds.hands l.from.post.vcpu).works ≡ Some first.work = ap (λ (k : Holdings). work_on f k.works) finds.mine ∙ first.here in
+        let facts = works_facts l.from.post.machine finds.words finds.hands l.from.post.vcpu f first.work finds.sound finds.real mine in
+        subst (λ (k : Holdings). u.since ≤ length k.steps) finds.mine (facts.formed.unsettled u at).1
+
+    found_since : (u : Unsettled) → seen.work.unsettled ≡ Some u → IsTrue (some_since (sizes_of v.post.machine) u.since (Kind g) is_live_word v.holdings.steps)
+    unfolding left_by
+    found_since u at =
+        subst (λ (p : Post). IsTrue (some_since (sizes_of p.machine) u.since (Kind g) is_live_word v.holdings.steps)) (sym (ap (λ (q : PortValue). q.post) l.same))
+        (moves_since l.from v (Kind g) Load kinds.Look None x l.look u.since is_live_word (low_since u at) live)
+
+    still_live : IsTrue (is_live (kind_at look.finds.words g))
+    still_live =
+        by_way
+        (finds_leads v.post.machine v.post.vcpu v.holdings (Kind g) y look.finds f i t seen.work seen.here seen.kind seen.table seen.last (Typed g want) asked g want refl)
+      where
+        by_way : IsTrue (is_live (kind_at look.finds.words g))
+            ⊎ (IsTrue (is_partial (kind_at look.finds.words g) || is_work (kind_at look.finds.words g)) × ((u : Unsettled) × (seen.work.unsettled ≡ Some u) × (some_since (sizes_of v.post.machine) u.since (Kind g) is_live_word v.holdings.steps ≡ false))) →
+            IsTrue (is_live (kind_at look.finds.words g))
+        by_way (inl is) = is
+        by_way (inr (form, (u, at, unfound))) = absurd (let both : true ≡ false = sym (found_since u at) ∙ unfound in cc)
+
+    y_live : IsTrue (is_live (kind_fields y))
+    y_live = subst (λ n. IsTrue (is_live (kind_fields n))) look.finds.word still_live
+
+    y_kind : (kind_fields y).kind ≡ want
+    y_kind =
+        ap (λ n. (kind_fields n).kind) (sym look.finds.word)
+        ∙ finds_kind v.post.machine v.post.vcpu v.holdings (Kind g) y look.finds f i t seen.work seen.here seen.kind seen.table seen.last (Typed g want) asked g want refl
+
+    y_counts : 0 < (kind_fields y).number
+    y_counts =
+        let some = finds_counts v.post.machine v.post.vcpu v.holdings (Kind g) y look.finds f i t seen.work seen.here seen.kind seen.table seen.last (Typed g want) asked g want refl in
+        subst (λ n. 0 < (kind_fields n).number) look.finds.word (subst (λ n. 0 < n) (live_count (kind_at look.finds.words g) still_live) some)
+
+    v_apart : work_on g v.holdings.works ≡ None
+    v_apart = live_apart v.post.machine v.post.vcpu v.holdings g y (kind_fields y) look.finds refl y_live y_counts
+
+    abbrev newest : TypedReference
+    newest = brought_as (is_none seen.work.unsettled) g want v.holdings
+
+    pub live_shed : Holds v w (record (with_recorded f i None v.holdings) { typed = newest ∷ v.holdings.typed })
+    live_shed = shed_typed v w f i t word seen shed g want l.sees.asks
+
+    pub live_post : w.post ≡ v.post
+    live_post = ap (λ (q : PortValue). q.post) live_shed
+
+    known_there : IsTrue (knows_live (sizes_of v.post.machine) g want w.holdings)
+    known_there =
+        shed_known v w f i g want (seen_sheds f i t word v.holdings seen) (ap (λ k. demand_at k i word) seen.kind ∙ l.sees.asks) shed y look (live_as_is y want y_live y_kind)
+
+    pub live_known : IsTrue (knows_live (sizes_of w.post.machine) g want w.holdings)
+    live_known = subst (λ (p : Post). IsTrue (knows_live (sizes_of p.machine) g want w.holdings)) (sym live_post) known_there
+
+    pub live_held : 0 < typed_to g w.holdings.typed
+    live_held = subst (λ xs. 0 < typed_to g xs) (sym (ap (λ (q : PortValue). q.holdings.typed) live_shed)) (typed_held g newest v.holdings.typed refl)
+
+    pub live_apart_then : work_on g w.holdings.works ≡ None
+    live_apart_then =
+        ap (λ (q : PortValue). work_on g q.holdings.works) live_shed ∙ none_after (λ (e : Work). e.frame) g f (λ e. record e { recorded = i; unsettled = None }) v.holdings.works (λ e. refl) v_apart
+
+    pub live_frame : g < w.post.machine.frames
+    live_frame = subst (λ (p : Post). g < p.machine.frames) (sym live_post) (kind_frame b v f i t word g want x l)
+
+    pub live_may : MayWork v → MayWork w
+    live_may m =
+        record {
+          running = ap (λ (q : PortValue). q.holdings.run) live_shed ∙ m.running;
+          no_walk = ap (λ (q : PortValue). q.holdings.walk) live_shed ∙ m.no_walk;
+          machine = subst (λ (p : Post). IsMachine p.machine) (sym live_post) m.machine;
+        }
+
+    pub live_drops : MayDrop w.post.machine g w.holdings
+    live_drops = record { in_hand = live_held; kind = want; live = live_known }
+
+    pub live_drops_plain : is_table want ≡ false → MayDropPlain w.post.machine g want w.holdings
+    live_drops_plain plain = record { held = live_held; live = live_known; plain = plain; apart = live_apart_then }
+
+    -- ---- and then
+    no_typed : without_typed g (newest ∷ v.holdings.typed) ≡ v.holdings.typed
+    no_typed = without_newest (λ (e : TypedReference). e.frame) g newest v.holdings.typed refl
+
+    -- a frame without entries was given back
+    pub plain_given : (z : PortValue) → Holds w z (gave_type g w.holdings) → Holds b z (shed_once f i word b.holdings)
+    plain_given z given =
+        hand_behind z (λ rs. rs) (λ ys. ys) shed_works
+        (given ∙ ap (λ (q : PortValue). still (record q { holdings = gave_type g q.holdings })) live_shed ∙ ap (λ xs. still (record v { holdings = record (with_recorded f i None v.holdings) { typed = xs } })) no_typed)
+
+    -- a table with other type counts
+    module _ (z : PortValue) (drops : DropsType w z g false) where
+      abbrev left_ref : Reference
+      left_ref = record { frame = g; owner = typed_owner g w.holdings }
+
+      counted : Holds v z (record (with_recorded f i None v.holdings) { refs = left_ref ∷ v.holdings.refs })
+      counted =
+          type_counted w z g false drops refl ∙ ap (λ (q : PortValue). still (record q { holdings = record q.holdings { refs = left_ref ∷ q.holdings.refs; typed = without_typed g q.holdings.typed } })) live_shed
+          ∙ ap (λ xs. still (record v { holdings = record (with_recorded f i None v.holdings) { refs = left_ref ∷ v.holdings.refs; typed = xs } })) no_typed
+
+      pub counted_gives : MayPut g z.holdings
+      counted_gives =
+          record {
+            held = subst (λ rs. 0 < refs_to g rs) (sym (ap (λ (q : PortValue). q.holdings.refs) counted)) (newest_held g left_ref v.holdings.refs refl);
+            spares = apart_spares g z.holdings (ap (λ (q : PortValue). work_on g q.holdings.works) (type_counted w z g false drops refl) ∙ live_apart_then);
+          }
+
+      pub counted_given : (q : PortValue) → Holds z q (gave g z.holdings) → Holds b q (shed_once f i word b.holdings)
+      counted_given q given =
+          hand_behind q (λ rs. rs) (λ ys. ys) shed_works
+          (given ∙ ap (λ (y : PortValue). still (record y { holdings = gave g y.holdings })) counted
+          ∙ ap (λ rs. still (record v { holdings = record (with_recorded f i None v.holdings) { refs = rs } })) (without_newest (λ (e : Reference). e.frame) g left_ref v.holdings.refs refl))
+
+    -- a table that is closing then
+    module _ (z : PortValue) (drops : DropsType w z g true) (table : is_table want ≡ true) where
+      abbrev closing : Work
+      closing = closing_from g drops.found w.holdings
+
+      abbrev closed_ref : Reference
+      closed_ref = record { frame = g; owner = typed_owner g w.holdings }
+
+      closed : Holds v z (record (with_recorded f i None v.holdings) { refs = closed_ref ∷ v.holdings.refs; works = closing ∷ (with_recorded f i None v.holdings).works })
+      closed =
+          type_closed w z g true drops refl
+          ∙ ap (λ (q : PortValue). still (record q { holdings = record q.holdings { refs = closed_ref ∷ q.holdings.refs; typed = without_typed g q.holdings.typed; works = closing ∷ q.holdings.works } })) live_shed
+          ∙ ap (λ xs. still (record v { holdings = record (with_recorded f i None v.holdings) { refs = closed_ref ∷ v.holdings.refs; typed = xs; works = closing ∷ (with_recorded f i None v.holdings).works } })) no_typed
+
+      abbrev with_closing : Holdings → Holdings
+      with_closing h = record (with_recorded f i None h) { refs = closed_ref ∷ h.refs; works = closing ∷ (with_recorded f i None h).works }
+
+      pub closed_opens : Reopens b z f i t g 512 true
+      closed_opens =
+          let is = asks_below t i word g want l.sees.asks in
+          let kind : (kind_fields drops.found).kind ≡ want = drops.lowers.kind want live_known in
+          record {
+            word = word;
+            asks = l.sees.asks ∙ ap (λ k. Typed g k) is;
+            inside = l.sees.inside;
+            work = closing;
+            frame = refl;
+            kind = closed_kind w z g true drops refl want live_known ∙ is;
+            table = subst (λ k. IsTrue (is_table k)) is table;
+            closing_is = closed_is w z g true drops refl;
+            in_work = λ off. absurd cc;
+            unmarked = λ some. closed_unmarked w z g true drops refl;
+            recorded_is = rw (kind, table) refl;
+            few = omega arith;
+            settled = λ none. absurd cc;
+            earlier = let more = moves_longer w z _ _ _ _ _ drops.lowers.step in omega (arith, more);
+            after = with_closing (learned_cell f i word b.holdings);
+            holding = record { untyped = λ on. (closed_ref, refl, refl); typed = λ off. absurd cc };
+            hand = hand_behind z (λ rs. closed_ref ∷ rs) (λ ys. ys) (λ ws. closing ∷ shed_works ws) closed;
+          }
+
+-- the vCPU may still work
+pub may_dropped : (v w : PortValue) (g : ℕ) (last : Bool) → DropsType v w g last → MayWork v → MayWork w
+may_dropped v w g last d m =
+    record {
+      running = by_run last d.hand ∙ m.running;
+      no_walk = by_walk last d.hand ∙ m.no_walk;
+      machine = subst (λ (p : Post). IsMachine p.machine) (sym (by_post last d.hand)) m.machine;
+    }
+  where
+    by_run : (b : Bool) → Holds v w (if b then closing_in g d.found v.holdings else uncounted g v.holdings) → w.holdings.run ≡ v.holdings.run
+    by_run true h = ap (λ (q : PortValue). q.holdings.run) h
+    by_run false h = ap (λ (q : PortValue). q.holdings.run) h
+
+    by_walk : (b : Bool) → Holds v w (if b then closing_in g d.found v.holdings else uncounted g v.holdings) → w.holdings.walk ≡ v.holdings.walk
+    by_walk true h = ap (λ (q : PortValue). q.holdings.walk) h
+    by_walk false h = ap (λ (q : PortValue). q.holdings.walk) h
+
+    by_post : (b : Bool) → Holds v w (if b then closing_in g d.found v.holdings else uncounted g v.holdings) → w.post ≡ v.post
+    by_post true h = ap (λ (q : PortValue). q.post) h
+    by_post false h = ap (λ (q : PortValue). q.post) h
+
+-- ---- a look at the kind word behind the one at the entry
+pub sees_kind : (b v u : PortValue) (f i : ℕ) (t : PageType) (word g : ℕ) (want : PageType) (x : ℕ) → SeesTyped b v f i t word g want → Moves v u (Kind g) Load kinds.Look None x → Same v u → SeesKind b u f i t word g want x
+sees_kind b v u f i t word g want x l look same = record { from = v; sees = l; look = look; same = same }
+
+-- nothing more was done
+pub stays_recorded : (b v : PortValue) (f i : ℕ) (t : PageType) (word g : ℕ) (want : PageType) (x : ℕ) → SeesKind b v f i t word g want x → StaysRecorded b v f i
+stays_recorded b v f i t word g want x l = (word, l.same ∙ l.sees.sees.hand)

@@ -1,0 +1,221 @@
+-- A partial frame that came into the own works, and its entry shed then.
+use Rattle.std.proofs.Common.{◌≡◌, ◌≢◌, ℕ, ◌<◌, ◌^◌, ◌==◌, not, is_none, Bool, true, false, List, [], ◌∷◌, Some, None, IsTrue, refl, sym, ap, ◌∙◌, subst, arith, inl}
+use Rattle.xp_words.specs.KindWords.{is_kind, kind_fields, kind_write}
+use Rattle.xp_words.specs.Machine.{IsMachine}
+use Rattle.xp_words.specs.PageTypes.{is_table}
+use Rattle.xp_words.specs.PageTypes as types
+use Rattle.xp_words.specs.Places.{sizes_of}
+use Rattle.xp_words.specs.declared.entry.Demand.TheVariants.{Typed}
+use Rattle.xp_words.specs.declared.kind.KindWord.{KindWord}
+use Rattle.xp_words.specs.declared.kind.PageType.{PageType}
+use Rattle.xp_words.specs.declared.place.Place.TheVariants.{Clock}
+use Rattle.xp_board.specs.declared.holdings.Holdings.{Holdings}
+use Rattle.xp_board.specs.declared.holdings.Reference.{Reference}
+use Rattle.xp_board.specs.declared.holdings.TypedReference.{TypedReference}
+use Rattle.xp_board.specs.declared.holdings.Work.{Work}
+use Rattle.xp_board.specs.declared.step.Act.TheVariants.{Load}
+use Rattle.xp_board.specs.declared.step.Mark.TheVariants.{Shed}
+use Rattle.xp_board.specs.declared.step.StepKind.TheVariants as kinds
+use Rattle.xp_board.specs.Acts.{left_by}
+use Rattle.xp_board.specs.Hands.{brought_as, changed_work, refs_to, typed_owner, typed_to, without_typed, without_work, work_on}
+use Rattle.xp_board.specs.KindSteps.{new_work, resumed_kind, unsettled_from}
+use Rattle.xp_board.specs.Lists.{changed_by}
+use Rattle.xp_board.specs.Readings.{is_work}
+use Rattle.xp_board.specs.Steps.{some_since}
+use Rattle.xp_board.specs.Told.{Post, PortValue}
+use Rattle.board_lemmas.proofs.KindForms.{PartialForm, fields_of, partial_form}
+use Rattle.board_lemmas.proofs.KindReadings.{partial_parts, resumed_in_work, work_alone}
+use Rattle.board_lemmas.proofs.ListCounts.{first_by-cons_other, newest_held}
+use Rattle.board_lemmas.proofs.Sums.{when_eq, when_ne}
+use Rattle.step_maker.specs.Holds.{Holds, MayWork, still}
+use Rattle.step_maker.specs.Moves.{Moves}
+use Rattle.step_maker.proofs.Noting.{moves_since}
+use Rattle.flush_words.proofs.Lasting.{moves_longer}
+use Rattle.frame_words.specs.Freeing.{gave}
+use Rattle.frame_words.specs.Refs.{MayPut}
+use Rattle.frame_words.proofs.Putting.{without_newest}
+use Rattle.kind_words.specs.Kinds.{MayLeave, dead_kind, left}
+use Rattle.kind_words.proofs.KindFacts.{clock_is_small, partial_apart, read_is}
+use Rattle.kind_words.proofs.KindHands.{apart_spares, resumed_fields, resumed_unkept, typed_held, work_here}
+use Rattle.kind_words.proofs.Leaving.{left_dead, may_leave_dead}
+use Rattle.table_entries.proofs.HandLists.{asks_below, asks_some}
+use Rattle.table_words.specs.Entries.{entry_shed}
+use Rattle.table_releases.specs.Between.{Resumed}
+use Rattle.table_releases.specs.Tops.{Reopens, shed_once}
+use Rattle.table_releases.proofs.FrameSeen.{found_kind, found_unkept, kind_post, now_seen, seen_same}
+use Rattle.table_releases.proofs.HandLive.{hand_behind, looks_none, none_after, shed_works}
+use Rattle.table_releases.proofs.LastSeen.{SeenLast}
+use Rattle.table_releases.proofs.Looking.{shed_typed}
+
+changed_behind : (f : ℕ) (change : Work → Work) (e : Work) (xs : List Work) → e.frame ≢ f → changed_work f change (e ∷ xs) ≡ e ∷ changed_work f change xs
+unfolding changed_by
+changed_behind f change e xs off = rw (when_ne e.frame f off) refl
+
+module _ (b v : PortValue) (f i : ℕ) (t : PageType) (word g : ℕ) (want : PageType) (k : KindWord) (r : Resumed b v f i t word g want k) where
+  abbrev came : PortValue
+  came = r.from
+
+  is_spelled : IsTrue (is_kind k)
+  is_spelled = (read_is r.found k r.read).0
+
+  kind_is : k.kind ≡ want
+  kind_is = found_kind b r.from f i t word g want r.found r.sees k r.read
+
+  form : PartialForm k
+  form = let parts = partial_parts k r.partial in partial_form r.found k r.read parts.0 parts.1
+
+  abbrev pub new : Work
+  new = new_work g (kind_write (resumed_kind k)) k.progress (unsettled_from k.progress r.from.holdings) r.from.holdings
+
+  new_fields : kind_fields new.word ≡ resumed_kind k
+  new_fields = resumed_fields k is_spelled r.partial
+
+  pub new_in_work : IsTrue (is_work (kind_fields new.word))
+  new_in_work = subst (λ y. IsTrue (is_work y)) (sym new_fields) (resumed_in_work k r.partial)
+
+  pub new_kind : (kind_fields new.word).kind ≡ want
+  new_kind = ap (λ (x : KindWord). x.kind) new_fields ∙ kind_is
+
+  no_looking : r.from.holdings.looking ≡ []
+  no_looking = ap (λ (q : PortValue). q.holdings.looking) r.sees.same ∙ ap (λ (q : PortValue). q.holdings.looking) r.sees.sees.sees.hand ∙ r.sees.sees.sees.looked
+
+  pub came_in : Holds r.from v (record r.from.holdings { works = new ∷ r.from.holdings.works })
+  came_in =
+      r.hand ∙ ap (λ (h : Holdings). still (record r.from { holdings = h })) (resumed_unkept g k r.from.holdings (found_unkept b r.from f i t word g want r.found r.sees k r.read r.partial))
+      ∙ ap (λ ys. still (record r.from { holdings = record r.from.holdings { looking = ys; works = new ∷ r.from.holdings.works } })) (looks_none g (kind_write (resumed_kind k)) r.from.holdings.looking no_looking)
+
+  apart : work_on g r.from.holdings.works ≡ None
+  apart =
+      ap (λ (q : PortValue). work_on g q.holdings.works) r.sees.same
+      ∙ partial_apart r.sees.from.post.machine r.sees.from.post.vcpu r.sees.from.holdings g r.found k r.sees.look.finds (fields_of r.found k r.read) r.partial
+
+  abbrev before : SeenLast f i t word r.from.holdings
+  before = now_seen b r.from f i t word g want r.found r.sees
+
+  other : g ≢ f
+  other same = let here : work_on g r.from.holdings.works ≡ Some before.work = subst (λ n. work_on n r.from.holdings.works ≡ Some before.work) (sym same) before.here in let both : None ≡ Some before.work = sym apart ∙ here in cc
+
+  same_works : work_on f v.holdings.works ≡ work_on f r.from.holdings.works
+  same_works = ap (λ (q : PortValue). work_on f q.holdings.works) came_in ∙ first_by-cons_other (λ (e : Work). e.frame) f new r.from.holdings.works other
+
+  pub resumed_seen : SeenLast f i t word v.holdings
+  resumed_seen = seen_same f i t word r.from.holdings v.holdings same_works before
+
+  pub resumed_post : v.post ≡ b.post
+  resumed_post = ap (λ (q : PortValue). q.post) came_in ∙ kind_post b r.from f i t word g want r.found r.sees
+
+  pub resumed_frame : g < v.post.machine.frames
+  resumed_frame = subst (λ (p : Post). g < p.machine.frames) (sym resumed_post) r.sees.sees.inside
+
+  -- ---- shed
+  module _ (w : PortValue) (shed : Holds v w (entry_shed f i v.holdings)) where
+    abbrev pub newest : TypedReference
+    newest = brought_as (is_none resumed_seen.work.unsettled) g want v.holdings
+
+    abbrev shed_all : List Work → List Work
+    shed_all ws = shed_works b r.from f i t word g want r.found r.sees ws
+
+    pub resumed_shed : Holds r.from w (record r.from.holdings { typed = newest ∷ r.from.holdings.typed; works = new ∷ shed_all r.from.holdings.works })
+    resumed_shed =
+        shed_typed v w f i t word resumed_seen shed g want r.sees.sees.asks
+        ∙ ap (λ (q : PortValue). still (record q { holdings = record q.holdings { typed = newest ∷ q.holdings.typed; works = shed_all q.holdings.works } })) came_in
+        ∙ ap (λ ws. still (record r.from { holdings = record r.from.holdings { typed = newest ∷ r.from.holdings.typed; works = ws } })) (changed_behind f (λ (e : Work). record e { recorded = i; unsettled = None }) new r.from.holdings.works other)
+
+    shed_held : 0 < typed_to g w.holdings.typed
+    shed_held = subst (λ xs. 0 < typed_to g xs) (sym (ap (λ (q : PortValue). q.holdings.typed) resumed_shed)) (typed_held g newest r.from.holdings.typed refl)
+
+    pub shed_here : work_on g w.holdings.works ≡ Some new
+    shed_here = work_here g new (shed_all r.from.holdings.works) w.holdings.works refl (ap (λ (q : PortValue). q.holdings.works) resumed_shed)
+
+    pub shed_may : MayWork v → MayWork w
+    shed_may m =
+        record {
+          running = ap (λ (q : PortValue). q.holdings.run) resumed_shed ∙ sym (ap (λ (q : PortValue). q.holdings.run) came_in) ∙ m.running;
+          no_walk = ap (λ (q : PortValue). q.holdings.walk) resumed_shed ∙ sym (ap (λ (q : PortValue). q.holdings.walk) came_in) ∙ m.no_walk;
+          machine = subst (λ (p : Post). IsMachine p.machine) (sym (ap (λ (q : PortValue). q.post) resumed_shed ∙ sym (ap (λ (q : PortValue). q.post) came_in))) m.machine;
+        }
+
+    -- ---- a table
+    pub resumed_opens : (mark : _) (p : _) (y : ℕ) → Moves v w p Load kinds.Look mark y → is_table want ≡ true → Reopens b w f i t g k.progress false
+    resumed_opens mark p y step table =
+        let is = asks_below t i word g want r.sees.sees.asks in
+        let one = moves_longer r.from v _ _ _ _ _ r.step in
+        let two = moves_longer v w p Load kinds.Look mark y step in
+        let low = form.progress in
+        record {
+          word = word;
+          asks = r.sees.sees.asks ∙ ap (λ x. Typed g x) is;
+          inside = r.sees.sees.inside;
+          work = new;
+          frame = refl;
+          kind = ap (λ (x : KindWord). x.kind) new_fields ∙ kind_is ∙ is;
+          table = subst (λ x. IsTrue (is_table x)) is table;
+          closing_is = work_alone (kind_fields new.word) new_in_work;
+          in_work = λ off. new_in_work;
+          unmarked = λ some. ap (λ (x : KindWord). x.unflushed) new_fields ∙ no_mark k.unflushed refl some;
+          recorded_is = refl;
+          few = omega (arith, low);
+          settled = λ none. rw (when_eq k.progress 0 none) refl;
+          earlier = omega (arith, one, two);
+          after = record (shed_once f i word b.holdings) { typed = newest ∷ b.holdings.typed; works = new ∷ (shed_once f i word b.holdings).works };
+          holding = record { untyped = λ on. absurd cc; typed = λ off. (newest, refl, ap (λ x. Some x) is, refl) };
+          hand = hand_behind b r.from f i t word g want r.found r.sees w (λ rs. rs) (λ ys. newest ∷ ys) (λ ws. new ∷ shed_all ws) resumed_shed;
+        }
+      where
+        no_mark : (u : Bool) → k.unflushed ≡ u → 0 < k.progress → k.unflushed ≡ false
+        no_mark false at some = at
+        no_mark true at some = let none = form.marked at in absurd (omega (arith, none, some))
+
+    -- ---- ordinary memory, which waits for a flush
+    module _ (plain : is_table want ≡ false) (clock : ℕ) (step : Moves v w Clock Load kinds.Look (Some (Shed f i)) clock) where
+      page : (k.progress ≡ 0) × (k.unflushed ≡ true)
+      page = form.page (ap is_table kind_is ∙ plain)
+
+      small : clock < 2 ^ 36
+      small = clock_is_small v.post.machine v.post.vcpu v.holdings clock step.finds
+
+      wanted : IsTrue (not (types.is_none want))
+      wanted = asks_some t i word g want r.sees.sees.asks
+
+      clock_found : IsTrue (some_since (sizes_of w.post.machine) new.since Clock (λ y. y == clock) w.holdings.steps)
+      unfolding left_by
+      clock_found =
+          let one = moves_longer r.from v _ _ _ _ _ r.step in
+          subst (λ (q : Post). IsTrue (some_since (sizes_of q.machine) new.since Clock (λ y. y == clock) w.holdings.steps)) (sym (ap (λ (q : PortValue). q.post) resumed_shed ∙ sym (ap (λ (q : PortValue). q.post) came_in)))
+          (moves_since v w Clock Load kinds.Look (Some (Shed f i)) clock step new.since (λ y. y == clock) (omega (arith, one)) (when_eq clock clock refl))
+
+      pub dead_may : MayLeave w g (dead_kind want true clock)
+      dead_may =
+          may_leave_dead w g want new shed_here wanted true clock (ap (λ (x : KindWord). x.kind) new_fields ∙ kind_is) page.0 (inl (sym (ap (λ (x : KindWord). x.unflushed) new_fields ∙ page.1))) small clock_found (λ work. shed_held)
+
+      abbrev dead_ref : Reference
+      dead_ref = record { frame = g; owner = typed_owner g w.holdings }
+
+      module _ (d : PortValue) (dead : Holds w d (left w g (dead_kind want true clock))) where
+        dead_hand : Holds r.from d (record r.from.holdings { refs = dead_ref ∷ r.from.holdings.refs; works = shed_all r.from.holdings.works })
+        dead_hand =
+            dead ∙ ap (λ (h : Holdings). still (record w { holdings = h })) (left_dead w g want new shed_here wanted true clock small new_in_work)
+            ∙ ap (λ (q : PortValue). still (record q { holdings = record q.holdings { refs = dead_ref ∷ q.holdings.refs; typed = without_typed g q.holdings.typed; works = without_work g q.holdings.works } })) resumed_shed
+            ∙ ap (λ xs. still (record r.from { holdings = record r.from.holdings { refs = dead_ref ∷ r.from.holdings.refs; typed = xs; works = without_work g (new ∷ shed_all r.from.holdings.works) } })) (without_newest (λ (e : TypedReference). e.frame) g newest r.from.holdings.typed refl)
+            ∙ ap (λ ws. still (record r.from { holdings = record r.from.holdings { refs = dead_ref ∷ r.from.holdings.refs; works = ws } })) (without_newest (λ (e : Work). e.frame) g new (shed_all r.from.holdings.works) refl)
+
+        pub dead_gives : MayPut g d.holdings
+        dead_gives =
+            record {
+              held = subst (λ rs. 0 < refs_to g rs) (sym (ap (λ (q : PortValue). q.holdings.refs) dead_hand)) (newest_held g dead_ref r.from.holdings.refs refl);
+              spares = apart_spares g d.holdings (ap (λ (q : PortValue). work_on g q.holdings.works) dead_hand ∙ none_after (λ (e : Work). e.frame) g f (λ e. record e { recorded = i; unsettled = None }) r.from.holdings.works (λ e. refl) apart);
+            }
+
+        pub dead_works : MayWork w → MayWork d
+        dead_works m =
+            record {
+              running = ap (λ (q : PortValue). q.holdings.run) dead_hand ∙ sym (ap (λ (q : PortValue). q.holdings.run) resumed_shed) ∙ m.running;
+              no_walk = ap (λ (q : PortValue). q.holdings.walk) dead_hand ∙ sym (ap (λ (q : PortValue). q.holdings.walk) resumed_shed) ∙ m.no_walk;
+              machine = subst (λ (p : Post). IsMachine p.machine) (sym (ap (λ (q : PortValue). q.post) dead_hand ∙ sym (ap (λ (q : PortValue). q.post) resumed_shed))) m.machine;
+            }
+
+        pub dead_given : (z : PortValue) → Holds d z (gave g d.holdings) → Holds b z (shed_once f i word b.holdings)
+        dead_given z given =
+            hand_behind b r.from f i t word g want r.found r.sees z (λ rs. rs) (λ ys. ys) shed_all
+            (given ∙ ap (λ (q : PortValue). still (record q { holdings = gave g q.holdings })) dead_hand
+            ∙ ap (λ rs. still (record r.from { holdings = record r.from.holdings { refs = rs; works = shed_all r.from.holdings.works } })) (without_newest (λ (e : Reference). e.frame) g dead_ref r.from.holdings.refs refl))

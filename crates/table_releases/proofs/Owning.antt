@@ -1,0 +1,94 @@
+-- Who owns a partial frame: the owner of the table that names it, found by the look that sheds the entry.
+use Rattle.std.proofs.Common.{◌≡◌, ℕ, ◌==◌, ◌&&◌, ◌||◌, if◌then◌else◌, Bool, true, false, List, [], ◌∷◌, length, Some, None, IsTrue, refl, sym, ap, ◌∙◌, subst, arith}
+use Rattle.std.proofs.lemmas.Bool.{or_left, or_right}
+use Rattle.xp_words.specs.Entries.{below, is_lowest}
+use Rattle.xp_words.specs.PageTypes.{is_table}
+use Rattle.xp_words.specs.Places.{Sizes, sizes_of}
+use Rattle.xp_words.specs.declared.entry.Demand.TheVariants.{Typed}
+use Rattle.xp_words.specs.declared.kind.KindWord.{KindWord}
+use Rattle.xp_words.specs.declared.kind.PageType.{PageType}
+use Rattle.xp_words.specs.declared.kind.PageType.TheVariants as types
+use Rattle.xp_words.specs.declared.place.Place.TheVariants.{Refs}
+use Rattle.xp_board.specs.declared.holdings.Holdings.{Holdings}
+use Rattle.xp_board.specs.declared.holdings.Lock.{Lock}
+use Rattle.xp_board.specs.declared.holdings.TypedReference.{TypedReference}
+use Rattle.xp_board.specs.declared.step.Act.TheVariants.{Load}
+use Rattle.xp_board.specs.declared.step.Mark.TheVariants.{Shed}
+use Rattle.xp_board.specs.declared.step.StepKind.TheVariants as kinds
+use Rattle.xp_board.specs.Acts.{left_by}
+use Rattle.xp_board.specs.After.{learned_lock}
+use Rattle.xp_board.specs.Hands.{changed_lock}
+use Rattle.xp_board.specs.Knowledge.{knows_owner, tells_owner}
+use Rattle.xp_board.specs.Lists.{changed_by, some_of}
+use Rattle.xp_board.specs.Readings.{is_owned_by, owner_of}
+use Rattle.xp_board.specs.Told.{Post, PortValue}
+use Rattle.board_lemmas.proofs.Sums.{when_eq}
+use Rattle.step_maker.specs.Holds.{Holds}
+use Rattle.step_maker.specs.Moves.{Came, Moves}
+use Rattle.step_maker.proofs.Coming.{came_trans, moves_came}
+use Rattle.step_maker.proofs.Noting.{moves_since}
+use Rattle.flush_waits.proofs.Growing.{came_grows, knows_later}
+use Rattle.table_entries.proofs.HandLists.{asks_below}
+use Rattle.table_words.specs.Entries.{entry_shed}
+use Rattle.table_releases.specs.Between.{Resumed}
+use Rattle.table_releases.proofs.Finding.{kind_came}
+use Rattle.table_releases.proofs.HandResumed.{came_in, newest, resumed_post, resumed_seen, resumed_shed}
+use Rattle.table_releases.proofs.LastSeen.{finds_owned, seen_asks}
+
+-- ---- a look at a cell leaves what is known of owners
+some_changed : {A : Type 0} (test : A → Bool) (key : A → ℕ) (f : ℕ) (change : A → A) (xs : List A) → ((x : A) → test (change x) ≡ test x) → some_of test (changed_by key f change xs) ≡ some_of test xs
+unfolding some_of changed_by
+some_changed test key f change [] kept = refl
+some_changed test key f change (x ∷ xs) kept =
+    elim (key x == f) as (λ c. some_of test (if c then (change x ∷ xs) else (x ∷ changed_by key f change xs)) ≡ test x || some_of test xs) [ true ↦ rw (kept x) refl | false ↦ rw (some_changed test key f change xs kept) refl ]
+
+known_looked : (z : Sizes) (f o g i w : ℕ) (h : Holdings) → IsTrue (knows_owner z f o h) → IsTrue (knows_owner z f o (record h { locks = changed_lock g (learned_lock i w) h.locks }))
+unfolding knows_owner
+known_looked z f o g i w h knows = rw (some_changed (λ (e : Lock). (e.frame == f) && tells_owner z h.steps f o e.owner) (λ (e : Lock). e.frame) g (learned_lock i w) h.locks (λ e. refl)) knows
+
+-- tables whose entries name tables are above level 1
+above_one : (t : PageType) → IsTrue (is_table (below t)) → is_lowest t ≡ false
+above_one types.L4 is = refl
+above_one types.L3 is = refl
+above_one types.L2 is = refl
+above_one types.L1 is = absurd cc
+above_one types.Desc is = refl
+above_one types.Writable is = refl
+above_one types.None is = refl
+
+owned_is : (y o : ℕ) → owner_of y ≡ Some o → is_owned_by o y ≡ true
+owned_is y o is = rw is (when_eq o o refl)
+
+known_first : (z : Sizes) (f o : ℕ) (e : TypedReference) (xs : List TypedReference) (h : Holdings) → h.typed ≡ e ∷ xs → e.frame ≡ f → tells_owner z h.steps f o e.owner ≡ true → IsTrue (knows_owner z f o h)
+unfolding knows_owner some_of
+known_first z f o e xs h is at tells =
+    let first : IsTrue (some_of (λ (x : TypedReference). (x.frame == f) && tells_owner z h.steps f o x.owner) h.typed) = rw (is, when_eq e.frame f at, tells) refl in
+    or_right _ _ (or_left _ _ first)
+
+module _ (b v : PortValue) (f i : ℕ) (t : PageType) (word g : ℕ) (want : PageType) (k : KindWord) (r : Resumed b v f i t word g want k) where
+  came_all : Came b v
+  came_all = came_trans b r.from v (kind_came b r.from f i t word g want r.found r.sees) (moves_came r.from v _ _ kinds.Kind None _ r.step)
+
+  still_known : (o : ℕ) → IsTrue (knows_owner (sizes_of b.post.machine) f o b.holdings) → IsTrue (knows_owner (sizes_of v.post.machine) f o v.holdings)
+  still_known o knows =
+      subst (λ (p : Post). IsTrue (knows_owner (sizes_of p.machine) f o v.holdings)) (sym (resumed_post b v f i t word g want k r))
+      (knows_later (sizes_of b.post.machine) f o (record b.holdings { locks = changed_lock f (learned_lock i word) b.holdings.locks }) v.holdings (came_grows b v came_all)
+      (ap (λ (q : PortValue). q.holdings.refs) (came_in b v f i t word g want k r) ∙ ap (λ (q : PortValue). q.holdings.refs) r.sees.same ∙ ap (λ (q : PortValue). q.holdings.refs) r.sees.sees.sees.hand)
+      (ap (λ (q : PortValue). q.holdings.typed) (came_in b v f i t word g want k r) ∙ ap (λ (q : PortValue). q.holdings.typed) r.sees.same ∙ ap (λ (q : PortValue). q.holdings.typed) r.sees.sees.sees.hand)
+      (ap (λ (q : PortValue). q.holdings.locks) (came_in b v f i t word g want k r) ∙ ap (λ (q : PortValue). q.holdings.locks) r.sees.same ∙ ap (λ (q : PortValue). q.holdings.locks) r.sees.sees.sees.hand)
+      (known_looked (sizes_of b.post.machine) f o f i word b.holdings knows))
+
+  pub resumed_owned : (w : PortValue) (y : ℕ) → Moves v w (Refs g) Load kinds.Look (Some (Shed f i)) y → Holds v w (entry_shed f i v.holdings) → is_table want ≡ true → (o : ℕ) →
+      IsTrue (knows_owner (sizes_of b.post.machine) f o b.holdings) → IsTrue (knows_owner (sizes_of b.post.machine) g o w.holdings)
+  unfolding left_by
+  resumed_owned w y look shed table o knows =
+      let finds = look.finds in
+      let s = resumed_seen b v f i t word g want k r in
+      let asked = seen_asks v.post.machine v.post.vcpu v.holdings (Refs g) y finds f i t word s ∙ r.sees.sees.asks in
+      let table_owned = (finds.sound.found v.post.vcpu finds.real).owners f o (subst (λ (u : Holdings). IsTrue (knows_owner (sizes_of v.post.machine) f o u)) (sym finds.mine) (still_known o knows)) in
+      let above = above_one t (subst (λ x. IsTrue (is_table x)) (asks_below t i word g want r.sees.sees.asks) table) in
+      let owned = finds_owned v.post.machine v.post.vcpu v.holdings (Refs g) y finds f i t s.work s.here s.kind s.table s.last (Typed g want) asked g want refl o table_owned above in
+      let here : owner_of y ≡ Some o = ap owner_of (sym finds.word) ∙ owned in
+      let since = moves_since v w (Refs g) Load kinds.Look (Some (Shed f i)) y look (length v.holdings.steps) (is_owned_by o) (omega arith) (owned_is y o here) in
+      subst (λ (p : Post). IsTrue (knows_owner (sizes_of p.machine) g o w.holdings)) (resumed_post b v f i t word g want k r)
+      (known_first (sizes_of v.post.machine) g o (newest b v f i t word g want k r w shed) r.from.holdings.typed w.holdings (ap (λ (q : PortValue). q.holdings.typed) (resumed_shed b v f i t word g want k r w shed)) refl since)

@@ -1,0 +1,171 @@
+-- Behind both looks: the steps of the release of an entry that asks a type, and why it stops.
+use Rattle.std.proofs.Common.{◌≡◌, ◌≢◌, ℕ, if◌then◌else◌, Bool, true, false, [], ◌∷◌, ◌++◌, length, Some, None, IsTrue, Ok, Err, refl, sym, ap, ◌∙◌, subst, arith, inl}
+use Rattle.xp_words.specs.KindWords.{is_kind, kind_fields, kind_read, kind_write}
+use Rattle.xp_words.specs.Places.{is_place, number, place_at, sizes_of}
+use Rattle.xp_words.proofs.PlaceLaws.{place_back}
+use Rattle.xp_words.specs.declared.kind.KindWord.{KindWord}
+use Rattle.xp_words.specs.declared.kind.PageType.{PageType}
+use Rattle.xp_words.specs.declared.place.Place.TheVariants.{Kind}
+use Rattle.xp_words.specs.declared.reply.Pause.TheVariants.{Busy, Lost}
+use Rattle.xp_words.specs.declared.reply.Stop.TheVariants.{Paused}
+use Rattle.xp_board.specs.declared.step.Act.TheVariants.{Cas, Load}
+use Rattle.xp_board.specs.declared.step.Mark.TheVariants.{Shed}
+use Rattle.xp_board.specs.declared.step.StepKind.TheVariants as kinds
+use Rattle.xp_board.specs.Acts.{left_by}
+use Rattle.xp_board.specs.KindSteps.{resumed_kind}
+use Rattle.xp_board.specs.Readings.{is_partial}
+use Rattle.xp_board.specs.Steps.{last_since}
+use Rattle.xp_board.specs.Told.{Post, PortValue}
+use Rattle.board_lemmas.proofs.KindForms.{fields_of}
+use Rattle.board_lemmas.proofs.Sums.{when_eq, when_ne}
+use Rattle.step_maker.specs.Moves.{Came, Met, Moves}
+use Rattle.step_maker.proofs.Coming.{came_trans, met_after, met_before, moment_of, moves_came, moves_met}
+use Rattle.answer_fits.specs.Answers.{Misses, Serves, Stops, deeds_by, exchanged, missed_at, pin_deed}
+use Rattle.answer_fits.specs.Asked.{Asked, of_back}
+use Rattle.answer_fits.specs.Finding.{FoundWith}
+use Rattle.answer_fits.specs.Reasons.{MayType}
+use Rattle.answer_fits.proofs.Piecing.{serves_step, serves_then}
+use Rattle.kind_words.proofs.KindFacts.{read_is}
+use Rattle.kind_words.proofs.KindWriting.{fields_write, resumed_is}
+use Rattle.flush_words.proofs.Lasting.{last_left}
+use Rattle.table_entries.specs.Asking.{of_entries}
+use Rattle.table_entries.proofs.PiecesTaking.{Goes, asks_still, goes_back, goes_came, goes_kind}
+use Rattle.table_releases.specs.Between.{Releases, SeesKind}
+use Rattle.table_releases.specs.declared.entries.Released.{Released}
+use Rattle.table_releases.proofs.FrameSeen.{found_elsewhere, found_kind, found_work, from_seen, kind_post, now_seen}
+use Rattle.table_releases.proofs.Pieces.{asks_typed, goes_shed_kind, goes_step, look_goes, passed_by}
+
+no_pin : (f : ℕ) (p : Bool) → pin_deed f p p ≡ []
+no_pin f true = refl
+no_pin f false = refl
+
+module _ (b v : PortValue) (f i : ℕ) (t : PageType) (word g : ℕ) (want : PageType) (x : ℕ) (l : SeesKind b v f i t word g want x) (owner pages : ℕ) where
+  from_goes : Goes b l.from f i owner pages []
+  from_goes = look_goes b l.from f i t word l.sees.sees owner pages
+
+  pub kind_goes : Goes b v f i owner pages []
+  kind_goes = goes_kind b l.from f i owner pages [] from_goes v g x l.look
+
+  look_came : Came l.from v
+  look_came = moves_came l.from v (Kind g) Load kinds.Look None x l.look
+
+  pub kind_asks : Asked b.post.machine b.post.vcpu (of_entries owner pages) (Met b v) g owner (Some want)
+  kind_asks = asks_still b l.from f i owner pages [] from_goes v g (Some want) (asks_typed b l.from f i t word l.sees.sees owner pages g want l.sees.asks) look_came
+
+  found_there : FoundWith (Met b v) (Kind g) x l.from.holdings
+  unfolding moment_of
+  found_there =
+      record { moment = moment_of l.from (Kind g) Load kinds.Look None x; was = met_after b l.from v _ (goes_came b l.from f i owner pages [] from_goes) (moves_met l.from v (Kind g) Load kinds.Look None x l.look); place = refl; word = refl; hand = refl }
+
+  -- ---- another vCPU has it in its hand
+  pub busy_releases : (k : KindWord) → kind_read x ≡ Some k → k.validated ≡ false → k.partial ≡ false → Releases b v f i owner pages (Err (Paused (Busy g x)))
+  unfolding Stops
+  busy_releases k read off none =
+      let work = found_work b v f i t word g want x l k read off none in
+      let fields = fields_of x k read in
+      record {
+        serves = kind_goes.serves;
+        stops = inl (
+          owner,
+          Some want,
+          l.from.holdings,
+          kind_asks,
+          found_there,
+          passed_by b l.from f i t word l.sees.sees owner pages g want l.sees.asks (Met b v) (λ m a. met_before b l.from v m a look_came) l.from.holdings (from_seen b v f i t word g want x l),
+          rw fields (rw work refl),
+          rw (fields, found_kind b v f i t word g want x l k read) (when_eq _ _ refl),
+          found_elsewhere b v f i t word g want x l k read work,
+        );
+        kinds = tt;
+        looks = kind_goes.looks;
+      }
+
+  -- ---- it is partial, and one exchange is to bring it into the own works
+  module _ (k : KindWord) (read : kind_read x ≡ Some k) (partial : IsTrue (is_partial k)) (w : PortValue) (found : ℕ) (change : Moves v w (Kind g) (Cas (kind_write k) (kind_write (resumed_kind k))) kinds.Kind None found) where
+    is_now : IsTrue (is_kind k)
+    is_now = (read_is x k read).0
+
+    is_next : IsTrue (is_kind (resumed_kind k))
+    is_next = resumed_is k is_now partial
+
+    may_type : MayType b.post.machine b.post.vcpu (of_entries owner pages) (Met b w) g (Cas (kind_write k) (kind_write (resumed_kind k))) found v.holdings
+    may_type =
+        inl (
+          owner,
+          subst (λ (y : PageType). Asked b.post.machine b.post.vcpu (of_entries owner pages) (Met b w) g owner (Some y))
+              (sym (ap (λ (y : KindWord). y.kind) (fields_write (resumed_kind k) is_next) ∙ found_kind b v f i t word g want x l k read))
+              (asks_still b v f i owner pages [] kind_goes w g (Some want) kind_asks (moves_came v w (Kind g) (Cas (kind_write k) (kind_write (resumed_kind k))) kinds.Kind None found change)),
+          passed_by b l.from f i t word l.sees.sees owner pages g want l.sees.asks (Met b w)
+              (λ m a. met_before b l.from w m a (came_trans l.from v w look_came (moves_came v w (Kind g) (Cas (kind_write k) (kind_write (resumed_kind k))) kinds.Kind None found change))) v.holdings (now_seen b v f i t word g want x l),
+        )
+
+    tried : Serves b w (of_entries owner pages) (deeds_by (Kind g) (Cas (kind_write k) (kind_write (resumed_kind k))) kinds.Kind found v.holdings ++ [])
+    tried = serves_step b v w (of_entries owner pages) [] (Kind g) (Cas (kind_write k) (kind_write (resumed_kind k))) kinds.Kind None found kind_goes.serves change may_type
+
+    no_deed : exchanged (Kind g) (kind_write k) (kind_write (resumed_kind k)) ≡ []
+    no_deed =
+        ap (λ (y : KindWord). pin_deed g y.pinned (kind_fields (kind_write (resumed_kind k))).pinned) (fields_write k is_now) ∙ ap (λ (y : KindWord). pin_deed g k.pinned y.pinned) (fields_write (resumed_kind k) is_next) ∙ no_pin g k.pinned
+
+    pub resumed_goes : found ≡ kind_write k → Goes b w f i owner pages []
+    resumed_goes at =
+        goes_step b v w f i owner pages [] (Kind g) (Cas (kind_write k) (kind_write (resumed_kind k))) kinds.Kind None found [] kind_goes change (λ h j same. let y = same in cc)
+        (subst (λ ds. Serves b w (of_entries owner pages) (ds ++ []))
+        (ap (λ y. if y then exchanged (Kind g) (kind_write k) (kind_write (resumed_kind k)) else (Misses (Kind g) ∷ [])) (when_eq found (kind_write k) at) ∙ no_deed) tried)
+
+    missed_serves : (place : ℕ) → place ≡ number (sizes_of b.post.machine) (Kind g) → found ≢ kind_write k → Serves b w (of_entries owner pages) (missed_at (place_at (sizes_of b.post.machine) place))
+    missed_serves place at off =
+        let there : place_at (sizes_of b.post.machine) place ≡ Kind g = ap (λ y. place_at (sizes_of b.post.machine) y) at ∙ place_back (sizes_of b.post.machine) (Kind g) (subst (λ (p : Post). IsTrue (is_place (sizes_of p.machine) (Kind g))) (kind_post b v f i t word g want x l) change.may.place) in
+        rw there
+        (subst (λ y. Serves b w (of_entries owner pages) ((if y then exchanged (Kind g) (kind_write k) (kind_write (resumed_kind k)) else (Misses (Kind g) ∷ [])) ++ [])) (when_ne found (kind_write k) off) tried)
+
+    just_looked : last_since (sizes_of b.post.machine) (length l.from.holdings.steps) (Kind g) v.holdings.steps ≡ Some x
+    unfolding left_by
+    just_looked =
+        subst (λ (p : Post). last_since (sizes_of p.machine) (length l.from.holdings.steps) (Kind g) v.holdings.steps ≡ Some x) (ap (λ (q : PortValue). q.post) l.sees.sees.hand)
+        (last_left l.from v (Kind g) Load kinds.Look None x l.look (length l.from.holdings.steps) (omega arith))
+
+    pub lost_releases : (place : ℕ) → place ≡ number (sizes_of b.post.machine) (Kind g) → found ≢ kind_write k → Releases b w f i owner pages (Err (Paused (Lost place x found)))
+    unfolding Stops moment_of
+    lost_releases place at off =
+        record {
+          serves = missed_serves place at off;
+          stops = (
+            Kind g,
+            at,
+            (λ e. cc),
+            (
+              record {
+                before = moment_of l.from (Kind g) Load kinds.Look None x;
+                exchange = moment_of v (Kind g) (Cas (kind_write k) (kind_write (resumed_kind k))) kinds.Kind None found;
+                new = kind_write (resumed_kind k);
+                was_before = met_before b v w _ (met_after b l.from v _ (goes_came b l.from f i owner pages [] from_goes) (moves_met l.from v (Kind g) Load kinds.Look None x l.look)) (moves_came v w (Kind g) (Cas (kind_write k) (kind_write (resumed_kind k))) kinds.Kind None found change);
+                was_exchange = met_after b v w _ (goes_came b v f i owner pages [] kind_goes) (moves_met v w (Kind g) (Cas (kind_write k) (kind_write (resumed_kind k))) kinds.Kind None found change);
+                place_before = refl;
+                place = refl;
+                act = ap (λ y. Cas y (kind_write (resumed_kind k))) (sym (read_is x k read).1);
+                word = refl;
+                last = just_looked;
+                other = λ e. off (e ∙ (read_is x k read).1);
+              },
+              subst (λ y. MayType b.post.machine b.post.vcpu (of_entries owner pages) (Met b w) g (Cas y (kind_write (resumed_kind k))) found v.holdings) (sym (read_is x k read).1) may_type,
+            ),
+          );
+          kinds = tt;
+          looks = (goes_step b v w f i owner pages [] (Kind g) (Cas (kind_write k) (kind_write (resumed_kind k))) kinds.Kind None found _ kind_goes change (λ h j same. let y = same in cc) tried).looks;
+        }
+
+  -- ---- it is live: shed by a look at it again, and its type count given back
+  module _ (w : PortValue) (upto y : ℕ) (look : Moves v w (Kind g) Load kinds.Look (Some (Shed f upto)) y) where
+    live_goes : Goes b w f i owner pages []
+    live_goes = goes_shed_kind b v w f i owner pages [] kind_goes f upto y g look
+
+    live_asks : Asked b.post.machine b.post.vcpu (of_entries owner pages) (Met b w) g owner (Some want)
+    live_asks = asks_still b v f i owner pages [] kind_goes w g (Some want) kind_asks (moves_came v w (Kind g) Load kinds.Look (Some (Shed f upto)) y look)
+
+    pub back_releases : (z : PortValue) (a : Released) → Serves w z (of_back g) [] → Releases b z f i owner pages (Ok a)
+    back_releases z a back =
+        let goes = goes_back b w f i owner pages [] live_goes z g (Some want) live_asks back in
+        record { serves = goes.serves; stops = tt; kinds = tt; looks = goes.looks }
+
+    pub two_back_releases : (z q : PortValue) (a : Released) → Serves w z (of_back g) [] → Serves z q (of_back g) [] → Releases b q f i owner pages (Ok a)
+    two_back_releases z q a one two = back_releases q a (serves_then w z q (of_back g) [] [] one two)

@@ -1,0 +1,4 @@
+pub mod Tops
+pub mod Found
+pub mod Between
+pub mod Plain
