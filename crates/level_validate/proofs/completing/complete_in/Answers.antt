@@ -1,6 +1,5 @@
-use Rattle.std.proofs.Common.{◌≡◌, ◌∷◌, ◌<◌, true, false, None, refl, sym, ap, subst}
+use Rattle.std.proofs.Common.{◌∷◌, ◌<◌, refl, sym, subst}
 use Rattle.xp_board.specs.Told.{Post}
-use Rattle.step_maker.specs.Moves.{Came}
 use Rattle.step_maker.proofs.Coming.{came_post, came_trans, moves_came}
 use Rattle.level_validate.proofs.Completed.{live_hand, live_leaves}
 use Rattle.level_validate.proofs.LeavingTables.{top_inside}

@@ -1,4 +1,4 @@
-use Rattle.std.proofs.Common.{◌∷◌, [], refl}
+use Rattle.std.proofs.Common.{[], refl}
 use Rattle.step_maker.proofs.Coming.{moves_came}
 use Rattle.level_validate.proofs.Completed.{live_hand, live_leaves, outer_live}
 use Rattle.level_validate.proofs.LeavingTables.{top_inside}
