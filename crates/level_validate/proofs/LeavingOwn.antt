@@ -45,6 +45,7 @@ use Rattle.level_validate.specs.Unwinding.{left_so}
 use Rattle.level_validate.proofs.LeavingLent.{around_taken}
 use Rattle.level_validate.proofs.LeavingTables.{UnderWay, reaches_under, top, top_gone, top_spelled, top_typed}
 use Rattle.level_validate.proofs.StandsFacts.{TopTable, TopTyped, refs_own, stands_by, stands_post, tables_later, tables_top, top_known, typed_later}
+use Rattle.level_validate.proofs.Looking.{changed_first}
 
 partial_as : (t : PageType) (p : ℕ) → IsTrue (is_kind (partial_kind t false false p 0)) → is_partial_as t (kind_write (partial_kind t false false p 0)) ≡ true
 partial_as t p is = rw (fields_write (partial_kind t false false p 0) is) (same_type t)
@@ -76,10 +77,6 @@ module _ (v w : PortValue) (owner : ℕ) (t : TableWork) (ts : List TableWork) (
 
     pub kept_stands : t.recorded ≡ true → Carries v d owner ts
     kept_stands old = kept_by (around_taken (sizes_of v.post.machine) w.holdings d.holdings t ts (top v w owner t ts s).others (came_grows w d came) (came_longer w d came) old (top v w owner t ts s).around)
-
-changed_newest : (f : ℕ) (e : Work) (es ws : List Work) (c : Work → Work) → e.frame ≡ f → ws ≡ e ∷ es → changed_work f c ws ≡ c e ∷ es
-unfolding changed_by
-changed_newest f e es ws c is are = ap (λ xs. changed_work f c xs) are ∙ ap (λ b. if b then (c e ∷ es) else (e ∷ changed_work f c es)) (when_eq e.frame f is)
 
 -- ---- into the entry of the table around it
 module _ (v w : PortValue) (owner : ℕ) (t u : TableWork) (us : List TableWork) (s : Carries v w owner (t ∷ u ∷ us)) (own : t.own ≡ true) (new : t.recorded ≡ false) (d : PortValue) (found : ℕ)
@@ -180,7 +177,7 @@ module _ (v w : PortValue) (owner : ℕ) (t u : TableWork) (us : List TableWork)
       record_left d.post.machine u.frame u.done d.holdings own_records stays_unsettled refl
       ∙ ap (λ y. record (demand_out y d.holdings) { works = changed_work u.frame recorded_now d.holdings.works }) own_asks
       ∙ ap (λ ys. record d.holdings { typed = ys; works = changed_work u.frame recorded_now d.holdings.works }) (without_newest (λ (y : TypedReference). y.frame) t.frame my_ref mine.others d.holdings.typed refl typed_d)
-      ∙ ap (λ ws. record d.holdings { typed = mine.others; works = ws }) (changed_newest u.frame outer.work outer.others d.holdings.works recorded_now outer.is.frame works_d)
+      ∙ ap (λ ws. record d.holdings { typed = mine.others; works = ws }) (changed_first u.frame recorded_now outer.work outer.others d.holdings.works works_d outer.is.frame)
 
   recorded_work : IsTableWork z u (recorded_now outer.work)
   unfolding recorded_now
