@@ -3,7 +3,7 @@
 ghost use Rattle.std.specs.Prelude.{◌≡◌, ◌≢◌, ◌<◌, length, Some, None};
 ghost use Rattle.xp_words.specs.Places.{sizes_of};
 ghost use Rattle.xp_board.specs.Readings.{domain_of};
-ghost use Rattle.step_maker.specs.Holds.{Holds, Rests};
+ghost use Rattle.step_maker.specs.Holds.{Holds, MayWork, Rests};
 ghost use Rattle.step_maker.specs.Moves.{Came};
 ghost use Rattle.vcpu_turn.specs.Turning.{Idles};
 ghost use Rattle.xp_machine.specs.Ready.{TakesFresh};
@@ -152,6 +152,13 @@ fn count_twice<P: Port>(port: &mut P, f: u64, domain: u16) -> Option<u64>
     if take_writable(port, frame, domain).is_err() {
         return None;
     }
+    count_more(port, f, domain)
+}
+
+// How many type counts a live frame has with one more.
+fn count_more<P: Port>(port: &mut P, f: u64, domain: u16) -> Option<u64>
+    requires may { MayWork (P.value port.old) }
+{
     let Ok(again) = get_ref(port, f, domain) else {
         return None;
     };

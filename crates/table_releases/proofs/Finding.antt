@@ -33,6 +33,7 @@ use Rattle.table_releases.specs.Between.{SeesKind, SeesLast}
 use Rattle.table_releases.specs.Found.{ByForm, LiveFound, ReleasesBy, ReleasesFound}
 use Rattle.table_releases.specs.declared.entries.Released.{Released}
 use Rattle.table_releases.specs.declared.entries.Released.TheVariants.{Given, Opened}
+use Rattle.frame_types.proofs.Wider.{drops_wider}
 
 -- ---- a word that a step found
 pub step_found : (v w : PortValue) (p : Place) (a : Act) (kind : StepKind) (mark : Option Mark) (x : ℕ) → Moves v w p a kind mark x → FoundAt (Met v w) p x
@@ -93,25 +94,10 @@ module _ (b v : PortValue) (f i : ℕ) (t : PageType) (word g : ℕ) (want : Pag
         kind_found z answer (came_trans v w z (moves_came v w (Kind g) Load kinds.Look mark y look) came)
         (subst (λ r. ByForm b z g want x answer r) (sym (ap (λ c. if c then Live else form_of (record (kind_fields x) { validated = false })) live)) (subst (LiveFound b z g want answer) (sym is) way))
 
-    lowers_later : (z : PortValue) (last : Bool) (cs : List (Place × Act)) → LowersBy w z g want last cs → LowersBy b z g want last cs
-    lowers_later z true cs a = (a.0, found_later b w z Clock a.0 live_came a.1, a.2)
-    lowers_later z false cs a = a
-
     -- a frame without entries
     pub plain_found : (z : PortValue) → is_table want ≡ false → DropsPlain w z g want → ReleasesFound b z f i t (Ok Given)
     plain_found z plain d =
-        live_found z (Ok Given) false plain (changes_came w z (d.back ++ d.lowering) d.changed) (
-          refl,
-          record {
-            word = d.word;
-            found = found_later b w z (Kind g) d.word live_came d.found;
-            lowering = d.lowering;
-            lowers = lowers_later z ((kind_fields d.word).number == 1) d.lowering d.lowers;
-            back = d.back;
-            put = d.put;
-            changed = changes_behind b w z (d.back ++ d.lowering) live_changes d.changed;
-          },
-        )
+        live_found z (Ok Given) false plain (changes_came w z d.0 d.2) (refl, (d.0, drops_wider b w z z live_came (came_self z) g want d.0 d.1, changes_behind b w z d.0 live_changes d.2))
 
     -- a table
     module _ (z : PortValue) (last : Bool) (d : DropsType w z g last) (table : is_table want ≡ true) where

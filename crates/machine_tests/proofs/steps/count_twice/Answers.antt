@@ -1,5 +1,3 @@
-use Rattle.std.proofs.Common.{rules}
-use Rattle.xp_words.proofs.KindLaws.{kind_write-read}
 use Rattle.frame_words.specs.Refs.{took}
 use Rattle.machine_tests.proofs.Testing.{no_type, no_work}
 use Rattle.machine_tests.proofs.steps.count_twice.Goals as goal
@@ -9,6 +7,3 @@ take_writable-requires-clause-apart g c = no_work _ (g.P.Port.value c.args.port.
 
 pub take_writable-requires-clause-untyped : goal.take_writable-requires-clause-untyped
 take_writable-requires-clause-untyped g c = no_type _ (g.P.Port.value c.args.port.now) (g.P.Port.value c.get_ref.new.port) (took c.in-Ok.frame c.args.domain (g.P.Port.value c.args.port.now).holdings) c.in-Ok.ensures.hand c.requires.rests.empty.typed
-
-pub count_type-requires-clause-is : goal.count_type-requires-clause-is
-count_type-requires-clause-is g c = (kind_write-read c.look_kind.result c.in-Some.kind (search rules)).0
