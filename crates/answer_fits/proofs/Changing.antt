@@ -1,19 +1,14 @@
--- What single steps found, and what they change.
-use Rattle.std.proofs.Common.{◌≡◌, ◌≢◌, ℕ, ◌&&◌, not, if◌then◌else◌, true, false, List, [], ◌∷◌, Option, refl, subst, append-nil}
+-- What single steps found.
+use Rattle.std.proofs.Common.{ℕ, Option, refl}
 use Rattle.xp_words.specs.declared.place.Place.{Place}
 use Rattle.xp_board.specs.declared.step.Act.{Act}
-use Rattle.xp_board.specs.declared.step.Act.TheVariants.{Load, Cas}
 use Rattle.xp_board.specs.declared.step.Mark.{Mark}
 use Rattle.xp_board.specs.declared.step.StepKind.{StepKind}
 use Rattle.xp_board.specs.Told.{PortValue}
-use Rattle.board_lemmas.proofs.Sums.{when_eq, when_ne}
 use Rattle.step_maker.specs.Moves.{Moves, Came, Met}
 use Rattle.step_maker.proofs.Coming.{moment_of, moves_met, met_before, met_after}
-use Rattle.answer_fits.specs.Answers.{Changes, is_change, is_flush_word}
 use Rattle.answer_fits.specs.Finding.{FoundAt, Did}
-use Rattle.answer_fits.proofs.Piecing.{changes_step, changes_then}
 
--- ---- what was found
 module _ (v w : PortValue) (p : Place) (a : Act) (k : StepKind) (mark : Option Mark) (x : ℕ) (m : Moves v w p a k mark x) where
   pub moves_found : FoundAt (Met v w) p x
   unfolding moment_of
@@ -28,39 +23,3 @@ found_before v u w p x came a = record { moment = a.moment; was = met_before v u
 
 pub found_after : (v u w : PortValue) (p : Place) (x : ℕ) → Came v u → FoundAt (Met u w) p x → FoundAt (Met v w) p x
 found_after v u w p x came a = record { moment = a.moment; was = met_after v u w a.moment came a.was; place = a.place; word = a.word }
-
--- by a piece within others
-pub found_wider : (v a x w : PortValue) → Came v a → Came x w → (p : Place) (word : ℕ) → FoundAt (Met a x) p word → FoundAt (Met v w) p word
-found_wider v a x w before after p word found = found_before v x w p word after (found_after v a x p word before found)
-
--- ---- what is changed
--- a piece behind one that changes nothing
-pub changes_behind : (v u w : PortValue) (cs : List (Place × Act)) → Changes v u [] → Changes u w cs → Changes v w cs
-changes_behind v u w cs before after = subst (Changes v w) (append-nil cs) (changes_then v u w [] cs before after)
-
-module _ (v u w : PortValue) (cs : List (Place × Act)) (p : Place) (kind : StepKind) (mark : Option Mark) (before : Changes v u cs) where
-  -- a look
-  pub changes_look : (found : ℕ) → Moves u w p Load kind mark found → Changes v w cs
-  changes_look found m = changes_step v u w cs p Load kind mark found before m
-
-  module _ (e x found : ℕ) (m : Moves u w p (Cas e x) kind mark found) where
-    -- an exchange that was lost
-    pub changes_lost : found ≢ e → Changes v w cs
-    changes_lost off = subst (λ b. Changes v w (if b && not (is_flush_word p) then ((p, Cas e x) ∷ cs) else cs)) (when_ne found e off) (changes_step v u w cs p (Cas e x) kind mark found before m)
-
-    -- one that was not
-    pub changes_exchange : found ≡ e → is_flush_word p ≡ false → Changes v w ((p, Cas e x) ∷ cs)
-    changes_exchange at plain =
-        subst (λ b. Changes v w (if true && not b then ((p, Cas e x) ∷ cs) else cs)) plain
-        (subst (λ b. Changes v w (if b && not (is_flush_word p) then ((p, Cas e x) ∷ cs) else cs)) (when_eq found e at) (changes_step v u w cs p (Cas e x) kind mark found before m))
-
-  -- a word of flushes
-  pub changes_flush : (a : Act) (found : ℕ) → is_flush_word p ≡ true → Moves u w p a kind mark found → Changes v w cs
-  changes_flush a found flush m = subst (λ b. Changes v w (if b then ((p, a) ∷ cs) else cs)) (none_of (is_change a found) (is_flush_word p) flush) (changes_step v u w cs p a kind mark found before m)
-    where
-      none_of : (b c : _) → c ≡ true → (b && not c) ≡ false
-      none_of b c e = rw e (and_false b)
-        where
-          and_false : (b : _) → (b && false) ≡ false
-          and_false true = refl
-          and_false false = refl

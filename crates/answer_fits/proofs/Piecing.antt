@@ -1,5 +1,5 @@
 -- Pieces of steps one behind the other, and what they show of an answer.
-use Rattle.std.proofs.Common.{◌≡◌, ℕ, List, [], ◌∷◌, ◌++◌, ◌==◌, ◌&&◌, not, if◌then◌else◌, Bool, true, false, Option, Some, None, IsTrue, arith, inl, inr, refl, sym, ap, ◌∙◌, subst, append_assoc, append-nil}
+use Rattle.std.proofs.Common.{◌≡◌, ℕ, List, [], ◌∷◌, ◌++◌, ◌==◌, Option, Some, None, IsTrue, arith, inl, inr, refl, sym, ap, ◌∙◌, subst, append_assoc, append-nil}
 use Rattle.xp_words.specs.Machine.{Machine}
 use Rattle.std.proofs.lemmas.Bool.Decides.{nat_tests}
 use Rattle.xp_words.specs.declared.place.Place.{Place}
@@ -17,7 +17,7 @@ use Rattle.xp_board.specs.Lists.{EachOf}
 use Rattle.xp_board.specs.Told.{Post, PortValue}
 use Rattle.step_maker.specs.Moves.{Moves, Moment, Came, Met}
 use Rattle.step_maker.proofs.Coming.{ran_more, came_post, came_trans, moment_of, moves_by, moves_came, moves_ran, met_before, met_after}
-use Rattle.answer_fits.specs.Answers.{Changes, changes, is_change, is_flush_word, Deed, deeds_by, marked_by, deeds, Serves, Causes, Stops}
+use Rattle.answer_fits.specs.Answers.{Deed, deeds_by, marked_by, deeds, Serves, Causes, Stops}
 use Rattle.answer_fits.specs.Asked.{Request, of_frame, IsFor, IsDemandOf, demand_held, named_type, Asked, IsAsked, back, of_back, IsNaming, Within, NoMore, named, demanded, walked, context, entered, of_old}
 use Rattle.answer_fits.specs.Finding.{Finding}
 use Rattle.answer_fits.specs.Reasons.{HasReason}
@@ -118,37 +118,6 @@ stops_before v u w r e a b =
 pub stops_within : (v w : PortValue) (r q : Request) (e : Stop) → Within v.post.machine v.post.vcpu r (Met v w) q (Met v w) → Stops v w r e → Stops v w q e
 unfolding Stops
 stops_within v w r q e within a = causes v.post.machine v.post.vcpu r (Met v w) q (Met v w) within v.holdings v.holdings (no_more q v.holdings) e a
-
--- ---- changes
-pub changes_nothing : (v : PortValue) → Changes v v []
-unfolding Changes
-changes_nothing v = ([], refl, refl)
-
-pub changes_step : (v u w : PortValue) (cs : List (Place × Act)) (p : Place) (a : Act) (kind : StepKind) (mark : Option Mark) (found : ℕ) → Changes v u cs → Moves u w p a kind mark found →
-    Changes v w (if is_change a found && not (is_flush_word p) then ((p, a) ∷ cs) else cs)
-unfolding Changes moment_of
-changes_step v u w cs p a kind mark found before m = (
-  moment_of u p a kind mark found ∷ before.0,
-  (u, before.1, moves_by u w p a kind mark found m),
-  ap (λ (xs : List (Place × Act)). if is_change a found && not (is_flush_word p) then ((p, a) ∷ xs) else xs) before.2,
-)
-
-maybe_more : {A : Type 0} (b : Bool) (x : A) (xs ys zs : List A) → xs ≡ ys ++ zs → (if b then (x ∷ xs) else xs) ≡ (if b then (x ∷ ys) else ys) ++ zs
-maybe_more true x xs ys zs e = ap (λ us. x ∷ us) e
-maybe_more false x xs ys zs e = e
-
-pub changes_append : (xs ys : List Moment) → changes (ys ++ xs) ≡ changes ys ++ changes xs
-changes_append xs [] = refl
-changes_append xs (y ∷ ys) = maybe_more (is_change y.act y.found && not (is_flush_word y.place)) (y.place, y.act) (changes (ys ++ xs)) (changes ys) (changes xs) (changes_append xs ys)
-
--- a piece behind another
-pub changes_then : (v u w : PortValue) (cs ds : List (Place × Act)) → Changes v u cs → Changes u w ds → Changes v w (ds ++ cs)
-unfolding Changes
-changes_then v u w cs ds a b = (b.0 ++ a.0, ran_more v u w a.0 b.0 a.1 b.1, changes_append a.0 b.0 ∙ (ap (λ xs. xs ++ changes a.0) b.2 ∙ ap (λ xs. ds ++ xs) a.2))
-
-pub changes_came : (v w : PortValue) (cs : List (Place × Act)) → Changes v w cs → Came v w
-unfolding Changes Came
-changes_came v w cs a = (a.0, a.1)
 
 -- steps, and one more behind them
 pub serves_step : (v u w : PortValue) (r : Request) (ds : List Deed) (p : Place) (a : Act) (kind : StepKind) (mark : Option Mark) (found : ℕ) → Serves v u r ds → Moves u w p a kind mark found →

@@ -1,5 +1,5 @@
 -- The steps that a call made, and what they show of its answer.
-use Rattle.std.specs.Prelude.{◌≡◌, ◌&&◌, ◌||◌, ◌==◌, nat_lt, not, is_some, if◌then◌else◌, ℕ, Bool, true, false, List, [], ◌∷◌, ◌++◌, Option, Some, Result, Ok, Err}
+use Rattle.std.specs.Prelude.{◌≡◌, ◌&&◌, ◌||◌, ◌==◌, nat_lt, not, is_some, if◌then◌else◌, ℕ, Bool, List, [], ◌∷◌, ◌++◌, Option, Some, Result, Ok, Err}
 use Rattle.xp_board.specs.declared.step.StepKind.{StepKind}
 use Rattle.xp_board.specs.declared.step.StepKind.TheVariants as steps
 use Rattle.xp_board.specs.declared.step.Mark.{Mark}
@@ -13,7 +13,7 @@ use Rattle.xp_words.specs.declared.reply.Pause.TheVariants.{Lost}
 use Rattle.xp_words.specs.declared.reply.Stop.{Stop}
 use Rattle.xp_words.specs.declared.reply.Stop.TheVariants.{Refused, Paused}
 use Rattle.xp_board.specs.declared.step.Act.{Act}
-use Rattle.xp_board.specs.declared.step.Act.TheVariants.{Load, Cas, Store}
+use Rattle.xp_board.specs.declared.step.Act.TheVariants.{Cas, Store}
 use Rattle.xp_board.specs.declared.holdings.Holdings.{Holdings}
 use Rattle.xp_board.specs.Hands.{hand, work_on, lock_on, claim_of}
 use Rattle.xp_board.specs.Lists.{EachOf}
@@ -134,28 +134,6 @@ pub record Piece (v w : PortValue) (r : Request) (ds : List Deed) (ms : List Mom
 
 unfoldable pub Serves : PortValue → PortValue → Request → List Deed → Type 0
 Serves v w r ds = (ms : List Moment) × Piece v w r ds ms
-
--- ---- what the steps change
--- a load changes nothing, and an exchange that is lost does not
-abbrev pub is_change : Act → ℕ → Bool
-is_change Load found = false
-is_change (Cas e w) found = found == e
-is_change _ found = true
-
--- the clock, and the words of flushes: what a vCPU was asked for, and what it did
-abbrev pub is_flush_word : Place → Bool
-is_flush_word Clock = true
-is_flush_word (Vcpu v k) = (k == 4) || (k == 5)
-is_flush_word _ = false
-
--- all changes but those of flushes, the newest first
-abbrev pub changes : List Moment → List (Place × Act)
-changes [] = []
-changes (m ∷ ms) = if is_change m.act m.found && not (is_flush_word m.place) then ((m.place, m.act) ∷ changes ms) else changes ms
-
--- from v to w the port made steps that change just these
-unfoldable pub Changes : PortValue → PortValue → List (Place × Act) → Type 0
-Changes v w cs = (ms : List Moment) × Ran v ms w × (changes ms ≡ cs)
 
 -- ---- answers
 -- why a call ends otherwise than asked

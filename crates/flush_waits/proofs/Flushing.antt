@@ -17,9 +17,9 @@ use Rattle.step_maker.proofs.Coming.{came_post, came_trans}
 use Rattle.answer_fits.specs.Asked.{Request}
 use Rattle.answer_fits.specs.Reasons.{AwaitsStamp, NeedsFlush, needed}
 use Rattle.answer_fits.proofs.Alikes.{alike_trans}
-use Rattle.answer_fits.proofs.Piecing.{changes_then, serves_came}
+use Rattle.answer_fits.proofs.Piecing.{serves_came}
 use Rattle.flush_words.specs.Flushing.{FlushesOwn, spent}
-use Rattle.flush_words.proofs.Flushed.{Flushed, flushed_clear, flushed_since, marked_less, own_came, own_changes, own_flushed}
+use Rattle.flush_words.proofs.Flushed.{Flushed, flushed_clear, flushed_since, marked_less, own_came, own_flushed}
 use Rattle.flush_words.proofs.FlushServes.{awaited_flush, own_serves, own_stops}
 use Rattle.flush_words.proofs.FlushTwin.{own_alike}
 use Rattle.flush_waits.specs.declared.Awaiting.{Awaiting}
@@ -61,7 +61,6 @@ module _ (v u w : PortValue) (a : Awaiting) (x : ℕ) (look : Moves v u (flushed
   own_clears answer f hand =
       record {
         came = came_trans v u w first.came (own_came u w answer f);
-        changes = changes_then v u w [] [] first.changes (own_changes u w answer f);
         serves = λ t r ds before awaits.
             own_serves t u w r ds (first.serves t r ds before awaits) (needed (needs t r (serves_came t v r ds before) awaits)) answer f;
         hand = flushed_then v u w first.hand hand;

@@ -21,8 +21,7 @@ use Rattle.answer_fits.specs.Reasons.{AwaitsStamp, LastAtMost, MayAskFor, MayRea
 use Rattle.answer_fits.specs.Twins.{Alike, IsAlike}
 use Rattle.answer_fits.proofs.Alikes.{alike_same, alike_trans, same_alike}
 use Rattle.answer_fits.proofs.Growing.{did, found}
-use Rattle.answer_fits.proofs.Piecing.{changes_nothing, changes_then, same_request, serves_came, serves_step}
-use Rattle.answer_fits.proofs.Changing.{changes_flush, changes_look}
+use Rattle.answer_fits.proofs.Piecing.{same_request, serves_came, serves_step}
 use Rattle.flush_words.proofs.FlushServes.{awaited_more}
 use Rattle.flush_waits.specs.declared.Awaiting.{Awaiting}
 use Rattle.flush_waits.specs.Clearing.{Clears}
@@ -63,14 +62,13 @@ alike_itself v = same_alike (told_word v) (told_word v) (λ q. refl)
 pub clears_nothing : (v : PortValue) (a : Awaiting) → Clears v v a
 unfolding ServesBehind
 clears_nothing v a =
-    record { came = came_self v; changes = changes_nothing v; serves = λ x r ds before awaits. before; hand = refl; plain = λ tells. alike_itself v }
+    record { came = came_self v; serves = λ x r ds before awaits. before; hand = refl; plain = λ tells. alike_itself v }
 
 pub clears_then : (v u w : PortValue) (a : Awaiting) → Clears v u a → Clears u w a → Clears v w a
 unfolding ServesBehind
 clears_then v u w a b c =
     record {
       came = came_trans v u w b.came c.came;
-      changes = changes_then v u w [] [] b.changes c.changes;
       serves = λ x r ds before awaits. c.serves x r ds (b.serves x r ds before awaits) (awaited_later x v u r (Some a.owner) a.stamp b.came awaits);
       hand = flushed_then v u w b.hand c.hand;
       plain = λ tells. alike_trans (told_word w) (told_word u) (told_word v) (c.plain (came_telling v u b.came ∙ tells)) (b.plain tells);
@@ -82,7 +80,6 @@ unfolding ServesBehind
 clears_look v w p x a free m same =
     record {
       came = moves_came v w p Load kinds.Look None x m;
-      changes = changes_look v v w [] p kinds.Look None (changes_nothing v) x m;
       serves = λ u r ds before awaits. serves_step u v w r ds p Load kinds.Look None x before m (free r);
       hand = same_flushed v w same;
       plain = λ tells. same_alike (told_word w) (told_word v) (load_tells v w p kinds.Look None x m tells);
@@ -105,7 +102,6 @@ clears_ask v u w k x a first reach last m same =
     let all = came_trans v u w first.came more in
     record {
       came = all;
-      changes = changes_flush v u w [] (asked_of k) kinds.Ask None first.changes (Max a.stamp) x refl m;
       serves = λ t r ds before awaits.
           let to = serves_came t v r ds before in
           let post = came_post t v to in

@@ -16,7 +16,6 @@ use Rattle.xp_board.specs.Readings.{domain_of, has_ever}
 use Rattle.xp_board.specs.Told.{PortValue, is_telling, told_word}
 use Rattle.step_maker.specs.Holds.{FlushedSame, Same}
 use Rattle.step_maker.specs.Moves.{Came, Met, Moves}
-use Rattle.answer_fits.specs.Answers.{Changes}
 use Rattle.answer_fits.specs.Finding.{FoundAt}
 use Rattle.answer_fits.specs.Pauses.{AskedTo, Clear}
 use Rattle.answer_fits.specs.Reasons.{MayReach}
@@ -30,11 +29,9 @@ abbrev pub PastOn : Machine → ℕ → ℕ → Holdings → Type 0
 PastOn n f u h =
     (e : Work) → work_on f h.works ≡ Some e → IsTrue (is_past (sizes_of n) e.since (kind_fields e.word).number u h.steps) ⊎ PassedOver n e.since e.frame u h
 
--- From v to w the port made steps that serve whatever awaits the stamp, and change only words of flushes. Beside them it is the
--- same, but for flushes.
+-- From v to w the port made steps that serve whatever awaits the stamp. Beside them it is the same, but for flushes.
 pub record Clears (v w : PortValue) (a : Awaiting) : Type 0 where
   pub came : Came v w
-  pub changes : Changes v w []
   pub serves : ServesBehind v w a.owner a.stamp
   pub hand : FlushedSame v w
   pub plain : is_telling v ≡ true → Alike (told_word w) (told_word v)

@@ -4,12 +4,12 @@
 ghost use Rattle.std.specs.Prelude.{◌≡◌, ◌≢◌, ◌<◌, [], true, Ok, IfOk, IfErr, length};
 ghost use Rattle.xp_board.specs.Readings.{has_ever};
 ghost use Rattle.xp_board.specs.Told.{is_telling, told_word};
-ghost use Rattle.answer_fits.specs.Answers.{Changes};
+ghost use Rattle.answer_fits.specs.Visits.{Does};
 ghost use Rattle.answer_fits.specs.Twins.{Alike};
 ghost use Rattle.step_maker.specs.Holds.{FlushedSame, MayWork};
 ghost use Rattle.step_maker.specs.Moves.{Came};
 ghost use Rattle.flush_waits.specs.Clearing.{Looks, Weighs, Waits, first_behind};
-ghost use Rattle.flush_waits.specs.Waiting.{IsMarked, IsFlushed, IsWait, ServesBehind, StopsBehind};
+ghost use Rattle.flush_waits.specs.Waiting.{IsMarked, IsFlushed, IsWait, ServesBehind, StopsBehind, WaitedFor};
 
 use flush_words::{ask, flush_own, look_flushed, look_privileges, look_run_of};
 use xp_board::Port;
@@ -30,8 +30,8 @@ pub fn clear_stale<P: Port>(port: &mut P, frame: u32, owner: u16, stamp: u64) ->
     ensures serves { ServesBehind (P.value port.old) (P.value port.new) owner stamp }
     ensures stops { IfErr result (λ e. StopsBehind (P.value port.old) (P.value port.new) owner stamp e) }
     ensures came { Came (P.value port.old) (P.value port.new) }
-    // No word is changed but those of flushes.
-    ensures changes { Changes (P.value port.old) (P.value port.new) [] }
+    // Each step is at a word of flushes; a refusal or a pause is by the last words that were found.
+    ensures visits { Does (P.value port.old) (P.value port.new) (λ vs. WaitedFor stamp result vs) }
     ensures waits { IfErr result IsWait }
     ensures hand { FlushedSame (P.value port.old) (P.value port.new) }
     ensures past { IfOk result (λ _. IsFlushed (P.value port.new).post.machine frame (P.value port.new).holdings) }

@@ -29,15 +29,15 @@ use Rattle.xp_words.proofs.PlaceLaws.{place_back}
 use Rattle.step_maker.specs.Moves.{Moves, Moment, Came, Met}
 use Rattle.step_maker.proofs.Coming.{came_trans, came_self, came_post, moves_came, moves_by, moment_of, met_after}
 use Rattle.step_maker.proofs.Noting.{moves_steps, moves_since}
-use Rattle.answer_fits.specs.Answers.{Changes}
-use Rattle.answer_fits.proofs.Changing.{changes_flush, changes_look}
-use Rattle.answer_fits.proofs.Piecing.{changes_nothing}
+use Rattle.answer_fits.specs.Visits.{Visit, visit, Does, Only, Then}
+use Rattle.answer_fits.proofs.Visiting.{does_as, does_one, does_then}
 use Rattle.answer_fits.specs.Finding.{FoundAt, FoundWith, Did}
 use Rattle.answer_fits.specs.Asked.{Request}
 use Rattle.answer_fits.specs.Reasons.{AwaitsStamp}
 use Rattle.answer_fits.specs.Reasons as reasons
 use Rattle.answer_fits.specs.Pauses.{Clear, own}
-use Rattle.flush_words.specs.Flushing.{FlushesOwn, spent, ticked, overtaken}
+use Rattle.xp_words.specs.declared.reply.Refusal.TheVariants as refusals
+use Rattle.flush_words.specs.Flushing.{FlushedBy, FlushesOwn, none, once, spent, ticked, overtaken}
 use Rattle.flush_words.proofs.Lasting.{came_keeps, came_longer}
 use Rattle.flush_words.proofs.OwnFlush.{all_below, clock_less, less_is, to_next, to_found}
 
@@ -77,16 +77,23 @@ pub own_came : (v w : PortValue) (answer : Result (Unit {0}) Refusal) → Flushe
 own_came v w (Ok tt) f = flushed_came v w (own_flushed v w f)
 own_came v w (Err r) (spent m) = moves_came v w Clock Load kinds.Look None last_clock m
 
--- and change only words of flushes
-flushed_changes : (v w : PortValue) → Flushed v w → Changes v w []
-flushed_changes v w f =
-    let one = changes_look v v f.loaded [] Clock kinds.Look None (changes_nothing v) f.clock f.look in
-    let two = changes_flush v f.loaded f.exchanged [] Clock kinds.Tick None one (Cas f.clock (f.clock + 1)) f.found refl f.tick in
-    changes_flush v f.exchanged w [] (flushed_of v.post.vcpu) kinds.Ack None two (Store f.to) f.before refl f.ack
+flushed_does : (v w : PortValue) → Flushed v w → Does v w (λ vs. FlushedBy v.post.vcpu (Ok tt) vs)
+flushed_does v w f =
+    does_as v w _ (λ vs. FlushedBy v.post.vcpu (Ok tt) vs) (λ vs steps. three_are _ _ _ vs (λ ws. FlushedBy v.post.vcpu (Ok tt) ws) (once f.clock f.found f.to f.before) steps)
+    (does_then v f.loaded w (Only (visit Clock Load f.clock)) (Then (Only (visit Clock (Cas f.clock (f.clock + 1)) f.found)) (Only (visit (flushed_of v.post.vcpu) (Store f.to) f.before))) (does_one v f.loaded _ _ _ _ _ f.look)
+    (does_then f.loaded f.exchanged w (Only (visit Clock (Cas f.clock (f.clock + 1)) f.found)) (Only (visit (flushed_of v.post.vcpu) (Store f.to) f.before)) (does_one f.loaded f.exchanged _ _ _ _ _ f.tick)
+    (does_one f.exchanged w _ _ _ _ _ f.ack)))
+  where
+    three_are : (one two three : Visit) (vs : List Visit) (P : List Visit → Type 0) → P (three ∷ (two ∷ (one ∷ []))) → Then (Only one) (Then (Only two) (Only three)) vs → P vs
+    three_are one two three vs P p t = subst P (sym (is one two three vs t)) p
+      where
+        is : (one two three : Visit) (vs : List Visit) → Then (Only one) (Then (Only two) (Only three)) vs → vs ≡ three ∷ (two ∷ (one ∷ []))
+        is one two three vs t = rw (t.list, t.first, t.next.list, t.next.first, t.next.next) refl
 
-pub own_changes : (v w : PortValue) (answer : Result (Unit {0}) Refusal) → FlushesOwn v w answer → Changes v w []
-own_changes v w (Ok tt) f = flushed_changes v w (own_flushed v w f)
-own_changes v w (Err r) (spent m) = changes_look v v w [] Clock kinds.Look None (changes_nothing v) last_clock m
+pub own_does : (v w : PortValue) (answer : Result (Unit {0}) Refusal) → FlushesOwn v w answer → Does v w (λ vs. FlushedBy v.post.vcpu answer vs)
+own_does v w (Ok tt) f = flushed_does v w (own_flushed v w f)
+own_does v w (Err r) (spent m) =
+    does_as v w _ (λ vs. FlushedBy v.post.vcpu (Err (refusals.Clock last_clock)) vs) (λ vs one. subst (λ ws. FlushedBy v.post.vcpu (Err (refusals.Clock last_clock)) ws) (sym one) none) (does_one v w Clock Load kinds.Look None last_clock m)
 
 module _ (v w : PortValue) (f : Flushed v w) where
   before_ack : Came v f.exchanged

@@ -1,5 +1,5 @@
 -- The clock and flushes: when the own translations may be flushed, and by which steps they are.
-use Rattle.std.specs.Prelude.{◌≡◌, ◌≢◌, ℕ, ◌+◌, ◌==◌, nat_lt, true, None, Result, Ok, Err, IsTrue}
+use Rattle.std.specs.Prelude.{◌≡◌, ◌≢◌, ℕ, ◌+◌, ◌==◌, nat_lt, true, List, [], ◌∷◌, None, Result, Ok, Err, IsTrue}
 use Rattle.xp_words.specs.Machine.{Machine}
 use Rattle.xp_words.specs.Places.{sizes_of, flushed_of}
 use Rattle.xp_words.specs.declared.place.Place.TheVariants.{Clock}
@@ -12,6 +12,7 @@ use Rattle.xp_board.specs.Readings.{last_clock}
 use Rattle.xp_board.specs.Steps.{some_since}
 use Rattle.xp_board.specs.Told.{PortValue}
 use Rattle.step_maker.specs.Moves.{Moves}
+use Rattle.answer_fits.specs.Visits.{Visit, visit}
 
 -- the own flush may go to that clock value: it was found or left since the last flush
 pub record MayFlushTo (n : Machine) (clock : ℕ) (h : Holdings) : Type 0 where
@@ -27,3 +28,8 @@ pub data FlushesOwn (v w : PortValue) : Result (Unit {0}) Refusal → Type 0 whe
       Moves b w (flushed_of v.post.vcpu) (Store (clock + 1)) kinds.Ack None before → FlushesOwn v w (Ok tt)
   overtaken : (a b : PortValue) (clock found before : ℕ) → clock ≢ last_clock → found ≢ clock → Moves v a Clock Load kinds.Look None clock →
       Moves a b Clock (Cas clock (clock + 1)) kinds.Tick None found → Moves b w (flushed_of v.post.vcpu) (Store found) kinds.Ack None before → FlushesOwn v w (Ok tt)
+
+-- the same as a list, for vCPU s
+pub data FlushedBy (s : ℕ) : Result (Unit {0}) Refusal → List Visit → Type 0 where
+  none : FlushedBy s (Err (refusals.Clock last_clock)) (visit Clock Load last_clock ∷ [])
+  once : (clock found to before : ℕ) → FlushedBy s (Ok tt) (visit (flushed_of s) (Store to) before ∷ (visit Clock (Cas clock (clock + 1)) found ∷ (visit Clock Load clock ∷ [])))

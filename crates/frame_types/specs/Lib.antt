@@ -3,4 +3,4 @@ pub mod Lowering
 pub mod Plain
 pub mod Standing
 pub mod Taking
-pub mod Changing
+pub mod Found

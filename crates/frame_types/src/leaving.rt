@@ -11,13 +11,13 @@ ghost use Rattle.step_maker.specs.Moves.{Came};
 ghost use Rattle.step_maker.specs.Plain.{Leaves};
 ghost use Rattle.frame_words.specs.Plain.{put, stamp_now};
 ghost use Rattle.kind_words.specs.Kinds.{dead_kind, partial_kind};
-ghost use Rattle.frame_types.specs.Changing.{LeavesDead, LeavesShared, LeavesUnsettled};
+ghost use Rattle.answer_fits.specs.Visits.{Does};
+ghost use Rattle.frame_types.specs.Found.{DeadBy, SharedBy, StoresKind};
 ghost use Rattle.frame_types.specs.Leaving.{GivesBack, IsWaiting, KeepsType, ServesType};
 ghost use Rattle.frame_types.specs.Plain.{set_kind};
 
-use crate::words::{dead_kind, partial_kind};
 use frame_words::put_ref;
-use kind_words::leave;
+use kind_words::{dead_kind, leave, waiting_kind};
 use step_maker::look_clock;
 use xp_board::Port;
 use xp_words::PageType;
@@ -31,11 +31,11 @@ pub fn leave_shared<P: Port>(port: &mut P, frame: u32, want: PageType, stamp: u6
     ensures came { Came (P.value port.old) (P.value port.new) }
     ensures serves { ServesType (P.value port.old) (P.value port.new) frame want }
     ensures hand { GivesBack (P.value port.old) (P.value port.new) frame want false }
-    ensures changes { LeavesShared (P.value port.old) (P.value port.new) frame want stamp }
+    ensures visits { Does (P.value port.old) (P.value port.new) (λ vs. SharedBy frame want stamp vs) }
     ensures plain { is_telling (P.value port.old) ≡ true → Leaves (P.value port.new) (put frame (set_kind frame (partial_kind want false true 0 stamp) (told_word (P.value port.old)))) }
     ensures owned { is_telling (P.value port.old) ≡ true → is_free (told_word (P.value port.old) (Refs frame)) ≡ false }
 {
-    let as_found = partial_kind(want, stamp, false);
+    let as_found = waiting_kind(want, false, stamp);
     leave(port, frame, as_found);
     put_ref(port, frame);
 }
@@ -49,7 +49,7 @@ pub fn leave_dead<P: Port>(port: &mut P, frame: u32, want: PageType)
     ensures came { Came (P.value port.old) (P.value port.new) }
     ensures serves { ServesType (P.value port.old) (P.value port.new) frame want }
     ensures hand { GivesBack (P.value port.old) (P.value port.new) frame want true }
-    ensures changes { LeavesDead (P.value port.old) (P.value port.new) frame want }
+    ensures visits { Does (P.value port.old) (P.value port.new) (λ vs. DeadBy frame want vs) }
     ensures plain { is_telling (P.value port.old) ≡ true → Leaves (P.value port.new) (put frame (set_kind frame (dead_kind want true (stamp_now (told_word (P.value port.old)))) (told_word (P.value port.old)))) }
     ensures owned { is_telling (P.value port.old) ≡ true → is_free (told_word (P.value port.old) (Refs frame)) ≡ false }
 {
@@ -68,9 +68,9 @@ pub fn leave_unsettled<P: Port>(port: &mut P, frame: u32, want: PageType, stamp:
     ensures came { Came (P.value port.old) (P.value port.new) }
     ensures serves { ServesType (P.value port.old) (P.value port.new) frame want }
     ensures hand { KeepsType (P.value port.old) (P.value port.new) frame want }
-    ensures changes { LeavesUnsettled (P.value port.old) (P.value port.new) frame want stamp }
+    ensures visits { Does (P.value port.old) (P.value port.new) (λ vs. StoresKind frame (partial_kind want false true 0 stamp) vs) }
     ensures partial { IsTrue (knows_partial (sizes_of (P.value port.old).post.machine) frame want (P.value port.new).holdings) }
     ensures plain { is_telling (P.value port.old) ≡ true → Leaves (P.value port.new) (set_kind frame (partial_kind want false true 0 stamp) (told_word (P.value port.old))) }
 {
-    leave(port, frame, partial_kind(want, stamp, false));
+    leave(port, frame, waiting_kind(want, false, stamp));
 }

@@ -9,16 +9,16 @@ ghost use Rattle.step_maker.specs.Holds.{FlushedHolds, MayWork};
 ghost use Rattle.answer_fits.specs.Answers.{Serves, Stops, misses};
 ghost use Rattle.answer_fits.specs.Asked.{of_frame};
 ghost use Rattle.frame_words.specs.Freeing.{gave};
-ghost use Rattle.frame_types.specs.Changing.{GivenUp, MemoryFound};
+ghost use Rattle.answer_fits.specs.Visits.{Does};
+ghost use Rattle.frame_types.specs.Found.{GivenUpBy, MemoryFound};
 ghost use Rattle.frame_types.specs.Plain.{TwinGiveUp, TwinMemory, is_refused};
 ghost use Rattle.frame_types.specs.Leaving.{GivesUp, IsMemoryWaiting, ServesType};
 ghost use Rattle.frame_types.specs.Taking.{IsTypeStop, LentBy, typed_as};
 
 use crate::leaving::{leave_dead, leave_shared};
 use crate::taking::{Taken, take_type};
-use crate::words::partial_kind;
 use frame_words::put_ref;
-use kind_words::leave;
+use kind_words::{leave, waiting_kind};
 use xp_board::Port;
 use xp_words::{PageType, Stop};
 
@@ -61,7 +61,7 @@ fn give_up<P: Port>(port: &mut P, frame: u32, own: bool, stamp: u64, stop: Stop)
     ensures answer { result ≡ stop }
     ensures serves { ServesType (P.value port.old) (P.value port.new) frame Writable }
     ensures hand { GivesUp (P.value port.old) (P.value port.new) frame own stamp }
-    ensures changes { GivenUp (P.value port.old) (P.value port.new) frame own stamp stop }
+    ensures visits { Does (P.value port.old) (P.value port.new) (λ vs. GivenUpBy frame own (is_refused stop) stamp vs) }
     ensures plain { TwinGiveUp (P.value port.old) (P.value port.new) frame own stamp stop }
     ensures owned { IsTrue (not own || is_refused stop) → is_telling (P.value port.old) ≡ true → is_free (told_word (P.value port.old) (Refs frame)) ≡ false }
 {
@@ -71,7 +71,7 @@ fn give_up<P: Port>(port: &mut P, frame: u32, own: bool, stamp: u64, stop: Stop)
         match stop {
             Stop::Refused(_) => leave_dead(port, frame, PageType::Writable),
             Stop::Paused(_) => {
-                leave(port, frame, partial_kind(PageType::Writable, stamp, true));
+                leave(port, frame, waiting_kind(PageType::Writable, true, stamp));
             }
         }
     }

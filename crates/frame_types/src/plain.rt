@@ -8,14 +8,13 @@ ghost use Rattle.step_maker.specs.Holds.{Holds, MayWork};
 ghost use Rattle.step_maker.specs.Plain.{Leaves};
 ghost use Rattle.answer_fits.specs.Answers.{Serves};
 ghost use Rattle.answer_fits.specs.Asked.{of_back};
-ghost use Rattle.frame_types.specs.Changing.{DropsPlain};
+ghost use Rattle.frame_types.specs.Found.{DropsPlain};
 ghost use Rattle.frame_types.specs.Plain.{dropped_plain};
 ghost use Rattle.frame_types.specs.Taking.{MayDropPlain, gave_type};
 
 use crate::lowering::drop_type;
-use crate::words::dead_kind;
 use frame_words::put_ref;
-use kind_words::leave;
+use kind_words::{dead_kind, leave};
 use step_maker::look_clock;
 use xp_board::Port;
 use xp_words::PageType;
@@ -28,7 +27,7 @@ pub fn drop_plain<P: Port>(port: &mut P, frame: u32, kind: PageType)
     requires drops { MayDropPlain (P.value port.old).post.machine frame kind (P.value port.old).holdings }
     ensures serves { Serves (P.value port.old) (P.value port.new) (of_back frame) [] }
     ensures hand { Holds (P.value port.old) (P.value port.new) (gave_type frame (P.value port.old).holdings) }
-    ensures changes { DropsPlain (P.value port.old) (P.value port.new) frame kind }
+    ensures found { DropsPlain (P.value port.old) (P.value port.new) frame kind }
     ensures plain { is_telling (P.value port.old) ≡ true → Leaves (P.value port.new) (dropped_plain frame kind (told_word (P.value port.old))) }
     ensures stands { is_telling (P.value port.old) ≡ true → (is_free (told_word (P.value port.old) (Refs frame)) ≡ false) × ((kind_fields (told_word (P.value port.old) (Kind frame))).validated ≡ true) }
 {

@@ -1,6 +1,5 @@
 //! How a frame stands to a type.
-ghost use Rattle.std.specs.Prelude.{◌≡◌, is_some, Some, IsTrue};
-ghost use Rattle.xp_words.specs.KindWords.{kind_read};
+ghost use Rattle.std.specs.Prelude.{◌≡◌};
 ghost use Rattle.frame_types.specs.Standing.{is_same_type, standing_of};
 
 use xp_words::{KindWord, PageType};
@@ -43,16 +42,5 @@ pub(crate) fn classify(kind: KindWord, want: PageType) -> Standing
         Standing::Partial
     } else {
         Standing::Busy
-    }
-}
-
-// The value of a word that is a spelling.
-pub(crate) fn read_kind(word: u64) -> KindWord
-    requires { IsTrue (is_some (kind_read word)) }
-    ensures { kind_read word ≡ Some result }
-{
-    match KindWord::read(word) {
-        Some(kind) => kind,
-        None => unreachable!(),
     }
 }

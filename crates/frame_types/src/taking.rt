@@ -1,9 +1,5 @@
 //! Frames that are taken for a type.
 ghost use Rattle.std.specs.Prelude.{◌≡◌, ◌<◌, List, [], true, not, None, Some, IfOk, IfErr, MatchResult, IsTrue};
-ghost use Rattle.xp_words.specs.Places.{number, sizes_of};
-ghost use Rattle.xp_words.specs.declared.place.Place.TheVariants.{Kind};
-ghost use Rattle.xp_words.specs.declared.reply.Pause.TheVariants.{Lost};
-ghost use Rattle.xp_words.specs.declared.reply.Stop.TheVariants.{Paused};
 ghost use Rattle.xp_board.specs.Told.{PortValue};
 ghost use Rattle.xp_words.specs.PageTypes.{is_none};
 ghost use Rattle.xp_board.specs.Hands.{work_on, typed_to};
@@ -11,17 +7,20 @@ ghost use Rattle.step_maker.specs.Holds.{MayWork, Same};
 ghost use Rattle.answer_fits.specs.Answers.{Deed, Serves, Stops, misses};
 ghost use Rattle.answer_fits.specs.Asked.{of_frame};
 ghost use Rattle.flush_waits.specs.Waiting.{IsFlushed};
-ghost use Rattle.frame_types.specs.Changing.{FinishesAs, TakesFound};
+ghost use Rattle.frame_types.specs.Found.{Finishes, GoesOn, TakesFound};
 ghost use Rattle.frame_types.specs.Plain.{TwinOn, TwinTake};
 ghost use Rattle.frame_types.specs.Taking.{HasEntered, HoldsOn, IsDone, IsLooked, IsOfOther, IsTypeStop, LeavesLive, LentBy, Looked, ServesOn, ShowsWait, Takes, TakesAs, WaitsOn, progress_of};
 
-use crate::standing::{Standing, classify, read_kind};
-use crate::words::{counts, is_read_first, live_kind, progress_of, work_kind};
+use crate::standing::{Standing, classify};
+use crate::words::{counts, is_read_first, progress_of};
 use flush_waits::clear_stale;
 use frame_words::put_ref;
-use kind_words::{begin_work, count_type, is_stale_for, leave, look_kind, resume_work};
+use kind_words::{
+    begin_work, count_type, is_stale_for, leave, live_kind, look_kind, lost, read_kind, resume_work,
+    work_kind,
+};
 use xp_board::Port;
-use xp_words::{KindWord, PageType, Pause, Place, Refusal, Stop};
+use xp_words::{KindWord, PageType, Pause, Refusal, Stop};
 
 /// How a type was taken.
 #[derive(Clone, Copy, Debug, PartialEq, Eq, Drop)]
@@ -115,19 +114,6 @@ fn take_found<P: Port>(
     }
 }
 
-// An exchange of the kind word found another one than was expected.
-fn lost<P: Port>(port: &P, frame: u32, expected: u64, found: u64) -> Stop
-    requires { frame < (P.value port.now).post.machine.frames }
-    ensures { result ≡ Paused (Lost (number (sizes_of (P.value port.now).post.machine) (Kind frame)) expected found) }
-{
-    let place = port.layout().place(Place::Kind { frame });
-    Stop::Paused(Pause::Lost {
-        place,
-        expected,
-        found,
-    })
-}
-
 // Goes on with a frame that has come into the own works. `marked`: it waits for flushes. `kind`: what its word said before.
 // `own`: its type count is in hand.
 fn go_on<P: Port>(
@@ -147,7 +133,7 @@ fn go_on<P: Port>(
     ensures waits { WaitsOn (P.value port.old) (P.value port.new) frame owner want marked kind.number result }
     ensures hand { HoldsOn (P.value port.old) (P.value port.new) frame owner want marked kind own result }
     ensures live { LeavesLive (P.value port.old) (P.value port.new) frame result }
-    ensures changes { FinishesAs (P.value port.old) (P.value port.new) frame want marked own (progress_of kind) result }
+    ensures visits { GoesOn (P.value port.old) (P.value port.new) frame want marked kind.number own (progress_of kind) result }
     ensures plain { TwinOn (P.value port.old) (P.value port.new) frame want marked own (progress_of kind) result }
 {
     if marked {
@@ -183,7 +169,7 @@ fn finish<P: Port>(
     ensures done { IsDone result }
     ensures hand { HoldsOn (P.value port.old) (P.value port.new) frame owner want marked kind own result }
     ensures live { LeavesLive (P.value port.old) (P.value port.new) frame result }
-    ensures changes { FinishesAs (P.value port.old) (P.value port.new) frame want marked own (progress_of kind) result }
+    ensures visits { Finishes (P.value port.old) (P.value port.new) frame want marked own (progress_of kind) result }
     ensures plain { TwinOn (P.value port.old) (P.value port.new) frame want marked own (progress_of kind) result }
 {
     if !is_read_first(want) {

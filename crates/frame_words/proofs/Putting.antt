@@ -1,5 +1,5 @@
 -- A reference is given back: what the last one leaves, and its steps.
-use Rattle.std.proofs.Common.{◌≡◌, ℕ, ◌+◌, ◌/◌, ◌^◌, ◌<◌, ◌≤◌, ◌==◌, ◌⊎◌, if◌then◌else◌, zero, suc, Bool, true, List, [], ◌∷◌, ◌++◌, length, Some, None, IsTrue, refl, sym, ap, ◌∙◌, subst, arith, inl, inr}
+use Rattle.std.proofs.Common.{◌≡◌, ℕ, ◌≢◌, ◌+◌, ◌/◌, ◌^◌, ◌<◌, ◌≤◌, ◌==◌, ◌⊎◌, if◌then◌else◌, zero, suc, Bool, true, List, [], ◌∷◌, ◌++◌, length, Some, None, IsTrue, refl, sym, ap, ◌∙◌, subst, arith, inl, inr}
 use Rattle.xp_words.specs.RefWords.{ref_read, ref_write}
 use Rattle.xp_words.specs.declared.refs.RefWord.TheVariants.{Free, Owned, Dying}
 use Rattle.xp_words.specs.declared.place.Place.TheVariants.{Clock, Refs, Map}
@@ -31,9 +31,11 @@ use Rattle.answer_fits.specs.Answers.{Serves, deeds_by}
 use Rattle.answer_fits.specs.Asked.{of_back, IsAsked}
 use Rattle.answer_fits.specs.Finding.{Finding, FoundAt}
 use Rattle.answer_fits.specs.Reasons as reasons
-use Rattle.answer_fits.proofs.Piecing.{changes_nothing, changes_step, serves_step, moves_serves}
+use Rattle.answer_fits.specs.Visits.{Visit, visit, Only, Then}
+use Rattle.answer_fits.proofs.Piecing.{serves_step, moves_serves}
+use Rattle.answer_fits.proofs.Visiting.{does_as, does_one, does_then, then_none}
 use Rattle.answer_fits.proofs.Changing.{found_before, moves_found}
-use Rattle.frame_words.specs.Freeing.{IsEnding, IsEndingSince, raised_bit, made_free, refunded, left_free, gave, Frees, freeing, Puts, more, last}
+use Rattle.frame_words.specs.Freeing.{IsEnding, IsEndingSince, raised_bit, made_free, refunded, left_free, gave, Frees, FreesBy, PutBy, Puts, lowers_refs}
 use Rattle.frame_words.proofs.FreeSteps.{free_read}
 use Rattle.frame_words.proofs.Taking.{backs_itself}
 
@@ -162,16 +164,20 @@ module _ (v u : PortValue) (f w owner : ℕ) (allocated : Bool) (lower : Moves v
         serves_step v frees.d x r [] _ _ _ _ _ (subst (λ ds. Serves v frees.d r (ds ++ [])) (free_is_no_deed f frees.stamp frees.y frees.b.holdings (clock_low u frees.a frees.stamp frees.look)) four) frees.pages
         (reasons.found f w (asks _) seen owner_found, tt)
 
-    pub changes_last : Puts v x f
-    changes_last =
-        let one = changes_step v v u [] _ _ _ _ _ (changes_nothing v) lower in
-        let two = changes_step v u frees.a _ _ _ _ _ _ one frees.look in
-        let three = changes_step v frees.a frees.b _ _ _ _ _ _ two frees.bit in
-        let four = changes_step v frees.b frees.d _ _ _ _ _ _ three frees.free in
-        record { list = freeing f owner frees.stamp; put = last owner frees.stamp; changed = changes_step v frees.d x _ _ _ _ _ _ four frees.pages }
+    pub does_last : Puts v x f
+    does_last =
+        let four = does_then u frees.a x (Only (visit Clock Load frees.stamp)) _ (does_one u frees.a _ _ _ _ _ frees.look)
+            (does_then frees.a frees.b x _ _ (does_one frees.a frees.b _ _ _ _ _ frees.bit) (does_then frees.b frees.d x _ _ (does_one frees.b frees.d _ _ _ _ _ frees.free) (does_one frees.d x _ _ _ _ _ frees.pages))) in
+        does_as v x _ (PutBy f) (λ vs steps. record { word = w; last = Some owner; of = (allocated, read); steps = steps })
+        (does_then v u x (Only (lowers_refs f w)) (FreesBy f (Some owner)) (does_one v u _ _ _ _ _ lower)
+        (does_as u x _ (FreesBy f (Some owner)) (λ vs steps. (frees.stamp, frees.x, frees.y, frees.z, four_are _ _ _ _ vs steps)) four))
+      where
+        four_are : (one two three four : Visit) (vs : List Visit) → Then (Only one) (Then (Only two) (Then (Only three) (Only four))) vs → vs ≡ four ∷ (three ∷ (two ∷ (one ∷ [])))
+        four_are one two three four vs t = rw (t.list, t.first, t.next.list, t.next.first, t.next.next.list, t.next.next.first, t.next.next.next) refl
 
-pub changes_more : (v u : PortValue) (f w : ℕ) → Moves v u (Refs f) (Add one_down) kinds.Ref None w → Puts v u f
-changes_more v u f w lower = record { list = (Refs f, Add one_down) ∷ []; put = more; changed = changes_step v v u [] _ _ _ _ _ (changes_nothing v) lower }
+pub does_more : (v u : PortValue) (f w : ℕ) → Moves v u (Refs f) (Add one_down) kinds.Ref None w → ref_count w ≢ 1 → Puts v u f
+does_more v u f w lower more =
+    does_as v u _ (PutBy f) (λ vs steps. record { word = w; last = None; of = more; steps = then_none (Only (lowers_refs f w)) vs steps }) (does_one v u _ _ _ _ _ lower)
 
 -- ---- not the last one
 pub puts_more : (v u : PortValue) (f w : ℕ) → Moves v u (Refs f) (Add one_down) kinds.Ref None w → Serves v u (of_back f) []

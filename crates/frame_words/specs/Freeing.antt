@@ -2,7 +2,6 @@
 use Rattle.std.specs.Prelude.{◌≡◌, ◌≢◌, ℕ, ◌/◌, ◌≤◌, ◌==◌, Bool, List, [], ◌∷◌, length, Option, Some, None, IsTrue}
 use Rattle.xp_words.specs.declared.refs.RefWord.TheVariants.{Free, Owned}
 use Rattle.xp_words.specs.Machine.{Machine}
-use Rattle.xp_words.specs.declared.place.Place.{Place}
 use Rattle.xp_words.specs.declared.place.Place.TheVariants.{Clock, Refs, Map, Pages}
 use Rattle.xp_words.specs.Places.{sizes_of}
 use Rattle.xp_words.specs.RefWords.{ref_read, ref_write}
@@ -19,8 +18,7 @@ use Rattle.xp_board.specs.declared.step.Act.TheVariants.{Load, Store, Add}
 use Rattle.xp_board.specs.declared.step.StepKind.TheVariants as kinds
 use Rattle.step_maker.specs.Holds.{Holds}
 use Rattle.step_maker.specs.Moves.{Moves}
-use Rattle.answer_fits.specs.Answers.{Changes}
-use Rattle.xp_board.specs.declared.step.Act.{Act}
+use Rattle.answer_fits.specs.Visits.{Visit, visit, Does, Nothing, Only, Then}
 
 -- the newest of the ending frames is f, of that owner; it is not claimed, and its bit in the map is not set
 pub record IsEnding (f owner : ℕ) (h : Holdings) : Type 0 where
@@ -74,16 +72,24 @@ pub record Frees (v w : PortValue) (f owner : ℕ) : Type 0 where
   pub pages : Moves d w (Pages owner) (Add one_down) kinds.Pages None z
   pub hand : Holds v w (left_free f v.holdings)
 
--- What giving a reference back changes: its count; and, where it was the last, the frame's bit in the map of free frames,
--- the free word with a clock value that was found, and a page of the owner; the newest first.
-abbrev pub freeing : ℕ → ℕ → ℕ → List (Place × Act)
-freeing f owner stamp = (Pages owner, Add one_down) ∷ ((Refs f, Store (ref_write (Free stamp))) ∷ ((Map (f / 64), Add (map_bit f)) ∷ ((Refs f, Add one_down) ∷ [])))
+-- A reference is given back by one step that counts one less. Where it was the last, the clock is loaded, the frame's bit is set in
+-- the map of free frames, its free word stored with that clock value, and one taken from the pages of the owner.
+abbrev pub lowers_refs : ℕ → ℕ → Visit
+lowers_refs f x = visit (Refs f) (Add one_down) x
 
-pub data IsPut (f : ℕ) : List (Place × Act) → Type 0 where
-  more : IsPut f ((Refs f, Add one_down) ∷ [])
-  last : (owner stamp : ℕ) → IsPut f (freeing f owner stamp)
+abbrev pub freeing : ℕ → ℕ → ℕ → ℕ → ℕ → ℕ → List Visit
+freeing f owner clock b y z =
+    visit (Pages owner) (Add one_down) z ∷ (visit (Refs f) (Store (ref_write (Free clock))) y ∷ (visit (Map (f / 64)) (Add (map_bit f)) b ∷ (visit Clock Load clock ∷ [])))
 
-pub record Puts (v w : PortValue) (f : ℕ) : Type 0 where
-  pub list : List (Place × Act)
-  pub put : IsPut f list
-  pub changed : Changes v w list
+abbrev pub FreesBy : ℕ → Option ℕ → List Visit → Type 0
+FreesBy f (Some owner) vs = (clock : ℕ) × (b : ℕ) × (y : ℕ) × (z : ℕ) × (vs ≡ freeing f owner clock b y z)
+FreesBy f None vs = Nothing vs
+
+pub record PutBy (f : ℕ) (vs : List Visit) : Type 0 where
+  pub word : ℕ
+  pub last : Option ℕ
+  pub of : LastOf word last
+  pub steps : Then (Only (lowers_refs f word)) (FreesBy f last) vs
+
+abbrev pub Puts : PortValue → PortValue → ℕ → Type 0
+Puts v w f = Does v w (PutBy f)

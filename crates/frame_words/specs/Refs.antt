@@ -1,5 +1,5 @@
 -- Reference words, and what the steps on them leave in hand.
-use Rattle.std.specs.Prelude.{◌≡◌, ℕ, ◌+◌, ◌<◌, List, [], ◌∷◌, length, Some, None, Result, Ok, Err}
+use Rattle.std.specs.Prelude.{◌≡◌, ◌≢◌, ℕ, ◌+◌, ◌<◌, ◌≤◌, List, ◌∷◌, length, Some, None, Result, Ok, Err}
 use Rattle.xp_words.specs.Machine.{Machine}
 use Rattle.xp_words.specs.RefWords.{ref_read, ref_write}
 use Rattle.xp_words.specs.declared.reply.Refusal.{Refusal}
@@ -14,14 +14,11 @@ use Rattle.xp_board.specs.declared.holdings.OwnerFound.TheVariants as owners
 use Rattle.xp_board.specs.Hands.{refs_to}
 use Rattle.xp_board.specs.RefSteps.{SparesClosing}
 use Rattle.xp_board.specs.Told.{PortValue}
-use Rattle.xp_board.specs.declared.step.Act.{Act}
-use Rattle.xp_board.specs.declared.step.Act.TheVariants.{Cas}
-use Rattle.xp_words.specs.declared.place.Place.{Place}
+use Rattle.xp_board.specs.declared.step.Act.TheVariants.{Load, Cas}
+use Rattle.xp_words.specs.Places.{number, sizes_of}
 use Rattle.xp_words.specs.declared.place.Place.TheVariants.{Refs}
-use Rattle.answer_fits.specs.Answers.{Changes}
-use Rattle.answer_fits.specs.Finding.{FoundAt}
-use Rattle.step_maker.specs.Moves.{Met}
-use Rattle.frame_words.specs.Plain.{refer}
+use Rattle.answer_fits.specs.Visits.{Visit, visit, Does, Nothing, Only, Then}
+use Rattle.frame_words.specs.Plain.{one_more, refer}
 use Rattle.frame_words.specs.declared.rows.Open.{Open}
 
 abbrev pub open_word : Open → ℕ
@@ -60,21 +57,32 @@ IsRefStop (Paused (Lost place expected found)) = Unit {0}
 IsRefStop _ = ⊥
 
 -- ---- by the words found
--- The reference is to be had, by the word that a step found; or it is not, and why. (Of a frame that the machine has not there is no word.)
-abbrev pub IsReferred : PortValue → PortValue → ℕ → ℕ → ℕ → Type 0
-IsReferred v w f owner x = FoundAt (Met v w) (Refs f) x × (refer v.post.machine owner f x ≡ None)
+-- A reference is taken by a look at the word, and one exchange of it, which counts one more. Where it is not to be had there is the
+-- look alone; of a frame that the machine has not there is none.
+abbrev pub saw_refs : ℕ → ℕ → Visit
+saw_refs f x = visit (Refs f) Load x
 
-abbrev pub IsUnreferred : PortValue → PortValue → ℕ → ℕ → Refusal → Type 0
-IsUnreferred v w f owner r = (x : ℕ) × (f < v.post.machine.frames → FoundAt (Met v w) (Refs f) x) × (refer v.post.machine owner f x ≡ Some r)
+abbrev pub raises_refs : ℕ → ℕ → ℕ → Visit
+raises_refs f x y = visit (Refs f) (Cas x (one_more x (ref_read x))) y
 
--- What taking a reference changes: where it is to be had, its word by one exchange, and else nothing.
+abbrev pub Raises : ℕ → ℕ → ℕ → List Visit → Type 0
+Raises f x y vs = Then (Only (saw_refs f x)) (Only (raises_refs f x y)) vs
+
+pub data UnreferredBy (n : Machine) (f owner : ℕ) (r : Refusal) (vs : List Visit) : Type 0 where
+  outside : n.frames ≤ f → r ≡ NoFrame f → Nothing vs → UnreferredBy n f owner r vs
+  refused : (x : ℕ) → f < n.frames → refer n owner f x ≡ Some r → Only (saw_refs f x) vs → UnreferredBy n f owner r vs
+
+abbrev pub GetsBy : {A : Type 0} → Machine → ℕ → ℕ → Result A Stop → List Visit → Type 0
+GetsBy n f owner (Ok g) vs = (x : ℕ) × (refer n owner f x ≡ None) × Raises f x x vs
+GetsBy n f owner (Err (Refused r)) vs = UnreferredBy n f owner r vs
+GetsBy n f owner (Err (Paused (Lost place expected found))) vs =
+    (place ≡ number (sizes_of n) (Refs f)) × (refer n owner f expected ≡ None) × (found ≢ expected) × Raises f expected found vs
+GetsBy n f owner (Err (Paused r)) vs = ⊥
+
 abbrev pub Gets : {A : Type 0} → PortValue → PortValue → ℕ → ℕ → Result A Stop → Type 0
-Gets v w f owner (Ok g) = (x : ℕ) × (y : ℕ) × IsReferred v w f owner x × Changes v w ((Refs f, Cas x y) ∷ [])
-Gets v w f owner (Err (Refused r)) = IsUnreferred v w f owner r × Changes v w []
-Gets v w f owner (Err (Paused r)) = Changes v w []
+Gets v w f owner answer = Does v w (λ vs. GetsBy v.post.machine f owner answer vs)
 
--- A call that takes a reference first: it is refused or lost, and nothing is changed; or it is had, by those changes, and P of these.
-pub data TakesFirst {A : Type 0} (v w : PortValue) (f owner : ℕ) (P : List (Place × Act) → Type 0) (answer : Result A Stop) : Type 0 where
-  refused : (r : Refusal) → answer ≡ Err (Refused r) → IsUnreferred v w f owner r → Changes v w [] → TakesFirst v w f owner P answer
-  lost : (place expected found : ℕ) → answer ≡ Err (Paused (Lost place expected found)) → Changes v w [] → TakesFirst v w f owner P answer
-  had : (x y : ℕ) → IsReferred v w f owner x → P ((Refs f, Cas x y) ∷ []) → TakesFirst v w f owner P answer
+-- A call that takes a reference first: that is not to be had, and the call stops so; or it is, and the rest is P.
+pub data TakesFirst {A : Type 0} (n : Machine) (f owner : ℕ) (P : List Visit → Type 0) (answer : Result A Stop) (vs : List Visit) : Type 0 where
+  stopped : (e : Stop) → answer ≡ Err e → GetsBy {A = ℕ} n f owner (Err e) vs → TakesFirst n f owner P answer vs
+  had : Then (λ gs. GetsBy {A = ℕ} n f owner (Ok f) gs) P vs → TakesFirst n f owner P answer vs

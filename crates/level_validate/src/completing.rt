@@ -14,10 +14,9 @@ ghost use Rattle.level_validate.specs.Completing.{Completes, IsInnerFull, count_
 ghost use Rattle.level_validate.specs.Giving.{MayGiveBack};
 ghost use Rattle.level_validate.specs.Tables.{IsTopReady, IsStanding, StandsOn};
 
-use crate::words::live_kind;
 use frame_types::drop_type;
 use frame_words::put_ref;
-use kind_words::leave;
+use kind_words::{leave, live_kind};
 use partial_state::{Stack, TableWork, level_type};
 use table_words::record_entry;
 use xp_board::Port;

@@ -4,4 +4,3 @@
 mod completing;
 mod entering;
 mod unwinding;
-mod words;

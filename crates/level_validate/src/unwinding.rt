@@ -15,9 +15,8 @@ ghost use Rattle.partial_state.specs.declared.stack.TableWork.{TableWork};
 ghost use Rattle.level_validate.specs.Tables.{IsStanding, StandsOn};
 ghost use Rattle.level_validate.specs.Unwinding.{Unwinds, UnwindsTo, around_lent, left_so, own_domain};
 
-use crate::words::partial_kind;
 use frame_words::put_ref;
-use kind_words::leave;
+use kind_words::{leave, partial_kind};
 use partial_state::{Stack, TableWork, level_type};
 use table_words::{OldWord, put_old, record_entry};
 use xp_board::Port;

@@ -1,26 +1,21 @@
--- A machine-to-physical word by the reference word that was found, on any board: the answer, and what is changed, the newest first.
-use Rattle.std.specs.Prelude.{ℕ, List, [], ◌∷◌, ◌++◌, Result, Ok, Err}
-use Rattle.xp_words.specs.declared.place.Place.{Place}
-use Rattle.xp_words.specs.declared.place.Place.TheVariants.{M2p, Refs}
+-- A machine-to-physical word by the steps, on any board: the answer, by the reference word that was found.
+use Rattle.std.specs.Prelude.{ℕ, List, Result, Ok, Err}
+use Rattle.xp_words.specs.Machine.{Machine}
+use Rattle.xp_words.specs.declared.place.Place.TheVariants.{M2p}
 use Rattle.xp_words.specs.declared.reply.Stop.{Stop}
-use Rattle.xp_words.specs.declared.reply.Stop.TheVariants.{Refused, Paused}
-use Rattle.xp_board.specs.declared.step.Act.{Act}
-use Rattle.xp_board.specs.declared.step.Act.TheVariants.{Cas, Store}
+use Rattle.xp_board.specs.declared.step.Act.TheVariants.{Store}
 use Rattle.xp_board.specs.Told.{PortValue}
-use Rattle.answer_fits.specs.Answers.{Changes}
-use Rattle.frame_words.specs.Freeing.{IsPut}
-use Rattle.frame_words.specs.Refs.{IsReferred, IsUnreferred}
+use Rattle.answer_fits.specs.Visits.{Visit, visit, Does, Only, Then}
+use Rattle.frame_words.specs.Freeing.{PutBy}
+use Rattle.frame_words.specs.Refs.{GetsBy}
+
+abbrev pub StoresM2p : ℕ → ℕ → List Visit → Type 0
+StoresM2p f gpfn vs = (found : ℕ) × Only (visit (M2p f) (Store gpfn) found) vs
 
 -- a reference, the word, and the reference given back
-pub record WordSet (v w : PortValue) (f owner gpfn : ℕ) : Type 0 where
-  pub word : ℕ
-  pub raised : ℕ
-  pub found : IsReferred v w f owner word
-  pub back : List (Place × Act)
-  pub put : IsPut f back
-  pub changed : Changes v w (back ++ ((M2p f, Store gpfn) ∷ ((Refs f, Cas word raised) ∷ [])))
+abbrev pub SetBy : Machine → ℕ → ℕ → ℕ → Result (Unit {0}) Stop → List Visit → Type 0
+SetBy n f owner gpfn (Ok done) vs = Then (λ gs. GetsBy {A = ℕ} n f owner (Ok f) gs) (Then (StoresM2p f gpfn) (PutBy f)) vs
+SetBy n f owner gpfn (Err e) vs = GetsBy {A = ℕ} n f owner (Err e) vs
 
 abbrev pub SetFound : PortValue → PortValue → ℕ → ℕ → ℕ → Result (Unit {0}) Stop → Type 0
-SetFound v w f owner gpfn (Ok done) = WordSet v w f owner gpfn
-SetFound v w f owner gpfn (Err (Refused r)) = IsUnreferred v w f owner r × Changes v w []
-SetFound v w f owner gpfn (Err (Paused r)) = Changes v w []
+SetFound v w f owner gpfn answer = Does v w (λ vs. SetBy v.post.machine f owner gpfn answer vs)

@@ -1,51 +1,42 @@
--- The elements by the words that their steps found, on any board: the answer, and what is changed, the newest first.
-use Rattle.std.specs.Prelude.{◌≡◌, ℕ, List, [], ◌∷◌, ◌++◌, Result, Ok, Err}
+-- The elements by their steps, on any board: the answer, by the words that were found.
+use Rattle.std.specs.Prelude.{◌≡◌, ℕ, List, Result, Ok, Err}
+use Rattle.xp_words.specs.Machine.{Machine}
 use Rattle.xp_words.specs.declared.kind.PageType.TheVariants.{Writable}
-use Rattle.xp_words.specs.declared.place.Place.{Place}
 use Rattle.xp_words.specs.declared.place.Place.TheVariants.{Cell}
 use Rattle.xp_words.specs.declared.reply.Refusal.{Refusal}
 use Rattle.xp_words.specs.declared.reply.Refusal.TheVariants.{BadRange, BadCommand}
 use Rattle.xp_words.specs.declared.reply.Stop.{Stop}
 use Rattle.xp_words.specs.declared.reply.Stop.TheVariants.{Refused}
-use Rattle.xp_board.specs.declared.step.Act.{Act}
 use Rattle.xp_board.specs.declared.step.Act.TheVariants.{Store}
 use Rattle.xp_board.specs.Told.{PortValue}
-use Rattle.answer_fits.specs.Answers.{Changes}
+use Rattle.answer_fits.specs.Visits.{Visit, visit, Does, Nothing, Only, Then}
 use Rattle.frame_words.specs.Refs.{TakesFirst}
-use Rattle.frame_types.specs.Changing.{DropsBy, MemoryBy}
-use Rattle.m2p_map.specs.Found.{SetFound}
+use Rattle.frame_types.specs.Found.{DropsBy, MemoryBy}
+use Rattle.m2p_map.specs.Found.{SetBy}
 use Rattle.mmu_update.specs.declared.element.Element.{Element}
 use Rattle.mmu_update.specs.declared.element.Element.TheVariants.{SetM2p, Write, Misaligned, Unknown}
 
--- ---- a word of ordinary memory; gs: the changes before
--- the type is taken, the word stored, and the type and the reference given back
-pub record WordStored (v w : PortValue) (f i word : ℕ) (gs : List (Place × Act)) : Type 0 where
-  pub taking : List (Place × Act)
-  pub takes : MemoryBy v w f (Ok tt) taking
-  pub back : List (Place × Act)
-  pub drops : DropsBy v w f Writable back
-  pub changed : Changes v w (back ++ ((Cell f i, Store word) ∷ (taking ++ gs)))
+abbrev pub StoresCell : ℕ → ℕ → ℕ → List Visit → Type 0
+StoresCell f i word vs = (found : ℕ) × Only (visit (Cell f i) (Store word) found) vs
 
--- the frame is not to be had as ordinary memory, and no word is stored
-pub record NotStored (v w : PortValue) (f : ℕ) (e : Stop) (gs : List (Place × Act)) : Type 0 where
-  pub taking : List (Place × Act)
-  pub stops : MemoryBy v w f (Err e) taking
-  pub changed : Changes v w (taking ++ gs)
+-- ---- a word of ordinary memory, behind the reference
+-- the type is taken, the word stored, and the type and the reference given back; or the frame is not to be had as ordinary memory
+abbrev pub StoresBy : Machine → ℕ → ℕ → ℕ → Result (Unit {0}) Stop → List Visit → Type 0
+StoresBy n f i word (Ok done) vs = Then (λ ts. MemoryBy n f (Ok tt) ts) (Then (StoresCell f i word) (DropsBy f Writable)) vs
+StoresBy n f i word (Err e) vs = MemoryBy n f (Err e) vs
 
-abbrev pub StoresFound : PortValue → PortValue → ℕ → ℕ → ℕ → Result (Unit {0}) Stop → List (Place × Act) → Type 0
-StoresFound v w f i word (Ok done) gs = WordStored v w f i word gs
-StoresFound v w f i word (Err e) gs = NotStored v w f e gs
+abbrev pub WriteBy : Machine → ℕ → ℕ → ℕ → ℕ → Result (Unit {0}) Stop → List Visit → Type 0
+WriteBy n d f i word answer vs = TakesFirst n f d (λ ss. StoresBy n f i word answer ss) answer vs
 
 abbrev pub WriteFound : PortValue → PortValue → ℕ → ℕ → ℕ → ℕ → Result (Unit {0}) Stop → Type 0
-WriteFound v w d f i word answer = TakesFirst v w f d (λ gs. StoresFound v w f i word answer gs) answer
+WriteFound v w d f i word answer = Does v w (λ vs. WriteBy v.post.machine d f i word answer vs)
 
 -- ---- an element
--- refused by its numbers, and nothing is changed
-abbrev pub NumbersFound : PortValue → PortValue → Refusal → Result (Unit {0}) Stop → Type 0
-NumbersFound v w r answer = (answer ≡ Err (Refused r)) × Changes v w []
+abbrev pub UpdateBy : Machine → ℕ → Element → Result (Unit {0}) Stop → List Visit → Type 0
+UpdateBy n d (SetM2p f gpfn) answer vs = SetBy n f d gpfn answer vs
+UpdateBy n d (Write f i word) answer vs = WriteBy n d f i word answer vs
+UpdateBy n d Misaligned answer vs = (answer ≡ Err (Refused BadRange)) × Nothing vs
+UpdateBy n d Unknown answer vs = (answer ≡ Err (Refused BadCommand)) × Nothing vs
 
 abbrev pub UpdateFound : PortValue → PortValue → ℕ → Element → Result (Unit {0}) Stop → Type 0
-UpdateFound v w d (SetM2p f gpfn) answer = SetFound v w f d gpfn answer
-UpdateFound v w d (Write f i word) answer = WriteFound v w d f i word answer
-UpdateFound v w d Misaligned answer = NumbersFound v w BadRange answer
-UpdateFound v w d Unknown answer = NumbersFound v w BadCommand answer
+UpdateFound v w d e answer = Does v w (λ vs. UpdateBy v.post.machine d e answer vs)

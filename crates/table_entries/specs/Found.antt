@@ -1,116 +1,104 @@
--- One entry by the words that its steps found, on any board: the answer, and what is changed, the newest first.
-use Rattle.std.specs.Prelude.{◌≡◌, ◌⊎◌, ℕ, ◌≤◌, Bool, true, false, List, [], ◌∷◌, ◌++◌, Result, Ok, Err}
+-- One entry by its steps, on any board: which answer and which further steps there are, by the words that were found.
+use Rattle.std.specs.Prelude.{◌≡◌, ℕ, ◌+◌, ◌<◌, ◌≤◌, Bool, true, false, List, Result, Ok, Err}
 use Rattle.xp_words.specs.Entries.{demand_at}
+use Rattle.xp_words.specs.Machine.{Machine}
 use Rattle.xp_words.specs.declared.entry.Demand.{Demand}
 use Rattle.xp_words.specs.declared.entry.Demand.TheVariants as demands
 use Rattle.xp_words.specs.declared.kind.PageType.{PageType}
-use Rattle.xp_words.specs.declared.place.Place.{Place}
-use Rattle.xp_words.specs.declared.place.Place.TheVariants.{Cell, Kind, Refs}
-use Rattle.xp_words.specs.declared.reply.Pause.TheVariants.{Flush, Lost}
+use Rattle.xp_words.specs.declared.place.Place.TheVariants.{Cell}
+use Rattle.xp_words.specs.declared.reply.Pause.TheVariants.{Flush}
 use Rattle.xp_words.specs.declared.reply.Refusal.TheVariants as refusals
 use Rattle.xp_words.specs.declared.reply.Stop.{Stop}
 use Rattle.xp_words.specs.declared.reply.Stop.TheVariants.{Refused, Paused}
-use Rattle.xp_board.specs.declared.step.Act.{Act}
-use Rattle.xp_board.specs.declared.step.Act.TheVariants.{Cas}
+use Rattle.xp_board.specs.declared.step.Act.TheVariants.{Load}
 use Rattle.xp_board.specs.Readings.{is_live_word}
 use Rattle.xp_board.specs.Told.{PortValue}
-use Rattle.step_maker.specs.Moves.{Met}
-use Rattle.answer_fits.specs.Answers.{Changes}
-use Rattle.answer_fits.specs.Finding.{FoundAt}
-use Rattle.frame_words.specs.Freeing.{IsPut}
-use Rattle.frame_words.specs.Refs.{IsReferred, IsUnreferred, TakesFirst}
+use Rattle.answer_fits.specs.Visits.{Visit, visit, Does, Nothing, Only, Then}
+use Rattle.frame_words.specs.Freeing.{PutBy}
+use Rattle.frame_words.specs.Refs.{GetsBy, TakesFirst}
 use Rattle.kind_words.specs.Kinds.{partial_kind}
-use Rattle.frame_types.specs.Changing.{DeadBy, IsStopped, SharedBy, TakesOf, stores_kind}
+use Rattle.frame_types.specs.Found.{DeadBy, SharedBy, StoresKind, TakesOf, TypeBy, saw_kind}
 use Rattle.frame_types.specs.Plain.{is_read_first}
-use Rattle.frame_types.specs.declared.taking.Taken.{Taken}
 use Rattle.frame_types.specs.declared.taking.Taken.TheVariants as types
+use Rattle.table_words.specs.Entries.{Records}
 use Rattle.table_entries.specs.declared.entries.Entered.{Entered}
 use Rattle.table_entries.specs.declared.entries.Entered.TheVariants.{Recorded, Opened, Unsettled}
 use Rattle.table_entries.specs.declared.resuming.Resumed.{Resumed}
 use Rattle.table_entries.specs.declared.resuming.Resumed.TheVariants as again
 
--- ---- an entry that asks a type
--- gs: the changes before
-pub record TakenFound (v w : PortValue) (g : ℕ) (t : PageType) (way : Taken) (gs : List (Place × Act)) : Type 0 where
-  pub taking : List (Place × Act)
-  pub takes : TakesOf v w g t way taking
-  pub changed : Changes v w (taking ++ gs)
+abbrev pub saw_cell : ℕ → ℕ → ℕ → Visit
+saw_cell f i x = visit (Cell f i) Load x
 
--- the reference is given back again
-abbrev pub PutBack : PortValue → PortValue → ℕ → List (Place × Act) → Type 0
-PutBack v w g gs = (ps : List (Place × Act)) × IsPut g ps × Changes v w (ps ++ gs)
-
+-- ---- an entry that asks a type: behind the reference
 -- It waits, and the entry is not recorded: another holder's frame is as that one left it; one without entries is dead, where the
 -- clock is at its last value.
-abbrev pub LeftBy : PortValue → PortValue → ℕ → PageType → Bool → ℕ → Stop → List (Place × Act) → Type 0
-LeftBy v w g t true stamp (Refused r) cs = (is_read_first t ≡ false) × DeadBy v w g t cs
-LeftBy v w g t true stamp (Paused r) cs = ⊥
-LeftBy v w g t false stamp stop cs = SharedBy g t stamp cs
+abbrev pub LeftBy : ℕ → PageType → Bool → ℕ → Stop → List Visit → Type 0
+LeftBy g t true stamp (Refused r) vs = (is_read_first t ≡ false) × DeadBy g t vs
+LeftBy g t true stamp (Paused r) vs = ⊥
+LeftBy g t false stamp stop vs = SharedBy g t stamp vs
 
-pub record WaitFound (v w : PortValue) (g : ℕ) (t : PageType) (gs : List (Place × Act)) (stop : Stop) : Type 0 where
+pub record LeftAfter (g : ℕ) (t : PageType) (stop : Stop) (vs : List Visit) : Type 0 where
   pub own : Bool
   pub stamp : ℕ
-  pub taking : List (Place × Act)
-  pub takes : TakesOf v w g t (types.Waiting own stamp stop) taking
-  pub leaving : List (Place × Act)
-  pub left : LeftBy v w g t own stamp stop leaving
-  pub changed : Changes v w (leaving ++ (taking ++ gs))
+  pub steps : Then (λ ts. TakesOf g t (types.Waiting own stamp stop) ts) (λ ls. LeftBy g t own stamp stop ls) vs
 
 -- It waits, and is recorded: partial by the entry's own type count.
-pub record UnsettledFound (v w : PortValue) (g : ℕ) (t : PageType) (gs : List (Place × Act)) (stop : Stop) : Type 0 where
+pub record UnsettledBy (g : ℕ) (t : PageType) (f i : ℕ) (stop : Stop) (vs : List Visit) : Type 0 where
   pub stamp : ℕ
-  pub taking : List (Place × Act)
-  pub takes : TakesOf v w g t (types.Waiting true stamp stop) taking
-  pub changed : Changes v w (stores_kind g (partial_kind t false true 0 stamp) ∷ (taking ++ gs))
+  pub steps : Then (λ ts. TakesOf g t (types.Waiting true stamp stop) ts) (Then (StoresKind g (partial_kind t false true 0 stamp)) (Records f (i + 1))) vs
 
-abbrev pub TypedFound : PortValue → PortValue → ℕ → PageType → Result Entered Stop → List (Place × Act) → Type 0
-TypedFound v w g t (Ok Recorded) gs = TakenFound v w g t types.Counted gs
-TypedFound v w g t (Ok (Opened f progress own)) gs = (f ≡ g) × TakenFound v w g t (types.InWork progress own) gs
-TypedFound v w g t (Ok (Unsettled stop)) gs = UnsettledFound v w g t gs stop
-TypedFound v w g t (Err (Refused (refusals.Clock x))) gs = WaitFound v w g t gs (Refused (refusals.Clock x))
-TypedFound v w g t (Err (Paused (Flush u stamp x))) gs = WaitFound v w g t gs (Paused (Flush u stamp x))
-TypedFound v w g t (Err (Paused (Lost place expected found))) gs = PutBack v w g gs
-TypedFound v w g t (Err e) gs = IsStopped v w g t e × PutBack v w g gs
+-- the type is not to be had, and the reference is given back
+abbrev pub RefusesBy : Machine → ℕ → PageType → Stop → List Visit → Type 0
+RefusesBy n g t e vs = Then (λ ts. TypeBy n g t (Err e) ts) (PutBy g) vs
+
+abbrev pub TypedBy : Machine → ℕ → PageType → ℕ → ℕ → Result Entered Stop → List Visit → Type 0
+TypedBy n g t f i (Ok Recorded) vs = Then (λ ts. TakesOf g t types.Counted ts) (Records f (i + 1)) vs
+TypedBy n g t f i (Ok (Opened h progress own)) vs = (h ≡ g) × TakesOf g t (types.InWork progress own) vs
+TypedBy n g t f i (Ok (Unsettled stop)) vs = UnsettledBy g t f i stop vs
+TypedBy n g t f i (Err (Refused (refusals.Clock x))) vs = LeftAfter g t (Refused (refusals.Clock x)) vs
+TypedBy n g t f i (Err (Paused (Flush u stamp x))) vs = LeftAfter g t (Paused (Flush u stamp x)) vs
+TypedBy n g t f i (Err e) vs = RefusesBy n g t e vs
 
 -- ---- the next entry
-abbrev pub ReadFound : PortValue → PortValue → ℕ → ℕ → Result Entered Stop → Type 0
-ReadFound v w g owner (Ok Recorded) = (x : ℕ) × (y : ℕ) × IsReferred v w g owner x × Changes v w ((Refs g, Cas x y) ∷ [])
-ReadFound v w g owner (Ok _) = ⊥
-ReadFound v w g owner (Err (Refused r)) = IsUnreferred v w g owner r × Changes v w []
-ReadFound v w g owner (Err (Paused r)) = Changes v w []
+abbrev pub ReadBy : Machine → ℕ → ℕ → ℕ → ℕ → Result Entered Stop → List Visit → Type 0
+ReadBy n g owner f i (Ok Recorded) vs = Then (λ gs. GetsBy {A = ℕ} n g owner (Ok g) gs) (Records f (i + 1)) vs
+ReadBy n g owner f i (Ok _) vs = ⊥
+ReadBy n g owner f i (Err e) vs = GetsBy {A = ℕ} n g owner (Err e) vs
 
-abbrev pub EntersBy : PortValue → PortValue → ℕ → ℕ → ℕ → Result Entered Stop → ℕ → Demand → Type 0
-EntersBy v w f i owner answer word demands.Nothing = (answer ≡ Ok Recorded) × Changes v w []
-EntersBy v w f i owner answer word demands.Bad = (answer ≡ Err (Refused (refusals.Reserved f i word))) × Changes v w []
-EntersBy v w f i owner answer word (demands.Read g) = ReadFound v w g owner answer
-EntersBy v w f i owner answer word (demands.Typed g t) = TakesFirst v w g owner (λ gs. TypedFound v w g t answer gs) answer
+-- behind the look, by what the entry asks
+abbrev pub EntersBy : Machine → ℕ → ℕ → ℕ → Result Entered Stop → ℕ → Demand → List Visit → Type 0
+EntersBy n f i owner answer word demands.Nothing vs = (answer ≡ Ok Recorded) × Records f (i + 1) vs
+EntersBy n f i owner answer word demands.Bad vs = (answer ≡ Err (Refused (refusals.Reserved f i word))) × Nothing vs
+EntersBy n f i owner answer word (demands.Read g) vs = ReadBy n g owner f i answer vs
+EntersBy n f i owner answer word (demands.Typed g t) vs = TakesFirst n g owner (λ ts. TypedBy n g t f i answer ts) answer vs
 
--- a look found the entry so; by what it asks
-pub record EntersFound (v w : PortValue) (f i : ℕ) (t : PageType) (owner : ℕ) (answer : Result Entered Stop) : Type 0 where
-  pub word : ℕ
-  pub found : FoundAt (Met v w) (Cell f i) word
-  pub way : EntersBy v w f i owner answer word (demand_at t i word)
+abbrev pub EnteredBy : Machine → ℕ → ℕ → PageType → ℕ → Result Entered Stop → List Visit → Type 0
+EnteredBy n f i t owner answer vs = (word : ℕ) × Then (Only (saw_cell f i word)) (λ es. EntersBy n f i owner answer word (demand_at t i word) es) vs
+
+abbrev pub EntersFound : PortValue → PortValue → ℕ → ℕ → PageType → ℕ → Result Entered Stop → Type 0
+EntersFound v w f i t owner answer = Does v w (λ vs. EnteredBy v.post.machine f i t owner answer vs)
 
 -- ---- the last recorded entry again
-abbrev pub TypedAgain : PortValue → PortValue → ℕ → PageType → Result Resumed Stop → List (Place × Act) → Type 0
-TypedAgain v w g t (Ok again.Settled) gs = ⊥
-TypedAgain v w g t (Ok (again.Taken f)) gs = (f ≡ g) × TakenFound v w g t types.Counted gs
-TypedAgain v w g t (Ok (again.Opened f progress own)) gs = (f ≡ g) × TakenFound v w g t (types.InWork progress own) gs
-TypedAgain v w g t (Ok (again.Waiting f own stamp stop)) gs = (f ≡ g) × TakenFound v w g t (types.Waiting own stamp stop) gs
-TypedAgain v w g t (Err (Paused (Lost place expected found))) gs = PutBack v w g gs
-TypedAgain v w g t (Err e) gs = IsStopped v w g t e × PutBack v w g gs
+abbrev pub TypedAgain : Machine → ℕ → PageType → Result Resumed Stop → List Visit → Type 0
+TypedAgain n g t (Ok again.Settled) vs = ⊥
+TypedAgain n g t (Ok (again.Taken f)) vs = (f ≡ g) × TakesOf g t types.Counted vs
+TypedAgain n g t (Ok (again.Opened f progress own)) vs = (f ≡ g) × TakesOf g t (types.InWork progress own) vs
+TypedAgain n g t (Ok (again.Waiting f own stamp stop)) vs = (f ≡ g) × TakesOf g t (types.Waiting own stamp stop) vs
+TypedAgain n g t (Err e) vs = RefusesBy n g t e vs
 
 -- the frame was found live; or the machine has no such frame, or it was found otherwise, and its type is taken again
-pub data LastFound (v w : PortValue) (g : ℕ) (t : PageType) (owner : ℕ) (answer : Result Resumed Stop) : Type 0 where
-  settled : (x : ℕ) → FoundAt (Met v w) (Kind g) x → is_live_word x ≡ true → answer ≡ Ok again.Settled → Changes v w [] → LastFound v w g t owner answer
-  other : (v.post.machine.frames ≤ g) ⊎ ((x : ℕ) × FoundAt (Met v w) (Kind g) x × (is_live_word x ≡ false)) → TakesFirst v w g owner (λ gs. TypedAgain v w g t answer gs) answer →
-      LastFound v w g t owner answer
+pub data AgainBy (n : Machine) (g : ℕ) (t : PageType) (owner : ℕ) (answer : Result Resumed Stop) (vs : List Visit) : Type 0 where
+  settled : (x : ℕ) → g < n.frames → is_live_word x ≡ true → answer ≡ Ok again.Settled → Only (saw_kind g x) vs → AgainBy n g t owner answer vs
+  outside : n.frames ≤ g → TakesFirst n g owner (λ ts. TypedAgain n g t answer ts) answer vs → AgainBy n g t owner answer vs
+  other : (x : ℕ) → g < n.frames → is_live_word x ≡ false → Then (Only (saw_kind g x)) (λ gs. TakesFirst n g owner (λ ts. TypedAgain n g t answer ts) answer gs) vs →
+      AgainBy n g t owner answer vs
 
-abbrev pub ResumesBy : PortValue → PortValue → ℕ → Result Resumed Stop → Demand → Type 0
-ResumesBy v w owner answer (demands.Typed g t) = LastFound v w g t owner answer
-ResumesBy v w owner answer _ = (answer ≡ Ok again.Settled) × Changes v w []
+abbrev pub ResumesBy : Machine → ℕ → Result Resumed Stop → Demand → List Visit → Type 0
+ResumesBy n owner answer (demands.Typed g t) vs = AgainBy n g t owner answer vs
+ResumesBy n owner answer _ vs = (answer ≡ Ok again.Settled) × Nothing vs
 
-pub record ResumesFound (v w : PortValue) (f i : ℕ) (t : PageType) (owner : ℕ) (answer : Result Resumed Stop) : Type 0 where
-  pub word : ℕ
-  pub found : FoundAt (Met v w) (Cell f i) word
-  pub way : ResumesBy v w owner answer (demand_at t i word)
+abbrev pub ResumedBy : Machine → ℕ → ℕ → PageType → ℕ → Result Resumed Stop → List Visit → Type 0
+ResumedBy n f i t owner answer vs = (word : ℕ) × Then (Only (saw_cell f i word)) (λ rs. ResumesBy n owner answer (demand_at t i word) rs) vs
+
+abbrev pub ResumesFound : PortValue → PortValue → ℕ → ℕ → PageType → ℕ → Result Resumed Stop → Type 0
+ResumesFound v w f i t owner answer = Does v w (λ vs. ResumedBy v.post.machine f i t owner answer vs)

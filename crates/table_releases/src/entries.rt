@@ -24,7 +24,7 @@ ghost use Rattle.table_words.specs.Entries.{ShedsLast, entry_shed};
 
 use frame_types::{drop_plain, drop_type};
 use frame_words::{look_cell, put_ref};
-use kind_words::{leave, look_kind, resume_work};
+use kind_words::{dead_kind, leave, look_kind, lost, read_kind, resume_work};
 use pte_check::demand;
 use step_maker::make;
 use table_words::{shed_entry, shed_entry_by_look};
@@ -197,7 +197,7 @@ fn shed_resumed<P: Port>(
         }
     } else {
         let clock = shed_entry(port, table, index);
-        leave(port, frame, waiting_kind(want, clock));
+        leave(port, frame, dead_kind(want, true, clock));
         put_ref(port, frame);
         Released::Given
     }
@@ -218,45 +218,4 @@ fn shed_by_owner<P: Port>(port: &mut P, table: u32, upto: u16, frame: u32) -> u6
         StepKind::Look,
         Some(Mark::Shed { frame: table, upto }),
     )
-}
-
-// Dead, with its mark and that stamp.
-fn waiting_kind(kind: PageType, stamp: u64) -> KindWord
-    ensures { result ≡ dead_kind kind true stamp }
-{
-    KindWord {
-        kind,
-        pinned: false,
-        validated: false,
-        partial: false,
-        locked: false,
-        kept: false,
-        unflushed: true,
-        progress: 0,
-        number: stamp,
-    }
-}
-
-// An exchange of the kind word found another one than was expected.
-fn lost<P: Port>(port: &P, frame: u32, expected: u64, found: u64) -> Stop
-    requires { frame < (P.value port.now).post.machine.frames }
-    ensures { result ≡ Paused (Lost (number (sizes_of (P.value port.now).post.machine) (Kind frame)) expected found) }
-{
-    let place = port.layout().place(Place::Kind { frame });
-    Stop::Paused(Pause::Lost {
-        place,
-        expected,
-        found,
-    })
-}
-
-// The value of a word that is a spelling.
-fn read_kind(word: u64) -> KindWord
-    requires { IsTrue (is_some (kind_read word)) }
-    ensures { kind_read word ≡ Some result }
-{
-    match KindWord::read(word) {
-        Some(kind) => kind,
-        None => unreachable!(),
-    }
 }

@@ -106,6 +106,9 @@ returns-in-Ok-raise_refs-clause-gets g c =
 
 pub returns-in-Err-raise_refs-clause-gets : goal.returns-in-Err-raise_refs-clause-gets
 returns-in-Err-raise_refs-clause-gets g c =
+    let at = c.place-place.ensures ∙ ap (λ (n : Machine). number (sizes_of n) (Refs c.args.f)) c.layout-3.ensures.layout in
+    let limit = ap (λ (n : Machine). n.limit) (c.behind-port-2.view_is ∙ c.layout-2.ensures.layout) in
     let frames = ap (λ (n : Machine). n.frames) (c.behind-port.view_is ∙ c.layout.ensures.layout) in
     gets_lost _ _ c.args.f c.args.owner c.look_refs-found.result c.look_refs-found.ensures.moves (subst (λ k. c.args.f < k) (c.from-frames.ensures ∙ frames) c.if-f-frames.false) _ c.in-Ok.open c.in-Ok.ensures.reads
-    (word_law _ _ c.args.f c.args.owner c.look_refs-found.result c.look_refs-found.ensures.moves c.in-Ok.open c.look_refs-found.type_inv c.in-Ok.ensures.reads).1 _ c.in-Err-raise_refs.ensures.moves 0 0 0 c.in-Err-raise_refs.ensures.lost
+    (word_law _ _ c.args.f c.args.owner c.look_refs-found.result c.look_refs-found.ensures.moves c.in-Ok.open c.look_refs-found.type_inv c.in-Ok.ensures.reads).1 _ c.in-Err-raise_refs.ensures.moves _ at c.in-Ok.ensures.owner
+    (subst (λ k. c.in-Ok.open.count < k) limit c.in-Ok.ensures.low) c.in-Err-raise_refs.ensures.lost

@@ -1,7 +1,7 @@
 use Rattle.std.proofs.Common.{◌<◌, length, sym, subst}
 use Rattle.xp_board.specs.Told.{PortValue}
 use Rattle.frame_words.proofs.Taking.{domain_known}
-use Rattle.frame_words.proofs.Putting.{last_lowered, last_ends, gave_last, puts_last, puts_more, changes_last, changes_more}
+use Rattle.frame_words.proofs.Putting.{last_lowered, last_ends, gave_last, puts_last, puts_more, does_last, does_more}
 use Rattle.frame_words.proofs.Twinning.{twin_last, twin_more}
 use Rattle.frame_words.proofs.Alike.{told_owned}
 use Rattle.frame_words.proofs.references.put_ref.Goals as goal
@@ -39,10 +39,10 @@ returns-in-None-clause-plain g c = twin_more _ _ c.args.frame c.lower_refs-found
 
 pub returns-in-Some-clause-puts : goal.returns-in-Some-clause-puts
 returns-in-Some-clause-puts g c =
-    changes_last _ _ c.args.frame c.lower_refs-found.result c.in-Some.owner c.in-Some.ensures.0 c.lower_refs-found.ensures.moves c.lower_refs-found.ensures.hand c.in-Some.ensures.1 _ c.free_frame.ensures
+    does_last _ _ c.args.frame c.lower_refs-found.result c.in-Some.owner c.in-Some.ensures.0 c.lower_refs-found.ensures.moves c.lower_refs-found.ensures.hand c.in-Some.ensures.1 _ c.free_frame.ensures
 
 pub returns-in-None-clause-puts : goal.returns-in-None-clause-puts
-returns-in-None-clause-puts g c = changes_more _ _ c.args.frame c.lower_refs-found.result c.lower_refs-found.ensures.moves
+returns-in-None-clause-puts g c = does_more _ _ c.args.frame c.lower_refs-found.result c.lower_refs-found.ensures.moves c.in-None.ensures
 
 pub returns-in-Some-clause-owned : goal.returns-in-Some-clause-owned
 returns-in-Some-clause-owned g c = told_owned _ _ c.args.frame c.lower_refs-found.result c.lower_refs-found.ensures.moves c.requires.gives
