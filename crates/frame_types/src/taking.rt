@@ -45,6 +45,7 @@ pub fn take_type<P: Port>(
 ) -> Result<Taken, Stop>
     requires frame { frame < (P.value port.old).post.machine.frames }
     requires may { MayWork (P.value port.old) }
+    requires stub { ⊥ }
     requires wanted { IsTrue (not (is_none want)) }
     requires lent { LentBy frame owner (P.value port.old).holdings }
     requires aside { work_on frame (P.value port.old).holdings.works ≡ None → typed_to frame (P.value port.old).holdings.typed ≡ 0 }
@@ -73,6 +74,7 @@ fn take_found<P: Port>(
 ) -> Result<Taken, Stop>
     requires frame { frame < (P.value port.old).post.machine.frames }
     requires may { MayWork (P.value port.old) }
+    requires stub { ⊥ }
     requires wanted { IsTrue (not (is_none want)) }
     requires looked { IsLooked (P.value port.old) frame owner want word }
     ensures takes { (b : PortValue) → Looked b (P.value port.old) frame owner want word → Takes b (P.value port.new) frame owner want result }
@@ -127,6 +129,7 @@ fn go_on<P: Port>(
 ) -> Taken
     requires frame { frame < (P.value port.old).post.machine.frames }
     requires may { MayWork (P.value port.old) }
+    requires stub { ⊥ }
     requires wanted { IsTrue (not (is_none want)) }
     requires enters { HasEntered (P.value port.old) frame owner want marked kind own }
     ensures serves { ServesOn (P.value port.old) (P.value port.new) frame owner want marked kind.number }
@@ -162,6 +165,7 @@ fn finish<P: Port>(
 ) -> Taken
     requires frame { frame < (P.value port.old).post.machine.frames }
     requires may { MayWork (P.value port.old) }
+    requires stub { ⊥ }
     requires wanted { IsTrue (not (is_none want)) }
     requires enters { HasEntered (P.value port.old) frame owner want marked kind own }
     requires past { marked ≡ true → IsFlushed (P.value port.old).post.machine frame (P.value port.old).holdings }

@@ -9,3 +9,12 @@ pub returns-in-Ok-Some-clause-stops : goal.returns-in-Ok-Some-clause-stops
 returns-in-Ok-Some-clause-stops g c =
     stops_late (g.P.Port.value c.args.port.now) (g.P.Port.value c.clear_all.new.port) (record { frame = c.args.frame; owner = c.args.owner; stamp = c.args.stamp }) c.in-Ok-Some.field-0-0
     (rw c.in-Ok-Some.field-0-is at c.in-Ok-Some.ensures)
+
+pub returns-in-Ok-None-clause-visits : goal.returns-in-Ok-None-clause-visits
+returns-in-Ok-None-clause-visits g c = absurd c.requires.stub
+
+pub returns-in-Ok-Some-clause-visits : goal.returns-in-Ok-Some-clause-visits
+returns-in-Ok-Some-clause-visits g c = absurd c.requires.stub
+
+pub returns-in-Err-clause-visits : goal.returns-in-Err-clause-visits
+returns-in-Err-clause-visits g c = absurd c.requires.stub
