@@ -1,113 +1,94 @@
--- The next entry by the words found: what is answered and changed, by what became of it.
-use Rattle.std.proofs.Common.{◌≡◌, ℕ, List, [], ◌∷◌, ◌++◌, None, Result, Ok, Err, sym, subst}
+-- The next entry by its steps: which there are, by what became of it.
+use Rattle.std.proofs.Common.{◌≡◌, ℕ, ◌+◌, Bool, List, Some, Result, Ok, Err, refl, sym, subst}
 use Rattle.xp_words.specs.Entries.{demand_at}
+use Rattle.xp_words.specs.Machine.{Machine}
 use Rattle.xp_words.specs.declared.entry.Demand.{Demand}
-use Rattle.xp_words.specs.declared.entry.Demand.TheVariants.{Typed}
+use Rattle.xp_words.specs.declared.entry.Demand.TheVariants.{Bad, Nothing, Typed}
 use Rattle.xp_words.specs.declared.kind.PageType.{PageType}
-use Rattle.xp_words.specs.declared.place.Place.{Place}
-use Rattle.xp_words.specs.declared.place.Place.TheVariants.{Cell, Refs}
+use Rattle.xp_words.specs.declared.place.Place.TheVariants.{Clock}
 use Rattle.xp_words.specs.declared.reply.Pause.TheVariants as pauses
 use Rattle.xp_words.specs.declared.reply.Refusal.TheVariants as refusals
 use Rattle.xp_words.specs.declared.reply.Stop.{Stop}
 use Rattle.xp_words.specs.declared.reply.Stop.TheVariants.{Refused, Paused}
-use Rattle.xp_board.specs.declared.step.Act.{Act}
-use Rattle.xp_board.specs.declared.step.Act.TheVariants.{Cas, Load}
+use Rattle.xp_board.specs.declared.step.Act.TheVariants.{Load}
+use Rattle.xp_board.specs.declared.step.Mark.TheVariants.{Record}
 use Rattle.xp_board.specs.declared.step.StepKind.TheVariants as kinds
-use Rattle.xp_board.specs.Told.{PortValue}
-use Rattle.step_maker.specs.Moves.{Came, Met}
-use Rattle.step_maker.proofs.Coming.{came_self, came_trans}
-use Rattle.answer_fits.specs.Answers.{Changes}
-use Rattle.answer_fits.specs.Finding.{FoundAt}
-use Rattle.answer_fits.proofs.Piecing.{changes_came, changes_nothing, changes_then}
-use Rattle.frame_words.specs.Freeing.{Puts}
-use Rattle.frame_words.specs.Refs.{Gets}
-use Rattle.frame_types.specs.Changing.{IsStopped, TakesFound}
+use Rattle.xp_board.specs.Told.{Post, PortValue}
+use Rattle.step_maker.specs.Moves.{Came, Moves}
+use Rattle.step_maker.proofs.Coming.{came_post}
+use Rattle.answer_fits.specs.Visits.{Visit, Does, Only, Then}
+use Rattle.answer_fits.proofs.Visiting.{does_as, does_came, does_next, does_nothing, does_one, does_then}
+use Rattle.frame_words.specs.Freeing.{PutBy, Puts}
+use Rattle.frame_words.specs.Refs.{Gets, GetsBy, TakesFirst}
+use Rattle.frame_words.proofs.Getting.{first_had}
+use Rattle.frame_types.specs.Found.{TakesFound, TakesOf, TypeBy}
 use Rattle.frame_types.specs.declared.taking.Taken.{Taken}
+use Rattle.frame_types.specs.declared.taking.Taken.TheVariants as types
+use Rattle.table_words.specs.Entries.{Records, records_at}
 use Rattle.table_entries.specs.Between.{SeesEntry}
-use Rattle.table_entries.specs.Found.{EntersBy, EntersFound, PutBack, ReadFound, TakenFound, TypedAgain, TypedFound}
+use Rattle.table_entries.specs.Found.{EnteredBy, EntersBy, EntersFound, ReadBy, RefusesBy, TypedBy, saw_cell}
 use Rattle.table_entries.specs.declared.entries.Entered.{Entered}
-use Rattle.table_entries.specs.declared.entries.Entered.TheVariants.{Recorded}
-use Rattle.answer_fits.proofs.Changing.{changes_look, found_wider, moves_found}
-use Rattle.frame_types.proofs.Wider.{stopped_wider, takes_wider}
-use Rattle.frame_words.proofs.First.{first_had}
-use Rattle.frame_words.proofs.Getting.{referred_wider, unreferred_wider}
+use Rattle.table_entries.specs.declared.entries.Entered.TheVariants.{Opened, Recorded}
 use Rattle.table_entries.proofs.TwinsTyped.{not_awaited}
+
+-- what is said of the machine is the same before steps
+pub does_before : (v x w : PortValue) (P : Machine → List Visit → Type 0) → Came v x → Does x w (P x.post.machine) → Does x w (P v.post.machine)
+does_before v x w P came d = subst (λ (p : Post). Does x w (P p.machine)) (came_post v x came) d
 
 -- ---- the look at it
 module _ (b v : PortValue) (f i : ℕ) (t : PageType) (word : ℕ) (looks : SeesEntry b v f i t word) where
-  pub looked_changes : Changes b v []
-  looked_changes = changes_look b b v [] (Cell f i) kinds.Look None (changes_nothing b) word looks.look
+  pub looked_cell : Does b v (Only (saw_cell f i word))
+  looked_cell = does_one b v _ _ _ _ word looks.look
 
-  pub looked_found : (w : PortValue) → Came v w → FoundAt (Met b w) (Cell f i) word
-  looked_found w came = found_wider b b v w (came_self b) came (Cell f i) word (moves_found b v (Cell f i) Load kinds.Look None word looks.look)
+  -- and the rest, by what it asks
+  pub enters_by : (owner : ℕ) (d : Demand) → demand_at t i word ≡ d → (w : PortValue) (answer : Result Entered Stop) → Does v w (λ vs. EntersBy v.post.machine f i owner answer word d vs) → EntersFound b w f i t owner answer
+  enters_by owner d asks w answer rest =
+      does_as b w (Then (Only (saw_cell f i word)) (λ es. EntersBy b.post.machine f i owner answer word (demand_at t i word) es)) (λ vs. EnteredBy b.post.machine f i t owner answer vs) (λ vs steps. (word, steps))
+      (does_next b v w (Only (saw_cell f i word)) (λ n es. EntersBy n f i owner answer word (demand_at t i word) es) looked_cell
+      (subst (λ k. Does v w (λ es. EntersBy v.post.machine f i owner answer word k es)) (sym asks) rest))
 
-  -- by what it asks
-  pub enters_by : (owner : ℕ) (d : Demand) → demand_at t i word ≡ d → (w : PortValue) (answer : Result Entered Stop) → Came v w → EntersBy b w f i owner answer word d → EntersFound b w f i t owner answer
-  enters_by owner d asks w answer came way = record { word = word; found = looked_found w came; way = subst (λ k. EntersBy b w f i owner answer word k) (sym asks) way }
+-- ---- it is recorded
+pub does_record : (v w : PortValue) (f upto clock : ℕ) → Moves v w Clock Load kinds.Look (Some (Record f upto)) clock → Does v w (λ vs. Records f upto vs)
+does_record v w f upto clock m = does_as v w (Only (records_at f upto clock)) (λ vs. Records f upto vs) (λ vs one. (clock, one)) (does_one v w _ _ _ _ clock m)
 
--- ---- its reference, behind steps that changed nothing
-module _ (b v x : PortValue) (g owner : ℕ) (before : Changes b v []) where
-  -- it is not to be had
-  pub read_refused_found : (e : Stop) → Gets {A = ℕ} v x g owner (Err e) → ReadFound b x g owner (Err e)
-  read_refused_found (Refused r) got = (unreferred_wider b v x x (changes_came b v [] before) (came_self x) g owner r got.0, changes_then b v x [] [] before got.1)
-  read_refused_found (Paused r) got = changes_then b v x [] [] before got
+pub nothing_recorded : (v w : PortValue) (f i owner word clock : ℕ) → Moves v w Clock Load kinds.Look (Some (Record f (i + 1))) clock → Does v w (λ vs. EntersBy v.post.machine f i owner (Ok Recorded) word Nothing vs)
+nothing_recorded v w f i owner word clock m =
+    does_as v w (λ rs. Records f (i + 1) rs) (λ vs. EntersBy v.post.machine f i owner (Ok Recorded) word Nothing vs) (λ vs records. (refl, records)) (does_record v w f (i + 1) clock m)
 
-  -- it is had
-  module _ (k : ℕ) (got : Gets {A = ℕ} v x g owner (Ok k)) where
-    got_changes : Changes b x ((Refs g, Cas got.0 got.1) ∷ [])
-    got_changes = changes_then b v x [] ((Refs g, Cas got.0 got.1) ∷ []) before got.3
+-- ---- it asks what none may
+pub bad_stopped : (v : PortValue) (f i owner word : ℕ) → Does v v (λ vs. EntersBy v.post.machine f i owner (Err (Refused (refusals.Reserved f i word))) word Bad vs)
+bad_stopped v f i owner word = does_as v v _ (λ vs. EntersBy v.post.machine f i owner (Err (Refused (refusals.Reserved f i word))) word Bad vs) (λ vs none. (refl, none)) (does_nothing v)
 
-    pub read_found : (w : PortValue) → Changes x w [] → ReadFound b w g owner (Ok Recorded)
-    read_found w after = (
-      got.0,
-      got.1,
-      referred_wider b v x w (changes_came b v [] before) (changes_came x w [] after) g owner got.0 got.2,
-      changes_then b x w ((Refs g, Cas got.0 got.1) ∷ []) [] got_changes after,
-    )
+-- ---- an entry that asks a reference alone
+pub read_recorded : (v x w : PortValue) (g owner f i k clock : ℕ) → Gets {A = ℕ} v x g owner (Ok k) → Moves x w Clock Load kinds.Look (Some (Record f (i + 1))) clock → Does v w (λ vs. ReadBy v.post.machine g owner f i (Ok Recorded) vs)
+read_recorded v x w g owner f i k clock got m = does_then v x w (λ gs. GetsBy {A = ℕ} v.post.machine g owner (Ok g) gs) (λ rs. Records f (i + 1) rs) got (does_record x w f (i + 1) clock m)
 
--- ---- behind its reference, by those changes: the type
-module _ (b x : PortValue) (g : ℕ) (t : PageType) (gs : List (Place × Act)) (before : Changes b x gs) where
-  pub taken_found : (y w : PortValue) (way : Taken) → TakesFound x y g t (Ok way) → Changes y w [] → TakenFound b w g t way gs
-  taken_found y w way takes after =
-      record {
-        taking = takes.0;
-        takes = takes_wider b x y w (changes_came b x gs before) (changes_came y w [] after) g t way takes.0 takes.1;
-        changed = changes_then b y w (takes.0 ++ gs) [] (changes_then b x y gs takes.0 before takes.2) after;
-      }
+-- ---- behind the reference: the type
+-- it is not to be had, and the reference was given back
+pub refuses : (x y z : PortValue) (g : ℕ) (t : PageType) (e : Stop) → TakesFound x y g t (Err e) → Puts y z g → Does x z (λ vs. RefusesBy x.post.machine g t e vs)
+refuses x y z g t e stops puts = does_then x y z (λ ts. TypeBy x.post.machine g t (Err e) ts) (PutBy g) stops puts
 
-  -- it is not to be had, and the reference was given back
-  module _ (y z : PortValue) (puts : Puts y z g) where
-    put_back : Changes x y [] → PutBack b z g gs
-    put_back same = (puts.list, puts.put, changes_then b y z gs puts.list (changes_then b x y gs [] before same) puts.changed)
+-- (it waits for no flush then)
+refused_typed : (n : Machine) (g : ℕ) (t : PageType) (f i : ℕ) (e : Stop) (vs : List Visit) → RefusesBy n g t e vs → TypedBy n g t f i (Err e) vs
+refused_typed n g t f i (Refused (refusals.Clock x)) vs a = absurd (not_awaited g t _ _ (Refused (refusals.Clock x)) a.first.1 tt)
+refused_typed n g t f i (Paused (pauses.Flush u stamp x)) vs a = absurd (not_awaited g t _ _ (Paused (pauses.Flush u stamp x)) a.first.1 tt)
+refused_typed n g t f i (Refused _) vs a = a
+refused_typed n g t f i (Paused _) vs a = a
 
-    stopped_back : (e : Stop) → IsStopped x y g t e × Changes x y [] → IsStopped b z g t e × PutBack b z g gs
-    stopped_back e a = (stopped_wider b x y z (changes_came b x gs before) (changes_came y z puts.list puts.changed) g t e a.0, put_back a.1)
+pub typed_stopped : (x y z : PortValue) (g : ℕ) (t : PageType) (f i : ℕ) (e : Stop) → TakesFound x y g t (Err e) → Puts y z g → Does x z (λ vs. TypedBy x.post.machine g t f i (Err e) vs)
+typed_stopped x y z g t f i e stops puts =
+    does_as x z (λ vs. RefusesBy x.post.machine g t e vs) (λ vs. TypedBy x.post.machine g t f i (Err e) vs) (λ vs a. refused_typed x.post.machine g t f i e vs a) (refuses x y z g t e stops puts)
 
-    -- (it waits for no flush then)
-    pub typed_stopped : (e : Stop) → TakesFound x y g t (Err e) → TypedFound b z g t (Err e) gs
-    typed_stopped (Paused (pauses.Lost place expected word)) a = put_back a
-    typed_stopped (Refused (refusals.Clock word)) a = absurd (not_awaited g t _ _ (Refused (refusals.Clock word)) a.0.stops tt)
-    typed_stopped (Paused (pauses.Flush u stamp word)) a = absurd (not_awaited g t _ _ (Paused (pauses.Flush u stamp word)) a.0.stops tt)
-    typed_stopped (Refused r) a = stopped_back (Refused r) a
-    typed_stopped (Paused r) a = stopped_back (Paused r) a
+pub typed_recorded : (x y w : PortValue) (g : ℕ) (t : PageType) (f i clock : ℕ) → TakesFound x y g t (Ok types.Counted) → Moves y w Clock Load kinds.Look (Some (Record f (i + 1))) clock → Does x w (λ vs. TypedBy x.post.machine g t f i (Ok Recorded) vs)
+typed_recorded x y w g t f i clock takes m = does_then x y w (λ ts. TakesOf g t types.Counted ts) (λ rs. Records f (i + 1) rs) takes (does_record y w f (i + 1) clock m)
 
-    pub again_stopped_found : (e : Stop) → TakesFound x y g t (Err e) → TypedAgain b z g t (Err e) gs
-    again_stopped_found (Paused (pauses.Lost place expected word)) a = put_back a
-    again_stopped_found (Refused r) a = stopped_back (Refused r) a
-    again_stopped_found (Paused r) a = stopped_back (Paused r) a
+pub typed_opened : (x y : PortValue) (g : ℕ) (t : PageType) (f i progress : ℕ) (own : Bool) → TakesFound x y g t (Ok (types.InWork progress own)) → Does x y (λ vs. TypedBy x.post.machine g t f i (Ok (Opened g progress own)) vs)
+typed_opened x y g t f i progress own takes = does_as x y (λ ts. TakesOf g t (types.InWork progress own) ts) (λ vs. TypedBy x.post.machine g t f i (Ok (Opened g progress own)) vs) (λ vs taken. (refl, taken)) takes
 
--- ---- an entry that asks a type, behind its reference
-module _ (b v : PortValue) (f i : ℕ) (t : PageType) (word : ℕ) (looks : SeesEntry b v f i t word) (owner g : ℕ) (want : PageType) (asks : demand_at t i word ≡ Typed g want) (x : PortValue) (k : ℕ) (got : Gets {A = ℕ} v x g owner (Ok k)) where
-  pub enters_had : (w : PortValue) (answer : Result Entered Stop) → Came x w → ((gs : List (Place × Act)) → Changes b x gs → TypedFound b w g want answer gs) → EntersFound b w f i t owner answer
-  enters_had w answer came way =
-      enters_by b v f i t word looks owner (Typed g want) asks w answer (came_trans v x w (changes_came v x ((Refs g, Cas got.0 got.1) ∷ []) got.3) came)
-      (first_had b v x g owner (looked_changes b v f i t word looks) (λ gs. TypedFound b w g want answer gs) k got w answer came way)
-
-  -- the type was taken that way
-  pub enters_taken : (y w : PortValue) (way : Taken) → TakesFound x y g want (Ok way) → Changes y w [] → (answer : Result Entered Stop) → ((gs : List (Place × Act)) → TakenFound b w g want way gs → TypedFound b w g want answer gs) →
-      EntersFound b w f i t owner answer
-  enters_taken y w way takes after answer by =
-      enters_had w answer (came_trans x y w (changes_came x y takes.0 takes.2) (changes_came y w [] after)) (λ gs before. by gs (taken_found b x g want gs before y w way takes after))
-
-  pub enters_stopped : (y z : PortValue) (e : Stop) → Came x y → TakesFound x y g want (Err e) → Puts y z g → EntersFound b z f i t owner (Err e)
-  enters_stopped y z e came stops puts = enters_had z (Err e) (came_trans x y z came (changes_came y z puts.list puts.changed)) (λ gs before. typed_stopped b x g want gs before y z puts e stops)
+-- ---- an entry that asks a type
+module _ (b v : PortValue) (f i : ℕ) (t : PageType) (word : ℕ) (looks : SeesEntry b v f i t word) (owner g : ℕ) (want : PageType) (asks : demand_at t i word ≡ Typed g want) where
+  pub enters_had : (x w : PortValue) (k : ℕ) (answer : Result Entered Stop) → Gets {A = ℕ} v x g owner (Ok k) → Does x w (λ ts. TypedBy x.post.machine g want f i answer ts) → EntersFound b w f i t owner answer
+  enters_had x w k answer got rest =
+      enters_by b v f i t word looks owner (Typed g want) asks w answer
+      (first_had Entered v x g owner (λ ts. TypedBy v.post.machine g want f i answer ts) w k answer got
+      (does_before v x w (λ n ts. TypedBy n g want f i answer ts) (does_came v x (λ gs. GetsBy {A = ℕ} v.post.machine g owner (Ok k) gs) got) rest))

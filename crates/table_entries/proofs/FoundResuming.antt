@@ -1,98 +1,91 @@
--- The last recorded entry again by the words found: what is answered and changed, by what became of it.
-use Rattle.std.proofs.Common.{◌≡◌, ◌⊎◌, ℕ, ◌≤◌, List, [], ◌∷◌, Bool, true, false, None, Result, Ok, Err, refl, sym, subst, inl, inr}
+-- The last recorded entry again by its steps: which there are, by what became of it.
+use Rattle.std.proofs.Common.{◌≡◌, ℕ, List, Bool, true, false, Result, Ok, Err, refl, sym, subst}
 use Rattle.xp_words.specs.Entries.{demand_at}
+use Rattle.xp_words.specs.Machine.{Machine}
 use Rattle.xp_words.specs.declared.entry.Demand.{Demand}
 use Rattle.xp_words.specs.declared.entry.Demand.TheVariants.{Bad, Nothing, Read, Typed}
 use Rattle.xp_words.specs.declared.kind.PageType.{PageType}
-use Rattle.xp_words.specs.declared.place.Place.{Place}
-use Rattle.xp_words.specs.declared.place.Place.TheVariants.{Kind, Refs}
 use Rattle.xp_words.specs.declared.reply.Stop.{Stop}
-use Rattle.xp_board.specs.declared.step.Act.{Act}
-use Rattle.xp_board.specs.declared.step.Act.TheVariants.{Cas, Load}
-use Rattle.xp_board.specs.declared.step.StepKind.TheVariants as kinds
-use Rattle.xp_board.specs.Readings.{is_live_word}
-use Rattle.xp_board.specs.Told.{Post, PortValue}
-use Rattle.step_maker.specs.Moves.{Came, Met}
-use Rattle.step_maker.proofs.Coming.{came_post, came_self, came_trans}
-use Rattle.answer_fits.specs.Answers.{Changes}
-use Rattle.answer_fits.specs.Finding.{FoundAt}
-use Rattle.answer_fits.proofs.Piecing.{changes_came, changes_nothing, changes_then}
+use Rattle.xp_board.specs.Told.{PortValue}
+use Rattle.answer_fits.specs.Visits.{Visit, Does, Only, Then}
+use Rattle.answer_fits.specs.Visits.{Nothing as NoVisit}
+use Rattle.answer_fits.proofs.Visiting.{does_as, does_came, does_next, does_nothing, does_one}
 use Rattle.frame_words.specs.Freeing.{Puts}
-use Rattle.frame_words.specs.Refs.{Gets, IsRefStop, TakesFirst}
-use Rattle.frame_types.specs.Changing.{TakesFound}
-use Rattle.frame_types.specs.declared.taking.Taken.{Taken}
+use Rattle.frame_words.specs.Refs.{Gets, GetsBy, TakesFirst}
+use Rattle.frame_words.proofs.Getting.{first_had, first_stopped}
+use Rattle.frame_types.specs.Found.{TakesFound, TakesOf, saw_kind}
+use Rattle.frame_types.specs.declared.taking.Taken.TheVariants as types
 use Rattle.table_entries.specs.Between.{LooksLive, SeesEntry, found, outside}
-use Rattle.table_entries.specs.Found.{LastFound, ResumesBy, ResumesFound, TakenFound, TypedAgain, other, settled}
+use Rattle.table_entries.specs.Found.{AgainBy, ResumedBy, ResumesBy, ResumesFound, TypedAgain, saw_cell, other, outside as unreal, settled}
 use Rattle.table_entries.specs.declared.resuming.Resumed.{Resumed}
-use Rattle.table_entries.specs.declared.resuming.Resumed.TheVariants.{Settled}
-use Rattle.frame_words.proofs.First.{first_had, first_refused}
-use Rattle.table_entries.proofs.FoundEntering.{again_stopped_found, looked_changes, looked_found, taken_found}
-use Rattle.answer_fits.proofs.Changing.{changes_look, found_wider, moves_found}
+use Rattle.table_entries.specs.declared.resuming.Resumed.TheVariants as again
+use Rattle.table_entries.proofs.FoundEntering.{does_before, looked_cell, refuses}
 use Rattle.table_entries.proofs.PiecesStanding.{AsksNoType}
 
--- ---- the look at the frame itself
-live_changes : (u v : PortValue) (g : ℕ) (live : Bool) → LooksLive u v g live → Changes u v []
-live_changes u v g _ (outside past is) = subst (λ x. Changes u x []) (sym is) (changes_nothing u)
-live_changes u v g _ (found word live inside m same is) = changes_look u u v [] (Kind g) kinds.Look None (changes_nothing u) word m
+no_type_by : (n : Machine) (owner : ℕ) (d : Demand) → AsksNoType d → (vs : List Visit) → NoVisit vs → ResumesBy n owner (Ok again.Settled) d vs
+no_type_by n owner Nothing none vs same = (refl, same)
+no_type_by n owner Bad none vs same = (refl, same)
+no_type_by n owner (Read g) none vs same = (refl, same)
+no_type_by n owner (Typed g t) none vs same = absurd (none g t refl)
 
-live_there : (b u v : PortValue) (g : ℕ) → Came b u → LooksLive u v g true → (x : ℕ) × FoundAt (Met b v) (Kind g) x × (is_live_word x ≡ true)
-live_there b u v g came (found word _ inside m same is) = (word, found_wider b u v v came (came_self v) (Kind g) word (moves_found u v (Kind g) Load kinds.Look None word m), is)
+-- ---- behind the look at the frame: its reference, and the type
+pub retaken : (x y : PortValue) (g : ℕ) (t : PageType) → TakesFound x y g t (Ok types.Counted) → Does x y (λ vs. TypedAgain x.post.machine g t (Ok (again.Taken g)) vs)
+retaken x y g t takes = does_as x y (λ ts. TakesOf g t types.Counted ts) (λ vs. TypedAgain x.post.machine g t (Ok (again.Taken g)) vs) (λ vs taken. (refl, taken)) takes
 
-other_there : (b u v w : PortValue) (g : ℕ) → Came b u → Came v w → LooksLive u v g false → (b.post.machine.frames ≤ g) ⊎ ((x : ℕ) × FoundAt (Met b w) (Kind g) x × (is_live_word x ≡ false))
-other_there b u v w g came more (outside past is) = inl (subst (λ (p : Post). p.machine.frames ≤ g) (came_post b u came) past)
-other_there b u v w g came more (found word _ inside m same is) = inr (word, found_wider b u v w came more (Kind g) word (moves_found u v (Kind g) Load kinds.Look None word m), is)
+pub reopened : (x y : PortValue) (g : ℕ) (t : PageType) (progress : ℕ) (own : Bool) → TakesFound x y g t (Ok (types.InWork progress own)) → Does x y (λ vs. TypedAgain x.post.machine g t (Ok (again.Opened g progress own)) vs)
+reopened x y g t progress own takes = does_as x y (λ ts. TakesOf g t (types.InWork progress own) ts) (λ vs. TypedAgain x.post.machine g t (Ok (again.Opened g progress own)) vs) (λ vs taken. (refl, taken)) takes
 
-no_type_by : (b u : PortValue) (owner : ℕ) (d : Demand) → AsksNoType d → Changes b u [] → ResumesBy b u owner (Ok Settled) d
-no_type_by b u owner Nothing none same = (refl, same)
-no_type_by b u owner Bad none same = (refl, same)
-no_type_by b u owner (Read g) none same = (refl, same)
-no_type_by b u owner (Typed g t) none same = absurd (none g t refl)
+pub rewaited : (x y : PortValue) (g : ℕ) (t : PageType) (own : Bool) (stamp : ℕ) (stop : Stop) → TakesFound x y g t (Ok (types.Waiting own stamp stop)) → Does x y (λ vs. TypedAgain x.post.machine g t (Ok (again.Waiting g own stamp stop)) vs)
+rewaited x y g t own stamp stop takes =
+    does_as x y (λ ts. TakesOf g t (types.Waiting own stamp stop) ts) (λ vs. TypedAgain x.post.machine g t (Ok (again.Waiting g own stamp stop)) vs) (λ vs taken. (refl, taken)) takes
 
 module _ (b u : PortValue) (f i : ℕ) (t : PageType) (word : ℕ) (looks : SeesEntry b u f i t word) (owner : ℕ) where
+  -- the look at the entry, and the rest by what it asks
+  resumes_by : (d : Demand) → demand_at t i word ≡ d → (w : PortValue) (answer : Result Resumed Stop) → Does u w (λ vs. ResumesBy u.post.machine owner answer d vs) → ResumesFound b w f i t owner answer
+  resumes_by d asks w answer rest =
+      does_as b w (Then (Only (saw_cell f i word)) (λ rs. ResumesBy b.post.machine owner answer (demand_at t i word) rs)) (λ vs. ResumedBy b.post.machine f i t owner answer vs) (λ vs steps. (word, steps))
+      (does_next b u w (Only (saw_cell f i word)) (λ n rs. ResumesBy n owner answer (demand_at t i word) rs) (looked_cell b u f i t word looks)
+      (subst (λ k. Does u w (λ rs. ResumesBy u.post.machine owner answer k rs)) (sym asks) rest))
+
   -- it asks no type
-  pub standing_found : AsksNoType (demand_at t i word) → ResumesFound b u f i t owner (Ok Settled)
+  pub standing_found : AsksNoType (demand_at t i word) → ResumesFound b u f i t owner (Ok again.Settled)
   standing_found none =
-      record { word = word; found = looked_found b u f i t word looks u (came_self u); way = no_type_by b u owner (demand_at t i word) none (looked_changes b u f i t word looks) }
+      resumes_by (demand_at t i word) refl u (Ok again.Settled)
+      (does_as u u _ (λ vs. ResumesBy u.post.machine owner (Ok again.Settled) (demand_at t i word) vs) (λ vs same. no_type_by u.post.machine owner (demand_at t i word) none vs same) (does_nothing u))
 
   module _ (g : ℕ) (want : PageType) (asks : demand_at t i word ≡ Typed g want) (v : PortValue) where
-    resumes_by : (w : PortValue) (answer : Result Resumed Stop) → Came u w → LastFound b w g want owner answer → ResumesFound b w f i t owner answer
-    resumes_by w answer came way = record { word = word; found = looked_found b u f i t word looks w came; way = subst (λ k. ResumesBy b w owner answer k) (sym asks) way }
-
-    both_changes : (live : Bool) → LooksLive u v g live → Changes b v []
-    both_changes live is = changes_then b u v [] [] (looked_changes b u f i t word looks) (live_changes u v g live is)
-
-    looked_came : Came b u
-    looked_came = changes_came b u [] (looked_changes b u f i t word looks)
-
     -- its frame is live
-    pub live_found : LooksLive u v g true → ResumesFound b v f i t owner (Ok Settled)
-    live_found is =
-        let there = live_there b u v g looked_came is in
-        resumes_by v (Ok Settled) (changes_came u v [] (live_changes u v g true is)) (settled there.0 there.1 there.2 refl (both_changes true is))
+    live_by : LooksLive u v g true → Does u v (λ vs. AgainBy u.post.machine g want owner (Ok again.Settled) vs)
+    live_by (found x _ inside m same is) = does_as u v (Only (saw_kind g x)) (λ vs. AgainBy u.post.machine g want owner (Ok again.Settled) vs) (λ vs one. settled x inside is refl one) (does_one u v _ _ _ _ x m)
+
+    pub live_found : LooksLive u v g true → ResumesFound b v f i t owner (Ok again.Settled)
+    live_found is = resumes_by (Typed g want) asks v (Ok again.Settled) (live_by is)
 
     -- or it is not, and is taken again
+    module _ (w : PortValue) (answer : Result Resumed Stop) where
+      other_by : LooksLive u v g false → Does v w (λ vs. TakesFirst v.post.machine g owner (λ ts. TypedAgain v.post.machine g want answer ts) answer vs) → Does u w (λ vs. AgainBy u.post.machine g want owner answer vs)
+      other_by (outside past is) rest =
+          does_as u w (λ vs. TakesFirst u.post.machine g owner (λ ts. TypedAgain u.post.machine g want answer ts) answer vs) (λ vs. AgainBy u.post.machine g want owner answer vs) (λ vs first. unreal past first)
+          (subst (λ (q : PortValue). Does q w (λ vs. TakesFirst q.post.machine g owner (λ ts. TypedAgain q.post.machine g want answer ts) answer vs)) is rest)
+      other_by (found x _ inside m same is) rest =
+          does_as u w (Then (Only (saw_kind g x)) (λ gs. TakesFirst u.post.machine g owner (λ ts. TypedAgain u.post.machine g want answer ts) answer gs)) (λ vs. AgainBy u.post.machine g want owner answer vs)
+          (λ vs steps. other x inside is steps)
+          (does_next u v w (Only (saw_kind g x)) (λ n gs. TakesFirst n g owner (λ ts. TypedAgain n g want answer ts) answer gs) (does_one u v _ _ _ _ x m) rest)
+
     module _ (off : LooksLive u v g false) where
-      resumes_asked : (w : PortValue) (answer : Result Resumed Stop) → Came v w → TakesFirst b w g owner (λ gs. TypedAgain b w g want answer gs) answer → ResumesFound b w f i t owner answer
-      resumes_asked w answer came way =
-          resumes_by w answer (came_trans u v w (changes_came u v [] (live_changes u v g false off)) came) (other (other_there b u v w g looked_came came off) way)
+      -- no reference is to be had
+      pub unreferred_found : (x : PortValue) (e : Stop) → Gets {A = ℕ} v x g owner (Err e) → ResumesFound b x f i t owner (Err e)
+      unreferred_found x e got =
+          resumes_by (Typed g want) asks x (Err e) (other_by x (Err e) off (first_stopped Resumed v x g owner (λ ts. TypedAgain v.post.machine g want (Err e) ts) e got))
 
-      -- no reference was to be had
-      pub unreferred_found : (x : PortValue) (e : Stop) → IsRefStop e → Came v x → Gets {A = ℕ} v x g owner (Err e) → ResumesFound b x f i t owner (Err e)
-      unreferred_found x e is came got = resumes_asked x (Err e) came (first_refused b v x g owner (both_changes false off) (λ gs. TypedAgain b x g want (Err e) gs) e is got)
+      -- or it is
+      pub resumes_had : (x w : PortValue) (k : ℕ) (answer : Result Resumed Stop) → Gets {A = ℕ} v x g owner (Ok k) → Does x w (λ vs. TypedAgain x.post.machine g want answer vs) → ResumesFound b w f i t owner answer
+      resumes_had x w k answer got rest =
+          resumes_by (Typed g want) asks w answer
+          (other_by w answer off
+          (first_had Resumed v x g owner (λ ts. TypedAgain v.post.machine g want answer ts) w k answer got
+          (does_before v x w (λ n ts. TypedAgain n g want answer ts) (does_came v x (λ gs. GetsBy {A = ℕ} v.post.machine g owner (Ok k) gs) got) rest)))
 
-      module _ (x : PortValue) (k : ℕ) (got : Gets {A = ℕ} v x g owner (Ok k)) where
-        resumes_had : (w : PortValue) (answer : Result Resumed Stop) → Came x w → ((gs : List (Place × Act)) → Changes b x gs → TypedAgain b w g want answer gs) → ResumesFound b w f i t owner answer
-        resumes_had w answer came way =
-            resumes_asked w answer (came_trans v x w (changes_came v x ((Refs g, Cas got.0 got.1) ∷ []) got.3) came)
-            (first_had b v x g owner (both_changes false off) (λ gs. TypedAgain b w g want answer gs) k got w answer came way)
-
-        -- the type was taken that way
-        pub retaken_found : (y : PortValue) (way : Taken) → TakesFound x y g want (Ok way) → (answer : Result Resumed Stop) → ((gs : List (Place × Act)) → TakenFound b y g want way gs → TypedAgain b y g want answer gs) →
-            ResumesFound b y f i t owner answer
-        retaken_found y way takes answer by =
-            resumes_had y answer (changes_came x y takes.0 takes.2) (λ gs before. by gs (taken_found b x g want gs before y y way takes (changes_nothing y)))
-
-        -- it is not to be had, and the reference was given back
-        pub untaken_found : (y z : PortValue) (e : Stop) → Came x y → TakesFound x y g want (Err e) → Puts y z g → ResumesFound b z f i t owner (Err e)
-        untaken_found y z e came stops puts =
-            resumes_had z (Err e) (came_trans x y z came (changes_came y z puts.list puts.changed)) (λ gs before. again_stopped_found b x g want gs before y z puts e stops)
+      -- and the type is not: the reference was given back
+      pub untaken_found : (x y z : PortValue) (k : ℕ) (e : Stop) → Gets {A = ℕ} v x g owner (Ok k) → TakesFound x y g want (Err e) → Puts y z g → ResumesFound b z f i t owner (Err e)
+      untaken_found x y z k e got stops puts = resumes_had x z k (Err e) got (refuses x y z g want e stops puts)

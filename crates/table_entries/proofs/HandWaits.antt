@@ -20,7 +20,7 @@ use Rattle.answer_fits.specs.Asked.{of_frame}
 use Rattle.answer_fits.proofs.Piecing.{serves_came}
 use Rattle.frame_words.specs.Plain.{TwinGet}
 use Rattle.frame_words.specs.Refs.{Gets, took}
-use Rattle.frame_types.specs.Changing.{TakesFound}
+use Rattle.frame_types.specs.Found.{TakesFound}
 use Rattle.frame_types.specs.Leaving.{GivesBack, IsWaiting, KeepsType, StaysTyped, WaitsFrom}
 use Rattle.frame_types.specs.Plain.{TwinTake}
 use Rattle.frame_types.specs.Taking.{ShowsWait, WaitsWith, working_typed}

@@ -16,7 +16,7 @@ use Rattle.step_maker.specs.Moves.{Moves}
 use Rattle.answer_fits.specs.Answers.{Serves, Stops, misses}
 use Rattle.answer_fits.specs.Asked.{of_frame}
 use Rattle.flush_waits.specs.Waiting.{IsKnownOwner}
-use Rattle.frame_types.specs.Changing.{TakesFound}
+use Rattle.frame_types.specs.Found.{TakesFound}
 use Rattle.frame_types.specs.Plain.{TwinTake}
 use Rattle.frame_types.specs.Taking.{IsOfOther, ShowsWait, WaitsWith}
 use Rattle.frame_types.specs.declared.taking.Taken.TheVariants.{Waiting}

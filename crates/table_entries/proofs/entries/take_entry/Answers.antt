@@ -11,10 +11,7 @@ use Rattle.step_maker.proofs.Telling.{told_there}
 use Rattle.step_maker.specs.Plain.{Words}
 use Rattle.table_entries.specs.declared.entries.Entered.TheVariants.{Recorded}
 use Rattle.table_entries.proofs.TwinsLooked.{load_keeps, twin_entry}
-use Rattle.step_maker.proofs.Coming.{came_self}
-use Rattle.answer_fits.proofs.Piecing.{changes_came, changes_nothing, changes_then}
-use Rattle.table_entries.proofs.FoundEntering.{enters_by, looked_changes}
-use Rattle.answer_fits.proofs.Changing.{changes_look}
+use Rattle.table_entries.proofs.FoundEntering.{bad_stopped, enters_by, nothing_recorded}
 use Rattle.table_entries.proofs.entries.take_entry.Goals as goal
 use Rattle.xp_words.specs.declared.entry.Demand.TheVariants as demands
 use Rattle.xp_board.specs.declared.step.StepKind.TheVariants as kinds
@@ -207,9 +204,8 @@ returns-in-Nothing-clause-found g c =
     let w = g.P.Port.value c.record_entry.new.port in
     let looks : SeesEntry v u at.table at.index at.kind c.look_cell-word.result =
     record { look = c.look_cell-word.ensures.moves; hand = c.look_cell-word.ensures.hand; frame = c.requires.frame; index = c.requires.index; held = c.requires.held; above = c.requires.above; looked = c.requires.looked } in
-    let records = changes_look u u w [] Clock kinds.Look _ (changes_nothing u) c.record_entry.result c.record_entry.ensures.moves in
-    enters_by v u at.table at.index at.kind c.look_cell-word.result looks at.owner demands.Nothing (sym c.demand.ensures ∙ c.in-Nothing.is) w (Ok Recorded) (changes_came u w [] records)
-    (refl, changes_then v u w [] [] (looked_changes v u at.table at.index at.kind c.look_cell-word.result looks) records)
+    enters_by v u at.table at.index at.kind c.look_cell-word.result looks at.owner demands.Nothing (sym c.demand.ensures ∙ c.in-Nothing.is) w (Ok Recorded)
+    (nothing_recorded u w at.table at.index at.owner c.look_cell-word.result c.record_entry.result c.record_entry.ensures.moves)
 
 pub returns-in-Bad-clause-found : goal.returns-in-Bad-clause-found
 returns-in-Bad-clause-found g c =
@@ -218,8 +214,8 @@ returns-in-Bad-clause-found g c =
     let at = c.args.at in
     let looks : SeesEntry v u at.table at.index at.kind c.look_cell-word.result =
     record { look = c.look_cell-word.ensures.moves; hand = c.look_cell-word.ensures.hand; frame = c.requires.frame; index = c.requires.index; held = c.requires.held; above = c.requires.above; looked = c.requires.looked } in
-    enters_by v u at.table at.index at.kind c.look_cell-word.result looks at.owner demands.Bad (sym c.demand.ensures ∙ c.in-Bad.is) u (Err (Refused (Reserved at.table at.index c.look_cell-word.result))) (came_self u)
-    (refl, looked_changes v u at.table at.index at.kind c.look_cell-word.result looks)
+    enters_by v u at.table at.index at.kind c.look_cell-word.result looks at.owner demands.Bad (sym c.demand.ensures ∙ c.in-Bad.is) u (Err (Refused (Reserved at.table at.index c.look_cell-word.result)))
+    (bad_stopped u at.table at.index at.owner c.look_cell-word.result)
 
 pub returns-in-Read-clause-found : goal.returns-in-Read-clause-found
 returns-in-Read-clause-found g c =

@@ -1,5 +1,4 @@
 use Rattle.std.proofs.Common.{[], None, subst, ◌+◌, Result, Err, sym, ap, ◌∙◌, Ok}
-use Rattle.answer_fits.specs.Answers.{missed}
 use Rattle.answer_fits.specs.Asked.{of_frame}
 use Rattle.answer_fits.proofs.Piecing.{serves_came}
 use Rattle.step_maker.specs.Holds.{Holds}
@@ -18,11 +17,8 @@ use Rattle.table_entries.specs.Plain.{TwinEntry}
 use Rattle.table_entries.specs.declared.entries.Entered.TheVariants.{Recorded}
 use Rattle.table_entries.proofs.TwinsLooked.{load_keeps, twin_entry}
 use Rattle.table_entries.proofs.TwinsTaken.{read_refused, read_taken}
-use Rattle.step_maker.proofs.Coming.{came_trans}
-use Rattle.answer_fits.proofs.Piecing.{changes_came, changes_nothing}
 use Rattle.table_entries.specs.Found.{EntersFound}
-use Rattle.table_entries.proofs.FoundEntering.{enters_by, looked_changes, read_found, read_refused_found}
-use Rattle.answer_fits.proofs.Changing.{changes_look}
+use Rattle.table_entries.proofs.FoundEntering.{enters_by, read_recorded}
 use Rattle.table_entries.proofs.entries.take_plain.Goals as goal
 use Rattle.xp_board.specs.declared.step.StepKind.TheVariants as kinds
 
@@ -90,11 +86,9 @@ returns-in_err-get_ref-clause-found g c b word next asks =
     let v = g.P.Port.value c.args.port.now in
     let x = g.P.Port.value c.get_ref.new.port in
     let at = c.args.at in
-    let e = c.in_err-get_ref.field-0.0 in
     let answer = err_from_is_err_and c.from_residual.result c.from_residual.ensures.1 in
     subst (λ (r : Result Entered Stop). EntersFound b x at.table at.index at.kind at.owner r) (sym (answer.1 ∙ ap Err answer.2))
-    (enters_by b v at.table at.index at.kind word next.looks at.owner (Read c.args.frame) asks x (Err e) (serves_came v x (of_frame c.args.frame at.owner None) (missed v.post.machine e) c.in_err-get_ref.ensures.serves)
-    (read_refused_found b v x c.args.frame at.owner (looked_changes b v at.table at.index at.kind word next.looks) e c.in_err-get_ref.ensures.gets))
+    (enters_by b v at.table at.index at.kind word next.looks at.owner (Read c.args.frame) asks x (Err c.in_err-get_ref.field-0.0) c.in_err-get_ref.ensures.gets)
 
 pub returns-clause-found : goal.returns-clause-found
 returns-clause-found g c b word next asks =
@@ -102,7 +96,5 @@ returns-clause-found g c b word next asks =
     let x = g.P.Port.value c.get_ref.new.port in
     let w = g.P.Port.value c.record_entry.new.port in
     let at = c.args.at in
-    let records = changes_look x x w [] Clock kinds.Look _ (changes_nothing x) c.record_entry.result c.record_entry.ensures.moves in
     enters_by b v at.table at.index at.kind word next.looks at.owner (Read c.args.frame) asks w (Ok Recorded)
-    (came_trans v x w (serves_came v x (of_frame c.args.frame at.owner None) [] c.in_ok-get_ref.ensures.serves) (changes_came x w [] records))
-    (read_found b v x c.args.frame at.owner (looked_changes b v at.table at.index at.kind word next.looks) c.in_ok-get_ref.field-0 c.in_ok-get_ref.ensures.gets w records)
+    (read_recorded v x w c.args.frame at.owner at.table at.index c.in_ok-get_ref.field-0 c.record_entry.result c.in_ok-get_ref.ensures.gets c.record_entry.ensures.moves)

@@ -3,7 +3,7 @@ use Rattle.xp_words.specs.declared.entry.Demand.TheVariants.{Typed}
 use Rattle.answer_fits.specs.Asked.{of_frame}
 use Rattle.answer_fits.proofs.Piecing.{serves_came}
 use Rattle.step_maker.proofs.Coming.{came_trans}
-use Rattle.frame_types.specs.Changing.{TakesFound}
+use Rattle.frame_types.specs.Found.{TakesFound}
 use Rattle.frame_types.specs.Plain.{TwinTake}
 use Rattle.frame_types.specs.Taking.{ShowsWait, TakesAs}
 use Rattle.table_entries.proofs.HandLists.{asks_some}
@@ -23,14 +23,12 @@ use Rattle.table_entries.specs.declared.entries.Entered.TheVariants.{Recorded, O
 use Rattle.table_entries.proofs.TwinsLooked.{load_keeps, twin_entry}
 use Rattle.table_entries.proofs.TwinsTaken.{typed_behind, typed_refused}
 use Rattle.table_entries.proofs.TwinsTyped.{types_counted, types_opened, types_stopped}
-use Rattle.answer_fits.specs.Answers.{Serves, missed}
-use Rattle.answer_fits.proofs.Piecing.{changes_nothing}
+use Rattle.answer_fits.specs.Answers.{Serves}
 use Rattle.frame_words.specs.Refs.{Gets}
 use Rattle.frame_types.specs.declared.taking.Taken.TheVariants as types
-use Rattle.table_entries.specs.Found.{EntersFound, TypedFound}
-use Rattle.frame_words.proofs.First.{first_refused}
-use Rattle.table_entries.proofs.FoundEntering.{enters_by, enters_stopped, enters_taken, looked_changes}
-use Rattle.answer_fits.proofs.Changing.{changes_look}
+use Rattle.table_entries.specs.Found.{EntersFound, TypedBy}
+use Rattle.frame_words.proofs.Getting.{first_stopped}
+use Rattle.table_entries.proofs.FoundEntering.{enters_by, enters_had, typed_opened, typed_recorded, typed_stopped}
 use Rattle.table_entries.proofs.entries.take_typed.Goals as goal
 use Rattle.xp_board.specs.declared.step.StepKind.TheVariants as kinds
 
@@ -264,8 +262,8 @@ returns-in_err-frame-clause-found g c b word next asks =
     let e = c.in_err-frame.field-0.0 in
     let answer = err_from_is_err_and c.from_residual.result c.from_residual.ensures.1 in
     subst (λ (r : Result Entered Stop). EntersFound b x at.table at.index at.kind at.owner r) (sym (answer.1 ∙ ap Err answer.2))
-    (enters_by b v at.table at.index at.kind word next.looks at.owner (Typed c.args.frame c.args.want) asks x (Err e) (serves_came v x (of_frame c.args.frame at.owner None) (missed v.post.machine e) c.in_err-frame.ensures.serves)
-    (first_refused b v x c.args.frame at.owner (looked_changes b v at.table at.index at.kind word next.looks) (λ gs. TypedFound b x c.args.frame c.args.want (Err e) gs) e c.in_err-frame.ensures.kinds c.in_err-frame.ensures.gets))
+    (enters_by b v at.table at.index at.kind word next.looks at.owner (Typed c.args.frame c.args.want) asks x (Err e)
+    (first_stopped Entered v x c.args.frame at.owner (λ ts. TypedBy v.post.machine c.args.frame c.args.want at.table at.index (Err e) ts) e c.in_err-frame.ensures.gets))
 
 pub returns-in-Ok-Counted-clause-found : goal.returns-in-Ok-Counted-clause-found
 returns-in-Ok-Counted-clause-found g c b word next asks =
@@ -276,9 +274,8 @@ returns-in-Ok-Counted-clause-found g c b word next asks =
     let at = c.args.at in
     let f = c.in_ok-frame.frame in
     let same = sym c.in_ok-frame.ensures.frame.0 in
-    enters_taken b v at.table at.index at.kind word next.looks at.owner f c.args.want (asks ∙ ap (λ k. Typed k c.args.want) same) x f (subst (λ k. Gets v x k at.owner (Ok f)) same c.in_ok-frame.ensures.gets) y w types.Counted
-    (subst (λ k. TakesFound x y f c.args.want (Ok k)) c.in-Ok-Counted.field-0-is c.in-Ok-Counted.ensures.found) (changes_look y y w [] Clock kinds.Look _ (changes_nothing y) c.record_entry.result c.record_entry.ensures.moves)
-    (Ok Recorded) (λ gs a. a)
+    enters_had b v at.table at.index at.kind word next.looks at.owner f c.args.want (asks ∙ ap (λ k. Typed k c.args.want) same) x w f (Ok Recorded) (subst (λ k. Gets v x k at.owner (Ok f)) same c.in_ok-frame.ensures.gets)
+    (typed_recorded x y w f c.args.want at.table at.index c.record_entry.result (subst (λ k. TakesFound x y f c.args.want (Ok k)) c.in-Ok-Counted.field-0-is c.in-Ok-Counted.ensures.found) c.record_entry.ensures.moves)
 
 pub returns-in-Ok-InWork-clause-found : goal.returns-in-Ok-InWork-clause-found
 returns-in-Ok-InWork-clause-found g c b word next asks =
@@ -289,8 +286,9 @@ returns-in-Ok-InWork-clause-found g c b word next asks =
     let f = c.in_ok-frame.frame in
     let way = c.in-Ok-InWork in
     let same = sym c.in_ok-frame.ensures.frame.0 in
-    enters_taken b v at.table at.index at.kind word next.looks at.owner f c.args.want (asks ∙ ap (λ k. Typed k c.args.want) same) x f (subst (λ k. Gets v x k at.owner (Ok f)) same c.in_ok-frame.ensures.gets) y y
-    (types.InWork way.progress way.own) (subst (λ k. TakesFound x y f c.args.want (Ok k)) way.field-0-is way.ensures.found) (changes_nothing y) (Ok (Opened f way.progress way.own)) (λ gs a. (refl, a))
+    enters_had b v at.table at.index at.kind word next.looks at.owner f c.args.want (asks ∙ ap (λ k. Typed k c.args.want) same) x y f (Ok (Opened f way.progress way.own))
+    (subst (λ k. Gets v x k at.owner (Ok f)) same c.in_ok-frame.ensures.gets)
+    (typed_opened x y f c.args.want at.table at.index way.progress way.own (subst (λ k. TakesFound x y f c.args.want (Ok k)) way.field-0-is way.ensures.found))
 
 pub returns-in-Ok-Waiting-clause-found : goal.returns-in-Ok-Waiting-clause-found
 returns-in-Ok-Waiting-clause-found g c b word next asks =
@@ -315,5 +313,5 @@ returns-in-Err-clause-found g c b word next asks =
     let f = c.in_ok-frame.frame in
     let e = c.in-Err.stop in
     let same = sym c.in_ok-frame.ensures.frame.0 in
-    enters_stopped b v at.table at.index at.kind word next.looks at.owner f c.args.want (asks ∙ ap (λ k. Typed k c.args.want) same) x f (subst (λ k. Gets v x k at.owner (Ok f)) same c.in_ok-frame.ensures.gets) y z e
-    (serves_came x y (of_frame f at.owner (Some c.args.want)) (missed x.post.machine e) c.in-Err.ensures.serves) c.in-Err.ensures.found c.put_ref.ensures.puts
+    enters_had b v at.table at.index at.kind word next.looks at.owner f c.args.want (asks ∙ ap (λ k. Typed k c.args.want) same) x z f (Err e) (subst (λ k. Gets v x k at.owner (Ok f)) same c.in_ok-frame.ensures.gets)
+    (typed_stopped x y z f c.args.want at.table at.index e c.in-Err.ensures.found c.put_ref.ensures.puts)

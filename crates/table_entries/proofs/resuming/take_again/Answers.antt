@@ -17,12 +17,12 @@ use Rattle.table_entries.specs.Plain.{TwinResume}
 use Rattle.table_entries.proofs.TwinsLooked.{twin_again}
 use Rattle.table_entries.proofs.TwinsTaken.{again_behind, again_refused}
 use Rattle.table_entries.proofs.TwinsTyped.{again_counted, again_opened, again_stopped, again_waiting}
-use Rattle.answer_fits.specs.Answers.{Serves, missed}
+use Rattle.answer_fits.specs.Answers.{Serves}
 use Rattle.frame_words.specs.Refs.{Gets}
-use Rattle.frame_types.specs.Changing.{TakesFound}
+use Rattle.frame_types.specs.Found.{TakesFound}
 use Rattle.frame_types.specs.declared.taking.Taken.TheVariants as types
 use Rattle.table_entries.specs.Found.{ResumesFound}
-use Rattle.table_entries.proofs.FoundResuming.{retaken_found, unreferred_found, untaken_found}
+use Rattle.table_entries.proofs.FoundResuming.{reopened, resumes_had, retaken, rewaited, unreferred_found, untaken_found}
 use Rattle.table_entries.proofs.resuming.take_again.Goals as goal
 use Rattle.table_entries.specs.declared.resuming.Resumed.TheVariants as again
 
@@ -242,8 +242,7 @@ returns-in_err-frame-clause-found g c b u word looks asks off =
     let e = c.in_err-frame.field-0.0 in
     let answer = err_from_is_err_and c.from_residual.result c.from_residual.ensures.1 in
     subst (λ (r : Result Resumed Stop). ResumesFound b x at.table at.index at.kind at.owner r) (sym (answer.1 ∙ ap Err answer.2))
-    (unreferred_found b u at.table at.index at.kind word looks.looks at.owner c.args.frame c.args.want asks v off x e c.in_err-frame.ensures.kinds (serves_came v x (of_frame c.args.frame at.owner None) (missed v.post.machine e) c.in_err-frame.ensures.serves)
-    c.in_err-frame.ensures.gets)
+    (unreferred_found b u at.table at.index at.kind word looks.looks at.owner c.args.frame c.args.want asks v off x e c.in_err-frame.ensures.gets)
 
 pub returns-in-Ok-Counted-clause-found : goal.returns-in-Ok-Counted-clause-found
 returns-in-Ok-Counted-clause-found g c b u word looks asks off =
@@ -254,8 +253,8 @@ returns-in-Ok-Counted-clause-found g c b u word looks asks off =
     let f = c.in_ok-frame.frame in
     let way = c.in-Ok-Counted in
     let same = sym c.in_ok-frame.ensures.frame.0 in
-    retaken_found b u at.table at.index at.kind word looks.looks at.owner f c.args.want (asks ∙ ap (λ k. Typed k c.args.want) same) v (subst (λ k. LooksLive u v k false) same off) x f
-    (subst (λ k. Gets v x k at.owner (Ok f)) same c.in_ok-frame.ensures.gets) y types.Counted (subst (λ k. TakesFound x y f c.args.want (Ok k)) way.field-0-is way.ensures.found) (Ok (again.Taken f)) (λ gs a. (refl, a))
+    resumes_had b u at.table at.index at.kind word looks.looks at.owner f c.args.want (asks ∙ ap (λ k. Typed k c.args.want) same) v (subst (λ k. LooksLive u v k false) same off) x y f (Ok (again.Taken f))
+    (subst (λ k. Gets v x k at.owner (Ok f)) same c.in_ok-frame.ensures.gets) (retaken x y f c.args.want (subst (λ k. TakesFound x y f c.args.want (Ok k)) way.field-0-is way.ensures.found))
 
 pub returns-in-Ok-InWork-clause-found : goal.returns-in-Ok-InWork-clause-found
 returns-in-Ok-InWork-clause-found g c b u word looks asks off =
@@ -266,8 +265,8 @@ returns-in-Ok-InWork-clause-found g c b u word looks asks off =
     let f = c.in_ok-frame.frame in
     let way = c.in-Ok-InWork in
     let same = sym c.in_ok-frame.ensures.frame.0 in
-    retaken_found b u at.table at.index at.kind word looks.looks at.owner f c.args.want (asks ∙ ap (λ k. Typed k c.args.want) same) v (subst (λ k. LooksLive u v k false) same off) x f
-    (subst (λ k. Gets v x k at.owner (Ok f)) same c.in_ok-frame.ensures.gets) y (types.InWork way.progress way.own) (subst (λ k. TakesFound x y f c.args.want (Ok k)) way.field-0-is way.ensures.found) (Ok (again.Opened f way.progress way.own)) (λ gs a. (refl, a))
+    resumes_had b u at.table at.index at.kind word looks.looks at.owner f c.args.want (asks ∙ ap (λ k. Typed k c.args.want) same) v (subst (λ k. LooksLive u v k false) same off) x y f (Ok (again.Opened f way.progress way.own))
+    (subst (λ k. Gets v x k at.owner (Ok f)) same c.in_ok-frame.ensures.gets) (reopened x y f c.args.want way.progress way.own (subst (λ k. TakesFound x y f c.args.want (Ok k)) way.field-0-is way.ensures.found))
 
 pub returns-in-Ok-Waiting-clause-found : goal.returns-in-Ok-Waiting-clause-found
 returns-in-Ok-Waiting-clause-found g c b u word looks asks off =
@@ -278,8 +277,8 @@ returns-in-Ok-Waiting-clause-found g c b u word looks asks off =
     let f = c.in_ok-frame.frame in
     let way = c.in-Ok-Waiting in
     let same = sym c.in_ok-frame.ensures.frame.0 in
-    retaken_found b u at.table at.index at.kind word looks.looks at.owner f c.args.want (asks ∙ ap (λ k. Typed k c.args.want) same) v (subst (λ k. LooksLive u v k false) same off) x f
-    (subst (λ k. Gets v x k at.owner (Ok f)) same c.in_ok-frame.ensures.gets) y (types.Waiting way.own way.stamp way.stop) (subst (λ k. TakesFound x y f c.args.want (Ok k)) way.field-0-is way.ensures.found) (Ok (again.Waiting f way.own way.stamp way.stop)) (λ gs a. (refl, a))
+    resumes_had b u at.table at.index at.kind word looks.looks at.owner f c.args.want (asks ∙ ap (λ k. Typed k c.args.want) same) v (subst (λ k. LooksLive u v k false) same off) x y f (Ok (again.Waiting f way.own way.stamp way.stop))
+    (subst (λ k. Gets v x k at.owner (Ok f)) same c.in_ok-frame.ensures.gets) (rewaited x y f c.args.want way.own way.stamp way.stop (subst (λ k. TakesFound x y f c.args.want (Ok k)) way.field-0-is way.ensures.found))
 
 pub returns-in-Err-clause-found : goal.returns-in-Err-clause-found
 returns-in-Err-clause-found g c b u word looks asks off =
@@ -291,5 +290,5 @@ returns-in-Err-clause-found g c b u word looks asks off =
     let f = c.in_ok-frame.frame in
     let e = c.in-Err.stop in
     let same = sym c.in_ok-frame.ensures.frame.0 in
-    untaken_found b u at.table at.index at.kind word looks.looks at.owner f c.args.want (asks ∙ ap (λ k. Typed k c.args.want) same) v (subst (λ k. LooksLive u v k false) same off) x f
-    (subst (λ k. Gets v x k at.owner (Ok f)) same c.in_ok-frame.ensures.gets) y z e (serves_came x y (of_frame f at.owner (Some c.args.want)) (missed x.post.machine e) c.in-Err.ensures.serves) c.in-Err.ensures.found c.put_ref.ensures.puts
+    untaken_found b u at.table at.index at.kind word looks.looks at.owner f c.args.want (asks ∙ ap (λ k. Typed k c.args.want) same) v (subst (λ k. LooksLive u v k false) same off) x y z f e
+    (subst (λ k. Gets v x k at.owner (Ok f)) same c.in_ok-frame.ensures.gets) c.in-Err.ensures.found c.put_ref.ensures.puts

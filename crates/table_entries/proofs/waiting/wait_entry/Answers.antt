@@ -6,9 +6,7 @@ use Rattle.step_maker.proofs.Telling.{came_telling}
 use Rattle.frame_types.specs.Plain.{is_refused}
 use Rattle.table_entries.proofs.TwinsLooked.{load_keeps}
 use Rattle.table_entries.proofs.TwinsLeft.{own_is_not, twin_dead, twin_shared, twin_unsettled}
-use Rattle.answer_fits.proofs.Piecing.{changes_nothing}
 use Rattle.table_entries.proofs.FoundWaiting.{dead_found, shared_found, unsettled_found}
-use Rattle.answer_fits.proofs.Changing.{changes_look}
 use Rattle.table_entries.proofs.waiting.wait_entry.Goals.{in-Refused, in_default}
 use Rattle.table_entries.proofs.waiting.wait_entry.Goals as goal
 use Rattle.xp_board.specs.declared.step.StepKind.TheVariants as kinds
@@ -130,7 +128,7 @@ pub returns-then-not-late-clause-found : goal.returns-then-not-late-clause-found
 returns-then-not-late-clause-found g c b late =
     let v = g.P.Port.value c.args.port.now in
     let w = g.P.Port.value c.leave_shared.new.port in
-    shared_found b v c.args.at.table c.args.at.index c.args.at.owner c.args.at.kind c.args.late.frame c.args.late.want c.args.late.own c.args.late.stamp c.args.late.stop late w (own_is_not c.args.late.own true c.if-not-late.true) c.leave_shared.ensures.changes
+    shared_found b v c.args.at.table c.args.at.index c.args.at.owner c.args.at.kind c.args.late.frame c.args.late.want c.args.late.own c.args.late.stamp c.args.late.stop late w (own_is_not c.args.late.own true c.if-not-late.true) c.leave_shared.ensures.visits
 
 pub returns-then-not-is_table-clause-found : goal.returns-then-not-is_table-clause-found
 returns-then-not-is_table-clause-found g c b late =
@@ -141,12 +139,12 @@ returns-then-not-is_table-clause-found g c b late =
       | in-Refused w ↦ ap (λ e. is_refused e) w.in-Refused.is
       | in_default w ↦ absurd (let e = c.if-matches.true in let k = w.matches-is in cc)
     ])
-    (sym c.is_table.ensures ∙ c.if-not-is_table.true) c.leave_dead.ensures.changes
+    (sym c.is_table.ensures ∙ c.if-not-is_table.true) c.leave_dead.ensures.visits
 
 pub returns-clause-found : goal.returns-clause-found
 returns-clause-found g c b late =
     let v = g.P.Port.value c.args.port.now in
     let y = g.P.Port.value c.leave_unsettled.new.port in
     let w = g.P.Port.value c.record_entry.new.port in
-    unsettled_found b v c.args.at.table c.args.at.index c.args.at.owner c.args.at.kind c.args.late.frame c.args.late.want c.args.late.own c.args.late.stamp c.args.late.stop late y w (own_is_not c.args.late.own false c.if-not-late.false)
-    c.leave_unsettled.ensures.changes (changes_look y y w [] Clock kinds.Look _ (changes_nothing y) c.record_entry.result c.record_entry.ensures.moves)
+    unsettled_found b v c.args.at.table c.args.at.index c.args.at.owner c.args.at.kind c.args.late.frame c.args.late.want c.args.late.own c.args.late.stamp c.args.late.stop late y w c.record_entry.result (own_is_not c.args.late.own false c.if-not-late.false)
+    c.leave_unsettled.ensures.visits c.record_entry.ensures.moves
