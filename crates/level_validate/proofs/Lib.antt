@@ -11,4 +11,5 @@ mod Sharing
 mod Standing
 mod StandsFacts
 mod Unwound
+mod Visited
 mod Waiting

@@ -11,35 +11,39 @@ use Rattle.xp_words.specs.declared.kind.KindWord.{KindWord}
 use Rattle.xp_words.specs.declared.kind.PageType.{PageType}
 use Rattle.xp_words.specs.declared.place.Place.{Place}
 use Rattle.xp_words.specs.declared.place.Place.TheVariants.{Kind}
-use Rattle.xp_board.specs.declared.step.Act.{Act}
+use Rattle.xp_board.specs.Lists.{EachOf}
 use Rattle.xp_board.specs.Told.{Finds, Post, PortValue}
 use Rattle.board_lemmas.proofs.KindForms.{form_read, partial_form}
 use Rattle.step_maker.specs.Moves.{Met}
 use Rattle.step_maker.proofs.Coming.{came_post}
 use Rattle.answer_fits.specs.Finding.{FoundAt}
+use Rattle.answer_fits.specs.Visits.{Visit}
 use Rattle.kind_words.proofs.KindFacts.{kind_found}
-use Rattle.frame_types.specs.Changing.{TakesOf}
+use Rattle.frame_types.specs.Found.{TakesOf, saw_kind}
 use Rattle.frame_types.specs.Plain.{IsTakenBy, is_read_first}
 use Rattle.frame_types.specs.Standing.{standing_of}
 use Rattle.frame_types.specs.Taking.{progress_of}
 use Rattle.frame_types.specs.declared.standing.Standing.{Standing}
 use Rattle.frame_types.specs.declared.standing.Standing.TheVariants as stands
+use Rattle.frame_types.specs.declared.taking.Taken.{Taken}
 use Rattle.frame_types.specs.declared.taking.Taken.TheVariants.{InWork}
-use Rattle.frame_words.specs.Refs.{TakesFirst, had, lost, refused}
-use Rattle.table_entries.specs.Found.{EntersBy, EntersFound, LastFound, ResumesBy, ResumesFound, TypedAgain, TypedFound, other, settled}
+use Rattle.frame_words.specs.Refs.{TakesFirst, had, stopped}
+use Rattle.table_entries.specs.Found.{AgainBy, EnteredBy, EntersBy, EntersFound, ResumedBy, ResumesBy, ResumesFound, TypedAgain, TypedBy, other, outside, settled}
 use Rattle.table_entries.specs.declared.entries.Entered.TheVariants.{Opened}
+use Rattle.table_entries.specs.declared.resuming.Resumed.{Resumed}
 use Rattle.table_entries.specs.declared.resuming.Resumed.TheVariants as again
 use Rattle.table_entries.proofs.HandLists.{asks_below}
 use Rattle.partial_state.proofs.LevelFacts.{level_type-below}
 use Rattle.partial_state.specs.Levels.{level_type}
 use Rattle.level_validate.proofs.Looking.{met_place}
+use Rattle.level_validate.proofs.Visited.{WasFound, does_shows, each_next, first_is}
 
 -- ---- the kind word that was found
 frame_inside : (n : Machine) (g : ℕ) → IsTrue (is_place (sizes_of n) (Kind g)) → g < n.frames
 unfolding is_place
 frame_inside n g is = grind (arith, nat_tests)
 
-pub kind_inside : (v w : PortValue) (g x : ℕ) → FoundAt (Met v w) (Kind g) x → g < v.post.machine.frames
+kind_inside : (v w : PortValue) (g x : ℕ) → FoundAt (Met v w) (Kind g) x → g < v.post.machine.frames
 kind_inside v w g x found = frame_inside v.post.machine g (subst (λ (p : Place). IsTrue (is_place (sizes_of v.post.machine) p)) found.place (met_place v w found.moment found.was))
 
 progress_by : (w : ℕ) (k : KindWord) (a b : Bool) → kind_read w ≡ Some k → k.validated ≡ a → k.partial ≡ b → (if b then k.progress else 0) ≤ 512
@@ -48,7 +52,7 @@ progress_by w k a false read v p = omega arith
 progress_by w k true true read v p = absurd (let f = form_read w k read in grind (arith, nat_tests))
 progress_by w k false true read v p = let few = (partial_form w k read v p).progress in omega (arith, few)
 
-pub progress_few : (v w : PortValue) (g x : ℕ) → FoundAt (Met v w) (Kind g) x → progress_of (kind_fields x) ≤ 512
+progress_few : (v w : PortValue) (g x : ℕ) → FoundAt (Met v w) (Kind g) x → progress_of (kind_fields x) ≤ 512
 progress_few v w g x found =
     let m = found.was in
     let inside = subst (λ (p : Post). g < p.machine.frames) (sym (came_post v m.from m.before)) (kind_inside v w g x found) in
@@ -70,48 +74,67 @@ pub record CameOpen (v : PortValue) (g : ℕ) (want : PageType) (progress : ℕ)
   pub read : is_read_first want ≡ true
   pub few : progress ≤ 512
 
-came_open : (v w : PortValue) (g : ℕ) (want : PageType) (progress : ℕ) (own : Bool) (cs : List (Place × Act)) → TakesOf v w g want (InWork progress own) cs → CameOpen v g want progress
-came_open v w g want progress own cs takes =
-    let read = read_first want (kind_fields takes.word) (standing_of (kind_fields takes.word) want) progress own takes.way in
-    record { inside = kind_inside v w g takes.word takes.found; read = read.0; few = subst (λ y. y ≤ 512) (sym read.1) (progress_few v w g takes.word takes.found) }
+module _ (v w : PortValue) (vs : List Visit) (each : EachOf (WasFound v w) vs) where
+  kind_saw : (g : ℕ) (want : PageType) (t : Taken) (takes : TakesOf g want t vs) → FoundAt (Met v w) (Kind g) takes.word
+  kind_saw g want t takes = first_is (WasFound v w) (saw_kind g takes.word) _ vs takes.steps each
+
+  pub taken_inside : (g : ℕ) (want : PageType) (t : Taken) → TakesOf g want t vs → g < v.post.machine.frames
+  taken_inside g want t takes = kind_inside v w g takes.word (kind_saw g want t takes)
+
+  came_open : (g : ℕ) (want : PageType) (progress : ℕ) (own : Bool) → TakesOf g want (InWork progress own) vs → CameOpen v g want progress
+  came_open g want progress own takes =
+      let read = read_first want (kind_fields takes.word) (standing_of (kind_fields takes.word) want) progress own takes.way in
+      let few = progress_few v w g takes.word (kind_saw g want (InWork progress own) takes) in
+      record { inside = taken_inside g want (InWork progress own) takes; read = read.0; few = subst (λ y. y ≤ 512) (sym read.1) few }
 
 -- ---- the next entry
 module _ (v w : PortValue) (f i : ℕ) (t : PageType) (owner g progress : ℕ) (own : Bool) where
-  opened_asked : (h : ℕ) (want : PageType) → want ≡ below t → TakesFirst v w h owner (λ gs. TypedFound v w h want (Ok (Opened g progress own)) gs) (Ok (Opened g progress own)) → CameOpen v g (below t) progress
-  opened_asked h want is (refused r answer why none) = absurd cc
-  opened_asked h want is (lost place expected found answer none) = absurd cc
-  opened_asked h want is (had x y referred found) =
-      subst (λ k. CameOpen v g k progress) is (subst (λ j. CameOpen v j want progress) (sym found.0) (came_open v w h want progress own found.1.taking found.1.takes))
+  opened_asked : (h : ℕ) (want : PageType) → want ≡ below t → (vs : List Visit) → EachOf (WasFound v w) vs →
+      TakesFirst v.post.machine h owner (λ ts. TypedBy v.post.machine h want f i (Ok (Opened g progress own)) ts) (Ok (Opened g progress own)) vs → CameOpen v g (below t) progress
+  opened_asked h want is vs each (stopped e answer got) = absurd cc
+  opened_asked h want is vs each (had steps) =
+      subst (λ k. CameOpen v g k progress) is
+      (subst (λ j. CameOpen v j want progress) (sym steps.next.0) (came_open v w steps.after (each_next (WasFound v w) _ _ vs steps each) h want progress own steps.next.1))
 
-  opened_by : (word : ℕ) (d : Demand) → demand_at t i word ≡ d → EntersBy v w f i owner (Ok (Opened g progress own)) word d → CameOpen v g (below t) progress
-  opened_by word demands.Nothing is way = absurd (let k = way.0 in cc)
-  opened_by word demands.Bad is way = absurd (let k = way in cc)
-  opened_by word (demands.Read h) is way = absurd way
-  opened_by word (demands.Typed h want) is way = opened_asked h want (asks_below t i word h want is) way
+  opened_by : (word : ℕ) (d : Demand) → demand_at t i word ≡ d → (vs : List Visit) → EachOf (WasFound v w) vs → EntersBy v.post.machine f i owner (Ok (Opened g progress own)) word d vs → CameOpen v g (below t) progress
+  opened_by word demands.Nothing is vs each way = absurd (let k = way.0 in cc)
+  opened_by word demands.Bad is vs each way = absurd (let k = way.0 in cc)
+  opened_by word (demands.Read h) is vs each way = absurd way
+  opened_by word (demands.Typed h want) is vs each way = opened_asked h want (asks_below t i word h want is) vs each way
 
   pub opened_found : EntersFound v w f i t owner (Ok (Opened g progress own)) → CameOpen v g (below t) progress
-  opened_found e = opened_by e.word (demand_at t i e.word) refl e.way
+  opened_found enters =
+      does_shows v w (λ vs. EnteredBy v.post.machine f i t owner (Ok (Opened g progress own)) vs) enters
+      (λ vs each e. opened_by e.0 (demand_at t i e.0) refl e.1.after (each_next (WasFound v w) _ _ vs e.1 each) e.1.next)
 
 -- ---- the last recorded one again
-module _ (v w : PortValue) (f i : ℕ) (t : PageType) (owner g progress : ℕ) (own : Bool) where
-  again_asked : (h : ℕ) (want : PageType) → want ≡ below t → TakesFirst v w h owner (λ gs. TypedAgain v w h want (Ok (again.Opened g progress own)) gs) (Ok (again.Opened g progress own)) → CameOpen v g (below t) progress
-  again_asked h want is (refused r answer why none) = absurd cc
-  again_asked h want is (lost place expected found answer none) = absurd cc
-  again_asked h want is (had x y referred found) =
-      subst (λ k. CameOpen v g k progress) is (subst (λ j. CameOpen v j want progress) (sym found.0) (came_open v w h want progress own found.1.taking found.1.takes))
+module _ (v w : PortValue) (f i : ℕ) (t : PageType) (owner : ℕ) (answer : Resumed) (C : Type 0) (stands : answer ≡ again.Settled → C) where
+  module _ (typed : (h : ℕ) (want : PageType) → want ≡ below t → (vs : List Visit) → EachOf (WasFound v w) vs → TypedAgain v.post.machine h want (Ok answer) vs → C) where
+    again_asked : (h : ℕ) (want : PageType) → want ≡ below t → (vs : List Visit) → EachOf (WasFound v w) vs → TakesFirst v.post.machine h owner (λ ts. TypedAgain v.post.machine h want (Ok answer) ts) (Ok answer) vs → C
+    again_asked h want is vs each (stopped e gave got) = absurd cc
+    again_asked h want is vs each (had steps) = typed h want is steps.after (each_next (WasFound v w) _ _ vs steps each) steps.next
 
-  again_last : (h : ℕ) (want : PageType) → want ≡ below t → LastFound v w h want owner (Ok (again.Opened g progress own)) → CameOpen v g (below t) progress
-  again_last h want is (settled x found live answer none) = absurd cc
-  again_last h want is (other why way) = again_asked h want is way
+    again_last : (h : ℕ) (want : PageType) → want ≡ below t → (vs : List Visit) → EachOf (WasFound v w) vs → AgainBy v.post.machine h want owner (Ok answer) vs → C
+    again_last h want is vs each (settled x real live gave saw) = stands (let k = gave in cc)
+    again_last h want is vs each (outside past way) = again_asked h want is vs each way
+    again_last h want is vs each (other x real live steps) = again_asked h want is steps.after (each_next (WasFound v w) _ _ vs steps each) steps.next
 
-  again_by : (word : ℕ) (d : Demand) → demand_at t i word ≡ d → ResumesBy v w owner (Ok (again.Opened g progress own)) d → CameOpen v g (below t) progress
-  again_by word demands.Nothing is way = absurd (let k = way.0 in cc)
-  again_by word demands.Bad is way = absurd (let k = way.0 in cc)
-  again_by word (demands.Read h) is way = absurd (let k = way.0 in cc)
-  again_by word (demands.Typed h want) is way = again_last h want (asks_below t i word h want is) way
+    again_by : (word : ℕ) (d : Demand) → demand_at t i word ≡ d → (vs : List Visit) → EachOf (WasFound v w) vs → ResumesBy v.post.machine owner (Ok answer) d vs → C
+    again_by word demands.Nothing is vs each way = stands (let k = way.0 in cc)
+    again_by word demands.Bad is vs each way = stands (let k = way.0 in cc)
+    again_by word (demands.Read h) is vs each way = stands (let k = way.0 in cc)
+    again_by word (demands.Typed h want) is vs each way = again_last h want (asks_below t i word h want is) vs each way
 
-  pub again_found : ResumesFound v w f i t owner (Ok (again.Opened g progress own)) → CameOpen v g (below t) progress
-  again_found e = again_by e.word (demand_at t i e.word) refl e.way
+    -- by how its type was taken
+    pub again_typed : ResumesFound v w f i t owner (Ok answer) → C
+    again_typed resumes =
+        does_shows v w (λ vs. ResumedBy v.post.machine f i t owner (Ok answer) vs) resumes
+        (λ vs each e. again_by e.0 (demand_at t i e.0) refl e.1.after (each_next (WasFound v w) _ _ vs e.1 each) e.1.next)
+
+pub again_found : (v w : PortValue) (f i : ℕ) (t : PageType) (owner g progress : ℕ) (own : Bool) → ResumesFound v w f i t owner (Ok (again.Opened g progress own)) → CameOpen v g (below t) progress
+again_found v w f i t owner g progress own resumes =
+    again_typed v w f i t owner (again.Opened g progress own) (CameOpen v g (below t) progress) (λ is. absurd cc)
+    (λ h want is vs each way. subst (λ k. CameOpen v g k progress) is (subst (λ j. CameOpen v j want progress) (sym way.0) (came_open v w vs each h want progress own way.1))) resumes
 
 -- ---- it is a table of the level below
 pub read_level : (l : ℕ) → 1 ≤ l → is_read_first (below (level_type l)) ≡ true → 2 ≤ l

@@ -17,18 +17,19 @@ use Rattle.xp_board.specs.After.{learned_cell}
 use Rattle.xp_board.specs.Told.{PortValue}
 use Rattle.step_maker.specs.Holds.{FlushedHolds, quiet}
 use Rattle.flush_waits.specs.Waiting.{IsWait}
-use Rattle.frame_words.specs.Refs.{TakesFirst, had, lost, refused, took}
+use Rattle.frame_words.specs.Refs.{took}
 use Rattle.kind_words.proofs.Leaving.{without_newest}
 use Rattle.frame_types.specs.Leaving.{GivesBack, IsWaiting, WaitsFrom}
 use Rattle.frame_types.specs.Taking.{working}
+use Rattle.frame_types.specs.declared.taking.Taken.TheVariants.{Counted, Waiting}
 use Rattle.table_entries.specs.Asking.{IsEntryStop}
-use Rattle.table_entries.specs.Found.{LastFound, ResumesBy, ResumesFound, TypedAgain, other, settled}
+use Rattle.table_entries.specs.Found.{ResumesFound}
 use Rattle.table_entries.specs.Tops.{LookedAnd, Opens, as_it_was}
 use Rattle.table_entries.specs.declared.resuming.Resumed.TheVariants as again
 use Rattle.table_entries.proofs.HandLists.{asks_some}
 use Rattle.partial_state.proofs.LevelFacts.{level_type-plain}
 use Rattle.partial_state.specs.Levels.{level_type}
-use Rattle.level_validate.proofs.Opening.{kind_inside}
+use Rattle.level_validate.proofs.Opening.{again_typed, taken_inside}
 
 pub wait_stops : (e : Stop) → IsWait e → IsEntryStop e
 wait_stops (Refused (refusals.Clock x)) wait = tt
@@ -37,42 +38,15 @@ wait_stops _ wait = absurd wait
 
 -- ---- the frame is one of the machine's
 module _ (v w : PortValue) (f i : ℕ) (t : PageType) (owner g : ℕ) where
-  module _ (own : Bool) (stamp : ℕ) (stop : Stop) where
-    waited_asked : (h : ℕ) (want : PageType) → TakesFirst v w h owner (λ gs. TypedAgain v w h want (Ok (again.Waiting g own stamp stop)) gs) (Ok (again.Waiting g own stamp stop)) → g < v.post.machine.frames
-    waited_asked h want (refused r answer why none) = absurd cc
-    waited_asked h want (lost place expected found answer none) = absurd cc
-    waited_asked h want (had x y referred found) = subst (λ j. j < v.post.machine.frames) (sym found.0) (kind_inside v w h found.1.takes.word found.1.takes.found)
-
-    waited_last : (h : ℕ) (want : PageType) → LastFound v w h want owner (Ok (again.Waiting g own stamp stop)) → g < v.post.machine.frames
-    waited_last h want (settled x found live answer none) = absurd cc
-    waited_last h want (other why way) = waited_asked h want way
-
-    waited_by : (d : Demand) → ResumesBy v w owner (Ok (again.Waiting g own stamp stop)) d → g < v.post.machine.frames
-    waited_by demands.Nothing way = absurd (let k = way.0 in cc)
-    waited_by demands.Bad way = absurd (let k = way.0 in cc)
-    waited_by (demands.Read h) way = absurd (let k = way.0 in cc)
-    waited_by (demands.Typed h want) way = waited_last h want way
-
-    pub waited_found : ResumesFound v w f i t owner (Ok (again.Waiting g own stamp stop)) → g < v.post.machine.frames
-    waited_found e = waited_by (demand_at t i e.word) e.way
-
-  taken_asked : (h : ℕ) (want : PageType) → TakesFirst v w h owner (λ gs. TypedAgain v w h want (Ok (again.Taken g)) gs) (Ok (again.Taken g)) → g < v.post.machine.frames
-  taken_asked h want (refused r answer why none) = absurd cc
-  taken_asked h want (lost place expected found answer none) = absurd cc
-  taken_asked h want (had x y referred found) = subst (λ j. j < v.post.machine.frames) (sym found.0) (kind_inside v w h found.1.takes.word found.1.takes.found)
-
-  taken_last : (h : ℕ) (want : PageType) → LastFound v w h want owner (Ok (again.Taken g)) → g < v.post.machine.frames
-  taken_last h want (settled x found live answer none) = absurd cc
-  taken_last h want (other why way) = taken_asked h want way
-
-  taken_by : (d : Demand) → ResumesBy v w owner (Ok (again.Taken g)) d → g < v.post.machine.frames
-  taken_by demands.Nothing way = absurd (let k = way.0 in cc)
-  taken_by demands.Bad way = absurd (let k = way.0 in cc)
-  taken_by (demands.Read h) way = absurd (let k = way.0 in cc)
-  taken_by (demands.Typed h want) way = taken_last h want way
+  pub waited_found : (own : Bool) (stamp : ℕ) (stop : Stop) → ResumesFound v w f i t owner (Ok (again.Waiting g own stamp stop)) → g < v.post.machine.frames
+  waited_found own stamp stop resumes =
+      again_typed v w f i t owner (again.Waiting g own stamp stop) (g < v.post.machine.frames) (λ is. absurd cc)
+      (λ h want is vs each way. subst (λ j. j < v.post.machine.frames) (sym way.0) (taken_inside v w vs each h want (Waiting own stamp stop) way.1)) resumes
 
   pub taken_found : ResumesFound v w f i t owner (Ok (again.Taken g)) → g < v.post.machine.frames
-  taken_found e = taken_by (demand_at t i e.word) e.way
+  taken_found resumes =
+      again_typed v w f i t owner (again.Taken g) (g < v.post.machine.frames) (λ is. absurd cc)
+      (λ h want is vs each way. subst (λ j. j < v.post.machine.frames) (sym way.0) (taken_inside v w vs each h want Counted way.1)) resumes
 
 -- ---- it waits there since a port that had looked, and had a reference more
 module _ (u x : PortValue) (f i : ℕ) (t : PageType) (l g owner : ℕ) (own : Bool) (is : below t ≡ level_type l) (o : Opens u x f i t g owner 0 own true) where

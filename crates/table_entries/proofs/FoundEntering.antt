@@ -19,10 +19,9 @@ use Rattle.step_maker.proofs.Coming.{came_post}
 use Rattle.answer_fits.specs.Visits.{Visit, Does, Only, Then}
 use Rattle.answer_fits.proofs.Visiting.{does_as, does_came, does_next, does_nothing, does_one, does_then}
 use Rattle.frame_words.specs.Freeing.{PutBy, Puts}
-use Rattle.frame_words.specs.Refs.{Gets, GetsBy, TakesFirst}
+use Rattle.frame_words.specs.Refs.{Gets, GetsBy}
 use Rattle.frame_words.proofs.Getting.{first_had}
 use Rattle.frame_types.specs.Found.{TakesFound, TakesOf, TypeBy}
-use Rattle.frame_types.specs.declared.taking.Taken.{Taken}
 use Rattle.frame_types.specs.declared.taking.Taken.TheVariants as types
 use Rattle.table_words.specs.Entries.{Records, records_at}
 use Rattle.table_entries.specs.Between.{SeesEntry}

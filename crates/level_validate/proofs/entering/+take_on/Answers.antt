@@ -12,11 +12,11 @@ use Rattle.partial_state.specs.Levels.{level_type}
 use Rattle.level_validate.specs.Tables.{Carries}
 use Rattle.level_validate.proofs.Entered.{after_again, after_look, after_settled, back_one, fresh_ready, taken_gives, taken_ready, taken_stands}
 use Rattle.level_validate.proofs.LeavingTables.{top_inside}
-use Rattle.level_validate.proofs.Looking.{met_first}
 use Rattle.xp_words.specs.KindWords.{kind_fields}
 use Rattle.table_entries.specs.declared.resuming.Resumed.TheVariants as again
 use Rattle.level_validate.proofs.Pushing.{pushed}
 use Rattle.level_validate.proofs.Opening.{again_found, level_below}
+use Rattle.level_validate.proofs.Visited.{resumed_first}
 use Rattle.level_validate.proofs.Standing.{standing_above, standing_held, standing_looked, standing_top}
 use Rattle.level_validate.proofs.StandsFacts.{may_back, may_stands}
 use Rattle.level_validate.proofs.Waiting.{left_waiting, taken_found, wait_stops, waited_found, waits_there}
@@ -66,10 +66,10 @@ pub returns-in_err-resume_entry-clause-stands : goal.returns-in_err-resume_entry
 returns-in_err-resume_entry-clause-stands g n c v s =
     let u = g.P.Port.value c.args.port.now in
     let w = g.P.Port.value c.resume_entry.new.port in
-    let found = c.in_err-resume_entry.ensures.found.found in
+    let found = c.in_err-resume_entry.ensures.found in
     subst (λ xs. Carries v w c.args.owner xs) (sym c.requires.top)
     (after_look v u w c.args.owner c.args.top (drop 1 c.args.stack.now) (subst (λ xs. Carries v u c.args.owner xs) c.requires.top s) (serves_came u w (of_entries c.args.owner 0) _ (c.in_err-resume_entry.ensures.serves 0))
-    (met_first u w found.moment found.was) (c.args.top.done - 1) c.in_err-resume_entry.ensures.hand)
+    (resumed_first u w c.args.top.frame (c.args.top.done - 1) c.level_type.result c.args.owner _ found) (c.args.top.done - 1) c.in_err-resume_entry.ensures.hand)
 
 pub returns-in-Settled-clause-came : goal.returns-in-Settled-clause-came
 returns-in-Settled-clause-came g n c = serves_came (g.P.Port.value c.args.port.now) (g.P.Port.value c.resume_entry.new.port) (of_entries c.args.owner 0) [] (c.in_ok-resume_entry.ensures.serves 0)
@@ -78,21 +78,21 @@ pub returns-in-Settled-clause-stands : goal.returns-in-Settled-clause-stands
 returns-in-Settled-clause-stands g n c v s =
     let u = g.P.Port.value c.args.port.now in
     let w = g.P.Port.value c.resume_entry.new.port in
-    let found = c.in_ok-resume_entry.ensures.found.found in
+    let found = c.in_ok-resume_entry.ensures.found in
     let left = subst (λ r. LeavesResumed u w c.args.top.frame c.level_type.result (c.args.top.done - 1) c.args.owner r) c.in-Settled.is c.in_ok-resume_entry.ensures.hand in
     subst (λ xs. Carries v w c.args.owner xs) (sym c.requires.top)
     (after_look v u w c.args.owner c.args.top (drop 1 c.args.stack.now) (subst (λ xs. Carries v u c.args.owner xs) c.requires.top s) (serves_came u w (of_entries c.args.owner 0) [] (c.in_ok-resume_entry.ensures.serves 0))
-    (met_first u w found.moment found.was) (c.args.top.done - 1) left.0)
+    (resumed_first u w c.args.top.frame (c.args.top.done - 1) c.level_type.result c.args.owner _ found) (c.args.top.done - 1) left.0)
 
 pub returns-in-Settled-clause-ready : goal.returns-in-Settled-clause-ready
 returns-in-Settled-clause-ready g n c =
     let a = c.requires.stands in
     let u = g.P.Port.value c.args.port.now in
     let w = g.P.Port.value c.resume_entry.new.port in
-    let found = c.in_ok-resume_entry.ensures.found.found in
+    let found = c.in_ok-resume_entry.ensures.found in
     let left = subst (λ r. LeavesResumed u w c.args.top.frame c.level_type.result (c.args.top.done - 1) c.args.owner r) c.in-Settled.is c.in_ok-resume_entry.ensures.hand in
     after_settled a.0 u w c.args.owner c.args.top (drop 1 c.args.stack.now) (subst (λ xs. Carries a.0 u c.args.owner xs) c.requires.top a.1) (serves_came u w (of_entries c.args.owner 0) [] (c.in_ok-resume_entry.ensures.serves 0))
-    (met_first u w found.moment found.was) (c.args.top.done - 1) left.0 left.1
+    (resumed_first u w c.args.top.frame (c.args.top.done - 1) c.level_type.result c.args.owner _ found) (c.args.top.done - 1) left.0 left.1
 
 pub take_on-requires : goal.take_on-requires
 take_on-requires g n c κs low =
@@ -105,7 +105,7 @@ take_on-requires g n c κs low =
     let at = back_one t.done c.if-top-eq0.false in
     let found = c.in_ok-resume_entry.ensures.found in
     let came = serves_came u x (of_entries owner 0) [] (c.in_ok-resume_entry.ensures.serves 0) in
-    let first = met_first u x found.found.moment found.found.was in
+    let first = resumed_first u x _ _ _ _ _ found in
     let a = c.requires.stands in
     let s0 = subst (λ xs. Carries a.0 u owner xs) c.requires.top a.1 in
     let left = subst (λ k. LeavesResumed u x t.frame k i owner (again.Opened c.in-Opened.frame c.in-Opened.progress c.in-Opened.own)) c.level_type.ensures (subst (λ r. LeavesResumed u x t.frame c.level_type.result i owner r) c.in-Opened.is c.in_ok-resume_entry.ensures.hand) in
@@ -140,7 +140,7 @@ push-requires-clause-table g n c =
     let at = back_one t.done c.if-top-eq0.false in
     let found = c.in_ok-resume_entry.ensures.found in
     let came = serves_came u x (of_entries owner 0) [] (c.in_ok-resume_entry.ensures.serves 0) in
-    let first = met_first u x found.found.moment found.found.was in
+    let first = resumed_first u x _ _ _ _ _ found in
     let a = c.requires.stands in
     let s0 = subst (λ xs. Carries a.0 u owner xs) c.requires.top a.1 in
     let left = subst (λ k. LeavesResumed u x t.frame k i owner (again.Opened c.in-Opened.frame c.in-Opened.progress c.in-Opened.own)) c.level_type.ensures (subst (λ r. LeavesResumed u x t.frame c.level_type.result i owner r) c.in-Opened.is c.in_ok-resume_entry.ensures.hand) in
@@ -160,7 +160,7 @@ returns-in-Opened-clause-came g n c =
     let at = back_one t.done c.if-top-eq0.false in
     let found = c.in_ok-resume_entry.ensures.found in
     let came = serves_came u x (of_entries owner 0) [] (c.in_ok-resume_entry.ensures.serves 0) in
-    let first = met_first u x found.found.moment found.found.was in
+    let first = resumed_first u x _ _ _ _ _ found in
     came_trans u x (g.P.Port.value c.take_on.new.port) came c.take_on.ensures.came
 
 pub returns-in-Opened-clause-stands : goal.returns-in-Opened-clause-stands
@@ -174,7 +174,7 @@ returns-in-Opened-clause-stands g n c v s =
     let at = back_one t.done c.if-top-eq0.false in
     let found = c.in_ok-resume_entry.ensures.found in
     let came = serves_came u x (of_entries owner 0) [] (c.in_ok-resume_entry.ensures.serves 0) in
-    let first = met_first u x found.found.moment found.found.was in
+    let first = resumed_first u x _ _ _ _ _ found in
     let s0 = subst (λ xs. Carries v u owner xs) c.requires.top s in
     let left = subst (λ k. LeavesResumed u x t.frame k i owner (again.Opened c.in-Opened.frame c.in-Opened.progress c.in-Opened.own)) c.level_type.ensures (subst (λ r. LeavesResumed u x t.frame c.level_type.result i owner r) c.in-Opened.is c.in_ok-resume_entry.ensures.hand) in
     let way = subst (λ k. ResumesFound u x t.frame i k owner (Ok (again.Opened c.in-Opened.frame c.in-Opened.progress c.in-Opened.own))) c.level_type.ensures (subst (λ r. ResumesFound u x t.frame i c.level_type.result owner (Ok r)) c.in-Opened.is found) in
@@ -194,7 +194,7 @@ give_back-requires-clause-frame g n c =
     let at = back_one t.done c.if-top-eq0.false in
     let found = c.in_ok-resume_entry.ensures.found in
     let came = serves_came u x (of_entries owner 0) [] (c.in_ok-resume_entry.ensures.serves 0) in
-    let first = met_first u x found.found.moment found.found.was in
+    let first = resumed_first u x _ _ _ _ _ found in
     let left = subst (λ k. LeavesResumed u x t.frame k i owner (again.Taken c.in-Taken.frame)) c.level_type.ensures (subst (λ r. LeavesResumed u x t.frame c.level_type.result i owner r) c.in-Taken.is c.in_ok-resume_entry.ensures.hand) in
     let way = subst (λ k. ResumesFound u x t.frame i k owner (Ok (again.Taken c.in-Taken.frame))) c.level_type.ensures (subst (λ r. ResumesFound u x t.frame i c.level_type.result owner (Ok r)) c.in-Taken.is found) in
     subst (λ (p : Post). c.in-Taken.frame < p.machine.frames) (sym (came_post u x came)) (taken_found u x t.frame i (level_type t.level) owner c.in-Taken.frame way)
@@ -210,7 +210,7 @@ give_back-requires-clause-gives g n c =
     let at = back_one t.done c.if-top-eq0.false in
     let found = c.in_ok-resume_entry.ensures.found in
     let came = serves_came u x (of_entries owner 0) [] (c.in_ok-resume_entry.ensures.serves 0) in
-    let first = met_first u x found.found.moment found.found.was in
+    let first = resumed_first u x _ _ _ _ _ found in
     let a = c.requires.stands in
     let s0 = subst (λ xs. Carries a.0 u owner xs) c.requires.top a.1 in
     let left = subst (λ k. LeavesResumed u x t.frame k i owner (again.Taken c.in-Taken.frame)) c.level_type.ensures (subst (λ r. LeavesResumed u x t.frame c.level_type.result i owner r) c.in-Taken.is c.in_ok-resume_entry.ensures.hand) in
@@ -228,7 +228,7 @@ returns-in-Taken-clause-came g n c =
     let at = back_one t.done c.if-top-eq0.false in
     let found = c.in_ok-resume_entry.ensures.found in
     let came = serves_came u x (of_entries owner 0) [] (c.in_ok-resume_entry.ensures.serves 0) in
-    let first = met_first u x found.found.moment found.found.was in
+    let first = resumed_first u x _ _ _ _ _ found in
     came_trans u x (g.P.Port.value c.give_back.new.port) came c.give_back.ensures.came
 
 pub returns-in-Taken-clause-stands : goal.returns-in-Taken-clause-stands
@@ -242,7 +242,7 @@ returns-in-Taken-clause-stands g n c v s =
     let at = back_one t.done c.if-top-eq0.false in
     let found = c.in_ok-resume_entry.ensures.found in
     let came = serves_came u x (of_entries owner 0) [] (c.in_ok-resume_entry.ensures.serves 0) in
-    let first = met_first u x found.found.moment found.found.was in
+    let first = resumed_first u x _ _ _ _ _ found in
     let s0 = subst (λ xs. Carries v u owner xs) c.requires.top s in
     let left = subst (λ k. LeavesResumed u x t.frame k i owner (again.Taken c.in-Taken.frame)) c.level_type.ensures (subst (λ r. LeavesResumed u x t.frame c.level_type.result i owner r) c.in-Taken.is c.in_ok-resume_entry.ensures.hand) in
     let way = subst (λ k. ResumesFound u x t.frame i k owner (Ok (again.Taken c.in-Taken.frame))) c.level_type.ensures (subst (λ r. ResumesFound u x t.frame i c.level_type.result owner (Ok r)) c.in-Taken.is found) in
@@ -260,7 +260,7 @@ returns-in-Taken-clause-ready g n c =
     let at = back_one t.done c.if-top-eq0.false in
     let found = c.in_ok-resume_entry.ensures.found in
     let came = serves_came u x (of_entries owner 0) [] (c.in_ok-resume_entry.ensures.serves 0) in
-    let first = met_first u x found.found.moment found.found.was in
+    let first = resumed_first u x _ _ _ _ _ found in
     let a = c.requires.stands in
     let s0 = subst (λ xs. Carries a.0 u owner xs) c.requires.top a.1 in
     let left = subst (λ k. LeavesResumed u x t.frame k i owner (again.Taken c.in-Taken.frame)) c.level_type.ensures (subst (λ r. LeavesResumed u x t.frame c.level_type.result i owner r) c.in-Taken.is c.in_ok-resume_entry.ensures.hand) in
@@ -278,7 +278,7 @@ leave_dead-requires-clause-frame g n c =
     let at = back_one t.done c.if-top-eq0.false in
     let found = c.in_ok-resume_entry.ensures.found in
     let came = serves_came u x (of_entries owner 0) [] (c.in_ok-resume_entry.ensures.serves 0) in
-    let first = met_first u x found.found.moment found.found.was in
+    let first = resumed_first u x _ _ _ _ _ found in
     let left = subst (λ k. LeavesResumed u x t.frame k i owner (again.Waiting c.in-Waiting.frame c.in-Waiting.own c.in-Waiting.stamp c.in-Waiting.stop)) c.level_type.ensures (subst (λ r. LeavesResumed u x t.frame c.level_type.result i owner r) c.in-Waiting.is c.in_ok-resume_entry.ensures.hand) in
     let way = subst (λ k. ResumesFound u x t.frame i k owner (Ok (again.Waiting c.in-Waiting.frame c.in-Waiting.own c.in-Waiting.stamp c.in-Waiting.stop))) c.level_type.ensures (subst (λ r. ResumesFound u x t.frame i c.level_type.result owner (Ok r)) c.in-Waiting.is found) in
     subst (λ (p : Post). c.in-Waiting.frame < p.machine.frames) (sym (came_post u x came)) (waited_found u x t.frame i (level_type t.level) owner c.in-Waiting.frame c.in-Waiting.own c.in-Waiting.stamp c.in-Waiting.stop way)
@@ -294,7 +294,7 @@ leave_dead-requires-clause-waits g n c =
     let at = back_one t.done c.if-top-eq0.false in
     let found = c.in_ok-resume_entry.ensures.found in
     let came = serves_came u x (of_entries owner 0) [] (c.in_ok-resume_entry.ensures.serves 0) in
-    let first = met_first u x found.found.moment found.found.was in
+    let first = resumed_first u x _ _ _ _ _ found in
     let a = c.requires.stands in
     let s0 = subst (λ xs. Carries a.0 u owner xs) c.requires.top a.1 in
     let left = subst (λ k. LeavesResumed u x t.frame k i owner (again.Waiting c.in-Waiting.frame c.in-Waiting.own c.in-Waiting.stamp c.in-Waiting.stop)) c.level_type.ensures (subst (λ r. LeavesResumed u x t.frame c.level_type.result i owner r) c.in-Waiting.is c.in_ok-resume_entry.ensures.hand) in
@@ -314,7 +314,7 @@ returns-then-own-clause-came g n c =
     let at = back_one t.done c.if-top-eq0.false in
     let found = c.in_ok-resume_entry.ensures.found in
     let came = serves_came u x (of_entries owner 0) [] (c.in_ok-resume_entry.ensures.serves 0) in
-    let first = met_first u x found.found.moment found.found.was in
+    let first = resumed_first u x _ _ _ _ _ found in
     came_trans u x (g.P.Port.value c.leave_dead.new.port) came c.leave_dead.ensures.came
 
 pub returns-then-own-clause-stands : goal.returns-then-own-clause-stands
@@ -328,7 +328,7 @@ returns-then-own-clause-stands g n c v s =
     let at = back_one t.done c.if-top-eq0.false in
     let found = c.in_ok-resume_entry.ensures.found in
     let came = serves_came u x (of_entries owner 0) [] (c.in_ok-resume_entry.ensures.serves 0) in
-    let first = met_first u x found.found.moment found.found.was in
+    let first = resumed_first u x _ _ _ _ _ found in
     let s0 = subst (λ xs. Carries v u owner xs) c.requires.top s in
     let left = subst (λ k. LeavesResumed u x t.frame k i owner (again.Waiting c.in-Waiting.frame c.in-Waiting.own c.in-Waiting.stamp c.in-Waiting.stop)) c.level_type.ensures (subst (λ r. LeavesResumed u x t.frame c.level_type.result i owner r) c.in-Waiting.is c.in_ok-resume_entry.ensures.hand) in
     let way = subst (λ k. ResumesFound u x t.frame i k owner (Ok (again.Waiting c.in-Waiting.frame c.in-Waiting.own c.in-Waiting.stamp c.in-Waiting.stop))) c.level_type.ensures (subst (λ r. ResumesFound u x t.frame i c.level_type.result owner (Ok r)) c.in-Waiting.is found) in
@@ -336,7 +336,7 @@ returns-then-own-clause-stands g n c v s =
     let is = level_below t.level s0.stack.0.low s0.stack.0.high in
     let y = g.P.Port.value c.leave_dead.new.port in
     subst (λ xs. Carries v y owner xs) (sym c.requires.top)
-    (after_look v u y owner t ts s0 (came_trans u x y came c.leave_dead.ensures.came) (met_first u x found.found.moment found.found.was) i
+    (after_look v u y owner t ts s0 (came_trans u x y came c.leave_dead.ensures.came) (resumed_first u x _ _ _ _ _ found) i
     (left_waiting u x t.frame i (level_type t.level) (t.level - 1) c.in-Waiting.frame owner true is mine.0 y c.level_type-kind.result c.level_type-kind.ensures c.leave_dead.ensures.hand))
 
 pub returns-then-own-clause-kinds : goal.returns-then-own-clause-kinds
@@ -350,7 +350,7 @@ returns-then-own-clause-kinds g n c =
     let at = back_one t.done c.if-top-eq0.false in
     let found = c.in_ok-resume_entry.ensures.found in
     let came = serves_came u x (of_entries owner 0) [] (c.in_ok-resume_entry.ensures.serves 0) in
-    let first = met_first u x found.found.moment found.found.was in
+    let first = resumed_first u x _ _ _ _ _ found in
     wait_stops c.in-Waiting.stop (subst (λ r. ShowsResumed u x owner 0 r) c.in-Waiting.is (c.in_ok-resume_entry.ensures.shows 0)).0
 
 pub leave_shared-requires-clause-frame : goal.leave_shared-requires-clause-frame
@@ -364,7 +364,7 @@ leave_shared-requires-clause-frame g n c =
     let at = back_one t.done c.if-top-eq0.false in
     let found = c.in_ok-resume_entry.ensures.found in
     let came = serves_came u x (of_entries owner 0) [] (c.in_ok-resume_entry.ensures.serves 0) in
-    let first = met_first u x found.found.moment found.found.was in
+    let first = resumed_first u x _ _ _ _ _ found in
     let left = subst (λ k. LeavesResumed u x t.frame k i owner (again.Waiting c.in-Waiting.frame c.in-Waiting.own c.in-Waiting.stamp c.in-Waiting.stop)) c.level_type.ensures (subst (λ r. LeavesResumed u x t.frame c.level_type.result i owner r) c.in-Waiting.is c.in_ok-resume_entry.ensures.hand) in
     let way = subst (λ k. ResumesFound u x t.frame i k owner (Ok (again.Waiting c.in-Waiting.frame c.in-Waiting.own c.in-Waiting.stamp c.in-Waiting.stop))) c.level_type.ensures (subst (λ r. ResumesFound u x t.frame i c.level_type.result owner (Ok r)) c.in-Waiting.is found) in
     subst (λ (p : Post). c.in-Waiting.frame < p.machine.frames) (sym (came_post u x came)) (waited_found u x t.frame i (level_type t.level) owner c.in-Waiting.frame c.in-Waiting.own c.in-Waiting.stamp c.in-Waiting.stop way)
@@ -380,7 +380,7 @@ leave_shared-requires-clause-waits g n c =
     let at = back_one t.done c.if-top-eq0.false in
     let found = c.in_ok-resume_entry.ensures.found in
     let came = serves_came u x (of_entries owner 0) [] (c.in_ok-resume_entry.ensures.serves 0) in
-    let first = met_first u x found.found.moment found.found.was in
+    let first = resumed_first u x _ _ _ _ _ found in
     let a = c.requires.stands in
     let s0 = subst (λ xs. Carries a.0 u owner xs) c.requires.top a.1 in
     let left = subst (λ k. LeavesResumed u x t.frame k i owner (again.Waiting c.in-Waiting.frame c.in-Waiting.own c.in-Waiting.stamp c.in-Waiting.stop)) c.level_type.ensures (subst (λ r. LeavesResumed u x t.frame c.level_type.result i owner r) c.in-Waiting.is c.in_ok-resume_entry.ensures.hand) in
@@ -400,7 +400,7 @@ returns-else-own-clause-came g n c =
     let at = back_one t.done c.if-top-eq0.false in
     let found = c.in_ok-resume_entry.ensures.found in
     let came = serves_came u x (of_entries owner 0) [] (c.in_ok-resume_entry.ensures.serves 0) in
-    let first = met_first u x found.found.moment found.found.was in
+    let first = resumed_first u x _ _ _ _ _ found in
     came_trans u x (g.P.Port.value c.leave_shared.new.port) came c.leave_shared.ensures.came
 
 pub returns-else-own-clause-stands : goal.returns-else-own-clause-stands
@@ -414,7 +414,7 @@ returns-else-own-clause-stands g n c v s =
     let at = back_one t.done c.if-top-eq0.false in
     let found = c.in_ok-resume_entry.ensures.found in
     let came = serves_came u x (of_entries owner 0) [] (c.in_ok-resume_entry.ensures.serves 0) in
-    let first = met_first u x found.found.moment found.found.was in
+    let first = resumed_first u x _ _ _ _ _ found in
     let s0 = subst (λ xs. Carries v u owner xs) c.requires.top s in
     let left = subst (λ k. LeavesResumed u x t.frame k i owner (again.Waiting c.in-Waiting.frame c.in-Waiting.own c.in-Waiting.stamp c.in-Waiting.stop)) c.level_type.ensures (subst (λ r. LeavesResumed u x t.frame c.level_type.result i owner r) c.in-Waiting.is c.in_ok-resume_entry.ensures.hand) in
     let way = subst (λ k. ResumesFound u x t.frame i k owner (Ok (again.Waiting c.in-Waiting.frame c.in-Waiting.own c.in-Waiting.stamp c.in-Waiting.stop))) c.level_type.ensures (subst (λ r. ResumesFound u x t.frame i c.level_type.result owner (Ok r)) c.in-Waiting.is found) in
@@ -422,7 +422,7 @@ returns-else-own-clause-stands g n c v s =
     let is = level_below t.level s0.stack.0.low s0.stack.0.high in
     let y = g.P.Port.value c.leave_shared.new.port in
     subst (λ xs. Carries v y owner xs) (sym c.requires.top)
-    (after_look v u y owner t ts s0 (came_trans u x y came c.leave_shared.ensures.came) (met_first u x found.found.moment found.found.was) i
+    (after_look v u y owner t ts s0 (came_trans u x y came c.leave_shared.ensures.came) (resumed_first u x _ _ _ _ _ found) i
     (left_waiting u x t.frame i (level_type t.level) (t.level - 1) c.in-Waiting.frame owner false is mine.0 y c.level_type-kind.result c.level_type-kind.ensures c.leave_shared.ensures.hand))
 
 pub returns-else-own-clause-kinds : goal.returns-else-own-clause-kinds
@@ -436,5 +436,5 @@ returns-else-own-clause-kinds g n c =
     let at = back_one t.done c.if-top-eq0.false in
     let found = c.in_ok-resume_entry.ensures.found in
     let came = serves_came u x (of_entries owner 0) [] (c.in_ok-resume_entry.ensures.serves 0) in
-    let first = met_first u x found.found.moment found.found.was in
+    let first = resumed_first u x _ _ _ _ _ found in
     wait_stops c.in-Waiting.stop (subst (λ r. ShowsResumed u x owner 0 r) c.in-Waiting.is (c.in_ok-resume_entry.ensures.shows 0)).0

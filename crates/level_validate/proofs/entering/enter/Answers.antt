@@ -13,8 +13,8 @@ use Rattle.partial_state.specs.Stacks.{advanced, left_on_top}
 use Rattle.level_validate.specs.Tables.{Carries}
 use Rattle.level_validate.proofs.Entered.{after_look, after_next, after_record, after_record_ready, fresh_ready}
 use Rattle.level_validate.proofs.LeavingTables.{top_inside}
-use Rattle.level_validate.proofs.Looking.{met_first}
 use Rattle.level_validate.proofs.Opening.{opened_found}
+use Rattle.level_validate.proofs.Visited.{entered_first}
 use Rattle.level_validate.proofs.Pushing.{pushed}
 use Rattle.level_validate.proofs.Standing.{standing_above, standing_held, standing_known, standing_looked, standing_next}
 use Rattle.level_validate.proofs.StandsFacts.{may_back, may_stands}
@@ -100,8 +100,8 @@ returns-in_err-take_entry-clause-stands g c v s =
     let is = c.in-Some.ensures.some in
     let s0 = subst (λ xs. Carries v u owner xs) is s in
     let x = g.P.Port.value c.take_entry.new.port in
-    let found = c.in_err-take_entry.ensures.found.found in
-    subst (λ xs. Carries v x owner xs) (sym is) (after_look v u x owner t ts s0 (serves_came u x (of_entries owner 0) _ (c.in_err-take_entry.ensures.serves 0)) (met_first u x found.moment found.was) t.done c.in_err-take_entry.ensures.hand)
+    let found = c.in_err-take_entry.ensures.found in
+    subst (λ xs. Carries v x owner xs) (sym is) (after_look v u x owner t ts s0 (serves_came u x (of_entries owner 0) _ (c.in_err-take_entry.ensures.serves 0)) (entered_first u x _ _ _ _ _ found) t.done c.in_err-take_entry.ensures.hand)
 
 pub push-requires-clause-table : goal.push-requires-clause-table
 push-requires-clause-table g c =
@@ -115,7 +115,7 @@ push-requires-clause-table g c =
     let x = g.P.Port.value c.take_entry.new.port in
     let found = c.in_ok-take_entry.ensures.found in
     let came = serves_came u x (of_entries owner 0) [] (c.in_ok-take_entry.ensures.serves 0) in
-    let first = met_first u x found.found.moment found.found.was in
+    let first = entered_first u x _ _ _ _ _ found in
     let room : 0 < 512 - t.done = subst (λ xs. 0 < left_on_top xs) is c.requires.left in
     let left = subst (λ k. LeavesEntered u x t.frame k t.done owner (entered.Opened c.in-Opened.frame c.in-Opened.progress c.in-Opened.own)) c.level_type.ensures (subst (λ r. LeavesEntered u x t.frame c.level_type.result t.done owner r) c.in-Opened.is c.in_ok-take_entry.ensures.hand) in
     let way = subst (λ k. EntersFound u x t.frame t.done k owner (Ok (entered.Opened c.in-Opened.frame c.in-Opened.progress c.in-Opened.own))) c.level_type.ensures (subst (λ r. EntersFound u x t.frame t.done c.level_type.result owner (Ok r)) c.in-Opened.is found) in
@@ -135,7 +135,7 @@ take_on-requires-clause-may g c =
     let x = g.P.Port.value c.take_entry.new.port in
     let found = c.in_ok-take_entry.ensures.found in
     let came = serves_came u x (of_entries owner 0) [] (c.in_ok-take_entry.ensures.serves 0) in
-    let first = met_first u x found.found.moment found.found.was in
+    let first = entered_first u x _ _ _ _ _ found in
     let room : 0 < 512 - t.done = subst (λ xs. 0 < left_on_top xs) is c.requires.left in
     let left = subst (λ k. LeavesEntered u x t.frame k t.done owner (entered.Opened c.in-Opened.frame c.in-Opened.progress c.in-Opened.own)) c.level_type.ensures (subst (λ r. LeavesEntered u x t.frame c.level_type.result t.done owner r) c.in-Opened.is c.in_ok-take_entry.ensures.hand) in
     let way = subst (λ k. EntersFound u x t.frame t.done k owner (Ok (entered.Opened c.in-Opened.frame c.in-Opened.progress c.in-Opened.own))) c.level_type.ensures (subst (λ r. EntersFound u x t.frame t.done c.level_type.result owner (Ok r)) c.in-Opened.is found) in
@@ -155,7 +155,7 @@ take_on-requires-clause-stands g c =
     let x = g.P.Port.value c.take_entry.new.port in
     let found = c.in_ok-take_entry.ensures.found in
     let came = serves_came u x (of_entries owner 0) [] (c.in_ok-take_entry.ensures.serves 0) in
-    let first = met_first u x found.found.moment found.found.was in
+    let first = entered_first u x _ _ _ _ _ found in
     let room : 0 < 512 - t.done = subst (λ xs. 0 < left_on_top xs) is c.requires.left in
     let left = subst (λ k. LeavesEntered u x t.frame k t.done owner (entered.Opened c.in-Opened.frame c.in-Opened.progress c.in-Opened.own)) c.level_type.ensures (subst (λ r. LeavesEntered u x t.frame c.level_type.result t.done owner r) c.in-Opened.is c.in_ok-take_entry.ensures.hand) in
     let way = subst (λ k. EntersFound u x t.frame t.done k owner (Ok (entered.Opened c.in-Opened.frame c.in-Opened.progress c.in-Opened.own))) c.level_type.ensures (subst (λ r. EntersFound u x t.frame t.done c.level_type.result owner (Ok r)) c.in-Opened.is found) in
@@ -194,7 +194,7 @@ returns-in-Recorded-clause-came g c =
     let x = g.P.Port.value c.take_entry.new.port in
     let found = c.in_ok-take_entry.ensures.found in
     let came = serves_came u x (of_entries owner 0) [] (c.in_ok-take_entry.ensures.serves 0) in
-    let first = met_first u x found.found.moment found.found.was in
+    let first = entered_first u x _ _ _ _ _ found in
     let room : 0 < 512 - t.done = subst (λ xs. 0 < left_on_top xs) is c.requires.left in
     came
 
@@ -209,7 +209,7 @@ returns-in-Recorded-clause-stands g c v s =
     let x = g.P.Port.value c.take_entry.new.port in
     let found = c.in_ok-take_entry.ensures.found in
     let came = serves_came u x (of_entries owner 0) [] (c.in_ok-take_entry.ensures.serves 0) in
-    let first = met_first u x found.found.moment found.found.was in
+    let first = entered_first u x _ _ _ _ _ found in
     let room : 0 < 512 - t.done = subst (λ xs. 0 < left_on_top xs) is c.requires.left in
     let left = subst (λ k. LeavesEntered u x t.frame k t.done owner entered.Recorded) c.level_type.ensures (subst (λ r. LeavesEntered u x t.frame c.level_type.result t.done owner r) c.in-Recorded.is c.in_ok-take_entry.ensures.hand) in
     subst (λ xs. Carries v x owner xs) (sym (c.advance.ensures.advanced ∙ ap advanced is)) (after_record v u x owner t ts s0 came first None room left)
@@ -226,7 +226,7 @@ returns-in-Recorded-clause-ready g c =
     let x = g.P.Port.value c.take_entry.new.port in
     let found = c.in_ok-take_entry.ensures.found in
     let came = serves_came u x (of_entries owner 0) [] (c.in_ok-take_entry.ensures.serves 0) in
-    let first = met_first u x found.found.moment found.found.was in
+    let first = entered_first u x _ _ _ _ _ found in
     let room : 0 < 512 - t.done = subst (λ xs. 0 < left_on_top xs) is c.requires.left in
     let left = subst (λ k. LeavesEntered u x t.frame k t.done owner entered.Recorded) c.level_type.ensures (subst (λ r. LeavesEntered u x t.frame c.level_type.result t.done owner r) c.in-Recorded.is c.in_ok-take_entry.ensures.hand) in
     after_record_ready a.0 u x owner t ts s0 came first left
@@ -241,7 +241,7 @@ returns-in-Opened-clause-came g c =
     let x = g.P.Port.value c.take_entry.new.port in
     let found = c.in_ok-take_entry.ensures.found in
     let came = serves_came u x (of_entries owner 0) [] (c.in_ok-take_entry.ensures.serves 0) in
-    let first = met_first u x found.found.moment found.found.was in
+    let first = entered_first u x _ _ _ _ _ found in
     let room : 0 < 512 - t.done = subst (λ xs. 0 < left_on_top xs) is c.requires.left in
     came_trans u x (g.P.Port.value c.take_on.new.port) came c.take_on.ensures.came
 
@@ -256,7 +256,7 @@ returns-in-Opened-clause-stands g c v s =
     let x = g.P.Port.value c.take_entry.new.port in
     let found = c.in_ok-take_entry.ensures.found in
     let came = serves_came u x (of_entries owner 0) [] (c.in_ok-take_entry.ensures.serves 0) in
-    let first = met_first u x found.found.moment found.found.was in
+    let first = entered_first u x _ _ _ _ _ found in
     let room : 0 < 512 - t.done = subst (λ xs. 0 < left_on_top xs) is c.requires.left in
     let left = subst (λ k. LeavesEntered u x t.frame k t.done owner (entered.Opened c.in-Opened.frame c.in-Opened.progress c.in-Opened.own)) c.level_type.ensures (subst (λ r. LeavesEntered u x t.frame c.level_type.result t.done owner r) c.in-Opened.is c.in_ok-take_entry.ensures.hand) in
     let way = subst (λ k. EntersFound u x t.frame t.done k owner (Ok (entered.Opened c.in-Opened.frame c.in-Opened.progress c.in-Opened.own))) c.level_type.ensures (subst (λ r. EntersFound u x t.frame t.done c.level_type.result owner (Ok r)) c.in-Opened.is found) in
@@ -274,7 +274,7 @@ returns-in-Unsettled-clause-came g c =
     let x = g.P.Port.value c.take_entry.new.port in
     let found = c.in_ok-take_entry.ensures.found in
     let came = serves_came u x (of_entries owner 0) [] (c.in_ok-take_entry.ensures.serves 0) in
-    let first = met_first u x found.found.moment found.found.was in
+    let first = entered_first u x _ _ _ _ _ found in
     let room : 0 < 512 - t.done = subst (λ xs. 0 < left_on_top xs) is c.requires.left in
     came
 
@@ -289,7 +289,7 @@ returns-in-Unsettled-clause-stands g c v s =
     let x = g.P.Port.value c.take_entry.new.port in
     let found = c.in_ok-take_entry.ensures.found in
     let came = serves_came u x (of_entries owner 0) [] (c.in_ok-take_entry.ensures.serves 0) in
-    let first = met_first u x found.found.moment found.found.was in
+    let first = entered_first u x _ _ _ _ _ found in
     let room : 0 < 512 - t.done = subst (λ xs. 0 < left_on_top xs) is c.requires.left in
     let left = subst (λ k. LeavesEntered u x t.frame k t.done owner (entered.Unsettled c.in-Unsettled.stop)) c.level_type.ensures (subst (λ r. LeavesEntered u x t.frame c.level_type.result t.done owner r) c.in-Unsettled.is c.in_ok-take_entry.ensures.hand) in
     subst (λ xs. Carries v x owner xs) (sym (c.advance-in-Unsettled.ensures.advanced ∙ ap advanced is)) (after_record v u x owner t ts s0 came first left.0 room left.1)

@@ -1,4 +1,4 @@
-use Rattle.std.proofs.Common.{[], ◌∙◌, sym, ◌+◌, None, Ok, Err, refl, ap}
+use Rattle.std.proofs.Common.{◌∙◌, sym, ◌+◌, None, Ok, Err, refl, ap}
 use Rattle.table_entries.proofs.HandRecords.{looks_next, nothing_hand, nothing_records}
 use Rattle.table_entries.specs.Between.{SeesEntry}
 use Rattle.table_entries.proofs.PiecesAsking.{look_bad, looked_goes}

@@ -1,4 +1,4 @@
-use Rattle.std.proofs.Common.{[], None, Some, Ok, refl, ap, sym, subst, ◌∙◌, ◌+◌, Result, Err}
+use Rattle.std.proofs.Common.{[], None, Some, Ok, ap, sym, subst, ◌∙◌, ◌+◌, Result, Err}
 use Rattle.xp_words.specs.declared.entry.Demand.TheVariants.{Typed}
 use Rattle.answer_fits.specs.Asked.{of_frame}
 use Rattle.answer_fits.proofs.Piecing.{serves_came}
@@ -25,7 +25,6 @@ use Rattle.table_entries.proofs.TwinsTaken.{typed_behind, typed_refused}
 use Rattle.table_entries.proofs.TwinsTyped.{types_counted, types_opened, types_stopped}
 use Rattle.answer_fits.specs.Answers.{Serves}
 use Rattle.frame_words.specs.Refs.{Gets}
-use Rattle.frame_types.specs.declared.taking.Taken.TheVariants as types
 use Rattle.table_entries.specs.Found.{EntersFound, TypedBy}
 use Rattle.frame_words.proofs.Getting.{first_stopped}
 use Rattle.table_entries.proofs.FoundEntering.{enters_by, enters_had, typed_opened, typed_recorded, typed_stopped}

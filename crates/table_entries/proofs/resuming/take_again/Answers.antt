@@ -1,4 +1,4 @@
-use Rattle.std.proofs.Common.{[], false, Err, None, refl, ap, sym, subst, ◌∙◌, Result, Some, Ok}
+use Rattle.std.proofs.Common.{[], false, Err, None, ap, sym, subst, ◌∙◌, Result, Some, Ok}
 use Rattle.std.proofs.lemmas.Result.{err_from_is_err_and}
 use Rattle.xp_words.specs.declared.entry.Demand.TheVariants.{Typed}
 use Rattle.answer_fits.specs.Asked.{of_frame}
@@ -20,7 +20,6 @@ use Rattle.table_entries.proofs.TwinsTyped.{again_counted, again_opened, again_s
 use Rattle.answer_fits.specs.Answers.{Serves}
 use Rattle.frame_words.specs.Refs.{Gets}
 use Rattle.frame_types.specs.Found.{TakesFound}
-use Rattle.frame_types.specs.declared.taking.Taken.TheVariants as types
 use Rattle.table_entries.specs.Found.{ResumesFound}
 use Rattle.table_entries.proofs.FoundResuming.{reopened, resumes_had, retaken, rewaited, unreferred_found, untaken_found}
 use Rattle.table_entries.proofs.resuming.take_again.Goals as goal

@@ -1,4 +1,4 @@
-use Rattle.std.proofs.Common.{[], true, false, ◌+◌, sym, ap, ◌∙◌}
+use Rattle.std.proofs.Common.{true, false, ◌+◌, sym, ap, ◌∙◌}
 use Rattle.table_entries.proofs.HandWaits.{has_entries, is_own, is_waiting, not_own, unsettled_hand, unsettled_records, wait_gave}
 use Rattle.table_entries.proofs.PiecesWaiting.{waits_left, waits_unsettled}
 use Rattle.xp_words.specs.declared.place.Place.TheVariants.{Clock}
