@@ -11,7 +11,7 @@ use Rattle.frame_types.proofs.leaving.leave_shared.Goals as goal
 pub leave-requires-clause-leaves : goal.leave-requires-clause-leaves
 leave-requires-clause-leaves g c =
     let w = c.requires.waits in
-    rw c.partial_kind-as_found.ensures (partial_may w.0 (g.P.Port.value c.args.port.now) c.args.frame w.1 c.args.want false c.args.stamp w.2 w.2.waits.whose)
+    rw c.waiting_kind-as_found.ensures (partial_may w.0 (g.P.Port.value c.args.port.now) c.args.frame w.1 c.args.want false c.args.stamp w.2 w.2.waits.whose)
 
 pub put_ref-requires-clause-gives : goal.put_ref-requires-clause-gives
 put_ref-requires-clause-gives g c =
@@ -20,7 +20,7 @@ put_ref-requires-clause-gives g c =
     let d = g.P.Port.value c.leave.new.port in
     let may = partial_may w.0 v c.args.frame w.1 c.args.want false c.args.stamp w.2 w.2.waits.whose in
     shared_gives w.0 v c.args.frame w.1 c.args.want c.args.stamp w.2 d
-    (shared_back w.0 v c.args.frame w.1 c.args.want c.args.stamp w.2 d c.args.stamp may.is (held_as v d c.args.frame _ _ c.partial_kind-as_found.ensures c.leave.ensures.hand))
+    (shared_back w.0 v c.args.frame w.1 c.args.want c.args.stamp w.2 d c.args.stamp may.is (held_as v d c.args.frame _ _ c.waiting_kind-as_found.ensures c.leave.ensures.hand))
     (alone w.0 v c.args.frame w.1 c.args.want false c.args.stamp w.2 v _ _ refl c.leave.ensures.moves.finds)
 
 pub returns-clause-came : goal.returns-clause-came
@@ -38,7 +38,7 @@ returns-clause-serves g c u owner ds before =
     let may = partial_may w.0 v c.args.frame w.1 c.args.want false c.args.stamp w.2 w.2.waits.whose in
     back_serves u d (g.P.Port.value c.put_ref.new.port) c.args.frame owner c.args.want ds
     (store_serves u v d c.args.frame owner c.args.want ds before w.2.waits.work _ c.leave.result (here w.0 v c.args.frame w.1 c.args.want false c.args.stamp w.2) w.2.waits.works.in_work w.2.waits.works.kind may.is refl
-    (moved_as v d c.args.frame c.leave.result _ _ c.partial_kind-as_found.ensures c.leave.ensures.moves)) c.put_ref.ensures.serves
+    (moved_as v d c.args.frame c.leave.result _ _ c.waiting_kind-as_found.ensures c.leave.ensures.moves)) c.put_ref.ensures.serves
 
 pub returns-clause-hand : goal.returns-clause-hand
 returns-clause-hand g c b owner stamp waits =
@@ -47,13 +47,13 @@ returns-clause-hand g c b owner stamp waits =
     let d = g.P.Port.value c.leave.new.port in
     let may = partial_may w.0 v c.args.frame w.1 c.args.want false c.args.stamp w.2 w.2.waits.whose in
     shared_gone b v c.args.frame owner c.args.want stamp waits d (g.P.Port.value c.put_ref.new.port)
-    (shared_back b v c.args.frame owner c.args.want stamp waits d c.args.stamp may.is (held_as v d c.args.frame _ _ c.partial_kind-as_found.ensures c.leave.ensures.hand)) c.put_ref.ensures.hand
+    (shared_back b v c.args.frame owner c.args.want stamp waits d c.args.stamp may.is (held_as v d c.args.frame _ _ c.waiting_kind-as_found.ensures c.leave.ensures.hand)) c.put_ref.ensures.hand
 
 pub returns-clause-plain : goal.returns-clause-plain
 returns-clause-plain g c telling =
     let v = g.P.Port.value c.args.port.now in
     let d = g.P.Port.value c.leave.new.port in
-    put_behind v d c.args.frame c.leave.result _ (moved_as v d c.args.frame c.leave.result _ _ c.partial_kind-as_found.ensures c.leave.ensures.moves) telling (g.P.Port.value c.put_ref.new.port) c.put_ref.ensures.plain
+    put_behind v d c.args.frame c.leave.result _ (moved_as v d c.args.frame c.leave.result _ _ c.waiting_kind-as_found.ensures c.leave.ensures.moves) telling (g.P.Port.value c.put_ref.new.port) c.put_ref.ensures.plain
 
 pub returns-clause-owned : goal.returns-clause-owned
 returns-clause-owned g c telling = owned_before (g.P.Port.value c.args.port.now) (g.P.Port.value c.leave.new.port) c.args.frame c.leave.result _ c.leave.ensures.moves telling c.put_ref.ensures.owned
@@ -62,4 +62,4 @@ pub returns-clause-changes : goal.returns-clause-changes
 returns-clause-changes g c =
     let v = g.P.Port.value c.args.port.now in
     let d = g.P.Port.value c.leave.new.port in
-    shared_changes v d (g.P.Port.value c.put_ref.new.port) c.args.frame c.leave.result c.args.stamp c.args.want (moved_as v d c.args.frame c.leave.result _ _ c.partial_kind-as_found.ensures c.leave.ensures.moves) c.put_ref.ensures.puts
+    shared_changes v d (g.P.Port.value c.put_ref.new.port) c.args.frame c.leave.result c.args.stamp c.args.want (moved_as v d c.args.frame c.leave.result _ _ c.waiting_kind-as_found.ensures c.leave.ensures.moves) c.put_ref.ensures.puts

@@ -37,7 +37,7 @@ returns-in-Refused-clause-plain g c =
 pub leave-requires-clause-leaves : goal.leave-requires-clause-leaves
 leave-requires-clause-leaves g c =
     let w = c.requires.waits in
-    rw c.partial_kind.ensures (kept_may w.0 (g.P.Port.value c.args.port.now) c.args.frame w.1 c.args.own c.args.stamp w.2 c.if-not-own.false)
+    rw c.waiting_kind.ensures (kept_may w.0 (g.P.Port.value c.args.port.now) c.args.frame w.1 c.args.own c.args.stamp w.2 c.if-not-own.false)
 
 pub returns-in-Paused-clause-serves : goal.returns-in-Paused-clause-serves
 returns-in-Paused-clause-serves g c u owner ds before =
@@ -46,13 +46,13 @@ returns-in-Paused-clause-serves g c u owner ds before =
     let d = g.P.Port.value c.leave.new.port in
     let may = kept_may w.0 v c.args.frame w.1 c.args.own c.args.stamp w.2 c.if-not-own.false in
     store_serves u v d c.args.frame owner Writable ds before w.2.from.waits.work _ c.leave.result (here w.0 v c.args.frame w.1 Writable c.args.own c.args.stamp w.2.from) w.2.from.waits.works.in_work
-    w.2.from.waits.works.kind may.is refl (moved_as v d c.args.frame c.leave.result _ _ c.partial_kind.ensures c.leave.ensures.moves)
+    w.2.from.waits.works.kind may.is refl (moved_as v d c.args.frame c.leave.result _ _ c.waiting_kind.ensures c.leave.ensures.moves)
 
 pub returns-in-Paused-clause-hand : goal.returns-in-Paused-clause-hand
 returns-in-Paused-clause-hand g c b owner waits =
     let v = g.P.Port.value c.args.port.now in
     let d = g.P.Port.value c.leave.new.port in
-    kept_back b v c.args.frame owner c.args.own c.args.stamp waits c.if-not-own.false d (held_as v d c.args.frame _ _ c.partial_kind.ensures c.leave.ensures.hand)
+    kept_back b v c.args.frame owner c.args.own c.args.stamp waits c.if-not-own.false d (held_as v d c.args.frame _ _ c.waiting_kind.ensures c.leave.ensures.hand)
 
 pub returns-in-Paused-clause-plain : goal.returns-in-Paused-clause-plain
 returns-in-Paused-clause-plain g c =
@@ -60,7 +60,7 @@ returns-in-Paused-clause-plain g c =
     let d = g.P.Port.value c.leave.new.port in
     subst (λ e. TwinGiveUp v d c.args.frame c.args.own c.args.stamp e) (sym c.in-Paused.is)
     (subst (λ b. TwinGiveUp v d c.args.frame b c.args.stamp (Paused c.in-Paused.field-0)) (sym c.if-not-own.false)
-    (kept_words v d c.args.frame c.leave.result c.args.stamp (moved_as v d c.args.frame c.leave.result _ _ c.partial_kind.ensures c.leave.ensures.moves)))
+    (kept_words v d c.args.frame c.leave.result c.args.stamp (moved_as v d c.args.frame c.leave.result _ _ c.waiting_kind.ensures c.leave.ensures.moves)))
 
 -- ---- what is changed
 pub returns-then-not-own-clause-changes : goal.returns-then-not-own-clause-changes
@@ -76,4 +76,4 @@ returns-in-Paused-clause-changes g c =
     let v = g.P.Port.value c.args.port.now in
     let d = g.P.Port.value c.leave.new.port in
     given_kept v d c.args.frame c.args.stamp c.args.own c.args.stop c.in-Paused.field-0 c.leave.result c.if-not-own.false c.in-Paused.is
-    (moved_as v d c.args.frame c.leave.result _ _ c.partial_kind.ensures c.leave.ensures.moves)
+    (moved_as v d c.args.frame c.leave.result _ _ c.waiting_kind.ensures c.leave.ensures.moves)
