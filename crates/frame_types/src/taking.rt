@@ -165,7 +165,6 @@ fn finish<P: Port>(
 ) -> Taken
     requires frame { frame < (P.value port.old).post.machine.frames }
     requires may { MayWork (P.value port.old) }
-    requires stub { ⊥ }
     requires wanted { IsTrue (not (is_none want)) }
     requires enters { HasEntered (P.value port.old) frame owner want marked kind own }
     requires past { marked ≡ true → IsFlushed (P.value port.old).post.machine frame (P.value port.old).holdings }
