@@ -1,5 +1,5 @@
 -- The steps by which a type is taken, by the word that the look found.
-use Rattle.std.proofs.Common.{◌≡◌, ◌≢◌, ℕ, if◌then◌else◌, Bool, true, false, List, Option, Some, None, Ok, Err, refl, sym, ap, ◌∙◌, subst}
+use Rattle.std.proofs.Common.{◌≡◌, ◌≢◌, ℕ, if◌then◌else◌, Bool, true, false, List, Some, None, Ok, Err, refl, sym, ap, ◌∙◌, subst}
 use Rattle.xp_words.specs.KindWords.{kind_read, kind_fields, kind_write}
 use Rattle.xp_words.specs.Places.{number, sizes_of}
 use Rattle.xp_words.specs.declared.kind.KindWord.{KindWord}
@@ -9,14 +9,14 @@ use Rattle.xp_words.specs.declared.reply.Pause.TheVariants.{Busy, Lost}
 use Rattle.xp_words.specs.declared.reply.Refusal.TheVariants.{OtherType}
 use Rattle.xp_words.specs.declared.reply.Stop.{Stop}
 use Rattle.xp_words.specs.declared.reply.Stop.TheVariants.{Refused, Paused}
-use Rattle.xp_board.specs.declared.step.Act.TheVariants.{Load, Cas, Store}
+use Rattle.xp_board.specs.declared.step.Act.TheVariants.{Cas, Store}
 use Rattle.xp_board.specs.declared.step.StepKind.TheVariants as kinds
 use Rattle.xp_board.specs.KindSteps.{begun_kind, is_stale, raised_kind, resumed_kind}
 use Rattle.xp_board.specs.Told.{Post, PortValue}
 use Rattle.board_lemmas.proofs.KindForms.{fields_of}
 use Rattle.step_maker.specs.Moves.{Moves}
 use Rattle.step_maker.proofs.Coming.{came_post, came_trans, moves_came}
-use Rattle.answer_fits.specs.Visits.{Visit, visit, Does, Nothing, Only, Then, Waited, Where}
+use Rattle.answer_fits.specs.Visits.{Visit, visit, Does, Only, Then, Waited, Where}
 use Rattle.answer_fits.proofs.Visiting.{does_as, does_nothing, does_one, does_then}
 use Rattle.flush_waits.specs.Waiting.{WaitedFor}
 use Rattle.frame_words.specs.Freeing.{PutBy, Puts}
@@ -117,12 +117,12 @@ module _ (b v : PortValue) (f owner : ℕ) (want : PageType) (word : ℕ) (l : L
     taken w t none way rest =
         does_as b w (Then (Only (saw_kind f word)) (λ ts. TakesBy f want word s t ts)) (λ vs. TypeBy b.post.machine f want (Ok t) vs)
         (λ vs steps.
-          record {
-            word = word;
-            free = stop_is ∙ none;
-            way = subst (λ y. IsTakenBy want (kind_fields word) y t) (sym standing) (subst (λ y. IsTakenBy want y s t) (sym of) way);
-            steps = subst (λ y. Then (Only (saw_kind f word)) (λ ts. TakesBy f want word y t ts) vs) (sym standing) steps;
-          }) (does_then b v w (Only (saw_kind f word)) (λ ts. TakesBy f want word s t ts) look_alone rest)
+        record {
+          word = word;
+          free = stop_is ∙ none;
+          way = subst (λ y. IsTakenBy want (kind_fields word) y t) (sym standing) (subst (λ y. IsTakenBy want y s t) (sym of) way);
+          steps = subst (λ y. Then (Only (saw_kind f word)) (λ ts. TakesBy f want word y t ts) vs) (sym standing) steps;
+        }) (does_then b v w (Only (saw_kind f word)) (λ ts. TakesBy f want word s t ts) look_alone rest)
 
     pub lost_found : (w : PortValue) (found : ℕ) → stop_by f want word s ≡ None → Moves v w (Kind f) (Cas (kind_write k) (kind_write (next_kind k want s))) kinds.Kind None found → found ≢ kind_write k →
         (e : Stop) → e ≡ Paused (Lost (number (sizes_of w.post.machine) (Kind f)) word found) → TakesFound b w f want (Err e)
