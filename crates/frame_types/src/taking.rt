@@ -16,8 +16,8 @@ use crate::words::{counts, is_read_first, progress_of};
 use flush_waits::clear_stale;
 use frame_words::put_ref;
 use kind_words::{
-    begin_work, count_type, is_stale_for, leave, live_kind, look_kind, lost, read_kind, resume_work,
-    work_kind,
+    begin_work, count_type, is_stale_for, leave, live_kind, look_kind, lost, read_kind,
+    resume_work, work_kind,
 };
 use xp_board::Port;
 use xp_words::{KindWord, PageType, Pause, Refusal, Stop};

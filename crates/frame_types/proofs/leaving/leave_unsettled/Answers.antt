@@ -2,7 +2,7 @@ use Rattle.std.proofs.Common.{true, refl, ap}
 use Rattle.std.proofs.lemmas.Bool.{or_left}
 use Rattle.step_maker.specs.Plain.{Words}
 use Rattle.step_maker.proofs.Coming.{moves_came}
-use Rattle.frame_types.proofs.Changing.{unsettled_changes}
+use Rattle.frame_types.proofs.LeavingSteps.{stores}
 use Rattle.frame_types.proofs.Left.{here, partial_may, stays_known, unsettled_hand}
 use Rattle.frame_types.proofs.Serving.{store_serves, stored_words}
 use Rattle.frame_types.proofs.Storing.{held_as, moved_as}
@@ -48,8 +48,8 @@ returns-clause-plain g c telling q =
     let d = g.P.Port.value c.leave.new.port in
     ap (λ (m : Words). m q) (stored_words v d c.args.frame c.leave.result _ (moved_as v d c.args.frame c.leave.result _ _ c.waiting_kind.ensures c.leave.ensures.moves) telling)
 
-pub returns-clause-changes : goal.returns-clause-changes
-returns-clause-changes g c =
+pub returns-clause-visits : goal.returns-clause-visits
+returns-clause-visits g c =
     let v = g.P.Port.value c.args.port.now in
     let d = g.P.Port.value c.leave.new.port in
-    unsettled_changes v d c.args.frame c.leave.result c.args.stamp c.args.want (moved_as v d c.args.frame c.leave.result _ _ c.waiting_kind.ensures c.leave.ensures.moves)
+    stores v d c.args.frame c.leave.result _ (moved_as v d c.args.frame c.leave.result _ _ c.waiting_kind.ensures c.leave.ensures.moves)

@@ -2,7 +2,7 @@ use Rattle.std.proofs.Common.{true, false, refl, sym, subst}
 use Rattle.xp_words.specs.declared.kind.PageType.TheVariants.{Writable}
 use Rattle.xp_words.specs.declared.reply.Stop.TheVariants.{Refused, Paused}
 use Rattle.frame_types.specs.Plain.{TwinGiveUp}
-use Rattle.frame_types.proofs.Changing.{given_dead, given_kept, given_shared}
+use Rattle.frame_types.proofs.LeavingSteps.{given_dead, given_kept, given_shared}
 use Rattle.frame_types.proofs.Left.{here}
 use Rattle.frame_types.proofs.Serving.{store_serves}
 use Rattle.frame_types.proofs.Storing.{held_as, moved_as}
@@ -10,6 +10,7 @@ use Rattle.frame_types.proofs.Waiting.{given_back, kept_back, kept_may, kept_wor
 use Rattle.frame_types.proofs.memory.give_up.Goals as goal
 
 -- ---- the type count is another holder's
+
 pub leave_shared-requires-clause-waits : goal.leave_shared-requires-clause-waits
 leave_shared-requires-clause-waits g c = memory_waits (g.P.Port.value c.args.port.now) c.args.frame c.args.stamp c.args.own false c.if-not-own.true c.requires.waits
 
@@ -22,6 +23,7 @@ returns-then-not-own-clause-plain g c =
     subst (λ b. TwinGiveUp (g.P.Port.value c.args.port.now) (g.P.Port.value c.leave_shared.new.port) c.args.frame b c.args.stamp c.args.stop) (sym c.if-not-own.true) c.leave_shared.ensures.plain
 
 -- ---- refused
+
 pub returns-in-Refused-clause-hand : goal.returns-in-Refused-clause-hand
 returns-in-Refused-clause-hand g c =
     given_back (g.P.Port.value c.args.port.now) (g.P.Port.value c.leave_dead.new.port) c.args.frame c.args.stamp c.args.own true c.if-not-own.false c.leave_dead.ensures.hand
@@ -34,6 +36,7 @@ returns-in-Refused-clause-plain g c =
     (subst (λ b. TwinGiveUp v x c.args.frame b c.args.stamp (Refused c.in-Refused.field-0)) (sym c.if-not-own.false) c.leave_dead.ensures.plain)
 
 -- ---- paused
+
 pub leave-requires-clause-leaves : goal.leave-requires-clause-leaves
 leave-requires-clause-leaves g c =
     let w = c.requires.waits in
@@ -62,17 +65,18 @@ returns-in-Paused-clause-plain g c =
     (subst (λ b. TwinGiveUp v d c.args.frame b c.args.stamp (Paused c.in-Paused.field-0)) (sym c.if-not-own.false)
     (kept_words v d c.args.frame c.leave.result c.args.stamp (moved_as v d c.args.frame c.leave.result _ _ c.waiting_kind.ensures c.leave.ensures.moves)))
 
--- ---- what is changed
-pub returns-then-not-own-clause-changes : goal.returns-then-not-own-clause-changes
-returns-then-not-own-clause-changes g c =
-    given_shared (g.P.Port.value c.args.port.now) (g.P.Port.value c.leave_shared.new.port) c.args.frame c.args.stamp c.args.own c.args.stop c.if-not-own.true c.leave_shared.ensures.changes
+-- ---- the steps
 
-pub returns-in-Refused-clause-changes : goal.returns-in-Refused-clause-changes
-returns-in-Refused-clause-changes g c =
-    given_dead (g.P.Port.value c.args.port.now) (g.P.Port.value c.leave_dead.new.port) c.args.frame c.args.stamp c.args.own c.args.stop c.in-Refused.field-0 c.if-not-own.false c.in-Refused.is c.leave_dead.ensures.changes
+pub returns-then-not-own-clause-visits : goal.returns-then-not-own-clause-visits
+returns-then-not-own-clause-visits g c =
+    given_shared (g.P.Port.value c.args.port.now) (g.P.Port.value c.leave_shared.new.port) c.args.frame c.args.stamp c.args.own c.args.stop c.if-not-own.true c.leave_shared.ensures.visits
 
-pub returns-in-Paused-clause-changes : goal.returns-in-Paused-clause-changes
-returns-in-Paused-clause-changes g c =
+pub returns-in-Refused-clause-visits : goal.returns-in-Refused-clause-visits
+returns-in-Refused-clause-visits g c =
+    given_dead (g.P.Port.value c.args.port.now) (g.P.Port.value c.leave_dead.new.port) c.args.frame c.args.stamp c.args.own c.args.stop c.in-Refused.field-0 c.if-not-own.false c.in-Refused.is c.leave_dead.ensures.visits
+
+pub returns-in-Paused-clause-visits : goal.returns-in-Paused-clause-visits
+returns-in-Paused-clause-visits g c =
     let v = g.P.Port.value c.args.port.now in
     let d = g.P.Port.value c.leave.new.port in
     given_kept v d c.args.frame c.args.stamp c.args.own c.args.stop c.in-Paused.field-0 c.leave.result c.if-not-own.false c.in-Paused.is

@@ -9,15 +9,16 @@ use Rattle.step_maker.proofs.Telling.{came_telling}
 use Rattle.flush_words.proofs.Lasting.{came_longer}
 use Rattle.kind_words.proofs.KindFacts.{kind_is_some, read_is}
 use Rattle.kind_words.proofs.KindWriting.{begun_is, resumed_is}
-use Rattle.frame_types.specs.Changing.{FinishesAs}
+use Rattle.frame_types.specs.Found.{GoesOn}
 use Rattle.frame_types.specs.Plain.{TwinOn}
 use Rattle.frame_types.specs.Taking.{Enters, progress_of, stamp_by}
+use Rattle.frame_types.specs.declared.standing.Standing.TheVariants as stands
 use Rattle.frame_types.proofs.Arms.{busy_takes, counted_takes, dead_takes, kept_takes, lost_takes, other_takes, unkept_takes}
 use Rattle.frame_types.proofs.Classing.{dead_unpinned, when_busy, when_counted, when_dead, when_other, when_partial}
 use Rattle.frame_types.proofs.Coming.{again, begun_enters, kept_enters, kept_gives, looked_held, looked_low, raised_spelled, unkept_enters}
 use Rattle.frame_types.proofs.Living.{lives_behind, lives_by_exchange}
 use Rattle.frame_types.proofs.Plainly.{plain_busy, plain_counted, plain_dead, plain_kept, plain_lost, plain_other, plain_unkept}
-use Rattle.frame_types.proofs.TakingChanges.{busy_found, counted_found, dead_found, kept_found, lost_found, other_found, unkept_found}
+use Rattle.frame_types.proofs.TakingSteps.{busy_found, counted_found, dead_found, kept_found, lost_found, other_found, unkept_found}
 use Rattle.frame_types.proofs.taking.take_found.Goals as goal
 
 pub read_kind-kind-requires : goal.read_kind-kind-requires
@@ -86,6 +87,7 @@ go_on-requires-else-kind-clause-enters g c =
     )
 
 -- ---- counted
+
 pub returns-in-Ok-clause-takes : goal.returns-in-Ok-clause-takes
 returns-in-Ok-clause-takes g c b l =
     let v = g.P.Port.value c.args.port.now in
@@ -128,6 +130,7 @@ returns-in-Err-clause-plain g c b l telling =
     (raised_kind k) c.in-Err.found c.lost.result c.in-Err.ensures.moves c.in-Err.ensures.lost
 
 -- ---- from dead
+
 pub returns-in-Ok-begin_work-clause-takes : goal.returns-in-Ok-begin_work-clause-takes
 returns-in-Ok-begin_work-clause-takes g c b l =
     let v = g.P.Port.value c.args.port.now in
@@ -171,6 +174,7 @@ returns-in-Err-begin_work-clause-plain g c b l telling =
     (begun_kind k c.args.want) c.in-Err-begin_work.found c.lost-in-Err-begin_work.result c.in-Err-begin_work.ensures.moves c.in-Err-begin_work.ensures.lost
 
 -- ---- from partial
+
 pub returns-then-kind-clause-takes : goal.returns-then-kind-clause-takes
 returns-then-kind-clause-takes g c b l =
     let v = g.P.Port.value c.args.port.now in
@@ -236,6 +240,7 @@ returns-in-Err-resume_work-clause-plain g c b l telling =
     (resumed_kind k) c.in-Err-resume_work.found c.lost-in-Err-resume_work.result c.in-Err-resume_work.ensures.moves c.in-Err-resume_work.ensures.lost
 
 -- ---- not to be had
+
 pub returns-in-Busy-clause-takes : goal.returns-in-Busy-clause-takes
 returns-in-Busy-clause-takes g c b l =
     busy_takes b (g.P.Port.value c.args.port.now) c.args.frame c.args.owner c.args.want c.args.word l c.read_kind-kind.result c.read_kind-kind.ensures
@@ -257,6 +262,7 @@ returns-in-Other-clause-plain g c b l telling =
     plain_other b (g.P.Port.value c.args.port.now) c.args.frame c.args.owner c.args.want c.args.word l k c.read_kind-kind.ensures (read_is c.args.word k c.read_kind-kind.ensures).1 telling (sym c.classify.ensures ∙ c.in-Other.is)
 
 -- ---- live behind the exchange
+
 pub returns-then-kind-clause-live : goal.returns-then-kind-clause-live
 returns-then-kind-clause-live g c =
     let v = g.P.Port.value c.args.port.now in
@@ -272,6 +278,7 @@ returns-else-kind-clause-live g c =
     lives_behind v x (g.P.Port.value c.go_on-else-kind.new.port) c.args.frame c.go_on-else-kind.result (moves_came v x _ _ _ _ _ c.in-Ok-resume_work.ensures.moves) c.go_on-else-kind.ensures.live
 
 -- ---- by the words that the steps found
+
 pub returns-in-Ok-clause-found : goal.returns-in-Ok-clause-found
 returns-in-Ok-clause-found g c b l =
     let k = c.read_kind-kind.result in
@@ -282,7 +289,7 @@ pub returns-in-Err-clause-found : goal.returns-in-Err-clause-found
 returns-in-Err-clause-found g c b l =
     let k = c.read_kind-kind.result in
     lost_found b (g.P.Port.value c.args.port.now) c.args.frame c.args.owner c.args.want c.args.word l k c.read_kind-kind.ensures (read_is c.args.word k c.read_kind-kind.ensures).1
-    (g.P.Port.value c.count_type.new.port) (kind_write k) (kind_write (raised_kind k)) c.in-Err.found c.in-Err.ensures.moves c.in-Err.ensures.lost _ _ c.lost.result c.lost.ensures
+    stands.Counted (sym c.classify.ensures ∙ c.in-Counted.is) (g.P.Port.value c.count_type.new.port) c.in-Err.found refl c.in-Err.ensures.moves c.in-Err.ensures.lost c.lost.result c.lost.ensures
 
 pub returns-in-Ok-begin_work-clause-found : goal.returns-in-Ok-begin_work-clause-found
 returns-in-Ok-begin_work-clause-found g c b l =
@@ -291,35 +298,33 @@ returns-in-Ok-begin_work-clause-found g c b l =
     let w = g.P.Port.value c.go_on.new.port in
     dead_found b (g.P.Port.value c.args.port.now) c.args.frame c.args.owner c.args.want c.args.word l k c.read_kind-kind.ensures (read_is c.args.word k c.read_kind-kind.ensures).1
     x w c.go_on.result (sym c.classify.ensures ∙ c.in-Dead.is) c.in-Ok-begin_work.ensures.moves
-    (subst (λ m. FinishesAs x w c.args.frame c.args.want m true (progress_of k) c.go_on.result) c.is_stale_for-marked.ensures c.go_on.ensures.changes)
+    (subst (λ m. GoesOn x w c.args.frame c.args.want m k.number true (progress_of k) c.go_on.result) c.is_stale_for-marked.ensures c.go_on.ensures.visits)
 
 pub returns-in-Err-begin_work-clause-found : goal.returns-in-Err-begin_work-clause-found
 returns-in-Err-begin_work-clause-found g c b l =
     let k = c.read_kind-kind.result in
     lost_found b (g.P.Port.value c.args.port.now) c.args.frame c.args.owner c.args.want c.args.word l k c.read_kind-kind.ensures (read_is c.args.word k c.read_kind-kind.ensures).1
-    (g.P.Port.value c.begin_work.new.port) (kind_write k) (kind_write (begun_kind k c.args.want)) c.in-Err-begin_work.found c.in-Err-begin_work.ensures.moves c.in-Err-begin_work.ensures.lost _ _ c.lost-in-Err-begin_work.result
-    c.lost-in-Err-begin_work.ensures
+    stands.Dead (sym c.classify.ensures ∙ c.in-Dead.is) (g.P.Port.value c.begin_work.new.port) c.in-Err-begin_work.found refl c.in-Err-begin_work.ensures.moves c.in-Err-begin_work.ensures.lost c.lost-in-Err-begin_work.result c.lost-in-Err-begin_work.ensures
 
 pub returns-then-kind-clause-found : goal.returns-then-kind-clause-found
 returns-then-kind-clause-found g c b l =
     let k = c.read_kind-kind.result in
     kept_found b (g.P.Port.value c.args.port.now) c.args.frame c.args.owner c.args.want c.args.word l k c.read_kind-kind.ensures (read_is c.args.word k c.read_kind-kind.ensures).1
     (g.P.Port.value c.resume_work.new.port) (sym c.classify.ensures ∙ c.in-Partial.is) c.in-Ok-resume_work.ensures.moves (g.P.Port.value c.put_ref.new.port) (g.P.Port.value c.go_on-then-kind.new.port) c.go_on-then-kind.result
-    c.if-kind.true c.put_ref.ensures.puts c.go_on-then-kind.ensures.changes
+    c.if-kind.true c.put_ref.ensures.puts c.go_on-then-kind.ensures.visits
 
 pub returns-else-kind-clause-found : goal.returns-else-kind-clause-found
 returns-else-kind-clause-found g c b l =
     let k = c.read_kind-kind.result in
     unkept_found b (g.P.Port.value c.args.port.now) c.args.frame c.args.owner c.args.want c.args.word l k c.read_kind-kind.ensures (read_is c.args.word k c.read_kind-kind.ensures).1
     (g.P.Port.value c.resume_work.new.port) (sym c.classify.ensures ∙ c.in-Partial.is) c.in-Ok-resume_work.ensures.moves (g.P.Port.value c.go_on-else-kind.new.port) c.go_on-else-kind.result c.if-kind.false
-    c.go_on-else-kind.ensures.changes
+    c.go_on-else-kind.ensures.visits
 
 pub returns-in-Err-resume_work-clause-found : goal.returns-in-Err-resume_work-clause-found
 returns-in-Err-resume_work-clause-found g c b l =
     let k = c.read_kind-kind.result in
     lost_found b (g.P.Port.value c.args.port.now) c.args.frame c.args.owner c.args.want c.args.word l k c.read_kind-kind.ensures (read_is c.args.word k c.read_kind-kind.ensures).1
-    (g.P.Port.value c.resume_work.new.port) (kind_write k) (kind_write (resumed_kind k)) c.in-Err-resume_work.found c.in-Err-resume_work.ensures.moves c.in-Err-resume_work.ensures.lost _ _ c.lost-in-Err-resume_work.result
-    c.lost-in-Err-resume_work.ensures
+    stands.Partial (sym c.classify.ensures ∙ c.in-Partial.is) (g.P.Port.value c.resume_work.new.port) c.in-Err-resume_work.found refl c.in-Err-resume_work.ensures.moves c.in-Err-resume_work.ensures.lost c.lost-in-Err-resume_work.result c.lost-in-Err-resume_work.ensures
 
 pub returns-in-Busy-clause-found : goal.returns-in-Busy-clause-found
 returns-in-Busy-clause-found g c b l =
