@@ -210,7 +210,11 @@ module _ (n : Machine) (s : ℕ) (q : Request) (F : Finding) (t : Request) (G : 
     no_more : (f : ℕ) (h : Holdings) → HasNoMore q f h b → HasNoMore t f h c
     no_more f h a =
         record {
-          refs = let one = a.refs in let two = (less f).refs in omega (arith, one, two);
+          refs = λ away.
+              let one = a.refs (λ asks. away (w.entries asks)) in
+              let two = (less f).refs (λ asks. a.works (away asks)) in
+              omega (arith, one, two);
+          works = λ away. (less f).works (a.works away);
           typed = λ off. let one = a.typed (not_within q.entries t.entries w.entries off) in let two = (less f).typed off in omega (arith, one, two);
         }
 

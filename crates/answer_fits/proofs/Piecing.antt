@@ -108,7 +108,7 @@ moves_serves v w r p a kind mark found m reason = (
 
 -- ---- answers
 pub no_more : (r : Request) (h : Holdings) → NoMore r h h
-no_more r h f = record { refs = omega arith; typed = λ a. omega arith }
+no_more r h f = record { refs = λ a. omega arith; works = λ a. a; typed = λ a. omega arith }
 
 pub stops_before : (v u w : PortValue) (r : Request) (e : Stop) → Stops v u r e → Came u w → Stops v w r e
 unfolding Stops

@@ -176,9 +176,11 @@ pub data IsAsked (n : Machine) (s : ℕ) (r : Request) (F : Finding) (f : ℕ) :
 
 -- ---- what the vCPU itself has of a frame
 -- Holding h it has no more of the frame than it had when it held b, as the piece began. Where entries ask frames, the typed
--- references that earlier entries took do not matter, for each entry counts.
+-- references that earlier entries took do not matter, for each entry counts; nor does the untyped one by which a table is held in
+-- the own works beside its other holder's type count.
 pub record HasNoMore (r : Request) (f : ℕ) (h b : Holdings) : Type 0 where
-  pub refs : refs_to f h.refs ≤ refs_to f b.refs
+  pub refs : (r.entries ≡ true → work_on f h.works ≡ None) → refs_to f h.refs ≤ refs_to f b.refs
+  pub works : work_on f h.works ≡ None → work_on f b.works ≡ None
   pub typed : r.entries ≡ false → typed_hand f h ≤ typed_hand f b
 
 -- the same of all frames

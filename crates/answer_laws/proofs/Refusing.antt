@@ -1,12 +1,12 @@
 -- Answers that no steps license.
-use Rattle.std.proofs.Common.{◌≡◌, ℕ, ◌<◌, ◌≤◌, false, Some, None, sym, ap, ◌∙◌, subst, inl, inr, arith}
+use Rattle.std.proofs.Common.{◌≡◌, ℕ, ◌<◌, ◌≤◌, false, Some, None, sym, ap, ◌∙◌, subst, inl, inr, arith, true}
 use Rattle.xp_words.specs.declared.place.Place.TheVariants.{Refs, Kind}
 use Rattle.xp_words.specs.declared.kind.PageType.{PageType}
 use Rattle.xp_words.specs.declared.reply.Pause.TheVariants.{Busy, Flush}
 use Rattle.xp_words.specs.declared.reply.Refusal.TheVariants.{CountFull, OtherType}
 use Rattle.xp_words.specs.declared.reply.Stop.TheVariants.{Refused, Paused}
 use Rattle.xp_board.specs.declared.holdings.Holdings.{Holdings}
-use Rattle.xp_board.specs.Hands.{refs_to, typed_hand, typed_to}
+use Rattle.xp_board.specs.Hands.{refs_to, typed_hand, typed_to, work_on}
 use Rattle.xp_board.specs.Knowledge.{knows_owner}
 use Rattle.xp_words.specs.Places.{sizes_of}
 use Rattle.xp_board.specs.Told.{PortValue}
@@ -19,14 +19,14 @@ use Rattle.answer_laws.proofs.Meeting.{none_some}
 never : (a b : ℕ) → a < b → b ≤ a → ⊥
 never a b x y = omega (arith, x, y)
 
-pub own_refs : (v w : PortValue) (r : Request) (f x : ℕ) → ((m : Moment) → Met v w m → m.place ≡ Refs f → m.found ≡ x → refs_to f v.holdings.refs < refs_to f m.hand.refs) →
+pub own_refs : (v w : PortValue) (r : Request) (f x : ℕ) → ((m : Moment) → Met v w m → m.place ≡ Refs f → m.found ≡ x → (r.entries ≡ true → work_on f m.hand.works ≡ None) × (refs_to f v.holdings.refs < refs_to f m.hand.refs)) →
     Stops v w r (Refused (CountFull f x)) → ⊥
 unfolding Stops
 own_refs v w r f x more stops =
     let a = stops.4 in
     let above = more a.moment a.was a.place a.word in
-    let most = subst (λ (h : Holdings). refs_to f h.refs ≤ refs_to f v.holdings.refs) (sym a.hand) stops.6.refs in
-    never _ _ above most
+    let most = subst (λ (h : Holdings). refs_to f h.refs ≤ refs_to f v.holdings.refs) (sym a.hand) (stops.6.refs (λ asks. subst (λ (h : Holdings). work_on f h.works ≡ None) a.hand (above.0 asks))) in
+    never _ _ above.1 most
 
 pub own_types : (v w : PortValue) (r : Request) (f x : ℕ) → r.entries ≡ false → ((m : Moment) → Met v w m → m.place ≡ Refs f → m.found ≡ x → typed_hand f v.holdings < typed_hand f m.hand) →
     Stops v w r (Refused (CountFull f x)) → ⊥

@@ -1,12 +1,12 @@
 //! Answers that no steps license.
-ghost use Rattle.std.specs.Prelude.{◌≡◌, ◌<◌, ℕ, false, Some, None};
+ghost use Rattle.std.specs.Prelude.{◌≡◌, ◌<◌, ℕ, true, false, Some, None};
 ghost use Rattle.xp_words.specs.declared.place.Place.TheVariants.{Refs, Kind};
 ghost use Rattle.xp_words.specs.Places.{sizes_of};
 ghost use Rattle.xp_words.specs.declared.kind.PageType.{PageType};
 ghost use Rattle.xp_words.specs.declared.reply.Pause.TheVariants.{Busy, Flush};
 ghost use Rattle.xp_words.specs.declared.reply.Refusal.TheVariants.{CountFull, OtherType};
 ghost use Rattle.xp_words.specs.declared.reply.Stop.TheVariants.{Refused, Paused};
-ghost use Rattle.xp_board.specs.Hands.{refs_to, typed_hand, typed_to};
+ghost use Rattle.xp_board.specs.Hands.{refs_to, typed_hand, typed_to, work_on};
 ghost use Rattle.xp_board.specs.Knowledge.{knows_owner};
 ghost use Rattle.xp_board.specs.Told.{PortValue};
 ghost use Rattle.step_maker.specs.Moves.{Moment, Met};
@@ -15,10 +15,11 @@ ghost use Rattle.answer_fits.specs.Asked.{Request, of_frame};
 ghost use Rattle.answer_fits.specs.Pauses.{AskedTo, IsElsewhere};
 
 /// Where the count was found full only while the vCPU had more untyped references to the frame than as it began, nothing is
-/// refused for it.
+/// refused for it. In a call for which entries ask frames that is said of frames that the vCPU does not work on: a table that
+/// another holder left unfinished is held by one more while it is in work.
 #[tactic(auto, using(crate::proofs::Refusing::own_refs))]
 pub fn own_references_fill_no_count()
-    ensures { (v w : PortValue) (r : Request) (f x : ℕ) → ((m : Moment) → Met v w m → m.place ≡ Refs f → m.found ≡ x → refs_to f v.holdings.refs < refs_to f m.hand.refs) →
+    ensures { (v w : PortValue) (r : Request) (f x : ℕ) → ((m : Moment) → Met v w m → m.place ≡ Refs f → m.found ≡ x → (r.entries ≡ true → work_on f m.hand.works ≡ None) × (refs_to f v.holdings.refs < refs_to f m.hand.refs)) →
         Stops v w r (Refused (CountFull f x)) → ⊥ }
 {}
 

@@ -1,5 +1,5 @@
 -- Steps of a wait, one behind the other: whatever awaits the stamp they serve, and what they found stays found.
-use Rattle.std.proofs.Common.{ℕ, [], Option, Some, None, refl, sym, ◌∙◌, subst, inl, inr}
+use Rattle.std.proofs.Common.{ℕ, Option, Some, None, refl, sym, ◌∙◌, subst, inl, inr}
 use Rattle.xp_words.specs.Machine.{Machine}
 use Rattle.xp_words.specs.declared.place.Place.{Place}
 use Rattle.xp_words.specs.Places.{asked_of, flushed_of}

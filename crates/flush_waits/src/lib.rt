@@ -26,7 +26,6 @@ pub fn clear_stale<P: Port>(port: &mut P, frame: u32, owner: u16, stamp: u64) ->
     requires frame { frame < (P.value port.old).post.machine.frames }
     requires may { MayWork (P.value port.old) }
     requires marked { IsMarked frame owner stamp (P.value port.old).holdings }
-    requires stub { ⊥ }
     // No guest sees the steps. Behind any piece that awaits the stamp they fit it, and show the cause of a refusal or a pause.
     ensures serves { ServesBehind (P.value port.old) (P.value port.new) owner stamp }
     ensures stops { IfErr result (λ e. StopsBehind (P.value port.old) (P.value port.new) owner stamp e) }

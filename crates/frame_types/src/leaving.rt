@@ -27,7 +27,6 @@ use xp_words::PageType;
 pub fn leave_shared<P: Port>(port: &mut P, frame: u32, want: PageType, stamp: u64)
     requires frame { frame < (P.value port.old).post.machine.frames }
     requires may { MayWork (P.value port.old) }
-    requires stub { ⊥ }
     requires waits { IsWaiting (P.value port.old) frame want false stamp }
     ensures came { Came (P.value port.old) (P.value port.new) }
     ensures serves { ServesType (P.value port.old) (P.value port.new) frame want }
@@ -46,7 +45,6 @@ pub fn leave_shared<P: Port>(port: &mut P, frame: u32, want: PageType, stamp: u6
 pub fn leave_dead<P: Port>(port: &mut P, frame: u32, want: PageType)
     requires frame { frame < (P.value port.old).post.machine.frames }
     requires may { MayWork (P.value port.old) }
-    requires stub { ⊥ }
     requires waits { (stamp : ℕ) × IsWaiting (P.value port.old) frame want true stamp }
     ensures came { Came (P.value port.old) (P.value port.new) }
     ensures serves { ServesType (P.value port.old) (P.value port.new) frame want }
@@ -65,7 +63,6 @@ pub fn leave_dead<P: Port>(port: &mut P, frame: u32, want: PageType)
 pub fn leave_unsettled<P: Port>(port: &mut P, frame: u32, want: PageType, stamp: u64)
     requires frame { frame < (P.value port.old).post.machine.frames }
     requires may { MayWork (P.value port.old) }
-    requires stub { ⊥ }
     requires entries { IsTrue (not (type_number want == 5)) }
     requires waits { IsWaiting (P.value port.old) frame want true stamp }
     ensures came { Came (P.value port.old) (P.value port.new) }

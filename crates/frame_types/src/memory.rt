@@ -28,7 +28,6 @@ use xp_words::{PageType, Stop};
 pub fn take_writable<P: Port>(port: &mut P, frame: u32, owner: u16) -> Result<(), Stop>
     requires frame { frame < (P.value port.old).post.machine.frames }
     requires may { MayWork (P.value port.old) }
-    requires stub { ⊥ }
     requires lent { LentBy frame owner (P.value port.old).holdings }
     requires own { owner ≡ domain_of (P.value port.old).post.machine (P.value port.old).post.vcpu }
     requires apart { work_on frame (P.value port.old).holdings.works ≡ None }
@@ -58,7 +57,6 @@ pub fn take_writable<P: Port>(port: &mut P, frame: u32, owner: u16) -> Result<()
 fn give_up<P: Port>(port: &mut P, frame: u32, own: bool, stamp: u64, stop: Stop) -> Stop
     requires frame { frame < (P.value port.old).post.machine.frames }
     requires may { MayWork (P.value port.old) }
-    requires stub { ⊥ }
     requires waits { IsMemoryWaiting (P.value port.old) frame own stamp }
     ensures answer { result ≡ stop }
     ensures serves { ServesType (P.value port.old) (P.value port.new) frame Writable }

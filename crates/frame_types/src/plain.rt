@@ -24,7 +24,6 @@ use xp_words::PageType;
 pub fn drop_plain<P: Port>(port: &mut P, frame: u32, kind: PageType)
     requires frame { frame < (P.value port.old).post.machine.frames }
     requires may { MayWork (P.value port.old) }
-    requires stub { ⊥ }
     requires drops { MayDropPlain (P.value port.old).post.machine frame kind (P.value port.old).holdings }
     ensures serves { Serves (P.value port.old) (P.value port.new) (of_back frame) [] }
     ensures hand { Holds (P.value port.old) (P.value port.new) (gave_type frame (P.value port.old).holdings) }

@@ -16,8 +16,8 @@ use crate::words::{counts, is_read_first, progress_of};
 use flush_waits::clear_stale;
 use frame_words::put_ref;
 use kind_words::{
-    begin_work, count_type, is_stale_for, leave, live_kind, look_kind, lost, read_kind, resume_work,
-    work_kind,
+    begin_work, count_type, is_stale_for, leave, live_kind, look_kind, lost, read_kind,
+    resume_work, work_kind,
 };
 use xp_board::Port;
 use xp_words::{KindWord, PageType, Pause, Refusal, Stop};
@@ -45,7 +45,6 @@ pub fn take_type<P: Port>(
 ) -> Result<Taken, Stop>
     requires frame { frame < (P.value port.old).post.machine.frames }
     requires may { MayWork (P.value port.old) }
-    requires stub { ⊥ }
     requires wanted { IsTrue (not (is_none want)) }
     requires lent { LentBy frame owner (P.value port.old).holdings }
     requires aside { work_on frame (P.value port.old).holdings.works ≡ None → typed_to frame (P.value port.old).holdings.typed ≡ 0 }
@@ -74,7 +73,6 @@ fn take_found<P: Port>(
 ) -> Result<Taken, Stop>
     requires frame { frame < (P.value port.old).post.machine.frames }
     requires may { MayWork (P.value port.old) }
-    requires stub { ⊥ }
     requires wanted { IsTrue (not (is_none want)) }
     requires looked { IsLooked (P.value port.old) frame owner want word }
     ensures takes { (b : PortValue) → Looked b (P.value port.old) frame owner want word → Takes b (P.value port.new) frame owner want result }
@@ -129,7 +127,6 @@ fn go_on<P: Port>(
 ) -> Taken
     requires frame { frame < (P.value port.old).post.machine.frames }
     requires may { MayWork (P.value port.old) }
-    requires stub { ⊥ }
     requires wanted { IsTrue (not (is_none want)) }
     requires enters { HasEntered (P.value port.old) frame owner want marked kind own }
     ensures serves { ServesOn (P.value port.old) (P.value port.new) frame owner want marked kind.number }
@@ -165,7 +162,6 @@ fn finish<P: Port>(
 ) -> Taken
     requires frame { frame < (P.value port.old).post.machine.frames }
     requires may { MayWork (P.value port.old) }
-    requires stub { ⊥ }
     requires wanted { IsTrue (not (is_none want)) }
     requires enters { HasEntered (P.value port.old) frame owner want marked kind own }
     requires past { marked ≡ true → IsFlushed (P.value port.old).post.machine frame (P.value port.old).holdings }

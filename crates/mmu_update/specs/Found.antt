@@ -3,7 +3,6 @@ use Rattle.std.specs.Prelude.{◌≡◌, ℕ, List, Result, Ok, Err}
 use Rattle.xp_words.specs.Machine.{Machine}
 use Rattle.xp_words.specs.declared.kind.PageType.TheVariants.{Writable}
 use Rattle.xp_words.specs.declared.place.Place.TheVariants.{Cell}
-use Rattle.xp_words.specs.declared.reply.Refusal.{Refusal}
 use Rattle.xp_words.specs.declared.reply.Refusal.TheVariants.{BadRange, BadCommand}
 use Rattle.xp_words.specs.declared.reply.Stop.{Stop}
 use Rattle.xp_words.specs.declared.reply.Stop.TheVariants.{Refused}

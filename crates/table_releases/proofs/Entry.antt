@@ -22,23 +22,23 @@ use Rattle.board_lemmas.proofs.WorkFacts.{works_facts}
 use Rattle.step_maker.specs.Holds.{Holds, still}
 use Rattle.step_maker.specs.Moves.{Moves}
 use Rattle.step_maker.proofs.Coming.{moves_came}
-use Rattle.answer_fits.specs.Answers.{Changes, Serves}
+use Rattle.answer_fits.specs.Answers.{Serves}
 use Rattle.answer_fits.specs.Asked.{of_back}
-use Rattle.answer_fits.proofs.Piecing.{changes_came}
-use Rattle.frame_words.specs.Freeing.{Puts, gave}
+use Rattle.answer_fits.specs.Visits.{Then}
+use Rattle.answer_fits.proofs.Visiting.{does_as, does_then}
+use Rattle.frame_words.specs.Freeing.{PutBy, Puts, gave}
 use Rattle.frame_words.specs.Refs.{MayPut}
 use Rattle.frame_words.proofs.Putting.{without_newest}
-use Rattle.step_maker.proofs.Coming.{came_trans}
 use Rattle.table_entries.specs.Tops.{with_recorded}
 use Rattle.table_entries.proofs.HandLists.{was_in}
 use Rattle.table_entries.proofs.PiecesTaking.{Goes, asks_still, goes_back}
-use Rattle.table_words.specs.Entries.{entry_shed}
+use Rattle.table_words.specs.Entries.{ShedsAt, entry_shed}
 use Rattle.table_releases.specs.Between.{HandReleased, SeesLast}
-use Rattle.table_releases.specs.Found.{ReleasesFound}
+use Rattle.table_releases.specs.Found.{ReleasesBy, ReleasesFound}
 use Rattle.table_releases.specs.Tops.{LeavesReleased, OwnsReleased, StaysRecorded, shed_once}
 use Rattle.table_releases.specs.declared.entries.Released.{Released}
 use Rattle.table_releases.specs.declared.entries.Released.TheVariants.{Given}
-use Rattle.table_releases.proofs.Finding.{changes_behind, last_changes, last_found, look_changes}
+use Rattle.table_releases.proofs.Finding.{last_found, sheds}
 use Rattle.table_releases.proofs.Looking.{looked_seen, shed_bad, shed_nothing, shed_plain}
 use Rattle.table_releases.proofs.Pieces.{asks_plain, goes_shed, look_goes}
 
@@ -65,16 +65,13 @@ module _ (b v w : PortValue) (f i : ℕ) (t : PageType) (word : ℕ) (l : SeesLa
   none_left : Holds v w (with_recorded f i None v.holdings) → Holds b w (shed_once f i word b.holdings)
   none_left left = left ∙ ap (λ (q : PortValue). still (record q { holdings = record q.holdings { works = fewer q.holdings.works } })) l.hand
 
-  shed_changes : Changes b w []
-  shed_changes = changes_behind b v w [] (last_changes b v f i t word l) (look_changes v w Clock (Some (Shed f i)) y step)
-
   pub nothing_hand : (demand_at t i word ≡ Nothing) ⊎ (demand_at t i word ≡ Bad) → Holds b w (shed_once f i word b.holdings)
   nothing_hand (inl asks) = none_left (shed_nothing v w f i t word (looked_seen b v f i t word l) shed asks)
   nothing_hand (inr asks) = none_left (shed_bad v w f i t word (looked_seen b v f i t word l) shed asks)
 
   pub nothing_found : (demand_at t i word ≡ Nothing) ⊎ (demand_at t i word ≡ Bad) → ReleasesFound b w f i t (Ok Given)
-  nothing_found (inl asks) = last_found b v f i t word l w (Ok Given) Nothing (moves_came v w Clock Load kinds.Look (Some (Shed f i)) y step) asks (refl, shed_changes)
-  nothing_found (inr asks) = last_found b v f i t word l w (Ok Given) Bad (moves_came v w Clock Load kinds.Look (Some (Shed f i)) y step) asks (refl, shed_changes)
+  nothing_found (inl asks) = last_found b v f i t word l w (Ok Given) Nothing asks (does_as v w (ShedsAt Clock f i) (λ rs. ReleasesBy b.post.machine f i (Ok Given) Nothing rs) (λ vs one. (refl, one)) (sheds v w Clock f i y step))
+  nothing_found (inr asks) = last_found b v f i t word l w (Ok Given) Bad asks (does_as v w (ShedsAt Clock f i) (λ rs. ReleasesBy b.post.machine f i (Ok Given) Bad rs) (λ vs one. (refl, one)) (sheds v w Clock f i y step))
 
   -- ---- it asks a reference
   module _ (g : ℕ) (asks : demand_at t i word ≡ Read g) where
@@ -127,5 +124,5 @@ module _ (b v w : PortValue) (f i : ℕ) (t : PageType) (word : ℕ) (l : SeesLa
 
     pub plain_found : (z : PortValue) → Puts w z g → ReleasesFound b z f i t (Ok Given)
     plain_found z puts =
-        last_found b v f i t word l z (Ok Given) (Read g) (came_trans v w z (moves_came v w Clock Load kinds.Look (Some (Shed f i)) y step) (changes_came w z puts.list puts.changed)) asks
-        (refl, (puts.list, puts.put, changes_behind b w z puts.list shed_changes puts.changed))
+        last_found b v f i t word l z (Ok Given) (Read g) asks
+        (does_as v z (Then (ShedsAt Clock f i) (PutBy g)) (λ rs. ReleasesBy b.post.machine f i (Ok Given) (Read g) rs) (λ vs steps. (refl, steps)) (does_then v w z (ShedsAt Clock f i) (PutBy g) (sheds v w Clock f i y step) puts))

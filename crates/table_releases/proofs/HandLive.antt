@@ -23,14 +23,13 @@ use Rattle.xp_board.specs.Hands.{brought_as, changed_work, refs_to, typed_owner,
 use Rattle.xp_board.specs.KindSteps.{MayDrop, still_looking}
 use Rattle.xp_board.specs.Knowledge.{knows_live}
 use Rattle.xp_board.specs.Lists.{changed_by, first_by, kept_of}
-use Rattle.xp_board.specs.Readings.{is_live, is_live_as, is_live_word, is_partial, is_type, is_work, kind_at}
+use Rattle.xp_board.specs.Readings.{is_live, is_live_as, is_live_word, is_partial, is_work, kind_at}
 use Rattle.xp_board.specs.Recorded.{entry_demand}
 use Rattle.xp_board.specs.Steps.{some_since}
 use Rattle.xp_board.specs.Told.{Post, PortValue}
 use Rattle.board_lemmas.proofs.HandLists.{times-changed}
 use Rattle.board_lemmas.proofs.KindReadings.{live_count}
 use Rattle.board_lemmas.proofs.ListCounts.{first_by-absent, first_by-none, newest_held}
-use Rattle.board_lemmas.proofs.Sums.{when_eq}
 use Rattle.board_lemmas.proofs.WorkFacts.{works_facts}
 use Rattle.step_maker.specs.Holds.{Holds, MayWork, Same, still}
 use Rattle.step_maker.specs.Moves.{Moves}

@@ -1,6 +1,7 @@
 -- The exchange that is to bring a partial frame into the own works: it came, or the exchange found another word.
-use Rattle.std.proofs.Common.{◌≡◌, ◌≢◌, ℕ, ◌&&◌, if◌then◌else◌, true, [], ◌∷◌, Some, None, IsTrue, Err, sym, ap, ◌∙◌, subst}
-use Rattle.xp_words.specs.KindWords.{kind_read, kind_write}
+use Rattle.std.proofs.Common.{◌≡◌, ◌≢◌, ℕ, [], Some, None, IsTrue, Err, refl, ap, ◌∙◌}
+use Rattle.xp_words.specs.KindWords.{kind_fields, kind_read, kind_write}
+use Rattle.xp_words.specs.Places.{number, sizes_of}
 use Rattle.xp_words.specs.declared.kind.KindWord.{KindWord}
 use Rattle.xp_words.specs.declared.kind.PageType.{PageType}
 use Rattle.xp_words.specs.declared.place.Place.TheVariants.{Kind}
@@ -8,21 +9,21 @@ use Rattle.xp_words.specs.declared.reply.Pause.TheVariants.{Lost}
 use Rattle.xp_words.specs.declared.reply.Stop.TheVariants.{Paused}
 use Rattle.xp_board.specs.declared.step.Act.TheVariants.{Cas}
 use Rattle.xp_board.specs.declared.step.StepKind.TheVariants as kinds
-use Rattle.xp_board.specs.KindSteps.{resumed_kind}
+use Rattle.xp_board.specs.KindSteps.{Partial, resumed_kind}
 use Rattle.xp_board.specs.Readings.{is_partial}
-use Rattle.xp_board.specs.Told.{PortValue}
-use Rattle.board_lemmas.proofs.Sums.{when_ne}
+use Rattle.xp_board.specs.Told.{Post, PortValue}
 use Rattle.step_maker.specs.Holds.{Holds, still}
 use Rattle.step_maker.specs.Moves.{Moves}
-use Rattle.step_maker.proofs.Coming.{moves_came}
-use Rattle.answer_fits.specs.Answers.{Changes}
-use Rattle.answer_fits.proofs.Piecing.{changes_nothing, changes_step}
+use Rattle.answer_fits.specs.Visits.{Only}
+use Rattle.answer_fits.proofs.Visiting.{does_as}
+use Rattle.frame_types.specs.Found.{swaps_kind}
+use Rattle.kind_words.proofs.KindFacts.{read_is}
 use Rattle.kind_words.specs.Kinds.{looked_at, resumed_work}
 use Rattle.table_releases.specs.Between.{Resumed, SeesKind}
-use Rattle.table_releases.specs.Found.{ByForm, ReleasesFound}
+use Rattle.table_releases.specs.Found.{PartialBy, ReleasesFound}
 use Rattle.table_releases.specs.Tops.{StaysRecorded}
-use Rattle.table_releases.proofs.FrameSeen.{form_partial_is}
-use Rattle.table_releases.proofs.Finding.{changes_behind, kind_changes, kind_found}
+use Rattle.table_releases.proofs.FrameSeen.{form_partial_is, kind_post}
+use Rattle.table_releases.proofs.Finding.{kind_found, swaps}
 use Rattle.table_releases.proofs.HandLive.{looks_none, stays_recorded}
 
 pub resumed_from : (b v w : PortValue) (f i : ℕ) (t : PageType) (word g : ℕ) (want : PageType) (x : ℕ) → SeesKind b v f i t word g want x → (k : KindWord) → kind_read x ≡ Some k → IsTrue (is_partial k) →
@@ -39,14 +40,12 @@ module _ (b v : PortValue) (f i : ℕ) (t : PageType) (word g : ℕ) (want : Pag
       let before = stays_recorded b v f i t word g want x l in
       (before.0, hand ∙ ap (λ ys. still (record v { holdings = record v.holdings { looking = ys } })) (looks_none g found v.holdings.looking no_looking) ∙ before.1)
 
-  module _ (k : KindWord) (read : kind_read x ≡ Some k) (partial : IsTrue (is_partial k)) (change : Moves v w (Kind g) (Cas (kind_write k) (kind_write (resumed_kind k))) kinds.Kind None found) where
-    lost_changes : found ≢ kind_write k → Changes b w []
-    lost_changes off =
-        changes_behind b v w [] (kind_changes b v f i t word g want x l)
-        (subst (λ c. Changes v w (if c && true then ((Kind g, Cas (kind_write k) (kind_write (resumed_kind k))) ∷ []) else [])) (when_ne found (kind_write k) off)
-        (changes_step v v w [] (Kind g) (Cas (kind_write k) (kind_write (resumed_kind k))) kinds.Kind None found (changes_nothing v) change))
+  pub lost_place : Holds v w (looked_at g found v.holdings) → number (sizes_of w.post.machine) (Kind g) ≡ number (sizes_of b.post.machine) (Kind g)
+  lost_place hand = ap (λ (p : Post). number (sizes_of p.machine) (Kind g)) (ap (λ (q : PortValue). q.post) hand ∙ kind_post b v f i t word g want x l)
 
-    pub lost_found : (place : ℕ) → found ≢ kind_write k → ReleasesFound b w f i t (Err (Paused (Lost place x found)))
-    lost_found place off =
-        kind_found b v f i t word g want x l w (Err (Paused (Lost place x found))) (moves_came v w (Kind g) (Cas (kind_write k) (kind_write (resumed_kind k))) kinds.Kind None found change)
-        (subst (λ c. ByForm b w g want x (Err (Paused (Lost place x found))) c) (sym (form_partial_is x k read partial)) (lost_changes off))
+  module _ (k : KindWord) (read : kind_read x ≡ Some k) (partial : IsTrue (is_partial k)) (change : Moves v w (Kind g) (Cas (kind_write k) (kind_write (resumed_kind k))) kinds.Kind None found) where
+    pub lost_found : (place : ℕ) → place ≡ number (sizes_of b.post.machine) (Kind g) → found ≢ kind_write k → ReleasesFound b w f i t (Err (Paused (Lost place x found)))
+    lost_found place at off =
+        kind_found b v f i t word g want x l w (Err (Paused (Lost place x found))) Partial (form_partial_is x k read partial)
+        (does_as v w (Only (swaps_kind g x (resumed_kind (kind_fields x)) found)) (λ vs. PartialBy b.post.machine f i g want x (Err (Paused (Lost place x found))) vs)
+        (λ vs one. (at, refl, (λ same. off (same ∙ (read_is x k read).1)), one)) (swaps v w g x k found read change))

@@ -1,37 +1,40 @@
--- Behind the exchange that brought a partial frame into the own works: the steps, and what they change.
-use Rattle.std.proofs.Common.{◌≡◌, ℕ, ◌&&◌, not, if◌then◌else◌, Bool, true, false, [], ◌∷◌, ◌++◌, Some, None, IsTrue, Ok, refl, sym, ap, ◌∙◌, subst, arith, append_assoc}
+-- Behind the exchange that brought a partial frame into the own works: the steps.
+use Rattle.std.proofs.Common.{◌≡◌, ℕ, ◌&&◌, not, Bool, true, false, List, [], Some, None, IsTrue, Ok, refl, sym, ap, ◌∙◌, subst}
 use Rattle.xp_words.specs.KindWords.{is_kind, kind_fields, kind_write}
 use Rattle.xp_words.specs.PageTypes.{is_table}
 use Rattle.xp_words.specs.declared.kind.KindWord.{KindWord}
 use Rattle.xp_words.specs.declared.kind.PageType.{PageType}
 use Rattle.xp_words.specs.declared.place.Place.TheVariants.{Clock, Kind, Refs}
 use Rattle.xp_board.specs.declared.holdings.Work.{Work}
-use Rattle.xp_board.specs.declared.step.Act.TheVariants.{Cas, Load, Store}
+use Rattle.xp_board.specs.declared.step.Act.TheVariants.{Load, Store}
 use Rattle.xp_board.specs.declared.step.Mark.TheVariants.{Shed}
 use Rattle.xp_board.specs.declared.step.StepKind.TheVariants as kinds
 use Rattle.xp_board.specs.Hands.{work_on}
-use Rattle.xp_board.specs.KindSteps.{resumed_kind}
+use Rattle.xp_board.specs.KindSteps.{Partial, resumed_kind}
 use Rattle.xp_board.specs.Readings.{is_dead, is_type, is_work}
 use Rattle.xp_board.specs.Told.{PortValue}
 use Rattle.board_lemmas.proofs.KindForms.{fields_of}
-use Rattle.board_lemmas.proofs.Sums.{when_eq}
 use Rattle.step_maker.specs.Moves.{Came, Met, Moves}
 use Rattle.step_maker.proofs.Coming.{came_trans, moves_came}
-use Rattle.answer_fits.specs.Answers.{Changes, Serves}
+use Rattle.answer_fits.specs.Answers.{Serves}
 use Rattle.answer_fits.specs.Asked.{Asked, of, of_back}
-use Rattle.answer_fits.proofs.Piecing.{changes_came, changes_nothing, changes_step, changes_then, serves_step}
-use Rattle.frame_words.specs.Freeing.{Puts}
+use Rattle.answer_fits.proofs.Piecing.{serves_step}
+use Rattle.answer_fits.specs.Visits.{Visit, Does, Only, Then, visit}
+use Rattle.answer_fits.proofs.Visiting.{does_as, does_one, does_then}
+use Rattle.frame_types.specs.Found.{StoresKind, swaps_kind}
+use Rattle.table_words.specs.Entries.{ShedsAt, sheds_at}
+use Rattle.frame_words.specs.Freeing.{PutBy, Puts}
 use Rattle.kind_words.specs.Kinds.{dead_kind}
 use Rattle.kind_words.proofs.KindFacts.{read_is, work_word}
 use Rattle.kind_words.proofs.KindWriting.{fields_write}
 use Rattle.table_entries.specs.Asking.{of_entries}
 use Rattle.table_entries.proofs.PiecesTaking.{Goes, asks_still, goes_back}
 use Rattle.table_releases.specs.Between.{Releases, Resumed}
-use Rattle.table_releases.specs.Found.{ByForm, ReleasesFound, TakenUpBy, resumes}
+use Rattle.table_releases.specs.Found.{ComesBy, ReleasesFound}
 use Rattle.table_releases.specs.declared.entries.Released.{Released}
 use Rattle.table_releases.specs.declared.entries.Released.TheVariants.{Given, Opened}
 use Rattle.table_releases.proofs.FrameSeen.{form_partial_is}
-use Rattle.table_releases.proofs.Finding.{changes_behind, found_before, found_later, kind_changes, kind_found, look_changes, step_found}
+use Rattle.table_releases.proofs.Finding.{kind_found, sheds, swaps}
 use Rattle.table_releases.proofs.Pieces.{goes_shed, goes_shed_refs, goes_step}
 use Rattle.table_releases.proofs.PiecesTyped.{kind_asks, kind_goes, resumed_goes}
 use Rattle.frame_types.proofs.Serving.{work_alive}
@@ -70,46 +73,27 @@ module _ (b v : PortValue) (f i : ℕ) (t : PageType) (word g : ℕ) (want : Pag
         let goes = goes_back b d f i owner pages [] two z g (Some want) (in_asks d (came_trans v w d came left)) back in
         record { serves = goes.serves; stops = tt; kinds = tt; looks = goes.looks }
 
-  -- ---- what is found and changed
-  in_changes : Changes b v (resumes g r.found ∷ [])
-  in_changes =
-      let one = changes_step r.from r.from v [] (Kind g) (Cas (kind_write k) (kind_write (resumed_kind k))) kinds.Kind None (kind_write k) (changes_nothing r.from) r.step in
-      let two : Changes r.from v ((Kind g, Cas (kind_write k) (kind_write (resumed_kind k))) ∷ []) = subst (λ c. Changes r.from v (if c && true then ((Kind g, Cas (kind_write k) (kind_write (resumed_kind k))) ∷ []) else [])) (when_eq (kind_write k) (kind_write k) refl) one in
-      let three = subst (λ y. Changes r.from v ((Kind g, Cas y (kind_write (resumed_kind k))) ∷ [])) (sym (read_is r.found k r.read).1) two in
-      changes_behind b r.from v _ (kind_changes b r.from f i t word g want r.found r.sees)
-      (subst (λ y. Changes r.from v ((Kind g, Cas r.found (kind_write (resumed_kind y))) ∷ [])) (sym (fields_of r.found k r.read)) three)
-
-  in_came : Came r.from v
-  in_came = moves_came r.from v (Kind g) _ kinds.Kind None (kind_write k) r.step
-
-  partial_found : (z : PortValue) (a : Released) (table : Bool) → is_table want ≡ table → Came v z → TakenUpBy b z g want r.found (Ok a) table → ReleasesFound b z f i t (Ok a)
-  partial_found z a table is came way =
-      kind_found b r.from f i t word g want r.found r.sees z (Ok a) (came_trans r.from v z in_came came)
-      (subst (λ c. ByForm b z g want r.found (Ok a) c) (sym (form_partial_is r.found k r.read r.partial)) (subst (TakenUpBy b z g want r.found (Ok a)) (sym is) way))
+  -- ---- the steps
+  partial_found : (z : PortValue) (a : Released) (table : Bool) → is_table want ≡ table → Does v z (λ cs. ComesBy f i g want r.found (Ok a) table cs) → ReleasesFound b z f i t (Ok a)
+  partial_found z a table is way =
+      let came : ℕ → Visit = swaps_kind g r.found (resumed_kind (kind_fields r.found)) in
+      kind_found b r.from f i t word g want r.found r.sees z (Ok a) Partial (form_partial_is r.found k r.read r.partial)
+      (does_then r.from v z (Only (came r.found)) (λ cs. ComesBy f i g want r.found (Ok a) (is_table want) cs)
+      (subst (λ y. Does r.from v (Only (came y))) (sym (read_is r.found k r.read).1) (swaps r.from v g r.found k (kind_write k) r.read r.step))
+      (subst (λ c. Does v z (λ cs. ComesBy f i g want r.found (Ok a) c cs)) (sym is) way))
 
   pub table_found : (w : PortValue) (y : ℕ) → Moves v w (Refs g) Load kinds.Look (Some (Shed f i)) y → is_table want ≡ true → ReleasesFound b w f i t (Ok (Opened g k.progress false))
   table_found w y step table =
-      partial_found w (Opened g k.progress false) true table (moves_came v w (Refs g) Load kinds.Look (Some (Shed f i)) y step)
-      (ap (λ (x : KindWord). Ok (Opened g x.progress false)) (sym (fields_of r.found k r.read)), changes_then b v w _ [] in_changes (look_changes v w (Refs g) (Some (Shed f i)) y step))
+      partial_found w (Opened g k.progress false) true table
+      (does_as v w (ShedsAt (Refs g) f i) (λ cs. ComesBy f i g want r.found (Ok (Opened g k.progress false)) true cs)
+      (λ vs one. (ap (λ (x : KindWord). Ok (Opened g x.progress false)) (sym (fields_of r.found k r.read)), one)) (sheds v w (Refs g) f i y step))
 
   pub memory_found : (w d z : PortValue) (clock x : ℕ) → Moves v w Clock Load kinds.Look (Some (Shed f i)) clock → Moves w d (Kind g) (Store (kind_write (dead_kind want true clock))) kinds.Kind None x → Puts d z g → is_table want ≡ false →
       ReleasesFound b z f i t (Ok Given)
   memory_found w d z clock x shed store puts plain =
-      let one = changes_then b v w _ [] in_changes (look_changes v w Clock (Some (Shed f i)) clock shed) in
-      let two = changes_step b w d _ (Kind g) (Store (kind_write (dead_kind want true clock))) kinds.Kind None x one store in
-      let came = came_trans w d z (moves_came w d (Kind g) _ kinds.Kind None x store) (changes_came d z puts.list puts.changed) in
-      let shown = moves_came v w Clock Load kinds.Look (Some (Shed f i)) clock shed in
-      partial_found z Given false plain (came_trans v w z shown came) (
-        refl,
-        (
-          puts.list ++ ((Kind g, Store (kind_write (dead_kind want true clock))) ∷ []),
-          record {
-            clock = clock;
-            found = found_later b v z Clock clock (changes_came b v _ in_changes) (found_before v w z Clock clock (step_found v w Clock Load kinds.Look (Some (Shed f i)) clock shed) came);
-            back = puts.list;
-            put = puts.put;
-            list = refl;
-          },
-          subst (λ cs. Changes b z cs) (sym (append_assoc puts.list _ _)) (changes_then b d z _ puts.list two puts.changed),
-        ),
-      )
+      let dead : List Visit → Type 0 = StoresKind g (dead_kind want true clock) in
+      partial_found z Given false plain
+      (does_as v z (Then (Only (sheds_at Clock f i clock)) (Then dead (PutBy g))) (λ cs. ComesBy f i g want r.found (Ok Given) false cs) (λ vs steps. (refl, (clock, steps)))
+      (does_then v w z (Only (sheds_at Clock f i clock)) (Then dead (PutBy g)) (does_one v w Clock Load kinds.Look (Some (Shed f i)) clock shed)
+      (does_then w d z dead (PutBy g)
+      (does_as w d (Only (visit (Kind g) (Store (kind_write (dead_kind want true clock))) x)) dead (λ vs one. (x, one)) (does_one w d (Kind g) (Store (kind_write (dead_kind want true clock))) kinds.Kind None x store)) puts)))

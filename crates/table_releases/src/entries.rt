@@ -1,11 +1,8 @@
 //! The last recorded entry of a table, given back.
-ghost use Rattle.std.specs.Prelude.{◌≡◌, ◌+◌, ◌<◌, ℕ, [], Some, None, Ok, true, IfOk, IfErr, MatchResult, IsTrue, is_some};
+ghost use Rattle.std.specs.Prelude.{◌≡◌, ◌+◌, ◌<◌, ℕ, [], Some, None, Ok, true, IfOk, IfErr, MatchResult, IsTrue};
 ghost use Rattle.xp_words.specs.Entries.{below};
 ghost use Rattle.xp_words.specs.KindWords.{kind_read};
-ghost use Rattle.xp_words.specs.Places.{number, sizes_of};
-ghost use Rattle.xp_words.specs.declared.place.Place.TheVariants.{Kind, Refs};
-ghost use Rattle.xp_words.specs.declared.reply.Pause.TheVariants.{Lost};
-ghost use Rattle.xp_words.specs.declared.reply.Stop.TheVariants.{Paused};
+ghost use Rattle.xp_words.specs.declared.place.Place.TheVariants.{Refs};
 ghost use Rattle.xp_board.specs.Readings.{is_partial};
 ghost use Rattle.xp_board.specs.declared.step.Act.TheVariants.{Load};
 ghost use Rattle.xp_board.specs.declared.step.Mark.TheVariants.{Shed};

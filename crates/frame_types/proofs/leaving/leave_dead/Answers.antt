@@ -2,6 +2,7 @@ use Rattle.std.proofs.Common.{true, [], refl}
 use Rattle.answer_fits.specs.Asked.{of_back}
 use Rattle.answer_fits.proofs.Piecing.{serves_came}
 use Rattle.step_maker.proofs.Coming.{came_trans, moves_came}
+use Rattle.frame_types.proofs.LeavingSteps.{dead_steps}
 use Rattle.frame_types.proofs.Left.{alone, at_a, dead_back, dead_gives, dead_gone, dead_may}
 use Rattle.frame_types.proofs.Serving.{back_serves, dead_words, look_serves, owned_behind, store_serves}
 use Rattle.frame_types.proofs.Storing.{held_as, moved_as}
@@ -72,4 +73,9 @@ returns-clause-owned g c telling =
     c.leave.ensures.moves c.put_ref.ensures.owned
 
 pub returns-clause-visits : goal.returns-clause-visits
-returns-clause-visits g c = absurd c.requires.stub
+returns-clause-visits g c =
+    let v = g.P.Port.value c.args.port.now in
+    let a = g.P.Port.value c.look_clock-clock.new.port in
+    let d = g.P.Port.value c.leave.new.port in
+    dead_steps v a d (g.P.Port.value c.put_ref.new.port) c.args.frame c.leave.result c.look_clock-clock.result c.args.want c.look_clock-clock.ensures.moves
+    (moved_as a d c.args.frame c.leave.result _ _ c.dead_kind.ensures c.leave.ensures.moves) c.put_ref.ensures.puts

@@ -2,6 +2,7 @@ use Rattle.std.proofs.Common.{false, [], refl}
 use Rattle.answer_fits.specs.Asked.{of_back}
 use Rattle.answer_fits.proofs.Piecing.{serves_came}
 use Rattle.step_maker.proofs.Coming.{came_trans, moves_came}
+use Rattle.frame_types.proofs.LeavingSteps.{shared_steps}
 use Rattle.frame_types.proofs.Left.{alone, here, partial_may, shared_back, shared_gives, shared_gone}
 use Rattle.frame_types.proofs.Serving.{back_serves, owned_before, put_behind, store_serves}
 use Rattle.frame_types.proofs.Storing.{held_as, moved_as}
@@ -58,4 +59,7 @@ pub returns-clause-owned : goal.returns-clause-owned
 returns-clause-owned g c telling = owned_before (g.P.Port.value c.args.port.now) (g.P.Port.value c.leave.new.port) c.args.frame c.leave.result _ c.leave.ensures.moves telling c.put_ref.ensures.owned
 
 pub returns-clause-visits : goal.returns-clause-visits
-returns-clause-visits g c = absurd c.requires.stub
+returns-clause-visits g c =
+    let v = g.P.Port.value c.args.port.now in
+    let d = g.P.Port.value c.leave.new.port in
+    shared_steps v d (g.P.Port.value c.put_ref.new.port) c.args.frame c.leave.result c.args.stamp c.args.want (moved_as v d c.args.frame c.leave.result _ _ c.waiting_kind-as_found.ensures c.leave.ensures.moves) c.put_ref.ensures.puts

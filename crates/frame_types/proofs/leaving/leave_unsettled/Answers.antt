@@ -2,6 +2,7 @@ use Rattle.std.proofs.Common.{true, refl, ap}
 use Rattle.std.proofs.lemmas.Bool.{or_left}
 use Rattle.step_maker.specs.Plain.{Words}
 use Rattle.step_maker.proofs.Coming.{moves_came}
+use Rattle.frame_types.proofs.LeavingSteps.{stores}
 use Rattle.frame_types.proofs.Left.{here, partial_may, stays_known, unsettled_hand}
 use Rattle.frame_types.proofs.Serving.{store_serves, stored_words}
 use Rattle.frame_types.proofs.Storing.{held_as, moved_as}
@@ -48,4 +49,7 @@ returns-clause-plain g c telling q =
     ap (λ (m : Words). m q) (stored_words v d c.args.frame c.leave.result _ (moved_as v d c.args.frame c.leave.result _ _ c.waiting_kind.ensures c.leave.ensures.moves) telling)
 
 pub returns-clause-visits : goal.returns-clause-visits
-returns-clause-visits g c = absurd c.requires.stub
+returns-clause-visits g c =
+    let v = g.P.Port.value c.args.port.now in
+    let d = g.P.Port.value c.leave.new.port in
+    stores v d c.args.frame c.leave.result _ (moved_as v d c.args.frame c.leave.result _ _ c.waiting_kind.ensures c.leave.ensures.moves)

@@ -2,6 +2,7 @@ use Rattle.std.proofs.Common.{true, false, refl, sym, subst}
 use Rattle.xp_words.specs.declared.kind.PageType.TheVariants.{Writable}
 use Rattle.xp_words.specs.declared.reply.Stop.TheVariants.{Refused, Paused}
 use Rattle.frame_types.specs.Plain.{TwinGiveUp}
+use Rattle.frame_types.proofs.LeavingSteps.{given_dead, given_kept, given_shared}
 use Rattle.frame_types.proofs.Left.{here}
 use Rattle.frame_types.proofs.Serving.{store_serves}
 use Rattle.frame_types.proofs.Storing.{held_as, moved_as}
@@ -64,13 +65,19 @@ returns-in-Paused-clause-plain g c =
     (subst (λ b. TwinGiveUp v d c.args.frame b c.args.stamp (Paused c.in-Paused.field-0)) (sym c.if-not-own.false)
     (kept_words v d c.args.frame c.leave.result c.args.stamp (moved_as v d c.args.frame c.leave.result _ _ c.waiting_kind.ensures c.leave.ensures.moves)))
 
--- ---- what is changed
+-- ---- the steps
 
 pub returns-then-not-own-clause-visits : goal.returns-then-not-own-clause-visits
-returns-then-not-own-clause-visits g c = absurd c.requires.stub
+returns-then-not-own-clause-visits g c =
+    given_shared (g.P.Port.value c.args.port.now) (g.P.Port.value c.leave_shared.new.port) c.args.frame c.args.stamp c.args.own c.args.stop c.if-not-own.true c.leave_shared.ensures.visits
 
 pub returns-in-Refused-clause-visits : goal.returns-in-Refused-clause-visits
-returns-in-Refused-clause-visits g c = absurd c.requires.stub
+returns-in-Refused-clause-visits g c =
+    given_dead (g.P.Port.value c.args.port.now) (g.P.Port.value c.leave_dead.new.port) c.args.frame c.args.stamp c.args.own c.args.stop c.in-Refused.field-0 c.if-not-own.false c.in-Refused.is c.leave_dead.ensures.visits
 
 pub returns-in-Paused-clause-visits : goal.returns-in-Paused-clause-visits
-returns-in-Paused-clause-visits g c = absurd c.requires.stub
+returns-in-Paused-clause-visits g c =
+    let v = g.P.Port.value c.args.port.now in
+    let d = g.P.Port.value c.leave.new.port in
+    given_kept v d c.args.frame c.args.stamp c.args.own c.args.stop c.in-Paused.field-0 c.leave.result c.if-not-own.false c.in-Paused.is
+    (moved_as v d c.args.frame c.leave.result _ _ c.waiting_kind.ensures c.leave.ensures.moves)

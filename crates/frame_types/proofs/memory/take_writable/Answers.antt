@@ -1,4 +1,5 @@
 use Rattle.std.proofs.Common.{◌≡◌, ◌∙◌, true, sym, subst, refl, [], Ok, Err}
+use Rattle.frame_types.specs.Found.{MemoryFound, TakesFound}
 use Rattle.frame_types.specs.Plain.{TakesMemory, TakesPlainly}
 use Rattle.frame_types.specs.Taking.{ShowsWait, TakesAs}
 use Rattle.frame_types.specs.declared.taking.Taken.TheVariants.{Counted, Waiting}
@@ -7,6 +8,7 @@ use Rattle.answer_fits.proofs.Piecing.{serves_came, stops_before}
 use Rattle.xp_board.specs.Told.{is_telling}
 use Rattle.step_maker.proofs.Telling.{came_telling}
 use Rattle.frame_types.proofs.GivenUp.{after_stop, after_wait, found_stamp}
+use Rattle.frame_types.proofs.MemorySteps.{memory_stops_found, memory_waits_found}
 use Rattle.frame_types.proofs.Serving.{back_serves}
 use Rattle.frame_types.proofs.Waiting.{err_gives, wait_gives, wait_serves, wait_stops}
 use Rattle.frame_types.proofs.memory.take_writable.Goals as goal
@@ -78,10 +80,20 @@ returns-in-Ok-Counted-clause-plain g c telling =
     let plain : TakesPlainly v u c.args.frame Writable (Ok Counted) = subst (λ t. TakesPlainly v u c.args.frame Writable (Ok t)) c.in-Ok-Counted.field-0-is (c.in-Ok-Counted.ensures.plain telling) in (plain.0, plain.2)
 
 pub returns-in-Ok-Waiting-clause-found : goal.returns-in-Ok-Waiting-clause-found
-returns-in-Ok-Waiting-clause-found g c = absurd c.requires.stub
+returns-in-Ok-Waiting-clause-found g c =
+    let v = g.P.Port.value c.args.port.now in
+    let u = g.P.Port.value c.take_type.new.port in
+    let w = g.P.Port.value c.give_up.new.port in
+    let t = Waiting c.in-Ok-Waiting.own c.in-Ok-Waiting.stamp c.in-Ok-Waiting.stop in
+    let shows : ShowsWait v u c.args.frame c.args.owner Writable t = subst (λ s. ShowsWait v u c.args.frame c.args.owner Writable s) c.in-Ok-Waiting.field-0-is c.in-Ok-Waiting.ensures.waits in
+    let taken : TakesFound v u c.args.frame Writable (Ok t) = subst (λ s. TakesFound v u c.args.frame Writable (Ok s)) c.in-Ok-Waiting.field-0-is c.in-Ok-Waiting.ensures.found in
+    subst (λ e. MemoryFound v w c.args.frame (Err e)) (sym c.give_up.ensures.answer)
+    (memory_waits_found v u w c.args.frame c.in-Ok-Waiting.own c.in-Ok-Waiting.stamp c.in-Ok-Waiting.stop shows.0 taken c.give_up.ensures.visits)
 
 pub returns-in-Ok-Counted-clause-found : goal.returns-in-Ok-Counted-clause-found
-returns-in-Ok-Counted-clause-found g c = absurd c.requires.stub
+returns-in-Ok-Counted-clause-found g c =
+    subst (λ t. TakesFound (g.P.Port.value c.args.port.now) (g.P.Port.value c.take_type.new.port) c.args.frame Writable (Ok t)) c.in-Ok-Counted.field-0-is c.in-Ok-Counted.ensures.found
 
 pub returns-in-Err-clause-found : goal.returns-in-Err-clause-found
-returns-in-Err-clause-found g c = absurd c.requires.stub
+returns-in-Err-clause-found g c =
+    memory_stops_found (g.P.Port.value c.args.port.now) (g.P.Port.value c.take_type.new.port) (g.P.Port.value c.put_ref.new.port) c.args.frame c.in-Err.stop c.in-Err.ensures.found c.put_ref.ensures.puts

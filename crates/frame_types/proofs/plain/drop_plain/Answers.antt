@@ -8,6 +8,7 @@ use Rattle.step_maker.specs.Moves.{Moves}
 use Rattle.kind_words.specs.Kinds.{left}
 use Rattle.frame_types.proofs.Dropped.{last_serves, last_stands, last_words, more_serves, more_stands, more_words}
 use Rattle.frame_types.proofs.Dropping.{last_may, last_gives, last_left, more_gives, more_left}
+use Rattle.frame_types.proofs.LeavingSteps.{last_drops, more_drops}
 use Rattle.frame_types.proofs.plain.drop_plain.Goals as goal
 
 pub leave-requires-clause-leaves : goal.leave-requires-clause-leaves
@@ -81,7 +82,14 @@ returns-else-drop_type-clause-stands g c =
     more_stands (g.P.Port.value c.args.port.now) (g.P.Port.value c.drop_type.new.port) c.args.frame c.drop_type.ensures.drops.found c.args.kind c.requires.frame c.requires.drops c.drop_type.ensures.drops.lowers.step c.put_ref-else-drop_type.ensures.owned
 
 pub returns-then-drop_type-clause-found : goal.returns-then-drop_type-clause-found
-returns-then-drop_type-clause-found g c = absurd c.requires.stub
+returns-then-drop_type-clause-found g c =
+    let b = g.P.Port.value c.look_clock-stamp.new.port in
+    let d = g.P.Port.value c.leave.new.port in
+    last_drops (g.P.Port.value c.args.port.now) (g.P.Port.value c.drop_type.new.port) (g.P.Port.value c.put_ref.new.port) c.args.frame c.drop_type.ensures.drops.found c.args.kind c.drop_type.ensures.drops.lowers.step b d
+    c.look_clock-stamp.result c.leave.result (sym c.drop_type.ensures.drops.counts ∙ c.if-drop_type.true) c.look_clock-stamp.ensures.moves
+    (subst (λ k. Moves b d (Kind c.args.frame) (Store (kind_write k)) kinds.Kind None c.leave.result) c.dead_kind.ensures c.leave.ensures.moves) c.put_ref.ensures.puts
 
 pub returns-else-drop_type-clause-found : goal.returns-else-drop_type-clause-found
-returns-else-drop_type-clause-found g c = absurd c.requires.stub
+returns-else-drop_type-clause-found g c =
+    more_drops (g.P.Port.value c.args.port.now) (g.P.Port.value c.drop_type.new.port) (g.P.Port.value c.put_ref-else-drop_type.new.port) c.args.frame c.drop_type.ensures.drops.found c.args.kind c.drop_type.ensures.drops.lowers.step
+    (sym c.drop_type.ensures.drops.counts ∙ c.if-drop_type.false) c.put_ref-else-drop_type.ensures.puts

@@ -10,6 +10,7 @@ use Rattle.frame_types.proofs.Entering.{work_spelled}
 use Rattle.frame_types.proofs.Finishing.{no_memory, live_leaves, live_hand, live_spelled, unmarked_leaves, unmarked_works, plain_works, left_serves}
 use Rattle.frame_types.proofs.Living.{lives_by_store}
 use Rattle.frame_types.proofs.Storing.{store_same, stored_alike}
+use Rattle.frame_types.proofs.TakingSteps.{goes_as_it_was, goes_live, goes_unmarked}
 use Rattle.frame_types.proofs.taking.finish.Goals as goal
 
 pub leave-requires-clause-leaves : goal.leave-requires-clause-leaves
@@ -97,10 +98,16 @@ returns-else-marked-clause-plain g c telling same =
     )
 
 pub returns-then-not-is_read_first-clause-visits : goal.returns-then-not-is_read_first-clause-visits
-returns-then-not-is_read_first-clause-visits g c = absurd c.requires.stub
+returns-then-not-is_read_first-clause-visits g c =
+    goes_live (g.P.Port.value c.args.port.now) (g.P.Port.value c.leave.new.port) c.args.frame c.args.want c.args.marked c.args.own (progress_of c.args.kind) (sym c.is_read_first.ensures ∙ c.if-not-is_read_first.true)
+    c.live_kind.result (c.live_kind.ensures ∙ ap (live_kind c.args.want) c.counts.ensures) c.leave.result c.leave.ensures.moves
 
 pub returns-then-marked-clause-visits : goal.returns-then-marked-clause-visits
-returns-then-marked-clause-visits g c = absurd c.requires.stub
+returns-then-marked-clause-visits g c =
+    goes_unmarked (g.P.Port.value c.args.port.now) (g.P.Port.value c.leave-then-marked.new.port) c.args.frame c.args.want c.args.marked c.args.own (progress_of c.args.kind) (sym c.is_read_first.ensures ∙ c.if-not-is_read_first.false)
+    c.progress_of.result c.progress_of.ensures c.if-marked.true c.work_kind.result c.work_kind.ensures c.leave-then-marked.result c.leave-then-marked.ensures.moves
 
 pub returns-else-marked-clause-visits : goal.returns-else-marked-clause-visits
-returns-else-marked-clause-visits g c = absurd c.requires.stub
+returns-else-marked-clause-visits g c =
+    goes_as_it_was (g.P.Port.value c.args.port.now) c.args.frame c.args.want c.args.marked c.args.own (progress_of c.args.kind) (sym c.is_read_first.ensures ∙ c.if-not-is_read_first.false)
+    c.progress_of-else-marked.result c.progress_of-else-marked.ensures c.if-marked.false

@@ -3,6 +3,7 @@ use Rattle.frame_types.specs.Taking.{Enters, stamp_by, progress_of}
 use Rattle.frame_types.proofs.Entering.{entered_marked, entered_after}
 use Rattle.frame_types.proofs.GoingOn.{serves_after, stops_after, done_waits, still_waits, plain_after}
 use Rattle.frame_types.proofs.Living.{lives_behind}
+use Rattle.frame_types.proofs.TakingSteps.{goes_at_once, goes_behind, goes_nowhere}
 use Rattle.frame_types.proofs.taking.go_on.Goals as goal
 
 pub clear_stale-requires-clause-marked : goal.clear_stale-requires-clause-marked
@@ -60,7 +61,15 @@ returns-in-Err-clause-hand g c b e =
     (subst (λ m. Enters b v c.args.frame c.args.owner c.args.want m (stamp_by m c.args.kind) (progress_of c.args.kind) c.args.own) c.if-marked.true e) c.in-Err.ensures.came c.in-Err.ensures.hand
 
 pub returns-in-Ok-clause-visits : goal.returns-in-Ok-clause-visits
-returns-in-Ok-clause-visits g c = absurd c.requires.stub
+returns-in-Ok-clause-visits g c =
+    goes_behind (g.P.Port.value c.args.port.now) (g.P.Port.value c.clear_stale.new.port) (g.P.Port.value c.finish.new.port) c.args.frame c.args.want c.args.marked c.args.own c.args.kind.number (progress_of c.args.kind) c.finish.result c.finish.ensures.done
+    c.if-marked.true c.in-Ok.ensures.visits c.finish.ensures.visits
 
 pub returns-in-Err-clause-visits : goal.returns-in-Err-clause-visits
-returns-in-Err-clause-visits g c = absurd c.requires.stub
+returns-in-Err-clause-visits g c =
+    goes_nowhere (g.P.Port.value c.args.port.now) (g.P.Port.value c.clear_stale.new.port) c.args.frame c.args.want c.args.marked c.args.own c.args.kind.number (progress_of c.args.kind) c.in-Err.stop c.if-marked.true c.in-Err.ensures.visits
+
+pub returns-else-marked-clause-visits : goal.returns-else-marked-clause-visits
+returns-else-marked-clause-visits g c =
+    goes_at_once (g.P.Port.value c.args.port.now) (g.P.Port.value c.finish-else-marked.new.port) c.args.frame c.args.want c.args.marked c.args.own c.args.kind.number (progress_of c.args.kind) c.finish-else-marked.result c.if-marked.false
+    c.finish-else-marked.ensures.visits

@@ -9,13 +9,16 @@ use Rattle.step_maker.proofs.Telling.{came_telling}
 use Rattle.flush_words.proofs.Lasting.{came_longer}
 use Rattle.kind_words.proofs.KindFacts.{kind_is_some, read_is}
 use Rattle.kind_words.proofs.KindWriting.{begun_is, resumed_is}
+use Rattle.frame_types.specs.Found.{GoesOn}
 use Rattle.frame_types.specs.Plain.{TwinOn}
 use Rattle.frame_types.specs.Taking.{Enters, progress_of, stamp_by}
+use Rattle.frame_types.specs.declared.standing.Standing.TheVariants as stands
 use Rattle.frame_types.proofs.Arms.{busy_takes, counted_takes, dead_takes, kept_takes, lost_takes, other_takes, unkept_takes}
 use Rattle.frame_types.proofs.Classing.{dead_unpinned, when_busy, when_counted, when_dead, when_other, when_partial}
 use Rattle.frame_types.proofs.Coming.{again, begun_enters, kept_enters, kept_gives, looked_held, looked_low, raised_spelled, unkept_enters}
 use Rattle.frame_types.proofs.Living.{lives_behind, lives_by_exchange}
 use Rattle.frame_types.proofs.Plainly.{plain_busy, plain_counted, plain_dead, plain_kept, plain_lost, plain_other, plain_unkept}
+use Rattle.frame_types.proofs.TakingSteps.{busy_found, counted_found, dead_found, kept_found, lost_found, other_found, unkept_found}
 use Rattle.frame_types.proofs.taking.take_found.Goals as goal
 
 pub read_kind-kind-requires : goal.read_kind-kind-requires
@@ -277,28 +280,60 @@ returns-else-kind-clause-live g c =
 -- ---- by the words that the steps found
 
 pub returns-in-Ok-clause-found : goal.returns-in-Ok-clause-found
-returns-in-Ok-clause-found g c b l = absurd c.requires.stub
+returns-in-Ok-clause-found g c b l =
+    let k = c.read_kind-kind.result in
+    counted_found b (g.P.Port.value c.args.port.now) c.args.frame c.args.owner c.args.want c.args.word l k c.read_kind-kind.ensures (read_is c.args.word k c.read_kind-kind.ensures).1
+    (g.P.Port.value c.count_type.new.port) (sym c.classify.ensures ∙ c.in-Counted.is) c.in-Ok.ensures.moves
 
 pub returns-in-Err-clause-found : goal.returns-in-Err-clause-found
-returns-in-Err-clause-found g c b l = absurd c.requires.stub
+returns-in-Err-clause-found g c b l =
+    let k = c.read_kind-kind.result in
+    lost_found b (g.P.Port.value c.args.port.now) c.args.frame c.args.owner c.args.want c.args.word l k c.read_kind-kind.ensures (read_is c.args.word k c.read_kind-kind.ensures).1
+    stands.Counted (sym c.classify.ensures ∙ c.in-Counted.is) (g.P.Port.value c.count_type.new.port) c.in-Err.found refl c.in-Err.ensures.moves c.in-Err.ensures.lost c.lost.result c.lost.ensures
 
 pub returns-in-Ok-begin_work-clause-found : goal.returns-in-Ok-begin_work-clause-found
-returns-in-Ok-begin_work-clause-found g c b l = absurd c.requires.stub
+returns-in-Ok-begin_work-clause-found g c b l =
+    let k = c.read_kind-kind.result in
+    let x = g.P.Port.value c.begin_work.new.port in
+    let w = g.P.Port.value c.go_on.new.port in
+    dead_found b (g.P.Port.value c.args.port.now) c.args.frame c.args.owner c.args.want c.args.word l k c.read_kind-kind.ensures (read_is c.args.word k c.read_kind-kind.ensures).1
+    x w c.go_on.result (sym c.classify.ensures ∙ c.in-Dead.is) c.in-Ok-begin_work.ensures.moves
+    (subst (λ m. GoesOn x w c.args.frame c.args.want m k.number true (progress_of k) c.go_on.result) c.is_stale_for-marked.ensures c.go_on.ensures.visits)
 
 pub returns-in-Err-begin_work-clause-found : goal.returns-in-Err-begin_work-clause-found
-returns-in-Err-begin_work-clause-found g c b l = absurd c.requires.stub
+returns-in-Err-begin_work-clause-found g c b l =
+    let k = c.read_kind-kind.result in
+    lost_found b (g.P.Port.value c.args.port.now) c.args.frame c.args.owner c.args.want c.args.word l k c.read_kind-kind.ensures (read_is c.args.word k c.read_kind-kind.ensures).1
+    stands.Dead (sym c.classify.ensures ∙ c.in-Dead.is) (g.P.Port.value c.begin_work.new.port) c.in-Err-begin_work.found refl c.in-Err-begin_work.ensures.moves c.in-Err-begin_work.ensures.lost c.lost-in-Err-begin_work.result c.lost-in-Err-begin_work.ensures
 
 pub returns-then-kind-clause-found : goal.returns-then-kind-clause-found
-returns-then-kind-clause-found g c b l = absurd c.requires.stub
+returns-then-kind-clause-found g c b l =
+    let k = c.read_kind-kind.result in
+    kept_found b (g.P.Port.value c.args.port.now) c.args.frame c.args.owner c.args.want c.args.word l k c.read_kind-kind.ensures (read_is c.args.word k c.read_kind-kind.ensures).1
+    (g.P.Port.value c.resume_work.new.port) (sym c.classify.ensures ∙ c.in-Partial.is) c.in-Ok-resume_work.ensures.moves (g.P.Port.value c.put_ref.new.port) (g.P.Port.value c.go_on-then-kind.new.port) c.go_on-then-kind.result
+    c.if-kind.true c.put_ref.ensures.puts c.go_on-then-kind.ensures.visits
 
 pub returns-else-kind-clause-found : goal.returns-else-kind-clause-found
-returns-else-kind-clause-found g c b l = absurd c.requires.stub
+returns-else-kind-clause-found g c b l =
+    let k = c.read_kind-kind.result in
+    unkept_found b (g.P.Port.value c.args.port.now) c.args.frame c.args.owner c.args.want c.args.word l k c.read_kind-kind.ensures (read_is c.args.word k c.read_kind-kind.ensures).1
+    (g.P.Port.value c.resume_work.new.port) (sym c.classify.ensures ∙ c.in-Partial.is) c.in-Ok-resume_work.ensures.moves (g.P.Port.value c.go_on-else-kind.new.port) c.go_on-else-kind.result c.if-kind.false
+    c.go_on-else-kind.ensures.visits
 
 pub returns-in-Err-resume_work-clause-found : goal.returns-in-Err-resume_work-clause-found
-returns-in-Err-resume_work-clause-found g c b l = absurd c.requires.stub
+returns-in-Err-resume_work-clause-found g c b l =
+    let k = c.read_kind-kind.result in
+    lost_found b (g.P.Port.value c.args.port.now) c.args.frame c.args.owner c.args.want c.args.word l k c.read_kind-kind.ensures (read_is c.args.word k c.read_kind-kind.ensures).1
+    stands.Partial (sym c.classify.ensures ∙ c.in-Partial.is) (g.P.Port.value c.resume_work.new.port) c.in-Err-resume_work.found refl c.in-Err-resume_work.ensures.moves c.in-Err-resume_work.ensures.lost c.lost-in-Err-resume_work.result c.lost-in-Err-resume_work.ensures
 
 pub returns-in-Busy-clause-found : goal.returns-in-Busy-clause-found
-returns-in-Busy-clause-found g c b l = absurd c.requires.stub
+returns-in-Busy-clause-found g c b l =
+    let k = c.read_kind-kind.result in
+    busy_found b (g.P.Port.value c.args.port.now) c.args.frame c.args.owner c.args.want c.args.word l k c.read_kind-kind.ensures (read_is c.args.word k c.read_kind-kind.ensures).1
+    (sym c.classify.ensures ∙ c.in-Busy.is)
 
 pub returns-in-Other-clause-found : goal.returns-in-Other-clause-found
-returns-in-Other-clause-found g c b l = absurd c.requires.stub
+returns-in-Other-clause-found g c b l =
+    let k = c.read_kind-kind.result in
+    other_found b (g.P.Port.value c.args.port.now) c.args.frame c.args.owner c.args.want c.args.word l k c.read_kind-kind.ensures (read_is c.args.word k c.read_kind-kind.ensures).1
+    (sym c.classify.ensures ∙ c.in-Other.is)

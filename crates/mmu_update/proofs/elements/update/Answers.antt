@@ -1,5 +1,5 @@
-use Rattle.std.proofs.Common.{sym, ◌∙◌}
-use Rattle.mmu_update.proofs.Numbers.{misaligned, no_change, no_step, unknown}
+use Rattle.std.proofs.Common.{refl, sym, ◌∙◌}
+use Rattle.mmu_update.proofs.Numbers.{misaligned, no_visit, no_step, unknown}
 use Rattle.mmu_update.proofs.elements.update.Goals as goal
 
 pub returns-in-Misaligned-clause-serves : goal.returns-in-Misaligned-clause-serves
@@ -18,7 +18,7 @@ pub returns-in-Write-clause-found : goal.returns-in-Write-clause-found
 returns-in-Write-clause-found g c = rw (sym c.element_of.ensures ∙ c.in-Write.is) c.write_memory.ensures.found
 
 pub returns-in-Misaligned-clause-found : goal.returns-in-Misaligned-clause-found
-returns-in-Misaligned-clause-found g c = rw (sym c.element_of.ensures ∙ c.in-Misaligned.is) (no_change _ _)
+returns-in-Misaligned-clause-found g c = rw (sym c.element_of.ensures ∙ c.in-Misaligned.is) (no_visit _ _ _ refl)
 
 pub returns-in-Unknown-clause-found : goal.returns-in-Unknown-clause-found
-returns-in-Unknown-clause-found g c = rw (sym c.element_of.ensures ∙ c.in-Unknown.is) (no_change _ _)
+returns-in-Unknown-clause-found g c = rw (sym c.element_of.ensures ∙ c.in-Unknown.is) (no_visit _ _ _ refl)

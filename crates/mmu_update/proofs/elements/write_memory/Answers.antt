@@ -123,14 +123,14 @@ returns-clause-plain g c =
     (serves_came u x (of_frame c.in_ok-frame.frame c.args.domain (Some Writable)) [] c.in_ok-take_writable.ensures.serves)
     c.store_cell.ensures.moves c.drop_plain.ensures.plain c.drop_plain.ensures.stands
 
--- ---- what is found and changed
+-- ---- the steps
 pub returns-in_err-frame-clause-found : goal.returns-in_err-frame-clause-found
 returns-in_err-frame-clause-found g c =
     let v = g.P.Port.value c.args.port.now in
     let u = g.P.Port.value c.get_ref.new.port in
     let answer = err_from_is_err_and c.from_residual.result c.from_residual.ensures.1 in
     subst (λ (r : Result (Unit {0}) Stop). WriteFound v u c.args.domain c.args.f c.args.index c.args.word r) (sym (answer.1 ∙ ap Err answer.2))
-    (unreferred_found v u c.args.domain c.args.f c.args.index c.args.word c.in_err-frame.field-0.0 c.in_err-frame.ensures.kinds c.in_err-frame.ensures.gets)
+    (unreferred_found v u c.args.domain c.args.f c.args.index c.args.word c.in_err-frame.field-0.0 c.in_err-frame.ensures.gets)
 
 pub returns-in_err-take_writable-clause-found : goal.returns-in_err-take_writable-clause-found
 returns-in_err-take_writable-clause-found g c =
@@ -144,4 +144,4 @@ returns-in_err-take_writable-clause-found g c =
 pub returns-clause-found : goal.returns-clause-found
 returns-clause-found g c =
     stored_found (g.P.Port.value c.args.port.now) (g.P.Port.value c.get_ref.new.port) c.args.domain c.args.f c.in_ok-frame.frame c.args.index c.args.word c.in_ok-frame.ensures.frame.0 c.in_ok-frame.ensures.gets
-    (g.P.Port.value c.take_writable.new.port) (g.P.Port.value c.store_cell.new.port) (g.P.Port.value c.drop_plain.new.port) c.store_cell.result c.in_ok-take_writable.ensures.found c.store_cell.ensures.moves c.drop_plain.ensures.changes
+    (g.P.Port.value c.take_writable.new.port) (g.P.Port.value c.store_cell.new.port) (g.P.Port.value c.drop_plain.new.port) c.store_cell.result c.in_ok-take_writable.ensures.found c.store_cell.ensures.moves c.drop_plain.ensures.found

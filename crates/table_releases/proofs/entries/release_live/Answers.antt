@@ -94,17 +94,17 @@ returns-else-drop_type-clause-hand g c x live b t word l =
 
 pub returns-then-not-is_table-clause-found : goal.returns-then-not-is_table-clause-found
 returns-then-not-is_table-clause-found g c x live b t word l =
-    plain_found b (g.P.Port.value c.args.port.now) c.args.table c.args.index t word c.args.frame c.args.want x l live (g.P.Port.value c.shed_entry_by_look.new.port) _ c.shed_entry_by_look.result c.shed_entry_by_look.ensures.moves
-    (g.P.Port.value c.drop_plain.new.port) (sym c.is_table.ensures ∙ c.if-not-is_table.true) c.drop_plain.ensures.changes
+    plain_found b (g.P.Port.value c.args.port.now) c.args.table c.args.index t word c.args.frame c.args.want x l live (g.P.Port.value c.shed_entry_by_look.new.port) c.shed_entry_by_look.result c.shed_entry_by_look.ensures.moves
+    (g.P.Port.value c.drop_plain.new.port) (sym c.is_table.ensures ∙ c.if-not-is_table.true) c.drop_plain.ensures.found
 
 pub returns-then-drop_type-clause-found : goal.returns-then-drop_type-clause-found
 returns-then-drop_type-clause-found g c x live b t word l =
-    closed_found b (g.P.Port.value c.args.port.now) c.args.table c.args.index t word c.args.frame c.args.want x l live (g.P.Port.value c.shed_entry_by_look.new.port) _ c.shed_entry_by_look.result c.shed_entry_by_look.ensures.moves
+    closed_found b (g.P.Port.value c.args.port.now) c.args.table c.args.index t word c.args.frame c.args.want x l live (g.P.Port.value c.shed_entry_by_look.new.port) c.shed_entry_by_look.result c.shed_entry_by_look.ensures.moves
     (g.P.Port.value c.drop_type.new.port) c.drop_type.result c.drop_type.ensures.drops (sym c.is_table.ensures ∙ c.if-not-is_table.false) c.if-drop_type.true
 
 pub returns-else-drop_type-clause-found : goal.returns-else-drop_type-clause-found
 returns-else-drop_type-clause-found g c x live b t word l =
-    counted_found b (g.P.Port.value c.args.port.now) c.args.table c.args.index t word c.args.frame c.args.want x l live (g.P.Port.value c.shed_entry_by_look.new.port) _ c.shed_entry_by_look.result c.shed_entry_by_look.ensures.moves
+    counted_found b (g.P.Port.value c.args.port.now) c.args.table c.args.index t word c.args.frame c.args.want x l live (g.P.Port.value c.shed_entry_by_look.new.port) c.shed_entry_by_look.result c.shed_entry_by_look.ensures.moves
     (g.P.Port.value c.drop_type.new.port) c.drop_type.result c.drop_type.ensures.drops (sym c.is_table.ensures ∙ c.if-not-is_table.false) c.if-drop_type.false (g.P.Port.value c.put_ref.new.port) c.put_ref.ensures.puts
 
 pub returns-then-not-is_table-clause-plain : goal.returns-then-not-is_table-clause-plain

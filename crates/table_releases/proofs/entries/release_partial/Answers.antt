@@ -1,13 +1,9 @@
-use Rattle.std.proofs.Common.{sym, subst, ap, ◌∙◌, Err}
-use Rattle.xp_words.specs.Places.{number, sizes_of}
-use Rattle.xp_words.specs.declared.place.Place.TheVariants.{Kind}
+use Rattle.std.proofs.Common.{sym, subst, Err}
 use Rattle.xp_words.specs.declared.reply.Stop.{Stop}
-use Rattle.xp_board.specs.Told.{Post}
 use Rattle.kind_words.proofs.KindFacts.{read_is}
 use Rattle.table_releases.specs.Between.{Releases}
 use Rattle.table_releases.specs.Found.{ReleasesFound}
-use Rattle.table_releases.proofs.FrameSeen.{kind_post}
-use Rattle.table_releases.proofs.Lost.{lost_found, lost_stays, resumed_from}
+use Rattle.table_releases.proofs.Lost.{lost_found, lost_place, lost_stays, resumed_from}
 use Rattle.table_releases.proofs.PiecesTyped.{lost_releases}
 use Rattle.table_releases.proofs.TwinsResumed.{never_lost}
 use Rattle.table_releases.proofs.entries.release_partial.Goals as goal
@@ -48,10 +44,10 @@ pub returns-in-Err-clause-goes : goal.returns-in-Err-clause-goes
 returns-in-Err-clause-goes g c b t word l owner pages =
     let v = g.P.Port.value c.args.port.now in
     let w = g.P.Port.value c.resume_work.new.port in
-    let post = ap (λ (q : _). q.post) c.in-Err.ensures.hand ∙ kind_post b v c.args.table c.args.index t word c.args.frame c.args.want c.args.word l in
+    let place = lost_place b v c.args.table c.args.index t word c.args.frame c.args.want c.args.word l w c.in-Err.found c.in-Err.ensures.hand in
     subst (λ (e : Stop). Releases b w c.args.table c.args.index owner pages (Err e)) (sym c.lost.ensures)
     (lost_releases b v c.args.table c.args.index t word c.args.frame c.args.want c.args.word l owner pages c.args.kind c.requires.read c.requires.partial w c.in-Err.found c.in-Err.ensures.moves
-    (number (sizes_of w.post.machine) (Kind c.args.frame)) (ap (λ (p : Post). number (sizes_of p.machine) (Kind c.args.frame)) post) c.in-Err.ensures.lost)
+    _ place c.in-Err.ensures.lost)
 
 pub returns-in-Err-clause-hand : goal.returns-in-Err-clause-hand
 returns-in-Err-clause-hand g c b t word l =
@@ -63,8 +59,10 @@ pub returns-in-Err-clause-found : goal.returns-in-Err-clause-found
 returns-in-Err-clause-found g c b t word l =
     let v = g.P.Port.value c.args.port.now in
     let w = g.P.Port.value c.resume_work.new.port in
+    let place = lost_place b v c.args.table c.args.index t word c.args.frame c.args.want c.args.word l w c.in-Err.found c.in-Err.ensures.hand in
     subst (λ (e : Stop). ReleasesFound b w c.args.table c.args.index t (Err e)) (sym c.lost.ensures)
-    (lost_found b v c.args.table c.args.index t word c.args.frame c.args.want c.args.word l w c.in-Err.found c.args.kind c.requires.read c.requires.partial c.in-Err.ensures.moves _ c.in-Err.ensures.lost)
+    (lost_found b v c.args.table c.args.index t word c.args.frame c.args.want c.args.word l w c.in-Err.found c.args.kind c.requires.read c.requires.partial c.in-Err.ensures.moves
+    _ place c.in-Err.ensures.lost)
 
 pub returns-in-Ok-clause-plain : goal.returns-in-Ok-clause-plain
 returns-in-Ok-clause-plain g c b t word l =

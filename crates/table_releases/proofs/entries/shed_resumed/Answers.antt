@@ -37,7 +37,7 @@ leave-requires-clause-leaves g c =
     let l = c.requires.seen in
     let v = g.P.Port.value c.args.port.now in
     let w = g.P.Port.value c.shed_entry-clock.new.port in
-    subst (λ k. MayLeave w c.args.frame k) (sym c.waiting_kind.ensures)
+    subst (λ k. MayLeave w c.args.frame k) (sym c.dead_kind.ensures)
     (dead_may l.0 v c.args.table c.args.index l.1 l.2 c.args.frame c.args.want c.args.kind l.3 w c.shed_entry-clock.ensures.hand (sym c.is_table.ensures ∙ c.if-is_table.false) c.shed_entry-clock.result c.shed_entry-clock.ensures.moves)
 
 pub put_ref-requires-clause-may : goal.put_ref-requires-clause-may
@@ -47,7 +47,7 @@ put_ref-requires-clause-may g c =
     let w = g.P.Port.value c.shed_entry-clock.new.port in
     let d = g.P.Port.value c.leave.new.port in
     dead_works l.0 v c.args.table c.args.index l.1 l.2 c.args.frame c.args.want c.args.kind l.3 w c.shed_entry-clock.ensures.hand (sym c.is_table.ensures ∙ c.if-is_table.false) c.shed_entry-clock.result c.shed_entry-clock.ensures.moves d
-    (subst (λ k. Holds w d (left w c.args.frame k)) c.waiting_kind.ensures c.leave.ensures.hand)
+    (subst (λ k. Holds w d (left w c.args.frame k)) c.dead_kind.ensures c.leave.ensures.hand)
     (shed_may l.0 v c.args.table c.args.index l.1 l.2 c.args.frame c.args.want c.args.kind l.3 w c.shed_entry-clock.ensures.hand c.requires.may)
 
 pub put_ref-requires-clause-gives : goal.put_ref-requires-clause-gives
@@ -57,7 +57,7 @@ put_ref-requires-clause-gives g c =
     let w = g.P.Port.value c.shed_entry-clock.new.port in
     let d = g.P.Port.value c.leave.new.port in
     dead_gives l.0 v c.args.table c.args.index l.1 l.2 c.args.frame c.args.want c.args.kind l.3 w c.shed_entry-clock.ensures.hand (sym c.is_table.ensures ∙ c.if-is_table.false) c.shed_entry-clock.result c.shed_entry-clock.ensures.moves d
-    (subst (λ k. Holds w d (left w c.args.frame k)) c.waiting_kind.ensures c.leave.ensures.hand)
+    (subst (λ k. Holds w d (left w c.args.frame k)) c.dead_kind.ensures c.leave.ensures.hand)
 
 pub returns-then-is_table-clause-goes : goal.returns-then-is_table-clause-goes
 returns-then-is_table-clause-goes g c b t word r owner pages =
@@ -77,7 +77,7 @@ returns-else-is_table-clause-hand g c b t word r =
       (
         word,
         dead_given b v c.args.table c.args.index t word c.args.frame c.args.want c.args.kind r w c.shed_entry-clock.ensures.hand (sym c.is_table.ensures ∙ c.if-is_table.false) c.shed_entry-clock.result c.shed_entry-clock.ensures.moves d
-            (subst (λ k. Holds w d (left w c.args.frame k)) c.waiting_kind.ensures c.leave.ensures.hand) (g.P.Port.value c.put_ref.new.port) c.put_ref.ensures.hand,
+            (subst (λ k. Holds w d (left w c.args.frame k)) c.dead_kind.ensures c.leave.ensures.hand) (g.P.Port.value c.put_ref.new.port) c.put_ref.ensures.hand,
       ),
       tt,
     )
@@ -91,7 +91,7 @@ returns-else-is_table-clause-goes g c b t word r owner pages =
     let may = dead_may b v c.args.table c.args.index t word c.args.frame c.args.want c.args.kind r w c.shed_entry-clock.ensures.hand (sym c.is_table.ensures ∙ c.if-is_table.false) c.shed_entry-clock.result c.shed_entry-clock.ensures.moves in
     memory_releases b v c.args.table c.args.index t word c.args.frame c.args.want c.args.kind r owner pages w d (g.P.Port.value c.put_ref.new.port) c.shed_entry-clock.result c.leave.result k
     (new b v c.args.table c.args.index t word c.args.frame c.args.want c.args.kind r) Given c.shed_entry-clock.ensures.moves
-    (subst (λ y. Moves w d (Kind c.args.frame) (Store (kind_write y)) kinds.Kind None c.leave.result) c.waiting_kind.ensures c.leave.ensures.moves)
+    (subst (λ y. Moves w d (Kind c.args.frame) (Store (kind_write y)) kinds.Kind None c.leave.result) c.dead_kind.ensures c.leave.ensures.moves)
     (shed_here b v c.args.table c.args.index t word c.args.frame c.args.want c.args.kind r w c.shed_entry-clock.ensures.hand) (new_in_work b v c.args.table c.args.index t word c.args.frame c.args.want c.args.kind r)
     (new_kind b v c.args.table c.args.index t word c.args.frame c.args.want c.args.kind r) may.is refl c.put_ref.ensures.serves
 
@@ -101,7 +101,7 @@ returns-else-is_table-clause-found g c b t word r =
     let w = g.P.Port.value c.shed_entry-clock.new.port in
     let d = g.P.Port.value c.leave.new.port in
     memory_found b v c.args.table c.args.index t word c.args.frame c.args.want c.args.kind r w d (g.P.Port.value c.put_ref.new.port) c.shed_entry-clock.result c.leave.result c.shed_entry-clock.ensures.moves
-    (subst (λ y. Moves w d (Kind c.args.frame) (Store (kind_write y)) kinds.Kind None c.leave.result) c.waiting_kind.ensures c.leave.ensures.moves) c.put_ref.ensures.puts (sym c.is_table.ensures ∙ c.if-is_table.false)
+    (subst (λ y. Moves w d (Kind c.args.frame) (Store (kind_write y)) kinds.Kind None c.leave.result) c.dead_kind.ensures c.leave.ensures.moves) c.put_ref.ensures.puts (sym c.is_table.ensures ∙ c.if-is_table.false)
 
 pub returns-then-is_table-clause-hand : goal.returns-then-is_table-clause-hand
 returns-then-is_table-clause-hand g c b t word r =
@@ -121,4 +121,4 @@ returns-else-is_table-clause-plain g c b t word r =
     let w = g.P.Port.value c.shed_entry-clock.new.port in
     let d = g.P.Port.value c.leave.new.port in
     memory_twin b (g.P.Port.value c.args.port.now) c.args.table c.args.index t word c.args.frame c.args.want c.args.kind r w d (g.P.Port.value c.put_ref.new.port) _ c.shed_entry-clock.result c.leave.result c.shed_entry-clock.ensures.moves
-    (subst (λ y. Moves w d (Kind c.args.frame) (Store (kind_write y)) kinds.Kind None c.leave.result) c.waiting_kind.ensures c.leave.ensures.moves) c.put_ref.ensures.plain (sym c.is_table.ensures ∙ c.if-is_table.false)
+    (subst (λ y. Moves w d (Kind c.args.frame) (Store (kind_write y)) kinds.Kind None c.leave.result) c.dead_kind.ensures c.leave.ensures.moves) c.put_ref.ensures.plain (sym c.is_table.ensures ∙ c.if-is_table.false)
