@@ -1,4 +1,5 @@
 -- The last recorded entry again: what its steps are and show, by what became of it.
+use Rattle.xp_board.specs.Hands.{work_on}
 use Rattle.std.proofs.Common.{◌≡◌, ℕ, ◌+◌, [], Bool, false, Some, None, Ok, Err, sym, ap, subst}
 use Rattle.xp_words.specs.Entries.{demand_at}
 use Rattle.xp_words.specs.declared.entry.Demand.TheVariants.{Typed}
@@ -29,7 +30,7 @@ live_goes b u v f i owner pages g _ goes (found word live inside m same is) = go
 
 live_more : (b u v : PortValue) (owner pages g : ℕ) (live : Bool) → NoMore (of_entries owner pages) u.holdings b.holdings → LooksLive u v g live → NoMore (of_entries owner pages) v.holdings b.holdings
 live_more b u v owner pages g _ more (outside past is) = subst (λ (x : PortValue). NoMore (of_entries owner pages) x.holdings b.holdings) (sym is) more
-live_more b u v owner pages g _ more (found word live inside m same is) = λ h. record { refs = rw (ap (λ (x : PortValue). x.holdings.refs) same) (more h).refs; typed = λ off. absurd cc }
+live_more b u v owner pages g _ more (found word live inside m same is) = λ h. record { refs = λ away. rw (ap (λ (x : PortValue). x.holdings.refs) same) ((more h).refs (λ asks. rw (ap (λ (x : PortValue). work_on h x.holdings.works) same) at (away asks))); works = λ none. (more h).works (rw (ap (λ (x : PortValue). work_on h x.holdings.works) same) at none); typed = λ off. absurd cc }
 
 live_came : (u v : PortValue) (g : ℕ) (live : Bool) → LooksLive u v g live → Came u v
 live_came u v g _ (outside past is) = subst (Came u) (sym is) (came_self u)
