@@ -167,7 +167,7 @@ module _ (v u : PortValue) (f w owner : ℕ) (allocated : Bool) (lower : Moves v
     pub does_last : Puts v x f
     does_last =
         let four = does_then u frees.a x (Only (visit Clock Load frees.stamp)) _ (does_one u frees.a _ _ _ _ _ frees.look)
-            (does_then frees.a frees.b x _ _ (does_one frees.a frees.b _ _ _ _ _ frees.bit) (does_then frees.b frees.d x _ _ (does_one frees.b frees.d _ _ _ _ _ frees.free) (does_one frees.d x _ _ _ _ _ frees.pages))) in
+        (does_then frees.a frees.b x _ _ (does_one frees.a frees.b _ _ _ _ _ frees.bit) (does_then frees.b frees.d x _ _ (does_one frees.b frees.d _ _ _ _ _ frees.free) (does_one frees.d x _ _ _ _ _ frees.pages))) in
         does_as v x _ (PutBy f) (λ vs steps. record { word = w; last = Some owner; of = (allocated, read); steps = steps })
         (does_then v u x (Only (lowers_refs f w)) (FreesBy f (Some owner)) (does_one v u _ _ _ _ _ lower)
         (does_as u x _ (FreesBy f (Some owner)) (λ vs steps. (frees.stamp, frees.x, frees.y, frees.z, four_are _ _ _ _ vs steps)) four))
