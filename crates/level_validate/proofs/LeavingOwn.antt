@@ -1,5 +1,5 @@
 -- The innermost table is left partial, and its type count goes into its `kept` mark, or into the entry that names it.
-use Rattle.std.proofs.Common.{◌≡◌, ℕ, ◌<◌, if◌then◌else◌, Bool, true, false, List, ◌∷◌, length, Some, None, IsTrue, refl, sym, ap, ◌∙◌, subst, arith, inl, inr}
+use Rattle.std.proofs.Common.{◌≡◌, ℕ, ◌<◌, Bool, true, false, List, ◌∷◌, length, Some, None, IsTrue, refl, sym, ap, ◌∙◌, subst, arith, inl, inr}
 use Rattle.xp_words.specs.Entries.{demand_at}
 use Rattle.xp_words.specs.KindWords.{is_kind, kind_write}
 use Rattle.xp_words.specs.PageTypes.{is_table}
@@ -15,13 +15,11 @@ use Rattle.xp_board.specs.declared.step.StepKind.TheVariants as kinds
 use Rattle.xp_board.specs.Acts.{left_by}
 use Rattle.xp_board.specs.Hands.{changed_work, typed_to, without_typed, without_work}
 use Rattle.xp_board.specs.Knowledge.{knows_partial}
-use Rattle.xp_board.specs.Lists.{changed_by}
 use Rattle.xp_board.specs.Marks.{leaves_unsettled}
 use Rattle.xp_board.specs.Readings.{is_partial_as}
 use Rattle.xp_board.specs.Settling.{HasLastDemand, demand_out, is_settled, settles_last}
 use Rattle.xp_board.specs.Told.{Post, PortValue}
 use Rattle.xp_board.proofs.Returned.{same_type}
-use Rattle.board_lemmas.proofs.Sums.{when_eq}
 use Rattle.step_maker.specs.Holds.{FlushedHolds, Holds, quiet}
 use Rattle.step_maker.specs.Moves.{Came, Moves}
 use Rattle.step_maker.proofs.Coming.{moves_came}

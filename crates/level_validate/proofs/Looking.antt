@@ -1,5 +1,5 @@
 -- A look at an entry of a frame in the own works changes nothing but what is known of that frame.
-use Rattle.std.proofs.Common.{◌≡◌, ◌≢◌, ℕ, ◌+◌, ◌<◌, if◌then◌else◌, false, List, [], ◌∷◌, Option, Some, None, IsTrue, refl, sym, ap, ◌∙◌, subst, arith}
+use Rattle.std.proofs.Common.{◌≡◌, ℕ, ◌+◌, ◌<◌, if◌then◌else◌, false, List, [], ◌∷◌, Option, Some, None, IsTrue, refl, sym, ap, ◌∙◌, subst, arith}
 use Rattle.xp_words.specs.KindWords.{kind_fields}
 use Rattle.xp_words.specs.Machine.{Machine}
 use Rattle.xp_words.specs.Places.{is_place, sizes_of}
@@ -18,7 +18,7 @@ use Rattle.xp_board.specs.Told.{Finds, Post, PortValue}
 use Rattle.board_lemmas.proofs.Counted.{type_below}
 use Rattle.board_lemmas.proofs.KindReadings.{work_count, work_unlive}
 use Rattle.board_lemmas.proofs.ListCounts.{first_by-none}
-use Rattle.board_lemmas.proofs.Sums.{when_eq, when_ne}
+use Rattle.board_lemmas.proofs.Sums.{when_eq}
 use Rattle.board_lemmas.proofs.WorkFacts.{Works, works_facts}
 use Rattle.board_lemmas.proofs.Works.{counted_alive, nobody_locks}
 use Rattle.step_maker.specs.Moves.{Came, Met, Moment, MovesBy, Ran}

@@ -9,7 +9,7 @@ use Rattle.xp_board.specs.declared.holdings.OwnerFound.TheVariants as owners
 use Rattle.xp_board.specs.declared.holdings.Reference.{Reference}
 use Rattle.xp_board.specs.declared.holdings.TypedReference.{TypedReference}
 use Rattle.xp_board.specs.declared.holdings.Work.{Work}
-use Rattle.xp_board.specs.Hands.{owner_by, owner_by_typed, owner_from, ref_owner, ref_to, refs_to, typed_on, typed_owner, typed_to}
+use Rattle.xp_board.specs.Hands.{owner_by, owner_from, ref_owner, ref_to, refs_to, typed_to}
 use Rattle.xp_board.specs.Settling.{is_settled, settles_last}
 use Rattle.xp_board.specs.Told.{Post, PortValue}
 use Rattle.board_lemmas.proofs.ListCounts.{first_by-cons_here, newest_held}

@@ -12,8 +12,10 @@ use Rattle.xp_board.specs.declared.holdings.Holdings.{Holdings}
 use Rattle.xp_board.specs.declared.holdings.Work.{Work}
 use Rattle.xp_board.specs.declared.step.Act.TheVariants.{Load}
 use Rattle.xp_board.specs.declared.step.StepKind.TheVariants as kinds
+use Rattle.xp_board.specs.After.{learned_work}
 use Rattle.xp_board.specs.Hands.{lock_on, work_on}
 use Rattle.xp_board.specs.Told.{PortValue}
+use Rattle.board_lemmas.proofs.Learned.{learned_frame}
 use Rattle.board_lemmas.proofs.ListCounts.{first_by-cons_here}
 use Rattle.step_maker.specs.Moves.{Met}
 use Rattle.step_maker.proofs.Coming.{moment_of, moves_met}
@@ -24,6 +26,7 @@ use Rattle.answer_fits.proofs.Piecing.{moves_serves}
 use Rattle.table_entries.specs.Asking.{LooksOnly, of_entries}
 use Rattle.table_entries.specs.Between.{SeesEntry}
 use Rattle.table_entries.specs.Tops.{WorksAtTop}
+use Rattle.table_entries.proofs.HandLists.{none_before}
 use Rattle.table_entries.proofs.PiecesLooking.{looks_step}
 use Rattle.table_entries.proofs.PiecesTaking.{Goes}
 
@@ -62,7 +65,13 @@ module _ (b u : PortValue) (f i : ℕ) (t : PageType) (word : ℕ) (looks : Sees
 
   -- nothing came into the hand
   pub look_more : (owner pages : ℕ) → NoMore (of_entries owner pages) u.holdings b.holdings
-  look_more owner pages g = record { refs = rw (ap (λ (x : PortValue). x.holdings.refs) looks.hand) (omega arith); typed = λ off. absurd cc }
+  look_more owner pages g =
+      record {
+        refs = λ away. rw (ap (λ (x : PortValue). x.holdings.refs) looks.hand) (omega arith);
+        works = λ away.
+            none_before (λ (y : Work). y.frame) g f (learned_work i word) b.holdings.works (learned_frame i word) (ap (λ (x : PortValue). work_on g x.holdings.works) (sym looks.hand) ∙ away);
+        typed = λ off. absurd cc;
+      }
 
   module _ (n owner pages : ℕ) (on : WorksAtTop f t n b.holdings) where
     look_asks : (g : ℕ) (want : Option PageType) → IsDemandOf g want (Some (demand_at t i word)) → Asked b.post.machine b.post.vcpu (of_entries owner pages) (Met b u) g owner want
