@@ -1,9 +1,5 @@
 -- A look at an entry of a table in the own works: the frame that it asks is asked of the call.
-use Rattle.board_lemmas.proofs.Learned.{learned_frame}
-use Rattle.board_lemmas.proofs.ListChanges.{first_by-changed_here, first_by-changed_other}
-use Rattle.xp_board.specs.After.{learned_work}
-use Rattle.std.proofs.lemmas.Bool.{cases_eq}
-use Rattle.std.proofs.Common.{◌≡◌, ℕ, ◌&&◌, not, if◌then◌else◌, arith, true, List, [], Option, Some, None, refl, sym, ap, ◌∙◌, subst, inl, inr}
+use Rattle.std.proofs.Common.{◌≡◌, ℕ, ◌&&◌, not, if◌then◌else◌, arith, true, List, [], Option, Some, None, refl, sym, ap, ◌∙◌, subst, inl}
 use Rattle.xp_words.specs.Entries.{demand_at}
 use Rattle.xp_words.specs.KindWords.{kind_fields}
 use Rattle.xp_words.specs.PageTypes.{is_table}
@@ -16,8 +12,10 @@ use Rattle.xp_board.specs.declared.holdings.Holdings.{Holdings}
 use Rattle.xp_board.specs.declared.holdings.Work.{Work}
 use Rattle.xp_board.specs.declared.step.Act.TheVariants.{Load}
 use Rattle.xp_board.specs.declared.step.StepKind.TheVariants as kinds
-use Rattle.xp_board.specs.Hands.{lock_on, work_on, changed_work}
+use Rattle.xp_board.specs.After.{learned_work}
+use Rattle.xp_board.specs.Hands.{lock_on, work_on}
 use Rattle.xp_board.specs.Told.{PortValue}
+use Rattle.board_lemmas.proofs.Learned.{learned_frame}
 use Rattle.board_lemmas.proofs.ListCounts.{first_by-cons_here}
 use Rattle.step_maker.specs.Moves.{Met}
 use Rattle.step_maker.proofs.Coming.{moment_of, moves_met}
@@ -28,6 +26,7 @@ use Rattle.answer_fits.proofs.Piecing.{moves_serves}
 use Rattle.table_entries.specs.Asking.{LooksOnly, of_entries}
 use Rattle.table_entries.specs.Between.{SeesEntry}
 use Rattle.table_entries.specs.Tops.{WorksAtTop}
+use Rattle.table_entries.proofs.HandLists.{none_before}
 use Rattle.table_entries.proofs.PiecesLooking.{looks_step}
 use Rattle.table_entries.proofs.PiecesTaking.{Goes}
 
@@ -45,18 +44,6 @@ module _ (f n : ℕ) (t : PageType) (h : Holdings) (on : WorksAtTop f t n h) whe
 
   held_owner : (owner pages : ℕ) → owner ≡ entry_owner (of_entries owner pages) (work_on f h.works) (lock_on f h.locks)
   held_owner owner pages = sym (ap (λ o. entry_owner (of_entries owner pages) o (lock_on f h.locks)) top_here)
-
--- a frame that the vCPU does not work on behind the look, it did not work on before
-unworked : (g f : ℕ) (change : Work → Work) (xs : List Work) → ((e : Work) → (change e).frame ≡ e.frame) → work_on g (changed_work f change xs) ≡ None → work_on g xs ≡ None
-unworked g f change xs same none =
-    elim (cases_eq g f) [
-      | inl at ↦ rw at (found_or (work_on f xs) refl (rw at at none))
-      | inr off ↦ sym (first_by-changed_other (λ (e : Work). e.frame) g f change xs same off) ∙ none
-    ]
-  where
-    found_or : (o : Option Work) → work_on f xs ≡ o → work_on f (changed_work f change xs) ≡ None → work_on f xs ≡ None
-    found_or None is gone = is
-    found_or (Some e) is gone = absurd (let here = first_by-changed_here (λ (e : Work). e.frame) f change xs e same is in cc)
 
 module _ (b u : PortValue) (f i : ℕ) (t : PageType) (word : ℕ) (looks : SeesEntry b u f i t word) where
   pub look_found : FoundWith (Met b u) (Cell f i) word b.holdings
@@ -81,7 +68,8 @@ module _ (b u : PortValue) (f i : ℕ) (t : PageType) (word : ℕ) (looks : Sees
   look_more owner pages g =
       record {
         refs = λ away. rw (ap (λ (x : PortValue). x.holdings.refs) looks.hand) (omega arith);
-        works = λ none. unworked g f (learned_work i word) b.holdings.works (λ e. learned_frame i word e) (rw (ap (λ (x : PortValue). work_on g x.holdings.works) looks.hand) at none);
+        works = λ away.
+            none_before (λ (y : Work). y.frame) g f (learned_work i word) b.holdings.works (learned_frame i word) (ap (λ (x : PortValue). work_on g x.holdings.works) (sym looks.hand) ∙ away);
         typed = λ off. absurd cc;
       }
 

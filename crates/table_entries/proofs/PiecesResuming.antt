@@ -1,6 +1,5 @@
 -- The last recorded entry again: what its steps are and show, by what became of it.
-use Rattle.xp_board.specs.Hands.{work_on}
-use Rattle.std.proofs.Common.{◌≡◌, ℕ, ◌+◌, [], Bool, false, Some, None, Ok, Err, sym, ap, subst}
+use Rattle.std.proofs.Common.{◌≡◌, ℕ, ◌+◌, [], Bool, false, Some, None, Ok, Err, sym, ap, ◌∙◌, subst}
 use Rattle.xp_words.specs.Entries.{demand_at}
 use Rattle.xp_words.specs.declared.entry.Demand.TheVariants.{Typed}
 use Rattle.xp_words.specs.declared.kind.PageType.{PageType}
@@ -8,6 +7,7 @@ use Rattle.xp_words.specs.declared.place.Place.TheVariants.{Kind}
 use Rattle.xp_words.specs.declared.reply.Stop.{Stop}
 use Rattle.xp_board.specs.declared.step.Act.TheVariants.{Load}
 use Rattle.xp_board.specs.declared.step.StepKind.TheVariants as kinds
+use Rattle.xp_board.specs.Hands.{work_on}
 use Rattle.xp_board.specs.Told.{PortValue}
 use Rattle.step_maker.specs.Moves.{Came, Met}
 use Rattle.step_maker.proofs.Coming.{came_self, moves_came}
@@ -30,7 +30,13 @@ live_goes b u v f i owner pages g _ goes (found word live inside m same is) = go
 
 live_more : (b u v : PortValue) (owner pages g : ℕ) (live : Bool) → NoMore (of_entries owner pages) u.holdings b.holdings → LooksLive u v g live → NoMore (of_entries owner pages) v.holdings b.holdings
 live_more b u v owner pages g _ more (outside past is) = subst (λ (x : PortValue). NoMore (of_entries owner pages) x.holdings b.holdings) (sym is) more
-live_more b u v owner pages g _ more (found word live inside m same is) = λ h. record { refs = λ away. rw (ap (λ (x : PortValue). x.holdings.refs) same) ((more h).refs (λ asks. rw (ap (λ (x : PortValue). work_on h x.holdings.works) same) at (away asks))); works = λ none. (more h).works (rw (ap (λ (x : PortValue). work_on h x.holdings.works) same) at none); typed = λ off. absurd cc }
+live_more b u v owner pages g _ more (found word live inside m same is) = λ h.
+    let works = ap (λ (x : PortValue). work_on h x.holdings.works) same in
+    record {
+      refs = λ away. rw (ap (λ (x : PortValue). x.holdings.refs) same) ((more h).refs (λ asks. sym works ∙ away asks));
+      works = λ away. (more h).works (sym works ∙ away);
+      typed = λ off. absurd cc;
+    }
 
 live_came : (u v : PortValue) (g : ℕ) (live : Bool) → LooksLive u v g live → Came u v
 live_came u v g _ (outside past is) = subst (Came u) (sym is) (came_self u)
