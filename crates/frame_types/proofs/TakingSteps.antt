@@ -21,7 +21,7 @@ use Rattle.answer_fits.proofs.Visiting.{does_as, does_nothing, does_one, does_th
 use Rattle.flush_waits.specs.Waiting.{WaitedFor}
 use Rattle.frame_words.specs.Freeing.{PutBy, Puts}
 use Rattle.kind_words.specs.Kinds.{live_kind, work_kind}
-use Rattle.frame_types.specs.Found.{EndsBy, Finishes, GoesBy, GoesOn, IsWayOn, StoresKind, TakesBy, TakesFound, TypeBy, WaitsOf, is_kept_by, next_kind, saw_kind, swaps_kind}
+use Rattle.frame_types.specs.Found.{EndsBy, Finishes, GoesBy, Proceeds, IsWayOn, StoresKind, TakesBy, TakesFound, TypeBy, WaitsOf, is_kept_by, next_kind, saw_kind, swaps_kind}
 use Rattle.frame_types.specs.Plain.{IsTakenBy, is_own, is_read_first, stop_by, type_stop, waits_by}
 use Rattle.frame_types.specs.Standing.{standing_of}
 use Rattle.frame_types.specs.Taking.{IsDone, Looked, progress_of}
@@ -53,23 +53,23 @@ goes_as_it_was v f want marked own recorded first progress so off = (
 )
 
 module _ (v u w : PortValue) (f : ℕ) (want : PageType) (marked own : Bool) (stamp recorded : ℕ) where
-  goes_then : (t : Taken) → Does v u (λ vs. WaitsOf marked stamp t vs) → Finishes u w f want marked own recorded t → GoesOn v w f want marked stamp own recorded t
+  goes_then : (t : Taken) → Does v u (λ vs. WaitsOf marked stamp t vs) → Finishes u w f want marked own recorded t → Proceeds v w f want marked stamp own recorded t
   goes_then t waits goes = (goes.0, does_then v u w (λ vs. WaitsOf marked stamp t vs) (λ vs. EndsBy f want marked own t vs) waits goes.1)
 
   -- behind its flush
-  pub goes_behind : (t : Taken) → IsDone t → marked ≡ true → Does v u Waited → Finishes u w f want marked own recorded t → GoesOn v w f want marked stamp own recorded t
+  pub goes_behind : (t : Taken) → IsDone t → marked ≡ true → Does v u Waited → Finishes u w f want marked own recorded t → Proceeds v w f want marked stamp own recorded t
   goes_behind Counted done on flushed goes = goes_then Counted (subst (λ m. Does v u (λ vs. WaitsOf m stamp Counted vs)) (sym on) flushed) goes
   goes_behind (InWork progress mine) done on flushed goes = goes_then (InWork progress mine) (subst (λ m. Does v u (λ vs. WaitsOf m stamp (InWork progress mine) vs)) (sym on) flushed) goes
   goes_behind (Waiting mine awaited stop) done on flushed goes = absurd done
 
 -- where it waits for none
-pub goes_at_once : (v w : PortValue) (f : ℕ) (want : PageType) (marked own : Bool) (stamp recorded : ℕ) (t : Taken) → marked ≡ false → Finishes v w f want marked own recorded t → GoesOn v w f want marked stamp own recorded t
+pub goes_at_once : (v w : PortValue) (f : ℕ) (want : PageType) (marked own : Bool) (stamp recorded : ℕ) (t : Taken) → marked ≡ false → Finishes v w f want marked own recorded t → Proceeds v w f want marked stamp own recorded t
 goes_at_once v w f want marked own stamp recorded t off goes =
     goes_then v v w f want marked own stamp recorded t (subst (λ m. Does v v (λ vs. WaitsOf m stamp t vs)) (sym off) (does_nothing v)) goes
 
 -- where its flush is not to be had
 pub goes_nowhere : (v w : PortValue) (f : ℕ) (want : PageType) (marked own : Bool) (stamp recorded : ℕ) (stop : Stop) → marked ≡ true → Does v w (λ vs. WaitedFor stamp (Err stop) vs) →
-    GoesOn v w f want marked stamp own recorded (Waiting own stamp stop)
+    Proceeds v w f want marked stamp own recorded (Waiting own stamp stop)
 goes_nowhere v w f want marked own stamp recorded stop on waits =
     goes_then v w w f want marked own stamp recorded (Waiting own stamp stop)
     (subst (λ m. Does v w (λ vs. WaitsOf m stamp (Waiting own stamp stop) vs)) (sym on) (does_as v w _ (λ vs. WaitsOf true stamp (Waiting own stamp stop) vs) (λ vs steps. (refl, steps)) waits)) ((on, refl), does_nothing w)
@@ -159,18 +159,18 @@ module _ (b v : PortValue) (f owner : ℕ) (want : PageType) (word : ℕ) (l : L
       taken stands.Counted stand w Counted refl refl (subst (λ y. Does v w (Only (swaps_kind f word (next_kind y want stands.Counted) word))) (sym of) (won stands.Counted stand w step))
 
   pub dead_found : (x w : PortValue) (t : Taken) → standing_of k want ≡ stands.Dead → Moves v x (Kind f) (Cas (kind_write k) (kind_write (begun_kind k want))) kinds.Kind None (kind_write k) →
-      GoesOn x w f want (is_stale k want) k.number true (progress_of k) t → TakesFound b w f want (Ok t)
+      Proceeds x w f want (is_stale k want) k.number true (progress_of k) t → TakesFound b w f want (Ok t)
   dead_found x w t stand step goes = taken stands.Dead stand w t refl (dead_way want k t goes.0) (worked stands.Dead stand x x w t step (does_nothing x) goes.1)
 
   module _ (x : PortValue) (stand : standing_of k want ≡ stands.Partial) (step : Moves v x (Kind f) (Cas (kind_write k) (kind_write (resumed_kind k))) kinds.Kind None (kind_write k)) where
-    resumed_found : (y w : PortValue) (t : Taken) (own : Bool) → k.kept ≡ own → Does x y (λ vs. Where own (PutBy f) vs) → GoesOn y w f want k.unflushed k.number own (progress_of k) t → TakesFound b w f want (Ok t)
+    resumed_found : (y w : PortValue) (t : Taken) (own : Bool) → k.kept ≡ own → Does x y (λ vs. Where own (PutBy f) vs) → Proceeds y w f want k.unflushed k.number own (progress_of k) t → TakesFound b w f want (Ok t)
     resumed_found y w t own kept puts goes =
-        let on : GoesOn y w f want k.unflushed k.number k.kept (progress_of k) t = subst (λ o. GoesOn y w f want k.unflushed k.number o (progress_of k) t) (sym kept) goes in
+        let on : Proceeds y w f want k.unflushed k.number k.kept (progress_of k) t = subst (λ o. Proceeds y w f want k.unflushed k.number o (progress_of k) t) (sym kept) goes in
         taken stands.Partial stand w t refl (partial_way want k t on.0)
         (worked stands.Partial stand x y w t step (subst (λ o. Does x y (λ vs. Where o (PutBy f) vs)) (sym kept) puts) on.1)
 
-    pub unkept_found : (w : PortValue) (t : Taken) → k.kept ≡ false → GoesOn x w f want k.unflushed k.number false (progress_of k) t → TakesFound b w f want (Ok t)
+    pub unkept_found : (w : PortValue) (t : Taken) → k.kept ≡ false → Proceeds x w f want k.unflushed k.number false (progress_of k) t → TakesFound b w f want (Ok t)
     unkept_found w t unkept goes = resumed_found x w t false unkept (does_nothing x) goes
 
-    pub kept_found : (y w : PortValue) (t : Taken) → k.kept ≡ true → Puts x y f → GoesOn y w f want k.unflushed k.number true (progress_of k) t → TakesFound b w f want (Ok t)
+    pub kept_found : (y w : PortValue) (t : Taken) → k.kept ≡ true → Puts x y f → Proceeds y w f want k.unflushed k.number true (progress_of k) t → TakesFound b w f want (Ok t)
     kept_found y w t kept puts goes = resumed_found y w t true kept puts goes

@@ -63,8 +63,8 @@ EndsBy f want marked own (Waiting mine stamp stop) vs = Nothing vs
 abbrev pub GoesBy : ℕ → PageType → Bool → ℕ → Bool → Taken → List Visit → Type 0
 GoesBy f want marked stamp own t vs = Then (λ ws. WaitsOf marked stamp t ws) (λ es. EndsBy f want marked own t es) vs
 
-abbrev pub GoesOn : PortValue → PortValue → ℕ → PageType → Bool → ℕ → Bool → ℕ → Taken → Type 0
-GoesOn v w f want marked stamp own recorded t = IsWayOn want marked own recorded t × Does v w (λ vs. GoesBy f want marked stamp own t vs)
+abbrev pub Proceeds : PortValue → PortValue → ℕ → PageType → Bool → ℕ → Bool → ℕ → Taken → Type 0
+Proceeds v w f want marked stamp own recorded t = IsWayOn want marked own recorded t × Does v w (λ vs. GoesBy f want marked stamp own t vs)
 
 abbrev pub Finishes : PortValue → PortValue → ℕ → PageType → Bool → Bool → ℕ → Taken → Type 0
 Finishes v w f want marked own recorded t = IsWayOn want marked own recorded t × Does v w (λ vs. EndsBy f want marked own t vs)

@@ -7,7 +7,7 @@ ghost use Rattle.step_maker.specs.Holds.{MayWork, Same};
 ghost use Rattle.answer_fits.specs.Answers.{Deed, Serves, Stops, misses};
 ghost use Rattle.answer_fits.specs.Asked.{of_frame};
 ghost use Rattle.flush_waits.specs.Waiting.{IsFlushed};
-ghost use Rattle.frame_types.specs.Found.{Finishes, GoesOn, TakesFound};
+ghost use Rattle.frame_types.specs.Found.{Finishes, Proceeds, TakesFound};
 ghost use Rattle.frame_types.specs.Plain.{TwinOn, TwinTake};
 ghost use Rattle.frame_types.specs.Taking.{HasEntered, HoldsOn, IsDone, IsLooked, IsOfOther, IsTypeStop, LeavesLive, LentBy, Looked, ServesOn, ShowsWait, Takes, TakesAs, WaitsOn, progress_of};
 
@@ -133,7 +133,7 @@ fn go_on<P: Port>(
     ensures waits { WaitsOn (P.value port.old) (P.value port.new) frame owner want marked kind.number result }
     ensures hand { HoldsOn (P.value port.old) (P.value port.new) frame owner want marked kind own result }
     ensures live { LeavesLive (P.value port.old) (P.value port.new) frame result }
-    ensures visits { GoesOn (P.value port.old) (P.value port.new) frame want marked kind.number own (progress_of kind) result }
+    ensures visits { Proceeds (P.value port.old) (P.value port.new) frame want marked kind.number own (progress_of kind) result }
     ensures plain { TwinOn (P.value port.old) (P.value port.new) frame want marked own (progress_of kind) result }
 {
     if marked {

@@ -28,7 +28,7 @@ use Rattle.frame_types.specs.declared.standing.Standing.TheVariants as stands
 use Rattle.frame_types.specs.declared.taking.Taken.{Taken}
 use Rattle.frame_types.specs.declared.taking.Taken.TheVariants.{InWork}
 use Rattle.frame_words.specs.Refs.{TakesFirst, had, stopped}
-use Rattle.table_entries.specs.Found.{AgainBy, EnteredBy, EntersBy, EntersFound, ResumedBy, ResumesBy, ResumesFound, TypedAgain, TypedBy, other, outside, settled}
+use Rattle.table_entries.specs.Found.{LastBy, EnteredBy, EntersBy, EntersFound, ResumedBy, ResumesBy, ResumesFound, TypedAgain, TypedBy, other, outside, settled}
 use Rattle.table_entries.specs.declared.entries.Entered.TheVariants.{Opened}
 use Rattle.table_entries.specs.declared.resuming.Resumed.{Resumed}
 use Rattle.table_entries.specs.declared.resuming.Resumed.TheVariants as again
@@ -114,7 +114,7 @@ module _ (v w : PortValue) (f i : ℕ) (t : PageType) (owner : ℕ) (answer : Re
     again_asked h want is vs each (stopped e gave got) = absurd cc
     again_asked h want is vs each (had steps) = typed h want is steps.after (each_next (WasFound v w) _ _ vs steps each) steps.next
 
-    again_last : (h : ℕ) (want : PageType) → want ≡ below t → (vs : List Visit) → EachOf (WasFound v w) vs → AgainBy v.post.machine h want owner (Ok answer) vs → C
+    again_last : (h : ℕ) (want : PageType) → want ≡ below t → (vs : List Visit) → EachOf (WasFound v w) vs → LastBy v.post.machine h want owner (Ok answer) vs → C
     again_last h want is vs each (settled x real live gave saw) = stands (let k = gave in cc)
     again_last h want is vs each (outside past way) = again_asked h want is vs each way
     again_last h want is vs each (other x real live steps) = again_asked h want is steps.after (each_next (WasFound v w) _ _ vs steps each) steps.next

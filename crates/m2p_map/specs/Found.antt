@@ -13,9 +13,9 @@ abbrev pub StoresM2p : ℕ → ℕ → List Visit → Type 0
 StoresM2p f gpfn vs = (found : ℕ) × Only (visit (M2p f) (Store gpfn) found) vs
 
 -- a reference, the word, and the reference given back
-abbrev pub SetBy : Machine → ℕ → ℕ → ℕ → Result (Unit {0}) Stop → List Visit → Type 0
-SetBy n f owner gpfn (Ok done) vs = Then (λ gs. GetsBy {A = ℕ} n f owner (Ok f) gs) (Then (StoresM2p f gpfn) (PutBy f)) vs
-SetBy n f owner gpfn (Err e) vs = GetsBy {A = ℕ} n f owner (Err e) vs
+abbrev pub MapsBy : Machine → ℕ → ℕ → ℕ → Result (Unit {0}) Stop → List Visit → Type 0
+MapsBy n f owner gpfn (Ok done) vs = Then (λ gs. GetsBy {A = ℕ} n f owner (Ok f) gs) (Then (StoresM2p f gpfn) (PutBy f)) vs
+MapsBy n f owner gpfn (Err e) vs = GetsBy {A = ℕ} n f owner (Err e) vs
 
 abbrev pub SetFound : PortValue → PortValue → ℕ → ℕ → ℕ → Result (Unit {0}) Stop → Type 0
-SetFound v w f owner gpfn answer = Does v w (λ vs. SetBy v.post.machine f owner gpfn answer vs)
+SetFound v w f owner gpfn answer = Does v w (λ vs. MapsBy v.post.machine f owner gpfn answer vs)

@@ -11,7 +11,7 @@ use Rattle.xp_board.specs.Told.{PortValue}
 use Rattle.answer_fits.specs.Visits.{Visit, visit, Does, Nothing, Only, Then}
 use Rattle.frame_words.specs.Refs.{TakesFirst}
 use Rattle.frame_types.specs.Found.{DropsBy, MemoryBy}
-use Rattle.m2p_map.specs.Found.{SetBy}
+use Rattle.m2p_map.specs.Found.{MapsBy}
 use Rattle.mmu_update.specs.declared.element.Element.{Element}
 use Rattle.mmu_update.specs.declared.element.Element.TheVariants.{SetM2p, Write, Misaligned, Unknown}
 
@@ -32,7 +32,7 @@ WriteFound v w d f i word answer = Does v w (λ vs. WriteBy v.post.machine d f i
 
 -- ---- an element
 abbrev pub UpdateBy : Machine → ℕ → Element → Result (Unit {0}) Stop → List Visit → Type 0
-UpdateBy n d (SetM2p f gpfn) answer vs = SetBy n f d gpfn answer vs
+UpdateBy n d (SetM2p f gpfn) answer vs = MapsBy n f d gpfn answer vs
 UpdateBy n d (Write f i word) answer vs = WriteBy n d f i word answer vs
 UpdateBy n d Misaligned answer vs = (answer ≡ Err (Refused BadRange)) × Nothing vs
 UpdateBy n d Unknown answer vs = (answer ≡ Err (Refused BadCommand)) × Nothing vs

@@ -16,7 +16,7 @@ use Rattle.frame_words.proofs.Getting.{first_had, first_stopped}
 use Rattle.frame_types.specs.Found.{TakesFound, TakesOf, saw_kind}
 use Rattle.frame_types.specs.declared.taking.Taken.TheVariants as types
 use Rattle.table_entries.specs.Between.{LooksLive, SeesEntry, found, outside}
-use Rattle.table_entries.specs.Found.{AgainBy, ResumedBy, ResumesBy, ResumesFound, TypedAgain, saw_cell, other, outside as unreal, settled}
+use Rattle.table_entries.specs.Found.{LastBy, ResumedBy, ResumesBy, ResumesFound, TypedAgain, saw_cell, other, outside as unreal, settled}
 use Rattle.table_entries.specs.declared.resuming.Resumed.{Resumed}
 use Rattle.table_entries.specs.declared.resuming.Resumed.TheVariants as again
 use Rattle.table_entries.proofs.FoundEntering.{does_before, looked_cell, refuses}
@@ -55,20 +55,20 @@ module _ (b u : PortValue) (f i : ℕ) (t : PageType) (word : ℕ) (looks : Sees
 
   module _ (g : ℕ) (want : PageType) (asks : demand_at t i word ≡ Typed g want) (v : PortValue) where
     -- its frame is live
-    live_by : LooksLive u v g true → Does u v (λ vs. AgainBy u.post.machine g want owner (Ok again.Settled) vs)
-    live_by (found x _ inside m same is) = does_as u v (Only (saw_kind g x)) (λ vs. AgainBy u.post.machine g want owner (Ok again.Settled) vs) (λ vs one. settled x inside is refl one) (does_one u v _ _ _ _ x m)
+    live_by : LooksLive u v g true → Does u v (λ vs. LastBy u.post.machine g want owner (Ok again.Settled) vs)
+    live_by (found x _ inside m same is) = does_as u v (Only (saw_kind g x)) (λ vs. LastBy u.post.machine g want owner (Ok again.Settled) vs) (λ vs one. settled x inside is refl one) (does_one u v _ _ _ _ x m)
 
     pub live_found : LooksLive u v g true → ResumesFound b v f i t owner (Ok again.Settled)
     live_found is = resumes_by (Typed g want) asks v (Ok again.Settled) (live_by is)
 
     -- or it is not, and is taken again
     module _ (w : PortValue) (answer : Result Resumed Stop) where
-      other_by : LooksLive u v g false → Does v w (λ vs. TakesFirst v.post.machine g owner (λ ts. TypedAgain v.post.machine g want answer ts) answer vs) → Does u w (λ vs. AgainBy u.post.machine g want owner answer vs)
+      other_by : LooksLive u v g false → Does v w (λ vs. TakesFirst v.post.machine g owner (λ ts. TypedAgain v.post.machine g want answer ts) answer vs) → Does u w (λ vs. LastBy u.post.machine g want owner answer vs)
       other_by (outside past is) rest =
-          does_as u w (λ vs. TakesFirst u.post.machine g owner (λ ts. TypedAgain u.post.machine g want answer ts) answer vs) (λ vs. AgainBy u.post.machine g want owner answer vs) (λ vs first. unreal past first)
+          does_as u w (λ vs. TakesFirst u.post.machine g owner (λ ts. TypedAgain u.post.machine g want answer ts) answer vs) (λ vs. LastBy u.post.machine g want owner answer vs) (λ vs first. unreal past first)
           (subst (λ (q : PortValue). Does q w (λ vs. TakesFirst q.post.machine g owner (λ ts. TypedAgain q.post.machine g want answer ts) answer vs)) is rest)
       other_by (found x _ inside m same is) rest =
-          does_as u w (Then (Only (saw_kind g x)) (λ gs. TakesFirst u.post.machine g owner (λ ts. TypedAgain u.post.machine g want answer ts) answer gs)) (λ vs. AgainBy u.post.machine g want owner answer vs)
+          does_as u w (Then (Only (saw_kind g x)) (λ gs. TakesFirst u.post.machine g owner (λ ts. TypedAgain u.post.machine g want answer ts) answer gs)) (λ vs. LastBy u.post.machine g want owner answer vs)
           (λ vs steps. other x inside is steps)
           (does_next u v w (Only (saw_kind g x)) (λ n gs. TakesFirst n g owner (λ ts. TypedAgain n g want answer ts) answer gs) (does_one u v _ _ _ _ x m) rest)
 

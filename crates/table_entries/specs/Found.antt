@@ -87,14 +87,14 @@ TypedAgain n g t (Ok (again.Waiting f own stamp stop)) vs = (f ≡ g) × TakesOf
 TypedAgain n g t (Err e) vs = RefusesBy n g t e vs
 
 -- the frame was found live; or the machine has no such frame, or it was found otherwise, and its type is taken again
-pub data AgainBy (n : Machine) (g : ℕ) (t : PageType) (owner : ℕ) (answer : Result Resumed Stop) (vs : List Visit) : Type 0 where
-  settled : (x : ℕ) → g < n.frames → is_live_word x ≡ true → answer ≡ Ok again.Settled → Only (saw_kind g x) vs → AgainBy n g t owner answer vs
-  outside : n.frames ≤ g → TakesFirst n g owner (λ ts. TypedAgain n g t answer ts) answer vs → AgainBy n g t owner answer vs
+pub data LastBy (n : Machine) (g : ℕ) (t : PageType) (owner : ℕ) (answer : Result Resumed Stop) (vs : List Visit) : Type 0 where
+  settled : (x : ℕ) → g < n.frames → is_live_word x ≡ true → answer ≡ Ok again.Settled → Only (saw_kind g x) vs → LastBy n g t owner answer vs
+  outside : n.frames ≤ g → TakesFirst n g owner (λ ts. TypedAgain n g t answer ts) answer vs → LastBy n g t owner answer vs
   other : (x : ℕ) → g < n.frames → is_live_word x ≡ false → Then (Only (saw_kind g x)) (λ gs. TakesFirst n g owner (λ ts. TypedAgain n g t answer ts) answer gs) vs →
-      AgainBy n g t owner answer vs
+      LastBy n g t owner answer vs
 
 abbrev pub ResumesBy : Machine → ℕ → Result Resumed Stop → Demand → List Visit → Type 0
-ResumesBy n owner answer (demands.Typed g t) vs = AgainBy n g t owner answer vs
+ResumesBy n owner answer (demands.Typed g t) vs = LastBy n g t owner answer vs
 ResumesBy n owner answer _ vs = (answer ≡ Ok again.Settled) × Nothing vs
 
 abbrev pub ResumedBy : Machine → ℕ → ℕ → PageType → ℕ → Result Resumed Stop → List Visit → Type 0

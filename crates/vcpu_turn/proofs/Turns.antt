@@ -11,7 +11,7 @@ use Rattle.step_maker.specs.Moves.{Came}
 use Rattle.step_maker.proofs.Coming.{came_self, came_trans, came_post, moves_came}
 use Rattle.flush_words.proofs.Flushed.{own_came}
 use Rattle.vcpu_turn.specs.Cpus.{Processing, end_of, after_turn}
-use Rattle.vcpu_turn.specs.Turning.{Begins, Heeds, Does, EndsTurn, Idles, IsOf, IsTurn, MakesStop, TurnBy, Worked, WorkedBy}
+use Rattle.vcpu_turn.specs.Turning.{Begins, Heeds, DoesNext, EndsTurn, Idles, IsOf, IsTurn, MakesStop, TurnBy, Worked, WorkedBy}
 use Rattle.vcpu_turn.specs.declared.cpu.TurnEnd.{TurnEnd}
 use Rattle.vcpu_turn.specs.declared.cpu.TurnEnd.TheVariants as ends
 
@@ -70,7 +70,7 @@ module _ (v a b w : PortValue) (c c1 c2 : Processing) (before after : ℕ) (begi
         begun = a;
         worked = b;
         begins = begins;
-        does = subst (λ o. Does c o c2 a b before after ends.Retired) (sym h.0)
+        does = subst (λ o. DoesNext c o c2 a b before after ends.Retired) (sym h.0)
             (record { no_step = h.2; no_ask = h.3; end_is = refl; cpu = stop.cpu ∙ ap (λ (x : Processing). record x { retired = true }) h.1 });
         ends = stop.stop;
       }
@@ -85,7 +85,7 @@ module _ (v a b w : PortValue) (c c1 c2 : Processing) (before after : ℕ) (begi
         begun = a;
         worked = b;
         begins = begins;
-        does = subst (λ o. Does c o c2 a b before after end) (sym h.next)
+        does = subst (λ o. DoesNext c o c2 a b before after end) (sym h.next)
             (record {
               to = c1.done;
               answer = answer;

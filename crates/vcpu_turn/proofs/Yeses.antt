@@ -9,7 +9,7 @@ use Rattle.xp_preempt.specs.Gates.{last_ask, next_ask}
 use Rattle.xp_words.specs.declared.ops.Op.{Op}
 use Rattle.xp_words.specs.declared.ops.Pair.{Pair}
 use Rattle.vcpu_turn.specs.Cpus.{Processing, end_of, pairs_of}
-use Rattle.vcpu_turn.specs.Turning.{CountsAsks, Does, GoesNoFurther, IsTurn, is_due}
+use Rattle.vcpu_turn.specs.Turning.{CountsAsks, DoesNext, GoesNoFurther, IsTurn, is_due}
 use Rattle.vcpu_turn.specs.Working.{PairFits, Works, no_asks}
 use Rattle.vcpu_turn.specs.declared.cpu.TurnEnd.{TurnEnd}
 use Rattle.vcpu_turn.specs.Lists.{Fitting, Asking, Heard, WorksOn, asks_between, asks_on, is_due_by}
@@ -120,7 +120,7 @@ module _ (d from : ℕ) (pairs : List Pair) (v w : PortValue) where
 pub turn_asks : (c c' : Processing) (op : Op) (pairs : List Pair) (end : TurnEnd) (v w : PortValue) (before after : ℕ) →
     slice_get c.script (length c.log) ≡ Some op → pairs_of op ≡ Some pairs → length pairs ≤ 512 → IsTurn c c' end v w before after → CountsAsks c.done end before after
 turn_asks c c' op pairs end v w before after next built most turn =
-    let on = subst (λ o. Does c o c' turn.begun turn.worked before after end) next turn.does in
+    let on = subst (λ o. DoesNext c o c' turn.begun turn.worked before after end) next turn.does in
     let works = subst (λ o. Works c.domain o turn.begun turn.worked c.done on.to before after on.answer) built on.works in
     record { to = on.to; answer = on.answer; end_is = on.end_is; asks = list_asks c.domain c.done pairs turn.begun turn.worked on.to before after on.answer most works }
 
@@ -137,7 +137,7 @@ pub turn_never_past : (c c' : Processing) (op : Op) (pairs : List Pair) (end : T
     slice_get c.script (length c.log) ≡ Some op → pairs_of op ≡ Some pairs → length pairs ≤ 512 → IsTurn c c' end v w before after → Heard says before after (is_due end) →
     (j : ℕ) → 0 < j → before + j < last_ask → says (before + j) ≡ true → GoesNoFurther c c' end (c.done + j)
 turn_never_past c c' op pairs end v w before after says next built most turn heard j some less is_yes =
-    let on = subst (λ o. Does c o c' turn.begun turn.worked before after end) next turn.does in
+    let on = subst (λ o. DoesNext c o c' turn.begun turn.worked before after end) next turn.does in
     let works = subst (λ o. Works c.domain o turn.begun turn.worked c.done on.to before after on.answer) built on.works in
     let hears : Heard says before after (is_due_by on.answer) = subst (λ b. Heard says before after b) (ap is_due on.end_is ∙ due_same on.to on.answer) heard in
     record { to = on.to; answer = on.answer; end_is = on.end_is; cpu = on.cpu; within = list_within c.domain c.done pairs turn.begun turn.worked on.to before after on.answer most works says hears j some less is_yes }

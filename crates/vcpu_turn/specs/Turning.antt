@@ -68,9 +68,9 @@ pub record Retires (c c' : Processing) (v w : PortValue) (before after : ℕ) (e
   pub end_is : end ≡ ends.Retired
   pub cpu : c' ≡ record c { retired = true }
 
-abbrev pub Does : Processing → Option Op → Processing → PortValue → PortValue → ℕ → ℕ → TurnEnd → Type 0
-Does c (Some op) c' v w before after end = GoesOnWith c op c' v w before after end
-Does c None c' v w before after end = Retires c c' v w before after end
+abbrev pub DoesNext : Processing → Option Op → Processing → PortValue → PortValue → ℕ → ℕ → TurnEnd → Type 0
+DoesNext c (Some op) c' v w before after end = GoesOnWith c op c' v w before after end
+DoesNext c None c' v w before after end = Retires c c' v w before after end
 
 -- ---- all of it
 -- from v to w a vCPU that is not retired made a turn
@@ -78,7 +78,7 @@ pub record IsTurn (c c' : Processing) (end : TurnEnd) (v w : PortValue) (before 
   pub begun : PortValue
   pub worked : PortValue
   pub begins : Begins v begun
-  pub does : Does c (slice_get c.script (length c.log)) c' begun worked before after end
+  pub does : DoesNext c (slice_get c.script (length c.log)) c' begun worked before after end
   pub ends : EndsTurn end worked w
 
 -- In a turn a list whose items ask nothing went on from element `from` to element `to`, and ended so; and the gate was asked so often.
@@ -135,9 +135,9 @@ pub record MakesStop (c c' : Processing) (v w : PortValue) : Type 0 where
   pub stop : IsStop v w
   pub cpu : c' ≡ record c { retired = true }
 
-abbrev pub StopsBy : Bool → Processing → Processing → PortValue → PortValue → Type 0
-StopsBy true c c' v w = (c' ≡ c) × (w ≡ v)
-StopsBy false c c' v w = MakesStop c c' v w
+abbrev pub StopsWhere : Bool → Processing → Processing → PortValue → PortValue → Type 0
+StopsWhere true c c' v w = (c' ≡ c) × (w ≡ v)
+StopsWhere false c c' v w = MakesStop c c' v w
 
 -- ---- a vCPU whose next operation goes on
 pub record Worked (op : Op) (c c' : Processing) (v w : PortValue) (before after : ℕ) (answer : Result (Unit {0}) Stop) : Type 0 where

@@ -3,7 +3,7 @@ ghost use Rattle.xp_board.specs.Readings.{domain_of};
 ghost use Rattle.step_maker.specs.Holds.{Rests};
 ghost use Rattle.vcpu_turn.specs.Cpus.{reply_of, end_of, after_turn};
 ghost use Rattle.vcpu_turn.specs.Lists.{Heard};
-ghost use Rattle.vcpu_turn.specs.Turning.{EndsTurn, Idles, TurnBy, IsOf, MakesStop, StopsBy, WorkedBy, asks_due, is_due};
+ghost use Rattle.vcpu_turn.specs.Turning.{EndsTurn, Idles, TurnBy, IsOf, MakesStop, StopsWhere, WorkedBy, asks_due, is_due};
 ghost use Rattle.vcpu_turn.specs.declared.cpu.TurnEnd.TheVariants.{Answered};
 
 use crate::beginning::begin;
@@ -122,7 +122,7 @@ pub fn turn<P: Port>(port: &mut P, cpu: &mut Cpu, gate: &mut dyn Preempt) -> Tur
 pub fn stop<P: Port>(port: &mut P, cpu: &mut Cpu)
     requires of { IsOf (P.value port.old) cpu.old }
     ensures post { (P.value port.new).post ≡ (P.value port.old).post }
-    ensures stop { StopsBy cpu.old.retired cpu.old cpu.new (P.value port.old) (P.value port.new) }
+    ensures stop { StopsWhere cpu.old.retired cpu.old cpu.new (P.value port.old) (P.value port.new) }
     ensures of { IsOf (P.value port.new) cpu.new }
 {
     if !cpu.retired {

@@ -14,7 +14,7 @@ use Rattle.shared_board.specs.Board.{Board, port_value}
 use Rattle.vcpu_turn.specs.Cpus.{Processing, after_turn}
 use Rattle.vcpu_turn.specs.declared.cpu.TurnEnd.{TurnEnd}
 use Rattle.vcpu_turn.specs.declared.cpu.TurnEnd.TheVariants as ends
-use Rattle.vcpu_turn.specs.Turning.{Does, IsOf, StopsBy}
+use Rattle.vcpu_turn.specs.Turning.{DoesNext, IsOf, StopsWhere}
 use Rattle.xp_machine.specs.Cpus.{IsShort}
 use Rattle.xp_machine.specs.Gates.{Gate, gate_in}
 use Rattle.xp_machine.specs.Ready.{Ready}
@@ -29,13 +29,13 @@ kept_by c done (ends.Answered reply) = refl
 kept_by c done (ends.Paused p) = refl
 kept_by c done ends.Retired = refl
 
-turn_script : (c c2 : Processing) (o : Option Op) (v w : PortValue) (before after : ℕ) (end : TurnEnd) → Does c o c2 v w before after end → c2.script ≡ c.script
+turn_script : (c c2 : Processing) (o : Option Op) (v w : PortValue) (before after : ℕ) (end : TurnEnd) → DoesNext c o c2 v w before after end → c2.script ≡ c.script
 turn_script c c2 (Some op) v w before after end d = ap (λ (x : Processing). x.script) d.cpu ∙ kept_by c d.to end
 turn_script c c2 None v w before after end d = ap (λ (x : Processing). x.script) d.cpu
 
 -- ---- one turn or one stop
-pub record Done (Does : Stage → Stage → Type 0) (b b2 : Board) (cpus cpus2 : List Processing) (gates gates2 : List (Option Gate)) : Type 0 where
-  pub does : Does (stage b.story cpus gates) (stage b2.story cpus2 gates2)
+pub record Done (DoesNext : Stage → Stage → Type 0) (b b2 : Board) (cpus cpus2 : List Processing) (gates gates2 : List (Option Gate)) : Type 0 where
+  pub does : DoesNext (stage b.story cpus gates) (stage b2.story cpus2 gates2)
   pub ready : Ready b2 cpus2
   pub opening : b2.story.opening ≡ b.story.opening
 
@@ -61,10 +61,10 @@ module _ (stays : AloneStays) where
       record { steps = steps; ready = ready_after b b2 s lender cpus c c2 ready machine steps.moved here script (sound_alone b2 s lender (stays v w (alone_at b cpus s lender ready) came)) own }
 
   -- one that is retired stays as it is, and so does the board
-  rested_on : (Does : Processing → Stage → Stage → Type 0) (b b2 : Board) (s lender : ℕ) (cpus : List Processing) (gates : List (Option Gate)) (c c2 : Processing) (has left : Option Gate) → Ready b cpus →
+  rested_on : (DoesNext : Processing → Stage → Stage → Type 0) (b b2 : Board) (s lender : ℕ) (cpus : List Processing) (gates : List (Option Gate)) (c c2 : Processing) (has left : Option Gate) → Ready b cpus →
       b2.machine ≡ b.machine → slice_get cpus s ≡ Some c → slice_get gates s ≡ Some has → c2 ≡ c → port_value b2 s lender ≡ port_value b s lender → left ≡ has → IsOf (port_value b2 s lender) c2 →
-      Done (UnlessRetired Does c true) b b2 cpus (slice_set cpus s c2) gates (slice_set gates s left)
-  rested_on Does b b2 s lender cpus gates c c2 has left ready machine here gate same port kept own =
+      Done (UnlessRetired DoesNext c true) b b2 cpus (slice_set cpus s c2) gates (slice_set gates s left)
+  rested_on DoesNext b b2 s lender cpus gates c c2 has left ready machine here gate same port kept own =
       let story = same_story b b2 s lender port in
       let moved = moved_none b.machine s b.story b2.story story in
       let all = set_same cpus s c c2 here same in
@@ -113,7 +113,7 @@ module _ (stays : AloneStays) where
 
   stop_by : (b b2 : Board) (s lender : ℕ) (cpus : List Processing) (gates : List (Option Gate)) (c c2 : Processing) (has left : Option Gate) (retired : Bool) → s < (sizes_of b.machine).vcpus → Ready b cpus →
       b2.machine ≡ b.machine → slice_get cpus s ≡ Some c → slice_get gates s ≡ Some has → left ≡ None → (retired ≡ true → has ≡ None) →
-      StopsBy retired c c2 (port_value b s lender) (port_value b2 s lender) → IsOf (port_value b2 s lender) c2 →
+      StopsWhere retired c c2 (port_value b s lender) (port_value b2 s lender) → IsOf (port_value b2 s lender) c2 →
       Done (UnlessRetired (MakesStagedStop b.machine s) c retired) b b2 cpus (slice_set cpus s c2) gates (slice_set gates s left)
   stop_by b b2 s lender cpus gates c c2 has left true real ready machine here gate gone went t own =
       rested_on (MakesStagedStop b.machine s) b b2 s lender cpus gates c c2 has left ready machine here gate t.0 t.1 (gone ∙ sym (went refl)) own
@@ -180,19 +180,19 @@ module _ {A : Type 0} (cpu : A → Processing) (gate : A → Option Gate) (b b1 
   is_of_now = subst (λ w. IsOf w (cpu y)) after_is own
 
   -- what vCPU s did, and the lists of all after it
-  as_done : (Does : Processing → Stage → Stage → Type 0) →
-      Done (UnlessRetired Does (cpu (slice_index_or runners s d)) (cpu (slice_index_or runners s d)).retired) b b2 (map cpu runners) (slice_set (map cpu runners) s (cpu y)) (map gate runners)
+  as_done : (DoesNext : Processing → Stage → Stage → Type 0) →
+      Done (UnlessRetired DoesNext (cpu (slice_index_or runners s d)) (cpu (slice_index_or runners s d)).retired) b b2 (map cpu runners) (slice_set (map cpu runners) s (cpu y)) (map gate runners)
       (slice_set (map gate runners) s (gate y)) →
-      Done (λ x x'. ByCpu Does (slice_get (map cpu runners) s) x x') b b2 (map cpu runners) (map cpu (slice_set runners s y)) (map gate runners) (map gate (slice_set runners s y))
-  as_done Does done =
+      Done (λ x x'. ByCpu DoesNext (slice_get (map cpu runners) s) x x') b b2 (map cpu runners) (map cpu (slice_set runners s y)) (map gate runners) (map gate (slice_set runners s y))
+  as_done DoesNext done =
       let c = cpu (slice_index_or runners s d) in
       let at = at_place cpu runners s d within in
       let all = sym (map-set cpu runners s y) in
       let both = sym (map-set gate runners s y) in
       record {
-        does = subst (λ o. ByCpu Does o (stage b.story (map cpu runners) (map gate runners)) (stage b2.story (map cpu (slice_set runners s y)) (map gate (slice_set runners s y)))) (sym at)
-            (subst (λ gs. UnlessRetired Does c c.retired (stage b.story (map cpu runners) (map gate runners)) (stage b2.story (map cpu (slice_set runners s y)) gs)) both
-            (subst (λ cs. UnlessRetired Does c c.retired (stage b.story (map cpu runners) (map gate runners)) (stage b2.story cs (slice_set (map gate runners) s (gate y)))) all done.does));
+        does = subst (λ o. ByCpu DoesNext o (stage b.story (map cpu runners) (map gate runners)) (stage b2.story (map cpu (slice_set runners s y)) (map gate (slice_set runners s y)))) (sym at)
+            (subst (λ gs. UnlessRetired DoesNext c c.retired (stage b.story (map cpu runners) (map gate runners)) (stage b2.story (map cpu (slice_set runners s y)) gs)) both
+            (subst (λ cs. UnlessRetired DoesNext c c.retired (stage b.story (map cpu runners) (map gate runners)) (stage b2.story cs (slice_set (map gate runners) s (gate y)))) all done.does));
         ready = subst (Ready b2) all done.ready;
         opening = done.opening;
       }
@@ -210,20 +210,20 @@ module _ {A : Type 0} (cpu : A → Processing) (gate : A → Option Gate) (b b1 
       (at_place cpu runners s d within) (at_place gate runners s d within) by is_of_now)
 
   pub stopped : gate y ≡ None → ((cpu (slice_index_or runners s d)).retired ≡ true → gate (slice_index_or runners s d) ≡ None) →
-      StopsBy (cpu (slice_index_or runners s d)).retired (cpu (slice_index_or runners s d)) (cpu y) (port_value b1 s1 l1) (port_value b2 s2 l2) →
+      StopsWhere (cpu (slice_index_or runners s d)).retired (cpu (slice_index_or runners s d)) (cpu y) (port_value b1 s1 l1) (port_value b2 s2 l2) →
       Done (λ x x'. ByCpu (MakesStagedStop b.machine s) (slice_get (map cpu runners) s) x x') b b2 (map cpu runners) (map cpu (slice_set runners s y)) (map gate runners) (map gate (slice_set runners s y))
   stopped gone went t =
       let c = cpu (slice_index_or runners s d) in
       let has = gate (slice_index_or runners s d) in
-      let by = subst (λ v. StopsBy c.retired c (cpu y) v (port_value b2 s l1)) before_is (subst (λ w. StopsBy c.retired c (cpu y) (port_value b1 s1 l1) w) after_is t) in
+      let by = subst (λ v. StopsWhere c.retired c (cpu y) v (port_value b2 s l1)) before_is (subst (λ w. StopsWhere c.retired c (cpu y) (port_value b1 s1 l1) w) after_is t) in
       as_done (MakesStagedStop b.machine s)
       (stop_by stays b b2 s l1 (map cpu runners) (map gate runners) c (cpu y) has (gate y) c.retired (real cpu b b1 s s1 l1 runners d same runner within ready) ready same_machine
       (at_place cpu runners s d within) (at_place gate runners s d within) gone went by is_of_now)
 
 -- the port gives back the board that it leaves
-module _ {Does : Stage → Stage → Type 0} {b b2 : Board} {cpus cpus2 : List Processing} {gates gates2 : List (Option Gate)} (done : Done Does b b2 cpus cpus2 gates gates2) where
-  pub does_back : (x : Story) → x ≡ b2.story → Does (stage b.story cpus gates) (stage x cpus2 gates2)
-  does_back x is = subst (λ z. Does (stage b.story cpus gates) (stage z cpus2 gates2)) (sym is) done.does
+module _ {DoesNext : Stage → Stage → Type 0} {b b2 : Board} {cpus cpus2 : List Processing} {gates gates2 : List (Option Gate)} (done : Done DoesNext b b2 cpus cpus2 gates gates2) where
+  pub does_back : (x : Story) → x ≡ b2.story → DoesNext (stage b.story cpus gates) (stage x cpus2 gates2)
+  does_back x is = subst (λ z. DoesNext (stage b.story cpus gates) (stage z cpus2 gates2)) (sym is) done.does
 
   pub ready_back : (x : Board) → x ≡ b2 → Ready x cpus2
   ready_back x is = subst (λ y. Ready y cpus2) (sym is) done.ready

@@ -25,7 +25,7 @@ use Rattle.vcpu_turn.specs.declared.cpu.TurnEnd.TheVariants as ends
 use Rattle.vcpu_turn.specs.Cpus.{Processing, pairs_of, end_of}
 use Rattle.vcpu_turn.specs.Lists.{DidItems, Ends, none, more}
 use Rattle.vcpu_turn.specs.Working.{FitsPair, PairFits, no_asks, Works}
-use Rattle.vcpu_turn.specs.Turning.{Does, EndsTurn, IsStop, IsTurn}
+use Rattle.vcpu_turn.specs.Turning.{DoesNext, EndsTurn, IsStop, IsTurn}
 use Rattle.vcpu_turn.proofs.Turns.{begins_came}
 use Rattle.xp_machine.specs.Turns.{IsUnhindered}
 
@@ -60,7 +60,7 @@ works_came d (Some pairs) v w from to before after answer (inl a) = same_came v 
 works_came d (Some pairs) v w from to before after answer (inr a) =
     came_trans v a.1.last w (did_came d pairs from v to a.1.number a.1.last a.1.did) (list_came d pairs (length pairs) from to a.1.number a.1.asked a.1.last w answer a.1.ends)
 
-does_came : (c : Processing) (o : Option Op) (c2 : Processing) (v w : PortValue) (before after : ℕ) (end : TurnEnd) → Does c o c2 v w before after end → Came v w
+does_came : (c : Processing) (o : Option Op) (c2 : Processing) (v w : PortValue) (before after : ℕ) (end : TurnEnd) → DoesNext c o c2 v w before after end → Came v w
 does_came c (Some op) c2 v w before after end d = works_came c.domain (pairs_of op) v w c.done d.to before after d.answer d.works
 does_came c None c2 v w before after end d = same_came v w d.no_step
 
@@ -135,7 +135,7 @@ module _ (stays : AloneStays) (neither : NeitherLostNorBusy) (nobody : NobodyWai
         subst (λ (q : Post). IsUnhindered q.machine (end_of to answer)) (came_post v last before_last)
         (list_unhindered d pairs (length pairs) from to a.1.number a.1.asked last w answer (stays v last alone before_last) (there last before_last) a.1.ends)
 
-    does_unhindered : (c : Processing) (o : Option Op) (c2 : Processing) (u w : PortValue) (before after : ℕ) (end : TurnEnd) → IsAlone v → Came v u → Does c o c2 u w before after end →
+    does_unhindered : (c : Processing) (o : Option Op) (c2 : Processing) (u w : PortValue) (before after : ℕ) (end : TurnEnd) → IsAlone v → Came v u → DoesNext c o c2 u w before after end →
         IsUnhindered v.post.machine end
     does_unhindered c (Some op) c2 u w before after end alone came d =
         subst (IsUnhindered v.post.machine) (sym d.end_is) (works_unhindered c.domain (pairs_of op) u w c.done d.to before after d.answer alone came d.works)

@@ -12,12 +12,12 @@ use Rattle.xp_machine.specs.Cpus.{turns_in, order}
 use Rattle.xp_machine.specs.Turns.{Stage, IsStagedTurn, IsStagedStop, InOrder, none, more, Turns, Stops}
 
 -- ---- in any order
-module _ (Does : ℕ → Stage → Stage → Type 0) where
+module _ (DoesNext : ℕ → Stage → Stage → Type 0) where
   -- what each does
-  pub joined : (vs ws : List ℕ) (s m s' : Stage) → InOrder Does vs s m → InOrder Does ws m s' → InOrder Does (vs ++ ws) s s'
-  joined vs _ s m _ t (none _) = subst (λ us. InOrder Does us s m) (sym (append-nil vs)) t
+  pub joined : (vs ws : List ℕ) (s m s' : Stage) → InOrder DoesNext vs s m → InOrder DoesNext ws m s' → InOrder DoesNext (vs ++ ws) s s'
+  joined vs _ s m _ t (none _) = subst (λ us. InOrder DoesNext us s m) (sym (append-nil vs)) t
   joined vs _ s m _ t (more ws w _ k s' u w') =
-      subst (λ us. InOrder Does us s s') (append_assoc vs ws (w ∷ [])) (more (vs ++ ws) w s k s' (joined vs ws s m k t u) w')
+      subst (λ us. InOrder DoesNext us s s') (append_assoc vs ws (w ∷ [])) (more (vs ++ ws) w s k s' (joined vs ws s m k t u) w')
 
 -- ---- one more
 -- a turn of the same vCPU; the machine is the same one

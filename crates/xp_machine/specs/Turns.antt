@@ -80,12 +80,12 @@ pub record MakesStagedStop (n : Machine) (v : ℕ) (c : Processing) (s s' : Stag
 
 -- what a vCPU does of its own, and a retired one makes no step
 abbrev pub UnlessRetired : (Processing → Stage → Stage → Type 0) → Processing → Bool → Stage → Stage → Type 0
-UnlessRetired Does c true s s' = s' ≡ s
-UnlessRetired Does c false s s' = Does c s s'
+UnlessRetired DoesNext c true s s' = s' ≡ s
+UnlessRetired DoesNext c false s s' = DoesNext c s s'
 
 abbrev pub ByCpu : (Processing → Stage → Stage → Type 0) → Option Processing → Stage → Stage → Type 0
-ByCpu Does None s s' = ⊥
-ByCpu Does (Some c) s s' = UnlessRetired Does c c.retired s s'
+ByCpu DoesNext None s s' = ⊥
+ByCpu DoesNext (Some c) s s' = UnlessRetired DoesNext c c.retired s s'
 
 abbrev pub IsStagedTurn : Machine → ℕ → Stage → Stage → Type 0
 IsStagedTurn n v s s' = ByCpu (MakesStagedTurn n v) (slice_get s.cpus v) s s'
@@ -94,9 +94,9 @@ abbrev pub IsStagedStop : Machine → ℕ → Stage → Stage → Type 0
 IsStagedStop n v s s' = ByCpu (MakesStagedStop n v) (slice_get s.cpus v) s s'
 
 -- these vCPUs do this one after the other, in this order
-pub data InOrder (Does : ℕ → Stage → Stage → Type 0) : List ℕ → Stage → Stage → Type 0 where
-  none : (s : Stage) → InOrder Does [] s s
-  more : (vs : List ℕ) (v : ℕ) (s m s' : Stage) → InOrder Does vs s m → Does v m s' → InOrder Does (vs ++ v ∷ []) s s'
+pub data InOrder (DoesNext : ℕ → Stage → Stage → Type 0) : List ℕ → Stage → Stage → Type 0 where
+  none : (s : Stage) → InOrder DoesNext [] s s
+  more : (vs : List ℕ) (v : ℕ) (s m s' : Stage) → InOrder DoesNext vs s m → DoesNext v m s' → InOrder DoesNext (vs ++ v ∷ []) s s'
 
 abbrev pub Turns : Machine → List ℕ → Stage → Stage → Type 0
 Turns n vs s s' = InOrder (IsStagedTurn n) vs s s'

@@ -1,5 +1,5 @@
 ghost use Rattle.std.specs.Prelude.{◌≡◌, ◌<◌, ◌^◌, Some, None, false, not, is_some, length};
-ghost use Rattle.vcpu_turn.specs.Turning.{IsOf, StopsBy};
+ghost use Rattle.vcpu_turn.specs.Turning.{IsOf, StopsWhere};
 ghost use Rattle.xp_machine.specs.Gates.{gate_in, gate_of};
 ghost use Rattle.xp_machine.specs.Runners.{TakesTurnBy};
 
@@ -49,7 +49,7 @@ impl Runner {
     pub fn stop<P: Port>(&mut self, port: &mut P)
         requires of { IsOf (P.value port.old) self.old.cpu }
         ensures post { (P.value port.new).post ≡ (P.value port.old).post }
-        ensures stop { StopsBy self.old.cpu.retired self.old.cpu self.new.cpu (P.value port.old) (P.value port.new) }
+        ensures stop { StopsWhere self.old.cpu.retired self.old.cpu self.new.cpu (P.value port.old) (P.value port.new) }
         ensures gate { gate_in (gate_of calm paces count_asks says) self.new.gate ≡ None }
         ensures of { IsOf (P.value port.new) self.new.cpu }
     {

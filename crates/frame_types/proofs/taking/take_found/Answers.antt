@@ -9,7 +9,7 @@ use Rattle.step_maker.proofs.Telling.{came_telling}
 use Rattle.flush_words.proofs.Lasting.{came_longer}
 use Rattle.kind_words.proofs.KindFacts.{kind_is_some, read_is}
 use Rattle.kind_words.proofs.KindWriting.{begun_is, resumed_is}
-use Rattle.frame_types.specs.Found.{GoesOn}
+use Rattle.frame_types.specs.Found.{Proceeds}
 use Rattle.frame_types.specs.Plain.{TwinOn}
 use Rattle.frame_types.specs.Taking.{Enters, progress_of, stamp_by}
 use Rattle.frame_types.specs.declared.standing.Standing.TheVariants as stands
@@ -298,7 +298,7 @@ returns-in-Ok-begin_work-clause-found g c b l =
     let w = g.P.Port.value c.go_on.new.port in
     dead_found b (g.P.Port.value c.args.port.now) c.args.frame c.args.owner c.args.want c.args.word l k c.read_kind-kind.ensures (read_is c.args.word k c.read_kind-kind.ensures).1
     x w c.go_on.result (sym c.classify.ensures ∙ c.in-Dead.is) c.in-Ok-begin_work.ensures.moves
-    (subst (λ m. GoesOn x w c.args.frame c.args.want m k.number true (progress_of k) c.go_on.result) c.is_stale_for-marked.ensures c.go_on.ensures.visits)
+    (subst (λ m. Proceeds x w c.args.frame c.args.want m k.number true (progress_of k) c.go_on.result) c.is_stale_for-marked.ensures c.go_on.ensures.visits)
 
 pub returns-in-Err-begin_work-clause-found : goal.returns-in-Err-begin_work-clause-found
 returns-in-Err-begin_work-clause-found g c b l =
