@@ -7,6 +7,7 @@ mod Looking
 mod Nested
 mod Opening
 mod Pushing
+mod Serving
 mod Sharing
 mod Standing
 mod StandsFacts

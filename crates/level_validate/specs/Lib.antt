@@ -2,3 +2,4 @@ pub mod Completing
 pub mod Giving
 pub mod Tables
 pub mod Unwinding
+pub mod Serving

@@ -6,12 +6,15 @@ ghost use Rattle.xp_board.specs.declared.step.Act.TheVariants.{Store};
 ghost use Rattle.xp_board.specs.declared.step.StepKind.TheVariants as kinds;
 ghost use Rattle.step_maker.specs.Holds.{Holds, MayWork};
 ghost use Rattle.step_maker.specs.Moves.{Came, Moves};
+ghost use Rattle.answer_fits.specs.Answers.{Serves};
+ghost use Rattle.answer_fits.specs.Asked.{of_back};
 ghost use Rattle.kind_words.specs.Kinds.{MayLeave, left, live_kind};
 ghost use Rattle.frame_types.specs.Taking.{gave_type};
 ghost use Rattle.partial_state.specs.Levels.{level_type};
 ghost use Rattle.partial_state.specs.declared.stack.TableWork.{TableWork};
 ghost use Rattle.level_validate.specs.Completing.{Completes, IsInnerFull, count_for};
 ghost use Rattle.level_validate.specs.Giving.{MayGiveBack};
+ghost use Rattle.level_validate.specs.Serving.{GoesOn};
 ghost use Rattle.level_validate.specs.Tables.{IsTopReady, IsStanding, StandsOn};
 
 use frame_types::drop_type;
@@ -29,6 +32,7 @@ pub(crate) fn complete_outer<P: Port>(port: &mut P, table: TableWork)
     requires full { table.done ≡ 512 }
     ensures came { Came (P.value port.old) (P.value port.new) }
     ensures hand { Completes (P.value port.old) (P.value port.new) table }
+    ensures serves { (owner : ℕ) → GoesOn (P.value port.old) (P.value port.new) owner (table ∷ []) [] [] }
 {
     make_live(port, table);
 }
@@ -43,6 +47,7 @@ pub(crate) fn complete_inner<P: Port>(port: &mut P, stack: &mut Stack)
     ensures came { Came (P.value port.old) (P.value port.new) }
     ensures stands { (owner : ℕ) → StandsOn (P.value port.old) (P.value port.new) owner stack.old stack.new }
     ensures popped { stack.new ≡ drop 1 stack.old }
+    ensures serves { (owner : ℕ) → GoesOn (P.value port.old) (P.value port.new) owner stack.old stack.new [] }
     ensures ready { IsTopReady (P.value port.new) }
 {
     if let Some(table) = stack.pop() {
@@ -64,6 +69,7 @@ fn complete_in<P: Port>(port: &mut P, table: TableWork, outer: TableWork)
     requires full { table.done ≡ 512 }
     ensures came { Came (P.value port.old) (P.value port.new) }
     ensures stands { (owner : ℕ) (us : List TableWork) → StandsOn (P.value port.old) (P.value port.new) owner (table ∷ outer ∷ us) (outer ∷ us) }
+    ensures serves { (owner : ℕ) (us : List TableWork) → GoesOn (P.value port.old) (P.value port.new) owner (table ∷ outer ∷ us) (outer ∷ us) [] }
     ensures ready { IsTopReady (P.value port.new) }
 {
     make_live(port, table);
@@ -95,6 +101,7 @@ pub(crate) fn give_back<P: Port>(port: &mut P, frame: u32)
     requires gives { MayGiveBack (P.value port.old).post.machine (P.value port.old).post.vcpu frame (P.value port.old).holdings }
     ensures came { Came (P.value port.old) (P.value port.new) }
     ensures hand { Holds (P.value port.old) (P.value port.new) (gave_type frame (P.value port.old).holdings) }
+    ensures serves { Serves (P.value port.old) (P.value port.new) (of_back frame) [] }
 {
     if drop_type(port, frame) {
         unreachable!("an entry has the type too")

@@ -1,9 +1,12 @@
 //! The next entry of the innermost table, and the last recorded one of a table that was left unfinished.
-ghost use Rattle.std.specs.Prelude.{◌≡◌, ◌<◌, ◌∷◌, ℕ, drop, IfOk, IfErr};
+ghost use Rattle.std.specs.Prelude.{◌≡◌, ◌+◌, ◌<◌, ◌∷◌, ℕ, drop, IfOk, IfErr};
 ghost use Rattle.step_maker.specs.Holds.{MayWork};
 ghost use Rattle.step_maker.specs.Moves.{Came};
 ghost use Rattle.table_entries.specs.Asking.{IsEntryStop};
+ghost use Rattle.answer_fits.specs.Answers.{misses};
 ghost use Rattle.partial_state.specs.Stacks.{left_on_top};
+ghost use Rattle.partial_state.specs.Weights.{entry_weight, weight};
+ghost use Rattle.level_validate.specs.Serving.{GoesOn, StopsIn};
 ghost use Rattle.level_validate.specs.Tables.{IsTopReady, IsStanding, StandsOn};
 
 use crate::completing::give_back;
@@ -23,6 +26,10 @@ pub(crate) fn enter<P: Port>(port: &mut P, owner: u16, stack: &mut Stack) -> Res
     ensures stands { StandsOn (P.value port.old) (P.value port.new) owner stack.old stack.new }
     ensures ready { IfOk result (λ _. IsTopReady (P.value port.new)) }
     ensures kinds { IfErr result IsEntryStop }
+    // What is left to do grows less.
+    ensures less { IfOk result (λ _. weight stack.new < weight stack.old) }
+    ensures serves { GoesOn (P.value port.old) (P.value port.new) owner stack.old stack.new (misses (P.value port.old).post.machine result) }
+    ensures stops { IfErr result (λ e. StopsIn (P.value port.old) (P.value port.new) owner stack.old e) }
 {
     let Some(top) = stack.top() else {
         unreachable!()
@@ -72,6 +79,9 @@ fn take_on<P: Port>(port: &mut P, owner: u16, stack: &mut Stack, top: TableWork)
     ensures stands { StandsOn (P.value port.old) (P.value port.new) owner stack.old stack.new }
     ensures ready { IfOk result (λ _. IsTopReady (P.value port.new)) }
     ensures kinds { IfErr result IsEntryStop }
+    ensures less { IfOk result (λ _. weight stack.new < weight stack.old + entry_weight top.level) }
+    ensures serves { GoesOn (P.value port.old) (P.value port.new) owner stack.old stack.new (misses (P.value port.old).post.machine result) }
+    ensures stops { IfErr result (λ e. StopsIn (P.value port.old) (P.value port.new) owner stack.old e) }
 {
     if top.done == 0 {
         return Ok(());

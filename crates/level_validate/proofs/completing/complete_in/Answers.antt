@@ -1,9 +1,11 @@
 use Rattle.std.proofs.Common.{◌∷◌, ◌<◌, refl, sym, subst}
 use Rattle.xp_board.specs.Told.{Post}
 use Rattle.step_maker.proofs.Coming.{came_post, came_trans, moves_came}
+use Rattle.level_validate.specs.Serving.{GoesOn}
 use Rattle.level_validate.proofs.Completed.{live_hand, live_leaves}
 use Rattle.level_validate.proofs.LeavingTables.{top_inside}
 use Rattle.level_validate.proofs.Nested.{live_gives, live_records, new_ready, new_stands, old_ready, old_stands}
+use Rattle.level_validate.proofs.Serving.{piece_back, piece_left, piece_records, piece_rest}
 use Rattle.level_validate.proofs.completing.complete_in.Goals as goal
 
 pub make_live-requires-clause-frame : goal.make_live-requires-clause-frame
@@ -149,3 +151,27 @@ returns-else-table-clause-ready g c =
     let x = g.P.Port.value c.record_entry.new.port in
     let l = live_hand v w owner t (u ∷ us) s t.own refl d c.make_live.ensures.hand in
     new_ready v w owner t u us s d c.make_live.result c.make_live.ensures.moves l c.if-table.false x c.record_entry.ensures.hand (came_trans w d x came_d (moves_came d x _ _ _ _ c.record_entry.result c.record_entry.ensures.moves))
+
+pub returns-then-table-clause-serves : goal.returns-then-table-clause-serves
+unfolding GoesOn
+returns-then-table-clause-serves g c owner us u r ds a =
+    let w = g.P.Port.value c.args.port.now in
+    let t = c.args.table in
+    let o = c.args.outer in
+    let d = g.P.Port.value c.make_live.new.port in
+    let x = g.P.Port.value c.give_back.new.port in
+    let b = c.requires.stands in
+    let left = piece_left b.2.0 w b.0 t (o ∷ b.1) b.2.1 _ (live_leaves b.2.0 w b.0 t (o ∷ b.1) b.2.1 c.requires.full c.requires.ready t.own refl c.requires.may).is refl d c.make_live.result c.make_live.ensures.moves u r owner (o ∷ us) ds a in
+    piece_rest u x r owner t (o ∷ us) ds (piece_back u d x r owner t (o ∷ us) ds left c.give_back.ensures.serves)
+
+pub returns-else-table-clause-serves : goal.returns-else-table-clause-serves
+unfolding GoesOn
+returns-else-table-clause-serves g c owner us u r ds a =
+    let w = g.P.Port.value c.args.port.now in
+    let t = c.args.table in
+    let o = c.args.outer in
+    let d = g.P.Port.value c.make_live.new.port in
+    let x = g.P.Port.value c.record_entry.new.port in
+    let b = c.requires.stands in
+    let left = piece_left b.2.0 w b.0 t (o ∷ b.1) b.2.1 _ (live_leaves b.2.0 w b.0 t (o ∷ b.1) b.2.1 c.requires.full c.requires.ready t.own refl c.requires.may).is refl d c.make_live.result c.make_live.ensures.moves u r owner (o ∷ us) ds a in
+    piece_rest u x r owner t (o ∷ us) ds (piece_records u d x r owner (t ∷ o ∷ us) ds left o.frame o.done c.record_entry.result c.record_entry.ensures.moves)

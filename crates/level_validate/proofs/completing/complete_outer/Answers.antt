@@ -1,7 +1,9 @@
 use Rattle.std.proofs.Common.{[], refl}
 use Rattle.step_maker.proofs.Coming.{moves_came}
+use Rattle.level_validate.specs.Serving.{GoesOn}
 use Rattle.level_validate.proofs.Completed.{live_hand, live_leaves, outer_live}
 use Rattle.level_validate.proofs.LeavingTables.{top_inside}
+use Rattle.level_validate.proofs.Serving.{piece_left, piece_rest}
 use Rattle.level_validate.proofs.completing.complete_outer.Goals as goal
 
 pub make_live-requires-clause-frame : goal.make_live-requires-clause-frame
@@ -19,3 +21,13 @@ returns-clause-hand g c v owner s =
     let w = g.P.Port.value c.args.port.now in
     let d = g.P.Port.value c.make_live.new.port in
     outer_live v w d owner c.args.table s (live_hand v w owner c.args.table [] s c.args.table.own refl d c.make_live.ensures.hand)
+
+pub returns-clause-serves : goal.returns-clause-serves
+unfolding GoesOn
+returns-clause-serves g c owner u r ds a =
+    let b = c.requires.stands in
+    let t = c.args.table in
+    let w = g.P.Port.value c.args.port.now in
+    let d = g.P.Port.value c.make_live.new.port in
+    piece_rest u d r owner t [] ds
+    (piece_left b.1.0 w b.0 t [] b.1.1 _ (live_leaves b.1.0 w b.0 t [] b.1.1 c.requires.full c.requires.ready t.own refl c.requires.may).is refl d c.make_live.result c.make_live.ensures.moves u r owner [] ds a)

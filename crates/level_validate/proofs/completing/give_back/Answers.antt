@@ -1,6 +1,6 @@
 use Rattle.std.proofs.Common.{[]}
 use Rattle.answer_fits.specs.Asked.{of_back}
-use Rattle.answer_fits.proofs.Piecing.{serves_came}
+use Rattle.answer_fits.proofs.Piecing.{serves_came, serves_then}
 use Rattle.step_maker.proofs.Coming.{came_trans}
 use Rattle.level_validate.proofs.Sharing.{back_given, back_puts, never_last}
 use Rattle.level_validate.proofs.completing.give_back.Goals as goal
@@ -21,3 +21,10 @@ returns-clause-came g c =
 pub returns-clause-hand : goal.returns-clause-hand
 returns-clause-hand g c =
     back_given (g.P.Port.value c.args.port.now) (g.P.Port.value c.drop_type.new.port) c.args.frame c.drop_type.result c.drop_type.ensures.drops c.if-drop_type.false (g.P.Port.value c.put_ref.new.port) c.put_ref.ensures.hand
+
+pub returns-clause-serves : goal.returns-clause-serves
+returns-clause-serves g c =
+    let v = g.P.Port.value c.args.port.now in
+    let a = g.P.Port.value c.drop_type.new.port in
+    let w = g.P.Port.value c.put_ref.new.port in
+    serves_then v a w (of_back c.args.frame) [] [] c.drop_type.ensures.serves c.put_ref.ensures.serves

@@ -1,7 +1,10 @@
-use Rattle.std.proofs.Common.{[], refl}
+use Rattle.std.proofs.Common.{false, [], refl}
 use Rattle.step_maker.proofs.Coming.{came_trans, moves_came}
 use Rattle.answer_fits.specs.Asked.{of_back}
 use Rattle.answer_fits.proofs.Piecing.{serves_came}
+use Rattle.level_validate.specs.Serving.{GoesOn}
+use Rattle.level_validate.proofs.LeavingTables.{top_spelled}
+use Rattle.level_validate.proofs.Serving.{piece_around, piece_back, piece_left, piece_rest}
 use Rattle.level_validate.specs.Unwinding.{own_domain}
 use Rattle.level_validate.proofs.LeavingLent.{lent_puts, lent_stands}
 use Rattle.level_validate.proofs.unwinding.leave_lent.Goals as goal
@@ -26,3 +29,15 @@ returns-clause-stands g c ts v s =
     let x = g.P.Port.value c.put_ref.new.port in
     let came = came_trans w d x (moves_came w d _ _ _ _ c.leave_partial.result c.leave_partial.ensures.moves) (serves_came d x (of_back c.args.table.frame) [] c.put_ref.ensures.serves) in
     lent_stands v w (own_domain w) c.args.table ts s c.requires.lent d c.leave_partial.result c.leave_partial.ensures.moves c.leave_partial.ensures.hand x c.put_ref.ensures.hand came c.args.table.recorded refl
+
+pub returns-clause-serves : goal.returns-clause-serves
+unfolding GoesOn
+returns-clause-serves g c owner ts u r ds a =
+    let b = c.requires.stands in
+    let t = c.args.table in
+    let w = g.P.Port.value c.args.port.now in
+    let d = g.P.Port.value c.leave_partial.new.port in
+    let x = g.P.Port.value c.put_ref.new.port in
+    let spelled = top_spelled b.1.0 w (own_domain w) t b.0 b.1.1 false (λ on. absurd cc) in
+    let left = piece_left b.1.0 w (own_domain w) t b.0 b.1.1 _ spelled refl d c.leave_partial.result c.leave_partial.ensures.moves u r owner ts ds a in
+    piece_around t.recorded u x r owner ts ds (piece_rest u x r owner t ts ds (piece_back u d x r owner t ts ds left c.put_ref.ensures.serves))

@@ -1,7 +1,9 @@
-use Rattle.std.proofs.Common.{true, false, []}
+use Rattle.std.proofs.Common.{true, false, [], ◌∷◌, ◌+◌, refl}
 use Rattle.step_maker.proofs.Coming.{came_trans, moves_came}
+use Rattle.level_validate.specs.Serving.{GoesOn}
+use Rattle.level_validate.proofs.Serving.{piece_left, piece_names, piece_rest}
 use Rattle.level_validate.specs.Unwinding.{own_domain}
-use Rattle.level_validate.proofs.LeavingTables.{left_as, top_held}
+use Rattle.level_validate.proofs.LeavingTables.{left_as, top_held, top_spelled}
 use Rattle.level_validate.proofs.Unwound.{outer_held, outer_kept, outer_named}
 use Rattle.level_validate.proofs.unwinding.leave_named.Goals as goal
 
@@ -39,3 +41,25 @@ returns-else-not-kept-clause-hand g c v s =
     let t = c.args.table in
     let on = c.if-not-kept.false in
     outer_kept v w (own_domain w) t c.args.kept s c.requires.own on d (left_as w d t.frame c.args.kept true on c.leave_partial.ensures.hand) (moves_came w d _ _ _ _ c.leave_partial.result c.leave_partial.ensures.moves)
+
+pub returns-then-not-kept-clause-serves : goal.returns-then-not-kept-clause-serves
+unfolding GoesOn
+returns-then-not-kept-clause-serves g c owner u r ds a =
+    let b = c.requires.stands in
+    let t = c.args.table in
+    let w = g.P.Port.value c.args.port.now in
+    let d = g.P.Port.value c.leave_partial.new.port in
+    let x = g.P.Port.value c.put_old.new.port in
+    let spelled = top_spelled b.0 w (own_domain w) t [] b.1 c.args.kept (λ on. c.requires.own) in
+    let left = piece_left b.0 w (own_domain w) t [] b.1 _ spelled refl d c.leave_partial.result c.leave_partial.ensures.moves u r owner [] ds a in
+    piece_rest u x r owner t [] ds (piece_names u d x r owner (t ∷ []) ds left (t.frame + 1) c.put_old.ensures.moves)
+
+pub returns-else-not-kept-clause-serves : goal.returns-else-not-kept-clause-serves
+unfolding GoesOn
+returns-else-not-kept-clause-serves g c owner u r ds a =
+    let b = c.requires.stands in
+    let t = c.args.table in
+    let w = g.P.Port.value c.args.port.now in
+    let d = g.P.Port.value c.leave_partial.new.port in
+    let spelled = top_spelled b.0 w (own_domain w) t [] b.1 c.args.kept (λ on. c.requires.own) in
+    piece_rest u d r owner t [] ds (piece_left b.0 w (own_domain w) t [] b.1 _ spelled refl d c.leave_partial.result c.leave_partial.ensures.moves u r owner [] ds a)

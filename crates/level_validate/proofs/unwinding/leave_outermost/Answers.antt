@@ -1,8 +1,13 @@
-use Rattle.std.proofs.Common.{[]}
+use Rattle.std.proofs.Common.{[], ◌∷◌, subst}
+use Rattle.level_validate.specs.Serving.{GoesOn}
 use Rattle.level_validate.specs.Unwinding.{own_domain}
-use Rattle.level_validate.proofs.Unwound.{outer_lent}
+use Rattle.level_validate.proofs.Unwound.{around_none, outer_lent}
 use Rattle.level_validate.proofs.unwinding.leave_outermost.Goals as goal
 
 pub returns-else-table-clause-hand : goal.returns-else-table-clause-hand
 returns-else-table-clause-hand g c v s =
     outer_lent v (g.P.Port.value c.leave_lent.new.port) (own_domain (g.P.Port.value c.args.port.now)) c.args.table c.args.kept c.if-table.false (c.leave_lent.ensures.stands [] v s)
+
+pub returns-else-table-clause-serves : goal.returns-else-table-clause-serves
+returns-else-table-clause-serves g c owner =
+    subst (λ us. GoesOn (g.P.Port.value c.args.port.now) (g.P.Port.value c.leave_lent.new.port) owner (c.args.table ∷ []) us []) (around_none c.args.table.recorded) (c.leave_lent.ensures.serves owner [])

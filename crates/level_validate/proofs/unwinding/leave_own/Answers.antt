@@ -1,9 +1,11 @@
-use Rattle.std.proofs.Common.{true, false, ◌∷◌, drop, sym, subst}
+use Rattle.std.proofs.Common.{true, false, ◌∷◌, drop, refl, sym, subst}
+use Rattle.level_validate.specs.Serving.{GoesOn}
+use Rattle.level_validate.proofs.Serving.{piece_left, piece_records, piece_rest}
 use Rattle.level_validate.specs.Tables.{Carries}
 use Rattle.level_validate.specs.Unwinding.{own_domain}
 use Rattle.step_maker.proofs.Coming.{came_trans, moves_came}
 use Rattle.level_validate.proofs.LeavingOwn.{kept_stands, own_records, own_stands}
-use Rattle.level_validate.proofs.LeavingTables.{is_so, left_as, not_so, store_as}
+use Rattle.level_validate.proofs.LeavingTables.{is_so, left_as, not_so, store_as, top_spelled}
 use Rattle.level_validate.proofs.unwinding.leave_own.Goals as goal
 
 pub record_entry-requires : goal.record_entry-requires
@@ -46,3 +48,28 @@ returns-else-not-table-clause-stands g c v s =
     let old = is_so t.recorded c.if-not-table.false in
     kept_stands v w (own_domain w) t c.args.stack.now s c.requires.own d (left_as w d t.frame t.recorded true old c.leave_partial.ensures.hand)
     (moves_came w d _ _ _ _ c.leave_partial.result c.leave_partial.ensures.moves) old
+
+pub returns-in-Some-clause-serves : goal.returns-in-Some-clause-serves
+unfolding GoesOn
+returns-in-Some-clause-serves g c owner u r ds a =
+    let b = c.requires.stands in
+    let t = c.args.table in
+    let ts = c.args.stack.now in
+    let o = c.in-Some.outer in
+    let w = g.P.Port.value c.args.port.now in
+    let d = g.P.Port.value c.leave_partial.new.port in
+    let x = g.P.Port.value c.record_entry.new.port in
+    let spelled = top_spelled b.0 w (own_domain w) t ts b.1 t.recorded (λ on. c.requires.own) in
+    let left = piece_left b.0 w (own_domain w) t ts b.1 _ spelled refl d c.leave_partial.result c.leave_partial.ensures.moves u r owner ts ds a in
+    piece_rest u x r owner t ts ds (piece_records u d x r owner (t ∷ ts) ds left o.frame o.done c.record_entry.result c.record_entry.ensures.moves)
+
+pub returns-else-not-table-clause-serves : goal.returns-else-not-table-clause-serves
+unfolding GoesOn
+returns-else-not-table-clause-serves g c owner u r ds a =
+    let b = c.requires.stands in
+    let t = c.args.table in
+    let ts = c.args.stack.now in
+    let w = g.P.Port.value c.args.port.now in
+    let d = g.P.Port.value c.leave_partial.new.port in
+    let spelled = top_spelled b.0 w (own_domain w) t ts b.1 t.recorded (λ on. c.requires.own) in
+    piece_rest u d r owner t ts ds (piece_left b.0 w (own_domain w) t ts b.1 _ spelled refl d c.leave_partial.result c.leave_partial.ensures.moves u r owner ts ds a)
