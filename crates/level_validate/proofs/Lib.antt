@@ -4,6 +4,7 @@ mod LeavingLent
 mod LeavingOwn
 mod LeavingTables
 mod Looking
+mod Lowering
 mod Nested
 mod Opening
 mod Pushing

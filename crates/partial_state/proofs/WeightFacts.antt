@@ -20,6 +20,14 @@ below_less (suc (suc zero)) b c = omega arith
 below_less (suc (suc (suc zero))) b c = omega arith
 below_less (suc (suc (suc (suc l)))) b c = absurd (omega arith)
 
+-- and no less than such a table and one of its entries
+below_fills : (l : ℕ) → 1 ≤ l → l < 4 → 1 + 512 * entry_weight l + entry_weight l ≤ entry_weight (l + 1)
+below_fills zero b c = absurd (omega arith)
+below_fills (suc zero) b c = omega arith
+below_fills (suc (suc zero)) b c = omega arith
+below_fills (suc (suc (suc zero))) b c = omega arith
+below_fills (suc (suc (suc (suc l)))) b c = absurd (omega arith)
+
 one_less : (d w : ℕ) → 0 < 512 - d → (512 - d) * w ≡ (512 - (d + 1)) * w + w
 one_less d w b =
     let k = 512 - (d + 1) in
@@ -48,6 +56,20 @@ opened_lowers u (t ∷ ts) is b table under =
     let w = subst (λ l. 1 + 512 * entry_weight u.level < entry_weight l) under (below_less u.level table.low under_four) in
     let m = most u.done (entry_weight u.level) in
     omega arith
+
+-- a table that is gone into, and one of its entries, weigh no more than an entry of the table around it
+pub inner_fills : (u t : TableWork) (ts : List TableWork) → IsStack (u ∷ t ∷ ts) → weight (u ∷ t ∷ ts) + entry_weight u.level ≤ weight (t ∷ ts) + entry_weight t.level
+inner_fills u t ts is =
+    let high = is.2.0.high in
+    let under = is.1 in
+    let under_four : u.level < 4 = omega arith in
+    let w = subst (λ l. 1 + 512 * entry_weight u.level + entry_weight u.level ≤ entry_weight l) under (below_fills u.level is.0.low under_four) in
+    let m = most u.done (entry_weight u.level) in
+    omega arith
+
+-- a table weighs less by an entry that is done with
+pub advanced_gives : (t : TableWork) (ts : List TableWork) → 0 < 512 - t.done → weight (advanced (t ∷ ts)) + entry_weight t.level ≡ weight (t ∷ ts)
+advanced_gives t ts b = let e = one_less t.done (entry_weight t.level) b in omega arith
 
 -- the innermost table is left
 pub popped_lowers : (t : TableWork) (ts : List TableWork) → weight ts < weight (t ∷ ts)

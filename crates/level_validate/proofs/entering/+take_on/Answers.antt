@@ -9,11 +9,13 @@ use Rattle.table_entries.specs.Asking.{ShowsResumed, of_entries}
 use Rattle.table_entries.specs.Found.{ResumesFound}
 use Rattle.table_entries.specs.Tops.{LeavesResumed, Opens, WorksAtTop}
 use Rattle.partial_state.specs.Levels.{level_type}
+use Rattle.partial_state.specs.Weights.{weight}
 use Rattle.level_validate.specs.Tables.{Carries}
 use Rattle.level_validate.proofs.Entered.{after_again, after_look, after_settled, back_one, fresh_ready, taken_gives, taken_ready, taken_stands}
 use Rattle.level_validate.proofs.LeavingTables.{top_inside}
 use Rattle.xp_words.specs.KindWords.{kind_fields}
 use Rattle.table_entries.specs.declared.resuming.Resumed.TheVariants as again
+use Rattle.level_validate.proofs.Lowering.{again_lowers}
 use Rattle.level_validate.proofs.Pushing.{pushed}
 use Rattle.level_validate.proofs.Opening.{again_found, level_below}
 use Rattle.level_validate.proofs.Visited.{resumed_first}
@@ -182,6 +184,12 @@ returns-in-Opened-clause-stands g n c v s =
     let inner = pushed t c.in-Opened.frame c.in-Opened.progress c.in-Opened.own true in
     c.take_on.ensures.stands v (subst (λ xs. Carries v x owner xs) (sym (c.push.ensures.pushed ∙ ap (λ ys. inner ∷ ys) c.requires.top))
     (after_again v u x owner t ts s0 came first i c.in-Opened.frame c.in-Opened.progress c.in-Opened.own at open_ left))
+
+pub returns-in-Opened-clause-less : goal.returns-in-Opened-clause-less
+returns-in-Opened-clause-less g n c =
+    let t = c.args.top in
+    let inner = pushed t c.in-Opened.frame c.in-Opened.progress c.in-Opened.own true in
+    again_lowers c.take_on.result (weight c.take_on.new.stack) inner t (drop 1 c.args.stack.now) c.args.stack.now c.push.new.self c.push.ensures.stack c.requires.top c.push.ensures.pushed c.take_on.ensures.less
 
 pub give_back-requires-clause-frame : goal.give_back-requires-clause-frame
 give_back-requires-clause-frame g n c =

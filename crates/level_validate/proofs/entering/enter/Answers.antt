@@ -10,9 +10,11 @@ use Rattle.table_entries.specs.Tops.{LeavesEntered, WorksNext}
 use Rattle.table_entries.specs.declared.entries.Entered.TheVariants as entered
 use Rattle.partial_state.specs.Levels.{level_type}
 use Rattle.partial_state.specs.Stacks.{advanced, left_on_top}
+use Rattle.partial_state.specs.Weights.{weight}
 use Rattle.level_validate.specs.Tables.{Carries}
 use Rattle.level_validate.proofs.Entered.{after_look, after_next, after_record, after_record_ready, fresh_ready}
 use Rattle.level_validate.proofs.LeavingTables.{top_inside}
+use Rattle.level_validate.proofs.Lowering.{next_lowers}
 use Rattle.level_validate.proofs.Opening.{opened_found}
 use Rattle.level_validate.proofs.Visited.{entered_first}
 use Rattle.level_validate.proofs.Pushing.{pushed}
@@ -263,6 +265,13 @@ returns-in-Opened-clause-stands g c v s =
     let came_open = opened_found u x t.frame t.done (level_type t.level) owner c.in-Opened.frame c.in-Opened.progress c.in-Opened.own way in
     let inner = pushed t c.in-Opened.frame c.in-Opened.progress c.in-Opened.own false in
     c.take_on.ensures.stands v (subst (λ xs. Carries v x owner xs) (sym (c.push.ensures.pushed ∙ ap (λ ys. inner ∷ ys) (c.advance-in-Opened.ensures.advanced ∙ ap advanced is))) (after_next v u x owner t ts s0 came first c.in-Opened.frame c.in-Opened.progress c.in-Opened.own (omega (arith, room)) c.requires.ready came_open left))
+
+pub returns-in-Opened-clause-less : goal.returns-in-Opened-clause-less
+returns-in-Opened-clause-less g c =
+    let t = c.in-Some.top in
+    let inner = pushed t c.in-Opened.frame c.in-Opened.progress c.in-Opened.own false in
+    next_lowers c.take_on.result (weight c.take_on.new.stack) inner t (drop 1 c.args.stack.now) c.args.stack.now c.push.new.self c.push.ensures.stack c.in-Some.ensures.some
+    (c.push.ensures.pushed ∙ ap (λ ys. inner ∷ ys) c.advance-in-Opened.ensures.advanced) c.requires.left c.take_on.ensures.less
 
 pub returns-in-Unsettled-clause-came : goal.returns-in-Unsettled-clause-came
 returns-in-Unsettled-clause-came g c =
