@@ -25,7 +25,7 @@ use Rattle.table_words.specs.declared.old_words.OldWord.TheVariants.{First}
 use Rattle.partial_state.specs.declared.stack.TableWork.{TableWork}
 use Rattle.partial_state.specs.Levels.{level_type}
 use Rattle.partial_state.specs.Stacks.{advanced, retreated}
-use Rattle.level_validate.specs.Serving.{AreAsked, GoesOn, IsPiece}
+use Rattle.level_validate.specs.Serving.{AreAsked, CarriesOn, IsPiece}
 use Rattle.level_validate.specs.Tables.{Carries}
 use Rattle.level_validate.specs.Unwinding.{around_lent}
 use Rattle.level_validate.proofs.LeavingTables.{top, top_here}
@@ -119,11 +119,11 @@ module _ (b v : PortValue) (whose : ℕ) (t : TableWork) (us : List TableWork) (
       (serves_step u v w r ds (Kind t.frame) (Store (kind_write l)) kinds.Kind None found a.serves store (top_asked u v w r owner t ts ds a (Met u w) (λ m x. met_before u v w m x came), keeps))
 
 -- ---- steps behind steps
-pub goes_nothing : (v : PortValue) (owner : ℕ) (ts : List TableWork) → GoesOn v v owner ts ts []
-unfolding GoesOn
+pub goes_nothing : (v : PortValue) (owner : ℕ) (ts : List TableWork) → CarriesOn v v owner ts ts []
+unfolding CarriesOn
 goes_nothing v owner ts u r ds a = a
 
-pub goes_then : (v x w : PortValue) (owner : ℕ) (ts us rs : List TableWork) (ds es : List Deed) → GoesOn v x owner ts us ds → GoesOn x w owner us rs es → GoesOn v w owner ts rs (es ++ ds)
-unfolding GoesOn
+pub goes_then : (v x w : PortValue) (owner : ℕ) (ts us rs : List TableWork) (ds es : List Deed) → CarriesOn v x owner ts us ds → CarriesOn x w owner us rs es → CarriesOn v w owner ts rs (es ++ ds)
+unfolding CarriesOn
 goes_then v x w owner ts us rs ds es first second u r fs a =
     subst (λ gs. IsPiece u w r owner rs gs) (sym (append_assoc es ds fs)) (second u r (ds ++ fs) (first u r fs a))

@@ -11,7 +11,7 @@ use Rattle.step_maker.proofs.Coming.{came_post, came_self, came_trans}
 use Rattle.table_words.specs.OldWords.{kept_in_old, known_old}
 use Rattle.table_words.specs.declared.old_words.OldWord.TheVariants.{First}
 use Rattle.partial_state.specs.declared.stack.TableWork.{TableWork}
-use Rattle.level_validate.specs.Serving.{GoesOn}
+use Rattle.level_validate.specs.Serving.{CarriesOn}
 use Rattle.level_validate.specs.Tables.{AreTables, IsStanding, Carries}
 use Rattle.level_validate.specs.Unwinding.{Unwinds, UnwindsTo, UnwoundTo, around_lent, left_so, named_unless, outermost_named, own_domain}
 use Rattle.level_validate.proofs.LeavingTables.{top, top_gone, top_typed}
@@ -100,7 +100,7 @@ stands_unwound v w owner kept (u ∷ us) h some s is = (s, is)
 pub record Unwinding (u w : PortValue) (kept : Bool) (ts us : List TableWork) : Type 0 where
   pub came : Came u w
   pub hand : UnwindsTo u w kept ts us
-  pub serves : (owner : ℕ) → GoesOn u w owner ts us []
+  pub serves : (owner : ℕ) → CarriesOn u w owner ts us []
 
 begins : (u v : PortValue) (kept : Bool) (ts : List TableWork) → Carries v u (own_domain u) ts → UnwoundTo v u (own_domain u) kept ts (outermost_named kept ts v.holdings)
 begins u v kept [] s = stands_none v u (own_domain u) s
@@ -130,7 +130,7 @@ module _ (u w : PortValue) (kept : Bool) (ts : List TableWork) (t : TableWork) (
       subst (λ o. UnwoundTo v x o kept rs (outermost_named kept ts v.holdings)) (sym same_domain)
       (subst (λ h. UnwoundTo v x (own_domain w) kept rs h) before.1 (hand v (subst (λ o. Carries v w o (t ∷ us)) same_domain before.0)))
 
-  pub unwinding_on : (x : PortValue) (rs : List TableWork) → Came w x → UnwindsTo w x kept (t ∷ us) rs → ((owner : ℕ) → GoesOn w x owner (t ∷ us) rs []) → Unwinding u x kept ts rs
+  pub unwinding_on : (x : PortValue) (rs : List TableWork) → Came w x → UnwindsTo w x kept (t ∷ us) rs → ((owner : ℕ) → CarriesOn w x owner (t ∷ us) rs []) → Unwinding u x kept ts rs
   unwinding_on x rs came hand serves =
       record { came = came_trans u w x g.came came; hand = on_from x rs hand; serves = λ owner. goes_then u w x owner ts (t ∷ us) rs [] [] (g.serves owner) (serves owner) }
 

@@ -24,8 +24,8 @@ pub record IsPiece (u v : PortValue) (r : Request) (owner : ℕ) (ts : List Tabl
   pub asked : AreAsked u.post.machine u.post.vcpu r (Met u v) ts
 
 -- Behind any such piece the steps from v to w go on with it, with these deeds more; and it asks the tables us then.
-unfoldable pub GoesOn : PortValue → PortValue → ℕ → List TableWork → List TableWork → List Deed → Type 0
-GoesOn v w owner ts us es = (u : PortValue) (r : Request) (ds : List Deed) → IsPiece u v r owner ts ds → IsPiece u w r owner us (es ++ ds)
+unfoldable pub CarriesOn : PortValue → PortValue → ℕ → List TableWork → List TableWork → List Deed → Type 0
+CarriesOn v w owner ts us es = (u : PortValue) (r : Request) (ds : List Deed) → IsPiece u v r owner ts ds → IsPiece u w r owner us (es ++ ds)
 
 -- and they show why it stops, where these tables came into work in it
 unfoldable pub StopsIn : PortValue → PortValue → ℕ → List TableWork → Stop → Type 0

@@ -14,7 +14,7 @@ ghost use Rattle.partial_state.specs.Levels.{level_type};
 ghost use Rattle.partial_state.specs.declared.stack.TableWork.{TableWork};
 ghost use Rattle.level_validate.specs.Completing.{Completes, IsInnerFull, count_for};
 ghost use Rattle.level_validate.specs.Giving.{MayGiveBack};
-ghost use Rattle.level_validate.specs.Serving.{GoesOn};
+ghost use Rattle.level_validate.specs.Serving.{CarriesOn};
 ghost use Rattle.level_validate.specs.Tables.{IsTopReady, IsStanding, StandsOn};
 
 use frame_types::drop_type;
@@ -32,7 +32,7 @@ pub(crate) fn complete_outer<P: Port>(port: &mut P, table: TableWork)
     requires full { table.done ≡ 512 }
     ensures came { Came (P.value port.old) (P.value port.new) }
     ensures hand { Completes (P.value port.old) (P.value port.new) table }
-    ensures serves { (owner : ℕ) → GoesOn (P.value port.old) (P.value port.new) owner (table ∷ []) [] [] }
+    ensures serves { (owner : ℕ) → CarriesOn (P.value port.old) (P.value port.new) owner (table ∷ []) [] [] }
 {
     make_live(port, table);
 }
@@ -47,7 +47,7 @@ pub(crate) fn complete_inner<P: Port>(port: &mut P, stack: &mut Stack)
     ensures came { Came (P.value port.old) (P.value port.new) }
     ensures stands { (owner : ℕ) → StandsOn (P.value port.old) (P.value port.new) owner stack.old stack.new }
     ensures popped { stack.new ≡ drop 1 stack.old }
-    ensures serves { (owner : ℕ) → GoesOn (P.value port.old) (P.value port.new) owner stack.old stack.new [] }
+    ensures serves { (owner : ℕ) → CarriesOn (P.value port.old) (P.value port.new) owner stack.old stack.new [] }
     ensures ready { IsTopReady (P.value port.new) }
 {
     if let Some(table) = stack.pop() {
@@ -69,7 +69,7 @@ fn complete_in<P: Port>(port: &mut P, table: TableWork, outer: TableWork)
     requires full { table.done ≡ 512 }
     ensures came { Came (P.value port.old) (P.value port.new) }
     ensures stands { (owner : ℕ) (us : List TableWork) → StandsOn (P.value port.old) (P.value port.new) owner (table ∷ outer ∷ us) (outer ∷ us) }
-    ensures serves { (owner : ℕ) (us : List TableWork) → GoesOn (P.value port.old) (P.value port.new) owner (table ∷ outer ∷ us) (outer ∷ us) [] }
+    ensures serves { (owner : ℕ) (us : List TableWork) → CarriesOn (P.value port.old) (P.value port.new) owner (table ∷ outer ∷ us) (outer ∷ us) [] }
     ensures ready { IsTopReady (P.value port.new) }
 {
     make_live(port, table);

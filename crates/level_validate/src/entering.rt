@@ -6,7 +6,7 @@ ghost use Rattle.table_entries.specs.Asking.{IsEntryStop};
 ghost use Rattle.answer_fits.specs.Answers.{misses};
 ghost use Rattle.partial_state.specs.Stacks.{left_on_top};
 ghost use Rattle.partial_state.specs.Weights.{entry_weight, weight};
-ghost use Rattle.level_validate.specs.Serving.{GoesOn, StopsIn};
+ghost use Rattle.level_validate.specs.Serving.{CarriesOn, StopsIn};
 ghost use Rattle.level_validate.specs.Tables.{IsTopReady, IsStanding, StandsOn};
 
 use crate::completing::give_back;
@@ -28,7 +28,7 @@ pub(crate) fn enter<P: Port>(port: &mut P, owner: u16, stack: &mut Stack) -> Res
     ensures kinds { IfErr result IsEntryStop }
     // What is left to do grows less.
     ensures less { IfOk result (λ _. weight stack.new < weight stack.old) }
-    ensures serves { GoesOn (P.value port.old) (P.value port.new) owner stack.old stack.new (misses (P.value port.old).post.machine result) }
+    ensures serves { CarriesOn (P.value port.old) (P.value port.new) owner stack.old stack.new (misses (P.value port.old).post.machine result) }
     ensures stops { IfErr result (λ e. StopsIn (P.value port.old) (P.value port.new) owner stack.old e) }
 {
     let Some(top) = stack.top() else {
@@ -80,7 +80,7 @@ fn take_on<P: Port>(port: &mut P, owner: u16, stack: &mut Stack, top: TableWork)
     ensures ready { IfOk result (λ _. IsTopReady (P.value port.new)) }
     ensures kinds { IfErr result IsEntryStop }
     ensures less { IfOk result (λ _. weight stack.new < weight stack.old + entry_weight top.level) }
-    ensures serves { GoesOn (P.value port.old) (P.value port.new) owner stack.old stack.new (misses (P.value port.old).post.machine result) }
+    ensures serves { CarriesOn (P.value port.old) (P.value port.new) owner stack.old stack.new (misses (P.value port.old).post.machine result) }
     ensures stops { IfErr result (λ e. StopsIn (P.value port.old) (P.value port.new) owner stack.old e) }
 {
     if top.done == 0 {

@@ -12,7 +12,7 @@ ghost use Rattle.table_words.specs.OldWords.{known_old};
 ghost use Rattle.table_words.specs.declared.old_words.OldWord.TheVariants.{First};
 ghost use Rattle.partial_state.specs.Levels.{level_type};
 ghost use Rattle.partial_state.specs.declared.stack.TableWork.{TableWork};
-ghost use Rattle.level_validate.specs.Serving.{GoesOn};
+ghost use Rattle.level_validate.specs.Serving.{CarriesOn};
 ghost use Rattle.level_validate.specs.Tables.{IsStanding, StandsOn};
 ghost use Rattle.level_validate.specs.Unwinding.{Unwinds, UnwindsTo, around_lent, left_so, own_domain};
 
@@ -31,7 +31,7 @@ pub(crate) fn unwind<P: Port>(port: &mut P, stack: &mut Stack, kept: bool)
     ensures came { Came (P.value port.old) (P.value port.new) }
     ensures hand { Unwinds (P.value port.old) (P.value port.new) kept stack.old }
     ensures done { stack.new ≡ [] }
-    ensures serves { (owner : ℕ) → GoesOn (P.value port.old) (P.value port.new) owner stack.old [] [] }
+    ensures serves { (owner : ℕ) → CarriesOn (P.value port.old) (P.value port.new) owner stack.old [] [] }
 {
     while let Some(table) = stack.pop() {
         leave_table(port, stack, table, kept);
@@ -46,7 +46,7 @@ fn leave_table<P: Port>(port: &mut P, stack: &mut Stack, table: TableWork, kept:
     ensures came { Came (P.value port.old) (P.value port.new) }
     ensures hand { UnwindsTo (P.value port.old) (P.value port.new) kept (table ∷ stack.old) stack.new }
     ensures fewer { length stack.new ≡ length stack.old }
-    ensures serves { (owner : ℕ) → GoesOn (P.value port.old) (P.value port.new) owner (table ∷ stack.old) stack.new [] }
+    ensures serves { (owner : ℕ) → CarriesOn (P.value port.old) (P.value port.new) owner (table ∷ stack.old) stack.new [] }
 {
     if stack.is_empty() {
         leave_outermost(port, table, kept);
@@ -62,7 +62,7 @@ fn leave_outermost<P: Port>(port: &mut P, table: TableWork, kept: bool)
     requires room { kept ≡ false → known_old First (P.value port.old).holdings ≡ Some 0 }
     ensures came { Came (P.value port.old) (P.value port.new) }
     ensures hand { Unwinds (P.value port.old) (P.value port.new) kept (table ∷ []) }
-    ensures serves { (owner : ℕ) → GoesOn (P.value port.old) (P.value port.new) owner (table ∷ []) [] [] }
+    ensures serves { (owner : ℕ) → CarriesOn (P.value port.old) (P.value port.new) owner (table ∷ []) [] [] }
 {
     if table.own {
         leave_named(port, table, kept);
@@ -79,7 +79,7 @@ fn leave_named<P: Port>(port: &mut P, table: TableWork, kept: bool)
     requires room { kept ≡ false → known_old First (P.value port.old).holdings ≡ Some 0 }
     ensures came { Came (P.value port.old) (P.value port.new) }
     ensures hand { Unwinds (P.value port.old) (P.value port.new) kept (table ∷ []) }
-    ensures serves { (owner : ℕ) → GoesOn (P.value port.old) (P.value port.new) owner (table ∷ []) [] [] }
+    ensures serves { (owner : ℕ) → CarriesOn (P.value port.old) (P.value port.new) owner (table ∷ []) [] [] }
 {
     leave_partial(port, table, kept);
     if !kept {
@@ -95,7 +95,7 @@ fn leave_inner<P: Port>(port: &mut P, stack: &mut Stack, table: TableWork)
     ensures came { Came (P.value port.old) (P.value port.new) }
     ensures stands { StandsOn (P.value port.old) (P.value port.new) (own_domain (P.value port.old)) (table ∷ stack.old) stack.new }
     ensures around { (b : Bool) × (stack.new ≡ around_lent b stack.old) }
-    ensures serves { (owner : ℕ) → GoesOn (P.value port.old) (P.value port.new) owner (table ∷ stack.old) stack.new [] }
+    ensures serves { (owner : ℕ) → CarriesOn (P.value port.old) (P.value port.new) owner (table ∷ stack.old) stack.new [] }
 {
     if table.own {
         leave_own(port, stack, table);
@@ -116,7 +116,7 @@ fn leave_own<P: Port>(port: &mut P, stack: &Stack, table: TableWork)
     requires inner { stack.now ≢ [] }
     ensures came { Came (P.value port.old) (P.value port.new) }
     ensures stands { StandsOn (P.value port.old) (P.value port.new) (own_domain (P.value port.old)) (table ∷ stack.now) stack.now }
-    ensures serves { (owner : ℕ) → GoesOn (P.value port.old) (P.value port.new) owner (table ∷ stack.now) stack.now [] }
+    ensures serves { (owner : ℕ) → CarriesOn (P.value port.old) (P.value port.new) owner (table ∷ stack.now) stack.now [] }
 {
     leave_partial(port, table, table.recorded);
     if !table.recorded {
@@ -133,7 +133,7 @@ fn leave_lent<P: Port>(port: &mut P, table: TableWork)
     requires lent { table.own ≡ false }
     ensures came { Came (P.value port.old) (P.value port.new) }
     ensures stands { (ts : List TableWork) → StandsOn (P.value port.old) (P.value port.new) (own_domain (P.value port.old)) (table ∷ ts) (around_lent table.recorded ts) }
-    ensures serves { (owner : ℕ) (ts : List TableWork) → GoesOn (P.value port.old) (P.value port.new) owner (table ∷ ts) (around_lent table.recorded ts) [] }
+    ensures serves { (owner : ℕ) (ts : List TableWork) → CarriesOn (P.value port.old) (P.value port.new) owner (table ∷ ts) (around_lent table.recorded ts) [] }
 {
     leave_partial(port, table, false);
     put_ref(port, table.frame);

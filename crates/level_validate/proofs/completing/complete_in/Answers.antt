@@ -1,7 +1,7 @@
 use Rattle.std.proofs.Common.{◌∷◌, ◌<◌, refl, sym, subst}
 use Rattle.xp_board.specs.Told.{Post}
 use Rattle.step_maker.proofs.Coming.{came_post, came_trans, moves_came}
-use Rattle.level_validate.specs.Serving.{GoesOn}
+use Rattle.level_validate.specs.Serving.{CarriesOn}
 use Rattle.level_validate.proofs.Completed.{live_hand, live_leaves}
 use Rattle.level_validate.proofs.LeavingTables.{top_inside}
 use Rattle.level_validate.proofs.Nested.{live_gives, live_records, new_ready, new_stands, old_ready, old_stands}
@@ -153,7 +153,7 @@ returns-else-table-clause-ready g c =
     new_ready v w owner t u us s d c.make_live.result c.make_live.ensures.moves l c.if-table.false x c.record_entry.ensures.hand (came_trans w d x came_d (moves_came d x _ _ _ _ c.record_entry.result c.record_entry.ensures.moves))
 
 pub returns-then-table-clause-serves : goal.returns-then-table-clause-serves
-unfolding GoesOn
+unfolding CarriesOn
 returns-then-table-clause-serves g c owner us u r ds a =
     let w = g.P.Port.value c.args.port.now in
     let t = c.args.table in
@@ -165,7 +165,7 @@ returns-then-table-clause-serves g c owner us u r ds a =
     piece_rest u x r owner t (o ∷ us) ds (piece_back u d x r owner t (o ∷ us) ds left c.give_back.ensures.serves)
 
 pub returns-else-table-clause-serves : goal.returns-else-table-clause-serves
-unfolding GoesOn
+unfolding CarriesOn
 returns-else-table-clause-serves g c owner us u r ds a =
     let w = g.P.Port.value c.args.port.now in
     let t = c.args.table in

@@ -1,6 +1,6 @@
 use Rattle.std.proofs.Common.{[], refl}
 use Rattle.step_maker.proofs.Coming.{moves_came}
-use Rattle.level_validate.specs.Serving.{GoesOn}
+use Rattle.level_validate.specs.Serving.{CarriesOn}
 use Rattle.level_validate.proofs.Completed.{live_hand, live_leaves, outer_live}
 use Rattle.level_validate.proofs.LeavingTables.{top_inside}
 use Rattle.level_validate.proofs.Serving.{piece_left, piece_rest}
@@ -23,7 +23,7 @@ returns-clause-hand g c v owner s =
     outer_live v w d owner c.args.table s (live_hand v w owner c.args.table [] s c.args.table.own refl d c.make_live.ensures.hand)
 
 pub returns-clause-serves : goal.returns-clause-serves
-unfolding GoesOn
+unfolding CarriesOn
 returns-clause-serves g c owner u r ds a =
     let b = c.requires.stands in
     let t = c.args.table in

@@ -2,7 +2,7 @@ use Rattle.std.proofs.Common.{false, [], refl}
 use Rattle.step_maker.proofs.Coming.{came_trans, moves_came}
 use Rattle.answer_fits.specs.Asked.{of_back}
 use Rattle.answer_fits.proofs.Piecing.{serves_came}
-use Rattle.level_validate.specs.Serving.{GoesOn}
+use Rattle.level_validate.specs.Serving.{CarriesOn}
 use Rattle.level_validate.proofs.LeavingTables.{top_spelled}
 use Rattle.level_validate.proofs.Serving.{piece_around, piece_back, piece_left, piece_rest}
 use Rattle.level_validate.specs.Unwinding.{own_domain}
@@ -31,7 +31,7 @@ returns-clause-stands g c ts v s =
     lent_stands v w (own_domain w) c.args.table ts s c.requires.lent d c.leave_partial.result c.leave_partial.ensures.moves c.leave_partial.ensures.hand x c.put_ref.ensures.hand came c.args.table.recorded refl
 
 pub returns-clause-serves : goal.returns-clause-serves
-unfolding GoesOn
+unfolding CarriesOn
 returns-clause-serves g c owner ts u r ds a =
     let b = c.requires.stands in
     let t = c.args.table in

@@ -1,6 +1,6 @@
 use Rattle.std.proofs.Common.{true, false, [], ◌∷◌, ◌+◌, refl}
 use Rattle.step_maker.proofs.Coming.{came_trans, moves_came}
-use Rattle.level_validate.specs.Serving.{GoesOn}
+use Rattle.level_validate.specs.Serving.{CarriesOn}
 use Rattle.level_validate.proofs.Serving.{piece_left, piece_names, piece_rest}
 use Rattle.level_validate.specs.Unwinding.{own_domain}
 use Rattle.level_validate.proofs.LeavingTables.{left_as, top_held, top_spelled}
@@ -43,7 +43,7 @@ returns-else-not-kept-clause-hand g c v s =
     outer_kept v w (own_domain w) t c.args.kept s c.requires.own on d (left_as w d t.frame c.args.kept true on c.leave_partial.ensures.hand) (moves_came w d _ _ _ _ c.leave_partial.result c.leave_partial.ensures.moves)
 
 pub returns-then-not-kept-clause-serves : goal.returns-then-not-kept-clause-serves
-unfolding GoesOn
+unfolding CarriesOn
 returns-then-not-kept-clause-serves g c owner u r ds a =
     let b = c.requires.stands in
     let t = c.args.table in
@@ -55,7 +55,7 @@ returns-then-not-kept-clause-serves g c owner u r ds a =
     piece_rest u x r owner t [] ds (piece_names u d x r owner (t ∷ []) ds left (t.frame + 1) c.put_old.ensures.moves)
 
 pub returns-else-not-kept-clause-serves : goal.returns-else-not-kept-clause-serves
-unfolding GoesOn
+unfolding CarriesOn
 returns-else-not-kept-clause-serves g c owner u r ds a =
     let b = c.requires.stands in
     let t = c.args.table in

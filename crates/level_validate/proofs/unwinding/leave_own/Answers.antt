@@ -1,5 +1,5 @@
 use Rattle.std.proofs.Common.{true, false, ◌∷◌, drop, refl, sym, subst}
-use Rattle.level_validate.specs.Serving.{GoesOn}
+use Rattle.level_validate.specs.Serving.{CarriesOn}
 use Rattle.level_validate.proofs.Serving.{piece_left, piece_records, piece_rest}
 use Rattle.level_validate.specs.Tables.{Carries}
 use Rattle.level_validate.specs.Unwinding.{own_domain}
@@ -50,7 +50,7 @@ returns-else-not-table-clause-stands g c v s =
     (moves_came w d _ _ _ _ c.leave_partial.result c.leave_partial.ensures.moves) old
 
 pub returns-in-Some-clause-serves : goal.returns-in-Some-clause-serves
-unfolding GoesOn
+unfolding CarriesOn
 returns-in-Some-clause-serves g c owner u r ds a =
     let b = c.requires.stands in
     let t = c.args.table in
@@ -64,7 +64,7 @@ returns-in-Some-clause-serves g c owner u r ds a =
     piece_rest u x r owner t ts ds (piece_records u d x r owner (t ∷ ts) ds left o.frame o.done c.record_entry.result c.record_entry.ensures.moves)
 
 pub returns-else-not-table-clause-serves : goal.returns-else-not-table-clause-serves
-unfolding GoesOn
+unfolding CarriesOn
 returns-else-not-table-clause-serves g c owner u r ds a =
     let b = c.requires.stands in
     let t = c.args.table in
