@@ -1,5 +1,7 @@
 -- What the entries of a table in the own works ask, which cells are looked at for it, and what the steps show.
-use Rattle.std.specs.Prelude.{◌≡◌, ℕ, true, false, List, None}
+use Rattle.std.specs.Prelude.{◌≡◌, ℕ, true, false, List, None, Some}
+use Rattle.xp_words.specs.Entries.{below}
+use Rattle.xp_words.specs.declared.kind.PageType.{PageType}
 use Rattle.xp_words.specs.declared.place.Place.TheVariants.{Cell}
 use Rattle.xp_words.specs.declared.reply.Pause.TheVariants.{Busy, Flush, Lost}
 use Rattle.xp_words.specs.declared.reply.Refusal.TheVariants as refusals
@@ -10,11 +12,11 @@ use Rattle.xp_board.specs.Lists.{EachOf}
 use Rattle.xp_board.specs.Told.{PortValue}
 use Rattle.step_maker.specs.Moves.{Moment, Ran, Met}
 use Rattle.answer_fits.specs.Answers.{Stops}
-use Rattle.answer_fits.specs.Asked.{Request, of_frame}
+use Rattle.answer_fits.specs.Asked.{Asked, Request, of_frame}
 use Rattle.answer_fits.specs.Pauses.{Progress}
 use Rattle.flush_waits.specs.Waiting.{IsWait}
 use Rattle.table_entries.specs.declared.entries.Entered.{Entered}
-use Rattle.table_entries.specs.declared.entries.Entered.TheVariants.{Recorded, Unsettled}
+use Rattle.table_entries.specs.declared.entries.Entered.TheVariants.{Recorded, Opened, Unsettled}
 use Rattle.table_entries.specs.declared.resuming.Resumed.{Resumed}
 use Rattle.table_entries.specs.declared.resuming.Resumed.TheVariants as again
 
@@ -43,12 +45,19 @@ IsEntryStop (Paused (Busy f found)) = Unit {0}
 IsEntryStop (Paused (Flush vcpu stamp found)) = Unit {0}
 IsEntryStop _ = ⊥
 
--- what the steps show where the entry was met: it is recorded; and where its frame waits for a flush, why that is not to be had
-abbrev pub ShowsEntered : PortValue → PortValue → ℕ → ℕ → Entered → Type 0
-ShowsEntered v w owner pages Recorded = Progress (Met v w)
-ShowsEntered v w owner pages (Unsettled stop) = Progress (Met v w) × IsWait stop × Stops v w (of_entries owner pages) stop
-ShowsEntered v w owner pages _ = Unit {0}
+-- the entry, of a table of type t, asks that frame for the type below
+abbrev pub AsksBelow : PortValue → PortValue → ℕ → ℕ → PageType → ℕ → Type 0
+AsksBelow v w owner pages t f = Asked v.post.machine v.post.vcpu (of_entries owner pages) (Met v w) f owner (Some (below t))
 
-abbrev pub ShowsResumed : PortValue → PortValue → ℕ → ℕ → Resumed → Type 0
-ShowsResumed v w owner pages (again.Waiting frame own stamp stop) = IsWait stop × Stops v w (of_entries owner pages) stop
-ShowsResumed v w owner pages _ = Unit {0}
+-- what the steps show where the entry was met: it is recorded; or it asks the frame that came into the own works; and where its frame
+-- waits for a flush, why that is not to be had
+abbrev pub ShowsEntered : PortValue → PortValue → ℕ → ℕ → PageType → Entered → Type 0
+ShowsEntered v w owner pages t Recorded = Progress (Met v w)
+ShowsEntered v w owner pages t (Opened frame progress own) = AsksBelow v w owner pages t frame
+ShowsEntered v w owner pages t (Unsettled stop) = Progress (Met v w) × IsWait stop × Stops v w (of_entries owner pages) stop
+
+abbrev pub ShowsResumed : PortValue → PortValue → ℕ → ℕ → PageType → Resumed → Type 0
+ShowsResumed v w owner pages t again.Settled = Unit {0}
+ShowsResumed v w owner pages t (again.Taken frame) = AsksBelow v w owner pages t frame
+ShowsResumed v w owner pages t (again.Opened frame progress own) = AsksBelow v w owner pages t frame
+ShowsResumed v w owner pages t (again.Waiting frame own stamp stop) = AsksBelow v w owner pages t frame × IsWait stop × Stops v w (of_entries owner pages) stop

@@ -64,7 +64,7 @@ pub fn take_entry<P: Port>(port: &mut P, at: TableEntry) -> Result<Entered, Stop
     ensures serves { (pages : ℕ) → Serves (P.value port.old) (P.value port.new) (of_entries at.owner pages) (misses (P.value port.old).post.machine result) }
     ensures stops { (pages : ℕ) → IfErr result (λ e. Stops (P.value port.old) (P.value port.new) (of_entries at.owner pages) e) }
     ensures kinds { IfErr result IsEntryStop }
-    ensures shows { (pages : ℕ) → IfOk result (λ a. ShowsEntered (P.value port.old) (P.value port.new) at.owner pages a) }
+    ensures shows { (pages : ℕ) → IfOk result (λ a. ShowsEntered (P.value port.old) (P.value port.new) at.owner pages at.kind a) }
     ensures looks { LooksOnly (P.value port.old) (P.value port.new) at.table at.index }
     // By the words that the steps found.
     ensures found { EntersFound (P.value port.old) (P.value port.new) at.table at.index at.kind at.owner result }
@@ -92,7 +92,7 @@ pub fn take_entry<P: Port>(port: &mut P, at: TableEntry) -> Result<Entered, Stop
 fn take_plain<P: Port>(port: &mut P, at: TableEntry, frame: u64) -> Result<Entered, Stop>
     requires may { MayWork (P.value port.old) }
     requires looked { HasLooked (P.value port.old) at.table at.index at.owner at.kind (Read frame) }
-    ensures enters { FromLook (P.value port.old) at.table at.index at.owner at.kind (Read frame) (λ b. (pages : ℕ) → MeetsEntry b (P.value port.new) at.table at.index at.owner pages result) }
+    ensures enters { FromLook (P.value port.old) at.table at.index at.owner at.kind (Read frame) (λ b. (pages : ℕ) → MeetsEntry b (P.value port.new) at.table at.index at.owner pages at.kind result) }
     ensures hand { FromLook (P.value port.old) at.table at.index at.owner at.kind (Read frame) (λ b. HandEntered b (P.value port.new) at.table at.index at.owner at.kind result) }
     ensures found { FromLook (P.value port.old) at.table at.index at.owner at.kind (Read frame) (λ b. EntersFound b (P.value port.new) at.table at.index at.kind at.owner result) }
     ensures plain { FromLook (P.value port.old) at.table at.index at.owner at.kind (Read frame) (λ b. TwinEntry b (P.value port.new) at.table at.kind at.index at.owner result) }
@@ -111,7 +111,7 @@ fn take_typed<P: Port>(
 ) -> Result<Entered, Stop>
     requires may { MayWork (P.value port.old) }
     requires looked { HasLooked (P.value port.old) at.table at.index at.owner at.kind (Typed frame want) }
-    ensures enters { FromLook (P.value port.old) at.table at.index at.owner at.kind (Typed frame want) (λ b. (pages : ℕ) → MeetsEntry b (P.value port.new) at.table at.index at.owner pages result) }
+    ensures enters { FromLook (P.value port.old) at.table at.index at.owner at.kind (Typed frame want) (λ b. (pages : ℕ) → MeetsEntry b (P.value port.new) at.table at.index at.owner pages at.kind result) }
     ensures hand { FromLook (P.value port.old) at.table at.index at.owner at.kind (Typed frame want) (λ b. HandEntered b (P.value port.new) at.table at.index at.owner at.kind result) }
     ensures found { FromLook (P.value port.old) at.table at.index at.owner at.kind (Typed frame want) (λ b. EntersFound b (P.value port.new) at.table at.index at.kind at.owner result) }
     ensures plain { FromLook (P.value port.old) at.table at.index at.owner at.kind (Typed frame want) (λ b. TwinEntry b (P.value port.new) at.table at.kind at.index at.owner result) }

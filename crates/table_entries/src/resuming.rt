@@ -57,7 +57,7 @@ pub fn resume_entry<P: Port>(port: &mut P, at: TableEntry) -> Result<Resumed, St
     ensures serves { (pages : ℕ) → Serves (P.value port.old) (P.value port.new) (of_entries at.owner pages) (misses (P.value port.old).post.machine result) }
     ensures stops { (pages : ℕ) → IfErr result (λ e. Stops (P.value port.old) (P.value port.new) (of_entries at.owner pages) e) }
     ensures kinds { IfErr result IsEntryStop }
-    ensures shows { (pages : ℕ) → IfOk result (λ a. ShowsResumed (P.value port.old) (P.value port.new) at.owner pages a) }
+    ensures shows { (pages : ℕ) → IfOk result (λ a. ShowsResumed (P.value port.old) (P.value port.new) at.owner pages at.kind a) }
     ensures looks { LooksOnly (P.value port.old) (P.value port.new) at.table at.index }
     // By the words that the steps found: it is taken again only where its frame was not found live.
     ensures found { ResumesFound (P.value port.old) (P.value port.new) at.table at.index at.kind at.owner result }

@@ -27,7 +27,7 @@ pub(crate) struct Late {
 pub(crate) fn wait_entry<P: Port>(port: &mut P, at: TableEntry, late: Late) -> Result<Entered, Stop>
     requires may { MayWork (P.value port.old) }
     requires waits { HasWaited (P.value port.old) at.table at.index at.owner at.kind late.frame late.want late.own late.stamp late.stop }
-    ensures enters { FromWait (P.value port.old) at.table at.index at.owner at.kind late.frame late.want late.own late.stamp late.stop (λ b. (pages : ℕ) → MeetsEntry b (P.value port.new) at.table at.index at.owner pages result) }
+    ensures enters { FromWait (P.value port.old) at.table at.index at.owner at.kind late.frame late.want late.own late.stamp late.stop (λ b. (pages : ℕ) → MeetsEntry b (P.value port.new) at.table at.index at.owner pages at.kind result) }
     ensures hand { FromWait (P.value port.old) at.table at.index at.owner at.kind late.frame late.want late.own late.stamp late.stop (λ b. HandEntered b (P.value port.new) at.table at.index at.owner at.kind result) }
     ensures found { FromWait (P.value port.old) at.table at.index at.owner at.kind late.frame late.want late.own late.stamp late.stop (λ b. EntersFound b (P.value port.new) at.table at.index at.kind at.owner result) }
     ensures plain { FromWait (P.value port.old) at.table at.index at.owner at.kind late.frame late.want late.own late.stamp late.stop (λ b. TwinEntry b (P.value port.new) at.table at.kind at.index at.owner result) }
