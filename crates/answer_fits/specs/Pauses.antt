@@ -14,12 +14,14 @@ use Rattle.xp_board.specs.declared.step.Act.TheVariants.{Cas, Max, Store}
 use Rattle.xp_board.specs.declared.step.Mark.{Mark}
 use Rattle.xp_board.specs.declared.step.Mark.TheVariants as marks
 use Rattle.xp_board.specs.declared.holdings.Holdings.{Holdings}
+use Rattle.xp_board.specs.declared.holdings.Seen.{Seen}
+use Rattle.xp_board.specs.declared.holdings.Work.{Work}
 use Rattle.xp_board.specs.Steps.{last_since}
 use Rattle.xp_board.specs.Flushes.{is_idle}
 use Rattle.xp_board.specs.Hands.{work_on, lock_on, ending_of}
-use Rattle.xp_board.specs.Readings.{is_work, is_locked, is_closing, is_live, is_partial, is_type, is_dying, owner_of, domain_of, has_ever}
+use Rattle.xp_board.specs.Readings.{is_work, is_locked, is_closing, is_live, is_type, is_dying, owner_of, domain_of, has_ever}
 use Rattle.xp_words.specs.declared.kind.PageType.{PageType}
-use Rattle.answer_fits.specs.Asked.{Request, Asked, Passed}
+use Rattle.answer_fits.specs.Asked.{Request, Asked, IsDemandOf, Passed, demand_held}
 use Rattle.step_maker.specs.Moves.{Moment}
 use Rattle.answer_fits.specs.Finding.{Finding, FoundAt, FoundWith, Did}
 use Rattle.answer_fits.specs.Reasons.{AwaitsStamp, Reason, MayReach}
@@ -30,10 +32,12 @@ is_entry_mark (Some (marks.Record f upto)) = true
 is_entry_mark (Some (marks.Shed f upto)) = true
 is_entry_mark _ = false
 
--- one of the steps recorded or shed an entry, or made a frame live
+-- One of the steps recorded or shed an entry; or it made a frame live that the last recorded entry of a table in the own works asks,
+-- as the vCPU found that entry.
 pub data Progress (F : Finding) : Type 0 where
   entry : (m : Moment) → F m → IsTrue (is_entry_mark m.mark) → Progress F
-  live : (m : Moment) (f new x : ℕ) → F m → m.place ≡ Kind f → m.act ≡ Store new → IsTrue (is_live (kind_fields new)) → FoundAt F (Kind f) x → IsTrue (is_partial (kind_fields x)) → Progress F
+  settles : (m : Moment) (f t new : ℕ) (e : Work) (s : Seen) → F m → m.place ≡ Kind f → m.act ≡ Store new → IsTrue (is_live (kind_fields new)) → work_on t m.hand.works ≡ Some e →
+      e.seen ≡ Some s → s.index < e.recorded → IsDemandOf f None (demand_held t s.index s.word m.hand) → Progress F
 
 -- ---- exchanges
 -- an exchange found another word than the last step of this piece at that place had found or left there
