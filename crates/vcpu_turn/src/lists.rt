@@ -30,7 +30,7 @@ pub trait Items {
     fn len(&self) -> usize
         ensures { result ≡ count self.now };
 
-    /// DoesNext one, or says why not. Nothing is left in hand.
+    /// Does one, or says why not. Nothing is left in hand.
     fn element<P: Port>(
         &self,
         port: &mut P,
