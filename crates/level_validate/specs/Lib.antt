@@ -1,3 +1,4 @@
+pub mod Acquiring
 pub mod Completing
 pub mod Giving
 pub mod Tables

@@ -5,9 +5,10 @@ ghost use Rattle.xp_words.specs.declared.place.Place.TheVariants.{Kind};
 ghost use Rattle.xp_board.specs.declared.step.Act.TheVariants.{Store};
 ghost use Rattle.xp_board.specs.declared.step.StepKind.TheVariants as kinds;
 ghost use Rattle.step_maker.specs.Holds.{Holds, MayWork};
-ghost use Rattle.step_maker.specs.Moves.{Came, Moves};
+ghost use Rattle.step_maker.specs.Moves.{Came, Met, Moves};
 ghost use Rattle.answer_fits.specs.Answers.{Serves};
 ghost use Rattle.answer_fits.specs.Asked.{of_back};
+ghost use Rattle.answer_fits.specs.Pauses.{Progress};
 ghost use Rattle.kind_words.specs.Kinds.{MayLeave, left, live_kind};
 ghost use Rattle.frame_types.specs.Taking.{gave_type};
 ghost use Rattle.partial_state.specs.Levels.{level_type};
@@ -47,6 +48,7 @@ pub(crate) fn complete_inner<P: Port>(port: &mut P, stack: &mut Stack)
     ensures came { Came (P.value port.old) (P.value port.new) }
     ensures stands { (owner : ℕ) → StandsOn (P.value port.old) (P.value port.new) owner stack.old stack.new }
     ensures popped { stack.new ≡ drop 1 stack.old }
+    ensures progress { Progress (Met (P.value port.old) (P.value port.new)) }
     ensures serves { (owner : ℕ) → CarriesOn (P.value port.old) (P.value port.new) owner stack.old stack.new [] }
     ensures ready { IsTopReady (P.value port.new) }
 {
@@ -70,6 +72,7 @@ fn complete_in<P: Port>(port: &mut P, table: TableWork, outer: TableWork)
     ensures came { Came (P.value port.old) (P.value port.new) }
     ensures stands { (owner : ℕ) (us : List TableWork) → StandsOn (P.value port.old) (P.value port.new) owner (table ∷ outer ∷ us) (outer ∷ us) }
     ensures serves { (owner : ℕ) (us : List TableWork) → CarriesOn (P.value port.old) (P.value port.new) owner (table ∷ outer ∷ us) (outer ∷ us) [] }
+    ensures progress { Progress (Met (P.value port.old) (P.value port.new)) }
     ensures ready { IsTopReady (P.value port.new) }
 {
     make_live(port, table);

@@ -1,11 +1,13 @@
 //! The next entry of the innermost table, and the last recorded one of a table that was left unfinished.
-ghost use Rattle.std.specs.Prelude.{◌≡◌, ◌+◌, ◌<◌, ◌∷◌, ℕ, drop, IfOk, IfErr};
+ghost use Rattle.std.specs.Prelude.{◌≡◌, ◌+◌, ◌<◌, ◌≤◌, ◌∷◌, ℕ, drop, length, IfOk, IfErr};
 ghost use Rattle.step_maker.specs.Holds.{MayWork};
-ghost use Rattle.step_maker.specs.Moves.{Came};
+ghost use Rattle.step_maker.specs.Moves.{Came, Met};
 ghost use Rattle.table_entries.specs.Asking.{IsEntryStop};
 ghost use Rattle.answer_fits.specs.Answers.{misses};
+ghost use Rattle.answer_fits.specs.Pauses.{Progress};
 ghost use Rattle.partial_state.specs.Stacks.{left_on_top};
 ghost use Rattle.partial_state.specs.Weights.{entry_weight, weight};
+ghost use Rattle.level_validate.specs.Acquiring.{outermost};
 ghost use Rattle.level_validate.specs.Serving.{CarriesOn, StopsIn};
 ghost use Rattle.level_validate.specs.Tables.{IsTopReady, IsStanding, StandsOn};
 
@@ -26,6 +28,9 @@ pub(crate) fn enter<P: Port>(port: &mut P, owner: u16, stack: &mut Stack) -> Res
     ensures stands { StandsOn (P.value port.old) (P.value port.new) owner stack.old stack.new }
     ensures ready { IfOk result (λ _. IsTopReady (P.value port.new)) }
     ensures kinds { IfErr result IsEntryStop }
+    ensures outer { outermost stack.new ≡ outermost stack.old }
+    // A table that is no deeper than before has one entry more recorded.
+    ensures progress { IfOk result (λ _. length stack.new ≡ length stack.old → Progress (Met (P.value port.old) (P.value port.new))) }
     // What is left to do grows less.
     ensures less { IfOk result (λ _. weight stack.new < weight stack.old) }
     ensures serves { CarriesOn (P.value port.old) (P.value port.new) owner stack.old stack.new (misses (P.value port.old).post.machine result) }
@@ -70,7 +75,7 @@ pub(crate) fn enter<P: Port>(port: &mut P, owner: u16, stack: &mut Stack) -> Res
 
 // Looks at the last recorded entry of the innermost table, which came into work with some of its entries recorded. Its frame may have
 // been left unfinished: then that one is taken on, and is the innermost table.
-fn take_on<P: Port>(port: &mut P, owner: u16, stack: &mut Stack, top: TableWork) -> Result<(), Stop>
+pub(crate) fn take_on<P: Port>(port: &mut P, owner: u16, stack: &mut Stack, top: TableWork) -> Result<(), Stop>
     requires may { MayWork (P.value port.old) }
     requires top { stack.old ≡ top ∷ drop 1 stack.old }
     requires stands { IsStanding (P.value port.old) owner stack.old }
@@ -79,6 +84,8 @@ fn take_on<P: Port>(port: &mut P, owner: u16, stack: &mut Stack, top: TableWork)
     ensures stands { StandsOn (P.value port.old) (P.value port.new) owner stack.old stack.new }
     ensures ready { IfOk result (λ _. IsTopReady (P.value port.new)) }
     ensures kinds { IfErr result IsEntryStop }
+    ensures outer { outermost stack.new ≡ outermost stack.old }
+    ensures deeper { length stack.old ≤ length stack.new }
     ensures less { IfOk result (λ _. weight stack.new < weight stack.old + entry_weight top.level) }
     ensures serves { CarriesOn (P.value port.old) (P.value port.new) owner stack.old stack.new (misses (P.value port.old).post.machine result) }
     ensures stops { IfErr result (λ e. StopsIn (P.value port.old) (P.value port.new) owner stack.old e) }

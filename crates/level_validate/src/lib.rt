@@ -1,6 +1,7 @@
 //! Page tables of four levels: validated.
 #![tactic(auto)]
 
+mod acquiring;
 mod completing;
 mod entering;
 mod unwinding;

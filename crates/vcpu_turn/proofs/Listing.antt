@@ -8,7 +8,7 @@ use Rattle.xp_words.specs.declared.reply.Pause.TheVariants.{Due}
 use Rattle.xp_board.specs.Told.{PortValue}
 use Rattle.xp_preempt.specs.Gates.{next_ask}
 use Rattle.vcpu_turn.specs.Lists.{Fitting, Asking, DidItems, none, more, WorksOn, asks_between, asks_on}
-use Rattle.vcpu_turn.proofs.Hearing.{no}
+use Rattle.xp_preempt.proofs.Hearing.{no}
 
 pub never : (k : ℕ) → k < k → ⊥
 never k l = omega (arith, l)

@@ -8,8 +8,9 @@ use Rattle.answer_fits.specs.Answers.{Stops}
 use Rattle.mmu_update.specs.Elements.{request_of}
 use Rattle.mmu_update.specs.declared.element.Element.{Element}
 use Rattle.mmu_update.specs.declared.element.Element.TheVariants.{SetM2p, Write, Misaligned, Unknown}
-use Rattle.vcpu_turn.specs.Lists.{Heard, is_due_by}
-use Rattle.vcpu_turn.proofs.Hearing.{heard_none}
+use Rattle.xp_preempt.specs.Gates.{Heard}
+use Rattle.vcpu_turn.specs.Lists.{is_due_by}
+use Rattle.xp_preempt.proofs.Hearing.{heard_none}
 
 -- no element of `mmu_update` is paused for the gate
 never_due : (v w : PortValue) (d : ℕ) (e : Element) → Stops v w (request_of d e) (Paused Due) → ⊥

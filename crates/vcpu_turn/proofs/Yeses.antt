@@ -12,8 +12,9 @@ use Rattle.vcpu_turn.specs.Cpus.{Processing, end_of, pairs_of}
 use Rattle.vcpu_turn.specs.Turning.{CountsAsks, DoesNext, GoesNoFurther, IsTurn, is_due}
 use Rattle.vcpu_turn.specs.Working.{PairFits, Works, no_asks}
 use Rattle.vcpu_turn.specs.declared.cpu.TurnEnd.{TurnEnd}
-use Rattle.vcpu_turn.specs.Lists.{Fitting, Asking, Heard, WorksOn, asks_between, asks_on, is_due_by}
-use Rattle.vcpu_turn.proofs.Hearing.{not_there, is_there}
+use Rattle.xp_preempt.specs.Gates.{Heard}
+use Rattle.vcpu_turn.specs.Lists.{Fitting, Asking, WorksOn, asks_between, asks_on, is_due_by}
+use Rattle.xp_preempt.proofs.Hearing.{not_there, is_there}
 use Rattle.std.proofs.lemmas.Bool.Decides.{nat_tests}
 use Rattle.vcpu_turn.proofs.Listing.{asked_exactly}
 

@@ -1,5 +1,5 @@
 -- Operations that are lists of items, whatever these are: which a turn does, how it ends, and when it asks its gate.
-use Rattle.std.specs.Prelude.{◌≡◌, ◌⊎◌, ℕ, zero, suc, ◌+◌, ◌-◌, ◌<◌, ◌≤◌, ◌==◌, ◌&&◌, Bool, true, false, Result, Ok, Err}
+use Rattle.std.specs.Prelude.{◌≡◌, ◌⊎◌, ℕ, zero, suc, ◌+◌, ◌-◌, ◌<◌, ◌≤◌, Bool, true, false, Result, Ok, Err}
 use Rattle.xp_words.specs.declared.reply.Stop.{Stop}
 use Rattle.xp_words.specs.declared.reply.Stop.TheVariants.{Paused}
 use Rattle.xp_words.specs.declared.reply.Pause.TheVariants.{Due}
@@ -22,13 +22,6 @@ asks_on (suc k) asks = next_ask (asks_on k asks)
 abbrev pub asks_between : ℕ → ℕ → Result (Unit {0}) Stop → ℕ
 asks_between from to (Ok done) = to - from - 1
 asks_between from to (Err e) = to - from
-
--- A gate that says this at each ask was asked from behind number `before` to number `after`: it said no, but at the last
--- of them, where what asked it is due.
-pub record Heard (says : ℕ → Bool) (before after : ℕ) (due : Bool) : Type 0 where
-  pub on : before ≤ after
-  pub told : (k : ℕ) → before < k → k ≤ after → says k ≡ (due && (k == after))
-  pub some : due ≡ true → before < after
 
 -- the gate said yes
 abbrev pub is_due_by : Result (Unit {0}) Stop → Bool

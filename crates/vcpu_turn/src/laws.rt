@@ -6,7 +6,8 @@ ghost use Rattle.xp_words.specs.declared.reply.Stop.{Stop};
 ghost use Rattle.xp_board.specs.Told.{PortValue};
 ghost use Rattle.xp_preempt.specs.Gates.{last_ask};
 ghost use Rattle.vcpu_turn.specs.Cpus.{Processing, pairs_of};
-ghost use Rattle.vcpu_turn.specs.Lists.{Heard, WorksOn, asks_between, asks_on, is_due_by};
+ghost use Rattle.xp_preempt.specs.Gates.{Heard};
+ghost use Rattle.vcpu_turn.specs.Lists.{WorksOn, asks_between, asks_on, is_due_by};
 ghost use Rattle.vcpu_turn.specs.Turning.{CountsAsks, GoesNoFurther, IsTurn, is_due};
 ghost use Rattle.vcpu_turn.specs.declared.cpu.TurnEnd.{TurnEnd};
 

@@ -1,7 +1,8 @@
 //! Operations that are lists: they go on from item to item until the gate says yes.
 ghost use Rattle.std.specs.Prelude.{ℕ, ◌≡◌, ◌+◌, ◌≤◌, true, false, if◌then◌else◌};
 ghost use Rattle.step_maker.specs.Holds.{Rests};
-ghost use Rattle.vcpu_turn.specs.Lists.{Heard, WorksOn, is_due_by};
+ghost use Rattle.xp_preempt.specs.Gates.{Heard};
+ghost use Rattle.vcpu_turn.specs.Lists.{WorksOn, is_due_by};
 
 use xp_board::Port;
 use xp_preempt::Preempt;
@@ -13,7 +14,8 @@ pub trait Items {
     ghost use Rattle.xp_words.specs.declared.reply.Stop.{Stop};
     ghost use Rattle.xp_board.specs.Told.{Post, PortValue};
     ghost use Rattle.step_maker.specs.Holds.{Rests};
-    ghost use Rattle.vcpu_turn.specs.Lists.{Heard, asks_on, is_due_by};
+    ghost use Rattle.xp_preempt.specs.Gates.{Heard};
+    ghost use Rattle.vcpu_turn.specs.Lists.{asks_on, is_due_by};
 
     /// How many there are.
     ghost count: { Self → ℕ };

@@ -2,7 +2,7 @@ ghost use Rattle.std.specs.Prelude.{ℕ, ◌≡◌, ◌+◌, ◌<◌, ◌^◌, t
 ghost use Rattle.xp_board.specs.Readings.{domain_of};
 ghost use Rattle.step_maker.specs.Holds.{Rests};
 ghost use Rattle.vcpu_turn.specs.Cpus.{reply_of, end_of, after_turn};
-ghost use Rattle.vcpu_turn.specs.Lists.{Heard};
+ghost use Rattle.xp_preempt.specs.Gates.{Heard};
 ghost use Rattle.vcpu_turn.specs.Turning.{EndsTurn, Idles, TurnBy, IsOf, MakesStop, StopsWhere, WorkedBy, asks_due, is_due};
 ghost use Rattle.vcpu_turn.specs.declared.cpu.TurnEnd.TheVariants.{Answered};
 

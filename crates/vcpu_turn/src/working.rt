@@ -3,7 +3,8 @@ ghost use Rattle.std.specs.Prelude.{ℕ, ◌≡◌, ◌+◌, ◌≤◌, true, fa
 ghost use Rattle.xp_board.specs.Readings.{domain_of};
 ghost use Rattle.step_maker.specs.Holds.{Rests};
 ghost use Rattle.vcpu_turn.specs.Cpus.{pairs_of, elements_in};
-ghost use Rattle.vcpu_turn.specs.Lists.{Heard, is_due_by};
+ghost use Rattle.xp_preempt.specs.Gates.{Heard};
+ghost use Rattle.vcpu_turn.specs.Lists.{is_due_by};
 ghost use Rattle.vcpu_turn.specs.Working.{Works};
 
 use crate::lists::go_on;

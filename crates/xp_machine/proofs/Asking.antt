@@ -7,7 +7,7 @@ use Rattle.xp_preempt.specs.Gates.{last_ask}
 use Rattle.xp_board.specs.Told.{PortValue}
 use Rattle.vcpu_turn.specs.declared.cpu.TurnEnd.{TurnEnd}
 use Rattle.vcpu_turn.specs.Cpus.{Processing, pairs_of}
-use Rattle.vcpu_turn.specs.Lists.{Heard}
+use Rattle.xp_preempt.specs.Gates.{Heard}
 use Rattle.vcpu_turn.specs.Turning.{TurnBy, is_due}
 use Rattle.xp_machine.specs.Gates.{Gate, gate_in, IsConsulted}
 use Rattle.vcpu_turn.proofs.Yeses.{turn_never_past}

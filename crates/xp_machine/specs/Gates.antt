@@ -1,7 +1,7 @@
 -- Gates as the clause of `run` sees them.
 use Rattle.std.specs.Prelude.{◌≡◌, ℕ, Bool, true, false, List, [], ◌∷◌, Option, Some, None}
 use Rattle.xp_preempt.specs.Gates.{is_in_step}
-use Rattle.vcpu_turn.specs.Lists.{Heard}
+use Rattle.xp_preempt.specs.Gates.{Heard}
 
 -- whether it never says yes; whether it has a pace; how often it was asked; and at which asks it says yes
 pub record Gate : Type 0 where

@@ -1,6 +1,6 @@
 use Rattle.std.proofs.Common.{refl, sym, arith, ◌∙◌}
 use Rattle.vcpu_turn.specs.Lists.{none}
-use Rattle.vcpu_turn.proofs.Hearing.{heard_none, heard_then, heard_as, heard_ask}
+use Rattle.xp_preempt.proofs.Hearing.{heard_none, heard_then, heard_as, heard_ask}
 use Rattle.vcpu_turn.proofs.Listing.{works_done, works_due, works_stop, works_none, goes_on, asks_none, never}
 use Rattle.vcpu_turn.proofs.lists.go_on.Goals as goal
 

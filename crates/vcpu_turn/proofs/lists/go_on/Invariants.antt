@@ -1,6 +1,7 @@
 use Rattle.std.proofs.Common.{◌≡◌, ◌<◌, ◌≤◌, ◌-◌, ℕ, true, false}
 use Rattle.step_maker.specs.Holds.{Rests}
-use Rattle.vcpu_turn.specs.Lists.{DidItems, Heard, asks_on}
+use Rattle.xp_preempt.specs.Gates.{Heard}
+use Rattle.vcpu_turn.specs.Lists.{DidItems, asks_on}
 use Rattle.vcpu_turn.proofs.lists.go_on.Given as goal
 
 abbrev pub invariant-loop-done : goal.invariant-loop-done

@@ -2,8 +2,7 @@
 use Rattle.std.proofs.Common.{◌≡◌, ℕ, ◌+◌, ◌<◌, ◌≤◌, ◌==◌, ◌&&◌, if◌then◌else◌, Bool, true, false, refl, sym, ap, ◌∙◌, arith, inl, inr, subst}
 use Rattle.std.proofs.lemmas.Bool.{cases_order}
 use Rattle.std.proofs.lemmas.Bool.Decides.{nat_tests}
-use Rattle.xp_preempt.specs.Gates.{last_ask, next_ask}
-use Rattle.vcpu_turn.specs.Lists.{Heard}
+use Rattle.xp_preempt.specs.Gates.{Heard, last_ask, next_ask}
 
 pub no : (a b : ℕ) → a ≤ b → b < a → ⊥
 no a b x y = omega (arith, x, y)

@@ -1,0 +1,88 @@
+-- A frame taken as a page table: what is in hand then, and why it is not to be had.
+use Rattle.std.specs.Prelude.{◌≡◌, ◌⊎◌, ◌+◌, ◌==◌, ◌&&◌, nat_le, not, ℕ, Bool, true, false, List, [], ◌∷◌, Option, Some, None, Result, Ok, Err}
+use Rattle.xp_words.specs.declared.reply.Pause.TheVariants.{Busy, Due, Flush, Lost}
+use Rattle.xp_words.specs.declared.reply.Refusal.TheVariants as refusals
+use Rattle.xp_words.specs.declared.reply.Stop.{Stop}
+use Rattle.xp_words.specs.declared.reply.Stop.TheVariants.{Refused, Paused}
+use Rattle.xp_board.specs.declared.holdings.Holdings.{Holdings}
+use Rattle.xp_board.specs.declared.holdings.OwnerFound.TheVariants as owners
+use Rattle.xp_board.specs.KindSteps.{live_typed}
+use Rattle.xp_board.specs.Told.{PortValue}
+use Rattle.step_maker.specs.Holds.{FlushedHolds, FlushedSame}
+use Rattle.answer_fits.specs.Answers.{Deed, Stops}
+use Rattle.answer_fits.specs.Asked.{Request, of_table}
+use Rattle.frame_types.specs.Plain.{is_refused}
+use Rattle.partial_state.specs.Levels.{level_type}
+use Rattle.partial_state.specs.declared.stack.TableWork.{TableWork}
+use Rattle.level_validate.specs.Completing.{Completes}
+use Rattle.level_validate.specs.Serving.{IsPiece}
+use Rattle.level_validate.specs.Tables.{Carries}
+use Rattle.level_validate.specs.Unwinding.{Unwinds}
+
+-- ---- answers
+abbrev pub is_due_stop : Stop → Bool
+is_due_stop (Paused Due) = true
+is_due_stop _ = false
+
+-- the gate said yes
+abbrev pub is_due : {A : Type 0} → Result A Stop → Bool
+is_due (Err e) = is_due_stop e
+is_due (Ok a) = false
+
+-- why a table is not to be had
+abbrev pub IsAcquireStop : Stop → Type 0
+IsAcquireStop (Refused (refusals.NoFrame f)) = Unit {0}
+IsAcquireStop (Refused (refusals.WrongOwner f found)) = Unit {0}
+IsAcquireStop (Refused (refusals.CountFull f found)) = Unit {0}
+IsAcquireStop (Refused (refusals.OtherType f want found)) = Unit {0}
+IsAcquireStop (Refused (refusals.Reserved f i entry)) = Unit {0}
+IsAcquireStop (Refused (refusals.Clock found)) = Unit {0}
+IsAcquireStop (Paused Due) = Unit {0}
+IsAcquireStop (Paused (Lost place expected found)) = Unit {0}
+IsAcquireStop (Paused (Busy f found)) = Unit {0}
+IsAcquireStop (Paused (Flush vcpu stamp found)) = Unit {0}
+IsAcquireStop _ = ⊥
+
+-- what it asks: the frame for the type of that level, and what the entries of tables ask
+abbrev pub of_acquire : {A : Type 0} → ℕ → ℕ → ℕ → ℕ → Result A Stop → Request
+of_acquire f owner level pages answer = of_table f owner (Some (level_type level)) pages (is_due answer)
+
+-- ---- the tables in work
+-- the outermost one, however many of its entries are done with
+abbrev pub outermost : List TableWork → Option TableWork
+outermost [] = None
+outermost (t ∷ []) = Some (record t { done = 0 })
+outermost (t ∷ u ∷ us) = outermost (u ∷ us)
+
+-- it is the only one, and all its entries are done with
+abbrev pub is_filled : List TableWork → Bool
+is_filled [] = true
+is_filled (t ∷ []) = t.done == 512
+is_filled (t ∷ u ∷ us) = false
+
+-- whether the gate is asked behind the last entry that is done with: not where it is in a slot that is Xen's, nor where the table is then full
+abbrev pub is_asked_at : ℕ → ℕ → Bool
+is_asked_at level done = not (done == 512) && not ((level == 4) && (nat_le 257 done && nat_le done 272))
+
+abbrev pub is_asked : List TableWork → Bool
+is_asked [] = false
+is_asked (t ∷ ts) = is_asked_at t.level t.done
+
+-- ---- causes
+-- behind a piece in which these tables came into work, and for which the gate said yes where that is why, the steps show why it stops
+unfoldable pub StopsRisen : PortValue → PortValue → ℕ → List TableWork → Stop → Type 0
+StopsRisen v w owner ts e =
+    (u : PortValue) (r : Request) (ds : List Deed) → (is_due_stop e ≡ true → r.rose ≡ true) → Carries u v owner ts → IsPiece u v r owner ts ds → Stops u w r e
+
+-- ---- hands
+-- wherever that one table came into work, it is live with a typed reference in hand; or nothing of it is in hand, but for the first old word
+abbrev pub Validated : PortValue → PortValue → TableWork → Result (Unit {0}) Stop → Type 0
+Validated u w t (Ok done) = Completes u w t
+Validated u w t (Err e) = Unwinds u w (not (is_refused e)) (t ∷ [])
+
+-- Ok: a typed reference to the live frame came into the hand. Refused: nothing is in hand, and the first old word may name the frame.
+-- Paused: nothing is in hand.
+abbrev pub LeavesAcquired : PortValue → PortValue → ℕ → ℕ → ℕ → Result ℕ Stop → Type 0
+LeavesAcquired v w f owner level (Ok g) = FlushedHolds v w (record v.holdings { typed = live_typed g (level_type level) (owners.Of owner) ∷ v.holdings.typed })
+LeavesAcquired v w f owner level (Err (Refused x)) = FlushedSame v w ⊎ FlushedHolds v w (record v.holdings { old0 = Some (f + 1) })
+LeavesAcquired v w f owner level (Err (Paused x)) = FlushedSame v w
