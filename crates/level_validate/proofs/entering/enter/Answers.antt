@@ -311,4 +311,4 @@ returns-in-Unsettled-clause-kinds g c =
     let owner = c.args.owner in
     let is = c.in-Some.ensures.some in
     let x = g.P.Port.value c.take_entry.new.port in
-    wait_stops c.in-Unsettled.stop (subst (λ r. ShowsEntered u x owner 0 r) c.in-Unsettled.is (c.in_ok-take_entry.ensures.shows 0)).1
+    wait_stops c.in-Unsettled.stop (subst (λ r. ShowsEntered u x owner 0 c.level_type.result r) c.in-Unsettled.is (c.in_ok-take_entry.ensures.shows 0)).1
