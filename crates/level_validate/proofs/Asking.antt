@@ -17,7 +17,7 @@ use Rattle.xp_board.specs.Lists.{first_by}
 use Rattle.xp_board.specs.Told.{Post, PortValue}
 use Rattle.board_lemmas.proofs.ListCounts.{times_by-cons_other}
 use Rattle.step_maker.specs.Moves.{Came, Met}
-use Rattle.step_maker.proofs.Coming.{came_post, came_trans, met_after, met_before}
+use Rattle.step_maker.proofs.Coming.{came_post, met_after, met_before}
 use Rattle.answer_fits.specs.Answers.{Deed, Serves, Stops, missed, misses}
 use Rattle.answer_fits.specs.Asked.{Asked, NoMore, Request, Within, of, of_back, of_frame}
 use Rattle.answer_fits.proofs.Piecing.{same_request, serves_back, serves_call, serves_came, serves_inner, serves_nothing, stops_before, stops_inner}
@@ -28,12 +28,10 @@ use Rattle.table_entries.proofs.PiecesWithin.{within_entries}
 use Rattle.partial_state.specs.declared.stack.TableWork.{TableWork}
 use Rattle.partial_state.specs.Levels.{level_type}
 use Rattle.partial_state.specs.Stacks.{advanced}
-use Rattle.level_validate.specs.Serving.{AreAsked, CarriesOn, IsPiece, StopsIn}
+use Rattle.level_validate.specs.Serving.{CarriesOn, IsPiece, StopsIn}
 use Rattle.level_validate.specs.Tables.{AreTables, Carries, StandsOn, refs_for}
-use Rattle.level_validate.proofs.Pushing.{pushed}
-use Rattle.level_validate.proofs.Serving.{asked_advanced, asked_later, goes_then, piece_later}
+use Rattle.level_validate.proofs.Serving.{asked_advanced, goes_then, piece_later}
 use Rattle.level_validate.proofs.Standing.{apart_first}
-use Rattle.level_validate.proofs.StandsFacts.{tables_none}
 
 -- ---- behind a piece, a call on the entries of the tables in the own works
 module _ (u v w : PortValue) (r : Request) (owner : ℕ) (ts : List TableWork) (ds : List Deed) (a : IsPiece u v r owner ts ds) where
@@ -65,6 +63,13 @@ module _ (v w : PortValue) (owner : ℕ) (ts : List TableWork) where
   goes_advanced us es goes u r ds a =
       let b = goes u r ds a in
       record { entries = b.entries; whose = b.whose; serves = b.serves; asked = asked_advanced u.post.machine u.post.vcpu r (Met u w) us b.asked }
+
+  -- or of the one around it
+  pub goes_inner : (t : TableWork) (us : List TableWork) (es : List Deed) → CarriesOn v w owner ts (t ∷ us) es → CarriesOn v w owner ts (t ∷ advanced us) es
+  unfolding CarriesOn
+  goes_inner t us es goes u r ds a =
+      let b = goes u r ds a in
+      record { entries = b.entries; whose = b.whose; serves = b.serves; asked = (b.asked.0, asked_advanced u.post.machine u.post.vcpu r (Met u w) us b.asked.1) }
 
   -- ---- a frame that the entry asks for the type below
   module _ (k : PageType) (g : ℕ) (serves : (pages : ℕ) → Serves v w (of_entries owner pages) []) (asks : (pages : ℕ) → AsksBelow v w owner pages k g) where

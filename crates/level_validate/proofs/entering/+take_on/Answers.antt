@@ -4,6 +4,7 @@ use Rattle.xp_words.specs.Entries.{below}
 use Rattle.xp_words.specs.declared.kind.PageType.{PageType}
 use Rattle.xp_board.specs.Told.{Post}
 use Rattle.step_maker.proofs.Coming.{came_post, came_self, came_trans}
+use Rattle.answer_fits.specs.Answers.{missed}
 use Rattle.answer_fits.proofs.Piecing.{serves_came}
 use Rattle.frame_types.specs.Leaving.{ServesType}
 use Rattle.frame_types.specs.Taking.{IsOfOther}
@@ -464,7 +465,7 @@ returns-in_err-resume_entry-clause-serves g n c =
     let x = g.P.Port.value c.resume_entry.new.port in
     let answer = err_from_is_err_and c.from_residual.result c.from_residual.ensures.1 in
     goes_answer u x c.args.owner c.args.stack.now c.args.stack.now c.from_residual.result c.in_err-resume_entry.field-0.0 (answer.1 ∙ ap Err answer.2)
-    (goes_entries u x c.args.owner c.args.stack.now _ c.in_err-resume_entry.ensures.serves)
+    (goes_entries u x c.args.owner c.args.stack.now (missed u.post.machine c.in_err-resume_entry.field-0.0) c.in_err-resume_entry.ensures.serves)
 
 pub returns-in_err-resume_entry-clause-stops : goal.returns-in_err-resume_entry-clause-stops
 returns-in_err-resume_entry-clause-stops g n c =
