@@ -1,3 +1,4 @@
+mod Asking
 mod Completed
 mod Entered
 mod LeavingLent

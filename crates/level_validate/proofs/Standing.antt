@@ -29,7 +29,7 @@ use Rattle.level_validate.proofs.StandsFacts.{top_known}
 none_here : {A : Type 0} (x : A) (o : Option A) → o ≡ Some x → o ≡ None → ⊥
 none_here x o a b = absurd cc
 
-apart_first : (g : ℕ) (e : Work) (es : List Work) → work_on g (e ∷ es) ≡ None → (e.frame ≢ g) × (work_on g es ≡ None)
+pub apart_first : (g : ℕ) (e : Work) (es : List Work) → work_on g (e ∷ es) ≡ None → (e.frame ≢ g) × (work_on g es ≡ None)
 apart_first g e es none =
     elim (cases_eq e.frame g) [
       | inl same ↦ absurd (none_here e (work_on g (e ∷ es)) (first_by-cons_here (λ (y : Work). y.frame) g e es same) none)

@@ -1,5 +1,6 @@
 -- The next entry: what its steps are and show, by what became of it.
-use Rattle.std.proofs.Common.{ℕ, [], Bool, Option, Some, None, Ok, Err}
+use Rattle.std.proofs.Common.{◌≡◌, ℕ, [], Bool, Option, Some, None, Ok, Err, subst}
+use Rattle.xp_words.specs.Entries.{below}
 use Rattle.xp_words.specs.declared.kind.PageType.{PageType}
 use Rattle.xp_words.specs.declared.place.Place.TheVariants.{Clock}
 use Rattle.xp_words.specs.declared.reply.Stop.{Stop}
@@ -16,14 +17,14 @@ use Rattle.frame_types.specs.Leaving.{ServesType}
 use Rattle.frame_types.specs.Taking.{IsTypeStop}
 use Rattle.frame_words.specs.Refs.{IsRefStop}
 use Rattle.flush_waits.specs.Waiting.{IsWait}
-use Rattle.table_entries.specs.Asking.{of_entries}
+use Rattle.table_entries.specs.Asking.{AsksBelow, of_entries}
 use Rattle.table_entries.specs.Between.{MeetsEntry}
 use Rattle.table_entries.specs.declared.entries.Entered.TheVariants.{Opened, Recorded, Unsettled}
 use Rattle.table_entries.proofs.PiecesTaking.{Goes, goes_back, goes_call, goes_came, goes_missed, goes_record, goes_stops, goes_stops_later, asks_still, left_serves, record_shows, ref_kinds, type_kinds, wait_kinds, wait_missed}
 
 -- the entry is recorded
-pub enters_recorded : (b v w : PortValue) (f i owner pages g upto found : ℕ) → Goes b v f i owner pages [] → Moves v w Clock Load kinds.Look (Some (Record g upto)) found → MeetsEntry b w f i owner pages (Ok Recorded)
-enters_recorded b v w f i owner pages g upto found goes m =
+pub enters_recorded : (b v w : PortValue) (f i owner pages : ℕ) (t : PageType) (g upto found : ℕ) → Goes b v f i owner pages [] → Moves v w Clock Load kinds.Look (Some (Record g upto)) found → MeetsEntry b w f i owner pages t (Ok Recorded)
+enters_recorded b v w f i owner pages t g upto found goes m =
     let next = goes_record b v f i owner pages [] goes w g upto found m in
     record { serves = next.serves; stops = tt; kinds = tt; shows = record_shows b v f i owner pages [] goes w g upto found m; looks = next.looks }
 
@@ -40,8 +41,8 @@ module _ (b v : PortValue) (f i owner pages g : ℕ) (want : Option PageType) (g
     pub refused_stops : Stops b x (of_entries owner pages) e
     refused_stops = goes_stops b v f i owner pages [] goes x g None asks_ref e (serves_came v x (of_frame g owner None) (missed v.post.machine e) serves) more stops
 
-    pub enters_unreferred : MeetsEntry b x f i owner pages (Err e)
-    enters_unreferred = record { serves = refused_goes.serves; stops = refused_stops; kinds = ref_kinds e is; shows = tt; looks = refused_goes.looks }
+    pub enters_unreferred : (t : PageType) → MeetsEntry b x f i owner pages t (Err e)
+    enters_unreferred t = record { serves = refused_goes.serves; stops = refused_stops; kinds = ref_kinds e is; shows = tt; looks = refused_goes.looks }
 
   -- its reference was taken
   module _ (x : PortValue) (refers : Serves v x (of_frame g owner None) []) where
@@ -52,48 +53,59 @@ module _ (b v : PortValue) (f i owner pages g : ℕ) (want : Option PageType) (g
     asks_referred = asks_still b v f i owner pages [] goes x g want asks (serves_came v x (of_frame g owner None) [] refers)
 
 -- ---- behind its reference: the entry asks that type of the frame
-module _ (b x : PortValue) (f i owner pages g : ℕ) (t : PageType) (goes : Goes b x f i owner pages []) (asks : Asked b.post.machine b.post.vcpu (of_entries owner pages) (Met b x) g owner (Some t)) where
+module _ (b x : PortValue) (f i owner pages g : ℕ) (want : PageType) (goes : Goes b x f i owner pages []) (asks : Asked b.post.machine b.post.vcpu (of_entries owner pages) (Met b x) g owner (Some want)) where
   -- it was taken
-  pub typed : (y : PortValue) → Serves x y (of_frame g owner (Some t)) [] → Goes b y f i owner pages []
-  typed y types = goes_call b x f i owner pages [] goes y g (Some t) asks [] types
+  pub typed : (y : PortValue) → Serves x y (of_frame g owner (Some want)) [] → Goes b y f i owner pages []
+  typed y types = goes_call b x f i owner pages [] goes y g (Some want) asks [] types
+
+  -- and is asked still, which is the type of the level below
+  pub still_below : (y : PortValue) → Serves x y (of_frame g owner (Some want)) [] → (t : PageType) → want ≡ below t → AsksBelow b y owner pages t g
+  still_below y types t is =
+      subst (λ k. Asked b.post.machine b.post.vcpu (of_entries owner pages) (Met b y) g owner (Some k)) is (asks_still b x f i owner pages [] goes y g (Some want) asks (serves_came x y (of_frame g owner (Some want)) [] types))
+
+  -- the frame is to be worked on first
+  pub enters_opened : (y : PortValue) → Serves x y (of_frame g owner (Some want)) [] → (t : PageType) → want ≡ below t → (progress : ℕ) (own : Bool) → MeetsEntry b y f i owner pages t (Ok (Opened g progress own))
+  enters_opened y types t is progress own =
+      let next = typed y types in
+      record { serves = next.serves; stops = tt; kinds = tt; shows = still_below y types t is; looks = next.looks }
 
   -- it is not to be had, and the reference was given back
-  module _ (y z : PortValue) (e : Stop) (is : IsTypeStop e) (types : Serves x y (of_frame g owner (Some t)) (missed x.post.machine e)) (stops : Stops x y (of_frame g owner (Some t)) e) (back : Serves y z (of_back g) []) where
+  module _ (y z : PortValue) (e : Stop) (is : IsTypeStop e) (types : Serves x y (of_frame g owner (Some want)) (missed x.post.machine e)) (stops : Stops x y (of_frame g owner (Some want)) e) (back : Serves y z (of_back g) []) where
     came : Came x y
-    came = serves_came x y (of_frame g owner (Some t)) (missed x.post.machine e) types
+    came = serves_came x y (of_frame g owner (Some want)) (missed x.post.machine e) types
 
     pub untyped_goes : Goes b z f i owner pages (missed b.post.machine e)
     untyped_goes =
-        let there = goes_missed b x y f i owner pages e (goes_came b x f i owner pages [] goes) (goes_call b x f i owner pages [] goes y g (Some t) asks (missed x.post.machine e) types) in
-        goes_back b y f i owner pages (missed b.post.machine e) there z g (Some t) (asks_still b x f i owner pages [] goes y g (Some t) asks came) back
+        let there = goes_missed b x y f i owner pages e (goes_came b x f i owner pages [] goes) (goes_call b x f i owner pages [] goes y g (Some want) asks (missed x.post.machine e) types) in
+        goes_back b y f i owner pages (missed b.post.machine e) there z g (Some want) (asks_still b x f i owner pages [] goes y g (Some want) asks came) back
 
     pub untyped_stops : Stops b z (of_entries owner pages) e
-    untyped_stops = stops_before b y z (of_entries owner pages) e (goes_stops_later b x f i owner pages [] goes y g (Some t) asks e came is stops) (serves_came y z (of_back g) [] back)
+    untyped_stops = stops_before b y z (of_entries owner pages) e (goes_stops_later b x f i owner pages [] goes y g (Some want) asks e came is stops) (serves_came y z (of_back g) [] back)
 
-    pub enters_untyped : MeetsEntry b z f i owner pages (Err e)
-    enters_untyped = record { serves = untyped_goes.serves; stops = untyped_stops; kinds = type_kinds e is; shows = tt; looks = untyped_goes.looks }
+    pub enters_untyped : (t : PageType) → MeetsEntry b z f i owner pages t (Err e)
+    enters_untyped t = record { serves = untyped_goes.serves; stops = untyped_stops; kinds = type_kinds e is; shows = tt; looks = untyped_goes.looks }
 
   -- it waits for a flush
-  module _ (y : PortValue) (stop : Stop) (is : IsWait stop) (types : Serves x y (of_frame g owner (Some t)) []) (stops : Stops x y (of_frame g owner (Some t)) stop) where
+  module _ (y : PortValue) (stop : Stop) (is : IsWait stop) (types : Serves x y (of_frame g owner (Some want)) []) (stops : Stops x y (of_frame g owner (Some want)) stop) where
     pub waits_stops : Stops b y (of_entries owner pages) stop
-    waits_stops = goes_stops_later b x f i owner pages [] goes y g (Some t) asks stop (serves_came x y (of_frame g owner (Some t)) [] types) (wait_kinds stop is) stops
+    waits_stops = goes_stops_later b x f i owner pages [] goes y g (Some want) asks stop (serves_came x y (of_frame g owner (Some want)) [] types) (wait_kinds stop is) stops
 
     -- and the frame is left so
-    module _ (z : PortValue) (left : ServesType y z g t) where
+    module _ (z : PortValue) (left : ServesType y z g want) where
       left_goes : Goes b z f i owner pages []
       left_goes =
-          goes_call b y f i owner pages [] (typed y types) z g (Some t) (asks_still b x f i owner pages [] goes y g (Some t) asks (serves_came x y (of_frame g owner (Some t)) [] types)) [] (left_serves y z g owner t left)
+          goes_call b y f i owner pages [] (typed y types) z g (Some want) (asks_still b x f i owner pages [] goes y g (Some want) asks (serves_came x y (of_frame g owner (Some want)) [] types)) [] (left_serves y z g owner want left)
 
       left_came : Came y z
-      left_came = serves_came y z (of_frame g owner (Some t)) [] (left_serves y z g owner t left)
+      left_came = serves_came y z (of_frame g owner (Some want)) [] (left_serves y z g owner want left)
 
-      pub enters_left : MeetsEntry b z f i owner pages (Err stop)
-      enters_left =
+      pub enters_left : (t : PageType) → MeetsEntry b z f i owner pages t (Err stop)
+      enters_left t =
           let next = wait_missed b z f i owner pages stop is left_goes in
           record { serves = next.serves; stops = stops_before b y z (of_entries owner pages) stop waits_stops left_came; kinds = type_kinds stop (wait_kinds stop is); shows = tt; looks = next.looks }
 
-      pub enters_unsettled : (w : PortValue) (k upto found : ℕ) → Moves z w Clock Load kinds.Look (Some (Record k upto)) found → MeetsEntry b w f i owner pages (Ok (Unsettled stop))
-      enters_unsettled w k upto found m =
+      pub enters_unsettled : (t : PageType) (w : PortValue) (k upto found : ℕ) → Moves z w Clock Load kinds.Look (Some (Record k upto)) found → MeetsEntry b w f i owner pages t (Ok (Unsettled stop))
+      enters_unsettled t w k upto found m =
           let next = goes_record b z f i owner pages [] left_goes w k upto found m in
           let late = came_trans y z w left_came (moves_came z w Clock Load kinds.Look (Some (Record k upto)) found m) in
           record {
@@ -103,7 +115,3 @@ module _ (b x : PortValue) (f i owner pages g : ℕ) (t : PageType) (goes : Goes
             shows = (record_shows b z f i owner pages [] left_goes w k upto found m, is, stops_before b y w (of_entries owner pages) stop waits_stops late);
             looks = next.looks;
           }
-
--- the next one is to be worked on first
-pub enters_opened : (b y : PortValue) (f i owner pages g progress : ℕ) (own : Bool) → Goes b y f i owner pages [] → MeetsEntry b y f i owner pages (Ok (Opened g progress own))
-enters_opened b y f i owner pages g progress own goes = record { serves = goes.serves; stops = tt; kinds = tt; shows = tt; looks = goes.looks }

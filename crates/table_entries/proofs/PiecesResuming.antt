@@ -16,11 +16,12 @@ use Rattle.answer_fits.specs.Asked.{Asked, NoMore, of_back, of_frame}
 use Rattle.frame_types.specs.Taking.{IsTypeStop}
 use Rattle.frame_words.specs.Refs.{IsRefStop}
 use Rattle.flush_waits.specs.Waiting.{IsWait}
-use Rattle.table_entries.specs.Asking.{of_entries}
+use Rattle.table_entries.specs.Asking.{AsksBelow, of_entries}
 use Rattle.table_entries.specs.Between.{LooksAgain, LooksLive, Resumes, found, outside}
 use Rattle.table_entries.specs.declared.resuming.Resumed.TheVariants as again
+use Rattle.table_entries.proofs.HandLists.{asks_below}
 use Rattle.table_entries.proofs.PiecesAsking.{asks_typed, look_more, looked_goes}
-use Rattle.table_entries.proofs.PiecesEntering.{asks_referred, referred, refused_goes, refused_stops, typed, untyped_goes, untyped_stops, waits_stops}
+use Rattle.table_entries.proofs.PiecesEntering.{asks_referred, referred, refused_goes, refused_stops, still_below, typed, untyped_goes, untyped_stops, waits_stops}
 use Rattle.table_entries.proofs.PiecesTaking.{Goes, asks_still, goes_kind, ref_kinds, type_kinds}
 
 -- ---- the look at the frame itself
@@ -78,15 +79,18 @@ module _ (b u v : PortValue) (f i owner pages : ℕ) (t : PageType) (word g : �
       y_goes : Goes b y f i owner pages []
       y_goes = typed b x f i owner pages g want one two y types
 
-      pub resumes_taken : (frame : ℕ) → Resumes b y f i owner pages t (Ok (again.Taken frame))
-      resumes_taken frame = record { serves = y_goes.serves; stops = tt; kinds = tt; shows = tt; looks = y_goes.looks }
+      y_below : AsksBelow b y owner pages t g
+      y_below = still_below b x f i owner pages g want one two y types t (asks_below t i word g want asks)
 
-      pub resumes_opened : (frame progress : ℕ) (own : Bool) → Resumes b y f i owner pages t (Ok (again.Opened frame progress own))
-      resumes_opened frame progress own = record { serves = y_goes.serves; stops = tt; kinds = tt; shows = tt; looks = y_goes.looks }
+      pub resumes_taken : Resumes b y f i owner pages t (Ok (again.Taken g))
+      resumes_taken = record { serves = y_goes.serves; stops = tt; kinds = tt; shows = y_below; looks = y_goes.looks }
 
-      pub resumes_waiting : (frame : ℕ) (own : Bool) (stamp : ℕ) (stop : Stop) → IsWait stop → Stops x y (of_frame g owner (Some want)) stop → Resumes b y f i owner pages t (Ok (again.Waiting frame own stamp stop))
-      resumes_waiting frame own stamp stop is stops =
-          record { serves = y_goes.serves; stops = tt; kinds = tt; shows = (is, waits_stops b x f i owner pages g want one two y stop is types stops); looks = y_goes.looks }
+      pub resumes_opened : (progress : ℕ) (own : Bool) → Resumes b y f i owner pages t (Ok (again.Opened g progress own))
+      resumes_opened progress own = record { serves = y_goes.serves; stops = tt; kinds = tt; shows = y_below; looks = y_goes.looks }
+
+      pub resumes_waiting : (own : Bool) (stamp : ℕ) (stop : Stop) → IsWait stop → Stops x y (of_frame g owner (Some want)) stop → Resumes b y f i owner pages t (Ok (again.Waiting g own stamp stop))
+      resumes_waiting own stamp stop is stops =
+          record { serves = y_goes.serves; stops = tt; kinds = tt; shows = (y_below, is, waits_stops b x f i owner pages g want one two y stop is types stops); looks = y_goes.looks }
 
     -- the type is not to be had, and the reference was given back
     pub resumes_untyped : (y z : PortValue) (e : Stop) → IsTypeStop e → Serves x y (of_frame g owner (Some want)) (missed x.post.machine e) → Stops x y (of_frame g owner (Some want)) e → Serves y z (of_back g) [] →

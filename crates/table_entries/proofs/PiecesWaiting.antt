@@ -28,9 +28,9 @@ module _ (b v : PortValue) (f i owner pages : ℕ) (t : PageType) (g : ℕ) (wan
   waits_referred = asks_referred b w.u f i owner pages g (Some want) (looked_goes b w.u f i t w.word w.looks.looks owner pages) waits_asks w.x w.refers
 
   -- it is left, and the entry is not met
-  pub waits_left : (z : PortValue) → ServesType v z g want → MeetsEntry b z f i owner pages (Err stop)
-  waits_left z left = enters_left b w.x f i owner pages g want waits_goes waits_referred v stop w.shows.0 w.types w.shows.1 z left
+  pub waits_left : (z : PortValue) → ServesType v z g want → MeetsEntry b z f i owner pages t (Err stop)
+  waits_left z left = enters_left b w.x f i owner pages g want waits_goes waits_referred v stop w.shows.0 w.types w.shows.1 z left t
 
   -- it is left under the type count of the entry, which is recorded
-  pub waits_unsettled : (y z : PortValue) (upto found : ℕ) → ServesType v y g want → Moves y z Clock Load kinds.Look (Some (Record f upto)) found → MeetsEntry b z f i owner pages (Ok (Unsettled stop))
-  waits_unsettled y z upto found left m = enters_unsettled b w.x f i owner pages g want waits_goes waits_referred v stop w.shows.0 w.types w.shows.1 y left z f upto found m
+  pub waits_unsettled : (y z : PortValue) (upto found : ℕ) → ServesType v y g want → Moves y z Clock Load kinds.Look (Some (Record f upto)) found → MeetsEntry b z f i owner pages t (Ok (Unsettled stop))
+  waits_unsettled y z upto found left m = enters_unsettled b w.x f i owner pages g want waits_goes waits_referred v stop w.shows.0 w.types w.shows.1 y left t z f upto found m

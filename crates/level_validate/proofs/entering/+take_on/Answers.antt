@@ -1,16 +1,22 @@
-use Rattle.std.proofs.Common.{◌≡◌, ◌<◌, ◌+◌, ◌-◌, ◌∷◌, [], drop, true, false, Ok, sym, ap, ◌∙◌, subst, arith}
+use Rattle.std.proofs.Common.{◌≡◌, ℕ, ◌<◌, ◌+◌, ◌-◌, ◌∷◌, [], drop, true, false, Ok, Err, refl, sym, ap, ◌∙◌, subst, arith}
+use Rattle.std.proofs.lemmas.Result.{IfErr-weaker, err_from_is_err_and}
 use Rattle.xp_words.specs.Entries.{below}
 use Rattle.xp_words.specs.declared.kind.PageType.{PageType}
 use Rattle.xp_board.specs.Told.{Post}
 use Rattle.step_maker.proofs.Coming.{came_post, came_self, came_trans}
+use Rattle.answer_fits.specs.Answers.{missed}
 use Rattle.answer_fits.proofs.Piecing.{serves_came}
+use Rattle.frame_types.specs.Leaving.{ServesType}
 use Rattle.frame_types.specs.Taking.{IsOfOther}
 use Rattle.table_entries.specs.Asking.{ShowsResumed, of_entries}
 use Rattle.table_entries.specs.Found.{ResumesFound}
 use Rattle.table_entries.specs.Tops.{LeavesResumed, Opens, WorksAtTop}
 use Rattle.partial_state.specs.Levels.{level_type}
 use Rattle.partial_state.specs.Weights.{weight}
-use Rattle.level_validate.specs.Tables.{Carries}
+use Rattle.level_validate.specs.Serving.{CarriesOn, StopsIn}
+use Rattle.level_validate.specs.Tables.{Carries, StandsOn}
+use Rattle.level_validate.proofs.Asking.{goes_answer, goes_back, goes_entries, goes_left, goes_on, goes_opened, goes_waiting, stops_answer, stops_behind, stops_entries, stops_on}
+use Rattle.level_validate.proofs.Serving.{goes_nothing}
 use Rattle.level_validate.proofs.Entered.{after_again, after_look, after_settled, back_one, fresh_ready, taken_gives, taken_ready, taken_stands}
 use Rattle.level_validate.proofs.LeavingTables.{top_inside}
 use Rattle.xp_words.specs.KindWords.{kind_fields}
@@ -359,7 +365,7 @@ returns-then-own-clause-kinds g n c =
     let found = c.in_ok-resume_entry.ensures.found in
     let came = serves_came u x (of_entries owner 0) [] (c.in_ok-resume_entry.ensures.serves 0) in
     let first = resumed_first u x _ _ _ _ _ found in
-    wait_stops c.in-Waiting.stop (subst (λ r. ShowsResumed u x owner 0 r) c.in-Waiting.is (c.in_ok-resume_entry.ensures.shows 0)).0
+    wait_stops c.in-Waiting.stop (subst (λ r. ShowsResumed u x owner 0 c.level_type.result r) c.in-Waiting.is (c.in_ok-resume_entry.ensures.shows 0)).1
 
 pub leave_shared-requires-clause-frame : goal.leave_shared-requires-clause-frame
 leave_shared-requires-clause-frame g n c =
@@ -445,4 +451,129 @@ returns-else-own-clause-kinds g n c =
     let found = c.in_ok-resume_entry.ensures.found in
     let came = serves_came u x (of_entries owner 0) [] (c.in_ok-resume_entry.ensures.serves 0) in
     let first = resumed_first u x _ _ _ _ _ found in
-    wait_stops c.in-Waiting.stop (subst (λ r. ShowsResumed u x owner 0 r) c.in-Waiting.is (c.in_ok-resume_entry.ensures.shows 0)).0
+    wait_stops c.in-Waiting.stop (subst (λ r. ShowsResumed u x owner 0 c.level_type.result r) c.in-Waiting.is (c.in_ok-resume_entry.ensures.shows 0)).1
+
+pub returns-then-top-eq0-clause-serves : goal.returns-then-top-eq0-clause-serves
+returns-then-top-eq0-clause-serves g n c = goes_nothing (g.P.Port.value c.args.port.now) c.args.owner c.args.stack.now
+
+pub returns-in-Settled-clause-serves : goal.returns-in-Settled-clause-serves
+returns-in-Settled-clause-serves g n c = goes_entries (g.P.Port.value c.args.port.now) (g.P.Port.value c.resume_entry.new.port) c.args.owner c.args.stack.now [] c.in_ok-resume_entry.ensures.serves
+
+pub returns-in_err-resume_entry-clause-serves : goal.returns-in_err-resume_entry-clause-serves
+returns-in_err-resume_entry-clause-serves g n c =
+    let u = g.P.Port.value c.args.port.now in
+    let x = g.P.Port.value c.resume_entry.new.port in
+    let answer = err_from_is_err_and c.from_residual.result c.from_residual.ensures.1 in
+    goes_answer u x c.args.owner c.args.stack.now c.args.stack.now c.from_residual.result c.in_err-resume_entry.field-0.0 (answer.1 ∙ ap Err answer.2)
+    (goes_entries u x c.args.owner c.args.stack.now (missed u.post.machine c.in_err-resume_entry.field-0.0) c.in_err-resume_entry.ensures.serves)
+
+pub returns-in_err-resume_entry-clause-stops : goal.returns-in_err-resume_entry-clause-stops
+returns-in_err-resume_entry-clause-stops g n c =
+    let u = g.P.Port.value c.args.port.now in
+    let x = g.P.Port.value c.resume_entry.new.port in
+    let e = c.in_err-resume_entry.field-0.0 in
+    let answer = err_from_is_err_and c.from_residual.result c.from_residual.ensures.1 in
+    stops_answer u x c.args.owner c.args.stack.now c.from_residual.result e (answer.1 ∙ ap Err answer.2) (stops_entries u x c.args.owner c.args.stack.now e c.in_err-resume_entry.ensures.stops)
+
+pub returns-in-Taken-clause-serves : goal.returns-in-Taken-clause-serves
+returns-in-Taken-clause-serves g n c =
+    let u = g.P.Port.value c.args.port.now in
+    let x = g.P.Port.value c.resume_entry.new.port in
+    let k = c.level_type.result in
+    let shows = λ (pages : ℕ). subst (λ r. ShowsResumed u x c.args.owner pages k r) c.in-Taken.is (c.in_ok-resume_entry.ensures.shows pages) in
+    goes_back u x c.args.owner c.args.stack.now k c.in-Taken.frame c.in_ok-resume_entry.ensures.serves shows (g.P.Port.value c.give_back.new.port) c.give_back.ensures.serves
+
+pub returns-in-Opened-clause-serves : goal.returns-in-Opened-clause-serves
+returns-in-Opened-clause-serves g n c =
+    let u = g.P.Port.value c.args.port.now in
+    let x = g.P.Port.value c.resume_entry.new.port in
+    let y = g.P.Port.value c.take_on.new.port in
+    let t = c.args.top in
+    let owner = c.args.owner in
+    let k = c.level_type.result in
+    let came = serves_came u x (of_entries owner 0) [] (c.in_ok-resume_entry.ensures.serves 0) in
+    let shows = λ (pages : ℕ). subst (λ r. ShowsResumed u x owner pages k r) c.in-Opened.is (c.in_ok-resume_entry.ensures.shows pages) in
+    let a = c.requires.stands in
+    let s0 = subst (λ xs. Carries a.0 u owner xs) c.requires.top a.1 in
+    let inner = pushed t c.in-Opened.frame c.in-Opened.progress c.in-Opened.own true in
+    let is = ap below c.level_type.ensures ∙ level_below t.level s0.stack.0.low s0.stack.0.high in
+    let first = goes_opened u x owner c.args.stack.now k c.in-Opened.frame c.in_ok-resume_entry.ensures.serves shows inner refl is in
+    goes_on u x y owner c.args.stack.now c.push.new.self c.take_on.new.stack c.take_on.result came (subst (λ xs. CarriesOn u x owner c.args.stack.now xs []) (sym c.push.ensures.pushed) first) c.take_on.ensures.serves
+
+pub returns-in-Opened-clause-stops : goal.returns-in-Opened-clause-stops
+returns-in-Opened-clause-stops g n c =
+    let u = g.P.Port.value c.args.port.now in
+    let x = g.P.Port.value c.resume_entry.new.port in
+    let y = g.P.Port.value c.take_on.new.port in
+    let t = c.args.top in
+    let ts = drop 1 c.args.stack.now in
+    let owner = c.args.owner in
+    let k = c.level_type.result in
+    let i = t.done - 1 in
+    let at = back_one t.done c.if-top-eq0.false in
+    let found = c.in_ok-resume_entry.ensures.found in
+    let came = serves_came u x (of_entries owner 0) [] (c.in_ok-resume_entry.ensures.serves 0) in
+    let first = resumed_first u x _ _ _ _ _ found in
+    let shows = λ (pages : ℕ). subst (λ r. ShowsResumed u x owner pages k r) c.in-Opened.is (c.in_ok-resume_entry.ensures.shows pages) in
+    let a = c.requires.stands in
+    let s0 = subst (λ xs. Carries a.0 u owner xs) c.requires.top a.1 in
+    let left = subst (λ k. LeavesResumed u x t.frame k i owner (again.Opened c.in-Opened.frame c.in-Opened.progress c.in-Opened.own)) c.level_type.ensures (subst (λ r. LeavesResumed u x t.frame c.level_type.result i owner r) c.in-Opened.is c.in_ok-resume_entry.ensures.hand) in
+    let way = subst (λ k. ResumesFound u x t.frame i k owner (Ok (again.Opened c.in-Opened.frame c.in-Opened.progress c.in-Opened.own))) c.level_type.ensures (subst (λ r. ResumesFound u x t.frame i c.level_type.result owner (Ok r)) c.in-Opened.is found) in
+    let open_ = again_found u x t.frame i (level_type t.level) owner c.in-Opened.frame c.in-Opened.progress c.in-Opened.own way in
+    let inner = pushed t c.in-Opened.frame c.in-Opened.progress c.in-Opened.own true in
+    let is = ap below c.level_type.ensures ∙ level_below t.level s0.stack.0.low s0.stack.0.high in
+    let goes = subst (λ xs. CarriesOn u x owner c.args.stack.now xs []) (sym c.push.ensures.pushed) (goes_opened u x owner c.args.stack.now k c.in-Opened.frame c.in_ok-resume_entry.ensures.serves shows inner refl is) in
+    let stands : StandsOn u x owner c.args.stack.now c.push.new.self =
+    λ v s. subst (λ xs. Carries v x owner xs) (sym (c.push.ensures.pushed ∙ ap (λ ys. inner ∷ ys) c.requires.top))
+    (after_again v u x owner t ts (subst (λ xs. Carries v u owner xs) c.requires.top s) came first i c.in-Opened.frame c.in-Opened.progress c.in-Opened.own at open_ left) in
+    IfErr-weaker c.take_on.result (λ e. StopsIn x y owner c.push.new.self e) (λ e. StopsIn u y owner c.args.stack.now e) (λ e stops. stops_behind x y owner c.push.new.self e u c.args.stack.now stands goes stops) c.take_on.ensures.stops
+
+pub returns-then-own-clause-serves : goal.returns-then-own-clause-serves
+returns-then-own-clause-serves g n c =
+    let u = g.P.Port.value c.args.port.now in
+    let x = g.P.Port.value c.resume_entry.new.port in
+    let y = g.P.Port.value c.leave_dead.new.port in
+    let t = c.args.top in
+    let owner = c.args.owner in
+    let k = c.level_type.result in
+    let shows = λ (pages : ℕ). subst (λ r. ShowsResumed u x owner pages k r) c.in-Waiting.is (c.in_ok-resume_entry.ensures.shows pages) in
+    let a = c.requires.stands in
+    let s0 = subst (λ xs. Carries a.0 u owner xs) c.requires.top a.1 in
+    let is = ap below c.level_type.ensures ∙ level_below t.level s0.stack.0.low s0.stack.0.high in
+    goes_waiting u y owner c.args.stack.now c.args.stack.now c.in-Waiting.stop (shows 0).1
+    (goes_left u x owner c.args.stack.now k c.in-Waiting.frame c.in_ok-resume_entry.ensures.serves (λ pages. (shows pages).0) y
+    (subst (λ j. ServesType x y c.in-Waiting.frame j) (c.level_type-kind.ensures ∙ sym is) c.leave_dead.ensures.serves))
+
+pub returns-then-own-clause-stops : goal.returns-then-own-clause-stops
+returns-then-own-clause-stops g n c =
+    let u = g.P.Port.value c.args.port.now in
+    let x = g.P.Port.value c.resume_entry.new.port in
+    let owner = c.args.owner in
+    let k = c.level_type.result in
+    let shows = λ (pages : ℕ). subst (λ r. ShowsResumed u x owner pages k r) c.in-Waiting.is (c.in_ok-resume_entry.ensures.shows pages) in
+    stops_on u x owner c.args.stack.now c.in-Waiting.stop (g.P.Port.value c.leave_dead.new.port) c.leave_dead.ensures.came (stops_entries u x owner c.args.stack.now c.in-Waiting.stop (λ pages. (shows pages).2))
+
+pub returns-else-own-clause-serves : goal.returns-else-own-clause-serves
+returns-else-own-clause-serves g n c =
+    let u = g.P.Port.value c.args.port.now in
+    let x = g.P.Port.value c.resume_entry.new.port in
+    let y = g.P.Port.value c.leave_shared.new.port in
+    let t = c.args.top in
+    let owner = c.args.owner in
+    let k = c.level_type.result in
+    let shows = λ (pages : ℕ). subst (λ r. ShowsResumed u x owner pages k r) c.in-Waiting.is (c.in_ok-resume_entry.ensures.shows pages) in
+    let a = c.requires.stands in
+    let s0 = subst (λ xs. Carries a.0 u owner xs) c.requires.top a.1 in
+    let is = ap below c.level_type.ensures ∙ level_below t.level s0.stack.0.low s0.stack.0.high in
+    goes_waiting u y owner c.args.stack.now c.args.stack.now c.in-Waiting.stop (shows 0).1
+    (goes_left u x owner c.args.stack.now k c.in-Waiting.frame c.in_ok-resume_entry.ensures.serves (λ pages. (shows pages).0) y
+    (subst (λ j. ServesType x y c.in-Waiting.frame j) (c.level_type-kind.ensures ∙ sym is) c.leave_shared.ensures.serves))
+
+pub returns-else-own-clause-stops : goal.returns-else-own-clause-stops
+returns-else-own-clause-stops g n c =
+    let u = g.P.Port.value c.args.port.now in
+    let x = g.P.Port.value c.resume_entry.new.port in
+    let owner = c.args.owner in
+    let k = c.level_type.result in
+    let shows = λ (pages : ℕ). subst (λ r. ShowsResumed u x owner pages k r) c.in-Waiting.is (c.in_ok-resume_entry.ensures.shows pages) in
+    stops_on u x owner c.args.stack.now c.in-Waiting.stop (g.P.Port.value c.leave_shared.new.port) c.leave_shared.ensures.came (stops_entries u x owner c.args.stack.now c.in-Waiting.stop (λ pages. (shows pages).2))

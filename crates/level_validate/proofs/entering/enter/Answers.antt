@@ -1,7 +1,9 @@
-use Rattle.std.proofs.Common.{◌-◌, ◌<◌, ◌∷◌, [], drop, false, None, Ok, sym, ap, ◌∙◌, subst, arith}
+use Rattle.std.proofs.Common.{ℕ, Err, refl, ◌-◌, ◌<◌, ◌∷◌, [], drop, false, None, Ok, sym, ap, ◌∙◌, subst, arith}
+use Rattle.std.proofs.lemmas.Result.{IfErr-weaker, err_from_is_err_and}
 use Rattle.xp_words.specs.Entries.{below}
 use Rattle.xp_words.specs.declared.kind.PageType.{PageType}
 use Rattle.step_maker.proofs.Coming.{came_trans}
+use Rattle.answer_fits.specs.Answers.{missed}
 use Rattle.answer_fits.proofs.Piecing.{serves_came}
 use Rattle.frame_types.specs.Taking.{IsOfOther}
 use Rattle.table_entries.specs.Asking.{ShowsEntered, of_entries}
@@ -11,11 +13,13 @@ use Rattle.table_entries.specs.declared.entries.Entered.TheVariants as entered
 use Rattle.partial_state.specs.Levels.{level_type}
 use Rattle.partial_state.specs.Stacks.{advanced, left_on_top}
 use Rattle.partial_state.specs.Weights.{weight}
-use Rattle.level_validate.specs.Tables.{Carries}
+use Rattle.level_validate.specs.Serving.{CarriesOn, StopsIn}
+use Rattle.level_validate.specs.Tables.{Carries, StandsOn}
+use Rattle.level_validate.proofs.Asking.{goes_advanced, goes_answer, goes_entries, goes_inner, goes_on, goes_opened, goes_waiting, stops_answer, stops_behind, stops_entries}
 use Rattle.level_validate.proofs.Entered.{after_look, after_next, after_record, after_record_ready, fresh_ready}
 use Rattle.level_validate.proofs.LeavingTables.{top_inside}
 use Rattle.level_validate.proofs.Lowering.{next_lowers}
-use Rattle.level_validate.proofs.Opening.{opened_found}
+use Rattle.level_validate.proofs.Opening.{level_below, opened_found}
 use Rattle.level_validate.proofs.Visited.{entered_first}
 use Rattle.level_validate.proofs.Pushing.{pushed}
 use Rattle.level_validate.proofs.Standing.{standing_above, standing_held, standing_known, standing_looked, standing_next}
@@ -311,4 +315,95 @@ returns-in-Unsettled-clause-kinds g c =
     let owner = c.args.owner in
     let is = c.in-Some.ensures.some in
     let x = g.P.Port.value c.take_entry.new.port in
-    wait_stops c.in-Unsettled.stop (subst (λ r. ShowsEntered u x owner 0 r) c.in-Unsettled.is (c.in_ok-take_entry.ensures.shows 0)).1
+    wait_stops c.in-Unsettled.stop (subst (λ r. ShowsEntered u x owner 0 c.level_type.result r) c.in-Unsettled.is (c.in_ok-take_entry.ensures.shows 0)).1
+
+pub returns-in_err-take_entry-clause-serves : goal.returns-in_err-take_entry-clause-serves
+returns-in_err-take_entry-clause-serves g c =
+    let u = g.P.Port.value c.args.port.now in
+    let x = g.P.Port.value c.take_entry.new.port in
+    let answer = err_from_is_err_and c.from_residual.result c.from_residual.ensures.1 in
+    goes_answer u x c.args.owner c.args.stack.now c.args.stack.now c.from_residual.result c.in_err-take_entry.field-0.0 (answer.1 ∙ ap Err answer.2)
+    (goes_entries u x c.args.owner c.args.stack.now (missed u.post.machine c.in_err-take_entry.field-0.0) c.in_err-take_entry.ensures.serves)
+
+pub returns-in_err-take_entry-clause-stops : goal.returns-in_err-take_entry-clause-stops
+returns-in_err-take_entry-clause-stops g c =
+    let u = g.P.Port.value c.args.port.now in
+    let x = g.P.Port.value c.take_entry.new.port in
+    let e = c.in_err-take_entry.field-0.0 in
+    let answer = err_from_is_err_and c.from_residual.result c.from_residual.ensures.1 in
+    stops_answer u x c.args.owner c.args.stack.now c.from_residual.result e (answer.1 ∙ ap Err answer.2) (stops_entries u x c.args.owner c.args.stack.now e c.in_err-take_entry.ensures.stops)
+
+pub returns-in-Recorded-clause-serves : goal.returns-in-Recorded-clause-serves
+returns-in-Recorded-clause-serves g c =
+    let u = g.P.Port.value c.args.port.now in
+    let x = g.P.Port.value c.take_entry.new.port in
+    subst (λ xs. CarriesOn u x c.args.owner c.args.stack.now xs []) (sym c.advance.ensures.advanced)
+    (goes_advanced u x c.args.owner c.args.stack.now c.args.stack.now [] (goes_entries u x c.args.owner c.args.stack.now [] c.in_ok-take_entry.ensures.serves))
+
+pub returns-in-Opened-clause-serves : goal.returns-in-Opened-clause-serves
+returns-in-Opened-clause-serves g c =
+    let u = g.P.Port.value c.args.port.now in
+    let x = g.P.Port.value c.take_entry.new.port in
+    let y = g.P.Port.value c.take_on.new.port in
+    let t = c.in-Some.top in
+    let owner = c.args.owner in
+    let stack = c.args.stack.now in
+    let k = c.level_type.result in
+    let came = serves_came u x (of_entries owner 0) [] (c.in_ok-take_entry.ensures.serves 0) in
+    let shows = λ (pages : ℕ). subst (λ r. ShowsEntered u x owner pages k r) c.in-Opened.is (c.in_ok-take_entry.ensures.shows pages) in
+    let a = c.requires.stands in
+    let s0 = subst (λ xs. Carries a.0 u owner xs) c.in-Some.ensures.some a.1 in
+    let inner = pushed t c.in-Opened.frame c.in-Opened.progress c.in-Opened.own false in
+    let below_is = ap below c.level_type.ensures ∙ level_below t.level s0.stack.0.low s0.stack.0.high in
+    let first = goes_opened u x owner stack k c.in-Opened.frame c.in_ok-take_entry.ensures.serves shows inner refl below_is in
+    goes_on u x y owner stack c.push.new.self c.take_on.new.stack c.take_on.result came
+    (subst (λ xs. CarriesOn u x owner stack xs []) (sym (c.push.ensures.pushed ∙ ap (λ ys. inner ∷ ys) c.advance-in-Opened.ensures.advanced)) (goes_inner u x owner stack inner stack [] first)) c.take_on.ensures.serves
+
+pub returns-in-Opened-clause-stops : goal.returns-in-Opened-clause-stops
+returns-in-Opened-clause-stops g c =
+    let u = g.P.Port.value c.args.port.now in
+    let x = g.P.Port.value c.take_entry.new.port in
+    let y = g.P.Port.value c.take_on.new.port in
+    let t = c.in-Some.top in
+    let ts = drop 1 c.args.stack.now in
+    let owner = c.args.owner in
+    let stack = c.args.stack.now in
+    let k = c.level_type.result in
+    let is = c.in-Some.ensures.some in
+    let found = c.in_ok-take_entry.ensures.found in
+    let came = serves_came u x (of_entries owner 0) [] (c.in_ok-take_entry.ensures.serves 0) in
+    let first = entered_first u x _ _ _ _ _ found in
+    let shows = λ (pages : ℕ). subst (λ r. ShowsEntered u x owner pages k r) c.in-Opened.is (c.in_ok-take_entry.ensures.shows pages) in
+    let a = c.requires.stands in
+    let s0 = subst (λ xs. Carries a.0 u owner xs) is a.1 in
+    let room : 0 < 512 - t.done = subst (λ xs. 0 < left_on_top xs) is c.requires.left in
+    let left = subst (λ k. LeavesEntered u x t.frame k t.done owner (entered.Opened c.in-Opened.frame c.in-Opened.progress c.in-Opened.own)) c.level_type.ensures (subst (λ r. LeavesEntered u x t.frame c.level_type.result t.done owner r) c.in-Opened.is c.in_ok-take_entry.ensures.hand) in
+    let way = subst (λ k. EntersFound u x t.frame t.done k owner (Ok (entered.Opened c.in-Opened.frame c.in-Opened.progress c.in-Opened.own))) c.level_type.ensures (subst (λ r. EntersFound u x t.frame t.done c.level_type.result owner (Ok r)) c.in-Opened.is found) in
+    let came_open = opened_found u x t.frame t.done (level_type t.level) owner c.in-Opened.frame c.in-Opened.progress c.in-Opened.own way in
+    let inner = pushed t c.in-Opened.frame c.in-Opened.progress c.in-Opened.own false in
+    let below_is = ap below c.level_type.ensures ∙ level_below t.level s0.stack.0.low s0.stack.0.high in
+    let opened = goes_opened u x owner stack k c.in-Opened.frame c.in_ok-take_entry.ensures.serves shows inner refl below_is in
+    let now = c.push.ensures.pushed ∙ ap (λ ys. inner ∷ ys) c.advance-in-Opened.ensures.advanced in
+    let goes = subst (λ xs. CarriesOn u x owner stack xs []) (sym now) (goes_inner u x owner stack inner stack [] opened) in
+    let stands : StandsOn u x owner stack c.push.new.self =
+    λ v s. subst (λ xs. Carries v x owner xs) (sym (now ∙ ap (λ ys. inner ∷ advanced ys) is))
+    (after_next v u x owner t ts (subst (λ xs. Carries v u owner xs) is s) came first c.in-Opened.frame c.in-Opened.progress c.in-Opened.own (omega (arith, room)) c.requires.ready came_open left) in
+    IfErr-weaker c.take_on.result (λ e. StopsIn x y owner c.push.new.self e) (λ e. StopsIn u y owner stack e) (λ e stops. stops_behind x y owner c.push.new.self e u stack stands goes stops) c.take_on.ensures.stops
+
+pub returns-in-Unsettled-clause-serves : goal.returns-in-Unsettled-clause-serves
+returns-in-Unsettled-clause-serves g c =
+    let u = g.P.Port.value c.args.port.now in
+    let x = g.P.Port.value c.take_entry.new.port in
+    let owner = c.args.owner in
+    let stack = c.args.stack.now in
+    let shows = subst (λ r. ShowsEntered u x owner 0 c.level_type.result r) c.in-Unsettled.is (c.in_ok-take_entry.ensures.shows 0) in
+    subst (λ xs. CarriesOn u x owner stack xs (missed u.post.machine c.in-Unsettled.stop)) (sym c.advance-in-Unsettled.ensures.advanced)
+    (goes_waiting u x owner stack (advanced stack) c.in-Unsettled.stop shows.1 (goes_advanced u x owner stack stack [] (goes_entries u x owner stack [] c.in_ok-take_entry.ensures.serves)))
+
+pub returns-in-Unsettled-clause-stops : goal.returns-in-Unsettled-clause-stops
+returns-in-Unsettled-clause-stops g c =
+    let u = g.P.Port.value c.args.port.now in
+    let x = g.P.Port.value c.take_entry.new.port in
+    let owner = c.args.owner in
+    let shows = λ (pages : ℕ). subst (λ r. ShowsEntered u x owner pages c.level_type.result r) c.in-Unsettled.is (c.in_ok-take_entry.ensures.shows pages) in
+    stops_entries u x owner c.args.stack.now c.in-Unsettled.stop (λ pages. (shows pages).2)

@@ -39,7 +39,7 @@ returns-in-Nothing-clause-serves g c pages =
     let z = g.P.Port.value c.record_entry.new.port in
     let looks : SeesEntry v u at.table at.index at.kind c.look_cell-word.result =
     record { look = c.look_cell-word.ensures.moves; hand = c.look_cell-word.ensures.hand; frame = c.requires.frame; index = c.requires.index; held = c.requires.held; above = c.requires.above; looked = c.requires.looked } in
-    (enters_recorded v u z at.table at.index at.owner pages at.table (at.index + 1) c.record_entry.result (looked_goes v u at.table at.index at.kind c.look_cell-word.result looks at.owner pages) c.record_entry.ensures.moves).serves
+    (enters_recorded v u z at.table at.index at.owner pages at.kind at.table (at.index + 1) c.record_entry.result (looked_goes v u at.table at.index at.kind c.look_cell-word.result looks at.owner pages) c.record_entry.ensures.moves).serves
 
 pub returns-in-Nothing-clause-shows : goal.returns-in-Nothing-clause-shows
 returns-in-Nothing-clause-shows g c pages =
@@ -49,7 +49,7 @@ returns-in-Nothing-clause-shows g c pages =
     let z = g.P.Port.value c.record_entry.new.port in
     let looks : SeesEntry v u at.table at.index at.kind c.look_cell-word.result =
     record { look = c.look_cell-word.ensures.moves; hand = c.look_cell-word.ensures.hand; frame = c.requires.frame; index = c.requires.index; held = c.requires.held; above = c.requires.above; looked = c.requires.looked } in
-    (enters_recorded v u z at.table at.index at.owner pages at.table (at.index + 1) c.record_entry.result (looked_goes v u at.table at.index at.kind c.look_cell-word.result looks at.owner pages) c.record_entry.ensures.moves).shows
+    (enters_recorded v u z at.table at.index at.owner pages at.kind at.table (at.index + 1) c.record_entry.result (looked_goes v u at.table at.index at.kind c.look_cell-word.result looks at.owner pages) c.record_entry.ensures.moves).shows
 
 pub returns-in-Nothing-clause-looks : goal.returns-in-Nothing-clause-looks
 returns-in-Nothing-clause-looks g c =
@@ -59,7 +59,7 @@ returns-in-Nothing-clause-looks g c =
     let z = g.P.Port.value c.record_entry.new.port in
     let looks : SeesEntry v u at.table at.index at.kind c.look_cell-word.result =
     record { look = c.look_cell-word.ensures.moves; hand = c.look_cell-word.ensures.hand; frame = c.requires.frame; index = c.requires.index; held = c.requires.held; above = c.requires.above; looked = c.requires.looked } in
-    (enters_recorded v u z at.table at.index at.owner 0 at.table (at.index + 1) c.record_entry.result (looked_goes v u at.table at.index at.kind c.look_cell-word.result looks at.owner 0) c.record_entry.ensures.moves).looks
+    (enters_recorded v u z at.table at.index at.owner 0 at.kind at.table (at.index + 1) c.record_entry.result (looked_goes v u at.table at.index at.kind c.look_cell-word.result looks at.owner 0) c.record_entry.ensures.moves).looks
 
 pub returns-in-Bad-clause-serves : goal.returns-in-Bad-clause-serves
 returns-in-Bad-clause-serves g c pages =

@@ -48,9 +48,9 @@ returns-in_err-get_ref-clause-enters g c b word next is pages =
     let x = g.P.Port.value c.get_ref.new.port in
     let at = c.args.at in
     let answer = err_from_is_err_and c.from_residual.result c.from_residual.ensures.1 in
-    subst (λ (r : Result Entered Stop). MeetsEntry b x at.table at.index at.owner pages r) (sym (answer.1 ∙ ap Err answer.2))
+    subst (λ (r : Result Entered Stop). MeetsEntry b x at.table at.index at.owner pages at.kind r) (sym (answer.1 ∙ ap Err answer.2))
     (enters_unreferred b v at.table at.index at.owner pages c.args.frame None (looked_goes b v at.table at.index at.kind word next.looks at.owner pages) (asks_plain b v at.table at.index at.kind word next.looks at.index at.owner pages next.works.on c.args.frame is)
-    (look_more b v at.table at.index at.kind word next.looks at.owner pages) x c.in_err-get_ref.field-0.0 c.in_err-get_ref.ensures.kinds c.in_err-get_ref.ensures.serves c.in_err-get_ref.ensures.stops)
+    (look_more b v at.table at.index at.kind word next.looks at.owner pages) x c.in_err-get_ref.field-0.0 c.in_err-get_ref.ensures.kinds c.in_err-get_ref.ensures.serves c.in_err-get_ref.ensures.stops at.kind)
 
 pub returns-clause-enters : goal.returns-clause-enters
 returns-clause-enters g c b word next is pages =
@@ -58,7 +58,7 @@ returns-clause-enters g c b word next is pages =
     let x = g.P.Port.value c.get_ref.new.port in
     let z = g.P.Port.value c.record_entry.new.port in
     let at = c.args.at in
-    enters_recorded b x z at.table at.index at.owner pages at.table (at.index + 1) c.record_entry.result
+    enters_recorded b x z at.table at.index at.owner pages at.kind at.table (at.index + 1) c.record_entry.result
     (referred b v at.table at.index at.owner pages c.args.frame None (looked_goes b v at.table at.index at.kind word next.looks at.owner pages) (asks_plain b v at.table at.index at.kind word next.looks at.index at.owner pages next.works.on c.args.frame is)
     x c.in_ok-get_ref.ensures.serves) c.record_entry.ensures.moves
 

@@ -6,7 +6,7 @@ use Rattle.step_maker.proofs.Coming.{came_trans}
 use Rattle.frame_types.specs.Found.{TakesFound}
 use Rattle.frame_types.specs.Plain.{TwinTake}
 use Rattle.frame_types.specs.Taking.{ShowsWait, TakesAs}
-use Rattle.table_entries.proofs.HandLists.{asks_some}
+use Rattle.table_entries.proofs.HandLists.{asks_below, asks_some}
 use Rattle.table_entries.proofs.HandLive.{counted_hand, counted_records}
 use Rattle.table_entries.proofs.HandTyped.{given_up, opens_from, take_aside, take_other}
 use Rattle.table_entries.proofs.HandWaits.{waits_from}
@@ -129,10 +129,10 @@ returns-in_err-frame-clause-enters g c b word next is pages =
     let x = g.P.Port.value c.get_ref.new.port in
     let at = c.args.at in
     let answer = err_from_is_err_and c.from_residual.result c.from_residual.ensures.1 in
-    subst (λ (r : Result Entered Stop). MeetsEntry b x at.table at.index at.owner pages r) (sym (answer.1 ∙ ap Err answer.2))
+    subst (λ (r : Result Entered Stop). MeetsEntry b x at.table at.index at.owner pages at.kind r) (sym (answer.1 ∙ ap Err answer.2))
     (enters_unreferred b v at.table at.index at.owner pages c.args.frame (Some c.args.want) (looked_goes b v at.table at.index at.kind word next.looks at.owner pages)
     (asks_typed b v at.table at.index at.kind word next.looks at.index at.owner pages next.works.on c.args.frame c.args.want is)
-    (look_more b v at.table at.index at.kind word next.looks at.owner pages) x c.in_err-frame.field-0.0 c.in_err-frame.ensures.kinds c.in_err-frame.ensures.serves c.in_err-frame.ensures.stops)
+    (look_more b v at.table at.index at.kind word next.looks at.owner pages) x c.in_err-frame.field-0.0 c.in_err-frame.ensures.kinds c.in_err-frame.ensures.serves c.in_err-frame.ensures.stops at.kind)
 
 pub returns-in-Ok-Counted-clause-enters : goal.returns-in-Ok-Counted-clause-enters
 returns-in-Ok-Counted-clause-enters g c b word next is pages =
@@ -148,7 +148,7 @@ returns-in-Ok-Counted-clause-enters g c b word next is pages =
     let looked = looked_goes b v at.table at.index at.kind word next.looks at.owner pages in
     let one = referred b v at.table at.index at.owner pages f (Some c.args.want) looked asks x refers in
     let two = asks_referred b v at.table at.index at.owner pages f (Some c.args.want) looked asks x refers in
-    enters_recorded b y z at.table at.index at.owner pages at.table (at.index + 1) c.record_entry.result (typed b x at.table at.index at.owner pages f c.args.want one two y c.in-Ok-Counted.ensures.serves) c.record_entry.ensures.moves
+    enters_recorded b y z at.table at.index at.owner pages at.kind at.table (at.index + 1) c.record_entry.result (typed b x at.table at.index at.owner pages f c.args.want one two y c.in-Ok-Counted.ensures.serves) c.record_entry.ensures.moves
 
 pub returns-in-Ok-InWork-clause-enters : goal.returns-in-Ok-InWork-clause-enters
 returns-in-Ok-InWork-clause-enters g c b word next is pages =
@@ -163,7 +163,7 @@ returns-in-Ok-InWork-clause-enters g c b word next is pages =
     let looked = looked_goes b v at.table at.index at.kind word next.looks at.owner pages in
     let one = referred b v at.table at.index at.owner pages f (Some c.args.want) looked asks x refers in
     let two = asks_referred b v at.table at.index at.owner pages f (Some c.args.want) looked asks x refers in
-    enters_opened b y at.table at.index at.owner pages f c.in-Ok-InWork.progress c.in-Ok-InWork.own (typed b x at.table at.index at.owner pages f c.args.want one two y c.in-Ok-InWork.ensures.serves)
+    enters_opened b x at.table at.index at.owner pages f c.args.want one two y c.in-Ok-InWork.ensures.serves at.kind (asks_below at.kind at.index word c.args.frame c.args.want is) c.in-Ok-InWork.progress c.in-Ok-InWork.own
 
 pub returns-in-Err-clause-enters : goal.returns-in-Err-clause-enters
 returns-in-Err-clause-enters g c b word next is pages =
@@ -179,7 +179,7 @@ returns-in-Err-clause-enters g c b word next is pages =
     let looked = looked_goes b v at.table at.index at.kind word next.looks at.owner pages in
     let one = referred b v at.table at.index at.owner pages f (Some c.args.want) looked asks x refers in
     let two = asks_referred b v at.table at.index at.owner pages f (Some c.args.want) looked asks x refers in
-    enters_untyped b x at.table at.index at.owner pages f c.args.want one two y z c.in-Err.stop c.in-Err.ensures.kinds c.in-Err.ensures.serves c.in-Err.ensures.stops c.put_ref.ensures.serves
+    enters_untyped b x at.table at.index at.owner pages f c.args.want one two y z c.in-Err.stop c.in-Err.ensures.kinds c.in-Err.ensures.serves c.in-Err.ensures.stops c.put_ref.ensures.serves at.kind
 
 pub returns-in-Ok-Waiting-clause-enters : goal.returns-in-Ok-Waiting-clause-enters
 returns-in-Ok-Waiting-clause-enters g c b word next is pages =

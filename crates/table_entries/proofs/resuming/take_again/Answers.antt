@@ -138,7 +138,7 @@ returns-in-Ok-Counted-clause-resumes g c b u word looks is other pages =
     let f = c.in_ok-frame.frame in
     let same = sym c.in_ok-frame.ensures.frame.0 in
     let refers = subst (λ k. Serves v x (of_frame k at.owner None) []) same c.in_ok-frame.ensures.serves in
-    resumes_taken b u v at.table at.index at.owner pages at.kind word f c.args.want looks (is ∙ ap (λ k. Typed k c.args.want) same) (subst (λ k. LooksLive u v k false) same other) x refers y c.in-Ok-Counted.ensures.serves f
+    resumes_taken b u v at.table at.index at.owner pages at.kind word f c.args.want looks (is ∙ ap (λ k. Typed k c.args.want) same) (subst (λ k. LooksLive u v k false) same other) x refers y c.in-Ok-Counted.ensures.serves
 
 pub returns-in-Ok-InWork-clause-resumes : goal.returns-in-Ok-InWork-clause-resumes
 returns-in-Ok-InWork-clause-resumes g c b u word looks is other pages =
@@ -150,7 +150,7 @@ returns-in-Ok-InWork-clause-resumes g c b u word looks is other pages =
     let same = sym c.in_ok-frame.ensures.frame.0 in
     let refers = subst (λ k. Serves v x (of_frame k at.owner None) []) same c.in_ok-frame.ensures.serves in
     resumes_opened b u v at.table at.index at.owner pages at.kind word f c.args.want looks (is ∙ ap (λ k. Typed k c.args.want) same) (subst (λ k. LooksLive u v k false) same other) x refers y c.in-Ok-InWork.ensures.serves
-    f c.in-Ok-InWork.progress c.in-Ok-InWork.own
+    c.in-Ok-InWork.progress c.in-Ok-InWork.own
 
 pub returns-in-Ok-Waiting-clause-resumes : goal.returns-in-Ok-Waiting-clause-resumes
 returns-in-Ok-Waiting-clause-resumes g c b u word looks is other pages =
@@ -163,7 +163,7 @@ returns-in-Ok-Waiting-clause-resumes g c b u word looks is other pages =
     let refers = subst (λ k. Serves v x (of_frame k at.owner None) []) same c.in_ok-frame.ensures.serves in
     let shows = subst (λ t. ShowsWait x y f at.owner c.args.want t) c.in-Ok-Waiting.field-0-is c.in-Ok-Waiting.ensures.waits in
     resumes_waiting b u v at.table at.index at.owner pages at.kind word f c.args.want looks (is ∙ ap (λ k. Typed k c.args.want) same) (subst (λ k. LooksLive u v k false) same other) x refers y c.in-Ok-Waiting.ensures.serves
-    f c.in-Ok-Waiting.own c.in-Ok-Waiting.stamp c.in-Ok-Waiting.stop shows.0 shows.1
+    c.in-Ok-Waiting.own c.in-Ok-Waiting.stamp c.in-Ok-Waiting.stop shows.0 shows.1
 
 pub returns-in-Err-clause-resumes : goal.returns-in-Err-clause-resumes
 returns-in-Err-clause-resumes g c b u word looks is other pages =
