@@ -1,5 +1,5 @@
 -- A frame taken as a page table: what is in hand then, and why it is not to be had.
-use Rattle.std.specs.Prelude.{◌≡◌, ◌⊎◌, ◌+◌, ◌==◌, ◌&&◌, nat_le, not, ℕ, Bool, true, false, List, [], ◌∷◌, Option, Some, None, Result, Ok, Err}
+use Rattle.std.specs.Prelude.{◌≡◌, ◌⊎◌, ◌+◌, ◌==◌, ◌&&◌, nat_le, not, if◌then◌else◌, ℕ, Bool, true, false, List, [], ◌∷◌, Option, Some, None, Result, Ok, Err}
 use Rattle.xp_words.specs.declared.reply.Pause.TheVariants.{Busy, Due, Flush, Lost}
 use Rattle.xp_words.specs.declared.reply.Refusal.TheVariants as refusals
 use Rattle.xp_words.specs.declared.reply.Stop.{Stop}
@@ -8,16 +8,18 @@ use Rattle.xp_board.specs.declared.holdings.Holdings.{Holdings}
 use Rattle.xp_board.specs.declared.holdings.OwnerFound.TheVariants as owners
 use Rattle.xp_board.specs.KindSteps.{live_typed}
 use Rattle.xp_board.specs.Told.{PortValue}
-use Rattle.step_maker.specs.Holds.{FlushedHolds, FlushedSame}
+use Rattle.step_maker.specs.Holds.{FlushedHolds, FlushedSame, Holds}
 use Rattle.answer_fits.specs.Answers.{Deed, Stops}
 use Rattle.answer_fits.specs.Asked.{Request, of_table}
 use Rattle.frame_types.specs.Plain.{is_refused}
+use Rattle.frame_types.specs.Taking.{WaitsWith}
+use Rattle.frame_words.specs.Refs.{took}
 use Rattle.partial_state.specs.Levels.{level_type}
 use Rattle.partial_state.specs.declared.stack.TableWork.{TableWork}
 use Rattle.level_validate.specs.Completing.{Completes}
 use Rattle.level_validate.specs.Serving.{IsPiece}
-use Rattle.level_validate.specs.Tables.{Carries}
-use Rattle.level_validate.specs.Unwinding.{Unwinds}
+use Rattle.level_validate.specs.Tables.{Carries, IsIdle}
+use Rattle.level_validate.specs.Unwinding.{Unwinds, own_domain}
 
 -- ---- answers
 abbrev pub is_due_stop : Stop → Bool
@@ -86,3 +88,19 @@ abbrev pub LeavesAcquired : PortValue → PortValue → ℕ → ℕ → ℕ → 
 LeavesAcquired v w f owner level (Ok g) = FlushedHolds v w (record v.holdings { typed = live_typed g (level_type level) (owners.Of owner) ∷ v.holdings.typed })
 LeavesAcquired v w f owner level (Err (Refused x)) = FlushedSame v w ⊎ FlushedHolds v w (record v.holdings { old0 = Some (f + 1) })
 LeavesAcquired v w f owner level (Err (Paused x)) = FlushedSame v w
+
+-- ---- a table that waits for a flush
+-- it came there from some port that was idle, under a reference that was taken first
+pub record WaitsOn (v w : PortValue) (f level : ℕ) (own : Bool) (stamp : ℕ) : Type 0 where
+  pub lent : PortValue
+  pub idle : IsIdle v
+  pub referred : Holds v lent (took f (own_domain v) v.holdings)
+  pub waits : WaitsWith lent w f (own_domain v) (level_type level) own stamp
+
+abbrev pub IsTableWaiting : PortValue → ℕ → ℕ → Bool → ℕ → Type 0
+IsTableWaiting w f level own stamp = (v : PortValue) × WaitsOn v w f level own stamp
+
+-- from wherever it came there nothing of it is in hand, or the first old word has it
+abbrev pub LeavesWaiting : PortValue → PortValue → ℕ → ℕ → Bool → ℕ → Bool → Type 0
+LeavesWaiting u w f level own stamp kept =
+    (v : PortValue) → WaitsOn v u f level own stamp → FlushedHolds v w (if own && not kept then record v.holdings { old0 = Some (f + 1) } else v.holdings)

@@ -1,14 +1,16 @@
 //! Frames that are taken as page tables: validated entry by entry, until the outermost table is full, or an entry stops it.
 ghost use Rattle.std.specs.Prelude.{◌≡◌, ◌+◌, ◌<◌, ◌≤◌, ◌∷◌, ℕ, [], Some, Bool, true, false, not, if◌then◌else◌, length, IfOk, IfErr};
-ghost use Rattle.xp_board.specs.Hands.{typed_to, work_on};
 ghost use Rattle.step_maker.specs.Holds.{MayWork};
 ghost use Rattle.step_maker.specs.Moves.{Came, Met};
 ghost use Rattle.answer_fits.specs.Answers.{Serves, Stops, misses};
 ghost use Rattle.answer_fits.specs.Pauses.{Progress};
+ghost use Rattle.frame_types.specs.Leaving.{ServesType};
+ghost use Rattle.frame_types.specs.Plain.{is_refused};
+ghost use Rattle.partial_state.specs.Levels.{level_type};
 ghost use Rattle.table_words.specs.OldWords.{known_old};
 ghost use Rattle.table_words.specs.declared.old_words.OldWord.TheVariants.{First};
 ghost use Rattle.partial_state.specs.Weights.{weight};
-ghost use Rattle.level_validate.specs.Acquiring.{IsAcquireStop, LeavesAcquired, StopsRisen, Validated, is_asked, is_due, is_filled, of_acquire, outermost};
+ghost use Rattle.level_validate.specs.Acquiring.{IsAcquireStop, IsTableWaiting, LeavesAcquired, LeavesWaiting, StopsRisen, Validated, is_asked, is_due, is_filled, of_acquire, outermost};
 ghost use Rattle.level_validate.specs.Serving.{CarriesOn};
 ghost use Rattle.level_validate.specs.Tables.{IsIdle, IsStanding, IsTopReady, StandsOn};
 ghost use Rattle.level_validate.specs.Unwinding.{own_domain};
@@ -17,10 +19,98 @@ ghost use Rattle.xp_preempt.specs.Gates.{Heard};
 use crate::completing::{complete_inner, complete_outer};
 use crate::entering::{enter, take_on};
 use crate::unwinding::unwind;
-use partial_state::{Stack, TableWork};
+use frame_types::{Taken, leave_shared, leave_unsettled, take_type};
+use frame_words::{get_ref, put_ref};
+use kind_words::{leave, waiting_kind};
+use partial_state::{Stack, TableWork, level_type};
+use table_words::{OldWord, put_old};
 use xp_board::Port;
 use xp_preempt::Preempt;
 use xp_words::{Pause, Stop};
+
+/// Takes a frame of the own domain as a page table of that level, 1 to 4, and with it all that its entries ask, down to the
+/// pages. A table that was left unfinished is taken on where it was left. The gate is asked behind each entry, but in the
+/// slots that are Xen's (`ROOT_PAGETABLE_FIRST_XEN_SLOT` to `_LAST_`), and not where the table is then full. A refusal or a pause leaves
+/// all tables in work partial; the outermost one's reference goes into its `kept` mark (a pause) or into the first old word (a refusal), which
+/// is known to name no frame.
+pub fn acquire<P: Port>(
+    port: &mut P,
+    gate: &mut dyn Preempt,
+    f: u64,
+    owner: u16,
+    level: u8,
+) -> Result<u32, Stop>
+    requires may { MayWork (P.value port.old) }
+    requires idle { IsIdle (P.value port.old) }
+    requires own { owner ≡ own_domain (P.value port.old) }
+    requires low { 1 ≤ level }
+    requires high { level ≤ 4 }
+    requires room { known_old First (P.value port.old).holdings ≡ Some 0 }
+    ensures frame { IfOk result (λ g. (g ≡ f) × (g < (P.value port.old).post.machine.frames)) }
+    ensures serves { (pages : ℕ) → Serves (P.value port.old) (P.value port.new) (of_acquire f owner level pages result) (misses (P.value port.old).post.machine result) }
+    ensures stops { (pages : ℕ) → IfErr result (λ e. Stops (P.value port.old) (P.value port.new) (of_acquire f owner level pages result) e) }
+    ensures kinds { IfErr result IsAcquireStop }
+    ensures hand { LeavesAcquired (P.value port.old) (P.value port.new) f owner level result }
+    ensures gate { count_yes gate.new ≡ (if is_due result then count_yes gate.old + 1 else count_yes gate.old) }
+    ensures heard { Heard (says gate.old) (count_asks gate.old) (count_asks gate.new) (is_due result) }
+    ensures says { (n : ℕ) → says gate.new n ≡ says gate.old n }
+    ensures paces { paces gate.new ≡ paces gate.old }
+    ensures calm { calm gate.old ≡ true → (is_due result ≡ false) × (calm gate.new ≡ true) }
+{
+    let frame = get_ref(port, f, owner)?;
+    match take_type(port, frame, owner, level_type(level)) {
+        Ok(Taken::Counted) => Ok(frame),
+        Ok(Taken::InWork { progress, own }) => {
+            let table = TableWork {
+                frame,
+                level,
+                done: progress,
+                own,
+                recorded: false,
+            };
+            validate(port, gate, owner, table)?;
+            Ok(frame)
+        }
+        Ok(Taken::Waiting { own, stamp, stop }) => {
+            leave_waiting(port, frame, level, own, stamp, is_paused(stop));
+            Err(stop)
+        }
+        Err(stop) => {
+            put_ref(port, frame);
+            Err(stop)
+        }
+    }
+}
+
+fn is_paused(stop: Stop) -> bool
+    ensures { result ≡ not (is_refused stop) }
+{
+    matches!(stop, Stop::Paused(_))
+}
+
+// Leaves the frame, which waits for a flush that is not to be had. `own`: its type count is in hand, and goes into its `kept` mark or into the
+// first old word; else the frame is left as another holder left it.
+fn leave_waiting<P: Port>(port: &mut P, frame: u32, level: u8, own: bool, stamp: u64, kept: bool)
+    requires frame { frame < (P.value port.old).post.machine.frames }
+    requires may { MayWork (P.value port.old) }
+    requires low { 1 ≤ level }
+    requires high { level ≤ 4 }
+    requires waits { IsTableWaiting (P.value port.old) frame level own stamp }
+    requires room { known_old First (P.value port.old).holdings ≡ Some 0 }
+    ensures came { Came (P.value port.old) (P.value port.new) }
+    ensures serves { ServesType (P.value port.old) (P.value port.new) frame (level_type level) }
+    ensures hand { LeavesWaiting (P.value port.old) (P.value port.new) frame level own stamp kept }
+{
+    let kind = level_type(level);
+    if !own {
+        leave_shared(port, frame, kind, stamp);
+    } else if kept {
+        leave(port, frame, waiting_kind(kind, true, stamp));
+    } else {
+        leave_unsettled(port, frame, kind, stamp);
+        put_old(port, OldWord::First, frame);
+    }
+}
 
 // Validates the only table in work. On a refusal or a pause all tables in work are left partial.
 fn validate<P: Port>(
@@ -53,7 +143,7 @@ fn validate<P: Port>(
             Ok(())
         }
         Err(stop) => {
-            unwind(port, &mut stack, matches!(stop, Stop::Paused(_)));
+            unwind(port, &mut stack, is_paused(stop));
             Err(stop)
         }
     }

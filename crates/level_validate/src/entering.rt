@@ -75,7 +75,12 @@ pub(crate) fn enter<P: Port>(port: &mut P, owner: u16, stack: &mut Stack) -> Res
 
 // Looks at the last recorded entry of the innermost table, which came into work with some of its entries recorded. Its frame may have
 // been left unfinished: then that one is taken on, and is the innermost table.
-pub(crate) fn take_on<P: Port>(port: &mut P, owner: u16, stack: &mut Stack, top: TableWork) -> Result<(), Stop>
+pub(crate) fn take_on<P: Port>(
+    port: &mut P,
+    owner: u16,
+    stack: &mut Stack,
+    top: TableWork,
+) -> Result<(), Stop>
     requires may { MayWork (P.value port.old) }
     requires top { stack.old ≡ top ∷ drop 1 stack.old }
     requires stands { IsStanding (P.value port.old) owner stack.old }
