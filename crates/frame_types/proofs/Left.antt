@@ -16,7 +16,7 @@ use Rattle.xp_board.specs.declared.step.StepKind.TheVariants as kinds
 use Rattle.xp_board.specs.Acts.{left_by}
 use Rattle.xp_board.specs.Hands.{refs_to, typed_owner, typed_to, without_ref, without_typed, without_work, work_on}
 use Rattle.xp_board.specs.Knowledge.{knows_partial}
-use Rattle.xp_board.specs.Readings.{is_partial_as}
+use Rattle.xp_board.specs.Readings.{domain_of, is_partial_as}
 use Rattle.xp_board.specs.Told.{Finds, PortValue}
 use Rattle.xp_board.proofs.Returned.{same_type}
 use Rattle.board_lemmas.proofs.ListCounts.{newest_held}
@@ -27,12 +27,16 @@ use Rattle.frame_words.specs.Refs.{MayPut}
 use Rattle.kind_words.specs.Kinds.{MayLeave, dead_kind, left, partial_kind}
 use Rattle.kind_words.proofs.KindFacts.{clock_is_small, out_of_works}
 use Rattle.kind_words.proofs.KindHands.{apart_spares, clock_since, typed_held, work_here}
-use Rattle.kind_words.proofs.Leaving.{left_dead, left_partial, may_leave_dead, may_leave_marked, without_newest}
+use Rattle.kind_words.proofs.Leaving.{left_dead, left_kept, left_partial, may_keep, may_leave_dead, may_leave_marked, without_newest}
 use Rattle.kind_words.proofs.KindWriting.{fields_write}
 use Rattle.kind_words.proofs.Knowing.{partial_by_step}
 use Rattle.frame_types.specs.Leaving.{StaysTyped, WaitsFrom, unsettled_typed}
 use Rattle.frame_types.specs.Taking.{working, working_typed}
 use Rattle.frame_types.proofs.Entering.{lent_held, typed_owned, working_works}
+
+or_true : (b : Bool) → IsTrue (b || true)
+or_true true = refl
+or_true false = refl
 
 -- ---- what is known partial
 partial_as : (want : PageType) (n : ℕ) → IsTrue (is_kind (partial_kind want false true 0 n)) → is_partial_as want (kind_write (partial_kind want false true 0 n)) ≡ true
@@ -121,6 +125,21 @@ module _ (b v : PortValue) (f owner : ℕ) (want : PageType) (stamp : ℕ) (w : 
     unfolding left_by
     stays_known x store =
         partial_by_step v d f want (Store (kind_write (partial_kind want false true 0 n))) kinds.Kind None x store typed b.holdings.typed w.waits.works.since stays_typed refl refl w.waits.works.taken (partial_as want n is)
+
+  -- it goes into the `kept` mark of the frame, which is of the own domain
+  pub kept_may : MayLeave v f (partial_kind want true true 0 stamp)
+  kept_may =
+      subst (λ n. MayLeave v f (partial_kind want true true 0 n)) w.waits.stamped
+      (may_leave_marked v f want w.waits.work (here b v f owner want true stamp w) w.waits.typed w.waits.works.kind true (λ k. may_keep f w.waits.work v.holdings owner w.waits.works.in_work own_held own_owner) w.waits.works.in_work
+      w.waits.marked w.waits.none (or_true (not (type_number want == 5))))
+
+  pub kept_back : owner ≡ domain_of v.post.machine v.post.vcpu → (d : PortValue) → Holds v d (left v f (partial_kind want true true 0 stamp)) → FlushedHolds b d (gave f b.holdings)
+  kept_back domain d left_so =
+      ap quiet left_so
+      ∙ ap (λ k. quiet (record v { holdings = k })) (left_kept v f want w.waits.work (here b v f owner want true stamp w) true 0 stamp w.waits.works.in_work kept_may.is (own_owner ∙ ap (λ o. owners.Of o) domain))
+      ∙ ap (λ xs. quiet (record v { holdings = record v.holdings { typed = xs; works = without_work f v.holdings.works } })) no_typed
+      ∙ ap (λ ys. quiet (record v { holdings = record v.holdings { typed = b.holdings.typed; works = ys } })) (no_works b v f owner want true stamp w)
+      ∙ ap (λ (q : PortValue). quiet (record q { holdings = record q.holdings { typed = b.holdings.typed; works = b.holdings.works } })) w.waits.works.hand
 
   -- dead with its mark, and a clock value that was found then
   module _ (a : PortValue) (clock : ℕ) (look : Moves v a Clock Load kinds.Look None clock) (same : Same v a) where

@@ -10,11 +10,10 @@ use Rattle.xp_words.specs.declared.reply.Stop.{Stop}
 use Rattle.xp_words.specs.declared.reply.Stop.TheVariants.{Refused, Paused}
 use Rattle.xp_board.specs.declared.step.Act.TheVariants.{Store}
 use Rattle.xp_board.specs.declared.step.StepKind.TheVariants as kinds
-use Rattle.xp_board.specs.declared.holdings.OwnerFound.TheVariants as owners
-use Rattle.xp_board.specs.Hands.{refs_to, work_on, without_work}
+use Rattle.xp_board.specs.Hands.{refs_to, work_on}
 use Rattle.xp_board.specs.Readings.{domain_of}
 use Rattle.xp_board.specs.Told.{Post, PortValue, is_telling, told_word}
-use Rattle.step_maker.specs.Holds.{FlushedHolds, Holds, Same, quiet}
+use Rattle.step_maker.specs.Holds.{FlushedHolds, Holds, Same}
 use Rattle.step_maker.specs.Moves.{Came, Moves}
 use Rattle.step_maker.proofs.Coming.{came_post}
 use Rattle.step_maker.specs.Plain.{Leaves, Words}
@@ -26,12 +25,11 @@ use Rattle.frame_words.specs.Freeing.{gave}
 use Rattle.frame_words.specs.Refs.{MayPut}
 use Rattle.kind_words.specs.Kinds.{MayLeave, left, partial_kind}
 use Rattle.kind_words.proofs.KindHands.{apart_spares}
-use Rattle.kind_words.proofs.Leaving.{left_kept, may_keep, may_leave_marked}
 use Rattle.frame_types.specs.Leaving.{GivesBack, GivesUp, IsMemoryWaiting, IsWaiting, ServesType, WaitsFrom, WaitsIn}
 use Rattle.frame_types.specs.Plain.{left_waiting}
 use Rattle.frame_types.specs.Taking.{IsTypeStop, LentBy, WaitsWith}
 use Rattle.frame_types.proofs.Entering.{lent_held}
-use Rattle.frame_types.proofs.Left.{here, no_typed, no_works, own_held, own_owner}
+use Rattle.frame_types.proofs.Left.{kept_back, kept_may}
 use Rattle.frame_types.proofs.Serving.{stored_words, type_came}
 
 -- ---- as a frame of any type
@@ -46,20 +44,11 @@ module _ (b v : PortValue) (f owner : ℕ) (own : Bool) (stamp : ℕ) (waits : W
   w : WaitsFrom b v f owner Writable true stamp
   w = subst (λ y. WaitsFrom b v f owner Writable y stamp) mine waits.from
 
-  pub kept_may : MayLeave v f (partial_kind Writable true true 0 stamp)
-  kept_may =
-      subst (λ n. MayLeave v f (partial_kind Writable true true 0 n)) w.waits.stamped
-      (may_leave_marked v f Writable w.waits.work (here b v f owner Writable true stamp w) w.waits.typed w.waits.works.kind true
-      (λ k. may_keep f w.waits.work v.holdings owner w.waits.works.in_work (own_held b v f owner Writable stamp w) (own_owner b v f owner Writable stamp w)) w.waits.works.in_work w.waits.marked w.waits.none refl)
+  pub memory_may : MayLeave v f (partial_kind Writable true true 0 stamp)
+  memory_may = kept_may b v f owner Writable stamp w
 
-  pub kept_back : (d : PortValue) → Holds v d (left v f (partial_kind Writable true true 0 stamp)) → FlushedHolds b d (gave f b.holdings)
-  kept_back d left_so =
-      ap quiet left_so
-      ∙ ap (λ k. quiet (record v { holdings = k }))
-      (left_kept v f Writable w.waits.work (here b v f owner Writable true stamp w) true 0 stamp w.waits.works.in_work kept_may.is (own_owner b v f owner Writable stamp w ∙ ap (λ o. owners.Of o) waits.domain))
-      ∙ ap (λ xs. quiet (record v { holdings = record v.holdings { typed = xs; works = without_work f v.holdings.works } })) (no_typed b v f owner Writable stamp w)
-      ∙ ap (λ ys. quiet (record v { holdings = record v.holdings { typed = b.holdings.typed; works = ys } })) (no_works b v f owner Writable true stamp w)
-      ∙ ap (λ (q : PortValue). quiet (record q { holdings = record q.holdings { typed = b.holdings.typed; works = b.holdings.works } })) w.waits.works.hand
+  pub memory_back : (d : PortValue) → Holds v d (left v f (partial_kind Writable true true 0 stamp)) → FlushedHolds b d (gave f b.holdings)
+  memory_back d left_so = kept_back b v f owner Writable stamp w waits.domain d left_so
 
 pub kept_words : (v d : PortValue) (f x stamp : ℕ) → Moves v d (Kind f) (Store (kind_write (partial_kind Writable true true 0 stamp))) kinds.Kind None x → is_telling v ≡ true → Leaves d (left_waiting f true false stamp (told_word v))
 kept_words v d f x stamp store telling q = ap (λ (m : Words). m q) (stored_words v d f x _ store telling)

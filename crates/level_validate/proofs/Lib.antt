@@ -4,6 +4,7 @@ mod Entered
 mod LeavingLent
 mod LeavingOwn
 mod LeavingTables
+mod LeftWaiting
 mod Looking
 mod Lowering
 mod Nested

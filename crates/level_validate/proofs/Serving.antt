@@ -52,6 +52,12 @@ pub asked_around : (b : Bool) (n : Machine) (s : ℕ) (r : Request) (F : Finding
 asked_around true n s r F ts asks = asks
 asked_around false n s r F ts asks = asked_retreated n s r F ts asks
 
+-- a frame goes into the own first old word
+pub old_serves : (u v w : PortValue) (r : Request) (ds : List Deed) → Serves u v r ds → (word : ℕ) → Moves v w (old_place v.post.vcpu First) (Store word) kinds.Context None 0 → Serves u w r ds
+old_serves u v w r ds before word store =
+    let same : v.post.vcpu ≡ u.post.vcpu = ap (λ (p : Post). p.vcpu) (came_post u v (serves_came u v r ds before)) in
+    serves_step u v w r ds (old_place v.post.vcpu First) (Store word) kinds.Context None 0 before store (inl (same, inl (λ e. absurd cc)))
+
 -- ---- pieces
 -- the same steps, of which fewer tables are asked
 pub piece_of : (u v : PortValue) (r : Request) (owner : ℕ) (ts us : List TableWork) (ds : List Deed) → (AreAsked u.post.machine u.post.vcpu r (Met u v) ts → AreAsked u.post.machine u.post.vcpu r (Met u v) us) →
@@ -81,14 +87,9 @@ module _ (u v w : PortValue) (r : Request) (owner : ℕ) (ts : List TableWork) (
       piece_later u v w r owner ts ds ds a (moves_came v w Clock Load kinds.Look (Some (Record f upto)) clock look)
       (serves_step u v w r ds Clock Load kinds.Look (Some (Record f upto)) clock a.serves look tt)
 
-  same_vcpu : v.post.vcpu ≡ u.post.vcpu
-  same_vcpu = ap (λ (p : Post). p.vcpu) (came_post u v (serves_came u v r ds a.serves))
-
   -- a frame goes into the own first old word
   pub piece_names : (word : ℕ) → Moves v w (old_place v.post.vcpu First) (Store word) kinds.Context None 0 → IsPiece u w r owner ts ds
-  piece_names word store =
-      piece_later u v w r owner ts ds ds a (moves_came v w _ _ _ _ 0 store)
-      (serves_step u v w r ds (old_place v.post.vcpu First) (Store word) kinds.Context None 0 a.serves store (inl (same_vcpu, inl (λ e. absurd cc))))
+  piece_names word store = piece_later u v w r owner ts ds ds a (moves_came v w _ _ _ _ 0 store) (old_serves u v w r ds a.serves word store)
 
 module _ (u v w : PortValue) (r : Request) (owner : ℕ) (t : TableWork) (ts : List TableWork) (ds : List Deed) (a : IsPiece u v r owner (t ∷ ts) ds) where
   pub top_asked : (F : Finding) → ((m : Moment) → Met u v m → F m) → IsAsked u.post.machine u.post.vcpu r F t.frame

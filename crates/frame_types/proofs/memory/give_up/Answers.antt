@@ -6,7 +6,7 @@ use Rattle.frame_types.proofs.LeavingSteps.{given_dead, given_kept, given_shared
 use Rattle.frame_types.proofs.Left.{here}
 use Rattle.frame_types.proofs.Serving.{store_serves}
 use Rattle.frame_types.proofs.Storing.{held_as, moved_as}
-use Rattle.frame_types.proofs.Waiting.{given_back, kept_back, kept_may, kept_words, memory_waits}
+use Rattle.frame_types.proofs.Waiting.{given_back, kept_words, memory_back, memory_may, memory_waits}
 use Rattle.frame_types.proofs.memory.give_up.Goals as goal
 
 -- ---- the type count is another holder's
@@ -40,14 +40,14 @@ returns-in-Refused-clause-plain g c =
 pub leave-requires-clause-leaves : goal.leave-requires-clause-leaves
 leave-requires-clause-leaves g c =
     let w = c.requires.waits in
-    rw c.waiting_kind.ensures (kept_may w.0 (g.P.Port.value c.args.port.now) c.args.frame w.1 c.args.own c.args.stamp w.2 c.if-not-own.false)
+    rw c.waiting_kind.ensures (memory_may w.0 (g.P.Port.value c.args.port.now) c.args.frame w.1 c.args.own c.args.stamp w.2 c.if-not-own.false)
 
 pub returns-in-Paused-clause-serves : goal.returns-in-Paused-clause-serves
 returns-in-Paused-clause-serves g c u owner ds before =
     let w = c.requires.waits in
     let v = g.P.Port.value c.args.port.now in
     let d = g.P.Port.value c.leave.new.port in
-    let may = kept_may w.0 v c.args.frame w.1 c.args.own c.args.stamp w.2 c.if-not-own.false in
+    let may = memory_may w.0 v c.args.frame w.1 c.args.own c.args.stamp w.2 c.if-not-own.false in
     store_serves u v d c.args.frame owner Writable ds before w.2.from.waits.work _ c.leave.result (here w.0 v c.args.frame w.1 Writable c.args.own c.args.stamp w.2.from) w.2.from.waits.works.in_work
     w.2.from.waits.works.kind may.is refl (moved_as v d c.args.frame c.leave.result _ _ c.waiting_kind.ensures c.leave.ensures.moves)
 
@@ -55,7 +55,7 @@ pub returns-in-Paused-clause-hand : goal.returns-in-Paused-clause-hand
 returns-in-Paused-clause-hand g c b owner waits =
     let v = g.P.Port.value c.args.port.now in
     let d = g.P.Port.value c.leave.new.port in
-    kept_back b v c.args.frame owner c.args.own c.args.stamp waits c.if-not-own.false d (held_as v d c.args.frame _ _ c.waiting_kind.ensures c.leave.ensures.hand)
+    memory_back b v c.args.frame owner c.args.own c.args.stamp waits c.if-not-own.false d (held_as v d c.args.frame _ _ c.waiting_kind.ensures c.leave.ensures.hand)
 
 pub returns-in-Paused-clause-plain : goal.returns-in-Paused-clause-plain
 returns-in-Paused-clause-plain g c =

@@ -1,0 +1,106 @@
+use Rattle.std.proofs.Common.{◌<◌, ◌+◌, true, false, None, refl, sym, subst}
+use Rattle.xp_words.specs.KindWords.{kind_write}
+use Rattle.xp_words.specs.declared.place.Place.TheVariants.{Kind}
+use Rattle.xp_board.specs.declared.step.Act.TheVariants.{Store}
+use Rattle.xp_board.specs.declared.step.StepKind.TheVariants as kinds
+use Rattle.xp_board.specs.Told.{Post}
+use Rattle.step_maker.specs.Holds.{Holds}
+use Rattle.step_maker.specs.Moves.{Moves}
+use Rattle.step_maker.proofs.Coming.{came_post, came_trans, moves_came}
+use Rattle.kind_words.specs.Kinds.{left}
+use Rattle.frame_types.specs.Leaving.{ServesType}
+use Rattle.frame_types.proofs.Left.{here}
+use Rattle.frame_types.proofs.Serving.{store_serves}
+use Rattle.partial_state.specs.Levels.{level_type}
+use Rattle.level_validate.proofs.LeftWaiting.{gives_left, kept_hand, lent_hand, mark_left, mark_may, named_hand, named_left, stays_held, stays_may, stays_room, waits_as}
+use Rattle.level_validate.proofs.Serving.{old_serves}
+use Rattle.level_validate.proofs.acquiring.leave_waiting.Goals as goal
+
+-- ---- the type count is another holder's
+
+pub leave_shared-requires-clause-waits : goal.leave_shared-requires-clause-waits
+leave_shared-requires-clause-waits g c =
+    let b = c.requires.waits in (b.1.lent, _, waits_as b.0 (g.P.Port.value c.args.port.now) c.args.frame c.args.level c.args.own c.args.stamp b.1 c.level_type-kind.result c.level_type-kind.ensures false c.if-not-own.true)
+
+pub returns-then-not-own-clause-hand : goal.returns-then-not-own-clause-hand
+returns-then-not-own-clause-hand g c v a =
+    let w = g.P.Port.value c.leave_shared.new.port in
+    lent_hand v w c.args.frame c.args.own c.args.kept c.if-not-own.true
+    (gives_left v (g.P.Port.value c.args.port.now) c.args.frame c.args.level c.args.own c.args.stamp a c.level_type-kind.result c.level_type-kind.ensures false c.if-not-own.true w c.leave_shared.ensures.hand)
+
+-- ---- paused: it goes into the mark
+
+pub leave-requires-clause-leaves : goal.leave-requires-clause-leaves
+leave-requires-clause-leaves g c =
+    let b = c.requires.waits in
+    rw c.waiting_kind.ensures (mark_may b.0 (g.P.Port.value c.args.port.now) c.args.frame c.args.level c.args.own c.args.stamp b.1 c.level_type-kind.result c.level_type-kind.ensures c.if-not-own.false)
+
+pub returns-then-kept-clause-came : goal.returns-then-kept-clause-came
+returns-then-kept-clause-came g c = moves_came (g.P.Port.value c.args.port.now) (g.P.Port.value c.leave.new.port) _ _ _ _ c.leave.result c.leave.ensures.moves
+
+pub returns-then-kept-clause-serves : goal.returns-then-kept-clause-serves
+returns-then-kept-clause-serves g c u owner ds before =
+    let b = c.requires.waits in
+    let x = g.P.Port.value c.args.port.now in
+    let d = g.P.Port.value c.leave.new.port in
+    let f = c.args.frame in
+    let w = waits_as b.0 x f c.args.level c.args.own c.args.stamp b.1 (level_type c.args.level) refl true c.if-not-own.false in
+    let may = mark_may b.0 x f c.args.level c.args.own c.args.stamp b.1 c.level_type-kind.result c.level_type-kind.ensures c.if-not-own.false in
+    store_serves u x d f owner (level_type c.args.level) ds before w.waits.work _ c.leave.result (here b.1.lent x f _ (level_type c.args.level) true c.args.stamp w) w.waits.works.in_work
+    w.waits.works.kind may.is c.level_type-kind.ensures (subst (λ k. Moves x d (Kind f) (Store (kind_write k)) kinds.Kind None c.leave.result) c.waiting_kind.ensures c.leave.ensures.moves)
+
+pub returns-then-kept-clause-hand : goal.returns-then-kept-clause-hand
+returns-then-kept-clause-hand g c v a =
+    let x = g.P.Port.value c.args.port.now in
+    let d = g.P.Port.value c.leave.new.port in
+    kept_hand v d c.args.frame c.args.own c.args.kept c.if-not-own.false c.if-kept.true
+    (mark_left v x c.args.frame c.args.level c.args.own c.args.stamp a c.level_type-kind.result c.level_type-kind.ensures c.if-not-own.false d
+    (subst (λ k. Holds x d (left x c.args.frame k)) c.waiting_kind.ensures c.leave.ensures.hand))
+
+-- ---- refused: it goes into the first old word
+
+pub leave_unsettled-requires-clause-waits : goal.leave_unsettled-requires-clause-waits
+leave_unsettled-requires-clause-waits g c =
+    let b = c.requires.waits in (b.1.lent, _, waits_as b.0 (g.P.Port.value c.args.port.now) c.args.frame c.args.level c.args.own c.args.stamp b.1 c.level_type-kind.result c.level_type-kind.ensures true c.if-not-own.false)
+
+pub put_old-requires-clause-frame : goal.put_old-requires-clause-frame
+put_old-requires-clause-frame g c =
+    subst (λ (p : Post). c.args.frame < p.machine.frames) (sym (came_post (g.P.Port.value c.args.port.now) (g.P.Port.value c.leave_unsettled.new.port) c.leave_unsettled.ensures.came)) c.requires.frame
+
+pub put_old-requires-clause-may : goal.put_old-requires-clause-may
+put_old-requires-clause-may g c =
+    let b = c.requires.waits in
+    stays_may b.0 (g.P.Port.value c.args.port.now) c.args.frame c.args.level c.args.own c.args.stamp b.1 c.level_type-kind.result c.level_type-kind.ensures c.if-not-own.false (g.P.Port.value c.leave_unsettled.new.port)
+    c.leave_unsettled.ensures.hand c.requires.may
+
+pub put_old-requires-clause-empty : goal.put_old-requires-clause-empty
+put_old-requires-clause-empty g c =
+    let b = c.requires.waits in
+    stays_room b.0 (g.P.Port.value c.args.port.now) c.args.frame c.args.level c.args.own c.args.stamp b.1 c.level_type-kind.result c.level_type-kind.ensures c.if-not-own.false (g.P.Port.value c.leave_unsettled.new.port)
+    c.leave_unsettled.ensures.hand c.requires.room
+
+pub put_old-requires-clause-held : goal.put_old-requires-clause-held
+put_old-requires-clause-held g c =
+    let b = c.requires.waits in
+    stays_held b.0 (g.P.Port.value c.args.port.now) c.args.frame c.args.level c.args.own c.args.stamp b.1 c.level_type-kind.result c.level_type-kind.ensures c.if-not-own.false (g.P.Port.value c.leave_unsettled.new.port)
+    c.leave_unsettled.ensures.hand
+
+pub returns-else-kept-clause-came : goal.returns-else-kept-clause-came
+returns-else-kept-clause-came g c =
+    let d = g.P.Port.value c.leave_unsettled.new.port in
+    let z = g.P.Port.value c.put_old.new.port in
+    came_trans (g.P.Port.value c.args.port.now) d z c.leave_unsettled.ensures.came (moves_came d z _ _ _ _ 0 c.put_old.ensures.moves)
+
+pub returns-else-kept-clause-serves : goal.returns-else-kept-clause-serves
+returns-else-kept-clause-serves g c u owner ds before =
+    let d = g.P.Port.value c.leave_unsettled.new.port in
+    let z = g.P.Port.value c.put_old.new.port in
+    old_serves u d z _ ds
+    (subst (λ k. ServesType (g.P.Port.value c.args.port.now) d c.args.frame k) c.level_type-kind.ensures c.leave_unsettled.ensures.serves u owner ds before) (c.args.frame + 1) c.put_old.ensures.moves
+
+pub returns-else-kept-clause-hand : goal.returns-else-kept-clause-hand
+returns-else-kept-clause-hand g c v a =
+    let d = g.P.Port.value c.leave_unsettled.new.port in
+    let z = g.P.Port.value c.put_old.new.port in
+    named_hand v z c.args.frame c.args.own c.args.kept c.if-not-own.false c.if-kept.false
+    (named_left v (g.P.Port.value c.args.port.now) c.args.frame c.args.level c.args.own c.args.stamp a c.level_type-kind.result c.level_type-kind.ensures c.if-not-own.false d c.leave_unsettled.ensures.hand z c.put_old.ensures.hand)
