@@ -9,6 +9,7 @@ mod Looking
 mod Lowering
 mod Nested
 mod Opening
+mod Outermost
 mod Pushing
 mod Serving
 mod Sharing

@@ -1,0 +1,105 @@
+use Rattle.std.proofs.Common.{◌≡◌, ◌∷◌, ◌∙◌, [], List, refl, sym, ap, subst}
+use Rattle.step_maker.proofs.Coming.{came_trans}
+use Rattle.partial_state.specs.declared.stack.TableWork.{TableWork}
+use Rattle.answer_fits.specs.Answers.{missed}
+use Rattle.level_validate.specs.Acquiring.{StopsRisen, outermost}
+use Rattle.level_validate.specs.Serving.{CarriesOn}
+use Rattle.level_validate.specs.Tables.{IsStanding, StandsOn}
+use Rattle.level_validate.specs.Unwinding.{Unwinds}
+use Rattle.level_validate.proofs.Outermost.{completed, filled_is, on_may, on_room, on_stands, own_standing, risen_on, unwound}
+use Rattle.level_validate.proofs.Serving.{goes_then}
+use Rattle.level_validate.proofs.acquiring.validate.Goals as goal
+
+-- ---- all entries are recorded
+
+-- the stack began with the one table
+only : (t : TableWork) (empty pushed : List TableWork) → empty ≡ [] → pushed ≡ t ∷ empty → pushed ≡ t ∷ []
+only t empty pushed none is = is ∙ ap (λ (us : List TableWork). t ∷ us) none
+
+pub complete_outer-requires-clause-may : goal.complete_outer-requires-clause-may
+complete_outer-requires-clause-may g c =
+    let u = g.P.Port.value c.args.port.now in
+    let x = g.P.Port.value c.fill.new.port in
+    let one = only c.args.table c.new-stack.result c.push.new.self c.new-stack.ensures c.push.ensures.pushed in
+    on_may u x c.args.owner c.push.new.self c.fill.new.stack (subst (λ us. IsStanding u c.args.owner us) (sym one) c.requires.stands) c.fill.ensures.stands c.requires.may
+
+pub complete_outer-requires-clause-stands : goal.complete_outer-requires-clause-stands
+complete_outer-requires-clause-stands g c =
+    let u = g.P.Port.value c.args.port.now in
+    let x = g.P.Port.value c.fill.new.port in
+    let t = c.args.table in
+    let one = only t c.new-stack.result c.push.new.self c.new-stack.ensures c.push.ensures.pushed in
+    let stands = on_stands u x c.args.owner c.push.new.self c.fill.new.stack (subst (λ us. IsStanding u c.args.owner us) (sym one) c.requires.stands) c.fill.ensures.stands in
+    (c.args.owner, subst (λ us. IsStanding x c.args.owner us) (filled_is t c.fill.new.stack c.in-Ok.ensures.filled (c.fill.ensures.outer ∙ ap outermost one)) stands)
+
+pub returns-in-Ok-clause-came : goal.returns-in-Ok-clause-came
+returns-in-Ok-clause-came g c = came_trans (g.P.Port.value c.args.port.now) (g.P.Port.value c.fill.new.port) (g.P.Port.value c.complete_outer.new.port) c.fill.ensures.came c.complete_outer.ensures.came
+
+pub returns-in-Ok-clause-hand : goal.returns-in-Ok-clause-hand
+returns-in-Ok-clause-hand g c =
+    let u = g.P.Port.value c.args.port.now in
+    let x = g.P.Port.value c.fill.new.port in
+    let t = c.args.table in
+    let one = only t c.new-stack.result c.push.new.self c.new-stack.ensures c.push.ensures.pushed in
+    let full = filled_is t c.fill.new.stack c.in-Ok.ensures.filled (c.fill.ensures.outer ∙ ap outermost one) in
+    completed u x (g.P.Port.value c.complete_outer.new.port) c.args.owner t c.requires.stands
+    (subst (λ ts. StandsOn u x c.args.owner ts (record t { done = 512 } ∷ [])) one (subst (λ us. StandsOn u x c.args.owner c.push.new.self us) full c.fill.ensures.stands)) c.complete_outer.ensures.hand
+
+pub returns-in-Ok-clause-serves : goal.returns-in-Ok-clause-serves
+returns-in-Ok-clause-serves g c =
+    let u = g.P.Port.value c.args.port.now in
+    let x = g.P.Port.value c.fill.new.port in
+    let t = c.args.table in
+    let one = only t c.new-stack.result c.push.new.self c.new-stack.ensures c.push.ensures.pushed in
+    let full = filled_is t c.fill.new.stack c.in-Ok.ensures.filled (c.fill.ensures.outer ∙ ap outermost one) in
+    goes_then u x (g.P.Port.value c.complete_outer.new.port) c.args.owner (t ∷ []) (record t { done = 512 } ∷ []) [] [] []
+    (subst (λ ts. CarriesOn u x c.args.owner ts (record t { done = 512 } ∷ []) []) one (subst (λ us. CarriesOn u x c.args.owner c.push.new.self us []) full c.in-Ok.ensures.serves)) (c.complete_outer.ensures.serves c.args.owner)
+
+-- ---- a refusal or a pause
+
+pub unwind-requires-clause-may : goal.unwind-requires-clause-may
+unwind-requires-clause-may g c =
+    let u = g.P.Port.value c.args.port.now in
+    let one = only c.args.table c.new-stack.result c.push.new.self c.new-stack.ensures c.push.ensures.pushed in
+    on_may u (g.P.Port.value c.fill.new.port) c.args.owner c.push.new.self c.fill.new.stack (subst (λ us. IsStanding u c.args.owner us) (sym one) c.requires.stands) c.fill.ensures.stands c.requires.may
+
+pub unwind-requires-clause-stands : goal.unwind-requires-clause-stands
+unwind-requires-clause-stands g c =
+    let u = g.P.Port.value c.args.port.now in
+    let x = g.P.Port.value c.fill.new.port in
+    let one = only c.args.table c.new-stack.result c.push.new.self c.new-stack.ensures c.push.ensures.pushed in
+    own_standing u x c.args.owner c.fill.new.stack c.fill.ensures.came c.requires.own
+    (on_stands u x c.args.owner c.push.new.self c.fill.new.stack (subst (λ us. IsStanding u c.args.owner us) (sym one) c.requires.stands) c.fill.ensures.stands)
+
+pub unwind-requires-clause-room : goal.unwind-requires-clause-room
+unwind-requires-clause-room g c off =
+    let u = g.P.Port.value c.args.port.now in
+    let one = only c.args.table c.new-stack.result c.push.new.self c.new-stack.ensures c.push.ensures.pushed in
+    on_room u (g.P.Port.value c.fill.new.port) c.args.owner c.push.new.self c.fill.new.stack (subst (λ us. IsStanding u c.args.owner us) (sym one) c.requires.stands) c.fill.ensures.stands c.requires.room
+
+pub returns-in-Err-clause-came : goal.returns-in-Err-clause-came
+returns-in-Err-clause-came g c = came_trans (g.P.Port.value c.args.port.now) (g.P.Port.value c.fill.new.port) (g.P.Port.value c.unwind.new.port) c.fill.ensures.came c.unwind.ensures.came
+
+pub returns-in-Err-clause-hand : goal.returns-in-Err-clause-hand
+returns-in-Err-clause-hand g c =
+    let u = g.P.Port.value c.args.port.now in
+    let x = g.P.Port.value c.fill.new.port in
+    let w = g.P.Port.value c.unwind.new.port in
+    let one = only c.args.table c.new-stack.result c.push.new.self c.new-stack.ensures c.push.ensures.pushed in
+    subst (λ b. Unwinds u w b (c.args.table ∷ [])) c.is_paused.ensures
+    (subst (λ ts. Unwinds u w c.is_paused.result ts) one
+    (unwound u x w c.args.owner c.is_paused.result c.push.new.self c.fill.new.stack c.fill.ensures.came c.requires.own c.fill.ensures.outer c.fill.ensures.stands c.unwind.ensures.hand))
+
+pub returns-in-Err-clause-serves : goal.returns-in-Err-clause-serves
+returns-in-Err-clause-serves g c =
+    let u = g.P.Port.value c.args.port.now in
+    let e = missed u.post.machine c.in-Err.stop in
+    let one = only c.args.table c.new-stack.result c.push.new.self c.new-stack.ensures c.push.ensures.pushed in
+    subst (λ ts. CarriesOn u (g.P.Port.value c.unwind.new.port) c.args.owner ts [] e) one
+    (goes_then u (g.P.Port.value c.fill.new.port) (g.P.Port.value c.unwind.new.port) c.args.owner c.push.new.self c.fill.new.stack [] e [] c.in-Err.ensures.serves (c.unwind.ensures.serves c.args.owner))
+
+pub returns-in-Err-clause-stops : goal.returns-in-Err-clause-stops
+returns-in-Err-clause-stops g c =
+    let one = only c.args.table c.new-stack.result c.push.new.self c.new-stack.ensures c.push.ensures.pushed in
+    subst (λ ts. StopsRisen (g.P.Port.value c.args.port.now) (g.P.Port.value c.unwind.new.port) c.args.owner ts c.in-Err.stop) one
+    (risen_on (g.P.Port.value c.args.port.now) (g.P.Port.value c.fill.new.port) (g.P.Port.value c.unwind.new.port) c.args.owner c.push.new.self c.in-Err.stop c.unwind.ensures.came c.in-Err.ensures.stops)
