@@ -156,7 +156,7 @@ module _ (v w : PortValue) (owner : ℕ) (ts : List TableWork) (e : Stop) where
   stops_behind x us stands goes stops u r ds s a = stops u r ds (stands u s) (goes u r ds a)
 
 -- a stop that waits for a flush lost no exchange
-wait_misses : (n : Machine) (e : Stop) → IsWait e → missed n e ≡ []
+pub wait_misses : (n : Machine) (e : Stop) → IsWait e → missed n e ≡ []
 wait_misses n (Refused (refusals.Clock x)) is = refl
 wait_misses n (Paused (Flush v stamp x)) is = refl
 wait_misses n _ is = absurd is

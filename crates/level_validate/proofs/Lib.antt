@@ -1,3 +1,4 @@
+mod Acquired
 mod Asking
 mod Completed
 mod Entered
@@ -11,6 +12,7 @@ mod Nested
 mod Opening
 mod Outermost
 mod Pushing
+mod Requested
 mod Serving
 mod Sharing
 mod Standing

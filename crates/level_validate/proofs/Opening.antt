@@ -19,7 +19,7 @@ use Rattle.step_maker.proofs.Coming.{came_post}
 use Rattle.answer_fits.specs.Finding.{FoundAt}
 use Rattle.answer_fits.specs.Visits.{Visit}
 use Rattle.kind_words.proofs.KindFacts.{kind_found}
-use Rattle.frame_types.specs.Found.{TakesOf, saw_kind}
+use Rattle.frame_types.specs.Found.{TakesFound, TakesOf, TypeBy, saw_kind}
 use Rattle.frame_types.specs.Plain.{IsTakenBy, is_read_first}
 use Rattle.frame_types.specs.Standing.{standing_of}
 use Rattle.frame_types.specs.Taking.{progress_of}
@@ -86,6 +86,9 @@ module _ (v w : PortValue) (vs : List Visit) (each : EachOf (WasFound v w) vs) w
       let read = read_first want (kind_fields takes.word) (standing_of (kind_fields takes.word) want) progress own takes.way in
       let few = progress_few v w g takes.word (kind_saw g want (InWork progress own) takes) in
       record { inside = taken_inside g want (InWork progress own) takes; read = read.0; few = subst (λ y. y ≤ 512) (sym read.1) few }
+
+pub taken_open : (v w : PortValue) (g : ℕ) (want : PageType) (progress : ℕ) (own : Bool) → TakesFound v w g want (Ok (InWork progress own)) → CameOpen v g want progress
+taken_open v w g want progress own found = does_shows v w (λ vs. TypeBy v.post.machine g want (Ok (InWork progress own)) vs) found (λ vs each takes. came_open v w vs each g want progress own takes)
 
 -- ---- the next entry
 module _ (v w : PortValue) (f i : ℕ) (t : PageType) (owner g progress : ℕ) (own : Bool) where

@@ -1,0 +1,222 @@
+use Rattle.std.proofs.Common.{◌≡◌, ◌∙◌, false, ◌∷◌, [], Some, Ok, Err, refl, ap, subst}
+use Rattle.std.proofs.lemmas.Result.{err_from_is_err_and}
+use Rattle.answer_fits.specs.Answers.{Serves, Stops, missed}
+use Rattle.answer_fits.specs.Asked.{of_frame}
+use Rattle.frame_types.specs.Found.{TakesFound}
+use Rattle.frame_types.specs.Taking.{ShowsWait, TakesAs, WorksFrom}
+use Rattle.frame_types.specs.declared.taking.Taken.TheVariants.{Counted, InWork, Waiting}
+use Rattle.step_maker.specs.Holds.{FlushedHolds}
+use Rattle.partial_state.specs.Levels.{level_type}
+use Rattle.level_validate.specs.Acquiring.{is_due_stop}
+use Rattle.level_validate.proofs.Acquired.{answer_leaves, counted_hand, given_hand, idle_aside, idle_other, leaves_as, same_leaves, carries_taken, taken_ready, unwound_leaves}
+use Rattle.level_validate.proofs.LeftWaiting.{waits_on}
+use Rattle.level_validate.proofs.Requested.{reference_serves, reference_stops, serves_as, stopped_serves, stopped_stops, stops_as, taken_serves, validated_misses, validated_serves, validated_stops, waited_serves, waited_stops}
+use Rattle.level_validate.proofs.acquiring.acquire.Goals as goal
+
+-- ---- its reference is not to be had
+
+pub returns-in_err-frame-clause-serves : goal.returns-in_err-frame-clause-serves
+returns-in_err-frame-clause-serves g c pages =
+    let v = g.P.Port.value c.args.port.now in
+    let b = g.P.Port.value c.get_ref.new.port in
+    let e = c.in_err-frame.field-0.0 in
+    let answer = err_from_is_err_and c.from_residual.result c.from_residual.ensures.1 in
+    serves_as v b c.args.f c.args.owner c.args.level pages c.from_residual.result e (answer.1 ∙ ap Err answer.2)
+    (reference_serves v c.args.f c.args.owner c.args.level pages (is_due_stop e) b (missed v.post.machine e) c.in_err-frame.ensures.serves)
+
+pub returns-in_err-frame-clause-stops : goal.returns-in_err-frame-clause-stops
+returns-in_err-frame-clause-stops g c pages =
+    let v = g.P.Port.value c.args.port.now in
+    let b = g.P.Port.value c.get_ref.new.port in
+    let e = c.in_err-frame.field-0.0 in
+    let answer = err_from_is_err_and c.from_residual.result c.from_residual.ensures.1 in
+    stops_as v b c.args.f c.args.owner c.args.level pages c.from_residual.result e (answer.1 ∙ ap Err answer.2)
+    (reference_stops v c.args.f c.args.owner c.args.level pages (is_due_stop e) b e c.in_err-frame.ensures.stops)
+
+-- ---- its type
+
+pub take_type-requires-clause-aside : goal.take_type-requires-clause-aside
+take_type-requires-clause-aside g c none =
+    idle_aside (g.P.Port.value c.args.port.now) (g.P.Port.value c.get_ref.new.port) c.in_ok-frame.frame c.args.owner c.requires.idle c.in_ok-frame.ensures.hand
+
+pub take_type-requires-clause-other : goal.take_type-requires-clause-other
+take_type-requires-clause-other g c =
+    idle_other (g.P.Port.value c.args.port.now) (g.P.Port.value c.get_ref.new.port) c.in_ok-frame.frame c.args.owner c.requires.idle c.in_ok-frame.ensures.hand c.level_type.result
+
+-- ---- it was live
+
+pub returns-in-Ok-Counted-clause-serves : goal.returns-in-Ok-Counted-clause-serves
+returns-in-Ok-Counted-clause-serves g c pages =
+    taken_serves (g.P.Port.value c.args.port.now) c.args.f c.args.owner c.args.level pages _ (g.P.Port.value c.get_ref.new.port) c.in_ok-frame.ensures.serves c.in_ok-frame.frame c.in_ok-frame.ensures.frame.0
+    c.level_type.result c.level_type.ensures (g.P.Port.value c.take_type.new.port) c.in-Ok-Counted.ensures.serves
+
+pub returns-in-Ok-Counted-clause-hand : goal.returns-in-Ok-Counted-clause-hand
+returns-in-Ok-Counted-clause-hand g c =
+    let v = g.P.Port.value c.args.port.now in
+    let b = g.P.Port.value c.get_ref.new.port in
+    let x = g.P.Port.value c.take_type.new.port in
+    let h = c.in_ok-frame.frame in
+    let taken : TakesAs b x h c.args.owner c.level_type.result Counted = subst (λ t. TakesAs b x h c.args.owner c.level_type.result t) c.in-Ok-Counted.field-0-is c.in-Ok-Counted.ensures.hand in
+    counted_hand v b h c.args.owner c.requires.idle c.in_ok-frame.ensures.hand x (level_type c.args.level) (subst (λ k. TakesAs b x h c.args.owner k Counted) c.level_type.ensures taken)
+
+-- ---- its type is not to be had
+
+pub returns-in-Err-clause-serves : goal.returns-in-Err-clause-serves
+returns-in-Err-clause-serves g c pages =
+    stopped_serves (g.P.Port.value c.args.port.now) c.args.f c.args.owner c.args.level pages _ (g.P.Port.value c.get_ref.new.port) c.in_ok-frame.ensures.serves c.in_ok-frame.frame c.in_ok-frame.ensures.frame.0
+    c.level_type.result c.level_type.ensures (g.P.Port.value c.take_type.new.port) (g.P.Port.value c.put_ref.new.port) c.in-Err.stop c.in-Err.ensures.serves c.put_ref.ensures.serves
+
+pub returns-in-Err-clause-stops : goal.returns-in-Err-clause-stops
+returns-in-Err-clause-stops g c pages =
+    stopped_stops (g.P.Port.value c.args.port.now) c.args.f c.args.owner c.args.level pages _ (g.P.Port.value c.get_ref.new.port) c.in_ok-frame.ensures.serves c.in_ok-frame.frame c.in_ok-frame.ensures.frame.0
+    c.level_type.result c.level_type.ensures (g.P.Port.value c.take_type.new.port) (g.P.Port.value c.put_ref.new.port) c.in-Err.stop c.in-Err.ensures.kinds c.in-Err.ensures.stops c.put_ref.ensures.serves
+
+pub returns-in-Err-clause-hand : goal.returns-in-Err-clause-hand
+returns-in-Err-clause-hand g c =
+    let v = g.P.Port.value c.args.port.now in
+    let w = g.P.Port.value c.put_ref.new.port in
+    same_leaves v w c.args.f c.args.owner c.args.level c.in-Err.stop
+    (given_hand v (g.P.Port.value c.get_ref.new.port) c.in_ok-frame.frame c.args.owner c.requires.idle c.in_ok-frame.ensures.hand (g.P.Port.value c.take_type.new.port) w c.in-Err.ensures.hand c.put_ref.ensures.hand)
+
+-- ---- it waits for a flush
+
+pub returns-in-Ok-Waiting-clause-serves : goal.returns-in-Ok-Waiting-clause-serves
+returns-in-Ok-Waiting-clause-serves g c pages =
+    let v = g.P.Port.value c.args.port.now in
+    let b = g.P.Port.value c.get_ref.new.port in
+    let x = g.P.Port.value c.take_type.new.port in
+    let h = c.in_ok-frame.frame in
+    let e = c.in-Ok-Waiting.stop in
+    let shows : ShowsWait b x h c.args.owner c.level_type.result (Waiting c.in-Ok-Waiting.own c.in-Ok-Waiting.stamp e) =
+    subst (λ t. ShowsWait b x h c.args.owner c.level_type.result t) c.in-Ok-Waiting.field-0-is c.in-Ok-Waiting.ensures.waits in
+    let before =
+    taken_serves v c.args.f c.args.owner c.args.level pages (is_due_stop e) b c.in_ok-frame.ensures.serves h c.in_ok-frame.ensures.frame.0 c.level_type.result c.level_type.ensures x c.in-Ok-Waiting.ensures.serves in
+    waited_serves v c.args.f c.args.owner c.args.level pages (is_due_stop e) x before h c.in_ok-frame.ensures.frame.0 (g.P.Port.value c.leave_waiting.new.port) e shows.0 c.leave_waiting.ensures.serves
+
+pub returns-in-Ok-Waiting-clause-stops : goal.returns-in-Ok-Waiting-clause-stops
+returns-in-Ok-Waiting-clause-stops g c pages =
+    let v = g.P.Port.value c.args.port.now in
+    let b = g.P.Port.value c.get_ref.new.port in
+    let x = g.P.Port.value c.take_type.new.port in
+    let h = c.in_ok-frame.frame in
+    let e = c.in-Ok-Waiting.stop in
+    let shows : ShowsWait b x h c.args.owner c.level_type.result (Waiting c.in-Ok-Waiting.own c.in-Ok-Waiting.stamp e) =
+    subst (λ t. ShowsWait b x h c.args.owner c.level_type.result t) c.in-Ok-Waiting.field-0-is c.in-Ok-Waiting.ensures.waits in
+    waited_stops v c.args.f c.args.owner c.args.level pages (is_due_stop e) b c.in_ok-frame.ensures.serves h c.in_ok-frame.ensures.frame.0 c.level_type.result c.level_type.ensures x (g.P.Port.value c.leave_waiting.new.port)
+    e shows.0 shows.1 c.leave_waiting.ensures.came
+
+pub returns-in-Ok-Waiting-clause-hand : goal.returns-in-Ok-Waiting-clause-hand
+returns-in-Ok-Waiting-clause-hand g c =
+    let v = g.P.Port.value c.args.port.now in
+    let b = g.P.Port.value c.get_ref.new.port in
+    let x = g.P.Port.value c.take_type.new.port in
+    let h = c.in_ok-frame.frame in
+    let own = c.in-Ok-Waiting.own in
+    let stamp = c.in-Ok-Waiting.stamp in
+    let waits : TakesAs b x h c.args.owner c.level_type.result (Waiting own stamp c.in-Ok-Waiting.stop) = subst (λ t. TakesAs b x h c.args.owner c.level_type.result t) c.in-Ok-Waiting.field-0-is c.in-Ok-Waiting.ensures.hand in
+    answer_leaves v (g.P.Port.value c.leave_waiting.new.port) c.args.f c.args.owner c.args.level h own c.is_paused.result c.in-Ok-Waiting.stop c.in_ok-frame.ensures.frame.0 c.is_paused.ensures
+    (c.leave_waiting.ensures.hand v (waits_on v b x h c.args.owner c.args.level own stamp c.level_type.result c.requires.own c.level_type.ensures c.requires.idle c.in_ok-frame.ensures.hand waits))
+
+-- ---- it is in work
+
+pub validate-requires-clause-stands : goal.validate-requires-clause-stands
+validate-requires-clause-stands g c =
+    let v = g.P.Port.value c.args.port.now in
+    let b = g.P.Port.value c.get_ref.new.port in
+    let x = g.P.Port.value c.take_type.new.port in
+    let h = c.in_ok-frame.frame in
+    let progress = c.in-Ok-InWork.progress in
+    let own = c.in-Ok-InWork.own in
+    let hand : TakesAs b x h c.args.owner c.level_type.result (InWork progress own) = subst (λ t. TakesAs b x h c.args.owner c.level_type.result t) c.in-Ok-InWork.field-0-is c.in-Ok-InWork.ensures.hand in
+    let found : TakesFound b x h c.level_type.result (Ok (InWork progress own)) = subst (λ t. TakesFound b x h c.level_type.result (Ok t)) c.in-Ok-InWork.field-0-is c.in-Ok-InWork.ensures.found in
+    (v, carries_taken v b x h c.args.owner c.args.level progress own c.level_type.result c.requires.idle c.in_ok-frame.ensures.hand c.level_type.ensures c.requires.low c.requires.high c.in_ok-frame.ensures.frame.1 hand.1 found)
+
+pub validate-requires-clause-fresh : goal.validate-requires-clause-fresh
+validate-requires-clause-fresh g c zero =
+    let v = g.P.Port.value c.args.port.now in
+    let b = g.P.Port.value c.get_ref.new.port in
+    let x = g.P.Port.value c.take_type.new.port in
+    let h = c.in_ok-frame.frame in
+    let progress = c.in-Ok-InWork.progress in
+    let own = c.in-Ok-InWork.own in
+    let hand : TakesAs b x h c.args.owner c.level_type.result (InWork progress own) = subst (λ t. TakesAs b x h c.args.owner c.level_type.result t) c.in-Ok-InWork.field-0-is c.in-Ok-InWork.ensures.hand in
+    taken_ready v b h c.args.owner c.requires.idle c.in_ok-frame.ensures.hand x own c.level_type.result progress hand.1 zero
+
+pub returns-in_ok-validate-in-Ok-InWork-clause-serves : goal.returns-in_ok-validate-in-Ok-InWork-clause-serves
+returns-in_ok-validate-in-Ok-InWork-clause-serves g c pages =
+    let v = g.P.Port.value c.args.port.now in
+    let b = g.P.Port.value c.get_ref.new.port in
+    let x = g.P.Port.value c.take_type.new.port in
+    let w = g.P.Port.value c.validate.new.port in
+    let h = c.in_ok-frame.frame in
+    let progress = c.in-Ok-InWork.progress in
+    let own = c.in-Ok-InWork.own in
+    let before = taken_serves v c.args.f c.args.owner c.args.level pages false b c.in_ok-frame.ensures.serves h c.in_ok-frame.ensures.frame.0 c.level_type.result c.level_type.ensures x c.in-Ok-InWork.ensures.serves in
+    validated_serves v c.args.f c.args.owner c.args.level pages false x before h c.in_ok-frame.ensures.frame.0 progress own w [] c.in_ok-validate-in-Ok-InWork.ensures.serves
+
+pub returns-in_ok-validate-in-Ok-InWork-clause-hand : goal.returns-in_ok-validate-in-Ok-InWork-clause-hand
+returns-in_ok-validate-in-Ok-InWork-clause-hand g c =
+    let v = g.P.Port.value c.args.port.now in
+    let b = g.P.Port.value c.get_ref.new.port in
+    let x = g.P.Port.value c.take_type.new.port in
+    let w = g.P.Port.value c.validate.new.port in
+    let h = c.in_ok-frame.frame in
+    let progress = c.in-Ok-InWork.progress in
+    let own = c.in-Ok-InWork.own in
+    let hand : TakesAs b x h c.args.owner c.level_type.result (InWork progress own) = subst (λ t. TakesAs b x h c.args.owner c.level_type.result t) c.in-Ok-InWork.field-0-is c.in-Ok-InWork.ensures.hand in
+    let found : TakesFound b x h c.level_type.result (Ok (InWork progress own)) = subst (λ t. TakesFound b x h c.level_type.result (Ok t)) c.in-Ok-InWork.field-0-is c.in-Ok-InWork.ensures.found in
+    let carries = carries_taken v b x h c.args.owner c.args.level progress own c.level_type.result c.requires.idle c.in_ok-frame.ensures.hand c.level_type.ensures c.requires.low c.requires.high c.in_ok-frame.ensures.frame.1 hand.1 found in
+    c.in_ok-validate-in-Ok-InWork.ensures.hand v c.args.owner carries
+
+pub returns-in_err-validate-in-Ok-InWork-clause-serves : goal.returns-in_err-validate-in-Ok-InWork-clause-serves
+returns-in_err-validate-in-Ok-InWork-clause-serves g c pages =
+    let v = g.P.Port.value c.args.port.now in
+    let b = g.P.Port.value c.get_ref.new.port in
+    let x = g.P.Port.value c.take_type.new.port in
+    let w = g.P.Port.value c.validate.new.port in
+    let h = c.in_ok-frame.frame in
+    let progress = c.in-Ok-InWork.progress in
+    let own = c.in-Ok-InWork.own in
+    let e = c.in_err-validate-in-Ok-InWork.field-0.0 in
+    let result = c.from_residual-in_err-validate-in-Ok-InWork.result in
+    let answer = err_from_is_err_and result c.from_residual-in_err-validate-in-Ok-InWork.ensures.1 in
+    let before = taken_serves v c.args.f c.args.owner c.args.level pages (is_due_stop e) b c.in_ok-frame.ensures.serves h c.in_ok-frame.ensures.frame.0 c.level_type.result c.level_type.ensures x c.in-Ok-InWork.ensures.serves in
+    serves_as v w c.args.f c.args.owner c.args.level pages result e (answer.1 ∙ ap Err answer.2)
+    (validated_misses v c.args.f c.args.owner c.args.level pages (is_due_stop e) x before h c.in_ok-frame.ensures.frame.0 progress own w e c.in_err-validate-in-Ok-InWork.ensures.serves)
+
+pub returns-in_err-validate-in-Ok-InWork-clause-stops : goal.returns-in_err-validate-in-Ok-InWork-clause-stops
+returns-in_err-validate-in-Ok-InWork-clause-stops g c pages =
+    let v = g.P.Port.value c.args.port.now in
+    let b = g.P.Port.value c.get_ref.new.port in
+    let x = g.P.Port.value c.take_type.new.port in
+    let w = g.P.Port.value c.validate.new.port in
+    let h = c.in_ok-frame.frame in
+    let progress = c.in-Ok-InWork.progress in
+    let own = c.in-Ok-InWork.own in
+    let e = c.in_err-validate-in-Ok-InWork.field-0.0 in
+    let result = c.from_residual-in_err-validate-in-Ok-InWork.result in
+    let answer = err_from_is_err_and result c.from_residual-in_err-validate-in-Ok-InWork.ensures.1 in
+    let hand : TakesAs b x h c.args.owner c.level_type.result (InWork progress own) = subst (λ t. TakesAs b x h c.args.owner c.level_type.result t) c.in-Ok-InWork.field-0-is c.in-Ok-InWork.ensures.hand in
+    let found : TakesFound b x h c.level_type.result (Ok (InWork progress own)) = subst (λ t. TakesFound b x h c.level_type.result (Ok t)) c.in-Ok-InWork.field-0-is c.in-Ok-InWork.ensures.found in
+    let carries = carries_taken v b x h c.args.owner c.args.level progress own c.level_type.result c.requires.idle c.in_ok-frame.ensures.hand c.level_type.ensures c.requires.low c.requires.high c.in_ok-frame.ensures.frame.1 hand.1 found in
+    let before = taken_serves v c.args.f c.args.owner c.args.level pages (is_due_stop e) b c.in_ok-frame.ensures.serves h c.in_ok-frame.ensures.frame.0 c.level_type.result c.level_type.ensures x c.in-Ok-InWork.ensures.serves in
+    stops_as v w c.args.f c.args.owner c.args.level pages result e (answer.1 ∙ ap Err answer.2)
+    (validated_stops v c.args.f c.args.owner c.args.level pages (is_due_stop e) x before h c.in_ok-frame.ensures.frame.0 progress own w e (λ due. due) carries c.in_err-validate-in-Ok-InWork.ensures.stops)
+
+pub returns-in_err-validate-in-Ok-InWork-clause-hand : goal.returns-in_err-validate-in-Ok-InWork-clause-hand
+returns-in_err-validate-in-Ok-InWork-clause-hand g c =
+    let v = g.P.Port.value c.args.port.now in
+    let b = g.P.Port.value c.get_ref.new.port in
+    let x = g.P.Port.value c.take_type.new.port in
+    let w = g.P.Port.value c.validate.new.port in
+    let h = c.in_ok-frame.frame in
+    let progress = c.in-Ok-InWork.progress in
+    let own = c.in-Ok-InWork.own in
+    let e = c.in_err-validate-in-Ok-InWork.field-0.0 in
+    let result = c.from_residual-in_err-validate-in-Ok-InWork.result in
+    let answer = err_from_is_err_and result c.from_residual-in_err-validate-in-Ok-InWork.ensures.1 in
+    let hand : TakesAs b x h c.args.owner c.level_type.result (InWork progress own) = subst (λ t. TakesAs b x h c.args.owner c.level_type.result t) c.in-Ok-InWork.field-0-is c.in-Ok-InWork.ensures.hand in
+    let found : TakesFound b x h c.level_type.result (Ok (InWork progress own)) = subst (λ t. TakesFound b x h c.level_type.result (Ok t)) c.in-Ok-InWork.field-0-is c.in-Ok-InWork.ensures.found in
+    let carries = carries_taken v b x h c.args.owner c.args.level progress own c.level_type.result c.requires.idle c.in_ok-frame.ensures.hand c.level_type.ensures c.requires.low c.requires.high c.in_ok-frame.ensures.frame.1 hand.1 found in
+    leaves_as v w c.args.f c.args.owner c.args.level result e (answer.1 ∙ ap Err answer.2)
+    (unwound_leaves v w c.args.f c.args.owner c.args.level x h progress own e c.in_ok-frame.ensures.frame.0 c.requires.own carries c.in_err-validate-in-Ok-InWork.ensures.hand)
