@@ -8,6 +8,7 @@ mod Looking
 mod Lowering
 mod Nested
 mod Opening
+mod Progressing
 mod Pushing
 mod Serving
 mod Sharing
