@@ -10,6 +10,7 @@ mod Nested
 mod Opening
 mod Progressing
 mod Pushing
+mod Rising
 mod Serving
 mod Sharing
 mod Standing
