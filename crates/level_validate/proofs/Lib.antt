@@ -1,6 +1,7 @@
 mod Asking
 mod Completed
 mod Entered
+mod Filling
 mod LeavingLent
 mod LeavingOwn
 mod LeavingTables
