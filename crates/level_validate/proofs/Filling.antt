@@ -1,5 +1,5 @@
 -- The loop that takes one entry after the other: what it keeps, and what it gives where it ends.
-use Rattle.std.proofs.Common.{◌≡◌, ℕ, List, [], Result, refl, sym, ap, ◌∙◌, subst}
+use Rattle.std.proofs.Common.{◌≡◌, ℕ, List, [], Result, ◌∙◌}
 use Rattle.xp_words.specs.declared.reply.Stop.{Stop}
 use Rattle.xp_board.specs.Told.{PortValue}
 use Rattle.step_maker.specs.Holds.{MayWork}

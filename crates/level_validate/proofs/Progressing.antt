@@ -88,7 +88,7 @@ module _ (v w : PortValue) (owner : ℕ) (t u : TableWork) (us : List TableWork)
       let all = k.all in
       let some = k.some in
       let held = held_by (u.done - 1) k.word (work_on u.frame w.holdings.works) o.work (lock_on u.frame w.holdings.locks) (Typed t.frame (level_type t.level)) around_here
-          (ap is_table o.is.kind ∙ level_type-table u.level s.stack.2.0.low) o.is.unmarked (asks_on v w owner t u us s d found store l old) in
+      (ap is_table o.is.kind ∙ level_type-table u.level s.stack.2.0.low) o.is.unmarked (asks_on v w owner t u us s d found store l old) in
       settles (moment_of w (Kind t.frame) (Store (kind_write live)) kinds.Kind None found) t.frame u.frame (kind_write live) o.work (record { index = u.done - 1; word = k.word })
       (moves_met w d (Kind t.frame) (Store (kind_write live)) kinds.Kind None found store) refl refl
       (subst (λ (q : KindWord). IsTrue q.validated) (sym (fields_write live spelled)) refl) around_here k.seen (omega (arith, all, some))

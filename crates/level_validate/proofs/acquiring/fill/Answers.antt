@@ -1,8 +1,8 @@
-use Rattle.std.proofs.Common.{Err, refl, sym, ap, ◌∙◌}
+use Rattle.std.proofs.Common.{Err, refl, ap, ◌∙◌}
 use Rattle.std.proofs.lemmas.Result.{err_from_is_err_and}
 use Rattle.xp_preempt.proofs.Hearing.{heard_as, heard_none, heard_then}
 use Rattle.level_validate.proofs.Asking.{goes_answer}
-use Rattle.level_validate.proofs.Filling.{filling_came, filling_may, filling_on, filling_serves, filling_standing, filling_stands, filling_stops}
+use Rattle.level_validate.proofs.Filling.{filling_came, filling_may, filling_on, filling_serves, filling_standing, filling_stops}
 use Rattle.level_validate.proofs.Rising.{risen_answer, risen_in}
 use Rattle.level_validate.proofs.acquiring.fill.Goals as goal
 
