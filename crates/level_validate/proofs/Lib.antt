@@ -1,6 +1,7 @@
 mod Asking
 mod Completed
 mod Entered
+mod Filling
 mod LeavingLent
 mod LeavingOwn
 mod LeavingTables
@@ -8,7 +9,9 @@ mod Looking
 mod Lowering
 mod Nested
 mod Opening
+mod Progressing
 mod Pushing
+mod Rising
 mod Serving
 mod Sharing
 mod Standing

@@ -407,3 +407,9 @@ returns-in-Unsettled-clause-stops g c =
     let owner = c.args.owner in
     let shows = λ (pages : ℕ). subst (λ r. ShowsEntered u x owner pages c.level_type.result r) c.in-Unsettled.is (c.in_ok-take_entry.ensures.shows pages) in
     stops_entries u x owner c.args.stack.now c.in-Unsettled.stop (λ pages. (shows pages).2)
+
+pub returns-in-Recorded-clause-progress : goal.returns-in-Recorded-clause-progress
+returns-in-Recorded-clause-progress g c same =
+    let u = g.P.Port.value c.args.port.now in
+    let x = g.P.Port.value c.take_entry.new.port in
+    subst (λ r. ShowsEntered u x c.args.owner 0 c.level_type.result r) c.in-Recorded.is (c.in_ok-take_entry.ensures.shows 0)
