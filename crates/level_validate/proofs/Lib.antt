@@ -1,12 +1,14 @@
 mod Asking
 mod Completed
 mod Entered
+mod Forward
 mod LeavingLent
 mod LeavingOwn
 mod LeavingTables
 mod Looking
 mod Lowering
 mod Nested
+mod Onward
 mod Opening
 mod Pushing
 mod Serving
