@@ -9,6 +9,7 @@ mod Looking
 mod Lowering
 mod Nested
 mod Onward
+mod OnwardEntries
 mod Opening
 mod Pushing
 mod Serving
