@@ -58,11 +58,13 @@ is_flush_word (Vcpu v k) = (k == 4) || ((k == 5) || (k == 6))
 is_flush_word (Priv d) = true
 is_flush_word _ = false
 
-abbrev pub IsAtFlushWord : Visit → Type 0
-IsAtFlushWord s = is_flush_word s.place ≡ true
+-- it is at such a word, and marks nothing
+pub record IsAtFlushWord (s : Visit) : Type 0 where
+  pub flush : is_flush_word s.place ≡ true
+  pub unmarked : s.mark ≡ None
 
 abbrev pub Waited : List Visit → Type 0
-Waited vs = EachOf IsAtFlushWord vs
+Waited vs = EachOf (λ s. IsAtFlushWord s) vs
 
 -- the last word that was found there is x
 pub record LastFound (p : Place) (x : ℕ) (vs : List Visit) : Type 0 where

@@ -56,22 +56,22 @@ unfolding EachOf
 each_only P s here vs is = subst (λ ws. EachOf P ws) (sym is) (here, tt)
 
 pub run_on : (u x : ℕ) → IsOn u (visit (run_of u) Load x)
-run_on u x = record { flush = refl; flushed = λ k off e. absurd cc; run = λ k off e. off cc }
+run_on u x = record { wait = record { flush = refl; unmarked = refl }; flushed = λ k off e. absurd cc; run = λ k off e. off cc }
 
 pub flushed_on : (u : ℕ) (a : Act) (x : ℕ) → IsOn u (visit (flushed_of u) a x)
-flushed_on u a x = record { flush = refl; flushed = λ k off e. off cc; run = λ k off e. absurd cc }
+flushed_on u a x = record { wait = record { flush = refl; unmarked = refl }; flushed = λ k off e. off cc; run = λ k off e. absurd cc }
 
 pub asked_on : (u j : ℕ) (a : Act) (x : ℕ) → IsOn u (visit (asked_of j) a x)
-asked_on u j a x = record { flush = refl; flushed = λ k off e. absurd cc; run = λ k off e. absurd cc }
+asked_on u j a x = record { wait = record { flush = refl; unmarked = refl }; flushed = λ k off e. absurd cc; run = λ k off e. absurd cc }
 
 pub clock_on : (u : ℕ) (a : Act) (x : ℕ) → IsOn u (visit Clock a x)
-clock_on u a x = record { flush = refl; flushed = λ k off e. absurd cc; run = λ k off e. absurd cc }
+clock_on u a x = record { wait = record { flush = refl; unmarked = refl }; flushed = λ k off e. absurd cc; run = λ k off e. absurd cc }
 
 pub priv_on : (u d : ℕ) (a : Act) (x : ℕ) → IsOn u (visit (Priv d) a x)
-priv_on u d a x = record { flush = refl; flushed = λ k off e. absurd cc; run = λ k off e. absurd cc }
+priv_on u d a x = record { wait = record { flush = refl; unmarked = refl }; flushed = λ k off e. absurd cc; run = λ k off e. absurd cc }
 
 pub on_flush : (u : ℕ) (vs : List Visit) → EachOf (λ s. IsOn u s) vs → Waited vs
-on_flush u vs on = EachOf-map (λ s. IsOn u s) IsAtFlushWord vs (λ s o. o.flush) on
+on_flush u vs on = EachOf-map (λ s. IsOn u s) (λ s. IsAtFlushWord s) vs (λ s o. o.wait) on
 
 -- ---- one vCPU
 pub one_by : (u : ℕ) (s : Visit) → IsOn u s → (vs : List Visit) → Only s vs → LooksBy u (Ok None) vs
@@ -169,7 +169,7 @@ none_waits vs is = (subst (λ ws. Waited ws) (sym is) tt, tt)
 
 module _ (k : ℕ) (vs : List Visit) where
   both_wait : (before : Result (Option Late) Refusal) (now : Result (Option ℕ) Refusal) → Then (λ us. WaitsBy before us) (λ ws. LooksBy k now ws) vs → Waited vs
-  both_wait before now t = each_then IsAtFlushWord (λ us. WaitsBy before us) (λ ws. LooksBy k now ws) vs (λ us w. w.0) (λ us l. on_flush k us l.0) t
+  both_wait before now t = each_then (λ s. IsAtFlushWord s) (λ us. WaitsBy before us) (λ ws. LooksBy k now ws) vs (λ us w. w.0) (λ us l. on_flush k us l.0) t
 
   pub all_refused : (o : Option Late) (r : Refusal) → Then (λ us. WaitsBy (Ok o) us) (λ ws. LooksBy k (Err r) ws) vs → WaitsBy (Err r) vs
   all_refused o r t = (both_wait (Ok o) (Err r) t, spent r t.next.1)

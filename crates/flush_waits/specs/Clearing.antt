@@ -22,7 +22,7 @@ use Rattle.answer_fits.specs.Finding.{FoundAt}
 use Rattle.answer_fits.specs.Pauses.{AskedTo, Clear}
 use Rattle.answer_fits.specs.Reasons.{MayReach}
 use Rattle.answer_fits.specs.Twins.{Alike}
-use Rattle.answer_fits.specs.Visits.{Does, LastFound, Visit, Waited, is_flush_word}
+use Rattle.answer_fits.specs.Visits.{Does, IsAtFlushWord, LastFound, Visit, Waited}
 use Rattle.flush_waits.specs.declared.Awaiting.{Awaiting}
 use Rattle.flush_waits.specs.declared.Late.{Late}
 use Rattle.flush_waits.specs.Waiting.{IsWait, ServesBehind, StopsBehind}
@@ -65,7 +65,7 @@ Stands v w a u (Err r) = IsSpent v w a r
 -- ---- the steps as lists
 -- at a word of flushes, and of no other vCPU than u
 pub record IsOn (u : ℕ) (s : Visit) : Type 0 where
-  pub flush : is_flush_word s.place ≡ true
+  pub wait : IsAtFlushWord s
   pub flushed : (k : ℕ) → k ≢ u → s.place ≢ flushed_of k
   pub run : (k : ℕ) → k ≢ u → s.place ≢ run_of k
 
