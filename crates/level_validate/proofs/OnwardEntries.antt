@@ -1,5 +1,5 @@
 -- The steps that take a type, and an entry: at no cell but that of the entry, and none is shed.
-use Rattle.std.proofs.Common.{◌≡◌, ◌+◌, ℕ, if◌then◌else◌, Bool, true, false, List, [], ◌∷◌, None, Result, Ok, Err, refl, sym, inl, inr}
+use Rattle.std.proofs.Common.{◌≡◌, ◌+◌, ◌-◌, ℕ, if◌then◌else◌, Bool, true, false, List, [], ◌∷◌, Result, Ok, Err, refl, sym, ap, subst, inl, inr, drop}
 use Rattle.xp_words.specs.Entries.{demand_at}
 use Rattle.xp_words.specs.KindWords.{kind_fields}
 use Rattle.xp_words.specs.Machine.{Machine}
@@ -34,9 +34,14 @@ use Rattle.table_entries.specs.declared.entries.Entered.TheVariants as entered
 use Rattle.table_entries.specs.declared.resuming.Resumed.{Resumed}
 use Rattle.table_entries.specs.declared.resuming.Resumed.TheVariants as again
 use Rattle.table_entries.proofs.PiecesAsking.{top_here}
-use Rattle.level_validate.specs.Forward.{Forward}
+use Rattle.partial_state.specs.Levels.{level_type}
+use Rattle.partial_state.specs.declared.stack.TableWork.{TableWork}
+use Rattle.level_validate.specs.Forward.{Forward, is_shed}
+use Rattle.level_validate.specs.Tables.{Carries, IsStanding}
+use Rattle.level_validate.proofs.Entered.{back_one}
 use Rattle.level_validate.proofs.Forward.{IsOnward, Onward, forward_behind, is_cell}
 use Rattle.level_validate.proofs.Onward.{dead_onward, first_onward, gets_onward, loses_onward, nothing_onward, only_onward, put_onward, records_onward, shared_onward, stops_onward, stores_onward, then_onward, where_onward}
+use Rattle.level_validate.proofs.Standing.{standing_top}
 
 -- ---- a type is taken
 ends_onward : (f : ℕ) (want : PageType) (marked own : Bool) (t : Taken) (vs : List Visit) → EndsBy f want marked own t vs → Onward vs
@@ -50,110 +55,120 @@ flush_no_cell (Vcpu v k) is = refl
 flush_no_cell (Priv d) is = refl
 flush_no_cell _ is = absurd cc
 
-module _ (unmarked : (vs : List Visit) → Waited vs → EachOf (λ s. s.mark ≡ None) vs) where
-  waited_onward : (vs : List Visit) → Waited vs → Onward vs
-  unfolding EachOf
-  waited_onward [] a = tt
-  waited_onward (s ∷ vs) a = ((rw (unmarked (s ∷ vs) a).0 refl, flush_no_cell s.place a.0), waited_onward vs a.1)
+waited_onward : (vs : List Visit) → Waited vs → Onward vs
+unfolding EachOf
+waited_onward [] a = tt
+waited_onward (s ∷ vs) a = ((ap is_shed a.0.unmarked, flush_no_cell s.place a.0.flush), waited_onward vs a.1)
 
-  waits_onward : (marked : Bool) (stamp : ℕ) (t : Taken) (vs : List Visit) → WaitsOf marked stamp t vs → Onward vs
-  waits_onward true stamp (types.Waiting own awaited stop) vs a = waited_onward vs a.1.0
-  waits_onward true stamp _ vs a = waited_onward vs a
-  waits_onward false stamp t vs a = nothing_onward vs a
+waits_onward : (marked : Bool) (stamp : ℕ) (t : Taken) (vs : List Visit) → WaitsOf marked stamp t vs → Onward vs
+waits_onward true stamp (types.Waiting own awaited stop) vs a = waited_onward vs a.1.0
+waits_onward true stamp _ vs a = waited_onward vs a
+waits_onward false stamp t vs a = nothing_onward vs a
 
-  goes_onward : (f : ℕ) (want : PageType) (marked : Bool) (stamp : ℕ) (own : Bool) (t : Taken) (vs : List Visit) → GoesBy f want marked stamp own t vs → Onward vs
-  goes_onward f want marked stamp own t vs a = then_onward (λ us. WaitsOf marked stamp t us) (λ us. EndsBy f want marked own t us) (waits_onward marked stamp t) (ends_onward f want marked own t) vs a
+goes_onward : (f : ℕ) (want : PageType) (marked : Bool) (stamp : ℕ) (own : Bool) (t : Taken) (vs : List Visit) → GoesBy f want marked stamp own t vs → Onward vs
+goes_onward f want marked stamp own t vs a = then_onward (λ us. WaitsOf marked stamp t us) (λ us. EndsBy f want marked own t us) (waits_onward marked stamp t) (ends_onward f want marked own t) vs a
 
-  swaps_onward : (f x : ℕ) (k : KindWord) (found : ℕ) (vs : List Visit) → Only (swaps_kind f x k found) vs → Onward vs
-  swaps_onward f x k found vs a = only_onward (swaps_kind f x k found) (refl, refl) vs a
+swaps_onward : (f x : ℕ) (k : KindWord) (found : ℕ) (vs : List Visit) → Only (swaps_kind f x k found) vs → Onward vs
+swaps_onward f x k found vs a = only_onward (swaps_kind f x k found) (refl, refl) vs a
 
-  takes_onward : (f : ℕ) (want : PageType) (x : ℕ) (s : Standing) (t : Taken) (vs : List Visit) → TakesBy f want x s t vs → Onward vs
-  takes_onward f want x stands.Counted t vs a = swaps_onward f x (next_kind (kind_fields x) want stands.Counted) x vs a
-  takes_onward f want x s t vs a =
-      let k = kind_fields x in
-      then_onward (Only (swaps_kind f x (next_kind k want s) x)) (Then (Where (is_kept_by k s) (PutBy f)) (λ us. GoesBy f want (waits_by k want s) k.number (is_own k s) t us)) (swaps_onward f x (next_kind k want s) x)
-      (then_onward (Where (is_kept_by k s) (PutBy f)) (λ us. GoesBy f want (waits_by k want s) k.number (is_own k s) t us) (where_onward (is_kept_by k s) (PutBy f) (put_onward f)) (goes_onward f want (waits_by k want s) k.number (is_own k s) t)) vs a
+takes_onward : (f : ℕ) (want : PageType) (x : ℕ) (s : Standing) (t : Taken) (vs : List Visit) → TakesBy f want x s t vs → Onward vs
+takes_onward f want x stands.Counted t vs a = swaps_onward f x (next_kind (kind_fields x) want stands.Counted) x vs a
+takes_onward f want x s t vs a =
+    let k = kind_fields x in
+    then_onward (Only (swaps_kind f x (next_kind k want s) x)) (Then (Where (is_kept_by k s) (PutBy f)) (λ us. GoesBy f want (waits_by k want s) k.number (is_own k s) t us)) (swaps_onward f x (next_kind k want s) x)
+    (then_onward (Where (is_kept_by k s) (PutBy f)) (λ us. GoesBy f want (waits_by k want s) k.number (is_own k s) t us) (where_onward (is_kept_by k s) (PutBy f) (put_onward f)) (goes_onward f want (waits_by k want s) k.number (is_own k s) t)) vs a
 
-  pub taken_onward : (f : ℕ) (want : PageType) (t : Taken) (vs : List Visit) → TakesOf f want t vs → Onward vs
-  taken_onward f want t vs a =
-      let s = standing_of (kind_fields a.word) want in
-      then_onward (Only (saw_kind f a.word)) (λ us. TakesBy f want a.word s t us) (only_onward (saw_kind f a.word) (refl, refl)) (takes_onward f want a.word s t) vs a.steps
+taken_onward : (f : ℕ) (want : PageType) (t : Taken) (vs : List Visit) → TakesOf f want t vs → Onward vs
+taken_onward f want t vs a =
+    let s = standing_of (kind_fields a.word) want in
+    then_onward (Only (saw_kind f a.word)) (λ us. TakesBy f want a.word s t us) (only_onward (saw_kind f a.word) (refl, refl)) (takes_onward f want a.word s t) vs a.steps
 
-  pub typed_onward : (n : Machine) (f : ℕ) (want : PageType) (answer : Result Taken Stop) (vs : List Visit) → TypeBy n f want answer vs → Onward vs
-  typed_onward n f want (Ok t) vs a = taken_onward f want t vs a
-  typed_onward n f want (Err (Paused (Lost place expected found))) vs a = loses_onward n f want place expected found vs a
-  typed_onward n f want (Err (Refused r)) vs a = stops_onward f want (Refused r) vs a
-  typed_onward n f want (Err (Paused p)) vs a = stops_onward f want (Paused p) vs a
+typed_onward : (n : Machine) (f : ℕ) (want : PageType) (answer : Result Taken Stop) (vs : List Visit) → TypeBy n f want answer vs → Onward vs
+typed_onward n f want (Ok t) vs a = taken_onward f want t vs a
+typed_onward n f want (Err (Paused (Lost place expected found))) vs a = loses_onward n f want place expected found vs a
+typed_onward n f want (Err (Refused r)) vs a = stops_onward f want (Refused r) vs a
+typed_onward n f want (Err (Paused p)) vs a = stops_onward f want (Paused p) vs a
 
-  refuses_onward : (n : Machine) (g : ℕ) (t : PageType) (e : Stop) (vs : List Visit) → RefusesBy n g t e vs → Onward vs
-  refuses_onward n g t e vs a = then_onward (λ us. TypeBy n g t (Err e) us) (PutBy g) (typed_onward n g t (Err e)) (put_onward g) vs a
+refuses_onward : (n : Machine) (g : ℕ) (t : PageType) (e : Stop) (vs : List Visit) → RefusesBy n g t e vs → Onward vs
+refuses_onward n g t e vs a = then_onward (λ us. TypeBy n g t (Err e) us) (PutBy g) (typed_onward n g t (Err e)) (put_onward g) vs a
 
-  -- ---- the next entry
-  left_onward : (g : ℕ) (t : PageType) (own : Bool) (stamp : ℕ) (stop : Stop) (vs : List Visit) → LeftBy g t own stamp stop vs → Onward vs
-  left_onward g t true stamp (Refused r) vs a = dead_onward g t vs a.1
-  left_onward g t true stamp (Paused r) vs a = absurd a
-  left_onward g t false stamp stop vs a = shared_onward g t stamp vs a
+-- ---- the next entry
+left_onward : (g : ℕ) (t : PageType) (own : Bool) (stamp : ℕ) (stop : Stop) (vs : List Visit) → LeftBy g t own stamp stop vs → Onward vs
+left_onward g t true stamp (Refused r) vs a = dead_onward g t vs a.1
+left_onward g t true stamp (Paused r) vs a = absurd a
+left_onward g t false stamp stop vs a = shared_onward g t stamp vs a
 
-  left_after_onward : (g : ℕ) (t : PageType) (stop : Stop) (vs : List Visit) → LeftAfter g t stop vs → Onward vs
-  left_after_onward g t stop vs a =
-      let taken = types.Waiting a.own a.stamp stop in
-      then_onward (λ us. TakesOf g t taken us) (λ us. LeftBy g t a.own a.stamp stop us) (taken_onward g t taken) (left_onward g t a.own a.stamp stop) vs a.steps
+left_after_onward : (g : ℕ) (t : PageType) (stop : Stop) (vs : List Visit) → LeftAfter g t stop vs → Onward vs
+left_after_onward g t stop vs a =
+    let taken = types.Waiting a.own a.stamp stop in
+    then_onward (λ us. TakesOf g t taken us) (λ us. LeftBy g t a.own a.stamp stop us) (taken_onward g t taken) (left_onward g t a.own a.stamp stop) vs a.steps
 
-  unsettled_onward : (g : ℕ) (t : PageType) (f i : ℕ) (stop : Stop) (vs : List Visit) → UnsettledBy g t f i stop vs → Onward vs
-  unsettled_onward g t f i stop vs a =
-      let taken = types.Waiting true a.stamp stop in
-      let k = partial_kind t false true 0 a.stamp in
-      then_onward (λ us. TakesOf g t taken us) (Then (StoresKind g k) (Records f (i + 1))) (taken_onward g t taken) (then_onward (StoresKind g k) (Records f (i + 1)) (stores_onward g k) (records_onward f (i + 1))) vs a.steps
+unsettled_onward : (g : ℕ) (t : PageType) (f i : ℕ) (stop : Stop) (vs : List Visit) → UnsettledBy g t f i stop vs → Onward vs
+unsettled_onward g t f i stop vs a =
+    let taken = types.Waiting true a.stamp stop in
+    let k = partial_kind t false true 0 a.stamp in
+    then_onward (λ us. TakesOf g t taken us) (Then (StoresKind g k) (Records f (i + 1))) (taken_onward g t taken) (then_onward (StoresKind g k) (Records f (i + 1)) (stores_onward g k) (records_onward f (i + 1))) vs a.steps
 
-  entry_onward : (n : Machine) (g : ℕ) (t : PageType) (f i : ℕ) (answer : Result Entered Stop) (vs : List Visit) → TypedBy n g t f i answer vs → Onward vs
-  entry_onward n g t f i (Ok entered.Recorded) vs a = then_onward (λ us. TakesOf g t types.Counted us) (Records f (i + 1)) (taken_onward g t types.Counted) (records_onward f (i + 1)) vs a
-  entry_onward n g t f i (Ok (entered.Opened h progress own)) vs a = taken_onward g t (types.InWork progress own) vs a.1
-  entry_onward n g t f i (Ok (entered.Unsettled stop)) vs a = unsettled_onward g t f i stop vs a
-  entry_onward n g t f i (Err (Refused (refusals.Clock x))) vs a = left_after_onward g t (Refused (refusals.Clock x)) vs a
-  entry_onward n g t f i (Err (Paused (Flush u stamp x))) vs a = left_after_onward g t (Paused (Flush u stamp x)) vs a
-  entry_onward n g t f i (Err (Refused r)) vs a = refuses_onward n g t (Refused r) vs a
-  entry_onward n g t f i (Err (Paused p)) vs a = refuses_onward n g t (Paused p) vs a
+entry_onward : (n : Machine) (g : ℕ) (t : PageType) (f i : ℕ) (answer : Result Entered Stop) (vs : List Visit) → TypedBy n g t f i answer vs → Onward vs
+entry_onward n g t f i (Ok entered.Recorded) vs a = then_onward (λ us. TakesOf g t types.Counted us) (Records f (i + 1)) (taken_onward g t types.Counted) (records_onward f (i + 1)) vs a
+entry_onward n g t f i (Ok (entered.Opened h progress own)) vs a = taken_onward g t (types.InWork progress own) vs a.1
+entry_onward n g t f i (Ok (entered.Unsettled stop)) vs a = unsettled_onward g t f i stop vs a
+entry_onward n g t f i (Err (Refused (refusals.Clock x))) vs a = left_after_onward g t (Refused (refusals.Clock x)) vs a
+entry_onward n g t f i (Err (Paused (Flush u stamp x))) vs a = left_after_onward g t (Paused (Flush u stamp x)) vs a
+entry_onward n g t f i (Err (Refused r)) vs a = refuses_onward n g t (Refused r) vs a
+entry_onward n g t f i (Err (Paused p)) vs a = refuses_onward n g t (Paused p) vs a
 
-  read_onward : (n : Machine) (g owner f i : ℕ) (answer : Result Entered Stop) (vs : List Visit) → ReadBy n g owner f i answer vs → Onward vs
-  read_onward n g owner f i (Ok entered.Recorded) vs a = then_onward (λ us. GetsBy {A = ℕ} n g owner (Ok g) us) (Records f (i + 1)) (gets_onward {A = ℕ} n g owner (Ok g)) (records_onward f (i + 1)) vs a
-  read_onward n g owner f i (Ok _) vs a = absurd a
-  read_onward n g owner f i (Err e) vs a = gets_onward {A = ℕ} n g owner (Err e) vs a
+read_onward : (n : Machine) (g owner f i : ℕ) (answer : Result Entered Stop) (vs : List Visit) → ReadBy n g owner f i answer vs → Onward vs
+read_onward n g owner f i (Ok entered.Recorded) vs a = then_onward (λ us. GetsBy {A = ℕ} n g owner (Ok g) us) (Records f (i + 1)) (gets_onward {A = ℕ} n g owner (Ok g)) (records_onward f (i + 1)) vs a
+read_onward n g owner f i (Ok _) vs a = absurd a
+read_onward n g owner f i (Err e) vs a = gets_onward {A = ℕ} n g owner (Err e) vs a
 
-  enters_onward : (n : Machine) (f i owner : ℕ) (answer : Result Entered Stop) (word : ℕ) (d : Demand) (vs : List Visit) → EntersBy n f i owner answer word d vs → Onward vs
-  enters_onward n f i owner answer word demands.Nothing vs a = records_onward f (i + 1) vs a.1
-  enters_onward n f i owner answer word demands.Bad vs a = nothing_onward vs a.1
-  enters_onward n f i owner answer word (demands.Read g) vs a = read_onward n g owner f i answer vs a
-  enters_onward n f i owner answer word (demands.Typed g t) vs a = first_onward n g owner (λ us. TypedBy n g t f i answer us) answer (entry_onward n g t f i answer) vs a
+enters_onward : (n : Machine) (f i owner : ℕ) (answer : Result Entered Stop) (word : ℕ) (d : Demand) (vs : List Visit) → EntersBy n f i owner answer word d vs → Onward vs
+enters_onward n f i owner answer word demands.Nothing vs a = records_onward f (i + 1) vs a.1
+enters_onward n f i owner answer word demands.Bad vs a = nothing_onward vs a.1
+enters_onward n f i owner answer word (demands.Read g) vs a = read_onward n g owner f i answer vs a
+enters_onward n f i owner answer word (demands.Typed g t) vs a = first_onward n g owner (λ us. TypedBy n g t f i answer us) answer (entry_onward n g t f i answer) vs a
 
-  pub entered_forward : (v w : PortValue) (f i : ℕ) (t : PageType) (owner : ℕ) (answer : Result Entered Stop) → WorksAtTop f t i v.holdings → EntersFound v w f i t owner answer → Forward v w
-  unfolding Does
-  entered_forward v w f i t owner answer on a =
-      let word = a.2.0 in
-      forward_behind v w f i word (λ us. EntersBy v.post.machine f i owner answer word (demand_at t i word) us) (record { work = on.top; here = top_here f i t v.holdings on; at_end = inl (sym on.recorded) })
-      (enters_onward v.post.machine f i owner answer word (demand_at t i word)) (a.0, a.1, a.2.1)
+entered_forward : (v w : PortValue) (f i : ℕ) (t : PageType) (owner : ℕ) (answer : Result Entered Stop) → WorksAtTop f t i v.holdings → EntersFound v w f i t owner answer → Forward v w
+unfolding Does
+entered_forward v w f i t owner answer on a =
+    let word = a.2.0 in
+    forward_behind v w f i word (λ us. EntersBy v.post.machine f i owner answer word (demand_at t i word) us) (record { work = on.top; here = top_here f i t v.holdings on; at_end = inl (sym on.recorded) })
+    (enters_onward v.post.machine f i owner answer word (demand_at t i word)) (a.0, a.1, a.2.1)
 
-  -- ---- the last recorded one again
-  again_onward : (n : Machine) (g : ℕ) (t : PageType) (answer : Result Resumed Stop) (vs : List Visit) → TypedAgain n g t answer vs → Onward vs
-  again_onward n g t (Ok again.Settled) vs a = absurd a
-  again_onward n g t (Ok (again.Taken f)) vs a = taken_onward g t types.Counted vs a.1
-  again_onward n g t (Ok (again.Opened f progress own)) vs a = taken_onward g t (types.InWork progress own) vs a.1
-  again_onward n g t (Ok (again.Waiting f own stamp stop)) vs a = taken_onward g t (types.Waiting own stamp stop) vs a.1
-  again_onward n g t (Err e) vs a = refuses_onward n g t e vs a
+-- ---- the last recorded one again
+again_onward : (n : Machine) (g : ℕ) (t : PageType) (answer : Result Resumed Stop) (vs : List Visit) → TypedAgain n g t answer vs → Onward vs
+again_onward n g t (Ok again.Settled) vs a = absurd a
+again_onward n g t (Ok (again.Taken f)) vs a = taken_onward g t types.Counted vs a.1
+again_onward n g t (Ok (again.Opened f progress own)) vs a = taken_onward g t (types.InWork progress own) vs a.1
+again_onward n g t (Ok (again.Waiting f own stamp stop)) vs a = taken_onward g t (types.Waiting own stamp stop) vs a.1
+again_onward n g t (Err e) vs a = refuses_onward n g t e vs a
 
-  last_onward : (n : Machine) (g : ℕ) (t : PageType) (owner : ℕ) (answer : Result Resumed Stop) (vs : List Visit) → LastBy n g t owner answer vs → Onward vs
-  last_onward n g t owner answer vs (settled x inside live is one) = only_onward (saw_kind g x) (refl, refl) vs one
-  last_onward n g t owner answer vs (outside far steps) = first_onward n g owner (λ us. TypedAgain n g t answer us) answer (again_onward n g t answer) vs steps
-  last_onward n g t owner answer vs (other x inside live steps) =
-      then_onward (Only (saw_kind g x)) (λ us. TakesFirst n g owner (λ ts. TypedAgain n g t answer ts) answer us) (only_onward (saw_kind g x) (refl, refl))
-      (first_onward n g owner (λ us. TypedAgain n g t answer us) answer (again_onward n g t answer)) vs steps
+last_onward : (n : Machine) (g : ℕ) (t : PageType) (owner : ℕ) (answer : Result Resumed Stop) (vs : List Visit) → LastBy n g t owner answer vs → Onward vs
+last_onward n g t owner answer vs (settled x inside live is one) = only_onward (saw_kind g x) (refl, refl) vs one
+last_onward n g t owner answer vs (outside far steps) = first_onward n g owner (λ us. TypedAgain n g t answer us) answer (again_onward n g t answer) vs steps
+last_onward n g t owner answer vs (other x inside live steps) =
+    then_onward (Only (saw_kind g x)) (λ us. TakesFirst n g owner (λ ts. TypedAgain n g t answer ts) answer us) (only_onward (saw_kind g x) (refl, refl))
+    (first_onward n g owner (λ us. TypedAgain n g t answer us) answer (again_onward n g t answer)) vs steps
 
-  resumes_onward : (n : Machine) (owner : ℕ) (answer : Result Resumed Stop) (d : Demand) (vs : List Visit) → ResumesBy n owner answer d vs → Onward vs
-  resumes_onward n owner answer (demands.Typed g t) vs a = last_onward n g t owner answer vs a
-  resumes_onward n owner answer _ vs a = nothing_onward vs a.1
+resumes_onward : (n : Machine) (owner : ℕ) (answer : Result Resumed Stop) (d : Demand) (vs : List Visit) → ResumesBy n owner answer d vs → Onward vs
+resumes_onward n owner answer (demands.Typed g t) vs a = last_onward n g t owner answer vs a
+resumes_onward n owner answer _ vs a = nothing_onward vs a.1
 
-  pub resumed_forward : (v w : PortValue) (f i : ℕ) (t : PageType) (owner : ℕ) (answer : Result Resumed Stop) → WorksAtTop f t (i + 1) v.holdings → ResumesFound v w f i t owner answer → Forward v w
-  unfolding Does
-  resumed_forward v w f i t owner answer on a =
-      let word = a.2.0 in
-      forward_behind v w f i word (λ us. ResumesBy v.post.machine owner answer (demand_at t i word) us) (record { work = on.top; here = top_here f (i + 1) t v.holdings on; at_end = inr (sym on.recorded) })
-      (resumes_onward v.post.machine owner answer (demand_at t i word)) (a.0, a.1, a.2.1)
+resumed_forward : (v w : PortValue) (f i : ℕ) (t : PageType) (owner : ℕ) (answer : Result Resumed Stop) → WorksAtTop f t (i + 1) v.holdings → ResumesFound v w f i t owner answer → Forward v w
+unfolding Does
+resumed_forward v w f i t owner answer on a =
+    let word = a.2.0 in
+    forward_behind v w f i word (λ us. ResumesBy v.post.machine owner answer (demand_at t i word) us) (record { work = on.top; here = top_here f (i + 1) t v.holdings on; at_end = inr (sym on.recorded) })
+    (resumes_onward v.post.machine owner answer (demand_at t i word)) (a.0, a.1, a.2.1)
+
+-- ---- of the innermost table
+module _ (u w : PortValue) (owner : ℕ) (t : TableWork) (stack : List TableWork) (is : stack ≡ t ∷ drop 1 stack) (a : IsStanding u owner stack) (k : PageType) (kind : k ≡ level_type t.level) where
+  on_top : WorksAtTop t.frame k t.done u.holdings
+  on_top = subst (λ j. WorksAtTop t.frame j t.done u.holdings) (sym kind) (standing_top a.0 u owner t (drop 1 stack) (subst (λ xs. Carries a.0 u owner xs) is a.1))
+
+  pub enters_forward : (answer : Result Entered Stop) → EntersFound u w t.frame t.done k owner answer → Forward u w
+  enters_forward answer found = entered_forward u w t.frame t.done k owner answer on_top found
+
+  pub resumes_forward : (answer : Result Resumed Stop) → (t.done ≡ 0 → ⊥) → ResumesFound u w t.frame (t.done - 1) k owner answer → Forward u w
+  resumes_forward answer some found = resumed_forward u w t.frame (t.done - 1) k owner answer (subst (λ n. WorksAtTop t.frame k n u.holdings) (sym (back_one t.done some)) on_top) found
