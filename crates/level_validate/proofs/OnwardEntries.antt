@@ -15,7 +15,7 @@ use Rattle.xp_words.specs.declared.reply.Stop.{Stop}
 use Rattle.xp_words.specs.declared.reply.Stop.TheVariants.{Refused, Paused}
 use Rattle.xp_board.specs.Lists.{EachOf}
 use Rattle.xp_board.specs.Told.{PortValue}
-use Rattle.answer_fits.specs.Visits.{Does, Nothing, Only, Then, Visit, Waited, Where, is_flush_word}
+use Rattle.answer_fits.specs.Visits.{Does, Only, Then, Visit, Waited, Where, is_flush_word}
 use Rattle.frame_words.specs.Freeing.{PutBy}
 use Rattle.frame_words.specs.Refs.{GetsBy, TakesFirst}
 use Rattle.kind_words.specs.Kinds.{live_kind, partial_kind, work_kind}
@@ -39,7 +39,7 @@ use Rattle.partial_state.specs.declared.stack.TableWork.{TableWork}
 use Rattle.level_validate.specs.Forward.{Forward, is_shed}
 use Rattle.level_validate.specs.Tables.{Carries, IsStanding}
 use Rattle.level_validate.proofs.Entered.{back_one}
-use Rattle.level_validate.proofs.Forward.{IsOnward, Onward, forward_behind, is_cell}
+use Rattle.level_validate.proofs.Forward.{Onward, forward_behind, is_cell}
 use Rattle.level_validate.proofs.Onward.{dead_onward, first_onward, gets_onward, loses_onward, nothing_onward, only_onward, put_onward, records_onward, shared_onward, stops_onward, stores_onward, then_onward, where_onward}
 use Rattle.level_validate.proofs.Standing.{standing_top}
 
