@@ -2,12 +2,15 @@ mod Asking
 mod Completed
 mod Entered
 mod Filling
+mod Forward
 mod LeavingLent
 mod LeavingOwn
 mod LeavingTables
 mod Looking
 mod Lowering
 mod Nested
+mod Onward
+mod OnwardEntries
 mod Opening
 mod Progressing
 mod Pushing
