@@ -1,10 +1,8 @@
 -- The steps of a call as a list of visits, the newest first, and what such lists are to be: one behind the other.
-use Rattle.std.specs.Prelude.{◌≡◌, ◌≢◌, ◌==◌, ◌||◌, ℕ, Bool, true, false, List, [], ◌∷◌, ◌++◌, Option, None}
+use Rattle.std.specs.Prelude.{◌≡◌, ℕ, Bool, true, false, List, [], ◌∷◌, ◌++◌, Option, None}
 use Rattle.xp_words.specs.declared.place.Place.{Place}
-use Rattle.xp_words.specs.declared.place.Place.TheVariants.{Clock, Vcpu, Priv}
 use Rattle.xp_board.specs.declared.step.Act.{Act}
 use Rattle.xp_board.specs.declared.step.Mark.{Mark}
-use Rattle.xp_board.specs.Lists.{EachOf}
 use Rattle.xp_board.specs.Told.{PortValue}
 use Rattle.step_maker.specs.Moves.{Moment, Ran}
 
@@ -49,27 +47,3 @@ pub record Then (P Q : List Visit → Type 0) (vs : List Visit) : Type 0 where
 abbrev pub Where : Bool → (List Visit → Type 0) → List Visit → Type 0
 Where true P vs = P vs
 Where false P vs = Nothing vs
-
--- ---- waits for flushes
--- the clock; what a vCPU was asked for, what it flushed to, and whether it runs; and the privileges of a domain
-abbrev pub is_flush_word : Place → Bool
-is_flush_word Clock = true
-is_flush_word (Vcpu v k) = (k == 4) || ((k == 5) || (k == 6))
-is_flush_word (Priv d) = true
-is_flush_word _ = false
-
-abbrev pub IsAtFlushWord : Visit → Type 0
-IsAtFlushWord s = is_flush_word s.place ≡ true
-
-abbrev pub Waited : List Visit → Type 0
-Waited vs = EachOf IsAtFlushWord vs
-
--- the last word that was found there is x
-pub record LastFound (p : Place) (x : ℕ) (vs : List Visit) : Type 0 where
-  pub later : List Visit
-  pub at : Visit
-  pub earlier : List Visit
-  pub list : vs ≡ later ++ (at ∷ earlier)
-  pub place : at.place ≡ p
-  pub word : at.found ≡ x
-  pub last : EachOf (λ s. s.place ≢ p) later

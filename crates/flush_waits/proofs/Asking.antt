@@ -21,11 +21,11 @@ use Rattle.answer_fits.specs.Finding.{FoundAt}
 use Rattle.answer_fits.specs.Reasons.{LastAtMost, MayReach}
 use Rattle.flush_words.proofs.Lasting.{came_longer, last_at_most, last_kept}
 use Rattle.flush_waits.specs.declared.Awaiting.{Awaiting}
-use Rattle.xp_board.specs.Lists.{EachOf}
-use Rattle.answer_fits.specs.Visits.{Does, Only, visit}
+use Rattle.answer_fits.specs.Visits.{Does, Only, Then, visit}
 use Rattle.answer_fits.proofs.Visiting.{does_as, does_nothing, does_one, does_then}
-use Rattle.flush_waits.proofs.Listing.{Aside, after_by, asks, behind_by, flushed_on, looks, none_aside, one_by, priv_aside, run_on}
-use Rattle.flush_waits.specs.Clearing.{Clears, IsOn, Looks, LooksBy, Weighs, owns, looked}
+use Rattle.flush_waits.specs.Listing.{LooksBy, WeighsBy, saw_flushed, saw_run}
+use Rattle.flush_waits.specs.Listing as by
+use Rattle.flush_waits.specs.Clearing.{Clears, Looks, Weighs, owns, looked}
 use Rattle.flush_waits.specs.Waiting.{IsMarked}
 use Rattle.flush_waits.proofs.Growing.{came_grows, known_knows, marked_later, may_later}
 use Rattle.flush_waits.proofs.Chaining.{looks_after}
@@ -43,10 +43,13 @@ pub clears_weighs : (v w : PortValue) (a : Awaiting) (k : ℕ) (b : Bool) → We
 clears_weighs v w a k b (owns is domain answer) = subst (λ (y : PortValue). Clears v y a) (sym is) (clears_nothing v a)
 clears_weighs v w a k b (looked x other m same answer) = clears_look v w (Priv (domain_of v.post.machine k)) x a (λ r. tt) m same
 
-weighs_aside : (v w : PortValue) (a : Awaiting) (k : ℕ) (b : Bool) → Weighs v w a k b → Does v w (λ vs. Aside k vs)
-weighs_aside v w a k b (owns is domain answer) = subst (λ (y : PortValue). Does v y (λ vs. Aside k vs)) (sym is) (does_as v v _ (λ vs. Aside k vs) (λ vs none. none_aside k vs none) (does_nothing v))
-weighs_aside v w a k b (looked x other m same answer) =
-    does_as v w _ (λ vs. Aside k vs) (λ vs one. subst (λ ws. Aside k ws) (sym one) (priv_aside k (domain_of v.post.machine k) x)) (does_one v w _ _ _ _ x m)
+weighs_list : (v w : PortValue) (a : Awaiting) (k : ℕ) (b : Bool) → Weighs v w a k b → Does v w (λ vs. WeighsBy vs)
+weighs_list v w a k b (owns is domain answer) = subst (λ (y : PortValue). Does v y (λ vs. WeighsBy vs)) (sym is) (does_as v v _ (λ vs. WeighsBy vs) (λ vs nothing. inl nothing) (does_nothing v))
+weighs_list v w a k b (looked x other m same answer) = does_as v w _ (λ vs. WeighsBy vs) (λ vs one. inr (domain_of v.post.machine k, x, one)) (does_one v w _ _ _ _ x m)
+
+barred_list : (v w : PortValue) (a : Awaiting) (k : ℕ) → Weighs v w a k false → (d : ℕ) × (x : ℕ) × Does v w (Only (visit (Priv d) Load x))
+barred_list v w a k (owns is domain answer) = absurd cc
+barred_list v w a k (looked x other m same answer) = (domain_of v.post.machine k, x, does_one v w _ _ _ _ x m)
 
 reach_weighs : (v w : PortValue) (a : Awaiting) (k : ℕ) → Weighs v w a k true → MayReach v.post.machine (Some a.owner) (Met v w) k
 reach_weighs v w a k (owns is domain answer) = inl domain
@@ -82,30 +85,40 @@ module _ (v u t : PortValue) (a : Awaiting) (k x y : ℕ) (run : Moves v u (run_
   two_looks : Clears v t a
   two_looks = clears_then v u t a running_look flushed_look
 
-  run_only : Does v u (Only (visit (run_of k) Load x))
-  run_only = does_one v u _ _ _ _ x run
+  -- ---- as a list; where it was found running
+  module _ (idle : x ≡ 0) where
+    run_only : Does v u (Only (saw_run k 0))
+    run_only = subst (λ c. Does v u (Only (saw_run k c))) idle (does_one v u _ _ _ _ x run)
 
-  flushed_only : Does u t (Only (visit (flushed_of k) Load y))
-  flushed_only = does_one u t _ _ _ _ y flushed
+    flushed_only : Does u t (Only (saw_flushed k y))
+    flushed_only = does_one u t _ _ _ _ y flushed
 
-  run_is_on : Does v u (λ vs. EachOf (λ s. IsOn k s) vs)
-  run_is_on = does_as v u _ (λ vs. EachOf (λ s. IsOn k s) vs) (λ vs one. (one_by k _ (run_on k x) vs one).0) run_only
+    pub late_list : a.stamp < y → Does v t (λ vs. LooksBy a.stamp k vs (Ok None))
+    late_list late = does_as v t _ (λ vs. LooksBy a.stamp k vs (Ok None)) (λ vs s. by.late y late s) (does_then v u t (Only (saw_run k 0)) (Only (saw_flushed k y)) run_only flushed_only)
 
-  both_on : Does v t (λ vs. EachOf (λ s. IsOn k s) vs)
-  both_on =
-      does_as v t _ (λ vs. EachOf (λ s. IsOn k s) vs) (λ vs s. (after_by k (Ok None) (λ ws. EachOf (λ s. IsOn k s) ws) (λ ws o. o) vs s).0)
-      (does_then v u t (λ vs. EachOf (λ s. IsOn k s) vs) (λ vs. LooksBy k (Ok None) vs) run_is_on (does_as u t _ (λ vs. LooksBy k (Ok None) vs) (λ vs one. one_by k _ (flushed_on k Load y) vs one) flushed_only))
+    pub unconcerned_list : (w : PortValue) → y ≤ a.stamp → Weighs t w a k false → Does v w (λ vs. LooksBy a.stamp k vs (Ok None))
+    unconcerned_list w low g =
+        let b = barred_list t w a k g in
+        does_as v w _ (λ vs. LooksBy a.stamp k vs (Ok None)) (λ vs s. by.barred y b.0 b.1 low s)
+        (does_then v u w (Only (saw_run k 0)) (Then (Only (saw_flushed k y)) (Only (visit (Priv b.0) Load b.1))) run_only (does_then u t w (Only (saw_flushed k y)) (Only (visit (Priv b.0) Load b.1)) flushed_only b.2))
+
+    pub behind_list : (r w : PortValue) (z : ℕ) → Weighs t r a k true → Moves r w (asked_of k) (Max a.stamp) kinds.Ask None z → y ≤ a.stamp → Does v w (λ vs. LooksBy a.stamp k vs (Ok (Some y)))
+    behind_list r w z weighs ask low =
+        does_as v w _ (λ vs. LooksBy a.stamp k vs (Ok (Some y))) (λ vs s. by.behind y z low s)
+        (does_then v u w (Only (saw_run k 0)) (Then (Only (saw_flushed k y)) (Then (λ ws. WeighsBy ws) (Only (visit (asked_of k) (Max a.stamp) z)))) run_only
+        (does_then u t w (Only (saw_flushed k y)) (Then (λ ws. WeighsBy ws) (Only (visit (asked_of k) (Max a.stamp) z))) flushed_only
+        (does_then t r w (λ ws. WeighsBy ws) (Only (visit (asked_of k) (Max a.stamp) z)) (weighs_list t r a k true weighs) (does_one r w _ _ _ _ z ask))))
 
   -- later than the stamp
   pub found_late : a.stamp < y → Looks v t a k (Ok None)
-  found_late late = looks_after v u t a k (Ok None) running_look run_is_on (look_late u t a k y two flushed (marked_later v u running_look.hand a.frame a.owner a.stamp marked) late)
+  found_late late = looks_after v u t a k (Ok None) running_look (look_late u t a k y two flushed (marked_later v u running_look.hand a.frame a.owner a.stamp marked) late)
 
   pub marked_then : IsMarked a.frame a.owner a.stamp t.holdings
   marked_then = marked_later v t two_looks.hand a.frame a.owner a.stamp marked
 
   -- not concerned
   pub found_barred : (w : PortValue) → Weighs t w a k false → Looks v w a k (Ok None)
-  found_barred w g = looks_after v t w a k (Ok None) two_looks both_on (barred_weighs t w a k g marked_then)
+  found_barred w g = looks_after v t w a k (Ok None) two_looks (barred_weighs t w a k g marked_then)
 
   -- ---- concerned
   module _ (r : PortValue) (weighs : Weighs t r a k true) where
@@ -170,10 +183,6 @@ module _ (v u t : PortValue) (a : Awaiting) (k x y : ℕ) (run : Moves v u (run_
         let more = moves_came r w (asked_of k) (Max a.stamp) kinds.Ask None z ask in
         record {
           clears = clears;
-          steps = does_as v w _ (λ vs. LooksBy k (Ok (Some y)) vs) (λ vs s. behind_by k y a.stamp z vs s)
-              (does_then v u w (Only (visit (run_of k) Load 0)) (λ vs. looks k y a.stamp z vs) (subst (λ c. Does v u (Only (visit (run_of k) Load c))) idle run_only)
-              (does_then u t w (Only (visit (flushed_of k) Load y)) (λ vs. asks k y a.stamp z vs) flushed_only
-              (does_then t r w (λ vs. Aside k vs) (Only (visit (asked_of k) (Max a.stamp) z)) (weighs_aside t r a k true weighs) (does_one r w _ _ _ _ z ask))));
           shows = record {
             other = other;
             running = subst (λ c. FoundAt (Met v w) (run_of k) c) idle

@@ -8,11 +8,7 @@ use Rattle.step_maker.proofs.Coming.{came_post, came_trans, met_after, met_befor
 use Rattle.answer_fits.specs.Pauses.{AskedTo, Clear}
 use Rattle.answer_fits.specs.Reasons.{MayReach}
 use Rattle.flush_waits.specs.declared.Awaiting.{Awaiting}
-use Rattle.flush_waits.specs.Clearing.{Clears, IsBehind, IsClear, IsSpent, Looks, PastOn, Stands, IsOn, LooksBy}
-use Rattle.answer_fits.specs.Visits.{Does}
-use Rattle.answer_fits.proofs.Visiting.{does_as, does_then}
-use Rattle.xp_board.specs.Lists.{EachOf}
-use Rattle.flush_waits.proofs.Listing.{after_by}
+use Rattle.flush_waits.specs.Clearing.{Clears, IsBehind, IsClear, IsSpent, Looks, PastOn, Stands}
 use Rattle.flush_waits.specs.Waiting.{StopsBehind}
 use Rattle.flush_waits.proofs.Growing.{past_later}
 use Rattle.flush_waits.proofs.Pieces.{asked_more, awaited_later, clear_more, clears_then, found_more, reach_more}
@@ -77,10 +73,6 @@ module _ (v u w : PortValue) (a : Awaiting) (first : Came v u) (second : Came u 
   then_stands k (Err r) s = spent_then r s
 
 -- steps before a look leave what it shows
-pub looks_after : (v u w : PortValue) (a : Awaiting) (k : ℕ) (r : Result (Option ℕ) Refusal) → Clears v u a → Does v u (λ vs. EachOf (λ s. IsOn k s) vs) → Looks u w a k r → Looks v w a k r
-looks_after v u w a k r first on l =
-    record {
-      clears = clears_then v u w a first l.clears;
-      steps = does_as v w _ (λ vs. LooksBy k r vs) (λ vs t. after_by k r (λ ws. EachOf (λ s. IsOn k s) ws) (λ ws o. o) vs t) (does_then v u w (λ vs. EachOf (λ s. IsOn k s) vs) (λ vs. LooksBy k r vs) on l.steps);
-      shows = then_stands v u w a first.came l.clears.came k r l.shows;
-    }
+pub looks_after : (v u w : PortValue) (a : Awaiting) (k : ℕ) (r : Result (Option ℕ) Refusal) → Clears v u a → Looks u w a k r → Looks v w a k r
+looks_after v u w a k r first l =
+    record { clears = clears_then v u w a first l.clears; shows = then_stands v u w a first.came l.clears.came k r l.shows }

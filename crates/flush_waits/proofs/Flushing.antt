@@ -1,5 +1,5 @@
 -- The own vCPU: it is flushed, or the clock is at its last value.
-use Rattle.std.proofs.Common.{◌≡◌, ℕ, ◌<◌, ◌≤◌, Some, None, Result, Ok, Err, sym, ap, ◌∙◌, subst, inl, Option}
+use Rattle.std.proofs.Common.{◌≡◌, ℕ, ◌<◌, ◌≤◌, Some, None, Result, Ok, Err, sym, ap, ◌∙◌, subst, inl}
 use Rattle.std.proofs.lemmas.Bool.{or_right}
 use Rattle.xp_words.specs.KindWords.{kind_fields}
 use Rattle.xp_words.specs.Places.{flushed_of}
@@ -23,10 +23,12 @@ use Rattle.flush_words.proofs.Flushed.{Flushed, flushed_clear, flushed_since, ma
 use Rattle.flush_words.proofs.FlushServes.{awaited_flush, own_serves, own_stops}
 use Rattle.flush_words.proofs.FlushTwin.{own_alike}
 use Rattle.flush_waits.specs.declared.Awaiting.{Awaiting}
-use Rattle.flush_waits.specs.Clearing.{Clears, IsClear, Looks, LooksBy}
-use Rattle.answer_fits.specs.Visits.{Does, Only, visit}
+use Rattle.answer_fits.specs.Visits.{Does, Only}
 use Rattle.answer_fits.proofs.Visiting.{does_as, does_one, does_then}
-use Rattle.flush_waits.proofs.Listing.{after_by, flushed_by, flushed_on, one_by, spent_by}
+use Rattle.flush_words.specs.Flushing.{FlushedBy}
+use Rattle.flush_waits.specs.Listing.{LooksBy, saw_flushed}
+use Rattle.flush_waits.specs.Listing as by
+use Rattle.flush_waits.specs.Clearing.{Clears, IsClear, Looks}
 use Rattle.flush_waits.specs.Waiting.{IsMarked, IsWait, ServesBehind, StopsBehind}
 use Rattle.flush_waits.proofs.Chaining.{then_stands}
 use Rattle.flush_waits.proofs.Growing.{flushed_then, marked_later}
@@ -70,12 +72,6 @@ module _ (v u w : PortValue) (a : Awaiting) (x : ℕ) (look : Moves v u (flushed
         plain = λ tells. alike_trans (told_word w) (told_word u) (told_word v) (own_alike u w answer f) (first.plain tells);
       }
 
-  own_after : (answer : Result (Option ℕ) Refusal) → Does u w (λ vs. LooksBy u.post.vcpu answer vs) → Does v w (λ vs. LooksBy v.post.vcpu answer vs)
-  own_after answer there =
-      does_as v w _ (λ vs. LooksBy v.post.vcpu answer vs) (λ vs t. after_by v.post.vcpu answer (Only (visit (flushed_of v.post.vcpu) Load x)) (λ ws one. (one_by v.post.vcpu _ (flushed_on v.post.vcpu Load x) ws one).0) vs t)
-      (does_then v u w (Only (visit (flushed_of v.post.vcpu) Load x)) (λ vs. LooksBy v.post.vcpu answer vs) (does_one v u _ _ _ _ x look)
-      (subst (λ (q : Post). Does u w (λ vs. LooksBy q.vcpu answer vs)) (came_post v u first.came) there))
-
   is_wait : (r : Refusal) → FlushesOwn u w (Err r) → IsWait (Refused r)
   is_wait r (spent m) = tt
 
@@ -84,7 +80,6 @@ module _ (v u w : PortValue) (a : Awaiting) (x : ℕ) (look : Moves v u (flushed
   then_flushed marked f hand =
       record {
         clears = own_clears (Ok tt) f hand;
-        steps = own_after (Ok None) (does_as u w _ (λ vs. LooksBy u.post.vcpu (Ok None) vs) (λ vs l. flushed_by u.post.vcpu vs l) (own_does u w (Ok tt) f));
         shows = subst (λ (q : Post). IsClear v w a q.vcpu) (came_post v u first.came)
             (then_stands v u w a first.came (own_came u w (Ok tt) f) u.post.vcpu (Ok None) (own_clear u w a (marked_later v u first.hand a.frame a.owner a.stamp marked) (own_flushed u w f) hand));
       }
@@ -95,6 +90,22 @@ module _ (v u w : PortValue) (a : Awaiting) (x : ℕ) (look : Moves v u (flushed
   then_refused r f hand =
       record {
         clears = own_clears (Err r) f hand;
-        steps = own_after (Err r) (does_as u w _ (λ vs. LooksBy u.post.vcpu (Err r) vs) (λ vs l. spent_by u.post.vcpu r vs l) (own_does u w (Err r) f));
         shows = (λ t q to awaits. own_stops t u w q r (came_trans t v u to first.came) (needs t q to awaits) f, is_wait r f);
       }
+
+  -- ---- as a list
+  saw_own : Does v u (Only (saw_flushed v.post.vcpu x))
+  saw_own = does_one v u _ _ _ _ x look
+
+  own_there : (answer : Result (Unit {0}) Refusal) → FlushesOwn u w answer → Does u w (λ vs. FlushedBy v.post.vcpu answer vs)
+  own_there answer f = subst (λ (q : Post). Does u w (λ vs. FlushedBy q.vcpu answer vs)) (came_post v u first.came) (own_does u w answer f)
+
+  pub flushed_list : FlushesOwn u w (Ok tt) → Does v w (λ vs. LooksBy a.stamp v.post.vcpu vs (Ok None))
+  flushed_list f =
+      does_as v w _ (λ vs. LooksBy a.stamp v.post.vcpu vs (Ok None)) (λ vs s. by.own_flushed x low s)
+      (does_then v u w (Only (saw_flushed v.post.vcpu x)) (λ fs. FlushedBy v.post.vcpu (Ok tt) fs) saw_own (own_there (Ok tt) f))
+
+  pub refused_list : (r : Refusal) → FlushesOwn u w (Err r) → Does v w (λ vs. LooksBy a.stamp v.post.vcpu vs (Err r))
+  refused_list r f =
+      does_as v w _ (λ vs. LooksBy a.stamp v.post.vcpu vs (Err r)) (λ vs s. by.own_spent x r low s)
+      (does_then v u w (Only (saw_flushed v.post.vcpu x)) (λ fs. FlushedBy v.post.vcpu (Err r) fs) saw_own (own_there (Err r) f))

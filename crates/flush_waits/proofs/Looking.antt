@@ -23,9 +23,11 @@ use Rattle.step_maker.specs.Moves.{Moves}
 use Rattle.step_maker.proofs.Noting.{moves_since}
 use Rattle.answer_fits.specs.Pauses.{barred, flushed, idle}
 use Rattle.flush_waits.specs.declared.Awaiting.{Awaiting}
-use Rattle.flush_waits.specs.Clearing.{Looks, LooksBy}
+use Rattle.answer_fits.specs.Visits.{Does}
 use Rattle.answer_fits.proofs.Visiting.{does_as, does_one}
-use Rattle.flush_waits.proofs.Listing.{flushed_on, one_by, priv_on, run_on}
+use Rattle.flush_waits.specs.Listing.{LooksBy}
+use Rattle.flush_waits.specs.Listing as by
+use Rattle.flush_waits.specs.Clearing.{Looks}
 use Rattle.flush_waits.specs.Waiting.{IsMarked}
 use Rattle.flush_waits.proofs.Growing.{known_knows, owner_later, same_flushed}
 use Rattle.flush_waits.proofs.Marked.{same_frame, stamp_is, work_past}
@@ -56,7 +58,6 @@ module _ (v w : PortValue) (a : Awaiting) (k x : ℕ) (same : Same v w) where
       let is = idle_word x some (run_low v.post.machine v.post.vcpu v.holdings k x real m.finds) in
       record {
         clears = clears_look v w (run_of k) x a (λ r. tt) m same;
-        steps = does_as v w _ (λ vs. LooksBy k (Ok None) vs) (λ vs one. one_by k _ (run_on k x) vs one) (does_one v w _ _ _ _ x m);
         shows = (
           idle x (moves_found v w (run_of k) Load kinds.Look None x m) is,
           λ e here.
@@ -70,7 +71,6 @@ module _ (v w : PortValue) (a : Awaiting) (k x : ℕ) (same : Same v w) where
   look_late m marked late =
       record {
         clears = clears_look v w (flushed_of k) x a (λ r. tt) m same;
-        steps = does_as v w _ (λ vs. LooksBy k (Ok None) vs) (λ vs one. one_by k _ (flushed_on k Load x) vs one) (does_one v w _ _ _ _ x m);
         shows = (
           flushed x (moves_found v w (flushed_of k) Load kinds.Look None x m) late,
           λ e here.
@@ -89,7 +89,6 @@ module _ (v w : PortValue) (a : Awaiting) (k x : ℕ) (same : Same v w) where
       let clears = clears_look v w (Priv (domain_of n k)) x a (λ r. tt) m same in
       record {
         clears = clears;
-        steps = does_as v w _ (λ vs. LooksBy k (Ok None) vs) (λ vs one. one_by k _ (priv_on k (domain_of n k) Load x) vs one) (does_one v w _ _ _ _ x m);
         shows = (
           barred a.owner x refl other (moves_found v w (Priv (domain_of n k)) Load kinds.Look None x m) never,
           λ e here.
@@ -104,3 +103,10 @@ module _ (v w : PortValue) (a : Awaiting) (k x : ℕ) (same : Same v w) where
               }),
         );
       }
+
+-- ---- as a list
+pub idle_list : (v w : PortValue) (stamp k x : ℕ) → Moves v w (run_of k) Load kinds.Look None x → x ≢ 0 → Does v w (λ vs. LooksBy stamp k vs (Ok None))
+idle_list v w stamp k x m some = does_as v w _ (λ vs. LooksBy stamp k vs (Ok None)) (λ vs one. by.idle x some one) (does_one v w _ _ _ _ x m)
+
+pub own_late_list : (v w : PortValue) (stamp k y : ℕ) → Moves v w (flushed_of k) Load kinds.Look None y → stamp < y → Does v w (λ vs. LooksBy stamp k vs (Ok None))
+own_late_list v w stamp k y m late = does_as v w _ (λ vs. LooksBy stamp k vs (Ok None)) (λ vs one. by.own_late y late one) (does_one v w _ _ _ _ y m)

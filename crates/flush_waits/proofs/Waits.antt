@@ -1,6 +1,5 @@
 -- The wait as a whole: one vCPU more, and what its end shows.
-use Rattle.answer_fits.specs.Visits.{Does, Visit}
-use Rattle.std.proofs.Common.{◌≡◌, ℕ, ◌+◌, ◌<◌, ◌⊎◌, length, Option, Some, None, Ok, Err, sym, subst, inl, inr, arith, ◌≢◌, List, refl}
+use Rattle.std.proofs.Common.{◌≡◌, ℕ, ◌+◌, ◌<◌, ◌⊎◌, length, Option, Some, None, Ok, Err, sym, subst, inl, inr, arith, refl}
 use Rattle.xp_words.specs.declared.reply.Pause.TheVariants.{Flush}
 use Rattle.xp_words.specs.declared.reply.Refusal.{Refusal}
 use Rattle.xp_words.specs.declared.reply.Stop.TheVariants.{Paused, Refused}
@@ -14,20 +13,18 @@ use Rattle.answer_fits.specs.Reasons.{AwaitsStamp}
 use Rattle.flush_words.proofs.FlushServes.{awaited_more}
 use Rattle.flush_waits.specs.declared.Awaiting.{Awaiting}
 use Rattle.flush_waits.specs.declared.Late.{Late}
-use Rattle.flush_waits.specs.Clearing.{AllStand, Clears, IsBehind, IsClear, IsLeast, Looks, Stands, Waits, first_behind, LooksBy, WaitsBy, SpentBy}
+use Rattle.flush_waits.specs.Clearing.{AllStand, Clears, IsBehind, IsClear, IsLeast, Stands, Waits, first_behind, ListedBy, LooksAt}
+use Rattle.answer_fits.specs.Visits.{Does}
 use Rattle.answer_fits.proofs.Visiting.{does_as, does_nothing, does_then}
-use Rattle.xp_words.specs.declared.reply.Refusal.TheVariants as refusals
-use Rattle.flush_waits.proofs.Listing.{all_more as list_more, all_refused as list_refused, none_waits}
-use Rattle.flush_waits.specs.Waiting.{IsFlushed, IsMarked, StopsBehind, EndsWait, WaitedFor}
+use Rattle.flush_waits.specs.Listing.{LooksBy, WaitedFor, none}
+use Rattle.flush_waits.proofs.Listing.{listed_more, listed_refused}
+use Rattle.flush_waits.specs.Waiting.{IsFlushed, IsMarked, StopsBehind}
 use Rattle.flush_waits.proofs.Chaining.{asked_earlier, behind_earlier, clear_earlier, still_clear, then_stands}
 use Rattle.flush_waits.proofs.Growing.{marked_later}
 use Rattle.flush_waits.proofs.Pieces.{asked_more, clear_more, clears_nothing, clears_then, found_more, reach_more}
 
 pub waits_none : (v : PortValue) (a : Awaiting) → Waits v v a 0 (Ok None)
-waits_none v a = record { clears = clears_nothing v a; steps = does_as v v _ (λ vs. WaitsBy (Ok None) vs) (λ vs none. none_waits vs none) (does_nothing v); shows = λ u below. absurd (omega (arith, below)) }
-
-below_not : (u k : ℕ) → u < k → u ≢ k
-below_not u k l e = absurd (omega (arith, l, e))
+waits_none v a = record { clears = clears_nothing v a; steps = does_as v v _ (λ vs. ListedBy a.stamp 0 (Ok None) vs) (λ vs nothing. none vs nothing) (does_nothing v); shows = λ u below. absurd (omega (arith, below)) }
 
 -- ---- one vCPU more
 below_or : (u k : ℕ) → u < k + 1 → (u < k) ⊎ (u ≡ k)
@@ -91,24 +88,21 @@ module _ (v u w : PortValue) (a : Awaiting) (k : ℕ) (first : Clears v u a) (se
         others = others_more standing all.others here;
       }
 
-pub waits_more : (v u w : PortValue) (a : Awaiting) (k : ℕ) (o : Option Late) (standing : Option ℕ) → Waits v u a k (Ok o) → Looks u w a k (Ok standing) → Waits v w a (k + 1) (Ok (first_behind o k standing))
+pub waits_more : (v u w : PortValue) (a : Awaiting) (k : ℕ) (o : Option Late) (standing : Option ℕ) → Waits v u a k (Ok o) → LooksAt u w a k (Ok standing) → Waits v w a (k + 1) (Ok (first_behind o k standing))
 waits_more v u w a k o standing so l =
     record {
-      clears = clears_then v u w a so.clears l.clears;
-      steps = does_as v w _ (λ vs. WaitsBy (Ok (first_behind o k standing)) vs) (λ vs t. list_more k vs o standing (λ b is. not_last b is so) t)
-          (does_then v u w (λ vs. WaitsBy (Ok o) vs) (λ vs. LooksBy k (Ok standing) vs) so.steps l.steps);
-      shows = all_more v u w a k so.clears l.clears o standing so.shows (then_stands v u w a so.clears.came l.clears.came k (Ok standing) l.shows);
+      clears = clears_then v u w a so.clears l.looks.clears;
+      steps = does_as v w _ (λ vs. ListedBy a.stamp (k + 1) (Ok (first_behind o k standing)) vs) (λ vs t. listed_more a.stamp k o vs standing t)
+          (does_then v u w (λ vs. ListedBy a.stamp k (Ok o) vs) (λ vs. LooksBy a.stamp k vs (Ok standing)) so.steps l.steps);
+      shows = all_more v u w a k so.clears l.looks.clears o standing so.shows (then_stands v u w a so.clears.came l.looks.clears.came k (Ok standing) l.looks.shows);
     }
-  where
-    not_last : (b : Late) → o ≡ Some b → Waits v u a k (Ok o) → b.vcpu ≢ k
-    not_last b is waits = below_not b.vcpu k (subst (λ y. AllStand v u a k (Ok y)) is waits.shows).below
 
-pub waits_refused : (v u w : PortValue) (a : Awaiting) (k n : ℕ) (o : Option Late) (r : Refusal) → Waits v u a k (Ok o) → Looks u w a k (Err r) → Waits v w a n (Err r)
+pub waits_refused : (v u w : PortValue) (a : Awaiting) (k n : ℕ) (o : Option Late) (r : Refusal) → Waits v u a k (Ok o) → LooksAt u w a k (Err r) → Waits v w a n (Err r)
 waits_refused v u w a k n o r so l =
     record {
-      clears = clears_then v u w a so.clears l.clears;
-      steps = does_as v w _ (λ vs. WaitsBy (Err r) vs) (λ vs t. list_refused k vs o r t) (does_then v u w (λ vs. WaitsBy (Ok o) vs) (λ vs. LooksBy k (Err r) vs) so.steps l.steps);
-      shows = then_stands v u w a so.clears.came l.clears.came k (Err r) l.shows;
+      clears = clears_then v u w a so.clears l.looks.clears;
+      steps = does_as v w _ (λ vs. ListedBy a.stamp n (Err r) vs) (λ vs t. listed_refused a.stamp k o vs n r t) (does_then v u w (λ vs. ListedBy a.stamp k (Ok o) vs) (λ vs. LooksBy a.stamp k vs (Err r)) so.steps l.steps);
+      shows = then_stands v u w a so.clears.came l.looks.clears.came k (Err r) l.looks.shows;
     }
 
 -- ---- its end
@@ -166,12 +160,11 @@ module _ (v w : PortValue) (a : Awaiting) where
   stops_late b so t r to awaits = awaits_behind t r to so.clears.came b so.shows awaits
 
 -- ---- as a list
-pub late_list : (v w : PortValue) (a : Awaiting) (b : Late) → Waits v w a (length v.post.machine.vcpu_domain) (Ok (Some b)) → Does v w (λ vs. WaitedFor a.stamp (Err (Paused (Flush b.vcpu a.stamp b.found))) vs)
-late_list v w a b so = does_as v w _ (λ vs. WaitedFor a.stamp (Err (Paused (Flush b.vcpu a.stamp b.found))) vs) (λ vs l. (l.0, (refl, l.1.0, l.1.1))) so.steps
+pub had_list : (v w : PortValue) (a : Awaiting) (upto : ℕ) → Waits v w a upto (Ok None) → Does v w (λ vs. WaitedFor a.stamp (Ok tt) vs)
+had_list v w a upto so = does_as v w _ (λ vs. WaitedFor a.stamp (Ok tt) vs) (λ vs l. (upto, l)) so.steps
+
+pub late_list : (v w : PortValue) (a : Awaiting) (upto : ℕ) (b : Late) → Waits v w a upto (Ok (Some b)) → Does v w (λ vs. WaitedFor a.stamp (Err (Paused (Flush b.vcpu a.stamp b.found))) vs)
+late_list v w a upto b so = does_as v w _ (λ vs. WaitedFor a.stamp (Err (Paused (Flush b.vcpu a.stamp b.found))) vs) (λ vs l. (upto, (refl, l))) so.steps
 
 pub spent_list : (v w : PortValue) (a : Awaiting) (upto : ℕ) (r : Refusal) → Waits v w a upto (Err r) → Does v w (λ vs. WaitedFor a.stamp (Err (Refused r)) vs)
-spent_list v w a upto r so = does_as v w _ (λ vs. WaitedFor a.stamp (Err (Refused r)) vs) (λ vs l. (l.0, spent r vs l.1)) so.steps
-  where
-    spent : (r : Refusal) (vs : List Visit) → SpentBy r vs → EndsWait a.stamp (Refused r) vs
-    spent (refusals.Clock found) vs l = l
-    spent _ vs l = absurd l
+spent_list v w a upto r so = does_as v w _ (λ vs. WaitedFor a.stamp (Err (Refused r)) vs) (λ vs l. (l.0, l.1)) so.steps

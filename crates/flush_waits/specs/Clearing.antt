@@ -3,9 +3,8 @@ use Rattle.std.specs.Prelude.{◌≡◌, ◌≢◌, ◌⊎◌, ℕ, ◌<◌, ◌
 use Rattle.xp_words.specs.Machine.{Machine}
 use Rattle.xp_words.specs.KindWords.{kind_fields}
 use Rattle.xp_words.specs.Places.{sizes_of, run_of, flushed_of}
-use Rattle.xp_words.specs.declared.place.Place.TheVariants.{Clock, Priv}
+use Rattle.xp_words.specs.declared.place.Place.TheVariants.{Priv}
 use Rattle.xp_words.specs.declared.reply.Refusal.{Refusal}
-use Rattle.xp_words.specs.declared.reply.Refusal.TheVariants as refusals
 use Rattle.xp_words.specs.declared.reply.Stop.TheVariants.{Refused}
 use Rattle.xp_board.specs.declared.holdings.Holdings.{Holdings}
 use Rattle.xp_board.specs.declared.holdings.Work.{Work}
@@ -13,7 +12,6 @@ use Rattle.xp_board.specs.declared.step.Act.TheVariants.{Load}
 use Rattle.xp_board.specs.declared.step.StepKind.TheVariants as kinds
 use Rattle.xp_board.specs.Flushes.{is_past, PassedOver}
 use Rattle.xp_board.specs.Hands.{work_on}
-use Rattle.xp_board.specs.Lists.{EachOf}
 use Rattle.xp_board.specs.Readings.{domain_of, has_ever}
 use Rattle.xp_board.specs.Told.{PortValue, is_telling, told_word}
 use Rattle.step_maker.specs.Holds.{FlushedSame, Same}
@@ -22,9 +20,10 @@ use Rattle.answer_fits.specs.Finding.{FoundAt}
 use Rattle.answer_fits.specs.Pauses.{AskedTo, Clear}
 use Rattle.answer_fits.specs.Reasons.{MayReach}
 use Rattle.answer_fits.specs.Twins.{Alike}
-use Rattle.answer_fits.specs.Visits.{Does, LastFound, Visit, Waited, is_flush_word}
+use Rattle.answer_fits.specs.Visits.{Does, Visit}
 use Rattle.flush_waits.specs.declared.Awaiting.{Awaiting}
 use Rattle.flush_waits.specs.declared.Late.{Late}
+use Rattle.flush_waits.specs.Listing.{LooksBy, Slow, WaitsBy}
 use Rattle.flush_waits.specs.Waiting.{IsWait, ServesBehind, StopsBehind}
 
 -- no older translation of vCPU u leads to frame f of the own works, but to read it
@@ -62,42 +61,15 @@ Stands v w a u (Ok None) = IsClear v w a u
 Stands v w a u (Ok (Some found)) = IsBehind v w a u found
 Stands v w a u (Err r) = IsSpent v w a r
 
--- ---- the steps as lists
--- at a word of flushes, and of no other vCPU than u
-pub record IsOn (u : ℕ) (s : Visit) : Type 0 where
-  pub flush : is_flush_word s.place ≡ true
-  pub flushed : (k : ℕ) → k ≢ u → s.place ≢ flushed_of k
-  pub run : (k : ℕ) → k ≢ u → s.place ≢ run_of k
-
--- the last words that were found of a vCPU that is behind, and of the clock that goes no further
-abbrev pub BehindBy : ℕ → ℕ → List Visit → Type 0
-BehindBy u found vs = LastFound (flushed_of u) found vs × LastFound (run_of u) 0 vs
-
-abbrev pub SpentBy : Refusal → List Visit → Type 0
-SpentBy (refusals.Clock found) vs = LastFound Clock found vs
-SpentBy _ vs = ⊥
-
-abbrev pub StandsBy : ℕ → Result (Option ℕ) Refusal → List Visit → Type 0
-StandsBy u (Ok None) vs = Unit {0}
-StandsBy u (Ok (Some found)) vs = BehindBy u found vs
-StandsBy u (Err r) vs = SpentBy r vs
-
-abbrev pub LooksBy : ℕ → Result (Option ℕ) Refusal → List Visit → Type 0
-LooksBy u answer vs = EachOf (λ s. IsOn u s) vs × StandsBy u answer vs
-
-abbrev pub AllBy : Result (Option Late) Refusal → List Visit → Type 0
-AllBy (Ok None) vs = Unit {0}
-AllBy (Ok (Some b)) vs = BehindBy b.vcpu b.found vs
-AllBy (Err r) vs = SpentBy r vs
-
-abbrev pub WaitsBy : Result (Option Late) Refusal → List Visit → Type 0
-WaitsBy answer vs = Waited vs × AllBy answer vs
-
 -- the steps from v to w showed that vCPU u is clear, or flushed to the answer and behind
 pub record Looks (v w : PortValue) (a : Awaiting) (u : ℕ) (answer : Result (Option ℕ) Refusal) : Type 0 where
   pub clears : Clears v w a
-  pub steps : Does v w (λ vs. LooksBy u answer vs)
   pub shows : Stands v w a u answer
+
+-- and it was looked at by these steps
+pub record LooksAt (v w : PortValue) (a : Awaiting) (u : ℕ) (answer : Result (Option ℕ) Refusal) : Type 0 where
+  pub looks : Looks v w a u answer
+  pub steps : Does v w (λ vs. LooksBy a.stamp u vs answer)
 
 -- whether the domain of vCPU u owns the frame, or was found to have ever had privilege over the owner
 pub data Weighs (v w : PortValue) (a : Awaiting) (u : ℕ) (answer : Bool) : Type 0 where
@@ -124,8 +96,17 @@ AllStand v w a upto (Ok None) = (u : ℕ) → u < upto → IsClear v w a u
 AllStand v w a upto (Ok (Some b)) = IsLeast v w a upto b
 AllStand v w a upto (Err r) = IsSpent v w a r
 
+-- so many of them were looked at, in order; all, where none was refused
+abbrev pub slow_of : Option Late → Option Slow
+slow_of None = None
+slow_of (Some b) = Some (record { vcpu = b.vcpu; found = b.found })
+
+abbrev pub ListedBy : ℕ → ℕ → Result (Option Late) Refusal → List Visit → Type 0
+ListedBy stamp upto (Ok o) vs = WaitsBy stamp vs upto (Ok (slow_of o))
+ListedBy stamp upto (Err r) vs = (n : ℕ) × WaitsBy stamp vs n (Err r)
+
 -- the steps from v to w showed that all below that number are clear, or the least that is behind
 pub record Waits (v w : PortValue) (a : Awaiting) (upto : ℕ) (answer : Result (Option Late) Refusal) : Type 0 where
   pub clears : Clears v w a
-  pub steps : Does v w (λ vs. WaitsBy answer vs)
+  pub steps : Does v w (λ vs. ListedBy a.stamp upto answer vs)
   pub shows : AllStand v w a upto answer

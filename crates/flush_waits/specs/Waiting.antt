@@ -1,9 +1,7 @@
 -- Flushes that a change of type waits for: until no vCPU can have an older translation to the frame, but to read it.
-use Rattle.std.specs.Prelude.{◌≡◌, ◌⊎◌, ℕ, ◌<◌, true, List, Some, Result, Ok, Err}
+use Rattle.std.specs.Prelude.{◌≡◌, ◌⊎◌, ℕ, ◌<◌, true, List, Some}
 use Rattle.xp_words.specs.Machine.{Machine}
 use Rattle.xp_words.specs.KindWords.{kind_fields}
-use Rattle.xp_words.specs.Places.{flushed_of, run_of}
-use Rattle.xp_words.specs.declared.place.Place.TheVariants.{Clock}
 use Rattle.xp_words.specs.declared.reply.Pause.TheVariants.{Flush}
 use Rattle.xp_words.specs.declared.reply.Refusal.TheVariants as refusals
 use Rattle.xp_words.specs.declared.reply.Stop.{Stop}
@@ -18,7 +16,6 @@ use Rattle.step_maker.specs.Moves.{Came, Met}
 use Rattle.answer_fits.specs.Answers.{Deed, Serves, Stops}
 use Rattle.answer_fits.specs.Asked.{Request}
 use Rattle.answer_fits.specs.Reasons.{AwaitsStamp}
-use Rattle.answer_fits.specs.Visits.{LastFound, Visit, Waited}
 
 -- a reference in hand says whose the frame is
 abbrev pub IsKnownOwner : ℕ → ℕ → Holdings → Type 0
@@ -53,15 +50,3 @@ abbrev pub IsWait : Stop → Type 0
 IsWait (Refused (refusals.Clock found)) = Unit {0}
 IsWait (Paused (Flush vcpu stamp found)) = Unit {0}
 IsWait _ = ⊥
-
--- ---- the steps of a wait
--- the last words that were found of what it stops for
-abbrev pub EndsWait : ℕ → Stop → List Visit → Type 0
-EndsWait stamp (Refused (refusals.Clock found)) vs = LastFound Clock found vs
-EndsWait stamp (Paused (Flush vcpu awaited found)) vs = (awaited ≡ stamp) × LastFound (flushed_of vcpu) found vs × LastFound (run_of vcpu) 0 vs
-EndsWait stamp _ vs = ⊥
-
--- they are at words of flushes alone
-abbrev pub WaitedFor : ℕ → Result (Unit {0}) Stop → List Visit → Type 0
-WaitedFor stamp (Ok done) vs = Waited vs
-WaitedFor stamp (Err stop) vs = Waited vs × EndsWait stamp stop vs

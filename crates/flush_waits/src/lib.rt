@@ -8,8 +8,9 @@ ghost use Rattle.answer_fits.specs.Visits.{Does};
 ghost use Rattle.answer_fits.specs.Twins.{Alike};
 ghost use Rattle.step_maker.specs.Holds.{FlushedSame, MayWork};
 ghost use Rattle.step_maker.specs.Moves.{Came};
-ghost use Rattle.flush_waits.specs.Clearing.{Looks, Weighs, Waits, first_behind};
-ghost use Rattle.flush_waits.specs.Waiting.{IsMarked, IsFlushed, IsWait, ServesBehind, StopsBehind, WaitedFor};
+ghost use Rattle.flush_waits.specs.Clearing.{LooksAt, Weighs, Waits, first_behind};
+ghost use Rattle.flush_waits.specs.Listing.{WaitedFor};
+ghost use Rattle.flush_waits.specs.Waiting.{IsMarked, IsFlushed, IsWait, ServesBehind, StopsBehind};
 
 use flush_words::{ask, flush_own, look_flushed, look_privileges, look_run_of};
 use xp_board::Port;
@@ -30,7 +31,7 @@ pub fn clear_stale<P: Port>(port: &mut P, frame: u32, owner: u16, stamp: u64) ->
     ensures serves { ServesBehind (P.value port.old) (P.value port.new) owner stamp }
     ensures stops { IfErr result (λ e. StopsBehind (P.value port.old) (P.value port.new) owner stamp e) }
     ensures came { Came (P.value port.old) (P.value port.new) }
-    // Each step is at a word of flushes; a refusal or a pause is by the last words that were found.
+    // Each vCPU is looked at once, in order, and the answer is by what was found.
     ensures visits { Does (P.value port.old) (P.value port.new) (λ vs. WaitedFor stamp result vs) }
     ensures waits { IfErr result IsWait }
     ensures hand { FlushedSame (P.value port.old) (P.value port.new) }
@@ -97,7 +98,7 @@ fn clear<P: Port>(port: &mut P, awaited: Awaiting, vcpu: u32) -> Result<Option<u
     requires vcpu { vcpu < length (P.value port.old).post.machine.vcpu_domain }
     requires may { MayWork (P.value port.old) }
     requires marked { IsMarked awaited.frame awaited.owner awaited.stamp (P.value port.old).holdings }
-    ensures { Looks (P.value port.old) (P.value port.new) awaited vcpu result }
+    ensures { LooksAt (P.value port.old) (P.value port.new) awaited vcpu result }
 {
     if vcpu == port.vcpu() {
         clear_own(port, awaited)
@@ -110,7 +111,7 @@ fn clear<P: Port>(port: &mut P, awaited: Awaiting, vcpu: u32) -> Result<Option<u
 fn clear_own<P: Port>(port: &mut P, awaited: Awaiting) -> Result<Option<u64>, Refusal>
     requires may { MayWork (P.value port.old) }
     requires marked { IsMarked awaited.frame awaited.owner awaited.stamp (P.value port.old).holdings }
-    ensures { Looks (P.value port.old) (P.value port.new) awaited (P.value port.old).post.vcpu result }
+    ensures { LooksAt (P.value port.old) (P.value port.new) awaited (P.value port.old).post.vcpu result }
 {
     let vcpu = port.vcpu();
     if look_flushed(port, vcpu) > awaited.stamp {
@@ -127,7 +128,7 @@ fn clear_other<P: Port>(port: &mut P, awaited: Awaiting, vcpu: u32) -> Option<u6
     requires other { vcpu ≢ (P.value port.old).post.vcpu }
     requires may { MayWork (P.value port.old) }
     requires marked { IsMarked awaited.frame awaited.owner awaited.stamp (P.value port.old).holdings }
-    ensures { Looks (P.value port.old) (P.value port.new) awaited vcpu (Ok result) }
+    ensures { LooksAt (P.value port.old) (P.value port.new) awaited vcpu (Ok result) }
 {
     if look_run_of(port, vcpu) != RUNNING {
         return None;

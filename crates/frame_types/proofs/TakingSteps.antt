@@ -16,9 +16,9 @@ use Rattle.xp_board.specs.Told.{Post, PortValue}
 use Rattle.board_lemmas.proofs.KindForms.{fields_of}
 use Rattle.step_maker.specs.Moves.{Moves}
 use Rattle.step_maker.proofs.Coming.{came_post, came_trans, moves_came}
-use Rattle.answer_fits.specs.Visits.{Visit, visit, Does, Only, Then, Waited, Where}
+use Rattle.answer_fits.specs.Visits.{Visit, visit, Does, Only, Then, Where}
 use Rattle.answer_fits.proofs.Visiting.{does_as, does_nothing, does_one, does_then}
-use Rattle.flush_waits.specs.Waiting.{WaitedFor}
+use Rattle.flush_waits.specs.Listing.{WaitedFor}
 use Rattle.frame_words.specs.Freeing.{PutBy, Puts}
 use Rattle.kind_words.specs.Kinds.{live_kind, work_kind}
 use Rattle.frame_types.specs.Found.{EndsBy, Finishes, GoesBy, Proceeds, IsWayOn, StoresKind, TakesBy, TakesFound, TypeBy, WaitsOf, is_kept_by, next_kind, saw_kind, swaps_kind}
@@ -57,7 +57,7 @@ module _ (v u w : PortValue) (f : ℕ) (want : PageType) (marked own : Bool) (st
   goes_then t waits goes = (goes.0, does_then v u w (λ vs. WaitsOf marked stamp t vs) (λ vs. EndsBy f want marked own t vs) waits goes.1)
 
   -- behind its flush
-  pub goes_behind : (t : Taken) → IsDone t → marked ≡ true → Does v u Waited → Finishes u w f want marked own recorded t → Proceeds v w f want marked stamp own recorded t
+  pub goes_behind : (t : Taken) → IsDone t → marked ≡ true → Does v u (λ vs. WaitedFor stamp (Ok tt) vs) → Finishes u w f want marked own recorded t → Proceeds v w f want marked stamp own recorded t
   goes_behind Counted done on flushed goes = goes_then Counted (subst (λ m. Does v u (λ vs. WaitsOf m stamp Counted vs)) (sym on) flushed) goes
   goes_behind (InWork progress mine) done on flushed goes = goes_then (InWork progress mine) (subst (λ m. Does v u (λ vs. WaitsOf m stamp (InWork progress mine) vs)) (sym on) flushed) goes
   goes_behind (Waiting mine awaited stop) done on flushed goes = absurd done

@@ -15,8 +15,8 @@ use Rattle.xp_board.specs.declared.step.Act.TheVariants.{Add, Cas, Load, Store}
 use Rattle.xp_board.specs.KindSteps.{raised_kind}
 use Rattle.xp_board.specs.RefSteps.{one_down}
 use Rattle.xp_board.specs.Told.{PortValue}
-use Rattle.answer_fits.specs.Visits.{Visit, visit, Does, Nothing, Only, Then, Waited, Where}
-use Rattle.flush_waits.specs.Waiting.{WaitedFor}
+use Rattle.answer_fits.specs.Visits.{Visit, visit, Does, Nothing, Only, Then, Where}
+use Rattle.flush_waits.specs.Listing.{WaitedFor}
 use Rattle.frame_words.specs.Freeing.{PutBy}
 use Rattle.kind_words.specs.Kinds.{dead_kind, live_kind, partial_kind, work_kind}
 use Rattle.frame_types.specs.Plain.{IsTakenBy, is_own, is_read_first, is_refused, type_stop, waits_by, work_by}
@@ -51,7 +51,7 @@ IsWayOn want marked own recorded (Waiting mine stamp stop) = (marked ≡ true) �
 -- one wait, where it is marked
 abbrev pub WaitsOf : Bool → ℕ → Taken → List Visit → Type 0
 WaitsOf true stamp (Waiting own awaited stop) vs = (awaited ≡ stamp) × WaitedFor stamp (Err stop) vs
-WaitsOf true stamp _ vs = Waited vs
+WaitsOf true stamp _ vs = WaitedFor stamp (Ok tt) vs
 WaitsOf false stamp t vs = Nothing vs
 
 -- ordinary memory is live at once; what is read first loses its mark, where it has one; what waits stays as it came into work

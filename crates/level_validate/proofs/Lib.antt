@@ -2,6 +2,8 @@ mod Acquired
 mod Asking
 mod Completed
 mod Entered
+mod Filling
+mod Forward
 mod LeavingLent
 mod LeavingOwn
 mod LeavingTables
@@ -9,10 +11,14 @@ mod LeftWaiting
 mod Looking
 mod Lowering
 mod Nested
+mod Onward
+mod OnwardEntries
 mod Opening
 mod Outermost
+mod Progressing
 mod Pushing
 mod Requested
+mod Rising
 mod Serving
 mod Sharing
 mod Standing

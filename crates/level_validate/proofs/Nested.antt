@@ -94,7 +94,7 @@ module _ (v w : PortValue) (owner : ℕ) (t u : TableWork) (us : List TableWork)
   abbrev inner : TopTable z w.holdings.steps None t (u ∷ us) w.holdings.works
   inner = top v w owner t (u ∷ us) s
 
-  outer : TopTable z w.holdings.steps (Some t) u us inner.others
+  pub outer : TopTable z w.holdings.steps (Some t) u us inner.others
   outer = tables_top z w.holdings.steps (Some t) u us inner.others inner.around
 
   abbrev mine : TypedReference
@@ -211,10 +211,10 @@ module _ (v w : PortValue) (owner : ℕ) (t u : TableWork) (us : List TableWork)
 
   -- ---- recorded before
   module _ (old : t.recorded ≡ true) where
-    on : TakenOn u outer.work t
+    pub on : TakenOn u outer.work t
     on = reaches_on z w.holdings.steps u outer.work t (Some t) refl old outer.reaches
 
-    asks_on : demand_at (kind_fields outer.work.word).kind (u.done - 1) on.word ≡ Typed t.frame (level_type t.level)
+    pub asks_on : demand_at (kind_fields outer.work.word).kind (u.done - 1) on.word ≡ Typed t.frame (level_type t.level)
     asks_on = ap (λ k. demand_at k (u.done - 1) on.word) outer.is.kind ∙ on.asks
 
     pub live_gives : MayGiveBack d.post.machine d.post.vcpu t.frame d.holdings

@@ -11,9 +11,11 @@ use Rattle.step_maker.proofs.Coming.{came_post, came_self, came_trans}
 use Rattle.table_words.specs.OldWords.{kept_in_old, known_old}
 use Rattle.table_words.specs.declared.old_words.OldWord.TheVariants.{First}
 use Rattle.partial_state.specs.declared.stack.TableWork.{TableWork}
+use Rattle.level_validate.specs.Forward.{Forward}
 use Rattle.level_validate.specs.Serving.{CarriesOn}
 use Rattle.level_validate.specs.Tables.{AreTables, IsStanding, Carries}
 use Rattle.level_validate.specs.Unwinding.{Unwinds, UnwindsTo, UnwoundTo, around_lent, left_so, named_unless, outermost_named, own_domain}
+use Rattle.level_validate.proofs.Forward.{forward_nothing, forward_then}
 use Rattle.level_validate.proofs.LeavingTables.{top, top_gone, top_typed}
 use Rattle.level_validate.proofs.LeavingOwn.{kept_by, typed_gone}
 use Rattle.level_validate.proofs.Serving.{goes_nothing, goes_then}
@@ -99,6 +101,7 @@ stands_unwound v w owner kept (u ∷ us) h some s is = (s, is)
 -- ---- the loop: from u on so many of the tables ts were left, and us stand
 pub record Unwinding (u w : PortValue) (kept : Bool) (ts us : List TableWork) : Type 0 where
   pub came : Came u w
+  pub forward : Forward u w
   pub hand : UnwindsTo u w kept ts us
   pub serves : (owner : ℕ) → CarriesOn u w owner ts us []
 
@@ -107,7 +110,7 @@ begins u v kept [] s = stands_none v u (own_domain u) s
 begins u v kept (t ∷ ts) s = (s, refl)
 
 pub unwinding_begins : (u : PortValue) (kept : Bool) (ts : List TableWork) → Unwinding u u kept ts ts
-unwinding_begins u kept ts = record { came = came_self u; hand = λ v s. begins u v kept ts s; serves = λ owner. goes_nothing u owner ts }
+unwinding_begins u kept ts = record { came = came_self u; forward = forward_nothing u; hand = λ v s. begins u v kept ts s; serves = λ owner. goes_nothing u owner ts }
 
 module _ (u w : PortValue) (kept : Bool) (ts : List TableWork) (t : TableWork) (us : List TableWork) (g : Unwinding u w kept ts (t ∷ us)) where
   same_domain : own_domain u ≡ own_domain w
@@ -130,9 +133,14 @@ module _ (u w : PortValue) (kept : Bool) (ts : List TableWork) (t : TableWork) (
       subst (λ o. UnwoundTo v x o kept rs (outermost_named kept ts v.holdings)) (sym same_domain)
       (subst (λ h. UnwoundTo v x (own_domain w) kept rs h) before.1 (hand v (subst (λ o. Carries v w o (t ∷ us)) same_domain before.0)))
 
-  pub unwinding_on : (x : PortValue) (rs : List TableWork) → Came w x → UnwindsTo w x kept (t ∷ us) rs → ((owner : ℕ) → CarriesOn w x owner (t ∷ us) rs []) → Unwinding u x kept ts rs
-  unwinding_on x rs came hand serves =
-      record { came = came_trans u w x g.came came; hand = on_from x rs hand; serves = λ owner. goes_then u w x owner ts (t ∷ us) rs [] [] (g.serves owner) (serves owner) }
+  pub unwinding_on : (x : PortValue) (rs : List TableWork) → Came w x → Forward w x → UnwindsTo w x kept (t ∷ us) rs → ((owner : ℕ) → CarriesOn w x owner (t ∷ us) rs []) → Unwinding u x kept ts rs
+  unwinding_on x rs came forward hand serves =
+      record {
+        came = came_trans u w x g.came came;
+        forward = forward_then u w x g.forward forward;
+        hand = on_from x rs hand;
+        serves = λ owner. goes_then u w x owner ts (t ∷ us) rs [] [] (g.serves owner) (serves owner);
+      }
 
 pub unwinding_done : (u w : PortValue) (kept : Bool) (ts : List TableWork) → Unwinding u w kept ts [] → Unwinds u w kept ts
 unwinding_done u w kept ts g v s = g.hand v s

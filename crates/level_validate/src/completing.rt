@@ -15,6 +15,7 @@ ghost use Rattle.partial_state.specs.Levels.{level_type};
 ghost use Rattle.partial_state.specs.declared.stack.TableWork.{TableWork};
 ghost use Rattle.level_validate.specs.Completing.{Completes, IsInnerFull, count_for};
 ghost use Rattle.level_validate.specs.Giving.{MayGiveBack};
+ghost use Rattle.level_validate.specs.Forward.{Forward};
 ghost use Rattle.level_validate.specs.Serving.{CarriesOn};
 ghost use Rattle.level_validate.specs.Tables.{IsTopReady, IsStanding, StandsOn};
 
@@ -32,6 +33,7 @@ pub(crate) fn complete_outer<P: Port>(port: &mut P, table: TableWork)
     requires ready { IsTopReady (P.value port.old) }
     requires full { table.done ≡ 512 }
     ensures came { Came (P.value port.old) (P.value port.new) }
+    ensures forward { Forward (P.value port.old) (P.value port.new) }
     ensures hand { Completes (P.value port.old) (P.value port.new) table }
     ensures serves { (owner : ℕ) → CarriesOn (P.value port.old) (P.value port.new) owner (table ∷ []) [] [] }
 {
@@ -46,6 +48,7 @@ pub(crate) fn complete_inner<P: Port>(port: &mut P, stack: &mut Stack)
     requires ready { IsTopReady (P.value port.old) }
     requires full { IsInnerFull stack.old }
     ensures came { Came (P.value port.old) (P.value port.new) }
+    ensures forward { Forward (P.value port.old) (P.value port.new) }
     ensures stands { (owner : ℕ) → StandsOn (P.value port.old) (P.value port.new) owner stack.old stack.new }
     ensures popped { stack.new ≡ drop 1 stack.old }
     ensures progress { Progress (Met (P.value port.old) (P.value port.new)) }
@@ -70,6 +73,7 @@ fn complete_in<P: Port>(port: &mut P, table: TableWork, outer: TableWork)
     requires ready { IsTopReady (P.value port.old) }
     requires full { table.done ≡ 512 }
     ensures came { Came (P.value port.old) (P.value port.new) }
+    ensures forward { Forward (P.value port.old) (P.value port.new) }
     ensures stands { (owner : ℕ) (us : List TableWork) → StandsOn (P.value port.old) (P.value port.new) owner (table ∷ outer ∷ us) (outer ∷ us) }
     ensures serves { (owner : ℕ) (us : List TableWork) → CarriesOn (P.value port.old) (P.value port.new) owner (table ∷ outer ∷ us) (outer ∷ us) [] }
     ensures progress { Progress (Met (P.value port.old) (P.value port.new)) }
@@ -103,6 +107,7 @@ pub(crate) fn give_back<P: Port>(port: &mut P, frame: u32)
     requires may { MayWork (P.value port.old) }
     requires gives { MayGiveBack (P.value port.old).post.machine (P.value port.old).post.vcpu frame (P.value port.old).holdings }
     ensures came { Came (P.value port.old) (P.value port.new) }
+    ensures forward { Forward (P.value port.old) (P.value port.new) }
     ensures hand { Holds (P.value port.old) (P.value port.new) (gave_type frame (P.value port.old).holdings) }
     ensures serves { Serves (P.value port.old) (P.value port.new) (of_back frame) [] }
 {

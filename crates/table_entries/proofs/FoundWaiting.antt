@@ -63,10 +63,10 @@ module _ (b v : PortValue) (f i owner : ℕ) (t : PageType) (g : ℕ) (want : Pa
       (subst (λ o. Does v w (λ vs. LeftBy g want o stamp stop vs)) (sym is) (does_as v w (λ vs. DeadBy g want vs) (λ vs. LeftBy g want true stamp stop vs) (λ vs dead. left_dead_by g want stamp stop vs refused none dead) left))
 
   -- partial, and recorded
-  pub unsettled_found : (y w : PortValue) (clock : ℕ) → own ≡ true → Does v y (λ vs. StoresKind g (partial_kind want false true 0 stamp) vs) → Moves y w Clock Load kinds.Look (Some (Record f (i + 1))) clock →
+  pub unsettled_found : (y w : PortValue) (clock : ℕ) → (is_refused stop ≡ true → is_read_first want ≡ true) → own ≡ true → Does v y (λ vs. StoresKind g (partial_kind want false true 0 stamp) vs) → Moves y w Clock Load kinds.Look (Some (Record f (i + 1))) clock →
       EntersFound b w f i t owner (Ok (Unsettled stop))
-  unsettled_found y w clock is left m =
+  unsettled_found y w clock first is left m =
       behind_taken w (Ok (Unsettled stop)) (Then (λ vs. StoresKind g (partial_kind want false true 0 stamp) vs) (λ vs. Records f (i + 1) vs))
       (does_then v y w (λ vs. StoresKind g (partial_kind want false true 0 stamp) vs) (λ vs. Records f (i + 1) vs) left (does_record y w f (i + 1) clock m))
       (λ vs steps.
-      record { stamp = stamp; steps = subst (λ o. Then (λ ts. TakesOf g want (Waiting o stamp stop) ts) (Then (λ vs. StoresKind g (partial_kind want false true 0 stamp) vs) (λ vs. Records f (i + 1) vs)) vs) is steps })
+      record { stamp = stamp; first = first; steps = subst (λ o. Then (λ ts. TakesOf g want (Waiting o stamp stop) ts) (Then (λ vs. StoresKind g (partial_kind want false true 0 stamp) vs) (λ vs. Records f (i + 1) vs)) vs) is steps })

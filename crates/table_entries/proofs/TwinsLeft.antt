@@ -120,12 +120,13 @@ module _ (b v : PortValue) (f i owner : ℕ) (t : PageType) (g : ℕ) (want : Pa
       (told_alike w _ (left_dead g want (told_word late.x)) (leaves (on_v telling)) (dead_left g want some mark own stamp low stop (told_word late.x) (told_word v) (way telling) (waiting telling).2 (owned (on_v telling)))))
 
   -- partial, and recorded
-  pub twin_unsettled : (y w : PortValue) → own ≡ true → (is_telling v ≡ true → Leaves y (set_kind g (partial_kind want false true 0 stamp) (told_word v))) → (is_telling v ≡ true → told_word w ≡ told_word y) → TwinEntry b w f t i owner (Ok (Unsettled stop))
-  twin_unsettled y w mine leaves same =
+  pub twin_unsettled : (y w : PortValue) → (is_refused stop ≡ true → is_read_first want ≡ true) → own ≡ true → (is_telling v ≡ true → Leaves y (set_kind g (partial_kind want false true 0 stamp) (told_word v))) → (is_telling v ≡ true → told_word w ≡ told_word y) → TwinEntry b w f t i owner (Ok (Unsettled stop))
+  twin_unsettled y w first mine leaves same =
       behind_ref w (Ok (Unsettled stop))
       (λ telling. (
         (waits_is telling).0,
         sym (waits_is telling).1 ∙ mine,
+        first,
         told_alike w _ (left_partial g want (told_word late.x)) (λ q. ap (λ (m : Words). m q) (same (on_v telling)) ∙ leaves (on_v telling) q)
             (partial_left g want some mark own stamp low stop (told_word late.x) (told_word v) (way telling) (waiting telling).2),
       ))

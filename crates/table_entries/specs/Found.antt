@@ -18,7 +18,7 @@ use Rattle.frame_words.specs.Freeing.{PutBy}
 use Rattle.frame_words.specs.Refs.{GetsBy, TakesFirst}
 use Rattle.kind_words.specs.Kinds.{partial_kind}
 use Rattle.frame_types.specs.Found.{DeadBy, SharedBy, StoresKind, TakesOf, TypeBy, saw_kind}
-use Rattle.frame_types.specs.Plain.{is_read_first}
+use Rattle.frame_types.specs.Plain.{is_read_first, is_refused}
 use Rattle.frame_types.specs.declared.taking.Taken.TheVariants as types
 use Rattle.table_words.specs.Entries.{Records}
 use Rattle.table_entries.specs.declared.entries.Entered.{Entered}
@@ -45,6 +45,7 @@ pub record LeftAfter (g : ℕ) (t : PageType) (stop : Stop) (vs : List Visit) : 
 -- It waits, and is recorded: partial by the entry's own type count.
 pub record UnsettledBy (g : ℕ) (t : PageType) (f i : ℕ) (stop : Stop) (vs : List Visit) : Type 0 where
   pub stamp : ℕ
+  pub first : is_refused stop ≡ true → is_read_first t ≡ true
   pub steps : Then (λ ts. TakesOf g t (types.Waiting true stamp stop) ts) (Then (StoresKind g (partial_kind t false true 0 stamp)) (Records f (i + 1))) vs
 
 -- the type is not to be had, and the reference is given back

@@ -19,7 +19,7 @@ use Rattle.step_maker.specs.Plain.{Words, Leaves}
 use Rattle.answer_fits.specs.Twins.{Alike}
 use Rattle.frame_words.specs.Plain.{got, put, refer}
 use Rattle.kind_words.specs.Kinds.{dead_kind, partial_kind}
-use Rattle.frame_types.specs.Plain.{IsTakenBy, is_own, is_read_first, less_kept, set_kind, taken, type_stop, type_waits}
+use Rattle.frame_types.specs.Plain.{IsTakenBy, is_own, is_read_first, is_refused, less_kept, set_kind, taken, type_stop, type_waits}
 use Rattle.frame_types.specs.Standing.{standing_of}
 use Rattle.frame_types.specs.declared.taking.Taken.{Taken}
 use Rattle.frame_types.specs.declared.taking.Taken.TheVariants as types
@@ -62,7 +62,7 @@ WaitsPlainly w m g t false = Alike (told_word w) (left_shared g t m)
 abbrev pub TypesPlainly : PortValue → Words → ℕ → PageType → Result Entered Stop → Type 0
 TypesPlainly w m g t (Ok Recorded) = IsTakenOf m g t types.Counted × Alike (told_word w) (taken g t types.Counted m)
 TypesPlainly w m g t (Ok (Opened f progress own)) = (f ≡ g) × IsTakenOf m g t (types.InWork progress own) × Alike (told_word w) (taken g t (types.InWork progress own) m)
-TypesPlainly w m g t (Ok (Unsettled stop)) = (type_waits t (m (Kind g)) ≡ true) × (is_own_of m g t ≡ true) × Alike (told_word w) (left_partial g t m)
+TypesPlainly w m g t (Ok (Unsettled stop)) = (type_waits t (m (Kind g)) ≡ true) × (is_own_of m g t ≡ true) × (is_refused stop ≡ true → is_read_first t ≡ true) × Alike (told_word w) (left_partial g t m)
 TypesPlainly w m g t (Err (Refused (refusals.Clock x))) = (type_waits t (m (Kind g)) ≡ true) × WaitsPlainly w m g t (is_own_of m g t)
 TypesPlainly w m g t (Err (Paused (Flush u y x))) = (type_waits t (m (Kind g)) ≡ true) × (is_own_of m g t ≡ false) × Alike (told_word w) (left_shared g t m)
 TypesPlainly w m g t (Err e) = (type_stop g t (m (Kind g)) ≡ Some e) × Leaves w (put g m)

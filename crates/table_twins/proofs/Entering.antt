@@ -150,7 +150,7 @@ module _ (n : Machine) (w : PortValue) (m : Words) (p : Plain) (f i l owner : �
           subst (λ (o : PlainOutcome). (o.refusal ≡ None) × Describes n (told_word w) o.left) (sym t.takes) (refl, t.describes)
       types_plain (Ok (Opened h progress own)) a =
           (fine_there is, (a.0, λ ready. taken_plain n (got g m) (told_word w) lent l owner g (types.InWork progress own) machine taken_as in_range ready a.1.0 a.1.1 a.2))
-      types_plain (Ok (Unsettled stop)) a = (fine_there is, (a.0, a.1, λ ready. partial_again n (got g m) (told_word w) lent l g taken_as in_range ready a.0 a.2))
+      types_plain (Ok (Unsettled stop)) a = (fine_there is, (a.0, a.1, λ ready. partial_again n (got g m) (told_word w) lent l g taken_as in_range ready a.0 a.3))
       types_plain (Err (Refused (refusals.Clock x))) a = (fine_there is, (a.0, λ ready. given_back n (got g m) w lent l g taken_as in_range share shared ready a.0 a.1))
       types_plain (Err (Refused _)) a = stopped _ a
       types_plain (Err (Paused (pauses.Flush u y x))) a = (fine_there is, (a.0, a.1, shared_again n (got g m) (told_word w) lent l g taken_as in_range share shared a.2))

@@ -3,8 +3,10 @@ use Rattle.xp_board.specs.Told.{Post}
 use Rattle.step_maker.proofs.Coming.{came_post, came_trans, moves_came}
 use Rattle.level_validate.specs.Serving.{CarriesOn}
 use Rattle.level_validate.proofs.Completed.{live_hand, live_leaves}
+use Rattle.level_validate.proofs.Forward.{forward_step, forward_then}
 use Rattle.level_validate.proofs.LeavingTables.{top_inside}
 use Rattle.level_validate.proofs.Nested.{live_gives, live_records, new_ready, new_stands, old_ready, old_stands}
+use Rattle.level_validate.proofs.Progressing.{progress_after, progress_before, progress_records, progress_settles}
 use Rattle.level_validate.proofs.Serving.{piece_back, piece_left, piece_records, piece_rest}
 use Rattle.level_validate.proofs.completing.complete_in.Goals as goal
 
@@ -175,3 +177,37 @@ returns-else-table-clause-serves g c owner us u r ds a =
     let b = c.requires.stands in
     let left = piece_left b.2.0 w b.0 t (o ∷ b.1) b.2.1 _ (live_leaves b.2.0 w b.0 t (o ∷ b.1) b.2.1 c.requires.full c.requires.ready t.own refl c.requires.may).is refl d c.make_live.result c.make_live.ensures.moves u r owner (o ∷ us) ds a in
     piece_rest u x r owner t (o ∷ us) ds (piece_records u d x r owner (t ∷ o ∷ us) ds left o.frame o.done c.record_entry.result c.record_entry.ensures.moves)
+
+pub returns-then-table-clause-progress : goal.returns-then-table-clause-progress
+returns-then-table-clause-progress g c =
+    let w = g.P.Port.value c.args.port.now in
+    let t = c.args.table in
+    let u = c.args.outer in
+    let d = g.P.Port.value c.make_live.new.port in
+    let x = g.P.Port.value c.give_back.new.port in
+    let b = c.requires.stands in
+    let l = live_hand b.2.0 w b.0 t (u ∷ b.1) b.2.1 t.own refl d c.make_live.ensures.hand in
+    progress_before w d x c.give_back.ensures.came
+    (progress_settles b.2.0 w b.0 t u b.1 b.2.1 d c.make_live.result c.make_live.ensures.moves l c.if-table.true (live_leaves b.2.0 w b.0 t (u ∷ b.1) b.2.1 c.requires.full c.requires.ready t.own refl c.requires.may).is)
+
+pub returns-else-table-clause-progress : goal.returns-else-table-clause-progress
+returns-else-table-clause-progress g c =
+    let w = g.P.Port.value c.args.port.now in
+    let d = g.P.Port.value c.make_live.new.port in
+    let x = g.P.Port.value c.record_entry.new.port in
+    let came_d = moves_came w d _ _ _ _ c.make_live.result c.make_live.ensures.moves in
+    progress_after w d x came_d (progress_records d x c.args.outer.frame c.args.outer.done c.record_entry.result c.record_entry.ensures.moves)
+
+pub returns-then-table-clause-forward : goal.returns-then-table-clause-forward
+returns-then-table-clause-forward g c =
+    let w = g.P.Port.value c.args.port.now in
+    let d = g.P.Port.value c.make_live.new.port in
+    let x = g.P.Port.value c.give_back.new.port in
+    forward_then w d x (forward_step w d _ _ _ _ c.make_live.result refl refl c.make_live.ensures.moves) c.give_back.ensures.forward
+
+pub returns-else-table-clause-forward : goal.returns-else-table-clause-forward
+returns-else-table-clause-forward g c =
+    let w = g.P.Port.value c.args.port.now in
+    let d = g.P.Port.value c.make_live.new.port in
+    let x = g.P.Port.value c.record_entry.new.port in
+    forward_then w d x (forward_step w d _ _ _ _ c.make_live.result refl refl c.make_live.ensures.moves) (forward_step d x _ _ _ _ c.record_entry.result refl refl c.record_entry.ensures.moves)

@@ -2,6 +2,7 @@ use Rattle.std.proofs.Common.{[], refl}
 use Rattle.step_maker.proofs.Coming.{moves_came}
 use Rattle.level_validate.specs.Serving.{CarriesOn}
 use Rattle.level_validate.proofs.Completed.{live_hand, live_leaves, outer_live}
+use Rattle.level_validate.proofs.Forward.{forward_step}
 use Rattle.level_validate.proofs.LeavingTables.{top_inside}
 use Rattle.level_validate.proofs.Serving.{piece_left, piece_rest}
 use Rattle.level_validate.proofs.completing.complete_outer.Goals as goal
@@ -31,3 +32,6 @@ returns-clause-serves g c owner u r ds a =
     let d = g.P.Port.value c.make_live.new.port in
     piece_rest u d r owner t [] ds
     (piece_left b.1.0 w b.0 t [] b.1.1 _ (live_leaves b.1.0 w b.0 t [] b.1.1 c.requires.full c.requires.ready t.own refl c.requires.may).is refl d c.make_live.result c.make_live.ensures.moves u r owner [] ds a)
+
+pub returns-clause-forward : goal.returns-clause-forward
+returns-clause-forward g c = forward_step (g.P.Port.value c.args.port.now) (g.P.Port.value c.make_live.new.port) _ _ _ _ c.make_live.result refl refl c.make_live.ensures.moves

@@ -1,7 +1,10 @@
-use Rattle.std.proofs.Common.{[]}
+use Rattle.std.proofs.Common.{[], refl}
 use Rattle.answer_fits.specs.Asked.{of_back}
 use Rattle.answer_fits.proofs.Piecing.{serves_came, serves_then}
 use Rattle.step_maker.proofs.Coming.{came_trans}
+use Rattle.frame_words.specs.Freeing.{PutBy}
+use Rattle.level_validate.proofs.Forward.{forward_by, forward_step, forward_then}
+use Rattle.level_validate.proofs.Onward.{put_onward}
 use Rattle.level_validate.proofs.Sharing.{back_given, back_puts, never_last}
 use Rattle.level_validate.proofs.completing.give_back.Goals as goal
 
@@ -28,3 +31,11 @@ returns-clause-serves g c =
     let a = g.P.Port.value c.drop_type.new.port in
     let w = g.P.Port.value c.put_ref.new.port in
     serves_then v a w (of_back c.args.frame) [] [] c.drop_type.ensures.serves c.put_ref.ensures.serves
+
+pub returns-clause-forward : goal.returns-clause-forward
+returns-clause-forward g c =
+    let v = g.P.Port.value c.args.port.now in
+    let a = g.P.Port.value c.drop_type.new.port in
+    let w = g.P.Port.value c.put_ref.new.port in
+    let drops = c.drop_type.ensures.drops in
+    forward_then v a w (forward_step v a _ _ _ _ drops.found refl refl drops.lowers.step) (forward_by a w (PutBy c.args.frame) (λ vs puts. put_onward c.args.frame vs puts) c.put_ref.ensures.puts)

@@ -28,6 +28,10 @@ use Rattle.level_validate.proofs.Visited.{resumed_first}
 use Rattle.level_validate.proofs.Standing.{standing_above, standing_held, standing_looked, standing_top}
 use Rattle.level_validate.proofs.StandsFacts.{may_back, may_stands}
 use Rattle.level_validate.proofs.Waiting.{left_waiting, taken_found, wait_stops, waited_found, waits_there}
+use Rattle.frame_types.specs.Found.{DeadBy, SharedBy}
+use Rattle.level_validate.proofs.Forward.{forward_by, forward_nothing, forward_then}
+use Rattle.level_validate.proofs.Onward.{dead_onward, shared_onward}
+use Rattle.level_validate.proofs.OnwardEntries.{resumes_forward}
 use Rattle.level_validate.proofs.entering.+take_on.Goals as goal
 
 pub returns-then-top-eq0-clause-came : goal.returns-then-top-eq0-clause-came
@@ -577,3 +581,50 @@ returns-else-own-clause-stops g n c =
     let k = c.level_type.result in
     let shows = λ (pages : ℕ). subst (λ r. ShowsResumed u x owner pages k r) c.in-Waiting.is (c.in_ok-resume_entry.ensures.shows pages) in
     stops_on u x owner c.args.stack.now c.in-Waiting.stop (g.P.Port.value c.leave_shared.new.port) c.leave_shared.ensures.came (stops_entries u x owner c.args.stack.now c.in-Waiting.stop (λ pages. (shows pages).2))
+
+pub returns-then-top-eq0-clause-forward : goal.returns-then-top-eq0-clause-forward
+returns-then-top-eq0-clause-forward g n c = forward_nothing (g.P.Port.value c.args.port.now)
+
+pub returns-in_err-resume_entry-clause-forward : goal.returns-in_err-resume_entry-clause-forward
+returns-in_err-resume_entry-clause-forward g n c =
+    resumes_forward (g.P.Port.value c.args.port.now) (g.P.Port.value c.resume_entry.new.port) c.args.owner c.args.top c.args.stack.now c.requires.top c.requires.stands c.level_type.result c.level_type.ensures _ c.if-top-eq0.false
+    c.in_err-resume_entry.ensures.found
+
+pub returns-in-Settled-clause-forward : goal.returns-in-Settled-clause-forward
+returns-in-Settled-clause-forward g n c =
+    resumes_forward (g.P.Port.value c.args.port.now) (g.P.Port.value c.resume_entry.new.port) c.args.owner c.args.top c.args.stack.now c.requires.top c.requires.stands c.level_type.result c.level_type.ensures _ c.if-top-eq0.false
+    c.in_ok-resume_entry.ensures.found
+
+pub returns-in-Taken-clause-forward : goal.returns-in-Taken-clause-forward
+returns-in-Taken-clause-forward g n c =
+    let u = g.P.Port.value c.args.port.now in
+    let x = g.P.Port.value c.resume_entry.new.port in
+    forward_then u x (g.P.Port.value c.give_back.new.port)
+    (resumes_forward u x c.args.owner c.args.top c.args.stack.now c.requires.top c.requires.stands c.level_type.result c.level_type.ensures _ c.if-top-eq0.false c.in_ok-resume_entry.ensures.found) c.give_back.ensures.forward
+
+pub returns-in-Opened-clause-forward : goal.returns-in-Opened-clause-forward
+returns-in-Opened-clause-forward g n c =
+    let u = g.P.Port.value c.args.port.now in
+    let x = g.P.Port.value c.resume_entry.new.port in
+    forward_then u x (g.P.Port.value c.take_on.new.port)
+    (resumes_forward u x c.args.owner c.args.top c.args.stack.now c.requires.top c.requires.stands c.level_type.result c.level_type.ensures _ c.if-top-eq0.false c.in_ok-resume_entry.ensures.found) c.take_on.ensures.forward
+
+pub returns-then-own-clause-forward : goal.returns-then-own-clause-forward
+returns-then-own-clause-forward g n c =
+    let u = g.P.Port.value c.args.port.now in
+    let x = g.P.Port.value c.resume_entry.new.port in
+    let y = g.P.Port.value c.leave_dead.new.port in
+    let f = c.in-Waiting.frame in
+    let k = c.level_type-kind.result in
+    forward_then u x y (resumes_forward u x c.args.owner c.args.top c.args.stack.now c.requires.top c.requires.stands c.level_type.result c.level_type.ensures _ c.if-top-eq0.false c.in_ok-resume_entry.ensures.found)
+    (forward_by x y (λ vs. DeadBy f k vs) (dead_onward f k) c.leave_dead.ensures.visits)
+
+pub returns-else-own-clause-forward : goal.returns-else-own-clause-forward
+returns-else-own-clause-forward g n c =
+    let u = g.P.Port.value c.args.port.now in
+    let x = g.P.Port.value c.resume_entry.new.port in
+    let y = g.P.Port.value c.leave_shared.new.port in
+    let f = c.in-Waiting.frame in
+    let k = c.level_type-kind.result in
+    forward_then u x y (resumes_forward u x c.args.owner c.args.top c.args.stack.now c.requires.top c.requires.stands c.level_type.result c.level_type.ensures _ c.if-top-eq0.false c.in_ok-resume_entry.ensures.found)
+    (forward_by x y (λ vs. SharedBy f k c.in-Waiting.stamp vs) (shared_onward f k c.in-Waiting.stamp) c.leave_shared.ensures.visits)

@@ -25,6 +25,8 @@ use Rattle.level_validate.proofs.Pushing.{pushed}
 use Rattle.level_validate.proofs.Standing.{standing_above, standing_held, standing_known, standing_looked, standing_next}
 use Rattle.level_validate.proofs.StandsFacts.{may_back, may_stands}
 use Rattle.level_validate.proofs.Waiting.{wait_stops}
+use Rattle.level_validate.proofs.Forward.{forward_then}
+use Rattle.level_validate.proofs.OnwardEntries.{enters_forward}
 use Rattle.level_validate.proofs.entering.enter.Goals as goal
 
 pub take_entry-requires-clause-frame : goal.take_entry-requires-clause-frame
@@ -407,3 +409,28 @@ returns-in-Unsettled-clause-stops g c =
     let owner = c.args.owner in
     let shows = λ (pages : ℕ). subst (λ r. ShowsEntered u x owner pages c.level_type.result r) c.in-Unsettled.is (c.in_ok-take_entry.ensures.shows pages) in
     stops_entries u x owner c.args.stack.now c.in-Unsettled.stop (λ pages. (shows pages).2)
+
+pub returns-in-Recorded-clause-progress : goal.returns-in-Recorded-clause-progress
+returns-in-Recorded-clause-progress g c same =
+    let u = g.P.Port.value c.args.port.now in
+    let x = g.P.Port.value c.take_entry.new.port in
+    subst (λ r. ShowsEntered u x c.args.owner 0 c.level_type.result r) c.in-Recorded.is (c.in_ok-take_entry.ensures.shows 0)
+
+pub returns-in_err-take_entry-clause-forward : goal.returns-in_err-take_entry-clause-forward
+returns-in_err-take_entry-clause-forward g c =
+    enters_forward (g.P.Port.value c.args.port.now) (g.P.Port.value c.take_entry.new.port) c.args.owner c.in-Some.top c.args.stack.now c.in-Some.ensures.some c.requires.stands c.level_type.result c.level_type.ensures _ c.in_err-take_entry.ensures.found
+
+pub returns-in-Recorded-clause-forward : goal.returns-in-Recorded-clause-forward
+returns-in-Recorded-clause-forward g c =
+    enters_forward (g.P.Port.value c.args.port.now) (g.P.Port.value c.take_entry.new.port) c.args.owner c.in-Some.top c.args.stack.now c.in-Some.ensures.some c.requires.stands c.level_type.result c.level_type.ensures _ c.in_ok-take_entry.ensures.found
+
+pub returns-in-Opened-clause-forward : goal.returns-in-Opened-clause-forward
+returns-in-Opened-clause-forward g c =
+    let u = g.P.Port.value c.args.port.now in
+    let x = g.P.Port.value c.take_entry.new.port in
+    forward_then u x (g.P.Port.value c.take_on.new.port)
+    (enters_forward u x c.args.owner c.in-Some.top c.args.stack.now c.in-Some.ensures.some c.requires.stands c.level_type.result c.level_type.ensures _ c.in_ok-take_entry.ensures.found) c.take_on.ensures.forward
+
+pub returns-in-Unsettled-clause-forward : goal.returns-in-Unsettled-clause-forward
+returns-in-Unsettled-clause-forward g c =
+    enters_forward (g.P.Port.value c.args.port.now) (g.P.Port.value c.take_entry.new.port) c.args.owner c.in-Some.top c.args.stack.now c.in-Some.ensures.some c.requires.stands c.level_type.result c.level_type.ensures _ c.in_ok-take_entry.ensures.found

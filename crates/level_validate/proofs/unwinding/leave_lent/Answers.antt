@@ -7,6 +7,9 @@ use Rattle.level_validate.proofs.LeavingTables.{top_spelled}
 use Rattle.level_validate.proofs.Serving.{piece_around, piece_back, piece_left, piece_rest}
 use Rattle.level_validate.specs.Unwinding.{own_domain}
 use Rattle.level_validate.proofs.LeavingLent.{lent_puts, lent_stands}
+use Rattle.frame_words.specs.Freeing.{PutBy}
+use Rattle.level_validate.proofs.Forward.{forward_by, forward_step, forward_then}
+use Rattle.level_validate.proofs.Onward.{put_onward}
 use Rattle.level_validate.proofs.unwinding.leave_lent.Goals as goal
 
 pub put_ref-requires-clause-gives : goal.put_ref-requires-clause-gives
@@ -41,3 +44,11 @@ returns-clause-serves g c owner ts u r ds a =
     let spelled = top_spelled b.1.0 w (own_domain w) t b.0 b.1.1 false (λ on. absurd cc) in
     let left = piece_left b.1.0 w (own_domain w) t b.0 b.1.1 _ spelled refl d c.leave_partial.result c.leave_partial.ensures.moves u r owner ts ds a in
     piece_around t.recorded u x r owner ts ds (piece_rest u x r owner t ts ds (piece_back u d x r owner t ts ds left c.put_ref.ensures.serves))
+
+pub returns-clause-forward : goal.returns-clause-forward
+returns-clause-forward g c =
+    let w = g.P.Port.value c.args.port.now in
+    let d = g.P.Port.value c.leave_partial.new.port in
+    let x = g.P.Port.value c.put_ref.new.port in
+    let f = c.args.table.frame in
+    forward_then w d x (forward_step w d _ _ _ _ c.leave_partial.result refl refl c.leave_partial.ensures.moves) (forward_by d x (PutBy f) (λ vs puts. put_onward f vs puts) c.put_ref.ensures.puts)

@@ -5,6 +5,7 @@ use Rattle.level_validate.proofs.Serving.{piece_left, piece_names, piece_rest}
 use Rattle.level_validate.specs.Unwinding.{own_domain}
 use Rattle.level_validate.proofs.LeavingTables.{left_as, top_held, top_spelled}
 use Rattle.level_validate.proofs.Unwound.{outer_held, outer_kept, outer_named}
+use Rattle.level_validate.proofs.Forward.{forward_step, forward_then}
 use Rattle.level_validate.proofs.unwinding.leave_named.Goals as goal
 
 pub put_old-requires-clause-held : goal.put_old-requires-clause-held
@@ -63,3 +64,13 @@ returns-else-not-kept-clause-serves g c owner u r ds a =
     let d = g.P.Port.value c.leave_partial.new.port in
     let spelled = top_spelled b.0 w (own_domain w) t [] b.1 c.args.kept (λ on. c.requires.own) in
     piece_rest u d r owner t [] ds (piece_left b.0 w (own_domain w) t [] b.1 _ spelled refl d c.leave_partial.result c.leave_partial.ensures.moves u r owner [] ds a)
+
+pub returns-then-not-kept-clause-forward : goal.returns-then-not-kept-clause-forward
+returns-then-not-kept-clause-forward g c =
+    let w = g.P.Port.value c.args.port.now in
+    let d = g.P.Port.value c.leave_partial.new.port in
+    let x = g.P.Port.value c.put_old.new.port in
+    forward_then w d x (forward_step w d _ _ _ _ c.leave_partial.result refl refl c.leave_partial.ensures.moves) (forward_step d x _ _ _ _ 0 refl refl c.put_old.ensures.moves)
+
+pub returns-else-not-kept-clause-forward : goal.returns-else-not-kept-clause-forward
+returns-else-not-kept-clause-forward g c = forward_step (g.P.Port.value c.args.port.now) (g.P.Port.value c.leave_partial.new.port) _ _ _ _ c.leave_partial.result refl refl c.leave_partial.ensures.moves

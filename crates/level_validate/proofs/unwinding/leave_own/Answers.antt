@@ -6,6 +6,7 @@ use Rattle.level_validate.specs.Unwinding.{own_domain}
 use Rattle.step_maker.proofs.Coming.{came_trans, moves_came}
 use Rattle.level_validate.proofs.LeavingOwn.{kept_stands, own_records, own_stands}
 use Rattle.level_validate.proofs.LeavingTables.{is_so, left_as, not_so, store_as, top_spelled}
+use Rattle.level_validate.proofs.Forward.{forward_step, forward_then}
 use Rattle.level_validate.proofs.unwinding.leave_own.Goals as goal
 
 pub record_entry-requires : goal.record_entry-requires
@@ -73,3 +74,13 @@ returns-else-not-table-clause-serves g c owner u r ds a =
     let d = g.P.Port.value c.leave_partial.new.port in
     let spelled = top_spelled b.0 w (own_domain w) t ts b.1 t.recorded (λ on. c.requires.own) in
     piece_rest u d r owner t ts ds (piece_left b.0 w (own_domain w) t ts b.1 _ spelled refl d c.leave_partial.result c.leave_partial.ensures.moves u r owner ts ds a)
+
+pub returns-in-Some-clause-forward : goal.returns-in-Some-clause-forward
+returns-in-Some-clause-forward g c =
+    let w = g.P.Port.value c.args.port.now in
+    let d = g.P.Port.value c.leave_partial.new.port in
+    let x = g.P.Port.value c.record_entry.new.port in
+    forward_then w d x (forward_step w d _ _ _ _ c.leave_partial.result refl refl c.leave_partial.ensures.moves) (forward_step d x _ _ _ _ c.record_entry.result refl refl c.record_entry.ensures.moves)
+
+pub returns-else-not-table-clause-forward : goal.returns-else-not-table-clause-forward
+returns-else-not-table-clause-forward g c = forward_step (g.P.Port.value c.args.port.now) (g.P.Port.value c.leave_partial.new.port) _ _ _ _ c.leave_partial.result refl refl c.leave_partial.ensures.moves

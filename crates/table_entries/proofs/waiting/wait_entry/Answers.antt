@@ -1,4 +1,5 @@
-use Rattle.std.proofs.Common.{true, false, ◌+◌, sym, ap, ◌∙◌}
+use Rattle.xp_words.specs.PageTypes.{type_number}
+use Rattle.std.proofs.Common.{◌||◌, ◌==◌, true, false, ◌+◌, sym, ap, ◌∙◌}
 use Rattle.table_entries.proofs.HandWaits.{has_entries, is_own, is_waiting, not_own, unsettled_hand, unsettled_records, wait_gave}
 use Rattle.table_entries.proofs.PiecesWaiting.{waits_left, waits_unsettled}
 use Rattle.xp_words.specs.declared.place.Place.TheVariants.{Clock}
@@ -7,7 +8,7 @@ use Rattle.frame_types.specs.Plain.{is_refused}
 use Rattle.table_entries.proofs.TwinsLooked.{load_keeps}
 use Rattle.table_entries.proofs.TwinsLeft.{own_is_not, twin_dead, twin_shared, twin_unsettled}
 use Rattle.table_entries.proofs.FoundWaiting.{dead_found, shared_found, unsettled_found}
-use Rattle.table_entries.proofs.waiting.wait_entry.Goals.{in-Refused, in_default}
+use Rattle.table_entries.proofs.waiting.wait_entry.Goals.{else-matches-via-else-matches, else-matches-via-then-matches+else-not-is_table, in-Refused, in_default}
 use Rattle.table_entries.proofs.waiting.wait_entry.Goals as goal
 use Rattle.xp_board.specs.declared.step.StepKind.TheVariants as kinds
 
@@ -121,7 +122,16 @@ returns-clause-plain g c b late =
     let v = g.P.Port.value c.args.port.now in
     let y = g.P.Port.value c.leave_unsettled.new.port in
     let w = g.P.Port.value c.record_entry.new.port in
-    twin_unsettled b v c.args.at.table c.args.at.index c.args.at.owner c.args.at.kind c.args.late.frame c.args.late.want c.args.late.own c.args.late.stamp c.args.late.stop late y w (own_is_not c.args.late.own false c.if-not-late.false)
+    twin_unsettled b v c.args.at.table c.args.at.index c.args.at.owner c.args.at.kind c.args.late.frame c.args.late.want c.args.late.own c.args.late.stamp c.args.late.stop late y w
+    (λ refused.
+    elim c.else-matches.branch [
+      | else-matches-via-then-matches+else-not-is_table w ↦ ap (λ o. o || (type_number c.args.late.want == 5)) (sym w.is_table.ensures ∙ w.if-not-is_table.false)
+      | else-matches-via-else-matches w ↦
+          absurd (elim c.match-matches.branch [
+            | in-Refused k ↦ (let e = w.if-matches.false in let o = k.matches-is in absurd cc)
+            | in_default k ↦ (let e = sym (ap (λ o. is_refused o) k.in_default.is) ∙ refused in absurd cc)
+          ])
+    ]) (own_is_not c.args.late.own false c.if-not-late.false)
     c.leave_unsettled.ensures.plain (λ telling. load_keeps y w Clock kinds.Look _ c.record_entry.result c.record_entry.ensures.moves (came_telling v y c.leave_unsettled.ensures.came ∙ telling))
 
 pub returns-then-not-late-clause-found : goal.returns-then-not-late-clause-found
@@ -146,5 +156,14 @@ returns-clause-found g c b late =
     let v = g.P.Port.value c.args.port.now in
     let y = g.P.Port.value c.leave_unsettled.new.port in
     let w = g.P.Port.value c.record_entry.new.port in
-    unsettled_found b v c.args.at.table c.args.at.index c.args.at.owner c.args.at.kind c.args.late.frame c.args.late.want c.args.late.own c.args.late.stamp c.args.late.stop late y w c.record_entry.result (own_is_not c.args.late.own false c.if-not-late.false)
+    unsettled_found b v c.args.at.table c.args.at.index c.args.at.owner c.args.at.kind c.args.late.frame c.args.late.want c.args.late.own c.args.late.stamp c.args.late.stop late y w c.record_entry.result
+    (λ refused.
+    elim c.else-matches.branch [
+      | else-matches-via-then-matches+else-not-is_table w ↦ ap (λ o. o || (type_number c.args.late.want == 5)) (sym w.is_table.ensures ∙ w.if-not-is_table.false)
+      | else-matches-via-else-matches w ↦
+          absurd (elim c.match-matches.branch [
+            | in-Refused k ↦ (let e = w.if-matches.false in let o = k.matches-is in absurd cc)
+            | in_default k ↦ (let e = sym (ap (λ o. is_refused o) k.in_default.is) ∙ refused in absurd cc)
+          ])
+    ]) (own_is_not c.args.late.own false c.if-not-late.false)
     c.leave_unsettled.ensures.visits c.record_entry.ensures.moves

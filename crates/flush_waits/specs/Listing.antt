@@ -1,0 +1,63 @@
+-- The steps of a wait for flushes as a list: one vCPU after the other, each looked at once.
+use Rattle.std.specs.Prelude.{◌≡◌, ◌≢◌, ◌⊎◌, ℕ, ◌+◌, ◌<◌, ◌≤◌, List, ◌++◌, Option, Some, None, Result, Ok, Err}
+use Rattle.xp_words.specs.Places.{asked_of, flushed_of, run_of}
+use Rattle.xp_words.specs.declared.place.Place.TheVariants.{Priv}
+use Rattle.xp_words.specs.declared.reply.Pause.TheVariants.{Flush}
+use Rattle.xp_words.specs.declared.reply.Refusal.{Refusal}
+use Rattle.xp_words.specs.declared.reply.Stop.{Stop}
+use Rattle.xp_words.specs.declared.reply.Stop.TheVariants.{Refused, Paused}
+use Rattle.xp_board.specs.declared.step.Act.TheVariants.{Load, Max}
+use Rattle.answer_fits.specs.Visits.{Visit, visit, Nothing, Only, Then}
+use Rattle.flush_words.specs.Flushing.{FlushedBy}
+
+abbrev pub saw_run : ℕ → ℕ → Visit
+saw_run u x = visit (run_of u) Load x
+
+abbrev pub saw_flushed : ℕ → ℕ → Visit
+saw_flushed u x = visit (flushed_of u) Load x
+
+-- the privileges of its domain were looked at, or need not be
+abbrev pub WeighsBy : List Visit → Type 0
+WeighsBy vs = Nothing vs ⊎ ((d : ℕ) × (x : ℕ) × Only (visit (Priv d) Load x) vs)
+
+-- ---- one vCPU
+-- It does not run, or was flushed later than the stamp, or has no translation of the frame; or it is behind, and is asked. The own one is
+-- flushed where it is behind, or the clock is at its last value.
+pub data LooksBy (stamp u : ℕ) (vs : List Visit) : Result (Option ℕ) Refusal → Type 0 where
+  idle : (x : ℕ) → x ≢ 0 → Only (saw_run u x) vs → LooksBy stamp u vs (Ok None)
+  late : (y : ℕ) → stamp < y → Then (Only (saw_run u 0)) (Only (saw_flushed u y)) vs → LooksBy stamp u vs (Ok None)
+  barred : (y d x : ℕ) → y ≤ stamp → Then (Only (saw_run u 0)) (Then (Only (saw_flushed u y)) (Only (visit (Priv d) Load x))) vs → LooksBy stamp u vs (Ok None)
+  behind : (y z : ℕ) → y ≤ stamp → Then (Only (saw_run u 0)) (Then (Only (saw_flushed u y)) (Then (λ ws. WeighsBy ws) (Only (visit (asked_of u) (Max stamp) z)))) vs → LooksBy stamp u vs (Ok (Some y))
+  own_late : (y : ℕ) → stamp < y → Only (saw_flushed u y) vs → LooksBy stamp u vs (Ok None)
+  own_flushed : (y : ℕ) → y ≤ stamp → Then (Only (saw_flushed u y)) (λ fs. FlushedBy u (Ok tt) fs) vs → LooksBy stamp u vs (Ok None)
+  own_spent : (y : ℕ) (r : Refusal) → y ≤ stamp → Then (Only (saw_flushed u y)) (λ fs. FlushedBy u (Err r) fs) vs → LooksBy stamp u vs (Err r)
+
+-- ---- all below a number
+-- a vCPU that is behind, and the clock value to which it was flushed
+pub record Slow : Type 0 where
+  pub vcpu : ℕ
+  pub found : ℕ
+
+-- the least of them
+abbrev pub first_slow : Option Slow → ℕ → Option ℕ → Option Slow
+first_slow (Some b) u standing = Some b
+first_slow None u (Some found) = Some (record { vcpu = u; found = found })
+first_slow None u None = None
+
+-- from the first one on, in order, until the clock is found at its last value
+pub data WaitsBy (stamp : ℕ) : List Visit → ℕ → Result (Option Slow) Refusal → Type 0 where
+  none : (vs : List Visit) → Nothing vs → WaitsBy stamp vs 0 (Ok None)
+  more : (u : ℕ) (first : Option Slow) (standing : Option ℕ) (before now vs : List Visit) → WaitsBy stamp before u (Ok first) → LooksBy stamp u now (Ok standing) → vs ≡ now ++ before →
+      WaitsBy stamp vs (u + 1) (Ok (first_slow first u standing))
+  spent : (u : ℕ) (first : Option Slow) (r : Refusal) (before now vs : List Visit) → WaitsBy stamp before u (Ok first) → LooksBy stamp u now (Err r) → vs ≡ now ++ before → WaitsBy stamp vs (u + 1) (Err r)
+
+-- ---- the answer
+-- the flush was had, or why not: the clock is at its last value, or the least vCPU that is behind, and to what it was flushed
+abbrev pub EndsBy : ℕ → List Visit → ℕ → Result (Unit {0}) Stop → Type 0
+EndsBy stamp vs n (Ok done) = WaitsBy stamp vs n (Ok None)
+EndsBy stamp vs n (Err (Refused r)) = WaitsBy stamp vs n (Err r)
+EndsBy stamp vs n (Err (Paused (Flush vcpu awaited found))) = (awaited ≡ stamp) × WaitsBy stamp vs n (Ok (Some (record { vcpu = vcpu; found = found })))
+EndsBy stamp vs n (Err (Paused r)) = ⊥
+
+abbrev pub WaitedFor : ℕ → Result (Unit {0}) Stop → List Visit → Type 0
+WaitedFor stamp answer vs = (n : ℕ) × EndsBy stamp vs n answer

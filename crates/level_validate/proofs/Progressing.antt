@@ -1,0 +1,95 @@
+-- Progress: an entry of a table in the own works is recorded; or a recorded one is settled, as the table that it names is live.
+use Rattle.std.proofs.Common.{◌≡◌, ℕ, ◌-◌, ◌≤◌, true, false, List, ◌∷◌, Option, Some, None, IsTrue, refl, sym, ap, ◌∙◌, subst, arith}
+use Rattle.xp_words.specs.Entries.{demand_at}
+use Rattle.xp_words.specs.KindWords.{is_kind, kind_fields, kind_write}
+use Rattle.xp_words.specs.PageTypes.{is_table}
+use Rattle.xp_words.specs.declared.entry.Demand.{Demand}
+use Rattle.xp_words.specs.declared.entry.Demand.TheVariants.{Typed}
+use Rattle.xp_words.specs.declared.kind.KindWord.{KindWord}
+use Rattle.xp_words.specs.declared.place.Place.TheVariants.{Clock, Kind}
+use Rattle.xp_board.specs.declared.holdings.Lock.{Lock}
+use Rattle.xp_board.specs.declared.holdings.Work.{Work}
+use Rattle.xp_board.specs.declared.step.Act.TheVariants.{Load, Store}
+use Rattle.xp_board.specs.declared.step.Mark.TheVariants.{Record}
+use Rattle.xp_board.specs.declared.step.StepKind.TheVariants as kinds
+use Rattle.xp_board.specs.Hands.{lock_on, work_on, works_on}
+use Rattle.xp_board.specs.Told.{PortValue}
+use Rattle.board_lemmas.proofs.ListCounts.{first_by-cons_here, first_by-cons_other, times_by-cons_here}
+use Rattle.board_lemmas.proofs.Works.{one_works}
+use Rattle.step_maker.specs.Moves.{Came, Met, Moment, Moves}
+use Rattle.step_maker.proofs.Coming.{met_after, met_before, moment_of, moves_met}
+use Rattle.answer_fits.specs.Asked.{IsDemandOf, demand_by}
+use Rattle.answer_fits.specs.Finding.{Finding}
+use Rattle.answer_fits.specs.Pauses.{Progress, entry, settles}
+use Rattle.kind_words.specs.Kinds.{live_kind}
+use Rattle.kind_words.proofs.KindWriting.{fields_write}
+use Rattle.partial_state.proofs.LevelFacts.{level_type-table}
+use Rattle.partial_state.specs.declared.stack.TableWork.{TableWork}
+use Rattle.partial_state.specs.Levels.{level_type}
+use Rattle.level_validate.specs.Completing.{count_for}
+use Rattle.level_validate.specs.Tables.{Carries}
+use Rattle.level_validate.proofs.Completed.{LiveHand}
+use Rattle.level_validate.proofs.LeavingTables.{top}
+use Rattle.level_validate.proofs.Nested.{asks_on, on, outer}
+
+-- ---- among more steps
+progress_in : (F G : Finding) → ((m : Moment) → F m → G m) → Progress F → Progress G
+progress_in F G more (entry m a b) = entry m (more m a) b
+progress_in F G more (settles m f t x e s a b c d i j k l) = settles m f t x e s (more m a) b c d i j k l
+
+pub progress_before : (v u w : PortValue) → Came u w → Progress (Met v u) → Progress (Met v w)
+progress_before v u w came p = progress_in (Met v u) (Met v w) (λ m x. met_before v u w m x came) p
+
+pub progress_after : (v u w : PortValue) → Came v u → Progress (Met u w) → Progress (Met v w)
+progress_after v u w came p = progress_in (Met u w) (Met v w) (λ m x. met_after v u w m came x) p
+
+-- ---- an entry is recorded
+pub progress_records : (v w : PortValue) (f upto clock : ℕ) → Moves v w Clock Load kinds.Look (Some (Record f upto)) clock → Progress (Met v w)
+unfolding moment_of
+progress_records v w f upto clock look = entry (moment_of v Clock Load kinds.Look (Some (Record f upto)) clock) (moves_met v w Clock Load kinds.Look (Some (Record f upto)) clock look) refl
+
+-- ---- a recorded entry is settled
+-- a frame is in the own works once
+two_works : (f : ℕ) (x y : Work) (zs ws : List Work) → ws ≡ x ∷ y ∷ zs → works_on f ws ≤ 1 → x.frame ≡ f → y.frame ≡ f → ⊥
+two_works f x y zs ws are few first second =
+    let all = ap (λ us. works_on f us) are in
+    let one = times_by-cons_here (λ (e : Work). e.frame) f x (y ∷ zs) first in
+    let two = times_by-cons_here (λ (e : Work). e.frame) f y zs second in
+    omega (arith, all, few, one, two)
+
+second_here : (f : ℕ) (x y : Work) (zs ws : List Work) → ws ≡ x ∷ y ∷ zs → works_on f ws ≤ 1 → y.frame ≡ f → work_on f ws ≡ Some y
+second_here f x y zs ws are few second =
+    ap (λ us. work_on f us) are ∙ first_by-cons_other (λ (e : Work). e.frame) f x (y ∷ zs) (λ first. two_works f x y zs ws are few first second)
+    ∙ first_by-cons_here (λ (e : Work). e.frame) f y zs second
+
+held_by : (i word : ℕ) (o : Option Work) (e : Work) (k : Option Lock) (d : Demand) → o ≡ Some e → is_table (kind_fields e.word).kind ≡ true → (kind_fields e.word).unflushed ≡ false →
+    demand_at (kind_fields e.word).kind i word ≡ d → demand_by i word o k ≡ Some d
+held_by i word o e k d is table past asks = rw (is, table, past, asks) refl
+
+module _ (v w : PortValue) (owner : ℕ) (t u : TableWork) (us : List TableWork) (s : Carries v w owner (t ∷ u ∷ us)) (d : PortValue) (found : ℕ)
+    (store : Moves w d (Kind t.frame) (Store (kind_write (live_kind (level_type t.level) (count_for t.own)))) kinds.Kind None found) (l : LiveHand v w owner t (u ∷ us) s d) where
+  few : works_on u.frame w.holdings.works ≤ 1
+  few =
+      let f = store.finds in
+      subst (λ h. works_on u.frame h.works ≤ 1) f.mine (one_works w.post.machine f.words f.hands f.sound.alone u.frame w.post.vcpu f.real)
+
+  around_here : work_on u.frame w.holdings.works ≡ Some (outer v w owner t u us s d found store l).work
+  around_here =
+      let i = top v w owner t (u ∷ us) s in
+      let o = outer v w owner t u us s d found store l in
+      second_here u.frame i.work o.work o.others w.holdings.works (i.are ∙ ap (λ ws. i.work ∷ ws) o.are) few o.is.frame
+
+  pub progress_settles : t.recorded ≡ true → IsTrue (is_kind (live_kind (level_type t.level) (count_for t.own))) → Progress (Met w d)
+  unfolding moment_of
+  progress_settles old spelled =
+      let o = outer v w owner t u us s d found store l in
+      let k = on v w owner t u us s d found store l old in
+      let live = live_kind (level_type t.level) (count_for t.own) in
+      let all = k.all in
+      let some = k.some in
+      let held = held_by (u.done - 1) k.word (work_on u.frame w.holdings.works) o.work (lock_on u.frame w.holdings.locks) (Typed t.frame (level_type t.level)) around_here
+      (ap is_table o.is.kind ∙ level_type-table u.level s.stack.2.0.low) o.is.unmarked (asks_on v w owner t u us s d found store l old) in
+      settles (moment_of w (Kind t.frame) (Store (kind_write live)) kinds.Kind None found) t.frame u.frame (kind_write live) o.work (record { index = u.done - 1; word = k.word })
+      (moves_met w d (Kind t.frame) (Store (kind_write live)) kinds.Kind None found store) refl refl
+      (subst (λ (q : KindWord). IsTrue q.validated) (sym (fields_write live spelled)) refl) around_here k.seen (omega (arith, all, some))
+      (subst (λ y. IsDemandOf t.frame None y) (sym held) (refl, tt))

@@ -1,0 +1,29 @@
+-- Why a call stops that asked the tables in work, where the gate is one of the reasons.
+use Rattle.std.proofs.Common.{◌≡◌, ℕ, List, Result, Err, IfErr, refl, sym, subst}
+use Rattle.xp_words.specs.declared.reply.Stop.{Stop}
+use Rattle.xp_words.specs.declared.reply.Pause.TheVariants.{Due}
+use Rattle.xp_words.specs.declared.reply.Stop.TheVariants.{Paused}
+use Rattle.xp_board.specs.Told.{PortValue}
+use Rattle.step_maker.specs.Moves.{Met}
+use Rattle.answer_fits.specs.Answers.{Stops}
+use Rattle.answer_fits.specs.Pauses.{Progress}
+use Rattle.answer_fits.proofs.Piecing.{serves_came}
+use Rattle.partial_state.specs.declared.stack.TableWork.{TableWork}
+use Rattle.level_validate.specs.Acquiring.{StopsRisen}
+use Rattle.level_validate.specs.Serving.{StopsIn}
+use Rattle.level_validate.proofs.Progressing.{progress_after}
+
+module _ (v w : PortValue) (owner : ℕ) (ts : List TableWork) (e : Stop) where
+  -- it is none of them
+  pub risen_in : StopsIn v w owner ts e → StopsRisen v w owner ts e
+  unfolding StopsIn StopsRisen
+  risen_in stops u r ds rose s a = stops u r ds s a
+
+-- the gate said yes, and something got on
+pub risen_due : (v w : PortValue) (owner : ℕ) (ts : List TableWork) → Progress (Met v w) → StopsRisen v w owner ts (Paused Due)
+unfolding StopsRisen Stops
+risen_due v w owner ts gets_on u r ds rose s a = (rose refl, progress_after u v w (serves_came u v r ds a.serves) gets_on)
+
+-- ---- by the answer
+pub risen_answer : {A : Type 0} (v w : PortValue) (owner : ℕ) (ts : List TableWork) (r : Result A Stop) (e : Stop) → r ≡ Err e → StopsRisen v w owner ts e → IfErr r (λ k. StopsRisen v w owner ts k)
+risen_answer v w owner ts r e is stops = subst (λ y. IfErr y (λ k. StopsRisen v w owner ts k)) (sym is) stops

@@ -1,0 +1,78 @@
+use Rattle.std.proofs.Common.{Err, refl, ap, ◌∙◌}
+use Rattle.std.proofs.lemmas.Result.{err_from_is_err_and}
+use Rattle.xp_preempt.proofs.Hearing.{heard_as, heard_none, heard_then}
+use Rattle.level_validate.proofs.Asking.{goes_answer}
+use Rattle.level_validate.proofs.Filling.{filling_came, filling_may, filling_on, filling_serves, filling_standing, filling_stops}
+use Rattle.level_validate.proofs.Rising.{risen_answer, risen_in}
+use Rattle.level_validate.proofs.acquiring.fill.Goals as goal
+
+pub returns-in_err-take_on-clause-stops : goal.returns-in_err-take_on-clause-stops
+returns-in_err-take_on-clause-stops g c =
+    let u = g.P.Port.value c.args.port.now in
+    let x = g.P.Port.value c.take_on.new.port in
+    let e = c.in_err-take_on.field-0.0 in
+    let answer = err_from_is_err_and c.from_residual.result c.from_residual.ensures.1 in
+    risen_answer u x c.args.owner c.args.stack.now c.from_residual.result e (answer.1 ∙ ap Err answer.2) (risen_in u x c.args.owner c.args.stack.now e c.in_err-take_on.ensures.stops)
+
+pub loop-port-init : goal.loop-port-init
+loop-port-init g c =
+    let t = c.in_ok-take_on.ensures in
+    record {
+      tables = record { came = t.came; stands = t.stands; outer = t.outer; ready = t.ready; serves = t.serves };
+      gate = refl;
+      heard = heard_none _ _;
+      says = λ n. refl;
+      paces = refl;
+      calm = λ a. a;
+    }
+
+pub go_on-requires-clause-may : goal.go_on-requires-clause-may
+go_on-requires-clause-may g c =
+    filling_may (g.P.Port.value c.args.port.now) (g.P.Port.value c.loop-port.port) c.args.owner c.args.stack.now c.loop-port.stack c.loop-port.invariant.tables c.requires.stands c.requires.may
+
+pub go_on-requires-clause-stands : goal.go_on-requires-clause-stands
+go_on-requires-clause-stands g c =
+    filling_standing (g.P.Port.value c.args.port.now) (g.P.Port.value c.loop-port.port) c.args.owner c.args.stack.now c.loop-port.stack c.loop-port.invariant.tables c.requires.stands
+
+pub go_on-requires-clause-ready : goal.go_on-requires-clause-ready
+go_on-requires-clause-ready g c = c.loop-port.invariant.tables.ready
+
+pub loop-port-preserved : goal.loop-port-preserved
+loop-port-preserved g c =
+    let i = c.loop-port.invariant in
+    let t = c.in_ok-go_on.ensures in
+    record {
+      tables = filling_on (g.P.Port.value c.args.port.now) (g.P.Port.value c.loop-port.port) (g.P.Port.value c.go_on.new.port) c.args.owner c.args.stack.now c.loop-port.stack c.go_on.new.stack i.tables t.came t.stands t.outer t.ready t.serves;
+      gate = t.gate ∙ i.gate;
+      heard = heard_then _ _ _ _ _ i.heard (heard_as _ _ _ _ _ i.says t.heard);
+      says = λ n. t.says n ∙ i.says n;
+      paces = t.paces ∙ i.paces;
+      calm = λ calm. (t.calm (i.calm calm)).1;
+    }
+
+pub returns-in_err-go_on-clause-came : goal.returns-in_err-go_on-clause-came
+returns-in_err-go_on-clause-came g c =
+    filling_came (g.P.Port.value c.args.port.now) (g.P.Port.value c.loop-port.port) c.args.owner c.args.stack.now c.loop-port.stack c.loop-port.invariant.tables (g.P.Port.value c.go_on.new.port) c.go_on.new.stack c.in_err-go_on.ensures.came
+
+pub returns-in_err-go_on-clause-serves : goal.returns-in_err-go_on-clause-serves
+returns-in_err-go_on-clause-serves g c =
+    let u = g.P.Port.value c.args.port.now in
+    let x = g.P.Port.value c.loop-port.port in
+    let w = g.P.Port.value c.go_on.new.port in
+    let owner = c.args.owner in
+    let r = c.from_residual-in_err-go_on.result in
+    let answer = err_from_is_err_and r c.from_residual-in_err-go_on.ensures.1 in
+    filling_serves u x owner c.args.stack.now c.loop-port.stack c.loop-port.invariant.tables w c.go_on.new.stack r
+    (goes_answer x w owner c.loop-port.stack c.go_on.new.stack r c.in_err-go_on.field-0.0 (answer.1 ∙ ap Err answer.2) c.in_err-go_on.ensures.serves)
+
+pub returns-in_err-go_on-clause-stops : goal.returns-in_err-go_on-clause-stops
+returns-in_err-go_on-clause-stops g c =
+    let u = g.P.Port.value c.args.port.now in
+    let x = g.P.Port.value c.loop-port.port in
+    let w = g.P.Port.value c.go_on.new.port in
+    let owner = c.args.owner in
+    let e = c.in_err-go_on.field-0.0 in
+    let r = c.from_residual-in_err-go_on.result in
+    let answer = err_from_is_err_and r c.from_residual-in_err-go_on.ensures.1 in
+    risen_answer u w owner c.args.stack.now r e (answer.1 ∙ ap Err answer.2)
+    (filling_stops u x owner c.args.stack.now c.loop-port.stack c.loop-port.invariant.tables w c.go_on.new.stack e c.in_err-go_on.ensures.stops)
