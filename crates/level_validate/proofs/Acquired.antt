@@ -1,6 +1,5 @@
 -- A frame that is taken as a page table under a reference that was taken first: what is in hand then.
-use Rattle.std.proofs.Common.{◌≡◌, ℕ, ◌+◌, ◌<◌, ◌≤◌, ◌&&◌, ◌⊎◌, not, if◌then◌else◌, Bool, true, false, List, [], ◌∷◌, length, Option, Some, None, Result, Ok, Err, IsTrue, refl, sym, ap, ◌∙◌, subst, inl, inr}
-use Rattle.xp_words.specs.KindWords.{kind_fields}
+use Rattle.std.proofs.Common.{◌≡◌, ℕ, ◌+◌, ◌<◌, ◌≤◌, ◌&&◌, not, if◌then◌else◌, Bool, true, false, List, [], ◌∷◌, length, Some, None, Result, Ok, Err, refl, sym, ap, ◌∙◌, subst, inl, inr}
 use Rattle.xp_words.specs.Places.{sizes_of}
 use Rattle.xp_words.specs.declared.kind.PageType.{PageType}
 use Rattle.xp_words.specs.declared.reply.Stop.{Stop}
@@ -21,7 +20,7 @@ use Rattle.frame_words.specs.Refs.{took}
 use Rattle.kind_words.proofs.Leaving.{without_newest}
 use Rattle.frame_types.specs.Found.{TakesFound}
 use Rattle.frame_types.specs.Plain.{is_refused}
-use Rattle.frame_types.specs.Taking.{IsOfOther, IsWorking, WorksFrom, typed_as, working, working_typed}
+use Rattle.frame_types.specs.Taking.{IsOfOther, WorksFrom, typed_as, working, working_typed}
 use Rattle.frame_types.specs.declared.taking.Taken.TheVariants.{InWork}
 use Rattle.table_words.proofs.Shedding.{none_unsettled}
 use Rattle.partial_state.specs.declared.stack.TableWork.{TableWork}

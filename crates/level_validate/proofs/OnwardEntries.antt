@@ -1,5 +1,5 @@
 -- The steps that take a type, and an entry: at no cell but that of the entry, and none is shed.
-use Rattle.std.proofs.Common.{◌≡◌, ◌+◌, ◌-◌, ℕ, if◌then◌else◌, Bool, true, false, List, [], ◌∷◌, ◌++◌, Option, Some, None, Result, Ok, Err, refl, sym, ap, subst, inl, inr, drop}
+use Rattle.std.proofs.Common.{◌≡◌, ◌+◌, ◌-◌, ℕ, if◌then◌else◌, Bool, true, false, List, ◌∷◌, Option, None, Result, Ok, Err, refl, sym, subst, inl, inr, drop}
 use Rattle.xp_words.specs.Entries.{demand_at}
 use Rattle.xp_words.specs.KindWords.{kind_fields}
 use Rattle.xp_words.specs.Machine.{Machine}
@@ -43,7 +43,7 @@ use Rattle.table_entries.specs.declared.resuming.Resumed.TheVariants as again
 use Rattle.table_entries.proofs.PiecesAsking.{top_here}
 use Rattle.partial_state.specs.Levels.{level_type}
 use Rattle.partial_state.specs.declared.stack.TableWork.{TableWork}
-use Rattle.level_validate.specs.Forward.{Forward, is_shed}
+use Rattle.level_validate.specs.Forward.{Forward}
 use Rattle.level_validate.specs.Tables.{Carries, IsStanding}
 use Rattle.level_validate.proofs.Entered.{back_one}
 use Rattle.level_validate.proofs.Forward.{IsOnward, Onward, forward_behind}

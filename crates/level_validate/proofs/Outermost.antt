@@ -1,21 +1,17 @@
 -- The outermost table stays the same while the tables in it are validated: what that says when it is full, and when all are left.
 use Rattle.std.proofs.Common.{◌≡◌, ℕ, ◌==◌, Bool, true, false, List, [], ◌∷◌, Option, Some, None, refl, sym, ap, ◌∙◌, subst, arith}
 use Rattle.std.proofs.lemmas.Bool.Decides.{nat_tests}
-use Rattle.xp_words.specs.declared.reply.Stop.{Stop}
 use Rattle.xp_board.specs.declared.holdings.Holdings.{Holdings}
 use Rattle.xp_board.specs.declared.holdings.OwnerFound.TheVariants as owners
-use Rattle.xp_board.specs.declared.holdings.Reference.{Reference}
-use Rattle.xp_board.specs.Hands.{ref_owner}
 use Rattle.xp_board.specs.Readings.{domain_of}
 use Rattle.xp_board.specs.Told.{Post, PortValue}
 use Rattle.step_maker.specs.Holds.{FlushedHolds, MayWork}
 use Rattle.step_maker.specs.Moves.{Came}
 use Rattle.step_maker.proofs.Coming.{came_post}
-use Rattle.answer_fits.proofs.Piecing.{stops_before}
 use Rattle.table_words.specs.OldWords.{known_old}
 use Rattle.table_words.specs.declared.old_words.OldWord.TheVariants.{First}
 use Rattle.partial_state.specs.declared.stack.TableWork.{TableWork}
-use Rattle.level_validate.specs.Acquiring.{StopsRisen, is_filled, outermost}
+use Rattle.level_validate.specs.Acquiring.{is_filled, outermost}
 use Rattle.level_validate.specs.Completing.{Completes}
 use Rattle.level_validate.specs.Tables.{Carries, IsStanding, StandsOn, refs_for}
 use Rattle.level_validate.specs.Unwinding.{Unwinds, named_unless, outermost_named, own_domain}
@@ -89,8 +85,3 @@ unwound u x w owner kept ts us came own same stands left v s =
     let here = on_domain u x came in
     subst (λ h. FlushedHolds v w h) (named_alike kept us ts v.holdings same)
     (left v (subst (λ o. Carries v x o us) (own ∙ here) (stands v (subst (λ o. Carries v u o ts) (sym own) s))))
-
--- ---- why it stops, with more steps behind
-pub risen_on : (v w x : PortValue) (owner : ℕ) (ts : List TableWork) (e : Stop) → Came w x → StopsRisen v w owner ts e → StopsRisen v x owner ts e
-unfolding StopsRisen
-risen_on v w x owner ts e came stops u r ds rose s a = stops_before u w x r e (stops u r ds rose s a) came

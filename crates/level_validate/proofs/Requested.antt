@@ -1,24 +1,23 @@
 -- A call that takes a frame as a page table: its steps go on with its request, and show why it stops.
-use Rattle.std.proofs.Common.{◌≡◌, ℕ, Bool, true, List, [], ◌∷◌, ◌++◌, Option, Some, None, Result, Err, IfErr, refl, sym, ap, ◌∙◌, subst, append-nil}
+use Rattle.std.proofs.Common.{◌≡◌, ℕ, Bool, true, List, [], ◌∷◌, Option, Some, None, Result, Err, IfErr, refl, sym, ap, subst, append-nil}
 use Rattle.xp_words.specs.declared.kind.PageType.{PageType}
 use Rattle.xp_words.specs.declared.reply.Stop.{Stop}
 use Rattle.xp_board.specs.Told.{Post, PortValue}
 use Rattle.board_lemmas.proofs.Sums.{when_eq}
-use Rattle.step_maker.specs.Moves.{Came, Met, Moment}
+use Rattle.step_maker.specs.Moves.{Came, Met}
 use Rattle.step_maker.proofs.Coming.{came_post, met_after}
 use Rattle.answer_fits.specs.Answers.{Deed, Serves, Stops, missed, misses}
 use Rattle.answer_fits.specs.Asked.{Asked, IsFor, Request, named, of, of_back, of_frame, of_table}
 use Rattle.answer_fits.specs.Finding.{Finding}
 use Rattle.answer_fits.proofs.Later.{stops_later}
-use Rattle.answer_fits.proofs.Piecing.{serves_back, serves_call, serves_came, serves_nothing, serves_within, stops_before, stops_within, within_frame}
+use Rattle.answer_fits.proofs.Piecing.{serves_back, serves_call, serves_came, serves_within, stops_before, stops_within, within_frame}
 use Rattle.flush_waits.specs.Waiting.{IsWait}
 use Rattle.frame_types.specs.Leaving.{ServesType}
 use Rattle.frame_types.specs.Taking.{IsTypeStop}
 use Rattle.frame_types.proofs.Serving.{type_uncounted}
 use Rattle.table_entries.proofs.PiecesTaking.{left_serves, wait_kinds}
-use Rattle.partial_state.specs.declared.stack.TableWork.{TableWork}
 use Rattle.partial_state.specs.Levels.{level_type}
-use Rattle.level_validate.specs.Acquiring.{StopsRisen, is_due, is_due_stop, of_acquire}
+use Rattle.level_validate.specs.Acquiring.{StopsRisen, is_due_stop, of_acquire}
 use Rattle.level_validate.specs.Serving.{CarriesOn, IsPiece}
 use Rattle.level_validate.specs.Tables.{Carries}
 use Rattle.level_validate.proofs.Acquired.{taken_table}

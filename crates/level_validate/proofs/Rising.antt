@@ -4,10 +4,10 @@ use Rattle.xp_words.specs.declared.reply.Stop.{Stop}
 use Rattle.xp_words.specs.declared.reply.Pause.TheVariants.{Due}
 use Rattle.xp_words.specs.declared.reply.Stop.TheVariants.{Paused}
 use Rattle.xp_board.specs.Told.{PortValue}
-use Rattle.step_maker.specs.Moves.{Met}
+use Rattle.step_maker.specs.Moves.{Came, Met}
 use Rattle.answer_fits.specs.Answers.{Stops}
 use Rattle.answer_fits.specs.Pauses.{Progress}
-use Rattle.answer_fits.proofs.Piecing.{serves_came}
+use Rattle.answer_fits.proofs.Piecing.{serves_came, stops_before}
 use Rattle.partial_state.specs.declared.stack.TableWork.{TableWork}
 use Rattle.level_validate.specs.Acquiring.{StopsRisen}
 use Rattle.level_validate.specs.Serving.{StopsIn}
@@ -18,6 +18,11 @@ module _ (v w : PortValue) (owner : ℕ) (ts : List TableWork) (e : Stop) where
   pub risen_in : StopsIn v w owner ts e → StopsRisen v w owner ts e
   unfolding StopsIn StopsRisen
   risen_in stops u r ds rose s a = stops u r ds s a
+
+  -- more steps behind
+  pub risen_on : (x : PortValue) → Came w x → StopsRisen v w owner ts e → StopsRisen v x owner ts e
+  unfolding StopsRisen
+  risen_on x came stops u r ds rose s a = stops_before u w x r e (stops u r ds rose s a) came
 
 -- the gate said yes, and something got on
 pub risen_due : (v w : PortValue) (owner : ℕ) (ts : List TableWork) → Progress (Met v w) → StopsRisen v w owner ts (Paused Due)

@@ -4,7 +4,6 @@ use Rattle.xp_words.specs.declared.reply.Pause.TheVariants.{Busy, Due, Flush, Lo
 use Rattle.xp_words.specs.declared.reply.Refusal.TheVariants as refusals
 use Rattle.xp_words.specs.declared.reply.Stop.{Stop}
 use Rattle.xp_words.specs.declared.reply.Stop.TheVariants.{Refused, Paused}
-use Rattle.xp_board.specs.declared.holdings.Holdings.{Holdings}
 use Rattle.xp_board.specs.declared.holdings.OwnerFound.TheVariants as owners
 use Rattle.xp_board.specs.KindSteps.{live_typed}
 use Rattle.xp_board.specs.Told.{PortValue}

@@ -1,11 +1,9 @@
-use Rattle.std.proofs.Common.{◌≡◌, ◌∙◌, false, ◌∷◌, [], Some, Ok, Err, refl, ap, subst}
+use Rattle.std.proofs.Common.{◌∙◌, false, [], Ok, Err, ap, subst}
 use Rattle.std.proofs.lemmas.Result.{err_from_is_err_and}
-use Rattle.answer_fits.specs.Answers.{Serves, Stops, missed}
-use Rattle.answer_fits.specs.Asked.{of_frame}
+use Rattle.answer_fits.specs.Answers.{missed}
 use Rattle.frame_types.specs.Found.{TakesFound}
-use Rattle.frame_types.specs.Taking.{ShowsWait, TakesAs, WorksFrom}
+use Rattle.frame_types.specs.Taking.{ShowsWait, TakesAs}
 use Rattle.frame_types.specs.declared.taking.Taken.TheVariants.{Counted, InWork, Waiting}
-use Rattle.step_maker.specs.Holds.{FlushedHolds}
 use Rattle.partial_state.specs.Levels.{level_type}
 use Rattle.level_validate.specs.Acquiring.{is_due_stop}
 use Rattle.level_validate.proofs.Acquired.{answer_leaves, counted_hand, given_hand, idle_aside, idle_other, leaves_as, same_leaves, carries_taken, taken_ready, unwound_leaves}

@@ -1,4 +1,4 @@
-use Rattle.std.proofs.Common.{◌≡◌, ◌∷◌, ◌∙◌, [], List, refl, sym, ap, subst}
+use Rattle.std.proofs.Common.{◌≡◌, ◌∷◌, ◌∙◌, [], List, sym, ap, subst}
 use Rattle.step_maker.proofs.Coming.{came_trans}
 use Rattle.partial_state.specs.declared.stack.TableWork.{TableWork}
 use Rattle.answer_fits.specs.Answers.{missed}
@@ -6,7 +6,8 @@ use Rattle.level_validate.specs.Acquiring.{StopsRisen, outermost}
 use Rattle.level_validate.specs.Serving.{CarriesOn}
 use Rattle.level_validate.specs.Tables.{IsStanding, StandsOn}
 use Rattle.level_validate.specs.Unwinding.{Unwinds}
-use Rattle.level_validate.proofs.Outermost.{completed, filled_is, on_may, on_room, on_stands, own_standing, risen_on, unwound}
+use Rattle.level_validate.proofs.Outermost.{completed, filled_is, on_may, on_room, on_stands, own_standing, unwound}
+use Rattle.level_validate.proofs.Rising.{risen_on}
 use Rattle.level_validate.proofs.Serving.{goes_then}
 use Rattle.level_validate.proofs.acquiring.validate.Goals as goal
 
@@ -102,4 +103,4 @@ pub returns-in-Err-clause-stops : goal.returns-in-Err-clause-stops
 returns-in-Err-clause-stops g c =
     let one = only c.args.table c.new-stack.result c.push.new.self c.new-stack.ensures c.push.ensures.pushed in
     subst (λ ts. StopsRisen (g.P.Port.value c.args.port.now) (g.P.Port.value c.unwind.new.port) c.args.owner ts c.in-Err.stop) one
-    (risen_on (g.P.Port.value c.args.port.now) (g.P.Port.value c.fill.new.port) (g.P.Port.value c.unwind.new.port) c.args.owner c.push.new.self c.in-Err.stop c.unwind.ensures.came c.in-Err.ensures.stops)
+    (risen_on (g.P.Port.value c.args.port.now) (g.P.Port.value c.fill.new.port) c.args.owner c.push.new.self c.in-Err.stop (g.P.Port.value c.unwind.new.port) c.unwind.ensures.came c.in-Err.ensures.stops)
