@@ -7,6 +7,8 @@ use Rattle.step_maker.specs.Moves.{Came}
 use Rattle.step_maker.proofs.Coming.{came_trans}
 use Rattle.answer_fits.specs.Answers.{misses}
 use Rattle.partial_state.specs.declared.stack.TableWork.{TableWork}
+use Rattle.level_validate.specs.Forward.{Forward}
+use Rattle.level_validate.proofs.Forward.{forward_then}
 use Rattle.level_validate.specs.Acquiring.{StopsRisen, outermost}
 use Rattle.level_validate.specs.Serving.{CarriesOn}
 use Rattle.level_validate.specs.Tables.{IsStanding, IsTopReady, StandsOn}
@@ -17,6 +19,7 @@ use Rattle.level_validate.proofs.StandsFacts.{may_back, may_stands}
 -- wherever the tables ts came into work, us are in work now, with the same outermost one; and the steps went on with what asked ts
 pub record Filling (u w : PortValue) (owner : ℕ) (ts us : List TableWork) : Type 0 where
   pub came : Came u w
+  pub forward : Forward u w
   pub stands : StandsOn u w owner ts us
   pub outer : outermost us ≡ outermost ts
   pub ready : IsTopReady w
@@ -44,10 +47,11 @@ module _ (u x : PortValue) (owner : ℕ) (ts us : List TableWork) (f : Filling u
     unfolding StopsRisen CarriesOn
     filling_stops e stops v r ds rose s a = stops v r ds rose (f.stands v s) (f.serves v r ds a)
 
-pub filling_on : (u x w : PortValue) (owner : ℕ) (ts us rs : List TableWork) → Filling u x owner ts us → Came x w → StandsOn x w owner us rs → outermost rs ≡ outermost us → IsTopReady w → CarriesOn x w owner us rs [] → Filling u w owner ts rs
-filling_on u x w owner ts us rs f came stands outer ready serves =
+pub filling_on : (u x w : PortValue) (owner : ℕ) (ts us rs : List TableWork) → Filling u x owner ts us → Came x w → Forward x w → StandsOn x w owner us rs → outermost rs ≡ outermost us → IsTopReady w → CarriesOn x w owner us rs [] → Filling u w owner ts rs
+filling_on u x w owner ts us rs f came forward stands outer ready serves =
     record {
       came = filling_came u x owner ts us f w rs came;
+      forward = forward_then u x w f.forward forward;
       stands = filling_stands u x owner ts us f w rs stands;
       outer = outer ∙ f.outer;
       ready = ready;

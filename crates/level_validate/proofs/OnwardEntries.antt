@@ -24,9 +24,9 @@ use Rattle.xp_board.specs.Lists.{EachOf}
 use Rattle.xp_board.specs.Told.{PortValue}
 use Rattle.answer_fits.specs.Visits.{Does, Only, Then, Visit, Where, visit}
 use Rattle.frame_words.specs.Freeing.{PutBy}
-use Rattle.frame_words.specs.Refs.{GetsBy, TakesFirst}
+use Rattle.frame_words.specs.Refs.{GetsBy, TakesFirst, Gets}
 use Rattle.kind_words.specs.Kinds.{live_kind, partial_kind, work_kind}
-use Rattle.frame_types.specs.Found.{EndsBy, GoesBy, StoresKind, TakesBy, TakesOf, TypeBy, WaitsOf, is_kept_by, next_kind, saw_kind, swaps_kind}
+use Rattle.frame_types.specs.Found.{EndsBy, GoesBy, StoresKind, TakesBy, TakesOf, TypeBy, WaitsOf, is_kept_by, next_kind, saw_kind, swaps_kind, TakesFound}
 use Rattle.frame_types.specs.Plain.{is_own, waits_by}
 use Rattle.frame_types.specs.Standing.{standing_of}
 use Rattle.frame_types.specs.declared.standing.Standing.{Standing}
@@ -46,7 +46,7 @@ use Rattle.partial_state.specs.declared.stack.TableWork.{TableWork}
 use Rattle.level_validate.specs.Forward.{Forward}
 use Rattle.level_validate.specs.Tables.{Carries, IsStanding}
 use Rattle.level_validate.proofs.Entered.{back_one}
-use Rattle.level_validate.proofs.Forward.{IsOnward, Onward, forward_behind}
+use Rattle.level_validate.proofs.Forward.{IsOnward, Onward, forward_behind, forward_by}
 use Rattle.level_validate.proofs.Onward.{dead_onward, first_onward, gets_onward, loses_onward, nothing_onward, only_onward, put_onward, records_onward, shared_onward, stops_onward, stores_onward, then_onward, where_onward}
 use Rattle.level_validate.proofs.Standing.{standing_top}
 
@@ -125,7 +125,7 @@ taken_onward f want t vs a =
     let s = standing_of (kind_fields a.word) want in
     then_onward (Only (saw_kind f a.word)) (λ us. TakesBy f want a.word s t us) (only_onward (saw_kind f a.word) (refl, refl)) (takes_onward f want a.word s t) vs a.steps
 
-typed_onward : (n : Machine) (f : ℕ) (want : PageType) (answer : Result Taken Stop) (vs : List Visit) → TypeBy n f want answer vs → Onward vs
+pub typed_onward : (n : Machine) (f : ℕ) (want : PageType) (answer : Result Taken Stop) (vs : List Visit) → TypeBy n f want answer vs → Onward vs
 typed_onward n f want (Ok t) vs a = taken_onward f want t vs a
 typed_onward n f want (Err (Paused (Lost place expected found))) vs a = loses_onward n f want place expected found vs a
 typed_onward n f want (Err (Refused r)) vs a = stops_onward f want (Refused r) vs a
@@ -214,3 +214,10 @@ module _ (u w : PortValue) (owner : ℕ) (t : TableWork) (stack : List TableWork
 
   pub resumes_forward : (answer : Result Resumed Stop) → (t.done ≡ 0 → ⊥) → ResumesFound u w t.frame (t.done - 1) k owner answer → Forward u w
   resumes_forward answer some found = resumed_forward u w t.frame (t.done - 1) k owner answer (subst (λ n. WorksAtTop t.frame k n u.holdings) (sym (back_one t.done some)) on_top) found
+
+-- ---- calls
+pub refers_forward : (v w : PortValue) (f owner : ℕ) (answer : Result ℕ Stop) → Gets v w f owner answer → Forward v w
+refers_forward v w f owner answer a = forward_by v w (λ vs. GetsBy v.post.machine f owner answer vs) (gets_onward v.post.machine f owner answer) a
+
+pub types_forward : (v w : PortValue) (f : ℕ) (want : PageType) (answer : Result Taken Stop) → TakesFound v w f want answer → Forward v w
+types_forward v w f want answer a = forward_by v w (λ vs. TypeBy v.post.machine f want answer vs) (typed_onward v.post.machine f want answer) a

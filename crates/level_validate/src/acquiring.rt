@@ -11,6 +11,7 @@ ghost use Rattle.table_words.specs.OldWords.{known_old};
 ghost use Rattle.table_words.specs.declared.old_words.OldWord.TheVariants.{First};
 ghost use Rattle.partial_state.specs.Weights.{weight};
 ghost use Rattle.level_validate.specs.Acquiring.{IsAcquireStop, IsTableWaiting, LeavesAcquired, LeavesWaiting, StopsRisen, Validated, is_asked, is_due, is_filled, of_acquire, outermost};
+ghost use Rattle.level_validate.specs.Forward.{Forward};
 ghost use Rattle.level_validate.specs.Serving.{CarriesOn};
 ghost use Rattle.level_validate.specs.Tables.{IsIdle, IsStanding, IsTopReady, StandsOn};
 ghost use Rattle.level_validate.specs.Unwinding.{own_domain};
@@ -50,6 +51,8 @@ pub fn acquire<P: Port>(
     ensures serves { (pages : ℕ) → Serves (P.value port.old) (P.value port.new) (of_acquire f owner level pages result) (misses (P.value port.old).post.machine result) }
     ensures stops { (pages : ℕ) → IfErr result (λ e. Stops (P.value port.old) (P.value port.new) (of_acquire f owner level pages result) e) }
     ensures kinds { IfErr result IsAcquireStop }
+    // No entry is given back, and none read but the next one of a table in work, or the last recorded one.
+    ensures forward { Forward (P.value port.old) (P.value port.new) }
     ensures hand { LeavesAcquired (P.value port.old) (P.value port.new) f owner level result }
     ensures gate { count_yes gate.new ≡ (if is_due result then count_yes gate.old + 1 else count_yes gate.old) }
     ensures heard { Heard (says gate.old) (count_asks gate.old) (count_asks gate.new) (is_due result) }
@@ -98,6 +101,7 @@ fn leave_waiting<P: Port>(port: &mut P, frame: u32, level: u8, own: bool, stamp:
     requires waits { IsTableWaiting (P.value port.old) frame level own stamp }
     requires room { known_old First (P.value port.old).holdings ≡ Some 0 }
     ensures came { Came (P.value port.old) (P.value port.new) }
+    ensures forward { Forward (P.value port.old) (P.value port.new) }
     ensures serves { ServesType (P.value port.old) (P.value port.new) frame (level_type level) }
     ensures hand { LeavesWaiting (P.value port.old) (P.value port.new) frame level own stamp kept }
 {
@@ -125,6 +129,7 @@ fn validate<P: Port>(
     requires fresh { table.done ≡ 0 → IsTopReady (P.value port.old) }
     requires room { known_old First (P.value port.old).holdings ≡ Some 0 }
     ensures came { Came (P.value port.old) (P.value port.new) }
+    ensures forward { Forward (P.value port.old) (P.value port.new) }
     ensures hand { Validated (P.value port.old) (P.value port.new) table result }
     ensures kinds { IfErr result IsAcquireStop }
     ensures serves { CarriesOn (P.value port.old) (P.value port.new) owner (table ∷ []) [] (misses (P.value port.old).post.machine result) }
@@ -162,6 +167,7 @@ fn fill<P: Port>(
     requires stands { IsStanding (P.value port.old) owner stack.old }
     requires fresh { table.done ≡ 0 → IsTopReady (P.value port.old) }
     ensures came { Came (P.value port.old) (P.value port.new) }
+    ensures forward { Forward (P.value port.old) (P.value port.new) }
     ensures stands { StandsOn (P.value port.old) (P.value port.new) owner stack.old stack.new }
     ensures outer { outermost stack.new ≡ outermost stack.old }
     ensures filled { IfOk result (λ _. is_filled stack.new ≡ true) }
@@ -194,6 +200,7 @@ fn go_on<P: Port>(
     requires ready { IsTopReady (P.value port.old) }
     requires more { is_filled stack.old ≡ false }
     ensures came { Came (P.value port.old) (P.value port.new) }
+    ensures forward { Forward (P.value port.old) (P.value port.new) }
     ensures stands { StandsOn (P.value port.old) (P.value port.new) owner stack.old stack.new }
     ensures outer { outermost stack.new ≡ outermost stack.old }
     ensures ready { IfOk result (λ _. IsTopReady (P.value port.new)) }
@@ -224,6 +231,7 @@ fn advance<P: Port>(port: &mut P, owner: u16, stack: &mut Stack) -> Result<bool,
     requires ready { IsTopReady (P.value port.old) }
     requires more { is_filled stack.old ≡ false }
     ensures came { Came (P.value port.old) (P.value port.new) }
+    ensures forward { Forward (P.value port.old) (P.value port.new) }
     ensures stands { StandsOn (P.value port.old) (P.value port.new) owner stack.old stack.new }
     ensures outer { outermost stack.new ≡ outermost stack.old }
     ensures ready { IfOk result (λ _. IsTopReady (P.value port.new)) }

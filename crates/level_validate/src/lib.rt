@@ -5,3 +5,5 @@ mod acquiring;
 mod completing;
 mod entering;
 mod unwinding;
+
+pub use acquiring::acquire;

@@ -1,3 +1,7 @@
+use Rattle.frame_words.specs.Freeing.{PutBy}
+use Rattle.level_validate.proofs.OnwardEntries.{refers_forward, types_forward}
+use Rattle.level_validate.proofs.Onward.{put_onward}
+use Rattle.level_validate.proofs.Forward.{forward_by, forward_then}
 use Rattle.std.proofs.Common.{◌∙◌, false, [], Ok, Err, ap, subst}
 use Rattle.std.proofs.lemmas.Result.{err_from_is_err_and}
 use Rattle.answer_fits.specs.Answers.{missed}
@@ -218,3 +222,48 @@ returns-in_err-validate-in-Ok-InWork-clause-hand g c =
     let carries = carries_taken v b x h c.args.owner c.args.level progress own c.level_type.result c.requires.idle c.in_ok-frame.ensures.hand c.level_type.ensures c.requires.low c.requires.high c.in_ok-frame.ensures.frame.1 hand.1 found in
     leaves_as v w c.args.f c.args.owner c.args.level result e (answer.1 ∙ ap Err answer.2)
     (unwound_leaves v w c.args.f c.args.owner c.args.level x h progress own e c.in_ok-frame.ensures.frame.0 c.requires.own carries c.in_err-validate-in-Ok-InWork.ensures.hand)
+
+-- ---- it goes forward
+
+pub returns-in_err-frame-clause-forward : goal.returns-in_err-frame-clause-forward
+returns-in_err-frame-clause-forward g c = refers_forward (g.P.Port.value c.args.port.now) (g.P.Port.value c.get_ref.new.port) c.args.f c.args.owner c.get_ref.result c.get_ref.ensures.gets
+
+pub returns-in-Ok-Counted-clause-forward : goal.returns-in-Ok-Counted-clause-forward
+returns-in-Ok-Counted-clause-forward g c =
+    let v = g.P.Port.value c.args.port.now in
+    let b = g.P.Port.value c.get_ref.new.port in
+    let x = g.P.Port.value c.take_type.new.port in
+    forward_then v b x (refers_forward v b c.args.f c.args.owner c.get_ref.result c.get_ref.ensures.gets) (types_forward b x c.in_ok-frame.frame c.level_type.result c.take_type.result c.take_type.ensures.found)
+
+pub returns-in_ok-validate-in-Ok-InWork-clause-forward : goal.returns-in_ok-validate-in-Ok-InWork-clause-forward
+returns-in_ok-validate-in-Ok-InWork-clause-forward g c =
+    let v = g.P.Port.value c.args.port.now in
+    let b = g.P.Port.value c.get_ref.new.port in
+    let x = g.P.Port.value c.take_type.new.port in
+    let before = forward_then v b x (refers_forward v b c.args.f c.args.owner c.get_ref.result c.get_ref.ensures.gets) (types_forward b x c.in_ok-frame.frame c.level_type.result c.take_type.result c.take_type.ensures.found) in
+    forward_then v x (g.P.Port.value c.validate.new.port) before c.in_ok-validate-in-Ok-InWork.ensures.forward
+
+pub returns-in_err-validate-in-Ok-InWork-clause-forward : goal.returns-in_err-validate-in-Ok-InWork-clause-forward
+returns-in_err-validate-in-Ok-InWork-clause-forward g c =
+    let v = g.P.Port.value c.args.port.now in
+    let b = g.P.Port.value c.get_ref.new.port in
+    let x = g.P.Port.value c.take_type.new.port in
+    let before = forward_then v b x (refers_forward v b c.args.f c.args.owner c.get_ref.result c.get_ref.ensures.gets) (types_forward b x c.in_ok-frame.frame c.level_type.result c.take_type.result c.take_type.ensures.found) in
+    forward_then v x (g.P.Port.value c.validate.new.port) before c.in_err-validate-in-Ok-InWork.ensures.forward
+
+pub returns-in-Ok-Waiting-clause-forward : goal.returns-in-Ok-Waiting-clause-forward
+returns-in-Ok-Waiting-clause-forward g c =
+    let v = g.P.Port.value c.args.port.now in
+    let b = g.P.Port.value c.get_ref.new.port in
+    let x = g.P.Port.value c.take_type.new.port in
+    let before = forward_then v b x (refers_forward v b c.args.f c.args.owner c.get_ref.result c.get_ref.ensures.gets) (types_forward b x c.in_ok-frame.frame c.level_type.result c.take_type.result c.take_type.ensures.found) in
+    forward_then v x (g.P.Port.value c.leave_waiting.new.port) before c.leave_waiting.ensures.forward
+
+pub returns-in-Err-clause-forward : goal.returns-in-Err-clause-forward
+returns-in-Err-clause-forward g c =
+    let v = g.P.Port.value c.args.port.now in
+    let b = g.P.Port.value c.get_ref.new.port in
+    let x = g.P.Port.value c.take_type.new.port in
+    let w = g.P.Port.value c.put_ref.new.port in
+    let before = forward_then v b x (refers_forward v b c.args.f c.args.owner c.get_ref.result c.get_ref.ensures.gets) (types_forward b x c.in_ok-frame.frame c.level_type.result c.take_type.result c.take_type.ensures.found) in
+    forward_then v x w before (forward_by x w (λ vs. PutBy c.in_ok-frame.frame vs) (put_onward c.in_ok-frame.frame) c.put_ref.ensures.puts)

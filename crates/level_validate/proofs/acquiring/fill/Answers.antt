@@ -1,3 +1,4 @@
+use Rattle.level_validate.proofs.Forward.{forward_then}
 use Rattle.std.proofs.Common.{Err, refl, ap, ◌∙◌}
 use Rattle.std.proofs.lemmas.Result.{err_from_is_err_and}
 use Rattle.xp_preempt.proofs.Hearing.{heard_as, heard_none, heard_then}
@@ -18,7 +19,7 @@ pub loop-port-init : goal.loop-port-init
 loop-port-init g c =
     let t = c.in_ok-take_on.ensures in
     record {
-      tables = record { came = t.came; stands = t.stands; outer = t.outer; ready = t.ready; serves = t.serves };
+      tables = record { came = t.came; forward = t.forward; stands = t.stands; outer = t.outer; ready = t.ready; serves = t.serves };
       gate = refl;
       heard = heard_none _ _;
       says = λ n. refl;
@@ -42,7 +43,7 @@ loop-port-preserved g c =
     let i = c.loop-port.invariant in
     let t = c.in_ok-go_on.ensures in
     record {
-      tables = filling_on (g.P.Port.value c.args.port.now) (g.P.Port.value c.loop-port.port) (g.P.Port.value c.go_on.new.port) c.args.owner c.args.stack.now c.loop-port.stack c.go_on.new.stack i.tables t.came t.stands t.outer t.ready t.serves;
+      tables = filling_on (g.P.Port.value c.args.port.now) (g.P.Port.value c.loop-port.port) (g.P.Port.value c.go_on.new.port) c.args.owner c.args.stack.now c.loop-port.stack c.go_on.new.stack i.tables t.came t.forward t.stands t.outer t.ready t.serves;
       gate = t.gate ∙ i.gate;
       heard = heard_then _ _ _ _ _ i.heard (heard_as _ _ _ _ _ i.says t.heard);
       says = λ n. t.says n ∙ i.says n;
@@ -76,3 +77,10 @@ returns-in_err-go_on-clause-stops g c =
     let answer = err_from_is_err_and r c.from_residual-in_err-go_on.ensures.1 in
     risen_answer u w owner c.args.stack.now r e (answer.1 ∙ ap Err answer.2)
     (filling_stops u x owner c.args.stack.now c.loop-port.stack c.loop-port.invariant.tables w c.go_on.new.stack e c.in_err-go_on.ensures.stops)
+
+pub returns-in_err-go_on-clause-forward : goal.returns-in_err-go_on-clause-forward
+returns-in_err-go_on-clause-forward g c =
+    forward_then (g.P.Port.value c.args.port.now) (g.P.Port.value c.loop-port.port) (g.P.Port.value c.go_on.new.port) c.loop-port.invariant.tables.forward c.in_err-go_on.ensures.forward
+
+pub returns-clause-forward : goal.returns-clause-forward
+returns-clause-forward g c = c.loop-port.invariant.tables.forward

@@ -1,3 +1,6 @@
+use Rattle.frame_types.specs.Found.{SharedBy, StoresKind}
+use Rattle.level_validate.proofs.Onward.{shared_onward, stores_onward}
+use Rattle.level_validate.proofs.Forward.{forward_by, forward_step, forward_then}
 use Rattle.std.proofs.Common.{◌<◌, ◌+◌, true, false, None, refl, sym, subst}
 use Rattle.xp_words.specs.KindWords.{kind_write}
 use Rattle.xp_words.specs.declared.place.Place.TheVariants.{Kind}
@@ -7,7 +10,7 @@ use Rattle.xp_board.specs.Told.{Post}
 use Rattle.step_maker.specs.Holds.{Holds}
 use Rattle.step_maker.specs.Moves.{Moves}
 use Rattle.step_maker.proofs.Coming.{came_post, came_trans, moves_came}
-use Rattle.kind_words.specs.Kinds.{left}
+use Rattle.kind_words.specs.Kinds.{left, partial_kind}
 use Rattle.frame_types.specs.Leaving.{ServesType}
 use Rattle.frame_types.proofs.Left.{here}
 use Rattle.frame_types.proofs.Serving.{store_serves}
@@ -104,3 +107,20 @@ returns-else-kept-clause-hand g c v a =
     let z = g.P.Port.value c.put_old.new.port in
     named_hand v z c.args.frame c.args.own c.args.kept c.if-not-own.false c.if-kept.false
     (named_left v (g.P.Port.value c.args.port.now) c.args.frame c.args.level c.args.own c.args.stamp a c.level_type-kind.result c.level_type-kind.ensures c.if-not-own.false d c.leave_unsettled.ensures.hand z c.put_old.ensures.hand)
+
+-- ---- it goes forward
+
+pub returns-then-not-own-clause-forward : goal.returns-then-not-own-clause-forward
+returns-then-not-own-clause-forward g c =
+    forward_by (g.P.Port.value c.args.port.now) (g.P.Port.value c.leave_shared.new.port) (λ vs. SharedBy c.args.frame c.level_type-kind.result c.args.stamp vs) (shared_onward c.args.frame c.level_type-kind.result c.args.stamp) c.leave_shared.ensures.visits
+
+pub returns-then-kept-clause-forward : goal.returns-then-kept-clause-forward
+returns-then-kept-clause-forward g c = forward_step (g.P.Port.value c.args.port.now) (g.P.Port.value c.leave.new.port) _ _ _ _ c.leave.result refl refl c.leave.ensures.moves
+
+pub returns-else-kept-clause-forward : goal.returns-else-kept-clause-forward
+returns-else-kept-clause-forward g c =
+    let u = g.P.Port.value c.args.port.now in
+    let d = g.P.Port.value c.leave_unsettled.new.port in
+    let z = g.P.Port.value c.put_old.new.port in
+    let k = partial_kind c.level_type-kind.result false true 0 c.args.stamp in
+    forward_then u d z (forward_by u d (λ vs. StoresKind c.args.frame k vs) (stores_onward c.args.frame k) c.leave_unsettled.ensures.visits) (forward_step d z _ _ _ _ 0 refl refl c.put_old.ensures.moves)

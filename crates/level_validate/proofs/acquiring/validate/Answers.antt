@@ -1,3 +1,4 @@
+use Rattle.level_validate.proofs.Forward.{forward_then}
 use Rattle.std.proofs.Common.{◌≡◌, ◌∷◌, ◌∙◌, [], List, sym, ap, subst}
 use Rattle.step_maker.proofs.Coming.{came_trans}
 use Rattle.partial_state.specs.declared.stack.TableWork.{TableWork}
@@ -104,3 +105,11 @@ returns-in-Err-clause-stops g c =
     let one = only c.args.table c.new-stack.result c.push.new.self c.new-stack.ensures c.push.ensures.pushed in
     subst (λ ts. StopsRisen (g.P.Port.value c.args.port.now) (g.P.Port.value c.unwind.new.port) c.args.owner ts c.in-Err.stop) one
     (risen_on (g.P.Port.value c.args.port.now) (g.P.Port.value c.fill.new.port) c.args.owner c.push.new.self c.in-Err.stop (g.P.Port.value c.unwind.new.port) c.unwind.ensures.came c.in-Err.ensures.stops)
+
+-- ---- it goes forward
+
+pub returns-in-Ok-clause-forward : goal.returns-in-Ok-clause-forward
+returns-in-Ok-clause-forward g c = forward_then (g.P.Port.value c.args.port.now) (g.P.Port.value c.fill.new.port) (g.P.Port.value c.complete_outer.new.port) c.fill.ensures.forward c.complete_outer.ensures.forward
+
+pub returns-in-Err-clause-forward : goal.returns-in-Err-clause-forward
+returns-in-Err-clause-forward g c = forward_then (g.P.Port.value c.args.port.now) (g.P.Port.value c.fill.new.port) (g.P.Port.value c.unwind.new.port) c.fill.ensures.forward c.unwind.ensures.forward
