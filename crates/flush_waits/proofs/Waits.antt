@@ -13,7 +13,7 @@ use Rattle.answer_fits.specs.Reasons.{AwaitsStamp}
 use Rattle.flush_words.proofs.FlushServes.{awaited_more}
 use Rattle.flush_waits.specs.declared.Awaiting.{Awaiting}
 use Rattle.flush_waits.specs.declared.Late.{Late}
-use Rattle.flush_waits.specs.Clearing.{AllStand, Clears, IsBehind, IsClear, IsLeast, Stands, Waits, first_behind, ListedBy, LooksAt}
+use Rattle.flush_waits.specs.Clearing.{AllStand, Clears, IsBehind, IsClear, IsLeast, Stands, Waits, first_behind, ListedBy, ClearsAt}
 use Rattle.answer_fits.specs.Visits.{Does}
 use Rattle.answer_fits.proofs.Visiting.{does_as, does_nothing, does_then}
 use Rattle.flush_waits.specs.Listing.{LooksBy, WaitedFor, none}
@@ -88,7 +88,7 @@ module _ (v u w : PortValue) (a : Awaiting) (k : ℕ) (first : Clears v u a) (se
         others = others_more standing all.others here;
       }
 
-pub waits_more : (v u w : PortValue) (a : Awaiting) (k : ℕ) (o : Option Late) (standing : Option ℕ) → Waits v u a k (Ok o) → LooksAt u w a k (Ok standing) → Waits v w a (k + 1) (Ok (first_behind o k standing))
+pub waits_more : (v u w : PortValue) (a : Awaiting) (k : ℕ) (o : Option Late) (standing : Option ℕ) → Waits v u a k (Ok o) → ClearsAt u w a k (Ok standing) → Waits v w a (k + 1) (Ok (first_behind o k standing))
 waits_more v u w a k o standing so l =
     record {
       clears = clears_then v u w a so.clears l.looks.clears;
@@ -97,7 +97,7 @@ waits_more v u w a k o standing so l =
       shows = all_more v u w a k so.clears l.looks.clears o standing so.shows (then_stands v u w a so.clears.came l.looks.clears.came k (Ok standing) l.looks.shows);
     }
 
-pub waits_refused : (v u w : PortValue) (a : Awaiting) (k n : ℕ) (o : Option Late) (r : Refusal) → Waits v u a k (Ok o) → LooksAt u w a k (Err r) → Waits v w a n (Err r)
+pub waits_refused : (v u w : PortValue) (a : Awaiting) (k n : ℕ) (o : Option Late) (r : Refusal) → Waits v u a k (Ok o) → ClearsAt u w a k (Err r) → Waits v w a n (Err r)
 waits_refused v u w a k n o r so l =
     record {
       clears = clears_then v u w a so.clears l.looks.clears;

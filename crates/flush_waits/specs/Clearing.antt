@@ -67,7 +67,7 @@ pub record Looks (v w : PortValue) (a : Awaiting) (u : ℕ) (answer : Result (Op
   pub shows : Stands v w a u answer
 
 -- and it was looked at by these steps
-pub record LooksAt (v w : PortValue) (a : Awaiting) (u : ℕ) (answer : Result (Option ℕ) Refusal) : Type 0 where
+pub record ClearsAt (v w : PortValue) (a : Awaiting) (u : ℕ) (answer : Result (Option ℕ) Refusal) : Type 0 where
   pub looks : Looks v w a u answer
   pub steps : Does v w (λ vs. LooksBy a.stamp u vs answer)
 

@@ -53,11 +53,11 @@ pub data WaitsBy (stamp : ℕ) : List Visit → ℕ → Result (Option Slow) Ref
 
 -- ---- the answer
 -- the flush was had, or why not: the clock is at its last value, or the least vCPU that is behind, and to what it was flushed
-abbrev pub EndsBy : ℕ → List Visit → ℕ → Result (Unit {0}) Stop → Type 0
-EndsBy stamp vs n (Ok done) = WaitsBy stamp vs n (Ok None)
-EndsBy stamp vs n (Err (Refused r)) = WaitsBy stamp vs n (Err r)
-EndsBy stamp vs n (Err (Paused (Flush vcpu awaited found))) = (awaited ≡ stamp) × WaitsBy stamp vs n (Ok (Some (record { vcpu = vcpu; found = found })))
-EndsBy stamp vs n (Err (Paused r)) = ⊥
+abbrev pub EndsWaiting : ℕ → List Visit → ℕ → Result (Unit {0}) Stop → Type 0
+EndsWaiting stamp vs n (Ok done) = WaitsBy stamp vs n (Ok None)
+EndsWaiting stamp vs n (Err (Refused r)) = WaitsBy stamp vs n (Err r)
+EndsWaiting stamp vs n (Err (Paused (Flush vcpu awaited found))) = (awaited ≡ stamp) × WaitsBy stamp vs n (Ok (Some (record { vcpu = vcpu; found = found })))
+EndsWaiting stamp vs n (Err (Paused r)) = ⊥
 
 abbrev pub WaitedFor : ℕ → Result (Unit {0}) Stop → List Visit → Type 0
-WaitedFor stamp answer vs = (n : ℕ) × EndsBy stamp vs n answer
+WaitedFor stamp answer vs = (n : ℕ) × EndsWaiting stamp vs n answer

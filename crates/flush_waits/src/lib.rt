@@ -8,7 +8,7 @@ ghost use Rattle.answer_fits.specs.Visits.{Does};
 ghost use Rattle.answer_fits.specs.Twins.{Alike};
 ghost use Rattle.step_maker.specs.Holds.{FlushedSame, MayWork};
 ghost use Rattle.step_maker.specs.Moves.{Came};
-ghost use Rattle.flush_waits.specs.Clearing.{LooksAt, Weighs, Waits, first_behind};
+ghost use Rattle.flush_waits.specs.Clearing.{ClearsAt, Weighs, Waits, first_behind};
 ghost use Rattle.flush_waits.specs.Listing.{WaitedFor};
 ghost use Rattle.flush_waits.specs.Waiting.{IsMarked, IsFlushed, IsWait, ServesBehind, StopsBehind};
 
@@ -98,7 +98,7 @@ fn clear<P: Port>(port: &mut P, awaited: Awaiting, vcpu: u32) -> Result<Option<u
     requires vcpu { vcpu < length (P.value port.old).post.machine.vcpu_domain }
     requires may { MayWork (P.value port.old) }
     requires marked { IsMarked awaited.frame awaited.owner awaited.stamp (P.value port.old).holdings }
-    ensures { LooksAt (P.value port.old) (P.value port.new) awaited vcpu result }
+    ensures { ClearsAt (P.value port.old) (P.value port.new) awaited vcpu result }
 {
     if vcpu == port.vcpu() {
         clear_own(port, awaited)
@@ -111,7 +111,7 @@ fn clear<P: Port>(port: &mut P, awaited: Awaiting, vcpu: u32) -> Result<Option<u
 fn clear_own<P: Port>(port: &mut P, awaited: Awaiting) -> Result<Option<u64>, Refusal>
     requires may { MayWork (P.value port.old) }
     requires marked { IsMarked awaited.frame awaited.owner awaited.stamp (P.value port.old).holdings }
-    ensures { LooksAt (P.value port.old) (P.value port.new) awaited (P.value port.old).post.vcpu result }
+    ensures { ClearsAt (P.value port.old) (P.value port.new) awaited (P.value port.old).post.vcpu result }
 {
     let vcpu = port.vcpu();
     if look_flushed(port, vcpu) > awaited.stamp {
@@ -128,7 +128,7 @@ fn clear_other<P: Port>(port: &mut P, awaited: Awaiting, vcpu: u32) -> Option<u6
     requires other { vcpu ≢ (P.value port.old).post.vcpu }
     requires may { MayWork (P.value port.old) }
     requires marked { IsMarked awaited.frame awaited.owner awaited.stamp (P.value port.old).holdings }
-    ensures { LooksAt (P.value port.old) (P.value port.new) awaited vcpu (Ok result) }
+    ensures { ClearsAt (P.value port.old) (P.value port.new) awaited vcpu (Ok result) }
 {
     if look_run_of(port, vcpu) != RUNNING {
         return None;

@@ -31,6 +31,7 @@ use Rattle.kind_words.proofs.KindWriting.{begun_is, raised_is, resumed_is}
 use Rattle.flush_words.proofs.Lasting.{moves_longer}
 use Rattle.frame_types.specs.Taking.{Enters, Looked, LentBy, progress_of, stamp_by, typed_as, working}
 use Rattle.frame_types.proofs.Classing.{IsCounted, IsParted, dead_unparted}
+use Rattle.frame_types.proofs.Left.{or_true}
 use Rattle.frame_types.proofs.Entering.{lent_held, lent_owner}
 
 none_looking : (f w : ℕ) (xs : List Looking) → xs ≡ [] → still_looking f w xs ≡ []
@@ -38,11 +39,6 @@ unfolding kept_of
 none_looking f w xs none = ap (λ ys. still_looking f w ys) none
 
 -- ---- what comes into work
--- with its type count in hand it may be of any type
-own_type : (b : Bool) → IsTrue (b || true)
-own_type true = refl
-own_type false = refl
-
 -- a descriptor page is partial with its `kept` mark alone
 unkept_type : (k : KindWord) → IsTrue (is_kind k) → IsTrue (is_partial k) → k.kept ≡ false → IsTrue (not (type_number k.kind == 5) || false)
 unfolding has_form
@@ -117,7 +113,7 @@ module _ (b v : PortValue) (f owner : ℕ) (want : PageType) (word : ℕ) (l : L
           settled = λ zero. refl;
           none = λ on. none;
           earlier = omega (arith, more);
-          whose = own_type (not (type_number want == 5));
+          whose = or_true (not (type_number want == 5));
           hand = begun_hand;
           lent = l.lent;
           aside = l.aside (dead_apart b.post.machine b.post.vcpu b.holdings f word k l.look.finds (fields_of word k read) dead);
@@ -187,7 +183,7 @@ module _ (b v : PortValue) (f owner : ℕ) (want : PageType) (word : ℕ) (l : L
           settled = λ zero. none_unsettled k.progress v.holdings (parted_progress ∙ zero);
           none = λ on. sym parted_progress ∙ form.marked on;
           earlier = omega (arith, more, later);
-          whose = own_type (not (type_number want == 5));
+          whose = or_true (not (type_number want == 5));
           hand = ap quiet gives ∙ ap (λ (q : PortValue). quiet (record q { holdings = gave f q.holdings })) kept_hand;
           lent = l.lent;
           aside = no_typed;

@@ -34,7 +34,7 @@ use Rattle.frame_types.specs.Leaving.{StaysTyped, WaitsFrom, unsettled_typed}
 use Rattle.frame_types.specs.Taking.{working, working_typed}
 use Rattle.frame_types.proofs.Entering.{lent_held, typed_owned, working_works}
 
-or_true : (b : Bool) → IsTrue (b || true)
+pub or_true : (b : Bool) → IsTrue (b || true)
 or_true true = refl
 or_true false = refl
 

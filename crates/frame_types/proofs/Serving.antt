@@ -35,7 +35,7 @@ use Rattle.frame_types.specs.Taking.{IsTypeStop}
 use Rattle.frame_types.specs.Plain.{set_kind}
 
 -- ---- they serve the type that is asked
-kept_type : (found new : ℕ) (k l : KindWord) → kind_fields found ≡ k → kind_fields new ≡ l → l.kind ≡ k.kind → is_dead k ≡ false → IsTrue (keeps_type found new)
+pub kept_type : (found new : ℕ) (k l : KindWord) → kind_fields found ≡ k → kind_fields new ≡ l → l.kind ≡ k.kind → is_dead k ≡ false → IsTrue (keeps_type found new)
 kept_type found new k l is to same alive = rw (is, to, same, alive, same_type k.kind) refl
 
 pub work_alive : (k : KindWord) → IsTrue (is_work k) → is_dead k ≡ false

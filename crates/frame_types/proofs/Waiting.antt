@@ -75,7 +75,7 @@ wait_kinds e x is wait = subst IsTypeStop (sym is) (by e wait)
     by (Refused _) a = absurd a
     by (Paused _) a = absurd a
 
-none_missed : (n : Machine) (e : Stop) → IsWait e → missed n e ≡ []
+pub none_missed : (n : Machine) (e : Stop) → IsWait e → missed n e ≡ []
 none_missed n (Refused x) a = refl
 none_missed n (Paused (pauses.Flush vcpu stamp found)) a = refl
 none_missed n (Paused _) a = absurd a

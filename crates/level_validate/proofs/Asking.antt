@@ -1,13 +1,9 @@
 -- The steps at an entry of the innermost table go on with a call that asked the tables in work, and show why it stops.
 use Rattle.std.proofs.Common.{◌≡◌, ℕ, if◌then◌else◌, Bool, true, false, List, [], ◌∷◌, ◌++◌, Option, Some, None, Result, Err, IfErr, refl, sym, ap, ◌∙◌, subst, append-nil, arith}
 use Rattle.xp_words.specs.Entries.{below}
-use Rattle.xp_words.specs.Machine.{Machine}
 use Rattle.xp_words.specs.Places.{Sizes, sizes_of}
 use Rattle.xp_words.specs.declared.kind.PageType.{PageType}
-use Rattle.xp_words.specs.declared.reply.Pause.TheVariants.{Flush}
-use Rattle.xp_words.specs.declared.reply.Refusal.TheVariants as refusals
 use Rattle.xp_words.specs.declared.reply.Stop.{Stop}
-use Rattle.xp_words.specs.declared.reply.Stop.TheVariants.{Refused, Paused}
 use Rattle.xp_board.specs.declared.holdings.Made.{Made}
 use Rattle.xp_board.specs.declared.holdings.OwnerFound.TheVariants as owners
 use Rattle.xp_board.specs.declared.holdings.Reference.{Reference}
@@ -28,6 +24,7 @@ use Rattle.table_entries.proofs.PiecesWithin.{within_entries}
 use Rattle.partial_state.specs.declared.stack.TableWork.{TableWork}
 use Rattle.partial_state.specs.Levels.{level_type}
 use Rattle.partial_state.specs.Stacks.{advanced}
+use Rattle.frame_types.proofs.Waiting.{none_missed}
 use Rattle.level_validate.specs.Serving.{CarriesOn, IsPiece, StopsIn}
 use Rattle.level_validate.specs.Tables.{AreTables, Carries, StandsOn, refs_for}
 use Rattle.level_validate.proofs.Serving.{asked_advanced, goes_then, piece_later}
@@ -155,12 +152,6 @@ module _ (v w : PortValue) (owner : ℕ) (ts : List TableWork) (e : Stop) where
   unfolding StopsIn CarriesOn
   stops_behind x us stands goes stops u r ds s a = stops u r ds (stands u s) (goes u r ds a)
 
--- a stop that waits for a flush lost no exchange
-pub wait_misses : (n : Machine) (e : Stop) → IsWait e → missed n e ≡ []
-wait_misses n (Refused (refusals.Clock x)) is = refl
-wait_misses n (Paused (Flush v stamp x)) is = refl
-wait_misses n _ is = absurd is
-
 -- ---- by the answer
 pub goes_answer : {A : Type 0} (v w : PortValue) (owner : ℕ) (ts us : List TableWork) (r : Result A Stop) (e : Stop) → r ≡ Err e → CarriesOn v w owner ts us (missed v.post.machine e) → CarriesOn v w owner ts us (misses v.post.machine r)
 goes_answer v w owner ts us r e is goes = subst (λ y. CarriesOn v w owner ts us (misses v.post.machine y)) (sym is) goes
@@ -176,4 +167,4 @@ goes_on v x w owner ts us rs r came first second =
     (subst (λ ds. CarriesOn v w owner ts rs ds) (append-nil (misses x.post.machine r)) (goes_then v x w owner ts us rs [] (misses x.post.machine r) first second))
 
 pub goes_waiting : (v w : PortValue) (owner : ℕ) (ts us : List TableWork) (e : Stop) → IsWait e → CarriesOn v w owner ts us [] → CarriesOn v w owner ts us (missed v.post.machine e)
-goes_waiting v w owner ts us e is goes = subst (λ ds. CarriesOn v w owner ts us ds) (sym (wait_misses v.post.machine e is)) goes
+goes_waiting v w owner ts us e is goes = subst (λ ds. CarriesOn v w owner ts us ds) (sym (none_missed v.post.machine e is)) goes

@@ -9,7 +9,7 @@ use Rattle.answer_fits.specs.Answers.{misses}
 use Rattle.partial_state.specs.declared.stack.TableWork.{TableWork}
 use Rattle.level_validate.specs.Forward.{Forward}
 use Rattle.level_validate.proofs.Forward.{forward_then}
-use Rattle.level_validate.specs.Acquiring.{StopsRisen, outermost}
+use Rattle.level_validate.specs.Acquiring.{StopsRisen, outermost_work}
 use Rattle.level_validate.specs.Serving.{CarriesOn}
 use Rattle.level_validate.specs.Tables.{IsStanding, IsTopReady, StandsOn}
 use Rattle.level_validate.proofs.Asking.{goes_on}
@@ -21,7 +21,7 @@ pub record Filling (u w : PortValue) (owner : ℕ) (ts us : List TableWork) : Ty
   pub came : Came u w
   pub forward : Forward u w
   pub stands : StandsOn u w owner ts us
-  pub outer : outermost us ≡ outermost ts
+  pub outer : outermost_work us ≡ outermost_work ts
   pub ready : IsTopReady w
   pub serves : CarriesOn u w owner ts us []
 
@@ -47,7 +47,7 @@ module _ (u x : PortValue) (owner : ℕ) (ts us : List TableWork) (f : Filling u
     unfolding StopsRisen CarriesOn
     filling_stops e stops v r ds rose s a = stops v r ds rose (f.stands v s) (f.serves v r ds a)
 
-pub filling_on : (u x w : PortValue) (owner : ℕ) (ts us rs : List TableWork) → Filling u x owner ts us → Came x w → Forward x w → StandsOn x w owner us rs → outermost rs ≡ outermost us → IsTopReady w → CarriesOn x w owner us rs [] → Filling u w owner ts rs
+pub filling_on : (u x w : PortValue) (owner : ℕ) (ts us rs : List TableWork) → Filling u x owner ts us → Came x w → Forward x w → StandsOn x w owner us rs → outermost_work rs ≡ outermost_work us → IsTopReady w → CarriesOn x w owner us rs [] → Filling u w owner ts rs
 filling_on u x w owner ts us rs f came forward stands outer ready serves =
     record {
       came = filling_came u x owner ts us f w rs came;

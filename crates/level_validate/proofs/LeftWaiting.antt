@@ -20,12 +20,12 @@ use Rattle.frame_types.proofs.Left.{kept_back, kept_may}
 use Rattle.table_words.specs.OldWords.{kept_in_old, known_old}
 use Rattle.table_words.specs.declared.old_words.OldWord.TheVariants.{First}
 use Rattle.partial_state.specs.Levels.{level_type}
-use Rattle.level_validate.specs.Acquiring.{WaitsOn}
+use Rattle.level_validate.specs.Acquiring.{TableWaits}
 use Rattle.level_validate.specs.Tables.{IsIdle}
 use Rattle.level_validate.specs.Unwinding.{own_domain}
 
 -- it came to wait under a reference of the own domain
-pub waits_on : (v b x : PortValue) (f owner level : ℕ) (own : Bool) (stamp : ℕ) (want : PageType) → owner ≡ own_domain v → want ≡ level_type level → IsIdle v → Holds v b (took f owner v.holdings) → WaitsWith b x f owner want own stamp → WaitsOn v x f level own stamp
+pub waits_on : (v b x : PortValue) (f owner level : ℕ) (own : Bool) (stamp : ℕ) (want : PageType) → owner ≡ own_domain v → want ≡ level_type level → IsIdle v → Holds v b (took f owner v.holdings) → WaitsWith b x f owner want own stamp → TableWaits v x f level own stamp
 waits_on v b x f owner level own stamp want domain is idle referred waits =
     record {
       lent = b;
@@ -34,7 +34,7 @@ waits_on v b x f owner level own stamp want domain is idle referred waits =
       waits = subst (λ o. WaitsWith b x f o (level_type level) own stamp) domain (subst (λ k. WaitsWith b x f owner k own stamp) is waits);
     }
 
-module _ (v x : PortValue) (f level : ℕ) (own : Bool) (stamp : ℕ) (a : WaitsOn v x f level own stamp) where
+module _ (v x : PortValue) (f level : ℕ) (own : Bool) (stamp : ℕ) (a : TableWaits v x f level own stamp) where
   abbrev lent_ref : Reference
   lent_ref = record { frame = f; owner = owners.Of (own_domain v) }
 

@@ -11,7 +11,7 @@ use Rattle.step_maker.proofs.Coming.{came_post}
 use Rattle.table_words.specs.OldWords.{known_old}
 use Rattle.table_words.specs.declared.old_words.OldWord.TheVariants.{First}
 use Rattle.partial_state.specs.declared.stack.TableWork.{TableWork}
-use Rattle.level_validate.specs.Acquiring.{is_filled, outermost}
+use Rattle.level_validate.specs.Acquiring.{is_filled, outermost_work}
 use Rattle.level_validate.specs.Completing.{Completes}
 use Rattle.level_validate.specs.Tables.{Carries, IsStanding, StandsOn, refs_for}
 use Rattle.level_validate.specs.Unwinding.{Unwinds, named_unless, outermost_named, own_domain}
@@ -22,7 +22,7 @@ use Rattle.level_validate.proofs.StandsFacts.{may_back, may_stands, ref_owned, r
 is_at : (m n : ℕ) → (m == n) ≡ true → m ≡ n
 is_at m n on = grind (arith, nat_tests)
 
-pub filled_is : (t : TableWork) (us : List TableWork) → is_filled us ≡ true → outermost us ≡ outermost (t ∷ []) → us ≡ record t { done = 512 } ∷ []
+pub filled_is : (t : TableWork) (us : List TableWork) → is_filled us ≡ true → outermost_work us ≡ outermost_work (t ∷ []) → us ≡ record t { done = 512 } ∷ []
 filled_is t [] full same = absurd cc
 filled_is t (u ∷ []) full same =
     let is : record u { done = 0 } ≡ record t { done = 0 } = cc in
@@ -35,12 +35,12 @@ abbrev named_by : Bool → Option TableWork → Holdings → Holdings
 named_by kept None h = h
 named_by kept (Some t) h = named_unless kept t h
 
-named_is : (kept : Bool) (ts : List TableWork) (h : Holdings) → outermost_named kept ts h ≡ named_by kept (outermost ts) h
+named_is : (kept : Bool) (ts : List TableWork) (h : Holdings) → outermost_named kept ts h ≡ named_by kept (outermost_work ts) h
 named_is kept [] h = refl
 named_is kept (t ∷ []) h = refl
 named_is kept (t ∷ u ∷ us) h = named_is kept (u ∷ us) h
 
-pub named_alike : (kept : Bool) (ts us : List TableWork) (h : Holdings) → outermost ts ≡ outermost us → outermost_named kept ts h ≡ outermost_named kept us h
+pub named_alike : (kept : Bool) (ts us : List TableWork) (h : Holdings) → outermost_work ts ≡ outermost_work us → outermost_named kept ts h ≡ outermost_named kept us h
 named_alike kept ts us h same = named_is kept ts h ∙ ap (λ o. named_by kept o h) same ∙ sym (named_is kept us h)
 
 -- ---- the tables have one owner
@@ -80,7 +80,7 @@ pub completed : (u x w : PortValue) (owner : ℕ) (t : TableWork) → IsStanding
 completed u x w owner t a stands live v o s = live v o (subst (λ p. Carries v x p (record t { done = 512 } ∷ [])) (one_owner a.0 v u owner o t [] [] a.1 s) (stands v (subst (λ p. Carries v u p (t ∷ [])) (sym (one_owner a.0 v u owner o t [] [] a.1 s)) s)))
 
 -- all are left
-pub unwound : (u x w : PortValue) (owner : ℕ) (kept : Bool) (ts us : List TableWork) → Came u x → owner ≡ own_domain u → outermost us ≡ outermost ts → StandsOn u x owner ts us → Unwinds x w kept us → Unwinds u w kept ts
+pub unwound : (u x w : PortValue) (owner : ℕ) (kept : Bool) (ts us : List TableWork) → Came u x → owner ≡ own_domain u → outermost_work us ≡ outermost_work ts → StandsOn u x owner ts us → Unwinds x w kept us → Unwinds u w kept ts
 unwound u x w owner kept ts us came own same stands left v s =
     let here = on_domain u x came in
     subst (λ h. FlushedHolds v w h) (named_alike kept us ts v.holdings same)

@@ -21,7 +21,7 @@ use Rattle.level_validate.specs.Acquiring.{StopsRisen, is_due_stop, of_acquire}
 use Rattle.level_validate.specs.Serving.{CarriesOn, IsPiece}
 use Rattle.level_validate.specs.Tables.{Carries}
 use Rattle.level_validate.proofs.Acquired.{taken_table}
-use Rattle.level_validate.proofs.Asking.{wait_misses}
+use Rattle.frame_types.proofs.Waiting.{none_missed}
 
 module _ (v : PortValue) (f owner level pages : ℕ) (rose : Bool) where
   abbrev request : Request
@@ -76,7 +76,7 @@ module _ (v : PortValue) (f owner level pages : ℕ) (rose : Bool) where
     pub waited_serves : (w : PortValue) (e : Stop) → IsWait e → ServesType x w g (level_type level) → Serves v w request (missed v.post.machine e)
     waited_serves w e is types =
         let left = left_serves x w g owner (level_type level) types in
-        subst (λ ds. Serves v w request ds) (sym (wait_misses v.post.machine e is))
+        subst (λ ds. Serves v w request ds) (sym (none_missed v.post.machine e is))
         (serves_call v x w request [] [] before g owner (Some (level_type level)) (asks (Met v x) g (Some (level_type level)) same refl) (serves_came x w (of_frame g owner (Some (level_type level))) [] left) left)
 
     -- it is the only table in work

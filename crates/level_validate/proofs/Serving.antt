@@ -1,5 +1,5 @@
 -- What the steps on tables in work are to a call that asked these tables.
-use Rattle.std.proofs.Common.{◌≡◌, ℕ, Bool, true, false, List, [], ◌∷◌, ◌++◌, Some, None, IsTrue, refl, sym, ap, ◌∙◌, subst, append_assoc, inl}
+use Rattle.std.proofs.Common.{◌≡◌, ℕ, Bool, true, false, List, [], ◌∷◌, ◌++◌, Some, None, IsTrue, sym, ap, ◌∙◌, subst, append_assoc, inl}
 use Rattle.xp_words.specs.Machine.{Machine}
 use Rattle.xp_words.specs.KindWords.{is_kind, kind_fields, kind_write}
 use Rattle.xp_words.specs.declared.kind.KindWord.{KindWord}
@@ -7,9 +7,7 @@ use Rattle.xp_words.specs.declared.place.Place.TheVariants.{Clock, Kind}
 use Rattle.xp_board.specs.declared.step.Act.TheVariants.{Load, Store}
 use Rattle.xp_board.specs.declared.step.Mark.TheVariants.{Record}
 use Rattle.xp_board.specs.declared.step.StepKind.TheVariants as kinds
-use Rattle.xp_board.specs.Readings.{is_dead}
 use Rattle.xp_board.specs.Told.{Post, PortValue}
-use Rattle.xp_board.proofs.Returned.{same_type}
 use Rattle.step_maker.specs.Moves.{Came, Met, Moment, Moves}
 use Rattle.step_maker.proofs.Coming.{came_post, met_before, moves_came}
 use Rattle.answer_fits.specs.Answers.{Deed, Serves}
@@ -17,7 +15,7 @@ use Rattle.answer_fits.specs.Asked.{IsAsked, Request, of, of_back}
 use Rattle.answer_fits.specs.Finding.{Finding}
 use Rattle.answer_fits.specs.Reasons.{keeps_type}
 use Rattle.answer_fits.proofs.Piecing.{same_request, serves_back, serves_came, serves_step}
-use Rattle.frame_types.proofs.Serving.{work_alive}
+use Rattle.frame_types.proofs.Serving.{kept_type, work_alive}
 use Rattle.kind_words.proofs.KindFacts.{work_word}
 use Rattle.kind_words.proofs.KindWriting.{fields_write}
 use Rattle.table_words.specs.OldWords.{old_place}
@@ -100,9 +98,6 @@ module _ (u v w : PortValue) (r : Request) (owner : ℕ) (t : TableWork) (ts : L
   piece_back put =
       let came = serves_came v w (of_back t.frame) [] put in
       piece_later u v w r owner (t ∷ ts) ds ds a came (serves_back u v w r ds [] a.serves t.frame (top_asked (Met u w) (λ m x. met_before u v w m x came)) put)
-
-kept_type : (found new : ℕ) (k l : KindWord) → kind_fields found ≡ k → kind_fields new ≡ l → l.kind ≡ k.kind → is_dead k ≡ false → IsTrue (keeps_type found new)
-kept_type found new k l is to same alive = rw (is, to, same, alive, same_type k.kind) refl
 
 -- a word of its type is left in the innermost table's place
 module _ (b v : PortValue) (whose : ℕ) (t : TableWork) (us : List TableWork) (s : Carries b v whose (t ∷ us)) (l : KindWord) (spelled : IsTrue (is_kind l)) (typed : l.kind ≡ level_type t.level) (w : PortValue) (found : ℕ)

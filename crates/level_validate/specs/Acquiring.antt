@@ -26,9 +26,9 @@ is_due_stop (Paused Due) = true
 is_due_stop _ = false
 
 -- the gate said yes
-abbrev pub is_due : {A : Type 0} → Result A Stop → Bool
-is_due (Err e) = is_due_stop e
-is_due (Ok a) = false
+abbrev pub is_due_answer : {A : Type 0} → Result A Stop → Bool
+is_due_answer (Err e) = is_due_stop e
+is_due_answer (Ok a) = false
 
 -- why a table is not to be had
 abbrev pub IsAcquireStop : Stop → Type 0
@@ -46,14 +46,14 @@ IsAcquireStop _ = ⊥
 
 -- what it asks: the frame for the type of that level, and what the entries of tables ask
 abbrev pub of_acquire : {A : Type 0} → ℕ → ℕ → ℕ → ℕ → Result A Stop → Request
-of_acquire f owner level pages answer = of_table f owner (Some (level_type level)) pages (is_due answer)
+of_acquire f owner level pages answer = of_table f owner (Some (level_type level)) pages (is_due_answer answer)
 
 -- ---- the tables in work
 -- the outermost one, however many of its entries are done with
-abbrev pub outermost : List TableWork → Option TableWork
-outermost [] = None
-outermost (t ∷ []) = Some (record t { done = 0 })
-outermost (t ∷ u ∷ us) = outermost (u ∷ us)
+abbrev pub outermost_work : List TableWork → Option TableWork
+outermost_work [] = None
+outermost_work (t ∷ []) = Some (record t { done = 0 })
+outermost_work (t ∷ u ∷ us) = outermost_work (u ∷ us)
 
 -- it is the only one, and all its entries are done with
 abbrev pub is_filled : List TableWork → Bool
@@ -90,16 +90,16 @@ LeavesAcquired v w f owner level (Err (Paused x)) = FlushedSame v w
 
 -- ---- a table that waits for a flush
 -- it came there from some port that was idle, under a reference that was taken first
-pub record WaitsOn (v w : PortValue) (f level : ℕ) (own : Bool) (stamp : ℕ) : Type 0 where
+pub record TableWaits (v w : PortValue) (f level : ℕ) (own : Bool) (stamp : ℕ) : Type 0 where
   pub lent : PortValue
   pub idle : IsIdle v
   pub referred : Holds v lent (took f (own_domain v) v.holdings)
   pub waits : WaitsWith lent w f (own_domain v) (level_type level) own stamp
 
 abbrev pub IsTableWaiting : PortValue → ℕ → ℕ → Bool → ℕ → Type 0
-IsTableWaiting w f level own stamp = (v : PortValue) × WaitsOn v w f level own stamp
+IsTableWaiting w f level own stamp = (v : PortValue) × TableWaits v w f level own stamp
 
 -- from wherever it came there nothing of it is in hand, or the first old word has it
 abbrev pub LeavesWaiting : PortValue → PortValue → ℕ → ℕ → Bool → ℕ → Bool → Type 0
 LeavesWaiting u w f level own stamp kept =
-    (v : PortValue) → WaitsOn v u f level own stamp → FlushedHolds v w (if own && not kept then record v.holdings { old0 = Some (f + 1) } else v.holdings)
+    (v : PortValue) → TableWaits v u f level own stamp → FlushedHolds v w (if own && not kept then record v.holdings { old0 = Some (f + 1) } else v.holdings)

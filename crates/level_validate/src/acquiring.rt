@@ -10,7 +10,7 @@ ghost use Rattle.partial_state.specs.Levels.{level_type};
 ghost use Rattle.table_words.specs.OldWords.{known_old};
 ghost use Rattle.table_words.specs.declared.old_words.OldWord.TheVariants.{First};
 ghost use Rattle.partial_state.specs.Weights.{weight};
-ghost use Rattle.level_validate.specs.Acquiring.{IsAcquireStop, IsTableWaiting, LeavesAcquired, LeavesWaiting, StopsRisen, Validated, is_asked, is_due, is_filled, of_acquire, outermost};
+ghost use Rattle.level_validate.specs.Acquiring.{IsAcquireStop, IsTableWaiting, LeavesAcquired, LeavesWaiting, StopsRisen, Validated, is_asked, is_due_answer, is_filled, of_acquire, outermost_work};
 ghost use Rattle.level_validate.specs.Forward.{Forward};
 ghost use Rattle.level_validate.specs.Serving.{CarriesOn};
 ghost use Rattle.level_validate.specs.Tables.{IsIdle, IsStanding, IsTopReady, StandsOn};
@@ -54,11 +54,11 @@ pub fn acquire<P: Port>(
     // No entry is given back, and none read but the next one of a table in work, or the last recorded one.
     ensures forward { Forward (P.value port.old) (P.value port.new) }
     ensures hand { LeavesAcquired (P.value port.old) (P.value port.new) f owner level result }
-    ensures gate { count_yes gate.new ≡ (if is_due result then count_yes gate.old + 1 else count_yes gate.old) }
-    ensures heard { Heard (says gate.old) (count_asks gate.old) (count_asks gate.new) (is_due result) }
+    ensures gate { count_yes gate.new ≡ (if is_due_answer result then count_yes gate.old + 1 else count_yes gate.old) }
+    ensures heard { Heard (says gate.old) (count_asks gate.old) (count_asks gate.new) (is_due_answer result) }
     ensures says { (n : ℕ) → says gate.new n ≡ says gate.old n }
     ensures paces { paces gate.new ≡ paces gate.old }
-    ensures calm { calm gate.old ≡ true → (is_due result ≡ false) × (calm gate.new ≡ true) }
+    ensures calm { calm gate.old ≡ true → (is_due_answer result ≡ false) × (calm gate.new ≡ true) }
 {
     let frame = get_ref(port, f, owner)?;
     match take_type(port, frame, owner, level_type(level)) {
@@ -134,11 +134,11 @@ fn validate<P: Port>(
     ensures kinds { IfErr result IsAcquireStop }
     ensures serves { CarriesOn (P.value port.old) (P.value port.new) owner (table ∷ []) [] (misses (P.value port.old).post.machine result) }
     ensures stops { IfErr result (λ e. StopsRisen (P.value port.old) (P.value port.new) owner (table ∷ []) e) }
-    ensures gate { count_yes gate.new ≡ (if is_due result then count_yes gate.old + 1 else count_yes gate.old) }
-    ensures heard { Heard (says gate.old) (count_asks gate.old) (count_asks gate.new) (is_due result) }
+    ensures gate { count_yes gate.new ≡ (if is_due_answer result then count_yes gate.old + 1 else count_yes gate.old) }
+    ensures heard { Heard (says gate.old) (count_asks gate.old) (count_asks gate.new) (is_due_answer result) }
     ensures says { (n : ℕ) → says gate.new n ≡ says gate.old n }
     ensures paces { paces gate.new ≡ paces gate.old }
-    ensures calm { calm gate.old ≡ true → (is_due result ≡ false) × (calm gate.new ≡ true) }
+    ensures calm { calm gate.old ≡ true → (is_due_answer result ≡ false) × (calm gate.new ≡ true) }
 {
     let mut stack = Stack::new();
     stack.push(table);
@@ -169,17 +169,17 @@ fn fill<P: Port>(
     ensures came { Came (P.value port.old) (P.value port.new) }
     ensures forward { Forward (P.value port.old) (P.value port.new) }
     ensures stands { StandsOn (P.value port.old) (P.value port.new) owner stack.old stack.new }
-    ensures outer { outermost stack.new ≡ outermost stack.old }
+    ensures outer { outermost_work stack.new ≡ outermost_work stack.old }
     ensures filled { IfOk result (λ _. is_filled stack.new ≡ true) }
     ensures ready { IfOk result (λ _. IsTopReady (P.value port.new)) }
     ensures kinds { IfErr result IsAcquireStop }
     ensures serves { CarriesOn (P.value port.old) (P.value port.new) owner stack.old stack.new (misses (P.value port.old).post.machine result) }
     ensures stops { IfErr result (λ e. StopsRisen (P.value port.old) (P.value port.new) owner stack.old e) }
-    ensures gate { count_yes gate.new ≡ (if is_due result then count_yes gate.old + 1 else count_yes gate.old) }
-    ensures heard { Heard (says gate.old) (count_asks gate.old) (count_asks gate.new) (is_due result) }
+    ensures gate { count_yes gate.new ≡ (if is_due_answer result then count_yes gate.old + 1 else count_yes gate.old) }
+    ensures heard { Heard (says gate.old) (count_asks gate.old) (count_asks gate.new) (is_due_answer result) }
     ensures says { (n : ℕ) → says gate.new n ≡ says gate.old n }
     ensures paces { paces gate.new ≡ paces gate.old }
-    ensures calm { calm gate.old ≡ true → (is_due result ≡ false) × (calm gate.new ≡ true) }
+    ensures calm { calm gate.old ≡ true → (is_due_answer result ≡ false) × (calm gate.new ≡ true) }
 {
     take_on(port, owner, stack, table)?;
     while !is_filled(stack) {
@@ -202,17 +202,17 @@ fn go_on<P: Port>(
     ensures came { Came (P.value port.old) (P.value port.new) }
     ensures forward { Forward (P.value port.old) (P.value port.new) }
     ensures stands { StandsOn (P.value port.old) (P.value port.new) owner stack.old stack.new }
-    ensures outer { outermost stack.new ≡ outermost stack.old }
+    ensures outer { outermost_work stack.new ≡ outermost_work stack.old }
     ensures ready { IfOk result (λ _. IsTopReady (P.value port.new)) }
     ensures less { IfOk result (λ _. weight stack.new < weight stack.old) }
     ensures kinds { IfErr result IsAcquireStop }
     ensures serves { CarriesOn (P.value port.old) (P.value port.new) owner stack.old stack.new (misses (P.value port.old).post.machine result) }
     ensures stops { IfErr result (λ e. StopsRisen (P.value port.old) (P.value port.new) owner stack.old e) }
-    ensures gate { count_yes gate.new ≡ (if is_due result then count_yes gate.old + 1 else count_yes gate.old) }
-    ensures heard { Heard (says gate.old) (count_asks gate.old) (count_asks gate.new) (is_due result) }
+    ensures gate { count_yes gate.new ≡ (if is_due_answer result then count_yes gate.old + 1 else count_yes gate.old) }
+    ensures heard { Heard (says gate.old) (count_asks gate.old) (count_asks gate.new) (is_due_answer result) }
     ensures says { (n : ℕ) → says gate.new n ≡ says gate.old n }
     ensures paces { paces gate.new ≡ paces gate.old }
-    ensures calm { calm gate.old ≡ true → (is_due result ≡ false) × (calm gate.new ≡ true) }
+    ensures calm { calm gate.old ≡ true → (is_due_answer result ≡ false) × (calm gate.new ≡ true) }
 {
     if advance(port, owner, stack)? {
         if is_asked(stack) {
@@ -233,11 +233,11 @@ fn advance<P: Port>(port: &mut P, owner: u16, stack: &mut Stack) -> Result<bool,
     ensures came { Came (P.value port.old) (P.value port.new) }
     ensures forward { Forward (P.value port.old) (P.value port.new) }
     ensures stands { StandsOn (P.value port.old) (P.value port.new) owner stack.old stack.new }
-    ensures outer { outermost stack.new ≡ outermost stack.old }
+    ensures outer { outermost_work stack.new ≡ outermost_work stack.old }
     ensures ready { IfOk result (λ _. IsTopReady (P.value port.new)) }
     ensures less { IfOk result (λ _. weight stack.new < weight stack.old) }
     ensures kinds { IfErr result IsAcquireStop }
-    ensures undue { is_due result ≡ false }
+    ensures undue { is_due_answer result ≡ false }
     ensures progress { IfOk result (λ done. done ≡ true → Progress (Met (P.value port.old) (P.value port.new))) }
     ensures serves { CarriesOn (P.value port.old) (P.value port.new) owner stack.old stack.new (misses (P.value port.old).post.machine result) }
     ensures stops { IfErr result (λ e. StopsRisen (P.value port.old) (P.value port.new) owner stack.old e) }

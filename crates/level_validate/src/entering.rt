@@ -7,7 +7,7 @@ ghost use Rattle.answer_fits.specs.Answers.{misses};
 ghost use Rattle.answer_fits.specs.Pauses.{Progress};
 ghost use Rattle.partial_state.specs.Stacks.{left_on_top};
 ghost use Rattle.partial_state.specs.Weights.{entry_weight, weight};
-ghost use Rattle.level_validate.specs.Acquiring.{outermost};
+ghost use Rattle.level_validate.specs.Acquiring.{outermost_work};
 ghost use Rattle.level_validate.specs.Forward.{Forward};
 ghost use Rattle.level_validate.specs.Serving.{CarriesOn, StopsIn};
 ghost use Rattle.level_validate.specs.Tables.{IsTopReady, IsStanding, StandsOn};
@@ -30,7 +30,7 @@ pub(crate) fn enter<P: Port>(port: &mut P, owner: u16, stack: &mut Stack) -> Res
     ensures stands { StandsOn (P.value port.old) (P.value port.new) owner stack.old stack.new }
     ensures ready { IfOk result (λ _. IsTopReady (P.value port.new)) }
     ensures kinds { IfErr result IsEntryStop }
-    ensures outer { outermost stack.new ≡ outermost stack.old }
+    ensures outer { outermost_work stack.new ≡ outermost_work stack.old }
     // A table that is no deeper than before has one entry more recorded.
     ensures progress { IfOk result (λ _. length stack.new ≡ length stack.old → Progress (Met (P.value port.old) (P.value port.new))) }
     // What is left to do grows less.
@@ -92,7 +92,7 @@ pub(crate) fn take_on<P: Port>(
     ensures stands { StandsOn (P.value port.old) (P.value port.new) owner stack.old stack.new }
     ensures ready { IfOk result (λ _. IsTopReady (P.value port.new)) }
     ensures kinds { IfErr result IsEntryStop }
-    ensures outer { outermost stack.new ≡ outermost stack.old }
+    ensures outer { outermost_work stack.new ≡ outermost_work stack.old }
     ensures deeper { length stack.old ≤ length stack.new }
     ensures less { IfOk result (λ _. weight stack.new < weight stack.old + entry_weight top.level) }
     ensures serves { CarriesOn (P.value port.old) (P.value port.new) owner stack.old stack.new (misses (P.value port.old).post.machine result) }

@@ -4,7 +4,7 @@ use Rattle.xp_words.specs.Places.{flushed_of}
 use Rattle.xp_board.specs.declared.step.Act.TheVariants.{Load}
 use Rattle.xp_board.specs.declared.step.StepKind.TheVariants as kinds
 use Rattle.step_maker.specs.Moves.{Moves}
-use Rattle.flush_waits.specs.Clearing.{LooksAt}
+use Rattle.flush_waits.specs.Clearing.{ClearsAt}
 use Rattle.flush_waits.proofs.Flushing.{flushed_list, refused_list, then_flushed, then_refused}
 use Rattle.flush_waits.proofs.Growing.{same_flushed}
 use Rattle.flush_waits.proofs.Looking.{look_late, own_late_list}
@@ -14,7 +14,7 @@ pub returns-then-look_flushed-awaited : goal.returns-then-look_flushed-awaited
 returns-then-look_flushed-awaited g c =
     let v = g.P.Port.value c.args.port.now in
     let u = g.P.Port.value c.look_flushed.new.port in
-    subst (λ s. LooksAt v u c.args.awaited s (Ok None)) c.vcpu-vcpu.ensures.vcpu
+    subst (λ s. ClearsAt v u c.args.awaited s (Ok None)) c.vcpu-vcpu.ensures.vcpu
     (record {
       looks = look_late v u c.args.awaited c.vcpu-vcpu.result c.look_flushed.result c.look_flushed.ensures.hand c.look_flushed.ensures.moves c.requires.marked c.if-look_flushed-awaited.true;
       steps = own_late_list v u c.args.awaited.stamp c.vcpu-vcpu.result c.look_flushed.result c.look_flushed.ensures.moves c.if-look_flushed-awaited.true;

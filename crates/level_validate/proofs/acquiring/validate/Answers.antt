@@ -3,7 +3,7 @@ use Rattle.std.proofs.Common.{◌≡◌, ◌∷◌, ◌∙◌, [], List, sym, ap
 use Rattle.step_maker.proofs.Coming.{came_trans}
 use Rattle.partial_state.specs.declared.stack.TableWork.{TableWork}
 use Rattle.answer_fits.specs.Answers.{missed}
-use Rattle.level_validate.specs.Acquiring.{StopsRisen, outermost}
+use Rattle.level_validate.specs.Acquiring.{StopsRisen, outermost_work}
 use Rattle.level_validate.specs.Serving.{CarriesOn}
 use Rattle.level_validate.specs.Tables.{IsStanding, StandsOn}
 use Rattle.level_validate.specs.Unwinding.{Unwinds}
@@ -32,7 +32,7 @@ complete_outer-requires-clause-stands g c =
     let t = c.args.table in
     let one = only t c.new-stack.result c.push.new.self c.new-stack.ensures c.push.ensures.pushed in
     let stands = on_stands u x c.args.owner c.push.new.self c.fill.new.stack (subst (λ us. IsStanding u c.args.owner us) (sym one) c.requires.stands) c.fill.ensures.stands in
-    (c.args.owner, subst (λ us. IsStanding x c.args.owner us) (filled_is t c.fill.new.stack c.in-Ok.ensures.filled (c.fill.ensures.outer ∙ ap outermost one)) stands)
+    (c.args.owner, subst (λ us. IsStanding x c.args.owner us) (filled_is t c.fill.new.stack c.in-Ok.ensures.filled (c.fill.ensures.outer ∙ ap outermost_work one)) stands)
 
 pub returns-in-Ok-clause-came : goal.returns-in-Ok-clause-came
 returns-in-Ok-clause-came g c = came_trans (g.P.Port.value c.args.port.now) (g.P.Port.value c.fill.new.port) (g.P.Port.value c.complete_outer.new.port) c.fill.ensures.came c.complete_outer.ensures.came
@@ -43,7 +43,7 @@ returns-in-Ok-clause-hand g c =
     let x = g.P.Port.value c.fill.new.port in
     let t = c.args.table in
     let one = only t c.new-stack.result c.push.new.self c.new-stack.ensures c.push.ensures.pushed in
-    let full = filled_is t c.fill.new.stack c.in-Ok.ensures.filled (c.fill.ensures.outer ∙ ap outermost one) in
+    let full = filled_is t c.fill.new.stack c.in-Ok.ensures.filled (c.fill.ensures.outer ∙ ap outermost_work one) in
     completed u x (g.P.Port.value c.complete_outer.new.port) c.args.owner t c.requires.stands
     (subst (λ ts. StandsOn u x c.args.owner ts (record t { done = 512 } ∷ [])) one (subst (λ us. StandsOn u x c.args.owner c.push.new.self us) full c.fill.ensures.stands)) c.complete_outer.ensures.hand
 
@@ -53,7 +53,7 @@ returns-in-Ok-clause-serves g c =
     let x = g.P.Port.value c.fill.new.port in
     let t = c.args.table in
     let one = only t c.new-stack.result c.push.new.self c.new-stack.ensures c.push.ensures.pushed in
-    let full = filled_is t c.fill.new.stack c.in-Ok.ensures.filled (c.fill.ensures.outer ∙ ap outermost one) in
+    let full = filled_is t c.fill.new.stack c.in-Ok.ensures.filled (c.fill.ensures.outer ∙ ap outermost_work one) in
     goes_then u x (g.P.Port.value c.complete_outer.new.port) c.args.owner (t ∷ []) (record t { done = 512 } ∷ []) [] [] []
     (subst (λ ts. CarriesOn u x c.args.owner ts (record t { done = 512 } ∷ []) []) one (subst (λ us. CarriesOn u x c.args.owner c.push.new.self us []) full c.in-Ok.ensures.serves)) (c.complete_outer.ensures.serves c.args.owner)
 
