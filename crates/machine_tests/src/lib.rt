@@ -10,3 +10,5 @@ mod lists;
 mod runs;
 #[cfg(test)]
 mod steps;
+#[cfg(test)]
+mod tables;
