@@ -30,6 +30,11 @@ abbrev pub is_due_answer : {A : Type 0} → Result A Stop → Bool
 is_due_answer (Err e) = is_due_stop e
 is_due_answer (Ok a) = false
 
+-- it is a pause
+abbrev pub is_paused_answer : {A : Type 0} → Result A Stop → Bool
+is_paused_answer (Err e) = not (is_refused e)
+is_paused_answer (Ok a) = false
+
 -- why a table is not to be had
 abbrev pub IsAcquireStop : Stop → Type 0
 IsAcquireStop (Refused (refusals.NoFrame f)) = Unit {0}

@@ -10,8 +10,9 @@ ghost use Rattle.partial_state.specs.Levels.{level_type};
 ghost use Rattle.table_words.specs.OldWords.{known_old};
 ghost use Rattle.table_words.specs.declared.old_words.OldWord.TheVariants.{First};
 ghost use Rattle.partial_state.specs.Weights.{weight};
-ghost use Rattle.level_validate.specs.Acquiring.{IsAcquireStop, IsTableWaiting, LeavesAcquired, LeavesWaiting, StopsRisen, Validated, is_asked, is_due_answer, is_filled, of_acquire, outermost_work};
+ghost use Rattle.level_validate.specs.Acquiring.{IsAcquireStop, IsTableWaiting, LeavesAcquired, LeavesWaiting, StopsRisen, Validated, is_asked, is_due_answer, is_filled, is_paused_answer, of_acquire, outermost_work};
 ghost use Rattle.level_validate.specs.Forward.{Forward};
+ghost use Rattle.level_validate.specs.Leaving.{LeftWell};
 ghost use Rattle.level_validate.specs.Serving.{CarriesOn};
 ghost use Rattle.level_validate.specs.Tables.{IsIdle, IsStanding, IsTopReady, StandsOn};
 ghost use Rattle.level_validate.specs.Unwinding.{own_domain};
@@ -53,6 +54,7 @@ pub fn acquire<P: Port>(
     ensures kinds { IfErr result IsAcquireStop }
     // No entry is given back, and none read but the next one of a table in work, or the last recorded one.
     ensures forward { Forward (P.value port.old) (P.value port.new) }
+    ensures leaves { LeftWell (P.value port.old) (P.value port.new) (is_paused_answer result) f }
     ensures hand { LeavesAcquired (P.value port.old) (P.value port.new) f owner level result }
     ensures gate { count_yes gate.new ≡ (if is_due_answer result then count_yes gate.old + 1 else count_yes gate.old) }
     ensures heard { Heard (says gate.old) (count_asks gate.old) (count_asks gate.new) (is_due_answer result) }
@@ -102,6 +104,7 @@ fn leave_waiting<P: Port>(port: &mut P, frame: u32, level: u8, own: bool, stamp:
     requires room { known_old First (P.value port.old).holdings ≡ Some 0 }
     ensures came { Came (P.value port.old) (P.value port.new) }
     ensures forward { Forward (P.value port.old) (P.value port.new) }
+    ensures leaves { LeftWell (P.value port.old) (P.value port.new) kept frame }
     ensures serves { ServesType (P.value port.old) (P.value port.new) frame (level_type level) }
     ensures hand { LeavesWaiting (P.value port.old) (P.value port.new) frame level own stamp kept }
 {
@@ -130,6 +133,7 @@ fn validate<P: Port>(
     requires room { known_old First (P.value port.old).holdings ≡ Some 0 }
     ensures came { Came (P.value port.old) (P.value port.new) }
     ensures forward { Forward (P.value port.old) (P.value port.new) }
+    ensures leaves { LeftWell (P.value port.old) (P.value port.new) (is_paused_answer result) table.frame }
     ensures hand { Validated (P.value port.old) (P.value port.new) table result }
     ensures kinds { IfErr result IsAcquireStop }
     ensures serves { CarriesOn (P.value port.old) (P.value port.new) owner (table ∷ []) [] (misses (P.value port.old).post.machine result) }
@@ -168,6 +172,7 @@ fn fill<P: Port>(
     requires fresh { table.done ≡ 0 → IsTopReady (P.value port.old) }
     ensures came { Came (P.value port.old) (P.value port.new) }
     ensures forward { Forward (P.value port.old) (P.value port.new) }
+    ensures leaves { (f : ℕ) → LeftWell (P.value port.old) (P.value port.new) false f }
     ensures stands { StandsOn (P.value port.old) (P.value port.new) owner stack.old stack.new }
     ensures outer { outermost_work stack.new ≡ outermost_work stack.old }
     ensures filled { IfOk result (λ _. is_filled stack.new ≡ true) }
@@ -201,6 +206,7 @@ fn go_on<P: Port>(
     requires more { is_filled stack.old ≡ false }
     ensures came { Came (P.value port.old) (P.value port.new) }
     ensures forward { Forward (P.value port.old) (P.value port.new) }
+    ensures leaves { (f : ℕ) → LeftWell (P.value port.old) (P.value port.new) false f }
     ensures stands { StandsOn (P.value port.old) (P.value port.new) owner stack.old stack.new }
     ensures outer { outermost_work stack.new ≡ outermost_work stack.old }
     ensures ready { IfOk result (λ _. IsTopReady (P.value port.new)) }
@@ -232,6 +238,7 @@ fn advance<P: Port>(port: &mut P, owner: u16, stack: &mut Stack) -> Result<bool,
     requires more { is_filled stack.old ≡ false }
     ensures came { Came (P.value port.old) (P.value port.new) }
     ensures forward { Forward (P.value port.old) (P.value port.new) }
+    ensures leaves { (f : ℕ) → LeftWell (P.value port.old) (P.value port.new) false f }
     ensures stands { StandsOn (P.value port.old) (P.value port.new) owner stack.old stack.new }
     ensures outer { outermost_work stack.new ≡ outermost_work stack.old }
     ensures ready { IfOk result (λ _. IsTopReady (P.value port.new)) }

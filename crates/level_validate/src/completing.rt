@@ -16,6 +16,7 @@ ghost use Rattle.partial_state.specs.declared.stack.TableWork.{TableWork};
 ghost use Rattle.level_validate.specs.Completing.{Completes, IsInnerFull, count_for};
 ghost use Rattle.level_validate.specs.Giving.{MayGiveBack};
 ghost use Rattle.level_validate.specs.Forward.{Forward};
+ghost use Rattle.level_validate.specs.Leaving.{LeftWell};
 ghost use Rattle.level_validate.specs.Serving.{CarriesOn};
 ghost use Rattle.level_validate.specs.Tables.{IsTopReady, IsStanding, StandsOn};
 
@@ -34,6 +35,7 @@ pub(crate) fn complete_outer<P: Port>(port: &mut P, table: TableWork)
     requires full { table.done ≡ 512 }
     ensures came { Came (P.value port.old) (P.value port.new) }
     ensures forward { Forward (P.value port.old) (P.value port.new) }
+    ensures leaves { (f : ℕ) → LeftWell (P.value port.old) (P.value port.new) false f }
     ensures hand { Completes (P.value port.old) (P.value port.new) table }
     ensures serves { (owner : ℕ) → CarriesOn (P.value port.old) (P.value port.new) owner (table ∷ []) [] [] }
 {
@@ -49,6 +51,7 @@ pub(crate) fn complete_inner<P: Port>(port: &mut P, stack: &mut Stack)
     requires full { IsInnerFull stack.old }
     ensures came { Came (P.value port.old) (P.value port.new) }
     ensures forward { Forward (P.value port.old) (P.value port.new) }
+    ensures leaves { (f : ℕ) → LeftWell (P.value port.old) (P.value port.new) false f }
     ensures stands { (owner : ℕ) → StandsOn (P.value port.old) (P.value port.new) owner stack.old stack.new }
     ensures popped { stack.new ≡ drop 1 stack.old }
     ensures progress { Progress (Met (P.value port.old) (P.value port.new)) }
@@ -74,6 +77,7 @@ fn complete_in<P: Port>(port: &mut P, table: TableWork, outer: TableWork)
     requires full { table.done ≡ 512 }
     ensures came { Came (P.value port.old) (P.value port.new) }
     ensures forward { Forward (P.value port.old) (P.value port.new) }
+    ensures leaves { (f : ℕ) → LeftWell (P.value port.old) (P.value port.new) false f }
     ensures stands { (owner : ℕ) (us : List TableWork) → StandsOn (P.value port.old) (P.value port.new) owner (table ∷ outer ∷ us) (outer ∷ us) }
     ensures serves { (owner : ℕ) (us : List TableWork) → CarriesOn (P.value port.old) (P.value port.new) owner (table ∷ outer ∷ us) (outer ∷ us) [] }
     ensures progress { Progress (Met (P.value port.old) (P.value port.new)) }
@@ -108,6 +112,7 @@ pub(crate) fn give_back<P: Port>(port: &mut P, frame: u32)
     requires gives { MayGiveBack (P.value port.old).post.machine (P.value port.old).post.vcpu frame (P.value port.old).holdings }
     ensures came { Came (P.value port.old) (P.value port.new) }
     ensures forward { Forward (P.value port.old) (P.value port.new) }
+    ensures leaves { (f : ℕ) → LeftWell (P.value port.old) (P.value port.new) false f }
     ensures hand { Holds (P.value port.old) (P.value port.new) (gave_type frame (P.value port.old).holdings) }
     ensures serves { Serves (P.value port.old) (P.value port.new) (of_back frame) [] }
 {

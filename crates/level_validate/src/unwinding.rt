@@ -12,7 +12,9 @@ ghost use Rattle.table_words.specs.OldWords.{known_old};
 ghost use Rattle.table_words.specs.declared.old_words.OldWord.TheVariants.{First};
 ghost use Rattle.partial_state.specs.Levels.{level_type};
 ghost use Rattle.partial_state.specs.declared.stack.TableWork.{TableWork};
+ghost use Rattle.level_validate.specs.Acquiring.{outermost_work};
 ghost use Rattle.level_validate.specs.Forward.{Forward};
+ghost use Rattle.level_validate.specs.Leaving.{LeftWell};
 ghost use Rattle.level_validate.specs.Serving.{CarriesOn};
 ghost use Rattle.level_validate.specs.Tables.{IsStanding, StandsOn};
 ghost use Rattle.level_validate.specs.Unwinding.{Unwinds, UnwindsTo, around_lent, left_so, own_domain};
@@ -31,6 +33,7 @@ pub(crate) fn unwind<P: Port>(port: &mut P, stack: &mut Stack, kept: bool)
     requires room { kept ≡ false → known_old First (P.value port.old).holdings ≡ Some 0 }
     ensures came { Came (P.value port.old) (P.value port.new) }
     ensures forward { Forward (P.value port.old) (P.value port.new) }
+    ensures leaves { (t : TableWork) → outermost_work stack.old ≡ Some t → LeftWell (P.value port.old) (P.value port.new) kept t.frame }
     ensures hand { Unwinds (P.value port.old) (P.value port.new) kept stack.old }
     ensures done { stack.new ≡ [] }
     ensures serves { (owner : ℕ) → CarriesOn (P.value port.old) (P.value port.new) owner stack.old [] [] }
@@ -47,6 +50,7 @@ fn leave_table<P: Port>(port: &mut P, stack: &mut Stack, table: TableWork, kept:
     requires room { kept ≡ false → known_old First (P.value port.old).holdings ≡ Some 0 }
     ensures came { Came (P.value port.old) (P.value port.new) }
     ensures forward { Forward (P.value port.old) (P.value port.new) }
+    ensures leaves { (t : TableWork) → outermost_work (table ∷ stack.old) ≡ Some t → LeftWell (P.value port.old) (P.value port.new) kept t.frame }
     ensures hand { UnwindsTo (P.value port.old) (P.value port.new) kept (table ∷ stack.old) stack.new }
     ensures fewer { length stack.new ≡ length stack.old }
     ensures serves { (owner : ℕ) → CarriesOn (P.value port.old) (P.value port.new) owner (table ∷ stack.old) stack.new [] }
@@ -65,6 +69,7 @@ fn leave_outermost<P: Port>(port: &mut P, table: TableWork, kept: bool)
     requires room { kept ≡ false → known_old First (P.value port.old).holdings ≡ Some 0 }
     ensures came { Came (P.value port.old) (P.value port.new) }
     ensures forward { Forward (P.value port.old) (P.value port.new) }
+    ensures leaves { LeftWell (P.value port.old) (P.value port.new) kept table.frame }
     ensures hand { Unwinds (P.value port.old) (P.value port.new) kept (table ∷ []) }
     ensures serves { (owner : ℕ) → CarriesOn (P.value port.old) (P.value port.new) owner (table ∷ []) [] [] }
 {
@@ -83,6 +88,7 @@ fn leave_named<P: Port>(port: &mut P, table: TableWork, kept: bool)
     requires room { kept ≡ false → known_old First (P.value port.old).holdings ≡ Some 0 }
     ensures came { Came (P.value port.old) (P.value port.new) }
     ensures forward { Forward (P.value port.old) (P.value port.new) }
+    ensures leaves { LeftWell (P.value port.old) (P.value port.new) kept table.frame }
     ensures hand { Unwinds (P.value port.old) (P.value port.new) kept (table ∷ []) }
     ensures serves { (owner : ℕ) → CarriesOn (P.value port.old) (P.value port.new) owner (table ∷ []) [] [] }
 {
@@ -99,6 +105,7 @@ fn leave_inner<P: Port>(port: &mut P, stack: &mut Stack, table: TableWork)
     requires inner { stack.old ≢ [] }
     ensures came { Came (P.value port.old) (P.value port.new) }
     ensures forward { Forward (P.value port.old) (P.value port.new) }
+    ensures leaves { (f : ℕ) → LeftWell (P.value port.old) (P.value port.new) false f }
     ensures stands { StandsOn (P.value port.old) (P.value port.new) (own_domain (P.value port.old)) (table ∷ stack.old) stack.new }
     ensures around { (b : Bool) × (stack.new ≡ around_lent b stack.old) }
     ensures serves { (owner : ℕ) → CarriesOn (P.value port.old) (P.value port.new) owner (table ∷ stack.old) stack.new [] }
@@ -122,6 +129,7 @@ fn leave_own<P: Port>(port: &mut P, stack: &Stack, table: TableWork)
     requires inner { stack.now ≢ [] }
     ensures came { Came (P.value port.old) (P.value port.new) }
     ensures forward { Forward (P.value port.old) (P.value port.new) }
+    ensures leaves { (f : ℕ) → LeftWell (P.value port.old) (P.value port.new) false f }
     ensures stands { StandsOn (P.value port.old) (P.value port.new) (own_domain (P.value port.old)) (table ∷ stack.now) stack.now }
     ensures serves { (owner : ℕ) → CarriesOn (P.value port.old) (P.value port.new) owner (table ∷ stack.now) stack.now [] }
 {
@@ -140,6 +148,7 @@ fn leave_lent<P: Port>(port: &mut P, table: TableWork)
     requires lent { table.own ≡ false }
     ensures came { Came (P.value port.old) (P.value port.new) }
     ensures forward { Forward (P.value port.old) (P.value port.new) }
+    ensures leaves { (f : ℕ) → LeftWell (P.value port.old) (P.value port.new) false f }
     ensures stands { (ts : List TableWork) → StandsOn (P.value port.old) (P.value port.new) (own_domain (P.value port.old)) (table ∷ ts) (around_lent table.recorded ts) }
     ensures serves { (owner : ℕ) (ts : List TableWork) → CarriesOn (P.value port.old) (P.value port.new) owner (table ∷ ts) (around_lent table.recorded ts) [] }
 {
