@@ -8,6 +8,9 @@ mod LeavingLent
 mod LeavingOwn
 mod LeavingTables
 mod LeftWaiting
+mod LeftWell
+mod LeftWellEntries
+mod LeftWellWaiting
 mod Looking
 mod Lowering
 mod Nested

@@ -18,7 +18,7 @@ use Rattle.level_validate.proofs.Looking.{FirstFound, met_first}
 abbrev pub WasFound : PortValue → PortValue → Visit → Type 0
 WasFound v w s = FoundAt (Met v w) s.place s.found
 
-were_found : (v w x : PortValue) (ms : List Moment) → Ran v ms w → Came w x → EachOf (WasFound v x) (visits ms)
+pub were_found : (v w x : PortValue) (ms : List Moment) → Ran v ms w → Came w x → EachOf (WasFound v x) (visits ms)
 unfolding EachOf Came
 were_found v w x [] ran after = tt
 were_found v w x (m ∷ ms) ran after = (
@@ -43,7 +43,7 @@ module _ (Q : Visit → Type 0) where
   each_after xs (y ∷ ys) each = (each.0, each_after xs ys each.1)
 
   module _ (A B : List Visit → Type 0) (vs : List Visit) (both : Then A B vs) (each : EachOf Q vs) where
-    each_first : EachOf Q both.before
+    pub each_first : EachOf Q both.before
     each_first = each_before both.before both.after (subst (λ xs. EachOf Q xs) both.list each)
 
     pub each_next : EachOf Q both.after

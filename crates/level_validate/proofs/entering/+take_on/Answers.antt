@@ -1,4 +1,4 @@
-use Rattle.std.proofs.Common.{◌≡◌, ℕ, ◌<◌, ◌+◌, ◌-◌, ◌∷◌, [], drop, true, false, Ok, Err, refl, sym, ap, ◌∙◌, subst, arith}
+use Rattle.std.proofs.Common.{◌≡◌, ℕ, ◌<◌, ◌+◌, ◌-◌, ◌^◌, not, IsTrue, ◌∷◌, [], drop, true, false, Ok, Err, refl, sym, ap, ◌∙◌, subst, arith}
 use Rattle.std.proofs.lemmas.Result.{IfErr-weaker, err_from_is_err_and}
 use Rattle.xp_words.specs.Entries.{below}
 use Rattle.xp_words.specs.declared.kind.PageType.{PageType}
@@ -32,6 +32,11 @@ use Rattle.frame_types.specs.Found.{DeadBy, SharedBy}
 use Rattle.level_validate.proofs.Forward.{forward_by, forward_nothing, forward_then}
 use Rattle.level_validate.proofs.Onward.{dead_onward, shared_onward}
 use Rattle.level_validate.proofs.OnwardEntries.{resumes_forward}
+use Rattle.level_validate.proofs.LeftWell.{well_by, well_nothing, well_then}
+use Rattle.level_validate.proofs.LeftWellEntries.{IsAskedType, resumes_well, shared_plain, small_number}
+use Rattle.level_validate.proofs.LeftWellWaiting.{waiting_well}
+use Rattle.partial_state.proofs.LevelFacts.{level_type-plain, level_type-typed}
+use Rattle.xp_words.specs.PageTypes.{is_none}
 use Rattle.level_validate.proofs.entering.+take_on.Goals as goal
 
 pub returns-then-top-eq0-clause-came : goal.returns-then-top-eq0-clause-came
@@ -628,3 +633,59 @@ returns-else-own-clause-forward g n c =
     let k = c.level_type-kind.result in
     forward_then u x y (resumes_forward u x c.args.owner c.args.top c.args.stack.now c.requires.top c.requires.stands c.level_type.result c.level_type.ensures _ c.if-top-eq0.false c.in_ok-resume_entry.ensures.found)
     (forward_by x y (λ vs. SharedBy f k c.in-Waiting.stamp vs) (shared_onward f k c.in-Waiting.stamp) c.leave_shared.ensures.visits)
+
+pub returns-then-top-eq0-clause-leaves : goal.returns-then-top-eq0-clause-leaves
+returns-then-top-eq0-clause-leaves g n c e = well_nothing (g.P.Port.value c.args.port.now) false e
+
+pub returns-in_err-resume_entry-clause-leaves : goal.returns-in_err-resume_entry-clause-leaves
+returns-in_err-resume_entry-clause-leaves g n c e = resumes_well (g.P.Port.value c.args.port.now) (g.P.Port.value c.resume_entry.new.port) e c.args.top.frame (c.args.top.done - 1) c.level_type.result c.args.owner _ c.in_err-resume_entry.ensures.found
+
+pub returns-in-Settled-clause-leaves : goal.returns-in-Settled-clause-leaves
+returns-in-Settled-clause-leaves g n c e = resumes_well (g.P.Port.value c.args.port.now) (g.P.Port.value c.resume_entry.new.port) e c.args.top.frame (c.args.top.done - 1) c.level_type.result c.args.owner _ c.in_ok-resume_entry.ensures.found
+
+pub returns-in-Taken-clause-leaves : goal.returns-in-Taken-clause-leaves
+returns-in-Taken-clause-leaves g n c e =
+    let u = g.P.Port.value c.args.port.now in
+    let x = g.P.Port.value c.resume_entry.new.port in
+    well_then u x (g.P.Port.value c.give_back.new.port) false e (resumes_well u x e c.args.top.frame (c.args.top.done - 1) c.level_type.result c.args.owner _ c.in_ok-resume_entry.ensures.found) (c.give_back.ensures.leaves e)
+
+pub returns-in-Opened-clause-leaves : goal.returns-in-Opened-clause-leaves
+returns-in-Opened-clause-leaves g n c e =
+    let u = g.P.Port.value c.args.port.now in
+    let x = g.P.Port.value c.resume_entry.new.port in
+    well_then u x (g.P.Port.value c.take_on.new.port) false e (resumes_well u x e c.args.top.frame (c.args.top.done - 1) c.level_type.result c.args.owner _ c.in_ok-resume_entry.ensures.found) (c.take_on.ensures.leaves e)
+
+pub returns-then-own-clause-leaves : goal.returns-then-own-clause-leaves
+returns-then-own-clause-leaves g n c e =
+    let u = g.P.Port.value c.args.port.now in
+    let x = g.P.Port.value c.resume_entry.new.port in
+    let y = g.P.Port.value c.leave_dead.new.port in
+    let t = c.args.top in
+    let ts = drop 1 c.args.stack.now in
+    let owner = c.args.owner in
+    let i = t.done - 1 in
+    let found = c.in_ok-resume_entry.ensures.found in
+    let came = serves_came u x (of_entries owner 0) [] (c.in_ok-resume_entry.ensures.serves 0) in
+    let a = c.requires.stands in
+    let s0 = subst (λ xs. Carries a.0 u owner xs) c.requires.top a.1 in
+    let left = subst (λ k. LeavesResumed u x t.frame k i owner (again.Waiting c.in-Waiting.frame c.in-Waiting.own c.in-Waiting.stamp c.in-Waiting.stop)) c.level_type.ensures (subst (λ r. LeavesResumed u x t.frame c.level_type.result i owner r) c.in-Waiting.is c.in_ok-resume_entry.ensures.hand) in
+    let mine = subst (λ b. (o : Opens u x t.frame i (level_type t.level) c.in-Waiting.frame owner 0 b true) × ((kind_fields o.work.word).number ≡ c.in-Waiting.stamp)) c.if-own.true left in
+    well_then u x y false e (resumes_well u x e t.frame i c.level_type.result owner _ found)
+    (waiting_well a.0 u x owner t ts s0 came (resumed_first u x _ _ _ _ _ found) i c.in-Waiting.frame (back_one t.done c.if-top-eq0.false) mine.0 e c.level_type-kind.result
+    (subst (λ k. IsTrue (not (is_none k))) (sym c.level_type-kind.ensures) (level_type-typed (t.level - 1))) y c.leave_dead.ensures.visits)
+
+pub returns-else-own-clause-leaves : goal.returns-else-own-clause-leaves
+returns-else-own-clause-leaves g n c e =
+    let u = g.P.Port.value c.args.port.now in
+    let x = g.P.Port.value c.resume_entry.new.port in
+    let y = g.P.Port.value c.leave_shared.new.port in
+    let t = c.args.top in
+    let owner = c.args.owner in
+    let i = t.done - 1 in
+    let f = c.in-Waiting.frame in
+    let k = c.level_type-kind.result in
+    let left = subst (λ r. LeavesResumed u x t.frame c.level_type.result i owner r) c.in-Waiting.is c.in_ok-resume_entry.ensures.hand in
+    let small = subst (λ m. m < 2 ^ 36) left.1 (small_number left.0.work.word) in
+    let asked = subst (λ j. IsAskedType j) (sym c.level_type-kind.ensures) (level_type-typed (t.level - 1), level_type-plain (t.level - 1)) in
+    well_then u x y false e (resumes_well u x e t.frame i c.level_type.result owner _ c.in_ok-resume_entry.ensures.found)
+    (well_by x y false e (λ vs. SharedBy f k c.in-Waiting.stamp vs) (shared_plain f k c.in-Waiting.stamp asked small) c.leave_shared.ensures.visits)

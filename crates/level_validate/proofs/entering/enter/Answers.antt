@@ -27,6 +27,8 @@ use Rattle.level_validate.proofs.StandsFacts.{may_back, may_stands}
 use Rattle.level_validate.proofs.Waiting.{wait_stops}
 use Rattle.level_validate.proofs.Forward.{forward_then}
 use Rattle.level_validate.proofs.OnwardEntries.{enters_forward}
+use Rattle.level_validate.proofs.LeftWell.{well_then}
+use Rattle.level_validate.proofs.LeftWellEntries.{enters_well}
 use Rattle.level_validate.proofs.entering.enter.Goals as goal
 
 pub take_entry-requires-clause-frame : goal.take_entry-requires-clause-frame
@@ -434,3 +436,19 @@ returns-in-Opened-clause-forward g c =
 pub returns-in-Unsettled-clause-forward : goal.returns-in-Unsettled-clause-forward
 returns-in-Unsettled-clause-forward g c =
     enters_forward (g.P.Port.value c.args.port.now) (g.P.Port.value c.take_entry.new.port) c.args.owner c.in-Some.top c.args.stack.now c.in-Some.ensures.some c.requires.stands c.level_type.result c.level_type.ensures _ c.in_ok-take_entry.ensures.found
+
+pub returns-in_err-take_entry-clause-leaves : goal.returns-in_err-take_entry-clause-leaves
+returns-in_err-take_entry-clause-leaves g c e = enters_well (g.P.Port.value c.args.port.now) (g.P.Port.value c.take_entry.new.port) e c.in-Some.top.frame c.in-Some.top.done c.level_type.result c.args.owner _ c.in_err-take_entry.ensures.found
+
+pub returns-in-Recorded-clause-leaves : goal.returns-in-Recorded-clause-leaves
+returns-in-Recorded-clause-leaves g c e = enters_well (g.P.Port.value c.args.port.now) (g.P.Port.value c.take_entry.new.port) e c.in-Some.top.frame c.in-Some.top.done c.level_type.result c.args.owner _ c.in_ok-take_entry.ensures.found
+
+pub returns-in-Opened-clause-leaves : goal.returns-in-Opened-clause-leaves
+returns-in-Opened-clause-leaves g c e =
+    let u = g.P.Port.value c.args.port.now in
+    let x = g.P.Port.value c.take_entry.new.port in
+    let t = c.in-Some.top in
+    well_then u x (g.P.Port.value c.take_on.new.port) false e (enters_well u x e t.frame t.done c.level_type.result c.args.owner _ c.in_ok-take_entry.ensures.found) (c.take_on.ensures.leaves e)
+
+pub returns-in-Unsettled-clause-leaves : goal.returns-in-Unsettled-clause-leaves
+returns-in-Unsettled-clause-leaves g c e = enters_well (g.P.Port.value c.args.port.now) (g.P.Port.value c.take_entry.new.port) e c.in-Some.top.frame c.in-Some.top.done c.level_type.result c.args.owner _ c.in_ok-take_entry.ensures.found
