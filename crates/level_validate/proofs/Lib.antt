@@ -8,6 +8,7 @@ mod LeavingLent
 mod LeavingOwn
 mod LeavingTables
 mod LeftWaiting
+mod LeftWell
 mod Looking
 mod Lowering
 mod Nested
@@ -17,6 +18,7 @@ mod Opening
 mod Outermost
 mod Progressing
 mod Pushing
+mod Recorded
 mod Requested
 mod Rising
 mod Serving

@@ -66,7 +66,7 @@ pub record TakenOn (t : TableWork) (e : Work) (g : TableWork) : Type 0 where
   pub seen : e.seen ≡ Some (record { index = t.done - 1; word = word })
   pub asks : demand_at (level_type t.level) (t.done - 1) word ≡ Typed g.frame (level_type g.level)
 
-reaches_on : (z : Sizes) (steps : List Made) (t : TableWork) (e : Work) (g : TableWork) (o : Option TableWork) → o ≡ Some g → g.recorded ≡ true → Reaches z steps t e o → TakenOn t e g
+pub reaches_on : (z : Sizes) (steps : List Made) (t : TableWork) (e : Work) (g : TableWork) (o : Option TableWork) → o ≡ Some g → g.recorded ≡ true → Reaches z steps t e o → TakenOn t e g
 reaches_on z steps t e g o inner old (innermost all) = absurd cc
 reaches_on z steps t e g o inner old (under_way h word new next settled seen asks) = absurd cc
 reaches_on z steps t e g o inner old (taken_on h word old2 all some last seen asks) =

@@ -57,12 +57,12 @@ two_works f x y zs ws are few first second =
     let two = times_by-cons_here (λ (e : Work). e.frame) f y zs second in
     omega (arith, all, few, one, two)
 
-second_here : (f : ℕ) (x y : Work) (zs ws : List Work) → ws ≡ x ∷ y ∷ zs → works_on f ws ≤ 1 → y.frame ≡ f → work_on f ws ≡ Some y
+pub second_here : (f : ℕ) (x y : Work) (zs ws : List Work) → ws ≡ x ∷ y ∷ zs → works_on f ws ≤ 1 → y.frame ≡ f → work_on f ws ≡ Some y
 second_here f x y zs ws are few second =
     ap (λ us. work_on f us) are ∙ first_by-cons_other (λ (e : Work). e.frame) f x (y ∷ zs) (λ first. two_works f x y zs ws are few first second)
     ∙ first_by-cons_here (λ (e : Work). e.frame) f y zs second
 
-held_by : (i word : ℕ) (o : Option Work) (e : Work) (k : Option Lock) (d : Demand) → o ≡ Some e → is_table (kind_fields e.word).kind ≡ true → (kind_fields e.word).unflushed ≡ false →
+pub held_by : (i word : ℕ) (o : Option Work) (e : Work) (k : Option Lock) (d : Demand) → o ≡ Some e → is_table (kind_fields e.word).kind ≡ true → (kind_fields e.word).unflushed ≡ false →
     demand_at (kind_fields e.word).kind i word ≡ d → demand_by i word o k ≡ Some d
 held_by i word o e k d is table past asks = rw (is, table, past, asks) refl
 
