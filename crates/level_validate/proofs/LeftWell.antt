@@ -146,3 +146,7 @@ put_plain f vs a = then_plain (Only (lowers_refs f a.word)) (λ us. FreesBy f a.
 
 pub stores_plain : (f : ℕ) (k : KindWord) → IsTrue (is_kind k) → k.kept ≡ false → is_dead k ≡ false → (vs : List Visit) → StoresKind f k vs → Plain vs
 stores_plain f k is unkept alive vs a = only_plain (visit (Kind f) (Store (kind_write k)) a.0) (plain_kind k is unkept alive f) vs a.1
+
+-- a kind word without a mark, of no dead frame
+pub kind_well : (v w : PortValue) (kept : Bool) (f g : ℕ) (k : KindWord) (kind : StepKind) (mark : Option Mark) (found : ℕ) → IsTrue (is_kind k) → k.kept ≡ false → is_dead k ≡ false → Moves v w (Kind g) (Store (kind_write k)) kind mark found → LeftWell v w kept f
+kind_well v w kept f g k kind mark found is unkept alive m = well_step v w kept f (Kind g) (Store (kind_write k)) kind mark found (plain_kind k is unkept alive g) m
