@@ -3,6 +3,7 @@ use Rattle.std.proofs.Common.{◌≡◌, ◌⊎◌, ℕ, ◌||◌, ◌&&◌, Boo
 use Rattle.xp_words.specs.KindWords.{is_kind, kind_fields, kind_write}
 use Rattle.xp_words.specs.PageTypes.{is_table}
 use Rattle.xp_words.specs.declared.kind.KindWord.{KindWord}
+use Rattle.xp_words.specs.declared.kind.PageType.{PageType}
 use Rattle.xp_words.specs.declared.place.Place.{Place}
 use Rattle.xp_words.specs.declared.place.Place.TheVariants.{Kind}
 use Rattle.xp_board.specs.declared.step.Act.{Act}
@@ -17,9 +18,10 @@ use Rattle.step_maker.specs.Moves.{Moment, Moves, Ran}
 use Rattle.step_maker.proofs.Coming.{moment_of, moves_ran, ran_more}
 use Rattle.answer_fits.specs.Visits.{Does, Nothing, Only, Then, Visit, visit, visits}
 use Rattle.answer_fits.proofs.Piecing.{each_append}
+use Rattle.kind_words.specs.Kinds.{partial_kind}
 use Rattle.kind_words.proofs.KindWriting.{fields_write}
 use Rattle.frame_words.specs.Freeing.{FreesBy, PutBy, lowers_refs}
-use Rattle.frame_types.specs.Found.{StoresKind}
+use Rattle.frame_types.specs.Found.{SharedBy, StoresKind}
 use Rattle.level_validate.specs.Leaving.{IsRecorded, LeavesWell, LeftWell}
 
 pub well_nothing : (v : PortValue) (kept : Bool) (f : ℕ) → LeftWell v v kept f
@@ -150,3 +152,6 @@ stores_plain f k is unkept alive vs a = only_plain (visit (Kind f) (Store (kind_
 -- a kind word without a mark, of no dead frame
 pub kind_well : (v w : PortValue) (kept : Bool) (f g : ℕ) (k : KindWord) (kind : StepKind) (mark : Option Mark) (found : ℕ) → IsTrue (is_kind k) → k.kept ≡ false → is_dead k ≡ false → Moves v w (Kind g) (Store (kind_write k)) kind mark found → LeftWell v w kept f
 kind_well v w kept f g k kind mark found is unkept alive m = well_step v w kept f (Kind g) (Store (kind_write k)) kind mark found (plain_kind k is unkept alive g) m
+
+pub shared_plain : (f : ℕ) (t : PageType) (stamp : ℕ) → IsTrue (is_kind (partial_kind t false true 0 stamp)) → (vs : List Visit) → SharedBy f t stamp vs → Plain vs
+shared_plain f t stamp is vs a = then_plain (λ us. StoresKind f (partial_kind t false true 0 stamp) us) (PutBy f) (stores_plain f (partial_kind t false true 0 stamp) is refl refl) (put_plain f) vs a
