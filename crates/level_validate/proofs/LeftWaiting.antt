@@ -1,6 +1,9 @@
 -- A frame that waits for a flush is left: what is in hand then, from before it was referred to.
-use Rattle.std.proofs.Common.{◌≡◌, ℕ, ◌+◌, ◌<◌, ◌&&◌, not, if◌then◌else◌, Bool, true, false, Some, refl, sym, ap, ◌∙◌, subst}
+use Rattle.std.proofs.Common.{◌≡◌, ℕ, ◌+◌, ◌<◌, ◌==◌, ◌&&◌, not, if◌then◌else◌, Bool, true, false, Some, IsTrue, refl, sym, ap, ◌∙◌, subst}
+use Rattle.std.proofs.lemmas.Bool.{or_left}
+use Rattle.xp_words.specs.KindWords.{is_kind}
 use Rattle.xp_words.specs.Machine.{IsMachine}
+use Rattle.xp_words.specs.PageTypes.{type_number}
 use Rattle.xp_words.specs.declared.kind.PageType.{PageType}
 use Rattle.xp_board.specs.declared.holdings.Holdings.{Holdings}
 use Rattle.xp_board.specs.declared.holdings.OwnerFound.TheVariants as owners
@@ -16,9 +19,10 @@ use Rattle.kind_words.proofs.Leaving.{without_newest}
 use Rattle.frame_types.specs.Leaving.{GivesBack, KeepsType, StaysTyped, WaitsFrom}
 use Rattle.frame_words.specs.Refs.{took}
 use Rattle.frame_types.specs.Taking.{WaitsWith, working_typed}
-use Rattle.frame_types.proofs.Left.{kept_back, kept_may}
+use Rattle.frame_types.proofs.Left.{kept_back, kept_may, partial_may}
 use Rattle.table_words.specs.OldWords.{kept_in_old, known_old}
 use Rattle.table_words.specs.declared.old_words.OldWord.TheVariants.{First}
+use Rattle.partial_state.proofs.LevelFacts.{level_type-plain}
 use Rattle.partial_state.specs.Levels.{level_type}
 use Rattle.level_validate.specs.Acquiring.{TableWaits}
 use Rattle.level_validate.specs.Tables.{IsIdle}
@@ -56,6 +60,10 @@ module _ (v x : PortValue) (f level : ℕ) (own : Bool) (stamp : ℕ) (a : Table
   module _ (want : PageType) (is : want ≡ level_type level) (o : Bool) (whose : own ≡ o) where
     pub waits_as : WaitsFrom a.lent x f (own_domain v) want o stamp
     waits_as = subst (λ b. WaitsFrom a.lent x f (own_domain v) want b stamp) whose (subst (λ k. WaitsFrom a.lent x f (own_domain v) k own stamp) (sym is) waits_from)
+
+    -- partial with its mark, of a table: that is a spelling
+    pub unkept_is : IsTrue (is_kind (partial_kind want false true 0 stamp))
+    unkept_is = (partial_may a.lent x f (own_domain v) want o stamp waits_as (or_left _ _ (subst (λ k. IsTrue (not (type_number k == 5))) (sym is) (level_type-plain level)))).is
 
     pub gives_left : (w : PortValue) → GivesBack x w f want o → FlushedHolds v w v.holdings
     gives_left w gives = back_left w (gives a.lent (own_domain v) stamp waits_as)

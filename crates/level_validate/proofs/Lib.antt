@@ -20,6 +20,7 @@ mod Opening
 mod Outermost
 mod Progressing
 mod Pushing
+mod Recorded
 mod Requested
 mod Rising
 mod Serving

@@ -11,13 +11,16 @@ use Rattle.step_maker.proofs.Coming.{came_post, came_self, came_trans}
 use Rattle.table_words.specs.OldWords.{kept_in_old, known_old}
 use Rattle.table_words.specs.declared.old_words.OldWord.TheVariants.{First}
 use Rattle.partial_state.specs.declared.stack.TableWork.{TableWork}
+use Rattle.level_validate.specs.Acquiring.{outermost_work}
 use Rattle.level_validate.specs.Forward.{Forward}
+use Rattle.level_validate.specs.Leaving.{LeftWell}
 use Rattle.level_validate.specs.Serving.{CarriesOn}
 use Rattle.level_validate.specs.Tables.{AreTables, IsStanding, Carries}
 use Rattle.level_validate.specs.Unwinding.{Unwinds, UnwindsTo, UnwoundTo, around_lent, left_so, named_unless, outermost_named, own_domain}
 use Rattle.level_validate.proofs.Forward.{forward_nothing, forward_then}
 use Rattle.level_validate.proofs.LeavingTables.{top, top_gone, top_typed}
 use Rattle.level_validate.proofs.LeavingOwn.{kept_by, typed_gone}
+use Rattle.level_validate.proofs.LeftWell.{well_nothing, well_then}
 use Rattle.level_validate.proofs.Serving.{goes_nothing, goes_then}
 use Rattle.level_validate.proofs.StandsFacts.{may_back, may_stands, refs_own, stands_none, tables_none}
 
@@ -94,6 +97,24 @@ around_length true ts = refl
 around_length false [] = refl
 around_length false (u ∷ us) = refl
 
+-- it stays the outermost one
+outermost_within : (t : TableWork) (ts : List TableWork) → ts ≢ [] → outermost_work ts ≡ outermost_work (t ∷ ts)
+outermost_within t [] some = absurd (some refl)
+outermost_within t (u ∷ us) some = refl
+
+outermost_done : (u : TableWork) (n : ℕ) (us : List TableWork) → outermost_work (record u { done = n } ∷ us) ≡ outermost_work (u ∷ us)
+outermost_done u n [] = refl
+outermost_done u n (r ∷ rs) = refl
+
+outermost_stays : (b : Bool) (ts : List TableWork) → outermost_work (around_lent b ts) ≡ outermost_work ts
+outermost_stays true ts = refl
+outermost_stays false [] = refl
+outermost_stays false (u ∷ us) = outermost_done u (u.done - 1) us
+
+outermost_left : (b : Bool) (t : TableWork) (us rs : List TableWork) → rs ≡ around_lent b us → rs ≢ [] → outermost_work rs ≡ outermost_work (t ∷ us)
+outermost_left b t us rs is some =
+    ap (λ ts. outermost_work ts) is ∙ outermost_stays b us ∙ outermost_within t us (λ none. some (is ∙ ap (λ ts. around_lent b ts) none ∙ around_none b))
+
 pub stands_unwound : (v w : PortValue) (owner : ℕ) (kept : Bool) (us : List TableWork) (h : Holdings) → us ≢ [] → Carries v w owner us → outermost_named kept us v.holdings ≡ h → UnwoundTo v w owner kept us h
 stands_unwound v w owner kept [] h some s is = absurd (some refl)
 stands_unwound v w owner kept (u ∷ us) h some s is = (s, is)
@@ -102,6 +123,8 @@ stands_unwound v w owner kept (u ∷ us) h some s is = (s, is)
 pub record Unwinding (u w : PortValue) (kept : Bool) (ts us : List TableWork) : Type 0 where
   pub came : Came u w
   pub forward : Forward u w
+  pub leaves : (t : TableWork) → outermost_work ts ≡ Some t → LeftWell u w kept t.frame
+  pub outermost : us ≢ [] → outermost_work us ≡ outermost_work ts
   pub hand : UnwindsTo u w kept ts us
   pub serves : (owner : ℕ) → CarriesOn u w owner ts us []
 
@@ -110,7 +133,15 @@ begins u v kept [] s = stands_none v u (own_domain u) s
 begins u v kept (t ∷ ts) s = (s, refl)
 
 pub unwinding_begins : (u : PortValue) (kept : Bool) (ts : List TableWork) → Unwinding u u kept ts ts
-unwinding_begins u kept ts = record { came = came_self u; forward = forward_nothing u; hand = λ v s. begins u v kept ts s; serves = λ owner. goes_nothing u owner ts }
+unwinding_begins u kept ts =
+    record {
+      came = came_self u;
+      forward = forward_nothing u;
+      leaves = λ t is. well_nothing u kept t.frame;
+      outermost = λ some. refl;
+      hand = λ v s. begins u v kept ts s;
+      serves = λ owner. goes_nothing u owner ts;
+    }
 
 module _ (u w : PortValue) (kept : Bool) (ts : List TableWork) (t : TableWork) (us : List TableWork) (g : Unwinding u w kept ts (t ∷ us)) where
   same_domain : own_domain u ≡ own_domain w
@@ -133,11 +164,14 @@ module _ (u w : PortValue) (kept : Bool) (ts : List TableWork) (t : TableWork) (
       subst (λ o. UnwoundTo v x o kept rs (outermost_named kept ts v.holdings)) (sym same_domain)
       (subst (λ h. UnwoundTo v x (own_domain w) kept rs h) before.1 (hand v (subst (λ o. Carries v w o (t ∷ us)) same_domain before.0)))
 
-  pub unwinding_on : (x : PortValue) (rs : List TableWork) → Came w x → Forward w x → UnwindsTo w x kept (t ∷ us) rs → ((owner : ℕ) → CarriesOn w x owner (t ∷ us) rs []) → Unwinding u x kept ts rs
-  unwinding_on x rs came forward hand serves =
+  pub unwinding_on : (x : PortValue) (rs : List TableWork) → Came w x → Forward w x → ((o : TableWork) → outermost_work (t ∷ us) ≡ Some o → LeftWell w x kept o.frame) → (b : Bool) × (rs ≡ around_lent b us) →
+      UnwindsTo w x kept (t ∷ us) rs → ((owner : ℕ) → CarriesOn w x owner (t ∷ us) rs []) → Unwinding u x kept ts rs
+  unwinding_on x rs came forward leaves around hand serves =
       record {
         came = came_trans u w x g.came came;
         forward = forward_then u w x g.forward forward;
+        leaves = λ o is. well_then u w x kept o.frame (g.leaves o is) (leaves o (g.outermost (λ none. absurd cc) ∙ is));
+        outermost = λ some. outermost_left around.0 t us rs around.1 some ∙ g.outermost (λ none. absurd cc);
         hand = on_from x rs hand;
         serves = λ owner. goes_then u w x owner ts (t ∷ us) rs [] [] (g.serves owner) (serves owner);
       }

@@ -53,6 +53,7 @@ fn leave_table<P: Port>(port: &mut P, stack: &mut Stack, table: TableWork, kept:
     ensures leaves { (t : TableWork) → outermost_work (table ∷ stack.old) ≡ Some t → LeftWell (P.value port.old) (P.value port.new) kept t.frame }
     ensures hand { UnwindsTo (P.value port.old) (P.value port.new) kept (table ∷ stack.old) stack.new }
     ensures fewer { length stack.new ≡ length stack.old }
+    ensures around { (b : Bool) × (stack.new ≡ around_lent b stack.old) }
     ensures serves { (owner : ℕ) → CarriesOn (P.value port.old) (P.value port.new) owner (table ∷ stack.old) stack.new [] }
 {
     if stack.is_empty() {

@@ -1,7 +1,8 @@
 use Rattle.frame_types.specs.Found.{SharedBy, StoresKind}
 use Rattle.level_validate.proofs.Onward.{shared_onward, stores_onward}
+use Rattle.level_validate.proofs.LeftWell.{shared_plain, stores_plain, well_by, well_step, well_store, well_then}
 use Rattle.level_validate.proofs.Forward.{forward_by, forward_step, forward_then}
-use Rattle.std.proofs.Common.{◌<◌, ◌+◌, true, false, None, refl, sym, subst}
+use Rattle.std.proofs.Common.{◌<◌, ◌+◌, true, false, None, refl, sym, subst, inr}
 use Rattle.xp_words.specs.KindWords.{kind_write}
 use Rattle.xp_words.specs.declared.place.Place.TheVariants.{Kind}
 use Rattle.xp_board.specs.declared.step.Act.TheVariants.{Store}
@@ -15,7 +16,7 @@ use Rattle.frame_types.specs.Leaving.{ServesType}
 use Rattle.frame_types.proofs.Left.{here}
 use Rattle.frame_types.proofs.Serving.{store_serves}
 use Rattle.partial_state.specs.Levels.{level_type}
-use Rattle.level_validate.proofs.LeftWaiting.{gives_left, kept_hand, lent_hand, mark_left, mark_may, named_hand, named_left, stays_held, stays_may, stays_room, waits_as}
+use Rattle.level_validate.proofs.LeftWaiting.{gives_left, kept_hand, lent_hand, mark_left, mark_may, named_hand, named_left, stays_held, stays_may, stays_room, unkept_is, waits_as}
 use Rattle.level_validate.proofs.Serving.{old_serves}
 use Rattle.level_validate.proofs.acquiring.leave_waiting.Goals as goal
 
@@ -124,3 +125,37 @@ returns-else-kept-clause-forward g c =
     let z = g.P.Port.value c.put_old.new.port in
     let k = partial_kind c.level_type-kind.result false true 0 c.args.stamp in
     forward_then u d z (forward_by u d (λ vs. StoresKind c.args.frame k vs) (stores_onward c.args.frame k) c.leave_unsettled.ensures.visits) (forward_step d z _ _ _ _ 0 refl refl c.put_old.ensures.moves)
+
+-- ---- it leaves the frame well
+
+pub returns-then-not-own-clause-leaves : goal.returns-then-not-own-clause-leaves
+returns-then-not-own-clause-leaves g c =
+    let b = c.requires.waits in
+    let x = g.P.Port.value c.args.port.now in
+    let f = c.args.frame in
+    let k = c.level_type-kind.result in
+    let is = unkept_is b.0 x f c.args.level c.args.own c.args.stamp b.1 k c.level_type-kind.ensures false c.if-not-own.true in
+    well_by x (g.P.Port.value c.leave_shared.new.port) c.args.kept f (λ vs. SharedBy f k c.args.stamp vs) (shared_plain f k c.args.stamp is) c.leave_shared.ensures.visits
+
+pub returns-then-kept-clause-leaves : goal.returns-then-kept-clause-leaves
+returns-then-kept-clause-leaves g c =
+    let b = c.requires.waits in
+    let x = g.P.Port.value c.args.port.now in
+    let d = g.P.Port.value c.leave.new.port in
+    let f = c.args.frame in
+    let may = mark_may b.0 x f c.args.level c.args.own c.args.stamp b.1 c.level_type-kind.result c.level_type-kind.ensures c.if-not-own.false in
+    well_store x d c.args.kept f f (partial_kind c.level_type-kind.result true true 0 c.args.stamp) kinds.Kind None c.leave.result may.is (λ on. inr (c.if-kept.true, refl)) (λ dead. absurd cc)
+    (subst (λ k. Moves x d (Kind f) (Store (kind_write k)) kinds.Kind None c.leave.result) c.waiting_kind.ensures c.leave.ensures.moves)
+
+pub returns-else-kept-clause-leaves : goal.returns-else-kept-clause-leaves
+returns-else-kept-clause-leaves g c =
+    let b = c.requires.waits in
+    let x = g.P.Port.value c.args.port.now in
+    let d = g.P.Port.value c.leave_unsettled.new.port in
+    let z = g.P.Port.value c.put_old.new.port in
+    let f = c.args.frame in
+    let want = c.level_type-kind.result in
+    let k = partial_kind want false true 0 c.args.stamp in
+    let is = unkept_is b.0 x f c.args.level c.args.own c.args.stamp b.1 want c.level_type-kind.ensures true c.if-not-own.false in
+    well_then x d z c.args.kept f (well_by x d c.args.kept f (λ vs. StoresKind f k vs) (stores_plain f k is refl refl) c.leave_unsettled.ensures.visits)
+    (well_step d z c.args.kept f _ _ _ _ 0 refl c.put_old.ensures.moves)

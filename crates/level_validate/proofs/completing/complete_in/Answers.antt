@@ -1,9 +1,10 @@
-use Rattle.std.proofs.Common.{◌∷◌, ◌<◌, refl, sym, subst}
+use Rattle.std.proofs.Common.{◌∷◌, ◌<◌, false, refl, sym, subst}
 use Rattle.xp_board.specs.Told.{Post}
 use Rattle.step_maker.proofs.Coming.{came_post, came_trans, moves_came}
 use Rattle.level_validate.specs.Serving.{CarriesOn}
 use Rattle.level_validate.proofs.Completed.{live_hand, live_leaves}
 use Rattle.level_validate.proofs.Forward.{forward_step, forward_then}
+use Rattle.level_validate.proofs.LeftWell.{kind_well, well_step, well_then}
 use Rattle.level_validate.proofs.LeavingTables.{top_inside}
 use Rattle.level_validate.proofs.Nested.{live_gives, live_records, new_ready, new_stands, old_ready, old_stands}
 use Rattle.level_validate.proofs.Progressing.{progress_after, progress_before, progress_records, progress_settles}
@@ -211,3 +212,23 @@ returns-else-table-clause-forward g c =
     let d = g.P.Port.value c.make_live.new.port in
     let x = g.P.Port.value c.record_entry.new.port in
     forward_then w d x (forward_step w d _ _ _ _ c.make_live.result refl refl c.make_live.ensures.moves) (forward_step d x _ _ _ _ c.record_entry.result refl refl c.record_entry.ensures.moves)
+
+pub returns-then-table-clause-leaves : goal.returns-then-table-clause-leaves
+returns-then-table-clause-leaves g c f =
+    let w = g.P.Port.value c.args.port.now in
+    let t = c.args.table in
+    let b = c.requires.stands in
+    let d = g.P.Port.value c.make_live.new.port in
+    let x = g.P.Port.value c.give_back.new.port in
+    let is = (live_leaves b.2.0 w b.0 t (c.args.outer ∷ b.1) b.2.1 c.requires.full c.requires.ready t.own refl c.requires.may).is in
+    well_then w d x false f (kind_well w d false f t.frame _ _ _ c.make_live.result is refl refl c.make_live.ensures.moves) (c.give_back.ensures.leaves f)
+
+pub returns-else-table-clause-leaves : goal.returns-else-table-clause-leaves
+returns-else-table-clause-leaves g c f =
+    let w = g.P.Port.value c.args.port.now in
+    let t = c.args.table in
+    let b = c.requires.stands in
+    let d = g.P.Port.value c.make_live.new.port in
+    let x = g.P.Port.value c.record_entry.new.port in
+    let is = (live_leaves b.2.0 w b.0 t (c.args.outer ∷ b.1) b.2.1 c.requires.full c.requires.ready t.own refl c.requires.may).is in
+    well_then w d x false f (kind_well w d false f t.frame _ _ _ c.make_live.result is refl refl c.make_live.ensures.moves) (well_step d x false f _ _ _ _ c.record_entry.result refl c.record_entry.ensures.moves)

@@ -1,8 +1,9 @@
-use Rattle.std.proofs.Common.{[], refl}
+use Rattle.std.proofs.Common.{[], false, refl}
 use Rattle.step_maker.proofs.Coming.{moves_came}
 use Rattle.level_validate.specs.Serving.{CarriesOn}
 use Rattle.level_validate.proofs.Completed.{live_hand, live_leaves, outer_live}
 use Rattle.level_validate.proofs.Forward.{forward_step}
+use Rattle.level_validate.proofs.LeftWell.{kind_well}
 use Rattle.level_validate.proofs.LeavingTables.{top_inside}
 use Rattle.level_validate.proofs.Serving.{piece_left, piece_rest}
 use Rattle.level_validate.proofs.completing.complete_outer.Goals as goal
@@ -35,3 +36,10 @@ returns-clause-serves g c owner u r ds a =
 
 pub returns-clause-forward : goal.returns-clause-forward
 returns-clause-forward g c = forward_step (g.P.Port.value c.args.port.now) (g.P.Port.value c.make_live.new.port) _ _ _ _ c.make_live.result refl refl c.make_live.ensures.moves
+
+pub returns-clause-leaves : goal.returns-clause-leaves
+returns-clause-leaves g c f =
+    let b = c.requires.stands in
+    let t = c.args.table in
+    let w = g.P.Port.value c.args.port.now in
+    kind_well w (g.P.Port.value c.make_live.new.port) false f t.frame _ _ _ c.make_live.result (live_leaves b.1.0 w b.0 t [] b.1.1 c.requires.full c.requires.ready t.own refl c.requires.may).is refl refl c.make_live.ensures.moves

@@ -1,10 +1,11 @@
-use Rattle.std.proofs.Common.{[], refl}
+use Rattle.std.proofs.Common.{[], false, refl}
 use Rattle.answer_fits.specs.Asked.{of_back}
 use Rattle.answer_fits.proofs.Piecing.{serves_came, serves_then}
 use Rattle.step_maker.proofs.Coming.{came_trans}
 use Rattle.frame_words.specs.Freeing.{PutBy}
 use Rattle.level_validate.proofs.Forward.{forward_by, forward_step, forward_then}
 use Rattle.level_validate.proofs.Onward.{put_onward}
+use Rattle.level_validate.proofs.LeftWell.{put_plain, well_by, well_step, well_then}
 use Rattle.level_validate.proofs.Sharing.{back_given, back_puts, never_last}
 use Rattle.level_validate.proofs.completing.give_back.Goals as goal
 
@@ -39,3 +40,11 @@ returns-clause-forward g c =
     let w = g.P.Port.value c.put_ref.new.port in
     let drops = c.drop_type.ensures.drops in
     forward_then v a w (forward_step v a _ _ _ _ drops.found refl refl drops.lowers.step) (forward_by a w (PutBy c.args.frame) (λ vs puts. put_onward c.args.frame vs puts) c.put_ref.ensures.puts)
+
+pub returns-clause-leaves : goal.returns-clause-leaves
+returns-clause-leaves g c f =
+    let v = g.P.Port.value c.args.port.now in
+    let a = g.P.Port.value c.drop_type.new.port in
+    let w = g.P.Port.value c.put_ref.new.port in
+    let drops = c.drop_type.ensures.drops in
+    well_then v a w false f (well_step v a false f _ _ _ _ drops.found refl drops.lowers.step) (well_by a w false f (PutBy c.args.frame) (λ vs puts. put_plain c.args.frame vs puts) c.put_ref.ensures.puts)

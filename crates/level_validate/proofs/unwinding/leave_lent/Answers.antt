@@ -10,6 +10,8 @@ use Rattle.level_validate.proofs.LeavingLent.{lent_puts, lent_stands}
 use Rattle.frame_words.specs.Freeing.{PutBy}
 use Rattle.level_validate.proofs.Forward.{forward_by, forward_step, forward_then}
 use Rattle.level_validate.proofs.Onward.{put_onward}
+use Rattle.level_validate.proofs.LeftWell.{put_plain, well_by, well_then}
+use Rattle.level_validate.proofs.Recorded.{unkept_well}
 use Rattle.level_validate.proofs.unwinding.leave_lent.Goals as goal
 
 pub put_ref-requires-clause-gives : goal.put_ref-requires-clause-gives
@@ -52,3 +54,13 @@ returns-clause-forward g c =
     let x = g.P.Port.value c.put_ref.new.port in
     let f = c.args.table.frame in
     forward_then w d x (forward_step w d _ _ _ _ c.leave_partial.result refl refl c.leave_partial.ensures.moves) (forward_by d x (PutBy f) (λ vs puts. put_onward f vs puts) c.put_ref.ensures.puts)
+
+pub returns-clause-leaves : goal.returns-clause-leaves
+returns-clause-leaves g c e =
+    let b = c.requires.stands in
+    let t = c.args.table in
+    let w = g.P.Port.value c.args.port.now in
+    let d = g.P.Port.value c.leave_partial.new.port in
+    let x = g.P.Port.value c.put_ref.new.port in
+    well_then w d x false e (unkept_well b.1.0 w (own_domain w) t d c.leave_partial.result b.0 false false e b.1.1 refl c.leave_partial.ensures.moves)
+    (well_by d x false e (PutBy t.frame) (λ vs puts. put_plain t.frame vs puts) c.put_ref.ensures.puts)

@@ -6,6 +6,8 @@ use Rattle.level_validate.specs.Unwinding.{own_domain}
 use Rattle.level_validate.proofs.LeavingTables.{left_as, top_held, top_spelled}
 use Rattle.level_validate.proofs.Unwound.{outer_held, outer_kept, outer_named}
 use Rattle.level_validate.proofs.Forward.{forward_step, forward_then}
+use Rattle.level_validate.proofs.LeftWell.{well_step, well_then}
+use Rattle.level_validate.proofs.Recorded.{named_well}
 use Rattle.level_validate.proofs.unwinding.leave_named.Goals as goal
 
 pub put_old-requires-clause-held : goal.put_old-requires-clause-held
@@ -74,3 +76,19 @@ returns-then-not-kept-clause-forward g c =
 
 pub returns-else-not-kept-clause-forward : goal.returns-else-not-kept-clause-forward
 returns-else-not-kept-clause-forward g c = forward_step (g.P.Port.value c.args.port.now) (g.P.Port.value c.leave_partial.new.port) _ _ _ _ c.leave_partial.result refl refl c.leave_partial.ensures.moves
+
+pub returns-then-not-kept-clause-leaves : goal.returns-then-not-kept-clause-leaves
+returns-then-not-kept-clause-leaves g c =
+    let b = c.requires.stands in
+    let t = c.args.table in
+    let w = g.P.Port.value c.args.port.now in
+    let d = g.P.Port.value c.leave_partial.new.port in
+    let x = g.P.Port.value c.put_old.new.port in
+    well_then w d x c.args.kept t.frame (named_well b.0 w (own_domain w) t d c.leave_partial.result c.args.kept b.1 c.requires.own c.leave_partial.ensures.moves)
+    (well_step d x c.args.kept t.frame _ _ _ _ 0 refl c.put_old.ensures.moves)
+
+pub returns-else-not-kept-clause-leaves : goal.returns-else-not-kept-clause-leaves
+returns-else-not-kept-clause-leaves g c =
+    let b = c.requires.stands in
+    let w = g.P.Port.value c.args.port.now in
+    named_well b.0 w (own_domain w) c.args.table (g.P.Port.value c.leave_partial.new.port) c.leave_partial.result c.args.kept b.1 c.requires.own c.leave_partial.ensures.moves

@@ -7,6 +7,8 @@ use Rattle.step_maker.proofs.Coming.{came_trans, moves_came}
 use Rattle.level_validate.proofs.LeavingOwn.{kept_stands, own_records, own_stands}
 use Rattle.level_validate.proofs.LeavingTables.{is_so, left_as, not_so, store_as, top_spelled}
 use Rattle.level_validate.proofs.Forward.{forward_step, forward_then}
+use Rattle.level_validate.proofs.LeftWell.{well_step, well_then}
+use Rattle.level_validate.proofs.Recorded.{inner_well}
 use Rattle.level_validate.proofs.unwinding.leave_own.Goals as goal
 
 pub record_entry-requires : goal.record_entry-requires
@@ -84,3 +86,18 @@ returns-in-Some-clause-forward g c =
 
 pub returns-else-not-table-clause-forward : goal.returns-else-not-table-clause-forward
 returns-else-not-table-clause-forward g c = forward_step (g.P.Port.value c.args.port.now) (g.P.Port.value c.leave_partial.new.port) _ _ _ _ c.leave_partial.result refl refl c.leave_partial.ensures.moves
+
+pub returns-in-Some-clause-leaves : goal.returns-in-Some-clause-leaves
+returns-in-Some-clause-leaves g c f =
+    let b = c.requires.stands in
+    let w = g.P.Port.value c.args.port.now in
+    let d = g.P.Port.value c.leave_partial.new.port in
+    let x = g.P.Port.value c.record_entry.new.port in
+    well_then w d x false f (inner_well b.0 w (own_domain w) c.args.table d c.leave_partial.result c.args.stack.now f b.1 c.requires.inner c.requires.own c.leave_partial.ensures.moves)
+    (well_step d x false f _ _ _ _ c.record_entry.result refl c.record_entry.ensures.moves)
+
+pub returns-else-not-table-clause-leaves : goal.returns-else-not-table-clause-leaves
+returns-else-not-table-clause-leaves g c f =
+    let b = c.requires.stands in
+    let w = g.P.Port.value c.args.port.now in
+    inner_well b.0 w (own_domain w) c.args.table (g.P.Port.value c.leave_partial.new.port) c.leave_partial.result c.args.stack.now f b.1 c.requires.inner c.requires.own c.leave_partial.ensures.moves

@@ -10,4 +10,4 @@ loop-table-preserved g c =
     let u = g.P.Port.value c.args.port.now in
     let w = g.P.Port.value c.loop-table.port in
     unwinding_on u w c.args.kept c.args.stack.now c.in-Some.table c.pop.new.self (subst (λ us. Unwinding u w c.args.kept c.args.stack.now us) c.in-Some.ensures.some c.loop-table.invariant)
-    (g.P.Port.value c.leave_table.new.port) c.leave_table.new.stack c.leave_table.ensures.came c.leave_table.ensures.forward c.leave_table.ensures.hand c.leave_table.ensures.serves
+    (g.P.Port.value c.leave_table.new.port) c.leave_table.new.stack c.leave_table.ensures.came c.leave_table.ensures.forward c.leave_table.ensures.leaves c.leave_table.ensures.around c.leave_table.ensures.hand c.leave_table.ensures.serves
