@@ -1,7 +1,7 @@
 -- A table that waits is left dead: the last recorded entry of the innermost table asks it.
-use Rattle.std.proofs.Common.{◌≡◌, ◌+◌, ◌≤◌, ℕ, Bool, true, false, List, [], ◌∷◌, ◌++◌, Option, None, IsTrue, not, refl, sym, ap, ◌∙◌, subst, arith, inl}
+use Rattle.std.proofs.Common.{◌≡◌, ◌+◌, ◌≤◌, ℕ, true, false, List, [], ◌∷◌, ◌++◌, None, IsTrue, not, refl, sym, ap, ◌∙◌, subst, arith}
 use Rattle.xp_words.specs.Entries.{below, demand_at}
-use Rattle.xp_words.specs.KindWords.{kind_fields, kind_write}
+use Rattle.xp_words.specs.KindWords.{kind_write}
 use Rattle.xp_words.specs.Machine.{Machine}
 use Rattle.xp_words.specs.PageTypes.{is_none, is_table}
 use Rattle.xp_words.specs.declared.entry.Demand.TheVariants.{Typed}
