@@ -10,11 +10,10 @@ use Rattle.xp_board.specs.declared.step.Act.{Act}
 use Rattle.xp_board.specs.declared.step.Act.TheVariants.{Store}
 use Rattle.xp_board.specs.declared.step.Mark.{Mark}
 use Rattle.xp_board.specs.declared.step.StepKind.{StepKind}
-use Rattle.xp_board.specs.declared.step.StepKind.TheVariants as kinds
 use Rattle.xp_board.specs.Lists.{EachOf}
 use Rattle.xp_board.specs.Readings.{is_dead}
 use Rattle.xp_board.specs.Told.{PortValue}
-use Rattle.step_maker.specs.Moves.{Moment, Moves, Ran}
+use Rattle.step_maker.specs.Moves.{Moment, Moves}
 use Rattle.step_maker.proofs.Coming.{moment_of, moves_ran, ran_more}
 use Rattle.answer_fits.specs.Visits.{Does, Nothing, Only, Then, Visit, visit, visits}
 use Rattle.answer_fits.proofs.Piecing.{each_append}
@@ -71,15 +70,15 @@ plain_moment : (kept : Bool) (f : ℕ) (m : Moment) → is_parting m.place m.act
 plain_moment kept f m off =
     record {
       marked = λ g w at act on.
-        let is : is_parting (Kind g) (Store w) ≡ true = kept_parts w on in
-        let same : is_parting m.place m.act ≡ is_parting (Kind g) (Store w) = ap (λ p. is_parting p m.act) at ∙ ap (λ a. is_parting (Kind g) a) act in
-        let no : true ≡ false = sym is ∙ sym same ∙ off in
-        absurd cc;
+          let is : is_parting (Kind g) (Store w) ≡ true = kept_parts w on in
+          let same : is_parting m.place m.act ≡ is_parting (Kind g) (Store w) = ap (λ p. is_parting p m.act) at ∙ ap (λ a. is_parting (Kind g) a) act in
+          let no : true ≡ false = sym is ∙ sym same ∙ off in
+          absurd cc;
       dead = λ g w at act dead table.
-        let is : is_parting (Kind g) (Store w) ≡ true = or_second (kind_fields w).kept (is_dead (kind_fields w) && is_table (kind_fields w).kind) (both_true (is_dead (kind_fields w)) (is_table (kind_fields w).kind) dead table) in
-        let same : is_parting m.place m.act ≡ is_parting (Kind g) (Store w) = ap (λ p. is_parting p m.act) at ∙ ap (λ a. is_parting (Kind g) a) act in
-        let no : true ≡ false = sym is ∙ sym same ∙ off in
-        absurd cc;
+          let is : is_parting (Kind g) (Store w) ≡ true = or_second (kind_fields w).kept (is_dead (kind_fields w) && is_table (kind_fields w).kind) (both_true (is_dead (kind_fields w)) (is_table (kind_fields w).kind) dead table) in
+          let same : is_parting m.place m.act ≡ is_parting (Kind g) (Store w) = ap (λ p. is_parting p m.act) at ∙ ap (λ a. is_parting (Kind g) a) act in
+          let no : true ≡ false = sym is ∙ sym same ∙ off in
+          absurd cc;
     }
 
 pub well_step : (v w : PortValue) (kept : Bool) (f : ℕ) (p : Place) (a : Act) (kind : StepKind) (mark : Option Mark) (found : ℕ) → is_parting p a ≡ false → Moves v w p a kind mark found → LeftWell v w kept f
@@ -115,15 +114,15 @@ well_store v w kept f g k kind mark found is marked dead m = (moment_of v (Kind 
     one =
         record {
           marked = λ x y at act on.
-            let same : g ≡ x = cc in
-            let word : kind_write k ≡ y = cc in
-            let mine = ap (λ (l : KindWord). l.kept) (sym (fields_write k is)) ∙ ap (λ n. (kind_fields n).kept) word ∙ on in
-            subst (λ n. IsRecorded v.holdings n ⊎ ((kept ≡ true) × (n ≡ f))) same (marked mine);
+              let same : g ≡ x = cc in
+              let word : kind_write k ≡ y = cc in
+              let mine = ap (λ (l : KindWord). l.kept) (sym (fields_write k is)) ∙ ap (λ n. (kind_fields n).kept) word ∙ on in
+              subst (λ n. IsRecorded v.holdings n ⊎ ((kept ≡ true) × (n ≡ f))) same (marked mine);
           dead = λ x y at act off table.
-            let same : g ≡ x = cc in
-            let word : kind_write k ≡ y = cc in
-            let whole : kind_fields y ≡ k = ap (λ n. kind_fields n) (sym word) ∙ fields_write k is in
-            subst (λ n. IsRecorded v.holdings n) same (dead (subst (λ (l : KindWord). IsTrue (is_dead l)) whole off) (subst (λ (l : KindWord). IsTrue (is_table l.kind)) whole table));
+              let same : g ≡ x = cc in
+              let word : kind_write k ≡ y = cc in
+              let whole : kind_fields y ≡ k = ap (λ n. kind_fields n) (sym word) ∙ fields_write k is in
+              subst (λ n. IsRecorded v.holdings n) same (dead (subst (λ (l : KindWord). IsTrue (is_dead l)) whole off) (subst (λ (l : KindWord). IsTrue (is_table l.kind)) whole table));
         }
 
 -- ---- lists of visits

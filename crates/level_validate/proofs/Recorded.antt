@@ -1,9 +1,9 @@
 -- A table inside another one that was recorded before: a recorded entry of that one asks it.
-use Rattle.std.proofs.Common.{◌≡◌, ◌⊎◌, ℕ, ◌-◌, ◌≤◌, ◌≢◌, Bool, true, false, List, [], ◌∷◌, Some, None, IsTrue, refl, sym, ap, ◌∙◌, subst, arith, inl, inr}
+use Rattle.std.proofs.Common.{◌≡◌, ◌⊎◌, ℕ, ◌-◌, ◌≤◌, ◌≢◌, Bool, true, false, List, [], ◌∷◌, Some, None, refl, sym, ap, ◌∙◌, subst, arith, inl, inr}
 use Rattle.xp_words.specs.Entries.{demand_at}
-use Rattle.xp_words.specs.KindWords.{is_kind, kind_fields, kind_write}
+use Rattle.xp_words.specs.KindWords.{kind_write}
 use Rattle.xp_words.specs.PageTypes.{is_table}
-use Rattle.xp_words.specs.Places.{Sizes, sizes_of}
+use Rattle.xp_words.specs.Places.{sizes_of}
 use Rattle.xp_words.specs.declared.entry.Demand.TheVariants.{Typed}
 use Rattle.xp_words.specs.declared.place.Place.TheVariants.{Kind}
 use Rattle.xp_board.specs.declared.step.Act.TheVariants.{Store}
@@ -21,9 +21,9 @@ use Rattle.level_validate.specs.Leaving.{IsRecorded, LeftWell}
 use Rattle.level_validate.specs.Tables.{Carries}
 use Rattle.level_validate.proofs.LeavingTables.{top, top_spelled}
 use Rattle.level_validate.proofs.LeftWell.{well_store}
-use Rattle.level_validate.proofs.Nested.{TakenOn, reaches_on}
+use Rattle.level_validate.proofs.Nested.{reaches_on}
 use Rattle.level_validate.proofs.Progressing.{held_by, second_here}
-use Rattle.level_validate.proofs.StandsFacts.{TopTable, tables_top}
+use Rattle.level_validate.proofs.StandsFacts.{tables_top}
 
 pub recorded_inner : (v w : PortValue) (owner : ℕ) (t u : TableWork) (us : List TableWork) → Carries v w owner (t ∷ u ∷ us) → works_on u.frame w.holdings.works ≤ 1 → t.recorded ≡ true → IsRecorded w.holdings t.frame
 recorded_inner v w owner t u us s few old =
