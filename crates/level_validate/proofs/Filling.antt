@@ -1,5 +1,7 @@
 -- The loop that takes one entry after the other: what it keeps, and what it gives where it ends.
-use Rattle.std.proofs.Common.{◌≡◌, ℕ, List, [], Result, ◌∙◌}
+use Rattle.level_validate.proofs.LeftWell.{well_then}
+use Rattle.level_validate.specs.Leaving.{LeftWell}
+use Rattle.std.proofs.Common.{◌≡◌, ℕ, List, [], Result, ◌∙◌, false}
 use Rattle.xp_words.specs.declared.reply.Stop.{Stop}
 use Rattle.xp_board.specs.Told.{PortValue}
 use Rattle.step_maker.specs.Holds.{MayWork}
@@ -20,6 +22,7 @@ use Rattle.level_validate.proofs.StandsFacts.{may_back, may_stands}
 pub record Filling (u w : PortValue) (owner : ℕ) (ts us : List TableWork) : Type 0 where
   pub came : Came u w
   pub forward : Forward u w
+  pub leaves : (f : ℕ) → LeftWell u w false f
   pub stands : StandsOn u w owner ts us
   pub outer : outermost_work us ≡ outermost_work ts
   pub ready : IsTopReady w
@@ -47,11 +50,12 @@ module _ (u x : PortValue) (owner : ℕ) (ts us : List TableWork) (f : Filling u
     unfolding StopsRisen CarriesOn
     filling_stops e stops v r ds rose s a = stops v r ds rose (f.stands v s) (f.serves v r ds a)
 
-pub filling_on : (u x w : PortValue) (owner : ℕ) (ts us rs : List TableWork) → Filling u x owner ts us → Came x w → Forward x w → StandsOn x w owner us rs → outermost_work rs ≡ outermost_work us → IsTopReady w → CarriesOn x w owner us rs [] → Filling u w owner ts rs
-filling_on u x w owner ts us rs f came forward stands outer ready serves =
+pub filling_on : (u x w : PortValue) (owner : ℕ) (ts us rs : List TableWork) → Filling u x owner ts us → Came x w → Forward x w → ((f : ℕ) → LeftWell x w false f) → StandsOn x w owner us rs → outermost_work rs ≡ outermost_work us → IsTopReady w → CarriesOn x w owner us rs [] → Filling u w owner ts rs
+filling_on u x w owner ts us rs f came forward leaves stands outer ready serves =
     record {
       came = filling_came u x owner ts us f w rs came;
       forward = forward_then u x w f.forward forward;
+      leaves = λ g. well_then u x w false g (f.leaves g) (leaves g);
       stands = filling_stands u x owner ts us f w rs stands;
       outer = outer ∙ f.outer;
       ready = ready;

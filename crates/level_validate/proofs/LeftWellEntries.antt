@@ -1,4 +1,6 @@
 -- The steps that take a type, and an entry, leave each frame well.
+use Rattle.partial_state.specs.Levels.{level_type}
+use Rattle.partial_state.proofs.LevelFacts.{level_type-typed}
 use Rattle.std.proofs.Common.{◌≡◌, ◌+◌, ℕ, ◌^◌, ◌<◌, ◌==◌, ◌||◌, ◌&&◌, not, Bool, true, false, List, Option, None, Result, Ok, Err, IsTrue, refl, sym, ap, ◌∙◌, subst, arith, inl, inr}
 use Rattle.std.proofs.lemmas.Bool.{or_left}
 use Rattle.std.proofs.lemmas.Bool.Decides.{nat_tests}
@@ -33,11 +35,11 @@ use Rattle.flush_words.specs.Flushing.{FlushedBy}
 use Rattle.flush_waits.specs.Listing as waits
 use Rattle.flush_waits.specs.Listing.{LooksBy, Slow, WaitedFor, WaitsBy, WeighsBy, saw_flushed, saw_run}
 use Rattle.frame_words.specs.Freeing.{PutBy}
-use Rattle.frame_words.specs.Refs.{GetsBy, Raises, TakesFirst, UnreferredBy, had, outside as unknown, raises_refs, refused, saw_refs, stopped}
+use Rattle.frame_words.specs.Refs.{GetsBy, Raises, TakesFirst, UnreferredBy, had, outside as unknown, raises_refs, refused, saw_refs, stopped, Gets}
 use Rattle.kind_words.specs.Kinds.{dead_kind, live_kind, partial_kind, work_kind}
 use Rattle.kind_words.proofs.KindFacts.{clock_is_small}
 use Rattle.kind_words.proofs.KindWriting.{dead_is, fields_write, live_is, marked_is}
-use Rattle.frame_types.specs.Found.{DeadBy, Dies, EndsBy, GoesBy, LosesBy, SharedBy, StopsBy, StoresKind, TakesBy, TakesOf, TypeBy, WaitsOf, is_kept_by, next_kind, saw_kind, swaps_kind}
+use Rattle.frame_types.specs.Found.{DeadBy, Dies, EndsBy, GoesBy, LosesBy, SharedBy, StopsBy, StoresKind, TakesBy, TakesOf, TypeBy, WaitsOf, is_kept_by, next_kind, saw_kind, swaps_kind, TakesFound}
 use Rattle.frame_types.specs.Plain.{IsTakenBy, is_own, is_read_first, waits_by}
 use Rattle.frame_types.specs.Standing.{standing_of}
 use Rattle.frame_types.specs.declared.standing.Standing.{Standing}
@@ -52,7 +54,7 @@ use Rattle.table_entries.specs.declared.resuming.Resumed.{Resumed}
 use Rattle.table_entries.specs.declared.resuming.Resumed.TheVariants as again
 use Rattle.table_entries.proofs.HandLists.{asks_below}
 use Rattle.level_validate.specs.Leaving.{LeftWell}
-use Rattle.level_validate.proofs.LeftWell.{IsPlain, Plain, nothing_plain, only_plain, put_plain, stores_plain, then_plain, well_by}
+use Rattle.level_validate.proofs.LeftWell.{IsPlain, Plain, nothing_plain, only_plain, put_plain, stores_plain, then_plain, well_by, well_then}
 use Rattle.level_validate.proofs.Visited.{WasFound, each_first, each_next, first_is, were_found}
 
 -- ---- put together
@@ -333,3 +335,14 @@ resumes_well v w e f i t owner answer found =
     well_by v w false e (λ vs. ResumedBy v.post.machine f i t owner answer vs)
     (λ vs b. then_plain (Only (saw_cell f i b.0)) (λ us. ResumesBy v.post.machine owner answer (demand_at t i b.0) us) (only_plain (saw_cell f i b.0) refl)
     (resumes_plain v.post.machine owner i t answer b.0 (demand_at t i b.0) refl) vs b.1) found
+
+-- ---- calls
+pub refers_well : (v w : PortValue) (kept : Bool) (e f owner : ℕ) (answer : Result ℕ Stop) → Gets v w f owner answer → LeftWell v w kept e
+refers_well v w kept e f owner answer a = well_by v w kept e (λ vs. GetsBy v.post.machine f owner answer vs) (gets_plain v.post.machine f owner answer) a
+
+-- a reference, and then a type of a table
+pub had_well : (v u w : PortValue) (f owner level : ℕ) (answer : Result ℕ Stop) → Gets v u f owner answer → (g : ℕ) (t : PageType) → t ≡ level_type level → (taken : Result Taken Stop) → TakesFound u w g t taken → (kept : Bool) (e : ℕ) →
+    LeftWell v w kept e
+had_well v u w f owner level answer gets g t is taken types kept e =
+    well_then v u w kept e (refers_well v u kept e f owner answer gets)
+    (well_by u w kept e (λ vs. TypeBy u.post.machine g t taken vs) (typed_plain u.post.machine g t (subst (λ k. IsTrue (not (is_none k))) (sym is) (level_type-typed level)) taken) types)

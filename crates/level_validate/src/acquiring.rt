@@ -54,6 +54,8 @@ pub fn acquire<P: Port>(
     ensures kinds { IfErr result IsAcquireStop }
     // No entry is given back, and none read but the next one of a table in work, or the last recorded one.
     ensures forward { Forward (P.value port.old) (P.value port.new) }
+    // A `kept` mark goes on the frame itself, where it is paused; and on no other but one that a recorded entry asks. No table is left dead
+    // but for such an entry.
     ensures leaves { LeftWell (P.value port.old) (P.value port.new) (is_paused_answer result) f }
     ensures hand { LeavesAcquired (P.value port.old) (P.value port.new) f owner level result }
     ensures gate { count_yes gate.new ≡ (if is_due_answer result then count_yes gate.old + 1 else count_yes gate.old) }

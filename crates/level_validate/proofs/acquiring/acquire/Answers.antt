@@ -1,15 +1,19 @@
+use Rattle.level_validate.proofs.LeftWellEntries.{had_well, refers_well}
+use Rattle.frame_types.specs.Plain.{is_refused}
+use Rattle.level_validate.specs.Leaving.{LeftWell}
+use Rattle.level_validate.proofs.LeftWell.{put_plain, well_by, well_then}
 use Rattle.frame_words.specs.Freeing.{PutBy}
 use Rattle.level_validate.proofs.OnwardEntries.{refers_forward, types_forward}
 use Rattle.level_validate.proofs.Onward.{put_onward}
 use Rattle.level_validate.proofs.Forward.{forward_by, forward_then}
-use Rattle.std.proofs.Common.{◌∙◌, false, [], Ok, Err, ap, subst}
+use Rattle.std.proofs.Common.{◌∙◌, false, [], Ok, Err, ap, subst, not, sym}
 use Rattle.std.proofs.lemmas.Result.{err_from_is_err_and}
 use Rattle.answer_fits.specs.Answers.{missed}
 use Rattle.frame_types.specs.Found.{TakesFound}
 use Rattle.frame_types.specs.Taking.{ShowsWait, TakesAs}
 use Rattle.frame_types.specs.declared.taking.Taken.TheVariants.{Counted, InWork, Waiting}
 use Rattle.partial_state.specs.Levels.{level_type}
-use Rattle.level_validate.specs.Acquiring.{is_due_stop}
+use Rattle.level_validate.specs.Acquiring.{is_due_stop, is_paused_answer}
 use Rattle.level_validate.proofs.Acquired.{answer_leaves, counted_hand, given_hand, idle_aside, idle_other, leaves_as, same_leaves, carries_taken, taken_ready, unwound_leaves}
 use Rattle.level_validate.proofs.LeftWaiting.{waits_on}
 use Rattle.level_validate.proofs.Requested.{reference_serves, reference_stops, serves_as, stopped_serves, stopped_stops, stops_as, taken_serves, validated_misses, validated_serves, validated_stops, waited_serves, waited_stops}
@@ -267,3 +271,55 @@ returns-in-Err-clause-forward g c =
     let w = g.P.Port.value c.put_ref.new.port in
     let before = forward_then v b x (refers_forward v b c.args.f c.args.owner c.get_ref.result c.get_ref.ensures.gets) (types_forward b x c.in_ok-frame.frame c.level_type.result c.take_type.result c.take_type.ensures.found) in
     forward_then v x w before (forward_by x w (λ vs. PutBy c.in_ok-frame.frame vs) (put_onward c.in_ok-frame.frame) c.put_ref.ensures.puts)
+
+-- ---- how frames are left
+
+pub returns-in_err-frame-clause-leaves : goal.returns-in_err-frame-clause-leaves
+returns-in_err-frame-clause-leaves g c =
+    refers_well (g.P.Port.value c.args.port.now) (g.P.Port.value c.get_ref.new.port) _ c.args.f c.args.f c.args.owner c.get_ref.result c.get_ref.ensures.gets
+
+pub returns-in-Ok-Counted-clause-leaves : goal.returns-in-Ok-Counted-clause-leaves
+returns-in-Ok-Counted-clause-leaves g c =
+    let v = g.P.Port.value c.args.port.now in
+    let b = g.P.Port.value c.get_ref.new.port in
+    let x = g.P.Port.value c.take_type.new.port in
+    had_well v b x c.args.f c.args.owner c.args.level c.get_ref.result c.get_ref.ensures.gets c.in_ok-frame.frame c.level_type.result c.level_type.ensures c.take_type.result c.take_type.ensures.found false c.args.f
+
+pub returns-in_ok-validate-in-Ok-InWork-clause-leaves : goal.returns-in_ok-validate-in-Ok-InWork-clause-leaves
+returns-in_ok-validate-in-Ok-InWork-clause-leaves g c =
+    let v = g.P.Port.value c.args.port.now in
+    let b = g.P.Port.value c.get_ref.new.port in
+    let x = g.P.Port.value c.take_type.new.port in
+    well_then v x (g.P.Port.value c.validate.new.port) false c.args.f (had_well v b x c.args.f c.args.owner c.args.level c.get_ref.result c.get_ref.ensures.gets c.in_ok-frame.frame c.level_type.result c.level_type.ensures c.take_type.result c.take_type.ensures.found false c.args.f)
+    (subst (λ h. LeftWell x (g.P.Port.value c.validate.new.port) false h) c.in_ok-frame.ensures.frame.0 c.in_ok-validate-in-Ok-InWork.ensures.leaves)
+
+pub returns-in_err-validate-in-Ok-InWork-clause-leaves : goal.returns-in_err-validate-in-Ok-InWork-clause-leaves
+returns-in_err-validate-in-Ok-InWork-clause-leaves g c =
+    let v = g.P.Port.value c.args.port.now in
+    let b = g.P.Port.value c.get_ref.new.port in
+    let x = g.P.Port.value c.take_type.new.port in
+    let w = g.P.Port.value c.validate.new.port in
+    let e = c.in_err-validate-in-Ok-InWork.field-0.0 in
+    let answer = err_from_is_err_and c.from_residual-in_err-validate-in-Ok-InWork.result c.from_residual-in_err-validate-in-Ok-InWork.ensures.1 in
+    let kept = not (is_refused e) in
+    subst (λ r. LeftWell v w (is_paused_answer r) c.args.f) (sym (answer.1 ∙ ap Err answer.2))
+    (well_then v x w kept c.args.f (had_well v b x c.args.f c.args.owner c.args.level c.get_ref.result c.get_ref.ensures.gets c.in_ok-frame.frame c.level_type.result c.level_type.ensures c.take_type.result c.take_type.ensures.found kept c.args.f) (subst (λ h. LeftWell x w kept h) c.in_ok-frame.ensures.frame.0 c.in_err-validate-in-Ok-InWork.ensures.leaves))
+
+pub returns-in-Ok-Waiting-clause-leaves : goal.returns-in-Ok-Waiting-clause-leaves
+returns-in-Ok-Waiting-clause-leaves g c =
+    let v = g.P.Port.value c.args.port.now in
+    let b = g.P.Port.value c.get_ref.new.port in
+    let x = g.P.Port.value c.take_type.new.port in
+    let w = g.P.Port.value c.leave_waiting.new.port in
+    let kept = not (is_refused c.in-Ok-Waiting.stop) in
+    well_then v x w kept c.args.f (had_well v b x c.args.f c.args.owner c.args.level c.get_ref.result c.get_ref.ensures.gets c.in_ok-frame.frame c.level_type.result c.level_type.ensures c.take_type.result c.take_type.ensures.found kept c.args.f)
+    (subst (λ h. LeftWell x w kept h) c.in_ok-frame.ensures.frame.0 (subst (λ k. LeftWell x w k c.in_ok-frame.frame) c.is_paused.ensures c.leave_waiting.ensures.leaves))
+
+pub returns-in-Err-clause-leaves : goal.returns-in-Err-clause-leaves
+returns-in-Err-clause-leaves g c =
+    let v = g.P.Port.value c.args.port.now in
+    let b = g.P.Port.value c.get_ref.new.port in
+    let x = g.P.Port.value c.take_type.new.port in
+    let w = g.P.Port.value c.put_ref.new.port in
+    let kept = not (is_refused c.in-Err.stop) in
+    well_then v x w kept c.args.f (had_well v b x c.args.f c.args.owner c.args.level c.get_ref.result c.get_ref.ensures.gets c.in_ok-frame.frame c.level_type.result c.level_type.ensures c.take_type.result c.take_type.ensures.found kept c.args.f) (well_by x w kept c.args.f (λ vs. PutBy c.in_ok-frame.frame vs) (put_plain c.in_ok-frame.frame) c.put_ref.ensures.puts)

@@ -1,5 +1,6 @@
+use Rattle.level_validate.proofs.LeftWell.{well_then}
 use Rattle.level_validate.proofs.Forward.{forward_then}
-use Rattle.std.proofs.Common.{Err, refl, ap, ◌∙◌}
+use Rattle.std.proofs.Common.{Err, refl, ap, ◌∙◌, false}
 use Rattle.std.proofs.lemmas.Result.{err_from_is_err_and}
 use Rattle.xp_preempt.proofs.Hearing.{heard_as, heard_none, heard_then}
 use Rattle.level_validate.proofs.Asking.{goes_answer}
@@ -19,7 +20,7 @@ pub loop-port-init : goal.loop-port-init
 loop-port-init g c =
     let t = c.in_ok-take_on.ensures in
     record {
-      tables = record { came = t.came; forward = t.forward; stands = t.stands; outer = t.outer; ready = t.ready; serves = t.serves };
+      tables = record { came = t.came; forward = t.forward; leaves = t.leaves; stands = t.stands; outer = t.outer; ready = t.ready; serves = t.serves };
       gate = refl;
       heard = heard_none _ _;
       says = λ n. refl;
@@ -43,7 +44,7 @@ loop-port-preserved g c =
     let i = c.loop-port.invariant in
     let t = c.in_ok-go_on.ensures in
     record {
-      tables = filling_on (g.P.Port.value c.args.port.now) (g.P.Port.value c.loop-port.port) (g.P.Port.value c.go_on.new.port) c.args.owner c.args.stack.now c.loop-port.stack c.go_on.new.stack i.tables t.came t.forward t.stands t.outer t.ready t.serves;
+      tables = filling_on (g.P.Port.value c.args.port.now) (g.P.Port.value c.loop-port.port) (g.P.Port.value c.go_on.new.port) c.args.owner c.args.stack.now c.loop-port.stack c.go_on.new.stack i.tables t.came t.forward t.leaves t.stands t.outer t.ready t.serves;
       gate = t.gate ∙ i.gate;
       heard = heard_then _ _ _ _ _ i.heard (heard_as _ _ _ _ _ i.says t.heard);
       says = λ n. t.says n ∙ i.says n;
@@ -84,3 +85,10 @@ returns-in_err-go_on-clause-forward g c =
 
 pub returns-clause-forward : goal.returns-clause-forward
 returns-clause-forward g c = c.loop-port.invariant.tables.forward
+
+pub returns-in_err-go_on-clause-leaves : goal.returns-in_err-go_on-clause-leaves
+returns-in_err-go_on-clause-leaves g c f =
+    well_then (g.P.Port.value c.args.port.now) (g.P.Port.value c.loop-port.port) (g.P.Port.value c.go_on.new.port) false f (c.loop-port.invariant.tables.leaves f) (c.in_err-go_on.ensures.leaves f)
+
+pub returns-clause-leaves : goal.returns-clause-leaves
+returns-clause-leaves g c f = c.loop-port.invariant.tables.leaves f

@@ -1,5 +1,8 @@
+use Rattle.frame_types.specs.Plain.{is_refused}
+use Rattle.level_validate.specs.Leaving.{LeftWell}
+use Rattle.level_validate.proofs.LeftWell.{well_more, well_then}
 use Rattle.level_validate.proofs.Forward.{forward_then}
-use Rattle.std.proofs.Common.{◌≡◌, ◌∷◌, ◌∙◌, [], List, sym, ap, subst}
+use Rattle.std.proofs.Common.{◌≡◌, ◌∷◌, ◌∙◌, [], List, sym, ap, subst, false, not}
 use Rattle.step_maker.proofs.Coming.{came_trans}
 use Rattle.partial_state.specs.declared.stack.TableWork.{TableWork}
 use Rattle.answer_fits.specs.Answers.{missed}
@@ -113,3 +116,20 @@ returns-in-Ok-clause-forward g c = forward_then (g.P.Port.value c.args.port.now)
 
 pub returns-in-Err-clause-forward : goal.returns-in-Err-clause-forward
 returns-in-Err-clause-forward g c = forward_then (g.P.Port.value c.args.port.now) (g.P.Port.value c.fill.new.port) (g.P.Port.value c.unwind.new.port) c.fill.ensures.forward c.unwind.ensures.forward
+
+-- ---- how frames are left
+
+pub returns-in-Ok-clause-leaves : goal.returns-in-Ok-clause-leaves
+returns-in-Ok-clause-leaves g c =
+    well_then (g.P.Port.value c.args.port.now) (g.P.Port.value c.fill.new.port) (g.P.Port.value c.complete_outer.new.port) false c.args.table.frame (c.fill.ensures.leaves c.args.table.frame) (c.complete_outer.ensures.leaves c.args.table.frame)
+
+pub returns-in-Err-clause-leaves : goal.returns-in-Err-clause-leaves
+returns-in-Err-clause-leaves g c =
+    let u = g.P.Port.value c.args.port.now in
+    let x = g.P.Port.value c.fill.new.port in
+    let w = g.P.Port.value c.unwind.new.port in
+    let t = c.args.table in
+    let one = only t c.new-stack.result c.push.new.self c.new-stack.ensures c.push.ensures.pushed in
+    let kept = not (is_refused c.in-Err.stop) in
+    well_then u x w kept t.frame (well_more u x kept t.frame t.frame (c.fill.ensures.leaves t.frame))
+    (subst (λ b. LeftWell x w b t.frame) c.is_paused.ensures (c.unwind.ensures.leaves (record t { done = 0 }) (c.fill.ensures.outer ∙ ap (λ us. outermost_work us) one)))
