@@ -5,7 +5,7 @@ use Rattle.std.proofs.Common.{◌≡◌, ◌+◌, ℕ, ◌^◌, ◌<◌, ◌==�
 use Rattle.std.proofs.lemmas.Bool.{or_left}
 use Rattle.std.proofs.lemmas.Bool.Decides.{nat_tests}
 use Rattle.xp_words.specs.Entries.{below, demand_at}
-use Rattle.xp_words.specs.KindWords.{has_form, is_kind, kind_fields, kind_write}
+use Rattle.xp_words.specs.KindWords.{has_form, kind_fields, kind_write}
 use Rattle.xp_words.specs.Machine.{Machine}
 use Rattle.xp_words.specs.PageTypes.{is_none, is_table, type_number}
 use Rattle.xp_words.specs.declared.entry.Demand.{Demand}
@@ -40,7 +40,7 @@ use Rattle.kind_words.specs.Kinds.{dead_kind, live_kind, partial_kind, work_kind
 use Rattle.kind_words.proofs.KindFacts.{clock_is_small}
 use Rattle.kind_words.proofs.KindWriting.{dead_is, fields_write, live_is, marked_is}
 use Rattle.frame_types.specs.Found.{DeadBy, Dies, EndsBy, GoesBy, LosesBy, SharedBy, StopsBy, StoresKind, TakesBy, TakesOf, TypeBy, WaitsOf, is_kept_by, next_kind, saw_kind, swaps_kind, TakesFound}
-use Rattle.frame_types.specs.Plain.{IsTakenBy, is_own, is_read_first, waits_by}
+use Rattle.frame_types.specs.Plain.{IsTakenBy, is_own, waits_by}
 use Rattle.frame_types.specs.Standing.{standing_of}
 use Rattle.frame_types.specs.declared.standing.Standing.{Standing}
 use Rattle.frame_types.specs.declared.standing.Standing.TheVariants as stands
@@ -158,13 +158,14 @@ below_asked pages.L4 = (refl, refl)
 below_asked pages.Desc = (refl, refl)
 below_asked pages.Writable = (refl, refl)
 
-work_is : (t : PageType) → IsTrue (not (is_none t)) → IsTrue (is_kind (work_kind t false 0))
+work_plain : (f : ℕ) (t : PageType) → IsTrue (not (is_none t)) → (vs : List Visit) → StoresKind f (work_kind t false 0) vs → Plain vs
 unfolding has_form
-work_is t typed = grind (arith, nat_tests)
+work_plain f t typed vs a = stores_plain f (work_kind t false 0) (grind (arith, nat_tests)) refl refl vs a
 
-pub small_number : (w : ℕ) → (kind_fields w).number < 2 ^ 36
+-- a stamp that stands in a word is a small number
+pub stamp_small : (word stamp : ℕ) → (kind_fields word).number ≡ stamp → stamp < 2 ^ 36
 unfolding kind_fields
-small_number w = omega arith
+stamp_small word stamp is = omega (arith, is)
 
 marked_plain : (f : ℕ) (t : PageType) (stamp : ℕ) → IsAskedType t → stamp < 2 ^ 36 → (vs : List Visit) → StoresKind f (partial_kind t false true 0 stamp) vs → Plain vs
 marked_plain f t stamp is small vs a = stores_plain f (partial_kind t false true 0 stamp) (marked_is t is.0 false stamp (or_left (not (type_number t == 5)) false is.1) small) refl refl vs a
@@ -176,7 +177,7 @@ shared_plain f t stamp is small vs a = then_plain (λ us. StoresKind f (partial_
 ends_plain : (f : ℕ) (want : PageType) → IsTrue (not (is_none want)) → (marked own : Bool) (t : Taken) (vs : List Visit) → EndsBy f want marked own t vs → Plain vs
 ends_plain f want typed marked true types.Counted vs a = stores_plain f (live_kind want 1) (live_is want typed 1 (omega arith)) refl refl vs a
 ends_plain f want typed marked false types.Counted vs a = stores_plain f (live_kind want 2) (live_is want typed 2 (omega arith)) refl refl vs a
-ends_plain f want typed marked own (types.InWork progress mine) vs a = where_plain marked (λ us. StoresKind f (work_kind want false 0) us) (stores_plain f (work_kind want false 0) (work_is want typed) refl refl) vs a
+ends_plain f want typed marked own (types.InWork progress mine) vs a = where_plain marked (λ us. StoresKind f (work_kind want false 0) us) (work_plain f want typed) vs a
 ends_plain f want typed marked own (types.Waiting mine stamp stop) vs a = nothing_plain vs a
 
 goes_plain : (f : ℕ) (want : PageType) → IsTrue (not (is_none want)) → (marked : Bool) (stamp : ℕ) (own : Bool) (t : Taken) (vs : List Visit) → GoesBy f want marked stamp own t vs → Plain vs
@@ -212,7 +213,8 @@ awaited_is true n own stamp stop vs on a = a.0
 awaited_is false n own stamp stop vs on a = absurd cc
 
 goes_low : (f : ℕ) (want : PageType) (marked : Bool) (x : ℕ) (mine own : Bool) (stamp : ℕ) (stop : Stop) (vs : List Visit) → marked ≡ true → GoesBy f want marked (kind_fields x).number mine (types.Waiting own stamp stop) vs → stamp < 2 ^ 36
-goes_low f want marked x mine own stamp stop vs on a = subst (λ n. n < 2 ^ 36) (sym (awaited_is marked (kind_fields x).number own stamp stop a.before on a.first)) (small_number x)
+unfolding kind_fields
+goes_low f want marked x mine own stamp stop vs on a = let is = awaited_is marked (kind_fields x).number own stamp stop a.before on a.first in omega (arith, is)
 
 takes_low : (f : ℕ) (want : PageType) (x : ℕ) (s : Standing) (own : Bool) (stamp : ℕ) (stop : Stop) (vs : List Visit) → IsTakenBy want (kind_fields x) s (types.Waiting own stamp stop) → TakesBy f want x s (types.Waiting own stamp stop) vs → stamp < 2 ^ 36
 takes_low f want x stands.Counted own stamp stop vs way a = absurd cc
@@ -230,12 +232,9 @@ clock_shown v w c found =
     clock_is_small m.from.post.machine m.from.post.vcpu m.from.holdings c finds
 
 -- a frame without entries is left dead
-unread_table : (t : PageType) → is_read_first t ≡ false → is_table t ≡ false
-unread_table t off = first_off (is_table t) (type_number t == 5) off
-  where
-    first_off : (a b : Bool) → (a || b) ≡ false → a ≡ false
-    first_off true b off = off
-    first_off false b off = refl
+first_off : (a b : Bool) → (a || b) ≡ false → a ≡ false
+first_off true b off = off
+first_off false b off = refl
 
 module _ (v w : PortValue) where
   abbrev Shown : List Visit → Type 0
@@ -258,7 +257,7 @@ module _ (v w : PortValue) where
 
   -- ---- the next entry
   left_plain : (g : ℕ) (t : PageType) → IsAskedType t → (own : Bool) (stamp : ℕ) (stop : Stop) → stamp < 2 ^ 36 → (vs : List Visit) → Shown vs → LeftBy g t own stamp stop vs → Plain vs
-  left_plain g t is true stamp (Refused r) small vs each a = dead_plain g t is.0 (unread_table t a.0) vs each a.1
+  left_plain g t is true stamp (Refused r) small vs each a = dead_plain g t is.0 (first_off (is_table t) (type_number t == 5) a.0) vs each a.1
   left_plain g t is true stamp (Paused r) small vs each a = absurd a
   left_plain g t is false stamp stop small vs each a = shared_plain g t stamp is small vs a
 

@@ -1,4 +1,4 @@
-use Rattle.std.proofs.Common.{◌≡◌, ℕ, ◌<◌, ◌+◌, ◌-◌, ◌^◌, not, IsTrue, ◌∷◌, [], drop, true, false, Ok, Err, refl, sym, ap, ◌∙◌, subst, arith}
+use Rattle.std.proofs.Common.{◌≡◌, ℕ, ◌<◌, ◌+◌, ◌-◌, not, IsTrue, ◌∷◌, [], drop, true, false, Ok, Err, refl, sym, ap, ◌∙◌, subst, arith}
 use Rattle.std.proofs.lemmas.Result.{IfErr-weaker, err_from_is_err_and}
 use Rattle.xp_words.specs.Entries.{below}
 use Rattle.xp_words.specs.declared.kind.PageType.{PageType}
@@ -33,7 +33,7 @@ use Rattle.level_validate.proofs.Forward.{forward_by, forward_nothing, forward_t
 use Rattle.level_validate.proofs.Onward.{dead_onward, shared_onward}
 use Rattle.level_validate.proofs.OnwardEntries.{resumes_forward}
 use Rattle.level_validate.proofs.LeftWell.{well_by, well_nothing, well_then}
-use Rattle.level_validate.proofs.LeftWellEntries.{IsAskedType, resumes_well, shared_plain, small_number}
+use Rattle.level_validate.proofs.LeftWellEntries.{IsAskedType, resumes_well, shared_plain, stamp_small}
 use Rattle.level_validate.proofs.LeftWellWaiting.{waiting_well}
 use Rattle.partial_state.proofs.LevelFacts.{level_type-plain, level_type-typed}
 use Rattle.xp_words.specs.PageTypes.{is_none}
@@ -685,7 +685,7 @@ returns-else-own-clause-leaves g n c e =
     let f = c.in-Waiting.frame in
     let k = c.level_type-kind.result in
     let left = subst (λ r. LeavesResumed u x t.frame c.level_type.result i owner r) c.in-Waiting.is c.in_ok-resume_entry.ensures.hand in
-    let small = subst (λ m. m < 2 ^ 36) left.1 (small_number left.0.work.word) in
+    let small = stamp_small left.0.work.word c.in-Waiting.stamp left.1 in
     let asked = subst (λ j. IsAskedType j) (sym c.level_type-kind.ensures) (level_type-typed (t.level - 1), level_type-plain (t.level - 1)) in
     well_then u x y false e (resumes_well u x e t.frame i c.level_type.result owner _ c.in_ok-resume_entry.ensures.found)
     (well_by x y false e (λ vs. SharedBy f k c.in-Waiting.stamp vs) (shared_plain f k c.in-Waiting.stamp asked small) c.leave_shared.ensures.visits)
