@@ -19,7 +19,6 @@ use Rattle.xp_board.specs.Lists.{EachOf}
 use Rattle.xp_board.specs.Told.{PortValue}
 use Rattle.board_lemmas.proofs.Works.{one_works}
 use Rattle.step_maker.specs.Moves.{Came, Moment, Moves, Ran}
-use Rattle.answer_fits.specs.Asked.{IsDemandOf}
 use Rattle.answer_fits.specs.Visits.{Does, Visit, visit, visit_of, visits}
 use Rattle.kind_words.specs.Kinds.{dead_kind}
 use Rattle.kind_words.proofs.KindFacts.{clock_is_small}
@@ -115,7 +114,8 @@ module _ (v u x : PortValue) (owner : ℕ) (t : TableWork) (ts : List TableWork)
         here = here;
         saw = seen_word v u x owner t ts s came first i o.word;
         recorded = omega (arith, all, at);
-        asks = subst (λ y. IsDemandOf g None y) (sym held) (refl, tt);
+        kind = below (level_type t.level);
+        asks = held;
       }
 
   pub waiting_well : (e : ℕ) (k : PageType) → IsTrue (not (is_none k)) → (d : PortValue) → Does x d (λ vs. DeadBy g k vs) → LeftWell x d false e

@@ -12,7 +12,6 @@ use Rattle.xp_board.specs.Hands.{lock_on, work_on, works_on}
 use Rattle.xp_board.specs.Told.{PortValue}
 use Rattle.board_lemmas.proofs.Works.{one_works}
 use Rattle.step_maker.specs.Moves.{Moves}
-use Rattle.answer_fits.specs.Asked.{IsDemandOf}
 use Rattle.kind_words.specs.Kinds.{partial_kind}
 use Rattle.partial_state.proofs.LevelFacts.{level_type-table}
 use Rattle.partial_state.specs.declared.stack.TableWork.{TableWork}
@@ -43,7 +42,8 @@ recorded_inner v w owner t u us s few old =
       here = here;
       saw = k.seen;
       recorded = omega (arith, all, some);
-      asks = subst (λ y. IsDemandOf t.frame None y) (sym held) (refl, tt);
+      kind = level_type t.level;
+      asks = held;
     }
 
 -- a table in work is left partial

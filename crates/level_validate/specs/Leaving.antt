@@ -1,7 +1,9 @@
 -- How an acquisition leaves frames: a `kept` mark, or no type, only where something names the frame.
-use Rattle.std.specs.Prelude.{◌≡◌, ◌⊎◌, ℕ, ◌<◌, Bool, true, List, Some, None, IsTrue}
+use Rattle.std.specs.Prelude.{◌≡◌, ◌⊎◌, ℕ, ◌<◌, Bool, true, List, Some, IsTrue}
 use Rattle.xp_words.specs.KindWords.{kind_fields}
 use Rattle.xp_words.specs.PageTypes.{is_table}
+use Rattle.xp_words.specs.declared.entry.Demand.TheVariants.{Typed}
+use Rattle.xp_words.specs.declared.kind.PageType.{PageType}
 use Rattle.xp_words.specs.declared.place.Place.TheVariants.{Kind}
 use Rattle.xp_board.specs.declared.holdings.Holdings.{Holdings}
 use Rattle.xp_board.specs.declared.holdings.Seen.{Seen}
@@ -12,9 +14,9 @@ use Rattle.xp_board.specs.Lists.{EachOf}
 use Rattle.xp_board.specs.Readings.{is_dead}
 use Rattle.xp_board.specs.Told.{PortValue}
 use Rattle.step_maker.specs.Moves.{Moment, Ran}
-use Rattle.answer_fits.specs.Asked.{IsDemandOf, demand_held}
+use Rattle.answer_fits.specs.Asked.{demand_held}
 
--- a recorded entry asks frame g, of a table in the own works, as it was found
+-- a recorded entry asks a type of frame g, of a table in the own works, as it was found
 pub record IsRecorded (h : Holdings) (g : ℕ) : Type 0 where
   pub table : ℕ
   pub work : Work
@@ -22,7 +24,8 @@ pub record IsRecorded (h : Holdings) (g : ℕ) : Type 0 where
   pub here : work_on table h.works ≡ Some work
   pub saw : work.seen ≡ Some seen
   pub recorded : seen.index < work.recorded
-  pub asks : IsDemandOf g None (demand_held table seen.index seen.word h)
+  pub kind : PageType
+  pub asks : demand_held table seen.index seen.word h ≡ Some (Typed g kind)
 
 -- One step. `kept`: frame f may have its `kept` mark.
 pub record LeavesWell (kept : Bool) (f : ℕ) (m : Moment) : Type 0 where
