@@ -1,0 +1,58 @@
+-- What a release is asked, and how its pieces serve that and show why it pauses.
+use Rattle.std.specs.Prelude.{◌≡◌, ◌==◌, ℕ, Bool, true, false, List, [], ◌∷◌, ◌++◌, Result, Ok, Err}
+use Rattle.xp_words.specs.Machine.{Machine}
+use Rattle.xp_words.specs.declared.reply.Pause.TheVariants.{Busy, Due, Lost}
+use Rattle.xp_words.specs.declared.reply.Stop.{Stop}
+use Rattle.xp_words.specs.declared.reply.Stop.TheVariants.{Paused}
+use Rattle.xp_board.specs.Told.{PortValue}
+use Rattle.step_maker.specs.Moves.{Came, Met}
+use Rattle.answer_fits.specs.Answers.{Deed, Serves, Stops}
+use Rattle.answer_fits.specs.Asked.{IsAsked, Request}
+use Rattle.answer_fits.specs.Finding.{Finding}
+use Rattle.partial_state.specs.declared.stack.TableWork.{TableWork}
+use Rattle.table_entries.specs.Asking.{of_entries}
+
+-- ---- answers
+abbrev pub is_due_stop : Stop → Bool
+is_due_stop (Paused Due) = true
+is_due_stop _ = false
+
+-- the gate said yes
+abbrev pub is_due_answer : {A : Type 0} → Result A Stop → Bool
+is_due_answer (Err e) = is_due_stop e
+is_due_answer (Ok a) = false
+
+-- why it is paused
+abbrev pub IsReleaseEnd : Stop → Type 0
+IsReleaseEnd (Paused Due) = Unit {0}
+IsReleaseEnd (Paused (Lost place expected found)) = Unit {0}
+IsReleaseEnd (Paused (Busy f found)) = Unit {0}
+IsReleaseEnd _ = ⊥
+
+-- what it asks: to give the frame back, and what recorded entries hold
+abbrev pub of_release : {A : Type 0} → ℕ → ℕ → ℕ → Result A Stop → Request
+of_release f owner pages answer = record (of_entries owner pages) { backs = λ g. g == f; rose = is_due_answer answer }
+
+-- the same of the frames that the old words of the own vCPU name
+abbrev pub of_settle : {A : Type 0} → ℕ → ℕ → Result A Stop → Request
+of_settle owner pages answer = record (of_entries owner pages) { contexts = true; rose = is_due_answer answer }
+
+-- ---- pieces
+-- each of the tables is asked
+abbrev pub AreAsked : Machine → ℕ → Request → Finding → List TableWork → Type 0
+AreAsked n s r F [] = Unit {0}
+AreAsked n s r F (t ∷ ts) = IsAsked n s r F t.frame × AreAsked n s r F ts
+
+-- From u to v there is a piece of a call in which entries ask frames; and it asks these tables.
+pub record IsPiece (u v : PortValue) (r : Request) (ts : List TableWork) (ds : List Deed) : Type 0 where
+  pub entries : r.entries ≡ true
+  pub serves : Serves u v r ds
+  pub asked : AreAsked u.post.machine u.post.vcpu r (Met u v) ts
+
+-- Behind any such piece the steps from v to w go on with it, with these deeds more; and it asks the tables us then.
+unfoldable pub Continues : PortValue → PortValue → List TableWork → List TableWork → List Deed → Type 0
+Continues v w ts us es = (u : PortValue) (r : Request) (ds : List Deed) → IsPiece u v r ts ds → IsPiece u w r us (es ++ ds)
+
+-- and they show why it stops; where that is the gate, it said yes
+unfoldable pub StopsRisen : PortValue → PortValue → List TableWork → Stop → Type 0
+StopsRisen v w ts e = (u : PortValue) (r : Request) (ds : List Deed) → (is_due_stop e ≡ true → r.rose ≡ true) → IsPiece u v r ts ds → Stops u w r e

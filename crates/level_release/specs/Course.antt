@@ -1,0 +1,186 @@
+-- The course of a release: the calls that it makes, from port to port, with the tables that are being released before and after each, and
+-- the answers of the gate, the newest first.
+use Rattle.std.specs.Prelude.{◌≡◌, ◌≢◌, ℕ, ◌+◌, ◌-◌, ◌<◌, ◌==◌, ◌&&◌, nat_le, nat_lt, not, Bool, true, false, List, [], ◌∷◌, ◌++◌, None, Some, Result, Ok, Err, IfErr}
+use Rattle.xp_words.specs.KindWords.{kind_fields, kind_write}
+use Rattle.xp_words.specs.PageTypes.{is_table}
+use Rattle.xp_words.specs.Places.{number, sizes_of}
+use Rattle.xp_words.specs.declared.kind.KindWord.{KindWord}
+use Rattle.xp_words.specs.declared.kind.PageType.{PageType}
+use Rattle.xp_words.specs.declared.place.Place.TheVariants.{Clock, Kind, Refs}
+use Rattle.xp_words.specs.declared.reply.Pause.TheVariants.{Busy, Due, Lost}
+use Rattle.xp_words.specs.declared.reply.Stop.{Stop}
+use Rattle.xp_words.specs.declared.reply.Stop.TheVariants.{Paused}
+use Rattle.xp_preempt.specs.Gates.{Consulted, ends_yes}
+use Rattle.xp_board.specs.KindSteps.{Form, Dead, InWork, Live, Partial, form_of, resumed_kind}
+use Rattle.xp_board.specs.declared.step.Act.TheVariants.{Cas, Load, Store}
+use Rattle.xp_board.specs.declared.step.Mark.TheVariants.{Record}
+use Rattle.xp_board.specs.declared.step.StepKind.TheVariants as kinds
+use Rattle.xp_board.specs.Told.{PortValue, is_telling, told_word}
+use Rattle.step_maker.specs.Moves.{Moves}
+use Rattle.step_maker.specs.Plain.{Leaves}
+use Rattle.answer_fits.specs.Answers.{Stops}
+use Rattle.answer_fits.specs.Visits.{Does, Then}
+use Rattle.frame_words.specs.Freeing.{PutBy, Puts}
+use Rattle.frame_words.specs.Plain.{put}
+use Rattle.kind_words.specs.Kinds.{dead_kind, partial_kind}
+use Rattle.frame_types.specs.Found.{Dies, DropsPlain}
+use Rattle.frame_types.specs.Lowering.{DropsType}
+use Rattle.partial_state.specs.Levels.{level_type}
+use Rattle.partial_state.specs.declared.stack.TableWork.{TableWork}
+use Rattle.table_entries.specs.Asking.{of_entries}
+use Rattle.table_words.specs.OldWords.{old_place}
+use Rattle.table_words.specs.declared.old_words.OldWord.{OldWord}
+use Rattle.table_words.specs.declared.old_words.OldWord.TheVariants.{First, Second}
+use Rattle.table_releases.specs.Found.{ReleasesFound, has_recorded}
+use Rattle.table_releases.specs.Plain.{TwinRelease}
+use Rattle.table_releases.specs.declared.entries.Released.{Released}
+use Rattle.table_releases.specs.declared.entries.Released.TheVariants.{Given, Opened}
+use Rattle.level_release.specs.Asking.{is_due_answer}
+
+-- ---- one call each
+-- the last recorded entry of the innermost table
+pub record GaveEntry (v w : PortValue) (t : TableWork) (answer : Result Released Stop) : Type 0 where
+  pub found : ReleasesFound v w t.frame (511 - t.done) (level_type t.level) answer
+  pub plain : TwinRelease v w t.frame (level_type t.level) (511 - t.done) answer
+  pub stops : (owner pages : ℕ) → IfErr answer (λ e. Stops v w (of_entries owner pages) e)
+
+pub record GaveRef (v w : PortValue) (f : ℕ) : Type 0 where
+  pub found : Puts v w f
+  pub plain : is_telling v ≡ true → Leaves w (put f (told_word v))
+
+-- dead, with a clock value that was found, and its reference given back
+abbrev pub MadeDead : PortValue → PortValue → TableWork → Type 0
+MadeDead v w t = Does v w (λ vs. Then (Dies t.frame (level_type t.level) false) (PutBy t.frame) vs)
+
+-- ---- one entry, or one table
+abbrev pub one_more : TableWork → TableWork
+one_more t = record t { done = t.done + 1 }
+
+-- the table that an entry of table t named is released first
+abbrev pub table_in : TableWork → ℕ → ℕ → Bool → TableWork
+table_in t f recorded closing = record { frame = f; level = t.level - 1; done = 512 - recorded; own = not closing; recorded = false }
+
+-- true: an entry is done with
+pub data Lowered : PortValue → List TableWork → PortValue → List TableWork → Result Bool Stop → Type 0 where
+  given : (v w : PortValue) (t : TableWork) (ts : List TableWork) → t.done < 512 → GaveEntry v w t (Ok Given) → Lowered v (t ∷ ts) w (one_more t ∷ ts) (Ok true)
+  opened : (v w : PortValue) (t : TableWork) (ts : List TableWork) (f recorded : ℕ) (closing : Bool) → t.done < 512 → GaveEntry v w t (Ok (Opened f recorded closing)) →
+      Lowered v (t ∷ ts) w (table_in t f recorded closing ∷ one_more t ∷ ts) (Ok false)
+  stopped : (v w : PortValue) (t : TableWork) (ts : List TableWork) (stop : Stop) → t.done < 512 → GaveEntry v w t (Err stop) → Lowered v (t ∷ ts) w (t ∷ ts) (Err stop)
+  emptied : (v w : PortValue) (t : TableWork) (ts : List TableWork) → t.done ≡ 512 → MadeDead v w t → Lowered v (t ∷ ts) w ts (Ok true)
+
+-- whether the gate is asked behind the last entry that is done with: not in a slot that is Xen's, nor behind a table's last
+abbrev pub is_asked_below : ℕ → ℕ → Bool
+is_asked_below level done = not (done == 512) && not ((level == 4) && (nat_le 241 done && nat_le done 256))
+
+abbrev pub is_asked_down : List TableWork → Bool
+is_asked_down [] = false
+is_asked_down (t ∷ ts) = is_asked_below t.level t.done
+
+-- ---- until no table is left
+pub data RanDown (v : PortValue) (ts : List TableWork) : PortValue → List TableWork → List Bool → Result (Unit {0}) Stop → Type 0 where
+  begun : RanDown v ts v ts [] (Ok tt)
+  unasked : (u w : PortValue) (us xs : List TableWork) (done : Bool) (answers : List Bool) → RanDown v ts u us answers (Ok tt) → Lowered u us w xs (Ok done) →
+      (done && is_asked_down xs) ≡ false → RanDown v ts w xs answers (Ok tt)
+  asked : (u w : PortValue) (us xs : List TableWork) (answers : List Bool) → RanDown v ts u us answers (Ok tt) → Lowered u us w xs (Ok true) → is_asked_down xs ≡ true →
+      RanDown v ts w xs (false ∷ answers) (Ok tt)
+  due : (u w : PortValue) (us xs : List TableWork) (answers : List Bool) → RanDown v ts u us answers (Ok tt) → Lowered u us w xs (Ok true) → is_asked_down xs ≡ true →
+      RanDown v ts w xs (true ∷ answers) (Err (Paused Due))
+  stopped : (u w : PortValue) (us xs : List TableWork) (answers : List Bool) (stop : Stop) → RanDown v ts u us answers (Ok tt) → Lowered u us w xs (Err stop) →
+      RanDown v ts w xs answers (Err stop)
+
+-- ---- tables that are left unfinished
+abbrev pub LeftPartial : PortValue → PortValue → TableWork → Type 0
+LeftPartial v w t = (found : ℕ) × Moves v w (Kind t.frame) (Store (kind_write (partial_kind (level_type t.level) false false (512 - t.done) 0))) kinds.Kind None found
+
+-- the first old word names the frame
+abbrev pub Named : PortValue → PortValue → ℕ → Type 0
+Named v w f = Moves v w (old_place v.post.vcpu First) (Store (f + 1)) kinds.Context None 0
+
+abbrev pub one_less : TableWork → TableWork
+one_less t = record t { done = t.done - 1 }
+
+-- one inside another is recorded again as that one's last entry
+abbrev pub Rerecorded : PortValue → PortValue → TableWork → Type 0
+Rerecorded v w outer = (clock : ℕ) × Moves v w Clock Load kinds.Look (Some (Record outer.frame (512 - outer.done))) clock
+
+abbrev pub LeftInside : PortValue → TableWork → List TableWork → PortValue → List TableWork → Type 0
+LeftInside v t [] w us = ⊥
+LeftInside v t (outer ∷ ts) w us = (us ≡ one_less outer ∷ ts) × ((u : PortValue) × LeftPartial v u t × Rerecorded u w (one_less outer))
+
+-- the innermost first, until the outermost one is named
+abbrev pub UnwoundDown : PortValue → List TableWork → PortValue → Type 0
+UnwoundDown v [] w = w ≡ v
+UnwoundDown v (t ∷ []) w = (u : PortValue) × LeftPartial v u t × Named u w t.frame
+UnwoundDown v (t ∷ outer ∷ ts) w = (u : PortValue) × LeftInside v t (outer ∷ ts) u (one_less outer ∷ ts) × UnwoundDown u (one_less outer ∷ ts) w
+
+-- ---- one table and all in it
+pub data Emptied (v : PortValue) (t : TableWork) : PortValue → List Bool → Result (Unit {0}) Stop → Type 0 where
+  finished : (w : PortValue) (answers : List Bool) → RanDown v (t ∷ []) w [] answers (Ok tt) → Emptied v t w answers (Ok tt)
+  paused : (u w : PortValue) (us : List TableWork) (answers : List Bool) (stop : Stop) → RanDown v (t ∷ []) u us answers (Err stop) → UnwoundDown u us w → Emptied v t w answers (Err stop)
+
+-- its owner is looked at first
+abbrev pub closing_table : ℕ → ℕ → TableWork
+closing_table f level = record { frame = f; level = level; done = 0; own = false; recorded = false }
+
+pub data WasReleased (v : PortValue) (f : ℕ) (kind : PageType) : PortValue → List Bool → Result (Unit {0}) Stop → Type 0 where
+  plain : (w : PortValue) → is_table kind ≡ false → DropsPlain v w f kind → WasReleased v f kind w [] (Ok tt)
+  shared : (u w : PortValue) → is_table kind ≡ true → DropsType v u f false → GaveRef u w f → WasReleased v f kind w [] (Ok tt)
+  last : (u x w : PortValue) (word level : ℕ) (answers : List Bool) (answer : Result (Unit {0}) Stop) → is_table kind ≡ true → level_type level ≡ kind → DropsType v u f true →
+      Moves u x (Refs f) Load kinds.Look None word → Emptied x (closing_table f level) w answers answer → WasReleased v f kind w answers answer
+
+-- ---- with a gate
+-- There is such a course with the gate's answers, of which the last one is yes exactly where it is paused for that.
+pub record By (P : List Bool → Type 0) (says : ℕ → Bool) (before after yes_before yes_after : ℕ) (answer : Result (Unit {0}) Stop) : Type 0 where
+  pub answers : List Bool
+  pub course : P answers
+  pub gate : Consulted says before after yes_before yes_after answers
+  pub due : is_due_answer answer ≡ ends_yes answers
+
+abbrev pub RunsDownBy : PortValue → List TableWork → PortValue → List TableWork → (ℕ → Bool) → ℕ → ℕ → ℕ → ℕ → Result (Unit {0}) Stop → Type 0
+RunsDownBy v ts w us says before after yes_before yes_after answer = By (λ answers. RanDown v ts w us answers answer) says before after yes_before yes_after answer
+
+abbrev pub EmptiesBy : PortValue → PortValue → TableWork → (ℕ → Bool) → ℕ → ℕ → ℕ → ℕ → Result (Unit {0}) Stop → Type 0
+EmptiesBy v w t says before after yes_before yes_after answer = By (λ answers. Emptied v t w answers answer) says before after yes_before yes_after answer
+
+abbrev pub ReleasesBy : PortValue → PortValue → ℕ → PageType → (ℕ → Bool) → ℕ → ℕ → ℕ → ℕ → Result (Unit {0}) Stop → Type 0
+ReleasesBy v w f kind says before after yes_before yes_after answer = By (λ answers. WasReleased v f kind w answers answer) says before after yes_before yes_after answer
+
+-- ---- what an old word names
+-- the frame was taken out of the word: it was found live, partial, or busy
+abbrev pub resumed_table : ℕ → ℕ → KindWord → TableWork
+resumed_table f level k = record { frame = f; level = level; done = 512 - k.progress; own = true; recorded = false }
+
+-- a partial one comes into work again; it is a table of which something is recorded, or is dead with its mark
+abbrev pub SettledPartial : PortValue → PortValue → ℕ → KindWord → List Bool → Result (Unit {0}) Stop → Bool → Type 0
+SettledPartial v w f k answers answer true =
+    (u : PortValue) × (word level : ℕ) × (level_type level ≡ k.kind) × Moves v u (Refs f) Load kinds.Look None word × Emptied u (resumed_table f level k) w answers answer
+SettledPartial v w f k answers answer false = (answer ≡ Ok tt) × (answers ≡ []) × Does v w (λ vs. Then (Dies f k.kind k.unflushed) (PutBy f) vs)
+
+pub data SettledOne (v : PortValue) (which : OldWord) : PortValue → List Bool → Result (Unit {0}) Stop → Type 0 where
+  none : (w : PortValue) → Moves v w (old_place v.post.vcpu which) Load kinds.Look None 0 → SettledOne v which w [] (Ok tt)
+  live : (a b c w : PortValue) (f word : ℕ) (answers : List Bool) (answer : Result (Unit {0}) Stop) → Moves v a (old_place v.post.vcpu which) Load kinds.Look None (f + 1) →
+      Moves a b (old_place v.post.vcpu which) (Store 0) kinds.Context None (f + 1) → Moves b c (Kind f) Load kinds.Look None word → form_of (kind_fields word) ≡ Live →
+      WasReleased c f (kind_fields word).kind w answers answer → SettledOne v which w answers answer
+  partial : (a b c d w : PortValue) (f word : ℕ) (answers : List Bool) (answer : Result (Unit {0}) Stop) → Moves v a (old_place v.post.vcpu which) Load kinds.Look None (f + 1) →
+      Moves a b (old_place v.post.vcpu which) (Store 0) kinds.Context None (f + 1) → Moves b c (Kind f) Load kinds.Look None word → form_of (kind_fields word) ≡ Partial →
+      Moves c d (Kind f) (Cas word (kind_write (resumed_kind (kind_fields word)))) kinds.Kind None word →
+      SettledPartial d w f (kind_fields word) answers answer (has_recorded (kind_fields word).kind (kind_fields word)) → SettledOne v which w answers answer
+  lost : (a b c d w : PortValue) (f word found : ℕ) → Moves v a (old_place v.post.vcpu which) Load kinds.Look None (f + 1) →
+      Moves a b (old_place v.post.vcpu which) (Store 0) kinds.Context None (f + 1) → Moves b c (Kind f) Load kinds.Look None word → form_of (kind_fields word) ≡ Partial →
+      Moves c d (Kind f) (Cas word (kind_write (resumed_kind (kind_fields word)))) kinds.Kind None found → found ≢ word → Named d w f →
+      SettledOne v which w [] (Err (Paused (Lost (number (sizes_of v.post.machine) (Kind f)) word found)))
+  busy : (a b c w : PortValue) (f word : ℕ) → Moves v a (old_place v.post.vcpu which) Load kinds.Look None (f + 1) →
+      Moves a b (old_place v.post.vcpu which) (Store 0) kinds.Context None (f + 1) → Moves b c (Kind f) Load kinds.Look None word →
+      form_of (kind_fields word) ≢ Live → form_of (kind_fields word) ≢ Partial → Named c w f → SettledOne v which w [] (Err (Paused (Busy f word)))
+
+abbrev pub SettlesOneBy : PortValue → PortValue → OldWord → (ℕ → Bool) → ℕ → ℕ → ℕ → ℕ → Result (Unit {0}) Stop → Type 0
+SettlesOneBy v w which says before after yes_before yes_after answer = By (λ answers. SettledOne v which w answers answer) says before after yes_before yes_after answer
+
+-- the first word, and then the second
+pub data Settled (v : PortValue) : PortValue → List Bool → Result (Unit {0}) Stop → Type 0 where
+  first : (w : PortValue) (answers : List Bool) (stop : Stop) → SettledOne v First w answers (Err stop) → Settled v w answers (Err stop)
+  both : (u w : PortValue) (answers more : List Bool) (answer : Result (Unit {0}) Stop) → SettledOne v First u answers (Ok tt) → SettledOne u Second w more answer →
+      Settled v w (more ++ answers) answer
+
+abbrev pub SettlesBy : PortValue → PortValue → (ℕ → Bool) → ℕ → ℕ → ℕ → ℕ → Result (Unit {0}) Stop → Type 0
+SettlesBy v w says before after yes_before yes_after answer = By (λ answers. Settled v w answers answer) says before after yes_before yes_after answer

@@ -1,0 +1,160 @@
+//! Tables that are emptied, one in the other: the innermost first, and of each the highest recorded entry first.
+ghost use Rattle.std.specs.Prelude.{◌≡◌, ◌≢◌, ◌<◌, ◌≤◌, ◌∷◌, ℕ, [], Some, true, false, List, length, IfOk, IfErr};
+ghost use Rattle.step_maker.specs.Holds.{MayWork};
+ghost use Rattle.step_maker.specs.Moves.{Came, Met};
+ghost use Rattle.answer_fits.specs.Answers.{misses};
+ghost use Rattle.answer_fits.specs.Pauses.{Progress};
+ghost use Rattle.partial_state.specs.Weights.{weight};
+ghost use Rattle.partial_state.specs.declared.stack.TableWork.{TableWork};
+ghost use Rattle.table_words.specs.OldWords.{known_old};
+ghost use Rattle.table_words.specs.declared.old_words.OldWord.TheVariants.{First};
+ghost use Rattle.level_release.specs.Asking.{Continues, IsReleaseEnd, StopsRisen, is_due_answer};
+ghost use Rattle.level_release.specs.Course.{EmptiesBy, Lowered, MadeDead, RunsDownBy, is_asked_down};
+ghost use Rattle.level_release.specs.Holding.{Empties, HoldsNow, IsReleasing, LeavesEmptied, StaysEmptying, outermost_frame};
+
+use crate::leaving::unwind;
+use frame_words::put_ref;
+use kind_words::{dead_kind, leave};
+use partial_state::{Stack, TableWork, level_type};
+use step_maker::look_clock;
+use table_releases::{Released, release_entry};
+use xp_board::Port;
+use xp_preempt::Preempt;
+use xp_words::{Pause, Stop};
+
+/// Empties the only table in hand, and leaves it dead. A pause leaves all tables partial, and the outermost one is named in the first
+/// old word.
+pub(crate) fn empty<P: Port>(
+    port: &mut P,
+    gate: &mut dyn Preempt,
+    table: TableWork,
+) -> Result<(), Stop>
+    requires may { MayWork (P.value port.old) }
+    requires stands { IsReleasing (P.value port.old) (table ∷ []) }
+    requires room { known_old First (P.value port.old).holdings ≡ Some 0 }
+    ensures came { Came (P.value port.old) (P.value port.new) }
+    ensures hand { LeavesEmptied (P.value port.old) (P.value port.new) table result }
+    ensures kinds { IfErr result IsReleaseEnd }
+    ensures serves { Continues (P.value port.old) (P.value port.new) (table ∷ []) [] (misses (P.value port.old).post.machine result) }
+    ensures stops { IfErr result (λ e. StopsRisen (P.value port.old) (P.value port.new) (table ∷ []) e) }
+    ensures course { EmptiesBy (P.value port.old) (P.value port.new) table (says gate.old) (count_asks gate.old) (count_asks gate.new) (count_yes gate.old) (count_yes gate.new) result }
+    ensures says { (n : ℕ) → says gate.new n ≡ says gate.old n }
+    ensures paces { paces gate.new ≡ paces gate.old }
+    ensures calm { calm gate.old ≡ true → (is_due_answer result ≡ false) × (calm gate.new ≡ true) }
+{
+    let mut stack = Stack::new();
+    stack.push(table);
+    match run_down(port, gate, &mut stack) {
+        Ok(()) => Ok(()),
+        Err(stop) => {
+            unwind(port, &mut stack);
+            Err(stop)
+        }
+    }
+}
+
+// Goes on until no table is left.
+fn run_down<P: Port>(port: &mut P, gate: &mut dyn Preempt, stack: &mut Stack) -> Result<(), Stop>
+    requires may { MayWork (P.value port.old) }
+    requires stands { IsReleasing (P.value port.old) stack.old }
+    requires one { length stack.old ≡ 1 }
+    ensures came { Came (P.value port.old) (P.value port.new) }
+    ensures stands { StaysEmptying (P.value port.old) (P.value port.new) stack.old stack.new }
+    ensures emptied { IfOk result (λ _. stack.new ≡ []) }
+    ensures outer { IfErr result (λ _. outermost_frame stack.new ≡ outermost_frame stack.old) }
+    ensures kinds { IfErr result IsReleaseEnd }
+    ensures serves { Continues (P.value port.old) (P.value port.new) stack.old stack.new (misses (P.value port.old).post.machine result) }
+    ensures stops { IfErr result (λ e. StopsRisen (P.value port.old) (P.value port.new) stack.old e) }
+    ensures course { RunsDownBy (P.value port.old) stack.old (P.value port.new) stack.new (says gate.old) (count_asks gate.old) (count_asks gate.new) (count_yes gate.old) (count_yes gate.new) result }
+    ensures says { (n : ℕ) → says gate.new n ≡ says gate.old n }
+    ensures paces { paces gate.new ≡ paces gate.old }
+    ensures calm { calm gate.old ≡ true → (is_due_answer result ≡ false) × (calm gate.new ≡ true) }
+{
+    while !stack.is_empty() {
+        if lower(port, stack)? {
+            if is_asked(stack) {
+                if gate.due() {
+                    return Err(Stop::Paused(Pause::Due));
+                }
+            }
+        }
+    }
+    Ok(())
+}
+
+// The last recorded entry of the innermost table is given back, or names a table that is then the innermost; or that table is empty, and
+// left dead. True: an entry is done with.
+fn lower<P: Port>(port: &mut P, stack: &mut Stack) -> Result<bool, Stop>
+    requires may { MayWork (P.value port.old) }
+    requires stands { IsReleasing (P.value port.old) stack.old }
+    requires some { stack.old ≢ [] }
+    ensures came { Came (P.value port.old) (P.value port.new) }
+    ensures stands { StaysEmptying (P.value port.old) (P.value port.new) stack.old stack.new }
+    ensures outer { stack.new ≢ [] → outermost_frame stack.new ≡ outermost_frame stack.old }
+    ensures kept { IfErr result (λ _. stack.new ≡ stack.old) }
+    ensures less { IfOk result (λ _. weight stack.new < weight stack.old) }
+    ensures kinds { IfErr result IsReleaseEnd }
+    ensures undue { is_due_answer result ≡ false }
+    // Where the stack is not shorter, an entry was shed.
+    ensures progress { IfOk result (λ _. length stack.old ≤ length stack.new → Progress (Met (P.value port.old) (P.value port.new))) }
+    ensures serves { Continues (P.value port.old) (P.value port.new) stack.old stack.new (misses (P.value port.old).post.machine result) }
+    ensures stops { IfErr result (λ e. StopsRisen (P.value port.old) (P.value port.new) stack.old e) }
+    ensures course { Lowered (P.value port.old) stack.old (P.value port.new) stack.new result }
+{
+    let Some(top) = stack.top() else {
+        unreachable!()
+    };
+    if top.done == 512 {
+        stack.pop();
+        close(port, top);
+        return Ok(true);
+    }
+    match release_entry(port, top.frame, level_type(top.level), 511 - top.done)? {
+        Released::Given => {
+            stack.advance();
+            Ok(true)
+        }
+        Released::Opened {
+            frame,
+            recorded,
+            closing,
+        } => {
+            stack.advance();
+            stack.push(TableWork {
+                frame,
+                level: top.level - 1,
+                done: 512 - recorded,
+                own: !closing,
+                recorded: false,
+            });
+            Ok(false)
+        }
+    }
+}
+
+// The innermost table, of which nothing is recorded any more, is dead, and its reference given back.
+fn close<P: Port>(port: &mut P, table: TableWork)
+    requires may { MayWork (P.value port.old) }
+    requires stands { (ts : List TableWork) × IsReleasing (P.value port.old) (table ∷ ts) }
+    requires empty { table.done ≡ 512 }
+    ensures came { Came (P.value port.old) (P.value port.new) }
+    ensures stands { (ts : List TableWork) → StaysEmptying (P.value port.old) (P.value port.new) (table ∷ ts) ts }
+    ensures serves { (ts : List TableWork) → Continues (P.value port.old) (P.value port.new) (table ∷ ts) ts [] }
+    ensures course { MadeDead (P.value port.old) (P.value port.new) table }
+{
+    let clock = look_clock(port);
+    leave(port, table.frame, dead_kind(level_type(table.level), false, clock));
+    put_ref(port, table.frame);
+}
+
+// Whether the gate is asked behind the last entry that is done with.
+fn is_asked(stack: &Stack) -> bool
+    ensures { result ≡ is_asked_down stack.now }
+{
+    match stack.top() {
+        Some(top) => {
+            top.done != 512 && !(top.level == 4 && top.done >= 241 && top.done <= 256)
+        }
+        None => false,
+    }
+}

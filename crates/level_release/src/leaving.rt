@@ -1,0 +1,80 @@
+//! Tables whose release is unfinished.
+ghost use Rattle.std.specs.Prelude.{◌≡◌, ◌≢◌, ◌∷◌, ℕ, [], Some, None, List};
+ghost use Rattle.xp_words.specs.declared.reply.Stop.{Stop};
+ghost use Rattle.step_maker.specs.Holds.{MayWork};
+ghost use Rattle.step_maker.specs.Moves.{Came};
+ghost use Rattle.partial_state.specs.declared.stack.TableWork.{TableWork};
+ghost use Rattle.table_words.specs.OldWords.{known_old};
+ghost use Rattle.table_words.specs.declared.old_words.OldWord.TheVariants.{First};
+ghost use Rattle.level_release.specs.Asking.{Continues};
+ghost use Rattle.level_release.specs.Course.{LeftInside, Named, UnwoundDown};
+ghost use Rattle.level_release.specs.Holding.{IsReleasing, LeavesNamed, StaysEmptying};
+
+use kind_words::{leave, partial_kind};
+use partial_state::{Stack, TableWork, level_type};
+use table_words::{OldWord, put_old, record_entry};
+use xp_board::Port;
+
+/// Leaves all tables partial, the innermost first: each is recorded again as the last entry of the one around it, and the outermost
+/// one is named in the first old word, which is known to name none.
+pub(crate) fn unwind<P: Port>(port: &mut P, stack: &mut Stack)
+    requires may { MayWork (P.value port.old) }
+    requires stands { IsReleasing (P.value port.old) stack.old }
+    requires some { stack.old ≢ [] }
+    requires room { known_old First (P.value port.old).holdings ≡ Some 0 }
+    ensures came { Came (P.value port.old) (P.value port.new) }
+    ensures hand { LeavesNamed (P.value port.old) (P.value port.new) stack.old }
+    ensures serves { Continues (P.value port.old) (P.value port.new) stack.old [] [] }
+    ensures course { UnwoundDown (P.value port.old) stack.old (P.value port.new) }
+{
+    while let Some(table) = stack.pop() {
+        if stack.is_empty() {
+            leave_outermost(port, table);
+        } else {
+            leave_inside(port, stack, table);
+        }
+    }
+}
+
+// The outermost table.
+fn leave_outermost<P: Port>(port: &mut P, table: TableWork)
+    requires may { MayWork (P.value port.old) }
+    requires stands { IsReleasing (P.value port.old) (table ∷ []) }
+    requires room { known_old First (P.value port.old).holdings ≡ Some 0 }
+    ensures came { Came (P.value port.old) (P.value port.new) }
+    ensures hand { LeavesNamed (P.value port.old) (P.value port.new) (table ∷ []) }
+    ensures serves { Continues (P.value port.old) (P.value port.new) (table ∷ []) [] [] }
+    ensures course { UnwoundDown (P.value port.old) (table ∷ []) (P.value port.new) }
+{
+    leave_partial(port, table);
+    put_old(port, OldWord::First, table.frame);
+}
+
+// A table inside another one, which was popped from the stack. The entry that names it is recorded again.
+fn leave_inside<P: Port>(port: &mut P, stack: &mut Stack, table: TableWork)
+    requires may { MayWork (P.value port.old) }
+    requires stands { IsReleasing (P.value port.old) (table ∷ stack.old) }
+    requires inner { stack.old ≢ [] }
+    ensures came { Came (P.value port.old) (P.value port.new) }
+    ensures stands { StaysEmptying (P.value port.old) (P.value port.new) (table ∷ stack.old) stack.new }
+    ensures serves { Continues (P.value port.old) (P.value port.new) (table ∷ stack.old) stack.new [] }
+    ensures course { LeftInside (P.value port.old) table stack.old (P.value port.new) stack.new }
+{
+    leave_partial(port, table);
+    stack.retreat();
+    if let Some(outer) = stack.top() {
+        record_entry(port, outer.frame, 512 - outer.done);
+    }
+}
+
+// The kind word of the innermost table, with so many entries as are still recorded. Its type count is in hand then.
+fn leave_partial<P: Port>(port: &mut P, table: TableWork) -> u64
+    requires may { MayWork (P.value port.old) }
+    requires stands { (ts : List TableWork) × IsReleasing (P.value port.old) (table ∷ ts) }
+{
+    leave(
+        port,
+        table.frame,
+        partial_kind(level_type(table.level), false, 512 - table.done),
+    )
+}

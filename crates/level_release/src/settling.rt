@@ -1,0 +1,119 @@
+//! What an earlier turn left unfinished is released: the frames that the two old words of the own vCPU name.
+ghost use Rattle.std.specs.Prelude.{◌≡◌, ◌<◌, ℕ, Some, true, false, IfOk, IfErr, IsTrue};
+ghost use Rattle.xp_words.specs.KindWords.{kind_read};
+ghost use Rattle.xp_board.specs.Readings.{is_partial};
+ghost use Rattle.step_maker.specs.Holds.{MayWork, Rests};
+ghost use Rattle.answer_fits.specs.Answers.{Serves, Stops, misses};
+ghost use Rattle.table_words.specs.OldWords.{known_old};
+ghost use Rattle.table_words.specs.declared.old_words.OldWord.TheVariants.{First, Second};
+ghost use Rattle.level_release.specs.Asking.{IsReleaseEnd, is_due_answer, of_settle};
+ghost use Rattle.level_release.specs.Course.{SettlesBy, SettlesOneBy};
+ghost use Rattle.level_release.specs.Holding.{LeavesReleased};
+ghost use Rattle.level_release.specs.Settling.{SettledHand, SettledWord};
+
+use crate::emptying::empty;
+use crate::levels::level_of;
+use crate::releasing::release;
+use frame_words::{look_refs, put_ref};
+use kind_words::{dead_kind, leave, look_kind, lost, read_kind, resume_work};
+use partial_state::TableWork;
+use step_maker::look_clock;
+use table_words::{OldWord, look_old, put_old, take_old};
+use xp_board::Port;
+use xp_preempt::Preempt;
+use xp_words::{KindWord, Pause, Stop};
+
+/// Releases what the own old words name: the first one, and then the second. A pause leaves what is unfinished named in one of them.
+/// Afterwards both are known to name none, unless it is paused.
+pub fn settle<P: Port>(port: &mut P, gate: &mut dyn Preempt) -> Result<(), Stop>
+    requires rests { Rests (P.value port.old) }
+    ensures rests { Rests (P.value port.new) }
+    ensures serves { (owner pages : ℕ) → Serves (P.value port.old) (P.value port.new) (of_settle owner pages result) (misses (P.value port.old).post.machine result) }
+    ensures stops { (owner pages : ℕ) → IfErr result (λ e. Stops (P.value port.old) (P.value port.new) (of_settle owner pages result) e) }
+    ensures kinds { IfErr result IsReleaseEnd }
+    ensures hand { SettledHand (P.value port.old) (P.value port.new) }
+    ensures clear { IfOk result (λ _. known_old First (P.value port.new).holdings ≡ Some 0) }
+    ensures clear_too { IfOk result (λ _. known_old Second (P.value port.new).holdings ≡ Some 0) }
+    ensures course { SettlesBy (P.value port.old) (P.value port.new) (says gate.old) (count_asks gate.old) (count_asks gate.new) (count_yes gate.old) (count_yes gate.new) result }
+    ensures says { (n : ℕ) → says gate.new n ≡ says gate.old n }
+    ensures paces { paces gate.new ≡ paces gate.old }
+    ensures calm { calm gate.old ≡ true → (is_due_answer result ≡ false) × (calm gate.new ≡ true) }
+{
+    settle_word(port, gate, OldWord::First)?;
+    settle_word(port, gate, OldWord::Second)
+}
+
+// What one of the words names. For the second one the first is known to name none.
+fn settle_word<P: Port>(
+    port: &mut P,
+    gate: &mut dyn Preempt,
+    which: OldWord,
+) -> Result<(), Stop>
+    requires rests { Rests (P.value port.old) }
+    requires first { which ≡ Second → known_old First (P.value port.old).holdings ≡ Some 0 }
+    ensures rests { Rests (P.value port.new) }
+    ensures serves { (owner pages : ℕ) → Serves (P.value port.old) (P.value port.new) (of_settle owner pages result) (misses (P.value port.old).post.machine result) }
+    ensures stops { (owner pages : ℕ) → IfErr result (λ e. Stops (P.value port.old) (P.value port.new) (of_settle owner pages result) e) }
+    ensures kinds { IfErr result IsReleaseEnd }
+    ensures hand { SettledWord (P.value port.old) (P.value port.new) which result }
+    ensures course { SettlesOneBy (P.value port.old) (P.value port.new) which (says gate.old) (count_asks gate.old) (count_asks gate.new) (count_yes gate.old) (count_yes gate.new) result }
+    ensures says { (n : ℕ) → says gate.new n ≡ says gate.old n }
+    ensures paces { paces gate.new ≡ paces gate.old }
+    ensures calm { calm gate.old ≡ true → (is_due_answer result ≡ false) × (calm gate.new ≡ true) }
+{
+    if look_old(port, which) == 0 {
+        return Ok(());
+    }
+    let frame = (take_old(port, which) - 1) as u32;
+    let found = look_kind(port, frame);
+    let kind = read_kind(found);
+    if kind.validated {
+        release(port, gate, frame, kind.kind)
+    } else if kind.partial {
+        settle_partial(port, gate, frame, kind, found)
+    } else {
+        put_old(port, OldWord::First, frame);
+        Err(Stop::Paused(Pause::Busy { frame, found }))
+    }
+}
+
+// The frame was found partial, with its type count in hand.
+fn settle_partial<P: Port>(
+    port: &mut P,
+    gate: &mut dyn Preempt,
+    frame: u32,
+    kind: KindWord,
+    found: u64,
+) -> Result<(), Stop>
+    requires frame { frame < (P.value port.old).post.machine.frames }
+    requires may { MayWork (P.value port.old) }
+    requires read { kind_read found ≡ Some kind }
+    requires partial { IsTrue (is_partial kind) }
+    requires room { known_old First (P.value port.old).holdings ≡ Some 0 }
+    ensures hand { LeavesReleased (P.value port.old) (P.value port.new) frame result }
+{
+    match resume_work(port, frame, kind) {
+        Err(other) => {
+            let stop = lost(port, frame, found, other);
+            put_old(port, OldWord::First, frame);
+            Err(stop)
+        }
+        Ok(()) if kind.kind.is_table() && kind.progress > 0 => {
+            look_refs(port, frame);
+            let table = TableWork {
+                frame,
+                level: level_of(kind.kind),
+                done: 512 - kind.progress,
+                own: true,
+                recorded: false,
+            };
+            empty(port, gate, table)
+        }
+        Ok(()) => {
+            let clock = look_clock(port);
+            leave(port, frame, dead_kind(kind.kind, kind.unflushed, clock));
+            put_ref(port, frame);
+            Ok(())
+        }
+    }
+}
