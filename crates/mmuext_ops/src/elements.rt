@@ -1,0 +1,49 @@
+ghost use Rattle.std.specs.Prelude.{◌≡◌, ℕ, Some, Err, true, false, IfErr};
+ghost use Rattle.xp_words.specs.declared.reply.Refusal.{Refusal};
+ghost use Rattle.xp_words.specs.declared.reply.Stop.TheVariants.{Refused};
+ghost use Rattle.xp_board.specs.Readings.{domain_of};
+ghost use Rattle.step_maker.specs.Holds.{Rests};
+ghost use Rattle.answer_fits.specs.Answers.{Serves, Stops};
+ghost use Rattle.table_words.specs.OldWords.{known_old};
+ghost use Rattle.table_words.specs.declared.old_words.OldWord.TheVariants.{First};
+ghost use Rattle.mmuext_ops.specs.Course.{PerformsBy};
+ghost use Rattle.mmuext_ops.specs.Elements.{IsElementStop, LeavesElement, element_deeds, element_of, is_due_answer, request_of};
+
+use crate::element::{Element, element_of};
+use crate::pinning::pin;
+use crate::unpinning::unpin;
+use xp_board::Port;
+use xp_preempt::Preempt;
+use xp_words::{ExtOp, Refusal, Stop};
+
+/// One element of `mmuext_op`, for tables of the caller's own domain. The first old word is known to name no frame. An unpin whose
+/// release is paused is done, and the first old word names what is left.
+pub fn perform<P: Port>(
+    port: &mut P,
+    gate: &mut dyn Preempt,
+    domain: u16,
+    op: ExtOp,
+) -> Result<(), Stop>
+    requires rests { Rests (P.value port.old) }
+    requires own { domain ≡ domain_of (P.value port.old).post.machine (P.value port.old).post.vcpu }
+    requires room { known_old First (P.value port.old).holdings ≡ Some 0 }
+    // The steps serve what the element asks for, and show why it stops.
+    ensures serves { Serves (P.value port.old) (P.value port.new) (request_of domain (element_of op) result) (element_deeds (P.value port.old).post.machine (element_of op) result) }
+    ensures stops { IfErr result (λ e. Stops (P.value port.old) (P.value port.new) (request_of domain (element_of op) result) e) }
+    ensures kinds { IfErr result (IsElementStop (element_of op)) }
+    // What its numbers alone refuse is refused.
+    ensures numbers { (x : Refusal) → (request_of domain (element_of op) result).by_numbers ≡ Some x → result ≡ Err (Refused x) }
+    ensures hand { LeavesElement (P.value port.old) (P.value port.new) (element_of op) result }
+    ensures rests { Rests (P.value port.new) }
+    // It makes these calls, and its gate gave these answers.
+    ensures course { PerformsBy (P.value port.old) (P.value port.new) domain (element_of op) (says gate.old) (count_asks gate.old) (count_asks gate.new) (count_yes gate.old) (count_yes gate.new) result }
+    ensures says { (n : ℕ) → says gate.new n ≡ says gate.old n }
+    ensures paces { paces gate.new ≡ paces gate.old }
+    ensures calm { calm gate.old ≡ true → (is_due_answer result ≡ false) × (calm gate.new ≡ true) }
+{
+    match element_of(op) {
+        Element::Pin { frame, level } => pin(port, gate, domain, frame, level),
+        Element::Unpin { frame } => unpin(port, gate, domain, frame),
+        Element::Unknown => Err(Stop::Refused(Refusal::BadCommand)),
+    }
+}

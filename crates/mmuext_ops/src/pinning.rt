@@ -1,0 +1,100 @@
+//! Pins.
+ghost use Rattle.std.specs.Prelude.{◌≡◌, ◌<◌, ◌≤◌, ℕ, Some, true, false, IfErr};
+ghost use Rattle.xp_board.specs.Readings.{domain_of};
+ghost use Rattle.step_maker.specs.Holds.{MayWork, Rests};
+ghost use Rattle.answer_fits.specs.Answers.{Serves, Stops};
+ghost use Rattle.table_words.specs.OldWords.{known_old};
+ghost use Rattle.table_words.specs.declared.old_words.OldWord.TheVariants.{First};
+ghost use Rattle.mmuext_ops.specs.Course.{PinEnds, PinsBy};
+ghost use Rattle.mmuext_ops.specs.Elements.{IsElementStop, LeavesElement, element_deeds, is_due_answer, request_of};
+ghost use Rattle.mmuext_ops.specs.declared.element.Element.TheVariants.{Pin};
+
+use frame_types::drop_type;
+use frame_words::{get_ref, put_ref};
+use kind_words::{leave, look_kind, lost, partial_kind, read_kind};
+use level_validate::acquire;
+use partial_state::level_type;
+use table_words::{OldWord, put_old, set_pin};
+use xp_board::Port;
+use xp_preempt::Preempt;
+use xp_words::{Refusal, Stop};
+
+/// Pins a frame of the own domain as a table of that level, 1 to 4: it is acquired, and its type stays until it is unpinned. A
+/// frame that is pinned with that type already is refused.
+pub fn pin<P: Port>(
+    port: &mut P,
+    gate: &mut dyn Preempt,
+    domain: u16,
+    f: u64,
+    level: u8,
+) -> Result<(), Stop>
+    requires rests { Rests (P.value port.old) }
+    requires own { domain ≡ domain_of (P.value port.old).post.machine (P.value port.old).post.vcpu }
+    requires low { 1 ≤ level }
+    requires high { level ≤ 4 }
+    requires room { known_old First (P.value port.old).holdings ≡ Some 0 }
+    ensures serves { Serves (P.value port.old) (P.value port.new) (request_of domain (Pin f level) result) (element_deeds (P.value port.old).post.machine (Pin f level) result) }
+    ensures stops { IfErr result (λ e. Stops (P.value port.old) (P.value port.new) (request_of domain (Pin f level) result) e) }
+    ensures kinds { IfErr result (IsElementStop (Pin f level)) }
+    ensures hand { LeavesElement (P.value port.old) (P.value port.new) (Pin f level) result }
+    ensures rests { Rests (P.value port.new) }
+    ensures course { PinsBy (P.value port.old) (P.value port.new) domain f level (says gate.old) (count_asks gate.old) (count_asks gate.new) (count_yes gate.old) (count_yes gate.new) result }
+    ensures says { (n : ℕ) → says gate.new n ≡ says gate.old n }
+    ensures paces { paces gate.new ≡ paces gate.old }
+    ensures calm { calm gate.old ≡ true → (is_due_answer result ≡ false) × (calm gate.new ≡ true) }
+{
+    let frame = get_ref(port, f, domain)?;
+    let found = look_kind(port, frame);
+    put_ref(port, frame);
+    let kind = read_kind(found);
+    if kind.pinned && kind.kind == level_type(level) {
+        return Err(Stop::Refused(Refusal::AlreadyPinned { found }));
+    }
+    let frame = acquire(port, gate, f, domain, level)?;
+    pin_live(port, frame, level)
+}
+
+// The frame is live as a table of that level, and the only typed reference in hand is one to it: it goes into the pin, or is given
+// back.
+fn pin_live<P: Port>(port: &mut P, frame: u32, level: u8) -> Result<(), Stop>
+    requires frame { frame < (P.value port.old).post.machine.frames }
+    requires may { MayWork (P.value port.old) }
+    requires room { known_old First (P.value port.old).holdings ≡ Some 0 }
+    ensures course { PinEnds (P.value port.old) (P.value port.new) frame level result }
+{
+    let found = look_kind(port, frame);
+    let kind = read_kind(found);
+    if kind.pinned {
+        give_up(port, frame, level, false);
+        return Err(Stop::Refused(Refusal::AlreadyPinned { found }));
+    }
+    match set_pin(port, frame, kind) {
+        Ok(()) => Ok(()),
+        Err(found_now) => {
+            if read_kind(found_now).pinned {
+                give_up(port, frame, level, false);
+                Err(Stop::Refused(Refusal::AlreadyPinned { found: found_now }))
+            } else {
+                give_up(port, frame, level, true);
+                Err(lost(port, frame, found, found_now))
+            }
+        }
+    }
+}
+
+// A typed reference to a live table is given back. Where it was the last, the table is left partial with all its entries recorded: its
+// own mark keeps the reference, or the first old word names it.
+fn give_up<P: Port>(port: &mut P, frame: u32, level: u8, kept: bool)
+    requires frame { frame < (P.value port.old).post.machine.frames }
+    requires may { MayWork (P.value port.old) }
+    requires room { known_old First (P.value port.old).holdings ≡ Some 0 }
+{
+    if drop_type(port, frame) {
+        leave(port, frame, partial_kind(level_type(level), kept, 512));
+        if !kept {
+            put_old(port, OldWord::First, frame);
+        }
+    } else {
+        put_ref(port, frame);
+    }
+}
