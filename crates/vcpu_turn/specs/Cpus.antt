@@ -1,5 +1,6 @@
 -- The vCPUs between their turns: their operations, and what they answered.
 use Rattle.std.specs.Prelude.{ℕ, ◌+◌, ◌-◌, ◌==◌, Bool, false, List, [], ◌∷◌, ◌++◌, length, Option, Some, None, Result, Ok, Err, if◌then◌else◌}
+use Rattle.xp_words.specs.declared.ops.ExtOp.{ExtOp}
 use Rattle.xp_words.specs.declared.ops.Pair.{Pair}
 use Rattle.xp_words.specs.declared.ops.Call.{Call}
 use Rattle.xp_words.specs.declared.ops.Call.TheVariants as calls
@@ -28,22 +29,31 @@ pub record Processing : Type 0 where
 abbrev pub fresh : ℕ → ℕ → List Op → Processing
 fresh vcpu domain script = record { vcpu = vcpu; domain = domain; script = script; log = []; done = 0; retired = false }
 
--- ---- operations that are built: `mmu_update` on frames of the caller's own domain
-abbrev pub own_pairs : Call → Option (List Pair)
-own_pairs (calls.Mmu foreign pairs) = if foreign == 0x7ff0 then Some pairs else None
-own_pairs _ = None
+-- ---- operations that are built: lists of `mmu_update`, on frames of the caller's own domain, and of `mmuext_op`
+pub data OpList : Type 0 where
+  OfPairs : List Pair → OpList
+  OfExt : List ExtOp → OpList
 
-abbrev pub pairs_of : Op → Option (List Pair)
-pairs_of (ops.One call) = own_pairs call
-pairs_of _ = None
+abbrev pub list_in : Call → Option OpList
+list_in (calls.Mmu foreign pairs) = if foreign == 0x7ff0 then Some (OfPairs pairs) else None
+list_in (calls.Ext list) = Some (OfExt list)
+list_in _ = None
+
+abbrev pub list_of : Op → Option OpList
+list_of (ops.One call) = list_in call
+list_of _ = None
+
+abbrev pub length_of : OpList → ℕ
+length_of (OfPairs pairs) = length pairs
+length_of (OfExt list) = length list
 
 -- how many elements the operation has of which some may be done
-abbrev pub elements_in : Option (List Pair) → ℕ
-elements_in (Some pairs) = length pairs
+abbrev pub elements_in : Option OpList → ℕ
+elements_in (Some list) = length_of list
 elements_in None = 0
 
 abbrev pub elements_of : Option Op → ℕ
-elements_of (Some op) = elements_in (pairs_of op)
+elements_of (Some op) = elements_in (list_of op)
 elements_of None = 0
 
 -- ---- answers

@@ -1,11 +1,13 @@
 -- Turns: how one begins, what it does and how it ends.
-use Rattle.std.specs.Prelude.{◌≡◌, ℕ, ◌≤◌, nat_lt, Bool, true, false, length, slice_get, Option, Some, None, Result}
+use Rattle.std.specs.Prelude.{◌≡◌, ℕ, ◌+◌, ◌≤◌, nat_lt, Bool, true, false, List, [], ◌++◌, length, slice_get, Option, Some, None, Result, Ok, Err}
 use Rattle.xp_words.specs.Machine.{IsMachine}
 use Rattle.xp_words.specs.Places.{asked_of, flushed_of, run_of}
 use Rattle.xp_words.specs.declared.place.Place.TheVariants.{Clock}
 use Rattle.xp_words.specs.declared.ops.Op.{Op}
 use Rattle.xp_words.specs.declared.reply.Refusal.{Refusal}
 use Rattle.xp_words.specs.declared.reply.Stop.{Stop}
+use Rattle.xp_words.specs.declared.reply.Stop.TheVariants.{Paused}
+use Rattle.xp_words.specs.declared.reply.Pause.{Pause}
 use Rattle.xp_words.specs.declared.reply.Pause.TheVariants.{Due}
 use Rattle.xp_board.specs.declared.step.Act.TheVariants.{Load, Store}
 use Rattle.xp_board.specs.declared.step.Mark.TheVariants.{Cut, Turn}
@@ -15,9 +17,9 @@ use Rattle.xp_board.specs.Readings.{domain_of}
 use Rattle.xp_board.specs.Told.{PortValue, own_run}
 use Rattle.step_maker.specs.Moves.{Moves}
 use Rattle.flush_words.specs.Flushing.{FlushesOwn}
-use Rattle.vcpu_turn.specs.Cpus.{Processing, pairs_of, end_of, after_turn}
-use Rattle.vcpu_turn.specs.Lists.{asks_between, asks_on, is_due_by}
-use Rattle.vcpu_turn.specs.Working.{Works}
+use Rattle.vcpu_turn.specs.Cpus.{Processing, list_of, end_of, after_turn}
+use Rattle.vcpu_turn.specs.Lists.{asks_between, is_due_by}
+use Rattle.vcpu_turn.specs.Working.{Settles, Works}
 use Rattle.vcpu_turn.specs.declared.cpu.TurnEnd.{TurnEnd}
 use Rattle.vcpu_turn.specs.declared.cpu.TurnEnd.TheVariants as ends
 
@@ -53,40 +55,44 @@ EndsTurn (ends.Paused p) v w = w ≡ v
 EndsTurn ends.Retired v w = IsStop v w
 
 -- ---- what it does between
--- The next operation goes on until it answers or pauses. At the script's end the vCPU is retired. The count of asks of the
--- own gate was `before`, and is `after`.
-pub record GoesOnWith (c : Processing) (op : Op) (c' : Processing) (v w : PortValue) (before after : ℕ) (end : TurnEnd) : Type 0 where
+-- The next operation goes on until it answers or pauses. At the script's end the vCPU is retired.
+pub record GoesOnWith (c : Processing) (op : Op) (c' : Processing) (v w : PortValue) (answers : List Bool) (end : TurnEnd) : Type 0 where
   pub to : ℕ
   pub answer : Result (Unit {0}) Stop
-  pub works : Works c.domain (pairs_of op) v w c.done to before after answer
+  pub works : Works c.domain (list_of op) v c.done to w answers answer
   pub end_is : end ≡ end_of to answer
   pub cpu : c' ≡ after_turn c to end
 
-pub record Retires (c c' : Processing) (v w : PortValue) (before after : ℕ) (end : TurnEnd) : Type 0 where
+pub record Retires (c c' : Processing) (v w : PortValue) (answers : List Bool) (end : TurnEnd) : Type 0 where
   pub no_step : w ≡ v
-  pub no_ask : after ≡ before
+  pub no_ask : answers ≡ []
   pub end_is : end ≡ ends.Retired
   pub cpu : c' ≡ record c { retired = true }
 
-abbrev pub DoesNext : Processing → Option Op → Processing → PortValue → PortValue → ℕ → ℕ → TurnEnd → Type 0
-DoesNext c (Some op) c' v w before after end = GoesOnWith c op c' v w before after end
-DoesNext c None c' v w before after end = Retires c c' v w before after end
+abbrev pub DoesNext : Processing → Option Op → Processing → PortValue → PortValue → List Bool → TurnEnd → Type 0
+DoesNext c (Some op) c' v w answers end = GoesOnWith c op c' v w answers end
+DoesNext c None c' v w answers end = Retires c c' v w answers end
+
+-- What an earlier turn left unfinished is settled first; where that pauses, so does the turn.
+pub data Goes (c : Processing) (o : Option Op) (v : PortValue) : Processing → PortValue → List Bool → TurnEnd → Type 0 where
+  unsettled : (w : PortValue) (answers : List Bool) (p : Pause) → Settles v w answers (Err (Paused p)) → Goes c o v c w answers (ends.Paused p)
+  settled : (u w : PortValue) (c' : Processing) (early answers : List Bool) (end : TurnEnd) → Settles v u early (Ok tt) → DoesNext c o c' u w answers end →
+      Goes c o v c' w (answers ++ early) end
 
 -- ---- all of it
--- from v to w a vCPU that is not retired made a turn
-pub record IsTurn (c c' : Processing) (end : TurnEnd) (v w : PortValue) (before after : ℕ) : Type 0 where
+-- from v to w a vCPU that is not retired made a turn, in which its gate gave these answers
+pub record IsTurn (c c' : Processing) (end : TurnEnd) (v w : PortValue) (answers : List Bool) : Type 0 where
   pub begun : PortValue
   pub worked : PortValue
   pub begins : Begins v begun
-  pub does : DoesNext c (slice_get c.script (length c.log)) c' begun worked before after end
+  pub does : Goes c (slice_get c.script (length c.log)) begun c' worked answers end
   pub ends : EndsTurn end worked w
 
--- In a turn a list whose items ask nothing went on from element `from` to element `to`, and ended so; and the gate was asked so often.
-pub record CountsAsks (from : ℕ) (end : TurnEnd) (before after : ℕ) : Type 0 where
-  pub to : ℕ
-  pub answer : Result (Unit {0}) Stop
-  pub end_is : end ≡ end_of to answer
-  pub asks : after ≡ asks_on (asks_between from to answer) before
+-- In a turn a list whose items ask nothing went on from element `from` to element `to`, and ended so; and behind what was settled first the
+-- gate was asked so often. Or settling was all that the turn did.
+pub data CountsAsks (from : ℕ) (end : TurnEnd) (answers : List Bool) : Type 0 where
+  counted : (to : ℕ) (answer : Result (Unit {0}) Stop) (early : ℕ) → end ≡ end_of to answer → length answers ≡ asks_between from to answer + early → CountsAsks from end answers
+  settling : (p : Pause) → end ≡ ends.Paused p → CountsAsks from end answers
 
 -- the turn went on with a list to element `to`, and no further than up to `most`
 pub record GoesNoFurther (c c' : Processing) (end : TurnEnd) (most : ℕ) : Type 0 where
@@ -97,15 +103,15 @@ pub record GoesNoFurther (c c' : Processing) (end : TurnEnd) (most : ℕ) : Type
   pub within : to ≤ most
 
 -- a retired vCPU makes no step, and asks nothing
-pub record StaysRetired (c c' : Processing) (end : TurnEnd) (v w : PortValue) (before after : ℕ) : Type 0 where
+pub record StaysRetired (c c' : Processing) (end : TurnEnd) (v w : PortValue) (answers : List Bool) : Type 0 where
   pub end_is : end ≡ ends.Retired
   pub cpu : c' ≡ c
   pub port : w ≡ v
-  pub no_ask : after ≡ before
+  pub no_ask : answers ≡ []
 
-abbrev pub TurnBy : Bool → Processing → Processing → TurnEnd → PortValue → PortValue → ℕ → ℕ → Type 0
-TurnBy true c c' end v w before after = StaysRetired c c' end v w before after
-TurnBy false c c' end v w before after = IsTurn c c' end v w before after
+abbrev pub TurnBy : Bool → Processing → Processing → TurnEnd → PortValue → PortValue → List Bool → Type 0
+TurnBy true c c' end v w answers = StaysRetired c c' end v w answers
+TurnBy false c c' end v w answers = IsTurn c c' end v w answers
 
 -- ---- between turns
 -- nothing in hand, and no walk under way; translations may stay
@@ -140,17 +146,18 @@ StopsWhere true c c' v w = (c' ≡ c) × (w ≡ v)
 StopsWhere false c c' v w = MakesStop c c' v w
 
 -- ---- a vCPU whose next operation goes on
-pub record Worked (op : Op) (c c' : Processing) (v w : PortValue) (before after : ℕ) (answer : Result (Unit {0}) Stop) : Type 0 where
-  pub works : Works c.domain (pairs_of op) v w c.done c'.done before after answer
+pub record Worked (op : Op) (c c' : Processing) (v w : PortValue) (answers : List Bool) (answer : Result (Unit {0}) Stop) : Type 0 where
+  pub works : Works c.domain (list_of op) v c.done c'.done w answers answer
   pub cpu : c' ≡ record c { done = c'.done }
 
 -- the next operation went on, where there is one
-abbrev pub WorkedBy : Option Op → Processing → Processing → PortValue → PortValue → ℕ → ℕ → Option (Result (Unit {0}) Stop) → Type 0
-WorkedBy (Some op) c c' v w before after (Some answer) = Worked op c c' v w before after answer
-WorkedBy (Some op) c c' v w before after None = ⊥
-WorkedBy None c c' v w before after (Some answer) = ⊥
-WorkedBy None c c' v w before after None = (c' ≡ c) × (w ≡ v) × (after ≡ before)
+abbrev pub WorkedBy : Option Op → Processing → Processing → PortValue → PortValue → List Bool → Option (Result (Unit {0}) Stop) → Type 0
+WorkedBy (Some op) c c' v w answers (Some answer) = Worked op c c' v w answers answer
+WorkedBy (Some op) c c' v w answers None = ⊥
+WorkedBy None c c' v w answers (Some answer) = ⊥
+WorkedBy None c c' v w answers None = (c' ≡ c) × (w ≡ v) × (answers ≡ [])
 
+-- ---- with a gate
 abbrev pub asks_due : Option (Result (Unit {0}) Stop) → Bool
 asks_due (Some answer) = is_due_by answer
 asks_due None = false

@@ -1,40 +1,88 @@
 -- The work of one turn on an operation.
-use Rattle.std.specs.Prelude.{◌≡◌, ◌⊎◌, ℕ, ◌<◌, ◌≤◌, List, length, slice_get, Option, Some, None, Result, Err}
+use Rattle.std.specs.Prelude.{◌≡◌, ◌⊎◌, ℕ, ◌<◌, ◌≤◌, Bool, List, [], ◌++◌, length, slice_get, Option, Some, None, Result, Ok, Err, IfErr}
+use Rattle.xp_words.specs.declared.ops.ExtOp.{ExtOp}
 use Rattle.xp_words.specs.declared.ops.Pair.{Pair}
 use Rattle.xp_words.specs.declared.reply.Refusal.{Refusal}
 use Rattle.xp_words.specs.declared.reply.Refusal.TheVariants as refusals
 use Rattle.xp_words.specs.declared.reply.Stop.{Stop}
 use Rattle.xp_words.specs.declared.reply.Stop.TheVariants.{Refused}
 use Rattle.xp_board.specs.Told.{PortValue}
-use Rattle.mmu_update.specs.Elements.{element_of}
+use Rattle.step_maker.specs.Holds.{Rests}
+use Rattle.answer_fits.specs.Answers.{Serves, Stops, misses}
+use Rattle.level_release.specs.Asking.{IsReleaseEnd, of_settle}
+use Rattle.level_release.specs.Course.{Settled}
+use Rattle.mmu_update.specs.Elements as pairs
 use Rattle.mmu_update.specs.Fits.{Updates}
-use Rattle.vcpu_turn.specs.Lists.{Fitting, Asking, WorksOn}
+use Rattle.mmuext_ops.specs.Course.{Performed}
+use Rattle.mmuext_ops.specs.Elements.{IsElementStop, LeavesElement, element_deeds, element_of, request_of}
+use Rattle.mmuext_ops.specs.declared.element.Element.{Element}
+use Rattle.vcpu_turn.specs.Cpus.{OpList, OfPairs, OfExt, length_of}
+use Rattle.vcpu_turn.specs.Lists.{Fitting, WorksOn}
+
+-- ---- what an earlier turn left unfinished
+-- From v to w it was settled, or why not.
+pub record Settles (v w : PortValue) (answers : List Bool) (answer : Result (Unit {0}) Stop) : Type 0 where
+  pub serves : (owner pages : ℕ) → Serves v w (of_settle owner pages answer) (misses v.post.machine answer)
+  pub stops : (owner pages : ℕ) → IfErr answer (λ e. Stops v w (of_settle owner pages answer) e)
+  pub kinds : IfErr answer IsReleaseEnd
+  pub rests : Rests w
+  pub course : Settled v w answers answer
 
 -- ---- the pairs of `mmu_update`
-abbrev pub FitsPair : ℕ → Option Pair → PortValue → PortValue → Result (Unit {0}) Stop → Type 0
-FitsPair d (Some p) v w answer = Updates d (element_of p) v w answer
-FitsPair d None v w answer = ⊥
+-- none asks the gate
+abbrev pub FitsPair : ℕ → Option Pair → PortValue → PortValue → List Bool → Result (Unit {0}) Stop → Type 0
+FitsPair d (Some p) v w answers answer = Updates d (pairs.element_of p) v w answer × (answers ≡ [])
+FitsPair d None v w answers answer = ⊥
 
 -- pair number k, for frames of domain d
 abbrev pub PairFits : ℕ → List Pair → Fitting
-PairFits d pairs k v w answer = FitsPair d (slice_get pairs k) v w answer
+PairFits d list k v w answers answer = FitsPair d (slice_get list k) v w answers answer
 
--- no pair asks the gate itself
-abbrev pub no_asks : Asking
-no_asks k v w answer = 0
+-- ---- the elements of `mmuext_op`
+-- From v to w an element of domain d was done, or why not: its steps serve it, show the cause of a refusal or pause, and leave nothing
+-- in hand.
+pub record Performs (d : ℕ) (e : Element) (v w : PortValue) (answers : List Bool) (answer : Result (Unit {0}) Stop) : Type 0 where
+  pub serves : Serves v w (request_of d e answer) (element_deeds v.post.machine e answer)
+  pub stops : IfErr answer (λ x. Stops v w (request_of d e answer) x)
+  pub kinds : IfErr answer (IsElementStop e)
+  pub numbers : (x : Refusal) → (request_of d e answer).by_numbers ≡ Some x → answer ≡ Err (Refused x)
+  pub hand : LeavesElement v w e answer
+  pub rests : Rests w
+  pub course : Performed v w d e answers answer
+
+-- what the element before it left unfinished is settled first
+pub data Extends (d : ℕ) (e : Element) (v : PortValue) : PortValue → List Bool → Result (Unit {0}) Stop → Type 0 where
+  unsettled : (w : PortValue) (answers : List Bool) (stop : Stop) → Settles v w answers (Err stop) → Extends d e v w answers (Err stop)
+  performed : (u w : PortValue) (early answers : List Bool) (answer : Result (Unit {0}) Stop) → Settles v u early (Ok tt) → Performs d e u w answers answer →
+      Extends d e v w (answers ++ early) answer
+
+abbrev pub FitsExt : ℕ → Option ExtOp → PortValue → PortValue → List Bool → Result (Unit {0}) Stop → Type 0
+FitsExt d (Some op) v w answers answer = Extends d (element_of op) v w answers answer
+FitsExt d None v w answers answer = ⊥
+
+-- element number k, for tables of domain d
+abbrev pub ExtFits : ℕ → List ExtOp → Fitting
+ExtFits d list k v w answers answer = FitsExt d (slice_get list k) v w answers answer
 
 -- ---- operations
--- refused before any element, and without a step
-pub record IsRefusedWhole (x : Refusal) (v w : PortValue) (to before after : ℕ) (answer : Result (Unit {0}) Stop) : Type 0 where
+-- refused before any element, without a step, and without an ask
+pub record IsRefusedWhole (x : Refusal) (v : PortValue) (to : ℕ) (w : PortValue) (answers : List Bool) (answer : Result (Unit {0}) Stop) : Type 0 where
   pub none : to ≡ 0
   pub no_step : w ≡ v
-  pub no_ask : after ≡ before
+  pub no_ask : answers ≡ []
   pub refused : answer ≡ Err (Refused x)
 
+abbrev pub fits_of : ℕ → OpList → Fitting
+fits_of d (OfPairs list) = PairFits d list
+fits_of d (OfExt list) = ExtFits d list
+
+-- A list of more than 512 items is refused.
+abbrev pub WorksThrough : Fitting → ℕ → PortValue → ℕ → ℕ → PortValue → List Bool → Result (Unit {0}) Stop → Type 0
+WorksThrough fits count v from to w answers answer =
+    ((512 < count) × IsRefusedWhole refusals.BatchLong v to w answers answer) ⊎ ((count ≤ 512) × WorksOn fits count from v to w answers answer)
+
 -- The work of one turn on an operation of domain d, of which `from` elements were done before and `to` are then. One that is
--- not built is refused, and so is a list of more than 512.
-abbrev pub Works : ℕ → Option (List Pair) → PortValue → PortValue → ℕ → ℕ → ℕ → ℕ → Result (Unit {0}) Stop → Type 0
-Works d None v w from to before after answer = IsRefusedWhole refusals.BadCommand v w to before after answer
-Works d (Some pairs) v w from to before after answer =
-    ((512 < length pairs) × IsRefusedWhole refusals.BatchLong v w to before after answer)
-    ⊎ ((length pairs ≤ 512) × WorksOn (PairFits d pairs) no_asks (length pairs) v w from to before after answer)
+-- not built is refused.
+abbrev pub Works : ℕ → Option OpList → PortValue → ℕ → ℕ → PortValue → List Bool → Result (Unit {0}) Stop → Type 0
+Works d None v from to w answers answer = IsRefusedWhole refusals.BadCommand v to w answers answer
+Works d (Some list) v from to w answers answer = WorksThrough (fits_of d list) (length_of list) v from to w answers answer

@@ -4,11 +4,10 @@ ghost use Rattle.xp_words.specs.declared.ops.Op.{Op};
 ghost use Rattle.xp_words.specs.declared.ops.Pair.{Pair};
 ghost use Rattle.xp_words.specs.declared.reply.Stop.{Stop};
 ghost use Rattle.xp_board.specs.Told.{PortValue};
-ghost use Rattle.xp_preempt.specs.Gates.{last_ask};
-ghost use Rattle.vcpu_turn.specs.Cpus.{Processing, pairs_of};
-ghost use Rattle.xp_preempt.specs.Gates.{Heard};
-ghost use Rattle.vcpu_turn.specs.Lists.{WorksOn, asks_between, asks_on, is_due_by};
-ghost use Rattle.vcpu_turn.specs.Turning.{CountsAsks, GoesNoFurther, IsTurn, is_due};
+ghost use Rattle.xp_preempt.specs.Gates.{Gives, last_ask};
+ghost use Rattle.vcpu_turn.specs.Cpus.{OfPairs, Processing, list_of};
+ghost use Rattle.vcpu_turn.specs.Lists.{AsksNothing, WorksOn, asks_between, is_due_by};
+ghost use Rattle.vcpu_turn.specs.Turning.{CountsAsks, GoesNoFurther, IsTurn};
 ghost use Rattle.vcpu_turn.specs.declared.cpu.TurnEnd.{TurnEnd};
 
 use crate::lists::Items;
@@ -16,25 +15,25 @@ use crate::lists::Items;
 /// A list whose items ask no gate themselves asked its own gate exactly once behind each item of this turn, but not behind the
 /// last one of the list.
 pub fn asked_exactly<L: Items>()
-    ensures { (items : L) (v w : PortValue) (from to before after : ℕ) (answer : Result (Unit {0}) Stop) → ((k : ℕ) (u x : PortValue) (a : Result (Unit {0}) Stop) → L.asks items k u x a ≡ 0) → WorksOn (L.fits items) (L.asks items) (L.count items) v w from to before after answer → after ≡ asks_on (asks_between from to answer) before }
+    ensures { (items : L) (v w : PortValue) (from to : ℕ) (answers : List Bool) (answer : Result (Unit {0}) Stop) → AsksNothing (L.fits items) → WorksOn (L.fits items) (L.count items) from v to w answers answer → length answers ≡ asks_between from to answer }
 {}
 
 /// Nor does it go on past the item behind which its gate says yes, as long as the gate counts its asks.
 pub fn never_past_a_yes<L: Items>()
-    ensures { (items : L) (v w : PortValue) (from to before after : ℕ) (answer : Result (Unit {0}) Stop) (says : ℕ → Bool) → ((k : ℕ) (u x : PortValue) (a : Result (Unit {0}) Stop) → L.asks items k u x a ≡ 0) → WorksOn (L.fits items) (L.asks items) (L.count items) v w from to before after answer → Heard says before after (is_due_by answer) → (j : ℕ) → 0 < j → before + j < last_ask → says (before + j) ≡ true → to ≤ from + j }
+    ensures { (items : L) (v w : PortValue) (from to before : ℕ) (answers : List Bool) (answer : Result (Unit {0}) Stop) (says : ℕ → Bool) → AsksNothing (L.fits items) → WorksOn (L.fits items) (L.count items) from v to w answers answer → Gives says before answers → (j : ℕ) → 0 < j → before + j < last_ask → says (before + j) ≡ true → to ≤ from + j }
 {}
 
 /// It is paused for its gate only where that says yes behind the last item of this turn.
 pub fn due_at_a_yes<L: Items>()
-    ensures { (items : L) (v w : PortValue) (from to before after : ℕ) (answer : Result (Unit {0}) Stop) (says : ℕ → Bool) → ((k : ℕ) (u x : PortValue) (a : Result (Unit {0}) Stop) → L.asks items k u x a ≡ 0) → WorksOn (L.fits items) (L.asks items) (L.count items) v w from to before after answer → Heard says before after (is_due_by answer) → is_due_by answer ≡ true → before + (to - from) ≤ last_ask → says (before + (to - from)) ≡ true }
+    ensures { (items : L) (v w : PortValue) (from to before : ℕ) (answers : List Bool) (answer : Result (Unit {0}) Stop) (says : ℕ → Bool) → AsksNothing (L.fits items) → WorksOn (L.fits items) (L.count items) from v to w answers answer → Gives says before answers → is_due_by answer ≡ true → before + (to - from) ≤ last_ask → says (before + (to - from)) ≡ true }
 {}
 
-/// So a turn of a list of `mmu_update` asks the own gate between the elements, and no more.
+/// So a turn of a list of `mmu_update` asks the own gate between the elements, and no more, behind what was settled first.
 pub fn a_turn_counts_its_asks()
-    ensures { (c d : Processing) (op : Op) (pairs : List Pair) (end : TurnEnd) (v w : PortValue) (before after : ℕ) → slice_get c.script (length c.log) ≡ Some op → pairs_of op ≡ Some pairs → length pairs ≤ 512 → IsTurn c d end v w before after → CountsAsks c.done end before after }
+    ensures { (c d : Processing) (op : Op) (pairs : List Pair) (end : TurnEnd) (v w : PortValue) (answers : List Bool) → slice_get c.script (length c.log) ≡ Some op → list_of op ≡ Some (OfPairs pairs) → length pairs ≤ 512 → IsTurn c d end v w answers → CountsAsks c.done end answers }
 {}
 
 /// And it does not go on past the element behind which the own gate says yes.
 pub fn a_turn_never_passes_a_yes()
-    ensures { (c d : Processing) (op : Op) (pairs : List Pair) (end : TurnEnd) (v w : PortValue) (before after : ℕ) (says : ℕ → Bool) → slice_get c.script (length c.log) ≡ Some op → pairs_of op ≡ Some pairs → length pairs ≤ 512 → IsTurn c d end v w before after → Heard says before after (is_due end) → (j : ℕ) → 0 < j → before + j < last_ask → says (before + j) ≡ true → GoesNoFurther c d end (c.done + j) }
+    ensures { (c d : Processing) (op : Op) (pairs : List Pair) (end : TurnEnd) (v w : PortValue) (before : ℕ) (answers : List Bool) (says : ℕ → Bool) → slice_get c.script (length c.log) ≡ Some op → list_of op ≡ Some (OfPairs pairs) → length pairs ≤ 512 → IsTurn c d end v w answers → Gives says before answers → (j : ℕ) → 0 < j → before + j < last_ask → says (before + j) ≡ true → GoesNoFurther c d end (c.done + j) }
 {}

@@ -3,6 +3,7 @@
 
 mod beginning;
 mod cpu;
+mod ext;
 pub mod laws;
 mod lists;
 mod pairs;

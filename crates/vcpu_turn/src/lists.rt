@@ -1,8 +1,7 @@
 //! Operations that are lists: they go on from item to item until the gate says yes.
-ghost use Rattle.std.specs.Prelude.{ℕ, ◌≡◌, ◌+◌, ◌≤◌, true, false, if◌then◌else◌};
+ghost use Rattle.std.specs.Prelude.{ℕ, ◌≡◌, ◌≤◌, true, false};
 ghost use Rattle.step_maker.specs.Holds.{Rests};
-ghost use Rattle.xp_preempt.specs.Gates.{Heard};
-ghost use Rattle.vcpu_turn.specs.Lists.{WorksOn, is_due_by};
+ghost use Rattle.vcpu_turn.specs.Lists.{Answering, WorksOn, is_due_by};
 
 use xp_board::Port;
 use xp_preempt::Preempt;
@@ -10,12 +9,11 @@ use xp_words::{Pause, Stop};
 
 /// What an operation is made of, by number: pairs, extended operations, extents, calls, or the whole operation as one.
 pub trait Items {
-    ghost use Rattle.std.specs.Prelude.{ℕ, ◌≡◌, ◌+◌, ◌<◌, true, false, if◌then◌else◌, Result};
+    ghost use Rattle.std.specs.Prelude.{ℕ, ◌≡◌, ◌<◌, Bool, true, false, List, Result};
     ghost use Rattle.xp_words.specs.declared.reply.Stop.{Stop};
     ghost use Rattle.xp_board.specs.Told.{Post, PortValue};
     ghost use Rattle.step_maker.specs.Holds.{Rests};
-    ghost use Rattle.xp_preempt.specs.Gates.{Heard};
-    ghost use Rattle.vcpu_turn.specs.Lists.{asks_on, is_due_by};
+    ghost use Rattle.vcpu_turn.specs.Lists.{Answering, is_due_by};
 
     /// How many there are.
     ghost count: { Self → ℕ };
@@ -23,11 +21,9 @@ pub trait Items {
     /// That they are items for that vCPU of that machine.
     ghost suits: { Self → Post → Type 0 };
 
-    /// That the steps from one port to another fit such an answer to the item of that number.
-    ghost fits: { Self → ℕ → PortValue → PortValue → Result (Unit {0}) Stop → Type 0 };
-
-    /// How often doing the item of that number asks the gate: by what the steps show.
-    ghost asks: { Self → ℕ → PortValue → PortValue → Result (Unit {0}) Stop → ℕ };
+    /// That the steps from one port to another, and these answers of the gate, the newest first, fit such an answer to the item of that
+    /// number.
+    ghost fits: { Self → ℕ → PortValue → PortValue → List Bool → Result (Unit {0}) Stop → Type 0 };
 
     fn len(&self) -> usize
         ensures { result ≡ count self.now };
@@ -43,11 +39,8 @@ pub trait Items {
         requires suits { suits self.now (P.value port.old).post }
         requires rests { Rests (P.value port.old) }
         ensures post { (P.value port.new).post ≡ (P.value port.old).post }
-        ensures fits { fits self.now index (P.value port.old) (P.value port.new) result }
+        ensures fits { Answering (λ answers. fits self.now index (P.value port.old) (P.value port.new) answers result) (says gate.old) (count_asks gate.old) (count_asks gate.new) (count_yes gate.old) (count_yes gate.new) (is_due_by result) }
         ensures rests { Rests (P.value port.new) }
-        ensures gate { count_yes gate.new ≡ (if is_due_by result then count_yes gate.old + 1 else count_yes gate.old) }
-        ensures asked { count_asks gate.new ≡ asks_on (asks self.now index (P.value port.old) (P.value port.new) result) (count_asks gate.old) }
-        ensures heard { Heard (says gate.old) (count_asks gate.old) (count_asks gate.new) (is_due_by result) }
         ensures says { (n : ℕ) → says gate.new n ≡ says gate.old n }
         ensures paces { paces gate.new ≡ paces gate.old }
         ensures calm { calm gate.old ≡ true → (is_due_by result ≡ false) × (calm gate.new ≡ true) };
@@ -64,10 +57,8 @@ pub fn go_on<P: Port, L: Items>(
     requires suits { L.suits items.now (P.value port.old).post }
     requires rests { Rests (P.value port.old) }
     ensures post { (P.value port.new).post ≡ (P.value port.old).post }
-    ensures works { WorksOn (L.fits items.now) (L.asks items.now) (L.count items.now) (P.value port.old) (P.value port.new) done.old done.new (count_asks gate.old) (count_asks gate.new) result }
+    ensures works { Answering (λ answers. WorksOn (L.fits items.now) (L.count items.now) done.old (P.value port.old) done.new (P.value port.new) answers result) (says gate.old) (count_asks gate.old) (count_asks gate.new) (count_yes gate.old) (count_yes gate.new) (is_due_by result) }
     ensures rests { Rests (P.value port.new) }
-    ensures gate { count_yes gate.new ≡ (if is_due_by result then count_yes gate.old + 1 else count_yes gate.old) }
-    ensures heard { Heard (says gate.old) (count_asks gate.old) (count_asks gate.new) (is_due_by result) }
     ensures says { (n : ℕ) → says gate.new n ≡ says gate.old n }
     ensures paces { paces gate.new ≡ paces gate.old }
     ensures calm { calm gate.old ≡ true → (is_due_by result ≡ false) × (calm gate.new ≡ true) }

@@ -17,15 +17,13 @@ pub(crate) struct OwnPairs<'a> {
 impl<'a> Items for OwnPairs<'a> {
     ghost use Rattle.std.specs.Prelude.{◌≡◌, length};
     ghost use Rattle.xp_board.specs.Readings.{domain_of};
-    ghost use Rattle.vcpu_turn.specs.Working.{PairFits, no_asks};
+    ghost use Rattle.vcpu_turn.specs.Working.{PairFits};
 
     ghost count = { λ s. length s.pairs.now };
 
     ghost suits = { λ s post. s.domain ≡ domain_of post.machine post.vcpu };
 
-    ghost fits = { λ s k v w answer. PairFits s.domain s.pairs.now k v w answer };
-
-    ghost asks = { λ s k v w answer. no_asks k v w answer };
+    ghost fits = { λ s k v w answers answer. PairFits s.domain s.pairs.now k v w answers answer };
 
     fn len(&self) -> usize {
         self.pairs.len()

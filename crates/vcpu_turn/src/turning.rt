@@ -1,8 +1,8 @@
-ghost use Rattle.std.specs.Prelude.{ℕ, ◌≡◌, ◌+◌, ◌<◌, ◌^◌, true, false, length, slice_get, if◌then◌else◌};
+ghost use Rattle.std.specs.Prelude.{ℕ, ◌≡◌, ◌<◌, ◌^◌, true, false, length, slice_get};
 ghost use Rattle.xp_board.specs.Readings.{domain_of};
 ghost use Rattle.step_maker.specs.Holds.{Rests};
 ghost use Rattle.vcpu_turn.specs.Cpus.{reply_of, end_of, after_turn};
-ghost use Rattle.xp_preempt.specs.Gates.{Heard};
+ghost use Rattle.vcpu_turn.specs.Lists.{Answering};
 ghost use Rattle.vcpu_turn.specs.Turning.{EndsTurn, Idles, TurnBy, IsOf, MakesStop, StopsWhere, WorkedBy, asks_due, is_due};
 ghost use Rattle.vcpu_turn.specs.declared.cpu.TurnEnd.TheVariants.{Answered};
 
@@ -10,6 +10,7 @@ use crate::beginning::begin;
 use crate::cpu::{Cpu, TurnEnd};
 use crate::working::work_on;
 use flush_words::{end_answer, stop_vcpu};
+use level_release::settle;
 use xp_board::Port;
 use xp_preempt::Preempt;
 use xp_words::{LogLine, Refusal, Reply, Stop};
@@ -19,10 +20,8 @@ fn go_on<P: Port>(port: &mut P, cpu: &mut Cpu, gate: &mut dyn Preempt) -> Option
     requires own { cpu.old.domain ≡ domain_of (P.value port.old).post.machine (P.value port.old).post.vcpu }
     requires rests { Rests (P.value port.old) }
     ensures post { (P.value port.new).post ≡ (P.value port.old).post }
-    ensures worked { WorkedBy (slice_get cpu.old.script (length cpu.old.log)) cpu.old cpu.new (P.value port.old) (P.value port.new) (count_asks gate.old) (count_asks gate.new) result }
+    ensures worked { Answering (λ answers. WorkedBy (slice_get cpu.old.script (length cpu.old.log)) cpu.old cpu.new (P.value port.old) (P.value port.new) answers result) (says gate.old) (count_asks gate.old) (count_asks gate.new) (count_yes gate.old) (count_yes gate.new) (asks_due result) }
     ensures rests { Rests (P.value port.new) }
-    ensures gate { count_yes gate.new ≡ (if asks_due result then count_yes gate.old + 1 else count_yes gate.old) }
-    ensures heard { Heard (says gate.old) (count_asks gate.old) (count_asks gate.new) (asks_due result) }
     ensures says { (n : ℕ) → says gate.new n ≡ says gate.old n }
     ensures paces { paces gate.new ≡ paces gate.old }
     ensures calm { calm gate.old ≡ true → (asks_due result ≡ false) × (calm gate.new ≡ true) }
@@ -89,18 +88,16 @@ fn retire<P: Port>(port: &mut P, cpu: &mut Cpu)
     cpu.retired = true;
 }
 
-/// One turn of a vCPU. It answers the asks of other vCPUs to flush, then the next operation goes on until it answers or
-/// pauses; at the script's end the vCPU stops and is retired. A turn answers at most one operation, leaves nothing in
+/// One turn of a vCPU. It answers the asks of other vCPUs to flush, what an earlier turn left unfinished is settled, and then the next
+/// operation goes on until it answers or pauses; at the script's end the vCPU stops and is retired. A turn answers at most one operation, leaves nothing in
 /// hand, and takes no memory.
 pub fn turn<P: Port>(port: &mut P, cpu: &mut Cpu, gate: &mut dyn Preempt) -> TurnEnd
     requires short { length cpu.old.script < 2 ^ 32 }
     requires of { IsOf (P.value port.old) cpu.old }
     ensures post { (P.value port.new).post ≡ (P.value port.old).post }
-    ensures turn { TurnBy cpu.old.retired cpu.old cpu.new result (P.value port.old) (P.value port.new) (count_asks gate.old) (count_asks gate.new) }
+    // The turn and the answers of its gate; it is paused for the gate only where that said yes last.
+    ensures turn { Answering (λ answers. TurnBy cpu.old.retired cpu.old cpu.new result (P.value port.old) (P.value port.new) answers) (says gate.old) (count_asks gate.old) (count_asks gate.new) (count_yes gate.old) (count_yes gate.new) (is_due result) }
     ensures of { IsOf (P.value port.new) cpu.new }
-    // The gate is asked after each element but the last, and the turn is paused for it where it says yes.
-    ensures heard { Heard (says gate.old) (count_asks gate.old) (count_asks gate.new) (is_due result) }
-    ensures gate { count_yes gate.new ≡ (if is_due result then count_yes gate.old + 1 else count_yes gate.old) }
     ensures says { (n : ℕ) → says gate.new n ≡ says gate.old n }
     ensures paces { paces gate.new ≡ paces gate.old }
     ensures calm { calm gate.old ≡ true → (is_due result ≡ false) × (calm gate.new ≡ true) }
@@ -109,6 +106,11 @@ pub fn turn<P: Port>(port: &mut P, cpu: &mut Cpu, gate: &mut dyn Preempt) -> Tur
         return TurnEnd::Retired;
     }
     begin(port);
+    match settle(port, gate) {
+        Ok(()) => {}
+        Err(Stop::Paused(pause)) => return TurnEnd::Paused(pause),
+        Err(Stop::Refused(_)) => unreachable!("a release is not refused"),
+    }
     match go_on(port, cpu, gate) {
         None => {
             retire(port, cpu);

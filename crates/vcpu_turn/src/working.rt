@@ -1,17 +1,17 @@
 //! The work of a turn on an operation.
-ghost use Rattle.std.specs.Prelude.{ℕ, ◌≡◌, ◌+◌, ◌≤◌, true, false, Some, None, IfSome, IfNone, length, if◌then◌else◌};
+ghost use Rattle.std.specs.Prelude.{ℕ, ◌≡◌, ◌≤◌, true, false, Some, None};
 ghost use Rattle.xp_board.specs.Readings.{domain_of};
 ghost use Rattle.step_maker.specs.Holds.{Rests};
-ghost use Rattle.vcpu_turn.specs.Cpus.{pairs_of, elements_in};
-ghost use Rattle.xp_preempt.specs.Gates.{Heard};
-ghost use Rattle.vcpu_turn.specs.Lists.{is_due_by};
-ghost use Rattle.vcpu_turn.specs.Working.{Works};
+ghost use Rattle.vcpu_turn.specs.Cpus.{elements_in, list_of};
+ghost use Rattle.vcpu_turn.specs.Lists.{Answering, is_due_by};
+ghost use Rattle.vcpu_turn.specs.Working.{Works, WorksThrough};
 
-use crate::lists::go_on;
+use crate::ext::OwnElements;
+use crate::lists::{Items, go_on};
 use crate::pairs::OwnPairs;
 use xp_board::Port;
 use xp_preempt::Preempt;
-use xp_words::{Call, Op, Pair, Refusal, Stop};
+use xp_words::{Call, Op, Refusal, Stop};
 
 // The caller's own domain, as `mmu_update` names it (`DOMID_SELF` of `xen.h`).
 const DOMID_SELF: u64 = 0x7ff0;
@@ -19,45 +19,29 @@ const DOMID_SELF: u64 = 0x7ff0;
 // The most elements that a list may have.
 const LONGEST: usize = 512;
 
-// The elements of an operation that is built.
-fn pairs_of(op: &Op) -> Option<&[Pair]>
-    ensures some { IfSome result (λ pairs. pairs_of op.now ≡ Some pairs.now) }
-    ensures none { IfNone result (pairs_of op.now ≡ None) }
-{
-    match op {
-        Op::One {
-            call: Call::Mmu { foreign, pairs },
-        } if *foreign == DOMID_SELF => Some(pairs.as_slice()),
-        _ => None,
-    }
-}
-
-// A list of any length, from its element `done` on.
-fn go_through<P: Port>(
+// A list of any length, from its item `done` on.
+fn go_through<P: Port, L: Items>(
     port: &mut P,
     gate: &mut dyn Preempt,
-    domain: u16,
-    pairs: &[Pair],
+    items: &L,
     done: &mut u32,
 ) -> Result<(), Stop>
-    requires within { done.old ≤ length pairs.now }
-    requires own { domain ≡ domain_of (P.value port.old).post.machine (P.value port.old).post.vcpu }
+    requires within { done.old ≤ L.count items.now }
+    requires suits { L.suits items.now (P.value port.old).post }
     requires rests { Rests (P.value port.old) }
     ensures post { (P.value port.new).post ≡ (P.value port.old).post }
-    ensures works { Works domain (Some pairs.now) (P.value port.old) (P.value port.new) done.old done.new (count_asks gate.old) (count_asks gate.new) result }
+    ensures works { Answering (λ answers. WorksThrough (L.fits items.now) (L.count items.now) (P.value port.old) done.old done.new (P.value port.new) answers result) (says gate.old) (count_asks gate.old) (count_asks gate.new) (count_yes gate.old) (count_yes gate.new) (is_due_by result) }
     ensures rests { Rests (P.value port.new) }
-    ensures gate { count_yes gate.new ≡ (if is_due_by result then count_yes gate.old + 1 else count_yes gate.old) }
-    ensures heard { Heard (says gate.old) (count_asks gate.old) (count_asks gate.new) (is_due_by result) }
     ensures says { (n : ℕ) → says gate.new n ≡ says gate.old n }
     ensures paces { paces gate.new ≡ paces gate.old }
     ensures calm { calm gate.old ≡ true → (is_due_by result ≡ false) × (calm gate.new ≡ true) }
 {
-    if pairs.len() > LONGEST {
+    if items.len() > LONGEST {
         *done = 0;
         return Err(Stop::Refused(Refusal::BatchLong));
     }
     let mut at = *done as usize;
-    let answer = go_on(port, gate, &OwnPairs { pairs, domain }, &mut at);
+    let answer = go_on(port, gate, items, &mut at);
     *done = at as u32;
     answer
 }
@@ -70,23 +54,32 @@ pub(crate) fn work_on<P: Port>(
     op: &Op,
     done: &mut u32,
 ) -> Result<(), Stop>
-    requires within { done.old ≤ elements_in (pairs_of op.now) }
+    requires within { done.old ≤ elements_in (list_of op.now) }
     requires own { domain ≡ domain_of (P.value port.old).post.machine (P.value port.old).post.vcpu }
     requires rests { Rests (P.value port.old) }
     ensures post { (P.value port.new).post ≡ (P.value port.old).post }
-    ensures works { Works domain (pairs_of op.now) (P.value port.old) (P.value port.new) done.old done.new (count_asks gate.old) (count_asks gate.new) result }
+    ensures works { Answering (λ answers. Works domain (list_of op.now) (P.value port.old) done.old done.new (P.value port.new) answers result) (says gate.old) (count_asks gate.old) (count_asks gate.new) (count_yes gate.old) (count_yes gate.new) (is_due_by result) }
     ensures rests { Rests (P.value port.new) }
-    ensures gate { count_yes gate.new ≡ (if is_due_by result then count_yes gate.old + 1 else count_yes gate.old) }
-    ensures heard { Heard (says gate.old) (count_asks gate.old) (count_asks gate.new) (is_due_by result) }
     ensures says { (n : ℕ) → says gate.new n ≡ says gate.old n }
     ensures paces { paces gate.new ≡ paces gate.old }
     ensures calm { calm gate.old ≡ true → (is_due_by result ≡ false) × (calm gate.new ≡ true) }
 {
-    match pairs_of(op) {
-        None => {
+    match op {
+        Op::One {
+            call: Call::Mmu { foreign, pairs },
+        } if *foreign == DOMID_SELF => {
+            let pairs = pairs.as_slice();
+            go_through(port, gate, &OwnPairs { pairs, domain }, done)
+        }
+        Op::One {
+            call: Call::Ext { list },
+        } => {
+            let elements = list.as_slice();
+            go_through(port, gate, &OwnElements { elements, domain }, done)
+        }
+        _ => {
             *done = 0;
             Err(Stop::Refused(Refusal::BadCommand))
         }
-        Some(pairs) => go_through(port, gate, domain, pairs, done),
     }
 }
