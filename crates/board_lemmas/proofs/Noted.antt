@@ -92,15 +92,15 @@ recorded_bare : (q : Parts) (n : Machine) (f : ℕ) (o : Option Work) (h : Holdi
 recorded_bare q n f (Some e) h b = demand_out_bare q _ _ b
 recorded_bare q n f None h b = b
 
-shed_bare : (q : Parts) (f upto : ℕ) (o : Option Work) (h : Holdings) → Bare q h → Bare q (shed f upto o h)
-shed_bare q f upto (Some e) h b = demand_in_bare q _ _ _ b
-shed_bare q f upto None h b = b
+shed_bare : (q : Parts) (n : Machine) (f upto : ℕ) (o : Option Work) (h : Holdings) → Bare q h → Bare q (shed n f upto o h)
+shed_bare q n f upto (Some e) h b = demand_in_bare q _ _ _ b
+shed_bare q n f upto None h b = b
 
 pub recorded_aside : (n : Machine) (f upto : ℕ) (h : Holdings) → parts (after_mark n (Some (marks.Record f upto)) h) ≡ parts h
 recorded_aside n f upto h = recorded_bare (parts h) n f (work_on f h.works) h refl
 
 pub shed_aside : (n : Machine) (f upto : ℕ) (h : Holdings) → parts (after_mark n (Some (marks.Shed f upto)) h) ≡ parts h
-shed_aside n f upto h = shed_bare (parts h) f upto (work_on f h.works) h refl
+shed_aside n f upto h = shed_bare (parts h) n f upto (work_on f h.works) h refl
 
 mark_steps : (n : Machine) (mark : Option Mark) (h : Holdings) → (after_mark n mark h).steps ≡ h.steps
 mark_steps n None h = refl

@@ -1,5 +1,5 @@
 -- What is in hand after an entry is recorded or shed, by what that entry asks.
-use Rattle.std.proofs.Common.{◌≡◌, ℕ, if◌then◌else◌, Bool, true, false, is_none, List, length, Option, Some, None, refl, sym, ap, ◌∙◌}
+use Rattle.std.proofs.Common.{◌≡◌, ℕ, if◌then◌else◌, Bool, true, false, List, length, Option, Some, None, refl, sym, ap, ◌∙◌}
 use Rattle.xp_words.specs.Entries.{demand_at}
 use Rattle.xp_words.specs.KindWords.{kind_fields}
 use Rattle.xp_words.specs.Machine.{Machine}
@@ -11,7 +11,7 @@ use Rattle.xp_board.specs.declared.holdings.Unsettled.{Unsettled}
 use Rattle.xp_board.specs.declared.holdings.Work.{Work}
 use Rattle.xp_board.specs.Hands.{changed_work, work_on}
 use Rattle.xp_board.specs.Marks.{demand_seen, leaves_unsettled, recorded, seen_word, shed, unsettled_by}
-use Rattle.xp_board.specs.Settling.{demand_in, demand_out}
+use Rattle.xp_board.specs.Settling.{demand_in, demand_out, is_settled}
 use Rattle.board_lemmas.proofs.ListChanges.{first_by-changed_here}
 use Rattle.table_words.specs.Entries.{RecordsNext, ShedsLast, entry_recorded, entry_shed}
 
@@ -69,17 +69,17 @@ module _ (m : Machine) (f upto : ℕ) (h : Holdings) (next : RecordsNext m f upt
       ∙ first_by-changed_here (λ y. y.frame) f (next_work (unsettled_for b next.may.word h)) h.works next.work (λ y. refl) next.may.here
 
 -- ---- shed
-module _ (f upto : ℕ) (h : Holdings) (last : ShedsLast f upto h) where
+module _ (m : Machine) (f upto : ℕ) (h : Holdings) (last : ShedsLast f upto h) where
   abbrev pub last_asks : Demand
   last_asks = demand_at (kind_fields last.work.word).kind upto last.may.word
 
-  pub shed_left : entry_shed f upto h ≡ record (demand_in (is_none last.work.unsettled) last_asks h) { works = changed_work f (λ x. record x { recorded = upto; unsettled = None }) h.works }
+  pub shed_left : entry_shed m f upto h ≡ record (demand_in (is_settled (sizes_of m) h last.work) last_asks h) { works = changed_work f (λ x. record x { recorded = upto; unsettled = None }) h.works }
   shed_left =
-      ap (λ o. shed f upto o h) last.may.here
-      ∙ ap (λ s. demand_in (is_none last.work.unsettled) (demand_at (kind_fields last.work.word).kind upto (seen_word s)) (record h { works = changed_work f (λ x. record x { recorded = upto; unsettled = None }) h.works })) last.may.seen
-      ∙ in_beside (is_none last.work.unsettled) last_asks _ h
+      ap (λ o. shed m f upto o h) last.may.here
+      ∙ ap (λ s. demand_in (is_settled (sizes_of m) h last.work) (demand_at (kind_fields last.work.word).kind upto (seen_word s)) (record h { works = changed_work f (λ x. record x { recorded = upto; unsettled = None }) h.works })) last.may.seen
+      ∙ in_beside (is_settled (sizes_of m) h last.work) last_asks _ h
 
-  pub shed_work : work_on f (entry_shed f upto h).works ≡ Some (record last.work { recorded = upto; unsettled = None })
+  pub shed_work : work_on f (entry_shed m f upto h).works ≡ Some (record last.work { recorded = upto; unsettled = None })
   shed_work =
       ap (λ (u : Holdings). work_on f u.works) shed_left
       ∙ first_by-changed_here (λ y. y.frame) f (λ x. record x { recorded = upto; unsettled = None }) h.works last.work (λ y. refl) last.may.here

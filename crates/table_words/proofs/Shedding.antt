@@ -1,5 +1,5 @@
 -- The frame of an entry that is shed by a look at its kind word is known live; and an unsettled entry is settled by such a look.
-use Rattle.std.proofs.Common.{◌≡◌, ℕ, ◌-◌, ◌≤◌, Bool, true, false, is_none, ◌∷◌, length, Option, Some, None, IsTrue, refl, sym, ap, ◌∙◌, subst, arith}
+use Rattle.std.proofs.Common.{◌≡◌, ℕ, ◌-◌, ◌≤◌, Bool, true, false, ◌∷◌, length, Option, Some, None, IsTrue, refl, sym, ap, ◌∙◌, subst, arith}
 use Rattle.xp_words.specs.Entries.{demand_at}
 use Rattle.xp_words.specs.KindWords.{kind_fields}
 use Rattle.xp_words.specs.Places.{Sizes, sizes_of}
@@ -31,12 +31,15 @@ use Rattle.table_words.proofs.EntryHands.{last_asks, shed_left}
 use Rattle.kind_words.proofs.Knowing.{live_by_step}
 
 -- ---- shed
-module _ (v w : PortValue) (f upto g : ℕ) (t : PageType) (last : ShedsLast f upto v.holdings) (asks : last_asks f upto v.holdings last ≡ Typed g t) (hand : Holds v w (entry_shed f upto v.holdings)) where
+module _ (v w : PortValue) (f upto g : ℕ) (t : PageType) (last : ShedsLast f upto v.holdings) (asks : last_asks v.post.machine f upto v.holdings last ≡ Typed g t) (hand : Holds v w (entry_shed v.post.machine f upto v.holdings)) where
+  abbrev sure : Bool
+  sure = is_settled (sizes_of v.post.machine) v.holdings last.work
+
   -- the reference that came into the hand
-  pub shed_newest : w.holdings.typed ≡ brought_as (is_none last.work.unsettled) g t v.holdings ∷ v.holdings.typed
+  pub shed_newest : w.holdings.typed ≡ brought_as sure g t v.holdings ∷ v.holdings.typed
   shed_newest =
-      ap (λ (q : PortValue). q.holdings.typed) hand ∙ ap (λ (u : Holdings). u.typed) (shed_left f upto v.holdings last)
-      ∙ ap (λ (d : Demand). (demand_in (is_none last.work.unsettled) d v.holdings).typed) asks
+      ap (λ (q : PortValue). q.holdings.typed) hand ∙ ap (λ (u : Holdings). u.typed) (shed_left v.post.machine f upto v.holdings last)
+      ∙ ap (λ (d : Demand). (demand_in sure d v.holdings).typed) asks
 
   known_by : (settled : Bool) → w.holdings.typed ≡ brought_as settled g t v.holdings ∷ v.holdings.typed → (found : ℕ) → Moves v w (Kind g) Load kinds.Look (Some (Shed f upto)) found → is_live_as t found ≡ true →
       IsTrue (knows_live (sizes_of v.post.machine) g t w.holdings)
@@ -47,12 +50,12 @@ module _ (v w : PortValue) (f upto g : ℕ) (t : PageType) (last : ShedsLast f u
 
   -- by the look that sheds it
   pub shed_known : (found : ℕ) → Moves v w (Kind g) Load kinds.Look (Some (Shed f upto)) found → is_live_as t found ≡ true → IsTrue (knows_live (sizes_of v.post.machine) g t w.holdings)
-  shed_known found look live = known_by (is_none last.work.unsettled) shed_newest found look live
+  shed_known found look live = known_by sure shed_newest found look live
 
   -- a settled one needs no look
-  pub shed_settled_known : last.work.unsettled ≡ None → IsTrue (knows_live (sizes_of v.post.machine) g t w.holdings)
+  pub shed_settled_known : IsTrue sure → IsTrue (knows_live (sizes_of v.post.machine) g t w.holdings)
   shed_settled_known settled =
-      known_first (sizes_of v.post.machine) g t (owner_from v.holdings) v.holdings.typed w.holdings (shed_newest ∙ ap (λ (o : Option Unsettled). brought_as (is_none o) g t v.holdings ∷ v.holdings.typed) settled)
+      known_first (sizes_of v.post.machine) g t (owner_from v.holdings) v.holdings.typed w.holdings (shed_newest ∙ ap (λ (b : Bool). brought_as b g t v.holdings ∷ v.holdings.typed) settled)
 
 -- ---- settled
 pub none_unsettled : (z : Sizes) (h : Holdings) (e : Work) → e.unsettled ≡ None → IsTrue (is_settled z h e)

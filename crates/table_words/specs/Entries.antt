@@ -26,8 +26,8 @@ abbrev pub entry_recorded : Machine → ℕ → Holdings → Holdings
 entry_recorded m f h = recorded m f (work_on f h.works) h
 
 -- what the last recorded entry asks came into the hand, and so many are left
-abbrev pub entry_shed : ℕ → ℕ → Holdings → Holdings
-entry_shed f upto h = shed f upto (work_on f h.works) h
+abbrev pub entry_shed : Machine → ℕ → ℕ → Holdings → Holdings
+entry_shed m f upto h = shed m f upto (work_on f h.works) h
 
 -- ---- the steps
 -- the clock is loaded, and the entries below that one are recorded by it

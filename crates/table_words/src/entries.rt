@@ -33,7 +33,7 @@ pub fn record_entry<P: Port>(port: &mut P, frame: u32, upto: u16) -> u64
 pub fn shed_entry<P: Port>(port: &mut P, frame: u32, upto: u16) -> u64
     requires { ShedsLast frame upto (P.value port.old).holdings }
     ensures moves { Moves (P.value port.old) (P.value port.new) Clock Load kinds.Look (Some (Shed frame upto)) result }
-    ensures hand { Holds (P.value port.old) (P.value port.new) (entry_shed frame upto (P.value port.old).holdings) }
+    ensures hand { Holds (P.value port.old) (P.value port.new) (entry_shed (P.value port.old).post.machine frame upto (P.value port.old).holdings) }
 {
     make(
         port,
@@ -50,7 +50,7 @@ pub fn shed_entry_by_look<P: Port>(port: &mut P, table: u32, upto: u16, frame: u
     requires frame { frame < (P.value port.old).post.machine.frames }
     requires may { ShedsLast table upto (P.value port.old).holdings }
     ensures moves { Moves (P.value port.old) (P.value port.new) (Kind frame) Load kinds.Look (Some (Shed table upto)) result }
-    ensures hand { Holds (P.value port.old) (P.value port.new) (entry_shed table upto (P.value port.old).holdings) }
+    ensures hand { Holds (P.value port.old) (P.value port.new) (entry_shed (P.value port.old).post.machine table upto (P.value port.old).holdings) }
 {
     make(
         port,

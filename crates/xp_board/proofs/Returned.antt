@@ -29,7 +29,7 @@ use Rattle.xp_board.specs.Knowledge.{knows_live, tells_live}
 use Rattle.xp_board.specs.Lists.{some_of, times_by, first_by}
 use Rattle.xp_board.specs.Marks.{after_mark, shed, demand_seen}
 use Rattle.xp_board.specs.Readings.{is_type, is_free, is_context}
-use Rattle.xp_board.specs.Settling.{demand_in, demand_out}
+use Rattle.xp_board.specs.Settling.{demand_in, demand_out, is_settled}
 use Rattle.xp_board.specs.RefSteps.{Raise, Claim, after_ref_row, after_ref_store}
 use Rattle.xp_words.specs.declared.refs.RefWord.TheVariants.{Free}
 use Rattle.xp_board.specs.declared.holdings.Ending.{Ending}
@@ -73,12 +73,12 @@ entry_known z f i new w g t h e here other asked =
     (subst (λ b. IsTrue (knows_live z g t (if b then h else demand_in true (demand_at e.kind i w) (demand_out (demand_at e.kind i new) h)))) (sym other)
     (demand_known z (demand_at e.kind i w) g t (demand_out (demand_at e.kind i new) h) asked))
 
-pub settled_known : (n : Machine) (f upto g : ℕ) (t : PageType) (h : Holdings) (e : Work) → work_on f h.works ≡ Some e → e.unsettled ≡ None → demand_seen upto e ≡ Typed g t →
+pub settled_known : (n : Machine) (f upto g : ℕ) (t : PageType) (h : Holdings) (e : Work) → work_on f h.works ≡ Some e → IsTrue (is_settled (sizes_of n) h e) → demand_seen upto e ≡ Typed g t →
     IsTrue (knows_live (sizes_of n) g t (after_mark n (Some (Shed f upto)) h))
 settled_known n f upto g t h e here settled asked =
     let left : Holdings = record h { works = changed_work f (λ x. record x { recorded = upto; unsettled = None }) h.works } in
-    subst (λ o. IsTrue (knows_live (sizes_of n) g t (shed f upto o h))) (sym here)
-    (subst (λ (b : Bool). IsTrue (knows_live (sizes_of n) g t (demand_in b (demand_seen upto e) left))) (sym (ap is_none settled))
+    subst (λ o. IsTrue (knows_live (sizes_of n) g t (shed n f upto o h))) (sym here)
+    (subst (λ (b : Bool). IsTrue (knows_live (sizes_of n) g t (demand_in b (demand_seen upto e) left))) (sym settled)
     (demand_known (sizes_of n) (demand_seen upto e) g t left asked))
 
 -- ---- what an ask awaits of a free frame is the word of a free one

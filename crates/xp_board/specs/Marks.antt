@@ -1,5 +1,5 @@
 -- Marks: what goes with a step beside its act.
-use Rattle.std.specs.Prelude.{◌≡◌, ℕ, ◌+◌, ◌<◌, ◌==◌, not, if◌then◌else◌, Bool, false, length, is_none, Option, Some, None, IsTrue}
+use Rattle.std.specs.Prelude.{◌≡◌, ℕ, ◌+◌, ◌<◌, ◌==◌, not, if◌then◌else◌, Bool, false, length, Option, Some, None, IsTrue}
 use Rattle.xp_words.specs.declared.entry.Demand.{Demand}
 use Rattle.xp_words.specs.declared.entry.Demand.TheVariants as demands
 use Rattle.xp_words.specs.Entries.{demand_at}
@@ -80,15 +80,15 @@ recorded m f (Some e) h =
     (record h { works = changed_work f (λ x. record x { recorded = e.recorded + 1; unsettled = unsettled_by (sizes_of m) e h }) h.works })
 recorded m f None h = h
 
-abbrev pub shed : ℕ → ℕ → Option Work → Holdings → Holdings
-shed f upto (Some e) h =
-    demand_in (is_none e.unsettled) (demand_seen upto e) (record h { works = changed_work f (λ x. record x { recorded = upto; unsettled = None }) h.works })
-shed f upto None h = h
+abbrev pub shed : Machine → ℕ → ℕ → Option Work → Holdings → Holdings
+shed m f upto (Some e) h =
+    demand_in (is_settled (sizes_of m) h e) (demand_seen upto e) (record h { works = changed_work f (λ x. record x { recorded = upto; unsettled = None }) h.works })
+shed m f upto None h = h
 
 abbrev pub after_mark : Machine → Option Mark → Holdings → Holdings
 after_mark m None h = h
 after_mark m (Some (Record f upto)) h = recorded m f (work_on f h.works) h
-after_mark m (Some (Shed f upto)) h = shed f upto (work_on f h.works) h
+after_mark m (Some (Shed f upto)) h = shed m f upto (work_on f h.works) h
 after_mark m (Some (Forget page)) h = record h { cache = kept_of (λ x. not (x.page == page)) h.cache }
 after_mark m (Some (Cut call)) h = h
 after_mark m (Some Turn) h = record h { turn = length h.steps }

@@ -16,6 +16,7 @@ ghost use Rattle.xp_board.specs.Marks.{after_mark, demand_seen};
 ghost use Rattle.xp_board.specs.Readings.{is_context, is_dead, is_free, kind_at, ref_count};
 ghost use Rattle.xp_board.specs.RefSteps.{Claim, Raise, after_ref_row, after_ref_store};
 ghost use Rattle.xp_board.specs.Runs.{place_of};
+ghost use Rattle.xp_board.specs.Settling.{is_settled};
 ghost use Rattle.xp_board.specs.Sound.{Sound};
 ghost use Rattle.xp_board.specs.Steps.{last_since};
 ghost use Rattle.xp_board.specs.Told.{PortValue, own_run, stepped};
@@ -72,13 +73,13 @@ pub fn empty_hands_are_well_formed()
 {}
 
 /// A typed reference that comes out of a word of a vCPU, but one of the two old words, is known live at once; so is what an
-/// entry exchanged under the lock led to, and the last recorded entry where nothing of it is open. So each of them can be given back.
+/// entry exchanged under the lock led to, and the last recorded entry where it is settled. So each of them can be given back.
 pub fn what_comes_back_is_known_live()
     ensures word { (n : Machine) (v k new f : ℕ) (t : PageType) (h : Holdings) → IsTrue (is_context k) → context_type k ≡ Some t →
         IsTrue (knows_live (sizes_of n) f t (after_context (Vcpu v k) (Store new) (suc f) h)) }
     ensures entry { (n : Machine) (f i new w g : ℕ) (t : PageType) (h : Holdings) (e : Lock) → lock_on f h.locks ≡ Some e → keeps_demand e i new ≡ false →
         demand_at e.kind i w ≡ Typed g t → IsTrue (knows_live (sizes_of n) g t (after_cell (Cell f i) (Store new) w h)) }
-    ensures settled { (n : Machine) (f upto g : ℕ) (t : PageType) (h : Holdings) (e : Work) → work_on f h.works ≡ Some e → e.unsettled ≡ None →
+    ensures settled { (n : Machine) (f upto g : ℕ) (t : PageType) (h : Holdings) (e : Work) → work_on f h.works ≡ Some e → IsTrue (is_settled (sizes_of n) h e) →
         demand_seen upto e ≡ Typed g t → IsTrue (knows_live (sizes_of n) g t (after_mark n (Some (Shed f upto)) h)) }
 {}
 

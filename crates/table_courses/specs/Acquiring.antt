@@ -1,0 +1,214 @@
+-- The course of an acquisition: the calls that it makes, from port to port, with the tables in work before and after each, and the
+-- answers of the gate, the newest first.
+use Rattle.std.specs.Prelude.{◌≡◌, ℕ, ◌+◌, ◌-◌, ◌<◌, ◌==◌, ◌&&◌, ◌||◌, nat_le, not, if◌then◌else◌, Bool, true, false, List, [], ◌∷◌, None, Some, Result, Ok, Err, IfOk, IfErr}
+use Rattle.xp_words.specs.KindWords.{kind_write}
+use Rattle.xp_words.specs.declared.place.Place.TheVariants.{Clock, Kind}
+use Rattle.xp_words.specs.declared.reply.Pause.TheVariants.{Due}
+use Rattle.xp_words.specs.declared.reply.Stop.{Stop}
+use Rattle.xp_words.specs.declared.reply.Stop.TheVariants.{Paused}
+use Rattle.xp_board.specs.declared.step.Act.TheVariants.{Load, Store}
+use Rattle.xp_board.specs.declared.step.Mark.TheVariants.{Record}
+use Rattle.xp_board.specs.declared.step.StepKind.TheVariants as kinds
+use Rattle.xp_board.specs.Told.{PortValue, is_telling, told_word}
+use Rattle.step_maker.specs.Moves.{Moves}
+use Rattle.step_maker.specs.Plain.{Leaves}
+use Rattle.answer_fits.specs.Answers.{Stops}
+use Rattle.answer_fits.specs.Asked.{of_frame}
+use Rattle.answer_fits.specs.Visits.{Does}
+use Rattle.frame_words.specs.Plain.{TwinGet, put}
+use Rattle.frame_words.specs.Freeing.{Puts}
+use Rattle.frame_words.specs.Refs.{Gets}
+use Rattle.kind_words.specs.Kinds.{live_kind, partial_kind}
+use Rattle.frame_types.specs.Found.{DeadBy, SharedBy, StoresKind, TakesFound}
+use Rattle.frame_types.specs.Lowering.{DropsType}
+use Rattle.frame_types.specs.Plain.{TwinTake, is_refused}
+use Rattle.frame_types.specs.Taking.{ShowsWait}
+use Rattle.frame_types.specs.declared.taking.Taken.{Taken}
+use Rattle.frame_types.specs.declared.taking.Taken.TheVariants as types
+use Rattle.partial_state.specs.Levels.{level_type}
+use Rattle.partial_state.specs.declared.stack.TableWork.{TableWork}
+use Rattle.table_words.specs.OldWords.{old_place}
+use Rattle.table_words.specs.declared.old_words.OldWord.TheVariants.{First}
+use Rattle.table_entries.specs.Asking.{ShowsEntered, ShowsResumed, of_entries}
+use Rattle.table_entries.specs.Found.{EntersFound, ResumesFound}
+use Rattle.table_entries.specs.Plain.{TwinEntry, TwinResume}
+use Rattle.table_entries.specs.declared.entries.Entered.{Entered}
+use Rattle.table_entries.specs.declared.entries.Entered.TheVariants.{Recorded, Opened, Unsettled}
+use Rattle.table_entries.specs.declared.resuming.Resumed.{Resumed}
+use Rattle.table_entries.specs.declared.resuming.Resumed.TheVariants as again
+
+-- ---- one call each: by the words that its steps found; on a board that tells all words; and what the steps show of its answer
+pub record GotRef (v w : PortValue) (f owner : ℕ) (answer : Result ℕ Stop) : Type 0 where
+  pub found : Gets v w f owner answer
+  pub plain : TwinGet v w f owner answer
+  pub stops : IfErr answer (λ e. Stops v w (of_frame f owner None) e)
+
+pub record GaveRef (v w : PortValue) (f : ℕ) : Type 0 where
+  pub found : Puts v w f
+  pub plain : is_telling v ≡ true → Leaves w (put f (told_word v))
+
+pub record TookType (v w : PortValue) (f owner level : ℕ) (answer : Result Taken Stop) : Type 0 where
+  pub found : TakesFound v w f (level_type level) answer
+  pub plain : TwinTake v w f (level_type level) answer
+  pub stops : IfErr answer (λ e. Stops v w (of_frame f owner (Some (level_type level))) e)
+  pub waits : IfOk answer (λ t. ShowsWait v w f owner (level_type level) t)
+
+-- the next entry of the innermost table
+pub record TookEntry (v w : PortValue) (owner : ℕ) (t : TableWork) (answer : Result Entered Stop) : Type 0 where
+  pub found : EntersFound v w t.frame t.done (level_type t.level) owner answer
+  pub plain : TwinEntry v w t.frame (level_type t.level) t.done owner answer
+  pub stops : (pages : ℕ) → IfErr answer (λ e. Stops v w (of_entries owner pages) e)
+  pub shows : (pages : ℕ) → IfOk answer (λ a. ShowsEntered v w owner pages (level_type t.level) a)
+
+-- its last recorded entry
+pub record ResumedEntry (v w : PortValue) (owner : ℕ) (t : TableWork) (answer : Result Resumed Stop) : Type 0 where
+  pub found : ResumesFound v w t.frame (t.done - 1) (level_type t.level) owner answer
+  pub plain : TwinResume v w t.frame (level_type t.level) (t.done - 1) owner answer
+  pub stops : (pages : ℕ) → IfErr answer (λ e. Stops v w (of_entries owner pages) e)
+  pub shows : (pages : ℕ) → IfOk answer (λ a. ShowsResumed v w owner pages (level_type t.level) a)
+
+-- ---- tables
+-- a table that an entry of table t names came into work: the entry is under way, or was recorded before
+abbrev pub table_in : TableWork → ℕ → ℕ → Bool → Bool → TableWork
+table_in t f progress own recorded = record { frame = f; level = t.level - 1; done = progress; own = own; recorded = recorded }
+
+abbrev pub one_more : TableWork → TableWork
+one_more t = record t { done = t.done + 1 }
+
+-- one type count too many is given back with its reference: it is not the last
+pub record GaveBack (v w : PortValue) (f : ℕ) : Type 0 where
+  pub between : PortValue
+  pub lowers : DropsType v between f false
+  pub puts : GaveRef between w f
+
+-- live, with the own type count, or with a second one beside another holder's
+abbrev pub type_counts : Bool → ℕ
+type_counts own = if own then 1 else 2
+
+abbrev pub MadeLive : PortValue → PortValue → TableWork → Type 0
+MadeLive v w t = (found : ℕ) × Moves v w (Kind t.frame) (Store (kind_write (live_kind (level_type t.level) (type_counts t.own)))) kinds.Kind None found
+
+-- the entry that names it is recorded, or was before: then what was taken for it is given back
+abbrev pub Joined : PortValue → PortValue → TableWork → TableWork → Bool → Type 0
+Joined v w t outer true = GaveBack v w t.frame
+Joined v w t outer false = (clock : ℕ) × Moves v w Clock Load kinds.Look (Some (Record outer.frame outer.done)) clock
+
+-- a frame of a recorded entry waits for a flush which is not to be had: it is dead with its mark, or as another holder left it
+abbrev pub LeftWaiting : PortValue → PortValue → ℕ → ℕ → Bool → ℕ → Type 0
+LeftWaiting v w f level true stamp = Does v w (λ vs. DeadBy f (level_type level) vs)
+LeftWaiting v w f level false stamp = Does v w (λ vs. SharedBy f (level_type level) stamp vs)
+
+-- ---- down to where a table was left
+-- From v, with these tables in work, of which the innermost has just come into work, to w with those: its last recorded entry is
+-- looked at, and the table that this one names is taken on, if it was left unfinished.
+pub data TookOn (owner : ℕ) : PortValue → List TableWork → PortValue → List TableWork → Result (Unit {0}) Stop → Type 0 where
+  fresh : (v : PortValue) (t : TableWork) (ts : List TableWork) → t.done ≡ 0 → TookOn owner v (t ∷ ts) v (t ∷ ts) (Ok tt)
+  settled : (v w : PortValue) (t : TableWork) (ts : List TableWork) → 0 < t.done → ResumedEntry v w owner t (Ok again.Settled) → TookOn owner v (t ∷ ts) w (t ∷ ts) (Ok tt)
+  taken : (v u w : PortValue) (t : TableWork) (ts : List TableWork) (f : ℕ) → 0 < t.done → ResumedEntry v u owner t (Ok (again.Taken f)) → GaveBack u w f →
+      TookOn owner v (t ∷ ts) w (t ∷ ts) (Ok tt)
+  opened : (v u w : PortValue) (t : TableWork) (ts us : List TableWork) (f progress : ℕ) (own : Bool) (answer : Result (Unit {0}) Stop) → 0 < t.done →
+      ResumedEntry v u owner t (Ok (again.Opened f progress own)) → TookOn owner u (table_in t f progress own true ∷ t ∷ ts) w us answer → TookOn owner v (t ∷ ts) w us answer
+  waiting : (v u w : PortValue) (t : TableWork) (ts : List TableWork) (f : ℕ) (own : Bool) (stamp : ℕ) (stop : Stop) → 0 < t.done →
+      ResumedEntry v u owner t (Ok (again.Waiting f own stamp stop)) → LeftWaiting u w f (t.level - 1) own stamp → TookOn owner v (t ∷ ts) w (t ∷ ts) (Err stop)
+  stopped : (v w : PortValue) (t : TableWork) (ts : List TableWork) (stop : Stop) → 0 < t.done → ResumedEntry v w owner t (Err stop) → TookOn owner v (t ∷ ts) w (t ∷ ts) (Err stop)
+
+-- ---- one entry, or one table
+-- true: an entry is done with
+pub data Advanced (owner : ℕ) : PortValue → List TableWork → PortValue → List TableWork → Result Bool Stop → Type 0 where
+  recorded : (v w : PortValue) (t : TableWork) (ts : List TableWork) → t.done < 512 → TookEntry v w owner t (Ok Recorded) → Advanced owner v (t ∷ ts) w (one_more t ∷ ts) (Ok true)
+  opened : (v u w : PortValue) (t : TableWork) (ts us : List TableWork) (f progress : ℕ) (own : Bool) → t.done < 512 → TookEntry v u owner t (Ok (Opened f progress own)) →
+      TookOn owner u (table_in t f progress own false ∷ one_more t ∷ ts) w us (Ok tt) → Advanced owner v (t ∷ ts) w us (Ok false)
+  cut_off : (v u w : PortValue) (t : TableWork) (ts us : List TableWork) (f progress : ℕ) (own : Bool) (stop : Stop) → t.done < 512 → TookEntry v u owner t (Ok (Opened f progress own)) →
+      TookOn owner u (table_in t f progress own false ∷ one_more t ∷ ts) w us (Err stop) → Advanced owner v (t ∷ ts) w us (Err stop)
+  unsettled : (v w : PortValue) (t : TableWork) (ts : List TableWork) (stop : Stop) → t.done < 512 → TookEntry v w owner t (Ok (Unsettled stop)) →
+      Advanced owner v (t ∷ ts) w (one_more t ∷ ts) (Err stop)
+  stopped : (v w : PortValue) (t : TableWork) (ts : List TableWork) (stop : Stop) → t.done < 512 → TookEntry v w owner t (Err stop) → Advanced owner v (t ∷ ts) w (t ∷ ts) (Err stop)
+  completed : (v u w : PortValue) (t outer : TableWork) (ts : List TableWork) → t.done ≡ 512 → MadeLive v u t → Joined u w t outer t.recorded →
+      Advanced owner v (t ∷ outer ∷ ts) w (outer ∷ ts) (Ok true)
+
+-- whether the gate is asked behind the last entry that is done with: not in a slot that is Xen's, nor where the table is then full
+abbrev pub is_asked_at : ℕ → ℕ → Bool
+is_asked_at level done = not (done == 512) && not ((level == 4) && (nat_le 257 done && nat_le done 272))
+
+abbrev pub is_asked : List TableWork → Bool
+is_asked [] = false
+is_asked (t ∷ ts) = is_asked_at t.level t.done
+
+-- ---- until the only table is full
+-- From v to w, and from these tables to those; the gate said no behind each entry, or yes, and then it ends so. The newest answer
+-- stands first.
+pub data Filled (owner : ℕ) (v : PortValue) (ts : List TableWork) : PortValue → List TableWork → List Bool → Result (Unit {0}) Stop → Type 0 where
+  begun : Filled owner v ts v ts [] (Ok tt)
+  unasked : (u w : PortValue) (us xs : List TableWork) (done : Bool) (answers : List Bool) → Filled owner v ts u us answers (Ok tt) → Advanced owner u us w xs (Ok done) →
+      (done && is_asked xs) ≡ false → Filled owner v ts w xs answers (Ok tt)
+  asked : (u w : PortValue) (us xs : List TableWork) (answers : List Bool) → Filled owner v ts u us answers (Ok tt) → Advanced owner u us w xs (Ok true) → is_asked xs ≡ true →
+      Filled owner v ts w xs (false ∷ answers) (Ok tt)
+  due : (u w : PortValue) (us xs : List TableWork) (answers : List Bool) → Filled owner v ts u us answers (Ok tt) → Advanced owner u us w xs (Ok true) → is_asked xs ≡ true →
+      Filled owner v ts w xs (true ∷ answers) (Err (Paused Due))
+  stopped : (u w : PortValue) (us xs : List TableWork) (answers : List Bool) (stop : Stop) → Filled owner v ts u us answers (Ok tt) → Advanced owner u us w xs (Err stop) →
+      Filled owner v ts w xs answers (Err stop)
+
+-- ---- tables that are left unfinished
+abbrev pub LeftPartial : PortValue → PortValue → TableWork → Bool → Type 0
+LeftPartial v w t kept = (found : ℕ) × Moves v w (Kind t.frame) (Store (kind_write (partial_kind (level_type t.level) kept false t.done 0))) kinds.Kind None found
+
+-- the first old word names the frame
+abbrev pub Named : PortValue → PortValue → ℕ → Type 0
+Named v w f = Moves v w (old_place v.post.vcpu First) (Store (f + 1)) kinds.Context None 0
+
+-- the outermost one, by whether its type count is in hand, and by whether its own mark is to keep that
+abbrev pub OutermostLeft : PortValue → PortValue → TableWork → Bool → Bool → Type 0
+OutermostLeft v w t true true = LeftPartial v w t true
+OutermostLeft v w t true false = (u : PortValue) × LeftPartial v u t false × Named u w t.frame
+OutermostLeft v w t false kept = (u : PortValue) × LeftPartial v u t false × GaveRef u w t.frame
+
+-- One inside another, by whether its type count is in hand, and whether the entry that names it was recorded before: the entry is recorded
+-- with it; or its own mark keeps what came out of that; or its reference is given back.
+abbrev pub InnerLeft : PortValue → PortValue → TableWork → TableWork → Bool → Bool → Type 0
+InnerLeft v w t outer true false = (u : PortValue) × LeftPartial v u t false × ((clock : ℕ) × Moves u w Clock Load kinds.Look (Some (Record outer.frame outer.done)) clock)
+InnerLeft v w t outer true true = LeftPartial v w t true
+InnerLeft v w t outer false was = (u : PortValue) × LeftPartial v u t false × GaveRef u w t.frame
+
+-- an entry that was under way, and whose table stays another holder's, is not done with any more
+abbrev pub around_left : TableWork → TableWork → TableWork
+around_left t outer = if t.own || t.recorded then outer else record outer { done = outer.done - 1 }
+
+-- the innermost first, until none is in work
+abbrev pub Unwound : PortValue → List TableWork → Bool → PortValue → Type 0
+Unwound v [] kept w = w ≡ v
+Unwound v (t ∷ []) kept w = OutermostLeft v w t t.own kept
+Unwound v (t ∷ outer ∷ ts) kept w = (u : PortValue) × InnerLeft v u t outer t.own t.recorded × Unwound u (around_left t outer ∷ ts) kept w
+
+-- the frame waits for a flush that is not to be had
+abbrev pub WaitingLeft : PortValue → PortValue → ℕ → ℕ → ℕ → Bool → Bool → Type 0
+WaitingLeft v w f level stamp true true = Does v w (λ vs. StoresKind f (partial_kind (level_type level) true true 0 stamp) vs)
+WaitingLeft v w f level stamp true false = (u : PortValue) × Does v u (λ vs. StoresKind f (partial_kind (level_type level) false true 0 stamp) vs) × Named u w f
+WaitingLeft v w f level stamp false kept = Does v w (λ vs. SharedBy f (level_type level) stamp vs)
+
+-- its own mark keeps the type count where the call is paused
+abbrev pub keeps_it : Stop → Bool
+keeps_it stop = not (is_refused stop)
+
+-- ---- the whole
+-- the frame came into work as a table with its reference taken first, and these tables are in work at the end
+pub data Worked (owner : ℕ) (v : PortValue) (t : TableWork) : PortValue → List TableWork → List Bool → Result (Unit {0}) Stop → Type 0 where
+  cut_off : (w : PortValue) (us : List TableWork) (stop : Stop) → TookOn owner v (t ∷ []) w us (Err stop) → Worked owner v t w us [] (Err stop)
+  filled : (u w : PortValue) (us xs : List TableWork) (answers : List Bool) (answer : Result (Unit {0}) Stop) → TookOn owner v (t ∷ []) u us (Ok tt) → Filled owner u us w xs answers answer →
+      Worked owner v t w xs answers answer
+
+abbrev pub outermost_table : ℕ → ℕ → ℕ → Bool → TableWork
+outermost_table f level progress own = record { frame = f; level = level; done = progress; own = own; recorded = false }
+
+-- from v to w a frame was taken as a table of that level
+pub data Acquired (v : PortValue) (f owner level : ℕ) : PortValue → List Bool → Result ℕ Stop → Type 0 where
+  unreferred : (w : PortValue) (stop : Stop) → GotRef v w f owner (Err stop) → Acquired v f owner level w [] (Err stop)
+  untyped : (u x w : PortValue) (stop : Stop) → GotRef v u f owner (Ok f) → TookType u x f owner level (Err stop) → GaveRef x w f → Acquired v f owner level w [] (Err stop)
+  counted : (u w : PortValue) → GotRef v u f owner (Ok f) → TookType u w f owner level (Ok types.Counted) → Acquired v f owner level w [] (Ok f)
+  waiting : (u x w : PortValue) (own : Bool) (stamp : ℕ) (stop : Stop) → GotRef v u f owner (Ok f) → TookType u x f owner level (Ok (types.Waiting own stamp stop)) → WaitingLeft x w f level stamp own (keeps_it stop) →
+      Acquired v f owner level w [] (Err stop)
+  unfinished : (u x y w : PortValue) (progress : ℕ) (own : Bool) (us : List TableWork) (answers : List Bool) (stop : Stop) → GotRef v u f owner (Ok f) →
+      TookType u x f owner level (Ok (types.InWork progress own)) → Worked owner x (outermost_table f level progress own) y us answers (Err stop) → Unwound y us (keeps_it stop) w →
+      Acquired v f owner level w answers (Err stop)
+  finished : (u x y w : PortValue) (progress : ℕ) (own : Bool) (t : TableWork) (answers : List Bool) → GotRef v u f owner (Ok f) →
+      TookType u x f owner level (Ok (types.InWork progress own)) → Worked owner x (outermost_table f level progress own) y (t ∷ []) answers (Ok tt) → t.done ≡ 512 → MadeLive y w t →
+      Acquired v f owner level w answers (Ok f)
