@@ -55,7 +55,7 @@ pub hand_owned : (v w : PortValue) (f i : ℕ) (t : PageType) (a : Result Releas
 hand_owned v w f i t (Ok x) h = h.1
 hand_owned v w f i t (Err e) h = tt
 
-module _ (b v w : PortValue) (f i : ℕ) (t : PageType) (word : ℕ) (l : SeesLast b v f i t word) (y : ℕ) (step : Moves v w Clock Load kinds.Look (Some (Shed f i)) y) (shed : Holds v w (entry_shed f i v.holdings)) where
+module _ (b v w : PortValue) (f i : ℕ) (t : PageType) (word : ℕ) (l : SeesLast b v f i t word) (y : ℕ) (step : Moves v w Clock Load kinds.Look (Some (Shed f i)) y) (shed : Holds v w (entry_shed v.post.machine f i v.holdings)) where
   pub shed_goes : (owner pages : ℕ) → Goes b w f i owner pages []
   shed_goes owner pages = goes_shed b v w f i owner pages [] (look_goes b v f i t word l owner pages) f i y step
 

@@ -6,7 +6,7 @@ use Rattle.xp_words.specs.PageTypes.{is_table}
 use Rattle.xp_words.specs.declared.entry.Demand.TheVariants as demands
 use Rattle.xp_words.specs.declared.kind.PageType.{PageType}
 use Rattle.xp_words.specs.declared.place.Place.{Place}
-use Rattle.xp_words.specs.declared.place.Place.TheVariants.{Cell, Clock, Kind, Refs}
+use Rattle.xp_words.specs.declared.place.Place.TheVariants.{Cell, Clock, Refs}
 use Rattle.xp_board.specs.declared.holdings.Holdings.{Holdings}
 use Rattle.xp_board.specs.declared.holdings.Work.{Work}
 use Rattle.xp_board.specs.declared.step.Act.{Act}
@@ -39,11 +39,6 @@ module _ (b v w : PortValue) (f i owner pages : ℕ) (ds : List Deed) (goes : Go
   goes_shed m =
       goes_step b v w f i owner pages ds Clock Load kinds.Look (Some (Shed g upto)) found ds goes m (λ h j at. let same = at in cc)
       (serves_step b v w (of_entries owner pages) ds Clock Load kinds.Look (Some (Shed g upto)) found goes.serves m tt)
-
-  pub goes_shed_kind : (k : ℕ) → Moves v w (Kind k) Load kinds.Look (Some (Shed g upto)) found → Goes b w f i owner pages ds
-  goes_shed_kind k m =
-      goes_step b v w f i owner pages ds (Kind k) Load kinds.Look (Some (Shed g upto)) found ds goes m (λ h j at. let same = at in cc)
-      (serves_step b v w (of_entries owner pages) ds (Kind k) Load kinds.Look (Some (Shed g upto)) found goes.serves m tt)
 
   pub goes_shed_refs : (k : ℕ) → Moves v w (Refs k) Load kinds.Look (Some (Shed g upto)) found → Goes b w f i owner pages ds
   goes_shed_refs k m =

@@ -5,7 +5,7 @@ use Rattle.xp_words.specs.Places.{is_place, number, place_at, sizes_of}
 use Rattle.xp_words.proofs.PlaceLaws.{place_back}
 use Rattle.xp_words.specs.declared.kind.KindWord.{KindWord}
 use Rattle.xp_words.specs.declared.kind.PageType.{PageType}
-use Rattle.xp_words.specs.declared.place.Place.TheVariants.{Kind}
+use Rattle.xp_words.specs.declared.place.Place.TheVariants.{Kind, Refs}
 use Rattle.xp_words.specs.declared.reply.Pause.TheVariants.{Busy, Lost}
 use Rattle.xp_words.specs.declared.reply.Stop.TheVariants.{Paused}
 use Rattle.xp_board.specs.declared.step.Act.TheVariants.{Cas, Load}
@@ -33,7 +33,7 @@ use Rattle.table_entries.proofs.PiecesTaking.{Goes, asks_still, goes_back, goes_
 use Rattle.table_releases.specs.Between.{Releases, SeesKind}
 use Rattle.table_releases.specs.declared.entries.Released.{Released}
 use Rattle.table_releases.proofs.FrameSeen.{found_elsewhere, found_kind, found_work, from_seen, kind_post, now_seen}
-use Rattle.table_releases.proofs.Pieces.{asks_typed, goes_shed_kind, goes_step, look_goes, passed_by}
+use Rattle.table_releases.proofs.Pieces.{asks_typed, goes_shed_refs, goes_step, look_goes, passed_by}
 
 no_pin : (f : ℕ) (p : Bool) → pin_deed f p p ≡ []
 no_pin f true = refl
@@ -154,13 +154,13 @@ module _ (b v : PortValue) (f i : ℕ) (t : PageType) (word g : ℕ) (want : Pag
           looks = (goes_step b v w f i owner pages [] (Kind g) (Cas (kind_write k) (kind_write (resumed_kind k))) kinds.Kind None found _ kind_goes change (λ h j same. let y = same in cc) tried).looks;
         }
 
-  -- ---- it is live: shed by a look at it again, and its type count given back
-  module _ (w : PortValue) (upto y : ℕ) (look : Moves v w (Kind g) Load kinds.Look (Some (Shed f upto)) y) where
+  -- ---- it is live: shed by a look at its reference word, and its type count given back
+  module _ (w : PortValue) (upto y : ℕ) (look : Moves v w (Refs g) Load kinds.Look (Some (Shed f upto)) y) where
     live_goes : Goes b w f i owner pages []
-    live_goes = goes_shed_kind b v w f i owner pages [] kind_goes f upto y g look
+    live_goes = goes_shed_refs b v w f i owner pages [] kind_goes f upto y g look
 
     live_asks : Asked b.post.machine b.post.vcpu (of_entries owner pages) (Met b w) g owner (Some want)
-    live_asks = asks_still b v f i owner pages [] kind_goes w g (Some want) kind_asks (moves_came v w (Kind g) Load kinds.Look (Some (Shed f upto)) y look)
+    live_asks = asks_still b v f i owner pages [] kind_goes w g (Some want) kind_asks (moves_came v w (Refs g) Load kinds.Look (Some (Shed f upto)) y look)
 
     pub back_releases : (z : PortValue) (a : Released) → Serves w z (of_back g) [] → Releases b z f i owner pages (Ok a)
     back_releases z a back =

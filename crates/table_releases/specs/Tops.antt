@@ -49,8 +49,8 @@ pub record Holding (g : ℕ) (t : PageType) (closing : Bool) (work : Work) (h : 
   pub untyped : closing ≡ true → (r : Reference) × (r.frame ≡ g) × (after ≡ record h { refs = r ∷ h.refs; works = work ∷ h.works })
   pub typed : closing ≡ false → (r : TypedReference) × (r.frame ≡ g) × (r.kind ≡ Some t) × (after ≡ record h { typed = r ∷ h.typed; works = work ∷ h.works })
 
--- The frame that the shed entry asked came into the own works: a table of the level below, of which so many entries are
--- recorded. It is closing, or in work.
+-- The frame that the shed entry asked came into the own works: a table of the level below without a mark, of which so many
+-- entries are recorded, at least one. It is closing, and the last of them is settled; or in work.
 pub record Reopens (v w : PortValue) (f i : ℕ) (t : PageType) (g recorded : ℕ) (closing : Bool) : Type 0 where
   pub word : ℕ
   pub asks : demand_at t i word ≡ Typed g (below t)
@@ -61,10 +61,11 @@ pub record Reopens (v w : PortValue) (f i : ℕ) (t : PageType) (g recorded : �
   pub table : IsTrue (is_table (below t))
   pub closing_is : is_closing (kind_fields work.word) ≡ closing
   pub in_work : closing ≡ false → IsTrue (is_work (kind_fields work.word))
-  pub unmarked : 0 < recorded → (kind_fields work.word).unflushed ≡ false
+  pub unmarked : (kind_fields work.word).unflushed ≡ false
   pub recorded_is : work.recorded ≡ recorded
+  pub some : 0 < recorded
   pub few : recorded ≤ 512
-  pub settled : recorded ≡ 0 → work.unsettled ≡ None
+  pub settled : closing ≡ true → work.unsettled ≡ None
   pub earlier : work.since ≤ length w.holdings.steps
   pub after : Holdings
   pub holding : Holding g (below t) closing work (shed_once f i word v.holdings) after
@@ -79,8 +80,8 @@ LeavesReleased v w f t i (Opened g recorded closing) = Reopens v w f i t g recor
 abbrev pub StaysRecorded : PortValue → PortValue → ℕ → ℕ → Type 0
 StaysRecorded v w f i = (word : ℕ) × Holds v w (learned_cell f i word v.holdings)
 
--- who owns the table owns a frame, too, that was left partial
+-- who owns the table owns a table, too, that is to be released first
 abbrev pub OwnsReleased : PortValue → PortValue → ℕ → Released → Type 0
 OwnsReleased v w f Given = Unit {0}
 OwnsReleased v w f (Opened g recorded closing) =
-    closing ≡ false → (owner : ℕ) → IsTrue (knows_owner (sizes_of v.post.machine) f owner v.holdings) → IsTrue (knows_owner (sizes_of v.post.machine) g owner w.holdings)
+    (owner : ℕ) → IsTrue (knows_owner (sizes_of v.post.machine) f owner v.holdings) → IsTrue (knows_owner (sizes_of v.post.machine) g owner w.holdings)

@@ -14,7 +14,7 @@ ghost use Rattle.step_maker.specs.Holds.{Holds, MayWork};
 ghost use Rattle.step_maker.specs.Moves.{Moves};
 ghost use Rattle.table_entries.specs.Asking.{LooksOnly, of_entries};
 ghost use Rattle.table_releases.specs.Between.{FromKind, FromLive, FromResumed, FromTyped, HandReleased, HasResumed, HasSeenKind, HasSeenLive, HasSeenTyped, Releases};
-ghost use Rattle.table_releases.specs.Found.{ReleasesFound};
+ghost use Rattle.table_releases.specs.Found.{ReleasesFound, has_recorded};
 ghost use Rattle.table_releases.specs.Plain.{TwinRelease};
 ghost use Rattle.table_releases.specs.Tops.{IsReleaseStop, LeavesReleased, OwnsReleased, ReleasesTop, StaysRecorded};
 ghost use Rattle.table_words.specs.Entries.{ShedsLast, entry_shed};
@@ -24,7 +24,7 @@ use frame_words::{look_cell, put_ref};
 use kind_words::{dead_kind, leave, look_kind, lost, read_kind, resume_work};
 use pte_check::demand;
 use step_maker::make;
-use table_words::{shed_entry, shed_entry_by_look};
+use table_words::shed_entry;
 use xp_board::{Act, Mark, Port, StepKind};
 use xp_words::{Demand, KindWord, PageType, Pause, Place, Stop};
 
@@ -34,8 +34,8 @@ pub enum Released {
     /// It is shed, and what it asked is given back.
     Given,
     /// It is shed. Its frame is a table that is to be released first, and in the own works now, with so many of its entries
-    /// recorded. `closing`: its last type count was given back, and an untyped reference is in hand; else it was left partial,
-    /// and its type count is in hand.
+    /// recorded, at least one. `closing`: its last type count was given back, and an untyped reference is in hand; else it was
+    /// left partial, and its type count is in hand.
     Opened {
         frame: u32,
         recorded: u16,
@@ -44,8 +44,8 @@ pub enum Released {
 }
 
 /// Gives back the last recorded entry of the newest table in the own works, of which `index + 1` are recorded. Where its frame is
-/// a table that nobody else refers to as such, or that was left partial, that one comes into the own works. A pause leaves the
-/// entry as it was.
+/// a table that nobody else refers to as such, or that was left partial with entries recorded, that one comes into the own works.
+/// A pause leaves the entry as it was.
 pub fn release_entry<P: Port>(
     port: &mut P,
     table: u32,
@@ -113,7 +113,7 @@ fn release_typed<P: Port>(
     }
 }
 
-// Its frame was found live: the look that sheds the entry finds it so again.
+// Its frame was found live: with that the entry is settled. The look that sheds it finds whose the frame is.
 fn release_live<P: Port>(
     port: &mut P,
     table: u32,
@@ -128,7 +128,7 @@ fn release_live<P: Port>(
     ensures found { FromLive (P.value port.old) table index frame want (λ b t. ReleasesFound b (P.value port.new) table index t (Ok result)) }
     ensures plain { FromLive (P.value port.old) table index frame want (λ b t. TwinRelease b (P.value port.new) table t index (Ok result)) }
 {
-    shed_entry_by_look(port, table, index, frame);
+    shed_by_owner(port, table, index, frame);
     if !want.is_table() {
         drop_plain(port, frame, want);
         Released::Given
@@ -169,7 +169,8 @@ fn release_partial<P: Port>(
     }
 }
 
-// It came into the own works. A table is to be released first; ordinary memory is left dead with its mark.
+// It came into the own works. A table of which entries are recorded is to be released first. Ordinary memory, and a table of
+// which nothing is recorded, is left dead with the mark that it had.
 fn shed_resumed<P: Port>(
     port: &mut P,
     table: u32,
@@ -185,7 +186,7 @@ fn shed_resumed<P: Port>(
     ensures found { FromResumed (P.value port.old) table index frame want kind (λ b t. ReleasesFound b (P.value port.new) table index t (Ok result)) }
     ensures plain { FromResumed (P.value port.old) table index frame want kind (λ b t. TwinRelease b (P.value port.new) table t index (Ok result)) }
 {
-    if want.is_table() {
+    if has_recorded(want, kind) {
         shed_by_owner(port, table, index, frame);
         Released::Opened {
             frame,
@@ -194,10 +195,17 @@ fn shed_resumed<P: Port>(
         }
     } else {
         let clock = shed_entry(port, table, index);
-        leave(port, frame, dead_kind(want, true, clock));
+        leave(port, frame, dead_kind(want, kind.unflushed, clock));
         put_ref(port, frame);
         Released::Given
     }
+}
+
+// Whether a partial frame is a table of which entries are recorded.
+fn has_recorded(want: PageType, kind: KindWord) -> bool
+    ensures { result ≡ has_recorded want kind }
+{
+    want.is_table() && kind.progress > 0
 }
 
 // Sheds the entry with a look at the reference word of a frame: what is found there is known of the reference that comes into
@@ -206,7 +214,7 @@ fn shed_by_owner<P: Port>(port: &mut P, table: u32, upto: u16, frame: u32) -> u6
     requires frame { frame < (P.value port.old).post.machine.frames }
     requires may { ShedsLast table upto (P.value port.old).holdings }
     ensures moves { Moves (P.value port.old) (P.value port.new) (Refs frame) Load kinds.Look (Some (Shed table upto)) result }
-    ensures hand { Holds (P.value port.old) (P.value port.new) (entry_shed table upto (P.value port.old).holdings) }
+    ensures hand { Holds (P.value port.old) (P.value port.new) (entry_shed (P.value port.old).post.machine table upto (P.value port.old).holdings) }
 {
     make(
         port,
