@@ -230,6 +230,7 @@ module _ (b v : PortValue) (f i : ℕ) (t : PageType) (word g : ℕ) (want : Pag
             few = omega arith;
             settled = λ on. refl;
             earlier = let more = moves_longer w z _ _ _ _ _ drops.lowers.step in omega (arith, more);
+            since = λ off. absurd cc;
             after = with_closing (learned_cell f i word b.holdings);
             holding = record { untyped = λ on. (closed_ref, refl, refl); typed = λ off. absurd cc };
             hand = hand_behind z (λ rs. closed_ref ∷ rs) (λ ys. ys) (λ ws. closing ∷ shed_works ws) closed;

@@ -1,33 +1,36 @@
 -- A partial frame that came into the own works, and its entry shed then.
-use Rattle.std.proofs.Common.{◌≡◌, ◌≢◌, ℕ, ◌<◌, ◌^◌, ◌==◌, not, Bool, true, false, List, [], ◌∷◌, Some, None, IsTrue, refl, sym, ap, ◌∙◌, subst, arith, inl}
+use Rattle.std.proofs.Common.{◌≡◌, ◌≢◌, ℕ, ◌<◌, ◌^◌, ◌==◌, ◌-◌, ◌≤◌, ◌⊎◌, ◌||◌, not, Bool, true, false, List, [], ◌∷◌, length, Some, None, IsTrue, refl, sym, ap, ◌∙◌, subst, arith, inl, inr}
 use Rattle.xp_words.specs.KindWords.{is_kind, kind_fields, kind_write}
 use Rattle.xp_words.specs.Machine.{IsMachine}
 use Rattle.xp_words.specs.PageTypes.{is_table}
 use Rattle.xp_words.specs.PageTypes as types
-use Rattle.xp_words.specs.Places.{sizes_of}
+use Rattle.xp_words.specs.Entries.{demand_at}
+use Rattle.xp_words.specs.Places.{Sizes, sizes_of}
 use Rattle.xp_words.specs.declared.entry.Demand.TheVariants.{Typed}
 use Rattle.xp_words.specs.declared.kind.KindWord.{KindWord}
 use Rattle.xp_words.specs.declared.kind.PageType.{PageType}
-use Rattle.xp_words.specs.declared.place.Place.TheVariants.{Clock}
+use Rattle.xp_words.specs.declared.place.Place.TheVariants.{Clock, Kind}
 use Rattle.xp_board.specs.declared.holdings.Holdings.{Holdings}
 use Rattle.xp_board.specs.declared.holdings.Reference.{Reference}
 use Rattle.xp_board.specs.declared.holdings.TypedReference.{TypedReference}
+use Rattle.xp_board.specs.declared.holdings.Unsettled.{Unsettled}
 use Rattle.xp_board.specs.declared.holdings.Work.{Work}
 use Rattle.xp_board.specs.declared.step.Act.TheVariants.{Load}
 use Rattle.xp_board.specs.declared.step.Mark.TheVariants.{Shed}
 use Rattle.xp_board.specs.declared.step.StepKind.TheVariants as kinds
 use Rattle.xp_board.specs.Acts.{left_by}
-use Rattle.xp_board.specs.Hands.{brought_as, changed_work, refs_to, typed_owner, typed_to, without_typed, without_work, work_on}
+use Rattle.xp_board.specs.Hands.{brought_as, changed_work, refs_to, surely, typed_owner, typed_to, without_typed, without_work, work_on}
 use Rattle.xp_board.specs.KindSteps.{new_work, resumed_kind, unsettled_from}
 use Rattle.xp_board.specs.Lists.{changed_by}
-use Rattle.xp_board.specs.Readings.{is_work}
-use Rattle.xp_board.specs.Settling.{is_settled}
+use Rattle.xp_board.specs.Readings.{is_live, is_live_word, is_partial, is_work, kind_at}
+use Rattle.xp_board.specs.Settling.{is_settled, settles, settles_last}
 use Rattle.xp_board.specs.Steps.{some_since}
-use Rattle.xp_board.specs.Told.{Post, PortValue}
+use Rattle.xp_board.specs.Told.{Finds, Post, PortValue}
 use Rattle.board_lemmas.proofs.KindForms.{PartialForm, fields_of, partial_form}
-use Rattle.board_lemmas.proofs.KindReadings.{partial_parts, resumed_in_work, work_alone}
+use Rattle.board_lemmas.proofs.KindReadings.{partial_parts, resumed_in_work, work_alone, work_unlive}
 use Rattle.board_lemmas.proofs.ListCounts.{first_by-cons_other, newest_held}
 use Rattle.board_lemmas.proofs.Sums.{when_eq, when_ne}
+use Rattle.board_lemmas.proofs.WorkFacts.{work_word as works_word, works_facts}
 use Rattle.step_maker.specs.Holds.{Holds, MayWork, still}
 use Rattle.step_maker.specs.Moves.{Moves}
 use Rattle.step_maker.proofs.Noting.{moves_since}
@@ -43,12 +46,19 @@ use Rattle.table_entries.proofs.HandLists.{asks_below, asks_some}
 use Rattle.table_words.specs.Entries.{entry_shed}
 use Rattle.table_releases.specs.Between.{Resumed}
 use Rattle.table_releases.specs.Found.{has_recorded}
-use Rattle.table_releases.specs.Tops.{Reopens, shed_once}
+use Rattle.table_releases.specs.Tops.{IsSince, Reopens, shed_once}
 use Rattle.table_releases.proofs.FrameSeen.{found_kind, found_unkept, kind_post, now_seen, seen_same}
 use Rattle.table_releases.proofs.HandLive.{hand_behind, looks_none, none_after, shed_works}
-use Rattle.table_releases.proofs.LastSeen.{SeenLast}
+use Rattle.table_releases.proofs.LastSeen.{SeenLast, finds_leads, seen_asks}
 use Rattle.table_releases.proofs.Looking.{shed_typed}
 use Rattle.table_releases.proofs.Recording.{recorded_some, recorded_table, recorded_none}
+
+-- the frame of the unsettled entry was not found live
+unsettled_by : (z : Sizes) (h : Holdings) (e : Work) (u : Unsettled) (word g : ℕ) (t : PageType) → e.unsettled ≡ Some (record { since = u.since; word = Some word }) → demand_at (kind_fields e.word).kind (e.recorded - 1) word ≡ Typed g t →
+    some_since z u.since (Kind g) is_live_word h.steps ≡ false → is_settled z h e ≡ false
+unfolding is_settled
+unsettled_by z h e u word g t unsettled asks unfound =
+    subst (λ o. settles_last z e h.steps o ≡ false) (sym unsettled) (subst (λ d. settles z u.since h.steps d ≡ false) (sym asks) unfound)
 
 changed_behind : (f : ℕ) (change : Work → Work) (e : Work) (xs : List Work) → e.frame ≢ f → changed_work f change (e ∷ xs) ≡ e ∷ changed_work f change xs
 unfolding changed_by
@@ -110,6 +120,33 @@ module _ (b v : PortValue) (f i : ℕ) (t : PageType) (word g : ℕ) (want : Pag
   pub resumed_frame : g < v.post.machine.frames
   resumed_frame = subst (λ (p : Post). g < p.machine.frames) (sym resumed_post) r.sees.sees.inside
 
+  -- the entry is not settled: its frame is in work, and was not found live
+  still_unsettled : (p : _) (y : ℕ) (mark : _) {w : PortValue} → Moves v w p Load kinds.Look mark y → is_settled (sizes_of v.post.machine) v.holdings resumed_seen.work ≡ false
+  still_unsettled p y mark step =
+      by_way
+      (finds_leads v.post.machine v.post.vcpu v.holdings p y finds f i t resumed_seen.work resumed_seen.here resumed_seen.kind resumed_seen.table resumed_seen.last (Typed g want)
+      (seen_asks v.post.machine v.post.vcpu v.holdings p y finds f i t word resumed_seen ∙ r.sees.sees.asks) g want refl)
+    where
+      finds : Finds v.post.machine v.post.vcpu v.holdings p y
+      finds = step.finds
+
+      mine : work_on g (finds.hands v.post.vcpu).works ≡ Some new
+      mine = ap (λ (u : Holdings). work_on g u.works) finds.mine ∙ work_here g new r.from.holdings.works v.holdings.works refl (ap (λ (q : PortValue). q.holdings.works) came_in)
+
+      working : IsTrue (is_work (kind_at finds.words g))
+      working =
+          subst (λ y. IsTrue (is_work y)) (sym (works_word v.post.machine finds.words finds.hands v.post.vcpu g new (works_facts v.post.machine finds.words finds.hands v.post.vcpu g new finds.sound finds.real mine))) new_in_work
+
+      by_way : IsTrue (is_live (kind_at finds.words g))
+          ⊎ (IsTrue (is_partial (kind_at finds.words g) || is_work (kind_at finds.words g)) × ((u : Unsettled) × (resumed_seen.work.unsettled ≡ Some u) × (some_since (sizes_of v.post.machine) u.since (Kind g) is_live_word v.holdings.steps ≡ false))) →
+          is_settled (sizes_of v.post.machine) v.holdings resumed_seen.work ≡ false
+      by_way (inl live) = absurd (let dead = work_unlive (kind_at finds.words g) working in cc)
+      by_way (inr (form, (u, at, unfound))) =
+          unsettled_by (sizes_of v.post.machine) v.holdings resumed_seen.work u word g want (at ∙ ap (λ o. Some (record u { word = o })) (resumed_seen.loaded u at))
+          (let before : resumed_seen.work.recorded - 1 ≡ i = (let n = resumed_seen.last in omega (arith, n)) in
+          ap (λ k. demand_at k (resumed_seen.work.recorded - 1) word) resumed_seen.kind ∙ ap (λ n. demand_at t n word) before ∙ r.sees.sees.asks)
+          unfound
+
   -- ---- shed
   module _ (w : PortValue) (shed : Holds v w (entry_shed v.post.machine f i v.holdings)) where
     abbrev pub resumed_newest : TypedReference
@@ -138,6 +175,16 @@ module _ (b v : PortValue) (f i : ℕ) (t : PageType) (word g : ℕ) (want : Pag
           machine = subst (λ (p : Post). IsMachine p.machine) (sym (ap (λ (q : PortValue). q.post) resumed_shed ∙ sym (ap (λ (q : PortValue). q.post) came_in))) m.machine;
         }
 
+    -- what brought the typed reference does not say that its frame is live
+    newest_since : (mark : _) (p : _) (y : ℕ) → Moves v w p Load kinds.Look mark y → (h : TypedReference) (others : List TypedReference) → w.holdings.typed ≡ h ∷ others → IsSince (length w.holdings.steps) h.live
+    newest_since mark p y step h others at =
+        let two = moves_longer v w p Load kinds.Look mark y step in
+        let late : length v.holdings.steps ≤ length w.holdings.steps = omega (arith, two) in
+        let both : resumed_newest ∷ r.from.holdings.typed ≡ h ∷ others = sym (ap (λ (q : PortValue). q.holdings.typed) resumed_shed) ∙ at in
+        let same : resumed_newest ≡ h = cc in
+        let unsure = ap (λ b. surely b v.holdings) (still_unsettled p y mark step) in
+        subst (λ (e : TypedReference). IsSince (length w.holdings.steps) e.live) same (subst (IsSince (length w.holdings.steps)) (sym unsure) late)
+
     -- ---- a table of which entries are recorded
     pub resumed_opens : (mark : _) (p : _) (y : ℕ) → Moves v w p Load kinds.Look mark y → has_recorded want k ≡ true → Reopens b w f i t g k.progress false
     resumed_opens mark p y step opened =
@@ -163,6 +210,7 @@ module _ (b v : PortValue) (f i : ℕ) (t : PageType) (word g : ℕ) (want : Pag
           few = omega (arith, low);
           settled = λ on. absurd cc;
           earlier = omega (arith, one, two);
+          since = λ off h others at. newest_since mark p y step h others at;
           after = record (shed_once f i word b.holdings) { typed = resumed_newest ∷ b.holdings.typed; works = new ∷ (shed_once f i word b.holdings).works };
           holding = record { untyped = λ on. absurd cc; typed = λ off. (resumed_newest, refl, ap (λ x. Some x) is, refl) };
           hand = hand_behind b r.from f i t word g want r.found r.sees w (λ rs. rs) (λ ys. resumed_newest ∷ ys) (λ ws. new ∷ shed_all ws) resumed_shed;

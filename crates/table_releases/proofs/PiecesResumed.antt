@@ -14,10 +14,11 @@ use Rattle.xp_board.specs.Readings.{is_dead, is_type, is_work}
 use Rattle.xp_board.specs.Told.{PortValue}
 use Rattle.board_lemmas.proofs.KindForms.{fields_of}
 use Rattle.step_maker.specs.Moves.{Came, Met, Moves}
-use Rattle.step_maker.proofs.Coming.{came_trans, moves_came}
+use Rattle.step_maker.proofs.Coming.{came_self, came_trans, moves_came}
 use Rattle.answer_fits.specs.Answers.{Serves}
 use Rattle.answer_fits.specs.Asked.{Asked, of, of_back}
-use Rattle.answer_fits.proofs.Piecing.{serves_step}
+use Rattle.answer_fits.proofs.Piecing.{serves_came, serves_step}
+use Rattle.answer_fits.specs.Pauses.{Progress}
 use Rattle.answer_fits.specs.Visits.{Visit, Does, Only, Then, visit}
 use Rattle.answer_fits.proofs.Visiting.{does_as, does_one, does_then}
 use Rattle.frame_types.specs.Found.{StoresKind, swaps_kind}
@@ -30,13 +31,14 @@ use Rattle.table_entries.specs.Asking.{of_entries}
 use Rattle.table_entries.proofs.PiecesTaking.{Goes, asks_still, goes_back}
 use Rattle.table_releases.specs.Between.{Releases, Resumed}
 use Rattle.table_releases.specs.Found.{ComesBy, DiesShed, ReleasesFound, has_recorded}
+use Rattle.table_releases.specs.Tops.{ShowsReleased}
 use Rattle.table_releases.specs.declared.entries.Released.{Released}
 use Rattle.table_releases.specs.declared.entries.Released.TheVariants.{Given, Opened}
 use Rattle.table_releases.proofs.FrameSeen.{form_partial_is}
 use Rattle.table_releases.proofs.Finding.{kind_found, sheds, swaps}
 use Rattle.table_releases.proofs.Recording.{recorded_some}
-use Rattle.table_releases.proofs.Pieces.{goes_shed, goes_shed_refs, goes_step}
-use Rattle.table_releases.proofs.PiecesTyped.{kind_asks, kind_goes, resumed_goes}
+use Rattle.table_releases.proofs.Pieces.{goes_shed, goes_shed_refs, goes_step, shed_shows}
+use Rattle.table_releases.proofs.PiecesTyped.{IsOf, kind_asks, kind_goes, resumed_goes, typed_shows}
 use Rattle.frame_types.proofs.Serving.{work_alive}
 use Rattle.xp_board.proofs.Returned.{same_type}
 
@@ -53,14 +55,26 @@ module _ (b v : PortValue) (f i : ℕ) (t : PageType) (word g : ℕ) (want : Pag
         asks_still b r.from f i owner pages [] (kind_goes b r.from f i t word g want r.found r.sees owner pages) w g (Some want) (kind_asks b r.from f i t word g want r.found r.sees owner pages)
         (came_trans r.from v w (moves_came r.from v (Kind g) _ kinds.Kind None (kind_write k) r.step) came)
 
+    in_shows : (z : PortValue) (a : Released) → IsOf g a → Progress (Met b z) → Came v z → ShowsReleased b z owner pages t a
+    in_shows z a is progress came =
+        typed_shows b r.from f i t word g want r.found r.sees owner pages z a is progress (came_trans r.from v z (moves_came r.from v (Kind g) _ kinds.Kind None (kind_write k) r.step) came)
+
     -- a table of which entries are recorded
-    pub table_releases : (w : PortValue) (y : ℕ) (a : Released) → Moves v w (Refs g) Load kinds.Look (Some (Shed f i)) y → Releases b w f i owner pages (Ok a)
-    table_releases w y a step = let goes = goes_shed_refs b v w f i owner pages [] in_goes f i y g step in record { serves = goes.serves; stops = tt; kinds = tt; looks = goes.looks }
+    pub table_releases : (w : PortValue) (y : ℕ) → Moves v w (Refs g) Load kinds.Look (Some (Shed f i)) y → Releases b w f i t owner pages (Ok (Opened g k.progress false))
+    table_releases w y step =
+        let goes = goes_shed_refs b v w f i owner pages [] in_goes f i y g step in
+        record {
+          serves = goes.serves;
+          stops = tt;
+          kinds = tt;
+          shows = in_shows w (Opened g k.progress false) refl (shed_shows b v w f i owner pages [] in_goes (Refs g) f i y step w (came_self w)) (moves_came v w (Refs g) Load kinds.Look (Some (Shed f i)) y step);
+          looks = goes.looks;
+        }
 
     -- a frame of which none are
-    pub dead_releases : (w d z : PortValue) (clock x : ℕ) (l : KindWord) (e : Work) (a : Released) → Moves v w Clock Load kinds.Look (Some (Shed f i)) clock → Moves w d (Kind g) (Store (kind_write l)) kinds.Kind None x → work_on g w.holdings.works ≡ Some e →
-        IsTrue (is_work (kind_fields e.word)) → (kind_fields e.word).kind ≡ want → IsTrue (is_kind l) → l.kind ≡ want → Serves d z (of_back g) [] → Releases b z f i owner pages (Ok a)
-    dead_releases w d z clock x l e a shed store here work kind is type back =
+    pub dead_releases : (w d z : PortValue) (clock x : ℕ) (l : KindWord) (e : Work) → Moves v w Clock Load kinds.Look (Some (Shed f i)) clock → Moves w d (Kind g) (Store (kind_write l)) kinds.Kind None x → work_on g w.holdings.works ≡ Some e →
+        IsTrue (is_work (kind_fields e.word)) → (kind_fields e.word).kind ≡ want → IsTrue (is_kind l) → l.kind ≡ want → Serves d z (of_back g) [] → Releases b z f i t owner pages (Ok Given)
+    dead_releases w d z clock x l e shed store here work kind is type back =
         let one = goes_shed b v w f i owner pages [] in_goes f i clock shed in
         let came = moves_came v w Clock Load kinds.Look (Some (Shed f i)) clock shed in
         let left = moves_came w d (Kind g) (Store (kind_write l)) kinds.Kind None x store in
@@ -71,7 +85,14 @@ module _ (b v : PortValue) (f i : ℕ) (t : PageType) (word g : ℕ) (want : Pag
         (of owner (Some want) (in_asks d (came_trans v w d came left)), kept_type x (kind_write l) (kind_fields e.word) l (ap (λ y. kind_fields y) same) (fields_write l is) (type ∙ sym kind) (work_alive (kind_fields e.word) work)))
         in
         let goes = goes_back b d f i owner pages [] two z g (Some want) (in_asks d (came_trans v w d came left)) back in
-        record { serves = goes.serves; stops = tt; kinds = tt; looks = goes.looks }
+        let last = came_trans w d z left (serves_came d z (of_back g) [] back) in
+        record {
+          serves = goes.serves;
+          stops = tt;
+          kinds = tt;
+          shows = in_shows z Given tt (shed_shows b v w f i owner pages [] in_goes Clock f i clock shed z last) (came_trans v w z came last);
+          looks = goes.looks;
+        }
 
   -- ---- the steps
   found_recorded : has_recorded want (kind_fields r.found) ≡ has_recorded want k

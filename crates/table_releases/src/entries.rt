@@ -16,7 +16,7 @@ ghost use Rattle.table_entries.specs.Asking.{LooksOnly, of_entries};
 ghost use Rattle.table_releases.specs.Between.{FromKind, FromLive, FromResumed, FromTyped, HandReleased, HasResumed, HasSeenKind, HasSeenLive, HasSeenTyped, Releases};
 ghost use Rattle.table_releases.specs.Found.{ReleasesFound, has_recorded};
 ghost use Rattle.table_releases.specs.Plain.{TwinRelease};
-ghost use Rattle.table_releases.specs.Tops.{IsReleaseStop, LeavesReleased, OwnsReleased, ReleasesTop, StaysRecorded};
+ghost use Rattle.table_releases.specs.Tops.{IsReleaseStop, LeavesReleased, OwnsReleased, ReleasesTop, ShowsReleased, StaysRecorded};
 ghost use Rattle.table_words.specs.Entries.{ShedsLast, entry_shed};
 
 use frame_types::{drop_plain, drop_type};
@@ -62,6 +62,7 @@ pub fn release_entry<P: Port>(
     ensures serves { (owner pages : ℕ) → Serves (P.value port.old) (P.value port.new) (of_entries owner pages) (misses (P.value port.old).post.machine result) }
     ensures stops { (owner pages : ℕ) → IfErr result (λ e. Stops (P.value port.old) (P.value port.new) (of_entries owner pages) e) }
     ensures kinds { IfErr result IsReleaseStop }
+    ensures shows { (owner pages : ℕ) → IfOk result (λ a. ShowsReleased (P.value port.old) (P.value port.new) owner pages kind a) }
     ensures looks { LooksOnly (P.value port.old) (P.value port.new) table index }
     ensures hand { MatchResult result (λ a. LeavesReleased (P.value port.old) (P.value port.new) table kind index a) (λ _. StaysRecorded (P.value port.old) (P.value port.new) table index) }
     ensures owned { IfOk result (λ a. OwnsReleased (P.value port.old) (P.value port.new) table a) }
@@ -97,7 +98,7 @@ fn release_typed<P: Port>(
 ) -> Result<Released, Stop>
     requires may { MayWork (P.value port.old) }
     requires seen { HasSeenTyped (P.value port.old) table index frame want }
-    ensures goes { FromTyped (P.value port.old) table index frame want (λ b t. (owner pages : ℕ) → Releases b (P.value port.new) table index owner pages result) }
+    ensures goes { FromTyped (P.value port.old) table index frame want (λ b t. (owner pages : ℕ) → Releases b (P.value port.new) table index t owner pages result) }
     ensures hand { FromTyped (P.value port.old) table index frame want (λ b t. HandReleased b (P.value port.new) table index t result) }
     ensures found { FromTyped (P.value port.old) table index frame want (λ b t. ReleasesFound b (P.value port.new) table index t result) }
     ensures plain { FromTyped (P.value port.old) table index frame want (λ b t. TwinRelease b (P.value port.new) table t index result) }
@@ -123,7 +124,7 @@ fn release_live<P: Port>(
 ) -> Released
     requires may { MayWork (P.value port.old) }
     requires seen { HasSeenLive (P.value port.old) table index frame want }
-    ensures goes { FromLive (P.value port.old) table index frame want (λ b t. (owner pages : ℕ) → Releases b (P.value port.new) table index owner pages (Ok result)) }
+    ensures goes { FromLive (P.value port.old) table index frame want (λ b t. (owner pages : ℕ) → Releases b (P.value port.new) table index t owner pages (Ok result)) }
     ensures hand { FromLive (P.value port.old) table index frame want (λ b t. HandReleased b (P.value port.new) table index t (Ok result)) }
     ensures found { FromLive (P.value port.old) table index frame want (λ b t. ReleasesFound b (P.value port.new) table index t (Ok result)) }
     ensures plain { FromLive (P.value port.old) table index frame want (λ b t. TwinRelease b (P.value port.new) table t index (Ok result)) }
@@ -158,7 +159,7 @@ fn release_partial<P: Port>(
     requires seen { HasSeenKind (P.value port.old) table index frame want word }
     requires read { kind_read word ≡ Some kind }
     requires partial { IsTrue (is_partial kind) }
-    ensures goes { FromKind (P.value port.old) table index frame want word (λ b t. (owner pages : ℕ) → Releases b (P.value port.new) table index owner pages result) }
+    ensures goes { FromKind (P.value port.old) table index frame want word (λ b t. (owner pages : ℕ) → Releases b (P.value port.new) table index t owner pages result) }
     ensures hand { FromKind (P.value port.old) table index frame want word (λ b t. HandReleased b (P.value port.new) table index t result) }
     ensures found { FromKind (P.value port.old) table index frame want word (λ b t. ReleasesFound b (P.value port.new) table index t result) }
     ensures plain { FromKind (P.value port.old) table index frame want word (λ b t. TwinRelease b (P.value port.new) table t index result) }
@@ -181,7 +182,7 @@ fn shed_resumed<P: Port>(
 ) -> Released
     requires may { MayWork (P.value port.old) }
     requires seen { HasResumed (P.value port.old) table index frame want kind }
-    ensures goes { FromResumed (P.value port.old) table index frame want kind (λ b t. (owner pages : ℕ) → Releases b (P.value port.new) table index owner pages (Ok result)) }
+    ensures goes { FromResumed (P.value port.old) table index frame want kind (λ b t. (owner pages : ℕ) → Releases b (P.value port.new) table index t owner pages (Ok result)) }
     ensures hand { FromResumed (P.value port.old) table index frame want kind (λ b t. HandReleased b (P.value port.new) table index t (Ok result)) }
     ensures found { FromResumed (P.value port.old) table index frame want kind (λ b t. ReleasesFound b (P.value port.new) table index t (Ok result)) }
     ensures plain { FromResumed (P.value port.old) table index frame want kind (λ b t. TwinRelease b (P.value port.new) table t index (Ok result)) }

@@ -1,4 +1,4 @@
-use Rattle.std.proofs.Common.{true, sym, subst, ◌∙◌}
+use Rattle.std.proofs.Common.{true, refl, sym, subst, ◌∙◌}
 use Rattle.table_releases.proofs.FrameSeen.{now_seen}
 use Rattle.table_releases.proofs.LastSeen.{seen_sheds}
 use Rattle.frame_types.specs.Lowering.{DropsType}
@@ -50,17 +50,17 @@ put_ref-requires-clause-gives g c =
 pub returns-then-not-is_table-clause-goes : goal.returns-then-not-is_table-clause-goes
 returns-then-not-is_table-clause-goes g c x live b t word l owner pages =
     back_releases b (g.P.Port.value c.args.port.now) c.args.table c.args.index t word c.args.frame c.args.want x l owner pages (g.P.Port.value c.shed_by_owner.new.port) c.args.index c.shed_by_owner.result c.shed_by_owner.ensures.moves
-    (g.P.Port.value c.drop_plain.new.port) Given c.drop_plain.ensures.serves
+    (g.P.Port.value c.drop_plain.new.port) Given tt c.drop_plain.ensures.serves
 
 pub returns-then-drop_type-clause-goes : goal.returns-then-drop_type-clause-goes
 returns-then-drop_type-clause-goes g c x live b t word l owner pages =
     back_releases b (g.P.Port.value c.args.port.now) c.args.table c.args.index t word c.args.frame c.args.want x l owner pages (g.P.Port.value c.shed_by_owner.new.port) c.args.index c.shed_by_owner.result c.shed_by_owner.ensures.moves
-    (g.P.Port.value c.drop_type.new.port) (Opened c.args.frame 512 true) c.drop_type.ensures.serves
+    (g.P.Port.value c.drop_type.new.port) (Opened c.args.frame 512 true) refl c.drop_type.ensures.serves
 
 pub returns-else-drop_type-clause-goes : goal.returns-else-drop_type-clause-goes
 returns-else-drop_type-clause-goes g c x live b t word l owner pages =
     two_back_releases b (g.P.Port.value c.args.port.now) c.args.table c.args.index t word c.args.frame c.args.want x l owner pages (g.P.Port.value c.shed_by_owner.new.port) c.args.index c.shed_by_owner.result
-    c.shed_by_owner.ensures.moves (g.P.Port.value c.drop_type.new.port) (g.P.Port.value c.put_ref.new.port) Given c.drop_type.ensures.serves c.put_ref.ensures.serves
+    c.shed_by_owner.ensures.moves (g.P.Port.value c.drop_type.new.port) (g.P.Port.value c.put_ref.new.port) Given tt c.drop_type.ensures.serves c.put_ref.ensures.serves
 
 pub returns-then-not-is_table-clause-hand : goal.returns-then-not-is_table-clause-hand
 returns-then-not-is_table-clause-hand g c x live b t word l = (

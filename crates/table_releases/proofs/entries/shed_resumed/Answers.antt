@@ -1,4 +1,4 @@
-use Rattle.std.proofs.Common.{None, refl, false, sym, subst, ◌∙◌}
+use Rattle.std.proofs.Common.{None, refl, sym, subst, ◌∙◌}
 use Rattle.kind_words.specs.Kinds.{MayLeave, dead_kind, left}
 use Rattle.step_maker.specs.Holds.{Holds}
 use Rattle.table_releases.proofs.LastSeen.{seen_sheds}
@@ -6,7 +6,6 @@ use Rattle.table_releases.proofs.HandResumed.{dead_given, dead_gives, dead_may, 
 use Rattle.table_releases.proofs.Recording.{recorded_table}
 use Rattle.table_releases.proofs.Owning.{resumed_owned}
 use Rattle.table_releases.proofs.PiecesResumed.{dead_found, dead_releases, table_found, table_releases}
-use Rattle.table_releases.specs.declared.entries.Released.TheVariants.{Given, Opened}
 use Rattle.xp_words.specs.KindWords.{kind_write}
 use Rattle.xp_words.specs.declared.place.Place.TheVariants.{Kind}
 use Rattle.xp_board.specs.declared.step.Act.TheVariants.{Store}
@@ -62,8 +61,7 @@ put_ref-requires-clause-gives g c =
 
 pub returns-then-has_recorded-clause-goes : goal.returns-then-has_recorded-clause-goes
 returns-then-has_recorded-clause-goes g c b t word r owner pages =
-    table_releases b (g.P.Port.value c.args.port.now) c.args.table c.args.index t word c.args.frame c.args.want c.args.kind r owner pages (g.P.Port.value c.shed_by_owner.new.port) c.shed_by_owner.result
-    (Opened c.args.frame c.args.kind.progress false) c.shed_by_owner.ensures.moves
+    table_releases b (g.P.Port.value c.args.port.now) c.args.table c.args.index t word c.args.frame c.args.want c.args.kind r owner pages (g.P.Port.value c.shed_by_owner.new.port) c.shed_by_owner.result c.shed_by_owner.ensures.moves
 
 pub returns-then-has_recorded-clause-found : goal.returns-then-has_recorded-clause-found
 returns-then-has_recorded-clause-found g c b t word r =
@@ -91,7 +89,7 @@ returns-else-has_recorded-clause-goes g c b t word r owner pages =
     let k = dead_kind c.args.want c.args.kind.unflushed c.shed_entry-clock.result in
     let may = dead_may b v c.args.table c.args.index t word c.args.frame c.args.want c.args.kind r w c.shed_entry-clock.ensures.hand (sym c.has_recorded.ensures ∙ c.if-has_recorded.false) c.shed_entry-clock.result c.shed_entry-clock.ensures.moves in
     dead_releases b v c.args.table c.args.index t word c.args.frame c.args.want c.args.kind r owner pages w d (g.P.Port.value c.put_ref.new.port) c.shed_entry-clock.result c.leave.result k
-    (new b v c.args.table c.args.index t word c.args.frame c.args.want c.args.kind r) Given c.shed_entry-clock.ensures.moves
+    (new b v c.args.table c.args.index t word c.args.frame c.args.want c.args.kind r) c.shed_entry-clock.ensures.moves
     (subst (λ y. Moves w d (Kind c.args.frame) (Store (kind_write y)) kinds.Kind None c.leave.result) c.dead_kind.ensures c.leave.ensures.moves)
     (shed_here b v c.args.table c.args.index t word c.args.frame c.args.want c.args.kind r w c.shed_entry-clock.ensures.hand) (new_in_work b v c.args.table c.args.index t word c.args.frame c.args.want c.args.kind r)
     (new_kind b v c.args.table c.args.index t word c.args.frame c.args.want c.args.kind r) may.is refl c.put_ref.ensures.serves
