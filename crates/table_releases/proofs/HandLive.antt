@@ -7,7 +7,7 @@ use Rattle.xp_words.specs.PageTypes.{is_table}
 use Rattle.xp_words.specs.Places.{sizes_of}
 use Rattle.xp_words.specs.declared.entry.Demand.TheVariants.{Typed}
 use Rattle.xp_words.specs.declared.kind.PageType.{PageType}
-use Rattle.xp_words.specs.declared.place.Place.TheVariants.{Kind, Refs}
+use Rattle.xp_words.specs.declared.place.Place.TheVariants.{Kind}
 use Rattle.xp_board.specs.declared.holdings.Holdings.{Holdings}
 use Rattle.xp_board.specs.declared.holdings.Looking.{Looking}
 use Rattle.xp_board.specs.declared.holdings.Reference.{Reference}
@@ -15,7 +15,6 @@ use Rattle.xp_board.specs.declared.holdings.TypedReference.{TypedReference}
 use Rattle.xp_board.specs.declared.holdings.Unsettled.{Unsettled}
 use Rattle.xp_board.specs.declared.holdings.Work.{Work}
 use Rattle.xp_board.specs.declared.step.Act.TheVariants.{Load}
-use Rattle.xp_board.specs.declared.step.Mark.TheVariants.{Shed}
 use Rattle.xp_board.specs.declared.step.StepKind.TheVariants as kinds
 use Rattle.xp_board.specs.Acts.{left_by}
 use Rattle.xp_board.specs.After.{learned_cell}
@@ -118,8 +117,8 @@ module _ (b v : PortValue) (f i : ℕ) (t : PageType) (word g : ℕ) (want : Pag
     v_apart : work_on g v.holdings.works ≡ None
     v_apart = ap (λ (q : PortValue). work_on g q.holdings.works) l.same ∙ live_apart l.from.post.machine l.from.post.vcpu l.from.holdings g x (kind_fields x) l.look.finds refl live x_counts
 
-  -- ---- shed by a look at its reference word
-  module _ (live : is_live_word x ≡ true) (w : PortValue) (y : ℕ) (look : Moves v w (Refs g) Load kinds.Look (Some (Shed f i)) y) (shed : Holds v w (entry_shed v.post.machine f i v.holdings)) where
+  -- ---- shed
+  module _ (live : is_live_word x ≡ true) (w : PortValue) (shed : Holds v w (entry_shed v.post.machine f i v.holdings)) where
     abbrev pub newest : TypedReference
     newest = brought_as (is_settled (sizes_of v.post.machine) v.holdings (seen live).work) g want v.holdings
 

@@ -104,8 +104,8 @@ module _ (b v : PortValue) (f i : ℕ) (t : PageType) (word g : ℕ) (want : Pag
   pub live_owned : (live : is_live_word x ≡ true) (w : PortValue) (y : ℕ) (look : Moves v w (Refs g) Load kinds.Look (Some (Shed f i)) y) (shed : Holds v w (entry_shed v.post.machine f i v.holdings)) (z : PortValue) (drops : DropsType w z g true) →
       is_table want ≡ true → (o : ℕ) → IsTrue (knows_owner (sizes_of b.post.machine) f o b.holdings) → IsTrue (knows_owner (sizes_of b.post.machine) g o z.holdings)
   live_owned live w y look shed z drops table o knows =
-      let brings = newest b v f i t word g want x l live w y look shed in
-      let typed_are : w.holdings.typed ≡ brings ∷ v.holdings.typed = ap (λ (q : PortValue). q.holdings.typed) (live_shed b v f i t word g want x l live w y look shed) in
+      let brings = newest b v f i t word g want x l live w shed in
+      let typed_are : w.holdings.typed ≡ brings ∷ v.holdings.typed = ap (λ (q : PortValue). q.holdings.typed) (live_shed b v f i t word g want x l live w shed) in
       let owner_is : typed_owner g w.holdings ≡ owner_from v.holdings =
       ap (λ xs. owner_by_typed (typed_on g xs) (owner_from w.holdings)) typed_are ∙ ap (λ e. owner_by_typed e (owner_from w.holdings)) (first_by-cons_here (λ (e : TypedReference). e.frame) g brings v.holdings.typed refl)
       in
@@ -113,8 +113,8 @@ module _ (b v : PortValue) (f i : ℕ) (t : PageType) (word g : ℕ) (want : Pag
       let tells = look_owns v w f i t word g want y (now_seen b v f i t word g want x l) l.sees.asks table look o now_known in
       let later : tells_owner (sizes_of v.post.machine) z.holdings.steps g o (owner_from v.holdings) ≡ true = came_grows w z (moves_came w z _ _ _ _ _ drops.lowers.step) _ tells in
       subst (λ (p : Post). IsTrue (knows_owner (sizes_of p.machine) g o z.holdings)) (kind_post b v f i t word g want x l)
-      (known_by_ref (sizes_of v.post.machine) g o (closed_ref b v f i t word g want x l live w y look shed z drops table) v.holdings.refs z.holdings
-      (ap (λ (q : PortValue). q.holdings.refs) (closed b v f i t word g want x l live w y look shed z drops table)) refl
+      (known_by_ref (sizes_of v.post.machine) g o (closed_ref b v f i t word g want x l live w shed z drops table) v.holdings.refs z.holdings
+      (ap (λ (q : PortValue). q.holdings.refs) (closed b v f i t word g want x l live w shed z drops table)) refl
       (subst (λ e. tells_owner (sizes_of v.post.machine) z.holdings.steps g o e ≡ true) (sym owner_is) later))
 
 -- ---- partial, and in work then

@@ -20,15 +20,13 @@ pub drop_plain-requires-clause-drops : goal.drop_plain-requires-clause-drops
 drop_plain-requires-clause-drops g c =
     let s = c.requires.seen in
     let l = s.1 in
-    live_drops_plain l.0 (g.P.Port.value c.args.port.now) c.args.table c.args.index l.1 l.2 c.args.frame c.args.want s.0 l.3 s.2 (g.P.Port.value c.shed_by_owner.new.port) c.shed_by_owner.result c.shed_by_owner.ensures.moves
-    c.shed_by_owner.ensures.hand (sym c.is_table.ensures ∙ c.if-not-is_table.true)
+    live_drops_plain l.0 (g.P.Port.value c.args.port.now) c.args.table c.args.index l.1 l.2 c.args.frame c.args.want s.0 l.3 s.2 (g.P.Port.value c.shed_by_owner.new.port) c.shed_by_owner.ensures.hand (sym c.is_table.ensures ∙ c.if-not-is_table.true)
 
 pub drop_type-requires-clause-drops : goal.drop_type-requires-clause-drops
 drop_type-requires-clause-drops g c =
     let s = c.requires.seen in
     let l = s.1 in
-    live_drops l.0 (g.P.Port.value c.args.port.now) c.args.table c.args.index l.1 l.2 c.args.frame c.args.want s.0 l.3 s.2 (g.P.Port.value c.shed_by_owner.new.port) c.shed_by_owner.result c.shed_by_owner.ensures.moves
-    c.shed_by_owner.ensures.hand
+    live_drops l.0 (g.P.Port.value c.args.port.now) c.args.table c.args.index l.1 l.2 c.args.frame c.args.want s.0 l.3 s.2 (g.P.Port.value c.shed_by_owner.new.port) c.shed_by_owner.ensures.hand
 
 pub put_ref-requires-clause-may : goal.put_ref-requires-clause-may
 put_ref-requires-clause-may g c =
@@ -36,7 +34,7 @@ put_ref-requires-clause-may g c =
     let l = s.1 in
     let w = g.P.Port.value c.shed_by_owner.new.port in
     may_dropped w (g.P.Port.value c.drop_type.new.port) c.args.frame c.drop_type.result c.drop_type.ensures.drops
-    (live_may l.0 (g.P.Port.value c.args.port.now) c.args.table c.args.index l.1 l.2 c.args.frame c.args.want s.0 l.3 s.2 w c.shed_by_owner.result c.shed_by_owner.ensures.moves c.shed_by_owner.ensures.hand c.requires.may)
+    (live_may l.0 (g.P.Port.value c.args.port.now) c.args.table c.args.index l.1 l.2 c.args.frame c.args.want s.0 l.3 s.2 w c.shed_by_owner.ensures.hand c.requires.may)
 
 pub put_ref-requires-clause-gives : goal.put_ref-requires-clause-gives
 put_ref-requires-clause-gives g c =
@@ -44,7 +42,7 @@ put_ref-requires-clause-gives g c =
     let l = s.1 in
     let w = g.P.Port.value c.shed_by_owner.new.port in
     let z = g.P.Port.value c.drop_type.new.port in
-    counted_gives l.0 (g.P.Port.value c.args.port.now) c.args.table c.args.index l.1 l.2 c.args.frame c.args.want s.0 l.3 s.2 w c.shed_by_owner.result c.shed_by_owner.ensures.moves c.shed_by_owner.ensures.hand z
+    counted_gives l.0 (g.P.Port.value c.args.port.now) c.args.table c.args.index l.1 l.2 c.args.frame c.args.want s.0 l.3 s.2 w c.shed_by_owner.ensures.hand z
     (subst (λ r. DropsType w z c.args.frame r) c.if-drop_type.false c.drop_type.ensures.drops)
 
 pub returns-then-not-is_table-clause-goes : goal.returns-then-not-is_table-clause-goes
@@ -66,8 +64,7 @@ pub returns-then-not-is_table-clause-hand : goal.returns-then-not-is_table-claus
 returns-then-not-is_table-clause-hand g c x live b t word l = (
   (
     word,
-    plain_given b (g.P.Port.value c.args.port.now) c.args.table c.args.index t word c.args.frame c.args.want x l live (g.P.Port.value c.shed_by_owner.new.port) c.shed_by_owner.result c.shed_by_owner.ensures.moves
-        c.shed_by_owner.ensures.hand (g.P.Port.value c.drop_plain.new.port) c.drop_plain.ensures.hand,
+    plain_given b (g.P.Port.value c.args.port.now) c.args.table c.args.index t word c.args.frame c.args.want x l live (g.P.Port.value c.shed_by_owner.new.port) c.shed_by_owner.ensures.hand (g.P.Port.value c.drop_plain.new.port) c.drop_plain.ensures.hand,
   ),
   tt,
 )
@@ -76,7 +73,7 @@ pub returns-then-drop_type-clause-hand : goal.returns-then-drop_type-clause-hand
 returns-then-drop_type-clause-hand g c x live b t word l =
     let w = g.P.Port.value c.shed_by_owner.new.port in
     let z = g.P.Port.value c.drop_type.new.port in (
-      closed_opens b (g.P.Port.value c.args.port.now) c.args.table c.args.index t word c.args.frame c.args.want x l live w c.shed_by_owner.result c.shed_by_owner.ensures.moves c.shed_by_owner.ensures.hand z
+      closed_opens b (g.P.Port.value c.args.port.now) c.args.table c.args.index t word c.args.frame c.args.want x l live w c.shed_by_owner.ensures.hand z
           (subst (λ r. DropsType w z c.args.frame r) c.if-drop_type.true c.drop_type.ensures.drops) (sym c.is_table.ensures ∙ c.if-not-is_table.false),
       live_owned b (g.P.Port.value c.args.port.now) c.args.table c.args.index t word c.args.frame c.args.want x l live w c.shed_by_owner.result c.shed_by_owner.ensures.moves c.shed_by_owner.ensures.hand z
           (subst (λ r. DropsType w z c.args.frame r) c.if-drop_type.true c.drop_type.ensures.drops) (sym c.is_table.ensures ∙ c.if-not-is_table.false),
@@ -88,7 +85,7 @@ returns-else-drop_type-clause-hand g c x live b t word l =
     let z = g.P.Port.value c.drop_type.new.port in (
       (
         word,
-        counted_given b (g.P.Port.value c.args.port.now) c.args.table c.args.index t word c.args.frame c.args.want x l live w c.shed_by_owner.result c.shed_by_owner.ensures.moves c.shed_by_owner.ensures.hand z
+        counted_given b (g.P.Port.value c.args.port.now) c.args.table c.args.index t word c.args.frame c.args.want x l live w c.shed_by_owner.ensures.hand z
             (subst (λ r. DropsType w z c.args.frame r) c.if-drop_type.false c.drop_type.ensures.drops) (g.P.Port.value c.put_ref.new.port) c.put_ref.ensures.hand,
       ),
       tt,
