@@ -20,10 +20,12 @@ use Rattle.xp_board.specs.Told.{PortValue}
 use Rattle.board_lemmas.proofs.ListCounts.{newest_held, times_by-cons_here}
 use Rattle.board_lemmas.proofs.WorkFacts.{works_facts}
 use Rattle.step_maker.specs.Holds.{Holds, still}
-use Rattle.step_maker.specs.Moves.{Moves}
-use Rattle.step_maker.proofs.Coming.{moves_came}
+use Rattle.step_maker.specs.Moves.{Came, Met, Moves}
+use Rattle.step_maker.proofs.Coming.{came_self, moves_came}
 use Rattle.answer_fits.specs.Answers.{Serves}
 use Rattle.answer_fits.specs.Asked.{of_back}
+use Rattle.answer_fits.specs.Pauses.{Progress}
+use Rattle.answer_fits.proofs.Piecing.{serves_came}
 use Rattle.answer_fits.specs.Visits.{Then}
 use Rattle.answer_fits.proofs.Visiting.{does_as, does_then}
 use Rattle.frame_words.specs.Freeing.{PutBy, Puts, gave}
@@ -40,7 +42,7 @@ use Rattle.table_releases.specs.declared.entries.Released.{Released}
 use Rattle.table_releases.specs.declared.entries.Released.TheVariants.{Given}
 use Rattle.table_releases.proofs.Finding.{last_found, sheds}
 use Rattle.table_releases.proofs.Looking.{looked_seen, shed_bad, shed_nothing, shed_plain}
-use Rattle.table_releases.proofs.Pieces.{asks_plain, goes_shed, look_goes}
+use Rattle.table_releases.proofs.Pieces.{asks_plain, goes_shed, look_goes, shed_shows}
 
 -- ---- numbers of frames are small
 pub frame_fits : (n : Machine) (g : ℕ) → IsMachine n → g < n.frames → Fits w32 g
@@ -55,9 +57,18 @@ pub hand_owned : (v w : PortValue) (f i : ℕ) (t : PageType) (a : Result Releas
 hand_owned v w f i t (Ok x) h = h.1
 hand_owned v w f i t (Err e) h = tt
 
-module _ (b v w : PortValue) (f i : ℕ) (t : PageType) (word : ℕ) (l : SeesLast b v f i t word) (y : ℕ) (step : Moves v w Clock Load kinds.Look (Some (Shed f i)) y) (shed : Holds v w (entry_shed f i v.holdings)) where
+module _ (b v w : PortValue) (f i : ℕ) (t : PageType) (word : ℕ) (l : SeesLast b v f i t word) (y : ℕ) (step : Moves v w Clock Load kinds.Look (Some (Shed f i)) y) (shed : Holds v w (entry_shed v.post.machine f i v.holdings)) where
   pub shed_goes : (owner pages : ℕ) → Goes b w f i owner pages []
   shed_goes owner pages = goes_shed b v w f i owner pages [] (look_goes b v f i t word l owner pages) f i y step
+
+  entry_shows : (owner pages : ℕ) (z : PortValue) → Came w z → Progress (Met b z)
+  entry_shows owner pages z came = shed_shows b v w f i owner pages [] (look_goes b v f i t word l owner pages) Clock f i y step z came
+
+  pub nothing_shows : (owner pages : ℕ) → Progress (Met b w)
+  nothing_shows owner pages = entry_shows owner pages w (came_self w)
+
+  pub plain_shows : (g owner pages : ℕ) (z : PortValue) → Serves w z (of_back g) [] → Progress (Met b z)
+  plain_shows g owner pages z back = entry_shows owner pages z (serves_came w z (of_back g) [] back)
 
   abbrev fewer : List Work → List Work
   fewer ws = changed_work f (λ (e : Work). record e { recorded = i; unsettled = None }) ws

@@ -8,7 +8,7 @@ use Rattle.xp_words.specs.declared.entry.Demand.TheVariants.{Typed}
 use Rattle.xp_words.specs.declared.kind.KindWord.{KindWord}
 use Rattle.xp_words.specs.declared.kind.PageType.{PageType}
 use Rattle.xp_words.specs.declared.place.Place.{Place}
-use Rattle.xp_words.specs.declared.place.Place.TheVariants.{Cell, Kind}
+use Rattle.xp_words.specs.declared.place.Place.TheVariants.{Cell, Kind, Refs}
 use Rattle.xp_words.specs.declared.reply.Pause.TheVariants.{Busy}
 use Rattle.xp_words.specs.declared.reply.Stop.{Stop}
 use Rattle.xp_words.specs.declared.reply.Stop.TheVariants.{Paused}
@@ -66,11 +66,11 @@ module _ (b v : PortValue) (f i : ℕ) (t : PageType) (word g : ℕ) (want : Pag
       (does_then l.from v w (Only (saw_kind g x)) ways (does_one l.from v (Kind g) Load kinds.Look None x l.look) (subst (λ e. Does v w (λ ks. FormBy b.post.machine f i g want x answer e ks)) (sym is) way)))
 
   -- ---- live
-  module _ (live : is_live_word x ≡ true) (w : PortValue) (y : ℕ) (look : Moves v w (Kind g) Load kinds.Look (Some (Shed f i)) y) where
+  module _ (live : is_live_word x ≡ true) (w : PortValue) (y : ℕ) (look : Moves v w (Refs g) Load kinds.Look (Some (Shed f i)) y) where
     live_found : (z : PortValue) (answer : Result Released Stop) (table : Bool) → is_table want ≡ table → Does w z (λ ls. LiveBy g want answer table ls) → ReleasesFound b z f i t answer
     live_found z answer table is way =
         kind_found z answer Live (ap (λ c. if c then Live else form_of (record (kind_fields x) { validated = false })) live)
-        (does_then v w z (ShedsAt (Kind g) f i) (λ ls. LiveBy g want answer (is_table want) ls) (sheds v w (Kind g) f i y look) (subst (λ c. Does w z (λ ls. LiveBy g want answer c ls)) (sym is) way))
+        (does_then v w z (ShedsAt (Refs g) f i) (λ ls. LiveBy g want answer (is_table want) ls) (sheds v w (Refs g) f i y look) (subst (λ c. Does w z (λ ls. LiveBy g want answer c ls)) (sym is) way))
 
     -- a frame without entries
     pub plain_found : (z : PortValue) → is_table want ≡ false → DropsPlain w z g want → ReleasesFound b z f i t (Ok Given)

@@ -34,7 +34,7 @@ use Rattle.table_releases.proofs.Looking.{looked_seen}
 
 -- it stays the last one in a hand with the same works
 abbrev pub seen_same : (f i : ℕ) (t : PageType) (word : ℕ) (h k : Holdings) → work_on f k.works ≡ work_on f h.works → SeenLast f i t word h → SeenLast f i t word k
-seen_same f i t word h k same l = record { work = l.work; here = same ∙ l.here; kind = l.kind; table = l.table; unmarked = l.unmarked; last = l.last; seen = l.seen }
+seen_same f i t word h k same l = record { work = l.work; here = same ∙ l.here; kind = l.kind; table = l.table; unmarked = l.unmarked; last = l.last; seen = l.seen; loaded = l.loaded }
 
 pub typed_post : (b v : PortValue) (f i : ℕ) (t : PageType) (word g : ℕ) (want : PageType) → SeesTyped b v f i t word g want → v.post ≡ b.post
 typed_post b v f i t word g want l = ap (λ (q : PortValue). q.post) l.sees.hand

@@ -1,5 +1,5 @@
--- A frame that was found live, and its entry shed by a second look at it.
-use Rattle.std.proofs.Common.{◌≡◌, ◌⊎◌, ℕ, ◌<◌, ◌≤◌, ◌||◌, if◌then◌else◌, is_none, Bool, true, false, List, [], ◌∷◌, length, Some, None, IsTrue, refl, sym, ap, ◌∙◌, subst, arith, inl, inr}
+-- A frame that was found live, and its entry shed by a look at its reference word.
+use Rattle.std.proofs.Common.{◌≡◌, ℕ, ◌-◌, ◌<◌, ◌≤◌, if◌then◌else◌, Bool, true, false, List, [], ◌∷◌, length, Option, Some, None, IsTrue, refl, sym, ap, ◌∙◌, subst, arith}
 use Rattle.xp_words.specs.Entries.{demand_at}
 use Rattle.xp_words.specs.KindWords.{kind_fields}
 use Rattle.xp_words.specs.Machine.{IsMachine}
@@ -15,7 +15,6 @@ use Rattle.xp_board.specs.declared.holdings.TypedReference.{TypedReference}
 use Rattle.xp_board.specs.declared.holdings.Unsettled.{Unsettled}
 use Rattle.xp_board.specs.declared.holdings.Work.{Work}
 use Rattle.xp_board.specs.declared.step.Act.TheVariants.{Load}
-use Rattle.xp_board.specs.declared.step.Mark.TheVariants.{Shed}
 use Rattle.xp_board.specs.declared.step.StepKind.TheVariants as kinds
 use Rattle.xp_board.specs.Acts.{left_by}
 use Rattle.xp_board.specs.After.{learned_cell}
@@ -23,9 +22,9 @@ use Rattle.xp_board.specs.Hands.{brought_as, changed_work, refs_to, typed_owner,
 use Rattle.xp_board.specs.KindSteps.{MayDrop, still_looking}
 use Rattle.xp_board.specs.Knowledge.{knows_live}
 use Rattle.xp_board.specs.Lists.{changed_by, first_by, kept_of}
-use Rattle.xp_board.specs.Readings.{is_live, is_live_as, is_live_word, is_partial, is_work, kind_at}
+use Rattle.xp_board.specs.Readings.{is_live, is_live_word, kind_at}
 use Rattle.xp_board.specs.Recorded.{entry_demand}
-use Rattle.xp_board.specs.Steps.{some_since}
+use Rattle.xp_board.specs.Settling.{is_settled}
 use Rattle.xp_board.specs.Told.{Post, PortValue}
 use Rattle.board_lemmas.proofs.HandLists.{times-changed}
 use Rattle.board_lemmas.proofs.KindReadings.{live_count}
@@ -33,7 +32,6 @@ use Rattle.board_lemmas.proofs.ListCounts.{first_by-absent, first_by-none, newes
 use Rattle.board_lemmas.proofs.WorkFacts.{works_facts}
 use Rattle.step_maker.specs.Holds.{Holds, MayWork, Same, still}
 use Rattle.step_maker.specs.Moves.{Moves}
-use Rattle.step_maker.proofs.Noting.{moves_since}
 use Rattle.flush_words.proofs.Lasting.{moves_longer}
 use Rattle.frame_words.specs.Freeing.{gave}
 use Rattle.frame_words.specs.Refs.{MayPut}
@@ -46,13 +44,12 @@ use Rattle.frame_types.proofs.Lowered.{closed_is, closed_kind, closed_unmarked, 
 use Rattle.table_entries.specs.Tops.{with_recorded}
 use Rattle.table_entries.proofs.HandLists.{asks_below}
 use Rattle.table_words.specs.Entries.{entry_shed}
-use Rattle.table_words.proofs.Shedding.{shed_known}
+use Rattle.table_words.proofs.Shedding.{none_unsettled, settled_by_step, shed_settled_known}
 use Rattle.table_releases.specs.Between.{SeesKind, SeesTyped}
 use Rattle.table_releases.specs.Tops.{Reopens, StaysRecorded, shed_once}
 use Rattle.table_releases.proofs.FrameSeen.{from_seen, kind_frame, now_seen}
-use Rattle.table_releases.proofs.LastSeen.{SeenLast, finds_counts, finds_kind, finds_leads, seen_asks, seen_sheds}
+use Rattle.table_releases.proofs.LastSeen.{SeenLast, finds_counts, seen_asks, seen_sheds}
 use Rattle.table_releases.proofs.Looking.{shed_typed}
-use Rattle.xp_board.proofs.Returned.{same_type}
 
 -- ---- lists
 -- a vCPU that looks at nothing goes on so
@@ -63,9 +60,6 @@ looks_none g w (x ∷ xs) none = absurd cc
 
 pub none_after : {A : Type 0} (key : A → ℕ) (g f : ℕ) (change : A → A) (xs : List A) → ((x : A) → key (change x) ≡ key x) → first_by key g xs ≡ None → first_by key g (changed_by key f change xs) ≡ None
 none_after key g f change xs kept none = first_by-none key g (changed_by key f change xs) (times-changed key g f change xs kept ∙ first_by-absent key g xs none)
-
-live_as_is : (w : ℕ) (t : PageType) → IsTrue (is_live (kind_fields w)) → (kind_fields w).kind ≡ t → is_live_as t w ≡ true
-live_as_is w t live kind = rw (live, kind) (same_type t)
 
 module _ (b v : PortValue) (f i : ℕ) (t : PageType) (word g : ℕ) (want : PageType) (x : ℕ) (l : SeesKind b v f i t word g want x) where
   -- the hand, from before the looks
@@ -80,67 +74,63 @@ module _ (b v : PortValue) (f i : ℕ) (t : PageType) (word g : ℕ) (want : Pag
   abbrev pub shed_works : List Work → List Work
   shed_works ws = changed_work f (λ (e : Work). record e { recorded = i; unsettled = None }) ws
 
-  module _ (live : is_live_word x ≡ true) (w : PortValue) (y : ℕ) (look : Moves v w (Kind g) Load kinds.Look (Some (Shed f i)) y) (shed : Holds v w (entry_shed f i v.holdings)) where
-    abbrev seen : SeenLast f i t word v.holdings
+  module _ (live : is_live_word x ≡ true) where
+    abbrev pub seen : SeenLast f i t word v.holdings
     seen = now_seen b v f i t word g want x l
 
-    asked : entry_demand look.finds.words f i ≡ Typed g want
-    asked = seen_asks v.post.machine v.post.vcpu v.holdings (Kind g) y look.finds f i t word seen ∙ l.sees.asks
+    -- ---- the entry is settled by the look that found its frame live
+    abbrev first : SeenLast f i t word l.from.holdings
+    first = from_seen b v f i t word g want x l
 
-    -- it was found live since the entry is unsettled
-    low_since : (u : Unsettled) → seen.work.unsettled ≡ Some u → u.since ≤ length l.from.holdings.steps
+    low_since : (u : Unsettled) → first.work.unsettled ≡ Some u → u.since ≤ length l.from.holdings.steps
     low_since u at =
-        let first = from_seen b v f i t word g want x l in
         let finds = l.look.finds in
         let mine : work_on f (finds.hands l.from.post.vcpu).works ≡ Some first.work = ap (λ (k : Holdings). work_on f k.works) finds.mine ∙ first.here in
         let facts = works_facts l.from.post.machine finds.words finds.hands l.from.post.vcpu f first.work finds.sound finds.real mine in
         subst (λ (k : Holdings). u.since ≤ length k.steps) finds.mine (facts.formed.unsettled u at).1
 
-    found_since : (u : Unsettled) → seen.work.unsettled ≡ Some u → IsTrue (some_since (sizes_of v.post.machine) u.since (Kind g) is_live_word v.holdings.steps)
+    settled_then : (o : Option Unsettled) → first.work.unsettled ≡ o → IsTrue (is_settled (sizes_of l.from.post.machine) v.holdings first.work)
     unfolding left_by
-    found_since u at =
-        subst (λ (p : Post). IsTrue (some_since (sizes_of p.machine) u.since (Kind g) is_live_word v.holdings.steps)) (sym (ap (λ (q : PortValue). q.post) l.same))
-        (moves_since l.from v (Kind g) Load kinds.Look None x l.look u.since is_live_word (low_since u at) live)
+    settled_then None at = none_unsettled (sizes_of l.from.post.machine) v.holdings first.work at
+    settled_then (Some u) at =
+        let before : first.work.recorded - 1 ≡ i = let n = first.last in omega (arith, n) in
+        settled_by_step l.from v first.work u.since word g want Load kinds.Look None x l.look live
+        (at ∙ ap (λ o. Some (record u { word = o })) (first.loaded u at))
+        (ap (λ k. demand_at k (first.work.recorded - 1) word) first.kind ∙ ap (λ n. demand_at t n word) before ∙ l.sees.asks)
+        (low_since u at)
 
-    still_live : IsTrue (is_live (kind_at look.finds.words g))
-    still_live =
-        by_way
-        (finds_leads v.post.machine v.post.vcpu v.holdings (Kind g) y look.finds f i t seen.work seen.here seen.kind seen.table seen.last (Typed g want) asked g want refl)
-      where
-        by_way : IsTrue (is_live (kind_at look.finds.words g))
-            ⊎ (IsTrue (is_partial (kind_at look.finds.words g) || is_work (kind_at look.finds.words g)) × ((u : Unsettled) × (seen.work.unsettled ≡ Some u) × (some_since (sizes_of v.post.machine) u.since (Kind g) is_live_word v.holdings.steps ≡ false))) →
-            IsTrue (is_live (kind_at look.finds.words g))
-        by_way (inl is) = is
-        by_way (inr (form, (u, at, unfound))) = absurd (let both : true ≡ false = sym (found_since u at) ∙ unfound in cc)
+    now_settled : IsTrue (is_settled (sizes_of v.post.machine) v.holdings seen.work)
+    now_settled = subst (λ (p : Post). IsTrue (is_settled (sizes_of p.machine) v.holdings seen.work)) (sym (ap (λ (q : PortValue). q.post) l.same)) (settled_then first.work.unsettled refl)
 
-    y_live : IsTrue (is_live (kind_fields y))
-    y_live = subst (λ n. IsTrue (is_live (kind_fields n))) look.finds.word still_live
+    -- ---- and nobody works on it
+    is_here : IsTrue (is_live (kind_at l.look.finds.words g))
+    is_here = subst (λ n. IsTrue (is_live (kind_fields n))) (sym l.look.finds.word) live
 
-    y_kind : (kind_fields y).kind ≡ want
-    y_kind =
-        ap (λ n. (kind_fields n).kind) (sym look.finds.word)
-        ∙ finds_kind v.post.machine v.post.vcpu v.holdings (Kind g) y look.finds f i t seen.work seen.here seen.kind seen.table seen.last (Typed g want) asked g want refl
+    asked : entry_demand l.look.finds.words f i ≡ Typed g want
+    asked = seen_asks l.from.post.machine l.from.post.vcpu l.from.holdings (Kind g) x l.look.finds f i t word first ∙ l.sees.asks
 
-    y_counts : 0 < (kind_fields y).number
-    y_counts =
-        let some = finds_counts v.post.machine v.post.vcpu v.holdings (Kind g) y look.finds f i t seen.work seen.here seen.kind seen.table seen.last (Typed g want) asked g want refl in
-        subst (λ n. 0 < (kind_fields n).number) look.finds.word (subst (λ n. 0 < n) (live_count (kind_at look.finds.words g) still_live) some)
+    x_counts : 0 < (kind_fields x).number
+    x_counts =
+        let some = finds_counts l.from.post.machine l.from.post.vcpu l.from.holdings (Kind g) x l.look.finds f i t first.work first.here first.kind first.table first.last (Typed g want) asked g want refl in
+        subst (λ n. 0 < (kind_fields n).number) l.look.finds.word (subst (λ n. 0 < n) (live_count (kind_at l.look.finds.words g) is_here) some)
 
     v_apart : work_on g v.holdings.works ≡ None
-    v_apart = live_apart v.post.machine v.post.vcpu v.holdings g y (kind_fields y) look.finds refl y_live y_counts
+    v_apart = ap (λ (q : PortValue). work_on g q.holdings.works) l.same ∙ live_apart l.from.post.machine l.from.post.vcpu l.from.holdings g x (kind_fields x) l.look.finds refl live x_counts
 
-    abbrev newest : TypedReference
-    newest = brought_as (is_none seen.work.unsettled) g want v.holdings
+  -- ---- shed
+  module _ (live : is_live_word x ≡ true) (w : PortValue) (shed : Holds v w (entry_shed v.post.machine f i v.holdings)) where
+    abbrev pub newest : TypedReference
+    newest = brought_as (is_settled (sizes_of v.post.machine) v.holdings (seen live).work) g want v.holdings
 
     pub live_shed : Holds v w (record (with_recorded f i None v.holdings) { typed = newest ∷ v.holdings.typed })
-    live_shed = shed_typed v w f i t word seen shed g want l.sees.asks
+    live_shed = shed_typed v w f i t word (seen live) shed g want l.sees.asks
 
     pub live_post : w.post ≡ v.post
     live_post = ap (λ (q : PortValue). q.post) live_shed
 
     known_there : IsTrue (knows_live (sizes_of v.post.machine) g want w.holdings)
     known_there =
-        shed_known v w f i g want (seen_sheds f i t word v.holdings seen) (ap (λ k. demand_at k i word) seen.kind ∙ l.sees.asks) shed y look (live_as_is y want y_live y_kind)
+        shed_settled_known v w f i g want (seen_sheds f i t word v.holdings (seen live)) (ap (λ k. demand_at k i word) (seen live).kind ∙ l.sees.asks) shed (now_settled live)
 
     pub live_known : IsTrue (knows_live (sizes_of w.post.machine) g want w.holdings)
     live_known = subst (λ (p : Post). IsTrue (knows_live (sizes_of p.machine) g want w.holdings)) (sym live_post) known_there
@@ -150,7 +140,7 @@ module _ (b v : PortValue) (f i : ℕ) (t : PageType) (word g : ℕ) (want : Pag
 
     pub live_apart_then : work_on g w.holdings.works ≡ None
     live_apart_then =
-        ap (λ (q : PortValue). work_on g q.holdings.works) live_shed ∙ none_after (λ (e : Work). e.frame) g f (λ e. record e { recorded = i; unsettled = None }) v.holdings.works (λ e. refl) v_apart
+        ap (λ (q : PortValue). work_on g q.holdings.works) live_shed ∙ none_after (λ (e : Work). e.frame) g f (λ e. record e { recorded = i; unsettled = None }) v.holdings.works (λ e. refl) (v_apart live)
 
     pub live_frame : g < w.post.machine.frames
     live_frame = subst (λ (p : Post). g < p.machine.frames) (sym live_post) (kind_frame b v f i t word g want x l)
@@ -207,10 +197,10 @@ module _ (b v : PortValue) (f i : ℕ) (t : PageType) (word g : ℕ) (want : Pag
       abbrev closing : Work
       closing = closing_from g drops.found w.holdings
 
-      abbrev closed_ref : Reference
+      abbrev pub closed_ref : Reference
       closed_ref = record { frame = g; owner = typed_owner g w.holdings }
 
-      closed : Holds v z (record (with_recorded f i None v.holdings) { refs = closed_ref ∷ v.holdings.refs; works = closing ∷ (with_recorded f i None v.holdings).works })
+      pub closed : Holds v z (record (with_recorded f i None v.holdings) { refs = closed_ref ∷ v.holdings.refs; works = closing ∷ (with_recorded f i None v.holdings).works })
       closed =
           type_closed w z g true drops refl
           ∙ ap (λ (q : PortValue). still (record q { holdings = record q.holdings { refs = closed_ref ∷ q.holdings.refs; typed = without_typed g q.holdings.typed; works = closing ∷ q.holdings.works } })) live_shed
@@ -233,11 +223,13 @@ module _ (b v : PortValue) (f i : ℕ) (t : PageType) (word g : ℕ) (want : Pag
             table = subst (λ k. IsTrue (is_table k)) is table;
             closing_is = closed_is w z g true drops refl;
             in_work = λ off. absurd cc;
-            unmarked = λ some. closed_unmarked w z g true drops refl;
+            unmarked = closed_unmarked w z g true drops refl;
             recorded_is = rw (kind, table) refl;
+            some = omega arith;
             few = omega arith;
-            settled = λ none. absurd cc;
+            settled = λ on. refl;
             earlier = let more = moves_longer w z _ _ _ _ _ drops.lowers.step in omega (arith, more);
+            since = λ off. absurd cc;
             after = with_closing (learned_cell f i word b.holdings);
             holding = record { untyped = λ on. (closed_ref, refl, refl); typed = λ off. absurd cc };
             hand = hand_behind z (λ rs. closed_ref ∷ rs) (λ ys. ys) (λ ws. closing ∷ shed_works ws) closed;

@@ -1,32 +1,36 @@
 -- A partial frame that came into the own works, and its entry shed then.
-use Rattle.std.proofs.Common.{◌≡◌, ◌≢◌, ℕ, ◌<◌, ◌^◌, ◌==◌, not, is_none, Bool, true, false, List, [], ◌∷◌, Some, None, IsTrue, refl, sym, ap, ◌∙◌, subst, arith, inl}
+use Rattle.std.proofs.Common.{◌≡◌, ◌≢◌, ℕ, ◌<◌, ◌^◌, ◌==◌, ◌-◌, ◌≤◌, ◌⊎◌, ◌||◌, not, Bool, true, false, List, [], ◌∷◌, length, Some, None, IsTrue, refl, sym, ap, ◌∙◌, subst, arith, inl, inr}
 use Rattle.xp_words.specs.KindWords.{is_kind, kind_fields, kind_write}
 use Rattle.xp_words.specs.Machine.{IsMachine}
 use Rattle.xp_words.specs.PageTypes.{is_table}
 use Rattle.xp_words.specs.PageTypes as types
-use Rattle.xp_words.specs.Places.{sizes_of}
+use Rattle.xp_words.specs.Entries.{demand_at}
+use Rattle.xp_words.specs.Places.{Sizes, sizes_of}
 use Rattle.xp_words.specs.declared.entry.Demand.TheVariants.{Typed}
 use Rattle.xp_words.specs.declared.kind.KindWord.{KindWord}
 use Rattle.xp_words.specs.declared.kind.PageType.{PageType}
-use Rattle.xp_words.specs.declared.place.Place.TheVariants.{Clock}
+use Rattle.xp_words.specs.declared.place.Place.TheVariants.{Clock, Kind}
 use Rattle.xp_board.specs.declared.holdings.Holdings.{Holdings}
 use Rattle.xp_board.specs.declared.holdings.Reference.{Reference}
 use Rattle.xp_board.specs.declared.holdings.TypedReference.{TypedReference}
+use Rattle.xp_board.specs.declared.holdings.Unsettled.{Unsettled}
 use Rattle.xp_board.specs.declared.holdings.Work.{Work}
 use Rattle.xp_board.specs.declared.step.Act.TheVariants.{Load}
 use Rattle.xp_board.specs.declared.step.Mark.TheVariants.{Shed}
 use Rattle.xp_board.specs.declared.step.StepKind.TheVariants as kinds
 use Rattle.xp_board.specs.Acts.{left_by}
-use Rattle.xp_board.specs.Hands.{brought_as, changed_work, refs_to, typed_owner, typed_to, without_typed, without_work, work_on}
+use Rattle.xp_board.specs.Hands.{brought_as, changed_work, refs_to, surely, typed_owner, typed_to, without_typed, without_work, work_on}
 use Rattle.xp_board.specs.KindSteps.{new_work, resumed_kind, unsettled_from}
 use Rattle.xp_board.specs.Lists.{changed_by}
-use Rattle.xp_board.specs.Readings.{is_work}
+use Rattle.xp_board.specs.Readings.{is_live, is_live_word, is_partial, is_work, kind_at}
+use Rattle.xp_board.specs.Settling.{is_settled, settles, settles_last}
 use Rattle.xp_board.specs.Steps.{some_since}
-use Rattle.xp_board.specs.Told.{Post, PortValue}
+use Rattle.xp_board.specs.Told.{Finds, Post, PortValue}
 use Rattle.board_lemmas.proofs.KindForms.{PartialForm, fields_of, partial_form}
-use Rattle.board_lemmas.proofs.KindReadings.{partial_parts, resumed_in_work, work_alone}
+use Rattle.board_lemmas.proofs.KindReadings.{partial_parts, resumed_in_work, work_alone, work_unlive}
 use Rattle.board_lemmas.proofs.ListCounts.{first_by-cons_other, newest_held}
 use Rattle.board_lemmas.proofs.Sums.{when_eq, when_ne}
+use Rattle.board_lemmas.proofs.WorkFacts.{work_word as works_word, works_facts}
 use Rattle.step_maker.specs.Holds.{Holds, MayWork, still}
 use Rattle.step_maker.specs.Moves.{Moves}
 use Rattle.step_maker.proofs.Noting.{moves_since}
@@ -41,11 +45,20 @@ use Rattle.kind_words.proofs.Leaving.{left_dead, may_leave_dead}
 use Rattle.table_entries.proofs.HandLists.{asks_below, asks_some}
 use Rattle.table_words.specs.Entries.{entry_shed}
 use Rattle.table_releases.specs.Between.{Resumed}
-use Rattle.table_releases.specs.Tops.{Reopens, shed_once}
+use Rattle.table_releases.specs.Found.{has_recorded}
+use Rattle.table_releases.specs.Tops.{IsSince, Reopens, shed_once}
 use Rattle.table_releases.proofs.FrameSeen.{found_kind, found_unkept, kind_post, now_seen, seen_same}
 use Rattle.table_releases.proofs.HandLive.{hand_behind, looks_none, none_after, shed_works}
-use Rattle.table_releases.proofs.LastSeen.{SeenLast}
+use Rattle.table_releases.proofs.LastSeen.{SeenLast, finds_leads, seen_asks}
 use Rattle.table_releases.proofs.Looking.{shed_typed}
+use Rattle.table_releases.proofs.Recording.{recorded_some, recorded_table, recorded_none}
+
+-- the frame of the unsettled entry was not found live
+unsettled_by : (z : Sizes) (h : Holdings) (e : Work) (u : Unsettled) (word g : ℕ) (t : PageType) → e.unsettled ≡ Some (record { since = u.since; word = Some word }) → demand_at (kind_fields e.word).kind (e.recorded - 1) word ≡ Typed g t →
+    some_since z u.since (Kind g) is_live_word h.steps ≡ false → is_settled z h e ≡ false
+unfolding is_settled
+unsettled_by z h e u word g t unsettled asks unfound =
+    subst (λ o. settles_last z e h.steps o ≡ false) (sym unsettled) (subst (λ d. settles z u.since h.steps d ≡ false) (sym asks) unfound)
 
 changed_behind : (f : ℕ) (change : Work → Work) (e : Work) (xs : List Work) → e.frame ≢ f → changed_work f change (e ∷ xs) ≡ e ∷ changed_work f change xs
 unfolding changed_by
@@ -107,22 +120,49 @@ module _ (b v : PortValue) (f i : ℕ) (t : PageType) (word g : ℕ) (want : Pag
   pub resumed_frame : g < v.post.machine.frames
   resumed_frame = subst (λ (p : Post). g < p.machine.frames) (sym resumed_post) r.sees.sees.inside
 
+  -- the entry is not settled: its frame is in work, and was not found live
+  still_unsettled : (p : _) (y : ℕ) (mark : _) {w : PortValue} → Moves v w p Load kinds.Look mark y → is_settled (sizes_of v.post.machine) v.holdings resumed_seen.work ≡ false
+  still_unsettled p y mark step =
+      by_way
+      (finds_leads v.post.machine v.post.vcpu v.holdings p y finds f i t resumed_seen.work resumed_seen.here resumed_seen.kind resumed_seen.table resumed_seen.last (Typed g want)
+      (seen_asks v.post.machine v.post.vcpu v.holdings p y finds f i t word resumed_seen ∙ r.sees.sees.asks) g want refl)
+    where
+      finds : Finds v.post.machine v.post.vcpu v.holdings p y
+      finds = step.finds
+
+      mine : work_on g (finds.hands v.post.vcpu).works ≡ Some new
+      mine = ap (λ (u : Holdings). work_on g u.works) finds.mine ∙ work_here g new r.from.holdings.works v.holdings.works refl (ap (λ (q : PortValue). q.holdings.works) came_in)
+
+      working : IsTrue (is_work (kind_at finds.words g))
+      working =
+          subst (λ y. IsTrue (is_work y)) (sym (works_word v.post.machine finds.words finds.hands v.post.vcpu g new (works_facts v.post.machine finds.words finds.hands v.post.vcpu g new finds.sound finds.real mine))) new_in_work
+
+      by_way : IsTrue (is_live (kind_at finds.words g))
+          ⊎ (IsTrue (is_partial (kind_at finds.words g) || is_work (kind_at finds.words g)) × ((u : Unsettled) × (resumed_seen.work.unsettled ≡ Some u) × (some_since (sizes_of v.post.machine) u.since (Kind g) is_live_word v.holdings.steps ≡ false))) →
+          is_settled (sizes_of v.post.machine) v.holdings resumed_seen.work ≡ false
+      by_way (inl live) = absurd (let dead = work_unlive (kind_at finds.words g) working in cc)
+      by_way (inr (form, (u, at, unfound))) =
+          unsettled_by (sizes_of v.post.machine) v.holdings resumed_seen.work u word g want (at ∙ ap (λ o. Some (record u { word = o })) (resumed_seen.loaded u at))
+          (let before : resumed_seen.work.recorded - 1 ≡ i = (let n = resumed_seen.last in omega (arith, n)) in
+          ap (λ k. demand_at k (resumed_seen.work.recorded - 1) word) resumed_seen.kind ∙ ap (λ n. demand_at t n word) before ∙ r.sees.sees.asks)
+          unfound
+
   -- ---- shed
-  module _ (w : PortValue) (shed : Holds v w (entry_shed f i v.holdings)) where
-    abbrev pub newest : TypedReference
-    newest = brought_as (is_none resumed_seen.work.unsettled) g want v.holdings
+  module _ (w : PortValue) (shed : Holds v w (entry_shed v.post.machine f i v.holdings)) where
+    abbrev pub resumed_newest : TypedReference
+    resumed_newest = brought_as (is_settled (sizes_of v.post.machine) v.holdings resumed_seen.work) g want v.holdings
 
     abbrev shed_all : List Work → List Work
     shed_all ws = shed_works b r.from f i t word g want r.found r.sees ws
 
-    pub resumed_shed : Holds r.from w (record r.from.holdings { typed = newest ∷ r.from.holdings.typed; works = new ∷ shed_all r.from.holdings.works })
+    pub resumed_shed : Holds r.from w (record r.from.holdings { typed = resumed_newest ∷ r.from.holdings.typed; works = new ∷ shed_all r.from.holdings.works })
     resumed_shed =
         shed_typed v w f i t word resumed_seen shed g want r.sees.sees.asks
-        ∙ ap (λ (q : PortValue). still (record q { holdings = record q.holdings { typed = newest ∷ q.holdings.typed; works = shed_all q.holdings.works } })) came_in
-        ∙ ap (λ ws. still (record r.from { holdings = record r.from.holdings { typed = newest ∷ r.from.holdings.typed; works = ws } })) (changed_behind f (λ (e : Work). record e { recorded = i; unsettled = None }) new r.from.holdings.works other)
+        ∙ ap (λ (q : PortValue). still (record q { holdings = record q.holdings { typed = resumed_newest ∷ q.holdings.typed; works = shed_all q.holdings.works } })) came_in
+        ∙ ap (λ ws. still (record r.from { holdings = record r.from.holdings { typed = resumed_newest ∷ r.from.holdings.typed; works = ws } })) (changed_behind f (λ (e : Work). record e { recorded = i; unsettled = None }) new r.from.holdings.works other)
 
     shed_held : 0 < typed_to g w.holdings.typed
-    shed_held = subst (λ xs. 0 < typed_to g xs) (sym (ap (λ (q : PortValue). q.holdings.typed) resumed_shed)) (typed_held g newest r.from.holdings.typed refl)
+    shed_held = subst (λ xs. 0 < typed_to g xs) (sym (ap (λ (q : PortValue). q.holdings.typed) resumed_shed)) (typed_held g resumed_newest r.from.holdings.typed refl)
 
     pub shed_here : work_on g w.holdings.works ≡ Some new
     shed_here = work_here g new (shed_all r.from.holdings.works) w.holdings.works refl (ap (λ (q : PortValue). q.holdings.works) resumed_shed)
@@ -135,9 +175,21 @@ module _ (b v : PortValue) (f i : ℕ) (t : PageType) (word g : ℕ) (want : Pag
           machine = subst (λ (p : Post). IsMachine p.machine) (sym (ap (λ (q : PortValue). q.post) resumed_shed ∙ sym (ap (λ (q : PortValue). q.post) came_in))) m.machine;
         }
 
-    -- ---- a table
-    pub resumed_opens : (mark : _) (p : _) (y : ℕ) → Moves v w p Load kinds.Look mark y → is_table want ≡ true → Reopens b w f i t g k.progress false
-    resumed_opens mark p y step table =
+    -- what brought the typed reference does not say that its frame is live
+    newest_since : (mark : _) (p : _) (y : ℕ) → Moves v w p Load kinds.Look mark y → (h : TypedReference) (others : List TypedReference) → w.holdings.typed ≡ h ∷ others → IsSince (length w.holdings.steps) h.live
+    newest_since mark p y step h others at =
+        let two = moves_longer v w p Load kinds.Look mark y step in
+        let late : length v.holdings.steps ≤ length w.holdings.steps = omega (arith, two) in
+        let both : resumed_newest ∷ r.from.holdings.typed ≡ h ∷ others = sym (ap (λ (q : PortValue). q.holdings.typed) resumed_shed) ∙ at in
+        let same : resumed_newest ≡ h = cc in
+        let unsure = ap (λ b. surely b v.holdings) (still_unsettled p y mark step) in
+        subst (λ (e : TypedReference). IsSince (length w.holdings.steps) e.live) same (subst (IsSince (length w.holdings.steps)) (sym unsure) late)
+
+    -- ---- a table of which entries are recorded
+    pub resumed_opens : (mark : _) (p : _) (y : ℕ) → Moves v w p Load kinds.Look mark y → has_recorded want k ≡ true → Reopens b w f i t g k.progress false
+    resumed_opens mark p y step opened =
+        let table = recorded_table want k opened in
+        let some = recorded_some want k opened in
         let is = asks_below t i word g want r.sees.sees.asks in
         let one = moves_longer r.from v _ _ _ _ _ r.step in
         let two = moves_longer v w p Load kinds.Look mark y step in
@@ -152,24 +204,26 @@ module _ (b v : PortValue) (f i : ℕ) (t : PageType) (word g : ℕ) (want : Pag
           table = subst (λ x. IsTrue (is_table x)) is table;
           closing_is = work_alone (kind_fields new.word) new_in_work;
           in_work = λ off. new_in_work;
-          unmarked = λ some. ap (λ (x : KindWord). x.unflushed) new_fields ∙ no_mark k.unflushed refl some;
+          unmarked = ap (λ (x : KindWord). x.unflushed) new_fields ∙ no_mark k.unflushed refl some;
           recorded_is = refl;
+          some = some;
           few = omega (arith, low);
-          settled = λ none. rw (when_eq k.progress 0 none) refl;
+          settled = λ on. absurd cc;
           earlier = omega (arith, one, two);
-          after = record (shed_once f i word b.holdings) { typed = newest ∷ b.holdings.typed; works = new ∷ (shed_once f i word b.holdings).works };
-          holding = record { untyped = λ on. absurd cc; typed = λ off. (newest, refl, ap (λ x. Some x) is, refl) };
-          hand = hand_behind b r.from f i t word g want r.found r.sees w (λ rs. rs) (λ ys. newest ∷ ys) (λ ws. new ∷ shed_all ws) resumed_shed;
+          since = λ off h others at. newest_since mark p y step h others at;
+          after = record (shed_once f i word b.holdings) { typed = resumed_newest ∷ b.holdings.typed; works = new ∷ (shed_once f i word b.holdings).works };
+          holding = record { untyped = λ on. absurd cc; typed = λ off. (resumed_newest, refl, ap (λ x. Some x) is, refl) };
+          hand = hand_behind b r.from f i t word g want r.found r.sees w (λ rs. rs) (λ ys. resumed_newest ∷ ys) (λ ws. new ∷ shed_all ws) resumed_shed;
         }
       where
         no_mark : (u : Bool) → k.unflushed ≡ u → 0 < k.progress → k.unflushed ≡ false
         no_mark false at some = at
         no_mark true at some = let none = form.marked at in absurd (omega (arith, none, some))
 
-    -- ---- ordinary memory, which waits for a flush
-    module _ (plain : is_table want ≡ false) (clock : ℕ) (step : Moves v w Clock Load kinds.Look (Some (Shed f i)) clock) where
-      page : (k.progress ≡ 0) × (k.unflushed ≡ true)
-      page = form.page (ap is_table kind_is ∙ plain)
+    -- ---- nothing of it is recorded: it is left dead, with its mark as it was
+    module _ (shut : has_recorded want k ≡ false) (clock : ℕ) (step : Moves v w Clock Load kinds.Look (Some (Shed f i)) clock) where
+      none : k.progress ≡ 0
+      none = recorded_none want k shut (λ plain. (form.page (ap is_table kind_is ∙ plain)).0)
 
       small : clock < 2 ^ 36
       small = clock_is_small v.post.machine v.post.vcpu v.holdings clock step.finds
@@ -184,19 +238,19 @@ module _ (b v : PortValue) (f i : ℕ) (t : PageType) (word g : ℕ) (want : Pag
           subst (λ (q : Post). IsTrue (some_since (sizes_of q.machine) new.since Clock (λ y. y == clock) w.holdings.steps)) (sym (ap (λ (q : PortValue). q.post) resumed_shed ∙ sym (ap (λ (q : PortValue). q.post) came_in)))
           (moves_since v w Clock Load kinds.Look (Some (Shed f i)) clock step new.since (λ y. y == clock) (omega (arith, one)) (when_eq clock clock refl))
 
-      pub dead_may : MayLeave w g (dead_kind want true clock)
+      pub dead_may : MayLeave w g (dead_kind want k.unflushed clock)
       dead_may =
-          may_leave_dead w g want new shed_here wanted true clock (ap (λ (x : KindWord). x.kind) new_fields ∙ kind_is) page.0 (inl (sym (ap (λ (x : KindWord). x.unflushed) new_fields ∙ page.1))) small clock_found (λ work. shed_held)
+          may_leave_dead w g want new shed_here wanted k.unflushed clock (ap (λ (x : KindWord). x.kind) new_fields ∙ kind_is) none (inl (sym (ap (λ (x : KindWord). x.unflushed) new_fields))) small clock_found (λ work. shed_held)
 
       abbrev dead_ref : Reference
       dead_ref = record { frame = g; owner = typed_owner g w.holdings }
 
-      module _ (d : PortValue) (dead : Holds w d (left w g (dead_kind want true clock))) where
+      module _ (d : PortValue) (dead : Holds w d (left w g (dead_kind want k.unflushed clock))) where
         dead_hand : Holds r.from d (record r.from.holdings { refs = dead_ref ∷ r.from.holdings.refs; works = shed_all r.from.holdings.works })
         dead_hand =
-            dead ∙ ap (λ (h : Holdings). still (record w { holdings = h })) (left_dead w g want new shed_here wanted true clock small new_in_work)
+            dead ∙ ap (λ (h : Holdings). still (record w { holdings = h })) (left_dead w g want new shed_here wanted k.unflushed clock small new_in_work)
             ∙ ap (λ (q : PortValue). still (record q { holdings = record q.holdings { refs = dead_ref ∷ q.holdings.refs; typed = without_typed g q.holdings.typed; works = without_work g q.holdings.works } })) resumed_shed
-            ∙ ap (λ xs. still (record r.from { holdings = record r.from.holdings { refs = dead_ref ∷ r.from.holdings.refs; typed = xs; works = without_work g (new ∷ shed_all r.from.holdings.works) } })) (without_newest (λ (e : TypedReference). e.frame) g newest r.from.holdings.typed refl)
+            ∙ ap (λ xs. still (record r.from { holdings = record r.from.holdings { refs = dead_ref ∷ r.from.holdings.refs; typed = xs; works = without_work g (new ∷ shed_all r.from.holdings.works) } })) (without_newest (λ (e : TypedReference). e.frame) g resumed_newest r.from.holdings.typed refl)
             ∙ ap (λ ws. still (record r.from { holdings = record r.from.holdings { refs = dead_ref ∷ r.from.holdings.refs; works = ws } })) (without_newest (λ (e : Work). e.frame) g new (shed_all r.from.holdings.works) refl)
 
         pub dead_gives : MayPut g d.holdings

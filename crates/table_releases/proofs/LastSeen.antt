@@ -30,6 +30,7 @@ pub record SeenLast (f i : ℕ) (t : PageType) (word : ℕ) (h : Holdings) : Typ
   pub unmarked : (kind_fields work.word).unflushed ≡ false
   pub last : work.recorded ≡ i + 1
   pub seen : work.seen ≡ Some (record { index = i; word = word })
+  pub loaded : (u : Unsettled) → work.unsettled ≡ Some u → u.word ≡ Some word
 
 -- it may be shed
 abbrev pub seen_sheds : (f i : ℕ) (t : PageType) (word : ℕ) (h : Holdings) → SeenLast f i t word h → ShedsLast f i h

@@ -1,21 +1,24 @@
 -- The look at the last recorded entry, and the hand once that is shed.
-use Rattle.std.proofs.Common.{◌≡◌, ℕ, ◌<◌, is_none, Bool, true, false, ◌∷◌, Some, None, refl, ap, ◌∙◌}
+use Rattle.std.proofs.Common.{◌≡◌, ℕ, ◌+◌, ◌<◌, if◌then◌else◌, Bool, true, false, ◌∷◌, Option, Some, None, refl, sym, ap, ◌∙◌}
 use Rattle.xp_words.specs.Entries.{demand_at}
 use Rattle.xp_words.specs.KindWords.{kind_fields}
 use Rattle.xp_words.specs.declared.entry.Demand.{Demand}
 use Rattle.xp_words.specs.declared.entry.Demand.TheVariants.{Bad, Nothing, Read, Typed}
 use Rattle.xp_words.specs.declared.kind.PageType.{PageType}
 use Rattle.xp_words.specs.declared.place.Place.TheVariants.{Cell}
+use Rattle.xp_words.specs.Places.{sizes_of}
 use Rattle.xp_board.specs.declared.holdings.Holdings.{Holdings}
+use Rattle.xp_board.specs.declared.holdings.Unsettled.{Unsettled}
 use Rattle.xp_board.specs.declared.holdings.Work.{Work}
-use Rattle.xp_board.specs.After.{learned_work}
+use Rattle.xp_board.specs.After.{learned_last, learned_work}
 use Rattle.xp_board.specs.Hands.{brought, brought_as, changed_work, work_on}
 use Rattle.xp_board.specs.Recorded.{entry_demand}
-use Rattle.xp_board.specs.Settling.{demand_in}
+use Rattle.xp_board.specs.Settling.{demand_in, is_settled}
 use Rattle.xp_board.specs.Told.{PortValue}
 use Rattle.board_lemmas.proofs.Learned.{learned_frame}
 use Rattle.board_lemmas.proofs.ListChanges.{first_by-changed_here}
 use Rattle.board_lemmas.proofs.ListCounts.{first_by-cons_here}
+use Rattle.board_lemmas.proofs.Sums.{when_eq}
 use Rattle.board_lemmas.proofs.WorkFacts.{work_word, works_facts}
 use Rattle.step_maker.specs.Holds.{Holds, still}
 use Rattle.table_words.specs.Entries.{entry_shed}
@@ -24,6 +27,14 @@ use Rattle.table_entries.specs.Tops.{with_recorded}
 use Rattle.table_entries.proofs.HandReady.{learned_word, unmarked_learns}
 use Rattle.table_releases.specs.Between.{SeesLast}
 use Rattle.table_releases.proofs.LastSeen.{SeenLast, finds_inside, finds_plain, seen_sheds}
+
+-- the last recorded entry, once it was looked at
+pub last_loaded : (i n w : ℕ) (o : Option Unsettled) → i + 1 ≡ n → (u : Unsettled) → learned_last i n w o ≡ Some u → u.word ≡ Some w
+last_loaded i n w None is u at = absurd cc
+last_loaded i n w (Some q) is u at =
+    let same : Some (record q { word = Some w }) ≡ Some u = sym (ap (λ b. if b then Some (record q { word = Some w }) else Some q) (when_eq (i + 1) n is)) ∙ at in
+    let whole : record q { word = Some w } ≡ u = cc in
+    sym (ap (λ (y : Unsettled). y.word) whole)
 
 module _ (b v : PortValue) (f i : ℕ) (t : PageType) (word : ℕ) (l : SeesLast b v f i t word) where
   pub top_here : work_on f b.holdings.works ≡ Some l.works.top
@@ -58,16 +69,21 @@ module _ (b v : PortValue) (f i : ℕ) (t : PageType) (word : ℕ) (l : SeesLast
         unmarked = ap (λ w. (kind_fields w).unflushed) (learned_word i word l.works.top) ∙ l.works.unmarked;
         last = ap (λ (y : Work). y.recorded) learns ∙ l.works.recorded;
         seen = ap (λ (y : Work). y.seen) learns;
+        loaded = λ u at. last_loaded i l.works.top.recorded word l.works.top.unsettled (sym l.works.recorded) u (sym (ap (λ (y : Work). y.unsettled) learns) ∙ at);
       }
 
 -- ---- shed
-module _ (v w : PortValue) (f i : ℕ) (t : PageType) (word : ℕ) (l : SeenLast f i t word v.holdings) (shed : Holds v w (entry_shed f i v.holdings)) where
+module _ (v w : PortValue) (f i : ℕ) (t : PageType) (word : ℕ) (l : SeenLast f i t word v.holdings) (shed : Holds v w (entry_shed v.post.machine f i v.holdings)) where
+  -- whether its frame is known live
+  abbrev pub shed_sure : Bool
+  shed_sure = is_settled (sizes_of v.post.machine) v.holdings l.work
+
   abbrev shed_by : Demand → Holdings
-  shed_by d = record (demand_in (is_none l.work.unsettled) d v.holdings) { works = changed_work f (λ x. record x { recorded = i; unsettled = None }) v.holdings.works }
+  shed_by d = record (demand_in shed_sure d v.holdings) { works = changed_work f (λ x. record x { recorded = i; unsettled = None }) v.holdings.works }
 
   shed_hand : (d : Demand) → demand_at t i word ≡ d → Holds v w (shed_by d)
   shed_hand d asks =
-      shed ∙ ap (λ (h : Holdings). still (record v { holdings = h })) (shed_left f i v.holdings (seen_sheds f i t word v.holdings l))
+      shed ∙ ap (λ (h : Holdings). still (record v { holdings = h })) (shed_left v.post.machine f i v.holdings (seen_sheds f i t word v.holdings l))
       ∙ ap (λ k. still (record v { holdings = shed_by (demand_at k i word) })) l.kind
       ∙ ap (λ k. still (record v { holdings = shed_by k })) asks
 
@@ -81,8 +97,8 @@ module _ (v w : PortValue) (f i : ℕ) (t : PageType) (word : ℕ) (l : SeenLast
   shed_plain g asks = shed_hand (Read g) asks
 
   pub shed_typed : (g : ℕ) (want : PageType) → demand_at t i word ≡ Typed g want →
-      Holds v w (record (with_recorded f i None v.holdings) { typed = brought_as (is_none l.work.unsettled) g want v.holdings ∷ v.holdings.typed })
-  shed_typed g want asks = shed_hand (Typed g want) asks ∙ by_sure (is_none l.work.unsettled)
+      Holds v w (record (with_recorded f i None v.holdings) { typed = brought_as shed_sure g want v.holdings ∷ v.holdings.typed })
+  shed_typed g want asks = shed_hand (Typed g want) asks ∙ by_sure shed_sure
     where
       by_sure : (sure : Bool) → still (record v { holdings = record (demand_in sure (Typed g want) v.holdings) { works = changed_work f (λ x. record x { recorded = i; unsettled = None }) v.holdings.works } })
           ≡ still (record v { holdings = record (with_recorded f i None v.holdings) { typed = brought_as sure g want v.holdings ∷ v.holdings.typed } })

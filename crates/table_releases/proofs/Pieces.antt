@@ -6,7 +6,7 @@ use Rattle.xp_words.specs.PageTypes.{is_table}
 use Rattle.xp_words.specs.declared.entry.Demand.TheVariants as demands
 use Rattle.xp_words.specs.declared.kind.PageType.{PageType}
 use Rattle.xp_words.specs.declared.place.Place.{Place}
-use Rattle.xp_words.specs.declared.place.Place.TheVariants.{Cell, Clock, Kind, Refs}
+use Rattle.xp_words.specs.declared.place.Place.TheVariants.{Cell, Clock, Refs}
 use Rattle.xp_board.specs.declared.holdings.Holdings.{Holdings}
 use Rattle.xp_board.specs.declared.holdings.Work.{Work}
 use Rattle.xp_board.specs.declared.step.Act.{Act}
@@ -15,15 +15,16 @@ use Rattle.xp_board.specs.declared.step.Mark.TheVariants.{Shed}
 use Rattle.xp_board.specs.declared.step.StepKind.TheVariants as kinds
 use Rattle.xp_board.specs.Hands.{lock_on, work_on}
 use Rattle.xp_board.specs.Told.{PortValue}
-use Rattle.step_maker.specs.Moves.{Met, Moves}
-use Rattle.step_maker.proofs.Coming.{moment_of, moves_met}
+use Rattle.step_maker.specs.Moves.{Came, Met, Moves}
+use Rattle.step_maker.proofs.Coming.{met_after, met_before, moment_of, moves_met}
 use Rattle.answer_fits.specs.Answers.{Deed, Serves}
 use Rattle.answer_fits.specs.Asked.{Asked, IsDemandOf, Passed, demand_by, demand_held, demanded, entry_owner, stands}
 use Rattle.answer_fits.specs.Finding.{Finding, FoundWith}
+use Rattle.answer_fits.specs.Pauses.{Progress, entry}
 use Rattle.answer_fits.proofs.Piecing.{moves_serves, serves_step}
 use Rattle.table_entries.specs.Asking.{of_entries}
 use Rattle.table_entries.proofs.PiecesLooking.{looks_step, looks_then}
-use Rattle.table_entries.proofs.PiecesTaking.{Goes}
+use Rattle.table_entries.proofs.PiecesTaking.{Goes, goes_came}
 use Rattle.table_releases.specs.Between.{SeesLast}
 use Rattle.table_releases.proofs.LastSeen.{SeenLast}
 use Rattle.table_releases.proofs.Looking.{top_here}
@@ -40,15 +41,17 @@ module _ (b v w : PortValue) (f i owner pages : ℕ) (ds : List Deed) (goes : Go
       goes_step b v w f i owner pages ds Clock Load kinds.Look (Some (Shed g upto)) found ds goes m (λ h j at. let same = at in cc)
       (serves_step b v w (of_entries owner pages) ds Clock Load kinds.Look (Some (Shed g upto)) found goes.serves m tt)
 
-  pub goes_shed_kind : (k : ℕ) → Moves v w (Kind k) Load kinds.Look (Some (Shed g upto)) found → Goes b w f i owner pages ds
-  goes_shed_kind k m =
-      goes_step b v w f i owner pages ds (Kind k) Load kinds.Look (Some (Shed g upto)) found ds goes m (λ h j at. let same = at in cc)
-      (serves_step b v w (of_entries owner pages) ds (Kind k) Load kinds.Look (Some (Shed g upto)) found goes.serves m tt)
-
   pub goes_shed_refs : (k : ℕ) → Moves v w (Refs k) Load kinds.Look (Some (Shed g upto)) found → Goes b w f i owner pages ds
   goes_shed_refs k m =
       goes_step b v w f i owner pages ds (Refs k) Load kinds.Look (Some (Shed g upto)) found ds goes m (λ h j at. let same = at in cc)
       (serves_step b v w (of_entries owner pages) ds (Refs k) Load kinds.Look (Some (Shed g upto)) found goes.serves m tt)
+
+-- the step that shed the entry
+module _ (b v w : PortValue) (f i owner pages : ℕ) (ds : List Deed) (goes : Goes b v f i owner pages ds) where
+  pub shed_shows : (p : Place) (g upto found : ℕ) → Moves v w p Load kinds.Look (Some (Shed g upto)) found → (z : PortValue) → Came w z → Progress (Met b z)
+  unfolding moment_of
+  shed_shows p g upto found m z came =
+      entry (moment_of v p Load kinds.Look (Some (Shed g upto)) found) (met_before b w z _ (met_after b v w _ (goes_came b v f i owner pages ds goes) (moves_met v w p Load kinds.Look (Some (Shed g upto)) found m)) came) refl
 
 -- ---- what the entry asks, in a hand where the table is in the own works
 held_by_work : (f i w : ℕ) (t : PageType) (h : Holdings) (e : Work) → work_on f h.works ≡ Some e → (kind_fields e.word).kind ≡ t → (kind_fields e.word).unflushed ≡ false → IsTrue (is_table t) → demand_held f i w h ≡ Some (demand_at t i w)

@@ -1,7 +1,6 @@
 -- Behind the exchange that brought a partial frame into the own works: the steps.
-use Rattle.std.proofs.Common.{◌≡◌, ℕ, ◌&&◌, not, Bool, true, false, List, [], Some, None, IsTrue, Ok, refl, sym, ap, ◌∙◌, subst}
+use Rattle.std.proofs.Common.{◌≡◌, ℕ, ◌<◌, ◌&&◌, not, Bool, true, false, List, [], Some, None, IsTrue, Ok, refl, sym, ap, ◌∙◌, subst}
 use Rattle.xp_words.specs.KindWords.{is_kind, kind_fields, kind_write}
-use Rattle.xp_words.specs.PageTypes.{is_table}
 use Rattle.xp_words.specs.declared.kind.KindWord.{KindWord}
 use Rattle.xp_words.specs.declared.kind.PageType.{PageType}
 use Rattle.xp_words.specs.declared.place.Place.TheVariants.{Clock, Kind, Refs}
@@ -15,10 +14,11 @@ use Rattle.xp_board.specs.Readings.{is_dead, is_type, is_work}
 use Rattle.xp_board.specs.Told.{PortValue}
 use Rattle.board_lemmas.proofs.KindForms.{fields_of}
 use Rattle.step_maker.specs.Moves.{Came, Met, Moves}
-use Rattle.step_maker.proofs.Coming.{came_trans, moves_came}
+use Rattle.step_maker.proofs.Coming.{came_self, came_trans, moves_came}
 use Rattle.answer_fits.specs.Answers.{Serves}
 use Rattle.answer_fits.specs.Asked.{Asked, of, of_back}
-use Rattle.answer_fits.proofs.Piecing.{serves_step}
+use Rattle.answer_fits.proofs.Piecing.{serves_came, serves_step}
+use Rattle.answer_fits.specs.Pauses.{Progress}
 use Rattle.answer_fits.specs.Visits.{Visit, Does, Only, Then, visit}
 use Rattle.answer_fits.proofs.Visiting.{does_as, does_one, does_then}
 use Rattle.frame_types.specs.Found.{StoresKind, swaps_kind}
@@ -30,13 +30,15 @@ use Rattle.kind_words.proofs.KindWriting.{fields_write}
 use Rattle.table_entries.specs.Asking.{of_entries}
 use Rattle.table_entries.proofs.PiecesTaking.{Goes, asks_still, goes_back}
 use Rattle.table_releases.specs.Between.{Releases, Resumed}
-use Rattle.table_releases.specs.Found.{ComesBy, ReleasesFound}
+use Rattle.table_releases.specs.Found.{ComesBy, DiesShed, ReleasesFound, has_recorded}
+use Rattle.table_releases.specs.Tops.{ShowsReleased}
 use Rattle.table_releases.specs.declared.entries.Released.{Released}
 use Rattle.table_releases.specs.declared.entries.Released.TheVariants.{Given, Opened}
 use Rattle.table_releases.proofs.FrameSeen.{form_partial_is}
 use Rattle.table_releases.proofs.Finding.{kind_found, sheds, swaps}
-use Rattle.table_releases.proofs.Pieces.{goes_shed, goes_shed_refs, goes_step}
-use Rattle.table_releases.proofs.PiecesTyped.{kind_asks, kind_goes, resumed_goes}
+use Rattle.table_releases.proofs.Recording.{recorded_some}
+use Rattle.table_releases.proofs.Pieces.{goes_shed, goes_shed_refs, goes_step, shed_shows}
+use Rattle.table_releases.proofs.PiecesTyped.{IsOf, kind_asks, kind_goes, resumed_goes, typed_shows}
 use Rattle.frame_types.proofs.Serving.{work_alive}
 use Rattle.xp_board.proofs.Returned.{same_type}
 
@@ -53,14 +55,26 @@ module _ (b v : PortValue) (f i : ℕ) (t : PageType) (word g : ℕ) (want : Pag
         asks_still b r.from f i owner pages [] (kind_goes b r.from f i t word g want r.found r.sees owner pages) w g (Some want) (kind_asks b r.from f i t word g want r.found r.sees owner pages)
         (came_trans r.from v w (moves_came r.from v (Kind g) _ kinds.Kind None (kind_write k) r.step) came)
 
-    -- a table
-    pub table_releases : (w : PortValue) (y : ℕ) (a : Released) → Moves v w (Refs g) Load kinds.Look (Some (Shed f i)) y → Releases b w f i owner pages (Ok a)
-    table_releases w y a step = let goes = goes_shed_refs b v w f i owner pages [] in_goes f i y g step in record { serves = goes.serves; stops = tt; kinds = tt; looks = goes.looks }
+    in_shows : (z : PortValue) (a : Released) → IsOf g a → Progress (Met b z) → Came v z → ShowsReleased b z owner pages t a
+    in_shows z a is progress came =
+        typed_shows b r.from f i t word g want r.found r.sees owner pages z a is progress (came_trans r.from v z (moves_came r.from v (Kind g) _ kinds.Kind None (kind_write k) r.step) came)
 
-    -- ordinary memory
-    pub memory_releases : (w d z : PortValue) (clock x : ℕ) (l : KindWord) (e : Work) (a : Released) → Moves v w Clock Load kinds.Look (Some (Shed f i)) clock → Moves w d (Kind g) (Store (kind_write l)) kinds.Kind None x → work_on g w.holdings.works ≡ Some e →
-        IsTrue (is_work (kind_fields e.word)) → (kind_fields e.word).kind ≡ want → IsTrue (is_kind l) → l.kind ≡ want → Serves d z (of_back g) [] → Releases b z f i owner pages (Ok a)
-    memory_releases w d z clock x l e a shed store here work kind is type back =
+    -- a table of which entries are recorded
+    pub table_releases : (w : PortValue) (y : ℕ) → Moves v w (Refs g) Load kinds.Look (Some (Shed f i)) y → Releases b w f i t owner pages (Ok (Opened g k.progress false))
+    table_releases w y step =
+        let goes = goes_shed_refs b v w f i owner pages [] in_goes f i y g step in
+        record {
+          serves = goes.serves;
+          stops = tt;
+          kinds = tt;
+          shows = in_shows w (Opened g k.progress false) refl (shed_shows b v w f i owner pages [] in_goes (Refs g) f i y step w (came_self w)) (moves_came v w (Refs g) Load kinds.Look (Some (Shed f i)) y step);
+          looks = goes.looks;
+        }
+
+    -- a frame of which none are
+    pub dead_releases : (w d z : PortValue) (clock x : ℕ) (l : KindWord) (e : Work) → Moves v w Clock Load kinds.Look (Some (Shed f i)) clock → Moves w d (Kind g) (Store (kind_write l)) kinds.Kind None x → work_on g w.holdings.works ≡ Some e →
+        IsTrue (is_work (kind_fields e.word)) → (kind_fields e.word).kind ≡ want → IsTrue (is_kind l) → l.kind ≡ want → Serves d z (of_back g) [] → Releases b z f i t owner pages (Ok Given)
+    dead_releases w d z clock x l e shed store here work kind is type back =
         let one = goes_shed b v w f i owner pages [] in_goes f i clock shed in
         let came = moves_came v w Clock Load kinds.Look (Some (Shed f i)) clock shed in
         let left = moves_came w d (Kind g) (Store (kind_write l)) kinds.Kind None x store in
@@ -71,29 +85,40 @@ module _ (b v : PortValue) (f i : ℕ) (t : PageType) (word g : ℕ) (want : Pag
         (of owner (Some want) (in_asks d (came_trans v w d came left)), kept_type x (kind_write l) (kind_fields e.word) l (ap (λ y. kind_fields y) same) (fields_write l is) (type ∙ sym kind) (work_alive (kind_fields e.word) work)))
         in
         let goes = goes_back b d f i owner pages [] two z g (Some want) (in_asks d (came_trans v w d came left)) back in
-        record { serves = goes.serves; stops = tt; kinds = tt; looks = goes.looks }
+        let last = came_trans w d z left (serves_came d z (of_back g) [] back) in
+        record {
+          serves = goes.serves;
+          stops = tt;
+          kinds = tt;
+          shows = in_shows z Given tt (shed_shows b v w f i owner pages [] in_goes Clock f i clock shed z last) (came_trans v w z came last);
+          looks = goes.looks;
+        }
 
   -- ---- the steps
-  partial_found : (z : PortValue) (a : Released) (table : Bool) → is_table want ≡ table → Does v z (λ cs. ComesBy f i g want r.found (Ok a) table cs) → ReleasesFound b z f i t (Ok a)
-  partial_found z a table is way =
+  found_recorded : has_recorded want (kind_fields r.found) ≡ has_recorded want k
+  found_recorded = ap (λ x. has_recorded want x) (fields_of r.found k r.read)
+
+  partial_found : (z : PortValue) (a : Released) (opened : Bool) → has_recorded want k ≡ opened → Does v z (λ cs. ComesBy f i g want r.found (Ok a) opened cs) → ReleasesFound b z f i t (Ok a)
+  partial_found z a opened is way =
       let came : ℕ → Visit = swaps_kind g r.found (resumed_kind (kind_fields r.found)) in
       kind_found b r.from f i t word g want r.found r.sees z (Ok a) Partial (form_partial_is r.found k r.read r.partial)
-      (does_then r.from v z (Only (came r.found)) (λ cs. ComesBy f i g want r.found (Ok a) (is_table want) cs)
+      (does_then r.from v z (Only (came r.found)) (λ cs. ComesBy f i g want r.found (Ok a) (has_recorded want (kind_fields r.found)) cs)
       (subst (λ y. Does r.from v (Only (came y))) (sym (read_is r.found k r.read).1) (swaps r.from v g r.found k (kind_write k) r.read r.step))
-      (subst (λ c. Does v z (λ cs. ComesBy f i g want r.found (Ok a) c cs)) (sym is) way))
+      (subst (λ c. Does v z (λ cs. ComesBy f i g want r.found (Ok a) c cs)) (sym (found_recorded ∙ is)) way))
 
-  pub table_found : (w : PortValue) (y : ℕ) → Moves v w (Refs g) Load kinds.Look (Some (Shed f i)) y → is_table want ≡ true → ReleasesFound b w f i t (Ok (Opened g k.progress false))
-  table_found w y step table =
-      partial_found w (Opened g k.progress false) true table
+  pub table_found : (w : PortValue) (y : ℕ) → Moves v w (Refs g) Load kinds.Look (Some (Shed f i)) y → has_recorded want k ≡ true → ReleasesFound b w f i t (Ok (Opened g k.progress false))
+  table_found w y step opened =
+      partial_found w (Opened g k.progress false) true opened
       (does_as v w (ShedsAt (Refs g) f i) (λ cs. ComesBy f i g want r.found (Ok (Opened g k.progress false)) true cs)
-      (λ vs one. (ap (λ (x : KindWord). Ok (Opened g x.progress false)) (sym (fields_of r.found k r.read)), one)) (sheds v w (Refs g) f i y step))
+      (λ vs one. (ap (λ (x : KindWord). Ok (Opened g x.progress false)) (sym (fields_of r.found k r.read)), subst (λ (x : KindWord). 0 < x.progress) (sym (fields_of r.found k r.read)) (recorded_some want k opened), one)) (sheds v w (Refs g) f i y step))
 
-  pub memory_found : (w d z : PortValue) (clock x : ℕ) → Moves v w Clock Load kinds.Look (Some (Shed f i)) clock → Moves w d (Kind g) (Store (kind_write (dead_kind want true clock))) kinds.Kind None x → Puts d z g → is_table want ≡ false →
+  pub dead_found : (w d z : PortValue) (clock x : ℕ) → Moves v w Clock Load kinds.Look (Some (Shed f i)) clock → Moves w d (Kind g) (Store (kind_write (dead_kind want k.unflushed clock))) kinds.Kind None x → Puts d z g → has_recorded want k ≡ false →
       ReleasesFound b z f i t (Ok Given)
-  memory_found w d z clock x shed store puts plain =
-      let dead : List Visit → Type 0 = StoresKind g (dead_kind want true clock) in
-      partial_found z Given false plain
-      (does_as v z (Then (Only (sheds_at Clock f i clock)) (Then dead (PutBy g))) (λ cs. ComesBy f i g want r.found (Ok Given) false cs) (λ vs steps. (refl, (clock, steps)))
+  dead_found w d z clock x shed store puts shut =
+      let dead : List Visit → Type 0 = StoresKind g (dead_kind want k.unflushed clock) in
+      let mark : k.unflushed ≡ (kind_fields r.found).unflushed = ap (λ (y : KindWord). y.unflushed) (sym (fields_of r.found k r.read)) in
+      partial_found z Given false shut
+      (does_as v z (Then (Only (sheds_at Clock f i clock)) (Then dead (PutBy g))) (λ cs. ComesBy f i g want r.found (Ok Given) false cs) (λ vs steps. (refl, subst (λ u. DiesShed f i g want u vs) mark (clock, steps)))
       (does_then v w z (Only (sheds_at Clock f i clock)) (Then dead (PutBy g)) (does_one v w Clock Load kinds.Look (Some (Shed f i)) clock shed)
       (does_then w d z dead (PutBy g)
-      (does_as w d (Only (visit (Kind g) (Store (kind_write (dead_kind want true clock))) x)) dead (λ vs one. (x, one)) (does_one w d (Kind g) (Store (kind_write (dead_kind want true clock))) kinds.Kind None x store)) puts)))
+      (does_as w d (Only (visit (Kind g) (Store (kind_write (dead_kind want k.unflushed clock))) x)) dead (λ vs one. (x, one)) (does_one w d (Kind g) (Store (kind_write (dead_kind want k.unflushed clock))) kinds.Kind None x store)) puts)))

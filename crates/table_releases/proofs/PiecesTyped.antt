@@ -5,7 +5,7 @@ use Rattle.xp_words.specs.Places.{is_place, number, place_at, sizes_of}
 use Rattle.xp_words.proofs.PlaceLaws.{place_back}
 use Rattle.xp_words.specs.declared.kind.KindWord.{KindWord}
 use Rattle.xp_words.specs.declared.kind.PageType.{PageType}
-use Rattle.xp_words.specs.declared.place.Place.TheVariants.{Kind}
+use Rattle.xp_words.specs.declared.place.Place.TheVariants.{Kind, Refs}
 use Rattle.xp_words.specs.declared.reply.Pause.TheVariants.{Busy, Lost}
 use Rattle.xp_words.specs.declared.reply.Stop.TheVariants.{Paused}
 use Rattle.xp_board.specs.declared.step.Act.TheVariants.{Cas, Load}
@@ -24,16 +24,25 @@ use Rattle.answer_fits.specs.Answers.{Misses, Serves, Stops, deeds_by, exchanged
 use Rattle.answer_fits.specs.Asked.{Asked, of_back}
 use Rattle.answer_fits.specs.Finding.{FoundWith}
 use Rattle.answer_fits.specs.Reasons.{MayType}
-use Rattle.answer_fits.proofs.Piecing.{serves_step, serves_then}
+use Rattle.answer_fits.proofs.Piecing.{serves_came, serves_step, serves_then}
 use Rattle.kind_words.proofs.KindFacts.{read_is}
 use Rattle.kind_words.proofs.KindWriting.{fields_write, resumed_is}
 use Rattle.flush_words.proofs.Lasting.{last_left}
-use Rattle.table_entries.specs.Asking.{of_entries}
+use Rattle.answer_fits.specs.Pauses.{Progress}
+use Rattle.table_entries.specs.Asking.{AsksBelow, of_entries}
+use Rattle.table_entries.proofs.HandLists.{asks_below}
 use Rattle.table_entries.proofs.PiecesTaking.{Goes, asks_still, goes_back, goes_came, goes_kind}
 use Rattle.table_releases.specs.Between.{Releases, SeesKind}
+use Rattle.table_releases.specs.Tops.{ShowsReleased}
 use Rattle.table_releases.specs.declared.entries.Released.{Released}
+use Rattle.table_releases.specs.declared.entries.Released.TheVariants.{Given, Opened}
 use Rattle.table_releases.proofs.FrameSeen.{found_elsewhere, found_kind, found_work, from_seen, kind_post, now_seen}
-use Rattle.table_releases.proofs.Pieces.{asks_typed, goes_shed_kind, goes_step, look_goes, passed_by}
+use Rattle.table_releases.proofs.Pieces.{asks_typed, goes_shed_refs, goes_step, look_goes, passed_by, shed_shows}
+
+-- a frame that is opened is that one
+abbrev pub IsOf : ℕ → Released → Type 0
+IsOf g Given = Unit {0}
+IsOf g (Opened h recorded closing) = h ≡ g
 
 no_pin : (f : ℕ) (p : Bool) → pin_deed f p p ≡ []
 no_pin f true = refl
@@ -52,13 +61,22 @@ module _ (b v : PortValue) (f i : ℕ) (t : PageType) (word g : ℕ) (want : Pag
   pub kind_asks : Asked b.post.machine b.post.vcpu (of_entries owner pages) (Met b v) g owner (Some want)
   kind_asks = asks_still b l.from f i owner pages [] from_goes v g (Some want) (asks_typed b l.from f i t word l.sees.sees owner pages g want l.sees.asks) look_came
 
+  -- shed, and its frame is the one that is opened
+  pub typed_shows : (z : PortValue) (a : Released) → IsOf g a → Progress (Met b z) → Came v z → ShowsReleased b z owner pages t a
+  typed_shows z Given is progress came = progress
+  typed_shows z (Opened h recorded closing) is progress came = (
+    progress,
+    subst (λ (n : ℕ). AsksBelow b z owner pages t n) (sym is)
+        (subst (λ (k : PageType). Asked b.post.machine b.post.vcpu (of_entries owner pages) (Met b z) g owner (Some k)) (asks_below t i word g want l.sees.asks) (asks_still b v f i owner pages [] kind_goes z g (Some want) kind_asks came)),
+  )
+
   found_there : FoundWith (Met b v) (Kind g) x l.from.holdings
   unfolding moment_of
   found_there =
       record { moment = moment_of l.from (Kind g) Load kinds.Look None x; was = met_after b l.from v _ (goes_came b l.from f i owner pages [] from_goes) (moves_met l.from v (Kind g) Load kinds.Look None x l.look); place = refl; word = refl; hand = refl }
 
   -- ---- another vCPU has it in its hand
-  pub busy_releases : (k : KindWord) → kind_read x ≡ Some k → k.validated ≡ false → k.partial ≡ false → Releases b v f i owner pages (Err (Paused (Busy g x)))
+  pub busy_releases : (k : KindWord) → kind_read x ≡ Some k → k.validated ≡ false → k.partial ≡ false → Releases b v f i t owner pages (Err (Paused (Busy g x)))
   unfolding Stops
   busy_releases k read off none =
       let work = found_work b v f i t word g want x l k read off none in
@@ -77,6 +95,7 @@ module _ (b v : PortValue) (f i : ℕ) (t : PageType) (word g : ℕ) (want : Pag
           found_elsewhere b v f i t word g want x l k read work,
         );
         kinds = tt;
+        shows = tt;
         looks = kind_goes.looks;
       }
 
@@ -124,7 +143,7 @@ module _ (b v : PortValue) (f i : ℕ) (t : PageType) (word g : ℕ) (want : Pag
         subst (λ (p : Post). last_since (sizes_of p.machine) (length l.from.holdings.steps) (Kind g) v.holdings.steps ≡ Some x) (ap (λ (q : PortValue). q.post) l.sees.sees.hand)
         (last_left l.from v (Kind g) Load kinds.Look None x l.look (length l.from.holdings.steps) (omega arith))
 
-    pub lost_releases : (place : ℕ) → place ≡ number (sizes_of b.post.machine) (Kind g) → found ≢ kind_write k → Releases b w f i owner pages (Err (Paused (Lost place x found)))
+    pub lost_releases : (place : ℕ) → place ≡ number (sizes_of b.post.machine) (Kind g) → found ≢ kind_write k → Releases b w f i t owner pages (Err (Paused (Lost place x found)))
     unfolding Stops moment_of
     lost_releases place at off =
         record {
@@ -151,21 +170,29 @@ module _ (b v : PortValue) (f i : ℕ) (t : PageType) (word g : ℕ) (want : Pag
             ),
           );
           kinds = tt;
+          shows = tt;
           looks = (goes_step b v w f i owner pages [] (Kind g) (Cas (kind_write k) (kind_write (resumed_kind k))) kinds.Kind None found _ kind_goes change (λ h j same. let y = same in cc) tried).looks;
         }
 
-  -- ---- it is live: shed by a look at it again, and its type count given back
-  module _ (w : PortValue) (upto y : ℕ) (look : Moves v w (Kind g) Load kinds.Look (Some (Shed f upto)) y) where
+  -- ---- it is live: shed by a look at its reference word, and its type count given back
+  module _ (w : PortValue) (upto y : ℕ) (look : Moves v w (Refs g) Load kinds.Look (Some (Shed f upto)) y) where
     live_goes : Goes b w f i owner pages []
-    live_goes = goes_shed_kind b v w f i owner pages [] kind_goes f upto y g look
+    live_goes = goes_shed_refs b v w f i owner pages [] kind_goes f upto y g look
 
     live_asks : Asked b.post.machine b.post.vcpu (of_entries owner pages) (Met b w) g owner (Some want)
-    live_asks = asks_still b v f i owner pages [] kind_goes w g (Some want) kind_asks (moves_came v w (Kind g) Load kinds.Look (Some (Shed f upto)) y look)
+    live_asks = asks_still b v f i owner pages [] kind_goes w g (Some want) kind_asks (moves_came v w (Refs g) Load kinds.Look (Some (Shed f upto)) y look)
 
-    pub back_releases : (z : PortValue) (a : Released) → Serves w z (of_back g) [] → Releases b z f i owner pages (Ok a)
-    back_releases z a back =
+    pub back_releases : (z : PortValue) (a : Released) → IsOf g a → Serves w z (of_back g) [] → Releases b z f i t owner pages (Ok a)
+    back_releases z a is back =
         let goes = goes_back b w f i owner pages [] live_goes z g (Some want) live_asks back in
-        record { serves = goes.serves; stops = tt; kinds = tt; looks = goes.looks }
+        let came = serves_came w z (of_back g) [] back in
+        record {
+          serves = goes.serves;
+          stops = tt;
+          kinds = tt;
+          shows = typed_shows z a is (shed_shows b v w f i owner pages [] kind_goes (Refs g) f upto y look z came) (came_trans v w z (moves_came v w (Refs g) Load kinds.Look (Some (Shed f upto)) y look) came);
+          looks = goes.looks;
+        }
 
-    pub two_back_releases : (z q : PortValue) (a : Released) → Serves w z (of_back g) [] → Serves z q (of_back g) [] → Releases b q f i owner pages (Ok a)
-    two_back_releases z q a one two = back_releases q a (serves_then w z q (of_back g) [] [] one two)
+    pub two_back_releases : (z q : PortValue) (a : Released) → IsOf g a → Serves w z (of_back g) [] → Serves z q (of_back g) [] → Releases b q f i t owner pages (Ok a)
+    two_back_releases z q a is one two = back_releases q a is (serves_then w z q (of_back g) [] [] one two)

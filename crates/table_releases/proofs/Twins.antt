@@ -6,7 +6,7 @@ use Rattle.xp_words.specs.PageTypes.{is_table}
 use Rattle.xp_words.specs.declared.entry.Demand.{Demand}
 use Rattle.xp_words.specs.declared.entry.Demand.TheVariants.{Bad, Nothing, Read, Typed}
 use Rattle.xp_words.specs.declared.kind.PageType.{PageType}
-use Rattle.xp_words.specs.declared.place.Place.TheVariants.{Cell, Kind}
+use Rattle.xp_words.specs.declared.place.Place.TheVariants.{Cell, Kind, Refs}
 use Rattle.xp_words.specs.declared.reply.Pause.TheVariants.{Busy}
 use Rattle.xp_words.specs.declared.reply.Stop.{Stop}
 use Rattle.xp_words.specs.declared.reply.Stop.TheVariants.{Paused}
@@ -82,12 +82,12 @@ module _ (b v : PortValue) (f i : ℕ) (t : PageType) (word g : ℕ) (want : Pag
       (ap (λ y. Err (Paused (Busy g y))) (sym (kind_told telling)), λ q j. kind_words telling j q) (ap (λ y. Err (Paused (Busy g y))) (sym (kind_told telling)), λ q j. kind_words telling j q))
 
   -- ---- live
-  module _ (live : is_live_word x ≡ true) (w : PortValue) (mark : Option Mark) (y : ℕ) (look : Moves v w (Kind g) Load kinds.Look mark y) where
+  module _ (live : is_live_word x ≡ true) (w : PortValue) (mark : Option Mark) (y : ℕ) (look : Moves v w (Refs g) Load kinds.Look mark y) where
     live_telling : is_telling b ≡ true → is_telling w ≡ true
-    live_telling telling = moves_telling v w (Kind g) Load kinds.Look mark y look ∙ kind_telling telling
+    live_telling telling = moves_telling v w (Refs g) Load kinds.Look mark y look ∙ kind_telling telling
 
     live_words : is_telling b ≡ true → told_word w ≡ told_word b
-    live_words telling = look_words v w (Kind g) mark y look (kind_telling telling) ∙ kind_words telling
+    live_words telling = look_words v w (Refs g) mark y look (kind_telling telling) ∙ kind_words telling
 
     live_twin : (z : PortValue) (answer : Result Released Stop) (table : Bool) → is_table want ≡ table → (is_telling b ≡ true → LivePlainly z (told_word b) g want answer table) → TwinRelease b z f t i answer
     live_twin z answer table is way =

@@ -1,5 +1,5 @@
 -- Between the steps of a release: what the looks found, and what is to hold at the end.
-use Rattle.std.specs.Prelude.{◌≡◌, ℕ, ◌+◌, ◌<◌, true, [], None, Some, IsTrue, Result, IfErr, MatchResult}
+use Rattle.std.specs.Prelude.{◌≡◌, ℕ, ◌+◌, ◌<◌, true, [], None, Some, IsTrue, Result, IfErr, IfOk, MatchResult}
 use Rattle.xp_words.specs.Entries.{below, demand_at}
 use Rattle.xp_words.specs.declared.entry.Demand.TheVariants.{Typed}
 use Rattle.xp_words.specs.KindWords.{kind_read, kind_write}
@@ -19,7 +19,7 @@ use Rattle.answer_fits.specs.Answers.{Serves, Stops, misses}
 use Rattle.frame_types.specs.Taking.{IsOfOther}
 use Rattle.kind_words.specs.Kinds.{resumed_work}
 use Rattle.table_entries.specs.Asking.{LooksOnly, of_entries}
-use Rattle.table_releases.specs.Tops.{IsReleaseStop, LeavesReleased, OwnsReleased, ReleasesTop, StaysRecorded}
+use Rattle.table_releases.specs.Tops.{IsReleaseStop, LeavesReleased, OwnsReleased, ReleasesTop, ShowsReleased, StaysRecorded}
 use Rattle.table_releases.specs.declared.entries.Released.{Released}
 
 -- from b to v entry i of frame f was looked at, the last recorded one of the newest own work
@@ -81,10 +81,11 @@ abbrev pub FromResumed : PortValue → ℕ → ℕ → ℕ → PageType → Kind
 FromResumed v f i g want k P = (b : PortValue) (t : PageType) (word : ℕ) → Resumed b v f i t word g want k → P b t
 
 -- what the steps are and show
-pub record Releases (v w : PortValue) (f i owner pages : ℕ) (answer : Result Released Stop) : Type 0 where
+pub record Releases (v w : PortValue) (f i : ℕ) (t : PageType) (owner pages : ℕ) (answer : Result Released Stop) : Type 0 where
   pub serves : Serves v w (of_entries owner pages) (misses v.post.machine answer)
   pub stops : IfErr answer (λ e. Stops v w (of_entries owner pages) e)
   pub kinds : IfErr answer IsReleaseStop
+  pub shows : IfOk answer (λ a. ShowsReleased v w owner pages t a)
   pub looks : LooksOnly v w f i
 
 -- and what they leave in hand

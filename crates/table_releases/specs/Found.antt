@@ -1,5 +1,5 @@
 -- The last recorded entry by its steps, on any board: which answer and which further steps there are, by the words that were found.
-use Rattle.std.specs.Prelude.{◌≡◌, ◌≢◌, ◌==◌, ℕ, Bool, true, false, List, Result, Ok, Err}
+use Rattle.std.specs.Prelude.{◌≡◌, ◌≢◌, ◌==◌, ◌&&◌, ◌<◌, nat_lt, ℕ, Bool, true, false, List, Result, Ok, Err}
 use Rattle.xp_words.specs.Entries.{demand_at}
 use Rattle.xp_words.specs.KindWords.{kind_fields}
 use Rattle.xp_words.specs.Machine.{Machine}
@@ -7,6 +7,7 @@ use Rattle.xp_words.specs.PageTypes.{is_table}
 use Rattle.xp_words.specs.Places.{number, sizes_of}
 use Rattle.xp_words.specs.declared.entry.Demand.{Demand}
 use Rattle.xp_words.specs.declared.entry.Demand.TheVariants as demands
+use Rattle.xp_words.specs.declared.kind.KindWord.{KindWord}
 use Rattle.xp_words.specs.declared.kind.PageType.{PageType}
 use Rattle.xp_words.specs.declared.place.Place.TheVariants.{Clock, Kind, Refs}
 use Rattle.xp_words.specs.declared.reply.Pause.TheVariants.{Busy, Lost}
@@ -26,7 +27,7 @@ use Rattle.table_releases.specs.declared.entries.Released.{Released}
 use Rattle.table_releases.specs.declared.entries.Released.TheVariants.{Given, Opened}
 
 -- the table and the number of entries that are left recorded: f, i
--- ---- a live frame: its type count goes down
+-- ---- a live frame, whose reference word was looked at: its type count goes down
 -- of a table the last type count leaves it closing in the hand, with all entries recorded; else the reference is given back
 abbrev pub LowersTable : ℕ → Result Released Stop → Bool → List Visit → Type 0
 LowersTable g answer true vs = (answer ≡ Ok (Opened g 512 true)) × Nothing vs
@@ -37,23 +38,26 @@ LiveBy g t answer true vs = (x : ℕ) × Then (Only (visit (Kind g) (Add one_dow
 LiveBy g t answer false vs = (answer ≡ Ok Given) × DropsBy g t vs
 
 -- ---- a partial frame that came into the own works
--- a table is to be released first, with what is recorded of it; ordinary memory waits for a flush, and is left dead with its mark
-abbrev pub WaitsShed : ℕ → ℕ → ℕ → PageType → List Visit → Type 0
-WaitsShed f i g t vs = (clock : ℕ) × Then (Only (sheds_at Clock f i clock)) (Then (StoresKind g (dead_kind t true clock)) (PutBy g)) vs
+-- A table of which entries are recorded is to be released first, with those. Each other frame is left dead, with its mark as it was.
+abbrev pub has_recorded : PageType → KindWord → Bool
+has_recorded t k = is_table t && nat_lt 0 k.progress
+
+abbrev pub DiesShed : ℕ → ℕ → ℕ → PageType → Bool → List Visit → Type 0
+DiesShed f i g t marked vs = (clock : ℕ) × Then (Only (sheds_at Clock f i clock)) (Then (StoresKind g (dead_kind t marked clock)) (PutBy g)) vs
 
 abbrev pub ComesBy : ℕ → ℕ → ℕ → PageType → ℕ → Result Released Stop → Bool → List Visit → Type 0
-ComesBy f i g t x answer true vs = (answer ≡ Ok (Opened g (kind_fields x).progress false)) × ShedsAt (Refs g) f i vs
-ComesBy f i g t x answer false vs = (answer ≡ Ok Given) × WaitsShed f i g t vs
+ComesBy f i g t x answer true vs = (answer ≡ Ok (Opened g (kind_fields x).progress false)) × (0 < (kind_fields x).progress) × ShedsAt (Refs g) f i vs
+ComesBy f i g t x answer false vs = (answer ≡ Ok Given) × DiesShed f i g t (kind_fields x).unflushed vs
 
 -- by one exchange, which found another word or the one that was expected
 abbrev pub PartialBy : Machine → ℕ → ℕ → ℕ → PageType → ℕ → Result Released Stop → List Visit → Type 0
 PartialBy n f i g t x (Err (Paused (Lost place expected found))) vs =
     (place ≡ number (sizes_of n) (Kind g)) × (expected ≡ x) × (found ≢ x) × Only (swaps_kind g x (resumed_kind (kind_fields x)) found) vs
-PartialBy n f i g t x answer vs = Then (Only (swaps_kind g x (resumed_kind (kind_fields x)) x)) (λ cs. ComesBy f i g t x answer (is_table t) cs) vs
+PartialBy n f i g t x answer vs = Then (Only (swaps_kind g x (resumed_kind (kind_fields x)) x)) (λ cs. ComesBy f i g t x answer (has_recorded t (kind_fields x)) cs) vs
 
 -- ---- by the kind word that was found of the frame
 abbrev pub FormBy : Machine → ℕ → ℕ → ℕ → PageType → ℕ → Result Released Stop → Form → List Visit → Type 0
-FormBy n f i g t x answer Live vs = Then (ShedsAt (Kind g) f i) (λ ls. LiveBy g t answer (is_table t) ls) vs
+FormBy n f i g t x answer Live vs = Then (ShedsAt (Refs g) f i) (λ ls. LiveBy g t answer (is_table t) ls) vs
 FormBy n f i g t x answer Partial vs = PartialBy n f i g t x answer vs
 FormBy n f i g t x answer InWork vs = (answer ≡ Err (Paused (Busy g x))) × Nothing vs
 FormBy n f i g t x answer Dead vs = (answer ≡ Err (Paused (Busy g x))) × Nothing vs

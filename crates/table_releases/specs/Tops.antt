@@ -10,6 +10,8 @@ use Rattle.xp_words.specs.declared.reply.Pause.TheVariants.{Busy, Lost}
 use Rattle.xp_words.specs.declared.reply.Stop.{Stop}
 use Rattle.xp_words.specs.declared.reply.Stop.TheVariants.{Paused}
 use Rattle.xp_board.specs.declared.holdings.Holdings.{Holdings}
+use Rattle.xp_board.specs.declared.holdings.Liveness.{Liveness}
+use Rattle.xp_board.specs.declared.holdings.Liveness.TheVariants.{Found, Since}
 use Rattle.xp_board.specs.declared.holdings.Reference.{Reference}
 use Rattle.xp_board.specs.declared.holdings.TypedReference.{TypedReference}
 use Rattle.xp_board.specs.declared.holdings.Work.{Work}
@@ -18,6 +20,9 @@ use Rattle.xp_board.specs.Knowledge.{knows_owner}
 use Rattle.xp_board.specs.Readings.{is_closing, is_work}
 use Rattle.xp_board.specs.Told.{PortValue}
 use Rattle.step_maker.specs.Holds.{Holds}
+use Rattle.step_maker.specs.Moves.{Met}
+use Rattle.answer_fits.specs.Pauses.{Progress}
+use Rattle.table_entries.specs.Asking.{AsksBelow}
 use Rattle.table_entries.specs.Tops.{with_recorded}
 use Rattle.table_releases.specs.declared.entries.Released.{Released}
 use Rattle.table_releases.specs.declared.entries.Released.TheVariants.{Given, Opened}
@@ -49,8 +54,14 @@ pub record Holding (g : ℕ) (t : PageType) (closing : Bool) (work : Work) (h : 
   pub untyped : closing ≡ true → (r : Reference) × (r.frame ≡ g) × (after ≡ record h { refs = r ∷ h.refs; works = work ∷ h.works })
   pub typed : closing ≡ false → (r : TypedReference) × (r.frame ≡ g) × (r.kind ≡ Some t) × (after ≡ record h { typed = r ∷ h.typed; works = work ∷ h.works })
 
--- The frame that the shed entry asked came into the own works: a table of the level below, of which so many entries are
--- recorded. It is closing, or in work.
+-- whether its frame is live is found by steps alone, from a number up to n on
+abbrev pub IsSince : ℕ → Liveness → Type 0
+IsSince n (Since k) = k ≤ n
+IsSince n Found = ⊥
+
+-- The frame that the shed entry asked came into the own works: a table of the level below without a mark, of which so many
+-- entries are recorded, at least one. It is closing, and the last of them is settled; or in work, and what brought its typed reference
+-- does not say that it is live.
 pub record Reopens (v w : PortValue) (f i : ℕ) (t : PageType) (g recorded : ℕ) (closing : Bool) : Type 0 where
   pub word : ℕ
   pub asks : demand_at t i word ≡ Typed g (below t)
@@ -61,11 +72,13 @@ pub record Reopens (v w : PortValue) (f i : ℕ) (t : PageType) (g recorded : �
   pub table : IsTrue (is_table (below t))
   pub closing_is : is_closing (kind_fields work.word) ≡ closing
   pub in_work : closing ≡ false → IsTrue (is_work (kind_fields work.word))
-  pub unmarked : 0 < recorded → (kind_fields work.word).unflushed ≡ false
+  pub unmarked : (kind_fields work.word).unflushed ≡ false
   pub recorded_is : work.recorded ≡ recorded
+  pub some : 0 < recorded
   pub few : recorded ≤ 512
-  pub settled : recorded ≡ 0 → work.unsettled ≡ None
+  pub settled : closing ≡ true → work.unsettled ≡ None
   pub earlier : work.since ≤ length w.holdings.steps
+  pub since : closing ≡ false → (r : TypedReference) (others : List TypedReference) → w.holdings.typed ≡ r ∷ others → IsSince (length w.holdings.steps) r.live
   pub after : Holdings
   pub holding : Holding g (below t) closing work (shed_once f i word v.holdings) after
   pub hand : Holds v w after
@@ -75,12 +88,17 @@ abbrev pub LeavesReleased : PortValue → PortValue → ℕ → PageType → ℕ
 LeavesReleased v w f t i Given = (word : ℕ) × Holds v w (shed_once f i word v.holdings)
 LeavesReleased v w f t i (Opened g recorded closing) = Reopens v w f i t g recorded closing
 
+-- what the steps show: an entry is shed; and it asks the frame that came into the own works
+abbrev pub ShowsReleased : PortValue → PortValue → ℕ → ℕ → PageType → Released → Type 0
+ShowsReleased v w owner pages t Given = Progress (Met v w)
+ShowsReleased v w owner pages t (Opened g recorded closing) = Progress (Met v w) × AsksBelow v w owner pages t g
+
 -- only looked at
 abbrev pub StaysRecorded : PortValue → PortValue → ℕ → ℕ → Type 0
 StaysRecorded v w f i = (word : ℕ) × Holds v w (learned_cell f i word v.holdings)
 
--- who owns the table owns a frame, too, that was left partial
+-- who owns the table owns a table, too, that is to be released first
 abbrev pub OwnsReleased : PortValue → PortValue → ℕ → Released → Type 0
 OwnsReleased v w f Given = Unit {0}
 OwnsReleased v w f (Opened g recorded closing) =
-    closing ≡ false → (owner : ℕ) → IsTrue (knows_owner (sizes_of v.post.machine) f owner v.holdings) → IsTrue (knows_owner (sizes_of v.post.machine) g owner w.holdings)
+    (owner : ℕ) → IsTrue (knows_owner (sizes_of v.post.machine) f owner v.holdings) → IsTrue (knows_owner (sizes_of v.post.machine) g owner w.holdings)

@@ -14,9 +14,9 @@ ghost use Rattle.step_maker.specs.Holds.{Holds, MayWork};
 ghost use Rattle.step_maker.specs.Moves.{Moves};
 ghost use Rattle.table_entries.specs.Asking.{LooksOnly, of_entries};
 ghost use Rattle.table_releases.specs.Between.{FromKind, FromLive, FromResumed, FromTyped, HandReleased, HasResumed, HasSeenKind, HasSeenLive, HasSeenTyped, Releases};
-ghost use Rattle.table_releases.specs.Found.{ReleasesFound};
+ghost use Rattle.table_releases.specs.Found.{ReleasesFound, has_recorded};
 ghost use Rattle.table_releases.specs.Plain.{TwinRelease};
-ghost use Rattle.table_releases.specs.Tops.{IsReleaseStop, LeavesReleased, OwnsReleased, ReleasesTop, StaysRecorded};
+ghost use Rattle.table_releases.specs.Tops.{IsReleaseStop, LeavesReleased, OwnsReleased, ReleasesTop, ShowsReleased, StaysRecorded};
 ghost use Rattle.table_words.specs.Entries.{ShedsLast, entry_shed};
 
 use frame_types::{drop_plain, drop_type};
@@ -24,7 +24,7 @@ use frame_words::{look_cell, put_ref};
 use kind_words::{dead_kind, leave, look_kind, lost, read_kind, resume_work};
 use pte_check::demand;
 use step_maker::make;
-use table_words::{shed_entry, shed_entry_by_look};
+use table_words::shed_entry;
 use xp_board::{Act, Mark, Port, StepKind};
 use xp_words::{Demand, KindWord, PageType, Pause, Place, Stop};
 
@@ -34,8 +34,8 @@ pub enum Released {
     /// It is shed, and what it asked is given back.
     Given,
     /// It is shed. Its frame is a table that is to be released first, and in the own works now, with so many of its entries
-    /// recorded. `closing`: its last type count was given back, and an untyped reference is in hand; else it was left partial,
-    /// and its type count is in hand.
+    /// recorded, at least one. `closing`: its last type count was given back, and an untyped reference is in hand; else it was
+    /// left partial, and its type count is in hand.
     Opened {
         frame: u32,
         recorded: u16,
@@ -44,8 +44,8 @@ pub enum Released {
 }
 
 /// Gives back the last recorded entry of the newest table in the own works, of which `index + 1` are recorded. Where its frame is
-/// a table that nobody else refers to as such, or that was left partial, that one comes into the own works. A pause leaves the
-/// entry as it was.
+/// a table that nobody else refers to as such, or that was left partial with entries recorded, that one comes into the own works.
+/// A pause leaves the entry as it was.
 pub fn release_entry<P: Port>(
     port: &mut P,
     table: u32,
@@ -62,6 +62,7 @@ pub fn release_entry<P: Port>(
     ensures serves { (owner pages : ℕ) → Serves (P.value port.old) (P.value port.new) (of_entries owner pages) (misses (P.value port.old).post.machine result) }
     ensures stops { (owner pages : ℕ) → IfErr result (λ e. Stops (P.value port.old) (P.value port.new) (of_entries owner pages) e) }
     ensures kinds { IfErr result IsReleaseStop }
+    ensures shows { (owner pages : ℕ) → IfOk result (λ a. ShowsReleased (P.value port.old) (P.value port.new) owner pages kind a) }
     ensures looks { LooksOnly (P.value port.old) (P.value port.new) table index }
     ensures hand { MatchResult result (λ a. LeavesReleased (P.value port.old) (P.value port.new) table kind index a) (λ _. StaysRecorded (P.value port.old) (P.value port.new) table index) }
     ensures owned { IfOk result (λ a. OwnsReleased (P.value port.old) (P.value port.new) table a) }
@@ -97,7 +98,7 @@ fn release_typed<P: Port>(
 ) -> Result<Released, Stop>
     requires may { MayWork (P.value port.old) }
     requires seen { HasSeenTyped (P.value port.old) table index frame want }
-    ensures goes { FromTyped (P.value port.old) table index frame want (λ b t. (owner pages : ℕ) → Releases b (P.value port.new) table index owner pages result) }
+    ensures goes { FromTyped (P.value port.old) table index frame want (λ b t. (owner pages : ℕ) → Releases b (P.value port.new) table index t owner pages result) }
     ensures hand { FromTyped (P.value port.old) table index frame want (λ b t. HandReleased b (P.value port.new) table index t result) }
     ensures found { FromTyped (P.value port.old) table index frame want (λ b t. ReleasesFound b (P.value port.new) table index t result) }
     ensures plain { FromTyped (P.value port.old) table index frame want (λ b t. TwinRelease b (P.value port.new) table t index result) }
@@ -113,7 +114,7 @@ fn release_typed<P: Port>(
     }
 }
 
-// Its frame was found live: the look that sheds the entry finds it so again.
+// Its frame was found live: with that the entry is settled. The look that sheds it finds whose the frame is.
 fn release_live<P: Port>(
     port: &mut P,
     table: u32,
@@ -123,12 +124,12 @@ fn release_live<P: Port>(
 ) -> Released
     requires may { MayWork (P.value port.old) }
     requires seen { HasSeenLive (P.value port.old) table index frame want }
-    ensures goes { FromLive (P.value port.old) table index frame want (λ b t. (owner pages : ℕ) → Releases b (P.value port.new) table index owner pages (Ok result)) }
+    ensures goes { FromLive (P.value port.old) table index frame want (λ b t. (owner pages : ℕ) → Releases b (P.value port.new) table index t owner pages (Ok result)) }
     ensures hand { FromLive (P.value port.old) table index frame want (λ b t. HandReleased b (P.value port.new) table index t (Ok result)) }
     ensures found { FromLive (P.value port.old) table index frame want (λ b t. ReleasesFound b (P.value port.new) table index t (Ok result)) }
     ensures plain { FromLive (P.value port.old) table index frame want (λ b t. TwinRelease b (P.value port.new) table t index (Ok result)) }
 {
-    shed_entry_by_look(port, table, index, frame);
+    shed_by_owner(port, table, index, frame);
     if !want.is_table() {
         drop_plain(port, frame, want);
         Released::Given
@@ -158,7 +159,7 @@ fn release_partial<P: Port>(
     requires seen { HasSeenKind (P.value port.old) table index frame want word }
     requires read { kind_read word ≡ Some kind }
     requires partial { IsTrue (is_partial kind) }
-    ensures goes { FromKind (P.value port.old) table index frame want word (λ b t. (owner pages : ℕ) → Releases b (P.value port.new) table index owner pages result) }
+    ensures goes { FromKind (P.value port.old) table index frame want word (λ b t. (owner pages : ℕ) → Releases b (P.value port.new) table index t owner pages result) }
     ensures hand { FromKind (P.value port.old) table index frame want word (λ b t. HandReleased b (P.value port.new) table index t result) }
     ensures found { FromKind (P.value port.old) table index frame want word (λ b t. ReleasesFound b (P.value port.new) table index t result) }
     ensures plain { FromKind (P.value port.old) table index frame want word (λ b t. TwinRelease b (P.value port.new) table t index result) }
@@ -169,7 +170,8 @@ fn release_partial<P: Port>(
     }
 }
 
-// It came into the own works. A table is to be released first; ordinary memory is left dead with its mark.
+// It came into the own works. A table of which entries are recorded is to be released first. Ordinary memory, and a table of
+// which nothing is recorded, is left dead with the mark that it had.
 fn shed_resumed<P: Port>(
     port: &mut P,
     table: u32,
@@ -180,12 +182,12 @@ fn shed_resumed<P: Port>(
 ) -> Released
     requires may { MayWork (P.value port.old) }
     requires seen { HasResumed (P.value port.old) table index frame want kind }
-    ensures goes { FromResumed (P.value port.old) table index frame want kind (λ b t. (owner pages : ℕ) → Releases b (P.value port.new) table index owner pages (Ok result)) }
+    ensures goes { FromResumed (P.value port.old) table index frame want kind (λ b t. (owner pages : ℕ) → Releases b (P.value port.new) table index t owner pages (Ok result)) }
     ensures hand { FromResumed (P.value port.old) table index frame want kind (λ b t. HandReleased b (P.value port.new) table index t (Ok result)) }
     ensures found { FromResumed (P.value port.old) table index frame want kind (λ b t. ReleasesFound b (P.value port.new) table index t (Ok result)) }
     ensures plain { FromResumed (P.value port.old) table index frame want kind (λ b t. TwinRelease b (P.value port.new) table t index (Ok result)) }
 {
-    if want.is_table() {
+    if has_recorded(want, kind) {
         shed_by_owner(port, table, index, frame);
         Released::Opened {
             frame,
@@ -194,10 +196,17 @@ fn shed_resumed<P: Port>(
         }
     } else {
         let clock = shed_entry(port, table, index);
-        leave(port, frame, dead_kind(want, true, clock));
+        leave(port, frame, dead_kind(want, kind.unflushed, clock));
         put_ref(port, frame);
         Released::Given
     }
+}
+
+// Whether a partial frame is a table of which entries are recorded.
+fn has_recorded(want: PageType, kind: KindWord) -> bool
+    ensures { result ≡ has_recorded want kind }
+{
+    want.is_table() && kind.progress > 0
 }
 
 // Sheds the entry with a look at the reference word of a frame: what is found there is known of the reference that comes into
@@ -206,7 +215,7 @@ fn shed_by_owner<P: Port>(port: &mut P, table: u32, upto: u16, frame: u32) -> u6
     requires frame { frame < (P.value port.old).post.machine.frames }
     requires may { ShedsLast table upto (P.value port.old).holdings }
     ensures moves { Moves (P.value port.old) (P.value port.new) (Refs frame) Load kinds.Look (Some (Shed table upto)) result }
-    ensures hand { Holds (P.value port.old) (P.value port.new) (entry_shed table upto (P.value port.old).holdings) }
+    ensures hand { Holds (P.value port.old) (P.value port.new) (entry_shed (P.value port.old).post.machine table upto (P.value port.old).holdings) }
 {
     make(
         port,

@@ -2,7 +2,7 @@ use Rattle.std.proofs.Common.{◌≡◌, ◌⊎◌, ◌<◌, sym, subst, ◌∙�
 use Rattle.xp_words.specs.declared.entry.Demand.TheVariants.{Bad, Nothing}
 use Rattle.xp_board.specs.Told.{Post}
 use Rattle.table_releases.specs.Between.{SeesLast, SeesTyped}
-use Rattle.table_releases.proofs.Entry.{frame_fits, hand_left, hand_owned, nothing_found, nothing_hand, plain_found, plain_gives, plain_goes, plain_hand, plain_post, shed_goes}
+use Rattle.table_releases.proofs.Entry.{frame_fits, hand_left, hand_owned, nothing_found, nothing_hand, nothing_shows, plain_found, plain_gives, plain_goes, plain_hand, plain_post, plain_shows, shed_goes}
 use Rattle.table_releases.proofs.Looking.{looked_seen, plain_there, typed_there}
 use Rattle.table_releases.proofs.LastSeen.{seen_sheds}
 use Rattle.table_releases.proofs.Twins.{nothing_twin, plain_twin}
@@ -225,3 +225,30 @@ returns-in-Typed-clause-plain g c =
     record { look = c.look_cell-word.ensures.moves; hand = c.look_cell-word.ensures.hand; frame = c.requires.frame; index = c.requires.index; works = c.requires.works; above = c.requires.above; looked = c.requires.looked } in
     let s : SeesTyped b v c.args.table c.args.index c.args.kind c.look_cell-word.result c.in-Typed.frame c.in-Typed.want = record { sees = l; asks = sym c.demand.ensures ∙ c.in-Typed.is; inside = typed_there b v c.args.table c.args.index c.args.kind c.look_cell-word.result l c.in-Typed.frame c.in-Typed.want (sym c.demand.ensures ∙ c.in-Typed.is) } in
     c.release_typed.ensures.plain b c.args.kind c.look_cell-word.result s
+
+pub returns-in-Nothing-clause-shows : goal.returns-in-Nothing-clause-shows
+returns-in-Nothing-clause-shows g c owner pages =
+    let b = g.P.Port.value c.args.port.now in
+    let v = g.P.Port.value c.look_cell-word.new.port in
+    let l : SeesLast b v c.args.table c.args.index c.args.kind c.look_cell-word.result =
+    record { look = c.look_cell-word.ensures.moves; hand = c.look_cell-word.ensures.hand; frame = c.requires.frame; index = c.requires.index; works = c.requires.works; above = c.requires.above; looked = c.requires.looked } in
+    let w = g.P.Port.value c.shed_entry.new.port in
+    nothing_shows b v w c.args.table c.args.index c.args.kind c.look_cell-word.result l c.shed_entry.result c.shed_entry.ensures.moves c.shed_entry.ensures.hand owner pages
+
+pub returns-in-Read-clause-shows : goal.returns-in-Read-clause-shows
+returns-in-Read-clause-shows g c owner pages =
+    let b = g.P.Port.value c.args.port.now in
+    let v = g.P.Port.value c.look_cell-word.new.port in
+    let l : SeesLast b v c.args.table c.args.index c.args.kind c.look_cell-word.result =
+    record { look = c.look_cell-word.ensures.moves; hand = c.look_cell-word.ensures.hand; frame = c.requires.frame; index = c.requires.index; works = c.requires.works; above = c.requires.above; looked = c.requires.looked } in
+    let w = g.P.Port.value c.shed_entry-in-Read.new.port in
+    plain_shows b v w c.args.table c.args.index c.args.kind c.look_cell-word.result l c.shed_entry-in-Read.result c.shed_entry-in-Read.ensures.moves c.shed_entry-in-Read.ensures.hand c.in-Read.frame owner pages (g.P.Port.value c.put_ref.new.port) c.put_ref.ensures.serves
+
+pub returns-in-Typed-clause-shows : goal.returns-in-Typed-clause-shows
+returns-in-Typed-clause-shows g c owner pages =
+    let b = g.P.Port.value c.args.port.now in
+    let v = g.P.Port.value c.look_cell-word.new.port in
+    let l : SeesLast b v c.args.table c.args.index c.args.kind c.look_cell-word.result =
+    record { look = c.look_cell-word.ensures.moves; hand = c.look_cell-word.ensures.hand; frame = c.requires.frame; index = c.requires.index; works = c.requires.works; above = c.requires.above; looked = c.requires.looked } in
+    let s : SeesTyped b v c.args.table c.args.index c.args.kind c.look_cell-word.result c.in-Typed.frame c.in-Typed.want = record { sees = l; asks = sym c.demand.ensures ∙ c.in-Typed.is; inside = typed_there b v c.args.table c.args.index c.args.kind c.look_cell-word.result l c.in-Typed.frame c.in-Typed.want (sym c.demand.ensures ∙ c.in-Typed.is) } in
+    (c.release_typed.ensures.goes b c.args.kind c.look_cell-word.result s owner pages).shows

@@ -45,7 +45,7 @@ returns-in-Err-clause-goes g c b t word l owner pages =
     let v = g.P.Port.value c.args.port.now in
     let w = g.P.Port.value c.resume_work.new.port in
     let place = lost_place b v c.args.table c.args.index t word c.args.frame c.args.want c.args.word l w c.in-Err.found c.in-Err.ensures.hand in
-    subst (λ (e : Stop). Releases b w c.args.table c.args.index owner pages (Err e)) (sym c.lost.ensures)
+    subst (λ (e : Stop). Releases b w c.args.table c.args.index t owner pages (Err e)) (sym c.lost.ensures)
     (lost_releases b v c.args.table c.args.index t word c.args.frame c.args.want c.args.word l owner pages c.args.kind c.requires.read c.requires.partial w c.in-Err.found c.in-Err.ensures.moves
     _ place c.in-Err.ensures.lost)
 
