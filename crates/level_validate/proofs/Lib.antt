@@ -1,7 +1,9 @@
 mod Acquired
 mod Asking
 mod Completed
+mod CompletedSo
 mod Entered
+mod EnteredOn
 mod Filling
 mod Forward
 mod LeavingLent
@@ -28,5 +30,6 @@ mod Sharing
 mod Standing
 mod StandsFacts
 mod Unwound
+mod TakenOn
 mod Visited
 mod Waiting

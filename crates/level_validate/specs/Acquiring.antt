@@ -1,5 +1,5 @@
 -- A frame taken as a page table: what is in hand then, and why it is not to be had.
-use Rattle.std.specs.Prelude.{◌≡◌, ◌⊎◌, ◌+◌, ◌==◌, ◌&&◌, nat_le, not, if◌then◌else◌, ℕ, Bool, true, false, List, [], ◌∷◌, Option, Some, None, Result, Ok, Err}
+use Rattle.std.specs.Prelude.{◌≡◌, ◌⊎◌, ◌+◌, ◌==◌, ◌&&◌, not, if◌then◌else◌, ℕ, Bool, true, false, List, [], ◌∷◌, Option, Some, None, Result, Ok, Err}
 use Rattle.xp_words.specs.declared.reply.Pause.TheVariants.{Busy, Due, Flush, Lost}
 use Rattle.xp_words.specs.declared.reply.Refusal.TheVariants as refusals
 use Rattle.xp_words.specs.declared.reply.Stop.{Stop}
@@ -65,14 +65,6 @@ abbrev pub is_filled : List TableWork → Bool
 is_filled [] = true
 is_filled (t ∷ []) = t.done == 512
 is_filled (t ∷ u ∷ us) = false
-
--- whether the gate is asked behind the last entry that is done with: not where it is in a slot that is Xen's, nor where the table is then full
-abbrev pub is_asked_at : ℕ → ℕ → Bool
-is_asked_at level done = not (done == 512) && not ((level == 4) && (nat_le 257 done && nat_le done 272))
-
-abbrev pub is_asked : List TableWork → Bool
-is_asked [] = false
-is_asked (t ∷ ts) = is_asked_at t.level t.done
 
 -- ---- causes
 -- behind a piece in which these tables came into work, and for which the gate said yes where that is why, the steps show why it stops
