@@ -6,6 +6,7 @@ mod Entered
 mod EnteredOn
 mod Filling
 mod Forward
+mod GoneOn
 mod LeavingLent
 mod LeavingOwn
 mod LeavingTables
@@ -33,3 +34,4 @@ mod Unwound
 mod TakenOn
 mod Visited
 mod Waiting
+mod WorkedOn

@@ -10,8 +10,9 @@ ghost use Rattle.partial_state.specs.Levels.{level_type};
 ghost use Rattle.table_words.specs.OldWords.{known_old};
 ghost use Rattle.table_words.specs.declared.old_words.OldWord.TheVariants.{First};
 ghost use Rattle.partial_state.specs.Weights.{weight};
-ghost use Rattle.table_courses.specs.Acquiring.{is_asked};
+ghost use Rattle.table_courses.specs.Acquiring.{Advanced, Worked, is_asked};
 ghost use Rattle.level_validate.specs.Acquiring.{IsAcquireStop, IsTableWaiting, LeavesAcquired, LeavesWaiting, StopsRisen, Validated, is_due_answer, is_filled, is_paused_answer, of_acquire, outermost_work};
+ghost use Rattle.level_validate.specs.Courses.{Consults, GoesOn};
 ghost use Rattle.level_validate.specs.Forward.{Forward};
 ghost use Rattle.level_validate.specs.Leaving.{LeftWell};
 ghost use Rattle.level_validate.specs.Serving.{CarriesOn};
@@ -188,6 +189,7 @@ fn fill<P: Port>(
     ensures says { (n : ℕ) → says gate.new n ≡ says gate.old n }
     ensures paces { paces gate.new ≡ paces gate.old }
     ensures calm { calm gate.old ≡ true → (is_due_answer result ≡ false) × (calm gate.new ≡ true) }
+    ensures course { Consults (says gate.old) (count_asks gate.old) (count_asks gate.new) (count_yes gate.old) (count_yes gate.new) (is_due_answer result) (λ answers. Worked owner (P.value port.old) table (P.value port.new) stack.new answers result) }
 {
     take_on(port, owner, stack, table)?;
     while !is_filled(stack) {
@@ -222,6 +224,7 @@ fn go_on<P: Port>(
     ensures says { (n : ℕ) → says gate.new n ≡ says gate.old n }
     ensures paces { paces gate.new ≡ paces gate.old }
     ensures calm { calm gate.old ≡ true → (is_due_answer result ≡ false) × (calm gate.new ≡ true) }
+    ensures course { Consults (says gate.old) (count_asks gate.old) (count_asks gate.new) (count_yes gate.old) (count_yes gate.new) (is_due_answer result) (λ answers. GoesOn owner (P.value port.old) stack.old (P.value port.new) stack.new answers result) }
 {
     if advance(port, owner, stack)? {
         if is_asked(stack) {
@@ -251,6 +254,7 @@ fn advance<P: Port>(port: &mut P, owner: u16, stack: &mut Stack) -> Result<bool,
     ensures progress { IfOk result (λ done. done ≡ true → Progress (Met (P.value port.old) (P.value port.new))) }
     ensures serves { CarriesOn (P.value port.old) (P.value port.new) owner stack.old stack.new (misses (P.value port.old).post.machine result) }
     ensures stops { IfErr result (λ e. StopsRisen (P.value port.old) (P.value port.new) owner stack.old e) }
+    ensures course { Advanced owner (P.value port.old) stack.old (P.value port.new) stack.new result }
 {
     let Some(top) = stack.top() else {
         unreachable!()
