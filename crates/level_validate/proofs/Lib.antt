@@ -10,6 +10,7 @@ mod GoneOn
 mod LeavingLent
 mod LeavingOwn
 mod LeavingTables
+mod LeftSo
 mod LeftWaiting
 mod LeftWell
 mod LeftWellEntries

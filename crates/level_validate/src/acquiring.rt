@@ -10,7 +10,7 @@ ghost use Rattle.partial_state.specs.Levels.{level_type};
 ghost use Rattle.table_words.specs.OldWords.{known_old};
 ghost use Rattle.table_words.specs.declared.old_words.OldWord.TheVariants.{First};
 ghost use Rattle.partial_state.specs.Weights.{weight};
-ghost use Rattle.table_courses.specs.Acquiring.{Advanced, Worked, is_asked};
+ghost use Rattle.table_courses.specs.Acquiring.{Advanced, WaitingLeft, Worked, is_asked};
 ghost use Rattle.level_validate.specs.Acquiring.{IsAcquireStop, IsTableWaiting, LeavesAcquired, LeavesWaiting, StopsRisen, Validated, is_due_answer, is_filled, is_paused_answer, of_acquire, outermost_work};
 ghost use Rattle.level_validate.specs.Courses.{Consults, GoesOn};
 ghost use Rattle.level_validate.specs.Forward.{Forward};
@@ -111,6 +111,7 @@ fn leave_waiting<P: Port>(port: &mut P, frame: u32, level: u8, own: bool, stamp:
     ensures leaves { LeftWell (P.value port.old) (P.value port.new) kept frame }
     ensures serves { ServesType (P.value port.old) (P.value port.new) frame (level_type level) }
     ensures hand { LeavesWaiting (P.value port.old) (P.value port.new) frame level own stamp kept }
+    ensures course { WaitingLeft (P.value port.old) (P.value port.new) frame level stamp own kept }
 {
     let kind = level_type(level);
     if !own {
