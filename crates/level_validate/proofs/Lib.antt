@@ -1,4 +1,5 @@
 mod Acquired
+mod AcquiredBy
 mod Asking
 mod Completed
 mod CompletedSo
@@ -33,6 +34,7 @@ mod Standing
 mod StandsFacts
 mod Unwound
 mod TakenOn
+mod ValidatedBy
 mod Visited
 mod Waiting
 mod WorkedOn

@@ -12,7 +12,7 @@ use Rattle.table_courses.specs.Acquiring.{Filled, TookOn, Worked}
 use Rattle.level_validate.specs.Acquiring.{is_due_answer, is_due_stop}
 use Rattle.level_validate.specs.Courses.{Consults, GoesOn}
 
-entry_undue : (e : Stop) → IsEntryStop e → is_due_stop e ≡ false
+pub entry_undue : (e : Stop) → IsEntryStop e → is_due_stop e ≡ false
 entry_undue (Refused x) is = refl
 entry_undue (Paused Due) is = absurd is
 entry_undue (Paused (Lost place expected found)) is = refl

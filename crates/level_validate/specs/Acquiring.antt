@@ -15,6 +15,8 @@ use Rattle.frame_types.specs.Taking.{WaitsWith}
 use Rattle.frame_words.specs.Refs.{took}
 use Rattle.partial_state.specs.Levels.{level_type}
 use Rattle.partial_state.specs.declared.stack.TableWork.{TableWork}
+use Rattle.table_courses.specs.Acquiring.{Acquired}
+use Rattle.xp_preempt.specs.Gates.{Consulted, ends_yes}
 use Rattle.level_validate.specs.Completing.{Completes}
 use Rattle.level_validate.specs.Serving.{IsPiece}
 use Rattle.level_validate.specs.Tables.{Carries, IsIdle}
@@ -100,3 +102,12 @@ IsTableWaiting w f level own stamp = (v : PortValue) × TableWaits v w f level o
 abbrev pub LeavesWaiting : PortValue → PortValue → ℕ → ℕ → Bool → ℕ → Bool → Type 0
 LeavesWaiting u w f level own stamp kept =
     (v : PortValue) → TableWaits v u f level own stamp → FlushedHolds v w (if own && not kept then record v.holdings { old0 = Some (f + 1) } else v.holdings)
+
+-- ---- the course
+-- The frame was taken by these calls, and with these answers of a gate that says this at each ask: its count of asks was `before` and is
+-- `after`, that of answers yes was `yes_before` and is `yes_after`. The last answer is yes where that is why the call is paused.
+pub record AcquiresBy (v w : PortValue) (f owner level : ℕ) (says : ℕ → Bool) (before after yes_before yes_after : ℕ) (answer : Result ℕ Stop) : Type 0 where
+  pub answers : List Bool
+  pub course : Acquired v f owner level w answers answer
+  pub gate : Consulted says before after yes_before yes_after answers
+  pub due : is_due_answer answer ≡ ends_yes answers

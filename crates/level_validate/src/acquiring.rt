@@ -11,8 +11,8 @@ ghost use Rattle.table_words.specs.OldWords.{known_old};
 ghost use Rattle.table_words.specs.declared.old_words.OldWord.TheVariants.{First};
 ghost use Rattle.partial_state.specs.Weights.{weight};
 ghost use Rattle.table_courses.specs.Acquiring.{Advanced, WaitingLeft, Worked, is_asked};
-ghost use Rattle.level_validate.specs.Acquiring.{IsAcquireStop, IsTableWaiting, LeavesAcquired, LeavesWaiting, StopsRisen, Validated, is_due_answer, is_filled, is_paused_answer, of_acquire, outermost_work};
-ghost use Rattle.level_validate.specs.Courses.{Consults, GoesOn};
+ghost use Rattle.level_validate.specs.Acquiring.{AcquiresBy, IsAcquireStop, IsTableWaiting, LeavesAcquired, LeavesWaiting, StopsRisen, Validated, is_due_answer, is_filled, is_paused_answer, of_acquire, outermost_work};
+ghost use Rattle.level_validate.specs.Courses.{Consults, GoesOn, ValidatesBy};
 ghost use Rattle.level_validate.specs.Forward.{Forward};
 ghost use Rattle.level_validate.specs.Leaving.{LeftWell};
 ghost use Rattle.level_validate.specs.Serving.{CarriesOn};
@@ -65,6 +65,8 @@ pub fn acquire<P: Port>(
     ensures says { (n : ℕ) → says gate.new n ≡ says gate.old n }
     ensures paces { paces gate.new ≡ paces gate.old }
     ensures calm { calm gate.old ≡ true → (is_due_answer result ≡ false) × (calm gate.new ≡ true) }
+    // By which calls on frames and entries, one behind the other, and by which answers of the gate.
+    ensures course { AcquiresBy (P.value port.old) (P.value port.new) f owner level (says gate.old) (count_asks gate.old) (count_asks gate.new) (count_yes gate.old) (count_yes gate.new) result }
 {
     let frame = get_ref(port, f, owner)?;
     match take_type(port, frame, owner, level_type(level)) {
@@ -148,6 +150,7 @@ fn validate<P: Port>(
     ensures says { (n : ℕ) → says gate.new n ≡ says gate.old n }
     ensures paces { paces gate.new ≡ paces gate.old }
     ensures calm { calm gate.old ≡ true → (is_due_answer result ≡ false) × (calm gate.new ≡ true) }
+    ensures course { Consults (says gate.old) (count_asks gate.old) (count_asks gate.new) (count_yes gate.old) (count_yes gate.new) (is_due_answer result) (λ answers. ValidatesBy owner (P.value port.old) table (P.value port.new) answers result) }
 {
     let mut stack = Stack::new();
     stack.push(table);
