@@ -1,5 +1,5 @@
 -- The answers of a gate in a row.
-use Rattle.std.proofs.Common.{◌≡◌, ℕ, ◌+◌, ◌++◌, ◌==◌, if◌then◌else◌, Bool, true, false, List, [], ◌∷◌, length, refl, sym, ap, ◌∙◌, subst, arith}
+use Rattle.std.proofs.Common.{◌≡◌, ℕ, ◌+◌, ◌++◌, ◌==◌, if◌then◌else◌, Bool, true, false, List, [], ◌∷◌, length, refl, ap, ◌∙◌, subst, arith}
 use Rattle.xp_preempt.specs.Gates.{Consulted, Gives, answer_at, asks_on, last_ask, next_ask, one_more_if, yeses}
 
 -- nothing was asked

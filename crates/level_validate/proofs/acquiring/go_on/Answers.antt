@@ -1,4 +1,4 @@
-use Rattle.std.proofs.Common.{◌&&◌, Bool, Ok, Err, true, refl, sym, ap, ◌∙◌, subst}
+use Rattle.std.proofs.Common.{◌&&◌, Bool, Ok, Err, sym, ap, ◌∙◌, subst}
 use Rattle.std.proofs.lemmas.Result.{err_from_is_err_and}
 use Rattle.table_courses.specs.Acquiring.{Advanced, is_asked}
 use Rattle.level_validate.proofs.GoneOn.{asked_going, due_going, stopped_going, unasked_going}
