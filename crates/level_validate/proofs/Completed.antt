@@ -18,7 +18,7 @@ use Rattle.kind_words.proofs.Leaving.{left_live, left_shared, may_leave_live, ma
 use Rattle.partial_state.proofs.LevelFacts.{level_type-plain, level_type-typed}
 use Rattle.partial_state.specs.declared.stack.TableWork.{TableWork}
 use Rattle.partial_state.specs.Levels.{level_type}
-use Rattle.level_validate.specs.Completing.{count_for}
+use Rattle.table_courses.specs.Acquiring.{type_counts}
 use Rattle.level_validate.specs.Tables.{AreTyped, IsTopReady, Carries, refs_for}
 use Rattle.level_validate.proofs.LeavingOwn.{refs_are, typed_gone}
 use Rattle.level_validate.proofs.LeavingTables.{top, top_done, top_gone, top_held, top_here, top_owned, top_typed}
@@ -43,7 +43,7 @@ module _ (v w : PortValue) (owner : ℕ) (t : TableWork) (ts : List TableWork) (
           descriptors = λ is. absurd (no_page t.level is);
         }
 
-    pub live_leaves : (own : Bool) → t.own ≡ own → MayWork w → MayLeave w t.frame (live_kind (level_type t.level) (count_for own))
+    pub live_leaves : (own : Bool) → t.own ≡ own → MayWork w → MayLeave w t.frame (live_kind (level_type t.level) (type_counts own))
     live_leaves true own may = may_leave_live w t.frame (level_type t.level) (top v w owner t ts s).work (top_here v w owner t ts s) (level_type-typed t.level) may whole (top_held v w owner t ts s own)
     live_leaves false lent may =
         may_leave_shared w t.frame (level_type t.level) (top v w owner t ts s).work (top_here v w owner t ts s) (level_type-typed t.level) may whole
@@ -59,7 +59,7 @@ module _ (v w : PortValue) (owner : ℕ) (t : TableWork) (ts : List TableWork) (
     pub around : AreTyped (length w.holdings.steps) owner ts rest
     pub hand : FlushedHolds w d (record w.holdings { refs = refs_for owner ts v.holdings.refs; typed = live_ref ∷ rest; works = (top v w owner t ts s).others })
 
-  pub live_hand : (own : Bool) → t.own ≡ own → (d : PortValue) → Holds w d (left w t.frame (live_kind (level_type t.level) (count_for own))) → LiveHand d
+  pub live_hand : (own : Bool) → t.own ≡ own → (d : PortValue) → Holds w d (left w t.frame (live_kind (level_type t.level) (type_counts own))) → LiveHand d
   live_hand true own d holds =
       let y = top_typed v w owner t ts s own in
       record {

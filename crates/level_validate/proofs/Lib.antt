@@ -1,12 +1,17 @@
 mod Acquired
+mod AcquiredBy
 mod Asking
 mod Completed
+mod CompletedSo
 mod Entered
+mod EnteredOn
 mod Filling
 mod Forward
+mod GoneOn
 mod LeavingLent
 mod LeavingOwn
 mod LeavingTables
+mod LeftSo
 mod LeftWaiting
 mod LeftWell
 mod LeftWellEntries
@@ -28,5 +33,8 @@ mod Sharing
 mod Standing
 mod StandsFacts
 mod Unwound
+mod TakenOn
+mod ValidatedBy
 mod Visited
 mod Waiting
+mod WorkedOn

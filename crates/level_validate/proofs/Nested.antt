@@ -46,7 +46,7 @@ use Rattle.table_entries.proofs.HandReady.{settled_more}
 use Rattle.partial_state.proofs.LevelFacts.{level_type-table}
 use Rattle.partial_state.specs.declared.stack.TableWork.{TableWork}
 use Rattle.partial_state.specs.Levels.{level_type}
-use Rattle.level_validate.specs.Completing.{count_for}
+use Rattle.table_courses.specs.Acquiring.{type_counts}
 use Rattle.level_validate.specs.Giving.{MayGiveBack}
 use Rattle.level_validate.specs.Tables.{IsLastWord, IsTopReady, IsTableWork, Reaches, Carries, innermost, refs_for, taken_on, under_way}
 use Rattle.level_validate.proofs.Completed.{LiveHand}
@@ -87,7 +87,7 @@ unfolding EachOf
 second_of n h x y zs ws are each = (subst (λ us. EachOf (IsWorkFormed n h) us) are each).1.0
 
 module _ (v w : PortValue) (owner : ℕ) (t u : TableWork) (us : List TableWork) (s : Carries v w owner (t ∷ u ∷ us)) (d : PortValue) (found : ℕ)
-    (store : Moves w d (Kind t.frame) (Store (kind_write (live_kind (level_type t.level) (count_for t.own)))) kinds.Kind None found) (l : LiveHand v w owner t (u ∷ us) s d) where
+    (store : Moves w d (Kind t.frame) (Store (kind_write (live_kind (level_type t.level) (type_counts t.own)))) kinds.Kind None found) (l : LiveHand v w owner t (u ∷ us) s d) where
   abbrev z : Sizes
   z = sizes_of v.post.machine
 
@@ -233,7 +233,7 @@ module _ (v w : PortValue) (owner : ℕ) (t u : TableWork) (us : List TableWork)
         let each = subst (λ (h : Holdings). EachOf (IsWorkFormed w.post.machine h) h.works) f.mine (f.sound.formed w.post.vcpu f.real).works in
         ((second_of w.post.machine w.holdings inner.work outer.work outer.others w.holdings.works (inner.are ∙ ap (λ ws. inner.work ∷ ws) outer.are) each).unsettled y is).1
 
-    module _ (spelled : IsTrue (is_kind (live_kind (level_type t.level) (count_for t.own)))) (x : PortValue) (holds : Holds d x (gave_type t.frame d.holdings)) (came : Came d x) where
+    module _ (spelled : IsTrue (is_kind (live_kind (level_type t.level) (type_counts t.own)))) (x : PortValue) (holds : Holds d x (gave_type t.frame d.holdings)) (came : Came d x) where
       given_hand : FlushedHolds w x (record w.holdings { refs = refs_for owner (u ∷ us) v.holdings.refs; typed = l.rest; works = outer.work ∷ outer.others })
       given_hand =
           ap quiet holds ∙ ap (λ (q : PortValue). quiet (record q { holdings = gave_type t.frame q.holdings })) l.hand
@@ -246,7 +246,7 @@ module _ (v w : PortValue) (owner : ℕ) (t u : TableWork) (us : List TableWork)
       live_there : (y : Unsettled) → outer.work.unsettled ≡ Some y → IsTrue (some_since (sizes_of w.post.machine) y.since (Kind t.frame) is_live_word x.holdings.steps)
       unfolding left_by
       live_there y is =
-          let k = live_kind (level_type t.level) (count_for t.own) in
+          let k = live_kind (level_type t.level) (type_counts t.own) in
           came_grows d x came _ (moves_since w d (Kind t.frame) (Store (kind_write k)) kinds.Kind None found store y.since is_live_word (since_low y is) (ap (λ (q : KindWord). q.validated) (fields_write k spelled)))
 
       pub old_ready : IsTopReady x

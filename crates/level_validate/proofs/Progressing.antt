@@ -26,7 +26,7 @@ use Rattle.kind_words.proofs.KindWriting.{fields_write}
 use Rattle.partial_state.proofs.LevelFacts.{level_type-table}
 use Rattle.partial_state.specs.declared.stack.TableWork.{TableWork}
 use Rattle.partial_state.specs.Levels.{level_type}
-use Rattle.level_validate.specs.Completing.{count_for}
+use Rattle.table_courses.specs.Acquiring.{type_counts}
 use Rattle.level_validate.specs.Tables.{Carries}
 use Rattle.level_validate.proofs.Completed.{LiveHand}
 use Rattle.level_validate.proofs.LeavingTables.{top}
@@ -67,7 +67,7 @@ pub held_by : (i word : ℕ) (o : Option Work) (e : Work) (k : Option Lock) (d :
 held_by i word o e k d is table past asks = rw (is, table, past, asks) refl
 
 module _ (v w : PortValue) (owner : ℕ) (t u : TableWork) (us : List TableWork) (s : Carries v w owner (t ∷ u ∷ us)) (d : PortValue) (found : ℕ)
-    (store : Moves w d (Kind t.frame) (Store (kind_write (live_kind (level_type t.level) (count_for t.own)))) kinds.Kind None found) (l : LiveHand v w owner t (u ∷ us) s d) where
+    (store : Moves w d (Kind t.frame) (Store (kind_write (live_kind (level_type t.level) (type_counts t.own)))) kinds.Kind None found) (l : LiveHand v w owner t (u ∷ us) s d) where
   few : works_on u.frame w.holdings.works ≤ 1
   few =
       let f = store.finds in
@@ -79,12 +79,12 @@ module _ (v w : PortValue) (owner : ℕ) (t u : TableWork) (us : List TableWork)
       let o = outer v w owner t u us s d found store l in
       second_here u.frame i.work o.work o.others w.holdings.works (i.are ∙ ap (λ ws. i.work ∷ ws) o.are) few o.is.frame
 
-  pub progress_settles : t.recorded ≡ true → IsTrue (is_kind (live_kind (level_type t.level) (count_for t.own))) → Progress (Met w d)
+  pub progress_settles : t.recorded ≡ true → IsTrue (is_kind (live_kind (level_type t.level) (type_counts t.own))) → Progress (Met w d)
   unfolding moment_of
   progress_settles old spelled =
       let o = outer v w owner t u us s d found store l in
       let k = on v w owner t u us s d found store l old in
-      let live = live_kind (level_type t.level) (count_for t.own) in
+      let live = live_kind (level_type t.level) (type_counts t.own) in
       let all = k.all in
       let some = k.some in
       let held = held_by (u.done - 1) k.word (work_on u.frame w.holdings.works) o.work (lock_on u.frame w.holdings.locks) (Typed t.frame (level_type t.level)) around_here

@@ -12,6 +12,8 @@ use Rattle.table_words.specs.OldWords.{kept_in_old, known_old}
 use Rattle.table_words.specs.declared.old_words.OldWord.TheVariants.{First}
 use Rattle.partial_state.specs.declared.stack.TableWork.{TableWork}
 use Rattle.level_validate.specs.Acquiring.{outermost_work}
+use Rattle.table_courses.specs.Acquiring.{Unwound}
+use Rattle.level_validate.specs.Courses.{UnwindsOn}
 use Rattle.level_validate.specs.Forward.{Forward}
 use Rattle.level_validate.specs.Leaving.{LeftWell}
 use Rattle.level_validate.specs.Serving.{CarriesOn}
@@ -20,6 +22,7 @@ use Rattle.level_validate.specs.Unwinding.{Unwinds, UnwindsTo, UnwoundTo, around
 use Rattle.level_validate.proofs.Forward.{forward_nothing, forward_then}
 use Rattle.level_validate.proofs.LeavingTables.{top, top_gone, top_typed}
 use Rattle.level_validate.proofs.LeavingOwn.{kept_by, typed_gone}
+use Rattle.level_validate.proofs.LeftSo.{unwinds_then}
 use Rattle.level_validate.proofs.LeftWell.{well_nothing, well_then}
 use Rattle.level_validate.proofs.Serving.{goes_nothing, goes_then}
 use Rattle.level_validate.proofs.StandsFacts.{may_back, may_stands, refs_own, stands_none, tables_none}
@@ -127,12 +130,14 @@ pub record Unwinding (u w : PortValue) (kept : Bool) (ts us : List TableWork) : 
   pub outermost : us ≢ [] → outermost_work us ≡ outermost_work ts
   pub hand : UnwindsTo u w kept ts us
   pub serves : (owner : ℕ) → CarriesOn u w owner ts us []
+  pub course : UnwindsOn u w kept ts us
 
 begins : (u v : PortValue) (kept : Bool) (ts : List TableWork) → Carries v u (own_domain u) ts → UnwoundTo v u (own_domain u) kept ts (outermost_named kept ts v.holdings)
 begins u v kept [] s = stands_none v u (own_domain u) s
 begins u v kept (t ∷ ts) s = (s, refl)
 
 pub unwinding_begins : (u : PortValue) (kept : Bool) (ts : List TableWork) → Unwinding u u kept ts ts
+unfolding UnwindsOn
 unwinding_begins u kept ts =
     record {
       came = came_self u;
@@ -141,6 +146,7 @@ unwinding_begins u kept ts =
       outermost = λ some. refl;
       hand = λ v s. begins u v kept ts s;
       serves = λ owner. goes_nothing u owner ts;
+      course = λ x rest. rest;
     }
 
 module _ (u w : PortValue) (kept : Bool) (ts : List TableWork) (t : TableWork) (us : List TableWork) (g : Unwinding u w kept ts (t ∷ us)) where
@@ -165,8 +171,8 @@ module _ (u w : PortValue) (kept : Bool) (ts : List TableWork) (t : TableWork) (
       (subst (λ h. UnwoundTo v x (own_domain w) kept rs h) before.1 (hand v (subst (λ o. Carries v w o (t ∷ us)) same_domain before.0)))
 
   pub unwinding_on : (x : PortValue) (rs : List TableWork) → Came w x → Forward w x → ((o : TableWork) → outermost_work (t ∷ us) ≡ Some o → LeftWell w x kept o.frame) → (b : Bool) × (rs ≡ around_lent b us) →
-      UnwindsTo w x kept (t ∷ us) rs → ((owner : ℕ) → CarriesOn w x owner (t ∷ us) rs []) → Unwinding u x kept ts rs
-  unwinding_on x rs came forward leaves around hand serves =
+      UnwindsTo w x kept (t ∷ us) rs → ((owner : ℕ) → CarriesOn w x owner (t ∷ us) rs []) → UnwindsOn w x kept (t ∷ us) rs → Unwinding u x kept ts rs
+  unwinding_on x rs came forward leaves around hand serves course =
       record {
         came = came_trans u w x g.came came;
         forward = forward_then u w x g.forward forward;
@@ -174,7 +180,13 @@ module _ (u w : PortValue) (kept : Bool) (ts : List TableWork) (t : TableWork) (
         outermost = λ some. outermost_left around.0 t us rs around.1 some ∙ g.outermost (λ none. absurd cc);
         hand = on_from x rs hand;
         serves = λ owner. goes_then u w x owner ts (t ∷ us) rs [] [] (g.serves owner) (serves owner);
+        course = unwinds_then u w x kept ts (t ∷ us) rs g.course course;
       }
 
 pub unwinding_done : (u w : PortValue) (kept : Bool) (ts : List TableWork) → Unwinding u w kept ts [] → Unwinds u w kept ts
 unwinding_done u w kept ts g v s = g.hand v s
+
+-- none is left
+pub unwinding_course : (u w : PortValue) (kept : Bool) (ts us : List TableWork) → us ≡ [] → Unwinding u w kept ts us → Unwound u ts kept w
+unfolding UnwindsOn
+unwinding_course u w kept ts us none g = g.course w (subst (λ (rs : List TableWork). Unwound w rs kept w) (sym none) refl)

@@ -1,5 +1,5 @@
 -- A frame taken as a page table: what is in hand then, and why it is not to be had.
-use Rattle.std.specs.Prelude.{◌≡◌, ◌⊎◌, ◌+◌, ◌==◌, ◌&&◌, nat_le, not, if◌then◌else◌, ℕ, Bool, true, false, List, [], ◌∷◌, Option, Some, None, Result, Ok, Err}
+use Rattle.std.specs.Prelude.{◌≡◌, ◌⊎◌, ◌+◌, ◌==◌, ◌&&◌, not, if◌then◌else◌, ℕ, Bool, true, false, List, [], ◌∷◌, Option, Some, None, Result, Ok, Err}
 use Rattle.xp_words.specs.declared.reply.Pause.TheVariants.{Busy, Due, Flush, Lost}
 use Rattle.xp_words.specs.declared.reply.Refusal.TheVariants as refusals
 use Rattle.xp_words.specs.declared.reply.Stop.{Stop}
@@ -15,6 +15,8 @@ use Rattle.frame_types.specs.Taking.{WaitsWith}
 use Rattle.frame_words.specs.Refs.{took}
 use Rattle.partial_state.specs.Levels.{level_type}
 use Rattle.partial_state.specs.declared.stack.TableWork.{TableWork}
+use Rattle.table_courses.specs.Acquiring.{Acquired}
+use Rattle.xp_preempt.specs.Gates.{Consulted, ends_yes}
 use Rattle.level_validate.specs.Completing.{Completes}
 use Rattle.level_validate.specs.Serving.{IsPiece}
 use Rattle.level_validate.specs.Tables.{Carries, IsIdle}
@@ -66,14 +68,6 @@ is_filled [] = true
 is_filled (t ∷ []) = t.done == 512
 is_filled (t ∷ u ∷ us) = false
 
--- whether the gate is asked behind the last entry that is done with: not where it is in a slot that is Xen's, nor where the table is then full
-abbrev pub is_asked_at : ℕ → ℕ → Bool
-is_asked_at level done = not (done == 512) && not ((level == 4) && (nat_le 257 done && nat_le done 272))
-
-abbrev pub is_asked : List TableWork → Bool
-is_asked [] = false
-is_asked (t ∷ ts) = is_asked_at t.level t.done
-
 -- ---- causes
 -- behind a piece in which these tables came into work, and for which the gate said yes where that is why, the steps show why it stops
 unfoldable pub StopsRisen : PortValue → PortValue → ℕ → List TableWork → Stop → Type 0
@@ -108,3 +102,12 @@ IsTableWaiting w f level own stamp = (v : PortValue) × TableWaits v w f level o
 abbrev pub LeavesWaiting : PortValue → PortValue → ℕ → ℕ → Bool → ℕ → Bool → Type 0
 LeavesWaiting u w f level own stamp kept =
     (v : PortValue) → TableWaits v u f level own stamp → FlushedHolds v w (if own && not kept then record v.holdings { old0 = Some (f + 1) } else v.holdings)
+
+-- ---- the course
+-- The frame was taken by these calls, and with these answers of a gate that says this at each ask: its count of asks was `before` and is
+-- `after`, that of answers yes was `yes_before` and is `yes_after`. The last answer is yes where that is why the call is paused.
+pub record AcquiresBy (v w : PortValue) (f owner level : ℕ) (says : ℕ → Bool) (before after yes_before yes_after : ℕ) (answer : Result ℕ Stop) : Type 0 where
+  pub answers : List Bool
+  pub course : Acquired v f owner level w answers answer
+  pub gate : Consulted says before after yes_before yes_after answers
+  pub due : is_due_answer answer ≡ ends_yes answers

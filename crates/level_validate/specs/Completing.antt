@@ -1,5 +1,5 @@
 -- Tables that are made live.
-use Rattle.std.specs.Prelude.{◌≡◌, ℕ, if◌then◌else◌, Bool, List, [], ◌∷◌}
+use Rattle.std.specs.Prelude.{◌≡◌, ℕ, List, [], ◌∷◌}
 use Rattle.xp_board.specs.declared.holdings.OwnerFound.TheVariants as owners
 use Rattle.xp_board.specs.KindSteps.{live_typed}
 use Rattle.xp_board.specs.Told.{PortValue}
@@ -7,10 +7,6 @@ use Rattle.step_maker.specs.Holds.{FlushedHolds}
 use Rattle.partial_state.specs.declared.stack.TableWork.{TableWork}
 use Rattle.partial_state.specs.Levels.{level_type}
 use Rattle.level_validate.specs.Tables.{Carries}
-
--- how many type counts it has then: the own one, or another holder's too
-abbrev pub count_for : Bool → ℕ
-count_for own = if own then 1 else 2
 
 -- wherever that one table of any owner came into work, the hand is what it was, and a typed reference to it, known live
 abbrev pub Completes : PortValue → PortValue → TableWork → Type 0

@@ -1,5 +1,6 @@
 pub mod Acquiring
 pub mod Completing
+pub mod Courses
 pub mod Forward
 pub mod Giving
 pub mod Leaving

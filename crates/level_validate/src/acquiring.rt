@@ -10,7 +10,9 @@ ghost use Rattle.partial_state.specs.Levels.{level_type};
 ghost use Rattle.table_words.specs.OldWords.{known_old};
 ghost use Rattle.table_words.specs.declared.old_words.OldWord.TheVariants.{First};
 ghost use Rattle.partial_state.specs.Weights.{weight};
-ghost use Rattle.level_validate.specs.Acquiring.{IsAcquireStop, IsTableWaiting, LeavesAcquired, LeavesWaiting, StopsRisen, Validated, is_asked, is_due_answer, is_filled, is_paused_answer, of_acquire, outermost_work};
+ghost use Rattle.table_courses.specs.Acquiring.{Advanced, WaitingLeft, Worked, is_asked};
+ghost use Rattle.level_validate.specs.Acquiring.{AcquiresBy, IsAcquireStop, IsTableWaiting, LeavesAcquired, LeavesWaiting, StopsRisen, Validated, is_due_answer, is_filled, is_paused_answer, of_acquire, outermost_work};
+ghost use Rattle.level_validate.specs.Courses.{Consults, GoesOn, ValidatesBy};
 ghost use Rattle.level_validate.specs.Forward.{Forward};
 ghost use Rattle.level_validate.specs.Leaving.{LeftWell};
 ghost use Rattle.level_validate.specs.Serving.{CarriesOn};
@@ -63,6 +65,8 @@ pub fn acquire<P: Port>(
     ensures says { (n : ℕ) → says gate.new n ≡ says gate.old n }
     ensures paces { paces gate.new ≡ paces gate.old }
     ensures calm { calm gate.old ≡ true → (is_due_answer result ≡ false) × (calm gate.new ≡ true) }
+    // By which calls on frames and entries, one behind the other, and by which answers of the gate.
+    ensures course { AcquiresBy (P.value port.old) (P.value port.new) f owner level (says gate.old) (count_asks gate.old) (count_asks gate.new) (count_yes gate.old) (count_yes gate.new) result }
 {
     let frame = get_ref(port, f, owner)?;
     match take_type(port, frame, owner, level_type(level)) {
@@ -109,6 +113,7 @@ fn leave_waiting<P: Port>(port: &mut P, frame: u32, level: u8, own: bool, stamp:
     ensures leaves { LeftWell (P.value port.old) (P.value port.new) kept frame }
     ensures serves { ServesType (P.value port.old) (P.value port.new) frame (level_type level) }
     ensures hand { LeavesWaiting (P.value port.old) (P.value port.new) frame level own stamp kept }
+    ensures course { WaitingLeft (P.value port.old) (P.value port.new) frame level stamp own kept }
 {
     let kind = level_type(level);
     if !own {
@@ -145,6 +150,7 @@ fn validate<P: Port>(
     ensures says { (n : ℕ) → says gate.new n ≡ says gate.old n }
     ensures paces { paces gate.new ≡ paces gate.old }
     ensures calm { calm gate.old ≡ true → (is_due_answer result ≡ false) × (calm gate.new ≡ true) }
+    ensures course { Consults (says gate.old) (count_asks gate.old) (count_asks gate.new) (count_yes gate.old) (count_yes gate.new) (is_due_answer result) (λ answers. ValidatesBy owner (P.value port.old) table (P.value port.new) answers result) }
 {
     let mut stack = Stack::new();
     stack.push(table);
@@ -187,6 +193,7 @@ fn fill<P: Port>(
     ensures says { (n : ℕ) → says gate.new n ≡ says gate.old n }
     ensures paces { paces gate.new ≡ paces gate.old }
     ensures calm { calm gate.old ≡ true → (is_due_answer result ≡ false) × (calm gate.new ≡ true) }
+    ensures course { Consults (says gate.old) (count_asks gate.old) (count_asks gate.new) (count_yes gate.old) (count_yes gate.new) (is_due_answer result) (λ answers. Worked owner (P.value port.old) table (P.value port.new) stack.new answers result) }
 {
     take_on(port, owner, stack, table)?;
     while !is_filled(stack) {
@@ -221,6 +228,7 @@ fn go_on<P: Port>(
     ensures says { (n : ℕ) → says gate.new n ≡ says gate.old n }
     ensures paces { paces gate.new ≡ paces gate.old }
     ensures calm { calm gate.old ≡ true → (is_due_answer result ≡ false) × (calm gate.new ≡ true) }
+    ensures course { Consults (says gate.old) (count_asks gate.old) (count_asks gate.new) (count_yes gate.old) (count_yes gate.new) (is_due_answer result) (λ answers. GoesOn owner (P.value port.old) stack.old (P.value port.new) stack.new answers result) }
 {
     if advance(port, owner, stack)? {
         if is_asked(stack) {
@@ -250,6 +258,7 @@ fn advance<P: Port>(port: &mut P, owner: u16, stack: &mut Stack) -> Result<bool,
     ensures progress { IfOk result (λ done. done ≡ true → Progress (Met (P.value port.old) (P.value port.new))) }
     ensures serves { CarriesOn (P.value port.old) (P.value port.new) owner stack.old stack.new (misses (P.value port.old).post.machine result) }
     ensures stops { IfErr result (λ e. StopsRisen (P.value port.old) (P.value port.new) owner stack.old e) }
+    ensures course { Advanced owner (P.value port.old) stack.old (P.value port.new) stack.new result }
 {
     let Some(top) = stack.top() else {
         unreachable!()

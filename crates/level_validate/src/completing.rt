@@ -1,5 +1,5 @@
 //! Tables of which all entries are recorded.
-ghost use Rattle.std.specs.Prelude.{◌≡◌, ◌<◌, ◌∷◌, List, [], ℕ, None, false, drop};
+ghost use Rattle.std.specs.Prelude.{◌≡◌, ◌<◌, ◌∷◌, List, [], ℕ, None, Ok, true, false, drop};
 ghost use Rattle.xp_words.specs.KindWords.{kind_write};
 ghost use Rattle.xp_words.specs.declared.place.Place.TheVariants.{Kind};
 ghost use Rattle.xp_board.specs.declared.step.Act.TheVariants.{Store};
@@ -13,7 +13,8 @@ ghost use Rattle.kind_words.specs.Kinds.{MayLeave, left, live_kind};
 ghost use Rattle.frame_types.specs.Taking.{gave_type};
 ghost use Rattle.partial_state.specs.Levels.{level_type};
 ghost use Rattle.partial_state.specs.declared.stack.TableWork.{TableWork};
-ghost use Rattle.level_validate.specs.Completing.{Completes, IsInnerFull, count_for};
+ghost use Rattle.table_courses.specs.Acquiring.{Advanced, GaveBack, MadeLive, type_counts};
+ghost use Rattle.level_validate.specs.Completing.{Completes, IsInnerFull};
 ghost use Rattle.level_validate.specs.Giving.{MayGiveBack};
 ghost use Rattle.level_validate.specs.Forward.{Forward};
 ghost use Rattle.level_validate.specs.Leaving.{LeftWell};
@@ -38,6 +39,7 @@ pub(crate) fn complete_outer<P: Port>(port: &mut P, table: TableWork)
     ensures leaves { (f : ℕ) → LeftWell (P.value port.old) (P.value port.new) false f }
     ensures hand { Completes (P.value port.old) (P.value port.new) table }
     ensures serves { (owner : ℕ) → CarriesOn (P.value port.old) (P.value port.new) owner (table ∷ []) [] [] }
+    ensures course { MadeLive (P.value port.old) (P.value port.new) table }
 {
     make_live(port, table);
 }
@@ -57,6 +59,7 @@ pub(crate) fn complete_inner<P: Port>(port: &mut P, stack: &mut Stack)
     ensures progress { Progress (Met (P.value port.old) (P.value port.new)) }
     ensures serves { (owner : ℕ) → CarriesOn (P.value port.old) (P.value port.new) owner stack.old stack.new [] }
     ensures ready { IsTopReady (P.value port.new) }
+    ensures course { (owner : ℕ) → Advanced owner (P.value port.old) stack.old (P.value port.new) stack.new (Ok true) }
 {
     if let Some(table) = stack.pop() {
         if let Some(outer) = stack.top() {
@@ -82,6 +85,7 @@ fn complete_in<P: Port>(port: &mut P, table: TableWork, outer: TableWork)
     ensures serves { (owner : ℕ) (us : List TableWork) → CarriesOn (P.value port.old) (P.value port.new) owner (table ∷ outer ∷ us) (outer ∷ us) [] }
     ensures progress { Progress (Met (P.value port.old) (P.value port.new)) }
     ensures ready { IsTopReady (P.value port.new) }
+    ensures course { (owner : ℕ) (us : List TableWork) → Advanced owner (P.value port.old) (table ∷ outer ∷ us) (P.value port.new) (outer ∷ us) (Ok true) }
 {
     make_live(port, table);
     if table.recorded {
@@ -95,9 +99,9 @@ fn complete_in<P: Port>(port: &mut P, table: TableWork, outer: TableWork)
 fn make_live<P: Port>(port: &mut P, table: TableWork) -> u64
     requires frame { table.frame < (P.value port.old).post.machine.frames }
     requires may { MayWork (P.value port.old) }
-    requires leaves { MayLeave (P.value port.old) table.frame (live_kind (level_type table.level) (count_for table.own)) }
-    ensures moves { Moves (P.value port.old) (P.value port.new) (Kind table.frame) (Store (kind_write (live_kind (level_type table.level) (count_for table.own)))) kinds.Kind None result }
-    ensures hand { Holds (P.value port.old) (P.value port.new) (left (P.value port.old) table.frame (live_kind (level_type table.level) (count_for table.own))) }
+    requires leaves { MayLeave (P.value port.old) table.frame (live_kind (level_type table.level) (type_counts table.own)) }
+    ensures moves { Moves (P.value port.old) (P.value port.new) (Kind table.frame) (Store (kind_write (live_kind (level_type table.level) (type_counts table.own)))) kinds.Kind None result }
+    ensures hand { Holds (P.value port.old) (P.value port.new) (left (P.value port.old) table.frame (live_kind (level_type table.level) (type_counts table.own))) }
 {
     let number = if table.own { 1 } else { 2 };
     let live = live_kind(level_type(table.level), number);
@@ -115,6 +119,7 @@ pub(crate) fn give_back<P: Port>(port: &mut P, frame: u32)
     ensures leaves { (f : ℕ) → LeftWell (P.value port.old) (P.value port.new) false f }
     ensures hand { Holds (P.value port.old) (P.value port.new) (gave_type frame (P.value port.old).holdings) }
     ensures serves { Serves (P.value port.old) (P.value port.new) (of_back frame) [] }
+    ensures course { GaveBack (P.value port.old) (P.value port.new) frame }
 {
     if drop_type(port, frame) {
         unreachable!("an entry has the type too")

@@ -7,7 +7,9 @@ ghost use Rattle.answer_fits.specs.Answers.{misses};
 ghost use Rattle.answer_fits.specs.Pauses.{Progress};
 ghost use Rattle.partial_state.specs.Stacks.{left_on_top};
 ghost use Rattle.partial_state.specs.Weights.{entry_weight, weight};
+ghost use Rattle.table_courses.specs.Acquiring.{TookOn};
 ghost use Rattle.level_validate.specs.Acquiring.{outermost_work};
+ghost use Rattle.level_validate.specs.Courses.{EntersNext};
 ghost use Rattle.level_validate.specs.Forward.{Forward};
 ghost use Rattle.level_validate.specs.Leaving.{LeftWell};
 ghost use Rattle.level_validate.specs.Serving.{CarriesOn, StopsIn};
@@ -39,6 +41,7 @@ pub(crate) fn enter<P: Port>(port: &mut P, owner: u16, stack: &mut Stack) -> Res
     ensures less { IfOk result (λ _. weight stack.new < weight stack.old) }
     ensures serves { CarriesOn (P.value port.old) (P.value port.new) owner stack.old stack.new (misses (P.value port.old).post.machine result) }
     ensures stops { IfErr result (λ e. StopsIn (P.value port.old) (P.value port.new) owner stack.old e) }
+    ensures course { EntersNext owner (P.value port.old) stack.old (P.value port.new) stack.new result }
 {
     let Some(top) = stack.top() else {
         unreachable!()
@@ -100,6 +103,7 @@ pub(crate) fn take_on<P: Port>(
     ensures less { IfOk result (λ _. weight stack.new < weight stack.old + entry_weight top.level) }
     ensures serves { CarriesOn (P.value port.old) (P.value port.new) owner stack.old stack.new (misses (P.value port.old).post.machine result) }
     ensures stops { IfErr result (λ e. StopsIn (P.value port.old) (P.value port.new) owner stack.old e) }
+    ensures course { TookOn owner (P.value port.old) stack.old (P.value port.new) stack.new result }
 {
     if top.done == 0 {
         return Ok(());

@@ -12,7 +12,9 @@ ghost use Rattle.table_words.specs.OldWords.{known_old};
 ghost use Rattle.table_words.specs.declared.old_words.OldWord.TheVariants.{First};
 ghost use Rattle.partial_state.specs.Levels.{level_type};
 ghost use Rattle.partial_state.specs.declared.stack.TableWork.{TableWork};
+ghost use Rattle.table_courses.specs.Acquiring.{GaveRef, InnerLeft, LeftPartial, OutermostLeft, Unwound};
 ghost use Rattle.level_validate.specs.Acquiring.{outermost_work};
+ghost use Rattle.level_validate.specs.Courses.{UnwindsOn};
 ghost use Rattle.level_validate.specs.Forward.{Forward};
 ghost use Rattle.level_validate.specs.Leaving.{LeftWell};
 ghost use Rattle.level_validate.specs.Serving.{CarriesOn};
@@ -37,6 +39,7 @@ pub(crate) fn unwind<P: Port>(port: &mut P, stack: &mut Stack, kept: bool)
     ensures hand { Unwinds (P.value port.old) (P.value port.new) kept stack.old }
     ensures done { stack.new ≡ [] }
     ensures serves { (owner : ℕ) → CarriesOn (P.value port.old) (P.value port.new) owner stack.old [] [] }
+    ensures course { Unwound (P.value port.old) stack.old kept (P.value port.new) }
 {
     while let Some(table) = stack.pop() {
         leave_table(port, stack, table, kept);
@@ -55,6 +58,7 @@ fn leave_table<P: Port>(port: &mut P, stack: &mut Stack, table: TableWork, kept:
     ensures fewer { length stack.new ≡ length stack.old }
     ensures around { (b : Bool) × (stack.new ≡ around_lent b stack.old) }
     ensures serves { (owner : ℕ) → CarriesOn (P.value port.old) (P.value port.new) owner (table ∷ stack.old) stack.new [] }
+    ensures course { UnwindsOn (P.value port.old) (P.value port.new) kept (table ∷ stack.old) stack.new }
 {
     if stack.is_empty() {
         leave_outermost(port, table, kept);
@@ -73,6 +77,7 @@ fn leave_outermost<P: Port>(port: &mut P, table: TableWork, kept: bool)
     ensures leaves { LeftWell (P.value port.old) (P.value port.new) kept table.frame }
     ensures hand { Unwinds (P.value port.old) (P.value port.new) kept (table ∷ []) }
     ensures serves { (owner : ℕ) → CarriesOn (P.value port.old) (P.value port.new) owner (table ∷ []) [] [] }
+    ensures course { OutermostLeft (P.value port.old) (P.value port.new) table table.own kept }
 {
     if table.own {
         leave_named(port, table, kept);
@@ -92,6 +97,7 @@ fn leave_named<P: Port>(port: &mut P, table: TableWork, kept: bool)
     ensures leaves { LeftWell (P.value port.old) (P.value port.new) kept table.frame }
     ensures hand { Unwinds (P.value port.old) (P.value port.new) kept (table ∷ []) }
     ensures serves { (owner : ℕ) → CarriesOn (P.value port.old) (P.value port.new) owner (table ∷ []) [] [] }
+    ensures course { OutermostLeft (P.value port.old) (P.value port.new) table true kept }
 {
     leave_partial(port, table, kept);
     if !kept {
@@ -110,6 +116,7 @@ fn leave_inner<P: Port>(port: &mut P, stack: &mut Stack, table: TableWork)
     ensures stands { StandsOn (P.value port.old) (P.value port.new) (own_domain (P.value port.old)) (table ∷ stack.old) stack.new }
     ensures around { (b : Bool) × (stack.new ≡ around_lent b stack.old) }
     ensures serves { (owner : ℕ) → CarriesOn (P.value port.old) (P.value port.new) owner (table ∷ stack.old) stack.new [] }
+    ensures course { (kept : Bool) → UnwindsOn (P.value port.old) (P.value port.new) kept (table ∷ stack.old) stack.new }
 {
     if table.own {
         leave_own(port, stack, table);
@@ -133,6 +140,7 @@ fn leave_own<P: Port>(port: &mut P, stack: &Stack, table: TableWork)
     ensures leaves { (f : ℕ) → LeftWell (P.value port.old) (P.value port.new) false f }
     ensures stands { StandsOn (P.value port.old) (P.value port.new) (own_domain (P.value port.old)) (table ∷ stack.now) stack.now }
     ensures serves { (owner : ℕ) → CarriesOn (P.value port.old) (P.value port.new) owner (table ∷ stack.now) stack.now [] }
+    ensures course { (outer : TableWork) (ts : List TableWork) → stack.now ≡ outer ∷ ts → InnerLeft (P.value port.old) (P.value port.new) table outer true table.recorded }
 {
     leave_partial(port, table, table.recorded);
     if !table.recorded {
@@ -152,6 +160,7 @@ fn leave_lent<P: Port>(port: &mut P, table: TableWork)
     ensures leaves { (f : ℕ) → LeftWell (P.value port.old) (P.value port.new) false f }
     ensures stands { (ts : List TableWork) → StandsOn (P.value port.old) (P.value port.new) (own_domain (P.value port.old)) (table ∷ ts) (around_lent table.recorded ts) }
     ensures serves { (owner : ℕ) (ts : List TableWork) → CarriesOn (P.value port.old) (P.value port.new) owner (table ∷ ts) (around_lent table.recorded ts) [] }
+    ensures course { (u : PortValue) × LeftPartial (P.value port.old) u table false × GaveRef u (P.value port.new) table.frame }
 {
     leave_partial(port, table, false);
     put_ref(port, table.frame);

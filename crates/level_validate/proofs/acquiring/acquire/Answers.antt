@@ -15,6 +15,7 @@ use Rattle.frame_types.specs.declared.taking.Taken.TheVariants.{Counted, InWork,
 use Rattle.partial_state.specs.Levels.{level_type}
 use Rattle.level_validate.specs.Acquiring.{is_due_stop, is_paused_answer}
 use Rattle.level_validate.proofs.Acquired.{answer_leaves, counted_hand, given_hand, idle_aside, idle_other, leaves_as, same_leaves, carries_taken, taken_ready, unwound_leaves}
+use Rattle.level_validate.proofs.AcquiredBy.{counted_by, finished_by, unfinished_by, unreferred_by, untyped_by, waiting_by}
 use Rattle.level_validate.proofs.LeftWaiting.{waits_on}
 use Rattle.level_validate.proofs.Requested.{reference_serves, reference_stops, serves_as, stopped_serves, stopped_stops, stops_as, taken_serves, validated_misses, validated_serves, validated_stops, waited_serves, waited_stops}
 use Rattle.level_validate.proofs.acquiring.acquire.Goals as goal
@@ -323,3 +324,65 @@ returns-in-Err-clause-leaves g c =
     let w = g.P.Port.value c.put_ref.new.port in
     let kept = not (is_refused c.in-Err.stop) in
     well_then v x w kept c.args.f (had_well v b x c.args.f c.args.owner c.args.level c.get_ref.result c.get_ref.ensures.gets c.in_ok-frame.frame c.level_type.result c.level_type.ensures c.take_type.result c.take_type.ensures.found kept c.args.f) (well_by x w kept c.args.f (λ vs. PutBy c.in_ok-frame.frame vs) (put_plain c.in_ok-frame.frame) c.put_ref.ensures.puts)
+
+-- ---- the course
+
+pub returns-in_err-frame-clause-course : goal.returns-in_err-frame-clause-course
+returns-in_err-frame-clause-course g c =
+    let e = c.in_err-frame.field-0.0 in
+    let answer = err_from_is_err_and c.from_residual.result c.from_residual.ensures.1 in
+    let stopped = c.in_err-frame.ensures in
+    unreferred_by (g.P.Port.value c.args.port.now) c.args.f c.args.owner c.args.level _ _ _ (g.P.Port.value c.get_ref.new.port) c.from_residual.result e (answer.1 ∙ ap Err answer.2) stopped.kinds stopped.gets stopped.plain stopped.stops
+
+pub returns-in-Err-clause-course : goal.returns-in-Err-clause-course
+returns-in-Err-clause-course g c =
+    let v = g.P.Port.value c.args.port.now in
+    let b = g.P.Port.value c.get_ref.new.port in
+    let x = g.P.Port.value c.take_type.new.port in
+    let got = c.in_ok-frame.ensures in
+    let stopped = c.in-Err.ensures in
+    untyped_by v c.args.f c.args.owner c.args.level _ _ _ b c.in_ok-frame.frame got.frame.0 got.gets got.plain x c.level_type.result c.level_type.ensures
+    (g.P.Port.value c.put_ref.new.port) c.in-Err.stop stopped.kinds stopped.found stopped.plain stopped.stops c.put_ref.ensures.puts c.put_ref.ensures.plain
+
+pub returns-in-Ok-Counted-clause-course : goal.returns-in-Ok-Counted-clause-course
+returns-in-Ok-Counted-clause-course g c =
+    let v = g.P.Port.value c.args.port.now in
+    let b = g.P.Port.value c.get_ref.new.port in
+    let x = g.P.Port.value c.take_type.new.port in
+    let got = c.in_ok-frame.ensures in
+    let took = c.in-Ok-Counted in
+    counted_by v c.args.f c.args.owner c.args.level _ _ _ b c.in_ok-frame.frame got.frame.0 got.gets got.plain x c.level_type.result c.level_type.ensures
+    took.field-0 took.ensures.found took.ensures.plain took.ensures.waits took.field-0-is
+
+pub returns-in-Ok-Waiting-clause-course : goal.returns-in-Ok-Waiting-clause-course
+returns-in-Ok-Waiting-clause-course g c =
+    let v = g.P.Port.value c.args.port.now in
+    let b = g.P.Port.value c.get_ref.new.port in
+    let x = g.P.Port.value c.take_type.new.port in
+    let got = c.in_ok-frame.ensures in
+    let took = c.in-Ok-Waiting in
+    waiting_by v c.args.f c.args.owner c.args.level _ _ _ b c.in_ok-frame.frame got.frame.0 got.gets got.plain x c.level_type.result c.level_type.ensures
+    took.field-0 took.ensures.found took.ensures.plain took.ensures.waits took.own took.stamp took.stop took.field-0-is (g.P.Port.value c.leave_waiting.new.port) c.is_paused.result c.is_paused.ensures c.leave_waiting.ensures.course
+
+pub returns-in_ok-validate-in-Ok-InWork-clause-course : goal.returns-in_ok-validate-in-Ok-InWork-clause-course
+returns-in_ok-validate-in-Ok-InWork-clause-course g c =
+    let v = g.P.Port.value c.args.port.now in
+    let b = g.P.Port.value c.get_ref.new.port in
+    let x = g.P.Port.value c.take_type.new.port in
+    let got = c.in_ok-frame.ensures in
+    let took = c.in-Ok-InWork in
+    finished_by v c.args.f c.args.owner c.args.level _ _ _ b c.in_ok-frame.frame got.frame.0 got.gets got.plain x c.level_type.result c.level_type.ensures
+    took.field-0 took.ensures.found took.ensures.plain took.ensures.waits took.progress took.own took.field-0-is (g.P.Port.value c.validate.new.port) _ _ c.in_ok-validate-in-Ok-InWork.ensures.course
+
+pub returns-in_err-validate-in-Ok-InWork-clause-course : goal.returns-in_err-validate-in-Ok-InWork-clause-course
+returns-in_err-validate-in-Ok-InWork-clause-course g c =
+    let v = g.P.Port.value c.args.port.now in
+    let b = g.P.Port.value c.get_ref.new.port in
+    let x = g.P.Port.value c.take_type.new.port in
+    let got = c.in_ok-frame.ensures in
+    let took = c.in-Ok-InWork in
+    let e = c.in_err-validate-in-Ok-InWork.field-0.0 in
+    let result = c.from_residual-in_err-validate-in-Ok-InWork.result in
+    let answer = err_from_is_err_and result c.from_residual-in_err-validate-in-Ok-InWork.ensures.1 in
+    unfinished_by v c.args.f c.args.owner c.args.level _ _ _ b c.in_ok-frame.frame got.frame.0 got.gets got.plain x c.level_type.result c.level_type.ensures
+    took.field-0 took.ensures.found took.ensures.plain took.ensures.waits took.progress took.own took.field-0-is (g.P.Port.value c.validate.new.port) _ _ result e (answer.1 ∙ ap Err answer.2) c.in_err-validate-in-Ok-InWork.ensures.course

@@ -1,11 +1,12 @@
 use Rattle.level_validate.proofs.LeftWell.{well_then}
 use Rattle.level_validate.proofs.Forward.{forward_then}
-use Rattle.std.proofs.Common.{Err, refl, ap, ◌∙◌, false}
+use Rattle.std.proofs.Common.{Ok, Err, refl, ap, ◌∙◌, false}
 use Rattle.std.proofs.lemmas.Result.{err_from_is_err_and}
 use Rattle.xp_preempt.proofs.Hearing.{heard_as, heard_none, heard_then}
 use Rattle.level_validate.proofs.Asking.{goes_answer}
 use Rattle.level_validate.proofs.Filling.{filling_came, filling_may, filling_on, filling_serves, filling_standing, filling_stops}
 use Rattle.level_validate.proofs.Rising.{risen_answer, risen_in}
+use Rattle.level_validate.proofs.WorkedOn.{begun_working, cut_off_working, working_on, working_stops}
 use Rattle.level_validate.proofs.acquiring.fill.Goals as goal
 
 pub returns-in_err-take_on-clause-stops : goal.returns-in_err-take_on-clause-stops
@@ -26,6 +27,7 @@ loop-port-init g c =
       says = λ n. refl;
       paces = refl;
       calm = λ a. a;
+      course = begun_working c.args.owner (g.P.Port.value c.args.port.now) c.args.table _ _ _ c.args.stack.now c.requires.only (g.P.Port.value c.take_on.new.port) c.take_on.new.stack t.course;
     }
 
 pub go_on-requires-clause-may : goal.go_on-requires-clause-may
@@ -50,6 +52,7 @@ loop-port-preserved g c =
       says = λ n. t.says n ∙ i.says n;
       paces = t.paces ∙ i.paces;
       calm = λ calm. (t.calm (i.calm calm)).1;
+      course = working_on c.args.owner (g.P.Port.value c.args.port.now) c.args.table _ _ _ (g.P.Port.value c.loop-port.port) (g.P.Port.value c.go_on.new.port) c.loop-port.stack c.go_on.new.stack _ _ _ _ _ false (Ok tt) i.says i.course t.course;
     }
 
 pub returns-in_err-go_on-clause-came : goal.returns-in_err-go_on-clause-came
@@ -92,3 +95,22 @@ returns-in_err-go_on-clause-leaves g c f =
 
 pub returns-clause-leaves : goal.returns-clause-leaves
 returns-clause-leaves g c f = c.loop-port.invariant.tables.leaves f
+
+-- ---- its part of the course
+
+pub returns-in_err-take_on-clause-course : goal.returns-in_err-take_on-clause-course
+returns-in_err-take_on-clause-course g c =
+    let e = c.in_err-take_on.field-0.0 in
+    let answer = err_from_is_err_and c.from_residual.result c.from_residual.ensures.1 in
+    let stopped = c.in_err-take_on.ensures in
+    cut_off_working c.args.owner (g.P.Port.value c.args.port.now) c.args.table _ _ _ c.args.stack.now c.requires.only (g.P.Port.value c.take_on.new.port) c.take_on.new.stack c.from_residual.result e (answer.1 ∙ ap Err answer.2)
+    stopped.kinds stopped.course
+
+pub returns-in_err-go_on-clause-course : goal.returns-in_err-go_on-clause-course
+returns-in_err-go_on-clause-course g c =
+    let e = c.in_err-go_on.field-0.0 in
+    let r = c.from_residual-in_err-go_on.result in
+    let answer = err_from_is_err_and r c.from_residual-in_err-go_on.ensures.1 in
+    let i = c.loop-port.invariant in
+    working_stops c.args.owner (g.P.Port.value c.args.port.now) c.args.table _ _ _ (g.P.Port.value c.loop-port.port) (g.P.Port.value c.go_on.new.port) c.loop-port.stack c.go_on.new.stack _ _ _ _ _ r e (answer.1 ∙ ap Err answer.2)
+    i.says i.course c.in_err-go_on.ensures.course

@@ -18,6 +18,7 @@ use Rattle.frame_types.proofs.Serving.{store_serves}
 use Rattle.partial_state.specs.Levels.{level_type}
 use Rattle.level_validate.proofs.LeftWaiting.{gives_left, kept_hand, lent_hand, mark_left, mark_may, named_hand, named_left, stays_held, stays_may, stays_room, unkept_is, waits_as}
 use Rattle.level_validate.proofs.Serving.{old_serves}
+use Rattle.level_validate.proofs.LeftSo.{waiting_kept, waiting_lent, waiting_named}
 use Rattle.level_validate.proofs.acquiring.leave_waiting.Goals as goal
 
 -- ---- the type count is another holder's
@@ -159,3 +160,20 @@ returns-else-kept-clause-leaves g c =
     let is = unkept_is b.0 x f c.args.level c.args.own c.args.stamp b.1 want c.level_type-kind.ensures true c.if-not-own.false in
     well_then x d z c.args.kept f (well_by x d c.args.kept f (λ vs. StoresKind f k vs) (stores_plain f k is refl refl) c.leave_unsettled.ensures.visits)
     (well_step d z c.args.kept f _ _ _ _ 0 refl c.put_old.ensures.moves)
+
+-- ---- its part of the course
+
+pub returns-then-not-own-clause-course : goal.returns-then-not-own-clause-course
+returns-then-not-own-clause-course g c =
+    waiting_lent (g.P.Port.value c.args.port.now) (g.P.Port.value c.leave_shared.new.port) c.args.frame c.args.level c.args.stamp c.args.own c.args.kept c.level_type-kind.result c.level_type-kind.ensures
+    c.if-not-own.true c.leave_shared.ensures.visits
+
+pub returns-then-kept-clause-course : goal.returns-then-kept-clause-course
+returns-then-kept-clause-course g c =
+    waiting_kept (g.P.Port.value c.args.port.now) (g.P.Port.value c.leave.new.port) c.args.frame c.args.level c.args.stamp c.args.own c.args.kept c.level_type-kind.result c.level_type-kind.ensures
+    c.if-not-own.false c.if-kept.true c.waiting_kind.result c.waiting_kind.ensures c.leave.result c.leave.ensures.moves
+
+pub returns-else-kept-clause-course : goal.returns-else-kept-clause-course
+returns-else-kept-clause-course g c =
+    waiting_named (g.P.Port.value c.args.port.now) (g.P.Port.value c.put_old.new.port) c.args.frame c.args.level c.args.stamp c.args.own c.args.kept c.level_type-kind.result c.level_type-kind.ensures
+    c.if-not-own.false c.if-kept.false (g.P.Port.value c.leave_unsettled.new.port) c.leave_unsettled.ensures.visits c.put_old.ensures.moves

@@ -2,7 +2,7 @@ use Rattle.frame_types.specs.Plain.{is_refused}
 use Rattle.level_validate.specs.Leaving.{LeftWell}
 use Rattle.level_validate.proofs.LeftWell.{well_more, well_then}
 use Rattle.level_validate.proofs.Forward.{forward_then}
-use Rattle.std.proofs.Common.{◌≡◌, ◌∷◌, ◌∙◌, [], List, sym, ap, subst, false, not}
+use Rattle.std.proofs.Common.{◌≡◌, ◌∷◌, ◌∙◌, [], List, refl, sym, ap, subst, false, not}
 use Rattle.step_maker.proofs.Coming.{came_trans}
 use Rattle.partial_state.specs.declared.stack.TableWork.{TableWork}
 use Rattle.answer_fits.specs.Answers.{missed}
@@ -13,6 +13,7 @@ use Rattle.level_validate.specs.Unwinding.{Unwinds}
 use Rattle.level_validate.proofs.Outermost.{completed, filled_is, on_may, on_room, on_stands, own_standing, unwound}
 use Rattle.level_validate.proofs.Rising.{risen_on}
 use Rattle.level_validate.proofs.Serving.{goes_then}
+use Rattle.level_validate.proofs.ValidatedBy.{validated_left, validated_live}
 use Rattle.level_validate.proofs.acquiring.validate.Goals as goal
 
 -- ---- all entries are recorded
@@ -133,3 +134,16 @@ returns-in-Err-clause-leaves g c =
     let kept = not (is_refused c.in-Err.stop) in
     well_then u x w kept t.frame (well_more u x kept t.frame t.frame (c.fill.ensures.leaves t.frame))
     (subst (λ b. LeftWell x w b t.frame) c.is_paused.ensures (c.unwind.ensures.leaves (record t { done = 0 }) (c.fill.ensures.outer ∙ ap (λ us. outermost_work us) one)))
+
+-- ---- the course
+
+pub returns-in-Ok-clause-course : goal.returns-in-Ok-clause-course
+returns-in-Ok-clause-course g c =
+    let t = c.args.table in
+    let one = only t c.new-stack.result c.push.new.self c.new-stack.ensures c.push.ensures.pushed in
+    let full = filled_is t c.fill.new.stack c.in-Ok.ensures.filled (c.fill.ensures.outer ∙ ap outermost_work one) in
+    validated_live _ _ _ _ _ c.args.owner (g.P.Port.value c.args.port.now) (g.P.Port.value c.fill.new.port) (g.P.Port.value c.complete_outer.new.port) t c.fill.new.stack (record t { done = 512 }) full refl c.complete_outer.ensures.course c.in-Ok.ensures.course
+
+pub returns-in-Err-clause-course : goal.returns-in-Err-clause-course
+returns-in-Err-clause-course g c =
+    validated_left _ _ _ _ _ c.args.owner (g.P.Port.value c.args.port.now) (g.P.Port.value c.fill.new.port) (g.P.Port.value c.unwind.new.port) c.args.table c.fill.new.stack _ c.in-Err.stop c.is_paused.result c.is_paused.ensures c.unwind.ensures.course c.in-Err.ensures.course

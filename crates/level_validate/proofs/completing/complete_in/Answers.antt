@@ -1,8 +1,9 @@
-use Rattle.std.proofs.Common.{◌∷◌, ◌<◌, false, refl, sym, subst}
+use Rattle.std.proofs.Common.{◌∷◌, ◌<◌, true, false, refl, sym, subst}
 use Rattle.xp_board.specs.Told.{Post}
 use Rattle.step_maker.proofs.Coming.{came_post, came_trans, moves_came}
 use Rattle.level_validate.specs.Serving.{CarriesOn}
 use Rattle.level_validate.proofs.Completed.{live_hand, live_leaves}
+use Rattle.level_validate.proofs.CompletedSo.{completed_so}
 use Rattle.level_validate.proofs.Forward.{forward_step, forward_then}
 use Rattle.level_validate.proofs.LeftWell.{kind_well, well_step, well_then}
 use Rattle.level_validate.proofs.LeavingTables.{top_inside}
@@ -232,3 +233,18 @@ returns-else-table-clause-leaves g c f =
     let x = g.P.Port.value c.record_entry.new.port in
     let is = (live_leaves b.2.0 w b.0 t (c.args.outer ∷ b.1) b.2.1 c.requires.full c.requires.ready t.own refl c.requires.may).is in
     well_then w d x false f (kind_well w d false f t.frame _ _ _ c.make_live.result is refl refl c.make_live.ensures.moves) (well_step d x false f _ _ _ _ c.record_entry.result refl c.record_entry.ensures.moves)
+
+-- ---- its part of the course
+
+pub returns-then-table-clause-course : goal.returns-then-table-clause-course
+returns-then-table-clause-course g c owner us =
+    let w = g.P.Port.value c.args.port.now in
+    let d = g.P.Port.value c.make_live.new.port in
+    completed_so w d (g.P.Port.value c.give_back.new.port) c.args.table c.args.outer true c.if-table.true c.requires.full (c.make_live.result, c.make_live.ensures.moves) c.give_back.ensures.course owner us
+
+pub returns-else-table-clause-course : goal.returns-else-table-clause-course
+returns-else-table-clause-course g c owner us =
+    let w = g.P.Port.value c.args.port.now in
+    let d = g.P.Port.value c.make_live.new.port in
+    let x = g.P.Port.value c.record_entry.new.port in
+    completed_so w d x c.args.table c.args.outer false c.if-table.false c.requires.full (c.make_live.result, c.make_live.ensures.moves) (c.record_entry.result, c.record_entry.ensures.moves) owner us

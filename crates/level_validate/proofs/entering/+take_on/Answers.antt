@@ -37,6 +37,7 @@ use Rattle.level_validate.proofs.LeftWellEntries.{IsAskedType, resumes_well, sha
 use Rattle.level_validate.proofs.LeftWellWaiting.{waiting_well}
 use Rattle.partial_state.proofs.LevelFacts.{level_type-plain, level_type-typed}
 use Rattle.xp_words.specs.PageTypes.{is_none}
+use Rattle.level_validate.proofs.TakenOn.{dead_left, fresh_on, opened_on, resumed_err, resumed_ok, settled_on, shared_left, stopped_on, taken_on, waiting_on}
 use Rattle.level_validate.proofs.entering.+take_on.Goals as goal
 
 pub returns-then-top-eq0-clause-came : goal.returns-then-top-eq0-clause-came
@@ -689,3 +690,71 @@ returns-else-own-clause-leaves g n c e =
     let asked = subst (λ j. IsAskedType j) (sym c.level_type-kind.ensures) (level_type-typed (t.level - 1), level_type-plain (t.level - 1)) in
     well_then u x y false e (resumes_well u x e t.frame i c.level_type.result owner _ c.in_ok-resume_entry.ensures.found)
     (well_by x y false e (λ vs. SharedBy f k c.in-Waiting.stamp vs) (shared_plain f k c.in-Waiting.stamp asked small) c.leave_shared.ensures.visits)
+
+-- ---- its part of the course
+
+pub returns-then-top-eq0-clause-course : goal.returns-then-top-eq0-clause-course
+returns-then-top-eq0-clause-course g n c = fresh_on c.args.owner (g.P.Port.value c.args.port.now) c.args.top (drop 1 c.args.stack.now) c.args.stack.now c.requires.top c.if-top-eq0.true
+
+pub returns-in_err-resume_entry-clause-course : goal.returns-in_err-resume_entry-clause-course
+returns-in_err-resume_entry-clause-course g n c =
+    let u = g.P.Port.value c.args.port.now in
+    let x = g.P.Port.value c.resume_entry.new.port in
+    let t = c.args.top in
+    let e = c.in_err-resume_entry.field-0.0 in
+    let answer = err_from_is_err_and c.from_residual.result c.from_residual.ensures.1 in
+    let stopped = c.in_err-resume_entry.ensures in
+    stopped_on c.args.owner u t (drop 1 c.args.stack.now) c.args.stack.now c.requires.top c.if-top-eq0.false x c.from_residual.result e (answer.1 ∙ ap Err answer.2)
+    (resumed_err u x c.args.owner t c.level_type.result c.level_type.ensures e stopped.found stopped.plain stopped.stops)
+
+pub returns-in-Settled-clause-course : goal.returns-in-Settled-clause-course
+returns-in-Settled-clause-course g n c =
+    let u = g.P.Port.value c.args.port.now in
+    let x = g.P.Port.value c.resume_entry.new.port in
+    let t = c.args.top in
+    let answer = c.in_ok-resume_entry.ensures in
+    settled_on c.args.owner u t (drop 1 c.args.stack.now) c.args.stack.now c.requires.top c.if-top-eq0.false x
+    (resumed_ok u x c.args.owner t c.level_type.result c.level_type.ensures c.in_ok-resume_entry.field-0 again.Settled c.in-Settled.is answer.found answer.plain answer.shows)
+
+pub returns-in-Taken-clause-course : goal.returns-in-Taken-clause-course
+returns-in-Taken-clause-course g n c =
+    let u = g.P.Port.value c.args.port.now in
+    let x = g.P.Port.value c.resume_entry.new.port in
+    let t = c.args.top in
+    let answer = c.in_ok-resume_entry.ensures in
+    taken_on c.args.owner u t (drop 1 c.args.stack.now) c.args.stack.now c.requires.top c.if-top-eq0.false x (g.P.Port.value c.give_back.new.port) c.in-Taken.frame
+    (resumed_ok u x c.args.owner t c.level_type.result c.level_type.ensures c.in_ok-resume_entry.field-0 (again.Taken c.in-Taken.frame) c.in-Taken.is answer.found answer.plain answer.shows) c.give_back.ensures.course
+
+pub returns-in-Opened-clause-course : goal.returns-in-Opened-clause-course
+returns-in-Opened-clause-course g n c =
+    let u = g.P.Port.value c.args.port.now in
+    let x = g.P.Port.value c.resume_entry.new.port in
+    let t = c.args.top in
+    let o = c.in-Opened in
+    let answer = c.in_ok-resume_entry.ensures in
+    opened_on c.args.owner u t (drop 1 c.args.stack.now) c.args.stack.now c.requires.top c.if-top-eq0.false x (g.P.Port.value c.take_on.new.port) o.frame o.progress o.own c.take_on.result c.push.new.self c.take_on.new.stack c.push.ensures.pushed
+    (resumed_ok u x c.args.owner t c.level_type.result c.level_type.ensures c.in_ok-resume_entry.field-0 (again.Opened o.frame o.progress o.own) o.is answer.found answer.plain answer.shows) c.take_on.ensures.course
+
+pub returns-then-own-clause-course : goal.returns-then-own-clause-course
+returns-then-own-clause-course g n c =
+    let u = g.P.Port.value c.args.port.now in
+    let x = g.P.Port.value c.resume_entry.new.port in
+    let y = g.P.Port.value c.leave_dead.new.port in
+    let t = c.args.top in
+    let o = c.in-Waiting in
+    let answer = c.in_ok-resume_entry.ensures in
+    waiting_on c.args.owner u t (drop 1 c.args.stack.now) c.args.stack.now c.requires.top c.if-top-eq0.false x y o.frame o.own o.stamp o.stop true c.if-own.true
+    (resumed_ok u x c.args.owner t c.level_type.result c.level_type.ensures c.in_ok-resume_entry.field-0 (again.Waiting o.frame o.own o.stamp o.stop) o.is answer.found answer.plain answer.shows)
+    (dead_left x y o.frame (t.level - 1) c.level_type-kind.result c.level_type-kind.ensures c.leave_dead.ensures.visits o.stamp)
+
+pub returns-else-own-clause-course : goal.returns-else-own-clause-course
+returns-else-own-clause-course g n c =
+    let u = g.P.Port.value c.args.port.now in
+    let x = g.P.Port.value c.resume_entry.new.port in
+    let y = g.P.Port.value c.leave_shared.new.port in
+    let t = c.args.top in
+    let o = c.in-Waiting in
+    let answer = c.in_ok-resume_entry.ensures in
+    waiting_on c.args.owner u t (drop 1 c.args.stack.now) c.args.stack.now c.requires.top c.if-top-eq0.false x y o.frame o.own o.stamp o.stop false c.if-own.false
+    (resumed_ok u x c.args.owner t c.level_type.result c.level_type.ensures c.in_ok-resume_entry.field-0 (again.Waiting o.frame o.own o.stamp o.stop) o.is answer.found answer.plain answer.shows)
+    (shared_left x y o.frame (t.level - 1) c.level_type-kind.result c.level_type-kind.ensures o.stamp c.leave_shared.ensures.visits)

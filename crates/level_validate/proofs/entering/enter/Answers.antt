@@ -29,6 +29,7 @@ use Rattle.level_validate.proofs.Forward.{forward_then}
 use Rattle.level_validate.proofs.OnwardEntries.{enters_forward}
 use Rattle.level_validate.proofs.LeftWell.{well_then}
 use Rattle.level_validate.proofs.LeftWellEntries.{enters_well}
+use Rattle.level_validate.proofs.EnteredOn.{entered_err, entered_ok, opened_next, recorded_next, stopped_next, unsettled_next}
 use Rattle.level_validate.proofs.entering.enter.Goals as goal
 
 pub take_entry-requires-clause-frame : goal.take_entry-requires-clause-frame
@@ -452,3 +453,46 @@ returns-in-Opened-clause-leaves g c e =
 
 pub returns-in-Unsettled-clause-leaves : goal.returns-in-Unsettled-clause-leaves
 returns-in-Unsettled-clause-leaves g c e = enters_well (g.P.Port.value c.args.port.now) (g.P.Port.value c.take_entry.new.port) e c.in-Some.top.frame c.in-Some.top.done c.level_type.result c.args.owner _ c.in_ok-take_entry.ensures.found
+
+-- ---- its part of the course
+
+pub returns-in_err-take_entry-clause-course : goal.returns-in_err-take_entry-clause-course
+returns-in_err-take_entry-clause-course g c =
+    let u = g.P.Port.value c.args.port.now in
+    let x = g.P.Port.value c.take_entry.new.port in
+    let t = c.in-Some.top in
+    let e = c.in_err-take_entry.field-0.0 in
+    let answer = err_from_is_err_and c.from_residual.result c.from_residual.ensures.1 in
+    let stopped = c.in_err-take_entry.ensures in
+    stopped_next c.args.owner u t (drop 1 c.args.stack.now) c.args.stack.now c.in-Some.ensures.some c.requires.left x c.from_residual.result e (answer.1 ∙ ap Err answer.2)
+    (entered_err u x c.args.owner t c.level_type.result c.level_type.ensures e stopped.found stopped.plain stopped.stops)
+
+pub returns-in-Recorded-clause-course : goal.returns-in-Recorded-clause-course
+returns-in-Recorded-clause-course g c =
+    let u = g.P.Port.value c.args.port.now in
+    let x = g.P.Port.value c.take_entry.new.port in
+    let t = c.in-Some.top in
+    let answer = c.in_ok-take_entry.ensures in
+    recorded_next c.args.owner u t (drop 1 c.args.stack.now) c.args.stack.now c.in-Some.ensures.some c.requires.left x c.advance.new.self c.advance.ensures.advanced
+    (entered_ok u x c.args.owner t c.level_type.result c.level_type.ensures c.in_ok-take_entry.field-0 entered.Recorded c.in-Recorded.is answer.found answer.plain answer.shows)
+
+pub returns-in-Opened-clause-course : goal.returns-in-Opened-clause-course
+returns-in-Opened-clause-course g c =
+    let u = g.P.Port.value c.args.port.now in
+    let x = g.P.Port.value c.take_entry.new.port in
+    let t = c.in-Some.top in
+    let o = c.in-Opened in
+    let answer = c.in_ok-take_entry.ensures in
+    opened_next c.args.owner u t (drop 1 c.args.stack.now) c.args.stack.now c.in-Some.ensures.some c.requires.left x (g.P.Port.value c.take_on.new.port) o.frame o.progress o.own c.take_on.result
+    c.advance-in-Opened.new.self c.push.new.self c.take_on.new.stack c.advance-in-Opened.ensures.advanced c.push.ensures.pushed c.take_on.ensures.deeper
+    (entered_ok u x c.args.owner t c.level_type.result c.level_type.ensures c.in_ok-take_entry.field-0 (entered.Opened o.frame o.progress o.own) o.is answer.found answer.plain answer.shows) c.take_on.ensures.course
+
+pub returns-in-Unsettled-clause-course : goal.returns-in-Unsettled-clause-course
+returns-in-Unsettled-clause-course g c =
+    let u = g.P.Port.value c.args.port.now in
+    let x = g.P.Port.value c.take_entry.new.port in
+    let t = c.in-Some.top in
+    let e = c.in-Unsettled.stop in
+    let answer = c.in_ok-take_entry.ensures in
+    unsettled_next c.args.owner u t (drop 1 c.args.stack.now) c.args.stack.now c.in-Some.ensures.some c.requires.left x c.advance-in-Unsettled.new.self e c.advance-in-Unsettled.ensures.advanced
+    (entered_ok u x c.args.owner t c.level_type.result c.level_type.ensures c.in_ok-take_entry.field-0 (entered.Unsettled e) c.in-Unsettled.is answer.found answer.plain answer.shows)
