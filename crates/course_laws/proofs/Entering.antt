@@ -1,0 +1,68 @@
+-- The next entry of a table in work, where it is recorded, opens a table, or is refused.
+use Rattle.std.proofs.Common.{◌≡◌, ℕ, suc, ◌+◌, ◌-◌, ◌<◌, ◌≤◌, Bool, true, false, List, [], ◌∷◌, Option, Some, None, Result, Ok, Err, refl, sym, ap, ◌∙◌, subst, arith}
+use Rattle.xp_words.specs.Entries.{demand_at}
+use Rattle.xp_words.specs.Machine.{IsMachine, Machine}
+use Rattle.xp_words.specs.declared.entry.Demand.{Demand}
+use Rattle.xp_words.specs.declared.entry.Demand.TheVariants as demands
+use Rattle.xp_words.specs.declared.kind.PageType.{PageType}
+use Rattle.xp_words.specs.declared.place.Place.TheVariants.{Cell, Kind, Refs}
+use Rattle.xp_words.specs.declared.reply.Refusal.{Refusal}
+use Rattle.xp_words.specs.declared.reply.Stop.{Stop}
+use Rattle.xp_board.specs.Told.{PortValue, is_telling, told_word}
+use Rattle.step_maker.specs.Plain.{Leaves, Words}
+use Rattle.answer_fits.specs.Twins.{Alike}
+use Rattle.answer_fits.proofs.Alikes.{same_alike}
+use Rattle.frame_words.specs.Plain.{got, refer}
+use Rattle.partial_state.specs.Levels.{level_type}
+use Rattle.partial_state.specs.declared.stack.TableWork.{TableWork}
+use Rattle.table_entries.specs.Plain.{EntersPlainly, RefersPlainly, TwinEntry, TypedPlainly}
+use Rattle.table_entries.specs.declared.entries.Entered.{Entered}
+use Rattle.table_entries.specs.declared.entries.Entered.TheVariants.{Recorded, Opened}
+use Rattle.table_law.specs.Plain.{Describes, Plain}
+use Rattle.table_twins.specs.Entries.{IsReadyFor}
+use Rattle.course_laws.proofs.Frames.{AllFrames, IsAbove, alike_count, alike_frames, count_at, frame_ready}
+use Rattle.course_laws.proofs.Lending.{IsMore, got_more, lent_there, was_room}
+use Rattle.course_laws.proofs.Typing.{counted_frames, got_frames}
+
+pub alike_more : (n : Machine) (x m : Words) → Alike x m → IsMore n m x
+alike_more n x m all h inside = let e = alike_count x m h all in omega arith
+
+-- ---- what is left in words where the entry is recorded
+module _ (n : Machine) (m : Words) (w : PortValue) (q : Plain) (owner l f i : ℕ) (ts : List TableWork) (machine : IsMachine n) (d : Describes n m q) (above : IsAbove l ts) (frames : AllFrames n m ts) where
+  pub record Kept (e : Demand) : Type 0 where
+    pub ready : IsReadyFor n m e
+    pub all : AllFrames n (told_word w) ts
+    pub more : IsMore n m (told_word w)
+
+  kept_same : (e : Demand) → IsReadyFor n m e → Leaves w m → Kept e
+  kept_same e ready leaves =
+      let all = same_alike (told_word w) m leaves in
+      record { ready = ready; all = alike_frames n (told_word w) m ts all frames; more = alike_more n (told_word w) m all }
+
+  read_by : (g : ℕ) (o : Option Refusal) → refer n owner g (m (Refs g)) ≡ o → RefersPlainly w m (Ok Recorded) o (got g m) → Kept (demands.Read g)
+  read_by g (Some x) is a = absurd (let e = a.0 in cc)
+  read_by g None is a =
+      let all = same_alike (told_word w) (got g m) a.1 in
+      record {
+        ready = tt;
+        all = alike_frames n (told_word w) (got g m) ts all (got_frames n m (told_word w) q owner g l ts machine d is above frames);
+        more = λ h inside. let e = alike_count (told_word w) (got g m) h all in let k = got_more n m q owner g machine d is h inside in omega arith;
+      }
+
+  typed_by : (g : ℕ) (o : Option Refusal) → refer n owner g (m (Refs g)) ≡ o → TypedPlainly w m g (level_type l) (Ok Recorded) o → Kept (demands.Typed g (level_type l))
+  typed_by g (Some x) is a = absurd (let e = a.0 in cc)
+  typed_by g None is a =
+      let b = counted_frames n m (told_word w) q owner g l ts machine d is above frames a.0 a.1 in
+      record {
+        ready = frame_ready g l (m (Kind g)) (count_at m g) ts above a.0.0 n (was_room n m q owner g machine d is) (frames g (lent_there n m q owner g machine d is).inside);
+        all = b.0;
+        more = b.1;
+      }
+
+  pub kept : (e : Demand) → ((g : ℕ) (t : PageType) → e ≡ demands.Typed g t → t ≡ level_type l) → EntersPlainly n w m f i owner (Ok Recorded) e → Kept e
+  kept demands.Nothing asks a = kept_same demands.Nothing tt a.1
+  kept demands.Bad asks a = absurd (let e = a.0 in cc)
+  kept (demands.Read g) asks a = read_by g (refer n owner g (m (Refs g))) refl a
+  kept (demands.Typed g t) asks a =
+      subst (λ u. Kept (demands.Typed g u)) (sym (asks g t refl))
+      (typed_by g (refer n owner g (m (Refs g))) refl (subst (λ u. TypedPlainly w m g u (Ok Recorded) (refer n owner g (m (Refs g)))) (asks g t refl) a))

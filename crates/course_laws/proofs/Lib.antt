@@ -1,0 +1,5 @@
+pub mod Frames
+pub mod Lending
+pub mod Typing
+pub mod Stacking
+pub mod Entering
