@@ -3,3 +3,4 @@ pub mod Lending
 pub mod Typing
 pub mod Stacking
 pub mod Entering
+pub mod Advancing

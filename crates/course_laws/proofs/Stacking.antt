@@ -103,3 +103,10 @@ module _ (n : Machine) (owner f h i g : ℕ) (t : PageType) (xs : List TableLeft
       ap (λ k. rest n owner (table_left g h 512 ∷ table_left f (suc h) k ∷ xs) (with_kind g (work_kind (level_type (suc h)) false 0) p)) later
       ∙ sym (rest_opened n owner f h (511 - i) g t xs q p (ap (λ j. entry_of q (level_type (suc (suc h))) f j) e ∙ asks) took dead)
       ∙ ap (λ k. rest n owner (table_left f (suc h) k ∷ xs) q) now ∙ ahead
+
+-- the same, where the level is said to be one more than another
+pub opened_from : (n : Machine) (owner f h l i g : ℕ) (t : PageType) (xs : List TableLeft) (q p : Plain) (a : PlainOutcome) → l ≡ suc h → i < 512 → rest n owner (table_left f l (512 - i) ∷ xs) q ≡ a → entry_of q (level_type (suc l)) f i ≡ Typed g t →
+    take_reference n owner g q ≡ fine p → is_dead (p.kinds g) ≡ true → rest n owner (table_left g h 512 ∷ table_left f l (512 - (i + 1)) ∷ xs) (with_kind g (work_kind (level_type l) false 0) p) ≡ a
+opened_from n owner f h l i g t xs q p a is few ahead asks took dead =
+    subst (λ k. rest n owner (table_left g h 512 ∷ table_left f k (512 - (i + 1)) ∷ xs) (with_kind g (work_kind (level_type k) false 0) p) ≡ a) (sym is)
+    (opened_on n owner f h i g t xs q p a few (subst (λ k. rest n owner (table_left f k (512 - i) ∷ xs) q ≡ a) is ahead) (subst (λ k. entry_of q (level_type (suc k)) f i ≡ Typed g t) is asks) took dead)

@@ -107,16 +107,20 @@ module _ (n : Machine) (m x : Words) (q : Plain) (owner g l : ℕ) (ts : List Ta
     new_here : IsFrame (kind_at x g) (count_at x g) (new ∷ ts) g
     new_here = inr (inl (frame, working ∙ ap (λ i. work_kind (level_type i) false 0) (sym level)))
 
-    opened_by : (is_dead (kind_at m g) ≡ true) ⊎ IsLiveWithin (kind_at m g) (count_at m g) → IsTakenOf (got g m) g (level_type l) (InWork progress own) → Alike x (taken g (level_type l) (InWork progress own) (got g m)) → AllFrames n x (new ∷ ts) × IsMore n m x
+    opened_by : (is_dead (kind_at m g) ≡ true) ⊎ IsLiveWithin (kind_at m g) (count_at m g) → IsTakenOf (got g m) g (level_type l) (InWork progress own) → Alike x (taken g (level_type l) (InWork progress own) (got g m)) → AllFrames n x (new ∷ ts) × IsMore n m x × (0 < count_at x g)
     opened_by (inl dead) is alike =
         let k = kind_at m g in
         let set : Alike x (set_kind g (work_unmarked (work_by k (level_type l) stands.Dead)) (got g m)) = subst (λ s. Alike x (taken_by g (level_type l) k s (InWork progress own) (got g m))) (dead_stands k (level_type l) dead) alike in
-        (set_frames n x (got g m) g (work_unmarked (work_by k (level_type l) stands.Dead)) set ts (new ∷ ts) (λ h j off work. inr work) new_here got_frames, more_set (work_unmarked (work_by k (level_type l) stands.Dead)) set)
+        (
+          set_frames n x (got g m) g (work_unmarked (work_by k (level_type l) stands.Dead)) set ts (new ∷ ts) (λ h j off work. inr work) new_here got_frames,
+          more_set (work_unmarked (work_by k (level_type l) stands.Dead)) set,
+          (let e = set_counts n x (got g m) g (work_unmarked (work_by k (level_type l) stands.Dead)) set g in let c = got_here n m q owner g machine d none in omega arith),
+        )
     opened_by (inr live) is alike =
         elim (live_stands (kind_at m g) (level_type l) live.live live.some) [
           | inl counted ↦ absurd (let e : InWork progress own ≡ Counted = subst (λ s. IsTakenBy (level_type l) (kind_at m g) s (InWork progress own)) counted is.1 in cc)
           | inr other ↦ absurd (no_other g l (m (Kind g)) (count_at m g) ts above is.0 other)
         ]
 
-    pub opened_frames : IsTakenOf (got g m) g (level_type l) (InWork progress own) → Alike x (taken g (level_type l) (InWork progress own) (got g m)) → AllFrames n x (new ∷ ts) × IsMore n m x
+    pub opened_frames : IsTakenOf (got g m) g (level_type l) (InWork progress own) → Alike x (taken g (level_type l) (InWork progress own) (got g m)) → AllFrames n x (new ∷ ts) × IsMore n m x × (0 < count_at x g)
     opened_frames is alike = opened_by (asked_aside g l (m (Kind g)) (count_at m g) ts above is.0 here).stands is alike
