@@ -4,3 +4,4 @@ pub mod Typing
 pub mod Stacking
 pub mod Entering
 pub mod Advancing
+pub mod Going
