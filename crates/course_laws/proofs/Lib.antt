@@ -5,3 +5,4 @@ pub mod Stacking
 pub mod Entering
 pub mod Advancing
 pub mod Going
+pub mod Filling
