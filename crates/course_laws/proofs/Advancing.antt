@@ -1,7 +1,7 @@
 -- One entry, or one table, of an acquisition under way.
-use Rattle.std.proofs.Common.{◌≡◌, ℕ, suc, ◌+◌, ◌-◌, ◌<◌, ◌≤◌, Bool, true, false, List, [], ◌∷◌, Option, Some, None, Result, Ok, Err, refl, sym, ap, ◌∙◌, subst, inl, inr, arith}
+use Rattle.std.proofs.Common.{◌≡◌, ℕ, suc, ◌+◌, ◌-◌, ◌<◌, ◌≤◌, Bool, true, false, List, ◌∷◌, Option, Some, None, Result, Ok, Err, refl, sym, ap, ◌∙◌, subst, arith}
 use Rattle.xp_words.specs.Entries.{demand_at}
-use Rattle.xp_words.specs.Machine.{IsMachine, Machine}
+use Rattle.xp_words.specs.Machine.{IsMachine}
 use Rattle.xp_words.specs.declared.entry.Demand.{Demand}
 use Rattle.xp_words.specs.declared.entry.Demand.TheVariants.{Typed}
 use Rattle.xp_words.specs.declared.kind.PageType.{PageType}
@@ -16,9 +16,9 @@ use Rattle.frame_words.specs.Plain.{got}
 use Rattle.kind_words.specs.Kinds.{work_kind}
 use Rattle.partial_state.specs.Levels.{level_type}
 use Rattle.partial_state.specs.declared.stack.TableWork.{TableWork}
-use Rattle.table_entries.specs.Plain.{EntersPlainly, TwinEntry}
+use Rattle.table_entries.specs.Plain.{TwinEntry}
 use Rattle.table_entries.specs.declared.entries.Entered.{Entered}
-use Rattle.table_entries.specs.declared.entries.Entered.TheVariants.{Recorded, Opened, Unsettled}
+use Rattle.table_entries.specs.declared.entries.Entered.TheVariants.{Recorded, Opened}
 use Rattle.table_law.specs.Alone.{Cause, PlainOutcome, fine, meet, take_at, take_reference}
 use Rattle.table_law.specs.Levels.{entry_of}
 use Rattle.table_law.specs.Plain.{Describes, Plain, sober, with_kind}
@@ -34,7 +34,7 @@ use Rattle.course_laws.proofs.Frames.{AllFrames, IsAbove, count_at, frame_ready}
 use Rattle.course_laws.proofs.Lending.{IsMore, Lent, lent_there, was_room}
 use Rattle.course_laws.proofs.Stacking.{AllTables, IsTable, Refuses, Stands, as_fine, lefts, lower_above, met_on, more_tables, opened_from, stopped_there}
 use Rattle.course_laws.proofs.Typing.{opened_frames}
-use Rattle.course_laws.proofs.Entering.{Kept, Opens, kept, opened_table, opens}
+use Rattle.course_laws.proofs.Entering.{Opens, kept, opened_table, opens}
 
 some_cause : (x : Refusal) (a : PlainOutcome) (r : PlainOutcome) → ((c : Cause) → r.refusal ≡ Some c → Refuses a) → IsSameAnswer (Some x) r.refusal → Refuses a
 some_cause x a r stops same = by r.refusal refl same

@@ -1,16 +1,14 @@
 -- The next entry of a table in work, where it is recorded, opens a table, or is refused.
-use Rattle.std.proofs.Common.{◌≡◌, ℕ, zero, suc, ◌+◌, ◌-◌, ◌<◌, ◌≤◌, Bool, true, false, List, [], ◌∷◌, Option, Some, None, Result, Ok, Err, refl, sym, ap, ◌∙◌, subst, arith}
-use Rattle.xp_words.specs.Entries.{demand_at}
+use Rattle.std.proofs.Common.{◌≡◌, ℕ, zero, suc, ◌≤◌, Bool, true, List, Option, Some, None, Ok, refl, sym, subst, arith}
 use Rattle.xp_words.specs.Machine.{IsMachine, Machine}
 use Rattle.xp_words.specs.declared.entry.Demand.{Demand}
 use Rattle.xp_words.specs.declared.entry.Demand.TheVariants as demands
 use Rattle.xp_words.specs.declared.kind.KindWord.{KindWord}
 use Rattle.xp_words.specs.declared.kind.PageType.{PageType}
-use Rattle.xp_words.specs.declared.place.Place.TheVariants.{Cell, Kind, Refs}
+use Rattle.xp_words.specs.declared.place.Place.TheVariants.{Kind, Refs}
 use Rattle.xp_words.specs.declared.reply.Refusal.{Refusal}
-use Rattle.xp_words.specs.declared.reply.Stop.{Stop}
 use Rattle.xp_board.specs.Readings.{kind_at}
-use Rattle.xp_board.specs.Told.{PortValue, is_telling, told_word}
+use Rattle.xp_board.specs.Told.{PortValue, told_word}
 use Rattle.step_maker.specs.Plain.{Leaves, Words}
 use Rattle.answer_fits.specs.Twins.{Alike}
 use Rattle.answer_fits.proofs.Alikes.{same_alike}
@@ -22,8 +20,7 @@ use Rattle.frame_types.specs.declared.standing.Standing.TheVariants as stands
 use Rattle.frame_types.specs.declared.taking.Taken.TheVariants as types
 use Rattle.partial_state.specs.Levels.{level_type}
 use Rattle.partial_state.specs.declared.stack.TableWork.{TableWork}
-use Rattle.table_entries.specs.Plain.{EntersPlainly, IsTakenOf, RefersPlainly, TwinEntry, TypedPlainly}
-use Rattle.table_entries.specs.declared.entries.Entered.{Entered}
+use Rattle.table_entries.specs.Plain.{EntersPlainly, IsTakenOf, RefersPlainly, TypedPlainly}
 use Rattle.table_entries.specs.declared.entries.Entered.TheVariants.{Recorded, Opened}
 use Rattle.table_law.specs.Plain.{Describes, Plain}
 use Rattle.table_twins.specs.Entries.{IsReadyFor}

@@ -1,14 +1,12 @@
 -- Tables are filled, one entry behind the other.
-use Rattle.std.proofs.Common.{◌≡◌, ℕ, Bool, true, false, List, [], ◌∷◌, Result, Ok, Err, sym, subst}
+use Rattle.std.proofs.Common.{◌≡◌, ℕ, Bool, true, List, [], ◌∷◌, Result, Ok, Err, sym, subst}
 use Rattle.xp_words.specs.Machine.{IsMachine, Machine}
 use Rattle.xp_words.specs.declared.reply.Stop.{Stop}
 use Rattle.xp_board.specs.Told.{PortValue}
 use Rattle.partial_state.specs.declared.stack.TableWork.{TableWork}
 use Rattle.table_law.specs.Alone.{PlainOutcome}
 use Rattle.table_courses.specs.Acquiring.{Filled, TookOn, Worked, asked, begun, cut_off, due, filled, stopped, unasked}
-use Rattle.course_laws.specs.Courses.{IsFinal}
 use Rattle.course_laws.proofs.Going.{Goes, GoesOrRefuses, advanced, taken_fresh}
-use Rattle.course_laws.proofs.Stacking.{Refuses}
 
 module _ (n : Machine) (owner : ℕ) (a : PlainOutcome) (is : IsMachine n) where
   module _ (v : PortValue) (ts : List TableWork) (g : Goes n owner v ts a) where

@@ -1,5 +1,5 @@
 -- An acquisition goes on from port to port, until it is refused.
-use Rattle.std.proofs.Common.{◌≡◌, ◌≢◌, ◌⊎◌, ℕ, suc, ◌+◌, ◌-◌, ◌<◌, ◌≤◌, Bool, true, false, List, [], ◌∷◌, Some, None, Result, Ok, Err, refl, sym, ap, ◌∙◌, subst, inl, inr, arith}
+use Rattle.std.proofs.Common.{◌≡◌, ◌≢◌, ℕ, suc, ◌-◌, ◌<◌, Bool, true, false, List, [], ◌∷◌, None, Result, Ok, Err, refl, sym, ap, ◌∙◌, subst, inl, inr, arith}
 use Rattle.xp_words.specs.KindWords.{kind_write}
 use Rattle.xp_words.specs.Machine.{IsMachine, Machine}
 use Rattle.xp_words.specs.declared.kind.KindWord.{KindWord}
@@ -13,7 +13,7 @@ use Rattle.xp_board.specs.declared.step.StepKind.TheVariants as kinds
 use Rattle.xp_board.specs.Told.{Post, PortValue, is_telling, told_word}
 use Rattle.step_maker.specs.Moves.{Came, Moves}
 use Rattle.step_maker.specs.Plain.{Words}
-use Rattle.step_maker.proofs.Coming.{came_post, came_trans, moves_came}
+use Rattle.step_maker.proofs.Coming.{came_post, moves_came}
 use Rattle.step_maker.proofs.Telling.{came_telling, leaves, load_tells}
 use Rattle.answer_fits.specs.Twins.{Alike}
 use Rattle.answer_fits.proofs.Alikes.{same_alike}
@@ -132,7 +132,7 @@ module _ (n : Machine) (owner : ℕ) (a : PlainOutcome) (is : IsMachine n) where
     refused_here : (e : Stop) → t.done < 512 → TookEntry u w owner t (Err e) → IsFinal e → Refuses a
     refused_here e few took final = refused_stands u w owner t ts a stands_here is_here g.telling few e final took.plain
 
-    live_goes : t.done ≡ 512 → MadeLive u w t → Goes n owner w ts a
+    pub live_goes : t.done ≡ 512 → MadeLive u w t → Goes n owner w ts a
     live_goes full made =
         let new = live_kind (level_type t.level) 1 in
         let one : type_counts t.own ≡ 1 = ap type_counts g.stands.tables.0.own in

@@ -1,23 +1,17 @@
 -- Frames where a reference was taken, or a kind word stored.
-use Rattle.std.proofs.Common.{◌≡◌, ◌≢◌, ℕ, ◌+◌, ◌<◌, ◌≤◌, ◌==◌, not, nat_lt, nat_le, if◌then◌else◌, Bool, true, false, List, Option, Some, None, refl, sym, ap, ◌∙◌, subst, inl, inr, arith}
+use Rattle.std.proofs.Common.{◌≡◌, ◌≢◌, ℕ, ◌+◌, ◌<◌, ◌≤◌, ◌==◌, not, nat_lt, nat_le, if◌then◌else◌, Bool, true, false, Option, Some, None, refl, sym, ap, ◌∙◌, subst, arith}
 use Rattle.std.proofs.lemmas.Bool.Decides.{nat_tests}
-use Rattle.xp_words.specs.KindWords.{kind_fields, kind_write}
 use Rattle.xp_words.specs.Machine.{IsMachine, Machine}
-use Rattle.xp_words.specs.declared.kind.KindWord.{KindWord}
-use Rattle.xp_words.specs.declared.place.Place.TheVariants.{Kind, Refs}
-use Rattle.xp_board.specs.Acts.{left_by}
-use Rattle.xp_board.specs.Readings.{kind_at}
+use Rattle.xp_words.specs.declared.place.Place.TheVariants.{Refs}
 use Rattle.step_maker.specs.Plain.{Words}
 use Rattle.frame_words.specs.Plain.{got, refer}
-use Rattle.frame_types.specs.Plain.{set_kind}
-use Rattle.partial_state.specs.declared.stack.TableWork.{TableWork}
 use Rattle.table_law.specs.Alone.{Cause, CountFull, NoFrame, PlainOutcome, WrongOwner, fine, refused, take_reference, take_reference_of}
 use Rattle.table_law.specs.Lawful.{share_count}
-use Rattle.table_law.specs.Plain.{Describes, Plain, Share, at, raised_share, share_of, with_share}
+use Rattle.table_law.specs.Plain.{Describes, Plain, Share, raised_share, with_share}
 use Rattle.table_law.proofs.Counting.{at_here, at_there}
 use Rattle.table_twins.specs.Answers.{IsSameAnswer}
 use Rattle.table_twins.proofs.Referring.{is_inside, not_full, same_answer, same_taken}
-use Rattle.course_laws.proofs.Frames.{AllFrames, IsFrame, IsWork, count_at}
+use Rattle.course_laws.proofs.Frames.{count_at}
 
 -- no count became less
 abbrev pub IsMore : Machine → Words → Words → Type 0

@@ -6,3 +6,6 @@ pub mod Entering
 pub mod Advancing
 pub mod Going
 pub mod Filling
+pub mod Starting
+pub mod Beginning
+pub mod Deciding

@@ -1,20 +1,18 @@
 -- Tables in work, and what is left to do for them.
-use Rattle.std.proofs.Common.{◌≡◌, ℕ, suc, ◌+◌, ◌-◌, ◌<◌, ◌≤◌, true, false, List, [], ◌∷◌, Some, None, refl, sym, ap, ◌∙◌, subst, arith}
-use Rattle.xp_words.specs.Machine.{IsMachine, Machine}
+use Rattle.std.proofs.Common.{◌≡◌, ℕ, suc, ◌+◌, ◌-◌, ◌<◌, ◌≤◌, true, false, List, [], ◌∷◌, Some, None, sym, ap, ◌∙◌, subst, arith}
+use Rattle.xp_words.specs.Machine.{Machine}
 use Rattle.xp_words.specs.declared.entry.Demand.TheVariants.{Typed}
 use Rattle.xp_words.specs.declared.kind.PageType.{PageType}
 use Rattle.xp_board.specs.Readings.{is_dead}
 use Rattle.step_maker.specs.Plain.{Words}
-use Rattle.kind_words.specs.Kinds.{live_kind, work_kind}
+use Rattle.kind_words.specs.Kinds.{work_kind}
 use Rattle.partial_state.specs.Levels.{level_type}
 use Rattle.partial_state.specs.declared.stack.TableWork.{TableWork}
 use Rattle.table_law.specs.Alone.{Cause, PlainOutcome, fine, meet, refused, take_at, take_reference}
 use Rattle.table_law.specs.Levels.{TableLeft, entry_of}
 use Rattle.table_law.specs.Plain.{Describes, Plain, with_kind}
-use Rattle.table_law.specs.Release.{undo}
 use Rattle.table_law.specs.Stack.{next_met, rest, table_left}
-use Rattle.table_law.proofs.Steps.{rest_full, rest_met, rest_opened, rest_stopped}
-use Rattle.table_courses.specs.Acquiring.{one_more, table_in}
+use Rattle.table_law.proofs.Steps.{rest_met, rest_opened, rest_stopped}
 use Rattle.course_laws.proofs.Frames.{AllFrames, IsAbove, count_at}
 use Rattle.course_laws.proofs.Lending.{IsMore}
 

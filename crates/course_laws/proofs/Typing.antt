@@ -1,5 +1,5 @@
 -- Frames where a type is taken of one of them, or a table of them made live.
-use Rattle.std.proofs.Common.{◌≡◌, ◌≢◌, ◌⊎◌, ℕ, ◌+◌, ◌<◌, ◌≤◌, ◌==◌, ◌^◌, if◌then◌else◌, Bool, true, false, List, ◌∷◌, None, refl, sym, ap, ◌∙◌, subst, inl, inr, arith}
+use Rattle.std.proofs.Common.{◌≡◌, ◌≢◌, ◌⊎◌, ℕ, ◌+◌, ◌<◌, ◌==◌, ◌^◌, if◌then◌else◌, Bool, true, false, List, ◌∷◌, None, refl, sym, ap, ◌∙◌, subst, inl, inr, arith}
 use Rattle.std.proofs.lemmas.Bool.Decides.{nat_tests}
 use Rattle.xp_words.specs.KindWords.{kind_fields, kind_write}
 use Rattle.xp_words.specs.Machine.{IsMachine, Machine}
@@ -14,7 +14,6 @@ use Rattle.frame_words.specs.Plain.{got, refer}
 use Rattle.kind_words.specs.Kinds.{live_kind, work_kind}
 use Rattle.kind_words.proofs.KindWriting.{fields_write, live_is, raised_is}
 use Rattle.frame_types.specs.Plain.{IsTakenBy, set_kind, taken, taken_by, work_by, work_unmarked}
-use Rattle.frame_types.specs.Standing.{standing_of}
 use Rattle.frame_types.specs.declared.standing.Standing.TheVariants as stands
 use Rattle.frame_types.specs.declared.taking.Taken.TheVariants.{Counted, InWork}
 use Rattle.partial_state.specs.Levels.{level_type}
