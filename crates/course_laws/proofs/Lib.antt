@@ -9,3 +9,4 @@ pub mod Filling
 pub mod Starting
 pub mod Beginning
 pub mod Deciding
+pub mod Walking
