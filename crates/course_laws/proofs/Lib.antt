@@ -10,3 +10,4 @@ pub mod Starting
 pub mod Beginning
 pub mod Deciding
 pub mod Walking
+pub mod Stopping
