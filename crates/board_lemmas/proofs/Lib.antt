@@ -32,3 +32,4 @@ pub mod CountsDown
 pub mod Serving
 pub mod Owners
 pub mod Learned
+pub mod Settled

@@ -1,5 +1,5 @@
 -- The marks that record an entry, and that take the last one back.
-use Rattle.std.proofs.Common.{◌≡◌, ◌≢◌, ℕ, ◌+◌, ◌<◌, false, None, refl, sym, ◌∙◌, ap, subst, arith, IsTrue, inl, inr, is_none}
+use Rattle.std.proofs.Common.{◌≡◌, ◌≢◌, ℕ, ◌+◌, ◌<◌, Bool, false, None, refl, sym, ◌∙◌, ap, subst, arith, IsTrue, inl, inr}
 use Rattle.std.proofs.lemmas.Bool.{cases_eq}
 use Rattle.xp_words.specs.declared.kind.PageType.{PageType}
 use Rattle.xp_words.specs.declared.entry.Demand.{Demand}
@@ -14,7 +14,7 @@ use Rattle.xp_board.specs.declared.holdings.Work.{Work}
 use Rattle.xp_board.specs.Readings.{kind_at}
 use Rattle.xp_board.specs.Hands.{refs_to, hand, typed_hand, changed_work}
 use Rattle.xp_board.specs.Recorded.{work_of, entry_demand, names, names_typed, entries, HasType}
-use Rattle.xp_board.specs.Settling.{HasLastDemand, demand_in, demand_out}
+use Rattle.xp_board.specs.Settling.{HasLastDemand, demand_in, demand_out, is_settled}
 use Rattle.xp_board.specs.Marks.{MayRecord, MayShed, demand_seen, seen_word, unsettled_by}
 use Rattle.xp_board.specs.Sound.{HeldAlone, Sound}
 use Rattle.step_effects.proofs.MarkEffects.{Recorded, Shed}
@@ -131,7 +131,10 @@ module _ (n : Machine) (s : ℕ) (m : Place → ℕ) (h b : ℕ → Holdings) (v
   -- ---- the last recorded entry comes back
   module _ (e : Work) (may : MayShed f upto (h s) e) (change : Work → Work) (frames : (y : Work) → (change y).frame ≡ y.frame) (words : (y : Work) → (change y).word ≡ y.word)
       (fewer : (change e).recorded ≡ upto) (was_found : Demand) (clock_is : was_found ≡ demand_at (kind_fields e.word).kind upto may.word)
-      (hand_is : b s ≡ demand_in (is_none e.unsettled) was_found (record (h s) { works = changed_work f change (h s).works })) where
+      (hand_is : b s ≡ demand_in (is_settled (sizes_of n) (h s) e) was_found (record (h s) { works = changed_work f change (h s).works })) where
+    abbrev sure : Bool
+    sure = is_settled (sizes_of n) (h s) e
+
     abbrev left : Holdings
     left = record (h s) { works = changed_work f change (h s).works }
 
@@ -142,12 +145,12 @@ module _ (n : Machine) (s : ℕ) (m : Place → ℕ) (h b : ℕ → Holdings) (v
     shed_unmarked = seen_unmarked n m h s f e (works_facts n m h s f e sound vcpu may.here) _ may.seen
 
     shed_works : (b s).works ≡ changed_work f change (h s).works
-    shed_works = ap (λ y. y.works) hand_is ∙ (beside_in (is_none e.unsettled) was_found left).works
+    shed_works = ap (λ y. y.works) hand_is ∙ (beside_in sure was_found left).works
 
     shed_alone : HeldAlone n m b
     shed_alone =
-        mark_alone n s m h b vcpu others sound f e may.here change shed_works frames words shed_unmarked (ap (λ y. y.locks) hand_is ∙ (beside_in (is_none e.unsettled) was_found left).locks)
-        (ap (λ y. y.ending) hand_is ∙ (beside_in (is_none e.unsettled) was_found left).ending) (ap (λ y. y.claimed) hand_is ∙ (beside_in (is_none e.unsettled) was_found left).claimed)
+        mark_alone n s m h b vcpu others sound f e may.here change shed_works frames words shed_unmarked (ap (λ y. y.locks) hand_is ∙ (beside_in sure was_found left).locks)
+        (ap (λ y. y.ending) hand_is ∙ (beside_in sure was_found left).ending) (ap (λ y. y.claimed) hand_is ∙ (beside_in sure was_found left).claimed)
 
     entries_fewer : (c : Demand → ℕ) → entries c (sizes_of n) m b + c was_found ≡ entries c (sizes_of n) m h
     entries_fewer c =
@@ -163,8 +166,8 @@ module _ (n : Machine) (s : ℕ) (m : Place → ℕ) (h b : ℕ → Holdings) (v
 
     in_now : (g : ℕ) → (hand g (b s) ≡ hand g (h s) + names g was_found) × (typed_hand g (b s) ≡ typed_hand g (h s) + names_typed g was_found)
     in_now g =
-        let p = in_hand (is_none e.unsettled) g was_found left in
-        let q = in_typed (is_none e.unsettled) g was_found left in
+        let p = in_hand sure g was_found left in
+        let q = in_typed sure g was_found left in
         let r = hand_alike g (h s) left refl refl refl in
         rw hand_is (p ∙ ap (λ y. y + names g was_found) r.0, q ∙ ap (λ y. y + names_typed g was_found) r.1)
 
@@ -182,25 +185,25 @@ module _ (n : Machine) (s : ℕ) (m : Place → ℕ) (h b : ℕ → Holdings) (v
           words = words;
           table = may.table;
           unmarked = shed_unmarked;
-          locks = ap (λ y. y.locks) hand_is ∙ (beside_in (is_none e.unsettled) was_found left).locks;
-          ending = ap (λ y. y.ending) hand_is ∙ (beside_in (is_none e.unsettled) was_found left).ending;
-          claimed = ap (λ y. y.claimed) hand_is ∙ (beside_in (is_none e.unsettled) was_found left).claimed;
-          raised = ap (λ y. y.raised) hand_is ∙ (beside_in (is_none e.unsettled) was_found left).raised;
-          credits = ap (λ y. y.credits) hand_is ∙ (beside_in (is_none e.unsettled) was_found left).credits;
-          cache = ap (λ y. y.cache) hand_is ∙ (translations_in (is_none e.unsettled) was_found left).cache;
-          walk = ap (λ y. y.walk) hand_is ∙ (translations_in (is_none e.unsettled) was_found left).walk;
-          cold = ap (λ y. y.cold) hand_is ∙ (translations_in (is_none e.unsettled) was_found left).cold;
-          spares = λ g k l. rw hand_is (in_more (is_none e.unsettled) was_found left g l);
+          locks = ap (λ y. y.locks) hand_is ∙ (beside_in sure was_found left).locks;
+          ending = ap (λ y. y.ending) hand_is ∙ (beside_in sure was_found left).ending;
+          claimed = ap (λ y. y.claimed) hand_is ∙ (beside_in sure was_found left).claimed;
+          raised = ap (λ y. y.raised) hand_is ∙ (beside_in sure was_found left).raised;
+          credits = ap (λ y. y.credits) hand_is ∙ (beside_in sure was_found left).credits;
+          cache = ap (λ y. y.cache) hand_is ∙ (translations_in sure was_found left).cache;
+          walk = ap (λ y. y.walk) hand_is ∙ (translations_in sure was_found left).walk;
+          cold = ap (λ y. y.cold) hand_is ∙ (translations_in sure was_found left).cold;
+          spares = λ g k l. rw hand_is (in_more sure was_found left g l);
           refs = λ g. let k = entries_fewer (names g) in let o = (in_now g).0 in omega arith;
           types = λ g. let k = entries_fewer (names_typed g) in let o = (in_now g).1 in omega arith;
           last = λ i g t l k. let r = fewer in entry_typed i g t (omega arith) k;
-          typed = rw hand_is (typed_in (is_none e.unsettled) (λ y. HasType m y.frame y.kind) was_found left (λ g t k. entry_typed upto g t (omega arith) (stood ∙ k)) (sound.counts.kinds.typed s vcpu));
+          typed = rw hand_is (typed_in sure (λ y. HasType m y.frame y.kind) was_found left (λ g t k. entry_typed upto g t (omega arith) (stood ∙ k)) (sound.counts.kinds.typed s vcpu));
         }
 
     pub shed_by : Outcome n m b
     shed_by = marked_outcome n s m h b vcpu others sound f e may.here change shed_move
 
-  pub shed_outcome : Shed f upto (h s) (b s) → Outcome n m b
+  pub shed_outcome : Shed n f upto (h s) (b s) → Outcome n m b
   shed_outcome d =
       shed_by d.e d.may (λ y. record y { recorded = upto; unsettled = None }) (λ y. refl) (λ y. refl) refl (demand_seen upto d.e)
       (ap (λ y. demand_at (kind_fields d.e.word).kind upto (seen_word y)) d.may.seen) d.hand

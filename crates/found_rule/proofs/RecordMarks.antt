@@ -1,5 +1,5 @@
 -- Marks that record the next entry of a table in work, or shed the last one.
-use Rattle.std.proofs.Common.{◌≡◌, ◌≢◌, ℕ, ◌+◌, ◌-◌, ◌<◌, ◌≤◌, if◌then◌else◌, Bool, true, false, List, length, Option, Some, None, refl, sym, ap, subst, ◌∙◌, inl, arith, is_none}
+use Rattle.std.proofs.Common.{◌≡◌, ◌≢◌, ℕ, ◌+◌, ◌-◌, ◌<◌, ◌≤◌, if◌then◌else◌, Bool, true, false, List, length, Option, Some, None, refl, sym, ap, subst, ◌∙◌, inl, arith}
 use Rattle.xp_words.specs.declared.kind.PageType.{PageType}
 use Rattle.xp_words.specs.Machine.{Machine}
 use Rattle.xp_words.specs.declared.place.Place.{Place}
@@ -14,6 +14,7 @@ use Rattle.xp_board.specs.Lists.{EachOf}
 use Rattle.xp_board.specs.Steps.{last_since}
 use Rattle.xp_board.specs.Hands.{work_on, changed_work, surely}
 use Rattle.xp_board.specs.Marks.{MayRecord, MayShed, demand_seen, unsettled_by, seen_word, leaves_unsettled}
+use Rattle.xp_board.specs.Settling.{is_settled}
 use Rattle.xp_board.specs.Found.{WorkFound, Found}
 use Rattle.xp_board.specs.WellFormed.{SeenIs, LastIs, IsWorkFormed, WellFormed}
 use Rattle.xp_board.specs.Sound.{Sound}
@@ -35,10 +36,6 @@ use Rattle.board_lemmas.proofs.Sums.{seat_same}
 
 seen_there : (z : Sizes) (k f : ℕ) (steps : List Made) (o : Option Seen) (i w : ℕ) → SeenIs z k f steps o → o ≡ Some (record { index = i; word = w }) → last_since z k (Cell f i) steps ≡ Some (seen_word o)
 seen_there z k f steps o i w h e = seen_is z k f steps o i w h e ∙ ap (λ y. Some (seen_word y)) (sym e)
-
-none_is : (o : Option Unsettled) → is_none o ≡ true → o ≡ None
-none_is None e = refl
-none_is (Some x) e = absurd cc
 
 module _ (z : Sizes) (m : Place → ℕ) (xs : List Made) (g : Grown z m m xs xs) (f : ℕ) where
   live_sure : (t : PageType) (u : Holdings) → u.steps ≡ xs → (sure : Bool) → (sure ≡ true → IsLiveAs m f t) → LiveRight z m xs f (Some t) (surely sure u)
@@ -180,7 +177,7 @@ module _ (n : Machine) (s : ℕ) (m : Place → ℕ) (h b : ℕ → Holdings) (l
   same_steps : Grown (sizes_of n) m m (h s).steps (h s).steps
   same_steps = stayed refl
 
-  pub shed_found : Shed f upto (h s) (b s) → (t : ℕ) → t < (sizes_of n).vcpus → Found n m b t
+  pub shed_found : Shed n f upto (h s) (b s) → (t : ℕ) → t < (sizes_of n).vcpus → Found n m b t
   unfolding shed_change same_steps
   shed_found d =
       let e = d.e in
@@ -188,22 +185,23 @@ module _ (n : Machine) (s : ℕ) (m : Place → ℕ) (h b : ℕ → Holdings) (l
       let demand = demand_seen upto e in
       let z = sizes_of n in
       let xs = (h s).steps in
+      let sure = is_settled z (h s) e in
       let k = known_was n s m h b l sound others in
-      entry_found n s m h b l sound others f shed_change a refl (subst (λ u. RefsMoved a u) (sym d.hand) (moved_in (is_none e.unsettled) demand a)) shed_same
+      entry_found n s m h b l sound others f shed_change a refl (subst (λ u. RefsMoved a u) (sym d.hand) (moved_in sure demand a)) shed_same
       (subst (λ u. EachOf (RefRight z m xs) u.refs) (sym d.hand)
-      (refs_in (is_none e.unsettled) (RefRight z m xs) demand a (λ g. owner_new z m m xs xs same_steps g (length xs) (omega arith)) k.refs))
+      (refs_in sure (RefRight z m xs) demand a (λ g. owner_new z m m xs xs same_steps g (length xs) (omega arith)) k.refs))
       (subst (λ u. EachOf (TypedRight z m xs) u.typed) (sym d.hand)
-      (typed_in (is_none e.unsettled) (TypedRight z m xs) demand a
+      (typed_in sure (TypedRight z m xs) demand a
       (λ g t asks. record {
         owner = owner_new z m m xs xs same_steps g (length xs) (omega arith);
-        live = live_sure z m xs same_steps g t a refl (is_none e.unsettled) (λ sure. shed_live n s m h l sound f upto e d.may g t (none_is e.unsettled sure) asks);
-        partial = partial_sure z m xs same_steps g a refl (is_none e.unsettled);
+        live = live_sure z m xs same_steps g t a refl sure (λ settled. shed_live n s m h l sound f upto e d.may g t settled asks);
+        partial = partial_sure z m xs same_steps g a refl sure;
       }) k.typed))
 
-  pub shed_formed : Shed f upto (h s) (b s) → (t : ℕ) → t < (sizes_of n).vcpus → WellFormed n t (b t)
+  pub shed_formed : Shed n f upto (h s) (b s) → (t : ℕ) → t < (sizes_of n).vcpus → WellFormed n t (b t)
   unfolding shed_change
   shed_formed d =
       let e = d.e in
       let a = record (h s) { works = changed_work f shed_change (h s).works } in
       let demand = demand_seen upto e in
-      entry_formed n s m h b l sound others f shed_change a refl (subst (λ u. RefsMoved a u) (sym d.hand) (moved_in (is_none e.unsettled) demand a)) e d.may.here (shed_form e d.may)
+      entry_formed n s m h b l sound others f shed_change a refl (subst (λ u. RefsMoved a u) (sym d.hand) (moved_in (is_settled (sizes_of n) (h s) e) demand a)) e d.may.here (shed_form e d.may)

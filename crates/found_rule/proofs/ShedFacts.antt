@@ -1,5 +1,5 @@
--- The last recorded entry of a table in work leads where the table may; where nothing of it is open, its frame is live.
-use Rattle.std.proofs.Common.{◌≡◌, ℕ, ◌+◌, ◌<◌, Some, None, sym, ap, ◌∙◌, inl, inr, arith}
+-- The last recorded entry of a table in work leads where the table may; where it is settled, its frame is live.
+use Rattle.std.proofs.Common.{◌≡◌, ℕ, ◌+◌, ◌<◌, IsTrue, sym, ap, ◌∙◌, inl, inr, arith}
 use Rattle.xp_words.specs.declared.kind.PageType.{PageType}
 use Rattle.xp_words.specs.declared.entry.Demand.TheVariants.{Typed}
 use Rattle.xp_words.specs.Entries.{demand_at}
@@ -10,15 +10,14 @@ use Rattle.xp_words.specs.declared.place.Place.TheVariants.{Refs}
 use Rattle.xp_words.specs.Places.{sizes_of}
 use Rattle.xp_board.specs.declared.holdings.Work.{Work}
 use Rattle.xp_board.specs.declared.holdings.Holdings.{Holdings}
-use Rattle.xp_board.specs.Hands.{work_on}
 use Rattle.xp_board.specs.Readings.{kind_at, owner_of}
 use Rattle.xp_board.specs.Marks.{MayShed, demand_seen, seen_word}
 use Rattle.xp_board.specs.Recorded.{held, entry_demand}
-use Rattle.xp_board.specs.Valid.{IsUnsettled, EntryPermitted}
+use Rattle.xp_board.specs.Settling.{is_settled}
+use Rattle.xp_board.specs.Valid.{EntryPermitted}
 use Rattle.xp_board.specs.Sound.{Sound}
-use Rattle.board_lemmas.proofs.HandLists.{first-some}
 use Rattle.board_lemmas.proofs.WorkFacts.{Works, works_facts, work_held, loaded_asks}
-use Rattle.board_lemmas.proofs.Works.{one_vcpu}
+use Rattle.board_lemmas.proofs.Settled.{nothing_unsettled}
 use Rattle.found_rule.proofs.KnownFacts.{IsLiveAs}
 use Rattle.board_lemmas.proofs.KindReadings.{busy_partial}
 
@@ -28,16 +27,6 @@ module _ (n : Machine) (s : ℕ) (m : Place → ℕ) (h : ℕ → Holdings) (l :
 
   held_is : held (sizes_of n) m h f ≡ upto + 1
   held_is = work_held n m h s f e k sound.alone l may.here may.table ∙ may.last
-
-  none_open : (g : ℕ) → e.unsettled ≡ None → IsUnsettled (sizes_of n) h f upto g → ⊥
-  none_open g none u =
-      let some = first-some (λ y. y.frame) f u.work (h u.vcpu).works u.here in
-      let at : u.vcpu ≡ s = sym (one_vcpu n m h sound.alone f s u.vcpu l u.real k.some some) in
-      let same : Some u.work ≡ Some e = sym u.here ∙ ap (λ t. work_on f (h t).works) at ∙ may.here in
-      let work : u.work ≡ e = cc in
-      let kept = u.kept in
-      let stands : e.unsettled ≡ Some u.unsettled = sym (ap (λ y. y.unsettled) work) ∙ kept in
-      cc
 
   inside : upto < held (sizes_of n) m h f
   inside = let all = held_is in omega arith
@@ -49,8 +38,8 @@ module _ (n : Machine) (s : ℕ) (m : Place → ℕ) (h : ℕ → Holdings) (l :
   pub shed_permitted : (g : ℕ) (t : PageType) → demand_seen upto e ≡ Typed g t → EntryPermitted m (kind_at m f).kind (owner_of (m (Refs f))) g
   shed_permitted g t seen = sound.permitted.typed f upto g t inside (asked_there g t seen)
 
-  pub shed_live : (g : ℕ) (t : PageType) → e.unsettled ≡ None → demand_seen upto e ≡ Typed g t → IsLiveAs m g t
-  shed_live g t none seen =
+  pub shed_live : (g : ℕ) (t : PageType) → IsTrue (is_settled (sizes_of n) (h s) e) → demand_seen upto e ≡ Typed g t → IsLiveAs m g t
+  shed_live g t settled seen =
       let asked = asked_there g t seen in
       let kind = sound.counts.kinds.entries f upto g t inside asked in
       elim (sound.valid.live f upto g t inside asked) [
@@ -58,6 +47,6 @@ module _ (n : Machine) (s : ℕ) (m : Place → ℕ) (h : ℕ → Holdings) (l :
         | inr more ↦
             elim more.1 [
               | inl last ↦ absurd (busy_partial (kind_at m f) k.busy last.partial)
-              | inr u ↦ absurd (none_open g none u)
+              | inr u ↦ absurd (nothing_unsettled n m h s f e sound l k may.here may.table settled upto g t asked u)
             ]
       ]

@@ -2,7 +2,7 @@
 //! does, and its act does. These functions do nothing: their contracts are laws.
 #![tactic(auto)]
 
-ghost use Rattle.std.specs.Prelude.{◌≡◌, ℕ, ◌<◌, None, IsTrue};
+ghost use Rattle.std.specs.Prelude.{◌≡◌, ℕ, ◌<◌, IsTrue};
 ghost use Rattle.xp_words.specs.Machine.{Machine};
 ghost use Rattle.xp_words.specs.declared.place.Place.{Place};
 ghost use Rattle.xp_words.specs.declared.place.Place.TheVariants.{Refs};
@@ -13,6 +13,7 @@ ghost use Rattle.xp_board.specs.Keeping.{KeepsMark, KeepsAct};
 ghost use Rattle.xp_board.specs.Found.{Found};
 ghost use Rattle.xp_board.specs.Marks.{MayShed, demand_seen};
 ghost use Rattle.xp_board.specs.Readings.{is_live, kind_at, owner_of};
+ghost use Rattle.xp_board.specs.Settling.{is_settled};
 ghost use Rattle.xp_board.specs.Sound.{Sound};
 ghost use Rattle.xp_board.specs.Valid.{EntryPermitted};
 ghost use Rattle.xp_board.specs.WellFormed.{WellFormed};
@@ -32,11 +33,11 @@ pub fn holdings_stay_well_formed()
     ensures acts { KeepsAct (λ n m h. (s : ℕ) → s < (sizes_of n).vcpus → WellFormed n s (h s)) }
 {}
 
-/// The entry that a table in the own work would shed leads where that table may: a table below it has the same owner. Where nothing of
-/// the entry is open its frame is live with the type that the entry asks. So what comes back by Shed can be given back, or recorded again.
+/// The entry that a table in the own work would shed leads where that table may: a table below it has the same owner. Where the entry is
+/// settled its frame is live with the type that the entry asks. So what comes back by Shed can be given back, or recorded again.
 pub fn a_shed_entry_leads_where_its_table_may()
     ensures permitted { (n : Machine) (m : Place → ℕ) (h : ℕ → Holdings) (s f upto g : ℕ) (e : Work) (t : PageType) → s < (sizes_of n).vcpus → Sound n m h → MayShed f upto (h s) e →
         demand_seen upto e ≡ Typed g t → EntryPermitted m (kind_at m f).kind (owner_of (m (Refs f))) g }
     ensures live { (n : Machine) (m : Place → ℕ) (h : ℕ → Holdings) (s f upto g : ℕ) (e : Work) (t : PageType) → s < (sizes_of n).vcpus → Sound n m h → MayShed f upto (h s) e →
-        demand_seen upto e ≡ Typed g t → e.unsettled ≡ None → IsTrue (is_live (kind_at m g)) × ((kind_at m g).kind ≡ t) }
+        demand_seen upto e ≡ Typed g t → IsTrue (is_settled (sizes_of n) (h s) e) → IsTrue (is_live (kind_at m g)) × ((kind_at m g).kind ≡ t) }
 {}

@@ -1,9 +1,9 @@
 //! Steps on a frame's type, its form and its marks.
 use plain_words::{
-    Finding, Hand, Owner, Place, State, Work, demand_at, is_dead, is_past, is_work, newest, times,
+    Finding, Hand, Owner, Place, State, Work, is_dead, is_past, is_work, newest, times,
 };
 use xp_board::Act;
-use xp_words::{Demand, KindWord, PageType};
+use xp_words::{KindWord, PageType};
 
 /// Exchanges from each form, counts that are given back, and stores by the vCPU that works on the frame.
 pub fn allows(state: &State, hand: &Hand, domain: u16, frame: u64, act: Act) -> bool {
@@ -171,7 +171,7 @@ fn takes_mark(old: &KindWord, left: &KindWord) -> bool {
 /// The whole frame is validated, and the type count that it comes with is in hand.
 fn makes_live(hand: &Hand, frame: u64, work: &Work, old: &KindWord, left: &KindWord) -> bool {
     let whole = if left.kind.is_table() {
-        work.recorded == 512 && is_settled(hand, work, left.kind)
+        work.recorded == 512 && hand.is_settled(work)
     } else {
         left.kind != PageType::Desc || work.fixed == 512
     };
@@ -179,22 +179,6 @@ fn makes_live(hand: &Hand, frame: u64, work: &Work, old: &KindWord, left: &KindW
     let counted = (left.number == 1 && 0 < typed)
         || (left.number == 2 && typed == 0 && 0 < hand.untyped(frame));
     is_work(old) && !left.pinned && !left.locked && whole && counted
-}
-
-/// The frame of the last recorded entry was found or made live since.
-pub fn is_settled(hand: &Hand, work: &Work, kind: PageType) -> bool {
-    match work.unsettled {
-        None => true,
-        Some(unsettled) => match unsettled.word {
-            None => false,
-            Some(word) => match demand_at(kind, work.recorded.saturating_sub(1), word) {
-                Demand::Typed { frame, .. } => {
-                    hand.found_since(unsettled.since, Place::Kind { frame }, Finding::Live)
-                }
-                _ => true,
-            },
-        },
-    }
 }
 
 /// The progress is what is recorded. `kept` takes the type count, of a frame whose owner the reference tells.

@@ -1,6 +1,5 @@
 //! Marks that go with a step.
 use crate::cells::has_last_demand;
-use crate::kinds::is_settled;
 use plain_words::{Hand, Work, demand_at, newest};
 use xp_board::{Mark, StepKind};
 use xp_words::{KindWord, PageType};
@@ -32,7 +31,7 @@ fn records(hand: &Hand, frame: u64, upto: u64) -> bool {
     };
     let next = work.recorded < 512 && upto == work.recorded + 1;
     let demand = demand_at(kind, seen.index, seen.word);
-    next && is_settled(hand, &work, kind)
+    next && hand.is_settled(&work)
         && seen.index == work.recorded
         && has_last_demand(hand, frame, kind, demand)
 }

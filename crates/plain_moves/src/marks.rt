@@ -69,6 +69,7 @@ fn sheds(hand: &mut Hand, frame: u64, upto: u64) {
     let Some(work) = newest(&hand.works, frame) else {
         return;
     };
+    let settled = hand.is_settled(&work);
     let next = Work {
         recorded: upto,
         unsettled: None,
@@ -76,7 +77,7 @@ fn sheds(hand: &mut Hand, frame: u64, upto: u64) {
     };
     change(&mut hand.works, frame, next);
     let (demand, _) = demand_seen(&work, upto);
-    demand_in(hand, demand, work.unsettled.is_none());
+    demand_in(hand, demand, settled);
 }
 
 fn forgets(hand: &mut Hand, page: u64) {

@@ -1,8 +1,9 @@
-//! What a vCPU knows of a frame by the references in its hand.
+//! What a vCPU knows of a frame: by the references in its hand, or as that of the last recorded entry of a table in its works.
 use crate::findings::Finding;
-use crate::hand::{Hand, Live, Owner};
+use crate::hand::{Hand, Live, Owner, Work};
 use crate::machine::{Place, State};
-use xp_words::{KindWord, PageType};
+use crate::readings::demand_at;
+use xp_words::{Demand, KindWord, PageType};
 
 /// Since that step the vCPU was found stopped, off, or flushed later than the stamp.
 pub fn is_past(hand: &Hand, since: u64, stamp: u64, vcpu: u16) -> bool {
@@ -106,5 +107,21 @@ impl Hand {
             }
         }
         known
+    }
+
+    /// Whether the frame of the last recorded entry of a table in work was found or made live since, or none is in question.
+    pub fn is_settled(&self, work: &Work) -> bool {
+        let Some(unsettled) = work.unsettled else {
+            return true;
+        };
+        let (Some(kind), Some(word)) = (KindWord::read(work.word), unsettled.word) else {
+            return false;
+        };
+        match demand_at(kind.kind, work.recorded.saturating_sub(1), word) {
+            Demand::Typed { frame, .. } => {
+                self.found_since(unsettled.since, Place::Kind { frame }, Finding::Live)
+            }
+            _ => true,
+        }
     }
 }

@@ -35,14 +35,14 @@ recorded_run : (n : Machine) (f : ℕ) (o : Option Work) (h : Holdings) → (rec
 recorded_run n f None h = refl
 recorded_run n f (Some e) h = out_run (demand_seen e.recorded e) _
 
-shed_run : (f upto : ℕ) (o : Option Work) (h : Holdings) → (shed f upto o h).run ≡ h.run
-shed_run f upto None h = refl
-shed_run f upto (Some e) h = in_run _ (demand_seen upto e) _
+shed_run : (n : Machine) (f upto : ℕ) (o : Option Work) (h : Holdings) → (shed n f upto o h).run ≡ h.run
+shed_run n f upto None h = refl
+shed_run n f upto (Some e) h = in_run _ (demand_seen upto e) _
 
 mark_run : (n : Machine) (mark : Option Mark) (h : Holdings) → (after_mark n mark h).run ≡ h.run
 mark_run n None h = refl
 mark_run n (Some (marks.Record f upto)) h = recorded_run n f (work_on f h.works) h
-mark_run n (Some (marks.Shed f upto)) h = shed_run f upto (work_on f h.works) h
+mark_run n (Some (marks.Shed f upto)) h = shed_run n f upto (work_on f h.works) h
 mark_run n (Some (marks.Forget page)) h = refl
 mark_run n (Some (marks.Cut call)) h = refl
 mark_run n (Some marks.Turn) h = refl

@@ -30,8 +30,8 @@ recorded_stays n f upto h b d =
     (λ P new e. EachOf-changed (λ x. P x.frame x.since) (λ x. x.frame) f _ h.works (λ x p. p) e))
     (out_stays (demand_seen d.e.recorded d.e) _))
 
-shed_stays : (f upto : ℕ) (h b : Holdings) → Shed f upto h b → HandStays h b
-shed_stays f upto h b d =
+shed_stays : (n : Machine) (f upto : ℕ) (h b : Holdings) → Shed n f upto h b → HandStays h b
+shed_stays n f upto h b d =
     subst (λ y. HandStays h y) (sym d.hand)
     (then_stays _ _ _
     (works_stay h (record h { works = _ }) refl refl refl refl refl
@@ -45,7 +45,7 @@ mark_stays n h b (forgot page d) =
     subst (λ y. HandStays h y) (sym d.hand)
     (record { like = parts_like h _ refl refl refl; claims = λ g e. e; cache = λ x e. Member-kept (λ y. not (y.page == page)) x h.cache e; walk = λ x e. e })
 mark_stays n h b (recorded_entry f upto d) = recorded_stays n f upto h b d
-mark_stays n h b (shed_entry f upto d) = shed_stays f upto h b d
+mark_stays n h b (shed_entry f upto d) = shed_stays n f upto h b d
 
 pub mark_row : KeepsMark Fresh
 mark_row n s x m h b real may marked sound =

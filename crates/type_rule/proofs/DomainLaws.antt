@@ -1,5 +1,5 @@
 -- Dying and dead domains after each legal mark and after each legal act.
-use Rattle.std.proofs.Common.{◌≡◌, ◌≢◌, ℕ, ◌<◌, IsTrue, ◌∙◌, ap, inl, inr, arith, is_none}
+use Rattle.std.proofs.Common.{◌≡◌, ◌≢◌, ℕ, ◌<◌, IsTrue, ◌∙◌, ap, inl, inr, arith}
 use Rattle.std.proofs.lemmas.Bool.{cases_eq}
 use Rattle.std.proofs.lemmas.Bool.Decides.{nat_tests}
 use Rattle.xp_words.specs.Machine.{Machine}
@@ -11,6 +11,7 @@ use Rattle.xp_board.specs.declared.holdings.Holdings.{Holdings}
 use Rattle.xp_board.specs.Keeping.{KeepsMark, KeepsAct}
 use Rattle.xp_board.specs.LifeSteps.{HasStopped}
 use Rattle.xp_board.specs.Marks.{demand_seen}
+use Rattle.xp_board.specs.Settling.{is_settled}
 use Rattle.xp_board.specs.Sound.{Sound, KeptForNobody, DeadDomain, DyingDomain, Domains}
 use Rattle.step_effects.proofs.MarkEffects.{MarkEffect, nothing, turned as turned_mark, forgot, recorded_entry, shed_entry, mark_effect}
 use Rattle.step_effects.proofs.ActInversions.{act_effect}
@@ -33,7 +34,7 @@ mark_two n h b (recorded_entry f upto d) =
     let k = three_out (demand_seen d.e.recorded d.e) _ in
     record { looking = ap (λ u. u.looking) d.hand ∙ k.looking; steps = ap (λ u. u.steps) d.hand ∙ k.steps }
 mark_two n h b (shed_entry f upto d) =
-    let k = three_in (is_none d.e.unsettled) (demand_seen upto d.e) _ in
+    let k = three_in (is_settled (sizes_of n) h d.e) (demand_seen upto d.e) _ in
     record { looking = ap (λ u. u.looking) d.hand ∙ k.looking; steps = ap (λ u. u.steps) d.hand ∙ k.steps }
 
 module _ (n : Machine) (s : ℕ) (m : Place → ℕ) (h b : ℕ → Holdings) (two : SameTwo (h s) (b s)) (others : (t : ℕ) → t ≢ s → b t ≡ h t) where

@@ -15,7 +15,6 @@ use Rattle.xp_words.specs.declared.place.Place.TheVariants.{Kind}
 use Rattle.xp_words.specs.Places.{sizes_of}
 use Rattle.xp_board.specs.declared.holdings.Work.{Work}
 use Rattle.xp_board.specs.declared.holdings.Holdings.{Holdings}
-use Rattle.xp_board.specs.Steps.{some_since}
 use Rattle.xp_board.specs.Hands.{work_on, changed_work}
 use Rattle.xp_board.specs.Readings.{kind_at, is_live, is_work, is_partial, is_live_word, type_count}
 use Rattle.xp_board.specs.Knowledge.{knows_live}
@@ -30,7 +29,7 @@ use Rattle.board_lemmas.proofs.Works.{work_of-mine, nobody_else}
 use Rattle.type_rule.proofs.HandParts.{three_in, three_out}
 use Rattle.board_lemmas.proofs.ListChanges.{first_by-changed_other, first_by-changed_here}
 use Rattle.board_lemmas.proofs.WorkFacts.{Works, works_facts, loaded_asks}
-use Rattle.type_rule.proofs.Settled.{settled_found, unsettled_mine}
+use Rattle.board_lemmas.proofs.Settled.{nothing_unsettled, unsettled_mine}
 use Rattle.type_rule.proofs.ValidLaw.{NewEntry}
 use Rattle.type_rule.proofs.NewEntries.{owners_permit, demand_new}
 use Rattle.type_rule.proofs.MarkRows.{MarkOn, mark_valid, mark_permitted}
@@ -145,12 +144,7 @@ module _ (n : Machine) (s : ℕ) (m : Place → ℕ) (h b : ℕ → Holdings) (r
     older_leads : (i g : ℕ) (t : PageType) → i < held (sizes_of n) m h f → entry_demand m f i ≡ Typed g t → LeadsWell (sizes_of n) m h f i g → LeadsWell (sizes_of n) m b f i g
     older_leads i g t l e (inl live) = inl live
     older_leads i g t l e (inr (form, inl last)) = absurd (busy_partial (kind_at m f) k.busy last.partial)
-    older_leads i g t l e (inr (form, inr u)) =
-        absurd
-        (let own = unsettled_mine n m h s f d.e sound real k i g u d.may.here in
-        let found = settled_found n m h s f i g t d.e u.unsettled k d.may.table (rw (← own.1) u.kept) (rw (← own.1) u.last) e d.may.settled in
-        let unfound : some_since (sizes_of n) u.unsettled.since (Kind g) is_live_word (h s).steps ≡ false = rw (own.0) at u.unfound in
-        cc)
+    older_leads i g t l e (inr (form, inr u)) = absurd (nothing_unsettled n m h s f d.e sound real k d.may.here d.may.table d.may.settled i g t e u)
 
     recorded_on : MarkOn n s m h b real sound others steps f
     unfolding more
@@ -171,7 +165,7 @@ module _ (n : Machine) (s : ℕ) (m : Place → ℕ) (h b : ℕ → Holdings) (r
   recorded_permitted f upto d = mark_permitted n s m h b real sound others steps f (recorded_on f upto d)
 
   -- ---- the last entry comes back
-  module _ (f upto : ℕ) (d : Shed f upto (h s) (b s)) where
+  module _ (f upto : ℕ) (d : Shed n f upto (h s) (b s)) where
     fewer : Work → Work
     fewer y = record y { recorded = upto; unsettled = None }
 
@@ -219,8 +213,8 @@ module _ (n : Machine) (s : ℕ) (m : Place → ℕ) (h b : ℕ → Holdings) (r
           leads = λ i g t now l e leads. left_leads i g t now leads;
         }
 
-  pub shed_valid : (f upto : ℕ) → Shed f upto (h s) (b s) → Valid (sizes_of n) m b
+  pub shed_valid : (f upto : ℕ) → Shed n f upto (h s) (b s) → Valid (sizes_of n) m b
   shed_valid f upto d = mark_valid n s m h b real sound others steps f (shed_on f upto d)
 
-  pub shed_permitted : (f upto : ℕ) → Shed f upto (h s) (b s) → Permitted n m b
+  pub shed_permitted : (f upto : ℕ) → Shed n f upto (h s) (b s) → Permitted n m b
   shed_permitted f upto d = mark_permitted n s m h b real sound others steps f (shed_on f upto d)

@@ -30,7 +30,7 @@ use Rattle.board_lemmas.proofs.ListCounts.{first_by-without_other, first_by-none
 use Rattle.board_lemmas.proofs.ListChanges.{first_by-changed_other, first_by-changed_here}
 use Rattle.type_rule.proofs.Counted.{entry_counted, context_counted}
 use Rattle.board_lemmas.proofs.WorkFacts.{Works, works_facts}
-use Rattle.type_rule.proofs.Settled.{settled_found, unsettled_mine}
+use Rattle.board_lemmas.proofs.Settled.{settled_found, unsettled_mine}
 use Rattle.board_lemmas.proofs.FormsLeft.{is_live_left, is_partial_left, is_work_left, is_dead_left}
 use Rattle.type_rule.proofs.EntryChange.{OneStep}
 use Rattle.type_rule.proofs.QuietActs.{one_by}

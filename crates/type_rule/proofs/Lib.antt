@@ -18,7 +18,6 @@ mod QuietActs
 mod KindAct
 mod KindRows
 mod KindDowns
-mod Settled
 mod KindHeld
 mod KindStores
 mod CellAct

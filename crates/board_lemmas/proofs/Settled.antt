@@ -27,7 +27,7 @@ use Rattle.xp_board.specs.Sound.{Sound}
 use Rattle.board_lemmas.proofs.Works.{one_vcpu}
 use Rattle.board_lemmas.proofs.HandLists.{first-some}
 
-pub unmarked_by : (k : KindWord) (r : ℕ) → (k.unflushed ≡ true → r ≡ 0) → r ≢ 0 → k.unflushed ≡ false
+unmarked_by : (k : KindWord) (r : ℕ) → (k.unflushed ≡ true → r ≡ 0) → r ≢ 0 → k.unflushed ≡ false
 unmarked_by k r h some = elim (cases_Bool k.unflushed) [ inl t ↦ absurd (some (h t)) | inr f ↦ f ]
 
 last_of : (z : Sizes) (e : Work) (xs : List Made) (u : Unsettled) → LastIs z e xs e.unsettled → e.unsettled ≡ Some u → (w : ℕ) → u.word ≡ Some w →
@@ -59,3 +59,12 @@ unsettled_mine n m h s f e sound real k i g u here =
     let at : u.vcpu ≡ s = sym (one_vcpu n m h sound.alone f s u.vcpu real u.real k.some some) in
     let same : Some u.work ≡ Some e = sym u.here ∙ ap (λ t. work_on f (h t).works) at ∙ here in
     (at, cc)
+
+-- so nothing is unsettled of a table on which a vCPU works and is settled
+pub nothing_unsettled : (n : Machine) (m : Place → ℕ) (h : ℕ → Holdings) (s f : ℕ) (e : Work) → Sound n m h → s < (sizes_of n).vcpus → Works n m h s f e → work_on f (h s).works ≡ Some e →
+    is_table (kind_fields e.word).kind ≡ true → IsTrue (is_settled (sizes_of n) (h s) e) → (i g : ℕ) (t : PageType) → entry_demand m f i ≡ Typed g t → IsUnsettled (sizes_of n) h f i g → ⊥
+nothing_unsettled n m h s f e sound real k here table settled i g t asks u =
+    let own = unsettled_mine n m h s f e sound real k i g u here in
+    let found = settled_found n m h s f i g t e u.unsettled k table (rw (← own.1) u.kept) (rw (← own.1) u.last) asks settled in
+    let unfound : some_since (sizes_of n) u.unsettled.since (Kind g) is_live_word (h s).steps ≡ false = rw (own.0) at u.unfound in
+    cc
