@@ -3,6 +3,7 @@ use Rattle.std.specs.Prelude.{◌≡◌, ◌≢◌, ℕ, ◌<◌, ◌≤◌, tru
 use Rattle.xp_words.specs.KindWords.{is_kind}
 use Rattle.xp_words.specs.Machine.{Machine}
 use Rattle.xp_words.specs.declared.place.Place.TheVariants.{Clock, Refs}
+use Rattle.xp_words.specs.declared.reply.Pause.TheVariants.{Flush}
 use Rattle.xp_words.specs.declared.reply.Refusal.TheVariants as refusals
 use Rattle.xp_words.specs.declared.reply.Stop.{Stop}
 use Rattle.xp_words.specs.declared.reply.Stop.TheVariants.{Refused, Paused}
@@ -35,3 +36,8 @@ pub record IsOrderly (n : Machine) (m : Words) : Type 0 where
 -- no step from v to w found the clock at its last value
 abbrev pub ClockGoesOn : PortValue → PortValue → Type 0
 ClockGoesOn v w = (m : Moment) → Met v w m → m.place ≡ Clock → m.found ≢ last_clock
+
+-- it goes on when another vCPU has flushed
+abbrev pub IsAwaiting : Result ℕ Stop → Type 0
+IsAwaiting (Err (Paused (Flush vcpu stamp found))) = Unit {0}
+IsAwaiting _ = ⊥
