@@ -11,4 +11,4 @@ pub mod Beginning
 pub mod Deciding
 pub mod Walking
 pub mod Stopping
-pub mod Alone
+pub mod Awaiting

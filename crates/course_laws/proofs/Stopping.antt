@@ -1,5 +1,5 @@
 -- What an acquisition stops for, one of its calls stopped for, unless the gate said yes.
-use Rattle.std.proofs.Common.{◌≡◌, ℕ, ◌+◌, ◌-◌, Bool, true, false, List, [], ◌∷◌, Some, None, Result, Ok, Err, refl, arith}
+use Rattle.std.proofs.Common.{◌≡◌, ℕ, Bool, true, false, List, [], ◌∷◌, Some, None, Result, Ok, Err, refl, arith}
 use Rattle.xp_words.specs.declared.reply.Stop.{Stop}
 use Rattle.xp_board.specs.Told.{PortValue}
 use Rattle.xp_preempt.specs.Gates.{yeses}
@@ -8,14 +8,11 @@ use Rattle.step_maker.proofs.Coming.{came_self, came_trans}
 use Rattle.answer_fits.specs.Answers.{Stops}
 use Rattle.answer_fits.specs.Asked.{Request, of_frame}
 use Rattle.answer_fits.proofs.Visiting.{does_came}
-use Rattle.frame_types.specs.Plain.{is_refused}
 use Rattle.partial_state.specs.Levels.{level_type}
 use Rattle.partial_state.specs.declared.stack.TableWork.{TableWork}
 use Rattle.table_entries.specs.Asking.{of_entries}
-use Rattle.table_entries.specs.declared.entries.Entered.TheVariants.{Unsettled}
-use Rattle.table_entries.specs.declared.resuming.Resumed.TheVariants as again
-use Rattle.table_courses.specs.Acquiring.{Acquired, Advanced, Filled, GotRef, ResumedEntry, TookEntry, TookOn, TookType, Worked, asked, begun, completed, counted, cut_off, due, filled, finished, fresh, keeps_it, opened, outermost_table, recorded, settled, stopped, taken, unasked, unfinished, unreferred, unsettled, untyped, waiting}
-use Rattle.course_laws.proofs.Walking.{advanced_came, again_came, entry_came, filled_came, gave_came, left_came, on_came, unwound_came, waiting_came, worked_came}
+use Rattle.table_courses.specs.Acquiring.{Acquired, Advanced, Filled, GotRef, TookOn, Worked, asked, begun, completed, counted, cut_off, due, filled, finished, fresh, keeps_it, opened, outermost_table, recorded, settled, stopped, taken, unasked, unfinished, unreferred, unsettled, untyped, waiting}
+use Rattle.course_laws.proofs.Walking.{again_came, entry_came, filled_came, gave_came, left_came, on_came, unwound_came, waiting_came}
 
 -- one of the steps from v to w is a call that stopped for that: it destroys nothing, and no gate was asked in it
 pub record StopsIn (v w : PortValue) (e : Stop) : Type 0 where

@@ -109,8 +109,7 @@ module _ (n : Machine) (m x : Words) (q : Plain) (owner g l : ℕ) (ts : List Ta
     opened_by : (is_dead (kind_at m g) ≡ true) ⊎ IsLiveWithin (kind_at m g) (count_at m g) → IsTakenOf (got g m) g (level_type l) (InWork progress own) → Alike x (taken g (level_type l) (InWork progress own) (got g m)) → AllFrames n x (new ∷ ts) × IsMore n m x × (0 < count_at x g)
     opened_by (inl dead) is alike =
         let k = kind_at m g in
-        let set : Alike x (set_kind g (work_unmarked (work_by k (level_type l) stands.Dead)) (got g m)) = subst (λ s. Alike x (taken_by g (level_type l) k s (InWork progress own) (got g m))) (dead_stands k (level_type l) dead) alike in
-        (
+        let set : Alike x (set_kind g (work_unmarked (work_by k (level_type l) stands.Dead)) (got g m)) = subst (λ s. Alike x (taken_by g (level_type l) k s (InWork progress own) (got g m))) (dead_stands k (level_type l) dead) alike in (
           set_frames n x (got g m) g (work_unmarked (work_by k (level_type l) stands.Dead)) set ts (new ∷ ts) (λ h j off work. inr work) new_here got_frames,
           more_set (work_unmarked (work_by k (level_type l) stands.Dead)) set,
           (let e = set_counts n x (got g m) g (work_unmarked (work_by k (level_type l) stands.Dead)) set g in let c = got_here n m q owner g machine d none in omega arith),

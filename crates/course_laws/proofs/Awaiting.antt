@@ -1,36 +1,34 @@
 -- Where the vCPU is alone: its words are orderly, and its acquisitions pause only for the gate, and for flushes of other vCPUs.
-use Rattle.std.proofs.Common.{◌≡◌, ◌⊎◌, ℕ, ◌<◌, ◌≤◌, true, false, is_some, Bool, List, length, Option, Some, None, Result, Ok, Err, IsTrue, refl, sym, ap, ◌∙◌, subst, inl, inr, arith}
+use Rattle.std.proofs.Common.{◌≡◌, ◌⊎◌, ℕ, true, false, is_some, length, Option, Some, None, Result, Ok, Err, IsTrue, refl, sym, ap, ◌∙◌, subst, inl, inr, arith}
 use Rattle.xp_words.specs.KindWords.{is_kind, kind_fields, kind_read}
-use Rattle.xp_words.specs.Machine.{IsMachine, Machine}
+use Rattle.xp_words.specs.Machine.{Machine}
 use Rattle.xp_words.specs.Places.{sizes_of}
 use Rattle.xp_words.specs.declared.kind.KindWord.{KindWord}
 use Rattle.xp_words.specs.declared.place.Place.{Place}
-use Rattle.xp_words.specs.declared.place.Place.TheVariants.{Clock, Kind, Refs}
+use Rattle.xp_words.specs.declared.place.Place.TheVariants.{Kind}
 use Rattle.xp_words.specs.declared.reply.Pause.{Pause}
 use Rattle.xp_words.specs.declared.reply.Pause.TheVariants as pauses
 use Rattle.xp_words.specs.declared.reply.Refusal.{Refusal}
 use Rattle.xp_words.specs.declared.reply.Refusal.TheVariants as refusals
 use Rattle.xp_words.specs.declared.reply.Stop.{Stop}
 use Rattle.xp_words.specs.declared.reply.Stop.TheVariants.{Refused, Paused}
-use Rattle.xp_preempt.specs.Gates.{yeses}
 use Rattle.xp_board.specs.declared.holdings.Holdings.{Holdings}
-use Rattle.xp_board.specs.Readings.{kind_at, last_clock, ref_count, type_count}
+use Rattle.xp_board.specs.Readings.{kind_at}
 use Rattle.xp_board.specs.Sound.{Sound}
 use Rattle.xp_board.specs.Spelling.{IsSpelling, is_kind_in}
 use Rattle.xp_board.specs.Told.{Post, PortValue, Story, is_telling, told_word, word_in}
 use Rattle.board_lemmas.proofs.Counted.{type_below}
 use Rattle.board_lemmas.proofs.KindForms.{fields_of}
 use Rattle.board_lemmas.proofs.KindReadings.{live_count}
-use Rattle.step_maker.specs.Moves.{Came, Met, Moment}
+use Rattle.step_maker.specs.Moves.{Came}
 use Rattle.step_maker.proofs.Coming.{came_post, met_after, met_before}
 use Rattle.answer_fits.specs.Answers.{Stops}
 use Rattle.answer_fits.specs.Asked.{Request}
 use Rattle.answer_laws.specs.Alone.{IsAlone, IsDueOrFlush}
 use Rattle.kind_words.proofs.KindFacts.{read_is}
 use Rattle.kind_words.proofs.RowSteps.{kind_there}
-use Rattle.table_courses.specs.Acquiring.{Acquired}
 use Rattle.course_laws.specs.Courses.{ClockGoesOn, IsAwaiting, IsDecided, IsFinal, IsOrderly}
-use Rattle.course_laws.proofs.Stopping.{StopsAs, StopsIn, acquired_stops}
+use Rattle.course_laws.proofs.Stopping.{StopsAs, StopsIn}
 
 -- ---- sound words are orderly
 spelled_by : (n : Machine) (w : ℕ) (o : Option KindWord) → kind_read w ≡ o → IsTrue (is_kind_in n o) → IsTrue (is_kind (kind_fields w))
