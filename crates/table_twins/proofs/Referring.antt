@@ -53,7 +53,7 @@ one_more_is w o c a e small =
     let was = (ref_write-read w (Owned o a c) (read_small w (Owned o a c) e) e).0 in
     ap share_in (ref_read-write (Owned o a (c + 1)) (was.0, omega arith, small))
 
-not_full : (limit c : ℕ) → nat_le limit c ≡ false → c < limit
+pub not_full : (limit c : ℕ) → nat_le limit c ≡ false → c < limit
 not_full limit c is = grind (arith, nat_tests)
 
 module _ (n : Machine) (m : Words) (p : Plain) (owner g : ℕ) (d : Describes n m p) (machine : IsMachine n) where

@@ -145,7 +145,7 @@ raised_sober k t limit is c low few =
     let below : k.number + 1 < 2 ^ 26 = omega (arith, low, few) in
     sym (ap sober (fields_write (raised_kind k) (raised_is k is c.live (some_number k.number c.some) below)) ∙ live_sober (raised_kind k) c.live)
 
-live_sober_one : (t : PageType) → IsTrue (not (is_none t)) → live_kind t 1 ≡ sober (kind_fields (kind_write (live_kind t 1)))
+pub live_sober_one : (t : PageType) → IsTrue (not (is_none t)) → live_kind t 1 ≡ sober (kind_fields (kind_write (live_kind t 1)))
 live_sober_one t typed = sym (ap sober (fields_write (live_kind t 1) (live_is t typed 1 (omega arith))))
 
 work_sober : (k : KindWord) (t : PageType) → IsTrue (not (is_none t)) → work_kind t false 0 ≡ sober (kind_fields (kind_write (work_unmarked (begun_kind k t))))

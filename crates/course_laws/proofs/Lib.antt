@@ -1,0 +1,14 @@
+pub mod Frames
+pub mod Lending
+pub mod Typing
+pub mod Stacking
+pub mod Entering
+pub mod Advancing
+pub mod Going
+pub mod Filling
+pub mod Starting
+pub mod Beginning
+pub mod Deciding
+pub mod Walking
+pub mod Stopping
+pub mod Awaiting

@@ -1,0 +1,110 @@
+-- Tables in work, and what is left to do for them.
+use Rattle.std.proofs.Common.{◌≡◌, ℕ, suc, ◌+◌, ◌-◌, ◌<◌, ◌≤◌, true, false, List, [], ◌∷◌, Some, None, sym, ap, ◌∙◌, subst, arith}
+use Rattle.xp_words.specs.Machine.{Machine}
+use Rattle.xp_words.specs.declared.entry.Demand.TheVariants.{Typed}
+use Rattle.xp_words.specs.declared.kind.PageType.{PageType}
+use Rattle.xp_board.specs.Readings.{is_dead}
+use Rattle.step_maker.specs.Plain.{Words}
+use Rattle.kind_words.specs.Kinds.{work_kind}
+use Rattle.partial_state.specs.Levels.{level_type}
+use Rattle.partial_state.specs.declared.stack.TableWork.{TableWork}
+use Rattle.table_law.specs.Alone.{Cause, PlainOutcome, fine, meet, refused, take_at, take_reference}
+use Rattle.table_law.specs.Levels.{TableLeft, entry_of}
+use Rattle.table_law.specs.Plain.{Describes, Plain, with_kind}
+use Rattle.table_law.specs.Stack.{next_met, rest, table_left}
+use Rattle.table_law.proofs.Steps.{rest_met, rest_opened, rest_stopped}
+use Rattle.course_laws.proofs.Frames.{AllFrames, IsAbove, count_at}
+use Rattle.course_laws.proofs.Lending.{IsMore}
+
+-- as the plain value has them
+abbrev pub lefts : List TableWork → List TableLeft
+lefts [] = []
+lefts (t ∷ ts) = table_left t.frame (t.level - 1) (512 - t.done) ∷ lefts ts
+
+-- a table that came into work with nothing recorded, by an entry under way
+pub record IsTable (n : Machine) (m : Words) (t : TableWork) : Type 0 where
+  pub inside : t.frame < n.frames
+  pub held : 0 < count_at m t.frame
+  pub low : 1 ≤ t.level
+  pub high : t.level ≤ 4
+  pub few : t.done ≤ 512
+  pub own : t.own ≡ true
+  pub under_way : t.recorded ≡ false
+
+-- each below the ones around it
+abbrev pub AllTables : Machine → Words → List TableWork → Type 0
+AllTables n m [] = Unit {0}
+AllTables n m (t ∷ ts) = IsTable n m t × IsAbove t.level ts × AllTables n m ts
+
+-- The words m are those of an acquisition that is under way with these tables in work; all that is left to do comes to a.
+pub record Stands (n : Machine) (owner : ℕ) (m : Words) (ts : List TableWork) (a : PlainOutcome) : Type 0 where
+  pub plain : Plain
+  pub describes : Describes n m plain
+  pub frames : AllFrames n m ts
+  pub tables : AllTables n m ts
+  pub ahead : rest n owner (lefts ts) plain ≡ a
+
+-- it is refused
+pub record Refuses (a : PlainOutcome) : Type 0 where
+  pub cause : Cause
+  pub is : a.refusal ≡ Some cause
+
+-- ---- the list of them
+pub lower_above : (k l : ℕ) (ts : List TableWork) → k ≤ l → IsAbove l ts → IsAbove k ts
+lower_above k l [] low above = tt
+lower_above k l (t ∷ ts) low above = ((let b = above.0 in omega arith), above.1, lower_above k l ts low above.2)
+
+more_table : (n : Machine) (m x : Words) (t : TableWork) → IsMore n m x → IsTable n m t → IsTable n x t
+more_table n m x t more is =
+    record { inside = is.inside; held = (let k = more t.frame is.inside in let b = is.held in omega arith); low = is.low; high = is.high; few = is.few; own = is.own; under_way = is.under_way }
+
+pub more_tables : (n : Machine) (m x : Words) (ts : List TableWork) → IsMore n m x → AllTables n m ts → AllTables n x ts
+more_tables n m x [] more all = tt
+more_tables n m x (t ∷ ts) more all = (more_table n m x t more all.0, all.1, more_tables n m x ts more all.2)
+
+-- ---- what is left to do
+pub as_fine : (o : PlainOutcome) → o.refusal ≡ None → o ≡ fine o.left
+as_fine o none = ap (λ r. record { refusal = r; left = o.left }) none
+
+as_refused : (o : PlainOutcome) (c : Cause) → o.refusal ≡ Some c → o ≡ refused c o.left
+as_refused o c is = ap (λ r. record { refusal = r; left = o.left }) is
+
+-- of a table of level l + 1 with k entries done with, by what its next entry comes to
+module _ (n : Machine) (owner f l i : ℕ) (xs : List TableLeft) (q : Plain) (a : PlainOutcome) (few : i < 512) (ahead : rest n owner (table_left f l (512 - i) ∷ xs) q ≡ a) where
+  abbrev pub next : PlainOutcome
+  next = meet n owner (take_at l n owner) f i q (entry_of q (level_type (suc l)) f i)
+
+  same_next : next_met n owner f l (511 - i) q ≡ next
+  same_next = let e : 512 - suc (511 - i) ≡ i = omega arith in ap (λ j. meet n owner (take_at l n owner) f j q (entry_of q (level_type (suc l)) f j)) e
+
+  from_here : rest n owner (table_left f l (suc (511 - i)) ∷ xs) q ≡ a
+  from_here = let e : suc (511 - i) ≡ 512 - i = omega arith in ap (λ k. rest n owner (table_left f l k ∷ xs) q) e ∙ ahead
+
+  to_next : (p : Plain) → rest n owner (table_left f l (511 - i) ∷ xs) p ≡ a → rest n owner (table_left f l (512 - (i + 1)) ∷ xs) p ≡ a
+  to_next p is = let e : 512 - (i + 1) ≡ 511 - i = omega arith in ap (λ k. rest n owner (table_left f l k ∷ xs) p) e ∙ is
+
+  pub met_on : next.refusal ≡ None → rest n owner (table_left f l (512 - (i + 1)) ∷ xs) next.left ≡ a
+  met_on none = to_next next.left (sym (rest_met n owner f l (511 - i) xs q next.left (same_next ∙ as_fine next none)) ∙ from_here)
+
+  pub stopped_there : (c : Cause) → next.refusal ≡ Some c → Refuses a
+  stopped_there c is =
+      record { cause = c; is = ap (λ (o : PlainOutcome). o.refusal) (sym from_here ∙ rest_stopped n owner f l (511 - i) xs q next.left c (same_next ∙ as_refused next c is)) }
+
+-- a dead table is opened
+module _ (n : Machine) (owner f h i g : ℕ) (t : PageType) (xs : List TableLeft) (q p : Plain) (a : PlainOutcome) (few : i < 512) (ahead : rest n owner (table_left f (suc h) (512 - i) ∷ xs) q ≡ a) where
+  pub opened_on : entry_of q (level_type (suc (suc h))) f i ≡ Typed g t → take_reference n owner g q ≡ fine p → is_dead (p.kinds g) ≡ true →
+      rest n owner (table_left g h 512 ∷ table_left f (suc h) (512 - (i + 1)) ∷ xs) (with_kind g (work_kind (level_type (suc h)) false 0) p) ≡ a
+  opened_on asks took dead =
+      let e : 512 - suc (511 - i) ≡ i = omega arith in
+      let later : 512 - (i + 1) ≡ 511 - i = omega arith in
+      let now : suc (511 - i) ≡ 512 - i = omega arith in
+      ap (λ k. rest n owner (table_left g h 512 ∷ table_left f (suc h) k ∷ xs) (with_kind g (work_kind (level_type (suc h)) false 0) p)) later
+      ∙ sym (rest_opened n owner f h (511 - i) g t xs q p (ap (λ j. entry_of q (level_type (suc (suc h))) f j) e ∙ asks) took dead)
+      ∙ ap (λ k. rest n owner (table_left f (suc h) k ∷ xs) q) now ∙ ahead
+
+-- the same, where the level is said to be one more than another
+pub opened_from : (n : Machine) (owner f h l i g : ℕ) (t : PageType) (xs : List TableLeft) (q p : Plain) (a : PlainOutcome) → l ≡ suc h → i < 512 → rest n owner (table_left f l (512 - i) ∷ xs) q ≡ a → entry_of q (level_type (suc l)) f i ≡ Typed g t →
+    take_reference n owner g q ≡ fine p → is_dead (p.kinds g) ≡ true → rest n owner (table_left g h 512 ∷ table_left f l (512 - (i + 1)) ∷ xs) (with_kind g (work_kind (level_type l) false 0) p) ≡ a
+opened_from n owner f h l i g t xs q p a is few ahead asks took dead =
+    subst (λ k. rest n owner (table_left g h 512 ∷ table_left f k (512 - (i + 1)) ∷ xs) (with_kind g (work_kind (level_type k) false 0) p) ≡ a) (sym is)
+    (opened_on n owner f h i g t xs q p a few (subst (λ k. rest n owner (table_left f k (512 - i) ∷ xs) q ≡ a) is ahead) (subst (λ k. entry_of q (level_type (suc k)) f i ≡ Typed g t) is asks) took dead)
