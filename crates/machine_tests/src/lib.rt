@@ -7,6 +7,8 @@ mod boards;
 #[cfg(test)]
 mod lists;
 #[cfg(test)]
+mod pins;
+#[cfg(test)]
 mod runs;
 #[cfg(test)]
 mod steps;

@@ -1,0 +1,136 @@
+//! Pins and unpins from the trace to the report: worked examples, in one turn and paused.
+use crate::runs::{bytes, run_paced, turns, with_pace};
+use std::process::Abort;
+use xp_io::{MemorySink, MemorySource};
+use xp_machine::Status;
+
+// One example: what it shows; every how many asks of its gate the vCPU pauses, if it does; the trace; and lines of the report.
+#[derive(Clone, Copy)]
+struct Example {
+    shows: &'static str,
+    pace: &'static str,
+    trace: &'static str,
+    lines: &'static str,
+}
+
+const EXAMPLES: [Example; 15] = [
+    Example {
+        shows: "An empty frame is pinned as an L1 table; a frame that is not pinned cannot be unpinned.",
+        pace: "",
+        trace: "xen-pv-trace 1\nframes 16\ndomain 16\nvcpu 0\nown 0 0 8\nop 0 ext 0 5 0\nop 0 ext 4 6 0\nturn 0 2\nend\n",
+        lines: "op 1 ok done 1 value 0x0\nop 2 refused 7 done 0 NotPinned found=none,0,-\nframe 5 owner 0 refs 2 alloc type L1 count 1 flags pv at 0 m2p -\n",
+    },
+    Example {
+        shows: "A whole tree of four tables is validated by one pin; 512 read-only entries hold 512 references.",
+        pace: "",
+        trace: "xen-pv-trace 1\nframes 16\ndomain 16\nvcpu 0\nown 0 0 8\ncell 1 0 1 0x2003\ncell 2 0 1 0x3003\ncell 3 0 1 0x4003\ncell 4 0 512 0x5001\nop 0 ext 3 1 0\nturn 0 1\nend\n",
+        lines: "op 1 ok done 1 value 0x0\nframe 1 owner 0 refs 2 alloc type L4 count 1 flags pv at 0 m2p -\nframe 2 owner 0 refs 2 alloc type L3 count 1 flags v at 0 m2p -\nframe 3 owner 0 refs 2 alloc type L2 count 1 flags v at 0 m2p -\nframe 4 owner 0 refs 2 alloc type L1 count 1 flags v at 0 m2p -\nframe 5 owner 0 refs 513 alloc type none count 0 flags - at 0 m2p -\n",
+    },
+    Example {
+        shows: "The refused table is partial, and the vCPU's first old word holds its reference.",
+        pace: "",
+        trace: "xen-pv-trace 1\nframes 16\ndomain 16\nvcpu 0\nown 0 0 8\ncell 5 0 1 0x5003\nop 0 ext 0 5 0\nturn 0 1\nend\n",
+        lines: "op 1 refused 3 done 0 OtherType frame=5 want=wr found=L1,1,l\nvcpu 0 domain 0 base - user - old 5 -\nframe 5 owner 0 refs 2 alloc type L1 count 1 flags h at 0 m2p -\n",
+    },
+    Example {
+        shows: "The next turn settles the old word, and the table is dead.",
+        pace: "",
+        trace: "xen-pv-trace 1\nframes 16\ndomain 16\nvcpu 0\nown 0 0 8\ncell 5 0 1 0x5003\nop 0 ext 0 5 0\nturn 0 2\nend\n",
+        lines: "op 1 refused 3 done 0 OtherType frame=5 want=wr found=L1,1,l\nvcpu 0 domain 0 base - user - old - -\nframe 5 owner 0 refs 1 alloc type L1 count 0 flags - at 0 m2p -\n",
+    },
+    Example {
+        shows: "A linear page table is refused by type: the frame is an L4 table in work.",
+        pace: "",
+        trace: "xen-pv-trace 1\nframes 16\ndomain 16\nvcpu 0\nown 0 0 8\ncell 1 0 1 0x1003\nop 0 ext 3 1 0\nturn 0 2\nend\n",
+        lines: "op 1 refused 3 done 0 OtherType frame=1 want=L3 found=L4,1,l\n",
+    },
+    Example {
+        shows: "A page-size bit in an entry that is not present is let through; in a present one it is refused.",
+        pace: "",
+        trace: "xen-pv-trace 1\nframes 16\ndomain 16\nvcpu 0\nown 0 0 8\ncell 3 7 1 0x80\ncell 4 7 1 0x5081\nop 0 ext 1 3 0\nop 0 ext 1 4 0\nturn 0 3\nend\n",
+        lines: "op 1 ok done 1 value 0x0\nop 2 refused 4 done 0 Reserved frame=4 index=7 entry=0x5081\nframe 3 owner 0 refs 2 alloc type L2 count 1 flags pv at 0 m2p -\nframe 4 owner 0 refs 1 alloc type L2 count 0 flags - at 0 m2p -\nframe 5 owner 0 refs 1 alloc type none count 0 flags - at 0 m2p -\n",
+    },
+    Example {
+        shows: "Three turns recorded three entries; the kept mark holds the table's reference.",
+        pace: "1",
+        trace: "xen-pv-trace 1\nframes 16\ndomain 16\nvcpu 0\nown 0 0 8\ncell 5 0 512 0x6001\nop 0 ext 0 5 0\nturn 0 3\nend\n",
+        lines: "pending 1\nframe 5 owner 0 refs 2 alloc type L1 count 1 flags hk at 3 m2p -\nframe 6 owner 0 refs 4 alloc type none count 0 flags - at 0 m2p -\n",
+    },
+    Example {
+        shows: "512 turns finish a pin that pauses after each entry.",
+        pace: "1",
+        trace: "xen-pv-trace 1\nframes 16\ndomain 16\nvcpu 0\nown 0 0 8\ncell 5 0 512 0x6001\nop 0 ext 0 5 0\nturn 0 512\nend\n",
+        lines: "op 1 ok done 1 value 0x0\nframe 5 owner 0 refs 2 alloc type L1 count 1 flags pv at 0 m2p -\nframe 6 owner 0 refs 513 alloc type none count 0 flags - at 0 m2p -\n",
+    },
+    Example {
+        shows: "One vCPU's unpin pauses part-way; another vCPU's pin of the same table goes on from there.",
+        pace: "256",
+        trace: "xen-pv-trace 1\nframes 16\ndomain 16\ndomain 16\npriv 0 1\nvcpu 0\nvcpu 1\nvcpu 1\nown 0 0 4\nown 1 4 8\ncell 5 0 512 0x6001\nop 1 ext 0 5 0\nop 1 ext 4 5 0\nop 2 ext 0 5 0\nturn 1 3\nturn 2 1\nturn 1 1\nend\n",
+        lines: "op 1 ok done 1 value 0x0\nop 2 ok done 1 value 0x0\nop 1 ok done 1 value 0x0\nframe 5 owner 1 refs 2 alloc type L1 count 1 flags pv at 0 m2p -\nframe 6 owner 1 refs 513 alloc type none count 0 flags - at 0 m2p -\n",
+    },
+    Example {
+        shows: "With a count limit of 4 the fourth reference from the table does not fit beside the owner's own.",
+        pace: "",
+        trace: "xen-pv-trace 1\nframes 16\nlimit 4\ndomain 16\nvcpu 0\nown 0 0 8\ncell 5 0 4 0x6001\nop 0 ext 0 5 0\nturn 0 2\nend\n",
+        lines: "op 1 refused 5 done 0 CountFull frame=6 found=d0,4,a\nframe 5 owner 0 refs 1 alloc type L1 count 0 flags - at 0 m2p -\nframe 6 owner 0 refs 1 alloc type none count 0 flags - at 0 m2p -\n",
+    },
+    Example {
+        shows: "A read-only mapping of the table under validation takes a plain reference alone.",
+        pace: "",
+        trace: "xen-pv-trace 1\nframes 16\ndomain 16\nvcpu 0\nown 0 0 8\ncell 1 0 1 0x2003\ncell 2 0 1 0x3003\ncell 3 0 1 0x4003\ncell 4 0 1 0x1001\nop 0 ext 3 1 0\nturn 0 1\nend\n",
+        lines: "op 1 ok done 1 value 0x0\nframe 1 owner 0 refs 3 alloc type L4 count 1 flags pv at 0 m2p -\n",
+    },
+    Example {
+        shows: "The refusal inside the child leaves two unfinished tables, and the next turn settles both.",
+        pace: "",
+        trace: "xen-pv-trace 1\nframes 16\ndomain 16\nvcpu 0\nown 0 0 8\ncell 1 0 1 0x2003\ncell 2 0 1 0x1003\nop 0 ext 3 1 0\nturn 0 2\nend\n",
+        lines: "op 1 refused 3 done 0 OtherType frame=1 want=L2 found=L4,1,l\nframe 1 owner 0 refs 1 alloc type L4 count 0 flags - at 0 m2p -\nframe 2 owner 0 refs 1 alloc type L3 count 0 flags - at 0 m2p -\n",
+    },
+    Example {
+        shows: "One L1 table maps another writable that the same L2 table has just made live; afterwards nothing is held.",
+        pace: "",
+        trace: "xen-pv-trace 1\nframes 16\ndomain 16\nvcpu 0\nown 0 0 8\ncell 3 0 1 0x4003\ncell 3 1 1 0x5003\ncell 5 0 1 0x4003\nop 0 ext 1 3 0\nturn 0 2\nend\n",
+        lines: "op 1 refused 3 done 0 OtherType frame=4 want=wr found=L1,1,v\nframe 3 owner 0 refs 1 alloc type L2 count 0 flags - at 0 m2p -\nframe 4 owner 0 refs 1 alloc type L1 count 0 flags - at 0 m2p -\nframe 5 owner 0 refs 1 alloc type L1 count 0 flags - at 0 m2p -\n",
+    },
+    Example {
+        shows: "Preemption at every ask, with turns enough, prints the same text.",
+        pace: "1",
+        trace: "xen-pv-trace 1\nframes 16\ndomain 16\nvcpu 0\nown 0 0 8\ncell 1 0 1 0x2003\ncell 2 0 1 0x3003\ncell 3 0 1 0x4003\ncell 4 0 512 0x5001\nop 0 ext 3 1 0\nturn 0 4000\nend\n",
+        lines: "op 1 ok done 1 value 0x0\nframe 1 owner 0 refs 2 alloc type L4 count 1 flags pv at 0 m2p -\nframe 2 owner 0 refs 2 alloc type L3 count 1 flags v at 0 m2p -\nframe 3 owner 0 refs 2 alloc type L2 count 1 flags v at 0 m2p -\nframe 4 owner 0 refs 2 alloc type L1 count 1 flags v at 0 m2p -\nframe 5 owner 0 refs 513 alloc type none count 0 flags - at 0 m2p -\n",
+    },
+    Example {
+        shows: "Preemption at every ask, with turns enough, prints the same text.",
+        pace: "1",
+        trace: "xen-pv-trace 1\nframes 16\ndomain 16\nvcpu 0\nown 0 0 8\ncell 3 7 1 0x80\ncell 4 7 1 0x5081\nop 0 ext 1 3 0\nop 0 ext 1 4 0\nturn 0 4000\nend\n",
+        lines: "op 1 ok done 1 value 0x0\nop 2 refused 4 done 0 Reserved frame=4 index=7 entry=0x5081\nframe 3 owner 0 refs 2 alloc type L2 count 1 flags pv at 0 m2p -\nframe 4 owner 0 refs 1 alloc type L2 count 0 flags - at 0 m2p -\nframe 5 owner 0 refs 1 alloc type none count 0 flags - at 0 m2p -\n",
+    },
+];
+
+// The report of that example.
+fn report(rt: &(impl Abort + AllocGlobal), example: &Example) -> Vec<u8> {
+    let words = if example.pace.is_empty() {
+        turns(rt)
+    } else {
+        with_pace(rt, example.pace)
+    };
+    let mut source = MemorySource::new(bytes(rt, example.trace), Vec::new(rt.alloc()));
+    let mut sink = MemorySink::new(rt.alloc(), 8192, 8192, Vec::new(rt.alloc())).expect(
+        rt, "memory",
+    );
+    let answer = run_paced(rt, &words, &mut source, &mut sink);
+    assert!(rt; answer == Status::Done, "{}", example.shows);
+    let mut text = Vec::new(rt.alloc());
+    text.extend_from_slice(sink.bytes()).expect(rt, "memory");
+    text
+}
+
+#[test]
+fn each_pin_and_unpin_is_reported_with_what_it_leaves(rt: HostRuntime) {
+    for example in EXAMPLES.iter() {
+        let text = report(&rt, example);
+        let text = str::from_utf8(&text).expect(&rt, "a text");
+        for wanted in example.lines.lines() {
+            assert!(rt; text.lines().any(|line| line == wanted), "{}", example.shows);
+        }
+    }
+}
