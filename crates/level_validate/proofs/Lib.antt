@@ -16,11 +16,13 @@ mod LeftWaiting
 mod LeftWell
 mod LeftWellEntries
 mod LeftWellWaiting
+mod LookedAgain
 mod Looking
 mod Lowering
 mod Nested
 mod Onward
 mod OnwardEntries
+mod OpenedAgain
 mod Opening
 mod Outermost
 mod Progressing
@@ -34,7 +36,9 @@ mod Standing
 mod StandsFacts
 mod Unwound
 mod TakenOn
+mod TookAgain
 mod ValidatedBy
 mod Visited
+mod WaitedAgain
 mod Waiting
 mod WorkedOn
