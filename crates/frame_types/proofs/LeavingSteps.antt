@@ -24,7 +24,7 @@ pub stores : (v d : PortValue) (f x : ℕ) (k : KindWord) → Moves v d (Kind f)
 stores v d f x k store = does_as v d _ (StoresKind f k) (λ vs one. (x, one)) (does_one v d _ _ _ _ x store)
 
 -- the clock is loaded, and the frame left dead with that stamp
-dies : (v a d : PortValue) (f x clock : ℕ) (want : PageType) (marked : Bool) → Moves v a Clock Load kinds.Look None clock → Moves a d (Kind f) (Store (kind_write (dead_kind want marked clock))) kinds.Kind None x → Does v d (Dies f want marked)
+pub dies : (v a d : PortValue) (f x clock : ℕ) (want : PageType) (marked : Bool) → Moves v a Clock Load kinds.Look None clock → Moves a d (Kind f) (Store (kind_write (dead_kind want marked clock))) kinds.Kind None x → Does v d (Dies f want marked)
 dies v a d f x clock want marked look store =
     let k = dead_kind want marked clock in
     does_as v d _ (Dies f want marked) (λ vs steps. (clock, steps)) (does_then v a d (Only (visit Clock Load clock)) (StoresKind f k) (does_one v a _ _ _ _ clock look) (stores a d f x k store))

@@ -10,6 +10,8 @@ use Rattle.xp_words.specs.declared.kind.PageType.{PageType}
 use Rattle.xp_words.specs.declared.reply.Stop.{Stop}
 use Rattle.xp_board.specs.declared.holdings.Holdings.{Holdings}
 use Rattle.xp_board.specs.declared.holdings.Made.{Made}
+use Rattle.xp_board.specs.declared.holdings.OwnerFound.{OwnerFound}
+use Rattle.xp_board.specs.declared.holdings.OwnerFound.TheVariants as owners
 use Rattle.xp_board.specs.declared.holdings.Reference.{Reference}
 use Rattle.xp_board.specs.declared.holdings.TypedReference.{TypedReference}
 use Rattle.xp_board.specs.declared.holdings.Work.{Work}
@@ -20,6 +22,7 @@ use Rattle.step_maker.specs.Holds.{Holds, still}
 use Rattle.partial_state.specs.Levels.{level_type}
 use Rattle.partial_state.specs.Stacks.{IsStack}
 use Rattle.partial_state.specs.declared.stack.TableWork.{TableWork}
+use Rattle.table_releases.specs.Tops.{IsSince}
 
 -- ---- works
 pub record IsTableWork (z : Sizes) (made : ℕ) (t : TableWork) (e : Work) : Type 0 where
@@ -60,14 +63,14 @@ abbrev pub AreRefs : List Reference → List TableWork → List Reference → Ty
 AreRefs others [] xs = xs ≡ others
 AreRefs others (t ∷ ts) xs = RefFor t.own t.frame (AreRefs others ts) xs
 
--- a typed one for each table in work, and no other
-abbrev pub TypedFor : Bool → ℕ → PageType → (List TypedReference → Type 0) → List TypedReference → Type 0
-TypedFor false f kind P ys = P ys
-TypedFor true f kind P ys = (r : TypedReference) × (rest : List TypedReference) × (r.frame ≡ f) × (r.kind ≡ Some kind) × (ys ≡ r ∷ rest) × P rest
+-- a typed one for each table in work, and no other; what brought it, before so many steps were made, does not say that its frame is live
+abbrev pub TypedFor : Bool → ℕ → ℕ → (List TypedReference → Type 0) → List TypedReference → Type 0
+TypedFor false made f P ys = P ys
+TypedFor true made f P ys = (r : TypedReference) × (rest : List TypedReference) × (r.frame ≡ f) × IsSince made r.live × (ys ≡ r ∷ rest) × P rest
 
-abbrev pub AreTyped : List TableWork → List TypedReference → Type 0
-AreTyped [] ys = ys ≡ []
-AreTyped (t ∷ ts) ys = TypedFor t.own t.frame (level_type t.level) (AreTyped ts) ys
+abbrev pub AreTyped : ℕ → List TableWork → List TypedReference → Type 0
+AreTyped made [] ys = ys ≡ []
+AreTyped made (t ∷ ts) ys = TypedFor t.own made t.frame (AreTyped made ts) ys
 
 -- one domain is known to own all of them
 abbrev pub AreOwned : Sizes → ℕ → List TableWork → Holdings → Type 0
@@ -87,7 +90,7 @@ pub record Empties (h : Holdings) (w : PortValue) (ts : List TableWork) : Type 0
   pub stack : IsStack ts
   pub tables : AreTables (sizes_of w.post.machine) (length w.holdings.steps) None ts w.holdings.works
   pub refs : AreRefs h.refs ts w.holdings.refs
-  pub types : AreTyped ts w.holdings.typed
+  pub types : AreTyped (length w.holdings.steps) ts w.holdings.typed
   pub owner : ℕ
   pub owned : AreOwned (sizes_of w.post.machine) owner ts w.holdings
   pub hand : HoldsNow w (record h { refs = w.holdings.refs; typed = w.holdings.typed; works = w.holdings.works })
@@ -117,6 +120,11 @@ LeavesEmptied u w t (Ok done) = (h : Holdings) → Empties h u (t ∷ []) → Ho
 LeavesEmptied u w t (Err e) = (h : Holdings) → Empties h u (t ∷ []) → HoldsNow w (named_hand t.frame h)
 
 -- ---- a release
+-- where a look is still to tell the owner of a reference's frame, steps tell it from a number on that was reached already
+abbrev pub IsMadeSince : ℕ → OwnerFound → Type 0
+IsMadeSince made (owners.Of owner) = Unit {0}
+IsMadeSince made (owners.Since n) = n ≤ made
+
 -- the only typed reference in hand is to a frame that is known live with that type; no frame is in work, and no look unfinished
 pub record HoldsLive (v : PortValue) (f : ℕ) (kind : PageType) : Type 0 where
   pub works : v.holdings.works ≡ []
@@ -124,6 +132,7 @@ pub record HoldsLive (v : PortValue) (f : ℕ) (kind : PageType) : Type 0 where
   pub reference : TypedReference
   pub typed : v.holdings.typed ≡ reference ∷ []
   pub frame : reference.frame ≡ f
+  pub recent : IsMadeSince (length v.holdings.steps) reference.owner
   pub live : IsTrue (knows_live (sizes_of v.post.machine) f kind v.holdings)
 
 -- it is out of the hand; paused, what is left is named in the first old word

@@ -1,11 +1,33 @@
--- What is in hand after the own old words were settled.
-use Rattle.std.specs.Prelude.{◌≡◌, ℕ, ◌+◌, Some, Result, Ok, Err}
+-- The own old words: how one that names a frame is taken, and what is in hand after they were settled.
+use Rattle.std.specs.Prelude.{◌≡◌, ℕ, ◌+◌, ◌<◌, None, Some, Result, Ok, Err}
+use Rattle.xp_words.specs.declared.place.Place.TheVariants.{Kind}
 use Rattle.xp_words.specs.declared.reply.Stop.{Stop}
-use Rattle.xp_board.specs.declared.holdings.Holdings.{Holdings}
+use Rattle.xp_board.specs.declared.step.Act.TheVariants.{Load, Store}
+use Rattle.xp_board.specs.declared.step.StepKind.TheVariants as kinds
 use Rattle.xp_board.specs.Told.{PortValue}
-use Rattle.step_maker.specs.Holds.{Holds}
-use Rattle.table_words.specs.OldWords.{learned_old}
+use Rattle.step_maker.specs.Holds.{Holds, Rests, Same}
+use Rattle.step_maker.specs.Moves.{Moves}
+use Rattle.table_words.specs.OldWords.{known_old, learned_old, old_place, taken_from_old}
 use Rattle.table_words.specs.declared.old_words.OldWord.{OldWord}
+use Rattle.table_words.specs.declared.old_words.OldWord.TheVariants.{First, Second}
+
+-- From u, with nothing in hand, to v the word was looked at, and named that frame; it was emptied; and the frame's kind word was found so.
+-- For the second one the first is known to name none.
+pub record TookOld (u v : PortValue) (which : OldWord) (f word : ℕ) : Type 0 where
+  pub a : PortValue
+  pub b : PortValue
+  pub rests : Rests u
+  pub clear : which ≡ Second → known_old First u.holdings ≡ Some 0
+  pub frame : f < u.post.machine.frames
+  pub look : Moves u a (old_place u.post.vcpu which) Load kinds.Look None (f + 1)
+  pub looked : Holds u a (learned_old which (f + 1) u.holdings)
+  pub take : Moves a b (old_place u.post.vcpu which) (Store 0) kinds.Context None (f + 1)
+  pub taken : Holds a b (taken_from_old which (f + 1) a.holdings)
+  pub kind : Moves b v (Kind f) Load kinds.Look None word
+  pub same : Same b v
+
+abbrev pub HasTaken : PortValue → ℕ → ℕ → Type 0
+HasTaken v f word = (u : PortValue) × (which : OldWord) × TookOld u v which f word
 
 -- only what is known of the two words is another
 abbrev pub SettledHand : PortValue → PortValue → Type 0

@@ -62,6 +62,7 @@ fn run_down<P: Port>(port: &mut P, gate: &mut dyn Preempt, stack: &mut Stack) ->
     ensures stands { StaysEmptying (P.value port.old) (P.value port.new) stack.old stack.new }
     ensures emptied { IfOk result (λ _. stack.new ≡ []) }
     ensures outer { IfErr result (λ _. outermost_frame stack.new ≡ outermost_frame stack.old) }
+    ensures some { IfErr result (λ _. stack.new ≢ []) }
     ensures kinds { IfErr result IsReleaseEnd }
     ensures serves { Continues (P.value port.old) (P.value port.new) stack.old stack.new (misses (P.value port.old).post.machine result) }
     ensures stops { IfErr result (λ e. StopsRisen (P.value port.old) (P.value port.new) stack.old e) }

@@ -1,8 +1,14 @@
 //! Tables whose release is unfinished.
-ghost use Rattle.std.specs.Prelude.{◌≡◌, ◌≢◌, ◌∷◌, ℕ, [], Some, None, List};
+ghost use Rattle.std.specs.Prelude.{◌≡◌, ◌≢◌, ◌-◌, ◌∷◌, ℕ, [], Some, None, false, List};
+ghost use Rattle.xp_words.specs.KindWords.{kind_write};
+ghost use Rattle.xp_words.specs.declared.place.Place.TheVariants.{Kind};
 ghost use Rattle.xp_words.specs.declared.reply.Stop.{Stop};
-ghost use Rattle.step_maker.specs.Holds.{MayWork};
-ghost use Rattle.step_maker.specs.Moves.{Came};
+ghost use Rattle.xp_board.specs.declared.step.Act.TheVariants.{Store};
+ghost use Rattle.xp_board.specs.declared.step.StepKind.TheVariants as kinds;
+ghost use Rattle.step_maker.specs.Holds.{Holds, MayWork};
+ghost use Rattle.step_maker.specs.Moves.{Came, Moves};
+ghost use Rattle.kind_words.specs.Kinds.{left, partial_kind};
+ghost use Rattle.partial_state.specs.Levels.{level_type};
 ghost use Rattle.partial_state.specs.declared.stack.TableWork.{TableWork};
 ghost use Rattle.table_words.specs.OldWords.{known_old};
 ghost use Rattle.table_words.specs.declared.old_words.OldWord.TheVariants.{First};
@@ -71,6 +77,8 @@ fn leave_inside<P: Port>(port: &mut P, stack: &mut Stack, table: TableWork)
 fn leave_partial<P: Port>(port: &mut P, table: TableWork) -> u64
     requires may { MayWork (P.value port.old) }
     requires stands { (ts : List TableWork) × IsReleasing (P.value port.old) (table ∷ ts) }
+    ensures moves { Moves (P.value port.old) (P.value port.new) (Kind table.frame) (Store (kind_write (partial_kind (level_type table.level) false false (512 - table.done) 0))) kinds.Kind None result }
+    ensures hand { Holds (P.value port.old) (P.value port.new) (left (P.value port.old) table.frame (partial_kind (level_type table.level) false false (512 - table.done) 0)) }
 {
     leave(
         port,

@@ -1,15 +1,17 @@
 //! What an earlier turn left unfinished is released: the frames that the two old words of the own vCPU name.
-ghost use Rattle.std.specs.Prelude.{◌≡◌, ◌<◌, ℕ, Some, true, false, IfOk, IfErr, IsTrue};
+ghost use Rattle.std.specs.Prelude.{◌≡◌, ◌<◌, ℕ, Some, true, false, is_some, IfOk, IfErr, IsTrue};
 ghost use Rattle.xp_words.specs.KindWords.{kind_read};
 ghost use Rattle.xp_board.specs.Readings.{is_partial};
+ghost use Rattle.xp_board.specs.Told.{PortValue};
 ghost use Rattle.step_maker.specs.Holds.{MayWork, Rests};
 ghost use Rattle.answer_fits.specs.Answers.{Serves, Stops, misses};
+ghost use Rattle.table_releases.specs.Found.{has_recorded};
 ghost use Rattle.table_words.specs.OldWords.{known_old};
+ghost use Rattle.table_words.specs.declared.old_words.OldWord.{OldWord};
 ghost use Rattle.table_words.specs.declared.old_words.OldWord.TheVariants.{First, Second};
 ghost use Rattle.level_release.specs.Asking.{IsReleaseEnd, is_due_answer, of_settle};
 ghost use Rattle.level_release.specs.Course.{SettlesBy, SettlesOneBy};
-ghost use Rattle.level_release.specs.Holding.{LeavesReleased};
-ghost use Rattle.level_release.specs.Settling.{SettledHand, SettledWord};
+ghost use Rattle.level_release.specs.Settling.{HasTaken, SettledHand, SettledWord, TookOld};
 
 use crate::emptying::empty;
 use crate::levels::level_of;
@@ -44,11 +46,7 @@ pub fn settle<P: Port>(port: &mut P, gate: &mut dyn Preempt) -> Result<(), Stop>
 }
 
 // What one of the words names. For the second one the first is known to name none.
-fn settle_word<P: Port>(
-    port: &mut P,
-    gate: &mut dyn Preempt,
-    which: OldWord,
-) -> Result<(), Stop>
+fn settle_word<P: Port>(port: &mut P, gate: &mut dyn Preempt, which: OldWord) -> Result<(), Stop>
     requires rests { Rests (P.value port.old) }
     requires first { which ≡ Second → known_old First (P.value port.old).holdings ≡ Some 0 }
     ensures rests { Rests (P.value port.new) }
@@ -66,6 +64,31 @@ fn settle_word<P: Port>(
     }
     let frame = (take_old(port, which) - 1) as u32;
     let found = look_kind(port, frame);
+    settle_found(port, gate, frame, found)
+}
+
+// The frame that the word named, with its type count in hand, by its kind word that was found.
+fn settle_found<P: Port>(
+    port: &mut P,
+    gate: &mut dyn Preempt,
+    frame: u32,
+    found: u64,
+) -> Result<(), Stop>
+    requires frame { frame < (P.value port.old).post.machine.frames }
+    requires may { MayWork (P.value port.old) }
+    requires took { HasTaken (P.value port.old) frame found }
+    requires read { IsTrue (is_some (kind_read found)) }
+    requires room { known_old First (P.value port.old).holdings ≡ Some 0 }
+    ensures rests { Rests (P.value port.new) }
+    ensures serves { (u : PortValue) (which : OldWord) → TookOld u (P.value port.old) which frame found → (owner pages : ℕ) → Serves u (P.value port.new) (of_settle owner pages result) (misses u.post.machine result) }
+    ensures stops { (u : PortValue) (which : OldWord) → TookOld u (P.value port.old) which frame found → (owner pages : ℕ) → IfErr result (λ e. Stops u (P.value port.new) (of_settle owner pages result) e) }
+    ensures kinds { IfErr result IsReleaseEnd }
+    ensures hand { (u : PortValue) (which : OldWord) → TookOld u (P.value port.old) which frame found → SettledWord u (P.value port.new) which result }
+    ensures course { (u : PortValue) (which : OldWord) → TookOld u (P.value port.old) which frame found → SettlesOneBy u (P.value port.new) which (says gate.old) (count_asks gate.old) (count_asks gate.new) (count_yes gate.old) (count_yes gate.new) result }
+    ensures says { (n : ℕ) → says gate.new n ≡ says gate.old n }
+    ensures paces { paces gate.new ≡ paces gate.old }
+    ensures calm { calm gate.old ≡ true → (is_due_answer result ≡ false) × (calm gate.new ≡ true) }
+{
     let kind = read_kind(found);
     if kind.validated {
         release(port, gate, frame, kind.kind)
@@ -77,7 +100,7 @@ fn settle_word<P: Port>(
     }
 }
 
-// The frame was found partial, with its type count in hand.
+// It was found partial.
 fn settle_partial<P: Port>(
     port: &mut P,
     gate: &mut dyn Preempt,
@@ -87,10 +110,19 @@ fn settle_partial<P: Port>(
 ) -> Result<(), Stop>
     requires frame { frame < (P.value port.old).post.machine.frames }
     requires may { MayWork (P.value port.old) }
+    requires took { HasTaken (P.value port.old) frame found }
     requires read { kind_read found ≡ Some kind }
     requires partial { IsTrue (is_partial kind) }
     requires room { known_old First (P.value port.old).holdings ≡ Some 0 }
-    ensures hand { LeavesReleased (P.value port.old) (P.value port.new) frame result }
+    ensures rests { Rests (P.value port.new) }
+    ensures serves { (u : PortValue) (which : OldWord) → TookOld u (P.value port.old) which frame found → (owner pages : ℕ) → Serves u (P.value port.new) (of_settle owner pages result) (misses u.post.machine result) }
+    ensures stops { (u : PortValue) (which : OldWord) → TookOld u (P.value port.old) which frame found → (owner pages : ℕ) → IfErr result (λ e. Stops u (P.value port.new) (of_settle owner pages result) e) }
+    ensures kinds { IfErr result IsReleaseEnd }
+    ensures hand { (u : PortValue) (which : OldWord) → TookOld u (P.value port.old) which frame found → SettledWord u (P.value port.new) which result }
+    ensures course { (u : PortValue) (which : OldWord) → TookOld u (P.value port.old) which frame found → SettlesOneBy u (P.value port.new) which (says gate.old) (count_asks gate.old) (count_asks gate.new) (count_yes gate.old) (count_yes gate.new) result }
+    ensures says { (n : ℕ) → says gate.new n ≡ says gate.old n }
+    ensures paces { paces gate.new ≡ paces gate.old }
+    ensures calm { calm gate.old ≡ true → (is_due_answer result ≡ false) × (calm gate.new ≡ true) }
 {
     match resume_work(port, frame, kind) {
         Err(other) => {
@@ -98,7 +130,7 @@ fn settle_partial<P: Port>(
             put_old(port, OldWord::First, frame);
             Err(stop)
         }
-        Ok(()) if kind.kind.is_table() && kind.progress > 0 => {
+        Ok(()) if has_recorded(kind) => {
             look_refs(port, frame);
             let table = TableWork {
                 frame,
@@ -116,4 +148,11 @@ fn settle_partial<P: Port>(
             Ok(())
         }
     }
+}
+
+// Whether the frame is a table of which entries are recorded.
+fn has_recorded(kind: KindWord) -> bool
+    ensures { result ≡ has_recorded kind.kind kind }
+{
+    kind.kind.is_table() && kind.progress > 0
 }

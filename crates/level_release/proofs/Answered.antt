@@ -1,0 +1,109 @@
+-- The frame that an old word named was found live, or in another vCPU's hand: what the steps show of the answer.
+use Rattle.std.proofs.Common.{◌≡◌, ◌≢◌, ℕ, ◌==◌, if◌then◌else◌, Bool, true, false, List, [], None, Some, Result, Ok, Err, IfErr, IsTrue, refl, sym, ap, ◌∙◌, subst, append-nil, inl, inr, arith}
+use Rattle.std.proofs.lemmas.Bool.{or_left}
+use Rattle.std.proofs.lemmas.Bool.Decides.{nat_tests}
+use Rattle.xp_words.specs.KindWords.{kind_fields, kind_read}
+use Rattle.xp_words.specs.declared.kind.KindWord.{KindWord}
+use Rattle.xp_words.specs.declared.place.Place.TheVariants.{Kind}
+use Rattle.xp_words.specs.declared.reply.Pause.TheVariants.{Busy}
+use Rattle.xp_words.specs.declared.reply.Stop.{Stop}
+use Rattle.xp_words.specs.declared.reply.Stop.TheVariants.{Paused, Refused}
+use Rattle.xp_board.specs.KindSteps.{Dead, InWork, Live, Partial, form_of}
+use Rattle.xp_board.specs.Readings.{domain_of}
+use Rattle.xp_board.specs.Told.{Post, PortValue}
+use Rattle.xp_board.specs.declared.step.Act.TheVariants.{Load}
+use Rattle.xp_board.specs.declared.step.StepKind.TheVariants as kinds
+use Rattle.board_lemmas.proofs.KindForms.{fields_of}
+use Rattle.step_maker.specs.Moves.{Came, Met}
+use Rattle.step_maker.proofs.Coming.{came_self, met_after, moment_of, moves_met}
+use Rattle.answer_fits.specs.Answers.{Serves, Stops, misses}
+use Rattle.answer_fits.specs.Asked.{IsAsked, Within}
+use Rattle.answer_fits.proofs.Later.{IsUncounted, stops_later}
+use Rattle.answer_fits.proofs.Piecing.{serves_inner}
+use Rattle.table_words.specs.declared.old_words.OldWord.{OldWord}
+use Rattle.level_release.specs.Asking.{IsReleaseEnd, is_due_answer, of_release, of_settle}
+use Rattle.level_release.specs.Course.{Named, SettledOne, WasReleased}
+use Rattle.level_release.specs.Course as courses
+use Rattle.level_release.specs.Settling.{TookOld}
+use Rattle.level_release.proofs.Asking.{settle_within}
+use Rattle.level_release.proofs.Counted.{in_work}
+use Rattle.level_release.proofs.Named.{asks_it, names_it, passed_it, taken_came, took_came, took_serves}
+use Rattle.level_release.proofs.Taken.{taken_elsewhere, taken_held, took_post}
+
+pub end_uncounted : (e : Stop) → IsReleaseEnd e → IsUncounted e
+end_uncounted (Paused x) is = tt
+end_uncounted (Refused x) is = absurd is
+
+same_frame : (g f : ℕ) → IsTrue (g == f) → g ≡ f
+same_frame g f at = grind (arith, nat_tests)
+
+module _ (u v : PortValue) (which : OldWord) (f word : ℕ) (t : TookOld u v which f word) (owner pages : ℕ) where
+  -- ---- it is released
+  module _ (w : PortValue) (answer : Result (Unit {0}) Stop) (came : Came v w) where
+    inside : Within u.post.machine u.post.vcpu (of_release f owner pages answer) (Met v w) (of_settle owner pages answer) (Met u w)
+    inside =
+        let rose = is_due_answer answer in
+        settle_within u.post.machine u.post.vcpu owner pages (λ g. g == f) false rose rose (Met v w) (Met u w) (λ m y. met_after u v w m (took_came u v which f word t owner pages rose) y)
+        (λ g at. subst (λ h. IsAsked u.post.machine u.post.vcpu (of_settle owner pages answer) (Met u w) h) (sym (same_frame g f at)) (asks_it u v which f word t owner pages rose w came)) (λ due. due)
+
+    same_post : v.post ≡ u.post
+    same_post = took_post u v which f word t
+
+    pub released_serves : Serves v w (of_release f owner pages answer) (misses v.post.machine answer) → Serves u w (of_settle owner pages answer) (misses u.post.machine answer)
+    released_serves serves =
+        let ds = misses u.post.machine answer in
+        subst (λ es. Serves u w (of_settle owner pages answer) es) (append-nil ds)
+        (serves_inner u v w (of_settle owner pages answer) (of_release f owner pages answer) [] ds inside (took_serves u v which f word t owner pages (is_due_answer answer))
+        (subst (λ (p : Post). Serves v w (of_release f owner pages answer) (misses p.machine answer)) same_post serves))
+
+    released_stop : (e : Stop) → IsReleaseEnd e → Stops v w (of_release f owner pages answer) e → Stops u w (of_settle owner pages answer) e
+    released_stop e end stops =
+        stops_later u v w (of_settle owner pages answer) (of_release f owner pages answer) e (end_uncounted e end) inside (took_came u v which f word t owner pages (is_due_answer answer)) stops
+
+  pub released_stops : (w : PortValue) (answer : Result (Unit {0}) Stop) → Came v w → IfErr answer IsReleaseEnd → IfErr answer (λ e. Stops v w (of_release f owner pages answer) e) → IfErr answer (λ e. Stops u w (of_settle owner pages answer) e)
+  released_stops w (Ok done) came ends stops = tt
+  released_stops w (Err e) came ends stops = released_stop w (Err e) came e ends stops
+
+  -- ---- it is in another vCPU's hand
+  pub busy_stops : (kind_fields word).validated ≡ false → (kind_fields word).partial ≡ false → Stops u v (of_settle {A = Unit {0}} owner pages (Err (Paused (Busy f word)))) (Paused (Busy f word))
+  unfolding Stops moment_of
+  busy_stops unlive whole =
+      let working = in_work t.b.post.machine t.b.post.vcpu t.b.holdings f word t.kind.finds (taken_held u v which f word t) unlive whole in
+      inl (
+        domain_of u.post.machine u.post.vcpu,
+        None,
+        t.b.holdings,
+        names_it u v which f word t owner pages false v (came_self v) None tt,
+        record {
+          moment = moment_of t.b (Kind f) Load kinds.Look None word;
+          was = met_after u t.b v _ (taken_came u v which f word t owner pages false) (moves_met t.b v (Kind f) Load kinds.Look None word t.kind);
+          place = refl;
+          word = refl;
+          hand = refl;
+        },
+        passed_it u v which f word t owner pages false v (came_self v) t.b.holdings,
+        or_left _ _ working,
+        inr refl,
+        taken_elsewhere u v which f word t,
+      )
+
+-- ---- by which steps
+live_form : (k : KindWord) → k.validated ≡ true → form_of k ≡ Live
+live_form k live = rw live refl
+
+by_lock : (locked : Bool) → ((if locked then InWork else Dead) ≢ Live) × ((if locked then InWork else Dead) ≢ Partial)
+by_lock true = (λ e. cc, λ e. cc)
+by_lock false = (λ e. cc, λ e. cc)
+
+other_form : (k : KindWord) → k.validated ≡ false → k.partial ≡ false → (form_of k ≢ Live) × (form_of k ≢ Partial)
+other_form k unlive whole = rw (unlive, whole) (by_lock k.locked)
+
+module _ (u v : PortValue) (which : OldWord) (f word : ℕ) (t : TookOld u v which f word) (k : KindWord) (read : kind_read word ≡ Some k) where
+  pub live_course : (w : PortValue) (answers : List Bool) (answer : Result (Unit {0}) Stop) → k.validated ≡ true → WasReleased v f k.kind w answers answer → SettledOne u which w answers answer
+  live_course w answers answer live released =
+      let fields = fields_of word k read in
+      courses.live t.a t.b v w f word answers answer t.look t.take t.kind (ap form_of fields ∙ live_form k live) (subst (λ (y : KindWord). WasReleased v f y.kind w answers answer) (sym fields) released)
+
+  pub busy_course : (w : PortValue) → k.validated ≡ false → k.partial ≡ false → Named v w f → SettledOne u which w [] (Err (Paused (Busy f word)))
+  busy_course w unlive whole again =
+      let forms = subst (λ y. (form_of y ≢ Live) × (form_of y ≢ Partial)) (sym (fields_of word k read)) (other_form k unlive whole) in courses.busy t.a t.b v w f word t.look t.take t.kind forms.0 forms.1 again

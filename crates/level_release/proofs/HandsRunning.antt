@@ -1,0 +1,60 @@
+-- Tables are emptied until none is left: from u on, of the tables ts, these are left to empty.
+use Rattle.std.proofs.Common.{◌≡◌, ◌≢◌, Bool, true, false, List, [], ◌∷◌, Some, IsTrue, refl, sym, ap, ◌∙◌, subst}
+use Rattle.xp_board.specs.Told.{PortValue}
+use Rattle.xp_board.specs.declared.holdings.Holdings.{Holdings}
+use Rattle.step_maker.specs.Holds.{MayWork}
+use Rattle.step_maker.specs.Moves.{Came}
+use Rattle.step_maker.proofs.Coming.{came_post, came_self, came_trans}
+use Rattle.partial_state.specs.declared.stack.TableWork.{TableWork}
+use Rattle.table_words.specs.OldWords.{known_old}
+use Rattle.table_words.specs.declared.old_words.OldWord.TheVariants.{First}
+use Rattle.level_release.specs.Course.{is_asked_down}
+use Rattle.level_release.specs.Holding.{Empties, HoldsNow, IsReleasing, LeavesNamed, StaysEmptying, named_hand, outermost_frame}
+use Rattle.level_release.proofs.Hands.{hands_may, hands_none, hands_old}
+
+pub record RunningDown (u w : PortValue) (ts us : List TableWork) : Type 0 where
+  pub came : Came u w
+  pub stands : StaysEmptying u w ts us
+  pub outer : us ≢ [] → outermost_frame us ≡ outermost_frame ts
+
+pub running_begins : (u : PortValue) (ts : List TableWork) → RunningDown u u ts ts
+running_begins u ts = record { came = came_self u; stands = λ h s. s; outer = λ some. refl }
+
+module _ (u w : PortValue) (ts us : List TableWork) (g : RunningDown u w ts us) where
+  pub running_releasing : IsReleasing u ts → IsReleasing w us
+  running_releasing a = (a.0, g.stands a.0 a.1)
+
+  pub running_may : IsReleasing u ts → MayWork u → MayWork w
+  running_may a may = hands_may a.0 u w ts us a.1 (g.stands a.0 a.1) (came_post u w g.came) may
+
+  pub running_on : us ≢ [] → (x : PortValue) (rs : List TableWork) → Came w x → StaysEmptying w x us rs → (rs ≢ [] → outermost_frame rs ≡ outermost_frame us) → RunningDown u x ts rs
+  running_on some x rs came stands outer =
+      record { came = came_trans u w x g.came came; stands = λ h s. stands h (g.stands h s); outer = λ more. outer more ∙ g.outer some }
+
+-- where the gate is asked a table is left
+pub asked_some : (ts : List TableWork) → is_asked_down ts ≡ true → ts ≢ []
+asked_some [] asked none = absurd cc
+asked_some (t ∷ ts) asked none = absurd cc
+
+-- what a test of the stack says
+pub tested_some : (ts : List TableWork) (b : Bool) → b ≡ false → (ts ≡ [] → IsTrue b) → ts ≢ []
+tested_some ts b off test none = absurd (let on = test none in cc)
+
+-- ---- from one table alone
+module _ (u w : PortValue) (t : TableWork) (all us : List TableWork) (is : all ≡ t ∷ []) (came : Came u w) (stands : StaysEmptying u w all us) where
+  from_one : (h : Holdings) → Empties h u (t ∷ []) → Empties h w us
+  from_one h s = stands h (subst (λ xs. Empties h u xs) (sym is) s)
+
+  pub emptied_may : IsReleasing u (t ∷ []) → MayWork u → MayWork w
+  emptied_may a may = hands_may a.0 u w (t ∷ []) us a.1 (from_one a.0 a.1) (came_post u w came) may
+
+  pub emptied_room : IsReleasing u (t ∷ []) → known_old First u.holdings ≡ Some 0 → known_old First w.holdings ≡ Some 0
+  emptied_room a room = hands_old a.0 u w (t ∷ []) us a.1 (from_one a.0 a.1) ∙ room
+
+  -- it is dead
+  pub emptied_dead : us ≡ [] → (h : Holdings) → Empties h u (t ∷ []) → HoldsNow w h
+  emptied_dead none h s = hands_none h w (subst (λ xs. Empties h w xs) none (from_one h s))
+
+  -- or what is left of it is named
+  pub emptied_named : outermost_frame us ≡ outermost_frame all → (x : PortValue) → LeavesNamed w x us → (h : Holdings) → Empties h u (t ∷ []) → HoldsNow x (named_hand t.frame h)
+  emptied_named outer x leaves h s = subst (λ f. HoldsNow x (named_hand f h)) (outer ∙ ap outermost_frame is) (leaves h (from_one h s))

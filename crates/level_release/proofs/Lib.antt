@@ -1,0 +1,37 @@
+pub mod Hands
+pub mod HandsKnown
+pub mod HandsApart
+pub mod HandsTop
+pub mod HandsDead
+pub mod HandsGiven
+pub mod HandsOpened
+pub mod HandsLowered
+pub mod HandsRunning
+pub mod HandsLeft
+pub mod HandsRecorded
+pub mod HandsNamed
+mod Courses
+mod CoursesRun
+mod CoursesUnwound
+mod Serving
+mod ServingEntries
+mod ServingRisen
+mod ServingRun
+mod ServingTables
+pub mod HandsUnwinding
+mod Owning
+mod Handing
+mod Dropped
+mod Requested
+mod Consulting
+mod Counted
+mod Taken
+mod Resumed
+mod Asking
+mod Named
+mod Exchanged
+mod SettlingSteps
+mod Looked
+mod Lived
+mod Answered
+mod Settled

@@ -1,0 +1,63 @@
+-- A frame that is given back: the steps serve that, and show why it stops.
+use Rattle.std.proofs.Common.{◌≡◌, ℕ, ◌==◌, Bool, true, List, [], ◌∷◌, None, Result, Ok, Err, IfErr, refl, sym, ◌∙◌, subst, append-nil}
+use Rattle.xp_words.specs.declared.place.Place.TheVariants.{Refs}
+use Rattle.xp_words.specs.declared.reply.Stop.{Stop}
+use Rattle.xp_board.specs.Told.{Post, PortValue}
+use Rattle.xp_board.specs.declared.step.Act.TheVariants.{Load}
+use Rattle.xp_board.specs.declared.step.StepKind.TheVariants as kinds
+use Rattle.board_lemmas.proofs.Sums.{when_eq}
+use Rattle.step_maker.specs.Moves.{Met, Moves}
+use Rattle.step_maker.proofs.Coming.{came_post}
+use Rattle.answer_fits.specs.Answers.{Deed, Serves, Stops, misses}
+use Rattle.answer_fits.specs.Asked.{IsAsked, Request, back, of_back}
+use Rattle.answer_fits.specs.Finding.{Finding}
+use Rattle.answer_fits.proofs.Piecing.{serves_back, serves_came, serves_step, serves_within, within_back}
+use Rattle.table_entries.specs.Asking.{of_entries}
+use Rattle.partial_state.specs.declared.stack.TableWork.{TableWork}
+use Rattle.level_release.specs.Asking.{Continues, IsPiece, StopsRisen, is_due_answer, is_due_stop}
+
+-- ---- behind a piece that asks the only table
+module _ (v x w : PortValue) (r : Request) (t : TableWork) (piece : IsPiece v x r (t ∷ []) []) where
+  same_post : x.post ≡ v.post
+  same_post = came_post v x (serves_came v x r [] piece.serves)
+
+  emptied_deeds : (ds : List Deed) → Continues x w (t ∷ []) [] ds → Serves v w r ds
+  unfolding Continues
+  emptied_deeds ds goes = subst (λ es. Serves v w r es) (append-nil ds) (goes v r [] piece).serves
+
+  -- an exchange that was lost there is one of the whole
+  pub emptied_serves : (answer : Result (Unit {0}) Stop) → Continues x w (t ∷ []) [] (misses x.post.machine answer) → Serves v w r (misses v.post.machine answer)
+  emptied_serves answer goes = subst (λ (p : Post). Serves v w r (misses p.machine answer)) same_post (emptied_deeds (misses x.post.machine answer) goes)
+
+  emptied_stops : (e : Stop) → (is_due_stop e ≡ true → r.rose ≡ true) → StopsRisen x w (t ∷ []) e → Stops v w r e
+  unfolding StopsRisen
+  emptied_stops e rises stops = stops v r [] rises piece
+
+-- by the answer
+pub answer_stops : (v x w : PortValue) (r : Request) (t : TableWork) (answer : Result (Unit {0}) Stop) → r.rose ≡ is_due_answer answer → IsPiece v x r (t ∷ []) [] → IfErr answer (λ e. StopsRisen x w (t ∷ []) e) → IfErr answer (λ e. Stops v w r e)
+answer_stops v x w r t (Ok done) rose piece stops = tt
+answer_stops v x w r t (Err e) rose piece stops = emptied_stops v x w r t piece e (λ due. rose ∙ due) stops
+
+-- ---- a release
+module _ (v : PortValue) (f owner pages : ℕ) (rose : Bool) where
+  abbrev request : Request
+  request = record (of_entries owner pages) { backs = λ g. g == f; rose = rose }
+
+  asks_back : (F : Finding) → IsAsked v.post.machine v.post.vcpu request F f
+  asks_back F = back (when_eq f f refl)
+
+  pub back_serves : (w : PortValue) (ds : List Deed) → Serves v w (of_back f) ds → Serves v w request ds
+  back_serves w ds a = serves_within v w (of_back f) request ds (within_back v.post.machine v.post.vcpu f request (Met v w) (Met v w) (λ m y. y) (asks_back (Met v w))) a
+
+  -- the type count, and then the reference
+  pub both_serve : (a w : PortValue) → Serves v a (of_back f) [] → Serves a w (of_back f) [] → Serves v w request []
+  both_serve a w drop put = serves_back v a w request [] [] (back_serves a [] drop) f (asks_back (Met v w)) put
+
+  -- the type count was the last: the table is emptied behind a look at its reference word
+  pub closed_piece : (a x : PortValue) (word : ℕ) (t : TableWork) → t.frame ≡ f → Serves v a (of_back f) [] → Moves a x (Refs f) Load kinds.Look None word → IsPiece v x request (t ∷ []) []
+  closed_piece a x word t same drop look =
+      record {
+        entries = refl;
+        serves = serves_step v a x request [] (Refs f) Load kinds.Look None word (back_serves a [] drop) look tt;
+        asked = (subst (λ g. IsAsked v.post.machine v.post.vcpu request (Met v x) g) (sym same) (asks_back (Met v x)), tt);
+      }

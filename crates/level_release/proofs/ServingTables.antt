@@ -1,0 +1,78 @@
+-- The innermost of the tables that are being released is left with another kind word, of its type: that goes on with a call that asked it.
+use Rattle.std.proofs.Common.{length, ◌≡◌, ℕ, ◌-◌, Bool, true, false, List, [], ◌∷◌, None, IsTrue, refl, sym, ap, ◌∙◌, arith}
+use Rattle.std.proofs.lemmas.Bool.Decides.{nat_tests}
+use Rattle.xp_words.specs.KindWords.{is_kind, kind_fields, kind_write}
+use Rattle.xp_words.specs.Places.{Sizes, sizes_of}
+use Rattle.xp_words.specs.declared.kind.KindWord.{KindWord}
+use Rattle.xp_words.specs.declared.place.Place.TheVariants.{Clock, Kind}
+use Rattle.xp_board.specs.declared.holdings.Holdings.{Holdings}
+use Rattle.xp_board.specs.declared.holdings.Work.{Work}
+use Rattle.xp_board.specs.declared.step.Act.TheVariants.{Load, Store}
+use Rattle.xp_board.specs.declared.step.StepKind.TheVariants as kinds
+use Rattle.xp_board.specs.Readings.{is_closing, is_dead}
+use Rattle.xp_board.specs.Told.{PortValue}
+use Rattle.step_maker.specs.Holds.{Same}
+use Rattle.step_maker.specs.Moves.{Moves}
+use Rattle.step_maker.proofs.Coming.{moves_came}
+use Rattle.answer_fits.specs.Answers.{Deed, Serves}
+use Rattle.answer_fits.specs.Asked.{Request, of_back}
+use Rattle.answer_fits.specs.Reasons.{keeps_type}
+use Rattle.answer_fits.proofs.Piecing.{serves_step}
+use Rattle.frame_types.proofs.Serving.{kept_type, work_alive}
+use Rattle.kind_words.specs.Kinds.{dead_kind, partial_kind}
+use Rattle.kind_words.proofs.KindFacts.{clock_is_small, work_word}
+use Rattle.kind_words.proofs.KindWriting.{dead_is, fields_write}
+use Rattle.partial_state.specs.declared.stack.TableWork.{TableWork}
+use Rattle.partial_state.specs.Levels.{level_type}
+use Rattle.partial_state.proofs.LevelFacts.{level_type-typed}
+use Rattle.level_release.specs.Asking.{Continues, IsPiece}
+use Rattle.level_release.specs.Holding.{Empties, IsTableWork}
+use Rattle.level_release.proofs.HandsLeft.{partial_leaves}
+use Rattle.level_release.proofs.HandsTop.{hands_same, top, top_here}
+use Rattle.level_release.proofs.Serving.{piece_back, piece_later, piece_looks, piece_rest, top_asked}
+
+-- ---- it is not dead
+closing_alive : (k : KindWord) → IsTrue (is_closing k) → is_dead k ≡ false
+closing_alive k closing = grind (arith, nat_tests)
+
+alive : (z : Sizes) (made : ℕ) (t : TableWork) (e : Work) → IsTableWork z made t e → is_dead (kind_fields e.word) ≡ false
+alive z made t e is = by t.own refl
+  where
+    by : (b : Bool) → t.own ≡ b → is_dead (kind_fields e.word) ≡ false
+    by true own = work_alive (kind_fields e.word) (is.work own)
+    by false lent = closing_alive (kind_fields e.word) (is.closing lent)
+
+-- ---- the store
+module _ (h : Holdings) (v : PortValue) (t : TableWork) (us : List TableWork) (s : Empties h v (t ∷ us)) (l : KindWord) (spelled : IsTrue (is_kind l)) (typed : l.kind ≡ level_type t.level) (w : PortValue) (found : ℕ)
+    (store : Moves v w (Kind t.frame) (Store (kind_write l)) kinds.Kind None found) where
+  keeps : IsTrue (keeps_type found (kind_write l))
+  keeps =
+      let e = top h v t us s in
+      let word : found ≡ e.work.word = work_word v.post.machine v.post.vcpu v.holdings t.frame found e.work store.finds (top_here h v t us s) in
+      kept_type found (kind_write l) (kind_fields e.work.word) l (ap (λ y. kind_fields y) word) (fields_write l spelled) (typed ∙ sym e.is.kind) (alive (sizes_of v.post.machine) (length v.holdings.steps) t e.work e.is)
+
+  piece_left : (u : PortValue) (r : Request) (ts : List TableWork) (ds : List Deed) → IsPiece u v r (t ∷ ts) ds → IsPiece u w r (t ∷ ts) ds
+  piece_left u r ts ds a =
+      let came = moves_came v w (Kind t.frame) (Store (kind_write l)) kinds.Kind None found store in
+      piece_later u v w r (t ∷ ts) ds ds a came (serves_step u v w r ds (Kind t.frame) (Store (kind_write l)) kinds.Kind None found a.serves store (top_asked u v w r t ts ds a came, keeps))
+
+-- partial, with what is recorded still
+pub piece_partial : (h : Holdings) (v w : PortValue) (t : TableWork) (us : List TableWork) (found : ℕ) → Empties h v (t ∷ us) →
+    Moves v w (Kind t.frame) (Store (kind_write (partial_kind (level_type t.level) false false (512 - t.done) 0))) kinds.Kind None found →
+    (u : PortValue) (r : Request) (ts : List TableWork) (ds : List Deed) → IsPiece u v r (t ∷ ts) ds → IsPiece u w r (t ∷ ts) ds
+piece_partial h v w t us found s store u r ts ds a =
+    piece_left h v t us s (partial_kind (level_type t.level) false false (512 - t.done) 0) (partial_leaves h v t us s).is refl w found store u r ts ds a
+
+-- dead, with a clock value that was found; and its reference is given back
+module _ (h : Holdings) (v x d w : PortValue) (t : TableWork) (us : List TableWork) (clock found : ℕ) (s : Empties h v (t ∷ us)) (look : Moves v x Clock Load kinds.Look None clock) (same : Same v x)
+    (store : Moves x d (Kind t.frame) (Store (kind_write (dead_kind (level_type t.level) false clock))) kinds.Kind None found) (put : Serves d w (of_back t.frame) []) where
+  spelled : IsTrue (is_kind (dead_kind (level_type t.level) false clock))
+  spelled = dead_is (level_type t.level) (level_type-typed t.level) false clock (clock_is_small v.post.machine v.post.vcpu v.holdings clock look.finds)
+
+  pub closes : (ts : List TableWork) → Continues v w (t ∷ ts) ts []
+  unfolding Continues
+  closes ts u r ds a =
+      let looked = piece_looks u v x r (t ∷ ts) ds a clock look in
+      let still = hands_same h v x (t ∷ us) same (moves_came v x Clock Load kinds.Look None clock look) s in
+      let left = piece_left h x t us still (dead_kind (level_type t.level) false clock) spelled refl d found store u r ts ds looked in
+      piece_rest u w r t ts ds (piece_back u d w r t ts ds left put)

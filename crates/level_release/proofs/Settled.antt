@@ -1,0 +1,42 @@
+-- The first old word and then the second: what the steps show of the whole.
+use Rattle.std.proofs.Common.{◌≡◌, ℕ, Bool, true, false, [], Result, Ok, Err, IfErr, sym, subst, append-nil}
+use Rattle.xp_words.specs.declared.reply.Stop.{Stop}
+use Rattle.xp_board.specs.Told.{Post, PortValue}
+use Rattle.step_maker.specs.Moves.{Came, Met}
+use Rattle.step_maker.proofs.Coming.{came_post}
+use Rattle.answer_fits.specs.Answers.{Serves, Stops, misses}
+use Rattle.answer_fits.proofs.Later.{stops_then}
+use Rattle.answer_fits.proofs.Piecing.{serves_came, serves_then, serves_within}
+use Rattle.table_words.specs.declared.old_words.OldWord.TheVariants.{First}
+use Rattle.level_release.specs.Asking.{IsReleaseEnd, is_due_answer, of_settle}
+use Rattle.level_release.specs.Course.{By, Settled, SettledOne, first}
+use Rattle.level_release.proofs.Answered.{end_uncounted}
+use Rattle.level_release.proofs.Asking.{settle_within}
+use Rattle.level_release.proofs.Consulting.{by_as}
+
+module _ (v u w : PortValue) (owner pages : ℕ) (before : Serves v u (of_settle {A = Unit {0}} owner pages (Ok tt)) []) where
+  -- whatever the gate says later
+  before_any : (rose : Bool) → Serves v u (record (of_settle {A = Unit {0}} owner pages (Ok tt)) { rose = rose }) []
+  before_any rose =
+      serves_within v u (of_settle {A = Unit {0}} owner pages (Ok tt)) (record (of_settle {A = Unit {0}} owner pages (Ok tt)) { rose = rose }) []
+      (settle_within v.post.machine v.post.vcpu owner pages (λ g. false) true false rose (Met v u) (Met v u) (λ m y. y) (λ g at. absurd cc) (λ due. absurd cc)) before
+
+  came : Came v u
+  came = serves_came v u (of_settle {A = Unit {0}} owner pages (Ok tt)) [] before
+
+  pub both_serve : (answer : Result (Unit {0}) Stop) → Serves u w (of_settle owner pages answer) (misses u.post.machine answer) → Serves v w (of_settle owner pages answer) (misses v.post.machine answer)
+  both_serve answer serves =
+      let ds = misses v.post.machine answer in
+      subst (λ es. Serves v w (of_settle owner pages answer) es) (append-nil ds)
+      (serves_then v u w (of_settle owner pages answer) [] ds (before_any (is_due_answer answer)) (subst (λ (p : Post). Serves u w (of_settle owner pages answer) (misses p.machine answer)) (came_post v u came) serves))
+
+  pub both_stop : (answer : Result (Unit {0}) Stop) → IfErr answer IsReleaseEnd → IfErr answer (λ e. Stops u w (of_settle owner pages answer) e) → IfErr answer (λ e. Stops v w (of_settle owner pages answer) e)
+  both_stop (Ok done) ends stops = tt
+  both_stop (Err e) ends stops = stops_then v u w (of_settle {A = Unit {0}} owner pages (Err e)) e (end_uncounted e ends) came stops
+
+-- paused at the first
+pub first_by : (v w : PortValue) (says : ℕ → Bool) (a b x y : ℕ) (answer : Result (Unit {0}) Stop) (e : Stop) → answer ≡ Err e → By (λ answers. SettledOne v First w answers (Err e)) says a b x y (Err e) →
+    By (λ answers. Settled v w answers answer) says a b x y answer
+first_by v w says a b x y answer e is paused =
+    subst (λ (r : Result (Unit {0}) Stop). By (λ answers. Settled v w answers r) says a b x y r) (sym is)
+    (by_as says (λ answers. SettledOne v First w answers (Err e)) (λ answers. Settled v w answers (Err e)) a b x y (Err e) (λ answers one. first w answers e one) paused)

@@ -1,0 +1,89 @@
+-- What an old word names is settled: by which steps.
+use Rattle.std.proofs.Common.{◌≡◌, ◌≢◌, ℕ, Bool, true, false, List, [], None, Some, Result, Ok, Err, IsTrue, refl, sym, ap, ◌∙◌, subst}
+use Rattle.xp_words.specs.KindWords.{kind_fields, kind_read, kind_write}
+use Rattle.xp_words.specs.Places.{number, sizes_of}
+use Rattle.xp_words.specs.declared.kind.KindWord.{KindWord}
+use Rattle.xp_words.specs.declared.kind.PageType.{PageType}
+use Rattle.xp_words.specs.declared.place.Place.TheVariants.{Clock, Kind, Refs}
+use Rattle.xp_words.specs.declared.reply.Pause.TheVariants.{Lost}
+use Rattle.xp_words.specs.declared.reply.Stop.{Stop}
+use Rattle.xp_words.specs.declared.reply.Stop.TheVariants.{Paused}
+use Rattle.xp_board.specs.KindSteps.{Partial, form_of, resumed_kind}
+use Rattle.xp_board.specs.Readings.{is_partial}
+use Rattle.xp_board.specs.Told.{Post, PortValue}
+use Rattle.xp_board.specs.declared.step.Act.TheVariants.{Cas, Load, Store}
+use Rattle.xp_board.specs.declared.step.StepKind.TheVariants as kinds
+use Rattle.board_lemmas.proofs.KindForms.{fields_of}
+use Rattle.board_lemmas.proofs.KindReadings.{partial_parts}
+use Rattle.step_maker.specs.Moves.{Moves}
+use Rattle.step_maker.proofs.Coming.{came_post, moves_came}
+use Rattle.answer_fits.specs.Visits.{Does, Only, Then, visit}
+use Rattle.answer_fits.proofs.Visiting.{does_as, does_one, does_then}
+use Rattle.frame_words.specs.Freeing.{PutBy, Puts}
+use Rattle.kind_words.specs.Kinds.{dead_kind}
+use Rattle.kind_words.proofs.KindFacts.{read_is}
+use Rattle.frame_types.specs.Found.{Dies, StoresKind}
+use Rattle.partial_state.specs.Levels.{level_type}
+use Rattle.table_releases.specs.Found.{has_recorded}
+use Rattle.table_words.specs.declared.old_words.OldWord.{OldWord}
+use Rattle.level_release.specs.Asking.{is_due_stop}
+use Rattle.level_release.specs.Course.{Emptied, Named, SettledOne, SettledPartial, resumed_table}
+use Rattle.level_release.specs.Course as courses
+use Rattle.level_release.specs.Settling.{TookOld}
+use Rattle.level_release.proofs.Taken.{took_post}
+
+-- ---- a frame is left dead with a clock value that was found, and its reference given back
+dies : (d a e : PortValue) (f x clock : ℕ) (want : PageType) (marked : Bool) → Moves d a Clock Load kinds.Look None clock → Moves a e (Kind f) (Store (kind_write (dead_kind want marked clock))) kinds.Kind None x → Does d e (Dies f want marked)
+dies d a e f x clock want marked look store =
+    let k = dead_kind want marked clock in
+    does_as d e (Then (Only (visit Clock Load clock)) (StoresKind f k)) (Dies f want marked) (λ vs steps. (clock, steps))
+    (does_then d a e (Only (visit Clock Load clock)) (StoresKind f k) (does_one d a Clock Load kinds.Look None clock look)
+    (does_as a e (Only (visit (Kind f) (Store (kind_write k)) x)) (StoresKind f k) (λ vs one. (x, one)) (does_one a e (Kind f) (Store (kind_write k)) kinds.Kind None x store)))
+
+pub dead_steps : (d a e w : PortValue) (f x clock : ℕ) (want : PageType) (marked : Bool) → Moves d a Clock Load kinds.Look None clock → Moves a e (Kind f) (Store (kind_write (dead_kind want marked clock))) kinds.Kind None x → Puts e w f →
+    Does d w (λ vs. Then (Dies f want marked) (PutBy f) vs)
+dead_steps d a e w f x clock want marked look store put = does_then d e w (Dies f want marked) (PutBy f) (dies d a e f x clock want marked look store) put
+
+-- ---- a pause that is not for the gate
+pub lost_undue : (e : Stop) (place expected found : ℕ) → e ≡ Paused (Lost place expected found) → is_due_stop e ≡ false
+lost_undue e place expected found is = ap is_due_stop is
+
+-- ---- a partial frame
+partial_form : (k : KindWord) → IsTrue (is_partial k) → form_of k ≡ Partial
+partial_form k partial = let parts = partial_parts k partial in rw (parts.0, parts.1) refl
+
+module _ (u v : PortValue) (which : OldWord) (f word : ℕ) (t : TookOld u v which f word) (k : KindWord) (read : kind_read word ≡ Some k) (partial : IsTrue (is_partial k)) (d : PortValue) (found : ℕ)
+    (change : Moves v d (Kind f) (Cas (kind_write k) (kind_write (resumed_kind k))) kinds.Kind None found) where
+  fields : kind_fields word ≡ k
+  fields = fields_of word k read
+
+  was : word ≡ kind_write k
+  was = (read_is word k read).1
+
+  form_is : form_of (kind_fields word) ≡ Partial
+  form_is = ap form_of fields ∙ partial_form k partial
+
+  change_as : Moves v d (Kind f) (Cas word (kind_write (resumed_kind (kind_fields word)))) kinds.Kind None found
+  change_as =
+      subst (λ y. Moves v d (Kind f) (Cas word (kind_write (resumed_kind y))) kinds.Kind None found) (sym fields)
+      (subst (λ y. Moves v d (Kind f) (Cas y (kind_write (resumed_kind k))) kinds.Kind None found) (sym was) change)
+
+  -- another word was found
+  pub lost_course : (w : PortValue) (e : Stop) → found ≢ kind_write k → e ≡ Paused (Lost (number (sizes_of d.post.machine) (Kind f)) word found) → Named d w f → SettledOne u which w [] (Err e)
+  lost_course w e off is again =
+      subst (λ y. SettledOne u which w [] (Err y))
+      (sym (is ∙ ap (λ (p : Post). Paused (Lost (number (sizes_of p.machine) (Kind f)) word found)) (came_post v d (moves_came v d (Kind f) (Cas (kind_write k) (kind_write (resumed_kind k))) kinds.Kind None found change) ∙ took_post u v which f word t)))
+      (courses.lost t.a t.b v d w f word found t.look t.take t.kind form_is change_as (λ same. off (same ∙ was)) again)
+
+  module _ (at : found ≡ kind_write k) where
+    settled_by : (w : PortValue) (answers : List Bool) (answer : Result (Unit {0}) Stop) (has : Bool) → has_recorded k.kind k ≡ has → SettledPartial d w f k answers answer has → SettledOne u which w answers answer
+    settled_by w answers answer has is settled =
+        courses.partial t.a t.b v d w f word answers answer t.look t.take t.kind form_is (subst (λ y. Moves v d (Kind f) (Cas word (kind_write (resumed_kind (kind_fields word)))) kinds.Kind None y) (at ∙ sym was) change_as)
+        (subst (λ (y : KindWord). SettledPartial d w f y answers answer (has_recorded y.kind y)) (sym fields) (subst (λ b. SettledPartial d w f k answers answer b) (sym is) settled))
+
+    pub emptied_course : (x w : PortValue) (refs_word level : ℕ) (answers : List Bool) (answer : Result (Unit {0}) Stop) → has_recorded k.kind k ≡ true → level_type level ≡ k.kind → Moves d x (Refs f) Load kinds.Look None refs_word →
+        Emptied x (resumed_table f level k) w answers answer → SettledOne u which w answers answer
+    emptied_course x w refs_word level answers answer has is look emptied = settled_by w answers answer true has (x, refs_word, level, is, look, emptied)
+
+    pub dead_course : (w : PortValue) → has_recorded k.kind k ≡ false → Does d w (λ vs. Then (Dies f k.kind k.unflushed) (PutBy f) vs) → SettledOne u which w [] (Ok tt)
+    dead_course w none steps = settled_by w [] (Ok tt) false none (refl, refl, steps)

@@ -1,0 +1,132 @@
+use Rattle.std.proofs.Common.{refl, ◌∙◌, ◌&&◌, true, Err, Ok, sym, ap, subst}
+use Rattle.step_maker.proofs.Coming.{came_trans}
+use Rattle.level_release.proofs.HandsRunning.{running_begins, running_may, running_on, tested_some}
+use Rattle.std.proofs.lemmas.Result.{err_from_is_err_and}
+use Rattle.level_release.specs.Course.{Lowered, is_asked_down}
+use Rattle.level_release.proofs.CoursesRun.{runs_due, runs_nothing, runs_on, runs_stopped, runs_unasked}
+use Rattle.level_release.proofs.ServingEntries.{goes_answer, risen_answer}
+use Rattle.level_release.proofs.ServingRun.{serving_begins, serving_due, serving_on, serving_misses, serving_stops}
+use Rattle.level_release.proofs.emptying.run_down.Goals as goal
+
+pub lower-requires-clause-may : goal.lower-requires-clause-may
+lower-requires-clause-may g c =
+    running_may (g.P.Port.value c.args.port.now) (g.P.Port.value c.loop-port.port) c.args.stack.now c.loop-port.stack c.loop-port.invariant.hands c.requires.stands c.requires.may
+
+pub returns-in_err-lower-clause-came : goal.returns-in_err-lower-clause-came
+returns-in_err-lower-clause-came g c =
+    came_trans (g.P.Port.value c.args.port.now) (g.P.Port.value c.loop-port.port) (g.P.Port.value c.lower.new.port) c.loop-port.invariant.hands.came c.lower.ensures.came
+
+pub returns-then-due-clause-came : goal.returns-then-due-clause-came
+returns-then-due-clause-came g c =
+    came_trans (g.P.Port.value c.args.port.now) (g.P.Port.value c.loop-port.port) (g.P.Port.value c.lower.new.port) c.loop-port.invariant.hands.came c.lower.ensures.came
+
+pub loop-port-init : goal.loop-port-init
+loop-port-init g c = record { hands = running_begins (g.P.Port.value c.args.port.now) c.args.stack.now; goes = serving_begins (g.P.Port.value c.args.port.now) c.args.stack.now c.requires.one; course = runs_nothing _ _ _ _ _; says = λ n. refl; paces = refl; calm = λ calm. calm }
+
+-- ---- an entry, or a table, stops it
+pub returns-in_err-lower-clause-serves : goal.returns-in_err-lower-clause-serves
+returns-in_err-lower-clause-serves g c =
+    let u = g.P.Port.value c.args.port.now in
+    let v = g.P.Port.value c.loop-port.port in
+    let w = g.P.Port.value c.lower.new.port in
+    let ts = c.args.stack.now in
+    let xs = c.lower.new.stack in
+    let e = c.in_err-lower.field-0.0 in
+    let answer = err_from_is_err_and c.from_residual.result c.from_residual.ensures.1 in
+    goes_answer u w ts xs c.from_residual.result e (answer.1 ∙ ap Err answer.2)
+    (serving_misses u v ts c.loop-port.stack c.loop-port.invariant.goes w xs c.in_err-lower.ensures.came e c.in_err-lower.ensures.serves)
+
+pub returns-in_err-lower-clause-stops : goal.returns-in_err-lower-clause-stops
+returns-in_err-lower-clause-stops g c =
+    let u = g.P.Port.value c.args.port.now in
+    let w = g.P.Port.value c.lower.new.port in
+    let ts = c.args.stack.now in
+    let e = c.in_err-lower.field-0.0 in
+    let answer = err_from_is_err_and c.from_residual.result c.from_residual.ensures.1 in
+    risen_answer u w ts c.from_residual.result e (answer.1 ∙ ap Err answer.2)
+    (serving_stops u (g.P.Port.value c.loop-port.port) ts c.loop-port.stack c.loop-port.invariant.goes w c.lower.new.stack c.in_err-lower.ensures.came e c.in_err-lower.ensures.stops)
+
+pub returns-in_err-lower-clause-course : goal.returns-in_err-lower-clause-course
+returns-in_err-lower-clause-course g c =
+    let answer = err_from_is_err_and c.from_residual.result c.from_residual.ensures.1 in
+    runs_stopped (g.P.Port.value c.args.port.now) (g.P.Port.value c.loop-port.port) c.args.stack.now c.loop-port.stack _ _ _ _ _ c.loop-port.invariant.course (g.P.Port.value c.lower.new.port) c.lower.new.stack c.lower.result
+    c.in_err-lower.field-0.0 c.from_residual.result c.in_err-lower.was (answer.1 ∙ ap Err answer.2) c.lower.ensures.course c.lower.ensures.undue
+
+-- ---- the gate says yes
+pub returns-then-due-clause-serves : goal.returns-then-due-clause-serves
+returns-then-due-clause-serves g c =
+    let a = c.in_ok-lower.ensures in
+    (serving_on (g.P.Port.value c.args.port.now) (g.P.Port.value c.loop-port.port) c.args.stack.now c.loop-port.stack c.loop-port.invariant.goes (g.P.Port.value c.lower.new.port) c.lower.new.stack a.came a.serves a.progress).serves
+
+pub returns-then-due-clause-stops : goal.returns-then-due-clause-stops
+returns-then-due-clause-stops g c =
+    serving_due (g.P.Port.value c.args.port.now) (g.P.Port.value c.loop-port.port) c.args.stack.now c.loop-port.stack c.loop-port.invariant.goes (g.P.Port.value c.lower.new.port) c.lower.new.stack c.in_ok-lower.ensures.came
+    c.in_ok-lower.ensures.progress (sym c.if-is_asked.ensures)
+
+pub returns-then-due-clause-course : goal.returns-then-due-clause-course
+returns-then-due-clause-course g c =
+    let v = g.P.Port.value c.loop-port.port in
+    let w = g.P.Port.value c.lower.new.port in
+    let us = c.loop-port.stack in
+    let xs = c.lower.new.stack in
+    runs_due (g.P.Port.value c.args.port.now) v c.args.stack.now us _ _ _ _ _ c.loop-port.invariant.course w xs (subst (λ b. Lowered v us w xs (Ok b)) c.if-branch.true c.in_ok-lower.ensures.course) (sym c.if-is_asked.ensures) _
+    c.loop-port.invariant.says _ _ c.if-due.ensures.1.0 c.if-due.ensures.1.1.0 c.if-due.ensures.0
+
+-- ---- or no
+pub loop-port-preserved-else-due : goal.loop-port-preserved-else-due
+loop-port-preserved-else-due g c =
+    let u = g.P.Port.value c.args.port.now in
+    let v = g.P.Port.value c.loop-port.port in
+    let w = g.P.Port.value c.lower.new.port in
+    let ts = c.args.stack.now in
+    let us = c.loop-port.stack in
+    let xs = c.lower.new.stack in
+    let i = c.loop-port.invariant in
+    let a = c.in_ok-lower.ensures in
+    record {
+      hands = running_on u v ts us i.hands (tested_some _ _ c.loop-port-test.true c.is_empty.ensures.1) w xs a.came a.stands a.outer;
+      goes = serving_on u v ts us i.goes w xs a.came a.serves a.progress;
+      course = runs_on u v ts us _ _ _ _ _ i.course w xs (subst (λ b. Lowered v us w xs (Ok b)) c.if-branch.true a.course) (sym c.if-is_asked.ensures) _ i.says _ _ c.if-due.ensures.1.0 c.if-due.ensures.1.1.0 c.if-due.ensures.0;
+      says = λ n. c.if-due.ensures.1.1.1.0 n ∙ i.says n;
+      paces = c.due.ensures.1.1.1.1.0 ∙ i.paces;
+      calm = λ calm. (c.due.ensures.1.1.1.1.1 (i.calm calm)).1;
+    }
+
+-- ---- it is not asked
+pub loop-port-preserved-else-is_asked : goal.loop-port-preserved-else-is_asked
+loop-port-preserved-else-is_asked g c =
+    let u = g.P.Port.value c.args.port.now in
+    let v = g.P.Port.value c.loop-port.port in
+    let w = g.P.Port.value c.lower.new.port in
+    let ts = c.args.stack.now in
+    let us = c.loop-port.stack in
+    let xs = c.lower.new.stack in
+    let i = c.loop-port.invariant in
+    let a = c.in_ok-lower.ensures in
+    record {
+      hands = running_on u v ts us i.hands (tested_some _ _ c.loop-port-test.true c.is_empty.ensures.1) w xs a.came a.stands a.outer;
+      goes = serving_on u v ts us i.goes w xs a.came a.serves a.progress;
+      course = runs_unasked u v ts us _ _ _ _ _ i.course w xs true (subst (λ b. Lowered v us w xs (Ok b)) c.if-branch.true a.course) (sym c.if-is_asked.ensures);
+      says = i.says;
+      paces = i.paces;
+      calm = i.calm;
+    }
+
+pub loop-port-preserved : goal.loop-port-preserved
+loop-port-preserved g c =
+    let u = g.P.Port.value c.args.port.now in
+    let v = g.P.Port.value c.loop-port.port in
+    let w = g.P.Port.value c.lower.new.port in
+    let ts = c.args.stack.now in
+    let us = c.loop-port.stack in
+    let xs = c.lower.new.stack in
+    let i = c.loop-port.invariant in
+    let a = c.in_ok-lower.ensures in
+    record {
+      hands = running_on u v ts us i.hands (tested_some _ _ c.loop-port-test.true c.is_empty.ensures.1) w xs a.came a.stands a.outer;
+      goes = serving_on u v ts us i.goes w xs a.came a.serves a.progress;
+      course = runs_unasked u v ts us _ _ _ _ _ i.course w xs c.in_ok-lower.field-0 a.course (ap (λ b. b && is_asked_down xs) c.if-branch.false);
+      says = i.says;
+      paces = i.paces;
+      calm = i.calm;
+    }

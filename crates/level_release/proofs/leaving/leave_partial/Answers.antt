@@ -1,0 +1,12 @@
+use Rattle.std.proofs.Common.{◌-◌, false, sym, ap, ◌∙◌, subst}
+use Rattle.xp_words.specs.declared.kind.KindWord.{KindWord}
+use Rattle.kind_words.specs.Kinds.{MayLeave, partial_kind}
+use Rattle.level_release.proofs.HandsLeft.{partial_leaves}
+use Rattle.level_release.proofs.leaving.leave_partial.Goals as goal
+
+pub leave-requires-clause-leaves : goal.leave-requires-clause-leaves
+leave-requires-clause-leaves g c =
+    let v = g.P.Port.value c.args.port.now in
+    let t = c.args.table in
+    let s = c.requires.stands in
+    subst (λ (k : KindWord). MayLeave v t.frame k) (sym (c.partial_kind.ensures ∙ ap (λ y. partial_kind y false false (512 - t.done) 0) c.level_type.ensures)) (partial_leaves s.1.0 v t s.0 s.1.1)
