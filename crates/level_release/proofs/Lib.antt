@@ -35,3 +35,4 @@ mod Looked
 mod Lived
 mod Answered
 mod Settled
+pub mod Noes

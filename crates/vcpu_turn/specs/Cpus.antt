@@ -12,6 +12,8 @@ use Rattle.xp_words.specs.declared.reply.Stop.{Stop}
 use Rattle.xp_words.specs.declared.reply.Stop.TheVariants.{Refused, Paused}
 use Rattle.xp_words.specs.declared.reply.LogLine.{LogLine}
 use Rattle.xp_words.specs.declared.reply.LogLine.TheVariants as lines
+use Rattle.vcpu_turn.specs.declared.working.Listed.{Listed}
+use Rattle.vcpu_turn.specs.declared.working.Listed.TheVariants as seen
 use Rattle.vcpu_turn.specs.declared.cpu.TurnEnd.{TurnEnd}
 use Rattle.vcpu_turn.specs.declared.cpu.TurnEnd.TheVariants as ends
 
@@ -42,6 +44,11 @@ list_in _ = None
 abbrev pub list_of : Op → Option OpList
 list_of (ops.One call) = list_in call
 list_of _ = None
+
+-- as the code sees them
+abbrev pub listed : Listed → OpList
+listed (seen.Pairs pairs) = OfPairs pairs.now
+listed (seen.Ext list) = OfExt list.now
 
 abbrev pub length_of : OpList → ℕ
 length_of (OfPairs pairs) = length pairs

@@ -4,7 +4,7 @@ ghost use Rattle.xp_words.specs.declared.ops.Op.{Op};
 ghost use Rattle.xp_words.specs.declared.ops.Pair.{Pair};
 ghost use Rattle.xp_words.specs.declared.reply.Stop.{Stop};
 ghost use Rattle.xp_board.specs.Told.{PortValue};
-ghost use Rattle.xp_preempt.specs.Gates.{Gives, last_ask};
+ghost use Rattle.xp_preempt.specs.Gates.{Gives, ends_yes, last_ask};
 ghost use Rattle.vcpu_turn.specs.Cpus.{OfPairs, Processing, list_of};
 ghost use Rattle.vcpu_turn.specs.Lists.{AsksNothing, WorksOn, asks_between, is_due_by};
 ghost use Rattle.vcpu_turn.specs.Turning.{CountsAsks, GoesNoFurther, IsTurn};
@@ -23,9 +23,9 @@ pub fn never_past_a_yes<L: Items>()
     ensures { (items : L) (v w : PortValue) (from to before : ℕ) (answers : List Bool) (answer : Result (Unit {0}) Stop) (says : ℕ → Bool) → AsksNothing (L.fits items) → WorksOn (L.fits items) (L.count items) from v to w answers answer → Gives says before answers → (j : ℕ) → 0 < j → before + j < last_ask → says (before + j) ≡ true → to ≤ from + j }
 {}
 
-/// It is paused for its gate only where that says yes behind the last item of this turn.
+/// It is paused for its gate, which said yes last then, only where that says yes behind the last item of this turn.
 pub fn due_at_a_yes<L: Items>()
-    ensures { (items : L) (v w : PortValue) (from to before : ℕ) (answers : List Bool) (answer : Result (Unit {0}) Stop) (says : ℕ → Bool) → AsksNothing (L.fits items) → WorksOn (L.fits items) (L.count items) from v to w answers answer → Gives says before answers → is_due_by answer ≡ true → before + (to - from) ≤ last_ask → says (before + (to - from)) ≡ true }
+    ensures { (items : L) (v w : PortValue) (from to before : ℕ) (answers : List Bool) (answer : Result (Unit {0}) Stop) (says : ℕ → Bool) → AsksNothing (L.fits items) → WorksOn (L.fits items) (L.count items) from v to w answers answer → Gives says before answers → (is_due_by answer ≡ true → ends_yes answers ≡ true) → is_due_by answer ≡ true → before + (to - from) ≤ last_ask → says (before + (to - from)) ≡ true }
 {}
 
 /// So a turn of a list of `mmu_update` asks the own gate between the elements, and no more, behind what was settled first.

@@ -1,8 +1,8 @@
 //! The work of a turn on an operation.
-ghost use Rattle.std.specs.Prelude.{ℕ, ◌≡◌, ◌≤◌, true, false, Some, None};
+ghost use Rattle.std.specs.Prelude.{ℕ, ◌≡◌, ◌≤◌, true, false, Some, None, IfSome, IfNone};
 ghost use Rattle.xp_board.specs.Readings.{domain_of};
 ghost use Rattle.step_maker.specs.Holds.{Rests};
-ghost use Rattle.vcpu_turn.specs.Cpus.{elements_in, list_of};
+ghost use Rattle.vcpu_turn.specs.Cpus.{elements_in, list_of, listed};
 ghost use Rattle.vcpu_turn.specs.Lists.{Answering, is_due_by};
 ghost use Rattle.vcpu_turn.specs.Working.{Works, WorksThrough};
 
@@ -11,13 +11,35 @@ use crate::lists::{Items, go_on};
 use crate::pairs::OwnPairs;
 use xp_board::Port;
 use xp_preempt::Preempt;
-use xp_words::{Call, Op, Refusal, Stop};
+use xp_words::{Call, ExtOp, Op, Pair, Refusal, Stop};
 
 // The caller's own domain, as `mmu_update` names it (`DOMID_SELF` of `xen.h`).
 const DOMID_SELF: u64 = 0x7ff0;
 
 // The most elements that a list may have.
 const LONGEST: usize = 512;
+
+// The elements of an operation that is built.
+#[derive(Drop)]
+enum Listed<'a> {
+    Pairs(&'a [Pair]),
+    Ext(&'a [ExtOp]),
+}
+
+fn list_of(op: &Op) -> Option<Listed<'_>>
+    ensures some { IfSome result (λ list. list_of op.now ≡ Some (listed list)) }
+    ensures none { IfNone result (list_of op.now ≡ None) }
+{
+    match op {
+        Op::One {
+            call: Call::Mmu { foreign, pairs },
+        } if *foreign == DOMID_SELF => Some(Listed::Pairs(pairs.as_slice())),
+        Op::One {
+            call: Call::Ext { list },
+        } => Some(Listed::Ext(list.as_slice())),
+        _ => None,
+    }
+}
 
 // A list of any length, from its item `done` on.
 fn go_through<P: Port, L: Items>(
@@ -64,22 +86,14 @@ pub(crate) fn work_on<P: Port>(
     ensures paces { paces gate.new ≡ paces gate.old }
     ensures calm { calm gate.old ≡ true → (is_due_by result ≡ false) × (calm gate.new ≡ true) }
 {
-    match op {
-        Op::One {
-            call: Call::Mmu { foreign, pairs },
-        } if *foreign == DOMID_SELF => {
-            let pairs = pairs.as_slice();
-            go_through(port, gate, &OwnPairs { pairs, domain }, done)
-        }
-        Op::One {
-            call: Call::Ext { list },
-        } => {
-            let elements = list.as_slice();
-            go_through(port, gate, &OwnElements { elements, domain }, done)
-        }
-        _ => {
+    match list_of(op) {
+        None => {
             *done = 0;
             Err(Stop::Refused(Refusal::BadCommand))
+        }
+        Some(Listed::Pairs(pairs)) => go_through(port, gate, &OwnPairs { pairs, domain }, done),
+        Some(Listed::Ext(elements)) => {
+            go_through(port, gate, &OwnElements { elements, domain }, done)
         }
     }
 }

@@ -23,7 +23,7 @@ unfolding asks_on
 asks_then xs [] asks = refl
 asks_then xs (y ∷ ys) asks = ap (λ (n : ℕ). next_ask n) (asks_then xs ys asks)
 
-yeses_then : (xs ys : List Bool) → yeses (ys ++ xs) ≡ yeses ys + yeses xs
+pub yeses_then : (xs ys : List Bool) → yeses (ys ++ xs) ≡ yeses ys + yeses xs
 unfolding yeses
 yeses_then xs [] = omega arith
 yeses_then xs (true ∷ ys) = let more = yeses_then xs ys in omega (arith, more)

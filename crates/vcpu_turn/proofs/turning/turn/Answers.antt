@@ -1,36 +1,64 @@
 use Rattle.std.proofs.Common.{sym, ap, ◌∙◌}
 use Rattle.vcpu_turn.specs.Cpus.{Processing}
-use Rattle.vcpu_turn.proofs.Turns.{begins_domain, begins_post, more_left, of_gone_on, of_retired, turn_by, turn_retires, turn_goes_on}
+use Rattle.vcpu_turn.proofs.Between.{of_gone_on, of_retired, of_unsettled, own_domain}
+use Rattle.vcpu_turn.proofs.Extending.{settle_answers}
+use Rattle.vcpu_turn.proofs.NextOps.{more_left}
+use Rattle.vcpu_turn.proofs.Turns.{settled_post, turn_goes_on, turn_retired, turn_retires, turn_unsettled}
 use Rattle.vcpu_turn.proofs.turning.turn.Goals as goal
 
+pub returns-then-cpu-clause-turn : goal.returns-then-cpu-clause-turn
+returns-then-cpu-clause-turn g c = turn_retired c.args.cpu.now _ (sym (ap (λ (x : Processing). x.retired) c.cpu.view_is) ∙ c.if-cpu.true) _ _ _
+
+pub returns-in-Err-Paused-clause-post : goal.returns-in-Err-Paused-clause-post
+returns-in-Err-Paused-clause-post g c = settled_post _ _ _ c.begin.ensures.begins c.settle.result c.settle.ensures.serves
+
+pub returns-in-Err-Paused-clause-turn : goal.returns-in-Err-Paused-clause-turn
+returns-in-Err-Paused-clause-turn g c =
+    let runs = sym (ap (λ (x : Processing). x.retired) c.cpu.view_is) ∙ c.if-cpu.false in
+    let s = c.in-Err-Paused.ensures in
+    turn_unsettled _ _ _ c.args.cpu.now runs c.begin.ensures.begins _ _ _ _ _ c.in-Err-Paused.pause _ c.in-Err-Paused.field-0-is
+    (settle_answers _ _ _ _ _ _ _ _ s.serves s.stops s.kinds s.rests s.course)
+
+pub returns-in-Err-Paused-clause-of : goal.returns-in-Err-Paused-clause-of
+returns-in-Err-Paused-clause-of g c =
+    of_unsettled _ _ c.args.cpu.now c.requires.of (settled_post _ _ _ c.begin.ensures.begins c.settle.result c.settle.ensures.serves) c.settle.ensures.rests
+
 pub go_on-requires-clause-own : goal.go_on-requires-clause-own
-go_on-requires-clause-own g c = begins_domain _ _ _ c.begin.ensures.begins c.requires.of.domain
+go_on-requires-clause-own g c =
+    own_domain _ _ _ (settled_post _ _ _ c.begin.ensures.begins c.settle.result c.settle.ensures.serves) c.requires.of.domain
 
 pub finish-requires-clause-more : goal.finish-requires-clause-more
-finish-requires-clause-more g c = more_left _ _ c.args.cpu.now c.go_on.new.cpu _ _ c.in-Some.answer c.in-Some.ensures.worked
+finish-requires-clause-more g c = more_left _ _ c.args.cpu.now c.go_on.new.cpu _ c.in-Some.answer c.in-Some.ensures.worked.goes
 
 pub returns-in-None-clause-post : goal.returns-in-None-clause-post
-returns-in-None-clause-post g c = c.retire.ensures.post ∙ c.in-None.ensures.post ∙ begins_post _ _ c.begin.ensures.begins
+returns-in-None-clause-post g c = c.retire.ensures.post ∙ c.in-None.ensures.post ∙ settled_post _ _ _ c.begin.ensures.begins c.settle.result c.settle.ensures.serves
 
 pub returns-in-None-clause-turn : goal.returns-in-None-clause-turn
 returns-in-None-clause-turn g c =
     let runs = sym (ap (λ (x : Processing). x.retired) c.cpu.view_is) ∙ c.if-cpu.false in
-    turn_by _ _ _ _ _ _ _ runs (turn_retires _ _ _ _ _ _ _ _ _ c.begin.ensures.begins c.in-None.ensures.worked c.retire.ensures.stop)
+    let s = c.in-Ok.ensures in
+    turn_retires _ _ _ c.args.cpu.now runs c.begin.ensures.begins _ _ _ _ _
+    (settle_answers _ _ _ _ _ _ _ _ s.serves s.stops s.kinds s.rests s.course)
+    _ s.says _ _ _ _ _ _ c.in-None.ensures.worked c.retire.ensures.stop
 
 pub returns-in-None-clause-of : goal.returns-in-None-clause-of
 returns-in-None-clause-of g c =
-    let post = c.retire.ensures.post ∙ c.in-None.ensures.post ∙ begins_post _ _ c.begin.ensures.begins in
-    of_retired _ _ _ _ _ _ _ _ _ c.requires.of post c.in-None.ensures.worked c.retire.ensures.stop c.retire.ensures.idles
+    let post = c.retire.ensures.post ∙ c.in-None.ensures.post ∙ settled_post _ _ _ c.begin.ensures.begins c.settle.result c.settle.ensures.serves in
+    of_retired _ _ _ _ _ c.requires.of post _ _ _ c.in-None.ensures.worked.goes c.retire.ensures.stop c.retire.ensures.idles
 
 pub returns-in-Some-clause-post : goal.returns-in-Some-clause-post
-returns-in-Some-clause-post g c = c.finish.ensures.post ∙ c.in-Some.ensures.post ∙ begins_post _ _ c.begin.ensures.begins
+returns-in-Some-clause-post g c = c.finish.ensures.post ∙ c.in-Some.ensures.post ∙ settled_post _ _ _ c.begin.ensures.begins c.settle.result c.settle.ensures.serves
 
 pub returns-in-Some-clause-turn : goal.returns-in-Some-clause-turn
 returns-in-Some-clause-turn g c =
     let runs = sym (ap (λ (x : Processing). x.retired) c.cpu.view_is) ∙ c.if-cpu.false in
-    rw c.finish.ensures.end (turn_by _ _ _ _ _ _ _ runs (turn_goes_on _ _ _ _ _ _ _ _ _ c.begin.ensures.begins _ c.in-Some.ensures.worked c.finish.ensures.cpu c.finish.ensures.ends))
+    let s = c.in-Ok.ensures in
+    rw c.finish.ensures.end
+    (turn_goes_on _ _ _ c.args.cpu.now runs c.begin.ensures.begins _ _ _ _ _
+    (settle_answers _ _ _ _ _ _ _ _ s.serves s.stops s.kinds s.rests s.course)
+    _ s.says _ _ _ _ _ _ c.in-Some.answer c.in-Some.ensures.worked c.finish.ensures.cpu c.finish.ensures.ends)
 
 pub returns-in-Some-clause-of : goal.returns-in-Some-clause-of
 returns-in-Some-clause-of g c =
-    let post = c.finish.ensures.post ∙ c.in-Some.ensures.post ∙ begins_post _ _ c.begin.ensures.begins in
-    of_gone_on _ _ _ _ _ _ _ _ _ c.requires.of post _ c.in-Some.ensures.worked c.finish.ensures.cpu c.finish.ensures.rests
+    let post = c.finish.ensures.post ∙ c.in-Some.ensures.post ∙ settled_post _ _ _ c.begin.ensures.begins c.settle.result c.settle.ensures.serves in
+    of_gone_on _ _ _ _ _ c.requires.of post _ _ _ c.in-Some.answer c.in-Some.ensures.worked.goes c.finish.ensures.cpu c.finish.ensures.rests
