@@ -1,0 +1,6 @@
+pub mod Lending
+pub mod Looking
+pub mod Outermost
+pub mod Unpinned
+pub mod Ending
+pub mod Pinning
