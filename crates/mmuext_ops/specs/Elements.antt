@@ -1,15 +1,16 @@
 -- The elements of `mmuext_op`: what each asks for, what a guest sees of it, and what it leaves in hand.
-use Rattle.std.specs.Prelude.{◌≡◌, ◌⊎◌, ◌==◌, ℕ, ◌+◌, nat_lt, if◌then◌else◌, Bool, true, false, List, [], ◌∷◌, Some, None, Result, Ok, Err}
+use Rattle.std.specs.Prelude.{◌≡◌, ◌⊎◌, ◌==◌, ℕ, ◌+◌, nat_lt, if◌then◌else◌, Bool, true, false, List, [], ◌∷◌, ◌++◌, Some, None, Result, Ok, Err}
 use Rattle.xp_words.specs.Machine.{Machine}
 use Rattle.xp_words.specs.declared.ops.ExtOp.{ExtOp}
+use Rattle.xp_words.specs.declared.place.Place.TheVariants.{Kind}
 use Rattle.xp_words.specs.declared.reply.Pause.TheVariants.{Busy, Due, Flush, Lost}
 use Rattle.xp_words.specs.declared.reply.Refusal.TheVariants as refusals
 use Rattle.xp_words.specs.declared.reply.Stop.{Stop}
 use Rattle.xp_words.specs.declared.reply.Stop.TheVariants.{Refused, Paused}
 use Rattle.xp_board.specs.Told.{PortValue}
 use Rattle.step_maker.specs.Holds.{FlushedHolds, FlushedSame}
-use Rattle.answer_fits.specs.Answers.{Deed, Pins, Unpins, missed}
-use Rattle.answer_fits.specs.Asked.{Request, of_frame, of_numbers, of_table}
+use Rattle.answer_fits.specs.Answers.{Deed, Misses, Pins, Serves, Unpins, missed}
+use Rattle.answer_fits.specs.Asked.{Request, of_numbers, of_table}
 use Rattle.partial_state.specs.Levels.{level_type}
 use Rattle.mmuext_ops.specs.declared.element.Element.{Element}
 use Rattle.mmuext_ops.specs.declared.element.Element.TheVariants.{Pin, Unpin, Unknown}
@@ -30,8 +31,11 @@ is_due_answer (Ok a) = false
 
 -- A pin asks the frame for the type of its level, and what the entries of tables ask. An unpin gives back what the frame holds; it is
 -- never paused, so its gate may have said yes.
+abbrev pub of_pin : ℕ → ℕ → ℕ → Bool → Request
+of_pin d f level rose = record (of_table f d (Some (level_type level)) d rose) { pins = true; locks = true }
+
 abbrev pub request_of : ℕ → Element → Result (Unit {0}) Stop → Request
-request_of d (Pin f level) answer = record (of_table f d (Some (level_type level)) d (is_due_answer answer)) { pins = true; locks = true }
+request_of d (Pin f level) answer = of_pin d f level (is_due_answer answer)
 request_of d (Unpin f) answer = record (of_table f d None d true) { pins = true; locks = true; backs = λ g. g == f }
 request_of d Unknown answer = of_numbers refusals.BadCommand
 
@@ -42,6 +46,18 @@ element_deeds n (Pin f level) (Ok done) = Pins f ∷ []
 element_deeds n (Unpin f) (Ok done) = Unpins f ∷ []
 element_deeds n Unknown (Ok done) = []
 element_deeds n _ (Err e) = missed n e
+
+-- The answer to an element tells its deeds, but for an exchange that it hides: one that found another word, for which a pin or an unpin
+-- is refused at once; or one that the release of an unpin lost, which is done all the same.
+pub data HasDeeds (n : Machine) : Element → Result (Unit {0}) Stop → List Deed → Type 0 where
+  told : (e : Element) (answer : Result (Unit {0}) Stop) → HasDeeds n e answer (element_deeds n e answer)
+  raced_pin : (f level found : ℕ) → HasDeeds n (Pin f level) (Err (Refused (refusals.AlreadyPinned found))) (Misses (Kind f) ∷ [])
+  raced_unpin : (f found : ℕ) → HasDeeds n (Unpin f) (Err (Refused (refusals.NotPinned found))) (Misses (Kind f) ∷ [])
+  lost_release : (f place expected found : ℕ) → HasDeeds n (Unpin f) (Ok tt) (missed n (Paused (Lost place expected found)) ++ element_deeds n (Unpin f) (Ok tt))
+
+-- the steps serve what the element asks, and a guest sees these deeds of them
+abbrev pub ServesElement : PortValue → PortValue → ℕ → Element → Result (Unit {0}) Stop → Type 0
+ServesElement v w d e answer = (ds : List Deed) × HasDeeds v.post.machine e answer ds × Serves v w (request_of d e answer) ds
 
 -- ---- why it is not done
 abbrev pub IsPinStop : Stop → Type 0

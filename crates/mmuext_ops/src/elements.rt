@@ -3,11 +3,11 @@ ghost use Rattle.xp_words.specs.declared.reply.Refusal.{Refusal};
 ghost use Rattle.xp_words.specs.declared.reply.Stop.TheVariants.{Refused};
 ghost use Rattle.xp_board.specs.Readings.{domain_of};
 ghost use Rattle.step_maker.specs.Holds.{Rests};
-ghost use Rattle.answer_fits.specs.Answers.{Serves, Stops};
+ghost use Rattle.answer_fits.specs.Answers.{Stops};
 ghost use Rattle.table_words.specs.OldWords.{known_old};
 ghost use Rattle.table_words.specs.declared.old_words.OldWord.TheVariants.{First};
 ghost use Rattle.mmuext_ops.specs.Course.{PerformsBy};
-ghost use Rattle.mmuext_ops.specs.Elements.{IsElementStop, LeavesElement, element_deeds, element_of, is_due_answer, request_of};
+ghost use Rattle.mmuext_ops.specs.Elements.{IsElementStop, LeavesElement, ServesElement, element_of, is_due_answer, request_of};
 
 use crate::element::{Element, element_of};
 use crate::pinning::pin;
@@ -28,7 +28,7 @@ pub fn perform<P: Port>(
     requires own { domain ≡ domain_of (P.value port.old).post.machine (P.value port.old).post.vcpu }
     requires room { known_old First (P.value port.old).holdings ≡ Some 0 }
     // The steps serve what the element asks for, and show why it stops.
-    ensures serves { Serves (P.value port.old) (P.value port.new) (request_of domain (element_of op) result) (element_deeds (P.value port.old).post.machine (element_of op) result) }
+    ensures serves { ServesElement (P.value port.old) (P.value port.new) domain (element_of op) result }
     ensures stops { IfErr result (λ e. Stops (P.value port.old) (P.value port.new) (request_of domain (element_of op) result) e) }
     ensures kinds { IfErr result (IsElementStop (element_of op)) }
     // What its numbers alone refuse is refused.

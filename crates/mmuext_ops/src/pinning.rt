@@ -1,12 +1,15 @@
 //! Pins.
-ghost use Rattle.std.specs.Prelude.{◌≡◌, ◌<◌, ◌≤◌, ℕ, Some, true, false, IfErr};
+ghost use Rattle.std.specs.Prelude.{◌≡◌, ◌<◌, ◌≤◌, ℕ, [], Some, true, false, IfErr};
 ghost use Rattle.xp_board.specs.Readings.{domain_of};
 ghost use Rattle.step_maker.specs.Holds.{MayWork, Rests};
 ghost use Rattle.answer_fits.specs.Answers.{Serves, Stops};
+ghost use Rattle.answer_fits.specs.Asked.{of_back};
 ghost use Rattle.table_words.specs.OldWords.{known_old};
 ghost use Rattle.table_words.specs.declared.old_words.OldWord.TheVariants.{First};
-ghost use Rattle.mmuext_ops.specs.Course.{PinEnds, PinsBy};
-ghost use Rattle.mmuext_ops.specs.Elements.{IsElementStop, LeavesElement, element_deeds, is_due_answer, request_of};
+ghost use Rattle.level_validate.specs.Unwinding.{own_domain};
+ghost use Rattle.mmuext_ops.specs.Course.{GivenUp, PinEnds, PinsBy};
+ghost use Rattle.mmuext_ops.specs.Elements.{IsElementStop, LeavesElement, ServesElement, is_due_answer, of_pin, request_of};
+ghost use Rattle.mmuext_ops.specs.Holding.{GivesUp, HoldsTable, IsPinEnd, LeavesTable, ServesLive};
 ghost use Rattle.mmuext_ops.specs.declared.element.Element.TheVariants.{Pin};
 
 use frame_types::drop_type;
@@ -33,7 +36,7 @@ pub fn pin<P: Port>(
     requires low { 1 ≤ level }
     requires high { level ≤ 4 }
     requires room { known_old First (P.value port.old).holdings ≡ Some 0 }
-    ensures serves { Serves (P.value port.old) (P.value port.new) (request_of domain (Pin f level) result) (element_deeds (P.value port.old).post.machine (Pin f level) result) }
+    ensures serves { ServesElement (P.value port.old) (P.value port.new) domain (Pin f level) result }
     ensures stops { IfErr result (λ e. Stops (P.value port.old) (P.value port.new) (request_of domain (Pin f level) result) e) }
     ensures kinds { IfErr result (IsElementStop (Pin f level)) }
     ensures hand { LeavesElement (P.value port.old) (P.value port.new) (Pin f level) result }
@@ -59,7 +62,14 @@ pub fn pin<P: Port>(
 fn pin_live<P: Port>(port: &mut P, frame: u32, level: u8) -> Result<(), Stop>
     requires frame { frame < (P.value port.old).post.machine.frames }
     requires may { MayWork (P.value port.old) }
+    requires low { 1 ≤ level }
+    requires high { level ≤ 4 }
+    requires holds { HoldsTable (P.value port.old) frame level }
     requires room { known_old First (P.value port.old).holdings ≡ Some 0 }
+    ensures serves { ServesLive (P.value port.old) (P.value port.new) frame level result }
+    ensures stops { IfErr result (λ e. Stops (P.value port.old) (P.value port.new) (of_pin (own_domain (P.value port.old)) frame level false) e) }
+    ensures kinds { IfErr result IsPinEnd }
+    ensures hand { LeavesTable (P.value port.old) (P.value port.new) frame result }
     ensures course { PinEnds (P.value port.old) (P.value port.new) frame level result }
 {
     let found = look_kind(port, frame);
@@ -87,7 +97,13 @@ fn pin_live<P: Port>(port: &mut P, frame: u32, level: u8) -> Result<(), Stop>
 fn give_up<P: Port>(port: &mut P, frame: u32, level: u8, kept: bool)
     requires frame { frame < (P.value port.old).post.machine.frames }
     requires may { MayWork (P.value port.old) }
+    requires low { 1 ≤ level }
+    requires high { level ≤ 4 }
+    requires holds { HoldsTable (P.value port.old) frame level }
     requires room { known_old First (P.value port.old).holdings ≡ Some 0 }
+    ensures serves { Serves (P.value port.old) (P.value port.new) (of_back frame) [] }
+    ensures hand { GivesUp (P.value port.old) (P.value port.new) frame kept }
+    ensures course { GivenUp (P.value port.old) frame level kept (P.value port.new) }
 {
     if drop_type(port, frame) {
         leave(port, frame, partial_kind(level_type(level), kept, 512));

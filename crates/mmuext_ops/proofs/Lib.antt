@@ -1,0 +1,13 @@
+mod GivingUp
+mod Looked
+mod Marking
+mod Pinned
+mod Numbers
+mod PinCourse
+mod PinningLive
+mod Released
+mod Rests
+mod Types
+mod UnpinCourse
+mod Unpinned
+mod Within

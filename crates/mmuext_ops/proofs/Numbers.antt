@@ -1,0 +1,22 @@
+-- An element that its numbers alone refuse.
+use Rattle.std.proofs.Common.{ℕ, Bool, [], Err, refl}
+use Rattle.xp_words.specs.declared.reply.Refusal.TheVariants.{BadCommand}
+use Rattle.xp_words.specs.declared.reply.Stop.TheVariants.{Refused}
+use Rattle.xp_board.specs.Told.{PortValue}
+use Rattle.answer_fits.specs.Answers.{Stops}
+use Rattle.answer_fits.proofs.Piecing.{serves_nothing}
+use Rattle.mmuext_ops.specs.Course.{PerformsBy}
+use Rattle.mmuext_ops.specs.Elements.{ServesElement, request_of, told}
+use Rattle.mmuext_ops.specs.declared.element.Element.TheVariants.{Unknown}
+use Rattle.mmuext_ops.proofs.Rests.{unasked}
+
+module _ (v : PortValue) (d : ℕ) where
+  pub unknown_serves : ServesElement v v d Unknown (Err (Refused BadCommand))
+  unknown_serves = ([], told Unknown (Err (Refused BadCommand)), serves_nothing v (request_of d Unknown (Err (Refused BadCommand))))
+
+  pub unknown_stops : Stops v v (request_of d Unknown (Err (Refused BadCommand))) (Refused BadCommand)
+  unfolding Stops
+  unknown_stops = refl
+
+  pub unknown_course : (says : ℕ → Bool) (asks agreed : ℕ) → PerformsBy v v d Unknown says asks asks agreed agreed (Err (Refused BadCommand))
+  unknown_course says asks agreed = record { answers = []; course = (refl, refl, refl); gate = unasked says asks agreed; due = λ due. absurd cc }

@@ -1,0 +1,186 @@
+-- A pin: its calls one behind the other, what is in hand behind each, and why it is not done.
+use Rattle.std.proofs.Common.{◌≡◌, ℕ, ◌+◌, ◌<◌, Bool, true, false, List, [], ◌∷◌, Some, None, Result, Ok, Err, IfErr, refl, sym, ap, ◌∙◌, subst, append-nil, inl, inr}
+use Rattle.xp_words.specs.KindWords.{kind_read}
+use Rattle.xp_words.specs.declared.kind.KindWord.{KindWord}
+use Rattle.xp_words.specs.declared.place.Place.TheVariants.{Kind}
+use Rattle.xp_words.specs.declared.reply.Pause.TheVariants as pauses
+use Rattle.xp_words.specs.declared.reply.Refusal.TheVariants.{AlreadyPinned}
+use Rattle.xp_words.specs.declared.reply.Stop.{Stop}
+use Rattle.xp_words.specs.declared.reply.Stop.TheVariants.{Paused, Refused}
+use Rattle.xp_board.specs.declared.holdings.OwnerFound.TheVariants as owners
+use Rattle.xp_board.specs.declared.holdings.TypedReference.{TypedReference}
+use Rattle.xp_board.specs.declared.step.Act.TheVariants.{Load}
+use Rattle.xp_board.specs.declared.step.StepKind.TheVariants as kinds
+use Rattle.xp_board.specs.KindSteps.{live_typed}
+use Rattle.xp_board.specs.Readings.{domain_of}
+use Rattle.xp_board.specs.Told.{Post, PortValue}
+use Rattle.board_lemmas.proofs.Sums.{when_eq}
+use Rattle.step_maker.specs.Holds.{FlushedHolds, Holds, Rests, Same, quiet}
+use Rattle.step_maker.specs.Moves.{Came, Met, Moves}
+use Rattle.step_maker.proofs.Coming.{came_post, met_after}
+use Rattle.answer_fits.specs.Answers.{Serves, Stops, missed, misses}
+use Rattle.answer_fits.specs.Asked.{Asked, Within, checked, named}
+use Rattle.answer_fits.specs.Finding.{Finding}
+use Rattle.answer_fits.proofs.Later.{IsUncounted, stops_then}
+use Rattle.answer_fits.proofs.Piecing.{serves_came, serves_inner, serves_then, stops_inner}
+use Rattle.frame_words.specs.Refs.{took}
+use Rattle.partial_state.specs.Levels.{level_type}
+use Rattle.level_validate.specs.Acquiring.{LeavesAcquired, of_acquire}
+use Rattle.level_validate.specs.Acquiring as acquires
+use Rattle.level_validate.specs.Unwinding.{own_domain}
+use Rattle.mmuext_ops.specs.Elements.{HasDeeds, LeavesElement, ServesElement, is_due_answer, is_due_stop, of_pin, told}
+use Rattle.mmuext_ops.specs.Holding.{HoldsTable, IsPinEnd, LeavesTable, ServesLive, named_old, untyped}
+use Rattle.mmuext_ops.specs.declared.element.Element.TheVariants.{Pin}
+use Rattle.mmuext_ops.proofs.Looked.{fields, found_with, owner_known}
+use Rattle.mmuext_ops.proofs.Within.{same_no_more, within_table}
+
+-- ---- by the answer
+module _ (v w : PortValue) (f d level : ℕ) (answer : Result (Unit {0}) Stop) (e : Stop) (is : answer ≡ Err e) where
+  pub serves_as : Serves v w (of_pin d f level (is_due_stop e)) (missed v.post.machine e) → ServesElement v w d (Pin f level) answer
+  serves_as a = subst (λ (y : Result (Unit {0}) Stop). ServesElement v w d (Pin f level) y) (sym is) (missed v.post.machine e, told _ _, a)
+
+  pub stops_as : Stops v w (of_pin d f level (is_due_stop e)) e → IfErr answer (λ k. Stops v w (of_pin d f level (is_due_answer answer)) k)
+  stops_as a = subst (λ (y : Result (Unit {0}) Stop). IfErr y (λ k. Stops v w (of_pin d f level (is_due_answer y)) k)) (sym is) a
+
+  pub leaves_as : LeavesElement v w (Pin f level) (Err e) → LeavesElement v w (Pin f level) answer
+  leaves_as a = subst (λ y. LeavesElement v w (Pin f level) y) (sym is) a
+
+module _ (v : PortValue) (f d level : ℕ) (rose : Bool) where
+  pub asks : (F : Finding) → Asked v.post.machine v.post.vcpu (of_pin d f level rose) F f d None
+  asks F = named (when_eq f f refl) refl tt
+
+  asks_type : (F : Finding) → Asked v.post.machine v.post.vcpu (of_pin d f level rose) F f d (Some (level_type level))
+  asks_type F = named (when_eq f f refl) refl refl
+
+  -- ---- the frame is looked at
+  module _ (a b : PortValue) (g x : ℕ) (at : g ≡ f) (taken : Holds v a (took g d v.holdings)) (look : Moves a b (Kind g) Load kinds.Look None x) (same : Same a b) (inside : g < v.post.machine.frames)
+      (k : KindWord) (read : kind_read x ≡ Some k) where
+    -- it is pinned with the type of that level
+    pub before_stops : (c : PortValue) → Came v a → Came b c → k.pinned ≡ true → k.kind ≡ level_type level → Stops v c (of_pin d f level rose) (Refused (AlreadyPinned x))
+    unfolding Stops
+    before_stops c came after on kind =
+        let is = fields v a b f d g x at taken look same inside k read in (
+          f,
+          d,
+          level_type level,
+          a.holdings,
+          asks_type (Met v c),
+          found_with v a b f d g x at taken look same c came after,
+          checked (owner_known v a b f d g x at taken look same),
+          refl,
+          when_eq f f refl,
+          ap (λ (y : KindWord). y.pinned) is ∙ on,
+          ap (λ (y : KindWord). y.kind) is ∙ kind,
+        )
+
+  -- ---- behind a piece that left nothing in hand it is acquired
+  module _ (c : PortValue) (before : Serves v c (of_pin d f level rose) []) where
+    came_c : Came v c
+    came_c = serves_came v c (of_pin d f level rose) [] before
+
+    module _ (e : PortValue) (answer : Result ℕ Stop) (rises : acquires.is_due_answer answer ≡ true → rose ≡ true) where
+      acquiring : Within v.post.machine v.post.vcpu (of_acquire f d level d answer) (Met c e) (of_pin d f level rose) (Met v e)
+      acquiring = within_table v.post.machine v.post.vcpu f d level (level_type level) (acquires.is_due_answer answer) rose (Met c e) (Met v e) (λ m x. met_after v c e m came_c x) rises
+
+      pub acquired_serves : Serves c e (of_acquire f d level d answer) (misses c.post.machine answer) → Serves v e (of_pin d f level rose) (misses v.post.machine answer)
+      acquired_serves a =
+          subst (λ ds. Serves v e (of_pin d f level rose) ds) (append-nil (misses v.post.machine answer))
+          (serves_inner v c e (of_pin d f level rose) (of_acquire f d level d answer) [] (misses v.post.machine answer) acquiring before
+          (subst (λ (p : Post). Serves c e (of_acquire f d level d answer) (misses p.machine answer)) (came_post v c came_c) a))
+
+      pub unacquired_stops : Same v c → (stop : Stop) → Stops c e (of_acquire f d level d answer) stop → Stops v e (of_pin d f level rose) stop
+      unacquired_stops same stop a =
+          stops_inner v c e (of_pin d f level rose) (of_acquire f d level d answer) stop acquiring (same_no_more v c (of_pin d f level rose) refl same) came_c a
+
+-- ---- the table is live
+pub pin_undue : (answer : Result (Unit {0}) Stop) → IfErr answer IsPinEnd → is_due_answer answer ≡ false
+pin_undue (Ok done) kind = refl
+pin_undue (Err (Refused x)) kind = refl
+pin_undue (Err (Paused (pauses.Lost place expected found))) kind = refl
+pin_undue (Err (Paused pauses.Due)) kind = absurd kind
+pin_undue (Err (Paused (pauses.Busy f found))) kind = absurd kind
+pin_undue (Err (Paused (pauses.Flush vcpu stamp found))) kind = absurd kind
+pin_undue (Err (Paused (pauses.Alive vcpu found))) kind = absurd kind
+
+pin_uncounted : (stop : Stop) → IsPinEnd stop → IsUncounted stop
+pin_uncounted (Refused (AlreadyPinned x)) kind = tt
+pin_uncounted (Refused _) kind = absurd kind
+pin_uncounted (Paused x) kind = tt
+
+module _ (v e w : PortValue) (f d level g : ℕ) (at : g ≡ f) (own : d ≡ own_domain v) (before : Serves v e (of_pin d f level false) []) (answer : Result (Unit {0}) Stop) (kind : IfErr answer IsPinEnd) where
+  came_e : Came v e
+  came_e = serves_came v e (of_pin d f level false) [] before
+
+  post_e : e.post ≡ v.post
+  post_e = came_post v e came_e
+
+  own_e : own_domain e ≡ d
+  own_e = ap (λ (p : Post). domain_of p.machine p.vcpu) post_e ∙ sym own
+
+  pub live_serves : ServesLive e w g level answer → ServesElement v w d (Pin f level) answer
+  live_serves (ds, deeds, a) =
+      let ends : Serves e w (of_pin d f level false) ds = subst (λ k. Serves e w (of_pin d k level false) ds) at (subst (λ o. Serves e w (of_pin o g level false) ds) own_e a) in (
+        ds,
+        subst (λ (p : Post). HasDeeds p.machine (Pin f level) answer ds) post_e (subst (λ k. HasDeeds e.post.machine (Pin k level) answer ds) at deeds),
+        subst (λ b. Serves v w (of_pin d f level b) ds) (sym (pin_undue answer kind)) (subst (λ es. Serves v w (of_pin d f level false) es) (append-nil ds) (serves_then v e w (of_pin d f level false) [] ds before ends)),
+      )
+
+  live_why : (stop : Stop) → IsPinEnd stop → Stops e w (of_pin (own_domain e) g level false) stop → Stops v w (of_pin d f level false) stop
+  live_why stop end a =
+      stops_then v e w (of_pin d f level false) stop (pin_uncounted stop end) came_e
+      (subst (λ k. Stops e w (of_pin d k level false) stop) at (subst (λ o. Stops e w (of_pin o g level false) stop) own_e a))
+
+  pub live_stops : IfErr answer (λ k. Stops e w (of_pin (own_domain e) g level false) k) → IfErr answer (λ k. Stops v w (of_pin d f level (is_due_answer answer)) k)
+  live_stops a = subst (λ b. IfErr answer (λ k. Stops v w (of_pin d f level b) k)) (sym (pin_undue answer kind)) (each answer kind a)
+    where
+      each : (y : Result (Unit {0}) Stop) → IfErr y IsPinEnd → IfErr y (λ k. Stops e w (of_pin (own_domain e) g level false) k) → IfErr y (λ k. Stops v w (of_pin d f level false) k)
+      each (Ok done) end b = tt
+      each (Err stop) end b = live_why stop end b
+
+-- ---- the hand
+pub acquired_holds : (v c e : PortValue) (f d level g : ℕ) → Rests v → Same v c → d ≡ own_domain v → FlushedHolds c e (record c.holdings { typed = live_typed g (level_type level) (owners.Of d) ∷ c.holdings.typed }) → HoldsTable e g level
+acquired_holds v c e f d level g rests same own holds =
+    let post : e.post ≡ v.post = ap (λ (q : PortValue). q.post) holds ∙ ap (λ (q : PortValue). q.post) same in
+    let is : d ≡ own_domain e = own ∙ ap (λ (p : Post). domain_of p.machine p.vcpu) (sym post) in
+    record {
+      typed = ap (λ (q : PortValue). q.holdings.typed) holds ∙ ap (λ (ys : List TypedReference). live_typed g (level_type level) (owners.Of d) ∷ ys) (ap (λ (q : PortValue). q.holdings.typed) same ∙ rests.empty.typed)
+          ∙ ap (λ o. live_typed g (level_type level) (owners.Of o) ∷ []) is;
+      others = record {
+        refs = ap (λ (q : PortValue). q.holdings.refs) holds ∙ ap (λ (q : PortValue). q.holdings.refs) same ∙ rests.empty.refs;
+        typed = refl;
+        works = ap (λ (q : PortValue). q.holdings.works) holds ∙ ap (λ (q : PortValue). q.holdings.works) same ∙ rests.empty.works;
+        locks = ap (λ (q : PortValue). q.holdings.locks) holds ∙ ap (λ (q : PortValue). q.holdings.locks) same ∙ rests.empty.locks;
+        ending = ap (λ (q : PortValue). q.holdings.ending) holds ∙ ap (λ (q : PortValue). q.holdings.ending) same ∙ rests.empty.ending;
+        claimed = ap (λ (q : PortValue). q.holdings.claimed) holds ∙ ap (λ (q : PortValue). q.holdings.claimed) same ∙ rests.empty.claimed;
+        raised = ap (λ (q : PortValue). q.holdings.raised) holds ∙ ap (λ (q : PortValue). q.holdings.raised) same ∙ rests.empty.raised;
+        credits = ap (λ (q : PortValue). q.holdings.credits) holds ∙ ap (λ (q : PortValue). q.holdings.credits) same ∙ rests.empty.credits;
+        looking = ap (λ (q : PortValue). q.holdings.looking) holds ∙ ap (λ (q : PortValue). q.holdings.looking) same ∙ rests.empty.looking;
+      };
+    }
+
+module _ (v c e : PortValue) (f d level : ℕ) (same : Same v c) where
+  -- it was not acquired
+  pub unacquired_hand : (stop : Stop) → LeavesAcquired c e f d level (Err stop) → LeavesElement v e (Pin f level) (Err stop)
+  unacquired_hand (Refused x) (inl leaves) = inl (leaves ∙ ap quiet same)
+  unacquired_hand (Refused x) (inr leaves) = inr (leaves ∙ ap (λ (q : PortValue). quiet (record q { holdings = record q.holdings { old0 = Some (f + 1) } })) same)
+  unacquired_hand (Paused x) leaves = leaves ∙ ap quiet same
+
+  -- it was, and its typed reference is gone
+  module _ (g : ℕ) (at : g ≡ f) (rests : Rests v) (holds : FlushedHolds c e (record c.holdings { typed = live_typed g (level_type level) (owners.Of d) ∷ c.holdings.typed })) (w : PortValue) where
+    without : quiet (record e { holdings = untyped e.holdings }) ≡ quiet v
+    without =
+        ap (λ (q : PortValue). quiet (record q { holdings = untyped q.holdings })) holds ∙ ap (λ (q : PortValue). quiet (record q { holdings = untyped q.holdings })) same
+        ∙ ap (λ (ys : List TypedReference). quiet (record v { holdings = record v.holdings { typed = ys } })) (sym rests.empty.typed)
+
+    gone_hand : Holds e w (untyped e.holdings) → FlushedHolds v w v.holdings
+    gone_hand gone = ap quiet gone ∙ without
+
+    names_hand : Holds e w (named_old g (untyped e.holdings)) → FlushedHolds v w (record v.holdings { old0 = Some (f + 1) })
+    names_hand names =
+        ap quiet names ∙ ap (λ (q : PortValue). quiet (record q { holdings = named_old g q.holdings })) without ∙ ap (λ k. quiet (record v { holdings = record v.holdings { old0 = Some (k + 1) } })) at
+
+    pub live_hand : (answer : Result (Unit {0}) Stop) → LeavesTable e w g answer → LeavesElement v w (Pin f level) answer
+    live_hand (Ok done) gone = gone_hand gone
+    live_hand (Err (Refused x)) (inl gone) = inl (gone_hand gone)
+    live_hand (Err (Refused x)) (inr names) = inr (names_hand names)
+    live_hand (Err (Paused x)) gone = gone_hand gone

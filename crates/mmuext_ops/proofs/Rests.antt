@@ -1,0 +1,69 @@
+-- Nothing is in hand behind an element, whatever the first old word names; and an element that asks its gate nothing.
+use Rattle.std.proofs.Common.{◌≡◌, ℕ, Bool, false, [], Option, Result, Ok, Err, refl, sym, ap, ◌∙◌, subst, inl, inr, arith}
+use Rattle.xp_words.specs.Machine.{IsMachine}
+use Rattle.xp_words.specs.declared.reply.Pause.TheVariants as pauses
+use Rattle.xp_words.specs.declared.reply.Stop.{Stop}
+use Rattle.xp_words.specs.declared.reply.Stop.TheVariants.{Paused, Refused}
+use Rattle.xp_board.specs.Told.{Post, PortValue}
+use Rattle.xp_preempt.specs.Gates.{Consulted, Gives, asks_on, yeses}
+use Rattle.step_maker.specs.Holds.{FlushedHolds, Rests}
+use Rattle.frame_words.specs.Refs.{IsRefStop}
+use Rattle.level_validate.specs.Acquiring as acquires
+use Rattle.mmuext_ops.specs.Elements.{LeavesElement, is_due_stop}
+use Rattle.mmuext_ops.specs.declared.element.Element.{Element}
+use Rattle.mmuext_ops.specs.declared.element.Element.TheVariants.{Pin, Unknown, Unpin}
+
+-- ---- the hand
+rests_by : (v w : PortValue) (o : Option ℕ) → Rests v → FlushedHolds v w (record v.holdings { old0 = o }) → Rests w
+rests_by v w o rests holds =
+    record {
+      may = record {
+        running = ap (λ (q : PortValue). q.holdings.run) holds ∙ rests.may.running;
+        no_walk = ap (λ (q : PortValue). q.holdings.walk) holds ∙ rests.may.no_walk;
+        machine = subst (λ (p : Post). IsMachine p.machine) (sym (ap (λ (q : PortValue). q.post) holds)) rests.may.machine;
+      };
+      empty = record {
+        refs = ap (λ (q : PortValue). q.holdings.refs) holds ∙ rests.empty.refs;
+        typed = ap (λ (q : PortValue). q.holdings.typed) holds ∙ rests.empty.typed;
+        works = ap (λ (q : PortValue). q.holdings.works) holds ∙ rests.empty.works;
+        locks = ap (λ (q : PortValue). q.holdings.locks) holds ∙ rests.empty.locks;
+        ending = ap (λ (q : PortValue). q.holdings.ending) holds ∙ rests.empty.ending;
+        claimed = ap (λ (q : PortValue). q.holdings.claimed) holds ∙ rests.empty.claimed;
+        raised = ap (λ (q : PortValue). q.holdings.raised) holds ∙ rests.empty.raised;
+        credits = ap (λ (q : PortValue). q.holdings.credits) holds ∙ rests.empty.credits;
+        looking = ap (λ (q : PortValue). q.holdings.looking) holds ∙ rests.empty.looking;
+      };
+    }
+
+pub rests_behind : (v w : PortValue) (e : Element) (answer : Result (Unit {0}) Stop) → Rests v → LeavesElement v w e answer → Rests w
+rests_behind v w (Pin f level) (Ok done) rests leaves = rests_by v w v.holdings.old0 rests leaves
+rests_behind v w (Pin f level) (Err (Refused x)) rests (inl leaves) = rests_by v w v.holdings.old0 rests leaves
+rests_behind v w (Pin f level) (Err (Refused x)) rests (inr leaves) = rests_by v w _ rests leaves
+rests_behind v w (Pin f level) (Err (Paused x)) rests leaves = rests_by v w v.holdings.old0 rests leaves
+rests_behind v w (Unpin f) (Ok done) rests (inl leaves) = rests_by v w v.holdings.old0 rests leaves
+rests_behind v w (Unpin f) (Ok done) rests (inr leaves) = rests_by v w _ rests leaves
+rests_behind v w (Unpin f) (Err e) rests leaves = rests_by v w v.holdings.old0 rests leaves
+rests_behind v w Unknown (Ok done) rests leaves = rests_by v w v.holdings.old0 rests leaves
+rests_behind v w Unknown (Err e) rests leaves = rests_by v w v.holdings.old0 rests leaves
+
+-- ---- the gate
+pub unasked : (says : ℕ → Bool) (asks agreed : ℕ) → Consulted says asks asks agreed agreed []
+unfolding Gives asks_on yeses
+unasked says asks agreed = record { gives = tt; asks = refl; yes = omega arith }
+
+-- a reference that is not to be had is no pause for the gate
+pub reference_undue : (e : Stop) → IsRefStop e → is_due_stop e ≡ false
+reference_undue (Refused x) is = refl
+reference_undue (Paused (pauses.Lost place expected found)) is = refl
+reference_undue (Paused pauses.Due) is = absurd is
+reference_undue (Paused (pauses.Busy f found)) is = absurd is
+reference_undue (Paused (pauses.Flush vcpu stamp found)) is = absurd is
+reference_undue (Paused (pauses.Alive vcpu found)) is = absurd is
+
+pub same_due : (e : Stop) → acquires.is_due_stop e ≡ is_due_stop e
+same_due (Refused x) = refl
+same_due (Paused pauses.Due) = refl
+same_due (Paused (pauses.Lost place expected found)) = refl
+same_due (Paused (pauses.Busy f found)) = refl
+same_due (Paused (pauses.Flush vcpu stamp found)) = refl
+same_due (Paused (pauses.Alive vcpu found)) = refl

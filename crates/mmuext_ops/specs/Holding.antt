@@ -1,0 +1,51 @@
+-- What is in hand on the way of a pin: a typed reference to a live table, which goes into the pin or is given back.
+use Rattle.std.specs.Prelude.{◌≡◌, ◌⊎◌, ℕ, ◌+◌, Bool, true, false, List, [], ◌∷◌, Some, Result, Ok, Err}
+use Rattle.xp_words.specs.declared.reply.Pause.TheVariants.{Lost}
+use Rattle.xp_words.specs.declared.reply.Refusal.TheVariants.{AlreadyPinned}
+use Rattle.xp_words.specs.declared.reply.Stop.{Stop}
+use Rattle.xp_words.specs.declared.reply.Stop.TheVariants.{Refused, Paused}
+use Rattle.xp_board.specs.declared.holdings.Holdings.{Holdings}
+use Rattle.xp_board.specs.declared.holdings.OwnerFound.TheVariants as owners
+use Rattle.xp_board.specs.Hands.{IsEmptyHand}
+use Rattle.xp_board.specs.KindSteps.{live_typed}
+use Rattle.xp_board.specs.Told.{PortValue}
+use Rattle.step_maker.specs.Holds.{Holds}
+use Rattle.answer_fits.specs.Answers.{Deed, Serves}
+use Rattle.partial_state.specs.Levels.{level_type}
+use Rattle.level_validate.specs.Unwinding.{own_domain}
+use Rattle.mmuext_ops.specs.Elements.{HasDeeds, of_pin}
+use Rattle.mmuext_ops.specs.declared.element.Element.TheVariants.{Pin}
+
+-- no typed reference is in hand
+abbrev pub untyped : Holdings → Holdings
+untyped h = record h { typed = [] }
+
+-- the first old word names the frame
+abbrev pub named_old : ℕ → Holdings → Holdings
+named_old f h = record h { old0 = Some (f + 1) }
+
+-- All that is in hand is one typed reference to the frame, which is known live as a table of that level, and the own domain's.
+pub record HoldsTable (v : PortValue) (f level : ℕ) : Type 0 where
+  pub typed : v.holdings.typed ≡ live_typed f (level_type level) (owners.Of (own_domain v)) ∷ []
+  pub others : IsEmptyHand (untyped v.holdings)
+
+-- it is gone; or, where no mark of the frame's own is to keep it, the first old word names the frame
+abbrev pub GivesUp : PortValue → PortValue → ℕ → Bool → Type 0
+GivesUp v w f true = Holds v w (untyped v.holdings)
+GivesUp v w f false = Holds v w (untyped v.holdings) ⊎ Holds v w (named_old f (untyped v.holdings))
+
+-- ---- by the answer
+-- why a live table is not pinned
+abbrev pub IsPinEnd : Stop → Type 0
+IsPinEnd (Refused (AlreadyPinned found)) = Unit {0}
+IsPinEnd (Paused (Lost place expected found)) = Unit {0}
+IsPinEnd _ = ⊥
+
+abbrev pub LeavesTable : PortValue → PortValue → ℕ → Result (Unit {0}) Stop → Type 0
+LeavesTable v w f (Ok done) = GivesUp v w f true
+LeavesTable v w f (Err (Refused x)) = GivesUp v w f false
+LeavesTable v w f (Err (Paused x)) = GivesUp v w f true
+
+-- its steps are those of a pin, whose gate did not say yes
+abbrev pub ServesLive : PortValue → PortValue → ℕ → ℕ → Result (Unit {0}) Stop → Type 0
+ServesLive v w f level answer = (ds : List Deed) × HasDeeds v.post.machine (Pin f level) answer ds × Serves v w (of_pin (own_domain v) f level false) ds
