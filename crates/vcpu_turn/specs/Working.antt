@@ -14,7 +14,7 @@ use Rattle.level_release.specs.Course.{Settled}
 use Rattle.mmu_update.specs.Elements as pairs
 use Rattle.mmu_update.specs.Fits.{Updates}
 use Rattle.mmuext_ops.specs.Course.{Performed}
-use Rattle.mmuext_ops.specs.Elements.{IsElementStop, LeavesElement, element_deeds, element_of, request_of}
+use Rattle.mmuext_ops.specs.Elements.{IsElementStop, LeavesElement, ServesElement, element_of, request_of}
 use Rattle.mmuext_ops.specs.declared.element.Element.{Element}
 use Rattle.vcpu_turn.specs.Cpus.{OpList, OfPairs, OfExt, length_of}
 use Rattle.vcpu_turn.specs.Lists.{Fitting, WorksOn}
@@ -42,7 +42,7 @@ PairFits d list k v w answers answer = FitsPair d (slice_get list k) v w answers
 -- From v to w an element of domain d was done, or why not: its steps serve it, show the cause of a refusal or pause, and leave nothing
 -- in hand.
 pub record Performs (d : ℕ) (e : Element) (v w : PortValue) (answers : List Bool) (answer : Result (Unit {0}) Stop) : Type 0 where
-  pub serves : Serves v w (request_of d e answer) (element_deeds v.post.machine e answer)
+  pub serves : ServesElement v w d e answer
   pub stops : IfErr answer (λ x. Stops v w (request_of d e answer) x)
   pub kinds : IfErr answer (IsElementStop e)
   pub numbers : (x : Refusal) → (request_of d e answer).by_numbers ≡ Some x → answer ≡ Err (Refused x)

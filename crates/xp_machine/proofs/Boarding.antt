@@ -14,7 +14,7 @@ use Rattle.shared_board.specs.Board.{Board, port_value}
 use Rattle.vcpu_turn.specs.Cpus.{Processing, after_turn}
 use Rattle.vcpu_turn.specs.declared.cpu.TurnEnd.{TurnEnd}
 use Rattle.vcpu_turn.specs.declared.cpu.TurnEnd.TheVariants as ends
-use Rattle.vcpu_turn.specs.Turning.{DoesNext, IsOf, StopsWhere}
+use Rattle.vcpu_turn.specs.Turning.{DoesNext, Goes, IsOf, StopsWhere, settled, unsettled}
 use Rattle.xp_machine.specs.Cpus.{IsShort}
 use Rattle.xp_machine.specs.Gates.{Gate, gate_in}
 use Rattle.xp_machine.specs.Ready.{Ready}
@@ -29,9 +29,13 @@ kept_by c done (ends.Answered reply) = refl
 kept_by c done (ends.Paused p) = refl
 kept_by c done ends.Retired = refl
 
-turn_script : (c c2 : Processing) (o : Option Op) (v w : PortValue) (before after : ℕ) (end : TurnEnd) → DoesNext c o c2 v w before after end → c2.script ≡ c.script
-turn_script c c2 (Some op) v w before after end d = ap (λ (x : Processing). x.script) d.cpu ∙ kept_by c d.to end
-turn_script c c2 None v w before after end d = ap (λ (x : Processing). x.script) d.cpu
+next_script : (c c2 : Processing) (o : Option Op) (v w : PortValue) (answers : List Bool) (end : TurnEnd) → DoesNext c o c2 v w answers end → c2.script ≡ c.script
+next_script c c2 (Some op) v w answers end d = ap (λ (x : Processing). x.script) d.cpu ∙ kept_by c d.to end
+next_script c c2 None v w answers end d = ap (λ (x : Processing). x.script) d.cpu
+
+turn_script : (c c2 : Processing) (o : Option Op) (v w : PortValue) (answers : List Bool) (end : TurnEnd) → Goes c o v c2 w answers end → c2.script ≡ c.script
+turn_script c _ o v _ _ _ (unsettled w answers p s) = refl
+turn_script c _ o v _ _ _ (settled u w c2 early answers end s d) = next_script c c2 o u w answers end d
 
 -- ---- one turn or one stop
 pub record Done (DoesNext : Stage → Stage → Type 0) (b b2 : Board) (cpus cpus2 : List Processing) (gates gates2 : List (Option Gate)) : Type 0 where
@@ -85,8 +89,8 @@ module _ (stays : AloneStays) where
   turn_by neither nobody b b2 s lender cpus gates c c2 has left false real ready machine here gate t own =
       let v = port_value b s lender in
       let w = port_value b2 s lender in
-      let came = turn_came c c2 t.end v w t.gate.asks t.asked.asks t.turn in
-      let script = turn_script c c2 (slice_get c.script (length c.log)) t.turn.begun t.turn.worked t.gate.asks t.asked.asks t.end t.turn.does in
+      let came = turn_came c c2 t.end v w t.answers t.turn in
+      let script = turn_script c c2 (slice_get c.script (length c.log)) t.turn.begun t.turn.worked t.answers t.end t.turn.does in
       let made = made_on b b2 s lender cpus c c2 real ready machine here came script own in
       record {
         does = record {
@@ -101,9 +105,10 @@ module _ (stays : AloneStays) where
           to = w;
           from_is = port_of b b s lender refl;
           to_is = port_of b b2 s lender machine;
+          answers = t.answers;
           turn = t.turn;
           consulted = t.consulted;
-          unhindered = turn_unhindered stays neither nobody v real c c2 t.end w t.gate.asks t.asked.asks (alone_at b cpus s lender ready) t.turn;
+          unhindered = turn_unhindered stays neither nobody v real c c2 t.end w t.answers (alone_at b cpus s lender ready) t.turn;
           cpus = refl;
           gates = ap (λ o. slice_set gates s o) t.left_is;
         };

@@ -1,8 +1,8 @@
 -- A turn as steps of its port, and what pauses it where no other vCPU holds anything.
-use Rattle.std.proofs.Common.{◌≡◌, ℕ, ◌<◌, List, length, Option, Some, None, Result, Ok, Err, refl, sym, subst, inl, inr, arith}
+use Rattle.std.proofs.Common.{◌≡◌, ℕ, ◌<◌, Bool, List, length, Option, Some, None, Result, Ok, Err, IfErr, refl, sym, subst, inl, inr, arith}
 use Rattle.std.specs.Prelude.{slice_get}
 use Rattle.std.proofs.lemmas.Bool.{cases_eq}
-use Rattle.xp_words.specs.Machine.{Machine}
+use Rattle.xp_words.specs.declared.ops.ExtOp.{ExtOp}
 use Rattle.xp_words.specs.declared.ops.Op.{Op}
 use Rattle.xp_words.specs.declared.ops.Pair.{Pair}
 use Rattle.xp_words.specs.declared.reply.Pause.{Pause}
@@ -13,19 +13,24 @@ use Rattle.xp_words.specs.declared.reply.Stop.TheVariants.{Refused, Paused}
 use Rattle.xp_board.specs.Told.{Post, PortValue}
 use Rattle.step_maker.specs.Moves.{Came}
 use Rattle.step_maker.proofs.Coming.{came_self, came_trans, came_post, moves_came}
-use Rattle.answer_fits.specs.Answers.{Stops}
+use Rattle.answer_fits.specs.Answers.{Stops, misses}
 use Rattle.answer_fits.specs.Asked.{Request}
 use Rattle.answer_fits.proofs.Piecing.{serves_came}
 use Rattle.answer_laws.specs.Alone.{IsAlone, IsDueOrFlush}
-use Rattle.mmu_update.specs.Elements.{element_of, request_of, element_deeds}
-use Rattle.mmu_update.specs.declared.element.Element.{Element}
-use Rattle.mmu_update.specs.declared.element.Element.TheVariants.{SetM2p, Write, Misaligned, Unknown}
+use Rattle.level_release.specs.Asking.{of_settle}
+use Rattle.mmu_update.specs.Elements as pairs
+use Rattle.mmu_update.specs.declared.element.Element as updating
+use Rattle.mmu_update.specs.declared.element.Element.TheVariants as updates
+use Rattle.mmuext_ops.specs.Elements as elements
+use Rattle.mmuext_ops.specs.declared.element.Element.{Element}
+use Rattle.mmuext_ops.specs.declared.element.Element.TheVariants as performs
 use Rattle.vcpu_turn.specs.declared.cpu.TurnEnd.{TurnEnd}
 use Rattle.vcpu_turn.specs.declared.cpu.TurnEnd.TheVariants as ends
-use Rattle.vcpu_turn.specs.Cpus.{Processing, pairs_of, end_of}
-use Rattle.vcpu_turn.specs.Lists.{DidItems, Ends, none, more}
-use Rattle.vcpu_turn.specs.Working.{FitsPair, PairFits, no_asks, Works}
-use Rattle.vcpu_turn.specs.Turning.{DoesNext, EndsTurn, IsStop, IsTurn}
+use Rattle.vcpu_turn.specs.Cpus.{OpList, OfPairs, OfExt, Processing, list_of, length_of, end_of}
+use Rattle.vcpu_turn.specs.Lists.{DidItems, WorksOn, none, more, all_done, last_done, due, stopped}
+use Rattle.vcpu_turn.specs.Working.{Extends, FitsExt, FitsPair, Performs, Settles, Works, fits_of, unsettled, performed}
+use Rattle.vcpu_turn.specs.Turning.{DoesNext, EndsTurn, Goes, IsStop, IsTurn}
+use Rattle.vcpu_turn.specs.Turning as turning
 use Rattle.vcpu_turn.proofs.Turns.{begins_came}
 use Rattle.xp_machine.specs.Turns.{IsUnhindered}
 
@@ -41,33 +46,57 @@ ends_came (ends.Answered reply) v w e = moves_came v w _ _ _ _ _ e.1
 ends_came (ends.Paused p) v w e = same_came v w e
 ends_came ends.Retired v w e = stop_came v w e
 
-fits_came : (d : ℕ) (o : Option Pair) (v w : PortValue) (answer : Result (Unit {0}) Stop) → FitsPair d o v w answer → Came v w
-fits_came d None v w answer f = absurd f
-fits_came d (Some p) v w answer f = serves_came v w (request_of d (element_of p)) (element_deeds v.post.machine (element_of p) answer) f.serves
+settles_came : (v w : PortValue) (answers : List Bool) (answer : Result (Unit {0}) Stop) → Settles v w answers answer → Came v w
+settles_came v w answers answer s = serves_came v w (of_settle 0 0 answer) (misses v.post.machine answer) (s.serves 0 0)
 
-did_came : (d : ℕ) (pairs : List Pair) (from : ℕ) (v : PortValue) (k n : ℕ) (w : PortValue) → DidItems (PairFits d pairs) no_asks from v k n w → Came v w
-did_came d pairs from v _ _ _ none = came_self v
-did_came d pairs from v _ _ _ (more k n u w a f) = came_trans v u w (did_came d pairs from v k n u a) (fits_came d (slice_get pairs k) u w (Ok tt) f)
+pair_came : (d : ℕ) (o : Option Pair) (v w : PortValue) (answers : List Bool) (answer : Result (Unit {0}) Stop) → FitsPair d o v w answers answer → Came v w
+pair_came d None v w answers answer f = absurd f
+pair_came d (Some p) v w answers answer f =
+    serves_came v w (pairs.request_of d (pairs.element_of p)) (pairs.element_deeds v.post.machine (pairs.element_of p) answer) f.0.serves
 
-list_came : (d : ℕ) (pairs : List Pair) (count from to n asked : ℕ) (v w : PortValue) (answer : Result (Unit {0}) Stop) → Ends (PairFits d pairs) no_asks count from to n asked v w answer → Came v w
-list_came d pairs count from to n asked v w (Ok done) e = same_came v w e.1
-list_came d pairs count from to n asked v w (Err x) (inl e) = same_came v w e.3
-list_came d pairs count from to n asked v w (Err x) (inr e) = fits_came d (slice_get pairs to) v w (Err x) e.1
+performs_came : (d : ℕ) (e : Element) (v w : PortValue) (answers : List Bool) (answer : Result (Unit {0}) Stop) → Performs d e v w answers answer → Came v w
+performs_came d e v w answers answer p = serves_came v w (elements.request_of d e answer) p.serves.0 p.serves.2
 
-works_came : (d : ℕ) (o : Option (List Pair)) (v w : PortValue) (from to before after : ℕ) (answer : Result (Unit {0}) Stop) → Works d o v w from to before after answer → Came v w
-works_came d None v w from to before after answer a = same_came v w a.no_step
-works_came d (Some pairs) v w from to before after answer (inl a) = same_came v w a.1.no_step
-works_came d (Some pairs) v w from to before after answer (inr a) =
-    came_trans v a.1.last w (did_came d pairs from v to a.1.number a.1.last a.1.did) (list_came d pairs (length pairs) from to a.1.number a.1.asked a.1.last w answer a.1.ends)
+extends_came : (d : ℕ) (e : Element) (v w : PortValue) (answers : List Bool) (answer : Result (Unit {0}) Stop) → Extends d e v w answers answer → Came v w
+extends_came d e v _ _ _ (unsettled w answers stop s) = settles_came v w answers (Err stop) s
+extends_came d e v _ _ _ (performed u w early answers answer s p) = came_trans v u w (settles_came v u early (Ok tt) s) (performs_came d e u w answers answer p)
 
-does_came : (c : Processing) (o : Option Op) (c2 : Processing) (v w : PortValue) (before after : ℕ) (end : TurnEnd) → DoesNext c o c2 v w before after end → Came v w
-does_came c (Some op) c2 v w before after end d = works_came c.domain (pairs_of op) v w c.done d.to before after d.answer d.works
-does_came c None c2 v w before after end d = same_came v w d.no_step
+ext_came : (d : ℕ) (o : Option ExtOp) (v w : PortValue) (answers : List Bool) (answer : Result (Unit {0}) Stop) → FitsExt d o v w answers answer → Came v w
+ext_came d None v w answers answer f = absurd f
+ext_came d (Some op) v w answers answer f = extends_came d (elements.element_of op) v w answers answer f
 
-pub turn_came : (c c2 : Processing) (end : TurnEnd) (v w : PortValue) (before after : ℕ) → IsTurn c c2 end v w before after → Came v w
-turn_came c c2 end v w before after t =
+fits_came : (d : ℕ) (list : OpList) (k : ℕ) (v w : PortValue) (answers : List Bool) (answer : Result (Unit {0}) Stop) → fits_of d list k v w answers answer → Came v w
+fits_came d (OfPairs list) k v w answers answer f = pair_came d (slice_get list k) v w answers answer f
+fits_came d (OfExt list) k v w answers answer f = ext_came d (slice_get list k) v w answers answer f
+
+did_came : (d : ℕ) (list : OpList) (count from : ℕ) (v : PortValue) (k : ℕ) (w : PortValue) (answers : List Bool) → DidItems (fits_of d list) count from v k w answers → Came v w
+did_came d list count from v _ _ _ none = came_self v
+did_came d list count from v _ _ _ (more k u w answers asked before f less) = came_trans v u w (did_came d list count from v k u answers before) (fits_came d list k u w asked (Ok tt) f)
+
+list_came : (d : ℕ) (list : OpList) (count from : ℕ) (v : PortValue) (to : ℕ) (w : PortValue) (answers : List Bool) (answer : Result (Unit {0}) Stop) → WorksOn (fits_of d list) count from v to w answers answer →
+    Came v w
+list_came d list count from v _ _ _ _ (all_done same) = came_self v
+list_came d list count from v _ _ _ _ (last_done k u w answers asked before f at) = came_trans v u w (did_came d list count from v k u answers before) (fits_came d list k u w asked (Ok tt) f)
+list_came d list count from v _ _ _ _ (due k u w answers asked before f less) = came_trans v u w (did_came d list count from v k u answers before) (fits_came d list k u w asked (Ok tt) f)
+list_came d list count from v _ _ _ _ (stopped k u w answers asked e before f less) = came_trans v u w (did_came d list count from v k u answers before) (fits_came d list k u w asked (Err e) f)
+
+works_came : (d : ℕ) (o : Option OpList) (v w : PortValue) (from to : ℕ) (answers : List Bool) (answer : Result (Unit {0}) Stop) → Works d o v from to w answers answer → Came v w
+works_came d None v w from to answers answer a = same_came v w a.no_step
+works_came d (Some list) v w from to answers answer (inl a) = same_came v w a.1.no_step
+works_came d (Some list) v w from to answers answer (inr a) = list_came d list (length_of list) from v to w answers answer a.1
+
+does_came : (c : Processing) (o : Option Op) (c2 : Processing) (v w : PortValue) (answers : List Bool) (end : TurnEnd) → DoesNext c o c2 v w answers end → Came v w
+does_came c (Some op) c2 v w answers end d = works_came c.domain (list_of op) v w c.done d.to answers d.answer d.works
+does_came c None c2 v w answers end d = same_came v w d.no_step
+
+goes_came : (c : Processing) (o : Option Op) (c2 : Processing) (v w : PortValue) (answers : List Bool) (end : TurnEnd) → Goes c o v c2 w answers end → Came v w
+goes_came c o _ v _ _ _ (turning.unsettled w answers p s) = settles_came v w answers (Err (Paused p)) s
+goes_came c o _ v _ _ _ (turning.settled u w c2 early answers end s d) = came_trans v u w (settles_came v u early (Ok tt) s) (does_came c o c2 u w answers end d)
+
+pub turn_came : (c c2 : Processing) (end : TurnEnd) (v w : PortValue) (answers : List Bool) → IsTurn c c2 end v w answers → Came v w
+turn_came c c2 end v w answers t =
     came_trans v t.begun w (begins_came v t.begun t.begins)
-    (came_trans t.begun t.worked w (does_came c (slice_get c.script (length c.log)) c2 t.begun t.worked before after end t.does) (ends_came end t.worked w t.ends))
+    (came_trans t.begun t.worked w (goes_came c (slice_get c.script (length c.log)) c2 t.begun t.worked answers end t.does) (ends_came end t.worked w t.ends))
 
 -- ---- pauses
 abbrev pub AloneStays : Type 0
@@ -79,68 +108,103 @@ NeitherLostNorBusy = (v w : PortValue) (r : Request) (x : Pause) → IsAlone v �
 abbrev pub NobodyWaitedFor : Type 0
 NobodyWaitedFor = (v w : PortValue) (r : Request) (u stamp x : ℕ) → length v.post.machine.vcpu_domain ≡ 1 → Stops v w r (Paused (Flush u stamp x)) → ⊥
 
-destroys_none : (d : ℕ) (e : Element) → (request_of d e).destroys ≡ None
-destroys_none d (SetM2p f w) = refl
-destroys_none d (Write f i w) = refl
-destroys_none d Misaligned = refl
-destroys_none d Unknown = refl
+pair_destroys : (d : ℕ) (e : updating.Element) → (pairs.request_of d e).destroys ≡ None
+pair_destroys d (updates.SetM2p f w) = refl
+pair_destroys d (updates.Write f i w) = refl
+pair_destroys d updates.Misaligned = refl
+pair_destroys d updates.Unknown = refl
+
+element_destroys : (d : ℕ) (e : Element) (answer : Result (Unit {0}) Stop) → (elements.request_of d e answer).destroys ≡ None
+element_destroys d (performs.Pin f level) answer = refl
+element_destroys d (performs.Unpin f) answer = refl
+element_destroys d performs.Unknown answer = refl
+
+-- so ends no turn of a vCPU of the machine
+abbrev Spared : PortValue → Result (Unit {0}) Stop → Type 0
+Spared v answer = (to : ℕ) → IsUnhindered v.post.machine (end_of to answer)
+
+-- one that is alone, and of its machine
+record IsSpared (v : PortValue) : Type 0 where
+  alone : IsAlone v
+  real : v.post.vcpu < length v.post.machine.vcpu_domain
 
 module _ (stays : AloneStays) (neither : NeitherLostNorBusy) (nobody : NobodyWaitedFor) where
-  paused_for : (v w : PortValue) (d : ℕ) (e : Element) (x : Pause) → IsAlone v → v.post.vcpu < length v.post.machine.vcpu_domain → Stops v w (request_of d e) (Paused x) →
-      IsUnhindered v.post.machine (ends.Paused x)
-  paused_for v w d e Due alone real stops = tt
-  paused_for v w d e (Lost place expected found) alone real stops = neither v w (request_of d e) (Lost place expected found) alone (destroys_none d e) stops
-  paused_for v w d e (Busy frame found) alone real stops = neither v w (request_of d e) (Busy frame found) alone (destroys_none d e) stops
-  paused_for v w d e (Alive vcpu found) alone real stops = neither v w (request_of d e) (Alive vcpu found) alone (destroys_none d e) stops
-  paused_for v w d e (Flush vcpu stamp found) alone real stops =
+  paused_for : (v w : PortValue) (r : Request) (x : Pause) → r.destroys ≡ None → IsSpared v → Stops v w r (Paused x) → IsUnhindered v.post.machine (ends.Paused x)
+  paused_for v w r Due kept s stops = tt
+  paused_for v w r (Lost place expected found) kept s stops = neither v w r (Lost place expected found) s.alone kept stops
+  paused_for v w r (Busy frame found) kept s stops = neither v w r (Busy frame found) s.alone kept stops
+  paused_for v w r (Alive vcpu found) kept s stops = neither v w r (Alive vcpu found) s.alone kept stops
+  paused_for v w r (Flush vcpu stamp found) kept s stops =
       elim (cases_eq (length v.post.machine.vcpu_domain) 1) [
-        | inl one ↦ absurd (nobody v w (request_of d e) vcpu stamp found one stops)
-        | inr other ↦ omega (arith, real, other)
+        | inl one ↦ absurd (nobody v w r vcpu stamp found one stops)
+        | inr other ↦ (let real = s.real in omega (arith, real, other))
       ]
 
-  stopped_pair : (d : ℕ) (o : Option Pair) (v w : PortValue) (x : Pause) → IsAlone v → v.post.vcpu < length v.post.machine.vcpu_domain → FitsPair d o v w (Err (Paused x)) →
-      IsUnhindered v.post.machine (ends.Paused x)
-  stopped_pair d None v w x alone real f = absurd f
-  stopped_pair d (Some p) v w x alone real f = paused_for v w d (element_of p) x alone real f.stops
+  -- a call that destroys nothing
+  call_spared : (v w : PortValue) (r : Request) (answer : Result (Unit {0}) Stop) → r.destroys ≡ None → IsSpared v → IfErr answer (λ e. Stops v w r e) → Spared v answer
+  call_spared v w r (Ok done) kept s stops to = tt
+  call_spared v w r (Err (Refused x)) kept s stops to = tt
+  call_spared v w r (Err (Paused x)) kept s stops to = paused_for v w r x kept s stops
 
-  due_unhindered : (n : Machine) (x : Pause) → Paused x ≡ Paused Due → IsUnhindered n (ends.Paused x)
-  due_unhindered n Due e = tt
-  due_unhindered n (Lost place expected found) e = absurd cc
-  due_unhindered n (Busy frame found) e = absurd cc
-  due_unhindered n (Alive vcpu found) e = absurd cc
-  due_unhindered n (Flush vcpu stamp found) e = absurd cc
+  -- behind steps of the own
+  spared_on : (v u : PortValue) → Came v u → IsSpared v → IsSpared u
+  spared_on v u came s = record { alone = stays v u s.alone came; real = subst (λ (q : Post). q.vcpu < length q.machine.vcpu_domain) (sym (came_post v u came)) s.real }
 
-  refused_whole : (n : Machine) (to : ℕ) (x : Refusal) (answer : Result (Unit {0}) Stop) → answer ≡ Err (Refused x) → IsUnhindered n (end_of to answer)
-  refused_whole n to x answer e = rw e tt
+  spared_back : (v u : PortValue) (answer : Result (Unit {0}) Stop) → Came v u → Spared u answer → Spared v answer
+  spared_back v u answer came s to = subst (λ (q : Post). IsUnhindered q.machine (end_of to answer)) (came_post v u came) (s to)
 
-  list_unhindered : (d : ℕ) (pairs : List Pair) (count from to n asked : ℕ) (v w : PortValue) (answer : Result (Unit {0}) Stop) → IsAlone v → v.post.vcpu < length v.post.machine.vcpu_domain →
-      Ends (PairFits d pairs) no_asks count from to n asked v w answer → IsUnhindered v.post.machine (end_of to answer)
-  list_unhindered d pairs count from to n asked v w (Ok done) alone real e = tt
-  list_unhindered d pairs count from to n asked v w (Err (Refused x)) alone real e = tt
-  list_unhindered d pairs count from to n asked v w (Err (Paused x)) alone real (inl e) = due_unhindered v.post.machine x e.0
-  list_unhindered d pairs count from to n asked v w (Err (Paused x)) alone real (inr e) = stopped_pair d (slice_get pairs to) v w x alone real e.1
+  settles_spared : (v w : PortValue) (answers : List Bool) (answer : Result (Unit {0}) Stop) → IsSpared v → Settles v w answers answer → Spared v answer
+  settles_spared v w answers answer s settles = call_spared v w (of_settle 0 0 answer) answer refl s (settles.stops 0 0)
 
-  -- a turn begins at v, and its work at u
-  module _ (v : PortValue) (real : v.post.vcpu < length v.post.machine.vcpu_domain) where
-    there : (u : PortValue) → Came v u → u.post.vcpu < length u.post.machine.vcpu_domain
-    there u came = subst (λ (q : Post). q.vcpu < length q.machine.vcpu_domain) (sym (came_post v u came)) real
+  pair_spared : (d : ℕ) (o : Option Pair) (v w : PortValue) (answers : List Bool) (answer : Result (Unit {0}) Stop) → IsSpared v → FitsPair d o v w answers answer → Spared v answer
+  pair_spared d None v w answers answer s f = absurd f
+  pair_spared d (Some p) v w answers answer s f = call_spared v w (pairs.request_of d (pairs.element_of p)) answer (pair_destroys d (pairs.element_of p)) s f.0.stops
 
-    works_unhindered : (d : ℕ) (o : Option (List Pair)) (u w : PortValue) (from to before after : ℕ) (answer : Result (Unit {0}) Stop) → IsAlone v → Came v u →
-        Works d o u w from to before after answer → IsUnhindered v.post.machine (end_of to answer)
-    works_unhindered d None u w from to before after answer alone came a = refused_whole v.post.machine to _ answer a.refused
-    works_unhindered d (Some pairs) u w from to before after answer alone came (inl a) = refused_whole v.post.machine to _ answer a.1.refused
-    works_unhindered d (Some pairs) u w from to before after answer alone came (inr a) =
-        let last = a.1.last in
-        let before_last = came_trans v u last came (did_came d pairs from u to a.1.number last a.1.did) in
-        subst (λ (q : Post). IsUnhindered q.machine (end_of to answer)) (came_post v last before_last)
-        (list_unhindered d pairs (length pairs) from to a.1.number a.1.asked last w answer (stays v last alone before_last) (there last before_last) a.1.ends)
+  extends_spared : (d : ℕ) (e : Element) (v w : PortValue) (answers : List Bool) (answer : Result (Unit {0}) Stop) → IsSpared v → Extends d e v w answers answer → Spared v answer
+  extends_spared d e v _ _ _ s (unsettled w answers stop settles) = settles_spared v w answers (Err stop) s settles
+  extends_spared d e v _ _ _ s (performed u w early answers answer settles p) =
+      let came = settles_came v u early (Ok tt) settles in
+      spared_back v u answer came (call_spared u w (elements.request_of d e answer) answer (element_destroys d e answer) (spared_on v u came s) p.stops)
 
-    does_unhindered : (c : Processing) (o : Option Op) (c2 : Processing) (u w : PortValue) (before after : ℕ) (end : TurnEnd) → IsAlone v → Came v u → DoesNext c o c2 u w before after end →
-        IsUnhindered v.post.machine end
-    does_unhindered c (Some op) c2 u w before after end alone came d =
-        subst (IsUnhindered v.post.machine) (sym d.end_is) (works_unhindered c.domain (pairs_of op) u w c.done d.to before after d.answer alone came d.works)
-    does_unhindered c None c2 u w before after end alone came d = subst (IsUnhindered v.post.machine) (sym d.end_is) tt
+  ext_spared : (d : ℕ) (o : Option ExtOp) (v w : PortValue) (answers : List Bool) (answer : Result (Unit {0}) Stop) → IsSpared v → FitsExt d o v w answers answer → Spared v answer
+  ext_spared d None v w answers answer s f = absurd f
+  ext_spared d (Some op) v w answers answer s f = extends_spared d (elements.element_of op) v w answers answer s f
 
-    pub turn_unhindered : (c c2 : Processing) (end : TurnEnd) (w : PortValue) (before after : ℕ) → IsAlone v → IsTurn c c2 end v w before after → IsUnhindered v.post.machine end
-    turn_unhindered c c2 end w before after alone t =
-        does_unhindered c (slice_get c.script (length c.log)) c2 t.begun t.worked before after end alone (begins_came v t.begun t.begins) t.does
+  fits_spared : (d : ℕ) (list : OpList) (k : ℕ) (v w : PortValue) (answers : List Bool) (answer : Result (Unit {0}) Stop) → IsSpared v → fits_of d list k v w answers answer → Spared v answer
+  fits_spared d (OfPairs list) k v w answers answer s f = pair_spared d (slice_get list k) v w answers answer s f
+  fits_spared d (OfExt list) k v w answers answer s f = ext_spared d (slice_get list k) v w answers answer s f
+
+  list_spared : (d : ℕ) (list : OpList) (count from : ℕ) (v : PortValue) (to : ℕ) (w : PortValue) (answers : List Bool) (answer : Result (Unit {0}) Stop) → IsSpared v →
+      WorksOn (fits_of d list) count from v to w answers answer → Spared v answer
+  list_spared d list count from v _ _ _ _ s (all_done same) = λ to. tt
+  list_spared d list count from v _ _ _ _ s (last_done k u w answers asked before f at) = λ to. tt
+  list_spared d list count from v _ _ _ _ s (due k u w answers asked before f less) = λ to. tt
+  list_spared d list count from v _ _ _ _ s (stopped k u w answers asked e before f less) =
+      let came = did_came d list count from v k u answers before in
+      spared_back v u (Err e) came (fits_spared d list k u w asked (Err e) (spared_on v u came s) f)
+
+  refused_whole : (v : PortValue) (x : Refusal) (answer : Result (Unit {0}) Stop) → answer ≡ Err (Refused x) → Spared v answer
+  refused_whole v x answer e to = rw e tt
+
+  works_spared : (d : ℕ) (o : Option OpList) (v w : PortValue) (from to : ℕ) (answers : List Bool) (answer : Result (Unit {0}) Stop) → IsSpared v → Works d o v from to w answers answer → Spared v answer
+  works_spared d None v w from to answers answer s a = refused_whole v _ answer a.refused
+  works_spared d (Some list) v w from to answers answer s (inl a) = refused_whole v _ answer a.1.refused
+  works_spared d (Some list) v w from to answers answer s (inr a) = list_spared d list (length_of list) from v to w answers answer s a.1
+
+  does_spared : (c : Processing) (o : Option Op) (c2 : Processing) (v w : PortValue) (answers : List Bool) (end : TurnEnd) → IsSpared v → DoesNext c o c2 v w answers end → IsUnhindered v.post.machine end
+  does_spared c (Some op) c2 v w answers end s d =
+      subst (IsUnhindered v.post.machine) (sym d.end_is) (works_spared c.domain (list_of op) v w c.done d.to answers d.answer s d.works d.to)
+  does_spared c None c2 v w answers end s d = subst (IsUnhindered v.post.machine) (sym d.end_is) tt
+
+  goes_spared : (c : Processing) (o : Option Op) (c2 : Processing) (v w : PortValue) (answers : List Bool) (end : TurnEnd) → IsSpared v → Goes c o v c2 w answers end → IsUnhindered v.post.machine end
+  goes_spared c o _ v _ _ _ s (turning.unsettled w answers p settles) = settles_spared v w answers (Err (Paused p)) s settles c.done
+  goes_spared c o _ v _ _ _ s (turning.settled u w c2 early answers end settles d) =
+      let came = settles_came v u early (Ok tt) settles in
+      subst (λ (q : Post). IsUnhindered q.machine end) (came_post v u came) (does_spared c o c2 u w answers end (spared_on v u came s) d)
+
+  pub turn_unhindered : (v : PortValue) → v.post.vcpu < length v.post.machine.vcpu_domain → (c c2 : Processing) (end : TurnEnd) (w : PortValue) (answers : List Bool) → IsAlone v → IsTurn c c2 end v w answers →
+      IsUnhindered v.post.machine end
+  turn_unhindered v real c c2 end w answers alone t =
+      let came = begins_came v t.begun t.begins in
+      subst (λ (q : Post). IsUnhindered q.machine end) (came_post v t.begun came)
+      (goes_spared c (slice_get c.script (length c.log)) c2 t.begun t.worked answers end (spared_on v t.begun came (record { alone = alone; real = real })) t.does)

@@ -4,6 +4,8 @@ mod Walking
 pub mod Boarding
 mod Turning
 mod Asking
+mod Noes
+mod Stopping
 mod Starting
 pub mod Reaching
 mod Statuses

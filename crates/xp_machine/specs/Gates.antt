@@ -1,7 +1,6 @@
 -- Gates as the clause of `run` sees them.
-use Rattle.std.specs.Prelude.{◌≡◌, ℕ, Bool, true, false, List, [], ◌∷◌, Option, Some, None}
-use Rattle.xp_preempt.specs.Gates.{is_in_step}
-use Rattle.xp_preempt.specs.Gates.{Heard}
+use Rattle.std.specs.Prelude.{◌≡◌, ℕ, Bool, true, false, List, [], ◌∷◌, length, Option, Some, None}
+use Rattle.xp_preempt.specs.Gates.{Gives, asks_on, ends_yes, is_in_step}
 
 -- whether it never says yes; whether it has a pace; how often it was asked; and at which asks it says yes
 pub record Gate : Type 0 where
@@ -37,9 +36,11 @@ abbrev pub SetBy : Option ℕ → List Gate → List Gate → Type 0
 SetBy None before after = after ≡ before
 SetBy (Some every) before after = ArePaced every before after
 
--- h is g after a turn that was paused for it, or was not
-pub record IsConsulted (g h : Gate) (due : Bool) : Type 0 where
-  pub heard : Heard g.says g.asks h.asks due
+-- h is g after a turn in which it gave these answers, the newest first, and no others. Where the turn is paused for it, it said yes last.
+pub record IsConsulted (g h : Gate) (answers : List Bool) (due : Bool) : Type 0 where
+  pub gives : Gives g.says g.asks answers
+  pub asks : h.asks ≡ asks_on (length answers) g.asks
+  pub due_is : due ≡ true → ends_yes answers ≡ true
   pub says : (n : ℕ) → h.says n ≡ g.says n
   pub paces : h.paces ≡ g.paces
   pub calm : g.calm ≡ true → (due ≡ false) × (h.calm ≡ true)

@@ -8,4 +8,5 @@ pub mod Rows
 pub mod Runners
 pub mod Texts
 pub mod Turns
+pub mod Unpins
 pub mod Words

@@ -1,5 +1,5 @@
 -- A turn by the port of its vCPU, with the own gate.
-use Rattle.std.specs.Prelude.{◌≡◌, Bool, true, false, if◌then◌else◌, Option, Some, None}
+use Rattle.std.specs.Prelude.{◌≡◌, Bool, true, false, List, if◌then◌else◌, Option, Some, None}
 use Rattle.xp_board.specs.Told.{PortValue}
 use Rattle.vcpu_turn.specs.declared.cpu.TurnEnd.{TurnEnd}
 use Rattle.vcpu_turn.specs.Cpus.{Processing}
@@ -12,8 +12,9 @@ pub record TakesTurn (has left : Option Gate) (c c' : Processing) (v w : PortVal
   pub asked : Gate
   pub own : has ≡ Some gate
   pub end : TurnEnd
-  pub turn : IsTurn c c' end v w gate.asks asked.asks
-  pub consulted : IsConsulted gate asked (is_due end)
+  pub answers : List Bool
+  pub turn : IsTurn c c' end v w answers
+  pub consulted : IsConsulted gate asked answers (is_due end)
   pub left_is : left ≡ (if c'.retired then None else Some asked)
 
 pub record Rested (has left : Option Gate) (c c' : Processing) (v w : PortValue) : Type 0 where

@@ -40,7 +40,7 @@ IsUnhindered n (ends.Paused (Alive vcpu found)) = ⊥
 IsUnhindered n (ends.Paused (Flush vcpu stamp found)) = 1 < length n.vcpu_domain
 IsUnhindered n _ = Unit {0}
 
--- vCPU v makes a turn by steps that lead from one stage to the other, and asks its own gate. One that retires lets that go.
+-- vCPU v makes a turn by steps that lead from one stage to the other, in which its own gate gives these answers. One that retires lets that go.
 pub record MakesStagedTurn (n : Machine) (v : ℕ) (c : Processing) (s s' : Stage) : Type 0 where
   pub gate : Gate
   pub asked : Gate
@@ -53,8 +53,9 @@ pub record MakesStagedTurn (n : Machine) (v : ℕ) (c : Processing) (s s' : Stag
   pub to : PortValue
   pub from_is : IsPortOf n v s.board from
   pub to_is : IsPortOf n v s'.board to
-  pub turn : turning.IsTurn c after end from to gate.asks asked.asks
-  pub consulted : IsConsulted gate asked (is_due end)
+  pub answers : List Bool
+  pub turn : turning.IsTurn c after end from to answers
+  pub consulted : IsConsulted gate asked answers (is_due end)
   pub unhindered : IsUnhindered n end
   pub cpus : s'.cpus ≡ slice_set s.cpus v after
   pub gates : s'.gates ≡ slice_set s.gates v (if after.retired then None else Some asked)
