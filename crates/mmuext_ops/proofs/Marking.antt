@@ -1,6 +1,6 @@
 -- An exchange of a kind word that sets a mark or takes it off, behind a look at that word: a step of a call that may mark frames, and why
 -- the call stops where the exchange finds another word.
-use Rattle.std.proofs.Common.{◌≡◌, ◌≢◌, ℕ, ◌+◌, true, false, List, [], ◌∷◌, ◌++◌, length, Some, None, IsTrue, refl, ap, ◌∙◌, subst, arith, inr}
+use Rattle.std.proofs.Common.{◌≡◌, ◌≢◌, ℕ, true, false, List, [], ◌∷◌, ◌++◌, length, Some, None, IsTrue, refl, ap, ◌∙◌, subst, arith, inr}
 use Rattle.xp_words.specs.KindWords.{kind_fields}
 use Rattle.xp_words.specs.PageTypes.{type_number}
 use Rattle.xp_words.specs.Machine.{Machine}

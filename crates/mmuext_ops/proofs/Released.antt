@@ -15,10 +15,11 @@ use Rattle.xp_board.specs.Hands.{owner_from, without_ref}
 use Rattle.xp_board.specs.KindSteps.{live_typed}
 use Rattle.xp_board.specs.Told.{Post, PortValue}
 use Rattle.step_maker.specs.Holds.{Holds, Rests, Same, quiet, still}
-use Rattle.step_maker.specs.Moves.{Met}
+use Rattle.step_maker.specs.Moves.{Came, Met}
 use Rattle.step_maker.proofs.Coming.{came_post, met_after}
 use Rattle.answer_fits.specs.Answers.{Serves, Unpins, misses}
 use Rattle.answer_fits.proofs.Piecing.{serves_came, serves_inner}
+use Rattle.flush_words.proofs.Lasting.{came_longer}
 use Rattle.frame_words.specs.Freeing.{gave}
 use Rattle.frame_words.specs.Refs.{took}
 use Rattle.kind_words.specs.Kinds.{looked_at}
@@ -85,8 +86,8 @@ module _ (v a b q r : PortValue) (d g : ℕ) (rests : Rests v) (taken : Holds v 
         ∙ ap (λ (rs : List Reference). still (record v { holdings = record v.holdings { refs = rs; typed = count ∷ v.holdings.typed } })) ref_gone
         ∙ ap (λ (ys : List TypedReference). still (record v { holdings = record v.holdings { typed = count ∷ ys } })) rests.empty.typed
 
-    pub holds_live : HoldsLive r g k.kind
-    holds_live =
+    pub holds_live : Came b r → HoldsLive r g k.kind
+    holds_live came =
         record {
           works = ap (λ (y : PortValue). y.holdings.works) live_hand ∙ rests.empty.works;
           looking = ap (λ (y : PortValue). y.holdings.looking) live_hand ∙ rests.empty.looking;
@@ -94,6 +95,7 @@ module _ (v a b q r : PortValue) (d g : ℕ) (rests : Rests v) (taken : Holds v 
           typed = ap (λ (y : PortValue). y.holdings.typed) live_hand;
           frame = refl;
           live = known_first (sizes_of r.post.machine) g k.kind (owner_from b.holdings) [] r.holdings (ap (λ (y : PortValue). y.holdings.typed) live_hand);
+          recent = came_longer b r came;
         }
 
     module _ (w : PortValue) (f : ℕ) (at : g ≡ f) where

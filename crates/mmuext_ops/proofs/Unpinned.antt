@@ -1,5 +1,5 @@
 -- An unpin: what its words tell, its calls one behind the other, what is in hand behind each, and why it is not done.
-use Rattle.std.proofs.Common.{◌≡◌, ◌≢◌, ℕ, ◌+◌, ◌<◌, nat_lt, not, Bool, true, false, List, [], ◌∷◌, ◌++◌, ◌^◌, Some, None, Result, Ok, Err, is_some, IfErr, IsTrue, refl, sym, ap, ◌∙◌, subst, arith}
+use Rattle.std.proofs.Common.{◌≡◌, ◌≢◌, ℕ, ◌<◌, nat_lt, not, Bool, true, false, List, [], ◌∷◌, ◌++◌, ◌^◌, Some, None, Result, Ok, Err, is_some, IfErr, IsTrue, refl, sym, ap, ◌∙◌, subst, arith}
 use Rattle.std.proofs.lemmas.Bool.{and_parts}
 use Rattle.std.proofs.lemmas.Bool.Decides.{nat_tests}
 use Rattle.xp_words.specs.KindWords.{has_form, is_kind, kind_fields, kind_read, kind_write}

@@ -6,6 +6,7 @@ use Rattle.xp_words.specs.declared.reply.Refusal.TheVariants.{NotPinned}
 use Rattle.xp_words.specs.declared.reply.Stop.TheVariants.{Refused}
 use Rattle.board_lemmas.proofs.KindForms.{fields_of}
 use Rattle.step_maker.specs.Holds.{quiet}
+use Rattle.step_maker.proofs.Coming.{came_trans, moves_came}
 use Rattle.answer_fits.specs.Answers.{missed}
 use Rattle.answer_fits.specs.Asked.{of_back, of_frame}
 use Rattle.answer_fits.proofs.Piecing.{serves_came}
@@ -141,6 +142,7 @@ release-requires-clause-holds g c =
     let r = g.P.Port.value c.put_ref-in-Ok.new.port in
     let k = c.read_kind-kind.result in
     holds_live v a b q r c.args.domain c.in_ok-frame.frame c.requires.rests c.in_ok-frame.ensures.hand c.look_kind-found.ensures.hand k c.in-Ok.ensures.hand c.put_ref-in-Ok.ensures.hand
+    (came_trans b q r (moves_came b q _ _ _ _ _ c.in-Ok.ensures.moves) (serves_came q r (of_back c.in_ok-frame.frame) [] c.put_ref-in-Ok.ensures.serves))
 
 pub returns-in-Ok-release-clause-serves : goal.returns-in-Ok-release-clause-serves
 returns-in-Ok-release-clause-serves g c =
