@@ -1,5 +1,5 @@
 -- The frame that an old word named was found partial: the exchange that takes it into work again, and what follows it, serve the word.
-use Rattle.std.proofs.Common.{◌≡◌, ◌≢◌, ℕ, ◌+◌, if◌then◌else◌, Bool, true, false, [], ◌∷◌, ◌++◌, length, None, Some, IsTrue, refl, sym, ap, ◌∙◌, subst, arith, inl}
+use Rattle.std.proofs.Common.{◌≡◌, ◌≢◌, ℕ, if◌then◌else◌, Bool, true, false, [], ◌∷◌, ◌++◌, length, None, Some, IsTrue, refl, sym, ap, ◌∙◌, subst, arith, inl}
 use Rattle.xp_words.specs.KindWords.{is_kind, kind_fields, kind_read, kind_write}
 use Rattle.xp_words.specs.Places.{number, place_at, sizes_of}
 use Rattle.xp_words.specs.declared.kind.KindWord.{KindWord}

@@ -1,5 +1,5 @@
 -- Tables that are released, as what is in hand for them: the innermost one, and a hand that is another one then.
-use Rattle.std.proofs.Common.{◌≡◌, ℕ, ◌+◌, ◌≤◌, Bool, true, false, List, [], ◌∷◌, length, Option, Some, None, refl, sym, ap, ◌∙◌, subst, arith}
+use Rattle.std.proofs.Common.{◌≡◌, ℕ, ◌≤◌, Bool, true, false, List, [], ◌∷◌, length, Option, Some, None, refl, sym, ap, ◌∙◌, subst, arith}
 use Rattle.xp_words.specs.Machine.{IsMachine}
 use Rattle.xp_words.specs.Places.{Sizes, sizes_of}
 use Rattle.xp_board.specs.declared.holdings.Holdings.{Holdings}

@@ -1,7 +1,7 @@
 -- The tables in the own works are of different frames, and no lock or claim is one of them: any sound state says so.
-use Rattle.std.proofs.Common.{◌≡◌, ◌≢◌, ℕ, ◌+◌, ◌<◌, ◌≤◌, ◌||◌, Bool, true, false, List, [], ◌∷◌, ◌++◌, Option, Some, None, IsTrue, refl, sym, ap, ◌∙◌, subst, arith, inl, inr}
+use Rattle.std.proofs.Common.{◌≡◌, ◌≢◌, ℕ, ◌+◌, ◌<◌, ◌≤◌, true, false, List, [], ◌∷◌, ◌++◌, Option, Some, None, IsTrue, refl, sym, ap, ◌∙◌, subst, arith, inl, inr}
 use Rattle.std.proofs.lemmas.Bool.Decides.{nat_tests}
-use Rattle.xp_words.specs.KindWords.{has_form, kind_fields}
+use Rattle.xp_words.specs.KindWords.{has_form}
 use Rattle.xp_words.specs.Machine.{Machine}
 use Rattle.xp_words.specs.Places.{Sizes, is_place, sizes_of}
 use Rattle.xp_words.specs.declared.kind.KindWord.{KindWord}
@@ -10,7 +10,7 @@ use Rattle.xp_words.specs.declared.place.Place.TheVariants.{Kind, Refs}
 use Rattle.xp_board.specs.After.{learned_cell, learned_claim, learned_lock, learned_work}
 use Rattle.xp_board.specs.Hands.{changed_claim, changed_lock, changed_work, claim_of, claims_of, endings_of, lock_on, locks_on, refs_to, work_on, works_on}
 use Rattle.xp_board.specs.Lists.{first_by}
-use Rattle.xp_board.specs.Readings.{is_closing, is_locked, is_work, kind_at, ref_count, type_count}
+use Rattle.xp_board.specs.Readings.{is_closing, is_locked, kind_at, ref_count}
 use Rattle.xp_board.specs.Sound.{is_busy}
 use Rattle.xp_board.specs.Spelling.{IsSpelling}
 use Rattle.xp_board.specs.Told.{Finds, PortValue}
@@ -111,8 +111,8 @@ module _ (n : Machine) (s : ℕ) (h : Holdings) (p : Place) (w : ℕ) (finds : F
               omega (arith, one, low)
           | inr closing ↦
               let low =
-                  in_hand_counted (sizes_of n) finds.words finds.hands s f finds.real finds.sound.counts
-                  (subst (λ g. 0 < refs_to g (finds.hands s).refs) facts.frame (facts.agrees.closing (subst (λ k. IsTrue (is_closing k)) (work_word n finds.words finds.hands s f e facts) closing))) in
+              in_hand_counted (sizes_of n) finds.words finds.hands s f finds.real finds.sound.counts
+              (subst (λ g. 0 < refs_to g (finds.hands s).refs) facts.frame (facts.agrees.closing (subst (λ k. IsTrue (is_closing k)) (work_word n finds.words finds.hands s f e facts) closing))) in
               omega (arith, low)
         ]
 

@@ -1,5 +1,5 @@
 -- The innermost table, of which nothing is recorded any more, is left dead, and its reference given back.
-use Rattle.std.proofs.Common.{◌≡◌, ◌≢◌, ℕ, ◌^◌, ◌+◌, ◌<◌, ◌≤◌, ◌==◌, Bool, true, false, List, ◌∷◌, length, Option, Some, None, IsTrue, refl, sym, ap, ◌∙◌, subst, arith, inl}
+use Rattle.std.proofs.Common.{◌≡◌, ◌≢◌, ℕ, ◌^◌, ◌<◌, ◌≤◌, ◌==◌, Bool, true, false, List, ◌∷◌, length, Some, None, IsTrue, refl, sym, ap, ◌∙◌, subst, arith, inl}
 use Rattle.xp_words.specs.KindWords.{kind_fields, kind_write}
 use Rattle.xp_words.specs.Places.{sizes_of}
 use Rattle.xp_words.specs.declared.kind.KindWord.{KindWord}
@@ -8,7 +8,7 @@ use Rattle.xp_words.specs.declared.place.Place.TheVariants.{Clock, Kind}
 use Rattle.xp_board.specs.Hands.{refs_to, typed_owner, typed_to, without_work, work_on}
 use Rattle.xp_board.specs.Readings.{is_work}
 use Rattle.xp_board.specs.Steps.{some_since}
-use Rattle.xp_board.specs.Told.{Post, PortValue}
+use Rattle.xp_board.specs.Told.{PortValue}
 use Rattle.xp_board.specs.declared.holdings.Holdings.{Holdings}
 use Rattle.xp_board.specs.declared.holdings.Reference.{Reference}
 use Rattle.xp_board.specs.declared.holdings.TypedReference.{TypedReference}
@@ -34,8 +34,8 @@ use Rattle.partial_state.specs.declared.stack.TableWork.{TableWork}
 use Rattle.level_release.specs.Holding.{AreRefs, AreTyped, Empties}
 use Rattle.level_release.proofs.Hands.{hands_by, tables_later, tables_outer, typed_later}
 use Rattle.level_release.proofs.HandsApart.{none_else, others_apart, tables_apart}
-use Rattle.level_release.proofs.HandsKnown.{AreApart, Still, known_still, owned_apart, still_less, still_same}
-use Rattle.level_release.proofs.HandsTop.{closing_closes, closing_gone, closing_ref, closing_typed, hands_same, own_gone, own_held, own_refs, own_typed, own_works, top, top_gone, top_here}
+use Rattle.level_release.proofs.HandsKnown.{Still, known_still, owned_apart, still_less, still_same}
+use Rattle.level_release.proofs.HandsTop.{closing_closes, closing_ref, closing_typed, hands_same, own_gone, own_held, own_refs, own_typed, own_works, top, top_gone, top_here}
 
 -- what is left of the references then: an untyped one to that frame in front of the others
 pub record DeadHand (h : Holdings) (x d : PortValue) (t : TableWork) (ts : List TableWork) (others : List Work) : Type 0 where
@@ -52,7 +52,6 @@ pub record DeadHand (h : Holdings) (x d : PortValue) (t : TableWork) (ts : List 
 module _ (h : Holdings) (x : PortValue) (t : TableWork) (ts : List TableWork) (s : Empties h x (t ∷ ts)) (empty : t.done ≡ 512) where
   none_left : (top h x t ts s).work.recorded ≡ 0
   none_left = let all = (top h x t ts s).is.recorded in omega (arith, all, empty)
-
 
   counts : (b : Bool) → t.own ≡ b → IsTrue (is_work (kind_fields (top h x t ts s).work.word)) → 0 < typed_to t.frame x.holdings.typed
   counts true own work = own_held h x t ts s own

@@ -1,14 +1,11 @@
 -- The last recorded entry of the innermost table is looked at, or given back.
-use Rattle.std.proofs.Common.{◌≡◌, ℕ, ◌+◌, ◌-◌, ◌<◌, ◌≤◌, if◌then◌else◌, List, ◌∷◌, length, Some, None, refl, ap, ◌∙◌, arith}
-use Rattle.xp_words.specs.KindWords.{kind_fields}
+use Rattle.std.proofs.Common.{◌≡◌, ℕ, ◌+◌, ◌≤◌, if◌then◌else◌, List, ◌∷◌, length, Some, None, refl, ap, ◌∙◌, arith}
 use Rattle.xp_words.specs.Places.{Sizes, sizes_of}
-use Rattle.xp_board.specs.After.{counts_fixed, learned_cell, learned_last, learned_work}
+use Rattle.xp_board.specs.After.{learned_cell, learned_last, learned_work}
 use Rattle.xp_board.specs.Hands.{changed_work}
 use Rattle.xp_board.specs.Lists.{changed_by}
-use Rattle.xp_board.specs.Told.{Post, PortValue}
+use Rattle.xp_board.specs.Told.{PortValue}
 use Rattle.xp_board.specs.declared.holdings.Holdings.{Holdings}
-use Rattle.xp_board.specs.declared.holdings.Reference.{Reference}
-use Rattle.xp_board.specs.declared.holdings.TypedReference.{TypedReference}
 use Rattle.xp_board.specs.declared.holdings.Work.{Work}
 use Rattle.board_lemmas.proofs.Sums.{when_eq}
 use Rattle.step_maker.specs.Holds.{Holds, still}
@@ -19,7 +16,7 @@ use Rattle.table_entries.proofs.HandReady.{unmarked_learns}
 use Rattle.partial_state.specs.declared.stack.TableWork.{TableWork}
 use Rattle.table_releases.specs.Tops.{shed_once}
 use Rattle.level_release.specs.Course.{one_more}
-use Rattle.level_release.specs.Holding.{AreTables, Empties, IsTableWork}
+use Rattle.level_release.specs.Holding.{Empties, IsTableWork}
 use Rattle.level_release.proofs.Hands.{hands_by, tables_done, tables_later, typed_later}
 use Rattle.level_release.proofs.HandsApart.{FirstFound, looked_apart}
 use Rattle.level_release.proofs.HandsKnown.{owned_still}

@@ -1,8 +1,7 @@
 -- The outermost table was left partial: it is named in the first old word.
-use Rattle.std.proofs.Common.{◌≡◌, ℕ, ◌+◌, ◌<◌, List, [], ◌∷◌, length, Some, None, refl, sym, ap, ◌∙◌, subst}
+use Rattle.std.proofs.Common.{◌≡◌, ◌+◌, ◌<◌, List, [], ◌∷◌, length, Some, None, refl, sym, ap, ◌∙◌, subst}
 use Rattle.xp_words.specs.Machine.{IsMachine}
 use Rattle.xp_words.specs.Places.{sizes_of}
-use Rattle.xp_board.specs.Hands.{typed_to}
 use Rattle.xp_board.specs.Told.{Post, PortValue}
 use Rattle.xp_board.specs.declared.holdings.Holdings.{Holdings}
 use Rattle.xp_board.specs.declared.holdings.TypedReference.{TypedReference}
@@ -36,9 +35,9 @@ module _ (h : Holdings) (v : PortValue) (t : TableWork) (s : Empties h v (t ∷ 
   named_stands x put =
       let e = top h v t [] s in
       let holds : Holds v x (record v.holdings { refs = k.refs; typed = k.typed; works = e.others; old0 = Some (t.frame + 1) }) =
-          put ∙ ap (λ (q : PortValue). still (record q { holdings = kept_in_old First t.frame q.holdings })) k.hand
-          ∙ ap (λ ys. still (record v { holdings = record v.holdings { refs = k.refs; typed = ys; works = e.others; old0 = Some (t.frame + 1) } }))
-          (without_newest (λ (y : TypedReference). y.frame) t.frame k.ref k.typed (k.ref ∷ k.typed) k.frame refl) in
+      put ∙ ap (λ (q : PortValue). still (record q { holdings = kept_in_old First t.frame q.holdings })) k.hand
+      ∙ ap (λ ys. still (record v { holdings = record v.holdings { refs = k.refs; typed = ys; works = e.others; old0 = Some (t.frame + 1) } }))
+      (without_newest (λ (y : TypedReference). y.frame) t.frame k.ref k.typed (k.ref ∷ k.typed) k.frame refl) in
       holds
       ∙ ap (λ (q : PortValue). record q { holdings = record q.holdings { refs = k.refs; typed = k.typed; works = e.others; old0 = Some (t.frame + 1) } }) s.hand
       ∙ ap (λ (p : Post). record { post = p; holdings = record h { refs = k.refs; typed = k.typed; works = e.others; old0 = Some (t.frame + 1); steps = [] }; told = None }) (sym (ap (λ (q : PortValue). q.post) holds))

@@ -1,13 +1,10 @@
 -- The frame that the last recorded entry of the innermost table names is to be released first: it is the innermost table then.
-use Rattle.std.proofs.Common.{◌≡◌, ℕ, suc, ◌+◌, ◌-◌, ◌<◌, ◌≤◌, not, Bool, true, false, List, ◌∷◌, length, Some, None, IsTrue, refl, sym, ap, ◌∙◌, subst, arith, inl, inr}
+use Rattle.std.proofs.Common.{◌≡◌, ℕ, suc, ◌+◌, ◌-◌, ◌<◌, ◌≤◌, not, Bool, true, false, List, ◌∷◌, length, Some, IsTrue, refl, sym, ap, ◌∙◌, subst, arith, inl, inr}
 use Rattle.std.proofs.lemmas.Bool.{cases_eq}
-use Rattle.xp_words.specs.Entries.{below, demand_at}
-use Rattle.xp_words.specs.KindWords.{kind_fields}
+use Rattle.xp_words.specs.Entries.{below}
 use Rattle.xp_words.specs.PageTypes.{is_table}
-use Rattle.xp_words.specs.Places.{Sizes, sizes_of}
+use Rattle.xp_words.specs.Places.{sizes_of}
 use Rattle.xp_words.specs.declared.entry.Demand.TheVariants.{Typed}
-use Rattle.xp_board.specs.Knowledge.{knows_owner}
-use Rattle.xp_board.specs.Readings.{is_closing, is_work}
 use Rattle.xp_board.specs.Told.{PortValue}
 use Rattle.xp_board.specs.declared.holdings.Holdings.{Holdings}
 use Rattle.xp_board.specs.declared.holdings.Reference.{Reference}
@@ -19,12 +16,12 @@ use Rattle.flush_words.proofs.Lasting.{came_longer}
 use Rattle.flush_waits.proofs.Growing.{came_grows}
 use Rattle.partial_state.proofs.LevelFacts.{level_type-below}
 use Rattle.partial_state.specs.Levels.{level_type}
-use Rattle.partial_state.specs.Stacks.{IsStack, IsTable, IsUnder}
+use Rattle.partial_state.specs.Stacks.{IsTable, IsUnder}
 use Rattle.partial_state.specs.declared.stack.TableWork.{TableWork}
 use Rattle.table_releases.specs.Tops.{IsSince, OwnsReleased, Reopens}
 use Rattle.table_releases.specs.declared.entries.Released.TheVariants.{Opened}
 use Rattle.level_release.specs.Course.{one_more, table_in}
-use Rattle.level_release.specs.Holding.{AreOwned, AreRefs, AreTables, AreTyped, Empties, IsAround, IsTableWork, RefFor, TypedFor}
+use Rattle.level_release.specs.Holding.{AreRefs, AreTyped, Empties, IsAround, IsTableWork, RefFor, TypedFor}
 use Rattle.level_release.proofs.Hands.{hands_by, tables_done, tables_later, typed_later}
 use Rattle.level_release.proofs.HandsApart.{FirstFound}
 use Rattle.level_release.proofs.HandsGiven.{shed_hand, shed_is, shed_work}
@@ -119,16 +116,20 @@ module _ (h : Holdings) (v : PortValue) (t : TableWork) (ts : List TableWork) (s
         let longer = came_longer v w came in
         let o = top h v t ts s in
         hands_by h v w (t ∷ ts) (new ∷ one_more t ∷ ts) rs ys (r.work ∷ outer ∷ o.others) s holds
-        (opened_table, opened_under, (record { low = s.stack.0.low; high = s.stack.0.high; done = omega (arith, next) }, s.stack.1, s.stack.2))
-        (new_is, tt, tables_later z (length v.holdings.steps) (length w.holdings.steps) (Some new) (one_more t ∷ ts) (outer ∷ o.others) longer
-          (shed_is z (length v.holdings.steps) i r.word t o.work next o.is, new_inside, tables_done z (length v.holdings.steps) t (t.done + 1) ts o.others o.around))
-        refs typed
-        (owns s.owner s.owned.0,
+        (opened_table, opened_under, (record { low = s.stack.0.low; high = s.stack.0.high; done = omega (arith, next) }, s.stack.1, s.stack.2)) (
+          new_is,
+          tt,
+          tables_later z (length v.holdings.steps) (length w.holdings.steps) (Some new) (one_more t ∷ ts) (outer ∷ o.others) longer
+              (shed_is z (length v.holdings.steps) i r.word t o.work next o.is, new_inside, tables_done z (length v.holdings.steps) t (t.done + 1) ts o.others o.around),
+        )
+        refs typed (
+          owns s.owner s.owned.0,
           owned_still z s.owner (t ∷ ts) v.holdings w.holdings
-          (λ f. known_still z f s.owner v.holdings w.holdings (came_grows v w came)
-          (subst (λ xs. Still (λ (e : Reference). e.frame) f v.holdings.refs xs) (sym (ap (λ (q : PortValue). q.holdings.refs) holds)) (still_refs f))
-          (subst (λ xs. Still (λ (e : TypedReference). e.frame) f v.holdings.typed xs) (sym (ap (λ (q : PortValue). q.holdings.typed) holds)) (still_typed f))
-          (ap (λ (q : PortValue). q.holdings.locks) holds)) s.owned)
+              (λ f. known_still z f s.owner v.holdings w.holdings (came_grows v w came)
+              (subst (λ xs. Still (λ (e : Reference). e.frame) f v.holdings.refs xs) (sym (ap (λ (q : PortValue). q.holdings.refs) holds)) (still_refs f))
+              (subst (λ xs. Still (λ (e : TypedReference). e.frame) f v.holdings.typed xs) (sym (ap (λ (q : PortValue). q.holdings.typed) holds)) (still_typed f))
+              (ap (λ (q : PortValue). q.holdings.locks) holds)) s.owned,
+        )
 
     pub opened_stands : Empties h w (new ∷ one_more t ∷ ts)
     unfolding outer
@@ -151,8 +152,8 @@ module _ (h : Holdings) (v : PortValue) (t : TableWork) (ts : List TableWork) (s
             let one = u.0 in
             let own : new.own ≡ true = ap (λ b. not b) is in
             let holds : Holds v w (record v.holdings { refs = v.holdings.refs; typed = one ∷ v.holdings.typed; works = r.work ∷ outer ∷ (top h v t ts s).others }) =
-                r.hand ∙ ap (λ (k : Holdings). still (record v { holdings = k })) u.3
-                ∙ ap (λ (k : Holdings). still (record v { holdings = record k { typed = one ∷ k.typed; works = r.work ∷ k.works } })) (shed_hand h v t ts s first i r.word) in
+            r.hand ∙ ap (λ (k : Holdings). still (record v { holdings = k })) u.3
+            ∙ ap (λ (k : Holdings). still (record v { holdings = record k { typed = one ∷ k.typed; works = r.work ∷ k.works } })) (shed_hand h v t ts s first i r.word) in
             opened_by v.holdings.refs (one ∷ v.holdings.typed) holds
             (ref_none new.own g (AreRefs h.refs (one_more t ∷ ts)) v.holdings.refs own s.refs)
             (typed_more new.own (length w.holdings.steps) g (AreTyped (length w.holdings.steps) (one_more t ∷ ts)) one v.holdings.typed (one ∷ v.holdings.typed) own u.1

@@ -2,11 +2,9 @@
 use Rattle.std.proofs.Common.{◌≡◌, ◌≢◌, ℕ, ◌+◌, ◌-◌, ◌<◌, ◌≤◌, List, [], ◌∷◌, length, Option, Some, None, IsTrue, refl, sym, ap, ◌∙◌, subst, arith, inl, inr}
 use Rattle.xp_words.specs.Entries.{demand_at}
 use Rattle.xp_words.specs.KindWords.{kind_fields, kind_write}
-use Rattle.xp_words.specs.Machine.{Machine}
 use Rattle.xp_words.specs.PageTypes.{is_table}
 use Rattle.xp_words.specs.Places.{Sizes, sizes_of}
 use Rattle.xp_words.specs.declared.entry.Demand.TheVariants.{Typed}
-use Rattle.xp_words.specs.declared.kind.PageType.{PageType}
 use Rattle.xp_words.specs.declared.place.Place.TheVariants.{Kind}
 use Rattle.xp_board.specs.Hands.{changed_work, work_on}
 use Rattle.xp_board.specs.Knowledge.{knows_owner}
@@ -36,10 +34,10 @@ use Rattle.table_words.specs.Entries.{RecordsNext, entry_recorded}
 use Rattle.table_words.proofs.EntryHands.{next_asks, record_left, unsettled_for}
 use Rattle.level_release.specs.Course.{one_less}
 use Rattle.level_release.specs.Holding.{AreOwned, Empties, IsTableWork}
-use Rattle.level_release.proofs.Hands.{TopTable, hands_by, tables_done, tables_later, tables_outer, tables_top, typed_later}
+use Rattle.level_release.proofs.Hands.{TopTable, hands_by, tables_done, tables_later, tables_top, typed_later}
 use Rattle.level_release.proofs.HandsApart.{others_apart, tables_apart}
 use Rattle.level_release.proofs.HandsGiven.{changed_first}
-use Rattle.level_release.proofs.HandsKnown.{AreApart, known_still, owned_apart, owned_still, still_less, still_same}
+use Rattle.level_release.proofs.HandsKnown.{AreApart, known_still, owned_apart, still_less, still_same}
 use Rattle.level_release.proofs.HandsLeft.{LeftHand, left_held, left_kind, left_partial_known, left_typed, partial_hand}
 use Rattle.level_release.proofs.HandsTop.{top}
 

@@ -5,7 +5,7 @@ use Rattle.xp_words.specs.declared.reply.Pause.TheVariants.{Busy, Due, Lost}
 use Rattle.xp_words.specs.declared.reply.Stop.{Stop}
 use Rattle.xp_words.specs.declared.reply.Stop.TheVariants.{Paused}
 use Rattle.xp_board.specs.Told.{PortValue}
-use Rattle.step_maker.specs.Moves.{Came, Met}
+use Rattle.step_maker.specs.Moves.{Met}
 use Rattle.answer_fits.specs.Answers.{Deed, Serves, Stops}
 use Rattle.answer_fits.specs.Asked.{IsAsked, Request}
 use Rattle.answer_fits.specs.Finding.{Finding}

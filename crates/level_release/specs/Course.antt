@@ -1,6 +1,6 @@
 -- The course of a release: the calls that it makes, from port to port, with the tables that are being released before and after each, and
 -- the answers of the gate, the newest first.
-use Rattle.std.specs.Prelude.{◌≡◌, ◌≢◌, ℕ, ◌+◌, ◌-◌, ◌<◌, ◌==◌, ◌&&◌, nat_le, nat_lt, not, Bool, true, false, List, [], ◌∷◌, ◌++◌, None, Some, Result, Ok, Err, IfErr}
+use Rattle.std.specs.Prelude.{◌≡◌, ◌≢◌, ℕ, ◌+◌, ◌-◌, ◌<◌, ◌==◌, ◌&&◌, nat_le, not, Bool, true, false, List, [], ◌∷◌, ◌++◌, None, Some, Result, Ok, Err, IfErr}
 use Rattle.xp_words.specs.KindWords.{kind_fields, kind_write}
 use Rattle.xp_words.specs.PageTypes.{is_table}
 use Rattle.xp_words.specs.Places.{number, sizes_of}
@@ -11,7 +11,7 @@ use Rattle.xp_words.specs.declared.reply.Pause.TheVariants.{Busy, Due, Lost}
 use Rattle.xp_words.specs.declared.reply.Stop.{Stop}
 use Rattle.xp_words.specs.declared.reply.Stop.TheVariants.{Paused}
 use Rattle.xp_preempt.specs.Gates.{Consulted, ends_yes}
-use Rattle.xp_board.specs.KindSteps.{Form, Dead, InWork, Live, Partial, form_of, resumed_kind}
+use Rattle.xp_board.specs.KindSteps.{Live, Partial, form_of, resumed_kind}
 use Rattle.xp_board.specs.declared.step.Act.TheVariants.{Cas, Load, Store}
 use Rattle.xp_board.specs.declared.step.Mark.TheVariants.{Record}
 use Rattle.xp_board.specs.declared.step.StepKind.TheVariants as kinds
@@ -22,7 +22,7 @@ use Rattle.answer_fits.specs.Answers.{Stops}
 use Rattle.answer_fits.specs.Visits.{Does, Then}
 use Rattle.frame_words.specs.Freeing.{PutBy, Puts}
 use Rattle.frame_words.specs.Plain.{put}
-use Rattle.kind_words.specs.Kinds.{dead_kind, partial_kind}
+use Rattle.kind_words.specs.Kinds.{partial_kind}
 use Rattle.frame_types.specs.Found.{Dies, DropsPlain}
 use Rattle.frame_types.specs.Lowering.{DropsType}
 use Rattle.partial_state.specs.Levels.{level_type}

@@ -144,7 +144,11 @@ fn close<P: Port>(port: &mut P, table: TableWork)
     ensures course { MadeDead (P.value port.old) (P.value port.new) table }
 {
     let clock = look_clock(port);
-    leave(port, table.frame, dead_kind(level_type(table.level), false, clock));
+    leave(
+        port,
+        table.frame,
+        dead_kind(level_type(table.level), false, clock),
+    );
     put_ref(port, table.frame);
 }
 
@@ -153,9 +157,7 @@ fn is_asked(stack: &Stack) -> bool
     ensures { result ≡ is_asked_down stack.now }
 {
     match stack.top() {
-        Some(top) => {
-            top.done != 512 && !(top.level == 4 && top.done >= 241 && top.done <= 256)
-        }
+        Some(top) => { top.done != 512 && !(top.level == 4 && top.done >= 241 && top.done <= 256) }
         None => false,
     }
 }

@@ -130,7 +130,11 @@ fn each_pin_and_unpin_is_reported_with_what_it_leaves(rt: HostRuntime) {
         let text = report(&rt, example);
         let text = str::from_utf8(&text).expect(&rt, "a text");
         for wanted in example.lines.lines() {
-            assert!(rt; text.lines().any(|line| line == wanted), "{}", example.shows);
+            assert!(rt;
+                text.lines().any(|line| line == wanted),
+                "{}",
+                example.shows
+            );
         }
     }
 }

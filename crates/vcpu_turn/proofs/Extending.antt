@@ -1,5 +1,5 @@
 -- What is settled and then performed: the elements of `mmuext_op` as items.
-use Rattle.std.proofs.Common.{◌≡◌, ℕ, ◌<◌, Bool, true, List, ◌++◌, length, get_or, refl, sym, ◌∙◌, Option, Some, None, Result, Ok, Err, IfErr, subst}
+use Rattle.std.proofs.Common.{◌≡◌, ℕ, ◌<◌, Bool, List, length, get_or, refl, sym, ◌∙◌, Result, Ok, Err, IfErr, subst}
 use Rattle.std.specs.Result.{IsErrAnd}
 use Rattle.std.proofs.lemmas.Option.{slice_get-get_or}
 use Rattle.xp_words.specs.declared.ops.ExtOp.{ExtOp}
@@ -7,7 +7,6 @@ use Rattle.xp_words.specs.declared.reply.Stop.{Stop}
 use Rattle.xp_words.specs.declared.reply.Stop.TheVariants.{Refused, Paused}
 use Rattle.xp_words.specs.declared.reply.Pause.TheVariants.{Due, Lost, Busy, Flush, Alive}
 use Rattle.xp_board.specs.Told.{PortValue}
-use Rattle.xp_preempt.specs.Gates.{Consulted, ends_yes}
 use Rattle.step_maker.specs.Holds.{Rests}
 use Rattle.answer_fits.specs.Answers.{Serves, Stops, misses}
 use Rattle.level_release.specs.Asking as releases

@@ -109,10 +109,10 @@ module _ (c : Processing) (op : Op) (pairs : List Pair) (built : list_of op ≡ 
   works_of d y x answers end on = subst (λ o. Works c.domain o y c.done on.to x answers on.answer) built on.works
 
   goes_asks : (u : PortValue) (d : Processing) (x : PortValue) (answers : List Bool) (end : TurnEnd) → Goes c (Some op) u d x answers end → CountsAsks c.done end answers
-  goes_asks u _ _ _ _ (turning.Goes.unsettled x answers p settles) = turning.CountsAsks.settling p refl
+  goes_asks u _ _ _ _ (turning.Goes.unsettled x answers p settles) = turning.CountsAsks.settling u x p settles refl
   goes_asks u _ _ _ _ (turning.Goes.settled y x d early answers end settles on) =
       let asks = list_asks c.domain c.done pairs y x on.to answers on.answer most (works_of d y x answers end on) in
-      turning.CountsAsks.counted on.to on.answer (length early) on.end_is (length-append answers early ∙ ap (λ (n : ℕ). n + length early) asks)
+      turning.CountsAsks.counted on.to on.answer u y early answers settles on.end_is refl asks
 
   goes_within : (u : PortValue) (d : Processing) (x : PortValue) (answers : List Bool) (end : TurnEnd) (before : ℕ) (says : ℕ → Bool) → Goes c (Some op) u d x answers end → Gives says before answers →
       (j : ℕ) → 0 < j → before + j < last_ask → says (before + j) ≡ true → GoesNoFurther c d end (c.done + j)

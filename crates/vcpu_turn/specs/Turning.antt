@@ -1,5 +1,5 @@
 -- Turns: how one begins, what it does and how it ends.
-use Rattle.std.specs.Prelude.{◌≡◌, ℕ, ◌+◌, ◌≤◌, nat_lt, Bool, true, false, List, [], ◌++◌, length, slice_get, Option, Some, None, Result, Ok, Err}
+use Rattle.std.specs.Prelude.{◌≡◌, ℕ, ◌≤◌, nat_lt, Bool, true, false, List, [], ◌++◌, length, slice_get, Option, Some, None, Result, Ok, Err}
 use Rattle.xp_words.specs.Machine.{IsMachine}
 use Rattle.xp_words.specs.Places.{asked_of, flushed_of, run_of}
 use Rattle.xp_words.specs.declared.place.Place.TheVariants.{Clock}
@@ -88,11 +88,12 @@ pub record IsTurn (c c' : Processing) (end : TurnEnd) (v w : PortValue) (answers
   pub does : Goes c (slice_get c.script (length c.log)) begun c' worked answers end
   pub ends : EndsTurn end worked w
 
--- In a turn a list whose items ask nothing went on from element `from` to element `to`, and ended so; and behind what was settled first the
--- gate was asked so often. Or settling was all that the turn did.
+-- In a turn a list whose items ask nothing went on from element `from` to element `to`, and ended so; and behind the answers to what was
+-- settled first the gate was asked exactly so often. Or settling was all that the turn did.
 pub data CountsAsks (from : ℕ) (end : TurnEnd) (answers : List Bool) : Type 0 where
-  counted : (to : ℕ) (answer : Result (Unit {0}) Stop) (early : ℕ) → end ≡ end_of to answer → length answers ≡ asks_between from to answer + early → CountsAsks from end answers
-  settling : (p : Pause) → end ≡ ends.Paused p → CountsAsks from end answers
+  counted : (to : ℕ) (answer : Result (Unit {0}) Stop) (u x : PortValue) (early later : List Bool) → Settles u x early (Ok tt) → end ≡ end_of to answer → answers ≡ later ++ early →
+      length later ≡ asks_between from to answer → CountsAsks from end answers
+  settling : (u x : PortValue) (p : Pause) → Settles u x answers (Err (Paused p)) → end ≡ ends.Paused p → CountsAsks from end answers
 
 -- the turn went on with a list to element `to`, and no further than up to `most`
 pub record GoesNoFurther (c c' : Processing) (end : TurnEnd) (most : ℕ) : Type 0 where

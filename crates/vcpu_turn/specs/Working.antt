@@ -1,5 +1,5 @@
 -- The work of one turn on an operation.
-use Rattle.std.specs.Prelude.{◌≡◌, ◌⊎◌, ℕ, ◌<◌, ◌≤◌, Bool, List, [], ◌++◌, length, slice_get, Option, Some, None, Result, Ok, Err, IfErr}
+use Rattle.std.specs.Prelude.{◌≡◌, ◌⊎◌, ℕ, ◌<◌, ◌≤◌, Bool, List, [], ◌++◌, slice_get, Option, Some, None, Result, Ok, Err, IfErr}
 use Rattle.xp_words.specs.declared.ops.ExtOp.{ExtOp}
 use Rattle.xp_words.specs.declared.ops.Pair.{Pair}
 use Rattle.xp_words.specs.declared.reply.Refusal.{Refusal}

@@ -2,7 +2,6 @@ use Rattle.std.proofs.Common.{drop, rules, ℕ, Err, [], ◌∷◌, sym, ap, ◌
 use Rattle.level_release.proofs.HandsLowered.{lower_above, lower_came, lower_given, lower_opened, lower_stays}
 use Rattle.std.proofs.lemmas.Result.{err_from_is_err_and}
 use Rattle.answer_fits.specs.Answers.{missed}
-use Rattle.partial_state.specs.Stacks.{advanced}
 use Rattle.table_entries.specs.Asking.{AsksBelow}
 use Rattle.table_releases.specs.Tops.{ShowsReleased}
 use Rattle.level_release.specs.Asking.{Continues}

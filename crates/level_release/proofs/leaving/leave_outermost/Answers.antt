@@ -1,4 +1,4 @@
-use Rattle.std.proofs.Common.{List, [], ◌∷◌, ◌+◌}
+use Rattle.std.proofs.Common.{[], ◌∷◌, ◌+◌}
 use Rattle.step_maker.proofs.Coming.{came_trans, moves_came}
 use Rattle.level_release.proofs.HandsLeft.{left_held, partial_hand}
 use Rattle.level_release.proofs.HandsNamed.{named_stands}
