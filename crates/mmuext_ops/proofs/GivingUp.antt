@@ -1,11 +1,9 @@
 -- A typed reference to a live table is given back: its steps, and what is left in hand.
-use Rattle.std.proofs.Common.{◌≡◌, ℕ, ◌+◌, ◌<◌, ◌≤◌, ◌&&◌, not, Bool, true, false, List, [], ◌∷◌, length, Some, None, IsTrue, refl, sym, ap, ◌∙◌, subst, arith, inl, inr}
+use Rattle.std.proofs.Common.{◌≡◌, ℕ, ◌+◌, ◌<◌, ◌≤◌, Bool, true, false, List, [], ◌∷◌, length, Some, None, IsTrue, refl, sym, ap, ◌∙◌, subst, arith, inl, inr}
 use Rattle.std.proofs.lemmas.Bool.Decides.{nat_tests}
 use Rattle.xp_words.specs.KindWords.{is_kind, kind_fields, kind_write}
-use Rattle.xp_words.specs.PageTypes.{type_number}
 use Rattle.xp_words.specs.Places.{sizes_of}
 use Rattle.xp_words.specs.declared.kind.KindWord.{KindWord}
-use Rattle.xp_words.specs.declared.kind.PageType.{PageType}
 use Rattle.xp_words.specs.declared.place.Place.TheVariants.{Kind, Vcpu}
 use Rattle.xp_board.specs.declared.holdings.Holdings.{Holdings}
 use Rattle.xp_board.specs.declared.holdings.Liveness.TheVariants as lives
@@ -19,10 +17,9 @@ use Rattle.xp_board.specs.declared.step.StepKind.TheVariants as kinds
 use Rattle.xp_board.specs.Hands.{owner_by, owner_by_typed, owner_from, ref_owner, ref_to, refs_to, typed_on, typed_owner, typed_to, without_ref, without_typed, without_work, work_on}
 use Rattle.xp_board.specs.Knowledge.{knows_live}
 use Rattle.xp_board.specs.KindSteps.{MayDrop, live_typed}
-use Rattle.xp_board.specs.Readings.{domain_of, is_closing, is_dead, is_type}
+use Rattle.xp_board.specs.Readings.{domain_of, is_closing, is_dead}
 use Rattle.xp_board.specs.Told.{Post, PortValue}
 use Rattle.board_lemmas.proofs.ListCounts.{first_by-cons_here, newest_held}
-use Rattle.board_lemmas.proofs.Sums.{when_eq}
 use Rattle.step_maker.specs.Holds.{Holds, still}
 use Rattle.step_maker.specs.Moves.{Moves}
 use Rattle.step_maker.proofs.Coming.{came_post}
@@ -44,6 +41,7 @@ use Rattle.partial_state.specs.Levels.{level_type}
 use Rattle.partial_state.proofs.LevelFacts.{level_type-table, level_type-typed}
 use Rattle.table_words.specs.OldWords.{kept_in_old, old_place}
 use Rattle.table_words.specs.declared.old_words.OldWord.TheVariants.{First}
+use Rattle.mmuext_ops.proofs.Marking.{mark_keeps}
 use Rattle.mmuext_ops.specs.Holding.{GivesUp, HoldsTable, named_old, untyped}
 
 -- ---- the reference
@@ -183,12 +181,6 @@ module _ (v : PortValue) (f level : ℕ) (holds : HoldsTable v f level) where
 closed_lives : (k : KindWord) → IsTrue (is_closing k) → is_dead k ≡ false
 closed_lives k closing = grind (arith, nat_tests)
 
-same_type : (t : PageType) → is_type t t ≡ true
-same_type t = when_eq (type_number t) (type_number t) refl
-
-keeps_by : (t : PageType) (k l : KindWord) → k.kind ≡ t → l.kind ≡ t → is_dead k ≡ false → IsTrue (is_type k.kind l.kind && not (is_dead k))
-keeps_by t k l a b live = rw (a, b, live, same_type t) refl
-
 module _ (v u w : PortValue) (f level : ℕ) (holds : HoldsTable v f level) (low : 1 ≤ level) where
   pub shared_serves : Serves v u (of_back f) [] → Serves u w (of_back f) [] → Serves v w (of_back f) []
   shared_serves drop put = serves_then v u w (of_back f) [] [] drop put
@@ -198,8 +190,9 @@ module _ (v u w : PortValue) (f level : ℕ) (holds : HoldsTable v f level) (low
     keeps : IsTrue (keeps_type found (kind_write (partial_kind (level_type level) kept false 512 0)))
     keeps =
         let e = closing_from f drops.found v.holdings in
-        rw (work_word u.post.machine u.post.vcpu u.holdings f found e store.finds (here v f level holds u drops), fields_write (partial_kind (level_type level) kept false 512 0) (spelled v f level holds u drops low kept))
-        (keeps_by (level_type level) (kind_fields e.word) (partial_kind (level_type level) kept false 512 0) (kind_is v f level holds u drops) refl (closed_lives (kind_fields e.word) (is_closed v f level holds u drops)))
+        let l = partial_kind (level_type level) kept false 512 0 in
+        mark_keeps found (kind_write l) (kind_fields e.word) l (ap (λ y. kind_fields y) (work_word u.post.machine u.post.vcpu u.holdings f found e store.finds (here v f level holds u drops))) (fields_write l (spelled v f level holds u drops low kept))
+        (sym (kind_is v f level holds u drops)) (closed_lives (kind_fields e.word) (is_closed v f level holds u drops))
 
     pub left_serves : Serves v u (of_back f) [] → Serves v w (of_back f) []
     left_serves drop = serves_step v u w (of_back f) [] _ _ _ _ _ drop store (backs_itself v.post.machine v.post.vcpu f _, keeps)

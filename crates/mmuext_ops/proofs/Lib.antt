@@ -1,9 +1,9 @@
 mod GivingUp
 mod Looked
 mod Marking
-mod Pinned
 mod Numbers
 mod PinCourse
+mod Pinned
 mod PinningLive
 mod Released
 mod Rests

@@ -1,7 +1,6 @@
 -- A live table whose typed reference is in hand is pinned: what the words found tell, the steps, and why it is not.
-use Rattle.std.proofs.Common.{◌≡◌, ◌≢◌, ℕ, ◌<◌, ◌≤◌, Bool, true, false, List, [], ◌∷◌, ◌++◌, Some, None, Ok, Err, is_some, IsTrue, refl, sym, ap, ◌∙◌, subst, arith, inl, inr}
+use Rattle.std.proofs.Common.{◌≡◌, ◌≢◌, ℕ, ◌<◌, ◌≤◌, Bool, true, false, List, [], ◌∷◌, ◌++◌, Some, None, Ok, Err, is_some, IsTrue, refl, sym, ap, ◌∙◌, subst, inl, inr}
 use Rattle.std.proofs.lemmas.Bool.{or_left, or_right}
-use Rattle.std.proofs.lemmas.Bool.Decides.{nat_tests}
 use Rattle.xp_words.specs.KindWords.{is_kind, kind_fields, kind_read, kind_write}
 use Rattle.xp_words.specs.Places.{Sizes, number, sizes_of}
 use Rattle.xp_words.specs.declared.kind.KindWord.{KindWord}
@@ -20,7 +19,7 @@ use Rattle.xp_board.specs.Hands.{typed_on, without_typed}
 use Rattle.xp_board.specs.Knowledge.{knows_owner}
 use Rattle.xp_board.specs.KindSteps.{MayPin, live_typed, still_looking}
 use Rattle.xp_board.specs.Lists.{kept_of}
-use Rattle.xp_board.specs.Readings.{domain_of, is_dead, is_live}
+use Rattle.xp_board.specs.Readings.{domain_of, is_live}
 use Rattle.xp_board.specs.Spelling.{is_kind_in}
 use Rattle.xp_board.specs.Told.{Post, PortValue}
 use Rattle.board_lemmas.proofs.KindForms.{fields_of}
@@ -48,7 +47,7 @@ use Rattle.mmuext_ops.specs.Course as ends
 use Rattle.mmuext_ops.specs.Holding.{GivesUp, HoldsTable, ServesLive, named_old, untyped}
 use Rattle.level_validate.specs.Unwinding.{own_domain}
 use Rattle.mmuext_ops.proofs.GivingUp.{held, live, may_drop, none_left}
-use Rattle.mmuext_ops.proofs.Marking.{lost_deeds, lost_misses, lost_stops, mark_keeps, pins_deed, tried}
+use Rattle.mmuext_ops.proofs.Marking.{live_undead, lost_deeds, lost_misses, lost_stops, mark_keeps, pins_deed, tried}
 
 -- ---- the hand
 -- a port that holds the same holds the table too
@@ -182,9 +181,6 @@ module _ (v a : PortValue) (f level x : ℕ) (frame : f < v.post.machine.frames)
           (f, own_domain v, level_type level, v.holdings, asked (Met v w), found_with, checked (owner_known v f level holds), refl, when_eq f f refl, ap (λ (y : KindWord). y.pinned) fields ∙ on, ap (λ (y : KindWord). y.kind) fields ∙ lives.1)
 
     -- ---- the exchange
-    alive : is_dead k ≡ false
-    alive = let is = lives.0 in grind (arith, nat_tests)
-
     module _ (low : 1 ≤ level) (off : k.pinned ≡ false) where
       new_is : IsTrue (is_kind (pinned_kind k))
       new_is = let may = may_pin low off in pinned_is k spelled may.live may.table may.counted
@@ -193,7 +189,7 @@ module _ (v a : PortValue) (f level x : ℕ) (frame : f < v.post.machine.frames)
       new_fields = fields_write (pinned_kind k) new_is
 
       keeps : IsTrue (keeps_type x (kind_write (pinned_kind k)))
-      keeps = mark_keeps x (kind_write (pinned_kind k)) k (pinned_kind k) fields new_fields refl alive
+      keeps = mark_keeps x (kind_write (pinned_kind k)) k (pinned_kind k) fields new_fields refl (live_undead k lives.0)
 
       module _ (b : PortValue) (found : ℕ) (try : Moves a b (Kind f) (Cas x (kind_write (pinned_kind k))) kinds.Kind None found) where
         tried_serves : Serves v b request (deeds_by (Kind f) (Cas x (kind_write (pinned_kind k))) kinds.Kind found a.holdings ++ [])

@@ -13,7 +13,7 @@ use Rattle.xp_words.specs.declared.reply.Stop.TheVariants.{Paused, Refused}
 use Rattle.xp_board.specs.declared.step.Act.TheVariants.{Cas, Load}
 use Rattle.xp_board.specs.declared.step.StepKind.TheVariants as kinds
 use Rattle.xp_board.specs.KindSteps.{MayUnpin}
-use Rattle.xp_board.specs.Readings.{is_dead, is_live}
+use Rattle.xp_board.specs.Readings.{is_live}
 use Rattle.xp_board.specs.Spelling.{is_kind_in}
 use Rattle.xp_board.specs.Told.{Post, PortValue}
 use Rattle.board_lemmas.proofs.KindForms.{fields_of}
@@ -35,7 +35,7 @@ use Rattle.mmuext_ops.specs.Course.{TakesPinOff}
 use Rattle.mmuext_ops.specs.Elements.{ServesElement, raced_unpin, request_of, told}
 use Rattle.mmuext_ops.specs.declared.element.Element.TheVariants.{Unpin}
 use Rattle.mmuext_ops.proofs.Looked.{fields, fits, found_with, look_there, owner_known, owner_still, spelled, written}
-use Rattle.mmuext_ops.proofs.Marking.{lost_deeds, lost_misses, lost_stops, mark_keeps, tried, unpins_deed}
+use Rattle.mmuext_ops.proofs.Marking.{live_undead, lost_deeds, lost_misses, lost_stops, mark_keeps, tried, unpins_deed}
 
 -- ---- the word
 pinned_form : (k : KindWord) → has_form k ≡ true → k.pinned ≡ true → IsTrue (is_live k)
@@ -48,9 +48,6 @@ pinned_lives k is on = pinned_form k (and_parts (nat_lt k.progress (2 ^ 10)) (ha
 
 pub may_unpin : (k : KindWord) → IsTrue (is_kind k) → k.pinned ≡ true → MayUnpin k (unpinned_kind k)
 may_unpin k is on = record { live = pinned_lives k is on; pinned = on; left = refl }
-
-alive : (k : KindWord) → IsTrue (is_live k) → is_dead k ≡ false
-alive k live = grind (arith, nat_tests)
 
 -- ---- by the answer
 module _ (v w : PortValue) (f d : ℕ) (answer : Result (Unit {0}) Stop) (e : Stop) (is : answer ≡ Err e) where
@@ -112,7 +109,7 @@ module _ (v : PortValue) (f d : ℕ) where
         new_fields = fields_write (unpinned_kind k) (unpinned_is k spells (pinned_lives k spells on))
 
         keeps : IsTrue (keeps_type x new)
-        keeps = mark_keeps x new k (unpinned_kind k) is new_fields refl (alive k (pinned_lives k spells on))
+        keeps = mark_keeps x new k (unpinned_kind k) is new_fields refl (live_undead k (pinned_lives k spells on))
 
         tried_serves : Serves v q request (deeds_by (Kind f) (Cas x new) kinds.Kind found b.holdings ++ [])
         tried_serves = tried v b q request f x new found try_there refl (is_asked (Met v q)) keeps [] before
