@@ -195,7 +195,8 @@ fn fill<P: Port>(
     ensures calm { calm gate.old ≡ true → (is_due_answer result ≡ false) × (calm gate.new ≡ true) }
     ensures course { Consults (says gate.old) (count_asks gate.old) (count_asks gate.new) (count_yes gate.old) (count_yes gate.new) (is_due_answer result) (λ answers. Worked owner (P.value port.old) table (P.value port.new) stack.new answers result) }
 {
-    take_on(port, owner, stack, table)?;
+    let done = take_on(port, owner, stack, table)?;
+    ask_behind(gate, stack, done)?;
     while !is_filled(stack) {
         go_on(port, gate, owner, stack)?;
     }
@@ -230,7 +231,13 @@ fn go_on<P: Port>(
     ensures calm { calm gate.old ≡ true → (is_due_answer result ≡ false) × (calm gate.new ≡ true) }
     ensures course { Consults (says gate.old) (count_asks gate.old) (count_asks gate.new) (count_yes gate.old) (count_yes gate.new) (is_due_answer result) (λ answers. GoesOn owner (P.value port.old) stack.old (P.value port.new) stack.new answers result) }
 {
-    if advance(port, owner, stack)? {
+    let done = advance(port, owner, stack)?;
+    ask_behind(gate, stack, done)
+}
+
+// Asks the gate, where an entry is done with behind which it is asked.
+fn ask_behind(gate: &mut dyn Preempt, stack: &Stack, done: bool) -> Result<(), Stop> {
+    if done {
         if is_asked(stack) {
             if gate.due() {
                 return Err(Stop::Paused(Pause::Due));
@@ -267,9 +274,7 @@ fn advance<P: Port>(port: &mut P, owner: u16, stack: &mut Stack) -> Result<bool,
         complete_inner(port, stack);
         return Ok(true);
     }
-    let depth = stack.len();
-    enter(port, owner, stack)?;
-    Ok(stack.len() == depth)
+    enter(port, owner, stack)
 }
 
 fn is_filled(stack: &Stack) -> bool

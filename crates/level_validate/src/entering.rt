@@ -23,7 +23,8 @@ use xp_board::Port;
 use xp_words::Stop;
 
 /// Takes the next entry of the innermost table. Where it names a table that is to be validated first, that one is the innermost then.
-pub(crate) fn enter<P: Port>(port: &mut P, owner: u16, stack: &mut Stack) -> Result<(), Stop>
+/// True: an entry is done with.
+pub(crate) fn enter<P: Port>(port: &mut P, owner: u16, stack: &mut Stack) -> Result<bool, Stop>
     requires may { MayWork (P.value port.old) }
     requires stands { IsStanding (P.value port.old) owner stack.old }
     requires ready { IsTopReady (P.value port.old) }
@@ -35,8 +36,7 @@ pub(crate) fn enter<P: Port>(port: &mut P, owner: u16, stack: &mut Stack) -> Res
     ensures ready { IfOk result (λ _. IsTopReady (P.value port.new)) }
     ensures kinds { IfErr result IsEntryStop }
     ensures outer { outermost_work stack.new ≡ outermost_work stack.old }
-    // A table that is no deeper than before has one entry more recorded.
-    ensures progress { IfOk result (λ _. length stack.new ≡ length stack.old → Progress (Met (P.value port.old) (P.value port.new))) }
+    ensures progress { IfOk result (λ done. done ≡ true → Progress (Met (P.value port.old) (P.value port.new))) }
     // What is left to do grows less.
     ensures less { IfOk result (λ _. weight stack.new < weight stack.old) }
     ensures serves { CarriesOn (P.value port.old) (P.value port.new) owner stack.old stack.new (misses (P.value port.old).post.machine result) }
@@ -55,7 +55,7 @@ pub(crate) fn enter<P: Port>(port: &mut P, owner: u16, stack: &mut Stack) -> Res
     match take_entry(port, at)? {
         Entered::Recorded => {
             stack.advance();
-            Ok(())
+            Ok(true)
         }
         Entered::Opened {
             frame,
@@ -81,13 +81,13 @@ pub(crate) fn enter<P: Port>(port: &mut P, owner: u16, stack: &mut Stack) -> Res
 }
 
 // Looks at the last recorded entry of the innermost table, which came into work with some of its entries recorded. Its frame may have
-// been left unfinished: then that one is taken on, and is the innermost table.
+// been left unfinished: then that one is taken on, and is the innermost table. True: a page that it names was not live, and is.
 pub(crate) fn take_on<P: Port>(
     port: &mut P,
     owner: u16,
     stack: &mut Stack,
     top: TableWork,
-) -> Result<(), Stop>
+) -> Result<bool, Stop>
     requires may { MayWork (P.value port.old) }
     requires top { stack.old ≡ top ∷ drop 1 stack.old }
     requires stands { IsStanding (P.value port.old) owner stack.old }
@@ -99,14 +99,14 @@ pub(crate) fn take_on<P: Port>(
     ensures ready { IfOk result (λ _. IsTopReady (P.value port.new)) }
     ensures kinds { IfErr result IsEntryStop }
     ensures outer { outermost_work stack.new ≡ outermost_work stack.old }
-    ensures deeper { length stack.old ≤ length stack.new }
+    ensures progress { IfOk result (λ done. done ≡ true → Progress (Met (P.value port.old) (P.value port.new))) }
     ensures less { IfOk result (λ _. weight stack.new < weight stack.old + entry_weight top.level) }
     ensures serves { CarriesOn (P.value port.old) (P.value port.new) owner stack.old stack.new (misses (P.value port.old).post.machine result) }
     ensures stops { IfErr result (λ e. StopsIn (P.value port.old) (P.value port.new) owner stack.old e) }
     ensures course { TookOn owner (P.value port.old) stack.old (P.value port.new) stack.new result }
 {
     if top.done == 0 {
-        return Ok(());
+        return Ok(false);
     }
     let at = TableEntry {
         table: top.frame,
@@ -115,10 +115,10 @@ pub(crate) fn take_on<P: Port>(
         owner,
     };
     match resume_entry(port, at)? {
-        Resumed::Settled => Ok(()),
+        Resumed::Settled => Ok(false),
         Resumed::Taken { frame } => {
             give_back(port, frame);
-            Ok(())
+            Ok(true)
         }
         Resumed::Opened {
             frame,

@@ -100,13 +100,14 @@ LeftWaiting v w f level false stamp = Does v w (λ vs. SharedBy f (level_type le
 
 -- ---- down to where a table was left
 -- From v, with these tables in work, of which the innermost has just come into work, to w with those: its last recorded entry is
--- looked at, and the table that this one names is taken on, if it was left unfinished.
-pub data TookOn (owner : ℕ) : PortValue → List TableWork → PortValue → List TableWork → Result (Unit {0}) Stop → Type 0 where
-  fresh : (v : PortValue) (t : TableWork) (ts : List TableWork) → t.done ≡ 0 → TookOn owner v (t ∷ ts) v (t ∷ ts) (Ok tt)
-  settled : (v w : PortValue) (t : TableWork) (ts : List TableWork) → 0 < t.done → ResumedEntry v w owner t (Ok again.Settled) → TookOn owner v (t ∷ ts) w (t ∷ ts) (Ok tt)
+-- looked at, and the table that this one names is taken on, if it was left unfinished. True: an entry is done with, whose frame was
+-- not live, and is.
+pub data TookOn (owner : ℕ) : PortValue → List TableWork → PortValue → List TableWork → Result Bool Stop → Type 0 where
+  fresh : (v : PortValue) (t : TableWork) (ts : List TableWork) → t.done ≡ 0 → TookOn owner v (t ∷ ts) v (t ∷ ts) (Ok false)
+  settled : (v w : PortValue) (t : TableWork) (ts : List TableWork) → 0 < t.done → ResumedEntry v w owner t (Ok again.Settled) → TookOn owner v (t ∷ ts) w (t ∷ ts) (Ok false)
   taken : (v u w : PortValue) (t : TableWork) (ts : List TableWork) (f : ℕ) → 0 < t.done → ResumedEntry v u owner t (Ok (again.Taken f)) → GaveBack u w f →
-      TookOn owner v (t ∷ ts) w (t ∷ ts) (Ok tt)
-  opened : (v u w : PortValue) (t : TableWork) (ts us : List TableWork) (f progress : ℕ) (own : Bool) (answer : Result (Unit {0}) Stop) → 0 < t.done →
+      TookOn owner v (t ∷ ts) w (t ∷ ts) (Ok true)
+  opened : (v u w : PortValue) (t : TableWork) (ts us : List TableWork) (f progress : ℕ) (own : Bool) (answer : Result Bool Stop) → 0 < t.done →
       ResumedEntry v u owner t (Ok (again.Opened f progress own)) → TookOn owner u (table_in t f progress own true ∷ t ∷ ts) w us answer → TookOn owner v (t ∷ ts) w us answer
   waiting : (v u w : PortValue) (t : TableWork) (ts : List TableWork) (f : ℕ) (own : Bool) (stamp : ℕ) (stop : Stop) → 0 < t.done →
       ResumedEntry v u owner t (Ok (again.Waiting f own stamp stop)) → LeftWaiting u w f (t.level - 1) own stamp → TookOn owner v (t ∷ ts) w (t ∷ ts) (Err stop)
@@ -116,8 +117,8 @@ pub data TookOn (owner : ℕ) : PortValue → List TableWork → PortValue → L
 -- true: an entry is done with
 pub data Advanced (owner : ℕ) : PortValue → List TableWork → PortValue → List TableWork → Result Bool Stop → Type 0 where
   recorded : (v w : PortValue) (t : TableWork) (ts : List TableWork) → t.done < 512 → TookEntry v w owner t (Ok Recorded) → Advanced owner v (t ∷ ts) w (one_more t ∷ ts) (Ok true)
-  opened : (v u w : PortValue) (t : TableWork) (ts us : List TableWork) (f progress : ℕ) (own : Bool) → t.done < 512 → TookEntry v u owner t (Ok (Opened f progress own)) →
-      TookOn owner u (table_in t f progress own false ∷ one_more t ∷ ts) w us (Ok tt) → Advanced owner v (t ∷ ts) w us (Ok false)
+  opened : (v u w : PortValue) (t : TableWork) (ts us : List TableWork) (f progress : ℕ) (own done : Bool) → t.done < 512 → TookEntry v u owner t (Ok (Opened f progress own)) →
+      TookOn owner u (table_in t f progress own false ∷ one_more t ∷ ts) w us (Ok done) → Advanced owner v (t ∷ ts) w us (Ok done)
   cut_off : (v u w : PortValue) (t : TableWork) (ts us : List TableWork) (f progress : ℕ) (own : Bool) (stop : Stop) → t.done < 512 → TookEntry v u owner t (Ok (Opened f progress own)) →
       TookOn owner u (table_in t f progress own false ∷ one_more t ∷ ts) w us (Err stop) → Advanced owner v (t ∷ ts) w us (Err stop)
   unsettled : (v w : PortValue) (t : TableWork) (ts : List TableWork) (stop : Stop) → t.done < 512 → TookEntry v w owner t (Ok (Unsettled stop)) →
@@ -136,17 +137,17 @@ is_asked (t ∷ ts) = is_asked_at t.level t.done
 
 -- ---- until the only table is full
 -- From v to w, and from these tables to those; the gate said no behind each entry, or yes, and then it ends so. The newest answer
--- stands first.
-pub data Filled (owner : ℕ) (v : PortValue) (ts : List TableWork) : PortValue → List TableWork → List Bool → Result (Unit {0}) Stop → Type 0 where
-  begun : Filled owner v ts v ts [] (Ok tt)
-  unasked : (u w : PortValue) (us xs : List TableWork) (done : Bool) (answers : List Bool) → Filled owner v ts u us answers (Ok tt) → Advanced owner u us w xs (Ok done) →
-      (done && is_asked xs) ≡ false → Filled owner v ts w xs answers (Ok tt)
-  asked : (u w : PortValue) (us xs : List TableWork) (answers : List Bool) → Filled owner v ts u us answers (Ok tt) → Advanced owner u us w xs (Ok true) → is_asked xs ≡ true →
-      Filled owner v ts w xs (false ∷ answers) (Ok tt)
-  due : (u w : PortValue) (us xs : List TableWork) (answers : List Bool) → Filled owner v ts u us answers (Ok tt) → Advanced owner u us w xs (Ok true) → is_asked xs ≡ true →
-      Filled owner v ts w xs (true ∷ answers) (Err (Paused Due))
-  stopped : (u w : PortValue) (us xs : List TableWork) (answers : List Bool) (stop : Stop) → Filled owner v ts u us answers (Ok tt) → Advanced owner u us w xs (Err stop) →
-      Filled owner v ts w xs answers (Err stop)
+-- stands first, and below them those that it gave before.
+pub data Filled (owner : ℕ) (v : PortValue) (ts : List TableWork) (before : List Bool) : PortValue → List TableWork → List Bool → Result (Unit {0}) Stop → Type 0 where
+  begun : Filled owner v ts before v ts before (Ok tt)
+  unasked : (u w : PortValue) (us xs : List TableWork) (done : Bool) (answers : List Bool) → Filled owner v ts before u us answers (Ok tt) → Advanced owner u us w xs (Ok done) →
+      (done && is_asked xs) ≡ false → Filled owner v ts before w xs answers (Ok tt)
+  asked : (u w : PortValue) (us xs : List TableWork) (answers : List Bool) → Filled owner v ts before u us answers (Ok tt) → Advanced owner u us w xs (Ok true) → is_asked xs ≡ true →
+      Filled owner v ts before w xs (false ∷ answers) (Ok tt)
+  due : (u w : PortValue) (us xs : List TableWork) (answers : List Bool) → Filled owner v ts before u us answers (Ok tt) → Advanced owner u us w xs (Ok true) → is_asked xs ≡ true →
+      Filled owner v ts before w xs (true ∷ answers) (Err (Paused Due))
+  stopped : (u w : PortValue) (us xs : List TableWork) (answers : List Bool) (stop : Stop) → Filled owner v ts before u us answers (Ok tt) → Advanced owner u us w xs (Err stop) →
+      Filled owner v ts before w xs answers (Err stop)
 
 -- ---- tables that are left unfinished
 abbrev pub LeftPartial : PortValue → PortValue → TableWork → Bool → Type 0
@@ -193,8 +194,9 @@ keeps_it stop = not (is_refused stop)
 -- the frame came into work as a table with its reference taken first, and these tables are in work at the end
 pub data Worked (owner : ℕ) (v : PortValue) (t : TableWork) : PortValue → List TableWork → List Bool → Result (Unit {0}) Stop → Type 0 where
   cut_off : (w : PortValue) (us : List TableWork) (stop : Stop) → TookOn owner v (t ∷ []) w us (Err stop) → Worked owner v t w us [] (Err stop)
-  filled : (u w : PortValue) (us xs : List TableWork) (answers : List Bool) (answer : Result (Unit {0}) Stop) → TookOn owner v (t ∷ []) u us (Ok tt) → Filled owner u us w xs answers answer →
-      Worked owner v t w xs answers answer
+  due : (w : PortValue) (us : List TableWork) → TookOn owner v (t ∷ []) w us (Ok true) → is_asked us ≡ true → Worked owner v t w us (true ∷ []) (Err (Paused Due))
+  filled : (u w : PortValue) (us xs : List TableWork) (done : Bool) (answers : List Bool) (answer : Result (Unit {0}) Stop) → TookOn owner v (t ∷ []) u us (Ok done) →
+      Filled owner u us (if done && is_asked us then false ∷ [] else []) w xs answers answer → Worked owner v t w xs answers answer
 
 abbrev pub outermost_table : ℕ → ℕ → ℕ → Bool → TableWork
 outermost_table f level progress own = record { frame = f; level = level; done = progress; own = own; recorded = false }
