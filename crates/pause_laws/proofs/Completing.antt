@@ -82,7 +82,7 @@ lower_by false y word m = refl
 itself : (f : ℕ) → (f == f) ≡ true
 itself f = grind (arith, nat_tests)
 
-lowered_kinded : (m : Words) (f : ℕ) (new : KindWord) → IsKinded m (change (Add one_down) (Kind f) (set_kind f new m)) f ((kind_write new + one_down) % 2 ^ 64)
+pub lowered_kinded : (m : Words) (f : ℕ) (new : KindWord) → IsKinded m (change (Add one_down) (Kind f) (set_kind f new m)) f ((kind_write new + one_down) % 2 ^ 64)
 unfolding left_by
 lowered_kinded m f new =
     record {

@@ -4,3 +4,4 @@ pub mod Recording
 pub mod Refusing
 pub mod Pacing
 pub mod Completing
+pub mod Travelling
