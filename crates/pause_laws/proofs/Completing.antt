@@ -138,7 +138,7 @@ module _ (t : TableWork) (ts : List TableWork) (shared : t.own ≡ false) where
   back_lent p s was some = record { shares = λ h. back_by p s (h == t.frame) h was some refl; kinds = λ h. refl; cells = λ h i. refl }
 
 -- ---- a table is complete
-rest_chained : (p : Plain) (t : TableWork) (ts : List TableWork) → Chained p (t ∷ ts) → Chained p ts
+pub rest_chained : (p : Plain) (t : TableWork) (ts : List TableWork) → Chained p (t ∷ ts) → Chained p ts
 rest_chained p t [] c = tt
 rest_chained p t (o ∷ ts) c = c.1
 

@@ -5,3 +5,5 @@ pub mod Refusing
 pub mod Pacing
 pub mod Completing
 pub mod Travelling
+pub mod Halfway
+pub mod Unwinding
