@@ -93,7 +93,7 @@ under_like n owner p ts us a like s =
       ahead = ap (λ xs. rest n owner xs p) (lefts_like ts us like) ∙ s.ahead;
     }
 
-settled_like : (n : Machine) (p : Plain) (ts us : List TableWork) → AllLike ts us → IsLastSettled n p ts → IsLastSettled n p us
+pub settled_like : (n : Machine) (p : Plain) (ts us : List TableWork) → AllLike ts us → IsLastSettled n p ts → IsLastSettled n p us
 settled_like n p [] [] like s = tt
 settled_like n p [] (u ∷ us) like s = absurd like
 settled_like n p (t ∷ ts) [] like s = absurd like

@@ -7,3 +7,5 @@ pub mod Completing
 pub mod Travelling
 pub mod Halfway
 pub mod Unwinding
+pub mod Retaking
+pub mod Resuming

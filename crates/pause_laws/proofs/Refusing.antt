@@ -52,7 +52,7 @@ pub record IsSome (r : Option Cause) : Type 0 where
   pub cause : Cause
   pub is : r ≡ Some cause
 
-roomy : (y : Refusal) → IsForWords y → IsRoomy y
+pub roomy : (y : Refusal) → IsForWords y → IsRoomy y
 roomy (refusals.CountFull f w) is = is
 roomy _ is = tt
 
@@ -70,7 +70,7 @@ refer_full n owner g p s was own inside full =
 
 -- ---- a reference
 module _ (n : Machine) (owner g : ℕ) (x : ℕ → ℕ) (p : Plain) (y : Refusal) (room : IsRoomy y) (same : IsSameAnswer (Some y) (take_reference n owner g (lent x p)).refusal) where
-  full_by : (b : Bool) (s : Share) → (lent x p).shares g ≡ Some s → (s.owner == owner) ≡ true → g < n.frames → nat_le n.limit s.count ≡ b → ⊥
+  pub full_by : (b : Bool) (s : Share) → (lent x p).shares g ≡ Some s → (s.owner == owner) ≡ true → g < n.frames → nat_le n.limit s.count ≡ b → ⊥
   full_by true s was own inside full =
       cause_full y g s (subst (λ o. IsSameAnswer (Some y) o) (ap (λ (o : PlainOutcome). o.refusal) (refer_full n owner g (lent x p) s was own inside full)) same) room
   full_by false s was own inside full =

@@ -173,7 +173,7 @@ left_kinded v w t kept telling left =
     let all = leaves v w _ _ _ _ _ left.1 telling in
     same_kinded (told_word v) (set_kind t.frame new (told_word v)) (told_word w) t.frame (kind_write new) (stored_kinded (told_word v) t.frame new) (λ h. all (Refs h)) (λ h i. all (Cell h i)) (λ h. all (Kind h))
 
-half_same : (n : Machine) (owner : ℕ) (m x : Words) (rs us : List TableWork) (a : PlainOutcome) → ((q : Place) → x q ≡ m q) → Half n owner m rs us a → Half n owner x rs us a
+pub half_same : (n : Machine) (owner : ℕ) (m x : Words) (rs us : List TableWork) (a : PlainOutcome) → ((q : Place) → x q ≡ m q) → Half n owner m rs us a → Half n owner x rs us a
 half_same n owner m x rs us a same h =
     let alike = same_alike x m same in
     record {
