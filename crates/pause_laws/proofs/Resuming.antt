@@ -35,6 +35,7 @@ use Rattle.table_law.specs.Alone.{PlainOutcome, take_reference}
 use Rattle.table_law.specs.Levels.{entry_of}
 use Rattle.table_law.specs.Plain.{Describes, Plain, Share, at, raised_share, sober, with_kind, with_share}
 use Rattle.table_law.proofs.Counting.{at_here, at_there}
+use Rattle.table_law.proofs.Describing.{sober_live}
 use Rattle.table_twins.specs.Answers.{IsSameAnswer}
 use Rattle.table_twins.proofs.Referring.{same_answer}
 use Rattle.table_courses.specs.Acquiring.{ResumedEntry, TookOn, fresh, opened, settled, stopped, table_in, taken, waiting}
@@ -181,3 +182,93 @@ module _ (n : Machine) (owner : ℕ) (m : Words) (w : PortValue) (r o : TableWor
             flags = (ap not (sym own_off), h.flags);
             settled = settled_like n h.plain (onto rs (r ∷ o ∷ us)) (onto rs (new ∷ o ∷ us)) like h.settled;
           }
+
+-- ---- the last entry, where no table is parked
+module _ (n : Machine) (owner : ℕ) (m : Words) (w : PortValue) (o : TableWork) (us : List TableWork) (a : PlainOutcome) (h : Half n owner m [] (o ∷ us) a) (some : 0 < o.done) where
+  of_last : TableOf n owner h.plain o
+  of_last = h.under.tables.0
+
+  live_by : (g : ℕ) → IsSettled n h.plain (demands.Typed g (level_type 0)) → (nat_lt g n.frames && is_live_word (m (Kind g))) ≡ true
+  live_by g is =
+      let inside : nat_lt g n.frames ≡ true = (let low = is.0 in grind (arith, nat_tests)) in
+      let live : is_live_word (m (Kind g)) ≡ true = sym (sober_live (kind_at m g)) ∙ (sym (ap (λ (k : KindWord). k.validated) (h.describes.kinds g is.0)) ∙ is.1) in
+      ap (λ b. b && is_live_word (m (Kind g))) inside ∙ live
+
+  settled_by : (e : Demand) (answer : Result Resumed Stop) → IsSettled n h.plain e → ResumesPlainly n w m owner answer e → (answer ≡ Ok again.Settled) × Leaves w m
+  settled_by demands.Nothing answer is plain = plain
+  settled_by demands.Bad answer is plain = plain
+  settled_by (demands.Read g) answer is plain = plain
+  settled_by (demands.Typed g t) answer is plain = subst (λ b. AgainWhere n w m g t owner answer b) (live_by g is) plain
+
+  pub stays : (answer : Result Resumed Stop) → ResumesPlainly n w m owner answer (demand_at (level_type o.level) (o.done - 1) (m (Cell o.frame (o.done - 1)))) → (answer ≡ Ok again.Settled) × Leaves w m
+  stays answer plain =
+      settled_by (demand_at (level_type o.level) (o.done - 1) (m (Cell o.frame (o.done - 1)))) answer
+      (subst (λ c. IsSettled n h.plain (demand_at (level_type o.level) (o.done - 1) c)) (h.describes.cells o.frame (o.done - 1) of_last.inside (let few = of_last.few in omega arith)) (h.settled some)) plain
+
+-- ---- the whole way down
+abbrev pub OnOutcome : Machine → ℕ → PortValue → List TableWork → PlainOutcome → Result Bool Stop → Type 0
+OnOutcome n owner w xs a (Ok done) = HalfAt n owner w [] xs a
+OnOutcome n owner w xs a (Err e) = Ends a e
+
+module _ (n : Machine) (owner : ℕ) (a : PlainOutcome) (is : IsMachine n) where
+  module _ (v w : PortValue) (o : TableWork) (us : List TableWork) where
+    plain_of : (rs : List TableWork) (answer : Result Resumed Stop) → HalfAt n owner v rs (o ∷ us) a → ResumedEntry v w owner o answer → ResumesPlainly n w (told_word v) owner answer (demand_at (level_type o.level) (o.done - 1) (told_word v (Cell o.frame (o.done - 1))))
+    plain_of rs answer g took = subst (λ k. ResumesPlainly k w (told_word v) owner answer (demand_at (level_type o.level) (o.done - 1) (told_word v (Cell o.frame (o.done - 1))))) g.machine (took.plain g.telling)
+
+    -- none is parked
+    last_is : (answer : Result Resumed Stop) → HalfAt n owner v [] (o ∷ us) a → 0 < o.done → ResumedEntry v w owner o answer → (answer ≡ Ok again.Settled) × Leaves w (told_word v)
+    last_is answer g some took = stays n owner (told_word v) w o us a g.half some answer (plain_of [] answer g took)
+
+    came_half : (rs xs : List TableWork) → HalfAt n owner v [] (o ∷ us) a → Came v w → Half n owner (told_word w) rs xs a → HalfAt n owner w rs xs a
+    came_half rs xs g came half = record { machine = ap (λ (q : Post). q.machine) (came_post v w came) ∙ g.machine; telling = came_telling v w came ∙ g.telling; half = half }
+
+    settled_at : HalfAt n owner v [] (o ∷ us) a → 0 < o.done → ResumedEntry v w owner o (Ok again.Settled) → HalfAt n owner w [] (o ∷ us) a
+    settled_at g some took = came_half [] (o ∷ us) g (again_came v w owner o _ took) (half_same n owner (told_word v) (told_word w) [] (o ∷ us) a (last_is (Ok again.Settled) g some took).1 g.half)
+
+    -- one is
+    module _ (r : TableWork) (rs : List TableWork) (g : HalfAt n owner v (r ∷ rs) (o ∷ us) a) where
+      found : (answer : Result Resumed Stop) → ResumedEntry v w owner o answer → AgainBy w (told_word v) r.frame (level_type r.level) answer (refer n owner r.frame (told_word v (Refs r.frame)))
+      found answer took = by_words n owner (told_word v) w r o rs us a is g.half answer (plain_of (r ∷ rs) answer g took)
+
+      never_settled : (x : Option Refusal) → AgainBy w (told_word v) r.frame (level_type r.level) (Ok again.Settled) x → ⊥
+      never_settled (Some y) is = let e = is.0 in cc
+      never_settled None is = is
+
+      never_taken : (f : ℕ) (x : Option Refusal) → refer n owner r.frame (told_word v (Refs r.frame)) ≡ x → AgainBy w (told_word v) r.frame (level_type r.level) (Ok (again.Taken f)) x → ⊥
+      never_taken f (Some y) refers a = let e = a.0 in cc
+      never_taken f None refers b = never_counted n owner (told_word v) w r o rs us a is g.half refers b.1.1
+
+      ends_by : (e : Stop) (x : Option Refusal) → refer n owner r.frame (told_word v (Refs r.frame)) ≡ x → AgainBy w (told_word v) r.frame (level_type r.level) (Err e) x → Ends a e
+      ends_by e (Some y) refers b = let same : e ≡ Refused y = (let k = b.0 in cc) in subst (Ends a) (sym same) (λ known. absurd (ref_there n owner (told_word v) w r o rs us a is g.half y refers known))
+      ends_by e None refers b = absurd (never_stopped n owner (told_word v) w r o rs us a is g.half refers e b.0)
+
+      opened_by : (f progress : ℕ) (own : Bool) (x : Option Refusal) → refer n owner r.frame (told_word v (Refs r.frame)) ≡ x → AgainBy w (told_word v) r.frame (level_type r.level) (Ok (again.Opened f progress own)) x →
+          Half n owner (told_word w) rs (table_in o f progress own true ∷ o ∷ us) a
+      opened_by f progress own (Some y) refers b = absurd (let e = b.0 in cc)
+      opened_by f progress own None refers b =
+          subst (λ f. Half n owner (told_word w) rs (table_in o f progress own true ∷ o ∷ us) a) (sym b.0) (retaken_half n owner (told_word v) w r o rs us a is g.half refers progress own b.1 b.2)
+
+      opened_at : (f progress : ℕ) (own : Bool) → ResumedEntry v w owner o (Ok (again.Opened f progress own)) → HalfAt n owner w rs (table_in o f progress own true ∷ o ∷ us) a
+      opened_at f progress own took =
+          let came = again_came v w owner o _ took in
+          record {
+            machine = ap (λ (q : Post). q.machine) (came_post v w came) ∙ g.machine;
+            telling = came_telling v w came ∙ g.telling;
+            half = opened_by f progress own (refer n owner r.frame (told_word v (Refs r.frame))) refl (found (Ok (again.Opened f progress own)) took);
+          }
+
+      some_done : 0 < o.done
+      some_done = (chained_onto g.half.plain rs (r ∷ o ∷ us) g.half.under.chain).0.1
+
+  pub taken_on : (rs : List TableWork) (v : PortValue) (ts : List TableWork) (w : PortValue) (xs : List TableWork) (r : Result Bool Stop) → HalfAt n owner v rs ts a → TookOn owner v ts w xs r → OnOutcome n owner w xs a r
+  taken_on [] _ _ _ _ _ g (fresh v t ts none) = g
+  taken_on (r ∷ rs) _ _ _ _ _ g (fresh v t ts none) = absurd (let some = some_done v v t ts r rs g in omega arith)
+  taken_on [] _ _ _ _ _ g (settled v w t ts some took) = settled_at v w t ts g some took
+  taken_on (r ∷ rs) _ _ _ _ _ g (settled v w t ts some took) = absurd (never_settled v w t ts r rs g _ (found v w t ts r rs g (Ok again.Settled) took))
+  taken_on [] _ _ _ _ _ g (taken v u w t ts f some took back) = absurd (let e = (last_is v u t ts (Ok (again.Taken f)) g some took).0 in cc)
+  taken_on (r ∷ rs) _ _ _ _ _ g (taken v u w t ts f some took back) = absurd (never_taken v u t ts r rs g f _ refl (found v u t ts r rs g (Ok (again.Taken f)) took))
+  taken_on [] _ _ _ _ _ g (opened v u w t ts us f progress own answer some took on) = absurd (let e = (last_is v u t ts (Ok (again.Opened f progress own)) g some took).0 in cc)
+  taken_on (r ∷ rs) _ _ _ _ _ g (opened v u w t ts us f progress own answer some took on) = taken_on rs u (table_in t f progress own true ∷ t ∷ ts) w us answer (opened_at v u t ts r rs g f progress own took) on
+  taken_on rs _ _ _ _ _ g (waiting v u w t ts f own stamp stop some took left) = wait_ends a stop (took.shows 0).1
+  taken_on [] _ _ _ _ _ g (stopped v w t ts stop some took) = absurd (let e = (last_is v w t ts (Err stop) g some took).0 in cc)
+  taken_on (r ∷ rs) _ _ _ _ _ g (stopped v w t ts stop some took) = ends_by v w t ts r rs g stop _ refl (found v w t ts r rs g (Err stop) took)
