@@ -9,3 +9,4 @@ pub mod Halfway
 pub mod Unwinding
 pub mod Retaking
 pub mod Resuming
+pub mod Calling

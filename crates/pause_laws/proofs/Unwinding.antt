@@ -36,7 +36,7 @@ use Rattle.pause_laws.proofs.Under.{IsKindBut, PlainTables, Spelled, TableOf, Un
 
 -- ---- the outermost table
 abbrev pub IsOuter : ℕ → ℕ → List TableWork → Type 0
-IsOuter f level [] = Unit {0}
+IsOuter f level [] = ⊥
 IsOuter f level (t ∷ []) = (t.frame ≡ f) × (t.level ≡ level)
 IsOuter f level (t ∷ o ∷ ts) = IsOuter f level (o ∷ ts)
 
