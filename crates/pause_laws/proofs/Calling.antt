@@ -224,3 +224,104 @@ module _ (n : Machine) (owner : ℕ) (m : Words) (t : TableWork) (rs : List Tabl
     put_again =
         described_same n (put t.frame (got t.frame m)) (reference_back t.frame one) (lent x q) (record { shares = λ g. back_by (g == t.frame) g refl; kinds = λ g. refl; cells = λ g i. refl })
         (same_back n (got t.frame m) one t.frame (record { owner = lends.share.owner; allocated = lends.share.allocated; count = lends.share.count + 1 + x t.frame }) got_it of_t.inside one_here)
+
+    pub outer_stopped : (e : Stop) → type_stop t.frame (level_type t.level) (got t.frame m (Kind t.frame)) ≡ Some e → ⊥
+    outer_stopped e stop = not_stopped n (got t.frame m) m one t.frame t.level true t.done got_it of_t.inside of_t.low partial_one e stop
+
+    pub outer_counted : IsTakenBy (level_type t.level) (kind_at (got t.frame m) t.frame) (standing_of (kind_at (got t.frame m) t.frame) (level_type t.level)) types.Counted → ⊥
+    outer_counted way = not_counted n (got t.frame m) m one t.frame t.level true t.done got_it of_t.inside of_t.low partial_one way
+
+    module _ (w : PortValue) (progress : ℕ) (own : Bool) (way : IsTakenBy (level_type t.level) (kind_at (got t.frame m) t.frame) (standing_of (kind_at (got t.frame m) t.frame) (level_type t.level)) (types.InWork progress own)) (alike : Alike (told_word w) (types_taken t.frame (level_type t.level) (types.InWork progress own) (got t.frame m))) where
+      own_on : own ≡ true
+      own_on = own_is n (got t.frame m) (told_word w) one t.frame t.level true t.done got_it of_t.inside of_t.low partial_one progress own way
+
+      done_is : progress ≡ t.done
+      done_is = progress_is n (got t.frame m) (told_word w) one t.frame t.level true t.done got_it of_t.inside of_t.low partial_one progress own way
+
+      words : Alike (told_word w) (set_kind t.frame (work_unmarked (resumed_kind (kind_at (got t.frame m) t.frame))) (put t.frame (got t.frame m)))
+      words = retaken_words n (got t.frame m) (told_word w) one t.frame t.level true t.done got_it of_t.inside of_t.low partial_one progress own way alike
+
+      work_here : (over rs h.plain.kinds) t.frame ≡ work_kind (level_type t.level) false 0
+      work_here = over_off rs h.plain.kinds t.frame (off_below n owner h.plain t.frame t.level rs t [] of_t.high (omega arith) of_t.work under.tables) ∙ of_t.work
+
+      kinds_by : (b : Bool) (g : ℕ) → (g == t.frame) ≡ b → over rs h.plain.kinds g ≡ (if b then work_kind (level_type t.level) false 0 else (if b then partial_kind (level_type t.level) true false t.done 0 else over rs h.plain.kinds g))
+      kinds_by true g same = let e : g ≡ t.frame = grind (arith, nat_tests) in ap (over rs h.plain.kinds) e ∙ work_here
+      kinds_by false g same = refl
+
+      pub outer_half : Half n owner (told_word w) rs (t ∷ []) a
+      outer_half =
+          record {
+            plain = h.plain;
+            under = under;
+            describes = described_same n (told_word w) (with_kind t.frame (work_kind (level_type t.level) false 0) (lent x q)) (lent x (overlay rs h.plain)) (record { shares = λ g. refl; kinds = λ g. kinds_by (g == t.frame) g refl; cells = λ g i. refl })
+                (retaken n (got t.frame m) (told_word w) one t.frame t.level true t.done got_it of_t.inside of_t.low partial_one (put t.frame (got t.frame m)) (lent x q) put_again words);
+            spelled = spelled_other n (put t.frame (got t.frame m)) (told_word w) q (overlay rs h.plain) (λ g inside. put_again.kinds g inside)
+                (λ g inside out. subst (λ y. IsTrue (is_kind (kind_fields y))) (sym (put_kind t.frame g (got t.frame m))) (spells g inside out)) t.frame _ words
+                (λ out. work_out (level_type t.level) (subst (λ j. (is_dead j ≡ true) ⊎ (j.validated ≡ true)) work_here out)) (λ g off. sym (at_there t.frame g (partial_kind (level_type t.level) true false t.done 0) (over rs h.plain.kinds) off));
+            flags = (ap (λ (k : TableWork). k.own) (sym table) ∙ h.own, ap (λ (k : TableWork). k.recorded) (sym table) ∙ h.under_way);
+            settled = subst (λ k. IsLastSettled n h.plain (onto rs (k ∷ []))) table (subst (λ ks. IsLastSettled n h.plain (onto ks (h.table ∷ []))) inner h.settled);
+          }
+
+      pub outermost_is : t ≡ outermost_table t.frame t.level progress own
+      outermost_is =
+          let mine : t.own ≡ own = ap (λ (k : TableWork). k.own) (sym table) ∙ h.own ∙ sym own_on in
+          let under_way : t.recorded ≡ false = ap (λ (k : TableWork). k.recorded) (sym table) ∙ h.under_way in
+          ap (λ k. record { frame = t.frame; level = t.level; done = k; own = t.own; recorded = t.recorded }) (sym done_is)
+          ∙ ap (λ b. record { frame = t.frame; level = t.level; done = progress; own = b; recorded = t.recorded }) mine ∙ ap (λ b. record { frame = t.frame; level = t.level; done = progress; own = own; recorded = b }) under_way
+
+-- ---- a whole call, from parked words
+module _ (n : Machine) (owner : ℕ) (a : PlainOutcome) (is : IsMachine n) (v : PortValue) (t : TableWork) (g : ParkedAt n owner v t.frame t.level a) (table : g.parked.table ≡ t) where
+
+  none_by : (u : PortValue) → GotRef v u t.frame owner (Ok t.frame) → refer n owner t.frame (told_word v (Refs t.frame)) ≡ None
+  none_by u ref = subst (λ k. refer k owner t.frame (told_word v (Refs t.frame)) ≡ None) g.machine (ref.plain g.telling).0
+
+  words_by : (u : PortValue) → GotRef v u t.frame owner (Ok t.frame) → told_word u ≡ got t.frame (told_word v)
+  words_by u ref = fun_ext (ref.plain g.telling).1
+
+  telling_by : (u : PortValue) → GotRef v u t.frame owner (Ok t.frame) → is_telling u ≡ true
+  telling_by u ref = came_telling v u (does_came v u _ ref.found) ∙ g.telling
+
+  unreferred_ends : (w : PortValue) (e : Stop) → GotRef v w t.frame owner (Err e) → Ends a e
+  unreferred_ends w (Refused y) ref =
+      let refuses = subst (λ k. refer k owner t.frame (told_word v (Refs t.frame)) ≡ Some y) g.machine (ref.plain g.telling).0 in
+      λ known. absurd (outer_refused n owner (told_word v) t g.parked.inner a is g.parked table refl y refuses known)
+  unreferred_ends w (Paused z) ref = absurd (ref.plain g.telling)
+
+  untyped_never : (u x : PortValue) (e : Stop) → GotRef v u t.frame owner (Ok t.frame) → TookType u x t.frame owner t.level (Err e) → ⊥
+  untyped_never u x e ref type =
+      outer_stopped n owner (told_word v) t g.parked.inner a is g.parked table refl (none_by u ref) e (subst (λ (m : Words). type_stop t.frame (level_type t.level) (m (Kind t.frame)) ≡ Some e) (words_by u ref) (type.plain (telling_by u ref)).0)
+
+  counted_never : (u x : PortValue) → GotRef v u t.frame owner (Ok t.frame) → TookType u x t.frame owner t.level (Ok types.Counted) → ⊥
+  counted_never u x ref type =
+      outer_counted n owner (told_word v) t g.parked.inner a is g.parked table refl (none_by u ref)
+      (subst (λ (m : Words). IsTakenBy (level_type t.level) (kind_at m t.frame) (standing_of (kind_at m t.frame) (level_type t.level)) types.Counted) (words_by u ref) (type.plain (telling_by u ref)).1)
+
+  module _ (u x : PortValue) (progress : ℕ) (own : Bool) (ref : GotRef v u t.frame owner (Ok t.frame)) (type : TookType u x t.frame owner t.level (Ok (types.InWork progress own))) where
+    way : IsTakenBy (level_type t.level) (kind_at (got t.frame (told_word v)) t.frame) (standing_of (kind_at (got t.frame (told_word v)) t.frame) (level_type t.level)) (types.InWork progress own)
+    way = subst (λ (m : Words). IsTakenBy (level_type t.level) (kind_at m t.frame) (standing_of (kind_at m t.frame) (level_type t.level)) (types.InWork progress own)) (words_by u ref) (type.plain (telling_by u ref)).1
+
+    leaves_words : Alike (told_word x) (types_taken t.frame (level_type t.level) (types.InWork progress own) (got t.frame (told_word v)))
+    leaves_words = subst (λ (m : Words). Alike (told_word x) (types_taken t.frame (level_type t.level) (types.InWork progress own) m)) (words_by u ref) (type.plain (telling_by u ref)).2
+
+    came : Came v x
+    came = came_trans v u x (does_came v u _ ref.found) (does_came u x _ type.found)
+
+    pub begins : HalfAt n owner x g.parked.inner (outermost_table t.frame t.level progress own ∷ []) a
+    begins =
+        let half = outer_half n owner (told_word v) t g.parked.inner a is g.parked table refl (none_by u ref) x progress own way leaves_words in
+        let same = outermost_is n owner (told_word v) t g.parked.inner a is g.parked table refl (none_by u ref) x progress own way leaves_words in
+        record {
+          machine = ap (λ (q : Post). q.machine) (came_post v x came) ∙ g.machine;
+          telling = came_telling v x came ∙ g.telling;
+          half = subst (λ k. Half n owner (told_word x) g.parked.inner (k ∷ []) a) same half;
+        }
+
+  pub resumed_call : (w : PortValue) (answers : List Bool) (answer : Result ℕ Stop) → Acquired v t.frame owner t.level w answers answer → CallOutcome n owner w t.frame t.level a answer
+  resumed_call _ _ _ (unreferred w stop ref) = ends_call n owner w t.frame t.level a stop (unreferred_ends w stop ref)
+  resumed_call _ _ _ (untyped u x w stop ref type back) = absurd (untyped_never u x stop ref type)
+  resumed_call _ _ _ (counted u w ref type) = absurd (counted_never u w ref type)
+  resumed_call _ _ _ (waiting u x w own stamp stop ref type left) = ends_call n owner w t.frame t.level a stop (wait_ends a stop type.waits.0)
+  resumed_call _ _ _ (unfinished u x y w progress own us answers stop ref type work left) =
+      left_call n owner t.frame t.level a is x g.parked.inner (outermost_table t.frame t.level progress own) (begins u x progress own ref type) (refl, refl) y w us answers stop work left
+  resumed_call _ _ _ (finished u x y w progress own k answers ref type work full made) =
+      done_call n owner t.frame t.level a is x g.parked.inner (outermost_table t.frame t.level progress own) (begins u x progress own ref type) (refl, refl) y w k answers work full made
