@@ -113,7 +113,7 @@ ends_call n owner w f level a (Paused (pauses.Lost x y z)) ends = tt
 ends_call n owner w f level a (Paused (pauses.Busy g x)) ends = tt
 ends_call n owner w f level a (Paused (pauses.Alive v x)) ends = tt
 
-lent_none : (p : Plain) → IsSame (lent (extra []) p) p
+pub lent_none : (p : Plain) → IsSame (lent (extra []) p) p
 lent_none p = record { shares = λ g. by (p.shares g); kinds = λ g. refl; cells = λ g i. refl }
   where
     by : (o : Option Share) → o ≡ more_of 0 o

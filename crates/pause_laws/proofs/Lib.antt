@@ -10,3 +10,5 @@ pub mod Unwinding
 pub mod Retaking
 pub mod Resuming
 pub mod Calling
+pub mod Beginning
+pub mod Repeating

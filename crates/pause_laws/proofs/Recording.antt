@@ -319,7 +319,7 @@ module _ (n : Machine) (m : Words) (w : PortValue) (x : ℕ → ℕ) (p : Plain)
       typed_by (inl (inr live)) = live_case live
       typed_by (inr one) = absurd (no_other g l (m (Kind g)) (count_at m g) ts above free (work_other (kind_at m g) ts g l above (in_work n owner m x p ts d spells works ts g inside works one)))
 
-      met_typed : Met (demands.Typed g (level_type l))
+      pub met_typed : Met (demands.Typed g (level_type l))
       met_typed = typed_by (all g inside)
 
   read_by : (g : ℕ) (o : Option Refusal) → refer n owner g (m (Refs g)) ≡ o → RefersPlainly w m (Ok Recorded) o (got g m) → Met (demands.Read g)

@@ -229,7 +229,7 @@ module _ (n : Machine) (m x : Words) (p q : Plain) (kinds : (h : ℕ) → h < n.
     pub spelled_other : Spelled n x q
     spelled_other h inside out = work_by (h == g) h refl inside out
 
-live_sober : (k : KindWord) → k.validated ≡ true → sober k ≡ k
+pub live_sober : (k : KindWord) → k.validated ≡ true → sober k ≡ k
 live_sober k on = ap (λ b. if b then k else record k { number = 0; unflushed = false }) on
 
 module _ (n : Machine) (owner : ℕ) (m : Words) (x : ℕ → ℕ) (p : Plain) (ts : List TableWork) (d : Describes n m (lent x p)) (spelled : Spelled n m p) (tables : PlainTables n owner p ts) where
