@@ -36,6 +36,7 @@ use Rattle.table_twins.specs.Answers.{IsSameAnswer}
 use Rattle.table_twins.proofs.Referring.{same_answer}
 use Rattle.table_twins.proofs.Sharing.{same_back}
 use Rattle.table_courses.specs.Acquiring.{Acquired, GotRef, MadeLive, keeps_it, TookType, Unwound, Worked, counted, cut_off, due, filled, finished, outermost_table, unfinished, unreferred, untyped, waiting}
+use Rattle.course_laws.proofs.Outermost.{IsOutermost, worked_outermost}
 use Rattle.course_laws.proofs.Stacking.{Refuses}
 use Rattle.pause_laws.proofs.Completing.{put_kind}
 use Rattle.pause_laws.proofs.Halfway.{Half, half_of, of_half, off_below, onto, over, over_off, overlay, tables_onto}
@@ -47,7 +48,7 @@ use Rattle.pause_laws.proofs.Resuming.{taken_on}
 use Rattle.pause_laws.proofs.Retaking.{not_counted, not_stopped, own_is, progress_is, retaken, retaken_words}
 use Rattle.pause_laws.proofs.Travelling.{Ends, Leads, Steps, all_filled, live_steps, wait_ends}
 use Rattle.pause_laws.proofs.Under.{Spelled, TableOf, Under, spelled_other}
-use Rattle.pause_laws.proofs.Unwinding.{HalfAt, IsOuter, Parked, ParkedAt, outer_filled, outer_on, parked_over, unwound}
+use Rattle.pause_laws.proofs.Unwinding.{HalfAt, Parked, ParkedAt, parked_over, unwound}
 
 -- ---- the tables
 module _ (n : Machine) (owner : ℕ) (a : PlainOutcome) (is : IsMachine n) where
@@ -88,11 +89,6 @@ module _ (n : Machine) (owner : ℕ) (a : PlainOutcome) (is : IsMachine n) where
       let h = taken_on n owner a is rs v (t ∷ []) u us (Ok done) g on in
       lead_works w xs answer (all_filled n owner a is u us false (steps_of u us h) _ w xs answers answer f)
 
-pub worked_outer : (f level owner : ℕ) (v : PortValue) (t : TableWork) (w : PortValue) (xs : List TableWork) (answers : List Bool) (r : Result (Unit {0}) Stop) → Worked owner v t w xs answers r → IsOuter f level (t ∷ []) → IsOuter f level xs
-worked_outer f level owner v t _ _ _ _ (cut_off w us stop on) is = outer_on f level owner v (t ∷ []) w us _ on is
-worked_outer f level owner v t _ _ _ _ (due w us on asked) is = outer_on f level owner v (t ∷ []) w us _ on is
-worked_outer f level owner v t _ _ _ _ (filled u w us xs done answers answer on f2) is = outer_filled f level owner u us _ w xs answers answer f2 (outer_on f level owner v (t ∷ []) u us _ on is)
-
 -- ---- what a whole call comes to
 -- the acquisition alone is fine, and the words are those that it leaves
 pub record IsDone (n : Machine) (w : PortValue) (a : PlainOutcome) : Type 0 where
@@ -130,15 +126,15 @@ all_done n owner w a c =
     }
 
 -- from the outermost table in work on
-module _ (n : Machine) (owner f level : ℕ) (a : PlainOutcome) (is : IsMachine n) (x : PortValue) (rs : List TableWork) (t : TableWork) (g : HalfAt n owner x rs (t ∷ []) a) (outer : IsOuter f level (t ∷ [])) where
-  pauses_by : (y w : PortValue) (us : List TableWork) → HalfAt n owner y [] us a → IsOuter f level us → Unwound y us true w → ParkedAt n owner w f level a
+module _ (n : Machine) (owner f level : ℕ) (a : PlainOutcome) (is : IsMachine n) (x : PortValue) (rs : List TableWork) (t : TableWork) (g : HalfAt n owner x rs (t ∷ []) a) (outer : IsOutermost f level (t ∷ [])) where
+  pauses_by : (y w : PortValue) (us : List TableWork) → HalfAt n owner y [] us a → IsOutermost f level us → Unwound y us true w → ParkedAt n owner w f level a
   pauses_by y w [] h out left = absurd out
   pauses_by y w (o ∷ us) h out left = unwound n owner f level a us [] o y w h out left
 
   pub left_call : (y w : PortValue) (us : List TableWork) (answers : List Bool) (stop : Stop) → Worked owner x t y us answers (Err stop) → Unwound y us (keeps_it stop) w → CallOutcome n owner w f level a (Err stop)
   left_call y w us answers (Refused z) work left = worked n owner a is rs x t y us answers (Err (Refused z)) g work
   left_call y w us answers (Paused pauses.Due) work left =
-      pauses_by y w us (worked n owner a is rs x t y us answers (Err (Paused pauses.Due)) g work) (worked_outer f level owner x t y us answers (Err (Paused pauses.Due)) work outer) left
+      pauses_by y w us (worked n owner a is rs x t y us answers (Err (Paused pauses.Due)) g work) (worked_outermost owner f level x t y us answers (Err (Paused pauses.Due)) work outer) left
   left_call y w us answers (Paused (pauses.Flush v z k)) work left = tt
   left_call y w us answers (Paused (pauses.Lost k z l)) work left = tt
   left_call y w us answers (Paused (pauses.Busy h k)) work left = tt

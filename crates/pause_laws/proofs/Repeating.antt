@@ -33,7 +33,7 @@ use Rattle.course_laws.proofs.Deciding.{had_where_lawful}
 use Rattle.course_laws.proofs.Stacking.{Refuses}
 use Rattle.course_laws.proofs.Starting.{described}
 use Rattle.course_laws.proofs.Stopping.{StopsIn, acquired_stops}
-use Rattle.pause_laws.specs.Calls.{Calls, GoesOn, HasRoom, Resumed, again, last, more, once}
+use Rattle.pause_laws.specs.Calls.{Calls, IsKeptFor, HasRoom, Repeats, again, last, more, once}
 use Rattle.pause_laws.proofs.Beginning.{first_call}
 use Rattle.pause_laws.proofs.Calling.{CallOutcome, IsDone, resumed_call}
 use Rattle.pause_laws.proofs.Lends.{extra, lent}
@@ -82,7 +82,7 @@ module _ (n : Machine) (owner f level : ℕ) (a : PlainOutcome) (is : IsMachine 
       subst (λ l. CallOutcome n owner w f l a answer) h.level_is (subst (λ i. CallOutcome n owner w i t.level a answer) h.frame (resumed_call n owner a is v t there refl w answers answer call))
 
   -- the words between two calls
-  pub goes_on : (u x : PortValue) → GoesOn u x → ParkedAt n owner u f level a → ParkedAt n owner x f level a
+  pub goes_on : (u x : PortValue) → IsKeptFor u x → ParkedAt n owner u f level a → ParkedAt n owner x f level a
   goes_on u x on g =
       let h = g.parked in
       let q = parked_over true h.table h.inner h.plain in
@@ -112,7 +112,7 @@ module _ (n : Machine) (owner f level : ℕ) (a : PlainOutcome) (is : IsMachine 
   last_by v w answers (Err (Refused (refusals.CountFull g x))) acquired room o = λ decided. absurd (never_full v w g x room (acquired_stops v f owner level w answers (Err (Refused (refusals.CountFull g x))) acquired (λ e. absurd cc)))
   last_by v w answers (Err (Refused _)) acquired room o = λ decided. o tt
 
-  pub resumed : (v w : PortValue) (answer : Result ℕ Stop) → ParkedAt n owner v f level a → Resumed f owner level v w answer → LastOutcome n w a answer
+  pub resumed : (v w : PortValue) (answer : Result ℕ Stop) → ParkedAt n owner v f level a → Repeats f owner level v w answer → LastOutcome n w a answer
   resumed _ _ _ g (last v w answers answer acquired room) = last_by v w answers answer acquired room (resumed_from v w answers answer g acquired)
   resumed _ _ _ g (again v u x w answers answer acquired on rest) = resumed x w answer (goes_on u x on (resumed_from v u answers (Err (Paused Due)) g acquired)) rest
 
@@ -135,7 +135,7 @@ module _ (v : PortValue) (f owner level : ℕ) (machine : IsMachine v.post.machi
       let had = had_by w answer decided o in
       (λ is. had.0 (law.0 (lawful_plain n owner f (level_type level) (told_word v) p d is)), λ is. lawful_words n owner f (level_type level) (told_word v) p d (law.1 (had.1 is)))
 
-  behind : (u x w : PortValue) (answers : List Bool) (answer : Result ℕ Stop) → Acquired v f owner level u answers (Err (Paused Due)) → GoesOn u x → Resumed f owner level x w answer → LastOutcome v.post.machine w a answer
+  behind : (u x w : PortValue) (answers : List Bool) (answer : Result ℕ Stop) → Acquired v f owner level u answers (Err (Paused Due)) → IsKeptFor u x → Repeats f owner level x w answer → LastOutcome v.post.machine w a answer
   behind u x w answers answer acquired on rest =
       resumed v.post.machine owner f level a machine x w answer (goes_on v.post.machine owner f level a machine u x on (first_call v f owner level machine telling calm orderly low high u answers (Err (Paused Due)) acquired)) rest
 

@@ -26,6 +26,7 @@ use Rattle.table_law.proofs.Counting.{at_here, at_there}
 use Rattle.table_twins.proofs.Kinding.{described_alike}
 use Rattle.table_twins.proofs.Sharing.{same_back}
 use Rattle.table_courses.specs.Acquiring.{Advanced, Filled, InnerLeft, LeftPartial, OutermostLeft, TookOn, Unwound, Worked, around_left, asked, begun, completed, cut_off, due, filled, fresh, one_more, opened, recorded, settled, stopped, taken, unasked, unsettled, waiting}
+use Rattle.course_laws.proofs.Outermost.{IsOutermost}
 use Rattle.course_laws.proofs.Walking.{gave_came, unwound_came}
 use Rattle.pause_laws.proofs.Completing.{IsKinded, back_lent, described_kind, put_kind, same_kinded, spelled_kind, stored_kinded}
 use Rattle.pause_laws.proofs.Halfway.{Half, onto, over, overlay, tables_onto}
@@ -33,39 +34,6 @@ use Rattle.pause_laws.proofs.Lends.{described_same, extra, lent, more_of}
 use Rattle.pause_laws.proofs.Pacing.{Flagged, IsLastSettled, extra_own, lent_same}
 use Rattle.pause_laws.proofs.Recording.{work_out}
 use Rattle.pause_laws.proofs.Under.{IsKindBut, PlainTables, Spelled, TableOf, Under, spelled_same}
-
--- ---- the outermost table
-abbrev pub IsOuter : ℕ → ℕ → List TableWork → Type 0
-IsOuter f level [] = ⊥
-IsOuter f level (t ∷ []) = (t.frame ≡ f) × (t.level ≡ level)
-IsOuter f level (t ∷ o ∷ ts) = IsOuter f level (o ∷ ts)
-
-outer_more : (f level : ℕ) (t : TableWork) (ts : List TableWork) → IsOuter f level (t ∷ ts) → IsOuter f level (one_more t ∷ ts)
-outer_more f level t [] is = is
-outer_more f level t (o ∷ ts) is = is
-
-pub outer_on : (f level owner : ℕ) (v : PortValue) (ts : List TableWork) (w : PortValue) (us : List TableWork) (r : Result Bool Stop) → TookOn owner v ts w us r → IsOuter f level ts → IsOuter f level us
-outer_on f level owner _ _ _ _ _ (fresh v t ts none) is = is
-outer_on f level owner _ _ _ _ _ (settled v w t ts some a) is = is
-outer_on f level owner _ _ _ _ _ (taken v u w t ts g some a b) is = is
-outer_on f level owner _ _ _ _ _ (opened v u w t ts us g progress own answer some a b) is = outer_on f level owner u _ w us answer b is
-outer_on f level owner _ _ _ _ _ (waiting v u w t ts g own stamp stop some a b) is = is
-outer_on f level owner _ _ _ _ _ (stopped v w t ts stop some a) is = is
-
-outer_advanced : (f level owner : ℕ) (v : PortValue) (ts : List TableWork) (w : PortValue) (us : List TableWork) (r : Result Bool Stop) → Advanced owner v ts w us r → IsOuter f level ts → IsOuter f level us
-outer_advanced f level owner _ _ _ _ _ (recorded v w t ts few a) is = outer_more f level t ts is
-outer_advanced f level owner _ _ _ _ _ (opened v u w t ts us g progress own done few a b) is = outer_on f level owner u _ w us _ b (outer_more f level t ts is)
-outer_advanced f level owner _ _ _ _ _ (cut_off v u w t ts us g progress own stop few a b) is = outer_on f level owner u _ w us _ b (outer_more f level t ts is)
-outer_advanced f level owner _ _ _ _ _ (unsettled v w t ts stop few a) is = outer_more f level t ts is
-outer_advanced f level owner _ _ _ _ _ (stopped v w t ts stop few a) is = is
-outer_advanced f level owner _ _ _ _ _ (completed v u w t outer ts full a b) is = is
-
-pub outer_filled : (f level owner : ℕ) (v : PortValue) (ts : List TableWork) (first : List Bool) (w : PortValue) (us : List TableWork) (answers : List Bool) (r : Result (Unit {0}) Stop) → Filled owner v ts first w us answers r → IsOuter f level ts → IsOuter f level us
-outer_filled f level owner v ts first _ _ _ _ begun is = is
-outer_filled f level owner v ts first _ _ _ _ (unasked u w us xs done answers before step off) is = outer_advanced f level owner u us w xs _ step (outer_filled f level owner v ts first u us answers (Ok tt) before is)
-outer_filled f level owner v ts first _ _ _ _ (asked u w us xs answers before step on) is = outer_advanced f level owner u us w xs _ step (outer_filled f level owner v ts first u us answers (Ok tt) before is)
-outer_filled f level owner v ts first _ _ _ _ (due u w us xs answers before step on) is = outer_advanced f level owner u us w xs _ step (outer_filled f level owner v ts first u us answers (Ok tt) before is)
-outer_filled f level owner v ts first _ _ _ _ (stopped u w us xs answers stop before step) is = outer_advanced f level owner u us w xs _ step (outer_filled f level owner v ts first u us answers (Ok tt) before is)
 
 -- ---- the words of a pause
 abbrev pub parked_over : Bool → TableWork → List TableWork → Plain → Plain
@@ -219,7 +187,7 @@ module _ (n : Machine) (owner f level : ℕ) (a : PlainOutcome) where
         ap (λ b. if b || t.recorded then o else record o { done = o.done - 1 }) own ∙ ap (λ b. if b then o else record o { done = o.done - 1 }) on,
       )
 
-  pub unwound : (us rs : List TableWork) (t : TableWork) (v w : PortValue) → HalfAt n owner v rs (t ∷ us) a → IsOuter f level (t ∷ us) → Unwound v (t ∷ us) true w → ParkedAt n owner w f level a
+  pub unwound : (us rs : List TableWork) (t : TableWork) (v w : PortValue) → HalfAt n owner v rs (t ∷ us) a → IsOutermost f level (t ∷ us) → Unwound v (t ∷ us) true w → ParkedAt n owner w f level a
   unwound [] rs t v w g outer left =
       let own = g.half.flags.0 in
       let l = subst (λ b. OutermostLeft v w t b true) own left in

@@ -15,20 +15,20 @@ abbrev pub HasRoom : PortValue → PortValue → Type 0
 HasRoom v w = (m : Moment) (g : ℕ) → Met v w m → m.place ≡ Refs g → ref_count m.found < v.post.machine.limit
 
 -- a call begins where the last one ended: on the same machine, whose words are all told, and are the same
-pub record GoesOn (v w : PortValue) : Type 0 where
+pub record IsKeptFor (v w : PortValue) : Type 0 where
   pub machine : w.post.machine ≡ v.post.machine
   pub telling : is_telling w ≡ true
   pub words : Leaves w (told_word v)
 
 -- Acquisitions of one frame for one owner and level, of which the first is a resumption: each but the last one is paused by the gate.
 -- A resumption takes one reference more to each table that it resumes, until this is complete: in the last one that finds room.
-pub data Resumed (f owner level : ℕ) : PortValue → PortValue → Result ℕ Stop → Type 0 where
-  last : (v w : PortValue) (answers : List Bool) (answer : Result ℕ Stop) → Acquired v f owner level w answers answer → HasRoom v w → Resumed f owner level v w answer
-  again : (v u x w : PortValue) (answers : List Bool) (answer : Result ℕ Stop) → Acquired v f owner level u answers (Err (Paused Due)) → GoesOn u x → Resumed f owner level x w answer →
-      Resumed f owner level v w answer
+pub data Repeats (f owner level : ℕ) : PortValue → PortValue → Result ℕ Stop → Type 0 where
+  last : (v w : PortValue) (answers : List Bool) (answer : Result ℕ Stop) → Acquired v f owner level w answers answer → HasRoom v w → Repeats f owner level v w answer
+  again : (v u x w : PortValue) (answers : List Bool) (answer : Result ℕ Stop) → Acquired v f owner level u answers (Err (Paused Due)) → IsKeptFor u x → Repeats f owner level x w answer →
+      Repeats f owner level v w answer
 
 -- the same from the first on, which resumes nothing
 pub data Calls (f owner level : ℕ) : PortValue → PortValue → Result ℕ Stop → Type 0 where
   once : (v w : PortValue) (answers : List Bool) (answer : Result ℕ Stop) → Acquired v f owner level w answers answer → Calls f owner level v w answer
-  more : (v u x w : PortValue) (answers : List Bool) (answer : Result ℕ Stop) → Acquired v f owner level u answers (Err (Paused Due)) → GoesOn u x → Resumed f owner level x w answer →
+  more : (v u x w : PortValue) (answers : List Bool) (answer : Result ℕ Stop) → Acquired v f owner level u answers (Err (Paused Due)) → IsKeptFor u x → Repeats f owner level x w answer →
       Calls f owner level v w answer
