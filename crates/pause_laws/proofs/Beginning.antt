@@ -1,17 +1,15 @@
 -- The first call begins with words at rest.
-use Rattle.std.proofs.Common.{◌≡◌, ◌⊎◌, ℕ, suc, ◌+◌, ◌-◌, ◌<◌, ◌≤◌, ◌==◌, Bool, true, false, List, [], ◌∷◌, Option, Some, None, Result, Ok, Err, IsTrue, refl, sym, ap, ◌∙◌, subst, inl, inr, arith}
+use Rattle.std.proofs.Common.{◌≡◌, ℕ, suc, ◌-◌, ◌≤◌, Bool, true, false, List, [], ◌∷◌, None, Result, Ok, Err, refl, sym, ap, ◌∙◌, subst, inl, inr, arith}
 use Rattle.std.proofs.Math.Path.{fun_ext}
 use Rattle.xp_words.specs.Machine.{IsMachine, Machine}
 use Rattle.xp_words.specs.declared.entry.Demand.TheVariants.{Typed}
-use Rattle.xp_words.specs.declared.kind.KindWord.{KindWord}
 use Rattle.xp_words.specs.declared.place.Place.TheVariants.{Kind, Refs}
-use Rattle.xp_words.specs.declared.reply.Pause.{Pause}
 use Rattle.xp_words.specs.declared.reply.Pause.TheVariants as pauses
 use Rattle.xp_words.specs.declared.reply.Refusal.{Refusal}
 use Rattle.xp_words.specs.declared.reply.Refusal.TheVariants as refusals
 use Rattle.xp_words.specs.declared.reply.Stop.{Stop}
 use Rattle.xp_words.specs.declared.reply.Stop.TheVariants.{Refused, Paused}
-use Rattle.xp_board.specs.Readings.{is_dead, kind_at}
+use Rattle.xp_board.specs.Readings.{kind_at}
 use Rattle.xp_board.specs.Told.{Post, PortValue, is_telling, told_word}
 use Rattle.step_maker.specs.Moves.{Came}
 use Rattle.step_maker.specs.Plain.{Words}
@@ -28,26 +26,25 @@ use Rattle.partial_state.specs.Levels.{level_type}
 use Rattle.partial_state.specs.declared.stack.TableWork.{TableWork}
 use Rattle.table_entries.specs.Plain.{IsTakenOf}
 use Rattle.table_law.specs.Alone.{PlainOutcome, alone}
-use Rattle.table_law.specs.Lawful.{IsAtRest, share_count}
-use Rattle.table_law.specs.Plain.{Describes, Plain, plain_of, sober, with_kind}
+use Rattle.table_law.specs.Lawful.{IsAtRest}
+use Rattle.table_law.specs.Plain.{Describes, Plain, plain_of, with_kind}
 use Rattle.table_law.specs.Stack.{rest, table_left}
-use Rattle.table_law.proofs.Describing.{sober_dead, sober_live}
+use Rattle.table_law.proofs.Describing.{sober_dead}
 use Rattle.table_law.proofs.Steps.{alone_opened}
 use Rattle.table_twins.proofs.Waiting.{only_busy}
 use Rattle.table_courses.specs.Acquiring.{Acquired, GotRef, TookType, counted, finished, outermost_table, unfinished, unreferred, untyped, waiting}
 use Rattle.course_laws.specs.Courses.{IsFinal, IsOrderly}
 use Rattle.course_laws.proofs.Beginning.{untyped_refuses}
 use Rattle.course_laws.proofs.Frames.{AllFrames, IsFrame, IsLiveWithin, count_at}
-use Rattle.course_laws.proofs.Stacking.{Refuses, lefts}
+use Rattle.course_laws.proofs.Stacking.{lefts}
 use Rattle.course_laws.proofs.Starting.{described, rest_frames, unreferred_refuses}
 use Rattle.pause_laws.proofs.Calling.{CallOutcome, IsDone, done_call, ends_call, left_call, lent_none}
-use Rattle.pause_laws.proofs.Halfway.{Half}
 use Rattle.pause_laws.proofs.Lends.{IsSame, described_same, extra, lent}
 use Rattle.pause_laws.proofs.Pacing.{extra_own, lent_same}
 use Rattle.pause_laws.proofs.Recording.{Met, OpensTo, met_typed, opens_to, taking, with_one}
 use Rattle.pause_laws.proofs.Refusing.{IsForWords}
 use Rattle.pause_laws.proofs.Travelling.{Ends, wait_ends}
-use Rattle.pause_laws.proofs.Under.{IsStill, PlainFrames, Spelled, TableOf, Under, count_of, frames_but, live_sober}
+use Rattle.pause_laws.proofs.Under.{IsStill, PlainFrames, Spelled, TableOf, count_of, frames_but, live_sober}
 use Rattle.pause_laws.proofs.Unwinding.{HalfAt}
 
 pub words_final : (y : Refusal) → IsForWords y → IsFinal (Refused y)

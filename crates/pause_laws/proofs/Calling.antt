@@ -1,10 +1,9 @@
 -- Whole calls: one that resumes what another has parked.
-use Rattle.std.proofs.Common.{◌≡◌, ◌≢◌, ◌⊎◌, ℕ, ◌+◌, ◌-◌, ◌<◌, ◌≤◌, ◌==◌, ◌&&◌, not, nat_le, if◌then◌else◌, Bool, true, false, List, [], ◌∷◌, Option, Some, None, Result, Ok, Err, IsTrue, refl, sym, ap, ◌∙◌, subst, inl, inr, arith}
+use Rattle.std.proofs.Common.{◌≡◌, ◌⊎◌, ℕ, ◌+◌, ◌-◌, ◌<◌, ◌==◌, nat_le, if◌then◌else◌, Bool, true, false, List, [], ◌∷◌, Option, Some, None, Result, Ok, Err, IsTrue, refl, sym, ap, ◌∙◌, subst, arith}
 use Rattle.std.proofs.Math.Path.{fun_ext}
 use Rattle.std.proofs.lemmas.Bool.Decides.{nat_tests}
 use Rattle.xp_words.specs.KindWords.{is_kind, kind_fields}
 use Rattle.xp_words.specs.Machine.{IsMachine, Machine}
-use Rattle.xp_words.specs.declared.kind.KindWord.{KindWord}
 use Rattle.xp_words.specs.declared.place.Place.TheVariants.{Kind, Refs}
 use Rattle.xp_words.specs.declared.reply.Pause.TheVariants as pauses
 use Rattle.xp_words.specs.declared.reply.Refusal.{Refusal}
@@ -22,14 +21,12 @@ use Rattle.answer_fits.proofs.Visiting.{does_came}
 use Rattle.frame_words.specs.Plain.{got, put, refer}
 use Rattle.frame_types.specs.Plain.{IsTakenBy, set_kind, taken as types_taken, type_stop, work_unmarked}
 use Rattle.frame_types.specs.Standing.{standing_of}
-use Rattle.frame_types.specs.declared.taking.Taken.{Taken}
 use Rattle.frame_types.specs.declared.taking.Taken.TheVariants as types
 use Rattle.kind_words.specs.Kinds.{partial_kind, work_kind}
 use Rattle.partial_state.specs.Levels.{level_type}
 use Rattle.partial_state.specs.declared.stack.TableWork.{TableWork}
-use Rattle.table_entries.specs.Plain.{IsTakenOf}
 use Rattle.table_law.specs.Alone.{PlainOutcome, take_reference}
-use Rattle.table_law.specs.Plain.{Describes, Plain, Share, at, fewer, raised_share, reference_back, with_kind, with_share}
+use Rattle.table_law.specs.Plain.{Describes, Plain, Share, fewer, raised_share, reference_back, with_kind, with_share}
 use Rattle.table_law.specs.Stack.{rest}
 use Rattle.table_law.proofs.Counting.{at_here, at_there}
 use Rattle.table_twins.specs.Answers.{IsSameAnswer}
@@ -267,7 +264,6 @@ module _ (n : Machine) (owner : ℕ) (m : Words) (t : TableWork) (rs : List Tabl
 
 -- ---- a whole call, from parked words
 module _ (n : Machine) (owner : ℕ) (a : PlainOutcome) (is : IsMachine n) (v : PortValue) (t : TableWork) (g : ParkedAt n owner v t.frame t.level a) (table : g.parked.table ≡ t) where
-
   none_by : (u : PortValue) → GotRef v u t.frame owner (Ok t.frame) → refer n owner t.frame (told_word v (Refs t.frame)) ≡ None
   none_by u ref = subst (λ k. refer k owner t.frame (told_word v (Refs t.frame)) ≡ None) g.machine (ref.plain g.telling).0
 

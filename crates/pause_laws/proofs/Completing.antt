@@ -1,20 +1,16 @@
 -- A full table is made live; where it was resumed, the type count and the reference that are one too many are given back.
-use Rattle.std.proofs.Common.{◌≡◌, ◌≢◌, ◌⊎◌, ℕ, zero, suc, ◌+◌, ◌-◌, ◌<◌, ◌≤◌, ◌%◌, ◌^◌, ◌==◌, if◌then◌else◌, Bool, true, false, List, [], ◌∷◌, Option, Some, None, IsTrue, refl, sym, ap, ◌∙◌, subst, inl, inr, arith}
+use Rattle.std.proofs.Common.{◌≡◌, ◌≢◌, ◌⊎◌, ℕ, zero, suc, ◌+◌, ◌-◌, ◌<◌, ◌%◌, ◌^◌, ◌==◌, if◌then◌else◌, Bool, true, false, List, [], ◌∷◌, Some, None, IsTrue, refl, sym, ap, ◌∙◌, subst, inl, inr, arith}
 use Rattle.std.proofs.lemmas.Bool.Decides.{nat_tests}
 use Rattle.xp_words.specs.KindWords.{is_kind, kind_fields, kind_write}
-use Rattle.xp_words.specs.Machine.{IsMachine, Machine}
-use Rattle.xp_words.specs.declared.entry.Demand.TheVariants.{Typed}
+use Rattle.xp_words.specs.Machine.{Machine}
 use Rattle.xp_words.specs.declared.kind.KindWord.{KindWord}
-use Rattle.xp_words.specs.declared.place.Place.TheVariants.{Cell, Clock, Kind, Refs}
+use Rattle.xp_words.specs.declared.place.Place.TheVariants.{Cell, Kind, Refs}
 use Rattle.xp_board.specs.Acts.{left_by}
 use Rattle.xp_board.specs.Readings.{is_dead, kind_at, owner_of, ref_count}
 use Rattle.xp_board.specs.RefSteps.{one_down, owner_number}
-use Rattle.xp_board.specs.declared.step.Act.TheVariants.{Add, Store}
+use Rattle.xp_board.specs.declared.step.Act.TheVariants.{Add}
 use Rattle.xp_words.specs.declared.place.Place.{Place}
-use Rattle.xp_board.specs.Told.{PortValue, is_telling, told_word}
 use Rattle.step_maker.specs.Plain.{Words, change}
-use Rattle.step_maker.proofs.Coming.{moves_came}
-use Rattle.step_maker.proofs.Telling.{came_telling, leaves, load_tells}
 use Rattle.answer_fits.proofs.Alikes.{same_alike}
 use Rattle.frame_words.specs.Plain.{lowered, put, set_free}
 use Rattle.frame_types.specs.Plain.{set_kind}
@@ -25,19 +21,17 @@ use Rattle.partial_state.proofs.LevelFacts.{level_type-typed}
 use Rattle.partial_state.specs.declared.stack.TableWork.{TableWork}
 use Rattle.table_law.specs.Alone.{PlainOutcome}
 use Rattle.table_law.specs.Lawful.{share_count}
-use Rattle.table_law.specs.Levels.{entry_of}
-use Rattle.table_law.specs.Plain.{Describes, Plain, Share, at, fewer, reference_back, share_of, sober, with_kind}
+use Rattle.table_law.specs.Plain.{Describes, Plain, Share, fewer, reference_back, share_of, sober, with_kind}
 use Rattle.table_law.specs.Stack.{rest, table_left}
 use Rattle.table_law.proofs.Counting.{at_here, at_there}
 use Rattle.table_law.proofs.Steps.{rest_full}
 use Rattle.table_twins.proofs.Kinding.{described_alike}
 use Rattle.table_twins.proofs.Sharing.{same_back}
-use Rattle.table_courses.specs.Acquiring.{GaveBack, Joined, MadeLive, type_counts}
 use Rattle.course_laws.proofs.Stacking.{lefts}
 use Rattle.pause_laws.proofs.Lends.{IsSame, described_same, extra, lent, more_of}
 use Rattle.pause_laws.proofs.Pacing.{Carries, Flagged, IsLastSettled, Paces, extra_own, lent_same}
 use Rattle.pause_laws.proofs.Recording.{IsSettled}
-use Rattle.pause_laws.proofs.Under.{Chained, IsIn, IsKindBut, IsStill, PlainTables, Spelled, TableOf, Under, above_off, chained_cells, count_of, frames_but, same_grown, tables_but}
+use Rattle.pause_laws.proofs.Under.{Chained, IsIn, IsKindBut, IsStill, Spelled, TableOf, Under, above_off, chained_cells, count_of, frames_but, same_grown, tables_but}
 
 -- ---- words of which one kind word is another
 pub record IsKinded (m x : Words) (f new : ℕ) : Type 0 where

@@ -1,9 +1,7 @@
 -- Some of the tables in work are parked, the innermost ones: as a pause leaves one behind the other, and a resumption finds them.
-use Rattle.std.proofs.Common.{◌≡◌, ◌≢◌, ◌⊎◌, ℕ, ◌+◌, ◌-◌, ◌<◌, ◌≤◌, ◌==◌, not, if◌then◌else◌, Bool, true, false, List, [], ◌∷◌, Option, Some, None, IsTrue, refl, sym, ap, ◌∙◌, subst, inl, inr, arith}
-use Rattle.std.proofs.lemmas.Bool.Decides.{nat_tests}
+use Rattle.std.proofs.Common.{◌≡◌, ◌⊎◌, ℕ, ◌-◌, ◌<◌, ◌≤◌, Bool, false, List, [], ◌∷◌, refl, sym, ap, ◌∙◌, subst, inl, inr, arith}
 use Rattle.xp_words.specs.Machine.{Machine}
 use Rattle.xp_words.specs.declared.kind.KindWord.{KindWord}
-use Rattle.xp_board.specs.Readings.{is_dead}
 use Rattle.step_maker.specs.Plain.{Words}
 use Rattle.kind_words.specs.Kinds.{partial_kind, work_kind}
 use Rattle.partial_state.specs.Levels.{level_type}
@@ -13,14 +11,14 @@ use Rattle.table_law.specs.Alone.{PlainOutcome}
 use Rattle.table_law.specs.Levels.{entry_of}
 use Rattle.table_law.specs.Plain.{Describes, Plain, at}
 use Rattle.table_law.specs.Stack.{rest, table_left}
-use Rattle.table_law.proofs.Counting.{at_here, at_there}
+use Rattle.table_law.proofs.Counting.{at_there}
 use Rattle.course_laws.proofs.Frames.{IsAbove}
 use Rattle.course_laws.proofs.Stacking.{lefts}
 use Rattle.pause_laws.proofs.Completing.{rest_chained}
 use Rattle.pause_laws.proofs.Lends.{extra, lent}
 use Rattle.pause_laws.proofs.Pacing.{Carries, Flagged, IsLastSettled}
 use Rattle.pause_laws.proofs.Recording.{IsSettled}
-use Rattle.pause_laws.proofs.Under.{Chained, IsIn, IsNamed, IsOff, IsStill, PlainFrames, PlainTables, Spelled, TableOf, Under, count_of}
+use Rattle.pause_laws.proofs.Under.{Chained, IsIn, IsNamed, IsOff, IsStill, PlainTables, Spelled, TableOf, Under, count_of}
 
 -- ---- the same tables with other flags
 abbrev pub IsLike : TableWork → TableWork → Type 0

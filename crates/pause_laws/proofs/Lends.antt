@@ -1,15 +1,14 @@
 -- Plain values with more references to some frames: those that resumed tables hold beside their entry's.
-use Rattle.std.proofs.Common.{◌≡◌, ◌≢◌, ℕ, ◌+◌, ◌<◌, ◌≤◌, ◌==◌, not, nat_lt, nat_le, if◌then◌else◌, Bool, true, false, List, [], ◌∷◌, Option, Some, None, refl, sym, ap, ◌∙◌, subst, arith}
+use Rattle.std.proofs.Common.{◌≡◌, ℕ, ◌+◌, ◌<◌, ◌≤◌, ◌==◌, not, nat_lt, nat_le, if◌then◌else◌, Bool, true, false, List, [], ◌∷◌, Option, Some, None, refl, sym, ap, ◌∙◌, arith}
 use Rattle.std.proofs.lemmas.Bool.Decides.{nat_tests}
 use Rattle.xp_words.specs.Machine.{IsMachine, Machine}
-use Rattle.xp_words.specs.declared.kind.KindWord.{KindWord}
 use Rattle.xp_words.specs.declared.place.Place.TheVariants.{Refs}
 use Rattle.step_maker.specs.Plain.{Words}
 use Rattle.frame_words.specs.Plain.{got, refer}
 use Rattle.partial_state.specs.declared.stack.TableWork.{TableWork}
 use Rattle.table_law.specs.Alone.{CountFull, NoFrame, PlainOutcome, WrongOwner, fine, refused, take_reference, take_reference_of}
 use Rattle.table_law.specs.Lawful.{share_count}
-use Rattle.table_law.specs.Plain.{Describes, Plain, Share, at, raised_share, with_share}
+use Rattle.table_law.specs.Plain.{Describes, Plain, Share, raised_share, with_share}
 use Rattle.table_twins.proofs.Referring.{is_inside, not_full, same_taken}
 use Rattle.course_laws.proofs.Lending.{fine_there}
 

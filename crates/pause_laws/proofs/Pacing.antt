@@ -1,11 +1,11 @@
 -- The next entry of the innermost table, with references lent to the tables that were resumed.
-use Rattle.std.proofs.Common.{◌≡◌, ℕ, suc, ◌+◌, ◌-◌, ◌<◌, ◌≤◌, not, if◌then◌else◌, ◌==◌, Bool, true, false, List, [], ◌∷◌, Some, None, Result, Ok, Err, refl, sym, ap, ◌∙◌, subst, inl, inr, arith}
+use Rattle.std.proofs.Common.{◌≡◌, ℕ, suc, ◌+◌, ◌-◌, ◌<◌, ◌≤◌, not, if◌then◌else◌, ◌==◌, Bool, true, false, List, [], ◌∷◌, Result, Ok, Err, refl, sym, ap, ◌∙◌, subst, inl, inr, arith}
 use Rattle.xp_words.specs.Entries.{demand_at}
 use Rattle.xp_words.specs.Machine.{IsMachine, Machine}
 use Rattle.xp_words.specs.declared.entry.Demand.{Demand}
 use Rattle.xp_words.specs.declared.entry.Demand.TheVariants.{Typed}
 use Rattle.xp_words.specs.declared.kind.PageType.{PageType}
-use Rattle.xp_words.specs.declared.place.Place.TheVariants.{Cell, Kind}
+use Rattle.xp_words.specs.declared.place.Place.TheVariants.{Cell}
 use Rattle.xp_words.specs.declared.reply.Pause.TheVariants.{Due}
 use Rattle.xp_words.specs.declared.reply.Refusal.{Refusal}
 use Rattle.xp_words.specs.declared.reply.Stop.{Stop}
@@ -29,8 +29,8 @@ use Rattle.course_laws.proofs.Frames.{IsAbove}
 use Rattle.course_laws.proofs.Entering.{Opens, opened_table, opens}
 use Rattle.course_laws.proofs.Stacking.{Refuses, lefts, lower_above, met_on, opened_from, stopped_there}
 use Rattle.pause_laws.proofs.Lends.{IsSame, described_same, extra, lent, more_of}
-use Rattle.pause_laws.proofs.Recording.{IsSettled, Met, OpensTo, met, opens_to, taking, with_one}
-use Rattle.pause_laws.proofs.Refusing.{IsForWords, IsSome, not_due, unmet}
+use Rattle.pause_laws.proofs.Recording.{IsSettled, OpensTo, met, opens_to, taking, with_one}
+use Rattle.pause_laws.proofs.Refusing.{IsForWords, not_due, unmet}
 use Rattle.pause_laws.proofs.Under.{Chained, IsNamed, PlainTables, Spelled, TableOf, Under, chained_cells, frames_but, still_off, tables_but}
 
 -- the outermost came into work by itself; another one with its type count by an entry under way, or without, by one recorded before

@@ -1,7 +1,6 @@
 -- The next entry of a table is recorded: what that is on the plain value without the references that are lent.
-use Rattle.std.proofs.Common.{◌≡◌, ◌≢◌, ◌⊎◌, ℕ, zero, suc, ◌+◌, ◌<◌, ◌≤◌, ◌^◌, ◌==◌, ◌&&◌, nat_lt, not, if◌then◌else◌, Bool, true, false, List, [], ◌∷◌, Option, Some, None, Ok, IsTrue, refl, sym, ap, ◌∙◌, subst, inl, inr, arith}
+use Rattle.std.proofs.Common.{◌≡◌, ◌⊎◌, ℕ, zero, suc, ◌+◌, ◌<◌, ◌==◌, ◌&&◌, not, if◌then◌else◌, Bool, true, false, List, [], ◌∷◌, Option, Some, None, Ok, refl, sym, ap, ◌∙◌, subst, inl, inr, arith}
 use Rattle.std.proofs.lemmas.Bool.Decides.{nat_tests}
-use Rattle.xp_words.specs.KindWords.{is_kind, kind_fields, kind_write}
 use Rattle.xp_words.specs.Machine.{IsMachine, Machine}
 use Rattle.xp_words.specs.declared.entry.Demand.{Demand}
 use Rattle.xp_words.specs.declared.entry.Demand.TheVariants as demands
@@ -18,28 +17,24 @@ use Rattle.answer_fits.proofs.Alikes.{same_alike}
 use Rattle.frame_words.specs.Plain.{got, refer}
 use Rattle.kind_words.specs.Kinds.{live_kind, work_kind}
 use Rattle.kind_words.proofs.KindWriting.{live_is, raised_is}
-use Rattle.frame_types.specs.Plain.{IsTakenBy, is_read_first, set_kind, taken, taken_by, type_stop, work_unmarked}
-use Rattle.frame_types.specs.Standing.{standing_of}
-use Rattle.frame_types.specs.declared.standing.Standing.{Standing}
-use Rattle.frame_types.specs.declared.standing.Standing.TheVariants as stands
+use Rattle.frame_types.specs.Plain.{IsTakenBy, is_read_first, taken, taken_by, type_stop, work_unmarked}
 use Rattle.frame_types.specs.declared.taking.Taken.TheVariants as types
 use Rattle.partial_state.specs.Levels.{level_type}
 use Rattle.partial_state.proofs.LevelFacts.{level_type-typed}
 use Rattle.partial_state.specs.declared.stack.TableWork.{TableWork}
 use Rattle.table_entries.specs.Plain.{EntersPlainly, IsTakenOf, RefersPlainly, TypedPlainly}
 use Rattle.table_entries.specs.declared.entries.Entered.TheVariants.{Recorded}
-use Rattle.table_law.specs.Alone.{OtherType, PlainOutcome, fine, is_counted, meet_last, refused, meet, take_at, take_kind, take_reference, then_by}
+use Rattle.table_law.specs.Alone.{OtherType, PlainOutcome, fine, is_counted, meet_last, refused, meet, take_at, take_kind, then_by}
 use Rattle.table_law.specs.Lawful.{share_count}
-use Rattle.table_law.specs.Plain.{Describes, Plain, Share, at, raised_share, reference_back, sober, with_kind, with_share}
+use Rattle.table_law.specs.Plain.{Describes, Plain, Share, raised_share, reference_back, with_kind, with_share}
 use Rattle.table_law.specs.Release.{let_go}
 use Rattle.table_law.proofs.Counting.{at_here, at_there}
-use Rattle.table_law.proofs.Describing.{sober_dead, sober_live}
 use Rattle.table_twins.specs.Types.{IsOpenedPlain, IsReady, IsTakenPlain}
 use Rattle.table_twins.proofs.Kinding.{described_alike}
 use Rattle.table_twins.proofs.Typing.{taken_plain}
-use Rattle.course_laws.proofs.Frames.{IsAbove, IsFrame, IsLiveWithin, count_at, dead_stands, frame_ready, live_stands, no_other, work_other}
-use Rattle.pause_laws.proofs.Lends.{Both, IsSame, both_there, described_same, got_both, lent, more_of}
-use Rattle.pause_laws.proofs.Under.{Grew, IsGrown, IsIn, IsKindBut, IsStill, PlainFrames, PlainTables, Spelled, count_of, dead_there, frame_there, frames_but, grown_count, in_work, live_there, same_grown, spelled_other, spelled_same, spelled_set, still_aside, still_more, still_off, tables_but}
+use Rattle.course_laws.proofs.Frames.{IsAbove, IsLiveWithin, count_at, dead_stands, frame_ready, live_stands, no_other, work_other}
+use Rattle.pause_laws.proofs.Lends.{Both, both_there, got_both, lent, more_of}
+use Rattle.pause_laws.proofs.Under.{Grew, IsGrown, IsIn, IsKindBut, IsStill, PlainFrames, PlainTables, Spelled, count_of, dead_there, frame_there, frames_but, grown_count, in_work, live_there, spelled_other, spelled_same, spelled_set, still_more, still_off, tables_but}
 
 -- the frame of which it asks a type is live
 abbrev pub IsSettled : Machine → Plain → Demand → Type 0

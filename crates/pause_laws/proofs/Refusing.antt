@@ -1,11 +1,10 @@
 -- The next entry of a table is refused: so it is on the plain value without the references that are lent, if no count is at the limit.
-use Rattle.std.proofs.Common.{◌≡◌, ◌≢◌, ◌⊎◌, ℕ, zero, suc, ◌+◌, ◌<◌, ◌==◌, ◌&&◌, not, nat_le, nat_lt, if◌then◌else◌, Bool, true, false, List, Option, Some, None, Err, refl, sym, ap, ◌∙◌, subst, inl, inr, arith}
+use Rattle.std.proofs.Common.{◌≡◌, ℕ, ◌+◌, ◌<◌, ◌==◌, ◌&&◌, not, nat_le, nat_lt, if◌then◌else◌, Bool, true, false, List, Option, Some, None, Err, refl, sym, ap, ◌∙◌, subst, arith}
 use Rattle.std.proofs.lemmas.Bool.Decides.{nat_tests}
 use Rattle.xp_words.specs.Machine.{IsMachine, Machine}
 use Rattle.xp_words.specs.KindWords.{kind_fields}
 use Rattle.xp_words.specs.declared.entry.Demand.{Demand}
 use Rattle.xp_words.specs.declared.entry.Demand.TheVariants as demands
-use Rattle.xp_words.specs.declared.kind.KindWord.{KindWord}
 use Rattle.xp_words.specs.declared.kind.PageType.{PageType}
 use Rattle.xp_words.specs.declared.place.Place.TheVariants.{Kind, Refs}
 use Rattle.xp_words.specs.declared.reply.Pause.TheVariants as pauses
@@ -23,18 +22,16 @@ use Rattle.frame_types.specs.Plain.{stop_by, type_stop}
 use Rattle.partial_state.specs.Levels.{level_type}
 use Rattle.partial_state.specs.declared.stack.TableWork.{TableWork}
 use Rattle.table_entries.specs.Plain.{EntersPlainly, RefersPlainly, TypedPlainly}
-use Rattle.table_law.specs.Alone.{Cause, CountFull, NoFrame, OtherType, PlainOutcome, Reserved, WrongOwner, fine, go_on, is_counted, meet, meet_last, refused, take_at, take_kind, take_reference, take_reference_of, then_by}
+use Rattle.table_law.specs.Alone.{Cause, CountFull, NoFrame, OtherType, PlainOutcome, Reserved, WrongOwner, fine, go_on, is_counted, meet, refused, take_at, take_kind, take_reference, take_reference_of, then_by}
 use Rattle.table_law.specs.Plain.{Describes, Plain, Share, raised_share, reference_back, with_kind, with_share}
-use Rattle.table_law.specs.Release.{let_go}
 use Rattle.table_twins.specs.Answers.{IsCause, IsSameAnswer}
-use Rattle.table_twins.specs.Types.{IsRefusedPlain}
 use Rattle.table_twins.proofs.Referring.{same_answer}
 use Rattle.table_twins.proofs.Typing.{refused_plain}
 use Rattle.table_twins.proofs.Waiting.{only_busy}
 use Rattle.course_laws.proofs.Frames.{IsAbove, dead_stands}
-use Rattle.pause_laws.proofs.Lends.{Referred, lent, more_of, referred, refers}
+use Rattle.pause_laws.proofs.Lends.{lent, more_of, referred, refers}
 use Rattle.pause_laws.proofs.Recording.{by_level, got_one, taking, with_one}
-use Rattle.pause_laws.proofs.Under.{PlainFrames, PlainTables, Spelled, count_of, dead_there}
+use Rattle.pause_laws.proofs.Under.{PlainFrames, PlainTables, Spelled}
 
 -- it is not for a count at its limit
 abbrev pub IsRoomy : Refusal → Type 0

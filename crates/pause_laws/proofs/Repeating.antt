@@ -1,21 +1,16 @@
 -- Calls behind one another, until one is not paused by the gate.
-use Rattle.std.proofs.Common.{◌≡◌, ℕ, ◌<◌, ◌≤◌, Bool, true, List, [], ◌∷◌, Option, Some, None, Result, Ok, Err, refl, sym, ap, ◌∙◌, subst, arith}
+use Rattle.std.proofs.Common.{◌≡◌, ℕ, ◌≤◌, Bool, true, List, [], ◌∷◌, Option, Some, None, Result, Ok, Err, refl, sym, ap, ◌∙◌, subst, arith}
 use Rattle.xp_words.specs.Machine.{IsMachine, Machine}
 use Rattle.xp_words.specs.RefWords.{ref_read}
 use Rattle.xp_words.specs.declared.refs.RefWord.{RefWord}
 use Rattle.xp_words.specs.declared.refs.RefWord.TheVariants.{Dying, Free, Owned}
-use Rattle.xp_words.specs.declared.place.Place.{Place}
-use Rattle.xp_words.specs.declared.place.Place.TheVariants.{Refs}
 use Rattle.xp_words.specs.declared.reply.Pause.TheVariants.{Due}
-use Rattle.xp_words.specs.declared.reply.Refusal.{Refusal}
 use Rattle.xp_words.specs.declared.reply.Refusal.TheVariants as refusals
 use Rattle.xp_words.specs.declared.reply.Stop.{Stop}
 use Rattle.xp_words.specs.declared.reply.Stop.TheVariants.{Refused, Paused}
 use Rattle.xp_board.specs.Lawful.{Lawful}
 use Rattle.xp_board.specs.Readings.{count_in, ref_count}
 use Rattle.xp_board.specs.Told.{Post, PortValue, is_telling, told_word}
-use Rattle.step_maker.specs.Moves.{Moment}
-use Rattle.step_maker.specs.Plain.{Words}
 use Rattle.step_maker.proofs.Coming.{came_post, met_after, met_before}
 use Rattle.answer_fits.specs.Answers.{Stops}
 use Rattle.answer_fits.specs.Licences.{IsFull}
@@ -23,7 +18,7 @@ use Rattle.answer_fits.proofs.Alikes.{same_alike}
 use Rattle.partial_state.specs.Levels.{level_type}
 use Rattle.table_law.specs.Alone.{PlainOutcome, alone}
 use Rattle.table_law.specs.Lawful.{IsAtRest}
-use Rattle.table_law.specs.Plain.{Describes, Plain, plain_of}
+use Rattle.table_law.specs.Plain.{plain_of}
 use Rattle.table_law.proofs.Lawfully.{fine_by_rest}
 use Rattle.table_law.proofs.OnWords.{lawful_plain, lawful_words, rested_plain}
 use Rattle.table_twins.proofs.Kinding.{described_alike}
@@ -37,9 +32,8 @@ use Rattle.pause_laws.specs.Calls.{Calls, IsKeptFor, HasRoom, Repeats, again, la
 use Rattle.pause_laws.proofs.Beginning.{first_call}
 use Rattle.pause_laws.proofs.Calling.{CallOutcome, IsDone, resumed_call}
 use Rattle.pause_laws.proofs.Lends.{extra, lent}
-use Rattle.pause_laws.proofs.Refusing.{IsForWords}
 use Rattle.pause_laws.proofs.Under.{spelled_same}
-use Rattle.pause_laws.proofs.Unwinding.{Parked, ParkedAt, parked_over}
+use Rattle.pause_laws.proofs.Unwinding.{ParkedAt, parked_over}
 
 -- ---- a call that finds room is not refused for a count at its limit
 full_word : (owner limit w : ℕ) (r : Option RefWord) → ref_read w ≡ r → IsFull owner limit r → limit ≤ ref_count w

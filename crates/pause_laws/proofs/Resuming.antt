@@ -1,21 +1,18 @@
 -- Down to where a table was left: each parked table is found by the last entry of the one around it.
-use Rattle.std.proofs.Common.{◌≡◌, ◌≢◌, ◌⊎◌, ℕ, ◌+◌, ◌-◌, ◌<◌, ◌≤◌, ◌==◌, ◌&&◌, not, nat_le, nat_lt, if◌then◌else◌, Bool, true, false, List, [], ◌∷◌, Option, Some, None, Result, Ok, Err, IsTrue, refl, sym, ap, ◌∙◌, subst, inl, inr, arith}
+use Rattle.std.proofs.Common.{◌≡◌, ◌⊎◌, ℕ, ◌+◌, ◌-◌, ◌<◌, ◌==◌, ◌&&◌, not, nat_le, nat_lt, if◌then◌else◌, Bool, true, false, List, [], ◌∷◌, Option, Some, None, Result, Ok, Err, refl, sym, ap, ◌∙◌, subst, arith}
 use Rattle.std.proofs.lemmas.Bool.Decides.{nat_tests}
 use Rattle.xp_words.specs.Entries.{demand_at}
-use Rattle.xp_words.specs.KindWords.{kind_fields}
 use Rattle.xp_words.specs.Machine.{IsMachine, Machine}
 use Rattle.xp_words.specs.declared.entry.Demand.{Demand}
 use Rattle.xp_words.specs.declared.entry.Demand.TheVariants as demands
 use Rattle.xp_words.specs.declared.kind.KindWord.{KindWord}
-use Rattle.xp_words.specs.declared.kind.PageType.{PageType}
 use Rattle.xp_words.specs.declared.place.Place.TheVariants.{Cell, Kind, Refs}
-use Rattle.xp_words.specs.declared.reply.Pause.TheVariants as pauses
 use Rattle.xp_words.specs.declared.reply.Refusal.{Refusal}
 use Rattle.xp_words.specs.declared.reply.Stop.{Stop}
-use Rattle.xp_words.specs.declared.reply.Stop.TheVariants.{Refused, Paused}
+use Rattle.xp_words.specs.declared.reply.Stop.TheVariants.{Refused}
 use Rattle.xp_board.specs.KindSteps.{resumed_kind}
 use Rattle.xp_board.specs.Readings.{is_dead, is_live_word, kind_at}
-use Rattle.xp_board.specs.Told.{Post, PortValue, is_telling, told_word}
+use Rattle.xp_board.specs.Told.{Post, PortValue, told_word}
 use Rattle.step_maker.specs.Moves.{Came}
 use Rattle.step_maker.specs.Plain.{Leaves, Words}
 use Rattle.step_maker.proofs.Coming.{came_post}
@@ -28,27 +25,24 @@ use Rattle.frame_types.specs.declared.taking.Taken.TheVariants as types
 use Rattle.kind_words.specs.Kinds.{partial_kind, work_kind}
 use Rattle.partial_state.specs.Levels.{level_type}
 use Rattle.partial_state.specs.declared.stack.TableWork.{TableWork}
-use Rattle.table_entries.specs.Plain.{AgainBy, AgainWhere, IsTakenOf, ResumesPlainly, TypesAgain}
+use Rattle.table_entries.specs.Plain.{AgainBy, AgainWhere, IsTakenOf, ResumesPlainly}
 use Rattle.table_entries.specs.declared.resuming.Resumed.{Resumed}
 use Rattle.table_entries.specs.declared.resuming.Resumed.TheVariants as again
 use Rattle.table_law.specs.Alone.{PlainOutcome, take_reference}
-use Rattle.table_law.specs.Levels.{entry_of}
-use Rattle.table_law.specs.Plain.{Describes, Plain, Share, at, raised_share, sober, with_kind, with_share}
+use Rattle.table_law.specs.Plain.{Describes, Plain, Share, raised_share, with_kind, with_share}
 use Rattle.table_law.proofs.Counting.{at_here, at_there}
 use Rattle.table_law.proofs.Describing.{sober_live}
 use Rattle.table_twins.specs.Answers.{IsSameAnswer}
 use Rattle.table_twins.proofs.Referring.{same_answer}
 use Rattle.table_courses.specs.Acquiring.{ResumedEntry, TookOn, fresh, opened, settled, stopped, table_in, taken, waiting}
-use Rattle.course_laws.proofs.Stacking.{Refuses}
 use Rattle.course_laws.proofs.Walking.{again_came}
-use Rattle.pause_laws.proofs.Halfway.{Half, all_like, chained_onto, of_half, off_below, onto, onto_like, over, over_off, overlay, settled_like, tables_onto, under_like}
+use Rattle.pause_laws.proofs.Halfway.{Half, all_like, chained_onto, off_below, onto, onto_like, over, over_off, overlay, settled_like, tables_onto, under_like}
 use Rattle.pause_laws.proofs.Lends.{Both, IsSame, both_there, described_same, extra, got_both, lent, more_of}
-use Rattle.pause_laws.proofs.Pacing.{Flagged, IsLastSettled}
 use Rattle.pause_laws.proofs.Recording.{IsSettled, work_out}
 use Rattle.pause_laws.proofs.Refusing.{IsForWords, full_by, roomy}
 use Rattle.pause_laws.proofs.Retaking.{not_counted, not_stopped, own_is, partial_live, progress_is, retaken, retaken_words}
-use Rattle.pause_laws.proofs.Travelling.{Ends, Steps, wait_ends}
-use Rattle.pause_laws.proofs.Under.{IsKindBut, IsNamed, PlainTables, Spelled, TableOf, Under, spelled_other}
+use Rattle.pause_laws.proofs.Travelling.{Ends, wait_ends}
+use Rattle.pause_laws.proofs.Under.{IsNamed, PlainTables, TableOf, spelled_other}
 use Rattle.pause_laws.proofs.Unwinding.{HalfAt, half_same}
 
 -- ---- a reference is lent

@@ -1,15 +1,15 @@
 -- A partial frame is taken into work again.
-use Rattle.std.proofs.Common.{◌≡◌, ◌≢◌, ◌⊎◌, ℕ, zero, suc, ◌+◌, ◌-◌, ◌*◌, ◌<◌, ◌≤◌, ◌%◌, ◌/◌, ◌^◌, ◌==◌, ◌||◌, not, if◌then◌else◌, Bool, true, false, Some, None, IsTrue, refl, sym, ap, ◌∙◌, subst, inl, inr, arith}
+use Rattle.std.proofs.Common.{◌≡◌, ℕ, ◌+◌, ◌<◌, ◌≤◌, ◌%◌, ◌/◌, ◌^◌, ◌==◌, ◌||◌, not, if◌then◌else◌, Bool, true, false, Some, None, IsTrue, refl, sym, ap, ◌∙◌, subst, arith}
 use Rattle.std.proofs.lemmas.Bool.Decides.{nat_tests}
 use Rattle.xp_words.specs.KindWords.{has_form, is_kind, kind_fields, kind_write}
-use Rattle.xp_words.specs.Machine.{IsMachine, Machine}
-use Rattle.xp_words.specs.PageTypes.{is_none, is_table, type_number}
+use Rattle.xp_words.specs.Machine.{Machine}
+use Rattle.xp_words.specs.PageTypes.{is_none, type_number}
 use Rattle.xp_words.specs.declared.kind.KindWord.{KindWord}
 use Rattle.xp_words.specs.declared.kind.PageType.{PageType}
-use Rattle.xp_words.specs.declared.place.Place.TheVariants.{Kind, Refs}
+use Rattle.xp_words.specs.declared.place.Place.TheVariants.{Kind}
 use Rattle.xp_words.specs.declared.reply.Stop.{Stop}
 use Rattle.xp_board.specs.KindSteps.{resumed_kind}
-use Rattle.xp_board.specs.Readings.{is_dead, kind_at}
+use Rattle.xp_board.specs.Readings.{kind_at}
 use Rattle.step_maker.specs.Plain.{Words}
 use Rattle.answer_fits.specs.Twins.{Alike}
 use Rattle.frame_words.specs.Plain.{put}

@@ -1,5 +1,5 @@
 -- A call goes on from port to port, entry by entry, until it stops or the gate says yes.
-use Rattle.std.proofs.Common.{◌≡◌, ℕ, ◌+◌, ◌-◌, ◌<◌, ◌%◌, ◌^◌, not, Bool, true, false, List, [], ◌∷◌, None, Some, Result, Ok, Err, refl, sym, ap, ◌∙◌, subst, arith}
+use Rattle.std.proofs.Common.{◌≡◌, ℕ, ◌+◌, ◌<◌, ◌%◌, ◌^◌, not, Bool, true, false, List, ◌∷◌, None, Result, Ok, Err, refl, sym, ap, ◌∙◌, subst}
 use Rattle.xp_words.specs.KindWords.{kind_write}
 use Rattle.xp_words.specs.Machine.{IsMachine, Machine}
 use Rattle.xp_words.specs.declared.place.Place.{Place}
@@ -14,7 +14,7 @@ use Rattle.xp_board.specs.declared.step.StepKind.TheVariants as kinds
 use Rattle.xp_board.specs.Told.{Post, PortValue, is_telling, told_word}
 use Rattle.step_maker.specs.Moves.{Came, Moves}
 use Rattle.step_maker.specs.Plain.{Words, change}
-use Rattle.step_maker.proofs.Coming.{came_post, came_self, moves_came}
+use Rattle.step_maker.proofs.Coming.{came_post, moves_came}
 use Rattle.step_maker.proofs.Telling.{came_telling, changed, leaves, load_tells}
 use Rattle.answer_fits.specs.Twins.{Alike}
 use Rattle.answer_fits.proofs.Alikes.{same_alike}
@@ -34,7 +34,7 @@ use Rattle.course_laws.proofs.Going.{taken_fresh}
 use Rattle.course_laws.proofs.Stacking.{Refuses}
 use Rattle.course_laws.proofs.Walking.{back_came}
 use Rattle.pause_laws.proofs.Completing.{IsKinded, lowered_kinded, own_paces, same_kinded, shared_paces, stored_kinded}
-use Rattle.pause_laws.proofs.Pacing.{Carries, Flagged, IsLastSettled, Paces, never_due, opened_carries, opened_none, recorded_paces, refused_paces}
+use Rattle.pause_laws.proofs.Pacing.{Carries, IsLastSettled, Paces, never_due, opened_carries, opened_none, recorded_paces, refused_paces}
 use Rattle.pause_laws.proofs.Refusing.{IsForWords}
 
 -- at a port, behind an entry that is done with or not

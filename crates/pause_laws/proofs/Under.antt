@@ -11,7 +11,6 @@ use Rattle.frame_types.specs.Plain.{set_kind}
 use Rattle.kind_words.proofs.KindWriting.{fields_write}
 use Rattle.xp_words.specs.declared.entry.Demand.TheVariants.{Typed}
 use Rattle.xp_words.specs.declared.kind.KindWord.{KindWord}
-use Rattle.xp_words.specs.declared.kind.PageType.{PageType}
 use Rattle.xp_board.specs.Readings.{is_dead, kind_at}
 use Rattle.step_maker.specs.Plain.{Words}
 use Rattle.kind_words.specs.Kinds.{work_kind}

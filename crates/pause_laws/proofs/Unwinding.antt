@@ -1,39 +1,35 @@
 -- A pause parks the tables in work, the innermost first.
-use Rattle.std.proofs.Common.{◌≡◌, ◌≢◌, ◌⊎◌, ℕ, ◌+◌, ◌-◌, ◌<◌, ◌≤◌, ◌==◌, ◌||◌, not, if◌then◌else◌, Bool, true, false, List, [], ◌∷◌, Option, Some, None, Result, Ok, Err, IsTrue, refl, sym, ap, ◌∙◌, subst, inl, inr, arith}
+use Rattle.std.proofs.Common.{◌≡◌, ◌⊎◌, ℕ, ◌+◌, ◌-◌, ◌||◌, not, if◌then◌else◌, Bool, true, false, List, [], ◌∷◌, IsTrue, refl, sym, ap, ◌∙◌, subst, inl, inr}
 use Rattle.xp_words.specs.KindWords.{is_kind, kind_fields, kind_write}
-use Rattle.xp_words.specs.Machine.{IsMachine, Machine}
-use Rattle.xp_words.specs.declared.kind.KindWord.{KindWord}
+use Rattle.xp_words.specs.Machine.{Machine}
 use Rattle.xp_words.specs.declared.place.Place.{Place}
 use Rattle.xp_words.specs.declared.place.Place.TheVariants.{Cell, Kind, Refs}
-use Rattle.xp_words.specs.declared.reply.Stop.{Stop}
 use Rattle.xp_board.specs.Readings.{is_dead}
 use Rattle.xp_board.specs.Told.{Post, PortValue, is_telling, told_word}
-use Rattle.step_maker.specs.Moves.{Came}
 use Rattle.step_maker.specs.Plain.{Words}
-use Rattle.step_maker.proofs.Coming.{came_post, came_trans, moves_came}
+use Rattle.step_maker.proofs.Coming.{came_post, moves_came}
 use Rattle.step_maker.proofs.Telling.{came_telling, leaves, load_tells}
 use Rattle.answer_fits.proofs.Alikes.{same_alike}
 use Rattle.frame_words.specs.Plain.{put}
 use Rattle.frame_types.specs.Plain.{set_kind}
-use Rattle.kind_words.specs.Kinds.{partial_kind, work_kind}
+use Rattle.kind_words.specs.Kinds.{partial_kind}
 use Rattle.kind_words.proofs.KindWriting.{fields_write, partial_is}
 use Rattle.partial_state.specs.Levels.{level_type}
 use Rattle.partial_state.proofs.LevelFacts.{level_type-table, level_type-typed}
 use Rattle.partial_state.specs.declared.stack.TableWork.{TableWork}
 use Rattle.table_law.specs.Alone.{PlainOutcome}
-use Rattle.table_law.specs.Plain.{Describes, Plain, Share, at, reference_back, sober, with_kind}
+use Rattle.table_law.specs.Plain.{Describes, Plain, Share, at, reference_back, sober}
 use Rattle.table_law.proofs.Counting.{at_here, at_there}
 use Rattle.table_twins.proofs.Kinding.{described_alike}
 use Rattle.table_twins.proofs.Sharing.{same_back}
-use Rattle.table_courses.specs.Acquiring.{Advanced, Filled, InnerLeft, LeftPartial, OutermostLeft, TookOn, Unwound, Worked, around_left, asked, begun, completed, cut_off, due, filled, fresh, one_more, opened, recorded, settled, stopped, taken, unasked, unsettled, waiting}
+use Rattle.table_courses.specs.Acquiring.{InnerLeft, LeftPartial, OutermostLeft, Unwound, around_left}
 use Rattle.course_laws.proofs.Outermost.{IsOutermost}
-use Rattle.course_laws.proofs.Walking.{gave_came, unwound_came}
+use Rattle.course_laws.proofs.Walking.{gave_came}
 use Rattle.pause_laws.proofs.Completing.{IsKinded, back_lent, described_kind, put_kind, same_kinded, spelled_kind, stored_kinded}
 use Rattle.pause_laws.proofs.Halfway.{Half, onto, over, overlay, tables_onto}
 use Rattle.pause_laws.proofs.Lends.{described_same, extra, lent, more_of}
 use Rattle.pause_laws.proofs.Pacing.{Flagged, IsLastSettled, extra_own, lent_same}
-use Rattle.pause_laws.proofs.Recording.{work_out}
-use Rattle.pause_laws.proofs.Under.{IsKindBut, PlainTables, Spelled, TableOf, Under, spelled_same}
+use Rattle.pause_laws.proofs.Under.{Spelled, TableOf, Under, spelled_same}
 
 -- ---- the words of a pause
 abbrev pub parked_over : Bool → TableWork → List TableWork → Plain → Plain
