@@ -31,6 +31,7 @@ use Rattle.table_law.specs.Plain.{Describes, Plain, plain_of, with_kind}
 use Rattle.table_law.specs.Stack.{rest, table_left}
 use Rattle.table_law.proofs.Describing.{sober_dead}
 use Rattle.table_law.proofs.Steps.{alone_opened}
+use Rattle.table_twins.proofs.Typing.{live_sober}
 use Rattle.table_twins.proofs.Waiting.{only_busy}
 use Rattle.table_courses.specs.Acquiring.{Acquired, GotRef, TookType, counted, finished, outermost_table, unfinished, unreferred, untyped, waiting}
 use Rattle.course_laws.specs.Courses.{IsFinal, IsOrderly}
@@ -44,7 +45,7 @@ use Rattle.pause_laws.proofs.Pacing.{extra_own, lent_same}
 use Rattle.pause_laws.proofs.Recording.{Met, OpensTo, met_typed, opens_to, taking, with_one}
 use Rattle.pause_laws.proofs.Refusing.{IsForWords}
 use Rattle.pause_laws.proofs.Travelling.{Ends, wait_ends}
-use Rattle.pause_laws.proofs.Under.{IsStill, PlainFrames, Spelled, TableOf, count_of, frames_but, live_sober}
+use Rattle.pause_laws.proofs.Under.{IsStill, PlainFrames, Spelled, TableOf, count_of, frames_but}
 use Rattle.pause_laws.proofs.Unwinding.{HalfAt}
 
 pub words_final : (y : Refusal) → IsForWords y → IsFinal (Refused y)

@@ -200,12 +200,12 @@ module _ (n : Machine) (owner : ℕ) (m : Words) (t : TableWork) (rs : List Tabl
     back_here : fewer (one.shares t.frame) ≡ more_of (x t.frame) (q.shares t.frame)
     back_here =
         let some = some_share in
-        let off : (lends.share.count + 1 + x t.frame == 1) ≡ false = grind (arith, nat_tests) in
-        let less : lends.share.count + 1 + x t.frame - 1 ≡ lends.share.count + x t.frame = omega arith in
-        ap fewer one_here
-        ∙ ap (λ b. if b then None else Some (record { owner = lends.share.owner; allocated = lends.share.allocated; count = lends.share.count + 1 + x t.frame - 1 })) off
-        ∙ ap (λ c. Some (record { owner = lends.share.owner; allocated = lends.share.allocated; count = c })) less
-        ∙ sym (ap (more_of (x t.frame)) lends.was)
+        let many : ℕ = lends.share.count + 1 + x t.frame in
+        let off : (many == 1) ≡ false = grind (arith, nat_tests) in
+        let less : many - 1 ≡ lends.share.count + x t.frame = omega arith in
+        let with : (ℕ → Share) = λ c. record { owner = lends.share.owner; allocated = lends.share.allocated; count = c } in
+        let fewer_by : (if many == 1 then None else Some (with (many - 1))) ≡ Some (with (many - 1)) = ap (λ b. if b then None else Some (with (many - 1))) off in
+        ap fewer one_here ∙ (fewer_by ∙ (ap (λ c. Some (with c)) less ∙ sym (ap (more_of (x t.frame)) lends.was)))
 
     back_by : (b : Bool) (g : ℕ) → (g == t.frame) ≡ b → more_of (x g) (q.shares g) ≡ (if b then fewer (one.shares t.frame) else one.shares g)
     unfolding one

@@ -73,7 +73,7 @@ lower_by : (b : Bool) (y : ℕ) (word m : ℕ) → (if b then (y + one_down) % 2
 lower_by true y word m = refl
 lower_by false y word m = refl
 
-itself : (f : ℕ) → (f == f) ≡ true
+pub itself : (f : ℕ) → (f == f) ≡ true
 itself f = grind (arith, nat_tests)
 
 pub lowered_kinded : (m : Words) (f : ℕ) (new : KindWord) → IsKinded m (change (Add one_down) (Kind f) (set_kind f new m)) f ((kind_write new + one_down) % 2 ^ 64)

@@ -31,7 +31,7 @@ use Rattle.table_law.specs.Release.{let_go}
 use Rattle.table_law.proofs.Counting.{at_here, at_there}
 use Rattle.table_twins.specs.Types.{IsOpenedPlain, IsReady, IsTakenPlain}
 use Rattle.table_twins.proofs.Kinding.{described_alike}
-use Rattle.table_twins.proofs.Typing.{taken_plain}
+use Rattle.table_twins.proofs.Typing.{at_level, taken_plain}
 use Rattle.course_laws.proofs.Frames.{IsAbove, IsLiveWithin, count_at, dead_stands, frame_ready, live_stands, no_other, work_other}
 use Rattle.pause_laws.proofs.Lends.{Both, both_there, got_both, lent, more_of}
 use Rattle.pause_laws.proofs.Under.{Grew, IsGrown, IsIn, IsKindBut, IsStill, PlainFrames, PlainTables, Spelled, count_of, dead_there, frame_there, frames_but, grown_count, in_work, live_there, spelled_other, spelled_same, spelled_set, still_more, still_off, tables_but}
@@ -50,11 +50,6 @@ memory_takes n owner g (suc (suc zero)) q first dead = absurd (let k = first in 
 memory_takes n owner g (suc (suc (suc zero))) q first dead = absurd (let k = first in cc)
 memory_takes n owner g (suc (suc (suc (suc l)))) q first dead = absurd (let k = first in cc)
 
-pub by_level : (n : Machine) (owner g l : ℕ) (q : Plain) (P : PlainOutcome → Type 0) → ((fill : Plain → PlainOutcome) → P (take_kind fill g (level_type l) q (q.kinds g))) → P (take_at l n owner g q)
-unfolding take_at
-by_level n owner g zero q P holds = holds fine
-by_level n owner g (suc l) q P holds = holds (meet_last n owner (take_at l n owner) (let_go l) (level_type (suc l)) g 512)
-
 counted_by : (b : Bool) (x : Plain) (o : PlainOutcome) (left : Plain) → (o.refusal ≡ None → ⊥) → (if b then fine x else o) ≡ fine left → (b ≡ true) × (left ≡ x)
 counted_by true x o left off is = (refl, sym (ap (λ (r : PlainOutcome). r.left) is))
 counted_by false x o left off is = absurd (off (ap (λ (r : PlainOutcome). r.refusal) is))
@@ -64,11 +59,11 @@ module _ (n : Machine) (owner g l : ℕ) (q : Plain) (off : is_dead (q.kinds g) 
   is_counted_as = is_counted (q.kinds g) && is_type (q.kinds g).kind (level_type l)
 
   live_takes : (left : Plain) → take_at l n owner g q ≡ fine left → (is_counted_as ≡ true) × (left ≡ with_kind g (raised_kind (q.kinds g)) q)
-  live_takes left = by_level n owner g l q (λ o. o ≡ fine left → ((is_counted (q.kinds g) && is_type (q.kinds g).kind (level_type l)) ≡ true) × (left ≡ with_kind g (raised_kind (q.kinds g)) q))
+  live_takes left = at_level n owner g l q (λ o. o ≡ fine left → ((is_counted (q.kinds g) && is_type (q.kinds g).kind (level_type l)) ≡ true) × (left ≡ with_kind g (raised_kind (q.kinds g)) q))
       (λ fill is. counted_by (is_counted (q.kinds g) && is_type (q.kinds g).kind (level_type l)) (with_kind g (raised_kind (q.kinds g)) q) (refused (OtherType g (level_type l) (q.kinds g)) (reference_back g q)) left (λ e. cc) (rw off at is))
 
   takes_live : is_counted_as ≡ true → take_at l n owner g q ≡ fine (with_kind g (raised_kind (q.kinds g)) q)
-  takes_live counted = by_level n owner g l q (λ o. o ≡ fine (with_kind g (raised_kind (q.kinds g)) q)) (λ fill. rw (off, counted) refl)
+  takes_live counted = at_level n owner g l q (λ o. o ≡ fine (with_kind g (raised_kind (q.kinds g)) q)) (λ fill. rw (off, counted) refl)
 
 pub work_out : (t : PageType) → (is_dead (work_kind t false 0) ≡ true) ⊎ ((work_kind t false 0).validated ≡ true) → ⊥
 work_out t (inl dead) = cc

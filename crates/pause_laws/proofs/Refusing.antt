@@ -26,11 +26,11 @@ use Rattle.table_law.specs.Alone.{Cause, CountFull, NoFrame, OtherType, PlainOut
 use Rattle.table_law.specs.Plain.{Describes, Plain, Share, raised_share, reference_back, with_kind, with_share}
 use Rattle.table_twins.specs.Answers.{IsCause, IsSameAnswer}
 use Rattle.table_twins.proofs.Referring.{same_answer}
-use Rattle.table_twins.proofs.Typing.{refused_plain}
+use Rattle.table_twins.proofs.Typing.{at_level, refused_plain}
 use Rattle.table_twins.proofs.Waiting.{only_busy}
 use Rattle.course_laws.proofs.Frames.{IsAbove, dead_stands}
 use Rattle.pause_laws.proofs.Lends.{lent, more_of, referred, refers}
-use Rattle.pause_laws.proofs.Recording.{by_level, got_one, taking, with_one}
+use Rattle.pause_laws.proofs.Recording.{got_one, taking, with_one}
 use Rattle.pause_laws.proofs.Under.{PlainFrames, PlainTables, Spelled}
 
 -- it is not for a count at its limit
@@ -94,8 +94,8 @@ module _ (n : Machine) (owner g l : ℕ) (q r : Plain) (kinds : r.kinds g ≡ q.
   same_refusal =
       let t = level_type l in
       let k = q.kinds g in
-      by_level n owner g l q (λ o. o.refusal ≡ (take_at l n owner g r).refusal)
-      (λ fill. by_level n owner g l r (λ o. (take_kind fill g t q k).refusal ≡ o.refusal)
+      at_level n owner g l q (λ o. o.refusal ≡ (take_at l n owner g r).refusal)
+      (λ fill. at_level n owner g l r (λ o. (take_kind fill g t q k).refusal ≡ o.refusal)
       (λ more. subst (λ j. (take_kind fill g t q k).refusal ≡ (take_kind more g t r j).refusal) (sym kinds)
       (either_refusal (is_dead k) (is_counted k && is_type k.kind t) (with_kind g (raised_kind k) q) (with_kind g (raised_kind k) r) (refused (OtherType g t k) (reference_back g q)) (refused (OtherType g t k) (reference_back g r)) _ _ off refl)))
 

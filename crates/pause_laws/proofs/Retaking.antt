@@ -24,7 +24,9 @@ use Rattle.partial_state.specs.Levels.{level_type}
 use Rattle.partial_state.proofs.LevelFacts.{level_type-table, level_type-typed}
 use Rattle.table_law.specs.Plain.{Describes, Plain, sober, with_kind}
 use Rattle.table_law.proofs.Describing.{sober_live}
-use Rattle.table_twins.proofs.Kinding.{described_alike, kinded}
+use Rattle.table_twins.proofs.Kinding.{described_alike, kinded, unlive}
+use Rattle.table_twins.proofs.Typing.{work_is}
+use Rattle.pause_laws.proofs.Completing.{itself}
 use Rattle.course_laws.proofs.Frames.{small_number}
 
 -- ---- a word in work, with another stamp
@@ -46,10 +48,6 @@ write_plus : (t : PageType) (c : ℕ) → (kind_write (work_kind t false c) ≡ 
 unfolding kind_write
 write_plus t c = (omega arith, omega arith)
 
-work_is : (t : PageType) → IsTrue (not (is_none t)) → IsTrue (is_kind (work_kind t false 0))
-unfolding has_form
-work_is t typed = grind (arith, nat_tests)
-
 work_read : (t : PageType) (c : ℕ) → IsTrue (not (is_none t)) → c < 2 ^ 36 → work_kind t false 0 ≡ sober (kind_fields (kind_write (work_kind t false c)))
 work_read t c typed small =
     let w = write_plus t c in
@@ -59,12 +57,6 @@ work_read t c typed small =
 -- ---- a partial word
 abbrev marked_kind : PageType → Bool → Bool → ℕ → ℕ → KindWord
 marked_kind t kept unflushed d number = partial_kind t kept unflushed d number
-
-unlive : (k : KindWord) → k.validated ≡ false → sober k ≡ record k { number = 0; unflushed = false }
-unlive k off = ap (λ b. if b then k else record k { number = 0; unflushed = false }) off
-
-itself : (c : ℕ) → (c == c) ≡ true
-itself c = grind (arith, nat_tests)
 
 module _ (k : KindWord) (t : PageType) (kept : Bool) (d : ℕ) (is : sober k ≡ partial_kind t kept false d 0) where
   pub partial_live : k.validated ≡ false

@@ -23,6 +23,7 @@ use Rattle.table_law.specs.Levels.{entry_of}
 use Rattle.table_law.specs.Plain.{Describes, Plain, Share, sober}
 use Rattle.table_law.specs.Stack.{rest}
 use Rattle.table_law.proofs.Describing.{sober_dead, sober_live}
+use Rattle.table_twins.proofs.Typing.{live_sober}
 use Rattle.course_laws.proofs.Frames.{IsAbove, IsAside, IsFrame, IsLiveWithin, IsWork, count_at, renumbered, small_number}
 use Rattle.course_laws.proofs.Stacking.{lefts}
 use Rattle.pause_laws.proofs.Lends.{lent, more_count}
@@ -227,9 +228,6 @@ module _ (n : Machine) (m x : Words) (p q : Plain) (kinds : (h : ℕ) → h < n.
 
     pub spelled_other : Spelled n x q
     spelled_other h inside out = work_by (h == g) h refl inside out
-
-pub live_sober : (k : KindWord) → k.validated ≡ true → sober k ≡ k
-live_sober k on = ap (λ b. if b then k else record k { number = 0; unflushed = false }) on
 
 module _ (n : Machine) (owner : ℕ) (m : Words) (x : ℕ → ℕ) (p : Plain) (ts : List TableWork) (d : Describes n m (lent x p)) (spelled : Spelled n m p) (tables : PlainTables n owner p ts) where
   count_there : (g : ℕ) → g < n.frames → count_of p g ≤ count_at m g
