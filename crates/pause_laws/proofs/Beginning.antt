@@ -41,14 +41,14 @@ use Rattle.course_laws.proofs.Stacking.{lefts}
 use Rattle.course_laws.proofs.Starting.{described, rest_frames, unreferred_refuses}
 use Rattle.pause_laws.proofs.Calling.{CallOutcome, IsDone, done_call, ends_call, left_call, lent_none}
 use Rattle.pause_laws.proofs.Lends.{IsSame, described_same, extra, lent}
-use Rattle.pause_laws.proofs.Pacing.{extra_own, lent_same}
+use Rattle.pause_laws.proofs.Pacing.{Aim, extra_own, lent_same}
 use Rattle.pause_laws.proofs.Recording.{Met, OpensTo, met_typed, opens_to, taking, with_one}
 use Rattle.pause_laws.proofs.Refusing.{IsForWords}
 use Rattle.pause_laws.proofs.Travelling.{Ends, wait_ends}
 use Rattle.pause_laws.proofs.Under.{IsStill, PlainFrames, Spelled, TableOf, count_of, frames_but}
 use Rattle.pause_laws.proofs.Unwinding.{HalfAt}
 
-pub words_final : (y : Refusal) → IsForWords y → IsFinal (Refused y)
+pub words_final : (y : Refusal) → IsForWords true y → IsFinal (Refused y)
 words_final (refusals.Clock x) known = known
 words_final _ known = tt
 
@@ -65,8 +65,8 @@ module _ (v : PortValue) (f owner level : ℕ) (machine : IsMachine v.post.machi
   abbrev p : Plain
   p = plain_of (told_word v)
 
-  abbrev a : PlainOutcome
-  a = alone v.post.machine owner level f (plain_of (told_word v))
+  abbrev a : Aim
+  a = record { outcome = alone v.post.machine owner level f (plain_of (told_word v)); whole = true }
 
   describes : Describes n m (lent (extra []) p)
   describes = described_same n m p (lent (extra []) p) (same_back (lent (extra []) p) p (lent_none p)) (described n m)
@@ -101,7 +101,7 @@ module _ (v : PortValue) (f owner level : ℕ) (machine : IsMachine v.post.machi
     way_of : (way : Taken) → TookType u x f owner level (Ok way) → IsTakenOf (got f m) f (level_type level) way × Alike (told_word x) (types_taken f (level_type level) way (got f m))
     way_of way type = let b = type.plain telling_there in subst (λ (y : Words). IsTakenOf y f (level_type level) way × Alike (told_word x) (types_taken f (level_type level) way y)) words ((b.0, b.1), b.2)
 
-    pub counted_done : TookType u x f owner level (Ok types.Counted) → IsDone n x a
+    pub counted_done : TookType u x f owner level (Ok types.Counted) → IsDone n x a.outcome
     counted_done type =
         let b = way_of types.Counted type in
         let g : Met n m x (extra []) p owner level f 0 [] machine describes spells tt frames tt (Typed f (level_type level)) = met_typed n m x (extra []) p owner level f 0 [] machine describes spells tt frames tt f none b.0 b.1 in
@@ -131,14 +131,14 @@ module _ (v : PortValue) (f owner level : ℕ) (machine : IsMachine v.post.machi
             few = (let e = into.none_done in omega arith);
           }
 
-      ahead : rest n owner (lefts (t ∷ [])) into.after ≡ a
+      ahead : rest n owner (lefts (t ∷ [])) into.after ≡ a.outcome
       unfolding with_one
       ahead =
           let took = taking n m x (extra []) p owner level f 0 [] machine describes spells tt frames tt f none in
           let one = with_one n m x (extra []) p owner level f 0 [] machine describes spells tt frames tt f none in
           let e : 512 ≡ 512 - progress = (let e = into.none_done in omega arith) in
           let same : suc (level - 1) ≡ level = omega (arith, low) in
-          subst (λ q. rest n owner (lefts (t ∷ [])) q ≡ a) (sym into.is)
+          subst (λ q. rest n owner (lefts (t ∷ [])) q ≡ a.outcome) (sym into.is)
           (subst (λ k. rest n owner (table_left f (level - 1) k ∷ []) (with_kind f (work_kind (level_type level) false 0) one) ≡ alone n owner level f p) e
           (subst (λ l. rest n owner (table_left f (level - 1) 512 ∷ []) (with_kind f (work_kind (level_type l) false 0) one) ≡ alone n owner l f p) same (sym (alone_opened n owner (level - 1) f p one took.takes into.dead))))
 
@@ -156,6 +156,7 @@ module _ (v : PortValue) (f owner level : ℕ) (machine : IsMachine v.post.machi
               describes = described_same n (told_word x) (lent (extra []) into.after) (lent (extra (t ∷ [])) into.after) (lent_same (extra []) (extra (t ∷ [])) into.after (λ g. extra_own t [] into.mine g)) into.describes;
               spelled = into.spelled;
               flags = (into.mine, refl);
+              mine = λ whole. ((into.mine, tt), refl);
               settled = λ some. absurd (let e = into.none_done in omega arith);
             };
           }
@@ -172,7 +173,7 @@ module _ (v : PortValue) (f owner level : ℕ) (machine : IsMachine v.post.machi
   untyped_ends u x (Paused (pauses.Busy k y)) ref type = tt
   untyped_ends u x (Paused (pauses.Alive k y)) ref type = tt
 
-  pub first_call : (w : PortValue) (answers : List Bool) (answer : Result ℕ Stop) → Acquired v f owner level w answers answer → CallOutcome v.post.machine owner w f level (alone v.post.machine owner level f (plain_of (told_word v))) answer
+  pub first_call : (w : PortValue) (answers : List Bool) (answer : Result ℕ Stop) → Acquired v f owner level w answers answer → CallOutcome v.post.machine owner w f level (record { outcome = alone v.post.machine owner level f (plain_of (told_word v)); whole = true }) answer
   first_call _ _ _ (unreferred w stop ref) = ends_call n owner w f level a stop (unreferred_ends w stop ref)
   first_call _ _ _ (untyped u x w stop ref type back) = ends_call n owner w f level a stop (untyped_ends u x stop ref type)
   first_call _ _ _ (counted u w ref type) = counted_done u w ref type

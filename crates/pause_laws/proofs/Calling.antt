@@ -1,5 +1,5 @@
 -- Whole calls: one that resumes what another has parked.
-use Rattle.std.proofs.Common.{◌≡◌, ◌⊎◌, ℕ, ◌+◌, ◌-◌, ◌<◌, ◌==◌, nat_le, if◌then◌else◌, Bool, true, false, List, [], ◌∷◌, Option, Some, None, Result, Ok, Err, IsTrue, refl, sym, ap, ◌∙◌, subst, arith}
+use Rattle.std.proofs.Common.{◌≡◌, ◌⊎◌, ℕ, ◌+◌, ◌-◌, ◌<◌, ◌==◌, nat_le, if◌then◌else◌, Bool, true, false, List, [], ◌∷◌, Option, Some, None, Result, Ok, Err, IsTrue, refl, sym, ap, ◌∙◌, subst, arith, inl, inr}
 use Rattle.std.proofs.Math.Path.{fun_ext}
 use Rattle.std.proofs.lemmas.Bool.Decides.{nat_tests}
 use Rattle.xp_words.specs.KindWords.{is_kind, kind_fields}
@@ -38,21 +38,21 @@ use Rattle.course_laws.proofs.Stacking.{Refuses}
 use Rattle.pause_laws.proofs.Completing.{put_kind}
 use Rattle.pause_laws.proofs.Halfway.{Half, half_of, of_half, off_below, onto, over, over_off, overlay, tables_onto}
 use Rattle.pause_laws.proofs.Lends.{Both, IsSame, both_there, described_same, extra, got_both, lent, more_of}
-use Rattle.pause_laws.proofs.Pacing.{Carries, IsLastSettled}
+use Rattle.pause_laws.proofs.Pacing.{Aim, Carries, IsLastSettled}
 use Rattle.pause_laws.proofs.Recording.{work_out}
 use Rattle.pause_laws.proofs.Refusing.{IsForWords, full_by, roomy}
 use Rattle.pause_laws.proofs.Resuming.{taken_on}
 use Rattle.pause_laws.proofs.Retaking.{not_counted, not_stopped, own_is, progress_is, retaken, retaken_words}
 use Rattle.pause_laws.proofs.Travelling.{Ends, Leads, Steps, all_filled, live_steps, wait_ends}
 use Rattle.pause_laws.proofs.Under.{Spelled, TableOf, Under, spelled_other}
-use Rattle.pause_laws.proofs.Unwinding.{HalfAt, Parked, ParkedAt, parked_over, unwound}
+use Rattle.pause_laws.proofs.Unwinding.{part, HalfAt, Parked, ParkedAt, parked_over, unwound}
 
 -- ---- the tables
-module _ (n : Machine) (owner : ℕ) (a : PlainOutcome) (is : IsMachine n) where
+module _ (n : Machine) (owner : ℕ) (a : Aim) (is : IsMachine n) where
   -- all is done; or the gate said yes; or what it stops for
   abbrev pub WorkOutcome : PortValue → List TableWork → Result (Unit {0}) Stop → Type 0
   WorkOutcome w xs (Ok x) = (b : Bool) × Steps n owner w xs a b
-  WorkOutcome w xs (Err (Refused y)) = IsForWords y → Refuses a
+  WorkOutcome w xs (Err (Refused y)) = IsForWords a.whole y → Refuses a.outcome
   WorkOutcome w xs (Err (Paused pauses.Due)) = HalfAt n owner w [] xs a
   WorkOutcome w xs (Err (Paused x)) = Unit {0}
 
@@ -92,13 +92,13 @@ pub record IsDone (n : Machine) (w : PortValue) (a : PlainOutcome) : Type 0 wher
   pub none : a.refusal ≡ None
   pub describes : Describes n (told_word w) a.left
 
-abbrev pub CallOutcome : Machine → ℕ → PortValue → ℕ → ℕ → PlainOutcome → Result ℕ Stop → Type 0
-CallOutcome n owner w f level a (Ok g) = IsDone n w a
-CallOutcome n owner w f level a (Err (Refused y)) = IsForWords y → Refuses a
-CallOutcome n owner w f level a (Err (Paused pauses.Due)) = ParkedAt n owner w f level a
+abbrev pub CallOutcome : Machine → ℕ → PortValue → ℕ → ℕ → Aim → Result ℕ Stop → Type 0
+CallOutcome n owner w f level a (Ok g) = IsDone n w a.outcome
+CallOutcome n owner w f level a (Err (Refused y)) = IsForWords a.whole y → Refuses a.outcome
+CallOutcome n owner w f level a (Err (Paused pauses.Due)) = ParkedAt n owner w f level a.outcome
 CallOutcome n owner w f level a (Err (Paused x)) = Unit {0}
 
-pub ends_call : (n : Machine) (owner : ℕ) (w : PortValue) (f level : ℕ) (a : PlainOutcome) (e : Stop) → Ends a e → CallOutcome n owner w f level a (Err e)
+pub ends_call : (n : Machine) (owner : ℕ) (w : PortValue) (f level : ℕ) (a : Aim) (e : Stop) → Ends a e → CallOutcome n owner w f level a (Err e)
 ends_call n owner w f level a (Refused y) ends = ends
 ends_call n owner w f level a (Paused pauses.Due) ends = absurd ends
 ends_call n owner w f level a (Paused (pauses.Flush v y x)) ends = tt
@@ -114,7 +114,7 @@ lent_none p = record { shares = λ g. by (p.shares g); kinds = λ g. refl; cells
     by (Some s) = let e : s.count ≡ s.count + 0 = omega arith in ap (λ c. Some (record { owner = s.owner; allocated = s.allocated; count = c })) e
 
 -- nothing is left to do
-all_done : (n : Machine) (owner : ℕ) (w : PortValue) (a : PlainOutcome) → Carries n owner (told_word w) [] a → IsDone n w a
+all_done : (n : Machine) (owner : ℕ) (w : PortValue) (a : Aim) → Carries n owner (told_word w) [] a → IsDone n w a.outcome
 unfolding rest
 all_done n owner w a c =
     record {
@@ -123,10 +123,15 @@ all_done n owner w a c =
     }
 
 -- from the outermost table in work on
-module _ (n : Machine) (owner f level : ℕ) (a : PlainOutcome) (is : IsMachine n) (x : PortValue) (rs : List TableWork) (t : TableWork) (g : HalfAt n owner x rs (t ∷ []) a) (outer : IsOutermost f level (t ∷ [])) where
-  pauses_by : (y w : PortValue) (us : List TableWork) → HalfAt n owner y [] us a → IsOutermost f level us → Unwound y us true w → ParkedAt n owner w f level a
+module _ (n : Machine) (owner f level : ℕ) (a : Aim) (is : IsMachine n) (x : PortValue) (rs : List TableWork) (t : TableWork) (g : HalfAt n owner x rs (t ∷ []) a) (outer : IsOutermost f level (t ∷ [])) where
+  as_part : (y : PortValue) (us : List TableWork) → HalfAt n owner y [] us a → HalfAt n owner y [] us (part a.outcome)
+  as_part y us h =
+      let k = h.half in
+      record { machine = h.machine; telling = h.telling; half = record { plain = k.plain; under = k.under; describes = k.describes; spelled = k.spelled; flags = k.flags; settled = k.settled; mine = λ whole. absurd cc } }
+
+  pauses_by : (y w : PortValue) (us : List TableWork) → HalfAt n owner y [] us a → IsOutermost f level us → Unwound y us true w → ParkedAt n owner w f level a.outcome
   pauses_by y w [] h out left = absurd out
-  pauses_by y w (o ∷ us) h out left = unwound n owner f level a us [] o y w h out left
+  pauses_by y w (o ∷ us) h out left = unwound n owner f level a.outcome us [] o y w (as_part y (o ∷ us) h) out left
 
   pub left_call : (y w : PortValue) (us : List TableWork) (answers : List Bool) (stop : Stop) → Worked owner x t y us answers (Err stop) → Unwound y us (keeps_it stop) w → CallOutcome n owner w f level a (Err stop)
   left_call y w us answers (Refused z) work left = worked n owner a is rs x t y us answers (Err (Refused z)) g work
@@ -137,7 +142,7 @@ module _ (n : Machine) (owner f level : ℕ) (a : PlainOutcome) (is : IsMachine 
   left_call y w us answers (Paused (pauses.Busy h k)) work left = tt
   left_call y w us answers (Paused (pauses.Alive v k)) work left = tt
 
-  pub done_call : (y w : PortValue) (u : TableWork) (answers : List Bool) → Worked owner x t y (u ∷ []) answers (Ok tt) → u.done ≡ 512 → MadeLive y w u → IsDone n w a
+  pub done_call : (y w : PortValue) (u : TableWork) (answers : List Bool) → Worked owner x t y (u ∷ []) answers (Ok tt) → u.done ≡ 512 → MadeLive y w u → IsDone n w a.outcome
   done_call y w u answers work full made =
       let s = worked n owner a is rs x t y (u ∷ []) answers (Ok tt) g work in
       all_done n owner w a (live_steps n owner y w u [] a s.0 s.1 full made s.1.carries.flags.0).carries
@@ -165,11 +170,15 @@ module _ (n : Machine) (owner : ℕ) (m : Words) (t : TableWork) (rs : List Tabl
   partial : q.kinds t.frame ≡ partial_kind (level_type t.level) true false t.done 0
   partial = at_here t.frame (partial_kind (level_type t.level) true false t.done 0) (over rs h.plain.kinds)
 
-  pub outer_refused : (y : Refusal) → refer n owner t.frame (m (Refs t.frame)) ≡ Some y → IsForWords y → ⊥
+  pub outer_refused : (y : Refusal) → refer n owner t.frame (m (Refs t.frame)) ≡ Some y → IsForWords false y → ⊥
   outer_refused y refuses known =
       let s : Share = record { owner = of_t.share.owner; allocated = of_t.share.allocated; count = of_t.share.count + x t.frame } in
-      full_by n owner t.frame x q y (roomy y known) (subst (λ o. IsSameAnswer o (take_reference n owner t.frame (lent x q)).refusal) refuses (same_answer n m (lent x q) owner t.frame describes))
-      (nat_le n.limit s.count) s (ap (more_of (x t.frame)) of_t.was) of_t.owns of_t.inside refl
+      elim (roomy false y known) [
+        | inl room ↦
+            full_by n owner t.frame x q y room (subst (λ o. IsSameAnswer o (take_reference n owner t.frame (lent x q)).refusal) refuses (same_answer n m (lent x q) owner t.frame describes))
+            (nat_le n.limit s.count) s (ap (more_of (x t.frame)) of_t.was) of_t.owns of_t.inside refl
+        | inr whole ↦ absurd cc
+      ]
 
   module _ (none : refer n owner t.frame (m (Refs t.frame)) ≡ None) where
     lends : Both n owner t.frame x q
@@ -241,7 +250,7 @@ module _ (n : Machine) (owner : ℕ) (m : Words) (t : TableWork) (rs : List Tabl
       kinds_by true g same = let e : g ≡ t.frame = grind (arith, nat_tests) in ap (over rs h.plain.kinds) e ∙ work_here
       kinds_by false g same = refl
 
-      pub outer_half : Half n owner (told_word w) rs (t ∷ []) a
+      pub outer_half : Half n owner (told_word w) rs (t ∷ []) (part a)
       outer_half =
           record {
             plain = h.plain;
@@ -252,6 +261,7 @@ module _ (n : Machine) (owner : ℕ) (m : Words) (t : TableWork) (rs : List Tabl
                 (λ g inside out. subst (λ y. IsTrue (is_kind (kind_fields y))) (sym (put_kind t.frame g (got t.frame m))) (spells g inside out)) t.frame _ words
                 (λ out. work_out (level_type t.level) (subst (λ j. (is_dead j ≡ true) ⊎ (j.validated ≡ true)) work_here out)) (λ g off. sym (at_there t.frame g (partial_kind (level_type t.level) true false t.done 0) (over rs h.plain.kinds) off));
             flags = (ap (λ (k : TableWork). k.own) (sym table) ∙ h.own, ap (λ (k : TableWork). k.recorded) (sym table) ∙ h.under_way);
+            mine = λ whole. absurd cc;
             settled = subst (λ k. IsLastSettled n h.plain (onto rs (k ∷ []))) table (subst (λ ks. IsLastSettled n h.plain (onto ks (h.table ∷ []))) inner h.settled);
           }
 
@@ -273,7 +283,7 @@ module _ (n : Machine) (owner : ℕ) (a : PlainOutcome) (is : IsMachine n) (v : 
   telling_by : (u : PortValue) → GotRef v u t.frame owner (Ok t.frame) → is_telling u ≡ true
   telling_by u ref = came_telling v u (does_came v u _ ref.found) ∙ g.telling
 
-  unreferred_ends : (w : PortValue) (e : Stop) → GotRef v w t.frame owner (Err e) → Ends a e
+  unreferred_ends : (w : PortValue) (e : Stop) → GotRef v w t.frame owner (Err e) → Ends (part a) e
   unreferred_ends w (Refused y) ref =
       let refuses = subst (λ k. refer k owner t.frame (told_word v (Refs t.frame)) ≡ Some y) g.machine (ref.plain g.telling).0 in
       λ known. absurd (outer_refused n owner (told_word v) t g.parked.inner a is g.parked table refl y refuses known)
@@ -298,22 +308,22 @@ module _ (n : Machine) (owner : ℕ) (a : PlainOutcome) (is : IsMachine n) (v : 
     came : Came v x
     came = came_trans v u x (does_came v u _ ref.found) (does_came u x _ type.found)
 
-    pub begins : HalfAt n owner x g.parked.inner (outermost_table t.frame t.level progress own ∷ []) a
+    pub begins : HalfAt n owner x g.parked.inner (outermost_table t.frame t.level progress own ∷ []) (part a)
     begins =
         let half = outer_half n owner (told_word v) t g.parked.inner a is g.parked table refl (none_by u ref) x progress own way leaves_words in
         let same = outermost_is n owner (told_word v) t g.parked.inner a is g.parked table refl (none_by u ref) x progress own way leaves_words in
         record {
           machine = ap (λ (q : Post). q.machine) (came_post v x came) ∙ g.machine;
           telling = came_telling v x came ∙ g.telling;
-          half = subst (λ k. Half n owner (told_word x) g.parked.inner (k ∷ []) a) same half;
+          half = subst (λ k. Half n owner (told_word x) g.parked.inner (k ∷ []) (part a)) same half;
         }
 
-  pub resumed_call : (w : PortValue) (answers : List Bool) (answer : Result ℕ Stop) → Acquired v t.frame owner t.level w answers answer → CallOutcome n owner w t.frame t.level a answer
-  resumed_call _ _ _ (unreferred w stop ref) = ends_call n owner w t.frame t.level a stop (unreferred_ends w stop ref)
+  pub resumed_call : (w : PortValue) (answers : List Bool) (answer : Result ℕ Stop) → Acquired v t.frame owner t.level w answers answer → CallOutcome n owner w t.frame t.level (part a) answer
+  resumed_call _ _ _ (unreferred w stop ref) = ends_call n owner w t.frame t.level (part a) stop (unreferred_ends w stop ref)
   resumed_call _ _ _ (untyped u x w stop ref type back) = absurd (untyped_never u x stop ref type)
   resumed_call _ _ _ (counted u w ref type) = absurd (counted_never u w ref type)
-  resumed_call _ _ _ (waiting u x w own stamp stop ref type left) = ends_call n owner w t.frame t.level a stop (wait_ends a stop type.waits.0)
+  resumed_call _ _ _ (waiting u x w own stamp stop ref type left) = ends_call n owner w t.frame t.level (part a) stop (wait_ends (part a) stop type.waits.0)
   resumed_call _ _ _ (unfinished u x y w progress own us answers stop ref type work left) =
-      left_call n owner t.frame t.level a is x g.parked.inner (outermost_table t.frame t.level progress own) (begins u x progress own ref type) (refl, refl) y w us answers stop work left
+      left_call n owner t.frame t.level (part a) is x g.parked.inner (outermost_table t.frame t.level progress own) (begins u x progress own ref type) (refl, refl) y w us answers stop work left
   resumed_call _ _ _ (finished u x y w progress own k answers ref type work full made) =
-      done_call n owner t.frame t.level a is x g.parked.inner (outermost_table t.frame t.level progress own) (begins u x progress own ref type) (refl, refl) y w k answers work full made
+      done_call n owner t.frame t.level (part a) is x g.parked.inner (outermost_table t.frame t.level progress own) (begins u x progress own ref type) (refl, refl) y w k answers work full made

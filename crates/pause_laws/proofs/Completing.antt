@@ -29,7 +29,7 @@ use Rattle.table_twins.proofs.Kinding.{described_alike}
 use Rattle.table_twins.proofs.Sharing.{same_back}
 use Rattle.course_laws.proofs.Stacking.{lefts}
 use Rattle.pause_laws.proofs.Lends.{IsSame, described_same, extra, lent, more_of}
-use Rattle.pause_laws.proofs.Pacing.{Carries, Flagged, IsLastSettled, Paces, extra_own, lent_same}
+use Rattle.pause_laws.proofs.Pacing.{Aim, Carries, Flagged, IsLastSettled, Paces, extra_own, lent_same}
 use Rattle.pause_laws.proofs.Recording.{IsSettled}
 use Rattle.pause_laws.proofs.Under.{Chained, IsIn, IsKindBut, IsStill, Spelled, TableOf, Under, above_off, chained_cells, count_of, frames_but, same_grown, tables_but}
 
@@ -140,7 +140,7 @@ rest_flags : (t : TableWork) (ts : List TableWork) → Flagged (t ∷ ts) → Fl
 rest_flags t [] f = tt
 rest_flags t (o ∷ ts) f = f.1
 
-module _ (n : Machine) (owner : ℕ) (m : Words) (t : TableWork) (ts : List TableWork) (a : PlainOutcome) (s : Carries n owner m (t ∷ ts) a) (full : t.done ≡ 512) where
+module _ (n : Machine) (owner : ℕ) (m : Words) (t : TableWork) (ts : List TableWork) (a : Aim) (s : Carries n owner m (t ∷ ts) a) (full : t.done ≡ 512) where
   table : TableOf n owner s.plain t
   table = s.under.tables.0
 
@@ -159,15 +159,15 @@ module _ (n : Machine) (owner : ℕ) (m : Words) (t : TableWork) (ts : List Tabl
   out_of h off (inl is) = absurd (off (sym is))
   out_of h off (inr one) = one
 
-  full_ahead : rest n owner (lefts ts) live ≡ a
+  full_ahead : rest n owner (lefts ts) live ≡ a.outcome
   unfolding live
   full_ahead =
       let none : 512 - t.done ≡ 0 = omega arith in
       let level : suc (t.level - 1) ≡ t.level = (let low = table.low in omega arith) in
-      subst (λ l. rest n owner (lefts ts) (with_kind t.frame (live_kind (level_type l) 1) s.plain) ≡ a) level
-      (sym (rest_full n owner t.frame (t.level - 1) (lefts ts) s.plain) ∙ subst (λ k. rest n owner (table_left t.frame (t.level - 1) k ∷ lefts ts) s.plain ≡ a) none s.under.ahead)
+      subst (λ l. rest n owner (lefts ts) (with_kind t.frame (live_kind (level_type l) 1) s.plain) ≡ a.outcome) level
+      (sym (rest_full n owner t.frame (t.level - 1) (lefts ts) s.plain) ∙ subst (λ k. rest n owner (table_left t.frame (t.level - 1) k ∷ lefts ts) s.plain ≡ a.outcome) none s.under.ahead)
 
-  live_under : Under n owner live ts a
+  live_under : Under n owner live ts a.outcome
   unfolding live
   live_under =
       let count : count_of live t.frame ≡ table.share.count = ap share_count table.was in
@@ -186,7 +186,7 @@ module _ (n : Machine) (owner : ℕ) (m : Words) (t : TableWork) (ts : List Tabl
   settled_by (o ∷ us) c = λ some. subst (IsSettled n live) (sym c.0.2) (table.inside, ap (λ (k : KindWord). k.validated) live_here)
 
   pub live_paces : (x : Words) → Describes n x (lent (extra ts) live) → Spelled n x live → Paces n owner x ts a
-  live_paces x describes spelled = record { on = record { plain = live; under = live_under; describes = describes; spelled = spelled; flags = rest_flags t ts s.flags }; settled = settled_by ts s.under.chain }
+  live_paces x describes spelled = record { on = record { plain = live; under = live_under; describes = describes; spelled = spelled; flags = rest_flags t ts s.flags; mine = λ whole. (s.mine whole).1 }; settled = settled_by ts s.under.chain }
 
   -- with its own type count
   module _ (x : Words) (own : t.own ≡ true) (stored : IsKinded m x t.frame (kind_write (live_kind (level_type t.level) 1))) where

@@ -1,5 +1,5 @@
 -- Some of the tables in work are parked, the innermost ones: as a pause leaves one behind the other, and a resumption finds them.
-use Rattle.std.proofs.Common.{◌≡◌, ◌⊎◌, ℕ, ◌-◌, ◌<◌, ◌≤◌, Bool, false, List, [], ◌∷◌, refl, sym, ap, ◌∙◌, subst, inl, inr, arith}
+use Rattle.std.proofs.Common.{◌≡◌, ◌⊎◌, ℕ, ◌-◌, ◌<◌, ◌≤◌, Bool, false, List, [], ◌∷◌, refl, sym, ap, ◌∙◌, subst, inl, inr, arith, true}
 use Rattle.xp_words.specs.Machine.{Machine}
 use Rattle.xp_words.specs.declared.kind.KindWord.{KindWord}
 use Rattle.step_maker.specs.Plain.{Words}
@@ -16,7 +16,7 @@ use Rattle.course_laws.proofs.Frames.{IsAbove}
 use Rattle.course_laws.proofs.Stacking.{lefts}
 use Rattle.pause_laws.proofs.Completing.{rest_chained}
 use Rattle.pause_laws.proofs.Lends.{extra, lent}
-use Rattle.pause_laws.proofs.Pacing.{Carries, Flagged, IsLastSettled}
+use Rattle.pause_laws.proofs.Pacing.{Aim, AllOwn, Carries, Flagged, IsLastSettled}
 use Rattle.pause_laws.proofs.Recording.{IsSettled}
 use Rattle.pause_laws.proofs.Under.{Chained, IsIn, IsNamed, IsOff, IsStill, PlainTables, Spelled, TableOf, Under, count_of}
 
@@ -115,19 +115,20 @@ abbrev pub overlay : List TableWork → Plain → Plain
 overlay rs p = record { shares = p.shares; kinds = over rs p.kinds; cells = p.cells }
 
 -- the words m: with tables rs parked, and us in work
-pub record Half (n : Machine) (owner : ℕ) (m : Words) (rs us : List TableWork) (a : PlainOutcome) : Type 0 where
+pub record Half (n : Machine) (owner : ℕ) (m : Words) (rs us : List TableWork) (a : Aim) : Type 0 where
   pub plain : Plain
-  pub under : Under n owner plain (onto rs us) a
+  pub under : Under n owner plain (onto rs us) a.outcome
   pub describes : Describes n m (lent (extra us) (overlay rs plain))
   pub spelled : Spelled n m (overlay rs plain)
   pub flags : Flagged us
+  pub mine : a.whole ≡ true → AllOwn us × (rs ≡ [])
   pub settled : IsLastSettled n plain (onto rs us)
 
-pub half_of : (n : Machine) (owner : ℕ) (m : Words) (ts : List TableWork) (a : PlainOutcome) (c : Carries n owner m ts a) → IsLastSettled n c.plain ts → Half n owner m [] ts a
-half_of n owner m ts a c settled = record { plain = c.plain; under = c.under; describes = c.describes; spelled = c.spelled; flags = c.flags; settled = settled }
+pub half_of : (n : Machine) (owner : ℕ) (m : Words) (ts : List TableWork) (a : Aim) (c : Carries n owner m ts a) → IsLastSettled n c.plain ts → Half n owner m [] ts a
+half_of n owner m ts a c settled = record { plain = c.plain; under = c.under; describes = c.describes; spelled = c.spelled; flags = c.flags; mine = λ whole. (c.mine whole, refl); settled = settled }
 
-pub of_half : (n : Machine) (owner : ℕ) (m : Words) (ts : List TableWork) (a : PlainOutcome) → Half n owner m [] ts a → Carries n owner m ts a
-of_half n owner m ts a h = record { plain = h.plain; under = h.under; describes = h.describes; spelled = h.spelled; flags = h.flags }
+pub of_half : (n : Machine) (owner : ℕ) (m : Words) (ts : List TableWork) (a : Aim) → Half n owner m [] ts a → Carries n owner m ts a
+of_half n owner m ts a h = record { plain = h.plain; under = h.under; describes = h.describes; spelled = h.spelled; flags = h.flags; mine = λ whole. (h.mine whole).0 }
 
 -- ---- what the whole list says of those in work
 pub chained_onto : (p : Plain) (rs us : List TableWork) → Chained p (onto rs us) → Chained p us

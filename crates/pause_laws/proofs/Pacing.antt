@@ -39,20 +39,30 @@ Flagged [] = Unit {0}
 Flagged (t ∷ []) = (t.own ≡ true) × (t.recorded ≡ false)
 Flagged (t ∷ o ∷ ts) = (t.recorded ≡ not t.own) × Flagged (o ∷ ts)
 
+abbrev pub AllOwn : List TableWork → Type 0
+AllOwn [] = Unit {0}
+AllOwn (t ∷ ts) = (t.own ≡ true) × AllOwn ts
+
+-- what an acquisition comes to alone; and whether it is a whole one, which resumes nothing
+pub record Aim : Type 0 where
+  pub outcome : PlainOutcome
+  pub whole : Bool
+
 -- the words m are those of an acquisition under way with these tables in work, of which all that is left to do comes to a
-pub record Carries (n : Machine) (owner : ℕ) (m : Words) (ts : List TableWork) (a : PlainOutcome) : Type 0 where
+pub record Carries (n : Machine) (owner : ℕ) (m : Words) (ts : List TableWork) (a : Aim) : Type 0 where
   pub plain : Plain
-  pub under : Under n owner plain ts a
+  pub under : Under n owner plain ts a.outcome
   pub describes : Describes n m (lent (extra ts) plain)
   pub spelled : Spelled n m plain
   pub flags : Flagged ts
+  pub mine : a.whole ≡ true → AllOwn ts
 
 -- the frame that the last entry of the innermost one asks as a table is live
 abbrev pub IsLastSettled : Machine → Plain → List TableWork → Type 0
 IsLastSettled n p [] = Unit {0}
 IsLastSettled n p (t ∷ ts) = 0 < t.done → IsSettled n p (entry_of p (level_type t.level) t.frame (t.done - 1))
 
-pub record Paces (n : Machine) (owner : ℕ) (m : Words) (ts : List TableWork) (a : PlainOutcome) : Type 0 where
+pub record Paces (n : Machine) (owner : ℕ) (m : Words) (ts : List TableWork) (a : Aim) : Type 0 where
   pub on : Carries n owner m ts a
   pub settled : IsLastSettled n on.plain ts
 
@@ -74,7 +84,11 @@ lent_same x y p same = record { shares = λ g. ap (λ e. more_of e (p.shares g))
 pub extra_own : (t : TableWork) (ts : List TableWork) → t.own ≡ true → (g : ℕ) → extra (t ∷ ts) g ≡ extra ts g
 extra_own t ts own g = let none : 0 + extra ts g ≡ extra ts g = omega arith in ap (λ b. (if b then 0 else (if g == t.frame then 1 else 0)) + extra ts g) own ∙ none
 
-module _ (u w : PortValue) (owner : ℕ) (t : TableWork) (ts : List TableWork) (a : PlainOutcome) (s : Carries u.post.machine owner (told_word u) (t ∷ ts) a) (machine : IsMachine u.post.machine) (telling : is_telling u ≡ true) (few : t.done < 512) where
+pub extra_none : (ts : List TableWork) (g : ℕ) → AllOwn ts → extra ts g ≡ 0
+extra_none [] g all = refl
+extra_none (t ∷ ts) g all = extra_own t ts all.0 g ∙ extra_none ts g all.1
+
+module _ (u w : PortValue) (owner : ℕ) (t : TableWork) (ts : List TableWork) (a : Aim) (s : Carries u.post.machine owner (told_word u) (t ∷ ts) a) (machine : IsMachine u.post.machine) (telling : is_telling u ≡ true) (few : t.done < 512) where
   abbrev n : Machine
   n = u.post.machine
 
@@ -127,26 +141,27 @@ module _ (u w : PortValue) (owner : ℕ) (t : TableWork) (ts : List TableWork) (
             frames = g.frames;
             tables = (table_more n owner g.after t few tables.0, tables.1, tables.2);
             chain = chained_more g.after t ts (chained_cells p g.after (t ∷ ts) g.cells s.under.chain);
-            ahead = subst (λ (o : PlainOutcome). rest n owner (table_left t.frame l (512 - (t.done + 1)) ∷ lefts ts) o.left ≡ a) comes
-                (met_on n owner t.frame l t.done (lefts ts) p a few s.under.ahead (ap (λ (o : PlainOutcome). o.refusal) comes));
+            ahead = subst (λ (o : PlainOutcome). rest n owner (table_left t.frame l (512 - (t.done + 1)) ∷ lefts ts) o.left ≡ a.outcome) comes
+                (met_on n owner t.frame l t.done (lefts ts) p a.outcome few s.under.ahead (ap (λ (o : PlainOutcome). o.refusal) comes));
           };
           describes = g.describes;
           spelled = g.spelled;
           flags = flags_more t ts s.flags;
+          mine = s.mine;
         };
         settled = λ some. subst (IsSettled n g.after) (sym (last_is g.after g.cells)) g.settled;
       }
 
   -- it is refused
-  pub refused_paces : (y : Refusal) → IsForWords y → TwinEntry u w t.frame (level_type t.level) t.done owner (Err (Refused y)) → Refuses a
+  pub refused_paces : (y : Refusal) → IsForWords a.whole y → TwinEntry u w t.frame (level_type t.level) t.done owner (Err (Refused y)) → Refuses a.outcome
   refused_paces y known twin =
       let p = s.plain in
-      let c = unmet n m w (extra (t ∷ ts)) p owner l t.frame t.done (t ∷ ts) machine s.describes s.spelled above s.under.frames s.under.tables asked y asks known (enters (Err (Refused y)) twin) in
-      stopped_there n owner t.frame l t.done (lefts ts) p a few s.under.ahead c.cause (ap (λ e. (meet n owner (take_at l n owner) t.frame t.done p e).refusal) entry_is ∙ c.is)
+      let c = unmet n m w (extra (t ∷ ts)) p owner l t.frame t.done (t ∷ ts) machine s.describes s.spelled above s.under.frames s.under.tables a.whole (λ whole g. extra_none (t ∷ ts) g (s.mine whole)) asked y asks known (enters (Err (Refused y)) twin) in
+      stopped_there n owner t.frame l t.done (lefts ts) p a.outcome few s.under.ahead c.cause (ap (λ e. (meet n owner (take_at l n owner) t.frame t.done p e).refusal) entry_is ∙ c.is)
 
   -- it does not pause for the gate
   pub never_due : TwinEntry u w t.frame (level_type t.level) t.done owner (Err (Paused Due)) → ⊥
-  never_due twin = not_due n m w (extra (t ∷ ts)) s.plain owner l t.frame t.done (t ∷ ts) machine s.describes s.spelled above s.under.frames s.under.tables asked (enters (Err (Paused Due)) twin)
+  never_due twin = not_due n m w (extra (t ∷ ts)) s.plain owner l t.frame t.done (t ∷ ts) machine s.describes s.spelled above s.under.frames s.under.tables a.whole (λ whole g. extra_none (t ∷ ts) g (s.mine whole)) asked (enters (Err (Paused Due)) twin)
 
   -- it opens a table
   module _ (h progress : ℕ) (own : Bool) (twin : TwinEntry u w t.frame (level_type t.level) t.done owner (Ok (Opened h progress own))) where
@@ -188,17 +203,17 @@ module _ (u w : PortValue) (owner : ℕ) (t : TableWork) (ts : List TableWork) (
     named : IsNamed into.after inner (one_more t)
     named = (omega (arith, level), omega arith, last_is into.after cells_same ∙ (opening.asked ∙ ap (λ g. Typed g (level_type l)) (sym opening.same)))
 
-    goes_on : rest n owner (lefts (inner ∷ one_more t ∷ ts)) into.after ≡ a
+    goes_on : rest n owner (lefts (inner ∷ one_more t ∷ ts)) into.after ≡ a.outcome
     unfolding with_one
     goes_on =
         let g = opening.frame in
         let one = with_one n m w (extra (t ∷ ts)) s.plain owner l t.frame t.done (t ∷ ts) machine s.describes s.spelled above s.under.frames s.under.tables g opening.lends in
         let took = (taking n m w (extra (t ∷ ts)) s.plain owner l t.frame t.done (t ∷ ts) machine s.describes s.spelled above s.under.frames s.under.tables g opening.lends).takes in
         let none : 512 ≡ 512 - progress = (let e = into.none_done in omega arith) in
-        subst (λ q. rest n owner (lefts (inner ∷ one_more t ∷ ts)) q ≡ a) (sym into.is)
-        (subst (λ k. rest n owner (table_left h (l - 1) k ∷ table_left t.frame l (512 - (t.done + 1)) ∷ lefts ts) (with_kind g (work_kind (level_type l) false 0) one) ≡ a) none
-        (subst (λ f. rest n owner (table_left f (l - 1) 512 ∷ table_left t.frame l (512 - (t.done + 1)) ∷ lefts ts) (with_kind g (work_kind (level_type l) false 0) one) ≡ a) (sym opening.same)
-        (opened_from n owner t.frame (l - 1) l t.done g (level_type l) (lefts ts) s.plain one a (let low = first in omega arith) few s.under.ahead (entry_is ∙ opening.asked) took into.dead)))
+        subst (λ q. rest n owner (lefts (inner ∷ one_more t ∷ ts)) q ≡ a.outcome) (sym into.is)
+        (subst (λ k. rest n owner (table_left h (l - 1) k ∷ table_left t.frame l (512 - (t.done + 1)) ∷ lefts ts) (with_kind g (work_kind (level_type l) false 0) one) ≡ a.outcome) none
+        (subst (λ f. rest n owner (table_left f (l - 1) 512 ∷ table_left t.frame l (512 - (t.done + 1)) ∷ lefts ts) (with_kind g (work_kind (level_type l) false 0) one) ≡ a.outcome) (sym opening.same)
+        (opened_from n owner t.frame (l - 1) l t.done g (level_type l) (lefts ts) s.plain one a.outcome (let low = first in omega arith) few s.under.ahead (entry_is ∙ opening.asked) took into.dead)))
 
     pub opened_carries : Carries u.post.machine owner (told_word w) (table_in t h progress own false ∷ one_more t ∷ ts) a
     opened_carries =
@@ -217,6 +232,7 @@ module _ (u w : PortValue) (owner : ℕ) (t : TableWork) (ts : List TableWork) (
           describes = described_same n (told_word w) (lent (extra (t ∷ ts)) into.after) (lent (extra (inner ∷ one_more t ∷ ts)) into.after) (lent_same (extra (t ∷ ts)) (extra (inner ∷ one_more t ∷ ts)) into.after (λ g. extra_own inner (one_more t ∷ ts) into.mine g)) into.describes;
           spelled = into.spelled;
           flags = (ap not (sym into.mine), flags_more t ts s.flags);
+          mine = λ whole. (into.mine, s.mine whole);
         }
 
     pub opened_none : progress ≡ 0

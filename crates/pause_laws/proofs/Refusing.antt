@@ -1,5 +1,5 @@
 -- The next entry of a table is refused: so it is on the plain value without the references that are lent, if no count is at the limit.
-use Rattle.std.proofs.Common.{◌≡◌, ℕ, ◌+◌, ◌<◌, ◌==◌, ◌&&◌, not, nat_le, nat_lt, if◌then◌else◌, Bool, true, false, List, Option, Some, None, Err, refl, sym, ap, ◌∙◌, subst, arith}
+use Rattle.std.proofs.Common.{◌≡◌, ℕ, ◌+◌, ◌<◌, ◌==◌, ◌&&◌, not, nat_le, nat_lt, if◌then◌else◌, Bool, true, false, List, Option, Some, None, Err, refl, sym, ap, ◌∙◌, subst, inl, inr, arith, ◌⊎◌}
 use Rattle.std.proofs.lemmas.Bool.Decides.{nat_tests}
 use Rattle.xp_words.specs.Machine.{IsMachine, Machine}
 use Rattle.xp_words.specs.KindWords.{kind_fields}
@@ -29,7 +29,7 @@ use Rattle.table_twins.proofs.Referring.{same_answer}
 use Rattle.table_twins.proofs.Typing.{at_level, refused_plain}
 use Rattle.table_twins.proofs.Waiting.{only_busy}
 use Rattle.course_laws.proofs.Frames.{IsAbove, dead_stands}
-use Rattle.pause_laws.proofs.Lends.{lent, more_of, referred, refers}
+use Rattle.pause_laws.proofs.Lends.{Referred, lent, more_of, referred, refers}
 use Rattle.pause_laws.proofs.Recording.{got_one, taking, with_one}
 use Rattle.pause_laws.proofs.Under.{PlainFrames, PlainTables, Spelled}
 
@@ -38,20 +38,20 @@ abbrev pub IsRoomy : Refusal → Type 0
 IsRoomy (refusals.CountFull f w) = ⊥
 IsRoomy _ = Unit {0}
 
--- nor because the clock stands at its last value
-abbrev pub IsForWords : Refusal → Type 0
-IsForWords (refusals.CountFull f w) = ⊥
-IsForWords (refusals.Clock x) = ⊥
-IsForWords _ = Unit {0}
+-- It is for what the words say: not because the clock stands at its last value; and for a count at its limit only where nothing is lent.
+abbrev pub IsForWords : Bool → Refusal → Type 0
+IsForWords whole (refusals.CountFull f w) = whole ≡ true
+IsForWords whole (refusals.Clock x) = ⊥
+IsForWords whole _ = Unit {0}
 
 -- some cause
 pub record IsSome (r : Option Cause) : Type 0 where
   pub cause : Cause
   pub is : r ≡ Some cause
 
-pub roomy : (y : Refusal) → IsForWords y → IsRoomy y
-roomy (refusals.CountFull f w) is = is
-roomy _ is = tt
+pub roomy : (whole : Bool) (y : Refusal) → IsForWords whole y → IsRoomy y ⊎ (whole ≡ true)
+roomy whole (refusals.CountFull f w) is = inr is
+roomy whole _ is = inl tt
 
 cause_full : (y : Refusal) (g : ℕ) (s : Share) → IsCause y (CountFull g s) → IsRoomy y → ⊥
 cause_full (refusals.CountFull f w) g s is room = room
@@ -73,15 +73,22 @@ module _ (n : Machine) (owner g : ℕ) (x : ℕ → ℕ) (p : Plain) (y : Refusa
   full_by false s was own inside full =
       subst (λ o. IsSameAnswer (Some y) o) (ap (λ (o : PlainOutcome). o.refusal) (refers n owner g (lent x p) s was own (grind (arith, nat_tests)) inside)) same
 
-  refused_by : (o : Option Cause) → (take_reference n owner g p).refusal ≡ o → IsSome o
-  refused_by (Some c) is = record { cause = c; is = refl }
-  refused_by None is =
-      let a = referred n owner g p is in
+-- so the value without what is lent refuses it, too; and where nothing is lent, for a count at the limit as well
+module _ (n : Machine) (owner g : ℕ) (x : ℕ → ℕ) (p : Plain) (y : Refusal) (same : IsSameAnswer (Some y) (take_reference n owner g (lent x p)).refusal) where
+  none_by : IsRoomy y ⊎ (x g ≡ 0) → Referred n owner g p → ⊥
+  none_by room a =
       let s : Share = record { owner = a.share.owner; allocated = a.share.allocated; count = a.share.count + x g } in
-      absurd (full_by (nat_le n.limit s.count) s (ap (more_of (x g)) a.was) a.owns a.inside refl)
+      elim room [
+        | inl is ↦ full_by n owner g x p y is same (nat_le n.limit s.count) s (ap (more_of (x g)) a.was) a.owns a.inside refl
+        | inr none ↦ subst (λ o. IsSameAnswer (Some y) o) (ap (λ (o : PlainOutcome). o.refusal) (refers n owner g (lent x p) s (ap (more_of (x g)) a.was) a.owns (let low = a.room in omega arith) a.inside)) same
+      ]
 
-  pub reference_refused : IsSome (take_reference n owner g p).refusal
-  reference_refused = refused_by (take_reference n owner g p).refusal refl
+  refused_by : IsRoomy y ⊎ (x g ≡ 0) → (o : Option Cause) → (take_reference n owner g p).refusal ≡ o → IsSome o
+  refused_by room (Some c) is = record { cause = c; is = refl }
+  refused_by room None is = absurd (none_by room (referred n owner g p is))
+
+  pub reference_refused : IsRoomy y ⊎ (x g ≡ 0) → IsSome (take_reference n owner g p).refusal
+  reference_refused room = refused_by room (take_reference n owner g p).refusal refl
 
 -- ---- a type, on two plain values with the same kinds
 either_refusal : (e c : Bool) (a b : Plain) (o r s t : PlainOutcome) → e ≡ false → o.refusal ≡ r.refusal → (if e then s else if c then fine a else o).refusal ≡ (if e then t else if c then fine b else r).refusal
@@ -103,10 +110,12 @@ stopped_off : (g l w : ℕ) (y : Stop) (b : Bool) → is_dead (kind_fields w) �
 stopped_off g l w y true dead stop = absurd (let e : None ≡ Some y = sym (ap (stop_by g (level_type l) w) (dead_stands (kind_fields w) (level_type l) dead)) ∙ stop in cc)
 stopped_off g l w y false dead stop = refl
 
-module _ (n : Machine) (m : Words) (w : PortValue) (x : ℕ → ℕ) (p : Plain) (owner l f i : ℕ) (ts : List TableWork) (machine : IsMachine n) (d : Describes n m (lent x p)) (spells : Spelled n m p) (above : IsAbove l ts) (all : PlainFrames n p ts) (works : PlainTables n owner p ts) where
+module _ (n : Machine) (m : Words) (w : PortValue) (x : ℕ → ℕ) (p : Plain) (owner l f i : ℕ) (ts : List TableWork) (machine : IsMachine n) (d : Describes n m (lent x p)) (spells : Spelled n m p) (above : IsAbove l ts) (all : PlainFrames n p ts) (works : PlainTables n owner p ts) (whole : Bool) (unlent : whole ≡ true → (g : ℕ) → x g ≡ 0) where
   -- the reference
-  lent_refused : (g : ℕ) (y : Refusal) → refer n owner g (m (Refs g)) ≡ Some y → IsForWords y → IsSome (take_reference n owner g p).refusal
-  lent_refused g y is known = reference_refused n owner g x p y (roomy y known) (subst (λ o. IsSameAnswer o (take_reference n owner g (lent x p)).refusal) is (same_answer n m (lent x p) owner g d))
+  lent_refused : (g : ℕ) (y : Refusal) → refer n owner g (m (Refs g)) ≡ Some y → IsForWords whole y → IsSome (take_reference n owner g p).refusal
+  lent_refused g y is known =
+      reference_refused n owner g x p y (subst (λ o. IsSameAnswer o (take_reference n owner g (lent x p)).refusal) is (same_answer n m (lent x p) owner g d))
+      (elim (roomy whole y known) [ inl room ↦ inl room | inr none ↦ inr (unlent none g) ])
 
   -- the type
   type_refused : (g : ℕ) (y : Refusal) → refer n owner g (m (Refs g)) ≡ None → type_stop g (level_type l) (m (Kind g)) ≡ Some (Refused y) → IsSome (meet n owner (take_at l n owner) f i p (demands.Typed g (level_type l))).refusal
@@ -123,22 +132,22 @@ module _ (n : Machine) (m : Words) (w : PortValue) (x : ℕ → ℕ) (p : Plain)
             ∙ (sym (same_refusal n owner g l (lent x one) one refl off) ∙ ap (λ (o : PlainOutcome). o.refusal) b.takes);
       }
 
-  read_by : (g : ℕ) (y : Refusal) (o : Option Refusal) → refer n owner g (m (Refs g)) ≡ o → IsForWords y → RefersPlainly w m (Err (Refused y)) o (got g m) → IsSome (take_reference n owner g p).refusal
-  read_by g y (Some z) is known a = lent_refused g z is (subst IsForWords (let e : y ≡ z = (let k = a.0 in cc) in e) known)
+  read_by : (g : ℕ) (y : Refusal) (o : Option Refusal) → refer n owner g (m (Refs g)) ≡ o → IsForWords whole y → RefersPlainly w m (Err (Refused y)) o (got g m) → IsSome (take_reference n owner g p).refusal
+  read_by g y (Some z) is known a = lent_refused g z is (subst (IsForWords whole) (let e : y ≡ z = (let k = a.0 in cc) in e) known)
   read_by g y None is known a = absurd (let e = a.0 in cc)
 
   then_some : (g : ℕ) → IsSome (take_reference n owner g p).refusal → IsSome (meet n owner (take_at l n owner) f i p (demands.Typed g (level_type l))).refusal
   then_some g a = record { cause = a.cause; is = ap (λ r. (go_on r (take_reference n owner g p).left (take_at l n owner g)).refusal) a.is }
 
-  types_by : (g : ℕ) (y : Refusal) → IsForWords y → refer n owner g (m (Refs g)) ≡ None → TypedPlainly w m g (level_type l) (Err (Refused y)) None → IsSome (meet n owner (take_at l n owner) f i p (demands.Typed g (level_type l))).refusal
+  types_by : (g : ℕ) (y : Refusal) → IsForWords whole y → refer n owner g (m (Refs g)) ≡ None → TypedPlainly w m g (level_type l) (Err (Refused y)) None → IsSome (meet n owner (take_at l n owner) f i p (demands.Typed g (level_type l))).refusal
   types_by g (refusals.Clock z) known none a = absurd known
   types_by g _ known none a = type_refused g _ none a.0
 
-  asks_by : (g : ℕ) (y : Refusal) (o : Option Refusal) → refer n owner g (m (Refs g)) ≡ o → IsForWords y → TypedPlainly w m g (level_type l) (Err (Refused y)) o → IsSome (meet n owner (take_at l n owner) f i p (demands.Typed g (level_type l))).refusal
-  asks_by g y (Some z) is known a = then_some g (lent_refused g z is (subst IsForWords (let e : y ≡ z = (let k = a.0 in cc) in e) known))
+  asks_by : (g : ℕ) (y : Refusal) (o : Option Refusal) → refer n owner g (m (Refs g)) ≡ o → IsForWords whole y → TypedPlainly w m g (level_type l) (Err (Refused y)) o → IsSome (meet n owner (take_at l n owner) f i p (demands.Typed g (level_type l))).refusal
+  asks_by g y (Some z) is known a = then_some g (lent_refused g z is (subst (IsForWords whole) (let e : y ≡ z = (let k = a.0 in cc) in e) known))
   asks_by g y None is known a = types_by g y known is a
 
-  pub unmet : (e : Demand) (y : Refusal) → ((g : ℕ) (t : PageType) → e ≡ demands.Typed g t → t ≡ level_type l) → IsForWords y → EntersPlainly n w m f i owner (Err (Refused y)) e → IsSome (meet n owner (take_at l n owner) f i p e).refusal
+  pub unmet : (e : Demand) (y : Refusal) → ((g : ℕ) (t : PageType) → e ≡ demands.Typed g t → t ≡ level_type l) → IsForWords whole y → EntersPlainly n w m f i owner (Err (Refused y)) e → IsSome (meet n owner (take_at l n owner) f i p e).refusal
   unmet demands.Nothing y asks known a = absurd (let e = a.0 in cc)
   unmet demands.Bad y asks known a = record { cause = Reserved f i (p.cells f i); is = refl }
   unmet (demands.Read g) y asks known a = read_by g y (refer n owner g (m (Refs g))) refl known a

@@ -33,7 +33,7 @@ use Rattle.pause_laws.proofs.Beginning.{first_call}
 use Rattle.pause_laws.proofs.Calling.{CallOutcome, IsDone, resumed_call}
 use Rattle.pause_laws.proofs.Lends.{extra, lent}
 use Rattle.pause_laws.proofs.Under.{spelled_same}
-use Rattle.pause_laws.proofs.Unwinding.{ParkedAt, parked_over}
+use Rattle.pause_laws.proofs.Unwinding.{part, ParkedAt, parked_over}
 
 -- ---- a call that finds room is not refused for a count at its limit
 full_word : (owner limit w : ℕ) (r : Option RefWord) → ref_read w ≡ r → IsFull owner limit r → limit ≤ ref_count w
@@ -62,7 +62,7 @@ LastOutcome n w a (Ok g) = IsDone n w a
 LastOutcome n w a (Err e) = IsDecided (Err e) → Refuses a
 
 module _ (n : Machine) (owner f level : ℕ) (a : PlainOutcome) (is : IsMachine n) where
-  resumed_from : (v w : PortValue) (answers : List Bool) (answer : Result ℕ Stop) → ParkedAt n owner v f level a → Acquired v f owner level w answers answer → CallOutcome n owner w f level a answer
+  resumed_from : (v w : PortValue) (answers : List Bool) (answer : Result ℕ Stop) → ParkedAt n owner v f level a → Acquired v f owner level w answers answer → CallOutcome n owner w f level (part a) answer
   resumed_from v w answers answer g acquired =
       let h = g.parked in
       let t = h.table in
@@ -73,7 +73,7 @@ module _ (n : Machine) (owner f level : ℕ) (a : PlainOutcome) (is : IsMachine 
         parked = record { table = t; inner = h.inner; plain = h.plain; frame = refl; level_is = refl; own = h.own; under_way = h.under_way; under = h.under; describes = h.describes; spelled = h.spelled; settled = h.settled };
       } in
       let call = subst (λ l. Acquired v t.frame owner l w answers answer) (sym h.level_is) (subst (λ i. Acquired v i owner level w answers answer) (sym h.frame) acquired) in
-      subst (λ l. CallOutcome n owner w f l a answer) h.level_is (subst (λ i. CallOutcome n owner w i t.level a answer) h.frame (resumed_call n owner a is v t there refl w answers answer call))
+      subst (λ l. CallOutcome n owner w f l (part a) answer) h.level_is (subst (λ i. CallOutcome n owner w i t.level (part a) answer) h.frame (resumed_call n owner a is v t there refl w answers answer call))
 
   -- the words between two calls
   pub goes_on : (u x : PortValue) → IsKeptFor u x → ParkedAt n owner u f level a → ParkedAt n owner x f level a
@@ -99,7 +99,7 @@ module _ (n : Machine) (owner f level : ℕ) (a : PlainOutcome) (is : IsMachine 
         };
       }
 
-  last_by : (v w : PortValue) (answers : List Bool) (answer : Result ℕ Stop) → Acquired v f owner level w answers answer → HasRoom v w → CallOutcome n owner w f level a answer → LastOutcome n w a answer
+  last_by : (v w : PortValue) (answers : List Bool) (answer : Result ℕ Stop) → Acquired v f owner level w answers answer → HasRoom v w → CallOutcome n owner w f level (part a) answer → LastOutcome n w a answer
   last_by v w answers (Ok g) acquired room o = o
   last_by v w answers (Err (Paused x)) acquired room o = λ decided. absurd decided
   last_by v w answers (Err (Refused (refusals.Clock x))) acquired room o = λ decided. absurd decided
@@ -137,7 +137,7 @@ module _ (v : PortValue) (f owner level : ℕ) (machine : IsMachine v.post.machi
   done_by w (Ok g) had o = o
   done_by w (Err e) had o = absurd had
 
-  first_done : (w : PortValue) (answer : Result ℕ Stop) → IsHad answer → CallOutcome v.post.machine owner w f level a answer → IsDone v.post.machine w a
+  first_done : (w : PortValue) (answer : Result ℕ Stop) → IsHad answer → CallOutcome v.post.machine owner w f level (record { outcome = a; whole = true }) answer → IsDone v.post.machine w a
   first_done w (Ok g) had o = o
   first_done w (Err e) had o = absurd had
 

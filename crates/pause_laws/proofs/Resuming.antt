@@ -1,5 +1,5 @@
 -- Down to where a table was left: each parked table is found by the last entry of the one around it.
-use Rattle.std.proofs.Common.{◌≡◌, ◌⊎◌, ℕ, ◌+◌, ◌-◌, ◌<◌, ◌==◌, ◌&&◌, not, nat_le, nat_lt, if◌then◌else◌, Bool, true, false, List, [], ◌∷◌, Option, Some, None, Result, Ok, Err, refl, sym, ap, ◌∙◌, subst, arith}
+use Rattle.std.proofs.Common.{◌≡◌, ◌⊎◌, ℕ, ◌+◌, ◌-◌, ◌<◌, ◌==◌, ◌&&◌, not, nat_le, nat_lt, if◌then◌else◌, Bool, true, false, List, [], ◌∷◌, Option, Some, None, Result, Ok, Err, refl, sym, ap, ◌∙◌, subst, arith, inl, inr}
 use Rattle.std.proofs.lemmas.Bool.Decides.{nat_tests}
 use Rattle.xp_words.specs.Entries.{demand_at}
 use Rattle.xp_words.specs.Machine.{IsMachine, Machine}
@@ -44,6 +44,7 @@ use Rattle.pause_laws.proofs.Retaking.{not_counted, not_stopped, own_is, partial
 use Rattle.pause_laws.proofs.Travelling.{Ends, wait_ends}
 use Rattle.pause_laws.proofs.Under.{IsNamed, PlainTables, TableOf, spelled_other}
 use Rattle.pause_laws.proofs.Unwinding.{HalfAt, half_same}
+use Rattle.pause_laws.proofs.Pacing.{Aim}
 
 -- ---- a reference is lent
 lends_at : (b : Bool) (g h : ℕ) (x : ℕ → ℕ) (s : Share) (o : Option Share) → o ≡ Some s → (h == g) ≡ b →
@@ -66,7 +67,7 @@ lends_one x p g s was =
     shares_by false h is = let e : 0 + x h ≡ x h = omega arith in ap (λ c. more_of c (p.shares h)) e
 
 -- ---- the table that the last entry of another names
-module _ (n : Machine) (owner : ℕ) (m : Words) (w : PortValue) (r o : TableWork) (rs us : List TableWork) (a : PlainOutcome) (is : IsMachine n) (h : Half n owner m (r ∷ rs) (o ∷ us) a) where
+module _ (n : Machine) (owner : ℕ) (m : Words) (w : PortValue) (r o : TableWork) (rs us : List TableWork) (a : Aim) (is : IsMachine n) (h : Half n owner m (r ∷ rs) (o ∷ us) a) where
   abbrev p : Plain
   p = h.plain
 
@@ -104,11 +105,18 @@ module _ (n : Machine) (owner : ℕ) (m : Words) (w : PortValue) (r o : TableWor
       subst (λ b. AgainWhere n w m r.frame (level_type r.level) owner answer b) (not_live (nat_lt r.frame n.frames)) (subst (λ e. ResumesPlainly n w m owner answer e) asked_there plain)
 
   -- its reference is refused only at the limit
-  ref_there : (y : Refusal) → refer n owner r.frame (m (Refs r.frame)) ≡ Some y → IsForWords y → ⊥
+  not_whole : a.whole ≡ true → ⊥
+  not_whole whole = let e = (h.mine whole).1 in cc
+
+  ref_there : (y : Refusal) → refer n owner r.frame (m (Refs r.frame)) ≡ Some y → IsForWords a.whole y → ⊥
   ref_there y refuses known =
       let s : Share = record { owner = of_r.share.owner; allocated = of_r.share.allocated; count = of_r.share.count + extra (o ∷ us) r.frame } in
-      full_by n owner r.frame (extra (o ∷ us)) q y (roomy y known) (subst (λ o2. IsSameAnswer o2 (take_reference n owner r.frame (lent (extra (o ∷ us)) q)).refusal) refuses (same_answer n m (lent (extra (o ∷ us)) q) owner r.frame h.describes))
-      (nat_le n.limit s.count) s (ap (more_of (extra (o ∷ us) r.frame)) of_r.was) of_r.owns of_r.inside refl
+      elim (roomy a.whole y known) [
+        | inl room ↦
+            full_by n owner r.frame (extra (o ∷ us)) q y room (subst (λ o2. IsSameAnswer o2 (take_reference n owner r.frame (lent (extra (o ∷ us)) q)).refusal) refuses (same_answer n m (lent (extra (o ∷ us)) q) owner r.frame h.describes))
+            (nat_le n.limit s.count) s (ap (more_of (extra (o ∷ us) r.frame)) of_r.was) of_r.owns of_r.inside refl
+        | inr whole ↦ not_whole whole
+      ]
 
   -- with the reference taken
   module _ (none : refer n owner r.frame (m (Refs r.frame)) ≡ None) where
@@ -168,17 +176,18 @@ module _ (n : Machine) (owner : ℕ) (m : Words) (w : PortValue) (r o : TableWor
           let like = onto_like rs (r ∷ o ∷ us) (new ∷ o ∷ us) (like_r, all_like (o ∷ us)) in
           record {
             plain = h.plain;
-            under = under_like n owner h.plain (onto rs (r ∷ o ∷ us)) (onto rs (new ∷ o ∷ us)) a like h.under;
+            under = under_like n owner h.plain (onto rs (r ∷ o ∷ us)) (onto rs (new ∷ o ∷ us)) a.outcome like h.under;
             describes = described_same n (told_word w) (with_kind r.frame (work_kind (level_type r.level) false 0) lent_q) (lent (extra (new ∷ o ∷ us)) (overlay rs h.plain)) same_there
                 (retaken n (got r.frame m) (told_word w) lent_q r.frame r.level false r.done with_one of_r.inside of_r.low partial (got r.frame m) lent_q with_one words);
             spelled = spelled_other n (got r.frame m) (told_word w) q (overlay rs h.plain) (λ g inside. h.describes.kinds g inside) (λ g inside out. h.spelled g inside out) r.frame _ words
                 (λ out. work_out (level_type r.level) (subst (λ j. (is_dead j ≡ true) ⊎ (j.validated ≡ true)) work_here out)) (λ g off. sym (at_there r.frame g (partial_kind (level_type r.level) false false r.done 0) (over rs h.plain.kinds) off));
             flags = (ap not (sym own_off), h.flags);
+            mine = λ whole. absurd (not_whole whole);
             settled = settled_like n h.plain (onto rs (r ∷ o ∷ us)) (onto rs (new ∷ o ∷ us)) like h.settled;
           }
 
 -- ---- the last entry, where no table is parked
-module _ (n : Machine) (owner : ℕ) (m : Words) (w : PortValue) (o : TableWork) (us : List TableWork) (a : PlainOutcome) (h : Half n owner m [] (o ∷ us) a) (some : 0 < o.done) where
+module _ (n : Machine) (owner : ℕ) (m : Words) (w : PortValue) (o : TableWork) (us : List TableWork) (a : Aim) (h : Half n owner m [] (o ∷ us) a) (some : 0 < o.done) where
   of_last : TableOf n owner h.plain o
   of_last = h.under.tables.0
 
@@ -200,11 +209,11 @@ module _ (n : Machine) (owner : ℕ) (m : Words) (w : PortValue) (o : TableWork)
       (subst (λ c. IsSettled n h.plain (demand_at (level_type o.level) (o.done - 1) c)) (h.describes.cells o.frame (o.done - 1) of_last.inside (let few = of_last.few in omega arith)) (h.settled some)) plain
 
 -- ---- the whole way down
-abbrev pub OnOutcome : Machine → ℕ → PortValue → List TableWork → PlainOutcome → Result Bool Stop → Type 0
+abbrev pub OnOutcome : Machine → ℕ → PortValue → List TableWork → Aim → Result Bool Stop → Type 0
 OnOutcome n owner w xs a (Ok done) = HalfAt n owner w [] xs a
 OnOutcome n owner w xs a (Err e) = Ends a e
 
-module _ (n : Machine) (owner : ℕ) (a : PlainOutcome) (is : IsMachine n) where
+module _ (n : Machine) (owner : ℕ) (a : Aim) (is : IsMachine n) where
   module _ (v w : PortValue) (o : TableWork) (us : List TableWork) where
     plain_of : (rs : List TableWork) (answer : Result Resumed Stop) → HalfAt n owner v rs (o ∷ us) a → ResumedEntry v w owner o answer → ResumesPlainly n w (told_word v) owner answer (demand_at (level_type o.level) (o.done - 1) (told_word v (Cell o.frame (o.done - 1))))
     plain_of rs answer g took = subst (λ k. ResumesPlainly k w (told_word v) owner answer (demand_at (level_type o.level) (o.done - 1) (told_word v (Cell o.frame (o.done - 1))))) g.machine (took.plain g.telling)

@@ -34,30 +34,30 @@ use Rattle.course_laws.proofs.Going.{taken_fresh}
 use Rattle.course_laws.proofs.Stacking.{Refuses}
 use Rattle.course_laws.proofs.Walking.{back_came}
 use Rattle.pause_laws.proofs.Completing.{IsKinded, lowered_kinded, own_paces, same_kinded, shared_paces, stored_kinded}
-use Rattle.pause_laws.proofs.Pacing.{Carries, IsLastSettled, Paces, never_due, opened_carries, opened_none, recorded_paces, refused_paces}
+use Rattle.pause_laws.proofs.Pacing.{Aim, Carries, IsLastSettled, Paces, never_due, opened_carries, opened_none, recorded_paces, refused_paces}
 use Rattle.pause_laws.proofs.Refusing.{IsForWords}
 
 -- at a port, behind an entry that is done with or not
-pub record Steps (n : Machine) (owner : ℕ) (u : PortValue) (ts : List TableWork) (a : PlainOutcome) (done : Bool) : Type 0 where
+pub record Steps (n : Machine) (owner : ℕ) (u : PortValue) (ts : List TableWork) (a : Aim) (done : Bool) : Type 0 where
   pub machine : u.post.machine ≡ n
   pub telling : is_telling u ≡ true
   pub carries : Carries n owner (told_word u) ts a
   pub settled : done ≡ true → IsLastSettled n carries.plain ts
 
 -- what it stops for: then the acquisition alone is refused, too; it is not the gate
-abbrev pub Ends : PlainOutcome → Stop → Type 0
-Ends a (Refused y) = IsForWords y → Refuses a
+abbrev pub Ends : Aim → Stop → Type 0
+Ends a (Refused y) = IsForWords a.whole y → Refuses a.outcome
 Ends a (Paused pauses.Due) = ⊥
 Ends a (Paused x) = Unit {0}
 
-pub wait_ends : (a : PlainOutcome) (e : Stop) → IsWait e → Ends a e
+pub wait_ends : (a : Aim) (e : Stop) → IsWait e → Ends a e
 wait_ends a (Refused (refusals.Clock x)) wait = λ known. absurd known
 wait_ends a (Refused _) wait = absurd wait
 wait_ends a (Paused (pauses.Flush v y x)) wait = tt
 wait_ends a (Paused _) wait = absurd wait
 
 -- the same machine, all told
-module _ (n : Machine) (owner : ℕ) (u w : PortValue) (a : PlainOutcome) (same : u.post.machine ≡ n) (telling : is_telling u ≡ true) (came : Came u w) where
+module _ (n : Machine) (owner : ℕ) (u w : PortValue) (a : Aim) (same : u.post.machine ≡ n) (telling : is_telling u ≡ true) (came : Came u w) where
   there : w.post.machine ≡ n
   there = ap (λ (p : Post). p.machine) (came_post u w came) ∙ same
 
@@ -71,7 +71,7 @@ module _ (n : Machine) (owner : ℕ) (u w : PortValue) (a : PlainOutcome) (same 
   carries_to xs c = record { machine = there; telling = telling_there; carries = subst (λ k. Carries k owner (told_word w) xs a) same c; settled = λ done. absurd cc }
 
 -- words that are alike
-paces_same : (n : Machine) (owner : ℕ) (m x : Words) (ts : List TableWork) (a : PlainOutcome) → Alike x m → Paces n owner m ts a → Paces n owner x ts a
+paces_same : (n : Machine) (owner : ℕ) (m x : Words) (ts : List TableWork) (a : Aim) → Alike x m → Paces n owner m ts a → Paces n owner x ts a
 paces_same n owner m x ts a alike p =
     let c = p.on in
     record {
@@ -81,12 +81,13 @@ paces_same n owner m x ts a alike p =
         describes = described_alike n x m (lent (extra ts) c.plain) alike c.describes;
         spelled = spelled_same n m x c.plain c.plain (λ h inside. c.describes.kinds h inside) c.spelled alike (λ h. refl);
         flags = c.flags;
+      mine = c.mine;
       };
       settled = p.settled;
     }
 
 -- ---- a table is complete
-module _ (n : Machine) (owner : ℕ) (u v : PortValue) (t : TableWork) (ts : List TableWork) (a : PlainOutcome) (b : Bool) (g : Steps n owner u (t ∷ ts) a b) (full : t.done ≡ 512) (made : MadeLive u v t) where
+module _ (n : Machine) (owner : ℕ) (u v : PortValue) (t : TableWork) (ts : List TableWork) (a : Aim) (b : Bool) (g : Steps n owner u (t ∷ ts) a b) (full : t.done ≡ 512) (made : MadeLive u v t) where
   stored : (own : Bool) → t.own ≡ own → IsKinded (told_word u) (told_word v) t.frame (kind_write (live_kind (level_type t.level) (type_counts own)))
   stored own is =
       let new = live_kind (level_type t.level) (type_counts own) in
@@ -133,11 +134,11 @@ module _ (n : Machine) (owner : ℕ) (u v : PortValue) (t : TableWork) (ts : Lis
         }
 
 -- ---- one entry, or one table
-abbrev pub Outcome : Machine → ℕ → PortValue → List TableWork → PlainOutcome → Result Bool Stop → Type 0
+abbrev pub Outcome : Machine → ℕ → PortValue → List TableWork → Aim → Result Bool Stop → Type 0
 Outcome n owner w xs a (Ok done) = Steps n owner w xs a done
 Outcome n owner w xs a (Err e) = Ends a e
 
-module _ (n : Machine) (owner : ℕ) (a : PlainOutcome) (is : IsMachine n) where
+module _ (n : Machine) (owner : ℕ) (a : Aim) (is : IsMachine n) where
   module _ (u w : PortValue) (t : TableWork) (ts : List TableWork) (b : Bool) (g : Steps n owner u (t ∷ ts) a b) (few : t.done < 512) where
     is_here : IsMachine u.post.machine
     is_here = subst IsMachine (sym g.machine) is
@@ -200,7 +201,7 @@ module _ (n : Machine) (owner : ℕ) (a : PlainOutcome) (is : IsMachine n) where
   -- the gate said yes behind an entry that is done with; or what it stops for
   abbrev pub Leads : PortValue → List TableWork → Result (Unit {0}) Stop → Type 0
   Leads w xs (Ok x) = (b : Bool) × Steps n owner w xs a b
-  Leads w xs (Err (Refused y)) = IsForWords y → Refuses a
+  Leads w xs (Err (Refused y)) = IsForWords a.whole y → Refuses a.outcome
   Leads w xs (Err (Paused pauses.Due)) = Steps n owner w xs a true
   Leads w xs (Err (Paused x)) = Unit {0}
 

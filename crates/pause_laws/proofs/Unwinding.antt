@@ -28,8 +28,12 @@ use Rattle.course_laws.proofs.Walking.{gave_came}
 use Rattle.pause_laws.proofs.Completing.{IsKinded, back_lent, described_kind, put_kind, same_kinded, spelled_kind, stored_kinded}
 use Rattle.pause_laws.proofs.Halfway.{Half, onto, over, overlay, tables_onto}
 use Rattle.pause_laws.proofs.Lends.{described_same, extra, lent, more_of}
-use Rattle.pause_laws.proofs.Pacing.{Flagged, IsLastSettled, extra_own, lent_same}
+use Rattle.pause_laws.proofs.Pacing.{Aim, Flagged, IsLastSettled, extra_own, lent_same}
 use Rattle.pause_laws.proofs.Under.{Spelled, TableOf, Under, spelled_same}
+
+-- a resumption
+abbrev pub part : PlainOutcome → Aim
+part o = record { outcome = o; whole = false }
 
 -- ---- the words of a pause
 abbrev pub parked_over : Bool → TableWork → List TableWork → Plain → Plain
@@ -49,7 +53,7 @@ pub record Parked (n : Machine) (owner : ℕ) (m : Words) (f level : ℕ) (a : P
   pub spelled : Spelled n m (parked_over true table inner plain)
   pub settled : IsLastSettled n plain (onto inner (table ∷ []))
 
-module _ (n : Machine) (owner : ℕ) (m : Words) (rs : List TableWork) (t : TableWork) (us : List TableWork) (a : PlainOutcome) (h : Half n owner m rs (t ∷ us) a) where
+module _ (n : Machine) (owner : ℕ) (m : Words) (rs : List TableWork) (t : TableWork) (us : List TableWork) (a : PlainOutcome) (h : Half n owner m rs (t ∷ us) (part a)) where
   here : TableOf n owner h.plain t
   here = (tables_onto n owner h.plain rs (t ∷ us) h.under.tables).0
 
@@ -94,7 +98,7 @@ module _ (n : Machine) (owner : ℕ) (m : Words) (rs : List TableWork) (t : Tabl
   rest_flags [] f = tt
   rest_flags (o ∷ ts) f = f.1
 
-  pub own_parked : (x : Words) → t.own ≡ true → IsKinded m x t.frame (kind_write (partial_kind (level_type t.level) false false t.done 0)) → Half n owner x (t ∷ rs) us a
+  pub own_parked : (x : Words) → t.own ≡ true → IsKinded m x t.frame (kind_write (partial_kind (level_type t.level) false false t.done 0)) → Half n owner x (t ∷ rs) us (part a)
   own_parked x own stored =
       record {
         plain = h.plain;
@@ -102,10 +106,11 @@ module _ (n : Machine) (owner : ℕ) (m : Words) (rs : List TableWork) (t : Tabl
         describes = described_same n x (lent (extra (t ∷ us)) (overlay (t ∷ rs) h.plain)) (lent (extra us) (overlay (t ∷ rs) h.plain)) (lent_same (extra (t ∷ us)) (extra us) (overlay (t ∷ rs) h.plain) (λ g. sym (extra_own t us own g))) (parked_described x false stored);
         spelled = parked_spelled x false stored;
         flags = rest_flags us h.flags;
+        mine = λ whole. absurd cc;
         settled = h.settled;
       }
 
-  pub shared_parked : (b x : Words) → t.own ≡ false → IsKinded m b t.frame (kind_write (partial_kind (level_type t.level) false false t.done 0)) → ((q : Place) → x q ≡ put t.frame b q) → Half n owner x (t ∷ rs) us a
+  pub shared_parked : (b x : Words) → t.own ≡ false → IsKinded m b t.frame (kind_write (partial_kind (level_type t.level) false false t.done 0)) → ((q : Place) → x q ≡ put t.frame b q) → Half n owner x (t ∷ rs) us (part a)
   shared_parked b x shared stored puts =
       let p = overlay (t ∷ rs) h.plain in
       let q = lent (extra (t ∷ us)) p in
@@ -117,11 +122,12 @@ module _ (n : Machine) (owner : ℕ) (m : Words) (rs : List TableWork) (t : Tabl
             (described_alike n x (put t.frame b) (reference_back t.frame q) (same_alike x (put t.frame b) puts) (same_back n b q t.frame s (parked_described b false stored) here.inside (ap (more_of (extra (t ∷ us) t.frame)) here.was)));
         spelled = λ g inside out. subst (λ w. IsTrue (is_kind (kind_fields w))) (sym (puts (Kind g) ∙ put_kind t.frame g b)) (parked_spelled b false stored g inside out);
         flags = rest_flags us h.flags;
+        mine = λ whole. absurd cc;
         settled = h.settled;
       }
 
 -- ---- from port to port
-pub record HalfAt (n : Machine) (owner : ℕ) (u : PortValue) (rs us : List TableWork) (a : PlainOutcome) : Type 0 where
+pub record HalfAt (n : Machine) (owner : ℕ) (u : PortValue) (rs us : List TableWork) (a : Aim) : Type 0 where
   pub machine : u.post.machine ≡ n
   pub telling : is_telling u ≡ true
   pub half : Half n owner (told_word u) rs us a
@@ -137,7 +143,7 @@ left_kinded v w t kept telling left =
     let all = leaves v w _ _ _ _ _ left.1 telling in
     same_kinded (told_word v) (set_kind t.frame new (told_word v)) (told_word w) t.frame (kind_write new) (stored_kinded (told_word v) t.frame new) (λ h. all (Refs h)) (λ h i. all (Cell h i)) (λ h. all (Kind h))
 
-pub half_same : (n : Machine) (owner : ℕ) (m x : Words) (rs us : List TableWork) (a : PlainOutcome) → ((q : Place) → x q ≡ m q) → Half n owner m rs us a → Half n owner x rs us a
+pub half_same : (n : Machine) (owner : ℕ) (m x : Words) (rs us : List TableWork) (a : Aim) → ((q : Place) → x q ≡ m q) → Half n owner m rs us a → Half n owner x rs us a
 half_same n owner m x rs us a same h =
     let alike = same_alike x m same in
     record {
@@ -146,11 +152,12 @@ half_same n owner m x rs us a same h =
       describes = described_alike n x m (lent (extra us) (overlay rs h.plain)) alike h.describes;
       spelled = spelled_same n m x (overlay rs h.plain) (overlay rs h.plain) (λ g inside. h.describes.kinds g inside) h.spelled alike (λ g. refl);
       flags = h.flags;
+      mine = h.mine;
       settled = h.settled;
     }
 
 module _ (n : Machine) (owner f level : ℕ) (a : PlainOutcome) where
-  inner_by : (own : Bool) (v u : PortValue) (t o : TableWork) (rs ts : List TableWork) → t.own ≡ own → HalfAt n owner v rs (t ∷ o ∷ ts) a → InnerLeft v u t o t.own t.recorded → HalfAt n owner u (t ∷ rs) (o ∷ ts) a × (around_left t o ≡ o)
+  inner_by : (own : Bool) (v u : PortValue) (t o : TableWork) (rs ts : List TableWork) → t.own ≡ own → HalfAt n owner v rs (t ∷ o ∷ ts) (part a) → InnerLeft v u t o t.own t.recorded → HalfAt n owner u (t ∷ rs) (o ∷ ts) (part a) × (around_left t o ≡ o)
   inner_by true v u t o rs ts own g left =
       let off : t.recorded ≡ false = g.half.flags.0 ∙ ap not own in
       let l = subst (λ b. InnerLeft v u t o b false) own (subst (λ b. InnerLeft v u t o t.own b) off left) in
@@ -163,7 +170,7 @@ module _ (n : Machine) (owner f level : ℕ) (a : PlainOutcome) where
         record {
           machine = ap (λ (p : Post). p.machine) (came_post mid u moved) ∙ (ap (λ (p : Post). p.machine) (came_post v mid came) ∙ g.machine);
           telling = came_telling mid u moved ∙ telling;
-          half = half_same n owner (told_word mid) (told_word u) (t ∷ rs) (o ∷ ts) a (load_tells mid u _ _ _ _ load telling) half;
+          half = half_same n owner (told_word mid) (told_word u) (t ∷ rs) (o ∷ ts) (part a) (load_tells mid u _ _ _ _ load telling) half;
         },
         ap (λ b. if b || t.recorded then o else record o { done = o.done - 1 }) own,
       )
@@ -183,7 +190,7 @@ module _ (n : Machine) (owner f level : ℕ) (a : PlainOutcome) where
         ap (λ b. if b || t.recorded then o else record o { done = o.done - 1 }) own ∙ ap (λ b. if b then o else record o { done = o.done - 1 }) on,
       )
 
-  pub unwound : (us rs : List TableWork) (t : TableWork) (v w : PortValue) → HalfAt n owner v rs (t ∷ us) a → IsOutermost f level (t ∷ us) → Unwound v (t ∷ us) true w → ParkedAt n owner w f level a
+  pub unwound : (us rs : List TableWork) (t : TableWork) (v w : PortValue) → HalfAt n owner v rs (t ∷ us) (part a) → IsOutermost f level (t ∷ us) → Unwound v (t ∷ us) true w → ParkedAt n owner w f level a
   unwound [] rs t v w g outer left =
       let own = g.half.flags.0 in
       let l = subst (λ b. OutermostLeft v w t b true) own left in
