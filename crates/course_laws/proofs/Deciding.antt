@@ -1,71 +1,62 @@
--- Whole acquisitions, from words at rest.
-use Rattle.std.proofs.Common.{◌≡◌, ℕ, ◌≤◌, Bool, true, List, [], ◌∷◌, None, Result, Ok, Err, sym, ap}
+-- Whole acquisitions, from words at rest: what the last call comes to tells whether the tree was lawful.
+use Rattle.std.proofs.Common.{◌≡◌, ℕ, ◌≤◌, Bool, true, List, None, Result, Ok, Err, refl}
 use Rattle.xp_words.specs.Machine.{IsMachine, Machine}
+use Rattle.xp_words.specs.declared.reply.Refusal.{Refusal}
+use Rattle.xp_words.specs.declared.reply.Refusal.TheVariants as refusals
 use Rattle.xp_words.specs.declared.reply.Stop.{Stop}
+use Rattle.xp_words.specs.declared.reply.Stop.TheVariants.{Refused, Paused}
 use Rattle.xp_board.specs.Lawful.{Lawful}
 use Rattle.xp_board.specs.Told.{PortValue, is_telling, told_word}
 use Rattle.partial_state.specs.Levels.{level_type}
 use Rattle.table_law.specs.Alone.{PlainOutcome, alone}
 use Rattle.table_law.specs.Lawful.{IsAtRest}
-use Rattle.table_law.specs.Plain.{Describes, Plain, plain_of}
-use Rattle.table_law.specs.Stack.{rest}
+use Rattle.table_law.specs.Plain.{plain_of}
 use Rattle.table_law.proofs.Lawfully.{fine_by_rest}
 use Rattle.table_law.proofs.OnWords.{lawful_plain, lawful_words, rested_plain}
-use Rattle.table_courses.specs.Acquiring.{Acquired, counted, finished, outermost_table, unfinished, unreferred, untyped, waiting}
-use Rattle.course_laws.specs.Courses.{IsDecided, IsHad, IsOrderly}
-use Rattle.course_laws.proofs.Beginning.{begun_fresh, begun_goes, counted_fine, untyped_refuses}
-use Rattle.course_laws.proofs.Frames.{AllFrames}
-use Rattle.course_laws.proofs.Filling.{worked}
-use Rattle.course_laws.proofs.Going.{Goes, live_goes, no_wait}
+use Rattle.table_courses.specs.Acquiring.{Acquired}
+use Rattle.course_laws.specs.Courses.{IsDecided, IsFinal, IsHad, IsOrderly}
+use Rattle.course_laws.proofs.Beginning.{first_call}
+use Rattle.course_laws.proofs.Calling.{CallOutcome, IsDone}
+use Rattle.course_laws.proofs.Refusing.{IsForWords}
 use Rattle.course_laws.proofs.Stacking.{Refuses}
-use Rattle.course_laws.proofs.Starting.{described, rest_frames, unreferred_refuses}
+use Rattle.course_laws.proofs.Starting.{described}
 
--- what the plain acquisition comes to, where the answer is that one
-abbrev pub SaysAsPlain : PlainOutcome → Result ℕ Stop → Type 0
-SaysAsPlain a (Ok f) = a.refusal ≡ None
-SaysAsPlain a (Err e) = Refuses a
+-- the acquisition alone is fine, or is refused, too
+abbrev pub LastOutcome : Machine → PortValue → PlainOutcome → Result ℕ Stop → Type 0
+LastOutcome n w a (Ok g) = IsDone n w a
+LastOutcome n w a (Err e) = IsFinal e → Refuses a
 
--- no table is left in work
-all_done : (n : Machine) (owner : ℕ) (w : PortValue) (a : PlainOutcome) → Goes n owner w [] a → a.refusal ≡ None
-unfolding rest
-all_done n owner w a g = sym (ap (λ (o : PlainOutcome). o.refusal) g.stands.ahead)
+final_words : (y : Refusal) → IsFinal (Refused y) → IsForWords true y
+final_words (refusals.CountFull f w) final = refl
+final_words (refusals.Clock x) final = final
+final_words _ final = tt
+
+-- of a first call
+first_last : (n : Machine) (owner : ℕ) (w : PortValue) (f level : ℕ) (a : PlainOutcome) (answer : Result ℕ Stop) → CallOutcome n owner w f level (record { outcome = a; whole = true }) answer → LastOutcome n w a answer
+first_last n owner w f level a (Ok g) o = o
+first_last n owner w f level a (Err (Refused y)) o = λ final. o (final_words y final)
+first_last n owner w f level a (Err (Paused x)) o = λ final. absurd final
 
 module _ (v : PortValue) (f owner level : ℕ) (machine : IsMachine v.post.machine) (telling : is_telling v ≡ true) (calm : IsAtRest v.post.machine (told_word v)) (orderly : IsOrderly v.post.machine (told_word v)) (low : 1 ≤ level) (high : level ≤ 4) where
-  abbrev plain : Plain
-  plain = plain_of (told_word v)
+  had_by : (n : Machine) (w : PortValue) (a : PlainOutcome) (answer : Result ℕ Stop) → IsDecided answer → LastOutcome n w a answer → (a.refusal ≡ None → IsHad answer) × (IsHad answer → a.refusal ≡ None)
+  had_by n w a (Ok g) decided o = (λ none. tt, λ had. o.none)
+  had_by n w a (Err e) decided o = (λ none. absurd (let is = (o decided).is in cc), λ had. absurd had)
 
-  plain_is : Describes v.post.machine (told_word v) plain
-  plain_is = described v.post.machine (told_word v)
+  -- the answer tells whether the tree was lawful
+  pub last_lawful : (w : PortValue) (answer : Result ℕ Stop) → IsDecided answer → LastOutcome v.post.machine w (alone v.post.machine owner level f (plain_of (told_word v))) answer →
+      (Lawful v.post.machine owner (told_word v) f (level_type level) → IsHad answer) × (IsHad answer → Lawful v.post.machine owner (told_word v) f (level_type level))
+  last_lawful w answer decided o =
+      let n = v.post.machine in
+      let p = plain_of (told_word v) in
+      let d = described n (told_word v) in
+      let law = fine_by_rest n owner level f p high (rested_plain n (told_word v) p d calm) in
+      let had = had_by n w (alone n owner level f p) answer decided o in
+      (λ is. had.0 (law.0 (lawful_plain n owner f (level_type level) (told_word v) p d is)), λ is. lawful_words n owner f (level_type level) (told_word v) p d (law.1 (had.1 is)))
 
-  all_aside : AllFrames v.post.machine (told_word v) []
-  all_aside = rest_frames v.post.machine (told_word v) calm orderly
-
-  pub says_as_plain : (w : PortValue) (answers : List Bool) (answer : Result ℕ Stop) → Acquired v f owner level w answers answer → IsDecided answer → SaysAsPlain (alone v.post.machine owner level f plain) answer
-  says_as_plain _ _ _ (unreferred w stop ref) decided = unreferred_refuses v w f owner level plain stop plain_is telling ref decided
-  says_as_plain _ _ _ (untyped u x w stop ref type back) decided = untyped_refuses v u x f owner level plain machine telling plain_is all_aside ref stop type decided
-  says_as_plain _ _ _ (counted u w ref type) decided = counted_fine v u w f owner level plain machine telling plain_is all_aside ref type
-  says_as_plain _ _ _ (waiting u x w own stamp stop ref type left) decided = absurd (no_wait stop type.waits.0 decided)
-  says_as_plain _ _ _ (unfinished u x y w progress own us answers stop ref type work left) decided =
-      let a = alone v.post.machine owner level f plain in
-      let g = begun_goes v u x f owner level plain machine telling plain_is all_aside ref low high progress own type in
-      let none = begun_fresh v u x f owner level plain machine telling plain_is all_aside ref low high progress own type in
-      worked v.post.machine owner a machine x (outermost_table f level progress own) y us answers (Err stop) none g work decided
-  says_as_plain _ _ _ (finished u x y w progress own t answers ref type work full made) decided =
-      let a = alone v.post.machine owner level f plain in
-      let g = begun_goes v u x f owner level plain machine telling plain_is all_aside ref low high progress own type in
-      let none = begun_fresh v u x f owner level plain machine telling plain_is all_aside ref low high progress own type in
-      let done = worked v.post.machine owner a machine x (outermost_table f level progress own) y (t ∷ []) answers (Ok tt) none g work in
-      all_done v.post.machine owner w a (live_goes v.post.machine owner a machine y w t [] done full made)
-
-  -- ---- so the answer tells whether the tree is lawful
-  had_by : (a : PlainOutcome) (answer : Result ℕ Stop) → SaysAsPlain a answer → (a.refusal ≡ None → IsHad answer) × (IsHad answer → a.refusal ≡ None)
-  had_by a (Ok g) says = (λ none. tt, λ had. says)
-  had_by a (Err e) says = (λ none. absurd (let is = says.is in cc), λ had. absurd had)
+  pub one_call : (w : PortValue) (answers : List Bool) (answer : Result ℕ Stop) → Acquired v f owner level w answers answer → LastOutcome v.post.machine w (alone v.post.machine owner level f (plain_of (told_word v))) answer
+  one_call w answers answer acquired =
+      first_last v.post.machine owner w f level (alone v.post.machine owner level f (plain_of (told_word v))) answer (first_call v f owner level machine telling calm orderly low high w answers answer acquired)
 
   pub had_where_lawful : (w : PortValue) (answers : List Bool) (answer : Result ℕ Stop) → Acquired v f owner level w answers answer → IsDecided answer →
       (Lawful v.post.machine owner (told_word v) f (level_type level) → IsHad answer) × (IsHad answer → Lawful v.post.machine owner (told_word v) f (level_type level))
-  had_where_lawful w answers answer acquired decided =
-      let n = v.post.machine in
-      let law = fine_by_rest n owner level f plain high (rested_plain n (told_word v) plain plain_is calm) in
-      let had = had_by (alone n owner level f plain) answer (says_as_plain w answers answer acquired decided) in
-      (λ is. had.0 (law.0 (lawful_plain n owner f (level_type level) (told_word v) plain plain_is is)), λ is. lawful_words n owner f (level_type level) (told_word v) plain plain_is (law.1 (had.1 is)))
+  had_where_lawful w answers answer acquired decided = last_lawful w answer decided (one_call w answers answer acquired)

@@ -1,17 +1,16 @@
--- The next entry of a table in work, where it is recorded, opens a table, or is refused.
-use Rattle.std.proofs.Common.{◌≡◌, ℕ, zero, suc, ◌≤◌, Bool, true, List, Option, Some, None, Ok, refl, sym, subst, arith}
+-- The next entry of a table in work, where it opens a table.
+use Rattle.std.proofs.Common.{◌≡◌, ℕ, zero, suc, ◌≤◌, Bool, true, Option, Some, None, Ok, refl, sym, subst, arith}
 use Rattle.xp_words.specs.Machine.{IsMachine, Machine}
 use Rattle.xp_words.specs.declared.entry.Demand.{Demand}
 use Rattle.xp_words.specs.declared.entry.Demand.TheVariants as demands
 use Rattle.xp_words.specs.declared.kind.KindWord.{KindWord}
 use Rattle.xp_words.specs.declared.kind.PageType.{PageType}
-use Rattle.xp_words.specs.declared.place.Place.TheVariants.{Kind, Refs}
+use Rattle.xp_words.specs.declared.place.Place.TheVariants.{Refs}
 use Rattle.xp_words.specs.declared.reply.Refusal.{Refusal}
 use Rattle.xp_board.specs.Readings.{kind_at}
 use Rattle.xp_board.specs.Told.{PortValue, told_word}
-use Rattle.step_maker.specs.Plain.{Leaves, Words}
+use Rattle.step_maker.specs.Plain.{Words}
 use Rattle.answer_fits.specs.Twins.{Alike}
-use Rattle.answer_fits.proofs.Alikes.{same_alike}
 use Rattle.frame_words.specs.Plain.{got, refer}
 use Rattle.frame_types.specs.Plain.{IsTakenBy, is_read_first, taken}
 use Rattle.frame_types.specs.Standing.{standing_of}
@@ -19,57 +18,9 @@ use Rattle.frame_types.specs.declared.standing.Standing.{Standing}
 use Rattle.frame_types.specs.declared.standing.Standing.TheVariants as stands
 use Rattle.frame_types.specs.declared.taking.Taken.TheVariants as types
 use Rattle.partial_state.specs.Levels.{level_type}
-use Rattle.partial_state.specs.declared.stack.TableWork.{TableWork}
 use Rattle.table_entries.specs.Plain.{EntersPlainly, IsTakenOf, RefersPlainly, TypedPlainly}
-use Rattle.table_entries.specs.declared.entries.Entered.TheVariants.{Recorded, Opened}
+use Rattle.table_entries.specs.declared.entries.Entered.TheVariants.{Opened}
 use Rattle.table_law.specs.Plain.{Describes, Plain}
-use Rattle.table_twins.specs.Entries.{IsReadyFor}
-use Rattle.course_laws.proofs.Frames.{AllFrames, IsAbove, alike_count, alike_frames, count_at, frame_ready}
-use Rattle.course_laws.proofs.Lending.{IsMore, got_more, lent_there, was_room}
-use Rattle.course_laws.proofs.Typing.{counted_frames, got_frames}
-
-pub alike_more : (n : Machine) (x m : Words) → Alike x m → IsMore n m x
-alike_more n x m all h inside = let e = alike_count x m h all in omega arith
-
--- ---- what is left in words where the entry is recorded
-module _ (n : Machine) (m : Words) (w : PortValue) (q : Plain) (owner l f i : ℕ) (ts : List TableWork) (machine : IsMachine n) (d : Describes n m q) (above : IsAbove l ts) (frames : AllFrames n m ts) where
-  pub record Kept (e : Demand) : Type 0 where
-    pub ready : IsReadyFor n m e
-    pub all : AllFrames n (told_word w) ts
-    pub more : IsMore n m (told_word w)
-
-  kept_same : (e : Demand) → IsReadyFor n m e → Leaves w m → Kept e
-  kept_same e ready leaves =
-      let all = same_alike (told_word w) m leaves in
-      record { ready = ready; all = alike_frames n (told_word w) m ts all frames; more = alike_more n (told_word w) m all }
-
-  read_by : (g : ℕ) (o : Option Refusal) → refer n owner g (m (Refs g)) ≡ o → RefersPlainly w m (Ok Recorded) o (got g m) → Kept (demands.Read g)
-  read_by g (Some x) is a = absurd (let e = a.0 in cc)
-  read_by g None is a =
-      let all = same_alike (told_word w) (got g m) a.1 in
-      record {
-        ready = tt;
-        all = alike_frames n (told_word w) (got g m) ts all (got_frames n m (told_word w) q owner g l ts machine d is above frames);
-        more = λ h inside. let e = alike_count (told_word w) (got g m) h all in let k = got_more n m q owner g machine d is h inside in omega arith;
-      }
-
-  typed_by : (g : ℕ) (o : Option Refusal) → refer n owner g (m (Refs g)) ≡ o → TypedPlainly w m g (level_type l) (Ok Recorded) o → Kept (demands.Typed g (level_type l))
-  typed_by g (Some x) is a = absurd (let e = a.0 in cc)
-  typed_by g None is a =
-      let b = counted_frames n m (told_word w) q owner g l ts machine d is above frames a.0 a.1 in
-      record {
-        ready = frame_ready g l (m (Kind g)) (count_at m g) ts above a.0.0 n (was_room n m q owner g machine d is) (frames g (lent_there n m q owner g machine d is).inside);
-        all = b.0;
-        more = b.1;
-      }
-
-  pub kept : (e : Demand) → ((g : ℕ) (t : PageType) → e ≡ demands.Typed g t → t ≡ level_type l) → EntersPlainly n w m f i owner (Ok Recorded) e → Kept e
-  kept demands.Nothing asks a = kept_same demands.Nothing tt a.1
-  kept demands.Bad asks a = absurd (let e = a.0 in cc)
-  kept (demands.Read g) asks a = read_by g (refer n owner g (m (Refs g))) refl a
-  kept (demands.Typed g t) asks a =
-      subst (λ u. Kept (demands.Typed g u)) (sym (asks g t refl))
-      (typed_by g (refer n owner g (m (Refs g))) refl (subst (λ u. TypedPlainly w m g u (Ok Recorded) (refer n owner g (m (Refs g)))) (asks g t refl) a))
 
 -- ---- where it opens a table
 taken_first : (t : PageType) (k : KindWord) (s : Standing) (progress : ℕ) (own : Bool) → IsTakenBy t k s (types.InWork progress own) → is_read_first t ≡ true

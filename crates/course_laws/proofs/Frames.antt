@@ -6,10 +6,9 @@ use Rattle.xp_words.specs.Machine.{Machine}
 use Rattle.xp_words.specs.PageTypes.{type_number}
 use Rattle.xp_words.specs.declared.kind.KindWord.{KindWord}
 use Rattle.xp_words.specs.declared.kind.PageType.{PageType}
-use Rattle.xp_words.specs.declared.place.Place.TheVariants.{Kind, Refs}
+use Rattle.xp_words.specs.declared.place.Place.TheVariants.{Refs}
 use Rattle.xp_board.specs.Readings.{is_dead, kind_at}
 use Rattle.step_maker.specs.Plain.{Words}
-use Rattle.answer_fits.specs.Twins.{Alike, IsAlikeKind}
 use Rattle.kind_words.specs.Kinds.{work_kind}
 use Rattle.frame_types.specs.Plain.{stop_by, type_stop}
 use Rattle.frame_types.specs.Standing.{is_same_type, standing_of}
@@ -21,7 +20,6 @@ use Rattle.table_law.specs.Lawful.{share_count}
 use Rattle.table_law.specs.Plain.{share_of, sober}
 use Rattle.table_law.proofs.Describing.{sober_dead, sober_kind}
 use Rattle.table_twins.specs.Types.{IsReady, IsReadyBy}
-use Rattle.table_twins.proofs.Kinding.{same_share, same_sober}
 
 -- how often the words say that the frame is referred to
 abbrev pub count_at : Words → ℕ → ℕ
@@ -116,39 +114,3 @@ small_number x = omega arith
 pub renumbered : (k : KindWord) (j : ℕ) → k.number < 2 ^ 36 → is_dead k ≡ true → IsTrue (is_kind (record k { number = j })) → IsTrue (is_kind k)
 unfolding has_form
 renumbered k j small dead is = grind (arith, nat_tests)
-
-work_as : (k j : KindWord) (ts : List TableWork) (g : ℕ) → sober k ≡ sober j → IsWork j ts g → IsWork k ts g
-work_as k j [] g same work = work
-work_as k j (t ∷ ts) g same (inl is) = inl (is.0, same ∙ is.1)
-work_as k j (t ∷ ts) g same (inr work) = inr (work_as k j ts g same work)
-
-alike_aside : (x y c d : ℕ) → IsAlikeKind (kind_fields x) (kind_fields y) → c ≤ d → IsAside (kind_fields y) c → IsAside (kind_fields x) d
-alike_aside x y c d alike more aside =
-    let k = kind_fields x in
-    let j = (kind_fields y).number in
-    elim aside.stands [
-      | inl dead ↦
-          let is : is_dead k ≡ true = sym (ap is_dead alike.1) ∙ dead in
-          record { spelled = renumbered k j (small_number x) is (subst (λ i. IsTrue (is_kind i)) alike.1 aside.spelled); stands = inl is }
-      | inr live ↦ absurd (let e : k.validated ≡ true = sym (ap (λ (i : KindWord). i.validated) alike.1) ∙ live.live in let off = alike.0 in cc)
-    ]
-
-more_aside : (k : KindWord) (c d : ℕ) → c ≤ d → IsAside k c → IsAside k d
-more_aside k c d more aside =
-    elim aside.stands [
-      | inl dead ↦ record { spelled = aside.spelled; stands = inl dead }
-      | inr live ↦ record { spelled = aside.spelled; stands = inr (record { live = live.live; some = live.some; within = (let low = live.within in omega arith) }) }
-    ]
-
-pub alike_frame : (x y c d : ℕ) (ts : List TableWork) (g : ℕ) → (x ≡ y) ⊎ IsAlikeKind (kind_fields x) (kind_fields y) → c ≤ d → IsFrame (kind_fields y) c ts g → IsFrame (kind_fields x) d ts g
-alike_frame x y c d ts g (inl same) more (inl aside) = inl (subst (λ z. IsAside (kind_fields z) d) (sym same) (more_aside (kind_fields y) c d more aside))
-alike_frame x y c d ts g (inr alike) more (inl aside) = inl (alike_aside x y c d alike more aside)
-alike_frame x y c d ts g alike more (inr work) = inr (work_as (kind_fields x) (kind_fields y) ts g (sym (same_sober x y alike)) work)
-
-pub alike_count : (x m : Words) (g : ℕ) → Alike x m → count_at x g ≡ count_at m g
-alike_count x m g all = sym (ap share_count (same_share (x (Refs g)) (m (Refs g)) (all (Refs g))))
-
-pub alike_frames : (n : Machine) (x m : Words) (ts : List TableWork) → Alike x m → AllFrames n m ts → AllFrames n x ts
-alike_frames n x m ts all frames g inside =
-    let same = alike_count x m g all in
-    alike_frame (x (Kind g)) (m (Kind g)) (count_at m g) (count_at x g) ts g (all (Kind g)) (omega arith) (frames g inside)

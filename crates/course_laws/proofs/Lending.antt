@@ -1,21 +1,15 @@
 -- Frames where a reference was taken, or a kind word stored.
-use Rattle.std.proofs.Common.{◌≡◌, ◌≢◌, ℕ, ◌+◌, ◌<◌, ◌≤◌, ◌==◌, not, nat_lt, nat_le, if◌then◌else◌, Bool, true, false, Option, Some, None, refl, sym, ap, ◌∙◌, subst, arith}
-use Rattle.std.proofs.lemmas.Bool.Decides.{nat_tests}
+use Rattle.std.proofs.Common.{◌≡◌, ℕ, ◌<◌, ◌==◌, not, nat_lt, nat_le, if◌then◌else◌, Bool, true, false, Option, Some, None, refl, sym, ap, ◌∙◌, subst, arith}
 use Rattle.xp_words.specs.Machine.{IsMachine, Machine}
 use Rattle.xp_words.specs.declared.place.Place.TheVariants.{Refs}
 use Rattle.step_maker.specs.Plain.{Words}
-use Rattle.frame_words.specs.Plain.{got, refer}
+use Rattle.frame_words.specs.Plain.{refer}
 use Rattle.table_law.specs.Alone.{Cause, CountFull, NoFrame, PlainOutcome, WrongOwner, fine, refused, take_reference, take_reference_of}
 use Rattle.table_law.specs.Lawful.{share_count}
 use Rattle.table_law.specs.Plain.{Describes, Plain, Share, raised_share, with_share}
-use Rattle.table_law.proofs.Counting.{at_here, at_there}
 use Rattle.table_twins.specs.Answers.{IsSameAnswer}
-use Rattle.table_twins.proofs.Referring.{is_inside, not_full, same_answer, same_taken}
+use Rattle.table_twins.proofs.Referring.{is_inside, not_full, same_answer}
 use Rattle.course_laws.proofs.Frames.{count_at}
-
--- no count became less
-abbrev pub IsMore : Machine → Words → Words → Type 0
-IsMore n m x = (h : ℕ) → h < n.frames → count_at m h ≤ count_at x h
 
 -- ---- a plain reference that is fine
 pub record Lent (n : Machine) (g : ℕ) (q : Plain) (o : PlainOutcome) : Type 0 where
@@ -55,28 +49,8 @@ module _ (n : Machine) (m : Words) (q : Plain) (owner g : ℕ) (machine : IsMach
   pub lent_there : Lent n g q (take_reference n owner g q)
   lent_there = lent n owner g q (fine_there n m q owner g d none)
 
-  pub got_described : Describes n (got g m) (with_share g (raised_share lent_there.share) q)
-  got_described = subst (λ (o : PlainOutcome). Describes n (got g m) o.left) lent_there.is (same_taken n m q owner g d machine none)
-
   pub was_count : count_at m g ≡ lent_there.share.count
   was_count = sym (ap share_count (d.shares g lent_there.inside)) ∙ ap share_count lent_there.was
 
   pub was_room : count_at m g < n.limit
   was_room = let e = was_count in let room = lent_there.room in omega arith
-
-  pub got_here : count_at (got g m) g ≡ count_at m g + 1
-  got_here =
-      sym (ap share_count (got_described.shares g lent_there.inside)) ∙ ap share_count (at_here g (Some (raised_share lent_there.share)) q.shares)
-      ∙ ap (λ c. c + 1) (sym was_count)
-
-  got_there : (h : ℕ) → h < n.frames → h ≢ g → count_at (got g m) h ≡ count_at m h
-  got_there h inside off =
-      sym (ap share_count (got_described.shares h inside)) ∙ ap share_count (at_there g h (Some (raised_share lent_there.share)) q.shares off)
-      ∙ ap share_count (d.shares h inside)
-
-  more_by : (b : Bool) (h : ℕ) → h < n.frames → (h == g) ≡ b → count_at m h ≤ count_at (got g m) h
-  more_by true h inside is = let e : h ≡ g = grind (arith, nat_tests) in subst (λ i. count_at m i ≤ count_at (got g m) i) (sym e) (let k = got_here in omega arith)
-  more_by false h inside is = let off : h ≢ g = grind (arith, nat_tests) in let k = got_there h inside off in omega arith
-
-  pub got_more : IsMore n m (got g m)
-  got_more h inside = more_by (h == g) h inside refl

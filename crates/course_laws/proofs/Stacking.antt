@@ -4,45 +4,20 @@ use Rattle.xp_words.specs.Machine.{Machine}
 use Rattle.xp_words.specs.declared.entry.Demand.TheVariants.{Typed}
 use Rattle.xp_words.specs.declared.kind.PageType.{PageType}
 use Rattle.xp_board.specs.Readings.{is_dead}
-use Rattle.step_maker.specs.Plain.{Words}
 use Rattle.kind_words.specs.Kinds.{work_kind}
 use Rattle.partial_state.specs.Levels.{level_type}
 use Rattle.partial_state.specs.declared.stack.TableWork.{TableWork}
 use Rattle.table_law.specs.Alone.{Cause, PlainOutcome, fine, meet, refused, take_at, take_reference}
 use Rattle.table_law.specs.Levels.{TableLeft, entry_of}
-use Rattle.table_law.specs.Plain.{Describes, Plain, with_kind}
+use Rattle.table_law.specs.Plain.{Plain, with_kind}
 use Rattle.table_law.specs.Stack.{next_met, rest, table_left}
 use Rattle.table_law.proofs.Steps.{rest_met, rest_opened, rest_stopped}
-use Rattle.course_laws.proofs.Frames.{AllFrames, IsAbove, count_at}
-use Rattle.course_laws.proofs.Lending.{IsMore}
+use Rattle.course_laws.proofs.Frames.{IsAbove}
 
 -- as the plain value has them
 abbrev pub lefts : List TableWork → List TableLeft
 lefts [] = []
 lefts (t ∷ ts) = table_left t.frame (t.level - 1) (512 - t.done) ∷ lefts ts
-
--- a table that came into work with nothing recorded, by an entry under way
-pub record IsTable (n : Machine) (m : Words) (t : TableWork) : Type 0 where
-  pub inside : t.frame < n.frames
-  pub held : 0 < count_at m t.frame
-  pub low : 1 ≤ t.level
-  pub high : t.level ≤ 4
-  pub few : t.done ≤ 512
-  pub own : t.own ≡ true
-  pub under_way : t.recorded ≡ false
-
--- each below the ones around it
-abbrev pub AllTables : Machine → Words → List TableWork → Type 0
-AllTables n m [] = Unit {0}
-AllTables n m (t ∷ ts) = IsTable n m t × IsAbove t.level ts × AllTables n m ts
-
--- The words m are those of an acquisition that is under way with these tables in work; all that is left to do comes to a.
-pub record Stands (n : Machine) (owner : ℕ) (m : Words) (ts : List TableWork) (a : PlainOutcome) : Type 0 where
-  pub plain : Plain
-  pub describes : Describes n m plain
-  pub frames : AllFrames n m ts
-  pub tables : AllTables n m ts
-  pub ahead : rest n owner (lefts ts) plain ≡ a
 
 -- it is refused
 pub record Refuses (a : PlainOutcome) : Type 0 where
@@ -53,14 +28,6 @@ pub record Refuses (a : PlainOutcome) : Type 0 where
 pub lower_above : (k l : ℕ) (ts : List TableWork) → k ≤ l → IsAbove l ts → IsAbove k ts
 lower_above k l [] low above = tt
 lower_above k l (t ∷ ts) low above = ((let b = above.0 in omega arith), above.1, lower_above k l ts low above.2)
-
-more_table : (n : Machine) (m x : Words) (t : TableWork) → IsMore n m x → IsTable n m t → IsTable n x t
-more_table n m x t more is =
-    record { inside = is.inside; held = (let k = more t.frame is.inside in let b = is.held in omega arith); low = is.low; high = is.high; few = is.few; own = is.own; under_way = is.under_way }
-
-pub more_tables : (n : Machine) (m x : Words) (ts : List TableWork) → IsMore n m x → AllTables n m ts → AllTables n x ts
-more_tables n m x [] more all = tt
-more_tables n m x (t ∷ ts) more all = (more_table n m x t more all.0, all.1, more_tables n m x ts more all.2)
 
 -- ---- what is left to do
 pub as_fine : (o : PlainOutcome) → o.refusal ≡ None → o ≡ fine o.left

@@ -19,21 +19,17 @@ use Rattle.partial_state.specs.Levels.{level_type}
 use Rattle.table_law.specs.Alone.{PlainOutcome, alone}
 use Rattle.table_law.specs.Lawful.{IsAtRest}
 use Rattle.table_law.specs.Plain.{plain_of}
-use Rattle.table_law.proofs.Lawfully.{fine_by_rest}
-use Rattle.table_law.proofs.OnWords.{lawful_plain, lawful_words, rested_plain}
 use Rattle.table_twins.proofs.Kinding.{described_alike}
 use Rattle.table_courses.specs.Acquiring.{Acquired}
 use Rattle.course_laws.specs.Courses.{IsDecided, IsHad, IsOrderly}
-use Rattle.course_laws.proofs.Deciding.{had_where_lawful}
-use Rattle.course_laws.proofs.Stacking.{Refuses}
-use Rattle.course_laws.proofs.Starting.{described}
+use Rattle.course_laws.proofs.Deciding.{LastOutcome, had_where_lawful, last_lawful, one_call}
 use Rattle.course_laws.proofs.Stopping.{StopsIn, acquired_stops}
 use Rattle.pause_laws.specs.Calls.{Calls, IsKeptFor, HasRoom, Repeats, again, last, more, once}
-use Rattle.pause_laws.proofs.Beginning.{first_call}
-use Rattle.pause_laws.proofs.Calling.{CallOutcome, IsDone, resumed_call}
-use Rattle.pause_laws.proofs.Lends.{extra, lent}
-use Rattle.pause_laws.proofs.Under.{spelled_same}
-use Rattle.pause_laws.proofs.Unwinding.{part, ParkedAt, parked_over}
+use Rattle.course_laws.proofs.Beginning.{first_call}
+use Rattle.course_laws.proofs.Calling.{CallOutcome, IsDone, resumed_call}
+use Rattle.course_laws.proofs.Extras.{extra, lent}
+use Rattle.course_laws.proofs.Under.{spelled_same}
+use Rattle.course_laws.proofs.Unwinding.{part, ParkedAt, parked_over}
 
 -- ---- a call that finds room is not refused for a count at its limit
 full_word : (owner limit w : ℕ) (r : Option RefWord) → ref_read w ≡ r → IsFull owner limit r → limit ≤ ref_count w
@@ -56,11 +52,6 @@ never_full v w g x room s =
     omega arith
 
 -- ---- from parked words
--- what the last one comes to
-abbrev pub LastOutcome : Machine → PortValue → PlainOutcome → Result ℕ Stop → Type 0
-LastOutcome n w a (Ok g) = IsDone n w a
-LastOutcome n w a (Err e) = IsDecided (Err e) → Refuses a
-
 module _ (n : Machine) (owner f level : ℕ) (a : PlainOutcome) (is : IsMachine n) where
   resumed_from : (v w : PortValue) (answers : List Bool) (answer : Result ℕ Stop) → ParkedAt n owner v f level a → Acquired v f owner level w answers answer → CallOutcome n owner w f level (part a) answer
   resumed_from v w answers answer g acquired =
@@ -115,20 +106,6 @@ module _ (v : PortValue) (f owner level : ℕ) (machine : IsMachine v.post.machi
   abbrev a : PlainOutcome
   a = alone v.post.machine owner level f (plain_of (told_word v))
 
-  had_by : (w : PortValue) (answer : Result ℕ Stop) → IsDecided answer → LastOutcome v.post.machine w a answer → (a.refusal ≡ None → IsHad answer) × (IsHad answer → a.refusal ≡ None)
-  had_by w (Ok g) decided o = (λ none. tt, λ had. o.none)
-  had_by w (Err e) decided o = (λ none. absurd (let is = (o decided).is in cc), λ had. absurd had)
-
-  resumed_lawful : (w : PortValue) (answer : Result ℕ Stop) → IsDecided answer → LastOutcome v.post.machine w a answer →
-      (Lawful v.post.machine owner (told_word v) f (level_type level) → IsHad answer) × (IsHad answer → Lawful v.post.machine owner (told_word v) f (level_type level))
-  resumed_lawful w answer decided o =
-      let n = v.post.machine in
-      let p = plain_of (told_word v) in
-      let d = described n (told_word v) in
-      let law = fine_by_rest n owner level f p high (rested_plain n (told_word v) p d calm) in
-      let had = had_by w answer decided o in
-      (λ is. had.0 (law.0 (lawful_plain n owner f (level_type level) (told_word v) p d is)), λ is. lawful_words n owner f (level_type level) (told_word v) p d (law.1 (had.1 is)))
-
   behind : (u x w : PortValue) (answers : List Bool) (answer : Result ℕ Stop) → Acquired v f owner level u answers (Err (Paused Due)) → IsKeptFor u x → Repeats f owner level x w answer → LastOutcome v.post.machine w a answer
   behind u x w answers answer acquired on rest =
       resumed v.post.machine owner f level a machine x w answer (goes_on v.post.machine owner f level a machine u x on (first_call v f owner level machine telling calm orderly low high u answers (Err (Paused Due)) acquired)) rest
@@ -137,20 +114,16 @@ module _ (v : PortValue) (f owner level : ℕ) (machine : IsMachine v.post.machi
   done_by w (Ok g) had o = o
   done_by w (Err e) had o = absurd had
 
-  first_done : (w : PortValue) (answer : Result ℕ Stop) → IsHad answer → CallOutcome v.post.machine owner w f level (record { outcome = a; whole = true }) answer → IsDone v.post.machine w a
-  first_done w (Ok g) had o = o
-  first_done w (Err e) had o = absurd had
-
 -- ---- any such list of calls
 pub all_lawful : (v : PortValue) (f owner level : ℕ) (w : PortValue) (answer : Result ℕ Stop) → IsMachine v.post.machine → is_telling v ≡ true → IsAtRest v.post.machine (told_word v) → IsOrderly v.post.machine (told_word v) → 1 ≤ level → level ≤ 4 →
     Calls f owner level v w answer → IsDecided answer → (Lawful v.post.machine owner (told_word v) f (level_type level) → IsHad answer) × (IsHad answer → Lawful v.post.machine owner (told_word v) f (level_type level))
 all_lawful _ f owner level _ _ machine telling calm orderly low high (once v w answers answer acquired) decided = had_where_lawful v f owner level machine telling calm orderly low high w answers answer acquired decided
 all_lawful _ f owner level _ _ machine telling calm orderly low high (more v u x w answers answer acquired on rest) decided =
-    resumed_lawful v f owner level machine telling calm orderly low high w answer decided (behind v f owner level machine telling calm orderly low high u x w answers answer acquired on rest)
+    last_lawful v f owner level machine telling calm orderly low high w answer decided (behind v f owner level machine telling calm orderly low high u x w answers answer acquired on rest)
 
 pub all_done : (v : PortValue) (f owner level : ℕ) (w : PortValue) (answer : Result ℕ Stop) → IsMachine v.post.machine → is_telling v ≡ true → IsAtRest v.post.machine (told_word v) → IsOrderly v.post.machine (told_word v) → 1 ≤ level → level ≤ 4 →
     Calls f owner level v w answer → IsHad answer → IsDone v.post.machine w (alone v.post.machine owner level f (plain_of (told_word v)))
 all_done _ f owner level _ _ machine telling calm orderly low high (once v w answers answer acquired) had =
-    first_done v f owner level machine telling calm orderly low high w answer had (first_call v f owner level machine telling calm orderly low high w answers answer acquired)
+    done_by v f owner level machine telling calm orderly low high w answer had (one_call v f owner level machine telling calm orderly low high w answers answer acquired)
 all_done _ f owner level _ _ machine telling calm orderly low high (more v u x w answers answer acquired on rest) had =
     done_by v f owner level machine telling calm orderly low high w answer had (behind v f owner level machine telling calm orderly low high u x w answers answer acquired on rest)

@@ -28,10 +28,10 @@ use Rattle.table_courses.specs.Acquiring.{one_more, table_in}
 use Rattle.course_laws.proofs.Frames.{IsAbove}
 use Rattle.course_laws.proofs.Entering.{Opens, opened_table, opens}
 use Rattle.course_laws.proofs.Stacking.{Refuses, lefts, lower_above, met_on, opened_from, stopped_there}
-use Rattle.pause_laws.proofs.Lends.{IsSame, described_same, extra, lent, more_of}
-use Rattle.pause_laws.proofs.Recording.{IsSettled, OpensTo, met, opens_to, taking, with_one}
-use Rattle.pause_laws.proofs.Refusing.{IsForWords, not_due, unmet}
-use Rattle.pause_laws.proofs.Under.{Chained, IsNamed, PlainTables, Spelled, TableOf, Under, chained_cells, frames_but, still_off, tables_but}
+use Rattle.course_laws.proofs.Extras.{IsSame, described_same, extra, lent, more_of}
+use Rattle.course_laws.proofs.Recording.{IsSettled, OpensTo, met, opens_to, taking, with_one}
+use Rattle.course_laws.proofs.Refusing.{IsForWords, not_due, unmet}
+use Rattle.course_laws.proofs.Under.{Chained, IsNamed, PlainTables, Spelled, TableOf, Under, chained_cells, frames_but, still_off, tables_but}
 
 -- the outermost came into work by itself; another one with its type count by an entry under way, or without, by one recorded before
 abbrev pub Flagged : List TableWork → Type 0

@@ -35,17 +35,17 @@ use Rattle.table_twins.proofs.Sharing.{same_back}
 use Rattle.table_courses.specs.Acquiring.{Acquired, GotRef, MadeLive, keeps_it, TookType, Unwound, Worked, counted, cut_off, due, filled, finished, outermost_table, unfinished, unreferred, untyped, waiting}
 use Rattle.course_laws.proofs.Outermost.{IsOutermost, worked_outermost}
 use Rattle.course_laws.proofs.Stacking.{Refuses}
-use Rattle.pause_laws.proofs.Completing.{put_kind}
-use Rattle.pause_laws.proofs.Halfway.{Half, half_of, of_half, off_below, onto, over, over_off, overlay, tables_onto}
-use Rattle.pause_laws.proofs.Lends.{Both, IsSame, both_there, described_same, extra, got_both, lent, more_of}
-use Rattle.pause_laws.proofs.Pacing.{Aim, Carries, IsLastSettled}
-use Rattle.pause_laws.proofs.Recording.{work_out}
-use Rattle.pause_laws.proofs.Refusing.{IsForWords, full_by, roomy}
-use Rattle.pause_laws.proofs.Resuming.{taken_on}
-use Rattle.pause_laws.proofs.Retaking.{not_counted, not_stopped, own_is, progress_is, retaken, retaken_words}
-use Rattle.pause_laws.proofs.Travelling.{Ends, Leads, Steps, all_filled, live_steps, wait_ends}
-use Rattle.pause_laws.proofs.Under.{Spelled, TableOf, Under, spelled_other}
-use Rattle.pause_laws.proofs.Unwinding.{part, HalfAt, Parked, ParkedAt, parked_over, unwound}
+use Rattle.course_laws.proofs.Completing.{put_kind}
+use Rattle.course_laws.proofs.Halfway.{Half, half_of, of_half, off_below, onto, over, over_off, overlay, tables_onto}
+use Rattle.course_laws.proofs.Extras.{Both, IsSame, both_there, described_same, extra, got_both, lent, more_of}
+use Rattle.course_laws.proofs.Pacing.{Aim, Carries, IsLastSettled}
+use Rattle.course_laws.proofs.Recording.{work_out}
+use Rattle.course_laws.proofs.Refusing.{IsForWords, full_by, roomy}
+use Rattle.course_laws.proofs.Resuming.{taken_on}
+use Rattle.course_laws.proofs.Retaking.{not_counted, not_stopped, own_is, progress_is, retaken, retaken_words}
+use Rattle.course_laws.proofs.Travelling.{Ends, Leads, Steps, all_filled, live_steps, wait_ends}
+use Rattle.course_laws.proofs.Under.{Spelled, TableOf, Under, spelled_other}
+use Rattle.course_laws.proofs.Unwinding.{part, HalfAt, Parked, ParkedAt, parked_over, unwound}
 
 -- ---- the tables
 module _ (n : Machine) (owner : ℕ) (a : Aim) (is : IsMachine n) where

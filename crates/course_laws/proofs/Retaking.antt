@@ -1,7 +1,6 @@
 -- A partial frame is taken into work again.
 use Rattle.std.proofs.Common.{◌≡◌, ℕ, ◌+◌, ◌<◌, ◌≤◌, ◌%◌, ◌/◌, ◌^◌, ◌==◌, ◌||◌, not, if◌then◌else◌, Bool, true, false, Some, None, IsTrue, refl, sym, ap, ◌∙◌, subst, arith}
-use Rattle.std.proofs.lemmas.Bool.Decides.{nat_tests}
-use Rattle.xp_words.specs.KindWords.{has_form, is_kind, kind_fields, kind_write}
+use Rattle.xp_words.specs.KindWords.{kind_fields, kind_write}
 use Rattle.xp_words.specs.Machine.{Machine}
 use Rattle.xp_words.specs.PageTypes.{is_none, type_number}
 use Rattle.xp_words.specs.declared.kind.KindWord.{KindWord}
@@ -26,7 +25,7 @@ use Rattle.table_law.specs.Plain.{Describes, Plain, sober, with_kind}
 use Rattle.table_law.proofs.Describing.{sober_live}
 use Rattle.table_twins.proofs.Kinding.{described_alike, kinded, unlive}
 use Rattle.table_twins.proofs.Typing.{work_is}
-use Rattle.pause_laws.proofs.Completing.{itself}
+use Rattle.course_laws.proofs.Completing.{itself}
 use Rattle.course_laws.proofs.Frames.{small_number}
 
 -- ---- a word in work, with another stamp
@@ -55,9 +54,6 @@ work_read t c typed small =
     sym (ap (λ y. sober (kind_fields y)) w.0 ∙ ap sober (fields_plus (kind_write (work_kind t false 0)) c w.1 small) ∙ ap (λ (k : KindWord). sober (record k { number = c })) read)
 
 -- ---- a partial word
-abbrev marked_kind : PageType → Bool → Bool → ℕ → ℕ → KindWord
-marked_kind t kept unflushed d number = partial_kind t kept unflushed d number
-
 module _ (k : KindWord) (t : PageType) (kept : Bool) (d : ℕ) (is : sober k ≡ partial_kind t kept false d 0) where
   pub partial_live : k.validated ≡ false
   partial_live = sym (sober_live k) ∙ ap (λ (j : KindWord). j.validated) is

@@ -25,11 +25,11 @@ use Rattle.table_twins.proofs.Sharing.{same_back}
 use Rattle.table_courses.specs.Acquiring.{InnerLeft, LeftPartial, OutermostLeft, Unwound, around_left}
 use Rattle.course_laws.proofs.Outermost.{IsOutermost}
 use Rattle.course_laws.proofs.Walking.{gave_came}
-use Rattle.pause_laws.proofs.Completing.{IsKinded, back_lent, described_kind, put_kind, same_kinded, spelled_kind, stored_kinded}
-use Rattle.pause_laws.proofs.Halfway.{Half, onto, over, overlay, tables_onto}
-use Rattle.pause_laws.proofs.Lends.{described_same, extra, lent, more_of}
-use Rattle.pause_laws.proofs.Pacing.{Aim, Flagged, IsLastSettled, extra_own, lent_same}
-use Rattle.pause_laws.proofs.Under.{Spelled, TableOf, Under, spelled_same}
+use Rattle.course_laws.proofs.Completing.{IsKinded, back_lent, described_kind, put_kind, same_kinded, spelled_kind, stored_kinded}
+use Rattle.course_laws.proofs.Halfway.{Half, onto, over, overlay, tables_onto}
+use Rattle.course_laws.proofs.Extras.{described_same, extra, lent, more_of}
+use Rattle.course_laws.proofs.Pacing.{Aim, Flagged, IsLastSettled, extra_own, lent_same}
+use Rattle.course_laws.proofs.Under.{Spelled, TableOf, Under, spelled_same}
 
 -- a resumption
 abbrev pub part : PlainOutcome → Aim

@@ -26,7 +26,7 @@ use Rattle.table_law.proofs.Describing.{sober_dead, sober_live}
 use Rattle.table_twins.proofs.Typing.{live_sober}
 use Rattle.course_laws.proofs.Frames.{IsAbove, IsAside, IsFrame, IsLiveWithin, IsWork, count_at, renumbered, small_number}
 use Rattle.course_laws.proofs.Stacking.{lefts}
-use Rattle.pause_laws.proofs.Lends.{lent, more_count}
+use Rattle.course_laws.proofs.Extras.{lent, more_count}
 
 -- it is the frame of one of these tables
 abbrev pub IsIn : List TableWork → ℕ → Type 0

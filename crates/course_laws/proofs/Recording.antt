@@ -24,17 +24,16 @@ use Rattle.partial_state.proofs.LevelFacts.{level_type-typed}
 use Rattle.partial_state.specs.declared.stack.TableWork.{TableWork}
 use Rattle.table_entries.specs.Plain.{EntersPlainly, IsTakenOf, RefersPlainly, TypedPlainly}
 use Rattle.table_entries.specs.declared.entries.Entered.TheVariants.{Recorded}
-use Rattle.table_law.specs.Alone.{OtherType, PlainOutcome, fine, is_counted, meet_last, refused, meet, take_at, take_kind, then_by}
+use Rattle.table_law.specs.Alone.{OtherType, PlainOutcome, fine, is_counted, refused, meet, take_at, then_by}
 use Rattle.table_law.specs.Lawful.{share_count}
 use Rattle.table_law.specs.Plain.{Describes, Plain, Share, raised_share, reference_back, with_kind, with_share}
-use Rattle.table_law.specs.Release.{let_go}
 use Rattle.table_law.proofs.Counting.{at_here, at_there}
 use Rattle.table_twins.specs.Types.{IsOpenedPlain, IsReady, IsTakenPlain}
 use Rattle.table_twins.proofs.Kinding.{described_alike}
 use Rattle.table_twins.proofs.Typing.{at_level, taken_plain}
 use Rattle.course_laws.proofs.Frames.{IsAbove, IsLiveWithin, count_at, dead_stands, frame_ready, live_stands, no_other, work_other}
-use Rattle.pause_laws.proofs.Lends.{Both, both_there, got_both, lent, more_of}
-use Rattle.pause_laws.proofs.Under.{Grew, IsGrown, IsIn, IsKindBut, IsStill, PlainFrames, PlainTables, Spelled, count_of, dead_there, frame_there, frames_but, grown_count, in_work, live_there, spelled_other, spelled_same, spelled_set, still_more, still_off, tables_but}
+use Rattle.course_laws.proofs.Extras.{Both, both_there, got_both, lent, more_of}
+use Rattle.course_laws.proofs.Under.{Grew, IsGrown, IsIn, IsKindBut, IsStill, PlainFrames, PlainTables, Spelled, count_of, dead_there, frame_there, frames_but, grown_count, in_work, live_there, spelled_other, spelled_same, spelled_set, still_more, still_off, tables_but}
 
 -- the frame of which it asks a type is live
 abbrev pub IsSettled : Machine → Plain → Demand → Type 0
@@ -235,17 +234,8 @@ module _ (n : Machine) (m : Words) (w : PortValue) (x : ℕ → ℕ) (p : Plain)
       inside : g < n.frames
       inside = taking.inside
 
-      room : count_at m g < n.limit
-      room =
-          let c : count_at m g ≡ taking.share.count + x g = sym (ap share_count (d.shares g inside)) ∙ ap (λ o. share_count (more_of (x g) o)) taking.was in
-          let low = taking.room in
-          omega arith
-
-      ready : IsReady n (level_type l) (m (Kind g))
-      ready = frame_ready g l (m (Kind g)) (count_at m g) ts above free n room (frame_there n owner m x p ts d spells works all g inside)
-
       as_plain : IsTakenPlain n l owner g (lent x with_one) (told_word w)
-      as_plain = taken_plain n (got g m) (told_word w) (lent x with_one) l owner g types.Counted machine got_one inside ready free way.1 alike
+      as_plain = taken_plain n (got g m) (told_word w) (lent x with_one) l owner g types.Counted machine got_one inside (ready_here free) free way.1 alike
 
       typed_done : (after : Plain) → take_at l n owner g with_one ≡ fine after → as_plain.left ≡ lent x after → ((h : ℕ) → after.shares h ≡ with_one.shares h) → ((h j : ℕ) → after.cells h j ≡ p.cells h j) → IsKindBut g p after →
           IsStill (after.kinds g) (count_of after g) → (after.kinds g).validated ≡ true → IsStill (p.kinds g) (count_of p g) → Spelled n (told_word w) after → Met (demands.Typed g (level_type l))
@@ -262,9 +252,6 @@ module _ (n : Machine) (m : Words) (w : PortValue) (x : ℕ → ℕ) (p : Plain)
             tables = tables_but n owner p after g grown but ts (still_off n owner p g (count_of p g) ts was works) works;
             settled = (inside, live);
           }
-
-      word : KindWord
-      word = kind_at m g
 
       live_case : IsLiveWithin (p.kinds g) (count_of p g) → Met (demands.Typed g (level_type l))
       unfolding with_one
@@ -283,7 +270,7 @@ module _ (n : Machine) (m : Words) (w : PortValue) (x : ℕ → ℕ) (p : Plain)
           (elim (live_stands k (level_type l) there.live there.some) [
             | inl counted ↦
                 spelled_set n (got g m) (told_word w) p after (λ h inside. d.kinds h inside) (λ h inside out. spells h inside out) g (raised_kind k) (subst (λ s. Alike (told_word w) (taken_by g (level_type l) k s types.Counted (got g m))) counted alike)
-                (raised_is k (spells g inside (inr live.live)) there.live there.some (let low = there.within in let few = machine.few_counts in let r = room in omega arith)) (inr there.live) but
+                (raised_is k (spells g inside (inr live.live)) there.live there.some (let low = there.within in let few = machine.few_counts in let r = room_here in omega arith)) (inr there.live) but
             | inr other ↦ absurd (no_other g l (m (Kind g)) (count_at m g) ts above free other)
           ])
 

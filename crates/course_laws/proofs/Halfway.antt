@@ -14,11 +14,11 @@ use Rattle.table_law.specs.Stack.{rest, table_left}
 use Rattle.table_law.proofs.Counting.{at_there}
 use Rattle.course_laws.proofs.Frames.{IsAbove}
 use Rattle.course_laws.proofs.Stacking.{lefts}
-use Rattle.pause_laws.proofs.Completing.{rest_chained}
-use Rattle.pause_laws.proofs.Lends.{extra, lent}
-use Rattle.pause_laws.proofs.Pacing.{Aim, AllOwn, Carries, Flagged, IsLastSettled}
-use Rattle.pause_laws.proofs.Recording.{IsSettled}
-use Rattle.pause_laws.proofs.Under.{Chained, IsIn, IsNamed, IsOff, IsStill, PlainTables, Spelled, TableOf, Under, count_of}
+use Rattle.course_laws.proofs.Completing.{rest_chained}
+use Rattle.course_laws.proofs.Extras.{extra, lent}
+use Rattle.course_laws.proofs.Pacing.{Aim, AllOwn, Carries, Flagged, IsLastSettled}
+use Rattle.course_laws.proofs.Recording.{IsSettled}
+use Rattle.course_laws.proofs.Under.{Chained, IsIn, IsNamed, IsOff, IsStill, PlainTables, Spelled, TableOf, Under, count_of}
 
 -- ---- the same tables with other flags
 abbrev pub IsLike : TableWork → TableWork → Type 0

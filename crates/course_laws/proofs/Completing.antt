@@ -19,7 +19,6 @@ use Rattle.kind_words.proofs.KindWriting.{fields_write, live_is}
 use Rattle.partial_state.specs.Levels.{level_type}
 use Rattle.partial_state.proofs.LevelFacts.{level_type-typed}
 use Rattle.partial_state.specs.declared.stack.TableWork.{TableWork}
-use Rattle.table_law.specs.Alone.{PlainOutcome}
 use Rattle.table_law.specs.Lawful.{share_count}
 use Rattle.table_law.specs.Plain.{Describes, Plain, Share, fewer, reference_back, share_of, sober, with_kind}
 use Rattle.table_law.specs.Stack.{rest, table_left}
@@ -28,10 +27,10 @@ use Rattle.table_law.proofs.Steps.{rest_full}
 use Rattle.table_twins.proofs.Kinding.{described_alike}
 use Rattle.table_twins.proofs.Sharing.{same_back}
 use Rattle.course_laws.proofs.Stacking.{lefts}
-use Rattle.pause_laws.proofs.Lends.{IsSame, described_same, extra, lent, more_of}
-use Rattle.pause_laws.proofs.Pacing.{Aim, Carries, Flagged, IsLastSettled, Paces, extra_own, lent_same}
-use Rattle.pause_laws.proofs.Recording.{IsSettled}
-use Rattle.pause_laws.proofs.Under.{Chained, IsIn, IsKindBut, IsStill, Spelled, TableOf, Under, above_off, chained_cells, count_of, frames_but, same_grown, tables_but}
+use Rattle.course_laws.proofs.Extras.{IsSame, described_same, extra, lent, more_of}
+use Rattle.course_laws.proofs.Pacing.{Aim, Carries, Flagged, IsLastSettled, Paces, extra_own, lent_same}
+use Rattle.course_laws.proofs.Recording.{IsSettled}
+use Rattle.course_laws.proofs.Under.{Chained, IsIn, IsKindBut, IsStill, Spelled, TableOf, Under, above_off, chained_cells, count_of, frames_but, same_grown, tables_but}
 
 -- ---- words of which one kind word is another
 pub record IsKinded (m x : Words) (f new : ℕ) : Type 0 where

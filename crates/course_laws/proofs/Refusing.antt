@@ -29,9 +29,9 @@ use Rattle.table_twins.proofs.Referring.{same_answer}
 use Rattle.table_twins.proofs.Typing.{at_level, refused_plain}
 use Rattle.table_twins.proofs.Waiting.{only_busy}
 use Rattle.course_laws.proofs.Frames.{IsAbove, dead_stands}
-use Rattle.pause_laws.proofs.Lends.{Referred, lent, more_of, referred, refers}
-use Rattle.pause_laws.proofs.Recording.{got_one, taking, with_one}
-use Rattle.pause_laws.proofs.Under.{PlainFrames, PlainTables, Spelled}
+use Rattle.course_laws.proofs.Extras.{Referred, lent, more_of, referred, refers}
+use Rattle.course_laws.proofs.Recording.{got_one, taking, with_one}
+use Rattle.course_laws.proofs.Under.{PlainFrames, PlainTables, Spelled}
 
 -- it is not for a count at its limit
 abbrev pub IsRoomy : Refusal → Type 0
@@ -118,7 +118,7 @@ module _ (n : Machine) (m : Words) (w : PortValue) (x : ℕ → ℕ) (p : Plain)
       (elim (roomy whole y known) [ inl room ↦ inl room | inr none ↦ inr (unlent none g) ])
 
   -- the type
-  type_refused : (g : ℕ) (y : Refusal) → refer n owner g (m (Refs g)) ≡ None → type_stop g (level_type l) (m (Kind g)) ≡ Some (Refused y) → IsSome (meet n owner (take_at l n owner) f i p (demands.Typed g (level_type l))).refusal
+  pub type_refused : (g : ℕ) (y : Refusal) → refer n owner g (m (Refs g)) ≡ None → type_stop g (level_type l) (m (Kind g)) ≡ Some (Refused y) → IsSome (meet n owner (take_at l n owner) f i p (demands.Typed g (level_type l))).refusal
   unfolding with_one
   type_refused g y none stop =
       let took = taking n m w x p owner l f i ts machine d spells above all works g none in

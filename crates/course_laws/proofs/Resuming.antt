@@ -28,7 +28,7 @@ use Rattle.partial_state.specs.declared.stack.TableWork.{TableWork}
 use Rattle.table_entries.specs.Plain.{AgainBy, AgainWhere, IsTakenOf, ResumesPlainly}
 use Rattle.table_entries.specs.declared.resuming.Resumed.{Resumed}
 use Rattle.table_entries.specs.declared.resuming.Resumed.TheVariants as again
-use Rattle.table_law.specs.Alone.{PlainOutcome, take_reference}
+use Rattle.table_law.specs.Alone.{take_reference}
 use Rattle.table_law.specs.Plain.{Describes, Plain, Share, raised_share, with_kind, with_share}
 use Rattle.table_law.proofs.Counting.{at_here, at_there}
 use Rattle.table_law.proofs.Describing.{sober_live}
@@ -36,15 +36,15 @@ use Rattle.table_twins.specs.Answers.{IsSameAnswer}
 use Rattle.table_twins.proofs.Referring.{same_answer}
 use Rattle.table_courses.specs.Acquiring.{ResumedEntry, TookOn, fresh, opened, settled, stopped, table_in, taken, waiting}
 use Rattle.course_laws.proofs.Walking.{again_came}
-use Rattle.pause_laws.proofs.Halfway.{Half, all_like, chained_onto, off_below, onto, onto_like, over, over_off, overlay, settled_like, tables_onto, under_like}
-use Rattle.pause_laws.proofs.Lends.{Both, IsSame, both_there, described_same, extra, got_both, lent, more_of}
-use Rattle.pause_laws.proofs.Recording.{IsSettled, work_out}
-use Rattle.pause_laws.proofs.Refusing.{IsForWords, full_by, roomy}
-use Rattle.pause_laws.proofs.Retaking.{not_counted, not_stopped, own_is, partial_live, progress_is, retaken, retaken_words}
-use Rattle.pause_laws.proofs.Travelling.{Ends, wait_ends}
-use Rattle.pause_laws.proofs.Under.{IsNamed, PlainTables, TableOf, spelled_other}
-use Rattle.pause_laws.proofs.Unwinding.{HalfAt, half_same}
-use Rattle.pause_laws.proofs.Pacing.{Aim}
+use Rattle.course_laws.proofs.Halfway.{Half, all_like, chained_onto, off_below, onto, onto_like, over, over_off, overlay, settled_like, tables_onto, under_like}
+use Rattle.course_laws.proofs.Extras.{Both, IsSame, both_there, described_same, extra, got_both, lent, more_of}
+use Rattle.course_laws.proofs.Recording.{IsSettled, work_out}
+use Rattle.course_laws.proofs.Refusing.{IsForWords, full_by, roomy}
+use Rattle.course_laws.proofs.Retaking.{not_counted, not_stopped, own_is, partial_live, progress_is, retaken, retaken_words}
+use Rattle.course_laws.proofs.Travelling.{Ends, wait_ends}
+use Rattle.course_laws.proofs.Under.{IsNamed, PlainTables, TableOf, spelled_other}
+use Rattle.course_laws.proofs.Unwinding.{HalfAt, half_same}
+use Rattle.course_laws.proofs.Pacing.{Aim}
 
 -- ---- a reference is lent
 lends_at : (b : Bool) (g h : ℕ) (x : ℕ → ℕ) (s : Share) (o : Option Share) → o ≡ Some s → (h == g) ≡ b →

@@ -1,5 +1,5 @@
 -- A call goes on from port to port, entry by entry, until it stops or the gate says yes.
-use Rattle.std.proofs.Common.{◌≡◌, ℕ, ◌+◌, ◌<◌, ◌%◌, ◌^◌, not, Bool, true, false, List, ◌∷◌, None, Result, Ok, Err, refl, sym, ap, ◌∙◌, subst}
+use Rattle.std.proofs.Common.{◌≡◌, ℕ, ◌+◌, ◌<◌, ◌%◌, ◌^◌, not, Bool, true, false, List, ◌∷◌, None, Result, Ok, Err, refl, sym, ap, ◌∙◌, subst, [], arith}
 use Rattle.xp_words.specs.KindWords.{kind_write}
 use Rattle.xp_words.specs.Machine.{IsMachine, Machine}
 use Rattle.xp_words.specs.declared.place.Place.{Place}
@@ -25,17 +25,28 @@ use Rattle.kind_words.specs.Kinds.{live_kind}
 use Rattle.partial_state.specs.Levels.{level_type}
 use Rattle.partial_state.specs.declared.stack.TableWork.{TableWork}
 use Rattle.table_entries.specs.declared.entries.Entered.TheVariants.{Opened, Recorded}
-use Rattle.table_law.specs.Alone.{PlainOutcome}
 use Rattle.table_twins.proofs.Kinding.{described_alike}
-use Rattle.pause_laws.proofs.Lends.{extra, lent}
-use Rattle.pause_laws.proofs.Under.{spelled_same}
-use Rattle.table_courses.specs.Acquiring.{Advanced, Filled, GaveBack, Joined, MadeLive, TookEntry, TookOn, asked, begun, completed, cut_off, due, one_more, opened, recorded, stopped, table_in, type_counts, unasked, unsettled}
-use Rattle.course_laws.proofs.Going.{taken_fresh}
+use Rattle.course_laws.proofs.Extras.{extra, lent}
+use Rattle.course_laws.proofs.Under.{spelled_same}
+use Rattle.table_courses.specs.Acquiring.{Advanced, Filled, GaveBack, Joined, MadeLive, TookEntry, TookOn, asked, begun, completed, cut_off, due, fresh, one_more, opened, recorded, settled, stopped, table_in, taken, type_counts, unasked, unsettled, waiting}
 use Rattle.course_laws.proofs.Stacking.{Refuses}
 use Rattle.course_laws.proofs.Walking.{back_came}
-use Rattle.pause_laws.proofs.Completing.{IsKinded, lowered_kinded, own_paces, same_kinded, shared_paces, stored_kinded}
-use Rattle.pause_laws.proofs.Pacing.{Aim, Carries, IsLastSettled, Paces, never_due, opened_carries, opened_none, recorded_paces, refused_paces}
-use Rattle.pause_laws.proofs.Refusing.{IsForWords}
+use Rattle.course_laws.proofs.Completing.{IsKinded, lowered_kinded, own_paces, same_kinded, shared_paces, stored_kinded}
+use Rattle.course_laws.proofs.Pacing.{Aim, Carries, IsLastSettled, Paces, never_due, opened_carries, opened_none, recorded_paces, refused_paces}
+use Rattle.course_laws.proofs.Refusing.{IsForWords}
+
+-- a table with nothing recorded is not taken on
+abbrev pub IsFresh : List TableWork → Type 0
+IsFresh [] = ⊥
+IsFresh (t ∷ ts) = t.done ≡ 0
+
+pub taken_fresh : (owner : ℕ) (v : PortValue) (ts : List TableWork) (w : PortValue) (us : List TableWork) (r : Result Bool Stop) → TookOn owner v ts w us r → IsFresh ts → (w ≡ v) × (us ≡ ts) × (r ≡ Ok false)
+taken_fresh owner _ _ _ _ _ (fresh v t ts none) is = (refl, refl, refl)
+taken_fresh owner _ _ _ _ _ (settled v w t ts some a) is = absurd (omega arith)
+taken_fresh owner _ _ _ _ _ (taken v u w t ts f some a b) is = absurd (omega arith)
+taken_fresh owner _ _ _ _ _ (opened v u w t ts us f progress own answer some a b) is = absurd (omega arith)
+taken_fresh owner _ _ _ _ _ (waiting v u w t ts f own stamp stop some a b) is = absurd (omega arith)
+taken_fresh owner _ _ _ _ _ (stopped v w t ts stop some a) is = absurd (omega arith)
 
 -- at a port, behind an entry that is done with or not
 pub record Steps (n : Machine) (owner : ℕ) (u : PortValue) (ts : List TableWork) (a : Aim) (done : Bool) : Type 0 where
@@ -81,7 +92,7 @@ paces_same n owner m x ts a alike p =
         describes = described_alike n x m (lent (extra ts) c.plain) alike c.describes;
         spelled = spelled_same n m x c.plain c.plain (λ h inside. c.describes.kinds h inside) c.spelled alike (λ h. refl);
         flags = c.flags;
-      mine = c.mine;
+        mine = c.mine;
       };
       settled = p.settled;
     }
