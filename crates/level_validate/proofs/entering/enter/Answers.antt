@@ -24,6 +24,7 @@ use Rattle.level_validate.proofs.Visited.{entered_first}
 use Rattle.level_validate.proofs.Pushing.{pushed}
 use Rattle.level_validate.proofs.Standing.{standing_above, standing_held, standing_known, standing_looked, standing_next}
 use Rattle.level_validate.proofs.StandsFacts.{may_back, may_stands}
+use Rattle.level_validate.proofs.Rising.{progress_answer}
 use Rattle.level_validate.proofs.Waiting.{wait_stops}
 use Rattle.level_validate.proofs.Forward.{forward_then}
 use Rattle.level_validate.proofs.OnwardEntries.{enters_forward}
@@ -419,6 +420,12 @@ returns-in-Recorded-clause-progress g c same =
     let x = g.P.Port.value c.take_entry.new.port in
     subst (λ r. ShowsEntered u x c.args.owner 0 c.level_type.result r) c.in-Recorded.is (c.in_ok-take_entry.ensures.shows 0)
 
+pub returns-in-Opened-clause-progress : goal.returns-in-Opened-clause-progress
+returns-in-Opened-clause-progress g c =
+    let u = g.P.Port.value c.args.port.now in
+    let x = g.P.Port.value c.take_entry.new.port in
+    progress_answer u x (g.P.Port.value c.take_on.new.port) c.take_on.result (serves_came u x (of_entries c.args.owner 0) [] (c.in_ok-take_entry.ensures.serves 0)) c.take_on.ensures.progress
+
 pub returns-in_err-take_entry-clause-forward : goal.returns-in_err-take_entry-clause-forward
 returns-in_err-take_entry-clause-forward g c =
     enters_forward (g.P.Port.value c.args.port.now) (g.P.Port.value c.take_entry.new.port) c.args.owner c.in-Some.top c.args.stack.now c.in-Some.ensures.some c.requires.stands c.level_type.result c.level_type.ensures _ c.in_err-take_entry.ensures.found
@@ -484,7 +491,7 @@ returns-in-Opened-clause-course g c =
     let o = c.in-Opened in
     let answer = c.in_ok-take_entry.ensures in
     opened_next c.args.owner u t (drop 1 c.args.stack.now) c.args.stack.now c.in-Some.ensures.some c.requires.left x (g.P.Port.value c.take_on.new.port) o.frame o.progress o.own c.take_on.result
-    c.advance-in-Opened.new.self c.push.new.self c.take_on.new.stack c.advance-in-Opened.ensures.advanced c.push.ensures.pushed c.take_on.ensures.deeper
+    c.advance-in-Opened.new.self c.push.new.self c.take_on.new.stack c.advance-in-Opened.ensures.advanced c.push.ensures.pushed
     (entered_ok u x c.args.owner t c.level_type.result c.level_type.ensures c.in_ok-take_entry.field-0 (entered.Opened o.frame o.progress o.own) o.is answer.found answer.plain answer.shows) c.take_on.ensures.course
 
 pub returns-in-Unsettled-clause-course : goal.returns-in-Unsettled-clause-course
