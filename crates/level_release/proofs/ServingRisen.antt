@@ -4,25 +4,14 @@ use Rattle.xp_words.specs.declared.reply.Pause.TheVariants.{Due}
 use Rattle.xp_words.specs.declared.reply.Stop.{Stop}
 use Rattle.xp_words.specs.declared.reply.Stop.TheVariants.{Paused}
 use Rattle.xp_board.specs.Told.{Post, PortValue}
-use Rattle.step_maker.specs.Moves.{Came, Met, Moment}
-use Rattle.step_maker.proofs.Coming.{came_post, met_after, met_before}
+use Rattle.step_maker.specs.Moves.{Came, Met}
+use Rattle.step_maker.proofs.Coming.{came_post}
 use Rattle.answer_fits.specs.Answers.{Deed, Stops, missed}
-use Rattle.answer_fits.specs.Finding.{Finding}
-use Rattle.answer_fits.specs.Pauses.{Progress, entry, settles}
+use Rattle.answer_fits.specs.Pauses.{Progress}
 use Rattle.answer_fits.proofs.Piecing.{serves_came, stops_before}
+use Rattle.answer_fits.proofs.Progressing.{progress_after}
 use Rattle.partial_state.specs.declared.stack.TableWork.{TableWork}
 use Rattle.level_release.specs.Asking.{Continues, IsPiece, StopsRisen}
-
--- ---- progress among more steps
-progress_in : (F G : Finding) → ((m : Moment) → F m → G m) → Progress F → Progress G
-progress_in F G more (entry m a b) = entry m (more m a) b
-progress_in F G more (settles m f t x e s a b c d i j k l) = settles m f t x e s (more m a) b c d i j k l
-
-pub progress_before : (v u w : PortValue) → Came u w → Progress (Met v u) → Progress (Met v w)
-progress_before v u w came p = progress_in (Met v u) (Met v w) (λ m x. met_before v u w m x came) p
-
-pub progress_after : (v u w : PortValue) → Came v u → Progress (Met u w) → Progress (Met v w)
-progress_after v u w came p = progress_in (Met u w) (Met v w) (λ m x. met_after v u w m came x) p
 
 -- ---- how they go on
 pub goes_nothing : (v : PortValue) (ts : List TableWork) → Continues v v ts ts []

@@ -9,10 +9,11 @@ use Rattle.step_maker.specs.Moves.{Came, Met}
 use Rattle.step_maker.proofs.Coming.{came_self, came_trans}
 use Rattle.answer_fits.specs.Answers.{missed}
 use Rattle.answer_fits.specs.Pauses.{Progress}
+use Rattle.answer_fits.proofs.Progressing.{progress_after, progress_before}
 use Rattle.partial_state.specs.declared.stack.TableWork.{TableWork}
 use Rattle.level_release.specs.Asking.{Continues, StopsRisen}
 use Rattle.level_release.specs.Course.{is_asked_down}
-use Rattle.level_release.proofs.ServingRisen.{goes_nothing, goes_on, goes_then, progress_after, progress_before, risen_behind, risen_due}
+use Rattle.level_release.proofs.ServingRisen.{goes_nothing, goes_on, goes_then, risen_behind, risen_due}
 
 -- The steps went on with what asked ts, and asks us now. Where there is more than one table, an entry was shed.
 pub record Serving (u w : PortValue) (ts us : List TableWork) : Type 0 where
