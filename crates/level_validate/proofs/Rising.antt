@@ -12,7 +12,7 @@ use Rattle.answer_fits.proofs.Piecing.{serves_came, stops_before}
 use Rattle.partial_state.specs.declared.stack.TableWork.{TableWork}
 use Rattle.level_validate.specs.Acquiring.{StopsRisen}
 use Rattle.level_validate.specs.Serving.{StopsIn}
-use Rattle.level_validate.proofs.Progressing.{progress_after}
+use Rattle.answer_fits.proofs.Progressing.{progress_after}
 
 module _ (v w : PortValue) (owner : ℕ) (ts : List TableWork) (e : Stop) where
   -- it is none of them

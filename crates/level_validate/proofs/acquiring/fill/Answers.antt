@@ -1,6 +1,6 @@
 use Rattle.level_validate.proofs.LeftWell.{well_then}
 use Rattle.level_validate.proofs.Forward.{forward_then}
-use Rattle.std.proofs.Common.{Ok, Err, refl, ap, ◌∙◌, false}
+use Rattle.std.proofs.Common.{Ok, Err, ap, ◌∙◌, false}
 use Rattle.std.proofs.lemmas.Result.{err_from_is_err_and}
 use Rattle.xp_preempt.proofs.Hearing.{heard_as, heard_then}
 use Rattle.table_courses.specs.Acquiring.{is_asked}
