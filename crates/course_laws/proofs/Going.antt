@@ -92,7 +92,7 @@ abbrev pub IsFresh : List TableWork → Type 0
 IsFresh [] = ⊥
 IsFresh (t ∷ ts) = t.done ≡ 0
 
-pub taken_fresh : (owner : ℕ) (v : PortValue) (ts : List TableWork) (w : PortValue) (us : List TableWork) (r : Result (Unit {0}) Stop) → TookOn owner v ts w us r → IsFresh ts → (w ≡ v) × (us ≡ ts) × (r ≡ Ok tt)
+pub taken_fresh : (owner : ℕ) (v : PortValue) (ts : List TableWork) (w : PortValue) (us : List TableWork) (r : Result Bool Stop) → TookOn owner v ts w us r → IsFresh ts → (w ≡ v) × (us ≡ ts) × (r ≡ Ok false)
 taken_fresh owner _ _ _ _ _ (fresh v t ts none) is = (refl, refl, refl)
 taken_fresh owner _ _ _ _ _ (settled v w t ts some a) is = absurd (omega arith)
 taken_fresh owner _ _ _ _ _ (taken v u w t ts f some a b) is = absurd (omega arith)
@@ -145,9 +145,9 @@ module _ (n : Machine) (owner : ℕ) (a : PlainOutcome) (is : IsMachine n) where
       goes_to n owner u w ts ts a g (moves_came u w _ _ _ _ _ joined.1)
       (subst (λ k. Stands k owner (told_word w) ts a) (sym g.machine) (alike_stands n owner (told_word u) (told_word w) ts a (same_alike (told_word w) (told_word u) (load_tells u w _ _ _ _ joined.1 g.telling)) g.stands))
 
-  opened_to : (u w : PortValue) (t inner : TableWork) (ts us : List TableWork) → inner.done ≡ 0 → Goes n owner u (inner ∷ t ∷ ts) a → TookOn owner u (inner ∷ t ∷ ts) w us (Ok tt) → Goes n owner w us a
-  opened_to u w t inner ts us none g on =
-      let same = taken_fresh owner u (inner ∷ t ∷ ts) w us (Ok tt) on none in
+  opened_to : (u w : PortValue) (t inner : TableWork) (ts us : List TableWork) (done : Bool) → inner.done ≡ 0 → Goes n owner u (inner ∷ t ∷ ts) a → TookOn owner u (inner ∷ t ∷ ts) w us (Ok done) → Goes n owner w us a
+  opened_to u w t inner ts us done none g on =
+      let same = taken_fresh owner u (inner ∷ t ∷ ts) w us (Ok done) on none in
       subst (λ xs. Goes n owner w xs a) (sym same.1) (subst (λ x. Goes n owner x (inner ∷ t ∷ ts) a) (sym same.0) g)
 
   never_cut : (u w : PortValue) (t inner : TableWork) (ts us : List TableWork) (e : Stop) → inner.done ≡ 0 → TookOn owner u (inner ∷ t ∷ ts) w us (Err e) → ⊥
@@ -155,9 +155,9 @@ module _ (n : Machine) (owner : ℕ) (a : PlainOutcome) (is : IsMachine n) where
 
   pub advanced : (u : PortValue) (us : List TableWork) (w : PortValue) (xs : List TableWork) (r : Result Bool Stop) → Goes n owner u us a → Advanced owner u us w xs r → GoesOrRefuses n owner w xs a r
   advanced _ _ _ _ _ g (recorded v w t ts few took) = recorded_goes v w t ts g few took
-  advanced _ _ _ _ _ g (opened v u w t ts us f progress own few took on) =
+  advanced _ _ _ _ _ g (opened v u w t ts us f progress own done few took on) =
       let o = opened_goes v u t ts g f progress own few took in
-      opened_to u w (one_more t) (table_in t f progress own false) ts us o.0 o.1 on
+      opened_to u w (one_more t) (table_in t f progress own false) ts us done o.0 o.1 on
   advanced _ _ _ _ _ g (cut_off v u w t ts us f progress own stop few took on) =
       let o = opened_goes v u t ts g f progress own few took in
       absurd (never_cut u w (one_more t) (table_in t f progress own false) ts us stop o.0 on)

@@ -43,7 +43,7 @@ behind_as v u w (Ok a) came s = tt
 behind_as v u w (Err e) came s = behind v u w e came s
 
 -- ---- down to where a table was left, one entry, and until the only table is full
-pub on_stops : (owner : ℕ) (v : PortValue) (ts : List TableWork) (w : PortValue) (us : List TableWork) (r : Result (Unit {0}) Stop) → TookOn owner v ts w us r → StopsAs v w r
+pub on_stops : (owner : ℕ) (v : PortValue) (ts : List TableWork) (w : PortValue) (us : List TableWork) (r : Result Bool Stop) → TookOn owner v ts w us r → StopsAs v w r
 on_stops owner _ _ _ _ _ (fresh v t ts none) = tt
 on_stops owner _ _ _ _ _ (settled v w t ts some a) = tt
 on_stops owner _ _ _ _ _ (taken v u w t ts f some a b) = tt
@@ -53,7 +53,7 @@ on_stops owner _ _ _ _ _ (stopped v w t ts stop some a) = stops_here v w (of_ent
 
 pub advanced_stops : (owner : ℕ) (v : PortValue) (ts : List TableWork) (w : PortValue) (us : List TableWork) (r : Result Bool Stop) → Advanced owner v ts w us r → StopsAs v w r
 advanced_stops owner _ _ _ _ _ (recorded v w t ts few a) = tt
-advanced_stops owner _ _ _ _ _ (opened v u w t ts us f progress own few a b) = tt
+advanced_stops owner _ _ _ _ _ (opened v u w t ts us f progress own done few a b) = tt
 advanced_stops owner _ _ _ _ _ (cut_off v u w t ts us f progress own stop few a b) = behind v u w stop (entry_came v u owner t _ a) (on_stops owner u _ w us (Err stop) b)
 advanced_stops owner _ _ _ _ _ (unsettled v w t ts stop few a) = stops_here v w (of_entries owner 0) stop refl refl (a.shows 0).2
 advanced_stops owner _ _ _ _ _ (stopped v w t ts stop few a) = stops_here v w (of_entries owner 0) stop refl refl (a.stops 0)
@@ -63,16 +63,17 @@ no_yes : (answers : List Bool) → yeses (true ∷ answers) ≡ 0 → ⊥
 unfolding yeses
 no_yes answers none = omega arith
 
-pub filled_stops : (owner : ℕ) (v : PortValue) (ts : List TableWork) (w : PortValue) (us : List TableWork) (answers : List Bool) (r : Result (Unit {0}) Stop) → Filled owner v ts w us answers r → yeses answers ≡ 0 → StopsAs v w r
-filled_stops owner v ts _ _ _ _ begun none = tt
-filled_stops owner v ts _ _ _ _ (unasked u w us xs done answers before step off) none = tt
-filled_stops owner v ts _ _ _ _ (asked u w us xs answers before step on) none = tt
-filled_stops owner v ts _ _ _ _ (due u w us xs answers before step on) none = absurd (no_yes answers none)
-filled_stops owner v ts _ _ _ _ (stopped u w us xs answers stop before step) none = behind v u w stop (filled_came owner v ts u us answers (Ok tt) before) (advanced_stops owner u us w xs (Err stop) step)
+pub filled_stops : (owner : ℕ) (v : PortValue) (ts : List TableWork) (first : List Bool) (w : PortValue) (us : List TableWork) (answers : List Bool) (r : Result (Unit {0}) Stop) → Filled owner v ts first w us answers r → yeses answers ≡ 0 → StopsAs v w r
+filled_stops owner v ts first _ _ _ _ begun none = tt
+filled_stops owner v ts first _ _ _ _ (unasked u w us xs done answers before step off) none = tt
+filled_stops owner v ts first _ _ _ _ (asked u w us xs answers before step on) none = tt
+filled_stops owner v ts first _ _ _ _ (due u w us xs answers before step on) none = absurd (no_yes answers none)
+filled_stops owner v ts first _ _ _ _ (stopped u w us xs answers stop before step) none = behind v u w stop (filled_came owner v ts first u us answers (Ok tt) before) (advanced_stops owner u us w xs (Err stop) step)
 
 pub worked_stops : (owner : ℕ) (v : PortValue) (t : TableWork) (w : PortValue) (us : List TableWork) (answers : List Bool) (r : Result (Unit {0}) Stop) → Worked owner v t w us answers r → yeses answers ≡ 0 → StopsAs v w r
 worked_stops owner v t _ _ _ _ (cut_off w us stop a) none = on_stops owner v (t ∷ []) w us (Err stop) a
-worked_stops owner v t _ _ _ _ (filled u w us xs answers answer a b) none = behind_as v u w answer (on_came owner v (t ∷ []) u us _ a) (filled_stops owner u us w xs answers answer b none)
+worked_stops owner v t _ _ _ _ (due w us a on) none = absurd (no_yes [] none)
+worked_stops owner v t _ _ _ _ (filled u w us xs done answers answer a b) none = behind_as v u w answer (on_came owner v (t ∷ []) u us _ a) (filled_stops owner u us _ w xs answers answer b none)
 
 -- ---- the whole
 ref_came : (v u : PortValue) (f owner : ℕ) (r : Result ℕ Stop) → GotRef v u f owner r → Came v u

@@ -34,7 +34,7 @@ waiting_came v w f level true stamp a = does_came v w _ a
 waiting_came v w f level false stamp a = does_came v w _ a
 
 -- ---- tables, until they are full
-pub on_came : (owner : ℕ) (v : PortValue) (ts : List TableWork) (w : PortValue) (us : List TableWork) (r : Result (Unit {0}) Stop) → TookOn owner v ts w us r → Came v w
+pub on_came : (owner : ℕ) (v : PortValue) (ts : List TableWork) (w : PortValue) (us : List TableWork) (r : Result Bool Stop) → TookOn owner v ts w us r → Came v w
 on_came owner _ _ _ _ _ (fresh v t ts none) = came_self v
 on_came owner _ _ _ _ _ (settled v w t ts some a) = again_came v w owner t _ a
 on_came owner _ _ _ _ _ (taken v u w t ts f some a b) = came_trans v u w (again_came v u owner t _ a) (back_came u w f b)
@@ -44,22 +44,23 @@ on_came owner _ _ _ _ _ (stopped v w t ts stop some a) = again_came v w owner t 
 
 pub advanced_came : (owner : ℕ) (v : PortValue) (ts : List TableWork) (w : PortValue) (us : List TableWork) (r : Result Bool Stop) → Advanced owner v ts w us r → Came v w
 advanced_came owner _ _ _ _ _ (recorded v w t ts few a) = entry_came v w owner t _ a
-advanced_came owner _ _ _ _ _ (opened v u w t ts us f progress own few a b) = came_trans v u w (entry_came v u owner t _ a) (on_came owner u _ w us _ b)
+advanced_came owner _ _ _ _ _ (opened v u w t ts us f progress own done few a b) = came_trans v u w (entry_came v u owner t _ a) (on_came owner u _ w us _ b)
 advanced_came owner _ _ _ _ _ (cut_off v u w t ts us f progress own stop few a b) = came_trans v u w (entry_came v u owner t _ a) (on_came owner u _ w us _ b)
 advanced_came owner _ _ _ _ _ (unsettled v w t ts stop few a) = entry_came v w owner t _ a
 advanced_came owner _ _ _ _ _ (stopped v w t ts stop few a) = entry_came v w owner t _ a
 advanced_came owner _ _ _ _ _ (completed v u w t outer ts full a b) = came_trans v u w (live_came v u t a) (joined_came u w t outer t.recorded b)
 
-pub filled_came : (owner : ℕ) (v : PortValue) (ts : List TableWork) (w : PortValue) (us : List TableWork) (answers : List Bool) (r : Result (Unit {0}) Stop) → Filled owner v ts w us answers r → Came v w
-filled_came owner v ts _ _ _ _ begun = came_self v
-filled_came owner v ts _ _ _ _ (unasked u w us xs done answers before step off) = came_trans v u w (filled_came owner v ts u us answers (Ok tt) before) (advanced_came owner u us w xs _ step)
-filled_came owner v ts _ _ _ _ (asked u w us xs answers before step on) = came_trans v u w (filled_came owner v ts u us answers (Ok tt) before) (advanced_came owner u us w xs _ step)
-filled_came owner v ts _ _ _ _ (due u w us xs answers before step on) = came_trans v u w (filled_came owner v ts u us answers (Ok tt) before) (advanced_came owner u us w xs _ step)
-filled_came owner v ts _ _ _ _ (stopped u w us xs answers stop before step) = came_trans v u w (filled_came owner v ts u us answers (Ok tt) before) (advanced_came owner u us w xs _ step)
+pub filled_came : (owner : ℕ) (v : PortValue) (ts : List TableWork) (first : List Bool) (w : PortValue) (us : List TableWork) (answers : List Bool) (r : Result (Unit {0}) Stop) → Filled owner v ts first w us answers r → Came v w
+filled_came owner v ts first _ _ _ _ begun = came_self v
+filled_came owner v ts first _ _ _ _ (unasked u w us xs done answers before step off) = came_trans v u w (filled_came owner v ts first u us answers (Ok tt) before) (advanced_came owner u us w xs _ step)
+filled_came owner v ts first _ _ _ _ (asked u w us xs answers before step on) = came_trans v u w (filled_came owner v ts first u us answers (Ok tt) before) (advanced_came owner u us w xs _ step)
+filled_came owner v ts first _ _ _ _ (due u w us xs answers before step on) = came_trans v u w (filled_came owner v ts first u us answers (Ok tt) before) (advanced_came owner u us w xs _ step)
+filled_came owner v ts first _ _ _ _ (stopped u w us xs answers stop before step) = came_trans v u w (filled_came owner v ts first u us answers (Ok tt) before) (advanced_came owner u us w xs _ step)
 
 pub worked_came : (owner : ℕ) (v : PortValue) (t : TableWork) (w : PortValue) (us : List TableWork) (answers : List Bool) (r : Result (Unit {0}) Stop) → Worked owner v t w us answers r → Came v w
 worked_came owner v t _ _ _ _ (cut_off w us stop a) = on_came owner v (t ∷ []) w us _ a
-worked_came owner v t _ _ _ _ (filled u w us xs answers answer a b) = came_trans v u w (on_came owner v (t ∷ []) u us _ a) (filled_came owner u us w xs answers answer b)
+worked_came owner v t _ _ _ _ (due w us a on) = on_came owner v (t ∷ []) w us _ a
+worked_came owner v t _ _ _ _ (filled u w us xs done answers answer a b) = came_trans v u w (on_came owner v (t ∷ []) u us _ a) (filled_came owner u us _ w xs answers answer b)
 
 -- ---- tables that are left
 partial_came : (v w : PortValue) (t : TableWork) (kept : Bool) → LeftPartial v w t kept → Came v w
