@@ -5,7 +5,7 @@ use Rattle.std.proofs.lemmas.Bool.Decides.{nat_tests}
 use Rattle.xp_words.specs.KindWords.{kind_fields, kind_read}
 use Rattle.xp_words.specs.declared.kind.KindWord.{KindWord}
 use Rattle.xp_words.specs.declared.place.Place.TheVariants.{Kind}
-use Rattle.xp_words.specs.declared.reply.Pause.TheVariants.{Busy}
+use Rattle.xp_words.specs.declared.reply.Pause.TheVariants.{Busy, Due}
 use Rattle.xp_words.specs.declared.reply.Stop.{Stop}
 use Rattle.xp_words.specs.declared.reply.Stop.TheVariants.{Paused, Refused}
 use Rattle.xp_board.specs.KindSteps.{Dead, InWork, Live, Partial, form_of}
@@ -34,6 +34,9 @@ pub end_uncounted : (e : Stop) → IsReleaseEnd e → IsUncounted e
 end_uncounted (Paused x) is = tt
 end_uncounted (Refused x) is = absurd is
 
+pub due_ends : (e : Stop) → e ≡ Paused Due → IsReleaseEnd e
+due_ends e is = rw is tt
+
 same_frame : (g f : ℕ) → IsTrue (g == f) → g ≡ f
 same_frame g f at = grind (arith, nat_tests)
 
@@ -60,9 +63,9 @@ module _ (u v : PortValue) (which : OldWord) (f word : ℕ) (t : TookOld u v whi
     released_stop e end stops =
         stops_later u v w (of_settle owner pages answer) (of_release f owner pages answer) e (end_uncounted e end) inside (took_came u v which f word t owner pages (is_due_answer answer)) stops
 
-  pub released_stops : (w : PortValue) (answer : Result (Unit {0}) Stop) → Came v w → IfErr answer IsReleaseEnd → IfErr answer (λ e. Stops v w (of_release f owner pages answer) e) → IfErr answer (λ e. Stops u w (of_settle owner pages answer) e)
+  pub released_stops : (w : PortValue) (answer : Result (Unit {0}) Stop) → Came v w → IfErr answer (λ e. e ≡ Paused Due) → IfErr answer (λ e. Stops v w (of_release f owner pages answer) e) → IfErr answer (λ e. Stops u w (of_settle owner pages answer) e)
   released_stops w (Ok done) came ends stops = tt
-  released_stops w (Err e) came ends stops = released_stop w (Err e) came e ends stops
+  released_stops w (Err e) came ends stops = released_stop w (Err e) came e (due_ends e ends) stops
 
   -- ---- it is in another vCPU's hand
   pub busy_stops : (kind_fields word).validated ≡ false → (kind_fields word).partial ≡ false → Stops u v (of_settle {A = Unit {0}} owner pages (Err (Paused (Busy f word)))) (Paused (Busy f word))

@@ -32,6 +32,7 @@ use Rattle.frame_types.specs.Taking.{MayDropPlain, gave_type}
 use Rattle.frame_types.proofs.Lowered.{closed_is, closed_kind, closed_unmarked, type_closed, type_counted}
 use Rattle.partial_state.specs.Levels.{level_type}
 use Rattle.level_release.specs.Course.{closing_table}
+use Rattle.table_releases.specs.Tops.{IsSettledTop}
 use Rattle.level_release.specs.Holding.{AreTables, Empties, HoldsLive, IsMadeSince, IsTableWork, LeavesEmptied, LeavesReleased}
 use Rattle.level_release.proofs.Handing.{emptied_leaves, now_beside}
 use Rattle.level_release.proofs.Owning.{known_by_ref, look_tells, made_later}
@@ -101,6 +102,9 @@ module _ (v : PortValue) (f : ℕ) (kind : PageType) (holds : HoldsLive v f kind
 
       one_work : x.holdings.works ≡ closing ∷ []
       one_work = ap (λ (q : PortValue). q.holdings.works) looked_hand ∙ ap (λ ws. closing ∷ ws) holds.works
+
+      pub closed_settled : IsSettledTop x.holdings
+      closed_settled work others are = let both : work ∷ others ≡ closing ∷ [] = sym are ∙ one_work in let one : closing ≡ work = cc in subst (λ (y : Work). y.unsettled ≡ None) one refl
 
       same_post : x.post ≡ v.post
       same_post = ap (λ (q : PortValue). q.post) looked_hand

@@ -60,6 +60,13 @@ tables_done z made g n [] (e ∷ es) are = absurd are
 tables_done z made g n (t ∷ ts) [] are = absurd are
 tables_done z made g n (t ∷ ts) (e ∷ es) are = (are.0, around_done t e g n are.1, are.2)
 
+-- around another one nothing is noted as unsettled
+pub around_settled : (z : Sizes) (made : ℕ) (g : TableWork) (ts : List TableWork) (es : List Work) → AreTables z made (Some g) ts es → (top : Work) (others : List Work) → es ≡ top ∷ others → top.unsettled ≡ None
+around_settled z made g [] [] are top others is = absurd cc
+around_settled z made g [] (e ∷ es) are top others is = absurd are
+around_settled z made g (t ∷ ts) [] are top others is = absurd are
+around_settled z made g (t ∷ ts) (e ∷ es) are top others is = let same : e ≡ top = cc in subst (λ (y : Work). y.unsettled ≡ None) same are.1.settled
+
 -- ---- references
 pub record TopRef (f : ℕ) (P : List Reference → Type 0) (xs : List Reference) : Type 0 where
   pub ref : Reference

@@ -1,5 +1,5 @@
 -- The last recorded entry of the innermost table is looked at, or given back.
-use Rattle.std.proofs.Common.{◌≡◌, ℕ, ◌+◌, ◌≤◌, if◌then◌else◌, List, ◌∷◌, length, Some, None, refl, ap, ◌∙◌, arith}
+use Rattle.std.proofs.Common.{◌≡◌, ℕ, ◌+◌, ◌≤◌, if◌then◌else◌, List, ◌∷◌, length, Some, None, refl, sym, ap, ◌∙◌, subst, arith}
 use Rattle.xp_words.specs.Places.{Sizes, sizes_of}
 use Rattle.xp_board.specs.After.{learned_cell, learned_last, learned_work}
 use Rattle.xp_board.specs.Hands.{changed_work}
@@ -14,7 +14,7 @@ use Rattle.flush_words.proofs.Lasting.{came_longer}
 use Rattle.flush_waits.proofs.Growing.{came_grows, knows_later}
 use Rattle.table_entries.proofs.HandReady.{unmarked_learns}
 use Rattle.partial_state.specs.declared.stack.TableWork.{TableWork}
-use Rattle.table_releases.specs.Tops.{shed_once}
+use Rattle.table_releases.specs.Tops.{IsSettledTop, shed_once}
 use Rattle.level_release.specs.Course.{one_more}
 use Rattle.level_release.specs.Holding.{Empties, IsTableWork}
 use Rattle.level_release.proofs.Hands.{hands_by, tables_done, tables_later, typed_later}
@@ -86,3 +86,9 @@ module _ (h : Holdings) (v : PortValue) (t : TableWork) (ts : List TableWork) (s
         let e = top h v t ts s in
         stands_top (t.done + 1) (shed_work i word e.work) w (omega (arith, next)) (shed_is (sizes_of v.post.machine) (length v.holdings.steps) i word t e.work next e.is)
         (holds ∙ ap (λ (k : Holdings). still (record v { holdings = k })) shed_hand) came
+
+    pub given_settled : (w : PortValue) → Holds v w (shed_once t.frame i word v.holdings) → IsSettledTop w.holdings
+    given_settled w holds work others are =
+        let both : work ∷ others ≡ shed_work i word (top h v t ts s).work ∷ (top h v t ts s).others = sym are ∙ (ap (λ (q : PortValue). q.holdings.works) holds ∙ ap (λ (k : Holdings). k.works) shed_hand) in
+        let one : shed_work i word (top h v t ts s).work ≡ work = cc in
+        subst (λ (y : Work). y.unsettled ≡ None) one refl

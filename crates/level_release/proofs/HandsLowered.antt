@@ -1,5 +1,5 @@
 -- The call at the last recorded entry of the innermost table: what it asks of the hand, and what is released then.
-use Rattle.std.proofs.Common.{◌≡◌, ◌≢◌, ℕ, zero, suc, ◌+◌, ◌-◌, ◌≤◌, ◌==◌, false, List, [], ◌∷◌, ◌++◌, Option, Some, None, Result, refl, sym, ap, ◌∙◌, subst, arith, inl, inr}
+use Rattle.std.proofs.Common.{◌≡◌, ◌≢◌, ℕ, zero, suc, ◌+◌, ◌-◌, ◌≤◌, ◌==◌, false, List, [], ◌∷◌, ◌++◌, Option, Some, None, Bool, Result, Ok, refl, sym, ap, ◌∙◌, subst, arith, inl, inr}
 use Rattle.std.proofs.lemmas.Bool.{cases_eq}
 use Rattle.xp_words.specs.Entries.{below}
 use Rattle.xp_words.specs.KindWords.{kind_fields}
@@ -24,14 +24,14 @@ use Rattle.partial_state.specs.Levels.{level_type}
 use Rattle.partial_state.specs.Stacks.{IsStack, advanced}
 use Rattle.partial_state.specs.declared.stack.TableWork.{TableWork}
 use Rattle.table_releases.specs.Found.{ReleasedBy, ReleasesFound}
-use Rattle.table_releases.specs.Tops.{LeavesReleased, OwnsReleased, StaysRecorded}
+use Rattle.table_releases.specs.Tops.{IsSettledTop, IsShedLive, LeavesReleased, OwnsReleased, StaysRecorded}
 use Rattle.table_releases.specs.declared.entries.Released.{Released}
 use Rattle.table_releases.specs.declared.entries.Released.TheVariants.{Given, Opened}
 use Rattle.level_release.specs.Course.{table_in}
 use Rattle.level_release.specs.Holding.{AreTables, Empties}
 use Rattle.level_release.proofs.HandsApart.{FirstFound, does_first, list_some}
-use Rattle.level_release.proofs.HandsGiven.{given_stands, stays_stands}
-use Rattle.level_release.proofs.HandsOpened.{opened_stands}
+use Rattle.level_release.proofs.HandsGiven.{given_settled, given_stands, stays_stands}
+use Rattle.level_release.proofs.HandsOpened.{opened_settled, opened_stands}
 
 -- ---- each table is of a level above the innermost one's entries
 record LevelOf (least : ℕ) (e : Work) : Type 0 where
@@ -122,3 +122,14 @@ module _ (h : Holdings) (v w : PortValue) (t : TableWork) (stack ts : List Table
         subst (λ xs. Empties h w xs) (sym (pushed ∙ ap (λ xs. table_in t g recorded closing ∷ xs) (goes_on ∙ ap advanced are)))
         (opened_stands h v t ts now (lower_first v w t.frame (511 - t.done) kind answer found) (511 - t.done) all g recorded closing w opened (lower_came v w t.frame (511 - t.done) kind answer found)
         (subst (λ (r : Released). OwnsReleased v w t.frame r) is owns))
+
+    -- ---- what is noted as unsettled then
+    pub given_clear : a ≡ Given → IsSettledTop w.holdings
+    given_clear is =
+        let given = subst (λ (r : Released). LeavesReleased v w t.frame kind (511 - t.done) r) is leaves in
+        given_settled h v t ts now (lower_first v w t.frame (511 - t.done) kind answer found) (511 - t.done) given.0 w given.1
+
+    pub opened_clear : (g recorded : ℕ) (closing : Bool) → a ≡ Opened g recorded closing → IsShedLive (Ok a) → IsSettledTop w.holdings
+    opened_clear g recorded closing is live =
+        let opened = subst (λ (r : Released). LeavesReleased v w t.frame (level_type t.level) (511 - t.done) r) is (subst (λ k. LeavesReleased v w t.frame k (511 - t.done) a) is_kind leaves) in
+        opened_settled h v t ts now (lower_first v w t.frame (511 - t.done) kind answer found) (511 - t.done) all g recorded closing w opened (subst (λ (r : Released). IsShedLive (Ok r)) is live)

@@ -1,5 +1,5 @@
 -- The frame that the last recorded entry of the innermost table names is to be released first: it is the innermost table then.
-use Rattle.std.proofs.Common.{◌≡◌, ℕ, suc, ◌+◌, ◌-◌, ◌<◌, ◌≤◌, not, Bool, true, false, List, ◌∷◌, length, Some, IsTrue, refl, sym, ap, ◌∙◌, subst, arith, inl, inr}
+use Rattle.std.proofs.Common.{◌≡◌, ℕ, suc, ◌+◌, ◌-◌, ◌<◌, ◌≤◌, not, Bool, true, false, List, ◌∷◌, length, None, Some, IsTrue, refl, sym, ap, ◌∙◌, subst, arith, inl, inr}
 use Rattle.std.proofs.lemmas.Bool.{cases_eq}
 use Rattle.xp_words.specs.Entries.{below}
 use Rattle.xp_words.specs.PageTypes.{is_table}
@@ -18,7 +18,7 @@ use Rattle.partial_state.proofs.LevelFacts.{level_type-below}
 use Rattle.partial_state.specs.Levels.{level_type}
 use Rattle.partial_state.specs.Stacks.{IsTable, IsUnder}
 use Rattle.partial_state.specs.declared.stack.TableWork.{TableWork}
-use Rattle.table_releases.specs.Tops.{IsSince, OwnsReleased, Reopens}
+use Rattle.table_releases.specs.Tops.{IsSettledTop, IsSince, OwnsReleased, Reopens, shed_once}
 use Rattle.table_releases.specs.declared.entries.Released.TheVariants.{Opened}
 use Rattle.level_release.specs.Course.{one_more, table_in}
 use Rattle.level_release.specs.Holding.{AreRefs, AreTyped, Empties, IsAround, IsTableWork, RefFor, TypedFor}
@@ -160,3 +160,10 @@ module _ (h : Holdings) (v : PortValue) (t : TableWork) (ts : List TableWork) (s
             (r.since is one v.holdings.typed (ap (λ (q : PortValue). q.holdings.typed) holds)) refl
             (typed_later (length v.holdings.steps) (length w.holdings.steps) (t ∷ ts) v.holdings.typed (came_longer v w came) s.types))
             (λ f. still_same (λ (e : Reference). e.frame) f v.holdings.refs v.holdings.refs refl) (λ f. still_more (λ (e : TypedReference). e.frame) f one v.holdings.typed (one ∷ v.holdings.typed) refl)
+
+  pub opened_settled : closing ≡ true → IsSettledTop w.holdings
+  opened_settled is work others are =
+      let works = ap (λ (q : PortValue). q.holdings.works) r.hand ∙ ap (λ (k : Holdings). k.works) (r.holding.untyped is).2 in
+      let both : work ∷ others ≡ r.work ∷ (shed_once t.frame i r.word v.holdings).works = sym are ∙ works in
+      let one : r.work ≡ work = cc in
+      subst (λ (y : Work). y.unsettled ≡ None) one (r.settled is)

@@ -1,7 +1,7 @@
 -- Tables that are released, one in the other, as what the vCPU holds for them. `done`: so many of a table's 512 entries are given back
 -- already, or were never recorded. `own`: the table is in work, with its type count in hand; else it is closing, with an untyped
 -- reference in hand.
-use Rattle.std.specs.Prelude.{◌≡◌, ℕ, ◌+◌, ◌<◌, ◌≤◌, Bool, true, false, List, [], ◌∷◌, length, Option, Some, None, IsTrue, Result, Ok, Err}
+use Rattle.std.specs.Prelude.{◌≡◌, ℕ, ◌+◌, ◌<◌, ◌≤◌, Bool, true, false, List, [], ◌∷◌, length, Option, Some, None, IsTrue, Result, Ok, Err, IfErr}
 use Rattle.xp_words.specs.Entries.{demand_at}
 use Rattle.xp_words.specs.KindWords.{kind_fields}
 use Rattle.xp_words.specs.Places.{Sizes, sizes_of}
@@ -21,7 +21,7 @@ use Rattle.step_maker.specs.Holds.{Holds, still}
 use Rattle.partial_state.specs.Levels.{level_type}
 use Rattle.partial_state.specs.Stacks.{IsStack}
 use Rattle.partial_state.specs.declared.stack.TableWork.{TableWork}
-use Rattle.table_releases.specs.Tops.{IsSince}
+use Rattle.table_releases.specs.Tops.{IsSettledTop, IsSince}
 
 -- ---- works
 pub record IsTableWork (z : Sizes) (made : ℕ) (t : TableWork) (e : Work) : Type 0 where
@@ -100,6 +100,10 @@ IsReleasing w ts = (h : Holdings) × Empties h w ts
 -- whatever the port holds beside them, these tables are being released now
 abbrev pub StaysEmptying : PortValue → PortValue → List TableWork → List TableWork → Type 0
 StaysEmptying u w ts us = (h : Holdings) → Empties h u ts → Empties h w us
+
+-- where no entry of the innermost one was noted as unsettled, nothing stops it, and of the innermost one then none is
+abbrev pub StaysSettled : {A : Type 0} → PortValue → PortValue → Result A Stop → Type 0
+StaysSettled u w answer = IsSettledTop u.holdings → IfErr answer (λ e. ⊥) × IsSettledTop w.holdings
 
 abbrev pub outermost_frame : List TableWork → ℕ
 outermost_frame [] = 0

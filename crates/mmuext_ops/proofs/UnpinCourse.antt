@@ -1,10 +1,10 @@
 -- The course of an unpin, over its calls, with the answers of its gate.
-use Rattle.std.proofs.Common.{◌≡◌, ◌≢◌, ℕ, Bool, true, false, [], Result, Ok, Err, refl, sym, subst}
+use Rattle.std.proofs.Common.{◌≡◌, ◌≢◌, ℕ, Bool, true, false, [], Result, Ok, Err, IfErr, refl, sym, subst}
 use Rattle.xp_words.specs.KindWords.{kind_fields}
 use Rattle.xp_words.specs.Places.{number, sizes_of}
 use Rattle.xp_words.specs.declared.kind.PageType.{PageType}
 use Rattle.xp_words.specs.declared.place.Place.TheVariants.{Kind}
-use Rattle.xp_words.specs.declared.reply.Pause.TheVariants.{Lost}
+use Rattle.xp_words.specs.declared.reply.Pause.TheVariants.{Due, Lost}
 use Rattle.xp_words.specs.declared.reply.Refusal.TheVariants.{NotPinned}
 use Rattle.xp_words.specs.declared.reply.Stop.{Stop}
 use Rattle.xp_words.specs.declared.reply.Stop.TheVariants.{Paused, Refused}
@@ -41,12 +41,12 @@ module _ (v w : PortValue) (d f : ℕ) (says : ℕ → Bool) (asks agreed : ℕ)
 
 -- it is released
 pub released_course : (v a b c e w : PortValue) (d f g x : ℕ) (kind : PageType) (answer : Result (Unit {0}) Stop) (says : ℕ → Bool) (before after agreed agrees : ℕ) → GotRef v a f d (Ok f) → Saw a b f x → is_pinned x ≡ true →
-    TakesPinOff b c f x x → GaveRef c e f → g ≡ f → (kind_fields x).kind ≡ kind → ReleasesBy e w g kind says before after agreed agrees answer → UnpinsBy v w d f says before after agreed agrees (Ok tt)
-released_course v a b c e w d f g x kind answer says before after agreed agrees got saw on takes gave at is by =
+    TakesPinOff b c f x x → GaveRef c e f → g ≡ f → (kind_fields x).kind ≡ kind → ReleasesBy e w g kind says before after agreed agrees answer → IfErr answer (λ stop. stop ≡ Paused Due) → UnpinsBy v w d f says before after agreed agrees (Ok tt)
+released_course v a b c e w d f g x kind answer says before after agreed agrees got saw on takes gave at is by due =
     record {
       answers = by.answers;
       course = course.released a b c e x by.answers answer got saw on takes gave
-          (subst (λ t. WasReleased e f t w by.answers answer) (sym is) (subst (λ j. WasReleased e j kind w by.answers answer) at by.course));
+          (subst (λ t. WasReleased e f t w by.answers answer) (sym is) (subst (λ j. WasReleased e j kind w by.answers answer) at by.course)) due;
       gate = by.gate;
       due = not_due false by.answers refl;
     }

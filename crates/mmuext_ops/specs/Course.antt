@@ -1,9 +1,9 @@
 -- The course of a pin and of an unpin: the calls that each makes, from port to port, and the answers of the gate.
-use Rattle.std.specs.Prelude.{◌≡◌, ◌≢◌, ℕ, Bool, true, false, List, [], None, Result, Ok, Err}
+use Rattle.std.specs.Prelude.{◌≡◌, ◌≢◌, ℕ, Bool, true, false, List, [], None, Result, Ok, Err, IfErr}
 use Rattle.xp_words.specs.KindWords.{kind_fields, kind_write}
 use Rattle.xp_words.specs.Places.{number, sizes_of}
 use Rattle.xp_words.specs.declared.place.Place.TheVariants.{Kind}
-use Rattle.xp_words.specs.declared.reply.Pause.TheVariants.{Lost}
+use Rattle.xp_words.specs.declared.reply.Pause.TheVariants.{Due, Lost}
 use Rattle.xp_words.specs.declared.reply.Refusal.TheVariants as refusals
 use Rattle.xp_words.specs.declared.reply.Stop.{Stop}
 use Rattle.xp_words.specs.declared.reply.Stop.TheVariants.{Refused, Paused}
@@ -75,9 +75,9 @@ pub data Unpinned (v w : PortValue) (d f : ℕ) : List Bool → Result (Unit {0}
       Unpinned v w d f [] (Err (Refused (refusals.NotPinned found)))
   lost : (a b c : PortValue) (x found : ℕ) → GotRef v a f d (Ok f) → Saw a b f x → is_pinned x ≡ true → TakesPinOff b c f x found → found ≢ x → is_pinned found ≡ true → GaveRef c w f →
       Unpinned v w d f [] (Err (Paused (Lost (number (sizes_of v.post.machine) (Kind f)) x found)))
-  -- whatever the release answers
+  -- the release is done, or paused for the gate
   released : (a b c e : PortValue) (x : ℕ) (answers : List Bool) (answer : Result (Unit {0}) Stop) → GotRef v a f d (Ok f) → Saw a b f x → is_pinned x ≡ true → TakesPinOff b c f x x →
-      GaveRef c e f → WasReleased e f (kind_fields x).kind w answers answer → Unpinned v w d f answers (Ok tt)
+      GaveRef c e f → WasReleased e f (kind_fields x).kind w answers answer → IfErr answer (λ stop. stop ≡ Paused Due) → Unpinned v w d f answers (Ok tt)
 
 -- ---- with a gate
 -- there is such a course with the gate's answers; where it is paused for the gate, that said yes last

@@ -1,5 +1,5 @@
 -- The elements of `mmuext_op`: what each asks for, what a guest sees of it, and what it leaves in hand.
-use Rattle.std.specs.Prelude.{◌≡◌, ◌⊎◌, ◌==◌, ℕ, ◌+◌, nat_lt, if◌then◌else◌, Bool, true, false, List, [], ◌∷◌, ◌++◌, Some, None, Result, Ok, Err}
+use Rattle.std.specs.Prelude.{◌≡◌, ◌⊎◌, ◌==◌, ℕ, ◌+◌, nat_lt, if◌then◌else◌, Bool, true, false, List, [], ◌∷◌, Some, None, Result, Ok, Err}
 use Rattle.xp_words.specs.Machine.{Machine}
 use Rattle.xp_words.specs.declared.ops.ExtOp.{ExtOp}
 use Rattle.xp_words.specs.declared.place.Place.TheVariants.{Kind}
@@ -48,12 +48,11 @@ element_deeds n Unknown (Ok done) = []
 element_deeds n _ (Err e) = missed n e
 
 -- The answer to an element tells its deeds, but for an exchange that it hides: one that found another word, for which a pin or an unpin
--- is refused at once; or one that the release of an unpin lost, which is done all the same.
+-- is refused at once.
 pub data HasDeeds (n : Machine) : Element → Result (Unit {0}) Stop → List Deed → Type 0 where
   told : (e : Element) (answer : Result (Unit {0}) Stop) → HasDeeds n e answer (element_deeds n e answer)
   raced_pin : (f level found : ℕ) → HasDeeds n (Pin f level) (Err (Refused (refusals.AlreadyPinned found))) (Misses (Kind f) ∷ [])
   raced_unpin : (f found : ℕ) → HasDeeds n (Unpin f) (Err (Refused (refusals.NotPinned found))) (Misses (Kind f) ∷ [])
-  lost_release : (f place expected found : ℕ) → HasDeeds n (Unpin f) (Ok tt) (missed n (Paused (Lost place expected found)) ++ element_deeds n (Unpin f) (Ok tt))
 
 -- the steps serve what the element asks, and a guest sees these deeds of them
 abbrev pub ServesElement : PortValue → PortValue → ℕ → Element → Result (Unit {0}) Stop → Type 0

@@ -156,7 +156,7 @@ returns-in-Ok-release-clause-serves g c =
     let k = c.read_kind-kind.result in
     released_serves v r w c.args.f c.args.domain c.in_ok-frame.frame c.release.result c.in_ok-frame.ensures.frame.0
     (unpinned_serves v c.args.f c.args.domain a b c.in_ok-frame.frame x c.in_ok-frame.ensures.frame.0 c.in_ok-frame.ensures.hand c.look_kind-found.ensures.moves c.look_kind-found.ensures.hand c.in_ok-frame.ensures.frame.1 k c.read_kind-kind.ensures (serves_came v a (of_frame c.args.f c.args.domain None) [] c.in_ok-frame.ensures.serves) q (kind_write k) c.in-Ok.ensures.moves (is_on k.pinned c.if-not-kind.false) (looked v a b c.args.f c.args.domain c.in_ok-frame.frame x c.in_ok-frame.ensures.frame.0 c.in_ok-frame.ensures.hand c.look_kind-found.ensures.moves c.look_kind-found.ensures.hand (request_of c.args.domain (Unpin c.args.f) (Ok tt)) (asks v c.args.f c.args.domain) c.in_ok-frame.ensures.serves) r (written v a b c.args.f c.args.domain c.in_ok-frame.frame x c.in_ok-frame.ensures.frame.0 c.in_ok-frame.ensures.hand c.look_kind-found.ensures.moves c.look_kind-found.ensures.hand c.in_ok-frame.ensures.frame.1 k c.read_kind-kind.ensures) c.put_ref-in-Ok.ensures.serves)
-    (c.release.ensures.serves c.args.domain c.args.domain)
+    (c.release.ensures.serves c.args.domain c.args.domain) c.release.ensures.kinds
 
 pub returns-in-Ok-release-clause-hand : goal.returns-in-Ok-release-clause-hand
 returns-in-Ok-release-clause-hand g c =
@@ -192,7 +192,7 @@ returns-in-Ok-release-clause-course g c =
     let k = c.read_kind-kind.result in
     released_course v a b q r w c.args.domain c.args.f c.in_ok-frame.frame x k.kind c.release.result _ _ _ _ _ (record { found = c.in_ok-frame.ensures.gets; plain = c.in_ok-frame.ensures.plain; stops = tt }) (look_there v a b c.args.f c.args.domain c.in_ok-frame.frame x c.in_ok-frame.ensures.frame.0 c.in_ok-frame.ensures.hand c.look_kind-found.ensures.moves c.look_kind-found.ensures.hand) (ap (λ (y : KindWord). y.pinned) (fields v a b c.args.f c.args.domain c.in_ok-frame.frame x c.in_ok-frame.ensures.frame.0 c.in_ok-frame.ensures.hand c.look_kind-found.ensures.moves c.look_kind-found.ensures.hand c.in_ok-frame.ensures.frame.1 k c.read_kind-kind.ensures) ∙ (is_on k.pinned c.if-not-kind.false))
     (subst (λ y. TakesPinOff b q c.args.f x y) (written v a b c.args.f c.args.domain c.in_ok-frame.frame x c.in_ok-frame.ensures.frame.0 c.in_ok-frame.ensures.hand c.look_kind-found.ensures.moves c.look_kind-found.ensures.hand c.in_ok-frame.ensures.frame.1 k c.read_kind-kind.ensures) (takes_off v c.args.f c.args.domain a b c.in_ok-frame.frame x c.in_ok-frame.ensures.frame.0 c.in_ok-frame.ensures.hand c.look_kind-found.ensures.moves c.look_kind-found.ensures.hand c.in_ok-frame.ensures.frame.1 k c.read_kind-kind.ensures (serves_came v a (of_frame c.args.f c.args.domain None) [] c.in_ok-frame.ensures.serves) q (kind_write k) c.in-Ok.ensures.moves))
-    (gave_ref q r c.args.f c.in_ok-frame.frame c.in_ok-frame.ensures.frame.0 c.put_ref-in-Ok.ensures.puts c.put_ref-in-Ok.ensures.plain) c.in_ok-frame.ensures.frame.0 (ap (λ (y : KindWord). y.kind) (fields v a b c.args.f c.args.domain c.in_ok-frame.frame x c.in_ok-frame.ensures.frame.0 c.in_ok-frame.ensures.hand c.look_kind-found.ensures.moves c.look_kind-found.ensures.hand c.in_ok-frame.ensures.frame.1 k c.read_kind-kind.ensures)) c.release.ensures.course
+    (gave_ref q r c.args.f c.in_ok-frame.frame c.in_ok-frame.ensures.frame.0 c.put_ref-in-Ok.ensures.puts c.put_ref-in-Ok.ensures.plain) c.in_ok-frame.ensures.frame.0 (ap (λ (y : KindWord). y.kind) (fields v a b c.args.f c.args.domain c.in_ok-frame.frame x c.in_ok-frame.ensures.frame.0 c.in_ok-frame.ensures.hand c.look_kind-found.ensures.moves c.look_kind-found.ensures.hand c.in_ok-frame.ensures.frame.1 k c.read_kind-kind.ensures)) c.release.ensures.course c.release.ensures.kinds
 
 -- ---- its release is paused
 pub returns-in-Ok-release-2-clause-serves : goal.returns-in-Ok-release-2-clause-serves
@@ -207,7 +207,7 @@ returns-in-Ok-release-2-clause-serves g c =
     let k = c.read_kind-kind.result in
     released_serves v r w c.args.f c.args.domain c.in_ok-frame.frame c.release.result c.in_ok-frame.ensures.frame.0
     (unpinned_serves v c.args.f c.args.domain a b c.in_ok-frame.frame x c.in_ok-frame.ensures.frame.0 c.in_ok-frame.ensures.hand c.look_kind-found.ensures.moves c.look_kind-found.ensures.hand c.in_ok-frame.ensures.frame.1 k c.read_kind-kind.ensures (serves_came v a (of_frame c.args.f c.args.domain None) [] c.in_ok-frame.ensures.serves) q (kind_write k) c.in-Ok.ensures.moves (is_on k.pinned c.if-not-kind.false) (looked v a b c.args.f c.args.domain c.in_ok-frame.frame x c.in_ok-frame.ensures.frame.0 c.in_ok-frame.ensures.hand c.look_kind-found.ensures.moves c.look_kind-found.ensures.hand (request_of c.args.domain (Unpin c.args.f) (Ok tt)) (asks v c.args.f c.args.domain) c.in_ok-frame.ensures.serves) r (written v a b c.args.f c.args.domain c.in_ok-frame.frame x c.in_ok-frame.ensures.frame.0 c.in_ok-frame.ensures.hand c.look_kind-found.ensures.moves c.look_kind-found.ensures.hand c.in_ok-frame.ensures.frame.1 k c.read_kind-kind.ensures) c.put_ref-in-Ok.ensures.serves)
-    (c.release.ensures.serves c.args.domain c.args.domain)
+    (c.release.ensures.serves c.args.domain c.args.domain) c.release.ensures.kinds
 
 pub returns-in-Ok-release-2-clause-hand : goal.returns-in-Ok-release-2-clause-hand
 returns-in-Ok-release-2-clause-hand g c =
@@ -243,7 +243,7 @@ returns-in-Ok-release-2-clause-course g c =
     let k = c.read_kind-kind.result in
     released_course v a b q r w c.args.domain c.args.f c.in_ok-frame.frame x k.kind c.release.result _ _ _ _ _ (record { found = c.in_ok-frame.ensures.gets; plain = c.in_ok-frame.ensures.plain; stops = tt }) (look_there v a b c.args.f c.args.domain c.in_ok-frame.frame x c.in_ok-frame.ensures.frame.0 c.in_ok-frame.ensures.hand c.look_kind-found.ensures.moves c.look_kind-found.ensures.hand) (ap (λ (y : KindWord). y.pinned) (fields v a b c.args.f c.args.domain c.in_ok-frame.frame x c.in_ok-frame.ensures.frame.0 c.in_ok-frame.ensures.hand c.look_kind-found.ensures.moves c.look_kind-found.ensures.hand c.in_ok-frame.ensures.frame.1 k c.read_kind-kind.ensures) ∙ (is_on k.pinned c.if-not-kind.false))
     (subst (λ y. TakesPinOff b q c.args.f x y) (written v a b c.args.f c.args.domain c.in_ok-frame.frame x c.in_ok-frame.ensures.frame.0 c.in_ok-frame.ensures.hand c.look_kind-found.ensures.moves c.look_kind-found.ensures.hand c.in_ok-frame.ensures.frame.1 k c.read_kind-kind.ensures) (takes_off v c.args.f c.args.domain a b c.in_ok-frame.frame x c.in_ok-frame.ensures.frame.0 c.in_ok-frame.ensures.hand c.look_kind-found.ensures.moves c.look_kind-found.ensures.hand c.in_ok-frame.ensures.frame.1 k c.read_kind-kind.ensures (serves_came v a (of_frame c.args.f c.args.domain None) [] c.in_ok-frame.ensures.serves) q (kind_write k) c.in-Ok.ensures.moves))
-    (gave_ref q r c.args.f c.in_ok-frame.frame c.in_ok-frame.ensures.frame.0 c.put_ref-in-Ok.ensures.puts c.put_ref-in-Ok.ensures.plain) c.in_ok-frame.ensures.frame.0 (ap (λ (y : KindWord). y.kind) (fields v a b c.args.f c.args.domain c.in_ok-frame.frame x c.in_ok-frame.ensures.frame.0 c.in_ok-frame.ensures.hand c.look_kind-found.ensures.moves c.look_kind-found.ensures.hand c.in_ok-frame.ensures.frame.1 k c.read_kind-kind.ensures)) c.release.ensures.course
+    (gave_ref q r c.args.f c.in_ok-frame.frame c.in_ok-frame.ensures.frame.0 c.put_ref-in-Ok.ensures.puts c.put_ref-in-Ok.ensures.plain) c.in_ok-frame.ensures.frame.0 (ap (λ (y : KindWord). y.kind) (fields v a b c.args.f c.args.domain c.in_ok-frame.frame x c.in_ok-frame.ensures.frame.0 c.in_ok-frame.ensures.hand c.look_kind-found.ensures.moves c.look_kind-found.ensures.hand c.in_ok-frame.ensures.frame.1 k c.read_kind-kind.ensures)) c.release.ensures.course c.release.ensures.kinds
 
 -- ---- it found another word
 pub read_kind-requires : goal.read_kind-requires
