@@ -128,7 +128,7 @@ fn exchange<P: Port>(port: &mut P, frame: u32, expected: u64) -> Option<Result<(
         allocated,
         count,
     };
-    Some(raise_refs(port, frame, from))
+    Some(raise_refs(port, frame, from, expected))
 }
 
 // The own ask as a turn of vCPU 0 begins, the clock before and as its answer ends, and a frame's kind word.

@@ -162,13 +162,14 @@ fn count_more<P: Port>(port: &mut P, f: u64, domain: u16) -> Option<u64>
     let Ok(again) = get_ref(port, f, domain) else {
         return None;
     };
-    let Some(kind) = KindWord::read(look_kind(port, again)) else {
+    let word = look_kind(port, again);
+    let Some(kind) = KindWord::read(word) else {
         return None;
     };
     if !kind.validated || kind.number == 0 || kind.number >= u64::from(port.layout().limit) {
         return None;
     }
-    if count_type(port, again, kind).is_err() {
+    if count_type(port, again, kind, word).is_err() {
         return None;
     }
     let Some(counted) = KindWord::read(look_kind(port, again)) else {
