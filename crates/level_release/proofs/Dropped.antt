@@ -33,7 +33,7 @@ use Rattle.frame_types.proofs.Lowered.{closed_is, closed_kind, closed_unmarked, 
 use Rattle.partial_state.specs.Levels.{level_type}
 use Rattle.level_release.specs.Course.{closing_table}
 use Rattle.table_releases.specs.Tops.{IsSettledTop}
-use Rattle.level_release.specs.Holding.{AreTables, Empties, HoldsLive, IsMadeSince, IsTableWork, LeavesEmptied, LeavesReleased}
+use Rattle.level_release.specs.Holding.{AreInRelease, Empties, HoldsLive, IsMadeSince, IsReleasedWork, LeavesEmptied, LeavesUnheld}
 use Rattle.level_release.proofs.Handing.{emptied_leaves, now_beside}
 use Rattle.level_release.proofs.Owning.{known_by_ref, look_tells, made_later}
 
@@ -130,7 +130,7 @@ module _ (v : PortValue) (f : ℕ) (kind : PageType) (holds : HoldsLive v f kind
           )
 
       module _ (low : 1 ≤ level) (high : level ≤ 4) (table : is_table kind ≡ true) (inside : f < v.post.machine.frames) where
-        closing_work : IsTableWork (sizes_of x.post.machine) (length x.holdings.steps) (closing_table f level) closing
+        closing_work : IsReleasedWork (sizes_of x.post.machine) (length x.holdings.steps) (closing_table f level) closing
         closing_work =
             let all = all_recorded table in
             let since = closing_since in
@@ -154,7 +154,7 @@ module _ (v : PortValue) (f : ℕ) (kind : PageType) (holds : HoldsLive v f kind
               typed = refl;
               looking = holds.looking;
               stack = (record { low = low; high = high; done = omega arith }, tt, tt);
-              tables = subst (λ ws. AreTables (sizes_of x.post.machine) (length x.holdings.steps) None (closing_table f level ∷ []) ws) (sym one_work) (closing_work, tt, tt);
+              tables = subst (λ ws. AreInRelease (sizes_of x.post.machine) (length x.holdings.steps) None (closing_table f level ∷ []) ws) (sym one_work) (closing_work, tt, tt);
               refs = (plain_ref, v.holdings.refs, refl, ap (λ (q : PortValue). q.holdings.refs) looked_hand, refl);
               types = ap (λ (q : PortValue). q.holdings.typed) looked_hand;
               owner = told.0;
@@ -162,5 +162,5 @@ module _ (v : PortValue) (f : ℕ) (kind : PageType) (holds : HoldsLive v f kind
               hand = now_beside v x (record v.holdings { typed = [] }) (plain_ref ∷ v.holdings.refs) [] (closing ∷ v.holdings.works) looked_hand;
             }
 
-        pub emptied_released : (w : PortValue) (answer : Result (Unit {0}) Stop) → Came x w → LeavesEmptied x w (closing_table f level) answer → LeavesReleased v w f answer
+        pub emptied_released : (w : PortValue) (answer : Result (Unit {0}) Stop) → Came x w → LeavesEmptied x w (closing_table f level) answer → LeavesUnheld v w f answer
         emptied_released w answer came left = emptied_leaves v x w (closing_table f level) same_post came closed_empties answer left

@@ -32,7 +32,7 @@ use Rattle.partial_state.proofs.LevelFacts.{level_type-typed}
 use Rattle.partial_state.specs.Levels.{level_type}
 use Rattle.partial_state.specs.declared.stack.TableWork.{TableWork}
 use Rattle.table_releases.specs.Tops.{IsSettledTop}
-use Rattle.level_release.specs.Holding.{AreRefs, AreTyped, Empties}
+use Rattle.level_release.specs.Holding.{AreRefs, AreOwnTyped, Empties}
 use Rattle.level_release.proofs.Hands.{around_settled, hands_by, tables_later, tables_outer, typed_later}
 use Rattle.level_release.proofs.HandsApart.{none_else, others_apart, tables_apart}
 use Rattle.level_release.proofs.HandsKnown.{Still, known_still, owned_apart, still_less, still_same}
@@ -45,7 +45,7 @@ pub record DeadHand (h : Holdings) (x d : PortValue) (t : TableWork) (ts : List 
   pub typed : List TypedReference
   pub frame : ref.frame ≡ t.frame
   pub are_refs : AreRefs h.refs ts refs
-  pub are_typed : AreTyped (length x.holdings.steps) ts typed
+  pub are_typed : AreOwnTyped (length x.holdings.steps) ts typed
   pub still_refs : (g : ℕ) → t.frame ≢ g → Still (λ (e : Reference). e.frame) g x.holdings.refs refs
   pub still_typed : (g : ℕ) → t.frame ≢ g → Still (λ (e : TypedReference). e.frame) g x.holdings.typed typed
   pub hand : Holds x d (record x.holdings { refs = ref ∷ refs; typed = typed; works = others })

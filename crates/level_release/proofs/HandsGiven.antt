@@ -15,8 +15,8 @@ use Rattle.flush_waits.proofs.Growing.{came_grows, knows_later}
 use Rattle.table_entries.proofs.HandReady.{unmarked_learns}
 use Rattle.partial_state.specs.declared.stack.TableWork.{TableWork}
 use Rattle.table_releases.specs.Tops.{IsSettledTop, shed_once}
-use Rattle.level_release.specs.Course.{one_more}
-use Rattle.level_release.specs.Holding.{Empties, IsTableWork}
+use Rattle.level_release.specs.Course.{one_more_done}
+use Rattle.level_release.specs.Holding.{Empties, IsReleasedWork}
 use Rattle.level_release.proofs.Hands.{hands_by, tables_done, tables_later, typed_later}
 use Rattle.level_release.proofs.HandsApart.{FirstFound, looked_apart}
 use Rattle.level_release.proofs.HandsKnown.{owned_still}
@@ -34,17 +34,17 @@ looked_work i word e = record e { seen = Some (record { index = i; word = word }
 abbrev pub shed_work : ℕ → ℕ → Work → Work
 shed_work i word e = record e { recorded = i; seen = Some (record { index = i; word = word }); unsettled = None; fixed = (learned_work i word e).fixed }
 
-looked_is : (z : Sizes) (made i word : ℕ) (t : TableWork) (e : Work) → IsTableWork z made t e → IsTableWork z made t (looked_work i word e)
+looked_is : (z : Sizes) (made i word : ℕ) (t : TableWork) (e : Work) → IsReleasedWork z made t e → IsReleasedWork z made t (looked_work i word e)
 looked_is z made i word t e is =
     record { inside = is.inside; frame = is.frame; kind = is.kind; unmarked = is.unmarked; recorded = is.recorded; work = is.work; closing = is.closing; earlier = is.earlier }
 
-pub shed_is : (z : Sizes) (made i word : ℕ) (t : TableWork) (e : Work) → i + 1 + t.done ≡ 512 → IsTableWork z made t e → IsTableWork z made (one_more t) (shed_work i word e)
+pub shed_is : (z : Sizes) (made i word : ℕ) (t : TableWork) (e : Work) → i + 1 + t.done ≡ 512 → IsReleasedWork z made t e → IsReleasedWork z made (one_more_done t) (shed_work i word e)
 shed_is z made i word t e next is =
     record { inside = is.inside; frame = is.frame; kind = is.kind; unmarked = is.unmarked; recorded = omega (arith, next); work = is.work; closing = is.closing; earlier = is.earlier }
 
 module _ (h : Holdings) (v : PortValue) (t : TableWork) (ts : List TableWork) (s : Empties h v (t ∷ ts)) where
   -- ---- the newest work is another one, with so many entries done
-  pub stands_top : (n : ℕ) (e : Work) (w : PortValue) → n ≤ 512 → IsTableWork (sizes_of v.post.machine) (length v.holdings.steps) (record t { done = n }) e →
+  pub stands_top : (n : ℕ) (e : Work) (w : PortValue) → n ≤ 512 → IsReleasedWork (sizes_of v.post.machine) (length v.holdings.steps) (record t { done = n }) e →
       Holds v w (record v.holdings { works = e ∷ (top h v t ts s).others }) → Came v w → Empties h w (record t { done = n } ∷ ts)
   stands_top n e w few is holds came =
       let z = sizes_of v.post.machine in
@@ -81,7 +81,7 @@ module _ (h : Holdings) (v : PortValue) (t : TableWork) (ts : List TableWork) (s
         (holds ∙ ap (λ (k : Holdings). still (record v { holdings = k })) looked_hand) came
 
     -- it is given back
-    pub given_stands : (w : PortValue) → i + 1 + t.done ≡ 512 → Holds v w (shed_once t.frame i word v.holdings) → Came v w → Empties h w (one_more t ∷ ts)
+    pub given_stands : (w : PortValue) → i + 1 + t.done ≡ 512 → Holds v w (shed_once t.frame i word v.holdings) → Came v w → Empties h w (one_more_done t ∷ ts)
     given_stands w next holds came =
         let e = top h v t ts s in
         stands_top (t.done + 1) (shed_work i word e.work) w (omega (arith, next)) (shed_is (sizes_of v.post.machine) (length v.holdings.steps) i word t e.work next e.is)

@@ -34,7 +34,7 @@ use Rattle.partial_state.proofs.LevelFacts.{level_type-typed}
 use Rattle.partial_state.specs.Levels.{level_type}
 use Rattle.partial_state.specs.declared.stack.TableWork.{TableWork}
 use Rattle.table_releases.specs.Tops.{IsSince}
-use Rattle.level_release.specs.Holding.{AreRefs, AreTyped, Empties}
+use Rattle.level_release.specs.Holding.{AreRefs, AreOwnTyped, Empties}
 use Rattle.level_release.proofs.HandsKnown.{known_moved, known_still, still_same}
 use Rattle.level_release.proofs.HandsTop.{closing_closes, closing_gone, closing_held, closing_ref, closing_typed, own_refs, own_typed, own_works, top, top_few, top_gone, top_here, top_table}
 
@@ -48,7 +48,7 @@ pub record LeftHand (h : Holdings) (v d : PortValue) (t : TableWork) (ts : List 
   pub since : ref.live ≡ Since steps
   pub earlier : steps ≤ length v.holdings.steps
   pub are_refs : AreRefs h.refs ts refs
-  pub are_typed : AreTyped (length v.holdings.steps) ts typed
+  pub are_typed : AreOwnTyped (length v.holdings.steps) ts typed
   pub known : (z : Sizes) (g o : ℕ) (k : Holdings) → Grows v.holdings k → k.refs ≡ refs → k.typed ≡ ref ∷ typed → k.locks ≡ v.holdings.locks → IsTrue (knows_owner z g o v.holdings) → IsTrue (knows_owner z g o k)
   pub hand : Holds v d (record v.holdings { refs = refs; typed = ref ∷ typed; works = others })
 

@@ -27,8 +27,8 @@ use Rattle.table_releases.specs.Found.{ReleasedBy, ReleasesFound}
 use Rattle.table_releases.specs.Tops.{IsSettledTop, IsShedLive, LeavesReleased, OwnsReleased, StaysRecorded}
 use Rattle.table_releases.specs.declared.entries.Released.{Released}
 use Rattle.table_releases.specs.declared.entries.Released.TheVariants.{Given, Opened}
-use Rattle.level_release.specs.Course.{table_in}
-use Rattle.level_release.specs.Holding.{AreTables, Empties}
+use Rattle.level_release.specs.Course.{table_under}
+use Rattle.level_release.specs.Holding.{AreInRelease, Empties}
 use Rattle.level_release.proofs.HandsApart.{FirstFound, does_first, list_some}
 use Rattle.level_release.proofs.HandsGiven.{given_settled, given_stands, stays_stands}
 use Rattle.level_release.proofs.HandsOpened.{opened_settled, opened_stands}
@@ -40,13 +40,10 @@ record LevelOf (least : ℕ) (e : Work) : Type 0 where
   pub high : level ≤ 4
   pub kind : (kind_fields e.word).kind ≡ level_type level
 
-some_is : (x y : Work) → Some x ≡ Some y → y ≡ x
-some_is x y is = cc
-
 under_low : (t u : TableWork) (us : List TableWork) (least : ℕ) → least ≤ t.level → IsStack (t ∷ u ∷ us) → least ≤ u.level
 under_low t u us least low is = let under = is.1 in omega (arith, under, low)
 
-found_level : (z : Sizes) (made : ℕ) (inner : Option TableWork) (g least : ℕ) (ts : List TableWork) (es : List Work) (e : Work) → IsStack ts → ((t : TableWork) (us : List TableWork) → ts ≡ t ∷ us → least ≤ t.level) → AreTables z made inner ts es →
+found_level : (z : Sizes) (made : ℕ) (inner : Option TableWork) (g least : ℕ) (ts : List TableWork) (es : List Work) (e : Work) → IsStack ts → ((t : TableWork) (us : List TableWork) → ts ≡ t ∷ us → least ≤ t.level) → AreInRelease z made inner ts es →
     work_on g es ≡ Some e → LevelOf least e
 unfolding first_by
 found_level z made inner g least [] [] e is low are at = absurd cc
@@ -55,7 +52,8 @@ found_level z made inner g least (t ∷ ts) [] e is low are at = absurd are
 found_level z made inner g least (t ∷ ts) (x ∷ xs) e is low are at =
     elim (cases_eq x.frame g) [
       | inl same ↦
-          let this = some_is x e (sym (first_by-cons_here (λ (y : Work). y.frame) g x xs same) ∙ at) in
+          let both : Some x ≡ Some e = sym (first_by-cons_here (λ (y : Work). y.frame) g x xs same) ∙ at in
+          let this : e ≡ x = cc in
           record { level = t.level; low = low t ts refl; high = is.0.high; kind = ap (λ (y : Work). (kind_fields y.word).kind) this ∙ are.0.kind }
       | inr other ↦
           found_level z made (Some t) g least ts xs e is.2
@@ -116,10 +114,10 @@ module _ (h : Holdings) (v w : PortValue) (t : TableWork) (stack ts : List Table
         subst (λ xs. Empties h w xs) (sym (goes_on ∙ ap advanced are))
         (given_stands h v t ts now (lower_first v w t.frame (511 - t.done) kind answer found) (511 - t.done) given.0 w all given.1 (lower_came v w t.frame (511 - t.done) kind answer found))
 
-    pub lower_opened : (g recorded : ℕ) (closing : _) → a ≡ Opened g recorded closing → OwnsReleased v w t.frame a → (new : List TableWork) → new ≡ table_in t g recorded closing ∷ next → Empties h w new
+    pub lower_opened : (g recorded : ℕ) (closing : _) → a ≡ Opened g recorded closing → OwnsReleased v w t.frame a → (new : List TableWork) → new ≡ table_under t g recorded closing ∷ next → Empties h w new
     lower_opened g recorded closing is owns new pushed =
         let opened = subst (λ (r : Released). LeavesReleased v w t.frame (level_type t.level) (511 - t.done) r) is (subst (λ k. LeavesReleased v w t.frame k (511 - t.done) a) is_kind leaves) in
-        subst (λ xs. Empties h w xs) (sym (pushed ∙ ap (λ xs. table_in t g recorded closing ∷ xs) (goes_on ∙ ap advanced are)))
+        subst (λ xs. Empties h w xs) (sym (pushed ∙ ap (λ xs. table_under t g recorded closing ∷ xs) (goes_on ∙ ap advanced are)))
         (opened_stands h v t ts now (lower_first v w t.frame (511 - t.done) kind answer found) (511 - t.done) all g recorded closing w opened (lower_came v w t.frame (511 - t.done) kind answer found)
         (subst (λ (r : Released). OwnsReleased v w t.frame r) is owns))
 

@@ -11,7 +11,7 @@ ghost use Rattle.table_words.specs.declared.old_words.OldWord.TheVariants.{First
 ghost use Rattle.table_releases.specs.Tops.{IsSettledTop};
 ghost use Rattle.xp_words.specs.declared.reply.Pause.TheVariants.{Due};
 ghost use Rattle.xp_words.specs.declared.reply.Stop.TheVariants.{Paused};
-ghost use Rattle.level_release.specs.Asking.{Continues, IsReleaseEnd, StopsRisen, is_due_answer};
+ghost use Rattle.level_release.specs.Asking.{Continues, IsReleaseEnd, StopsRelease, is_due_answer};
 ghost use Rattle.level_release.specs.Course.{EmptiesBy, Lowered, MadeDead, RunsDownBy, is_asked_down};
 ghost use Rattle.level_release.specs.Holding.{Empties, HoldsNow, IsReleasing, LeavesEmptied, StaysEmptying, StaysSettled, outermost_frame};
 
@@ -40,7 +40,7 @@ pub(crate) fn empty<P: Port>(
     ensures kinds { IfErr result IsReleaseEnd }
     ensures settled { IsSettledTop (P.value port.old).holdings → IfErr result (λ e. e ≡ Paused Due) }
     ensures serves { Continues (P.value port.old) (P.value port.new) (table ∷ []) [] (misses (P.value port.old).post.machine result) }
-    ensures stops { IfErr result (λ e. StopsRisen (P.value port.old) (P.value port.new) (table ∷ []) e) }
+    ensures stops { IfErr result (λ e. StopsRelease (P.value port.old) (P.value port.new) (table ∷ []) e) }
     ensures course { EmptiesBy (P.value port.old) (P.value port.new) table (says gate.old) (count_asks gate.old) (count_asks gate.new) (count_yes gate.old) (count_yes gate.new) result }
     ensures says { (n : ℕ) → says gate.new n ≡ says gate.old n }
     ensures paces { paces gate.new ≡ paces gate.old }
@@ -70,7 +70,7 @@ fn run_down<P: Port>(port: &mut P, gate: &mut dyn Preempt, stack: &mut Stack) ->
     ensures kinds { IfErr result IsReleaseEnd }
     ensures settled { IsSettledTop (P.value port.old).holdings → IfErr result (λ e. e ≡ Paused Due) }
     ensures serves { Continues (P.value port.old) (P.value port.new) stack.old stack.new (misses (P.value port.old).post.machine result) }
-    ensures stops { IfErr result (λ e. StopsRisen (P.value port.old) (P.value port.new) stack.old e) }
+    ensures stops { IfErr result (λ e. StopsRelease (P.value port.old) (P.value port.new) stack.old e) }
     ensures course { RunsDownBy (P.value port.old) stack.old (P.value port.new) stack.new (says gate.old) (count_asks gate.old) (count_asks gate.new) (count_yes gate.old) (count_yes gate.new) result }
     ensures says { (n : ℕ) → says gate.new n ≡ says gate.old n }
     ensures paces { paces gate.new ≡ paces gate.old }
@@ -105,7 +105,7 @@ fn lower<P: Port>(port: &mut P, stack: &mut Stack) -> Result<bool, Stop>
     // Where the stack is not shorter, an entry was shed.
     ensures progress { IfOk result (λ _. length stack.old ≤ length stack.new → Progress (Met (P.value port.old) (P.value port.new))) }
     ensures serves { Continues (P.value port.old) (P.value port.new) stack.old stack.new (misses (P.value port.old).post.machine result) }
-    ensures stops { IfErr result (λ e. StopsRisen (P.value port.old) (P.value port.new) stack.old e) }
+    ensures stops { IfErr result (λ e. StopsRelease (P.value port.old) (P.value port.new) stack.old e) }
     ensures course { Lowered (P.value port.old) stack.old (P.value port.new) stack.new result }
 {
     let Some(top) = stack.top() else {

@@ -28,8 +28,8 @@ use Rattle.kind_words.proofs.Leaving.{without_newest}
 use Rattle.table_words.specs.Pins.{took_pin, unpinned_kind}
 use Rattle.level_release.specs.Asking.{of_release}
 use Rattle.level_release.specs.Asking as releases
-use Rattle.level_release.specs.Holding.{HoldsLive, LeavesReleased}
-use Rattle.mmuext_ops.specs.Elements.{HasDeeds, LeavesElement, ServesElement, request_of, told}
+use Rattle.level_release.specs.Holding.{HoldsLive, LeavesUnheld}
+use Rattle.mmuext_ops.specs.Elements.{HasDeeds, LeavesElement, ServesElement, ext_request, told}
 use Rattle.mmuext_ops.specs.declared.element.Element.TheVariants.{Unpin}
 use Rattle.mmuext_ops.proofs.PinningLive.{looks_same}
 use Rattle.mmuext_ops.proofs.Within.{within_release}
@@ -39,15 +39,15 @@ has_release : (n : Machine) (f : ℕ) (answer : Result (Unit {0}) Stop) → IfEr
 has_release n f (Ok done) due = told (Unpin f) (Ok tt)
 has_release n f (Err e) due = rw due (told (Unpin f) (Ok tt))
 
-pub released_serves : (v r w : PortValue) (f d g : ℕ) (answer : Result (Unit {0}) Stop) → g ≡ f → Serves v r (request_of d (Unpin f) (Ok tt)) (Unpins f ∷ []) →
+pub released_serves : (v r w : PortValue) (f d g : ℕ) (answer : Result (Unit {0}) Stop) → g ≡ f → Serves v r (ext_request d (Unpin f) (Ok tt)) (Unpins f ∷ []) →
     Serves r w (of_release g d d answer) (misses r.post.machine answer) → IfErr answer (λ e. e ≡ Paused Due) → ServesElement v w d (Unpin f) (Ok tt)
 released_serves v r w f d g answer at before a due =
-    let came = serves_came v r (request_of d (Unpin f) (Ok tt)) (Unpins f ∷ []) before in
+    let came = serves_came v r (ext_request d (Unpin f) (Ok tt)) (Unpins f ∷ []) before in
     let of_frame : Serves r w (of_release f d d answer) (misses v.post.machine answer) =
     subst (λ (p : Post). Serves r w (of_release f d d answer) (misses p.machine answer)) (came_post v r came) (subst (λ k. Serves r w (of_release k d d answer) (misses r.post.machine answer)) at a) in (
       misses v.post.machine answer ++ (Unpins f ∷ []),
       has_release v.post.machine f answer due,
-      serves_inner v r w (request_of d (Unpin f) (Ok tt)) (of_release f d d answer) (Unpins f ∷ []) (misses v.post.machine answer)
+      serves_inner v r w (ext_request d (Unpin f) (Ok tt)) (of_release f d d answer) (Unpins f ∷ []) (misses v.post.machine answer)
           (within_release v.post.machine v.post.vcpu f d (releases.is_due_answer answer) (Met r w) (Met v w) (λ m x. met_after v r w m came x)) before of_frame,
     )
 
@@ -99,7 +99,7 @@ module _ (v a b q r : PortValue) (d g : ℕ) (rests : Rests v) (taken : Holds v 
           ap (λ (y : PortValue). quiet (record y { holdings = record y.holdings { typed = [] } })) live_hand
           ∙ ap (λ (ys : List TypedReference). quiet (record v { holdings = record v.holdings { typed = ys } })) (sym rests.empty.typed)
 
-      pub released_hand : (answer : Result (Unit {0}) Stop) → LeavesReleased r w g answer → LeavesElement v w (Unpin f) (Ok tt)
+      pub released_hand : (answer : Result (Unit {0}) Stop) → LeavesUnheld r w g answer → LeavesElement v w (Unpin f) (Ok tt)
       released_hand (Ok done) leaves = inl (ap quiet leaves ∙ without)
       released_hand (Err e) leaves =
           inr (ap quiet leaves ∙ ap (λ (y : PortValue). quiet (record y { holdings = record y.holdings { old0 = Some (g + 1) } })) without ∙ ap (λ k. quiet (record v { holdings = record v.holdings { old0 = Some (k + 1) } })) at)

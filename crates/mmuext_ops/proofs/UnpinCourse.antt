@@ -11,10 +11,10 @@ use Rattle.xp_words.specs.declared.reply.Stop.TheVariants.{Paused, Refused}
 use Rattle.xp_board.specs.Told.{PortValue}
 use Rattle.frame_words.specs.Refs.{IsRefStop}
 use Rattle.table_courses.specs.Acquiring.{GaveRef, GotRef}
-use Rattle.level_release.specs.Course.{ReleasesBy, WasReleased}
-use Rattle.mmuext_ops.specs.Course.{Saw, TakesPinOff, Unpinned, UnpinsBy, is_pinned}
+use Rattle.level_release.specs.Course.{ReleasesFrameBy, WasReleased}
+use Rattle.mmuext_ops.specs.Course.{SawKind, TakesPinOff, Unpinned, UnpinsBy, is_pinned}
 use Rattle.mmuext_ops.specs.Course as course
-use Rattle.mmuext_ops.specs.Elements.{is_due_stop}
+use Rattle.level_release.specs.Asking.{is_due_stop}
 use Rattle.mmuext_ops.proofs.PinCourse.{not_due}
 use Rattle.mmuext_ops.proofs.Rests.{reference_undue, unasked}
 
@@ -26,7 +26,7 @@ module _ (v w : PortValue) (d f : ℕ) (says : ℕ → Bool) (asks agreed : ℕ)
   pub unreferred_course : (answer : Result (Unit {0}) Stop) (stop : Stop) → answer ≡ Err stop → IsRefStop stop → GotRef v w f d (Err stop) → UnpinsBy v w d f says asks asks agreed agreed answer
   unreferred_course answer stop is kind got = subst (λ y. UnpinsBy v w d f says asks asks agreed agreed y) (sym is) (unasked_course stop (reference_undue stop kind) (course.unreferred stop got))
 
-  module _ (a b : PortValue) (x : ℕ) (got : GotRef v a f d (Ok f)) (saw : Saw a b f x) where
+  module _ (a b : PortValue) (x : ℕ) (got : GotRef v a f d (Ok f)) (saw : SawKind a b f x) where
     pub before_course : is_pinned x ≡ false → GaveRef b w f → UnpinsBy v w d f says asks asks agreed agreed (Err (Refused (NotPinned x)))
     before_course off gave = unasked_course (Refused (NotPinned x)) refl (course.unpinned_before a b x got saw off gave)
 
@@ -40,8 +40,8 @@ module _ (v w : PortValue) (d f : ℕ) (says : ℕ → Bool) (asks agreed : ℕ)
           (unasked_course (Paused (Lost (number (sizes_of v.post.machine) (Kind f)) x found)) refl (course.lost a b c x found got saw on takes other still gave))
 
 -- it is released
-pub released_course : (v a b c e w : PortValue) (d f g x : ℕ) (kind : PageType) (answer : Result (Unit {0}) Stop) (says : ℕ → Bool) (before after agreed agrees : ℕ) → GotRef v a f d (Ok f) → Saw a b f x → is_pinned x ≡ true →
-    TakesPinOff b c f x x → GaveRef c e f → g ≡ f → (kind_fields x).kind ≡ kind → ReleasesBy e w g kind says before after agreed agrees answer → IfErr answer (λ stop. stop ≡ Paused Due) → UnpinsBy v w d f says before after agreed agrees (Ok tt)
+pub released_course : (v a b c e w : PortValue) (d f g x : ℕ) (kind : PageType) (answer : Result (Unit {0}) Stop) (says : ℕ → Bool) (before after agreed agrees : ℕ) → GotRef v a f d (Ok f) → SawKind a b f x → is_pinned x ≡ true →
+    TakesPinOff b c f x x → GaveRef c e f → g ≡ f → (kind_fields x).kind ≡ kind → ReleasesFrameBy e w g kind says before after agreed agrees answer → IfErr answer (λ stop. stop ≡ Paused Due) → UnpinsBy v w d f says before after agreed agrees (Ok tt)
 released_course v a b c e w d f g x kind answer says before after agreed agrees got saw on takes gave at is by due =
     record {
       answers = by.answers;

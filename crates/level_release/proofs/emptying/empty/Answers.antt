@@ -2,7 +2,7 @@ use Rattle.std.proofs.Common.{◌∷◌, ap, ◌∙◌, [], subst}
 use Rattle.step_maker.proofs.Coming.{came_trans}
 use Rattle.level_release.proofs.HandsRunning.{emptied_dead, emptied_may, emptied_named, emptied_room, from_one}
 use Rattle.answer_fits.specs.Answers.{missed}
-use Rattle.level_release.specs.Asking.{Continues, StopsRisen}
+use Rattle.level_release.specs.Asking.{Continues, StopsRelease}
 use Rattle.level_release.proofs.CoursesRun.{empties_finished, empties_paused}
 use Rattle.level_release.proofs.ServingRisen.{goes_then, risen_on}
 use Rattle.level_release.proofs.emptying.empty.Goals as goal
@@ -62,7 +62,7 @@ returns-in-Err-clause-stops g c =
     let w = g.P.Port.value c.unwind.new.port in
     let t = c.args.table in
     let one = c.push.ensures.pushed ∙ ap (λ ts. t ∷ ts) c.new-stack.ensures in
-    subst (λ ts. StopsRisen u w ts c.in-Err.stop) one (risen_on u (g.P.Port.value c.run_down.new.port) w c.push.new.self c.in-Err.stop c.unwind.ensures.came c.in-Err.ensures.stops)
+    subst (λ ts. StopsRelease u w ts c.in-Err.stop) one (risen_on u (g.P.Port.value c.run_down.new.port) w c.push.new.self c.in-Err.stop c.unwind.ensures.came c.in-Err.ensures.stops)
 
 pub returns-in-Err-clause-course : goal.returns-in-Err-clause-course
 returns-in-Err-clause-course g c =

@@ -5,7 +5,7 @@ use Rattle.answer_fits.specs.Answers.{missed}
 use Rattle.table_entries.specs.Asking.{AsksBelow}
 use Rattle.table_releases.specs.Tops.{IsShedLive, ShowsReleased}
 use Rattle.level_release.specs.Asking.{Continues}
-use Rattle.level_release.specs.Course.{table_in}
+use Rattle.level_release.specs.Course.{table_under}
 use Rattle.level_release.proofs.Courses.{lowered_emptied, lowered_given, lowered_opened, lowered_stopped, some_left}
 use Rattle.level_release.proofs.ServingEntries.{goes_advanced, goes_answer, goes_entries, goes_opened, risen_answer, risen_entries}
 use Rattle.level_release.proofs.emptying.lower.Goals as goal
@@ -105,7 +105,7 @@ returns-in-Opened-clause-serves g c =
     let w = g.P.Port.value c.release_entry.new.port in
     let ts = c.args.stack.now in
     let k = c.level_type.result in
-    let u = table_in c.in-Some.top c.in-Opened.frame c.in-Opened.recorded c.in-Opened.closing in
+    let u = table_under c.in-Some.top c.in-Opened.frame c.in-Opened.recorded c.in-Opened.closing in
     let asks : (owner pages : ℕ) → AsksBelow v w owner pages k c.in-Opened.frame = λ owner pages. (subst (λ a. ShowsReleased v w owner pages k a) c.in-Opened.is (c.in_ok-release_entry.ensures.shows owner pages)).1 in
     subst (λ us. Continues v w ts us []) (sym (c.push.ensures.pushed ∙ ap (λ us. u ∷ us) c.advance-in-Opened.ensures.advanced)) (goes_opened v w ts u k c.in_ok-release_entry.ensures.serves asks)
 
