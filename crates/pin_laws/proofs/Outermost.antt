@@ -16,7 +16,7 @@ one_more_outermost f t [] is = is
 one_more_outermost f t (o ∷ ts) is = is
 
 module _ (owner f : ℕ) where
-  on_outermost : (v : PortValue) (ts : List TableWork) (w : PortValue) (us : List TableWork) (r : Result (Unit {0}) Stop) → TookOn owner v ts w us r → IsOutermost f ts → IsOutermost f us
+  on_outermost : (v : PortValue) (ts : List TableWork) (w : PortValue) (us : List TableWork) (r : Result Bool Stop) → TookOn owner v ts w us r → IsOutermost f ts → IsOutermost f us
   on_outermost _ _ _ _ _ (fresh v t ts none) is = is
   on_outermost _ _ _ _ _ (settled v w t ts some a) is = is
   on_outermost _ _ _ _ _ (taken v u w t ts g some a b) is = is
@@ -26,19 +26,20 @@ module _ (owner f : ℕ) where
 
   advanced_outermost : (v : PortValue) (ts : List TableWork) (w : PortValue) (us : List TableWork) (r : Result Bool Stop) → Advanced owner v ts w us r → IsOutermost f ts → IsOutermost f us
   advanced_outermost _ _ _ _ _ (recorded v w t ts few a) is = one_more_outermost f t ts is
-  advanced_outermost _ _ _ _ _ (opened v u w t ts us g progress own few a b) is = on_outermost u _ w us _ b (one_more_outermost f t ts is)
+  advanced_outermost _ _ _ _ _ (opened v u w t ts us g progress own done few a b) is = on_outermost u _ w us _ b (one_more_outermost f t ts is)
   advanced_outermost _ _ _ _ _ (cut_off v u w t ts us g progress own stop few a b) is = on_outermost u _ w us _ b (one_more_outermost f t ts is)
   advanced_outermost _ _ _ _ _ (unsettled v w t ts stop few a) is = one_more_outermost f t ts is
   advanced_outermost _ _ _ _ _ (stopped v w t ts stop few a) is = is
   advanced_outermost _ _ _ _ _ (completed v u w t outer ts full a b) is = is
 
-  filled_outermost : (v : PortValue) (ts : List TableWork) (w : PortValue) (us : List TableWork) (answers : List Bool) (r : Result (Unit {0}) Stop) → Filled owner v ts w us answers r → IsOutermost f ts → IsOutermost f us
-  filled_outermost v ts _ _ _ _ begun is = is
-  filled_outermost v ts _ _ _ _ (unasked u w us xs done answers before step off) is = advanced_outermost u us w xs _ step (filled_outermost v ts u us answers _ before is)
-  filled_outermost v ts _ _ _ _ (asked u w us xs answers before step on) is = advanced_outermost u us w xs _ step (filled_outermost v ts u us answers _ before is)
-  filled_outermost v ts _ _ _ _ (due u w us xs answers before step on) is = advanced_outermost u us w xs _ step (filled_outermost v ts u us answers _ before is)
-  filled_outermost v ts _ _ _ _ (stopped u w us xs answers stop before step) is = advanced_outermost u us w xs _ step (filled_outermost v ts u us answers _ before is)
+  filled_outermost : (v : PortValue) (ts : List TableWork) (early : List Bool) (w : PortValue) (us : List TableWork) (answers : List Bool) (r : Result (Unit {0}) Stop) → Filled owner v ts early w us answers r → IsOutermost f ts → IsOutermost f us
+  filled_outermost v ts early _ _ _ _ begun is = is
+  filled_outermost v ts early _ _ _ _ (unasked u w us xs done answers before step off) is = advanced_outermost u us w xs _ step (filled_outermost v ts early u us answers _ before is)
+  filled_outermost v ts early _ _ _ _ (asked u w us xs answers before step on) is = advanced_outermost u us w xs _ step (filled_outermost v ts early u us answers _ before is)
+  filled_outermost v ts early _ _ _ _ (due u w us xs answers before step on) is = advanced_outermost u us w xs _ step (filled_outermost v ts early u us answers _ before is)
+  filled_outermost v ts early _ _ _ _ (stopped u w us xs answers stop before step) is = advanced_outermost u us w xs _ step (filled_outermost v ts early u us answers _ before is)
 
   pub worked_outermost : (v : PortValue) (t : TableWork) (w : PortValue) (us : List TableWork) (answers : List Bool) (r : Result (Unit {0}) Stop) → Worked owner v t w us answers r → t.frame ≡ f → IsOutermost f us
   worked_outermost v t _ _ _ _ (cut_off w us stop a) is = on_outermost v (t ∷ []) w us _ a is
-  worked_outermost v t _ _ _ _ (filled u w us xs answers answer a b) is = filled_outermost u us w xs answers answer b (on_outermost v (t ∷ []) u us _ a is)
+  worked_outermost v t _ _ _ _ (due w us a on) is = on_outermost v (t ∷ []) w us _ a is
+  worked_outermost v t _ _ _ _ (filled u w us xs done answers answer a b) is = filled_outermost u us _ w xs answers answer b (on_outermost v (t ∷ []) u us _ a is)
