@@ -18,7 +18,7 @@ use xp_board::Port;
 use xp_preempt::Preempt;
 use xp_words::{Refusal, Stop};
 
-/// Unpins a table of the own domain, and releases it. Where the release is paused the table is unpinned all the same, and the first
+/// Unpins a table of the own domain, and releases it. Where the gate pauses the release the table is unpinned all the same, and the first
 /// old word names what is left.
 pub fn unpin<P: Port>(port: &mut P, gate: &mut dyn Preempt, domain: u16, f: u64) -> Result<(), Stop>
     requires rests { Rests (P.value port.old) }

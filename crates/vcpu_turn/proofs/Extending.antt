@@ -12,7 +12,6 @@ use Rattle.answer_fits.specs.Answers.{Serves, Stops, misses}
 use Rattle.level_release.specs.Asking as releases
 use Rattle.level_release.specs.Course.{SettlesBy}
 use Rattle.mmuext_ops.specs.Course.{Performed, PerformsBy}
-use Rattle.mmuext_ops.specs.Elements as elements
 use Rattle.mmuext_ops.specs.Elements.{ext_element}
 use Rattle.mmuext_ops.specs.declared.element.Element.{Element}
 use Rattle.vcpu_turn.specs.Lists.{Answering, is_due_by}
@@ -30,15 +29,6 @@ due_released (Err (Paused (Busy a b))) = refl
 due_released (Err (Paused (Flush a b c))) = refl
 due_released (Err (Paused (Alive a b))) = refl
 
-pub due_performed : (answer : Result (Unit {0}) Stop) → is_due_by answer ≡ elements.is_due_answer answer
-due_performed (Ok done) = refl
-due_performed (Err (Refused x)) = refl
-due_performed (Err (Paused Due)) = refl
-due_performed (Err (Paused (Lost a b c))) = refl
-due_performed (Err (Paused (Busy a b))) = refl
-due_performed (Err (Paused (Flush a b c))) = refl
-due_performed (Err (Paused (Alive a b))) = refl
-
 module _ (v w : PortValue) (says : ℕ → Bool) (before after yes_before yes_after : ℕ) (answer : Result (Unit {0}) Stop) where
   pub settle_answers : ((owner pages : ℕ) → Serves v w (releases.of_settle owner pages answer) (misses v.post.machine answer)) → ((owner pages : ℕ) → IfErr answer (λ e. Stops v w (releases.of_settle owner pages answer) e)) →
       IfErr answer releases.IsReleaseEnd → Rests w → SettlesBy v w says before after yes_before yes_after answer → Answering (λ answers. Settles v w answers answer) says before after yes_before yes_after (is_due_by answer)
@@ -53,7 +43,7 @@ module _ (v w : PortValue) (says : ℕ → Bool) (before after yes_before yes_af
   pub perform_answers : (d : ℕ) (e : Element) → ((answers : List Bool) → Performed v w d e answers answer → Performs d e v w answers answer) → PerformsBy v w d e says before after yes_before yes_after answer →
       Answering (λ answers. Performs d e v w answers answer) says before after yes_before yes_after (is_due_by answer)
   perform_answers d e all by =
-      record { answers = by.answers; goes = all by.answers by.course; gate = by.gate; due_is = λ due. by.due (sym (due_performed answer) ∙ due) }
+      record { answers = by.answers; goes = all by.answers by.course; gate = by.gate; due_is = λ due. by.due (sym (due_released answer) ∙ due) }
 
 -- ---- one element
 module _ (d : ℕ) (list : List ExtOp) (k : ℕ) (otherwise : ExtOp) (less : k < length list) (says : ℕ → Bool) (before after yes_before yes_after : ℕ) (v u : PortValue) where
