@@ -108,11 +108,11 @@ settled_noes v _ _ _ (releasing.Settled.both u w answers more answer one two) =
 -- ---- an acquisition
 filled_noes : (owner : ℕ) (v : PortValue) (ts : List TableWork) (before : List Bool) (w : PortValue) (us : List TableWork) (answers : List Bool) (answer : Result (Unit {0}) Stop) → yeses before ≡ 0 →
     Filled owner v ts before w us answers answer → Noes answers (is_due_answer answer)
-filled_noes owner v ts before _ _ _ _ no acquiring.Filled.begun = noes_all before false no
-filled_noes owner v ts before _ _ _ _ no (acquiring.Filled.unasked u w us xs done answers ran one off) = filled_noes owner v ts before u us answers (Ok tt) no ran
-filled_noes owner v ts before _ _ _ _ no (acquiring.Filled.asked u w us xs answers ran one on) = noes_asked answers false (noes_no answers (filled_noes owner v ts before u us answers (Ok tt) no ran))
-filled_noes owner v ts before _ _ _ _ no (acquiring.Filled.due u w us xs answers ran one on) = noes_due answers (noes_no answers (filled_noes owner v ts before u us answers (Ok tt) no ran))
-filled_noes owner v ts before _ _ _ _ no (acquiring.Filled.stopped u w us xs answers stop ran one) = noes_all answers _ (noes_no answers (filled_noes owner v ts before u us answers (Ok tt) no ran))
+filled_noes owner v ts before _ _ _ _ unsaid acquiring.Filled.begun = noes_all before false unsaid
+filled_noes owner v ts before _ _ _ _ unsaid (acquiring.Filled.unasked u w us xs done answers ran one off) = filled_noes owner v ts before u us answers (Ok tt) unsaid ran
+filled_noes owner v ts before _ _ _ _ unsaid (acquiring.Filled.asked u w us xs answers ran one on) = noes_asked answers false (noes_no answers (filled_noes owner v ts before u us answers (Ok tt) unsaid ran))
+filled_noes owner v ts before _ _ _ _ unsaid (acquiring.Filled.due u w us xs answers ran one on) = noes_due answers (noes_no answers (filled_noes owner v ts before u us answers (Ok tt) unsaid ran))
+filled_noes owner v ts before _ _ _ _ unsaid (acquiring.Filled.stopped u w us xs answers stop ran one) = noes_all answers _ (noes_no answers (filled_noes owner v ts before u us answers (Ok tt) unsaid ran))
 
 -- behind the first entry the gate said no, where it was asked
 once_no : (asks : Bool) → yeses (if asks then false ∷ [] else []) ≡ 0
