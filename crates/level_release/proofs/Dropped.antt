@@ -6,10 +6,9 @@ use Rattle.xp_words.specs.Places.{sizes_of}
 use Rattle.xp_words.specs.declared.kind.PageType.{PageType}
 use Rattle.xp_words.specs.declared.place.Place.TheVariants.{Kind, Refs}
 use Rattle.xp_words.specs.declared.reply.Stop.{Stop}
-use Rattle.xp_board.specs.Hands.{refs_to, typed_to, typed_on, typed_owner, without_typed, work_on, owner_by_typed, owner_from}
+use Rattle.xp_board.specs.Hands.{refs_to, typed_to, typed_on, typed_owner, without_typed, owner_by_typed, owner_from}
 use Rattle.xp_board.specs.KindSteps.{MayDrop}
 use Rattle.xp_board.specs.Knowledge.{knows_owner, tells_owner}
-use Rattle.xp_board.specs.Lists.{first_by}
 use Rattle.xp_board.specs.RefSteps.{one_down}
 use Rattle.xp_board.specs.Told.{Post, PortValue}
 use Rattle.xp_board.specs.declared.holdings.Holdings.{Holdings}
@@ -36,10 +35,7 @@ use Rattle.table_releases.specs.Tops.{IsSettledTop}
 use Rattle.level_release.specs.Holding.{AreInRelease, Empties, HoldsLive, IsMadeSince, IsReleasedWork, LeavesEmptied, LeavesUnheld}
 use Rattle.level_release.proofs.Handing.{emptied_leaves, now_beside}
 use Rattle.level_release.proofs.Owning.{known_by_ref, look_tells, made_later}
-
-pub no_work : (f : ℕ) (ws : List Work) → ws ≡ [] → work_on f ws ≡ None
-unfolding first_by
-no_work f ws none = ap (λ zs. work_on f zs) none
+use Rattle.kind_words.proofs.KindHands.{no_work}
 
 module _ (v : PortValue) (f : ℕ) (kind : PageType) (holds : HoldsLive v f kind) where
   none_typed : without_typed f v.holdings.typed ≡ []

@@ -1,13 +1,11 @@
 -- The last recorded entry of the innermost table is looked at, or given back.
-use Rattle.std.proofs.Common.{◌≡◌, ℕ, ◌+◌, ◌≤◌, if◌then◌else◌, List, ◌∷◌, length, Some, None, refl, sym, ap, ◌∙◌, subst, arith}
+use Rattle.std.proofs.Common.{◌≡◌, ℕ, ◌+◌, ◌≤◌, List, ◌∷◌, length, Some, None, refl, sym, ap, ◌∙◌, subst, arith}
 use Rattle.xp_words.specs.Places.{Sizes, sizes_of}
 use Rattle.xp_board.specs.After.{learned_cell, learned_last, learned_work}
 use Rattle.xp_board.specs.Hands.{changed_work}
-use Rattle.xp_board.specs.Lists.{changed_by}
 use Rattle.xp_board.specs.Told.{PortValue}
 use Rattle.xp_board.specs.declared.holdings.Holdings.{Holdings}
 use Rattle.xp_board.specs.declared.holdings.Work.{Work}
-use Rattle.board_lemmas.proofs.Sums.{when_eq}
 use Rattle.step_maker.specs.Holds.{Holds, still}
 use Rattle.step_maker.specs.Moves.{Came}
 use Rattle.flush_words.proofs.Lasting.{came_longer}
@@ -21,11 +19,7 @@ use Rattle.level_release.proofs.Hands.{hands_by, tables_done, tables_later, type
 use Rattle.level_release.proofs.HandsApart.{FirstFound, looked_apart}
 use Rattle.level_release.proofs.HandsKnown.{owned_still}
 use Rattle.level_release.proofs.HandsTop.{top}
-
--- the newest work is changed
-pub changed_first : (f : ℕ) (c : Work → Work) (e : Work) (es ws : List Work) → ws ≡ e ∷ es → e.frame ≡ f → changed_work f c ws ≡ c e ∷ es
-unfolding changed_by
-changed_first f c e es ws are is = ap (λ zs. changed_work f c zs) are ∙ ap (λ b. if b then (c e ∷ es) else (e ∷ changed_work f c es)) (when_eq e.frame f is)
+use Rattle.kind_words.proofs.KindHands.{changed_first}
 
 -- ---- its work, once the entry was looked at, and shed
 abbrev pub looked_work : ℕ → ℕ → Work → Work

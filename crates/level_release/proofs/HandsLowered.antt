@@ -1,9 +1,8 @@
 -- The call at the last recorded entry of the innermost table: what it asks of the hand, and what is released then.
-use Rattle.std.proofs.Common.{◌≡◌, ◌≢◌, ℕ, zero, suc, ◌+◌, ◌-◌, ◌≤◌, ◌==◌, false, List, [], ◌∷◌, ◌++◌, Option, Some, None, Bool, Result, Ok, refl, sym, ap, ◌∙◌, subst, arith, inl, inr}
+use Rattle.std.proofs.Common.{◌≡◌, ◌≢◌, ℕ, ◌+◌, ◌-◌, ◌≤◌, List, [], ◌∷◌, ◌++◌, Option, Some, None, Bool, Result, Ok, refl, sym, ap, ◌∙◌, subst, arith, inl, inr}
 use Rattle.std.proofs.lemmas.Bool.{cases_eq}
 use Rattle.xp_words.specs.Entries.{below}
 use Rattle.xp_words.specs.KindWords.{kind_fields}
-use Rattle.xp_words.specs.PageTypes.{type_number}
 use Rattle.xp_words.specs.Places.{Sizes, sizes_of}
 use Rattle.xp_words.specs.declared.kind.PageType.{PageType}
 use Rattle.xp_words.specs.declared.reply.Stop.{Stop}
@@ -14,12 +13,11 @@ use Rattle.xp_board.specs.Told.{PortValue}
 use Rattle.xp_board.specs.declared.holdings.Holdings.{Holdings}
 use Rattle.xp_board.specs.declared.holdings.Work.{Work}
 use Rattle.board_lemmas.proofs.ListCounts.{first_by-cons_here, first_by-cons_other}
-use Rattle.board_lemmas.proofs.Sums.{when_ne}
 use Rattle.step_maker.specs.Moves.{Came}
 use Rattle.answer_fits.proofs.Visiting.{does_came}
 use Rattle.answer_fits.specs.Visits.{Then, Visit}
 use Rattle.frame_types.specs.Taking.{IsOfOther}
-use Rattle.partial_state.proofs.LevelFacts.{level_type-number}
+use Rattle.partial_state.proofs.LevelFacts.{level_type-above}
 use Rattle.partial_state.specs.Levels.{level_type}
 use Rattle.partial_state.specs.Stacks.{IsStack, advanced}
 use Rattle.partial_state.specs.declared.stack.TableWork.{TableWork}
@@ -61,19 +59,6 @@ found_level z made inner g least (t ∷ ts) (x ∷ xs) e is low are at =
           (sym (first_by-cons_other (λ (y : Work). y.frame) g x xs other) ∙ at)
     ]
 
-other_number : (l m : ℕ) → 1 ≤ l → l ≤ m → m ≤ 4 → type_number (below (level_type l)) ≢ m
-other_number zero m a b c is = absurd (omega arith)
-other_number (suc zero) m a b c is = absurd (omega arith)
-other_number (suc (suc zero)) m a b c is = absurd (omega arith)
-other_number (suc (suc (suc zero))) m a b c is = absurd (omega arith)
-other_number (suc (suc (suc (suc zero)))) m a b c is = absurd (omega arith)
-other_number (suc (suc (suc (suc (suc l))))) m a b c is = absurd (omega arith)
-
-other_type : (l m : ℕ) → 1 ≤ l → l ≤ m → m ≤ 4 → is_type (level_type m) (below (level_type l)) ≡ false
-other_type l m a b c =
-    let number = level_type-number m (let k : 1 ≤ m = omega arith in k) c in
-    ap (λ n. n == type_number (below (level_type l))) number ∙ when_ne m (type_number (below (level_type l))) (λ same. other_number l m a b c (sym same))
-
 least_of : (t u : TableWork) (ts us : List TableWork) → t ∷ ts ≡ u ∷ us → t.level ≤ u.level
 least_of t u ts us are = let same : t ≡ u = cc in subst (λ (k : TableWork). t.level ≤ k.level) same (let k : t.level ≤ t.level = omega arith in k)
 
@@ -82,7 +67,7 @@ lower_above h v t stack ts kind are is_kind s g e at =
     let z = sizes_of v.post.machine in
     let now = subst (λ xs. Empties h v xs) are s in
     let l = found_level z _ None g t.level (t ∷ ts) v.holdings.works e now.stack (λ u us same. least_of t u ts us same) now.tables at in
-    ap (λ k. is_type k (below kind)) l.kind ∙ ap (λ k. is_type (level_type l.level) (below k)) is_kind ∙ other_type t.level l.level now.stack.0.low l.low l.high
+    ap (λ k. is_type k (below kind)) l.kind ∙ ap (λ k. is_type (level_type l.level) (below k)) is_kind ∙ level_type-above t.level l.level now.stack.0.low l.low l.high
 
 -- ---- what the steps found
 pub lower_came : (v w : PortValue) (f i : ℕ) (kind : PageType) (answer : Result Released Stop) → ReleasesFound v w f i kind answer → Came v w

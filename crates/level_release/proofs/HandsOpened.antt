@@ -1,5 +1,5 @@
 -- The frame that the last recorded entry of the innermost table names is to be released first: it is the innermost table then.
-use Rattle.std.proofs.Common.{◌≡◌, ℕ, suc, ◌+◌, ◌-◌, ◌<◌, ◌≤◌, not, Bool, true, false, List, ◌∷◌, length, None, Some, IsTrue, refl, sym, ap, ◌∙◌, subst, arith, inl, inr}
+use Rattle.std.proofs.Common.{◌≡◌, ℕ, ◌+◌, ◌-◌, ◌≤◌, not, Bool, true, false, List, ◌∷◌, length, None, Some, IsTrue, refl, sym, ap, ◌∙◌, subst, arith, inl, inr}
 use Rattle.std.proofs.lemmas.Bool.{cases_eq}
 use Rattle.xp_words.specs.Entries.{below}
 use Rattle.xp_words.specs.PageTypes.{is_table}
@@ -14,7 +14,7 @@ use Rattle.step_maker.specs.Holds.{Holds, still}
 use Rattle.step_maker.specs.Moves.{Came}
 use Rattle.flush_words.proofs.Lasting.{came_longer}
 use Rattle.flush_waits.proofs.Growing.{came_grows}
-use Rattle.partial_state.proofs.LevelFacts.{level_type-below}
+use Rattle.partial_state.proofs.LevelFacts.{level_type-under}
 use Rattle.partial_state.specs.Levels.{level_type}
 use Rattle.partial_state.specs.Stacks.{IsTable, IsUnder}
 use Rattle.partial_state.specs.declared.stack.TableWork.{TableWork}
@@ -53,12 +53,6 @@ level_under l low table =
       | inr other ↦ omega (arith, low, other)
     ]
 
-pub type_under : (l : ℕ) → 1 ≤ l → l ≤ 4 → below (level_type l) ≡ level_type (l - 1)
-type_under l low high =
-    let back : suc (l - 1) ≡ l = omega (arith, low) in
-    let under : l - 1 < 4 = omega (arith, low, high) in
-    ap (λ k. below (level_type k)) (sym back) ∙ level_type-below (l - 1) under
-
 module _ (h : Holdings) (v : PortValue) (t : TableWork) (ts : List TableWork) (s : Empties h v (t ∷ ts)) (first : FirstFound v) (i : ℕ) (next : i + 1 + t.done ≡ 512) (g recorded : ℕ) (closing : Bool)
     (w : PortValue) (r : Reopens v w t.frame i (level_type t.level) g recorded closing) where
   abbrev new : TableWork
@@ -77,7 +71,7 @@ module _ (h : Holdings) (v : PortValue) (t : TableWork) (ts : List TableWork) (s
   opened_under = let one = low in omega (arith, one)
 
   new_type : below (level_type t.level) ≡ level_type new.level
-  new_type = type_under t.level s.stack.0.low s.stack.0.high
+  new_type = level_type-under t.level s.stack.0.low s.stack.0.high
 
   not_own : (b : Bool) → not b ≡ true → b ≡ false
   not_own true is = absurd cc

@@ -36,7 +36,7 @@ use Rattle.level_release.specs.Course.{one_less}
 use Rattle.level_release.specs.Holding.{AreOwned, Empties, IsReleasedWork}
 use Rattle.level_release.proofs.Hands.{TopTable, hands_by, tables_done, tables_later, tables_top, typed_later}
 use Rattle.level_release.proofs.HandsApart.{others_apart, tables_apart}
-use Rattle.level_release.proofs.HandsGiven.{changed_first}
+use Rattle.kind_words.proofs.KindHands.{changed_first}
 use Rattle.level_release.proofs.HandsKnown.{AreApart, known_still, owned_apart, still_less, still_same}
 use Rattle.level_release.proofs.HandsLeft.{LeftHand, left_held, left_kind, left_partial_known, left_typed, partial_hand}
 use Rattle.level_release.proofs.HandsTop.{top}

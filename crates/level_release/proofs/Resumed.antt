@@ -43,7 +43,7 @@ use Rattle.level_release.specs.Course.{resumed_table}
 use Rattle.level_release.specs.Holding.{AreInRelease, Empties, IsReleasedWork, LeavesEmptied, LeavesUnheld}
 use Rattle.level_release.specs.Settling.{TookOld}
 use Rattle.level_release.proofs.Counted.{unkept}
-use Rattle.level_release.proofs.Dropped.{no_work}
+use Rattle.kind_words.proofs.KindHands.{no_work}
 use Rattle.level_release.proofs.Handing.{emptied_leaves, now_beside}
 use Rattle.level_release.proofs.Owning.{known_by_typed, look_tells}
 use Rattle.level_release.proofs.Taken.{named_again, named_later, named_ref, named_since, taken_held, took_looking, took_typed, took_works}
