@@ -233,6 +233,9 @@ unfolding with_cells
 no_run c n m e (Cell f i) = rw (none_cells c n f i e) refl
 no_run c n m e p = refl
 
+pub whole_run : (c : CellRun) (n : ℕ) (m : Place → ℕ) (p : Place) → n ≡ c.first + c.count → with_cells (record c { count = n - c.first } ∷ []) m p ≡ with_cells (c ∷ []) m p
+whole_run c n m p e = let k : n - c.first ≡ c.count = omega arith in ap (λ (r : ℕ). with_cells (record c { count = r } ∷ []) m p) k
+
 -- a run after others were put
 same_owned : (os : List Own) (m n : Place → ℕ) → ((p : Place) → m p ≡ n p) → (p : Place) → with_owned os m p ≡ with_owned os n p
 unfolding with_owned
