@@ -1,8 +1,9 @@
 //! The words of a machine, in little memory.
 #![tactic(auto)]
 
-ghost use Rattle.std.specs.Prelude.{◌≡◌, ◌<◌, IfOk, length, replicate, set, slice_index};
-ghost use Rattle.xp_words.specs.Places.{size, sizes_of};
+ghost use Rattle.std.specs.Prelude.{◌≡◌, ◌^◌, ◌<◌, ◌≤◌, ◌+◌, ◌&&◌, ℕ, IfOk, if◌then◌else◌, length, nat_le, nat_lt, replicate, set, slice_index};
+ghost use Rattle.xp_words.specs.Places.{number, size, sizes_of};
+ghost use Rattle.xp_words.specs.declared.place.Place.TheVariants.{Cell};
 
 use std::alloc::{AllocError, Global};
 use std::marker::Model;
@@ -12,6 +13,7 @@ use xp_words::Layout;
 #[derive(Drop)]
 pub struct SparseWords {
     words: Vec<u64>,
+    ghost few: { length words.items < 2 ^ 32 },
 }
 
 impl Model for SparseWords {
@@ -46,5 +48,25 @@ impl SparseWords {
         ensures { self.new ≡ set self.old place word }
     {
         self.words[place as usize] = word;
+    }
+    /// How many words there are.
+    pub fn len(&self) -> u32
+        ensures { result ≡ length self.now }
+    {
+        self.words.len() as u32
+    }
+
+    /// Stores a word in so many cells of a frame, from the first one on.
+    pub fn fill(&mut self, layout: &Layout, frame: u32, first: u16, count: u16, word: u64)
+        requires whole { length self.old ≡ size (sizes_of layout.now) }
+        requires frame { frame < layout.now.frames }
+        requires inside { first + count ≤ 512 }
+        ensures whole { length self.new ≡ length self.old }
+        ensures filled { (k : ℕ) → slice_index self.new k ≡ (if nat_le (number (sizes_of layout.now) (Cell frame first)) k && nat_lt k (number (sizes_of layout.now) (Cell frame first) + count) then word else slice_index self.old k) }
+    {
+        let start = layout.cell_place(frame, 0) as usize + first as usize;
+        for place in start..start + count as usize {
+            self.words[place] = word;
+        }
     }
 }
