@@ -1,4 +1,5 @@
 pub mod MapLaws
 pub mod RefLaws
 pub mod Steps
+pub mod CellRuns
 pub mod Whole

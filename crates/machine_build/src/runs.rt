@@ -50,9 +50,7 @@ fn put_run(layout: &Layout, run: CellRun, words: &mut SparseWords)
     ensures count { length words.new ≡ length words.old }
     ensures words { (p : Place) → memory (sizes_of layout.now) words.new p ≡ with_cells (run ∷ []) (memory (sizes_of layout.now) words.old) p }
 {
-    for cell in run.first..run.first + run.count {
-        words.set(layout.cell_place(run.frame, cell), run.value);
-    }
+    words.fill(layout, run.frame, run.first, run.count, run.value);
 }
 
 /// The cells that runs set. A later run overwrites an earlier one.

@@ -9,6 +9,7 @@ loop-number-init c = (refl, no_map _ _)
 
 pub loop-number-preserved : goal.loop-number-preserved
 loop-number-preserved c =
-    let count : length c.loop-number.words ≡ size (sizes_of c.args.layout.now) = c.loop-number.invariant.0 ∙ c.requires.count in
-    (rw c.set.ensures (length-set c.loop-number.words c.map_place.result c.free_bits-bits.result) ∙ c.loop-number.invariant.0,
-    λ p. rw (c.set.ensures, c.map_place.ensures) (put_word _ _ _ _ _ count (omega arith) c.free_bits-bits.ensures c.loop-number.invariant.1 p))
+    let count : length c.loop-number.words ≡ size (sizes_of c.args.layout.now) = c.loop-number.invariant.0 ∙ c.requires.count in (
+      rw c.set.ensures (length-set c.loop-number.words c.map_place.result c.free_bits-bits.result) ∙ c.loop-number.invariant.0,
+      λ p. rw (c.set.ensures, c.map_place.ensures) (put_word _ _ _ _ _ count (omega arith) c.free_bits-bits.ensures c.loop-number.invariant.1 p),
+    )

@@ -10,6 +10,7 @@ loop-frame-init c = (refl, no_frames _)
 pub loop-frame-preserved : goal.loop-frame-preserved
 loop-frame-preserved c =
     let below : c.loop-frame.frame < c.args.layout.now.frames = grind arith in
-    let count : length c.loop-frame.words ≡ size (sizes_of c.args.layout.now) = c.loop-frame.invariant.0 ∙ c.requires.count in
-    (rw c.set.ensures (length-set c.loop-frame.words c.m2p_place.result (2 ^ 64 - 1)) ∙ c.loop-frame.invariant.0,
-    λ p. rw (c.set.ensures, c.m2p_place.ensures) (put_frame _ _ _ _ count below c.loop-frame.invariant.1 p))
+    let count : length c.loop-frame.words ≡ size (sizes_of c.args.layout.now) = c.loop-frame.invariant.0 ∙ c.requires.count in (
+      rw c.set.ensures (length-set c.loop-frame.words c.m2p_place.result (2 ^ 64 - 1)) ∙ c.loop-frame.invariant.0,
+      λ p. rw (c.set.ensures, c.m2p_place.ensures) (put_frame _ _ _ _ count below c.loop-frame.invariant.1 p),
+    )

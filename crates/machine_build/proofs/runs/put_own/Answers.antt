@@ -9,9 +9,10 @@ loop-frame-init c = (refl, no_own c.args.own _ _ (omega arith))
 
 pub loop-frame-preserved : goal.loop-frame-preserved
 loop-frame-preserved c =
-    let count : length c.loop-frame.words ≡ size (sizes_of c.args.layout.now) = c.loop-frame.invariant.0 ∙ c.requires.count in
-    (rw c.set.ensures (length-set c.loop-frame.words c.refs_place.result c.write-word.result) ∙ c.loop-frame.invariant.0,
-    λ p. rw (c.set.ensures, c.refs_place.ensures) (put_own _ _ _ c.args.own c.loop-frame.frame _ count (omega arith) (omega arith) (omega arith) c.write-word.ensures c.loop-frame.invariant.1 p))
+    let count : length c.loop-frame.words ≡ size (sizes_of c.args.layout.now) = c.loop-frame.invariant.0 ∙ c.requires.count in (
+      rw c.set.ensures (length-set c.loop-frame.words c.refs_place.result c.write-word.result) ∙ c.loop-frame.invariant.0,
+      λ p. rw (c.set.ensures, c.refs_place.ensures) (put_own _ _ _ c.args.own c.loop-frame.frame _ count (omega arith) (omega arith) (omega arith) c.write-word.ensures c.loop-frame.invariant.1 p),
+    )
 
 pub returns-clause-words : goal.returns-clause-words
 returns-clause-words c = λ p. c.loop-frame.invariant.1 p ∙ whole_own c.args.own c.loop-frame.frame _ p (omega arith)
