@@ -1,11 +1,10 @@
 //! Reports (report_text).
-ghost use Rattle.std.specs.Prelude.{◌≡◌, ◌≤◌, length, IfOk, vec_len};
+ghost use Rattle.std.specs.Prelude.{◌≡◌, ◌≤◌, length};
 ghost use Rattle.xp_words.specs.Places.{sizes_of, size};
 
 use arrayvec::ArrayVec;
 use report_text::report;
 use sparse_words::SparseWords;
-use std::alloc::{AllocError, Global};
 use std::test::Fail;
 use xp_words::{Domains, Layout, Limits, Log, LogLine, Masks, PageType, Refusal, Reply};
 
