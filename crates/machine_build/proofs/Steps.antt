@@ -59,10 +59,6 @@ pub refs-inside : (z : Sizes) (f : ℕ) → f < z.frames → number z (Refs f) <
 unfolding is_place
 refs-inside z f h = number-lt z (Refs f) (grind (arith, nat_tests))
 
-pub cell-inside : (z : Sizes) (f i : ℕ) → f < z.frames → i < 512 → number z (Cell f i) < size z
-unfolding is_place
-cell-inside z f i h b = number-lt z (Cell f i) (grind (arith, nat_tests))
-
 pub map-inside : (z : Sizes) (k : ℕ) → k < map_words z → number z (Map k) < size z
 unfolding is_place
 map-inside z k h = number-lt z (Map k) (grind (arith, nat_tests))
@@ -71,7 +67,7 @@ pub clock-inside : (z : Sizes) → number z Clock < size z
 unfolding is_place
 clock-inside z = number-lt z Clock refl
 
-pub ruleset inside = (pages-inside, priv-inside, vcpu-inside, m2p-inside, refs-inside, cell-inside, map-inside)
+pub ruleset inside = (pages-inside, priv-inside, vcpu-inside, m2p-inside, refs-inside, map-inside)
 
 -- ---- one more of each
 pub put_frame : (z : Sizes) (words : List ℕ) (m : Place → ℕ) (f : ℕ) → length words ≡ size z → f < z.frames → ((p : Place) → memory z words p ≡ with_m2p f m p) →
