@@ -240,7 +240,8 @@ fn an_update_is_ok_on_an_own_frame_and_leaves_its_count(rt: HostRuntime) -> Resu
         0
     };
     let words = board.into_words();
-    assert!(rt; words.get(m2p as usize) == Some(&7));
+    assert!(rt; m2p < words.len());
+    assert!(rt; words.get(m2p) == 7);
     Ok(())
 }
 

@@ -117,13 +117,10 @@ fn flushes_of(board: PlainBoard, vcpu: u32) -> Option<(u64, u64, u64)> {
     let asked = board.layout().vcpu_place(vcpu, 4);
     let flushed = board.layout().vcpu_place(vcpu, 5);
     let words = board.into_words();
-    match (
-        words.get(0),
-        words.get(asked as usize),
-        words.get(flushed as usize),
-    ) {
-        (Some(clock), Some(asked), Some(flushed)) => Some((*clock, *asked, *flushed)),
-        _ => None,
+    if asked < words.len() && flushed < words.len() {
+        Some((words.get(0), words.get(asked), words.get(flushed)))
+    } else {
+        None
     }
 }
 
