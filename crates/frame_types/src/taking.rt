@@ -2,6 +2,7 @@
 ghost use Rattle.std.specs.Prelude.{◌≡◌, ◌<◌, List, [], true, not, None, Some, IfOk, IfErr, MatchResult, IsTrue};
 ghost use Rattle.xp_board.specs.Told.{PortValue};
 ghost use Rattle.xp_words.specs.KindWords.{kind_read};
+ghost use Rattle.xp_words.specs.declared.kind.KindWord.{KindWord};
 ghost use Rattle.xp_words.specs.PageTypes.{is_none};
 ghost use Rattle.xp_board.specs.Hands.{work_on, typed_to};
 ghost use Rattle.step_maker.specs.Holds.{MayWork, Same};
@@ -91,8 +92,8 @@ fn take_found<P: Port>(
             Ok(()) => Ok(Taken::Counted),
             Err(found) => Err(lost(port, frame, word, found)),
         },
-        Standing::Dead => take_dead(port, frame, owner, want, word, kind),
-        Standing::Partial => take_partial(port, frame, owner, want, word, kind),
+        Standing::Dead => take_dead(port, frame, owner, want, word),
+        Standing::Partial => take_partial(port, frame, owner, want, word),
         Standing::Busy => Err(Stop::Paused(Pause::Busy { frame, found: word })),
         Standing::Other => Err(Stop::Refused(Refusal::OtherType {
             frame,
@@ -110,19 +111,18 @@ fn take_dead<P: Port>(
     owner: u16,
     want: PageType,
     word: u64,
-    kind: KindWord,
 ) -> Result<Taken, Stop>
     requires frame { frame < (P.value port.old).post.machine.frames }
     requires may { MayWork (P.value port.old) }
     requires wanted { IsTrue (not (is_none want)) }
     requires looked { IsLooked (P.value port.old) frame owner want word }
-    requires read { kind_read word ≡ Some kind }
-    requires stands { standing_of kind want ≡ Dead }
+    requires stands { (k : KindWord) → kind_read word ≡ Some k → standing_of k want ≡ Dead }
     ensures takes { (b : PortValue) → Looked b (P.value port.old) frame owner want word → Takes b (P.value port.new) frame owner want result }
     ensures found { (b : PortValue) → Looked b (P.value port.old) frame owner want word → TakesFound b (P.value port.new) frame want result }
     ensures live { IfOk result (λ t. LeavesLive (P.value port.old) (P.value port.new) frame t) }
     ensures plain { (b : PortValue) → Looked b (P.value port.old) frame owner want word → TwinTake b (P.value port.new) frame want result }
 {
+    let kind = read_kind(word);
     let marked = is_stale_for(kind, want);
     match begin_work(port, frame, kind, want) {
         Ok(()) => Ok(go_on(port, frame, owner, want, marked, kind, true)),
@@ -138,19 +138,18 @@ fn take_partial<P: Port>(
     owner: u16,
     want: PageType,
     word: u64,
-    kind: KindWord,
 ) -> Result<Taken, Stop>
     requires frame { frame < (P.value port.old).post.machine.frames }
     requires may { MayWork (P.value port.old) }
     requires wanted { IsTrue (not (is_none want)) }
     requires looked { IsLooked (P.value port.old) frame owner want word }
-    requires read { kind_read word ≡ Some kind }
-    requires stands { standing_of kind want ≡ Partial }
+    requires stands { (k : KindWord) → kind_read word ≡ Some k → standing_of k want ≡ Partial }
     ensures takes { (b : PortValue) → Looked b (P.value port.old) frame owner want word → Takes b (P.value port.new) frame owner want result }
     ensures found { (b : PortValue) → Looked b (P.value port.old) frame owner want word → TakesFound b (P.value port.new) frame want result }
     ensures live { IfOk result (λ t. LeavesLive (P.value port.old) (P.value port.new) frame t) }
     ensures plain { (b : PortValue) → Looked b (P.value port.old) frame owner want word → TwinTake b (P.value port.new) frame want result }
 {
+    let kind = read_kind(word);
     match resume_work(port, frame, kind) {
         Ok(()) => {
             let marked = kind.unflushed;
