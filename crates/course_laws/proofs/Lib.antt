@@ -10,5 +10,6 @@ pub mod Starting
 pub mod Beginning
 pub mod Deciding
 pub mod Walking
+pub mod Outermost
 pub mod Stopping
 pub mod Awaiting

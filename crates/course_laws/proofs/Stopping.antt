@@ -1,6 +1,8 @@
 -- What an acquisition stops for, one of its calls stopped for, unless the gate said yes.
-use Rattle.std.proofs.Common.{◌≡◌, ℕ, Bool, true, false, List, [], ◌∷◌, Some, None, Result, Ok, Err, refl, arith}
+use Rattle.std.proofs.Common.{◌≡◌, ℕ, Bool, true, false, List, [], ◌∷◌, Some, None, Result, Ok, Err, refl, ap, arith}
+use Rattle.xp_words.specs.declared.reply.Pause.TheVariants.{Due}
 use Rattle.xp_words.specs.declared.reply.Stop.{Stop}
+use Rattle.xp_words.specs.declared.reply.Stop.TheVariants.{Paused}
 use Rattle.xp_board.specs.Told.{PortValue}
 use Rattle.xp_preempt.specs.Gates.{yeses}
 use Rattle.step_maker.specs.Moves.{Came}
@@ -59,27 +61,31 @@ advanced_stops owner _ _ _ _ _ (unsettled v w t ts stop few a) = stops_here v w 
 advanced_stops owner _ _ _ _ _ (stopped v w t ts stop few a) = stops_here v w (of_entries owner 0) stop refl refl (a.stops 0)
 advanced_stops owner _ _ _ _ _ (completed v u w t outer ts full a b) = tt
 
+-- it is not for the gate, or this never said yes
+abbrev pub IsUngated : {A : Type 0} → List Bool → Result A Stop → Type 0
+IsUngated answers r = r ≡ Err (Paused Due) → yeses answers ≡ 0
+
 no_yes : (answers : List Bool) → yeses (true ∷ answers) ≡ 0 → ⊥
 unfolding yeses
 no_yes answers none = omega arith
 
-pub filled_stops : (owner : ℕ) (v : PortValue) (ts : List TableWork) (first : List Bool) (w : PortValue) (us : List TableWork) (answers : List Bool) (r : Result (Unit {0}) Stop) → Filled owner v ts first w us answers r → yeses answers ≡ 0 → StopsAs v w r
+pub filled_stops : (owner : ℕ) (v : PortValue) (ts : List TableWork) (first : List Bool) (w : PortValue) (us : List TableWork) (answers : List Bool) (r : Result (Unit {0}) Stop) → Filled owner v ts first w us answers r → IsUngated answers r → StopsAs v w r
 filled_stops owner v ts first _ _ _ _ begun none = tt
 filled_stops owner v ts first _ _ _ _ (unasked u w us xs done answers before step off) none = tt
 filled_stops owner v ts first _ _ _ _ (asked u w us xs answers before step on) none = tt
-filled_stops owner v ts first _ _ _ _ (due u w us xs answers before step on) none = absurd (no_yes answers none)
+filled_stops owner v ts first _ _ _ _ (due u w us xs answers before step on) none = absurd (no_yes answers (none refl))
 filled_stops owner v ts first _ _ _ _ (stopped u w us xs answers stop before step) none = behind v u w stop (filled_came owner v ts first u us answers (Ok tt) before) (advanced_stops owner u us w xs (Err stop) step)
 
-pub worked_stops : (owner : ℕ) (v : PortValue) (t : TableWork) (w : PortValue) (us : List TableWork) (answers : List Bool) (r : Result (Unit {0}) Stop) → Worked owner v t w us answers r → yeses answers ≡ 0 → StopsAs v w r
+pub worked_stops : (owner : ℕ) (v : PortValue) (t : TableWork) (w : PortValue) (us : List TableWork) (answers : List Bool) (r : Result (Unit {0}) Stop) → Worked owner v t w us answers r → IsUngated answers r → StopsAs v w r
 worked_stops owner v t _ _ _ _ (cut_off w us stop a) none = on_stops owner v (t ∷ []) w us (Err stop) a
-worked_stops owner v t _ _ _ _ (due w us a on) none = absurd (no_yes [] none)
+worked_stops owner v t _ _ _ _ (due w us a on) none = absurd (no_yes [] (none refl))
 worked_stops owner v t _ _ _ _ (filled u w us xs done answers answer a b) none = behind_as v u w answer (on_came owner v (t ∷ []) u us _ a) (filled_stops owner u us _ w xs answers answer b none)
 
 -- ---- the whole
 ref_came : (v u : PortValue) (f owner : ℕ) (r : Result ℕ Stop) → GotRef v u f owner r → Came v u
 ref_came v u f owner r a = does_came v u _ a.found
 
-pub acquired_stops : (v : PortValue) (f owner level : ℕ) (w : PortValue) (answers : List Bool) (answer : Result ℕ Stop) → Acquired v f owner level w answers answer → yeses answers ≡ 0 → StopsAs v w answer
+pub acquired_stops : (v : PortValue) (f owner level : ℕ) (w : PortValue) (answers : List Bool) (answer : Result ℕ Stop) → Acquired v f owner level w answers answer → IsUngated answers answer → StopsAs v w answer
 acquired_stops v f owner level _ _ _ (unreferred w stop ref) none = stops_here v w (of_frame f owner None) stop refl refl ref.stops
 acquired_stops v f owner level _ _ _ (untyped u x w stop ref type back) none =
     behind v u w stop (ref_came v u f owner _ ref) (ahead_of u x w stop (stops_here u x (of_frame f owner (Some (level_type level))) stop refl refl type.stops) (gave_came x w f back))
@@ -90,5 +96,5 @@ acquired_stops v f owner level _ _ _ (waiting u x w own stamp stop ref type left
 acquired_stops v f owner level _ _ _ (unfinished u x y w progress own us answers stop ref type work left) none =
     behind v u w stop (ref_came v u f owner _ ref)
     (behind u x w stop (does_came u x _ type.found)
-    (ahead_of x y w stop (worked_stops owner x (outermost_table f level progress own) y us answers (Err stop) work none) (unwound_came y us (keeps_it stop) w left)))
+    (ahead_of x y w stop (worked_stops owner x (outermost_table f level progress own) y us answers (Err stop) work (λ e. let same : stop ≡ Paused Due = cc in none (ap Err same))) (unwound_came y us (keeps_it stop) w left)))
 acquired_stops v f owner level _ _ _ (finished u x y w progress own t answers ref type work full made) none = tt

@@ -1,6 +1,5 @@
 pub mod Lending
 pub mod Looking
-pub mod Outermost
 pub mod Unpinned
 pub mod Ending
 pub mod Pinning

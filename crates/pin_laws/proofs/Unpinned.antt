@@ -41,7 +41,7 @@ use Rattle.course_laws.proofs.Starting.{described, rest_frames}
 use Rattle.course_laws.proofs.Walking.{worked_came}
 use Rattle.pin_laws.proofs.Lending.{got_there}
 use Rattle.pin_laws.proofs.Looking.{kind_apart}
-use Rattle.pin_laws.proofs.Outermost.{worked_outermost}
+use Rattle.course_laws.proofs.Outermost.{worked_outermost}
 
 -- ---- made live
 few_counts : (own : Bool) → type_counts own < 2 ^ 26
@@ -147,4 +147,4 @@ module _ (c : PortValue) (d f level : ℕ) (machine : IsMachine c.post.machine) 
   had_unpinned _ _ _ (unfinished u x y w progress own us answers stop ref type work left) = tt
   had_unpinned _ _ _ (finished u x y w progress own t answers ref type work full made) =
       let came = came_trans c x y (came_trans c u x (does_came c u _ ref.found) (does_came u x _ type.found)) (worked_came d x (outermost_table f level progress own) y (t ∷ []) answers _ work) in
-      made_unpinned y w t f (came_telling c y came ∙ telling) made (worked_outermost d f x (outermost_table f level progress own) y (t ∷ []) answers _ work refl)
+      made_unpinned y w t f (came_telling c y came ∙ telling) made (worked_outermost d f level x (outermost_table f level progress own) y (t ∷ []) answers _ work (refl, refl)).0

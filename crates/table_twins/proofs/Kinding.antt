@@ -45,7 +45,7 @@ pub same_share : (x y : ℕ) → IsAlikeRef x y → share_of y ≡ share_of x
 same_share x y (inl e) = sym (ap share_of e)
 same_share x y (inr e) = free_share (ref_read y) y refl e.1 ∙ sym (free_share (ref_read x) x refl e.0)
 
-unlive : (k : KindWord) → k.validated ≡ false → sober k ≡ record k { number = 0; unflushed = false }
+pub unlive : (k : KindWord) → k.validated ≡ false → sober k ≡ record k { number = 0; unflushed = false }
 unlive k off = ap (λ b. if b then k else record k { number = 0; unflushed = false }) off
 
 sober_alike : (k l : KindWord) → IsAlikeKind k l → sober l ≡ sober k

@@ -97,7 +97,7 @@ pick_first a x y on = ap (λ k. if k then x else y) on
 some_lt : (c : ℕ) → (c == 0) ≡ false → nat_lt 0 c ≡ true
 some_lt c off = grind (arith, nat_tests)
 
-live_sober : (k : KindWord) → k.validated ≡ true → sober k ≡ k
+pub live_sober : (k : KindWord) → k.validated ≡ true → sober k ≡ k
 live_sober k on = ap (λ b. if b then k else record k { number = 0; unflushed = false }) on
 
 module _ (n : Machine) (m : Words) (q : Plain) (g : ℕ) (d : Describes n m q) (inside : g < n.frames) (t : PageType) where
@@ -120,13 +120,13 @@ module _ (n : Machine) (m : Words) (q : Plain) (g : ℕ) (d : Describes n m q) (
   dead_takes dead = pick_first (is_dead (q.kinds g)) _ _ (dead_there ∙ dead)
 
 -- at each level
-at_level : (n : Machine) (owner g l : ℕ) (q : Plain) (P : PlainOutcome → Type 0) → ((fill : Plain → PlainOutcome) → P (take_kind fill g (level_type l) q (q.kinds g))) → P (take_at l n owner g q)
+pub at_level : (n : Machine) (owner g l : ℕ) (q : Plain) (P : PlainOutcome → Type 0) → ((fill : Plain → PlainOutcome) → P (take_kind fill g (level_type l) q (q.kinds g))) → P (take_at l n owner g q)
 unfolding take_at
 at_level n owner g zero q P holds = holds fine
 at_level n owner g (suc l) q P holds = holds (meet_last n owner (take_at l n owner) (let_go l) (level_type (suc l)) g 512)
 
 -- ---- the words
-work_is : (t : PageType) → IsTrue (not (is_none t)) → IsTrue (is_kind (work_kind t false 0))
+pub work_is : (t : PageType) → IsTrue (not (is_none t)) → IsTrue (is_kind (work_kind t false 0))
 unfolding has_form
 work_is t typed = grind (arith, nat_tests)
 

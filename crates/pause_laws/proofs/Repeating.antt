@@ -1,0 +1,156 @@
+-- Calls behind one another, until one is not paused by the gate.
+use Rattle.std.proofs.Common.{◌≡◌, ℕ, ◌≤◌, Bool, true, List, [], ◌∷◌, Option, Some, None, Result, Ok, Err, refl, sym, ap, ◌∙◌, subst, arith}
+use Rattle.xp_words.specs.Machine.{IsMachine, Machine}
+use Rattle.xp_words.specs.RefWords.{ref_read}
+use Rattle.xp_words.specs.declared.refs.RefWord.{RefWord}
+use Rattle.xp_words.specs.declared.refs.RefWord.TheVariants.{Dying, Free, Owned}
+use Rattle.xp_words.specs.declared.reply.Pause.TheVariants.{Due}
+use Rattle.xp_words.specs.declared.reply.Refusal.TheVariants as refusals
+use Rattle.xp_words.specs.declared.reply.Stop.{Stop}
+use Rattle.xp_words.specs.declared.reply.Stop.TheVariants.{Refused, Paused}
+use Rattle.xp_board.specs.Lawful.{Lawful}
+use Rattle.xp_board.specs.Readings.{count_in, ref_count}
+use Rattle.xp_board.specs.Told.{Post, PortValue, is_telling, told_word}
+use Rattle.step_maker.proofs.Coming.{came_post, met_after, met_before}
+use Rattle.answer_fits.specs.Answers.{Stops}
+use Rattle.answer_fits.specs.Licences.{IsFull}
+use Rattle.answer_fits.proofs.Alikes.{same_alike}
+use Rattle.partial_state.specs.Levels.{level_type}
+use Rattle.table_law.specs.Alone.{PlainOutcome, alone}
+use Rattle.table_law.specs.Lawful.{IsAtRest}
+use Rattle.table_law.specs.Plain.{plain_of}
+use Rattle.table_law.proofs.Lawfully.{fine_by_rest}
+use Rattle.table_law.proofs.OnWords.{lawful_plain, lawful_words, rested_plain}
+use Rattle.table_twins.proofs.Kinding.{described_alike}
+use Rattle.table_courses.specs.Acquiring.{Acquired}
+use Rattle.course_laws.specs.Courses.{IsDecided, IsHad, IsOrderly}
+use Rattle.course_laws.proofs.Deciding.{had_where_lawful}
+use Rattle.course_laws.proofs.Stacking.{Refuses}
+use Rattle.course_laws.proofs.Starting.{described}
+use Rattle.course_laws.proofs.Stopping.{StopsIn, acquired_stops}
+use Rattle.pause_laws.specs.Calls.{Calls, IsKeptFor, HasRoom, Repeats, again, last, more, once}
+use Rattle.pause_laws.proofs.Beginning.{first_call}
+use Rattle.pause_laws.proofs.Calling.{CallOutcome, IsDone, resumed_call}
+use Rattle.pause_laws.proofs.Lends.{extra, lent}
+use Rattle.pause_laws.proofs.Under.{spelled_same}
+use Rattle.pause_laws.proofs.Unwinding.{ParkedAt, parked_over}
+
+-- ---- a call that finds room is not refused for a count at its limit
+full_word : (owner limit w : ℕ) (r : Option RefWord) → ref_read w ≡ r → IsFull owner limit r → limit ≤ ref_count w
+unfolding ref_count
+full_word owner limit w (Some (Owned o a c)) is full = let count : count_in (ref_read w) ≡ c = ap count_in is in let low = full.1 in omega arith
+full_word owner limit w (Some (Free stamp)) is full = absurd full
+full_word owner limit w (Some (Dying o)) is full = absurd full
+full_word owner limit w None is full = absurd full
+
+never_full : (v w : PortValue) (g x : ℕ) → HasRoom v w → StopsIn v w (Refused (refusals.CountFull g x)) → ⊥
+unfolding Stops
+never_full v w g x room s =
+    let why = s.stops in
+    let at = why.4 in
+    let low = room at.moment g (met_after v s.from w at.moment s.before (met_before s.from s.to w at.moment at.was s.after)) at.place in
+    let same : s.from.post.machine ≡ v.post.machine = ap (λ (p : Post). p.machine) (came_post v s.from s.before) in
+    let limit : s.from.post.machine.limit ≡ v.post.machine.limit = ap (λ (n : Machine). n.limit) same in
+    let full = full_word why.0 s.from.post.machine.limit x (ref_read x) refl why.5 in
+    let found : ref_count at.moment.found ≡ ref_count x = ap ref_count at.word in
+    omega arith
+
+-- ---- from parked words
+-- what the last one comes to
+abbrev pub LastOutcome : Machine → PortValue → PlainOutcome → Result ℕ Stop → Type 0
+LastOutcome n w a (Ok g) = IsDone n w a
+LastOutcome n w a (Err e) = IsDecided (Err e) → Refuses a
+
+module _ (n : Machine) (owner f level : ℕ) (a : PlainOutcome) (is : IsMachine n) where
+  resumed_from : (v w : PortValue) (answers : List Bool) (answer : Result ℕ Stop) → ParkedAt n owner v f level a → Acquired v f owner level w answers answer → CallOutcome n owner w f level a answer
+  resumed_from v w answers answer g acquired =
+      let h = g.parked in
+      let t = h.table in
+      let there : ParkedAt n owner v t.frame t.level a =
+      record {
+        machine = g.machine;
+        telling = g.telling;
+        parked = record { table = t; inner = h.inner; plain = h.plain; frame = refl; level_is = refl; own = h.own; under_way = h.under_way; under = h.under; describes = h.describes; spelled = h.spelled; settled = h.settled };
+      } in
+      let call = subst (λ l. Acquired v t.frame owner l w answers answer) (sym h.level_is) (subst (λ i. Acquired v i owner level w answers answer) (sym h.frame) acquired) in
+      subst (λ l. CallOutcome n owner w f l a answer) h.level_is (subst (λ i. CallOutcome n owner w i t.level a answer) h.frame (resumed_call n owner a is v t there refl w answers answer call))
+
+  -- the words between two calls
+  pub goes_on : (u x : PortValue) → IsKeptFor u x → ParkedAt n owner u f level a → ParkedAt n owner x f level a
+  goes_on u x on g =
+      let h = g.parked in
+      let q = parked_over true h.table h.inner h.plain in
+      let alike = same_alike (told_word x) (told_word u) on.words in
+      record {
+        machine = on.machine ∙ g.machine;
+        telling = on.telling;
+        parked = record {
+          table = h.table;
+          inner = h.inner;
+          plain = h.plain;
+          frame = h.frame;
+          level_is = h.level_is;
+          own = h.own;
+          under_way = h.under_way;
+          under = h.under;
+          describes = described_alike n (told_word x) (told_word u) (lent (extra (h.table ∷ [])) q) alike h.describes;
+          spelled = spelled_same n (told_word u) (told_word x) q q (λ i inside. h.describes.kinds i inside) h.spelled alike (λ i. refl);
+          settled = h.settled;
+        };
+      }
+
+  last_by : (v w : PortValue) (answers : List Bool) (answer : Result ℕ Stop) → Acquired v f owner level w answers answer → HasRoom v w → CallOutcome n owner w f level a answer → LastOutcome n w a answer
+  last_by v w answers (Ok g) acquired room o = o
+  last_by v w answers (Err (Paused x)) acquired room o = λ decided. absurd decided
+  last_by v w answers (Err (Refused (refusals.Clock x))) acquired room o = λ decided. absurd decided
+  last_by v w answers (Err (Refused (refusals.CountFull g x))) acquired room o = λ decided. absurd (never_full v w g x room (acquired_stops v f owner level w answers (Err (Refused (refusals.CountFull g x))) acquired (λ e. absurd cc)))
+  last_by v w answers (Err (Refused _)) acquired room o = λ decided. o tt
+
+  pub resumed : (v w : PortValue) (answer : Result ℕ Stop) → ParkedAt n owner v f level a → Repeats f owner level v w answer → LastOutcome n w a answer
+  resumed _ _ _ g (last v w answers answer acquired room) = last_by v w answers answer acquired room (resumed_from v w answers answer g acquired)
+  resumed _ _ _ g (again v u x w answers answer acquired on rest) = resumed x w answer (goes_on u x on (resumed_from v u answers (Err (Paused Due)) g acquired)) rest
+
+-- ---- from words at rest
+module _ (v : PortValue) (f owner level : ℕ) (machine : IsMachine v.post.machine) (telling : is_telling v ≡ true) (calm : IsAtRest v.post.machine (told_word v)) (orderly : IsOrderly v.post.machine (told_word v)) (low : 1 ≤ level) (high : level ≤ 4) where
+  abbrev a : PlainOutcome
+  a = alone v.post.machine owner level f (plain_of (told_word v))
+
+  had_by : (w : PortValue) (answer : Result ℕ Stop) → IsDecided answer → LastOutcome v.post.machine w a answer → (a.refusal ≡ None → IsHad answer) × (IsHad answer → a.refusal ≡ None)
+  had_by w (Ok g) decided o = (λ none. tt, λ had. o.none)
+  had_by w (Err e) decided o = (λ none. absurd (let is = (o decided).is in cc), λ had. absurd had)
+
+  resumed_lawful : (w : PortValue) (answer : Result ℕ Stop) → IsDecided answer → LastOutcome v.post.machine w a answer →
+      (Lawful v.post.machine owner (told_word v) f (level_type level) → IsHad answer) × (IsHad answer → Lawful v.post.machine owner (told_word v) f (level_type level))
+  resumed_lawful w answer decided o =
+      let n = v.post.machine in
+      let p = plain_of (told_word v) in
+      let d = described n (told_word v) in
+      let law = fine_by_rest n owner level f p high (rested_plain n (told_word v) p d calm) in
+      let had = had_by w answer decided o in
+      (λ is. had.0 (law.0 (lawful_plain n owner f (level_type level) (told_word v) p d is)), λ is. lawful_words n owner f (level_type level) (told_word v) p d (law.1 (had.1 is)))
+
+  behind : (u x w : PortValue) (answers : List Bool) (answer : Result ℕ Stop) → Acquired v f owner level u answers (Err (Paused Due)) → IsKeptFor u x → Repeats f owner level x w answer → LastOutcome v.post.machine w a answer
+  behind u x w answers answer acquired on rest =
+      resumed v.post.machine owner f level a machine x w answer (goes_on v.post.machine owner f level a machine u x on (first_call v f owner level machine telling calm orderly low high u answers (Err (Paused Due)) acquired)) rest
+
+  done_by : (w : PortValue) (answer : Result ℕ Stop) → IsHad answer → LastOutcome v.post.machine w a answer → IsDone v.post.machine w a
+  done_by w (Ok g) had o = o
+  done_by w (Err e) had o = absurd had
+
+  first_done : (w : PortValue) (answer : Result ℕ Stop) → IsHad answer → CallOutcome v.post.machine owner w f level a answer → IsDone v.post.machine w a
+  first_done w (Ok g) had o = o
+  first_done w (Err e) had o = absurd had
+
+-- ---- any such list of calls
+pub all_lawful : (v : PortValue) (f owner level : ℕ) (w : PortValue) (answer : Result ℕ Stop) → IsMachine v.post.machine → is_telling v ≡ true → IsAtRest v.post.machine (told_word v) → IsOrderly v.post.machine (told_word v) → 1 ≤ level → level ≤ 4 →
+    Calls f owner level v w answer → IsDecided answer → (Lawful v.post.machine owner (told_word v) f (level_type level) → IsHad answer) × (IsHad answer → Lawful v.post.machine owner (told_word v) f (level_type level))
+all_lawful _ f owner level _ _ machine telling calm orderly low high (once v w answers answer acquired) decided = had_where_lawful v f owner level machine telling calm orderly low high w answers answer acquired decided
+all_lawful _ f owner level _ _ machine telling calm orderly low high (more v u x w answers answer acquired on rest) decided =
+    resumed_lawful v f owner level machine telling calm orderly low high w answer decided (behind v f owner level machine telling calm orderly low high u x w answers answer acquired on rest)
+
+pub all_done : (v : PortValue) (f owner level : ℕ) (w : PortValue) (answer : Result ℕ Stop) → IsMachine v.post.machine → is_telling v ≡ true → IsAtRest v.post.machine (told_word v) → IsOrderly v.post.machine (told_word v) → 1 ≤ level → level ≤ 4 →
+    Calls f owner level v w answer → IsHad answer → IsDone v.post.machine w (alone v.post.machine owner level f (plain_of (told_word v)))
+all_done _ f owner level _ _ machine telling calm orderly low high (once v w answers answer acquired) had =
+    first_done v f owner level machine telling calm orderly low high w answer had (first_call v f owner level machine telling calm orderly low high w answers answer acquired)
+all_done _ f owner level _ _ machine telling calm orderly low high (more v u x w answers answer acquired on rest) had =
+    done_by v f owner level machine telling calm orderly low high w answer had (behind v f owner level machine telling calm orderly low high u x w answers answer acquired on rest)
