@@ -1,4 +1,5 @@
 use Rattle.std.proofs.Common.{ℕ, Err, refl, ◌-◌, ◌<◌, ◌∷◌, [], drop, false, None, Ok, sym, ap, ◌∙◌, subst, arith}
+use Rattle.partial_state.proofs.LevelFacts.{level_type-under}
 use Rattle.std.proofs.lemmas.Result.{IfErr-weaker, err_from_is_err_and}
 use Rattle.xp_words.specs.Entries.{below}
 use Rattle.xp_words.specs.declared.kind.PageType.{PageType}
@@ -19,7 +20,7 @@ use Rattle.level_validate.proofs.Asking.{goes_advanced, goes_answer, goes_entrie
 use Rattle.level_validate.proofs.Entered.{after_look, after_next, after_record, after_record_ready, fresh_ready}
 use Rattle.level_validate.proofs.LeavingTables.{top_inside}
 use Rattle.level_validate.proofs.Lowering.{next_lowers}
-use Rattle.level_validate.proofs.Opening.{level_below, opened_found}
+use Rattle.level_validate.proofs.Opening.{opened_found}
 use Rattle.level_validate.proofs.Visited.{entered_first}
 use Rattle.level_validate.proofs.Pushing.{pushed}
 use Rattle.level_validate.proofs.Standing.{standing_above, standing_held, standing_known, standing_looked, standing_next}
@@ -360,7 +361,7 @@ returns-in-Opened-clause-serves g c =
     let a = c.requires.stands in
     let s0 = subst (λ xs. Carries a.0 u owner xs) c.in-Some.ensures.some a.1 in
     let inner = pushed t c.in-Opened.frame c.in-Opened.progress c.in-Opened.own false in
-    let below_is = ap below c.level_type.ensures ∙ level_below t.level s0.stack.0.low s0.stack.0.high in
+    let below_is = ap below c.level_type.ensures ∙ level_type-under t.level s0.stack.0.low s0.stack.0.high in
     let first = goes_opened u x owner stack k c.in-Opened.frame c.in_ok-take_entry.ensures.serves shows inner refl below_is in
     goes_on u x y owner stack c.push.new.self c.take_on.new.stack c.take_on.result came
     (subst (λ xs. CarriesOn u x owner stack xs []) (sym (c.push.ensures.pushed ∙ ap (λ ys. inner ∷ ys) c.advance-in-Opened.ensures.advanced)) (goes_inner u x owner stack inner stack [] first)) c.take_on.ensures.serves
@@ -387,7 +388,7 @@ returns-in-Opened-clause-stops g c =
     let way = subst (λ k. EntersFound u x t.frame t.done k owner (Ok (entered.Opened c.in-Opened.frame c.in-Opened.progress c.in-Opened.own))) c.level_type.ensures (subst (λ r. EntersFound u x t.frame t.done c.level_type.result owner (Ok r)) c.in-Opened.is found) in
     let came_open = opened_found u x t.frame t.done (level_type t.level) owner c.in-Opened.frame c.in-Opened.progress c.in-Opened.own way in
     let inner = pushed t c.in-Opened.frame c.in-Opened.progress c.in-Opened.own false in
-    let below_is = ap below c.level_type.ensures ∙ level_below t.level s0.stack.0.low s0.stack.0.high in
+    let below_is = ap below c.level_type.ensures ∙ level_type-under t.level s0.stack.0.low s0.stack.0.high in
     let opened = goes_opened u x owner stack k c.in-Opened.frame c.in_ok-take_entry.ensures.serves shows inner refl below_is in
     let now = c.push.ensures.pushed ∙ ap (λ ys. inner ∷ ys) c.advance-in-Opened.ensures.advanced in
     let goes = subst (λ xs. CarriesOn u x owner stack xs []) (sym now) (goes_inner u x owner stack inner stack [] opened) in
