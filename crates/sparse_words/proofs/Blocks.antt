@@ -1,4 +1,4 @@
--- What a new block makes of the cells.
+-- What a new block makes of the store.
 use Rattle.std.proofs.Common.{◌≡◌, ◌≢◌, ℕ, ◌+◌, ◌-◌, ◌*◌, ◌<◌, ◌≤◌, ◌++◌, nat_lt, nat_eq, Bool, true, false, List, [], length, replicate, set, slice_index, if◌then◌else◌, refl, ◌∙◌, ap, arith, inl, inr, get_or-set_same, cond, count_by, length-append, take}
 use Rattle.std.proofs.Math.ListN.{length-set, length-replicate}
 use Rattle.std.proofs.lemmas.List.{get_or-set_other, get_or_append_left, get_or-append_right, get_or-replicate, take_all}
@@ -6,118 +6,118 @@ use Rattle.std.proofs.lemmas.List.Sums.{sum_by-set, count_by-le-length}
 use Rattle.std.proofs.lemmas.List.Folds.{sum_by-replicate}
 use Rattle.std.proofs.lemmas.Bool.{cases_eq}
 use Rattle.std.proofs.lemmas.Bool.Decides.{nat_tests}
-use Rattle.sparse_words.specs.Kept.{cell_in, used, IsBlocks}
+use Rattle.sparse_words.specs.Kept.{kept_at, used, IsStore}
 use Rattle.sparse_words.proofs.Places.{zeros, length_zeros}
 
-pub used_more : (blocks : List ℕ) (f b : ℕ) → f < length blocks → slice_index blocks f ≡ 0 → 0 < b → used (set blocks f b) ≡ used blocks + 1
+pub used_more : (chunks : List ℕ) (c b : ℕ) → c < length chunks → slice_index chunks c ≡ 0 → 0 < b → used (set chunks c b) ≡ used chunks + 1
 unfolding used
-used_more blocks f b lt none pos =
+used_more chunks c b lt none pos =
     let on : nat_lt 0 b ≡ true = grind (arith, nat_tests) in
-    let moved : used (set blocks f b) + 0 ≡ used blocks + 1 = rw (on, none) at (sum_by-set (λ x. if nat_lt 0 x then 1 else 0) blocks f b 0 lt) in
+    let moved : used (set chunks c b) + 0 ≡ used chunks + 1 = rw (on, none) at (sum_by-set (λ x. if nat_lt 0 x then 1 else 0) chunks c b 0 lt) in
     omega arith
 
--- a frame without a block leaves room for one
-pub used_lt : (blocks : List ℕ) (f : ℕ) → f < length blocks → slice_index blocks f ≡ 0 → used blocks < length blocks
+-- a chunk without a block leaves room for one
+pub used_lt : (chunks : List ℕ) (c : ℕ) → c < length chunks → slice_index chunks c ≡ 0 → used chunks < length chunks
 unfolding used
-used_lt blocks f lt none =
-    let more : used (set blocks f 1) ≡ used blocks + 1 = used_more blocks f 1 lt none (omega arith) in
-    let few : count_by (nat_lt 0) (set blocks f 1) ≤ length (set blocks f 1) = count_by-le-length (nat_lt 0) (set blocks f 1) in
-    let long : length (set blocks f 1) ≡ length blocks = length-set blocks f 1 in
+used_lt chunks c lt none =
+    let more : used (set chunks c 1) ≡ used chunks + 1 = used_more chunks c 1 lt none (omega arith) in
+    let few : count_by (nat_lt 0) (set chunks c 1) ≤ length (set chunks c 1) = count_by-le-length (nat_lt 0) (set chunks c 1) in
+    let long : length (set chunks c 1) ≡ length chunks = length-set chunks c 1 in
     omega arith
 
--- the block of a frame, where frame f has another
-block_own : (blocks : List ℕ) (f b g : ℕ) → f < length blocks → g ≡ f → slice_index (set blocks f b) g ≡ b
-block_own blocks f b g lt same = rw same (get_or-set_same blocks f b 0 lt)
+-- the block of a chunk, where chunk c has another
+block_own : (chunks : List ℕ) (c b d : ℕ) → c < length chunks → d ≡ c → slice_index (set chunks c b) d ≡ b
+block_own chunks c b d lt same = rw same (get_or-set_same chunks c b 0 lt)
 
-block_kept : (blocks : List ℕ) (f b g : ℕ) → g ≢ f → slice_index (set blocks f b) g ≡ slice_index blocks g
-block_kept blocks f b g other = get_or-set_other blocks f g b 0 other
+block_kept : (chunks : List ℕ) (c b d : ℕ) → d ≢ c → slice_index (set chunks c b) d ≡ slice_index chunks d
+block_kept chunks c b d other = get_or-set_other chunks c d b 0 other
 
-module _ (blocks cells : List ℕ) (capacity : ℕ) (is : IsBlocks blocks cells capacity) (f : ℕ) (lt : f < length blocks) (none : slice_index blocks f ≡ 0) (v : ℕ) where
-  old_cell : (k : ℕ) → k < length cells → slice_index (cells ++ replicate 512 v) k ≡ slice_index cells k
-  old_cell k l = get_or_append_left cells (replicate 512 v) 0 k l
+module _ (chunks store : List ℕ) (capacity : ℕ) (is : IsStore chunks store capacity) (c : ℕ) (lt : c < length chunks) (none : slice_index chunks c ≡ 0) (v : ℕ) where
+  old_word : (k : ℕ) → k < length store → slice_index (store ++ replicate 32 v) k ≡ slice_index store k
+  old_word k l = get_or_append_left store (replicate 32 v) 0 k l
 
-  new_cell : (k j : ℕ) → k ≡ length cells + j → j < 512 → slice_index (cells ++ replicate 512 v) k ≡ v
-  new_cell k j e l =
-      get_or-append_right cells (replicate 512 v) (length cells) k 0 refl (omega arith) ∙ get_or-replicate 512 (k - length cells) v 0 (omega arith)
+  new_word : (k j : ℕ) → k ≡ length store + j → j < 32 → slice_index (store ++ replicate 32 v) k ≡ v
+  new_word k j e l =
+      get_or-append_right store (replicate 32 v) (length store) k 0 refl (omega arith) ∙ get_or-replicate 32 (k - length store) v 0 (omega arith)
 
-  cells_more : length (cells ++ replicate 512 v) ≡ length cells + 512
-  cells_more = length-append cells (replicate 512 v) ∙ ap (λ n. length cells + n) (length-replicate 512 v)
+  store_more : length (store ++ replicate 32 v) ≡ length store + 32
+  store_more = length-append store (replicate 32 v) ∙ ap (λ n. length store + n) (length-replicate 32 v)
 
-  pub block_added : (more : ℕ) → capacity ≤ more → IsBlocks (set blocks f (used blocks + 1)) (cells ++ replicate 512 v) more
+  pub block_added : (more : ℕ) → capacity ≤ more → IsStore (set chunks c (used chunks + 1)) (store ++ replicate 32 v) more
   block_added more le =
-      let new : used (set blocks f (used blocks + 1)) ≡ used blocks + 1 = used_more blocks f (used blocks + 1) lt none (omega arith) in
-      let long : length (set blocks f (used blocks + 1)) ≡ length blocks = length-set blocks f (used blocks + 1) in
+      let new : used (set chunks c (used chunks + 1)) ≡ used chunks + 1 = used_more chunks c (used chunks + 1) lt none (omega arith) in
+      let long : length (set chunks c (used chunks + 1)) ≡ length chunks = length-set chunks c (used chunks + 1) in
       let whole = is.whole in
       let room = is.room in
       record {
-        whole = cells_more ∙ omega arith;
+        whole = store_more ∙ omega arith;
         room = omega arith;
-        zeros = λ i l. old_cell i (omega arith) ∙ is.zeros i l;
-        below = λ g. elim (cases_eq g f) [
-          | inl same ↦ let b = block_own blocks f (used blocks + 1) g lt same in omega arith
-          | inr other ↦ let b = block_kept blocks f (used blocks + 1) g other in let old = is.below g in omega arith
+        zeros = λ i l. old_word i (omega arith) ∙ is.zeros i l;
+        below = λ d. elim (cases_eq d c) [
+          | inl same ↦ let b = block_own chunks c (used chunks + 1) d lt same in omega arith
+          | inr other ↦ let b = block_kept chunks c (used chunks + 1) d other in let old = is.below d in omega arith
         ];
-        apart = λ g h pos e. elim (cases_eq g f) [
-          | inl first ↦ elim (cases_eq h f) [
+        apart = λ d h pos e. elim (cases_eq d c) [
+          | inl first ↦ elim (cases_eq h c) [
             | inl second ↦ omega arith
             | inr other ↦
-                let b = block_own blocks f (used blocks + 1) g lt first in
-                let k = block_kept blocks f (used blocks + 1) h other in
+                let b = block_own chunks c (used chunks + 1) d lt first in
+                let k = block_kept chunks c (used chunks + 1) h other in
                 let old = is.below h in
                 absurd (omega arith)
           ]
-          | inr others ↦ elim (cases_eq h f) [
+          | inr others ↦ elim (cases_eq h c) [
             | inl second ↦
-                let b = block_own blocks f (used blocks + 1) h lt second in
-                let k = block_kept blocks f (used blocks + 1) g others in
-                let old = is.below g in
+                let b = block_own chunks c (used chunks + 1) h lt second in
+                let k = block_kept chunks c (used chunks + 1) d others in
+                let old = is.below d in
                 absurd (omega arith)
             | inr other ↦
-                let k = block_kept blocks f (used blocks + 1) g others in
-                let m = block_kept blocks f (used blocks + 1) h other in
-                is.apart g h (omega arith) (omega arith)
+                let k = block_kept chunks c (used chunks + 1) d others in
+                let m = block_kept chunks c (used chunks + 1) h other in
+                is.apart d h (omega arith) (omega arith)
           ]
         ];
       }
 
-  pub cell_added : (g j : ℕ) → j < 512 → cell_in (set blocks f (used blocks + 1)) (cells ++ replicate 512 v) g j ≡ (if nat_eq g f then v else cell_in blocks cells g j)
-  cell_added g j l =
+  pub word_added : (d j : ℕ) → j < 32 → kept_at (set chunks c (used chunks + 1)) (store ++ replicate 32 v) d j ≡ (if nat_eq d c then v else kept_at chunks store d j)
+  word_added d j l =
       let whole = is.whole in
-      elim (cases_eq g f) [
+      elim (cases_eq d c) [
         | inl same ↦
-            let on : nat_eq g f ≡ true = grind (arith, nat_tests) in
-            let b = block_own blocks f (used blocks + 1) g lt same in
-            rw on (new_cell (512 * slice_index (set blocks f (used blocks + 1)) g + j) j (omega arith) l)
+            let on : nat_eq d c ≡ true = grind (arith, nat_tests) in
+            let b = block_own chunks c (used chunks + 1) d lt same in
+            rw on (new_word (32 * slice_index (set chunks c (used chunks + 1)) d + j) j (omega arith) l)
         | inr other ↦
-            let off : nat_eq g f ≡ false = grind (arith, nat_tests) in
-            let b = block_kept blocks f (used blocks + 1) g other in
-            let old = is.below g in
-            rw (off, b) (old_cell _ (omega arith))
+            let off : nat_eq d c ≡ false = grind (arith, nat_tests) in
+            let b = block_kept chunks c (used chunks + 1) d other in
+            let old = is.below d in
+            rw (off, b) (old_word _ (omega arith))
       ]
 
--- the block of a frame ends inside
-pub block_inside : (blocks cells : List ℕ) (capacity f i : ℕ) → IsBlocks blocks cells capacity → i < 512 → 512 * slice_index blocks f + i < length cells
-block_inside blocks cells capacity f i is l = let whole = is.whole in let below = is.below f in omega arith
+-- the block of a chunk ends inside
+pub block_inside : (chunks store : List ℕ) (capacity c i : ℕ) → IsStore chunks store capacity → i < 32 → 32 * slice_index chunks c + i < length store
+block_inside chunks store capacity c i is l = let whole = is.whole in let below = is.below c in omega arith
 
--- ---- where no frame has a block
+-- ---- where no chunk has a block
 used_none : (n : ℕ) → used (replicate n 0) ≡ 0
 unfolding used
 used_none n = sum_by-replicate (λ x. cond (nat_lt 0 x) 1 0) n 0 ∙ omega arith
 
-pub no_blocks : (n capacity : ℕ) → 512 * (n + 1) ≤ capacity → IsBlocks (replicate n 0) (replicate 512 0) capacity
+pub no_blocks : (n capacity : ℕ) → 32 * (n + 1) ≤ capacity → IsStore (replicate n 0) (replicate 32 0) capacity
 no_blocks n capacity room =
     let none = used_none n in
     let long = length_zeros n in
-    let cells = length_zeros 512 in
+    let store = length_zeros 32 in
     record {
       whole = omega arith;
       room = omega arith;
-      zeros = λ i l. zeros 512 i;
-      below = λ f. let e = zeros n f in omega arith;
-      apart = λ f g pos e. let z = zeros n f in absurd (omega arith);
+      zeros = λ i l. zeros 32 i;
+      below = λ c. let e = zeros n c in omega arith;
+      apart = λ c d pos e. let z = zeros n c in absurd (omega arith);
     }
 
--- ---- what `resize` makes of the cells
+-- ---- what `resize` makes of the store
 pub lengthened : (old now : List ℕ) (len n v : ℕ) (b : Bool) → length old ≡ len → b ≡ true → now ≡ (if b then take (len + n) old ++ replicate (len + n - len) v else old) → now ≡ old ++ replicate n v
 lengthened old now len n v b long on is =
     let count : len + n - len ≡ n = omega arith in

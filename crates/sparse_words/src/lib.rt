@@ -1,35 +1,33 @@
 //! The words of a machine, in little memory.
+//!
+//! A machine of 4,096 frames has 17 MB of words, and most of them are cells that hold nothing: to touch new memory for all took most of the
+//! time of a short run. So words that hold nothing but zeros take no memory. This goes by chunks of 32 words, since each frame's three own words
+//! come into use in any machine, and larger chunks around them would touch more.
 #![tactic(auto)]
 
 ghost use Rattle.std.specs.Prelude.{◌≡◌, ◌<◌, ◌≤◌, ◌+◌, ◌*◌, ◌^◌, ◌&&◌, ℕ, IfOk, if◌then◌else◌, length, nat_eq, nat_le, nat_lt, replicate, set, slice_index, vec_len, vec_capacity};
 ghost use Rattle.xp_words.specs.Places.{number, size, sizes_of};
 ghost use Rattle.xp_words.specs.declared.place.Place.TheVariants.{Cell};
-ghost use Rattle.sparse_words.specs.Kept.{spot_of, cell_in, in_run, IsBlocks};
+ghost use Rattle.sparse_words.specs.Kept.{kept_at, in_run, IsStore};
 
 use std::alloc::{AllocError, Global};
 use std::marker::Model;
 use xp_words::Layout;
 
-// Where a word is kept: among the heads, or in the cells of a frame.
-#[derive(Clone, Copy)]
-enum Spot {
-    Head { at: usize },
-    Body { frame: usize, index: usize },
-}
+// How many words a chunk has.
+const CHUNK: usize = 32;
 
 /// All words of a machine, each at its place in the layout. Contracts see the list of them.
 ///
-/// Cells of frames that hold nothing but zeros take no memory: these frames share the first block of cells.
+/// Chunks that hold nothing but zeros take no memory: they share the first block.
 #[derive(Drop)]
 pub struct SparseWords {
-    // How many words stand before the first frame.
-    before: u32,
-    // All words but cells.
-    heads: Vec<u64>,
-    // The number of each frame's block of cells.
-    blocks: Vec<u32>,
-    // There is room for a block for each frame. Memory that is not used yet is not touched.
-    cells: Vec<u64>,
+    // How many words there are.
+    count: u32,
+    // The number of each chunk's block.
+    chunks: Vec<u32>,
+    // The blocks, of a chunk's words each. There is room for one for each chunk. Memory that is not used yet is not touched.
+    store: Vec<u64>,
 }
 
 impl Model for SparseWords {
@@ -38,89 +36,60 @@ impl Model for SparseWords {
 
     ghost Value = { List ℕ };
 
-    ghost view = { λ w. kept_words w.before w.heads.items w.blocks.items w.cells.items };
+    ghost view = { λ w. kept_words w.count w.chunks.items w.store.items };
 
-    ghost invariant = { λ w. IsSparse w.before w.heads.items w.blocks.items w.cells.items (vec_capacity w.cells) };
+    ghost invariant = { λ w. IsSparse w.count w.chunks.items w.store.items (vec_capacity w.store) };
 }
 
-#[inline(always)]
-#[tactic(auto, unfolding(crate::specs::Kept::spot_of))]
-fn spot_of(before: u32, frames: usize, place: u32) -> Spot
-    requires { frames < 2 ^ 32 }
-    ensures { result ≡ spot_of before frames place }
+// A block that holds one word throughout, for a chunk that has none. There is room for it.
+fn add_block(chunks: &mut Vec<u32>, store: &mut Vec<u64>, chunk: usize, word: u64)
+    requires kept { IsStore chunks.old.items store.old.items (vec_capacity store.old) }
+    requires chunk { chunk < vec_len chunks.old }
+    requires few { vec_len chunks.old < 2 ^ 32 }
+    requires none { slice_index chunks.old.items chunk ≡ 0 }
+    ensures kept { IsStore chunks.new.items store.new.items (vec_capacity store.new) }
+    ensures chunks { vec_len chunks.new ≡ vec_len chunks.old }
+    ensures own { 0 < slice_index chunks.new.items chunk }
+    ensures words { (c i : ℕ) → i < 32 → kept_at chunks.new.items store.new.items c i ≡ (if nat_eq c chunk then word else kept_at chunks.old.items store.old.items c i) }
 {
-    if place < before {
-        return Spot::Head { at: place as usize };
-    }
-    let behind = place - before;
-    let frame = behind / 515;
-    if frame as usize >= frames {
-        return Spot::Head {
-            at: place as usize - 512 * frames,
-        };
-    }
-    // One division by 515 is made, as a product.
-    let part = (behind - 515 * frame) as usize;
-    if part < 3 {
-        return Spot::Head {
-            at: before as usize + 3 * frame as usize + part,
-        };
-    }
-    Spot::Body {
-        frame: frame as usize,
-        index: part - 3,
-    }
+    let used = store.len();
+    let _room = store.resize(used + CHUNK, word);
+    chunks[chunk] = (used / CHUNK) as u32;
 }
 
-// A block that holds one word throughout, for a frame that has none. There is room for it.
-fn add_block(blocks: &mut Vec<u32>, cells: &mut Vec<u64>, frame: usize, word: u64)
-    requires kept { IsBlocks blocks.old.items cells.old.items (vec_capacity cells.old) }
-    requires frame { frame < vec_len blocks.old }
-    requires few { vec_len blocks.old < 2 ^ 32 }
-    requires none { slice_index blocks.old.items frame ≡ 0 }
-    ensures kept { IsBlocks blocks.new.items cells.new.items (vec_capacity cells.new) }
-    ensures frames { vec_len blocks.new ≡ vec_len blocks.old }
-    ensures own { 0 < slice_index blocks.new.items frame }
-    ensures cells { (f i : ℕ) → i < 512 → cell_in blocks.new.items cells.new.items f i ≡ (if nat_eq f frame then word else cell_in blocks.old.items cells.old.items f i) }
-{
-    let used = cells.len();
-    let _room = cells.resize(used + 512, word);
-    blocks[frame] = (used / 512) as u32;
-}
-
-// A cell of a frame that has no block yet.
+// A word of a chunk that has no block yet.
 #[inline(never)]
-fn set_first(blocks: &mut Vec<u32>, cells: &mut Vec<u64>, frame: usize, index: usize, word: u64)
-    requires kept { IsBlocks blocks.old.items cells.old.items (vec_capacity cells.old) }
-    requires frame { frame < vec_len blocks.old }
-    requires few { vec_len blocks.old < 2 ^ 32 }
-    requires none { slice_index blocks.old.items frame ≡ 0 }
-    requires index { index < 512 }
-    ensures kept { IsBlocks blocks.new.items cells.new.items (vec_capacity cells.new) }
-    ensures frames { vec_len blocks.new ≡ vec_len blocks.old }
-    ensures cells { (f i : ℕ) → i < 512 → cell_in blocks.new.items cells.new.items f i ≡ (if in_run frame index 1 f i then word else cell_in blocks.old.items cells.old.items f i) }
+fn set_first(chunks: &mut Vec<u32>, store: &mut Vec<u64>, chunk: usize, index: usize, word: u64)
+    requires kept { IsStore chunks.old.items store.old.items (vec_capacity store.old) }
+    requires chunk { chunk < vec_len chunks.old }
+    requires few { vec_len chunks.old < 2 ^ 32 }
+    requires none { slice_index chunks.old.items chunk ≡ 0 }
+    requires index { index < 32 }
+    ensures kept { IsStore chunks.new.items store.new.items (vec_capacity store.new) }
+    ensures chunks { vec_len chunks.new ≡ vec_len chunks.old }
+    ensures words { (c i : ℕ) → i < 32 → kept_at chunks.new.items store.new.items c i ≡ (if in_run chunk index 1 c i then word else kept_at chunks.old.items store.old.items c i) }
 {
-    add_block(blocks, cells, frame, 0);
-    cells[512 * blocks[frame] as usize + index] = word;
+    add_block(chunks, store, chunk, 0);
+    store[CHUNK * chunks[chunk] as usize + index] = word;
 }
 
 #[inline(always)]
-fn set_cell(blocks: &mut Vec<u32>, cells: &mut Vec<u64>, frame: usize, index: usize, word: u64)
-    requires kept { IsBlocks blocks.old.items cells.old.items (vec_capacity cells.old) }
-    requires frame { frame < vec_len blocks.old }
-    requires few { vec_len blocks.old < 2 ^ 32 }
-    requires index { index < 512 }
-    ensures kept { IsBlocks blocks.new.items cells.new.items (vec_capacity cells.new) }
-    ensures frames { vec_len blocks.new ≡ vec_len blocks.old }
-    ensures cells { (f i : ℕ) → i < 512 → cell_in blocks.new.items cells.new.items f i ≡ (if in_run frame index 1 f i then word else cell_in blocks.old.items cells.old.items f i) }
+fn set_in_chunk(chunks: &mut Vec<u32>, store: &mut Vec<u64>, chunk: usize, index: usize, word: u64)
+    requires kept { IsStore chunks.old.items store.old.items (vec_capacity store.old) }
+    requires chunk { chunk < vec_len chunks.old }
+    requires few { vec_len chunks.old < 2 ^ 32 }
+    requires index { index < 32 }
+    ensures kept { IsStore chunks.new.items store.new.items (vec_capacity store.new) }
+    ensures chunks { vec_len chunks.new ≡ vec_len chunks.old }
+    ensures words { (c i : ℕ) → i < 32 → kept_at chunks.new.items store.new.items c i ≡ (if in_run chunk index 1 c i then word else kept_at chunks.old.items store.old.items c i) }
 {
-    let block = blocks[frame];
+    let block = chunks[chunk];
     if block != 0 {
-        cells[512 * block as usize + index] = word;
+        store[CHUNK * block as usize + index] = word;
         return;
     }
     if word != 0 {
-        set_first(blocks, cells, frame, index, word);
+        set_first(chunks, store, chunk, index, word);
     }
 }
 
@@ -135,48 +104,65 @@ fn store_run(words: &mut Vec<u64>, start: usize, count: usize, word: u64)
     }
 }
 
-// The frame has a block of its own afterwards.
-fn own_block(blocks: &mut Vec<u32>, cells: &mut Vec<u64>, frame: usize)
-    requires kept { IsBlocks blocks.old.items cells.old.items (vec_capacity cells.old) }
-    requires frame { frame < vec_len blocks.old }
-    requires few { vec_len blocks.old < 2 ^ 32 }
-    ensures kept { IsBlocks blocks.new.items cells.new.items (vec_capacity cells.new) }
-    ensures frames { vec_len blocks.new ≡ vec_len blocks.old }
-    ensures own { 0 < slice_index blocks.new.items frame }
-    ensures cells { (f i : ℕ) → i < 512 → cell_in blocks.new.items cells.new.items f i ≡ cell_in blocks.old.items cells.old.items f i }
+// The chunk has a block of its own afterwards.
+fn own_block(chunks: &mut Vec<u32>, store: &mut Vec<u64>, chunk: usize)
+    requires kept { IsStore chunks.old.items store.old.items (vec_capacity store.old) }
+    requires chunk { chunk < vec_len chunks.old }
+    requires few { vec_len chunks.old < 2 ^ 32 }
+    ensures kept { IsStore chunks.new.items store.new.items (vec_capacity store.new) }
+    ensures chunks { vec_len chunks.new ≡ vec_len chunks.old }
+    ensures own { 0 < slice_index chunks.new.items chunk }
+    ensures words { (c i : ℕ) → i < 32 → kept_at chunks.new.items store.new.items c i ≡ kept_at chunks.old.items store.old.items c i }
 {
-    if blocks[frame] == 0 {
-        add_block(blocks, cells, frame, 0);
+    if chunks[chunk] == 0 {
+        add_block(chunks, store, chunk, 0);
     }
 }
 
-fn fill_cells(
-    blocks: &mut Vec<u32>,
-    cells: &mut Vec<u64>,
-    frame: usize,
+fn fill_chunk(
+    chunks: &mut Vec<u32>,
+    store: &mut Vec<u64>,
+    chunk: usize,
     first: usize,
     count: usize,
     word: u64,
 )
-    requires kept { IsBlocks blocks.old.items cells.old.items (vec_capacity cells.old) }
-    requires frame { frame < vec_len blocks.old }
-    requires few { vec_len blocks.old < 2 ^ 32 }
-    requires inside { first + count ≤ 512 }
-    ensures kept { IsBlocks blocks.new.items cells.new.items (vec_capacity cells.new) }
-    ensures frames { vec_len blocks.new ≡ vec_len blocks.old }
-    ensures cells { (f i : ℕ) → i < 512 → cell_in blocks.new.items cells.new.items f i ≡ (if in_run frame first count f i then word else cell_in blocks.old.items cells.old.items f i) }
+    requires kept { IsStore chunks.old.items store.old.items (vec_capacity store.old) }
+    requires chunk { chunk < vec_len chunks.old }
+    requires few { vec_len chunks.old < 2 ^ 32 }
+    requires inside { first + count ≤ 32 }
+    ensures kept { IsStore chunks.new.items store.new.items (vec_capacity store.new) }
+    ensures chunks { vec_len chunks.new ≡ vec_len chunks.old }
+    ensures words { (c i : ℕ) → i < 32 → kept_at chunks.new.items store.new.items c i ≡ (if in_run chunk first count c i then word else kept_at chunks.old.items store.old.items c i) }
 {
-    let none = blocks[frame] == 0;
+    let none = chunks[chunk] == 0;
     if none && word == 0 {
         return;
     }
-    if none && count == 512 {
+    if none && count == CHUNK {
         // Its memory is touched once.
-        add_block(blocks, cells, frame, word);
+        add_block(chunks, store, chunk, word);
         return;
     }
-    own_block(blocks, cells, frame);
-    store_run(cells, 512 * blocks[frame] as usize + first, count, word);
+    own_block(chunks, store, chunk);
+    store_run(store, CHUNK * chunks[chunk] as usize + first, count, word);
+}
+
+// Stores a word at each place from `start` on, below `end`.
+fn fill_places(chunks: &mut Vec<u32>, store: &mut Vec<u64>, start: usize, end: usize, word: u64)
+    requires kept { IsStore chunks.old.items store.old.items (vec_capacity store.old) }
+    requires few { vec_len chunks.old < 2 ^ 32 }
+    requires forward { start ≤ end }
+    requires inside { end ≤ 32 * vec_len chunks.old }
+    ensures kept { IsStore chunks.new.items store.new.items (vec_capacity store.new) }
+    ensures chunks { vec_len chunks.new ≡ vec_len chunks.old }
+    ensures words { (c i : ℕ) → i < 32 → kept_at chunks.new.items store.new.items c i ≡ (if nat_le start (32 * c + i) && nat_lt (32 * c + i) end then word else kept_at chunks.old.items store.old.items c i) }
+{
+    for chunk in start / CHUNK..(end + (CHUNK - 1)) / CHUNK {
+        let from = start.max(CHUNK * chunk);
+        let to = end.min(CHUNK * chunk + CHUNK);
+        fill_chunk(chunks, store, chunk, from - CHUNK * chunk, to - from, word);
+    }
 }
 
 impl SparseWords {
@@ -184,18 +170,16 @@ impl SparseWords {
     pub fn new(alloc: Global, layout: &Layout) -> Result<SparseWords, AllocError>
         ensures { IfOk result (λ w. w ≡ replicate (size (sizes_of layout.now)) 0) }
     {
-        let frames = layout.frames as usize;
-        let mut heads = Vec::new(alloc);
-        heads.resize(layout.words() as usize - 512 * frames, 0)?;
-        let mut blocks = Vec::new(alloc);
-        blocks.resize(frames, 0)?;
-        let mut cells = Vec::with_capacity(alloc, 512 * (frames + 1))?;
-        cells.resize(512, 0)?;
+        let count = layout.words();
+        let number = count as usize / CHUNK + 1;
+        let mut chunks = Vec::new(alloc);
+        chunks.resize(number, 0)?;
+        let mut store = Vec::with_capacity(alloc, CHUNK * (number + 1))?;
+        store.resize(CHUNK, 0)?;
         Ok(SparseWords {
-            before: layout.refs_place(0),
-            heads,
-            blocks,
-            cells,
+            count,
+            chunks,
+            store,
         })
     }
 
@@ -205,42 +189,26 @@ impl SparseWords {
         requires { place < length self.now }
         ensures { result ≡ slice_index self.now place }
     {
-        match spot_of(self.before, self.blocks.len(), place) {
-            Spot::Head { at } => self.heads[at],
-            Spot::Body { frame, index } => self.cells[512 * self.blocks[frame] as usize + index],
-        }
+        let block = self.chunks[place as usize / CHUNK];
+        self.store[CHUNK * block as usize + place as usize % CHUNK]
     }
+
     /// Stores a word at that place.
     #[inline(always)]
     pub fn set(&mut self, place: u32, word: u64)
         requires { place < length self.old }
         ensures { self.new ≡ set self.old place word }
     {
-        match spot_of(self.before, self.blocks.len(), place) {
-            Spot::Head { at } => self.heads[at] = word,
-            Spot::Body { frame, index } => {
-                set_cell(&mut self.blocks, &mut self.cells, frame, index, word);
-            }
-        }
+        let chunk = place as usize / CHUNK;
+        let index = place as usize % CHUNK;
+        set_in_chunk(&mut self.chunks, &mut self.store, chunk, index, word);
     }
 
     /// How many words there are.
     pub fn len(&self) -> u32
         ensures { result ≡ length self.now }
     {
-        (self.heads.len() + 512 * self.blocks.len()) as u32
-    }
-
-    fn fill_places(&mut self, start: u32, count: u32, word: u64)
-        requires { start + count ≤ length self.old }
-        ensures whole { length self.new ≡ length self.old }
-        ensures filled { (k : ℕ) → slice_index self.new k ≡ (if nat_le start k && nat_lt k (start + count) then word else slice_index self.old k) }
-    {
-        // So the prover knows that there are few words.
-        let _words = self.len();
-        for place in start..start + count {
-            self.set(place, word);
-        }
+        self.count
     }
 
     /// Stores a word in so many cells of a frame, from the first one on.
@@ -251,26 +219,8 @@ impl SparseWords {
         ensures whole { length self.new ≡ length self.old }
         ensures filled { (k : ℕ) → slice_index self.new k ≡ (if nat_le (number (sizes_of layout.now) (Cell frame first)) k && nat_lt k (number (sizes_of layout.now) (Cell frame first) + count) then word else slice_index self.old k) }
     {
-        let frames = self.blocks.len();
-        let start = layout.cell_place(frame, 0) + u32::from(first);
-        if let Spot::Body {
-            frame: owner,
-            index,
-        } = spot_of(self.before, frames, start)
-        {
-            if index + count as usize <= 512 {
-                fill_cells(
-                    &mut self.blocks,
-                    &mut self.cells,
-                    owner,
-                    index,
-                    count as usize,
-                    word,
-                );
-                return;
-            }
-        }
-        // With the layout that `new` was given, only a run of no cells comes here.
-        self.fill_places(start, u32::from(count), word);
+        let start = layout.cell_place(frame, 0) as usize + first as usize;
+        let end = start + count as usize;
+        fill_places(&mut self.chunks, &mut self.store, start, end, word);
     }
 }
