@@ -19,9 +19,10 @@ use Rattle.answer_fits.specs.Answers.{Causes}
 use Rattle.answer_fits.specs.Asked.{Request, IsAsked, of, back, Within, HasNoMore, NoMore, Passed, checked, given, old, stands, Implies}
 use Rattle.answer_fits.specs.Finding.{Finding, FoundAt, FoundWith, Did}
 use Rattle.answer_fits.specs.Licences.{IsNewWord, IsOwnedBy, Licensed, HasTaken}
-use Rattle.answer_fits.specs.Pauses.{PausesFor, Progress, Loses, IsWanted, Clear, idle, flushed, own, barred, AskedTo, entry, settles}
+use Rattle.answer_fits.specs.Pauses.{PausesFor, Progress, Loses, IsWanted, Clear, idle, flushed, own, barred, AskedTo}
 use Rattle.answer_fits.specs.Reasons.{AwaitsStamp, marked, other, free, begun, MayFlush, NeedsFlush, MayCountPages, MayReach, taken, IsMarkAsked, IsPagesChange, IsRefChange, MayType, MayWriteOwn, MayChangeVcpu, Reason, MayLook, HasReason}
 use Rattle.answer_fits.specs.Reasons as reasons
+use Rattle.answer_fits.proofs.Progressing.{progress_in}
 
 module _ (n : Machine) (s : ℕ) (q : Request) (F : Finding) (t : Request) (G : Finding) (w : Within n s q F t G) where
   pub found : (p : Place) (x : ℕ) → FoundAt F p x → FoundAt G p x
@@ -159,8 +160,7 @@ module _ (n : Machine) (s : ℕ) (q : Request) (F : Finding) (t : Request) (G : 
 
   -- ---- pauses
   progress : Progress F → Progress G
-  progress (entry m a b) = entry m (w.moments m a) b
-  progress (settles m f t x e s a b c d i j k l) = settles m f t x e s (w.moments m a) b c d i j k l
+  progress a = progress_in F G w.moments a
 
   clear : (o : Option ℕ) (stamp v : ℕ) → Clear n s o stamp F v → Clear n s o stamp G v
   clear o stamp v (idle x a b) = idle x (found _ x a) b

@@ -33,11 +33,13 @@ is_entry_mark (Some (marks.Shed f upto)) = true
 is_entry_mark _ = false
 
 -- One of the steps recorded or shed an entry; or it made a frame live that the last recorded entry of a table in the own works asks,
--- as the vCPU found that entry.
+-- as the vCPU found that entry; or it counted a type of such a frame, which had not been found live before.
 pub data Progress (F : Finding) : Type 0 where
   entry : (m : Moment) → F m → IsTrue (is_entry_mark m.mark) → Progress F
   settles : (m : Moment) (f t new : ℕ) (e : Work) (s : Seen) → F m → m.place ≡ Kind f → m.act ≡ Store new → IsTrue (is_live (kind_fields new)) → work_on t m.hand.works ≡ Some e →
       e.seen ≡ Some s → s.index < e.recorded → IsDemandOf f None (demand_held t s.index s.word m.hand) → Progress F
+  counts : (before m : Moment) (f t x new : ℕ) (e : Work) (s : Seen) → F before → before.place ≡ Kind f → is_live (kind_fields before.found) ≡ false → F m → m.place ≡ Kind f → m.act ≡ Cas x new → m.found ≡ x →
+      IsTrue (is_live (kind_fields new)) → work_on t m.hand.works ≡ Some e → e.seen ≡ Some s → s.index < e.recorded → IsDemandOf f None (demand_held t s.index s.word m.hand) → Progress F
 
 -- ---- exchanges
 -- an exchange found another word than the last step of this piece at that place had found or left there

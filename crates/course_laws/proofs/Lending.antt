@@ -1,5 +1,6 @@
--- Frames where a reference was taken, or a kind word stored.
+-- A reference is taken on words, and on the plain value that describes them.
 use Rattle.std.proofs.Common.{◌≡◌, ℕ, ◌<◌, ◌==◌, not, nat_lt, nat_le, if◌then◌else◌, Bool, true, false, Option, Some, None, refl, sym, ap, ◌∙◌, subst, arith}
+use Rattle.table_twins.proofs.Entering.{no_cause}
 use Rattle.xp_words.specs.Machine.{IsMachine, Machine}
 use Rattle.xp_words.specs.declared.place.Place.TheVariants.{Refs}
 use Rattle.step_maker.specs.Plain.{Words}
@@ -36,10 +37,6 @@ module _ (n : Machine) (owner g : ℕ) (q : Plain) where
 
   pub lent : (take_reference n owner g q).refusal ≡ None → Lent n g q (take_reference n owner g q)
   lent none = lent_by (nat_lt g n.frames) (take_reference n owner g q) (λ is. is_inside g n.frames is) refl none
-
-no_cause : (r : Option Cause) → IsSameAnswer None r → r ≡ None
-no_cause None same = refl
-no_cause (Some c) same = absurd same
 
 pub fine_there : (n : Machine) (m : Words) (q : Plain) (owner g : ℕ) → Describes n m q → refer n owner g (m (Refs g)) ≡ None → (take_reference n owner g q).refusal ≡ None
 fine_there n m q owner g d none = no_cause (take_reference n owner g q).refusal (subst (λ o. IsSameAnswer o (take_reference n owner g q).refusal) none (same_answer n m q owner g d))

@@ -1,6 +1,8 @@
 //! Frames that are taken for a type.
 ghost use Rattle.std.specs.Prelude.{◌≡◌, ◌<◌, List, [], true, not, None, Some, IfOk, IfErr, MatchResult, IsTrue};
 ghost use Rattle.xp_board.specs.Told.{PortValue};
+ghost use Rattle.xp_words.specs.KindWords.{kind_read};
+ghost use Rattle.xp_words.specs.declared.kind.KindWord.{KindWord};
 ghost use Rattle.xp_words.specs.PageTypes.{is_none};
 ghost use Rattle.xp_board.specs.Hands.{work_on, typed_to};
 ghost use Rattle.step_maker.specs.Holds.{MayWork, Same};
@@ -9,6 +11,8 @@ ghost use Rattle.answer_fits.specs.Asked.{of_frame};
 ghost use Rattle.flush_waits.specs.Waiting.{IsFlushed};
 ghost use Rattle.frame_types.specs.Found.{Finishes, Proceeds, TakesFound};
 ghost use Rattle.frame_types.specs.Plain.{TwinOn, TwinTake};
+ghost use Rattle.frame_types.specs.Standing.{standing_of};
+ghost use Rattle.frame_types.specs.declared.standing.Standing.TheVariants.{Dead, Partial};
 ghost use Rattle.frame_types.specs.Taking.{HasEntered, HoldsOn, IsDone, IsLooked, IsOfOther, IsTypeStop, LeavesLive, LentBy, Looked, ServesOn, ShowsWait, Takes, TakesAs, WaitsOn, progress_of};
 
 use crate::standing::{Standing, classify};
@@ -37,6 +41,7 @@ pub enum Taken {
 /// Takes a frame for the type `want`, under the untyped reference in hand. A frame that was of another type, or is marked,
 /// is flushed first. What is read before it is live (a table, a descriptor page) comes into the own works. A refusal or a
 /// pause leaves the reference in hand. A frame that the vCPU works on itself is to be of another type.
+#[inline(always)]
 pub fn take_type<P: Port>(
     port: &mut P,
     frame: u32,
@@ -64,6 +69,7 @@ pub fn take_type<P: Port>(
 }
 
 // The same, where a look just found that kind word.
+#[inline(always)]
 fn take_found<P: Port>(
     port: &mut P,
     frame: u32,
@@ -82,35 +88,79 @@ fn take_found<P: Port>(
 {
     let kind = read_kind(word);
     match classify(kind, want) {
-        Standing::Counted => match count_type(port, frame, kind) {
+        Standing::Counted => match count_type(port, frame, kind, word) {
             Ok(()) => Ok(Taken::Counted),
             Err(found) => Err(lost(port, frame, word, found)),
         },
-        Standing::Dead => {
-            let marked = is_stale_for(kind, want);
-            match begin_work(port, frame, kind, want) {
-                Ok(()) => Ok(go_on(port, frame, owner, want, marked, kind, true)),
-                Err(found) => Err(lost(port, frame, word, found)),
-            }
-        }
-        Standing::Partial => match resume_work(port, frame, kind) {
-            Ok(()) => {
-                let marked = kind.unflushed;
-                if kind.kept {
-                    put_ref(port, frame);
-                    Ok(go_on(port, frame, owner, want, marked, kind, true))
-                } else {
-                    Ok(go_on(port, frame, owner, want, marked, kind, false))
-                }
-            }
-            Err(found) => Err(lost(port, frame, word, found)),
-        },
+        Standing::Dead => take_dead(port, frame, owner, want, word),
+        Standing::Partial => take_partial(port, frame, owner, want, word),
         Standing::Busy => Err(Stop::Paused(Pause::Busy { frame, found: word })),
         Standing::Other => Err(Stop::Refused(Refusal::OtherType {
             frame,
             want,
             found: word,
         })),
+    }
+}
+
+// A frame that was found dead comes into the own works.
+#[inline(never)]
+fn take_dead<P: Port>(
+    port: &mut P,
+    frame: u32,
+    owner: u16,
+    want: PageType,
+    word: u64,
+) -> Result<Taken, Stop>
+    requires frame { frame < (P.value port.old).post.machine.frames }
+    requires may { MayWork (P.value port.old) }
+    requires wanted { IsTrue (not (is_none want)) }
+    requires looked { IsLooked (P.value port.old) frame owner want word }
+    requires stands { (k : KindWord) → kind_read word ≡ Some k → standing_of k want ≡ Dead }
+    ensures takes { (b : PortValue) → Looked b (P.value port.old) frame owner want word → Takes b (P.value port.new) frame owner want result }
+    ensures found { (b : PortValue) → Looked b (P.value port.old) frame owner want word → TakesFound b (P.value port.new) frame want result }
+    ensures live { IfOk result (λ t. LeavesLive (P.value port.old) (P.value port.new) frame t) }
+    ensures plain { (b : PortValue) → Looked b (P.value port.old) frame owner want word → TwinTake b (P.value port.new) frame want result }
+{
+    let kind = read_kind(word);
+    let marked = is_stale_for(kind, want);
+    match begin_work(port, frame, kind, want) {
+        Ok(()) => Ok(go_on(port, frame, owner, want, marked, kind, true)),
+        Err(found) => Err(lost(port, frame, word, found)),
+    }
+}
+
+// A frame that was found partial comes into the own works again.
+#[inline(never)]
+fn take_partial<P: Port>(
+    port: &mut P,
+    frame: u32,
+    owner: u16,
+    want: PageType,
+    word: u64,
+) -> Result<Taken, Stop>
+    requires frame { frame < (P.value port.old).post.machine.frames }
+    requires may { MayWork (P.value port.old) }
+    requires wanted { IsTrue (not (is_none want)) }
+    requires looked { IsLooked (P.value port.old) frame owner want word }
+    requires stands { (k : KindWord) → kind_read word ≡ Some k → standing_of k want ≡ Partial }
+    ensures takes { (b : PortValue) → Looked b (P.value port.old) frame owner want word → Takes b (P.value port.new) frame owner want result }
+    ensures found { (b : PortValue) → Looked b (P.value port.old) frame owner want word → TakesFound b (P.value port.new) frame want result }
+    ensures live { IfOk result (λ t. LeavesLive (P.value port.old) (P.value port.new) frame t) }
+    ensures plain { (b : PortValue) → Looked b (P.value port.old) frame owner want word → TwinTake b (P.value port.new) frame want result }
+{
+    let kind = read_kind(word);
+    match resume_work(port, frame, kind) {
+        Ok(()) => {
+            let marked = kind.unflushed;
+            if kind.kept {
+                put_ref(port, frame);
+                Ok(go_on(port, frame, owner, want, marked, kind, true))
+            } else {
+                Ok(go_on(port, frame, owner, want, marked, kind, false))
+            }
+        }
+        Err(found) => Err(lost(port, frame, word, found)),
     }
 }
 

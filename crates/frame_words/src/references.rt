@@ -52,6 +52,7 @@ fn open_word(found: u64, frame: u32, owner: u16, limit: u32) -> Result<Open, Ref
 }
 
 /// Takes one reference to the frame, which is to be the owner's, into the hand. One that is lost is not tried again.
+#[inline(always)]
 pub fn get_ref<P: Port>(port: &mut P, f: u64, owner: u16) -> Result<u32, Stop>
     requires { MayWork (P.value port.old) }
     ensures frame { IfOk result (λ g. (g ≡ f) × (g < (P.value port.old).post.machine.frames)) }
@@ -74,7 +75,7 @@ pub fn get_ref<P: Port>(port: &mut P, f: u64, owner: u16) -> Result<u32, Stop>
     let found = look_refs(port, frame);
     match open_word(found, frame, owner, limit) {
         Err(refusal) => Err(Stop::Refused(refusal)),
-        Ok(open) => match raise_refs(port, frame, open) {
+        Ok(open) => match raise_refs(port, frame, open, found) {
             Ok(()) => Ok(frame),
             Err(other) => Err(Stop::Paused(Pause::Lost {
                 place,

@@ -1,5 +1,5 @@
 //! Reference words and machine-to-physical words, one step each.
-ghost use Rattle.std.specs.Prelude.{◌≡◌, ◌≢◌, ◌<◌, None, IfErr, MatchResult};
+ghost use Rattle.std.specs.Prelude.{◌≡◌, ◌≢◌, ◌+◌, ◌^◌, ◌<◌, None, IfErr, MatchResult};
 ghost use Rattle.xp_words.specs.declared.place.Place.TheVariants.{Refs, M2p};
 ghost use Rattle.xp_board.specs.Hands.{hand};
 ghost use Rattle.xp_board.specs.RefSteps.{one_down, gave_ref};
@@ -11,7 +11,7 @@ ghost use Rattle.frame_words.specs.Refs.{open_word, raised_word, IsOpen, took, M
 
 use step_maker::{exchange, look, make};
 use xp_board::{Act, Port, StepKind};
-use xp_words::{Place, RefWord};
+use xp_words::Place;
 
 /// What an owned reference word says.
 #[derive(Clone, Copy, Debug, PartialEq, Eq, Drop)]
@@ -33,7 +33,10 @@ pub fn look_refs<P: Port>(port: &mut P, frame: u32) -> u64
 }
 
 /// Counts a reference up by one exchange of the word that says this. An exchange that finds another word answers it.
-pub fn raise_refs<P: Port>(port: &mut P, frame: u32, from: Open) -> Result<(), u64>
+/// `word`: as it was found.
+#[inline(always)]
+pub fn raise_refs<P: Port>(port: &mut P, frame: u32, from: Open, word: u64) -> Result<(), u64>
+    requires spelled { word ≡ open_word from }
     requires frame { frame < (P.value port.old).post.machine.frames }
     requires may { MayWork (P.value port.old) }
     requires open { IsOpen (P.value port.old).post.machine from }
@@ -41,19 +44,20 @@ pub fn raise_refs<P: Port>(port: &mut P, frame: u32, from: Open) -> Result<(), u
     ensures lost { IfErr result (λ found. found ≢ open_word from) }
     ensures hand { MatchResult result (λ _. Holds (P.value port.old) (P.value port.new) (took frame from.owner (P.value port.old).holdings)) (λ _. Same (P.value port.old) (P.value port.new)) }
 {
-    let expected = RefWord::Owned {
-        owner: from.owner,
-        allocated: from.allocated,
-        count: from.count,
-    }
-    .write();
-    let new = RefWord::Owned {
-        owner: from.owner,
-        allocated: from.allocated,
-        count: from.count + 1,
-    }
-    .write();
-    exchange(port, Place::Refs { frame }, expected, new, StepKind::Ref)
+    let new = raised(from, word);
+    exchange(port, Place::Refs { frame }, word, new, StepKind::Ref)
+}
+
+// The word with one reference more.
+#[inline(always)]
+#[tactic(auto, unfolding(xp_words::specs::RefWords::ref_write))]
+fn raised(from: Open, word: u64) -> u64
+    requires spelled { word ≡ open_word from }
+    requires small { from.count + 1 < 2 ^ 26 }
+    requires owner { from.owner < 2 ^ 16 }
+    ensures { result ≡ raised_word from }
+{
+    word + 1
 }
 
 /// Counts one down, and answers the word that was found. Where it counted one the frame ends in the hand.

@@ -1,5 +1,5 @@
 -- What is in hand after the steps on a kind word, and what the next step asks.
-use Rattle.std.proofs.Common.{◌≡◌, ◌≢◌, ℕ, ◌-◌, ◌<◌, ◌≤◌, ◌==◌, ◌&&◌, not, if◌then◌else◌, true, false, List, ◌∷◌, length, Some, None, IsTrue, refl, sym, ap, ◌∙◌, subst, arith}
+use Rattle.std.proofs.Common.{◌≡◌, ◌≢◌, ℕ, ◌-◌, ◌<◌, ◌≤◌, ◌==◌, ◌&&◌, not, if◌then◌else◌, true, false, List, [], ◌∷◌, length, Some, None, IsTrue, refl, sym, ap, ◌∙◌, subst, arith}
 use Rattle.std.proofs.lemmas.Bool.{or_left}
 use Rattle.std.proofs.lemmas.Bool.Decides.{nat_tests}
 use Rattle.xp_words.specs.Machine.{Machine}
@@ -19,10 +19,10 @@ use Rattle.xp_board.specs.declared.holdings.TypedReference.{TypedReference}
 use Rattle.xp_board.specs.declared.holdings.Work.{Work}
 use Rattle.xp_board.specs.Acts.{left_by}
 use Rattle.xp_board.specs.Flushes.{IsPastFlush}
-use Rattle.xp_board.specs.Hands.{typed_to, without_typed, work_on, ref_owner, typed_owner}
+use Rattle.xp_board.specs.Hands.{changed_work, typed_to, without_typed, work_on, ref_owner, typed_owner}
 use Rattle.xp_board.specs.Knowledge.{knows_live}
 use Rattle.xp_board.specs.KindSteps.{begun_kind, resumed_kind, live_typed, new_work, unsettled_from, dropped}
-use Rattle.xp_board.specs.Lists.{some_of}
+use Rattle.xp_board.specs.Lists.{changed_by, first_by, some_of}
 use Rattle.xp_board.specs.Readings.{is_dead, is_partial, is_work, is_closing}
 use Rattle.xp_board.specs.RefSteps.{SparesClosing, is_closing_on, one_down}
 use Rattle.xp_board.specs.Steps.{some_since}
@@ -54,6 +54,15 @@ known_first z f t o xs h is = subst (λ ys. IsTrue (knows_live z f t (record h {
 
 pub work_here : (f : ℕ) (e : Work) (xs ys : List Work) → e.frame ≡ f → ys ≡ e ∷ xs → work_on f ys ≡ Some e
 work_here f e xs ys frame is = ap (λ zs. work_on f zs) is ∙ first_by-cons_here (λ y. y.frame) f e xs frame
+
+-- no frame is in work, or the newest one is changed
+pub no_work : (f : ℕ) (ws : List Work) → ws ≡ [] → work_on f ws ≡ None
+unfolding first_by
+no_work f ws none = ap (λ zs. work_on f zs) none
+
+pub changed_first : (f : ℕ) (c : Work → Work) (e : Work) (es ws : List Work) → ws ≡ e ∷ es → e.frame ≡ f → changed_work f c ws ≡ c e ∷ es
+unfolding changed_by
+changed_first f c e es ws are is = ap (λ zs. changed_work f c zs) are ∙ ap (λ b. if b then (c e ∷ es) else (e ∷ changed_work f c es)) (when_eq e.frame f is)
 
 -- ---- a frame that came into work
 pub begun_fields : (k : KindWord) (want : PageType) → IsTrue (is_kind k) → IsTrue (is_dead k) → IsTrue (not (is_none want)) → kind_fields (kind_write (begun_kind k want)) ≡ begun_kind k want

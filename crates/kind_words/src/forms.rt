@@ -1,6 +1,7 @@
 //! Kind words by what they say, and what an exchange of one answers that found another.
 ghost use Rattle.std.specs.Prelude.{◌≡◌, ◌<◌, false, true, is_some, Some, IsTrue};
 ghost use Rattle.xp_words.specs.KindWords.{kind_read};
+ghost use Rattle.xp_words.specs.PageTypes.{type_of};
 ghost use Rattle.xp_words.specs.Places.{number, sizes_of};
 ghost use Rattle.xp_words.specs.declared.place.Place.TheVariants.{Kind};
 ghost use Rattle.xp_words.specs.declared.reply.Pause.TheVariants.{Lost};
@@ -70,14 +71,41 @@ pub fn waiting_kind(kind: PageType, kept: bool, stamp: u64) -> KindWord
     }
 }
 
-/// What a word says that was found at a kind word's place.
+// The type that the number in a kind word's bits 52 and above stands for.
+#[inline(always)]
+#[tactic(auto, using(std::proofs::lemmas::Bool::Decides::nat_tests))]
+fn type_of(number: u64) -> PageType
+    ensures { result ≡ type_of number }
+{
+    match number {
+        0 => PageType::None,
+        1 => PageType::L1,
+        2 => PageType::L2,
+        3 => PageType::L3,
+        4 => PageType::L4,
+        5 => PageType::Desc,
+        _ => PageType::Writable,
+    }
+}
+
+/// What a word says that was found at a kind word's place. So it is a spelling, which is not looked at again: where this is
+/// inlined, only those fields are read that are used.
+#[inline(always)]
+#[tactic(auto, unfolding(xp_words::specs::KindWords::kind_read, xp_words::specs::KindWords::kind_fields), using(std::proofs::lemmas::Bool::Decides::nat_tests))]
 pub fn read_kind(word: u64) -> KindWord
     requires { IsTrue (is_some (kind_read word)) }
     ensures { kind_read word ≡ Some result }
 {
-    match KindWord::read(word) {
-        Some(kind) => kind,
-        None => unreachable!(),
+    KindWord {
+        kind: type_of(word >> 52),
+        pinned: (word >> 51) % 2 == 1,
+        validated: (word >> 50) % 2 == 1,
+        partial: (word >> 49) % 2 == 1,
+        locked: (word >> 48) % 2 == 1,
+        kept: (word >> 47) % 2 == 1,
+        unflushed: (word >> 46) % 2 == 1,
+        progress: ((word >> 36) % 1024) as u16,
+        number: word % (1 << 36),
     }
 }
 

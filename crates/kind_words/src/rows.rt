@@ -32,8 +32,10 @@ pub fn look_kind<P: Port>(port: &mut P, frame: u32) -> u64
 }
 
 /// Counts a type up by one exchange of the live word that says this. An untyped reference in hand becomes a typed one.
-/// An exchange that finds another word answers it, and leaves the references as they were.
-pub fn count_type<P: Port>(port: &mut P, frame: u32, kind: KindWord) -> Result<(), u64>
+/// An exchange that finds another word answers it, and leaves the references as they were. `word`: as it was found.
+#[inline(always)]
+pub fn count_type<P: Port>(port: &mut P, frame: u32, kind: KindWord, word: u64) -> Result<(), u64>
+    requires spelled { word ≡ kind_write kind }
     requires frame { frame < (P.value port.old).post.machine.frames }
     requires may { MayWork (P.value port.old) }
     requires is { IsTrue (is_kind kind) }
@@ -45,9 +47,8 @@ pub fn count_type<P: Port>(port: &mut P, frame: u32, kind: KindWord) -> Result<(
     ensures lost { IfErr result (λ found. found ≢ kind_write kind) }
     ensures hand { MatchResult result (λ _. Holds (P.value port.old) (P.value port.new) (counted_type frame kind (P.value port.old).holdings)) (λ found. Holds (P.value port.old) (P.value port.new) (looked_at frame found (P.value port.old).holdings)) }
 {
-    let expected = kind.write();
-    let new = raised(kind);
-    exchange(port, Place::Kind { frame }, expected, new, StepKind::Kind)
+    let new = raised(kind, word);
+    exchange(port, Place::Kind { frame }, word, new, StepKind::Kind)
 }
 
 /// Takes a dead frame into work for the type `want`. An untyped reference in hand becomes its type count.

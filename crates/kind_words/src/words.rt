@@ -8,19 +8,17 @@ ghost use Rattle.xp_board.specs.Readings.{is_live, is_dead, is_partial};
 use xp_words::{KindWord, PageType};
 
 // The word with one type count more.
-#[tactic(auto, using(crate::proofs::KindWriting::raised_is))]
-pub(crate) fn raised(kind: KindWord) -> u64
+#[inline(always)]
+#[tactic(auto, unfolding(xp_words::specs::KindWords::kind_write), using(crate::proofs::KindWriting::raised_word))]
+pub(crate) fn raised(kind: KindWord, word: u64) -> u64
+    requires spelled { word ≡ kind_write kind }
     requires is { IsTrue (is_kind kind) }
     requires live { IsTrue (is_live kind) }
     requires counted { 0 < kind.number }
     requires small { kind.number + 1 < 2 ^ 26 }
     ensures { result ≡ kind_write (raised_kind kind) }
 {
-    let more = KindWord {
-        number: kind.number + 1,
-        ..kind
-    };
-    more.write()
+    word + 1
 }
 
 /// Whether a dead frame has to be flushed before it is used with that type: it is marked, or was of another type.

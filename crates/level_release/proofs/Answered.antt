@@ -1,11 +1,11 @@
 -- The frame that an old word named was found live, or in another vCPU's hand: what the steps show of the answer.
-use Rattle.std.proofs.Common.{◌≡◌, ◌≢◌, ℕ, ◌==◌, if◌then◌else◌, Bool, true, false, List, [], None, Some, Result, Ok, Err, IfErr, IsTrue, refl, sym, ap, ◌∙◌, subst, append-nil, inl, inr, arith}
+use Rattle.std.proofs.Common.{◌≡◌, ◌≢◌, ℕ, ◌==◌, if◌then◌else◌, Bool, true, false, List, [], None, Some, Result, Ok, Err, IfErr, refl, sym, ap, ◌∙◌, subst, append-nil, inl, inr, arith}
 use Rattle.std.proofs.lemmas.Bool.{or_left}
 use Rattle.std.proofs.lemmas.Bool.Decides.{nat_tests}
 use Rattle.xp_words.specs.KindWords.{kind_fields, kind_read}
 use Rattle.xp_words.specs.declared.kind.KindWord.{KindWord}
 use Rattle.xp_words.specs.declared.place.Place.TheVariants.{Kind}
-use Rattle.xp_words.specs.declared.reply.Pause.TheVariants.{Busy}
+use Rattle.xp_words.specs.declared.reply.Pause.TheVariants.{Busy, Due}
 use Rattle.xp_words.specs.declared.reply.Stop.{Stop}
 use Rattle.xp_words.specs.declared.reply.Stop.TheVariants.{Paused, Refused}
 use Rattle.xp_board.specs.KindSteps.{Dead, InWork, Live, Partial, form_of}
@@ -22,7 +22,8 @@ use Rattle.answer_fits.proofs.Later.{IsUncounted, stops_later}
 use Rattle.answer_fits.proofs.Piecing.{serves_inner}
 use Rattle.table_words.specs.declared.old_words.OldWord.{OldWord}
 use Rattle.level_release.specs.Asking.{IsReleaseEnd, is_due_answer, of_release, of_settle}
-use Rattle.level_release.specs.Course.{Named, SettledOne, WasReleased}
+use Rattle.table_courses.specs.Acquiring.{Named}
+use Rattle.level_release.specs.Course.{SettledOne, WasReleased}
 use Rattle.level_release.specs.Course as courses
 use Rattle.level_release.specs.Settling.{TookOld}
 use Rattle.level_release.proofs.Asking.{settle_within}
@@ -34,8 +35,8 @@ pub end_uncounted : (e : Stop) → IsReleaseEnd e → IsUncounted e
 end_uncounted (Paused x) is = tt
 end_uncounted (Refused x) is = absurd is
 
-same_frame : (g f : ℕ) → IsTrue (g == f) → g ≡ f
-same_frame g f at = grind (arith, nat_tests)
+pub due_ends : (e : Stop) → e ≡ Paused Due → IsReleaseEnd e
+due_ends e is = rw is tt
 
 module _ (u v : PortValue) (which : OldWord) (f word : ℕ) (t : TookOld u v which f word) (owner pages : ℕ) where
   -- ---- it is released
@@ -44,7 +45,7 @@ module _ (u v : PortValue) (which : OldWord) (f word : ℕ) (t : TookOld u v whi
     inside =
         let rose = is_due_answer answer in
         settle_within u.post.machine u.post.vcpu owner pages (λ g. g == f) false rose rose (Met v w) (Met u w) (λ m y. met_after u v w m (took_came u v which f word t owner pages rose) y)
-        (λ g at. subst (λ h. IsAsked u.post.machine u.post.vcpu (of_settle owner pages answer) (Met u w) h) (sym (same_frame g f at)) (asks_it u v which f word t owner pages rose w came)) (λ due. due)
+        (λ g at. subst (λ h. IsAsked u.post.machine u.post.vcpu (of_settle owner pages answer) (Met u w) h) (let is : f ≡ g = grind (arith, nat_tests) in is) (asks_it u v which f word t owner pages rose w came)) (λ due. due)
 
     same_post : v.post ≡ u.post
     same_post = took_post u v which f word t
@@ -60,9 +61,9 @@ module _ (u v : PortValue) (which : OldWord) (f word : ℕ) (t : TookOld u v whi
     released_stop e end stops =
         stops_later u v w (of_settle owner pages answer) (of_release f owner pages answer) e (end_uncounted e end) inside (took_came u v which f word t owner pages (is_due_answer answer)) stops
 
-  pub released_stops : (w : PortValue) (answer : Result (Unit {0}) Stop) → Came v w → IfErr answer IsReleaseEnd → IfErr answer (λ e. Stops v w (of_release f owner pages answer) e) → IfErr answer (λ e. Stops u w (of_settle owner pages answer) e)
+  pub released_stops : (w : PortValue) (answer : Result (Unit {0}) Stop) → Came v w → IfErr answer (λ e. e ≡ Paused Due) → IfErr answer (λ e. Stops v w (of_release f owner pages answer) e) → IfErr answer (λ e. Stops u w (of_settle owner pages answer) e)
   released_stops w (Ok done) came ends stops = tt
-  released_stops w (Err e) came ends stops = released_stop w (Err e) came e ends stops
+  released_stops w (Err e) came ends stops = released_stop w (Err e) came e (due_ends e ends) stops
 
   -- ---- it is in another vCPU's hand
   pub busy_stops : (kind_fields word).validated ≡ false → (kind_fields word).partial ≡ false → Stops u v (of_settle {A = Unit {0}} owner pages (Err (Paused (Busy f word)))) (Paused (Busy f word))

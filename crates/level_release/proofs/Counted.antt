@@ -1,7 +1,6 @@
 -- What the kind word says of a frame to which a typed reference is in hand, and of which the vCPU holds nothing else.
 use Rattle.std.proofs.Common.{◌≡◌, ℕ, ◌+◌, ◌<◌, ◌≤◌, not, ◌&&◌, Bool, true, false, List, [], IsTrue, refl, ap, subst, arith, inl, inr}
 use Rattle.std.proofs.lemmas.Bool.{cases_Bool}
-use Rattle.std.proofs.lemmas.Bool.Decides.{nat_tests}
 use Rattle.xp_words.specs.KindWords.{kind_fields}
 use Rattle.xp_words.specs.Machine.{Machine}
 use Rattle.xp_words.specs.Places.{sizes_of}
@@ -21,12 +20,9 @@ use Rattle.board_lemmas.proofs.Counted.{typed_hand_is}
 use Rattle.board_lemmas.proofs.KindReadings.{dead_count}
 use Rattle.board_lemmas.proofs.Sums.{hands-part}
 use Rattle.answer_fits.specs.Pauses.{IsElsewhere}
+use Rattle.table_releases.proofs.LastEntry.{partial_count}
 
 -- ---- counts
-partial_count : (k : KindWord) → IsTrue (is_partial k) → type_count k ≡ 1
-unfolding type_count
-partial_count k partial = grind (arith, nat_tests)
-
 kept_marks : (k : KindWord) → k.kept ≡ true → 1 ≤ marks k
 unfolding marks
 kept_marks k on = let one : bit k.kept ≡ 1 = ap bit on in omega (arith, one)

@@ -12,7 +12,7 @@ use Rattle.table_releases.specs.Found.{ReleasesFound}
 use Rattle.table_releases.specs.Plain.{TwinRelease}
 use Rattle.table_releases.specs.declared.entries.Released.{Released}
 use Rattle.table_releases.specs.declared.entries.Released.TheVariants.{Given, Opened}
-use Rattle.level_release.specs.Course.{GaveEntry, Lowered, MadeDead, emptied, given, opened, stopped, table_in}
+use Rattle.level_release.specs.Course.{GaveEntry, Lowered, MadeDead, emptied, given, opened, stopped, table_under}
 
 -- not all entries are done with
 pub some_left : (t : TableWork) (rest ts : List TableWork) → ts ≡ t ∷ rest → IsStack ts → (t.done ≡ 512 → ⊥) → t.done < 512
@@ -38,11 +38,11 @@ module _ (v w : PortValue) (t : TableWork) (rest ts : List TableWork) (are : ts 
       subst (λ xs. Lowered v xs w us (Ok true)) (sym are)
       (subst (λ xs. Lowered v (t ∷ rest) w xs (Ok true)) (sym (on ∙ ap (λ xs. advanced xs) are)) (given v w t rest few (done_so a Given so found plain)))
 
-  pub lowered_opened : (a : Released) (f recorded : ℕ) (closing : Bool) (us xs : List TableWork) → a ≡ Opened f recorded closing → us ≡ advanced ts → xs ≡ table_in t f recorded closing ∷ us →
+  pub lowered_opened : (a : Released) (f recorded : ℕ) (closing : Bool) (us xs : List TableWork) → a ≡ Opened f recorded closing → us ≡ advanced ts → xs ≡ table_under t f recorded closing ∷ us →
       ReleasesFound v w t.frame (511 - t.done) k (Ok a) → TwinRelease v w t.frame k (511 - t.done) (Ok a) → Lowered v ts w xs (Ok false)
   lowered_opened a f recorded closing us xs so on pushed found plain =
       subst (λ ys. Lowered v ys w xs (Ok false)) (sym are)
-      (subst (λ ys. Lowered v (t ∷ rest) w ys (Ok false)) (sym (pushed ∙ ap (λ ys. table_in t f recorded closing ∷ ys) (on ∙ ap (λ ys. advanced ys) are)))
+      (subst (λ ys. Lowered v (t ∷ rest) w ys (Ok false)) (sym (pushed ∙ ap (λ ys. table_under t f recorded closing ∷ ys) (on ∙ ap (λ ys. advanced ys) are)))
       (opened v w t rest f recorded closing few (done_so a (Opened f recorded closing) so found plain)))
 
   pub lowered_stopped : (e : Stop) (answer : Result Bool Stop) → answer ≡ Err e → ReleasesFound v w t.frame (511 - t.done) k (Err e) → TwinRelease v w t.frame k (511 - t.done) (Err e) →

@@ -6,10 +6,9 @@ use Rattle.xp_words.specs.Places.{sizes_of}
 use Rattle.xp_words.specs.declared.kind.PageType.{PageType}
 use Rattle.xp_words.specs.declared.place.Place.TheVariants.{Kind, Refs}
 use Rattle.xp_words.specs.declared.reply.Stop.{Stop}
-use Rattle.xp_board.specs.Hands.{refs_to, typed_to, typed_on, typed_owner, without_typed, work_on, owner_by_typed, owner_from}
+use Rattle.xp_board.specs.Hands.{refs_to, typed_to, typed_on, typed_owner, without_typed, owner_by_typed, owner_from}
 use Rattle.xp_board.specs.KindSteps.{MayDrop}
 use Rattle.xp_board.specs.Knowledge.{knows_owner, tells_owner}
-use Rattle.xp_board.specs.Lists.{first_by}
 use Rattle.xp_board.specs.RefSteps.{one_down}
 use Rattle.xp_board.specs.Told.{Post, PortValue}
 use Rattle.xp_board.specs.declared.holdings.Holdings.{Holdings}
@@ -32,13 +31,11 @@ use Rattle.frame_types.specs.Taking.{MayDropPlain, gave_type}
 use Rattle.frame_types.proofs.Lowered.{closed_is, closed_kind, closed_unmarked, type_closed, type_counted}
 use Rattle.partial_state.specs.Levels.{level_type}
 use Rattle.level_release.specs.Course.{closing_table}
-use Rattle.level_release.specs.Holding.{AreTables, Empties, HoldsLive, IsMadeSince, IsTableWork, LeavesEmptied, LeavesReleased}
+use Rattle.table_releases.specs.Tops.{IsSettledTop}
+use Rattle.level_release.specs.Holding.{AreInRelease, Empties, HoldsLive, IsMadeSince, IsReleasedWork, LeavesEmptied, LeavesUnheld}
 use Rattle.level_release.proofs.Handing.{emptied_leaves, now_beside}
 use Rattle.level_release.proofs.Owning.{known_by_ref, look_tells, made_later}
-
-pub no_work : (f : ℕ) (ws : List Work) → ws ≡ [] → work_on f ws ≡ None
-unfolding first_by
-no_work f ws none = ap (λ zs. work_on f zs) none
+use Rattle.kind_words.proofs.KindHands.{no_work}
 
 module _ (v : PortValue) (f : ℕ) (kind : PageType) (holds : HoldsLive v f kind) where
   none_typed : without_typed f v.holdings.typed ≡ []
@@ -102,6 +99,9 @@ module _ (v : PortValue) (f : ℕ) (kind : PageType) (holds : HoldsLive v f kind
       one_work : x.holdings.works ≡ closing ∷ []
       one_work = ap (λ (q : PortValue). q.holdings.works) looked_hand ∙ ap (λ ws. closing ∷ ws) holds.works
 
+      pub closed_settled : IsSettledTop x.holdings
+      closed_settled work others are = let both : work ∷ others ≡ closing ∷ [] = sym are ∙ one_work in let one : closing ≡ work = cc in subst (λ (y : Work). y.unsettled ≡ None) one refl
+
       same_post : x.post ≡ v.post
       same_post = ap (λ (q : PortValue). q.post) looked_hand
 
@@ -126,7 +126,7 @@ module _ (v : PortValue) (f : ℕ) (kind : PageType) (holds : HoldsLive v f kind
           )
 
       module _ (low : 1 ≤ level) (high : level ≤ 4) (table : is_table kind ≡ true) (inside : f < v.post.machine.frames) where
-        closing_work : IsTableWork (sizes_of x.post.machine) (length x.holdings.steps) (closing_table f level) closing
+        closing_work : IsReleasedWork (sizes_of x.post.machine) (length x.holdings.steps) (closing_table f level) closing
         closing_work =
             let all = all_recorded table in
             let since = closing_since in
@@ -150,7 +150,7 @@ module _ (v : PortValue) (f : ℕ) (kind : PageType) (holds : HoldsLive v f kind
               typed = refl;
               looking = holds.looking;
               stack = (record { low = low; high = high; done = omega arith }, tt, tt);
-              tables = subst (λ ws. AreTables (sizes_of x.post.machine) (length x.holdings.steps) None (closing_table f level ∷ []) ws) (sym one_work) (closing_work, tt, tt);
+              tables = subst (λ ws. AreInRelease (sizes_of x.post.machine) (length x.holdings.steps) None (closing_table f level ∷ []) ws) (sym one_work) (closing_work, tt, tt);
               refs = (plain_ref, v.holdings.refs, refl, ap (λ (q : PortValue). q.holdings.refs) looked_hand, refl);
               types = ap (λ (q : PortValue). q.holdings.typed) looked_hand;
               owner = told.0;
@@ -158,5 +158,5 @@ module _ (v : PortValue) (f : ℕ) (kind : PageType) (holds : HoldsLive v f kind
               hand = now_beside v x (record v.holdings { typed = [] }) (plain_ref ∷ v.holdings.refs) [] (closing ∷ v.holdings.works) looked_hand;
             }
 
-        pub emptied_released : (w : PortValue) (answer : Result (Unit {0}) Stop) → Came x w → LeavesEmptied x w (closing_table f level) answer → LeavesReleased v w f answer
+        pub emptied_released : (w : PortValue) (answer : Result (Unit {0}) Stop) → Came x w → LeavesEmptied x w (closing_table f level) answer → LeavesUnheld v w f answer
         emptied_released w answer came left = emptied_leaves v x w (closing_table f level) same_post came closed_empties answer left

@@ -1,5 +1,5 @@
 -- The frame that an old word named was found partial: the exchange that takes it into work again, and what follows it, serve the word.
-use Rattle.std.proofs.Common.{◌≡◌, ◌≢◌, ℕ, if◌then◌else◌, Bool, true, false, [], ◌∷◌, ◌++◌, length, None, Some, IsTrue, refl, sym, ap, ◌∙◌, subst, arith, inl}
+use Rattle.std.proofs.Common.{◌≡◌, ◌≢◌, ℕ, if◌then◌else◌, Bool, [], ◌∷◌, ◌++◌, length, None, Some, IsTrue, refl, sym, ap, ◌∙◌, subst, arith, inl}
 use Rattle.xp_words.specs.KindWords.{is_kind, kind_fields, kind_read, kind_write}
 use Rattle.xp_words.specs.Places.{number, place_at, sizes_of}
 use Rattle.xp_words.specs.declared.kind.KindWord.{KindWord}
@@ -31,15 +31,12 @@ use Rattle.kind_words.proofs.KindFacts.{read_is, work_word}
 use Rattle.kind_words.proofs.KindWriting.{fields_write, resumed_is}
 use Rattle.partial_state.specs.declared.stack.TableWork.{TableWork}
 use Rattle.table_words.specs.declared.old_words.OldWord.{OldWord}
-use Rattle.level_release.specs.Asking.{IsPiece}
+use Rattle.table_releases.proofs.PiecesTyped.{no_pin}
+use Rattle.level_release.specs.Asking.{IsReleasePiece}
 use Rattle.level_release.specs.Settling.{TookOld}
 use Rattle.level_release.proofs.Asking.{settling}
 use Rattle.level_release.proofs.Named.{asks_it, names_it, passed_it, taken_came, took_came, took_serves}
 use Rattle.level_release.proofs.Taken.{took_post}
-
-no_pin : (f : ℕ) (p : Bool) → pin_deed f p p ≡ []
-no_pin f true = refl
-no_pin f false = refl
 
 module _ (u v : PortValue) (which : OldWord) (f word : ℕ) (t : TookOld u v which f word) (owner pages : ℕ) (rose : Bool) (k : KindWord) (read : kind_read word ≡ Some k) (partial : IsTrue (is_partial k)) (d : PortValue) (found : ℕ)
     (change : Moves v d (Kind f) (Cas (kind_write k) (kind_write (resumed_kind k))) kinds.Kind None found) where
@@ -136,7 +133,7 @@ module _ (u v : PortValue) (which : OldWord) (f word : ℕ) (t : TookOld u v whi
   -- ---- it was found as expected
   module _ (at : found ≡ kind_write k) where
     -- a table is emptied behind a look at its reference word
-    pub resumed_piece : (x : PortValue) (refs_word : ℕ) (table : TableWork) → table.frame ≡ f → Moves d x (Refs f) Load kinds.Look None refs_word → IsPiece u x (settling owner pages rose) (table ∷ []) []
+    pub resumed_piece : (x : PortValue) (refs_word : ℕ) (table : TableWork) → table.frame ≡ f → Moves d x (Refs f) Load kinds.Look None refs_word → IsReleasePiece u x (settling owner pages rose) (table ∷ []) []
     resumed_piece x refs_word table same look =
         record {
           entries = refl;

@@ -10,7 +10,7 @@ use Rattle.step_maker.specs.Holds.{Holds, still}
 use Rattle.step_maker.specs.Moves.{Came}
 use Rattle.step_maker.proofs.Coming.{came_post}
 use Rattle.partial_state.specs.declared.stack.TableWork.{TableWork}
-use Rattle.level_release.specs.Holding.{Empties, HoldsNow, LeavesEmptied, LeavesReleased, named_hand}
+use Rattle.level_release.specs.Holding.{Empties, HoldsNow, LeavesEmptied, LeavesUnheld, named_hand}
 
 module _ (v w : PortValue) (h : Holdings) where
   -- beside its own references and works
@@ -22,7 +22,7 @@ module _ (v w : PortValue) (h : Holdings) where
 
 -- the only table was emptied, whose reference was the only typed one
 pub emptied_leaves : (v x w : PortValue) (t : TableWork) → x.post ≡ v.post → Came x w → Empties (record v.holdings { typed = [] }) x (t ∷ []) → (answer : Result (Unit {0}) Stop) → LeavesEmptied x w t answer →
-    LeavesReleased v w t.frame answer
+    LeavesUnheld v w t.frame answer
 emptied_leaves v x w t same came stands (Ok done) left = held_from v w (record v.holdings { typed = [] }) (came_post x w came ∙ same) (left (record v.holdings { typed = [] }) stands)
 emptied_leaves v x w t same came stands (Err e) left =
     held_from v w (named_hand t.frame (record v.holdings { typed = [] })) (came_post x w came ∙ same) (left (record v.holdings { typed = [] }) stands)

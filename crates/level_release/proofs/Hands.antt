@@ -13,32 +13,32 @@ use Rattle.step_maker.specs.Holds.{Holds, MayWork}
 use Rattle.partial_state.specs.declared.stack.TableWork.{TableWork}
 use Rattle.partial_state.specs.Stacks.{IsStack}
 use Rattle.table_releases.specs.Tops.{IsSince}
-use Rattle.level_release.specs.Holding.{AreOwned, AreRefs, AreTables, AreTyped, Empties, HoldsNow, IsAround, IsAroundAny, IsTableWork, RefFor, TypedFor}
+use Rattle.level_release.specs.Holding.{AreOwned, AreRefs, AreInRelease, AreOwnTyped, Empties, HoldsNow, IsAround, IsAroundAny, IsReleasedWork, RefFor, TypedIfOwn}
 
 -- ---- works
 pub record TopTable (z : Sizes) (made : ℕ) (inner : Option TableWork) (t : TableWork) (ts : List TableWork) (es : List Work) : Type 0 where
   pub work : Work
   pub others : List Work
   pub are : es ≡ work ∷ others
-  pub is : IsTableWork z made t work
+  pub is : IsReleasedWork z made t work
   pub inside : IsAroundAny t work inner
-  pub around : AreTables z made (Some t) ts others
+  pub around : AreInRelease z made (Some t) ts others
 
-pub tables_top : (z : Sizes) (made : ℕ) (inner : Option TableWork) (t : TableWork) (ts : List TableWork) (es : List Work) → AreTables z made inner (t ∷ ts) es → TopTable z made inner t ts es
+pub tables_top : (z : Sizes) (made : ℕ) (inner : Option TableWork) (t : TableWork) (ts : List TableWork) (es : List Work) → AreInRelease z made inner (t ∷ ts) es → TopTable z made inner t ts es
 tables_top z made inner t ts [] are = absurd are
 tables_top z made inner t ts (e ∷ es) are = record { work = e; others = es; are = refl; is = are.0; inside = are.1; around = are.2 }
 
-pub tables_none : (z : Sizes) (made : ℕ) (inner : Option TableWork) (es : List Work) → AreTables z made inner [] es → es ≡ []
+pub tables_none : (z : Sizes) (made : ℕ) (inner : Option TableWork) (es : List Work) → AreInRelease z made inner [] es → es ≡ []
 tables_none z made inner [] are = refl
 tables_none z made inner (e ∷ es) are = absurd are
 
 -- after more steps
-work_later : (z : Sizes) (a b : ℕ) (t : TableWork) (e : Work) → a ≤ b → IsTableWork z a t e → IsTableWork z b t e
+work_later : (z : Sizes) (a b : ℕ) (t : TableWork) (e : Work) → a ≤ b → IsReleasedWork z a t e → IsReleasedWork z b t e
 work_later z a b t e more is =
     let low = is.earlier in
     record { inside = is.inside; frame = is.frame; kind = is.kind; unmarked = is.unmarked; recorded = is.recorded; work = is.work; closing = is.closing; earlier = omega (arith, low, more) }
 
-pub tables_later : (z : Sizes) (a b : ℕ) (inner : Option TableWork) (ts : List TableWork) (es : List Work) → a ≤ b → AreTables z a inner ts es → AreTables z b inner ts es
+pub tables_later : (z : Sizes) (a b : ℕ) (inner : Option TableWork) (ts : List TableWork) (es : List Work) → a ≤ b → AreInRelease z a inner ts es → AreInRelease z b inner ts es
 tables_later z a b inner [] [] more are = tt
 tables_later z a b inner [] (e ∷ es) more are = absurd are
 tables_later z a b inner (t ∷ ts) [] more are = absurd are
@@ -48,17 +48,24 @@ tables_later z a b inner (t ∷ ts) (e ∷ es) more are = (work_later z a b t e 
 around_done : (t : TableWork) (e : Work) (g : TableWork) (n : ℕ) → IsAround t e g → IsAround t e (record g { done = n })
 around_done t e g n is = record { settled = is.settled; word = is.word; seen = is.seen; asks = is.asks; inside = is.inside }
 
-pub tables_outer : (z : Sizes) (made : ℕ) (g : TableWork) (ts : List TableWork) (es : List Work) → AreTables z made (Some g) ts es → AreTables z made None ts es
+pub tables_outer : (z : Sizes) (made : ℕ) (g : TableWork) (ts : List TableWork) (es : List Work) → AreInRelease z made (Some g) ts es → AreInRelease z made None ts es
 tables_outer z made g [] [] are = tt
 tables_outer z made g [] (e ∷ es) are = absurd are
 tables_outer z made g (t ∷ ts) [] are = absurd are
 tables_outer z made g (t ∷ ts) (e ∷ es) are = (are.0, tt, are.2)
 
-pub tables_done : (z : Sizes) (made : ℕ) (g : TableWork) (n : ℕ) (ts : List TableWork) (es : List Work) → AreTables z made (Some g) ts es → AreTables z made (Some (record g { done = n })) ts es
+pub tables_done : (z : Sizes) (made : ℕ) (g : TableWork) (n : ℕ) (ts : List TableWork) (es : List Work) → AreInRelease z made (Some g) ts es → AreInRelease z made (Some (record g { done = n })) ts es
 tables_done z made g n [] [] are = tt
 tables_done z made g n [] (e ∷ es) are = absurd are
 tables_done z made g n (t ∷ ts) [] are = absurd are
 tables_done z made g n (t ∷ ts) (e ∷ es) are = (are.0, around_done t e g n are.1, are.2)
+
+-- around another one nothing is noted as unsettled
+pub around_settled : (z : Sizes) (made : ℕ) (g : TableWork) (ts : List TableWork) (es : List Work) → AreInRelease z made (Some g) ts es → (top : Work) (others : List Work) → es ≡ top ∷ others → top.unsettled ≡ None
+around_settled z made g [] [] are top others is = absurd cc
+around_settled z made g [] (e ∷ es) are top others is = absurd are
+around_settled z made g (t ∷ ts) [] are top others is = absurd are
+around_settled z made g (t ∷ ts) (e ∷ es) are top others is = let same : e ≡ top = cc in subst (λ (y : Work). y.unsettled ≡ None) same are.1.settled
 
 -- ---- references
 pub record TopRef (f : ℕ) (P : List Reference → Type 0) (xs : List Reference) : Type 0 where
@@ -84,11 +91,11 @@ pub record TopTyped (made f : ℕ) (P : List TypedReference → Type 0) (ys : Li
   pub are : ys ≡ ref ∷ others
   pub around : P others
 
-pub typed_top : (own : Bool) (made f : ℕ) (P : List TypedReference → Type 0) (ys : List TypedReference) → own ≡ true → TypedFor own made f P ys → TopTyped made f P ys
+pub typed_top : (own : Bool) (made f : ℕ) (P : List TypedReference → Type 0) (ys : List TypedReference) → own ≡ true → TypedIfOwn own made f P ys → TopTyped made f P ys
 typed_top true made f P ys on r = record { ref = r.0; others = r.1; frame = r.2; since = r.3; are = r.4; around = r.5 }
 typed_top false made f P ys on r = absurd cc
 
-pub typed_lent : (own : Bool) (made f : ℕ) (P : List TypedReference → Type 0) (ys : List TypedReference) → own ≡ false → TypedFor own made f P ys → P ys
+pub typed_lent : (own : Bool) (made f : ℕ) (P : List TypedReference → Type 0) (ys : List TypedReference) → own ≡ false → TypedIfOwn own made f P ys → P ys
 typed_lent true made f P ys off r = absurd cc
 typed_lent false made f P ys off r = r
 
@@ -96,13 +103,13 @@ since_later : (a b : ℕ) (l : Liveness) → a ≤ b → IsSince a l → IsSince
 since_later a b (Since n) more low = omega (arith, more, low)
 since_later a b Found more low = absurd low
 
-typed_for_later : (own : Bool) (a b f : ℕ) (P Q : List TypedReference → Type 0) (ys : List TypedReference) → a ≤ b → ((xs : List TypedReference) → P xs → Q xs) → TypedFor own a f P ys → TypedFor own b f Q ys
+typed_for_later : (own : Bool) (a b f : ℕ) (P Q : List TypedReference → Type 0) (ys : List TypedReference) → a ≤ b → ((xs : List TypedReference) → P xs → Q xs) → TypedIfOwn own a f P ys → TypedIfOwn own b f Q ys
 typed_for_later true a b f P Q ys more on r = (r.0, r.1, r.2, since_later a b r.0.live more r.3, r.4, on r.1 r.5)
 typed_for_later false a b f P Q ys more on r = on ys r
 
-pub typed_later : (a b : ℕ) (ts : List TableWork) (ys : List TypedReference) → a ≤ b → AreTyped a ts ys → AreTyped b ts ys
+pub typed_later : (a b : ℕ) (ts : List TableWork) (ys : List TypedReference) → a ≤ b → AreOwnTyped a ts ys → AreOwnTyped b ts ys
 typed_later a b [] ys more are = are
-typed_later a b (t ∷ ts) ys more are = typed_for_later t.own a b t.frame (AreTyped a ts) (AreTyped b ts) ys more (λ xs rest. typed_later a b ts xs more rest) are
+typed_later a b (t ∷ ts) ys more are = typed_for_later t.own a b t.frame (AreOwnTyped a ts) (AreOwnTyped b ts) ys more (λ xs rest. typed_later a b ts xs more rest) are
 
 -- ---- the whole
 pub hands_post : (h : Holdings) (v w : PortValue) (k : Holdings) → Holds v w k → w.post ≡ v.post
@@ -122,7 +129,7 @@ module _ (h : Holdings) (v w : PortValue) (ts us : List TableWork) (rs : List Re
       ∙ ap (λ xs. record { post = w.post; holdings = record h { refs = w.holdings.refs; typed = w.holdings.typed; works = xs; steps = [] }; told = None }) (sym (ap (λ (q : PortValue). q.holdings.works) holds))
 
   -- the hand is another one, of these tables
-  pub hands_by : IsStack us → AreTables (sizes_of v.post.machine) (length w.holdings.steps) None us es → AreRefs h.refs us rs → AreTyped (length w.holdings.steps) us ys →
+  pub hands_by : IsStack us → AreInRelease (sizes_of v.post.machine) (length w.holdings.steps) None us es → AreRefs h.refs us rs → AreOwnTyped (length w.holdings.steps) us ys →
       AreOwned (sizes_of v.post.machine) s.owner us w.holdings → Empties h w us
   hands_by stack tables refs types owned =
       record {
@@ -131,10 +138,10 @@ module _ (h : Holdings) (v w : PortValue) (ts us : List TableWork) (rs : List Re
         looking = s.looking;
         stack = stack;
         tables =
-            subst (λ (p : Post). AreTables (sizes_of p.machine) (length w.holdings.steps) None us w.holdings.works) (sym same_post)
-            (subst (λ xs. AreTables (sizes_of v.post.machine) (length w.holdings.steps) None us xs) (sym (ap (λ (q : PortValue). q.holdings.works) holds)) tables);
+            subst (λ (p : Post). AreInRelease (sizes_of p.machine) (length w.holdings.steps) None us w.holdings.works) (sym same_post)
+            (subst (λ xs. AreInRelease (sizes_of v.post.machine) (length w.holdings.steps) None us xs) (sym (ap (λ (q : PortValue). q.holdings.works) holds)) tables);
         refs = subst (λ xs. AreRefs h.refs us xs) (sym (ap (λ (q : PortValue). q.holdings.refs) holds)) refs;
-        types = subst (λ xs. AreTyped (length w.holdings.steps) us xs) (sym (ap (λ (q : PortValue). q.holdings.typed) holds)) types;
+        types = subst (λ xs. AreOwnTyped (length w.holdings.steps) us xs) (sym (ap (λ (q : PortValue). q.holdings.typed) holds)) types;
         owner = s.owner;
         owned = subst (λ (p : Post). AreOwned (sizes_of p.machine) s.owner us w.holdings) (sym same_post) owned;
         hand = hand_by;

@@ -28,7 +28,7 @@ use Rattle.step_maker.specs.Moves.{Moment, MovesBy, Ran}
 use Rattle.answer_fits.specs.Visits.{Does, Visit, visits}
 use Rattle.frame_words.proofs.CellSteps.{learned_apart}
 use Rattle.partial_state.specs.declared.stack.TableWork.{TableWork}
-use Rattle.level_release.specs.Holding.{AreTables}
+use Rattle.level_release.specs.Holding.{AreInRelease}
 use Rattle.level_release.proofs.HandsKnown.{AreApart}
 
 -- ---- what the first step shows of the hand before it
@@ -61,7 +61,7 @@ no_claims : (a b : ℕ) → a + b ≡ 0 → b ≡ 0
 no_claims a b none = omega arith
 
 -- ---- different frames
-pub tables_apart : (z : Sizes) (made : ℕ) (inner : Option TableWork) (f : ℕ) (ts : List TableWork) (es : List Work) → AreTables z made inner ts es → works_on f es ≡ 0 → AreApart f ts
+pub tables_apart : (z : Sizes) (made : ℕ) (inner : Option TableWork) (f : ℕ) (ts : List TableWork) (es : List Work) → AreInRelease z made inner ts es → works_on f es ≡ 0 → AreApart f ts
 tables_apart z made inner f [] es are none = tt
 tables_apart z made inner f (t ∷ ts) [] are none = absurd are
 tables_apart z made inner f (t ∷ ts) (e ∷ es) are none = (

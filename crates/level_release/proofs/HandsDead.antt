@@ -31,8 +31,9 @@ use Rattle.kind_words.proofs.Leaving.{left_dead, left_dead_closing, may_leave_de
 use Rattle.partial_state.proofs.LevelFacts.{level_type-typed}
 use Rattle.partial_state.specs.Levels.{level_type}
 use Rattle.partial_state.specs.declared.stack.TableWork.{TableWork}
-use Rattle.level_release.specs.Holding.{AreRefs, AreTyped, Empties}
-use Rattle.level_release.proofs.Hands.{hands_by, tables_later, tables_outer, typed_later}
+use Rattle.table_releases.specs.Tops.{IsSettledTop}
+use Rattle.level_release.specs.Holding.{AreRefs, AreOwnTyped, Empties}
+use Rattle.level_release.proofs.Hands.{around_settled, hands_by, tables_later, tables_outer, typed_later}
 use Rattle.level_release.proofs.HandsApart.{none_else, others_apart, tables_apart}
 use Rattle.level_release.proofs.HandsKnown.{Still, known_still, owned_apart, still_less, still_same}
 use Rattle.level_release.proofs.HandsTop.{closing_closes, closing_ref, closing_typed, hands_same, own_gone, own_held, own_refs, own_typed, own_works, top, top_gone, top_here}
@@ -44,7 +45,7 @@ pub record DeadHand (h : Holdings) (x d : PortValue) (t : TableWork) (ts : List 
   pub typed : List TypedReference
   pub frame : ref.frame ≡ t.frame
   pub are_refs : AreRefs h.refs ts refs
-  pub are_typed : AreTyped (length x.holdings.steps) ts typed
+  pub are_typed : AreOwnTyped (length x.holdings.steps) ts typed
   pub still_refs : (g : ℕ) → t.frame ≢ g → Still (λ (e : Reference). e.frame) g x.holdings.refs refs
   pub still_typed : (g : ℕ) → t.frame ≢ g → Still (λ (e : TypedReference). e.frame) g x.holdings.typed typed
   pub hand : Holds x d (record x.holdings { refs = ref ∷ refs; typed = typed; works = others })
@@ -120,6 +121,11 @@ module _ (h : Holdings) (x : PortValue) (t : TableWork) (ts : List TableWork) (s
           put ∙ ap (λ (q : PortValue). still (record q { holdings = gave t.frame q.holdings })) k.hand
           ∙ ap (λ rs. still (record x { holdings = record x.holdings { refs = rs; typed = k.typed; works = (top h x t ts s).others } })) (without_newest (λ (z : Reference). z.frame) t.frame k.ref k.refs (k.ref ∷ k.refs) k.frame refl)
 
+      pub dead_settled : IsSettledTop w.holdings
+      dead_settled work others are =
+          let e = top h x t ts s in
+          around_settled (sizes_of x.post.machine) (length x.holdings.steps) t ts e.others e.around work others (sym (ap (λ (q : PortValue). q.holdings.works) given) ∙ are)
+
       pub dead_stands : Empties h w ts
       dead_stands =
           let e = top h x t ts s in
@@ -175,3 +181,6 @@ module _ (h : Holdings) (v x : PortValue) (t : TableWork) (ts : List TableWork) 
 
       pub close_stands : Empties h w ts
       close_stands = dead_stands h x t ts now empty d close_hand (kind_write k) found store w put came_dead
+
+      pub close_settled : IsSettledTop w.holdings
+      close_settled = dead_settled h x t ts now empty d close_hand (kind_write k) found store w put came_dead

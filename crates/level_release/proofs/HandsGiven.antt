@@ -1,31 +1,25 @@
 -- The last recorded entry of the innermost table is looked at, or given back.
-use Rattle.std.proofs.Common.{◌≡◌, ℕ, ◌+◌, ◌≤◌, if◌then◌else◌, List, ◌∷◌, length, Some, None, refl, ap, ◌∙◌, arith}
+use Rattle.std.proofs.Common.{◌≡◌, ℕ, ◌+◌, ◌≤◌, List, ◌∷◌, length, Some, None, refl, sym, ap, ◌∙◌, subst, arith}
 use Rattle.xp_words.specs.Places.{Sizes, sizes_of}
 use Rattle.xp_board.specs.After.{learned_cell, learned_last, learned_work}
 use Rattle.xp_board.specs.Hands.{changed_work}
-use Rattle.xp_board.specs.Lists.{changed_by}
 use Rattle.xp_board.specs.Told.{PortValue}
 use Rattle.xp_board.specs.declared.holdings.Holdings.{Holdings}
 use Rattle.xp_board.specs.declared.holdings.Work.{Work}
-use Rattle.board_lemmas.proofs.Sums.{when_eq}
 use Rattle.step_maker.specs.Holds.{Holds, still}
 use Rattle.step_maker.specs.Moves.{Came}
 use Rattle.flush_words.proofs.Lasting.{came_longer}
 use Rattle.flush_waits.proofs.Growing.{came_grows, knows_later}
 use Rattle.table_entries.proofs.HandReady.{unmarked_learns}
 use Rattle.partial_state.specs.declared.stack.TableWork.{TableWork}
-use Rattle.table_releases.specs.Tops.{shed_once}
-use Rattle.level_release.specs.Course.{one_more}
-use Rattle.level_release.specs.Holding.{Empties, IsTableWork}
+use Rattle.table_releases.specs.Tops.{IsSettledTop, shed_once}
+use Rattle.level_release.specs.Course.{one_more_done}
+use Rattle.level_release.specs.Holding.{Empties, IsReleasedWork}
 use Rattle.level_release.proofs.Hands.{hands_by, tables_done, tables_later, typed_later}
 use Rattle.level_release.proofs.HandsApart.{FirstFound, looked_apart}
 use Rattle.level_release.proofs.HandsKnown.{owned_still}
 use Rattle.level_release.proofs.HandsTop.{top}
-
--- the newest work is changed
-pub changed_first : (f : ℕ) (c : Work → Work) (e : Work) (es ws : List Work) → ws ≡ e ∷ es → e.frame ≡ f → changed_work f c ws ≡ c e ∷ es
-unfolding changed_by
-changed_first f c e es ws are is = ap (λ zs. changed_work f c zs) are ∙ ap (λ b. if b then (c e ∷ es) else (e ∷ changed_work f c es)) (when_eq e.frame f is)
+use Rattle.kind_words.proofs.KindHands.{changed_first}
 
 -- ---- its work, once the entry was looked at, and shed
 abbrev pub looked_work : ℕ → ℕ → Work → Work
@@ -34,17 +28,17 @@ looked_work i word e = record e { seen = Some (record { index = i; word = word }
 abbrev pub shed_work : ℕ → ℕ → Work → Work
 shed_work i word e = record e { recorded = i; seen = Some (record { index = i; word = word }); unsettled = None; fixed = (learned_work i word e).fixed }
 
-looked_is : (z : Sizes) (made i word : ℕ) (t : TableWork) (e : Work) → IsTableWork z made t e → IsTableWork z made t (looked_work i word e)
+looked_is : (z : Sizes) (made i word : ℕ) (t : TableWork) (e : Work) → IsReleasedWork z made t e → IsReleasedWork z made t (looked_work i word e)
 looked_is z made i word t e is =
     record { inside = is.inside; frame = is.frame; kind = is.kind; unmarked = is.unmarked; recorded = is.recorded; work = is.work; closing = is.closing; earlier = is.earlier }
 
-pub shed_is : (z : Sizes) (made i word : ℕ) (t : TableWork) (e : Work) → i + 1 + t.done ≡ 512 → IsTableWork z made t e → IsTableWork z made (one_more t) (shed_work i word e)
+pub shed_is : (z : Sizes) (made i word : ℕ) (t : TableWork) (e : Work) → i + 1 + t.done ≡ 512 → IsReleasedWork z made t e → IsReleasedWork z made (one_more_done t) (shed_work i word e)
 shed_is z made i word t e next is =
     record { inside = is.inside; frame = is.frame; kind = is.kind; unmarked = is.unmarked; recorded = omega (arith, next); work = is.work; closing = is.closing; earlier = is.earlier }
 
 module _ (h : Holdings) (v : PortValue) (t : TableWork) (ts : List TableWork) (s : Empties h v (t ∷ ts)) where
   -- ---- the newest work is another one, with so many entries done
-  pub stands_top : (n : ℕ) (e : Work) (w : PortValue) → n ≤ 512 → IsTableWork (sizes_of v.post.machine) (length v.holdings.steps) (record t { done = n }) e →
+  pub stands_top : (n : ℕ) (e : Work) (w : PortValue) → n ≤ 512 → IsReleasedWork (sizes_of v.post.machine) (length v.holdings.steps) (record t { done = n }) e →
       Holds v w (record v.holdings { works = e ∷ (top h v t ts s).others }) → Came v w → Empties h w (record t { done = n } ∷ ts)
   stands_top n e w few is holds came =
       let z = sizes_of v.post.machine in
@@ -81,8 +75,14 @@ module _ (h : Holdings) (v : PortValue) (t : TableWork) (ts : List TableWork) (s
         (holds ∙ ap (λ (k : Holdings). still (record v { holdings = k })) looked_hand) came
 
     -- it is given back
-    pub given_stands : (w : PortValue) → i + 1 + t.done ≡ 512 → Holds v w (shed_once t.frame i word v.holdings) → Came v w → Empties h w (one_more t ∷ ts)
+    pub given_stands : (w : PortValue) → i + 1 + t.done ≡ 512 → Holds v w (shed_once t.frame i word v.holdings) → Came v w → Empties h w (one_more_done t ∷ ts)
     given_stands w next holds came =
         let e = top h v t ts s in
         stands_top (t.done + 1) (shed_work i word e.work) w (omega (arith, next)) (shed_is (sizes_of v.post.machine) (length v.holdings.steps) i word t e.work next e.is)
         (holds ∙ ap (λ (k : Holdings). still (record v { holdings = k })) shed_hand) came
+
+    pub given_settled : (w : PortValue) → Holds v w (shed_once t.frame i word v.holdings) → IsSettledTop w.holdings
+    given_settled w holds work others are =
+        let both : work ∷ others ≡ shed_work i word (top h v t ts s).work ∷ (top h v t ts s).others = sym are ∙ (ap (λ (q : PortValue). q.holdings.works) holds ∙ ap (λ (k : Holdings). k.works) shed_hand) in
+        let one : shed_work i word (top h v t ts s).work ≡ work = cc in
+        subst (λ (y : Work). y.unsettled ≡ None) one refl

@@ -1,15 +1,14 @@
 -- The innermost table is left partial, and its type count is in hand.
 use Rattle.std.proofs.Common.{◌≡◌, ℕ, ◌-◌, ◌<◌, ◌≤◌, Bool, true, false, List, ◌∷◌, length, Some, None, IsTrue, refl, sym, ap, ◌∙◌, subst, arith, inl}
-use Rattle.xp_words.specs.KindWords.{is_kind, kind_fields, kind_write}
+use Rattle.xp_words.specs.KindWords.{kind_fields, kind_write}
 use Rattle.xp_words.specs.Places.{Sizes, sizes_of}
 use Rattle.xp_words.specs.declared.kind.KindWord.{KindWord}
-use Rattle.xp_words.specs.declared.kind.PageType.{PageType}
 use Rattle.xp_words.specs.declared.place.Place.TheVariants.{Kind}
 use Rattle.xp_board.specs.Acts.{left_by}
 use Rattle.xp_board.specs.Hands.{owner_by, owner_from, ref_owner, refs_to, typed_to, without_ref}
 use Rattle.xp_board.specs.Knowledge.{knows_owner, knows_partial}
 use Rattle.xp_board.specs.Lists.{first_by}
-use Rattle.xp_board.specs.Readings.{is_closing, is_partial_as}
+use Rattle.xp_board.specs.Readings.{is_closing}
 use Rattle.xp_board.specs.Told.{PortValue}
 use Rattle.xp_board.specs.declared.holdings.Holdings.{Holdings}
 use Rattle.xp_board.specs.declared.holdings.Liveness.{Liveness}
@@ -19,7 +18,6 @@ use Rattle.xp_board.specs.declared.holdings.TypedReference.{TypedReference}
 use Rattle.xp_board.specs.declared.holdings.Work.{Work}
 use Rattle.xp_board.specs.declared.step.Act.TheVariants.{Store}
 use Rattle.xp_board.specs.declared.step.StepKind.TheVariants as kinds
-use Rattle.xp_board.proofs.Returned.{same_type}
 use Rattle.board_lemmas.proofs.KindReadings.{work_alone}
 use Rattle.board_lemmas.proofs.ListCounts.{first_by-cons_here}
 use Rattle.step_maker.specs.Holds.{Holds, still}
@@ -27,16 +25,16 @@ use Rattle.step_maker.specs.Moves.{Moves}
 use Rattle.flush_waits.proofs.Growing.{Grows}
 use Rattle.kind_words.specs.Kinds.{MayLeave, left, partial_kind}
 use Rattle.kind_words.proofs.KindHands.{typed_held}
-use Rattle.kind_words.proofs.KindWriting.{fields_write}
 use Rattle.kind_words.proofs.Knowing.{partial_by_step}
 use Rattle.kind_words.proofs.Leaving.{left_partial, left_partial_closing, may_leave_partial}
 use Rattle.partial_state.proofs.LevelFacts.{level_type-typed}
 use Rattle.partial_state.specs.Levels.{level_type}
 use Rattle.partial_state.specs.declared.stack.TableWork.{TableWork}
 use Rattle.table_releases.specs.Tops.{IsSince}
-use Rattle.level_release.specs.Holding.{AreRefs, AreTyped, Empties}
+use Rattle.level_release.specs.Holding.{AreRefs, AreOwnTyped, Empties}
 use Rattle.level_release.proofs.HandsKnown.{known_moved, known_still, still_same}
 use Rattle.level_release.proofs.HandsTop.{closing_closes, closing_gone, closing_held, closing_ref, closing_typed, own_refs, own_typed, own_works, top, top_few, top_gone, top_here, top_table}
+use Rattle.kind_words.proofs.KindWriting.{partial_as}
 
 -- what is in hand then: a typed reference to it in front of the others; and what was known of owners, is
 pub record LeftHand (h : Holdings) (v d : PortValue) (t : TableWork) (ts : List TableWork) (others : List Work) : Type 0 where
@@ -48,16 +46,13 @@ pub record LeftHand (h : Holdings) (v d : PortValue) (t : TableWork) (ts : List 
   pub since : ref.live ≡ Since steps
   pub earlier : steps ≤ length v.holdings.steps
   pub are_refs : AreRefs h.refs ts refs
-  pub are_typed : AreTyped (length v.holdings.steps) ts typed
+  pub are_typed : AreOwnTyped (length v.holdings.steps) ts typed
   pub known : (z : Sizes) (g o : ℕ) (k : Holdings) → Grows v.holdings k → k.refs ≡ refs → k.typed ≡ ref ∷ typed → k.locks ≡ v.holdings.locks → IsTrue (knows_owner z g o v.holdings) → IsTrue (knows_owner z g o k)
   pub hand : Holds v d (record v.holdings { refs = refs; typed = ref ∷ typed; works = others })
 
 since_is : (made : ℕ) (l : Liveness) → IsSince made l → (n : ℕ) × (n ≤ made) × (l ≡ Since n)
 since_is made (Since n) low = (n, low, refl)
 since_is made Found low = absurd low
-
-partial_as : (t : PageType) (p : ℕ) → IsTrue (is_kind (partial_kind t false false p 0)) → is_partial_as t (kind_write (partial_kind t false false p 0)) ≡ true
-partial_as t p is = rw (fields_write (partial_kind t false false p 0) is) (same_type t)
 
 abbrev pub left_kind : TableWork → KindWord
 left_kind t = partial_kind (level_type t.level) false false (512 - t.done) 0

@@ -1,9 +1,8 @@
 -- The call at the last recorded entry of the innermost table: what it asks of the hand, and what is released then.
-use Rattle.std.proofs.Common.{◌≡◌, ◌≢◌, ℕ, zero, suc, ◌+◌, ◌-◌, ◌≤◌, ◌==◌, false, List, [], ◌∷◌, ◌++◌, Option, Some, None, Result, refl, sym, ap, ◌∙◌, subst, arith, inl, inr}
+use Rattle.std.proofs.Common.{◌≡◌, ◌≢◌, ℕ, ◌+◌, ◌-◌, ◌≤◌, List, [], ◌∷◌, ◌++◌, Option, Some, None, Bool, Result, Ok, refl, sym, ap, ◌∙◌, subst, arith, inl, inr}
 use Rattle.std.proofs.lemmas.Bool.{cases_eq}
 use Rattle.xp_words.specs.Entries.{below}
 use Rattle.xp_words.specs.KindWords.{kind_fields}
-use Rattle.xp_words.specs.PageTypes.{type_number}
 use Rattle.xp_words.specs.Places.{Sizes, sizes_of}
 use Rattle.xp_words.specs.declared.kind.PageType.{PageType}
 use Rattle.xp_words.specs.declared.reply.Stop.{Stop}
@@ -14,24 +13,23 @@ use Rattle.xp_board.specs.Told.{PortValue}
 use Rattle.xp_board.specs.declared.holdings.Holdings.{Holdings}
 use Rattle.xp_board.specs.declared.holdings.Work.{Work}
 use Rattle.board_lemmas.proofs.ListCounts.{first_by-cons_here, first_by-cons_other}
-use Rattle.board_lemmas.proofs.Sums.{when_ne}
 use Rattle.step_maker.specs.Moves.{Came}
 use Rattle.answer_fits.proofs.Visiting.{does_came}
 use Rattle.answer_fits.specs.Visits.{Then, Visit}
 use Rattle.frame_types.specs.Taking.{IsOfOther}
-use Rattle.partial_state.proofs.LevelFacts.{level_type-number}
+use Rattle.partial_state.proofs.LevelFacts.{level_type-above}
 use Rattle.partial_state.specs.Levels.{level_type}
 use Rattle.partial_state.specs.Stacks.{IsStack, advanced}
 use Rattle.partial_state.specs.declared.stack.TableWork.{TableWork}
 use Rattle.table_releases.specs.Found.{ReleasedBy, ReleasesFound}
-use Rattle.table_releases.specs.Tops.{LeavesReleased, OwnsReleased, StaysRecorded}
+use Rattle.table_releases.specs.Tops.{IsSettledTop, IsShedLive, LeavesReleased, OwnsReleased, StaysRecorded}
 use Rattle.table_releases.specs.declared.entries.Released.{Released}
 use Rattle.table_releases.specs.declared.entries.Released.TheVariants.{Given, Opened}
-use Rattle.level_release.specs.Course.{table_in}
-use Rattle.level_release.specs.Holding.{AreTables, Empties}
+use Rattle.level_release.specs.Course.{table_under}
+use Rattle.level_release.specs.Holding.{AreInRelease, Empties}
 use Rattle.level_release.proofs.HandsApart.{FirstFound, does_first, list_some}
-use Rattle.level_release.proofs.HandsGiven.{given_stands, stays_stands}
-use Rattle.level_release.proofs.HandsOpened.{opened_stands}
+use Rattle.level_release.proofs.HandsGiven.{given_settled, given_stands, stays_stands}
+use Rattle.level_release.proofs.HandsOpened.{opened_settled, opened_stands}
 
 -- ---- each table is of a level above the innermost one's entries
 record LevelOf (least : ℕ) (e : Work) : Type 0 where
@@ -40,13 +38,10 @@ record LevelOf (least : ℕ) (e : Work) : Type 0 where
   pub high : level ≤ 4
   pub kind : (kind_fields e.word).kind ≡ level_type level
 
-some_is : (x y : Work) → Some x ≡ Some y → y ≡ x
-some_is x y is = cc
-
 under_low : (t u : TableWork) (us : List TableWork) (least : ℕ) → least ≤ t.level → IsStack (t ∷ u ∷ us) → least ≤ u.level
 under_low t u us least low is = let under = is.1 in omega (arith, under, low)
 
-found_level : (z : Sizes) (made : ℕ) (inner : Option TableWork) (g least : ℕ) (ts : List TableWork) (es : List Work) (e : Work) → IsStack ts → ((t : TableWork) (us : List TableWork) → ts ≡ t ∷ us → least ≤ t.level) → AreTables z made inner ts es →
+found_level : (z : Sizes) (made : ℕ) (inner : Option TableWork) (g least : ℕ) (ts : List TableWork) (es : List Work) (e : Work) → IsStack ts → ((t : TableWork) (us : List TableWork) → ts ≡ t ∷ us → least ≤ t.level) → AreInRelease z made inner ts es →
     work_on g es ≡ Some e → LevelOf least e
 unfolding first_by
 found_level z made inner g least [] [] e is low are at = absurd cc
@@ -55,26 +50,14 @@ found_level z made inner g least (t ∷ ts) [] e is low are at = absurd are
 found_level z made inner g least (t ∷ ts) (x ∷ xs) e is low are at =
     elim (cases_eq x.frame g) [
       | inl same ↦
-          let this = some_is x e (sym (first_by-cons_here (λ (y : Work). y.frame) g x xs same) ∙ at) in
+          let both : Some x ≡ Some e = sym (first_by-cons_here (λ (y : Work). y.frame) g x xs same) ∙ at in
+          let this : e ≡ x = cc in
           record { level = t.level; low = low t ts refl; high = is.0.high; kind = ap (λ (y : Work). (kind_fields y.word).kind) this ∙ are.0.kind }
       | inr other ↦
           found_level z made (Some t) g least ts xs e is.2
           (λ u us at2. under_low t u us least (low t ts refl) (subst (λ rs. IsStack (t ∷ rs)) at2 is)) are.2
           (sym (first_by-cons_other (λ (y : Work). y.frame) g x xs other) ∙ at)
     ]
-
-other_number : (l m : ℕ) → 1 ≤ l → l ≤ m → m ≤ 4 → type_number (below (level_type l)) ≢ m
-other_number zero m a b c is = absurd (omega arith)
-other_number (suc zero) m a b c is = absurd (omega arith)
-other_number (suc (suc zero)) m a b c is = absurd (omega arith)
-other_number (suc (suc (suc zero))) m a b c is = absurd (omega arith)
-other_number (suc (suc (suc (suc zero)))) m a b c is = absurd (omega arith)
-other_number (suc (suc (suc (suc (suc l))))) m a b c is = absurd (omega arith)
-
-other_type : (l m : ℕ) → 1 ≤ l → l ≤ m → m ≤ 4 → is_type (level_type m) (below (level_type l)) ≡ false
-other_type l m a b c =
-    let number = level_type-number m (let k : 1 ≤ m = omega arith in k) c in
-    ap (λ n. n == type_number (below (level_type l))) number ∙ when_ne m (type_number (below (level_type l))) (λ same. other_number l m a b c (sym same))
 
 least_of : (t u : TableWork) (ts us : List TableWork) → t ∷ ts ≡ u ∷ us → t.level ≤ u.level
 least_of t u ts us are = let same : t ≡ u = cc in subst (λ (k : TableWork). t.level ≤ k.level) same (let k : t.level ≤ t.level = omega arith in k)
@@ -84,7 +67,7 @@ lower_above h v t stack ts kind are is_kind s g e at =
     let z = sizes_of v.post.machine in
     let now = subst (λ xs. Empties h v xs) are s in
     let l = found_level z _ None g t.level (t ∷ ts) v.holdings.works e now.stack (λ u us same. least_of t u ts us same) now.tables at in
-    ap (λ k. is_type k (below kind)) l.kind ∙ ap (λ k. is_type (level_type l.level) (below k)) is_kind ∙ other_type t.level l.level now.stack.0.low l.low l.high
+    ap (λ k. is_type k (below kind)) l.kind ∙ ap (λ k. is_type (level_type l.level) (below k)) is_kind ∙ level_type-above t.level l.level now.stack.0.low l.low l.high
 
 -- ---- what the steps found
 pub lower_came : (v w : PortValue) (f i : ℕ) (kind : PageType) (answer : Result Released Stop) → ReleasesFound v w f i kind answer → Came v w
@@ -116,9 +99,20 @@ module _ (h : Holdings) (v w : PortValue) (t : TableWork) (stack ts : List Table
         subst (λ xs. Empties h w xs) (sym (goes_on ∙ ap advanced are))
         (given_stands h v t ts now (lower_first v w t.frame (511 - t.done) kind answer found) (511 - t.done) given.0 w all given.1 (lower_came v w t.frame (511 - t.done) kind answer found))
 
-    pub lower_opened : (g recorded : ℕ) (closing : _) → a ≡ Opened g recorded closing → OwnsReleased v w t.frame a → (new : List TableWork) → new ≡ table_in t g recorded closing ∷ next → Empties h w new
+    pub lower_opened : (g recorded : ℕ) (closing : _) → a ≡ Opened g recorded closing → OwnsReleased v w t.frame a → (new : List TableWork) → new ≡ table_under t g recorded closing ∷ next → Empties h w new
     lower_opened g recorded closing is owns new pushed =
         let opened = subst (λ (r : Released). LeavesReleased v w t.frame (level_type t.level) (511 - t.done) r) is (subst (λ k. LeavesReleased v w t.frame k (511 - t.done) a) is_kind leaves) in
-        subst (λ xs. Empties h w xs) (sym (pushed ∙ ap (λ xs. table_in t g recorded closing ∷ xs) (goes_on ∙ ap advanced are)))
+        subst (λ xs. Empties h w xs) (sym (pushed ∙ ap (λ xs. table_under t g recorded closing ∷ xs) (goes_on ∙ ap advanced are)))
         (opened_stands h v t ts now (lower_first v w t.frame (511 - t.done) kind answer found) (511 - t.done) all g recorded closing w opened (lower_came v w t.frame (511 - t.done) kind answer found)
         (subst (λ (r : Released). OwnsReleased v w t.frame r) is owns))
+
+    -- ---- what is noted as unsettled then
+    pub given_clear : a ≡ Given → IsSettledTop w.holdings
+    given_clear is =
+        let given = subst (λ (r : Released). LeavesReleased v w t.frame kind (511 - t.done) r) is leaves in
+        given_settled h v t ts now (lower_first v w t.frame (511 - t.done) kind answer found) (511 - t.done) given.0 w given.1
+
+    pub opened_clear : (g recorded : ℕ) (closing : Bool) → a ≡ Opened g recorded closing → IsShedLive (Ok a) → IsSettledTop w.holdings
+    opened_clear g recorded closing is live =
+        let opened = subst (λ (r : Released). LeavesReleased v w t.frame (level_type t.level) (511 - t.done) r) is (subst (λ k. LeavesReleased v w t.frame k (511 - t.done) a) is_kind leaves) in
+        opened_settled h v t ts now (lower_first v w t.frame (511 - t.done) kind answer found) (511 - t.done) all g recorded closing w opened (subst (λ (r : Released). IsShedLive (Ok r)) is live)

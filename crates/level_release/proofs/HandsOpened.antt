@@ -1,5 +1,5 @@
 -- The frame that the last recorded entry of the innermost table names is to be released first: it is the innermost table then.
-use Rattle.std.proofs.Common.{◌≡◌, ℕ, suc, ◌+◌, ◌-◌, ◌<◌, ◌≤◌, not, Bool, true, false, List, ◌∷◌, length, Some, IsTrue, refl, sym, ap, ◌∙◌, subst, arith, inl, inr}
+use Rattle.std.proofs.Common.{◌≡◌, ℕ, ◌+◌, ◌-◌, ◌≤◌, not, Bool, true, false, List, ◌∷◌, length, None, Some, IsTrue, refl, sym, ap, ◌∙◌, subst, arith, inl, inr}
 use Rattle.std.proofs.lemmas.Bool.{cases_eq}
 use Rattle.xp_words.specs.Entries.{below}
 use Rattle.xp_words.specs.PageTypes.{is_table}
@@ -14,14 +14,14 @@ use Rattle.step_maker.specs.Holds.{Holds, still}
 use Rattle.step_maker.specs.Moves.{Came}
 use Rattle.flush_words.proofs.Lasting.{came_longer}
 use Rattle.flush_waits.proofs.Growing.{came_grows}
-use Rattle.partial_state.proofs.LevelFacts.{level_type-below}
+use Rattle.partial_state.proofs.LevelFacts.{level_type-under}
 use Rattle.partial_state.specs.Levels.{level_type}
 use Rattle.partial_state.specs.Stacks.{IsTable, IsUnder}
 use Rattle.partial_state.specs.declared.stack.TableWork.{TableWork}
-use Rattle.table_releases.specs.Tops.{IsSince, OwnsReleased, Reopens}
+use Rattle.table_releases.specs.Tops.{IsSettledTop, IsSince, OwnsReleased, Reopens, shed_once}
 use Rattle.table_releases.specs.declared.entries.Released.TheVariants.{Opened}
-use Rattle.level_release.specs.Course.{one_more, table_in}
-use Rattle.level_release.specs.Holding.{AreRefs, AreTyped, Empties, IsAround, IsTableWork, RefFor, TypedFor}
+use Rattle.level_release.specs.Course.{one_more_done, table_under}
+use Rattle.level_release.specs.Holding.{AreRefs, AreOwnTyped, Empties, IsAround, IsReleasedWork, RefFor, TypedIfOwn}
 use Rattle.level_release.proofs.Hands.{hands_by, tables_done, tables_later, typed_later}
 use Rattle.level_release.proofs.HandsApart.{FirstFound}
 use Rattle.level_release.proofs.HandsGiven.{shed_hand, shed_is, shed_work}
@@ -37,11 +37,11 @@ pub ref_none : (own : Bool) (f : ℕ) (P : List Reference → Type 0) (xs : List
 ref_none true f P xs on rest = rest
 ref_none false f P xs on rest = absurd cc
 
-pub typed_more : (own : Bool) (made f : ℕ) (P : List TypedReference → Type 0) (r : TypedReference) (xs ys : List TypedReference) → own ≡ true → r.frame ≡ f → IsSince made r.live → ys ≡ r ∷ xs → P xs → TypedFor own made f P ys
+pub typed_more : (own : Bool) (made f : ℕ) (P : List TypedReference → Type 0) (r : TypedReference) (xs ys : List TypedReference) → own ≡ true → r.frame ≡ f → IsSince made r.live → ys ≡ r ∷ xs → P xs → TypedIfOwn own made f P ys
 typed_more true made f P r xs ys on at since are rest = (r, xs, at, since, are, rest)
 typed_more false made f P r xs ys on at since are rest = absurd cc
 
-pub typed_none : (own : Bool) (made f : ℕ) (P : List TypedReference → Type 0) (xs : List TypedReference) → own ≡ false → P xs → TypedFor own made f P xs
+pub typed_none : (own : Bool) (made f : ℕ) (P : List TypedReference → Type 0) (xs : List TypedReference) → own ≡ false → P xs → TypedIfOwn own made f P xs
 typed_none true made f P xs off rest = absurd cc
 typed_none false made f P xs off rest = rest
 
@@ -53,16 +53,10 @@ level_under l low table =
       | inr other ↦ omega (arith, low, other)
     ]
 
-pub type_under : (l : ℕ) → 1 ≤ l → l ≤ 4 → below (level_type l) ≡ level_type (l - 1)
-type_under l low high =
-    let back : suc (l - 1) ≡ l = omega (arith, low) in
-    let under : l - 1 < 4 = omega (arith, low, high) in
-    ap (λ k. below (level_type k)) (sym back) ∙ level_type-below (l - 1) under
-
 module _ (h : Holdings) (v : PortValue) (t : TableWork) (ts : List TableWork) (s : Empties h v (t ∷ ts)) (first : FirstFound v) (i : ℕ) (next : i + 1 + t.done ≡ 512) (g recorded : ℕ) (closing : Bool)
     (w : PortValue) (r : Reopens v w t.frame i (level_type t.level) g recorded closing) where
   abbrev new : TableWork
-  new = table_in t g recorded closing
+  new = table_under t g recorded closing
 
   outer : Work
   outer = shed_work i r.word (top h v t ts s).work
@@ -73,11 +67,11 @@ module _ (h : Holdings) (v : PortValue) (t : TableWork) (ts : List TableWork) (s
   pub opened_table : IsTable new
   opened_table = let high = s.stack.0.high in let one = low in record { low = one; high = omega (arith, high); done = omega arith }
 
-  pub opened_under : IsUnder new (one_more t ∷ ts)
+  pub opened_under : IsUnder new (one_more_done t ∷ ts)
   opened_under = let one = low in omega (arith, one)
 
   new_type : below (level_type t.level) ≡ level_type new.level
-  new_type = type_under t.level s.stack.0.low s.stack.0.high
+  new_type = level_type-under t.level s.stack.0.low s.stack.0.high
 
   not_own : (b : Bool) → not b ≡ true → b ≡ false
   not_own true is = absurd cc
@@ -87,7 +81,7 @@ module _ (h : Holdings) (v : PortValue) (t : TableWork) (ts : List TableWork) (s
   not_lent true is = refl
   not_lent false is = absurd cc
 
-  new_is : IsTableWork (sizes_of v.post.machine) (length w.holdings.steps) new r.work
+  new_is : IsReleasedWork (sizes_of v.post.machine) (length w.holdings.steps) new r.work
   new_is =
       let few = r.few in
       let is = r.recorded_is in
@@ -102,24 +96,24 @@ module _ (h : Holdings) (v : PortValue) (t : TableWork) (ts : List TableWork) (s
         earlier = r.earlier;
       }
 
-  new_inside : IsAround (one_more t) outer new
+  new_inside : IsAround (one_more_done t) outer new
   unfolding outer
   new_inside = record { settled = refl; word = r.word; seen = refl; asks = r.asks ∙ ap (λ k. Typed g k) new_type; inside = omega (arith, next) }
 
   module _ (came : Came v w) (owns : OwnsReleased v w t.frame (Opened g recorded closing)) where
-    opened_by : (rs : List Reference) (ys : List TypedReference) → Holds v w (record v.holdings { refs = rs; typed = ys; works = r.work ∷ outer ∷ (top h v t ts s).others }) → AreRefs h.refs (new ∷ one_more t ∷ ts) rs →
-        AreTyped (length w.holdings.steps) (new ∷ one_more t ∷ ts) ys → ((f : ℕ) → Still (λ (e : Reference). e.frame) f v.holdings.refs rs) → ((f : ℕ) → Still (λ (e : TypedReference). e.frame) f v.holdings.typed ys) →
-        Empties h w (new ∷ one_more t ∷ ts)
+    opened_by : (rs : List Reference) (ys : List TypedReference) → Holds v w (record v.holdings { refs = rs; typed = ys; works = r.work ∷ outer ∷ (top h v t ts s).others }) → AreRefs h.refs (new ∷ one_more_done t ∷ ts) rs →
+        AreOwnTyped (length w.holdings.steps) (new ∷ one_more_done t ∷ ts) ys → ((f : ℕ) → Still (λ (e : Reference). e.frame) f v.holdings.refs rs) → ((f : ℕ) → Still (λ (e : TypedReference). e.frame) f v.holdings.typed ys) →
+        Empties h w (new ∷ one_more_done t ∷ ts)
     unfolding outer
     opened_by rs ys holds refs typed still_refs still_typed =
         let z = sizes_of v.post.machine in
         let longer = came_longer v w came in
         let o = top h v t ts s in
-        hands_by h v w (t ∷ ts) (new ∷ one_more t ∷ ts) rs ys (r.work ∷ outer ∷ o.others) s holds
+        hands_by h v w (t ∷ ts) (new ∷ one_more_done t ∷ ts) rs ys (r.work ∷ outer ∷ o.others) s holds
         (opened_table, opened_under, (record { low = s.stack.0.low; high = s.stack.0.high; done = omega (arith, next) }, s.stack.1, s.stack.2)) (
           new_is,
           tt,
-          tables_later z (length v.holdings.steps) (length w.holdings.steps) (Some new) (one_more t ∷ ts) (outer ∷ o.others) longer
+          tables_later z (length v.holdings.steps) (length w.holdings.steps) (Some new) (one_more_done t ∷ ts) (outer ∷ o.others) longer
               (shed_is z (length v.holdings.steps) i r.word t o.work next o.is, new_inside, tables_done z (length v.holdings.steps) t (t.done + 1) ts o.others o.around),
         )
         refs typed (
@@ -131,11 +125,11 @@ module _ (h : Holdings) (v : PortValue) (t : TableWork) (ts : List TableWork) (s
               (ap (λ (q : PortValue). q.holdings.locks) holds)) s.owned,
         )
 
-    pub opened_stands : Empties h w (new ∷ one_more t ∷ ts)
+    pub opened_stands : Empties h w (new ∷ one_more_done t ∷ ts)
     unfolding outer
     opened_stands = by_closing closing refl
       where
-        by_closing : (b : Bool) → closing ≡ b → Empties h w (new ∷ one_more t ∷ ts)
+        by_closing : (b : Bool) → closing ≡ b → Empties h w (new ∷ one_more_done t ∷ ts)
         by_closing true is =
             let u = r.holding.untyped is in
             let one = u.0 in
@@ -143,8 +137,8 @@ module _ (h : Holdings) (v : PortValue) (t : TableWork) (ts : List TableWork) (s
             opened_by (one ∷ v.holdings.refs) v.holdings.typed
             (r.hand ∙ ap (λ (k : Holdings). still (record v { holdings = k })) u.2
             ∙ ap (λ (k : Holdings). still (record v { holdings = record k { refs = one ∷ k.refs; works = r.work ∷ k.works } })) (shed_hand h v t ts s first i r.word))
-            (ref_more new.own g (AreRefs h.refs (one_more t ∷ ts)) one v.holdings.refs (one ∷ v.holdings.refs) own u.1 refl s.refs)
-            (typed_none new.own (length w.holdings.steps) g (AreTyped (length w.holdings.steps) (one_more t ∷ ts)) v.holdings.typed own
+            (ref_more new.own g (AreRefs h.refs (one_more_done t ∷ ts)) one v.holdings.refs (one ∷ v.holdings.refs) own u.1 refl s.refs)
+            (typed_none new.own (length w.holdings.steps) g (AreOwnTyped (length w.holdings.steps) (one_more_done t ∷ ts)) v.holdings.typed own
             (typed_later (length v.holdings.steps) (length w.holdings.steps) (t ∷ ts) v.holdings.typed (came_longer v w came) s.types))
             (λ f. still_more (λ (e : Reference). e.frame) f one v.holdings.refs (one ∷ v.holdings.refs) refl) (λ f. still_same (λ (e : TypedReference). e.frame) f v.holdings.typed v.holdings.typed refl)
         by_closing false is =
@@ -155,8 +149,15 @@ module _ (h : Holdings) (v : PortValue) (t : TableWork) (ts : List TableWork) (s
             r.hand ∙ ap (λ (k : Holdings). still (record v { holdings = k })) u.3
             ∙ ap (λ (k : Holdings). still (record v { holdings = record k { typed = one ∷ k.typed; works = r.work ∷ k.works } })) (shed_hand h v t ts s first i r.word) in
             opened_by v.holdings.refs (one ∷ v.holdings.typed) holds
-            (ref_none new.own g (AreRefs h.refs (one_more t ∷ ts)) v.holdings.refs own s.refs)
-            (typed_more new.own (length w.holdings.steps) g (AreTyped (length w.holdings.steps) (one_more t ∷ ts)) one v.holdings.typed (one ∷ v.holdings.typed) own u.1
+            (ref_none new.own g (AreRefs h.refs (one_more_done t ∷ ts)) v.holdings.refs own s.refs)
+            (typed_more new.own (length w.holdings.steps) g (AreOwnTyped (length w.holdings.steps) (one_more_done t ∷ ts)) one v.holdings.typed (one ∷ v.holdings.typed) own u.1
             (r.since is one v.holdings.typed (ap (λ (q : PortValue). q.holdings.typed) holds)) refl
             (typed_later (length v.holdings.steps) (length w.holdings.steps) (t ∷ ts) v.holdings.typed (came_longer v w came) s.types))
             (λ f. still_same (λ (e : Reference). e.frame) f v.holdings.refs v.holdings.refs refl) (λ f. still_more (λ (e : TypedReference). e.frame) f one v.holdings.typed (one ∷ v.holdings.typed) refl)
+
+  pub opened_settled : closing ≡ true → IsSettledTop w.holdings
+  opened_settled is work others are =
+      let works = ap (λ (q : PortValue). q.holdings.works) r.hand ∙ ap (λ (k : Holdings). k.works) (r.holding.untyped is).2 in
+      let both : work ∷ others ≡ r.work ∷ (shed_once t.frame i r.word v.holdings).works = sym are ∙ works in
+      let one : r.work ≡ work = cc in
+      subst (λ (y : Work). y.unsettled ≡ None) one (r.settled is)

@@ -33,10 +33,10 @@ use Rattle.partial_state.specs.declared.stack.TableWork.{TableWork}
 use Rattle.table_words.specs.Entries.{RecordsNext, entry_recorded}
 use Rattle.table_words.proofs.EntryHands.{next_asks, record_left, unsettled_for}
 use Rattle.level_release.specs.Course.{one_less}
-use Rattle.level_release.specs.Holding.{AreOwned, Empties, IsTableWork}
+use Rattle.level_release.specs.Holding.{AreOwned, Empties, IsReleasedWork}
 use Rattle.level_release.proofs.Hands.{TopTable, hands_by, tables_done, tables_later, tables_top, typed_later}
 use Rattle.level_release.proofs.HandsApart.{others_apart, tables_apart}
-use Rattle.level_release.proofs.HandsGiven.{changed_first}
+use Rattle.kind_words.proofs.KindHands.{changed_first}
 use Rattle.level_release.proofs.HandsKnown.{AreApart, known_still, owned_apart, still_less, still_same}
 use Rattle.level_release.proofs.HandsLeft.{LeftHand, left_held, left_kind, left_partial_known, left_typed, partial_hand}
 use Rattle.level_release.proofs.HandsTop.{top}
@@ -48,7 +48,7 @@ settled_none z k e none = subst (λ o. IsTrue (settles_last z e k.steps o)) (sym
 recorded_work : ℕ → Option Unsettled → Work → Work
 recorded_work upto u e = record e { recorded = upto; unsettled = u }
 
-recorded_is : (z : Sizes) (made upto : ℕ) (o : Option Unsettled) (u : TableWork) (e : Work) → e.recorded < 512 → upto ≡ e.recorded + 1 → IsTableWork z made u e → IsTableWork z made (one_less u) (recorded_work upto o e)
+recorded_is : (z : Sizes) (made upto : ℕ) (o : Option Unsettled) (u : TableWork) (e : Work) → e.recorded < 512 → upto ≡ e.recorded + 1 → IsReleasedWork z made u e → IsReleasedWork z made (one_less u) (recorded_work upto o e)
 unfolding recorded_work
 recorded_is z made upto o u e inside next is =
     let all = is.recorded in

@@ -42,7 +42,7 @@ tested_some ts b off test none = absurd (let on = test none in cc)
 
 -- ---- from one table alone
 module _ (u w : PortValue) (t : TableWork) (all us : List TableWork) (is : all ≡ t ∷ []) (came : Came u w) (stands : StaysEmptying u w all us) where
-  from_one : (h : Holdings) → Empties h u (t ∷ []) → Empties h w us
+  pub from_one : (h : Holdings) → Empties h u (t ∷ []) → Empties h w us
   from_one h s = stands h (subst (λ xs. Empties h u xs) (sym is) s)
 
   pub emptied_may : IsReleasing u (t ∷ []) → MayWork u → MayWork w

@@ -20,7 +20,7 @@ use Rattle.kind_words.proofs.Leaving.{without_newest}
 use Rattle.partial_state.proofs.LevelFacts.{level_type-table}
 use Rattle.partial_state.specs.Levels.{level_type}
 use Rattle.partial_state.specs.declared.stack.TableWork.{TableWork}
-use Rattle.level_release.specs.Holding.{AreRefs, AreTyped, Empties}
+use Rattle.level_release.specs.Holding.{AreRefs, AreOwnTyped, Empties}
 use Rattle.level_release.proofs.Hands.{TopRef, TopTable, TopTyped, hands_by, refs_own, refs_top, tables_later, tables_top, typed_later, typed_lent, typed_top}
 use Rattle.level_release.proofs.HandsKnown.{owned_still}
 
@@ -42,8 +42,8 @@ module _ (h : Holdings) (v : PortValue) (t : TableWork) (ts : List TableWork) (s
 
   -- in work, with a typed reference
   module _ (own : t.own ≡ true) where
-    abbrev pub own_typed : TopTyped (length v.holdings.steps) t.frame (AreTyped (length v.holdings.steps) ts) v.holdings.typed
-    own_typed = typed_top t.own (length v.holdings.steps) t.frame (AreTyped (length v.holdings.steps) ts) v.holdings.typed own s.types
+    abbrev pub own_typed : TopTyped (length v.holdings.steps) t.frame (AreOwnTyped (length v.holdings.steps) ts) v.holdings.typed
+    own_typed = typed_top t.own (length v.holdings.steps) t.frame (AreOwnTyped (length v.holdings.steps) ts) v.holdings.typed own s.types
 
     pub own_refs : AreRefs h.refs ts v.holdings.refs
     own_refs = refs_own t.own t.frame (AreRefs h.refs ts) v.holdings.refs own s.refs
@@ -62,8 +62,8 @@ module _ (h : Holdings) (v : PortValue) (t : TableWork) (ts : List TableWork) (s
     abbrev pub closing_ref : TopRef t.frame (AreRefs h.refs ts) v.holdings.refs
     closing_ref = refs_top t.own t.frame (AreRefs h.refs ts) v.holdings.refs lent s.refs
 
-    pub closing_typed : AreTyped (length v.holdings.steps) ts v.holdings.typed
-    closing_typed = typed_lent t.own (length v.holdings.steps) t.frame (AreTyped (length v.holdings.steps) ts) v.holdings.typed lent s.types
+    pub closing_typed : AreOwnTyped (length v.holdings.steps) ts v.holdings.typed
+    closing_typed = typed_lent t.own (length v.holdings.steps) t.frame (AreOwnTyped (length v.holdings.steps) ts) v.holdings.typed lent s.types
 
     pub closing_closes : IsTrue (is_closing (kind_fields top.work.word))
     closing_closes = top.is.closing lent

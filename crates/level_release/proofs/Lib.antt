@@ -17,7 +17,7 @@ mod Serving
 mod ServingEntries
 mod ServingRisen
 mod ServingRun
-mod ServingTables
+pub mod ServingTables
 pub mod HandsUnwinding
 mod Owning
 mod Handing

@@ -29,10 +29,6 @@ is_old : (which : OldWord) → (old_number which ≡ 2) ⊎ (old_number which �
 is_old First = inl refl
 is_old Second = inr refl
 
-names_frames : (which : OldWord) → IsTrue (is_context (old_number which))
-names_frames First = refl
-names_frames Second = refl
-
 not_flushed : (which : OldWord) → old_number which ≢ 5
 not_flushed First = λ e. omega (arith, e)
 not_flushed Second = λ e. omega (arith, e)
@@ -94,7 +90,7 @@ module _ (u v : PortValue) (which : OldWord) (f word : ℕ) (t : TookOld u v whi
     asks_it = of (domain_of u.post.machine u.post.vcpu) None (names_it None tt)
 
     pub passed_it : (h : Holdings) → Passed u.post.machine request (Met u w) f (domain_of u.post.machine u.post.vcpu) h
-    passed_it h = old u.post.vcpu (old_number which) (f + 1) refl found_old (names_frames which) (when_eq (f + 1) (f + 1) refl)
+    passed_it h = old u.post.vcpu (old_number which) (f + 1) refl found_old (elim which as (λ y. IsTrue (is_context (old_number y))) [ First ↦ refl | Second ↦ refl ]) (when_eq (f + 1) (f + 1) refl)
 
   -- the first word names the frame again
   pub again_serves : (x w : PortValue) (ds : List Deed) → Serves u x request ds → Came u x → Moves x w (old_place x.post.vcpu First) (Store (f + 1)) kinds.Context None 0 → Serves u w request ds

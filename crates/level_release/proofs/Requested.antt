@@ -14,10 +14,10 @@ use Rattle.answer_fits.specs.Finding.{Finding}
 use Rattle.answer_fits.proofs.Piecing.{serves_back, serves_came, serves_step, serves_within, within_back}
 use Rattle.table_entries.specs.Asking.{of_entries}
 use Rattle.partial_state.specs.declared.stack.TableWork.{TableWork}
-use Rattle.level_release.specs.Asking.{Continues, IsPiece, StopsRisen, is_due_answer, is_due_stop}
+use Rattle.level_release.specs.Asking.{Continues, IsReleasePiece, StopsRelease, is_due_answer, is_due_stop}
 
 -- ---- behind a piece that asks the only table
-module _ (v x w : PortValue) (r : Request) (t : TableWork) (piece : IsPiece v x r (t ∷ []) []) where
+module _ (v x w : PortValue) (r : Request) (t : TableWork) (piece : IsReleasePiece v x r (t ∷ []) []) where
   same_post : x.post ≡ v.post
   same_post = came_post v x (serves_came v x r [] piece.serves)
 
@@ -29,12 +29,12 @@ module _ (v x w : PortValue) (r : Request) (t : TableWork) (piece : IsPiece v x 
   pub emptied_serves : (answer : Result (Unit {0}) Stop) → Continues x w (t ∷ []) [] (misses x.post.machine answer) → Serves v w r (misses v.post.machine answer)
   emptied_serves answer goes = subst (λ (p : Post). Serves v w r (misses p.machine answer)) same_post (emptied_deeds (misses x.post.machine answer) goes)
 
-  emptied_stops : (e : Stop) → (is_due_stop e ≡ true → r.rose ≡ true) → StopsRisen x w (t ∷ []) e → Stops v w r e
-  unfolding StopsRisen
+  emptied_stops : (e : Stop) → (is_due_stop e ≡ true → r.rose ≡ true) → StopsRelease x w (t ∷ []) e → Stops v w r e
+  unfolding StopsRelease
   emptied_stops e rises stops = stops v r [] rises piece
 
 -- by the answer
-pub answer_stops : (v x w : PortValue) (r : Request) (t : TableWork) (answer : Result (Unit {0}) Stop) → r.rose ≡ is_due_answer answer → IsPiece v x r (t ∷ []) [] → IfErr answer (λ e. StopsRisen x w (t ∷ []) e) → IfErr answer (λ e. Stops v w r e)
+pub answer_stops : (v x w : PortValue) (r : Request) (t : TableWork) (answer : Result (Unit {0}) Stop) → r.rose ≡ is_due_answer answer → IsReleasePiece v x r (t ∷ []) [] → IfErr answer (λ e. StopsRelease x w (t ∷ []) e) → IfErr answer (λ e. Stops v w r e)
 answer_stops v x w r t (Ok done) rose piece stops = tt
 answer_stops v x w r t (Err e) rose piece stops = emptied_stops v x w r t piece e (λ due. rose ∙ due) stops
 
@@ -54,7 +54,7 @@ module _ (v : PortValue) (f owner pages : ℕ) (rose : Bool) where
   both_serve a w drop put = serves_back v a w request [] [] (back_serves a [] drop) f (asks_back (Met v w)) put
 
   -- the type count was the last: the table is emptied behind a look at its reference word
-  pub closed_piece : (a x : PortValue) (word : ℕ) (t : TableWork) → t.frame ≡ f → Serves v a (of_back f) [] → Moves a x (Refs f) Load kinds.Look None word → IsPiece v x request (t ∷ []) []
+  pub closed_piece : (a x : PortValue) (word : ℕ) (t : TableWork) → t.frame ≡ f → Serves v a (of_back f) [] → Moves a x (Refs f) Load kinds.Look None word → IsReleasePiece v x request (t ∷ []) []
   closed_piece a x word t same drop look =
       record {
         entries = refl;

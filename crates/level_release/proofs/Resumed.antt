@@ -1,5 +1,5 @@
 -- The frame that an old word named was found partial, and comes into work again with its type count in hand.
-use Rattle.std.proofs.Common.{◌≡◌, ℕ, ◌+◌, ◌^◌, ◌<◌, ◌≤◌, ◌&&◌, nat_lt, not, Bool, true, false, List, [], ◌∷◌, length, None, Some, Result, Err, IsTrue, refl, sym, ap, ◌∙◌, subst, arith, inl}
+use Rattle.std.proofs.Common.{◌≡◌, ℕ, ◌+◌, ◌^◌, ◌<◌, ◌≤◌, ◌&&◌, nat_lt, not, Bool, true, false, [], ◌∷◌, length, None, Some, Result, Err, IsTrue, refl, sym, ap, ◌∙◌, subst, arith, inl}
 use Rattle.std.proofs.lemmas.Bool.{and_parts}
 use Rattle.std.proofs.lemmas.Bool.Decides.{nat_tests}
 use Rattle.xp_words.specs.KindWords.{is_kind, kind_fields, kind_read, kind_write}
@@ -10,13 +10,11 @@ use Rattle.xp_words.specs.declared.kind.KindWord.{KindWord}
 use Rattle.xp_words.specs.declared.place.Place.TheVariants.{Clock, Kind, Refs}
 use Rattle.xp_words.specs.declared.reply.Stop.{Stop}
 use Rattle.xp_board.specs.Hands.{refs_to, typed_owner, typed_to, without_work, work_on}
-use Rattle.xp_board.specs.KindSteps.{new_work, resumed_kind, still_looking, unsettled_from}
+use Rattle.xp_board.specs.KindSteps.{new_work, resumed_kind, unsettled_from}
 use Rattle.xp_board.specs.Knowledge.{knows_owner, tells_owner}
-use Rattle.xp_board.specs.Lists.{kept_of}
 use Rattle.xp_board.specs.Readings.{is_partial, is_work}
 use Rattle.xp_board.specs.Told.{Post, PortValue}
 use Rattle.xp_board.specs.declared.holdings.Holdings.{Holdings}
-use Rattle.xp_board.specs.declared.holdings.Looking.{Looking}
 use Rattle.xp_board.specs.declared.holdings.OwnerFound.TheVariants as owners
 use Rattle.xp_board.specs.declared.holdings.Reference.{Reference}
 use Rattle.xp_board.specs.declared.holdings.TypedReference.{TypedReference}
@@ -40,18 +38,15 @@ use Rattle.table_releases.specs.Found.{has_recorded}
 use Rattle.table_words.specs.OldWords.{kept_in_old}
 use Rattle.table_words.specs.declared.old_words.OldWord.{OldWord}
 use Rattle.table_words.specs.declared.old_words.OldWord.TheVariants.{First}
+use Rattle.table_releases.proofs.HandLive.{looks_none}
 use Rattle.level_release.specs.Course.{resumed_table}
-use Rattle.level_release.specs.Holding.{AreTables, Empties, IsTableWork, LeavesEmptied, LeavesReleased}
+use Rattle.level_release.specs.Holding.{AreInRelease, Empties, IsReleasedWork, LeavesEmptied, LeavesUnheld}
 use Rattle.level_release.specs.Settling.{TookOld}
 use Rattle.level_release.proofs.Counted.{unkept}
-use Rattle.level_release.proofs.Dropped.{no_work}
+use Rattle.kind_words.proofs.KindHands.{no_work}
 use Rattle.level_release.proofs.Handing.{emptied_leaves, now_beside}
 use Rattle.level_release.proofs.Owning.{known_by_typed, look_tells}
 use Rattle.level_release.proofs.Taken.{named_again, named_later, named_ref, named_since, taken_held, took_looking, took_typed, took_works}
-
-none_looking : (f w : ℕ) (xs : List Looking) → xs ≡ [] → still_looking f w xs ≡ xs
-unfolding kept_of
-none_looking f w xs none = ap (λ ys. still_looking f w ys) none ∙ sym none
 
 -- no mark where something is recorded
 unmarked_by : (u : Bool) (n : ℕ) → (u ≡ true → n ≡ 0) → 0 < n → u ≡ false
@@ -99,9 +94,9 @@ module _ (u v : PortValue) (which : OldWord) (f word : ℕ) (t : TookOld u v whi
 
   -- ---- an exchange that was lost changes nothing
   pub lost_typed : (d : PortValue) (found : ℕ) → Holds v d (looked_at f found v.holdings) → Holds v d v.holdings
-  lost_typed d found hand = hand ∙ ap (λ xs. still (record v { holdings = record v.holdings { looking = xs } })) (none_looking f found v.holdings.looking (took_looking u v which f word t))
+  lost_typed d found hand = hand ∙ ap (λ xs. still (record v { holdings = record v.holdings { looking = xs } })) (looks_none f found v.holdings.looking (took_looking u v which f word t))
 
-  pub lost_named : (d w : PortValue) (found : ℕ) (e : Stop) → Holds v d (looked_at f found v.holdings) → Holds d w (kept_in_old First f d.holdings) → LeavesReleased v w f (Err e)
+  pub lost_named : (d w : PortValue) (found : ℕ) (e : Stop) → Holds v d (looked_at f found v.holdings) → Holds d w (kept_in_old First f d.holdings) → LeavesUnheld v w f (Err e)
   lost_named d w found e hand kept =
       let same = lost_typed d found hand in
       named_again d w f (named_ref f (named_since u v which f word t)) e (ap (λ (q : PortValue). q.holdings.typed) same ∙ took_typed u v which f word t) refl kept
@@ -111,7 +106,7 @@ module _ (u v : PortValue) (which : OldWord) (f word : ℕ) (t : TookOld u v whi
     resumed_hand : Holds v d (record v.holdings { works = item ∷ v.holdings.works })
     resumed_hand =
         hand ∙ ap (λ h. still (record v { holdings = h })) (resumed_unkept f k v.holdings mark_off)
-        ∙ ap (λ xs. still (record v { holdings = record v.holdings { looking = xs; works = item ∷ v.holdings.works } })) (none_looking f (kind_write (resumed_kind k)) v.holdings.looking (took_looking u v which f word t))
+        ∙ ap (λ xs. still (record v { holdings = record v.holdings { looking = xs; works = item ∷ v.holdings.works } })) (looks_none f (kind_write (resumed_kind k)) v.holdings.looking (took_looking u v which f word t))
 
     resumed_typed : d.holdings.typed ≡ named_ref f (named_since u v which f word t) ∷ []
     resumed_typed = ap (λ (q : PortValue). q.holdings.typed) resumed_hand ∙ took_typed u v which f word t
@@ -150,7 +145,7 @@ module _ (u v : PortValue) (which : OldWord) (f word : ℕ) (t : TookOld u v whi
       few : k.progress ≤ 512
       few = let below = form.progress in omega (arith, below)
 
-      resumed_work_is : (frame : f < v.post.machine.frames) → IsTableWork (sizes_of x.post.machine) (length x.holdings.steps) (resumed_table f level k) item
+      resumed_work_is : (frame : f < v.post.machine.frames) → IsReleasedWork (sizes_of x.post.machine) (length x.holdings.steps) (resumed_table f level k) item
       resumed_work_is frame =
           let most = few in
           let more = longer in
@@ -176,7 +171,7 @@ module _ (u v : PortValue) (which : OldWord) (f word : ℕ) (t : TookOld u v whi
             typed = refl;
             looking = took_looking u v which f word t;
             stack = (record { low = low; high = high; done = omega arith }, tt, tt);
-            tables = subst (λ ws. AreTables (sizes_of x.post.machine) (length x.holdings.steps) None (resumed_table f level k ∷ []) ws) (sym one_work) (resumed_work_is frame, tt, tt);
+            tables = subst (λ ws. AreInRelease (sizes_of x.post.machine) (length x.holdings.steps) None (resumed_table f level k ∷ []) ws) (sym one_work) (resumed_work_is frame, tt, tt);
             refs = ap (λ (q : PortValue). q.holdings.refs) looked_hand;
             types = (named_ref f (named_since u v which f word t), [], refl, omega (arith, late, on), one_typed, refl);
             owner = told.0;
@@ -184,7 +179,7 @@ module _ (u v : PortValue) (which : OldWord) (f word : ℕ) (t : TookOld u v whi
             hand = now_beside v x (record v.holdings { typed = [] }) v.holdings.refs v.holdings.typed (item ∷ v.holdings.works) looked_hand;
           }
 
-      pub resumed_released : f < v.post.machine.frames → (w : PortValue) (answer : Result (Unit {0}) Stop) → Came x w → LeavesEmptied x w (resumed_table f level k) answer → LeavesReleased v w f answer
+      pub resumed_released : f < v.post.machine.frames → (w : PortValue) (answer : Result (Unit {0}) Stop) → Came x w → LeavesEmptied x w (resumed_table f level k) answer → LeavesUnheld v w f answer
       resumed_released frame w answer came left = emptied_leaves v x w (resumed_table f level k) same_post came (resumed_empties frame) answer left
 
     -- ---- any other frame is dead, with its mark as it was found, and a clock value that was found then

@@ -17,15 +17,15 @@ use Rattle.table_entries.proofs.PiecesWithin.{within_entries}
 use Rattle.table_releases.specs.Tops.{IsReleaseStop}
 use Rattle.partial_state.specs.declared.stack.TableWork.{TableWork}
 use Rattle.partial_state.specs.Stacks.{advanced}
-use Rattle.level_release.specs.Asking.{Continues, IsPiece, StopsRisen}
+use Rattle.level_release.specs.Asking.{Continues, IsReleasePiece, StopsRelease}
 use Rattle.level_release.proofs.Serving.{asked_advanced, piece_later, piece_of}
 
 -- ---- behind a piece, a call on the entries of the tables in the own works
-module _ (u v w : PortValue) (r : Request) (ts : List TableWork) (ds : List Deed) (a : IsPiece u v r ts ds) where
+module _ (u v w : PortValue) (r : Request) (ts : List TableWork) (ds : List Deed) (a : IsReleasePiece u v r ts ds) where
   entries_in : Within u.post.machine u.post.vcpu (of_entries r.owner r.pages_of) (Met v w) r (Met u w)
   entries_in = within_entries u.post.machine u.post.vcpu r.owner r (Met v w) (Met u w) (λ m x. met_after u v w m (serves_came u v r ds a.serves) x) a.entries refl
 
-  pub piece_entries : (es : List Deed) → Serves v w (of_entries r.owner r.pages_of) es → IsPiece u w r ts (es ++ ds)
+  pub piece_entries : (es : List Deed) → Serves v w (of_entries r.owner r.pages_of) es → IsReleasePiece u w r ts (es ++ ds)
   piece_entries es b =
       piece_later u v w r ts ds (es ++ ds) a (serves_came v w (of_entries r.owner r.pages_of) es b) (serves_inner u v w r (of_entries r.owner r.pages_of) ds es entries_in a.serves b)
 
@@ -37,7 +37,7 @@ module _ (u v w : PortValue) (r : Request) (ts : List TableWork) (ds : List Deed
       (subst (λ (p : Post). Asked p.machine p.vcpu (of_entries r.owner r.pages_of) (Met v w) f r.owner (Some (below k))) (came_post u v (serves_came u v r ds a.serves)) asks))
 
   -- its frame is a table that is to be released first
-  pub piece_opened : (t : TableWork) (k : PageType) → Serves v w (of_entries r.owner r.pages_of) [] → AsksBelow v w r.owner r.pages_of k t.frame → IsPiece u w r (t ∷ ts) ds
+  pub piece_opened : (t : TableWork) (k : PageType) → Serves v w (of_entries r.owner r.pages_of) [] → AsksBelow v w r.owner r.pages_of k t.frame → IsReleasePiece u w r (t ∷ ts) ds
   piece_opened t k serves asks =
       let b = piece_entries [] serves in
       record { entries = b.entries; serves = b.serves; asked = (entries_ask k t.frame asks, b.asked) }
@@ -69,13 +69,13 @@ release_uncounted (Paused (Lost place e x)) is = tt
 release_uncounted (Paused (Busy f x)) is = tt
 release_uncounted _ is = absurd is
 
-pub risen_entries : (v w : PortValue) (ts : List TableWork) (e : Stop) → IsReleaseStop e → ((owner pages : ℕ) → Stops v w (of_entries owner pages) e) → StopsRisen v w ts e
-unfolding StopsRisen
+pub risen_entries : (v w : PortValue) (ts : List TableWork) (e : Stop) → IsReleaseStop e → ((owner pages : ℕ) → Stops v w (of_entries owner pages) e) → StopsRelease v w ts e
+unfolding StopsRelease
 risen_entries v w ts e is stops u r ds rose a = entries_stop u v w r ts ds a e (release_uncounted e is) (stops r.owner r.pages_of)
 
 -- ---- by the answer
 pub goes_answer : {A : Type 0} (v w : PortValue) (ts us : List TableWork) (r : Result A Stop) (e : Stop) → r ≡ Err e → Continues v w ts us (missed v.post.machine e) → Continues v w ts us (misses v.post.machine r)
 goes_answer v w ts us r e is goes = subst (λ y. Continues v w ts us (misses v.post.machine y)) (sym is) goes
 
-pub risen_answer : {A : Type 0} (v w : PortValue) (ts : List TableWork) (r : Result A Stop) (e : Stop) → r ≡ Err e → StopsRisen v w ts e → IfErr r (λ k. StopsRisen v w ts k)
-risen_answer v w ts r e is stops = subst (λ y. IfErr y (λ k. StopsRisen v w ts k)) (sym is) stops
+pub risen_answer : {A : Type 0} (v w : PortValue) (ts : List TableWork) (r : Result A Stop) (e : Stop) → r ≡ Err e → StopsRelease v w ts e → IfErr r (λ k. StopsRelease v w ts k)
+risen_answer v w ts r e is stops = subst (λ y. IfErr y (λ k. StopsRelease v w ts k)) (sym is) stops

@@ -4,25 +4,14 @@ use Rattle.xp_words.specs.declared.reply.Pause.TheVariants.{Due}
 use Rattle.xp_words.specs.declared.reply.Stop.{Stop}
 use Rattle.xp_words.specs.declared.reply.Stop.TheVariants.{Paused}
 use Rattle.xp_board.specs.Told.{Post, PortValue}
-use Rattle.step_maker.specs.Moves.{Came, Met, Moment}
-use Rattle.step_maker.proofs.Coming.{came_post, met_after, met_before}
+use Rattle.step_maker.specs.Moves.{Came, Met}
+use Rattle.step_maker.proofs.Coming.{came_post}
 use Rattle.answer_fits.specs.Answers.{Deed, Stops, missed}
-use Rattle.answer_fits.specs.Finding.{Finding}
-use Rattle.answer_fits.specs.Pauses.{Progress, entry, settles}
+use Rattle.answer_fits.specs.Pauses.{Progress}
 use Rattle.answer_fits.proofs.Piecing.{serves_came, stops_before}
+use Rattle.answer_fits.proofs.Progressing.{progress_after}
 use Rattle.partial_state.specs.declared.stack.TableWork.{TableWork}
-use Rattle.level_release.specs.Asking.{Continues, IsPiece, StopsRisen}
-
--- ---- progress among more steps
-progress_in : (F G : Finding) → ((m : Moment) → F m → G m) → Progress F → Progress G
-progress_in F G more (entry m a b) = entry m (more m a) b
-progress_in F G more (settles m f t x e s a b c d i j k l) = settles m f t x e s (more m a) b c d i j k l
-
-pub progress_before : (v u w : PortValue) → Came u w → Progress (Met v u) → Progress (Met v w)
-progress_before v u w came p = progress_in (Met v u) (Met v w) (λ m x. met_before v u w m x came) p
-
-pub progress_after : (v u w : PortValue) → Came v u → Progress (Met u w) → Progress (Met v w)
-progress_after v u w came p = progress_in (Met u w) (Met v w) (λ m x. met_after v u w m came x) p
+use Rattle.level_release.specs.Asking.{Continues, IsReleasePiece, StopsRelease}
 
 -- ---- how they go on
 pub goes_nothing : (v : PortValue) (ts : List TableWork) → Continues v v ts ts []
@@ -32,7 +21,7 @@ goes_nothing v ts u r ds a = a
 pub goes_then : (v x w : PortValue) (ts us rs : List TableWork) (ds es : List Deed) → Continues v x ts us ds → Continues x w us rs es → Continues v w ts rs (es ++ ds)
 unfolding Continues
 goes_then v x w ts us rs ds es first second u r fs a =
-    subst (λ gs. IsPiece u w r rs gs) (sym (append_assoc es ds fs)) (second u r (ds ++ fs) (first u r fs a))
+    subst (λ gs. IsReleasePiece u w r rs gs) (sym (append_assoc es ds fs)) (second u r (ds ++ fs) (first u r fs a))
 
 -- a call that stops, behind steps that lost no exchange
 pub goes_on : (v x w : PortValue) (ts us rs : List TableWork) (e : Stop) → Came v x → Continues v x ts us [] → Continues x w us rs (missed x.post.machine e) → Continues v w ts rs (missed v.post.machine e)
@@ -42,15 +31,15 @@ goes_on v x w ts us rs e came first second =
 
 -- ---- why it stops
 -- more steps before, or behind
-pub risen_behind : (v x w : PortValue) (ts us : List TableWork) (e : Stop) → Continues v x ts us [] → StopsRisen x w us e → StopsRisen v w ts e
-unfolding StopsRisen Continues
+pub risen_behind : (v x w : PortValue) (ts us : List TableWork) (e : Stop) → Continues v x ts us [] → StopsRelease x w us e → StopsRelease v w ts e
+unfolding StopsRelease Continues
 risen_behind v x w ts us e goes stops u r ds rose a = stops u r ds rose (goes u r ds a)
 
-pub risen_on : (v w x : PortValue) (ts : List TableWork) (e : Stop) → Came w x → StopsRisen v w ts e → StopsRisen v x ts e
-unfolding StopsRisen
+pub risen_on : (v w x : PortValue) (ts : List TableWork) (e : Stop) → Came w x → StopsRelease v w ts e → StopsRelease v x ts e
+unfolding StopsRelease
 risen_on v w x ts e came stops u r ds rose a = stops_before u w x r e (stops u r ds rose a) came
 
 -- the gate said yes, and something got on
-pub risen_due : (v w : PortValue) (ts : List TableWork) → Progress (Met v w) → StopsRisen v w ts (Paused Due)
-unfolding StopsRisen Stops
+pub risen_due : (v w : PortValue) (ts : List TableWork) → Progress (Met v w) → StopsRelease v w ts (Paused Due)
+unfolding StopsRelease Stops
 risen_due v w ts gets_on u r ds rose a = (rose refl, progress_after u v w (serves_came u v r ds a.serves) gets_on)

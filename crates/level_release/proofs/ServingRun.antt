@@ -9,10 +9,11 @@ use Rattle.step_maker.specs.Moves.{Came, Met}
 use Rattle.step_maker.proofs.Coming.{came_self, came_trans}
 use Rattle.answer_fits.specs.Answers.{missed}
 use Rattle.answer_fits.specs.Pauses.{Progress}
+use Rattle.answer_fits.proofs.Progressing.{progress_after, progress_before}
 use Rattle.partial_state.specs.declared.stack.TableWork.{TableWork}
-use Rattle.level_release.specs.Asking.{Continues, StopsRisen}
+use Rattle.level_release.specs.Asking.{Continues, StopsRelease}
 use Rattle.level_release.specs.Course.{is_asked_down}
-use Rattle.level_release.proofs.ServingRisen.{goes_nothing, goes_on, goes_then, progress_after, progress_before, risen_behind, risen_due}
+use Rattle.level_release.proofs.ServingRisen.{goes_nothing, goes_on, goes_then, risen_behind, risen_due}
 
 -- The steps went on with what asked ts, and asks us now. Where there is more than one table, an entry was shed.
 pub record Serving (u w : PortValue) (ts us : List TableWork) : Type 0 where
@@ -55,9 +56,9 @@ module _ (u v : PortValue) (ts us : List TableWork) (i : Serving u v ts us) (w :
   pub serving_misses : (e : Stop) → Continues v w us xs (missed v.post.machine e) → Continues u w ts xs (missed u.post.machine e)
   serving_misses e serves = goes_on u v w ts us xs e i.came i.serves serves
 
-  pub serving_stops : (e : Stop) → StopsRisen v w us e → StopsRisen u w ts e
+  pub serving_stops : (e : Stop) → StopsRelease v w us e → StopsRelease u w ts e
   serving_stops e stops = risen_behind u v w ts us e i.serves stops
 
   -- the gate says yes
-  pub serving_due : (length us ≤ length xs → Progress (Met v w)) → is_asked_down xs ≡ true → StopsRisen u w ts (Paused Due)
+  pub serving_due : (length us ≤ length xs → Progress (Met v w)) → is_asked_down xs ≡ true → StopsRelease u w ts (Paused Due)
   serving_due more asks = risen_due u w ts (gets_on more (some_asked xs asks))

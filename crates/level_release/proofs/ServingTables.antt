@@ -25,17 +25,17 @@ use Rattle.kind_words.proofs.KindWriting.{dead_is, fields_write}
 use Rattle.partial_state.specs.declared.stack.TableWork.{TableWork}
 use Rattle.partial_state.specs.Levels.{level_type}
 use Rattle.partial_state.proofs.LevelFacts.{level_type-typed}
-use Rattle.level_release.specs.Asking.{Continues, IsPiece}
-use Rattle.level_release.specs.Holding.{Empties, IsTableWork}
+use Rattle.level_release.specs.Asking.{Continues, IsReleasePiece}
+use Rattle.level_release.specs.Holding.{Empties, IsReleasedWork}
 use Rattle.level_release.proofs.HandsLeft.{partial_leaves}
 use Rattle.level_release.proofs.HandsTop.{hands_same, top, top_here}
 use Rattle.level_release.proofs.Serving.{piece_back, piece_later, piece_looks, piece_rest, top_asked}
 
 -- ---- it is not dead
-closing_alive : (k : KindWord) → IsTrue (is_closing k) → is_dead k ≡ false
+pub closing_alive : (k : KindWord) → IsTrue (is_closing k) → is_dead k ≡ false
 closing_alive k closing = grind (arith, nat_tests)
 
-alive : (z : Sizes) (made : ℕ) (t : TableWork) (e : Work) → IsTableWork z made t e → is_dead (kind_fields e.word) ≡ false
+alive : (z : Sizes) (made : ℕ) (t : TableWork) (e : Work) → IsReleasedWork z made t e → is_dead (kind_fields e.word) ≡ false
 alive z made t e is = by t.own refl
   where
     by : (b : Bool) → t.own ≡ b → is_dead (kind_fields e.word) ≡ false
@@ -51,7 +51,7 @@ module _ (h : Holdings) (v : PortValue) (t : TableWork) (us : List TableWork) (s
       let word : found ≡ e.work.word = work_word v.post.machine v.post.vcpu v.holdings t.frame found e.work store.finds (top_here h v t us s) in
       kept_type found (kind_write l) (kind_fields e.work.word) l (ap (λ y. kind_fields y) word) (fields_write l spelled) (typed ∙ sym e.is.kind) (alive (sizes_of v.post.machine) (length v.holdings.steps) t e.work e.is)
 
-  piece_left : (u : PortValue) (r : Request) (ts : List TableWork) (ds : List Deed) → IsPiece u v r (t ∷ ts) ds → IsPiece u w r (t ∷ ts) ds
+  piece_left : (u : PortValue) (r : Request) (ts : List TableWork) (ds : List Deed) → IsReleasePiece u v r (t ∷ ts) ds → IsReleasePiece u w r (t ∷ ts) ds
   piece_left u r ts ds a =
       let came = moves_came v w (Kind t.frame) (Store (kind_write l)) kinds.Kind None found store in
       piece_later u v w r (t ∷ ts) ds ds a came (serves_step u v w r ds (Kind t.frame) (Store (kind_write l)) kinds.Kind None found a.serves store (top_asked u v w r t ts ds a came, keeps))
@@ -59,7 +59,7 @@ module _ (h : Holdings) (v : PortValue) (t : TableWork) (us : List TableWork) (s
 -- partial, with what is recorded still
 pub piece_partial : (h : Holdings) (v w : PortValue) (t : TableWork) (us : List TableWork) (found : ℕ) → Empties h v (t ∷ us) →
     Moves v w (Kind t.frame) (Store (kind_write (partial_kind (level_type t.level) false false (512 - t.done) 0))) kinds.Kind None found →
-    (u : PortValue) (r : Request) (ts : List TableWork) (ds : List Deed) → IsPiece u v r (t ∷ ts) ds → IsPiece u w r (t ∷ ts) ds
+    (u : PortValue) (r : Request) (ts : List TableWork) (ds : List Deed) → IsReleasePiece u v r (t ∷ ts) ds → IsReleasePiece u w r (t ∷ ts) ds
 piece_partial h v w t us found s store u r ts ds a =
     piece_left h v t us s (partial_kind (level_type t.level) false false (512 - t.done) 0) (partial_leaves h v t us s).is refl w found store u r ts ds a
 

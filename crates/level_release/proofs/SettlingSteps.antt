@@ -27,7 +27,8 @@ use Rattle.partial_state.specs.Levels.{level_type}
 use Rattle.table_releases.specs.Found.{has_recorded}
 use Rattle.table_words.specs.declared.old_words.OldWord.{OldWord}
 use Rattle.level_release.specs.Asking.{is_due_stop}
-use Rattle.level_release.specs.Course.{Emptied, Named, SettledOne, SettledPartial, resumed_table}
+use Rattle.table_courses.specs.Acquiring.{Named}
+use Rattle.level_release.specs.Course.{Emptied, SettledOne, SettledPartial, resumed_table}
 use Rattle.level_release.specs.Course as courses
 use Rattle.level_release.specs.Settling.{TookOld}
 use Rattle.level_release.proofs.Taken.{took_post}

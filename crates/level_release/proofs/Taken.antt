@@ -20,7 +20,7 @@ use Rattle.table_words.specs.OldWords.{kept_in_old, known_old, learned_old, old_
 use Rattle.table_words.specs.declared.old_words.OldWord.{OldWord}
 use Rattle.table_words.specs.declared.old_words.OldWord.TheVariants.{First, Second}
 use Rattle.answer_fits.specs.Pauses.{IsElsewhere}
-use Rattle.level_release.specs.Holding.{LeavesReleased}
+use Rattle.level_release.specs.Holding.{LeavesUnheld}
 use Rattle.level_release.specs.Settling.{SettledWord, TookOld}
 use Rattle.level_release.proofs.Counted.{elsewhere}
 
@@ -120,7 +120,7 @@ module _ (u v : PortValue) (which : OldWord) (f word : ℕ) (t : TookOld u v whi
       omega (arith, before, more)
 
 -- ---- the reference is out of the hand again
-left_by : (which : OldWord) (f since : ℕ) (u v w : PortValue) → Holds u v (with_named which f since u.holdings) → u.holdings.typed ≡ [] → (answer : Result (Unit {0}) Stop) → LeavesReleased v w f answer → SettledWord u w which answer
+left_by : (which : OldWord) (f since : ℕ) (u v w : PortValue) → Holds u v (with_named which f since u.holdings) → u.holdings.typed ≡ [] → (answer : Result (Unit {0}) Stop) → LeavesUnheld v w f answer → SettledWord u w which answer
 left_by First f since u v w hand none (Ok done) left =
     left ∙ ap (λ (q : PortValue). still (record q { holdings = record q.holdings { typed = [] } })) hand ∙ ap (λ ys. still (record u { holdings = record u.holdings { typed = ys; old0 = Some 0 } })) (sym none)
 left_by Second f since u v w hand none (Ok done) left =
@@ -135,11 +135,11 @@ left_by Second f since u v w hand none (Err e) left = (
       ∙ ap (λ ys. still (record u { holdings = record u.holdings { typed = ys; old0 = Some (f + 1); old1 = Some 0 } })) (sym none),
 )
 
-pub took_settled : (u v w : PortValue) (which : OldWord) (f word : ℕ) (t : TookOld u v which f word) (answer : Result (Unit {0}) Stop) → LeavesReleased v w f answer → SettledWord u w which answer
+pub took_settled : (u v w : PortValue) (which : OldWord) (f word : ℕ) (t : TookOld u v which f word) (answer : Result (Unit {0}) Stop) → LeavesUnheld v w f answer → SettledWord u w which answer
 took_settled u v w which f word t answer left = left_by which f (length t.a.holdings.steps) u v w (took_hand u v which f word t) t.rests.empty.typed answer left
 
 -- the first word names the frame again
-pub named_again : (v w : PortValue) (f : ℕ) (r : TypedReference) (e : Stop) → v.holdings.typed ≡ r ∷ [] → r.frame ≡ f → Holds v w (kept_in_old First f v.holdings) → LeavesReleased v w f (Err e)
+pub named_again : (v w : PortValue) (f : ℕ) (r : TypedReference) (e : Stop) → v.holdings.typed ≡ r ∷ [] → r.frame ≡ f → Holds v w (kept_in_old First f v.holdings) → LeavesUnheld v w f (Err e)
 named_again v w f r e typed same kept =
     kept ∙ ap (λ ys. still (record v { holdings = record v.holdings { typed = ys; old0 = Some (f + 1) } })) (without_newest (λ (y : TypedReference). y.frame) f r [] v.holdings.typed same typed)
 

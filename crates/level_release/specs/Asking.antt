@@ -39,20 +39,20 @@ of_settle owner pages answer = record (of_entries owner pages) { contexts = true
 
 -- ---- pieces
 -- each of the tables is asked
-abbrev pub AreAsked : Machine → ℕ → Request → Finding → List TableWork → Type 0
-AreAsked n s r F [] = Unit {0}
-AreAsked n s r F (t ∷ ts) = IsAsked n s r F t.frame × AreAsked n s r F ts
+abbrev pub AskTables : Machine → ℕ → Request → Finding → List TableWork → Type 0
+AskTables n s r F [] = Unit {0}
+AskTables n s r F (t ∷ ts) = IsAsked n s r F t.frame × AskTables n s r F ts
 
 -- From u to v there is a piece of a call in which entries ask frames; and it asks these tables.
-pub record IsPiece (u v : PortValue) (r : Request) (ts : List TableWork) (ds : List Deed) : Type 0 where
+pub record IsReleasePiece (u v : PortValue) (r : Request) (ts : List TableWork) (ds : List Deed) : Type 0 where
   pub entries : r.entries ≡ true
   pub serves : Serves u v r ds
-  pub asked : AreAsked u.post.machine u.post.vcpu r (Met u v) ts
+  pub asked : AskTables u.post.machine u.post.vcpu r (Met u v) ts
 
 -- Behind any such piece the steps from v to w go on with it, with these deeds more; and it asks the tables us then.
 unfoldable pub Continues : PortValue → PortValue → List TableWork → List TableWork → List Deed → Type 0
-Continues v w ts us es = (u : PortValue) (r : Request) (ds : List Deed) → IsPiece u v r ts ds → IsPiece u w r us (es ++ ds)
+Continues v w ts us es = (u : PortValue) (r : Request) (ds : List Deed) → IsReleasePiece u v r ts ds → IsReleasePiece u w r us (es ++ ds)
 
 -- and they show why it stops; where that is the gate, it said yes
-unfoldable pub StopsRisen : PortValue → PortValue → List TableWork → Stop → Type 0
-StopsRisen v w ts e = (u : PortValue) (r : Request) (ds : List Deed) → (is_due_stop e ≡ true → r.rose ≡ true) → IsPiece u v r ts ds → Stops u w r e
+unfoldable pub StopsRelease : PortValue → PortValue → List TableWork → Stop → Type 0
+StopsRelease v w ts e = (u : PortValue) (r : Request) (ds : List Deed) → (is_due_stop e ≡ true → r.rose ≡ true) → IsReleasePiece u v r ts ds → Stops u w r e

@@ -15,13 +15,11 @@ use Rattle.xp_board.specs.KindSteps.{Live, Partial, form_of, resumed_kind}
 use Rattle.xp_board.specs.declared.step.Act.TheVariants.{Cas, Load, Store}
 use Rattle.xp_board.specs.declared.step.Mark.TheVariants.{Record}
 use Rattle.xp_board.specs.declared.step.StepKind.TheVariants as kinds
-use Rattle.xp_board.specs.Told.{PortValue, is_telling, told_word}
+use Rattle.xp_board.specs.Told.{PortValue}
 use Rattle.step_maker.specs.Moves.{Moves}
-use Rattle.step_maker.specs.Plain.{Leaves}
 use Rattle.answer_fits.specs.Answers.{Stops}
 use Rattle.answer_fits.specs.Visits.{Does, Then}
-use Rattle.frame_words.specs.Freeing.{PutBy, Puts}
-use Rattle.frame_words.specs.Plain.{put}
+use Rattle.frame_words.specs.Freeing.{PutBy}
 use Rattle.kind_words.specs.Kinds.{partial_kind}
 use Rattle.frame_types.specs.Found.{Dies, DropsPlain}
 use Rattle.frame_types.specs.Lowering.{DropsType}
@@ -31,6 +29,7 @@ use Rattle.table_entries.specs.Asking.{of_entries}
 use Rattle.table_words.specs.OldWords.{old_place}
 use Rattle.table_words.specs.declared.old_words.OldWord.{OldWord}
 use Rattle.table_words.specs.declared.old_words.OldWord.TheVariants.{First, Second}
+use Rattle.table_courses.specs.Acquiring.{GaveRef, Named}
 use Rattle.table_releases.specs.Found.{ReleasesFound, has_recorded}
 use Rattle.table_releases.specs.Plain.{TwinRelease}
 use Rattle.table_releases.specs.declared.entries.Released.{Released}
@@ -44,27 +43,23 @@ pub record GaveEntry (v w : PortValue) (t : TableWork) (answer : Result Released
   pub plain : TwinRelease v w t.frame (level_type t.level) (511 - t.done) answer
   pub stops : (owner pages : ℕ) → IfErr answer (λ e. Stops v w (of_entries owner pages) e)
 
-pub record GaveRef (v w : PortValue) (f : ℕ) : Type 0 where
-  pub found : Puts v w f
-  pub plain : is_telling v ≡ true → Leaves w (put f (told_word v))
-
 -- dead, with a clock value that was found, and its reference given back
 abbrev pub MadeDead : PortValue → PortValue → TableWork → Type 0
 MadeDead v w t = Does v w (λ vs. Then (Dies t.frame (level_type t.level) false) (PutBy t.frame) vs)
 
 -- ---- one entry, or one table
-abbrev pub one_more : TableWork → TableWork
-one_more t = record t { done = t.done + 1 }
+abbrev pub one_more_done : TableWork → TableWork
+one_more_done t = record t { done = t.done + 1 }
 
 -- the table that an entry of table t named is released first
-abbrev pub table_in : TableWork → ℕ → ℕ → Bool → TableWork
-table_in t f recorded closing = record { frame = f; level = t.level - 1; done = 512 - recorded; own = not closing; recorded = false }
+abbrev pub table_under : TableWork → ℕ → ℕ → Bool → TableWork
+table_under t f recorded closing = record { frame = f; level = t.level - 1; done = 512 - recorded; own = not closing; recorded = false }
 
 -- true: an entry is done with
 pub data Lowered : PortValue → List TableWork → PortValue → List TableWork → Result Bool Stop → Type 0 where
-  given : (v w : PortValue) (t : TableWork) (ts : List TableWork) → t.done < 512 → GaveEntry v w t (Ok Given) → Lowered v (t ∷ ts) w (one_more t ∷ ts) (Ok true)
+  given : (v w : PortValue) (t : TableWork) (ts : List TableWork) → t.done < 512 → GaveEntry v w t (Ok Given) → Lowered v (t ∷ ts) w (one_more_done t ∷ ts) (Ok true)
   opened : (v w : PortValue) (t : TableWork) (ts : List TableWork) (f recorded : ℕ) (closing : Bool) → t.done < 512 → GaveEntry v w t (Ok (Opened f recorded closing)) →
-      Lowered v (t ∷ ts) w (table_in t f recorded closing ∷ one_more t ∷ ts) (Ok false)
+      Lowered v (t ∷ ts) w (table_under t f recorded closing ∷ one_more_done t ∷ ts) (Ok false)
   stopped : (v w : PortValue) (t : TableWork) (ts : List TableWork) (stop : Stop) → t.done < 512 → GaveEntry v w t (Err stop) → Lowered v (t ∷ ts) w (t ∷ ts) (Err stop)
   emptied : (v w : PortValue) (t : TableWork) (ts : List TableWork) → t.done ≡ 512 → MadeDead v w t → Lowered v (t ∷ ts) w ts (Ok true)
 
@@ -89,12 +84,8 @@ pub data RanDown (v : PortValue) (ts : List TableWork) : PortValue → List Tabl
       RanDown v ts w xs answers (Err stop)
 
 -- ---- tables that are left unfinished
-abbrev pub LeftPartial : PortValue → PortValue → TableWork → Type 0
-LeftPartial v w t = (found : ℕ) × Moves v w (Kind t.frame) (Store (kind_write (partial_kind (level_type t.level) false false (512 - t.done) 0))) kinds.Kind None found
-
--- the first old word names the frame
-abbrev pub Named : PortValue → PortValue → ℕ → Type 0
-Named v w f = Moves v w (old_place v.post.vcpu First) (Store (f + 1)) kinds.Context None 0
+abbrev pub StoredPartial : PortValue → PortValue → TableWork → Type 0
+StoredPartial v w t = (found : ℕ) × Moves v w (Kind t.frame) (Store (kind_write (partial_kind (level_type t.level) false false (512 - t.done) 0))) kinds.Kind None found
 
 abbrev pub one_less : TableWork → TableWork
 one_less t = record t { done = t.done - 1 }
@@ -105,12 +96,12 @@ Rerecorded v w outer = (clock : ℕ) × Moves v w Clock Load kinds.Look (Some (R
 
 abbrev pub LeftInside : PortValue → TableWork → List TableWork → PortValue → List TableWork → Type 0
 LeftInside v t [] w us = ⊥
-LeftInside v t (outer ∷ ts) w us = (us ≡ one_less outer ∷ ts) × ((u : PortValue) × LeftPartial v u t × Rerecorded u w (one_less outer))
+LeftInside v t (outer ∷ ts) w us = (us ≡ one_less outer ∷ ts) × ((u : PortValue) × StoredPartial v u t × Rerecorded u w (one_less outer))
 
 -- the innermost first, until the outermost one is named
 abbrev pub UnwoundDown : PortValue → List TableWork → PortValue → Type 0
 UnwoundDown v [] w = w ≡ v
-UnwoundDown v (t ∷ []) w = (u : PortValue) × LeftPartial v u t × Named u w t.frame
+UnwoundDown v (t ∷ []) w = (u : PortValue) × StoredPartial v u t × Named u w t.frame
 UnwoundDown v (t ∷ outer ∷ ts) w = (u : PortValue) × LeftInside v t (outer ∷ ts) u (one_less outer ∷ ts) × UnwoundDown u (one_less outer ∷ ts) w
 
 -- ---- one table and all in it
@@ -142,8 +133,8 @@ RunsDownBy v ts w us says before after yes_before yes_after answer = By (λ answ
 abbrev pub EmptiesBy : PortValue → PortValue → TableWork → (ℕ → Bool) → ℕ → ℕ → ℕ → ℕ → Result (Unit {0}) Stop → Type 0
 EmptiesBy v w t says before after yes_before yes_after answer = By (λ answers. Emptied v t w answers answer) says before after yes_before yes_after answer
 
-abbrev pub ReleasesBy : PortValue → PortValue → ℕ → PageType → (ℕ → Bool) → ℕ → ℕ → ℕ → ℕ → Result (Unit {0}) Stop → Type 0
-ReleasesBy v w f kind says before after yes_before yes_after answer = By (λ answers. WasReleased v f kind w answers answer) says before after yes_before yes_after answer
+abbrev pub ReleasesFrameBy : PortValue → PortValue → ℕ → PageType → (ℕ → Bool) → ℕ → ℕ → ℕ → ℕ → Result (Unit {0}) Stop → Type 0
+ReleasesFrameBy v w f kind says before after yes_before yes_after answer = By (λ answers. WasReleased v f kind w answers answer) says before after yes_before yes_after answer
 
 -- ---- what an old word names
 -- the frame was taken out of the word: it was found live, partial, or busy

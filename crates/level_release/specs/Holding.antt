@@ -1,7 +1,7 @@
 -- Tables that are released, one in the other, as what the vCPU holds for them. `done`: so many of a table's 512 entries are given back
 -- already, or were never recorded. `own`: the table is in work, with its type count in hand; else it is closing, with an untyped
 -- reference in hand.
-use Rattle.std.specs.Prelude.{◌≡◌, ℕ, ◌+◌, ◌<◌, ◌≤◌, Bool, true, false, List, [], ◌∷◌, length, Option, Some, None, IsTrue, Result, Ok, Err}
+use Rattle.std.specs.Prelude.{◌≡◌, ℕ, ◌+◌, ◌<◌, ◌≤◌, Bool, true, false, List, [], ◌∷◌, length, Option, Some, None, IsTrue, Result, Ok, Err, IfErr}
 use Rattle.xp_words.specs.Entries.{demand_at}
 use Rattle.xp_words.specs.KindWords.{kind_fields}
 use Rattle.xp_words.specs.Places.{Sizes, sizes_of}
@@ -21,10 +21,10 @@ use Rattle.step_maker.specs.Holds.{Holds, still}
 use Rattle.partial_state.specs.Levels.{level_type}
 use Rattle.partial_state.specs.Stacks.{IsStack}
 use Rattle.partial_state.specs.declared.stack.TableWork.{TableWork}
-use Rattle.table_releases.specs.Tops.{IsSince}
+use Rattle.table_releases.specs.Tops.{IsSettledTop, IsSince}
 
 -- ---- works
-pub record IsTableWork (z : Sizes) (made : ℕ) (t : TableWork) (e : Work) : Type 0 where
+pub record IsReleasedWork (z : Sizes) (made : ℕ) (t : TableWork) (e : Work) : Type 0 where
   pub inside : t.frame < z.frames
   pub frame : e.frame ≡ t.frame
   pub kind : (kind_fields e.word).kind ≡ level_type t.level
@@ -47,10 +47,10 @@ IsAroundAny t e None = Unit {0}
 IsAroundAny t e (Some g) = IsAround t e g
 
 -- these are all frames in work or closing, the innermost first
-abbrev pub AreTables : Sizes → ℕ → Option TableWork → List TableWork → List Work → Type 0
-AreTables z made inner [] [] = Unit {0}
-AreTables z made inner (t ∷ ts) (e ∷ es) = IsTableWork z made t e × IsAroundAny t e inner × AreTables z made (Some t) ts es
-AreTables z made inner _ _ = ⊥
+abbrev pub AreInRelease : Sizes → ℕ → Option TableWork → List TableWork → List Work → Type 0
+AreInRelease z made inner [] [] = Unit {0}
+AreInRelease z made inner (t ∷ ts) (e ∷ es) = IsReleasedWork z made t e × IsAroundAny t e inner × AreInRelease z made (Some t) ts es
+AreInRelease z made inner _ _ = ⊥
 
 -- ---- references
 -- an untyped one for each closing table, in front of the others
@@ -63,13 +63,13 @@ AreRefs others [] xs = xs ≡ others
 AreRefs others (t ∷ ts) xs = RefFor t.own t.frame (AreRefs others ts) xs
 
 -- a typed one for each table in work, and no other; what brought it, before so many steps were made, does not say that its frame is live
-abbrev pub TypedFor : Bool → ℕ → ℕ → (List TypedReference → Type 0) → List TypedReference → Type 0
-TypedFor false made f P ys = P ys
-TypedFor true made f P ys = (r : TypedReference) × (rest : List TypedReference) × (r.frame ≡ f) × IsSince made r.live × (ys ≡ r ∷ rest) × P rest
+abbrev pub TypedIfOwn : Bool → ℕ → ℕ → (List TypedReference → Type 0) → List TypedReference → Type 0
+TypedIfOwn false made f P ys = P ys
+TypedIfOwn true made f P ys = (r : TypedReference) × (rest : List TypedReference) × (r.frame ≡ f) × IsSince made r.live × (ys ≡ r ∷ rest) × P rest
 
-abbrev pub AreTyped : ℕ → List TableWork → List TypedReference → Type 0
-AreTyped made [] ys = ys ≡ []
-AreTyped made (t ∷ ts) ys = TypedFor t.own made t.frame (AreTyped made ts) ys
+abbrev pub AreOwnTyped : ℕ → List TableWork → List TypedReference → Type 0
+AreOwnTyped made [] ys = ys ≡ []
+AreOwnTyped made (t ∷ ts) ys = TypedIfOwn t.own made t.frame (AreOwnTyped made ts) ys
 
 -- one domain is known to own all of them
 abbrev pub AreOwned : Sizes → ℕ → List TableWork → Holdings → Type 0
@@ -87,9 +87,9 @@ pub record Empties (h : Holdings) (w : PortValue) (ts : List TableWork) : Type 0
   pub typed : h.typed ≡ []
   pub looking : h.looking ≡ []
   pub stack : IsStack ts
-  pub tables : AreTables (sizes_of w.post.machine) (length w.holdings.steps) None ts w.holdings.works
+  pub tables : AreInRelease (sizes_of w.post.machine) (length w.holdings.steps) None ts w.holdings.works
   pub refs : AreRefs h.refs ts w.holdings.refs
-  pub types : AreTyped (length w.holdings.steps) ts w.holdings.typed
+  pub types : AreOwnTyped (length w.holdings.steps) ts w.holdings.typed
   pub owner : ℕ
   pub owned : AreOwned (sizes_of w.post.machine) owner ts w.holdings
   pub hand : HoldsNow w (record h { refs = w.holdings.refs; typed = w.holdings.typed; works = w.holdings.works })
@@ -100,6 +100,10 @@ IsReleasing w ts = (h : Holdings) × Empties h w ts
 -- whatever the port holds beside them, these tables are being released now
 abbrev pub StaysEmptying : PortValue → PortValue → List TableWork → List TableWork → Type 0
 StaysEmptying u w ts us = (h : Holdings) → Empties h u ts → Empties h w us
+
+-- where no entry of the innermost one was noted as unsettled, nothing stops it, and of the innermost one then none is
+abbrev pub StaysSettled : {A : Type 0} → PortValue → PortValue → Result A Stop → Type 0
+StaysSettled u w answer = IsSettledTop u.holdings → IfErr answer (λ e. ⊥) × IsSettledTop w.holdings
 
 abbrev pub outermost_frame : List TableWork → ℕ
 outermost_frame [] = 0
@@ -135,6 +139,6 @@ pub record HoldsLive (v : PortValue) (f : ℕ) (kind : PageType) : Type 0 where
   pub live : IsTrue (knows_live (sizes_of v.post.machine) f kind v.holdings)
 
 -- it is out of the hand; paused, what is left is named in the first old word
-abbrev pub LeavesReleased : PortValue → PortValue → ℕ → Result (Unit {0}) Stop → Type 0
-LeavesReleased v w f (Ok done) = Holds v w (record v.holdings { typed = [] })
-LeavesReleased v w f (Err e) = Holds v w (record v.holdings { typed = []; old0 = Some (f + 1) })
+abbrev pub LeavesUnheld : PortValue → PortValue → ℕ → Result (Unit {0}) Stop → Type 0
+LeavesUnheld v w f (Ok done) = Holds v w (record v.holdings { typed = [] })
+LeavesUnheld v w f (Err e) = Holds v w (record v.holdings { typed = []; old0 = Some (f + 1) })

@@ -26,8 +26,8 @@ pub record TookOld (u v : PortValue) (which : OldWord) (f word : ℕ) : Type 0 w
   pub kind : Moves b v (Kind f) Load kinds.Look None word
   pub same : Same b v
 
-abbrev pub HasTaken : PortValue → ℕ → ℕ → Type 0
-HasTaken v f word = (u : PortValue) × (which : OldWord) × TookOld u v which f word
+abbrev pub HasTakenOld : PortValue → ℕ → ℕ → Type 0
+HasTakenOld v f word = (u : PortValue) × (which : OldWord) × TookOld u v which f word
 
 -- only what is known of the two words is another
 abbrev pub SettledHand : PortValue → PortValue → Type 0

@@ -8,9 +8,12 @@ ghost use Rattle.partial_state.specs.Weights.{weight};
 ghost use Rattle.partial_state.specs.declared.stack.TableWork.{TableWork};
 ghost use Rattle.table_words.specs.OldWords.{known_old};
 ghost use Rattle.table_words.specs.declared.old_words.OldWord.TheVariants.{First};
-ghost use Rattle.level_release.specs.Asking.{Continues, IsReleaseEnd, StopsRisen, is_due_answer};
+ghost use Rattle.table_releases.specs.Tops.{IsSettledTop};
+ghost use Rattle.xp_words.specs.declared.reply.Pause.TheVariants.{Due};
+ghost use Rattle.xp_words.specs.declared.reply.Stop.TheVariants.{Paused};
+ghost use Rattle.level_release.specs.Asking.{Continues, IsReleaseEnd, StopsRelease, is_due_answer};
 ghost use Rattle.level_release.specs.Course.{EmptiesBy, Lowered, MadeDead, RunsDownBy, is_asked_down};
-ghost use Rattle.level_release.specs.Holding.{Empties, HoldsNow, IsReleasing, LeavesEmptied, StaysEmptying, outermost_frame};
+ghost use Rattle.level_release.specs.Holding.{Empties, HoldsNow, IsReleasing, LeavesEmptied, StaysEmptying, StaysSettled, outermost_frame};
 
 use crate::leaving::unwind;
 use frame_words::put_ref;
@@ -35,8 +38,9 @@ pub(crate) fn empty<P: Port>(
     ensures came { Came (P.value port.old) (P.value port.new) }
     ensures hand { LeavesEmptied (P.value port.old) (P.value port.new) table result }
     ensures kinds { IfErr result IsReleaseEnd }
+    ensures settled { IsSettledTop (P.value port.old).holdings → IfErr result (λ e. e ≡ Paused Due) }
     ensures serves { Continues (P.value port.old) (P.value port.new) (table ∷ []) [] (misses (P.value port.old).post.machine result) }
-    ensures stops { IfErr result (λ e. StopsRisen (P.value port.old) (P.value port.new) (table ∷ []) e) }
+    ensures stops { IfErr result (λ e. StopsRelease (P.value port.old) (P.value port.new) (table ∷ []) e) }
     ensures course { EmptiesBy (P.value port.old) (P.value port.new) table (says gate.old) (count_asks gate.old) (count_asks gate.new) (count_yes gate.old) (count_yes gate.new) result }
     ensures says { (n : ℕ) → says gate.new n ≡ says gate.old n }
     ensures paces { paces gate.new ≡ paces gate.old }
@@ -64,8 +68,9 @@ fn run_down<P: Port>(port: &mut P, gate: &mut dyn Preempt, stack: &mut Stack) ->
     ensures outer { IfErr result (λ _. outermost_frame stack.new ≡ outermost_frame stack.old) }
     ensures some { IfErr result (λ _. stack.new ≢ []) }
     ensures kinds { IfErr result IsReleaseEnd }
+    ensures settled { IsSettledTop (P.value port.old).holdings → IfErr result (λ e. e ≡ Paused Due) }
     ensures serves { Continues (P.value port.old) (P.value port.new) stack.old stack.new (misses (P.value port.old).post.machine result) }
-    ensures stops { IfErr result (λ e. StopsRisen (P.value port.old) (P.value port.new) stack.old e) }
+    ensures stops { IfErr result (λ e. StopsRelease (P.value port.old) (P.value port.new) stack.old e) }
     ensures course { RunsDownBy (P.value port.old) stack.old (P.value port.new) stack.new (says gate.old) (count_asks gate.old) (count_asks gate.new) (count_yes gate.old) (count_yes gate.new) result }
     ensures says { (n : ℕ) → says gate.new n ≡ says gate.old n }
     ensures paces { paces gate.new ≡ paces gate.old }
@@ -96,10 +101,11 @@ fn lower<P: Port>(port: &mut P, stack: &mut Stack) -> Result<bool, Stop>
     ensures less { IfOk result (λ _. weight stack.new < weight stack.old) }
     ensures kinds { IfErr result IsReleaseEnd }
     ensures undue { is_due_answer result ≡ false }
+    ensures settled { StaysSettled (P.value port.old) (P.value port.new) result }
     // Where the stack is not shorter, an entry was shed.
     ensures progress { IfOk result (λ _. length stack.old ≤ length stack.new → Progress (Met (P.value port.old) (P.value port.new))) }
     ensures serves { Continues (P.value port.old) (P.value port.new) stack.old stack.new (misses (P.value port.old).post.machine result) }
-    ensures stops { IfErr result (λ e. StopsRisen (P.value port.old) (P.value port.new) stack.old e) }
+    ensures stops { IfErr result (λ e. StopsRelease (P.value port.old) (P.value port.new) stack.old e) }
     ensures course { Lowered (P.value port.old) stack.old (P.value port.new) stack.new result }
 {
     let Some(top) = stack.top() else {
@@ -142,6 +148,7 @@ fn close<P: Port>(port: &mut P, table: TableWork)
     ensures stands { (ts : List TableWork) → StaysEmptying (P.value port.old) (P.value port.new) (table ∷ ts) ts }
     ensures serves { (ts : List TableWork) → Continues (P.value port.old) (P.value port.new) (table ∷ ts) ts [] }
     ensures course { MadeDead (P.value port.old) (P.value port.new) table }
+    ensures settled { IsSettledTop (P.value port.new).holdings }
 {
     let clock = look_clock(port);
     leave(

@@ -13,7 +13,7 @@ ghost use Rattle.partial_state.specs.declared.stack.TableWork.{TableWork};
 ghost use Rattle.table_words.specs.OldWords.{known_old};
 ghost use Rattle.table_words.specs.declared.old_words.OldWord.TheVariants.{First};
 ghost use Rattle.level_release.specs.Asking.{Continues};
-ghost use Rattle.level_release.specs.Course.{LeftInside, Named, UnwoundDown};
+ghost use Rattle.level_release.specs.Course.{LeftInside, UnwoundDown};
 ghost use Rattle.level_release.specs.Holding.{IsReleasing, LeavesNamed, StaysEmptying};
 
 use kind_words::{leave, partial_kind};

@@ -1,12 +1,14 @@
 //! A typed reference to a live frame, given back with all that the frame holds.
 ghost use Rattle.std.specs.Prelude.{◌≡◌, ◌+◌, ◌<◌, ℕ, Some, true, false, if◌then◌else◌, IfErr};
+ghost use Rattle.xp_words.specs.declared.reply.Pause.TheVariants.{Due};
+ghost use Rattle.xp_words.specs.declared.reply.Stop.TheVariants.{Paused};
 ghost use Rattle.step_maker.specs.Holds.{MayWork};
 ghost use Rattle.answer_fits.specs.Answers.{Serves, Stops, misses};
 ghost use Rattle.table_words.specs.OldWords.{known_old};
 ghost use Rattle.table_words.specs.declared.old_words.OldWord.TheVariants.{First};
-ghost use Rattle.level_release.specs.Asking.{IsReleaseEnd, is_due_answer, of_release};
-ghost use Rattle.level_release.specs.Course.{ReleasesBy};
-ghost use Rattle.level_release.specs.Holding.{HoldsLive, LeavesReleased};
+ghost use Rattle.level_release.specs.Asking.{is_due_answer, of_release};
+ghost use Rattle.level_release.specs.Course.{ReleasesFrameBy};
+ghost use Rattle.level_release.specs.Holding.{HoldsLive, LeavesUnheld};
 ghost use Rattle.xp_preempt.specs.Gates.{Heard};
 
 use crate::emptying::empty;
@@ -34,9 +36,10 @@ pub fn release<P: Port>(
     requires room { known_old First (P.value port.old).holdings ≡ Some 0 }
     ensures serves { (owner pages : ℕ) → Serves (P.value port.old) (P.value port.new) (of_release frame owner pages result) (misses (P.value port.old).post.machine result) }
     ensures stops { (owner pages : ℕ) → IfErr result (λ e. Stops (P.value port.old) (P.value port.new) (of_release frame owner pages result) e) }
-    ensures kinds { IfErr result IsReleaseEnd }
-    ensures hand { LeavesReleased (P.value port.old) (P.value port.new) frame result }
-    ensures course { ReleasesBy (P.value port.old) (P.value port.new) frame kind (says gate.old) (count_asks gate.old) (count_asks gate.new) (count_yes gate.old) (count_yes gate.new) result }
+    // What the entries of a live tree ask is live: it is paused for the gate alone.
+    ensures kinds { IfErr result (λ e. e ≡ Paused Due) }
+    ensures hand { LeavesUnheld (P.value port.old) (P.value port.new) frame result }
+    ensures course { ReleasesFrameBy (P.value port.old) (P.value port.new) frame kind (says gate.old) (count_asks gate.old) (count_asks gate.new) (count_yes gate.old) (count_yes gate.new) result }
     ensures says { (n : ℕ) → says gate.new n ≡ says gate.old n }
     ensures paces { paces gate.new ≡ paces gate.old }
     ensures calm { calm gate.old ≡ true → (is_due_answer result ≡ false) × (calm gate.new ≡ true) }

@@ -11,7 +11,7 @@ ghost use Rattle.table_words.specs.declared.old_words.OldWord.{OldWord};
 ghost use Rattle.table_words.specs.declared.old_words.OldWord.TheVariants.{First, Second};
 ghost use Rattle.level_release.specs.Asking.{IsReleaseEnd, is_due_answer, of_settle};
 ghost use Rattle.level_release.specs.Course.{SettlesBy, SettlesOneBy};
-ghost use Rattle.level_release.specs.Settling.{HasTaken, SettledHand, SettledWord, TookOld};
+ghost use Rattle.level_release.specs.Settling.{HasTakenOld, SettledHand, SettledWord, TookOld};
 
 use crate::emptying::empty;
 use crate::levels::level_of;
@@ -76,7 +76,7 @@ fn settle_found<P: Port>(
 ) -> Result<(), Stop>
     requires frame { frame < (P.value port.old).post.machine.frames }
     requires may { MayWork (P.value port.old) }
-    requires took { HasTaken (P.value port.old) frame found }
+    requires took { HasTakenOld (P.value port.old) frame found }
     requires read { IsTrue (is_some (kind_read found)) }
     requires room { known_old First (P.value port.old).holdings ≡ Some 0 }
     ensures rests { Rests (P.value port.new) }
@@ -110,7 +110,7 @@ fn settle_partial<P: Port>(
 ) -> Result<(), Stop>
     requires frame { frame < (P.value port.old).post.machine.frames }
     requires may { MayWork (P.value port.old) }
-    requires took { HasTaken (P.value port.old) frame found }
+    requires took { HasTakenOld (P.value port.old) frame found }
     requires read { kind_read found ≡ Some kind }
     requires partial { IsTrue (is_partial kind) }
     requires room { known_old First (P.value port.old).holdings ≡ Some 0 }

@@ -1,5 +1,6 @@
 -- A frame that is taken as a page table under a reference that was taken first: what is in hand then.
 use Rattle.std.proofs.Common.{◌≡◌, ℕ, ◌+◌, ◌<◌, ◌≤◌, ◌&&◌, not, if◌then◌else◌, Bool, true, false, List, [], ◌∷◌, length, Some, None, Result, Ok, Err, refl, sym, ap, ◌∙◌, subst, inl, inr}
+use Rattle.kind_words.proofs.KindHands.{no_work}
 use Rattle.xp_words.specs.Places.{sizes_of}
 use Rattle.xp_words.specs.declared.kind.PageType.{PageType}
 use Rattle.xp_words.specs.declared.reply.Stop.{Stop}
@@ -9,9 +10,9 @@ use Rattle.xp_board.specs.declared.holdings.OwnerFound.TheVariants as owners
 use Rattle.xp_board.specs.declared.holdings.Reference.{Reference}
 use Rattle.xp_board.specs.declared.holdings.TypedReference.{TypedReference}
 use Rattle.xp_board.specs.declared.holdings.Work.{Work}
-use Rattle.xp_board.specs.Hands.{typed_to, without_ref, work_on}
+use Rattle.xp_board.specs.Hands.{typed_to, without_ref}
 use Rattle.xp_board.specs.KindSteps.{live_typed}
-use Rattle.xp_board.specs.Lists.{first_by, times_by}
+use Rattle.xp_board.specs.Lists.{times_by}
 use Rattle.xp_board.specs.Readings.{domain_of}
 use Rattle.xp_board.specs.Told.{Post, PortValue}
 use Rattle.step_maker.specs.Holds.{FlushedHolds, Holds, Same, quiet}
@@ -40,10 +41,6 @@ taken_table f level progress own = record { frame = f; level = level; done = pro
 no_typed : (f : ℕ) (ys : List TypedReference) → ys ≡ [] → typed_to f ys ≡ 0
 unfolding times_by
 no_typed f ys none = ap (λ zs. typed_to f zs) none
-
-no_work : (f : ℕ) (ws : List Work) → ws ≡ [] → work_on f ws ≡ None
-unfolding first_by
-no_work f ws none = ap (λ zs. work_on f zs) none
 
 -- ---- from an idle port one table came into work
 module _ (v x : PortValue) (owner : ℕ) (t : TableWork) (idle : IsIdle v) (e : Work) (rs : List Reference) (ys : List TypedReference) (hand : FlushedHolds v x (record v.holdings { refs = rs; typed = ys; works = e ∷ v.holdings.works })) where

@@ -1,6 +1,5 @@
 -- The next entry of the innermost table is taken: what that is of the course, by the answer.
-use Rattle.std.proofs.Common.{◌≡◌, ℕ, ◌-◌, ◌<◌, ◌≤◌, ◌==◌, Bool, true, false, List, ◌∷◌, length, Result, Ok, Err, sym, ap, ◌∙◌, subst, arith}
-use Rattle.std.proofs.lemmas.Bool.Decides.{nat_tests}
+use Rattle.std.proofs.Common.{◌≡◌, ℕ, ◌-◌, ◌<◌, Bool, true, false, List, ◌∷◌, Result, Ok, Err, sym, ap, ◌∙◌, subst, arith}
 use Rattle.xp_words.specs.declared.kind.PageType.{PageType}
 use Rattle.xp_words.specs.declared.reply.Stop.{Stop}
 use Rattle.xp_board.specs.Told.{PortValue}
@@ -14,13 +13,6 @@ use Rattle.table_entries.specs.Plain.{TwinEntry}
 use Rattle.table_entries.specs.declared.entries.Entered.{Entered}
 use Rattle.table_entries.specs.declared.entries.Entered.TheVariants as entered
 use Rattle.table_courses.specs.Acquiring.{Advanced, TookEntry, TookOn, one_more, table_in}
-use Rattle.level_validate.specs.Courses.{EntersNext}
-
-same_length : (a b : ℕ) → a ≡ b → (a == b) ≡ true
-same_length a b is = grind (arith, nat_tests)
-
-deeper_length : (a b : ℕ) → b < a → (a == b) ≡ false
-deeper_length a b less = grind (arith, nat_tests)
 
 -- ---- the call that takes it, for the type of the table's level
 module _ (v w : PortValue) (owner : ℕ) (t : TableWork) (k : PageType) (is : k ≡ level_type t.level) where
@@ -52,35 +44,29 @@ module _ (owner : ℕ) (v : PortValue) (t : TableWork) (ts stack : List TableWor
   advanced_is : (us : List TableWork) → us ≡ advanced stack → us ≡ one_more t ∷ ts
   advanced_is us is = is ∙ ap advanced top
 
-  pub stopped_next : (w : PortValue) (answer : Result (Unit {0}) Stop) (e : Stop) → answer ≡ Err e → TookEntry v w owner t (Err e) → EntersNext owner v stack w stack answer
+  pub stopped_next : (w : PortValue) (answer : Result Bool Stop) (e : Stop) → answer ≡ Err e → TookEntry v w owner t (Err e) → Advanced owner v stack w stack answer
   stopped_next w answer e is took =
-      subst (λ (r : Result (Unit {0}) Stop). EntersNext owner v stack w stack r) (sym is) (subst (λ (xs : List TableWork). Advanced owner v xs w xs (Err e)) (sym top) (Advanced.stopped v w t ts e room took))
+      subst (λ (r : Result Bool Stop). Advanced owner v stack w stack r) (sym is) (subst (λ (xs : List TableWork). Advanced owner v xs w xs (Err e)) (sym top) (Advanced.stopped v w t ts e room took))
 
-  pub unsettled_next : (w : PortValue) (us : List TableWork) (e : Stop) → us ≡ advanced stack → TookEntry v w owner t (Ok (entered.Unsettled e)) → EntersNext owner v stack w us (Err e)
+  pub unsettled_next : (w : PortValue) (us : List TableWork) (e : Stop) → us ≡ advanced stack → TookEntry v w owner t (Ok (entered.Unsettled e)) → Advanced owner v stack w us (Err e)
   unsettled_next w us e is took =
       subst (λ (xs : List TableWork). Advanced owner v xs w us (Err e)) (sym top)
       (subst (λ (xs : List TableWork). Advanced owner v (t ∷ ts) w xs (Err e)) (sym (advanced_is us is)) (Advanced.unsettled v w t ts e room took))
 
-  -- it is recorded: the stack is as long as it was
-  pub recorded_next : (w : PortValue) (us : List TableWork) → us ≡ advanced stack → TookEntry v w owner t (Ok entered.Recorded) → EntersNext owner v stack w us (Ok tt)
+  -- it is recorded
+  pub recorded_next : (w : PortValue) (us : List TableWork) → us ≡ advanced stack → TookEntry v w owner t (Ok entered.Recorded) → Advanced owner v stack w us (Ok true)
   recorded_next w us is took =
-      let same : length us ≡ length stack = ap (λ (xs : List TableWork). length xs) (advanced_is us is) ∙ sym (ap (λ (xs : List TableWork). length xs) top) in
-      subst (λ (done : Bool). Advanced owner v stack w us (Ok done)) (sym (same_length (length us) (length stack) same))
-      (subst (λ (xs : List TableWork). Advanced owner v xs w us (Ok true)) (sym top)
-      (subst (λ (xs : List TableWork). Advanced owner v (t ∷ ts) w xs (Ok true)) (sym (advanced_is us is)) (Advanced.recorded v w t ts room took)))
+      subst (λ (xs : List TableWork). Advanced owner v xs w us (Ok true)) (sym top)
+      (subst (λ (xs : List TableWork). Advanced owner v (t ∷ ts) w xs (Ok true)) (sym (advanced_is us is)) (Advanced.recorded v w t ts room took))
 
-  -- the table that it names is on top then: the stack is deeper
-  module _ (u w : PortValue) (f progress : ℕ) (own : Bool) (took : TookEntry v u owner t (Ok (entered.Opened f progress own))) (us : List TableWork) (deeper : length stack < length us) where
-    by_answer : (answer : Result (Unit {0}) Stop) → TookOn owner u (table_in t f progress own false ∷ one_more t ∷ ts) w us answer → EntersNext owner v stack w us answer
-    by_answer (Ok x) on =
-        subst (λ (done : Bool). Advanced owner v stack w us (Ok done)) (sym (deeper_length (length us) (length stack) deeper))
-        (subst (λ (xs : List TableWork). Advanced owner v xs w us (Ok false)) (sym top) (Advanced.opened v u w t ts us f progress own room took on))
-    by_answer (Err e) on = subst (λ (xs : List TableWork). Advanced owner v xs w us (Err e)) (sym top) (Advanced.cut_off v u w t ts us f progress own e room took on)
+  -- the table that it names is taken on, and answers so
+  by_answer : (u w : PortValue) (f progress : ℕ) (own : Bool) → TookEntry v u owner t (Ok (entered.Opened f progress own)) → (us : List TableWork) (answer : Result Bool Stop) → TookOn owner u (table_in t f progress own false ∷ one_more t ∷ ts) w us answer →
+      Advanced owner v (t ∷ ts) w us answer
+  by_answer u w f progress own took us (Ok done) on = Advanced.opened v u w t ts us f progress own done room took on
+  by_answer u w f progress own took us (Err e) on = Advanced.cut_off v u w t ts us f progress own e room took on
 
-  pub opened_next : (u w : PortValue) (f progress : ℕ) (own : Bool) (answer : Result (Unit {0}) Stop) (more next us : List TableWork) → more ≡ advanced stack → next ≡ table_in t f progress own false ∷ more → length next ≤ length us →
-      TookEntry v u owner t (Ok (entered.Opened f progress own)) → TookOn owner u next w us answer → EntersNext owner v stack w us answer
-  opened_next u w f progress own answer more next us is pushed deep took on =
+  pub opened_next : (u w : PortValue) (f progress : ℕ) (own : Bool) (answer : Result Bool Stop) (more next us : List TableWork) → more ≡ advanced stack → next ≡ table_in t f progress own false ∷ more →
+      TookEntry v u owner t (Ok (entered.Opened f progress own)) → TookOn owner u next w us answer → Advanced owner v stack w us answer
+  opened_next u w f progress own answer more next us is pushed took on =
       let now : next ≡ table_in t f progress own false ∷ one_more t ∷ ts = pushed ∙ ap (λ (xs : List TableWork). table_in t f progress own false ∷ xs) (advanced_is more is) in
-      let long = ap (λ (xs : List TableWork). length xs) now in
-      let was = ap (λ (xs : List TableWork). length xs) top in
-      by_answer u w f progress own took us (omega (arith, deep, long, was)) answer (subst (λ (xs : List TableWork). TookOn owner u xs w us answer) now on)
+      subst (λ (xs : List TableWork). Advanced owner v xs w us answer) (sym top) (by_answer u w f progress own took us answer (subst (λ (xs : List TableWork). TookOn owner u xs w us answer) now on))

@@ -1,11 +1,10 @@
 -- The innermost table is left partial, and its type count goes into its `kept` mark, or into the entry that names it.
 use Rattle.std.proofs.Common.{◌≡◌, ℕ, ◌<◌, Bool, true, false, List, ◌∷◌, length, Some, None, IsTrue, refl, sym, ap, ◌∙◌, subst, arith, inl, inr}
 use Rattle.xp_words.specs.Entries.{demand_at}
-use Rattle.xp_words.specs.KindWords.{is_kind, kind_write}
+use Rattle.xp_words.specs.KindWords.{kind_write}
 use Rattle.xp_words.specs.PageTypes.{is_table}
 use Rattle.xp_words.specs.Places.{Sizes, sizes_of}
 use Rattle.xp_words.specs.declared.entry.Demand.TheVariants.{Typed}
-use Rattle.xp_words.specs.declared.kind.PageType.{PageType}
 use Rattle.xp_words.specs.declared.place.Place.TheVariants.{Kind}
 use Rattle.xp_board.specs.declared.holdings.Holdings.{Holdings}
 use Rattle.xp_board.specs.declared.holdings.TypedReference.{TypedReference}
@@ -16,10 +15,8 @@ use Rattle.xp_board.specs.Acts.{left_by}
 use Rattle.xp_board.specs.Hands.{changed_work, typed_to, without_typed, without_work}
 use Rattle.xp_board.specs.Knowledge.{knows_partial}
 use Rattle.xp_board.specs.Marks.{leaves_unsettled}
-use Rattle.xp_board.specs.Readings.{is_partial_as}
 use Rattle.xp_board.specs.Settling.{HasLastDemand, demand_out, is_settled, settles_last}
 use Rattle.xp_board.specs.Told.{Post, PortValue}
-use Rattle.xp_board.proofs.Returned.{same_type}
 use Rattle.step_maker.specs.Holds.{FlushedHolds, Holds, quiet}
 use Rattle.step_maker.specs.Moves.{Came, Moves}
 use Rattle.step_maker.proofs.Coming.{moves_came}
@@ -27,8 +24,8 @@ use Rattle.flush_words.proofs.Lasting.{came_longer}
 use Rattle.flush_waits.proofs.Growing.{came_grows}
 use Rattle.frame_types.specs.Taking.{working_typed}
 use Rattle.kind_words.specs.Kinds.{partial_kind}
-use Rattle.kind_words.proofs.KindHands.{typed_held, work_here}
-use Rattle.kind_words.proofs.KindWriting.{fields_write}
+use Rattle.kind_words.proofs.KindHands.{typed_held, work_here, changed_first}
+use Rattle.kind_words.proofs.KindWriting.{partial_as}
 use Rattle.kind_words.proofs.Leaving.{without_newest}
 use Rattle.table_words.specs.Entries.{RecordsNext, entry_recorded}
 use Rattle.table_words.proofs.EntryHands.{next_asks, record_left, unsettled_for}
@@ -43,10 +40,6 @@ use Rattle.level_validate.specs.Unwinding.{left_so}
 use Rattle.level_validate.proofs.LeavingLent.{around_taken}
 use Rattle.level_validate.proofs.LeavingTables.{UnderWay, reaches_under, top, top_gone, top_spelled, top_typed}
 use Rattle.level_validate.proofs.StandsFacts.{TopTable, TopTyped, refs_own, stands_by, stands_post, tables_later, tables_top, top_known, typed_later}
-use Rattle.level_validate.proofs.Looking.{changed_first}
-
-partial_as : (t : PageType) (p : ℕ) → IsTrue (is_kind (partial_kind t false false p 0)) → is_partial_as t (kind_write (partial_kind t false false p 0)) ≡ true
-partial_as t p is = rw (fields_write (partial_kind t false false p 0) is) (same_type t)
 
 module _ (v w : PortValue) (owner : ℕ) (t : TableWork) (ts : List TableWork) (s : Carries v w owner (t ∷ ts)) (own : t.own ≡ true) where
   abbrev own_typed : TopTyped (length w.holdings.steps) owner t ts w.holdings.typed

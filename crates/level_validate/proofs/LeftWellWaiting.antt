@@ -32,7 +32,8 @@ use Rattle.level_validate.specs.Leaving.{IsRecorded, LeftWell}
 use Rattle.level_validate.specs.Tables.{Carries}
 use Rattle.level_validate.proofs.LeftWell.{IsPlain, Plain, put_plain, well_step, well_store, well_then}
 use Rattle.level_validate.proofs.Looking.{FirstFound}
-use Rattle.level_validate.proofs.Progressing.{held_by, second_here}
+use Rattle.answer_fits.proofs.Progressing.{held_by}
+use Rattle.level_validate.proofs.Progressing.{second_here}
 use Rattle.level_validate.proofs.Pushing.{es, looked_hand, seen, seen_recorded, seen_table, seen_word}
 
 -- ---- a look at the clock leaves the works as they are

@@ -1,5 +1,6 @@
 mod Acquired
 mod AcquiredBy
+mod AskedOnce
 mod Asking
 mod Completed
 mod CompletedSo

@@ -1,5 +1,5 @@
 -- A look at an entry of a frame in the own works changes nothing but what is known of that frame.
-use Rattle.std.proofs.Common.{◌≡◌, ℕ, ◌+◌, ◌<◌, if◌then◌else◌, false, List, [], ◌∷◌, Option, Some, None, IsTrue, refl, sym, ap, ◌∙◌, subst, arith}
+use Rattle.std.proofs.Common.{◌≡◌, ℕ, ◌+◌, ◌<◌, false, List, [], ◌∷◌, Option, Some, None, IsTrue, refl, sym, ap, ◌∙◌, subst, arith}
 use Rattle.xp_words.specs.KindWords.{kind_fields}
 use Rattle.xp_words.specs.Machine.{Machine}
 use Rattle.xp_words.specs.Places.{is_place, sizes_of}
@@ -12,7 +12,7 @@ use Rattle.xp_board.specs.declared.holdings.Unsettled.{Unsettled}
 use Rattle.xp_board.specs.declared.holdings.Work.{Work}
 use Rattle.xp_board.specs.After.{learned_cell, learned_claim, learned_last, learned_lock, learned_work}
 use Rattle.xp_board.specs.Hands.{changed_claim, changed_lock, changed_work, claim_of, claims_of, endings_of, lock_on, locks_on, work_on}
-use Rattle.xp_board.specs.Lists.{changed_by, first_by}
+use Rattle.xp_board.specs.Lists.{first_by}
 use Rattle.xp_board.specs.Readings.{is_locked, is_work, kind_at, ref_count, type_count}
 use Rattle.xp_board.specs.Told.{Finds, Post, PortValue}
 use Rattle.board_lemmas.proofs.Counted.{type_below}
@@ -96,10 +96,6 @@ module _ (n : Machine) (s : ℕ) (h : Holdings) (p : Place) (w : ℕ) (finds : F
       ∙ ap (λ cs. record h { works = changed_work f (learned_work i word) h.works; claimed = cs }) (claims_are i word)
 
 -- ---- the newest work is changed
-pub changed_first : (f : ℕ) (c : Work → Work) (e : Work) (es ws : List Work) → ws ≡ e ∷ es → e.frame ≡ f → changed_work f c ws ≡ c e ∷ es
-unfolding changed_by
-changed_first f c e es ws are is = ap (λ zs. changed_work f c zs) are ∙ ap (λ b. if b then (c e ∷ es) else (e ∷ changed_work f c es)) (when_eq e.frame f is)
-
 -- ---- the last recorded entry, where that one was looked at or another one
 pub last_looked : (i n w : ℕ) (u : Option Unsettled) → i + 1 ≡ n → IsLastWord w (learned_last i n w u)
 last_looked i n w None is = tt

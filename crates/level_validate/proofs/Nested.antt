@@ -36,7 +36,7 @@ use Rattle.flush_words.proofs.Lasting.{came_longer}
 use Rattle.flush_waits.proofs.Growing.{came_grows}
 use Rattle.frame_types.specs.Taking.{gave_type}
 use Rattle.kind_words.specs.Kinds.{live_kind}
-use Rattle.kind_words.proofs.KindHands.{known_first, typed_held, work_here}
+use Rattle.kind_words.proofs.KindHands.{known_first, typed_held, work_here, changed_first}
 use Rattle.kind_words.proofs.KindWriting.{fields_write}
 use Rattle.kind_words.proofs.Leaving.{without_newest}
 use Rattle.table_words.specs.Entries.{RecordsNext, entry_recorded}
@@ -51,7 +51,6 @@ use Rattle.level_validate.specs.Giving.{MayGiveBack}
 use Rattle.level_validate.specs.Tables.{IsLastWord, IsTopReady, IsTableWork, Reaches, Carries, innermost, refs_for, taken_on, under_way}
 use Rattle.level_validate.proofs.Completed.{LiveHand}
 use Rattle.level_validate.proofs.LeavingTables.{UnderWay, reaches_under, top}
-use Rattle.level_validate.proofs.Looking.{changed_first}
 use Rattle.level_validate.proofs.Pushing.{ready_by}
 use Rattle.level_validate.proofs.Sharing.{shared_by}
 use Rattle.level_validate.proofs.StandsFacts.{TopTable, inner_is, stands_by, stands_post, tables_later, tables_top, top_known, typed_later}

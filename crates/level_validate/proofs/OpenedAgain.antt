@@ -1,5 +1,6 @@
 -- The last recorded entry of the innermost table is looked at again, and names a table that was left unfinished: that one is on top then.
 use Rattle.std.proofs.Common.{◌≡◌, ℕ, ◌-◌, ◌≤◌, Bool, true, List, [], ◌∷◌, drop, Result, IfErr, refl, sym, ap, ◌∙◌, subst}
+use Rattle.partial_state.proofs.LevelFacts.{level_type-under}
 use Rattle.std.proofs.lemmas.Result.{IfErr-weaker}
 use Rattle.xp_words.specs.Entries.{below}
 use Rattle.xp_words.specs.declared.reply.Stop.{Stop}
@@ -14,7 +15,7 @@ use Rattle.level_validate.specs.Tables.{Carries, IsStanding, IsTopReady, StandsO
 use Rattle.level_validate.proofs.Asking.{goes_opened, stops_behind}
 use Rattle.level_validate.proofs.Entered.{after_again, back_one, fresh_ready}
 use Rattle.level_validate.proofs.LookedAgain.{SaidAgain, again_came, again_first}
-use Rattle.level_validate.proofs.Opening.{again_found, level_below}
+use Rattle.level_validate.proofs.Opening.{again_found}
 use Rattle.level_validate.proofs.Pushing.{pushed}
 use Rattle.level_validate.proofs.StandsFacts.{may_back, may_stands}
 
@@ -31,7 +32,7 @@ module _ (u x : PortValue) (owner : ℕ) (t : TableWork) (stack : List TableWork
   below_is : IsStanding u owner stack → below (level_type t.level) ≡ level_type (t.level - 1)
   below_is a =
       let s = subst (λ xs. Carries a.0 u owner xs) top a.1 in
-      level_below t.level s.stack.0.low s.stack.0.high
+      level_type-under t.level s.stack.0.low s.stack.0.high
 
   on_top : (v : PortValue) → Carries v u owner stack → Carries v x owner (inner ∷ t ∷ drop 1 stack)
   on_top v s =

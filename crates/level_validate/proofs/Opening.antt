@@ -1,5 +1,5 @@
 -- An entry whose frame came into the own works: what the steps found of that frame.
-use Rattle.std.proofs.Common.{◌≡◌, ℕ, zero, suc, ◌-◌, ◌<◌, ◌≤◌, if◌then◌else◌, Bool, true, false, List, Some, Ok, IsTrue, refl, sym, ap, ◌∙◌, subst, arith}
+use Rattle.std.proofs.Common.{◌≡◌, ℕ, zero, suc, ◌<◌, ◌≤◌, if◌then◌else◌, Bool, true, false, List, Some, Ok, IsTrue, refl, sym, subst, arith}
 use Rattle.std.proofs.lemmas.Bool.Decides.{nat_tests}
 use Rattle.xp_words.specs.Entries.{below, demand_at}
 use Rattle.xp_words.specs.KindWords.{has_form, kind_fields, kind_read}
@@ -33,7 +33,6 @@ use Rattle.table_entries.specs.declared.entries.Entered.TheVariants.{Opened}
 use Rattle.table_entries.specs.declared.resuming.Resumed.{Resumed}
 use Rattle.table_entries.specs.declared.resuming.Resumed.TheVariants as again
 use Rattle.table_entries.proofs.HandLists.{asks_below}
-use Rattle.partial_state.proofs.LevelFacts.{level_type-below}
 use Rattle.partial_state.specs.Levels.{level_type}
 use Rattle.level_validate.proofs.Looking.{met_place}
 use Rattle.level_validate.proofs.Visited.{WasFound, does_shows, each_next, first_is}
@@ -144,7 +143,3 @@ pub read_level : (l : ℕ) → 1 ≤ l → is_read_first (below (level_type l)) 
 read_level zero low read = absurd (omega arith)
 read_level (suc zero) low read = absurd cc
 read_level (suc (suc l)) low read = omega arith
-
-pub level_below : (l : ℕ) → 1 ≤ l → l ≤ 4 → below (level_type l) ≡ level_type (l - 1)
-level_below zero low high = absurd (omega arith)
-level_below (suc l) low high = level_type-below l (let k : l < 4 = omega arith in k) ∙ ap level_type (let k : l ≡ suc l - 1 = omega arith in k)

@@ -1,13 +1,10 @@
 -- Progress: an entry of a table in the own works is recorded; or a recorded one is settled, as the table that it names is live.
-use Rattle.std.proofs.Common.{◌≡◌, ℕ, ◌-◌, ◌≤◌, true, false, List, ◌∷◌, Option, Some, None, IsTrue, refl, sym, ap, ◌∙◌, subst, arith}
-use Rattle.xp_words.specs.Entries.{demand_at}
-use Rattle.xp_words.specs.KindWords.{is_kind, kind_fields, kind_write}
+use Rattle.std.proofs.Common.{◌≡◌, ℕ, ◌-◌, ◌≤◌, true, List, ◌∷◌, Some, None, IsTrue, refl, sym, ap, ◌∙◌, subst, arith}
+use Rattle.xp_words.specs.KindWords.{is_kind, kind_write}
 use Rattle.xp_words.specs.PageTypes.{is_table}
-use Rattle.xp_words.specs.declared.entry.Demand.{Demand}
 use Rattle.xp_words.specs.declared.entry.Demand.TheVariants.{Typed}
 use Rattle.xp_words.specs.declared.kind.KindWord.{KindWord}
 use Rattle.xp_words.specs.declared.place.Place.TheVariants.{Clock, Kind}
-use Rattle.xp_board.specs.declared.holdings.Lock.{Lock}
 use Rattle.xp_board.specs.declared.holdings.Work.{Work}
 use Rattle.xp_board.specs.declared.step.Act.TheVariants.{Load, Store}
 use Rattle.xp_board.specs.declared.step.Mark.TheVariants.{Record}
@@ -16,11 +13,11 @@ use Rattle.xp_board.specs.Hands.{lock_on, work_on, works_on}
 use Rattle.xp_board.specs.Told.{PortValue}
 use Rattle.board_lemmas.proofs.ListCounts.{first_by-cons_here, first_by-cons_other, times_by-cons_here}
 use Rattle.board_lemmas.proofs.Works.{one_works}
-use Rattle.step_maker.specs.Moves.{Came, Met, Moment, Moves}
-use Rattle.step_maker.proofs.Coming.{met_after, met_before, moment_of, moves_met}
-use Rattle.answer_fits.specs.Asked.{IsDemandOf, demand_by}
-use Rattle.answer_fits.specs.Finding.{Finding}
+use Rattle.step_maker.specs.Moves.{Met, Moves}
+use Rattle.step_maker.proofs.Coming.{moment_of, moves_met}
+use Rattle.answer_fits.specs.Asked.{IsDemandOf}
 use Rattle.answer_fits.specs.Pauses.{Progress, entry, settles}
+use Rattle.answer_fits.proofs.Progressing.{held_by}
 use Rattle.kind_words.specs.Kinds.{live_kind}
 use Rattle.kind_words.proofs.KindWriting.{fields_write}
 use Rattle.partial_state.proofs.LevelFacts.{level_type-table}
@@ -31,17 +28,6 @@ use Rattle.level_validate.specs.Tables.{Carries}
 use Rattle.level_validate.proofs.Completed.{LiveHand}
 use Rattle.level_validate.proofs.LeavingTables.{top}
 use Rattle.level_validate.proofs.Nested.{asks_on, on, outer}
-
--- ---- among more steps
-progress_in : (F G : Finding) → ((m : Moment) → F m → G m) → Progress F → Progress G
-progress_in F G more (entry m a b) = entry m (more m a) b
-progress_in F G more (settles m f t x e s a b c d i j k l) = settles m f t x e s (more m a) b c d i j k l
-
-pub progress_before : (v u w : PortValue) → Came u w → Progress (Met v u) → Progress (Met v w)
-progress_before v u w came p = progress_in (Met v u) (Met v w) (λ m x. met_before v u w m x came) p
-
-pub progress_after : (v u w : PortValue) → Came v u → Progress (Met u w) → Progress (Met v w)
-progress_after v u w came p = progress_in (Met u w) (Met v w) (λ m x. met_after v u w m came x) p
 
 -- ---- an entry is recorded
 pub progress_records : (v w : PortValue) (f upto clock : ℕ) → Moves v w Clock Load kinds.Look (Some (Record f upto)) clock → Progress (Met v w)
@@ -61,10 +47,6 @@ pub second_here : (f : ℕ) (x y : Work) (zs ws : List Work) → ws ≡ x ∷ y 
 second_here f x y zs ws are few second =
     ap (λ us. work_on f us) are ∙ first_by-cons_other (λ (e : Work). e.frame) f x (y ∷ zs) (λ first. two_works f x y zs ws are few first second)
     ∙ first_by-cons_here (λ (e : Work). e.frame) f y zs second
-
-pub held_by : (i word : ℕ) (o : Option Work) (e : Work) (k : Option Lock) (d : Demand) → o ≡ Some e → is_table (kind_fields e.word).kind ≡ true → (kind_fields e.word).unflushed ≡ false →
-    demand_at (kind_fields e.word).kind i word ≡ d → demand_by i word o k ≡ Some d
-held_by i word o e k d is table past asks = rw (is, table, past, asks) refl
 
 module _ (v w : PortValue) (owner : ℕ) (t u : TableWork) (us : List TableWork) (s : Carries v w owner (t ∷ u ∷ us)) (d : PortValue) (found : ℕ)
     (store : Moves w d (Kind t.frame) (Store (kind_write (live_kind (level_type t.level) (type_counts t.own)))) kinds.Kind None found) (l : LiveHand v w owner t (u ∷ us) s d) where

@@ -1,5 +1,6 @@
 -- The innermost table after a look at one of its entries: the hand, and how the tables stand then.
 use Rattle.std.proofs.Common.{◌≡◌, ◌≢◌, ℕ, ◌+◌, ◌-◌, ◌<◌, ◌≤◌, Bool, true, false, List, ◌∷◌, length, Option, Some, None, IsTrue, refl, sym, ap, ◌∙◌, subst, arith}
+use Rattle.partial_state.proofs.LevelFacts.{level_type-under}
 use Rattle.xp_words.specs.Entries.{below, demand_at}
 use Rattle.xp_words.specs.KindWords.{kind_fields}
 use Rattle.xp_words.specs.Places.{sizes_of}
@@ -19,7 +20,7 @@ use Rattle.step_maker.specs.Moves.{Came}
 use Rattle.flush_words.proofs.Lasting.{came_longer}
 use Rattle.flush_waits.proofs.Growing.{came_grows}
 use Rattle.frame_types.specs.Taking.{working, working_typed}
-use Rattle.kind_words.proofs.KindHands.{work_here}
+use Rattle.kind_words.proofs.KindHands.{work_here, changed_first}
 use Rattle.kind_words.proofs.Leaving.{without_newest}
 use Rattle.table_entries.specs.Tops.{with_recorded}
 use Rattle.table_entries.proofs.HandReady.{last_other, learned_word, settled_more, unmarked_learns}
@@ -28,8 +29,8 @@ use Rattle.partial_state.specs.Levels.{level_type}
 use Rattle.partial_state.specs.Stacks.{IsStack}
 use Rattle.level_validate.specs.Tables.{AreTables, AreTyped, IsLastWord, IsTopReady, IsTableWork, Reaches, Carries, innermost, taken_on, under_way}
 use Rattle.level_validate.proofs.LeavingTables.{top, top_done}
-use Rattle.level_validate.proofs.Looking.{FirstFound, changed_first, last_looked, looked_apart}
-use Rattle.level_validate.proofs.Opening.{CameOpen, level_below, read_level}
+use Rattle.level_validate.proofs.Looking.{FirstFound, last_looked, looked_apart}
+use Rattle.level_validate.proofs.Opening.{CameOpen, read_level}
 use Rattle.level_validate.proofs.StandsFacts.{stands_by, stands_post, tables_inner, tables_later, typed_done, typed_later, work_done}
 
 -- a table that an entry of t names
@@ -141,7 +142,7 @@ module _ (v u w : PortValue) (owner : ℕ) (t : TableWork) (ts : List TableWork)
     low = read_level t.level s.stack.0.low opens.read
 
     type_is : below (level_type t.level) ≡ level_type (t.level - 1)
-    type_is = level_below t.level s.stack.0.low s.stack.0.high
+    type_is = level_type-under t.level s.stack.0.low s.stack.0.high
 
     stack_is : (own : Bool) → IsStack (pushed t g progress own r ∷ record t { done = d } ∷ ts)
     stack_is own =
@@ -206,7 +207,7 @@ module _ (v u w : PortValue) (owner : ℕ) (t : TableWork) (ts : List TableWork)
       under_way (pushed t g progress own false) word refl (ap (λ n. n + 1) seen_recorded)
       (settled_seen (λ same. let r = recorded_is in absurd (omega (arith, r, same, at))) (ready e es works_were))
       (seen_word ∙ ap (λ n. Some (record { index = n; word = word })) (at ∙ sym seen_recorded))
-      (ap (λ n. demand_at (level_type t.level) n word) (seen_recorded ∙ sym at) ∙ asks ∙ ap (λ k. Typed g k) (level_below t.level s.stack.0.low s.stack.0.high))
+      (ap (λ n. demand_at (level_type t.level) n word) (seen_recorded ∙ sym at) ∙ asks ∙ ap (λ k. Typed g k) (level_type-under t.level s.stack.0.low s.stack.0.high))
 
   pub reach_again : (g progress : ℕ) (own : Bool) → i + 1 ≡ t.done → demand_at (level_type t.level) i word ≡ Typed g (below (level_type t.level)) →
       Reaches (sizes_of v.post.machine) w.holdings.steps t seen (Some (pushed t g progress own true))
@@ -215,4 +216,4 @@ module _ (v u w : PortValue) (owner : ℕ) (t : TableWork) (ts : List TableWork)
       taken_on (pushed t g progress own true) word refl seen_recorded (let k : 0 < t.done = omega (arith, at) in k)
       (subst (λ o. IsLastWord word o) (sym seen_unsettled) (last_looked i e.recorded word e.unsettled (at ∙ sym recorded_is)))
       (seen_word ∙ ap (λ n. Some (record { index = n; word = word })) i_is)
-      (ap (λ n. demand_at (level_type t.level) n word) (sym i_is) ∙ asks ∙ ap (λ k. Typed g k) (level_below t.level s.stack.0.low s.stack.0.high))
+      (ap (λ n. demand_at (level_type t.level) n word) (sym i_is) ∙ asks ∙ ap (λ k. Typed g k) (level_type-under t.level s.stack.0.low s.stack.0.high))

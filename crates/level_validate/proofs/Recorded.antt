@@ -21,7 +21,8 @@ use Rattle.level_validate.specs.Tables.{Carries}
 use Rattle.level_validate.proofs.LeavingTables.{top, top_spelled}
 use Rattle.level_validate.proofs.LeftWell.{well_store}
 use Rattle.level_validate.proofs.Nested.{reaches_on}
-use Rattle.level_validate.proofs.Progressing.{held_by, second_here}
+use Rattle.answer_fits.proofs.Progressing.{held_by}
+use Rattle.level_validate.proofs.Progressing.{second_here}
 use Rattle.level_validate.proofs.StandsFacts.{tables_top}
 
 pub recorded_inner : (v w : PortValue) (owner : ℕ) (t u : TableWork) (us : List TableWork) → Carries v w owner (t ∷ u ∷ us) → works_on u.frame w.holdings.works ≤ 1 → t.recorded ≡ true → IsRecorded w.holdings t.frame

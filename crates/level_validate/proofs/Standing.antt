@@ -1,9 +1,8 @@
 -- What the call at an entry asks of the hand: the tables in work have it.
-use Rattle.std.proofs.Common.{◌≡◌, ◌≢◌, ℕ, zero, suc, ◌==◌, ◌≤◌, Bool, true, false, List, [], ◌∷◌, length, Option, Some, None, refl, sym, ap, ◌∙◌, subst, arith, inl, inr}
+use Rattle.std.proofs.Common.{◌≡◌, ◌≢◌, ℕ, ◌≤◌, Bool, true, false, List, [], ◌∷◌, length, Option, Some, None, refl, sym, ap, ◌∙◌, subst, arith, inl, inr}
 use Rattle.std.proofs.lemmas.Bool.{cases_eq}
 use Rattle.xp_words.specs.Entries.{below}
 use Rattle.xp_words.specs.KindWords.{kind_fields}
-use Rattle.xp_words.specs.PageTypes.{type_number}
 use Rattle.xp_words.specs.Places.{Sizes, sizes_of}
 use Rattle.xp_board.specs.declared.holdings.Made.{Made}
 use Rattle.xp_board.specs.declared.holdings.TypedReference.{TypedReference}
@@ -13,11 +12,10 @@ use Rattle.xp_board.specs.Lists.{first_by, times_by}
 use Rattle.xp_board.specs.Readings.{is_type}
 use Rattle.xp_board.specs.Told.{PortValue}
 use Rattle.board_lemmas.proofs.ListCounts.{first_by-cons_here, first_by-cons_other, times_by-cons_other}
-use Rattle.board_lemmas.proofs.Sums.{when_ne}
 use Rattle.flush_waits.specs.Waiting.{IsKnownOwner}
 use Rattle.frame_types.specs.Taking.{IsOfOther, working_typed}
 use Rattle.table_entries.specs.Tops.{HoldsWorks, WorksAtTop, WorksNext}
-use Rattle.partial_state.proofs.LevelFacts.{level_type-number, level_type-table}
+use Rattle.partial_state.proofs.LevelFacts.{level_type-table, level_type-above}
 use Rattle.partial_state.specs.declared.stack.TableWork.{TableWork}
 use Rattle.partial_state.specs.Levels.{level_type}
 use Rattle.partial_state.specs.Stacks.{IsStack}
@@ -91,19 +89,6 @@ found_level z steps inner g low t (u ∷ us) (x ∷ xs) e is least are at =
       | inr other ↦ found_level z steps (Some t) g low u us xs e is.2 (under_low t (u ∷ us) low least is u us refl) are.2 (sym (first_by-cons_other (λ (y : Work). y.frame) g x xs other) ∙ at)
     ]
 
-other_number : (l m : ℕ) → 1 ≤ l → l ≤ m → m ≤ 4 → type_number (below (level_type l)) ≢ m
-other_number zero m a b c is = absurd (omega arith)
-other_number (suc zero) m a b c is = absurd (omega arith)
-other_number (suc (suc zero)) m a b c is = absurd (omega arith)
-other_number (suc (suc (suc zero))) m a b c is = absurd (omega arith)
-other_number (suc (suc (suc (suc zero)))) m a b c is = absurd (omega arith)
-other_number (suc (suc (suc (suc (suc l))))) m a b c is = absurd (omega arith)
-
-pub other_type : (l m : ℕ) → 1 ≤ l → l ≤ m → m ≤ 4 → is_type (level_type m) (below (level_type l)) ≡ false
-other_type l m a b c =
-    let number = level_type-number m (let k : 1 ≤ m = omega arith in k) c in
-    ap (λ n. n == type_number (below (level_type l))) number ∙ when_ne m (type_number (below (level_type l))) (λ same. other_number l m a b c (sym same))
-
 -- ---- the hand
 module _ (v w : PortValue) (owner : ℕ) (t : TableWork) (ts : List TableWork) (s : Carries v w owner (t ∷ ts)) where
   pub standing_top : WorksAtTop t.frame (level_type t.level) t.done w.holdings
@@ -134,7 +119,7 @@ module _ (v w : PortValue) (owner : ℕ) (t : TableWork) (ts : List TableWork) (
   pub standing_above : (g : ℕ) → IsOfOther g (below (level_type t.level)) w.holdings
   standing_above g e at =
       let l = found_level (sizes_of v.post.machine) w.holdings.steps None g t.level t ts w.holdings.works e s.stack (let k : t.level ≤ t.level = omega arith in k) s.tables at in
-      ap (λ k. is_type k (below (level_type t.level))) l.kind ∙ other_type t.level l.level s.stack.0.low l.least l.most
+      ap (λ k. is_type k (below (level_type t.level))) l.kind ∙ level_type-above t.level l.level s.stack.0.low l.least l.most
 
   pub standing_looked : w.holdings.looking ≡ []
   standing_looked = ap (λ (q : PortValue). q.holdings.looking) s.hand ∙ s.idle.looking

@@ -38,27 +38,27 @@ module _ (v w : PortValue) (owner : ℕ) (t : TableWork) (k : PageType) (is : k 
 -- ---- from a stack of which that table is the top
 module _ (owner : ℕ) (v : PortValue) (t : TableWork) (ts stack : List TableWork) (top : stack ≡ t ∷ ts) where
   -- the stack stays as it is
-  stays : (w : PortValue) (answer : Result (Unit {0}) Stop) → TookOn owner v (t ∷ ts) w (t ∷ ts) answer → TookOn owner v stack w stack answer
+  stays : (w : PortValue) (answer : Result Bool Stop) → TookOn owner v (t ∷ ts) w (t ∷ ts) answer → TookOn owner v stack w stack answer
   stays w answer took = subst (λ (xs : List TableWork). TookOn owner v xs w xs answer) (sym top) took
 
-  pub fresh_on : t.done ≡ 0 → TookOn owner v stack v stack (Ok tt)
-  fresh_on none = stays v (Ok tt) (TookOn.fresh v t ts none)
+  pub fresh_on : t.done ≡ 0 → TookOn owner v stack v stack (Ok false)
+  fresh_on none = stays v (Ok false) (TookOn.fresh v t ts none)
 
   module _ (some : t.done ≡ 0 → ⊥) where
     least : 0 < t.done
     least = omega (arith, some)
 
-    pub stopped_on : (w : PortValue) (answer : Result (Unit {0}) Stop) (e : Stop) → answer ≡ Err e → ResumedEntry v w owner t (Err e) → TookOn owner v stack w stack answer
-    stopped_on w answer e is again = subst (λ (r : Result (Unit {0}) Stop). TookOn owner v stack w stack r) (sym is) (stays w (Err e) (TookOn.stopped v w t ts e least again))
+    pub stopped_on : (w : PortValue) (answer : Result Bool Stop) (e : Stop) → answer ≡ Err e → ResumedEntry v w owner t (Err e) → TookOn owner v stack w stack answer
+    stopped_on w answer e is again = subst (λ (r : Result Bool Stop). TookOn owner v stack w stack r) (sym is) (stays w (Err e) (TookOn.stopped v w t ts e least again))
 
-    pub settled_on : (w : PortValue) → ResumedEntry v w owner t (Ok again.Settled) → TookOn owner v stack w stack (Ok tt)
-    settled_on w resumed = stays w (Ok tt) (TookOn.settled v w t ts least resumed)
+    pub settled_on : (w : PortValue) → ResumedEntry v w owner t (Ok again.Settled) → TookOn owner v stack w stack (Ok false)
+    settled_on w resumed = stays w (Ok false) (TookOn.settled v w t ts least resumed)
 
-    pub taken_on : (u w : PortValue) (f : ℕ) → ResumedEntry v u owner t (Ok (again.Taken f)) → GaveBack u w f → TookOn owner v stack w stack (Ok tt)
-    taken_on u w f resumed back = stays w (Ok tt) (TookOn.taken v u w t ts f least resumed back)
+    pub taken_on : (u w : PortValue) (f : ℕ) → ResumedEntry v u owner t (Ok (again.Taken f)) → GaveBack u w f → TookOn owner v stack w stack (Ok true)
+    taken_on u w f resumed back = stays w (Ok true) (TookOn.taken v u w t ts f least resumed back)
 
     -- the table that it names is on top then
-    pub opened_on : (u w : PortValue) (f progress : ℕ) (own : Bool) (answer : Result (Unit {0}) Stop) (next us : List TableWork) → next ≡ table_in t f progress own true ∷ stack → ResumedEntry v u owner t (Ok (again.Opened f progress own)) →
+    pub opened_on : (u w : PortValue) (f progress : ℕ) (own : Bool) (answer : Result Bool Stop) (next us : List TableWork) → next ≡ table_in t f progress own true ∷ stack → ResumedEntry v u owner t (Ok (again.Opened f progress own)) →
         TookOn owner u next w us answer → TookOn owner v stack w us answer
     opened_on u w f progress own answer next us pushed resumed took =
         subst (λ (xs : List TableWork). TookOn owner v xs w us answer) (sym top)

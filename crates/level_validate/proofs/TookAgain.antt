@@ -2,10 +2,12 @@
 use Rattle.std.proofs.Common.{◌≡◌, ℕ, ◌-◌, ◌<◌, List, [], ◌∷◌, drop, sym, subst}
 use Rattle.xp_board.specs.Told.{Post, PortValue}
 use Rattle.step_maker.specs.Holds.{Holds}
-use Rattle.step_maker.specs.Moves.{Came}
+use Rattle.step_maker.specs.Moves.{Came, Met}
 use Rattle.step_maker.proofs.Coming.{came_post}
 use Rattle.answer_fits.specs.Answers.{Serves}
 use Rattle.answer_fits.specs.Asked.{of_back}
+use Rattle.answer_fits.specs.Pauses.{Progress}
+use Rattle.answer_fits.proofs.Progressing.{progress_before}
 use Rattle.frame_types.specs.Taking.{gave_type}
 use Rattle.partial_state.specs.Levels.{level_type}
 use Rattle.partial_state.specs.declared.stack.TableWork.{TableWork}
@@ -38,4 +40,7 @@ module _ (u x : PortValue) (owner : ℕ) (t : TableWork) (stack : List TableWork
         said.hand.1
 
   pub took_serves : (w : PortValue) → Serves x w (of_back f) [] → CarriesOn u w owner stack stack []
-  took_serves w put = goes_back u x owner stack (level_type t.level) f said.serves said.entry.shows w put
+  took_serves w put = goes_back u x owner stack (level_type t.level) f said.serves (λ pages. (said.entry.shows pages).0) w put
+
+  pub took_progress : (w : PortValue) → Came x w → Progress (Met u w)
+  took_progress w on = progress_before u x w on (said.entry.shows 0).1

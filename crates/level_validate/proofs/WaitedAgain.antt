@@ -14,7 +14,7 @@ use Rattle.frame_types.specs.Found.{DeadBy, SharedBy}
 use Rattle.frame_types.specs.Leaving.{GivesBack, IsWaiting, ServesType}
 use Rattle.partial_state.specs.Levels.{level_type}
 use Rattle.partial_state.specs.declared.stack.TableWork.{TableWork}
-use Rattle.partial_state.proofs.LevelFacts.{level_type-plain, level_type-typed}
+use Rattle.partial_state.proofs.LevelFacts.{level_type-plain, level_type-typed, level_type-under}
 use Rattle.table_entries.specs.Asking.{IsEntryStop}
 use Rattle.table_entries.specs.Tops.{Opens}
 use Rattle.table_entries.specs.declared.resuming.Resumed.TheVariants as again
@@ -30,7 +30,6 @@ use Rattle.level_validate.proofs.LeftWellEntries.{IsAskedType, shared_plain, sta
 use Rattle.level_validate.proofs.LeftWellWaiting.{waiting_well}
 use Rattle.level_validate.proofs.LookedAgain.{SaidAgain, again_came, again_first, again_forward, again_then, again_well}
 use Rattle.level_validate.proofs.Onward.{dead_onward, shared_onward}
-use Rattle.level_validate.proofs.Opening.{level_below}
 use Rattle.level_validate.proofs.Waiting.{left_waiting, wait_stops, waited_found, waits_there}
 
 module _ (u x : PortValue) (owner : ℕ) (t : TableWork) (stack : List TableWork) (top : stack ≡ t ∷ drop 1 stack) (some : t.done ≡ 0 → ⊥) (f : ℕ) (own : Bool) (stamp : ℕ) (stop : Stop) (said : SaidAgain u x owner t (again.Waiting f own stamp stop)) (a : IsStanding u owner stack) where
@@ -40,7 +39,7 @@ module _ (u x : PortValue) (owner : ℕ) (t : TableWork) (stack : List TableWork
   below_is : below (level_type t.level) ≡ level_type (t.level - 1)
   below_is =
       let s = subst (λ xs. Carries a.0 u owner xs) top a.1 in
-      level_below t.level s.stack.0.low s.stack.0.high
+      level_type-under t.level s.stack.0.low s.stack.0.high
 
   pub waited_inside : f < x.post.machine.frames
   waited_inside = subst (λ (p : Post). f < p.machine.frames) (sym (came_post u x came)) (waited_found u x t.frame (t.done - 1) (level_type t.level) owner f own stamp stop said.entry.found)

@@ -1,15 +1,10 @@
 -- The parts of an acquisition's course that the inner calls say.
-use Rattle.std.specs.Prelude.{◌≡◌, ℕ, ◌==◌, Bool, List, [], ◌∷◌, ◌++◌, length, Result, Ok, Err}
+use Rattle.std.specs.Prelude.{◌≡◌, ℕ, if◌then◌else◌, Bool, List, [], ◌∷◌, ◌++◌, Result, Ok, Err}
 use Rattle.xp_words.specs.declared.reply.Stop.{Stop}
 use Rattle.xp_board.specs.Told.{PortValue}
 use Rattle.partial_state.specs.declared.stack.TableWork.{TableWork}
-use Rattle.table_courses.specs.Acquiring.{Advanced, Filled, MadeLive, Unwound, Worked, keeps_it}
+use Rattle.table_courses.specs.Acquiring.{Filled, MadeLive, Unwound, Worked, keeps_it}
 use Rattle.xp_preempt.specs.Gates.{Consulted, ends_yes}
-
--- the next entry: it is done with where no other table came into work
-abbrev pub EntersNext : ℕ → PortValue → List TableWork → PortValue → List TableWork → Result (Unit {0}) Stop → Type 0
-EntersNext owner v ts w us (Ok done) = Advanced owner v ts w us (Ok (length us == length ts))
-EntersNext owner v ts w us (Err e) = Advanced owner v ts w us (Err e)
 
 -- ---- with the gate's answers
 -- The gate was asked, and there are answers that are so; it ends with a yes where `rose` says so.
@@ -19,9 +14,14 @@ pub record Consults (says : ℕ → Bool) (before after yes_before yes_after : �
   pub gate : Consulted says before after yes_before yes_after answers
   pub due : rose ≡ ends_yes answers
 
+-- it is asked once, or not
+abbrev pub asked_once : Bool → Bool → List Bool
+asked_once asked rose = if asked then rose ∷ [] else []
+
 -- one more step behind those that filled the tables so far
 unfoldable pub GoesOn : ℕ → PortValue → List TableWork → PortValue → List TableWork → List Bool → Result (Unit {0}) Stop → Type 0
-GoesOn owner v ts w us answers answer = (u : PortValue) (xs : List TableWork) (earlier : List Bool) → Filled owner u xs v ts earlier (Ok tt) → Filled owner u xs w us (answers ++ earlier) answer
+GoesOn owner v ts w us answers answer =
+    (u : PortValue) (xs : List TableWork) (before earlier : List Bool) → Filled owner u xs before v ts earlier (Ok tt) → Filled owner u xs before w us (answers ++ earlier) answer
 
 -- ---- tables that are left
 -- whatever way leaves the tables us from w on, there is one that leaves the tables ts from v on

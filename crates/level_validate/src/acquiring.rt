@@ -1,5 +1,5 @@
 //! Frames that are taken as page tables: validated entry by entry, until the outermost table is full, or an entry stops it.
-ghost use Rattle.std.specs.Prelude.{◌≡◌, ◌+◌, ◌<◌, ◌≤◌, ◌∷◌, ℕ, [], Some, Bool, true, false, not, if◌then◌else◌, length, IfOk, IfErr};
+ghost use Rattle.std.specs.Prelude.{◌≡◌, ◌+◌, ◌<◌, ◌≤◌, ◌∷◌, ℕ, [], Some, Bool, true, false, not, ◌&&◌, if◌then◌else◌, length, IfOk, IfErr};
 ghost use Rattle.step_maker.specs.Holds.{MayWork};
 ghost use Rattle.step_maker.specs.Moves.{Came, Met};
 ghost use Rattle.answer_fits.specs.Answers.{Serves, Stops, misses};
@@ -12,13 +12,15 @@ ghost use Rattle.table_words.specs.declared.old_words.OldWord.TheVariants.{First
 ghost use Rattle.partial_state.specs.Weights.{weight};
 ghost use Rattle.table_courses.specs.Acquiring.{Advanced, WaitingLeft, Worked, is_asked};
 ghost use Rattle.level_validate.specs.Acquiring.{AcquiresBy, IsAcquireStop, IsTableWaiting, LeavesAcquired, LeavesWaiting, StopsRisen, Validated, is_due_answer, is_filled, is_paused_answer, of_acquire, outermost_work};
-ghost use Rattle.level_validate.specs.Courses.{Consults, GoesOn, ValidatesBy};
+ghost use Rattle.level_validate.specs.Courses.{Consults, GoesOn, ValidatesBy, asked_once};
 ghost use Rattle.level_validate.specs.Forward.{Forward};
 ghost use Rattle.level_validate.specs.Leaving.{LeftWell};
 ghost use Rattle.level_validate.specs.Serving.{CarriesOn};
 ghost use Rattle.level_validate.specs.Tables.{IsIdle, IsStanding, IsTopReady, StandsOn};
 ghost use Rattle.level_validate.specs.Unwinding.{own_domain};
 ghost use Rattle.xp_preempt.specs.Gates.{Heard};
+ghost use Rattle.xp_words.specs.declared.reply.Pause.TheVariants.{Due};
+ghost use Rattle.xp_words.specs.declared.reply.Stop.TheVariants.{Paused};
 
 use crate::completing::{complete_inner, complete_outer};
 use crate::entering::{enter, take_on};
@@ -236,7 +238,15 @@ fn go_on<P: Port>(
 }
 
 // Asks the gate, where an entry is done with behind which it is asked.
-fn ask_behind(gate: &mut dyn Preempt, stack: &Stack, done: bool) -> Result<(), Stop> {
+fn ask_behind(gate: &mut dyn Preempt, stack: &Stack, done: bool) -> Result<(), Stop>
+    ensures kinds { IfErr result (λ e. e ≡ Paused Due) }
+    ensures gate { count_yes gate.new ≡ (if is_due_answer result then count_yes gate.old + 1 else count_yes gate.old) }
+    ensures heard { Heard (says gate.old) (count_asks gate.old) (count_asks gate.new) (is_due_answer result) }
+    ensures says { (n : ℕ) → says gate.new n ≡ says gate.old n }
+    ensures paces { paces gate.new ≡ paces gate.old }
+    ensures calm { calm gate.old ≡ true → (is_due_answer result ≡ false) × (calm gate.new ≡ true) }
+    ensures course { Consults (says gate.old) (count_asks gate.old) (count_asks gate.new) (count_yes gate.old) (count_yes gate.new) (is_due_answer result) (λ answers. answers ≡ asked_once (done && is_asked stack.now) (is_due_answer result)) }
+{
     if done {
         if is_asked(stack) {
             if gate.due() {

@@ -1,5 +1,5 @@
 //! The next entry of the innermost table, and the last recorded one of a table that was left unfinished.
-ghost use Rattle.std.specs.Prelude.{◌≡◌, ◌+◌, ◌<◌, ◌≤◌, ◌∷◌, ℕ, false, drop, length, IfOk, IfErr};
+ghost use Rattle.std.specs.Prelude.{◌≡◌, ◌+◌, ◌<◌, ◌≤◌, ◌∷◌, ℕ, true, false, drop, IfOk, IfErr};
 ghost use Rattle.step_maker.specs.Holds.{MayWork};
 ghost use Rattle.step_maker.specs.Moves.{Came, Met};
 ghost use Rattle.table_entries.specs.Asking.{IsEntryStop};
@@ -7,9 +7,8 @@ ghost use Rattle.answer_fits.specs.Answers.{misses};
 ghost use Rattle.answer_fits.specs.Pauses.{Progress};
 ghost use Rattle.partial_state.specs.Stacks.{left_on_top};
 ghost use Rattle.partial_state.specs.Weights.{entry_weight, weight};
-ghost use Rattle.table_courses.specs.Acquiring.{TookOn};
+ghost use Rattle.table_courses.specs.Acquiring.{Advanced, TookOn};
 ghost use Rattle.level_validate.specs.Acquiring.{outermost_work};
-ghost use Rattle.level_validate.specs.Courses.{EntersNext};
 ghost use Rattle.level_validate.specs.Forward.{Forward};
 ghost use Rattle.level_validate.specs.Leaving.{LeftWell};
 ghost use Rattle.level_validate.specs.Serving.{CarriesOn, StopsIn};
@@ -41,7 +40,7 @@ pub(crate) fn enter<P: Port>(port: &mut P, owner: u16, stack: &mut Stack) -> Res
     ensures less { IfOk result (λ _. weight stack.new < weight stack.old) }
     ensures serves { CarriesOn (P.value port.old) (P.value port.new) owner stack.old stack.new (misses (P.value port.old).post.machine result) }
     ensures stops { IfErr result (λ e. StopsIn (P.value port.old) (P.value port.new) owner stack.old e) }
-    ensures course { EntersNext owner (P.value port.old) stack.old (P.value port.new) stack.new result }
+    ensures course { Advanced owner (P.value port.old) stack.old (P.value port.new) stack.new result }
 {
     let Some(top) = stack.top() else {
         unreachable!()

@@ -59,10 +59,6 @@ pub refs-inside : (z : Sizes) (f : ℕ) → f < z.frames → number z (Refs f) <
 unfolding is_place
 refs-inside z f h = number-lt z (Refs f) (grind (arith, nat_tests))
 
-pub cell-inside : (z : Sizes) (f i : ℕ) → f < z.frames → i < 512 → number z (Cell f i) < size z
-unfolding is_place
-cell-inside z f i h b = number-lt z (Cell f i) (grind (arith, nat_tests))
-
 pub map-inside : (z : Sizes) (k : ℕ) → k < map_words z → number z (Map k) < size z
 unfolding is_place
 map-inside z k h = number-lt z (Map k) (grind (arith, nat_tests))
@@ -71,7 +67,7 @@ pub clock-inside : (z : Sizes) → number z Clock < size z
 unfolding is_place
 clock-inside z = number-lt z Clock refl
 
-pub ruleset inside = (pages-inside, priv-inside, vcpu-inside, m2p-inside, refs-inside, cell-inside, map-inside)
+pub ruleset inside = (pages-inside, priv-inside, vcpu-inside, m2p-inside, refs-inside, map-inside)
 
 -- ---- one more of each
 pub put_frame : (z : Sizes) (words : List ℕ) (m : Place → ℕ) (f : ℕ) → length words ≡ size z → f < z.frames → ((p : Place) → memory z words p ≡ with_m2p f m p) →
@@ -161,39 +157,6 @@ put_own z words m o f w l b lo hi ew h (Refs g) =
 put_own z words m o f w l b lo hi ew h p =
     let place : IsTrue (is_place z (Refs f)) = grind (arith, nat_tests) in memory_other z words (Refs f) p w place (λ s. cc) ∙ h p
 
-same_value : (a b : Bool) (x y : CellRun) (w : ℕ) → a ≡ b → x.value ≡ y.value → or_value (cond a (Some x) None) w ≡ or_value (cond b (Some y) None) w
-same_value true true x y w e d = d
-same_value false false x y w e d = refl
-same_value true false x y w e d = cc
-same_value false true x y w e d = cc
-
-only_cell : (f i n : ℕ) (c : CellRun) → c.first ≤ n → n < c.first + c.count → (f ≡ c.frame → i ≢ n) →
-    has_cell f i (record c { count = n + 1 - c.first }) ≡ has_cell f i (record c { count = n - c.first })
-only_cell f i n c a b e = grind (arith, nat_tests)
-
-pub put_cell : (z : Sizes) (words : List ℕ) (m : Place → ℕ) (c : CellRun) (i : ℕ) → length words ≡ size z → c.frame < z.frames → c.first ≤ i → i < c.first + c.count → i < 512 →
-    ((p : Place) → memory z words p ≡ with_cells (record c { count = i - c.first } ∷ []) m p) →
-    (p : Place) → memory z (set words (number z (Cell c.frame i)) c.value) p ≡ with_cells (record c { count = i + 1 - c.first } ∷ []) m p
-unfolding with_cells is_place
-put_cell z words m c i l b lo hi few h (Cell g j) =
-    let place : IsTrue (is_place z (Cell c.frame i)) = grind (arith, nat_tests) in
-    let was = h (Cell g j) in
-    elim (cases_eq g c.frame) [
-      | inl e ↦ elim (cases_eq j i) [
-        | inl s ↦
-            here z words (Cell g j) (Cell c.frame i) c.value place l (cc)
-            ∙ (let has : has_cell g j (record c { count = i + 1 - c.first }) ≡ true = grind (arith, nat_tests) in rw has refl)
-        | inr s ↦
-            memory_other z words (Cell c.frame i) (Cell g j) c.value place (λ r. s (cc)) ∙ was
-            ∙ same_value _ _ _ _ (m (Cell g j)) (sym (only_cell g j i c lo hi (λ r. s))) refl
-      ]
-      | inr e ↦
-          memory_other z words (Cell c.frame i) (Cell g j) c.value place (λ r. e (cc)) ∙ was
-          ∙ same_value _ _ _ _ (m (Cell g j)) (sym (only_cell g j i c lo hi (λ r. absurd (e r)))) refl
-    ]
-put_cell z words m c i l b lo hi few h p =
-    let place : IsTrue (is_place z (Cell c.frame i)) = grind (arith, nat_tests) in memory_other z words (Cell c.frame i) p c.value place (λ s. cc) ∙ h p
-
 -- a run before others
 or_word_more : (b : Bool) (o : Own) (x : Option Own) (w : ℕ) → or_word (cond b (Some o) None) (or_word x w) ≡ or_word (cond b (Some o) x) w
 or_word_more true o x w = refl
@@ -224,14 +187,6 @@ no_own o n m e p = refl
 
 pub whole_own : (o : Own) (n : ℕ) (m : Place → ℕ) (p : Place) → n ≡ o.first + o.count → with_owned (record o { count = n - o.first } ∷ []) m p ≡ with_owned (o ∷ []) m p
 whole_own o n m p e = let k : n - o.first ≡ o.count = omega arith in ap (λ (c : ℕ). with_owned (record o { count = c } ∷ []) m p) k
-
-none_cells : (c : CellRun) (n f i : ℕ) → n ≡ c.first → has_cell f i (record c { count = n - c.first }) ≡ false
-none_cells c n f i e = grind (arith, nat_tests)
-
-pub no_run : (c : CellRun) (n : ℕ) (m : Place → ℕ) → n ≡ c.first → (p : Place) → m p ≡ with_cells (record c { count = n - c.first } ∷ []) m p
-unfolding with_cells
-no_run c n m e (Cell f i) = rw (none_cells c n f i e) refl
-no_run c n m e p = refl
 
 -- a run after others were put
 same_owned : (os : List Own) (m n : Place → ℕ) → ((p : Place) → m p ≡ n p) → (p : Place) → with_owned os m p ≡ with_owned os n p

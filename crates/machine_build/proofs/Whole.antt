@@ -1,11 +1,12 @@
-use Rattle.std.proofs.Common.{◌≡◌, ℕ, ◌+◌, ◌*◌, ◌==◌, ◌&&◌, nat_lt, Bool, true, List, length, find, reverse, is_none, IsTrue, refl, ◌∙◌, ap, arith, Option, Some, None}
+use Rattle.std.proofs.Common.{◌≡◌, ℕ, if◌then◌else◌, replicate, ◌+◌, ◌*◌, ◌==◌, ◌&&◌, nat_lt, Bool, true, false, List, length, find, reverse, is_none, IsTrue, refl, ◌∙◌, ap, arith, Option, Some, None}
 use Rattle.std.proofs.Math.ListN.{set}
+use Rattle.std.proofs.lemmas.List.{get_or-replicate}
 use Rattle.std.proofs.lemmas.Bool.Decides.{nat_tests}
 use Rattle.xp_words.specs.RefWords.{ref_write}
 use Rattle.xp_words.specs.declared.place.Place.{Place}
 use Rattle.xp_words.specs.declared.place.Place.TheVariants.{Clock, Pages, Life, Vcpu, Refs, Kind, M2p, Cell, Map, Priv}
 use Rattle.xp_words.specs.Places.{Sizes, sizes_of, is_place, number, memory, size, map_words}
-use Rattle.xp_words.proofs.PlaceLaws.{memory_same, memory_other}
+use Rattle.xp_words.proofs.PlaceLaws.{memory_same, memory_other, number-lt}
 use Rattle.trace_text.specs.declared.trace.Trace.{Trace}
 use Rattle.trace_text.specs.declared.trace.Own.{Own}
 use Rattle.trace_text.specs.declared.trace.CellRun.{CellRun}
@@ -13,6 +14,15 @@ use Rattle.trace_text.specs.Counted.{has_frame}
 use Rattle.machine_build.specs.Puts.{all_zero, with_clock, with_domains, with_vcpus, with_m2p, with_owned, with_cells, with_map, or_word, or_value, is_zero}
 use Rattle.machine_build.specs.Opening.{has_cell, refs_in, value_in, opening_at}
 use Rattle.machine_build.proofs.Steps.{bits_below-same}
+
+word_there : (here : Bool) (w : ℕ) → (here ≡ true → w ≡ 0) → (if here then w else 0) ≡ 0
+word_there true w is = is refl
+word_there false w is = refl
+
+-- where each word is 0
+pub zero_words : (z : Sizes) (p : Place) → memory z (replicate (size z) 0) p ≡ all_zero p
+unfolding memory
+zero_words z p = word_there (is_place z p) _ (λ here. get_or-replicate (size z) (number z p) 0 0 (number-lt z p here))
 
 pub only_clock : (z : Sizes) (words : List ℕ) (clock : ℕ) → length words ≡ size z → (p : Place) → memory z (set words (number z Clock) clock) p ≡ with_clock clock (memory z words) p
 unfolding with_clock is_place

@@ -7,17 +7,18 @@ ghost use Rattle.xp_words.specs.Places.{sizes_of, size, memory, map_words};
 ghost use Rattle.machine_build.specs.Opening.{bits_below};
 ghost use Rattle.machine_build.specs.Puts.{is_zero, with_map};
 
+use sparse_words::SparseWords;
 use xp_words::Layout;
 
-fn is_free(layout: &Layout, frame: u32, words: &[u64]) -> bool
+fn is_free(layout: &Layout, frame: u32, words: &SparseWords) -> bool
     requires { length words.now ≡ size (sizes_of layout.now) }
     ensures { result ≡ is_zero layout.now.frames (memory (sizes_of layout.now) words.now) frame }
 {
-    frame < layout.frames && words[layout.refs_place(frame) as usize] == 0
+    frame < layout.frames && words.get(layout.refs_place(frame)) == 0
 }
 
 /// Word `number` of the map: bit b is set where frame 64 * number + b is free.
-fn free_bits(layout: &Layout, number: u32, words: &[u64]) -> u64
+fn free_bits(layout: &Layout, number: u32, words: &SparseWords) -> u64
     requires number { number < map_words (sizes_of layout.now) }
     requires count { length words.now ≡ size (sizes_of layout.now) }
     ensures { result ≡ bits_below 64 (λ b. is_zero layout.now.frames (memory (sizes_of layout.now) words.now) (64 * number + b)) }
@@ -34,11 +35,13 @@ fn free_bits(layout: &Layout, number: u32, words: &[u64]) -> u64
 }
 
 /// The reference words stand already.
-pub fn put_map(layout: &Layout, words: &mut [u64])
+pub fn put_map(layout: &Layout, words: &mut SparseWords)
     requires count { length words.old ≡ size (sizes_of layout.now) }
-    ensures { (p : Place) → memory (sizes_of layout.now) words.new p ≡ with_map (map_words (sizes_of layout.now)) layout.now.frames (memory (sizes_of layout.now) words.old) p }
+    ensures count { length words.new ≡ length words.old }
+    ensures words { (p : Place) → memory (sizes_of layout.now) words.new p ≡ with_map (map_words (sizes_of layout.now)) layout.now.frames (memory (sizes_of layout.now) words.old) p }
 {
     for number in 0..layout.map_words() {
-        words[layout.map_place(number) as usize] = free_bits(layout, number, words);
+        let bits = free_bits(layout, number, words);
+        words.set(layout.map_place(number), bits);
     }
 }

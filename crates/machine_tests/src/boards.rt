@@ -128,7 +128,7 @@ fn exchange<P: Port>(port: &mut P, frame: u32, expected: u64) -> Option<Result<(
         allocated,
         count,
     };
-    Some(raise_refs(port, frame, from))
+    Some(raise_refs(port, frame, from, expected))
 }
 
 // The own ask as a turn of vCPU 0 begins, the clock before and as its answer ends, and a frame's kind word.
@@ -240,7 +240,8 @@ fn an_update_is_ok_on_an_own_frame_and_leaves_its_count(rt: HostRuntime) -> Resu
         0
     };
     let words = board.into_words();
-    assert!(rt; words.get(m2p as usize) == Some(&7));
+    assert!(rt; m2p < words.len());
+    assert!(rt; words.get(m2p) == 7);
     Ok(())
 }
 

@@ -117,13 +117,10 @@ fn flushes_of(board: PlainBoard, vcpu: u32) -> Option<(u64, u64, u64)> {
     let asked = board.layout().vcpu_place(vcpu, 4);
     let flushed = board.layout().vcpu_place(vcpu, 5);
     let words = board.into_words();
-    match (
-        words.get(0),
-        words.get(asked as usize),
-        words.get(flushed as usize),
-    ) {
-        (Some(clock), Some(asked), Some(flushed)) => Some((*clock, *asked, *flushed)),
-        _ => None,
+    if asked < words.len() && flushed < words.len() {
+        Some((words.get(0), words.get(asked), words.get(flushed)))
+    } else {
+        None
     }
 }
 
@@ -162,13 +159,14 @@ fn count_more<P: Port>(port: &mut P, f: u64, domain: u16) -> Option<u64>
     let Ok(again) = get_ref(port, f, domain) else {
         return None;
     };
-    let Some(kind) = KindWord::read(look_kind(port, again)) else {
+    let word = look_kind(port, again);
+    let Some(kind) = KindWord::read(word) else {
         return None;
     };
     if !kind.validated || kind.number == 0 || kind.number >= u64::from(port.layout().limit) {
         return None;
     }
-    if count_type(port, again, kind).is_err() {
+    if count_type(port, again, kind, word).is_err() {
         return None;
     }
     let Some(counted) = KindWord::read(look_kind(port, again)) else {

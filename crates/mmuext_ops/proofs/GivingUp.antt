@@ -1,9 +1,7 @@
 -- A typed reference to a live table is given back: its steps, and what is left in hand.
 use Rattle.std.proofs.Common.{◌≡◌, ℕ, ◌+◌, ◌<◌, ◌≤◌, Bool, true, false, List, [], ◌∷◌, length, Some, None, IsTrue, refl, sym, ap, ◌∙◌, subst, arith, inl, inr}
-use Rattle.std.proofs.lemmas.Bool.Decides.{nat_tests}
 use Rattle.xp_words.specs.KindWords.{is_kind, kind_fields, kind_write}
 use Rattle.xp_words.specs.Places.{sizes_of}
-use Rattle.xp_words.specs.declared.kind.KindWord.{KindWord}
 use Rattle.xp_words.specs.declared.place.Place.TheVariants.{Kind, Vcpu}
 use Rattle.xp_board.specs.declared.holdings.Holdings.{Holdings}
 use Rattle.xp_board.specs.declared.holdings.Liveness.TheVariants as lives
@@ -17,7 +15,7 @@ use Rattle.xp_board.specs.declared.step.StepKind.TheVariants as kinds
 use Rattle.xp_board.specs.Hands.{owner_by, owner_by_typed, owner_from, ref_owner, ref_to, refs_to, typed_on, typed_owner, typed_to, without_ref, without_typed, without_work, work_on}
 use Rattle.xp_board.specs.Knowledge.{knows_live}
 use Rattle.xp_board.specs.KindSteps.{MayDrop, live_typed}
-use Rattle.xp_board.specs.Readings.{domain_of, is_closing, is_dead}
+use Rattle.xp_board.specs.Readings.{domain_of, is_closing}
 use Rattle.xp_board.specs.Told.{Post, PortValue}
 use Rattle.board_lemmas.proofs.ListCounts.{first_by-cons_here, newest_held}
 use Rattle.step_maker.specs.Holds.{Holds, still}
@@ -41,8 +39,9 @@ use Rattle.partial_state.specs.Levels.{level_type}
 use Rattle.partial_state.proofs.LevelFacts.{level_type-table, level_type-typed}
 use Rattle.table_words.specs.OldWords.{kept_in_old, old_place}
 use Rattle.table_words.specs.declared.old_words.OldWord.TheVariants.{First}
+use Rattle.level_release.proofs.ServingTables.{closing_alive}
 use Rattle.mmuext_ops.proofs.Marking.{mark_keeps}
-use Rattle.mmuext_ops.specs.Holding.{GivesUp, HoldsTable, named_old, untyped}
+use Rattle.mmuext_ops.specs.Holding.{GivesTableUp, HoldsTable, named_old, untyped_hand}
 
 -- ---- the reference
 module _ (v : PortValue) (f level : ℕ) (holds : HoldsTable v f level) where
@@ -86,7 +85,7 @@ module _ (v : PortValue) (f level : ℕ) (holds : HoldsTable v f level) where
             spares = apart_spares f u.holdings (ap (λ (q : PortValue). work_on f q.holdings.works) counted ∙ drops.lowers.apart);
           }
 
-      pub shared_hand : (w : PortValue) → Holds u w (gave f u.holdings) → Holds v w (untyped v.holdings)
+      pub shared_hand : (w : PortValue) → Holds u w (gave f u.holdings) → Holds v w (untyped_hand v.holdings)
       shared_hand w put =
           put ∙ ap (λ (q : PortValue). still (record q { holdings = gave f q.holdings })) counted
           ∙ ap (λ (rs : List Reference). still (record v { holdings = record v.holdings { refs = rs; typed = without_typed f v.holdings.typed } }))
@@ -148,7 +147,7 @@ module _ (v : PortValue) (f level : ℕ) (holds : HoldsTable v f level) where
 
         module _ (x : PortValue) where
           -- its own mark keeps the reference
-          pub marked_hand : Holds u x (left u f (partial_kind (level_type level) true false 512 0)) → Holds v x (untyped v.holdings)
+          pub marked_hand : Holds u x (left u f (partial_kind (level_type level) true false 512 0)) → Holds v x (untyped_hand v.holdings)
           marked_hand leaves =
               leaves ∙ ap (λ (h : Holdings). still (record u { holdings = h })) (left_kept_closing u f (level_type level) closing here false 512 0 is_closed (spelled true) owner_left)
               ∙ ap (λ (rs : List Reference). still (record u { holdings = record u.holdings { refs = rs; works = without_work f u.holdings.works } })) refs_gone
@@ -172,15 +171,12 @@ module _ (v : PortValue) (f level : ℕ) (holds : HoldsTable v f level) where
             pub still_held : 0 < typed_to f x.holdings.typed
             still_held = subst (λ ys. 0 < typed_to f ys) (sym (ap (λ (q : PortValue). q.holdings.typed) unmarked_hand)) (typed_held f new_count [] refl)
 
-            pub named_hand : (w : PortValue) → Holds x w (kept_in_old First f x.holdings) → Holds v w (named_old f (untyped v.holdings))
+            pub named_hand : (w : PortValue) → Holds x w (kept_in_old First f x.holdings) → Holds v w (named_old f (untyped_hand v.holdings))
             named_hand w names =
                 names ∙ ap (λ (q : PortValue). still (record q { holdings = kept_in_old First f q.holdings })) unmarked_hand
                 ∙ ap (λ (ys : List TypedReference). still (record v { holdings = record v.holdings { typed = ys; old0 = Some (f + 1) } })) (without_newest (λ (y : TypedReference). y.frame) f new_count [] (new_count ∷ []) refl refl)
 
 -- ---- its steps
-closed_lives : (k : KindWord) → IsTrue (is_closing k) → is_dead k ≡ false
-closed_lives k closing = grind (arith, nat_tests)
-
 module _ (v u w : PortValue) (f level : ℕ) (holds : HoldsTable v f level) (low : 1 ≤ level) where
   pub shared_serves : Serves v u (of_back f) [] → Serves u w (of_back f) [] → Serves v w (of_back f) []
   shared_serves drop put = serves_then v u w (of_back f) [] [] drop put
@@ -192,7 +188,7 @@ module _ (v u w : PortValue) (f level : ℕ) (holds : HoldsTable v f level) (low
         let e = closing_from f drops.found v.holdings in
         let l = partial_kind (level_type level) kept false 512 0 in
         mark_keeps found (kind_write l) (kind_fields e.word) l (ap (λ y. kind_fields y) (work_word u.post.machine u.post.vcpu u.holdings f found e store.finds (here v f level holds u drops))) (fields_write l (spelled v f level holds u drops low kept))
-        (sym (kind_is v f level holds u drops)) (closed_lives (kind_fields e.word) (is_closed v f level holds u drops))
+        (sym (kind_is v f level holds u drops)) (closing_alive (kind_fields e.word) (is_closed v f level holds u drops))
 
     pub left_serves : Serves v u (of_back f) [] → Serves v w (of_back f) []
     left_serves drop = serves_step v u w (of_back f) [] _ _ _ _ _ drop store (backs_itself v.post.machine v.post.vcpu f _, keeps)
@@ -204,10 +200,10 @@ named_serves v u w r ds word before store =
     serves_step v u w r ds _ _ _ _ _ before here (inl (refl, inl (λ e. cc)))
 
 -- ---- by whether a mark is to keep it
-pub gone_by : (v w : PortValue) (f : ℕ) (kept : Bool) → Holds v w (untyped v.holdings) → GivesUp v w f kept
+pub gone_by : (v w : PortValue) (f : ℕ) (kept : Bool) → Holds v w (untyped_hand v.holdings) → GivesTableUp v w f kept
 gone_by v w f true gone = gone
 gone_by v w f false gone = inl gone
 
-pub named_by : (v w : PortValue) (f : ℕ) (kept : Bool) → kept ≡ false → Holds v w (named_old f (untyped v.holdings)) → GivesUp v w f kept
+pub named_by : (v w : PortValue) (f : ℕ) (kept : Bool) → kept ≡ false → Holds v w (named_old f (untyped_hand v.holdings)) → GivesTableUp v w f kept
 named_by v w f true off named = absurd cc
 named_by v w f false off named = inr named

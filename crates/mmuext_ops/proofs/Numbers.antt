@@ -6,15 +6,15 @@ use Rattle.xp_board.specs.Told.{PortValue}
 use Rattle.answer_fits.specs.Answers.{Stops}
 use Rattle.answer_fits.proofs.Piecing.{serves_nothing}
 use Rattle.mmuext_ops.specs.Course.{PerformsBy}
-use Rattle.mmuext_ops.specs.Elements.{ServesElement, request_of, told}
+use Rattle.mmuext_ops.specs.Elements.{ServesElement, ext_request, told}
 use Rattle.mmuext_ops.specs.declared.element.Element.TheVariants.{Unknown}
 use Rattle.mmuext_ops.proofs.Rests.{unasked}
 
 module _ (v : PortValue) (d : ℕ) where
   pub unknown_serves : ServesElement v v d Unknown (Err (Refused BadCommand))
-  unknown_serves = ([], told Unknown (Err (Refused BadCommand)), serves_nothing v (request_of d Unknown (Err (Refused BadCommand))))
+  unknown_serves = ([], told Unknown (Err (Refused BadCommand)), serves_nothing v (ext_request d Unknown (Err (Refused BadCommand))))
 
-  pub unknown_stops : Stops v v (request_of d Unknown (Err (Refused BadCommand))) (Refused BadCommand)
+  pub unknown_stops : Stops v v (ext_request d Unknown (Err (Refused BadCommand))) (Refused BadCommand)
   unfolding Stops
   unknown_stops = refl
 

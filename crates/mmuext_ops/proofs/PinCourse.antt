@@ -11,9 +11,9 @@ use Rattle.frame_words.specs.Plain.{put}
 use Rattle.frame_words.specs.Refs.{IsRefStop}
 use Rattle.table_courses.specs.Acquiring.{Acquired, GaveRef, GotRef}
 use Rattle.level_validate.specs.Acquiring.{AcquiresBy}
-use Rattle.mmuext_ops.specs.Course.{IsPinnedAs, PinEnds, PinsBy, Saw}
+use Rattle.mmuext_ops.specs.Course.{IsPinnedAs, PinEnds, PinsBy, SawKind}
 use Rattle.mmuext_ops.specs.Course as course
-use Rattle.mmuext_ops.specs.Elements.{is_due_answer, is_due_stop}
+use Rattle.level_release.specs.Asking.{is_due_answer, is_due_stop}
 use Rattle.mmuext_ops.specs.Holding.{IsPinEnd}
 use Rattle.mmuext_ops.proofs.Pinned.{pin_undue}
 use Rattle.mmuext_ops.proofs.Rests.{reference_undue, same_due, unasked}
@@ -31,12 +31,12 @@ module _ (v w : PortValue) (d f level : ℕ) (says : ℕ → Bool) (asks agreed 
       subst (λ y. PinsBy v w d f level says asks asks agreed agreed y) (sym is)
       (record { answers = []; course = course.unreferred stop got; gate = unasked says asks agreed; due = not_due (is_due_stop stop) [] (reference_undue stop kind) })
 
-  pub before_course : (a b : PortValue) (x : ℕ) → GotRef v a f d (Ok f) → Saw a b f x → GaveRef b w f → IsPinnedAs level x → PinsBy v w d f level says asks asks agreed agreed (Err (Refused (AlreadyPinned x)))
+  pub before_course : (a b : PortValue) (x : ℕ) → GotRef v a f d (Ok f) → SawKind a b f x → GaveRef b w f → IsPinnedAs level x → PinsBy v w d f level says asks asks agreed agreed (Err (Refused (AlreadyPinned x)))
   before_course a b x got saw gave typed =
       record { answers = []; course = course.pinned_before a b x got saw gave typed; gate = unasked says asks agreed; due = not_due false [] refl }
 
 -- behind the look
-module _ (v a b c : PortValue) (d f level x : ℕ) (got : GotRef v a f d (Ok f)) (saw : Saw a b f x) (gave : GaveRef b c f) (other : IsPinnedAs level x → ⊥) (says : ℕ → Bool) (before after agreed agrees : ℕ) where
+module _ (v a b c : PortValue) (d f level x : ℕ) (got : GotRef v a f d (Ok f)) (saw : SawKind a b f x) (gave : GaveRef b c f) (other : IsPinnedAs level x → ⊥) (says : ℕ → Bool) (before after agreed agrees : ℕ) where
   pub refused_course : (e : PortValue) (answer : Result (Unit {0}) Stop) (stop : Stop) → answer ≡ Err stop → AcquiresBy c e f d level says before after agreed agrees (Err stop) →
       PinsBy v e d f level says before after agreed agrees answer
   refused_course e answer stop is by =

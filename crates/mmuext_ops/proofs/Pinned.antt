@@ -28,8 +28,9 @@ use Rattle.partial_state.specs.Levels.{level_type}
 use Rattle.level_validate.specs.Acquiring.{LeavesAcquired, of_acquire}
 use Rattle.level_validate.specs.Acquiring as acquires
 use Rattle.level_validate.specs.Unwinding.{own_domain}
-use Rattle.mmuext_ops.specs.Elements.{HasDeeds, LeavesElement, ServesElement, is_due_answer, is_due_stop, of_pin, told}
-use Rattle.mmuext_ops.specs.Holding.{HoldsTable, IsPinEnd, LeavesTable, ServesLive, named_old, untyped}
+use Rattle.level_release.specs.Asking.{is_due_answer, is_due_stop}
+use Rattle.mmuext_ops.specs.Elements.{HasDeeds, LeavesElement, ServesElement, of_pin, told}
+use Rattle.mmuext_ops.specs.Holding.{HoldsTable, IsPinEnd, LeavesTable, ServesLive, named_old, untyped_hand}
 use Rattle.mmuext_ops.specs.declared.element.Element.TheVariants.{Pin}
 use Rattle.mmuext_ops.proofs.Looked.{fields, found_with, owner_known}
 use Rattle.mmuext_ops.proofs.Within.{same_no_more, within_table}
@@ -167,15 +168,15 @@ module _ (v c e : PortValue) (f d level : ℕ) (same : Same v c) where
 
   -- it was, and its typed reference is gone
   module _ (g : ℕ) (at : g ≡ f) (rests : Rests v) (holds : FlushedHolds c e (record c.holdings { typed = live_typed g (level_type level) (owners.Of d) ∷ c.holdings.typed })) (w : PortValue) where
-    without : quiet (record e { holdings = untyped e.holdings }) ≡ quiet v
+    without : quiet (record e { holdings = untyped_hand e.holdings }) ≡ quiet v
     without =
-        ap (λ (q : PortValue). quiet (record q { holdings = untyped q.holdings })) holds ∙ ap (λ (q : PortValue). quiet (record q { holdings = untyped q.holdings })) same
+        ap (λ (q : PortValue). quiet (record q { holdings = untyped_hand q.holdings })) holds ∙ ap (λ (q : PortValue). quiet (record q { holdings = untyped_hand q.holdings })) same
         ∙ ap (λ (ys : List TypedReference). quiet (record v { holdings = record v.holdings { typed = ys } })) (sym rests.empty.typed)
 
-    gone_hand : Holds e w (untyped e.holdings) → FlushedHolds v w v.holdings
+    gone_hand : Holds e w (untyped_hand e.holdings) → FlushedHolds v w v.holdings
     gone_hand gone = ap quiet gone ∙ without
 
-    names_hand : Holds e w (named_old g (untyped e.holdings)) → FlushedHolds v w (record v.holdings { old0 = Some (f + 1) })
+    names_hand : Holds e w (named_old g (untyped_hand e.holdings)) → FlushedHolds v w (record v.holdings { old0 = Some (f + 1) })
     names_hand names =
         ap quiet names ∙ ap (λ (q : PortValue). quiet (record q { holdings = named_old g q.holdings })) without ∙ ap (λ k. quiet (record v { holdings = record v.holdings { old0 = Some (k + 1) } })) at
 

@@ -17,8 +17,7 @@ use Rattle.xp_board.specs.declared.step.Act.TheVariants.{Cas, Load}
 use Rattle.xp_board.specs.declared.step.StepKind.TheVariants as kinds
 use Rattle.xp_board.specs.Hands.{typed_on, without_typed}
 use Rattle.xp_board.specs.Knowledge.{knows_owner}
-use Rattle.xp_board.specs.KindSteps.{MayPin, live_typed, still_looking}
-use Rattle.xp_board.specs.Lists.{kept_of}
+use Rattle.xp_board.specs.KindSteps.{MayPin, live_typed}
 use Rattle.xp_board.specs.Readings.{domain_of, is_live}
 use Rattle.xp_board.specs.Spelling.{is_kind_in}
 use Rattle.xp_board.specs.Told.{Post, PortValue}
@@ -41,10 +40,11 @@ use Rattle.partial_state.specs.Levels.{level_type}
 use Rattle.partial_state.proofs.LevelFacts.{level_type-table}
 use Rattle.table_words.specs.Pins.{gave_pin, pinned_kind}
 use Rattle.table_words.proofs.PinWords.{pinned_is}
+use Rattle.table_releases.proofs.HandLive.{looks_none}
 use Rattle.mmuext_ops.specs.Elements.{of_pin, raced_pin, told}
 use Rattle.mmuext_ops.specs.Course.{GivenUp, PinEnds, SetsPin}
 use Rattle.mmuext_ops.specs.Course as ends
-use Rattle.mmuext_ops.specs.Holding.{GivesUp, HoldsTable, ServesLive, named_old, untyped}
+use Rattle.mmuext_ops.specs.Holding.{GivesTableUp, HoldsTable, ServesLive, named_old, untyped_hand}
 use Rattle.level_validate.specs.Unwinding.{own_domain}
 use Rattle.mmuext_ops.proofs.GivingUp.{held, live, may_drop, none_left}
 use Rattle.mmuext_ops.proofs.Marking.{live_undead, lost_deeds, lost_misses, lost_stops, mark_keeps, pins_deed, tried}
@@ -68,13 +68,9 @@ holds_still v w f level same holds =
       };
     }
 
-none_kept : (f w : ℕ) (xs : List Looking) → xs ≡ [] → still_looking f w xs ≡ xs
-unfolding kept_of
-none_kept f w xs none = ap (λ ys. still_looking f w ys) none ∙ sym none
-
 -- where the vCPU looks at no frame, an exchange ends no looking
 pub looks_same : (f w : ℕ) (h : Holdings) → h.looking ≡ [] → looked_at f w h ≡ h
-looks_same f w h none = ap (λ (xs : List Looking). record h { looking = xs }) (none_kept f w h.looking none)
+looks_same f w h none = ap (λ (xs : List Looking). record h { looking = xs }) (looks_none f w h.looking none)
 
 known_by_typed : (z : Sizes) (f o : ℕ) (h : Holdings) (e : TypedReference) → typed_on f h.typed ≡ Some e → e.owner ≡ owners.Of o → IsTrue (knows_owner z f o h)
 unfolding knows_owner
@@ -86,7 +82,7 @@ owner_known v f level holds =
     known_by_typed (sizes_of v.post.machine) f (own_domain v) v.holdings e (ap (λ ys. typed_on f ys) holds.typed ∙ first_by-cons_here (λ (y : TypedReference). y.frame) f e [] refl) refl
 
 -- the reference went into the pin
-pub pinned_hand : (v a b : PortValue) (f level : ℕ) (k : KindWord) → HoldsTable v f level → Same v a → Holds a b (gave_pin f k a.holdings) → Holds v b (untyped v.holdings)
+pub pinned_hand : (v a b : PortValue) (f level : ℕ) (k : KindWord) → HoldsTable v f level → Same v a → Holds a b (gave_pin f k a.holdings) → Holds v b (untyped_hand v.holdings)
 pinned_hand v a b f level k holds same pins =
     pins ∙ ap (λ (h : Holdings). still (record a { holdings = record h { typed = without_typed f h.typed } })) (looks_same f _ a.holdings (holds_still v a f level same holds).others.looking)
     ∙ ap (λ (ys : List TypedReference). still (record a { holdings = record a.holdings { typed = ys } })) (none_left a f level (holds_still v a f level same holds))
@@ -96,10 +92,10 @@ pinned_hand v a b f level k holds same pins =
 pub lost_hand : (a b : PortValue) (f level found : ℕ) → HoldsTable a f level → Holds a b (looked_at f found a.holdings) → Holds a b a.holdings
 lost_hand a b f level found holds looks = looks ∙ ap (λ (h : Holdings). still (record a { holdings = h })) (looks_same f found a.holdings holds.others.looking)
 
-pub gives_from : (v a w : PortValue) (f : ℕ) (kept : Bool) → Same v a → GivesUp a w f kept → GivesUp v w f kept
-gives_from v a w f true same gone = gone ∙ ap (λ (q : PortValue). still (record q { holdings = untyped q.holdings })) same
-gives_from v a w f false same (inl gone) = inl (gone ∙ ap (λ (q : PortValue). still (record q { holdings = untyped q.holdings })) same)
-gives_from v a w f false same (inr names) = inr (names ∙ ap (λ (q : PortValue). still (record q { holdings = named_old f (untyped q.holdings) })) same)
+pub gives_from : (v a w : PortValue) (f : ℕ) (kept : Bool) → Same v a → GivesTableUp a w f kept → GivesTableUp v w f kept
+gives_from v a w f true same gone = gone ∙ ap (λ (q : PortValue). still (record q { holdings = untyped_hand q.holdings })) same
+gives_from v a w f false same (inl gone) = inl (gone ∙ ap (λ (q : PortValue). still (record q { holdings = untyped_hand q.holdings })) same)
+gives_from v a w f false same (inr names) = inr (names ∙ ap (λ (q : PortValue). still (record q { holdings = named_old f (untyped_hand q.holdings) })) same)
 
 -- ---- the word that the look found
 module _ (v a : PortValue) (f level x : ℕ) (frame : f < v.post.machine.frames) (holds : HoldsTable v f level) (look : Moves v a (Kind f) Load kinds.Look None x) (same : Same v a) where

@@ -1,12 +1,12 @@
 -- A table whose pin was taken off is released: the hand before and behind, and the steps.
-use Rattle.std.proofs.Common.{◌≡◌, ℕ, ◌+◌, List, [], ◌∷◌, ◌++◌, Some, Result, Ok, Err, refl, sym, ap, ◌∙◌, subst, inl, inr}
+use Rattle.std.proofs.Common.{◌≡◌, ℕ, ◌+◌, List, [], ◌∷◌, ◌++◌, Some, Result, Ok, Err, IfErr, refl, sym, ap, ◌∙◌, subst, inl, inr}
 use Rattle.xp_words.specs.KindWords.{kind_write}
 use Rattle.xp_words.specs.Machine.{Machine}
 use Rattle.xp_words.specs.Places.{sizes_of}
 use Rattle.xp_words.specs.declared.kind.KindWord.{KindWord}
-use Rattle.xp_words.specs.declared.reply.Pause.TheVariants as pauses
+use Rattle.xp_words.specs.declared.reply.Pause.TheVariants.{Due}
 use Rattle.xp_words.specs.declared.reply.Stop.{Stop}
-use Rattle.xp_words.specs.declared.reply.Stop.TheVariants.{Paused, Refused}
+use Rattle.xp_words.specs.declared.reply.Stop.TheVariants.{Paused}
 use Rattle.xp_board.specs.declared.holdings.Holdings.{Holdings}
 use Rattle.xp_board.specs.declared.holdings.OwnerFound.TheVariants as owners
 use Rattle.xp_board.specs.declared.holdings.Reference.{Reference}
@@ -28,31 +28,26 @@ use Rattle.kind_words.proofs.Leaving.{without_newest}
 use Rattle.table_words.specs.Pins.{took_pin, unpinned_kind}
 use Rattle.level_release.specs.Asking.{of_release}
 use Rattle.level_release.specs.Asking as releases
-use Rattle.level_release.specs.Holding.{HoldsLive, LeavesReleased}
-use Rattle.mmuext_ops.specs.Elements.{HasDeeds, LeavesElement, ServesElement, lost_release, request_of, told}
+use Rattle.level_release.specs.Holding.{HoldsLive, LeavesUnheld}
+use Rattle.mmuext_ops.specs.Elements.{HasDeeds, LeavesElement, ServesElement, ext_request, told}
 use Rattle.mmuext_ops.specs.declared.element.Element.TheVariants.{Unpin}
 use Rattle.mmuext_ops.proofs.PinningLive.{looks_same}
 use Rattle.mmuext_ops.proofs.Within.{within_release}
 
 -- ---- the steps
-has_release : (n : Machine) (f : ℕ) (answer : Result (Unit {0}) Stop) → HasDeeds n (Unpin f) (Ok tt) (misses n answer ++ (Unpins f ∷ []))
-has_release n f (Ok done) = told (Unpin f) (Ok tt)
-has_release n f (Err (Refused x)) = told (Unpin f) (Ok tt)
-has_release n f (Err (Paused (pauses.Lost place expected found))) = lost_release f place expected found
-has_release n f (Err (Paused pauses.Due)) = told (Unpin f) (Ok tt)
-has_release n f (Err (Paused (pauses.Busy g found))) = told (Unpin f) (Ok tt)
-has_release n f (Err (Paused (pauses.Flush vcpu stamp found))) = told (Unpin f) (Ok tt)
-has_release n f (Err (Paused (pauses.Alive vcpu found))) = told (Unpin f) (Ok tt)
+has_release : (n : Machine) (f : ℕ) (answer : Result (Unit {0}) Stop) → IfErr answer (λ e. e ≡ Paused Due) → HasDeeds n (Unpin f) (Ok tt) (misses n answer ++ (Unpins f ∷ []))
+has_release n f (Ok done) due = told (Unpin f) (Ok tt)
+has_release n f (Err e) due = rw due (told (Unpin f) (Ok tt))
 
-pub released_serves : (v r w : PortValue) (f d g : ℕ) (answer : Result (Unit {0}) Stop) → g ≡ f → Serves v r (request_of d (Unpin f) (Ok tt)) (Unpins f ∷ []) →
-    Serves r w (of_release g d d answer) (misses r.post.machine answer) → ServesElement v w d (Unpin f) (Ok tt)
-released_serves v r w f d g answer at before a =
-    let came = serves_came v r (request_of d (Unpin f) (Ok tt)) (Unpins f ∷ []) before in
+pub released_serves : (v r w : PortValue) (f d g : ℕ) (answer : Result (Unit {0}) Stop) → g ≡ f → Serves v r (ext_request d (Unpin f) (Ok tt)) (Unpins f ∷ []) →
+    Serves r w (of_release g d d answer) (misses r.post.machine answer) → IfErr answer (λ e. e ≡ Paused Due) → ServesElement v w d (Unpin f) (Ok tt)
+released_serves v r w f d g answer at before a due =
+    let came = serves_came v r (ext_request d (Unpin f) (Ok tt)) (Unpins f ∷ []) before in
     let of_frame : Serves r w (of_release f d d answer) (misses v.post.machine answer) =
     subst (λ (p : Post). Serves r w (of_release f d d answer) (misses p.machine answer)) (came_post v r came) (subst (λ k. Serves r w (of_release k d d answer) (misses r.post.machine answer)) at a) in (
       misses v.post.machine answer ++ (Unpins f ∷ []),
-      has_release v.post.machine f answer,
-      serves_inner v r w (request_of d (Unpin f) (Ok tt)) (of_release f d d answer) (Unpins f ∷ []) (misses v.post.machine answer)
+      has_release v.post.machine f answer due,
+      serves_inner v r w (ext_request d (Unpin f) (Ok tt)) (of_release f d d answer) (Unpins f ∷ []) (misses v.post.machine answer)
           (within_release v.post.machine v.post.vcpu f d (releases.is_due_answer answer) (Met r w) (Met v w) (λ m x. met_after v r w m came x)) before of_frame,
     )
 
@@ -104,7 +99,7 @@ module _ (v a b q r : PortValue) (d g : ℕ) (rests : Rests v) (taken : Holds v 
           ap (λ (y : PortValue). quiet (record y { holdings = record y.holdings { typed = [] } })) live_hand
           ∙ ap (λ (ys : List TypedReference). quiet (record v { holdings = record v.holdings { typed = ys } })) (sym rests.empty.typed)
 
-      pub released_hand : (answer : Result (Unit {0}) Stop) → LeavesReleased r w g answer → LeavesElement v w (Unpin f) (Ok tt)
+      pub released_hand : (answer : Result (Unit {0}) Stop) → LeavesUnheld r w g answer → LeavesElement v w (Unpin f) (Ok tt)
       released_hand (Ok done) leaves = inl (ap quiet leaves ∙ without)
       released_hand (Err e) leaves =
           inr (ap quiet leaves ∙ ap (λ (y : PortValue). quiet (record y { holdings = record y.holdings { old0 = Some (g + 1) } })) without ∙ ap (λ k. quiet (record v { holdings = record v.holdings { old0 = Some (k + 1) } })) at)

@@ -9,7 +9,8 @@ use Rattle.xp_preempt.specs.Gates.{Consulted, Gives, asks_on, yeses}
 use Rattle.step_maker.specs.Holds.{FlushedHolds, Rests}
 use Rattle.frame_words.specs.Refs.{IsRefStop}
 use Rattle.level_validate.specs.Acquiring as acquires
-use Rattle.mmuext_ops.specs.Elements.{LeavesElement, is_due_stop}
+use Rattle.level_release.specs.Asking.{is_due_stop}
+use Rattle.mmuext_ops.specs.Elements.{LeavesElement}
 use Rattle.mmuext_ops.specs.declared.element.Element.{Element}
 use Rattle.mmuext_ops.specs.declared.element.Element.TheVariants.{Pin, Unknown, Unpin}
 

@@ -1,5 +1,5 @@
 -- An unpin: what its words tell, its calls one behind the other, what is in hand behind each, and why it is not done.
-use Rattle.std.proofs.Common.{◌≡◌, ◌≢◌, ℕ, ◌<◌, nat_lt, not, Bool, true, false, List, [], ◌∷◌, ◌++◌, ◌^◌, Some, None, Result, Ok, Err, is_some, IfErr, IsTrue, refl, sym, ap, ◌∙◌, subst, arith}
+use Rattle.std.proofs.Common.{◌≡◌, ◌≢◌, ℕ, ◌<◌, nat_lt, true, false, List, [], ◌∷◌, ◌++◌, ◌^◌, Some, None, Result, Ok, Err, is_some, IfErr, IsTrue, refl, sym, ap, ◌∙◌, subst, arith}
 use Rattle.std.proofs.lemmas.Bool.{and_parts}
 use Rattle.std.proofs.lemmas.Bool.Decides.{nat_tests}
 use Rattle.xp_words.specs.KindWords.{has_form, is_kind, kind_fields, kind_read, kind_write}
@@ -32,7 +32,7 @@ use Rattle.kind_words.proofs.KindWriting.{fields_write}
 use Rattle.table_words.specs.Pins.{unpinned_kind}
 use Rattle.table_words.proofs.PinWords.{unpinned_is}
 use Rattle.mmuext_ops.specs.Course.{TakesPinOff}
-use Rattle.mmuext_ops.specs.Elements.{ServesElement, raced_unpin, request_of, told}
+use Rattle.mmuext_ops.specs.Elements.{ServesElement, raced_unpin, ext_request, told}
 use Rattle.mmuext_ops.specs.declared.element.Element.TheVariants.{Unpin}
 use Rattle.mmuext_ops.proofs.Looked.{fields, fits, found_with, look_there, owner_known, owner_still, spelled, written}
 use Rattle.mmuext_ops.proofs.Marking.{live_undead, lost_deeds, lost_misses, lost_stops, mark_keeps, tried, unpins_deed}
@@ -51,16 +51,16 @@ may_unpin k is on = record { live = pinned_lives k is on; pinned = on; left = re
 
 -- ---- by the answer
 module _ (v w : PortValue) (f d : ℕ) (answer : Result (Unit {0}) Stop) (e : Stop) (is : answer ≡ Err e) where
-  pub serves_as : Serves v w (request_of d (Unpin f) (Err e)) (missed v.post.machine e) → ServesElement v w d (Unpin f) answer
+  pub serves_as : Serves v w (ext_request d (Unpin f) (Err e)) (missed v.post.machine e) → ServesElement v w d (Unpin f) answer
   serves_as a = subst (λ (y : Result (Unit {0}) Stop). ServesElement v w d (Unpin f) y) (sym is) (missed v.post.machine e, told _ _, a)
 
-  pub stops_as : Stops v w (request_of d (Unpin f) (Err e)) e → IfErr answer (λ k. Stops v w (request_of d (Unpin f) answer) k)
-  stops_as a = subst (λ (y : Result (Unit {0}) Stop). IfErr y (λ k. Stops v w (request_of d (Unpin f) y) k)) (sym is) a
+  pub stops_as : Stops v w (ext_request d (Unpin f) (Err e)) e → IfErr answer (λ k. Stops v w (ext_request d (Unpin f) answer) k)
+  stops_as a = subst (λ (y : Result (Unit {0}) Stop). IfErr y (λ k. Stops v w (ext_request d (Unpin f) y) k)) (sym is) a
 
 -- ---- the request
 module _ (v : PortValue) (f d : ℕ) where
   abbrev request : Request
-  request = request_of d (Unpin f) (Ok tt)
+  request = ext_request d (Unpin f) (Ok tt)
 
   pub asks : (F : Finding) → Asked v.post.machine v.post.vcpu request F f d None
   asks F = named (when_eq f f refl) refl tt
@@ -175,12 +175,3 @@ module _ (v : PortValue) (f d : ℕ) where
             lost_why =
                 rw stop_is
                 (lost_stops v a b q r f x new found came (look_there v a b f d g x at taken look same) try_there (came_r r gives) other request (number (sizes_of v.post.machine) (Kind f)) refl refl (is_asked (Met v r)) keeps)
-
--- ---- as the code tests it
-pub is_off : (b : Bool) → not b ≡ true → b ≡ false
-is_off true e = absurd cc
-is_off false e = refl
-
-pub is_on : (b : Bool) → not b ≡ false → b ≡ true
-is_on true e = refl
-is_on false e = absurd cc

@@ -1,9 +1,9 @@
 -- The course of a pin and of an unpin: the calls that each makes, from port to port, and the answers of the gate.
-use Rattle.std.specs.Prelude.{◌≡◌, ◌≢◌, ℕ, Bool, true, false, List, [], None, Result, Ok, Err}
+use Rattle.std.specs.Prelude.{◌≡◌, ◌≢◌, ℕ, Bool, true, false, List, [], None, Result, Ok, Err, IfErr}
 use Rattle.xp_words.specs.KindWords.{kind_fields, kind_write}
 use Rattle.xp_words.specs.Places.{number, sizes_of}
 use Rattle.xp_words.specs.declared.place.Place.TheVariants.{Kind}
-use Rattle.xp_words.specs.declared.reply.Pause.TheVariants.{Lost}
+use Rattle.xp_words.specs.declared.reply.Pause.TheVariants.{Due, Lost}
 use Rattle.xp_words.specs.declared.reply.Refusal.TheVariants as refusals
 use Rattle.xp_words.specs.declared.reply.Stop.{Stop}
 use Rattle.xp_words.specs.declared.reply.Stop.TheVariants.{Refused, Paused}
@@ -18,13 +18,13 @@ use Rattle.partial_state.specs.Levels.{level_type}
 use Rattle.table_words.specs.Pins.{pinned_kind, unpinned_kind}
 use Rattle.table_courses.specs.Acquiring.{Acquired, GaveRef, GotRef, Named}
 use Rattle.level_release.specs.Course.{WasReleased}
-use Rattle.mmuext_ops.specs.Elements.{is_due_answer}
+use Rattle.level_release.specs.Asking.{is_due_answer}
 use Rattle.mmuext_ops.specs.declared.element.Element.{Element}
 use Rattle.mmuext_ops.specs.declared.element.Element.TheVariants.{Pin, Unpin, Unknown}
 
 -- the kind word of frame f was looked at
-abbrev pub Saw : PortValue → PortValue → ℕ → ℕ → Type 0
-Saw v w f x = Moves v w (Kind f) Load kinds.Look None x
+abbrev pub SawKind : PortValue → PortValue → ℕ → ℕ → Type 0
+SawKind v w f x = Moves v w (Kind f) Load kinds.Look None x
 
 -- an exchange that is to set or take off the pin of the word that was seen, and what it found
 abbrev pub SetsPin : PortValue → PortValue → ℕ → ℕ → ℕ → Type 0
@@ -47,11 +47,11 @@ pub data GivenUp (v : PortValue) (f level : ℕ) : Bool → PortValue → Type 0
 -- ---- a pin
 -- the frame is live, and a typed reference to it in hand
 pub data PinEnds (v w : PortValue) (f level : ℕ) : Result (Unit {0}) Stop → Type 0 where
-  pinned : (u : PortValue) (x : ℕ) → Saw v u f x → is_pinned x ≡ false → SetsPin u w f x x → PinEnds v w f level (Ok tt)
-  seen : (u : PortValue) (x : ℕ) → Saw v u f x → is_pinned x ≡ true → GivenUp u f level false w → PinEnds v w f level (Err (Refused (refusals.AlreadyPinned x)))
-  raced : (u y : PortValue) (x found : ℕ) → Saw v u f x → is_pinned x ≡ false → SetsPin u y f x found → found ≢ x → is_pinned found ≡ true → GivenUp y f level false w →
+  pinned : (u : PortValue) (x : ℕ) → SawKind v u f x → is_pinned x ≡ false → SetsPin u w f x x → PinEnds v w f level (Ok tt)
+  seen : (u : PortValue) (x : ℕ) → SawKind v u f x → is_pinned x ≡ true → GivenUp u f level false w → PinEnds v w f level (Err (Refused (refusals.AlreadyPinned x)))
+  raced : (u y : PortValue) (x found : ℕ) → SawKind v u f x → is_pinned x ≡ false → SetsPin u y f x found → found ≢ x → is_pinned found ≡ true → GivenUp y f level false w →
       PinEnds v w f level (Err (Refused (refusals.AlreadyPinned found)))
-  lost : (u y : PortValue) (x found : ℕ) → Saw v u f x → is_pinned x ≡ false → SetsPin u y f x found → found ≢ x → is_pinned found ≡ false → GivenUp y f level true w →
+  lost : (u y : PortValue) (x found : ℕ) → SawKind v u f x → is_pinned x ≡ false → SetsPin u y f x found → found ≢ x → is_pinned found ≡ false → GivenUp y f level true w →
       PinEnds v w f level (Err (Paused (Lost (number (sizes_of v.post.machine) (Kind f)) x found)))
 
 -- It is pinned with the type of that level.
@@ -61,37 +61,37 @@ IsPinnedAs level x = (is_pinned x ≡ true) × ((kind_fields x).kind ≡ level_t
 -- the frame is looked at under a reference of its own, and then acquired
 pub data Pinned (v w : PortValue) (d f level : ℕ) : List Bool → Result (Unit {0}) Stop → Type 0 where
   unreferred : (stop : Stop) → GotRef v w f d (Err stop) → Pinned v w d f level [] (Err stop)
-  pinned_before : (a b : PortValue) (x : ℕ) → GotRef v a f d (Ok f) → Saw a b f x → GaveRef b w f → IsPinnedAs level x → Pinned v w d f level [] (Err (Refused (refusals.AlreadyPinned x)))
-  refused : (a b c : PortValue) (x : ℕ) (answers : List Bool) (stop : Stop) → GotRef v a f d (Ok f) → Saw a b f x → GaveRef b c f → (IsPinnedAs level x → ⊥) →
+  pinned_before : (a b : PortValue) (x : ℕ) → GotRef v a f d (Ok f) → SawKind a b f x → GaveRef b w f → IsPinnedAs level x → Pinned v w d f level [] (Err (Refused (refusals.AlreadyPinned x)))
+  refused : (a b c : PortValue) (x : ℕ) (answers : List Bool) (stop : Stop) → GotRef v a f d (Ok f) → SawKind a b f x → GaveRef b c f → (IsPinnedAs level x → ⊥) →
       Acquired c f d level w answers (Err stop) → Pinned v w d f level answers (Err stop)
-  acquired : (a b c e : PortValue) (x : ℕ) (answers : List Bool) (answer : Result (Unit {0}) Stop) → GotRef v a f d (Ok f) → Saw a b f x → GaveRef b c f → (IsPinnedAs level x → ⊥) →
+  acquired : (a b c e : PortValue) (x : ℕ) (answers : List Bool) (answer : Result (Unit {0}) Stop) → GotRef v a f d (Ok f) → SawKind a b f x → GaveRef b c f → (IsPinnedAs level x → ⊥) →
       Acquired c f d level e answers (Ok f) → PinEnds e w f level answer → Pinned v w d f level answers answer
 
 -- ---- an unpin
 pub data Unpinned (v w : PortValue) (d f : ℕ) : List Bool → Result (Unit {0}) Stop → Type 0 where
   unreferred : (stop : Stop) → GotRef v w f d (Err stop) → Unpinned v w d f [] (Err stop)
-  unpinned_before : (a b : PortValue) (x : ℕ) → GotRef v a f d (Ok f) → Saw a b f x → is_pinned x ≡ false → GaveRef b w f → Unpinned v w d f [] (Err (Refused (refusals.NotPinned x)))
-  raced : (a b c : PortValue) (x found : ℕ) → GotRef v a f d (Ok f) → Saw a b f x → is_pinned x ≡ true → TakesPinOff b c f x found → found ≢ x → is_pinned found ≡ false → GaveRef c w f →
+  unpinned_before : (a b : PortValue) (x : ℕ) → GotRef v a f d (Ok f) → SawKind a b f x → is_pinned x ≡ false → GaveRef b w f → Unpinned v w d f [] (Err (Refused (refusals.NotPinned x)))
+  raced : (a b c : PortValue) (x found : ℕ) → GotRef v a f d (Ok f) → SawKind a b f x → is_pinned x ≡ true → TakesPinOff b c f x found → found ≢ x → is_pinned found ≡ false → GaveRef c w f →
       Unpinned v w d f [] (Err (Refused (refusals.NotPinned found)))
-  lost : (a b c : PortValue) (x found : ℕ) → GotRef v a f d (Ok f) → Saw a b f x → is_pinned x ≡ true → TakesPinOff b c f x found → found ≢ x → is_pinned found ≡ true → GaveRef c w f →
+  lost : (a b c : PortValue) (x found : ℕ) → GotRef v a f d (Ok f) → SawKind a b f x → is_pinned x ≡ true → TakesPinOff b c f x found → found ≢ x → is_pinned found ≡ true → GaveRef c w f →
       Unpinned v w d f [] (Err (Paused (Lost (number (sizes_of v.post.machine) (Kind f)) x found)))
-  -- whatever the release answers
-  released : (a b c e : PortValue) (x : ℕ) (answers : List Bool) (answer : Result (Unit {0}) Stop) → GotRef v a f d (Ok f) → Saw a b f x → is_pinned x ≡ true → TakesPinOff b c f x x →
-      GaveRef c e f → WasReleased e f (kind_fields x).kind w answers answer → Unpinned v w d f answers (Ok tt)
+  -- the release is done, or paused for the gate
+  released : (a b c e : PortValue) (x : ℕ) (answers : List Bool) (answer : Result (Unit {0}) Stop) → GotRef v a f d (Ok f) → SawKind a b f x → is_pinned x ≡ true → TakesPinOff b c f x x →
+      GaveRef c e f → WasReleased e f (kind_fields x).kind w answers answer → IfErr answer (λ stop. stop ≡ Paused Due) → Unpinned v w d f answers (Ok tt)
 
 -- ---- with a gate
 -- there is such a course with the gate's answers; where it is paused for the gate, that said yes last
-pub record By (P : List Bool → Type 0) (says : ℕ → Bool) (before after yes_before yes_after : ℕ) (answer : Result (Unit {0}) Stop) : Type 0 where
+pub record WithGate (P : List Bool → Type 0) (says : ℕ → Bool) (before after yes_before yes_after : ℕ) (answer : Result (Unit {0}) Stop) : Type 0 where
   pub answers : List Bool
   pub course : P answers
   pub gate : Consulted says before after yes_before yes_after answers
   pub due : is_due_answer answer ≡ true → ends_yes answers ≡ true
 
 abbrev pub PinsBy : PortValue → PortValue → ℕ → ℕ → ℕ → (ℕ → Bool) → ℕ → ℕ → ℕ → ℕ → Result (Unit {0}) Stop → Type 0
-PinsBy v w d f level says before after yes_before yes_after answer = By (λ answers. Pinned v w d f level answers answer) says before after yes_before yes_after answer
+PinsBy v w d f level says before after yes_before yes_after answer = WithGate (λ answers. Pinned v w d f level answers answer) says before after yes_before yes_after answer
 
 abbrev pub UnpinsBy : PortValue → PortValue → ℕ → ℕ → (ℕ → Bool) → ℕ → ℕ → ℕ → ℕ → Result (Unit {0}) Stop → Type 0
-UnpinsBy v w d f says before after yes_before yes_after answer = By (λ answers. Unpinned v w d f answers answer) says before after yes_before yes_after answer
+UnpinsBy v w d f says before after yes_before yes_after answer = WithGate (λ answers. Unpinned v w d f answers answer) says before after yes_before yes_after answer
 
 -- one that its numbers refuse makes no step and asks nothing
 abbrev pub Performed : PortValue → PortValue → ℕ → Element → List Bool → Result (Unit {0}) Stop → Type 0
@@ -100,4 +100,4 @@ Performed v w d (Unpin f) answers answer = Unpinned v w d f answers answer
 Performed v w d Unknown answers answer = (w ≡ v) × (answers ≡ []) × (answer ≡ Err (Refused refusals.BadCommand))
 
 abbrev pub PerformsBy : PortValue → PortValue → ℕ → Element → (ℕ → Bool) → ℕ → ℕ → ℕ → ℕ → Result (Unit {0}) Stop → Type 0
-PerformsBy v w d e says before after yes_before yes_after answer = By (λ answers. Performed v w d e answers answer) says before after yes_before yes_after answer
+PerformsBy v w d e says before after yes_before yes_after answer = WithGate (λ answers. Performed v w d e answers answer) says before after yes_before yes_after answer

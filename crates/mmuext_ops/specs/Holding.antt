@@ -17,8 +17,8 @@ use Rattle.mmuext_ops.specs.Elements.{HasDeeds, of_pin}
 use Rattle.mmuext_ops.specs.declared.element.Element.TheVariants.{Pin}
 
 -- no typed reference is in hand
-abbrev pub untyped : Holdings → Holdings
-untyped h = record h { typed = [] }
+abbrev pub untyped_hand : Holdings → Holdings
+untyped_hand h = record h { typed = [] }
 
 -- the first old word names the frame
 abbrev pub named_old : ℕ → Holdings → Holdings
@@ -27,12 +27,12 @@ named_old f h = record h { old0 = Some (f + 1) }
 -- All that is in hand is one typed reference to the frame, which is known live as a table of that level, and the own domain's.
 pub record HoldsTable (v : PortValue) (f level : ℕ) : Type 0 where
   pub typed : v.holdings.typed ≡ live_typed f (level_type level) (owners.Of (own_domain v)) ∷ []
-  pub others : IsEmptyHand (untyped v.holdings)
+  pub others : IsEmptyHand (untyped_hand v.holdings)
 
 -- it is gone; or, where no mark of the frame's own is to keep it, the first old word names the frame
-abbrev pub GivesUp : PortValue → PortValue → ℕ → Bool → Type 0
-GivesUp v w f true = Holds v w (untyped v.holdings)
-GivesUp v w f false = Holds v w (untyped v.holdings) ⊎ Holds v w (named_old f (untyped v.holdings))
+abbrev pub GivesTableUp : PortValue → PortValue → ℕ → Bool → Type 0
+GivesTableUp v w f true = Holds v w (untyped_hand v.holdings)
+GivesTableUp v w f false = Holds v w (untyped_hand v.holdings) ⊎ Holds v w (named_old f (untyped_hand v.holdings))
 
 -- ---- by the answer
 -- why a live table is not pinned
@@ -42,9 +42,9 @@ IsPinEnd (Paused (Lost place expected found)) = Unit {0}
 IsPinEnd _ = ⊥
 
 abbrev pub LeavesTable : PortValue → PortValue → ℕ → Result (Unit {0}) Stop → Type 0
-LeavesTable v w f (Ok done) = GivesUp v w f true
-LeavesTable v w f (Err (Refused x)) = GivesUp v w f false
-LeavesTable v w f (Err (Paused x)) = GivesUp v w f true
+LeavesTable v w f (Ok done) = GivesTableUp v w f true
+LeavesTable v w f (Err (Refused x)) = GivesTableUp v w f false
+LeavesTable v w f (Err (Paused x)) = GivesTableUp v w f true
 
 -- its steps are those of a pin, whose gate did not say yes
 abbrev pub ServesLive : PortValue → PortValue → ℕ → ℕ → Result (Unit {0}) Stop → Type 0

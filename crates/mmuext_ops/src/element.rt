@@ -1,5 +1,5 @@
 ghost use Rattle.std.specs.Prelude.{◌≡◌};
-ghost use Rattle.mmuext_ops.specs.Elements.{element_of};
+ghost use Rattle.mmuext_ops.specs.Elements.{ext_element};
 
 use xp_words::ExtOp;
 
@@ -15,7 +15,7 @@ pub enum Element {
 }
 
 pub(crate) fn element_of(op: ExtOp) -> Element
-    ensures { result ≡ element_of op }
+    ensures { result ≡ ext_element op }
 {
     match op.command {
         0 => Element::Pin {

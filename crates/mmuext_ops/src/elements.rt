@@ -7,7 +7,8 @@ ghost use Rattle.answer_fits.specs.Answers.{Stops};
 ghost use Rattle.table_words.specs.OldWords.{known_old};
 ghost use Rattle.table_words.specs.declared.old_words.OldWord.TheVariants.{First};
 ghost use Rattle.mmuext_ops.specs.Course.{PerformsBy};
-ghost use Rattle.mmuext_ops.specs.Elements.{IsElementStop, LeavesElement, ServesElement, element_of, is_due_answer, request_of};
+ghost use Rattle.level_release.specs.Asking.{is_due_answer};
+ghost use Rattle.mmuext_ops.specs.Elements.{IsElementStop, LeavesElement, ServesElement, ext_element, ext_request};
 
 use crate::element::{Element, element_of};
 use crate::pinning::pin;
@@ -28,15 +29,15 @@ pub fn perform<P: Port>(
     requires own { domain ≡ domain_of (P.value port.old).post.machine (P.value port.old).post.vcpu }
     requires room { known_old First (P.value port.old).holdings ≡ Some 0 }
     // The steps serve what the element asks for, and show why it stops.
-    ensures serves { ServesElement (P.value port.old) (P.value port.new) domain (element_of op) result }
-    ensures stops { IfErr result (λ e. Stops (P.value port.old) (P.value port.new) (request_of domain (element_of op) result) e) }
-    ensures kinds { IfErr result (IsElementStop (element_of op)) }
+    ensures serves { ServesElement (P.value port.old) (P.value port.new) domain (ext_element op) result }
+    ensures stops { IfErr result (λ e. Stops (P.value port.old) (P.value port.new) (ext_request domain (ext_element op) result) e) }
+    ensures kinds { IfErr result (IsElementStop (ext_element op)) }
     // What its numbers alone refuse is refused.
-    ensures numbers { (x : Refusal) → (request_of domain (element_of op) result).by_numbers ≡ Some x → result ≡ Err (Refused x) }
-    ensures hand { LeavesElement (P.value port.old) (P.value port.new) (element_of op) result }
+    ensures numbers { (x : Refusal) → (ext_request domain (ext_element op) result).by_numbers ≡ Some x → result ≡ Err (Refused x) }
+    ensures hand { LeavesElement (P.value port.old) (P.value port.new) (ext_element op) result }
     ensures rests { Rests (P.value port.new) }
     // It makes these calls, and its gate gave these answers.
-    ensures course { PerformsBy (P.value port.old) (P.value port.new) domain (element_of op) (says gate.old) (count_asks gate.old) (count_asks gate.new) (count_yes gate.old) (count_yes gate.new) result }
+    ensures course { PerformsBy (P.value port.old) (P.value port.new) domain (ext_element op) (says gate.old) (count_asks gate.old) (count_asks gate.new) (count_yes gate.old) (count_yes gate.new) result }
     ensures says { (n : ℕ) → says gate.new n ≡ says gate.old n }
     ensures paces { paces gate.new ≡ paces gate.old }
     ensures calm { calm gate.old ≡ true → (is_due_answer result ≡ false) × (calm gate.new ≡ true) }

@@ -8,8 +8,9 @@ ghost use Rattle.table_words.specs.OldWords.{known_old};
 ghost use Rattle.table_words.specs.declared.old_words.OldWord.TheVariants.{First};
 ghost use Rattle.level_validate.specs.Unwinding.{own_domain};
 ghost use Rattle.mmuext_ops.specs.Course.{GivenUp, PinEnds, PinsBy};
-ghost use Rattle.mmuext_ops.specs.Elements.{IsElementStop, LeavesElement, ServesElement, is_due_answer, of_pin, request_of};
-ghost use Rattle.mmuext_ops.specs.Holding.{GivesUp, HoldsTable, IsPinEnd, LeavesTable, ServesLive};
+ghost use Rattle.level_release.specs.Asking.{is_due_answer};
+ghost use Rattle.mmuext_ops.specs.Elements.{IsElementStop, LeavesElement, ServesElement, of_pin, ext_request};
+ghost use Rattle.mmuext_ops.specs.Holding.{GivesTableUp, HoldsTable, IsPinEnd, LeavesTable, ServesLive};
 ghost use Rattle.mmuext_ops.specs.declared.element.Element.TheVariants.{Pin};
 
 use frame_types::drop_type;
@@ -37,7 +38,7 @@ pub fn pin<P: Port>(
     requires high { level ≤ 4 }
     requires room { known_old First (P.value port.old).holdings ≡ Some 0 }
     ensures serves { ServesElement (P.value port.old) (P.value port.new) domain (Pin f level) result }
-    ensures stops { IfErr result (λ e. Stops (P.value port.old) (P.value port.new) (request_of domain (Pin f level) result) e) }
+    ensures stops { IfErr result (λ e. Stops (P.value port.old) (P.value port.new) (ext_request domain (Pin f level) result) e) }
     ensures kinds { IfErr result (IsElementStop (Pin f level)) }
     ensures hand { LeavesElement (P.value port.old) (P.value port.new) (Pin f level) result }
     ensures rests { Rests (P.value port.new) }
@@ -102,7 +103,7 @@ fn give_up<P: Port>(port: &mut P, frame: u32, level: u8, kept: bool)
     requires holds { HoldsTable (P.value port.old) frame level }
     requires room { known_old First (P.value port.old).holdings ≡ Some 0 }
     ensures serves { Serves (P.value port.old) (P.value port.new) (of_back frame) [] }
-    ensures hand { GivesUp (P.value port.old) (P.value port.new) frame kept }
+    ensures hand { GivesTableUp (P.value port.old) (P.value port.new) frame kept }
     ensures course { GivenUp (P.value port.old) frame level kept (P.value port.new) }
 {
     if drop_type(port, frame) {

@@ -6,7 +6,8 @@ ghost use Rattle.answer_fits.specs.Answers.{Stops};
 ghost use Rattle.table_words.specs.OldWords.{known_old};
 ghost use Rattle.table_words.specs.declared.old_words.OldWord.TheVariants.{First};
 ghost use Rattle.mmuext_ops.specs.Course.{UnpinsBy};
-ghost use Rattle.mmuext_ops.specs.Elements.{IsElementStop, LeavesElement, ServesElement, is_due_answer, request_of};
+ghost use Rattle.level_release.specs.Asking.{is_due_answer};
+ghost use Rattle.mmuext_ops.specs.Elements.{IsElementStop, LeavesElement, ServesElement, ext_request};
 ghost use Rattle.mmuext_ops.specs.declared.element.Element.TheVariants.{Unpin};
 
 use frame_words::{get_ref, put_ref};
@@ -17,14 +18,14 @@ use xp_board::Port;
 use xp_preempt::Preempt;
 use xp_words::{Refusal, Stop};
 
-/// Unpins a table of the own domain, and releases it. Where the release is paused the table is unpinned all the same, and the first
+/// Unpins a table of the own domain, and releases it. Where the gate pauses the release the table is unpinned all the same, and the first
 /// old word names what is left.
 pub fn unpin<P: Port>(port: &mut P, gate: &mut dyn Preempt, domain: u16, f: u64) -> Result<(), Stop>
     requires rests { Rests (P.value port.old) }
     requires own { domain ≡ domain_of (P.value port.old).post.machine (P.value port.old).post.vcpu }
     requires room { known_old First (P.value port.old).holdings ≡ Some 0 }
     ensures serves { ServesElement (P.value port.old) (P.value port.new) domain (Unpin f) result }
-    ensures stops { IfErr result (λ e. Stops (P.value port.old) (P.value port.new) (request_of domain (Unpin f) result) e) }
+    ensures stops { IfErr result (λ e. Stops (P.value port.old) (P.value port.new) (ext_request domain (Unpin f) result) e) }
     ensures kinds { IfErr result (IsElementStop (Unpin f)) }
     ensures hand { LeavesElement (P.value port.old) (P.value port.new) (Unpin f) result }
     ensures rests { Rests (P.value port.new) }

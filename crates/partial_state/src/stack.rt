@@ -96,12 +96,12 @@ impl Stack {
         ensures advanced { self.new ≡ advanced self.old }
         ensures stack { IsStack self.new }
     {
-        if let Some(top) = self.pop() {
-            self.push(TableWork {
-                done: top.done + 1,
-                ..top
-            });
-        }
+        let last = self.items.len() - 1;
+        let top = self.items[last];
+        self.items[last] = TableWork {
+            done: top.done + 1,
+            ..top
+        };
     }
 
     /// One entry fewer of it is.
@@ -110,11 +110,11 @@ impl Stack {
         ensures retreated { self.new ≡ retreated self.old }
         ensures stack { IsStack self.new }
     {
-        if let Some(top) = self.pop() {
-            self.push(TableWork {
-                done: top.done - 1,
-                ..top
-            });
-        }
+        let last = self.items.len() - 1;
+        let top = self.items[last];
+        self.items[last] = TableWork {
+            done: top.done - 1,
+            ..top
+        };
     }
 }

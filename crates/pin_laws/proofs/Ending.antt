@@ -9,7 +9,7 @@ use Rattle.step_maker.proofs.Coming.{came_trans, moves_came}
 use Rattle.step_maker.proofs.Telling.{came_telling, load_tells, told_there}
 use Rattle.answer_fits.proofs.Visiting.{does_came}
 use Rattle.table_courses.specs.Acquiring.{Acquired, counted, finished, keeps_it, outermost_table, unfinished, unreferred, untyped, waiting}
-use Rattle.mmuext_ops.specs.Course.{PinEnds, Saw, SetsPin, is_pinned, lost, pinned, raced, seen}
+use Rattle.mmuext_ops.specs.Course.{PinEnds, SawKind, SetsPin, is_pinned, lost, pinned, raced, seen}
 use Rattle.course_laws.specs.Courses.{IsFinal}
 use Rattle.course_laws.proofs.Walking.{gave_came, left_came, live_came, unwound_came, worked_came}
 
@@ -31,11 +31,11 @@ acquired_came v f owner level _ _ _ (finished u x y w progress own t answers ref
 
 -- ---- the pin itself
 module _ (v w : PortValue) (f level : ℕ) (telling : is_telling v ≡ true) where
-  seen_here : (u : PortValue) (x : ℕ) → Saw v u f x → told_word v (Kind f) ≡ x
+  seen_here : (u : PortValue) (x : ℕ) → SawKind v u f x → told_word v (Kind f) ≡ x
   seen_here u x saw = told_there v u (Kind f) _ kinds.Look None x saw telling
 
   -- the exchange finds what the look found
-  found_again : (u y : PortValue) (x found : ℕ) → Saw v u f x → SetsPin u y f x found → found ≡ x
+  found_again : (u y : PortValue) (x found : ℕ) → SawKind v u f x → SetsPin u y f x found → found ≡ x
   found_again u y x found saw sets =
       sym (told_there u y (Kind f) _ _ _ found sets (came_telling v u (moves_came v u _ _ _ _ _ saw) ∙ telling))
       ∙ load_tells v u (Kind f) kinds.Look None x saw telling (Kind f) ∙ seen_here u x saw

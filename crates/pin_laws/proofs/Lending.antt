@@ -16,6 +16,7 @@ use Rattle.xp_board.proofs.RefWords.{owned_says, read_small}
 use Rattle.board_lemmas.proofs.PlaceTests.{is_same-other, is_same-refl, same_or_other}
 use Rattle.step_maker.specs.Plain.{Words}
 use Rattle.frame_words.specs.Plain.{got, lowered, one_more, put, refer, refer_by, set_free}
+use Rattle.table_twins.proofs.Referring.{not_full}
 
 -- ---- the reference word
 -- one more than an owned word with room counts, and one less again
@@ -41,11 +42,8 @@ back_owned w o c limit owner f a read few true false room none = back_from w o c
 back_owned w o c limit owner f a read few true true room none = absurd cc
 back_owned w o c limit owner f a read few false k room none = absurd cc
 
-below : (limit c : ℕ) → nat_le limit c ≡ false → c < limit
-below limit c is = grind (arith, nat_tests)
-
 back_read : (w limit owner f : ℕ) (r : Option RefWord) → ref_read w ≡ r → limit < 2 ^ 26 → refer_by limit owner f w r ≡ None → GoesBack w (one_more w r)
-back_read w limit owner f (Some (Owned o a c)) read few none = back_owned w o c limit owner f a read few (o == owner) (nat_le limit c) (λ off. below limit c off) none
+back_read w limit owner f (Some (Owned o a c)) read few none = back_owned w o c limit owner f a read few (o == owner) (nat_le limit c) (λ off. not_full limit c off) none
 back_read w limit owner f (Some (Free stamp)) read few none = absurd cc
 back_read w limit owner f (Some (Dying o)) read few none = absurd cc
 back_read w limit owner f None read few none = absurd cc

@@ -13,7 +13,7 @@ use Rattle.step_maker.proofs.Telling.{came_telling, load_tells, told_there}
 use Rattle.answer_fits.proofs.Visiting.{does_came}
 use Rattle.frame_words.specs.Plain.{got, put, refer}
 use Rattle.table_courses.specs.Acquiring.{GaveRef, GotRef}
-use Rattle.mmuext_ops.specs.Course.{Saw}
+use Rattle.mmuext_ops.specs.Course.{SawKind}
 use Rattle.course_laws.proofs.Walking.{gave_came}
 use Rattle.pin_laws.proofs.Lending.{back_again, got_there}
 
@@ -21,7 +21,7 @@ use Rattle.pin_laws.proofs.Lending.{back_again, got_there}
 pub kind_apart : (f : ℕ) → Kind f ≢ Refs f
 kind_apart f e = cc
 
-module _ (v a b : PortValue) (d f x : ℕ) (machine : IsMachine v.post.machine) (telling : is_telling v ≡ true) (ref : GotRef v a f d (Ok f)) (saw : Saw a b f x) where
+module _ (v a b : PortValue) (d f x : ℕ) (machine : IsMachine v.post.machine) (telling : is_telling v ≡ true) (ref : GotRef v a f d (Ok f)) (saw : SawKind a b f x) where
   none : refer v.post.machine d f (told_word v (Refs f)) ≡ None
   none = (ref.plain telling).0
 

@@ -14,7 +14,7 @@ use Rattle.answer_laws.specs.Alone.{IsAlone}
 use Rattle.partial_state.specs.Levels.{level_type}
 use Rattle.table_law.specs.Lawful.{IsAtRest}
 use Rattle.table_courses.specs.Acquiring.{Acquired, GaveRef, GotRef, unreferred}
-use Rattle.mmuext_ops.specs.Course.{IsPinnedAs, PinEnds, Pinned, Saw, acquired, pinned_before, refused, unreferred as unreferred_pin}
+use Rattle.mmuext_ops.specs.Course.{IsPinnedAs, PinEnds, Pinned, SawKind, acquired, pinned_before, refused, unreferred as unreferred_pin}
 use Rattle.course_laws.specs.Courses.{ClockGoesOn, IsDecided, IsFinal, IsHad}
 use Rattle.course_laws.proofs.Awaiting.{AloneStays, alone_orderly, alone_telling}
 use Rattle.pin_laws.proofs.Ending.{acquired_came, ends_done, ends_final}
@@ -42,7 +42,7 @@ module _ (stays : AloneStays) (v w : PortValue) (d f level : ℕ) (alone : IsAlo
   machine : IsMachine v.post.machine
   machine = alone.state.sound.machine
 
-  module _ (a b c : PortValue) (x : ℕ) (ref : GotRef v a f d (Ok f)) (saw : Saw a b f x) (gave : GaveRef b c f) where
+  module _ (a b c : PortValue) (x : ℕ) (ref : GotRef v a f d (Ok f)) (saw : SawKind a b f x) (gave : GaveRef b c f) where
     came : Came v c
     came = back_came v a b d f x machine telling ref saw c gave
 
@@ -70,7 +70,7 @@ module _ (stays : AloneStays) (v w : PortValue) (d f level : ℕ) (alone : IsAlo
     abbrev Tree : Machine → Words → Type 0
     Tree n m = Lawful n d m f (level_type level)
 
-    module _ (a b c : PortValue) (x : ℕ) (ref : GotRef v a f d (Ok f)) (saw : Saw a b f x) (gave : GaveRef b c f) where
+    module _ (a b c : PortValue) (x : ℕ) (ref : GotRef v a f d (Ok f)) (saw : SawKind a b f x) (gave : GaveRef b c f) where
       words : told_word c ≡ told_word v
       words = words_back v a b d f x machine telling ref saw c gave
 

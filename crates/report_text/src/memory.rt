@@ -3,6 +3,7 @@ ghost use Rattle.xp_words.specs.declared.place.Place.TheVariants.{Pages, Life, V
 ghost use Rattle.xp_words.specs.Places.{sizes_of, size};
 ghost use Rattle.report_text.specs.Memories.{word};
 
+use sparse_words::SparseWords;
 use std::marker::Model;
 use xp_words::Layout;
 
@@ -10,7 +11,7 @@ use xp_words::Layout;
 #[derive(Drop)]
 pub struct Memory<'a> {
     layout: &'a Layout,
-    words: &'a [u64],
+    words: &'a SparseWords,
 }
 
 impl<'a> Model for Memory<'a> {
@@ -26,7 +27,7 @@ impl<'a> Model for Memory<'a> {
 #[tactic(auto, unfolding(crate::specs::Memories::word, xp_words::specs::Places::memory, xp_words::specs::Places::is_place, xp_words::specs::Places::size, xp_words::specs::Places::number))]
 impl<'a> Memory<'a> {
     /// Both are borrowed: nothing is copied.
-    pub fn new(layout: &'a Layout, words: &'a [u64]) -> Memory<'a>
+    pub fn new(layout: &'a Layout, words: &'a SparseWords) -> Memory<'a>
         requires { length words.now ≡ size (sizes_of layout.now) }
         ensures { result ≡ record { machine = layout.now; words = words.now } }
     {
@@ -46,7 +47,7 @@ impl<'a> Memory<'a> {
         ensures { result ≡ word self.now (Pages domain) }
     {
         let layout = self.layout;
-        self.words[layout.pages_place(domain) as usize]
+        self.words.get(layout.pages_place(domain))
     }
 
     /// 0 where the domain is live, 255 where it is dead.
@@ -55,7 +56,7 @@ impl<'a> Memory<'a> {
         ensures { result ≡ word self.now (Life domain) }
     {
         let layout = self.layout;
-        self.words[layout.life_place(domain) as usize]
+        self.words.get(layout.life_place(domain))
     }
 
     /// Word `index` of a vCPU, below 38: 0 base, 1 user, 2 and 3 the old words.
@@ -65,7 +66,7 @@ impl<'a> Memory<'a> {
         ensures { result ≡ word self.now (Vcpu vcpu index) }
     {
         let layout = self.layout;
-        self.words[layout.vcpu_place(vcpu, index) as usize]
+        self.words.get(layout.vcpu_place(vcpu, index))
     }
 
     /// The reference word of a frame.
@@ -74,7 +75,7 @@ impl<'a> Memory<'a> {
         ensures { result ≡ word self.now (Refs frame) }
     {
         let layout = self.layout;
-        self.words[layout.refs_place(frame) as usize]
+        self.words.get(layout.refs_place(frame))
     }
 
     /// The kind word of a frame.
@@ -83,7 +84,7 @@ impl<'a> Memory<'a> {
         ensures { result ≡ word self.now (Kind frame) }
     {
         let layout = self.layout;
-        self.words[layout.kind_place(frame) as usize]
+        self.words.get(layout.kind_place(frame))
     }
 
     /// The machine-to-physical word of a frame.
@@ -92,6 +93,6 @@ impl<'a> Memory<'a> {
         ensures { result ≡ word self.now (M2p frame) }
     {
         let layout = self.layout;
-        self.words[layout.m2p_place(frame) as usize]
+        self.words.get(layout.m2p_place(frame))
     }
 }

@@ -5,6 +5,7 @@ ghost use Rattle.report_text.specs.ReportOf.{vcpu_line, vcpu_text, vcpu_texts, p
 use crate::log::put_lines;
 use crate::memory::Memory;
 use crate::words::{ContextText, FlagsText, LifeText, M2pText, TypeText, type_count};
+use sparse_words::SparseWords;
 use std::alloc::{AllocError, Global};
 use std::fmt;
 use xp_words::{KindWord, Layout, Log, LogLine, RefWord};
@@ -203,7 +204,7 @@ fn put_frames(out: &mut String, machine: &Memory<'_>) -> Result<u32, AllocError>
 pub fn report(
     alloc: Global,
     layout: &Layout,
-    words: &[u64],
+    words: &SparseWords,
     logs: &[Log],
     pending: &[u32],
 ) -> Result<Vec<u8>, AllocError>

@@ -74,7 +74,7 @@ module _ (b u : PortValue) (f i : ℕ) (t : PageType) (word : ℕ) (l : LooksAga
   since_low : (q : Unsettled) → l.works.top.unsettled ≡ Some q → q.since ≤ length b.holdings.steps
   since_low q at = ((EachOf-first _ (λ (y : Work). y.frame) f l.works.top b.holdings.works formed.works top_here).unsettled q at).1
 
-  here_again : work_on f u.holdings.works ≡ Some (learned_work i word l.works.top)
+  pub here_again : work_on f u.holdings.works ≡ Some (learned_work i word l.works.top)
   here_again = ap (λ (q : PortValue). work_on f q.holdings.works) l.looks.hand ∙ first_by-changed_here (λ (y : Work). y.frame) f (learned_work i word) b.holdings.works l.works.top (learned_frame i word) top_here
 
   settled_top : (z : Sizes) (h : Holdings) → ((n : ℕ) → n ≤ length b.holdings.steps → IsTrue (settles z n h.steps (demand_at t i word))) → IsTrue (is_settled z h (learned_work i word l.works.top))
@@ -130,7 +130,7 @@ pub never_unread : (v w : PortValue) (g word : ℕ) → Moves v w (Kind g) Load 
 never_unread v w g word look inside none = let is = kind_is_some v.post.machine v.post.vcpu v.holdings g word inside look.finds in let never : IsTrue false = rw none at is in absurd cc
 
 -- ---- the frame was taken again
-live_came : (v w : PortValue) (g : ℕ) (live : Bool) → LooksLive v w g live → Came v w
+pub live_came : (v w : PortValue) (g : ℕ) (live : Bool) → LooksLive v w g live → Came v w
 live_came v w g live (outside past is) = subst (λ (q : PortValue). Came v q) (sym is) (came_self v)
 live_came v w g live (found word b inside look same is) = moves_came v w (Kind g) Load kinds.Look None word look
 

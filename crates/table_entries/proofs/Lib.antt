@@ -14,6 +14,7 @@ pub mod PiecesEntering
 pub mod PiecesWaiting
 pub mod PiecesResuming
 pub mod PiecesStanding
+pub mod PiecesLive
 pub mod TwinsLooked
 pub mod TwinsTaken
 pub mod TwinsTyped

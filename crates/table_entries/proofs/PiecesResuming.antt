@@ -3,22 +3,20 @@ use Rattle.std.proofs.Common.{◌≡◌, ℕ, ◌+◌, [], Bool, false, Some, No
 use Rattle.xp_words.specs.Entries.{demand_at}
 use Rattle.xp_words.specs.declared.entry.Demand.TheVariants.{Typed}
 use Rattle.xp_words.specs.declared.kind.PageType.{PageType}
-use Rattle.xp_words.specs.declared.place.Place.TheVariants.{Kind}
 use Rattle.xp_words.specs.declared.reply.Stop.{Stop}
-use Rattle.xp_board.specs.declared.step.Act.TheVariants.{Load}
-use Rattle.xp_board.specs.declared.step.StepKind.TheVariants as kinds
 use Rattle.xp_board.specs.Hands.{work_on}
 use Rattle.xp_board.specs.Told.{PortValue}
-use Rattle.step_maker.specs.Moves.{Came, Met}
-use Rattle.step_maker.proofs.Coming.{came_self, moves_came}
+use Rattle.step_maker.specs.Moves.{Met}
 use Rattle.answer_fits.specs.Answers.{Serves, Stops, missed}
 use Rattle.answer_fits.specs.Asked.{Asked, NoMore, of_back, of_frame}
+use Rattle.answer_fits.specs.Pauses.{Progress}
 use Rattle.frame_types.specs.Taking.{IsTypeStop}
 use Rattle.frame_words.specs.Refs.{IsRefStop}
 use Rattle.flush_waits.specs.Waiting.{IsWait}
 use Rattle.table_entries.specs.Asking.{AsksBelow, of_entries}
 use Rattle.table_entries.specs.Between.{LooksAgain, LooksLive, Resumes, found, outside}
 use Rattle.table_entries.specs.declared.resuming.Resumed.TheVariants as again
+use Rattle.table_entries.proofs.HandAgain.{live_came}
 use Rattle.table_entries.proofs.HandLists.{asks_below}
 use Rattle.table_entries.proofs.PiecesAsking.{asks_typed, look_more, looked_goes}
 use Rattle.table_entries.proofs.PiecesEntering.{asks_referred, referred, refused_goes, refused_stops, still_below, typed, untyped_goes, untyped_stops, waits_stops}
@@ -38,10 +36,6 @@ live_more b u v owner pages g _ more (found word live inside m same is) = λ h.
       works = λ away. (more h).works (sym works ∙ away);
       typed = λ off. absurd cc;
     }
-
-live_came : (u v : PortValue) (g : ℕ) (live : Bool) → LooksLive u v g live → Came u v
-live_came u v g _ (outside past is) = subst (Came u) (sym is) (came_self u)
-live_came u v g _ (found word live inside m same is) = moves_came u v (Kind g) Load kinds.Look None word m
 
 -- ---- behind both looks
 module _ (b u v : PortValue) (f i owner pages : ℕ) (t : PageType) (word g : ℕ) (want : PageType) (looks : LooksAgain b u f i t word) (asks : demand_at t i word ≡ Typed g want) (other : LooksLive u v g false) where
@@ -82,8 +76,8 @@ module _ (b u v : PortValue) (f i owner pages : ℕ) (t : PageType) (word g : �
       y_below : AsksBelow b y owner pages t g
       y_below = still_below b x f i owner pages g want one two y types t (asks_below t i word g want asks)
 
-      pub resumes_taken : Resumes b y f i owner pages t (Ok (again.Taken g))
-      resumes_taken = record { serves = y_goes.serves; stops = tt; kinds = tt; shows = y_below; looks = y_goes.looks }
+      pub resumes_taken : Progress (Met b y) → Resumes b y f i owner pages t (Ok (again.Taken g))
+      resumes_taken more = record { serves = y_goes.serves; stops = tt; kinds = tt; shows = (y_below, more); looks = y_goes.looks }
 
       pub resumes_opened : (progress : ℕ) (own : Bool) → Resumes b y f i owner pages t (Ok (again.Opened g progress own))
       resumes_opened progress own = record { serves = y_goes.serves; stops = tt; kinds = tt; shows = y_below; looks = y_goes.looks }

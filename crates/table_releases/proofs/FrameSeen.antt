@@ -30,7 +30,9 @@ use Rattle.table_entries.proofs.HandLists.{asks_below, was_in}
 use Rattle.table_entries.proofs.HandReady.{learned_word}
 use Rattle.table_releases.specs.Between.{SeesKind, SeesTyped}
 use Rattle.table_releases.proofs.LastSeen.{SeenLast, finds_kind, finds_leads, finds_referred, finds_unkept, seen_asks}
-use Rattle.table_releases.proofs.Looking.{looked_seen}
+use Rattle.table_releases.proofs.Looking.{looked_seen, looked_settled}
+use Rattle.table_releases.specs.Tops.{IsSettledTop}
+use Rattle.xp_board.specs.declared.holdings.Unsettled.{Unsettled}
 
 -- it stays the last one in a hand with the same works
 abbrev pub seen_same : (f i : ℕ) (t : PageType) (word : ℕ) (h k : Holdings) → work_on f k.works ≡ work_on f h.works → SeenLast f i t word h → SeenLast f i t word k
@@ -106,6 +108,20 @@ module _ (b v : PortValue) (f i : ℕ) (t : PageType) (word g : ℕ) (want : Pag
         by_way : {B : Type 0} → IsTrue (is_live (kind_at l.look.finds.words g)) ⊎ (IsTrue (is_partial (kind_at l.look.finds.words g) || is_work (kind_at l.look.finds.words g)) × B) → IsTrue (is_live k) ⊎ IsTrue (is_partial k || is_work k)
         by_way (inl live) = inl (subst (λ y. IsTrue (is_live y)) at_g live)
         by_way (inr other) = inr (subst (λ y. IsTrue (is_partial y || is_work y)) at_g other.0)
+
+    -- live, where nothing was noted as unsettled
+    pub found_live : IsSettledTop b.holdings → k.validated ≡ true
+    found_live settled =
+        by_way
+        (finds_leads l.from.post.machine l.from.post.vcpu l.from.holdings (Kind g) x l.look.finds f i t from_seen.work from_seen.here from_seen.kind from_seen.table from_seen.last (Typed g want)
+        (asked (Typed g want) l.sees.asks) g want refl)
+      where
+        none_noted : from_seen.work.unsettled ≡ None
+        none_noted = looked_settled b l.from f i t word l.sees.sees settled
+
+        by_way : {A : Type 0} {B : Unsettled → Type 0} → IsTrue (is_live (kind_at l.look.finds.words g)) ⊎ (A × ((u : Unsettled) × (from_seen.work.unsettled ≡ Some u) × B u)) → k.validated ≡ true
+        by_way (inl live) = subst (λ (y : KindWord). y.validated ≡ true) at_g live
+        by_way (inr other) = absurd (let both : None ≡ Some other.1.0 = sym none_noted ∙ other.1.1 in cc)
 
     -- neither live nor partial: it is in work
     pub found_work : k.validated ≡ false → k.partial ≡ false → IsTrue (is_work k)

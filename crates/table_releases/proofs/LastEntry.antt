@@ -41,7 +41,7 @@ counted_inside n m h g sound some =
           absurd (omega (arith, zero, some))
     ]
 
-partial_count : (k : KindWord) → IsTrue (is_partial k) → type_count k ≡ 1
+pub partial_count : (k : KindWord) → IsTrue (is_partial k) → type_count k ≡ 1
 unfolding type_count
 partial_count k partial = let parts = partial_parts k partial in rw (parts.0, parts.1) refl
 

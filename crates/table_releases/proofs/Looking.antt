@@ -26,6 +26,7 @@ use Rattle.table_words.proofs.EntryHands.{shed_left}
 use Rattle.table_entries.specs.Tops.{with_recorded}
 use Rattle.table_entries.proofs.HandReady.{learned_word, unmarked_learns}
 use Rattle.table_releases.specs.Between.{SeesLast}
+use Rattle.table_releases.specs.Tops.{IsSettledTop}
 use Rattle.table_releases.proofs.LastSeen.{SeenLast, finds_inside, finds_plain, seen_sheds}
 
 -- the last recorded entry, once it was looked at
@@ -71,6 +72,10 @@ module _ (b v : PortValue) (f i : ℕ) (t : PageType) (word : ℕ) (l : SeesLast
         seen = ap (λ (y : Work). y.seen) learns;
         loaded = λ u at. last_loaded i l.works.top.recorded word l.works.top.unsettled (sym l.works.recorded) u (sym (ap (λ (y : Work). y.unsettled) learns) ∙ at);
       }
+
+  pub looked_settled : IsSettledTop b.holdings → looked_seen.work.unsettled ≡ None
+  looked_settled settled =
+      ap (λ (y : Work). y.unsettled) (unmarked_learns i word l.works.top l.works.unmarked) ∙ ap (λ o. learned_last i l.works.top.recorded word o) (settled l.works.top l.works.others l.works.works)
 
 -- ---- shed
 module _ (v w : PortValue) (f i : ℕ) (t : PageType) (word : ℕ) (l : SeenLast f i t word v.holdings) (shed : Holds v w (entry_shed v.post.machine f i v.holdings)) where

@@ -44,7 +44,7 @@ abbrev pub IsOf : ℕ → Released → Type 0
 IsOf g Given = Unit {0}
 IsOf g (Opened h recorded closing) = h ≡ g
 
-no_pin : (f : ℕ) (p : Bool) → pin_deed f p p ≡ []
+pub no_pin : (f : ℕ) (p : Bool) → pin_deed f p p ≡ []
 no_pin f true = refl
 no_pin f false = refl
 

@@ -1,5 +1,5 @@
 -- The newest of the own works, of which the last recorded entry is given back, and what that leaves in hand.
-use Rattle.std.specs.Prelude.{◌≡◌, ℕ, ◌<◌, ◌≤◌, Bool, true, false, List, ◌∷◌, length, Some, None, IsTrue}
+use Rattle.std.specs.Prelude.{◌≡◌, ℕ, ◌<◌, ◌≤◌, Bool, true, false, List, ◌∷◌, length, Some, None, Result, Ok, Err, IsTrue}
 use Rattle.xp_words.specs.Entries.{below, demand_at}
 use Rattle.xp_words.specs.KindWords.{kind_fields}
 use Rattle.xp_words.specs.PageTypes.{is_table}
@@ -43,6 +43,16 @@ abbrev pub IsReleaseStop : Stop → Type 0
 IsReleaseStop (Paused (Lost place expected found)) = Unit {0}
 IsReleaseStop (Paused (Busy f found)) = Unit {0}
 IsReleaseStop _ = ⊥
+
+-- of the newest of the own works no entry is noted as unsettled: all that its recorded entries ask is live
+abbrev pub IsSettledTop : Holdings → Type 0
+IsSettledTop h = (top : Work) (others : List Work) → h.works ≡ top ∷ others → top.unsettled ≡ None
+
+-- the entry is shed; and a table that is to be released first was live until its last type count was given back
+abbrev pub IsShedLive : Result Released Stop → Type 0
+IsShedLive (Ok Given) = Unit {0}
+IsShedLive (Ok (Opened g recorded closing)) = closing ≡ true
+IsShedLive (Err e) = ⊥
 
 -- ---- after
 -- the hand once the entry was looked at and shed

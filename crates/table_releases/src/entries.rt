@@ -16,7 +16,7 @@ ghost use Rattle.table_entries.specs.Asking.{LooksOnly, of_entries};
 ghost use Rattle.table_releases.specs.Between.{FromKind, FromLive, FromResumed, FromTyped, HandReleased, HasResumed, HasSeenKind, HasSeenLive, HasSeenTyped, Releases};
 ghost use Rattle.table_releases.specs.Found.{ReleasesFound, has_recorded};
 ghost use Rattle.table_releases.specs.Plain.{TwinRelease};
-ghost use Rattle.table_releases.specs.Tops.{IsReleaseStop, LeavesReleased, OwnsReleased, ReleasesTop, ShowsReleased, StaysRecorded};
+ghost use Rattle.table_releases.specs.Tops.{IsReleaseStop, IsSettledTop, IsShedLive, LeavesReleased, OwnsReleased, ReleasesTop, ShowsReleased, StaysRecorded};
 ghost use Rattle.table_words.specs.Entries.{ShedsLast, entry_shed};
 
 use frame_types::{drop_plain, drop_type};
@@ -62,6 +62,8 @@ pub fn release_entry<P: Port>(
     ensures serves { (owner pages : ℕ) → Serves (P.value port.old) (P.value port.new) (of_entries owner pages) (misses (P.value port.old).post.machine result) }
     ensures stops { (owner pages : ℕ) → IfErr result (λ e. Stops (P.value port.old) (P.value port.new) (of_entries owner pages) e) }
     ensures kinds { IfErr result IsReleaseStop }
+    // So it stops only where the last entry was noted as unsettled: then its frame may be partial, or in another vCPU's work.
+    ensures settled { IsSettledTop (P.value port.old).holdings → IsShedLive result }
     ensures shows { (owner pages : ℕ) → IfOk result (λ a. ShowsReleased (P.value port.old) (P.value port.new) owner pages kind a) }
     ensures looks { LooksOnly (P.value port.old) (P.value port.new) table index }
     ensures hand { MatchResult result (λ a. LeavesReleased (P.value port.old) (P.value port.new) table kind index a) (λ _. StaysRecorded (P.value port.old) (P.value port.new) table index) }
@@ -102,6 +104,7 @@ fn release_typed<P: Port>(
     ensures hand { FromTyped (P.value port.old) table index frame want (λ b t. HandReleased b (P.value port.new) table index t result) }
     ensures found { FromTyped (P.value port.old) table index frame want (λ b t. ReleasesFound b (P.value port.new) table index t result) }
     ensures plain { FromTyped (P.value port.old) table index frame want (λ b t. TwinRelease b (P.value port.new) table t index result) }
+    ensures settled { FromTyped (P.value port.old) table index frame want (λ b t. IsSettledTop b.holdings → IsShedLive result) }
 {
     let word = look_kind(port, frame);
     let kind = read_kind(word);
@@ -128,6 +131,7 @@ fn release_live<P: Port>(
     ensures hand { FromLive (P.value port.old) table index frame want (λ b t. HandReleased b (P.value port.new) table index t (Ok result)) }
     ensures found { FromLive (P.value port.old) table index frame want (λ b t. ReleasesFound b (P.value port.new) table index t (Ok result)) }
     ensures plain { FromLive (P.value port.old) table index frame want (λ b t. TwinRelease b (P.value port.new) table t index (Ok result)) }
+    ensures lived { IsShedLive (Ok result) }
 {
     shed_by_owner(port, table, index, frame);
     if !want.is_table() {

@@ -81,7 +81,7 @@ some_cause : (x : Refusal) (r : Option Cause) → IsSameAnswer (Some x) r → (c
 some_cause x None same = absurd same
 some_cause x (Some c) same = (c, refl)
 
-no_cause : (r : Option Cause) → IsSameAnswer None r → r ≡ None
+pub no_cause : (r : Option Cause) → IsSameAnswer None r → r ≡ None
 no_cause None same = refl
 no_cause (Some c) same = absurd same
 

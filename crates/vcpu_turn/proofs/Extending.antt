@@ -12,8 +12,7 @@ use Rattle.answer_fits.specs.Answers.{Serves, Stops, misses}
 use Rattle.level_release.specs.Asking as releases
 use Rattle.level_release.specs.Course.{SettlesBy}
 use Rattle.mmuext_ops.specs.Course.{Performed, PerformsBy}
-use Rattle.mmuext_ops.specs.Elements as elements
-use Rattle.mmuext_ops.specs.Elements.{element_of}
+use Rattle.mmuext_ops.specs.Elements.{ext_element}
 use Rattle.mmuext_ops.specs.declared.element.Element.{Element}
 use Rattle.vcpu_turn.specs.Lists.{Answering, is_due_by}
 use Rattle.vcpu_turn.specs.Working as working
@@ -30,15 +29,6 @@ due_released (Err (Paused (Busy a b))) = refl
 due_released (Err (Paused (Flush a b c))) = refl
 due_released (Err (Paused (Alive a b))) = refl
 
-pub due_performed : (answer : Result (Unit {0}) Stop) → is_due_by answer ≡ elements.is_due_answer answer
-due_performed (Ok done) = refl
-due_performed (Err (Refused x)) = refl
-due_performed (Err (Paused Due)) = refl
-due_performed (Err (Paused (Lost a b c))) = refl
-due_performed (Err (Paused (Busy a b))) = refl
-due_performed (Err (Paused (Flush a b c))) = refl
-due_performed (Err (Paused (Alive a b))) = refl
-
 module _ (v w : PortValue) (says : ℕ → Bool) (before after yes_before yes_after : ℕ) (answer : Result (Unit {0}) Stop) where
   pub settle_answers : ((owner pages : ℕ) → Serves v w (releases.of_settle owner pages answer) (misses v.post.machine answer)) → ((owner pages : ℕ) → IfErr answer (λ e. Stops v w (releases.of_settle owner pages answer) e)) →
       IfErr answer releases.IsReleaseEnd → Rests w → SettlesBy v w says before after yes_before yes_after answer → Answering (λ answers. Settles v w answers answer) says before after yes_before yes_after (is_due_by answer)
@@ -53,12 +43,12 @@ module _ (v w : PortValue) (says : ℕ → Bool) (before after yes_before yes_af
   pub perform_answers : (d : ℕ) (e : Element) → ((answers : List Bool) → Performed v w d e answers answer → Performs d e v w answers answer) → PerformsBy v w d e says before after yes_before yes_after answer →
       Answering (λ answers. Performs d e v w answers answer) says before after yes_before yes_after (is_due_by answer)
   perform_answers d e all by =
-      record { answers = by.answers; goes = all by.answers by.course; gate = by.gate; due_is = λ due. by.due (sym (due_performed answer) ∙ due) }
+      record { answers = by.answers; goes = all by.answers by.course; gate = by.gate; due_is = λ due. by.due (sym (due_released answer) ∙ due) }
 
 -- ---- one element
 module _ (d : ℕ) (list : List ExtOp) (k : ℕ) (otherwise : ExtOp) (less : k < length list) (says : ℕ → Bool) (before after yes_before yes_after : ℕ) (v u : PortValue) where
   -- the element of that number
-  of_number : (w : PortValue) (last yes_last : ℕ) (answer : Result (Unit {0}) Stop) → Answering (λ answers. Extends d (element_of (get_or list k otherwise)) v w answers answer) says before last yes_before yes_last (is_due_by answer) →
+  of_number : (w : PortValue) (last yes_last : ℕ) (answer : Result (Unit {0}) Stop) → Answering (λ answers. Extends d (ext_element (get_or list k otherwise)) v w answers answer) says before last yes_before yes_last (is_due_by answer) →
       Answering (λ answers. ExtFits d list k v w answers answer) says before last yes_before yes_last (is_due_by answer)
   of_number w last yes_last answer extends =
       subst (λ o. Answering (λ answers. FitsExt d o v w answers answer) says before last yes_before yes_last (is_due_by answer)) (sym (slice_get-get_or list k otherwise less)) extends
@@ -67,15 +57,15 @@ module _ (d : ℕ) (list : List ExtOp) (k : ℕ) (otherwise : ExtOp) (less : k <
       Answering (λ answers. ExtFits d list k v u answers answer) says before after yes_before yes_after (is_due_by answer)
   ext_unsettled stop answer is settles =
       of_number u after yes_after answer
-      (subst (λ (a : Result (Unit {0}) Stop). Answering (λ answers. Extends d (element_of (get_or list k otherwise)) v u answers a) says before after yes_before yes_after (is_due_by a)) (sym (is_err answer stop is))
+      (subst (λ (a : Result (Unit {0}) Stop). Answering (λ answers. Extends d (ext_element (get_or list k otherwise)) v u answers a) says before after yes_before yes_after (is_due_by a)) (sym (is_err answer stop is))
       (record { answers = settles.answers; goes = working.Extends.unsettled u settles.answers stop settles.goes; gate = settles.gate; due_is = settles.due_is }))
 
   pub ext_performed : (now : ℕ → Bool) (last yes_last : ℕ) (w : PortValue) (answer : Result (Unit {0}) Stop) → ((n : ℕ) → now n ≡ says n) →
       Answering (λ answers. Settles v u answers (Ok tt)) says before after yes_before yes_after (is_due_by (Ok tt)) →
-      Answering (λ answers. Performs d (element_of (get_or list k otherwise)) u w answers answer) now after last yes_after yes_last (is_due_by answer) →
+      Answering (λ answers. Performs d (ext_element (get_or list k otherwise)) u w answers answer) now after last yes_after yes_last (is_due_by answer) →
       Answering (λ answers. ExtFits d list k v w answers answer) says before last yes_before yes_last (is_due_by answer)
   ext_performed now last yes_last w answer same settles performs =
-      let e = element_of (get_or list k otherwise) in
+      let e = ext_element (get_or list k otherwise) in
       of_number w last yes_last answer
       (answers_behind says now before after last yes_before yes_after yes_last settles.answers same settles.gate (is_due_by answer) (λ answers. Performs d e u w answers answer) (λ answers. Extends d e v w answers answer) performs
       (λ answers goes. working.Extends.performed u w settles.answers answers answer settles.goes goes))

@@ -14,7 +14,7 @@ use Rattle.level_release.specs.Course.{Settled}
 use Rattle.mmu_update.specs.Elements as pairs
 use Rattle.mmu_update.specs.Fits.{Updates}
 use Rattle.mmuext_ops.specs.Course.{Performed}
-use Rattle.mmuext_ops.specs.Elements.{IsElementStop, LeavesElement, ServesElement, element_of, request_of}
+use Rattle.mmuext_ops.specs.Elements.{IsElementStop, LeavesElement, ServesElement, ext_element, ext_request}
 use Rattle.mmuext_ops.specs.declared.element.Element.{Element}
 use Rattle.vcpu_turn.specs.Cpus.{OpList, OfPairs, OfExt, length_of}
 use Rattle.vcpu_turn.specs.Lists.{Fitting, WorksOn}
@@ -43,9 +43,9 @@ PairFits d list k v w answers answer = FitsPair d (slice_get list k) v w answers
 -- in hand.
 pub record Performs (d : ℕ) (e : Element) (v w : PortValue) (answers : List Bool) (answer : Result (Unit {0}) Stop) : Type 0 where
   pub serves : ServesElement v w d e answer
-  pub stops : IfErr answer (λ x. Stops v w (request_of d e answer) x)
+  pub stops : IfErr answer (λ x. Stops v w (ext_request d e answer) x)
   pub kinds : IfErr answer (IsElementStop e)
-  pub numbers : (x : Refusal) → (request_of d e answer).by_numbers ≡ Some x → answer ≡ Err (Refused x)
+  pub numbers : (x : Refusal) → (ext_request d e answer).by_numbers ≡ Some x → answer ≡ Err (Refused x)
   pub hand : LeavesElement v w e answer
   pub rests : Rests w
   pub course : Performed v w d e answers answer
@@ -57,7 +57,7 @@ pub data Extends (d : ℕ) (e : Element) (v : PortValue) : PortValue → List Bo
       Extends d e v w (answers ++ early) answer
 
 abbrev pub FitsExt : ℕ → Option ExtOp → PortValue → PortValue → List Bool → Result (Unit {0}) Stop → Type 0
-FitsExt d (Some op) v w answers answer = Extends d (element_of op) v w answers answer
+FitsExt d (Some op) v w answers answer = Extends d (ext_element op) v w answers answer
 FitsExt d None v w answers answer = ⊥
 
 -- element number k, for tables of domain d

@@ -11,6 +11,8 @@ mod openings;
 #[cfg(test)]
 mod reports;
 #[cfg(test)]
+mod sparse;
+#[cfg(test)]
 mod stacks;
 #[cfg(test)]
 mod streams;

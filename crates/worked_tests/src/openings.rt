@@ -50,18 +50,18 @@ fn a_small_machine_opens_with_the_words_of_its_trace(rt: HostRuntime) -> Result<
     let trace = small_trace(rt.alloc())?;
     let words = opening(rt.alloc(), &trace)?;
     assert_eq!(rt; words.len(), 33522);
-    assert_eq!(rt; words[0], 12, "the clock");
-    assert_eq!(rt; words[1], 60, "pages of domain 0");
-    assert_eq!(rt; words[3], 3, "pages of domain 1");
-    assert_eq!(rt; words[10], 12, "flushed");
-    assert_eq!(rt; words[43], 0x8000000180000001, "refs of frame 0");
-    assert_eq!(rt; words[1588], 0, "refs of frame 3");
-    assert_eq!(rt; words[33005], u64::MAX, "m2p of frame 64");
-    assert_eq!(rt; words[33505], 7, "cell 499");
-    assert_eq!(rt; words[33506], 9, "cell 500");
-    assert_eq!(rt; words[33508], 7, "cell 502");
-    assert_eq!(rt; words[33518], 8, "frames 0 to 63");
-    assert_eq!(rt; words[33519], 1, "frame 64");
-    assert_eq!(rt; words[33520], 0x20002, "privileges of domain 0");
+    assert_eq!(rt; words.get(0), 12, "the clock");
+    assert_eq!(rt; words.get(1), 60, "pages of domain 0");
+    assert_eq!(rt; words.get(3), 3, "pages of domain 1");
+    assert_eq!(rt; words.get(10), 12, "flushed");
+    assert_eq!(rt; words.get(43), 0x8000000180000001, "refs of frame 0");
+    assert_eq!(rt; words.get(1588), 0, "refs of frame 3");
+    assert_eq!(rt; words.get(33005), u64::MAX, "m2p of frame 64");
+    assert_eq!(rt; words.get(33505), 7, "cell 499");
+    assert_eq!(rt; words.get(33506), 9, "cell 500");
+    assert_eq!(rt; words.get(33508), 7, "cell 502");
+    assert_eq!(rt; words.get(33518), 8, "frames 0 to 63");
+    assert_eq!(rt; words.get(33519), 1, "frame 64");
+    assert_eq!(rt; words.get(33520), 0x20002, "privileges of domain 0");
     Ok(())
 }

@@ -1,10 +1,10 @@
 //! Reports (report_text).
-ghost use Rattle.std.specs.Prelude.{◌≡◌, ◌≤◌, length, IfOk, vec_len};
+ghost use Rattle.std.specs.Prelude.{◌≡◌, ◌≤◌, length};
 ghost use Rattle.xp_words.specs.Places.{sizes_of, size};
 
 use arrayvec::ArrayVec;
 use report_text::report;
-use std::alloc::{AllocError, Global};
+use sparse_words::SparseWords;
 use std::test::Fail;
 use xp_words::{Domains, Layout, Limits, Log, LogLine, Masks, PageType, Refusal, Reply};
 
@@ -222,21 +222,17 @@ fn machine(frames: u32) -> Layout
     }
 }
 
-fn put(words: &mut [u64], place: u32, word: u64) {
-    if let Some(slot) = words.get_mut(place as usize) {
-        *slot = word;
+fn put(words: &mut SparseWords, place: u32, word: u64)
+    ensures { length words.new ≡ length words.old }
+{
+    if place < words.len() {
+        words.set(place, word);
     }
 }
 
-// All words are 0.
-fn blank(alloc: Global, len: usize) -> Result<Vec<u64>, AllocError>
-    ensures { IfOk result (λ v. vec_len v ≡ len) }
-{
-    vec![in alloc; 0; len]
-}
-
-fn put_frame_words(layout: &Layout, words: &mut [u64])
+fn put_frame_words(layout: &Layout, words: &mut SparseWords)
     requires { layout.now.frames ≡ 12 }
+    ensures { length words.new ≡ length words.old }
 {
     for (frame, (refs, kind, m2p, _)) in FRAMES.iter().enumerate() {
         put(words, layout.refs_place(frame as u32), *refs);
@@ -249,7 +245,7 @@ fn put_frame_words(layout: &Layout, words: &mut [u64])
 fn prints_each_refusal_and_each_form_of_a_frame(rt: HostRuntime) -> Result<(), Fail> {
     let alloc = rt.alloc();
     let layout = machine(12);
-    let mut words = blank(alloc, layout.words() as usize)?;
+    let mut words = SparseWords::new(alloc, &layout)?;
     put(&mut words, layout.vcpu_place(0, 1), 6);
     put(&mut words, layout.vcpu_place(0, 2), 1);
     put(&mut words, layout.vcpu_place(0, 3), 0x2_0000_0000);
@@ -360,7 +356,7 @@ fn least_machine() -> Layout
 fn prints_the_first_update(rt: HostRuntime) -> Result<(), Fail> {
     let alloc = rt.alloc();
     let layout = least_machine();
-    let mut words = blank(alloc, layout.words() as usize)?;
+    let mut words = SparseWords::new(alloc, &layout)?;
     put(&mut words, layout.pages_place(0), 1);
     put(&mut words, layout.refs_place(0), 0x8000_0000_8000_0001);
     put(&mut words, layout.m2p_place(0), 7);

@@ -55,7 +55,7 @@ pair_came d (Some p) v w answers answer f =
     serves_came v w (pairs.request_of d (pairs.element_of p)) (pairs.element_deeds v.post.machine (pairs.element_of p) answer) f.0.serves
 
 performs_came : (d : ℕ) (e : Element) (v w : PortValue) (answers : List Bool) (answer : Result (Unit {0}) Stop) → Performs d e v w answers answer → Came v w
-performs_came d e v w answers answer p = serves_came v w (elements.request_of d e answer) p.serves.0 p.serves.2
+performs_came d e v w answers answer p = serves_came v w (elements.ext_request d e answer) p.serves.0 p.serves.2
 
 extends_came : (d : ℕ) (e : Element) (v w : PortValue) (answers : List Bool) (answer : Result (Unit {0}) Stop) → Extends d e v w answers answer → Came v w
 extends_came d e v _ _ _ (unsettled w answers stop s) = settles_came v w answers (Err stop) s
@@ -63,7 +63,7 @@ extends_came d e v _ _ _ (performed u w early answers answer s p) = came_trans v
 
 ext_came : (d : ℕ) (o : Option ExtOp) (v w : PortValue) (answers : List Bool) (answer : Result (Unit {0}) Stop) → FitsExt d o v w answers answer → Came v w
 ext_came d None v w answers answer f = absurd f
-ext_came d (Some op) v w answers answer f = extends_came d (elements.element_of op) v w answers answer f
+ext_came d (Some op) v w answers answer f = extends_came d (elements.ext_element op) v w answers answer f
 
 fits_came : (d : ℕ) (list : OpList) (k : ℕ) (v w : PortValue) (answers : List Bool) (answer : Result (Unit {0}) Stop) → fits_of d list k v w answers answer → Came v w
 fits_came d (OfPairs list) k v w answers answer f = pair_came d (slice_get list k) v w answers answer f
@@ -114,7 +114,7 @@ pair_destroys d (updates.Write f i w) = refl
 pair_destroys d updates.Misaligned = refl
 pair_destroys d updates.Unknown = refl
 
-element_destroys : (d : ℕ) (e : Element) (answer : Result (Unit {0}) Stop) → (elements.request_of d e answer).destroys ≡ None
+element_destroys : (d : ℕ) (e : Element) (answer : Result (Unit {0}) Stop) → (elements.ext_request d e answer).destroys ≡ None
 element_destroys d (performs.Pin f level) answer = refl
 element_destroys d (performs.Unpin f) answer = refl
 element_destroys d performs.Unknown answer = refl
@@ -164,11 +164,11 @@ module _ (stays : AloneStays) (neither : NeitherLostNorBusy) (nobody : NobodyWai
   extends_spared d e v _ _ _ s (unsettled w answers stop settles) = settles_spared v w answers (Err stop) s settles
   extends_spared d e v _ _ _ s (performed u w early answers answer settles p) =
       let came = settles_came v u early (Ok tt) settles in
-      spared_back v u answer came (call_spared u w (elements.request_of d e answer) answer (element_destroys d e answer) (spared_on v u came s) p.stops)
+      spared_back v u answer came (call_spared u w (elements.ext_request d e answer) answer (element_destroys d e answer) (spared_on v u came s) p.stops)
 
   ext_spared : (d : ℕ) (o : Option ExtOp) (v w : PortValue) (answers : List Bool) (answer : Result (Unit {0}) Stop) → IsSpared v → FitsExt d o v w answers answer → Spared v answer
   ext_spared d None v w answers answer s f = absurd f
-  ext_spared d (Some op) v w answers answer s f = extends_spared d (elements.element_of op) v w answers answer s f
+  ext_spared d (Some op) v w answers answer s f = extends_spared d (elements.ext_element op) v w answers answer s f
 
   fits_spared : (d : ℕ) (list : OpList) (k : ℕ) (v w : PortValue) (answers : List Bool) (answer : Result (Unit {0}) Stop) → IsSpared v → fits_of d list k v w answers answer → Spared v answer
   fits_spared d (OfPairs list) k v w answers answer s f = pair_spared d (slice_get list k) v w answers answer s f

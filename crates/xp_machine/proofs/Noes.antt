@@ -1,5 +1,5 @@
 -- The answers of a gate while tables are acquired and released: it says no each time, until it pauses that.
-use Rattle.std.proofs.Common.{◌≡◌, ℕ, ◌+◌, ◌++◌, Bool, true, false, List, [], ◌∷◌, Result, Ok, Err, refl, sym, subst, arith}
+use Rattle.std.proofs.Common.{◌≡◌, ℕ, ◌+◌, ◌++◌, ◌&&◌, if◌then◌else◌, Bool, true, false, List, [], ◌∷◌, Result, Ok, Err, refl, sym, subst, arith}
 use Rattle.xp_words.specs.KindWords.{kind_fields}
 use Rattle.xp_words.specs.declared.kind.KindWord.{KindWord}
 use Rattle.xp_words.specs.declared.kind.PageType.{PageType}
@@ -106,18 +106,26 @@ settled_noes v _ _ _ (releasing.Settled.both u w answers more answer one two) =
     noes_then answers more _ (noes_no answers (one_noes v u _ answers (Ok tt) one)) (one_noes u w _ more answer two)
 
 -- ---- an acquisition
-filled_noes : (owner : ℕ) (v : PortValue) (ts : List TableWork) (w : PortValue) (us : List TableWork) (answers : List Bool) (answer : Result (Unit {0}) Stop) → Filled owner v ts w us answers answer →
-    Noes answers (is_due_answer answer)
-filled_noes owner v ts _ _ _ _ acquiring.Filled.begun = noes_none false
-filled_noes owner v ts _ _ _ _ (acquiring.Filled.unasked u w us xs done answers ran one off) = filled_noes owner v ts u us answers (Ok tt) ran
-filled_noes owner v ts _ _ _ _ (acquiring.Filled.asked u w us xs answers ran one on) = noes_asked answers false (noes_no answers (filled_noes owner v ts u us answers (Ok tt) ran))
-filled_noes owner v ts _ _ _ _ (acquiring.Filled.due u w us xs answers ran one on) = noes_due answers (noes_no answers (filled_noes owner v ts u us answers (Ok tt) ran))
-filled_noes owner v ts _ _ _ _ (acquiring.Filled.stopped u w us xs answers stop ran one) = noes_all answers _ (noes_no answers (filled_noes owner v ts u us answers (Ok tt) ran))
+filled_noes : (owner : ℕ) (v : PortValue) (ts : List TableWork) (before : List Bool) (w : PortValue) (us : List TableWork) (answers : List Bool) (answer : Result (Unit {0}) Stop) → yeses before ≡ 0 →
+    Filled owner v ts before w us answers answer → Noes answers (is_due_answer answer)
+filled_noes owner v ts before _ _ _ _ unsaid acquiring.Filled.begun = noes_all before false unsaid
+filled_noes owner v ts before _ _ _ _ unsaid (acquiring.Filled.unasked u w us xs done answers ran one off) = filled_noes owner v ts before u us answers (Ok tt) unsaid ran
+filled_noes owner v ts before _ _ _ _ unsaid (acquiring.Filled.asked u w us xs answers ran one on) = noes_asked answers false (noes_no answers (filled_noes owner v ts before u us answers (Ok tt) unsaid ran))
+filled_noes owner v ts before _ _ _ _ unsaid (acquiring.Filled.due u w us xs answers ran one on) = noes_due answers (noes_no answers (filled_noes owner v ts before u us answers (Ok tt) unsaid ran))
+filled_noes owner v ts before _ _ _ _ unsaid (acquiring.Filled.stopped u w us xs answers stop ran one) = noes_all answers _ (noes_no answers (filled_noes owner v ts before u us answers (Ok tt) unsaid ran))
+
+-- behind the first entry the gate said no, where it was asked
+once_no : (asks : Bool) → yeses (if asks then false ∷ [] else []) ≡ 0
+unfolding yeses
+once_no true = refl
+once_no false = refl
 
 worked_noes : (owner : ℕ) (v : PortValue) (t : TableWork) (w : PortValue) (us : List TableWork) (answers : List Bool) (answer : Result (Unit {0}) Stop) → Worked owner v t w us answers answer →
     Noes answers (is_due_answer answer)
+unfolding yeses
 worked_noes owner v t _ _ _ _ (acquiring.Worked.cut_off w us stop took) = noes_none _
-worked_noes owner v t _ _ _ _ (acquiring.Worked.filled u w us xs answers answer took filled) = filled_noes owner u us w xs answers answer filled
+worked_noes owner v t _ _ _ _ (acquiring.Worked.due w us took on) = noes_due [] refl
+worked_noes owner v t _ _ _ _ (acquiring.Worked.filled u w us xs done answers answer took filled) = filled_noes owner u us _ w xs answers answer (once_no (done && acquiring.is_asked us)) filled
 
 pub acquired_noes : (v w : PortValue) (f owner level : ℕ) (answers : List Bool) (answer : Result ℕ Stop) → Acquired v f owner level w answers answer → Noes answers (is_due_answer answer)
 acquired_noes v _ f owner level _ _ (acquiring.Acquired.unreferred w stop got) = noes_none _

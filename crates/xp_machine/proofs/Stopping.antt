@@ -18,7 +18,7 @@ use Rattle.xp_preempt.proofs.Numbering.{says_last, says_no}
 use Rattle.level_release.specs.Asking.{is_due_answer}
 use Rattle.mmuext_ops.specs.Course as course
 use Rattle.mmuext_ops.specs.Course.{Performed, Pinned}
-use Rattle.mmuext_ops.specs.Elements.{element_of}
+use Rattle.mmuext_ops.specs.Elements.{ext_element}
 use Rattle.mmuext_ops.specs.declared.element.Element.{Element}
 use Rattle.mmuext_ops.specs.declared.element.Element.TheVariants as elements
 use Rattle.vcpu_turn.specs.Cpus.{OpList, OfPairs, OfExt, Processing, end_of, length_of, list_of}
@@ -37,7 +37,7 @@ abbrev IsNoUnpin : Element → Type 0
 IsNoUnpin (elements.Unpin f) = ⊥
 IsNoUnpin _ = Unit {0}
 
-no_unpin : (op : ExtOp) → op.command ≢ 4 → IsNoUnpin (element_of op)
+no_unpin : (op : ExtOp) → op.command ≢ 4 → IsNoUnpin (ext_element op)
 no_unpin op off = by_test (nat_lt op.command 4) (op.command == 4) refl
   where
     by_test : (pins unpins : Bool) → (op.command == 4) ≡ unpins → IsNoUnpin (if pins then elements.Pin op.first (op.command + 1) else if unpins then elements.Unpin op.first else elements.Unknown)
@@ -77,7 +77,7 @@ pair_noes d (Some p) v w answers answer f = noes_same answers [] _ f.1 (noes_non
 
 ext_noes : (d : ℕ) (o : Option ExtOp) (v w : PortValue) (answers : List Bool) (answer : Result (Unit {0}) Stop) → ((e : ExtOp) → o ≡ Some e → e.command ≢ 4) → FitsExt d o v w answers answer → Noes answers (is_due_answer answer)
 ext_noes d None v w answers answer off f = absurd f
-ext_noes d (Some e) v w answers answer off f = extends_noes d (element_of e) v w answers answer (no_unpin e (off e refl)) f
+ext_noes d (Some e) v w answers answer off f = extends_noes d (ext_element e) v w answers answer (no_unpin e (off e refl)) f
 
 fits_noes : (d : ℕ) (list : OpList) → UnpinsNothing (Some list) → (k : ℕ) (v w : PortValue) (answers : List Bool) (answer : Result (Unit {0}) Stop) → fits_of d list k v w answers answer → Noes answers (is_due_answer answer)
 fits_noes d (OfPairs pairs) off k v w answers answer f = pair_noes d (slice_get pairs k) v w answers answer f

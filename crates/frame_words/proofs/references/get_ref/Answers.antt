@@ -1,4 +1,4 @@
-use Rattle.std.proofs.Common.{◌<◌, ◌≤◌, refl, ap, ◌∙◌, subst, arith}
+use Rattle.std.proofs.Common.{◌<◌, ◌≤◌, refl, sym, ap, ◌∙◌, subst, arith}
 use Rattle.xp_words.specs.Machine.{Machine}
 use Rattle.xp_words.specs.declared.place.Place.TheVariants.{Refs}
 use Rattle.xp_words.specs.Places.{number, sizes_of}
@@ -24,6 +24,9 @@ raise_refs-requires-clause-open g c =
     opened _ _ c.args.f c.args.owner c.look_refs-found.result c.look_refs-found.ensures.moves c.in-Ok.open
     (subst (λ k. c.args.f < k) (c.from-frames.ensures ∙ frames) c.if-f-frames.false) c.look_refs-found.ensures.hand c.look_refs-found.type_inv c.in-Ok.ensures.reads
     (subst (λ k. c.in-Ok.open.count < k) limit c.in-Ok.ensures.low)
+
+pub raise_refs-requires-clause-spelled : goal.raise_refs-requires-clause-spelled
+raise_refs-requires-clause-spelled g c = sym (word_law _ _ c.args.f c.args.owner c.look_refs-found.result c.look_refs-found.ensures.moves c.in-Ok.open c.look_refs-found.type_inv c.in-Ok.ensures.reads).1
 
 pub returns-in-Err-clause-serves : goal.returns-in-Err-clause-serves
 returns-in-Err-clause-serves g c = looked _ _ c.args.f c.args.owner c.look_refs-found.result c.look_refs-found.ensures.moves

@@ -1,6 +1,6 @@
 use Rattle.std.proofs.Common.{false, None, ap, ◌∙◌, subst}
 use Rattle.answer_fits.proofs.Piecing.{serves_came}
-use Rattle.level_release.proofs.HandsDead.{close_came, close_gives, close_leaves, close_stands}
+use Rattle.level_release.proofs.HandsDead.{close_came, close_gives, close_leaves, close_settled, close_stands}
 use Rattle.xp_words.specs.KindWords.{kind_write}
 use Rattle.xp_words.specs.declared.kind.KindWord.{KindWord}
 use Rattle.xp_words.specs.declared.place.Place.TheVariants.{Kind}
@@ -49,6 +49,16 @@ returns-clause-stands g c ts h s =
     let d = g.P.Port.value c.leave.new.port in
     let w = g.P.Port.value c.put_ref.new.port in
     close_stands h v x c.args.table ts s c.requires.empty c.look_clock-clock.result c.look_clock-clock.ensures.moves c.look_clock-clock.ensures.hand c.dead_kind.result c.level_type.result c.level_type.ensures c.dead_kind.ensures
+    d c.leave.result c.leave.ensures.moves c.leave.ensures.hand w c.put_ref.ensures.hand (serves_came _ _ _ _ c.put_ref.ensures.serves)
+
+pub returns-clause-settled : goal.returns-clause-settled
+returns-clause-settled g c =
+    let v = g.P.Port.value c.args.port.now in
+    let x = g.P.Port.value c.look_clock-clock.new.port in
+    let d = g.P.Port.value c.leave.new.port in
+    let w = g.P.Port.value c.put_ref.new.port in
+    let s = c.requires.stands in
+    close_settled s.1.0 v x c.args.table s.0 s.1.1 c.requires.empty c.look_clock-clock.result c.look_clock-clock.ensures.moves c.look_clock-clock.ensures.hand c.dead_kind.result c.level_type.result c.level_type.ensures c.dead_kind.ensures
     d c.leave.result c.leave.ensures.moves c.leave.ensures.hand w c.put_ref.ensures.hand (serves_came _ _ _ _ c.put_ref.ensures.serves)
 
 pub returns-clause-serves : goal.returns-clause-serves

@@ -1,8 +1,8 @@
 use Rattle.std.proofs.Common.{◌∷◌, ap, ◌∙◌, [], subst}
 use Rattle.step_maker.proofs.Coming.{came_trans}
-use Rattle.level_release.proofs.HandsRunning.{emptied_dead, emptied_may, emptied_named, emptied_room}
+use Rattle.level_release.proofs.HandsRunning.{emptied_dead, emptied_may, emptied_named, emptied_room, from_one}
 use Rattle.answer_fits.specs.Answers.{missed}
-use Rattle.level_release.specs.Asking.{Continues, StopsRisen}
+use Rattle.level_release.specs.Asking.{Continues, StopsRelease}
 use Rattle.level_release.proofs.CoursesRun.{empties_finished, empties_paused}
 use Rattle.level_release.proofs.ServingRisen.{goes_then, risen_on}
 use Rattle.level_release.proofs.emptying.empty.Goals as goal
@@ -11,6 +11,14 @@ pub unwind-requires-clause-may : goal.unwind-requires-clause-may
 unwind-requires-clause-may g c =
     emptied_may (g.P.Port.value c.args.port.now) (g.P.Port.value c.run_down.new.port) c.args.table c.push.new.self c.run_down.new.stack (c.push.ensures.pushed ∙ ap (λ ts. c.args.table ∷ ts) c.new-stack.ensures)
     c.run_down.ensures.came c.run_down.ensures.stands c.requires.stands c.requires.may
+
+pub unwind-requires-clause-stands : goal.unwind-requires-clause-stands
+unwind-requires-clause-stands g c =
+    let s = c.requires.stands in (
+      s.0,
+      from_one (g.P.Port.value c.args.port.now) (g.P.Port.value c.run_down.new.port) c.args.table c.push.new.self c.run_down.new.stack (c.push.ensures.pushed ∙ ap (λ ts. c.args.table ∷ ts) c.new-stack.ensures)
+          c.run_down.ensures.came c.run_down.ensures.stands s.0 s.1,
+    )
 
 pub unwind-requires-clause-room : goal.unwind-requires-clause-room
 unwind-requires-clause-room g c =
@@ -54,7 +62,7 @@ returns-in-Err-clause-stops g c =
     let w = g.P.Port.value c.unwind.new.port in
     let t = c.args.table in
     let one = c.push.ensures.pushed ∙ ap (λ ts. t ∷ ts) c.new-stack.ensures in
-    subst (λ ts. StopsRisen u w ts c.in-Err.stop) one (risen_on u (g.P.Port.value c.run_down.new.port) w c.push.new.self c.in-Err.stop c.unwind.ensures.came c.in-Err.ensures.stops)
+    subst (λ ts. StopsRelease u w ts c.in-Err.stop) one (risen_on u (g.P.Port.value c.run_down.new.port) w c.push.new.self c.in-Err.stop c.unwind.ensures.came c.in-Err.ensures.stops)
 
 pub returns-in-Err-clause-course : goal.returns-in-Err-clause-course
 returns-in-Err-clause-course g c =

@@ -1,11 +1,11 @@
 use Rattle.std.proofs.Common.{drop, rules, ℕ, Err, [], ◌∷◌, sym, ap, ◌∙◌, subst}
-use Rattle.level_release.proofs.HandsLowered.{lower_above, lower_came, lower_given, lower_opened, lower_stays}
+use Rattle.level_release.proofs.HandsLowered.{given_clear, lower_above, lower_came, lower_given, lower_opened, lower_stays, opened_clear}
 use Rattle.std.proofs.lemmas.Result.{err_from_is_err_and}
 use Rattle.answer_fits.specs.Answers.{missed}
 use Rattle.table_entries.specs.Asking.{AsksBelow}
-use Rattle.table_releases.specs.Tops.{ShowsReleased}
+use Rattle.table_releases.specs.Tops.{IsShedLive, ShowsReleased}
 use Rattle.level_release.specs.Asking.{Continues}
-use Rattle.level_release.specs.Course.{table_in}
+use Rattle.level_release.specs.Course.{table_under}
 use Rattle.level_release.proofs.Courses.{lowered_emptied, lowered_given, lowered_opened, lowered_stopped, some_left}
 use Rattle.level_release.proofs.ServingEntries.{goes_advanced, goes_answer, goes_entries, goes_opened, risen_answer, risen_entries}
 use Rattle.level_release.proofs.emptying.lower.Goals as goal
@@ -105,7 +105,7 @@ returns-in-Opened-clause-serves g c =
     let w = g.P.Port.value c.release_entry.new.port in
     let ts = c.args.stack.now in
     let k = c.level_type.result in
-    let u = table_in c.in-Some.top c.in-Opened.frame c.in-Opened.recorded c.in-Opened.closing in
+    let u = table_under c.in-Some.top c.in-Opened.frame c.in-Opened.recorded c.in-Opened.closing in
     let asks : (owner pages : ℕ) → AsksBelow v w owner pages k c.in-Opened.frame = λ owner pages. (subst (λ a. ShowsReleased v w owner pages k a) c.in-Opened.is (c.in_ok-release_entry.ensures.shows owner pages)).1 in
     subst (λ us. Continues v w ts us []) (sym (c.push.ensures.pushed ∙ ap (λ us. u ∷ us) c.advance-in-Opened.ensures.advanced)) (goes_opened v w ts u k c.in_ok-release_entry.ensures.serves asks)
 
@@ -117,3 +117,25 @@ returns-in-Opened-clause-course g c =
     lowered_opened (g.P.Port.value c.args.port.now) (g.P.Port.value c.release_entry.new.port) t (drop 1 ts) ts are c.level_type.result c.level_type.ensures (some_left t (drop 1 ts) ts are c.in-Some.ensures.stack c.if-top-eq512.false)
     c.in_ok-release_entry.field-0 c.in-Opened.frame c.in-Opened.recorded c.in-Opened.closing c.advance-in-Opened.new.self c.push.new.self c.in-Opened.is c.advance-in-Opened.ensures.advanced c.push.ensures.pushed
     c.in_ok-release_entry.ensures.found c.in_ok-release_entry.ensures.plain
+
+-- ---- where nothing was noted as unsettled
+pub returns-then-top-eq512-clause-settled : goal.returns-then-top-eq512-clause-settled
+returns-then-top-eq512-clause-settled g c settled = (tt, c.close.ensures.settled)
+
+pub returns-in_err-release_entry-clause-settled : goal.returns-in_err-release_entry-clause-settled
+returns-in_err-release_entry-clause-settled g c settled = absurd (subst IsShedLive c.in_err-release_entry.was (c.release_entry.ensures.settled settled))
+
+pub returns-in-Given-clause-settled : goal.returns-in-Given-clause-settled
+returns-in-Given-clause-settled g c settled = (
+  tt,
+  given_clear c.requires.stands.0 (g.P.Port.value c.args.port.now) (g.P.Port.value c.release_entry.new.port) c.in-Some.top c.args.stack.now (drop 1 c.args.stack.now) c.level_type.result c.in-Some.ensures.some c.level_type.ensures c.requires.stands.1
+      c.release_entry.result c.release_entry.ensures.found c.if-top-eq512.false c.in_ok-release_entry.field-0 c.in_ok-release_entry.ensures.hand c.advance.new.self c.advance.ensures.advanced c.in-Given.is,
+)
+
+pub returns-in-Opened-clause-settled : goal.returns-in-Opened-clause-settled
+returns-in-Opened-clause-settled g c settled = (
+  tt,
+  opened_clear c.requires.stands.0 (g.P.Port.value c.args.port.now) (g.P.Port.value c.release_entry.new.port) c.in-Some.top c.args.stack.now (drop 1 c.args.stack.now) c.level_type.result c.in-Some.ensures.some c.level_type.ensures c.requires.stands.1
+      c.release_entry.result c.release_entry.ensures.found c.if-top-eq512.false c.in_ok-release_entry.field-0 c.in_ok-release_entry.ensures.hand c.advance-in-Opened.new.self c.advance-in-Opened.ensures.advanced
+      c.in-Opened.frame c.in-Opened.recorded c.in-Opened.closing c.in-Opened.is (subst IsShedLive c.in_ok-release_entry.was (c.release_entry.ensures.settled settled)),
+)

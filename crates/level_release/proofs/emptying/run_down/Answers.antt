@@ -1,4 +1,5 @@
-use Rattle.std.proofs.Common.{refl, ◌∙◌, ◌&&◌, true, Err, Ok, sym, ap, subst}
+use Rattle.std.proofs.Common.{refl, ◌∙◌, ◌&&◌, true, Bool, Result, Err, Ok, IfErr, sym, ap, subst}
+use Rattle.xp_words.specs.declared.reply.Stop.{Stop}
 use Rattle.step_maker.proofs.Coming.{came_trans}
 use Rattle.level_release.proofs.HandsRunning.{running_begins, running_may, running_on, tested_some}
 use Rattle.std.proofs.lemmas.Result.{err_from_is_err_and}
@@ -21,7 +22,7 @@ returns-then-due-clause-came g c =
     came_trans (g.P.Port.value c.args.port.now) (g.P.Port.value c.loop-port.port) (g.P.Port.value c.lower.new.port) c.loop-port.invariant.hands.came c.lower.ensures.came
 
 pub loop-port-init : goal.loop-port-init
-loop-port-init g c = record { hands = running_begins (g.P.Port.value c.args.port.now) c.args.stack.now; goes = serving_begins (g.P.Port.value c.args.port.now) c.args.stack.now c.requires.one; course = runs_nothing _ _ _ _ _; says = λ n. refl; paces = refl; calm = λ calm. calm }
+loop-port-init g c = record { hands = running_begins (g.P.Port.value c.args.port.now) c.args.stack.now; goes = serving_begins (g.P.Port.value c.args.port.now) c.args.stack.now c.requires.one; course = runs_nothing _ _ _ _ _; settled = λ s. s; says = λ n. refl; paces = refl; calm = λ calm. calm }
 
 -- ---- an entry, or a table, stops it
 pub returns-in_err-lower-clause-serves : goal.returns-in_err-lower-clause-serves
@@ -72,6 +73,9 @@ returns-then-due-clause-course g c =
     runs_due (g.P.Port.value c.args.port.now) v c.args.stack.now us _ _ _ _ _ c.loop-port.invariant.course w xs (subst (λ b. Lowered v us w xs (Ok b)) c.if-branch.true c.in_ok-lower.ensures.course) (sym c.if-is_asked.ensures) _
     c.loop-port.invariant.says _ _ c.if-due.ensures.1.0 c.if-due.ensures.1.1.0 c.if-due.ensures.0
 
+pub returns-then-due-clause-stands : goal.returns-then-due-clause-stands
+returns-then-due-clause-stands g c h s = c.lower.ensures.stands h (c.loop-port.invariant.hands.stands h s)
+
 -- ---- or no
 pub loop-port-preserved-else-due : goal.loop-port-preserved-else-due
 loop-port-preserved-else-due g c =
@@ -88,6 +92,7 @@ loop-port-preserved-else-due g c =
       goes = serving_on u v ts us i.goes w xs a.came a.serves a.progress;
       course = runs_on u v ts us _ _ _ _ _ i.course w xs (subst (λ b. Lowered v us w xs (Ok b)) c.if-branch.true a.course) (sym c.if-is_asked.ensures) _ i.says _ _ c.if-due.ensures.1.0 c.if-due.ensures.1.1.0 c.if-due.ensures.0;
       says = λ n. c.if-due.ensures.1.1.1.0 n ∙ i.says n;
+      settled = λ s. (c.lower.ensures.settled (i.settled s)).1;
       paces = c.due.ensures.1.1.1.1.0 ∙ i.paces;
       calm = λ calm. (c.due.ensures.1.1.1.1.1 (i.calm calm)).1;
     }
@@ -108,6 +113,7 @@ loop-port-preserved-else-is_asked g c =
       goes = serving_on u v ts us i.goes w xs a.came a.serves a.progress;
       course = runs_unasked u v ts us _ _ _ _ _ i.course w xs true (subst (λ b. Lowered v us w xs (Ok b)) c.if-branch.true a.course) (sym c.if-is_asked.ensures);
       says = i.says;
+      settled = λ s. (c.lower.ensures.settled (i.settled s)).1;
       paces = i.paces;
       calm = i.calm;
     }
@@ -127,6 +133,11 @@ loop-port-preserved g c =
       goes = serving_on u v ts us i.goes w xs a.came a.serves a.progress;
       course = runs_unasked u v ts us _ _ _ _ _ i.course w xs c.in_ok-lower.field-0 a.course (ap (λ b. b && is_asked_down xs) c.if-branch.false);
       says = i.says;
+      settled = λ s. (c.lower.ensures.settled (i.settled s)).1;
       paces = i.paces;
       calm = i.calm;
     }
+
+-- ---- where nothing was noted as unsettled
+pub returns-in_err-lower-clause-settled : goal.returns-in_err-lower-clause-settled
+returns-in_err-lower-clause-settled g c s = absurd (subst (λ (r : Result Bool Stop). IfErr r (λ e. ⊥)) c.in_err-lower.was (c.lower.ensures.settled (c.loop-port.invariant.settled s)).0)

@@ -1,7 +1,7 @@
 use Rattle.std.proofs.Common.{drop, sym, ◌∙◌, ◌∷◌, ◌-◌, subst}
 use Rattle.step_maker.proofs.Coming.{came_trans, moves_came}
 use Rattle.level_release.proofs.HandsRecorded.{inside_asks, inside_done}
-use Rattle.level_release.specs.Asking.{Continues, IsPiece}
+use Rattle.level_release.specs.Asking.{Continues, IsReleasePiece}
 use Rattle.level_release.proofs.Serving.{piece_records, piece_rest, piece_retreated}
 use Rattle.level_release.proofs.ServingTables.{piece_partial}
 use Rattle.level_release.proofs.leaving.leave_inside.Goals as goal
@@ -34,4 +34,4 @@ returns-in-Some-clause-serves g c u r ds a =
     let w = g.P.Port.value c.record_entry.new.port in
     let left = piece_partial b.0 v x t ts c.leave_partial.result b.1 c.leave_partial.ensures.moves u r ts ds a in
     let recorded = piece_records u x w r (t ∷ ts) ds left o.frame (512 - o.done) c.record_entry.result c.record_entry.ensures.moves in
-    subst (λ us. IsPiece u w r us ds) (sym c.retreat.ensures.retreated) (piece_retreated u w r ts ds (piece_rest u w r t ts ds recorded))
+    subst (λ us. IsReleasePiece u w r us ds) (sym c.retreat.ensures.retreated) (piece_retreated u w r ts ds (piece_rest u w r t ts ds recorded))

@@ -2,12 +2,13 @@ use Rattle.std.proofs.Common.{[], Err, false, refl, ap, ◌∙◌}
 use Rattle.xp_words.specs.declared.kind.KindWord.{KindWord}
 use Rattle.xp_words.specs.declared.reply.Pause.TheVariants.{Busy}
 use Rattle.xp_words.specs.declared.reply.Stop.TheVariants.{Paused}
+use Rattle.std.proofs.lemmas.Result.{IfErr-weaker}
 use Rattle.board_lemmas.proofs.KindForms.{fields_of}
 use Rattle.step_maker.proofs.Coming.{moves_came}
 use Rattle.answer_fits.proofs.Piecing.{serves_came, stops_before}
 use Rattle.level_release.specs.Asking.{of_release, of_settle}
 use Rattle.level_release.specs.Course.{SettledOne, WasReleased}
-use Rattle.level_release.proofs.Answered.{busy_course, busy_stops, live_course, released_serves, released_stops}
+use Rattle.level_release.proofs.Answered.{busy_course, busy_stops, due_ends, live_course, released_serves, released_stops}
 use Rattle.level_release.proofs.Consulting.{by_as, by_none}
 use Rattle.level_release.proofs.Lived.{named_live}
 use Rattle.level_release.proofs.Named.{again_serves, took_came, took_serves}
@@ -87,3 +88,6 @@ returns-else-kind-2-clause-course g c u which t =
     let v = g.P.Port.value c.args.port.now in
     by_none _ _ _ _ _ refl
     (busy_course u v which c.args.frame c.args.found t c.read_kind-kind.result c.read_kind-kind.ensures (g.P.Port.value c.put_old.new.port) c.if-kind.false c.if-kind-2.false c.put_old.ensures.moves)
+
+pub returns-then-kind-clause-kinds : goal.returns-then-kind-clause-kinds
+returns-then-kind-clause-kinds g c = IfErr-weaker c.release.result _ _ due_ends c.release.ensures.kinds

@@ -1,33 +1,48 @@
 use Rattle.level_validate.proofs.LeftWell.{well_then}
 use Rattle.level_validate.proofs.Forward.{forward_then}
-use Rattle.std.proofs.Common.{Ok, Err, refl, ap, ◌∙◌, false}
+use Rattle.std.proofs.Common.{Ok, Err, ap, ◌∙◌, false}
 use Rattle.std.proofs.lemmas.Result.{err_from_is_err_and}
-use Rattle.xp_preempt.proofs.Hearing.{heard_as, heard_none, heard_then}
+use Rattle.xp_preempt.proofs.Hearing.{heard_as, heard_then}
+use Rattle.table_courses.specs.Acquiring.{is_asked}
+use Rattle.level_validate.proofs.AskedOnce.{asked_stops}
 use Rattle.level_validate.proofs.Asking.{goes_answer}
 use Rattle.level_validate.proofs.Filling.{filling_came, filling_may, filling_on, filling_serves, filling_standing, filling_stops}
 use Rattle.level_validate.proofs.Rising.{risen_answer, risen_in}
-use Rattle.level_validate.proofs.WorkedOn.{begun_working, cut_off_working, working_on, working_stops}
+use Rattle.level_validate.proofs.WorkedOn.{begun_working, cut_off_working, due_working, working_on, working_stops}
 use Rattle.level_validate.proofs.acquiring.fill.Goals as goal
 
-pub returns-in_err-take_on-clause-stops : goal.returns-in_err-take_on-clause-stops
-returns-in_err-take_on-clause-stops g c =
+pub returns-in_err-done-clause-stops : goal.returns-in_err-done-clause-stops
+returns-in_err-done-clause-stops g c =
     let u = g.P.Port.value c.args.port.now in
     let x = g.P.Port.value c.take_on.new.port in
-    let e = c.in_err-take_on.field-0.0 in
+    let e = c.in_err-done.field-0.0 in
     let answer = err_from_is_err_and c.from_residual.result c.from_residual.ensures.1 in
-    risen_answer u x c.args.owner c.args.stack.now c.from_residual.result e (answer.1 ∙ ap Err answer.2) (risen_in u x c.args.owner c.args.stack.now e c.in_err-take_on.ensures.stops)
+    risen_answer u x c.args.owner c.args.stack.now c.from_residual.result e (answer.1 ∙ ap Err answer.2) (risen_in u x c.args.owner c.args.stack.now e c.in_err-done.ensures.stops)
+
+pub returns-in_err-ask_behind-clause-stops : goal.returns-in_err-ask_behind-clause-stops
+returns-in_err-ask_behind-clause-stops g c =
+    let u = g.P.Port.value c.args.port.now in
+    let x = g.P.Port.value c.take_on.new.port in
+    let owner = c.args.owner in
+    let e = c.in_err-ask_behind.field-0.0 in
+    let r = c.from_residual-in_err-ask_behind.result in
+    let answer = err_from_is_err_and r c.from_residual-in_err-ask_behind.ensures.1 in
+    let asked = c.in_err-ask_behind.ensures in
+    risen_answer u x owner c.args.stack.now r e (answer.1 ∙ ap Err answer.2)
+    (asked_stops u x owner c.args.stack.now c.in_ok-done.done (is_asked c.take_on.new.stack) (Err e) asked.kinds c.in_ok-done.ensures.progress asked.course.answers asked.course.due asked.course.course)
 
 pub loop-port-init : goal.loop-port-init
 loop-port-init g c =
-    let t = c.in_ok-take_on.ensures in
+    let t = c.in_ok-done.ensures in
+    let a = c.in_ok-ask_behind.ensures in
     record {
       tables = record { came = t.came; forward = t.forward; leaves = t.leaves; stands = t.stands; outer = t.outer; ready = t.ready; serves = t.serves };
-      gate = refl;
-      heard = heard_none _ _;
-      says = λ n. refl;
-      paces = refl;
-      calm = λ a. a;
-      course = begun_working c.args.owner (g.P.Port.value c.args.port.now) c.args.table _ _ _ c.args.stack.now c.requires.only (g.P.Port.value c.take_on.new.port) c.take_on.new.stack t.course;
+      gate = a.gate;
+      heard = a.heard;
+      says = a.says;
+      paces = a.paces;
+      calm = λ calm. (a.calm calm).1;
+      course = begun_working c.args.owner (g.P.Port.value c.args.port.now) c.args.table _ _ _ c.args.stack.now c.requires.only (g.P.Port.value c.take_on.new.port) c.take_on.new.stack c.in_ok-done.done t.course _ _ a.course;
     }
 
 pub go_on-requires-clause-may : goal.go_on-requires-clause-may
@@ -98,13 +113,22 @@ returns-clause-leaves g c f = c.loop-port.invariant.tables.leaves f
 
 -- ---- its part of the course
 
-pub returns-in_err-take_on-clause-course : goal.returns-in_err-take_on-clause-course
-returns-in_err-take_on-clause-course g c =
-    let e = c.in_err-take_on.field-0.0 in
+pub returns-in_err-done-clause-course : goal.returns-in_err-done-clause-course
+returns-in_err-done-clause-course g c =
+    let e = c.in_err-done.field-0.0 in
     let answer = err_from_is_err_and c.from_residual.result c.from_residual.ensures.1 in
-    let stopped = c.in_err-take_on.ensures in
+    let stopped = c.in_err-done.ensures in
     cut_off_working c.args.owner (g.P.Port.value c.args.port.now) c.args.table _ _ _ c.args.stack.now c.requires.only (g.P.Port.value c.take_on.new.port) c.take_on.new.stack c.from_residual.result e (answer.1 ∙ ap Err answer.2)
     stopped.kinds stopped.course
+
+pub returns-in_err-ask_behind-clause-course : goal.returns-in_err-ask_behind-clause-course
+returns-in_err-ask_behind-clause-course g c =
+    let e = c.in_err-ask_behind.field-0.0 in
+    let r = c.from_residual-in_err-ask_behind.result in
+    let answer = err_from_is_err_and r c.from_residual-in_err-ask_behind.ensures.1 in
+    let asked = c.in_err-ask_behind.ensures in
+    due_working c.args.owner (g.P.Port.value c.args.port.now) c.args.table _ _ _ c.args.stack.now c.requires.only (g.P.Port.value c.take_on.new.port) c.take_on.new.stack c.in_ok-done.done c.in_ok-done.ensures.course _ _
+    r e (answer.1 ∙ ap Err answer.2) asked.kinds asked.course
 
 pub returns-in_err-go_on-clause-course : goal.returns-in_err-go_on-clause-course
 returns-in_err-go_on-clause-course g c =

@@ -8,7 +8,8 @@ use Rattle.level_validate.proofs.Forward.{forward_step, forward_then}
 use Rattle.level_validate.proofs.LeftWell.{kind_well, well_step, well_then}
 use Rattle.level_validate.proofs.LeavingTables.{top_inside}
 use Rattle.level_validate.proofs.Nested.{live_gives, live_records, new_ready, new_stands, old_ready, old_stands}
-use Rattle.level_validate.proofs.Progressing.{progress_after, progress_before, progress_records, progress_settles}
+use Rattle.answer_fits.proofs.Progressing.{progress_after, progress_before}
+use Rattle.level_validate.proofs.Progressing.{progress_records, progress_settles}
 use Rattle.level_validate.proofs.Serving.{piece_back, piece_left, piece_records, piece_rest}
 use Rattle.level_validate.proofs.completing.complete_in.Goals as goal
 

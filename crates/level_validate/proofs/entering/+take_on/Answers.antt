@@ -23,10 +23,11 @@ use Rattle.level_validate.proofs.Lowering.{again_lowers}
 use Rattle.level_validate.proofs.OnwardEntries.{resumes_forward}
 use Rattle.level_validate.proofs.OpenedAgain.{opened_may, opened_ready, opened_serves, opened_stands, opened_stops, opened_table, top_low}
 use Rattle.level_validate.proofs.Pushing.{pushed}
+use Rattle.level_validate.proofs.Rising.{progress_answer}
 use Rattle.level_validate.proofs.Serving.{goes_nothing}
 use Rattle.level_validate.proofs.Standing.{standing_above, standing_held, standing_looked, standing_top}
 use Rattle.level_validate.proofs.TakenOn.{dead_left, fresh_on, opened_on, resumed_err, settled_on, shared_left, stopped_on, taken_on, waiting_on}
-use Rattle.level_validate.proofs.TookAgain.{took_gives, took_inside, took_ready, took_serves, took_stands}
+use Rattle.level_validate.proofs.TookAgain.{took_gives, took_inside, took_progress, took_ready, took_serves, took_stands}
 use Rattle.level_validate.proofs.Visited.{resumed_first}
 use Rattle.level_validate.proofs.WaitedAgain.{dead_forward, dead_well, shared_forward, shared_well, waited_inside, waited_kinds, waited_serves, waited_stands, waited_stops, waited_waits}
 use Rattle.level_validate.proofs.entering.+take_on.Goals as goal
@@ -223,6 +224,14 @@ returns-in-Taken-clause-ready g n c =
     let said = said_again u x c.args.owner c.args.top c.level_type.result c.level_type.ensures c.in_ok-resume_entry.field-0 (again.Taken c.in-Taken.frame) c.in-Taken.is e.found e.plain e.shows e.serves e.hand in
     took_ready u x c.args.owner c.args.top c.args.stack.now c.requires.top c.if-top-eq0.false c.in-Taken.frame said (g.P.Port.value c.give_back.new.port) c.give_back.ensures.hand c.give_back.ensures.came c.requires.stands
 
+pub returns-in-Taken-clause-progress : goal.returns-in-Taken-clause-progress
+returns-in-Taken-clause-progress g n c is =
+    let u = g.P.Port.value c.args.port.now in
+    let x = g.P.Port.value c.resume_entry.new.port in
+    let e = c.in_ok-resume_entry.ensures in
+    let said = said_again u x c.args.owner c.args.top c.level_type.result c.level_type.ensures c.in_ok-resume_entry.field-0 (again.Taken c.in-Taken.frame) c.in-Taken.is e.found e.plain e.shows e.serves e.hand in
+    took_progress u x c.args.owner c.args.top c.args.stack.now c.requires.top c.if-top-eq0.false c.in-Taken.frame said (g.P.Port.value c.give_back.new.port) c.give_back.ensures.came
+
 pub returns-in-Taken-clause-serves : goal.returns-in-Taken-clause-serves
 returns-in-Taken-clause-serves g n c =
     let u = g.P.Port.value c.args.port.now in
@@ -300,6 +309,12 @@ returns-in-Opened-clause-stands g n c v s =
     let e = c.in_ok-resume_entry.ensures in
     let said = said_again u x c.args.owner c.args.top c.level_type.result c.level_type.ensures c.in_ok-resume_entry.field-0 (again.Opened c.in-Opened.frame c.in-Opened.progress c.in-Opened.own) c.in-Opened.is e.found e.plain e.shows e.serves e.hand in
     c.take_on.ensures.stands v (opened_stands u x c.args.owner c.args.top c.args.stack.now c.requires.top c.if-top-eq0.false c.in-Opened.frame c.in-Opened.progress c.in-Opened.own said c.push.new.self c.push.ensures.pushed v s)
+
+pub returns-in-Opened-clause-progress : goal.returns-in-Opened-clause-progress
+returns-in-Opened-clause-progress g n c =
+    let u = g.P.Port.value c.args.port.now in
+    let x = g.P.Port.value c.resume_entry.new.port in
+    progress_answer u x (g.P.Port.value c.take_on.new.port) c.take_on.result (serves_came u x (of_entries c.args.owner 0) [] (c.in_ok-resume_entry.ensures.serves 0)) c.take_on.ensures.progress
 
 pub returns-in-Opened-clause-less : goal.returns-in-Opened-clause-less
 returns-in-Opened-clause-less g n c =

@@ -1,4 +1,5 @@
 use Rattle.std.proofs.Common.{ℕ, Err, refl, ◌-◌, ◌<◌, ◌∷◌, [], drop, false, None, Ok, sym, ap, ◌∙◌, subst, arith}
+use Rattle.partial_state.proofs.LevelFacts.{level_type-under}
 use Rattle.std.proofs.lemmas.Result.{IfErr-weaker, err_from_is_err_and}
 use Rattle.xp_words.specs.Entries.{below}
 use Rattle.xp_words.specs.declared.kind.PageType.{PageType}
@@ -19,11 +20,12 @@ use Rattle.level_validate.proofs.Asking.{goes_advanced, goes_answer, goes_entrie
 use Rattle.level_validate.proofs.Entered.{after_look, after_next, after_record, after_record_ready, fresh_ready}
 use Rattle.level_validate.proofs.LeavingTables.{top_inside}
 use Rattle.level_validate.proofs.Lowering.{next_lowers}
-use Rattle.level_validate.proofs.Opening.{level_below, opened_found}
+use Rattle.level_validate.proofs.Opening.{opened_found}
 use Rattle.level_validate.proofs.Visited.{entered_first}
 use Rattle.level_validate.proofs.Pushing.{pushed}
 use Rattle.level_validate.proofs.Standing.{standing_above, standing_held, standing_known, standing_looked, standing_next}
 use Rattle.level_validate.proofs.StandsFacts.{may_back, may_stands}
+use Rattle.level_validate.proofs.Rising.{progress_answer}
 use Rattle.level_validate.proofs.Waiting.{wait_stops}
 use Rattle.level_validate.proofs.Forward.{forward_then}
 use Rattle.level_validate.proofs.OnwardEntries.{enters_forward}
@@ -359,7 +361,7 @@ returns-in-Opened-clause-serves g c =
     let a = c.requires.stands in
     let s0 = subst (λ xs. Carries a.0 u owner xs) c.in-Some.ensures.some a.1 in
     let inner = pushed t c.in-Opened.frame c.in-Opened.progress c.in-Opened.own false in
-    let below_is = ap below c.level_type.ensures ∙ level_below t.level s0.stack.0.low s0.stack.0.high in
+    let below_is = ap below c.level_type.ensures ∙ level_type-under t.level s0.stack.0.low s0.stack.0.high in
     let first = goes_opened u x owner stack k c.in-Opened.frame c.in_ok-take_entry.ensures.serves shows inner refl below_is in
     goes_on u x y owner stack c.push.new.self c.take_on.new.stack c.take_on.result came
     (subst (λ xs. CarriesOn u x owner stack xs []) (sym (c.push.ensures.pushed ∙ ap (λ ys. inner ∷ ys) c.advance-in-Opened.ensures.advanced)) (goes_inner u x owner stack inner stack [] first)) c.take_on.ensures.serves
@@ -386,7 +388,7 @@ returns-in-Opened-clause-stops g c =
     let way = subst (λ k. EntersFound u x t.frame t.done k owner (Ok (entered.Opened c.in-Opened.frame c.in-Opened.progress c.in-Opened.own))) c.level_type.ensures (subst (λ r. EntersFound u x t.frame t.done c.level_type.result owner (Ok r)) c.in-Opened.is found) in
     let came_open = opened_found u x t.frame t.done (level_type t.level) owner c.in-Opened.frame c.in-Opened.progress c.in-Opened.own way in
     let inner = pushed t c.in-Opened.frame c.in-Opened.progress c.in-Opened.own false in
-    let below_is = ap below c.level_type.ensures ∙ level_below t.level s0.stack.0.low s0.stack.0.high in
+    let below_is = ap below c.level_type.ensures ∙ level_type-under t.level s0.stack.0.low s0.stack.0.high in
     let opened = goes_opened u x owner stack k c.in-Opened.frame c.in_ok-take_entry.ensures.serves shows inner refl below_is in
     let now = c.push.ensures.pushed ∙ ap (λ ys. inner ∷ ys) c.advance-in-Opened.ensures.advanced in
     let goes = subst (λ xs. CarriesOn u x owner stack xs []) (sym now) (goes_inner u x owner stack inner stack [] opened) in
@@ -418,6 +420,12 @@ returns-in-Recorded-clause-progress g c same =
     let u = g.P.Port.value c.args.port.now in
     let x = g.P.Port.value c.take_entry.new.port in
     subst (λ r. ShowsEntered u x c.args.owner 0 c.level_type.result r) c.in-Recorded.is (c.in_ok-take_entry.ensures.shows 0)
+
+pub returns-in-Opened-clause-progress : goal.returns-in-Opened-clause-progress
+returns-in-Opened-clause-progress g c =
+    let u = g.P.Port.value c.args.port.now in
+    let x = g.P.Port.value c.take_entry.new.port in
+    progress_answer u x (g.P.Port.value c.take_on.new.port) c.take_on.result (serves_came u x (of_entries c.args.owner 0) [] (c.in_ok-take_entry.ensures.serves 0)) c.take_on.ensures.progress
 
 pub returns-in_err-take_entry-clause-forward : goal.returns-in_err-take_entry-clause-forward
 returns-in_err-take_entry-clause-forward g c =
@@ -484,7 +492,7 @@ returns-in-Opened-clause-course g c =
     let o = c.in-Opened in
     let answer = c.in_ok-take_entry.ensures in
     opened_next c.args.owner u t (drop 1 c.args.stack.now) c.args.stack.now c.in-Some.ensures.some c.requires.left x (g.P.Port.value c.take_on.new.port) o.frame o.progress o.own c.take_on.result
-    c.advance-in-Opened.new.self c.push.new.self c.take_on.new.stack c.advance-in-Opened.ensures.advanced c.push.ensures.pushed c.take_on.ensures.deeper
+    c.advance-in-Opened.new.self c.push.new.self c.take_on.new.stack c.advance-in-Opened.ensures.advanced c.push.ensures.pushed
     (entered_ok u x c.args.owner t c.level_type.result c.level_type.ensures c.in_ok-take_entry.field-0 (entered.Opened o.frame o.progress o.own) o.is answer.found answer.plain answer.shows) c.take_on.ensures.course
 
 pub returns-in-Unsettled-clause-course : goal.returns-in-Unsettled-clause-course

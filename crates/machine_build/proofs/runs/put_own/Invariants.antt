@@ -1,4 +1,4 @@
-use Rattle.std.proofs.Common.{◌≡◌, ◌-◌, ◌∷◌, []}
+use Rattle.std.proofs.Common.{◌≡◌, ◌-◌, ◌∷◌, [], length}
 use Rattle.xp_words.specs.declared.place.Place.{Place}
 use Rattle.xp_words.specs.Places.{sizes_of, memory}
 use Rattle.machine_build.specs.Puts.{with_owned}
@@ -6,4 +6,4 @@ use Rattle.machine_build.proofs.runs.put_own.Given as goal
 
 abbrev pub invariant-loop-frame : goal.invariant-loop-frame
 invariant-loop-frame l =
-    (p : Place) → memory (sizes_of l.layout) l.words p ≡ with_owned (record l.fn.own { count = l.frame - l.fn.own.first } ∷ []) (memory (sizes_of l.layout) l.initial.words) p
+    (length l.words ≡ length l.initial.words) × ((p : Place) → memory (sizes_of l.layout) l.words p ≡ with_owned (record l.fn.own { count = l.frame - l.fn.own.first } ∷ []) (memory (sizes_of l.layout) l.initial.words) p)

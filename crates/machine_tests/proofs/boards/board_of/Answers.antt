@@ -8,7 +8,7 @@ use Rattle.xp_machine.proofs.Reaching.{takes_fresh}
 use Rattle.machine_tests.proofs.boards.board_of.Goals as goal
 
 pub returns-clause-fresh : goal.returns-clause-fresh
-returns-clause-fresh c = takes_fresh c.args.trace c.in_ok-board.board c.in_ok-words.words.items (c.opening_words_are_sound.ensures c.args.trace c.in_ok-words.words.items c.requires c.in_ok-words.ensures).sound.machine c.in_ok-words.ensures c.in_ok-board.ensures.0 c.in_ok-board.ensures.1
+returns-clause-fresh c = takes_fresh c.args.trace c.in_ok-board.board c.in_ok-words.words (c.opening_words_are_sound.ensures c.args.trace c.in_ok-words.words c.requires c.in_ok-words.ensures).sound.machine c.in_ok-words.ensures c.in_ok-board.ensures.0 c.in_ok-board.ensures.1
 
 pub returns-clause-hands : goal.returns-clause-hands
 returns-clause-hands c =

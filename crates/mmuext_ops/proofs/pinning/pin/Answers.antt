@@ -8,7 +8,8 @@ use Rattle.answer_fits.specs.Answers.{missed}
 use Rattle.answer_fits.specs.Asked.{of_back, of_frame}
 use Rattle.answer_fits.proofs.Piecing.{serves_came}
 use Rattle.mmuext_ops.specs.Course.{IsPinnedAs}
-use Rattle.mmuext_ops.specs.Elements.{is_due_stop, of_pin, told}
+use Rattle.level_release.specs.Asking.{is_due_stop}
+use Rattle.mmuext_ops.specs.Elements.{of_pin, told}
 use Rattle.mmuext_ops.specs.declared.element.Element.TheVariants.{Pin}
 use Rattle.mmuext_ops.proofs.Looked.{fields, given_back, look_there, not_referred, put_back, read_some, referred}
 use Rattle.mmuext_ops.proofs.PinCourse.{before_course, gave_ref, live_course, refused_course, unreferred_course}

@@ -1,5 +1,6 @@
 use Rattle.std.proofs.Common.{◌≢◌, [], None, Ok, Err, ap, ◌∙◌, subst}
 use Rattle.std.proofs.lemmas.Result.{err_from_is_err_and}
+use Rattle.std.proofs.lemmas.Bool.{not-false, not-true}
 use Rattle.xp_words.specs.KindWords.{kind_write}
 use Rattle.xp_words.specs.declared.kind.KindWord.{KindWord}
 use Rattle.xp_words.specs.declared.reply.Refusal.TheVariants.{NotPinned}
@@ -11,14 +12,14 @@ use Rattle.answer_fits.specs.Answers.{missed}
 use Rattle.answer_fits.specs.Asked.{of_back, of_frame}
 use Rattle.answer_fits.proofs.Piecing.{serves_came}
 use Rattle.mmuext_ops.specs.Course.{TakesPinOff}
-use Rattle.mmuext_ops.specs.Elements.{request_of, told}
+use Rattle.mmuext_ops.specs.Elements.{ext_request, told}
 use Rattle.mmuext_ops.specs.declared.element.Element.TheVariants.{Unpin}
 use Rattle.mmuext_ops.proofs.Looked.{fields, given_back, look_there, looked, not_referred, put_back, read_some, referred, spelled, written}
 use Rattle.mmuext_ops.proofs.PinCourse.{gave_ref}
 use Rattle.mmuext_ops.proofs.Released.{holds_live, lost_hand, released_hand, released_serves}
 use Rattle.mmuext_ops.proofs.Rests.{rests_behind}
 use Rattle.mmuext_ops.proofs.UnpinCourse.{before_course, lost_course, raced_course, released_course, unreferred_course}
-use Rattle.mmuext_ops.proofs.Unpinned.{asks, before_stops, fits_b, found_some, is_off, is_on, lost_serves, lost_why, may_unpin, raced_serves, raced_stops, serves_as, stop_is, stops_as, takes_off, unpinned_serves}
+use Rattle.mmuext_ops.proofs.Unpinned.{asks, before_stops, fits_b, found_some, lost_serves, lost_why, may_unpin, raced_serves, raced_stops, serves_as, stop_is, stops_as, takes_off, unpinned_serves}
 use Rattle.mmuext_ops.proofs.unpinning.unpin.Goals as goal
 
 -- ---- its reference is not to be had
@@ -28,7 +29,7 @@ returns-in_err-frame-clause-serves g c =
     let a = g.P.Port.value c.get_ref.new.port in
     let stop = c.in_err-frame.field-0.0 in
     let answer = err_from_is_err_and c.from_residual.result c.from_residual.ensures.1 in
-    serves_as v a c.args.f c.args.domain c.from_residual.result stop (answer.1 ∙ ap Err answer.2) (referred v c.args.f c.args.domain (request_of c.args.domain (Unpin c.args.f) (Ok tt)) (asks v c.args.f c.args.domain) a (missed v.post.machine stop) c.in_err-frame.ensures.serves)
+    serves_as v a c.args.f c.args.domain c.from_residual.result stop (answer.1 ∙ ap Err answer.2) (referred v c.args.f c.args.domain (ext_request c.args.domain (Unpin c.args.f) (Ok tt)) (asks v c.args.f c.args.domain) a (missed v.post.machine stop) c.in_err-frame.ensures.serves)
 
 pub returns-in_err-frame-clause-stops : goal.returns-in_err-frame-clause-stops
 returns-in_err-frame-clause-stops g c =
@@ -36,7 +37,7 @@ returns-in_err-frame-clause-stops g c =
     let a = g.P.Port.value c.get_ref.new.port in
     let stop = c.in_err-frame.field-0.0 in
     let answer = err_from_is_err_and c.from_residual.result c.from_residual.ensures.1 in
-    stops_as v a c.args.f c.args.domain c.from_residual.result stop (answer.1 ∙ ap Err answer.2) (not_referred v c.args.f c.args.domain (request_of c.args.domain (Unpin c.args.f) (Ok tt)) (asks v c.args.f c.args.domain) a stop c.in_err-frame.ensures.stops)
+    stops_as v a c.args.f c.args.domain c.from_residual.result stop (answer.1 ∙ ap Err answer.2) (not_referred v c.args.f c.args.domain (ext_request c.args.domain (Unpin c.args.f) (Ok tt)) (asks v c.args.f c.args.domain) a stop c.in_err-frame.ensures.stops)
 
 pub returns-in_err-frame-clause-course : goal.returns-in_err-frame-clause-course
 returns-in_err-frame-clause-course g c =
@@ -63,7 +64,7 @@ returns-then-not-kind-clause-serves g c =
     let b = g.P.Port.value c.look_kind-found.new.port in
     let p = g.P.Port.value c.put_ref.new.port in
     let x = c.look_kind-found.result in
-    ([], told _ _, put_back v a b c.args.f c.args.domain c.in_ok-frame.frame x c.in_ok-frame.ensures.frame.0 c.in_ok-frame.ensures.hand c.look_kind-found.ensures.moves c.look_kind-found.ensures.hand (request_of c.args.domain (Unpin c.args.f) (Ok tt)) (asks v c.args.f c.args.domain) c.in_ok-frame.ensures.serves p c.put_ref.ensures.serves)
+    ([], told _ _, put_back v a b c.args.f c.args.domain c.in_ok-frame.frame x c.in_ok-frame.ensures.frame.0 c.in_ok-frame.ensures.hand c.look_kind-found.ensures.moves c.look_kind-found.ensures.hand (ext_request c.args.domain (Unpin c.args.f) (Ok tt)) (asks v c.args.f c.args.domain) c.in_ok-frame.ensures.serves p c.put_ref.ensures.serves)
 
 pub returns-then-not-kind-clause-stops : goal.returns-then-not-kind-clause-stops
 returns-then-not-kind-clause-stops g c =
@@ -73,7 +74,7 @@ returns-then-not-kind-clause-stops g c =
     let p = g.P.Port.value c.put_ref.new.port in
     let x = c.look_kind-found.result in
     let k = c.read_kind-kind.result in
-    before_stops v c.args.f c.args.domain a b c.in_ok-frame.frame x c.in_ok-frame.ensures.frame.0 c.in_ok-frame.ensures.hand c.look_kind-found.ensures.moves c.look_kind-found.ensures.hand c.in_ok-frame.ensures.frame.1 k c.read_kind-kind.ensures (serves_came v a (of_frame c.args.f c.args.domain None) [] c.in_ok-frame.ensures.serves) p (serves_came b p (of_back c.in_ok-frame.frame) [] c.put_ref.ensures.serves) (is_off k.pinned c.if-not-kind.true)
+    before_stops v c.args.f c.args.domain a b c.in_ok-frame.frame x c.in_ok-frame.ensures.frame.0 c.in_ok-frame.ensures.hand c.look_kind-found.ensures.moves c.look_kind-found.ensures.hand c.in_ok-frame.ensures.frame.1 k c.read_kind-kind.ensures (serves_came v a (of_frame c.args.f c.args.domain None) [] c.in_ok-frame.ensures.serves) p (serves_came b p (of_back c.in_ok-frame.frame) [] c.put_ref.ensures.serves) (not-true k.pinned c.if-not-kind.true)
 
 pub returns-then-not-kind-clause-hand : goal.returns-then-not-kind-clause-hand
 returns-then-not-kind-clause-hand g c =
@@ -101,7 +102,7 @@ returns-then-not-kind-clause-course g c =
     let p = g.P.Port.value c.put_ref.new.port in
     let x = c.look_kind-found.result in
     let k = c.read_kind-kind.result in
-    before_course v p c.args.domain c.args.f _ _ _ a b x (record { found = c.in_ok-frame.ensures.gets; plain = c.in_ok-frame.ensures.plain; stops = tt }) (look_there v a b c.args.f c.args.domain c.in_ok-frame.frame x c.in_ok-frame.ensures.frame.0 c.in_ok-frame.ensures.hand c.look_kind-found.ensures.moves c.look_kind-found.ensures.hand) (ap (λ (y : KindWord). y.pinned) (fields v a b c.args.f c.args.domain c.in_ok-frame.frame x c.in_ok-frame.ensures.frame.0 c.in_ok-frame.ensures.hand c.look_kind-found.ensures.moves c.look_kind-found.ensures.hand c.in_ok-frame.ensures.frame.1 k c.read_kind-kind.ensures) ∙ (is_off k.pinned c.if-not-kind.true))
+    before_course v p c.args.domain c.args.f _ _ _ a b x (record { found = c.in_ok-frame.ensures.gets; plain = c.in_ok-frame.ensures.plain; stops = tt }) (look_there v a b c.args.f c.args.domain c.in_ok-frame.frame x c.in_ok-frame.ensures.frame.0 c.in_ok-frame.ensures.hand c.look_kind-found.ensures.moves c.look_kind-found.ensures.hand) (ap (λ (y : KindWord). y.pinned) (fields v a b c.args.f c.args.domain c.in_ok-frame.frame x c.in_ok-frame.ensures.frame.0 c.in_ok-frame.ensures.hand c.look_kind-found.ensures.moves c.look_kind-found.ensures.hand c.in_ok-frame.ensures.frame.1 k c.read_kind-kind.ensures) ∙ (not-true k.pinned c.if-not-kind.true))
     (gave_ref b p c.args.f c.in_ok-frame.frame c.in_ok-frame.ensures.frame.0 c.put_ref.ensures.puts c.put_ref.ensures.plain)
 
 -- ---- it is: the exchange
@@ -130,7 +131,7 @@ clear_pin-requires-clause-unpins g c =
     let b = g.P.Port.value c.look_kind-found.new.port in
     let x = c.look_kind-found.result in
     let k = c.read_kind-kind.result in
-    may_unpin k (spelled v a b c.args.f c.args.domain c.in_ok-frame.frame x c.in_ok-frame.ensures.frame.0 c.in_ok-frame.ensures.hand c.look_kind-found.ensures.moves c.look_kind-found.ensures.hand c.in_ok-frame.ensures.frame.1 k c.read_kind-kind.ensures) (is_on k.pinned c.if-not-kind.false)
+    may_unpin k (spelled v a b c.args.f c.args.domain c.in_ok-frame.frame x c.in_ok-frame.ensures.frame.0 c.in_ok-frame.ensures.hand c.look_kind-found.ensures.moves c.look_kind-found.ensures.hand c.in_ok-frame.ensures.frame.1 k c.read_kind-kind.ensures) (not-false k.pinned c.if-not-kind.false)
 
 -- ---- it found the same word: the table is released
 pub release-requires-clause-holds : goal.release-requires-clause-holds
@@ -155,8 +156,8 @@ returns-in-Ok-release-clause-serves g c =
     let x = c.look_kind-found.result in
     let k = c.read_kind-kind.result in
     released_serves v r w c.args.f c.args.domain c.in_ok-frame.frame c.release.result c.in_ok-frame.ensures.frame.0
-    (unpinned_serves v c.args.f c.args.domain a b c.in_ok-frame.frame x c.in_ok-frame.ensures.frame.0 c.in_ok-frame.ensures.hand c.look_kind-found.ensures.moves c.look_kind-found.ensures.hand c.in_ok-frame.ensures.frame.1 k c.read_kind-kind.ensures (serves_came v a (of_frame c.args.f c.args.domain None) [] c.in_ok-frame.ensures.serves) q (kind_write k) c.in-Ok.ensures.moves (is_on k.pinned c.if-not-kind.false) (looked v a b c.args.f c.args.domain c.in_ok-frame.frame x c.in_ok-frame.ensures.frame.0 c.in_ok-frame.ensures.hand c.look_kind-found.ensures.moves c.look_kind-found.ensures.hand (request_of c.args.domain (Unpin c.args.f) (Ok tt)) (asks v c.args.f c.args.domain) c.in_ok-frame.ensures.serves) r (written v a b c.args.f c.args.domain c.in_ok-frame.frame x c.in_ok-frame.ensures.frame.0 c.in_ok-frame.ensures.hand c.look_kind-found.ensures.moves c.look_kind-found.ensures.hand c.in_ok-frame.ensures.frame.1 k c.read_kind-kind.ensures) c.put_ref-in-Ok.ensures.serves)
-    (c.release.ensures.serves c.args.domain c.args.domain)
+    (unpinned_serves v c.args.f c.args.domain a b c.in_ok-frame.frame x c.in_ok-frame.ensures.frame.0 c.in_ok-frame.ensures.hand c.look_kind-found.ensures.moves c.look_kind-found.ensures.hand c.in_ok-frame.ensures.frame.1 k c.read_kind-kind.ensures (serves_came v a (of_frame c.args.f c.args.domain None) [] c.in_ok-frame.ensures.serves) q (kind_write k) c.in-Ok.ensures.moves (not-false k.pinned c.if-not-kind.false) (looked v a b c.args.f c.args.domain c.in_ok-frame.frame x c.in_ok-frame.ensures.frame.0 c.in_ok-frame.ensures.hand c.look_kind-found.ensures.moves c.look_kind-found.ensures.hand (ext_request c.args.domain (Unpin c.args.f) (Ok tt)) (asks v c.args.f c.args.domain) c.in_ok-frame.ensures.serves) r (written v a b c.args.f c.args.domain c.in_ok-frame.frame x c.in_ok-frame.ensures.frame.0 c.in_ok-frame.ensures.hand c.look_kind-found.ensures.moves c.look_kind-found.ensures.hand c.in_ok-frame.ensures.frame.1 k c.read_kind-kind.ensures) c.put_ref-in-Ok.ensures.serves)
+    (c.release.ensures.serves c.args.domain c.args.domain) c.release.ensures.kinds
 
 pub returns-in-Ok-release-clause-hand : goal.returns-in-Ok-release-clause-hand
 returns-in-Ok-release-clause-hand g c =
@@ -190,9 +191,9 @@ returns-in-Ok-release-clause-course g c =
     let w = g.P.Port.value c.release.new.port in
     let x = c.look_kind-found.result in
     let k = c.read_kind-kind.result in
-    released_course v a b q r w c.args.domain c.args.f c.in_ok-frame.frame x k.kind c.release.result _ _ _ _ _ (record { found = c.in_ok-frame.ensures.gets; plain = c.in_ok-frame.ensures.plain; stops = tt }) (look_there v a b c.args.f c.args.domain c.in_ok-frame.frame x c.in_ok-frame.ensures.frame.0 c.in_ok-frame.ensures.hand c.look_kind-found.ensures.moves c.look_kind-found.ensures.hand) (ap (λ (y : KindWord). y.pinned) (fields v a b c.args.f c.args.domain c.in_ok-frame.frame x c.in_ok-frame.ensures.frame.0 c.in_ok-frame.ensures.hand c.look_kind-found.ensures.moves c.look_kind-found.ensures.hand c.in_ok-frame.ensures.frame.1 k c.read_kind-kind.ensures) ∙ (is_on k.pinned c.if-not-kind.false))
+    released_course v a b q r w c.args.domain c.args.f c.in_ok-frame.frame x k.kind c.release.result _ _ _ _ _ (record { found = c.in_ok-frame.ensures.gets; plain = c.in_ok-frame.ensures.plain; stops = tt }) (look_there v a b c.args.f c.args.domain c.in_ok-frame.frame x c.in_ok-frame.ensures.frame.0 c.in_ok-frame.ensures.hand c.look_kind-found.ensures.moves c.look_kind-found.ensures.hand) (ap (λ (y : KindWord). y.pinned) (fields v a b c.args.f c.args.domain c.in_ok-frame.frame x c.in_ok-frame.ensures.frame.0 c.in_ok-frame.ensures.hand c.look_kind-found.ensures.moves c.look_kind-found.ensures.hand c.in_ok-frame.ensures.frame.1 k c.read_kind-kind.ensures) ∙ (not-false k.pinned c.if-not-kind.false))
     (subst (λ y. TakesPinOff b q c.args.f x y) (written v a b c.args.f c.args.domain c.in_ok-frame.frame x c.in_ok-frame.ensures.frame.0 c.in_ok-frame.ensures.hand c.look_kind-found.ensures.moves c.look_kind-found.ensures.hand c.in_ok-frame.ensures.frame.1 k c.read_kind-kind.ensures) (takes_off v c.args.f c.args.domain a b c.in_ok-frame.frame x c.in_ok-frame.ensures.frame.0 c.in_ok-frame.ensures.hand c.look_kind-found.ensures.moves c.look_kind-found.ensures.hand c.in_ok-frame.ensures.frame.1 k c.read_kind-kind.ensures (serves_came v a (of_frame c.args.f c.args.domain None) [] c.in_ok-frame.ensures.serves) q (kind_write k) c.in-Ok.ensures.moves))
-    (gave_ref q r c.args.f c.in_ok-frame.frame c.in_ok-frame.ensures.frame.0 c.put_ref-in-Ok.ensures.puts c.put_ref-in-Ok.ensures.plain) c.in_ok-frame.ensures.frame.0 (ap (λ (y : KindWord). y.kind) (fields v a b c.args.f c.args.domain c.in_ok-frame.frame x c.in_ok-frame.ensures.frame.0 c.in_ok-frame.ensures.hand c.look_kind-found.ensures.moves c.look_kind-found.ensures.hand c.in_ok-frame.ensures.frame.1 k c.read_kind-kind.ensures)) c.release.ensures.course
+    (gave_ref q r c.args.f c.in_ok-frame.frame c.in_ok-frame.ensures.frame.0 c.put_ref-in-Ok.ensures.puts c.put_ref-in-Ok.ensures.plain) c.in_ok-frame.ensures.frame.0 (ap (λ (y : KindWord). y.kind) (fields v a b c.args.f c.args.domain c.in_ok-frame.frame x c.in_ok-frame.ensures.frame.0 c.in_ok-frame.ensures.hand c.look_kind-found.ensures.moves c.look_kind-found.ensures.hand c.in_ok-frame.ensures.frame.1 k c.read_kind-kind.ensures)) c.release.ensures.course c.release.ensures.kinds
 
 -- ---- its release is paused
 pub returns-in-Ok-release-2-clause-serves : goal.returns-in-Ok-release-2-clause-serves
@@ -206,8 +207,8 @@ returns-in-Ok-release-2-clause-serves g c =
     let x = c.look_kind-found.result in
     let k = c.read_kind-kind.result in
     released_serves v r w c.args.f c.args.domain c.in_ok-frame.frame c.release.result c.in_ok-frame.ensures.frame.0
-    (unpinned_serves v c.args.f c.args.domain a b c.in_ok-frame.frame x c.in_ok-frame.ensures.frame.0 c.in_ok-frame.ensures.hand c.look_kind-found.ensures.moves c.look_kind-found.ensures.hand c.in_ok-frame.ensures.frame.1 k c.read_kind-kind.ensures (serves_came v a (of_frame c.args.f c.args.domain None) [] c.in_ok-frame.ensures.serves) q (kind_write k) c.in-Ok.ensures.moves (is_on k.pinned c.if-not-kind.false) (looked v a b c.args.f c.args.domain c.in_ok-frame.frame x c.in_ok-frame.ensures.frame.0 c.in_ok-frame.ensures.hand c.look_kind-found.ensures.moves c.look_kind-found.ensures.hand (request_of c.args.domain (Unpin c.args.f) (Ok tt)) (asks v c.args.f c.args.domain) c.in_ok-frame.ensures.serves) r (written v a b c.args.f c.args.domain c.in_ok-frame.frame x c.in_ok-frame.ensures.frame.0 c.in_ok-frame.ensures.hand c.look_kind-found.ensures.moves c.look_kind-found.ensures.hand c.in_ok-frame.ensures.frame.1 k c.read_kind-kind.ensures) c.put_ref-in-Ok.ensures.serves)
-    (c.release.ensures.serves c.args.domain c.args.domain)
+    (unpinned_serves v c.args.f c.args.domain a b c.in_ok-frame.frame x c.in_ok-frame.ensures.frame.0 c.in_ok-frame.ensures.hand c.look_kind-found.ensures.moves c.look_kind-found.ensures.hand c.in_ok-frame.ensures.frame.1 k c.read_kind-kind.ensures (serves_came v a (of_frame c.args.f c.args.domain None) [] c.in_ok-frame.ensures.serves) q (kind_write k) c.in-Ok.ensures.moves (not-false k.pinned c.if-not-kind.false) (looked v a b c.args.f c.args.domain c.in_ok-frame.frame x c.in_ok-frame.ensures.frame.0 c.in_ok-frame.ensures.hand c.look_kind-found.ensures.moves c.look_kind-found.ensures.hand (ext_request c.args.domain (Unpin c.args.f) (Ok tt)) (asks v c.args.f c.args.domain) c.in_ok-frame.ensures.serves) r (written v a b c.args.f c.args.domain c.in_ok-frame.frame x c.in_ok-frame.ensures.frame.0 c.in_ok-frame.ensures.hand c.look_kind-found.ensures.moves c.look_kind-found.ensures.hand c.in_ok-frame.ensures.frame.1 k c.read_kind-kind.ensures) c.put_ref-in-Ok.ensures.serves)
+    (c.release.ensures.serves c.args.domain c.args.domain) c.release.ensures.kinds
 
 pub returns-in-Ok-release-2-clause-hand : goal.returns-in-Ok-release-2-clause-hand
 returns-in-Ok-release-2-clause-hand g c =
@@ -241,9 +242,9 @@ returns-in-Ok-release-2-clause-course g c =
     let w = g.P.Port.value c.release.new.port in
     let x = c.look_kind-found.result in
     let k = c.read_kind-kind.result in
-    released_course v a b q r w c.args.domain c.args.f c.in_ok-frame.frame x k.kind c.release.result _ _ _ _ _ (record { found = c.in_ok-frame.ensures.gets; plain = c.in_ok-frame.ensures.plain; stops = tt }) (look_there v a b c.args.f c.args.domain c.in_ok-frame.frame x c.in_ok-frame.ensures.frame.0 c.in_ok-frame.ensures.hand c.look_kind-found.ensures.moves c.look_kind-found.ensures.hand) (ap (λ (y : KindWord). y.pinned) (fields v a b c.args.f c.args.domain c.in_ok-frame.frame x c.in_ok-frame.ensures.frame.0 c.in_ok-frame.ensures.hand c.look_kind-found.ensures.moves c.look_kind-found.ensures.hand c.in_ok-frame.ensures.frame.1 k c.read_kind-kind.ensures) ∙ (is_on k.pinned c.if-not-kind.false))
+    released_course v a b q r w c.args.domain c.args.f c.in_ok-frame.frame x k.kind c.release.result _ _ _ _ _ (record { found = c.in_ok-frame.ensures.gets; plain = c.in_ok-frame.ensures.plain; stops = tt }) (look_there v a b c.args.f c.args.domain c.in_ok-frame.frame x c.in_ok-frame.ensures.frame.0 c.in_ok-frame.ensures.hand c.look_kind-found.ensures.moves c.look_kind-found.ensures.hand) (ap (λ (y : KindWord). y.pinned) (fields v a b c.args.f c.args.domain c.in_ok-frame.frame x c.in_ok-frame.ensures.frame.0 c.in_ok-frame.ensures.hand c.look_kind-found.ensures.moves c.look_kind-found.ensures.hand c.in_ok-frame.ensures.frame.1 k c.read_kind-kind.ensures) ∙ (not-false k.pinned c.if-not-kind.false))
     (subst (λ y. TakesPinOff b q c.args.f x y) (written v a b c.args.f c.args.domain c.in_ok-frame.frame x c.in_ok-frame.ensures.frame.0 c.in_ok-frame.ensures.hand c.look_kind-found.ensures.moves c.look_kind-found.ensures.hand c.in_ok-frame.ensures.frame.1 k c.read_kind-kind.ensures) (takes_off v c.args.f c.args.domain a b c.in_ok-frame.frame x c.in_ok-frame.ensures.frame.0 c.in_ok-frame.ensures.hand c.look_kind-found.ensures.moves c.look_kind-found.ensures.hand c.in_ok-frame.ensures.frame.1 k c.read_kind-kind.ensures (serves_came v a (of_frame c.args.f c.args.domain None) [] c.in_ok-frame.ensures.serves) q (kind_write k) c.in-Ok.ensures.moves))
-    (gave_ref q r c.args.f c.in_ok-frame.frame c.in_ok-frame.ensures.frame.0 c.put_ref-in-Ok.ensures.puts c.put_ref-in-Ok.ensures.plain) c.in_ok-frame.ensures.frame.0 (ap (λ (y : KindWord). y.kind) (fields v a b c.args.f c.args.domain c.in_ok-frame.frame x c.in_ok-frame.ensures.frame.0 c.in_ok-frame.ensures.hand c.look_kind-found.ensures.moves c.look_kind-found.ensures.hand c.in_ok-frame.ensures.frame.1 k c.read_kind-kind.ensures)) c.release.ensures.course
+    (gave_ref q r c.args.f c.in_ok-frame.frame c.in_ok-frame.ensures.frame.0 c.put_ref-in-Ok.ensures.puts c.put_ref-in-Ok.ensures.plain) c.in_ok-frame.ensures.frame.0 (ap (λ (y : KindWord). y.kind) (fields v a b c.args.f c.args.domain c.in_ok-frame.frame x c.in_ok-frame.ensures.frame.0 c.in_ok-frame.ensures.hand c.look_kind-found.ensures.moves c.look_kind-found.ensures.hand c.in_ok-frame.ensures.frame.1 k c.read_kind-kind.ensures)) c.release.ensures.course c.release.ensures.kinds
 
 -- ---- it found another word
 pub read_kind-requires : goal.read_kind-requires
@@ -269,7 +270,7 @@ returns-then-read_kind-clause-serves g c =
     let k = c.read_kind-kind.result in
     let n = c.in-Err.found_now in
     lost_serves v c.args.f c.args.domain a b c.in_ok-frame.frame x c.in_ok-frame.ensures.frame.0 c.in_ok-frame.ensures.hand c.look_kind-found.ensures.moves c.look_kind-found.ensures.hand c.in_ok-frame.ensures.frame.1 k c.read_kind-kind.ensures (serves_came v a (of_frame c.args.f c.args.domain None) [] c.in_ok-frame.ensures.serves)
-    q n c.in-Err.ensures.moves (is_on k.pinned c.if-not-kind.false) (looked v a b c.args.f c.args.domain c.in_ok-frame.frame x c.in_ok-frame.ensures.frame.0 c.in_ok-frame.ensures.hand c.look_kind-found.ensures.moves c.look_kind-found.ensures.hand (request_of c.args.domain (Unpin c.args.f) (Ok tt)) (asks v c.args.f c.args.domain) c.in_ok-frame.ensures.serves) (subst (λ e. n ≢ e) (written v a b c.args.f c.args.domain c.in_ok-frame.frame x c.in_ok-frame.ensures.frame.0 c.in_ok-frame.ensures.hand c.look_kind-found.ensures.moves c.look_kind-found.ensures.hand c.in_ok-frame.ensures.frame.1 k c.read_kind-kind.ensures) c.in-Err.ensures.lost) o c.put_ref-in-Err.ensures.serves c.lost.result c.lost.ensures
+    q n c.in-Err.ensures.moves (not-false k.pinned c.if-not-kind.false) (looked v a b c.args.f c.args.domain c.in_ok-frame.frame x c.in_ok-frame.ensures.frame.0 c.in_ok-frame.ensures.hand c.look_kind-found.ensures.moves c.look_kind-found.ensures.hand (ext_request c.args.domain (Unpin c.args.f) (Ok tt)) (asks v c.args.f c.args.domain) c.in_ok-frame.ensures.serves) (subst (λ e. n ≢ e) (written v a b c.args.f c.args.domain c.in_ok-frame.frame x c.in_ok-frame.ensures.frame.0 c.in_ok-frame.ensures.hand c.look_kind-found.ensures.moves c.look_kind-found.ensures.hand c.in_ok-frame.ensures.frame.1 k c.read_kind-kind.ensures) c.in-Err.ensures.lost) o c.put_ref-in-Err.ensures.serves c.lost.result c.lost.ensures
 
 pub returns-then-read_kind-clause-stops : goal.returns-then-read_kind-clause-stops
 returns-then-read_kind-clause-stops g c =
@@ -282,7 +283,7 @@ returns-then-read_kind-clause-stops g c =
     let k = c.read_kind-kind.result in
     let n = c.in-Err.found_now in
     lost_why v c.args.f c.args.domain a b c.in_ok-frame.frame x c.in_ok-frame.ensures.frame.0 c.in_ok-frame.ensures.hand c.look_kind-found.ensures.moves c.look_kind-found.ensures.hand c.in_ok-frame.ensures.frame.1 k c.read_kind-kind.ensures (serves_came v a (of_frame c.args.f c.args.domain None) [] c.in_ok-frame.ensures.serves)
-    q n c.in-Err.ensures.moves (is_on k.pinned c.if-not-kind.false) (looked v a b c.args.f c.args.domain c.in_ok-frame.frame x c.in_ok-frame.ensures.frame.0 c.in_ok-frame.ensures.hand c.look_kind-found.ensures.moves c.look_kind-found.ensures.hand (request_of c.args.domain (Unpin c.args.f) (Ok tt)) (asks v c.args.f c.args.domain) c.in_ok-frame.ensures.serves) (subst (λ e. n ≢ e) (written v a b c.args.f c.args.domain c.in_ok-frame.frame x c.in_ok-frame.ensures.frame.0 c.in_ok-frame.ensures.hand c.look_kind-found.ensures.moves c.look_kind-found.ensures.hand c.in_ok-frame.ensures.frame.1 k c.read_kind-kind.ensures) c.in-Err.ensures.lost) o c.put_ref-in-Err.ensures.serves c.lost.result c.lost.ensures
+    q n c.in-Err.ensures.moves (not-false k.pinned c.if-not-kind.false) (looked v a b c.args.f c.args.domain c.in_ok-frame.frame x c.in_ok-frame.ensures.frame.0 c.in_ok-frame.ensures.hand c.look_kind-found.ensures.moves c.look_kind-found.ensures.hand (ext_request c.args.domain (Unpin c.args.f) (Ok tt)) (asks v c.args.f c.args.domain) c.in_ok-frame.ensures.serves) (subst (λ e. n ≢ e) (written v a b c.args.f c.args.domain c.in_ok-frame.frame x c.in_ok-frame.ensures.frame.0 c.in_ok-frame.ensures.hand c.look_kind-found.ensures.moves c.look_kind-found.ensures.hand c.in_ok-frame.ensures.frame.1 k c.read_kind-kind.ensures) c.in-Err.ensures.lost) o c.put_ref-in-Err.ensures.serves c.lost.result c.lost.ensures
 
 pub returns-then-read_kind-clause-hand : goal.returns-then-read_kind-clause-hand
 returns-then-read_kind-clause-hand g c =
@@ -315,10 +316,10 @@ returns-then-read_kind-clause-course g c =
     let k = c.read_kind-kind.result in
     let n = c.in-Err.found_now in
     let j = c.read_kind.result in
-    lost_course v o c.args.domain c.args.f _ _ _ a b x (record { found = c.in_ok-frame.ensures.gets; plain = c.in_ok-frame.ensures.plain; stops = tt }) (look_there v a b c.args.f c.args.domain c.in_ok-frame.frame x c.in_ok-frame.ensures.frame.0 c.in_ok-frame.ensures.hand c.look_kind-found.ensures.moves c.look_kind-found.ensures.hand) q n (ap (λ (y : KindWord). y.pinned) (fields v a b c.args.f c.args.domain c.in_ok-frame.frame x c.in_ok-frame.ensures.frame.0 c.in_ok-frame.ensures.hand c.look_kind-found.ensures.moves c.look_kind-found.ensures.hand c.in_ok-frame.ensures.frame.1 k c.read_kind-kind.ensures) ∙ (is_on k.pinned c.if-not-kind.false)) (takes_off v c.args.f c.args.domain a b c.in_ok-frame.frame x c.in_ok-frame.ensures.frame.0 c.in_ok-frame.ensures.hand c.look_kind-found.ensures.moves c.look_kind-found.ensures.hand c.in_ok-frame.ensures.frame.1 k c.read_kind-kind.ensures (serves_came v a (of_frame c.args.f c.args.domain None) [] c.in_ok-frame.ensures.serves) q n c.in-Err.ensures.moves)
+    lost_course v o c.args.domain c.args.f _ _ _ a b x (record { found = c.in_ok-frame.ensures.gets; plain = c.in_ok-frame.ensures.plain; stops = tt }) (look_there v a b c.args.f c.args.domain c.in_ok-frame.frame x c.in_ok-frame.ensures.frame.0 c.in_ok-frame.ensures.hand c.look_kind-found.ensures.moves c.look_kind-found.ensures.hand) q n (ap (λ (y : KindWord). y.pinned) (fields v a b c.args.f c.args.domain c.in_ok-frame.frame x c.in_ok-frame.ensures.frame.0 c.in_ok-frame.ensures.hand c.look_kind-found.ensures.moves c.look_kind-found.ensures.hand c.in_ok-frame.ensures.frame.1 k c.read_kind-kind.ensures) ∙ (not-false k.pinned c.if-not-kind.false)) (takes_off v c.args.f c.args.domain a b c.in_ok-frame.frame x c.in_ok-frame.ensures.frame.0 c.in_ok-frame.ensures.hand c.look_kind-found.ensures.moves c.look_kind-found.ensures.hand c.in_ok-frame.ensures.frame.1 k c.read_kind-kind.ensures (serves_came v a (of_frame c.args.f c.args.domain None) [] c.in_ok-frame.ensures.serves) q n c.in-Err.ensures.moves)
     (subst (λ e. n ≢ e) (written v a b c.args.f c.args.domain c.in_ok-frame.frame x c.in_ok-frame.ensures.frame.0 c.in_ok-frame.ensures.hand c.look_kind-found.ensures.moves c.look_kind-found.ensures.hand c.in_ok-frame.ensures.frame.1 k c.read_kind-kind.ensures) c.in-Err.ensures.lost) (gave_ref q o c.args.f c.in_ok-frame.frame c.in_ok-frame.ensures.frame.0 c.put_ref-in-Err.ensures.puts c.put_ref-in-Err.ensures.plain) c.lost.result
     (stop_is v c.args.f c.args.domain a b c.in_ok-frame.frame x c.in_ok-frame.ensures.frame.0 c.in_ok-frame.ensures.hand c.look_kind-found.ensures.moves c.look_kind-found.ensures.hand c.in_ok-frame.ensures.frame.1 k c.read_kind-kind.ensures (serves_came v a (of_frame c.args.f c.args.domain None) [] c.in_ok-frame.ensures.serves)
-    q n c.in-Err.ensures.moves (is_on k.pinned c.if-not-kind.false) (looked v a b c.args.f c.args.domain c.in_ok-frame.frame x c.in_ok-frame.ensures.frame.0 c.in_ok-frame.ensures.hand c.look_kind-found.ensures.moves c.look_kind-found.ensures.hand (request_of c.args.domain (Unpin c.args.f) (Ok tt)) (asks v c.args.f c.args.domain) c.in_ok-frame.ensures.serves) (subst (λ e. n ≢ e) (written v a b c.args.f c.args.domain c.in_ok-frame.frame x c.in_ok-frame.ensures.frame.0 c.in_ok-frame.ensures.hand c.look_kind-found.ensures.moves c.look_kind-found.ensures.hand c.in_ok-frame.ensures.frame.1 k c.read_kind-kind.ensures) c.in-Err.ensures.lost) o c.put_ref-in-Err.ensures.serves c.lost.result c.lost.ensures)
+    q n c.in-Err.ensures.moves (not-false k.pinned c.if-not-kind.false) (looked v a b c.args.f c.args.domain c.in_ok-frame.frame x c.in_ok-frame.ensures.frame.0 c.in_ok-frame.ensures.hand c.look_kind-found.ensures.moves c.look_kind-found.ensures.hand (ext_request c.args.domain (Unpin c.args.f) (Ok tt)) (asks v c.args.f c.args.domain) c.in_ok-frame.ensures.serves) (subst (λ e. n ≢ e) (written v a b c.args.f c.args.domain c.in_ok-frame.frame x c.in_ok-frame.ensures.frame.0 c.in_ok-frame.ensures.hand c.look_kind-found.ensures.moves c.look_kind-found.ensures.hand c.in_ok-frame.ensures.frame.1 k c.read_kind-kind.ensures) c.in-Err.ensures.lost) o c.put_ref-in-Err.ensures.serves c.lost.result c.lost.ensures)
     (ap (λ (y : KindWord). y.pinned) (fields_of n j c.read_kind.ensures) ∙ c.if-read_kind.true)
 
 -- ---- which is not
@@ -333,7 +334,7 @@ returns-else-read_kind-clause-serves g c =
     let k = c.read_kind-kind.result in
     let n = c.in-Err.found_now in
     raced_serves v c.args.f c.args.domain a b c.in_ok-frame.frame x c.in_ok-frame.ensures.frame.0 c.in_ok-frame.ensures.hand c.look_kind-found.ensures.moves c.look_kind-found.ensures.hand c.in_ok-frame.ensures.frame.1 k c.read_kind-kind.ensures (serves_came v a (of_frame c.args.f c.args.domain None) [] c.in_ok-frame.ensures.serves)
-    q n c.in-Err.ensures.moves (is_on k.pinned c.if-not-kind.false) (looked v a b c.args.f c.args.domain c.in_ok-frame.frame x c.in_ok-frame.ensures.frame.0 c.in_ok-frame.ensures.hand c.look_kind-found.ensures.moves c.look_kind-found.ensures.hand (request_of c.args.domain (Unpin c.args.f) (Ok tt)) (asks v c.args.f c.args.domain) c.in_ok-frame.ensures.serves) (subst (λ e. n ≢ e) (written v a b c.args.f c.args.domain c.in_ok-frame.frame x c.in_ok-frame.ensures.frame.0 c.in_ok-frame.ensures.hand c.look_kind-found.ensures.moves c.look_kind-found.ensures.hand c.in_ok-frame.ensures.frame.1 k c.read_kind-kind.ensures) c.in-Err.ensures.lost) o c.put_ref-in-Err.ensures.serves
+    q n c.in-Err.ensures.moves (not-false k.pinned c.if-not-kind.false) (looked v a b c.args.f c.args.domain c.in_ok-frame.frame x c.in_ok-frame.ensures.frame.0 c.in_ok-frame.ensures.hand c.look_kind-found.ensures.moves c.look_kind-found.ensures.hand (ext_request c.args.domain (Unpin c.args.f) (Ok tt)) (asks v c.args.f c.args.domain) c.in_ok-frame.ensures.serves) (subst (λ e. n ≢ e) (written v a b c.args.f c.args.domain c.in_ok-frame.frame x c.in_ok-frame.ensures.frame.0 c.in_ok-frame.ensures.hand c.look_kind-found.ensures.moves c.look_kind-found.ensures.hand c.in_ok-frame.ensures.frame.1 k c.read_kind-kind.ensures) c.in-Err.ensures.lost) o c.put_ref-in-Err.ensures.serves
 
 pub returns-else-read_kind-clause-stops : goal.returns-else-read_kind-clause-stops
 returns-else-read_kind-clause-stops g c =
@@ -347,7 +348,7 @@ returns-else-read_kind-clause-stops g c =
     let n = c.in-Err.found_now in
     let j = c.read_kind.result in
     raced_stops v c.args.f c.args.domain a b c.in_ok-frame.frame x c.in_ok-frame.ensures.frame.0 c.in_ok-frame.ensures.hand c.look_kind-found.ensures.moves c.look_kind-found.ensures.hand c.in_ok-frame.ensures.frame.1 k c.read_kind-kind.ensures (serves_came v a (of_frame c.args.f c.args.domain None) [] c.in_ok-frame.ensures.serves)
-    q n c.in-Err.ensures.moves (is_on k.pinned c.if-not-kind.false) (looked v a b c.args.f c.args.domain c.in_ok-frame.frame x c.in_ok-frame.ensures.frame.0 c.in_ok-frame.ensures.hand c.look_kind-found.ensures.moves c.look_kind-found.ensures.hand (request_of c.args.domain (Unpin c.args.f) (Ok tt)) (asks v c.args.f c.args.domain) c.in_ok-frame.ensures.serves) (subst (λ e. n ≢ e) (written v a b c.args.f c.args.domain c.in_ok-frame.frame x c.in_ok-frame.ensures.frame.0 c.in_ok-frame.ensures.hand c.look_kind-found.ensures.moves c.look_kind-found.ensures.hand c.in_ok-frame.ensures.frame.1 k c.read_kind-kind.ensures) c.in-Err.ensures.lost) o c.put_ref-in-Err.ensures.serves j c.read_kind.ensures c.if-read_kind.false
+    q n c.in-Err.ensures.moves (not-false k.pinned c.if-not-kind.false) (looked v a b c.args.f c.args.domain c.in_ok-frame.frame x c.in_ok-frame.ensures.frame.0 c.in_ok-frame.ensures.hand c.look_kind-found.ensures.moves c.look_kind-found.ensures.hand (ext_request c.args.domain (Unpin c.args.f) (Ok tt)) (asks v c.args.f c.args.domain) c.in_ok-frame.ensures.serves) (subst (λ e. n ≢ e) (written v a b c.args.f c.args.domain c.in_ok-frame.frame x c.in_ok-frame.ensures.frame.0 c.in_ok-frame.ensures.hand c.look_kind-found.ensures.moves c.look_kind-found.ensures.hand c.in_ok-frame.ensures.frame.1 k c.read_kind-kind.ensures) c.in-Err.ensures.lost) o c.put_ref-in-Err.ensures.serves j c.read_kind.ensures c.if-read_kind.false
 
 pub returns-else-read_kind-clause-hand : goal.returns-else-read_kind-clause-hand
 returns-else-read_kind-clause-hand g c =
@@ -380,5 +381,5 @@ returns-else-read_kind-clause-course g c =
     let k = c.read_kind-kind.result in
     let n = c.in-Err.found_now in
     let j = c.read_kind.result in
-    raced_course v o c.args.domain c.args.f _ _ _ a b x (record { found = c.in_ok-frame.ensures.gets; plain = c.in_ok-frame.ensures.plain; stops = tt }) (look_there v a b c.args.f c.args.domain c.in_ok-frame.frame x c.in_ok-frame.ensures.frame.0 c.in_ok-frame.ensures.hand c.look_kind-found.ensures.moves c.look_kind-found.ensures.hand) q n (ap (λ (y : KindWord). y.pinned) (fields v a b c.args.f c.args.domain c.in_ok-frame.frame x c.in_ok-frame.ensures.frame.0 c.in_ok-frame.ensures.hand c.look_kind-found.ensures.moves c.look_kind-found.ensures.hand c.in_ok-frame.ensures.frame.1 k c.read_kind-kind.ensures) ∙ (is_on k.pinned c.if-not-kind.false)) (takes_off v c.args.f c.args.domain a b c.in_ok-frame.frame x c.in_ok-frame.ensures.frame.0 c.in_ok-frame.ensures.hand c.look_kind-found.ensures.moves c.look_kind-found.ensures.hand c.in_ok-frame.ensures.frame.1 k c.read_kind-kind.ensures (serves_came v a (of_frame c.args.f c.args.domain None) [] c.in_ok-frame.ensures.serves) q n c.in-Err.ensures.moves)
+    raced_course v o c.args.domain c.args.f _ _ _ a b x (record { found = c.in_ok-frame.ensures.gets; plain = c.in_ok-frame.ensures.plain; stops = tt }) (look_there v a b c.args.f c.args.domain c.in_ok-frame.frame x c.in_ok-frame.ensures.frame.0 c.in_ok-frame.ensures.hand c.look_kind-found.ensures.moves c.look_kind-found.ensures.hand) q n (ap (λ (y : KindWord). y.pinned) (fields v a b c.args.f c.args.domain c.in_ok-frame.frame x c.in_ok-frame.ensures.frame.0 c.in_ok-frame.ensures.hand c.look_kind-found.ensures.moves c.look_kind-found.ensures.hand c.in_ok-frame.ensures.frame.1 k c.read_kind-kind.ensures) ∙ (not-false k.pinned c.if-not-kind.false)) (takes_off v c.args.f c.args.domain a b c.in_ok-frame.frame x c.in_ok-frame.ensures.frame.0 c.in_ok-frame.ensures.hand c.look_kind-found.ensures.moves c.look_kind-found.ensures.hand c.in_ok-frame.ensures.frame.1 k c.read_kind-kind.ensures (serves_came v a (of_frame c.args.f c.args.domain None) [] c.in_ok-frame.ensures.serves) q n c.in-Err.ensures.moves)
     (subst (λ e. n ≢ e) (written v a b c.args.f c.args.domain c.in_ok-frame.frame x c.in_ok-frame.ensures.frame.0 c.in_ok-frame.ensures.hand c.look_kind-found.ensures.moves c.look_kind-found.ensures.hand c.in_ok-frame.ensures.frame.1 k c.read_kind-kind.ensures) c.in-Err.ensures.lost) (gave_ref q o c.args.f c.in_ok-frame.frame c.in_ok-frame.ensures.frame.0 c.put_ref-in-Err.ensures.puts c.put_ref-in-Err.ensures.plain) (ap (λ (y : KindWord). y.pinned) (fields_of n j c.read_kind.ensures) ∙ c.if-read_kind.false)

@@ -10,6 +10,7 @@ use Rattle.table_entries.proofs.HandTyped.{given_up, opens_from, opens_waiting, 
 use Rattle.table_entries.proofs.HandAgain.{live_same, looked_again, taken_settled, takes_behind}
 use Rattle.xp_words.specs.declared.reply.Stop.{Stop}
 use Rattle.table_entries.specs.declared.resuming.Resumed.{Resumed}
+use Rattle.table_entries.proofs.PiecesLive.{ends_live, gets_on}
 use Rattle.table_entries.proofs.PiecesResuming.{resumes_opened, resumes_taken, resumes_unreferred, resumes_untyped, resumes_waiting}
 use Rattle.step_maker.proofs.Telling.{came_telling}
 use Rattle.frame_types.specs.Plain.{TwinTake}
@@ -138,7 +139,13 @@ returns-in-Ok-Counted-clause-resumes g c b u word looks is other pages =
     let f = c.in_ok-frame.frame in
     let same = sym c.in_ok-frame.ensures.frame.0 in
     let refers = subst (λ k. Serves v x (of_frame k at.owner None) []) same c.in_ok-frame.ensures.serves in
-    resumes_taken b u v at.table at.index at.owner pages at.kind word f c.args.want looks (is ∙ ap (λ k. Typed k c.args.want) same) (subst (λ k. LooksLive u v k false) same other) x refers y c.in-Ok-Counted.ensures.serves
+    let way = c.in-Ok-Counted in
+    let asks = is ∙ ap (λ k. Typed k c.args.want) same in
+    let off = subst (λ k. LooksLive u v k false) same other in
+    resumes_taken b u v at.table at.index at.owner pages at.kind word f c.args.want looks asks off x refers y way.ensures.serves
+    (gets_on b u v x y at.table at.index at.kind word f at.owner c.args.want looks asks off c.in_ok-frame.ensures.frame.1 (serves_came v x (of_frame f at.owner None) [] refers) c.in_ok-frame.ensures.hand
+    (subst (λ k. TakesAs x y f at.owner c.args.want k) way.field-0-is way.ensures.hand)
+    (ends_live x y f c.args.want (asks_some at.kind at.index word f c.args.want asks) (subst (λ k. TakesFound x y f c.args.want (Ok k)) way.field-0-is way.ensures.found)))
 
 pub returns-in-Ok-InWork-clause-resumes : goal.returns-in-Ok-InWork-clause-resumes
 returns-in-Ok-InWork-clause-resumes g c b u word looks is other pages =

@@ -252,3 +252,12 @@ returns-in-Typed-clause-shows g c owner pages =
     record { look = c.look_cell-word.ensures.moves; hand = c.look_cell-word.ensures.hand; frame = c.requires.frame; index = c.requires.index; works = c.requires.works; above = c.requires.above; looked = c.requires.looked } in
     let s : SeesTyped b v c.args.table c.args.index c.args.kind c.look_cell-word.result c.in-Typed.frame c.in-Typed.want = record { sees = l; asks = sym c.demand.ensures ∙ c.in-Typed.is; inside = typed_there b v c.args.table c.args.index c.args.kind c.look_cell-word.result l c.in-Typed.frame c.in-Typed.want (sym c.demand.ensures ∙ c.in-Typed.is) } in
     (c.release_typed.ensures.goes b c.args.kind c.look_cell-word.result s owner pages).shows
+
+pub returns-in-Typed-clause-settled : goal.returns-in-Typed-clause-settled
+returns-in-Typed-clause-settled g c settled =
+    let b = g.P.Port.value c.args.port.now in
+    let v = g.P.Port.value c.look_cell-word.new.port in
+    let l : SeesLast b v c.args.table c.args.index c.args.kind c.look_cell-word.result =
+    record { look = c.look_cell-word.ensures.moves; hand = c.look_cell-word.ensures.hand; frame = c.requires.frame; index = c.requires.index; works = c.requires.works; above = c.requires.above; looked = c.requires.looked } in
+    let s : SeesTyped b v c.args.table c.args.index c.args.kind c.look_cell-word.result c.in-Typed.frame c.in-Typed.want = record { sees = l; asks = sym c.demand.ensures ∙ c.in-Typed.is; inside = typed_there b v c.args.table c.args.index c.args.kind c.look_cell-word.result l c.in-Typed.frame c.in-Typed.want (sym c.demand.ensures ∙ c.in-Typed.is) } in
+    c.release_typed.ensures.settled b c.args.kind c.look_cell-word.result s settled

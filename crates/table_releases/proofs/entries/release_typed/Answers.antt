@@ -1,7 +1,7 @@
 use Rattle.std.proofs.Common.{ap, ◌∙◌}
 use Rattle.board_lemmas.proofs.KindForms.{fields_of}
 use Rattle.kind_words.proofs.KindFacts.{kind_is_some}
-use Rattle.table_releases.proofs.FrameSeen.{typed_frame}
+use Rattle.table_releases.proofs.FrameSeen.{found_live, typed_frame}
 use Rattle.table_releases.proofs.Finding.{busy_found}
 use Rattle.table_releases.proofs.HandLive.{sees_kind, stays_recorded}
 use Rattle.table_releases.proofs.PiecesTyped.{busy_releases}
@@ -110,3 +110,18 @@ returns-else-kind-2-clause-plain g c b t word l =
     let u = g.P.Port.value c.look_kind-word.new.port in
     let fields = fields_of c.look_kind-word.result c.read_kind-kind.result c.read_kind-kind.ensures in
     busy_twin b u c.args.table c.args.index t word c.args.frame c.args.want c.look_kind-word.result (sees_kind b v u c.args.table c.args.index t word c.args.frame c.args.want c.look_kind-word.result l c.look_kind-word.ensures.moves c.look_kind-word.ensures.hand) (ap (λ k. k.validated) fields ∙ c.if-kind.false) (ap (λ k. k.partial) fields ∙ c.if-kind-2.false)
+
+pub returns-then-kind-2-clause-settled : goal.returns-then-kind-2-clause-settled
+returns-then-kind-2-clause-settled g c b t word l settled =
+    let v = g.P.Port.value c.args.port.now in
+    let u = g.P.Port.value c.look_kind-word.new.port in
+    let live = found_live b u c.args.table c.args.index t word c.args.frame c.args.want c.look_kind-word.result (sees_kind b v u c.args.table c.args.index t word c.args.frame c.args.want c.look_kind-word.result l c.look_kind-word.ensures.moves c.look_kind-word.ensures.hand) c.read_kind-kind.result c.read_kind-kind.ensures settled in
+    absurd (let off = c.if-kind.false in cc)
+
+pub returns-else-kind-2-clause-settled : goal.returns-else-kind-2-clause-settled
+returns-else-kind-2-clause-settled g c b t word l settled =
+    let v = g.P.Port.value c.args.port.now in
+    let u = g.P.Port.value c.look_kind-word.new.port in
+    let live = found_live b u c.args.table c.args.index t word c.args.frame c.args.want c.look_kind-word.result (sees_kind b v u c.args.table c.args.index t word c.args.frame c.args.want c.look_kind-word.result l c.look_kind-word.ensures.moves c.look_kind-word.ensures.hand) c.read_kind-kind.result c.read_kind-kind.ensures settled in
+    let off = c.if-kind.false in
+    cc

@@ -22,25 +22,25 @@ pub report-requires-clause-logs : goal.report-requires-clause-logs
 report-requires-clause-logs g c =
     let end = YieldsList-end (YieldsList-from_vec {s = c.into_iter-runner-iterator.result} c.args.runners.items (search rules) (search rules)) c.runners.yielded c.runners.runner-iterator c.runners.yielded_by c.next.result c.next.new.self c.in-None.is c.next.ensures.steps in
     let machine = c.copy-layout.ensures ∙ c.layout.ensures.layout in
-    rw (c.deref-2.ensures.value, c.runners.invariant.logs, length-map, machine) (end.1 ∙ c.requires.each)
+    rw (c.deref.ensures.value, c.runners.invariant.logs, length-map, machine) (end.1 ∙ c.requires.each)
 
 pub report-requires-clause-pending : goal.report-requires-clause-pending
 report-requires-clause-pending g c =
     let end = YieldsList-end (YieldsList-from_vec {s = c.into_iter-runner-iterator.result} c.args.runners.items (search rules) (search rules)) c.runners.yielded c.runners.runner-iterator c.runners.yielded_by c.next.result c.next.new.self c.in-None.is c.next.ensures.steps in
     let machine = c.copy-layout.ensures ∙ c.layout.ensures.layout in
-    rw (c.deref-3.ensures.value, c.runners.invariant.pending, length-map, machine) (end.1 ∙ c.requires.each)
+    rw (c.deref-2.ensures.value, c.runners.invariant.pending, length-map, machine) (end.1 ∙ c.requires.each)
 
 pub returns : goal.returns
 returns g c =
     let end = YieldsList-end (YieldsList-from_vec {s = c.into_iter-runner-iterator.result} c.args.runners.items (search rules) (search rules)) c.runners.yielded c.runners.runner-iterator c.runners.yielded_by c.next.result c.next.new.self c.in-None.is c.next.ensures.steps in
     let all = sym (map-id c.runners.yielded) ∙ end.0 in
     let machine = c.copy-layout.ensures ∙ c.layout.ensures.layout in
-    let logs : c.deref-2.result.now ≡ map log_of (map (λ s. s.cpu) c.args.runners.items) =
-    c.deref-2.ensures.value ∙ c.runners.invariant.logs ∙ ap (map (λ s. log_of s.cpu)) all ∙ sym (map-map log_of (λ s. s.cpu) c.args.runners.items) in
-    let pending : c.deref-3.result.now ≡ map pending_of (map (λ s. s.cpu) c.args.runners.items) =
-    c.deref-3.ensures.value ∙ c.runners.invariant.pending ∙ ap (map (λ s. pending_of s.cpu)) all ∙ sym (map-map pending_of (λ s. s.cpu) c.args.runners.items) in
-    let words = c.deref.ensures.value ∙ c.into_words-words.ensures.words in
-    if_ok c.report.result (λ v. v.items ≡ report_of c.copy-layout.result c.deref.result.now c.deref-2.result.now c.deref-3.result.now)
+    let logs : c.deref.result.now ≡ map log_of (map (λ s. s.cpu) c.args.runners.items) =
+    c.deref.ensures.value ∙ c.runners.invariant.logs ∙ ap (map (λ s. log_of s.cpu)) all ∙ sym (map-map log_of (λ s. s.cpu) c.args.runners.items) in
+    let pending : c.deref-2.result.now ≡ map pending_of (map (λ s. s.cpu) c.args.runners.items) =
+    c.deref-2.ensures.value ∙ c.runners.invariant.pending ∙ ap (map (λ s. pending_of s.cpu)) all ∙ sym (map-map pending_of (λ s. s.cpu) c.args.runners.items) in
+    let words = c.into_words-words.ensures.words in
+    if_ok c.report.result (λ v. v.items ≡ report_of c.copy-layout.result c.into_words-words.result c.deref.result.now c.deref-2.result.now)
     (λ v. Closes c.args.board.machine c.args.board.story.opening (stage_of (gate_of (λ x. (goal.Preempt-dyn g (x.vtable, x.value)).calm x.value) (λ x. (goal.Preempt-dyn g (x.vtable, x.value)).paces x.value) (λ x. (goal.Preempt-dyn g (x.vtable, x.value)).count_asks x.value) (λ x. (goal.Preempt-dyn g (x.vtable, x.value)).says x.value)) c.args.board c.args.runners.items) v.items)
     (λ v is. record {
       run = c.into_words-words.ensures.run;

@@ -17,15 +17,15 @@ run_all-board-requires-clause-known g c =
 
 pub run_all-board-requires-clause-ready : goal.run_all-board-requires-clause-ready
 run_all-board-requires-clause-ready g c =
-    ready_board c.args.trace c.in_ok-board.board c.in_ok-words.words.items _ (c.opening_words_are_sound.ensures c.args.trace c.in_ok-words.words.items c.requires.well c.in_ok-words.ensures) c.in_ok-words.ensures c.in_ok-board.ensures.0 c.in_ok-board.ensures.1 c.requires.well.scripts c.requires.well.few_ops c.in_ok-runners.ensures.0
+    ready_board c.args.trace c.in_ok-board.board c.in_ok-words.words _ (c.opening_words_are_sound.ensures c.args.trace c.in_ok-words.words c.requires.well c.in_ok-words.ensures) c.in_ok-words.ensures c.in_ok-board.ensures.0 c.in_ok-board.ensures.1 c.requires.well.scripts c.requires.well.few_ops c.in_ok-runners.ensures.0
 
 pub returns : goal.returns
 returns g c =
     let closed = stage_of (gate_of (λ x. (goal.Preempt-dyn g (x.vtable, x.value)).calm x.value) (λ x. (goal.Preempt-dyn g (x.vtable, x.value)).paces x.value) (λ x. (goal.Preempt-dyn g (x.vtable, x.value)).count_asks x.value) (λ x. (goal.Preempt-dyn g (x.vtable, x.value)).says x.value)) c.run_all-board.result.0 c.run_all-board.result.1.items in
     let b2 = c.run_all-board.result.0 in
-    let sound = c.opening_words_are_sound.ensures c.args.trace c.in_ok-words.words.items c.requires.well c.in_ok-words.ensures in
+    let sound = c.opening_words_are_sound.ensures c.args.trace c.in_ok-words.words c.requires.well c.in_ok-words.ensures in
     if_ok c.closing.result (λ v. Closes b2.machine b2.story.opening closed v.items) (λ v. RanTrace c.args.trace _ v.items)
-    (λ v closes. ran c.a_run_leaves_it_safe.ensures c.rested_words_are_sound.ensures c.args.trace c.in_ok-board.board b2 c.in_ok-words.words.items _ closed.cpus _ _ closed.gates (order c.as_slice.result.now) v.items
+    (λ v closes. ran c.a_run_leaves_it_safe.ensures c.rested_words_are_sound.ensures c.args.trace c.in_ok-board.board b2 c.in_ok-words.words _ closed.cpus _ _ closed.gates (order c.as_slice.result.now) v.items
     sound c.in_ok-words.ensures c.in_ok-board.ensures.0 c.in_ok-board.ensures.1 c.run_all-board.ensures.machine c.run_all-board.ensures.opening c.run_all-board.ensures.ready c.in_ok-runners.ensures.0
     c.in_ok-runners.ensures.1 (ap order c.as_slice.ensures) c.run_all-board.ensures.works closes)
     c.closing.ensures
