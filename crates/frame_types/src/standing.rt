@@ -22,7 +22,7 @@ pub enum Standing {
 fn is_same_type(kind: PageType, want: PageType) -> bool
     ensures { result ≡ is_same_type kind want }
 {
-    kind.number() == want.number()
+    kind == want
 }
 
 pub(crate) fn classify(kind: KindWord, want: PageType) -> Standing

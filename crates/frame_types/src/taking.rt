@@ -1,5 +1,5 @@
 //! Frames that are taken for a type.
-ghost use Rattle.std.specs.Prelude.{◌≡◌, ◌<◌, List, [], true, not, None, Some, IfOk, IfErr, MatchResult, IsTrue};
+ghost use Rattle.std.specs.Prelude.{◌≡◌, ◌≢◌, ◌<◌, List, [], true, not, None, Some, IfOk, IfErr, MatchResult, IsTrue};
 ghost use Rattle.xp_board.specs.Told.{PortValue};
 ghost use Rattle.xp_words.specs.KindWords.{kind_read};
 ghost use Rattle.xp_words.specs.declared.kind.KindWord.{KindWord};
@@ -12,7 +12,7 @@ ghost use Rattle.flush_waits.specs.Waiting.{IsFlushed};
 ghost use Rattle.frame_types.specs.Found.{Finishes, Proceeds, TakesFound};
 ghost use Rattle.frame_types.specs.Plain.{TwinOn, TwinTake};
 ghost use Rattle.frame_types.specs.Standing.{standing_of};
-ghost use Rattle.frame_types.specs.declared.standing.Standing.TheVariants.{Dead, Partial};
+ghost use Rattle.frame_types.specs.declared.standing.Standing.TheVariants.{Counted, Dead, Partial};
 ghost use Rattle.frame_types.specs.Taking.{HasEntered, HoldsOn, IsDone, IsLooked, IsOfOther, IsTypeStop, LeavesLive, LentBy, Looked, ServesOn, ShowsWait, Takes, TakesAs, WaitsOn, progress_of};
 
 use crate::standing::{Standing, classify};
@@ -92,6 +92,32 @@ fn take_found<P: Port>(
             Ok(()) => Ok(Taken::Counted),
             Err(found) => Err(lost(port, frame, word, found)),
         },
+        _ => take_other(port, frame, owner, want, word),
+    }
+}
+
+// The same of a frame that is not live with that type: so what is most often asked stays short where it is inlined.
+#[inline(never)]
+fn take_other<P: Port>(
+    port: &mut P,
+    frame: u32,
+    owner: u16,
+    want: PageType,
+    word: u64,
+) -> Result<Taken, Stop>
+    requires frame { frame < (P.value port.old).post.machine.frames }
+    requires may { MayWork (P.value port.old) }
+    requires wanted { IsTrue (not (is_none want)) }
+    requires looked { IsLooked (P.value port.old) frame owner want word }
+    requires other { (k : KindWord) → kind_read word ≡ Some k → standing_of k want ≢ Counted }
+    ensures takes { (b : PortValue) → Looked b (P.value port.old) frame owner want word → Takes b (P.value port.new) frame owner want result }
+    ensures found { (b : PortValue) → Looked b (P.value port.old) frame owner want word → TakesFound b (P.value port.new) frame want result }
+    ensures live { IfOk result (λ t. LeavesLive (P.value port.old) (P.value port.new) frame t) }
+    ensures plain { (b : PortValue) → Looked b (P.value port.old) frame owner want word → TwinTake b (P.value port.new) frame want result }
+{
+    let kind = read_kind(word);
+    match classify(kind, want) {
+        Standing::Counted => unreachable!(),
         Standing::Dead => take_dead(port, frame, owner, want, word),
         Standing::Partial => take_partial(port, frame, owner, want, word),
         Standing::Busy => Err(Stop::Paused(Pause::Busy { frame, found: word })),
@@ -104,7 +130,6 @@ fn take_found<P: Port>(
 }
 
 // A frame that was found dead comes into the own works.
-#[inline(never)]
 fn take_dead<P: Port>(
     port: &mut P,
     frame: u32,
@@ -131,7 +156,6 @@ fn take_dead<P: Port>(
 }
 
 // A frame that was found partial comes into the own works again.
-#[inline(never)]
 fn take_partial<P: Port>(
     port: &mut P,
     frame: u32,

@@ -90,10 +90,15 @@ fn free_word(stamp: u64) -> u64
 }
 
 // The owner of a frame whose word counts one reference.
-#[tactic(auto, unfolding(xp_board::specs::Readings::ref_count))]
+#[inline(always)]
+#[tactic(auto, unfolding(xp_board::specs::Readings::ref_count, xp_words::specs::RefWords::ref_read), using(std::proofs::lemmas::Bool::Decides::nat_tests))]
 pub(crate) fn last_owner(word: u64) -> Option<u16>
     ensures { LastOf word result }
 {
+    // Most often there are more, whatever else the word says.
+    if word % (1 << 26) != 1 {
+        return None;
+    }
     match RefWord::read(word) {
         Some(
             RefWord::Owned {

@@ -3,12 +3,12 @@ use Rattle.xp_words.specs.KindWords.{kind_write}
 use Rattle.xp_board.specs.KindSteps.{raised_kind}
 use Rattle.kind_words.proofs.KindFacts.{kind_is_some, read_is}
 use Rattle.frame_types.specs.declared.standing.Standing.TheVariants as stands
-use Rattle.frame_types.proofs.Arms.{busy_takes, counted_takes, lost_takes, other_takes}
-use Rattle.frame_types.proofs.Classing.{when_busy, when_counted, when_other}
+use Rattle.frame_types.proofs.Arms.{counted_takes, lost_takes}
+use Rattle.frame_types.proofs.Classing.{when_counted}
 use Rattle.frame_types.proofs.Coming.{looked_held, looked_low, raised_spelled}
 use Rattle.frame_types.proofs.Living.{lives_by_exchange}
-use Rattle.frame_types.proofs.Plainly.{plain_busy, plain_counted, plain_lost, plain_other}
-use Rattle.frame_types.proofs.TakingSteps.{busy_found, counted_found, lost_found, other_found}
+use Rattle.frame_types.proofs.Plainly.{plain_counted, plain_lost}
+use Rattle.frame_types.proofs.TakingSteps.{counted_found, lost_found}
 use Rattle.frame_types.proofs.taking.take_found.Goals as goal
 
 pub read_kind-kind-requires : goal.read_kind-kind-requires
@@ -76,28 +76,6 @@ returns-in-Err-clause-plain g c b l telling =
 
 -- ---- from partial
 
--- ---- not to be had
-
-pub returns-in-Busy-clause-takes : goal.returns-in-Busy-clause-takes
-returns-in-Busy-clause-takes g c b l =
-    busy_takes b (g.P.Port.value c.args.port.now) c.args.frame c.args.owner c.args.want c.args.word l c.read_kind-kind.result c.read_kind-kind.ensures
-    (when_busy c.read_kind-kind.result c.args.want (sym c.classify.ensures ∙ c.in-Busy.is))
-
-pub returns-in-Busy-clause-plain : goal.returns-in-Busy-clause-plain
-returns-in-Busy-clause-plain g c b l telling =
-    let k = c.read_kind-kind.result in
-    plain_busy b (g.P.Port.value c.args.port.now) c.args.frame c.args.owner c.args.want c.args.word l k c.read_kind-kind.ensures (read_is c.args.word k c.read_kind-kind.ensures).1 telling (sym c.classify.ensures ∙ c.in-Busy.is)
-
-pub returns-in-Other-clause-takes : goal.returns-in-Other-clause-takes
-returns-in-Other-clause-takes g c b l =
-    other_takes b (g.P.Port.value c.args.port.now) c.args.frame c.args.owner c.args.want c.args.word l c.read_kind-kind.result c.read_kind-kind.ensures
-    (when_other c.read_kind-kind.result c.args.want (sym c.classify.ensures ∙ c.in-Other.is))
-
-pub returns-in-Other-clause-plain : goal.returns-in-Other-clause-plain
-returns-in-Other-clause-plain g c b l telling =
-    let k = c.read_kind-kind.result in
-    plain_other b (g.P.Port.value c.args.port.now) c.args.frame c.args.owner c.args.want c.args.word l k c.read_kind-kind.ensures (read_is c.args.word k c.read_kind-kind.ensures).1 telling (sym c.classify.ensures ∙ c.in-Other.is)
-
 -- ---- live behind the exchange
 
 -- ---- by the words that the steps found
@@ -113,15 +91,3 @@ returns-in-Err-clause-found g c b l =
     let k = c.read_kind-kind.result in
     lost_found b (g.P.Port.value c.args.port.now) c.args.frame c.args.owner c.args.want c.args.word l k c.read_kind-kind.ensures (read_is c.args.word k c.read_kind-kind.ensures).1
     stands.Counted (sym c.classify.ensures ∙ c.in-Counted.is) (g.P.Port.value c.count_type.new.port) c.in-Err.found refl c.in-Err.ensures.moves c.in-Err.ensures.lost c.lost.result c.lost.ensures
-
-pub returns-in-Busy-clause-found : goal.returns-in-Busy-clause-found
-returns-in-Busy-clause-found g c b l =
-    let k = c.read_kind-kind.result in
-    busy_found b (g.P.Port.value c.args.port.now) c.args.frame c.args.owner c.args.want c.args.word l k c.read_kind-kind.ensures (read_is c.args.word k c.read_kind-kind.ensures).1
-    (sym c.classify.ensures ∙ c.in-Busy.is)
-
-pub returns-in-Other-clause-found : goal.returns-in-Other-clause-found
-returns-in-Other-clause-found g c b l =
-    let k = c.read_kind-kind.result in
-    other_found b (g.P.Port.value c.args.port.now) c.args.frame c.args.owner c.args.want c.args.word l k c.read_kind-kind.ensures (read_is c.args.word k c.read_kind-kind.ensures).1
-    (sym c.classify.ensures ∙ c.in-Other.is)
