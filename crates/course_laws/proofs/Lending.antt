@@ -5,7 +5,7 @@ use Rattle.xp_words.specs.Machine.{IsMachine, Machine}
 use Rattle.xp_words.specs.declared.place.Place.TheVariants.{Refs}
 use Rattle.step_maker.specs.Plain.{Words}
 use Rattle.frame_words.specs.Plain.{refer}
-use Rattle.table_law.specs.Alone.{Cause, CountFull, NoFrame, PlainOutcome, WrongOwner, fine, refused, take_reference, take_reference_of}
+use Rattle.table_law.specs.Alone.{CountFull, NoFrame, PlainOutcome, WrongOwner, fine, refused, take_reference, take_reference_of}
 use Rattle.table_law.specs.Lawful.{share_count}
 use Rattle.table_law.specs.Plain.{Describes, Plain, Share, raised_share, with_share}
 use Rattle.table_twins.specs.Answers.{IsSameAnswer}
