@@ -29,11 +29,11 @@ released_no : (v w : PortValue) (f : ℕ) (kind : PageType) (answers : List Bool
 unfolding yeses
 released_no v _ f kind _ _ ok (course.WasReleased.plain w ordinary drops) = refl
 released_no v _ f kind _ _ ok (course.WasReleased.shared u w table drops gave) = refl
-released_no v _ f kind _ _ ok (course.WasReleased.last u x w word level answers answer table at drops looks emptied) = emptied_no x w _ answers answer ok emptied
+released_no v _ f kind _ _ ok (course.WasReleased.last u x w word level answers answer table at high drops looks emptied) = emptied_no x w _ answers answer ok emptied
 
 partial_no : (v w : PortValue) (f : ℕ) (k : KindWord) (answers : List Bool) (answer : Result (Unit {0}) Stop) → answer ≡ Ok tt → (b : Bool) → SettledPartial v w f k answers answer b → yeses answers ≡ 0
 unfolding yeses
-partial_no v w f k answers answer ok true h = emptied_no h.0 w _ answers answer ok h.5
+partial_no v w f k answers answer ok true h = emptied_no h.0 w _ answers answer ok h.6
 partial_no v w f k answers answer ok false h = ap yeses h.1
 
 one_no : (v w : PortValue) (which : OldWord) (answers : List Bool) (answer : Result (Unit {0}) Stop) → answer ≡ Ok tt → SettledOne v which w answers answer → yeses answers ≡ 0

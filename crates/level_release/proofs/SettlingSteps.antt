@@ -1,5 +1,5 @@
 -- What an old word names is settled: by which steps.
-use Rattle.std.proofs.Common.{◌≡◌, ◌≢◌, ℕ, Bool, true, false, List, [], None, Some, Result, Ok, Err, IsTrue, refl, sym, ap, ◌∙◌, subst}
+use Rattle.std.proofs.Common.{◌≤◌, ◌≡◌, ◌≢◌, ℕ, Bool, true, false, List, [], None, Some, Result, Ok, Err, IsTrue, refl, sym, ap, ◌∙◌, subst}
 use Rattle.xp_words.specs.KindWords.{kind_fields, kind_read, kind_write}
 use Rattle.xp_words.specs.Places.{number, sizes_of}
 use Rattle.xp_words.specs.declared.kind.KindWord.{KindWord}
@@ -82,9 +82,9 @@ module _ (u v : PortValue) (which : OldWord) (f word : ℕ) (t : TookOld u v whi
         courses.partial t.a t.b v d w f word answers answer t.look t.take t.kind form_is (subst (λ y. Moves v d (Kind f) (Cas word (kind_write (resumed_kind (kind_fields word)))) kinds.Kind None y) (at ∙ sym was) change_as)
         (subst (λ (y : KindWord). SettledPartial d w f y answers answer (has_recorded y.kind y)) (sym fields) (subst (λ b. SettledPartial d w f k answers answer b) (sym is) settled))
 
-    pub emptied_course : (x w : PortValue) (refs_word level : ℕ) (answers : List Bool) (answer : Result (Unit {0}) Stop) → has_recorded k.kind k ≡ true → level_type level ≡ k.kind → Moves d x (Refs f) Load kinds.Look None refs_word →
+    pub emptied_course : (x w : PortValue) (refs_word level : ℕ) (answers : List Bool) (answer : Result (Unit {0}) Stop) → has_recorded k.kind k ≡ true → level_type level ≡ k.kind → level ≤ 4 → Moves d x (Refs f) Load kinds.Look None refs_word →
         Emptied x (resumed_table f level k) w answers answer → SettledOne u which w answers answer
-    emptied_course x w refs_word level answers answer has is look emptied = settled_by w answers answer true has (x, refs_word, level, is, look, emptied)
+    emptied_course x w refs_word level answers answer has is high look emptied = settled_by w answers answer true has (x, refs_word, level, is, high, look, emptied)
 
     pub dead_course : (w : PortValue) → has_recorded k.kind k ≡ false → Does d w (λ vs. Then (Dies f k.kind k.unflushed) (PutBy f) vs) → SettledOne u which w [] (Ok tt)
     dead_course w none steps = settled_by w [] (Ok tt) false none (refl, refl, steps)

@@ -1,6 +1,6 @@
 -- The course of a release: the calls that it makes, from port to port, with the tables that are being released before and after each, and
 -- the answers of the gate, the newest first.
-use Rattle.std.specs.Prelude.{◌≡◌, ◌≢◌, ℕ, ◌+◌, ◌-◌, ◌<◌, ◌==◌, ◌&&◌, nat_le, not, Bool, true, false, List, [], ◌∷◌, ◌++◌, None, Some, Result, Ok, Err, IfErr}
+use Rattle.std.specs.Prelude.{◌≡◌, ◌≢◌, ℕ, ◌+◌, ◌-◌, ◌<◌, ◌≤◌, ◌==◌, ◌&&◌, nat_le, not, Bool, true, false, List, [], ◌∷◌, ◌++◌, None, Some, Result, Ok, Err, IfErr}
 use Rattle.xp_words.specs.KindWords.{kind_fields, kind_write}
 use Rattle.xp_words.specs.PageTypes.{is_table}
 use Rattle.xp_words.specs.Places.{number, sizes_of}
@@ -116,7 +116,7 @@ closing_table f level = record { frame = f; level = level; done = 0; own = false
 pub data WasReleased (v : PortValue) (f : ℕ) (kind : PageType) : PortValue → List Bool → Result (Unit {0}) Stop → Type 0 where
   plain : (w : PortValue) → is_table kind ≡ false → DropsPlain v w f kind → WasReleased v f kind w [] (Ok tt)
   shared : (u w : PortValue) → is_table kind ≡ true → DropsType v u f false → GaveRef u w f → WasReleased v f kind w [] (Ok tt)
-  last : (u x w : PortValue) (word level : ℕ) (answers : List Bool) (answer : Result (Unit {0}) Stop) → is_table kind ≡ true → level_type level ≡ kind → DropsType v u f true →
+  last : (u x w : PortValue) (word level : ℕ) (answers : List Bool) (answer : Result (Unit {0}) Stop) → is_table kind ≡ true → level_type level ≡ kind → level ≤ 4 → DropsType v u f true →
       Moves u x (Refs f) Load kinds.Look None word → Emptied x (closing_table f level) w answers answer → WasReleased v f kind w answers answer
 
 -- ---- with a gate
@@ -144,7 +144,7 @@ resumed_table f level k = record { frame = f; level = level; done = 512 - k.prog
 -- a partial one comes into work again; it is a table of which something is recorded, or is dead with its mark
 abbrev pub SettledPartial : PortValue → PortValue → ℕ → KindWord → List Bool → Result (Unit {0}) Stop → Bool → Type 0
 SettledPartial v w f k answers answer true =
-    (u : PortValue) × (word level : ℕ) × (level_type level ≡ k.kind) × Moves v u (Refs f) Load kinds.Look None word × Emptied u (resumed_table f level k) w answers answer
+    (u : PortValue) × (word level : ℕ) × (level_type level ≡ k.kind) × (level ≤ 4) × Moves v u (Refs f) Load kinds.Look None word × Emptied u (resumed_table f level k) w answers answer
 SettledPartial v w f k answers answer false = (answer ≡ Ok tt) × (answers ≡ []) × Does v w (λ vs. Then (Dies f k.kind k.unflushed) (PutBy f) vs)
 
 pub data SettledOne (v : PortValue) (which : OldWord) : PortValue → List Bool → Result (Unit {0}) Stop → Type 0 where

@@ -86,10 +86,10 @@ emptied_noes v _ t _ _ (releasing.Emptied.paused u w us answers stop ran unwound
 released_noes : (v w : PortValue) (f : ℕ) (kind : PageType) (answers : List Bool) (answer : Result (Unit {0}) Stop) → WasReleased v f kind w answers answer → Noes answers (is_due_answer answer)
 released_noes v _ f kind _ _ (releasing.WasReleased.plain w ordinary drops) = noes_none false
 released_noes v _ f kind _ _ (releasing.WasReleased.shared u w table drops gave) = noes_none false
-released_noes v _ f kind _ _ (releasing.WasReleased.last u x w word level answers answer table at drops looks emptied) = emptied_noes x w _ answers answer emptied
+released_noes v _ f kind _ _ (releasing.WasReleased.last u x w word level answers answer table at high drops looks emptied) = emptied_noes x w _ answers answer emptied
 
 partial_noes : (v w : PortValue) (f : ℕ) (k : KindWord) (answers : List Bool) (answer : Result (Unit {0}) Stop) (recorded : Bool) → SettledPartial v w f k answers answer recorded → Noes answers (is_due_answer answer)
-partial_noes v w f k answers answer true h = emptied_noes h.0 w _ answers answer h.5
+partial_noes v w f k answers answer true h = emptied_noes h.0 w _ answers answer h.6
 partial_noes v w f k answers answer false h = noes_same answers [] _ h.1 (noes_none _)
 
 one_noes : (v w : PortValue) (which : OldWord) (answers : List Bool) (answer : Result (Unit {0}) Stop) → SettledOne v which w answers answer → Noes answers (is_due_answer answer)

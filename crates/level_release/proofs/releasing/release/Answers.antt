@@ -103,7 +103,7 @@ returns-then-drop_type-clause-course g c =
     let w = g.P.Port.value c.empty.new.port in
     let d = subst (λ b. DropsType v a c.args.frame b) c.if-drop_type.true c.drop_type.ensures.drops in
     by_as _ (λ answers. Emptied x (closing_table c.args.frame c.level_of.result) w answers c.empty.result) (λ answers. WasReleased v c.args.frame c.args.kind w answers c.empty.result) _ _ _ _ _
-    (λ answers emptied. last a x w c.look_refs.result c.level_of.result answers c.empty.result (sym c.is_table.ensures ∙ c.if-not-is_table.false) c.level_of.ensures.kind d c.look_refs.ensures.moves emptied) c.empty.ensures.course
+    (λ answers emptied. last a x w c.look_refs.result c.level_of.result answers c.empty.result (sym c.is_table.ensures ∙ c.if-not-is_table.false) c.level_of.ensures.kind c.level_of.ensures.high d c.look_refs.ensures.moves emptied) c.empty.ensures.course
 
 pub returns-then-drop_type-clause-kinds : goal.returns-then-drop_type-clause-kinds
 returns-then-drop_type-clause-kinds g c =

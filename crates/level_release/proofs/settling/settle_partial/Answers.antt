@@ -208,7 +208,7 @@ returns-in-Ok-clause-course g c u which t =
     let w = g.P.Port.value c.empty.new.port in
     by_as _ (λ answers. Emptied x (resumed_table c.args.frame c.level_of.result c.args.kind) w answers c.empty.result) (λ answers. SettledOne u which w answers c.empty.result) _ _ _ _ _
     (λ answers emptied. emptied_course u v which c.args.frame c.args.found t c.args.kind c.requires.read c.requires.partial d _ c.in-Ok.ensures.moves refl x w c.look_refs.result c.level_of.result answers c.empty.result
-    (sym c.has_recorded.ensures ∙ c.if-has_recorded.true) c.level_of.ensures.kind c.look_refs.ensures.moves emptied) c.empty.ensures.course
+    (sym c.has_recorded.ensures ∙ c.if-has_recorded.true) c.level_of.ensures.kind c.level_of.ensures.high c.look_refs.ensures.moves emptied) c.empty.ensures.course
 
 pub returns-in-Ok-2-clause-course : goal.returns-in-Ok-2-clause-course
 returns-in-Ok-2-clause-course g c u which t =
