@@ -4,6 +4,10 @@ ghost use Rattle.xp_board.specs.Told.{PortValue};
 ghost use Rattle.xp_words.specs.KindWords.{kind_read};
 ghost use Rattle.xp_words.specs.declared.kind.KindWord.{KindWord};
 ghost use Rattle.xp_words.specs.PageTypes.{is_none};
+ghost use Rattle.xp_words.specs.Places.{number, sizes_of};
+ghost use Rattle.xp_words.specs.declared.place.Place.TheVariants.{Kind};
+ghost use Rattle.xp_words.specs.declared.reply.Pause.TheVariants.{Lost};
+ghost use Rattle.xp_words.specs.declared.reply.Stop.TheVariants.{Paused};
 ghost use Rattle.xp_board.specs.Hands.{work_on, typed_to};
 ghost use Rattle.step_maker.specs.Holds.{MayWork, Same};
 ghost use Rattle.answer_fits.specs.Answers.{Deed, Serves, Stops, misses};
@@ -90,10 +94,20 @@ fn take_found<P: Port>(
     match classify(kind, want) {
         Standing::Counted => match count_type(port, frame, kind, word) {
             Ok(()) => Ok(Taken::Counted),
-            Err(found) => Err(lost(port, frame, word, found)),
+            Err(found) => Err(lost_type(port, frame, word, found)),
         },
         _ => take_other(port, frame, owner, want, word),
     }
+}
+
+// Apart, as it is seldom so: the way above stays short where it is inlined.
+#[cold]
+#[inline(never)]
+fn lost_type<P: Port>(port: &P, frame: u32, word: u64, found: u64) -> Stop
+    requires { frame < (P.value port.now).post.machine.frames }
+    ensures { result ≡ Paused (Lost (number (sizes_of (P.value port.now).post.machine) (Kind frame)) word found) }
+{
+    lost(port, frame, word, found)
 }
 
 // The same of a frame that is not live with that type: so what is most often asked stays short where it is inlined.

@@ -3,6 +3,9 @@ ghost use Rattle.std.specs.Prelude.{◌≡◌, ◌<◌, true, false, [], length,
 ghost use Rattle.xp_words.specs.RefWords.{ref_read};
 ghost use Rattle.xp_words.specs.declared.place.Place.TheVariants.{Refs};
 ghost use Rattle.xp_words.specs.declared.refs.RefWord.TheVariants.{Owned};
+ghost use Rattle.xp_words.specs.declared.reply.Pause.TheVariants.{Lost};
+ghost use Rattle.xp_words.specs.declared.reply.Refusal.TheVariants.{CountFull, WrongOwner};
+ghost use Rattle.xp_words.specs.declared.reply.Stop.TheVariants.{Paused};
 ghost use Rattle.step_maker.specs.Holds.{Holds, Same, MayWork};
 ghost use Rattle.answer_fits.specs.Answers.{Serves, Stops, misses};
 ghost use Rattle.answer_fits.specs.Asked.{of_frame, of_back};
@@ -20,6 +23,35 @@ use step_maker::look_clock;
 use xp_board::Port;
 use xp_words::{Pause, Place, RefWord, Refusal, Stop};
 
+// The stops stand apart, as they are seldom: what most often is done stays short where it is inlined.
+#[cold]
+#[inline(never)]
+fn wrong_owner(frame: u32, found: u64) -> Refusal
+    ensures { result ≡ WrongOwner frame found }
+{
+    Refusal::WrongOwner { frame, found }
+}
+
+#[cold]
+#[inline(never)]
+fn count_full(frame: u32, found: u64) -> Refusal
+    ensures { result ≡ CountFull frame found }
+{
+    Refusal::CountFull { frame, found }
+}
+
+#[cold]
+#[inline(never)]
+fn lost(place: u32, expected: u64, found: u64) -> Stop
+    ensures { result ≡ Paused (Lost place expected found) }
+{
+    Stop::Paused(Pause::Lost {
+        place,
+        expected,
+        found,
+    })
+}
+
 // The word of a frame that is the owner's and has room for one reference more.
 fn open_word(found: u64, frame: u32, owner: u16, limit: u32) -> Result<Open, Refusal>
     ensures reads { IfOk result (λ o. ref_read found ≡ Some (Owned o.owner o.allocated o.count)) }
@@ -36,10 +68,10 @@ fn open_word(found: u64, frame: u32, owner: u16, limit: u32) -> Result<Open, Ref
             },
         ) => {
             if domain != owner {
-                return Err(Refusal::WrongOwner { frame, found });
+                return Err(wrong_owner(frame, found));
             }
             if count >= limit {
-                return Err(Refusal::CountFull { frame, found });
+                return Err(count_full(frame, found));
             }
             Ok(Open {
                 owner,
@@ -47,7 +79,7 @@ fn open_word(found: u64, frame: u32, owner: u16, limit: u32) -> Result<Open, Ref
                 count,
             })
         }
-        _ => Err(Refusal::WrongOwner { frame, found }),
+        _ => Err(wrong_owner(frame, found)),
     }
 }
 
@@ -77,11 +109,7 @@ pub fn get_ref<P: Port>(port: &mut P, f: u64, owner: u16) -> Result<u32, Stop>
         Err(refusal) => Err(Stop::Refused(refusal)),
         Ok(open) => match raise_refs(port, frame, open, found) {
             Ok(()) => Ok(frame),
-            Err(other) => Err(Stop::Paused(Pause::Lost {
-                place,
-                expected: found,
-                found: other,
-            })),
+            Err(other) => Err(lost(place, found, other)),
         },
     }
 }

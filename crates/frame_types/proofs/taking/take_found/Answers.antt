@@ -64,19 +64,13 @@ returns-in-Err-clause-takes g c b l =
     let is = when_counted k c.args.want (sym c.classify.ensures ∙ c.in-Counted.is) in
     lost_takes b v c.args.frame c.args.owner c.args.want c.args.word l (g.P.Port.value c.count_type.new.port) k (raised_kind k) spelled.0
     (raised_spelled v k c.args.want c.requires.may spelled.0 is (looked_low b v c.args.frame c.args.owner c.args.want c.args.word l k c.read_kind-kind.ensures is)) is.kind refl spelled.1 c.in-Err.found c.in-Err.ensures.moves
-    c.in-Err.ensures.lost c.in-Err.ensures.hand c.lost.result c.lost.ensures
+    c.in-Err.ensures.lost c.in-Err.ensures.hand c.lost_type.result c.lost_type.ensures
 
 pub returns-in-Err-clause-plain : goal.returns-in-Err-clause-plain
 returns-in-Err-clause-plain g c b l telling =
     let k = c.read_kind-kind.result in
     plain_lost b (g.P.Port.value c.args.port.now) c.args.frame c.args.owner c.args.want c.args.word l k c.read_kind-kind.ensures (read_is c.args.word k c.read_kind-kind.ensures).1 telling (g.P.Port.value c.count_type.new.port)
-    (raised_kind k) c.in-Err.found c.lost.result c.in-Err.ensures.moves c.in-Err.ensures.lost
-
--- ---- from dead
-
--- ---- from partial
-
--- ---- live behind the exchange
+    (raised_kind k) c.in-Err.found c.lost_type.result c.in-Err.ensures.moves c.in-Err.ensures.lost
 
 -- ---- by the words that the steps found
 
@@ -90,4 +84,4 @@ pub returns-in-Err-clause-found : goal.returns-in-Err-clause-found
 returns-in-Err-clause-found g c b l =
     let k = c.read_kind-kind.result in
     lost_found b (g.P.Port.value c.args.port.now) c.args.frame c.args.owner c.args.want c.args.word l k c.read_kind-kind.ensures (read_is c.args.word k c.read_kind-kind.ensures).1
-    stands.Counted (sym c.classify.ensures ∙ c.in-Counted.is) (g.P.Port.value c.count_type.new.port) c.in-Err.found refl c.in-Err.ensures.moves c.in-Err.ensures.lost c.lost.result c.lost.ensures
+    stands.Counted (sym c.classify.ensures ∙ c.in-Counted.is) (g.P.Port.value c.count_type.new.port) c.in-Err.found refl c.in-Err.ensures.moves c.in-Err.ensures.lost c.lost_type.result c.lost_type.ensures

@@ -1,9 +1,13 @@
-use Rattle.std.proofs.Common.{◌<◌, ◌≤◌, refl, sym, ap, ◌∙◌, subst, arith}
+use Rattle.std.proofs.Common.{◌<◌, ◌≤◌, ℕ, None, Err, refl, sym, ap, ◌∙◌, subst, arith}
 use Rattle.xp_words.specs.Machine.{Machine}
 use Rattle.xp_words.specs.declared.place.Place.TheVariants.{Refs}
 use Rattle.xp_words.specs.Places.{number, sizes_of}
+use Rattle.xp_words.specs.declared.reply.Stop.{Stop}
+use Rattle.answer_fits.specs.Answers.{Serves, Stops, misses}
+use Rattle.answer_fits.specs.Asked.{of_frame}
 use Rattle.answer_fits.proofs.Piecing.{serves_nothing}
-use Rattle.frame_words.specs.Refs.{RefusesWord}
+use Rattle.frame_words.specs.Plain.{TwinGet}
+use Rattle.frame_words.specs.Refs.{Gets, RefusesWord}
 use Rattle.frame_words.proofs.Taking.{no_frame, refused, looked, opened, taken, missed_there, lost, taken_gives, word_law}
 use Rattle.frame_words.proofs.Getting.{gets_no_frame, gets_refused, gets_one, gets_lost}
 use Rattle.frame_words.proofs.Twinning.{twin_refused, twin_got, twin_lost}
@@ -54,8 +58,9 @@ returns-in-Err-raise_refs-clause-serves g c =
     let limit = ap (λ (n : Machine). n.limit) (c.behind-port-2.view_is ∙ c.layout-2.ensures.layout) in
     let low = subst (λ k. c.in-Ok.open.count < k) limit c.in-Ok.ensures.low in
     let few = c.requires.machine.few_counts in
-    missed_there _ _ c.args.f c.args.owner c.look_refs-found.result c.look_refs-found.ensures.moves _ c.in-Ok.open c.look_refs-found.type_inv c.in-Ok.ensures.reads (omega arith) _ c.in-Err-raise_refs.ensures.moves
-    _ at c.in-Err-raise_refs.ensures.lost
+    subst (λ (s : Stop). Serves (g.P.Port.value c.args.port.now) (g.P.Port.value c.raise_refs.new.port) (of_frame c.args.f c.args.owner None) (misses {A = ℕ} (g.P.Port.value c.args.port.now).post.machine (Err s))) (sym c.lost.ensures)
+    (missed_there _ _ c.args.f c.args.owner c.look_refs-found.result c.look_refs-found.ensures.moves _ c.in-Ok.open c.look_refs-found.type_inv c.in-Ok.ensures.reads (omega arith) _ c.in-Err-raise_refs.ensures.moves
+    _ at c.in-Err-raise_refs.ensures.lost)
 
 pub returns-in-Err-raise_refs-clause-stops : goal.returns-in-Err-raise_refs-clause-stops
 returns-in-Err-raise_refs-clause-stops g c =
@@ -63,8 +68,9 @@ returns-in-Err-raise_refs-clause-stops g c =
     let limit = ap (λ (n : Machine). n.limit) (c.behind-port-2.view_is ∙ c.layout-2.ensures.layout) in
     let low = subst (λ k. c.in-Ok.open.count < k) limit c.in-Ok.ensures.low in
     let few = c.requires.machine.few_counts in
-    lost _ _ c.args.f c.args.owner c.look_refs-found.result c.look_refs-found.ensures.moves _ c.in-Ok.open c.look_refs-found.type_inv c.in-Ok.ensures.reads (omega arith) _ c.in-Err-raise_refs.ensures.moves
-    _ at c.in-Err-raise_refs.ensures.lost
+    subst (λ (s : Stop). Stops (g.P.Port.value c.args.port.now) (g.P.Port.value c.raise_refs.new.port) (of_frame c.args.f c.args.owner None) s) (sym c.lost.ensures)
+    (lost _ _ c.args.f c.args.owner c.look_refs-found.result c.look_refs-found.ensures.moves _ c.in-Ok.open c.look_refs-found.type_inv c.in-Ok.ensures.reads (omega arith) _ c.in-Err-raise_refs.ensures.moves
+    _ at c.in-Err-raise_refs.ensures.lost)
 
 pub returns-in-Err-clause-plain : goal.returns-in-Err-clause-plain
 returns-in-Err-clause-plain g c =
@@ -84,8 +90,9 @@ returns-in-Ok-raise_refs-clause-plain g c =
 pub returns-in-Err-raise_refs-clause-plain : goal.returns-in-Err-raise_refs-clause-plain
 returns-in-Err-raise_refs-clause-plain g c =
     let frames = ap (λ (n : Machine). n.frames) (c.behind-port.view_is ∙ c.layout.ensures.layout) in
-    twin_lost _ _ c.args.f c.args.owner c.look_refs-found.result c.look_refs-found.ensures.moves (subst (λ k. c.args.f < k) (c.from-frames.ensures ∙ frames) c.if-f-frames.false) _ c.in-Ok.open c.in-Ok.ensures.reads
-    (word_law _ _ c.args.f c.args.owner c.look_refs-found.result c.look_refs-found.ensures.moves c.in-Ok.open c.look_refs-found.type_inv c.in-Ok.ensures.reads).1 _ c.in-Err-raise_refs.ensures.moves c.in-Err-raise_refs.ensures.lost
+    subst (λ (s : Stop). TwinGet {A = ℕ} (g.P.Port.value c.args.port.now) (g.P.Port.value c.raise_refs.new.port) c.args.f c.args.owner (Err s)) (sym c.lost.ensures)
+    (twin_lost _ _ c.args.f c.args.owner c.look_refs-found.result c.look_refs-found.ensures.moves (subst (λ k. c.args.f < k) (c.from-frames.ensures ∙ frames) c.if-f-frames.false) _ c.in-Ok.open c.in-Ok.ensures.reads
+    (word_law _ _ c.args.f c.args.owner c.look_refs-found.result c.look_refs-found.ensures.moves c.in-Ok.open c.look_refs-found.type_inv c.in-Ok.ensures.reads).1 _ c.in-Err-raise_refs.ensures.moves c.in-Err-raise_refs.ensures.lost)
 
 pub returns-then-f-frames-clause-gets : goal.returns-then-f-frames-clause-gets
 returns-then-f-frames-clause-gets g c =
@@ -112,6 +119,7 @@ returns-in-Err-raise_refs-clause-gets g c =
     let at = c.place-place.ensures ∙ ap (λ (n : Machine). number (sizes_of n) (Refs c.args.f)) c.layout-3.ensures.layout in
     let limit = ap (λ (n : Machine). n.limit) (c.behind-port-2.view_is ∙ c.layout-2.ensures.layout) in
     let frames = ap (λ (n : Machine). n.frames) (c.behind-port.view_is ∙ c.layout.ensures.layout) in
-    gets_lost _ _ c.args.f c.args.owner c.look_refs-found.result c.look_refs-found.ensures.moves (subst (λ k. c.args.f < k) (c.from-frames.ensures ∙ frames) c.if-f-frames.false) _ c.in-Ok.open c.in-Ok.ensures.reads
+    subst (λ (s : Stop). Gets {A = ℕ} (g.P.Port.value c.args.port.now) (g.P.Port.value c.raise_refs.new.port) c.args.f c.args.owner (Err s)) (sym c.lost.ensures)
+    (gets_lost _ _ c.args.f c.args.owner c.look_refs-found.result c.look_refs-found.ensures.moves (subst (λ k. c.args.f < k) (c.from-frames.ensures ∙ frames) c.if-f-frames.false) _ c.in-Ok.open c.in-Ok.ensures.reads
     (word_law _ _ c.args.f c.args.owner c.look_refs-found.result c.look_refs-found.ensures.moves c.in-Ok.open c.look_refs-found.type_inv c.in-Ok.ensures.reads).1 _ c.in-Err-raise_refs.ensures.moves _ at c.in-Ok.ensures.owner
-    (subst (λ k. c.in-Ok.open.count < k) limit c.in-Ok.ensures.low) c.in-Err-raise_refs.ensures.lost
+    (subst (λ k. c.in-Ok.open.count < k) limit c.in-Ok.ensures.low) c.in-Err-raise_refs.ensures.lost)
