@@ -116,6 +116,7 @@ pub fn get_ref<P: Port>(port: &mut P, f: u64, owner: u16) -> Result<u32, Stop>
 
 /// Gives a reference in hand back. Where it was the last the frame becomes free: its bit in the map of free frames is set,
 /// the free word is stored with a clock value that was found here, and one is taken from the pages of the owner.
+#[inline(always)]
 pub fn put_ref<P: Port>(port: &mut P, frame: u32)
     requires frame { frame < (P.value port.old).post.machine.frames }
     requires may { MayWork (P.value port.old) }
@@ -134,6 +135,7 @@ pub fn put_ref<P: Port>(port: &mut P, frame: u32)
 }
 
 // A frame whose last reference was given back becomes free.
+#[inline(never)]
 fn free_frame<P: Port>(port: &mut P, frame: u32, owner: u16)
     requires frame { frame < (P.value port.old).post.machine.frames }
     requires domain { owner < length (P.value port.old).post.machine.page_limit }
