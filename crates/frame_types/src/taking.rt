@@ -1,5 +1,5 @@
 //! Frames that are taken for a type.
-ghost use Rattle.std.specs.Prelude.{◌≡◌, ◌≢◌, ◌<◌, List, [], true, not, None, Some, Err, IfOk, IfErr, MatchResult, IsTrue};
+ghost use Rattle.std.specs.Prelude.{◌≡◌, ◌≢◌, ◌<◌, List, [], true, not, None, Some, IfOk, IfErr, MatchResult, IsTrue};
 ghost use Rattle.xp_board.specs.Told.{PortValue};
 ghost use Rattle.xp_words.specs.KindWords.{kind_read};
 ghost use Rattle.xp_words.specs.declared.kind.KindWord.{KindWord};
@@ -94,7 +94,7 @@ fn take_found<P: Port>(
     match classify(kind, want) {
         Standing::Counted => match count_type(port, frame, kind, word) {
             Ok(()) => Ok(Taken::Counted),
-            Err(found) => lost_type(port, frame, word, found),
+            Err(found) => Err(lost_type(port, frame, word, found)),
         },
         _ => take_other(port, frame, owner, want, word),
     }
@@ -103,11 +103,11 @@ fn take_found<P: Port>(
 // Apart, as it is seldom so: the way above stays short where it is inlined.
 #[cold]
 #[inline(never)]
-fn lost_type<P: Port>(port: &P, frame: u32, word: u64, found: u64) -> Result<Taken, Stop>
+fn lost_type<P: Port>(port: &P, frame: u32, word: u64, found: u64) -> Stop
     requires { frame < (P.value port.now).post.machine.frames }
-    ensures { result ≡ Err (Paused (Lost (number (sizes_of (P.value port.now).post.machine) (Kind frame)) word found)) }
+    ensures { result ≡ Paused (Lost (number (sizes_of (P.value port.now).post.machine) (Kind frame)) word found) }
 {
-    Err(lost(port, frame, word, found))
+    lost(port, frame, word, found)
 }
 
 // The same of a frame that is not live with that type: so what is most often asked stays short where it is inlined.

@@ -1,13 +1,8 @@
-use Rattle.std.proofs.Common.{Result, refl, sym, ◌∙◌, subst}
-use Rattle.xp_words.specs.declared.reply.Stop.{Stop}
+use Rattle.std.proofs.Common.{refl, sym, ◌∙◌}
 use Rattle.xp_words.specs.KindWords.{kind_write}
 use Rattle.xp_board.specs.KindSteps.{raised_kind}
 use Rattle.kind_words.proofs.KindFacts.{kind_is_some, read_is}
 use Rattle.frame_types.specs.declared.standing.Standing.TheVariants as stands
-use Rattle.frame_types.specs.Found.{TakesFound}
-use Rattle.frame_types.specs.Plain.{TwinTake}
-use Rattle.frame_types.specs.Taking.{Takes}
-use Rattle.frame_types.specs.declared.taking.Taken.{Taken}
 use Rattle.frame_types.proofs.Arms.{counted_takes, lost_takes}
 use Rattle.frame_types.proofs.Classing.{when_counted}
 use Rattle.frame_types.proofs.Coming.{looked_held, looked_low, raised_spelled}
@@ -67,17 +62,15 @@ returns-in-Err-clause-takes g c b l =
     let k = c.read_kind-kind.result in
     let spelled = read_is c.args.word k c.read_kind-kind.ensures in
     let is = when_counted k c.args.want (sym c.classify.ensures ∙ c.in-Counted.is) in
-    subst (λ (r : Result Taken Stop). Takes b (g.P.Port.value c.count_type.new.port) c.args.frame c.args.owner c.args.want r) (sym c.lost_type.ensures)
-    (lost_takes b v c.args.frame c.args.owner c.args.want c.args.word l (g.P.Port.value c.count_type.new.port) k (raised_kind k) spelled.0
+    lost_takes b v c.args.frame c.args.owner c.args.want c.args.word l (g.P.Port.value c.count_type.new.port) k (raised_kind k) spelled.0
     (raised_spelled v k c.args.want c.requires.may spelled.0 is (looked_low b v c.args.frame c.args.owner c.args.want c.args.word l k c.read_kind-kind.ensures is)) is.kind refl spelled.1 c.in-Err.found c.in-Err.ensures.moves
-    c.in-Err.ensures.lost c.in-Err.ensures.hand _ refl)
+    c.in-Err.ensures.lost c.in-Err.ensures.hand c.lost_type.result c.lost_type.ensures
 
 pub returns-in-Err-clause-plain : goal.returns-in-Err-clause-plain
-returns-in-Err-clause-plain g c b l =
+returns-in-Err-clause-plain g c b l telling =
     let k = c.read_kind-kind.result in
-    subst (λ (r : Result Taken Stop). TwinTake b (g.P.Port.value c.count_type.new.port) c.args.frame c.args.want r) (sym c.lost_type.ensures)
-    (λ telling. plain_lost b (g.P.Port.value c.args.port.now) c.args.frame c.args.owner c.args.want c.args.word l k c.read_kind-kind.ensures (read_is c.args.word k c.read_kind-kind.ensures).1 telling (g.P.Port.value c.count_type.new.port)
-    (raised_kind k) c.in-Err.found _ c.in-Err.ensures.moves c.in-Err.ensures.lost)
+    plain_lost b (g.P.Port.value c.args.port.now) c.args.frame c.args.owner c.args.want c.args.word l k c.read_kind-kind.ensures (read_is c.args.word k c.read_kind-kind.ensures).1 telling (g.P.Port.value c.count_type.new.port)
+    (raised_kind k) c.in-Err.found c.lost_type.result c.in-Err.ensures.moves c.in-Err.ensures.lost
 
 -- ---- by the words that the steps found
 
@@ -90,6 +83,5 @@ returns-in-Ok-clause-found g c b l =
 pub returns-in-Err-clause-found : goal.returns-in-Err-clause-found
 returns-in-Err-clause-found g c b l =
     let k = c.read_kind-kind.result in
-    subst (λ (r : Result Taken Stop). TakesFound b (g.P.Port.value c.count_type.new.port) c.args.frame c.args.want r) (sym c.lost_type.ensures)
-    (lost_found b (g.P.Port.value c.args.port.now) c.args.frame c.args.owner c.args.want c.args.word l k c.read_kind-kind.ensures (read_is c.args.word k c.read_kind-kind.ensures).1
-    stands.Counted (sym c.classify.ensures ∙ c.in-Counted.is) (g.P.Port.value c.count_type.new.port) c.in-Err.found refl c.in-Err.ensures.moves c.in-Err.ensures.lost _ refl)
+    lost_found b (g.P.Port.value c.args.port.now) c.args.frame c.args.owner c.args.want c.args.word l k c.read_kind-kind.ensures (read_is c.args.word k c.read_kind-kind.ensures).1
+    stands.Counted (sym c.classify.ensures ∙ c.in-Counted.is) (g.P.Port.value c.count_type.new.port) c.in-Err.found refl c.in-Err.ensures.moves c.in-Err.ensures.lost c.lost_type.result c.lost_type.ensures
