@@ -1,0 +1,4 @@
+pub mod Entries
+pub mod Found
+pub mod Locks
+pub mod Plain

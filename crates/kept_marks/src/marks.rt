@@ -1,0 +1,80 @@
+//! Marks that are set, and taken back.
+ghost use Rattle.std.specs.Prelude.{◌≡◌, ◌≢◌, ◌<◌, [], None, Some, true, length, IfErr, MatchResult, IsTrue};
+ghost use Rattle.xp_words.specs.declared.place.Place.TheVariants.{Kind};
+ghost use Rattle.xp_words.specs.KindWords.{is_kind, kind_write};
+ghost use Rattle.xp_board.specs.Readings.{domain_of, is_partial};
+ghost use Rattle.xp_board.specs.Spelling.{is_kind_in};
+ghost use Rattle.xp_board.specs.declared.step.Act.TheVariants.{Cas};
+ghost use Rattle.xp_board.specs.declared.step.StepKind.TheVariants as kinds;
+ghost use Rattle.step_maker.specs.Holds.{Holds, MayWork};
+ghost use Rattle.step_maker.specs.Moves.{Came, Moves, found_by};
+ghost use Rattle.kind_words.specs.Kinds.{MayLeave, looked_at};
+ghost use Rattle.table_words.specs.OldWords.{known_old};
+ghost use Rattle.table_words.specs.declared.old_words.OldWord.TheVariants.{First};
+ghost use Rattle.kept_marks.specs.Marks.{IsKeptOf, IsUnpaged, KeptFor, LeavesKept, ServesKept, took_back, unkept_kind};
+
+use crate::words::unkept;
+use flush_words::look_life;
+use kind_words::leave;
+use step_maker::exchange;
+use table_words::{OldWord, put_old};
+use xp_board::{Port, StepKind};
+use xp_words::{KindWord, Place};
+
+/// Takes the `kept` mark off a partial frame by one exchange of the word that says this. Its typed reference comes into the hand. An
+/// exchange that finds another word answers it, and leaves the references as they were.
+pub fn take_back<P: Port>(port: &mut P, frame: u32, kind: KindWord) -> Result<(), u64>
+    requires frame { frame < (P.value port.old).post.machine.frames }
+    requires may { MayWork (P.value port.old) }
+    requires is { IsTrue (is_kind kind) }
+    requires fits { IsTrue (is_kind_in (P.value port.old).post.machine (Some kind)) }
+    requires partial { IsTrue (is_partial kind) }
+    requires kept { kind.kept ≡ true }
+    requires page { IsUnpaged kind }
+    ensures moves { Moves (P.value port.old) (P.value port.new) (Kind frame) (Cas (kind_write kind) (kind_write (unkept_kind kind))) kinds.Kind None (found_by (kind_write kind) result) }
+    ensures lost { IfErr result (λ found. found ≢ kind_write kind) }
+    ensures hand { MatchResult result (λ _. Holds (P.value port.old) (P.value port.new) (took_back frame kind (P.value port.old).holdings)) (λ found. Holds (P.value port.old) (P.value port.new) (looked_at frame found (P.value port.old).holdings)) }
+{
+    let expected = kind.write();
+    let new = unkept(kind);
+    exchange(port, Place::Kind { frame }, expected, new, StepKind::Kind)
+}
+
+/// Leaves a frame of the own works partial, with its type count in its `kept` mark. Where the frame is another domain's, that domain's
+/// life is looked at then: where it is dying the mark is taken back, and the first old word, which is known to name no frame, names this
+/// one; unless another vCPU has taken the mark over by then. `owner`: as it is known by the reference that goes into the mark.
+pub fn leave_kept<P: Port>(port: &mut P, frame: u32, kind: KindWord, owner: u16)
+    requires frame { frame < (P.value port.old).post.machine.frames }
+    requires may { MayWork (P.value port.old) }
+    requires leaves { MayLeave (P.value port.old) frame kind }
+    requires partial { IsTrue (is_partial kind) }
+    requires kept { kind.kept ≡ true }
+    requires page { IsUnpaged kind }
+    requires known { IsKeptOf (P.value port.old) frame owner }
+    requires real { owner < length (P.value port.old).post.machine.page_limit }
+    requires looked { (P.value port.old).holdings.looking ≡ [] }
+    requires room { owner ≢ domain_of (P.value port.old).post.machine (P.value port.old).post.vcpu → known_old First (P.value port.old).holdings ≡ Some 0 }
+    ensures came { Came (P.value port.old) (P.value port.new) }
+    ensures hand { LeavesKept (P.value port.old) (P.value port.new) frame kind owner }
+    ensures serves { ServesKept (P.value port.old) (P.value port.new) frame owner }
+    ensures course { KeptFor (P.value port.old) (P.value port.new) frame kind owner }
+{
+    leave(port, frame, kind);
+    if owner == own_domain(port) {
+        return;
+    }
+    if look_life(port, owner) == 0 {
+        return;
+    }
+    match take_back(port, frame, kind) {
+        Ok(()) => put_old(port, OldWord::First, frame),
+        Err(_) => {}
+    }
+}
+
+// The domain of the own vCPU.
+fn own_domain<P: Port>(port: &P) -> u16
+    ensures { result ≡ domain_of (P.value port.now).post.machine (P.value port.now).post.vcpu }
+{
+    port.layout().vcpu_domain.as_slice()[port.vcpu() as usize]
+}
