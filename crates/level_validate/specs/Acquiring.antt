@@ -1,5 +1,6 @@
 -- A frame taken as a page table: what is in hand then, and why it is not to be had.
-use Rattle.std.specs.Prelude.{◌≡◌, ◌⊎◌, ◌+◌, ◌==◌, ◌&&◌, not, if◌then◌else◌, ℕ, Bool, true, false, List, [], ◌∷◌, Option, Some, None, Result, Ok, Err}
+use Rattle.std.specs.Prelude.{◌≡◌, ◌⊎◌, ◌+◌, ◌++◌, ◌==◌, ◌&&◌, not, if◌then◌else◌, ℕ, Bool, true, false, List, [], ◌∷◌, Option, Some, None, Result, Ok, Err}
+use Rattle.xp_words.specs.declared.place.Place.TheVariants.{Kind}
 use Rattle.xp_words.specs.declared.reply.Pause.TheVariants.{Busy, Due, Flush, Lost}
 use Rattle.xp_words.specs.declared.reply.Refusal.TheVariants as refusals
 use Rattle.xp_words.specs.declared.reply.Stop.{Stop}
@@ -8,11 +9,12 @@ use Rattle.xp_board.specs.declared.holdings.OwnerFound.TheVariants as owners
 use Rattle.xp_board.specs.KindSteps.{live_typed}
 use Rattle.xp_board.specs.Told.{PortValue}
 use Rattle.step_maker.specs.Holds.{FlushedHolds, FlushedSame, Holds}
-use Rattle.answer_fits.specs.Answers.{Deed, Stops}
+use Rattle.answer_fits.specs.Answers.{Deed, Misses, Serves, Stops, misses}
 use Rattle.answer_fits.specs.Asked.{Request, of_table}
 use Rattle.frame_types.specs.Plain.{is_refused}
 use Rattle.frame_types.specs.Taking.{WaitsWith}
 use Rattle.frame_words.specs.Refs.{took}
+use Rattle.kept_marks.specs.Marks.{IsForeign}
 use Rattle.partial_state.specs.Levels.{level_type}
 use Rattle.partial_state.specs.declared.stack.TableWork.{TableWork}
 use Rattle.table_courses.specs.Acquiring.{Acquired}
@@ -51,9 +53,18 @@ IsAcquireStop (Paused (Busy f found)) = Unit {0}
 IsAcquireStop (Paused (Flush vcpu stamp found)) = Unit {0}
 IsAcquireStop _ = ⊥
 
--- what it asks: the frame for the type of that level, and what the entries of tables ask
-abbrev pub of_acquire : {A : Type 0} → ℕ → ℕ → ℕ → ℕ → Result A Stop → Request
-of_acquire f owner level pages answer = of_table f owner (Some (level_type level)) pages (is_due_answer answer)
+-- what it asks: the frame for the type of that level, and what the entries of tables ask; of another domain's frame its own mark may be
+-- taken back
+abbrev pub of_acquire : {A : Type 0} → PortValue → ℕ → ℕ → ℕ → ℕ → Result A Stop → Request
+of_acquire v f owner level pages answer =
+    record (of_table f owner (Some (level_type level)) pages (is_due_answer answer)) { locks = not (owner == own_domain v) }
+
+-- its steps serve that; a guest sees no deed of them, but for an exchange that was lost: that for which it is paused, or the one that is to
+-- take the mark back
+pub record ServesAcquired (v w : PortValue) (f owner level pages : ℕ) (answer : Result ℕ Stop) : Type 0 where
+  pub hidden : List Deed
+  pub may : (hidden ≡ []) ⊎ (IsForeign v owner × (is_paused_answer answer ≡ true) × (hidden ≡ Misses (Kind f) ∷ []))
+  pub serves : Serves v w (of_acquire v f owner level pages answer) (hidden ++ misses v.post.machine answer)
 
 -- ---- the tables in work
 -- the outermost one, however many of its entries are done with
@@ -81,11 +92,11 @@ Validated u w t (Ok done) = Completes u w t
 Validated u w t (Err e) = Unwinds u w (not (is_refused e)) (t ∷ [])
 
 -- Ok: a typed reference to the live frame came into the hand. Refused: nothing is in hand, and the first old word may name the frame.
--- Paused: nothing is in hand.
+-- Paused: nothing is in hand, and the first old word may name a frame of another domain, which is dying.
 abbrev pub LeavesAcquired : PortValue → PortValue → ℕ → ℕ → ℕ → Result ℕ Stop → Type 0
 LeavesAcquired v w f owner level (Ok g) = FlushedHolds v w (record v.holdings { typed = live_typed g (level_type level) (owners.Of owner) ∷ v.holdings.typed })
 LeavesAcquired v w f owner level (Err (Refused x)) = FlushedSame v w ⊎ FlushedHolds v w (record v.holdings { old0 = Some (f + 1) })
-LeavesAcquired v w f owner level (Err (Paused x)) = FlushedSame v w
+LeavesAcquired v w f owner level (Err (Paused x)) = FlushedSame v w ⊎ (IsForeign v owner × FlushedHolds v w (record v.holdings { old0 = Some (f + 1) }))
 
 -- ---- a table that waits for a flush
 -- it came there from some port that was idle, under a reference that was taken first

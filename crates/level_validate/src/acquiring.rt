@@ -34,11 +34,11 @@ use xp_board::Port;
 use xp_preempt::Preempt;
 use xp_words::{Pause, Stop};
 
-/// Takes a frame of the own domain as a page table of that level, 1 to 4, and with it all that its entries ask, down to the
-/// pages. A table that was left unfinished is taken on where it was left. The gate is asked behind each entry, but in the
+/// Takes a frame of the domain `owner` as a page table of that level, 1 to 4, and with it all that its entries ask, down to the
+/// pages, which are to be that domain's too. A table that was left unfinished is taken on where it was left. The gate is asked behind each entry, but in the
 /// slots that are Xen's (`ROOT_PAGETABLE_FIRST_XEN_SLOT` to `_LAST_`), and not where the table is then full. A refusal or a pause leaves
-/// all tables in work partial; the outermost one's reference goes into its `kept` mark (a pause) or into the first old word (a refusal), which
-/// is known to name no frame.
+/// all tables in work partial; the outermost one's reference goes into its `kept` mark (a pause) or into the first old word (a refusal, or a
+/// pause where the frame is another domain's, which is dying), which is known to name no frame.
 pub fn acquire<P: Port>(
     port: &mut P,
     gate: &mut dyn Preempt,
@@ -48,13 +48,13 @@ pub fn acquire<P: Port>(
 ) -> Result<u32, Stop>
     requires may { MayWork (P.value port.old) }
     requires idle { IsIdle (P.value port.old) }
-    requires own { owner ≡ own_domain (P.value port.old) }
+    requires real { owner < length (P.value port.old).post.machine.page_limit }
     requires low { 1 ≤ level }
     requires high { level ≤ 4 }
     requires room { known_old First (P.value port.old).holdings ≡ Some 0 }
     ensures frame { IfOk result (λ g. (g ≡ f) × (g < (P.value port.old).post.machine.frames)) }
-    ensures serves { (pages : ℕ) → Serves (P.value port.old) (P.value port.new) (of_acquire f owner level pages result) (misses (P.value port.old).post.machine result) }
-    ensures stops { (pages : ℕ) → IfErr result (λ e. Stops (P.value port.old) (P.value port.new) (of_acquire f owner level pages result) e) }
+    ensures serves { (pages : ℕ) → ServesAcquired (P.value port.old) (P.value port.new) f owner level pages result }
+    ensures stops { (pages : ℕ) → IfErr result (λ e. Stops (P.value port.old) (P.value port.new) (of_acquire (P.value port.old) f owner level pages result) e) }
     ensures kinds { IfErr result IsAcquireStop }
     // No entry is given back, and none read but the next one of a table in work, or the last recorded one.
     ensures forward { Forward (P.value port.old) (P.value port.new) }

@@ -15,7 +15,7 @@ ghost use Rattle.level_validate.specs.Serving.{CarriesOn, StopsIn};
 ghost use Rattle.level_validate.specs.Tables.{IsTopReady, IsStanding, StandsOn};
 
 use crate::completing::give_back;
-use frame_types::{leave_dead, leave_shared};
+use frame_types::leave_shared;
 use partial_state::{Stack, TableWork, level_type};
 use table_entries::{Entered, Resumed, TableEntry, resume_entry, take_entry};
 use xp_board::Port;
@@ -119,33 +119,19 @@ pub(crate) fn take_on<P: Port>(
             give_back(port, frame);
             Ok(true)
         }
-        Resumed::Opened {
-            frame,
-            progress,
-            own,
-        } => {
+        Resumed::Opened { frame, progress } => {
             let inner = TableWork {
                 frame,
                 level: top.level - 1,
                 done: progress,
-                own,
+                own: false,
                 recorded: true,
             };
             stack.push(inner);
             take_on(port, owner, stack, inner)
         }
-        Resumed::Waiting {
-            frame,
-            own,
-            stamp,
-            stop,
-        } => {
-            let kind = level_type(top.level - 1);
-            if own {
-                leave_dead(port, frame, kind);
-            } else {
-                leave_shared(port, frame, kind, stamp);
-            }
+        Resumed::Waiting { frame, stamp, stop } => {
+            leave_shared(port, frame, level_type(top.level - 1), stamp);
             Err(stop)
         }
     }

@@ -19,12 +19,13 @@ use Rattle.frame_words.specs.Plain.{TwinGet, put}
 use Rattle.frame_words.specs.Freeing.{Puts}
 use Rattle.frame_words.specs.Refs.{Gets}
 use Rattle.kind_words.specs.Kinds.{live_kind, partial_kind}
-use Rattle.frame_types.specs.Found.{DeadBy, SharedBy, StoresKind, TakesFound}
+use Rattle.frame_types.specs.Found.{SharedBy, StoresKind, TakesFound}
 use Rattle.frame_types.specs.Lowering.{DropsType}
 use Rattle.frame_types.specs.Plain.{TwinTake, is_refused}
 use Rattle.frame_types.specs.Taking.{ShowsWait}
 use Rattle.frame_types.specs.declared.taking.Taken.{Taken}
 use Rattle.frame_types.specs.declared.taking.Taken.TheVariants as types
+use Rattle.kept_marks.specs.Marks.{KeptFor}
 use Rattle.partial_state.specs.Levels.{level_type}
 use Rattle.partial_state.specs.declared.stack.TableWork.{TableWork}
 use Rattle.table_words.specs.OldWords.{old_place}
@@ -93,10 +94,9 @@ abbrev pub Joined : PortValue → PortValue → TableWork → TableWork → Bool
 Joined v w t outer true = GaveBack v w t.frame
 Joined v w t outer false = (clock : ℕ) × Moves v w Clock Load kinds.Look (Some (Record outer.frame outer.done)) clock
 
--- a frame of a recorded entry waits for a flush which is not to be had: it is dead with its mark, or as another holder left it
-abbrev pub LeftWaiting : PortValue → PortValue → ℕ → ℕ → Bool → ℕ → Type 0
-LeftWaiting v w f level true stamp = Does v w (λ vs. DeadBy f (level_type level) vs)
-LeftWaiting v w f level false stamp = Does v w (λ vs. SharedBy f (level_type level) stamp vs)
+-- a frame of a recorded entry waits for a flush which is not to be had: it is left as it was found
+abbrev pub LeftWaiting : PortValue → PortValue → ℕ → ℕ → ℕ → Type 0
+LeftWaiting v w f level stamp = Does v w (λ vs. SharedBy f (level_type level) stamp vs)
 
 -- ---- down to where a table was left
 -- From v, with these tables in work, of which the innermost has just come into work, to w with those: its last recorded entry is
@@ -107,10 +107,10 @@ pub data TookOn (owner : ℕ) : PortValue → List TableWork → PortValue → L
   settled : (v w : PortValue) (t : TableWork) (ts : List TableWork) → 0 < t.done → ResumedEntry v w owner t (Ok again.Settled) → TookOn owner v (t ∷ ts) w (t ∷ ts) (Ok false)
   taken : (v u w : PortValue) (t : TableWork) (ts : List TableWork) (f : ℕ) → 0 < t.done → ResumedEntry v u owner t (Ok (again.Taken f)) → GaveBack u w f →
       TookOn owner v (t ∷ ts) w (t ∷ ts) (Ok true)
-  opened : (v u w : PortValue) (t : TableWork) (ts us : List TableWork) (f progress : ℕ) (own : Bool) (answer : Result Bool Stop) → 0 < t.done →
-      ResumedEntry v u owner t (Ok (again.Opened f progress own)) → TookOn owner u (table_in t f progress own true ∷ t ∷ ts) w us answer → TookOn owner v (t ∷ ts) w us answer
-  waiting : (v u w : PortValue) (t : TableWork) (ts : List TableWork) (f : ℕ) (own : Bool) (stamp : ℕ) (stop : Stop) → 0 < t.done →
-      ResumedEntry v u owner t (Ok (again.Waiting f own stamp stop)) → LeftWaiting u w f (t.level - 1) own stamp → TookOn owner v (t ∷ ts) w (t ∷ ts) (Err stop)
+  opened : (v u w : PortValue) (t : TableWork) (ts us : List TableWork) (f progress : ℕ) (answer : Result Bool Stop) → 0 < t.done →
+      ResumedEntry v u owner t (Ok (again.Opened f progress)) → TookOn owner u (table_in t f progress false true ∷ t ∷ ts) w us answer → TookOn owner v (t ∷ ts) w us answer
+  waiting : (v u w : PortValue) (t : TableWork) (ts : List TableWork) (f stamp : ℕ) (stop : Stop) → 0 < t.done →
+      ResumedEntry v u owner t (Ok (again.Waiting f stamp stop)) → LeftWaiting u w f (t.level - 1) stamp → TookOn owner v (t ∷ ts) w (t ∷ ts) (Err stop)
   stopped : (v w : PortValue) (t : TableWork) (ts : List TableWork) (stop : Stop) → 0 < t.done → ResumedEntry v w owner t (Err stop) → TookOn owner v (t ∷ ts) w (t ∷ ts) (Err stop)
 
 -- ---- one entry, or one table
@@ -150,41 +150,40 @@ pub data Filled (owner : ℕ) (v : PortValue) (ts : List TableWork) (before : Li
       Filled owner v ts before w xs answers (Err stop)
 
 -- ---- tables that are left unfinished
-abbrev pub LeftPartial : PortValue → PortValue → TableWork → Bool → Type 0
-LeftPartial v w t kept = (found : ℕ) × Moves v w (Kind t.frame) (Store (kind_write (partial_kind (level_type t.level) kept false t.done 0))) kinds.Kind None found
+abbrev pub LeftPartial : PortValue → PortValue → TableWork → Type 0
+LeftPartial v w t = (found : ℕ) × Moves v w (Kind t.frame) (Store (kind_write (partial_kind (level_type t.level) false false t.done 0))) kinds.Kind None found
 
 -- the first old word names the frame
 abbrev pub Named : PortValue → PortValue → ℕ → Type 0
 Named v w f = Moves v w (old_place v.post.vcpu First) (Store (f + 1)) kinds.Context None 0
 
 -- the outermost one, by whether its type count is in hand, and by whether its own mark is to keep that
-abbrev pub OutermostLeft : PortValue → PortValue → TableWork → Bool → Bool → Type 0
-OutermostLeft v w t true true = LeftPartial v w t true
-OutermostLeft v w t true false = (u : PortValue) × LeftPartial v u t false × Named u w t.frame
-OutermostLeft v w t false kept = (u : PortValue) × LeftPartial v u t false × GaveRef u w t.frame
+abbrev pub OutermostLeft : PortValue → PortValue → ℕ → TableWork → Bool → Bool → Type 0
+OutermostLeft v w owner t true true = KeptFor v w t.frame (partial_kind (level_type t.level) true false t.done 0) owner
+OutermostLeft v w owner t true false = (u : PortValue) × LeftPartial v u t × Named u w t.frame
+OutermostLeft v w owner t false kept = (u : PortValue) × LeftPartial v u t × GaveRef u w t.frame
 
--- One inside another, by whether its type count is in hand, and whether the entry that names it was recorded before: the entry is recorded
--- with it; or its own mark keeps what came out of that; or its reference is given back.
-abbrev pub InnerLeft : PortValue → PortValue → TableWork → TableWork → Bool → Bool → Type 0
-InnerLeft v w t outer true false = (u : PortValue) × LeftPartial v u t false × ((clock : ℕ) × Moves u w Clock Load kinds.Look (Some (Record outer.frame outer.done)) clock)
-InnerLeft v w t outer true true = LeftPartial v w t true
-InnerLeft v w t outer false was = (u : PortValue) × LeftPartial v u t false × GaveRef u w t.frame
+-- One inside another, by whether its type count is in hand: then the entry that names it is recorded with it. Else its reference is given
+-- back. (The type count of one whose entry was recorded before is that entry's.)
+abbrev pub InnerLeft : PortValue → PortValue → TableWork → TableWork → Bool → Type 0
+InnerLeft v w t outer true = (t.recorded ≡ false) × ((u : PortValue) × LeftPartial v u t × ((clock : ℕ) × Moves u w Clock Load kinds.Look (Some (Record outer.frame outer.done)) clock))
+InnerLeft v w t outer false = (u : PortValue) × LeftPartial v u t × GaveRef u w t.frame
 
 -- an entry that was under way, and whose table stays another holder's, is not done with any more
 abbrev pub around_left : TableWork → TableWork → TableWork
 around_left t outer = if t.own || t.recorded then outer else record outer { done = outer.done - 1 }
 
 -- the innermost first, until none is in work
-abbrev pub Unwound : PortValue → List TableWork → Bool → PortValue → Type 0
-Unwound v [] kept w = w ≡ v
-Unwound v (t ∷ []) kept w = OutermostLeft v w t t.own kept
-Unwound v (t ∷ outer ∷ ts) kept w = (u : PortValue) × InnerLeft v u t outer t.own t.recorded × Unwound u (around_left t outer ∷ ts) kept w
+abbrev pub Unwound : PortValue → ℕ → List TableWork → Bool → PortValue → Type 0
+Unwound v owner [] kept w = w ≡ v
+Unwound v owner (t ∷ []) kept w = OutermostLeft v w owner t t.own kept
+Unwound v owner (t ∷ outer ∷ ts) kept w = (u : PortValue) × InnerLeft v u t outer t.own × Unwound u owner (around_left t outer ∷ ts) kept w
 
 -- the frame waits for a flush that is not to be had
-abbrev pub WaitingLeft : PortValue → PortValue → ℕ → ℕ → ℕ → Bool → Bool → Type 0
-WaitingLeft v w f level stamp true true = Does v w (λ vs. StoresKind f (partial_kind (level_type level) true true 0 stamp) vs)
-WaitingLeft v w f level stamp true false = (u : PortValue) × Does v u (λ vs. StoresKind f (partial_kind (level_type level) false true 0 stamp) vs) × Named u w f
-WaitingLeft v w f level stamp false kept = Does v w (λ vs. SharedBy f (level_type level) stamp vs)
+abbrev pub WaitingLeft : PortValue → PortValue → ℕ → ℕ → ℕ → ℕ → Bool → Bool → Type 0
+WaitingLeft v w f level owner stamp true true = KeptFor v w f (partial_kind (level_type level) true true 0 stamp) owner
+WaitingLeft v w f level owner stamp true false = (u : PortValue) × Does v u (λ vs. StoresKind f (partial_kind (level_type level) false true 0 stamp) vs) × Named u w f
+WaitingLeft v w f level owner stamp false kept = Does v w (λ vs. SharedBy f (level_type level) stamp vs)
 
 -- its own mark keeps the type count where the call is paused
 abbrev pub keeps_it : Stop → Bool
@@ -206,10 +205,10 @@ pub data Acquired (v : PortValue) (f owner level : ℕ) : PortValue → List Boo
   unreferred : (w : PortValue) (stop : Stop) → GotRef v w f owner (Err stop) → Acquired v f owner level w [] (Err stop)
   untyped : (u x w : PortValue) (stop : Stop) → GotRef v u f owner (Ok f) → TookType u x f owner level (Err stop) → GaveRef x w f → Acquired v f owner level w [] (Err stop)
   counted : (u w : PortValue) → GotRef v u f owner (Ok f) → TookType u w f owner level (Ok types.Counted) → Acquired v f owner level w [] (Ok f)
-  waiting : (u x w : PortValue) (own : Bool) (stamp : ℕ) (stop : Stop) → GotRef v u f owner (Ok f) → TookType u x f owner level (Ok (types.Waiting own stamp stop)) → WaitingLeft x w f level stamp own (keeps_it stop) →
+  waiting : (u x w : PortValue) (own : Bool) (stamp : ℕ) (stop : Stop) → GotRef v u f owner (Ok f) → TookType u x f owner level (Ok (types.Waiting own stamp stop)) → WaitingLeft x w f level owner stamp own (keeps_it stop) →
       Acquired v f owner level w [] (Err stop)
   unfinished : (u x y w : PortValue) (progress : ℕ) (own : Bool) (us : List TableWork) (answers : List Bool) (stop : Stop) → GotRef v u f owner (Ok f) →
-      TookType u x f owner level (Ok (types.InWork progress own)) → Worked owner x (outermost_table f level progress own) y us answers (Err stop) → Unwound y us (keeps_it stop) w →
+      TookType u x f owner level (Ok (types.InWork progress own)) → Worked owner x (outermost_table f level progress own) y us answers (Err stop) → Unwound y owner us (keeps_it stop) w →
       Acquired v f owner level w answers (Err stop)
   finished : (u x y w : PortValue) (progress : ℕ) (own : Bool) (t : TableWork) (answers : List Bool) → GotRef v u f owner (Ok f) →
       TookType u x f owner level (Ok (types.InWork progress own)) → Worked owner x (outermost_table f level progress own) y (t ∷ []) answers (Ok tt) → t.done ≡ 512 → MadeLive y w t →

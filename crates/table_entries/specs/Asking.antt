@@ -59,5 +59,5 @@ ShowsEntered v w owner pages t (Unsettled stop) = Progress (Met v w) × IsWait s
 abbrev pub ShowsResumed : PortValue → PortValue → ℕ → ℕ → PageType → Resumed → Type 0
 ShowsResumed v w owner pages t again.Settled = Unit {0}
 ShowsResumed v w owner pages t (again.Taken frame) = AsksBelow v w owner pages t frame × Progress (Met v w)
-ShowsResumed v w owner pages t (again.Opened frame progress own) = AsksBelow v w owner pages t frame
-ShowsResumed v w owner pages t (again.Waiting frame own stamp stop) = AsksBelow v w owner pages t frame × IsWait stop × Stops v w (of_entries owner pages) stop
+ShowsResumed v w owner pages t (again.Opened frame progress) = AsksBelow v w owner pages t frame
+ShowsResumed v w owner pages t (again.Waiting frame stamp stop) = AsksBelow v w owner pages t frame × IsWait stop × Stops v w (of_entries owner pages) stop

@@ -83,8 +83,8 @@ EntersFound v w f i t owner answer = Does v w (λ vs. EnteredBy v.post.machine f
 abbrev pub TypedAgain : Machine → ℕ → PageType → Result Resumed Stop → List Visit → Type 0
 TypedAgain n g t (Ok again.Settled) vs = ⊥
 TypedAgain n g t (Ok (again.Taken f)) vs = (f ≡ g) × TakesOf g t types.Counted vs
-TypedAgain n g t (Ok (again.Opened f progress own)) vs = (f ≡ g) × TakesOf g t (types.InWork progress own) vs
-TypedAgain n g t (Ok (again.Waiting f own stamp stop)) vs = (f ≡ g) × TakesOf g t (types.Waiting own stamp stop) vs
+TypedAgain n g t (Ok (again.Opened f progress)) vs = (f ≡ g) × TakesOf g t (types.InWork progress false) vs
+TypedAgain n g t (Ok (again.Waiting f stamp stop)) vs = (f ≡ g) × TakesOf g t (types.Waiting false stamp stop) vs
 TypedAgain n g t (Err e) vs = RefusesBy n g t e vs
 
 -- the frame was found live; or the machine has no such frame, or it was found otherwise, and its type is taken again

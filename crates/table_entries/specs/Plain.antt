@@ -92,8 +92,8 @@ TwinEntry v w f t i owner answer =
 abbrev pub TypesAgain : PortValue → Words → ℕ → PageType → Result Resumed Stop → Type 0
 TypesAgain w m g t (Ok again.Settled) = ⊥
 TypesAgain w m g t (Ok (again.Taken f)) = (f ≡ g) × IsTakenOf m g t types.Counted × Alike (told_word w) (taken g t types.Counted m)
-TypesAgain w m g t (Ok (again.Opened f progress own)) = (f ≡ g) × IsTakenOf m g t (types.InWork progress own) × Alike (told_word w) (taken g t (types.InWork progress own) m)
-TypesAgain w m g t (Ok (again.Waiting f own stamp stop)) = (f ≡ g) × IsTakenOf m g t (types.Waiting own stamp stop) × Alike (told_word w) (taken g t (types.Waiting own stamp stop) m)
+TypesAgain w m g t (Ok (again.Opened f progress)) = (f ≡ g) × IsTakenOf m g t (types.InWork progress false) × Alike (told_word w) (taken g t (types.InWork progress false) m)
+TypesAgain w m g t (Ok (again.Waiting f stamp stop)) = (f ≡ g) × IsTakenOf m g t (types.Waiting false stamp stop) × Alike (told_word w) (taken g t (types.Waiting false stamp stop) m)
 TypesAgain w m g t (Err e) = (type_stop g t (m (Kind g)) ≡ Some e) × Leaves w (put g m)
 
 -- it stands where its frame is live, or where it asks no type; else its frame is taken again

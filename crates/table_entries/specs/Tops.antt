@@ -95,5 +95,5 @@ pub record TakesAgain (v w : PortValue) (f i : ℕ) (t : PageType) (g owner : �
 abbrev pub LeavesResumed : PortValue → PortValue → ℕ → PageType → ℕ → ℕ → Resumed → Type 0
 LeavesResumed v w f t i owner again.Settled = LookedAnd v w f i as_it_was × IsSettledNow w f
 LeavesResumed v w f t i owner (again.Taken g) = TakesAgain v w f i t g owner × IsSettledNow w f
-LeavesResumed v w f t i owner (again.Opened g progress own) = Opens v w f i t g owner progress own false
-LeavesResumed v w f t i owner (again.Waiting g own stamp stop) = (o : Opens v w f i t g owner 0 own true) × ((kind_fields o.work.word).number ≡ stamp)
+LeavesResumed v w f t i owner (again.Opened g progress) = Opens v w f i t g owner progress false false
+LeavesResumed v w f t i owner (again.Waiting g stamp stop) = (o : Opens v w f i t g owner 0 false true) × ((kind_fields o.work.word).number ≡ stamp)

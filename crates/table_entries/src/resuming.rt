@@ -28,17 +28,16 @@ pub enum Resumed {
     Taken {
         frame: u32,
     },
-    /// Its frame is partial, and in the own works now, past its flush and with so many entries recorded. `own`: its type count is in hand;
-    /// else the entry has it, and an untyped reference is in hand.
+    /// Its frame is partial, and in the own works now, past its flush and with so many entries recorded. The entry has its type count, and
+    /// an untyped reference is in hand.
     Opened {
         frame: u32,
         progress: u16,
-        own: bool,
     },
-    /// Its frame is in the own works with its mark, and nothing of it is recorded: its flush is not to be had, and why.
+    /// Its frame is in the own works with its mark, and nothing of it is recorded: its flush is not to be had, and why. The entry has its
+    /// type count, and an untyped reference is in hand.
     Waiting {
         frame: u32,
-        own: bool,
         stamp: u64,
         stop: Stop,
     },
@@ -109,17 +108,9 @@ fn take_again<P: Port>(
     let frame = get_ref(port, frame, at.owner)?;
     match take_type(port, frame, at.owner, want) {
         Ok(Taken::Counted) => Ok(Resumed::Taken { frame }),
-        Ok(Taken::InWork { progress, own }) => Ok(Resumed::Opened {
-            frame,
-            progress,
-            own,
-        }),
-        Ok(Taken::Waiting { own, stamp, stop }) => Ok(Resumed::Waiting {
-            frame,
-            own,
-            stamp,
-            stop,
-        }),
+        // The entry has the type count: a frame that is partial counts one type, and has no `kept` mark beside it.
+        Ok(Taken::InWork { progress, .. }) => Ok(Resumed::Opened { frame, progress }),
+        Ok(Taken::Waiting { stamp, stop, .. }) => Ok(Resumed::Waiting { frame, stamp, stop }),
         Err(stop) => {
             put_ref(port, frame);
             Err(stop)
