@@ -1,0 +1,71 @@
+//! Frames that are taken as ordinary memory: the type that an entry of level 1 asks which is writable, and a store into a frame.
+ghost use Rattle.std.specs.Prelude.{◌≡◌, ◌<◌, [], None, length, IfOk, IfErr};
+ghost use Rattle.xp_board.specs.Hands.{typed_to, work_on};
+ghost use Rattle.step_maker.specs.Holds.{MayWork};
+ghost use Rattle.step_maker.specs.Moves.{Came};
+ghost use Rattle.answer_fits.specs.Answers.{Stops};
+ghost use Rattle.frame_types.specs.Taking.{LentBy};
+ghost use Rattle.kept_marks.specs.Marks.{IsForeign};
+ghost use Rattle.table_words.specs.OldWords.{known_old};
+ghost use Rattle.table_words.specs.declared.old_words.OldWord.TheVariants.{First};
+ghost use Rattle.writable_pages.specs.Pages.{GotPage, IsPageStop, LeavesGot, LeavesPage, ServesPage, TookPage, of_page};
+
+use frame_types::{Taken, leave_dead, leave_shared, take_type};
+use frame_words::{get_ref, put_ref};
+use kept_marks::leave_kept;
+use kind_words::waiting_kind;
+use xp_board::Port;
+use xp_words::{PageType, Stop};
+
+/// Takes a frame of the domain `owner` as writable, under the untyped reference in hand, which becomes a typed one. A frame that was of
+/// another type, or is marked, is flushed first. A refusal or a pause gives the reference back, or leaves it in the frame's `kept` mark; or
+/// in the first old word, which is known to name no frame, where the frame is another domain's, which is dying.
+pub fn take_page<P: Port>(port: &mut P, frame: u32, owner: u16) -> Result<(), Stop>
+    requires frame { frame < (P.value port.old).post.machine.frames }
+    requires may { MayWork (P.value port.old) }
+    requires lent { LentBy frame owner (P.value port.old).holdings }
+    requires real { owner < length (P.value port.old).post.machine.page_limit }
+    requires apart { work_on frame (P.value port.old).holdings.works ≡ None }
+    requires untyped { typed_to frame (P.value port.old).holdings.typed ≡ 0 }
+    requires looked { (P.value port.old).holdings.looking ≡ [] }
+    requires room { IsForeign (P.value port.old) owner → known_old First (P.value port.old).holdings ≡ Some 0 }
+    ensures came { Came (P.value port.old) (P.value port.new) }
+    ensures serves { ServesPage (P.value port.old) (P.value port.new) frame owner result }
+    ensures stops { IfErr result (λ e. Stops (P.value port.old) (P.value port.new) (of_page (P.value port.old) frame owner) e) }
+    ensures kinds { IfErr result IsPageStop }
+    ensures hand { LeavesPage (P.value port.old) (P.value port.new) frame owner result }
+    ensures course { TookPage (P.value port.old) frame owner (P.value port.new) result }
+{
+    match take_type(port, frame, owner, PageType::Writable) {
+        Ok(Taken::Counted) => Ok(()),
+        Ok(Taken::InWork { .. }) => unreachable!("ordinary memory has no entries to read"),
+        Ok(Taken::Waiting { own, stamp, stop }) => {
+            leave_page(port, frame, owner, own, stamp, stop);
+            Err(stop)
+        }
+        Err(stop) => {
+            put_ref(port, frame);
+            Err(stop)
+        }
+    }
+}
+
+/// The same with a reference of its own.
+pub fn get_page<P: Port>(port: &mut P, f: u64, owner: u16) -> Result<u32, Stop>
+    requires may { MayWork (P.value port.old) }
+    requires real { owner < length (P.value port.old).post.machine.page_limit }
+    requires works { (P.value port.old).holdings.works ≡ [] }
+    requires typed { (P.value port.old).holdings.typed ≡ [] }
+    requires looked { (P.value port.old).holdings.looking ≡ [] }
+    requires room { IsForeign (P.value port.old) owner → known_old First (P.value port.old).holdings ≡ Some 0 }
+    ensures came { Came (P.value port.old) (P.value port.new) }
+    ensures frame { IfOk result (λ g. (g ≡ f) × (g < (P.value port.old).post.machine.frames)) }
+    ensures serves { ServesPage (P.value port.old) (P.value port.new) f owner result }
+    ensures stops { IfErr result (λ e. Stops (P.value port.old) (P.value port.new) (of_page (P.value port.old) f owner) e) }
+    ensures hand { LeavesGot (P.value port.old) (P.value port.new) f owner result }
+    ensures course { GotPage (P.value port.old) f owner (P.value port.new) result }
+{
+    let frame = get_ref(port, f, owner)?;
+    take_page(port, frame, owner)?;
+    Ok(frame)
+}
