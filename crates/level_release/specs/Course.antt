@@ -127,6 +127,13 @@ pub record By (P : List Bool → Type 0) (says : ℕ → Bool) (before after yes
   pub gate : Consulted says before after yes_before yes_after answers
   pub due : is_due_answer answer ≡ ends_yes answers
 
+-- The same of what may go on where the gate said yes: it says yes last where that is why it is paused.
+pub record WithGate (P : List Bool → Type 0) (says : ℕ → Bool) (before after yes_before yes_after : ℕ) (answer : Result (Unit {0}) Stop) : Type 0 where
+  pub answers : List Bool
+  pub course : P answers
+  pub gate : Consulted says before after yes_before yes_after answers
+  pub due : is_due_answer answer ≡ true → ends_yes answers ≡ true
+
 abbrev pub RunsDownBy : PortValue → List TableWork → PortValue → List TableWork → (ℕ → Bool) → ℕ → ℕ → ℕ → ℕ → Result (Unit {0}) Stop → Type 0
 RunsDownBy v ts w us says before after yes_before yes_after answer = By (λ answers. RanDown v ts w us answers answer) says before after yes_before yes_after answer
 

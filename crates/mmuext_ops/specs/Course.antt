@@ -7,7 +7,6 @@ use Rattle.xp_words.specs.declared.reply.Pause.TheVariants.{Due, Lost}
 use Rattle.xp_words.specs.declared.reply.Refusal.TheVariants as refusals
 use Rattle.xp_words.specs.declared.reply.Stop.{Stop}
 use Rattle.xp_words.specs.declared.reply.Stop.TheVariants.{Refused, Paused}
-use Rattle.xp_preempt.specs.Gates.{Consulted, ends_yes}
 use Rattle.xp_board.specs.declared.step.Act.TheVariants.{Cas, Load, Store}
 use Rattle.xp_board.specs.declared.step.StepKind.TheVariants as kinds
 use Rattle.xp_board.specs.Told.{PortValue}
@@ -17,8 +16,7 @@ use Rattle.kind_words.specs.Kinds.{partial_kind}
 use Rattle.partial_state.specs.Levels.{level_type}
 use Rattle.table_words.specs.Pins.{pinned_kind, unpinned_kind}
 use Rattle.table_courses.specs.Acquiring.{Acquired, GaveRef, GotRef, Named}
-use Rattle.level_release.specs.Course.{WasReleased}
-use Rattle.level_release.specs.Asking.{is_due_answer}
+use Rattle.level_release.specs.Course.{WasReleased, WithGate}
 use Rattle.mmuext_ops.specs.declared.element.Element.{Element}
 use Rattle.mmuext_ops.specs.declared.element.Element.TheVariants.{Pin, Unpin, Unknown}
 
@@ -80,13 +78,6 @@ pub data Unpinned (v w : PortValue) (d f : ℕ) : List Bool → Result (Unit {0}
       GaveRef c e f → WasReleased e f (kind_fields x).kind w answers answer → IfErr answer (λ stop. stop ≡ Paused Due) → Unpinned v w d f answers (Ok tt)
 
 -- ---- with a gate
--- there is such a course with the gate's answers; where it is paused for the gate, that said yes last
-pub record WithGate (P : List Bool → Type 0) (says : ℕ → Bool) (before after yes_before yes_after : ℕ) (answer : Result (Unit {0}) Stop) : Type 0 where
-  pub answers : List Bool
-  pub course : P answers
-  pub gate : Consulted says before after yes_before yes_after answers
-  pub due : is_due_answer answer ≡ true → ends_yes answers ≡ true
-
 abbrev pub PinsBy : PortValue → PortValue → ℕ → ℕ → ℕ → (ℕ → Bool) → ℕ → ℕ → ℕ → ℕ → Result (Unit {0}) Stop → Type 0
 PinsBy v w d f level says before after yes_before yes_after answer = WithGate (λ answers. Pinned v w d f level answers answer) says before after yes_before yes_after answer
 

@@ -1,0 +1,4 @@
+pub mod Asking
+pub mod Course
+pub mod Holding
+pub mod Words

@@ -1,0 +1,153 @@
+//! One entry of a live table under its entry lock, exchanged.
+ghost use Rattle.std.specs.Prelude.{◌≡◌, ◌<◌, ◌≤◌, ℕ, Some, true, false, length, IfErr};
+ghost use Rattle.xp_words.specs.Entries.{is_slot};
+ghost use Rattle.xp_words.specs.declared.place.Place.TheVariants.{Cell};
+ghost use Rattle.partial_state.specs.Levels.{level_type};
+ghost use Rattle.step_maker.specs.Holds.{MayWork, Rests};
+ghost use Rattle.step_maker.specs.Moves.{Came};
+ghost use Rattle.answer_fits.specs.Answers.{Stops};
+ghost use Rattle.foreign_map.specs.Owning.{MayMap};
+ghost use Rattle.level_release.specs.Asking.{is_due_answer};
+ghost use Rattle.level_validate.specs.Acquiring.{IsAcquireStop};
+ghost use Rattle.table_words.specs.OldWords.{known_old};
+ghost use Rattle.table_words.specs.declared.old_words.OldWord.TheVariants.{First, Second};
+ghost use Rattle.entry_exchange.specs.Asking.{ServesExchange, of_exchange};
+ghost use Rattle.entry_exchange.specs.Course.{ExchangesBy};
+ghost use Rattle.entry_exchange.specs.Holding.{HoldsTableLock, LeavesExchange};
+
+use crate::demands::{give_demand, release_demand, take_demand};
+use crate::locks::leave_lock;
+use crate::words::{is_same, word_kept};
+use entry_locks::{store_entry, swap_entry};
+use foreign_map::Owners;
+use frame_words::look_cell;
+use partial_state::level_type;
+use pte_check::demand;
+use xp_board::Port;
+use xp_preempt::Preempt;
+use xp_words::{Demand, Pause, Place, Refusal, Stop};
+
+/// An entry of a live table of that level, 1 to 4, and the word that it is to have. `index`: below 512, and none of the slots of a table of
+/// level 4 that are Xen's (`ROOT_PAGETABLE_FIRST_XEN_SLOT` to `_LAST_`). `keep`: its accessed and dirty bits stay (`MMU_PT_UPDATE_PRESERVE_AD`
+/// of `xen.h`).
+#[derive(Clone, Copy, Debug, PartialEq, Eq)]
+pub struct EntryUpdate {
+    pub table: u32,
+    pub level: u8,
+    pub index: u16,
+    pub word: u64,
+    pub keep: bool,
+}
+
+/// Exchanges an entry of a table under the own entry lock, which is all that is in hand. What the new word asks is taken first, of the domain
+/// `owners.frames` at level 1 and of the tables' owner above it; then the word is put there, the lock taken off, and what the old word asked is
+/// released. Where both ask the same the word alone is exchanged. Whatever stops it leaves the entry as it is, and the table unlocked. A release
+/// that is paused leaves the exchange done; what is left of it stands in the first old word, and a table whose lock held its last type count in
+/// the second one. Both are known to name no frame before.
+pub fn exchange_entry<P: Port>(
+    port: &mut P,
+    gate: &mut dyn Preempt,
+    update: EntryUpdate,
+    owners: Owners,
+) -> Result<(), Stop>
+    requires frame { update.table < (P.value port.old).post.machine.frames }
+    requires low { 1 ≤ update.level }
+    requires high { update.level ≤ 4 }
+    requires index { update.index < 512 }
+    requires slot { is_slot (level_type update.level) update.index ≡ false }
+    requires may { MayWork (P.value port.old) }
+    requires locked { HoldsTableLock (P.value port.old) update.table update.level owners.tables }
+    requires maps { MayMap (P.value port.old) owners }
+    requires room { known_old First (P.value port.old).holdings ≡ Some 0 }
+    requires room_too { known_old Second (P.value port.old).holdings ≡ Some 0 }
+    ensures came { Came (P.value port.old) (P.value port.new) }
+    ensures serves { ServesExchange (P.value port.old) (P.value port.new) update owners result }
+    ensures stops { IfErr result (λ e. Stops (P.value port.old) (P.value port.new) (of_exchange update owners result) e) }
+    ensures kinds { IfErr result IsAcquireStop }
+    ensures hand { LeavesExchange (P.value port.old) (P.value port.new) }
+    ensures rests { Rests (P.value port.new) }
+    ensures course { ExchangesBy (P.value port.old) (P.value port.new) update owners (says gate.old) (count_asks gate.old) (count_asks gate.new) (count_yes gate.old) (count_yes gate.new) result }
+    ensures says { (n : ℕ) → says gate.new n ≡ says gate.old n }
+    ensures paces { paces gate.new ≡ paces gate.old }
+    ensures calm { calm gate.old ≡ true → (is_due_answer result ≡ false) × (calm gate.new ≡ true) }
+{
+    let kind = level_type(update.level);
+    let seen = look_cell(port, update.table, update.index);
+    let new = word_kept(update.keep, seen, update.word);
+    let wanted = demand(kind, update.index, new);
+    if let Demand::Bad = wanted {
+        leave_lock(port, update.table, update.level);
+        return Err(Stop::Refused(Refusal::Reserved {
+            frame: update.table,
+            index: update.index,
+            entry: new,
+        }));
+    }
+    if is_same(wanted, demand(kind, update.index, seen)) {
+        let put = put_entry(port, update, seen, new);
+        leave_lock(port, update.table, update.level);
+        put?;
+        return Ok(());
+    }
+    change_demand(port, gate, update, owners, seen, wanted)
+}
+
+// The same, where the new word asks something else than the one that was seen there, and nothing that it may not.
+fn change_demand<P: Port>(
+    port: &mut P,
+    gate: &mut dyn Preempt,
+    update: EntryUpdate,
+    owners: Owners,
+    seen: u64,
+    wanted: Demand,
+) -> Result<(), Stop>
+{
+    let owner = if update.level == 1 {
+        owners.frames
+    } else {
+        owners.tables
+    };
+    match take_demand(port, gate, update.level, owner, wanted) {
+        Ok(()) => {}
+        Err(stop) => {
+            leave_lock(port, update.table, update.level);
+            return Err(stop);
+        }
+    }
+    let new = word_kept(update.keep, seen, update.word);
+    match put_entry(port, update, seen, new) {
+        Ok(old) => {
+            leave_lock(port, update.table, update.level);
+            release_demand(port, gate, demand(level_type(update.level), update.index, old));
+            Ok(())
+        }
+        Err(stop) => {
+            give_demand(port, update.level, owner, wanted);
+            leave_lock(port, update.table, update.level);
+            Err(stop)
+        }
+    }
+}
+
+// Puts the new word there, for which all that it asks is in hand. Answers the old one. Where the accessed and dirty bits are kept, a walk may
+// have set them since the entry was seen.
+fn put_entry<P: Port>(port: &mut P, update: EntryUpdate, seen: u64, new: u64) -> Result<u64, Stop>
+{
+    if !update.keep {
+        return Ok(store_entry(port, update.table, update.index, new));
+    }
+    match swap_entry(port, update.table, update.index, seen, new) {
+        Ok(()) => Ok(seen),
+        Err(found) => {
+            let place = port.layout().place(Place::Cell {
+                frame: update.table,
+                index: update.index,
+            });
+            Err(Stop::Paused(Pause::Lost {
+                place,
+                expected: seen,
+                found,
+            }))
+        }
+    }
+}

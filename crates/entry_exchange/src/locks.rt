@@ -1,0 +1,40 @@
+//! Entry locks that go off a table.
+ghost use Rattle.std.specs.Prelude.{◌≡◌, ◌<◌, ◌≤◌, [], Some};
+ghost use Rattle.step_maker.specs.Holds.{MayWork, Rests};
+ghost use Rattle.step_maker.specs.Moves.{Came};
+ghost use Rattle.answer_fits.specs.Answers.{Serves};
+ghost use Rattle.answer_fits.specs.Asked.{of_back};
+ghost use Rattle.table_words.specs.OldWords.{known_old};
+ghost use Rattle.table_words.specs.declared.old_words.OldWord.TheVariants.{Second};
+ghost use Rattle.entry_exchange.specs.Course.{LeftLock};
+ghost use Rattle.entry_exchange.specs.Holding.{HoldsLockOf, LeavesUnlocked};
+
+use entry_locks::unlock_entry;
+use frame_words::put_ref;
+use kind_words::{leave, partial_kind};
+use partial_state::level_type;
+use table_words::{OldWord, put_old};
+use xp_board::Port;
+
+/// Takes the own entry lock off a table of that level, and gives its reference back. Where the lock held the table's last type count, the table
+/// is left partial with all its entries recorded, and the second old word, which is known to name no frame, names it.
+pub fn leave_lock<P: Port>(port: &mut P, table: u32, level: u8)
+    requires frame { table < (P.value port.old).post.machine.frames }
+    requires may { MayWork (P.value port.old) }
+    requires low { 1 ≤ level }
+    requires high { level ≤ 4 }
+    requires locked { HoldsLockOf (P.value port.old) table level }
+    requires works { (P.value port.old).holdings.works ≡ [] }
+    requires room { known_old Second (P.value port.old).holdings ≡ Some 0 }
+    ensures came { Came (P.value port.old) (P.value port.new) }
+    ensures serves { Serves (P.value port.old) (P.value port.new) (of_back table) [] }
+    ensures hand { LeavesUnlocked (P.value port.old) (P.value port.new) table }
+    ensures course { LeftLock (P.value port.old) table level (P.value port.new) }
+{
+    if unlock_entry(port, table) {
+        leave(port, table, partial_kind(level_type(level), false, 512));
+        put_old(port, OldWord::Second, table);
+    } else {
+        put_ref(port, table);
+    }
+}
