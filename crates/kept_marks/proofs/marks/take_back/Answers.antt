@@ -1,22 +1,10 @@
-use Rattle.std.proofs.Common.{rules, ◌≡◌, ◌≢◌, ◌<◌, [], None, Some, true, length, IfErr, MatchResult, IsTrue, ℕ, ◌+◌, ◌-◌, ◌*◌, ◌≤◌, ◌/◌, ◌%◌, Bool, false, nat_eq, nat_lt, List, ◌∷◌, ◌++◌, slice_index_or, slice_set, bit_and, bit_or, Fits, w8, w32, w64, Bor, MutBor}
-use Rattle.xp_words.specs.declared.place.Place.TheVariants.{Kind}
-use Rattle.xp_words.specs.KindWords.{is_kind, kind_write}
-use Rattle.xp_board.specs.Readings.{domain_of, is_partial}
-use Rattle.xp_board.specs.Spelling.{is_kind_in}
-use Rattle.xp_board.specs.declared.step.Act.TheVariants.{Cas}
-use Rattle.xp_board.specs.declared.step.StepKind.TheVariants as kinds
-use Rattle.step_maker.specs.Holds.{Holds, MayWork}
-use Rattle.step_maker.specs.Moves.{Came, Moves, found_by}
-use Rattle.kind_words.specs.Kinds.{MayLeave, looked_at}
-use Rattle.table_words.specs.OldWords.{known_old}
-use Rattle.table_words.specs.declared.old_words.OldWord.TheVariants.{First}
-use Rattle.kept_marks.specs.Marks.{IsKeptOf, IsUnpaged, KeptFor, LeavesKept, ServesKept, took_back, unkept_kind}
+use Rattle.kept_marks.proofs.Taking.{may_take_back, take_back_hand}
 use Rattle.kept_marks.proofs.marks.take_back.Goals as goal
 
--- src/marks.rt:40:5
 pub exchange-requires : goal.exchange-requires
-exchange-requires g c = ?
+exchange-requires g c =
+    may_take_back (g.P.Port.value c.args.port.now) _ c.args.kind c.requires.is c.requires.partial c.requires.kept c.requires.page _ _ c.requires.frame c.requires.may c.write-expected.ensures c.unkept-new.ensures
 
--- src/marks.rt:26:1
 pub returns-clause-hand : goal.returns-clause-hand
-returns-clause-hand g c = ?
+returns-clause-hand g c =
+    take_back_hand (g.P.Port.value c.args.port.now) _ c.args.kind c.requires.is c.requires.partial c.requires.kept c.requires.page (g.P.Port.value c.exchange.new.port) _ _ c.exchange.result c.write-expected.ensures c.unkept-new.ensures c.exchange.ensures.moves c.exchange.ensures.lost
