@@ -1,14 +1,13 @@
 -- What is in hand where a frame of another domain was left with its mark, and behind each step after that.
-use Rattle.std.proofs.Common.{◌≡◌, ◌≢◌, ℕ, ◌+◌, ◌<◌, ◌==◌, ◌||◌, not, if◌then◌else◌, Bool, true, false, List, [], ◌∷◌, Some, IsTrue, refl, sym, ap, ◌∙◌, subst}
+use Rattle.std.proofs.Common.{◌≡◌, ◌≢◌, ℕ, ◌+◌, ◌<◌, ◌==◌, not, if◌then◌else◌, Bool, true, false, [], ◌∷◌, Some, IsTrue, refl, sym, ap, ◌∙◌, subst}
 use Rattle.xp_words.specs.KindWords.{kind_fields, kind_write}
 use Rattle.xp_words.specs.declared.kind.KindWord.{KindWord}
 use Rattle.xp_board.specs.declared.holdings.Holdings.{Holdings}
 use Rattle.xp_board.specs.declared.holdings.Looking.{Looking}
-use Rattle.xp_board.specs.declared.holdings.OwnerFound.TheVariants as owners
 use Rattle.xp_board.specs.declared.holdings.TypedReference.{TypedReference}
 use Rattle.xp_board.specs.declared.holdings.Work.{Work}
 use Rattle.xp_board.specs.After.{learned_life}
-use Rattle.xp_board.specs.Hands.{brought_typed, typed_to, without_typed}
+use Rattle.xp_board.specs.Hands.{brought_typed, typed_to}
 use Rattle.xp_board.specs.KindSteps.{Partial, as_typed, kept_owner, looking_at, put_partial, still_looking}
 use Rattle.xp_board.specs.Lists.{kept_of}
 use Rattle.xp_board.specs.Readings.{domain_of, is_closing, is_partial}

@@ -1,5 +1,5 @@
 -- A frame that is left with its mark, and what follows: which steps, and what they serve.
-use Rattle.std.proofs.Common.{◌≡◌, ◌≢◌, ℕ, ◌+◌, ◌==◌, true, false, List, [], ◌∷◌, Some, None, IsTrue, refl, sym, ap, ◌∙◌, subst, arith, inl, inr}
+use Rattle.std.proofs.Common.{◌≡◌, ◌≢◌, ℕ, ◌+◌, [], ◌∷◌, None, IsTrue, refl, sym, ap, ◌∙◌, subst, inl, inr}
 use Rattle.xp_words.specs.KindWords.{kind_write}
 use Rattle.xp_words.specs.declared.kind.KindWord.{KindWord}
 use Rattle.xp_words.specs.declared.place.Place.TheVariants.{Kind, Life}
@@ -9,12 +9,12 @@ use Rattle.xp_board.specs.Readings.{domain_of, is_partial}
 use Rattle.xp_board.specs.Told.{Post, PortValue}
 use Rattle.step_maker.specs.Moves.{Came, Moves}
 use Rattle.step_maker.proofs.Coming.{came_post, came_trans, moves_came}
-use Rattle.answer_fits.specs.Answers.{Deed, Misses, Serves}
+use Rattle.answer_fits.specs.Answers.{Misses}
 use Rattle.answer_fits.proofs.Piecing.{serves_came}
 use Rattle.kind_words.specs.Kinds.{MayLeave}
 use Rattle.table_words.specs.OldWords.{old_place}
 use Rattle.table_words.specs.declared.old_words.OldWord.TheVariants.{First}
-use Rattle.kept_marks.specs.Marks.{IsForeign, IsUnpaged, KeptFor, LeftSo, ServesKept, ServesMark, TakesBack, alive, dying, own, taken, unkept_kind}
+use Rattle.kept_marks.specs.Marks.{IsForeign, IsUnpaged, KeptFor, ServesKept, TakesBack, alive, dying, taken, unkept_kind}
 use Rattle.kept_marks.proofs.Serving.{asked_later, back_serves, left_serves, looked_serves, lost_serves, named_serves}
 
 -- ---- whose the frame is
@@ -52,7 +52,7 @@ module _ (v a : PortValue) (f : ℕ) (k : KindWord) (owner : ℕ) (leaves : MayL
             more = Misses (Kind f) ∷ [];
             hidden = inr (foreign_on u v owner (serves_came u v r ds before) foreign, refl);
             serves = lost_serves u x y r f k leaves.is partial page word try (locks foreign) (asked_later u v y r f tried_came asked) ds
-            (looked_serves v a f k leaves partial found store u r ds before asked x owner life look) off;
+                (looked_serves v a f k leaves partial found store u r ds before asked x owner life look) off;
           }
 
       pub taken_course : life ≢ 0 → word ≢ kind_write k → KeptFor v y f k owner
@@ -68,9 +68,9 @@ module _ (v a : PortValue) (f : ℕ) (k : KindWord) (owner : ℕ) (leaves : MayL
               more = [];
               hidden = inl refl;
               serves = named_serves u y w r ds (f + 1)
-              (back_serves u x y r f k leaves.is partial page word try (locks foreign) (asked_later u v y r f tried_came asked) ds
-              (looked_serves v a f k leaves partial found store u r ds before asked x owner life look) done)
-              put;
+                  (back_serves u x y r f k leaves.is partial page word try (locks foreign) (asked_later u v y r f tried_came asked) ds
+                  (looked_serves v a f k leaves partial found store u r ds before asked x owner life look) done)
+                  put;
             }
 
         pub dying_course : life ≢ 0 → KeptFor v w f k owner

@@ -1,14 +1,14 @@
 -- The word of a partial frame with its mark, and without.
-use Rattle.std.proofs.Common.{◌≡◌, ◌≢◌, ℕ, ◌+◌, ◌*◌, ◌^◌, ◌==◌, true, false, Some, IsTrue, refl, ap, ◌∙◌, arith}
+use Rattle.std.proofs.Common.{◌≡◌, ◌≢◌, ◌+◌, ◌*◌, ◌^◌, ◌==◌, true, false, Some, IsTrue, refl, ap, ◌∙◌, arith}
 use Rattle.std.proofs.lemmas.Bool.Decides.{nat_tests}
 use Rattle.xp_words.specs.Machine.{Machine}
-use Rattle.xp_words.specs.KindWords.{is_kind, kind_fields, kind_write, has_form}
+use Rattle.xp_words.specs.KindWords.{is_kind, kind_write, has_form}
 use Rattle.xp_words.specs.PageTypes.{type_number}
 use Rattle.xp_words.specs.RefWords.{bit}
 use Rattle.xp_words.specs.declared.kind.KindWord.{KindWord}
 use Rattle.xp_words.specs.declared.kind.PageType.{PageType}
 use Rattle.xp_words.specs.declared.kind.PageType.TheVariants as types
-use Rattle.xp_board.specs.KindSteps.{Form, Partial, TakeBack, form_of, kind_row}
+use Rattle.xp_board.specs.KindSteps.{Partial, TakeBack, form_of, kind_row}
 use Rattle.xp_board.specs.Readings.{is_dead, is_partial}
 use Rattle.xp_board.specs.Spelling.{is_kind_in}
 use Rattle.kept_marks.specs.Marks.{IsUnpaged, unkept_kind}

@@ -1,5 +1,5 @@
 -- What the steps are to a piece in which the frame is asked, and which may take marks off where it is another domain's.
-use Rattle.std.proofs.Common.{◌≡◌, ◌≢◌, ℕ, ◌+◌, Bool, true, false, List, [], ◌∷◌, ◌++◌, Some, None, IsTrue, refl, sym, ap, ◌∙◌, subst, arith, inl, inr}
+use Rattle.std.proofs.Common.{◌≡◌, ◌≢◌, ℕ, Bool, true, false, List, [], ◌∷◌, ◌++◌, Some, None, IsTrue, refl, sym, ap, ◌∙◌, subst, arith, inl, inr}
 use Rattle.std.proofs.lemmas.Bool.Decides.{nat_tests}
 use Rattle.xp_words.specs.KindWords.{is_kind, kind_fields, kind_write}
 use Rattle.xp_words.specs.declared.kind.KindWord.{KindWord}
@@ -9,14 +9,14 @@ use Rattle.xp_board.specs.declared.step.Act.TheVariants.{Cas, Load, Store}
 use Rattle.xp_board.specs.declared.step.StepKind.TheVariants as kinds
 use Rattle.xp_board.specs.Hands.{work_on}
 use Rattle.xp_board.specs.KindSteps.{AllowsForm, MayMakePartial}
-use Rattle.xp_board.specs.Readings.{domain_of, is_dead, is_partial}
+use Rattle.xp_board.specs.Readings.{is_dead, is_partial}
 use Rattle.xp_board.specs.Sound.{is_busy}
 use Rattle.xp_board.specs.Told.{Post, PortValue}
 use Rattle.xp_board.proofs.Returned.{same_type}
 use Rattle.board_lemmas.proofs.Sums.{when_eq, when_ne}
 use Rattle.board_lemmas.proofs.WorkFacts.{works_facts}
 use Rattle.step_maker.specs.Moves.{Came, Met, Moves}
-use Rattle.step_maker.proofs.Coming.{came_post, came_trans, met_before, moves_came}
+use Rattle.step_maker.proofs.Coming.{came_post, met_before, moves_came}
 use Rattle.answer_fits.specs.Answers.{Deed, Misses, Serves, deeds_by, pin_deed}
 use Rattle.answer_fits.specs.Asked.{IsAsked, Request}
 use Rattle.answer_fits.specs.Reasons.{keeps_type}
@@ -27,7 +27,7 @@ use Rattle.kind_words.proofs.KindFacts.{work_word}
 use Rattle.kind_words.proofs.KindWriting.{fields_write}
 use Rattle.table_words.specs.OldWords.{old_place}
 use Rattle.table_words.specs.declared.old_words.OldWord.TheVariants.{First}
-use Rattle.kept_marks.specs.Marks.{IsForeign, IsUnpaged, ServesKept, unkept_kind}
+use Rattle.kept_marks.specs.Marks.{IsUnpaged, unkept_kind}
 use Rattle.kept_marks.proofs.MarkWords.{partial_form, partial_undead, unkept_is}
 
 -- ---- words that keep their type
