@@ -48,7 +48,7 @@ use Rattle.table_words.proofs.Shedding.{none_unsettled, settled_by_step, shed_se
 use Rattle.table_releases.specs.Between.{SeesKind, SeesTyped}
 use Rattle.table_releases.specs.Tops.{Reopens, StaysRecorded, shed_once}
 use Rattle.table_releases.proofs.FrameSeen.{from_seen, kind_frame, now_seen}
-use Rattle.table_releases.proofs.LastSeen.{SeenLast, finds_counts, seen_asks, seen_sheds}
+use Rattle.table_entries.proofs.LastSeen.{SeenLast, finds_counts, seen_asks, seen_sheds}
 use Rattle.table_releases.proofs.Looking.{shed_typed}
 
 -- ---- lists

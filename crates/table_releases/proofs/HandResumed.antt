@@ -49,7 +49,7 @@ use Rattle.table_releases.specs.Found.{has_recorded}
 use Rattle.table_releases.specs.Tops.{IsSince, Reopens, shed_once}
 use Rattle.table_releases.proofs.FrameSeen.{found_kind, found_unkept, kind_post, now_seen, seen_same}
 use Rattle.table_releases.proofs.HandLive.{hand_behind, looks_none, none_after, shed_works}
-use Rattle.table_releases.proofs.LastSeen.{SeenLast, finds_leads, seen_asks}
+use Rattle.table_entries.proofs.LastSeen.{SeenLast, finds_leads, seen_asks}
 use Rattle.table_releases.proofs.Looking.{shed_typed}
 use Rattle.table_releases.proofs.Recording.{recorded_some, recorded_table, recorded_none}
 
