@@ -56,7 +56,7 @@ IsLockStop _ = ⊥
 pub record IsNewLock (f owner level made : ℕ) (e : Lock) : Type 0 where
   pub frame : e.frame ≡ f
   pub kind : e.kind ≡ level_type level
-  pub owner : e.owner ≡ owners.Of owner
+  pub owned : e.owner ≡ owners.Of owner
   pub unseen : e.seen ≡ None
   pub since : e.since ≤ made
 

@@ -1,5 +1,5 @@
 //! Tables that are locked for one entry, and unlocked.
-ghost use Rattle.std.specs.Prelude.{◌≡◌, ◌<◌, ◌×◌, ℕ, [], true, None, Some, IfErr, IsTrue};
+ghost use Rattle.std.specs.Prelude.{◌≡◌, ◌<◌, ℕ, [], true, None, Some, IfErr, IsTrue};
 ghost use Rattle.xp_words.specs.declared.place.Place.TheVariants.{Kind};
 ghost use Rattle.xp_board.specs.declared.holdings.Lock.{Lock};
 ghost use Rattle.xp_board.specs.declared.step.Act.TheVariants.{Add};
@@ -15,10 +15,12 @@ ghost use Rattle.entry_locks.specs.Found.{LocksFound};
 ghost use Rattle.entry_locks.specs.Locks.{IsLockStop, LeavesLocked, Unlocks, of_lock};
 ghost use Rattle.entry_locks.specs.Plain.{TwinLock};
 
+use crate::levels::level_of;
 use crate::rows::{clear_lock, set_lock};
+use crate::words::is_free_table;
 use kind_words::{counts_one, look_kind, lost, read_kind};
 use xp_board::Port;
-use xp_words::{KindWord, PageType, Pause, Stop};
+use xp_words::{Pause, Stop};
 
 /// What a frame is to who would exchange an entry of it.
 #[derive(Clone, Copy, Debug, PartialEq, Eq, Drop)]

@@ -4,6 +4,7 @@ ghost use Rattle.xp_words.specs.KindWords.{is_kind, kind_write};
 ghost use Rattle.xp_words.specs.PageTypes.{is_table};
 ghost use Rattle.xp_board.specs.KindSteps.{locked_kind};
 ghost use Rattle.xp_board.specs.Readings.{is_live};
+ghost use Rattle.entry_locks.specs.Locks.{is_lockable};
 
 use xp_words::KindWord;
 
@@ -22,4 +23,12 @@ pub(crate) fn locked(kind: KindWord, word: u64) -> u64
     ensures { result ≡ kind_write (locked_kind kind) }
 {
     word + LOCK_AND_ONE
+}
+
+// Whether a table may be locked: it is live, and nobody has it in hand.
+pub(crate) fn is_free_table(kind: KindWord) -> bool
+    requires { IsTrue (is_table kind.kind) }
+    ensures { result ≡ is_lockable kind }
+{
+    kind.validated && !kind.locked && kind.number > 0
 }
