@@ -1,22 +1,8 @@
-use Rattle.std.proofs.Common.{rules, ◌≡◌, ◌≢◌, ◌<◌, None, Some, IfErr, MatchResult, IsTrue, ℕ, ◌+◌, ◌-◌, ◌*◌, ◌≤◌, length, ◌/◌, ◌%◌, Bool, true, false, nat_eq, nat_lt, List, [], ◌∷◌, ◌++◌, slice_index_or, slice_set, bit_and, bit_or, Fits, w8, w32, w64, Bor, MutBor}
-use Rattle.xp_words.specs.declared.place.Place.TheVariants.{Cell, Kind}
-use Rattle.xp_words.specs.KindWords.{is_kind, kind_write}
-use Rattle.xp_board.specs.Acts.{left_by}
-use Rattle.xp_board.specs.Hands.{locks_on}
-use Rattle.xp_board.specs.KindSteps.{MayLock, locked_kind, unlocked, unlocked_down}
-use Rattle.xp_board.specs.declared.step.Act.TheVariants.{Add, Cas, Store}
-use Rattle.xp_board.specs.declared.step.StepKind.TheVariants as kinds
-use Rattle.step_maker.specs.Holds.{Holds, MayWork}
-use Rattle.step_maker.specs.Moves.{Moves, found_by}
-use Rattle.kind_words.specs.Kinds.{looked_at}
-use Rattle.entry_locks.specs.Entries.{MayStoreEntry, MaySwapEntry, entry_set, entry_unset}
-use Rattle.entry_locks.specs.Locks.{took_lock}
+use Rattle.entry_locks.proofs.EntrySteps.{may_store, store_hand}
 use Rattle.entry_locks.proofs.rows.store_entry.Goals as goal
 
--- src/rows.rt:71:5
 pub make-requires : goal.make-requires
-make-requires g c = ?
+make-requires g c = may_store _ c.args.table c.args.index c.requires.frame c.requires.index c.requires.may c.args.new c.ranges.new.fits c.requires.exchanges
 
--- src/rows.rt:62:1
 pub returns-clause-hand : goal.returns-clause-hand
-returns-clause-hand g c = ?
+returns-clause-hand g c = store_hand _ _ c.args.table c.args.index c.args.new _ c.make.ensures
