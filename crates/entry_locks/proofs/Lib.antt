@@ -4,4 +4,5 @@ pub mod LockSteps
 pub mod LockWriting
 pub mod Looking
 pub mod Standings
+pub mod Unlocking
 pub mod Ways

@@ -1,32 +1,16 @@
-use Rattle.std.proofs.Common.{rules, ◌≡◌, ◌<◌, ℕ, [], true, None, Some, IfErr, IsTrue, ◌+◌, ◌-◌, ◌*◌, ◌≤◌, length, ◌/◌, ◌%◌, Bool, false, nat_eq, nat_lt, List, ◌∷◌, ◌++◌, slice_index_or, slice_set, bit_and, bit_or, Fits, w8, w32, w64, Bor, MutBor}
-use Rattle.xp_words.specs.declared.place.Place.TheVariants.{Kind}
-use Rattle.xp_board.specs.declared.holdings.Lock.{Lock}
-use Rattle.xp_board.specs.declared.step.Act.TheVariants.{Add}
-use Rattle.xp_board.specs.Hands.{ending_of, lock_on, work_on}
-use Rattle.xp_board.specs.KindSteps.{unlocked_down}
-use Rattle.xp_board.specs.Told.{is_telling, told_word}
-use Rattle.step_maker.specs.Holds.{MayWork}
-use Rattle.step_maker.specs.Plain.{Leaves, change}
-use Rattle.answer_fits.specs.Answers.{Serves, Stops, misses}
-use Rattle.answer_fits.specs.Asked.{of_back}
-use Rattle.frame_types.specs.Taking.{LentBy}
-use Rattle.entry_locks.specs.Found.{LocksFound}
-use Rattle.entry_locks.specs.Locks.{IsLockStop, LeavesLocked, Unlocks, of_lock}
-use Rattle.entry_locks.specs.Plain.{TwinLock}
+use Rattle.entry_locks.proofs.Unlocking.{lock_held, unlock_serves, unlock_words, unlocks}
 use Rattle.entry_locks.proofs.locking.unlock_entry.Goals as goal
 
--- src/locking.rt:82:16
 pub clear_lock-requires-clause-locked : goal.clear_lock-requires-clause-locked
-clear_lock-requires-clause-locked g c = ?
+clear_lock-requires-clause-locked g c = lock_held c.args.frame c.requires.locked.0 (g.P.Port.value c.args.port.now).holdings c.requires.locked.1
 
--- src/locking.rt:73:1
 pub returns-clause-serves : goal.returns-clause-serves
-returns-clause-serves g c = ?
+returns-clause-serves g c = unlock_serves (g.P.Port.value c.args.port.now) (g.P.Port.value c.clear_lock.new.port) c.args.frame c.clear_lock.result c.clear_lock.ensures.moves
 
--- src/locking.rt:73:1
 pub returns-clause-unlocks : goal.returns-clause-unlocks
-returns-clause-unlocks g c = ?
+returns-clause-unlocks g c =
+    unlocks (g.P.Port.value c.args.port.now) (g.P.Port.value c.clear_lock.new.port) c.args.frame c.clear_lock.result c.clear_lock.ensures.moves c.clear_lock.ensures.hand c.requires.locked.0 c.requires.locked.1
+    c.requires.frame c.requires.apart c.counts_one.result c.counts_one.ensures
 
--- src/locking.rt:73:1
 pub returns-clause-plain : goal.returns-clause-plain
-returns-clause-plain g c = ?
+returns-clause-plain g c = unlock_words (g.P.Port.value c.args.port.now) (g.P.Port.value c.clear_lock.new.port) c.args.frame c.clear_lock.result c.clear_lock.ensures.moves
