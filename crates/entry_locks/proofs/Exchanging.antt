@@ -10,7 +10,6 @@ use Rattle.xp_words.specs.KindWords.{is_kind, kind_fields, kind_write}
 use Rattle.xp_words.specs.Places.{number, place_at, sizes_of}
 use Rattle.xp_words.proofs.PlaceLaws.{place_back}
 use Rattle.xp_board.specs.declared.holdings.Lock.{Lock}
-use Rattle.xp_board.specs.declared.holdings.OwnerFound.{OwnerFound}
 use Rattle.xp_board.specs.declared.step.Act.TheVariants.{Cas, Load}
 use Rattle.xp_board.specs.declared.step.StepKind.TheVariants as kinds
 use Rattle.xp_board.specs.Acts.{left_by}

@@ -7,7 +7,7 @@ use Rattle.xp_words.specs.declared.reply.Stop.{Stop}
 use Rattle.xp_words.specs.declared.reply.Stop.TheVariants.{Paused}
 use Rattle.xp_words.specs.KindWords.{is_kind, kind_fields, kind_read, kind_write}
 use Rattle.xp_words.specs.Places.{number, sizes_of}
-use Rattle.xp_board.specs.declared.step.Act.TheVariants.{Cas, Load, Store}
+use Rattle.xp_board.specs.declared.step.Act.TheVariants.{Cas, Load}
 use Rattle.xp_board.specs.declared.step.StepKind.TheVariants as kinds
 use Rattle.xp_board.specs.Acts.{left_by}
 use Rattle.xp_board.specs.KindSteps.{locked_kind}
@@ -20,15 +20,15 @@ use Rattle.step_maker.specs.Moves.{Moves}
 use Rattle.step_maker.specs.Plain.{Leaves, Words, change}
 use Rattle.step_maker.proofs.Coming.{came_post, came_trans, moves_came}
 use Rattle.step_maker.proofs.Telling.{leaves, load_tells, moves_telling, told_there}
-use Rattle.answer_fits.specs.Visits.{Does, Only, Then, visit}
+use Rattle.answer_fits.specs.Visits.{Does, Only, visit}
 use Rattle.answer_fits.proofs.Visiting.{does_as, does_one, does_then}
 use Rattle.kind_words.specs.Kinds.{looked_at}
 use Rattle.partial_state.specs.Levels.{level_type}
 use Rattle.entry_locks.specs.declared.locking.Locked.TheVariants.{Other, Table}
-use Rattle.entry_locks.specs.Found.{Exchanges, LocksBy, LocksFound}
+use Rattle.entry_locks.specs.Found.{Exchanges, LocksBy}
 use Rattle.entry_locks.specs.Locks.{is_lockable, is_worked_on, took_lock}
 use Rattle.entry_locks.specs.Looked.{LocksAs, Looked}
-use Rattle.entry_locks.specs.Plain.{LocksPlainly, with_lock}
+use Rattle.entry_locks.specs.Plain.{with_lock}
 use Rattle.entry_locks.proofs.Exchanging.{holds_lock, lock_lost, lock_misses, lock_serves, lost_same}
 use Rattle.entry_locks.proofs.Looking.{busy_stops, looked}
 use Rattle.entry_locks.proofs.Standings.{when_free}

@@ -36,7 +36,7 @@ returns-in-Ok g c =
     record {
       locks = λ b l. table_locks b v c.args.frame c.args.owner c.args.word l k c.read_kind-kind.ensures (g.P.Port.value c.set_lock.new.port) spelled.0 spelled.1 free
           (locked_spelled v c.args.frame k c.requires.may spelled.0 (may_lock_it b v c.args.frame c.args.owner c.args.word l k c.read_kind-kind.ensures (when_free k free)))
-          c.in-Ok.ensures.moves c.level_of.result c.level_of.ensures.kind c.level_of.ensures.low c.level_of.ensures.high c.in-Ok.ensures.hand
+          c.in-Ok.ensures.moves c.level_of.result c.level_of.ensures.kind c.level_of.ensures.low c.level_of.ensures.high c.in-Ok.ensures.hand;
     }
 
 pub returns-in-Err : goal.returns-in-Err
@@ -48,7 +48,7 @@ returns-in-Err g c =
     record {
       locks = λ b l. lost_locks b v c.args.frame c.args.owner c.args.word l k c.read_kind-kind.ensures (g.P.Port.value c.set_lock.new.port) spelled.0 spelled.1 free
           (locked_spelled v c.args.frame k c.requires.may spelled.0 (may_lock_it b v c.args.frame c.args.owner c.args.word l k c.read_kind-kind.ensures (when_free k free)))
-          c.in-Err.found c.in-Err.ensures.moves c.in-Err.ensures.lost c.in-Err.ensures.hand c.lost.result c.lost.ensures
+          c.in-Err.found c.in-Err.ensures.moves c.in-Err.ensures.lost c.in-Err.ensures.hand c.lost.result c.lost.ensures;
     }
 
 pub returns-then-is_worked_on : goal.returns-then-is_worked_on
@@ -59,5 +59,5 @@ pub returns : goal.returns
 returns g c =
     record {
       locks = λ b l. other_locks b (g.P.Port.value c.args.port.now) c.args.frame c.args.owner c.args.word l c.read_kind-kind.result c.read_kind-kind.ensures (sym c.is_free_table.ensures ∙ c.if-is_free_table.false)
-          (sym c.is_worked_on.ensures ∙ c.if-is_worked_on.false)
+          (sym c.is_worked_on.ensures ∙ c.if-is_worked_on.false);
     }
