@@ -1,5 +1,5 @@
 -- The frame that a recorded entry asks never comes into work with its own type count: that one is the entry's.
-use Rattle.std.proofs.Common.{◌≡◌, ◌≢◌, ℕ, ◌<◌, ◌++◌, Bool, false, List, [], ◌∷◌, Some, None, Ok, IsTrue, refl, sym, ap, ◌∙◌, subst, arith}
+use Rattle.std.proofs.Common.{◌≡◌, ◌≢◌, ℕ, ◌<◌, ◌++◌, Bool, false, List, [], ◌∷◌, None, Ok, IsTrue, refl, ap, ◌∙◌, subst, arith}
 use Rattle.xp_words.specs.Entries.{demand_at}
 use Rattle.xp_words.specs.KindWords.{kind_fields}
 use Rattle.xp_words.specs.declared.entry.Demand.TheVariants.{Typed}
@@ -8,7 +8,7 @@ use Rattle.xp_words.specs.declared.kind.PageType.{PageType}
 use Rattle.xp_words.specs.declared.place.Place.TheVariants.{Kind}
 use Rattle.xp_words.specs.declared.reply.Stop.{Stop}
 use Rattle.xp_board.specs.Hands.{work_on}
-use Rattle.xp_board.specs.Readings.{is_partial, kind_at, type_count}
+use Rattle.xp_board.specs.Readings.{is_partial, type_count}
 use Rattle.xp_board.specs.Told.{Finds, PortValue}
 use Rattle.board_lemmas.proofs.KindReadings.{dead_count}
 use Rattle.step_maker.specs.Holds.{Holds}

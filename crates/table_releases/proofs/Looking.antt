@@ -1,14 +1,12 @@
 -- The look at the last recorded entry, and the hand once that is shed.
-use Rattle.std.proofs.Common.{◌≡◌, ℕ, ◌+◌, ◌<◌, if◌then◌else◌, Bool, true, false, ◌∷◌, Option, Some, None, refl, sym, ap, ◌∙◌}
+use Rattle.std.proofs.Common.{◌≡◌, ℕ, ◌<◌, Bool, true, false, ◌∷◌, Some, None, refl, ap, ◌∙◌}
 use Rattle.xp_words.specs.Entries.{demand_at}
-use Rattle.xp_words.specs.KindWords.{kind_fields}
 use Rattle.xp_words.specs.declared.entry.Demand.{Demand}
 use Rattle.xp_words.specs.declared.entry.Demand.TheVariants.{Bad, Nothing, Read, Typed}
 use Rattle.xp_words.specs.declared.kind.PageType.{PageType}
 use Rattle.xp_words.specs.declared.place.Place.TheVariants.{Cell}
 use Rattle.xp_words.specs.Places.{sizes_of}
 use Rattle.xp_board.specs.declared.holdings.Holdings.{Holdings}
-use Rattle.xp_board.specs.declared.holdings.Unsettled.{Unsettled}
 use Rattle.xp_board.specs.declared.holdings.Work.{Work}
 use Rattle.xp_board.specs.After.{learned_last, learned_work}
 use Rattle.xp_board.specs.Hands.{brought, brought_as, changed_work, work_on}
@@ -18,16 +16,15 @@ use Rattle.xp_board.specs.Told.{PortValue}
 use Rattle.board_lemmas.proofs.Learned.{learned_frame}
 use Rattle.board_lemmas.proofs.ListChanges.{first_by-changed_here}
 use Rattle.board_lemmas.proofs.ListCounts.{first_by-cons_here}
-use Rattle.board_lemmas.proofs.Sums.{when_eq}
 use Rattle.board_lemmas.proofs.WorkFacts.{work_word, works_facts}
 use Rattle.step_maker.specs.Holds.{Holds, still}
 use Rattle.table_words.specs.Entries.{entry_shed}
 use Rattle.table_words.proofs.EntryHands.{shed_left}
 use Rattle.table_entries.specs.Tops.{with_recorded}
-use Rattle.table_entries.proofs.HandReady.{learned_word, unmarked_learns}
+use Rattle.table_entries.proofs.HandReady.{unmarked_learns}
+use Rattle.table_entries.proofs.LastSeen.{SeenLast, finds_inside, finds_plain, learned_seen, seen_sheds}
 use Rattle.table_releases.specs.Between.{SeesLast}
 use Rattle.table_releases.specs.Tops.{IsSettledTop}
-use Rattle.table_entries.proofs.LastSeen.{SeenLast, finds_inside, finds_plain, learned_seen, seen_sheds}
 
 module _ (b v : PortValue) (f i : ℕ) (t : PageType) (word : ℕ) (l : SeesLast b v f i t word) where
   pub top_here : work_on f b.holdings.works ≡ Some l.works.top
