@@ -1,5 +1,5 @@
 -- The looks at one domain, as lists.
-use Rattle.std.proofs.Common.{◌≡◌, ◌≢◌, ℕ, ◌<◌, ◌≤◌, ◌==◌, not, if◌then◌else◌, Bool, true, false, List, [], ◌∷◌, length, None, Result, Ok, Err, refl, sym, ap, ◌∙◌, subst}
+use Rattle.std.proofs.Common.{◌≡◌, ◌≢◌, ℕ, ◌<◌, ◌≤◌, ◌==◌, not, if◌then◌else◌, Bool, true, false, [], ◌∷◌, length, None, Result, Ok, Err, refl, sym, ap, ◌∙◌, subst}
 use Rattle.xp_words.specs.declared.place.Place.TheVariants.{Life, Priv}
 use Rattle.xp_words.specs.declared.reply.Refusal.TheVariants.{Dying, NoDomain, NoPrivilege}
 use Rattle.xp_words.specs.declared.reply.Refusal.{Refusal}
@@ -10,10 +10,10 @@ use Rattle.xp_board.specs.declared.holdings.Looking.{Looking}
 use Rattle.xp_board.specs.After.{learned_life}
 use Rattle.xp_board.specs.Lists.{kept_of}
 use Rattle.xp_board.specs.Readings.{has_now}
-use Rattle.xp_board.specs.Told.{PortValue, Story}
+use Rattle.xp_board.specs.Told.{PortValue}
 use Rattle.step_maker.specs.Holds.{Holds, Same}
 use Rattle.step_maker.specs.Moves.{Moves}
-use Rattle.answer_fits.specs.Visits.{Visit, Does, Nothing, Only, Then}
+use Rattle.answer_fits.specs.Visits.{Does, Nothing, Only, Then}
 use Rattle.answer_fits.proofs.Visiting.{does_as, does_nothing, does_one, does_then}
 use Rattle.foreign_map.specs.Owning.{Admits, AdmitsBy, AdmitsFound, AllowsBy, AllowsFound, OverOf, saw_life, saw_privileges}
 use Rattle.foreign_map.specs.Owning as by

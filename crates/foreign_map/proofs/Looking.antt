@@ -13,19 +13,17 @@ use Rattle.xp_board.specs.Acts.{left_by}
 use Rattle.xp_board.specs.Lists.{EachOf}
 use Rattle.xp_board.specs.Steps.{some_since}
 use Rattle.xp_board.specs.Told.{Post, PortValue, is_telling, told_word}
-use Rattle.step_maker.specs.Moves.{Came, Met, Moment, MovesBy, Moves, Ran}
+use Rattle.step_maker.specs.Moves.{Came, Met, Moment, Moves, Ran}
 use Rattle.step_maker.specs.Plain.{Leaves}
-use Rattle.step_maker.proofs.Coming.{came_self, came_trans, moves_came, ran_post}
+use Rattle.step_maker.proofs.Coming.{came_self, moves_came, ran_post}
 use Rattle.step_maker.proofs.Noting.{moves_keeps, moves_since, moves_steps}
 use Rattle.step_maker.proofs.Telling.{load_tells, ran_telling, told_there}
-use Rattle.answer_fits.specs.Answers.{Deed, Serves, deeds, deeds_by, marked_by}
+use Rattle.answer_fits.specs.Answers.{Serves, deeds, deeds_by, marked_by}
 use Rattle.answer_fits.specs.Asked.{Request}
 use Rattle.answer_fits.specs.Finding.{Finding, FoundAt}
 use Rattle.answer_fits.specs.Reasons.{HasReason}
 use Rattle.answer_fits.specs.Visits.{Visit, Does, visits}
-use Rattle.answer_fits.proofs.Piecing.{each_append}
 use Rattle.answer_fits.proofs.Changing.{found_before}
-use Rattle.board_lemmas.proofs.HandLists.{EachOf-map}
 
 -- ---- visits
 abbrev pub is_word : Place → Bool

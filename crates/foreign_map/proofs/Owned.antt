@@ -1,5 +1,5 @@
 -- All that the steps show that read whose tables and frames a call names: by the list of them.
-use Rattle.std.proofs.Common.{◌≡◌, ◌⊎◌, ℕ, ◌<◌, ◌≤◌, ◌^◌, true, List, [], ◌++◌, length, None, Some, Result, Ok, Err, IfErr, IsTrue, refl, sym, ap, ◌∙◌, subst}
+use Rattle.std.proofs.Common.{◌≡◌, ◌⊎◌, ℕ, ◌<◌, ◌≤◌, ◌^◌, List, [], ◌++◌, length, Result, Ok, Err, IfErr, IsTrue, sym, ap, ◌∙◌, subst}
 use Rattle.xp_words.specs.Machine.{Machine}
 use Rattle.xp_words.specs.Places.{sizes_of}
 use Rattle.xp_words.specs.declared.place.Place.TheVariants.{Priv}

@@ -1,5 +1,5 @@
 -- Why a call is refused whose tables and frames a number names, and what is known where it is not.
-use Rattle.std.proofs.Common.{◌≡◌, ◌≢◌, ◌⊎◌, ℕ, ◌<◌, ◌≤◌, ◌^◌, ◌||◌, not, if◌then◌else◌, Bool, true, false, List, ◌++◌, length, Option, Some, None, Ok, Err, IsTrue, refl, sym, ◌∙◌, subst, inl, inr}
+use Rattle.std.proofs.Common.{◌≡◌, ◌⊎◌, ℕ, ◌<◌, ◌≤◌, ◌^◌, ◌||◌, not, if◌then◌else◌, Bool, true, false, List, ◌++◌, length, Option, Some, None, Ok, Err, IsTrue, refl, sym, ◌∙◌, subst, inl, inr}
 use Rattle.std.proofs.lemmas.Bool.{or_left, or_right}
 use Rattle.board_lemmas.proofs.Sums.{when_eq}
 use Rattle.xp_words.specs.Machine.{Machine}

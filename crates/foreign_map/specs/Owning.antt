@@ -1,5 +1,5 @@
 -- Whose tables and frames a number names, and what refuses that.
-use Rattle.std.specs.Prelude.{◌≡◌, ◌≢◌, ◌⊎◌, ℕ, ◌-◌, ◌/◌, ◌%◌, ◌^◌, ◌<◌, ◌≤◌, ◌==◌, ◌||◌, nat_lt, nat_le, not, if◌then◌else◌, Bool, true, false, List, [], ◌∷◌, ◌++◌, length, Option, Some, None, Result, Ok, Err, IsTrue}
+use Rattle.std.specs.Prelude.{◌≡◌, ◌≢◌, ◌⊎◌, ℕ, ◌-◌, ◌/◌, ◌%◌, ◌^◌, ◌<◌, ◌≤◌, ◌==◌, ◌||◌, nat_lt, not, if◌then◌else◌, true, false, List, [], ◌∷◌, ◌++◌, length, Option, Some, None, Result, Ok, Err, IsTrue}
 use Rattle.xp_words.specs.Machine.{Machine}
 use Rattle.xp_words.specs.Places.{sizes_of}
 use Rattle.xp_words.specs.declared.place.Place.TheVariants.{Life, Priv}
@@ -11,7 +11,7 @@ use Rattle.xp_board.specs.Steps.{some_since}
 use Rattle.xp_board.specs.Told.{PortValue, is_telling, told_word}
 use Rattle.step_maker.specs.Plain.{Leaves, Words}
 use Rattle.answer_fits.specs.Asked.{Request, of_frame}
-use Rattle.answer_fits.specs.Visits.{Visit, visit, Does, Nothing, Only}
+use Rattle.answer_fits.specs.Visits.{Visit, visit, Does}
 use Rattle.foreign_map.specs.declared.owners.Owners.{Owners}
 
 -- ---- the number

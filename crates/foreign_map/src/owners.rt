@@ -88,7 +88,7 @@ fn allow<P: Port>(port: &mut P, caller: u16, tables: u16, frames: u16) -> Result
     })
 }
 
-// The domain of the own vCPU.
+// The domain of the own vCPU, which is one of the machine's.
 fn own_domain<P: Port>(port: &P) -> u16
     ensures own { result ≡ domain_of (P.value port.now).post.machine (P.value port.now).post.vcpu }
     ensures real { result < length (P.value port.now).post.machine.page_limit }

@@ -7,7 +7,7 @@ pub returns-then-tables-caller-clause-steps : goal.returns-then-tables-caller-cl
 returns-then-tables-caller-clause-steps g c =
     let v = g.P.Port.value c.args.port.now in
     elim c.then-tables-caller.branch [
-      then-tables-caller-via-then-tables-caller w ↦ allows_caller v c.args.caller c.args.tables c.args.frames w.if-tables-caller.true
+      | then-tables-caller-via-then-tables-caller w ↦ allows_caller v c.args.caller c.args.tables c.args.frames w.if-tables-caller.true
       | then-tables-caller-via-else-tables-caller+then-tables-frames w ↦ allows_same v c.args.caller c.args.tables c.args.frames w.if-tables-frames.true
     ]
 

@@ -3,7 +3,7 @@ use Rattle.std.proofs.lemmas.Result.{err_from_is_err_and}
 use Rattle.xp_words.specs.declared.reply.Refusal.{Refusal}
 use Rattle.xp_board.specs.Told.{Post, PortValue}
 use Rattle.foreign_map.specs.declared.owners.Owners.{Owners}
-use Rattle.foreign_map.specs.Owning.{AdmitsFound, OwnersFound, frames_of, tables_of}
+use Rattle.foreign_map.specs.Owning.{AdmitsFound, OwnersFound}
 use Rattle.foreign_map.proofs.Owned.{owners_above, owners_apart, owners_are, owners_may, owners_no_frames, owners_no_tables, owners_serve, owners_stop, owners_twin}
 use Rattle.foreign_map.proofs.owners.owner_for.Goals as goal
 
