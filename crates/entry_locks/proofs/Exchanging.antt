@@ -1,6 +1,5 @@
 -- The exchange that locks a frame, behind the look: what it serves, why it is lost, and what it leaves in hand.
-use Rattle.std.proofs.Common.{◌≡◌, ◌≢◌, ℕ, ◌+◌, ◌≤◌, if◌then◌else◌, Bool, true, false, [], ◌∷◌, ◌++◌, length, Some, None, IsTrue, refl, sym, ap, ◌∙◌, subst, arith, inr}
-use Rattle.std.proofs.lemmas.Bool.Decides.{nat_tests}
+use Rattle.std.proofs.Common.{◌≡◌, ◌≢◌, ℕ, ◌+◌, ◌≤◌, if◌then◌else◌, true, false, [], ◌∷◌, ◌++◌, length, Some, None, IsTrue, refl, sym, ap, ◌∙◌, subst, arith, inr}
 use Rattle.xp_words.specs.Machine.{Machine}
 use Rattle.xp_words.specs.declared.kind.KindWord.{KindWord}
 use Rattle.xp_words.specs.declared.place.Place.TheVariants.{Kind}
@@ -15,7 +14,7 @@ use Rattle.xp_board.specs.declared.step.StepKind.TheVariants as kinds
 use Rattle.xp_board.specs.Acts.{left_by}
 use Rattle.xp_board.specs.Hands.{ref_owner, without_ref}
 use Rattle.xp_board.specs.KindSteps.{locked_kind}
-use Rattle.xp_board.specs.Readings.{is_dead, is_live}
+use Rattle.xp_board.specs.Readings.{is_live}
 use Rattle.xp_board.specs.Steps.{last_since}
 use Rattle.xp_board.specs.Told.{PortValue}
 use Rattle.board_lemmas.proofs.Sums.{when_eq, when_ne}
@@ -33,22 +32,15 @@ use Rattle.kind_words.specs.Kinds.{looked_at}
 use Rattle.kind_words.proofs.KindWriting.{fields_write}
 use Rattle.partial_state.specs.Levels.{level_type}
 use Rattle.entry_locks.specs.Locks.{HoldsLock, of_lock, took_lock}
-use Rattle.entry_locks.specs.Looked.{Looked}
+use Rattle.entry_locks.specs.Looked.{SeenToLock}
 use Rattle.entry_locks.proofs.Looking.{asked, looked, looking, owned}
 
-live_alive : (k : KindWord) → IsTrue (is_live k) → is_dead k ≡ false
-live_alive k live = grind (arith, nat_tests)
-
-same_pin : (f : ℕ) (p : Bool) → pin_deed f p p ≡ []
-same_pin f true = refl
-same_pin f false = refl
-
-module _ (b v w : PortValue) (f owner word : ℕ) (l : Looked b v f owner word) (k : KindWord) (is : IsTrue (is_kind k)) (next : IsTrue (is_kind (locked_kind k))) (live : IsTrue (is_live k)) (was : word ≡ kind_write k)
+module _ (b v w : PortValue) (f owner word : ℕ) (l : SeenToLock b v f owner word) (k : KindWord) (is : IsTrue (is_kind k)) (next : IsTrue (is_kind (locked_kind k))) (live : IsTrue (is_live k)) (was : word ≡ kind_write k)
     (found : ℕ) (change : Moves v w (Kind f) (Cas (kind_write k) (kind_write (locked_kind k))) kinds.Kind None found) where
   -- the frame keeps its type
   asks : (n : Machine) (s : ℕ) (F : Finding) → MayType n s (of_lock f owner) F f (Cas (kind_write k) (kind_write (locked_kind k))) found v.holdings
   asks n s F =
-      inr (refl, of owner None (asked b v f owner word l n s F), kept_type (kind_write k) (kind_write (locked_kind k)) k (locked_kind k) (fields_write k is) (fields_write (locked_kind k) next) refl (live_alive k live))
+      inr (refl, of owner None (asked b v f owner word l n s F), kept_type (kind_write k) (kind_write (locked_kind k)) k (locked_kind k) (fields_write k is) (fields_write (locked_kind k) next) refl (rw live refl))
 
   tried : Serves b w (of_lock f owner) (deeds_by (Kind f) (Cas (kind_write k) (kind_write (locked_kind k))) kinds.Kind found v.holdings ++ [])
   tried =
@@ -57,7 +49,7 @@ module _ (b v w : PortValue) (f owner word : ℕ) (l : Looked b v f owner word) 
   -- the pin stays as it was
   no_deed : exchanged (Kind f) (kind_write k) (kind_write (locked_kind k)) ≡ []
   no_deed =
-      ap (λ (y : KindWord). pin_deed f y.pinned (kind_fields (kind_write (locked_kind k))).pinned) (fields_write k is) ∙ ap (λ (y : KindWord). pin_deed f k.pinned y.pinned) (fields_write (locked_kind k) next) ∙ same_pin f k.pinned
+      ap (λ (y : KindWord). pin_deed f y.pinned (kind_fields (kind_write (locked_kind k))).pinned) (fields_write k is) ∙ ap (λ (y : KindWord). pin_deed f k.pinned y.pinned) (fields_write (locked_kind k) next) ∙ elim k.pinned as (λ p. pin_deed f p p ≡ []) [ true ↦ refl | false ↦ refl ]
 
   pub lock_serves : found ≡ kind_write k → Serves b w (of_lock f owner) []
   lock_serves at =

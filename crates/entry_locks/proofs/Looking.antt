@@ -26,10 +26,10 @@ use Rattle.frame_types.specs.Taking.{LentBy}
 use Rattle.frame_types.proofs.Entering.{lent_held, lent_known, lent_owner}
 use Rattle.kind_words.proofs.KindFacts.{type_is_below}
 use Rattle.entry_locks.specs.Locks.{is_worked_on, of_lock}
-use Rattle.entry_locks.specs.Looked.{Looked}
+use Rattle.entry_locks.specs.Looked.{SeenToLock}
 use Rattle.entry_locks.proofs.Standings.{IsFree, worked_busy}
 
-module _ (b v : PortValue) (f owner word : ℕ) (l : Looked b v f owner word) where
+module _ (b v : PortValue) (f owner word : ℕ) (l : SeenToLock b v f owner word) where
   pub asked : (n : Machine) (s : ℕ) (F : Finding) → Asked n s (of_lock f owner) F f owner None
   asked n s F = named (when_eq f f refl) refl tt
 

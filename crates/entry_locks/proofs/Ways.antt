@@ -27,13 +27,13 @@ use Rattle.partial_state.specs.Levels.{level_type}
 use Rattle.entry_locks.specs.declared.locking.Locked.TheVariants.{Other, Table}
 use Rattle.entry_locks.specs.Found.{Exchanges, LocksBy}
 use Rattle.entry_locks.specs.Locks.{is_lockable, is_worked_on, took_lock}
-use Rattle.entry_locks.specs.Looked.{LocksAs, Looked}
+use Rattle.entry_locks.specs.Looked.{LocksAs, SeenToLock}
 use Rattle.entry_locks.specs.Plain.{with_lock}
 use Rattle.entry_locks.proofs.Exchanging.{holds_lock, lock_lost, lock_misses, lock_serves, lost_same}
 use Rattle.entry_locks.proofs.Looking.{busy_stops, looked}
 use Rattle.entry_locks.proofs.Standings.{when_free}
 
-module _ (b v : PortValue) (f owner word : ℕ) (l : Looked b v f owner word) (k : KindWord) (read : kind_read word ≡ Some k) where
+module _ (b v : PortValue) (f owner word : ℕ) (l : SeenToLock b v f owner word) (k : KindWord) (read : kind_read word ≡ Some k) where
   fields : kind_fields word ≡ k
   fields = fields_of word k read
 

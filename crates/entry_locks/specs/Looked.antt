@@ -16,7 +16,7 @@ use Rattle.entry_locks.specs.Plain.{TwinLock}
 use Rattle.entry_locks.specs.declared.locking.Locked.{Locked}
 
 -- a look found that word, before any other step of the call; the vCPU has the frame in no own work
-pub record Looked (b v : PortValue) (f owner word : ℕ) : Type 0 where
+pub record SeenToLock (b v : PortValue) (f owner word : ℕ) : Type 0 where
   pub look : Moves b v (Kind f) Load kinds.Look None word
   pub same : Same b v
   pub frame : f < b.post.machine.frames
@@ -24,8 +24,8 @@ pub record Looked (b v : PortValue) (f owner word : ℕ) : Type 0 where
   pub apart : IsElsewhere f b.holdings
   pub looked : b.holdings.looking ≡ []
 
-abbrev pub IsLooked : PortValue → ℕ → ℕ → ℕ → Type 0
-IsLooked v f owner word = (b : PortValue) × Looked b v f owner word
+abbrev pub IsSeenToLock : PortValue → ℕ → ℕ → ℕ → Type 0
+IsSeenToLock v f owner word = (b : PortValue) × SeenToLock b v f owner word
 
 -- what the call ensures
 pub record LocksAs (v w : PortValue) (f owner : ℕ) (answer : Result Locked Stop) : Type 0 where

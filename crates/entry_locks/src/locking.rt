@@ -13,7 +13,7 @@ ghost use Rattle.answer_fits.specs.Asked.{of_back};
 ghost use Rattle.frame_types.specs.Taking.{LentBy};
 ghost use Rattle.entry_locks.specs.Found.{LocksFound};
 ghost use Rattle.entry_locks.specs.Locks.{IsLockStop, LeavesLocked, Unlocks, of_lock};
-ghost use Rattle.entry_locks.specs.Looked.{IsLooked, Looked, LocksAs};
+ghost use Rattle.entry_locks.specs.Looked.{IsSeenToLock, SeenToLock, LocksAs};
 ghost use Rattle.entry_locks.specs.Plain.{TwinLock};
 
 use crate::levels::level_of;
@@ -57,8 +57,8 @@ pub fn lock_entry<P: Port>(port: &mut P, frame: u32, owner: u16) -> Result<Locke
 fn lock_found<P: Port>(port: &mut P, frame: u32, owner: u16, word: u64) -> Result<Locked, Stop>
     requires frame { frame < (P.value port.old).post.machine.frames }
     requires may { MayWork (P.value port.old) }
-    requires looked { IsLooked (P.value port.old) frame owner word }
-    ensures locks { (b : PortValue) → Looked b (P.value port.old) frame owner word → LocksAs b (P.value port.new) frame owner result }
+    requires looked { IsSeenToLock (P.value port.old) frame owner word }
+    ensures locks { (b : PortValue) → SeenToLock b (P.value port.old) frame owner word → LocksAs b (P.value port.new) frame owner result }
 {
     let kind = read_kind(word);
     if !kind.kind.is_table() {

@@ -1,4 +1,4 @@
-//! Kind words with an entry lock.
+//! Kind words with an entry lock, and whether a table may get one.
 ghost use Rattle.std.specs.Prelude.{◌≡◌, ◌+◌, ◌^◌, ◌<◌, false, IsTrue};
 ghost use Rattle.xp_words.specs.KindWords.{is_kind, kind_write};
 ghost use Rattle.xp_words.specs.PageTypes.{is_table};
