@@ -4,7 +4,7 @@ use Rattle.frame_types.proofs.Arms.{busy_takes, other_takes}
 use Rattle.frame_types.proofs.Classing.{when_busy, when_other}
 use Rattle.frame_types.proofs.Plainly.{plain_busy, plain_other}
 use Rattle.frame_types.proofs.TakingSteps.{busy_found, other_found}
-use Rattle.frame_types.proofs.taking.take_other.Goals as goal
+use Rattle.frame_types.proofs.taking.take_looked.Goals as goal
 
 pub read_kind-kind-requires : goal.read_kind-kind-requires
 read_kind-kind-requires g c =

@@ -9,7 +9,7 @@ use Rattle.frame_types.proofs.Coming.{looked_held, looked_low, raised_spelled}
 use Rattle.frame_types.proofs.Living.{lives_by_exchange}
 use Rattle.frame_types.proofs.Plainly.{plain_counted, plain_lost}
 use Rattle.frame_types.proofs.TakingSteps.{counted_found, lost_found}
-use Rattle.frame_types.proofs.taking.take_found.Goals as goal
+use Rattle.frame_types.proofs.taking.count_found.Goals as goal
 
 pub read_kind-kind-requires : goal.read_kind-kind-requires
 read_kind-kind-requires g c =
