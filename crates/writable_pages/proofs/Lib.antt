@@ -1,3 +1,4 @@
 mod Asking
 mod Left
 mod Taken
+mod Got
