@@ -1,19 +1,18 @@
 -- What is asked of a frame as ordinary memory, from what is asked of it for a type: the steps serve it, and it stops for the same.
-use Rattle.std.proofs.Common.{◌≡◌, ◌≢◌, ◌⊎◌, ℕ, ◌==◌, not, true, false, List, [], ◌∷◌, ◌++◌, Option, Some, None, Ok, Err, refl, sym, ap, ◌∙◌, subst, inl, inr}
+use Rattle.std.proofs.Common.{◌≡◌, ◌≢◌, ◌⊎◌, ℕ, ◌==◌, not, List, [], ◌∷◌, ◌++◌, Option, Some, Err, refl, sym, ap, subst, inl, inr}
 use Rattle.xp_words.specs.declared.kind.PageType.{PageType}
 use Rattle.xp_words.specs.declared.kind.PageType.TheVariants.{Writable}
 use Rattle.xp_words.specs.declared.place.Place.TheVariants.{Kind}
 use Rattle.xp_words.specs.declared.reply.Pause.{Pause}
 use Rattle.xp_words.specs.declared.reply.Stop.{Stop}
-use Rattle.xp_words.specs.declared.reply.Stop.TheVariants.{Refused, Paused}
+use Rattle.xp_words.specs.declared.reply.Stop.TheVariants.{Paused}
 use Rattle.xp_board.specs.Readings.{domain_of}
 use Rattle.xp_board.specs.Told.{Post, PortValue}
 use Rattle.board_lemmas.proofs.Sums.{when_eq, when_ne}
 use Rattle.step_maker.specs.Moves.{Came, Met}
 use Rattle.step_maker.proofs.Coming.{came_post}
-use Rattle.answer_fits.specs.Answers.{Deed, Misses, Serves, Stops, missed}
-use Rattle.answer_fits.specs.Asked.{IsAsked, IsFor, Request, Within, named, of, of_frame}
-use Rattle.answer_fits.specs.Finding.{Finding}
+use Rattle.answer_fits.specs.Answers.{Deed, Misses, Serves, Stops}
+use Rattle.answer_fits.specs.Asked.{IsAsked, IsFor, Within, named, of, of_frame}
 use Rattle.answer_fits.proofs.Piecing.{serves_came, serves_within, stops_within, within_frame}
 use Rattle.flush_waits.specs.Waiting.{IsWait}
 use Rattle.frame_types.proofs.Waiting.{none_missed}

@@ -1,5 +1,5 @@
 -- Ordinary memory that waits for a flush is left: what is in hand then.
-use Rattle.std.proofs.Common.{◌≡◌, ◌≢◌, ℕ, ◌+◌, if◌then◌else◌, true, [], Some, Err, IsTrue, refl, sym, ap, ◌∙◌, subst, inl, inr}
+use Rattle.std.proofs.Common.{◌≡◌, ◌≢◌, ℕ, ◌+◌, if◌then◌else◌, true, [], Some, Err, sym, ap, ◌∙◌, subst, inl, inr}
 use Rattle.std.proofs.lemmas.Bool.{cases_eq}
 use Rattle.xp_words.specs.KindWords.{kind_fields}
 use Rattle.xp_words.specs.declared.kind.KindWord.{KindWord}
@@ -10,18 +10,18 @@ use Rattle.xp_words.specs.declared.reply.Stop.TheVariants.{Refused, Paused}
 use Rattle.xp_board.specs.declared.holdings.Holdings.{Holdings}
 use Rattle.xp_board.specs.declared.holdings.OwnerFound.TheVariants as owners
 use Rattle.xp_board.specs.declared.holdings.Work.{Work}
-use Rattle.xp_board.specs.Hands.{ref_owner, typed_owner, without_typed, without_work, work_on}
+use Rattle.xp_board.specs.Hands.{ref_owner, typed_owner, without_typed, without_work}
 use Rattle.xp_board.specs.KindSteps.{kept_owner}
 use Rattle.xp_board.specs.Readings.{domain_of}
 use Rattle.xp_board.specs.Told.{Post, PortValue}
-use Rattle.step_maker.specs.Holds.{FlushedHolds, Holds, quiet}
+use Rattle.step_maker.specs.Holds.{FlushedHolds, quiet}
 use Rattle.frame_words.specs.Freeing.{gave}
 use Rattle.board_lemmas.proofs.KindReadings.{work_alone}
 use Rattle.kind_words.specs.Kinds.{MayLeave, partial_kind}
 use Rattle.kind_words.proofs.Leaving as leaving
 use Rattle.frame_types.specs.Leaving.{WaitsFrom}
 use Rattle.frame_types.proofs.Left.{here, kept_may, no_typed, no_works, own_owner}
-use Rattle.kept_marks.specs.Marks.{IsForeign, IsKeptOf, LeavesKept, left_kept}
+use Rattle.kept_marks.specs.Marks.{IsKeptOf, LeavesKept, left_kept}
 use Rattle.writable_pages.specs.Pages.{LeavesPage}
 
 -- the untyped reference is gone

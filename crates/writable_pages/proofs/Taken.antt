@@ -1,5 +1,5 @@
 -- A frame is taken as ordinary memory: by its calls, what the steps serve, and why it stops.
-use Rattle.std.proofs.Common.{◌≡◌, ℕ, Bool, true, [], Some, Ok, Err, refl, sym, ap, subst, inl}
+use Rattle.std.proofs.Common.{◌≡◌, ℕ, Bool, true, [], Some, Ok, Err, refl, subst, inl}
 use Rattle.xp_words.specs.declared.kind.PageType.TheVariants.{Writable}
 use Rattle.xp_words.specs.declared.reply.Stop.{Stop}
 use Rattle.xp_board.specs.Told.{PortValue, is_telling, told_word}
@@ -17,7 +17,7 @@ use Rattle.frame_types.specs.Taking.{ShowsWait}
 use Rattle.frame_types.specs.declared.taking.Taken.{Taken}
 use Rattle.frame_types.specs.declared.taking.Taken.TheVariants.{Counted, Waiting}
 use Rattle.frame_types.proofs.Serving.{back_serves}
-use Rattle.table_courses.specs.Acquiring.{GaveRef, TookType}
+use Rattle.table_courses.specs.Acquiring.{TookType}
 use Rattle.writable_pages.specs.Pages.{PageLeft, ServesPage, TookPage, of_page, counted, untyped, waiting}
 use Rattle.writable_pages.proofs.Asking.{page_serves, page_stops}
 

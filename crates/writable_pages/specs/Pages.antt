@@ -1,5 +1,5 @@
 -- Frames taken as ordinary memory: by which calls, what is in hand then, and what a guest sees of it.
-use Rattle.std.specs.Prelude.{◌≡◌, ◌⊎◌, ℕ, ◌+◌, ◌==◌, ◌++◌, not, Bool, true, false, List, [], ◌∷◌, None, Some, Result, Ok, Err}
+use Rattle.std.specs.Prelude.{◌≡◌, ◌⊎◌, ℕ, ◌+◌, ◌==◌, ◌++◌, not, Bool, true, false, List, [], ◌∷◌, Some, Result, Ok, Err}
 use Rattle.xp_words.specs.declared.kind.PageType.TheVariants.{Writable}
 use Rattle.xp_words.specs.declared.place.Place.TheVariants.{Kind}
 use Rattle.xp_words.specs.declared.reply.Stop.{Stop}

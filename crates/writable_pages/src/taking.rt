@@ -5,7 +5,6 @@ ghost use Rattle.step_maker.specs.Holds.{MayWork};
 ghost use Rattle.step_maker.specs.Moves.{Came};
 ghost use Rattle.answer_fits.specs.Answers.{Stops};
 ghost use Rattle.frame_types.specs.Taking.{LentBy};
-ghost use Rattle.frame_types.specs.Leaving.{WaitsFrom};
 ghost use Rattle.kept_marks.specs.Marks.{IsForeign};
 ghost use Rattle.table_words.specs.OldWords.{known_old};
 ghost use Rattle.table_words.specs.declared.old_words.OldWord.TheVariants.{First};

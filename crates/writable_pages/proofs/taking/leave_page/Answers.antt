@@ -1,10 +1,8 @@
-use Rattle.std.proofs.Common.{true, false, [], Some, Err, refl, sym, subst}
+use Rattle.std.proofs.Common.{true, false, [], Err, sym, subst}
 use Rattle.xp_words.specs.declared.kind.PageType.TheVariants.{Writable}
-use Rattle.xp_words.specs.declared.reply.Stop.TheVariants.{Refused, Paused}
 use Rattle.frame_types.specs.Leaving.{WaitsFrom}
 use Rattle.frame_types.specs.Plain.{is_refused}
 use Rattle.kept_marks.specs.Marks.{KeptFor, LeavesKept}
-use Rattle.kind_words.specs.Kinds.{MayLeave}
 use Rattle.writable_pages.specs.Pages.{LeavesPage, PageLeft}
 use Rattle.writable_pages.proofs.Asking.{kept_serves, plain_serves}
 use Rattle.writable_pages.proofs.Left.{kept_leaves, leaves_back, page_known, page_may}

@@ -1,4 +1,4 @@
-use Rattle.std.proofs.Common.{[], Ok, Err, subst}
+use Rattle.std.proofs.Common.{[], subst}
 use Rattle.xp_words.specs.declared.kind.PageType.TheVariants.{Writable}
 use Rattle.step_maker.proofs.Coming.{came_trans}
 use Rattle.answer_fits.proofs.Piecing.{serves_came}
