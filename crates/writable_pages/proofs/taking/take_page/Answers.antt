@@ -8,6 +8,27 @@ use Rattle.frame_types.proofs.Waiting.{err_gives}
 use Rattle.writable_pages.proofs.Taken.{counted_serves, counted_took, stops_page, type_took, untyped_came, untyped_serves, untyped_took, waiting_took}
 use Rattle.writable_pages.proofs.taking.take_page.Goals as goal
 
+-- ---- by which calls
+
+pub returns-in-Err-clause-course : goal.returns-in-Err-clause-course
+returns-in-Err-clause-course g c =
+    untyped_took (g.P.Port.value c.args.port.now) (g.P.Port.value c.take_type.new.port) c.args.frame c.args.owner (g.P.Port.value c.put_ref.new.port) c.in-Err.stop c.in-Err.ensures.found c.in-Err.ensures.plain c.in-Err.ensures.stops
+    c.put_ref.ensures.puts c.put_ref.ensures.plain
+
+pub returns-in-Ok-Counted-clause-course : goal.returns-in-Ok-Counted-clause-course
+returns-in-Ok-Counted-clause-course g c =
+    let v = g.P.Port.value c.args.port.now in
+    let u = g.P.Port.value c.take_type.new.port in
+    let e = c.in-Ok-Counted in counted_took v u c.args.frame c.args.owner (type_took v u c.args.frame c.args.owner e.field-0 Counted e.field-0-is e.ensures.found e.ensures.plain e.ensures.waits)
+
+pub returns-in-Ok-Waiting-clause-course : goal.returns-in-Ok-Waiting-clause-course
+returns-in-Ok-Waiting-clause-course g c =
+    let v = g.P.Port.value c.args.port.now in
+    let u = g.P.Port.value c.take_type.new.port in
+    let e = c.in-Ok-Waiting in
+    waiting_took v u c.args.frame c.args.owner (g.P.Port.value c.leave_page.new.port) e.stop e.own e.stamp
+    (type_took v u c.args.frame c.args.owner e.field-0 (Waiting e.own e.stamp e.stop) e.field-0-is e.ensures.found e.ensures.plain e.ensures.waits) c.leave_page.ensures.course
+
 -- ---- it is not to be had
 
 pub put_ref-requires-clause-gives : goal.put_ref-requires-clause-gives
@@ -28,11 +49,6 @@ returns-in-Err-clause-stops g c =
     let w = g.P.Port.value c.put_ref.new.port in
     stops_page (g.P.Port.value c.args.port.now) u c.args.frame c.args.owner w c.in-Err.stop (serves_came u w _ [] c.put_ref.ensures.serves) c.in-Err.ensures.stops
 
-pub returns-in-Err-clause-course : goal.returns-in-Err-clause-course
-returns-in-Err-clause-course g c =
-    untyped_took (g.P.Port.value c.args.port.now) (g.P.Port.value c.take_type.new.port) c.args.frame c.args.owner (g.P.Port.value c.put_ref.new.port) c.in-Err.stop c.in-Err.ensures.found c.in-Err.ensures.plain c.in-Err.ensures.stops
-    c.put_ref.ensures.puts c.put_ref.ensures.plain
-
 -- ---- it is ordinary memory
 
 pub returns-in-Ok-Counted-clause-came : goal.returns-in-Ok-Counted-clause-came
@@ -40,12 +56,6 @@ returns-in-Ok-Counted-clause-came g c = serves_came (g.P.Port.value c.args.port.
 
 pub returns-in-Ok-Counted-clause-serves : goal.returns-in-Ok-Counted-clause-serves
 returns-in-Ok-Counted-clause-serves g c = counted_serves (g.P.Port.value c.args.port.now) (g.P.Port.value c.take_type.new.port) c.args.frame c.args.owner c.in-Ok-Counted.ensures.serves
-
-pub returns-in-Ok-Counted-clause-course : goal.returns-in-Ok-Counted-clause-course
-returns-in-Ok-Counted-clause-course g c =
-    let v = g.P.Port.value c.args.port.now in
-    let u = g.P.Port.value c.take_type.new.port in
-    let e = c.in-Ok-Counted in counted_took v u c.args.frame c.args.owner (type_took v u c.args.frame c.args.owner e.field-0 Counted e.field-0-is e.ensures.found e.ensures.plain e.ensures.waits)
 
 -- ---- it waits
 
@@ -62,11 +72,3 @@ returns-in-Ok-Waiting-clause-stops g c =
     let e = c.in-Ok-Waiting in
     let shows : ShowsWait v u c.args.frame c.args.owner Writable (Waiting e.own e.stamp e.stop) = subst (λ t. ShowsWait v u c.args.frame c.args.owner Writable t) e.field-0-is e.ensures.waits in
     stops_page v u c.args.frame c.args.owner (g.P.Port.value c.leave_page.new.port) e.stop c.leave_page.ensures.came shows.1
-
-pub returns-in-Ok-Waiting-clause-course : goal.returns-in-Ok-Waiting-clause-course
-returns-in-Ok-Waiting-clause-course g c =
-    let v = g.P.Port.value c.args.port.now in
-    let u = g.P.Port.value c.take_type.new.port in
-    let e = c.in-Ok-Waiting in
-    waiting_took v u c.args.frame c.args.owner (g.P.Port.value c.leave_page.new.port) e.stop e.own e.stamp
-    (type_took v u c.args.frame c.args.owner e.field-0 (Waiting e.own e.stamp e.stop) e.field-0-is e.ensures.found e.ensures.plain e.ensures.waits) c.leave_page.ensures.course
