@@ -1,0 +1,4 @@
+mod Asking
+mod Left
+mod Taken
+mod Got

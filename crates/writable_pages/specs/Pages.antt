@@ -1,5 +1,5 @@
 -- Frames taken as ordinary memory: by which calls, what is in hand then, and what a guest sees of it.
-use Rattle.std.specs.Prelude.{◌≡◌, ◌⊎◌, ℕ, ◌+◌, ◌==◌, ◌++◌, not, Bool, true, false, List, [], ◌∷◌, None, Some, Result, Ok, Err}
+use Rattle.std.specs.Prelude.{◌≡◌, ◌⊎◌, ℕ, ◌+◌, ◌==◌, ◌++◌, not, Bool, true, false, List, [], ◌∷◌, Some, Result, Ok, Err}
 use Rattle.xp_words.specs.declared.kind.PageType.TheVariants.{Writable}
 use Rattle.xp_words.specs.declared.place.Place.TheVariants.{Kind}
 use Rattle.xp_words.specs.declared.reply.Stop.{Stop}
@@ -16,6 +16,7 @@ use Rattle.frame_words.specs.Freeing.{gave}
 use Rattle.kind_words.specs.Kinds.{partial_kind}
 use Rattle.frame_types.specs.Found.{DeadBy, SharedBy}
 use Rattle.frame_types.specs.Plain.{is_refused}
+use Rattle.frame_types.specs.Leaving.{WaitsFrom}
 use Rattle.frame_types.specs.Taking.{IsTypeStop, typed_as}
 use Rattle.frame_types.specs.declared.taking.Taken.TheVariants.{Counted, Waiting}
 use Rattle.kept_marks.specs.Marks.{IsForeign, KeptFor}
@@ -70,3 +71,15 @@ pub data GotPage (v : PortValue) (f owner : ℕ) : PortValue → Result ℕ Stop
   unreferred : (w : PortValue) (stop : Stop) → GotRef v w f owner (Err stop) → GotPage v f owner w (Err stop)
   refused : (u w : PortValue) (stop : Stop) → GotRef v u f owner (Ok f) → TookPage u f owner w (Err stop) → GotPage v f owner w (Err stop)
   had : (u w : PortValue) → GotRef v u f owner (Ok f) → TookPage u f owner w (Ok tt) → GotPage v f owner w (Ok f)
+
+-- ---- a frame that waits
+-- in the own works, marked, from wherever it came there
+abbrev pub IsPageWaiting : PortValue → ℕ → ℕ → Bool → ℕ → Type 0
+IsPageWaiting v f owner own stamp = (b : PortValue) × WaitsFrom b v f owner Writable own stamp
+
+-- left: from there on, what is in hand, and what a guest sees behind steps that serve its type
+abbrev pub LeavesWaiting : PortValue → PortValue → ℕ → ℕ → Bool → ℕ → Stop → Type 0
+LeavesWaiting v w f owner own stamp stop = (b : PortValue) → WaitsFrom b v f owner Writable own stamp → LeavesPage b w f owner (Err stop)
+
+abbrev pub ServesLeft : PortValue → PortValue → ℕ → ℕ → Stop → Type 0
+ServesLeft v w f owner stop = (u : PortValue) → Serves u v (of_frame f owner (Some Writable)) [] → ServesPage {A = Unit {0}} u w f owner (Err stop)

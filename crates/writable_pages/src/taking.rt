@@ -8,7 +8,9 @@ ghost use Rattle.frame_types.specs.Taking.{LentBy};
 ghost use Rattle.kept_marks.specs.Marks.{IsForeign};
 ghost use Rattle.table_words.specs.OldWords.{known_old};
 ghost use Rattle.table_words.specs.declared.old_words.OldWord.TheVariants.{First};
-ghost use Rattle.writable_pages.specs.Pages.{GotPage, IsPageStop, LeavesGot, LeavesPage, ServesPage, TookPage, of_page};
+ghost use Rattle.flush_waits.specs.Waiting.{IsWait};
+ghost use Rattle.frame_types.specs.Plain.{is_refused};
+ghost use Rattle.writable_pages.specs.Pages.{GotPage, IsPageStop, IsPageWaiting, LeavesGot, LeavesPage, LeavesWaiting, PageLeft, ServesLeft, ServesPage, TookPage, of_page};
 
 use frame_types::{Taken, leave_dead, leave_shared, take_type};
 use frame_words::{get_ref, put_ref};
@@ -68,4 +70,32 @@ pub fn get_page<P: Port>(port: &mut P, f: u64, owner: u16) -> Result<u32, Stop>
     let frame = get_ref(port, f, owner)?;
     take_page(port, frame, owner)?;
     Ok(frame)
+}
+
+// Leaves a frame in the own works that waits for a flush which is not to be had. `own`: its type count is in hand; a refusal leaves
+// the frame dead with its mark and a new stamp, and a pause puts that into the `kept` mark. Else it is left partial as it was found.
+fn leave_page<P: Port>(port: &mut P, frame: u32, owner: u16, own: bool, stamp: u64, stop: Stop)
+    requires frame { frame < (P.value port.old).post.machine.frames }
+    requires may { MayWork (P.value port.old) }
+    requires waits { IsPageWaiting (P.value port.old) frame owner own stamp }
+    requires real { owner < length (P.value port.old).post.machine.page_limit }
+    requires looked { (P.value port.old).holdings.looking ≡ [] }
+    requires room { IsForeign (P.value port.old) owner → known_old First (P.value port.old).holdings ≡ Some 0 }
+    requires wait { IsWait stop }
+    ensures came { Came (P.value port.old) (P.value port.new) }
+    ensures serves { ServesLeft (P.value port.old) (P.value port.new) frame owner stop }
+    ensures hand { LeavesWaiting (P.value port.old) (P.value port.new) frame owner own stamp stop }
+    ensures course { PageLeft (P.value port.old) (P.value port.new) frame owner stamp own (is_refused stop) }
+{
+    if !own {
+        leave_shared(port, frame, PageType::Writable, stamp);
+        return;
+    }
+    match stop {
+        Stop::Refused(_) => leave_dead(port, frame, PageType::Writable),
+        Stop::Paused(_) => {
+            let kind = waiting_kind(PageType::Writable, true, stamp);
+            leave_kept(port, frame, kind, owner);
+        }
+    }
 }

@@ -1,0 +1,65 @@
+use Rattle.std.proofs.Common.{true, false, [], Err, sym, subst}
+use Rattle.xp_words.specs.declared.kind.PageType.TheVariants.{Writable}
+use Rattle.frame_types.specs.Leaving.{WaitsFrom}
+use Rattle.frame_types.specs.Plain.{is_refused}
+use Rattle.kept_marks.specs.Marks.{KeptFor, LeavesKept}
+use Rattle.writable_pages.specs.Pages.{LeavesPage, PageLeft}
+use Rattle.writable_pages.proofs.Asking.{kept_serves, plain_serves}
+use Rattle.writable_pages.proofs.Left.{kept_leaves, leaves_back, page_known, page_may}
+use Rattle.writable_pages.proofs.taking.leave_page.Goals as goal
+
+-- ---- the type count is another holder's
+
+pub returns-then-not-own-clause-serves : goal.returns-then-not-own-clause-serves
+returns-then-not-own-clause-serves g c u before =
+    plain_serves u (g.P.Port.value c.leave_shared.new.port) c.args.frame c.args.owner c.args.stop c.requires.wait (c.leave_shared.ensures.serves u c.args.owner [] before)
+
+pub returns-then-not-own-clause-hand : goal.returns-then-not-own-clause-hand
+returns-then-not-own-clause-hand g c b waits =
+    leaves_back b (g.P.Port.value c.leave_shared.new.port) c.args.frame c.args.owner c.args.stop
+    (c.leave_shared.ensures.hand b c.args.owner c.args.stamp (subst (λ y. WaitsFrom b (g.P.Port.value c.args.port.now) c.args.frame c.args.owner Writable y c.args.stamp) c.if-not-own.true waits))
+
+-- ---- refused
+
+pub returns-in-Refused-clause-serves : goal.returns-in-Refused-clause-serves
+returns-in-Refused-clause-serves g c u before =
+    plain_serves u (g.P.Port.value c.leave_dead.new.port) c.args.frame c.args.owner c.args.stop c.requires.wait (c.leave_dead.ensures.serves u c.args.owner [] before)
+
+pub returns-in-Refused-clause-hand : goal.returns-in-Refused-clause-hand
+returns-in-Refused-clause-hand g c b waits =
+    leaves_back b (g.P.Port.value c.leave_dead.new.port) c.args.frame c.args.owner c.args.stop
+    (c.leave_dead.ensures.hand b c.args.owner c.args.stamp (subst (λ y. WaitsFrom b (g.P.Port.value c.args.port.now) c.args.frame c.args.owner Writable y c.args.stamp) c.if-not-own.false waits))
+
+-- ---- paused
+
+pub leave_kept-requires-clause-leaves : goal.leave_kept-requires-clause-leaves
+leave_kept-requires-clause-leaves g c =
+    let v = g.P.Port.value c.args.port.now in
+    let w = c.requires.waits in
+    rw c.waiting_kind-kind.ensures (page_may w.0 v c.args.frame c.args.owner c.args.stamp (subst (λ y. WaitsFrom w.0 v c.args.frame c.args.owner Writable y c.args.stamp) c.if-not-own.false w.1))
+
+pub leave_kept-requires-clause-known : goal.leave_kept-requires-clause-known
+leave_kept-requires-clause-known g c =
+    let v = g.P.Port.value c.args.port.now in
+    let w = c.requires.waits in
+    page_known w.0 v c.args.frame c.args.owner c.args.stamp (subst (λ y. WaitsFrom w.0 v c.args.frame c.args.owner Writable y c.args.stamp) c.if-not-own.false w.1)
+
+pub returns-in-Paused-clause-serves : goal.returns-in-Paused-clause-serves
+returns-in-Paused-clause-serves g c u before =
+    kept_serves u (g.P.Port.value c.args.port.now) (g.P.Port.value c.leave_kept.new.port) c.args.frame c.args.owner c.args.stop c.in-Paused.field-0 c.in-Paused.is c.requires.wait c.leave_kept.ensures.serves before
+
+pub returns-in-Paused-clause-hand : goal.returns-in-Paused-clause-hand
+returns-in-Paused-clause-hand g c b waits =
+    let v = g.P.Port.value c.args.port.now in
+    let d = g.P.Port.value c.leave_kept.new.port in
+    subst (λ e. LeavesPage b d c.args.frame c.args.owner (Err e)) (sym c.in-Paused.is)
+    (kept_leaves b v c.args.frame c.args.owner c.args.stamp (subst (λ y. WaitsFrom b v c.args.frame c.args.owner Writable y c.args.stamp) c.if-not-own.false waits) c.requires.looked d c.in-Paused.field-0
+    (subst (λ k. LeavesKept v d c.args.frame k c.args.owner) c.waiting_kind-kind.ensures c.leave_kept.ensures.hand))
+
+pub returns-in-Paused-clause-course : goal.returns-in-Paused-clause-course
+returns-in-Paused-clause-course g c =
+    let v = g.P.Port.value c.args.port.now in
+    let d = g.P.Port.value c.leave_kept.new.port in
+    subst (λ e. PageLeft v d c.args.frame c.args.owner c.args.stamp c.args.own (is_refused e)) (sym c.in-Paused.is)
+    (subst (λ y. PageLeft v d c.args.frame c.args.owner c.args.stamp y false) (sym c.if-not-own.false)
+    (subst (λ k. KeptFor v d c.args.frame k c.args.owner) c.waiting_kind-kind.ensures c.leave_kept.ensures.course))
