@@ -111,7 +111,7 @@ module _ (v b : PortValue) (f owner : ℕ) (idle : IsIdle v) (referred : Holds v
       is_table own = record { low = low; high = high; done = few }
 
       is_work : (own : Bool) (o : WorksFrom b x f owner (level_type level) progress own) → IsTableWork (sizes_of v.post.machine) (taken_table f level progress own) o.work
-      is_work own o = record { inside = inside; frame = o.works.frame; work = o.works.in_work; kind = o.works.kind; unmarked = o.unmarked }
+      is_work own o = record { inside = inside; frame = o.works.frame; work = o.works.in_work; kind = o.works.kind; unmarked = o.unmarked; lent = λ old. absurd cc }
 
       taken_carries : (own : Bool) → WorksFrom b x f owner (level_type level) progress own → Carries v x owner (taken_table f level progress own ∷ [])
       taken_carries true o =

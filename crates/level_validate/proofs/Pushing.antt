@@ -97,7 +97,7 @@ module _ (v u w : PortValue) (owner : ℕ) (t : TableWork) (ts : List TableWork)
   unfolding seen
   seen_table =
       let is = is_table_work in
-      record { inside = is.inside; frame = learned_frame i word e ∙ is.frame; work = subst (λ y. IsTrue (is_work (kind_fields y))) (sym (learned_word i word e)) is.work; kind = ap (λ y. (kind_fields y).kind) (learned_word i word e) ∙ is.kind; unmarked = ap (λ y. (kind_fields y).unflushed) (learned_word i word e) ∙ is.unmarked }
+      record { inside = is.inside; frame = learned_frame i word e ∙ is.frame; work = subst (λ y. IsTrue (is_work (kind_fields y))) (sym (learned_word i word e)) is.work; kind = ap (λ y. (kind_fields y).kind) (learned_word i word e) ∙ is.kind; unmarked = ap (λ y. (kind_fields y).unflushed) (learned_word i word e) ∙ is.unmarked; lent = is.lent }
 
   -- ---- the hand
   pub looked_hand : learned_cell t.frame i word u.holdings ≡ record u.holdings { works = seen ∷ es }
@@ -132,7 +132,7 @@ module _ (v u w : PortValue) (owner : ℕ) (t : TableWork) (ts : List TableWork)
       let st = s.stack in
       stands_by v u w owner (t ∷ ts) (record t { done = t.done + 1 } ∷ ts) u.holdings.refs u.holdings.typed (record seen { recorded = i + 1; unsettled = r } ∷ es) s hand
       (record { low = st.0.low; high = st.0.high; done = omega arith }, st.1, st.2)
-      (record { inside = is.inside; frame = is.frame; work = is.work; kind = is.kind; unmarked = is.unmarked }, innermost (ap (λ n. n + 1) at), around_done (t.done + 1))
+      (record { inside = is.inside; frame = is.frame; work = is.work; kind = is.kind; unmarked = is.unmarked; lent = is.lent }, innermost (ap (λ n. n + 1) at), around_done (t.done + 1))
       s.refs (typed_done (length w.holdings.steps) owner t (t.done + 1) ts u.holdings.typed typed_now)
 
   -- ---- another table came into work
