@@ -1,5 +1,5 @@
 -- The innermost table is left partial: when it may be, and what is in hand then.
-use Rattle.std.proofs.Common.{◌≡◌, ℕ, ◌+◌, ◌<◌, ◌≤◌, not, Bool, true, false, List, [], ◌∷◌, length, Option, Some, None, IsTrue, refl, sym, ap, ◌∙◌, subst, arith, inl, inr}
+use Rattle.std.proofs.Common.{◌≡◌, ◌≢◌, ℕ, ◌+◌, ◌<◌, ◌≤◌, not, Bool, true, false, List, [], ◌∷◌, length, Option, Some, None, IsTrue, refl, sym, ap, ◌∙◌, subst, arith, inl, inr}
 use Rattle.std.proofs.lemmas.Bool.{cases_eq}
 use Rattle.xp_words.specs.Entries.{demand_at}
 use Rattle.xp_words.specs.KindWords.{is_kind, kind_fields}
@@ -8,6 +8,7 @@ use Rattle.xp_words.specs.PageTypes.{is_table}
 use Rattle.xp_words.specs.Places.{Sizes, sizes_of}
 use Rattle.xp_words.specs.declared.entry.Demand.TheVariants.{Typed}
 use Rattle.xp_words.specs.declared.kind.KindWord.{KindWord}
+use Rattle.xp_words.specs.declared.kind.PageType.TheVariants.{Desc}
 use Rattle.xp_board.specs.declared.holdings.Holdings.{Holdings}
 use Rattle.xp_board.specs.declared.holdings.Made.{Made}
 use Rattle.xp_board.specs.declared.holdings.OwnerFound.TheVariants as owners
@@ -78,6 +79,10 @@ module _ (v w : PortValue) (owner : ℕ) (t : TableWork) (ts : List TableWork) (
 
   pub top_table : is_table (level_type t.level) ≡ true
   top_table = level_type-table t.level s.stack.0.low
+
+  -- it is no descriptor page
+  pub top_unpaged : level_type t.level ≢ Desc
+  top_unpaged is = let no : true ≡ false = sym top_table ∙ ap is_table is in absurd cc
 
   pub top_typed : t.own ≡ true → TopTyped (length w.holdings.steps) owner t ts w.holdings.typed
   top_typed own = typed_own (length w.holdings.steps) owner t ts w.holdings.typed own s.typed

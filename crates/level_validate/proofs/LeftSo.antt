@@ -37,6 +37,10 @@ module _ (v w : PortValue) (owner : ℕ) (t : TableWork) where
   outer_unwinds kept stack none left =
       subst (λ (ts : List TableWork). (x : PortValue) → Unwound w owner ts kept x → Unwound v owner (t ∷ ts) kept x) (sym none) (λ x same. subst (λ (y : PortValue). OutermostLeft v y owner t t.own kept) (sym same) left)
 
+  -- its type count goes into its mark
+  pub kept_left : (kept : Bool) → kept ≡ true → KeptFor v w t.frame (partial_kind (level_type t.level) true false t.done 0) owner → OutermostLeft v w owner t true kept
+  kept_left kept on left = subst (λ (b : Bool). OutermostLeft v w owner t true b) (sym on) left
+
   -- inside another one: its type count is in hand, and the one around it stays as it was
   pub own_unwinds : (kept : Bool) (stack : List TableWork) → (stack ≡ [] → ⊥) → t.own ≡ true → ((outer : TableWork) (ts : List TableWork) → stack ≡ outer ∷ ts → InnerLeft v w t outer true) → UnwindsOn v w owner kept (t ∷ stack) stack
   unfolding UnwindsOn
