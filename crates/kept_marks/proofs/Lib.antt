@@ -1,0 +1,5 @@
+pub mod Hands
+pub mod Keeping
+pub mod MarkWords
+pub mod Serving
+pub mod Taking
