@@ -1,5 +1,5 @@
 -- The last recorded entry again by its steps: which there are, by what became of it.
-use Rattle.std.proofs.Common.{◌≡◌, ℕ, List, Bool, true, false, Result, Ok, Err, refl, sym, subst}
+use Rattle.std.proofs.Common.{◌≡◌, ℕ, List, true, false, Result, Ok, Err, refl, sym, subst}
 use Rattle.xp_words.specs.Entries.{demand_at}
 use Rattle.xp_words.specs.Machine.{Machine}
 use Rattle.xp_words.specs.declared.entry.Demand.{Demand}
@@ -32,12 +32,12 @@ no_type_by n owner (Typed g t) none vs same = absurd (none g t refl)
 pub retaken : (x y : PortValue) (g : ℕ) (t : PageType) → TakesFound x y g t (Ok types.Counted) → Does x y (λ vs. TypedAgain x.post.machine g t (Ok (again.Taken g)) vs)
 retaken x y g t takes = does_as x y (λ ts. TakesOf g t types.Counted ts) (λ vs. TypedAgain x.post.machine g t (Ok (again.Taken g)) vs) (λ vs taken. (refl, taken)) takes
 
-pub reopened : (x y : PortValue) (g : ℕ) (t : PageType) (progress : ℕ) (own : Bool) → TakesFound x y g t (Ok (types.InWork progress own)) → Does x y (λ vs. TypedAgain x.post.machine g t (Ok (again.Opened g progress own)) vs)
-reopened x y g t progress own takes = does_as x y (λ ts. TakesOf g t (types.InWork progress own) ts) (λ vs. TypedAgain x.post.machine g t (Ok (again.Opened g progress own)) vs) (λ vs taken. (refl, taken)) takes
+pub reopened : (x y : PortValue) (g : ℕ) (t : PageType) (progress : ℕ) → TakesFound x y g t (Ok (types.InWork progress false)) → Does x y (λ vs. TypedAgain x.post.machine g t (Ok (again.Opened g progress)) vs)
+reopened x y g t progress takes = does_as x y (λ ts. TakesOf g t (types.InWork progress false) ts) (λ vs. TypedAgain x.post.machine g t (Ok (again.Opened g progress)) vs) (λ vs taken. (refl, taken)) takes
 
-pub rewaited : (x y : PortValue) (g : ℕ) (t : PageType) (own : Bool) (stamp : ℕ) (stop : Stop) → TakesFound x y g t (Ok (types.Waiting own stamp stop)) → Does x y (λ vs. TypedAgain x.post.machine g t (Ok (again.Waiting g own stamp stop)) vs)
-rewaited x y g t own stamp stop takes =
-    does_as x y (λ ts. TakesOf g t (types.Waiting own stamp stop) ts) (λ vs. TypedAgain x.post.machine g t (Ok (again.Waiting g own stamp stop)) vs) (λ vs taken. (refl, taken)) takes
+pub rewaited : (x y : PortValue) (g : ℕ) (t : PageType) (stamp : ℕ) (stop : Stop) → TakesFound x y g t (Ok (types.Waiting false stamp stop)) → Does x y (λ vs. TypedAgain x.post.machine g t (Ok (again.Waiting g stamp stop)) vs)
+rewaited x y g t stamp stop takes =
+    does_as x y (λ ts. TakesOf g t (types.Waiting false stamp stop) ts) (λ vs. TypedAgain x.post.machine g t (Ok (again.Waiting g stamp stop)) vs) (λ vs taken. (refl, taken)) takes
 
 module _ (b u : PortValue) (f i : ℕ) (t : PageType) (word : ℕ) (looks : SeesEntry b u f i t word) (owner : ℕ) where
   -- the look at the entry, and the rest by what it asks

@@ -23,3 +23,6 @@ pub mod TwinsLeft
 pub mod FoundEntering
 pub mod FoundWaiting
 pub mod FoundResuming
+pub mod LastEntry
+pub mod LastSeen
+pub mod LastOwn

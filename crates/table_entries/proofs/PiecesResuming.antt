@@ -79,11 +79,11 @@ module _ (b u v : PortValue) (f i owner pages : ℕ) (t : PageType) (word g : �
       pub resumes_taken : Progress (Met b y) → Resumes b y f i owner pages t (Ok (again.Taken g))
       resumes_taken more = record { serves = y_goes.serves; stops = tt; kinds = tt; shows = (y_below, more); looks = y_goes.looks }
 
-      pub resumes_opened : (progress : ℕ) (own : Bool) → Resumes b y f i owner pages t (Ok (again.Opened g progress own))
-      resumes_opened progress own = record { serves = y_goes.serves; stops = tt; kinds = tt; shows = y_below; looks = y_goes.looks }
+      pub resumes_opened : (progress : ℕ) → Resumes b y f i owner pages t (Ok (again.Opened g progress))
+      resumes_opened progress = record { serves = y_goes.serves; stops = tt; kinds = tt; shows = y_below; looks = y_goes.looks }
 
-      pub resumes_waiting : (own : Bool) (stamp : ℕ) (stop : Stop) → IsWait stop → Stops x y (of_frame g owner (Some want)) stop → Resumes b y f i owner pages t (Ok (again.Waiting g own stamp stop))
-      resumes_waiting own stamp stop is stops =
+      pub resumes_waiting : (stamp : ℕ) (stop : Stop) → IsWait stop → Stops x y (of_frame g owner (Some want)) stop → Resumes b y f i owner pages t (Ok (again.Waiting g stamp stop))
+      resumes_waiting stamp stop is stops =
           record { serves = y_goes.serves; stops = tt; kinds = tt; shows = (y_below, is, waits_stops b x f i owner pages g want one two y stop is types stops); looks = y_goes.looks }
 
     -- the type is not to be had, and the reference was given back

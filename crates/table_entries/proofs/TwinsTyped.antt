@@ -1,5 +1,5 @@
 -- Types that an entry takes, on a board that tells all words: behind the reference.
-use Rattle.std.proofs.Common.{◌≡◌, ℕ, Bool, true, Some, Ok, Err, refl, sym, ap, ◌∙◌, subst}
+use Rattle.std.proofs.Common.{◌≡◌, ℕ, Bool, true, false, Some, Ok, Err, refl, sym, ap, ◌∙◌, subst}
 use Rattle.xp_words.specs.declared.kind.PageType.{PageType}
 use Rattle.xp_words.specs.declared.place.Place.TheVariants.{Kind}
 use Rattle.xp_words.specs.declared.reply.Pause.TheVariants as pauses
@@ -57,11 +57,11 @@ module _ (u y : PortValue) (g h : ℕ) (t : PageType) (at : h ≡ g) (telling : 
   pub again_counted : TwinTake u y h t (Ok types.Counted) → TypesAgain y (told_word u) g t (Ok (again.Taken h))
   again_counted twin = (at, taken_of types.Counted twin, taken_there types.Counted twin y refl)
 
-  pub again_opened : (progress : ℕ) (own : Bool) → TwinTake u y h t (Ok (types.InWork progress own)) → TypesAgain y (told_word u) g t (Ok (again.Opened h progress own))
-  again_opened progress own twin = (at, taken_of (types.InWork progress own) twin, taken_there (types.InWork progress own) twin y refl)
+  pub again_opened : (progress : ℕ) → TwinTake u y h t (Ok (types.InWork progress false)) → TypesAgain y (told_word u) g t (Ok (again.Opened h progress))
+  again_opened progress twin = (at, taken_of (types.InWork progress false) twin, taken_there (types.InWork progress false) twin y refl)
 
-  pub again_waiting : (own : Bool) (stamp : ℕ) (stop : Stop) → TwinTake u y h t (Ok (types.Waiting own stamp stop)) → TypesAgain y (told_word u) g t (Ok (again.Waiting h own stamp stop))
-  again_waiting own stamp stop twin = (at, taken_of (types.Waiting own stamp stop) twin, taken_there (types.Waiting own stamp stop) twin y refl)
+  pub again_waiting : (stamp : ℕ) (stop : Stop) → TwinTake u y h t (Ok (types.Waiting false stamp stop)) → TypesAgain y (told_word u) g t (Ok (again.Waiting h stamp stop))
+  again_waiting stamp stop twin = (at, taken_of (types.Waiting false stamp stop) twin, taken_there (types.Waiting false stamp stop) twin y refl)
 
   -- ---- or it is not to be had, and the reference is given back
   module _ (z : PortValue) (came : Came u y) (puts : is_telling y ≡ true → Leaves z (put h (told_word y))) where

@@ -25,22 +25,13 @@ pub enum Resumed {
     /// It stands as it was recorded: its frame is live, or it asks no type. Nothing was taken.
     Settled,
     /// Its frame was partial, and has been made live meanwhile. A typed reference to it is in hand, one more than the entry has.
-    Taken {
-        frame: u32,
-    },
+    Taken { frame: u32 },
     /// Its frame is partial, and in the own works now, past its flush and with so many entries recorded. The entry has its type count, and
     /// an untyped reference is in hand.
-    Opened {
-        frame: u32,
-        progress: u16,
-    },
+    Opened { frame: u32, progress: u16 },
     /// Its frame is in the own works with its mark, and nothing of it is recorded: its flush is not to be had, and why. The entry has its
     /// type count, and an untyped reference is in hand.
-    Waiting {
-        frame: u32,
-        stamp: u64,
-        stop: Stop,
-    },
+    Waiting { frame: u32, stamp: u64, stop: Stop },
 }
 
 /// SeesEntry again at the last recorded entry of the newest table in the own works, of which `at.index + 1` are recorded: its frame may

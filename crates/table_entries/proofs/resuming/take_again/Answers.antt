@@ -10,6 +10,7 @@ use Rattle.table_entries.proofs.HandTyped.{given_up, opens_from, opens_waiting, 
 use Rattle.table_entries.proofs.HandAgain.{live_same, looked_again, taken_settled, takes_behind}
 use Rattle.xp_words.specs.declared.reply.Stop.{Stop}
 use Rattle.table_entries.specs.declared.resuming.Resumed.{Resumed}
+use Rattle.table_entries.proofs.LastOwn.{again_in_work, again_waits}
 use Rattle.table_entries.proofs.PiecesLive.{ends_live, gets_on}
 use Rattle.table_entries.proofs.PiecesResuming.{resumes_opened, resumes_taken, resumes_unreferred, resumes_untyped, resumes_waiting}
 use Rattle.step_maker.proofs.Telling.{came_telling}
@@ -86,28 +87,34 @@ returns-in-Ok-Counted-clause-hand g c b u word l asks live =
     )
 
 pub returns-in-Ok-InWork-clause-hand : goal.returns-in-Ok-InWork-clause-hand
-returns-in-Ok-InWork-clause-hand g c b u word l asks live =
+returns-in-Ok-InWork-clause-hand g c b u word looks asks live =
     let v = g.P.Port.value c.args.port.now in
     let r = g.P.Port.value c.get_ref.new.port in
-    let at = c.args.at in
     let x = g.P.Port.value c.take_type.new.port in
+    let at = c.args.at in
+    let f = c.in_ok-frame.frame in
     let got = c.in_ok-frame.ensures in
-    let takes = takes_behind u v r c.in_ok-frame.frame at.owner (live_same u v c.args.frame false live) got.hand in
-    let asked = asks ∙ ap (λ n. Typed n c.args.want) (sym got.frame.0) in
+    let same = sym got.frame.0 in
+    let asked = asks ∙ ap (λ k. Typed k c.args.want) same in
+    let off = subst (λ k. LooksLive u v k false) same live in
     let way = c.in-Ok-InWork in
-    opens_from b u at.table at.index at.kind word l.looks at.owner c.in_ok-frame.frame c.args.want asked r takes x way.progress way.own (subst (λ k. TakesAs r x c.in_ok-frame.frame at.owner c.args.want k) way.field-0-is way.ensures.hand).1
+    let is = again_in_work b u v r at.table at.index at.kind word f at.owner c.args.want looks asked off got.hand x way.field-0 way.ensures.found way.progress _ way.field-0-is in
+    opens_from b u at.table at.index at.kind word looks.looks at.owner f c.args.want asked r (takes_behind u v r f at.owner (live_same u v f false off) got.hand) x way.progress false (subst (λ k. TakesAs r x f at.owner c.args.want k) is way.ensures.hand).1
 
 pub returns-in-Ok-Waiting-clause-hand : goal.returns-in-Ok-Waiting-clause-hand
-returns-in-Ok-Waiting-clause-hand g c b u word l asks live =
+returns-in-Ok-Waiting-clause-hand g c b u word looks asks live =
     let v = g.P.Port.value c.args.port.now in
     let r = g.P.Port.value c.get_ref.new.port in
-    let at = c.args.at in
     let x = g.P.Port.value c.take_type.new.port in
+    let at = c.args.at in
+    let f = c.in_ok-frame.frame in
     let got = c.in_ok-frame.ensures in
-    let takes = takes_behind u v r c.in_ok-frame.frame at.owner (live_same u v c.args.frame false live) got.hand in
-    let asked = asks ∙ ap (λ n. Typed n c.args.want) (sym got.frame.0) in
+    let same = sym got.frame.0 in
+    let asked = asks ∙ ap (λ k. Typed k c.args.want) same in
+    let off = subst (λ k. LooksLive u v k false) same live in
     let way = c.in-Ok-Waiting in
-    opens_waiting b u at.table at.index at.kind word l.looks at.owner c.in_ok-frame.frame c.args.want asked r takes x way.own way.stamp (subst (λ k. TakesAs r x c.in_ok-frame.frame at.owner c.args.want k) way.field-0-is way.ensures.hand)
+    let is = again_waits b u v r at.table at.index at.kind word f at.owner c.args.want looks asked off got.hand x way.field-0 way.ensures.found _ way.stamp way.stop way.field-0-is in
+    opens_waiting b u at.table at.index at.kind word looks.looks at.owner f c.args.want asked r (takes_behind u v r f at.owner (live_same u v f false off) got.hand) x false way.stamp (subst (λ k. TakesAs r x f at.owner c.args.want k) is way.ensures.hand)
 
 pub returns-in-Err-clause-hand : goal.returns-in-Err-clause-hand
 returns-in-Err-clause-hand g c b u word l asks live =
@@ -157,7 +164,7 @@ returns-in-Ok-InWork-clause-resumes g c b u word looks is other pages =
     let same = sym c.in_ok-frame.ensures.frame.0 in
     let refers = subst (λ k. Serves v x (of_frame k at.owner None) []) same c.in_ok-frame.ensures.serves in
     resumes_opened b u v at.table at.index at.owner pages at.kind word f c.args.want looks (is ∙ ap (λ k. Typed k c.args.want) same) (subst (λ k. LooksLive u v k false) same other) x refers y c.in-Ok-InWork.ensures.serves
-    c.in-Ok-InWork.progress c.in-Ok-InWork.own
+    c.in-Ok-InWork.progress
 
 pub returns-in-Ok-Waiting-clause-resumes : goal.returns-in-Ok-Waiting-clause-resumes
 returns-in-Ok-Waiting-clause-resumes g c b u word looks is other pages =
@@ -170,7 +177,7 @@ returns-in-Ok-Waiting-clause-resumes g c b u word looks is other pages =
     let refers = subst (λ k. Serves v x (of_frame k at.owner None) []) same c.in_ok-frame.ensures.serves in
     let shows = subst (λ t. ShowsWait x y f at.owner c.args.want t) c.in-Ok-Waiting.field-0-is c.in-Ok-Waiting.ensures.waits in
     resumes_waiting b u v at.table at.index at.owner pages at.kind word f c.args.want looks (is ∙ ap (λ k. Typed k c.args.want) same) (subst (λ k. LooksLive u v k false) same other) x refers y c.in-Ok-Waiting.ensures.serves
-    c.in-Ok-Waiting.own c.in-Ok-Waiting.stamp c.in-Ok-Waiting.stop shows.0 shows.1
+    c.in-Ok-Waiting.stamp c.in-Ok-Waiting.stop shows.0 shows.1
 
 pub returns-in-Err-clause-resumes : goal.returns-in-Err-clause-resumes
 returns-in-Err-clause-resumes g c b u word looks is other pages =
@@ -207,26 +214,40 @@ returns-in-Ok-Counted-clause-plain g c b u word looks asks live =
 pub returns-in-Ok-InWork-clause-plain : goal.returns-in-Ok-InWork-clause-plain
 returns-in-Ok-InWork-clause-plain g c b u word looks asks live =
     let v = g.P.Port.value c.args.port.now in
-    let x = g.P.Port.value c.get_ref.new.port in
-    let y = g.P.Port.value c.take_type.new.port in
-    let answer = Ok (again.Opened c.in_ok-frame.frame c.in-Ok-InWork.progress c.in-Ok-InWork.own) in
-    twin_again b u v c.args.at.table c.args.at.index c.args.at.owner c.args.at.kind word c.args.frame c.args.want looks.looks.look asks live y answer
+    let r = g.P.Port.value c.get_ref.new.port in
+    let x = g.P.Port.value c.take_type.new.port in
+    let at = c.args.at in
+    let f = c.in_ok-frame.frame in
+    let got = c.in_ok-frame.ensures in
+    let same = sym got.frame.0 in
+    let asked = asks ∙ ap (λ k. Typed k c.args.want) same in
+    let off = subst (λ k. LooksLive u v k false) same live in
+    let way = c.in-Ok-InWork in
+    let is = again_in_work b u v r at.table at.index at.kind word f at.owner c.args.want looks asked off got.hand x way.field-0 way.ensures.found way.progress _ way.field-0-is in
+    let answer = Ok (again.Opened f way.progress) in
+    twin_again b u v at.table at.index at.owner at.kind word c.args.frame c.args.want looks.looks.look asks live x answer
     (λ telling.
-    again_behind v x c.args.frame c.in_ok-frame.frame c.args.at.owner c.in_ok-frame.ensures.plain telling y c.args.want answer
-    (again_opened x y c.args.frame c.in_ok-frame.frame c.args.want c.in_ok-frame.ensures.frame.0 (came_telling v x (serves_came v x (of_frame c.args.frame c.args.at.owner None) [] c.in_ok-frame.ensures.serves) ∙ telling) c.in-Ok-InWork.progress c.in-Ok-InWork.own
-    (subst (λ k. TwinTake x y c.in_ok-frame.frame c.args.want (Ok k)) c.in-Ok-InWork.field-0-is c.in-Ok-InWork.ensures.plain)))
+    again_behind v r c.args.frame f at.owner got.plain telling x c.args.want answer
+    (again_opened r x c.args.frame f c.args.want got.frame.0 (came_telling v r (serves_came v r (of_frame c.args.frame at.owner None) [] got.serves) ∙ telling) way.progress (subst (λ k. TwinTake r x f c.args.want (Ok k)) is way.ensures.plain)))
 
 pub returns-in-Ok-Waiting-clause-plain : goal.returns-in-Ok-Waiting-clause-plain
 returns-in-Ok-Waiting-clause-plain g c b u word looks asks live =
     let v = g.P.Port.value c.args.port.now in
-    let x = g.P.Port.value c.get_ref.new.port in
-    let y = g.P.Port.value c.take_type.new.port in
-    let answer = Ok (again.Waiting c.in_ok-frame.frame c.in-Ok-Waiting.own c.in-Ok-Waiting.stamp c.in-Ok-Waiting.stop) in
-    twin_again b u v c.args.at.table c.args.at.index c.args.at.owner c.args.at.kind word c.args.frame c.args.want looks.looks.look asks live y answer
+    let r = g.P.Port.value c.get_ref.new.port in
+    let x = g.P.Port.value c.take_type.new.port in
+    let at = c.args.at in
+    let f = c.in_ok-frame.frame in
+    let got = c.in_ok-frame.ensures in
+    let same = sym got.frame.0 in
+    let asked = asks ∙ ap (λ k. Typed k c.args.want) same in
+    let off = subst (λ k. LooksLive u v k false) same live in
+    let way = c.in-Ok-Waiting in
+    let is = again_waits b u v r at.table at.index at.kind word f at.owner c.args.want looks asked off got.hand x way.field-0 way.ensures.found _ way.stamp way.stop way.field-0-is in
+    let answer = Ok (again.Waiting f way.stamp way.stop) in
+    twin_again b u v at.table at.index at.owner at.kind word c.args.frame c.args.want looks.looks.look asks live x answer
     (λ telling.
-    again_behind v x c.args.frame c.in_ok-frame.frame c.args.at.owner c.in_ok-frame.ensures.plain telling y c.args.want answer
-    (again_waiting x y c.args.frame c.in_ok-frame.frame c.args.want c.in_ok-frame.ensures.frame.0 (came_telling v x (serves_came v x (of_frame c.args.frame c.args.at.owner None) [] c.in_ok-frame.ensures.serves) ∙ telling) c.in-Ok-Waiting.own c.in-Ok-Waiting.stamp
-    c.in-Ok-Waiting.stop (subst (λ k. TwinTake x y c.in_ok-frame.frame c.args.want (Ok k)) c.in-Ok-Waiting.field-0-is c.in-Ok-Waiting.ensures.plain)))
+    again_behind v r c.args.frame f at.owner got.plain telling x c.args.want answer
+    (again_waiting r x c.args.frame f c.args.want got.frame.0 (came_telling v r (serves_came v r (of_frame c.args.frame at.owner None) [] got.serves) ∙ telling) way.stamp way.stop (subst (λ k. TwinTake r x f c.args.want (Ok k)) is way.ensures.plain)))
 
 pub returns-in-Err-clause-plain : goal.returns-in-Err-clause-plain
 returns-in-Err-clause-plain g c b u word looks asks live =
@@ -263,28 +284,36 @@ returns-in-Ok-Counted-clause-found g c b u word looks asks off =
     (subst (λ k. Gets v x k at.owner (Ok f)) same c.in_ok-frame.ensures.gets) (retaken x y f c.args.want (subst (λ k. TakesFound x y f c.args.want (Ok k)) way.field-0-is way.ensures.found))
 
 pub returns-in-Ok-InWork-clause-found : goal.returns-in-Ok-InWork-clause-found
-returns-in-Ok-InWork-clause-found g c b u word looks asks off =
+returns-in-Ok-InWork-clause-found g c b u word looks asks live =
     let v = g.P.Port.value c.args.port.now in
-    let x = g.P.Port.value c.get_ref.new.port in
-    let y = g.P.Port.value c.take_type.new.port in
+    let r = g.P.Port.value c.get_ref.new.port in
+    let x = g.P.Port.value c.take_type.new.port in
     let at = c.args.at in
     let f = c.in_ok-frame.frame in
+    let got = c.in_ok-frame.ensures in
+    let same = sym got.frame.0 in
+    let asked = asks ∙ ap (λ k. Typed k c.args.want) same in
+    let off = subst (λ k. LooksLive u v k false) same live in
     let way = c.in-Ok-InWork in
-    let same = sym c.in_ok-frame.ensures.frame.0 in
-    resumes_had b u at.table at.index at.kind word looks.looks at.owner f c.args.want (asks ∙ ap (λ k. Typed k c.args.want) same) v (subst (λ k. LooksLive u v k false) same off) x y f (Ok (again.Opened f way.progress way.own))
-    (subst (λ k. Gets v x k at.owner (Ok f)) same c.in_ok-frame.ensures.gets) (reopened x y f c.args.want way.progress way.own (subst (λ k. TakesFound x y f c.args.want (Ok k)) way.field-0-is way.ensures.found))
+    let is = again_in_work b u v r at.table at.index at.kind word f at.owner c.args.want looks asked off got.hand x way.field-0 way.ensures.found way.progress _ way.field-0-is in
+    resumes_had b u at.table at.index at.kind word looks.looks at.owner f c.args.want asked v off r x f (Ok (again.Opened f way.progress)) (subst (λ k. Gets v r k at.owner (Ok f)) same got.gets)
+    (reopened r x f c.args.want way.progress (subst (λ k. TakesFound r x f c.args.want (Ok k)) is way.ensures.found))
 
 pub returns-in-Ok-Waiting-clause-found : goal.returns-in-Ok-Waiting-clause-found
-returns-in-Ok-Waiting-clause-found g c b u word looks asks off =
+returns-in-Ok-Waiting-clause-found g c b u word looks asks live =
     let v = g.P.Port.value c.args.port.now in
-    let x = g.P.Port.value c.get_ref.new.port in
-    let y = g.P.Port.value c.take_type.new.port in
+    let r = g.P.Port.value c.get_ref.new.port in
+    let x = g.P.Port.value c.take_type.new.port in
     let at = c.args.at in
     let f = c.in_ok-frame.frame in
+    let got = c.in_ok-frame.ensures in
+    let same = sym got.frame.0 in
+    let asked = asks ∙ ap (λ k. Typed k c.args.want) same in
+    let off = subst (λ k. LooksLive u v k false) same live in
     let way = c.in-Ok-Waiting in
-    let same = sym c.in_ok-frame.ensures.frame.0 in
-    resumes_had b u at.table at.index at.kind word looks.looks at.owner f c.args.want (asks ∙ ap (λ k. Typed k c.args.want) same) v (subst (λ k. LooksLive u v k false) same off) x y f (Ok (again.Waiting f way.own way.stamp way.stop))
-    (subst (λ k. Gets v x k at.owner (Ok f)) same c.in_ok-frame.ensures.gets) (rewaited x y f c.args.want way.own way.stamp way.stop (subst (λ k. TakesFound x y f c.args.want (Ok k)) way.field-0-is way.ensures.found))
+    let is = again_waits b u v r at.table at.index at.kind word f at.owner c.args.want looks asked off got.hand x way.field-0 way.ensures.found _ way.stamp way.stop way.field-0-is in
+    resumes_had b u at.table at.index at.kind word looks.looks at.owner f c.args.want asked v off r x f (Ok (again.Waiting f way.stamp way.stop)) (subst (λ k. Gets v r k at.owner (Ok f)) same got.gets)
+    (rewaited r x f c.args.want way.stamp way.stop (subst (λ k. TakesFound r x f c.args.want (Ok k)) is way.ensures.found))
 
 pub returns-in-Err-clause-found : goal.returns-in-Err-clause-found
 returns-in-Err-clause-found g c b u word looks asks off =

@@ -1,5 +1,5 @@
 -- A hand in which the last recorded entry of a table was loaded last: what each step finds then.
-use Rattle.std.proofs.Common.{◌≡◌, ◌⊎◌, ℕ, ◌+◌, ◌<◌, ◌||◌, true, false, Some, IsTrue, sym, ap, ◌∙◌, subst}
+use Rattle.std.proofs.Common.{◌≡◌, ◌⊎◌, ℕ, ◌+◌, ◌<◌, ◌||◌, if◌then◌else◌, true, false, Option, Some, None, IsTrue, sym, ap, ◌∙◌, subst}
 use Rattle.xp_words.specs.Entries.{demand_at, is_lowest}
 use Rattle.xp_words.specs.KindWords.{kind_fields}
 use Rattle.xp_words.specs.Machine.{Machine}
@@ -13,14 +13,17 @@ use Rattle.xp_words.specs.declared.place.Place.TheVariants.{Kind, Refs}
 use Rattle.xp_board.specs.declared.holdings.Holdings.{Holdings}
 use Rattle.xp_board.specs.declared.holdings.Unsettled.{Unsettled}
 use Rattle.xp_board.specs.declared.holdings.Work.{Work}
+use Rattle.xp_board.specs.After.{learned_last, learned_work}
 use Rattle.xp_board.specs.Hands.{work_on}
 use Rattle.xp_board.specs.Readings.{is_live, is_live_word, is_partial, is_work, kind_at, owner_of, ref_count, type_count}
 use Rattle.xp_board.specs.Recorded.{entry_demand}
 use Rattle.xp_board.specs.Steps.{some_since}
 use Rattle.xp_board.specs.Told.{Finds}
+use Rattle.board_lemmas.proofs.Sums.{when_eq}
 use Rattle.board_lemmas.proofs.WorkFacts.{loaded_asks, works_facts}
 use Rattle.table_words.specs.Entries.{ShedsLast}
-use Rattle.table_releases.proofs.LastEntry.{plain_inside, typed_counts, typed_inside, typed_kind, typed_leads, typed_owned, typed_referred, typed_unkept}
+use Rattle.table_entries.proofs.HandReady.{learned_word, unmarked_learns}
+use Rattle.table_entries.proofs.LastEntry.{plain_inside, typed_counts, typed_inside, typed_kind, typed_leads, typed_owned, typed_referred, typed_unkept}
 
 pub record SeenLast (f i : ℕ) (t : PageType) (word : ℕ) (h : Holdings) : Type 0 where
   pub work : Work
@@ -35,6 +38,29 @@ pub record SeenLast (f i : ℕ) (t : PageType) (word : ℕ) (h : Holdings) : Typ
 -- it may be shed
 abbrev pub seen_sheds : (f i : ℕ) (t : PageType) (word : ℕ) (h : Holdings) → SeenLast f i t word h → ShedsLast f i h
 seen_sheds f i t word h l = record { work = l.work; may = record { here = l.here; table = subst (λ k. IsTrue (is_table k)) (sym l.kind) l.table; last = l.last; word = word; seen = l.seen } }
+
+-- the last recorded entry, once it was looked at
+pub last_loaded : (i n w : ℕ) (o : Option Unsettled) → i + 1 ≡ n → (u : Unsettled) → learned_last i n w o ≡ Some u → u.word ≡ Some w
+last_loaded i n w None is u at = absurd cc
+last_loaded i n w (Some q) is u at =
+    let same : Some (record q { word = Some w }) ≡ Some u = sym (ap (λ b. if b then Some (record q { word = Some w }) else Some q) (when_eq (i + 1) n is)) ∙ at in
+    let whole : record q { word = Some w } ≡ u = cc in
+    sym (ap (λ (y : Unsettled). y.word) whole)
+
+abbrev pub learned_seen : (f i : ℕ) (t : PageType) (word : ℕ) (e : Work) (h : Holdings) → work_on f h.works ≡ Some (learned_work i word e) → (kind_fields e.word).kind ≡ t → IsTrue (is_table t) →
+    (kind_fields e.word).unflushed ≡ false → e.recorded ≡ i + 1 → SeenLast f i t word h
+learned_seen f i t word e h here kind table unmarked recorded =
+    let learns = unmarked_learns i word e unmarked in
+    record {
+      work = learned_work i word e;
+      here = here;
+      kind = ap (λ w. (kind_fields w).kind) (learned_word i word e) ∙ kind;
+      table = table;
+      unmarked = ap (λ w. (kind_fields w).unflushed) (learned_word i word e) ∙ unmarked;
+      last = ap (λ (y : Work). y.recorded) learns ∙ recorded;
+      seen = ap (λ (y : Work). y.seen) learns;
+      loaded = λ u at. last_loaded i e.recorded word e.unsettled (sym recorded) u (sym (ap (λ (y : Work). y.unsettled) learns) ∙ at);
+    }
 
 -- ---- what a step finds then
 module _ (n : Machine) (s : ℕ) (h : Holdings) (p : Place) (x : ℕ) (finds : Finds n s h p x) (f i : ℕ) (t : PageType) (e : Work) (here : work_on f h.works ≡ Some e) (kind : (kind_fields e.word).kind ≡ t)
