@@ -20,7 +20,7 @@ use Rattle.level_validate.specs.Courses.{UnwindsOn}
 use Rattle.level_validate.specs.Forward.{Forward}
 use Rattle.level_validate.specs.Leaving.{LeftWell}
 use Rattle.level_validate.specs.Serving.{CarriesOn, ServesLeft, ServesTo}
-use Rattle.level_validate.specs.Tables.{IsStanding, Carries}
+use Rattle.level_validate.specs.Tables.{IsStanding, Carries, StandsOn}
 use Rattle.level_validate.specs.Unwinding.{Unwinds, UnwindsTo, UnwoundHand, UnwoundTo, around_lent, left_so, named_unless, outermost_frame, outermost_named}
 use Rattle.level_validate.proofs.Forward.{forward_nothing, forward_then}
 use Rattle.level_validate.proofs.LeavingTables.{top, top_gone, top_kept, top_typed}
@@ -89,6 +89,30 @@ module _ (v w : PortValue) (owner : ℕ) (t : TableWork) (s : Carries v w owner 
       )
 
 -- ---- a table inside another one
+-- ---- one table
+module _ (u w : PortValue) (owner : ℕ) (kept : Bool) (t : TableWork) where
+  -- it was the only one
+  pub none_hand : (us : List TableWork) → us ≡ [] → Unwinds u w owner kept (t ∷ []) → UnwindsTo u w owner kept (t ∷ us) us
+  none_hand us none left = subst (λ (rs : List TableWork). UnwindsTo u w owner kept (t ∷ rs) rs) (sym none) left
+
+  pub none_serves : (us : List TableWork) → us ≡ [] → ServesLeft u w owner kept t.frame (t ∷ []) [] → ServesTo u w owner kept (t ∷ us) us
+  none_serves us none left = subst (λ (rs : List TableWork). ServesTo u w owner kept (t ∷ rs) rs) (sym none) left
+
+  -- others stand around it
+  pub some_hand : (ts us : List TableWork) → us ≢ [] → StandsOn u w owner ts us → UnwindsTo u w owner kept ts us
+  some_hand ts [] some stands = absurd (some refl)
+  some_hand ts (r ∷ rs) some stands = stands
+
+  pub some_serves : (ts us : List TableWork) → us ≢ [] → CarriesOn u w owner ts us [] → ServesTo u w owner kept ts us
+  some_serves ts [] some goes = absurd (some refl)
+  some_serves ts (r ∷ rs) some goes = goes
+
+-- they still do
+pub around_some : (b : Bool) (ts us : List TableWork) → us ≡ around_lent b ts → ts ≢ [] → us ≢ []
+around_some true ts us is some none = some (sym is ∙ none)
+around_some false [] us is some none = some refl
+around_some false (u ∷ ts) us is some none = let no : record u { done = u.done - 1 } ∷ ts ≡ [] = sym is ∙ none in absurd cc
+
 -- it stays the outermost one
 outermost_within : (t : TableWork) (ts : List TableWork) → ts ≢ [] → outermost_work ts ≡ outermost_work (t ∷ ts)
 outermost_within t [] some = absurd (some refl)
