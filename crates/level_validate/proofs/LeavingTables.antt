@@ -60,6 +60,10 @@ reaches_under z steps t e g o inner new (under_way h word new2 next settled seen
     record { word = word; next = next; settled = settled; seen = seen; asks = asks ∙ ap (λ (y : TableWork). Typed y.frame (level_type y.level)) (inner_is h g inner) }
 reaches_under z steps t e g o inner new (taken_on h word old all some last seen asks) = absurd cc
 
+-- no level is that of a descriptor page
+pub level_type-unpaged : (l : ℕ) → 1 ≤ l → level_type l ≢ Desc
+level_type-unpaged l low is = let no : true ≡ false = sym (level_type-table l low) ∙ ap is_table is in absurd cc
+
 -- ---- the store
 module _ (v w : PortValue) (owner : ℕ) (t : TableWork) (ts : List TableWork) (s : Carries v w owner (t ∷ ts)) where
   pub top : TopTable (sizes_of v.post.machine) w.holdings.steps None t ts w.holdings.works
@@ -82,7 +86,7 @@ module _ (v w : PortValue) (owner : ℕ) (t : TableWork) (ts : List TableWork) (
 
   -- it is no descriptor page
   pub top_unpaged : level_type t.level ≢ Desc
-  top_unpaged is = let no : true ≡ false = sym top_table ∙ ap is_table is in absurd cc
+  top_unpaged = level_type-unpaged t.level s.stack.0.low
 
   pub top_typed : t.own ≡ true → TopTyped (length w.holdings.steps) owner t ts w.holdings.typed
   top_typed own = typed_own (length w.holdings.steps) owner t ts w.holdings.typed own s.typed

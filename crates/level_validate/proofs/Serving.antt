@@ -12,10 +12,12 @@ use Rattle.xp_board.specs.Told.{Post, PortValue}
 use Rattle.step_maker.specs.Moves.{Came, Met, Moment, Moves}
 use Rattle.step_maker.proofs.Coming.{came_post, met_before, moves_came}
 use Rattle.answer_fits.specs.Answers.{Deed, Misses, Serves}
-use Rattle.answer_fits.specs.Asked.{IsAsked, Request, of, of_back}
+use Rattle.answer_fits.specs.Asked.{Asked, IsAsked, Request, of, of_back, of_frame}
 use Rattle.answer_fits.specs.Finding.{Finding}
 use Rattle.answer_fits.specs.Reasons.{keeps_type}
-use Rattle.answer_fits.proofs.Piecing.{same_request, serves_back, serves_came, serves_step}
+use Rattle.answer_fits.proofs.Piecing.{same_request, serves_back, serves_call, serves_came, serves_step}
+use Rattle.frame_types.specs.Leaving.{ServesType}
+use Rattle.table_entries.proofs.PiecesTaking.{left_serves}
 use Rattle.frame_types.proofs.Serving.{kept_type, work_alive}
 use Rattle.kind_words.proofs.KindFacts.{work_word}
 use Rattle.kind_words.proofs.KindWriting.{fields_write}
@@ -138,6 +140,12 @@ kept_hidden u owner kept f ds on (inr one) = inr (one.0, on, one.1)
 
 pub marked_kept : (u w : PortValue) (r : Request) (owner : ℕ) (kept : Bool) (f : ℕ) (ds : List Deed) → kept ≡ true → ServesMark u w r f owner ds → ServesMarked u w r owner kept f ds
 marked_kept u w r owner kept f ds on a = record { more = a.more; hidden = kept_hidden u owner kept f a.more on a.hidden; serves = a.serves }
+
+-- a frame that waits is left so that its type is served
+pub type_left : (u x w : PortValue) (r : Request) (ds : List Deed) (f owner level : ℕ) → Serves u x r ds → Asked u.post.machine u.post.vcpu r (Met u x) f owner (Some (level_type level)) → ServesType x w f (level_type level) → Serves u w r ds
+type_left u x w r ds f owner level before asks types =
+    let left = left_serves x w f owner (level_type level) types in
+    serves_call u x w r ds [] before f owner (Some (level_type level)) asks (serves_came x w (of_frame f owner (Some (level_type level))) [] left) left
 
 -- tables that are left behind steps that go on
 pub foreign_still : (v w : PortValue) (owner : ℕ) → Came v w → IsForeign w owner → IsForeign v owner
