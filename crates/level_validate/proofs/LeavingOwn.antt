@@ -35,7 +35,7 @@ use Rattle.table_entries.proofs.HandReady.{settled_more}
 use Rattle.partial_state.proofs.LevelFacts.{level_type-table}
 use Rattle.partial_state.specs.declared.stack.TableWork.{TableWork}
 use Rattle.partial_state.specs.Levels.{level_type}
-use Rattle.level_validate.specs.Tables.{AreTables, IsTableWork, Carries, innermost, refs_for}
+use Rattle.level_validate.specs.Tables.{IsTableWork, Carries, innermost, refs_for}
 use Rattle.level_validate.specs.Unwinding.{left_so}
 use Rattle.level_validate.proofs.LeavingTables.{UnderWay, reaches_under, top, top_gone, top_spelled, top_typed}
 use Rattle.level_validate.proofs.StandsFacts.{TopTable, TopTyped, refs_own, stands_by, stands_post, tables_later, tables_top, top_known, typed_later}

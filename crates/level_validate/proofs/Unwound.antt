@@ -21,7 +21,7 @@ use Rattle.level_validate.specs.Forward.{Forward}
 use Rattle.level_validate.specs.Leaving.{LeftWell}
 use Rattle.level_validate.specs.Serving.{CarriesOn, ServesLeft, ServesTo}
 use Rattle.level_validate.specs.Tables.{IsStanding, Carries, StandsOn}
-use Rattle.level_validate.specs.Unwinding.{Unwinds, UnwindsTo, UnwoundHand, UnwoundTo, around_lent, left_so, named_unless, outermost_frame, outermost_named}
+use Rattle.level_validate.specs.Unwinding.{Unwinds, UnwindsTo, UnwoundHand, UnwoundTo, around_lent, left_so, named_unless, outermost_frame}
 use Rattle.level_validate.proofs.Forward.{forward_nothing, forward_then}
 use Rattle.level_validate.proofs.LeavingTables.{top, top_gone, top_kept, top_typed}
 use Rattle.level_validate.proofs.LeavingOwn.{typed_gone}

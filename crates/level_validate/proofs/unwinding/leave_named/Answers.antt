@@ -1,4 +1,4 @@
-use Rattle.std.proofs.Common.{true, false, [], ◌∷◌, ◌+◌, ◌≡◌, refl, ap, sym, ◌∙◌, subst}
+use Rattle.std.proofs.Common.{true, false, [], ◌∷◌, ◌+◌, refl, ap, sym, ◌∙◌, subst}
 use Rattle.xp_words.specs.declared.kind.KindWord.{KindWord}
 use Rattle.step_maker.proofs.Coming.{came_trans, moves_came}
 use Rattle.answer_fits.specs.Asked.{of}

@@ -1,7 +1,7 @@
-use Rattle.std.proofs.Common.{◌∷◌, refl}
+use Rattle.std.proofs.Common.{refl}
 use Rattle.level_validate.proofs.LeftWell.{well_more}
 use Rattle.level_validate.proofs.LeftSo.{outer_unwinds}
-use Rattle.level_validate.proofs.Unwound.{around_some, none_hand, none_serves, some_hand, some_serves}
+use Rattle.level_validate.proofs.Unwound.{none_hand, none_serves}
 use Rattle.level_validate.proofs.unwinding.leave_table.Goals as goal
 
 -- ---- it is the only one
