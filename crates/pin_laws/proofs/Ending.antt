@@ -19,11 +19,11 @@ acquired_came v f owner level _ _ _ (unreferred w stop ref) = does_came v w _ re
 acquired_came v f owner level _ _ _ (untyped u x w stop ref type back) = came_trans v u w (does_came v u _ ref.found) (came_trans u x w (does_came u x _ type.found) (gave_came x w f back))
 acquired_came v f owner level _ _ _ (counted u w ref type) = came_trans v u w (does_came v u _ ref.found) (does_came u w _ type.found)
 acquired_came v f owner level _ _ _ (waiting u x w own stamp stop ref type left) =
-    came_trans v u w (does_came v u _ ref.found) (came_trans u x w (does_came u x _ type.found) (left_came x w f level stamp own (keeps_it stop) left))
+    came_trans v u w (does_came v u _ ref.found) (came_trans u x w (does_came u x _ type.found) (left_came x w f level owner stamp own (keeps_it stop) left))
 acquired_came v f owner level _ _ _ (unfinished u x y w progress own us answers stop ref type work left) =
     came_trans v u w (does_came v u _ ref.found)
     (came_trans u x w (does_came u x _ type.found)
-    (came_trans x y w (worked_came owner x (outermost_table f level progress own) y us answers _ work) (unwound_came y us (keeps_it stop) w left)))
+    (came_trans x y w (worked_came owner x (outermost_table f level progress own) y us answers _ work) (unwound_came y owner us (keeps_it stop) w left)))
 acquired_came v f owner level _ _ _ (finished u x y w progress own t answers ref type work full made) =
     came_trans v u w (does_came v u _ ref.found)
     (came_trans u x w (does_came u x _ type.found)
