@@ -175,12 +175,12 @@ module _ (v : PortValue) (f owner level : ℕ) (machine : IsMachine v.post.machi
   untyped_ends u x (Paused (pauses.Busy k y)) ref type = tt
   untyped_ends u x (Paused (pauses.Alive k y)) ref type = tt
 
-  pub first_call : (w : PortValue) (answers : List Bool) (answer : Result ℕ Stop) → Acquired v f owner level w answers answer → CallOutcome v.post.machine owner w f level (record { outcome = alone v.post.machine owner level f (plain_of (told_word v)); whole = true }) answer
-  first_call _ _ _ (unreferred w stop ref) = ends_call n owner w f level a stop (unreferred_ends w stop ref)
-  first_call _ _ _ (untyped u x w stop ref type back) = ends_call n owner w f level a stop (untyped_ends u x stop ref type)
+  pub first_call : (w : PortValue) (answers : List Bool) (answer : Result ℕ Stop) → Acquired v f owner level w answers answer → CallOutcome v.post.machine owner v w f level (record { outcome = alone v.post.machine owner level f (plain_of (told_word v)); whole = true }) answer
+  first_call _ _ _ (unreferred w stop ref) = ends_call n owner v w f level a stop (unreferred_ends w stop ref)
+  first_call _ _ _ (untyped u x w stop ref type back) = ends_call n owner v w f level a stop (untyped_ends u x stop ref type)
   first_call _ _ _ (counted u w ref type) = counted_done u w ref type
-  first_call _ _ _ (waiting u x w own stamp stop ref type left) = ends_call n owner w f level a stop (wait_ends a stop type.waits.0)
+  first_call _ _ _ (waiting u x w own stamp stop ref type left) = ends_call n owner v w f level a stop (wait_ends a stop type.waits.0)
   first_call _ _ _ (unfinished u x y w progress own us answers stop ref type work left) =
-      left_call n owner f level a machine x [] (outermost_table f level progress own) (begun u x ref progress own type) (refl, refl) y w us answers stop work left
+      left_call n owner f level a machine x [] (outermost_table f level progress own) (begun u x ref progress own type) (refl, refl) v (came_trans v u x (does_came v u _ ref.found) (does_came u x _ type.found)) y w us answers stop work left
   first_call _ _ _ (finished u x y w progress own k answers ref type work full made) =
       done_call n owner f level a machine x [] (outermost_table f level progress own) (begun u x ref progress own type) (refl, refl) y w k answers work full made

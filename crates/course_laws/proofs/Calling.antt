@@ -14,7 +14,7 @@ use Rattle.xp_board.specs.Readings.{is_dead, kind_at}
 use Rattle.xp_board.specs.Told.{Post, PortValue, is_telling, told_word}
 use Rattle.step_maker.specs.Moves.{Came}
 use Rattle.step_maker.specs.Plain.{Words}
-use Rattle.step_maker.proofs.Coming.{came_post, came_trans}
+use Rattle.step_maker.proofs.Coming.{came_post, came_trans, met_after}
 use Rattle.step_maker.proofs.Telling.{came_telling}
 use Rattle.answer_fits.specs.Twins.{Alike}
 use Rattle.answer_fits.proofs.Visiting.{does_came}
@@ -33,6 +33,7 @@ use Rattle.table_twins.specs.Answers.{IsSameAnswer}
 use Rattle.table_twins.proofs.Referring.{same_answer}
 use Rattle.table_twins.proofs.Sharing.{same_back}
 use Rattle.table_courses.specs.Acquiring.{Acquired, GotRef, MadeLive, keeps_it, TookType, Unwound, Worked, counted, cut_off, due, filled, finished, outermost_table, unfinished, unreferred, untyped, waiting}
+use Rattle.course_laws.specs.Courses.{FindsAlive}
 use Rattle.course_laws.proofs.Outermost.{IsOutermost, worked_outermost}
 use Rattle.course_laws.proofs.Stacking.{Refuses}
 use Rattle.course_laws.proofs.Completing.{put_kind}
@@ -46,6 +47,7 @@ use Rattle.course_laws.proofs.Retaking.{not_counted, not_stopped, own_is, progre
 use Rattle.course_laws.proofs.Travelling.{Ends, Leads, Steps, all_filled, live_steps, wait_ends}
 use Rattle.course_laws.proofs.Under.{Spelled, TableOf, Under, spelled_other}
 use Rattle.course_laws.proofs.Unwinding.{part, HalfAt, Parked, ParkedAt, parked_over, unwound}
+use Rattle.course_laws.proofs.Walking.{worked_came}
 
 -- ---- the tables
 module _ (n : Machine) (owner : ℕ) (a : Aim) (is : IsMachine n) where
@@ -92,19 +94,19 @@ pub record IsDone (n : Machine) (w : PortValue) (a : PlainOutcome) : Type 0 wher
   pub none : a.refusal ≡ None
   pub describes : Describes n (told_word w) a.left
 
-abbrev pub CallOutcome : Machine → ℕ → PortValue → ℕ → ℕ → Aim → Result ℕ Stop → Type 0
-CallOutcome n owner w f level a (Ok g) = IsDone n w a.outcome
-CallOutcome n owner w f level a (Err (Refused y)) = IsForWords a.whole y → Refuses a.outcome
-CallOutcome n owner w f level a (Err (Paused pauses.Due)) = ParkedAt n owner w f level a.outcome
-CallOutcome n owner w f level a (Err (Paused x)) = Unit {0}
+abbrev pub CallOutcome : Machine → ℕ → PortValue → PortValue → ℕ → ℕ → Aim → Result ℕ Stop → Type 0
+CallOutcome n owner v w f level a (Ok g) = IsDone n w a.outcome
+CallOutcome n owner v w f level a (Err (Refused y)) = IsForWords a.whole y → Refuses a.outcome
+CallOutcome n owner v w f level a (Err (Paused pauses.Due)) = FindsAlive v w owner → ParkedAt n owner w f level a.outcome
+CallOutcome n owner v w f level a (Err (Paused x)) = Unit {0}
 
-pub ends_call : (n : Machine) (owner : ℕ) (w : PortValue) (f level : ℕ) (a : Aim) (e : Stop) → Ends a e → CallOutcome n owner w f level a (Err e)
-ends_call n owner w f level a (Refused y) ends = ends
-ends_call n owner w f level a (Paused pauses.Due) ends = absurd ends
-ends_call n owner w f level a (Paused (pauses.Flush v y x)) ends = tt
-ends_call n owner w f level a (Paused (pauses.Lost x y z)) ends = tt
-ends_call n owner w f level a (Paused (pauses.Busy g x)) ends = tt
-ends_call n owner w f level a (Paused (pauses.Alive v x)) ends = tt
+pub ends_call : (n : Machine) (owner : ℕ) (v w : PortValue) (f level : ℕ) (a : Aim) (e : Stop) → Ends a e → CallOutcome n owner v w f level a (Err e)
+ends_call n owner v w f level a (Refused y) ends = ends
+ends_call n owner v w f level a (Paused pauses.Due) ends = absurd ends
+ends_call n owner v w f level a (Paused (pauses.Flush u y x)) ends = tt
+ends_call n owner v w f level a (Paused (pauses.Lost x y z)) ends = tt
+ends_call n owner v w f level a (Paused (pauses.Busy g x)) ends = tt
+ends_call n owner v w f level a (Paused (pauses.Alive u x)) ends = tt
 
 pub lent_none : (p : Plain) → IsSame (lent (extra []) p) p
 lent_none p = record { shares = λ g. by (p.shares g); kinds = λ g. refl; cells = λ g i. refl }
@@ -129,18 +131,19 @@ module _ (n : Machine) (owner f level : ℕ) (a : Aim) (is : IsMachine n) (x : P
       let k = h.half in
       record { machine = h.machine; telling = h.telling; half = record { plain = k.plain; under = k.under; describes = k.describes; spelled = k.spelled; flags = k.flags; settled = k.settled; mine = λ whole. absurd cc } }
 
-  pauses_by : (y w : PortValue) (us : List TableWork) → HalfAt n owner y [] us a → IsOutermost f level us → Unwound y us true w → ParkedAt n owner w f level a.outcome
-  pauses_by y w [] h out left = absurd out
-  pauses_by y w (o ∷ us) h out left = unwound n owner f level a.outcome us [] o y w (as_part y (o ∷ us) h) out left
+  pauses_by : (y w : PortValue) (us : List TableWork) → HalfAt n owner y [] us a → IsOutermost f level us → Unwound y owner us true w → FindsAlive y w owner → ParkedAt n owner w f level a.outcome
+  pauses_by y w [] h out left finds = absurd out
+  pauses_by y w (o ∷ us) h out left finds = unwound n owner f level a.outcome us [] o y w (as_part y (o ∷ us) h) out left finds
 
-  pub left_call : (y w : PortValue) (us : List TableWork) (answers : List Bool) (stop : Stop) → Worked owner x t y us answers (Err stop) → Unwound y us (keeps_it stop) w → CallOutcome n owner w f level a (Err stop)
-  left_call y w us answers (Refused z) work left = worked n owner a is rs x t y us answers (Err (Refused z)) g work
-  left_call y w us answers (Paused pauses.Due) work left =
+  pub left_call : (v : PortValue) → Came v x → (y w : PortValue) (us : List TableWork) (answers : List Bool) (stop : Stop) → Worked owner x t y us answers (Err stop) → Unwound y owner us (keeps_it stop) w → CallOutcome n owner v w f level a (Err stop)
+  left_call v came y w us answers (Refused z) work left = worked n owner a is rs x t y us answers (Err (Refused z)) g work
+  left_call v came y w us answers (Paused pauses.Due) work left = λ finds.
       pauses_by y w us (worked n owner a is rs x t y us answers (Err (Paused pauses.Due)) g work) (worked_outermost owner f level x t y us answers (Err (Paused pauses.Due)) work outer) left
-  left_call y w us answers (Paused (pauses.Flush v z k)) work left = tt
-  left_call y w us answers (Paused (pauses.Lost k z l)) work left = tt
-  left_call y w us answers (Paused (pauses.Busy h k)) work left = tt
-  left_call y w us answers (Paused (pauses.Alive v k)) work left = tt
+      (λ m met. finds m (met_after v y w m (came_trans v x y came (worked_came owner x t y us answers (Err (Paused pauses.Due)) work)) met))
+  left_call v came y w us answers (Paused (pauses.Flush u z k)) work left = tt
+  left_call v came y w us answers (Paused (pauses.Lost k z l)) work left = tt
+  left_call v came y w us answers (Paused (pauses.Busy h k)) work left = tt
+  left_call v came y w us answers (Paused (pauses.Alive u k)) work left = tt
 
   pub done_call : (y w : PortValue) (u : TableWork) (answers : List Bool) → Worked owner x t y (u ∷ []) answers (Ok tt) → u.done ≡ 512 → MadeLive y w u → IsDone n w a.outcome
   done_call y w u answers work full made =
@@ -318,12 +321,12 @@ module _ (n : Machine) (owner : ℕ) (a : PlainOutcome) (is : IsMachine n) (v : 
           half = subst (λ k. Half n owner (told_word x) g.parked.inner (k ∷ []) (part a)) same half;
         }
 
-  pub resumed_call : (w : PortValue) (answers : List Bool) (answer : Result ℕ Stop) → Acquired v t.frame owner t.level w answers answer → CallOutcome n owner w t.frame t.level (part a) answer
-  resumed_call _ _ _ (unreferred w stop ref) = ends_call n owner w t.frame t.level (part a) stop (unreferred_ends w stop ref)
+  pub resumed_call : (w : PortValue) (answers : List Bool) (answer : Result ℕ Stop) → Acquired v t.frame owner t.level w answers answer → CallOutcome n owner v w t.frame t.level (part a) answer
+  resumed_call _ _ _ (unreferred w stop ref) = ends_call n owner v w t.frame t.level (part a) stop (unreferred_ends w stop ref)
   resumed_call _ _ _ (untyped u x w stop ref type back) = absurd (untyped_never u x stop ref type)
   resumed_call _ _ _ (counted u w ref type) = absurd (counted_never u w ref type)
-  resumed_call _ _ _ (waiting u x w own stamp stop ref type left) = ends_call n owner w t.frame t.level (part a) stop (wait_ends (part a) stop type.waits.0)
+  resumed_call _ _ _ (waiting u x w own stamp stop ref type left) = ends_call n owner v w t.frame t.level (part a) stop (wait_ends (part a) stop type.waits.0)
   resumed_call _ _ _ (unfinished u x y w progress own us answers stop ref type work left) =
-      left_call n owner t.frame t.level (part a) is x g.parked.inner (outermost_table t.frame t.level progress own) (begins u x progress own ref type) (refl, refl) y w us answers stop work left
+      left_call n owner t.frame t.level (part a) is x g.parked.inner (outermost_table t.frame t.level progress own) (begins u x progress own ref type) (refl, refl) v (came u x progress own ref type) y w us answers stop work left
   resumed_call _ _ _ (finished u x y w progress own k answers ref type work full made) =
       done_call n owner t.frame t.level (part a) is x g.parked.inner (outermost_table t.frame t.level progress own) (begins u x progress own ref type) (refl, refl) y w k answers work full made

@@ -32,10 +32,10 @@ final_words (refusals.Clock x) final = final
 final_words _ final = tt
 
 -- of a first call
-first_last : (n : Machine) (owner : ℕ) (w : PortValue) (f level : ℕ) (a : PlainOutcome) (answer : Result ℕ Stop) → CallOutcome n owner w f level (record { outcome = a; whole = true }) answer → LastOutcome n w a answer
-first_last n owner w f level a (Ok g) o = o
-first_last n owner w f level a (Err (Refused y)) o = λ final. o (final_words y final)
-first_last n owner w f level a (Err (Paused x)) o = λ final. absurd final
+first_last : (n : Machine) (owner : ℕ) (v w : PortValue) (f level : ℕ) (a : PlainOutcome) (answer : Result ℕ Stop) → CallOutcome n owner v w f level (record { outcome = a; whole = true }) answer → LastOutcome n w a answer
+first_last n owner v w f level a (Ok g) o = o
+first_last n owner v w f level a (Err (Refused y)) o = λ final. o (final_words y final)
+first_last n owner v w f level a (Err (Paused x)) o = λ final. absurd final
 
 module _ (v : PortValue) (f owner level : ℕ) (machine : IsMachine v.post.machine) (telling : is_telling v ≡ true) (calm : IsAtRest v.post.machine (told_word v)) (orderly : IsOrderly v.post.machine (told_word v)) (low : 1 ≤ level) (high : level ≤ 4) where
   had_by : (n : Machine) (w : PortValue) (a : PlainOutcome) (answer : Result ℕ Stop) → IsDecided answer → LastOutcome n w a answer → (a.refusal ≡ None → IsHad answer) × (IsHad answer → a.refusal ≡ None)
@@ -55,7 +55,7 @@ module _ (v : PortValue) (f owner level : ℕ) (machine : IsMachine v.post.machi
 
   pub one_call : (w : PortValue) (answers : List Bool) (answer : Result ℕ Stop) → Acquired v f owner level w answers answer → LastOutcome v.post.machine w (alone v.post.machine owner level f (plain_of (told_word v))) answer
   one_call w answers answer acquired =
-      first_last v.post.machine owner w f level (alone v.post.machine owner level f (plain_of (told_word v))) answer (first_call v f owner level machine telling calm orderly low high w answers answer acquired)
+      first_last v.post.machine owner v w f level (alone v.post.machine owner level f (plain_of (told_word v))) answer (first_call v f owner level machine telling calm orderly low high w answers answer acquired)
 
   pub had_where_lawful : (w : PortValue) (answers : List Bool) (answer : Result ℕ Stop) → Acquired v f owner level w answers answer → IsDecided answer →
       (Lawful v.post.machine owner (told_word v) f (level_type level) → IsHad answer) × (IsHad answer → Lawful v.post.machine owner (told_word v) f (level_type level))

@@ -20,8 +20,8 @@ module _ (owner f level : ℕ) where
   on_outermost _ _ _ _ _ (fresh v t ts none) is = is
   on_outermost _ _ _ _ _ (settled v w t ts some a) is = is
   on_outermost _ _ _ _ _ (taken v u w t ts g some a b) is = is
-  on_outermost _ _ _ _ _ (opened v u w t ts us g progress own answer some a b) is = on_outermost u _ w us answer b is
-  on_outermost _ _ _ _ _ (waiting v u w t ts g own stamp stop some a b) is = is
+  on_outermost _ _ _ _ _ (opened v u w t ts us g progress answer some a b) is = on_outermost u _ w us answer b is
+  on_outermost _ _ _ _ _ (waiting v u w t ts g stamp stop some a b) is = is
   on_outermost _ _ _ _ _ (stopped v w t ts stop some a) is = is
 
   advanced_outermost : (v : PortValue) (ts : List TableWork) (w : PortValue) (us : List TableWork) (r : Result Bool Stop) → Advanced owner v ts w us r → IsOutermost f level ts → IsOutermost f level us

@@ -245,19 +245,19 @@ module _ (n : Machine) (owner : ℕ) (a : Aim) (is : IsMachine n) where
       ends_by e (Some y) refers b = let same : e ≡ Refused y = (let k = b.0 in cc) in subst (Ends a) (sym same) (λ known. absurd (ref_there n owner (told_word v) w r o rs us a is g.half y refers known))
       ends_by e None refers b = absurd (never_stopped n owner (told_word v) w r o rs us a is g.half refers e b.0)
 
-      opened_by : (f progress : ℕ) (own : Bool) (x : Option Refusal) → refer n owner r.frame (told_word v (Refs r.frame)) ≡ x → AgainBy w (told_word v) r.frame (level_type r.level) (Ok (again.Opened f progress own)) x →
-          Half n owner (told_word w) rs (table_in o f progress own true ∷ o ∷ us) a
-      opened_by f progress own (Some y) refers b = absurd (let e = b.0 in cc)
-      opened_by f progress own None refers b =
-          subst (λ f. Half n owner (told_word w) rs (table_in o f progress own true ∷ o ∷ us) a) (sym b.0) (retaken_half n owner (told_word v) w r o rs us a is g.half refers progress own b.1 b.2)
+      opened_by : (f progress : ℕ) (x : Option Refusal) → refer n owner r.frame (told_word v (Refs r.frame)) ≡ x → AgainBy w (told_word v) r.frame (level_type r.level) (Ok (again.Opened f progress)) x →
+          Half n owner (told_word w) rs (table_in o f progress false true ∷ o ∷ us) a
+      opened_by f progress (Some y) refers b = absurd (let e = b.0 in cc)
+      opened_by f progress None refers b =
+          subst (λ f. Half n owner (told_word w) rs (table_in o f progress false true ∷ o ∷ us) a) (sym b.0) (retaken_half n owner (told_word v) w r o rs us a is g.half refers progress false b.1 b.2)
 
-      opened_at : (f progress : ℕ) (own : Bool) → ResumedEntry v w owner o (Ok (again.Opened f progress own)) → HalfAt n owner w rs (table_in o f progress own true ∷ o ∷ us) a
-      opened_at f progress own took =
+      opened_at : (f progress : ℕ) → ResumedEntry v w owner o (Ok (again.Opened f progress)) → HalfAt n owner w rs (table_in o f progress false true ∷ o ∷ us) a
+      opened_at f progress took =
           let came = again_came v w owner o _ took in
           record {
             machine = ap (λ (q : Post). q.machine) (came_post v w came) ∙ g.machine;
             telling = came_telling v w came ∙ g.telling;
-            half = opened_by f progress own (refer n owner r.frame (told_word v (Refs r.frame))) refl (found (Ok (again.Opened f progress own)) took);
+            half = opened_by f progress (refer n owner r.frame (told_word v (Refs r.frame))) refl (found (Ok (again.Opened f progress)) took);
           }
 
       some_done : 0 < o.done
@@ -270,8 +270,8 @@ module _ (n : Machine) (owner : ℕ) (a : Aim) (is : IsMachine n) where
   taken_on (r ∷ rs) _ _ _ _ _ g (settled v w t ts some took) = absurd (never_settled v w t ts r rs g _ (found v w t ts r rs g (Ok again.Settled) took))
   taken_on [] _ _ _ _ _ g (taken v u w t ts f some took back) = absurd (let e = (last_is v u t ts (Ok (again.Taken f)) g some took).0 in cc)
   taken_on (r ∷ rs) _ _ _ _ _ g (taken v u w t ts f some took back) = absurd (never_taken v u t ts r rs g f _ refl (found v u t ts r rs g (Ok (again.Taken f)) took))
-  taken_on [] _ _ _ _ _ g (opened v u w t ts us f progress own answer some took on) = absurd (let e = (last_is v u t ts (Ok (again.Opened f progress own)) g some took).0 in cc)
-  taken_on (r ∷ rs) _ _ _ _ _ g (opened v u w t ts us f progress own answer some took on) = taken_on rs u (table_in t f progress own true ∷ t ∷ ts) w us answer (opened_at v u t ts r rs g f progress own took) on
-  taken_on rs _ _ _ _ _ g (waiting v u w t ts f own stamp stop some took left) = wait_ends a stop (took.shows 0).1
+  taken_on [] _ _ _ _ _ g (opened v u w t ts us f progress answer some took on) = absurd (let e = (last_is v u t ts (Ok (again.Opened f progress)) g some took).0 in cc)
+  taken_on (r ∷ rs) _ _ _ _ _ g (opened v u w t ts us f progress answer some took on) = taken_on rs u (table_in t f progress false true ∷ t ∷ ts) w us answer (opened_at v u t ts r rs g f progress took) on
+  taken_on rs _ _ _ _ _ g (waiting v u w t ts f stamp stop some took left) = wait_ends a stop (took.shows 0).1
   taken_on [] _ _ _ _ _ g (stopped v w t ts stop some took) = absurd (let e = (last_is v w t ts (Err stop) g some took).0 in cc)
   taken_on (r ∷ rs) _ _ _ _ _ g (stopped v w t ts stop some took) = ends_by v w t ts r rs g stop _ refl (found v w t ts r rs g (Err stop) took)

@@ -49,8 +49,8 @@ pub on_stops : (owner : ℕ) (v : PortValue) (ts : List TableWork) (w : PortValu
 on_stops owner _ _ _ _ _ (fresh v t ts none) = tt
 on_stops owner _ _ _ _ _ (settled v w t ts some a) = tt
 on_stops owner _ _ _ _ _ (taken v u w t ts f some a b) = tt
-on_stops owner _ _ _ _ _ (opened v u w t ts us f progress own answer some a b) = behind_as v u w answer (again_came v u owner t _ a) (on_stops owner u _ w us answer b)
-on_stops owner _ _ _ _ _ (waiting v u w t ts f own stamp stop some a b) = ahead_of v u w stop (stops_here v u (of_entries owner 0) stop refl refl (a.shows 0).2) (waiting_came u w f _ own stamp b)
+on_stops owner _ _ _ _ _ (opened v u w t ts us f progress answer some a b) = behind_as v u w answer (again_came v u owner t _ a) (on_stops owner u _ w us answer b)
+on_stops owner _ _ _ _ _ (waiting v u w t ts f stamp stop some a b) = ahead_of v u w stop (stops_here v u (of_entries owner 0) stop refl refl (a.shows 0).2) (waiting_came u w f _ stamp b)
 on_stops owner _ _ _ _ _ (stopped v w t ts stop some a) = stops_here v w (of_entries owner 0) stop refl refl (a.stops 0)
 
 pub advanced_stops : (owner : ℕ) (v : PortValue) (ts : List TableWork) (w : PortValue) (us : List TableWork) (r : Result Bool Stop) → Advanced owner v ts w us r → StopsAs v w r
@@ -92,9 +92,9 @@ acquired_stops v f owner level _ _ _ (untyped u x w stop ref type back) none =
 acquired_stops v f owner level _ _ _ (counted u w ref type) none = tt
 acquired_stops v f owner level _ _ _ (waiting u x w own stamp stop ref type left) none =
     behind v u w stop (ref_came v u f owner _ ref)
-    (ahead_of u x w stop (stops_here u x (of_frame f owner (Some (level_type level))) stop refl refl type.waits.1) (left_came x w f level stamp own (keeps_it stop) left))
+    (ahead_of u x w stop (stops_here u x (of_frame f owner (Some (level_type level))) stop refl refl type.waits.1) (left_came x w f level owner stamp own (keeps_it stop) left))
 acquired_stops v f owner level _ _ _ (unfinished u x y w progress own us answers stop ref type work left) none =
     behind v u w stop (ref_came v u f owner _ ref)
     (behind u x w stop (does_came u x _ type.found)
-    (ahead_of x y w stop (worked_stops owner x (outermost_table f level progress own) y us answers (Err stop) work (λ e. let same : stop ≡ Paused Due = cc in none (ap Err same))) (unwound_came y us (keeps_it stop) w left)))
+    (ahead_of x y w stop (worked_stops owner x (outermost_table f level progress own) y us answers (Err stop) work (λ e. let same : stop ≡ Paused Due = cc in none (ap Err same))) (unwound_came y owner us (keeps_it stop) w left)))
 acquired_stops v f owner level _ _ _ (finished u x y w progress own t answers ref type work full made) none = tt

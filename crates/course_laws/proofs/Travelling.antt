@@ -44,8 +44,8 @@ pub taken_fresh : (owner : ℕ) (v : PortValue) (ts : List TableWork) (w : PortV
 taken_fresh owner _ _ _ _ _ (fresh v t ts none) is = (refl, refl, refl)
 taken_fresh owner _ _ _ _ _ (settled v w t ts some a) is = absurd (omega arith)
 taken_fresh owner _ _ _ _ _ (taken v u w t ts f some a b) is = absurd (omega arith)
-taken_fresh owner _ _ _ _ _ (opened v u w t ts us f progress own answer some a b) is = absurd (omega arith)
-taken_fresh owner _ _ _ _ _ (waiting v u w t ts f own stamp stop some a b) is = absurd (omega arith)
+taken_fresh owner _ _ _ _ _ (opened v u w t ts us f progress answer some a b) is = absurd (omega arith)
+taken_fresh owner _ _ _ _ _ (waiting v u w t ts f stamp stop some a b) is = absurd (omega arith)
 taken_fresh owner _ _ _ _ _ (stopped v w t ts stop some a) is = absurd (omega arith)
 
 -- at a port, behind an entry that is done with or not

@@ -1,19 +1,26 @@
 -- A pause parks the tables in work, the innermost first.
-use Rattle.std.proofs.Common.{◌≡◌, ◌⊎◌, ℕ, ◌+◌, ◌-◌, ◌||◌, not, if◌then◌else◌, Bool, true, false, List, [], ◌∷◌, IsTrue, refl, sym, ap, ◌∙◌, subst, inl, inr}
+use Rattle.std.proofs.Common.{◌≡◌, ◌⊎◌, ℕ, ◌+◌, ◌-◌, ◌||◌, not, if◌then◌else◌, Bool, true, false, List, [], ◌∷◌, None, IsTrue, refl, sym, ap, ◌∙◌, subst, inl, inr, ◌≢◌}
+use Rattle.std.proofs.Math.Path.{fun_ext}
 use Rattle.xp_words.specs.KindWords.{is_kind, kind_fields, kind_write}
 use Rattle.xp_words.specs.Machine.{Machine}
 use Rattle.xp_words.specs.declared.place.Place.{Place}
-use Rattle.xp_words.specs.declared.place.Place.TheVariants.{Cell, Kind, Refs}
+use Rattle.xp_words.specs.declared.kind.KindWord.{KindWord}
+use Rattle.xp_words.specs.declared.place.Place.TheVariants.{Cell, Kind, Life, Refs}
+use Rattle.xp_board.specs.declared.step.Act.TheVariants.{Load}
+use Rattle.xp_board.specs.declared.step.StepKind.TheVariants as kinds
 use Rattle.xp_board.specs.Readings.{is_dead}
 use Rattle.xp_board.specs.Told.{Post, PortValue, is_telling, told_word}
 use Rattle.step_maker.specs.Plain.{Words}
-use Rattle.step_maker.proofs.Coming.{came_post, moves_came}
+use Rattle.step_maker.specs.Moves.{Came, Moment, Moves}
+use Rattle.step_maker.proofs.Coming.{came_post, came_self, came_trans, met_after, moves_came}
 use Rattle.step_maker.proofs.Telling.{came_telling, leaves, load_tells}
 use Rattle.answer_fits.proofs.Alikes.{same_alike}
 use Rattle.frame_words.specs.Plain.{put}
 use Rattle.frame_types.specs.Plain.{set_kind}
 use Rattle.kind_words.specs.Kinds.{partial_kind}
 use Rattle.kind_words.proofs.KindWriting.{fields_write, partial_is}
+use Rattle.kept_marks.specs.Marks as marks
+use Rattle.kept_marks.specs.Marks.{KeptFor, LeftSo}
 use Rattle.partial_state.specs.Levels.{level_type}
 use Rattle.partial_state.proofs.LevelFacts.{level_type-table, level_type-typed}
 use Rattle.partial_state.specs.declared.stack.TableWork.{TableWork}
@@ -22,9 +29,10 @@ use Rattle.table_law.specs.Plain.{Describes, Plain, Share, at, reference_back, s
 use Rattle.table_law.proofs.Counting.{at_here, at_there}
 use Rattle.table_twins.proofs.Kinding.{described_alike}
 use Rattle.table_twins.proofs.Sharing.{same_back}
-use Rattle.table_courses.specs.Acquiring.{InnerLeft, LeftPartial, OutermostLeft, Unwound, around_left}
+use Rattle.table_courses.specs.Acquiring.{InnerLeft, OutermostLeft, Unwound, around_left}
+use Rattle.course_laws.specs.Courses.{FindsAlive}
 use Rattle.course_laws.proofs.Outermost.{IsOutermost}
-use Rattle.course_laws.proofs.Walking.{gave_came}
+use Rattle.course_laws.proofs.Walking.{gave_came, inner_came}
 use Rattle.course_laws.proofs.Completing.{IsKinded, back_lent, described_kind, put_kind, same_kinded, spelled_kind, stored_kinded}
 use Rattle.course_laws.proofs.Halfway.{Half, onto, over, overlay, tables_onto}
 use Rattle.course_laws.proofs.Extras.{described_same, extra, lent, more_of}
@@ -137,11 +145,37 @@ pub record ParkedAt (n : Machine) (owner : ℕ) (u : PortValue) (f level : ℕ) 
   pub telling : is_telling u ≡ true
   pub parked : Parked n owner (told_word u) f level a
 
-left_kinded : (v w : PortValue) (t : TableWork) (kept : Bool) → is_telling v ≡ true → LeftPartial v w t kept → IsKinded (told_word v) (told_word w) t.frame (kind_write (partial_kind (level_type t.level) kept false t.done 0))
+left_kinded : (v w : PortValue) (t : TableWork) (kept : Bool) → is_telling v ≡ true → LeftSo v w t.frame (partial_kind (level_type t.level) kept false t.done 0) → IsKinded (told_word v) (told_word w) t.frame (kind_write (partial_kind (level_type t.level) kept false t.done 0))
 left_kinded v w t kept telling left =
     let new = partial_kind (level_type t.level) kept false t.done 0 in
     let all = leaves v w _ _ _ _ _ left.1 telling in
     same_kinded (told_word v) (set_kind t.frame new (told_word v)) (told_word w) t.frame (kind_write new) (stored_kinded (told_word v) t.frame new) (λ h. all (Refs h)) (λ h i. all (Cell h i)) (λ h. all (Kind h))
+
+-- a frame that is left with its mark: where its domain is not found dying nothing else is left there
+pub record IsHome (v w : PortValue) (f : ℕ) (k : KindWord) : Type 0 where
+  pub left : PortValue
+  pub marked : LeftSo v left f k
+  pub same : (q : Place) → told_word w q ≡ told_word left q
+  pub came : Came left w
+
+found_dying : (v u x w : PortValue) (owner life : ℕ) → Came v u → Moves u x (Life owner) Load kinds.Look None life → Came x w → life ≢ 0 → FindsAlive v w owner → ⊥
+found_dying v u x w owner life before look after off finds =
+    let m : Moment = record { place = Life owner; act = Load; kind = kinds.Look; mark = None; found = life; hand = u.holdings } in
+    off (finds m (record { from = u; to = x; before = before; moved = record { moves = look; hand = refl }; after = after }) refl)
+
+pub at_home : (v w : PortValue) (f : ℕ) (k : KindWord) (owner : ℕ) → is_telling v ≡ true → KeptFor v w f k owner → FindsAlive v w owner → IsHome v w f k
+at_home v w f k owner telling (marks.own home a) finds = record { left = w; marked = a; same = λ q. refl; came = came_self w }
+at_home v w f k owner telling (marks.alive u foreign a look) finds =
+    record {
+      left = u;
+      marked = a;
+      same = load_tells u w _ _ _ _ look (came_telling v u (moves_came v u _ _ _ _ _ a.1) ∙ telling);
+      came = moves_came u w _ _ _ _ _ look;
+    }
+at_home v w f k owner telling (marks.dying u x y life foreign a look off back names) finds =
+    absurd (found_dying v u x w owner life (moves_came v u _ _ _ _ _ a.1) look (came_trans x y w (moves_came x y _ _ _ _ _ back) (moves_came y w _ _ _ _ _ names)) off finds)
+at_home v w f k owner telling (marks.taken u x life found foreign a look off back other) finds =
+    absurd (found_dying v u x w owner life (moves_came v u _ _ _ _ _ a.1) look (moves_came x w _ _ _ _ _ back) off finds)
 
 pub half_same : (n : Machine) (owner : ℕ) (m x : Words) (rs us : List TableWork) (a : Aim) → ((q : Place) → x q ≡ m q) → Half n owner m rs us a → Half n owner x rs us a
 half_same n owner m x rs us a same h =
@@ -157,10 +191,9 @@ half_same n owner m x rs us a same h =
     }
 
 module _ (n : Machine) (owner f level : ℕ) (a : PlainOutcome) where
-  inner_by : (own : Bool) (v u : PortValue) (t o : TableWork) (rs ts : List TableWork) → t.own ≡ own → HalfAt n owner v rs (t ∷ o ∷ ts) (part a) → InnerLeft v u t o t.own t.recorded → HalfAt n owner u (t ∷ rs) (o ∷ ts) (part a) × (around_left t o ≡ o)
+  inner_by : (own : Bool) (v u : PortValue) (t o : TableWork) (rs ts : List TableWork) → t.own ≡ own → HalfAt n owner v rs (t ∷ o ∷ ts) (part a) → InnerLeft v u t o t.own → HalfAt n owner u (t ∷ rs) (o ∷ ts) (part a) × (around_left t o ≡ o)
   inner_by true v u t o rs ts own g left =
-      let off : t.recorded ≡ false = g.half.flags.0 ∙ ap not own in
-      let l = subst (λ b. InnerLeft v u t o b false) own (subst (λ b. InnerLeft v u t o t.own b) off left) in
+      let l = (subst (λ b. InnerLeft v u t o b) own left).1 in
       let mid = l.0 in
       let came = moves_came v mid _ _ _ _ _ l.1.1 in
       let telling = came_telling v mid came ∙ g.telling in
@@ -176,7 +209,7 @@ module _ (n : Machine) (owner f level : ℕ) (a : PlainOutcome) where
       )
   inner_by false v u t o rs ts own g left =
       let on : t.recorded ≡ true = g.half.flags.0 ∙ ap not own in
-      let l = subst (λ b. InnerLeft v u t o b true) own (subst (λ b. InnerLeft v u t o t.own b) on left) in
+      let l = subst (λ b. InnerLeft v u t o b) own left in
       let mid = l.0 in
       let came = moves_came v mid _ _ _ _ _ l.1.1 in
       let telling = came_telling v mid came ∙ g.telling in
@@ -190,16 +223,19 @@ module _ (n : Machine) (owner f level : ℕ) (a : PlainOutcome) where
         ap (λ b. if b || t.recorded then o else record o { done = o.done - 1 }) own ∙ ap (λ b. if b then o else record o { done = o.done - 1 }) on,
       )
 
-  pub unwound : (us rs : List TableWork) (t : TableWork) (v w : PortValue) → HalfAt n owner v rs (t ∷ us) (part a) → IsOutermost f level (t ∷ us) → Unwound v (t ∷ us) true w → ParkedAt n owner w f level a
-  unwound [] rs t v w g outer left =
+  pub unwound : (us rs : List TableWork) (t : TableWork) (v w : PortValue) → HalfAt n owner v rs (t ∷ us) (part a) → IsOutermost f level (t ∷ us) → Unwound v owner (t ∷ us) true w → FindsAlive v w owner → ParkedAt n owner w f level a
+  unwound [] rs t v w g outer left finds =
       let own = g.half.flags.0 in
-      let l = subst (λ b. OutermostLeft v w t b true) own left in
-      let came = moves_came v w _ _ _ _ _ l.1 in
+      let home = at_home v w t.frame _ owner g.telling (subst (λ b. OutermostLeft v w owner t b true) own left) finds in
+      let came = came_trans v home.left w (moves_came v home.left _ _ _ _ _ home.marked.1) home.came in
+      let words : told_word w ≡ told_word home.left = fun_ext home.same in
       record {
         machine = ap (λ (p : Post). p.machine) (came_post v w came) ∙ g.machine;
         telling = came_telling v w came ∙ g.telling;
-        parked = outermost_parked n owner (told_word v) rs t [] a g.half (told_word w) f level refl (left_kinded v w t true g.telling l) outer.0 outer.1 own g.half.flags.1;
+        parked = subst (λ m. Parked n owner m f level a) (sym words)
+            (outermost_parked n owner (told_word v) rs t [] a g.half (told_word home.left) f level refl (left_kinded v home.left t true g.telling home.marked) outer.0 outer.1 own g.half.flags.1);
       }
-  unwound (o ∷ ts) rs t v w g outer left =
+  unwound (o ∷ ts) rs t v w g outer left finds =
       let b = inner_by t.own v left.0 t o rs ts refl g left.1 in
-      unwound ts (t ∷ rs) o left.0 w b.0 outer (subst (λ k. Unwound left.0 (k ∷ ts) true w) b.1 left.2)
+      let came = inner_came v left.0 t o t.own left.1 in
+      unwound ts (t ∷ rs) o left.0 w b.0 outer (subst (λ k. Unwound left.0 owner (k ∷ ts) true w) b.1 left.2) (λ m met. finds m (met_after v left.0 w m came met))

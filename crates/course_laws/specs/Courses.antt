@@ -2,7 +2,7 @@
 use Rattle.std.specs.Prelude.{◌≡◌, ◌≢◌, ℕ, ◌<◌, ◌≤◌, true, Result, Ok, Err, IsTrue}
 use Rattle.xp_words.specs.KindWords.{is_kind}
 use Rattle.xp_words.specs.Machine.{Machine}
-use Rattle.xp_words.specs.declared.place.Place.TheVariants.{Clock, Refs}
+use Rattle.xp_words.specs.declared.place.Place.TheVariants.{Clock, Life, Refs}
 use Rattle.xp_words.specs.declared.reply.Pause.TheVariants.{Flush}
 use Rattle.xp_words.specs.declared.reply.Refusal.TheVariants as refusals
 use Rattle.xp_words.specs.declared.reply.Stop.{Stop}
@@ -36,6 +36,10 @@ pub record IsOrderly (n : Machine) (m : Words) : Type 0 where
 -- no step from v to w found the clock at its last value
 abbrev pub ClockGoesOn : PortValue → PortValue → Type 0
 ClockGoesOn v w = (m : Moment) → Met v w m → m.place ≡ Clock → m.found ≢ last_clock
+
+-- no step from v to w found that domain dying
+abbrev pub FindsAlive : PortValue → PortValue → ℕ → Type 0
+FindsAlive v w d = (m : Moment) → Met v w m → m.place ≡ Life d → m.found ≡ 0
 
 -- it goes on when another vCPU has flushed
 abbrev pub IsAwaiting : Result ℕ Stop → Type 0

@@ -30,7 +30,7 @@ pub record HoldsTableLock (v : PortValue) (f level owner : ℕ) : Type 0 where
   pub locks : v.holdings.locks ≡ lock ∷ []
   pub frame : lock.frame ≡ f
   pub kind : lock.kind ≡ level_type level
-  pub owner : lock.owner ≡ owners.Of owner
+  pub owned : lock.owner ≡ owners.Of owner
   pub others : IsEmptyHand (record v.holdings { locks = [] })
 
 -- ---- what the new word asks

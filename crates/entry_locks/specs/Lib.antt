@@ -1,4 +1,5 @@
 pub mod Entries
 pub mod Found
 pub mod Locks
+pub mod Looked
 pub mod Plain

@@ -1,11 +1,11 @@
 //! Tables that are locked for one entry, and unlocked.
-ghost use Rattle.std.specs.Prelude.{◌≡◌, ◌<◌, ◌×◌, ℕ, [], true, None, Some, IfErr, IsTrue};
+ghost use Rattle.std.specs.Prelude.{◌≡◌, ◌<◌, ℕ, [], true, None, Some, IfErr, IsTrue};
 ghost use Rattle.xp_words.specs.declared.place.Place.TheVariants.{Kind};
 ghost use Rattle.xp_board.specs.declared.holdings.Lock.{Lock};
 ghost use Rattle.xp_board.specs.declared.step.Act.TheVariants.{Add};
 ghost use Rattle.xp_board.specs.Hands.{ending_of, lock_on, work_on};
 ghost use Rattle.xp_board.specs.KindSteps.{unlocked_down};
-ghost use Rattle.xp_board.specs.Told.{is_telling, told_word};
+ghost use Rattle.xp_board.specs.Told.{PortValue, is_telling, told_word};
 ghost use Rattle.step_maker.specs.Holds.{MayWork};
 ghost use Rattle.step_maker.specs.Plain.{Leaves, change};
 ghost use Rattle.answer_fits.specs.Answers.{Serves, Stops, misses};
@@ -13,12 +13,15 @@ ghost use Rattle.answer_fits.specs.Asked.{of_back};
 ghost use Rattle.frame_types.specs.Taking.{LentBy};
 ghost use Rattle.entry_locks.specs.Found.{LocksFound};
 ghost use Rattle.entry_locks.specs.Locks.{IsLockStop, LeavesLocked, Unlocks, of_lock};
+ghost use Rattle.entry_locks.specs.Looked.{IsSeenToLock, SeenToLock, LocksAs};
 ghost use Rattle.entry_locks.specs.Plain.{TwinLock};
 
+use crate::levels::level_of;
 use crate::rows::{clear_lock, set_lock};
+use crate::words::{is_free_table, is_worked_on};
 use kind_words::{counts_one, look_kind, lost, read_kind};
 use xp_board::Port;
-use xp_words::{KindWord, PageType, Pause, Stop};
+use xp_words::{Pause, Stop};
 
 /// What a frame is to who would exchange an entry of it.
 #[derive(Clone, Copy, Debug, PartialEq, Eq, Drop)]
@@ -47,6 +50,16 @@ pub fn lock_entry<P: Port>(port: &mut P, frame: u32, owner: u16) -> Result<Locke
     ensures plain { TwinLock (P.value port.old) (P.value port.new) frame result }
 {
     let word = look_kind(port, frame);
+    lock_found(port, frame, owner, word)
+}
+
+// The same, where a look just found that kind word.
+fn lock_found<P: Port>(port: &mut P, frame: u32, owner: u16, word: u64) -> Result<Locked, Stop>
+    requires frame { frame < (P.value port.old).post.machine.frames }
+    requires may { MayWork (P.value port.old) }
+    requires looked { IsSeenToLock (P.value port.old) frame owner word }
+    ensures locks { (b : PortValue) → SeenToLock b (P.value port.old) frame owner word → LocksAs b (P.value port.new) frame owner result }
+{
     let kind = read_kind(word);
     if !kind.kind.is_table() {
         return Ok(Locked::Other { found: word });
@@ -60,7 +73,7 @@ pub fn lock_entry<P: Port>(port: &mut P, frame: u32, owner: u16) -> Result<Locke
             Err(found) => Err(lost(port, frame, word, found)),
         };
     }
-    if kind.locked || kind.validated {
+    if is_worked_on(kind) {
         return Err(Stop::Paused(Pause::Busy { frame, found: word }));
     }
     Ok(Locked::Other { found: word })

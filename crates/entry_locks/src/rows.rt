@@ -68,16 +68,11 @@ pub fn store_entry<P: Port>(port: &mut P, table: u32, index: u16, new: u64) -> u
     ensures moves { Moves (P.value port.old) (P.value port.new) (Cell table index) (Store new) kinds.Cell None result }
     ensures hand { Holds (P.value port.old) (P.value port.new) (entry_set table index new result (P.value port.old).holdings) }
 {
-    make(
-        port,
-        Place::Cell {
-            frame: table,
-            index,
-        },
-        Act::Store { new },
-        StepKind::Cell,
-        None,
-    )
+    let entry = Place::Cell {
+        frame: table,
+        index,
+    };
+    make(port, entry, Act::Store { new }, StepKind::Cell, None)
 }
 
 /// The same by one exchange of the word that was found there last, under this lock. An exchange that finds another word answers it.
@@ -97,14 +92,9 @@ pub fn swap_entry<P: Port>(
     ensures lost { IfErr result (λ found. found ≢ expected) }
     ensures hand { MatchResult result (λ _. Holds (P.value port.old) (P.value port.new) (entry_set table index new expected (P.value port.old).holdings)) (λ found. Holds (P.value port.old) (P.value port.new) (entry_unset table index found (P.value port.old).holdings)) }
 {
-    exchange(
-        port,
-        Place::Cell {
-            frame: table,
-            index,
-        },
-        expected,
-        new,
-        StepKind::Cell,
-    )
+    let entry = Place::Cell {
+        frame: table,
+        index,
+    };
+    exchange(port, entry, expected, new, StepKind::Cell)
 }

@@ -1,0 +1,5 @@
+pub mod Admitting
+pub mod Looking
+pub mod Naming
+pub mod Owned
+pub mod Refusing

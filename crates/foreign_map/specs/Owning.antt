@@ -1,5 +1,5 @@
 -- Whose tables and frames a number names, and what refuses that.
-use Rattle.std.specs.Prelude.{◌≡◌, ◌≢◌, ◌⊎◌, ℕ, ◌-◌, ◌/◌, ◌%◌, ◌^◌, ◌<◌, ◌≤◌, ◌==◌, ◌||◌, nat_lt, nat_le, not, if◌then◌else◌, Bool, true, false, List, [], ◌∷◌, ◌++◌, length, Option, Some, None, Result, Ok, Err, IsTrue}
+use Rattle.std.specs.Prelude.{◌≡◌, ◌≢◌, ◌⊎◌, ℕ, ◌-◌, ◌/◌, ◌%◌, ◌^◌, ◌<◌, ◌≤◌, ◌==◌, ◌||◌, nat_lt, not, if◌then◌else◌, true, false, List, [], ◌∷◌, ◌++◌, length, Option, Some, None, Result, Ok, Err, IsTrue}
 use Rattle.xp_words.specs.Machine.{Machine}
 use Rattle.xp_words.specs.Places.{sizes_of}
 use Rattle.xp_words.specs.declared.place.Place.TheVariants.{Life, Priv}
@@ -11,7 +11,7 @@ use Rattle.xp_board.specs.Steps.{some_since}
 use Rattle.xp_board.specs.Told.{PortValue, is_telling, told_word}
 use Rattle.step_maker.specs.Plain.{Leaves, Words}
 use Rattle.answer_fits.specs.Asked.{Request, of_frame}
-use Rattle.answer_fits.specs.Visits.{Visit, visit, Does, Nothing, Only}
+use Rattle.answer_fits.specs.Visits.{Visit, visit, Does}
 use Rattle.foreign_map.specs.declared.owners.Owners.{Owners}
 
 -- ---- the number
@@ -57,8 +57,8 @@ pub data Admits (n : Machine) (caller d : ℕ) : Option Refusal → List Visit �
 -- The tables' owner may map frames of the other one, or that is refused. What the caller may is admitted already.
 pub data OverOf (caller tables frames : ℕ) : Option Refusal → List Visit → Type 0 where
   same : tables ≡ frames → OverOf caller tables frames None []
-  caller's : tables ≡ caller → OverOf caller tables frames None []
-  barred : (x : ℕ) → tables ≢ caller → tables ≢ frames → has_now frames x ≡ false → OverOf caller tables frames (Some (NoPrivilege tables frames)) (saw_privileges tables x ∷ [])
+  of_caller : tables ≡ caller → OverOf caller tables frames None []
+  forbidden : (x : ℕ) → tables ≢ caller → tables ≢ frames → has_now frames x ≡ false → OverOf caller tables frames (Some (NoPrivilege tables frames)) (saw_privileges tables x ∷ [])
   allowed : (x : ℕ) → tables ≢ caller → tables ≢ frames → has_now frames x ≡ true → OverOf caller tables frames None (saw_privileges tables x ∷ [])
 
 -- the first check that refuses decides
@@ -75,6 +75,22 @@ pub data OwnersBy (n : Machine) (caller foreign : ℕ) : Result Owners Refusal �
 
 abbrev pub OwnersFound : PortValue → PortValue → ℕ → ℕ → Result Owners Refusal → Type 0
 OwnersFound v w caller foreign answer = Does v w (λ vs. OwnersBy v.post.machine caller foreign answer vs)
+
+-- ---- one domain, and one over another
+-- the number is that of a domain that the caller may name, or that is refused
+abbrev pub AdmitsBy : Machine → ℕ → ℕ → Result ℕ Refusal → List Visit → Type 0
+AdmitsBy n caller d (Ok k) vs = (k ≡ d) × Admits n caller d None vs
+AdmitsBy n caller d (Err x) vs = Admits n caller d (Some x) vs
+
+abbrev pub AdmitsFound : PortValue → PortValue → ℕ → ℕ → Result ℕ Refusal → Type 0
+AdmitsFound v w caller d answer = Does v w (λ vs. AdmitsBy v.post.machine caller d answer vs)
+
+abbrev pub AllowsBy : ℕ → ℕ → ℕ → Result (Unit {0}) Refusal → List Visit → Type 0
+AllowsBy caller tables frames (Ok done) vs = OverOf caller tables frames None vs
+AllowsBy caller tables frames (Err x) vs = OverOf caller tables frames (Some x) vs
+
+abbrev pub AllowsFound : PortValue → PortValue → ℕ → ℕ → ℕ → Result (Unit {0}) Refusal → Type 0
+AllowsFound v w caller tables frames answer = Does v w (λ vs. AllowsBy caller tables frames answer vs)
 
 -- ---- what is known then
 -- both are domains of the machine; and where they are two, the privilege of the one over the other was found in this turn

@@ -1,12 +1,10 @@
 //! The `foreigndom` argument of `mmu_update`, read.
-ghost use Rattle.std.specs.Prelude.{◌≡◌, ◌<◌, length, [], Err, IfOk, IfErr};
-ghost use Rattle.xp_words.specs.declared.reply.Refusal.{Refusal};
+ghost use Rattle.std.specs.Prelude.{◌≡◌, ◌<◌, ◌≤◌, length, [], IfOk, IfErr};
 ghost use Rattle.xp_words.specs.declared.reply.Stop.TheVariants.{Refused};
-ghost use Rattle.xp_board.specs.Readings.{domain_of};
+ghost use Rattle.xp_board.specs.Readings.{domain_of, has_now};
 ghost use Rattle.step_maker.specs.Holds.{Rests, Same};
 ghost use Rattle.answer_fits.specs.Answers.{Serves, Stops};
-ghost use Rattle.answer_fits.specs.Visits.{Does};
-ghost use Rattle.foreign_map.specs.Owning.{Admits, MayMap, OverOf, OwnersFound, TwinOwners, of_owners};
+ghost use Rattle.foreign_map.specs.Owning.{AdmitsFound, AllowsFound, MayMap, OwnersFound, TwinOwners, frames_of, of_owners, tables_of};
 
 use flush_words::{look_life, look_privileges};
 use xp_board::Port;
@@ -40,14 +38,71 @@ pub fn owner_for<P: Port>(port: &mut P, caller: u16, foreign: u64) -> Result<Own
     if foreign >= 1 << 32 {
         return Err(Refusal::BadRange);
     }
-    let tables = tables_of(caller, foreign);
-    let frames = frames_of(caller, foreign);
-    let tables = admit(port, caller, tables)?;
-    let frames = admit(port, caller, frames)?;
-    if tables != caller {
-        allow(port, tables, frames)?;
-    }
+    let tables = admit(port, caller, tables_of(caller, foreign))?;
+    let frames = admit(port, caller, frames_of(caller, foreign))?;
+    allow(port, caller, tables, frames)?;
     Ok(Owners { tables, frames })
+}
+
+// Whether the caller may name the domain of that number.
+fn admit<P: Port>(port: &mut P, caller: u16, named: u64) -> Result<u16, Refusal>
+    requires own { caller ≡ domain_of (P.value port.old).post.machine (P.value port.old).post.vcpu }
+    requires looked { (P.value port.old).holdings.looking ≡ [] }
+    ensures steps { AdmitsFound (P.value port.old) (P.value port.new) caller named result }
+    ensures real { IfOk result (λ d. d < length (P.value port.old).post.machine.page_limit) }
+    ensures hand { Same (P.value port.old) (P.value port.new) }
+{
+    if named == u64::from(own_domain(port)) {
+        return Ok(caller);
+    }
+    if named >= u64::from(port.layout().domains()) {
+        return Err(Refusal::NoDomain);
+    }
+    let domain = named as u16;
+    if !has_privilege(look_privileges(port, caller), domain) {
+        return Err(Refusal::NoPrivilege { caller, domain });
+    }
+    let found = look_life(port, domain);
+    if found != 0 {
+        return Err(Refusal::Dying { domain, found });
+    }
+    Ok(domain)
+}
+
+// Whether the tables' owner may map the frames' owner's frames. What the caller may is known already.
+fn allow<P: Port>(port: &mut P, caller: u16, tables: u16, frames: u16) -> Result<(), Refusal>
+    requires tables { tables < length (P.value port.old).post.machine.page_limit }
+    requires frames { frames < 16 }
+    ensures steps { AllowsFound (P.value port.old) (P.value port.new) caller tables frames result }
+    ensures hand { Same (P.value port.old) (P.value port.new) }
+{
+    if tables == caller || tables == frames {
+        return Ok(());
+    }
+    if has_privilege(look_privileges(port, tables), frames) {
+        return Ok(());
+    }
+    Err(Refusal::NoPrivilege {
+        caller: tables,
+        domain: frames,
+    })
+}
+
+// The domain of the own vCPU, which is one of the machine's.
+fn own_domain<P: Port>(port: &P) -> u16
+    ensures own { result ≡ domain_of (P.value port.now).post.machine (P.value port.now).post.vcpu }
+    ensures real { result < length (P.value port.now).post.machine.page_limit }
+    ensures few { length (P.value port.now).post.machine.page_limit ≤ 16 }
+{
+    port.layout().vcpu_domain.as_slice()[port.vcpu() as usize]
+}
+
+// Whether a domain with that word has privilege over the other one.
+fn has_privilege(word: u64, over: u16) -> bool
+    requires { over < 16 }
+    ensures { result ≡ has_now over word }
+{
+    word >> over & 1 == 1
 }
 
 // The number of the tables' owner.

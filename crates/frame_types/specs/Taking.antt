@@ -1,8 +1,8 @@
 -- Types that are taken and given back: what they leave in hand.
-use Rattle.std.specs.Prelude.{◌≡◌, ◌≢◌, ℕ, ◌<◌, ◌≤◌, ◌==◌, ◌||◌, not, if◌then◌else◌, Bool, true, false, List, [], ◌∷◌, length, Some, None, Result, IfOk, IfErr, MatchResult, IsTrue}
+use Rattle.std.specs.Prelude.{◌≡◌, ◌≢◌, ℕ, ◌<◌, ◌≤◌, ◌==◌, ◌||◌, not, if◌then◌else◌, Bool, true, false, List, [], ◌∷◌, length, Some, None, Result, Ok, Err, IfOk, IfErr, MatchResult, IsTrue}
 use Rattle.xp_words.specs.Machine.{Machine}
 use Rattle.xp_words.specs.Places.{sizes_of}
-use Rattle.xp_words.specs.KindWords.{is_kind, kind_fields, kind_write}
+use Rattle.xp_words.specs.KindWords.{is_kind, kind_fields, kind_read, kind_write}
 use Rattle.xp_words.specs.PageTypes.{is_none, is_table, type_number}
 use Rattle.xp_words.specs.declared.kind.PageType.{PageType}
 use Rattle.xp_words.specs.declared.reply.Stop.{Stop}
@@ -33,6 +33,10 @@ use Rattle.answer_fits.specs.Answers.{Deed, Serves, Stops, misses}
 use Rattle.answer_fits.specs.Reasons.{AwaitsStamp}
 use Rattle.answer_fits.specs.Asked.{of_frame}
 use Rattle.flush_waits.specs.Waiting.{IsWait}
+use Rattle.frame_types.specs.Standing.{standing_of}
+use Rattle.frame_types.specs.declared.standing.Standing.TheVariants as stands
+use Rattle.frame_types.specs.declared.taking.Counting.{Counting}
+use Rattle.frame_types.specs.declared.taking.Counting.TheVariants as countings
 use Rattle.frame_types.specs.declared.taking.Taken.{Taken}
 use Rattle.frame_types.specs.declared.taking.Taken.TheVariants.{Counted, InWork, Waiting}
 
@@ -144,6 +148,16 @@ pub record Takes (v w : PortValue) (f owner : ℕ) (want : PageType) (answer : R
   pub kinds : IfErr answer IsTypeStop
   pub waits : IfOk answer (λ t. ShowsWait v w f owner want t)
   pub hand : MatchResult answer (λ t. TakesAs v w f owner want t) (λ e. Same v w)
+
+-- by its kind word a frame is not live with that type
+abbrev pub IsNotLive : PageType → ℕ → Type 0
+IsNotLive want word = (k : KindWord) → kind_read word ≡ Some k → standing_of k want ≢ stands.Counted
+
+-- P of the answer, where the first part of the call has one; else Q of the kind word that was found
+abbrev pub CountsAs : Result Counting Stop → (Result Taken Stop → Type 0) → (ℕ → Type 0) → Type 0
+CountsAs (Ok countings.Counted) P Q = P (Ok Counted)
+CountsAs (Ok (countings.Found word)) P Q = Q word
+CountsAs (Err e) P Q = P (Err e)
 
 -- the stamp of a word that is marked
 abbrev pub stamp_by : Bool → KindWord → ℕ

@@ -14,4 +14,4 @@ pub use lowering::drop_type;
 pub use memory::take_writable;
 pub use plain::drop_plain;
 pub use standing::Standing;
-pub use taking::{Taken, take_type};
+pub use taking::{Counting, Taken, count_live, take_looked, take_type};

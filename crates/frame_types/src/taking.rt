@@ -1,5 +1,5 @@
 //! Frames that are taken for a type.
-ghost use Rattle.std.specs.Prelude.{◌≡◌, ◌≢◌, ◌<◌, List, [], true, not, None, Some, IfOk, IfErr, MatchResult, IsTrue};
+ghost use Rattle.std.specs.Prelude.{◌≡◌, ◌<◌, List, [], true, not, None, Some, IfOk, IfErr, MatchResult, IsTrue};
 ghost use Rattle.xp_board.specs.Told.{PortValue};
 ghost use Rattle.xp_words.specs.KindWords.{kind_read};
 ghost use Rattle.xp_words.specs.declared.kind.KindWord.{KindWord};
@@ -16,8 +16,8 @@ ghost use Rattle.flush_waits.specs.Waiting.{IsFlushed};
 ghost use Rattle.frame_types.specs.Found.{Finishes, Proceeds, TakesFound};
 ghost use Rattle.frame_types.specs.Plain.{TwinOn, TwinTake};
 ghost use Rattle.frame_types.specs.Standing.{standing_of};
-ghost use Rattle.frame_types.specs.declared.standing.Standing.TheVariants.{Counted, Dead, Partial};
-ghost use Rattle.frame_types.specs.Taking.{HasEntered, HoldsOn, IsDone, IsLooked, IsOfOther, IsTypeStop, LeavesLive, LentBy, Looked, ServesOn, ShowsWait, Takes, TakesAs, WaitsOn, progress_of};
+ghost use Rattle.frame_types.specs.declared.standing.Standing.TheVariants.{Dead, Partial};
+ghost use Rattle.frame_types.specs.Taking.{CountsAs, HasEntered, HoldsOn, IsDone, IsLooked, IsNotLive, IsOfOther, IsTypeStop, LeavesLive, LentBy, Looked, ServesOn, ShowsWait, Takes, TakesAs, WaitsOn, progress_of};
 
 use crate::standing::{Standing, classify};
 use crate::words::{counts, is_read_first, progress_of};
@@ -68,35 +68,72 @@ pub fn take_type<P: Port>(
     ensures live { IfOk result (λ t. LeavesLive (P.value port.old) (P.value port.new) frame t) }
     ensures plain { TwinTake (P.value port.old) (P.value port.new) frame want result }
 {
+    match count_live(port, frame, owner, want) {
+        Ok(Counting::Counted) => Ok(Taken::Counted),
+        Ok(Counting::Found { word }) => take_looked(port, frame, owner, want, word),
+        Err(stop) => Err(stop),
+    }
+}
+
+/// Whether a frame was counted as one that is live.
+#[derive(Clone, Copy, Debug, PartialEq, Eq, Drop)]
+pub enum Counting {
+    /// The typed reference is in hand.
+    Counted,
+    /// It is not live with that type, by its kind word, which a look just found. Nothing is taken yet.
+    Found { word: u64 },
+}
+
+/// The first part of `take_type`, and all of it where the frame is live with the type `want`. Else `take_looked` goes on from the word
+/// that was found.
+#[inline(always)]
+pub fn count_live<P: Port>(
+    port: &mut P,
+    frame: u32,
+    owner: u16,
+    want: PageType,
+) -> Result<Counting, Stop>
+    requires frame { frame < (P.value port.old).post.machine.frames }
+    requires may { MayWork (P.value port.old) }
+    requires wanted { IsTrue (not (is_none want)) }
+    requires lent { LentBy frame owner (P.value port.old).holdings }
+    requires aside { work_on frame (P.value port.old).holdings.works ≡ None → typed_to frame (P.value port.old).holdings.typed ≡ 0 }
+    requires other { IsOfOther frame want (P.value port.old).holdings }
+    requires looked { (P.value port.old).holdings.looking ≡ [] }
+    ensures takes { CountsAs result (λ r. Takes (P.value port.old) (P.value port.new) frame owner want r) (λ word. Looked (P.value port.old) (P.value port.new) frame owner want word) }
+    ensures found { CountsAs result (λ r. TakesFound (P.value port.old) (P.value port.new) frame want r) (λ word. IsNotLive want word) }
+    ensures live { CountsAs result (λ r. IfOk r (λ t. LeavesLive (P.value port.old) (P.value port.new) frame t)) (λ word. IsNotLive want word) }
+    ensures plain { CountsAs result (λ r. TwinTake (P.value port.old) (P.value port.new) frame want r) (λ word. IsNotLive want word) }
+{
     let word = look_kind(port, frame);
-    take_found(port, frame, owner, want, word)
+    count_found(port, frame, owner, want, word)
 }
 
 // The same, where a look just found that kind word.
 #[inline(always)]
-fn take_found<P: Port>(
+fn count_found<P: Port>(
     port: &mut P,
     frame: u32,
     owner: u16,
     want: PageType,
     word: u64,
-) -> Result<Taken, Stop>
+) -> Result<Counting, Stop>
     requires frame { frame < (P.value port.old).post.machine.frames }
     requires may { MayWork (P.value port.old) }
     requires wanted { IsTrue (not (is_none want)) }
     requires looked { IsLooked (P.value port.old) frame owner want word }
-    ensures takes { (b : PortValue) → Looked b (P.value port.old) frame owner want word → Takes b (P.value port.new) frame owner want result }
-    ensures found { (b : PortValue) → Looked b (P.value port.old) frame owner want word → TakesFound b (P.value port.new) frame want result }
-    ensures live { IfOk result (λ t. LeavesLive (P.value port.old) (P.value port.new) frame t) }
-    ensures plain { (b : PortValue) → Looked b (P.value port.old) frame owner want word → TwinTake b (P.value port.new) frame want result }
+    ensures takes { (b : PortValue) → Looked b (P.value port.old) frame owner want word → CountsAs result (λ r. Takes b (P.value port.new) frame owner want r) (λ x. Looked b (P.value port.new) frame owner want x) }
+    ensures found { (b : PortValue) → Looked b (P.value port.old) frame owner want word → CountsAs result (λ r. TakesFound b (P.value port.new) frame want r) (λ x. IsNotLive want x) }
+    ensures live { CountsAs result (λ r. IfOk r (λ t. LeavesLive (P.value port.old) (P.value port.new) frame t)) (λ x. IsNotLive want x) }
+    ensures plain { (b : PortValue) → Looked b (P.value port.old) frame owner want word → CountsAs result (λ r. TwinTake b (P.value port.new) frame want r) (λ x. IsNotLive want x) }
 {
     let kind = read_kind(word);
     match classify(kind, want) {
         Standing::Counted => match count_type(port, frame, kind, word) {
-            Ok(()) => Ok(Taken::Counted),
+            Ok(()) => Ok(Counting::Counted),
             Err(found) => Err(lost_type(port, frame, word, found)),
         },
-        _ => take_other(port, frame, owner, want, word),
+        _ => Ok(Counting::Found { word }),
     }
 }
 
@@ -110,9 +147,9 @@ fn lost_type<P: Port>(port: &P, frame: u32, word: u64, found: u64) -> Stop
     lost(port, frame, word, found)
 }
 
-// The same of a frame that is not live with that type: so what is most often asked stays short where it is inlined.
+/// The rest of `take_type`, of a frame that is not live with that type, by the word that a look just found.
 #[inline(never)]
-fn take_other<P: Port>(
+pub fn take_looked<P: Port>(
     port: &mut P,
     frame: u32,
     owner: u16,
@@ -123,7 +160,7 @@ fn take_other<P: Port>(
     requires may { MayWork (P.value port.old) }
     requires wanted { IsTrue (not (is_none want)) }
     requires looked { IsLooked (P.value port.old) frame owner want word }
-    requires other { (k : KindWord) → kind_read word ≡ Some k → standing_of k want ≢ Counted }
+    requires other { IsNotLive want word }
     ensures takes { (b : PortValue) → Looked b (P.value port.old) frame owner want word → Takes b (P.value port.new) frame owner want result }
     ensures found { (b : PortValue) → Looked b (P.value port.old) frame owner want word → TakesFound b (P.value port.new) frame want result }
     ensures live { IfOk result (λ t. LeavesLive (P.value port.old) (P.value port.new) frame t) }

@@ -1,6 +1,7 @@
--- What is in hand where a frame of another domain was left with its mark, and behind each step after that.
+-- What is in hand where a frame was left with its mark, and behind each step after that.
 use Rattle.std.proofs.Common.{◌≡◌, ◌≢◌, ℕ, ◌+◌, ◌<◌, ◌==◌, not, if◌then◌else◌, Bool, true, false, [], ◌∷◌, Some, IsTrue, refl, sym, ap, ◌∙◌, subst}
 use Rattle.xp_words.specs.KindWords.{kind_fields, kind_write}
+use Rattle.xp_words.specs.Machine.{IsMachine}
 use Rattle.xp_words.specs.declared.kind.KindWord.{KindWord}
 use Rattle.xp_board.specs.declared.holdings.Holdings.{Holdings}
 use Rattle.xp_board.specs.declared.holdings.Looking.{Looking}
@@ -11,9 +12,9 @@ use Rattle.xp_board.specs.Hands.{brought_typed, typed_to}
 use Rattle.xp_board.specs.KindSteps.{Partial, as_typed, kept_owner, looking_at, put_partial, still_looking}
 use Rattle.xp_board.specs.Lists.{kept_of}
 use Rattle.xp_board.specs.Readings.{domain_of, is_closing, is_partial}
-use Rattle.xp_board.specs.Told.{PortValue}
-use Rattle.board_lemmas.proofs.Sums.{when_eq, when_lost, when_ne}
-use Rattle.step_maker.specs.Holds.{Holds, still}
+use Rattle.xp_board.specs.Told.{Post, PortValue}
+use Rattle.board_lemmas.proofs.Sums.{either, when_eq, when_lost, when_ne}
+use Rattle.step_maker.specs.Holds.{Holds, MayWork, still}
 use Rattle.kind_words.specs.Kinds.{MayLeave, left, looked_at}
 use Rattle.kind_words.proofs.KindHands.{typed_held}
 use Rattle.kind_words.proofs.Leaving.{left_is, without_newest}
@@ -33,6 +34,21 @@ typed_looking f e h = part_of (λ (u : Holdings). u.looking) (is_closing (kind_f
 typed_old : (f : ℕ) (e : Work) (h : Holdings) → (as_typed f e h).old0 ≡ h.old0
 typed_old f e h = part_of (λ (u : Holdings). u.old0) (is_closing (kind_fields e.word)) _ h refl
 
+typed_run : (f : ℕ) (e : Work) (h : Holdings) → (as_typed f e h).run ≡ h.run
+typed_run f e h = part_of (λ (u : Holdings). u.run) (is_closing (kind_fields e.word)) _ h refl
+
+typed_walk : (f : ℕ) (e : Work) (h : Holdings) → (as_typed f e h).walk ≡ h.walk
+typed_walk f e h = part_of (λ (u : Holdings). u.walk) (is_closing (kind_fields e.word)) _ h refl
+
+-- a hand that runs and walks as before
+may_by : (v w : PortValue) (h : Holdings) → Holds v w h → h.run ≡ v.holdings.run → h.walk ≡ v.holdings.walk → MayWork v → MayWork w
+may_by v w h holds run walk may =
+    record {
+      running = ap (λ (q : PortValue). q.holdings.run) holds ∙ run ∙ may.running;
+      no_walk = ap (λ (q : PortValue). q.holdings.walk) holds ∙ walk ∙ may.no_walk;
+      machine = subst (λ (p : Post). IsMachine p.machine) (sym (ap (λ (q : PortValue). q.post) holds)) may.machine;
+    }
+
 -- the look that the mark asks
 abbrev look_at : ℕ → ℕ → ℕ → Looking
 look_at f owner word = record { frame = f; owner = owner; word = word }
@@ -46,22 +62,27 @@ done_other : (f owner word found : ℕ) → word ≢ found → still_looking f f
 unfolding kept_of
 done_other f owner word found off = rw (when_eq f f refl, when_ne word found off) refl
 
-module _ (v : PortValue) (f : ℕ) (k : KindWord) (owner : ℕ) (leaves : MayLeave v f k) (partial : IsTrue (is_partial k)) (kept : k.kept ≡ true) (known : IsKeptOf v f owner) (looked : v.holdings.looking ≡ [])
-    (foreign : IsForeign v owner) where
+module _ (v : PortValue) (f : ℕ) (k : KindWord) (owner : ℕ) (leaves : MayLeave v f k) (partial : IsTrue (is_partial k)) (kept : k.kept ≡ true) (known : IsKeptOf v f owner) (looked : v.holdings.looking ≡ []) where
   left_so : left v f k ≡ put_partial v.post.machine v.post.vcpu f k (kind_write k) (kept_owner f leaves.work v.holdings) (as_typed f leaves.work v.holdings)
   left_so = left_is v f leaves.work k Partial leaves.here leaves.is (partial_form k partial)
 
-  left_looking : (left v f k).looking ≡ look_at f owner (kind_write k) ∷ []
+  -- of a frame of the own domain it asks none
+  left_looking : (left v f k).looking ≡ (if owner == domain_of v.post.machine v.post.vcpu then [] else (look_at f owner (kind_write k) ∷ []))
   left_looking =
       let h = as_typed f leaves.work v.holdings in
       ap (λ (u : Holdings). u.looking) left_so
       ∙ ap (λ b. if b then looking_at v.post.machine v.post.vcpu f (kind_write k) (kept_owner f leaves.work v.holdings) h else h.looking) kept
       ∙ ap (λ o. looking_at v.post.machine v.post.vcpu f (kind_write k) o h) (known leaves.work leaves.here)
-      ∙ when_lost owner (domain_of v.post.machine v.post.vcpu) h.looking (look_at f owner (kind_write k) ∷ h.looking) foreign
-      ∙ ap (λ xs. look_at f owner (kind_write k) ∷ xs) (typed_looking f leaves.work v.holdings ∙ looked)
+      ∙ ap (λ xs. if owner == domain_of v.post.machine v.post.vcpu then xs else (look_at f owner (kind_write k) ∷ xs)) (typed_looking f leaves.work v.holdings ∙ looked)
 
   left_old : (left v f k).old0 ≡ v.holdings.old0
   left_old = ap (λ (u : Holdings). u.old0) left_so ∙ typed_old f leaves.work v.holdings
+
+  done_left : kept_of (λ (e : Looking). not (e.owner == owner)) (left v f k).looking ≡ []
+  unfolding kept_of
+  done_left =
+      ap (λ xs. kept_of (λ (e : Looking). not (e.owner == owner)) xs) left_looking
+      ∙ either (λ xs. kept_of (λ (e : Looking). not (e.owner == owner)) xs ≡ []) (owner == domain_of v.post.machine v.post.vcpu) [] (look_at f owner (kind_write k) ∷ []) refl (done_alive f owner (kind_write k))
 
   module _ (u x : PortValue) (life : ℕ) (store : Holds v u (left v f k)) (look : Holds u x (learned_life owner life u.holdings)) where
     -- the domain lives
@@ -69,15 +90,20 @@ module _ (v : PortValue) (f : ℕ) (k : KindWord) (owner : ℕ) (leaves : MayLea
     alive_hand alive =
         subst (λ y. Holds u x (learned_life owner y u.holdings)) alive look
         ∙ ap (λ (q : PortValue). still (record q { holdings = record q.holdings { looking = kept_of (λ (e : Looking). not (e.owner == owner)) q.holdings.looking } })) store
-        ∙ ap (λ xs. still (record v { holdings = record (left v f k) { looking = kept_of (λ (e : Looking). not (e.owner == owner)) xs } })) left_looking
-        ∙ ap (λ xs. still (record v { holdings = record (left v f k) { looking = xs } })) (done_alive f owner (kind_write k))
+        ∙ ap (λ xs. still (record v { holdings = record (left v f k) { looking = xs } })) done_left
 
-    module _ (dying : life ≢ 0) where
+    module _ (foreign : IsForeign v owner) (dying : life ≢ 0) where
       looks_on : Holds v x (left v f k)
       looks_on = subst (λ b. Holds u x (if b then record u.holdings { looking = kept_of (λ (e : Looking). not (e.owner == owner)) u.holdings.looking } else u.holdings)) (when_ne life 0 dying) look ∙ store
 
+      pub looks_may : MayWork v → MayWork x
+      looks_may = may_by v x (left v f k) looks_on (ap (λ (u : Holdings). u.run) left_so ∙ typed_run f leaves.work v.holdings) (ap (λ (u : Holdings). u.walk) left_so ∙ typed_walk f leaves.work v.holdings)
+
       no_look : (found : ℕ) → kind_write k ≢ found → still_looking f found (left v f k).looking ≡ []
-      no_look found off = ap (λ xs. still_looking f found xs) left_looking ∙ done_other f owner (kind_write k) found off
+      no_look found off =
+          ap (λ xs. still_looking f found xs)
+          (left_looking ∙ when_lost owner (domain_of v.post.machine v.post.vcpu) [] (look_at f owner (kind_write k) ∷ []) foreign)
+          ∙ done_other f owner (kind_write k) found off
 
       -- another vCPU has taken the mark over
       pub taken_hand : (w : PortValue) (found : ℕ) → Holds x w (looked_at f found x.holdings) → found ≢ kind_write k → Holds v w (left_kept v f k)
@@ -91,6 +117,9 @@ module _ (v : PortValue) (f : ℕ) (k : KindWord) (owner : ℕ) (leaves : MayLea
 
         pub back_empty : known_old First v.holdings ≡ Some 0 → known_old First y.holdings ≡ Some 0
         back_empty empty = ap (λ (q : PortValue). q.holdings.old0) back ∙ ap (λ (q : PortValue). q.holdings.old0) looks_on ∙ left_old ∙ empty
+
+        pub back_may : MayWork v → MayWork y
+        back_may may = may_by x y (took_back f k x.holdings) back refl refl (looks_may may)
 
         -- the reference that came back names the frame in the old word
         pub named_hand : (w : PortValue) → Holds y w (kept_in_old First f y.holdings) → Holds v w (record (left_kept v f k) { old0 = Some (f + 1) })

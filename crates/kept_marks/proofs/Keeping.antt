@@ -1,5 +1,6 @@
 -- A frame that is left with its mark, and what follows: which steps, and what they serve.
-use Rattle.std.proofs.Common.{◌≡◌, ◌≢◌, ℕ, ◌+◌, [], ◌∷◌, None, IsTrue, refl, sym, ap, ◌∙◌, subst, inl, inr}
+use Rattle.std.proofs.Common.{◌≡◌, ◌≢◌, ℕ, ◌+◌, ◌==◌, Bool, true, false, arith, [], ◌∷◌, None, IsTrue, refl, sym, ap, ◌∙◌, subst, inl, inr}
+use Rattle.std.proofs.lemmas.Bool.Decides.{nat_tests}
 use Rattle.xp_words.specs.KindWords.{kind_write}
 use Rattle.xp_words.specs.declared.kind.KindWord.{KindWord}
 use Rattle.xp_words.specs.declared.place.Place.TheVariants.{Kind, Life}
@@ -17,6 +18,13 @@ use Rattle.table_words.specs.declared.old_words.OldWord.TheVariants.{First}
 use Rattle.kept_marks.specs.Marks.{IsForeign, IsUnpaged, KeptFor, ServesKept, TakesBack, alive, dying, taken, unkept_kind}
 use Rattle.kept_marks.proofs.Serving.{asked_later, back_serves, left_serves, looked_serves, lost_serves, named_serves}
 
+-- ---- whether its domain lives
+pub is_alive : (b : Bool) (life : ℕ) → b ≡ true → b ≡ (life == 0) → life ≡ 0
+is_alive b life on is = grind (arith, nat_tests)
+
+pub is_dying : (b : Bool) (life : ℕ) → b ≡ false → b ≡ (life == 0) → life ≢ 0
+is_dying b life off is = grind (arith, nat_tests)
+
 -- ---- whose the frame is
 foreign_on : (u v : PortValue) (owner : ℕ) → Came u v → IsForeign v owner → IsForeign u owner
 foreign_on u v owner came foreign = subst (λ (p : Post). owner ≢ domain_of p.machine p.vcpu) (came_post u v came) foreign
@@ -32,18 +40,18 @@ module _ (v a : PortValue) (f : ℕ) (k : KindWord) (owner : ℕ) (leaves : MayL
   pub own_serves : ServesKept v a f owner
   own_serves = λ u r ds before asked locks. record { more = []; hidden = inl refl; serves = left_serves v a f k leaves partial found store u r ds before asked }
 
-  module _ (x : PortValue) (life : ℕ) (foreign : IsForeign v owner) (look : Moves a x (Life owner) Load kinds.Look None life) where
-    pub looked_came : Came v x
+  module _ (x : PortValue) (life : ℕ) (look : Moves a x (Life owner) Load kinds.Look None life) where
+    looked_came : Came v x
     looked_came = came_trans v a x left_came (moves_came a x (Life owner) Load kinds.Look None life look)
 
     pub alive_serves : ServesKept v x f owner
     alive_serves = λ u r ds before asked locks. record { more = []; hidden = inl refl; serves = looked_serves v a f k leaves partial found store u r ds before asked x owner life look }
 
-    pub alive_course : life ≡ 0 → KeptFor v x f k owner
-    alive_course lives = alive a foreign (found, store) (subst (λ y. Moves a x (Life owner) Load kinds.Look None y) lives look)
+    pub alive_course : IsForeign v owner → life ≡ 0 → KeptFor v x f k owner
+    alive_course foreign lives = alive a foreign (found, store) (subst (λ y. Moves a x (Life owner) Load kinds.Look None y) lives look)
 
-    module _ (page : IsUnpaged k) (y : PortValue) (word : ℕ) (try : Moves x y (Kind f) (Cas (kind_write k) (kind_write (unkept_kind k))) kinds.Kind None word) where
-      pub tried_came : Came v y
+    module _ (foreign : IsForeign v owner) (page : IsUnpaged k) (y : PortValue) (word : ℕ) (try : Moves x y (Kind f) (Cas (kind_write k) (kind_write (unkept_kind k))) kinds.Kind None word) where
+      tried_came : Came v y
       tried_came = came_trans v x y looked_came (moves_came x y (Kind f) (Cas (kind_write k) (kind_write (unkept_kind k))) kinds.Kind None word try)
 
       pub taken_serves : word ≢ kind_write k → ServesKept v y f owner
@@ -59,9 +67,6 @@ module _ (v a : PortValue) (f : ℕ) (k : KindWord) (owner : ℕ) (leaves : MayL
       taken_course dies off = taken a x life word foreign (found, store) look dies try off
 
       module _ (w : PortValue) (done : word ≡ kind_write k) (put : Moves y w (old_place y.post.vcpu First) (Store (f + 1)) kinds.Context None 0) where
-        pub named_came : Came v w
-        named_came = came_trans v y w tried_came (moves_came y w (old_place y.post.vcpu First) (Store (f + 1)) kinds.Context None 0 put)
-
         pub dying_serves : ServesKept v w f owner
         dying_serves = λ u r ds before asked locks.
             record {

@@ -1,5 +1,5 @@
 //! Marks that are set, and taken back.
-ghost use Rattle.std.specs.Prelude.{◌≡◌, ◌≢◌, ◌<◌, [], None, Some, true, length, IfErr, MatchResult, IsTrue};
+ghost use Rattle.std.specs.Prelude.{◌≡◌, ◌≢◌, ◌<◌, ◌==◌, [], None, Some, true, length, IfErr, MatchResult, IsTrue};
 ghost use Rattle.xp_words.specs.declared.place.Place.TheVariants.{Kind};
 ghost use Rattle.xp_words.specs.KindWords.{is_kind, kind_write};
 ghost use Rattle.xp_board.specs.Readings.{domain_of, is_partial};
@@ -63,7 +63,7 @@ pub fn leave_kept<P: Port>(port: &mut P, frame: u32, kind: KindWord, owner: u16)
     if owner == own_domain(port) {
         return;
     }
-    if look_life(port, owner) == 0 {
+    if is_alive(look_life(port, owner)) {
         return;
     }
     match take_back(port, frame, kind) {
@@ -77,4 +77,11 @@ fn own_domain<P: Port>(port: &P) -> u16
     ensures { result ≡ domain_of (P.value port.now).post.machine (P.value port.now).post.vcpu }
 {
     port.layout().vcpu_domain.as_slice()[port.vcpu() as usize]
+}
+
+// Whether a domain with that life word is not dying.
+fn is_alive(life: u64) -> bool
+    ensures { result ≡ (life == 0) }
+{
+    life == 0
 }

@@ -20,7 +20,7 @@ use Rattle.board_lemmas.proofs.Counted.{typed_hand_is}
 use Rattle.board_lemmas.proofs.KindReadings.{dead_count}
 use Rattle.board_lemmas.proofs.Sums.{hands-part}
 use Rattle.answer_fits.specs.Pauses.{IsElsewhere}
-use Rattle.table_releases.proofs.LastEntry.{partial_count}
+use Rattle.table_entries.proofs.LastEntry.{partial_count}
 
 -- ---- counts
 kept_marks : (k : KindWord) → k.kept ≡ true → 1 ≤ marks k

@@ -1,5 +1,5 @@
 -- A frame that is taken as a page table under a reference that was taken first: what is in hand then.
-use Rattle.std.proofs.Common.{◌≡◌, ℕ, ◌+◌, ◌<◌, ◌≤◌, ◌&&◌, not, if◌then◌else◌, Bool, true, false, List, [], ◌∷◌, length, Some, None, Result, Ok, Err, refl, sym, ap, ◌∙◌, subst, inl, inr}
+use Rattle.std.proofs.Common.{◌≡◌, ℕ, ◌<◌, ◌≤◌, not, Bool, true, false, List, [], ◌∷◌, length, Some, None, Result, Ok, Err, refl, sym, ap, ◌∙◌, subst, inl, inr}
 use Rattle.kind_words.proofs.KindHands.{no_work}
 use Rattle.xp_words.specs.Places.{sizes_of}
 use Rattle.xp_words.specs.declared.kind.PageType.{PageType}
@@ -13,8 +13,7 @@ use Rattle.xp_board.specs.declared.holdings.Work.{Work}
 use Rattle.xp_board.specs.Hands.{typed_to, without_ref}
 use Rattle.xp_board.specs.KindSteps.{live_typed}
 use Rattle.xp_board.specs.Lists.{times_by}
-use Rattle.xp_board.specs.Readings.{domain_of}
-use Rattle.xp_board.specs.Told.{Post, PortValue}
+use Rattle.xp_board.specs.Told.{PortValue}
 use Rattle.step_maker.specs.Holds.{FlushedHolds, Holds, Same, quiet}
 use Rattle.frame_words.specs.Freeing.{gave}
 use Rattle.frame_words.specs.Refs.{took}
@@ -27,12 +26,11 @@ use Rattle.table_words.proofs.Shedding.{none_unsettled}
 use Rattle.partial_state.specs.declared.stack.TableWork.{TableWork}
 use Rattle.partial_state.specs.Levels.{level_type}
 use Rattle.partial_state.specs.Stacks.{IsTable}
-use Rattle.level_validate.specs.Acquiring.{LeavesAcquired}
+use Rattle.level_validate.specs.Acquiring.{LeavesAcquired, WaitedHand, named_if}
 use Rattle.level_validate.specs.Tables.{AreTables, AreTyped, Carries, IsIdle, IsTableWork, IsTopReady, innermost, refs_for}
-use Rattle.level_validate.specs.Unwinding.{Unwinds, named_unless, own_domain}
+use Rattle.level_validate.specs.Unwinding.{Unwinds, UnwoundHand, named_unless}
 use Rattle.level_validate.proofs.Opening.{taken_open}
 use Rattle.level_validate.proofs.Pushing.{ready_by}
-use Rattle.level_validate.proofs.StandsFacts.{stands_post}
 
 -- the only table in work
 abbrev pub taken_table : ℕ → ℕ → ℕ → Bool → TableWork
@@ -111,7 +109,7 @@ module _ (v b : PortValue) (f owner : ℕ) (idle : IsIdle v) (referred : Holds v
       is_table own = record { low = low; high = high; done = few }
 
       is_work : (own : Bool) (o : WorksFrom b x f owner (level_type level) progress own) → IsTableWork (sizes_of v.post.machine) (taken_table f level progress own) o.work
-      is_work own o = record { inside = inside; frame = o.works.frame; work = o.works.in_work; kind = o.works.kind; unmarked = o.unmarked }
+      is_work own o = record { inside = inside; frame = o.works.frame; work = o.works.in_work; kind = o.works.kind; unmarked = o.unmarked; lent = λ old. absurd cc }
 
       taken_carries : (own : Bool) → WorksFrom b x f owner (level_type level) progress own → Carries v x owner (taken_table f level progress own ∷ [])
       taken_carries true o =
@@ -137,37 +135,38 @@ carries_taken v b x f owner level progress own want idle referred is low high in
     taken_carries v b f owner idle referred x level progress (taken_open b x f want progress own found).few low high inside own (subst (λ k. WorksFrom b x f owner k progress own) is o)
 
 -- ---- by the answer
--- the first old word names the frame, where its `kept` mark is not to have its type count
-abbrev named_if : ℕ → Bool → Bool → Holdings → Holdings
-named_if f own kept h = if own && not kept then record h { old0 = Some (f + 1) } else h
-
 unwound_named : (g level progress : ℕ) (own kept : Bool) (h : Holdings) → named_unless kept (taken_table g level progress own) h ≡ named_if g own kept h
 unwound_named g level progress true true h = refl
 unwound_named g level progress true false h = refl
 unwound_named g level progress false true h = refl
 unwound_named g level progress false false h = refl
 
+unwound_waited : (v w : PortValue) (g owner level progress : ℕ) (own kept : Bool) → UnwoundHand v w owner kept (taken_table g level progress own ∷ []) → WaitedHand v w g owner own kept
+unwound_waited v w g owner level progress own kept (inl hand) = inl (subst (λ h. FlushedHolds v w h) (unwound_named g level progress own kept v.holdings) hand)
+unwound_waited v w g owner level progress own kept (inr hand) = inr (hand.0, hand.1, subst (λ h. FlushedHolds v w h) (unwound_named g level progress own false v.holdings) hand.2)
+
 module _ (v w : PortValue) (f owner level : ℕ) where
   pub same_leaves : (e : Stop) → FlushedHolds v w v.holdings → LeavesAcquired v w f owner level (Err e)
   same_leaves (Refused x) same = inl same
-  same_leaves (Paused x) same = same
+  same_leaves (Paused x) same = inl same
 
-  named_leaves : (own : Bool) (e : Stop) → FlushedHolds v w (named_if f own (not (is_refused e)) v.holdings) → LeavesAcquired v w f owner level (Err e)
-  named_leaves true (Refused x) left = inr left
-  named_leaves true (Paused x) left = left
-  named_leaves false (Refused x) left = inl left
-  named_leaves false (Paused x) left = left
+  named_leaves : (own : Bool) (e : Stop) → WaitedHand v w f owner own (not (is_refused e)) → LeavesAcquired v w f owner level (Err e)
+  named_leaves true (Refused x) (inl left) = inr left
+  named_leaves true (Refused x) (inr named) = let no : false ≡ true = named.1 in absurd cc
+  named_leaves true (Paused x) (inl left) = inl left
+  named_leaves true (Paused x) (inr named) = inr (named.0, named.2)
+  named_leaves false (Refused x) (inl left) = inl left
+  named_leaves false (Refused x) (inr named) = let no : false ≡ true = named.1 in absurd cc
+  named_leaves false (Paused x) (inl left) = inl left
+  named_leaves false (Paused x) (inr named) = inl named.2
 
-  pub answer_leaves : (g : ℕ) (own kept : Bool) (e : Stop) → g ≡ f → kept ≡ not (is_refused e) → FlushedHolds v w (named_if g own kept v.holdings) → LeavesAcquired v w f owner level (Err e)
-  answer_leaves g own kept e same is left = named_leaves own e (subst (λ b. FlushedHolds v w (named_if f own b v.holdings)) is (subst (λ y. FlushedHolds v w (named_if y own kept v.holdings)) same left))
+  pub answer_leaves : (g : ℕ) (own kept : Bool) (e : Stop) → g ≡ f → kept ≡ not (is_refused e) → WaitedHand v w g owner own kept → LeavesAcquired v w f owner level (Err e)
+  answer_leaves g own kept e same is left = named_leaves own e (subst (λ b. WaitedHand v w f owner own b) is (subst (λ y. WaitedHand v w y owner own kept) same left))
 
   -- all tables in work were left
-  pub unwound_leaves : (x : PortValue) (g progress : ℕ) (own : Bool) (e : Stop) → g ≡ f → owner ≡ own_domain v → Carries v x owner (taken_table g level progress own ∷ []) → Unwinds x w (not (is_refused e)) (taken_table g level progress own ∷ []) →
+  pub unwound_leaves : (x : PortValue) (g progress : ℕ) (own : Bool) (e : Stop) → g ≡ f → Carries v x owner (taken_table g level progress own ∷ []) → Unwinds x w owner (not (is_refused e)) (taken_table g level progress own ∷ []) →
       LeavesAcquired v w f owner level (Err e)
-  unwound_leaves x g progress own e same domain s left =
-      let t = taken_table g level progress own in
-      let here : owner ≡ own_domain x = domain ∙ ap (λ (p : Post). domain_of p.machine p.vcpu) (sym (stands_post v x owner (t ∷ []) s)) in
-      answer_leaves g own (not (is_refused e)) e same refl (subst (λ h. FlushedHolds v w h) (unwound_named g level progress own (not (is_refused e)) v.holdings) (left v (subst (λ o. Carries v x o (t ∷ [])) here s)))
+  unwound_leaves x g progress own e same s left = answer_leaves g own (not (is_refused e)) e same refl (unwound_waited v w g owner level progress own (not (is_refused e)) (left v s))
 
   pub leaves_as : (answer : Result ℕ Stop) (e : Stop) → answer ≡ Err e → LeavesAcquired v w f owner level (Err e) → LeavesAcquired v w f owner level answer
   leaves_as answer e is left = subst (λ y. LeavesAcquired v w f owner level y) (sym is) left

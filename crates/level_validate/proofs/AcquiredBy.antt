@@ -70,11 +70,11 @@ module _ (v : PortValue) (f owner level : ℕ) (says : ℕ → Bool) (before ris
       counted_by so = of_frame_asked x before risen (unasked x (Ok f) refl (Acquired.counted u x got (took types.Counted so)))
 
       -- ---- it waits for a flush
-      pub waiting_by : (own : Bool) (stamp : ℕ) (e : Stop) → b ≡ types.Waiting own stamp e → (w : PortValue) (kept : Bool) → kept ≡ keeps_it e → WaitingLeft x w g level stamp own kept → AcquiresBy v w f owner level says before before risen risen (Err e)
+      pub waiting_by : (own : Bool) (stamp : ℕ) (e : Stop) → b ≡ types.Waiting own stamp e → (w : PortValue) (kept : Bool) → kept ≡ keeps_it e → WaitingLeft x w g level owner stamp own kept → AcquiresBy v w f owner level says before before risen risen (Err e)
       waiting_by own stamp e so w kept keeps left =
           let shows : ShowsWait u x g owner k (types.Waiting own stamp e) = subst (λ (t : Taken). ShowsWait u x g owner k t) so waits in
           unasked w (Err e) (entry_undue e (wait_stops e shows.0))
-          (Acquired.waiting u x w own stamp e got (took (types.Waiting own stamp e) so) (subst (λ (c : Bool). WaitingLeft x w f level stamp own c) keeps (subst (λ (n : ℕ). WaitingLeft x w n level stamp own kept) same left)))
+          (Acquired.waiting u x w own stamp e got (took (types.Waiting own stamp e) so) (subst (λ (c : Bool). WaitingLeft x w f level owner stamp own c) keeps (subst (λ (n : ℕ). WaitingLeft x w n level owner stamp own kept) same left)))
 
       -- ---- it is in work
       module _ (progress : ℕ) (own : Bool) (so : b ≡ types.InWork progress own) (w : PortValue) (after more : ℕ) where

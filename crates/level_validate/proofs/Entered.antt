@@ -66,18 +66,14 @@ module _ (v u w : PortValue) (owner : ℕ) (t : TableWork) (ts : List TableWork)
   pub after_next : (g progress : ℕ) (own : Bool) → t.done < 512 → IsTopReady u → CameOpen u g (below (level_type t.level)) progress → Opens u w t.frame t.done (level_type t.level) g owner progress own false →
       Carries v w owner (pushed t g progress own false ∷ record t { done = t.done + 1 } ∷ ts)
   after_next g progress true left ready c o =
-      pushed_own v u w owner t ts s came first t.done o.word g progress (t.done + 1) false o.work c (omega (arith, left)) o.frame o.in_work o.kind o.flushed o.recorded o.since o.taken
+      pushed_own v u w owner t ts s came first t.done o.word g progress (t.done + 1) false o.work c (omega (arith, left)) o.frame o.in_work o.kind o.flushed o.recorded refl o.since o.taken
       (reach_next v u w owner t ts s came first t.done o.word g progress true refl ready o.asks) o.hand
   after_next g progress false left ready c o =
       pushed_lent v u w owner t ts s came first t.done o.word g progress (t.done + 1) false o.work c (omega (arith, left)) o.frame o.in_work o.kind o.flushed o.recorded o.since o.aside
       (reach_next v u w owner t ts s came first t.done o.word g progress false refl ready o.asks) o.hand
 
-  pub after_again : (i g progress : ℕ) (own : Bool) → i + 1 ≡ t.done → CameOpen u g (below (level_type t.level)) progress → Opens u w t.frame i (level_type t.level) g owner progress own false →
-      Carries v w owner (pushed t g progress own true ∷ t ∷ ts)
-  after_again i g progress true at c o =
-      pushed_own v u w owner t ts s came first i o.word g progress t.done true o.work c s.stack.0.done o.frame o.in_work o.kind o.flushed o.recorded o.since o.taken
-      (reach_again v u w owner t ts s came first i o.word g progress true at o.asks) o.hand
-  after_again i g progress false at c o =
+  pub after_again : (i g progress : ℕ) → i + 1 ≡ t.done → CameOpen u g (below (level_type t.level)) progress → Opens u w t.frame i (level_type t.level) g owner progress false false → Carries v w owner (pushed t g progress false true ∷ t ∷ ts)
+  after_again i g progress at c o =
       pushed_lent v u w owner t ts s came first i o.word g progress t.done true o.work c s.stack.0.done o.frame o.in_work o.kind o.flushed o.recorded o.since o.aside
       (reach_again v u w owner t ts s came first i o.word g progress false at o.asks) o.hand
 

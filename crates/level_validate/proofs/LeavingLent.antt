@@ -80,7 +80,7 @@ pub retreat_some : (v w : PortValue) (owner : ℕ) (t : TableWork) (ts : List Ta
 retreat_some v w owner t ts s new some = let e = top v w owner t ts s in under_some (sizes_of v.post.machine) w.holdings.steps t ts e.others new some e.around
 
 module _ (v w : PortValue) (owner : ℕ) (t : TableWork) (ts : List TableWork) (s : Carries v w owner (t ∷ ts)) (lent : t.own ≡ false) (d : PortValue) (found : ℕ)
-    (store : Moves w d (Kind t.frame) (Store (kind_write (partial_kind (level_type t.level) false false t.done 0))) kinds.Kind None found) (hand : Holds w d (left_so false t.frame w.holdings)) where
+    (store : Moves w d (Kind t.frame) (Store (kind_write (partial_kind (level_type t.level) false false t.done 0))) kinds.Kind None found) (hand : Holds w d (left_so t.frame w.holdings)) where
   abbrev lent_ref : Reference
   lent_ref = record { frame = t.frame; owner = owners.Of owner }
 

@@ -1,4 +1,4 @@
--- The innermost table is left partial, and its type count goes into its `kept` mark, or into the entry that names it.
+-- The innermost table is left partial, and its type count goes into the entry that names it.
 use Rattle.std.proofs.Common.{◌≡◌, ℕ, ◌<◌, Bool, true, false, List, ◌∷◌, length, Some, None, IsTrue, refl, sym, ap, ◌∙◌, subst, arith, inl, inr}
 use Rattle.xp_words.specs.Entries.{demand_at}
 use Rattle.xp_words.specs.KindWords.{kind_write}
@@ -12,7 +12,7 @@ use Rattle.xp_board.specs.declared.holdings.Work.{Work}
 use Rattle.xp_board.specs.declared.step.Act.TheVariants.{Store}
 use Rattle.xp_board.specs.declared.step.StepKind.TheVariants as kinds
 use Rattle.xp_board.specs.Acts.{left_by}
-use Rattle.xp_board.specs.Hands.{changed_work, typed_to, without_typed, without_work}
+use Rattle.xp_board.specs.Hands.{changed_work, typed_to, without_typed}
 use Rattle.xp_board.specs.Knowledge.{knows_partial}
 use Rattle.xp_board.specs.Marks.{leaves_unsettled}
 use Rattle.xp_board.specs.Settling.{HasLastDemand, demand_out, is_settled, settles_last}
@@ -35,9 +35,8 @@ use Rattle.table_entries.proofs.HandReady.{settled_more}
 use Rattle.partial_state.proofs.LevelFacts.{level_type-table}
 use Rattle.partial_state.specs.declared.stack.TableWork.{TableWork}
 use Rattle.partial_state.specs.Levels.{level_type}
-use Rattle.level_validate.specs.Tables.{AreTables, IsTableWork, Carries, innermost, refs_for}
+use Rattle.level_validate.specs.Tables.{IsTableWork, Carries, innermost, refs_for}
 use Rattle.level_validate.specs.Unwinding.{left_so}
-use Rattle.level_validate.proofs.LeavingLent.{around_taken}
 use Rattle.level_validate.proofs.LeavingTables.{UnderWay, reaches_under, top, top_gone, top_spelled, top_typed}
 use Rattle.level_validate.proofs.StandsFacts.{TopTable, TopTyped, refs_own, stands_by, stands_post, tables_later, tables_top, top_known, typed_later}
 
@@ -51,27 +50,20 @@ module _ (v w : PortValue) (owner : ℕ) (t : TableWork) (ts : List TableWork) (
   pub refs_are : w.holdings.refs ≡ refs_for owner ts v.holdings.refs
   refs_are = s.refs ∙ refs_own owner t ts v.holdings.refs own
 
+  -- its entry is under way
+  pub own_new : t.recorded ≡ false
+  own_new = not_recorded t.recorded refl
+    where
+      not_recorded : (b : Bool) → t.recorded ≡ b → t.recorded ≡ false
+      not_recorded true old = let no : true ≡ false = sym own ∙ (top v w owner t ts s).is.lent old in absurd cc
+      not_recorded false new = new
+
   pub typed_gone : without_typed t.frame w.holdings.typed ≡ own_typed.others
   typed_gone = without_newest (λ (y : TypedReference). y.frame) t.frame own_ref own_typed.others w.holdings.typed refl own_typed.are
 
-  -- into its `kept` mark
-  module _ (d : PortValue) (hand : Holds w d (left_so true t.frame w.holdings)) (came : Came w d) where
-    pub kept_gone : FlushedHolds w d (record w.holdings { refs = w.holdings.refs; typed = own_typed.others; works = (top v w owner t ts s).others })
-    kept_gone =
-        ap quiet hand ∙ ap (λ ys. quiet (record w { holdings = record w.holdings { typed = ys; works = without_work t.frame w.holdings.works } })) typed_gone
-        ∙ ap (λ ws. quiet (record w { holdings = record w.holdings { typed = own_typed.others; works = ws } })) (top_gone v w owner t ts s)
-
-    pub kept_by : AreTables (sizes_of v.post.machine) d.holdings.steps None ts (top v w owner t ts s).others → Carries v d owner ts
-    kept_by tables =
-        stands_by v w d owner (t ∷ ts) ts w.holdings.refs own_typed.others (top v w owner t ts s).others s kept_gone s.stack.2 tables refs_are
-        (typed_later (length w.holdings.steps) (length d.holdings.steps) owner ts own_typed.others (came_longer w d came) own_typed.around)
-
-    pub kept_stands : t.recorded ≡ true → Carries v d owner ts
-    kept_stands old = kept_by (around_taken (sizes_of v.post.machine) w.holdings d.holdings t ts (top v w owner t ts s).others (came_grows w d came) (came_longer w d came) old (top v w owner t ts s).around)
-
 -- ---- into the entry of the table around it
 module _ (v w : PortValue) (owner : ℕ) (t u : TableWork) (us : List TableWork) (s : Carries v w owner (t ∷ u ∷ us)) (own : t.own ≡ true) (new : t.recorded ≡ false) (d : PortValue) (found : ℕ)
-    (store : Moves w d (Kind t.frame) (Store (kind_write (partial_kind (level_type t.level) false false t.done 0))) kinds.Kind None found) (hand : Holds w d (left_so false t.frame w.holdings)) where
+    (store : Moves w d (Kind t.frame) (Store (kind_write (partial_kind (level_type t.level) false false t.done 0))) kinds.Kind None found) (hand : Holds w d (left_so t.frame w.holdings)) where
   abbrev z : Sizes
   z = sizes_of v.post.machine
 
@@ -172,7 +164,7 @@ module _ (v w : PortValue) (owner : ℕ) (t u : TableWork) (us : List TableWork)
 
   recorded_work : IsTableWork z u (recorded_now outer.work)
   unfolding recorded_now
-  recorded_work = record { inside = outer.is.inside; frame = outer.is.frame; work = outer.is.work; kind = outer.is.kind; unmarked = outer.is.unmarked }
+  recorded_work = record { inside = outer.is.inside; frame = outer.is.frame; work = outer.is.work; kind = outer.is.kind; unmarked = outer.is.unmarked; lent = outer.is.lent }
 
   recorded_all : (recorded_now outer.work).recorded ≡ u.done
   unfolding recorded_now

@@ -1,33 +1,36 @@
 -- The innermost table is left partial: when it may be, and what is in hand then.
-use Rattle.std.proofs.Common.{◌≡◌, ℕ, ◌+◌, ◌<◌, ◌≤◌, not, Bool, true, false, List, ◌∷◌, length, Option, Some, None, IsTrue, refl, sym, ap, ◌∙◌, subst, arith, inl}
+use Rattle.std.proofs.Common.{◌≡◌, ◌≢◌, ℕ, ◌+◌, ◌<◌, ◌≤◌, not, Bool, true, false, List, [], ◌∷◌, length, Option, Some, None, IsTrue, refl, sym, ap, ◌∙◌, subst, arith, inl, inr}
+use Rattle.std.proofs.lemmas.Bool.{cases_eq}
 use Rattle.xp_words.specs.Entries.{demand_at}
-use Rattle.xp_words.specs.KindWords.{is_kind, kind_fields, kind_write}
+use Rattle.xp_words.specs.KindWords.{is_kind, kind_fields}
 use Rattle.xp_words.specs.Machine.{IsMachine}
 use Rattle.xp_words.specs.PageTypes.{is_table}
 use Rattle.xp_words.specs.Places.{Sizes, sizes_of}
-use Rattle.xp_words.specs.declared.place.Place.TheVariants.{Kind}
 use Rattle.xp_words.specs.declared.entry.Demand.TheVariants.{Typed}
+use Rattle.xp_words.specs.declared.kind.KindWord.{KindWord}
+use Rattle.xp_words.specs.declared.kind.PageType.TheVariants.{Desc}
+use Rattle.xp_board.specs.declared.holdings.Holdings.{Holdings}
 use Rattle.xp_board.specs.declared.holdings.Made.{Made}
 use Rattle.xp_board.specs.declared.holdings.OwnerFound.TheVariants as owners
 use Rattle.xp_board.specs.declared.holdings.Work.{Work}
-use Rattle.xp_board.specs.declared.step.Act.TheVariants.{Store}
-use Rattle.xp_board.specs.declared.step.StepKind.TheVariants as steps
-use Rattle.xp_board.specs.Hands.{typed_owner, typed_to, without_work, work_on}
-use Rattle.xp_board.specs.KindSteps.{MayKeep}
+use Rattle.xp_board.specs.Hands.{typed_owner, typed_to, without_typed, without_work, work_on}
+use Rattle.xp_board.specs.KindSteps.{MayKeep, kept_owner}
+use Rattle.xp_board.specs.Readings.{domain_of}
 use Rattle.xp_board.specs.Settling.{settles_last}
 use Rattle.xp_board.specs.Told.{Post, PortValue}
 use Rattle.board_lemmas.proofs.KindReadings.{work_alone}
 use Rattle.step_maker.specs.Holds.{Holds, MayWork}
-use Rattle.step_maker.specs.Moves.{Moves}
 use Rattle.frame_types.specs.Taking.{working_typed}
 use Rattle.kind_words.specs.Kinds.{MayLeave, left, partial_kind}
 use Rattle.kind_words.proofs.KindHands.{typed_held, work_here}
-use Rattle.kind_words.proofs.Leaving.{left_kept, left_partial, may_keep, may_leave_partial, without_newest}
+use Rattle.kind_words.proofs.Leaving.{left_partial, may_keep, may_leave_partial, without_newest}
+use Rattle.kind_words.proofs.Leaving as leaves
+use Rattle.kept_marks.specs.Marks.{IsKeptOf, left_kept}
 use Rattle.partial_state.proofs.LevelFacts.{level_type-table, level_type-typed}
 use Rattle.partial_state.specs.declared.stack.TableWork.{TableWork}
 use Rattle.partial_state.specs.Levels.{level_type}
 use Rattle.level_validate.specs.Tables.{Reaches, Carries, innermost, taken_on, under_way}
-use Rattle.level_validate.specs.Unwinding.{left_so, own_domain}
+use Rattle.level_validate.specs.Unwinding.{left_so}
 use Rattle.level_validate.proofs.StandsFacts.{TopTable, TopTyped, inner_is, stands_post, tables_top, typed_own}
 use Rattle.frame_types.proofs.Entering.{typed_owned}
 
@@ -57,6 +60,10 @@ reaches_under z steps t e g o inner new (under_way h word new2 next settled seen
     record { word = word; next = next; settled = settled; seen = seen; asks = asks ∙ ap (λ (y : TableWork). Typed y.frame (level_type y.level)) (inner_is h g inner) }
 reaches_under z steps t e g o inner new (taken_on h word old all some last seen asks) = absurd cc
 
+-- no level is that of a descriptor page
+pub level_type-unpaged : (l : ℕ) → 1 ≤ l → level_type l ≢ Desc
+level_type-unpaged l low is = let no : true ≡ false = sym (level_type-table l low) ∙ ap is_table is in absurd cc
+
 -- ---- the store
 module _ (v w : PortValue) (owner : ℕ) (t : TableWork) (ts : List TableWork) (s : Carries v w owner (t ∷ ts)) where
   pub top : TopTable (sizes_of v.post.machine) w.holdings.steps None t ts w.holdings.works
@@ -76,6 +83,10 @@ module _ (v w : PortValue) (owner : ℕ) (t : TableWork) (ts : List TableWork) (
 
   pub top_table : is_table (level_type t.level) ≡ true
   top_table = level_type-table t.level s.stack.0.low
+
+  -- it is no descriptor page
+  pub top_unpaged : level_type t.level ≢ Desc
+  top_unpaged = level_type-unpaged t.level s.stack.0.low
 
   pub top_typed : t.own ≡ true → TopTyped (length w.holdings.steps) owner t ts w.holdings.typed
   top_typed own = typed_own (length w.holdings.steps) owner t ts w.holdings.typed own s.typed
@@ -101,26 +112,39 @@ module _ (v w : PortValue) (owner : ℕ) (t : TableWork) (ts : List TableWork) (
     pub top_spelled : IsTrue (is_kind (partial_kind (level_type t.level) kept false t.done 0))
     top_spelled = top_leaves.is
 
-    pub top_left : owner ≡ own_domain w → left w t.frame (partial_kind (level_type t.level) kept false t.done 0) ≡ left_so kept t.frame w.holdings
-    top_left own = by kept refl
-      where
-        by : (b : Bool) → b ≡ kept → left w t.frame (partial_kind (level_type t.level) b false t.done 0) ≡ left_so b t.frame w.holdings
-        by true on =
-            left_kept w t.frame (level_type t.level) top.work top_here false t.done 0 top.is.work (subst (λ b. IsTrue (is_kind (partial_kind (level_type t.level) b false t.done 0))) (sym on) top_spelled)
-            (top_owned (mine (sym on)) ∙ ap (λ o. owners.Of o) own)
-        by false off =
-            left_partial w t.frame (level_type t.level) top.work top_here false t.done 0 top.is.work (subst (λ b. IsTrue (is_kind (partial_kind (level_type t.level) b false t.done 0))) (sym off) top_spelled)
+  -- without a mark
+  pub top_left : left w t.frame (partial_kind (level_type t.level) false false t.done 0) ≡ left_so t.frame w.holdings
+  top_left = left_partial w t.frame (level_type t.level) top.work top_here false t.done 0 top.is.work (top_spelled false (λ on. absurd cc))
+
+  pub top_looking : w.holdings.looking ≡ []
+  top_looking = ap (λ (q : PortValue). q.holdings.looking) s.hand ∙ s.idle.looking
+
+  -- with a mark, which has its type count
+  module _ (own : t.own ≡ true) where
+    abbrev k : KindWord
+    k = partial_kind (level_type t.level) true false t.done 0
+
+    pub top_kept_owner : IsKeptOf w t.frame owner
+    top_kept_owner e here =
+        let same : top.work ≡ e = (let both : Some top.work ≡ Some e = sym top_here ∙ here in cc) in
+        subst (λ (y : Work). kept_owner t.frame y w.holdings ≡ owners.Of owner) same
+        (rw (work_alone (kind_fields top.work.word) top.is.work) (top_owned own))
+
+    abbrev gone : Holdings
+    gone = record w.holdings { typed = without_typed t.frame w.holdings.typed; works = without_work t.frame w.holdings.works; looking = [] }
+
+    left_gone : left_kept w t.frame k ≡ gone
+    left_gone =
+        elim (cases_eq owner (domain_of w.post.machine w.post.vcpu)) [
+          | inl same ↦ ap (λ (h : Holdings). record h { looking = [] }) (leaves.left_kept w t.frame (level_type t.level) top.work top_here false t.done 0 top.is.work (top_spelled true (λ on. own)) (top_owned own ∙ ap (λ o. owners.Of o) same))
+          | inr off ↦ ap (λ (h : Holdings). record h { looking = [] }) (leaves.left_kept_other w t.frame (level_type t.level) top.work top_here false t.done 0 top.is.work owner (top_spelled true (λ on. own)) (top_owned own) off)
+        ]
+
+    pub top_kept : left_kept w t.frame k ≡ record w.holdings { typed = without_typed t.frame w.holdings.typed; works = without_work t.frame w.holdings.works }
+    top_kept = left_gone ∙ ap (λ xs. record w.holdings { typed = without_typed t.frame w.holdings.typed; works = without_work t.frame w.holdings.works; looking = xs }) (sym top_looking)
 
 -- ---- after the store
--- with its `kept` mark or without, by what that is
-pub store_as : (w d : PortValue) (t : TableWork) (found : ℕ) (b kept : Bool) → b ≡ kept → Moves w d (Kind t.frame) (Store (kind_write (partial_kind (level_type t.level) b false t.done 0))) steps.Kind None found →
-    Moves w d (Kind t.frame) (Store (kind_write (partial_kind (level_type t.level) kept false t.done 0))) steps.Kind None found
-store_as w d t found b kept is store = subst (λ y. Moves w d (Kind t.frame) (Store (kind_write (partial_kind (level_type t.level) y false t.done 0))) steps.Kind None found) is store
-
-pub left_as : (w d : PortValue) (f : ℕ) (b kept : Bool) → b ≡ kept → Holds w d (left_so b f w.holdings) → Holds w d (left_so kept f w.holdings)
-left_as w d f b kept is hand = subst (λ y. Holds w d (left_so y f w.holdings)) is hand
-
-module _ (w d : PortValue) (kept : Bool) (f : ℕ) (hand : Holds w d (left_so kept f w.holdings)) where
+module _ (w d : PortValue) (f : ℕ) (hand : Holds w d (left_so f w.holdings)) where
   pub left_may : MayWork w → MayWork d
   left_may m =
       record {

@@ -314,8 +314,8 @@ module _ (v w : PortValue) where
 again_plain : (n : Machine) (g : ℕ) (t : PageType) → IsAskedType t → (answer : Result Resumed Stop) (vs : List Visit) → TypedAgain n g t answer vs → Plain vs
 again_plain n g t is (Ok again.Settled) vs a = absurd a
 again_plain n g t is (Ok (again.Taken f)) vs a = taken_plain g t is.0 types.Counted vs a.1
-again_plain n g t is (Ok (again.Opened f progress own)) vs a = taken_plain g t is.0 (types.InWork progress own) vs a.1
-again_plain n g t is (Ok (again.Waiting f own stamp stop)) vs a = taken_plain g t is.0 (types.Waiting own stamp stop) vs a.1
+again_plain n g t is (Ok (again.Opened f progress)) vs a = taken_plain g t is.0 (types.InWork progress false) vs a.1
+again_plain n g t is (Ok (again.Waiting f stamp stop)) vs a = taken_plain g t is.0 (types.Waiting false stamp stop) vs a.1
 again_plain n g t is (Err e) vs a = refuses_plain n g t is.0 e vs a
 
 last_plain : (n : Machine) (g : ℕ) (t : PageType) → IsAskedType t → (owner : ℕ) (answer : Result Resumed Stop) (vs : List Visit) → LastBy n g t owner answer vs → Plain vs

@@ -9,6 +9,7 @@ mod EnteredOn
 mod Filling
 mod Forward
 mod GoneOn
+mod KeptSteps
 mod LeavingLent
 mod LeavingOwn
 mod LeavingTables
@@ -16,7 +17,6 @@ mod LeftSo
 mod LeftWaiting
 mod LeftWell
 mod LeftWellEntries
-mod LeftWellWaiting
 mod LookedAgain
 mod Looking
 mod Lowering
@@ -28,13 +28,13 @@ mod Opening
 mod Outermost
 mod Progressing
 mod Pushing
-mod Recorded
 mod Requested
 mod Rising
 mod Serving
 mod Sharing
 mod Standing
 mod StandsFacts
+mod Unkept
 mod Unwound
 mod TakenOn
 mod TookAgain

@@ -202,7 +202,7 @@ module _ (v w : PortValue) (owner : ℕ) (t u : TableWork) (us : List TableWork)
 
       pub new_stands : Carries v x owner (u ∷ us)
       unfolding recorded_now
-      new_stands = stands_then x (recorded_now outer.work) came recorded_hand (record { inside = outer.is.inside; frame = outer.is.frame; work = outer.is.work; kind = outer.is.kind; unmarked = outer.is.unmarked }) refl
+      new_stands = stands_then x (recorded_now outer.work) came recorded_hand (record { inside = outer.is.inside; frame = outer.is.frame; work = outer.is.work; kind = outer.is.kind; unmarked = outer.is.unmarked; lent = outer.is.lent }) refl
 
       pub new_ready : IsTopReady x
       unfolding recorded_now

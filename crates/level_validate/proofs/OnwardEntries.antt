@@ -182,8 +182,8 @@ entered_forward v w f i t owner answer on a =
 again_onward : (n : Machine) (g : ℕ) (t : PageType) (answer : Result Resumed Stop) (vs : List Visit) → TypedAgain n g t answer vs → Onward vs
 again_onward n g t (Ok again.Settled) vs a = absurd a
 again_onward n g t (Ok (again.Taken f)) vs a = taken_onward g t types.Counted vs a.1
-again_onward n g t (Ok (again.Opened f progress own)) vs a = taken_onward g t (types.InWork progress own) vs a.1
-again_onward n g t (Ok (again.Waiting f own stamp stop)) vs a = taken_onward g t (types.Waiting own stamp stop) vs a.1
+again_onward n g t (Ok (again.Opened f progress)) vs a = taken_onward g t (types.InWork progress false) vs a.1
+again_onward n g t (Ok (again.Waiting f stamp stop)) vs a = taken_onward g t (types.Waiting false stamp stop) vs a.1
 again_onward n g t (Err e) vs a = refuses_onward n g t e vs a
 
 last_onward : (n : Machine) (g : ℕ) (t : PageType) (owner : ℕ) (answer : Result Resumed Stop) (vs : List Visit) → LastBy n g t owner answer vs → Onward vs

@@ -1,5 +1,5 @@
 -- The last recorded entry of the innermost table is looked at again, and names a table that was left unfinished: that one is on top then.
-use Rattle.std.proofs.Common.{◌≡◌, ℕ, ◌-◌, ◌≤◌, Bool, true, List, [], ◌∷◌, drop, Result, IfErr, refl, sym, ap, ◌∙◌, subst}
+use Rattle.std.proofs.Common.{◌≡◌, ℕ, ◌-◌, ◌≤◌, true, false, List, [], ◌∷◌, drop, Result, IfErr, refl, sym, ap, ◌∙◌, subst}
 use Rattle.partial_state.proofs.LevelFacts.{level_type-under}
 use Rattle.std.proofs.lemmas.Result.{IfErr-weaker}
 use Rattle.xp_words.specs.Entries.{below}
@@ -25,9 +25,9 @@ top_low u owner t stack top a =
     let s = subst (λ xs. Carries a.0 u owner xs) top a.1 in
     s.stack.0.low
 
-module _ (u x : PortValue) (owner : ℕ) (t : TableWork) (stack : List TableWork) (top : stack ≡ t ∷ drop 1 stack) (some : t.done ≡ 0 → ⊥) (f progress : ℕ) (own : Bool) (said : SaidAgain u x owner t (again.Opened f progress own)) where
+module _ (u x : PortValue) (owner : ℕ) (t : TableWork) (stack : List TableWork) (top : stack ≡ t ∷ drop 1 stack) (some : t.done ≡ 0 → ⊥) (f progress : ℕ) (said : SaidAgain u x owner t (again.Opened f progress)) where
   abbrev inner : TableWork
-  inner = pushed t f progress own true
+  inner = pushed t f progress false true
 
   below_is : IsStanding u owner stack → below (level_type t.level) ≡ level_type (t.level - 1)
   below_is a =
@@ -36,8 +36,8 @@ module _ (u x : PortValue) (owner : ℕ) (t : TableWork) (stack : List TableWork
 
   on_top : (v : PortValue) → Carries v u owner stack → Carries v x owner (inner ∷ t ∷ drop 1 stack)
   on_top v s =
-      after_again v u x owner t (drop 1 stack) (subst (λ xs. Carries v u owner xs) top s) (again_came u x owner t (again.Opened f progress own) said) (again_first u x owner t (again.Opened f progress own) said) (t.done - 1) f progress own
-      (back_one t.done some) (again_found u x t.frame (t.done - 1) (level_type t.level) owner f progress own said.entry.found) said.hand
+      after_again v u x owner t (drop 1 stack) (subst (λ xs. Carries v u owner xs) top s) (again_came u x owner t (again.Opened f progress) said) (again_first u x owner t (again.Opened f progress) said) (t.done - 1) f progress
+      (back_one t.done some) (again_found u x t.frame (t.done - 1) (level_type t.level) owner f progress said.entry.found) said.hand
 
   pub opened_table : IsStanding u owner stack → IsTable inner
   opened_table a = (on_top a.0 a.1).stack.0
@@ -46,7 +46,7 @@ module _ (u x : PortValue) (owner : ℕ) (t : TableWork) (stack : List TableWork
   opened_may a may = may_stands a.0 x owner (inner ∷ t ∷ drop 1 stack) (on_top a.0 a.1) (may_back a.0 u owner stack a.1 may)
 
   pub opened_ready : progress ≡ 0 → IsTopReady x
-  opened_ready zero = fresh_ready u x t.frame (t.done - 1) (level_type t.level) f owner progress own said.hand zero
+  opened_ready zero = fresh_ready u x t.frame (t.done - 1) (level_type t.level) f owner progress false said.hand zero
 
   module _ (next : List TableWork) (is : next ≡ inner ∷ stack) where
     pub opened_stands : StandsOn u x owner stack next

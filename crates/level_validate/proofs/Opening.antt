@@ -133,10 +133,10 @@ module _ (v w : PortValue) (f i : ℕ) (t : PageType) (owner : ℕ) (answer : Re
         does_shows v w (λ vs. ResumedBy v.post.machine f i t owner (Ok answer) vs) resumes
         (λ vs each e. again_by e.0 (demand_at t i e.0) refl e.1.after (each_next (WasFound v w) _ _ vs e.1 each) e.1.next)
 
-pub again_found : (v w : PortValue) (f i : ℕ) (t : PageType) (owner g progress : ℕ) (own : Bool) → ResumesFound v w f i t owner (Ok (again.Opened g progress own)) → CameOpen v g (below t) progress
-again_found v w f i t owner g progress own resumes =
-    again_typed v w f i t owner (again.Opened g progress own) (CameOpen v g (below t) progress) (λ is. absurd cc)
-    (λ h want is vs each way. subst (λ k. CameOpen v g k progress) is (subst (λ j. CameOpen v j want progress) (sym way.0) (came_open v w vs each h want progress own way.1))) resumes
+pub again_found : (v w : PortValue) (f i : ℕ) (t : PageType) (owner g progress : ℕ) → ResumesFound v w f i t owner (Ok (again.Opened g progress)) → CameOpen v g (below t) progress
+again_found v w f i t owner g progress resumes =
+    again_typed v w f i t owner (again.Opened g progress) (CameOpen v g (below t) progress) (λ is. absurd cc)
+    (λ h want is vs each way. subst (λ k. CameOpen v g k progress) is (subst (λ j. CameOpen v j want progress) (sym way.0) (came_open v w vs each h want progress false way.1))) resumes
 
 -- ---- it is a table of the level below
 pub read_level : (l : ℕ) → 1 ≤ l → is_read_first (below (level_type l)) ≡ true → 2 ≤ l

@@ -1,20 +1,17 @@
 -- The outermost table stays the same while the tables in it are validated: what that says when it is full, and when all are left.
-use Rattle.std.proofs.Common.{◌≡◌, ℕ, ◌==◌, Bool, true, false, List, [], ◌∷◌, Option, Some, None, refl, sym, ap, ◌∙◌, subst, arith}
+use Rattle.std.proofs.Common.{◌≡◌, ℕ, ◌==◌, Bool, true, false, List, [], ◌∷◌, Option, Some, None, refl, sym, ap, ◌∙◌, subst, arith, inl, inr}
 use Rattle.std.proofs.lemmas.Bool.Decides.{nat_tests}
 use Rattle.xp_board.specs.declared.holdings.Holdings.{Holdings}
 use Rattle.xp_board.specs.declared.holdings.OwnerFound.TheVariants as owners
-use Rattle.xp_board.specs.Readings.{domain_of}
-use Rattle.xp_board.specs.Told.{Post, PortValue}
+use Rattle.xp_board.specs.Told.{PortValue}
 use Rattle.step_maker.specs.Holds.{FlushedHolds, MayWork}
-use Rattle.step_maker.specs.Moves.{Came}
-use Rattle.step_maker.proofs.Coming.{came_post}
 use Rattle.table_words.specs.OldWords.{known_old}
 use Rattle.table_words.specs.declared.old_words.OldWord.TheVariants.{First}
 use Rattle.partial_state.specs.declared.stack.TableWork.{TableWork}
 use Rattle.level_validate.specs.Acquiring.{is_filled, outermost_work}
 use Rattle.level_validate.specs.Completing.{Completes}
 use Rattle.level_validate.specs.Tables.{Carries, IsStanding, StandsOn, refs_for}
-use Rattle.level_validate.specs.Unwinding.{Unwinds, named_unless, outermost_named, own_domain}
+use Rattle.level_validate.specs.Unwinding.{Unwinds, UnwoundHand, named_unless, outermost_frame, outermost_named}
 use Rattle.level_validate.proofs.LeavingTables.{top_owned}
 use Rattle.level_validate.proofs.StandsFacts.{may_back, may_stands, ref_owned, refs_lent}
 
@@ -43,6 +40,23 @@ named_is kept (t ∷ u ∷ us) h = named_is kept (u ∷ us) h
 pub named_alike : (kept : Bool) (ts us : List TableWork) (h : Holdings) → outermost_work ts ≡ outermost_work us → outermost_named kept ts h ≡ outermost_named kept us h
 named_alike kept ts us h same = named_is kept ts h ∙ ap (λ o. named_by kept o h) same ∙ sym (named_is kept us h)
 
+pub hand_alike : (v w : PortValue) (owner : ℕ) (kept : Bool) (ts us : List TableWork) → outermost_work ts ≡ outermost_work us → UnwoundHand v w owner kept ts → UnwoundHand v w owner kept us
+hand_alike v w owner kept ts us same (inl hand) = inl (subst (λ h. FlushedHolds v w h) (named_alike kept ts us v.holdings same) hand)
+hand_alike v w owner kept ts us same (inr hand) = inr (hand.0, hand.1, subst (λ h. FlushedHolds v w h) (named_alike false ts us v.holdings same) hand.2)
+
+-- its frame
+abbrev frame_by : Option TableWork → ℕ
+frame_by None = 0
+frame_by (Some t) = t.frame
+
+frame_is : (ts : List TableWork) → outermost_frame ts ≡ frame_by (outermost_work ts)
+frame_is [] = refl
+frame_is (t ∷ []) = refl
+frame_is (t ∷ u ∷ us) = frame_is (u ∷ us)
+
+pub frame_alike : (ts us : List TableWork) → outermost_work ts ≡ outermost_work us → outermost_frame ts ≡ outermost_frame us
+frame_alike ts us same = frame_is ts ∙ ap frame_by same ∙ sym (frame_is us)
+
 -- ---- the tables have one owner
 same_number : (o p : ℕ) → owners.Of o ≡ owners.Of p → o ≡ p
 same_number o p same = cc
@@ -69,19 +83,10 @@ module _ (u x : PortValue) (owner : ℕ) (ts us : List TableWork) (a : IsStandin
   pub on_room : known_old First u.holdings ≡ Some 0 → known_old First x.holdings ≡ Some 0
   on_room room = ap (λ (q : PortValue). q.holdings.old0) (stands a.0 a.1).hand ∙ sym (ap (λ (q : PortValue). q.holdings.old0) a.1.hand) ∙ room
 
-on_domain : (u x : PortValue) → Came u x → own_domain u ≡ own_domain x
-on_domain u x came = ap (λ (p : Post). domain_of p.machine p.vcpu) (sym (came_post u x came))
-
-pub own_standing : (u x : PortValue) (owner : ℕ) (us : List TableWork) → Came u x → owner ≡ own_domain u → IsStanding x owner us → IsStanding x (own_domain x) us
-own_standing u x owner us came own a = (a.0, subst (λ o. Carries a.0 x o us) (own ∙ on_domain u x came) a.1)
-
 -- it is made live
 pub completed : (u x w : PortValue) (owner : ℕ) (t : TableWork) → IsStanding u owner (t ∷ []) → StandsOn u x owner (t ∷ []) (record t { done = 512 } ∷ []) → Completes x w (record t { done = 512 }) → Completes u w t
 completed u x w owner t a stands live v o s = live v o (subst (λ p. Carries v x p (record t { done = 512 } ∷ [])) (one_owner a.0 v u owner o t [] [] a.1 s) (stands v (subst (λ p. Carries v u p (t ∷ [])) (sym (one_owner a.0 v u owner o t [] [] a.1 s)) s)))
 
 -- all are left
-pub unwound : (u x w : PortValue) (owner : ℕ) (kept : Bool) (ts us : List TableWork) → Came u x → owner ≡ own_domain u → outermost_work us ≡ outermost_work ts → StandsOn u x owner ts us → Unwinds x w kept us → Unwinds u w kept ts
-unwound u x w owner kept ts us came own same stands left v s =
-    let here = on_domain u x came in
-    subst (λ h. FlushedHolds v w h) (named_alike kept us ts v.holdings same)
-    (left v (subst (λ o. Carries v x o us) (own ∙ here) (stands v (subst (λ o. Carries v u o ts) (sym own) s))))
+pub unwound : (u x w : PortValue) (owner : ℕ) (kept : Bool) (ts us : List TableWork) → outermost_work us ≡ outermost_work ts → StandsOn u x owner ts us → Unwinds x w owner kept us → Unwinds u w owner kept ts
+unwound u x w owner kept ts us same stands left v s = hand_alike v w owner kept us ts same (left v (stands v s))

@@ -97,7 +97,7 @@ module _ (v u w : PortValue) (owner : ℕ) (t : TableWork) (ts : List TableWork)
   unfolding seen
   seen_table =
       let is = is_table_work in
-      record { inside = is.inside; frame = learned_frame i word e ∙ is.frame; work = subst (λ y. IsTrue (is_work (kind_fields y))) (sym (learned_word i word e)) is.work; kind = ap (λ y. (kind_fields y).kind) (learned_word i word e) ∙ is.kind; unmarked = ap (λ y. (kind_fields y).unflushed) (learned_word i word e) ∙ is.unmarked }
+      record { inside = is.inside; frame = learned_frame i word e ∙ is.frame; work = subst (λ y. IsTrue (is_work (kind_fields y))) (sym (learned_word i word e)) is.work; kind = ap (λ y. (kind_fields y).kind) (learned_word i word e) ∙ is.kind; unmarked = ap (λ y. (kind_fields y).unflushed) (learned_word i word e) ∙ is.unmarked; lent = is.lent }
 
   -- ---- the hand
   pub looked_hand : learned_cell t.frame i word u.holdings ≡ record u.holdings { works = seen ∷ es }
@@ -132,7 +132,7 @@ module _ (v u w : PortValue) (owner : ℕ) (t : TableWork) (ts : List TableWork)
       let st = s.stack in
       stands_by v u w owner (t ∷ ts) (record t { done = t.done + 1 } ∷ ts) u.holdings.refs u.holdings.typed (record seen { recorded = i + 1; unsettled = r } ∷ es) s hand
       (record { low = st.0.low; high = st.0.high; done = omega arith }, st.1, st.2)
-      (record { inside = is.inside; frame = is.frame; work = is.work; kind = is.kind; unmarked = is.unmarked }, innermost (ap (λ n. n + 1) at), around_done (t.done + 1))
+      (record { inside = is.inside; frame = is.frame; work = is.work; kind = is.kind; unmarked = is.unmarked; lent = is.lent }, innermost (ap (λ n. n + 1) at), around_done (t.done + 1))
       s.refs (typed_done (length w.holdings.steps) owner t (t.done + 1) ts u.holdings.typed typed_now)
 
   -- ---- another table came into work
@@ -152,19 +152,20 @@ module _ (v u w : PortValue) (owner : ℕ) (t : TableWork) (ts : List TableWork)
         let few = opens.few in
         (record { low = omega (arith, two); high = omega (arith, high); done = few }, let k : t.level - 1 + 1 ≡ t.level = omega (arith, two) in k, (record { low = st.0.low; high = high; done = fits }, st.1, st.2))
 
-    new_table : (own : Bool) → IsTableWork (sizes_of v.post.machine) (pushed t g progress own r) x
-    new_table own =
+    new_table : (own : Bool) → (r ≡ true → own ≡ false) → IsTableWork (sizes_of v.post.machine) (pushed t g progress own r) x
+    new_table own lent =
         record {
           inside = subst (λ (p : Post). g < p.machine.frames) (stands_post v u owner (t ∷ ts) s) opens.inside;
           frame = frame;
           work = in_work;
           kind = kind ∙ type_is;
           unmarked = unmarked;
+          lent = lent;
         }
 
-    tables_are : (own : Bool) → Reaches (sizes_of v.post.machine) w.holdings.steps (record t { done = d }) seen (Some (pushed t g progress own r)) →
+    tables_are : (own : Bool) → (r ≡ true → own ≡ false) → Reaches (sizes_of v.post.machine) w.holdings.steps (record t { done = d }) seen (Some (pushed t g progress own r)) →
         AreTables (sizes_of v.post.machine) w.holdings.steps None (pushed t g progress own r ∷ record t { done = d } ∷ ts) (x ∷ seen ∷ es)
-    tables_are own reach = (new_table own, innermost recorded, (work_done (sizes_of v.post.machine) t seen d seen_table, reach, around_done d))
+    tables_are own lent reach = (new_table own lent, innermost recorded, (work_done (sizes_of v.post.machine) t seen d seen_table, reach, around_done d))
 
     typed_done_now : AreTyped (length w.holdings.steps) owner (record t { done = d } ∷ ts) u.holdings.typed
     typed_done_now = typed_done (length w.holdings.steps) owner t d ts u.holdings.typed typed_now
@@ -172,15 +173,15 @@ module _ (v u w : PortValue) (owner : ℕ) (t : TableWork) (ts : List TableWork)
     lent_ref : Reference
     lent_ref = record { frame = g; owner = owners.Of owner }
 
-    pub pushed_own : (since : ℕ) → since ≤ length w.holdings.steps → Reaches (sizes_of v.post.machine) w.holdings.steps (record t { done = d }) seen (Some (pushed t g progress true r)) →
+    pub pushed_own : r ≡ false → (since : ℕ) → since ≤ length w.holdings.steps → Reaches (sizes_of v.post.machine) w.holdings.steps (record t { done = d }) seen (Some (pushed t g progress true r)) →
         FlushedHolds u w (working g owner (below (level_type t.level)) true x since (record (learned_cell t.frame i word u.holdings) { refs = record { frame = g; owner = owners.Of owner } ∷ u.holdings.refs })) →
         Carries v w owner (pushed t g progress true r ∷ record t { done = d } ∷ ts)
-    pushed_own since taken reach hand =
+    pushed_own new since taken reach hand =
         stands_by v u w owner (t ∷ ts) (pushed t g progress true r ∷ record t { done = d } ∷ ts) u.holdings.refs (working_typed g owner (below (level_type t.level)) since ∷ u.holdings.typed) (x ∷ seen ∷ es) s
         (hand ∙ ap (λ h. quiet (record u { holdings = working g owner (below (level_type t.level)) true x since (record h { refs = record { frame = g; owner = owners.Of owner } ∷ u.holdings.refs }) })) looked_hand
         ∙ ap (λ rs. quiet (record u { holdings = record u.holdings { refs = rs; typed = working_typed g owner (below (level_type t.level)) since ∷ u.holdings.typed; works = x ∷ seen ∷ es } }))
         (without_newest (λ (y : Reference). y.frame) g (record { frame = g; owner = owners.Of owner }) u.holdings.refs _ refl refl))
-        (stack_is true) (tables_are true reach) s.refs
+        (stack_is true) (tables_are true (λ old. let no : true ≡ false = sym old ∙ new in absurd cc) reach) s.refs
         (since, taken, u.holdings.typed, ap (λ k. working_typed g owner k since ∷ u.holdings.typed) type_is, typed_done_now)
 
     pub pushed_lent : (since : ℕ) → typed_to g u.holdings.typed ≡ 0 → Reaches (sizes_of v.post.machine) w.holdings.steps (record t { done = d }) seen (Some (pushed t g progress false r)) →
@@ -189,7 +190,7 @@ module _ (v u w : PortValue) (owner : ℕ) (t : TableWork) (ts : List TableWork)
     pushed_lent since aside reach hand =
         stands_by v u w owner (t ∷ ts) (pushed t g progress false r ∷ record t { done = d } ∷ ts) (record { frame = g; owner = owners.Of owner } ∷ u.holdings.refs) u.holdings.typed (x ∷ seen ∷ es) s
         (hand ∙ ap (λ h. quiet (record u { holdings = working g owner (below (level_type t.level)) false x since (record h { refs = record { frame = g; owner = owners.Of owner } ∷ u.holdings.refs }) })) looked_hand)
-        (stack_is false) (tables_are false reach) (ap (λ rs. record { frame = g; owner = owners.Of owner } ∷ rs) s.refs)
+        (stack_is false) (tables_are false (λ old. refl) reach) (ap (λ rs. record { frame = g; owner = owners.Of owner } ∷ rs) s.refs)
         (aside, typed_done_now)
 
   -- ---- where it stands in the innermost one

@@ -1,5 +1,5 @@
 -- What the steps on tables in work are to a call that asked these tables.
-use Rattle.std.proofs.Common.{◌≡◌, ℕ, Bool, true, false, List, [], ◌∷◌, ◌++◌, Some, None, IsTrue, sym, ap, ◌∙◌, subst, append_assoc, inl}
+use Rattle.std.proofs.Common.{◌≡◌, ◌≢◌, ◌⊎◌, ℕ, Bool, true, false, List, [], ◌∷◌, ◌++◌, Some, None, IsTrue, refl, sym, ap, ◌∙◌, subst, append_assoc, inl, inr}
 use Rattle.xp_words.specs.Machine.{Machine}
 use Rattle.xp_words.specs.KindWords.{is_kind, kind_fields, kind_write}
 use Rattle.xp_words.specs.declared.kind.KindWord.{KindWord}
@@ -7,14 +7,17 @@ use Rattle.xp_words.specs.declared.place.Place.TheVariants.{Clock, Kind}
 use Rattle.xp_board.specs.declared.step.Act.TheVariants.{Load, Store}
 use Rattle.xp_board.specs.declared.step.Mark.TheVariants.{Record}
 use Rattle.xp_board.specs.declared.step.StepKind.TheVariants as kinds
+use Rattle.xp_board.specs.Readings.{domain_of}
 use Rattle.xp_board.specs.Told.{Post, PortValue}
 use Rattle.step_maker.specs.Moves.{Came, Met, Moment, Moves}
 use Rattle.step_maker.proofs.Coming.{came_post, met_before, moves_came}
-use Rattle.answer_fits.specs.Answers.{Deed, Serves}
-use Rattle.answer_fits.specs.Asked.{IsAsked, Request, of, of_back}
+use Rattle.answer_fits.specs.Answers.{Deed, Misses, Serves}
+use Rattle.answer_fits.specs.Asked.{Asked, IsAsked, Request, of, of_back, of_frame}
 use Rattle.answer_fits.specs.Finding.{Finding}
 use Rattle.answer_fits.specs.Reasons.{keeps_type}
-use Rattle.answer_fits.proofs.Piecing.{same_request, serves_back, serves_came, serves_step}
+use Rattle.answer_fits.proofs.Piecing.{same_request, serves_back, serves_call, serves_came, serves_step}
+use Rattle.frame_types.specs.Leaving.{ServesType}
+use Rattle.table_entries.proofs.PiecesTaking.{left_serves}
 use Rattle.frame_types.proofs.Serving.{kept_type, work_alive}
 use Rattle.kind_words.proofs.KindFacts.{work_word}
 use Rattle.kind_words.proofs.KindWriting.{fields_write}
@@ -23,7 +26,8 @@ use Rattle.table_words.specs.declared.old_words.OldWord.TheVariants.{First}
 use Rattle.partial_state.specs.declared.stack.TableWork.{TableWork}
 use Rattle.partial_state.specs.Levels.{level_type}
 use Rattle.partial_state.specs.Stacks.{advanced, retreated}
-use Rattle.level_validate.specs.Serving.{AreAsked, CarriesOn, IsPiece}
+use Rattle.kept_marks.specs.Marks.{IsForeign, ServesMark}
+use Rattle.level_validate.specs.Serving.{AreAsked, CarriesOn, IsPiece, ServesLeft, ServesMarked}
 use Rattle.level_validate.specs.Tables.{Carries}
 use Rattle.level_validate.specs.Unwinding.{around_lent}
 use Rattle.level_validate.proofs.LeavingTables.{top, top_here}
@@ -123,3 +127,36 @@ pub goes_then : (v x w : PortValue) (owner : ℕ) (ts us rs : List TableWork) (d
 unfolding CarriesOn
 goes_then v x w owner ts us rs ds es first second u r fs a =
     subst (λ gs. IsPiece u w r owner rs gs) (sym (append_assoc es ds fs)) (second u r (ds ++ fs) (first u r fs a))
+
+-- ---- frames that are left
+-- no exchange is lost
+pub marked_none : (u w : PortValue) (r : Request) (owner : ℕ) (kept : Bool) (f : ℕ) (ds : List Deed) → Serves u w r ds → ServesMarked u w r owner kept f ds
+marked_none u w r owner kept f ds serves = record { more = []; hidden = inl refl; serves = serves }
+
+-- as a `kept` mark is left
+kept_hidden : (u : PortValue) (owner : ℕ) (kept : Bool) (f : ℕ) (ds : List Deed) → kept ≡ true → (ds ≡ []) ⊎ (IsForeign u owner × (ds ≡ Misses (Kind f) ∷ [])) → (ds ≡ []) ⊎ (IsForeign u owner × (kept ≡ true) × (ds ≡ Misses (Kind f) ∷ []))
+kept_hidden u owner kept f ds on (inl none) = inl none
+kept_hidden u owner kept f ds on (inr one) = inr (one.0, on, one.1)
+
+pub marked_kept : (u w : PortValue) (r : Request) (owner : ℕ) (kept : Bool) (f : ℕ) (ds : List Deed) → kept ≡ true → ServesMark u w r f owner ds → ServesMarked u w r owner kept f ds
+marked_kept u w r owner kept f ds on a = record { more = a.more; hidden = kept_hidden u owner kept f a.more on a.hidden; serves = a.serves }
+
+-- a frame that waits is left so that its type is served
+pub type_left : (u x w : PortValue) (r : Request) (ds : List Deed) (f owner level : ℕ) → Serves u x r ds → Asked u.post.machine u.post.vcpu r (Met u x) f owner (Some (level_type level)) → ServesType x w f (level_type level) → Serves u w r ds
+type_left u x w r ds f owner level before asks types =
+    let left = left_serves x w f owner (level_type level) types in
+    serves_call u x w r ds [] before f owner (Some (level_type level)) asks (serves_came x w (of_frame f owner (Some (level_type level))) [] left) left
+
+-- tables that are left behind steps that go on
+pub foreign_still : (v w : PortValue) (owner : ℕ) → Came v w → IsForeign w owner → IsForeign v owner
+foreign_still v w owner came off = subst (λ (p : Post). owner ≢ domain_of p.machine p.vcpu) (came_post v w came) off
+
+pub left_behind : (v x w : PortValue) (owner : ℕ) (kept : Bool) (f : ℕ) (ts us : List TableWork) (ds es : List Deed) → Came v x → CarriesOn v x owner ts us ds → ServesLeft x w owner kept f us es → ServesLeft v w owner kept f ts (es ++ ds)
+unfolding CarriesOn ServesLeft
+left_behind v x w owner kept f ts us ds es came first second u r fs a locks =
+    subst (λ gs. ServesMarked u w r owner kept f gs) (sym (append_assoc es ds fs)) (second u r (ds ++ fs) (first u r fs a) (λ off. locks (foreign_still v x owner came off)))
+
+-- all tables are left so that the steps go on
+pub left_on : (v w : PortValue) (owner : ℕ) (kept : Bool) (f : ℕ) (ts us : List TableWork) (es : List Deed) → CarriesOn v w owner ts us es → ServesLeft v w owner kept f ts es
+unfolding CarriesOn ServesLeft
+left_on v w owner kept f ts us es goes u r ds a locks = marked_none u w r owner kept f (es ++ ds) (goes u r ds a).serves

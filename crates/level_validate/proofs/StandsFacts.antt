@@ -156,7 +156,7 @@ tables_inner z steps g n (t ∷ ts) [] are = absurd are
 tables_inner z steps g n (t ∷ ts) (e ∷ es) are = (are.0, reaches_inner z steps t e g n (Some g) refl are.1, are.2)
 
 pub work_done : (z : Sizes) (t : TableWork) (e : Work) (n : ℕ) → IsTableWork z t e → IsTableWork z (record t { done = n }) e
-work_done z t e n is = record { inside = is.inside; frame = is.frame; work = is.work; kind = is.kind; unmarked = is.unmarked }
+work_done z t e n is = record { inside = is.inside; frame = is.frame; work = is.work; kind = is.kind; unmarked = is.unmarked; lent = is.lent }
 
 pub refs_done : (owner : ℕ) (t : TableWork) (n : ℕ) (ts : List TableWork) (rs : List Reference) → refs_for owner (t ∷ ts) rs ≡ refs_for owner (record t { done = n } ∷ ts) rs
 refs_done owner t n ts rs = refl

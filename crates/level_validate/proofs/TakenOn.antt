@@ -5,7 +5,7 @@ use Rattle.xp_words.specs.declared.reply.Stop.{Stop}
 use Rattle.xp_board.specs.Told.{PortValue}
 use Rattle.answer_fits.specs.Answers.{Stops}
 use Rattle.answer_fits.specs.Visits.{Does}
-use Rattle.frame_types.specs.Found.{DeadBy, SharedBy}
+use Rattle.frame_types.specs.Found.{SharedBy}
 use Rattle.partial_state.specs.Levels.{level_type}
 use Rattle.partial_state.specs.declared.stack.TableWork.{TableWork}
 use Rattle.table_entries.specs.Asking.{ShowsResumed, of_entries}
@@ -58,19 +58,16 @@ module _ (owner : ℕ) (v : PortValue) (t : TableWork) (ts stack : List TableWor
     taken_on u w f resumed back = stays w (Ok true) (TookOn.taken v u w t ts f least resumed back)
 
     -- the table that it names is on top then
-    pub opened_on : (u w : PortValue) (f progress : ℕ) (own : Bool) (answer : Result Bool Stop) (next us : List TableWork) → next ≡ table_in t f progress own true ∷ stack → ResumedEntry v u owner t (Ok (again.Opened f progress own)) →
+    pub opened_on : (u w : PortValue) (f progress : ℕ) (answer : Result Bool Stop) (next us : List TableWork) → next ≡ table_in t f progress false true ∷ stack → ResumedEntry v u owner t (Ok (again.Opened f progress)) →
         TookOn owner u next w us answer → TookOn owner v stack w us answer
-    opened_on u w f progress own answer next us pushed resumed took =
+    opened_on u w f progress answer next us pushed resumed took =
         subst (λ (xs : List TableWork). TookOn owner v xs w us answer) (sym top)
-        (TookOn.opened v u w t ts us f progress own answer least resumed
-        (subst (λ (xs : List TableWork). TookOn owner u (table_in t f progress own true ∷ xs) w us answer) top (subst (λ (xs : List TableWork). TookOn owner u xs w us answer) pushed took)))
+        (TookOn.opened v u w t ts us f progress answer least resumed
+        (subst (λ (xs : List TableWork). TookOn owner u (table_in t f progress false true ∷ xs) w us answer) top (subst (λ (xs : List TableWork). TookOn owner u xs w us answer) pushed took)))
 
-    pub waiting_on : (u w : PortValue) (f : ℕ) (own : Bool) (stamp : ℕ) (e : Stop) (mine : Bool) → own ≡ mine → ResumedEntry v u owner t (Ok (again.Waiting f own stamp e)) → LeftWaiting u w f (t.level - 1) mine stamp → TookOn owner v stack w stack (Err e)
-    waiting_on u w f own stamp e mine is resumed left = stays w (Err e) (TookOn.waiting v u w t ts f own stamp e least resumed (subst (λ (b : Bool). LeftWaiting u w f (t.level - 1) b stamp) (sym is) left))
+    pub waiting_on : (u w : PortValue) (f stamp : ℕ) (e : Stop) → ResumedEntry v u owner t (Ok (again.Waiting f stamp e)) → LeftWaiting u w f (t.level - 1) stamp → TookOn owner v stack w stack (Err e)
+    waiting_on u w f stamp e resumed left = stays w (Err e) (TookOn.waiting v u w t ts f stamp e least resumed left)
 
 -- ---- a frame that waits for a flush is left, for the type of a level
-pub dead_left : (v w : PortValue) (f level : ℕ) (k : PageType) → k ≡ level_type level → Does v w (λ vs. DeadBy f k vs) → (stamp : ℕ) → LeftWaiting v w f level true stamp
-dead_left v w f level k is does stamp = subst (λ (j : PageType). Does v w (λ vs. DeadBy f j vs)) is does
-
-pub shared_left : (v w : PortValue) (f level : ℕ) (k : PageType) → k ≡ level_type level → (stamp : ℕ) → Does v w (λ vs. SharedBy f k stamp vs) → LeftWaiting v w f level false stamp
+pub shared_left : (v w : PortValue) (f level : ℕ) (k : PageType) → k ≡ level_type level → (stamp : ℕ) → Does v w (λ vs. SharedBy f k stamp vs) → LeftWaiting v w f level stamp
 shared_left v w f level k is stamp does = subst (λ (j : PageType). Does v w (λ vs. SharedBy f j stamp vs)) is does

@@ -18,8 +18,8 @@ module _ (says : ℕ → Bool) (before after risen more : ℕ) where
         consults_as false (λ answers. Worked owner v t y us answers (Ok tt)) (λ answers. ValidatesBy owner v t w answers (Ok tt))
         (λ answers worked. (y, u, subst (λ (xs : List TableWork). Worked owner v t y xs answers (Ok tt)) only worked, full, live)) c
 
-    pub validated_left : (rose : Bool) (e : Stop) (kept : Bool) → kept ≡ keeps_it e → Unwound y us kept w → Consults says before after risen more rose (λ answers. Worked owner v t y us answers (Err e)) →
+    pub validated_left : (rose : Bool) (e : Stop) (kept : Bool) → kept ≡ keeps_it e → Unwound y owner us kept w → Consults says before after risen more rose (λ answers. Worked owner v t y us answers (Err e)) →
         Consults says before after risen more rose (λ answers. ValidatesBy owner v t w answers (Err e))
     validated_left rose e kept is unwound c =
         consults_as rose (λ answers. Worked owner v t y us answers (Err e)) (λ answers. ValidatesBy owner v t w answers (Err e))
-        (λ answers worked. (y, us, worked, subst (λ (b : Bool). Unwound y us b w) is unwound)) c
+        (λ answers worked. (y, us, worked, subst (λ (b : Bool). Unwound y owner us b w) is unwound)) c

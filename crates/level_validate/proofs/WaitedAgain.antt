@@ -1,8 +1,6 @@
 -- The last recorded entry of the innermost table is looked at again, and its frame waits for a flush that is not to be had: it is left.
-use Rattle.std.proofs.Common.{◌≡◌, ℕ, ◌-◌, ◌<◌, not, Bool, true, false, List, ◌∷◌, drop, IsTrue, ◌∙◌, sym, subst}
+use Rattle.std.proofs.Common.{◌≡◌, ℕ, ◌-◌, ◌<◌, false, List, ◌∷◌, drop, ◌∙◌, sym, subst}
 use Rattle.xp_words.specs.Entries.{below}
-use Rattle.xp_words.specs.KindWords.{kind_fields}
-use Rattle.xp_words.specs.PageTypes.{is_none}
 use Rattle.xp_words.specs.declared.kind.PageType.{PageType}
 use Rattle.xp_words.specs.declared.reply.Stop.{Stop}
 use Rattle.xp_board.specs.Told.{Post, PortValue}
@@ -10,31 +8,29 @@ use Rattle.step_maker.specs.Moves.{Came}
 use Rattle.step_maker.proofs.Coming.{came_post}
 use Rattle.answer_fits.specs.Answers.{missed}
 use Rattle.answer_fits.specs.Visits.{Does}
-use Rattle.frame_types.specs.Found.{DeadBy, SharedBy}
+use Rattle.frame_types.specs.Found.{SharedBy}
 use Rattle.frame_types.specs.Leaving.{GivesBack, IsWaiting, ServesType}
 use Rattle.partial_state.specs.Levels.{level_type}
 use Rattle.partial_state.specs.declared.stack.TableWork.{TableWork}
 use Rattle.partial_state.proofs.LevelFacts.{level_type-plain, level_type-typed, level_type-under}
 use Rattle.table_entries.specs.Asking.{IsEntryStop}
-use Rattle.table_entries.specs.Tops.{Opens}
 use Rattle.table_entries.specs.declared.resuming.Resumed.TheVariants as again
 use Rattle.level_validate.specs.Forward.{Forward}
 use Rattle.level_validate.specs.Leaving.{LeftWell}
 use Rattle.level_validate.specs.Serving.{CarriesOn, StopsIn}
 use Rattle.level_validate.specs.Tables.{Carries, IsStanding, StandsOn}
 use Rattle.level_validate.proofs.Asking.{goes_left, goes_waiting, stops_entries, stops_on}
-use Rattle.level_validate.proofs.Entered.{after_look, back_one}
+use Rattle.level_validate.proofs.Entered.{after_look}
 use Rattle.level_validate.proofs.Forward.{forward_by, forward_then}
 use Rattle.level_validate.proofs.LeftWell.{well_by, well_then}
 use Rattle.level_validate.proofs.LeftWellEntries.{IsAskedType, shared_plain, stamp_small}
-use Rattle.level_validate.proofs.LeftWellWaiting.{waiting_well}
 use Rattle.level_validate.proofs.LookedAgain.{SaidAgain, again_came, again_first, again_forward, again_then, again_well}
-use Rattle.level_validate.proofs.Onward.{dead_onward, shared_onward}
+use Rattle.level_validate.proofs.Onward.{shared_onward}
 use Rattle.level_validate.proofs.Waiting.{left_waiting, wait_stops, waited_found, waits_there}
 
-module _ (u x : PortValue) (owner : ℕ) (t : TableWork) (stack : List TableWork) (top : stack ≡ t ∷ drop 1 stack) (some : t.done ≡ 0 → ⊥) (f : ℕ) (own : Bool) (stamp : ℕ) (stop : Stop) (said : SaidAgain u x owner t (again.Waiting f own stamp stop)) (a : IsStanding u owner stack) where
+module _ (u x : PortValue) (owner : ℕ) (t : TableWork) (stack : List TableWork) (top : stack ≡ t ∷ drop 1 stack) (some : t.done ≡ 0 → ⊥) (f stamp : ℕ) (stop : Stop) (said : SaidAgain u x owner t (again.Waiting f stamp stop)) (a : IsStanding u owner stack) where
   came : Came u x
-  came = again_came u x owner t (again.Waiting f own stamp stop) said
+  came = again_came u x owner t (again.Waiting f stamp stop) said
 
   below_is : below (level_type t.level) ≡ level_type (t.level - 1)
   below_is =
@@ -42,25 +38,22 @@ module _ (u x : PortValue) (owner : ℕ) (t : TableWork) (stack : List TableWork
       level_type-under t.level s.stack.0.low s.stack.0.high
 
   pub waited_inside : f < x.post.machine.frames
-  waited_inside = subst (λ (p : Post). f < p.machine.frames) (sym (came_post u x came)) (waited_found u x t.frame (t.done - 1) (level_type t.level) owner f own stamp stop said.entry.found)
+  waited_inside = subst (λ (p : Post). f < p.machine.frames) (sym (came_post u x came)) (waited_found u x t.frame (t.done - 1) (level_type t.level) owner f stamp stop said.entry.found)
 
   pub waited_kinds : IsEntryStop stop
   waited_kinds = wait_stops stop (said.entry.shows 0).1
 
-  -- it is left, with its type count in hand, or another holder's
-  module _ (mine : Bool) (is : own ≡ mine) (k : PageType) (kind : k ≡ level_type (t.level - 1)) where
-    opens : (o : Opens u x t.frame (t.done - 1) (level_type t.level) f owner 0 mine true) × ((kind_fields o.work.word).number ≡ stamp)
-    opens = subst (λ b. (o : Opens u x t.frame (t.done - 1) (level_type t.level) f owner 0 b true) × ((kind_fields o.work.word).number ≡ stamp)) is said.hand
-
-    pub waited_waits : IsWaiting x f k mine stamp
-    waited_waits = waits_there u x t.frame (t.done - 1) (level_type t.level) (t.level - 1) f owner mine below_is opens.0 k stamp kind opens.1
+  -- it is left
+  module _ (k : PageType) (kind : k ≡ level_type (t.level - 1)) where
+    pub waited_waits : IsWaiting x f k false stamp
+    waited_waits = waits_there u x t.frame (t.done - 1) (level_type t.level) (t.level - 1) f owner below_is said.hand.0 k stamp kind said.hand.1
 
     module _ (y : PortValue) (on : Came x y) where
-      pub waited_stands : GivesBack x y f k mine → StandsOn u y owner stack stack
+      pub waited_stands : GivesBack x y f k false → StandsOn u y owner stack stack
       waited_stands gives v s =
           subst (λ xs. Carries v y owner xs) (sym top)
-          (after_look v u y owner t (drop 1 stack) (subst (λ xs. Carries v u owner xs) top s) (again_then u x owner t (again.Waiting f own stamp stop) said y on) (again_first u x owner t (again.Waiting f own stamp stop) said) (t.done - 1)
-          (left_waiting u x t.frame (t.done - 1) (level_type t.level) (t.level - 1) f owner mine below_is opens.0 y k kind gives))
+          (after_look v u y owner t (drop 1 stack) (subst (λ xs. Carries v u owner xs) top s) (again_then u x owner t (again.Waiting f stamp stop) said y on) (again_first u x owner t (again.Waiting f stamp stop) said) (t.done - 1)
+          (left_waiting u x t.frame (t.done - 1) (level_type t.level) (t.level - 1) f owner below_is said.hand.0 y k kind gives))
 
       pub waited_serves : ServesType x y f k → CarriesOn u y owner stack stack (missed u.post.machine stop)
       waited_serves serves =
@@ -70,22 +63,13 @@ module _ (u x : PortValue) (owner : ℕ) (t : TableWork) (stack : List TableWork
       pub waited_stops : StopsIn u y owner stack stop
       waited_stops = stops_on u x owner stack stop y on (stops_entries u x owner stack stop (λ pages. (said.entry.shows pages).2))
 
-  -- ---- its steps
-  module _ (k : PageType) (kind : k ≡ level_type (t.level - 1)) (y : PortValue) where
-    pub dead_forward : Does x y (λ vs. DeadBy f k vs) → Forward u y
-    dead_forward does = forward_then u x y (again_forward u x owner t (again.Waiting f own stamp stop) said stack top a some) (forward_by x y (λ vs. DeadBy f k vs) (dead_onward f k) does)
+    -- ---- its steps
+    module _ (y : PortValue) where
+      pub shared_forward : Does x y (λ vs. SharedBy f k stamp vs) → Forward u y
+      shared_forward does = forward_then u x y (again_forward u x owner t (again.Waiting f stamp stop) said stack top a some) (forward_by x y (λ vs. SharedBy f k stamp vs) (shared_onward f k stamp) does)
 
-    pub shared_forward : Does x y (λ vs. SharedBy f k stamp vs) → Forward u y
-    shared_forward does = forward_then u x y (again_forward u x owner t (again.Waiting f own stamp stop) said stack top a some) (forward_by x y (λ vs. SharedBy f k stamp vs) (shared_onward f k stamp) does)
-
-    pub dead_well : own ≡ true → Does x y (λ vs. DeadBy f k vs) → (e : ℕ) → LeftWell u y false e
-    dead_well is does e =
-        well_then u x y false e (again_well u x owner t (again.Waiting f own stamp stop) said e)
-        (waiting_well a.0 u x owner t (drop 1 stack) (subst (λ xs. Carries a.0 u owner xs) top a.1) came (again_first u x owner t (again.Waiting f own stamp stop) said) (t.done - 1) f (back_one t.done some) (opens true is k kind).0 e k
-        (subst (λ j. IsTrue (not (is_none j))) (sym kind) (level_type-typed (t.level - 1))) y does)
-
-    pub shared_well : Does x y (λ vs. SharedBy f k stamp vs) → (e : ℕ) → LeftWell u y false e
-    shared_well does e =
-        let asked = subst (λ j. IsAskedType j) (sym kind) (level_type-typed (t.level - 1), level_type-plain (t.level - 1)) in
-        well_then u x y false e (again_well u x owner t (again.Waiting f own stamp stop) said e)
-        (well_by x y false e (λ vs. SharedBy f k stamp vs) (shared_plain f k stamp asked (stamp_small said.hand.0.work.word stamp said.hand.1)) does)
+      pub shared_well : Does x y (λ vs. SharedBy f k stamp vs) → (e : ℕ) → LeftWell u y false e
+      shared_well does e =
+          let asked = subst (λ j. IsAskedType j) (sym kind) (level_type-typed (t.level - 1), level_type-plain (t.level - 1)) in
+          well_then u x y false e (again_well u x owner t (again.Waiting f stamp stop) said e)
+          (well_by x y false e (λ vs. SharedBy f k stamp vs) (shared_plain f k stamp asked (stamp_small said.hand.0.work.word stamp said.hand.1)) does)

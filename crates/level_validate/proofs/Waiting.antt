@@ -1,5 +1,5 @@
 -- The frame of the last recorded entry waits for a flush: it is left as it was found.
-use Rattle.std.proofs.Common.{◌≡◌, ℕ, ◌==◌, ◌<◌, not, Bool, true, Ok, refl, sym, ap, ◌∙◌, subst}
+use Rattle.std.proofs.Common.{◌≡◌, ℕ, ◌==◌, ◌<◌, not, true, false, Ok, refl, sym, ap, ◌∙◌, subst}
 use Rattle.std.proofs.lemmas.Bool.{or_left}
 use Rattle.xp_words.specs.Entries.{below}
 use Rattle.xp_words.specs.KindWords.{kind_fields}
@@ -37,10 +37,10 @@ wait_stops _ wait = absurd wait
 
 -- ---- the frame is one of the machine's
 module _ (v w : PortValue) (f i : ℕ) (t : PageType) (owner g : ℕ) where
-  pub waited_found : (own : Bool) (stamp : ℕ) (stop : Stop) → ResumesFound v w f i t owner (Ok (again.Waiting g own stamp stop)) → g < v.post.machine.frames
-  waited_found own stamp stop resumes =
-      again_typed v w f i t owner (again.Waiting g own stamp stop) (g < v.post.machine.frames) (λ is. absurd cc)
-      (λ h want is vs each way. subst (λ j. j < v.post.machine.frames) (sym way.0) (taken_inside v w vs each h want (Waiting own stamp stop) way.1)) resumes
+  pub waited_found : (stamp : ℕ) (stop : Stop) → ResumesFound v w f i t owner (Ok (again.Waiting g stamp stop)) → g < v.post.machine.frames
+  waited_found stamp stop resumes =
+      again_typed v w f i t owner (again.Waiting g stamp stop) (g < v.post.machine.frames) (λ is. absurd cc)
+      (λ h want is vs each way. subst (λ j. j < v.post.machine.frames) (sym way.0) (taken_inside v w vs each h want (Waiting false stamp stop) way.1)) resumes
 
   pub taken_found : ResumesFound v w f i t owner (Ok (again.Taken g)) → g < v.post.machine.frames
   taken_found resumes =
@@ -48,11 +48,11 @@ module _ (v w : PortValue) (f i : ℕ) (t : PageType) (owner g : ℕ) where
       (λ h want is vs each way. subst (λ j. j < v.post.machine.frames) (sym way.0) (taken_inside v w vs each h want Counted way.1)) resumes
 
 -- ---- it waits there since a port that had looked, and had a reference more
-module _ (u x : PortValue) (f i : ℕ) (t : PageType) (l g owner : ℕ) (own : Bool) (is : below t ≡ level_type l) (o : Opens u x f i t g owner 0 own true) where
+module _ (u x : PortValue) (f i : ℕ) (t : PageType) (l g owner : ℕ) (is : below t ≡ level_type l) (o : Opens u x f i t g owner 0 false true) where
   before : PortValue
   before = record u { holdings = took g owner (learned_cell f i o.word u.holdings) }
 
-  waits_since : WaitsFrom before x g owner (level_type l) own (kind_fields o.work.word).number
+  waits_since : WaitsFrom before x g owner (level_type l) false (kind_fields o.work.word).number
   unfolding before
   waits_since =
       record {
@@ -66,25 +66,25 @@ module _ (u x : PortValue) (f i : ℕ) (t : PageType) (l g owner : ℕ) (own : B
             kind = o.kind ∙ is;
             earlier = o.earlier;
             aside = o.aside;
-            hand = subst (λ k. FlushedHolds u x (working g owner k own o.work o.since (took g owner (learned_cell f i o.word u.holdings)))) is o.hand;
+            hand = subst (λ k. FlushedHolds u x (working g owner k false o.work o.since (took g owner (learned_cell f i o.word u.holdings)))) is o.hand;
           };
           none = o.recorded;
           settled = o.settled refl;
           marked = o.flushed;
           stamped = refl;
           typed = asks_some t i o.word g (level_type l) (o.asks ∙ ap (λ k. demands.Typed g k) is);
-          whose = or_left (not (type_number (level_type l) == 5)) own (level_type-plain l);
+          whose = or_left (not (type_number (level_type l) == 5)) false (level_type-plain l);
         };
         lent = record { others = u.holdings.refs; refs = refl };
       }
 
-  pub waits_there : (k : PageType) (stamp : ℕ) → k ≡ level_type l → (kind_fields o.work.word).number ≡ stamp → IsWaiting x g k own stamp
-  waits_there k stamp kind number = (before, owner, subst (λ n. WaitsFrom before x g owner k own n) number (subst (λ y. WaitsFrom before x g owner y own (kind_fields o.work.word).number) (sym kind) waits_since))
+  pub waits_there : (k : PageType) (stamp : ℕ) → k ≡ level_type l → (kind_fields o.work.word).number ≡ stamp → IsWaiting x g k false stamp
+  waits_there k stamp kind number = (before, owner, subst (λ n. WaitsFrom before x g owner k false n) number (subst (λ y. WaitsFrom before x g owner y false (kind_fields o.work.word).number) (sym kind) waits_since))
 
-  pub left_waiting : (w : PortValue) (k : PageType) → k ≡ level_type l → GivesBack x w g k own → LookedAnd u w f i as_it_was
+  pub left_waiting : (w : PortValue) (k : PageType) → k ≡ level_type l → GivesBack x w g k false → LookedAnd u w f i as_it_was
   unfolding before
   left_waiting w k kind gives = (
     o.word,
-    gives before owner (kind_fields o.work.word).number (subst (λ y. WaitsFrom before x g owner y own (kind_fields o.work.word).number) (sym kind) waits_since)
+    gives before owner (kind_fields o.work.word).number (subst (λ y. WaitsFrom before x g owner y false (kind_fields o.work.word).number) (sym kind) waits_since)
         ∙ ap (λ rs. quiet (record u { holdings = record (learned_cell f i o.word u.holdings) { refs = rs } })) (without_newest (λ (y : Reference). y.frame) g (record { frame = g; owner = owners.Of owner }) u.holdings.refs _ refl refl),
   )

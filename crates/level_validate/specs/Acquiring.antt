@@ -5,6 +5,7 @@ use Rattle.xp_words.specs.declared.reply.Pause.TheVariants.{Busy, Due, Flush, Lo
 use Rattle.xp_words.specs.declared.reply.Refusal.TheVariants as refusals
 use Rattle.xp_words.specs.declared.reply.Stop.{Stop}
 use Rattle.xp_words.specs.declared.reply.Stop.TheVariants.{Refused, Paused}
+use Rattle.xp_board.specs.declared.holdings.Holdings.{Holdings}
 use Rattle.xp_board.specs.declared.holdings.OwnerFound.TheVariants as owners
 use Rattle.xp_board.specs.KindSteps.{live_typed}
 use Rattle.xp_board.specs.Told.{PortValue}
@@ -86,10 +87,11 @@ StopsRisen v w owner ts e =
     (u : PortValue) (r : Request) (ds : List Deed) → (is_due_stop e ≡ true → r.rose ≡ true) → Carries u v owner ts → IsPiece u v r owner ts ds → Stops u w r e
 
 -- ---- hands
--- wherever that one table came into work, it is live with a typed reference in hand; or nothing of it is in hand, but for the first old word
-abbrev pub Validated : PortValue → PortValue → TableWork → Result (Unit {0}) Stop → Type 0
-Validated u w t (Ok done) = Completes u w t
-Validated u w t (Err e) = Unwinds u w (not (is_refused e)) (t ∷ [])
+-- wherever that one table of that owner came into work, it is live with a typed reference in hand; or nothing of it is in hand, but for the
+-- first old word
+abbrev pub Validated : PortValue → PortValue → ℕ → TableWork → Result (Unit {0}) Stop → Type 0
+Validated u w owner t (Ok done) = Completes u w t
+Validated u w owner t (Err e) = Unwinds u w owner (not (is_refused e)) (t ∷ [])
 
 -- Ok: a typed reference to the live frame came into the hand. Refused: nothing is in hand, and the first old word may name the frame.
 -- Paused: nothing is in hand, and the first old word may name a frame of another domain, which is dying.
@@ -100,19 +102,26 @@ LeavesAcquired v w f owner level (Err (Paused x)) = FlushedSame v w ⊎ (IsForei
 
 -- ---- a table that waits for a flush
 -- it came there from some port that was idle, under a reference that was taken first
-pub record TableWaits (v w : PortValue) (f level : ℕ) (own : Bool) (stamp : ℕ) : Type 0 where
+pub record TableWaits (v w : PortValue) (f level owner : ℕ) (own : Bool) (stamp : ℕ) : Type 0 where
   pub lent : PortValue
   pub idle : IsIdle v
-  pub referred : Holds v lent (took f (own_domain v) v.holdings)
-  pub waits : WaitsWith lent w f (own_domain v) (level_type level) own stamp
+  pub referred : Holds v lent (took f owner v.holdings)
+  pub waits : WaitsWith lent w f owner (level_type level) own stamp
 
-abbrev pub IsTableWaiting : PortValue → ℕ → ℕ → Bool → ℕ → Type 0
-IsTableWaiting w f level own stamp = (v : PortValue) × TableWaits v w f level own stamp
+abbrev pub IsTableWaiting : PortValue → ℕ → ℕ → ℕ → Bool → ℕ → Type 0
+IsTableWaiting w f level owner own stamp = (v : PortValue) × TableWaits v w f level owner own stamp
 
--- from wherever it came there nothing of it is in hand, or the first old word has it
-abbrev pub LeavesWaiting : PortValue → PortValue → ℕ → ℕ → Bool → ℕ → Bool → Type 0
-LeavesWaiting u w f level own stamp kept =
-    (v : PortValue) → TableWaits v u f level own stamp → FlushedHolds v w (if own && not kept then record v.holdings { old0 = Some (f + 1) } else v.holdings)
+-- the first old word names the frame, where its type count is in hand and its `kept` mark is not to have that
+abbrev pub named_if : ℕ → Bool → Bool → Holdings → Holdings
+named_if f own kept h = if own && not kept then record h { old0 = Some (f + 1) } else h
+
+-- Nothing of it is in hand. Where the mark of another domain's frame was to have its type count, the first old word may name it.
+abbrev pub WaitedHand : PortValue → PortValue → ℕ → ℕ → Bool → Bool → Type 0
+WaitedHand v w f owner own kept = FlushedHolds v w (named_if f own kept v.holdings) ⊎ (IsForeign v owner × (kept ≡ true) × FlushedHolds v w (named_if f own false v.holdings))
+
+-- from wherever it came there
+abbrev pub LeavesWaiting : PortValue → PortValue → ℕ → ℕ → ℕ → Bool → ℕ → Bool → Type 0
+LeavesWaiting u w f level owner own stamp kept = (v : PortValue) → TableWaits v u f level owner own stamp → WaitedHand v w f owner own kept
 
 -- ---- the course
 -- The frame was taken by these calls, and with these answers of a gate that says this at each ask: its count of asks was `before` and is

@@ -25,11 +25,11 @@ GoesOn owner v ts w us answers answer =
 
 -- ---- tables that are left
 -- whatever way leaves the tables us from w on, there is one that leaves the tables ts from v on
-unfoldable pub UnwindsOn : PortValue → PortValue → Bool → List TableWork → List TableWork → Type 0
-UnwindsOn v w kept ts us = (x : PortValue) → Unwound w us kept x → Unwound v ts kept x
+unfoldable pub UnwindsOn : PortValue → PortValue → ℕ → Bool → List TableWork → List TableWork → Type 0
+UnwindsOn v w owner kept ts us = (x : PortValue) → Unwound w owner us kept x → Unwound v owner ts kept x
 
 -- ---- the only table
 -- it is worked on until it is full, and then live; or all tables in work are left
 abbrev pub ValidatesBy : ℕ → PortValue → TableWork → PortValue → List Bool → Result (Unit {0}) Stop → Type 0
 ValidatesBy owner v t w answers (Ok done) = (y : PortValue) × (u : TableWork) × Worked owner v t y (u ∷ []) answers (Ok tt) × (u.done ≡ 512) × MadeLive y w u
-ValidatesBy owner v t w answers (Err e) = (y : PortValue) × (us : List TableWork) × Worked owner v t y us answers (Err e) × Unwound y us (keeps_it e) w
+ValidatesBy owner v t w answers (Err e) = (y : PortValue) × (us : List TableWork) × Worked owner v t y us answers (Err e) × Unwound y owner us (keeps_it e) w

@@ -21,13 +21,14 @@ use Rattle.partial_state.specs.Levels.{level_type}
 use Rattle.partial_state.specs.Stacks.{IsStack}
 
 -- ---- works
--- the table is in work with its type, past its flush
+-- The table is in work with its type, past its flush. Of one whose entry was recorded before, that entry has the type count.
 pub record IsTableWork (z : Sizes) (t : TableWork) (e : Work) : Type 0 where
   pub inside : t.frame < z.frames
   pub frame : e.frame ≡ t.frame
   pub work : IsTrue (is_work (kind_fields e.word))
   pub kind : (kind_fields e.word).kind ≡ level_type t.level
   pub unmarked : (kind_fields e.word).unflushed ≡ false
+  pub lent : t.recorded ≡ true → t.own ≡ false
 
 -- where the last recorded entry is not settled, it is that word
 abbrev pub IsLastWord : ℕ → Option Unsettled → Type 0

@@ -1,10 +1,11 @@
 -- Tables in work that are left partial: what is in hand then.
-use Rattle.std.specs.Prelude.{◌≡◌, ℕ, ◌+◌, ◌&&◌, not, if◌then◌else◌, Bool, true, false, List, [], ◌∷◌, Some}
+use Rattle.std.specs.Prelude.{◌≡◌, ◌⊎◌, ℕ, ◌+◌, ◌&&◌, not, if◌then◌else◌, Bool, true, false, List, [], ◌∷◌, Some}
 use Rattle.xp_board.specs.declared.holdings.Holdings.{Holdings}
-use Rattle.xp_board.specs.Hands.{without_typed, without_work}
+use Rattle.xp_board.specs.Hands.{without_work}
 use Rattle.xp_board.specs.Readings.{domain_of}
 use Rattle.xp_board.specs.Told.{PortValue}
 use Rattle.step_maker.specs.Holds.{FlushedHolds}
+use Rattle.kept_marks.specs.Marks.{IsForeign}
 use Rattle.partial_state.specs.declared.stack.TableWork.{TableWork}
 use Rattle.partial_state.specs.Stacks.{retreated}
 use Rattle.level_validate.specs.Tables.{Carries}
@@ -21,23 +22,34 @@ outermost_named kept [] h = h
 outermost_named kept (t ∷ []) h = named_unless kept t h
 outermost_named kept (t ∷ u ∷ us) h = outermost_named kept (u ∷ us) h
 
--- wherever these tables came into work, nothing of them is in hand
-abbrev pub Unwinds : PortValue → PortValue → Bool → List TableWork → Type 0
-Unwinds u w kept ts = (v : PortValue) → Carries v u (own_domain u) ts → FlushedHolds v w (outermost_named kept ts v.holdings)
+-- its frame
+abbrev pub outermost_frame : List TableWork → ℕ
+outermost_frame [] = 0
+outermost_frame (t ∷ []) = t.frame
+outermost_frame (t ∷ u ∷ us) = outermost_frame (u ∷ us)
+
+-- Nothing of these tables is in hand. Where the mark of another domain's table was to have its type count, the first old word may name it.
+abbrev pub UnwoundHand : PortValue → PortValue → ℕ → Bool → List TableWork → Type 0
+UnwoundHand v w owner kept ts =
+    FlushedHolds v w (outermost_named kept ts v.holdings) ⊎ (IsForeign v owner × (kept ≡ true) × FlushedHolds v w (outermost_named false ts v.holdings))
+
+-- wherever these tables of that owner came into work
+abbrev pub Unwinds : PortValue → PortValue → ℕ → Bool → List TableWork → Type 0
+Unwinds u w owner kept ts = (v : PortValue) → Carries v u owner ts → UnwoundHand v w owner kept ts
 
 -- ---- one table
--- a frame of the own works is left partial; its type count stays in hand, or goes into its `kept` mark
-abbrev pub left_so : Bool → ℕ → Holdings → Holdings
-left_so kept f h = record h { typed = if kept then without_typed f h.typed else h.typed; works = without_work f h.works }
+-- a frame of the own works is left partial, without a `kept` mark
+abbrev pub left_so : ℕ → Holdings → Holdings
+left_so f h = record h { works = without_work f h.works }
 
--- what is in hand after it: nothing of any table, or the tables around it stand
-abbrev pub UnwoundTo : PortValue → PortValue → ℕ → Bool → List TableWork → Holdings → Type 0
-UnwoundTo v w owner kept [] h = FlushedHolds v w h
-UnwoundTo v w owner kept (t ∷ ts) h = Carries v w owner (t ∷ ts) × (outermost_named kept (t ∷ ts) v.holdings ≡ h)
+-- what is in hand after one of the tables ts: nothing of any table, or the tables around it stand
+abbrev pub UnwoundTo : PortValue → PortValue → ℕ → Bool → List TableWork → List TableWork → Type 0
+UnwoundTo v w owner kept ts [] = UnwoundHand v w owner kept ts
+UnwoundTo v w owner kept ts (u ∷ us) = Carries v w owner (u ∷ us)
 
 -- from wherever these tables came into work
-abbrev pub UnwindsTo : PortValue → PortValue → Bool → List TableWork → List TableWork → Type 0
-UnwindsTo u w kept ts us = (v : PortValue) → Carries v u (own_domain u) ts → UnwoundTo v w (own_domain u) kept us (outermost_named kept ts v.holdings)
+abbrev pub UnwindsTo : PortValue → PortValue → ℕ → Bool → List TableWork → List TableWork → Type 0
+UnwindsTo u w owner kept ts us = (v : PortValue) → Carries v u owner ts → UnwoundTo v w owner kept ts us
 
 -- the tables around one that is left: its entry stays recorded, or is not done with any more
 abbrev pub around_lent : Bool → List TableWork → List TableWork

@@ -2,22 +2,20 @@
 ghost use Rattle.std.specs.Prelude.{◌≡◌, ◌+◌, ◌<◌, ◌≤◌, ◌∷◌, ℕ, [], Some, Bool, true, false, not, ◌&&◌, if◌then◌else◌, length, IfOk, IfErr};
 ghost use Rattle.step_maker.specs.Holds.{MayWork};
 ghost use Rattle.step_maker.specs.Moves.{Came, Met};
-ghost use Rattle.answer_fits.specs.Answers.{Serves, Stops, misses};
+ghost use Rattle.answer_fits.specs.Answers.{Stops, misses};
 ghost use Rattle.answer_fits.specs.Pauses.{Progress};
-ghost use Rattle.frame_types.specs.Leaving.{ServesType};
 ghost use Rattle.frame_types.specs.Plain.{is_refused};
 ghost use Rattle.partial_state.specs.Levels.{level_type};
 ghost use Rattle.table_words.specs.OldWords.{known_old};
 ghost use Rattle.table_words.specs.declared.old_words.OldWord.TheVariants.{First};
 ghost use Rattle.partial_state.specs.Weights.{weight};
 ghost use Rattle.table_courses.specs.Acquiring.{Advanced, WaitingLeft, Worked, is_asked};
-ghost use Rattle.level_validate.specs.Acquiring.{AcquiresBy, IsAcquireStop, IsTableWaiting, LeavesAcquired, LeavesWaiting, StopsRisen, Validated, is_due_answer, is_filled, is_paused_answer, of_acquire, outermost_work};
+ghost use Rattle.level_validate.specs.Acquiring.{AcquiresBy, IsAcquireStop, IsTableWaiting, LeavesAcquired, LeavesWaiting, ServesAcquired, StopsRisen, Validated, is_due_answer, is_filled, is_paused_answer, of_acquire, outermost_work};
 ghost use Rattle.level_validate.specs.Courses.{Consults, GoesOn, ValidatesBy, asked_once};
 ghost use Rattle.level_validate.specs.Forward.{Forward};
 ghost use Rattle.level_validate.specs.Leaving.{LeftWell};
-ghost use Rattle.level_validate.specs.Serving.{CarriesOn};
+ghost use Rattle.level_validate.specs.Serving.{CarriesOn, ServesLeft, ServesWaiting};
 ghost use Rattle.level_validate.specs.Tables.{IsIdle, IsStanding, IsTopReady, StandsOn};
-ghost use Rattle.level_validate.specs.Unwinding.{own_domain};
 ghost use Rattle.xp_preempt.specs.Gates.{Heard};
 ghost use Rattle.xp_words.specs.declared.reply.Pause.TheVariants.{Due};
 ghost use Rattle.xp_words.specs.declared.reply.Stop.TheVariants.{Paused};
@@ -27,7 +25,8 @@ use crate::entering::{enter, take_on};
 use crate::unwinding::unwind;
 use frame_types::{Taken, leave_shared, leave_unsettled, take_type};
 use frame_words::{get_ref, put_ref};
-use kind_words::{leave, waiting_kind};
+use kept_marks::leave_kept;
+use kind_words::waiting_kind;
 use partial_state::{Stack, TableWork, level_type};
 use table_words::{OldWord, put_old};
 use xp_board::Port;
@@ -85,7 +84,7 @@ pub fn acquire<P: Port>(
             Ok(frame)
         }
         Ok(Taken::Waiting { own, stamp, stop }) => {
-            leave_waiting(port, frame, level, own, stamp, is_paused(stop));
+            leave_waiting(port, frame, level, owner, own, stamp, is_paused(stop));
             Err(stop)
         }
         Err(stop) => {
@@ -101,27 +100,36 @@ fn is_paused(stop: Stop) -> bool
     matches!(stop, Stop::Paused(_))
 }
 
-// Leaves the frame, which waits for a flush that is not to be had. `own`: its type count is in hand, and goes into its `kept` mark or into the
-// first old word; else the frame is left as another holder left it.
-fn leave_waiting<P: Port>(port: &mut P, frame: u32, level: u8, own: bool, stamp: u64, kept: bool)
+// Leaves the frame of that owner, which waits for a flush that is not to be had. `own`: its type count is in hand, and goes into its `kept`
+// mark or into the first old word; else the frame is left as another holder left it.
+fn leave_waiting<P: Port>(
+    port: &mut P,
+    frame: u32,
+    level: u8,
+    owner: u16,
+    own: bool,
+    stamp: u64,
+    kept: bool,
+)
     requires frame { frame < (P.value port.old).post.machine.frames }
     requires may { MayWork (P.value port.old) }
     requires low { 1 ≤ level }
     requires high { level ≤ 4 }
-    requires waits { IsTableWaiting (P.value port.old) frame level own stamp }
+    requires waits { IsTableWaiting (P.value port.old) frame level owner own stamp }
+    requires real { owner < length (P.value port.old).post.machine.page_limit }
     requires room { known_old First (P.value port.old).holdings ≡ Some 0 }
     ensures came { Came (P.value port.old) (P.value port.new) }
     ensures forward { Forward (P.value port.old) (P.value port.new) }
     ensures leaves { LeftWell (P.value port.old) (P.value port.new) kept frame }
-    ensures serves { ServesType (P.value port.old) (P.value port.new) frame (level_type level) }
-    ensures hand { LeavesWaiting (P.value port.old) (P.value port.new) frame level own stamp kept }
-    ensures course { WaitingLeft (P.value port.old) (P.value port.new) frame level stamp own kept }
+    ensures serves { ServesWaiting (P.value port.old) (P.value port.new) frame level owner kept }
+    ensures hand { LeavesWaiting (P.value port.old) (P.value port.new) frame level owner own stamp kept }
+    ensures course { WaitingLeft (P.value port.old) (P.value port.new) frame level owner stamp own kept }
 {
     let kind = level_type(level);
     if !own {
         leave_shared(port, frame, kind, stamp);
     } else if kept {
-        leave(port, frame, waiting_kind(kind, true, stamp));
+        leave_kept(port, frame, waiting_kind(kind, true, stamp), owner);
     } else {
         leave_unsettled(port, frame, kind, stamp);
         put_old(port, OldWord::First, frame);
@@ -136,16 +144,16 @@ fn validate<P: Port>(
     table: TableWork,
 ) -> Result<(), Stop>
     requires may { MayWork (P.value port.old) }
-    requires own { owner ≡ own_domain (P.value port.old) }
+    requires real { owner < length (P.value port.old).post.machine.page_limit }
     requires stands { IsStanding (P.value port.old) owner (table ∷ []) }
     requires fresh { table.done ≡ 0 → IsTopReady (P.value port.old) }
     requires room { known_old First (P.value port.old).holdings ≡ Some 0 }
     ensures came { Came (P.value port.old) (P.value port.new) }
     ensures forward { Forward (P.value port.old) (P.value port.new) }
     ensures leaves { LeftWell (P.value port.old) (P.value port.new) (is_paused_answer result) table.frame }
-    ensures hand { Validated (P.value port.old) (P.value port.new) table result }
+    ensures hand { Validated (P.value port.old) (P.value port.new) owner table result }
     ensures kinds { IfErr result IsAcquireStop }
-    ensures serves { CarriesOn (P.value port.old) (P.value port.new) owner (table ∷ []) [] (misses (P.value port.old).post.machine result) }
+    ensures serves { ServesLeft (P.value port.old) (P.value port.new) owner (is_paused_answer result) table.frame (table ∷ []) (misses (P.value port.old).post.machine result) }
     ensures stops { IfErr result (λ e. StopsRisen (P.value port.old) (P.value port.new) owner (table ∷ []) e) }
     ensures gate { count_yes gate.new ≡ (if is_due_answer result then count_yes gate.old + 1 else count_yes gate.old) }
     ensures heard { Heard (says gate.old) (count_asks gate.old) (count_asks gate.new) (is_due_answer result) }
@@ -162,7 +170,7 @@ fn validate<P: Port>(
             Ok(())
         }
         Err(stop) => {
-            unwind(port, &mut stack, is_paused(stop));
+            unwind(port, &mut stack, is_paused(stop), owner);
             Err(stop)
         }
     }

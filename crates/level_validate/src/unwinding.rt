@@ -1,5 +1,5 @@
 //! Tables in work that are left unfinished.
-ghost use Rattle.std.specs.Prelude.{◌≡◌, ◌≢◌, ◌∷◌, ℕ, Bool, [], List, Some, None, true, false, length};
+ghost use Rattle.std.specs.Prelude.{◌≡◌, ◌≢◌, ◌<◌, ◌∷◌, ℕ, Bool, [], List, Some, None, true, false, length};
 ghost use Rattle.xp_words.specs.KindWords.{kind_write};
 ghost use Rattle.xp_words.specs.declared.place.Place.TheVariants.{Kind};
 ghost use Rattle.xp_board.specs.Told.{PortValue};
@@ -17,90 +17,99 @@ ghost use Rattle.level_validate.specs.Acquiring.{outermost_work};
 ghost use Rattle.level_validate.specs.Courses.{UnwindsOn};
 ghost use Rattle.level_validate.specs.Forward.{Forward};
 ghost use Rattle.level_validate.specs.Leaving.{LeftWell};
-ghost use Rattle.level_validate.specs.Serving.{CarriesOn};
+ghost use Rattle.level_validate.specs.Serving.{CarriesOn, ServesLeft, ServesTo};
 ghost use Rattle.level_validate.specs.Tables.{IsStanding, StandsOn};
-ghost use Rattle.level_validate.specs.Unwinding.{Unwinds, UnwindsTo, around_lent, left_so, own_domain};
+ghost use Rattle.level_validate.specs.Unwinding.{Unwinds, UnwindsTo, around_lent, left_so, outermost_frame};
 
 use frame_words::put_ref;
+use kept_marks::leave_kept;
 use kind_words::{leave, partial_kind};
 use partial_state::{Stack, TableWork, level_type};
 use table_words::{OldWord, put_old, record_entry};
 use xp_board::Port;
 
-/// Leaves all tables partial, the innermost first. `kept`: the outermost one's reference goes into its `kept` mark (a pause); else into the
-/// first old word (a refusal), which is known to name none. The tables' owner is the own domain.
-pub(crate) fn unwind<P: Port>(port: &mut P, stack: &mut Stack, kept: bool)
+/// Leaves all tables of that owner partial, the innermost first. `kept`: the outermost one's reference goes into its `kept` mark (a pause;
+/// where the owner is another domain, which is dying, into the first old word); else into the first old word (a refusal), which is known to
+/// name none.
+pub(crate) fn unwind<P: Port>(port: &mut P, stack: &mut Stack, kept: bool, owner: u16)
     requires may { MayWork (P.value port.old) }
-    requires stands { IsStanding (P.value port.old) (own_domain (P.value port.old)) stack.old }
-    requires room { kept ≡ false → known_old First (P.value port.old).holdings ≡ Some 0 }
+    requires stands { IsStanding (P.value port.old) owner stack.old }
+    requires real { owner < length (P.value port.old).post.machine.page_limit }
+    requires room { known_old First (P.value port.old).holdings ≡ Some 0 }
     ensures came { Came (P.value port.old) (P.value port.new) }
     ensures forward { Forward (P.value port.old) (P.value port.new) }
     ensures leaves { (t : TableWork) → outermost_work stack.old ≡ Some t → LeftWell (P.value port.old) (P.value port.new) kept t.frame }
-    ensures hand { Unwinds (P.value port.old) (P.value port.new) kept stack.old }
+    ensures hand { Unwinds (P.value port.old) (P.value port.new) owner kept stack.old }
     ensures done { stack.new ≡ [] }
-    ensures serves { (owner : ℕ) → CarriesOn (P.value port.old) (P.value port.new) owner stack.old [] [] }
-    ensures course { Unwound (P.value port.old) stack.old kept (P.value port.new) }
+    ensures serves { ServesLeft (P.value port.old) (P.value port.new) owner kept (outermost_frame stack.old) stack.old [] }
+    ensures course { Unwound (P.value port.old) owner stack.old kept (P.value port.new) }
 {
     while let Some(table) = stack.pop() {
-        leave_table(port, stack, table, kept);
+        leave_table(port, stack, table, kept, owner);
     }
 }
 
 // Leaves the innermost table, which was popped from the stack.
-fn leave_table<P: Port>(port: &mut P, stack: &mut Stack, table: TableWork, kept: bool)
+fn leave_table<P: Port>(port: &mut P, stack: &mut Stack, table: TableWork, kept: bool, owner: u16)
     requires may { MayWork (P.value port.old) }
-    requires stands { IsStanding (P.value port.old) (own_domain (P.value port.old)) (table ∷ stack.old) }
-    requires room { kept ≡ false → known_old First (P.value port.old).holdings ≡ Some 0 }
+    requires stands { IsStanding (P.value port.old) owner (table ∷ stack.old) }
+    requires real { owner < length (P.value port.old).post.machine.page_limit }
+    requires room { known_old First (P.value port.old).holdings ≡ Some 0 }
     ensures came { Came (P.value port.old) (P.value port.new) }
     ensures forward { Forward (P.value port.old) (P.value port.new) }
     ensures leaves { (t : TableWork) → outermost_work (table ∷ stack.old) ≡ Some t → LeftWell (P.value port.old) (P.value port.new) kept t.frame }
-    ensures hand { UnwindsTo (P.value port.old) (P.value port.new) kept (table ∷ stack.old) stack.new }
+    ensures hand { UnwindsTo (P.value port.old) (P.value port.new) owner kept (table ∷ stack.old) stack.new }
     ensures fewer { length stack.new ≡ length stack.old }
     ensures around { (b : Bool) × (stack.new ≡ around_lent b stack.old) }
-    ensures serves { (owner : ℕ) → CarriesOn (P.value port.old) (P.value port.new) owner (table ∷ stack.old) stack.new [] }
-    ensures course { UnwindsOn (P.value port.old) (P.value port.new) kept (table ∷ stack.old) stack.new }
+    ensures serves { ServesTo (P.value port.old) (P.value port.new) owner kept (table ∷ stack.old) stack.new }
+    ensures course { UnwindsOn (P.value port.old) (P.value port.new) owner kept (table ∷ stack.old) stack.new }
 {
     if stack.is_empty() {
-        leave_outermost(port, table, kept);
+        leave_outermost(port, table, kept, owner);
     } else {
         leave_inner(port, stack, table);
     }
 }
 
 // The outermost table.
-fn leave_outermost<P: Port>(port: &mut P, table: TableWork, kept: bool)
+fn leave_outermost<P: Port>(port: &mut P, table: TableWork, kept: bool, owner: u16)
     requires may { MayWork (P.value port.old) }
-    requires stands { IsStanding (P.value port.old) (own_domain (P.value port.old)) (table ∷ []) }
-    requires room { kept ≡ false → known_old First (P.value port.old).holdings ≡ Some 0 }
+    requires stands { IsStanding (P.value port.old) owner (table ∷ []) }
+    requires real { owner < length (P.value port.old).post.machine.page_limit }
+    requires room { known_old First (P.value port.old).holdings ≡ Some 0 }
     ensures came { Came (P.value port.old) (P.value port.new) }
     ensures forward { Forward (P.value port.old) (P.value port.new) }
     ensures leaves { LeftWell (P.value port.old) (P.value port.new) kept table.frame }
-    ensures hand { Unwinds (P.value port.old) (P.value port.new) kept (table ∷ []) }
-    ensures serves { (owner : ℕ) → CarriesOn (P.value port.old) (P.value port.new) owner (table ∷ []) [] [] }
-    ensures course { OutermostLeft (P.value port.old) (P.value port.new) table table.own kept }
+    ensures hand { Unwinds (P.value port.old) (P.value port.new) owner kept (table ∷ []) }
+    ensures serves { ServesLeft (P.value port.old) (P.value port.new) owner kept table.frame (table ∷ []) [] }
+    ensures course { OutermostLeft (P.value port.old) (P.value port.new) owner table table.own kept }
 {
     if table.own {
-        leave_named(port, table, kept);
+        leave_named(port, table, kept, owner);
     } else {
         leave_lent(port, table);
     }
 }
 
 // The outermost table, whose type count is in hand.
-fn leave_named<P: Port>(port: &mut P, table: TableWork, kept: bool)
+fn leave_named<P: Port>(port: &mut P, table: TableWork, kept: bool, owner: u16)
     requires may { MayWork (P.value port.old) }
-    requires stands { IsStanding (P.value port.old) (own_domain (P.value port.old)) (table ∷ []) }
+    requires stands { IsStanding (P.value port.old) owner (table ∷ []) }
     requires own { table.own ≡ true }
-    requires room { kept ≡ false → known_old First (P.value port.old).holdings ≡ Some 0 }
+    requires real { owner < length (P.value port.old).post.machine.page_limit }
+    requires room { known_old First (P.value port.old).holdings ≡ Some 0 }
     ensures came { Came (P.value port.old) (P.value port.new) }
     ensures forward { Forward (P.value port.old) (P.value port.new) }
     ensures leaves { LeftWell (P.value port.old) (P.value port.new) kept table.frame }
-    ensures hand { Unwinds (P.value port.old) (P.value port.new) kept (table ∷ []) }
-    ensures serves { (owner : ℕ) → CarriesOn (P.value port.old) (P.value port.new) owner (table ∷ []) [] [] }
-    ensures course { OutermostLeft (P.value port.old) (P.value port.new) table true kept }
+    ensures hand { Unwinds (P.value port.old) (P.value port.new) owner kept (table ∷ []) }
+    ensures serves { ServesLeft (P.value port.old) (P.value port.new) owner kept table.frame (table ∷ []) [] }
+    ensures course { OutermostLeft (P.value port.old) (P.value port.new) owner table true kept }
 {
-    leave_partial(port, table, kept);
-    if !kept {
+    if kept {
+        let kind = partial_kind(level_type(table.level), true, table.done);
+        leave_kept(port, table.frame, kind, owner);
+    } else {
+        leave_partial(port, table);
         put_old(port, OldWord::First, table.frame);
     }
 }
@@ -108,15 +117,15 @@ fn leave_named<P: Port>(port: &mut P, table: TableWork, kept: bool)
 // A table inside another one. Where its type count is another holder's, an entry that is under way is not done with any more.
 fn leave_inner<P: Port>(port: &mut P, stack: &mut Stack, table: TableWork)
     requires may { MayWork (P.value port.old) }
-    requires stands { IsStanding (P.value port.old) (own_domain (P.value port.old)) (table ∷ stack.old) }
+    requires stands { (owner : ℕ) × IsStanding (P.value port.old) owner (table ∷ stack.old) }
     requires inner { stack.old ≢ [] }
     ensures came { Came (P.value port.old) (P.value port.new) }
     ensures forward { Forward (P.value port.old) (P.value port.new) }
     ensures leaves { (f : ℕ) → LeftWell (P.value port.old) (P.value port.new) false f }
-    ensures stands { StandsOn (P.value port.old) (P.value port.new) (own_domain (P.value port.old)) (table ∷ stack.old) stack.new }
+    ensures stands { (owner : ℕ) → StandsOn (P.value port.old) (P.value port.new) owner (table ∷ stack.old) stack.new }
     ensures around { (b : Bool) × (stack.new ≡ around_lent b stack.old) }
     ensures serves { (owner : ℕ) → CarriesOn (P.value port.old) (P.value port.new) owner (table ∷ stack.old) stack.new [] }
-    ensures course { (kept : Bool) → UnwindsOn (P.value port.old) (P.value port.new) kept (table ∷ stack.old) stack.new }
+    ensures course { (owner : ℕ) (kept : Bool) → UnwindsOn (P.value port.old) (P.value port.new) owner kept (table ∷ stack.old) stack.new }
 {
     if table.own {
         leave_own(port, stack, table);
@@ -128,55 +137,48 @@ fn leave_inner<P: Port>(port: &mut P, stack: &mut Stack, table: TableWork)
     }
 }
 
-// A table inside another one, whose type count is in hand. That goes into the entry that names the table, which is recorded with it; or
-// back into the `kept` mark from which it came.
+// A table inside another one, whose type count is in hand. That goes into the entry that names the table, which is recorded with it.
 fn leave_own<P: Port>(port: &mut P, stack: &Stack, table: TableWork)
     requires may { MayWork (P.value port.old) }
-    requires stands { IsStanding (P.value port.old) (own_domain (P.value port.old)) (table ∷ stack.now) }
+    requires stands { (owner : ℕ) × IsStanding (P.value port.old) owner (table ∷ stack.now) }
     requires own { table.own ≡ true }
     requires inner { stack.now ≢ [] }
     ensures came { Came (P.value port.old) (P.value port.new) }
     ensures forward { Forward (P.value port.old) (P.value port.new) }
     ensures leaves { (f : ℕ) → LeftWell (P.value port.old) (P.value port.new) false f }
-    ensures stands { StandsOn (P.value port.old) (P.value port.new) (own_domain (P.value port.old)) (table ∷ stack.now) stack.now }
+    ensures stands { (owner : ℕ) → StandsOn (P.value port.old) (P.value port.new) owner (table ∷ stack.now) stack.now }
     ensures serves { (owner : ℕ) → CarriesOn (P.value port.old) (P.value port.new) owner (table ∷ stack.now) stack.now [] }
-    ensures course { (outer : TableWork) (ts : List TableWork) → stack.now ≡ outer ∷ ts → InnerLeft (P.value port.old) (P.value port.new) table outer true table.recorded }
+    ensures course { (outer : TableWork) (ts : List TableWork) → stack.now ≡ outer ∷ ts → InnerLeft (P.value port.old) (P.value port.new) table outer true }
 {
-    leave_partial(port, table, table.recorded);
-    if !table.recorded {
-        if let Some(outer) = stack.top() {
-            record_entry(port, outer.frame, outer.done);
-        }
+    leave_partial(port, table);
+    if let Some(outer) = stack.top() {
+        record_entry(port, outer.frame, outer.done);
     }
 }
 
 // A table whose type count is another holder's.
 fn leave_lent<P: Port>(port: &mut P, table: TableWork)
     requires may { MayWork (P.value port.old) }
-    requires stands { (ts : List TableWork) × IsStanding (P.value port.old) (own_domain (P.value port.old)) (table ∷ ts) }
+    requires stands { (owner : ℕ) × (ts : List TableWork) × IsStanding (P.value port.old) owner (table ∷ ts) }
     requires lent { table.own ≡ false }
     ensures came { Came (P.value port.old) (P.value port.new) }
     ensures forward { Forward (P.value port.old) (P.value port.new) }
     ensures leaves { (f : ℕ) → LeftWell (P.value port.old) (P.value port.new) false f }
-    ensures stands { (ts : List TableWork) → StandsOn (P.value port.old) (P.value port.new) (own_domain (P.value port.old)) (table ∷ ts) (around_lent table.recorded ts) }
+    ensures stands { (owner : ℕ) (ts : List TableWork) → StandsOn (P.value port.old) (P.value port.new) owner (table ∷ ts) (around_lent table.recorded ts) }
     ensures serves { (owner : ℕ) (ts : List TableWork) → CarriesOn (P.value port.old) (P.value port.new) owner (table ∷ ts) (around_lent table.recorded ts) [] }
-    ensures course { (u : PortValue) × LeftPartial (P.value port.old) u table false × GaveRef u (P.value port.new) table.frame }
+    ensures course { (u : PortValue) × LeftPartial (P.value port.old) u table × GaveRef u (P.value port.new) table.frame }
 {
-    leave_partial(port, table, false);
+    leave_partial(port, table);
     put_ref(port, table.frame);
 }
 
-// The innermost table's kind word.
-fn leave_partial<P: Port>(port: &mut P, table: TableWork, kept: bool) -> u64
+// The innermost table's kind word, without a `kept` mark.
+fn leave_partial<P: Port>(port: &mut P, table: TableWork) -> u64
     requires may { MayWork (P.value port.old) }
-    requires stands { (ts : List TableWork) × IsStanding (P.value port.old) (own_domain (P.value port.old)) (table ∷ ts) }
-    requires counted { kept ≡ true → table.own ≡ true }
-    ensures moves { Moves (P.value port.old) (P.value port.new) (Kind table.frame) (Store (kind_write (partial_kind (level_type table.level) kept false table.done 0))) kinds.Kind None result }
-    ensures hand { Holds (P.value port.old) (P.value port.new) (left_so kept table.frame (P.value port.old).holdings) }
+    requires stands { (owner : ℕ) × (ts : List TableWork) × IsStanding (P.value port.old) owner (table ∷ ts) }
+    ensures moves { Moves (P.value port.old) (P.value port.new) (Kind table.frame) (Store (kind_write (partial_kind (level_type table.level) false false table.done 0))) kinds.Kind None result }
+    ensures hand { Holds (P.value port.old) (P.value port.new) (left_so table.frame (P.value port.old).holdings) }
 {
-    leave(
-        port,
-        table.frame,
-        partial_kind(level_type(table.level), kept, table.done),
-    )
+    let kind = partial_kind(level_type(table.level), false, table.done);
+    leave(port, table.frame, kind)
 }

@@ -1,4 +1,3 @@
+pub mod Course
 pub mod Elements
 pub mod Fits
-pub mod Found
-pub mod Plain

@@ -1,5 +1,5 @@
 -- A pin: its calls one behind the other, what is in hand behind each, and why it is not done.
-use Rattle.std.proofs.Common.{◌≡◌, ℕ, ◌+◌, ◌<◌, Bool, true, false, List, [], ◌∷◌, Some, None, Result, Ok, Err, IfErr, refl, sym, ap, ◌∙◌, subst, append-nil, inl, inr}
+use Rattle.std.proofs.Common.{◌≡◌, ◌⊎◌, ℕ, ◌+◌, ◌<◌, Bool, true, false, not, List, [], ◌∷◌, ◌++◌, Some, None, Result, Ok, Err, IfErr, refl, sym, ap, ◌∙◌, subst, append-nil, inl, inr}
 use Rattle.xp_words.specs.KindWords.{kind_read}
 use Rattle.xp_words.specs.declared.kind.KindWord.{KindWord}
 use Rattle.xp_words.specs.declared.place.Place.TheVariants.{Kind}
@@ -18,14 +18,15 @@ use Rattle.board_lemmas.proofs.Sums.{when_eq}
 use Rattle.step_maker.specs.Holds.{FlushedHolds, Holds, Rests, Same, quiet}
 use Rattle.step_maker.specs.Moves.{Came, Met, Moves}
 use Rattle.step_maker.proofs.Coming.{came_post, met_after}
-use Rattle.answer_fits.specs.Answers.{Serves, Stops, missed, misses}
-use Rattle.answer_fits.specs.Asked.{Asked, Within, checked, named}
+use Rattle.answer_fits.specs.Answers.{Misses, Serves, Stops, missed, misses}
+use Rattle.answer_fits.specs.Asked.{Asked, Within, checked, named, of_table}
 use Rattle.answer_fits.specs.Finding.{Finding}
 use Rattle.answer_fits.proofs.Later.{IsUncounted, stops_then}
 use Rattle.answer_fits.proofs.Piecing.{serves_came, serves_inner, serves_then, stops_inner}
 use Rattle.frame_words.specs.Refs.{took}
 use Rattle.partial_state.specs.Levels.{level_type}
-use Rattle.level_validate.specs.Acquiring.{LeavesAcquired, of_acquire}
+use Rattle.kept_marks.specs.Marks.{IsForeign}
+use Rattle.level_validate.specs.Acquiring.{LeavesAcquired, ServesAcquired, of_acquire}
 use Rattle.level_validate.specs.Acquiring as acquires
 use Rattle.level_validate.specs.Unwinding.{own_domain}
 use Rattle.level_release.specs.Asking.{is_due_answer, is_due_stop}
@@ -80,18 +81,35 @@ module _ (v : PortValue) (f d level : ℕ) (rose : Bool) where
     came_c = serves_came v c (of_pin d f level rose) [] before
 
     module _ (e : PortValue) (answer : Result ℕ Stop) (rises : acquires.is_due_answer answer ≡ true → rose ≡ true) where
-      acquiring : Within v.post.machine v.post.vcpu (of_acquire f d level d answer) (Met c e) (of_pin d f level rose) (Met v e)
+      acquiring : Within v.post.machine v.post.vcpu (of_table f d (Some (level_type level)) d (acquires.is_due_answer answer)) (Met c e) (of_pin d f level rose) (Met v e)
       acquiring = within_table v.post.machine v.post.vcpu f d level (level_type level) (acquires.is_due_answer answer) rose (Met c e) (Met v e) (λ m x. met_after v c e m came_c x) rises
 
-      pub acquired_serves : Serves c e (of_acquire f d level d answer) (misses c.post.machine answer) → Serves v e (of_pin d f level rose) (misses v.post.machine answer)
-      acquired_serves a =
-          subst (λ ds. Serves v e (of_pin d f level rose) ds) (append-nil (misses v.post.machine answer))
-          (serves_inner v c e (of_pin d f level rose) (of_acquire f d level d answer) [] (misses v.post.machine answer) acquiring before
-          (subst (λ (p : Post). Serves c e (of_acquire f d level d answer) (misses p.machine answer)) (came_post v c came_c) a))
+      -- the frame is the own domain's: no mark of it is taken back
+      module _ (home : d ≡ own_domain v) where
+        there : d ≡ own_domain c
+        there = home ∙ ap (λ (p : Post). domain_of p.machine p.vcpu) (sym (came_post v c came_c))
 
-      pub unacquired_stops : Same v c → (stop : Stop) → Stops c e (of_acquire f d level d answer) stop → Stops v e (of_pin d f level rose) stop
-      unacquired_stops same stop a =
-          stops_inner v c e (of_pin d f level rose) (of_acquire f d level d answer) stop acquiring (same_no_more v c (of_pin d f level rose) refl same) came_c a
+        request : of_acquire c f d level d answer ≡ of_table f d (Some (level_type level)) d (acquires.is_due_answer answer)
+        request = ap (λ b. record (of_table f d (Some (level_type level)) d (acquires.is_due_answer answer)) { locks = not b }) (when_eq d (own_domain c) there)
+
+        seen : ServesAcquired c e f d level d answer → Serves c e (of_table f d (Some (level_type level)) d (acquires.is_due_answer answer)) (misses c.post.machine answer)
+        seen a = subst (λ r. Serves c e r (misses c.post.machine answer)) request (shown a.may)
+          where
+            shown : (a.hidden ≡ []) ⊎ (IsForeign c d × (acquires.is_paused_answer answer ≡ true) × (a.hidden ≡ Misses (Kind f) ∷ [])) → Serves c e (of_acquire c f d level d answer) (misses c.post.machine answer)
+            shown (inl none) = subst (λ ds. Serves c e (of_acquire c f d level d answer) (ds ++ misses c.post.machine answer)) none a.serves
+            shown (inr foreign) = absurd (foreign.0 there)
+
+        pub acquired_serves : ServesAcquired c e f d level d answer → Serves v e (of_pin d f level rose) (misses v.post.machine answer)
+        acquired_serves a =
+            let r = of_table f d (Some (level_type level)) d (acquires.is_due_answer answer) in
+            subst (λ ds. Serves v e (of_pin d f level rose) ds) (append-nil (misses v.post.machine answer))
+            (serves_inner v c e (of_pin d f level rose) r [] (misses v.post.machine answer) acquiring before
+            (subst (λ (p : Post). Serves c e r (misses p.machine answer)) (came_post v c came_c) (seen a)))
+
+        pub unacquired_stops : Same v c → (stop : Stop) → Stops c e (of_acquire c f d level d answer) stop → Stops v e (of_pin d f level rose) stop
+        unacquired_stops same stop a =
+            let r = of_table f d (Some (level_type level)) d (acquires.is_due_answer answer) in
+            stops_inner v c e (of_pin d f level rose) r stop acquiring (same_no_more v c (of_pin d f level rose) refl same) came_c (subst (λ q. Stops c e q stop) request a)
 
 -- ---- the table is live
 pub pin_undue : (answer : Result (Unit {0}) Stop) → IfErr answer IsPinEnd → is_due_answer answer ≡ false
@@ -161,10 +179,11 @@ acquired_holds v c e f d level g rests same own holds =
 
 module _ (v c e : PortValue) (f d level : ℕ) (same : Same v c) where
   -- it was not acquired
-  pub unacquired_hand : (stop : Stop) → LeavesAcquired c e f d level (Err stop) → LeavesElement v e (Pin f level) (Err stop)
-  unacquired_hand (Refused x) (inl leaves) = inl (leaves ∙ ap quiet same)
-  unacquired_hand (Refused x) (inr leaves) = inr (leaves ∙ ap (λ (q : PortValue). quiet (record q { holdings = record q.holdings { old0 = Some (f + 1) } })) same)
-  unacquired_hand (Paused x) leaves = leaves ∙ ap quiet same
+  pub unacquired_hand : d ≡ own_domain v → (stop : Stop) → LeavesAcquired c e f d level (Err stop) → LeavesElement v e (Pin f level) (Err stop)
+  unacquired_hand home (Refused x) (inl leaves) = inl (leaves ∙ ap quiet same)
+  unacquired_hand home (Refused x) (inr leaves) = inr (leaves ∙ ap (λ (q : PortValue). quiet (record q { holdings = record q.holdings { old0 = Some (f + 1) } })) same)
+  unacquired_hand home (Paused x) (inl leaves) = leaves ∙ ap quiet same
+  unacquired_hand home (Paused x) (inr leaves) = absurd (leaves.0 (home ∙ ap (λ (q : PortValue). domain_of q.post.machine q.post.vcpu) (sym same)))
 
   -- it was, and its typed reference is gone
   module _ (g : ℕ) (at : g ≡ f) (rests : Rests v) (holds : FlushedHolds c e (record c.holdings { typed = live_typed g (level_type level) (owners.Of d) ∷ c.holdings.typed })) (w : PortValue) where

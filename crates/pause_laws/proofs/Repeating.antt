@@ -21,10 +21,10 @@ use Rattle.table_law.specs.Lawful.{IsAtRest}
 use Rattle.table_law.specs.Plain.{plain_of}
 use Rattle.table_twins.proofs.Kinding.{described_alike}
 use Rattle.table_courses.specs.Acquiring.{Acquired}
-use Rattle.course_laws.specs.Courses.{IsDecided, IsHad, IsOrderly}
+use Rattle.course_laws.specs.Courses.{FindsAlive, IsDecided, IsHad, IsOrderly}
 use Rattle.course_laws.proofs.Deciding.{LastOutcome, had_where_lawful, last_lawful, one_call}
 use Rattle.course_laws.proofs.Stopping.{StopsIn, acquired_stops}
-use Rattle.pause_laws.specs.Calls.{Calls, IsKeptFor, HasRoom, Repeats, again, last, more, once}
+use Rattle.pause_laws.specs.Calls.{Calls, StaysFrom, HasRoom, Repeats, again, last, more, once}
 use Rattle.course_laws.proofs.Beginning.{first_call}
 use Rattle.course_laws.proofs.Calling.{CallOutcome, IsDone, resumed_call}
 use Rattle.course_laws.proofs.Extras.{extra, lent}
@@ -53,7 +53,7 @@ never_full v w g x room s =
 
 -- ---- from parked words
 module _ (n : Machine) (owner f level : ℕ) (a : PlainOutcome) (is : IsMachine n) where
-  resumed_from : (v w : PortValue) (answers : List Bool) (answer : Result ℕ Stop) → ParkedAt n owner v f level a → Acquired v f owner level w answers answer → CallOutcome n owner w f level (part a) answer
+  resumed_from : (v w : PortValue) (answers : List Bool) (answer : Result ℕ Stop) → ParkedAt n owner v f level a → Acquired v f owner level w answers answer → CallOutcome n owner v w f level (part a) answer
   resumed_from v w answers answer g acquired =
       let h = g.parked in
       let t = h.table in
@@ -64,10 +64,10 @@ module _ (n : Machine) (owner f level : ℕ) (a : PlainOutcome) (is : IsMachine 
         parked = record { table = t; inner = h.inner; plain = h.plain; frame = refl; level_is = refl; own = h.own; under_way = h.under_way; under = h.under; describes = h.describes; spelled = h.spelled; settled = h.settled };
       } in
       let call = subst (λ l. Acquired v t.frame owner l w answers answer) (sym h.level_is) (subst (λ i. Acquired v i owner level w answers answer) (sym h.frame) acquired) in
-      subst (λ l. CallOutcome n owner w f l (part a) answer) h.level_is (subst (λ i. CallOutcome n owner w i t.level (part a) answer) h.frame (resumed_call n owner a is v t there refl w answers answer call))
+      subst (λ l. CallOutcome n owner v w f l (part a) answer) h.level_is (subst (λ i. CallOutcome n owner v w i t.level (part a) answer) h.frame (resumed_call n owner a is v t there refl w answers answer call))
 
   -- the words between two calls
-  pub goes_on : (u x : PortValue) → IsKeptFor u x → ParkedAt n owner u f level a → ParkedAt n owner x f level a
+  pub goes_on : (u x : PortValue) → StaysFrom u x → ParkedAt n owner u f level a → ParkedAt n owner x f level a
   goes_on u x on g =
       let h = g.parked in
       let q = parked_over true h.table h.inner h.plain in
@@ -90,7 +90,7 @@ module _ (n : Machine) (owner f level : ℕ) (a : PlainOutcome) (is : IsMachine 
         };
       }
 
-  last_by : (v w : PortValue) (answers : List Bool) (answer : Result ℕ Stop) → Acquired v f owner level w answers answer → HasRoom v w → CallOutcome n owner w f level (part a) answer → LastOutcome n w a answer
+  last_by : (v w : PortValue) (answers : List Bool) (answer : Result ℕ Stop) → Acquired v f owner level w answers answer → HasRoom v w → CallOutcome n owner v w f level (part a) answer → LastOutcome n w a answer
   last_by v w answers (Ok g) acquired room o = o
   last_by v w answers (Err (Paused x)) acquired room o = λ decided. absurd decided
   last_by v w answers (Err (Refused (refusals.Clock x))) acquired room o = λ decided. absurd decided
@@ -99,16 +99,16 @@ module _ (n : Machine) (owner f level : ℕ) (a : PlainOutcome) (is : IsMachine 
 
   pub resumed : (v w : PortValue) (answer : Result ℕ Stop) → ParkedAt n owner v f level a → Repeats f owner level v w answer → LastOutcome n w a answer
   resumed _ _ _ g (last v w answers answer acquired room) = last_by v w answers answer acquired room (resumed_from v w answers answer g acquired)
-  resumed _ _ _ g (again v u x w answers answer acquired on rest) = resumed x w answer (goes_on u x on (resumed_from v u answers (Err (Paused Due)) g acquired)) rest
+  resumed _ _ _ g (again v u x w answers answer acquired finds on rest) = resumed x w answer (goes_on u x on (resumed_from v u answers (Err (Paused Due)) g acquired finds)) rest
 
 -- ---- from words at rest
 module _ (v : PortValue) (f owner level : ℕ) (machine : IsMachine v.post.machine) (telling : is_telling v ≡ true) (calm : IsAtRest v.post.machine (told_word v)) (orderly : IsOrderly v.post.machine (told_word v)) (low : 1 ≤ level) (high : level ≤ 4) where
   abbrev a : PlainOutcome
   a = alone v.post.machine owner level f (plain_of (told_word v))
 
-  behind : (u x w : PortValue) (answers : List Bool) (answer : Result ℕ Stop) → Acquired v f owner level u answers (Err (Paused Due)) → IsKeptFor u x → Repeats f owner level x w answer → LastOutcome v.post.machine w a answer
-  behind u x w answers answer acquired on rest =
-      resumed v.post.machine owner f level a machine x w answer (goes_on v.post.machine owner f level a machine u x on (first_call v f owner level machine telling calm orderly low high u answers (Err (Paused Due)) acquired)) rest
+  behind : (u x w : PortValue) (answers : List Bool) (answer : Result ℕ Stop) → Acquired v f owner level u answers (Err (Paused Due)) → FindsAlive v u owner → StaysFrom u x → Repeats f owner level x w answer → LastOutcome v.post.machine w a answer
+  behind u x w answers answer acquired finds on rest =
+      resumed v.post.machine owner f level a machine x w answer (goes_on v.post.machine owner f level a machine u x on (first_call v f owner level machine telling calm orderly low high u answers (Err (Paused Due)) acquired finds)) rest
 
   done_by : (w : PortValue) (answer : Result ℕ Stop) → IsHad answer → LastOutcome v.post.machine w a answer → IsDone v.post.machine w a
   done_by w (Ok g) had o = o
@@ -118,12 +118,12 @@ module _ (v : PortValue) (f owner level : ℕ) (machine : IsMachine v.post.machi
 pub all_lawful : (v : PortValue) (f owner level : ℕ) (w : PortValue) (answer : Result ℕ Stop) → IsMachine v.post.machine → is_telling v ≡ true → IsAtRest v.post.machine (told_word v) → IsOrderly v.post.machine (told_word v) → 1 ≤ level → level ≤ 4 →
     Calls f owner level v w answer → IsDecided answer → (Lawful v.post.machine owner (told_word v) f (level_type level) → IsHad answer) × (IsHad answer → Lawful v.post.machine owner (told_word v) f (level_type level))
 all_lawful _ f owner level _ _ machine telling calm orderly low high (once v w answers answer acquired) decided = had_where_lawful v f owner level machine telling calm orderly low high w answers answer acquired decided
-all_lawful _ f owner level _ _ machine telling calm orderly low high (more v u x w answers answer acquired on rest) decided =
-    last_lawful v f owner level machine telling calm orderly low high w answer decided (behind v f owner level machine telling calm orderly low high u x w answers answer acquired on rest)
+all_lawful _ f owner level _ _ machine telling calm orderly low high (more v u x w answers answer acquired finds on rest) decided =
+    last_lawful v f owner level machine telling calm orderly low high w answer decided (behind v f owner level machine telling calm orderly low high u x w answers answer acquired finds on rest)
 
 pub all_done : (v : PortValue) (f owner level : ℕ) (w : PortValue) (answer : Result ℕ Stop) → IsMachine v.post.machine → is_telling v ≡ true → IsAtRest v.post.machine (told_word v) → IsOrderly v.post.machine (told_word v) → 1 ≤ level → level ≤ 4 →
     Calls f owner level v w answer → IsHad answer → IsDone v.post.machine w (alone v.post.machine owner level f (plain_of (told_word v)))
 all_done _ f owner level _ _ machine telling calm orderly low high (once v w answers answer acquired) had =
     done_by v f owner level machine telling calm orderly low high w answer had (one_call v f owner level machine telling calm orderly low high w answers answer acquired)
-all_done _ f owner level _ _ machine telling calm orderly low high (more v u x w answers answer acquired on rest) had =
-    done_by v f owner level machine telling calm orderly low high w answer had (behind v f owner level machine telling calm orderly low high u x w answers answer acquired on rest)
+all_done _ f owner level _ _ machine telling calm orderly low high (more v u x w answers answer acquired finds on rest) had =
+    done_by v f owner level machine telling calm orderly low high w answer had (behind v f owner level machine telling calm orderly low high u x w answers answer acquired finds on rest)

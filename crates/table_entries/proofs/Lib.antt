@@ -6,6 +6,7 @@ pub mod HandTyped
 pub mod HandLive
 pub mod HandWaits
 pub mod HandAgain
+pub mod HandFound
 pub mod PiecesWithin
 pub mod PiecesLooking
 pub mod PiecesAsking

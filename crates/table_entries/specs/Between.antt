@@ -18,7 +18,7 @@ use Rattle.answer_fits.specs.Asked.{of_frame}
 use Rattle.flush_waits.specs.Waiting.{IsKnownOwner}
 use Rattle.frame_types.specs.Found.{TakesFound}
 use Rattle.frame_types.specs.Plain.{TwinTake}
-use Rattle.frame_types.specs.Taking.{IsOfOther, ShowsWait, WaitsWith}
+use Rattle.frame_types.specs.Taking.{IsNotLive, IsOfOther, Looked, ShowsWait, WaitsWith}
 use Rattle.frame_types.specs.declared.taking.Taken.TheVariants.{Waiting}
 use Rattle.frame_words.specs.Plain.{TwinGet}
 use Rattle.frame_words.specs.Refs.{Gets, took}
@@ -121,3 +121,24 @@ HasWaited v f i owner t g want own stamp stop = (b : PortValue) × LeftWaiting b
 
 abbrev pub FromWait : PortValue → ℕ → ℕ → ℕ → PageType → ℕ → PageType → Bool → ℕ → Stop → (PortValue → Type 0) → Type 0
 FromWait v f i owner t g want own stamp stop P = (b : PortValue) → LeftWaiting b v f i owner t g want own stamp stop → P b
+
+-- ---- where the frame that the entry asks is not found live, under the reference that was taken
+pub record FoundOther (b v : PortValue) (f i owner : ℕ) (t : PageType) (g : ℕ) (want : PageType) (kind : ℕ) : Type 0 where
+  pub u : PortValue
+  pub x : PortValue
+  pub word : ℕ
+  pub looks : LooksNext b u f i owner t word
+  pub asks : demand_at t i word ≡ Typed g want
+  pub inside : g < u.post.machine.frames
+  pub refers : Serves u x (of_frame g owner None) []
+  pub lent : Holds u x (took g owner u.holdings)
+  pub referred : TwinGet u x g owner (Ok g)
+  pub gets : Gets u x g owner (Ok g)
+  pub looked : Looked x v g owner want kind
+  pub other : IsNotLive want kind
+
+abbrev pub HasFound : PortValue → ℕ → ℕ → ℕ → PageType → ℕ → PageType → ℕ → Type 0
+HasFound v f i owner t g want kind = (b : PortValue) × FoundOther b v f i owner t g want kind
+
+abbrev pub FromFound : PortValue → ℕ → ℕ → ℕ → PageType → ℕ → PageType → ℕ → (PortValue → Type 0) → Type 0
+FromFound v f i owner t g want kind P = (b : PortValue) → FoundOther b v f i owner t g want kind → P b

@@ -5,15 +5,16 @@ ghost use Rattle.xp_words.specs.declared.entry.Demand.TheVariants.{Read, Typed};
 ghost use Rattle.answer_fits.specs.Answers.{Serves, Stops, misses};
 ghost use Rattle.flush_waits.specs.Waiting.{IsKnownOwner};
 ghost use Rattle.frame_types.specs.Taking.{IsOfOther};
+ghost use Rattle.frame_words.specs.Refs.{MayPut};
 ghost use Rattle.step_maker.specs.Holds.{MayWork};
 ghost use Rattle.table_entries.specs.Asking.{IsEntryStop, LooksOnly, ShowsEntered, of_entries};
-ghost use Rattle.table_entries.specs.Between.{MeetsEntry, FromLook, HandEntered, HasLooked};
+ghost use Rattle.table_entries.specs.Between.{MeetsEntry, FromFound, FromLook, HandEntered, HasFound, HasLooked};
 ghost use Rattle.table_entries.specs.Found.{EntersFound};
 ghost use Rattle.table_entries.specs.Plain.{TwinEntry};
 ghost use Rattle.table_entries.specs.Tops.{HoldsWorks, LeavesEntered, LookedAnd, WorksNext, as_it_was};
 
 use crate::waiting::{Late, wait_entry};
-use frame_types::{Taken, take_type};
+use frame_types::{Counting, Taken, count_live, take_looked};
 use frame_words::{get_ref, look_cell, put_ref};
 use pte_check::demand;
 use table_words::record_entry;
@@ -117,7 +118,41 @@ fn take_typed<P: Port>(
     ensures plain { FromLook (P.value port.old) at.table at.index at.owner at.kind (Typed frame want) (λ b. TwinEntry b (P.value port.new) at.table at.kind at.index at.owner result) }
 {
     let frame = get_ref(port, frame, at.owner)?;
-    match take_type(port, frame, at.owner, want) {
+    match count_live(port, frame, at.owner, want) {
+        Ok(Counting::Counted) => {
+            record_entry(port, at.table, at.index + 1);
+            Ok(Entered::Recorded)
+        }
+        Ok(Counting::Found { word }) => take_found(port, at, frame, want, word),
+        Err(stop) => {
+            put_ref(port, frame);
+            Err(stop)
+        }
+    }
+}
+
+// The same of a frame that is not live with that type, by the word that a look just found. Apart, as most frames are live: so the way
+// above stays short where it is inlined.
+#[cold]
+#[inline(never)]
+fn take_found<P: Port>(
+    port: &mut P,
+    at: TableEntry,
+    frame: u32,
+    want: PageType,
+    word: u64,
+) -> Result<Entered, Stop>
+    requires frame { frame < (P.value port.old).post.machine.frames }
+    requires index { at.index < 512 }
+    requires may { MayWork (P.value port.old) }
+    requires gives { MayPut frame (P.value port.old).holdings }
+    requires finds { HasFound (P.value port.old) at.table at.index at.owner at.kind frame want word }
+    ensures enters { FromFound (P.value port.old) at.table at.index at.owner at.kind frame want word (λ b. (pages : ℕ) → MeetsEntry b (P.value port.new) at.table at.index at.owner pages at.kind result) }
+    ensures hand { FromFound (P.value port.old) at.table at.index at.owner at.kind frame want word (λ b. HandEntered b (P.value port.new) at.table at.index at.owner at.kind result) }
+    ensures found { FromFound (P.value port.old) at.table at.index at.owner at.kind frame want word (λ b. EntersFound b (P.value port.new) at.table at.index at.kind at.owner result) }
+    ensures plain { FromFound (P.value port.old) at.table at.index at.owner at.kind frame want word (λ b. TwinEntry b (P.value port.new) at.table at.kind at.index at.owner result) }
+{
+    match take_looked(port, frame, at.owner, want, word) {
         Ok(Taken::Counted) => {
             record_entry(port, at.table, at.index + 1);
             Ok(Entered::Recorded)

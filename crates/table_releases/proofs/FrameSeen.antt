@@ -28,8 +28,8 @@ use Rattle.kind_words.proofs.KindFacts.{work_word}
 use Rattle.frame_types.specs.Taking.{IsOfOther}
 use Rattle.table_entries.proofs.HandLists.{asks_below, was_in}
 use Rattle.table_entries.proofs.HandReady.{learned_word}
+use Rattle.table_entries.proofs.LastSeen.{SeenLast, finds_kind, finds_leads, finds_referred, finds_unkept, seen_asks}
 use Rattle.table_releases.specs.Between.{SeesKind, SeesTyped}
-use Rattle.table_releases.proofs.LastSeen.{SeenLast, finds_kind, finds_leads, finds_referred, finds_unkept, seen_asks}
 use Rattle.table_releases.proofs.Looking.{looked_seen, looked_settled}
 use Rattle.table_releases.specs.Tops.{IsSettledTop}
 use Rattle.xp_board.specs.declared.holdings.Unsettled.{Unsettled}

@@ -43,12 +43,12 @@ use Rattle.frame_types.specs.Taking.{MayDropPlain, gave_type}
 use Rattle.frame_types.proofs.Lowered.{closed_is, closed_kind, closed_unmarked, type_closed, type_counted}
 use Rattle.table_entries.specs.Tops.{with_recorded}
 use Rattle.table_entries.proofs.HandLists.{asks_below}
+use Rattle.table_entries.proofs.LastSeen.{SeenLast, finds_counts, seen_asks, seen_sheds}
 use Rattle.table_words.specs.Entries.{entry_shed}
 use Rattle.table_words.proofs.Shedding.{none_unsettled, settled_by_step, shed_settled_known}
 use Rattle.table_releases.specs.Between.{SeesKind, SeesTyped}
 use Rattle.table_releases.specs.Tops.{Reopens, StaysRecorded, shed_once}
 use Rattle.table_releases.proofs.FrameSeen.{from_seen, kind_frame, now_seen}
-use Rattle.table_releases.proofs.LastSeen.{SeenLast, finds_counts, seen_asks, seen_sheds}
 use Rattle.table_releases.proofs.Looking.{shed_typed}
 
 -- ---- lists

@@ -43,13 +43,13 @@ use Rattle.kind_words.proofs.KindFacts.{clock_is_small, partial_apart, read_is}
 use Rattle.kind_words.proofs.KindHands.{apart_spares, resumed_fields, resumed_unkept, typed_held, work_here}
 use Rattle.kind_words.proofs.Leaving.{left_dead, may_leave_dead}
 use Rattle.table_entries.proofs.HandLists.{asks_below, asks_some}
+use Rattle.table_entries.proofs.LastSeen.{SeenLast, finds_leads, seen_asks}
 use Rattle.table_words.specs.Entries.{entry_shed}
 use Rattle.table_releases.specs.Between.{Resumed}
 use Rattle.table_releases.specs.Found.{has_recorded}
 use Rattle.table_releases.specs.Tops.{IsSince, Reopens, shed_once}
 use Rattle.table_releases.proofs.FrameSeen.{found_kind, found_unkept, kind_post, now_seen, seen_same}
 use Rattle.table_releases.proofs.HandLive.{hand_behind, looks_none, none_after, shed_works}
-use Rattle.table_releases.proofs.LastSeen.{SeenLast, finds_leads, seen_asks}
 use Rattle.table_releases.proofs.Looking.{shed_typed}
 use Rattle.table_releases.proofs.Recording.{recorded_some, recorded_table, recorded_none}
 

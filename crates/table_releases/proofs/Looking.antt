@@ -1,14 +1,12 @@
 -- The look at the last recorded entry, and the hand once that is shed.
-use Rattle.std.proofs.Common.{◌≡◌, ℕ, ◌+◌, ◌<◌, if◌then◌else◌, Bool, true, false, ◌∷◌, Option, Some, None, refl, sym, ap, ◌∙◌}
+use Rattle.std.proofs.Common.{◌≡◌, ℕ, ◌<◌, Bool, true, false, ◌∷◌, Some, None, refl, ap, ◌∙◌}
 use Rattle.xp_words.specs.Entries.{demand_at}
-use Rattle.xp_words.specs.KindWords.{kind_fields}
 use Rattle.xp_words.specs.declared.entry.Demand.{Demand}
 use Rattle.xp_words.specs.declared.entry.Demand.TheVariants.{Bad, Nothing, Read, Typed}
 use Rattle.xp_words.specs.declared.kind.PageType.{PageType}
 use Rattle.xp_words.specs.declared.place.Place.TheVariants.{Cell}
 use Rattle.xp_words.specs.Places.{sizes_of}
 use Rattle.xp_board.specs.declared.holdings.Holdings.{Holdings}
-use Rattle.xp_board.specs.declared.holdings.Unsettled.{Unsettled}
 use Rattle.xp_board.specs.declared.holdings.Work.{Work}
 use Rattle.xp_board.specs.After.{learned_last, learned_work}
 use Rattle.xp_board.specs.Hands.{brought, brought_as, changed_work, work_on}
@@ -18,24 +16,15 @@ use Rattle.xp_board.specs.Told.{PortValue}
 use Rattle.board_lemmas.proofs.Learned.{learned_frame}
 use Rattle.board_lemmas.proofs.ListChanges.{first_by-changed_here}
 use Rattle.board_lemmas.proofs.ListCounts.{first_by-cons_here}
-use Rattle.board_lemmas.proofs.Sums.{when_eq}
 use Rattle.board_lemmas.proofs.WorkFacts.{work_word, works_facts}
 use Rattle.step_maker.specs.Holds.{Holds, still}
 use Rattle.table_words.specs.Entries.{entry_shed}
 use Rattle.table_words.proofs.EntryHands.{shed_left}
 use Rattle.table_entries.specs.Tops.{with_recorded}
-use Rattle.table_entries.proofs.HandReady.{learned_word, unmarked_learns}
+use Rattle.table_entries.proofs.HandReady.{unmarked_learns}
+use Rattle.table_entries.proofs.LastSeen.{SeenLast, finds_inside, finds_plain, learned_seen, seen_sheds}
 use Rattle.table_releases.specs.Between.{SeesLast}
 use Rattle.table_releases.specs.Tops.{IsSettledTop}
-use Rattle.table_releases.proofs.LastSeen.{SeenLast, finds_inside, finds_plain, seen_sheds}
-
--- the last recorded entry, once it was looked at
-pub last_loaded : (i n w : ℕ) (o : Option Unsettled) → i + 1 ≡ n → (u : Unsettled) → learned_last i n w o ≡ Some u → u.word ≡ Some w
-last_loaded i n w None is u at = absurd cc
-last_loaded i n w (Some q) is u at =
-    let same : Some (record q { word = Some w }) ≡ Some u = sym (ap (λ b. if b then Some (record q { word = Some w }) else Some q) (when_eq (i + 1) n is)) ∙ at in
-    let whole : record q { word = Some w } ≡ u = cc in
-    sym (ap (λ (y : Unsettled). y.word) whole)
 
 module _ (b v : PortValue) (f i : ℕ) (t : PageType) (word : ℕ) (l : SeesLast b v f i t word) where
   pub top_here : work_on f b.holdings.works ≡ Some l.works.top
@@ -61,17 +50,9 @@ module _ (b v : PortValue) (f i : ℕ) (t : PageType) (word : ℕ) (l : SeesLast
 
   abbrev pub looked_seen : SeenLast f i t word v.holdings
   looked_seen =
-      let learns = unmarked_learns i word l.works.top l.works.unmarked in
-      record {
-        work = learned_work i word l.works.top;
-        here = ap (λ (q : PortValue). work_on f q.holdings.works) l.hand ∙ first_by-changed_here (λ (y : Work). y.frame) f (learned_work i word) b.holdings.works l.works.top (λ y. learned_frame i word y) top_here;
-        kind = ap (λ w. (kind_fields w).kind) (learned_word i word l.works.top) ∙ l.works.kind;
-        table = l.works.table;
-        unmarked = ap (λ w. (kind_fields w).unflushed) (learned_word i word l.works.top) ∙ l.works.unmarked;
-        last = ap (λ (y : Work). y.recorded) learns ∙ l.works.recorded;
-        seen = ap (λ (y : Work). y.seen) learns;
-        loaded = λ u at. last_loaded i l.works.top.recorded word l.works.top.unsettled (sym l.works.recorded) u (sym (ap (λ (y : Work). y.unsettled) learns) ∙ at);
-      }
+      learned_seen f i t word l.works.top v.holdings
+      (ap (λ (q : PortValue). work_on f q.holdings.works) l.hand ∙ first_by-changed_here (λ (y : Work). y.frame) f (learned_work i word) b.holdings.works l.works.top (λ y. learned_frame i word y) top_here) l.works.kind l.works.table
+      l.works.unmarked l.works.recorded
 
   pub looked_settled : IsSettledTop b.holdings → looked_seen.work.unsettled ≡ None
   looked_settled settled =

@@ -25,8 +25,8 @@ use Rattle.answer_fits.proofs.Piecing.{moves_serves, serves_step}
 use Rattle.table_entries.specs.Asking.{of_entries}
 use Rattle.table_entries.proofs.PiecesLooking.{looks_step, looks_then}
 use Rattle.table_entries.proofs.PiecesTaking.{Goes, goes_came}
+use Rattle.table_entries.proofs.LastSeen.{SeenLast}
 use Rattle.table_releases.specs.Between.{SeesLast}
-use Rattle.table_releases.proofs.LastSeen.{SeenLast}
 use Rattle.table_releases.proofs.Looking.{top_here}
 
 -- ---- any step but at a cell

@@ -1,5 +1,5 @@
 -- The vCPUs between their turns: their operations, and what they answered.
-use Rattle.std.specs.Prelude.{ℕ, ◌+◌, ◌-◌, ◌==◌, Bool, false, List, [], ◌∷◌, ◌++◌, length, Option, Some, None, Result, Ok, Err, if◌then◌else◌}
+use Rattle.std.specs.Prelude.{ℕ, ◌+◌, ◌-◌, ◌==◌, Bool, false, List, [], ◌∷◌, ◌++◌, length, Option, Some, None, Result, Ok, Err}
 use Rattle.xp_words.specs.declared.ops.ExtOp.{ExtOp}
 use Rattle.xp_words.specs.declared.ops.Pair.{Pair}
 use Rattle.xp_words.specs.declared.ops.Call.{Call}
@@ -31,13 +31,13 @@ pub record Processing : Type 0 where
 abbrev pub fresh : ℕ → ℕ → List Op → Processing
 fresh vcpu domain script = record { vcpu = vcpu; domain = domain; script = script; log = []; done = 0; retired = false }
 
--- ---- operations that are built: lists of `mmu_update`, on frames of the caller's own domain, and of `mmuext_op`
+-- ---- operations that are built: lists of `mmu_update`, with the number that names whose tables and frames they are about, and of `mmuext_op`
 pub data OpList : Type 0 where
-  OfPairs : List Pair → OpList
+  OfPairs : ℕ → List Pair → OpList
   OfExt : List ExtOp → OpList
 
 abbrev pub list_in : Call → Option OpList
-list_in (calls.Mmu foreign pairs) = if foreign == 0x7ff0 then Some (OfPairs pairs) else None
+list_in (calls.Mmu foreign pairs) = Some (OfPairs foreign pairs)
 list_in (calls.Ext list) = Some (OfExt list)
 list_in _ = None
 
@@ -47,11 +47,11 @@ list_of _ = None
 
 -- as the code sees them
 abbrev pub listed : Listed → OpList
-listed (seen.Pairs pairs) = OfPairs pairs.now
+listed (seen.Pairs foreign pairs) = OfPairs foreign pairs.now
 listed (seen.Ext list) = OfExt list.now
 
 abbrev pub length_of : OpList → ℕ
-length_of (OfPairs pairs) = length pairs
+length_of (OfPairs foreign pairs) = length pairs
 length_of (OfExt list) = length list
 
 -- how many elements the operation has of which some may be done

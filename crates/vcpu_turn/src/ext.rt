@@ -22,7 +22,7 @@ impl<'a> Items for OwnElements<'a> {
 
     ghost count = { λ s. length s.elements.now };
 
-    ghost suits = { λ s post. s.domain ≡ domain_of post.machine post.vcpu };
+    ghost suits = { λ s v. s.domain ≡ domain_of v.post.machine v.post.vcpu };
 
     ghost fits = { λ s k v w answers answer. ExtFits s.domain s.elements.now k v w answers answer };
 

@@ -11,15 +11,15 @@ use xp_words::{Pause, Stop};
 pub trait Items {
     ghost use Rattle.std.specs.Prelude.{ℕ, ◌≡◌, ◌<◌, Bool, true, false, List, Result};
     ghost use Rattle.xp_words.specs.declared.reply.Stop.{Stop};
-    ghost use Rattle.xp_board.specs.Told.{Post, PortValue};
+    ghost use Rattle.xp_board.specs.Told.{PortValue};
     ghost use Rattle.step_maker.specs.Holds.{Rests};
     ghost use Rattle.vcpu_turn.specs.Lists.{Answering, is_due_by};
 
     /// How many there are.
     ghost count: { Self → ℕ };
 
-    /// That they are items for that vCPU of that machine.
-    ghost suits: { Self → Post → Type 0 };
+    /// That they are items for that port, and stay so.
+    ghost suits: { Self → PortValue → Type 0 };
 
     /// That the steps from one port to another, and these answers of the gate, the newest first, fit such an answer to the item of that
     /// number.
@@ -36,8 +36,9 @@ pub trait Items {
         index: usize,
     ) -> Result<(), Stop>
         requires index { index < count self.now }
-        requires suits { suits self.now (P.value port.old).post }
+        requires suits { suits self.now (P.value port.old) }
         requires rests { Rests (P.value port.old) }
+        ensures suits { suits self.now (P.value port.new) }
         ensures post { (P.value port.new).post ≡ (P.value port.old).post }
         ensures fits { Answering (λ answers. fits self.now index (P.value port.old) (P.value port.new) answers result) (says gate.old) (count_asks gate.old) (count_asks gate.new) (count_yes gate.old) (count_yes gate.new) (is_due_by result) }
         ensures rests { Rests (P.value port.new) }
@@ -54,7 +55,7 @@ pub fn go_on<P: Port, L: Items>(
     done: &mut usize,
 ) -> Result<(), Stop>
     requires within { done.old ≤ L.count items.now }
-    requires suits { L.suits items.now (P.value port.old).post }
+    requires suits { L.suits items.now (P.value port.old) }
     requires rests { Rests (P.value port.old) }
     ensures post { (P.value port.new).post ≡ (P.value port.old).post }
     ensures works { Answering (λ answers. WorksOn (L.fits items.now) (L.count items.now) done.old (P.value port.old) done.new (P.value port.new) answers result) (says gate.old) (count_asks gate.old) (count_asks gate.new) (count_yes gate.old) (count_yes gate.new) (is_due_by result) }

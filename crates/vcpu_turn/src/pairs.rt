@@ -1,40 +1,43 @@
 //! The pairs of `mmu_update` as items.
-ghost use Rattle.std.specs.Prelude.{◌≡◌, length};
 
 use crate::lists::Items;
+use foreign_map::Owners;
+use level_release::settle;
 use mmu_update::update;
 use xp_board::Port;
 use xp_preempt::Preempt;
 use xp_words::{Pair, Stop};
 
-/// Pairs, for frames of the caller's own domain.
+/// Pairs, for tables and frames of those owners, as they were read in this turn.
 #[derive(Drop)]
-pub(crate) struct OwnPairs<'a> {
+pub(crate) struct OwnedPairs<'a> {
     pub pairs: &'a [Pair],
-    pub domain: u16,
+    pub owners: Owners,
 }
 
-impl<'a> Items for OwnPairs<'a> {
-    ghost use Rattle.std.specs.Prelude.{◌≡◌, length};
-    ghost use Rattle.xp_board.specs.Readings.{domain_of};
+impl<'a> Items for OwnedPairs<'a> {
+    ghost use Rattle.std.specs.Prelude.{length};
+    ghost use Rattle.foreign_map.specs.Owning.{MayMap};
     ghost use Rattle.vcpu_turn.specs.Working.{PairFits};
 
     ghost count = { λ s. length s.pairs.now };
 
-    ghost suits = { λ s post. s.domain ≡ domain_of post.machine post.vcpu };
+    ghost suits = { λ s v. MayMap v s.owners };
 
-    ghost fits = { λ s k v w answers answer. PairFits s.domain s.pairs.now k v w answers answer };
+    ghost fits = { λ s k v w answers answer. PairFits s.owners s.pairs.now k v w answers answer };
 
     fn len(&self) -> usize {
         self.pairs.len()
     }
 
+    // What the element before it left unfinished is settled first.
     fn element<P: Port>(
         &self,
         port: &mut P,
-        _gate: &mut dyn Preempt,
+        gate: &mut dyn Preempt,
         index: usize,
     ) -> Result<(), Stop> {
-        update(port, self.domain, self.pairs[index])
+        settle(port, gate)?;
+        update(port, gate, self.owners, self.pairs[index])
     }
 }

@@ -8,13 +8,11 @@ ghost use Rattle.vcpu_turn.specs.Working.{Works, WorksThrough};
 
 use crate::ext::OwnElements;
 use crate::lists::{Items, go_on};
-use crate::pairs::OwnPairs;
+use crate::pairs::OwnedPairs;
+use foreign_map::owner_for;
 use xp_board::Port;
 use xp_preempt::Preempt;
 use xp_words::{Call, ExtOp, Op, Pair, Refusal, Stop};
-
-// The caller's own domain, as `mmu_update` names it (`DOMID_SELF` of `xen.h`).
-const DOMID_SELF: u64 = 0x7ff0;
 
 // The most elements that a list may have.
 const LONGEST: usize = 512;
@@ -22,7 +20,7 @@ const LONGEST: usize = 512;
 // The elements of an operation that is built.
 #[derive(Drop)]
 enum Listed<'a> {
-    Pairs(&'a [Pair]),
+    Pairs { foreign: u64, pairs: &'a [Pair] },
     Ext(&'a [ExtOp]),
 }
 
@@ -33,7 +31,10 @@ fn list_of(op: &Op) -> Option<Listed<'_>>
     match op {
         Op::One {
             call: Call::Mmu { foreign, pairs },
-        } if *foreign == DOMID_SELF => Some(Listed::Pairs(pairs.as_slice())),
+        } => Some(Listed::Pairs {
+            foreign: *foreign,
+            pairs: pairs.as_slice(),
+        }),
         Op::One {
             call: Call::Ext { list },
         } => Some(Listed::Ext(list.as_slice())),
@@ -49,7 +50,7 @@ fn go_through<P: Port, L: Items>(
     done: &mut u32,
 ) -> Result<(), Stop>
     requires within { done.old ≤ L.count items.now }
-    requires suits { L.suits items.now (P.value port.old).post }
+    requires suits { L.suits items.now (P.value port.old) }
     requires rests { Rests (P.value port.old) }
     ensures post { (P.value port.new).post ≡ (P.value port.old).post }
     ensures works { Answering (λ answers. WorksThrough (L.fits items.now) (L.count items.now) (P.value port.old) done.old done.new (P.value port.new) answers result) (says gate.old) (count_asks gate.old) (count_asks gate.new) (count_yes gate.old) (count_yes gate.new) (is_due_by result) }
@@ -64,6 +65,42 @@ fn go_through<P: Port, L: Items>(
     }
     let mut at = *done as usize;
     let answer = go_on(port, gate, items, &mut at);
+    *done = at as u32;
+    answer
+}
+
+// Pairs, from number `done` on. Whose tables and frames they are about is read in each turn.
+fn go_through_pairs<P: Port>(
+    port: &mut P,
+    gate: &mut dyn Preempt,
+    domain: u16,
+    foreign: u64,
+    pairs: &[Pair],
+    done: &mut u32,
+) -> Result<(), Stop>
+    requires within { done.old ≤ length pairs.now }
+    requires own { domain ≡ domain_of (P.value port.old).post.machine (P.value port.old).post.vcpu }
+    requires rests { Rests (P.value port.old) }
+    ensures post { (P.value port.new).post ≡ (P.value port.old).post }
+    ensures works { Answering (λ answers. WorksOwned domain foreign pairs.now (P.value port.old) done.old done.new (P.value port.new) answers result) (says gate.old) (count_asks gate.old) (count_asks gate.new) (count_yes gate.old) (count_yes gate.new) (is_due_by result) }
+    ensures rests { Rests (P.value port.new) }
+    ensures says { (n : ℕ) → says gate.new n ≡ says gate.old n }
+    ensures paces { paces gate.new ≡ paces gate.old }
+    ensures calm { calm gate.old ≡ true → (is_due_by result ≡ false) × (calm gate.new ≡ true) }
+{
+    if pairs.len() > LONGEST {
+        *done = 0;
+        return Err(Stop::Refused(Refusal::BatchLong));
+    }
+    if pairs.is_empty() {
+        return Ok(());
+    }
+    let owners = match owner_for(port, domain, foreign) {
+        Ok(owners) => owners,
+        Err(refusal) => return Err(Stop::Refused(refusal)),
+    };
+    let mut at = *done as usize;
+    let answer = go_on(port, gate, &OwnedPairs { pairs, owners }, &mut at);
     *done = at as u32;
     answer
 }
@@ -91,7 +128,9 @@ pub(crate) fn work_on<P: Port>(
             *done = 0;
             Err(Stop::Refused(Refusal::BadCommand))
         }
-        Some(Listed::Pairs(pairs)) => go_through(port, gate, &OwnPairs { pairs, domain }, done),
+        Some(Listed::Pairs { foreign, pairs }) => {
+            go_through_pairs(port, gate, domain, foreign, pairs, done)
+        }
         Some(Listed::Ext(elements)) => {
             go_through(port, gate, &OwnElements { elements, domain }, done)
         }

@@ -6,7 +6,7 @@ use Rattle.frame_words.specs.Freeing.{PutBy}
 use Rattle.level_validate.proofs.OnwardEntries.{refers_forward, types_forward}
 use Rattle.level_validate.proofs.Onward.{put_onward}
 use Rattle.level_validate.proofs.Forward.{forward_by, forward_then}
-use Rattle.std.proofs.Common.{◌∙◌, false, [], Ok, Err, ap, subst, not, sym}
+use Rattle.std.proofs.Common.{◌∙◌, false, [], Ok, Err, ap, subst, not, refl, sym}
 use Rattle.std.proofs.lemmas.Result.{err_from_is_err_and}
 use Rattle.answer_fits.specs.Answers.{missed}
 use Rattle.frame_types.specs.Found.{TakesFound}
@@ -17,7 +17,7 @@ use Rattle.level_validate.specs.Acquiring.{is_due_stop, is_paused_answer}
 use Rattle.level_validate.proofs.Acquired.{answer_leaves, counted_hand, given_hand, idle_aside, idle_other, leaves_as, same_leaves, carries_taken, taken_ready, unwound_leaves}
 use Rattle.level_validate.proofs.AcquiredBy.{counted_by, finished_by, unfinished_by, unreferred_by, untyped_by, waiting_by}
 use Rattle.level_validate.proofs.LeftWaiting.{waits_on}
-use Rattle.level_validate.proofs.Requested.{reference_serves, reference_stops, serves_as, stopped_serves, stopped_stops, stops_as, taken_serves, validated_misses, validated_serves, validated_stops, waited_serves, waited_stops}
+use Rattle.level_validate.proofs.Requested.{marked_acquired, plain_acquired, reference_serves, reference_stops, serves_as, stopped_serves, stopped_stops, stops_as, taken_serves, validated_misses, validated_serves, validated_stops, waited_serves, waited_stops}
 use Rattle.level_validate.proofs.acquiring.acquire.Goals as goal
 
 -- ---- its reference is not to be had
@@ -29,7 +29,7 @@ returns-in_err-frame-clause-serves g c pages =
     let e = c.in_err-frame.field-0.0 in
     let answer = err_from_is_err_and c.from_residual.result c.from_residual.ensures.1 in
     serves_as v b c.args.f c.args.owner c.args.level pages c.from_residual.result e (answer.1 ∙ ap Err answer.2)
-    (reference_serves v c.args.f c.args.owner c.args.level pages (is_due_stop e) b (missed v.post.machine e) c.in_err-frame.ensures.serves)
+    (plain_acquired v b c.args.f c.args.owner c.args.level pages (Err e) (reference_serves v c.args.f c.args.owner c.args.level pages (is_due_stop e) b (missed v.post.machine e) c.in_err-frame.ensures.serves))
 
 pub returns-in_err-frame-clause-stops : goal.returns-in_err-frame-clause-stops
 returns-in_err-frame-clause-stops g c pages =
@@ -54,8 +54,10 @@ take_type-requires-clause-other g c =
 
 pub returns-in-Ok-Counted-clause-serves : goal.returns-in-Ok-Counted-clause-serves
 returns-in-Ok-Counted-clause-serves g c pages =
-    taken_serves (g.P.Port.value c.args.port.now) c.args.f c.args.owner c.args.level pages _ (g.P.Port.value c.get_ref.new.port) c.in_ok-frame.ensures.serves c.in_ok-frame.frame c.in_ok-frame.ensures.frame.0
-    c.level_type.result c.level_type.ensures (g.P.Port.value c.take_type.new.port) c.in-Ok-Counted.ensures.serves
+    let v = g.P.Port.value c.args.port.now in
+    let x = g.P.Port.value c.take_type.new.port in
+    plain_acquired v x c.args.f c.args.owner c.args.level pages (Ok c.in_ok-frame.frame)
+    (taken_serves v c.args.f c.args.owner c.args.level pages false (g.P.Port.value c.get_ref.new.port) c.in_ok-frame.ensures.serves c.in_ok-frame.frame c.in_ok-frame.ensures.frame.0 c.level_type.result c.level_type.ensures x c.in-Ok-Counted.ensures.serves)
 
 pub returns-in-Ok-Counted-clause-hand : goal.returns-in-Ok-Counted-clause-hand
 returns-in-Ok-Counted-clause-hand g c =
@@ -70,8 +72,12 @@ returns-in-Ok-Counted-clause-hand g c =
 
 pub returns-in-Err-clause-serves : goal.returns-in-Err-clause-serves
 returns-in-Err-clause-serves g c pages =
-    stopped_serves (g.P.Port.value c.args.port.now) c.args.f c.args.owner c.args.level pages _ (g.P.Port.value c.get_ref.new.port) c.in_ok-frame.ensures.serves c.in_ok-frame.frame c.in_ok-frame.ensures.frame.0
-    c.level_type.result c.level_type.ensures (g.P.Port.value c.take_type.new.port) (g.P.Port.value c.put_ref.new.port) c.in-Err.stop c.in-Err.ensures.serves c.put_ref.ensures.serves
+    let v = g.P.Port.value c.args.port.now in
+    let w = g.P.Port.value c.put_ref.new.port in
+    let e = c.in-Err.stop in
+    plain_acquired v w c.args.f c.args.owner c.args.level pages (Err e)
+    (stopped_serves v c.args.f c.args.owner c.args.level pages (is_due_stop e) (g.P.Port.value c.get_ref.new.port) c.in_ok-frame.ensures.serves c.in_ok-frame.frame c.in_ok-frame.ensures.frame.0 c.level_type.result c.level_type.ensures
+    (g.P.Port.value c.take_type.new.port) w e c.in-Err.ensures.serves c.put_ref.ensures.serves)
 
 pub returns-in-Err-clause-stops : goal.returns-in-Err-clause-stops
 returns-in-Err-clause-stops g c pages =
@@ -98,7 +104,10 @@ returns-in-Ok-Waiting-clause-serves g c pages =
     subst (λ t. ShowsWait b x h c.args.owner c.level_type.result t) c.in-Ok-Waiting.field-0-is c.in-Ok-Waiting.ensures.waits in
     let before =
     taken_serves v c.args.f c.args.owner c.args.level pages (is_due_stop e) b c.in_ok-frame.ensures.serves h c.in_ok-frame.ensures.frame.0 c.level_type.result c.level_type.ensures x c.in-Ok-Waiting.ensures.serves in
-    waited_serves v c.args.f c.args.owner c.args.level pages (is_due_stop e) x before h c.in_ok-frame.ensures.frame.0 (g.P.Port.value c.leave_waiting.new.port) e shows.0 c.leave_waiting.ensures.serves
+    let w = g.P.Port.value c.leave_waiting.new.port in
+    let kept = c.is_paused.result in
+    marked_acquired v w c.args.f c.args.owner c.args.level pages h kept (Err e) c.in_ok-frame.ensures.frame.0 c.is_paused.ensures
+    (waited_serves v c.args.f c.args.owner c.args.level pages (is_due_stop e) x before h c.in_ok-frame.ensures.frame.0 w e kept shows.0 c.leave_waiting.ensures.serves)
 
 pub returns-in-Ok-Waiting-clause-stops : goal.returns-in-Ok-Waiting-clause-stops
 returns-in-Ok-Waiting-clause-stops g c pages =
@@ -122,7 +131,7 @@ returns-in-Ok-Waiting-clause-hand g c =
     let stamp = c.in-Ok-Waiting.stamp in
     let waits : TakesAs b x h c.args.owner c.level_type.result (Waiting own stamp c.in-Ok-Waiting.stop) = subst (λ t. TakesAs b x h c.args.owner c.level_type.result t) c.in-Ok-Waiting.field-0-is c.in-Ok-Waiting.ensures.hand in
     answer_leaves v (g.P.Port.value c.leave_waiting.new.port) c.args.f c.args.owner c.args.level h own c.is_paused.result c.in-Ok-Waiting.stop c.in_ok-frame.ensures.frame.0 c.is_paused.ensures
-    (c.leave_waiting.ensures.hand v (waits_on v b x h c.args.owner c.args.level own stamp c.level_type.result c.requires.own c.level_type.ensures c.requires.idle c.in_ok-frame.ensures.hand waits))
+    (c.leave_waiting.ensures.hand v (waits_on v b x h c.args.owner c.args.level own stamp c.level_type.result c.level_type.ensures c.requires.idle c.in_ok-frame.ensures.hand waits))
 
 -- ---- it is in work
 
@@ -159,7 +168,8 @@ returns-in_ok-validate-in-Ok-InWork-clause-serves g c pages =
     let progress = c.in-Ok-InWork.progress in
     let own = c.in-Ok-InWork.own in
     let before = taken_serves v c.args.f c.args.owner c.args.level pages false b c.in_ok-frame.ensures.serves h c.in_ok-frame.ensures.frame.0 c.level_type.result c.level_type.ensures x c.in-Ok-InWork.ensures.serves in
-    validated_serves v c.args.f c.args.owner c.args.level pages false x before h c.in_ok-frame.ensures.frame.0 progress own w [] c.in_ok-validate-in-Ok-InWork.ensures.serves
+    marked_acquired v w c.args.f c.args.owner c.args.level pages h false (Ok h) c.in_ok-frame.ensures.frame.0 refl
+    (validated_serves v c.args.f c.args.owner c.args.level pages false x before h c.in_ok-frame.ensures.frame.0 progress own w false [] c.in_ok-validate-in-Ok-InWork.ensures.serves)
 
 pub returns-in_ok-validate-in-Ok-InWork-clause-hand : goal.returns-in_ok-validate-in-Ok-InWork-clause-hand
 returns-in_ok-validate-in-Ok-InWork-clause-hand g c =
@@ -189,7 +199,8 @@ returns-in_err-validate-in-Ok-InWork-clause-serves g c pages =
     let answer = err_from_is_err_and result c.from_residual-in_err-validate-in-Ok-InWork.ensures.1 in
     let before = taken_serves v c.args.f c.args.owner c.args.level pages (is_due_stop e) b c.in_ok-frame.ensures.serves h c.in_ok-frame.ensures.frame.0 c.level_type.result c.level_type.ensures x c.in-Ok-InWork.ensures.serves in
     serves_as v w c.args.f c.args.owner c.args.level pages result e (answer.1 ∙ ap Err answer.2)
-    (validated_misses v c.args.f c.args.owner c.args.level pages (is_due_stop e) x before h c.in_ok-frame.ensures.frame.0 progress own w e c.in_err-validate-in-Ok-InWork.ensures.serves)
+    (marked_acquired v w c.args.f c.args.owner c.args.level pages h (not (is_refused e)) (Err e) c.in_ok-frame.ensures.frame.0 refl
+    (validated_misses v c.args.f c.args.owner c.args.level pages (is_due_stop e) x before h c.in_ok-frame.ensures.frame.0 progress own w (not (is_refused e)) e c.in_err-validate-in-Ok-InWork.ensures.serves))
 
 pub returns-in_err-validate-in-Ok-InWork-clause-stops : goal.returns-in_err-validate-in-Ok-InWork-clause-stops
 returns-in_err-validate-in-Ok-InWork-clause-stops g c pages =
@@ -226,7 +237,7 @@ returns-in_err-validate-in-Ok-InWork-clause-hand g c =
     let found : TakesFound b x h c.level_type.result (Ok (InWork progress own)) = subst (λ t. TakesFound b x h c.level_type.result (Ok t)) c.in-Ok-InWork.field-0-is c.in-Ok-InWork.ensures.found in
     let carries = carries_taken v b x h c.args.owner c.args.level progress own c.level_type.result c.requires.idle c.in_ok-frame.ensures.hand c.level_type.ensures c.requires.low c.requires.high c.in_ok-frame.ensures.frame.1 hand.1 found in
     leaves_as v w c.args.f c.args.owner c.args.level result e (answer.1 ∙ ap Err answer.2)
-    (unwound_leaves v w c.args.f c.args.owner c.args.level x h progress own e c.in_ok-frame.ensures.frame.0 c.requires.own carries c.in_err-validate-in-Ok-InWork.ensures.hand)
+    (unwound_leaves v w c.args.f c.args.owner c.args.level x h progress own e c.in_ok-frame.ensures.frame.0 carries c.in_err-validate-in-Ok-InWork.ensures.hand)
 
 -- ---- it goes forward
 

@@ -1,23 +1,20 @@
 use Rattle.frame_types.specs.Found.{SharedBy, StoresKind}
 use Rattle.level_validate.proofs.Onward.{shared_onward, stores_onward}
-use Rattle.level_validate.proofs.LeftWell.{shared_plain, stores_plain, well_by, well_step, well_store, well_then}
+use Rattle.level_validate.proofs.KeptSteps.{kept_forward, kept_well}
+use Rattle.level_validate.proofs.LeftWell.{shared_plain, stores_plain, well_by, well_step, well_then}
 use Rattle.level_validate.proofs.Forward.{forward_by, forward_step, forward_then}
-use Rattle.std.proofs.Common.{◌<◌, ◌+◌, true, false, None, refl, sym, subst, inr}
-use Rattle.xp_words.specs.KindWords.{kind_write}
-use Rattle.xp_words.specs.declared.place.Place.TheVariants.{Kind}
-use Rattle.xp_board.specs.declared.step.Act.TheVariants.{Store}
-use Rattle.xp_board.specs.declared.step.StepKind.TheVariants as kinds
+use Rattle.std.proofs.Common.{◌<◌, ◌+◌, true, false, refl, sym, subst}
+use Rattle.xp_words.specs.declared.kind.KindWord.{KindWord}
 use Rattle.xp_board.specs.Told.{Post}
-use Rattle.step_maker.specs.Holds.{Holds}
-use Rattle.step_maker.specs.Moves.{Moves}
 use Rattle.step_maker.proofs.Coming.{came_post, came_trans, moves_came}
-use Rattle.kind_words.specs.Kinds.{left, partial_kind}
+use Rattle.answer_fits.specs.Asked.{of}
+use Rattle.kept_marks.specs.Marks.{KeptFor, LeavesKept}
+use Rattle.kind_words.specs.Kinds.{partial_kind}
 use Rattle.frame_types.specs.Leaving.{ServesType}
-use Rattle.frame_types.proofs.Left.{here}
-use Rattle.frame_types.proofs.Serving.{store_serves}
-use Rattle.partial_state.specs.Levels.{level_type}
-use Rattle.level_validate.proofs.LeftWaiting.{gives_left, kept_hand, lent_hand, mark_left, mark_may, named_hand, named_left, stays_held, stays_may, stays_room, unkept_is, waits_as}
-use Rattle.level_validate.proofs.Serving.{old_serves}
+use Rattle.level_validate.proofs.LeftWaiting.{gives_left, kept_hand, lent_hand, mark_known, mark_left, mark_looking, mark_may, named_hand, named_left, stays_held, stays_may, stays_room, unkept_is, waits_as}
+use Rattle.level_validate.specs.Serving.{ServesWaiting}
+use Rattle.level_validate.proofs.LeavingTables.{level_type-unpaged}
+use Rattle.level_validate.proofs.Serving.{marked_kept, marked_none, old_serves, type_left}
 use Rattle.level_validate.proofs.LeftSo.{waiting_kept, waiting_lent, waiting_named}
 use Rattle.level_validate.proofs.acquiring.leave_waiting.Goals as goal
 
@@ -25,48 +22,58 @@ use Rattle.level_validate.proofs.acquiring.leave_waiting.Goals as goal
 
 pub leave_shared-requires-clause-waits : goal.leave_shared-requires-clause-waits
 leave_shared-requires-clause-waits g c =
-    let b = c.requires.waits in (b.1.lent, _, waits_as b.0 (g.P.Port.value c.args.port.now) c.args.frame c.args.level c.args.own c.args.stamp b.1 c.level_type-kind.result c.level_type-kind.ensures false c.if-not-own.true)
+    let b = c.requires.waits in (b.1.lent, _, waits_as b.0 (g.P.Port.value c.args.port.now) c.args.frame c.args.level c.args.owner c.args.own c.args.stamp b.1 c.level_type-kind.result c.level_type-kind.ensures false c.if-not-own.true)
 
 pub returns-then-not-own-clause-hand : goal.returns-then-not-own-clause-hand
 returns-then-not-own-clause-hand g c v a =
     let w = g.P.Port.value c.leave_shared.new.port in
-    lent_hand v w c.args.frame c.args.own c.args.kept c.if-not-own.true
-    (gives_left v (g.P.Port.value c.args.port.now) c.args.frame c.args.level c.args.own c.args.stamp a c.level_type-kind.result c.level_type-kind.ensures false c.if-not-own.true w c.leave_shared.ensures.hand)
+    lent_hand v w c.args.frame c.args.owner c.args.own c.args.kept c.if-not-own.true
+    (gives_left v (g.P.Port.value c.args.port.now) c.args.frame c.args.level c.args.owner c.args.own c.args.stamp a c.level_type-kind.result c.level_type-kind.ensures false c.if-not-own.true w c.leave_shared.ensures.hand)
+
+pub returns-then-not-own-clause-serves : goal.returns-then-not-own-clause-serves
+unfolding ServesWaiting
+returns-then-not-own-clause-serves g c u r ds before asks locks =
+    let x = g.P.Port.value c.args.port.now in
+    let w = g.P.Port.value c.leave_shared.new.port in
+    let f = c.args.frame in
+    marked_none u w r c.args.owner c.args.kept f ds (type_left u x w r ds f c.args.owner c.args.level before asks (subst (λ k. ServesType x w f k) c.level_type-kind.ensures c.leave_shared.ensures.serves))
 
 -- ---- paused: it goes into the mark
 
-pub leave-requires-clause-leaves : goal.leave-requires-clause-leaves
-leave-requires-clause-leaves g c =
+pub leave_kept-requires-clause-leaves : goal.leave_kept-requires-clause-leaves
+leave_kept-requires-clause-leaves g c =
     let b = c.requires.waits in
-    rw c.waiting_kind.ensures (mark_may b.0 (g.P.Port.value c.args.port.now) c.args.frame c.args.level c.args.own c.args.stamp b.1 c.level_type-kind.result c.level_type-kind.ensures c.if-not-own.false)
+    rw c.waiting_kind.ensures (mark_may b.0 (g.P.Port.value c.args.port.now) c.args.frame c.args.level c.args.owner c.args.own c.args.stamp b.1 c.level_type-kind.result c.level_type-kind.ensures c.if-not-own.false)
 
-pub returns-then-kept-clause-came : goal.returns-then-kept-clause-came
-returns-then-kept-clause-came g c = moves_came (g.P.Port.value c.args.port.now) (g.P.Port.value c.leave.new.port) _ _ _ _ c.leave.result c.leave.ensures.moves
+pub leave_kept-requires-clause-page : goal.leave_kept-requires-clause-page
+leave_kept-requires-clause-page g c = rw c.waiting_kind.ensures (rw c.level_type-kind.ensures (level_type-unpaged c.args.level c.requires.low))
+
+pub leave_kept-requires-clause-known : goal.leave_kept-requires-clause-known
+leave_kept-requires-clause-known g c =
+    let b = c.requires.waits in mark_known b.0 (g.P.Port.value c.args.port.now) c.args.frame c.args.level c.args.owner c.args.own c.args.stamp b.1 c.level_type-kind.result c.level_type-kind.ensures c.if-not-own.false
+
+pub leave_kept-requires-clause-looked : goal.leave_kept-requires-clause-looked
+leave_kept-requires-clause-looked g c =
+    let b = c.requires.waits in mark_looking b.0 (g.P.Port.value c.args.port.now) c.args.frame c.args.level c.args.owner c.args.own c.args.stamp b.1 c.level_type-kind.result c.level_type-kind.ensures c.if-not-own.false
 
 pub returns-then-kept-clause-serves : goal.returns-then-kept-clause-serves
-returns-then-kept-clause-serves g c u owner ds before =
-    let b = c.requires.waits in
-    let x = g.P.Port.value c.args.port.now in
-    let d = g.P.Port.value c.leave.new.port in
-    let f = c.args.frame in
-    let w = waits_as b.0 x f c.args.level c.args.own c.args.stamp b.1 (level_type c.args.level) refl true c.if-not-own.false in
-    let may = mark_may b.0 x f c.args.level c.args.own c.args.stamp b.1 c.level_type-kind.result c.level_type-kind.ensures c.if-not-own.false in
-    store_serves u x d f owner (level_type c.args.level) ds before w.waits.work _ c.leave.result (here b.1.lent x f _ (level_type c.args.level) true c.args.stamp w) w.waits.works.in_work
-    w.waits.works.kind may.is c.level_type-kind.ensures (subst (λ k. Moves x d (Kind f) (Store (kind_write k)) kinds.Kind None c.leave.result) c.waiting_kind.ensures c.leave.ensures.moves)
+unfolding ServesWaiting
+returns-then-kept-clause-serves g c u r ds before asks locks =
+    marked_kept u (g.P.Port.value c.leave_kept.new.port) r c.args.owner c.args.kept c.args.frame ds c.if-kept.true (c.leave_kept.ensures.serves u r ds before (of c.args.owner _ asks) locks)
 
 pub returns-then-kept-clause-hand : goal.returns-then-kept-clause-hand
 returns-then-kept-clause-hand g c v a =
     let x = g.P.Port.value c.args.port.now in
-    let d = g.P.Port.value c.leave.new.port in
-    kept_hand v d c.args.frame c.args.own c.args.kept c.if-not-own.false c.if-kept.true
-    (mark_left v x c.args.frame c.args.level c.args.own c.args.stamp a c.level_type-kind.result c.level_type-kind.ensures c.if-not-own.false d
-    (subst (λ k. Holds x d (left x c.args.frame k)) c.waiting_kind.ensures c.leave.ensures.hand))
+    let d = g.P.Port.value c.leave_kept.new.port in
+    kept_hand v d c.args.frame c.args.owner c.args.own c.args.kept c.if-not-own.false c.if-kept.true
+    (mark_left v x c.args.frame c.args.level c.args.owner c.args.own c.args.stamp a c.level_type-kind.result c.level_type-kind.ensures c.if-not-own.false d
+    (subst (λ (k : KindWord). LeavesKept x d c.args.frame k c.args.owner) c.waiting_kind.ensures c.leave_kept.ensures.hand))
 
 -- ---- refused: it goes into the first old word
 
 pub leave_unsettled-requires-clause-waits : goal.leave_unsettled-requires-clause-waits
 leave_unsettled-requires-clause-waits g c =
-    let b = c.requires.waits in (b.1.lent, _, waits_as b.0 (g.P.Port.value c.args.port.now) c.args.frame c.args.level c.args.own c.args.stamp b.1 c.level_type-kind.result c.level_type-kind.ensures true c.if-not-own.false)
+    let b = c.requires.waits in (b.1.lent, _, waits_as b.0 (g.P.Port.value c.args.port.now) c.args.frame c.args.level c.args.owner c.args.own c.args.stamp b.1 c.level_type-kind.result c.level_type-kind.ensures true c.if-not-own.false)
 
 pub put_old-requires-clause-frame : goal.put_old-requires-clause-frame
 put_old-requires-clause-frame g c =
@@ -75,19 +82,19 @@ put_old-requires-clause-frame g c =
 pub put_old-requires-clause-may : goal.put_old-requires-clause-may
 put_old-requires-clause-may g c =
     let b = c.requires.waits in
-    stays_may b.0 (g.P.Port.value c.args.port.now) c.args.frame c.args.level c.args.own c.args.stamp b.1 c.level_type-kind.result c.level_type-kind.ensures c.if-not-own.false (g.P.Port.value c.leave_unsettled.new.port)
+    stays_may b.0 (g.P.Port.value c.args.port.now) c.args.frame c.args.level c.args.owner c.args.own c.args.stamp b.1 c.level_type-kind.result c.level_type-kind.ensures c.if-not-own.false (g.P.Port.value c.leave_unsettled.new.port)
     c.leave_unsettled.ensures.hand c.requires.may
 
 pub put_old-requires-clause-empty : goal.put_old-requires-clause-empty
 put_old-requires-clause-empty g c =
     let b = c.requires.waits in
-    stays_room b.0 (g.P.Port.value c.args.port.now) c.args.frame c.args.level c.args.own c.args.stamp b.1 c.level_type-kind.result c.level_type-kind.ensures c.if-not-own.false (g.P.Port.value c.leave_unsettled.new.port)
+    stays_room b.0 (g.P.Port.value c.args.port.now) c.args.frame c.args.level c.args.owner c.args.own c.args.stamp b.1 c.level_type-kind.result c.level_type-kind.ensures c.if-not-own.false (g.P.Port.value c.leave_unsettled.new.port)
     c.leave_unsettled.ensures.hand c.requires.room
 
 pub put_old-requires-clause-held : goal.put_old-requires-clause-held
 put_old-requires-clause-held g c =
     let b = c.requires.waits in
-    stays_held b.0 (g.P.Port.value c.args.port.now) c.args.frame c.args.level c.args.own c.args.stamp b.1 c.level_type-kind.result c.level_type-kind.ensures c.if-not-own.false (g.P.Port.value c.leave_unsettled.new.port)
+    stays_held b.0 (g.P.Port.value c.args.port.now) c.args.frame c.args.level c.args.owner c.args.own c.args.stamp b.1 c.level_type-kind.result c.level_type-kind.ensures c.if-not-own.false (g.P.Port.value c.leave_unsettled.new.port)
     c.leave_unsettled.ensures.hand
 
 pub returns-else-kept-clause-came : goal.returns-else-kept-clause-came
@@ -97,18 +104,21 @@ returns-else-kept-clause-came g c =
     came_trans (g.P.Port.value c.args.port.now) d z c.leave_unsettled.ensures.came (moves_came d z _ _ _ _ 0 c.put_old.ensures.moves)
 
 pub returns-else-kept-clause-serves : goal.returns-else-kept-clause-serves
-returns-else-kept-clause-serves g c u owner ds before =
+unfolding ServesWaiting
+returns-else-kept-clause-serves g c u r ds before asks locks =
+    let x = g.P.Port.value c.args.port.now in
     let d = g.P.Port.value c.leave_unsettled.new.port in
     let z = g.P.Port.value c.put_old.new.port in
-    old_serves u d z _ ds
-    (subst (λ k. ServesType (g.P.Port.value c.args.port.now) d c.args.frame k) c.level_type-kind.ensures c.leave_unsettled.ensures.serves u owner ds before) (c.args.frame + 1) c.put_old.ensures.moves
+    let f = c.args.frame in
+    marked_none u z r c.args.owner c.args.kept f ds
+    (old_serves u d z r ds (type_left u x d r ds f c.args.owner c.args.level before asks (subst (λ k. ServesType x d f k) c.level_type-kind.ensures c.leave_unsettled.ensures.serves)) (f + 1) c.put_old.ensures.moves)
 
 pub returns-else-kept-clause-hand : goal.returns-else-kept-clause-hand
 returns-else-kept-clause-hand g c v a =
     let d = g.P.Port.value c.leave_unsettled.new.port in
     let z = g.P.Port.value c.put_old.new.port in
-    named_hand v z c.args.frame c.args.own c.args.kept c.if-not-own.false c.if-kept.false
-    (named_left v (g.P.Port.value c.args.port.now) c.args.frame c.args.level c.args.own c.args.stamp a c.level_type-kind.result c.level_type-kind.ensures c.if-not-own.false d c.leave_unsettled.ensures.hand z c.put_old.ensures.hand)
+    named_hand v z c.args.frame c.args.owner c.args.own c.args.kept c.if-not-own.false c.if-kept.false
+    (named_left v (g.P.Port.value c.args.port.now) c.args.frame c.args.level c.args.owner c.args.own c.args.stamp a c.level_type-kind.result c.level_type-kind.ensures c.if-not-own.false d c.leave_unsettled.ensures.hand z c.put_old.ensures.hand)
 
 -- ---- it goes forward
 
@@ -117,7 +127,7 @@ returns-then-not-own-clause-forward g c =
     forward_by (g.P.Port.value c.args.port.now) (g.P.Port.value c.leave_shared.new.port) (λ vs. SharedBy c.args.frame c.level_type-kind.result c.args.stamp vs) (shared_onward c.args.frame c.level_type-kind.result c.args.stamp) c.leave_shared.ensures.visits
 
 pub returns-then-kept-clause-forward : goal.returns-then-kept-clause-forward
-returns-then-kept-clause-forward g c = forward_step (g.P.Port.value c.args.port.now) (g.P.Port.value c.leave.new.port) _ _ _ _ c.leave.result refl refl c.leave.ensures.moves
+returns-then-kept-clause-forward g c = kept_forward (g.P.Port.value c.args.port.now) (g.P.Port.value c.leave_kept.new.port) c.args.frame c.waiting_kind.result c.args.owner c.leave_kept.ensures.course
 
 pub returns-else-kept-clause-forward : goal.returns-else-kept-clause-forward
 returns-else-kept-clause-forward g c =
@@ -135,18 +145,17 @@ returns-then-not-own-clause-leaves g c =
     let x = g.P.Port.value c.args.port.now in
     let f = c.args.frame in
     let k = c.level_type-kind.result in
-    let is = unkept_is b.0 x f c.args.level c.args.own c.args.stamp b.1 k c.level_type-kind.ensures false c.if-not-own.true in
+    let is = unkept_is b.0 x f c.args.level c.args.owner c.args.own c.args.stamp b.1 k c.level_type-kind.ensures false c.if-not-own.true in
     well_by x (g.P.Port.value c.leave_shared.new.port) c.args.kept f (λ vs. SharedBy f k c.args.stamp vs) (shared_plain f k c.args.stamp is) c.leave_shared.ensures.visits
 
 pub returns-then-kept-clause-leaves : goal.returns-then-kept-clause-leaves
 returns-then-kept-clause-leaves g c =
     let b = c.requires.waits in
     let x = g.P.Port.value c.args.port.now in
-    let d = g.P.Port.value c.leave.new.port in
+    let d = g.P.Port.value c.leave_kept.new.port in
     let f = c.args.frame in
-    let may = mark_may b.0 x f c.args.level c.args.own c.args.stamp b.1 c.level_type-kind.result c.level_type-kind.ensures c.if-not-own.false in
-    well_store x d c.args.kept f f (partial_kind c.level_type-kind.result true true 0 c.args.stamp) kinds.Kind None c.leave.result may.is (λ on. inr (c.if-kept.true, refl)) (λ dead. absurd cc)
-    (subst (λ k. Moves x d (Kind f) (Store (kind_write k)) kinds.Kind None c.leave.result) c.waiting_kind.ensures c.leave.ensures.moves)
+    let may = mark_may b.0 x f c.args.level c.args.owner c.args.own c.args.stamp b.1 c.level_type-kind.result c.level_type-kind.ensures c.if-not-own.false in
+    kept_well f (partial_kind c.level_type-kind.result true true 0 c.args.stamp) may.is refl c.args.kept c.if-kept.true x d c.args.owner (subst (λ (k : KindWord). KeptFor x d f k c.args.owner) c.waiting_kind.ensures c.leave_kept.ensures.course)
 
 pub returns-else-kept-clause-leaves : goal.returns-else-kept-clause-leaves
 returns-else-kept-clause-leaves g c =
@@ -157,7 +166,7 @@ returns-else-kept-clause-leaves g c =
     let f = c.args.frame in
     let want = c.level_type-kind.result in
     let k = partial_kind want false true 0 c.args.stamp in
-    let is = unkept_is b.0 x f c.args.level c.args.own c.args.stamp b.1 want c.level_type-kind.ensures true c.if-not-own.false in
+    let is = unkept_is b.0 x f c.args.level c.args.owner c.args.own c.args.stamp b.1 want c.level_type-kind.ensures true c.if-not-own.false in
     well_then x d z c.args.kept f (well_by x d c.args.kept f (λ vs. StoresKind f k vs) (stores_plain f k is refl refl) c.leave_unsettled.ensures.visits)
     (well_step d z c.args.kept f _ _ _ _ 0 refl c.put_old.ensures.moves)
 
@@ -165,15 +174,15 @@ returns-else-kept-clause-leaves g c =
 
 pub returns-then-not-own-clause-course : goal.returns-then-not-own-clause-course
 returns-then-not-own-clause-course g c =
-    waiting_lent (g.P.Port.value c.args.port.now) (g.P.Port.value c.leave_shared.new.port) c.args.frame c.args.level c.args.stamp c.args.own c.args.kept c.level_type-kind.result c.level_type-kind.ensures
+    waiting_lent (g.P.Port.value c.args.port.now) (g.P.Port.value c.leave_shared.new.port) c.args.frame c.args.level c.args.owner c.args.stamp c.args.own c.args.kept c.level_type-kind.result c.level_type-kind.ensures
     c.if-not-own.true c.leave_shared.ensures.visits
 
 pub returns-then-kept-clause-course : goal.returns-then-kept-clause-course
 returns-then-kept-clause-course g c =
-    waiting_kept (g.P.Port.value c.args.port.now) (g.P.Port.value c.leave.new.port) c.args.frame c.args.level c.args.stamp c.args.own c.args.kept c.level_type-kind.result c.level_type-kind.ensures
-    c.if-not-own.false c.if-kept.true c.waiting_kind.result c.waiting_kind.ensures c.leave.result c.leave.ensures.moves
+    waiting_kept (g.P.Port.value c.args.port.now) (g.P.Port.value c.leave_kept.new.port) c.args.frame c.args.level c.args.owner c.args.stamp c.args.own c.args.kept c.level_type-kind.result c.level_type-kind.ensures
+    c.if-not-own.false c.if-kept.true c.waiting_kind.result c.waiting_kind.ensures c.leave_kept.ensures.course
 
 pub returns-else-kept-clause-course : goal.returns-else-kept-clause-course
 returns-else-kept-clause-course g c =
-    waiting_named (g.P.Port.value c.args.port.now) (g.P.Port.value c.put_old.new.port) c.args.frame c.args.level c.args.stamp c.args.own c.args.kept c.level_type-kind.result c.level_type-kind.ensures
+    waiting_named (g.P.Port.value c.args.port.now) (g.P.Port.value c.put_old.new.port) c.args.frame c.args.level c.args.owner c.args.stamp c.args.own c.args.kept c.level_type-kind.result c.level_type-kind.ensures
     c.if-not-own.false c.if-kept.false (g.P.Port.value c.leave_unsettled.new.port) c.leave_unsettled.ensures.visits c.put_old.ensures.moves

@@ -2,17 +2,18 @@ use Rattle.frame_types.specs.Plain.{is_refused}
 use Rattle.level_validate.specs.Leaving.{LeftWell}
 use Rattle.level_validate.proofs.LeftWell.{well_more, well_then}
 use Rattle.level_validate.proofs.Forward.{forward_then}
-use Rattle.std.proofs.Common.{◌≡◌, ◌∷◌, ◌∙◌, [], List, refl, sym, ap, subst, false, not}
-use Rattle.step_maker.proofs.Coming.{came_trans}
+use Rattle.std.proofs.Common.{◌≡◌, ◌<◌, ◌∷◌, ◌∙◌, [], List, length, refl, sym, ap, subst, false, not}
+use Rattle.xp_board.specs.Told.{Post}
+use Rattle.step_maker.proofs.Coming.{came_post, came_trans}
 use Rattle.partial_state.specs.declared.stack.TableWork.{TableWork}
 use Rattle.answer_fits.specs.Answers.{missed}
 use Rattle.level_validate.specs.Acquiring.{StopsRisen, outermost_work}
-use Rattle.level_validate.specs.Serving.{CarriesOn}
+use Rattle.level_validate.specs.Serving.{CarriesOn, ServesLeft}
 use Rattle.level_validate.specs.Tables.{IsStanding, StandsOn}
-use Rattle.level_validate.specs.Unwinding.{Unwinds}
-use Rattle.level_validate.proofs.Outermost.{completed, filled_is, on_may, on_room, on_stands, own_standing, unwound}
+use Rattle.level_validate.specs.Unwinding.{Unwinds, outermost_frame}
+use Rattle.level_validate.proofs.Outermost.{completed, filled_is, frame_alike, on_may, on_room, on_stands, unwound}
 use Rattle.level_validate.proofs.Rising.{risen_on}
-use Rattle.level_validate.proofs.Serving.{goes_then}
+use Rattle.level_validate.proofs.Serving.{goes_then, left_behind, left_on}
 use Rattle.level_validate.proofs.ValidatedBy.{validated_left, validated_live}
 use Rattle.level_validate.proofs.acquiring.validate.Goals as goal
 
@@ -58,8 +59,9 @@ returns-in-Ok-clause-serves g c =
     let t = c.args.table in
     let one = only t c.new-stack.result c.push.new.self c.new-stack.ensures c.push.ensures.pushed in
     let full = filled_is t c.fill.new.stack c.in-Ok.ensures.filled (c.fill.ensures.outer ∙ ap outermost_work one) in
-    goes_then u x (g.P.Port.value c.complete_outer.new.port) c.args.owner (t ∷ []) (record t { done = 512 } ∷ []) [] [] []
-    (subst (λ ts. CarriesOn u x c.args.owner ts (record t { done = 512 } ∷ []) []) one (subst (λ us. CarriesOn u x c.args.owner c.push.new.self us []) full c.in-Ok.ensures.serves)) (c.complete_outer.ensures.serves c.args.owner)
+    left_on u (g.P.Port.value c.complete_outer.new.port) c.args.owner false t.frame (t ∷ []) [] []
+    (goes_then u x (g.P.Port.value c.complete_outer.new.port) c.args.owner (t ∷ []) (record t { done = 512 } ∷ []) [] [] []
+    (subst (λ ts. CarriesOn u x c.args.owner ts (record t { done = 512 } ∷ []) []) one (subst (λ us. CarriesOn u x c.args.owner c.push.new.self us []) full c.in-Ok.ensures.serves)) (c.complete_outer.ensures.serves c.args.owner))
 
 -- ---- a refusal or a pause
 
@@ -72,13 +74,15 @@ unwind-requires-clause-may g c =
 pub unwind-requires-clause-stands : goal.unwind-requires-clause-stands
 unwind-requires-clause-stands g c =
     let u = g.P.Port.value c.args.port.now in
-    let x = g.P.Port.value c.fill.new.port in
     let one = only c.args.table c.new-stack.result c.push.new.self c.new-stack.ensures c.push.ensures.pushed in
-    own_standing u x c.args.owner c.fill.new.stack c.fill.ensures.came c.requires.own
-    (on_stands u x c.args.owner c.push.new.self c.fill.new.stack (subst (λ us. IsStanding u c.args.owner us) (sym one) c.requires.stands) c.fill.ensures.stands)
+    on_stands u (g.P.Port.value c.fill.new.port) c.args.owner c.push.new.self c.fill.new.stack (subst (λ us. IsStanding u c.args.owner us) (sym one) c.requires.stands) c.fill.ensures.stands
+
+pub unwind-requires-clause-real : goal.unwind-requires-clause-real
+unwind-requires-clause-real g c =
+    subst (λ (p : Post). c.args.owner < length p.machine.page_limit) (sym (came_post (g.P.Port.value c.args.port.now) (g.P.Port.value c.fill.new.port) c.fill.ensures.came)) c.requires.real
 
 pub unwind-requires-clause-room : goal.unwind-requires-clause-room
-unwind-requires-clause-room g c off =
+unwind-requires-clause-room g c =
     let u = g.P.Port.value c.args.port.now in
     let one = only c.args.table c.new-stack.result c.push.new.self c.new-stack.ensures c.push.ensures.pushed in
     on_room u (g.P.Port.value c.fill.new.port) c.args.owner c.push.new.self c.fill.new.stack (subst (λ us. IsStanding u c.args.owner us) (sym one) c.requires.stands) c.fill.ensures.stands c.requires.room
@@ -92,17 +96,23 @@ returns-in-Err-clause-hand g c =
     let x = g.P.Port.value c.fill.new.port in
     let w = g.P.Port.value c.unwind.new.port in
     let one = only c.args.table c.new-stack.result c.push.new.self c.new-stack.ensures c.push.ensures.pushed in
-    subst (λ b. Unwinds u w b (c.args.table ∷ [])) c.is_paused.ensures
-    (subst (λ ts. Unwinds u w c.is_paused.result ts) one
-    (unwound u x w c.args.owner c.is_paused.result c.push.new.self c.fill.new.stack c.fill.ensures.came c.requires.own c.fill.ensures.outer c.fill.ensures.stands c.unwind.ensures.hand))
+    subst (λ b. Unwinds u w c.args.owner b (c.args.table ∷ [])) c.is_paused.ensures
+    (subst (λ ts. Unwinds u w c.args.owner c.is_paused.result ts) one
+    (unwound u x w c.args.owner c.is_paused.result c.push.new.self c.fill.new.stack c.fill.ensures.outer c.fill.ensures.stands c.unwind.ensures.hand))
 
 pub returns-in-Err-clause-serves : goal.returns-in-Err-clause-serves
 returns-in-Err-clause-serves g c =
     let u = g.P.Port.value c.args.port.now in
+    let x = g.P.Port.value c.fill.new.port in
+    let w = g.P.Port.value c.unwind.new.port in
+    let owner = c.args.owner in
+    let t = c.args.table in
     let e = missed u.post.machine c.in-Err.stop in
-    let one = only c.args.table c.new-stack.result c.push.new.self c.new-stack.ensures c.push.ensures.pushed in
-    subst (λ ts. CarriesOn u (g.P.Port.value c.unwind.new.port) c.args.owner ts [] e) one
-    (goes_then u (g.P.Port.value c.fill.new.port) (g.P.Port.value c.unwind.new.port) c.args.owner c.push.new.self c.fill.new.stack [] e [] c.in-Err.ensures.serves (c.unwind.ensures.serves c.args.owner))
+    let one = only t c.new-stack.result c.push.new.self c.new-stack.ensures c.push.ensures.pushed in
+    let frame : outermost_frame c.fill.new.stack ≡ t.frame = frame_alike c.fill.new.stack (t ∷ []) (c.fill.ensures.outer ∙ ap outermost_work one) in
+    let left = subst (λ f. ServesLeft x w owner c.is_paused.result f c.fill.new.stack []) frame c.unwind.ensures.serves in
+    subst (λ b. ServesLeft u w owner b t.frame (t ∷ []) e) c.is_paused.ensures
+    (subst (λ ts. ServesLeft u w owner c.is_paused.result t.frame ts e) one (left_behind u x w owner c.is_paused.result t.frame c.push.new.self c.fill.new.stack e [] c.fill.ensures.came c.in-Err.ensures.serves left))
 
 pub returns-in-Err-clause-stops : goal.returns-in-Err-clause-stops
 returns-in-Err-clause-stops g c =

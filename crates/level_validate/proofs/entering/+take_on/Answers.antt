@@ -26,10 +26,10 @@ use Rattle.level_validate.proofs.Pushing.{pushed}
 use Rattle.level_validate.proofs.Rising.{progress_answer}
 use Rattle.level_validate.proofs.Serving.{goes_nothing}
 use Rattle.level_validate.proofs.Standing.{standing_above, standing_held, standing_looked, standing_top}
-use Rattle.level_validate.proofs.TakenOn.{dead_left, fresh_on, opened_on, resumed_err, settled_on, shared_left, stopped_on, taken_on, waiting_on}
+use Rattle.level_validate.proofs.TakenOn.{fresh_on, opened_on, resumed_err, settled_on, shared_left, stopped_on, taken_on, waiting_on}
 use Rattle.level_validate.proofs.TookAgain.{took_gives, took_inside, took_progress, took_ready, took_serves, took_stands}
 use Rattle.level_validate.proofs.Visited.{resumed_first}
-use Rattle.level_validate.proofs.WaitedAgain.{dead_forward, dead_well, shared_forward, shared_well, waited_inside, waited_kinds, waited_serves, waited_stands, waited_stops, waited_waits}
+use Rattle.level_validate.proofs.WaitedAgain.{shared_forward, shared_well, waited_inside, waited_kinds, waited_serves, waited_stands, waited_stops, waited_waits}
 use Rattle.level_validate.proofs.entering.+take_on.Goals as goal
 
 -- ---- none of its entries is recorded
@@ -271,25 +271,25 @@ push-requires-clause-table g n c =
     let u = g.P.Port.value c.args.port.now in
     let x = g.P.Port.value c.resume_entry.new.port in
     let e = c.in_ok-resume_entry.ensures in
-    let said = said_again u x c.args.owner c.args.top c.level_type.result c.level_type.ensures c.in_ok-resume_entry.field-0 (again.Opened c.in-Opened.frame c.in-Opened.progress c.in-Opened.own) c.in-Opened.is e.found e.plain e.shows e.serves e.hand in
-    opened_table u x c.args.owner c.args.top c.args.stack.now c.requires.top c.if-top-eq0.false c.in-Opened.frame c.in-Opened.progress c.in-Opened.own said c.requires.stands
+    let said = said_again u x c.args.owner c.args.top c.level_type.result c.level_type.ensures c.in_ok-resume_entry.field-0 (again.Opened c.in-Opened.frame c.in-Opened.progress) c.in-Opened.is e.found e.plain e.shows e.serves e.hand in
+    opened_table u x c.args.owner c.args.top c.args.stack.now c.requires.top c.if-top-eq0.false c.in-Opened.frame c.in-Opened.progress said c.requires.stands
 
 pub take_on-requires : goal.take_on-requires
 take_on-requires g n c κs low =
     let u = g.P.Port.value c.args.port.now in
     let x = g.P.Port.value c.resume_entry.new.port in
     let e = c.in_ok-resume_entry.ensures in
-    let said = said_again u x c.args.owner c.args.top c.level_type.result c.level_type.ensures c.in_ok-resume_entry.field-0 (again.Opened c.in-Opened.frame c.in-Opened.progress c.in-Opened.own) c.in-Opened.is e.found e.plain e.shows e.serves e.hand in
+    let said = said_again u x c.args.owner c.args.top c.level_type.result c.level_type.ensures c.in_ok-resume_entry.field-0 (again.Opened c.in-Opened.frame c.in-Opened.progress) c.in-Opened.is e.found e.plain e.shows e.serves e.hand in
     let a = c.requires.stands in
-    let inner = pushed c.args.top c.in-Opened.frame c.in-Opened.progress c.in-Opened.own true in
+    let inner = pushed c.args.top c.in-Opened.frame c.in-Opened.progress false true in
     let least = top_low u c.args.owner c.args.top c.args.stack.now c.requires.top a in
     let d = c.decreases in (
       omega (arith, d, least),
       (
         low,
         (
-          opened_may u x c.args.owner c.args.top c.args.stack.now c.requires.top c.if-top-eq0.false c.in-Opened.frame c.in-Opened.progress c.in-Opened.own said a c.requires.may,
-          (c.push.ensures.pushed ∙ ap (λ ys. inner ∷ ys) (sym (ap (λ ys. drop 1 ys) c.push.ensures.pushed)), ((a.0, opened_stands u x c.args.owner c.args.top c.args.stack.now c.requires.top c.if-top-eq0.false c.in-Opened.frame c.in-Opened.progress c.in-Opened.own said c.push.new.self c.push.ensures.pushed a.0 a.1), λ zero. opened_ready u x c.args.owner c.args.top c.args.stack.now c.requires.top c.if-top-eq0.false c.in-Opened.frame c.in-Opened.progress c.in-Opened.own said zero)),
+          opened_may u x c.args.owner c.args.top c.args.stack.now c.requires.top c.if-top-eq0.false c.in-Opened.frame c.in-Opened.progress said a c.requires.may,
+          (c.push.ensures.pushed ∙ ap (λ ys. inner ∷ ys) (sym (ap (λ ys. drop 1 ys) c.push.ensures.pushed)), ((a.0, opened_stands u x c.args.owner c.args.top c.args.stack.now c.requires.top c.if-top-eq0.false c.in-Opened.frame c.in-Opened.progress said c.push.new.self c.push.ensures.pushed a.0 a.1), λ zero. opened_ready u x c.args.owner c.args.top c.args.stack.now c.requires.top c.if-top-eq0.false c.in-Opened.frame c.in-Opened.progress said zero)),
         ),
       ),
     )
@@ -299,16 +299,16 @@ returns-in-Opened-clause-came g n c =
     let u = g.P.Port.value c.args.port.now in
     let x = g.P.Port.value c.resume_entry.new.port in
     let e = c.in_ok-resume_entry.ensures in
-    let said = said_again u x c.args.owner c.args.top c.level_type.result c.level_type.ensures c.in_ok-resume_entry.field-0 (again.Opened c.in-Opened.frame c.in-Opened.progress c.in-Opened.own) c.in-Opened.is e.found e.plain e.shows e.serves e.hand in
-    again_then u x c.args.owner c.args.top (again.Opened c.in-Opened.frame c.in-Opened.progress c.in-Opened.own) said (g.P.Port.value c.take_on.new.port) c.take_on.ensures.came
+    let said = said_again u x c.args.owner c.args.top c.level_type.result c.level_type.ensures c.in_ok-resume_entry.field-0 (again.Opened c.in-Opened.frame c.in-Opened.progress) c.in-Opened.is e.found e.plain e.shows e.serves e.hand in
+    again_then u x c.args.owner c.args.top (again.Opened c.in-Opened.frame c.in-Opened.progress) said (g.P.Port.value c.take_on.new.port) c.take_on.ensures.came
 
 pub returns-in-Opened-clause-stands : goal.returns-in-Opened-clause-stands
 returns-in-Opened-clause-stands g n c v s =
     let u = g.P.Port.value c.args.port.now in
     let x = g.P.Port.value c.resume_entry.new.port in
     let e = c.in_ok-resume_entry.ensures in
-    let said = said_again u x c.args.owner c.args.top c.level_type.result c.level_type.ensures c.in_ok-resume_entry.field-0 (again.Opened c.in-Opened.frame c.in-Opened.progress c.in-Opened.own) c.in-Opened.is e.found e.plain e.shows e.serves e.hand in
-    c.take_on.ensures.stands v (opened_stands u x c.args.owner c.args.top c.args.stack.now c.requires.top c.if-top-eq0.false c.in-Opened.frame c.in-Opened.progress c.in-Opened.own said c.push.new.self c.push.ensures.pushed v s)
+    let said = said_again u x c.args.owner c.args.top c.level_type.result c.level_type.ensures c.in_ok-resume_entry.field-0 (again.Opened c.in-Opened.frame c.in-Opened.progress) c.in-Opened.is e.found e.plain e.shows e.serves e.hand in
+    c.take_on.ensures.stands v (opened_stands u x c.args.owner c.args.top c.args.stack.now c.requires.top c.if-top-eq0.false c.in-Opened.frame c.in-Opened.progress said c.push.new.self c.push.ensures.pushed v s)
 
 pub returns-in-Opened-clause-progress : goal.returns-in-Opened-clause-progress
 returns-in-Opened-clause-progress g n c =
@@ -319,7 +319,7 @@ returns-in-Opened-clause-progress g n c =
 pub returns-in-Opened-clause-less : goal.returns-in-Opened-clause-less
 returns-in-Opened-clause-less g n c =
     let t = c.args.top in
-    let inner = pushed t c.in-Opened.frame c.in-Opened.progress c.in-Opened.own true in
+    let inner = pushed t c.in-Opened.frame c.in-Opened.progress false true in
     again_lowers c.take_on.result (weight c.take_on.new.stack) inner t (drop 1 c.args.stack.now) c.args.stack.now c.push.new.self c.push.ensures.stack c.requires.top c.push.ensures.pushed c.take_on.ensures.less
 
 pub returns-in-Opened-clause-serves : goal.returns-in-Opened-clause-serves
@@ -327,205 +327,122 @@ returns-in-Opened-clause-serves g n c =
     let u = g.P.Port.value c.args.port.now in
     let x = g.P.Port.value c.resume_entry.new.port in
     let e = c.in_ok-resume_entry.ensures in
-    let said = said_again u x c.args.owner c.args.top c.level_type.result c.level_type.ensures c.in_ok-resume_entry.field-0 (again.Opened c.in-Opened.frame c.in-Opened.progress c.in-Opened.own) c.in-Opened.is e.found e.plain e.shows e.serves e.hand in
-    goes_on u x (g.P.Port.value c.take_on.new.port) c.args.owner c.args.stack.now c.push.new.self c.take_on.new.stack c.take_on.result (again_came u x c.args.owner c.args.top (again.Opened c.in-Opened.frame c.in-Opened.progress c.in-Opened.own) said)
-    (opened_serves u x c.args.owner c.args.top c.args.stack.now c.requires.top c.if-top-eq0.false c.in-Opened.frame c.in-Opened.progress c.in-Opened.own said c.push.new.self c.push.ensures.pushed c.requires.stands) c.take_on.ensures.serves
+    let said = said_again u x c.args.owner c.args.top c.level_type.result c.level_type.ensures c.in_ok-resume_entry.field-0 (again.Opened c.in-Opened.frame c.in-Opened.progress) c.in-Opened.is e.found e.plain e.shows e.serves e.hand in
+    goes_on u x (g.P.Port.value c.take_on.new.port) c.args.owner c.args.stack.now c.push.new.self c.take_on.new.stack c.take_on.result (again_came u x c.args.owner c.args.top (again.Opened c.in-Opened.frame c.in-Opened.progress) said)
+    (opened_serves u x c.args.owner c.args.top c.args.stack.now c.requires.top c.if-top-eq0.false c.in-Opened.frame c.in-Opened.progress said c.push.new.self c.push.ensures.pushed c.requires.stands) c.take_on.ensures.serves
 
 pub returns-in-Opened-clause-stops : goal.returns-in-Opened-clause-stops
 returns-in-Opened-clause-stops g n c =
     let u = g.P.Port.value c.args.port.now in
     let x = g.P.Port.value c.resume_entry.new.port in
     let e = c.in_ok-resume_entry.ensures in
-    let said = said_again u x c.args.owner c.args.top c.level_type.result c.level_type.ensures c.in_ok-resume_entry.field-0 (again.Opened c.in-Opened.frame c.in-Opened.progress c.in-Opened.own) c.in-Opened.is e.found e.plain e.shows e.serves e.hand in
-    opened_stops u x c.args.owner c.args.top c.args.stack.now c.requires.top c.if-top-eq0.false c.in-Opened.frame c.in-Opened.progress c.in-Opened.own said c.push.new.self c.push.ensures.pushed c.requires.stands (g.P.Port.value c.take_on.new.port) c.take_on.result c.take_on.ensures.stops
+    let said = said_again u x c.args.owner c.args.top c.level_type.result c.level_type.ensures c.in_ok-resume_entry.field-0 (again.Opened c.in-Opened.frame c.in-Opened.progress) c.in-Opened.is e.found e.plain e.shows e.serves e.hand in
+    opened_stops u x c.args.owner c.args.top c.args.stack.now c.requires.top c.if-top-eq0.false c.in-Opened.frame c.in-Opened.progress said c.push.new.self c.push.ensures.pushed c.requires.stands (g.P.Port.value c.take_on.new.port) c.take_on.result c.take_on.ensures.stops
 
 pub returns-in-Opened-clause-forward : goal.returns-in-Opened-clause-forward
 returns-in-Opened-clause-forward g n c =
     let u = g.P.Port.value c.args.port.now in
     let x = g.P.Port.value c.resume_entry.new.port in
     let e = c.in_ok-resume_entry.ensures in
-    let said = said_again u x c.args.owner c.args.top c.level_type.result c.level_type.ensures c.in_ok-resume_entry.field-0 (again.Opened c.in-Opened.frame c.in-Opened.progress c.in-Opened.own) c.in-Opened.is e.found e.plain e.shows e.serves e.hand in
-    forward_then u x (g.P.Port.value c.take_on.new.port) (again_forward u x c.args.owner c.args.top (again.Opened c.in-Opened.frame c.in-Opened.progress c.in-Opened.own) said c.args.stack.now c.requires.top c.requires.stands c.if-top-eq0.false) c.take_on.ensures.forward
+    let said = said_again u x c.args.owner c.args.top c.level_type.result c.level_type.ensures c.in_ok-resume_entry.field-0 (again.Opened c.in-Opened.frame c.in-Opened.progress) c.in-Opened.is e.found e.plain e.shows e.serves e.hand in
+    forward_then u x (g.P.Port.value c.take_on.new.port) (again_forward u x c.args.owner c.args.top (again.Opened c.in-Opened.frame c.in-Opened.progress) said c.args.stack.now c.requires.top c.requires.stands c.if-top-eq0.false) c.take_on.ensures.forward
 
 pub returns-in-Opened-clause-leaves : goal.returns-in-Opened-clause-leaves
 returns-in-Opened-clause-leaves g n c f =
     let u = g.P.Port.value c.args.port.now in
     let x = g.P.Port.value c.resume_entry.new.port in
     let e = c.in_ok-resume_entry.ensures in
-    let said = said_again u x c.args.owner c.args.top c.level_type.result c.level_type.ensures c.in_ok-resume_entry.field-0 (again.Opened c.in-Opened.frame c.in-Opened.progress c.in-Opened.own) c.in-Opened.is e.found e.plain e.shows e.serves e.hand in
-    well_then u x (g.P.Port.value c.take_on.new.port) false f (again_well u x c.args.owner c.args.top (again.Opened c.in-Opened.frame c.in-Opened.progress c.in-Opened.own) said f) (c.take_on.ensures.leaves f)
+    let said = said_again u x c.args.owner c.args.top c.level_type.result c.level_type.ensures c.in_ok-resume_entry.field-0 (again.Opened c.in-Opened.frame c.in-Opened.progress) c.in-Opened.is e.found e.plain e.shows e.serves e.hand in
+    well_then u x (g.P.Port.value c.take_on.new.port) false f (again_well u x c.args.owner c.args.top (again.Opened c.in-Opened.frame c.in-Opened.progress) said f) (c.take_on.ensures.leaves f)
 
 pub returns-in-Opened-clause-course : goal.returns-in-Opened-clause-course
 returns-in-Opened-clause-course g n c =
     let u = g.P.Port.value c.args.port.now in
     let x = g.P.Port.value c.resume_entry.new.port in
     let e = c.in_ok-resume_entry.ensures in
-    let said = said_again u x c.args.owner c.args.top c.level_type.result c.level_type.ensures c.in_ok-resume_entry.field-0 (again.Opened c.in-Opened.frame c.in-Opened.progress c.in-Opened.own) c.in-Opened.is e.found e.plain e.shows e.serves e.hand in
-    opened_on c.args.owner u c.args.top (drop 1 c.args.stack.now) c.args.stack.now c.requires.top c.if-top-eq0.false x (g.P.Port.value c.take_on.new.port) c.in-Opened.frame c.in-Opened.progress c.in-Opened.own c.take_on.result
+    let said = said_again u x c.args.owner c.args.top c.level_type.result c.level_type.ensures c.in_ok-resume_entry.field-0 (again.Opened c.in-Opened.frame c.in-Opened.progress) c.in-Opened.is e.found e.plain e.shows e.serves e.hand in
+    opened_on c.args.owner u c.args.top (drop 1 c.args.stack.now) c.args.stack.now c.requires.top c.if-top-eq0.false x (g.P.Port.value c.take_on.new.port) c.in-Opened.frame c.in-Opened.progress c.take_on.result
     c.push.new.self c.take_on.new.stack c.push.ensures.pushed said.entry c.take_on.ensures.course
 
--- ---- it waits for a flush, with its type count in hand
-
-pub leave_dead-requires-clause-frame : goal.leave_dead-requires-clause-frame
-leave_dead-requires-clause-frame g n c =
-    let u = g.P.Port.value c.args.port.now in
-    let x = g.P.Port.value c.resume_entry.new.port in
-    let e = c.in_ok-resume_entry.ensures in
-    let said = said_again u x c.args.owner c.args.top c.level_type.result c.level_type.ensures c.in_ok-resume_entry.field-0 (again.Waiting c.in-Waiting.frame c.in-Waiting.own c.in-Waiting.stamp c.in-Waiting.stop) c.in-Waiting.is e.found e.plain e.shows e.serves e.hand in
-    waited_inside u x c.args.owner c.args.top c.args.stack.now c.requires.top c.if-top-eq0.false c.in-Waiting.frame c.in-Waiting.own c.in-Waiting.stamp c.in-Waiting.stop said c.requires.stands
-
-pub leave_dead-requires-clause-waits : goal.leave_dead-requires-clause-waits
-leave_dead-requires-clause-waits g n c =
-    let u = g.P.Port.value c.args.port.now in
-    let x = g.P.Port.value c.resume_entry.new.port in
-    let e = c.in_ok-resume_entry.ensures in
-    let said = said_again u x c.args.owner c.args.top c.level_type.result c.level_type.ensures c.in_ok-resume_entry.field-0 (again.Waiting c.in-Waiting.frame c.in-Waiting.own c.in-Waiting.stamp c.in-Waiting.stop) c.in-Waiting.is e.found e.plain e.shows e.serves e.hand in
-    (c.in-Waiting.stamp, waited_waits u x c.args.owner c.args.top c.args.stack.now c.requires.top c.if-top-eq0.false c.in-Waiting.frame c.in-Waiting.own c.in-Waiting.stamp c.in-Waiting.stop said c.requires.stands true c.if-own.true c.level_type-kind.result c.level_type-kind.ensures)
-
-pub returns-then-own-clause-came : goal.returns-then-own-clause-came
-returns-then-own-clause-came g n c =
-    let u = g.P.Port.value c.args.port.now in
-    let x = g.P.Port.value c.resume_entry.new.port in
-    let e = c.in_ok-resume_entry.ensures in
-    let said = said_again u x c.args.owner c.args.top c.level_type.result c.level_type.ensures c.in_ok-resume_entry.field-0 (again.Waiting c.in-Waiting.frame c.in-Waiting.own c.in-Waiting.stamp c.in-Waiting.stop) c.in-Waiting.is e.found e.plain e.shows e.serves e.hand in
-    again_then u x c.args.owner c.args.top (again.Waiting c.in-Waiting.frame c.in-Waiting.own c.in-Waiting.stamp c.in-Waiting.stop) said (g.P.Port.value c.leave_dead.new.port) c.leave_dead.ensures.came
-
-pub returns-then-own-clause-stands : goal.returns-then-own-clause-stands
-returns-then-own-clause-stands g n c =
-    let u = g.P.Port.value c.args.port.now in
-    let x = g.P.Port.value c.resume_entry.new.port in
-    let e = c.in_ok-resume_entry.ensures in
-    let said = said_again u x c.args.owner c.args.top c.level_type.result c.level_type.ensures c.in_ok-resume_entry.field-0 (again.Waiting c.in-Waiting.frame c.in-Waiting.own c.in-Waiting.stamp c.in-Waiting.stop) c.in-Waiting.is e.found e.plain e.shows e.serves e.hand in
-    waited_stands u x c.args.owner c.args.top c.args.stack.now c.requires.top c.if-top-eq0.false c.in-Waiting.frame c.in-Waiting.own c.in-Waiting.stamp c.in-Waiting.stop said c.requires.stands true c.if-own.true c.level_type-kind.result c.level_type-kind.ensures (g.P.Port.value c.leave_dead.new.port) c.leave_dead.ensures.came c.leave_dead.ensures.hand
-
-pub returns-then-own-clause-kinds : goal.returns-then-own-clause-kinds
-returns-then-own-clause-kinds g n c =
-    let u = g.P.Port.value c.args.port.now in
-    let x = g.P.Port.value c.resume_entry.new.port in
-    let e = c.in_ok-resume_entry.ensures in
-    let said = said_again u x c.args.owner c.args.top c.level_type.result c.level_type.ensures c.in_ok-resume_entry.field-0 (again.Waiting c.in-Waiting.frame c.in-Waiting.own c.in-Waiting.stamp c.in-Waiting.stop) c.in-Waiting.is e.found e.plain e.shows e.serves e.hand in
-    waited_kinds u x c.args.owner c.args.top c.args.stack.now c.requires.top c.if-top-eq0.false c.in-Waiting.frame c.in-Waiting.own c.in-Waiting.stamp c.in-Waiting.stop said c.requires.stands
-
-pub returns-then-own-clause-serves : goal.returns-then-own-clause-serves
-returns-then-own-clause-serves g n c =
-    let u = g.P.Port.value c.args.port.now in
-    let x = g.P.Port.value c.resume_entry.new.port in
-    let e = c.in_ok-resume_entry.ensures in
-    let said = said_again u x c.args.owner c.args.top c.level_type.result c.level_type.ensures c.in_ok-resume_entry.field-0 (again.Waiting c.in-Waiting.frame c.in-Waiting.own c.in-Waiting.stamp c.in-Waiting.stop) c.in-Waiting.is e.found e.plain e.shows e.serves e.hand in
-    waited_serves u x c.args.owner c.args.top c.args.stack.now c.requires.top c.if-top-eq0.false c.in-Waiting.frame c.in-Waiting.own c.in-Waiting.stamp c.in-Waiting.stop said c.requires.stands true c.if-own.true c.level_type-kind.result c.level_type-kind.ensures (g.P.Port.value c.leave_dead.new.port) c.leave_dead.ensures.came c.leave_dead.ensures.serves
-
-pub returns-then-own-clause-stops : goal.returns-then-own-clause-stops
-returns-then-own-clause-stops g n c =
-    let u = g.P.Port.value c.args.port.now in
-    let x = g.P.Port.value c.resume_entry.new.port in
-    let e = c.in_ok-resume_entry.ensures in
-    let said = said_again u x c.args.owner c.args.top c.level_type.result c.level_type.ensures c.in_ok-resume_entry.field-0 (again.Waiting c.in-Waiting.frame c.in-Waiting.own c.in-Waiting.stamp c.in-Waiting.stop) c.in-Waiting.is e.found e.plain e.shows e.serves e.hand in
-    waited_stops u x c.args.owner c.args.top c.args.stack.now c.requires.top c.if-top-eq0.false c.in-Waiting.frame c.in-Waiting.own c.in-Waiting.stamp c.in-Waiting.stop said c.requires.stands true c.if-own.true c.level_type-kind.result c.level_type-kind.ensures (g.P.Port.value c.leave_dead.new.port) c.leave_dead.ensures.came
-
-pub returns-then-own-clause-forward : goal.returns-then-own-clause-forward
-returns-then-own-clause-forward g n c =
-    let u = g.P.Port.value c.args.port.now in
-    let x = g.P.Port.value c.resume_entry.new.port in
-    let e = c.in_ok-resume_entry.ensures in
-    let said = said_again u x c.args.owner c.args.top c.level_type.result c.level_type.ensures c.in_ok-resume_entry.field-0 (again.Waiting c.in-Waiting.frame c.in-Waiting.own c.in-Waiting.stamp c.in-Waiting.stop) c.in-Waiting.is e.found e.plain e.shows e.serves e.hand in
-    dead_forward u x c.args.owner c.args.top c.args.stack.now c.requires.top c.if-top-eq0.false c.in-Waiting.frame c.in-Waiting.own c.in-Waiting.stamp c.in-Waiting.stop said c.requires.stands c.level_type-kind.result c.level_type-kind.ensures (g.P.Port.value c.leave_dead.new.port) c.leave_dead.ensures.visits
-
-pub returns-then-own-clause-leaves : goal.returns-then-own-clause-leaves
-returns-then-own-clause-leaves g n c =
-    let u = g.P.Port.value c.args.port.now in
-    let x = g.P.Port.value c.resume_entry.new.port in
-    let e = c.in_ok-resume_entry.ensures in
-    let said = said_again u x c.args.owner c.args.top c.level_type.result c.level_type.ensures c.in_ok-resume_entry.field-0 (again.Waiting c.in-Waiting.frame c.in-Waiting.own c.in-Waiting.stamp c.in-Waiting.stop) c.in-Waiting.is e.found e.plain e.shows e.serves e.hand in
-    dead_well u x c.args.owner c.args.top c.args.stack.now c.requires.top c.if-top-eq0.false c.in-Waiting.frame c.in-Waiting.own c.in-Waiting.stamp c.in-Waiting.stop said c.requires.stands c.level_type-kind.result c.level_type-kind.ensures (g.P.Port.value c.leave_dead.new.port) c.if-own.true c.leave_dead.ensures.visits
-
-pub returns-then-own-clause-course : goal.returns-then-own-clause-course
-returns-then-own-clause-course g n c =
-    let u = g.P.Port.value c.args.port.now in
-    let x = g.P.Port.value c.resume_entry.new.port in
-    let e = c.in_ok-resume_entry.ensures in
-    let said = said_again u x c.args.owner c.args.top c.level_type.result c.level_type.ensures c.in_ok-resume_entry.field-0 (again.Waiting c.in-Waiting.frame c.in-Waiting.own c.in-Waiting.stamp c.in-Waiting.stop) c.in-Waiting.is e.found e.plain e.shows e.serves e.hand in
-    waiting_on c.args.owner u c.args.top (drop 1 c.args.stack.now) c.args.stack.now c.requires.top c.if-top-eq0.false x (g.P.Port.value c.leave_dead.new.port) c.in-Waiting.frame c.in-Waiting.own c.in-Waiting.stamp c.in-Waiting.stop true c.if-own.true said.entry
-    (dead_left x (g.P.Port.value c.leave_dead.new.port) c.in-Waiting.frame (c.args.top.level - 1) c.level_type-kind.result c.level_type-kind.ensures c.leave_dead.ensures.visits c.in-Waiting.stamp)
-
--- ---- it waits for a flush, with another holder's type count
+-- ---- it waits for a flush
 
 pub leave_shared-requires-clause-frame : goal.leave_shared-requires-clause-frame
 leave_shared-requires-clause-frame g n c =
     let u = g.P.Port.value c.args.port.now in
     let x = g.P.Port.value c.resume_entry.new.port in
     let e = c.in_ok-resume_entry.ensures in
-    let said = said_again u x c.args.owner c.args.top c.level_type.result c.level_type.ensures c.in_ok-resume_entry.field-0 (again.Waiting c.in-Waiting.frame c.in-Waiting.own c.in-Waiting.stamp c.in-Waiting.stop) c.in-Waiting.is e.found e.plain e.shows e.serves e.hand in
-    waited_inside u x c.args.owner c.args.top c.args.stack.now c.requires.top c.if-top-eq0.false c.in-Waiting.frame c.in-Waiting.own c.in-Waiting.stamp c.in-Waiting.stop said c.requires.stands
+    let said = said_again u x c.args.owner c.args.top c.level_type.result c.level_type.ensures c.in_ok-resume_entry.field-0 (again.Waiting c.in-Waiting.frame c.in-Waiting.stamp c.in-Waiting.stop) c.in-Waiting.is e.found e.plain e.shows e.serves e.hand in
+    waited_inside u x c.args.owner c.args.top c.args.stack.now c.requires.top c.if-top-eq0.false c.in-Waiting.frame c.in-Waiting.stamp c.in-Waiting.stop said c.requires.stands
 
 pub leave_shared-requires-clause-waits : goal.leave_shared-requires-clause-waits
 leave_shared-requires-clause-waits g n c =
     let u = g.P.Port.value c.args.port.now in
     let x = g.P.Port.value c.resume_entry.new.port in
     let e = c.in_ok-resume_entry.ensures in
-    let said = said_again u x c.args.owner c.args.top c.level_type.result c.level_type.ensures c.in_ok-resume_entry.field-0 (again.Waiting c.in-Waiting.frame c.in-Waiting.own c.in-Waiting.stamp c.in-Waiting.stop) c.in-Waiting.is e.found e.plain e.shows e.serves e.hand in
-    waited_waits u x c.args.owner c.args.top c.args.stack.now c.requires.top c.if-top-eq0.false c.in-Waiting.frame c.in-Waiting.own c.in-Waiting.stamp c.in-Waiting.stop said c.requires.stands false c.if-own.false c.level_type-kind.result c.level_type-kind.ensures
+    let said = said_again u x c.args.owner c.args.top c.level_type.result c.level_type.ensures c.in_ok-resume_entry.field-0 (again.Waiting c.in-Waiting.frame c.in-Waiting.stamp c.in-Waiting.stop) c.in-Waiting.is e.found e.plain e.shows e.serves e.hand in
+    waited_waits u x c.args.owner c.args.top c.args.stack.now c.requires.top c.if-top-eq0.false c.in-Waiting.frame c.in-Waiting.stamp c.in-Waiting.stop said c.requires.stands c.level_type-in-Waiting.result c.level_type-in-Waiting.ensures
 
-pub returns-else-own-clause-came : goal.returns-else-own-clause-came
-returns-else-own-clause-came g n c =
+pub returns-in-Waiting-clause-came : goal.returns-in-Waiting-clause-came
+returns-in-Waiting-clause-came g n c =
     let u = g.P.Port.value c.args.port.now in
     let x = g.P.Port.value c.resume_entry.new.port in
     let e = c.in_ok-resume_entry.ensures in
-    let said = said_again u x c.args.owner c.args.top c.level_type.result c.level_type.ensures c.in_ok-resume_entry.field-0 (again.Waiting c.in-Waiting.frame c.in-Waiting.own c.in-Waiting.stamp c.in-Waiting.stop) c.in-Waiting.is e.found e.plain e.shows e.serves e.hand in
-    again_then u x c.args.owner c.args.top (again.Waiting c.in-Waiting.frame c.in-Waiting.own c.in-Waiting.stamp c.in-Waiting.stop) said (g.P.Port.value c.leave_shared.new.port) c.leave_shared.ensures.came
+    let said = said_again u x c.args.owner c.args.top c.level_type.result c.level_type.ensures c.in_ok-resume_entry.field-0 (again.Waiting c.in-Waiting.frame c.in-Waiting.stamp c.in-Waiting.stop) c.in-Waiting.is e.found e.plain e.shows e.serves e.hand in
+    again_then u x c.args.owner c.args.top (again.Waiting c.in-Waiting.frame c.in-Waiting.stamp c.in-Waiting.stop) said (g.P.Port.value c.leave_shared.new.port) c.leave_shared.ensures.came
 
-pub returns-else-own-clause-stands : goal.returns-else-own-clause-stands
-returns-else-own-clause-stands g n c =
+pub returns-in-Waiting-clause-stands : goal.returns-in-Waiting-clause-stands
+returns-in-Waiting-clause-stands g n c =
     let u = g.P.Port.value c.args.port.now in
     let x = g.P.Port.value c.resume_entry.new.port in
     let e = c.in_ok-resume_entry.ensures in
-    let said = said_again u x c.args.owner c.args.top c.level_type.result c.level_type.ensures c.in_ok-resume_entry.field-0 (again.Waiting c.in-Waiting.frame c.in-Waiting.own c.in-Waiting.stamp c.in-Waiting.stop) c.in-Waiting.is e.found e.plain e.shows e.serves e.hand in
-    waited_stands u x c.args.owner c.args.top c.args.stack.now c.requires.top c.if-top-eq0.false c.in-Waiting.frame c.in-Waiting.own c.in-Waiting.stamp c.in-Waiting.stop said c.requires.stands false c.if-own.false c.level_type-kind.result c.level_type-kind.ensures (g.P.Port.value c.leave_shared.new.port) c.leave_shared.ensures.came c.leave_shared.ensures.hand
+    let said = said_again u x c.args.owner c.args.top c.level_type.result c.level_type.ensures c.in_ok-resume_entry.field-0 (again.Waiting c.in-Waiting.frame c.in-Waiting.stamp c.in-Waiting.stop) c.in-Waiting.is e.found e.plain e.shows e.serves e.hand in
+    waited_stands u x c.args.owner c.args.top c.args.stack.now c.requires.top c.if-top-eq0.false c.in-Waiting.frame c.in-Waiting.stamp c.in-Waiting.stop said c.requires.stands c.level_type-in-Waiting.result c.level_type-in-Waiting.ensures (g.P.Port.value c.leave_shared.new.port) c.leave_shared.ensures.came c.leave_shared.ensures.hand
 
-pub returns-else-own-clause-kinds : goal.returns-else-own-clause-kinds
-returns-else-own-clause-kinds g n c =
+pub returns-in-Waiting-clause-kinds : goal.returns-in-Waiting-clause-kinds
+returns-in-Waiting-clause-kinds g n c =
     let u = g.P.Port.value c.args.port.now in
     let x = g.P.Port.value c.resume_entry.new.port in
     let e = c.in_ok-resume_entry.ensures in
-    let said = said_again u x c.args.owner c.args.top c.level_type.result c.level_type.ensures c.in_ok-resume_entry.field-0 (again.Waiting c.in-Waiting.frame c.in-Waiting.own c.in-Waiting.stamp c.in-Waiting.stop) c.in-Waiting.is e.found e.plain e.shows e.serves e.hand in
-    waited_kinds u x c.args.owner c.args.top c.args.stack.now c.requires.top c.if-top-eq0.false c.in-Waiting.frame c.in-Waiting.own c.in-Waiting.stamp c.in-Waiting.stop said c.requires.stands
+    let said = said_again u x c.args.owner c.args.top c.level_type.result c.level_type.ensures c.in_ok-resume_entry.field-0 (again.Waiting c.in-Waiting.frame c.in-Waiting.stamp c.in-Waiting.stop) c.in-Waiting.is e.found e.plain e.shows e.serves e.hand in
+    waited_kinds u x c.args.owner c.args.top c.args.stack.now c.requires.top c.if-top-eq0.false c.in-Waiting.frame c.in-Waiting.stamp c.in-Waiting.stop said c.requires.stands
 
-pub returns-else-own-clause-serves : goal.returns-else-own-clause-serves
-returns-else-own-clause-serves g n c =
+pub returns-in-Waiting-clause-serves : goal.returns-in-Waiting-clause-serves
+returns-in-Waiting-clause-serves g n c =
     let u = g.P.Port.value c.args.port.now in
     let x = g.P.Port.value c.resume_entry.new.port in
     let e = c.in_ok-resume_entry.ensures in
-    let said = said_again u x c.args.owner c.args.top c.level_type.result c.level_type.ensures c.in_ok-resume_entry.field-0 (again.Waiting c.in-Waiting.frame c.in-Waiting.own c.in-Waiting.stamp c.in-Waiting.stop) c.in-Waiting.is e.found e.plain e.shows e.serves e.hand in
-    waited_serves u x c.args.owner c.args.top c.args.stack.now c.requires.top c.if-top-eq0.false c.in-Waiting.frame c.in-Waiting.own c.in-Waiting.stamp c.in-Waiting.stop said c.requires.stands false c.if-own.false c.level_type-kind.result c.level_type-kind.ensures (g.P.Port.value c.leave_shared.new.port) c.leave_shared.ensures.came c.leave_shared.ensures.serves
+    let said = said_again u x c.args.owner c.args.top c.level_type.result c.level_type.ensures c.in_ok-resume_entry.field-0 (again.Waiting c.in-Waiting.frame c.in-Waiting.stamp c.in-Waiting.stop) c.in-Waiting.is e.found e.plain e.shows e.serves e.hand in
+    waited_serves u x c.args.owner c.args.top c.args.stack.now c.requires.top c.if-top-eq0.false c.in-Waiting.frame c.in-Waiting.stamp c.in-Waiting.stop said c.requires.stands c.level_type-in-Waiting.result c.level_type-in-Waiting.ensures (g.P.Port.value c.leave_shared.new.port) c.leave_shared.ensures.came c.leave_shared.ensures.serves
 
-pub returns-else-own-clause-stops : goal.returns-else-own-clause-stops
-returns-else-own-clause-stops g n c =
+pub returns-in-Waiting-clause-stops : goal.returns-in-Waiting-clause-stops
+returns-in-Waiting-clause-stops g n c =
     let u = g.P.Port.value c.args.port.now in
     let x = g.P.Port.value c.resume_entry.new.port in
     let e = c.in_ok-resume_entry.ensures in
-    let said = said_again u x c.args.owner c.args.top c.level_type.result c.level_type.ensures c.in_ok-resume_entry.field-0 (again.Waiting c.in-Waiting.frame c.in-Waiting.own c.in-Waiting.stamp c.in-Waiting.stop) c.in-Waiting.is e.found e.plain e.shows e.serves e.hand in
-    waited_stops u x c.args.owner c.args.top c.args.stack.now c.requires.top c.if-top-eq0.false c.in-Waiting.frame c.in-Waiting.own c.in-Waiting.stamp c.in-Waiting.stop said c.requires.stands false c.if-own.false c.level_type-kind.result c.level_type-kind.ensures (g.P.Port.value c.leave_shared.new.port) c.leave_shared.ensures.came
+    let said = said_again u x c.args.owner c.args.top c.level_type.result c.level_type.ensures c.in_ok-resume_entry.field-0 (again.Waiting c.in-Waiting.frame c.in-Waiting.stamp c.in-Waiting.stop) c.in-Waiting.is e.found e.plain e.shows e.serves e.hand in
+    waited_stops u x c.args.owner c.args.top c.args.stack.now c.requires.top c.if-top-eq0.false c.in-Waiting.frame c.in-Waiting.stamp c.in-Waiting.stop said c.requires.stands c.level_type-in-Waiting.result c.level_type-in-Waiting.ensures (g.P.Port.value c.leave_shared.new.port) c.leave_shared.ensures.came
 
-pub returns-else-own-clause-forward : goal.returns-else-own-clause-forward
-returns-else-own-clause-forward g n c =
+pub returns-in-Waiting-clause-forward : goal.returns-in-Waiting-clause-forward
+returns-in-Waiting-clause-forward g n c =
     let u = g.P.Port.value c.args.port.now in
     let x = g.P.Port.value c.resume_entry.new.port in
     let e = c.in_ok-resume_entry.ensures in
-    let said = said_again u x c.args.owner c.args.top c.level_type.result c.level_type.ensures c.in_ok-resume_entry.field-0 (again.Waiting c.in-Waiting.frame c.in-Waiting.own c.in-Waiting.stamp c.in-Waiting.stop) c.in-Waiting.is e.found e.plain e.shows e.serves e.hand in
-    shared_forward u x c.args.owner c.args.top c.args.stack.now c.requires.top c.if-top-eq0.false c.in-Waiting.frame c.in-Waiting.own c.in-Waiting.stamp c.in-Waiting.stop said c.requires.stands c.level_type-kind.result c.level_type-kind.ensures (g.P.Port.value c.leave_shared.new.port) c.leave_shared.ensures.visits
+    let said = said_again u x c.args.owner c.args.top c.level_type.result c.level_type.ensures c.in_ok-resume_entry.field-0 (again.Waiting c.in-Waiting.frame c.in-Waiting.stamp c.in-Waiting.stop) c.in-Waiting.is e.found e.plain e.shows e.serves e.hand in
+    shared_forward u x c.args.owner c.args.top c.args.stack.now c.requires.top c.if-top-eq0.false c.in-Waiting.frame c.in-Waiting.stamp c.in-Waiting.stop said c.requires.stands c.level_type-in-Waiting.result c.level_type-in-Waiting.ensures (g.P.Port.value c.leave_shared.new.port) c.leave_shared.ensures.visits
 
-pub returns-else-own-clause-leaves : goal.returns-else-own-clause-leaves
-returns-else-own-clause-leaves g n c =
+pub returns-in-Waiting-clause-leaves : goal.returns-in-Waiting-clause-leaves
+returns-in-Waiting-clause-leaves g n c =
     let u = g.P.Port.value c.args.port.now in
     let x = g.P.Port.value c.resume_entry.new.port in
     let e = c.in_ok-resume_entry.ensures in
-    let said = said_again u x c.args.owner c.args.top c.level_type.result c.level_type.ensures c.in_ok-resume_entry.field-0 (again.Waiting c.in-Waiting.frame c.in-Waiting.own c.in-Waiting.stamp c.in-Waiting.stop) c.in-Waiting.is e.found e.plain e.shows e.serves e.hand in
-    shared_well u x c.args.owner c.args.top c.args.stack.now c.requires.top c.if-top-eq0.false c.in-Waiting.frame c.in-Waiting.own c.in-Waiting.stamp c.in-Waiting.stop said c.requires.stands c.level_type-kind.result c.level_type-kind.ensures (g.P.Port.value c.leave_shared.new.port) c.leave_shared.ensures.visits
+    let said = said_again u x c.args.owner c.args.top c.level_type.result c.level_type.ensures c.in_ok-resume_entry.field-0 (again.Waiting c.in-Waiting.frame c.in-Waiting.stamp c.in-Waiting.stop) c.in-Waiting.is e.found e.plain e.shows e.serves e.hand in
+    shared_well u x c.args.owner c.args.top c.args.stack.now c.requires.top c.if-top-eq0.false c.in-Waiting.frame c.in-Waiting.stamp c.in-Waiting.stop said c.requires.stands c.level_type-in-Waiting.result c.level_type-in-Waiting.ensures (g.P.Port.value c.leave_shared.new.port) c.leave_shared.ensures.visits
 
-pub returns-else-own-clause-course : goal.returns-else-own-clause-course
-returns-else-own-clause-course g n c =
+pub returns-in-Waiting-clause-course : goal.returns-in-Waiting-clause-course
+returns-in-Waiting-clause-course g n c =
     let u = g.P.Port.value c.args.port.now in
     let x = g.P.Port.value c.resume_entry.new.port in
     let e = c.in_ok-resume_entry.ensures in
-    let said = said_again u x c.args.owner c.args.top c.level_type.result c.level_type.ensures c.in_ok-resume_entry.field-0 (again.Waiting c.in-Waiting.frame c.in-Waiting.own c.in-Waiting.stamp c.in-Waiting.stop) c.in-Waiting.is e.found e.plain e.shows e.serves e.hand in
-    waiting_on c.args.owner u c.args.top (drop 1 c.args.stack.now) c.args.stack.now c.requires.top c.if-top-eq0.false x (g.P.Port.value c.leave_shared.new.port) c.in-Waiting.frame c.in-Waiting.own c.in-Waiting.stamp c.in-Waiting.stop false c.if-own.false said.entry
-    (shared_left x (g.P.Port.value c.leave_shared.new.port) c.in-Waiting.frame (c.args.top.level - 1) c.level_type-kind.result c.level_type-kind.ensures c.in-Waiting.stamp c.leave_shared.ensures.visits)
+    let said = said_again u x c.args.owner c.args.top c.level_type.result c.level_type.ensures c.in_ok-resume_entry.field-0 (again.Waiting c.in-Waiting.frame c.in-Waiting.stamp c.in-Waiting.stop) c.in-Waiting.is e.found e.plain e.shows e.serves e.hand in
+    waiting_on c.args.owner u c.args.top (drop 1 c.args.stack.now) c.args.stack.now c.requires.top c.if-top-eq0.false x (g.P.Port.value c.leave_shared.new.port) c.in-Waiting.frame c.in-Waiting.stamp c.in-Waiting.stop said.entry
+    (shared_left x (g.P.Port.value c.leave_shared.new.port) c.in-Waiting.frame (c.args.top.level - 1) c.level_type-in-Waiting.result c.level_type-in-Waiting.ensures c.in-Waiting.stamp c.leave_shared.ensures.visits)

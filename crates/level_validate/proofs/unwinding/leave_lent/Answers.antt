@@ -5,20 +5,19 @@ use Rattle.answer_fits.proofs.Piecing.{serves_came}
 use Rattle.level_validate.specs.Serving.{CarriesOn}
 use Rattle.level_validate.proofs.LeavingTables.{top_spelled}
 use Rattle.level_validate.proofs.Serving.{piece_around, piece_back, piece_left, piece_rest}
-use Rattle.level_validate.specs.Unwinding.{own_domain}
 use Rattle.level_validate.proofs.LeavingLent.{lent_puts, lent_stands}
 use Rattle.frame_words.specs.Freeing.{PutBy}
 use Rattle.level_validate.proofs.Forward.{forward_by, forward_step, forward_then}
 use Rattle.level_validate.proofs.Onward.{put_onward}
 use Rattle.level_validate.proofs.LeftWell.{put_plain, well_by, well_then}
-use Rattle.level_validate.proofs.Recorded.{unkept_well}
+use Rattle.level_validate.proofs.Unkept.{unkept_well}
 use Rattle.level_validate.proofs.unwinding.leave_lent.Goals as goal
 
 pub put_ref-requires-clause-gives : goal.put_ref-requires-clause-gives
 put_ref-requires-clause-gives g c =
     let a = c.requires.stands in
     let w = g.P.Port.value c.args.port.now in
-    lent_puts a.1.0 w (own_domain w) c.args.table a.0 a.1.1 c.requires.lent (g.P.Port.value c.leave_partial.new.port) c.leave_partial.result c.leave_partial.ensures.moves c.leave_partial.ensures.hand
+    lent_puts a.2.0 w a.0 c.args.table a.1 a.2.1 c.requires.lent (g.P.Port.value c.leave_partial.new.port) c.leave_partial.result c.leave_partial.ensures.moves c.leave_partial.ensures.hand
 
 pub returns-clause-came : goal.returns-clause-came
 returns-clause-came g c =
@@ -28,12 +27,12 @@ returns-clause-came g c =
     came_trans w d x (moves_came w d _ _ _ _ c.leave_partial.result c.leave_partial.ensures.moves) (serves_came d x (of_back c.args.table.frame) [] c.put_ref.ensures.serves)
 
 pub returns-clause-stands : goal.returns-clause-stands
-returns-clause-stands g c ts v s =
+returns-clause-stands g c owner ts v s =
     let w = g.P.Port.value c.args.port.now in
     let d = g.P.Port.value c.leave_partial.new.port in
     let x = g.P.Port.value c.put_ref.new.port in
     let came = came_trans w d x (moves_came w d _ _ _ _ c.leave_partial.result c.leave_partial.ensures.moves) (serves_came d x (of_back c.args.table.frame) [] c.put_ref.ensures.serves) in
-    lent_stands v w (own_domain w) c.args.table ts s c.requires.lent d c.leave_partial.result c.leave_partial.ensures.moves c.leave_partial.ensures.hand x c.put_ref.ensures.hand came c.args.table.recorded refl
+    lent_stands v w owner c.args.table ts s c.requires.lent d c.leave_partial.result c.leave_partial.ensures.moves c.leave_partial.ensures.hand x c.put_ref.ensures.hand came c.args.table.recorded refl
 
 pub returns-clause-serves : goal.returns-clause-serves
 unfolding CarriesOn
@@ -43,8 +42,8 @@ returns-clause-serves g c owner ts u r ds a =
     let w = g.P.Port.value c.args.port.now in
     let d = g.P.Port.value c.leave_partial.new.port in
     let x = g.P.Port.value c.put_ref.new.port in
-    let spelled = top_spelled b.1.0 w (own_domain w) t b.0 b.1.1 false (λ on. absurd cc) in
-    let left = piece_left b.1.0 w (own_domain w) t b.0 b.1.1 _ spelled refl d c.leave_partial.result c.leave_partial.ensures.moves u r owner ts ds a in
+    let spelled = top_spelled b.2.0 w b.0 t b.1 b.2.1 false (λ on. absurd cc) in
+    let left = piece_left b.2.0 w b.0 t b.1 b.2.1 _ spelled refl d c.leave_partial.result c.leave_partial.ensures.moves u r owner ts ds a in
     piece_around t.recorded u x r owner ts ds (piece_rest u x r owner t ts ds (piece_back u d x r owner t ts ds left c.put_ref.ensures.serves))
 
 pub returns-clause-forward : goal.returns-clause-forward
@@ -62,5 +61,5 @@ returns-clause-leaves g c e =
     let w = g.P.Port.value c.args.port.now in
     let d = g.P.Port.value c.leave_partial.new.port in
     let x = g.P.Port.value c.put_ref.new.port in
-    well_then w d x false e (unkept_well b.1.0 w (own_domain w) t d c.leave_partial.result b.0 false false e b.1.1 refl c.leave_partial.ensures.moves)
+    well_then w d x false e (unkept_well b.2.0 w b.0 t d c.leave_partial.result b.1 false e b.2.1 c.leave_partial.ensures.moves)
     (well_by d x false e (PutBy t.frame) (λ vs puts. put_plain t.frame vs puts) c.put_ref.ensures.puts)

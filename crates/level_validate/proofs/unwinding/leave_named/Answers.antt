@@ -1,94 +1,123 @@
-use Rattle.std.proofs.Common.{true, false, [], ◌∷◌, ◌+◌, refl}
+use Rattle.std.proofs.Common.{true, false, [], ◌∷◌, ◌+◌, refl, ap, sym, ◌∙◌, subst}
+use Rattle.xp_words.specs.declared.kind.KindWord.{KindWord}
 use Rattle.step_maker.proofs.Coming.{came_trans, moves_came}
-use Rattle.level_validate.specs.Serving.{CarriesOn}
-use Rattle.level_validate.proofs.Serving.{piece_left, piece_names, piece_rest}
-use Rattle.level_validate.specs.Unwinding.{own_domain}
-use Rattle.level_validate.proofs.LeavingTables.{left_as, top_held, top_spelled}
-use Rattle.level_validate.proofs.Unwound.{outer_held, outer_kept, outer_named}
+use Rattle.answer_fits.specs.Asked.{of}
+use Rattle.kind_words.specs.Kinds.{MayLeave, partial_kind}
+use Rattle.kept_marks.specs.Marks.{IsUnpaged, KeptFor, LeavesKept}
+use Rattle.partial_state.specs.Levels.{level_type}
+use Rattle.level_validate.specs.Serving.{ServesLeft}
 use Rattle.level_validate.proofs.Forward.{forward_step, forward_then}
+use Rattle.level_validate.proofs.KeptSteps.{kept_forward, kept_well}
+use Rattle.level_validate.proofs.LeavingTables.{top_held, top_inside, top_kept_owner, top_leaves, top_spelled, top_unpaged}
+use Rattle.level_validate.proofs.LeftSo.{kept_left}
 use Rattle.level_validate.proofs.LeftWell.{well_step, well_then}
-use Rattle.level_validate.proofs.Recorded.{named_well}
+use Rattle.level_validate.proofs.Serving.{marked_kept, marked_none, piece_left, piece_names}
+use Rattle.level_validate.proofs.Unkept.{unkept_well}
+use Rattle.level_validate.proofs.Unwound.{outer_held, outer_kept, outer_named}
 use Rattle.level_validate.proofs.unwinding.leave_named.Goals as goal
+
+-- ---- into its mark
+
+pub leave_kept-requires-clause-frame : goal.leave_kept-requires-clause-frame
+leave_kept-requires-clause-frame g c = let a = c.requires.stands in top_inside a.0 (g.P.Port.value c.args.port.now) c.args.owner c.args.table [] a.1
+
+pub leave_kept-requires-clause-leaves : goal.leave_kept-requires-clause-leaves
+leave_kept-requires-clause-leaves g c =
+    let a = c.requires.stands in
+    let w = g.P.Port.value c.args.port.now in
+    let is = c.partial_kind-kind.ensures ∙ ap (λ k. partial_kind k true false c.args.table.done 0) c.level_type.ensures in
+    subst (λ (l : KindWord). MayLeave w c.args.table.frame l) (sym is) (top_leaves a.0 w c.args.owner c.args.table [] a.1 true (λ on. c.requires.own))
+
+pub leave_kept-requires-clause-page : goal.leave_kept-requires-clause-page
+leave_kept-requires-clause-page g c =
+    let a = c.requires.stands in
+    let is = c.partial_kind-kind.ensures ∙ ap (λ k. partial_kind k true false c.args.table.done 0) c.level_type.ensures in
+    subst (λ (l : KindWord). IsUnpaged l) (sym is) (top_unpaged a.0 (g.P.Port.value c.args.port.now) c.args.owner c.args.table [] a.1)
+
+pub leave_kept-requires-clause-known : goal.leave_kept-requires-clause-known
+leave_kept-requires-clause-known g c = let a = c.requires.stands in top_kept_owner a.0 (g.P.Port.value c.args.port.now) c.args.owner c.args.table [] a.1 c.requires.own
+
+pub returns-then-kept-clause-forward : goal.returns-then-kept-clause-forward
+returns-then-kept-clause-forward g c = kept_forward (g.P.Port.value c.args.port.now) (g.P.Port.value c.leave_kept.new.port) c.args.table.frame c.partial_kind-kind.result c.args.owner c.leave_kept.ensures.course
+
+pub returns-then-kept-clause-leaves : goal.returns-then-kept-clause-leaves
+returns-then-kept-clause-leaves g c =
+    let a = c.requires.stands in
+    let w = g.P.Port.value c.args.port.now in
+    let d = g.P.Port.value c.leave_kept.new.port in
+    let t = c.args.table in
+    let is = c.partial_kind-kind.ensures ∙ ap (λ k. partial_kind k true false c.args.table.done 0) c.level_type.ensures in
+    let spelled = top_spelled a.0 w c.args.owner t [] a.1 true (λ on. c.requires.own) in
+    kept_well t.frame (partial_kind (level_type t.level) true false t.done 0) spelled refl c.args.kept c.if-kept.true w d c.args.owner (subst (λ (l : KindWord). KeptFor w d t.frame l c.args.owner) is c.leave_kept.ensures.course)
+
+pub returns-then-kept-clause-hand : goal.returns-then-kept-clause-hand
+returns-then-kept-clause-hand g c v s =
+    let w = g.P.Port.value c.args.port.now in
+    let d = g.P.Port.value c.leave_kept.new.port in
+    let t = c.args.table in
+    let is = c.partial_kind-kind.ensures ∙ ap (λ k. partial_kind k true false c.args.table.done 0) c.level_type.ensures in
+    outer_kept v w c.args.owner t s c.requires.own c.args.kept c.if-kept.true d (subst (λ (l : KindWord). LeavesKept w d t.frame l c.args.owner) is c.leave_kept.ensures.hand)
+
+pub returns-then-kept-clause-serves : goal.returns-then-kept-clause-serves
+unfolding ServesLeft
+returns-then-kept-clause-serves g c u r ds a locks =
+    let t = c.args.table in
+    let d = g.P.Port.value c.leave_kept.new.port in
+    marked_kept u d r c.args.owner c.args.kept t.frame ds c.if-kept.true (c.leave_kept.ensures.serves u r ds a.serves (of r.owner _ a.asked.0) locks)
+
+pub returns-then-kept-clause-course : goal.returns-then-kept-clause-course
+returns-then-kept-clause-course g c =
+    let w = g.P.Port.value c.args.port.now in
+    let d = g.P.Port.value c.leave_kept.new.port in
+    let t = c.args.table in
+    let is = c.partial_kind-kind.ensures ∙ ap (λ k. partial_kind k true false c.args.table.done 0) c.level_type.ensures in
+    kept_left w d c.args.owner t c.args.kept c.if-kept.true (subst (λ (l : KindWord). KeptFor w d t.frame l c.args.owner) is c.leave_kept.ensures.course)
+
+-- ---- into the first old word
 
 pub put_old-requires-clause-held : goal.put_old-requires-clause-held
 put_old-requires-clause-held g c =
     let a = c.requires.stands in
     let w = g.P.Port.value c.args.port.now in
-    let d = g.P.Port.value c.leave_partial.new.port in
-    let t = c.args.table in
-    let off = c.if-not-kept.true in
-    outer_held a.0 w (own_domain w) t a.1 c.requires.own d (left_as w d t.frame c.args.kept false off c.leave_partial.ensures.hand) (top_held a.0 w (own_domain w) t [] a.1 c.requires.own)
+    outer_held a.0 w c.args.owner c.args.table a.1 c.requires.own (g.P.Port.value c.leave_partial.new.port) c.leave_partial.ensures.hand (top_held a.0 w c.args.owner c.args.table [] a.1 c.requires.own)
 
-pub returns-then-not-kept-clause-came : goal.returns-then-not-kept-clause-came
-returns-then-not-kept-clause-came g c =
+pub returns-else-kept-clause-came : goal.returns-else-kept-clause-came
+returns-else-kept-clause-came g c =
     let w = g.P.Port.value c.args.port.now in
     let d = g.P.Port.value c.leave_partial.new.port in
     let x = g.P.Port.value c.put_old.new.port in
     came_trans w d x (moves_came w d _ _ _ _ c.leave_partial.result c.leave_partial.ensures.moves) (moves_came d x _ _ _ _ 0 c.put_old.ensures.moves)
 
-pub returns-then-not-kept-clause-hand : goal.returns-then-not-kept-clause-hand
-returns-then-not-kept-clause-hand g c v s =
-    let w = g.P.Port.value c.args.port.now in
-    let d = g.P.Port.value c.leave_partial.new.port in
-    let t = c.args.table in
-    let off = c.if-not-kept.true in
-    outer_named v w (own_domain w) t s c.requires.own d (left_as w d t.frame c.args.kept false off c.leave_partial.ensures.hand) c.args.kept off (g.P.Port.value c.put_old.new.port) c.put_old.ensures.hand
-
-pub returns-else-not-kept-clause-came : goal.returns-else-not-kept-clause-came
-returns-else-not-kept-clause-came g c = moves_came (g.P.Port.value c.args.port.now) (g.P.Port.value c.leave_partial.new.port) _ _ _ _ c.leave_partial.result c.leave_partial.ensures.moves
-
-pub returns-else-not-kept-clause-hand : goal.returns-else-not-kept-clause-hand
-returns-else-not-kept-clause-hand g c v s =
-    let w = g.P.Port.value c.args.port.now in
-    let d = g.P.Port.value c.leave_partial.new.port in
-    let t = c.args.table in
-    let on = c.if-not-kept.false in
-    outer_kept v w (own_domain w) t c.args.kept s c.requires.own on d (left_as w d t.frame c.args.kept true on c.leave_partial.ensures.hand) (moves_came w d _ _ _ _ c.leave_partial.result c.leave_partial.ensures.moves)
-
-pub returns-then-not-kept-clause-serves : goal.returns-then-not-kept-clause-serves
-unfolding CarriesOn
-returns-then-not-kept-clause-serves g c owner u r ds a =
-    let b = c.requires.stands in
-    let t = c.args.table in
-    let w = g.P.Port.value c.args.port.now in
-    let d = g.P.Port.value c.leave_partial.new.port in
-    let x = g.P.Port.value c.put_old.new.port in
-    let spelled = top_spelled b.0 w (own_domain w) t [] b.1 c.args.kept (λ on. c.requires.own) in
-    let left = piece_left b.0 w (own_domain w) t [] b.1 _ spelled refl d c.leave_partial.result c.leave_partial.ensures.moves u r owner [] ds a in
-    piece_rest u x r owner t [] ds (piece_names u d x r owner (t ∷ []) ds left (t.frame + 1) c.put_old.ensures.moves)
-
-pub returns-else-not-kept-clause-serves : goal.returns-else-not-kept-clause-serves
-unfolding CarriesOn
-returns-else-not-kept-clause-serves g c owner u r ds a =
-    let b = c.requires.stands in
-    let t = c.args.table in
-    let w = g.P.Port.value c.args.port.now in
-    let d = g.P.Port.value c.leave_partial.new.port in
-    let spelled = top_spelled b.0 w (own_domain w) t [] b.1 c.args.kept (λ on. c.requires.own) in
-    piece_rest u d r owner t [] ds (piece_left b.0 w (own_domain w) t [] b.1 _ spelled refl d c.leave_partial.result c.leave_partial.ensures.moves u r owner [] ds a)
-
-pub returns-then-not-kept-clause-forward : goal.returns-then-not-kept-clause-forward
-returns-then-not-kept-clause-forward g c =
+pub returns-else-kept-clause-forward : goal.returns-else-kept-clause-forward
+returns-else-kept-clause-forward g c =
     let w = g.P.Port.value c.args.port.now in
     let d = g.P.Port.value c.leave_partial.new.port in
     let x = g.P.Port.value c.put_old.new.port in
     forward_then w d x (forward_step w d _ _ _ _ c.leave_partial.result refl refl c.leave_partial.ensures.moves) (forward_step d x _ _ _ _ 0 refl refl c.put_old.ensures.moves)
 
-pub returns-else-not-kept-clause-forward : goal.returns-else-not-kept-clause-forward
-returns-else-not-kept-clause-forward g c = forward_step (g.P.Port.value c.args.port.now) (g.P.Port.value c.leave_partial.new.port) _ _ _ _ c.leave_partial.result refl refl c.leave_partial.ensures.moves
-
-pub returns-then-not-kept-clause-leaves : goal.returns-then-not-kept-clause-leaves
-returns-then-not-kept-clause-leaves g c =
+pub returns-else-kept-clause-leaves : goal.returns-else-kept-clause-leaves
+returns-else-kept-clause-leaves g c =
     let b = c.requires.stands in
     let t = c.args.table in
     let w = g.P.Port.value c.args.port.now in
     let d = g.P.Port.value c.leave_partial.new.port in
     let x = g.P.Port.value c.put_old.new.port in
-    well_then w d x c.args.kept t.frame (named_well b.0 w (own_domain w) t d c.leave_partial.result c.args.kept b.1 c.requires.own c.leave_partial.ensures.moves)
-    (well_step d x c.args.kept t.frame _ _ _ _ 0 refl c.put_old.ensures.moves)
+    well_then w d x c.args.kept t.frame (unkept_well b.0 w c.args.owner t d c.leave_partial.result [] c.args.kept t.frame b.1 c.leave_partial.ensures.moves) (well_step d x c.args.kept t.frame _ _ _ _ 0 refl c.put_old.ensures.moves)
 
-pub returns-else-not-kept-clause-leaves : goal.returns-else-not-kept-clause-leaves
-returns-else-not-kept-clause-leaves g c =
-    let b = c.requires.stands in
+pub returns-else-kept-clause-hand : goal.returns-else-kept-clause-hand
+returns-else-kept-clause-hand g c v s =
     let w = g.P.Port.value c.args.port.now in
-    named_well b.0 w (own_domain w) c.args.table (g.P.Port.value c.leave_partial.new.port) c.leave_partial.result c.args.kept b.1 c.requires.own c.leave_partial.ensures.moves
+    let d = g.P.Port.value c.leave_partial.new.port in
+    outer_named v w c.args.owner c.args.table s c.requires.own d c.leave_partial.ensures.hand c.args.kept c.if-kept.false (g.P.Port.value c.put_old.new.port) c.put_old.ensures.hand
+
+pub returns-else-kept-clause-serves : goal.returns-else-kept-clause-serves
+unfolding ServesLeft
+returns-else-kept-clause-serves g c u r ds a locks =
+    let b = c.requires.stands in
+    let t = c.args.table in
+    let w = g.P.Port.value c.args.port.now in
+    let d = g.P.Port.value c.leave_partial.new.port in
+    let x = g.P.Port.value c.put_old.new.port in
+    let spelled = top_spelled b.0 w c.args.owner t [] b.1 false (λ on. absurd cc) in
+    let left = piece_left b.0 w c.args.owner t [] b.1 _ spelled refl d c.leave_partial.result c.leave_partial.ensures.moves u r c.args.owner [] ds a in
+    marked_none u x r c.args.owner c.args.kept t.frame ds (piece_names u d x r c.args.owner (t ∷ []) ds left (t.frame + 1) c.put_old.ensures.moves).serves

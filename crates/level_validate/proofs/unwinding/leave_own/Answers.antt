@@ -1,14 +1,13 @@
-use Rattle.std.proofs.Common.{true, false, ◌∷◌, drop, refl, sym, subst}
-use Rattle.level_validate.specs.Serving.{CarriesOn}
-use Rattle.level_validate.proofs.Serving.{piece_left, piece_records, piece_rest}
-use Rattle.level_validate.specs.Tables.{Carries}
-use Rattle.level_validate.specs.Unwinding.{own_domain}
+use Rattle.std.proofs.Common.{false, ◌∷◌, drop, refl, sym, subst}
 use Rattle.step_maker.proofs.Coming.{came_trans, moves_came}
-use Rattle.level_validate.proofs.LeavingOwn.{kept_stands, own_records, own_stands}
-use Rattle.level_validate.proofs.LeavingTables.{is_so, left_as, not_so, store_as, top_spelled}
+use Rattle.level_validate.specs.Serving.{CarriesOn}
+use Rattle.level_validate.specs.Tables.{Carries}
 use Rattle.level_validate.proofs.Forward.{forward_step, forward_then}
+use Rattle.level_validate.proofs.LeavingOwn.{own_new, own_records, own_stands}
+use Rattle.level_validate.proofs.LeavingTables.{top_spelled}
 use Rattle.level_validate.proofs.LeftWell.{well_step, well_then}
-use Rattle.level_validate.proofs.Recorded.{inner_well}
+use Rattle.level_validate.proofs.Serving.{piece_left, piece_records, piece_rest}
+use Rattle.level_validate.proofs.Unkept.{unkept_well}
 use Rattle.level_validate.proofs.unwinding.leave_own.Goals as goal
 
 pub record_entry-requires : goal.record_entry-requires
@@ -17,9 +16,8 @@ record_entry-requires g c =
     let w = g.P.Port.value c.args.port.now in
     let d = g.P.Port.value c.leave_partial.new.port in
     let t = c.args.table in
-    let new = not_so t.recorded c.if-not-table.true in
-    own_records a.0 w (own_domain w) t c.in-Some.outer (drop 1 c.args.stack.now) (subst (λ ts. Carries a.0 w (own_domain w) (t ∷ ts)) c.in-Some.ensures.some a.1) c.requires.own new d c.leave_partial.result
-    (store_as w d t c.leave_partial.result t.recorded false new c.leave_partial.ensures.moves) (left_as w d t.frame t.recorded false new c.leave_partial.ensures.hand)
+    own_records a.1.0 w a.0 t c.in-Some.outer (drop 1 c.args.stack.now) (subst (λ ts. Carries a.1.0 w a.0 (t ∷ ts)) c.in-Some.ensures.some a.1.1) c.requires.own (own_new a.1.0 w a.0 t c.args.stack.now a.1.1 c.requires.own) d
+    c.leave_partial.result c.leave_partial.ensures.moves c.leave_partial.ensures.hand
 
 pub returns-in-Some-clause-came : goal.returns-in-Some-clause-came
 returns-in-Some-clause-came g c =
@@ -29,28 +27,15 @@ returns-in-Some-clause-came g c =
     came_trans w d x (moves_came w d _ _ _ _ c.leave_partial.result c.leave_partial.ensures.moves) (moves_came d x _ _ _ _ c.record_entry.result c.record_entry.ensures.moves)
 
 pub returns-in-Some-clause-stands : goal.returns-in-Some-clause-stands
-returns-in-Some-clause-stands g c v s =
+returns-in-Some-clause-stands g c owner v s =
     let w = g.P.Port.value c.args.port.now in
     let d = g.P.Port.value c.leave_partial.new.port in
     let x = g.P.Port.value c.record_entry.new.port in
     let t = c.args.table in
-    let new = not_so t.recorded c.if-not-table.true in
     let came = came_trans w d x (moves_came w d _ _ _ _ c.leave_partial.result c.leave_partial.ensures.moves) (moves_came d x _ _ _ _ c.record_entry.result c.record_entry.ensures.moves) in
-    subst (λ ts. Carries v x (own_domain w) ts) (sym c.in-Some.ensures.some)
-    (own_stands v w (own_domain w) t c.in-Some.outer (drop 1 c.args.stack.now) (subst (λ ts. Carries v w (own_domain w) (t ∷ ts)) c.in-Some.ensures.some s) c.requires.own new d c.leave_partial.result
-    (store_as w d t c.leave_partial.result t.recorded false new c.leave_partial.ensures.moves) (left_as w d t.frame t.recorded false new c.leave_partial.ensures.hand) x c.record_entry.ensures.hand came)
-
-pub returns-else-not-table-clause-came : goal.returns-else-not-table-clause-came
-returns-else-not-table-clause-came g c = moves_came (g.P.Port.value c.args.port.now) (g.P.Port.value c.leave_partial.new.port) _ _ _ _ c.leave_partial.result c.leave_partial.ensures.moves
-
-pub returns-else-not-table-clause-stands : goal.returns-else-not-table-clause-stands
-returns-else-not-table-clause-stands g c v s =
-    let w = g.P.Port.value c.args.port.now in
-    let d = g.P.Port.value c.leave_partial.new.port in
-    let t = c.args.table in
-    let old = is_so t.recorded c.if-not-table.false in
-    kept_stands v w (own_domain w) t c.args.stack.now s c.requires.own d (left_as w d t.frame t.recorded true old c.leave_partial.ensures.hand)
-    (moves_came w d _ _ _ _ c.leave_partial.result c.leave_partial.ensures.moves) old
+    subst (λ ts. Carries v x owner ts) (sym c.in-Some.ensures.some)
+    (own_stands v w owner t c.in-Some.outer (drop 1 c.args.stack.now) (subst (λ ts. Carries v w owner (t ∷ ts)) c.in-Some.ensures.some s) c.requires.own (own_new v w owner t c.args.stack.now s c.requires.own) d c.leave_partial.result
+    c.leave_partial.ensures.moves c.leave_partial.ensures.hand x c.record_entry.ensures.hand came)
 
 pub returns-in-Some-clause-serves : goal.returns-in-Some-clause-serves
 unfolding CarriesOn
@@ -62,20 +47,9 @@ returns-in-Some-clause-serves g c owner u r ds a =
     let w = g.P.Port.value c.args.port.now in
     let d = g.P.Port.value c.leave_partial.new.port in
     let x = g.P.Port.value c.record_entry.new.port in
-    let spelled = top_spelled b.0 w (own_domain w) t ts b.1 t.recorded (λ on. c.requires.own) in
-    let left = piece_left b.0 w (own_domain w) t ts b.1 _ spelled refl d c.leave_partial.result c.leave_partial.ensures.moves u r owner ts ds a in
+    let spelled = top_spelled b.1.0 w b.0 t ts b.1.1 false (λ on. absurd cc) in
+    let left = piece_left b.1.0 w b.0 t ts b.1.1 _ spelled refl d c.leave_partial.result c.leave_partial.ensures.moves u r owner ts ds a in
     piece_rest u x r owner t ts ds (piece_records u d x r owner (t ∷ ts) ds left o.frame o.done c.record_entry.result c.record_entry.ensures.moves)
-
-pub returns-else-not-table-clause-serves : goal.returns-else-not-table-clause-serves
-unfolding CarriesOn
-returns-else-not-table-clause-serves g c owner u r ds a =
-    let b = c.requires.stands in
-    let t = c.args.table in
-    let ts = c.args.stack.now in
-    let w = g.P.Port.value c.args.port.now in
-    let d = g.P.Port.value c.leave_partial.new.port in
-    let spelled = top_spelled b.0 w (own_domain w) t ts b.1 t.recorded (λ on. c.requires.own) in
-    piece_rest u d r owner t ts ds (piece_left b.0 w (own_domain w) t ts b.1 _ spelled refl d c.leave_partial.result c.leave_partial.ensures.moves u r owner ts ds a)
 
 pub returns-in-Some-clause-forward : goal.returns-in-Some-clause-forward
 returns-in-Some-clause-forward g c =
@@ -84,20 +58,10 @@ returns-in-Some-clause-forward g c =
     let x = g.P.Port.value c.record_entry.new.port in
     forward_then w d x (forward_step w d _ _ _ _ c.leave_partial.result refl refl c.leave_partial.ensures.moves) (forward_step d x _ _ _ _ c.record_entry.result refl refl c.record_entry.ensures.moves)
 
-pub returns-else-not-table-clause-forward : goal.returns-else-not-table-clause-forward
-returns-else-not-table-clause-forward g c = forward_step (g.P.Port.value c.args.port.now) (g.P.Port.value c.leave_partial.new.port) _ _ _ _ c.leave_partial.result refl refl c.leave_partial.ensures.moves
-
 pub returns-in-Some-clause-leaves : goal.returns-in-Some-clause-leaves
 returns-in-Some-clause-leaves g c f =
     let b = c.requires.stands in
     let w = g.P.Port.value c.args.port.now in
     let d = g.P.Port.value c.leave_partial.new.port in
     let x = g.P.Port.value c.record_entry.new.port in
-    well_then w d x false f (inner_well b.0 w (own_domain w) c.args.table d c.leave_partial.result c.args.stack.now f b.1 c.requires.inner c.requires.own c.leave_partial.ensures.moves)
-    (well_step d x false f _ _ _ _ c.record_entry.result refl c.record_entry.ensures.moves)
-
-pub returns-else-not-table-clause-leaves : goal.returns-else-not-table-clause-leaves
-returns-else-not-table-clause-leaves g c f =
-    let b = c.requires.stands in
-    let w = g.P.Port.value c.args.port.now in
-    inner_well b.0 w (own_domain w) c.args.table (g.P.Port.value c.leave_partial.new.port) c.leave_partial.result c.args.stack.now f b.1 c.requires.inner c.requires.own c.leave_partial.ensures.moves
+    well_then w d x false f (unkept_well b.1.0 w b.0 c.args.table d c.leave_partial.result c.args.stack.now false f b.1.1 c.leave_partial.ensures.moves) (well_step d x false f _ _ _ _ c.record_entry.result refl c.record_entry.ensures.moves)

@@ -110,7 +110,7 @@ returns-in_err-frame-2-clause-serves g c =
     let stop = c.in_err-frame-2.field-0.0 in
     let answer = err_from_is_err_and c.from_residual-in_err-frame-2.result c.from_residual-in_err-frame-2.ensures.1 in
     serves_as v e c.args.f c.args.domain c.args.level c.from_residual-in_err-frame-2.result stop (answer.1 ∙ ap Err answer.2)
-    (acquired_serves v c.args.f c.args.domain c.args.level (is_due_stop stop) p (put_back v a b c.args.f c.args.domain c.in_ok-frame.frame c.look_kind-found.result c.in_ok-frame.ensures.frame.0 c.in_ok-frame.ensures.hand c.look_kind-found.ensures.moves c.look_kind-found.ensures.hand (of_pin c.args.domain c.args.f c.args.level (is_due_stop stop)) (asks v c.args.f c.args.domain c.args.level (is_due_stop stop)) c.in_ok-frame.ensures.serves p c.put_ref.ensures.serves) e (Err stop) (λ due. sym (same_due stop) ∙ due) (c.in_err-frame-2.ensures.serves c.args.domain))
+    (acquired_serves v c.args.f c.args.domain c.args.level (is_due_stop stop) p (put_back v a b c.args.f c.args.domain c.in_ok-frame.frame c.look_kind-found.result c.in_ok-frame.ensures.frame.0 c.in_ok-frame.ensures.hand c.look_kind-found.ensures.moves c.look_kind-found.ensures.hand (of_pin c.args.domain c.args.f c.args.level (is_due_stop stop)) (asks v c.args.f c.args.domain c.args.level (is_due_stop stop)) c.in_ok-frame.ensures.serves p c.put_ref.ensures.serves) e (Err stop) (λ due. sym (same_due stop) ∙ due) c.requires.own (c.in_err-frame-2.ensures.serves c.args.domain))
 
 pub returns-in_err-frame-2-clause-stops : goal.returns-in_err-frame-2-clause-stops
 returns-in_err-frame-2-clause-stops g c =
@@ -122,7 +122,7 @@ returns-in_err-frame-2-clause-stops g c =
     let stop = c.in_err-frame-2.field-0.0 in
     let answer = err_from_is_err_and c.from_residual-in_err-frame-2.result c.from_residual-in_err-frame-2.ensures.1 in
     stops_as v e c.args.f c.args.domain c.args.level c.from_residual-in_err-frame-2.result stop (answer.1 ∙ ap Err answer.2)
-    (unacquired_stops v c.args.f c.args.domain c.args.level (is_due_stop stop) p (put_back v a b c.args.f c.args.domain c.in_ok-frame.frame c.look_kind-found.result c.in_ok-frame.ensures.frame.0 c.in_ok-frame.ensures.hand c.look_kind-found.ensures.moves c.look_kind-found.ensures.hand (of_pin c.args.domain c.args.f c.args.level (is_due_stop stop)) (asks v c.args.f c.args.domain c.args.level (is_due_stop stop)) c.in_ok-frame.ensures.serves p c.put_ref.ensures.serves) e (Err stop) (λ due. sym (same_due stop) ∙ due) (given_back v a b c.args.f c.args.domain c.in_ok-frame.frame c.look_kind-found.result c.in_ok-frame.ensures.frame.0 c.in_ok-frame.ensures.hand c.look_kind-found.ensures.moves c.look_kind-found.ensures.hand p c.put_ref.ensures.hand) stop (c.in_err-frame-2.ensures.stops c.args.domain))
+    (unacquired_stops v c.args.f c.args.domain c.args.level (is_due_stop stop) p (put_back v a b c.args.f c.args.domain c.in_ok-frame.frame c.look_kind-found.result c.in_ok-frame.ensures.frame.0 c.in_ok-frame.ensures.hand c.look_kind-found.ensures.moves c.look_kind-found.ensures.hand (of_pin c.args.domain c.args.f c.args.level (is_due_stop stop)) (asks v c.args.f c.args.domain c.args.level (is_due_stop stop)) c.in_ok-frame.ensures.serves p c.put_ref.ensures.serves) e (Err stop) (λ due. sym (same_due stop) ∙ due) c.requires.own (given_back v a b c.args.f c.args.domain c.in_ok-frame.frame c.look_kind-found.result c.in_ok-frame.ensures.frame.0 c.in_ok-frame.ensures.hand c.look_kind-found.ensures.moves c.look_kind-found.ensures.hand p c.put_ref.ensures.hand) stop (c.in_err-frame-2.ensures.stops c.args.domain))
 
 pub returns-in_err-frame-2-clause-hand : goal.returns-in_err-frame-2-clause-hand
 returns-in_err-frame-2-clause-hand g c =
@@ -133,7 +133,7 @@ returns-in_err-frame-2-clause-hand g c =
     let e = g.P.Port.value c.acquire.new.port in
     let stop = c.in_err-frame-2.field-0.0 in
     let answer = err_from_is_err_and c.from_residual-in_err-frame-2.result c.from_residual-in_err-frame-2.ensures.1 in
-    leaves_as v e c.args.f c.args.domain c.args.level c.from_residual-in_err-frame-2.result stop (answer.1 ∙ ap Err answer.2) (unacquired_hand v p e c.args.f c.args.domain c.args.level (given_back v a b c.args.f c.args.domain c.in_ok-frame.frame c.look_kind-found.result c.in_ok-frame.ensures.frame.0 c.in_ok-frame.ensures.hand c.look_kind-found.ensures.moves c.look_kind-found.ensures.hand p c.put_ref.ensures.hand) stop c.in_err-frame-2.ensures.hand)
+    leaves_as v e c.args.f c.args.domain c.args.level c.from_residual-in_err-frame-2.result stop (answer.1 ∙ ap Err answer.2) (unacquired_hand v p e c.args.f c.args.domain c.args.level (given_back v a b c.args.f c.args.domain c.in_ok-frame.frame c.look_kind-found.result c.in_ok-frame.ensures.frame.0 c.in_ok-frame.ensures.hand c.look_kind-found.ensures.moves c.look_kind-found.ensures.hand p c.put_ref.ensures.hand) c.requires.own stop c.in_err-frame-2.ensures.hand)
 
 pub returns-in_err-frame-2-clause-rests : goal.returns-in_err-frame-2-clause-rests
 returns-in_err-frame-2-clause-rests g c =
@@ -143,7 +143,7 @@ returns-in_err-frame-2-clause-rests g c =
     let p = g.P.Port.value c.put_ref.new.port in
     let e = g.P.Port.value c.acquire.new.port in
     let stop = c.in_err-frame-2.field-0.0 in
-    rests_behind v e (Pin c.args.f c.args.level) (Err stop) c.requires.rests (unacquired_hand v p e c.args.f c.args.domain c.args.level (given_back v a b c.args.f c.args.domain c.in_ok-frame.frame c.look_kind-found.result c.in_ok-frame.ensures.frame.0 c.in_ok-frame.ensures.hand c.look_kind-found.ensures.moves c.look_kind-found.ensures.hand p c.put_ref.ensures.hand) stop c.in_err-frame-2.ensures.hand)
+    rests_behind v e (Pin c.args.f c.args.level) (Err stop) c.requires.rests (unacquired_hand v p e c.args.f c.args.domain c.args.level (given_back v a b c.args.f c.args.domain c.in_ok-frame.frame c.look_kind-found.result c.in_ok-frame.ensures.frame.0 c.in_ok-frame.ensures.hand c.look_kind-found.ensures.moves c.look_kind-found.ensures.hand p c.put_ref.ensures.hand) c.requires.own stop c.in_err-frame-2.ensures.hand)
 
 pub returns-in_err-frame-2-clause-course : goal.returns-in_err-frame-2-clause-course
 returns-in_err-frame-2-clause-course g c =
@@ -181,7 +181,7 @@ returns-clause-serves g c =
     let p = g.P.Port.value c.put_ref.new.port in
     let e = g.P.Port.value c.acquire.new.port in
     let w = g.P.Port.value c.pin_live.new.port in
-    live_serves v e w c.args.f c.args.domain c.args.level c.in_ok-frame-2.frame c.in_ok-frame-2.ensures.frame.0 c.requires.own (acquired_serves v c.args.f c.args.domain c.args.level false p (put_back v a b c.args.f c.args.domain c.in_ok-frame.frame c.look_kind-found.result c.in_ok-frame.ensures.frame.0 c.in_ok-frame.ensures.hand c.look_kind-found.ensures.moves c.look_kind-found.ensures.hand (of_pin c.args.domain c.args.f c.args.level false) (asks v c.args.f c.args.domain c.args.level false) c.in_ok-frame.ensures.serves p c.put_ref.ensures.serves) e (Ok c.in_ok-frame-2.frame) (λ due. due) (c.in_ok-frame-2.ensures.serves c.args.domain)) c.pin_live.result c.pin_live.ensures.kinds c.pin_live.ensures.serves
+    live_serves v e w c.args.f c.args.domain c.args.level c.in_ok-frame-2.frame c.in_ok-frame-2.ensures.frame.0 c.requires.own (acquired_serves v c.args.f c.args.domain c.args.level false p (put_back v a b c.args.f c.args.domain c.in_ok-frame.frame c.look_kind-found.result c.in_ok-frame.ensures.frame.0 c.in_ok-frame.ensures.hand c.look_kind-found.ensures.moves c.look_kind-found.ensures.hand (of_pin c.args.domain c.args.f c.args.level false) (asks v c.args.f c.args.domain c.args.level false) c.in_ok-frame.ensures.serves p c.put_ref.ensures.serves) e (Ok c.in_ok-frame-2.frame) (λ due. due) c.requires.own (c.in_ok-frame-2.ensures.serves c.args.domain)) c.pin_live.result c.pin_live.ensures.kinds c.pin_live.ensures.serves
 
 pub returns-clause-stops : goal.returns-clause-stops
 returns-clause-stops g c =
@@ -191,7 +191,7 @@ returns-clause-stops g c =
     let p = g.P.Port.value c.put_ref.new.port in
     let e = g.P.Port.value c.acquire.new.port in
     let w = g.P.Port.value c.pin_live.new.port in
-    live_stops v e w c.args.f c.args.domain c.args.level c.in_ok-frame-2.frame c.in_ok-frame-2.ensures.frame.0 c.requires.own (acquired_serves v c.args.f c.args.domain c.args.level false p (put_back v a b c.args.f c.args.domain c.in_ok-frame.frame c.look_kind-found.result c.in_ok-frame.ensures.frame.0 c.in_ok-frame.ensures.hand c.look_kind-found.ensures.moves c.look_kind-found.ensures.hand (of_pin c.args.domain c.args.f c.args.level false) (asks v c.args.f c.args.domain c.args.level false) c.in_ok-frame.ensures.serves p c.put_ref.ensures.serves) e (Ok c.in_ok-frame-2.frame) (λ due. due) (c.in_ok-frame-2.ensures.serves c.args.domain)) c.pin_live.result c.pin_live.ensures.kinds c.pin_live.ensures.stops
+    live_stops v e w c.args.f c.args.domain c.args.level c.in_ok-frame-2.frame c.in_ok-frame-2.ensures.frame.0 c.requires.own (acquired_serves v c.args.f c.args.domain c.args.level false p (put_back v a b c.args.f c.args.domain c.in_ok-frame.frame c.look_kind-found.result c.in_ok-frame.ensures.frame.0 c.in_ok-frame.ensures.hand c.look_kind-found.ensures.moves c.look_kind-found.ensures.hand (of_pin c.args.domain c.args.f c.args.level false) (asks v c.args.f c.args.domain c.args.level false) c.in_ok-frame.ensures.serves p c.put_ref.ensures.serves) e (Ok c.in_ok-frame-2.frame) (λ due. due) c.requires.own (c.in_ok-frame-2.ensures.serves c.args.domain)) c.pin_live.result c.pin_live.ensures.kinds c.pin_live.ensures.stops
 
 pub returns-clause-hand : goal.returns-clause-hand
 returns-clause-hand g c =

@@ -4,7 +4,7 @@ use Rattle.xp_board.specs.Told.{Post}
 use Rattle.table_releases.specs.Between.{SeesLast, SeesTyped}
 use Rattle.table_releases.proofs.Entry.{frame_fits, hand_left, hand_owned, nothing_found, nothing_hand, nothing_shows, plain_found, plain_gives, plain_goes, plain_hand, plain_post, plain_shows, shed_goes}
 use Rattle.table_releases.proofs.Looking.{looked_seen, plain_there, typed_there}
-use Rattle.table_releases.proofs.LastSeen.{seen_sheds}
+use Rattle.table_entries.proofs.LastSeen.{seen_sheds}
 use Rattle.table_releases.proofs.Twins.{nothing_twin, plain_twin}
 use Rattle.table_releases.proofs.entries.release_entry.Goals as goal
 

@@ -1,6 +1,6 @@
 use Rattle.std.proofs.Common.{true, refl, sym, subst, ◌∙◌}
 use Rattle.table_releases.proofs.FrameSeen.{now_seen}
-use Rattle.table_releases.proofs.LastSeen.{seen_sheds}
+use Rattle.table_entries.proofs.LastSeen.{seen_sheds}
 use Rattle.frame_types.specs.Lowering.{DropsType}
 use Rattle.table_releases.specs.declared.entries.Released.TheVariants.{Given, Opened}
 use Rattle.table_releases.proofs.Finding.{closed_found, counted_found, plain_found}

@@ -1,7 +1,7 @@
 use Rattle.std.proofs.Common.{None, refl, sym, subst, ◌∙◌}
 use Rattle.kind_words.specs.Kinds.{MayLeave, dead_kind, left}
 use Rattle.step_maker.specs.Holds.{Holds}
-use Rattle.table_releases.proofs.LastSeen.{seen_sheds}
+use Rattle.table_entries.proofs.LastSeen.{seen_sheds}
 use Rattle.table_releases.proofs.HandResumed.{dead_given, dead_gives, dead_may, dead_works, new, new_in_work, new_kind, resumed_opens, resumed_seen, shed_here, shed_may}
 use Rattle.table_releases.proofs.Recording.{recorded_table}
 use Rattle.table_releases.proofs.Owning.{resumed_owned}

@@ -1,0 +1,78 @@
+-- The frame that the entry asks is not found live: how it came there.
+use Rattle.std.proofs.Common.{◌≡◌, ℕ, ◌<◌, Bool, true, false, [], None, Ok, refl, sym, ap, ◌∙◌, subst}
+use Rattle.xp_words.specs.Entries.{demand_at}
+use Rattle.xp_words.specs.declared.entry.Demand.TheVariants.{Typed}
+use Rattle.xp_words.specs.declared.kind.PageType.{PageType}
+use Rattle.xp_board.specs.Told.{PortValue}
+use Rattle.xp_words.specs.Machine.{IsMachine}
+use Rattle.step_maker.specs.Holds.{Holds, MayWork, Same, still}
+use Rattle.answer_fits.specs.Answers.{Serves}
+use Rattle.answer_fits.specs.Asked.{of_frame}
+use Rattle.frame_words.specs.Plain.{TwinGet}
+use Rattle.xp_board.specs.declared.holdings.Holdings.{Holdings}
+use Rattle.xp_board.specs.declared.holdings.Work.{Work}
+use Rattle.xp_board.specs.Hands.{refs_to}
+use Rattle.xp_board.specs.RefSteps.{SparesClosing}
+use Rattle.frame_words.specs.Refs.{Gets, MayPut, took}
+use Rattle.frame_types.specs.Plain.{TwinTake}
+use Rattle.frame_types.specs.Taking.{CountsAs, IsNotLive, Looked, Takes, WaitsWith, working}
+use Rattle.frame_types.specs.declared.taking.Counting.{Counting}
+use Rattle.frame_types.specs.declared.taking.Counting.TheVariants.{Found}
+use Rattle.table_entries.specs.Between.{FoundOther, LooksNext}
+
+pub found_from : (b v u x : PortValue) (f i owner : ℕ) (t : PageType) (word : ℕ) (n g : ℕ) (want : PageType) (found : ℕ) → LooksNext b v f i owner t word → demand_at t i word ≡ Typed n want →
+    (g ≡ n) × (g < v.post.machine.frames) → Serves v u (of_frame n owner None) [] → Holds v u (took g owner v.holdings) → TwinGet v u n owner (Ok g) → Gets v u n owner (Ok g) →
+    (k : Counting) → k ≡ Found found → CountsAs (Ok k) (λ r. Takes u x g owner want r) (λ m. Looked u x g owner want m) → CountsAs (Ok k) (λ r. TwinTake u x g want r) (λ m. IsNotLive want m) →
+    FoundOther b x f i owner t g want found
+found_from b v u x f i owner t word n g want found l asks is refers lent referred gets k at looked other =
+    record {
+      u = v;
+      x = u;
+      word = word;
+      looks = l;
+      asks = asks ∙ ap (λ m. Typed m want) (sym is.0);
+      inside = is.1;
+      refers = subst (λ m. Serves v u (of_frame m owner None) []) (sym is.0) refers;
+      lent = lent;
+      referred = subst (λ m. TwinGet v u m owner (Ok g)) (sym is.0) referred;
+      gets = subst (λ m. Gets v u m owner (Ok g)) (sym is.0) gets;
+      looked = subst (λ (j : Counting). CountsAs (Ok j) (λ r. Takes u x g owner want r) (λ m. Looked u x g owner want m)) at looked;
+      other = subst (λ (j : Counting). CountsAs (Ok j) (λ r. TwinTake u x g want r) (λ m. IsNotLive want m)) at other;
+    }
+
+-- ---- behind the rest of the call, by any way
+-- both ports are the one from which the looks went on
+pub both_same : (x v y : PortValue) → Same x v → Same x y → still y ≡ still v
+both_same x v y one two = two ∙ sym one
+
+pub same_may : (x v y : PortValue) → Same x v → Same x y → MayWork v → MayWork y
+same_may x v y one two may =
+    let e = both_same x v y one two in
+    record {
+      running = ap (λ (q : PortValue). q.holdings.run) e ∙ may.running;
+      no_walk = ap (λ (q : PortValue). q.holdings.walk) e ∙ may.no_walk;
+      machine = subst (λ (q : PortValue). IsMachine q.post.machine) (sym e) may.machine;
+    }
+
+pub same_frame : (x v y : PortValue) (g : ℕ) → Same x v → Same x y → g < v.post.machine.frames → g < y.post.machine.frames
+same_frame x v y g one two lt = subst (λ (q : PortValue). g < q.post.machine.frames) (sym (both_same x v y one two)) lt
+
+pub same_gives : (x v y : PortValue) (g : ℕ) → Same x v → Same x y → MayPut g v.holdings → MayPut g y.holdings
+same_gives x v y g one two gives =
+    let e = sym (both_same x v y one two) in
+    record { held = subst (λ (q : PortValue). 0 < refs_to g q.holdings.refs) e gives.held; spares = subst (λ (q : PortValue). SparesClosing g q.holdings) e gives.spares }
+
+working_run : (f owner : ℕ) (want : PageType) (own : Bool) (e : Work) (since : ℕ) (h : Holdings) → ((working f owner want own e since h).run ≡ h.run) × ((working f owner want own e since h).walk ≡ h.walk)
+working_run f owner want true e since h = (refl, refl)
+working_run f owner want false e since h = (refl, refl)
+
+pub waits_may : (x v y : PortValue) (g owner : ℕ) (want : PageType) (own : Bool) (stamp : ℕ) → Same x v → WaitsWith x y g owner want own stamp → MayWork v → MayWork y
+waits_may x v y g owner want own stamp one w may =
+    let e = sym one in
+    let h = w.works.hand in
+    let k = working_run g owner want own w.work w.works.since x.holdings in
+    record {
+      running = ap (λ (q : PortValue). q.holdings.run) h ∙ k.0 ∙ ap (λ (q : PortValue). q.holdings.run) e ∙ may.running;
+      no_walk = ap (λ (q : PortValue). q.holdings.walk) h ∙ k.1 ∙ ap (λ (q : PortValue). q.holdings.walk) e ∙ may.no_walk;
+      machine = subst (λ (q : PortValue). IsMachine q.post.machine) (sym h) (subst (λ (q : PortValue). IsMachine q.post.machine) one may.machine);
+    }
