@@ -1,7 +1,6 @@
 //! Entry locks: a live table whose entry is exchanged is locked by one vCPU, and that entry is changed under its lock alone.
 #![tactic(auto)]
 
-mod levels;
 mod locking;
 mod rows;
 mod words;

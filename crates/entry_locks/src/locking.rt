@@ -16,10 +16,10 @@ ghost use Rattle.entry_locks.specs.Locks.{IsLockStop, LeavesLocked, Unlocks, of_
 ghost use Rattle.entry_locks.specs.Looked.{IsSeenToLock, SeenToLock, LocksAs};
 ghost use Rattle.entry_locks.specs.Plain.{TwinLock};
 
-use crate::levels::level_of;
 use crate::rows::{clear_lock, set_lock};
 use crate::words::{is_free_table, is_worked_on};
 use kind_words::{counts_one, look_kind, lost, read_kind};
+use partial_state::level_of;
 use xp_board::Port;
 use xp_words::{Pause, Stop};
 

@@ -3,7 +3,6 @@
 
 mod emptying;
 mod leaving;
-mod levels;
 mod releasing;
 mod settling;
 

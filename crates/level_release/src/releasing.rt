@@ -12,10 +12,9 @@ ghost use Rattle.level_release.specs.Holding.{HoldsLive, LeavesUnheld};
 ghost use Rattle.xp_preempt.specs.Gates.{Heard};
 
 use crate::emptying::empty;
-use crate::levels::level_of;
 use frame_types::{drop_plain, drop_type};
 use frame_words::{look_refs, put_ref};
-use partial_state::TableWork;
+use partial_state::{TableWork, level_of};
 use xp_board::Port;
 use xp_preempt::Preempt;
 use xp_words::{PageType, Stop};

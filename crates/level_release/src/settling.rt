@@ -14,11 +14,10 @@ ghost use Rattle.level_release.specs.Course.{SettlesBy, SettlesOneBy};
 ghost use Rattle.level_release.specs.Settling.{HasTakenOld, SettledHand, SettledWord, TookOld};
 
 use crate::emptying::empty;
-use crate::levels::level_of;
 use crate::releasing::release;
 use frame_words::{look_refs, put_ref};
 use kind_words::{dead_kind, leave, look_kind, lost, read_kind, resume_work};
-use partial_state::TableWork;
+use partial_state::{TableWork, level_of};
 use step_maker::look_clock;
 use table_words::{OldWord, look_old, put_old, take_old};
 use xp_board::Port;
