@@ -1,5 +1,20 @@
 //! What an entry asks, taken and given back.
 
+ghost use Rattle.std.specs.Prelude.{◌≡◌, ◌-◌, ◌<◌, ◌≤◌, ℕ, Some, true, false, [], length, IfOk, IfErr};
+ghost use Rattle.step_maker.specs.Holds.{MayWork};
+ghost use Rattle.step_maker.specs.Moves.{Came};
+ghost use Rattle.answer_fits.specs.Answers.{Serves, Stops};
+ghost use Rattle.partial_state.specs.Levels.{level_type};
+ghost use Rattle.level_release.specs.Asking.{is_due_answer};
+ghost use Rattle.level_validate.specs.Acquiring.{IsAcquireStop};
+ghost use Rattle.level_validate.specs.Tables.{IsIdle};
+ghost use Rattle.table_words.specs.OldWords.{known_old};
+ghost use Rattle.table_words.specs.declared.old_words.OldWord.TheVariants.{First};
+ghost use Rattle.entry_exchange.specs.Course.{GaveDemand};
+ghost use Rattle.entry_exchange.specs.Holding.{LeavesDemand};
+ghost use Rattle.entry_exchange.specs.Parts.{GaveTable, HoldsFreed, HoldsTaken, HoldsTyped, IsInside, IsOfLevel, LeavesGone, LeavesUntyped, ReleasesBy, TakesBy};
+ghost use Rattle.entry_exchange.specs.Serving.{ServesGiven, ServesTable, ServesTaken, of_demand, of_given};
+
 use frame_types::{drop_plain, drop_type};
 use frame_words::{get_ref, put_ref};
 use kept_marks::leave_kept;
@@ -20,6 +35,23 @@ pub(crate) fn take_demand<P: Port>(
     owner: u16,
     wanted: Demand,
 ) -> Result<(), Stop>
+    requires may { MayWork (P.value port.old) }
+    requires low { 1 ≤ level }
+    requires high { level ≤ 4 }
+    requires real { owner < length (P.value port.old).post.machine.page_limit }
+    requires idle { IsIdle (P.value port.old) }
+    requires asks { IsOfLevel level wanted }
+    requires room { known_old First (P.value port.old).holdings ≡ Some 0 }
+    ensures came { Came (P.value port.old) (P.value port.new) }
+    ensures inside { IfOk result (λ _. IsInside (P.value port.old).post.machine wanted) }
+    ensures serves { (pages : ℕ) → ServesTaken (P.value port.old) (P.value port.new) wanted owner pages result }
+    ensures stops { (pages : ℕ) → IfErr result (λ e. Stops (P.value port.old) (P.value port.new) (of_demand wanted owner pages (is_due_answer result)) e) }
+    ensures kinds { IfErr result IsAcquireStop }
+    ensures hand { LeavesDemand (P.value port.old) (P.value port.new) wanted owner result }
+    ensures course { TakesBy (P.value port.old) (P.value port.new) owner level wanted (says gate.old) (count_asks gate.old) (count_asks gate.new) (count_yes gate.old) (count_yes gate.new) result }
+    ensures says { (n : ℕ) → says gate.new n ≡ says gate.old n }
+    ensures paces { paces gate.new ≡ paces gate.old }
+    ensures calm { calm gate.old ≡ true → (is_due_answer result ≡ false) × (calm gate.new ≡ true) }
 {
     match wanted {
         Demand::Nothing | Demand::Bad => {}
@@ -38,6 +70,18 @@ pub(crate) fn take_demand<P: Port>(
 
 // Gives back what was taken so for an entry that is not put there.
 pub(crate) fn give_demand<P: Port>(port: &mut P, level: u8, owner: u16, wanted: Demand)
+    requires may { MayWork (P.value port.old) }
+    requires low { 1 ≤ level }
+    requires high { level ≤ 4 }
+    requires real { owner < length (P.value port.old).post.machine.page_limit }
+    requires asks { IsOfLevel level wanted }
+    requires inside { IsInside (P.value port.old).post.machine wanted }
+    requires taken { HoldsTaken (P.value port.old) wanted owner }
+    requires room { known_old First (P.value port.old).holdings ≡ Some 0 }
+    ensures came { Came (P.value port.old) (P.value port.new) }
+    ensures serves { ServesGiven (P.value port.old) (P.value port.new) wanted }
+    ensures hand { LeavesGone (P.value port.old) (P.value port.new) wanted }
+    ensures course { GaveDemand owner level (P.value port.old) wanted (P.value port.new) }
 {
     match wanted {
         Demand::Nothing | Demand::Bad => {}
@@ -52,6 +96,17 @@ pub(crate) fn give_demand<P: Port>(port: &mut P, level: u8, owner: u16, wanted: 
 // Gives a typed reference to a live table back. Where it was the last, the table is left partial with all its entries recorded, under its own
 // mark.
 fn give_table<P: Port>(port: &mut P, frame: u32, level: u8, owner: u16)
+    requires frame { frame < (P.value port.old).post.machine.frames }
+    requires may { MayWork (P.value port.old) }
+    requires low { 1 ≤ level }
+    requires high { level ≤ 4 }
+    requires real { owner < length (P.value port.old).post.machine.page_limit }
+    requires holds { HoldsTyped (P.value port.old) frame (level_type level) owner }
+    requires room { known_old First (P.value port.old).holdings ≡ Some 0 }
+    ensures came { Came (P.value port.old) (P.value port.new) }
+    ensures serves { ServesTable (P.value port.old) (P.value port.new) frame }
+    ensures hand { LeavesUntyped (P.value port.old) (P.value port.new) }
+    ensures course { GaveTable (P.value port.old) frame level owner (P.value port.new) }
 {
     if drop_type(port, frame) {
         leave_kept(port, frame, partial_kind(level_type(level), true, 512), owner);
@@ -62,6 +117,17 @@ fn give_table<P: Port>(port: &mut P, frame: u32, level: u8, owner: u16)
 
 // Releases what the old word of an entry asked. Where the gate pauses that, the first old word names what is left.
 pub(crate) fn release_demand<P: Port>(port: &mut P, gate: &mut dyn Preempt, old: Demand)
+    requires may { MayWork (P.value port.old) }
+    requires inside { IsInside (P.value port.old).post.machine old }
+    requires freed { HoldsFreed (P.value port.old) old }
+    requires room { known_old First (P.value port.old).holdings ≡ Some 0 }
+    ensures came { Came (P.value port.old) (P.value port.new) }
+    ensures serves { (owner pages : ℕ) → Serves (P.value port.old) (P.value port.new) (of_given old owner pages) [] }
+    ensures hand { LeavesGone (P.value port.old) (P.value port.new) old }
+    ensures course { ReleasesBy (P.value port.old) (P.value port.new) old (says gate.old) (count_asks gate.old) (count_asks gate.new) (count_yes gate.old) (count_yes gate.new) }
+    ensures says { (n : ℕ) → says gate.new n ≡ says gate.old n }
+    ensures paces { paces gate.new ≡ paces gate.old }
+    ensures calm { calm gate.old ≡ true → calm gate.new ≡ true }
 {
     match old {
         Demand::Nothing | Demand::Bad => {}

@@ -1,19 +1,23 @@
 //! One entry of a live table under its entry lock, exchanged.
-ghost use Rattle.std.specs.Prelude.{◌≡◌, ◌<◌, ◌≤◌, ℕ, Some, true, false, length, IfErr};
+ghost use Rattle.std.specs.Prelude.{◌≡◌, ◌≢◌, ◌<◌, ◌≤◌, ℕ, Some, true, false, IfOk, IfErr};
 ghost use Rattle.xp_words.specs.Entries.{is_slot};
-ghost use Rattle.xp_words.specs.declared.place.Place.TheVariants.{Cell};
+ghost use Rattle.xp_words.specs.declared.entry.Demand.TheVariants.{Bad};
 ghost use Rattle.partial_state.specs.Levels.{level_type};
 ghost use Rattle.step_maker.specs.Holds.{MayWork, Rests};
 ghost use Rattle.step_maker.specs.Moves.{Came};
 ghost use Rattle.answer_fits.specs.Answers.{Stops};
+ghost use Rattle.entry_locks.specs.Entries.{MaySwapEntry};
 ghost use Rattle.foreign_map.specs.Owning.{MayMap};
 ghost use Rattle.level_release.specs.Asking.{is_due_answer};
 ghost use Rattle.level_validate.specs.Acquiring.{IsAcquireStop};
 ghost use Rattle.table_words.specs.OldWords.{known_old};
 ghost use Rattle.table_words.specs.declared.old_words.OldWord.TheVariants.{First, Second};
 ghost use Rattle.entry_exchange.specs.Asking.{ServesExchange, of_exchange};
-ghost use Rattle.entry_exchange.specs.Course.{ExchangesBy};
-ghost use Rattle.entry_exchange.specs.Holding.{HoldsTableLock, LeavesExchange};
+ghost use Rattle.entry_exchange.specs.Course.{ExchangesBy, PutEntry, new_demand, old_demand};
+ghost use Rattle.entry_exchange.specs.Holding.{HoldsTableLock, LeavesExchange, owner_at};
+ghost use Rattle.entry_exchange.specs.Parts.{BehindLook, HoldsSeen, LeavesPut, WasInside};
+ghost use Rattle.entry_exchange.specs.Serving.{ServesPut, StopsPut};
+ghost use Rattle.entry_exchange.specs.Words.{same_demand};
 
 use crate::demands::{give_demand, release_demand, take_demand};
 use crate::locks::leave_lock;
@@ -101,12 +105,30 @@ fn change_demand<P: Port>(
     seen: u64,
     wanted: Demand,
 ) -> Result<(), Stop>
+    requires frame { update.table < (P.value port.old).post.machine.frames }
+    requires low { 1 ≤ update.level }
+    requires high { update.level ≤ 4 }
+    requires index { update.index < 512 }
+    requires slot { is_slot (level_type update.level) update.index ≡ false }
+    requires may { MayWork (P.value port.old) }
+    requires locked { HoldsSeen (P.value port.old) update.table update.level owners.tables update.index seen }
+    requires maps { MayMap (P.value port.old) owners }
+    requires room { known_old First (P.value port.old).holdings ≡ Some 0 }
+    requires room_too { known_old Second (P.value port.old).holdings ≡ Some 0 }
+    requires wanted { wanted ≡ new_demand update seen }
+    requires fits { wanted ≢ Bad }
+    requires other { same_demand wanted (old_demand update seen) ≡ false }
+    ensures came { Came (P.value port.old) (P.value port.new) }
+    ensures serves { BehindLook (P.value port.old) update owners seen (λ a. ServesExchange a (P.value port.new) update owners result) }
+    ensures stops { BehindLook (P.value port.old) update owners seen (λ a. IfErr result (λ e. Stops a (P.value port.new) (of_exchange update owners result) e)) }
+    ensures kinds { IfErr result IsAcquireStop }
+    ensures hand { LeavesExchange (P.value port.old) (P.value port.new) }
+    ensures course { BehindLook (P.value port.old) update owners seen (λ a. ExchangesBy a (P.value port.new) update owners (says gate.old) (count_asks gate.old) (count_asks gate.new) (count_yes gate.old) (count_yes gate.new) result) }
+    ensures says { (n : ℕ) → says gate.new n ≡ says gate.old n }
+    ensures paces { paces gate.new ≡ paces gate.old }
+    ensures calm { calm gate.old ≡ true → (is_due_answer result ≡ false) × (calm gate.new ≡ true) }
 {
-    let owner = if update.level == 1 {
-        owners.frames
-    } else {
-        owners.tables
-    };
+    let owner = owner_at(update.level, owners);
     match take_demand(port, gate, update.level, owner, wanted) {
         Ok(()) => {}
         Err(stop) => {
@@ -129,9 +151,31 @@ fn change_demand<P: Port>(
     }
 }
 
+// Whose the frames are that entries of a table of that level ask.
+fn owner_at(level: u8, owners: Owners) -> u16
+    ensures { result ≡ owner_at level owners.tables owners.frames }
+{
+    if level == 1 {
+        owners.frames
+    } else {
+        owners.tables
+    }
+}
+
 // Puts the new word there, for which all that it asks is in hand. Answers the old one. Where the accessed and dirty bits are kept, a walk may
 // have set them since the entry was seen.
 fn put_entry<P: Port>(port: &mut P, update: EntryUpdate, seen: u64, new: u64) -> Result<u64, Stop>
+    requires frame { update.table < (P.value port.old).post.machine.frames }
+    requires index { update.index < 512 }
+    requires may { MayWork (P.value port.old) }
+    requires exchanges { MaySwapEntry (P.value port.old).post.machine update.table update.index seen new (P.value port.old).holdings }
+    ensures came { Came (P.value port.old) (P.value port.new) }
+    ensures serves { ServesPut (P.value port.old) (P.value port.new) update.table update.index new result }
+    ensures stops { IfErr result (StopsPut (P.value port.old) (P.value port.new) update.table update.index seen) }
+    ensures kinds { IfErr result IsAcquireStop }
+    ensures inside { IfOk result (WasInside (P.value port.old) update.table update.index) }
+    ensures hand { LeavesPut (P.value port.old) (P.value port.new) update.table update.index new result }
+    ensures course { PutEntry (P.value port.old) (P.value port.new) update.table update.index seen new update.keep result }
 {
     if !update.keep {
         return Ok(store_entry(port, update.table, update.index, new));

@@ -5,9 +5,9 @@
 #[cfg(test)]
 mod boards;
 #[cfg(test)]
-mod lists;
+mod examples;
 #[cfg(test)]
-mod pins;
+mod lists;
 #[cfg(test)]
 mod runs;
 #[cfg(test)]

@@ -1,3 +1,4 @@
 pub mod Course
 pub mod Elements
 pub mod Fits
+pub mod Writing

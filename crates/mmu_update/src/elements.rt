@@ -1,6 +1,9 @@
-ghost use Rattle.std.specs.Prelude.{◌≡◌, ◌<◌, ℕ, Some, true, false, Err, IfErr};
+ghost use Rattle.std.specs.Prelude.{◌≡◌, ◌<◌, ◌≤◌, ℕ, Bool, [], Some, true, false, Err, IfErr};
+ghost use Rattle.xp_words.specs.Entries.{is_slot};
 ghost use Rattle.xp_words.specs.declared.reply.Refusal.{Refusal};
 ghost use Rattle.xp_words.specs.declared.reply.Stop.TheVariants.{Refused};
+ghost use Rattle.xp_board.specs.Told.{PortValue};
+ghost use Rattle.partial_state.specs.Levels.{level_type};
 ghost use Rattle.step_maker.specs.Holds.{Rests};
 ghost use Rattle.step_maker.specs.Moves.{Came};
 ghost use Rattle.answer_fits.specs.Answers.{Stops};
@@ -10,6 +13,9 @@ ghost use Rattle.table_words.specs.OldWords.{known_old};
 ghost use Rattle.table_words.specs.declared.old_words.OldWord.TheVariants.{First, Second};
 ghost use Rattle.mmu_update.specs.Course.{UpdatesBy};
 ghost use Rattle.mmu_update.specs.Elements.{IsUpdateStop, LeavesUpdate, ServesUpdate, element_of, update_request};
+ghost use Rattle.mmu_update.specs.Fits.{Updates};
+ghost use Rattle.mmu_update.specs.Writing.{IsOrdinary, IsReferred, IsUnderLock, MayBegin, Ordinary, Referred, UnderLock, WritesBy};
+ghost use Rattle.mmu_update.specs.declared.element.Element.TheVariants.{Write};
 
 use crate::element::{Element, element_of};
 use entry_exchange::{EntryUpdate, exchange_entry, leave_lock};
@@ -74,8 +80,35 @@ fn write_word<P: Port>(
     word: u64,
     keep: bool,
 ) -> Result<(), Stop>
+    requires index { index < 512 }
+    requires begins { MayBegin (P.value port.old) owners }
+    ensures writes { WritesBy (P.value port.old) (P.value port.new) owners f index word keep (says gate.old) (count_asks gate.old) (count_asks gate.new) (count_yes gate.old) (count_yes gate.new) result }
+    ensures says { (n : ℕ) → says gate.new n ≡ says gate.old n }
+    ensures paces { paces gate.new ≡ paces gate.old }
+    ensures calm { calm gate.old ≡ true → (is_due_answer result ≡ false) × (calm gate.new ≡ true) }
 {
     let frame = get_ref(port, f, owners.tables)?;
+    write_referred(port, gate, owners, frame, index, word, keep)
+}
+
+// The same under a reference to its frame.
+fn write_referred<P: Port>(
+    port: &mut P,
+    gate: &mut dyn Preempt,
+    owners: Owners,
+    frame: u32,
+    index: u16,
+    word: u64,
+    keep: bool,
+) -> Result<(), Stop>
+    requires index { index < 512 }
+    requires referred { IsReferred (P.value port.old) owners frame }
+    ensures writes { (b : PortValue) → Referred b (P.value port.old) owners frame →
+        WritesBy b (P.value port.new) owners frame index word keep (says gate.old) (count_asks gate.old) (count_asks gate.new) (count_yes gate.old) (count_yes gate.new) result }
+    ensures says { (n : ℕ) → says gate.new n ≡ says gate.old n }
+    ensures paces { paces gate.new ≡ paces gate.old }
+    ensures calm { calm gate.old ≡ true → (is_due_answer result ≡ false) × (calm gate.new ≡ true) }
+{
     match lock_entry(port, frame, owners.tables) {
         Ok(Locked::Table { level, .. }) => {
             let update = EntryUpdate {
@@ -87,7 +120,7 @@ fn write_word<P: Port>(
             };
             write_entry(port, gate, owners, update)
         }
-        Ok(Locked::Other { .. }) => write_memory(port, owners.tables, frame, index, word),
+        Ok(Locked::Other { .. }) => write_memory(port, owners, frame, index, word),
         Err(stop) => {
             put_ref(port, frame);
             Err(stop)
@@ -102,8 +135,15 @@ fn write_entry<P: Port>(
     owners: Owners,
     update: EntryUpdate,
 ) -> Result<(), Stop>
+    requires index { update.index < 512 }
+    requires locked { IsUnderLock (P.value port.old) owners update.table update.level }
+    ensures writes { (b : PortValue) → UnderLock b (P.value port.old) owners update.table update.level →
+        WritesBy b (P.value port.new) owners update.table update.index update.word update.keep (says gate.old) (count_asks gate.old) (count_asks gate.new) (count_yes gate.old) (count_yes gate.new) result }
+    ensures says { (n : ℕ) → says gate.new n ≡ says gate.old n }
+    ensures paces { paces gate.new ≡ paces gate.old }
+    ensures calm { calm gate.old ≡ true → (is_due_answer result ≡ false) × (calm gate.new ≡ true) }
 {
-    if update.level == 4 && 256 <= update.index && update.index < 272 {
+    if is_slot(update.level, update.index) {
         leave_lock(port, update.table, update.level);
         return Err(Stop::Refused(Refusal::Slot {
             index: update.index,
@@ -112,16 +152,29 @@ fn write_entry<P: Port>(
     exchange_entry(port, gate, update, owners)
 }
 
-// A word of ordinary memory, with the reference to its frame in hand.
+// One of Xen's slots, of a table of level 4.
+fn is_slot(level: u8, index: u16) -> bool
+    requires low { 1 ≤ level }
+    requires high { level ≤ 4 }
+    ensures { result ≡ is_slot (level_type level) index }
+{
+    level == 4 && 256 <= index && index < 272
+}
+
+// A word of ordinary memory, under a reference to its frame.
 fn write_memory<P: Port>(
     port: &mut P,
-    owner: u16,
+    owners: Owners,
     frame: u32,
     index: u16,
     word: u64,
 ) -> Result<(), Stop>
+    requires index { index < 512 }
+    requires ordinary { IsOrdinary (P.value port.old) owners frame }
+    ensures writes { (b : PortValue) (keep : Bool) → Ordinary b (P.value port.old) owners frame → Updates owners (Write frame index word keep) b (P.value port.new) [] result }
+    ensures undue { is_due_answer result ≡ false }
 {
-    take_page(port, frame, owner)?;
+    take_page(port, frame, owners.tables)?;
     store_cell(port, frame, index, word);
     drop_plain(port, frame, PageType::Writable);
     Ok(())

@@ -1,8 +1,7 @@
--- What is settled and then performed: the elements of `mmuext_op` as items.
-use Rattle.std.proofs.Common.{◌≡◌, ℕ, ◌<◌, Bool, List, length, get_or, refl, sym, ◌∙◌, Result, Ok, Err, IfErr, subst}
+-- What is settled and then done: elements of lists as items.
+use Rattle.std.proofs.Common.{◌≡◌, ℕ, ◌<◌, ◌++◌, Bool, List, length, get_or, slice_get, Option, Some, refl, sym, ◌∙◌, Result, Ok, Err, IfErr, subst}
 use Rattle.std.specs.Result.{IsErrAnd}
 use Rattle.std.proofs.lemmas.Option.{slice_get-get_or}
-use Rattle.xp_words.specs.declared.ops.ExtOp.{ExtOp}
 use Rattle.xp_words.specs.declared.reply.Stop.{Stop}
 use Rattle.xp_words.specs.declared.reply.Stop.TheVariants.{Refused, Paused}
 use Rattle.xp_words.specs.declared.reply.Pause.TheVariants.{Due, Lost, Busy, Flush, Alive}
@@ -10,13 +9,10 @@ use Rattle.xp_board.specs.Told.{PortValue}
 use Rattle.step_maker.specs.Holds.{Rests}
 use Rattle.answer_fits.specs.Answers.{Serves, Stops, misses}
 use Rattle.level_release.specs.Asking as releases
-use Rattle.level_release.specs.Course.{SettlesBy}
-use Rattle.mmuext_ops.specs.Course.{Performed, PerformsBy}
-use Rattle.mmuext_ops.specs.Elements.{ext_element}
-use Rattle.mmuext_ops.specs.declared.element.Element.{Element}
+use Rattle.level_release.specs.Course.{SettlesBy, WithGate}
 use Rattle.vcpu_turn.specs.Lists.{Answering, is_due_by}
 use Rattle.vcpu_turn.specs.Working as working
-use Rattle.vcpu_turn.specs.Working.{ExtFits, Extends, FitsExt, Performs, Settles}
+use Rattle.vcpu_turn.specs.Working.{Behind, Settles}
 use Rattle.vcpu_turn.proofs.Gating.{answers_behind, is_err}
 
 -- ---- what is due is so for all of them
@@ -40,32 +36,32 @@ module _ (v w : PortValue) (says : ℕ → Bool) (before after yes_before yes_af
         due_is = λ due. sym by.due ∙ sym (due_released answer) ∙ due;
       }
 
-  pub perform_answers : (d : ℕ) (e : Element) → ((answers : List Bool) → Performed v w d e answers answer → Performs d e v w answers answer) → PerformsBy v w d e says before after yes_before yes_after answer →
-      Answering (λ answers. Performs d e v w answers answer) says before after yes_before yes_after (is_due_by answer)
-  perform_answers d e all by =
-      record { answers = by.answers; goes = all by.answers by.course; gate = by.gate; due_is = λ due. by.due (sym (due_released answer) ∙ due) }
+-- P says what is done, and C its course
+pub course_answers : (says : ℕ → Bool) (before after yes_before yes_after : ℕ) (answer : Result (Unit {0}) Stop) (P C : List Bool → Type 0) → ((answers : List Bool) → C answers → P answers) →
+    WithGate C says before after yes_before yes_after answer → Answering P says before after yes_before yes_after (is_due_by answer)
+course_answers says before after yes_before yes_after answer P C all by =
+    record { answers = by.answers; goes = all by.answers by.course; gate = by.gate; due_is = λ due. by.due (sym (due_released answer) ∙ due) }
 
--- ---- one element
-module _ (d : ℕ) (list : List ExtOp) (k : ℕ) (otherwise : ExtOp) (less : k < length list) (says : ℕ → Bool) (before after yes_before yes_after : ℕ) (v u : PortValue) where
-  -- the element of that number
-  of_number : (w : PortValue) (last yes_last : ℕ) (answer : Result (Unit {0}) Stop) → Answering (λ answers. Extends d (ext_element (get_or list k otherwise)) v w answers answer) says before last yes_before yes_last (is_due_by answer) →
-      Answering (λ answers. ExtFits d list k v w answers answer) says before last yes_before yes_last (is_due_by answer)
-  of_number w last yes_last answer extends =
-      subst (λ o. Answering (λ answers. FitsExt d o v w answers answer) says before last yes_before yes_last (is_due_by answer)) (sym (slice_get-get_or list k otherwise less)) extends
+-- ---- one element: P says what is done behind the settling
+module _ (P : PortValue → PortValue → List Bool → Result (Unit {0}) Stop → Type 0) (says : ℕ → Bool) (before after yes_before yes_after : ℕ) (v u : PortValue) where
+  pub behind_unsettled : (stop : Stop) (answer : Result (Unit {0}) Stop) → IsErrAnd answer (λ x. x ≡ stop) → Answering (λ answers. Settles v u answers (Err stop)) says before after yes_before yes_after (is_due_by (Err stop)) →
+      Answering (λ answers. Behind P v u answers answer) says before after yes_before yes_after (is_due_by answer)
+  behind_unsettled stop answer is settles =
+      subst (λ (a : Result (Unit {0}) Stop). Answering (λ answers. Behind P v u answers a) says before after yes_before yes_after (is_due_by a)) (sym (is_err answer stop is))
+      (record { answers = settles.answers; goes = working.Behind.unsettled u settles.answers stop settles.goes; gate = settles.gate; due_is = settles.due_is })
 
-  pub ext_unsettled : (stop : Stop) (answer : Result (Unit {0}) Stop) → IsErrAnd answer (λ x. x ≡ stop) → Answering (λ answers. Settles v u answers (Err stop)) says before after yes_before yes_after (is_due_by (Err stop)) →
-      Answering (λ answers. ExtFits d list k v u answers answer) says before after yes_before yes_after (is_due_by answer)
-  ext_unsettled stop answer is settles =
-      of_number u after yes_after answer
-      (subst (λ (a : Result (Unit {0}) Stop). Answering (λ answers. Extends d (ext_element (get_or list k otherwise)) v u answers a) says before after yes_before yes_after (is_due_by a)) (sym (is_err answer stop is))
-      (record { answers = settles.answers; goes = working.Extends.unsettled u settles.answers stop settles.goes; gate = settles.gate; due_is = settles.due_is }))
-
-  pub ext_performed : (now : ℕ → Bool) (last yes_last : ℕ) (w : PortValue) (answer : Result (Unit {0}) Stop) → ((n : ℕ) → now n ≡ says n) →
+  pub behind_performed : (now : ℕ → Bool) (last yes_last : ℕ) (w : PortValue) (answer : Result (Unit {0}) Stop) → ((n : ℕ) → now n ≡ says n) →
       Answering (λ answers. Settles v u answers (Ok tt)) says before after yes_before yes_after (is_due_by (Ok tt)) →
-      Answering (λ answers. Performs d (ext_element (get_or list k otherwise)) u w answers answer) now after last yes_after yes_last (is_due_by answer) →
-      Answering (λ answers. ExtFits d list k v w answers answer) says before last yes_before yes_last (is_due_by answer)
-  ext_performed now last yes_last w answer same settles performs =
-      let e = ext_element (get_or list k otherwise) in
-      of_number w last yes_last answer
-      (answers_behind says now before after last yes_before yes_after yes_last settles.answers same settles.gate (is_due_by answer) (λ answers. Performs d e u w answers answer) (λ answers. Extends d e v w answers answer) performs
-      (λ answers goes. working.Extends.performed u w settles.answers answers answer settles.goes goes))
+      Answering (λ answers. P u w answers answer) now after last yes_after yes_last (is_due_by answer) →
+      Answering (λ answers. Behind P v w answers answer) says before last yes_before yes_last (is_due_by answer)
+  behind_performed now last yes_last w answer same settles performs =
+      answers_behind says now before after last yes_before yes_after yes_last settles.answers same settles.gate (is_due_by answer) (λ answers. P u w answers answer) (λ answers. Behind P v w answers answer) performs
+      (λ answers goes. working.Behind.performed u w settles.answers answers answer settles.goes goes)
+
+-- the element of that number
+pub of_number : {A : Type 0} (Fits : Option A → PortValue → PortValue → List Bool → Result (Unit {0}) Stop → Type 0) (list : List A) (k : ℕ) (otherwise : A) → k < length list →
+    (says : ℕ → Bool) (before after yes_before yes_after : ℕ) (v w : PortValue) (answer : Result (Unit {0}) Stop) →
+    Answering (λ answers. Fits (Some (get_or list k otherwise)) v w answers answer) says before after yes_before yes_after (is_due_by answer) →
+    Answering (λ answers. Fits (slice_get list k) v w answers answer) says before after yes_before yes_after (is_due_by answer)
+of_number Fits list k otherwise less says before after yes_before yes_after v w answer done =
+    subst (λ o. Answering (λ answers. Fits o v w answers answer) says before after yes_before yes_after (is_due_by answer)) (sym (slice_get-get_or list k otherwise less)) done

@@ -1,12 +1,16 @@
 -- The work of a turn on lists of any length, and on operations.
-use Rattle.std.proofs.Common.{◌≡◌, ℕ, ◌<◌, ◌≤◌, Bool, false, List, Option, Some, None, Result, Err, refl, sym, arith, inl, inr, subst}
+use Rattle.std.proofs.Common.{◌≡◌, ℕ, ◌<◌, ◌≤◌, ◌==◌, Bool, false, List, [], length, Option, Some, None, Result, Ok, Err, refl, sym, arith, inl, inr, subst}
+use Rattle.std.proofs.lemmas.Bool.Decides.{nat_tests}
+use Rattle.xp_words.specs.declared.ops.Pair.{Pair}
+use Rattle.xp_words.specs.declared.reply.Refusal.{Refusal}
 use Rattle.xp_words.specs.declared.reply.Refusal.TheVariants as refusals
 use Rattle.xp_words.specs.declared.reply.Stop.{Stop}
 use Rattle.xp_words.specs.declared.reply.Stop.TheVariants.{Refused}
 use Rattle.xp_board.specs.Told.{PortValue}
+use Rattle.foreign_map.specs.declared.owners.Owners.{Owners}
 use Rattle.vcpu_turn.specs.Lists.{Answering, Fitting, WorksOn, is_due_by}
-use Rattle.vcpu_turn.specs.Cpus.{OpList, elements_in, length_of}
-use Rattle.vcpu_turn.specs.Working.{Works, WorksThrough, fits_of}
+use Rattle.vcpu_turn.specs.Cpus.{OpList, OfExt, OfPairs, elements_in}
+use Rattle.vcpu_turn.specs.Working.{ExtFits, FindsOwners, PairFits, Works, WorksOwned, WorksThrough, long, none, unowned, owned}
 use Rattle.vcpu_turn.proofs.Gating.{answers_as, answers_nothing}
 use Rattle.vcpu_turn.proofs.Listing.{works_within}
 
@@ -24,6 +28,43 @@ module _ (fits : Fitting) (count from : ℕ) (v : PortValue) (says : ℕ → Boo
     pub no_more : from ≤ count → to ≤ count
     no_more within = works_within fits count from v within to w works.answers answer works.goes
 
+-- ---- pairs, for the owners that a number names
+pub above_none : (n : ℕ) → (n == 0) ≡ false → 0 < n
+above_none n off = grind (arith, nat_tests)
+
+module _ (d foreign : ℕ) (list : List Pair) (from : ℕ) (v : PortValue) (says : ℕ → Bool) where
+  pub owned_long : (asks risen : ℕ) → 512 < length list → Answering (λ answers. WorksOwned d foreign list v from 0 v answers (Err (Refused refusals.BatchLong))) says asks asks risen risen false
+  owned_long asks risen above =
+      answers_nothing says asks risen false (λ answers. WorksOwned d foreign list v from 0 v answers (Err (Refused refusals.BatchLong))) refl
+      (long 0 v [] (Err (Refused refusals.BatchLong)) above (record { none = refl; no_step = refl; no_ask = refl; refused = refl }))
+
+  pub owned_none : (asks risen : ℕ) → length list ≡ 0 → Answering (λ answers. WorksOwned d foreign list v from from v answers (Ok tt)) says asks asks risen risen false
+  owned_none asks risen empty = answers_nothing says asks risen false (λ answers. WorksOwned d foreign list v from from v answers (Ok tt)) refl (none empty)
+
+  module _ (some : 0 < length list) (most : length list ≤ 512) where
+    pub owned_refused : (asks risen : ℕ) (w : PortValue) (x : Refusal) → FindsOwners v w d foreign (Err x) → Answering (λ answers. WorksOwned d foreign list v from from w answers (Err (Refused x))) says asks asks risen risen false
+    owned_refused asks risen w x finds = answers_nothing says asks risen false (λ answers. WorksOwned d foreign list v from from w answers (Err (Refused x))) refl (unowned w x some most finds)
+
+    pub owned_on : (u : PortValue) (o : Owners) → FindsOwners v u d foreign (Ok o) → (before after yes_before yes_after to : ℕ) (w : PortValue) (answer : Result (Unit {0}) Stop) →
+        Answering (λ answers. WorksOn (PairFits o list) (length list) from u to w answers answer) says before after yes_before yes_after (is_due_by answer) →
+        Answering (λ answers. WorksOwned d foreign list v from to w answers answer) says before after yes_before yes_after (is_due_by answer)
+    owned_on u o finds before after yes_before yes_after to w answer works =
+        answers_as (λ answers. WorksOn (PairFits o list) (length list) from u to w answers answer) (λ answers. WorksOwned d foreign list v from to w answers answer) says before after yes_before yes_after (is_due_by answer)
+        (λ answers on. owned to u w o answers answer some most finds on) works
+
+owned_most : (d foreign : ℕ) (list : List Pair) (from : ℕ) (v : PortValue) → from ≤ length list → (to : ℕ) (w : PortValue) (answers : List Bool) (answer : Result (Unit {0}) Stop) → WorksOwned d foreign list v from to w answers answer →
+    to ≤ length list
+owned_most d foreign list from v within _ _ _ _ (long to w answers answer above whole) = let nothing = whole.none in omega (arith, nothing)
+owned_most d foreign list from v within _ _ _ _ (none empty) = within
+owned_most d foreign list from v within _ _ _ _ (unowned w x some most finds) = within
+owned_most d foreign list from v within _ _ _ _ (owned to u w o answers answer some most finds on) = works_within (PairFits o list) (length list) from u within to w answers answer on
+
+through_most : (fits : Fitting) (count from : ℕ) (v : PortValue) (to : ℕ) (w : PortValue) (answers : List Bool) (answer : Result (Unit {0}) Stop) → from ≤ count → WorksThrough fits count v from to w answers answer → to ≤ count
+through_most fits count from v to w answers answer within works = elim works [
+  | inl (above, whole) ↦ (let nothing = whole.none in omega (arith, nothing))
+  | inr (most, on) ↦ works_within fits count from v within to w answers answer on
+]
+
 -- ---- operations
 module _ (d from : ℕ) (v : PortValue) (o : Option OpList) (says : ℕ → Bool) where
   pub not_built : o ≡ None → (asks risen : ℕ) → Answering (λ answers. Works d o v from 0 v answers (Err (Refused refusals.BadCommand))) says asks asks risen risen false
@@ -32,15 +73,13 @@ module _ (d from : ℕ) (v : PortValue) (o : Option OpList) (says : ℕ → Bool
       (answers_nothing says asks risen false (λ answers. Works d None v from 0 v answers (Err (Refused refusals.BadCommand))) refl (record { none = refl; no_step = refl; no_ask = refl; refused = refl }))
 
   pub built : (list : OpList) → o ≡ Some list → (before after yes_before yes_after to : ℕ) (w : PortValue) (answer : Result (Unit {0}) Stop) →
-      Answering (λ answers. WorksThrough (fits_of d list) (length_of list) v from to w answers answer) says before after yes_before yes_after (is_due_by answer) →
+      Answering (λ answers. Works d (Some list) v from to w answers answer) says before after yes_before yes_after (is_due_by answer) →
       Answering (λ answers. Works d o v from to w answers answer) says before after yes_before yes_after (is_due_by answer)
   built list is before after yes_before yes_after to w answer through =
       subst (λ (p : Option OpList). Answering (λ answers. Works d p v from to w answers answer) says before after yes_before yes_after (is_due_by answer)) (sym is) through
 
 -- no more elements are done than there are
 pub works_most : (d from to : ℕ) (o : Option OpList) (v w : PortValue) (answers : List Bool) (answer : Result (Unit {0}) Stop) → from ≤ elements_in o → Works d o v from to w answers answer → to ≤ elements_in o
-works_most d from to None v w answers answer within works = let none = works.none in omega (arith, none)
-works_most d from to (Some list) v w answers answer within works = elim works [
-  | inl (above, whole) ↦ (let none = whole.none in omega (arith, none))
-  | inr (most, on) ↦ works_within (fits_of d list) (length_of list) from v within to w answers answer on
-]
+works_most d from to None v w answers answer within works = let nothing = works.none in omega (arith, nothing)
+works_most d from to (Some (OfPairs foreign list)) v w answers answer within works = owned_most d foreign list from v within to w answers answer works
+works_most d from to (Some (OfExt list)) v w answers answer within works = through_most (ExtFits d list) (length list) from v to w answers answer within works

@@ -1,10 +1,10 @@
 //! The work of a turn on an operation.
-ghost use Rattle.std.specs.Prelude.{ℕ, ◌≡◌, ◌≤◌, true, false, Some, None, IfSome, IfNone};
+ghost use Rattle.std.specs.Prelude.{ℕ, ◌≡◌, ◌≤◌, true, false, length, Some, None, IfSome, IfNone};
 ghost use Rattle.xp_board.specs.Readings.{domain_of};
 ghost use Rattle.step_maker.specs.Holds.{Rests};
 ghost use Rattle.vcpu_turn.specs.Cpus.{elements_in, list_of, listed};
 ghost use Rattle.vcpu_turn.specs.Lists.{Answering, is_due_by};
-ghost use Rattle.vcpu_turn.specs.Working.{Works, WorksThrough};
+ghost use Rattle.vcpu_turn.specs.Working.{Works, WorksOwned, WorksThrough};
 
 use crate::ext::OwnElements;
 use crate::lists::{Items, go_on};

@@ -11,7 +11,7 @@ use Rattle.vcpu_turn.specs.Turning.{TurnBy, is_due}
 use Rattle.xp_machine.specs.Gates.{Gate, gate_in, IsConsulted}
 use Rattle.xp_machine.specs.Runners.{TakesTurnBy}
 use Rattle.xp_machine.specs.Turns.{MakesStagedTurn, Stage, StaysWithin}
-use Rattle.xp_machine.specs.Unpins.{UnpinsNothing, list_next}
+use Rattle.xp_machine.specs.Unpins.{ReleasesNothing, list_next}
 use Rattle.xp_machine.proofs.Stopping.{turn_heard, turn_within}
 
 -- what is left of it
@@ -41,7 +41,7 @@ gate_same : (o : Option (Option Gate)) (g k : Gate) → o ≡ Some (Some g) → 
 gate_same o g k a b = cc
 
 pub own_turn_stops : (n : Machine) (v : ℕ) (c : Processing) (s t : Stage) (g : Gate) (op : Op) (j : ℕ) → MakesStagedTurn n v c s t → slice_get s.gates v ≡ Some (Some g) → slice_get c.script (length c.log) ≡ Some op →
-    UnpinsNothing (list_of op) → 0 < j → g.asks + j < last_ask → g.says (g.asks + j) ≡ true → StaysWithin v c s t (c.done + j)
+    ReleasesNothing (list_of op) → 0 < j → g.asks + j < last_ask → g.says (g.asks + j) ≡ true → StaysWithin v c s t (c.done + j)
 own_turn_stops n v c s t g op j turn has next off some less is_yes =
     let same = gate_same (slice_get s.gates v) g turn.gate has turn.own in
     record {
@@ -52,7 +52,7 @@ own_turn_stops n v c s t g op j turn has next off some less is_yes =
           (subst (λ (k : Gate). k.asks + j < last_ask) same less) (subst (λ (k : Gate). k.says (k.asks + j) ≡ true) same is_yes);
     }
 
-pub own_turn_hears : (n : Machine) (v : ℕ) (c : Processing) (s t : Stage) (m : MakesStagedTurn n v c s t) → UnpinsNothing (list_next (slice_get c.script (length c.log))) →
+pub own_turn_hears : (n : Machine) (v : ℕ) (c : Processing) (s t : Stage) (m : MakesStagedTurn n v c s t) → ReleasesNothing (list_next (slice_get c.script (length c.log))) →
     Heard m.gate.says m.gate.asks m.asked.asks (is_due m.end)
 own_turn_hears n v c s t m off =
     subst (λ k. Heard m.gate.says m.gate.asks k (is_due m.end)) (sym m.consulted.asks)

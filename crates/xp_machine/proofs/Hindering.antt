@@ -1,5 +1,5 @@
 -- A turn as steps of its port, and what pauses it where no other vCPU holds anything.
-use Rattle.std.proofs.Common.{◌≡◌, ℕ, ◌<◌, Bool, List, length, Option, Some, None, Result, Ok, Err, IfErr, refl, sym, subst, inl, inr, arith}
+use Rattle.std.proofs.Common.{◌≡◌, ℕ, ◌<◌, Bool, List, [], length, Option, Some, None, Result, Ok, Err, IfErr, refl, sym, subst, inl, inr, arith}
 use Rattle.std.specs.Prelude.{slice_get}
 use Rattle.std.proofs.lemmas.Bool.{cases_eq}
 use Rattle.xp_words.specs.declared.ops.ExtOp.{ExtOp}
@@ -17,8 +17,11 @@ use Rattle.answer_fits.specs.Answers.{Stops, misses}
 use Rattle.answer_fits.specs.Asked.{Request}
 use Rattle.answer_fits.proofs.Piecing.{serves_came}
 use Rattle.answer_laws.specs.Alone.{IsAlone, IsDueOrFlush}
+use Rattle.foreign_map.specs.Owning.{of_owners}
+use Rattle.foreign_map.specs.declared.owners.Owners.{Owners}
 use Rattle.level_release.specs.Asking.{of_settle}
 use Rattle.mmu_update.specs.Elements as pairs
+use Rattle.mmu_update.specs.Fits.{Updates}
 use Rattle.mmu_update.specs.declared.element.Element as updating
 use Rattle.mmu_update.specs.declared.element.Element.TheVariants as updates
 use Rattle.mmuext_ops.specs.Elements as elements
@@ -26,9 +29,11 @@ use Rattle.mmuext_ops.specs.declared.element.Element.{Element}
 use Rattle.mmuext_ops.specs.declared.element.Element.TheVariants as performs
 use Rattle.vcpu_turn.specs.declared.cpu.TurnEnd.{TurnEnd}
 use Rattle.vcpu_turn.specs.declared.cpu.TurnEnd.TheVariants as ends
-use Rattle.vcpu_turn.specs.Cpus.{OpList, OfPairs, OfExt, Processing, list_of, length_of, end_of}
-use Rattle.vcpu_turn.specs.Lists.{DidItems, WorksOn, none, more, all_done, last_done, due, stopped}
-use Rattle.vcpu_turn.specs.Working.{Extends, FitsExt, FitsPair, Performs, Settles, Works, fits_of, unsettled, performed}
+use Rattle.vcpu_turn.specs.Cpus.{OpList, OfPairs, OfExt, Processing, list_of, end_of}
+use Rattle.vcpu_turn.specs.Lists as lists
+use Rattle.vcpu_turn.specs.Lists.{DidItems, Fitting, WorksOn, more, all_done, last_done, due, stopped}
+use Rattle.vcpu_turn.specs.Working as working
+use Rattle.vcpu_turn.specs.Working.{Behind, ExtFits, FindsOwners, FitsExt, FitsPair, PairFits, Performs, Settles, Works, WorksOwned, unsettled, performed}
 use Rattle.vcpu_turn.specs.Turning.{DoesNext, EndsTurn, Goes, IsStop, IsTurn}
 use Rattle.vcpu_turn.specs.Turning as turning
 use Rattle.vcpu_turn.proofs.Turns.{begins_came}
@@ -49,41 +54,59 @@ ends_came ends.Retired v w e = stop_came v w e
 settles_came : (v w : PortValue) (answers : List Bool) (answer : Result (Unit {0}) Stop) → Settles v w answers answer → Came v w
 settles_came v w answers answer s = serves_came v w (of_settle 0 0 answer) (misses v.post.machine answer) (s.serves 0 0)
 
-pair_came : (d : ℕ) (o : Option Pair) (v w : PortValue) (answers : List Bool) (answer : Result (Unit {0}) Stop) → FitsPair d o v w answers answer → Came v w
-pair_came d None v w answers answer f = absurd f
-pair_came d (Some p) v w answers answer f =
-    serves_came v w (pairs.request_of d (pairs.element_of p)) (pairs.element_deeds v.post.machine (pairs.element_of p) answer) f.0.serves
-
 performs_came : (d : ℕ) (e : Element) (v w : PortValue) (answers : List Bool) (answer : Result (Unit {0}) Stop) → Performs d e v w answers answer → Came v w
 performs_came d e v w answers answer p = serves_came v w (elements.ext_request d e answer) p.serves.0 p.serves.2
 
-extends_came : (d : ℕ) (e : Element) (v w : PortValue) (answers : List Bool) (answer : Result (Unit {0}) Stop) → Extends d e v w answers answer → Came v w
-extends_came d e v _ _ _ (unsettled w answers stop s) = settles_came v w answers (Err stop) s
-extends_came d e v _ _ _ (performed u w early answers answer s p) = came_trans v u w (settles_came v u early (Ok tt) s) (performs_came d e u w answers answer p)
+updates_came : (o : Owners) (e : updating.Element) (v w : PortValue) (answers : List Bool) (answer : Result (Unit {0}) Stop) → Updates o e v w answers answer → Came v w
+updates_came o e v w answers answer u = serves_came v w (pairs.update_request o e answer) u.serves.0 u.serves.2
 
-ext_came : (d : ℕ) (o : Option ExtOp) (v w : PortValue) (answers : List Bool) (answer : Result (Unit {0}) Stop) → FitsExt d o v w answers answer → Came v w
+owners_came : (v w : PortValue) (d foreign : ℕ) (answer : Result Owners Refusal) → FindsOwners v w d foreign answer → Came v w
+owners_came v w d foreign answer f = serves_came v w (of_owners v.post.machine d foreign) [] f.serves
+
+-- what is done behind a settling
+module _ (P : PortValue → PortValue → List Bool → Result (Unit {0}) Stop → Type 0) (comes : (v w : PortValue) (answers : List Bool) (answer : Result (Unit {0}) Stop) → P v w answers answer → Came v w) where
+  behind_came : (v w : PortValue) (answers : List Bool) (answer : Result (Unit {0}) Stop) → Behind P v w answers answer → Came v w
+  behind_came v _ _ _ (unsettled w answers stop s) = settles_came v w answers (Err stop) s
+  behind_came v _ _ _ (performed u w early answers answer s p) = came_trans v u w (settles_came v u early (Ok tt) s) (comes u w answers answer p)
+
+pair_came : (o : Owners) (x : Option Pair) (v w : PortValue) (answers : List Bool) (answer : Result (Unit {0}) Stop) → FitsPair o x v w answers answer → Came v w
+pair_came o None v w answers answer f = absurd f
+pair_came o (Some p) v w answers answer f = behind_came (Updates o (pairs.element_of p)) (updates_came o (pairs.element_of p)) v w answers answer f
+
+ext_came : (d : ℕ) (x : Option ExtOp) (v w : PortValue) (answers : List Bool) (answer : Result (Unit {0}) Stop) → FitsExt d x v w answers answer → Came v w
 ext_came d None v w answers answer f = absurd f
-ext_came d (Some op) v w answers answer f = extends_came d (elements.ext_element op) v w answers answer f
+ext_came d (Some op) v w answers answer f = behind_came (Performs d (elements.ext_element op)) (performs_came d (elements.ext_element op)) v w answers answer f
 
-fits_came : (d : ℕ) (list : OpList) (k : ℕ) (v w : PortValue) (answers : List Bool) (answer : Result (Unit {0}) Stop) → fits_of d list k v w answers answer → Came v w
-fits_came d (OfPairs list) k v w answers answer f = pair_came d (slice_get list k) v w answers answer f
-fits_came d (OfExt list) k v w answers answer f = ext_came d (slice_get list k) v w answers answer f
+pairs_came : (o : Owners) (list : List Pair) (k : ℕ) (v w : PortValue) (answers : List Bool) (answer : Result (Unit {0}) Stop) → PairFits o list k v w answers answer → Came v w
+pairs_came o list k v w answers answer f = pair_came o (slice_get list k) v w answers answer f
 
-did_came : (d : ℕ) (list : OpList) (count from : ℕ) (v : PortValue) (k : ℕ) (w : PortValue) (answers : List Bool) → DidItems (fits_of d list) count from v k w answers → Came v w
-did_came d list count from v _ _ _ none = came_self v
-did_came d list count from v _ _ _ (more k u w answers asked before f less) = came_trans v u w (did_came d list count from v k u answers before) (fits_came d list k u w asked (Ok tt) f)
+exts_came : (d : ℕ) (list : List ExtOp) (k : ℕ) (v w : PortValue) (answers : List Bool) (answer : Result (Unit {0}) Stop) → ExtFits d list k v w answers answer → Came v w
+exts_came d list k v w answers answer f = ext_came d (slice_get list k) v w answers answer f
 
-list_came : (d : ℕ) (list : OpList) (count from : ℕ) (v : PortValue) (to : ℕ) (w : PortValue) (answers : List Bool) (answer : Result (Unit {0}) Stop) → WorksOn (fits_of d list) count from v to w answers answer →
-    Came v w
-list_came d list count from v _ _ _ _ (all_done same) = came_self v
-list_came d list count from v _ _ _ _ (last_done k u w answers asked before f at) = came_trans v u w (did_came d list count from v k u answers before) (fits_came d list k u w asked (Ok tt) f)
-list_came d list count from v _ _ _ _ (due k u w answers asked before f less) = came_trans v u w (did_came d list count from v k u answers before) (fits_came d list k u w asked (Ok tt) f)
-list_came d list count from v _ _ _ _ (stopped k u w answers asked e before f less) = came_trans v u w (did_came d list count from v k u answers before) (fits_came d list k u w asked (Err e) f)
+-- a list of items
+module _ (fits : Fitting) (comes : (k : ℕ) (v w : PortValue) (answers : List Bool) (answer : Result (Unit {0}) Stop) → fits k v w answers answer → Came v w) (count from : ℕ) (v : PortValue) where
+  did_came : (k : ℕ) (w : PortValue) (answers : List Bool) → DidItems fits count from v k w answers → Came v w
+  did_came _ _ _ lists.DidItems.none = came_self v
+  did_came _ _ _ (more k u w answers asked before f less) = came_trans v u w (did_came k u answers before) (comes k u w asked (Ok tt) f)
+
+  list_came : (to : ℕ) (w : PortValue) (answers : List Bool) (answer : Result (Unit {0}) Stop) → WorksOn fits count from v to w answers answer → Came v w
+  list_came _ _ _ _ (all_done same) = came_self v
+  list_came _ _ _ _ (last_done k u w answers asked before f at) = came_trans v u w (did_came k u answers before) (comes k u w asked (Ok tt) f)
+  list_came _ _ _ _ (due k u w answers asked before f less) = came_trans v u w (did_came k u answers before) (comes k u w asked (Ok tt) f)
+  list_came _ _ _ _ (stopped k u w answers asked e before f less) = came_trans v u w (did_came k u answers before) (comes k u w asked (Err e) f)
+
+owned_came : (d foreign : ℕ) (list : List Pair) (v : PortValue) (from to : ℕ) (w : PortValue) (answers : List Bool) (answer : Result (Unit {0}) Stop) → WorksOwned d foreign list v from to w answers answer → Came v w
+owned_came d foreign list v from _ _ _ _ (working.WorksOwned.long to w answers answer above whole) = same_came v w whole.no_step
+owned_came d foreign list v from _ _ _ _ (working.WorksOwned.none empty) = came_self v
+owned_came d foreign list v from _ _ _ _ (working.WorksOwned.unowned w x some most finds) = owners_came v w d foreign (Err x) finds
+owned_came d foreign list v from _ _ _ _ (working.WorksOwned.owned to u w o answers answer some most finds on) =
+    came_trans v u w (owners_came v u d foreign (Ok o) finds) (list_came (PairFits o list) (pairs_came o list) (length list) from u to w answers answer on)
 
 works_came : (d : ℕ) (o : Option OpList) (v w : PortValue) (from to : ℕ) (answers : List Bool) (answer : Result (Unit {0}) Stop) → Works d o v from to w answers answer → Came v w
 works_came d None v w from to answers answer a = same_came v w a.no_step
-works_came d (Some list) v w from to answers answer (inl a) = same_came v w a.1.no_step
-works_came d (Some list) v w from to answers answer (inr a) = list_came d list (length_of list) from v to w answers answer a.1
+works_came d (Some (OfPairs foreign list)) v w from to answers answer a = owned_came d foreign list v from to w answers answer a
+works_came d (Some (OfExt list)) v w from to answers answer (inl a) = same_came v w a.1.no_step
+works_came d (Some (OfExt list)) v w from to answers answer (inr a) = list_came (ExtFits d list) (exts_came d list) (length list) from v to w answers answer a.1
 
 does_came : (c : Processing) (o : Option Op) (c2 : Processing) (v w : PortValue) (answers : List Bool) (end : TurnEnd) → DoesNext c o c2 v w answers end → Came v w
 does_came c (Some op) c2 v w answers end d = works_came c.domain (list_of op) v w c.done d.to answers d.answer d.works
@@ -108,11 +131,11 @@ NeitherLostNorBusy = (v w : PortValue) (r : Request) (x : Pause) → IsAlone v �
 abbrev pub NobodyWaitedFor : Type 0
 NobodyWaitedFor = (v w : PortValue) (r : Request) (u stamp x : ℕ) → length v.post.machine.vcpu_domain ≡ 1 → Stops v w r (Paused (Flush u stamp x)) → ⊥
 
-pair_destroys : (d : ℕ) (e : updating.Element) → (pairs.request_of d e).destroys ≡ None
-pair_destroys d (updates.SetM2p f w) = refl
-pair_destroys d (updates.Write f i w) = refl
-pair_destroys d updates.Misaligned = refl
-pair_destroys d updates.Unknown = refl
+pair_destroys : (o : Owners) (e : updating.Element) (answer : Result (Unit {0}) Stop) → (pairs.update_request o e answer).destroys ≡ None
+pair_destroys o (updates.SetM2p f w) answer = refl
+pair_destroys o (updates.Write f i w keep) answer = refl
+pair_destroys o updates.Misaligned answer = refl
+pair_destroys o updates.Unknown answer = refl
 
 element_destroys : (d : ℕ) (e : Element) (answer : Result (Unit {0}) Stop) → (elements.ext_request d e answer).destroys ≡ None
 element_destroys d (performs.Pin f level) answer = refl
@@ -156,40 +179,55 @@ module _ (stays : AloneStays) (neither : NeitherLostNorBusy) (nobody : NobodyWai
   settles_spared : (v w : PortValue) (answers : List Bool) (answer : Result (Unit {0}) Stop) → IsSpared v → Settles v w answers answer → Spared v answer
   settles_spared v w answers answer s settles = call_spared v w (of_settle 0 0 answer) answer refl s (settles.stops 0 0)
 
-  pair_spared : (d : ℕ) (o : Option Pair) (v w : PortValue) (answers : List Bool) (answer : Result (Unit {0}) Stop) → IsSpared v → FitsPair d o v w answers answer → Spared v answer
-  pair_spared d None v w answers answer s f = absurd f
-  pair_spared d (Some p) v w answers answer s f = call_spared v w (pairs.request_of d (pairs.element_of p)) answer (pair_destroys d (pairs.element_of p)) s f.0.stops
+  updates_spared : (o : Owners) (e : updating.Element) (v w : PortValue) (answers : List Bool) (answer : Result (Unit {0}) Stop) → IsSpared v → Updates o e v w answers answer → Spared v answer
+  updates_spared o e v w answers answer s u = call_spared v w (pairs.update_request o e answer) answer (pair_destroys o e answer) s u.stops
 
-  extends_spared : (d : ℕ) (e : Element) (v w : PortValue) (answers : List Bool) (answer : Result (Unit {0}) Stop) → IsSpared v → Extends d e v w answers answer → Spared v answer
-  extends_spared d e v _ _ _ s (unsettled w answers stop settles) = settles_spared v w answers (Err stop) s settles
-  extends_spared d e v _ _ _ s (performed u w early answers answer settles p) =
-      let came = settles_came v u early (Ok tt) settles in
-      spared_back v u answer came (call_spared u w (elements.ext_request d e answer) answer (element_destroys d e answer) (spared_on v u came s) p.stops)
+  performs_spared : (d : ℕ) (e : Element) (v w : PortValue) (answers : List Bool) (answer : Result (Unit {0}) Stop) → IsSpared v → Performs d e v w answers answer → Spared v answer
+  performs_spared d e v w answers answer s p = call_spared v w (elements.ext_request d e answer) answer (element_destroys d e answer) s p.stops
 
-  ext_spared : (d : ℕ) (o : Option ExtOp) (v w : PortValue) (answers : List Bool) (answer : Result (Unit {0}) Stop) → IsSpared v → FitsExt d o v w answers answer → Spared v answer
+  module _ (P : PortValue → PortValue → List Bool → Result (Unit {0}) Stop → Type 0) (spares : (v w : PortValue) (answers : List Bool) (answer : Result (Unit {0}) Stop) → IsSpared v → P v w answers answer → Spared v answer) where
+    behind_spared : (v w : PortValue) (answers : List Bool) (answer : Result (Unit {0}) Stop) → IsSpared v → Behind P v w answers answer → Spared v answer
+    behind_spared v _ _ _ s (unsettled w answers stop settles) = settles_spared v w answers (Err stop) s settles
+    behind_spared v _ _ _ s (performed u w early answers answer settles p) =
+        let came = settles_came v u early (Ok tt) settles in
+        spared_back v u answer came (spares u w answers answer (spared_on v u came s) p)
+
+  pair_spared : (o : Owners) (x : Option Pair) (v w : PortValue) (answers : List Bool) (answer : Result (Unit {0}) Stop) → IsSpared v → FitsPair o x v w answers answer → Spared v answer
+  pair_spared o None v w answers answer s f = absurd f
+  pair_spared o (Some p) v w answers answer s f = behind_spared (Updates o (pairs.element_of p)) (updates_spared o (pairs.element_of p)) v w answers answer s f
+
+  ext_spared : (d : ℕ) (x : Option ExtOp) (v w : PortValue) (answers : List Bool) (answer : Result (Unit {0}) Stop) → IsSpared v → FitsExt d x v w answers answer → Spared v answer
   ext_spared d None v w answers answer s f = absurd f
-  ext_spared d (Some op) v w answers answer s f = extends_spared d (elements.ext_element op) v w answers answer s f
+  ext_spared d (Some op) v w answers answer s f = behind_spared (Performs d (elements.ext_element op)) (performs_spared d (elements.ext_element op)) v w answers answer s f
 
-  fits_spared : (d : ℕ) (list : OpList) (k : ℕ) (v w : PortValue) (answers : List Bool) (answer : Result (Unit {0}) Stop) → IsSpared v → fits_of d list k v w answers answer → Spared v answer
-  fits_spared d (OfPairs list) k v w answers answer s f = pair_spared d (slice_get list k) v w answers answer s f
-  fits_spared d (OfExt list) k v w answers answer s f = ext_spared d (slice_get list k) v w answers answer s f
-
-  list_spared : (d : ℕ) (list : OpList) (count from : ℕ) (v : PortValue) (to : ℕ) (w : PortValue) (answers : List Bool) (answer : Result (Unit {0}) Stop) → IsSpared v →
-      WorksOn (fits_of d list) count from v to w answers answer → Spared v answer
-  list_spared d list count from v _ _ _ _ s (all_done same) = λ to. tt
-  list_spared d list count from v _ _ _ _ s (last_done k u w answers asked before f at) = λ to. tt
-  list_spared d list count from v _ _ _ _ s (due k u w answers asked before f less) = λ to. tt
-  list_spared d list count from v _ _ _ _ s (stopped k u w answers asked e before f less) =
-      let came = did_came d list count from v k u answers before in
-      spared_back v u (Err e) came (fits_spared d list k u w asked (Err e) (spared_on v u came s) f)
+  list_spared : (fits : Fitting) → ((k : ℕ) (v w : PortValue) (answers : List Bool) (answer : Result (Unit {0}) Stop) → fits k v w answers answer → Came v w) →
+      ((k : ℕ) (v w : PortValue) (answers : List Bool) (answer : Result (Unit {0}) Stop) → IsSpared v → fits k v w answers answer → Spared v answer) →
+      (count from : ℕ) (v : PortValue) (to : ℕ) (w : PortValue) (answers : List Bool) (answer : Result (Unit {0}) Stop) → IsSpared v → WorksOn fits count from v to w answers answer → Spared v answer
+  list_spared fits comes spares count from v _ _ _ _ s (all_done same) = λ to. tt
+  list_spared fits comes spares count from v _ _ _ _ s (last_done k u w answers asked before f at) = λ to. tt
+  list_spared fits comes spares count from v _ _ _ _ s (due k u w answers asked before f less) = λ to. tt
+  list_spared fits comes spares count from v _ _ _ _ s (stopped k u w answers asked e before f less) =
+      let came = did_came fits comes count from v k u answers before in
+      spared_back v u (Err e) came (spares k u w asked (Err e) (spared_on v u came s) f)
 
   refused_whole : (v : PortValue) (x : Refusal) (answer : Result (Unit {0}) Stop) → answer ≡ Err (Refused x) → Spared v answer
   refused_whole v x answer e to = rw e tt
 
+  owned_spared : (d foreign : ℕ) (list : List Pair) (v : PortValue) (from to : ℕ) (w : PortValue) (answers : List Bool) (answer : Result (Unit {0}) Stop) → IsSpared v → WorksOwned d foreign list v from to w answers answer → Spared v answer
+  owned_spared d foreign list v from _ _ _ _ s (working.WorksOwned.long to w answers answer above whole) = refused_whole v _ answer whole.refused
+  owned_spared d foreign list v from _ _ _ _ s (working.WorksOwned.none empty) = λ to. tt
+  owned_spared d foreign list v from _ _ _ _ s (working.WorksOwned.unowned w x some most finds) = λ to. tt
+  owned_spared d foreign list v from _ _ _ _ s (working.WorksOwned.owned to u w o answers answer some most finds on) =
+      let came = owners_came v u d foreign (Ok o) finds in
+      spared_back v u answer came
+      (list_spared (PairFits o list) (pairs_came o list) (λ k x y asked a sp f. pair_spared o (slice_get list k) x y asked a sp f) (length list) from u to w answers answer (spared_on v u came s) on)
+
   works_spared : (d : ℕ) (o : Option OpList) (v w : PortValue) (from to : ℕ) (answers : List Bool) (answer : Result (Unit {0}) Stop) → IsSpared v → Works d o v from to w answers answer → Spared v answer
   works_spared d None v w from to answers answer s a = refused_whole v _ answer a.refused
-  works_spared d (Some list) v w from to answers answer s (inl a) = refused_whole v _ answer a.1.refused
-  works_spared d (Some list) v w from to answers answer s (inr a) = list_spared d list (length_of list) from v to w answers answer s a.1
+  works_spared d (Some (OfPairs foreign list)) v w from to answers answer s a = owned_spared d foreign list v from to w answers answer s a
+  works_spared d (Some (OfExt list)) v w from to answers answer s (inl a) = refused_whole v _ answer a.1.refused
+  works_spared d (Some (OfExt list)) v w from to answers answer s (inr a) =
+      list_spared (ExtFits d list) (exts_came d list) (λ k x y asked b sp f. ext_spared d (slice_get list k) x y asked b sp f) (length list) from v to w answers answer s a.1
 
   does_spared : (c : Processing) (o : Option Op) (c2 : Processing) (v w : PortValue) (answers : List Bool) (end : TurnEnd) → IsSpared v → DoesNext c o c2 v w answers end → IsUnhindered v.post.machine end
   does_spared c (Some op) c2 v w answers end s d =

@@ -1,5 +1,5 @@
--- A turn that unpins nothing: its gate says no until the turn is paused for it. So no list goes past the element behind which it says yes.
-use Rattle.std.proofs.Common.{◌≡◌, ◌≢◌, ℕ, ◌+◌, ◌<◌, ◌≤◌, ◌==◌, ◌⊎◌, ◌++◌, nat_lt, if◌then◌else◌, All, Bool, true, false, List, [], ◌∷◌, length, Option, Some, None, Result, Ok, Err, refl, sym, ap, ◌∙◌, subst, inl, inr, arith, length-append}
+-- A turn that releases nothing but what is settled: its gate says no until the turn is paused for it. So no list goes past the element behind which it says yes.
+use Rattle.std.proofs.Common.{◌≡◌, ◌≢◌, ℕ, ◌+◌, ◌<◌, ◌≤◌, ◌==◌, ◌⊎◌, ◌++◌, ◌%◌, nat_lt, if◌then◌else◌, All, Bool, true, false, List, [], ◌∷◌, length, Option, Some, None, Result, Ok, Err, refl, sym, ap, ◌∙◌, subst, inl, inr, arith, length-append}
 use Rattle.std.specs.Prelude.{slice_get}
 use Rattle.std.proofs.lemmas.Bool.{cases_order, eqb-true}
 use Rattle.std.proofs.lemmas.List.Elements.{All-get_or}
@@ -16,20 +16,26 @@ use Rattle.xp_preempt.specs.Gates.{Gives, Heard, asks_on, ends_yes, last_ask, ye
 use Rattle.xp_preempt.proofs.Hearing.{heard_ask, heard_none, heard_then}
 use Rattle.xp_preempt.proofs.Numbering.{says_last, says_no}
 use Rattle.level_release.specs.Asking.{is_due_answer}
+use Rattle.foreign_map.specs.declared.owners.Owners.{Owners}
+use Rattle.mmu_update.specs.Course.{Updated}
+use Rattle.mmu_update.specs.Elements.{element_of}
+use Rattle.mmu_update.specs.Fits.{Updates}
+use Rattle.mmu_update.specs.declared.element.Element as updating
+use Rattle.mmu_update.specs.declared.element.Element.TheVariants as updates
 use Rattle.mmuext_ops.specs.Course as course
 use Rattle.mmuext_ops.specs.Course.{Performed, Pinned}
 use Rattle.mmuext_ops.specs.Elements.{ext_element}
 use Rattle.mmuext_ops.specs.declared.element.Element.{Element}
 use Rattle.mmuext_ops.specs.declared.element.Element.TheVariants as elements
-use Rattle.vcpu_turn.specs.Cpus.{OpList, OfPairs, OfExt, Processing, end_of, length_of, list_of}
+use Rattle.vcpu_turn.specs.Cpus.{OpList, OfPairs, OfExt, Processing, end_of, list_of}
 use Rattle.vcpu_turn.specs.Lists as lists
 use Rattle.vcpu_turn.specs.Lists.{DidItems, WorksOn}
 use Rattle.vcpu_turn.specs.Turning as turning
 use Rattle.vcpu_turn.specs.Turning.{DoesNext, Goes, GoesNoFurther, IsTurn, is_due}
 use Rattle.vcpu_turn.specs.Working as working
-use Rattle.vcpu_turn.specs.Working.{Extends, FitsExt, FitsPair, IsRefusedWhole, Performs, Settles, Works, fits_of}
+use Rattle.vcpu_turn.specs.Working.{Behind, ExtFits, FitsExt, FitsPair, IsRefusedWhole, PairFits, Performs, Settles, Works, WorksOwned}
 use Rattle.vcpu_turn.specs.declared.cpu.TurnEnd.{TurnEnd}
-use Rattle.xp_machine.specs.Unpins.{UnpinsNothing, list_next}
+use Rattle.xp_machine.specs.Unpins.{ReleasesNothing, list_next}
 use Rattle.xp_machine.proofs.Noes.{Noes, acquired_noes, noes_all, noes_due, noes_no, noes_none, noes_same, noes_then, settled_noes}
 
 -- ---- an element of `mmuext_op` that is no unpin
@@ -60,10 +66,26 @@ performed_noes v w d elements.Unknown answers answer off p = noes_same answers [
 settles_noes : (v w : PortValue) (answers : List Bool) (answer : Result (Unit {0}) Stop) → Settles v w answers answer → Noes answers (is_due_answer answer)
 settles_noes v w answers answer s = settled_noes v w answers answer s.course
 
-extends_noes : (d : ℕ) (e : Element) (v w : PortValue) (answers : List Bool) (answer : Result (Unit {0}) Stop) → IsNoUnpin e → Extends d e v w answers answer → Noes answers (is_due_answer answer)
-extends_noes d e v _ _ _ off (working.Extends.unsettled w answers stop s) = settles_noes v w answers (Err stop) s
-extends_noes d e v _ _ _ off (working.Extends.performed u w early answers answer s p) =
-    noes_then early answers _ (noes_no early (settles_noes v u early (Ok tt) s)) (performed_noes u w d e answers answer off p.course)
+-- ---- an element of `mmu_update` that writes no word
+abbrev IsNoWrite : updating.Element → Type 0
+IsNoWrite (updates.Write f i w keep) = ⊥
+IsNoWrite _ = Unit {0}
+
+no_write : (p : Pair) → (p.ptr % 4 ≡ 1) ⊎ (p.ptr % 4 ≡ 3) → IsNoWrite (element_of p)
+no_write p (inl is) = rw is tt
+no_write p (inr is) = rw is tt
+
+updated_noes : (v : PortValue) (o : Owners) (e : updating.Element) (w : PortValue) (answers : List Bool) (answer : Result (Unit {0}) Stop) → IsNoWrite e → Updated v o e w answers answer → Noes answers (is_due_answer answer)
+updated_noes v o (updates.SetM2p f gpfn) w answers answer off u = noes_same answers [] _ u.0 (noes_none _)
+updated_noes v o (updates.Write f i word keep) w answers answer off u = absurd off
+updated_noes v o updates.Misaligned w answers answer off u = noes_same answers [] _ u.1 (noes_none _)
+updated_noes v o updates.Unknown w answers answer off u = noes_same answers [] _ u.1 (noes_none _)
+
+-- ---- behind a settling
+module _ (P : PortValue → PortValue → List Bool → Result (Unit {0}) Stop → Type 0) (says : (v w : PortValue) (answers : List Bool) (answer : Result (Unit {0}) Stop) → P v w answers answer → Noes answers (is_due_answer answer)) where
+  behind_noes : (v w : PortValue) (answers : List Bool) (answer : Result (Unit {0}) Stop) → Behind P v w answers answer → Noes answers (is_due_answer answer)
+  behind_noes v _ _ _ (working.Behind.unsettled w answers stop s) = settles_noes v w answers (Err stop) s
+  behind_noes v _ _ _ (working.Behind.performed u w early answers answer s p) = noes_then early answers _ (noes_no early (settles_noes v u early (Ok tt) s)) (says u w answers answer p)
 
 -- ---- an element of a list
 -- one that stands there has what all have
@@ -71,34 +93,33 @@ module _ {A : Type 0} (P : A → Type 0) where
   at : (xs : List A) → All P xs → (k : ℕ) (x : A) → slice_get xs k ≡ Some x → P x
   at xs all k x is = subst P (get_or_from_slice_get xs k x x is) (All-get_or P xs k x (slice_get_within xs k x is) all)
 
-pair_noes : (d : ℕ) (o : Option Pair) (v w : PortValue) (answers : List Bool) (answer : Result (Unit {0}) Stop) → FitsPair d o v w answers answer → Noes answers (is_due_answer answer)
-pair_noes d None v w answers answer f = absurd f
-pair_noes d (Some p) v w answers answer f = noes_same answers [] _ f.1 (noes_none _)
+pair_noes : (o : Owners) (x : Option Pair) (v w : PortValue) (answers : List Bool) (answer : Result (Unit {0}) Stop) → ((p : Pair) → x ≡ Some p → (p.ptr % 4 ≡ 1) ⊎ (p.ptr % 4 ≡ 3)) → FitsPair o x v w answers answer →
+    Noes answers (is_due_answer answer)
+pair_noes o None v w answers answer off f = absurd f
+pair_noes o (Some p) v w answers answer off f =
+    behind_noes (Updates o (element_of p)) (λ x y asked a u. updated_noes x o (element_of p) y asked a (no_write p (off p refl)) u.course) v w answers answer f
 
-ext_noes : (d : ℕ) (o : Option ExtOp) (v w : PortValue) (answers : List Bool) (answer : Result (Unit {0}) Stop) → ((e : ExtOp) → o ≡ Some e → e.command ≢ 4) → FitsExt d o v w answers answer → Noes answers (is_due_answer answer)
+ext_noes : (d : ℕ) (x : Option ExtOp) (v w : PortValue) (answers : List Bool) (answer : Result (Unit {0}) Stop) → ((e : ExtOp) → x ≡ Some e → e.command ≢ 4) → FitsExt d x v w answers answer → Noes answers (is_due_answer answer)
 ext_noes d None v w answers answer off f = absurd f
-ext_noes d (Some e) v w answers answer off f = extends_noes d (ext_element e) v w answers answer (no_unpin e (off e refl)) f
-
-fits_noes : (d : ℕ) (list : OpList) → UnpinsNothing (Some list) → (k : ℕ) (v w : PortValue) (answers : List Bool) (answer : Result (Unit {0}) Stop) → fits_of d list k v w answers answer → Noes answers (is_due_answer answer)
-fits_noes d (OfPairs pairs) off k v w answers answer f = pair_noes d (slice_get pairs k) v w answers answer f
-fits_noes d (OfExt list) off k v w answers answer f = ext_noes d (slice_get list k) v w answers answer (λ e is. at (λ (x : ExtOp). x.command ≢ 4) list off k e is) f
+ext_noes d (Some e) v w answers answer off f =
+    behind_noes (Performs d (ext_element e)) (λ x y asked a p. performed_noes x y d (ext_element e) asked a (no_unpin e (off e refl)) p.course) v w answers answer f
 
 -- ---- a list
-module _ (d : ℕ) (list : OpList) (off : UnpinsNothing (Some list)) (count from : ℕ) (v : PortValue) where
-  did_no : (k : ℕ) (w : PortValue) (answers : List Bool) → DidItems (fits_of d list) count from v k w answers → yeses answers ≡ 0
+module _ (fits : lists.Fitting) (says : (k : ℕ) (v w : PortValue) (answers : List Bool) (answer : Result (Unit {0}) Stop) → fits k v w answers answer → Noes answers (is_due_answer answer)) (count from : ℕ) (v : PortValue) where
+  did_no : (k : ℕ) (w : PortValue) (answers : List Bool) → DidItems fits count from v k w answers → yeses answers ≡ 0
   unfolding yeses
   did_no _ _ _ lists.DidItems.none = refl
   did_no _ _ _ (lists.DidItems.more k u w answers asked before f less) =
       let early = did_no k u answers before in
-      noes_no (asked ++ answers) (noes_then answers asked false early (fits_noes d list off k u w asked (Ok tt) f))
+      noes_no (asked ++ answers) (noes_then answers asked false early (says k u w asked (Ok tt) f))
 
-  works_noes : (to : ℕ) (w : PortValue) (answers : List Bool) (answer : Result (Unit {0}) Stop) → WorksOn (fits_of d list) count from v to w answers answer → Noes answers (is_due_answer answer)
+  works_noes : (to : ℕ) (w : PortValue) (answers : List Bool) (answer : Result (Unit {0}) Stop) → WorksOn fits count from v to w answers answer → Noes answers (is_due_answer answer)
   works_noes _ _ _ _ (lists.WorksOn.all_done same) = noes_none false
-  works_noes _ _ _ _ (lists.WorksOn.last_done k u w answers asked before f at) = noes_then answers asked false (did_no k u answers before) (fits_noes d list off k u w asked (Ok tt) f)
+  works_noes _ _ _ _ (lists.WorksOn.last_done k u w answers asked before f at) = noes_then answers asked false (did_no k u answers before) (says k u w asked (Ok tt) f)
   works_noes _ _ _ _ (lists.WorksOn.due k u w answers asked before f less) =
-      noes_due (asked ++ answers) (noes_no (asked ++ answers) (noes_then answers asked false (did_no k u answers before) (fits_noes d list off k u w asked (Ok tt) f)))
+      noes_due (asked ++ answers) (noes_no (asked ++ answers) (noes_then answers asked false (did_no k u answers before) (says k u w asked (Ok tt) f)))
   works_noes _ _ _ _ (lists.WorksOn.stopped k u w answers asked e before f less) =
-      noes_then answers asked _ (did_no k u answers before) (fits_noes d list off k u w asked (Err e) f)
+      noes_then answers asked _ (did_no k u answers before) (says k u w asked (Err e) f)
 
 -- how many elements are done at most, by the number of asks
 abbrev most_done : ℕ → ℕ → Result (Unit {0}) Stop → ℕ
@@ -132,19 +153,37 @@ module _ (fits : lists.Fitting) (count from : ℕ) (v : PortValue) where
 refused_noes : {x : Refusal} (v : PortValue) (to : ℕ) (w : PortValue) (answers : List Bool) (answer : Result (Unit {0}) Stop) → IsRefusedWhole x v to w answers answer → Noes answers (is_due_answer answer)
 refused_noes v to w answers answer r = noes_same answers [] _ r.no_ask (noes_none _)
 
-operation_noes : (d : ℕ) (o : Option OpList) → UnpinsNothing o → (v w : PortValue) (from to : ℕ) (answers : List Bool) (answer : Result (Unit {0}) Stop) → Works d o v from to w answers answer → Noes answers (is_due_answer answer)
+owned_noes : (d foreign : ℕ) (list : List Pair) → ReleasesNothing (Some (OfPairs foreign list)) → (v : PortValue) (from to : ℕ) (w : PortValue) (answers : List Bool) (answer : Result (Unit {0}) Stop) →
+    WorksOwned d foreign list v from to w answers answer → Noes answers (is_due_answer answer)
+owned_noes d foreign list off v from _ _ _ _ (working.WorksOwned.long to w answers answer above whole) = refused_noes v to w answers answer whole
+owned_noes d foreign list off v from _ _ _ _ (working.WorksOwned.none empty) = noes_none false
+owned_noes d foreign list off v from _ _ _ _ (working.WorksOwned.unowned w x some most finds) = noes_none _
+owned_noes d foreign list off v from _ _ _ _ (working.WorksOwned.owned to u w o answers answer some most finds on) =
+    works_noes (PairFits o list) (λ k x y asked a f. pair_noes o (slice_get list k) x y asked a (λ p is. at (λ (q : Pair). (q.ptr % 4 ≡ 1) ⊎ (q.ptr % 4 ≡ 3)) list off k p is) f) (length list) from u to w answers answer on
+
+operation_noes : (d : ℕ) (o : Option OpList) → ReleasesNothing o → (v w : PortValue) (from to : ℕ) (answers : List Bool) (answer : Result (Unit {0}) Stop) → Works d o v from to w answers answer → Noes answers (is_due_answer answer)
 operation_noes d None off v w from to answers answer a = refused_noes v to w answers answer a
-operation_noes d (Some list) off v w from to answers answer (inl a) = refused_noes v to w answers answer a.1
-operation_noes d (Some list) off v w from to answers answer (inr a) = works_noes d list off (length_of list) from v to w answers answer a.1
+operation_noes d (Some (OfPairs foreign list)) off v w from to answers answer a = owned_noes d foreign list off v from to w answers answer a
+operation_noes d (Some (OfExt list)) off v w from to answers answer (inl a) = refused_noes v to w answers answer a.1
+operation_noes d (Some (OfExt list)) off v w from to answers answer (inr a) =
+    works_noes (ExtFits d list) (λ k x y asked b f. ext_noes d (slice_get list k) x y asked b (λ e is. at (λ (q : ExtOp). q.command ≢ 4) list off k e is) f) (length list) from v to w answers answer a.1
 
 refused_most : {x : Refusal} (v : PortValue) (from to : ℕ) (w : PortValue) (answers : List Bool) (answer : Result (Unit {0}) Stop) → IsRefusedWhole x v to w answers answer → to ≤ most_done from (length answers) answer
 refused_most v from to w answers (Ok done) r = let none = r.none in omega (arith, none)
 refused_most v from to w answers (Err e) r = let none = r.none in omega (arith, none)
 
+owned_most : (d foreign : ℕ) (list : List Pair) (v : PortValue) (from to : ℕ) (w : PortValue) (answers : List Bool) (answer : Result (Unit {0}) Stop) → WorksOwned d foreign list v from to w answers answer →
+    to ≤ most_done from (length answers) answer
+owned_most d foreign list v from _ _ _ _ (working.WorksOwned.long to w answers answer above whole) = refused_most v from to w answers answer whole
+owned_most d foreign list v from _ _ _ _ (working.WorksOwned.none empty) = omega arith
+owned_most d foreign list v from _ _ _ _ (working.WorksOwned.unowned w x some most finds) = omega arith
+owned_most d foreign list v from _ _ _ _ (working.WorksOwned.owned to u w o answers answer some most finds on) = works_most (PairFits o list) (length list) from u to w answers answer on
+
 operation_most : (d : ℕ) (o : Option OpList) (v w : PortValue) (from to : ℕ) (answers : List Bool) (answer : Result (Unit {0}) Stop) → Works d o v from to w answers answer → to ≤ most_done from (length answers) answer
 operation_most d None v w from to answers answer a = refused_most v from to w answers answer a
-operation_most d (Some list) v w from to answers answer (inl a) = refused_most v from to w answers answer a.1
-operation_most d (Some list) v w from to answers answer (inr a) = works_most (fits_of d list) (length_of list) from v to w answers answer a.1
+operation_most d (Some (OfPairs foreign list)) v w from to answers answer a = owned_most d foreign list v from to w answers answer a
+operation_most d (Some (OfExt list)) v w from to answers answer (inl a) = refused_most v from to w answers answer a.1
+operation_most d (Some (OfExt list)) v w from to answers answer (inr a) = works_most (ExtFits d list) (length list) from v to w answers answer a.1
 
 due_same : (to : ℕ) (answer : Result (Unit {0}) Stop) → is_due (end_of to answer) ≡ is_due_answer answer
 due_same to (Ok done) = refl
@@ -156,12 +195,12 @@ due_same to (Err (Paused (Flush a b c))) = refl
 due_same to (Err (Paused (Alive a b))) = refl
 
 -- ---- a turn
-next_noes : (c : Processing) (o : Option Op) → UnpinsNothing (list_next o) → (c2 : Processing) (v w : PortValue) (answers : List Bool) (end : TurnEnd) → DoesNext c o c2 v w answers end → Noes answers (is_due end)
+next_noes : (c : Processing) (o : Option Op) → ReleasesNothing (list_next o) → (c2 : Processing) (v w : PortValue) (answers : List Bool) (end : TurnEnd) → DoesNext c o c2 v w answers end → Noes answers (is_due end)
 next_noes c (Some op) off c2 v w answers end d =
     subst (λ (b : Bool). Noes answers b) (sym (ap is_due d.end_is ∙ due_same d.to d.answer)) (operation_noes c.domain (list_of op) off v w c.done d.to answers d.answer d.works)
 next_noes c None off c2 v w answers end d = noes_same answers [] _ d.no_ask (noes_none _)
 
-goes_noes : (c : Processing) (o : Option Op) → UnpinsNothing (list_next o) → (c2 : Processing) (v w : PortValue) (answers : List Bool) (end : TurnEnd) → Goes c o v c2 w answers end → Noes answers (is_due end)
+goes_noes : (c : Processing) (o : Option Op) → ReleasesNothing (list_next o) → (c2 : Processing) (v w : PortValue) (answers : List Bool) (end : TurnEnd) → Goes c o v c2 w answers end → Noes answers (is_due end)
 goes_noes c o off _ v _ _ _ (turning.Goes.unsettled w answers p s) = subst (λ (b : Bool). Noes answers b) (sym (due_same 0 (Err (Paused p)))) (settles_noes v w answers (Err (Paused p)) s)
 goes_noes c o off _ v _ _ _ (turning.Goes.settled u w c2 early answers end s d) =
     noes_then early answers _ (noes_no early (settles_noes v u early (Ok tt) s)) (next_noes c o off c2 u w answers end d)
@@ -211,7 +250,7 @@ within_by from to asks all j (Ok done) most few (inr last) = absurd (let is = la
 within_by from to asks all j (Err e) most few (inl before) = omega (arith, most, few, before)
 within_by from to asks all j (Err e) most few (inr last) = let at = last.0 in omega (arith, most, few, at)
 
-module _ (c : Processing) (op : Op) (off : UnpinsNothing (list_of op)) (before : ℕ) (says : ℕ → Bool) (j : ℕ) (some : 0 < j) (less : before + j < last_ask) (is_yes : says (before + j) ≡ true) where
+module _ (c : Processing) (op : Op) (off : ReleasesNothing (list_of op)) (before : ℕ) (says : ℕ → Bool) (j : ℕ) (some : 0 < j) (less : before + j < last_ask) (is_yes : says (before + j) ≡ true) where
   goes_within : (v : PortValue) (c2 : Processing) (w : PortValue) (answers : List Bool) (end : TurnEnd) → Goes c (Some op) v c2 w answers end → Gives says before answers → GoesNoFurther c c2 end (c.done + j)
   goes_within v _ _ _ _ (turning.Goes.unsettled w answers p s) gives = record { to = c.done; answer = Err (Paused p); end_is = refl; cpu = refl; within = omega arith }
   goes_within v _ _ _ _ (turning.Goes.settled u w c2 early answers end s d) gives =
@@ -227,12 +266,12 @@ module _ (c : Processing) (op : Op) (off : UnpinsNothing (list_of op)) (before :
             (subst (λ (b : Bool). (length (answers ++ early) < j) ⊎ ((length (answers ++ early) ≡ j) × (b ≡ true))) (ap is_due d.end_is ∙ due_same d.to d.answer) passed);
       }
 
-pub turn_within : (c c2 : Processing) (op : Op) (end : TurnEnd) (v w : PortValue) (before : ℕ) (answers : List Bool) (says : ℕ → Bool) → slice_get c.script (length c.log) ≡ Some op → UnpinsNothing (list_of op) →
+pub turn_within : (c c2 : Processing) (op : Op) (end : TurnEnd) (v w : PortValue) (before : ℕ) (answers : List Bool) (says : ℕ → Bool) → slice_get c.script (length c.log) ≡ Some op → ReleasesNothing (list_of op) →
     IsTurn c c2 end v w answers → Gives says before answers → (j : ℕ) → 0 < j → before + j < last_ask → says (before + j) ≡ true → GoesNoFurther c c2 end (c.done + j)
 turn_within c c2 op end v w before answers says next off turn gives j some less is_yes =
     goes_within c op off before says j some less is_yes turn.begun c2 turn.worked answers end (subst (λ o. Goes c o turn.begun c2 turn.worked answers end) next turn.does) gives
 
-pub turn_heard : (c c2 : Processing) (end : TurnEnd) (v w : PortValue) (before : ℕ) (answers : List Bool) (says : ℕ → Bool) → UnpinsNothing (list_next (slice_get c.script (length c.log))) → IsTurn c c2 end v w answers →
+pub turn_heard : (c c2 : Processing) (end : TurnEnd) (v w : PortValue) (before : ℕ) (answers : List Bool) (says : ℕ → Bool) → ReleasesNothing (list_next (slice_get c.script (length c.log))) → IsTurn c c2 end v w answers →
     Gives says before answers → (is_due end ≡ true → ends_yes answers ≡ true) → Heard says before (asks_on (length answers) before) (is_due end)
 turn_heard c c2 end v w before answers says off turn gives is =
     heard_at says before answers (is_due end) gives (goes_noes c (slice_get c.script (length c.log)) off c2 turn.begun turn.worked answers end turn.does) is

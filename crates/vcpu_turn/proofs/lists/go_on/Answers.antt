@@ -7,7 +7,7 @@ use Rattle.vcpu_turn.proofs.lists.go_on.Goals as goal
 
 pub loop-done-init : goal.loop-done-init
 loop-done-init g c =
-    record { answers = _; did = none; gate = consulted_none _ _ _; most = c.requires.within; post = refl; rests = c.requires.rests; says = λ n. refl; paces = refl; calm = λ a. a }
+    record { answers = _; did = none; gate = consulted_none _ _ _; most = c.requires.within; post = refl; suits = c.requires.suits; rests = c.requires.rests; says = λ n. refl; paces = refl; calm = λ a. a }
 
 pub returns-in_err-element-clause-works : goal.returns-in_err-element-clause-works
 returns-in_err-element-clause-works g c =
@@ -61,6 +61,7 @@ loop-done-preserved g c =
       gate = on.1;
       most = omega (arith, below, len);
       post = element.post ∙ inv.post;
+      suits = element.suits;
       rests = element.rests;
       says = λ n. due.1.1.1.0 n ∙ element.says n ∙ inv.says n;
       paces = due.1.1.1.1.0 ∙ element.paces ∙ inv.paces;

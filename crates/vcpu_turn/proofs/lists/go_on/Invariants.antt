@@ -11,6 +11,7 @@ invariant-loop-done g l = record {
   gate : Consulted ((goal.Preempt-dyn g l.fn.gate.now).says l.fn.gate.now.1) ((goal.Preempt-dyn g l.fn.gate.now).count_asks l.fn.gate.now.1) ((goal.Preempt-dyn g l.gate.now).count_asks l.gate.now.1) ((goal.Preempt-dyn g l.fn.gate.now).count_yes l.fn.gate.now.1) ((goal.Preempt-dyn g l.gate.now).count_yes l.gate.now.1) answers;
   most : l.done ≤ g.L.Items.count l.items;
   post : (g.P.Port.value l.port).post ≡ (g.P.Port.value l.fn.port).post;
+  suits : g.L.Items.suits l.items (g.P.Port.value l.port);
   rests : Rests (g.P.Port.value l.port);
   says : (n : ℕ) → (goal.Preempt-dyn g l.gate.now).says l.gate.now.1 n ≡ (goal.Preempt-dyn g l.fn.gate.now).says l.fn.gate.now.1 n;
   paces : (goal.Preempt-dyn g l.gate.now).paces l.gate.now.1 ≡ (goal.Preempt-dyn g l.fn.gate.now).paces l.fn.gate.now.1;

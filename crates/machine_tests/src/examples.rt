@@ -1,4 +1,4 @@
-//! Pins and unpins from the trace to the report: worked examples, in one turn and paused.
+//! Pins, unpins and entry updates from the trace to the report: worked examples, in one turn and paused.
 use crate::runs::{bytes, run_paced, turns, with_pace};
 use std::process::Abort;
 use xp_io::{MemorySink, MemorySource};
@@ -13,7 +13,7 @@ struct Example {
     lines: &'static str,
 }
 
-const EXAMPLES: [Example; 15] = [
+const EXAMPLES: [Example; 22] = [
     Example {
         shows: "An empty frame is pinned as an L1 table; a frame that is not pinned cannot be unpinned.",
         pace: "",
@@ -104,6 +104,48 @@ const EXAMPLES: [Example; 15] = [
         trace: "xen-pv-trace 1\nframes 16\ndomain 16\nvcpu 0\nown 0 0 8\ncell 3 7 1 0x80\ncell 4 7 1 0x5081\nop 0 ext 1 3 0\nop 0 ext 1 4 0\nturn 0 4000\nend\n",
         lines: "op 1 ok done 1 value 0x0\nop 2 refused 4 done 0 Reserved frame=4 index=7 entry=0x5081\nframe 3 owner 0 refs 2 alloc type L2 count 1 flags pv at 0 m2p -\nframe 4 owner 0 refs 1 alloc type L2 count 0 flags - at 0 m2p -\nframe 5 owner 0 refs 1 alloc type none count 0 flags - at 0 m2p -\n",
     },
+    Example {
+        shows: "A domain with privilege sets a word of another's frame by naming its owner; one without is refused.",
+        pace: "",
+        trace: "xen-pv-trace 1\nframes 16\ndomain 16\ndomain 16\npriv 0 1\nvcpu 0\nvcpu 1\nvcpu 1\nown 0 0 4\nown 1 4 8\nop 0 mmu 0x7ff0 0xc001 1\nop 0 mmu 0x7ff0 0x4001 1\nop 0 mmu 0x1 0x4001 1\nop 1 mmu 0x0 0x1 1\nturn 0 3\nturn 1 1\nend\n",
+        lines: "op 1 refused 2 done 0 WrongOwner frame=12 found=free\nop 2 refused 2 done 0 WrongOwner frame=4 found=d1,1,a\nop 3 ok done 1 value 0x0\nop 1 refused 12 done 0 NoPrivilege caller=1 domain=0\n",
+    },
+    Example {
+        shows: "Slots 255 and 272 of a live L4 table take an entry; 256 and 271 are Xen's.",
+        pace: "",
+        trace: "xen-pv-trace 1\nframes 16\ndomain 16\nvcpu 0\nown 0 0 8\nop 0 ext 3 1 0\nop 0 mmu 0x7ff0 0x17f8 0x2003\nop 0 mmu 0x7ff0 0x1800 0x2003\nop 0 mmu 0x7ff0 0x1878 0x2003\nop 0 mmu 0x7ff0 0x1880 0x2003\nturn 0 5\nend\n",
+        lines: "op 2 ok done 1 value 0x0\nop 3 refused 8 done 0 Slot index=256\nop 4 refused 8 done 0 Slot index=271\nop 5 ok done 1 value 0x0\nframe 2 owner 0 refs 3 alloc type L3 count 2 flags v at 0 m2p -\n",
+    },
+    Example {
+        shows: "An entry update that keeps the accessed and dirty bits gives the old frame back and takes the new one.",
+        pace: "",
+        trace: "xen-pv-trace 1\nframes 16\ndomain 16\nvcpu 0\nown 0 0 8\ncell 5 0 1 0x6061\nop 0 ext 0 5 0\nop 0 mmu 0x7ff0 0x5002 0x7001\nturn 0 2\nend\n",
+        lines: "op 2 ok done 1 value 0x0\nframe 6 owner 0 refs 1 alloc type none count 0 flags - at 0 m2p -\nframe 7 owner 0 refs 2 alloc type none count 0 flags - at 0 m2p -\n",
+    },
+    Example {
+        shows: "So does one that replaces them.",
+        pace: "",
+        trace: "xen-pv-trace 1\nframes 16\ndomain 16\nvcpu 0\nown 0 0 8\ncell 5 0 1 0x6061\nop 0 ext 0 5 0\nop 0 mmu 0x7ff0 0x5000 0x7001\nturn 0 2\nend\n",
+        lines: "op 2 ok done 1 value 0x0\nframe 6 owner 0 refs 1 alloc type none count 0 flags - at 0 m2p -\nframe 7 owner 0 refs 2 alloc type none count 0 flags - at 0 m2p -\n",
+    },
+    Example {
+        shows: "A domain with privilege maps another's frame writable, by an entry update.",
+        pace: "",
+        trace: "xen-pv-trace 1\nframes 16\ndomain 16\ndomain 16\npriv 0 1\nvcpu 0\nvcpu 1\nvcpu 1\nown 0 0 4\nown 1 4 8\nop 0 ext 0 1 0\nop 0 mmu 0x1 0x1000 0x5003\nop 0 ext 4 1 0\nop 0 ext 0 1 0\nturn 0 2\nend\n",
+        lines: "frame 5 owner 1 refs 2 alloc type wr count 1 flags v at 0 m2p -\n",
+    },
+    Example {
+        shows: "Pinned anew, the table with the foreign entry is refused: a whole table asks frames of its own owner.",
+        pace: "",
+        trace: "xen-pv-trace 1\nframes 16\ndomain 16\ndomain 16\npriv 0 1\nvcpu 0\nvcpu 1\nvcpu 1\nown 0 0 4\nown 1 4 8\nop 0 ext 0 1 0\nop 0 mmu 0x1 0x1000 0x5003\nop 0 ext 4 1 0\nop 0 ext 0 1 0\nturn 0 4\nend\n",
+        lines: "op 3 ok done 1 value 0x0\nop 4 refused 2 done 0 WrongOwner frame=5 found=d1,1,a\n",
+    },
+    Example {
+        shows: "A system domain's number is that of no domain.",
+        pace: "",
+        trace: "xen-pv-trace 1\nframes 16\ndomain 16\nvcpu 0\nown 0 0 8\nop 0 mmu 0x7ff1 0x1 1\nturn 0 1\nend\n",
+        lines: "op 1 refused 13 done 0 NoDomain\n",
+    },
 ];
 
 // The report of that example.
@@ -125,7 +167,7 @@ fn report(rt: &(impl Abort + AllocGlobal), example: &Example) -> Vec<u8> {
 }
 
 #[test]
-fn each_pin_and_unpin_is_reported_with_what_it_leaves(rt: HostRuntime) {
+fn each_example_is_reported_with_what_it_leaves(rt: HostRuntime) {
     for example in EXAMPLES.iter() {
         let text = report(&rt, example);
         let text = str::from_utf8(&text).expect(&rt, "a text");

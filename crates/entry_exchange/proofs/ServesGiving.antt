@@ -1,0 +1,125 @@
+-- What an entry asks is given back or released, and the lock goes off: what a guest sees of it.
+use Rattle.std.proofs.Common.{◌≡◌, ◌⊎◌, ℕ, ◌+◌, ◌==◌, Bool, true, false, List, [], ◌∷◌, ◌++◌, Option, Some, None, IsTrue, Result, Ok, Err, IfErr, refl, sym, ap, ◌∙◌, subst, inl, inr}
+use Rattle.xp_words.specs.KindWords.{kind_write}
+use Rattle.xp_words.specs.Machine.{Machine}
+use Rattle.xp_words.specs.declared.entry.Demand.{Demand}
+use Rattle.xp_words.specs.declared.entry.Demand.TheVariants.{Read, Typed}
+use Rattle.xp_words.specs.declared.kind.KindWord.{KindWord}
+use Rattle.xp_words.specs.declared.kind.PageType.{PageType}
+use Rattle.xp_words.specs.declared.place.Place.TheVariants.{Kind}
+use Rattle.xp_words.specs.declared.reply.Pause.TheVariants.{Due}
+use Rattle.xp_words.specs.declared.reply.Stop.{Stop}
+use Rattle.xp_words.specs.declared.reply.Stop.TheVariants.{Paused}
+use Rattle.xp_board.specs.declared.step.Act.TheVariants.{Store}
+use Rattle.xp_board.specs.declared.step.StepKind.TheVariants as kinds
+use Rattle.xp_board.specs.Readings.{is_partial}
+use Rattle.xp_board.specs.Told.{Post, PortValue}
+use Rattle.board_lemmas.proofs.Sums.{when_eq}
+use Rattle.step_maker.specs.Moves.{Came, Met, Moment, Moves}
+use Rattle.step_maker.proofs.Coming.{came_post}
+use Rattle.answer_fits.specs.Answers.{Deed, Misses, Serves, misses}
+use Rattle.answer_fits.specs.Asked.{Asked, IsAsked, Request, Within, back, context, demanded, entered, named, of, of_back, of_old, walked}
+use Rattle.answer_fits.specs.Finding.{Finding}
+use Rattle.answer_fits.proofs.Piecing.{serves_back, serves_came, serves_nothing, serves_step, serves_then, serves_within, within_back}
+use Rattle.kept_marks.specs.Marks.{IsForeign, ServesKept, ServesMark}
+use Rattle.kept_marks.proofs.Serving.{asked_later, left_serves}
+use Rattle.kind_words.specs.Kinds.{MayLeave}
+use Rattle.level_release.specs.Asking.{is_due_answer, of_release}
+use Rattle.table_words.specs.OldWords.{old_place}
+use Rattle.table_words.specs.declared.old_words.OldWord.TheVariants.{Second}
+use Rattle.entry_exchange.specs.Serving.{AsksDemand, ServesBehind, ServesGiven, ServesTable, of_given}
+
+-- ---- behind any piece that asks the frame
+-- a call that gives it back
+pub behind_back : (v w : PortValue) (f : ℕ) → Serves v w (of_back f) [] → ServesTable v w f
+behind_back v w f gives u r ds before asked locks =
+    record {
+      more = [];
+      hidden = inl refl;
+      serves = serves_back u v w r ds [] before f (asked_later u v w r f (serves_came v w (of_back f) [] gives) asked) gives;
+    }
+
+-- two of them
+pub back_twice : (v u w : PortValue) (f : ℕ) → Serves v u (of_back f) [] → Serves u w (of_back f) [] → Serves v w (of_back f) []
+back_twice v u w f one two = serves_then v u w (of_back f) [] [] one two
+
+-- and one that leaves it with its mark
+pub behind_kept : (v a w : PortValue) (f owner : ℕ) → Serves v a (of_back f) [] → ServesKept a w f owner → ServesTable v w f
+behind_kept v a w f owner gives kept u r ds before asked locks =
+    let came = serves_came v a (of_back f) [] gives in
+    let later = asked_later u v a r f came asked in
+    let there = serves_back u v a r ds [] before f later gives in
+    let marked = kept u r ds there later (λ foreign. locks) in
+    record { more = marked.more; hidden = seen u marked.more marked.hidden; serves = marked.serves }
+  where
+    seen : (u : PortValue) (more : List Deed) → (more ≡ []) ⊎ (IsForeign u owner × (more ≡ Misses (Kind f) ∷ [])) → (more ≡ []) ⊎ ((g : ℕ) × (more ≡ Misses (Kind g) ∷ []))
+    seen u more (inl none) = inl none
+    seen u more (inr one) = inr (f, one.1)
+
+-- nothing was asked
+pub behind_nothing : (v : PortValue) (d : Demand) → ServesGiven v v d
+behind_nothing v d u r ds before asked locks = record { more = []; hidden = inl refl; serves = before }
+
+-- ---- released
+module _ (n : Machine) (s : ℕ) (r : Request) (F : Finding) where
+  abbrev risen : Request
+  risen = record r { rose = true }
+
+  asked_risen : (g o : ℕ) (k : Option PageType) → Asked n s r F g o k → Asked n s risen F g o k
+  asked_risen g o k (named a b c) = named a b c
+  asked_risen g o k (demanded t i w h e a b c) = demanded t i w h e a b c
+  asked_risen g o k (walked t i w x a b c d) = walked t i w x a b c d
+  asked_risen g o k (context v j w x a b c d e i) = context v j w x a b c d e i
+  asked_risen g o k (entered t i w l m a b c d e j x y) = entered t i w l m a b c d e j x y
+  asked_risen g o k (of_old v j w y a b c d e i l x z) = of_old v j w y a b c d e i l x z
+
+  within_risen : Within n s r F risen F
+  within_risen =
+      record {
+        asked = asked_risen;
+        backs = λ g a. back a;
+        moments = λ m a. a;
+        returns = λ a. a;
+        by_numbers = λ x a. a;
+        index = λ x a. a;
+        new_word = λ x a. a;
+        walks = λ a. a;
+        flushes = λ a. a;
+        destroys = λ x a. a;
+        pages = λ x a. a;
+        block = λ x a. a;
+        rose = λ a. refl;
+        entries = λ a. a;
+        contexts = λ a. a;
+        locks = λ a. a;
+        pins = λ a. a;
+        alone = λ a. a;
+        names = λ a f b. b;
+        owner = λ a. refl;
+        over = λ d a. (a, refl);
+        ldt_page = λ x a. a;
+        descriptor = λ x a. a;
+      }
+
+module _ (v w : PortValue) (f owner pages : ℕ) where
+  pub released_ref : Serves v w (of_back f) [] → Serves v w (of_given (Read f) owner pages) []
+  released_ref gives =
+      serves_within v w (of_back f) (of_given (Read f) owner pages) [] (within_back v.post.machine v.post.vcpu f (of_given (Read f) owner pages) (Met v w) (Met v w) (λ m a. a) (back (when_eq f f refl))) gives
+
+  none_missed : (answer : Result (Unit {0}) Stop) → IfErr answer (λ e. e ≡ Paused Due) → misses v.post.machine answer ≡ []
+  none_missed (Ok done) due = refl
+  none_missed (Err e) due = rw due refl
+
+  pub released_typed : (t : PageType) (answer : Result (Unit {0}) Stop) → IfErr answer (λ e. e ≡ Paused Due) → Serves v w (of_release f owner pages answer) (misses v.post.machine answer) → Serves v w (of_given (Typed f t) owner pages) []
+  released_typed t answer due a =
+      serves_within v w (of_release f owner pages answer) (of_given (Typed f t) owner pages) [] (within_risen v.post.machine v.post.vcpu (of_release f owner pages answer) (Met v w))
+      (subst (λ ds. Serves v w (of_release f owner pages answer) ds) (none_missed answer due) a)
+
+-- ---- the lock went off with the last type count
+module _ (v u y w : PortValue) (f : ℕ) (k : KindWord) (may : MayLeave u f k) (partial : IsTrue (is_partial k)) (found : ℕ) (store : Moves u y (Kind f) (Store (kind_write k)) kinds.Kind None found)
+    (names : Moves y w (old_place y.post.vcpu Second) (Store (f + 1)) kinds.Context None 0) where
+  pub named_serves : Serves v u (of_back f) [] → Serves v w (of_back f) []
+  named_serves gives =
+      let before = left_serves u y f k may partial found store v (of_back f) [] gives (back (when_eq f f refl)) in
+      let same : y.post.vcpu ≡ v.post.vcpu = ap (λ (p : Post). p.vcpu) (came_post v y (serves_came v y (of_back f) [] before)) in
+      serves_step v y w (of_back f) [] (old_place y.post.vcpu Second) (Store (f + 1)) kinds.Context None 0 before names (inl (same, inl (λ e. absurd cc)))

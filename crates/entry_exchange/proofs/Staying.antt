@@ -1,0 +1,48 @@
+-- What stays behind steps that change the references in hand alone: that the vCPU may work, the machine, and who may map whose frames.
+use Rattle.std.proofs.Common.{◌≡◌, ◌⊎◌, ℕ, ◌<◌, length, Some, None, IsTrue, refl, sym, ap, ◌∙◌, subst, inl, inr}
+use Rattle.xp_words.specs.Machine.{IsMachine, Machine}
+use Rattle.xp_words.specs.Places.{sizes_of}
+use Rattle.xp_words.specs.declared.place.Place.TheVariants.{Priv}
+use Rattle.xp_board.specs.declared.holdings.Holdings.{Holdings}
+use Rattle.xp_board.specs.Readings.{has_now}
+use Rattle.xp_board.specs.Steps.{some_since}
+use Rattle.xp_board.specs.Told.{Post, PortValue}
+use Rattle.step_maker.specs.Holds.{FlushedHolds, Holds, MayWork, quiet}
+use Rattle.step_maker.specs.Moves.{Came}
+use Rattle.step_maker.proofs.Coming.{came_post}
+use Rattle.flush_words.proofs.Lasting.{came_keeps}
+use Rattle.foreign_map.specs.Owning.{MayMap}
+use Rattle.foreign_map.specs.declared.owners.Owners.{Owners}
+
+-- ---- what is held but for translations
+module _ (v w : PortValue) (h : Holdings) (holds : FlushedHolds v w h) where
+  pub same_post : w.post ≡ v.post
+  same_post = ap (λ (q : PortValue). q.post) holds
+
+  pub may_flushed : h.run ≡ v.holdings.run → h.walk ≡ v.holdings.walk → MayWork v → MayWork w
+  may_flushed run walk may =
+      record {
+        running = ap (λ (q : PortValue). q.holdings.run) holds ∙ run ∙ may.running;
+        no_walk = ap (λ (q : PortValue). q.holdings.walk) holds ∙ walk ∙ may.no_walk;
+        machine = subst (λ (p : Post). IsMachine p.machine) (sym same_post) may.machine;
+      }
+
+-- a hand that is held is held but for translations, too
+pub flushed : (v w : PortValue) (h : Holdings) → Holds v w h → FlushedHolds v w h
+flushed v w h holds = ap quiet holds
+
+-- ---- who may map
+pub may_map : (v w : PortValue) (o : Owners) → Came v w → w.holdings.turn ≡ v.holdings.turn → MayMap v o → MayMap w o
+may_map v w o came turn may =
+    record {
+      tables = subst (λ (p : Post). o.tables < length p.machine.page_limit) (sym (came_post v w came)) may.tables;
+      frames = subst (λ (p : Post). o.frames < length p.machine.page_limit) (sym (came_post v w came)) may.frames;
+      over = by_way may.over;
+    }
+  where
+    by_way : (o.frames ≡ o.tables) ⊎ IsTrue (some_since (sizes_of v.post.machine) v.holdings.turn (Priv o.tables) (has_now o.frames) v.holdings.steps) →
+        (o.frames ≡ o.tables) ⊎ IsTrue (some_since (sizes_of w.post.machine) w.holdings.turn (Priv o.tables) (has_now o.frames) w.holdings.steps)
+    by_way (inl same) = inl same
+    by_way (inr over) =
+        inr (subst (λ (p : Post). IsTrue (some_since (sizes_of p.machine) w.holdings.turn (Priv o.tables) (has_now o.frames) w.holdings.steps)) (sym (came_post v w came))
+        (subst (λ k. IsTrue (some_since (sizes_of v.post.machine) k (Priv o.tables) (has_now o.frames) w.holdings.steps)) (sym turn) (came_keeps v w _ came over)))

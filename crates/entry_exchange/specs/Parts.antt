@@ -1,0 +1,107 @@
+-- The parts of an exchange: what each needs, and what it leaves in hand.
+use Rattle.std.specs.Prelude.{◌≡◌, ℕ, ◌-◌, ◌<◌, ◌≤◌, Bool, true, false, List, [], ◌∷◌, Option, Some, None, Result, Ok, Err}
+use Rattle.xp_words.specs.Entries.{below, demand_at}
+use Rattle.xp_words.specs.Machine.{Machine}
+use Rattle.xp_words.specs.declared.entry.Demand.{Demand}
+use Rattle.xp_words.specs.declared.entry.Demand.TheVariants as demands
+use Rattle.xp_words.specs.declared.kind.PageType.{PageType}
+use Rattle.xp_words.specs.declared.reply.Stop.{Stop}
+use Rattle.xp_board.specs.declared.holdings.Holdings.{Holdings}
+use Rattle.xp_board.specs.declared.holdings.Lock.{Lock}
+use Rattle.xp_board.specs.declared.holdings.OwnerFound.TheVariants as owners
+use Rattle.xp_board.specs.declared.holdings.Reference.{Reference}
+use Rattle.xp_board.specs.Hands.{lock_on}
+use Rattle.xp_board.specs.KindSteps.{live_typed}
+use Rattle.xp_board.specs.Settling.{demand_out}
+use Rattle.xp_board.specs.Told.{PortValue}
+use Rattle.step_maker.specs.Holds.{Holds}
+use Rattle.entry_locks.specs.Entries.{entry_set, entry_unset}
+use Rattle.frame_types.specs.Lowering.{DropsType}
+use Rattle.kept_marks.specs.Marks.{KeptFor}
+use Rattle.kind_words.specs.Kinds.{partial_kind}
+use Rattle.level_release.specs.Course.{WithGate}
+use Rattle.level_release.specs.Holding.{HoldsLive}
+use Rattle.level_validate.specs.Tables.{IsIdle}
+use Rattle.partial_state.specs.Levels.{level_type}
+use Rattle.table_courses.specs.Acquiring.{GaveRef}
+use Rattle.entry_exchange.specs.declared.exchanging.EntryUpdate.{EntryUpdate}
+use Rattle.foreign_map.specs.declared.owners.Owners.{Owners}
+use Rattle.entry_exchange.specs.Course.{Exchanged, ReleasedDemand, SawEntry, TookDemand}
+use Rattle.entry_exchange.specs.Holding.{HoldsTableLock}
+
+-- ---- demands
+-- the machine has the frame that it names
+abbrev pub IsInside : Machine → Demand → Type 0
+IsInside n (demands.Read g) = g < n.frames
+IsInside n (demands.Typed g t) = g < n.frames
+IsInside n _ = Unit {0}
+
+-- an entry of a table of that level may ask it
+abbrev pub IsOfLevel : ℕ → Demand → Type 0
+IsOfLevel level demands.Nothing = Unit {0}
+IsOfLevel level demands.Bad = ⊥
+IsOfLevel level (demands.Read g) = Unit {0}
+IsOfLevel level (demands.Typed g t) = t ≡ below (level_type level)
+
+-- ---- what is in hand of a demand
+-- a typed reference to that frame, known live as that type and that domain's, is the only one; no frame is in work, and no look unfinished
+pub record HoldsTyped (v : PortValue) (f : ℕ) (kind : PageType) (owner : ℕ) : Type 0 where
+  pub works : v.holdings.works ≡ []
+  pub looking : v.holdings.looking ≡ []
+  pub typed : v.holdings.typed ≡ live_typed f kind (owners.Of owner) ∷ []
+
+-- an untyped one to that frame is the newest
+pub record HoldsRef (v : PortValue) (f : ℕ) : Type 0 where
+  pub works : v.holdings.works ≡ []
+  pub reference : Reference
+  pub others : List Reference
+  pub refs : v.holdings.refs ≡ reference ∷ others
+  pub here : reference.frame ≡ f
+
+-- as it was taken of that owner
+abbrev pub HoldsTaken : PortValue → Demand → ℕ → Type 0
+HoldsTaken v (demands.Read g) owner = HoldsRef v g
+HoldsTaken v (demands.Typed g t) owner = HoldsTyped v g t owner
+HoldsTaken v _ owner = Unit {0}
+
+-- as an entry had it
+abbrev pub HoldsFreed : PortValue → Demand → Type 0
+HoldsFreed v (demands.Read g) = HoldsRef v g
+HoldsFreed v (demands.Typed g t) = HoldsLive v g t
+HoldsFreed v _ = Unit {0}
+
+-- it is gone; the first old word may have it
+abbrev pub LeavesGone : PortValue → PortValue → Demand → Type 0
+LeavesGone v w d = (a : Option ℕ) × Holds v w (record (demand_out d v.holdings) { old0 = a })
+
+abbrev pub LeavesUntyped : PortValue → PortValue → Type 0
+LeavesUntyped v w = (a : Option ℕ) × Holds v w (record v.holdings { typed = []; old0 = a })
+
+-- the entry has the new word, or is as it was found
+abbrev pub LeavesPut : PortValue → PortValue → ℕ → ℕ → ℕ → Result ℕ Stop → Type 0
+LeavesPut v w f i new (Ok old) = Holds v w (entry_set f i new old v.holdings)
+LeavesPut v w f i new (Err e) = (found : ℕ) × Holds v w (entry_unset f i found v.holdings)
+
+-- what the old word asks of a table under the own lock is a frame of the machine
+abbrev pub WasInside : PortValue → ℕ → ℕ → ℕ → Type 0
+WasInside v f i old = (e : Lock) → lock_on f v.holdings.locks ≡ Some e → IsInside v.post.machine (demand_at e.kind i old)
+
+-- ---- the table under the lock, whose entry was seen
+pub record HoldsSeen (v : PortValue) (f level owner i word : ℕ) : Type 0 where
+  pub holds : HoldsTableLock v f level owner
+  pub seen : holds.lock.seen ≡ Some (record { index = i; word = word })
+
+-- behind any port in which the lock was in hand, and from which the entry was seen
+abbrev pub BehindLook : PortValue → EntryUpdate → Owners → ℕ → (PortValue → Type 0) → Type 0
+BehindLook v x o seen P = (a : PortValue) → HoldsTableLock a x.table x.level o.tables → SawEntry a v x.table x.index seen → P a
+
+-- ---- courses
+pub data GaveTable (v : PortValue) (f level owner : ℕ) : PortValue → Type 0 where
+  shared : (u w : PortValue) → DropsType v u f false → GaveRef u w f → GaveTable v f level owner w
+  last : (u w : PortValue) → DropsType v u f true → KeptFor u w f (partial_kind (level_type level) true false 512 0) owner → GaveTable v f level owner w
+
+abbrev pub TakesBy : PortValue → PortValue → ℕ → ℕ → Demand → (ℕ → Bool) → ℕ → ℕ → ℕ → ℕ → Result (Unit {0}) Stop → Type 0
+TakesBy v w owner level d says before after yes_before yes_after answer = WithGate (λ answers. TookDemand owner level v d w answers answer) says before after yes_before yes_after answer
+
+abbrev pub ReleasesBy : PortValue → PortValue → Demand → (ℕ → Bool) → ℕ → ℕ → ℕ → ℕ → Type 0
+ReleasesBy v w d says before after yes_before yes_after = WithGate (λ answers. ReleasedDemand v d w answers) says before after yes_before yes_after (Ok tt)

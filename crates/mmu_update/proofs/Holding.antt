@@ -1,0 +1,187 @@
+-- What is in hand between the calls of a write, and that nothing is behind it.
+use Rattle.std.proofs.Common.{◌≡◌, ◌⊎◌, ℕ, ◌+◌, ◌<◌, Bool, List, [], ◌∷◌, length, Option, Some, None, IsTrue, refl, sym, ap, ◌∙◌, subst, inl, inr}
+use Rattle.xp_words.specs.Machine.{IsMachine}
+use Rattle.xp_words.specs.Places.{sizes_of}
+use Rattle.xp_words.specs.declared.kind.PageType.TheVariants.{Writable}
+use Rattle.xp_words.specs.declared.place.Place.TheVariants.{Priv}
+use Rattle.xp_board.specs.declared.holdings.Claimed.{Claimed}
+use Rattle.xp_board.specs.declared.holdings.Ending.{Ending}
+use Rattle.xp_board.specs.declared.holdings.Holdings.{Holdings}
+use Rattle.xp_board.specs.declared.holdings.Lock.{Lock}
+use Rattle.xp_board.specs.declared.holdings.Made.{Made}
+use Rattle.xp_board.specs.declared.holdings.OwnerFound.TheVariants as owners
+use Rattle.xp_board.specs.declared.holdings.Reference.{Reference}
+use Rattle.xp_board.specs.declared.holdings.TypedReference.{TypedReference}
+use Rattle.xp_board.specs.declared.holdings.Work.{Work}
+use Rattle.xp_board.specs.Hands.{claim_of, ending_of, lock_on, typed_to, without_ref, work_on}
+use Rattle.xp_board.specs.KindSteps.{live_typed}
+use Rattle.xp_board.specs.Lists.{first_by, times_by}
+use Rattle.xp_board.specs.Readings.{has_now}
+use Rattle.xp_board.specs.Steps.{some_since, some_step}
+use Rattle.xp_board.specs.Told.{Post, PortValue}
+use Rattle.step_maker.specs.Holds.{FlushedHolds, FlushedSame, Holds, MayWork, Rests, Same, quiet, still}
+use Rattle.step_maker.specs.Moves.{Came, Moment, Ran}
+use Rattle.step_maker.proofs.Coming.{came_post}
+use Rattle.step_maker.proofs.Noting.{moves_keeps}
+use Rattle.frame_words.specs.Cells.{IsApart, MayStoreCell}
+use Rattle.frame_words.specs.Freeing.{gave}
+use Rattle.frame_words.specs.Refs.{took}
+use Rattle.frame_words.proofs.CellSteps.{writes_live}
+use Rattle.frame_words.proofs.Putting.{without_newest}
+use Rattle.frame_types.specs.Taking.{LentBy, MayDropPlain, gave_type, typed_as}
+use Rattle.foreign_map.specs.Owning.{MayMap}
+use Rattle.foreign_map.specs.declared.owners.Owners.{Owners}
+use Rattle.mmu_update.specs.Elements.{LeavesUpdate}
+
+-- ---- nothing is in hand, whatever the old words name
+pub rests_by : (v w : PortValue) (a b : Option ℕ) → Rests v → FlushedHolds v w (record v.holdings { old0 = a; old1 = b }) → Rests w
+rests_by v w a b rests holds =
+    record {
+      may = record {
+        running = ap (λ (q : PortValue). q.holdings.run) holds ∙ rests.may.running;
+        no_walk = ap (λ (q : PortValue). q.holdings.walk) holds ∙ rests.may.no_walk;
+        machine = subst (λ (p : Post). IsMachine p.machine) (sym (ap (λ (q : PortValue). q.post) holds)) rests.may.machine;
+      };
+      empty = record {
+        refs = ap (λ (q : PortValue). q.holdings.refs) holds ∙ rests.empty.refs;
+        typed = ap (λ (q : PortValue). q.holdings.typed) holds ∙ rests.empty.typed;
+        works = ap (λ (q : PortValue). q.holdings.works) holds ∙ rests.empty.works;
+        locks = ap (λ (q : PortValue). q.holdings.locks) holds ∙ rests.empty.locks;
+        ending = ap (λ (q : PortValue). q.holdings.ending) holds ∙ rests.empty.ending;
+        claimed = ap (λ (q : PortValue). q.holdings.claimed) holds ∙ rests.empty.claimed;
+        raised = ap (λ (q : PortValue). q.holdings.raised) holds ∙ rests.empty.raised;
+        credits = ap (λ (q : PortValue). q.holdings.credits) holds ∙ rests.empty.credits;
+        looking = ap (λ (q : PortValue). q.holdings.looking) holds ∙ rests.empty.looking;
+      };
+    }
+
+pub leaves_same : (v w : PortValue) → FlushedSame v w → LeavesUpdate v w
+leaves_same v w same = (v.holdings.old0, v.holdings.old1, same)
+
+pub leaves_rests : (v w : PortValue) → Rests v → LeavesUpdate v w → Rests w
+leaves_rests v w rests leaves = rests_by v w leaves.0 leaves.1 rests leaves.2
+
+-- ---- what steps found they still did: who may map whose frames
+ran_keeps : (v w : PortValue) (ms : List Moment) (test : ℕ → Made → Bool) → Ran v ms w → IsTrue (some_step test v.holdings.steps) → IsTrue (some_step test w.holdings.steps)
+ran_keeps v w [] test r h = subst (λ (y : PortValue). IsTrue (some_step test y.holdings.steps)) (sym r) h
+ran_keeps v w (m ∷ ms) test r h = moves_keeps r.0 w m.place m.act m.kind m.mark m.found r.2.moves test (ran_keeps v r.0 ms test r.1 h)
+
+came_keeps : (v w : PortValue) (test : ℕ → Made → Bool) → Came v w → IsTrue (some_step test v.holdings.steps) → IsTrue (some_step test w.holdings.steps)
+unfolding Came
+came_keeps v w test c h = ran_keeps v w c.0 test c.1 h
+
+pub may_map_later : (v w : PortValue) (o : Owners) → Came v w → w.holdings.turn ≡ v.holdings.turn → MayMap v o → MayMap w o
+may_map_later v w o came turn may =
+    record {
+      tables = subst (λ (p : Post). o.tables < length p.machine.page_limit) (sym (came_post v w came)) may.tables;
+      frames = subst (λ (p : Post). o.frames < length p.machine.page_limit) (sym (came_post v w came)) may.frames;
+      over = by_way may.over;
+    }
+  where
+    by_way : (o.frames ≡ o.tables) ⊎ IsTrue (some_since (sizes_of v.post.machine) v.holdings.turn (Priv o.tables) (has_now o.frames) v.holdings.steps) →
+        (o.frames ≡ o.tables) ⊎ IsTrue (some_since (sizes_of w.post.machine) w.holdings.turn (Priv o.tables) (has_now o.frames) w.holdings.steps)
+    by_way (inl same) = inl same
+    by_way (inr over) =
+        inr (subst (λ (p : Post). IsTrue (some_since (sizes_of p.machine) w.holdings.turn (Priv o.tables) (has_now o.frames) w.holdings.steps)) (sym (came_post v w came))
+        (subst (λ k. IsTrue (some_since (sizes_of v.post.machine) k (Priv o.tables) (has_now o.frames) w.holdings.steps)) (sym turn) (came_keeps v w _ came over)))
+
+-- ---- the frame is in none of the own lists
+none_on : {A : Type 0} (key : A → ℕ) (f : ℕ) (xs : List A) → xs ≡ [] → first_by key f xs ≡ None
+unfolding first_by
+none_on key f xs e = ap (λ ys. first_by key f ys) e
+
+none_to : {A : Type 0} (key : A → ℕ) (f : ℕ) (xs : List A) → xs ≡ [] → times_by key f xs ≡ 0
+unfolding times_by
+none_to key f xs e = ap (λ ys. times_by key f ys) e
+
+-- ---- from a port at rest, with a reference to the frame
+module _ (b v : PortValue) (f d : ℕ) (rests : Rests b) (takes : Holds b v (took f d b.holdings)) where
+  pub same_post : v.post ≡ b.post
+  same_post = ap (λ (q : PortValue). q.post) takes
+
+  pub may_work : MayWork v
+  may_work =
+      record {
+        running = ap (λ (q : PortValue). q.holdings.run) takes ∙ rests.may.running;
+        no_walk = ap (λ (q : PortValue). q.holdings.walk) takes ∙ rests.may.no_walk;
+        machine = subst (λ (p : Post). IsMachine p.machine) (sym same_post) rests.may.machine;
+      }
+
+  pub lent_by : LentBy f d v.holdings
+  lent_by = record { others = b.holdings.refs; refs = ap (λ (q : PortValue). q.holdings.refs) takes }
+
+  pub no_work : work_on f v.holdings.works ≡ None
+  no_work = none_on (λ (y : Work). y.frame) f v.holdings.works (ap (λ (q : PortValue). q.holdings.works) takes ∙ rests.empty.works)
+
+  pub no_lock : lock_on f v.holdings.locks ≡ None
+  no_lock = none_on (λ (y : Lock). y.frame) f v.holdings.locks (ap (λ (q : PortValue). q.holdings.locks) takes ∙ rests.empty.locks)
+
+  pub no_ending : ending_of f v.holdings.ending ≡ None
+  no_ending = none_on (λ (y : Ending). y.frame) f v.holdings.ending (ap (λ (q : PortValue). q.holdings.ending) takes ∙ rests.empty.ending)
+
+  pub no_type : typed_to f v.holdings.typed ≡ 0
+  no_type = none_to (λ (y : TypedReference). y.frame) f v.holdings.typed (ap (λ (q : PortValue). q.holdings.typed) takes ∙ rests.empty.typed)
+
+  pub no_look : v.holdings.looking ≡ []
+  no_look = ap (λ (q : PortValue). q.holdings.looking) takes ∙ rests.empty.looking
+
+  abbrev lent_ref : Reference
+  lent_ref = record { frame = f; owner = owners.Of d }
+
+  pub ref_gone : without_ref f (lent_ref ∷ b.holdings.refs) ≡ b.holdings.refs
+  ref_gone = without_newest (λ (e : Reference). e.frame) f lent_ref b.holdings.refs refl
+
+  -- the reference was given back; the first old word may have it
+  pub given_up : (w : PortValue) → FlushedHolds v w (gave f v.holdings) → LeavesUpdate b w
+  given_up w gives =
+      leaves_same b w
+      (gives ∙ ap (λ (q : PortValue). quiet (record q { holdings = gave f q.holdings })) takes ∙ ap (λ (rs : List Reference). quiet (record b { holdings = record b.holdings { refs = rs } })) ref_gone)
+
+  pub given_to_old : (w : PortValue) → FlushedHolds v w (record (gave f v.holdings) { old0 = Some (f + 1) }) → LeavesUpdate b w
+  given_to_old w gives = (
+    Some (f + 1),
+    b.holdings.old1,
+    gives ∙ ap (λ (q : PortValue). quiet (record q { holdings = record (gave f q.holdings) { old0 = Some (f + 1) } })) takes
+    ∙ ap (λ (rs : List Reference). quiet (record b { holdings = record b.holdings { refs = rs; old0 = Some (f + 1) } })) ref_gone,
+  )
+
+  -- it became a typed one
+  module _ (x : PortValue) (typed : FlushedHolds v x (typed_as f d Writable v.holdings)) where
+    whole : FlushedHolds b x (typed_as f d Writable (took f d b.holdings))
+    whole = typed ∙ ap (λ (q : PortValue). quiet (record q { holdings = typed_as f d Writable q.holdings })) takes
+
+    pub typed_post : x.post ≡ b.post
+    typed_post = ap (λ (q : PortValue). q.post) whole
+
+    pub typed_work : MayWork x
+    typed_work =
+        record {
+          running = ap (λ (q : PortValue). q.holdings.run) whole ∙ rests.may.running;
+          no_walk = ap (λ (q : PortValue). q.holdings.walk) whole ∙ rests.may.no_walk;
+          machine = subst (λ (p : Post). IsMachine p.machine) (sym typed_post) rests.may.machine;
+        }
+
+    apart : IsApart f x.holdings
+    apart =
+        record {
+          works = none_on (λ (y : Work). y.frame) f x.holdings.works (ap (λ (q : PortValue). q.holdings.works) whole ∙ rests.empty.works);
+          locks = none_on (λ (y : Lock). y.frame) f x.holdings.locks (ap (λ (q : PortValue). q.holdings.locks) whole ∙ rests.empty.locks);
+          claimed = none_on (λ (y : Claimed). y.frame) f x.holdings.claimed (ap (λ (q : PortValue). q.holdings.claimed) whole ∙ rests.empty.claimed);
+        }
+
+    pub may_write : MayStoreCell x.post.machine f x.holdings
+    may_write = writes_live x f (owners.Of d) b.holdings.typed (ap (λ (q : PortValue). q.holdings.typed) whole) apart
+
+    -- and was given back
+    pub given_back : (y z : PortValue) → Same x y → Holds y z (gave_type f y.holdings) → LeavesUpdate b z
+    given_back y z same drops =
+        leaves_same b z
+        (ap quiet drops
+        ∙ ap (λ (q : PortValue). quiet (record q { holdings = gave_type f q.holdings })) (ap quiet same ∙ whole)
+        ∙ ap (λ (rs : List Reference). quiet (record b { holdings = gave_type f (record (typed_as f d Writable b.holdings) { refs = rs }) })) ref_gone
+        ∙ ap (λ (ts : List TypedReference). quiet (record b { holdings = record b.holdings { typed = ts } })) (without_newest (λ (e : TypedReference). e.frame) f (live_typed f Writable (owners.Of d)) b.holdings.typed refl))
+
+pub may_drop : (b v x y : PortValue) (f d : ℕ) → Rests b → Holds b v (took f d b.holdings) → FlushedHolds v x (typed_as f d Writable v.holdings) → Same x y → MayDropPlain y.post.machine f Writable y.holdings
+may_drop b v x y f d rests takes typed same =
+    let m = may_write b v f d rests takes y (ap quiet same ∙ typed) in
+    record { held = m.held; live = m.live; plain = refl; apart = m.apart.works }

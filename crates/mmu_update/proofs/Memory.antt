@@ -1,0 +1,88 @@
+-- A word of ordinary memory, from before the reference on.
+use Rattle.std.proofs.Common.{◌≡◌, ℕ, Bool, false, [], None, Result, Ok, Err, IfErr, refl, ◌∙◌, inl, inr}
+use Rattle.xp_words.specs.declared.kind.PageType.TheVariants.{Writable}
+use Rattle.xp_words.specs.declared.place.Place.TheVariants.{Cell}
+use Rattle.xp_words.specs.declared.reply.Pause.TheVariants as pauses
+use Rattle.xp_words.specs.declared.reply.Refusal.TheVariants as refusals
+use Rattle.xp_words.specs.declared.reply.Stop.{Stop}
+use Rattle.xp_words.specs.declared.reply.Stop.TheVariants.{Refused, Paused}
+use Rattle.xp_board.specs.declared.step.Act.TheVariants.{Store}
+use Rattle.xp_board.specs.declared.step.StepKind.TheVariants as kinds
+use Rattle.xp_board.specs.Told.{PortValue}
+use Rattle.step_maker.specs.Holds.{FlushedHolds, Holds, Same}
+use Rattle.step_maker.specs.Moves.{Moves}
+use Rattle.answer_fits.specs.Answers.{Serves, Stops}
+use Rattle.answer_fits.specs.Asked.{of_back}
+use Rattle.foreign_map.specs.declared.owners.Owners.{Owners}
+use Rattle.frame_words.specs.Refs.{took}
+use Rattle.frame_types.specs.Found.{DropsPlain}
+use Rattle.frame_types.specs.Taking.{IsTypeStop, gave_type, typed_as}
+use Rattle.frame_types.proofs.Serving.{type_uncounted}
+use Rattle.level_release.specs.Asking.{is_due_answer}
+use Rattle.writable_pages.specs.Pages.{LeavesPage, ServesPage, TookPage, of_page}
+use Rattle.mmu_update.specs.Course as courses
+use Rattle.mmu_update.specs.Elements.{IsWriteStop, LeavesUpdate}
+use Rattle.mmu_update.specs.Fits.{Updates}
+use Rattle.mmu_update.specs.Writing.{Ordinary}
+use Rattle.mmu_update.specs.declared.element.Element.TheVariants.{Write}
+use Rattle.mmu_update.proofs.Holding.{given_back, given_to_old, given_up, leaves_rests, may_write}
+use Rattle.mmu_update.proofs.Serving.{asks, locked_serves, stored_serves, untaken_serves, untaken_stops}
+
+type_kinds : (e : Stop) → IsTypeStop e → IsWriteStop e
+type_kinds (Refused (refusals.OtherType f want x)) is = tt
+type_kinds (Refused (refusals.Clock x)) is = tt
+type_kinds (Paused (pauses.Lost place e x)) is = tt
+type_kinds (Paused (pauses.Busy f x)) is = tt
+type_kinds (Paused (pauses.Flush v stamp x)) is = tt
+type_kinds _ is = absurd is
+
+-- a type that is not to be had is no pause for the gate
+pub type_undue : (answer : Result (Unit {0}) Stop) → IfErr answer IsTypeStop → is_due_answer answer ≡ false
+type_undue (Ok done) is = refl
+type_undue (Err (Refused x)) is = refl
+type_undue (Err (Paused (pauses.Lost place e x))) is = refl
+type_undue (Err (Paused (pauses.Busy f x))) is = refl
+type_undue (Err (Paused (pauses.Flush v stamp x))) is = refl
+type_undue (Err (Paused _)) is = absurd is
+
+module _ (b v : PortValue) (o : Owners) (f i word : ℕ) (keep : Bool) (a : Ordinary b v o f) where
+  pub takes : Holds b v (took f o.tables b.holdings)
+  takes = a.same ∙ a.referred.hand
+
+  before : (answer : Result (Unit {0}) Stop) → Serves b v (asks o f i word keep answer) []
+  before answer = locked_serves o f i word keep answer b a.at v [] a.referred.serves a.serves
+
+  page_hand : (x : PortValue) (e : Stop) → LeavesPage v x f o.tables (Err e) → LeavesUpdate b x
+  page_hand x (Refused r) leaves = given_up b v f o.tables a.referred.begins.rests takes x leaves
+  page_hand x (Paused p) (inl leaves) = given_up b v f o.tables a.referred.begins.rests takes x leaves
+  page_hand x (Paused p) (inr leaves) = given_to_old b v f o.tables a.referred.begins.rests takes x leaves.1
+
+  pub untaken : (x : PortValue) (e : Stop) → ServesPage {A = Unit {0}} v x f o.tables (Err e) → Stops v x (of_page v f o.tables) e → IsTypeStop e → LeavesPage v x f o.tables (Err e) → TookPage v f o.tables x (Err e) →
+      Updates o (Write f i word keep) b x [] (Err e)
+  untaken x e page why kind leaves taken =
+      record {
+        serves = untaken_serves o f i word keep e b v x (before (Err e)) page;
+        stops = untaken_stops o f i word keep e b v x (before (Err e)) (type_uncounted e kind) why;
+        kinds = type_kinds e kind;
+        numbers = λ y is. absurd cc;
+        hand = page_hand x e leaves;
+        rests = leaves_rests b x a.referred.begins.rests (page_hand x e leaves);
+        course = courses.untaken a.at v x a.found e a.referred.got a.tried taken;
+      }
+
+  module _ (x y z : PortValue) (found : ℕ) (page : ServesPage {A = Unit {0}} v x f o.tables (Ok tt)) (typed : FlushedHolds v x (typed_as f o.tables Writable v.holdings)) (same : Same x y)
+      (gives : Holds y z (gave_type f y.holdings)) where
+    stored_hand : LeavesUpdate b z
+    stored_hand = given_back b v f o.tables a.referred.begins.rests takes x typed y z same gives
+
+    pub stored : TookPage v f o.tables x (Ok tt) → Moves x y (Cell f i) (Store word) kinds.Cell None found → Serves y z (of_back f) [] → DropsPlain y z f Writable → Updates o (Write f i word keep) b z [] (Ok tt)
+    stored taken made back drops =
+        record {
+          serves = stored_serves o f i word keep b v x y z found (before (Ok tt)) page (may_write b v f o.tables a.referred.begins.rests takes x typed).apart made back;
+          stops = tt;
+          kinds = tt;
+          numbers = λ y is. absurd cc;
+          hand = stored_hand;
+          rests = leaves_rests b z a.referred.begins.rests stored_hand;
+          course = courses.stored a.at v x y z a.found found a.referred.got a.tried taken made drops;
+        }

@@ -1,0 +1,126 @@
+-- The steps of a write, one call behind the other: what a guest sees of them, and why it stops.
+use Rattle.std.proofs.Common.{◌≡◌, ℕ, Bool, true, false, List, [], ◌∷◌, ◌++◌, Option, None, Some, Result, Ok, Err, refl, sym, ◌∙◌, ap, subst, append-nil, inl, inr, ◌⊎◌}
+use Rattle.xp_words.specs.declared.kind.PageType.{PageType}
+use Rattle.xp_words.specs.declared.kind.PageType.TheVariants.{Writable}
+use Rattle.xp_words.specs.declared.place.Place.TheVariants.{Cell, Kind}
+use Rattle.xp_words.specs.declared.reply.Stop.{Stop}
+use Rattle.xp_words.specs.declared.reply.Stop.TheVariants.{Refused, Paused}
+use Rattle.xp_board.specs.declared.holdings.Holdings.{Holdings}
+use Rattle.xp_board.specs.declared.step.Act.TheVariants.{Store}
+use Rattle.xp_board.specs.declared.step.StepKind.TheVariants as kinds
+use Rattle.xp_board.specs.Told.{Post, PortValue}
+use Rattle.step_maker.specs.Moves.{Came, Met, Moves}
+use Rattle.step_maker.proofs.Coming.{came_post, came_trans, met_after}
+use Rattle.answer_fits.specs.Answers.{Deed, Misses, Serves, Stops, Writes, deeds_by, missed}
+use Rattle.answer_fits.specs.Asked.{IsFor, Request, of_back, of_frame}
+use Rattle.answer_fits.proofs.Later.{IsUncounted, stops_later}
+use Rattle.answer_fits.proofs.Piecing.{serves_back, serves_came, serves_inner, serves_step, serves_within, stops_before, stops_within}
+use Rattle.entry_exchange.specs.Asking.{IsHidden}
+use Rattle.entry_locks.specs.Locks.{of_lock}
+use Rattle.foreign_map.specs.declared.owners.Owners.{Owners}
+use Rattle.frame_words.specs.Cells.{IsApart}
+use Rattle.writable_pages.specs.Pages.{HidesMark, ServesPage, of_page}
+use Rattle.mmu_update.specs.Elements.{HasUpdateDeeds, ServesUpdate, stopped, stored, update_request}
+use Rattle.mmu_update.specs.declared.element.Element.TheVariants.{Write}
+use Rattle.mmu_update.proofs.Asking.{names_frame, of_call, within_call}
+
+-- ---- what a guest sees of one that is stopped: the exchange that was lost, and perhaps a hidden one
+pub hides_nothing : (e : Stop) → IsHidden e []
+hides_nothing (Refused x) = refl
+hides_nothing (Paused x) = inl refl
+
+pub hides_mark : (v : PortValue) (f d : ℕ) (e : Stop) (hidden : List Deed) → (hidden ≡ []) ⊎ (HidesMark {A = Unit {0}} v d (Err e) × (hidden ≡ Misses (Kind f) ∷ [])) → IsHidden e hidden
+hides_mark v f d (Refused x) hidden (inl none) = none
+hides_mark v f d (Refused x) hidden (inr mark) = absurd mark.0
+hides_mark v f d (Paused x) hidden (inl none) = inl none
+hides_mark v f d (Paused x) hidden (inr mark) = inr (f, mark.1)
+
+-- of one that is done it sees nothing
+shows_nothing : (v : PortValue) (f d : ℕ) (hidden : List Deed) → (hidden ≡ []) ⊎ (HidesMark {A = Unit {0}} v d (Ok tt) × (hidden ≡ Misses (Kind f) ∷ [])) → hidden ++ [] ≡ []
+shows_nothing v f d hidden (inl none) = append-nil hidden ∙ none
+shows_nothing v f d hidden (inr mark) = absurd mark.0
+
+-- a store in a frame that the vCPU does not work on is a deed
+store_deed : (f i word found : ℕ) (h : Holdings) → IsApart f h → deeds_by (Cell f i) (Store word) kinds.Cell found h ≡ Writes f i word ∷ []
+store_deed f i word found h apart = rw (apart.locks, apart.works, apart.claimed) refl
+
+module _ (o : Owners) (f i word : ℕ) (keep : Bool) (answer : Result (Unit {0}) Stop) where
+  abbrev pub asks : Request
+  asks = update_request o (Write f i word keep) answer
+
+  -- ---- the first call
+  pub referred_serves : (b v : PortValue) (ds : List Deed) → Serves b v (of_frame f o.tables None) ds → Serves b v asks ds
+  referred_serves b v ds a = serves_within b v (of_frame f o.tables None) asks ds (within_call b.post.machine b.post.vcpu o f i word keep answer (Met b v) (Met b v) (λ m x. x) None false tt) a
+
+  pub referred_stops : (b v : PortValue) (e : Stop) → Stops b v (of_frame f o.tables None) e → Stops b v asks e
+  referred_stops b v e a = stops_within b v (of_frame f o.tables None) asks e (within_call b.post.machine b.post.vcpu o f i word keep answer (Met b v) (Met b v) (λ m x. x) None false tt) a
+
+  -- ---- one behind it
+  module _ (b v : PortValue) (ds : List Deed) (before : Serves b v asks ds) where
+    came : Came b v
+    came = serves_came b v asks ds before
+
+    pub behind : (w : PortValue) (want : Option PageType) (marks : Bool) (es : List Deed) → IsFor want (Some Writable) → Serves v w (of_call o f want marks) es → Serves b w asks (es ++ ds)
+    behind w want marks es is a =
+        serves_inner b v w asks (of_call o f want marks) ds es
+        (within_call b.post.machine b.post.vcpu o f i word keep answer (Met v w) (Met b w) (λ m x. met_after b v w m came x) want marks is) before a
+
+    pub stops_behind : (w : PortValue) (want : Option PageType) (marks : Bool) (e : Stop) → IsFor want (Some Writable) → IsUncounted e → Stops v w (of_call o f want marks) e → Stops b w asks e
+    stops_behind w want marks e is free a =
+        stops_later b v w asks (of_call o f want marks) e free
+        (within_call b.post.machine b.post.vcpu o f i word keep answer (Met v w) (Met b w) (λ m x. met_after b v w m came x) want marks is) came a
+
+    pub back_behind : (w : PortValue) → Serves v w (of_back f) [] → Serves b w asks ds
+    back_behind w a = serves_back b v w asks ds [] before f (names_frame b.post.machine b.post.vcpu o f i word keep answer (Met b w)) a
+
+  -- ---- the frame is locked, or looked at
+  pub locked_serves : (b u v : PortValue) (ds : List Deed) → Serves b u (of_frame f o.tables None) [] → Serves u v (of_lock f o.tables) ds → Serves b v asks ds
+  locked_serves b u v ds first lock = subst (λ es. Serves b v asks es) (append-nil ds) (behind b u [] (referred_serves b u [] first) v None true ds tt lock)
+
+-- ---- it cannot be locked, and the reference is given back
+module _ (o : Owners) (f i word : ℕ) (keep : Bool) (e : Stop) (b u y : PortValue) (first : Serves b u (of_frame f o.tables None) []) where
+  came_u : Came b u
+  came_u = serves_came b u (of_frame f o.tables None) [] first
+
+  pub unlocked_serves : (w : PortValue) → Serves u y (of_lock f o.tables) (missed u.post.machine e) → Serves y w (of_back f) [] → ServesUpdate b w o (Write f i word keep) (Err e)
+  unlocked_serves w lock back = (
+    missed b.post.machine e,
+    stopped f i word keep e [] (hides_nothing e),
+    back_behind o f i word keep (Err e) b y (missed b.post.machine e)
+        (locked_serves o f i word keep (Err e) b u y (missed b.post.machine e) first (subst (λ (p : Post). Serves u y (of_lock f o.tables) (missed p.machine e)) (came_post b u came_u) lock)) w back,
+  )
+
+  pub unlocked_stops : (w : PortValue) → IsUncounted e → Stops u y (of_lock f o.tables) e → Came y w → Stops b w (asks o f i word keep (Err e)) e
+  unlocked_stops w free a later =
+      stops_before b y w (asks o f i word keep (Err e)) e
+      (stops_behind o f i word keep (Err e) b u [] (referred_serves o f i word keep (Err e) b u [] first) y None true e tt free a) later
+
+-- ---- it is not to be had as ordinary memory
+module _ (o : Owners) (f i word : ℕ) (keep : Bool) (e : Stop) (b v x : PortValue) (before : Serves b v (asks o f i word keep (Err e)) []) where
+  pub untaken_serves : ServesPage {A = Unit {0}} v x f o.tables (Err e) → ServesUpdate b x o (Write f i word keep) (Err e)
+  untaken_serves page =
+      let r = asks o f i word keep (Err e) in
+      let ds = page.hidden ++ missed b.post.machine e in
+      let post = came_post b v (serves_came b v r [] before) in (
+        ds,
+        stopped f i word keep e page.hidden (hides_mark v f o.tables e page.hidden page.may),
+        subst (λ es. Serves b x r es) (append-nil ds)
+            (behind o f i word keep (Err e) b v [] before x (Some Writable) (of_page v f o.tables).locks ds refl
+            (subst (λ (p : Post). Serves v x (of_page v f o.tables) (page.hidden ++ missed p.machine e)) post page.serves)),
+      )
+
+  pub untaken_stops : IsUncounted e → Stops v x (of_page v f o.tables) e → Stops b x (asks o f i word keep (Err e)) e
+  untaken_stops free a = stops_behind o f i word keep (Err e) b v [] before x (Some Writable) (of_page v f o.tables).locks e refl free a
+
+-- ---- it is, and the word stored
+pub stored_serves : (o : Owners) (f i word : ℕ) (keep : Bool) (b v x y z : PortValue) (found : ℕ) → Serves b v (asks o f i word keep (Ok tt)) [] → ServesPage {A = Unit {0}} v x f o.tables (Ok tt) → IsApart f x.holdings →
+    Moves x y (Cell f i) (Store word) kinds.Cell None found → Serves y z (of_back f) [] → ServesUpdate b z o (Write f i word keep) (Ok tt)
+stored_serves o f i word keep b v x y z found before page apart made drops =
+    let r = asks o f i word keep (Ok tt) in
+    let taken = subst (λ es. Serves v x (of_page v f o.tables) es) (shows_nothing v f o.tables page.hidden page.may) page.serves in
+    let had : Serves b x r [] = behind o f i word keep (Ok tt) b v [] before x (Some Writable) (of_page v f o.tables).locks [] refl taken in
+    let done = serves_step b x y r [] (Cell f i) (Store word) kinds.Cell None found had made (names_frame b.post.machine b.post.vcpu o f i word keep (Ok tt) (Met b y)) in (
+      Writes f i word ∷ [],
+      stored f i word keep,
+      back_behind o f i word keep (Ok tt) b y (Writes f i word ∷ []) (subst (λ (ds : List Deed). Serves b y r (ds ++ [])) (store_deed f i word found x.holdings apart) done) z drops,
+    )

@@ -1,0 +1,34 @@
+use Rattle.vcpu_turn.specs.Working.{FitsPair}
+use Rattle.vcpu_turn.proofs.Extending.{behind_performed, behind_unsettled, course_answers, of_number, settle_answers}
+use Rattle.vcpu_turn.proofs.Owning.{may_map_settled, may_map_updated}
+use Rattle.vcpu_turn.proofs.pairs.OwnedPairsItems.element.Goals as goal
+
+pub returns-in_err-settle-clause-suits : goal.returns-in_err-settle-clause-suits
+returns-in_err-settle-clause-suits g c =
+    let s = c.settle.ensures in
+    may_map_settled _ _ _ c.settle.result s.serves s.hand c.requires.suits
+
+pub returns-in_err-settle-clause-fits : goal.returns-in_err-settle-clause-fits
+returns-in_err-settle-clause-fits g c =
+    let s = c.in_err-settle.ensures in
+    of_number (FitsPair c.args.self.now.owners) c.args.self.now.pairs.now c.args.index (record { ptr = 0; val = 0 }) c.requires.index _ _ _ _ _ _ _ _
+    (behind_unsettled _ _ _ _ _ _ _ _ _ _ c.from_residual.ensures.1 (settle_answers _ _ _ _ _ _ _ _ s.serves s.stops s.kinds s.rests s.course))
+
+pub update-requires-clause-maps : goal.update-requires-clause-maps
+update-requires-clause-maps g c =
+    let s = c.settle.ensures in
+    may_map_settled _ _ _ c.settle.result s.serves s.hand c.requires.suits
+
+pub returns-clause-suits : goal.returns-clause-suits
+returns-clause-suits g c =
+    let s = c.settle.ensures in
+    let u = c.update.ensures in
+    may_map_updated _ _ _ u.came u.hand (may_map_settled _ _ _ c.settle.result s.serves s.hand c.requires.suits)
+
+pub returns-clause-fits : goal.returns-clause-fits
+returns-clause-fits g c =
+    let s = c.in_ok-settle.ensures in
+    let u = c.update.ensures in
+    of_number (FitsPair c.args.self.now.owners) c.args.self.now.pairs.now c.args.index (record { ptr = 0; val = 0 }) c.requires.index _ _ _ _ _ _ _ c.update.result
+    (behind_performed _ _ _ _ _ _ _ _ _ _ _ _ c.update.result s.says (settle_answers _ _ _ _ _ _ _ _ s.serves s.stops s.kinds s.rests s.course)
+    (course_answers _ _ _ _ _ c.update.result _ _ (λ answers course. record { serves = u.serves; stops = u.stops; kinds = u.kinds; numbers = u.numbers; hand = u.hand; rests = u.rests; course = course }) u.course))
