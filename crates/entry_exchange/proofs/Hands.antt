@@ -98,12 +98,16 @@ module _ (v w : PortValue) (rs : List Reference) (ys : List TypedReference) (ls 
   pub gone : (x : PortValue) (d : Demand) → IsFor d rs ys → LeavesGone w x d → (c : Option ℕ) × Stands v x [] [] ls c b
   gone x Nothing is leaves = (leaves.0, nothing_left x leaves.0 leaves.1 is.0 is.1)
   gone x Bad is leaves = (leaves.0, nothing_left x leaves.0 leaves.1 is.0 is.1)
-  gone x (Read g) is leaves =
-      (leaves.0, ap quiet leaves.1 ∙ ap (λ (q : PortValue). quiet (record q { holdings = record q.holdings { refs = without_ref g q.holdings.refs; old0 = leaves.0 } })) stands
-      ∙ ap (λ xs. with_parts v xs ys ls leaves.0 b) (without_newest (λ (y : Reference). y.frame) g is.0 [] rs is.1 is.2) ∙ ap (λ xs. with_parts v [] xs ls leaves.0 b) is.3)
-  gone x (Typed g t) is leaves =
-      (leaves.0, ap quiet leaves.1 ∙ ap (λ (q : PortValue). quiet (record q { holdings = record q.holdings { typed = without_typed g q.holdings.typed; old0 = leaves.0 } })) stands
-      ∙ ap (λ xs. with_parts v rs xs ls leaves.0 b) (without_newest (λ (y : TypedReference). y.frame) g is.0 [] ys is.1 is.3) ∙ ap (λ xs. with_parts v xs [] ls leaves.0 b) is.2)
+  gone x (Read g) is leaves = (
+    leaves.0,
+    ap quiet leaves.1 ∙ ap (λ (q : PortValue). quiet (record q { holdings = record q.holdings { refs = without_ref g q.holdings.refs; old0 = leaves.0 } })) stands
+        ∙ ap (λ xs. with_parts v xs ys ls leaves.0 b) (without_newest (λ (y : Reference). y.frame) g is.0 [] rs is.1 is.2) ∙ ap (λ xs. with_parts v [] xs ls leaves.0 b) is.3,
+  )
+  gone x (Typed g t) is leaves = (
+    leaves.0,
+    ap quiet leaves.1 ∙ ap (λ (q : PortValue). quiet (record q { holdings = record q.holdings { typed = without_typed g q.holdings.typed; old0 = leaves.0 } })) stands
+        ∙ ap (λ xs. with_parts v rs xs ls leaves.0 b) (without_newest (λ (y : TypedReference). y.frame) g is.0 [] ys is.1 is.3) ∙ ap (λ xs. with_parts v xs [] ls leaves.0 b) is.2,
+  )
 
 -- ---- from the start
 pub stands_self : (v : PortValue) (e : Lock) → v.holdings.refs ≡ [] → v.holdings.typed ≡ [] → v.holdings.locks ≡ e ∷ [] → Stands v v [] [] (e ∷ []) v.holdings.old0 v.holdings.old1
@@ -211,9 +215,13 @@ module _ (v y z : PortValue) (f i : ℕ) (e : Lock) (d : Demand) (owner : ℕ) (
 
 -- ---- the lock went off
 pub off_stands : (v z x : PortValue) (f : ℕ) (rs : List Reference) (ys : List TypedReference) (e : Lock) (a b : Option ℕ) → e.frame ≡ f → Stands v z rs ys (e ∷ []) a b → LeavesUnlocked z x f → (c : Option ℕ) × Stands v x rs ys [] a c
-off_stands v z x f rs ys e a b at stands (inl leaves) =
-    (b, ap quiet leaves ∙ ap (λ (q : PortValue). quiet (record q { holdings = record q.holdings { locks = without_lock f q.holdings.locks } })) stands
-    ∙ ap (λ ls. with_parts v rs ys ls a b) (without_newest (λ (l : Lock). l.frame) f e [] (e ∷ []) at refl))
-off_stands v z x f rs ys e a b at stands (inr leaves) =
-    (Some (f + 1), ap quiet leaves ∙ ap (λ (q : PortValue). quiet (record q { holdings = record q.holdings { locks = without_lock f q.holdings.locks; old1 = Some (f + 1) } })) stands
-    ∙ ap (λ ls. with_parts v rs ys ls a (Some (f + 1))) (without_newest (λ (l : Lock). l.frame) f e [] (e ∷ []) at refl))
+off_stands v z x f rs ys e a b at stands (inl leaves) = (
+  b,
+  ap quiet leaves ∙ ap (λ (q : PortValue). quiet (record q { holdings = record q.holdings { locks = without_lock f q.holdings.locks } })) stands
+      ∙ ap (λ ls. with_parts v rs ys ls a b) (without_newest (λ (l : Lock). l.frame) f e [] (e ∷ []) at refl),
+)
+off_stands v z x f rs ys e a b at stands (inr leaves) = (
+  Some (f + 1),
+  ap quiet leaves ∙ ap (λ (q : PortValue). quiet (record q { holdings = record q.holdings { locks = without_lock f q.holdings.locks; old1 = Some (f + 1) } })) stands
+      ∙ ap (λ ls. with_parts v rs ys ls a (Some (f + 1))) (without_newest (λ (l : Lock). l.frame) f e [] (e ∷ []) at refl),
+)

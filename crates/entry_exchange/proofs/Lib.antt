@@ -1,10 +1,15 @@
+pub mod ChangingDemand
 pub mod Courses
+pub mod ExchangingEntry
+pub mod GivingDemand
 pub mod GivingTable
 pub mod Hands
 pub mod Inside
+pub mod KeptBits
 pub mod LockOff
 pub mod PageKinds
 pub mod Putting
+pub mod ReleasingDemand
 pub mod ServesChanged
 pub mod ServesDemands
 pub mod ServesDone

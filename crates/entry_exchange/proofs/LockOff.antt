@@ -63,8 +63,8 @@ module _ (v u : PortValue) (f level : ℕ) (locked : HoldsLockOf v f level) wher
     pub shared_hand : (w : PortValue) → Holds u w (gave f u.holdings) → LeavesUnlocked v w f
     shared_hand w put =
         inl (
-          put ∙ ap (λ (q : PortValue). still (record q { holdings = gave f q.holdings })) unlocks.hand
-          ∙ ap (λ (rs : List Reference). still (record v { holdings = record off { refs = rs } })) (without_newest (λ (y : Reference). y.frame) f lock_ref v.holdings.refs (lock_ref ∷ v.holdings.refs) refl refl)
+        put ∙ ap (λ (q : PortValue). still (record q { holdings = gave f q.holdings })) unlocks.hand
+        ∙ ap (λ (rs : List Reference). still (record v { holdings = record off { refs = rs } })) (without_newest (λ (y : Reference). y.frame) f lock_ref v.holdings.refs (lock_ref ∷ v.holdings.refs) refl refl)
         )
 
   -- ---- it was the last one: the table is closing in the hand
@@ -137,8 +137,8 @@ module _ (v u : PortValue) (f level : ℕ) (locked : HoldsLockOf v f level) wher
       pub named_hand : (w : PortValue) → Holds x w (kept_in_old Second f x.holdings) → LeavesUnlocked v w f
       named_hand w names =
           inr (
-            names ∙ ap (λ (q : PortValue). still (record q { holdings = kept_in_old Second f q.holdings })) partial_hand
-            ∙ ap (λ (ys : List TypedReference). still (record v { holdings = record off { typed = ys; old1 = Some (f + 1) } })) (without_newest (λ (y : TypedReference). y.frame) f new_count v.holdings.typed (new_count ∷ v.holdings.typed) refl refl)
+          names ∙ ap (λ (q : PortValue). still (record q { holdings = kept_in_old Second f q.holdings })) partial_hand
+          ∙ ap (λ (ys : List TypedReference). still (record v { holdings = record off { typed = ys; old1 = Some (f + 1) } })) (without_newest (λ (y : TypedReference). y.frame) f new_count v.holdings.typed (new_count ∷ v.holdings.typed) refl refl)
           )
 
 -- ---- the course where it was the last one

@@ -28,7 +28,6 @@ use Rattle.table_courses.specs.Acquiring.{GotRef, TookType}
 use Rattle.writable_pages.specs.Pages as pages
 use Rattle.writable_pages.specs.Pages.{GotPage, TookPage}
 
-
 -- one of these, and not the gate
 abbrev pub Undue : Stop → Type 0
 Undue e = IsAcquireStop e × (is_due_stop e ≡ false)

@@ -1,49 +1,38 @@
 -- An exchange, its parts one behind the other from the look at the entry on: what a guest sees of them, and why it is not done.
-use Rattle.std.proofs.Common.{◌≡◌, ◌≢◌, ◌⊎◌, ℕ, ◌+◌, Bool, true, false, List, [], ◌∷◌, ◌++◌, Option, Some, None, Result, Ok, Err, IfErr, refl, sym, ap, ◌∙◌, subst, append-nil, append_assoc, arith, inl, inr}
-use Rattle.xp_words.specs.Entries.{demand_at}
+use Rattle.std.proofs.Common.{◌≡◌, ℕ, ◌+◌, Bool, true, false, List, [], ◌++◌, Option, Some, None, Result, Ok, refl, ap, ◌∙◌, subst, append-nil, arith, inl}
 use Rattle.xp_words.specs.Machine.{Machine}
 use Rattle.xp_words.specs.declared.entry.Demand.{Demand}
-use Rattle.xp_words.specs.declared.entry.Demand.TheVariants.{Bad, Nothing, Read, Typed}
 use Rattle.xp_words.specs.declared.kind.PageType.{PageType}
-use Rattle.xp_words.specs.declared.place.Place.TheVariants.{Cell, Kind}
-use Rattle.xp_words.specs.declared.reply.Refusal.TheVariants.{Reserved}
+use Rattle.xp_words.specs.declared.place.Place.TheVariants.{Cell}
 use Rattle.xp_words.specs.declared.reply.Stop.{Stop}
-use Rattle.xp_words.specs.declared.reply.Stop.TheVariants.{Paused, Refused}
-use Rattle.xp_board.specs.declared.holdings.Holdings.{Holdings}
 use Rattle.xp_board.specs.declared.holdings.Lock.{Lock}
 use Rattle.xp_board.specs.declared.holdings.Reference.{Reference}
 use Rattle.xp_board.specs.declared.step.Act.TheVariants.{Load}
 use Rattle.xp_board.specs.declared.step.StepKind.TheVariants as kinds
-use Rattle.xp_board.specs.Hands.{lock_on, refs_to, work_on}
+use Rattle.xp_board.specs.Hands.{lock_on, refs_to}
 use Rattle.xp_board.specs.Lists.{times_by}
-use Rattle.xp_board.specs.Told.{Post, PortValue}
+use Rattle.xp_board.specs.Told.{PortValue}
 use Rattle.board_lemmas.proofs.ListCounts.{first_by-cons_here}
-use Rattle.step_maker.specs.Holds.{FlushedHolds}
-use Rattle.step_maker.specs.Moves.{Came, Met, Moment, Moves}
-use Rattle.step_maker.proofs.Coming.{came_post, came_trans, met_after, met_before, moment_of, moves_came, moves_met}
-use Rattle.answer_fits.specs.Answers.{Deed, Misses, Serves, SetsEntry, Stops, missed, misses}
-use Rattle.answer_fits.specs.Asked.{Asked, IsAsked, IsDemandOf, NoMore, Request, Within, demand_held, demanded, entry_owner, of_back, owner_below}
-use Rattle.answer_fits.specs.Finding.{Finding, FoundWith}
-use Rattle.answer_fits.proofs.Piecing.{moves_serves, serves_back, serves_came, serves_inner, stops_before, stops_inner}
+use Rattle.step_maker.specs.Moves.{Came, Met}
+use Rattle.step_maker.proofs.Coming.{met_after, met_before, moment_of, moves_came, moves_met}
+use Rattle.answer_fits.specs.Answers.{Deed, Serves, Stops}
+use Rattle.answer_fits.specs.Asked.{Asked, IsAsked, IsDemandOf, NoMore, Request, Within, of_back}
+use Rattle.answer_fits.specs.Finding.{Finding}
+use Rattle.answer_fits.proofs.Piecing.{moves_serves, serves_back, serves_inner, stops_inner}
 use Rattle.foreign_map.specs.declared.owners.Owners.{Owners}
-use Rattle.level_release.specs.Asking.{is_due_answer}
 use Rattle.kind_words.proofs.KindHands.{no_work}
 use Rattle.partial_state.specs.Levels.{level_type}
 use Rattle.entry_exchange.specs.declared.exchanging.EntryUpdate.{EntryUpdate}
-use Rattle.entry_exchange.specs.Asking.{HasExchangeDeeds, IsHidden, ServesExchange, of_exchange, stopped, stored}
-use Rattle.entry_exchange.specs.Course.{PutEntry, PutsNew, SawEntry, exchanged, lost, new_demand, old_demand}
-use Rattle.entry_exchange.specs.Course as courses
-use Rattle.entry_exchange.specs.Holding.{HoldsTableLock, LeavesDemand, holding, owner_at}
+use Rattle.entry_exchange.specs.Asking.{of_exchange}
+use Rattle.entry_exchange.specs.Course.{SawEntry, new_demand}
+use Rattle.entry_exchange.specs.Holding.{HoldsTableLock, owner_at}
 use Rattle.entry_exchange.specs.Parts.{HoldsSeen, IsOfLevel}
 use Rattle.entry_exchange.specs.Serving.{AsksDemand, ServesPut, ServesTaken, of_demand, put_deeds}
 use Rattle.entry_exchange.specs.Words.{word_kept}
-use Rattle.entry_exchange.proofs.ServesWithin.{asks_by, asks_new, asks_table_named, owner_lower, within_giving, within_taking}
+use Rattle.entry_exchange.proofs.ServesWithin.{asks_by, asks_new, asks_table_named, within_taking}
 use Rattle.entry_exchange.proofs.ServesWords.{kept_asks}
 
--- ---- the answer of an entry that is put there
-put_paused : (v w : PortValue) (f i seen new : ℕ) (keep : Bool) (e : Stop) → PutEntry v w f i seen new keep (Err e) → (ds : List Deed) → (ds ≡ []) ⊎ ((g : ℕ) × (ds ≡ Misses (Kind g) ∷ [])) → IsHidden e ds
-put_paused v w f i seen new keep e (lost found off try) ds hidden = hidden
-
+-- ---- the lock
 module _ (v : PortValue) (f level owner : ℕ) (holds : HoldsTableLock v f level owner) where
   pub lock_there : lock_on f v.holdings.locks ≡ Some holds.lock
   lock_there = ap (λ ls. lock_on f ls) holds.locks ∙ first_by-cons_here (λ (l : Lock). l.frame) f holds.lock [] holds.frame

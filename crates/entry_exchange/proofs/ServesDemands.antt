@@ -1,6 +1,5 @@
 -- What an entry asks is taken: what a guest sees of it, and why it is not to be had.
-use Rattle.std.proofs.Common.{◌≡◌, ◌≢◌, ◌⊎◌, ℕ, ◌-◌, ◌==◌, ◌≤◌, not, Bool, true, false, List, [], ◌∷◌, ◌++◌, Option, Some, None, IsTrue, Result, Ok, Err, IfErr, refl, sym, ap, ◌∙◌, subst, arith, inl, inr}
-use Rattle.std.proofs.lemmas.Bool.Decides.{nat_tests}
+use Rattle.std.proofs.Common.{◌≡◌, ◌≢◌, ◌⊎◌, ℕ, ◌-◌, ◌==◌, ◌≤◌, not, Bool, true, false, List, [], ◌∷◌, ◌++◌, Option, Some, None, Result, Ok, Err, IfErr, refl, sym, ap, ◌∙◌, subst, arith, inl, inr}
 use Rattle.xp_words.specs.Entries.{below}
 use Rattle.xp_words.specs.Machine.{Machine}
 use Rattle.xp_words.specs.PageTypes.{is_table}
@@ -17,12 +16,11 @@ use Rattle.xp_board.specs.Hands.{lock_on, work_on}
 use Rattle.xp_board.specs.Readings.{domain_of}
 use Rattle.xp_board.specs.Told.{PortValue}
 use Rattle.board_lemmas.proofs.Sums.{when_eq}
-use Rattle.step_maker.specs.Moves.{Met, Moment}
-use Rattle.answer_fits.specs.Answers.{Deed, Misses, Serves, Stops, missed, misses}
+use Rattle.step_maker.specs.Moves.{Met}
+use Rattle.answer_fits.specs.Answers.{Deed, Misses, Serves, Stops, missed}
 use Rattle.answer_fits.specs.Asked.{Asked, Implies, IsFor, IsNaming, Request, Within, context, demanded, entered, entry_owner, named, of_frame, of_old, of_table, walked}
 use Rattle.answer_fits.specs.Finding.{Finding}
 use Rattle.answer_fits.proofs.Piecing.{serves_nothing, serves_within, stops_within, within_frame}
-use Rattle.frame_types.specs.Plain.{is_refused}
 use Rattle.kept_marks.specs.Marks.{IsForeign}
 use Rattle.level_release.specs.Asking.{is_due_answer, is_due_stop}
 use Rattle.level_validate.specs.Acquiring as acquires
@@ -32,7 +30,7 @@ use Rattle.partial_state.specs.Levels.{level_type}
 use Rattle.partial_state.proofs.LevelFacts.{level_type-table, level_type-under}
 use Rattle.writable_pages.specs.Pages.{HidesMark, ServesPage, of_page}
 use Rattle.entry_exchange.specs.Asking.{IsHidden}
-use Rattle.entry_exchange.specs.Serving.{Hides, ServesTaken, asks_table, of_demand}
+use Rattle.entry_exchange.specs.Serving.{ServesTaken, of_demand}
 use Rattle.entry_exchange.proofs.ServesWithin.{owners_alike}
 use Rattle.entry_exchange.proofs.Taking.{same_due}
 
@@ -159,9 +157,9 @@ module _ (v w : PortValue) (f owner pages : ℕ) where
       unpaged_stops e a = stops_within v w (of_page v f owner) (of_demand (Typed f t) owner pages (is_due_stop e)) e (paging (is_due_stop e)) a
 
     -- a table
-    module _ (least : 1 ≤ level) (high : level ≤ 4) (off : (level == 1) ≡ false) where
+    module _ (least : 1 ≤ level) (high : level ≤ 4) (off : level ≢ 1) where
       low : 2 ≤ level
-      low = grind (arith, nat_tests)
+      low = omega (arith, least, off)
 
       lower : t ≡ level_type (level - 1)
       lower = asks ∙ level_type-under level (omega (arith, low)) high

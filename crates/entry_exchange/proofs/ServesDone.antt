@@ -1,39 +1,33 @@
 -- An exchange as a whole: by its answer, what a guest sees of it, and why it is not done.
-use Rattle.std.proofs.Common.{◌≡◌, ◌≢◌, ◌⊎◌, ℕ, Bool, true, false, List, [], ◌∷◌, ◌++◌, Option, Some, None, Result, Ok, Err, IfErr, refl, sym, ap, ◌∙◌, subst, append-nil, arith, inl, inr}
-use Rattle.xp_words.specs.Entries.{demand_at}
+use Rattle.std.proofs.Common.{◌≡◌, ◌⊎◌, ℕ, Bool, List, [], ◌∷◌, ◌++◌, Option, Some, None, Result, Ok, Err, IfErr, refl, sym, ap, ◌∙◌, subst, append-nil, inl}
 use Rattle.xp_words.specs.declared.entry.Demand.{Demand}
 use Rattle.xp_words.specs.declared.entry.Demand.TheVariants.{Bad, Nothing, Read, Typed}
 use Rattle.xp_words.specs.declared.kind.PageType.{PageType}
 use Rattle.xp_words.specs.declared.place.Place.TheVariants.{Cell, Kind}
-use Rattle.xp_words.specs.declared.reply.Refusal.TheVariants.{Reserved}
 use Rattle.xp_words.specs.declared.reply.Stop.{Stop}
 use Rattle.xp_words.specs.declared.reply.Stop.TheVariants.{Paused, Refused}
 use Rattle.xp_board.specs.declared.holdings.Holdings.{Holdings}
-use Rattle.xp_board.specs.declared.holdings.Lock.{Lock}
-use Rattle.xp_board.specs.declared.holdings.Work.{Work}
 use Rattle.xp_board.specs.declared.step.Act.{Act}
-use Rattle.xp_board.specs.declared.step.Act.TheVariants.{Cas, Load, Store}
+use Rattle.xp_board.specs.declared.step.Act.TheVariants.{Cas, Store}
 use Rattle.xp_board.specs.declared.step.StepKind.TheVariants as kinds
 use Rattle.xp_board.specs.Hands.{lock_on, work_on}
 use Rattle.xp_board.specs.Told.{Post, PortValue}
-use Rattle.step_maker.specs.Holds.{FlushedHolds}
-use Rattle.step_maker.specs.Moves.{Came, Met, Moment, Moves}
-use Rattle.step_maker.proofs.Coming.{came_post, came_self, came_trans, met_after, met_before, moment_of, moves_came, moves_met}
-use Rattle.answer_fits.specs.Answers.{Deed, Misses, Serves, SetsEntry, Stops, missed, misses}
-use Rattle.answer_fits.specs.Asked.{Asked, IsAsked, IsDemandOf, demand_by, demand_held, demanded, entry_owner, of_back, owner_below}
+use Rattle.step_maker.specs.Moves.{Came, Met, Moves}
+use Rattle.step_maker.proofs.Coming.{came_post, came_self, came_trans, met_after, met_before, moment_of, moves_met}
+use Rattle.answer_fits.specs.Answers.{Deed, Misses, Serves, SetsEntry, Stops, missed}
+use Rattle.answer_fits.specs.Asked.{Asked, IsDemandOf, demand_held, demanded, entry_owner, of_back}
 use Rattle.answer_fits.specs.Finding.{FoundWith}
 use Rattle.answer_fits.proofs.Piecing.{serves_came, serves_inner, stops_before}
 use Rattle.foreign_map.specs.declared.owners.Owners.{Owners}
 use Rattle.level_release.specs.Asking.{is_due_answer}
 use Rattle.kind_words.proofs.KindHands.{no_work}
-use Rattle.partial_state.specs.Levels.{level_type}
 use Rattle.entry_exchange.specs.declared.exchanging.EntryUpdate.{EntryUpdate}
-use Rattle.entry_exchange.specs.Asking.{HasExchangeDeeds, IsHidden, ServesExchange, of_exchange, stopped, stored}
+use Rattle.entry_exchange.specs.Asking.{IsHidden, ServesExchange, of_exchange, stopped, stored}
 use Rattle.entry_exchange.specs.Course.{PutEntry, PutsNew, SawEntry, new_demand, old_demand}
 use Rattle.entry_exchange.specs.Course as courses
 use Rattle.entry_exchange.specs.Holding.{HoldsTableLock, LeavesDemand, holding, owner_at}
 use Rattle.entry_exchange.specs.Parts.{HoldsSeen, IsOfLevel}
-use Rattle.entry_exchange.specs.Serving.{AsksDemand, Hides, ServesBehind, ServesGiven, ServesPut, ServesTaken, StopsPut, of_demand, of_given, put_deeds}
+use Rattle.entry_exchange.specs.Serving.{ServesBehind, ServesGiven, ServesPut, ServesTaken, StopsPut, of_demand, of_given, put_deeds}
 use Rattle.entry_exchange.specs.Words.{word_kept}
 use Rattle.entry_exchange.proofs.ServesChanged.{asks_table_in, came_look, demand_asked, lock_there, look_serves, put_serves, take_serves, take_stops, taken_serves, unlocked_serves}
 use Rattle.entry_exchange.proofs.ServesWithin.{asks_by, owner_lower, within_giving}
@@ -65,6 +59,32 @@ hand_locks Bad owner h = refl
 hand_locks (Read g) owner h = refl
 hand_locks (Typed g t) owner h = refl
 
+-- ---- it asks the same, and the word alone is put there
+module _ (a b : PortValue) (x : EntryUpdate) (o : Owners) (seen : ℕ) (holds : HoldsTableLock a x.table x.level o.tables) (saw : SawEntry a b x.table x.index seen) (z w : PortValue) (gives : Serves z w (of_back x.table) []) where
+  abbrev same_word : ℕ
+  same_word = word_kept x.keep seen x.word
+
+  put_whole : (answer : Result (Unit {0}) Stop) (put : Result ℕ Stop) → ServesPut b z x.table x.index same_word put → Serves a w (of_exchange x o answer) (put_deeds a.post.machine x.table x.index same_word put)
+  put_whole answer put serves =
+      let came = came_look a b x o seen holds saw answer in
+      let there = serves a (of_exchange x o answer) [] (look_serves a b x o seen holds saw answer) (asks_table_in a b x o seen holds saw answer (Met a b)) in
+      let here = subst (λ (p : Post). Serves a z (of_exchange x o answer) (put_deeds p.machine x.table x.index same_word put ++ [])) (came_post a b came) there in
+      unlocked_serves a b x o seen holds saw answer z w (put_deeds a.post.machine x.table x.index same_word put)
+      (subst (λ ds. Serves a z (of_exchange x o answer) ds) (append-nil (put_deeds a.post.machine x.table x.index same_word put)) here) gives
+
+  pub same_serves : (old : ℕ) → ServesPut b z x.table x.index same_word (Ok old) → ServesExchange a w x o (Ok tt)
+  same_serves old serves = (SetsEntry x.table x.index old same_word ∷ [], stored seen old, put_whole (Ok tt) (Ok old) serves)
+
+  pub unput_serves : (e : Stop) → ServesPut b z x.table x.index same_word (Err e) → ServesExchange a w x o (Err e)
+  unput_serves e serves = (missed a.post.machine e, stopped e [] (hides_none e), put_whole (Err e) (Err e) serves)
+
+  pub unput_stops : (e : Stop) → StopsPut b z x.table x.index seen e → Stops a w (of_exchange x o (Err e)) e
+  unput_stops e stops =
+      stops_before a z w (of_exchange x o (Err e)) e
+      (stops a b (of_exchange x o (Err e)) saw (came_self b) (asks_table_in a b x o seen holds saw (Err e) (Met a b)))
+      (serves_came z w (of_back x.table) [] gives)
+
+-- ---- it asks something else
 module _ (a b : PortValue) (x : EntryUpdate) (o : Owners) (seen : ℕ) (holds : HoldsTableLock a x.table x.level o.tables) (saw : SawEntry a b x.table x.index seen) (locked : HoldsSeen b x.table x.level o.tables x.index seen) where
   abbrev new : ℕ
   new = word_kept x.keep seen x.word
@@ -85,28 +105,6 @@ module _ (a b : PortValue) (x : EntryUpdate) (o : Owners) (seen : ℕ) (holds : 
     untaken_stops came stops =
         stops_before a y w (of_exchange x o (Err e)) e (take_stops a b x o seen holds saw (Err e) d is level y came locked (is_due_answer {A = Unit {0}} (Err e)) e (λ on. on) stops)
         (serves_came y w (of_back x.table) [] gives)
-
-  -- ---- it asks the same, and the word alone is put there
-  module _ (z w : PortValue) (gives : Serves z w (of_back x.table) []) where
-    put_whole : (answer : Result (Unit {0}) Stop) (put : Result ℕ Stop) → ServesPut b z x.table x.index new put → Serves a w (of_exchange x o answer) (put_deeds a.post.machine x.table x.index new put)
-    put_whole answer put serves =
-        let came = came_look a b x o seen holds saw answer in
-        let there = serves a (of_exchange x o answer) [] (look_serves a b x o seen holds saw answer) (asks_table_in a b x o seen holds saw answer (Met a b)) in
-        let here = subst (λ (p : Post). Serves a z (of_exchange x o answer) (put_deeds p.machine x.table x.index new put ++ [])) (came_post a b came) there in
-        unlocked_serves a b x o seen holds saw answer z w (put_deeds a.post.machine x.table x.index new put)
-        (subst (λ ds. Serves a z (of_exchange x o answer) ds) (append-nil (put_deeds a.post.machine x.table x.index new put)) here) gives
-
-    pub same_serves : (old : ℕ) → ServesPut b z x.table x.index new (Ok old) → ServesExchange a w x o (Ok tt)
-    same_serves old serves = (SetsEntry x.table x.index old new ∷ [], stored seen old, put_whole (Ok tt) (Ok old) serves)
-
-    pub unput_serves : (e : Stop) → ServesPut b z x.table x.index new (Err e) → ServesExchange a w x o (Err e)
-    unput_serves e serves = (missed a.post.machine e, stopped e [] (hides_none e), put_whole (Err e) (Err e) serves)
-
-    pub unput_stops : (e : Stop) → StopsPut b z x.table x.index seen e → Stops a w (of_exchange x o (Err e)) e
-    unput_stops e stops =
-        stops_before a z w (of_exchange x o (Err e)) e
-        (stops a b (of_exchange x o (Err e)) saw (came_self b) (asks_table_in a b x o seen holds saw (Err e) (Met a b)))
-        (serves_came z w (of_back x.table) [] gives)
 
   -- ---- what it asks is in hand
   module _ (d : Demand) (is : d ≡ new_demand x seen) (level : IsOfLevel x.level d) (y z : PortValue) (came_y : Came b y) (taken : ServesTaken b y d owner o.frames (Ok tt)) (came_z : Came y z) where
@@ -177,3 +175,10 @@ module _ (a b : PortValue) (x : EntryUpdate) (o : Owners) (seen : ℕ) (holds : 
           let came_l = serves_came a l (of_exchange x o (Ok tt)) (SetsEntry x.table x.index old new ∷ []) unlocked in
           let within = within_giving a.post.machine a.post.vcpu x o (Ok tt) (Met a w) (old_demand x old) (Met l w) (λ m k. met_after a l w m came_l k) asks refl in
           (SetsEntry x.table x.index old new ∷ [], stored seen old, serves_inner a l w (of_exchange x o (Ok tt)) (of_given (old_demand x old) o.tables o.frames) (SetsEntry x.table x.index old new ∷ []) [] within unlocked given)
+
+-- ---- by the answer
+pub serves_as : (a w : PortValue) (x : EntryUpdate) (o : Owners) (answer : Result (Unit {0}) Stop) (e : Stop) → answer ≡ Err e → ServesExchange a w x o (Err e) → ServesExchange a w x o answer
+serves_as a w x o answer e is serves = subst (λ y. ServesExchange a w x o y) (sym is) serves
+
+pub stops_as : (a w : PortValue) (x : EntryUpdate) (o : Owners) (answer : Result (Unit {0}) Stop) (e : Stop) → answer ≡ Err e → Stops a w (of_exchange x o (Err e)) e → IfErr answer (λ k. Stops a w (of_exchange x o answer) k)
+stops_as a w x o answer e is stops = subst (λ (y : Result (Unit {0}) Stop). IfErr y (λ k. Stops a w (of_exchange x o y) k)) (sym is) stops

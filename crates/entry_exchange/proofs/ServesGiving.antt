@@ -1,8 +1,7 @@
 -- What an entry asks is given back or released, and the lock goes off: what a guest sees of it.
-use Rattle.std.proofs.Common.{◌≡◌, ◌⊎◌, ℕ, ◌+◌, ◌==◌, Bool, true, false, List, [], ◌∷◌, ◌++◌, Option, Some, None, IsTrue, Result, Ok, Err, IfErr, refl, sym, ap, ◌∙◌, subst, inl, inr}
+use Rattle.std.proofs.Common.{◌≡◌, ◌⊎◌, ℕ, ◌+◌, true, List, [], ◌∷◌, Option, None, IsTrue, Result, Ok, Err, IfErr, refl, ap, subst, inl, inr}
 use Rattle.xp_words.specs.KindWords.{kind_write}
 use Rattle.xp_words.specs.Machine.{Machine}
-use Rattle.xp_words.specs.declared.entry.Demand.{Demand}
 use Rattle.xp_words.specs.declared.entry.Demand.TheVariants.{Read, Typed}
 use Rattle.xp_words.specs.declared.kind.KindWord.{KindWord}
 use Rattle.xp_words.specs.declared.kind.PageType.{PageType}
@@ -15,19 +14,19 @@ use Rattle.xp_board.specs.declared.step.StepKind.TheVariants as kinds
 use Rattle.xp_board.specs.Readings.{is_partial}
 use Rattle.xp_board.specs.Told.{Post, PortValue}
 use Rattle.board_lemmas.proofs.Sums.{when_eq}
-use Rattle.step_maker.specs.Moves.{Came, Met, Moment, Moves}
+use Rattle.step_maker.specs.Moves.{Met, Moves}
 use Rattle.step_maker.proofs.Coming.{came_post}
 use Rattle.answer_fits.specs.Answers.{Deed, Misses, Serves, misses}
-use Rattle.answer_fits.specs.Asked.{Asked, IsAsked, Request, Within, back, context, demanded, entered, named, of, of_back, of_old, walked}
+use Rattle.answer_fits.specs.Asked.{Asked, Request, Within, back, context, demanded, entered, named, of_back, of_old, walked}
 use Rattle.answer_fits.specs.Finding.{Finding}
-use Rattle.answer_fits.proofs.Piecing.{serves_back, serves_came, serves_nothing, serves_step, serves_then, serves_within, within_back}
-use Rattle.kept_marks.specs.Marks.{IsForeign, ServesKept, ServesMark}
+use Rattle.answer_fits.proofs.Piecing.{serves_back, serves_came, serves_step, serves_then, serves_within, within_back}
+use Rattle.kept_marks.specs.Marks.{IsForeign, ServesKept}
 use Rattle.kept_marks.proofs.Serving.{asked_later, left_serves}
 use Rattle.kind_words.specs.Kinds.{MayLeave}
-use Rattle.level_release.specs.Asking.{is_due_answer, of_release}
+use Rattle.level_release.specs.Asking.{of_release}
 use Rattle.table_words.specs.OldWords.{old_place}
 use Rattle.table_words.specs.declared.old_words.OldWord.TheVariants.{Second}
-use Rattle.entry_exchange.specs.Serving.{AsksDemand, ServesBehind, ServesGiven, ServesTable, of_given}
+use Rattle.entry_exchange.specs.Serving.{ServesTable, of_given}
 
 -- ---- behind any piece that asks the frame
 -- a call that gives it back
@@ -55,10 +54,6 @@ behind_kept v a w f owner gives kept u r ds before asked locks =
     seen : (u : PortValue) (more : List Deed) → (more ≡ []) ⊎ (IsForeign u owner × (more ≡ Misses (Kind f) ∷ [])) → (more ≡ []) ⊎ ((g : ℕ) × (more ≡ Misses (Kind g) ∷ []))
     seen u more (inl none) = inl none
     seen u more (inr one) = inr (f, one.1)
-
--- nothing was asked
-pub behind_nothing : (v : PortValue) (d : Demand) → ServesGiven v v d
-behind_nothing v d u r ds before asked locks = record { more = []; hidden = inl refl; serves = before }
 
 -- ---- released
 module _ (n : Machine) (s : ℕ) (r : Request) (F : Finding) where

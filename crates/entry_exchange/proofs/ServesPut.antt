@@ -1,26 +1,21 @@
 -- The word of an entry is put there behind any piece that asks its table.
-use Rattle.std.proofs.Common.{◌≡◌, ◌≢◌, ℕ, Bool, List, [], ◌∷◌, ◌++◌, Some, None, Ok, Err, is_some, refl, sym, ap, ◌∙◌, subst}
-use Rattle.xp_words.specs.Places.{number, place_at, sizes_of}
-use Rattle.xp_words.specs.declared.place.Place.{Place}
+use Rattle.std.proofs.Common.{◌≡◌, ◌≢◌, ℕ, List, [], ◌∷◌, ◌++◌, None, Ok, Err, refl, sym, ap, ◌∙◌, subst}
+use Rattle.xp_words.specs.Places.{number, sizes_of}
 use Rattle.xp_words.specs.declared.place.Place.TheVariants.{Cell}
 use Rattle.xp_words.specs.declared.reply.Pause.TheVariants.{Lost}
 use Rattle.xp_words.specs.declared.reply.Stop.TheVariants.{Paused}
 use Rattle.xp_words.proofs.PlaceLaws.{place_back}
-use Rattle.xp_board.specs.declared.holdings.Lock.{Lock}
-use Rattle.xp_board.specs.declared.step.Act.{Act}
 use Rattle.xp_board.specs.declared.step.Act.TheVariants.{Cas, Store}
 use Rattle.xp_board.specs.declared.step.StepKind.TheVariants as kinds
-use Rattle.xp_board.specs.Hands.{lock_on}
 use Rattle.xp_board.specs.Told.{PortValue}
 use Rattle.board_lemmas.proofs.Sums.{when_eq, when_ne}
-use Rattle.step_maker.specs.Moves.{Met, Moves}
+use Rattle.step_maker.specs.Moves.{Moves}
 use Rattle.step_maker.proofs.Coming.{moves_came}
 use Rattle.answer_fits.specs.Answers.{Deed, Misses, Serves, SetsEntry, deeds_by, missed, missed_at}
-use Rattle.answer_fits.specs.Asked.{IsAsked, Request}
 use Rattle.answer_fits.proofs.Piecing.{serves_step}
 use Rattle.kept_marks.proofs.Serving.{asked_later}
 use Rattle.entry_locks.specs.Entries.{MaySwapEntry}
-use Rattle.entry_exchange.specs.Serving.{ServesPut, StopsPut, put_deeds}
+use Rattle.entry_exchange.specs.Serving.{ServesPut, StopsPut}
 use Rattle.entry_exchange.proofs.StopsPutting.{lost_stops}
 
 module _ (v w : PortValue) (f i seen new : ℕ) (may : MaySwapEntry v.post.machine f i seen new v.holdings) where

@@ -1,5 +1,5 @@
 -- What a demand asks is within what the exchange asks: the new word, as the table was under the own lock.
-use Rattle.std.proofs.Common.{◌≡◌, ◌≢◌, ◌⊎◌, ℕ, zero, suc, ◌==◌, if◌then◌else◌, Bool, true, false, Option, Some, None, IsTrue, Result, refl, sym, ap, ◌∙◌, subst, inl, inr, arith}
+use Rattle.std.proofs.Common.{◌≡◌, ◌≢◌, ◌⊎◌, ℕ, zero, suc, ◌==◌, if◌then◌else◌, Bool, true, Option, Some, None, IsTrue, Result, refl, sym, ap, ◌∙◌, subst, inl, inr, arith}
 use Rattle.std.proofs.lemmas.Bool.Decides.{nat_tests}
 use Rattle.xp_words.specs.Entries.{below, demand_at}
 use Rattle.xp_words.specs.Machine.{Machine}
@@ -14,19 +14,16 @@ use Rattle.xp_board.specs.declared.holdings.Work.{Work}
 use Rattle.xp_board.specs.Hands.{lock_on, work_on}
 use Rattle.board_lemmas.proofs.Sums.{when_eq, when_ne}
 use Rattle.step_maker.specs.Moves.{Moment}
-use Rattle.answer_fits.specs.Asked.{Asked, Implies, IsAsked, IsDemandOf, IsFor, IsNaming, Request, Within, back, context, demanded, entered, entry_owner, named, of, of_old, owner_below, walked}
+use Rattle.answer_fits.specs.Asked.{Asked, Implies, IsAsked, IsDemandOf, IsFor, IsNaming, Request, Within, context, demanded, entered, entry_owner, named, of, of_old, owner_below, walked}
 use Rattle.answer_fits.specs.Finding.{Finding}
 use Rattle.foreign_map.specs.declared.owners.Owners.{Owners}
 use Rattle.partial_state.specs.Levels.{level_type}
-use Rattle.partial_state.proofs.LevelFacts.{level_type-under}
 use Rattle.entry_exchange.specs.declared.exchanging.EntryUpdate.{EntryUpdate}
 use Rattle.entry_exchange.specs.Asking.{may_rise, of_exchange}
-use Rattle.entry_exchange.specs.Course.{new_demand}
 use Rattle.entry_exchange.specs.Holding.{owner_at}
 use Rattle.entry_exchange.specs.Parts.{IsOfLevel}
 use Rattle.entry_exchange.specs.Serving.{AsksDemand, asks_table, is_named, of_demand, of_given, wanted_type}
 use Rattle.entry_exchange.proofs.Putting.{at_level}
-use Rattle.entry_exchange.proofs.ServesWords.{kept_asks}
 
 -- ---- whose the frame is
 pub owner_lower : (r : Request) (level : ℕ) → owner_below r (Some (level_type level)) ≡ owner_at level r.owner r.pages_of

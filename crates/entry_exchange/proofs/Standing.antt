@@ -86,9 +86,12 @@ module _ (v : PortValue) (f level owner : ℕ) (holds : HoldsTableLock v f level
   -- ---- the end
   module _ (w : PortValue) where
     pub leaves : (a b : Option ℕ) → Stands v w [] [] [] a b → LeavesExchange v w
-    leaves a b stands =
-        (a, b, stands ∙ ap (λ (xs : List Reference). quiet (record v { holdings = record v.holdings { refs = xs; typed = []; locks = []; old0 = a; old1 = b } })) (sym holds.others.refs)
-        ∙ ap (λ (xs : List TypedReference). quiet (record v { holdings = record v.holdings { typed = xs; locks = []; old0 = a; old1 = b } })) (sym holds.others.typed))
+    leaves a b stands = (
+      a,
+      b,
+      stands ∙ ap (λ (xs : List Reference). quiet (record v { holdings = record v.holdings { refs = xs; typed = []; locks = []; old0 = a; old1 = b } })) (sym holds.others.refs)
+          ∙ ap (λ (xs : List TypedReference). quiet (record v { holdings = record v.holdings { typed = xs; locks = []; old0 = a; old1 = b } })) (sym holds.others.typed),
+    )
 
     pub rests_then : MayWork v → LeavesExchange v w → Rests w
     rests_then may out =

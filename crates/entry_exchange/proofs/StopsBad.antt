@@ -1,5 +1,5 @@
 -- The new word asks what no entry may: the table was under the own lock as the entry was looked at.
-use Rattle.std.proofs.Common.{◌≡◌, ◌⊎◌, ℕ, Bool, true, false, [], Some, None, Err, refl, sym, ap, ◌∙◌, subst, inl, inr}
+use Rattle.std.proofs.Common.{◌≡◌, ℕ, Bool, true, false, [], None, Err, refl, sym, ap, ◌∙◌, subst, inl, inr}
 use Rattle.xp_words.specs.Entries.{demand_at}
 use Rattle.xp_words.specs.declared.entry.Demand.TheVariants.{Bad}
 use Rattle.xp_words.specs.declared.place.Place.TheVariants.{Cell}
@@ -11,7 +11,7 @@ use Rattle.xp_board.specs.declared.step.StepKind.TheVariants as kinds
 use Rattle.xp_board.specs.Hands.{lock_on}
 use Rattle.xp_board.specs.Told.{PortValue}
 use Rattle.board_lemmas.proofs.Sums.{when_eq}
-use Rattle.step_maker.specs.Moves.{Came, Met}
+use Rattle.step_maker.specs.Moves.{Met}
 use Rattle.step_maker.proofs.Coming.{met_before, moment_of, moves_met}
 use Rattle.answer_fits.specs.Answers.{Serves, Stops}
 use Rattle.answer_fits.specs.Asked.{of_back}
@@ -19,7 +19,6 @@ use Rattle.answer_fits.specs.Finding.{FoundAt}
 use Rattle.answer_fits.specs.Licences.{IsBadUnder, IsNewWord}
 use Rattle.answer_fits.proofs.Piecing.{serves_came}
 use Rattle.foreign_map.specs.declared.owners.Owners.{Owners}
-use Rattle.partial_state.specs.Levels.{level_type}
 use Rattle.entry_exchange.specs.declared.exchanging.EntryUpdate.{EntryUpdate}
 use Rattle.entry_exchange.specs.Asking.{ServesExchange, of_exchange, stopped}
 use Rattle.entry_exchange.specs.Course.{SawEntry, new_demand}

@@ -109,7 +109,12 @@ fn give_table<P: Port>(port: &mut P, frame: u32, level: u8, owner: u16)
     ensures course { GaveTable (P.value port.old) frame level owner (P.value port.new) }
 {
     if drop_type(port, frame) {
-        leave_kept(port, frame, partial_kind(level_type(level), true, 512), owner);
+        leave_kept(
+            port,
+            frame,
+            partial_kind(level_type(level), true, 512),
+            owner,
+        );
     } else {
         put_ref(port, frame);
     }

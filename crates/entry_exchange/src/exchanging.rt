@@ -140,7 +140,11 @@ fn change_demand<P: Port>(
     match put_entry(port, update, seen, new) {
         Ok(old) => {
             leave_lock(port, update.table, update.level);
-            release_demand(port, gate, demand(level_type(update.level), update.index, old));
+            release_demand(
+                port,
+                gate,
+                demand(level_type(update.level), update.index, old),
+            );
             Ok(())
         }
         Err(stop) => {

@@ -11,7 +11,11 @@ const ACCESSED_AND_DIRTY: u64 = 0x60;
 pub(crate) fn word_kept(keep: bool, old: u64, new: u64) -> u64
     ensures { result ≡ word_kept keep old new }
 {
-    if keep { new | (old & ACCESSED_AND_DIRTY) } else { new }
+    if keep {
+        new | (old & ACCESSED_AND_DIRTY)
+    } else {
+        new
+    }
 }
 
 // Whether two entries ask the same.

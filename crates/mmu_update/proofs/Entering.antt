@@ -1,5 +1,5 @@
 -- An entry of a table under the own lock: the steps behind the lock, why they stop, and the hand.
-use Rattle.std.proofs.Common.{◌≡◌, ℕ, zero, suc, ◌<◌, Bool, true, false, List, [], ◌∷◌, ◌++◌, None, Some, Result, Ok, Err, IsTrue, refl, sym, ap, ◌∙◌, subst, append-nil, inl, inr, arith}
+use Rattle.std.proofs.Common.{◌≡◌, ℕ, zero, suc, Bool, true, List, [], ◌∷◌, ◌++◌, None, Result, Ok, Err, IsTrue, refl, ap, ◌∙◌, subst, append-nil, inr, arith}
 use Rattle.std.proofs.lemmas.Bool.{and_parts}
 use Rattle.xp_words.specs.Entries.{is_slot}
 use Rattle.xp_words.specs.KindWords.{kind_fields}
@@ -16,9 +16,9 @@ use Rattle.xp_board.specs.Readings.{is_live_as}
 use Rattle.xp_board.specs.Told.{Post, PortValue}
 use Rattle.step_maker.specs.Holds.{Rests}
 use Rattle.step_maker.specs.Moves.{Came, Met, Moment, Ran}
-use Rattle.step_maker.proofs.Coming.{came_post, came_self, came_trans, met_after, met_before}
+use Rattle.step_maker.proofs.Coming.{came_post, came_self, met_after, met_before}
 use Rattle.answer_fits.specs.Answers.{Deed, Serves, Stops}
-use Rattle.answer_fits.specs.Asked.{NoMore, of_back}
+use Rattle.answer_fits.specs.Asked.{NoMore}
 use Rattle.answer_fits.specs.Finding.{FoundAt}
 use Rattle.answer_fits.specs.Visits.{Visit, Does, visits}
 use Rattle.answer_fits.proofs.Piecing.{serves_came, serves_inner, stops_inner}
@@ -32,7 +32,7 @@ use Rattle.mmu_update.specs.Course.{entry_update}
 use Rattle.mmu_update.specs.Elements.{HasUpdateDeeds, ServesUpdate, entered, stopped}
 use Rattle.mmu_update.specs.declared.element.Element.TheVariants.{Write}
 use Rattle.mmu_update.proofs.Asking.{names_frame, within_exchange}
-use Rattle.mmu_update.proofs.Serving.{asks, back_behind, hides_nothing}
+use Rattle.mmu_update.proofs.Serving.{asks}
 
 -- ---- exchanged
 deeds_so : (n : Machine) (f level i word : ℕ) (keep : Bool) (answer : Result (Unit {0}) Stop) (ds : List Deed) → HasExchangeDeeds n (entry_update f level i word keep) answer ds →

@@ -6,20 +6,19 @@ use Rattle.xp_words.specs.declared.kind.PageType.TheVariants.{Writable}
 use Rattle.xp_words.specs.declared.place.Place.TheVariants.{Priv}
 use Rattle.xp_board.specs.declared.holdings.Claimed.{Claimed}
 use Rattle.xp_board.specs.declared.holdings.Ending.{Ending}
-use Rattle.xp_board.specs.declared.holdings.Holdings.{Holdings}
 use Rattle.xp_board.specs.declared.holdings.Lock.{Lock}
 use Rattle.xp_board.specs.declared.holdings.Made.{Made}
 use Rattle.xp_board.specs.declared.holdings.OwnerFound.TheVariants as owners
 use Rattle.xp_board.specs.declared.holdings.Reference.{Reference}
 use Rattle.xp_board.specs.declared.holdings.TypedReference.{TypedReference}
 use Rattle.xp_board.specs.declared.holdings.Work.{Work}
-use Rattle.xp_board.specs.Hands.{claim_of, ending_of, lock_on, typed_to, without_ref, work_on}
+use Rattle.xp_board.specs.Hands.{ending_of, lock_on, typed_to, without_ref, work_on}
 use Rattle.xp_board.specs.KindSteps.{live_typed}
 use Rattle.xp_board.specs.Lists.{first_by, times_by}
 use Rattle.xp_board.specs.Readings.{has_now}
 use Rattle.xp_board.specs.Steps.{some_since, some_step}
 use Rattle.xp_board.specs.Told.{Post, PortValue}
-use Rattle.step_maker.specs.Holds.{FlushedHolds, FlushedSame, Holds, MayWork, Rests, Same, quiet, still}
+use Rattle.step_maker.specs.Holds.{FlushedHolds, FlushedSame, Holds, MayWork, Rests, Same, quiet}
 use Rattle.step_maker.specs.Moves.{Came, Moment, Ran}
 use Rattle.step_maker.proofs.Coming.{came_post}
 use Rattle.step_maker.proofs.Noting.{moves_keeps}
@@ -142,7 +141,7 @@ module _ (b v : PortValue) (f d : ℕ) (rests : Rests b) (takes : Holds b v (too
     Some (f + 1),
     b.holdings.old1,
     gives ∙ ap (λ (q : PortValue). quiet (record q { holdings = record (gave f q.holdings) { old0 = Some (f + 1) } })) takes
-    ∙ ap (λ (rs : List Reference). quiet (record b { holdings = record b.holdings { refs = rs; old0 = Some (f + 1) } })) ref_gone,
+        ∙ ap (λ (rs : List Reference). quiet (record b { holdings = record b.holdings { refs = rs; old0 = Some (f + 1) } })) ref_gone,
   )
 
   -- it became a typed one

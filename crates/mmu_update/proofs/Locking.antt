@@ -1,10 +1,9 @@
 -- A table under the own lock, from before the reference on: what is in hand, and all of the write of its entry.
-use Rattle.std.proofs.Common.{◌≡◌, ℕ, ◌+◌, ◌==◌, if◌then◌else◌, Bool, true, false, List, [], ◌∷◌, Option, None, Some, Result, Ok, Err, IfErr, refl, sym, ap, ◌∙◌, subst, inl, inr}
+use Rattle.std.proofs.Common.{◌≡◌, ℕ, ◌+◌, if◌then◌else◌, Bool, true, false, List, [], ◌∷◌, None, Some, Result, Ok, Err, IfErr, refl, sym, ap, ◌∙◌, inl, inr}
 use Rattle.xp_words.specs.Entries.{is_slot}
 use Rattle.xp_words.specs.declared.reply.Refusal.TheVariants as refusals
 use Rattle.xp_words.specs.declared.reply.Stop.{Stop}
 use Rattle.xp_words.specs.declared.reply.Stop.TheVariants.{Refused}
-use Rattle.xp_board.specs.declared.holdings.Holdings.{Holdings}
 use Rattle.xp_board.specs.declared.holdings.Lock.{Lock}
 use Rattle.xp_board.specs.declared.holdings.Reference.{Reference}
 use Rattle.xp_board.specs.Hands.{lock_on, without_lock, without_ref}
@@ -24,7 +23,6 @@ use Rattle.entry_exchange.specs.declared.exchanging.EntryUpdate.{EntryUpdate}
 use Rattle.entry_locks.specs.Locks.{of_lock}
 use Rattle.foreign_map.specs.Owning.{MayMap}
 use Rattle.foreign_map.specs.declared.owners.Owners.{Owners}
-use Rattle.frame_words.specs.Refs.{took}
 use Rattle.frame_words.proofs.Putting.{without_newest}
 use Rattle.partial_state.specs.Levels.{level_type}
 use Rattle.mmu_update.specs.Course as courses
@@ -104,13 +102,13 @@ module _ (b y : PortValue) (o : Owners) (f level : ℕ) (a : UnderLock b y o f l
       b.holdings.old0,
       b.holdings.old1,
       ap quiet gone ∙ ap (λ (q : PortValue). quiet (record q { holdings = record q.holdings { locks = without_lock f q.holdings.locks } })) locked_hand
-      ∙ ap (λ (ls : List Lock). quiet (record b { holdings = record b.holdings { locks = ls } })) (without_newest (λ (e : Lock). e.frame) f lock b.holdings.locks a.holds.is.frame),
+          ∙ ap (λ (ls : List Lock). quiet (record b { holdings = record b.holdings { locks = ls } })) (without_newest (λ (e : Lock). e.frame) f lock b.holdings.locks a.holds.is.frame),
     )
     unlocked_hand (inr gone) = (
       b.holdings.old0,
       Some (f + 1),
       ap quiet gone ∙ ap (λ (q : PortValue). quiet (record q { holdings = record q.holdings { locks = without_lock f q.holdings.locks; old1 = Some (f + 1) } })) locked_hand
-      ∙ ap (λ (ls : List Lock). quiet (record b { holdings = record b.holdings { locks = ls; old1 = Some (f + 1) } })) (without_newest (λ (e : Lock). e.frame) f lock b.holdings.locks a.holds.is.frame),
+          ∙ ap (λ (ls : List Lock). quiet (record b { holdings = record b.holdings { locks = ls; old1 = Some (f + 1) } })) (without_newest (λ (e : Lock). e.frame) f lock b.holdings.locks a.holds.is.frame),
     )
 
     pub slot_updates : (i word : ℕ) (keep : Bool) → is_slot (level_type level) i ≡ true → Came y w → Serves y w (of_back f) [] → LeavesUnlocked y w f → LeftLock y f level w →
@@ -134,7 +132,7 @@ module _ (b y : PortValue) (o : Owners) (f level : ℕ) (a : UnderLock b y o f l
       c,
       d,
       leaves ∙ ap (λ (q : PortValue). quiet (record q { holdings = record q.holdings { locks = []; old0 = c; old1 = d } })) locked_hand
-      ∙ ap (λ (ls : List Lock). quiet (record b { holdings = record b.holdings { locks = ls; old0 = c; old1 = d } })) (sym rests_b.empty.locks),
+          ∙ ap (λ (ls : List Lock). quiet (record b { holdings = record b.holdings { locks = ls; old0 = c; old1 = d } })) (sym rests_b.empty.locks),
     )
 
     module _ (i word : ℕ) (keep : Bool) (answers : List Bool) (answer : Result (Unit {0}) Stop) where

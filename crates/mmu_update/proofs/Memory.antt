@@ -1,5 +1,5 @@
 -- A word of ordinary memory, from before the reference on.
-use Rattle.std.proofs.Common.{◌≡◌, ℕ, Bool, false, [], None, Result, Ok, Err, IfErr, refl, ◌∙◌, inl, inr}
+use Rattle.std.proofs.Common.{◌≡◌, ℕ, Bool, [], None, Result, Ok, Err, refl, ◌∙◌, inl, inr}
 use Rattle.xp_words.specs.declared.kind.PageType.TheVariants.{Writable}
 use Rattle.xp_words.specs.declared.place.Place.TheVariants.{Cell}
 use Rattle.xp_words.specs.declared.reply.Pause.TheVariants as pauses
@@ -18,7 +18,6 @@ use Rattle.frame_words.specs.Refs.{took}
 use Rattle.frame_types.specs.Found.{DropsPlain}
 use Rattle.frame_types.specs.Taking.{IsTypeStop, gave_type, typed_as}
 use Rattle.frame_types.proofs.Serving.{type_uncounted}
-use Rattle.level_release.specs.Asking.{is_due_answer}
 use Rattle.writable_pages.specs.Pages.{LeavesPage, ServesPage, TookPage, of_page}
 use Rattle.mmu_update.specs.Course as courses
 use Rattle.mmu_update.specs.Elements.{IsWriteStop, LeavesUpdate}
@@ -36,18 +35,13 @@ type_kinds (Paused (pauses.Busy f x)) is = tt
 type_kinds (Paused (pauses.Flush v stamp x)) is = tt
 type_kinds _ is = absurd is
 
--- a type that is not to be had is no pause for the gate
-pub type_undue : (answer : Result (Unit {0}) Stop) → IfErr answer IsTypeStop → is_due_answer answer ≡ false
-type_undue (Ok done) is = refl
-type_undue (Err (Refused x)) is = refl
-type_undue (Err (Paused (pauses.Lost place e x))) is = refl
-type_undue (Err (Paused (pauses.Busy f x))) is = refl
-type_undue (Err (Paused (pauses.Flush v stamp x))) is = refl
-type_undue (Err (Paused _)) is = absurd is
+-- the reference is in hand still
+pub lent : (b v : PortValue) (o : Owners) (f : ℕ) → Ordinary b v o f → Holds b v (took f o.tables b.holdings)
+lent b v o f a = a.same ∙ a.referred.hand
 
 module _ (b v : PortValue) (o : Owners) (f i word : ℕ) (keep : Bool) (a : Ordinary b v o f) where
-  pub takes : Holds b v (took f o.tables b.holdings)
-  takes = a.same ∙ a.referred.hand
+  takes : Holds b v (took f o.tables b.holdings)
+  takes = lent b v o f a
 
   before : (answer : Result (Unit {0}) Stop) → Serves b v (asks o f i word keep answer) []
   before answer = locked_serves o f i word keep answer b a.at v [] a.referred.serves a.serves

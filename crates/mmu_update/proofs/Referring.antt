@@ -1,5 +1,5 @@
 -- The reference to the frame of a word: taken; not to be had; or given back, where the frame cannot be locked.
-use Rattle.std.proofs.Common.{◌≡◌, ℕ, ◌<◌, Bool, false, [], None, Result, Ok, Err, sym, ap, ◌∙◌, subst, refl}
+use Rattle.std.proofs.Common.{◌≡◌, ℕ, ◌<◌, Bool, false, [], None, Ok, Err, sym, ap, ◌∙◌, subst, refl}
 use Rattle.xp_words.specs.declared.reply.Pause.TheVariants as pauses
 use Rattle.xp_words.specs.declared.reply.Refusal.TheVariants as refusals
 use Rattle.xp_words.specs.declared.reply.Stop.{Stop}

@@ -1,5 +1,5 @@
 -- The steps of a write, one call behind the other: what a guest sees of them, and why it stops.
-use Rattle.std.proofs.Common.{◌≡◌, ℕ, Bool, true, false, List, [], ◌∷◌, ◌++◌, Option, None, Some, Result, Ok, Err, refl, sym, ◌∙◌, ap, subst, append-nil, inl, inr, ◌⊎◌}
+use Rattle.std.proofs.Common.{◌≡◌, ℕ, Bool, true, false, List, [], ◌∷◌, ◌++◌, Option, None, Some, Result, Ok, Err, refl, ◌∙◌, subst, append-nil, inl, inr, ◌⊎◌}
 use Rattle.xp_words.specs.declared.kind.PageType.{PageType}
 use Rattle.xp_words.specs.declared.kind.PageType.TheVariants.{Writable}
 use Rattle.xp_words.specs.declared.place.Place.TheVariants.{Cell, Kind}
@@ -10,7 +10,7 @@ use Rattle.xp_board.specs.declared.step.Act.TheVariants.{Store}
 use Rattle.xp_board.specs.declared.step.StepKind.TheVariants as kinds
 use Rattle.xp_board.specs.Told.{Post, PortValue}
 use Rattle.step_maker.specs.Moves.{Came, Met, Moves}
-use Rattle.step_maker.proofs.Coming.{came_post, came_trans, met_after}
+use Rattle.step_maker.proofs.Coming.{came_post, met_after}
 use Rattle.answer_fits.specs.Answers.{Deed, Misses, Serves, Stops, Writes, deeds_by, missed}
 use Rattle.answer_fits.specs.Asked.{IsFor, Request, of_back, of_frame}
 use Rattle.answer_fits.proofs.Later.{IsUncounted, stops_later}
@@ -20,7 +20,7 @@ use Rattle.entry_locks.specs.Locks.{of_lock}
 use Rattle.foreign_map.specs.declared.owners.Owners.{Owners}
 use Rattle.frame_words.specs.Cells.{IsApart}
 use Rattle.writable_pages.specs.Pages.{HidesMark, ServesPage, of_page}
-use Rattle.mmu_update.specs.Elements.{HasUpdateDeeds, ServesUpdate, stopped, stored, update_request}
+use Rattle.mmu_update.specs.Elements.{ServesUpdate, stopped, stored, update_request}
 use Rattle.mmu_update.specs.declared.element.Element.TheVariants.{Write}
 use Rattle.mmu_update.proofs.Asking.{names_frame, of_call, within_call}
 

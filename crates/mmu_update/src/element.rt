@@ -7,7 +7,10 @@ use xp_words::Pair;
 #[derive(Clone, Copy, Debug, PartialEq, Eq, Drop)]
 pub enum Element {
     /// Command 1 (`MMU_MACHPHYS_UPDATE` of `xen.h`): the machine-to-physical word of a frame.
-    SetM2p { frame: u64, gpfn: u64 },
+    SetM2p {
+        frame: u64,
+        gpfn: u64,
+    },
     /// Commands 0 and 2 (`MMU_NORMAL_PT_UPDATE`, `MMU_PT_UPDATE_PRESERVE_AD`): the word at an address, which may be an entry of a live table.
     /// `keep`: the entry's accessed and dirty bits stay.
     Write {

@@ -1,5 +1,5 @@
 -- Own words that are known to be 0, and steps that are elsewhere: the course of a release, and of a call that sets a machine-to-physical word.
-use Rattle.std.proofs.Common.{◌≡◌, ◌≢◌, ℕ, ◌++◌, ◌==◌, Bool, true, false, List, [], ◌∷◌, length, Option, Some, None, IsTrue, Result, Ok, Err, refl, sym, ap, ◌∙◌, subst, arith}
+use Rattle.std.proofs.Common.{◌≡◌, ◌≢◌, ℕ, ◌==◌, Bool, true, false, List, [], ◌∷◌, Option, Some, None, Result, Ok, Err, refl, sym, ap, ◌∙◌, subst, arith}
 use Rattle.xp_words.specs.KindWords.{kind_fields}
 use Rattle.xp_words.specs.Machine.{Machine}
 use Rattle.xp_words.specs.PageTypes.{is_table}
@@ -9,7 +9,7 @@ use Rattle.xp_words.specs.declared.entry.Demand.TheVariants as demands
 use Rattle.xp_words.specs.declared.kind.KindWord.{KindWord}
 use Rattle.xp_words.specs.declared.kind.PageType.{PageType}
 use Rattle.xp_words.specs.declared.place.Place.{Place}
-use Rattle.xp_words.specs.declared.place.Place.TheVariants.{Clock, Vcpu, Refs, Kind, M2p, Cell}
+use Rattle.xp_words.specs.declared.place.Place.TheVariants.{Clock, Vcpu, Refs}
 use Rattle.xp_words.specs.declared.reply.Pause.TheVariants.{Due, Lost, Busy, Flush, Alive}
 use Rattle.xp_words.specs.declared.reply.Refusal.{Refusal}
 use Rattle.xp_words.specs.declared.reply.Stop.{Stop}
@@ -34,7 +34,7 @@ use Rattle.frame_types.specs.Found.{Dies, DropsBy, StoresKind, saw_kind}
 use Rattle.m2p_map.specs.Found.{MapsBy, StoresM2p}
 use Rattle.table_entries.specs.Found.{saw_cell}
 use Rattle.table_words.specs.Entries.{ShedsAt}
-use Rattle.table_releases.specs.Found.{ComesBy, DiesShed, FormBy, LiveBy, LowersTable, PartialBy, ReleasedBy, ReleasesBy, TypedReleased, has_recorded}
+use Rattle.table_releases.specs.Found.{ComesBy, FormBy, LiveBy, LowersTable, ReleasedBy, ReleasesBy, TypedReleased, has_recorded}
 use Rattle.table_releases.specs.declared.entries.Released.{Released}
 
 -- ---- the own word of that number, last found or left as 0

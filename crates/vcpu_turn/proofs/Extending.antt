@@ -1,5 +1,5 @@
 -- What is settled and then done: elements of lists as items.
-use Rattle.std.proofs.Common.{◌≡◌, ℕ, ◌<◌, ◌++◌, Bool, List, length, get_or, slice_get, Option, Some, refl, sym, ◌∙◌, Result, Ok, Err, IfErr, subst}
+use Rattle.std.proofs.Common.{◌≡◌, ℕ, ◌<◌, Bool, List, length, get_or, slice_get, Option, Some, refl, sym, ◌∙◌, Result, Ok, Err, IfErr, subst}
 use Rattle.std.specs.Result.{IsErrAnd}
 use Rattle.std.proofs.lemmas.Option.{slice_get-get_or}
 use Rattle.xp_words.specs.declared.reply.Stop.{Stop}

@@ -13,7 +13,6 @@ use Rattle.xp_board.specs.declared.step.StepKind.TheVariants as kinds
 use Rattle.xp_board.specs.Acts.{left_by}
 use Rattle.xp_board.specs.Told.{Post, PortValue}
 use Rattle.board_lemmas.proofs.HandLists.{EachOf-map}
-use Rattle.answer_fits.specs.Visits.{Visit}
 use Rattle.xp_preempt.specs.Gates.{Gives, last_ask, yeses}
 use Rattle.step_maker.proofs.Coming.{came_post}
 use Rattle.foreign_map.specs.declared.owners.Owners.{Owners}

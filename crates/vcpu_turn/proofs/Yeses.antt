@@ -1,22 +1,13 @@
 -- Lists whose items ask nothing, and the yes of their gate: none goes on past it, and none is due without it.
-use Rattle.std.proofs.Common.{◌≡◌, ℕ, ◌+◌, ◌-◌, ◌<◌, ◌≤◌, Bool, true, false, List, [], ◌∷◌, ◌++◌, length, slice_get, Option, Some, None, Result, Ok, Err, refl, sym, ap, ◌∙◌, arith, inl, inr, subst, append-nil, length-append}
+use Rattle.std.proofs.Common.{◌≡◌, ℕ, ◌+◌, ◌-◌, ◌<◌, ◌≤◌, Bool, true, false, List, [], ◌∷◌, ◌++◌, length, Result, Ok, Err, refl, sym, ap, ◌∙◌, arith, inl, inr, subst, append-nil, length-append}
 use Rattle.std.proofs.lemmas.Bool.{cases_order}
-use Rattle.xp_words.specs.declared.ops.Op.{Op}
-use Rattle.xp_words.specs.declared.ops.Pair.{Pair}
 use Rattle.xp_words.specs.declared.reply.Stop.{Stop}
-use Rattle.xp_words.specs.declared.reply.Stop.TheVariants.{Paused}
 use Rattle.xp_board.specs.Told.{PortValue}
 use Rattle.xp_preempt.specs.Gates.{Gives, ends_yes, last_ask, yeses}
 use Rattle.xp_preempt.proofs.Consulting.{yeses_then}
 use Rattle.xp_preempt.proofs.Numbering.{says_last, says_no}
-use Rattle.level_release.proofs.Noes.{settled_no}
-use Rattle.vcpu_turn.specs.Cpus.{Processing, OfPairs, list_of}
-use Rattle.vcpu_turn.specs.Lists.{AsksNothing, DidItems, Fitting, WorksOn, none, more, all_done, last_done, due, stopped, asks_between, is_due_by}
-use Rattle.vcpu_turn.specs.Turning as turning
-use Rattle.vcpu_turn.specs.Turning.{CountsAsks, DoesNext, Goes, GoesNoFurther, GoesOnWith, IsTurn}
-use Rattle.vcpu_turn.specs.Working.{FitsPair, PairFits, Works}
-use Rattle.vcpu_turn.specs.declared.cpu.TurnEnd.{TurnEnd}
-use Rattle.vcpu_turn.proofs.Listing.{asked_exactly, did_count, did_no}
+use Rattle.vcpu_turn.specs.Lists.{AsksNothing, DidItems, Fitting, WorksOn, none, more, all_done, last_done, due, stopped, is_due_by}
+use Rattle.vcpu_turn.proofs.Listing.{did_count, did_no}
 
 module _ (fits : Fitting) (count from : ℕ) (v : PortValue) (quiet : AsksNothing fits) (before : ℕ) (says : ℕ → Bool) where
   -- the gate says no behind each item that more follow

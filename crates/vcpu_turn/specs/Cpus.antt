@@ -1,5 +1,5 @@
 -- The vCPUs between their turns: their operations, and what they answered.
-use Rattle.std.specs.Prelude.{ℕ, ◌+◌, ◌-◌, ◌==◌, Bool, false, List, [], ◌∷◌, ◌++◌, length, Option, Some, None, Result, Ok, Err}
+use Rattle.std.specs.Prelude.{ℕ, ◌+◌, ◌-◌, Bool, false, List, [], ◌∷◌, ◌++◌, length, Option, Some, None, Result, Ok, Err}
 use Rattle.xp_words.specs.declared.ops.ExtOp.{ExtOp}
 use Rattle.xp_words.specs.declared.ops.Pair.{Pair}
 use Rattle.xp_words.specs.declared.ops.Call.{Call}

@@ -1,7 +1,4 @@
-use Rattle.std.proofs.Common.{[], None, true, false, refl, sym, ap, ◌∙◌, subst}
-use Rattle.xp_words.specs.declared.kind.KindWord.{KindWord}
-use Rattle.xp_board.specs.Told.{PortValue}
-use Rattle.step_maker.specs.Moves.{Came}
+use Rattle.std.proofs.Common.{[], true, false, sym, ap, ◌∙◌, subst}
 use Rattle.step_maker.proofs.Coming.{came_trans}
 use Rattle.answer_fits.specs.Asked.{of_back}
 use Rattle.answer_fits.proofs.Piecing.{serves_came}

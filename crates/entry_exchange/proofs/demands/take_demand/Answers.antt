@@ -1,4 +1,4 @@
-use Rattle.std.proofs.Common.{◌≡◌, ◌-◌, [], None, Ok, Err, IfErr, false, refl, sym, ap, ◌∙◌, subst}
+use Rattle.std.proofs.Common.{◌≡◌, ◌-◌, None, Ok, Err, IfErr, false, refl, sym, ap, ◌∙◌, subst}
 use Rattle.std.proofs.lemmas.Result.{err_from_is_err_and}
 use Rattle.xp_words.specs.declared.entry.Demand.TheVariants.{Read, Typed}
 use Rattle.xp_words.specs.Entries.{below}
@@ -96,9 +96,6 @@ returns-in_ok-get_ref-in-Read-clause-course g c =
 
 -- ---- a page
 
-pub get_page-requires-clause-stub : goal.get_page-requires-clause-stub
-get_page-requires-clause-stub g c = ?
-
 pub returns-in_err-get_page-in-Typed-clause-serves : goal.returns-in_err-get_page-in-Typed-clause-serves
 returns-in_err-get_page-in-Typed-clause-serves g c =
     let v = g.P.Port.value c.args.port.now in
@@ -180,9 +177,6 @@ returns-in_ok-get_page-in-Typed-clause-course g c =
     (paged v w c.args.owner c.args.level c.in-Typed.frame c.in-Typed.kind (subst (λ d. IsOfLevel c.args.level d) c.in-Typed.is c.requires.asks) c.if-level-eq1.true c.in_ok-get_page-in-Typed.field-0 c.in_ok-get_page-in-Typed.ensures.frame.0 c.in_ok-get_page-in-Typed.ensures.course))
 
 -- ---- a table
-
-pub acquire-requires-clause-stub : goal.acquire-requires-clause-stub
-acquire-requires-clause-stub g c = ?
 
 pub returns-in_err-acquire-in-Typed-2-clause-came : goal.returns-in_err-acquire-in-Typed-2-clause-came
 returns-in_err-acquire-in-Typed-2-clause-came g c =

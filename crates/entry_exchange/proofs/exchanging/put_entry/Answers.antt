@@ -1,5 +1,4 @@
-use Rattle.std.proofs.Common.{◌≡◌, not, Bool, None, Some, Ok, Err, true, false, refl, sym, ap, ◌∙◌, subst}
-use Rattle.xp_words.specs.Machine.{Machine}
+use Rattle.std.proofs.Common.{◌≡◌, not, Bool, Ok, Err, true, false, refl, sym, ap, ◌∙◌, subst}
 use Rattle.xp_words.specs.Places.{number, sizes_of}
 use Rattle.xp_words.specs.declared.place.Place.TheVariants.{Cell}
 use Rattle.xp_words.specs.declared.reply.Pause.TheVariants.{Lost}

@@ -4,21 +4,18 @@ use Rattle.xp_words.specs.declared.reply.Stop.{Stop}
 use Rattle.mmu_update.specs.Fits.{Updates}
 use Rattle.mmu_update.specs.declared.element.Element.TheVariants.{Write}
 use Rattle.mmu_update.proofs.Holding.{may_drop, may_write, no_type, no_work}
-use Rattle.mmu_update.proofs.Memory.{stored, takes, type_undue, untaken}
+use Rattle.mmu_update.proofs.Memory.{lent, stored, untaken}
 use Rattle.mmu_update.proofs.elements.write_memory.Goals as goal
-
-pub take_page-requires-clause-stub : goal.take_page-requires-clause-stub
-take_page-requires-clause-stub g c = ?
 
 pub take_page-requires-clause-apart : goal.take_page-requires-clause-apart
 take_page-requires-clause-apart g c =
     let a = c.requires.ordinary.1 in
-    no_work c.requires.ordinary.0 (g.P.Port.value c.args.port.now) c.args.frame c.args.owners.tables a.referred.begins.rests (a.same ∙ a.referred.hand)
+    no_work c.requires.ordinary.0 (g.P.Port.value c.args.port.now) c.args.frame c.args.owners.tables a.referred.begins.rests (lent c.requires.ordinary.0 (g.P.Port.value c.args.port.now) c.args.owners c.args.frame a)
 
 pub take_page-requires-clause-untyped : goal.take_page-requires-clause-untyped
 take_page-requires-clause-untyped g c =
     let a = c.requires.ordinary.1 in
-    no_type c.requires.ordinary.0 (g.P.Port.value c.args.port.now) c.args.frame c.args.owners.tables a.referred.begins.rests (a.same ∙ a.referred.hand)
+    no_type c.requires.ordinary.0 (g.P.Port.value c.args.port.now) c.args.frame c.args.owners.tables a.referred.begins.rests (lent c.requires.ordinary.0 (g.P.Port.value c.args.port.now) c.args.owners c.args.frame a)
 
 pub returns-in_err-take_page-clause-writes : goal.returns-in_err-take_page-clause-writes
 returns-in_err-take_page-clause-writes g c = λ b keep a.
@@ -32,12 +29,12 @@ returns-in_err-take_page-clause-writes g c = λ b keep a.
 pub store_cell-requires-clause-writes : goal.store_cell-requires-clause-writes
 store_cell-requires-clause-writes g c =
     let a = c.requires.ordinary.1 in
-    may_write c.requires.ordinary.0 (g.P.Port.value c.args.port.now) c.args.frame c.args.owners.tables a.referred.begins.rests (a.same ∙ a.referred.hand) (g.P.Port.value c.take_page.new.port) c.in_ok-take_page.ensures.hand
+    may_write c.requires.ordinary.0 (g.P.Port.value c.args.port.now) c.args.frame c.args.owners.tables a.referred.begins.rests (lent c.requires.ordinary.0 (g.P.Port.value c.args.port.now) c.args.owners c.args.frame a) (g.P.Port.value c.take_page.new.port) c.in_ok-take_page.ensures.hand
 
 pub drop_plain-requires-clause-drops : goal.drop_plain-requires-clause-drops
 drop_plain-requires-clause-drops g c =
     let a = c.requires.ordinary.1 in
-    may_drop c.requires.ordinary.0 (g.P.Port.value c.args.port.now) (g.P.Port.value c.take_page.new.port) (g.P.Port.value c.store_cell.new.port) c.args.frame c.args.owners.tables a.referred.begins.rests (a.same ∙ a.referred.hand)
+    may_drop c.requires.ordinary.0 (g.P.Port.value c.args.port.now) (g.P.Port.value c.take_page.new.port) (g.P.Port.value c.store_cell.new.port) c.args.frame c.args.owners.tables a.referred.begins.rests (lent c.requires.ordinary.0 (g.P.Port.value c.args.port.now) c.args.owners c.args.frame a)
     c.in_ok-take_page.ensures.hand c.store_cell.ensures.hand
 
 pub returns-clause-writes : goal.returns-clause-writes
