@@ -1,7 +1,7 @@
 //! Operations that are lists, and the gates that pause them.
 ghost use Rattle.std.specs.Prelude.{false, true};
 
-use crate::runs::{bytes, runs_by, runs_to, turns, with_pace};
+use crate::runs::{bytes, runs_by, runs_to, turns, with_option, with_pace};
 use std::alloc::Global;
 use std::process::Abort;
 use std::sync::Arc;
@@ -36,6 +36,8 @@ fn an_update_list_is_paused_after_each_pair(rt: HostRuntime) -> Result<(), Fail>
     runs_by(&rt, &every, one.as_str(), 7, Status::Done, AFTER_ONE);
     let three = trace_of(rt.alloc(), "turn 0 3\n")?;
     runs_by(&rt, &every, three.as_str(), 7, Status::Done, AFTER_ALL);
+    let joined = with_option(&rt, "--preempt=1");
+    runs_by(&rt, &joined, one.as_str(), 7, Status::Done, AFTER_ONE);
     Ok(())
 }
 

@@ -30,6 +30,11 @@ pub fn with_pace(rt: &(impl Abort + AllocGlobal), pace: &str) -> Vec<String> {
     )
 }
 
+// `turns` and one more word.
+pub fn with_option(rt: &(impl Abort + AllocGlobal), option: &str) -> Vec<String> {
+    vec![in rt.alloc(); word(rt, "turns"), word(rt, option)].expect(rt, "memory")
+}
+
 pub fn bytes(rt: &(impl Abort + AllocGlobal), text: &str) -> Vec<u8> {
     let mut bytes = Vec::new(rt.alloc());
     bytes
@@ -186,10 +191,17 @@ fn other_words_are_refused_before_anything_is_read(rt: HostRuntime) {
         let words = with_pace(&rt, pace);
         assert!(rt; run_paced(&rt, &words, &mut source, &mut sink) == Status::BadWords);
     }
-    let words = vec![in rt.alloc(); word(&rt, "turns"), word(&rt, "--preempt=1")].expect(
-        &rt, "memory",
-    );
-    assert!(rt; run_paced(&rt, &words, &mut source, &mut sink) == Status::BadWords);
+    for option in [
+        "--preempt",
+        "--preempt=",
+        "--preempt=01",
+        "--preempt=+1",
+        "--help",
+        "--",
+    ] {
+        let words = with_option(&rt, option);
+        assert!(rt; run_paced(&rt, &words, &mut source, &mut sink) == Status::BadWords);
+    }
     assert!(rt; sink.bytes().is_empty());
     assert!(rt; run_paced(&rt, &turns(&rt), &mut source, &mut sink) == Status::Done);
 }

@@ -9,4 +9,3 @@ pub mod Runners
 pub mod Texts
 pub mod Turns
 pub mod Unpins
-pub mod Words

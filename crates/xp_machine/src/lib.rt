@@ -9,7 +9,6 @@ mod stops;
 mod texts;
 mod top;
 mod turns;
-mod words;
 
 pub use status::Status;
 pub use top::run;

@@ -3,12 +3,12 @@ ghost use Rattle.xp_io.specs.Causes.{Rose};
 ghost use Rattle.trace_text.specs.TraceOf.{trace_of};
 ghost use Rattle.xp_machine.specs.Gates.{ArePaced, Gate, IsPaced, gate_of};
 ghost use Rattle.xp_machine.specs.Outcome.{IsAnswer, IsDue, OutcomeBy};
-ghost use Rattle.xp_machine.specs.Words.{pace_of};
+ghost use Rattle.command_words.specs.Words.{pace_of};
 
 use crate::execute::execute;
 use crate::status::Status;
 use crate::texts::{bad_text, large_text};
-use crate::words::pace_of;
+use command_words::pace_of;
 use std::alloc::{AllocError, Global};
 use trace_lines::What;
 use trace_text::{MAX_BYTES, TraceFault, read_trace};
@@ -125,8 +125,8 @@ fn paced(mut gates: Vec<Box<dyn Preempt + Send>>, every: u32) -> Vec<Box<dyn Pre
 }
 
 /// Runs a trace: reads it to its end, runs it, and writes what is due. `words` are the words of the command line
-/// without the program's name: `turns`, or `turns --preempt N`, which sets the pace of the gates. Where they are
-/// others, nothing is read. Gate v belongs to vCPU v and is let go with it; the further ones are let go at once.
+/// without the program's name: `turns`, or `turns --preempt N` or `turns --preempt=N`, which sets the pace of the gates.
+/// Where they are others, nothing is read. Gate v belongs to vCPU v and is let go with it; the further ones are let go at once.
 /// Every call returns.
 pub fn run<S: Source, K: Sink>(
     alloc: Global,
@@ -147,8 +147,10 @@ pub fn run<S: Source, K: Sink>(
     ensures read { result ≡ Status.ReadFault → Rose (S.faults source.old) (S.faults source.new) }
     ensures write { result ≡ Status.WriteFault → Rose (K.faults sink.old) (K.faults sink.new) }
 {
-    let Some(every) = pace_of(words) else {
-        return Status::BadWords;
+    let every = match pace_of(alloc, words) {
+        Ok(Some(every)) => every,
+        Ok(None) => return Status::BadWords,
+        Err(_) => return Status::Memory,
     };
     match gather(alloc, source, paced(gates, every)) {
         Err(Early::Failed) => Status::ReadFault,

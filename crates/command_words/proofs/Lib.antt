@@ -1,0 +1,4 @@
+pub mod Found
+pub mod Knowing
+pub mod Lists
+pub mod Spellings
