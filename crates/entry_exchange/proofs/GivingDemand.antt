@@ -10,14 +10,13 @@ use Rattle.xp_board.specs.Hands.{refs_to}
 use Rattle.xp_board.specs.Told.{PortValue}
 use Rattle.board_lemmas.proofs.ListCounts.{newest_held}
 use Rattle.step_maker.specs.Holds.{Holds, still}
-use Rattle.frame_types.specs.Found.{DropsPlain}
 use Rattle.frame_types.specs.Taking.{MayDropPlain, gave_type}
 use Rattle.frame_words.specs.Freeing.{gave}
 use Rattle.frame_words.specs.Refs.{MayPut}
 use Rattle.kind_words.proofs.KindHands.{apart_spares, no_work}
 use Rattle.partial_state.specs.Levels.{level_type}
 use Rattle.partial_state.proofs.LevelFacts.{level_type-under}
-use Rattle.table_courses.specs.Acquiring.{GaveRef}
+use Rattle.table_courses.specs.Acquiring.{GaveRef, GaveType}
 use Rattle.entry_exchange.specs.Course.{GaveDemand}
 use Rattle.entry_exchange.specs.Course as courses
 use Rattle.entry_exchange.specs.Parts.{GaveTable, HoldsRef, HoldsTyped, IsOfLevel, LeavesGone, LeavesUntyped}
@@ -70,7 +69,7 @@ module _ (v w : PortValue) (d : Demand) (g : ℕ) where
   pub ref_course : (owner level : ℕ) → d ≡ Read g → GaveRef v w g → GaveDemand owner level v d w
   ref_course owner level is put = subst (λ k. GaveDemand owner level v k w) (sym is) (courses.referred w g put)
 
-  pub page_course : (owner level : ℕ) (t : PageType) → d ≡ Typed g t → t ≡ Writable → level ≡ 1 → DropsPlain v w g Writable → GaveDemand owner level v d w
+  pub page_course : (owner level : ℕ) (t : PageType) → d ≡ Typed g t → t ≡ Writable → level ≡ 1 → GaveType v w g Writable → GaveDemand owner level v d w
   page_course owner level t is writable one drops = subst (λ k. GaveDemand owner level v k w) (sym (is ∙ ap (λ k. Typed g k) writable)) (courses.paged w g one drops)
 
   module _ (owner level : ℕ) (t : PageType) (is : d ≡ Typed g t) (asks : t ≡ below (level_type level)) (low : 1 ≤ level) (high : level ≤ 4) (off : level ≢ 1) where

@@ -24,19 +24,8 @@ use Rattle.board_lemmas.proofs.Counted.{entries-part, held_inside, names_typed-t
 use Rattle.board_lemmas.proofs.KindReadings.{live_count}
 use Rattle.board_lemmas.proofs.LiveTables.{table_held}
 use Rattle.board_lemmas.proofs.LockFacts.{Locks, lock_facts}
+use Rattle.table_entries.proofs.LastEntry.{counted_inside}
 use Rattle.entry_exchange.specs.Parts.{IsInside, WasInside}
-
--- a frame that the machine has not has no count
-counted_inside : (n : Machine) (m : Place → ℕ) (h : ℕ → Holdings) (g : ℕ) → Sound n m h → 0 < ref_count (m (Refs g)) → g < n.frames
-unfolding is_place ref_count ref_read
-counted_inside n m h g sound some =
-    elim (cases_Bool (nat_lt g n.frames)) [
-      | inl there ↦ grind (arith, nat_tests)
-      | inr out ↦
-          let none : m (Refs g) ≡ 0 = sound.spelled.outside (Refs g) out in
-          let zero : ref_count (m (Refs g)) ≡ 0 = ap ref_count none in
-          absurd (omega (arith, zero, some))
-    ]
 
 table_number : (t : PageType) → is_table t ≡ true → (1 ≤ type_number t) × (type_number t ≤ 4)
 table_number t table = grind (arith, nat_tests)

@@ -7,20 +7,13 @@ use Rattle.std.specs.Int.{bit_at}
 use Rattle.std.specs.Int.Bits.{or_add_and}
 use Rattle.std.specs.Int.RustNames.{bit_and, bit_or}
 use Rattle.xp_words.specs.Entries.{is_bit}
+use Rattle.pte_check.proofs.Masks.{and-or}
 use Rattle.xp_board.specs.FillSteps.{with_bit}
 use Rattle.answer_fits.specs.Licences.{with_old_bit}
 
 -- ---- unions
-min_max : (x y z : ℕ) → min x (max y z) ≡ max (min x y) (min x z)
-min_max x y z = omega arith
-
 max_max : (x y z : ℕ) → max x (max y z) ≡ max (max x y) z
 max_max x y z = omega arith
-
-and-or : (w a b : ℕ) → bit_and w (bit_or a b) ≡ bit_or (bit_and w a) (bit_and w b)
-and-or w a b =
-    same_from_bits _ _
-    (λ i. rw (bit_at_and w (bit_or a b) i, bit_at_or a b i, bit_at_or (bit_and w a) (bit_and w b) i, bit_at_and w a i, bit_at_and w b i) (min_max (bit_at w i) (bit_at a i) (bit_at b i)))
 
 or-or : (w a b : ℕ) → bit_or w (bit_or a b) ≡ bit_or (bit_or w a) b
 or-or w a b = same_from_bits _ _ (λ i. rw (bit_at_or w (bit_or a b) i, bit_at_or a b i, bit_at_or (bit_or w a) b i, bit_at_or w a i) (max_max (bit_at w i) (bit_at a i) (bit_at b i)))

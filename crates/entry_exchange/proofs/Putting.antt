@@ -28,15 +28,12 @@ use Rattle.board_lemmas.proofs.Sums.{when_eq, when_ne}
 use Rattle.foreign_map.specs.Owning.{MayMap}
 use Rattle.foreign_map.specs.declared.owners.Owners.{Owners}
 use Rattle.kind_words.proofs.KindHands.{apart_spares, known_first, no_work, typed_held}
+use Rattle.level_release.proofs.Owning.{first_passes}
 use Rattle.partial_state.specs.Levels.{level_type}
 use Rattle.entry_exchange.specs.Holding.{owner_at}
 use Rattle.entry_exchange.specs.Parts.{IsOfLevel}
 
 -- ---- whose a frame is, by the newest reference or lock
-first_passes : {A : Type 0} (test : A → Bool) (e : A) (xs ys : List A) → ys ≡ e ∷ xs → IsTrue (test e) → IsTrue (some_of test ys)
-unfolding some_of
-first_passes test e xs ys is passes = rw is (or_left _ _ passes)
-
 tells_its : (z : Sizes) (steps : List Made) (f g o : ℕ) (w : OwnerFound) → g ≡ f → w ≡ owners.Of o → IsTrue ((g == f) && tells_owner z steps f o w)
 tells_its z steps f g o w same owned = rw (when_eq g f same, owned, when_eq o o refl) refl
 

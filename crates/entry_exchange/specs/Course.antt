@@ -20,10 +20,9 @@ use Rattle.kind_words.specs.Kinds.{partial_kind}
 use Rattle.kept_marks.specs.Marks.{KeptFor}
 use Rattle.entry_locks.specs.Locks.{Unlocks}
 use Rattle.foreign_map.specs.declared.owners.Owners.{Owners}
-use Rattle.frame_types.specs.Found.{DropsPlain}
 use Rattle.frame_types.specs.Lowering.{DropsType}
 use Rattle.partial_state.specs.Levels.{level_type}
-use Rattle.table_courses.specs.Acquiring.{Acquired, GaveRef, GotRef}
+use Rattle.table_courses.specs.Acquiring.{Acquired, GaveRef, GaveType, GotRef}
 use Rattle.table_words.specs.OldWords.{old_place}
 use Rattle.table_words.specs.declared.old_words.OldWord.TheVariants.{Second}
 use Rattle.writable_pages.specs.Pages.{GotPage}
@@ -66,7 +65,7 @@ pub data TookDemand (owner level : ℕ) (v : PortValue) : Demand → PortValue �
 pub data GaveDemand (owner level : ℕ) (v : PortValue) : Demand → PortValue → Type 0 where
   nothing : GaveDemand owner level v demands.Nothing v
   referred : (w : PortValue) (g : ℕ) → GaveRef v w g → GaveDemand owner level v (demands.Read g) w
-  paged : (w : PortValue) (g : ℕ) → level ≡ 1 → DropsPlain v w g Writable → GaveDemand owner level v (demands.Typed g Writable) w
+  paged : (w : PortValue) (g : ℕ) → level ≡ 1 → GaveType v w g Writable → GaveDemand owner level v (demands.Typed g Writable) w
   shared : (u w : PortValue) (g : ℕ) → 2 ≤ level → DropsType v u g false → GaveRef u w g → GaveDemand owner level v (demands.Typed g (level_type (level - 1))) w
   last : (u w : PortValue) (g : ℕ) → 2 ≤ level → DropsType v u g true → KeptFor u w g (partial_kind (level_type (level - 1)) true false 512 0) owner →
       GaveDemand owner level v (demands.Typed g (level_type (level - 1))) w

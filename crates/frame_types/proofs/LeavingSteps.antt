@@ -16,7 +16,7 @@ use Rattle.answer_fits.specs.Visits.{visit, Does, Only, Then, Where}
 use Rattle.answer_fits.proofs.Visiting.{does_as, does_nothing, does_one, does_then}
 use Rattle.frame_words.specs.Freeing.{PutBy, Puts}
 use Rattle.kind_words.specs.Kinds.{dead_kind, partial_kind}
-use Rattle.frame_types.specs.Found.{DeadBy, Dies, DropsBy, DropsPlain, GivenUpBy, SharedBy, StoresKind}
+use Rattle.frame_types.specs.Found.{DeadBy, Dies, DropsBy, DropsPlain, SharedBy, StoresKind}
 use Rattle.frame_types.specs.Plain.{is_refused}
 
 -- a kind word is left
@@ -37,20 +37,6 @@ shared_steps v d w f x stamp want store back =
 pub dead_steps : (v a d w : PortValue) (f x clock : ℕ) (want : PageType) → Moves v a Clock Load kinds.Look None clock → Moves a d (Kind f) (Store (kind_write (dead_kind want true clock))) kinds.Kind None x → Puts d w f →
     Does v w (λ vs. DeadBy f want vs)
 dead_steps v a d w f x clock want look store back = does_then v d w (Dies f want true) (PutBy f) (dies v a d f x clock want true look store) back
-
--- ---- ordinary memory is given up
-module _ (v w : PortValue) (f stamp : ℕ) (own : Bool) (stop : Stop) where
-  pub given_shared : own ≡ false → Does v w (λ vs. SharedBy f Writable stamp vs) → Does v w (λ vs. GivenUpBy f own (is_refused stop) stamp vs)
-  given_shared is a = subst (λ b. Does v w (λ vs. GivenUpBy f b (is_refused stop) stamp vs)) (sym is) a
-
-  pub given_dead : (r : _) → own ≡ true → stop ≡ Refused r → Does v w (λ vs. DeadBy f Writable vs) → Does v w (λ vs. GivenUpBy f own (is_refused stop) stamp vs)
-  given_dead r is refused a =
-      subst (λ e. Does v w (λ vs. GivenUpBy f own (is_refused e) stamp vs)) (sym refused) (subst (λ b. Does v w (λ vs. GivenUpBy f b true stamp vs)) (sym is) a)
-
-  pub given_kept : (r : _) (x : ℕ) → own ≡ true → stop ≡ Paused r → Moves v w (Kind f) (Store (kind_write (partial_kind Writable true true 0 stamp))) kinds.Kind None x → Does v w (λ vs. GivenUpBy f own (is_refused stop) stamp vs)
-  given_kept r x is paused store =
-      subst (λ e. Does v w (λ vs. GivenUpBy f own (is_refused e) stamp vs)) (sym paused)
-      (subst (λ b. Does v w (λ vs. GivenUpBy f b false stamp vs)) (sym is) (stores v w f x (partial_kind Writable true true 0 stamp) store))
 
 -- ---- a type is given back
 module _ (v a w : PortValue) (f found : ℕ) (kind : PageType) (lower : Moves v a (Kind f) (Add one_down) kinds.Kind None found) where

@@ -121,28 +121,6 @@ SharedBy f want stamp vs = Then (StoresKind f (partial_kind want false true 0 st
 abbrev pub DeadBy : ℕ → PageType → List Visit → Type 0
 DeadBy f want vs = Then (Dies f want true) (PutBy f) vs
 
--- ---- ordinary memory
-abbrev pub GivenUpBy : ℕ → Bool → Bool → ℕ → List Visit → Type 0
-GivenUpBy f true true stamp vs = DeadBy f Writable vs
-GivenUpBy f true false stamp vs = StoresKind f (partial_kind Writable true true 0 stamp) vs
-GivenUpBy f false refused stamp vs = SharedBy f Writable stamp vs
-
--- the flush was not to be had
-pub record GivenUpAfter (f : ℕ) (stop : Stop) (vs : List Visit) : Type 0 where
-  pub own : Bool
-  pub stamp : ℕ
-  pub steps : Then (λ ts. TakesOf f Writable (Waiting own stamp stop) ts) (λ gs. GivenUpBy f own (is_refused stop) stamp gs) vs
-
--- It is ordinary memory by these steps; or it is not, and the reference is given back, or in the frame's own mark.
-abbrev pub MemoryBy : Machine → ℕ → Result (Unit {0}) Stop → List Visit → Type 0
-MemoryBy n f (Ok done) vs = TakesOf f Writable Counted vs
-MemoryBy n f (Err (Refused (refusals.Clock x))) vs = GivenUpAfter f (Refused (refusals.Clock x)) vs
-MemoryBy n f (Err (Paused (Flush u stamp x))) vs = GivenUpAfter f (Paused (Flush u stamp x)) vs
-MemoryBy n f (Err e) vs = Then (λ ts. TypeBy n f Writable (Err e) ts) (PutBy f) vs
-
-abbrev pub MemoryFound : PortValue → PortValue → ℕ → Result (Unit {0}) Stop → Type 0
-MemoryFound v w f answer = Does v w (λ vs. MemoryBy v.post.machine f answer vs)
-
 -- ---- a type is given back of a frame that holds no entries
 -- behind the last type count it is dead with a clock value that was found
 abbrev pub DropsBy : ℕ → PageType → List Visit → Type 0

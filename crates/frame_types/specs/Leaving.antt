@@ -44,16 +44,3 @@ pub record StaysTyped (b w : PortValue) (f owner : ℕ) (want : PageType) : Type
 -- from wherever the frame came into the own works, its type count is in hand
 abbrev pub KeepsType : PortValue → PortValue → ℕ → PageType → Type 0
 KeepsType v w f want = (b : PortValue) (owner stamp : ℕ) → WaitsFrom b v f owner want true stamp → StaysTyped b w f owner want
-
--- ---- ordinary memory
--- of the own domain
-pub record WaitsIn (b v : PortValue) (f owner : ℕ) (own : Bool) (stamp : ℕ) : Type 0 where
-  pub from : WaitsFrom b v f owner Writable own stamp
-  pub domain : owner ≡ domain_of v.post.machine v.post.vcpu
-
-abbrev pub IsMemoryWaiting : PortValue → ℕ → Bool → ℕ → Type 0
-IsMemoryWaiting v f own stamp = (b : PortValue) × (owner : ℕ) × WaitsIn b v f owner own stamp
-
--- from wherever the frame came into the own works, the untyped reference went out of the hand
-abbrev pub GivesUp : PortValue → PortValue → ℕ → Bool → ℕ → Type 0
-GivesUp v w f own stamp = (b : PortValue) (owner : ℕ) → WaitsIn b v f owner own stamp → FlushedHolds b w (gave f b.holdings)

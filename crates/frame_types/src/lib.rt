@@ -3,7 +3,6 @@
 
 mod leaving;
 mod lowering;
-mod memory;
 mod plain;
 mod standing;
 mod taking;
@@ -11,7 +10,6 @@ mod words;
 
 pub use leaving::{leave_dead, leave_shared, leave_unsettled};
 pub use lowering::drop_type;
-pub use memory::take_writable;
 pub use plain::drop_plain;
 pub use standing::Standing;
 pub use taking::{Counting, Taken, count_live, take_looked, take_type};

@@ -27,7 +27,6 @@ pub fn take_back<P: Port>(port: &mut P, frame: u32, kind: KindWord) -> Result<()
     requires frame { frame < (P.value port.old).post.machine.frames }
     requires may { MayWork (P.value port.old) }
     requires is { IsTrue (is_kind kind) }
-    requires fits { IsTrue (is_kind_in (P.value port.old).post.machine (Some kind)) }
     requires partial { IsTrue (is_partial kind) }
     requires kept { kind.kept ≡ true }
     requires page { IsUnpaged kind }

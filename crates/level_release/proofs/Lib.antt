@@ -19,7 +19,7 @@ mod ServingRisen
 mod ServingRun
 pub mod ServingTables
 pub mod HandsUnwinding
-mod Owning
+pub mod Owning
 mod Handing
 mod Dropped
 mod Requested
@@ -28,7 +28,7 @@ mod Counted
 mod Taken
 mod Resumed
 mod Asking
-mod Named
+pub mod Named
 mod Exchanged
 mod SettlingSteps
 mod Looked

@@ -29,7 +29,7 @@ is_old : (which : OldWord) → (old_number which ≡ 2) ⊎ (old_number which �
 is_old First = inl refl
 is_old Second = inr refl
 
-not_flushed : (which : OldWord) → old_number which ≢ 5
+pub not_flushed : (which : OldWord) → old_number which ≢ 5
 not_flushed First = λ e. omega (arith, e)
 not_flushed Second = λ e. omega (arith, e)
 

@@ -49,7 +49,7 @@ held_owned n s h f w finds held =
     counted_owned w (subst (λ y. 0 < ref_count y) finds.word some)
 
 -- ---- it is known by the newest reference
-first_passes : {A : Type 0} (test : A → Bool) (e : A) (xs ys : List A) → ys ≡ e ∷ xs → IsTrue (test e) → IsTrue (some_of test ys)
+pub first_passes : {A : Type 0} (test : A → Bool) (e : A) (xs ys : List A) → ys ≡ e ∷ xs → IsTrue (test e) → IsTrue (some_of test ys)
 unfolding some_of
 first_passes test e xs ys is passes = rw is (or_left _ _ passes)
 

@@ -21,7 +21,7 @@ use Rattle.answer_fits.specs.Answers.{Stops}
 use Rattle.answer_fits.specs.Visits.{Does, Then}
 use Rattle.frame_words.specs.Freeing.{PutBy}
 use Rattle.kind_words.specs.Kinds.{partial_kind}
-use Rattle.frame_types.specs.Found.{Dies, DropsPlain}
+use Rattle.frame_types.specs.Found.{Dies}
 use Rattle.frame_types.specs.Lowering.{DropsType}
 use Rattle.partial_state.specs.Levels.{level_type}
 use Rattle.partial_state.specs.declared.stack.TableWork.{TableWork}
@@ -29,7 +29,7 @@ use Rattle.table_entries.specs.Asking.{of_entries}
 use Rattle.table_words.specs.OldWords.{old_place}
 use Rattle.table_words.specs.declared.old_words.OldWord.{OldWord}
 use Rattle.table_words.specs.declared.old_words.OldWord.TheVariants.{First, Second}
-use Rattle.table_courses.specs.Acquiring.{GaveRef, Named}
+use Rattle.table_courses.specs.Acquiring.{GaveRef, GaveType, Named}
 use Rattle.table_releases.specs.Found.{ReleasesFound, has_recorded}
 use Rattle.table_releases.specs.Plain.{TwinRelease}
 use Rattle.table_releases.specs.declared.entries.Released.{Released}
@@ -114,7 +114,7 @@ abbrev pub closing_table : ℕ → ℕ → TableWork
 closing_table f level = record { frame = f; level = level; done = 0; own = false; recorded = false }
 
 pub data WasReleased (v : PortValue) (f : ℕ) (kind : PageType) : PortValue → List Bool → Result (Unit {0}) Stop → Type 0 where
-  plain : (w : PortValue) → is_table kind ≡ false → DropsPlain v w f kind → WasReleased v f kind w [] (Ok tt)
+  plain : (w : PortValue) → is_table kind ≡ false → GaveType v w f kind → WasReleased v f kind w [] (Ok tt)
   shared : (u w : PortValue) → is_table kind ≡ true → DropsType v u f false → GaveRef u w f → WasReleased v f kind w [] (Ok tt)
   last : (u x w : PortValue) (word level : ℕ) (answers : List Bool) (answer : Result (Unit {0}) Stop) → is_table kind ≡ true → level_type level ≡ kind → level ≤ 4 → DropsType v u f true →
       Moves u x (Refs f) Load kinds.Look None word → Emptied x (closing_table f level) w answers answer → WasReleased v f kind w answers answer

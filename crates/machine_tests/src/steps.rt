@@ -10,7 +10,7 @@ ghost use Rattle.xp_machine.specs.Ready.{TakesFresh};
 
 use crate::boards::{TWO_DOMAINS, at_work, opened, steps_of};
 use flush_words::{ask, look_flushed, look_life, look_privileges, look_run, look_run_of};
-use frame_types::take_writable;
+use writable_pages::take_page;
 use frame_words::{get_ref, look_cell};
 use kind_words::{count_type, look_kind};
 use shared_board::PlainBoard;
@@ -146,7 +146,7 @@ fn count_twice<P: Port>(port: &mut P, f: u64, domain: u16) -> Option<u64>
     let Ok(frame) = get_ref(port, f, domain) else {
         return None;
     };
-    if take_writable(port, frame, domain).is_err() {
+    if take_page(port, frame, domain).is_err() {
         return None;
     }
     count_more(port, f, domain)

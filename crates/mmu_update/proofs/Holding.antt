@@ -60,30 +60,6 @@ leaves_same v w same = (v.holdings.old0, v.holdings.old1, same)
 pub leaves_rests : (v w : PortValue) → Rests v → LeavesUpdate v w → Rests w
 leaves_rests v w rests leaves = rests_by v w leaves.0 leaves.1 rests leaves.2
 
--- ---- what steps found they still did: who may map whose frames
-ran_keeps : (v w : PortValue) (ms : List Moment) (test : ℕ → Made → Bool) → Ran v ms w → IsTrue (some_step test v.holdings.steps) → IsTrue (some_step test w.holdings.steps)
-ran_keeps v w [] test r h = subst (λ (y : PortValue). IsTrue (some_step test y.holdings.steps)) (sym r) h
-ran_keeps v w (m ∷ ms) test r h = moves_keeps r.0 w m.place m.act m.kind m.mark m.found r.2.moves test (ran_keeps v r.0 ms test r.1 h)
-
-came_keeps : (v w : PortValue) (test : ℕ → Made → Bool) → Came v w → IsTrue (some_step test v.holdings.steps) → IsTrue (some_step test w.holdings.steps)
-unfolding Came
-came_keeps v w test c h = ran_keeps v w c.0 test c.1 h
-
-pub may_map_later : (v w : PortValue) (o : Owners) → Came v w → w.holdings.turn ≡ v.holdings.turn → MayMap v o → MayMap w o
-may_map_later v w o came turn may =
-    record {
-      tables = subst (λ (p : Post). o.tables < length p.machine.page_limit) (sym (came_post v w came)) may.tables;
-      frames = subst (λ (p : Post). o.frames < length p.machine.page_limit) (sym (came_post v w came)) may.frames;
-      over = by_way may.over;
-    }
-  where
-    by_way : (o.frames ≡ o.tables) ⊎ IsTrue (some_since (sizes_of v.post.machine) v.holdings.turn (Priv o.tables) (has_now o.frames) v.holdings.steps) →
-        (o.frames ≡ o.tables) ⊎ IsTrue (some_since (sizes_of w.post.machine) w.holdings.turn (Priv o.tables) (has_now o.frames) w.holdings.steps)
-    by_way (inl same) = inl same
-    by_way (inr over) =
-        inr (subst (λ (p : Post). IsTrue (some_since (sizes_of p.machine) w.holdings.turn (Priv o.tables) (has_now o.frames) w.holdings.steps)) (sym (came_post v w came))
-        (subst (λ k. IsTrue (some_since (sizes_of v.post.machine) k (Priv o.tables) (has_now o.frames) w.holdings.steps)) (sym turn) (came_keeps v w _ came over)))
-
 -- ---- the frame is in none of the own lists
 none_on : {A : Type 0} (key : A → ℕ) (f : ℕ) (xs : List A) → xs ≡ [] → first_by key f xs ≡ None
 unfolding first_by

@@ -32,7 +32,8 @@ use Rattle.mmu_update.specs.Fits.{Updates}
 use Rattle.mmu_update.specs.Writing.{UnderLock}
 use Rattle.mmu_update.specs.declared.element.Element.TheVariants.{Write}
 use Rattle.mmu_update.proofs.Entering.{exchanged_serves, exchanged_stops, slot_stops}
-use Rattle.mmu_update.proofs.Holding.{leaves_rests, may_map_later, ref_gone}
+use Rattle.entry_exchange.proofs.Staying.{may_map}
+use Rattle.mmu_update.proofs.Holding.{leaves_rests, ref_gone}
 use Rattle.mmu_update.proofs.Serving.{asks, back_behind, locked_serves}
 
 -- what holds of each stop holds of the one that is answered
@@ -90,7 +91,7 @@ module _ (b y : PortValue) (o : Owners) (f level : ℕ) (a : UnderLock b y o f l
 
   pub maps_still : MayMap y o
   maps_still =
-      may_map_later b y o (came_trans b a.at y first (serves_came a.at y (of_lock f o.tables) [] a.serves)) (ap (λ (q : PortValue). q.holdings.turn) locked_hand) a.referred.begins.maps
+      may_map b y o (came_trans b a.at y first (serves_came a.at y (of_lock f o.tables) [] a.serves)) (ap (λ (q : PortValue). q.holdings.turn) locked_hand) a.referred.begins.maps
 
   before : (i word : ℕ) (keep : Bool) (answer : Result (Unit {0}) Stop) → Serves b y (asks o f i word keep answer) []
   before i word keep answer = locked_serves o f i word keep answer b a.at y [] a.referred.serves a.serves

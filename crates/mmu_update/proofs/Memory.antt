@@ -15,9 +15,9 @@ use Rattle.answer_fits.specs.Answers.{Serves, Stops}
 use Rattle.answer_fits.specs.Asked.{of_back}
 use Rattle.foreign_map.specs.declared.owners.Owners.{Owners}
 use Rattle.frame_words.specs.Refs.{took}
-use Rattle.frame_types.specs.Found.{DropsPlain}
 use Rattle.frame_types.specs.Taking.{IsTypeStop, gave_type, typed_as}
 use Rattle.frame_types.proofs.Serving.{type_uncounted}
+use Rattle.table_courses.specs.Acquiring.{GaveType}
 use Rattle.writable_pages.specs.Pages.{LeavesPage, ServesPage, TookPage, of_page}
 use Rattle.mmu_update.specs.Course as courses
 use Rattle.mmu_update.specs.Elements.{IsWriteStop, LeavesUpdate}
@@ -69,7 +69,7 @@ module _ (b v : PortValue) (o : Owners) (f i word : ℕ) (keep : Bool) (a : Ordi
     stored_hand : LeavesUpdate b z
     stored_hand = given_back b v f o.tables a.referred.begins.rests takes x typed y z same gives
 
-    pub stored : TookPage v f o.tables x (Ok tt) → Moves x y (Cell f i) (Store word) kinds.Cell None found → Serves y z (of_back f) [] → DropsPlain y z f Writable → Updates o (Write f i word keep) b z [] (Ok tt)
+    pub stored : TookPage v f o.tables x (Ok tt) → Moves x y (Cell f i) (Store word) kinds.Cell None found → Serves y z (of_back f) [] → GaveType y z f Writable → Updates o (Write f i word keep) b z [] (Ok tt)
     stored taken made back drops =
         record {
           serves = stored_serves o f i word keep b v x y z found (before (Ok tt)) page (may_write b v f o.tables a.referred.begins.rests takes x typed).apart made back;

@@ -19,12 +19,11 @@ use Rattle.entry_locks.specs.Plain.{TwinLock}
 use Rattle.entry_locks.specs.declared.locking.Locked.{Locked}
 use Rattle.entry_locks.specs.declared.locking.Locked.TheVariants.{Table, Other}
 use Rattle.foreign_map.specs.declared.owners.Owners.{Owners}
-use Rattle.frame_types.specs.Found.{DropsPlain}
 use Rattle.level_release.specs.Course.{WithGate}
 use Rattle.m2p_map.specs.Found.{SetFound}
 use Rattle.m2p_map.specs.Maps.{TwinSet}
 use Rattle.partial_state.specs.Levels.{level_type}
-use Rattle.table_courses.specs.Acquiring.{GaveRef, GotRef}
+use Rattle.table_courses.specs.Acquiring.{GaveRef, GaveType, GotRef}
 use Rattle.writable_pages.specs.Pages.{TookPage}
 use Rattle.mmu_update.specs.declared.element.Element.{Element}
 use Rattle.mmu_update.specs.declared.element.Element.TheVariants.{SetM2p, Write, Misaligned, Unknown}
@@ -50,7 +49,7 @@ pub data Wrote (v : PortValue) (o : Owners) (f i word : ℕ) (keep : Bool) : Por
   untaken : (u y w : PortValue) (found : ℕ) (stop : Stop) → GotRef v u f o.tables (Ok f) → TriedLock u y f o.tables (Ok (Other found)) → TookPage y f o.tables w (Err stop) →
       Wrote v o f i word keep w [] (Err stop)
   stored : (u y a b w : PortValue) (found old : ℕ) → GotRef v u f o.tables (Ok f) → TriedLock u y f o.tables (Ok (Other found)) → TookPage y f o.tables a (Ok tt) →
-      Moves a b (Cell f i) (Store word) kinds.Cell None old → DropsPlain b w f Writable → Wrote v o f i word keep w [] (Ok tt)
+      Moves a b (Cell f i) (Store word) kinds.Cell None old → GaveType b w f Writable → Wrote v o f i word keep w [] (Ok tt)
 
 -- one that its numbers refuse makes no step and asks nothing
 abbrev pub Updated : PortValue → Owners → Element → PortValue → List Bool → Result (Unit {0}) Stop → Type 0

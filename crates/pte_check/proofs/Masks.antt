@@ -21,7 +21,7 @@ has_rw w = let e = and_pow w 1 in grind (arith, nat_tests)
 min_max : (x y z : ℕ) → min x (max y z) ≡ max (min x y) (min x z)
 min_max x y z = omega arith
 
-and-or : (w a b : ℕ) → bit_and w (bit_or a b) ≡ bit_or (bit_and w a) (bit_and w b)
+pub and-or : (w a b : ℕ) → bit_and w (bit_or a b) ≡ bit_or (bit_and w a) (bit_and w b)
 and-or w a b =
     same_from_bits _ _
     (λ i. rw (bit_at_and w (bit_or a b) i, bit_at_or a b i, bit_at_or (bit_and w a) (bit_and w b) i, bit_at_and w a i, bit_at_and w b i) (min_max (bit_at w i) (bit_at a i) (bit_at b i)))

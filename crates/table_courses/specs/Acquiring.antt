@@ -1,14 +1,16 @@
 -- The course of an acquisition: the calls that it makes, from port to port, with the tables in work before and after each, and the
 -- answers of the gate, the newest first.
 use Rattle.std.specs.Prelude.{◌≡◌, ℕ, ◌+◌, ◌-◌, ◌<◌, ◌==◌, ◌&&◌, ◌||◌, nat_le, not, if◌then◌else◌, Bool, true, false, List, [], ◌∷◌, None, Some, Result, Ok, Err, IfOk, IfErr}
-use Rattle.xp_words.specs.KindWords.{kind_write}
-use Rattle.xp_words.specs.declared.place.Place.TheVariants.{Clock, Kind}
+use Rattle.xp_words.specs.KindWords.{kind_fields, kind_write}
+use Rattle.xp_words.specs.declared.kind.PageType.{PageType}
+use Rattle.xp_words.specs.declared.place.Place.TheVariants.{Clock, Kind, Refs}
 use Rattle.xp_words.specs.declared.reply.Pause.TheVariants.{Due}
 use Rattle.xp_words.specs.declared.reply.Stop.{Stop}
 use Rattle.xp_words.specs.declared.reply.Stop.TheVariants.{Paused}
 use Rattle.xp_board.specs.declared.step.Act.TheVariants.{Load, Store}
 use Rattle.xp_board.specs.declared.step.Mark.TheVariants.{Record}
 use Rattle.xp_board.specs.declared.step.StepKind.TheVariants as kinds
+use Rattle.xp_board.specs.Readings.{is_free}
 use Rattle.xp_board.specs.Told.{PortValue, is_telling, told_word}
 use Rattle.step_maker.specs.Moves.{Moves}
 use Rattle.step_maker.specs.Plain.{Leaves}
@@ -19,9 +21,9 @@ use Rattle.frame_words.specs.Plain.{TwinGet, put}
 use Rattle.frame_words.specs.Freeing.{Puts}
 use Rattle.frame_words.specs.Refs.{Gets}
 use Rattle.kind_words.specs.Kinds.{live_kind, partial_kind}
-use Rattle.frame_types.specs.Found.{SharedBy, StoresKind, TakesFound}
+use Rattle.frame_types.specs.Found.{DropsPlain, SharedBy, StoresKind, TakesFound}
 use Rattle.frame_types.specs.Lowering.{DropsType}
-use Rattle.frame_types.specs.Plain.{TwinTake, is_refused}
+use Rattle.frame_types.specs.Plain.{TwinTake, dropped_plain, is_refused}
 use Rattle.frame_types.specs.Taking.{ShowsWait}
 use Rattle.frame_types.specs.declared.taking.Taken.{Taken}
 use Rattle.frame_types.specs.declared.taking.Taken.TheVariants as types
@@ -47,6 +49,12 @@ pub record GotRef (v w : PortValue) (f owner : ℕ) (answer : Result ℕ Stop) :
 pub record GaveRef (v w : PortValue) (f : ℕ) : Type 0 where
   pub found : Puts v w f
   pub plain : is_telling v ≡ true → Leaves w (put f (told_word v))
+
+-- a type of a frame that holds no entries, and the reference with it: the frame is an owned one, and live
+pub record GaveType (v w : PortValue) (f : ℕ) (kind : PageType) : Type 0 where
+  pub found : DropsPlain v w f kind
+  pub plain : is_telling v ≡ true → Leaves w (dropped_plain f kind (told_word v))
+  pub stands : is_telling v ≡ true → (is_free (told_word v (Refs f)) ≡ false) × ((kind_fields (told_word v (Kind f))).validated ≡ true)
 
 pub record TookType (v w : PortValue) (f owner level : ℕ) (answer : Result Taken Stop) : Type 0 where
   pub found : TakesFound v w f (level_type level) answer

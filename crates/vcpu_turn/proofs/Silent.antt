@@ -19,6 +19,7 @@ use Rattle.table_words.specs.OldWords.{old_number, old_place}
 use Rattle.table_words.specs.declared.old_words.OldWord.{OldWord}
 use Rattle.table_words.specs.declared.old_words.OldWord.TheVariants.{First, Second}
 use Rattle.level_release.specs.Course as course
+use Rattle.level_release.proofs.Named.{not_flushed}
 use Rattle.level_release.specs.Course.{Emptied, Lowered, RanDown, Settled, SettledOne, SettledPartial, WasReleased}
 use Rattle.vcpu_turn.proofs.Clearing.{Keeps, Known, drops, ends_dead, keeps_does, keeps_moves, known_found, known_left, known_on, puts, released}
 
@@ -117,13 +118,9 @@ not_asked_word : (which : OldWord) → old_number which ≢ 4
 not_asked_word First e = omega (arith, e)
 not_asked_word Second e = omega (arith, e)
 
-not_flushed_word : (which : OldWord) → old_number which ≢ 5
-not_flushed_word First e = omega (arith, e)
-not_flushed_word Second e = omega (arith, e)
-
 names_none : (v a : PortValue) (which : OldWord) (f : ℕ) → IsClear v → Moves v a (old_place v.post.vcpu which) Load kinds.Look None (f + 1) → ⊥
 names_none v a which f clear looks =
-    let is = known_found v a (old_number which) Load kinds.Look None (f + 1) looks (not_asked_word which) (not_flushed_word which) clear.runs (known_old_word v clear which) in
+    let is = known_found v a (old_number which) Load kinds.Look None (f + 1) looks (not_asked_word which) (not_flushed which) clear.runs (known_old_word v clear which) in
     omega (arith, is)
 
 one_silent : (v w : PortValue) (which : OldWord) (answers : List Bool) (answer : Result (Unit {0}) Stop) → IsClear v → SettledOne v which w answers answer → (answers ≡ []) × (answer ≡ Ok tt)

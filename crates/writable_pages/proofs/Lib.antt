@@ -1,4 +1,6 @@
 mod Asking
 mod Left
+pub mod LeftWords
+pub mod TakenWords
 mod Taken
 mod Got

@@ -12,13 +12,13 @@ use Rattle.answer_fits.proofs.Piecing.{serves_came, stops_before}
 use Rattle.frame_words.specs.Freeing.{Puts}
 use Rattle.frame_words.specs.Plain.{put}
 use Rattle.frame_types.specs.Found.{TakesFound}
-use Rattle.frame_types.specs.Plain.{TwinTake, is_refused}
+use Rattle.frame_types.specs.Plain.{TwinTake}
 use Rattle.frame_types.specs.Taking.{ShowsWait}
 use Rattle.frame_types.specs.declared.taking.Taken.{Taken}
 use Rattle.frame_types.specs.declared.taking.Taken.TheVariants.{Counted, Waiting}
 use Rattle.frame_types.proofs.Serving.{back_serves}
 use Rattle.table_courses.specs.Acquiring.{TookType}
-use Rattle.writable_pages.specs.Pages.{PageLeft, ServesPage, TookPage, of_page, counted, untyped, waiting}
+use Rattle.writable_pages.specs.Pages.{LeftPage, ServesPage, TookPage, of_page, counted, untyped, waiting}
 use Rattle.writable_pages.proofs.Asking.{page_serves, page_stops}
 
 module _ (v u : PortValue) (f owner : ℕ) where
@@ -37,7 +37,7 @@ module _ (v u : PortValue) (f owner : ℕ) where
     stops_page came a = page_stops v w v f owner (Some Writable) refl stop (stops_before v u w (of_frame f owner (Some Writable)) stop a came)
 
     -- ---- it waits
-    pub waiting_took : (own : Bool) (stamp : ℕ) → TookType v u f owner 0 (Ok (Waiting own stamp stop)) → PageLeft u w f owner stamp own (is_refused stop) → TookPage v f owner w (Err stop)
+    pub waiting_took : (own : Bool) (stamp : ℕ) → TookType v u f owner 0 (Ok (Waiting own stamp stop)) → LeftPage u w f owner stamp own stop → TookPage v f owner w (Err stop)
     waiting_took own stamp a b = waiting u w own stamp stop a b
 
     -- ---- it is not to be had, and the reference given back

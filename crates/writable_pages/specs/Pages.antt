@@ -1,13 +1,13 @@
 -- Frames taken as ordinary memory: by which calls, what is in hand then, and what a guest sees of it.
-use Rattle.std.specs.Prelude.{◌≡◌, ◌⊎◌, ℕ, ◌+◌, ◌==◌, ◌++◌, not, Bool, true, false, List, [], ◌∷◌, Some, Result, Ok, Err}
+use Rattle.std.specs.Prelude.{◌≡◌, ◌⊎◌, ℕ, ◌+◌, ◌==◌, ◌++◌, ◌||◌, not, Bool, true, false, List, [], ◌∷◌, Some, Result, Ok, Err, IsTrue}
 use Rattle.xp_words.specs.declared.kind.PageType.TheVariants.{Writable}
-use Rattle.xp_words.specs.declared.place.Place.TheVariants.{Kind}
+use Rattle.xp_words.specs.declared.place.Place.TheVariants.{Kind, Refs}
 use Rattle.xp_words.specs.declared.reply.Stop.{Stop}
 use Rattle.xp_words.specs.declared.reply.Stop.TheVariants.{Paused}
 use Rattle.xp_board.specs.declared.holdings.OwnerFound.TheVariants as owners
 use Rattle.xp_board.specs.KindSteps.{live_typed}
-use Rattle.xp_board.specs.Readings.{domain_of}
-use Rattle.xp_board.specs.Told.{PortValue}
+use Rattle.xp_board.specs.Readings.{domain_of, is_free}
+use Rattle.xp_board.specs.Told.{PortValue, is_telling, told_word}
 use Rattle.step_maker.specs.Holds.{FlushedHolds, FlushedSame}
 use Rattle.answer_fits.specs.Answers.{Deed, Misses, Serves, misses}
 use Rattle.answer_fits.specs.Asked.{Request, of_frame}
@@ -15,7 +15,7 @@ use Rattle.answer_fits.specs.Visits.{Does}
 use Rattle.frame_words.specs.Freeing.{gave}
 use Rattle.kind_words.specs.Kinds.{partial_kind}
 use Rattle.frame_types.specs.Found.{DeadBy, SharedBy}
-use Rattle.frame_types.specs.Plain.{is_refused}
+use Rattle.frame_types.specs.Plain.{TwinGiveUp, is_refused}
 use Rattle.frame_types.specs.Leaving.{WaitsFrom}
 use Rattle.frame_types.specs.Taking.{IsTypeStop, typed_as}
 use Rattle.frame_types.specs.declared.taking.Taken.TheVariants.{Counted, Waiting}
@@ -60,11 +60,17 @@ PageLeft v w f owner stamp true true = Does v w (λ vs. DeadBy f Writable vs)
 PageLeft v w f owner stamp true false = KeptFor v w f (partial_kind Writable true true 0 stamp) owner
 PageLeft v w f owner stamp false refused = Does v w (λ vs. SharedBy f Writable stamp vs)
 
+-- and for that reason; an own frame so on a board that tells all words, too
+pub record LeftPage (v w : PortValue) (f owner stamp : ℕ) (own : Bool) (stop : Stop) : Type 0 where
+  pub steps : PageLeft v w f owner stamp own (is_refused stop)
+  pub plain : owner ≡ domain_of v.post.machine v.post.vcpu → TwinGiveUp v w f own stamp stop
+  pub owned : IsTrue (not own || is_refused stop) → is_telling v ≡ true → is_free (told_word v (Refs f)) ≡ false
+
 -- under a reference that is in hand
 pub data TookPage (v : PortValue) (f owner : ℕ) : PortValue → Result (Unit {0}) Stop → Type 0 where
   counted : (w : PortValue) → TookType v w f owner 0 (Ok Counted) → TookPage v f owner w (Ok tt)
   untyped : (u w : PortValue) (stop : Stop) → TookType v u f owner 0 (Err stop) → GaveRef u w f → TookPage v f owner w (Err stop)
-  waiting : (u w : PortValue) (own : Bool) (stamp : ℕ) (stop : Stop) → TookType v u f owner 0 (Ok (Waiting own stamp stop)) → PageLeft u w f owner stamp own (is_refused stop) → TookPage v f owner w (Err stop)
+  waiting : (u w : PortValue) (own : Bool) (stamp : ℕ) (stop : Stop) → TookType v u f owner 0 (Ok (Waiting own stamp stop)) → LeftPage u w f owner stamp own stop → TookPage v f owner w (Err stop)
 
 -- with one of its own
 pub data GotPage (v : PortValue) (f owner : ℕ) : PortValue → Result ℕ Stop → Type 0 where

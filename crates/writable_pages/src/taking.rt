@@ -1,6 +1,7 @@
 //! Frames that are taken as ordinary memory: the type that an entry of level 1 asks which is writable, and a store into a frame.
 ghost use Rattle.std.specs.Prelude.{◌≡◌, ◌<◌, [], None, length, IfOk, IfErr};
 ghost use Rattle.xp_board.specs.Hands.{typed_to, work_on};
+ghost use Rattle.xp_board.specs.Readings.{domain_of};
 ghost use Rattle.step_maker.specs.Holds.{MayWork};
 ghost use Rattle.step_maker.specs.Moves.{Came};
 ghost use Rattle.answer_fits.specs.Answers.{Stops};
@@ -9,8 +10,8 @@ ghost use Rattle.kept_marks.specs.Marks.{IsForeign};
 ghost use Rattle.table_words.specs.OldWords.{known_old};
 ghost use Rattle.table_words.specs.declared.old_words.OldWord.TheVariants.{First};
 ghost use Rattle.flush_waits.specs.Waiting.{IsWait};
-ghost use Rattle.frame_types.specs.Plain.{is_refused};
-ghost use Rattle.writable_pages.specs.Pages.{GotPage, IsPageStop, IsPageWaiting, LeavesGot, LeavesPage, LeavesWaiting, PageLeft, ServesLeft, ServesPage, TookPage, of_page};
+ghost use Rattle.frame_types.specs.Plain.{TwinMemory};
+ghost use Rattle.writable_pages.specs.Pages.{GotPage, IsPageStop, IsPageWaiting, LeavesGot, LeavesPage, LeavesWaiting, LeftPage, ServesLeft, ServesPage, TookPage, of_page};
 
 use frame_types::{Taken, leave_dead, leave_shared, take_type};
 use frame_words::{get_ref, put_ref};
@@ -37,6 +38,8 @@ pub fn take_page<P: Port>(port: &mut P, frame: u32, owner: u16) -> Result<(), St
     ensures kinds { IfErr result IsPageStop }
     ensures hand { LeavesPage (P.value port.old) (P.value port.new) frame owner result }
     ensures course { TookPage (P.value port.old) frame owner (P.value port.new) result }
+    // An own frame on a board that tells all words: by the words before, and which words are left.
+    ensures plain { owner ≡ domain_of (P.value port.old).post.machine (P.value port.old).post.vcpu → TwinMemory (P.value port.old) (P.value port.new) frame result }
 {
     match take_type(port, frame, owner, PageType::Writable) {
         Ok(Taken::Counted) => Ok(()),
@@ -85,7 +88,7 @@ fn leave_page<P: Port>(port: &mut P, frame: u32, owner: u16, own: bool, stamp: u
     ensures came { Came (P.value port.old) (P.value port.new) }
     ensures serves { ServesLeft (P.value port.old) (P.value port.new) frame owner stop }
     ensures hand { LeavesWaiting (P.value port.old) (P.value port.new) frame owner own stamp stop }
-    ensures course { PageLeft (P.value port.old) (P.value port.new) frame owner stamp own (is_refused stop) }
+    ensures course { LeftPage (P.value port.old) (P.value port.new) frame owner stamp own stop }
 {
     if !own {
         leave_shared(port, frame, PageType::Writable, stamp);

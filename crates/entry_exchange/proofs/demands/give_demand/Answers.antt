@@ -80,7 +80,8 @@ returns-in-Typed-clause-course g c =
     let v = g.P.Port.value c.args.port.now in
     let w = g.P.Port.value c.drop_plain.new.port in
     page_course v w c.args.wanted c.in-Typed.frame c.args.owner c.args.level c.in-Typed.kind c.in-Typed.is
-    (page_asked c.args.level c.in-Typed.kind (subst (λ d. IsOfLevel c.args.level d) c.in-Typed.is c.requires.asks) c.if-level-eq1.true) c.if-level-eq1.true c.drop_plain.ensures.found
+    (page_asked c.args.level c.in-Typed.kind (subst (λ d. IsOfLevel c.args.level d) c.in-Typed.is c.requires.asks) c.if-level-eq1.true) c.if-level-eq1.true
+    (record { found = c.drop_plain.ensures.found; plain = c.drop_plain.ensures.plain; stands = c.drop_plain.ensures.stands })
 
 -- ---- a table
 pub returns-in-Typed-2-clause-serves : goal.returns-in-Typed-2-clause-serves

@@ -23,7 +23,8 @@ returns-then-not-is_table-clause-hand g c = plain_left (g.P.Port.value c.args.po
 
 pub returns-then-not-is_table-clause-course : goal.returns-then-not-is_table-clause-course
 returns-then-not-is_table-clause-course g c =
-    by_none _ _ _ _ _ refl (plain (g.P.Port.value c.drop_plain.new.port) (sym c.is_table.ensures ∙ c.if-not-is_table.true) c.drop_plain.ensures.found)
+    by_none _ _ _ _ _ refl (plain (g.P.Port.value c.drop_plain.new.port) (sym c.is_table.ensures ∙ c.if-not-is_table.true)
+    (record { found = c.drop_plain.ensures.found; plain = c.drop_plain.ensures.plain; stands = c.drop_plain.ensures.stands }))
 
 pub drop_type-requires-clause-drops : goal.drop_type-requires-clause-drops
 drop_type-requires-clause-drops g c = may_drop (g.P.Port.value c.args.port.now) c.args.frame c.args.kind c.requires.holds

@@ -45,4 +45,4 @@ returns-clause-writes g c = λ b keep a.
     let z = g.P.Port.value c.drop_plain.new.port in
     let t = c.in_ok-take_page.ensures in
     stored b v c.args.owners c.args.frame c.args.index c.args.word keep a x y z c.store_cell.result t.serves t.hand c.store_cell.ensures.hand c.drop_plain.ensures.hand t.course c.store_cell.ensures.moves c.drop_plain.ensures.serves
-    c.drop_plain.ensures.found
+    (record { found = c.drop_plain.ensures.found; plain = c.drop_plain.ensures.plain; stands = c.drop_plain.ensures.stands })

@@ -1,11 +1,11 @@
 use Rattle.std.proofs.Common.{false, [], Err, sym, subst}
 use Rattle.xp_words.specs.declared.kind.PageType.TheVariants.{Writable}
 use Rattle.frame_types.specs.Leaving.{WaitsFrom}
-use Rattle.frame_types.specs.Plain.{is_refused}
 use Rattle.kept_marks.specs.Marks.{KeptFor, LeavesKept}
-use Rattle.writable_pages.specs.Pages.{LeavesPage, PageLeft}
+use Rattle.writable_pages.specs.Pages.{LeavesPage}
 use Rattle.writable_pages.proofs.Asking.{kept_serves, plain_serves}
 use Rattle.writable_pages.proofs.Left.{kept_leaves, leaves_back, page_known, page_may}
+use Rattle.writable_pages.proofs.LeftWords.{dead_left, kept_left, shared_left}
 use Rattle.writable_pages.proofs.taking.leave_page.Goals as goal
 
 -- ---- the type count is another holder's
@@ -60,6 +60,15 @@ pub returns-in-Paused-clause-course : goal.returns-in-Paused-clause-course
 returns-in-Paused-clause-course g c =
     let v = g.P.Port.value c.args.port.now in
     let d = g.P.Port.value c.leave_kept.new.port in
-    subst (λ e. PageLeft v d c.args.frame c.args.owner c.args.stamp c.args.own (is_refused e)) (sym c.in-Paused.is)
-    (subst (λ y. PageLeft v d c.args.frame c.args.owner c.args.stamp y false) (sym c.if-not-own.false)
-    (subst (λ k. KeptFor v d c.args.frame k c.args.owner) c.waiting_kind-kind.ensures c.leave_kept.ensures.course))
+    kept_left v d c.args.frame c.args.owner c.args.stamp c.args.own c.args.stop c.in-Paused.field-0 c.if-not-own.false c.in-Paused.is
+    (subst (λ k. KeptFor v d c.args.frame k c.args.owner) c.waiting_kind-kind.ensures c.leave_kept.ensures.course)
+
+-- ---- by which steps, and in plain words
+
+pub returns-then-not-own-clause-course : goal.returns-then-not-own-clause-course
+returns-then-not-own-clause-course g c =
+    shared_left (g.P.Port.value c.args.port.now) (g.P.Port.value c.leave_shared.new.port) c.args.frame c.args.owner c.args.stamp c.args.own c.args.stop c.if-not-own.true c.leave_shared.ensures.visits c.leave_shared.ensures.plain c.leave_shared.ensures.owned
+
+pub returns-in-Refused-clause-course : goal.returns-in-Refused-clause-course
+returns-in-Refused-clause-course g c =
+    dead_left (g.P.Port.value c.args.port.now) (g.P.Port.value c.leave_dead.new.port) c.args.frame c.args.owner c.args.stamp c.args.own c.args.stop c.in-Refused.field-0 c.if-not-own.false c.in-Refused.is c.leave_dead.ensures.visits c.leave_dead.ensures.plain c.leave_dead.ensures.owned

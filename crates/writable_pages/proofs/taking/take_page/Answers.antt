@@ -6,6 +6,7 @@ use Rattle.frame_types.specs.Taking.{ShowsWait}
 use Rattle.frame_types.specs.declared.taking.Taken.TheVariants.{Counted, Waiting}
 use Rattle.frame_types.proofs.Waiting.{err_gives}
 use Rattle.writable_pages.proofs.Taken.{counted_serves, counted_took, stops_page, type_took, untyped_came, untyped_serves, untyped_took, waiting_took}
+use Rattle.writable_pages.proofs.TakenWords.{page_twin}
 use Rattle.writable_pages.proofs.taking.take_page.Goals as goal
 
 -- ---- by which calls
@@ -72,3 +73,14 @@ returns-in-Ok-Waiting-clause-stops g c =
     let e = c.in-Ok-Waiting in
     let shows : ShowsWait v u c.args.frame c.args.owner Writable (Waiting e.own e.stamp e.stop) = subst (λ t. ShowsWait v u c.args.frame c.args.owner Writable t) e.field-0-is e.ensures.waits in
     stops_page v u c.args.frame c.args.owner (g.P.Port.value c.leave_page.new.port) e.stop c.leave_page.ensures.came shows.1
+
+-- ---- in plain words
+
+pub returns-in-Err-clause-plain : goal.returns-in-Err-clause-plain
+returns-in-Err-clause-plain g c mine = page_twin (g.P.Port.value c.args.port.now) (g.P.Port.value c.put_ref.new.port) c.args.frame c.args.owner _ mine (returns-in-Err-clause-course g c)
+
+pub returns-in-Ok-Waiting-clause-plain : goal.returns-in-Ok-Waiting-clause-plain
+returns-in-Ok-Waiting-clause-plain g c mine = page_twin (g.P.Port.value c.args.port.now) (g.P.Port.value c.leave_page.new.port) c.args.frame c.args.owner _ mine (returns-in-Ok-Waiting-clause-course g c)
+
+pub returns-in-Ok-Counted-clause-plain : goal.returns-in-Ok-Counted-clause-plain
+returns-in-Ok-Counted-clause-plain g c mine = page_twin (g.P.Port.value c.args.port.now) (g.P.Port.value c.take_type.new.port) c.args.frame c.args.owner _ mine (returns-in-Ok-Counted-clause-course g c)
