@@ -5,9 +5,9 @@ ghost use Rattle.xp_machine.specs.declared.status.Status.TheVariants as status;
 use xp_machine::Status;
 
 const UNKNOWN_WORDS: &str = "\
-ptmac: these words are no command that it knows. Its commands are below.
+ptmac: this is no command line that it knows. It knows these:
 
-usage: ptmac COMMAND < TRACE > REPORT
+usage: ptmac COMMAND < TRACE
 
   turns              Runs the trace on standard input: the vCPUs take the turns that its
                      `turn` lines give them. Writes the report to standard output.
@@ -53,16 +53,5 @@ pub fn advice(status: &Status) -> Option<&'static str>
         Status::ReadFault => Some(READ_FAULT),
         Status::WriteFault => Some(WRITE_FAULT),
         Status::Memory => Some(MEMORY),
-    }
-}
-
-#[cfg(test)]
-mod tests {
-    use super::advice;
-    use xp_machine::Status;
-
-    #[test]
-    fn a_done_run_is_silent(rt: HostRuntime) {
-        assert!(rt; advice(&Status::Done).is_none());
     }
 }

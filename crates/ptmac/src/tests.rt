@@ -1,0 +1,63 @@
+use crate::advice::advice;
+use xp_machine::Status;
+
+const USAGE: &str = "\
+ptmac: this is no command line that it knows. It knows these:
+
+usage: ptmac COMMAND < TRACE
+
+  turns              Runs the trace on standard input: the vCPUs take the turns that its
+                     `turn` lines give them. Writes the report to standard output.
+  turns --preempt N  The same, but operations pause: each vCPU's gate says yes at each N-th
+                     time that it is asked. N is a decimal number up to 1000000 without
+                     leading zeros; with 0 nothing pauses. It may be written --preempt=N, too.
+
+example: ptmac turns --preempt 300 < examples/pinned-in-several-turns.trace
+
+exit status:
+  0  the report was written
+  2  the words are no command, and nothing was read
+  3  the input is no trace: the line on standard output says where and why
+  4  the trace passes a limit: the line on standard output says which
+  5  reading standard input failed
+  6  writing standard output failed
+  7  there was too little memory";
+
+#[test]
+fn a_done_run_is_silent(rt: HostRuntime) {
+    assert!(rt; advice(&Status::Done).is_none());
+}
+
+#[test]
+fn unknown_words_get_the_usage(rt: HostRuntime) {
+    assert!(rt; advice(&Status::BadWords) == Some(USAGE));
+}
+
+// Each in one line, with its statuses' own advice.
+#[test]
+fn every_other_status_gets_its_line(rt: HostRuntime) {
+    for (status, line) in [
+        (
+            Status::BadTrace,
+            "ptmac: the input is no trace. The line on standard output says which of its lines is wrong, and how; docs/TRACE.md explains the causes.",
+        ),
+        (
+            Status::TooLarge,
+            "ptmac: the trace passes a limit. The line on standard output says which; docs/TRACE.md lists the limits.",
+        ),
+        (
+            Status::ReadFault,
+            "ptmac: reading standard input failed. Give it a trace that can be read, as in `ptmac turns < FILE`; a folder is none.",
+        ),
+        (
+            Status::WriteFault,
+            "ptmac: writing standard output failed, so the output is cut short. See that its place has room and that nothing closes it, and run again.",
+        ),
+        (
+            Status::Memory,
+            "ptmac: there was too little memory. Give it more, or a trace with fewer frames and operations.",
+        ),
+    ] {
+        assert!(rt; advice(&status) == Some(line));
+    }
+}
