@@ -1,6 +1,6 @@
 //! What the program tells the person who ran it, on standard error.
 ghost use Rattle.std.specs.Prelude.{◌≡◌, ◌↔◌, None};
-ghost use Rattle.xp_machine.specs.declared.status.Status.TheVariants as status;
+ghost use Rattle.xp_machine.specs.declared.status.Status.TheVariants.{Done};
 
 use xp_machine::Status;
 
@@ -42,8 +42,8 @@ const MEMORY: &str = "\
 ptmac: there was too little memory. Give it more, or a trace with fewer frames and operations.";
 
 /// What was wrong, and what to do about it. Where the run was done there is nothing to say, and only there.
-pub fn advice(status: &Status) -> Option<&'static str>
-    ensures { (result ≡ None) ↔ (status.now ≡ status.Done) }
+pub fn advice_for(status: &Status) -> Option<&'static str>
+    ensures { (result ≡ None) ↔ (status.now ≡ Done) }
 {
     match status {
         Status::Done => None,

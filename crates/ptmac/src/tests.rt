@@ -1,4 +1,4 @@
-use crate::advice::advice;
+use crate::advice::advice_for;
 use xp_machine::Status;
 
 const USAGE: &str = "\
@@ -25,12 +25,12 @@ exit status:
 
 #[test]
 fn a_done_run_is_silent(rt: HostRuntime) {
-    assert!(rt; advice(&Status::Done).is_none());
+    assert!(rt; advice_for(&Status::Done).is_none());
 }
 
 #[test]
 fn unknown_words_get_the_usage(rt: HostRuntime) {
-    assert!(rt; advice(&Status::BadWords) == Some(USAGE));
+    assert!(rt; advice_for(&Status::BadWords) == Some(USAGE));
 }
 
 // Each in one line, with its statuses' own advice.
@@ -58,6 +58,6 @@ fn every_other_status_gets_its_line(rt: HostRuntime) {
             "ptmac: there was too little memory. Give it more, or a trace with fewer frames and operations.",
         ),
     ] {
-        assert!(rt; advice(&status) == Some(line));
+        assert!(rt; advice_for(&status) == Some(line));
     }
 }

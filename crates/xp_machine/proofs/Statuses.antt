@@ -1,12 +1,13 @@
 -- The statuses that come with a text.
-use Rattle.std.proofs.Common.{◌≢◌, ℕ, List, Result, Ok, Err, Option, Some, None, ◌≡◌, refl, sym, subst}
+use Rattle.std.proofs.Common.{◌≢◌, ℕ, true, if◌then◌else◌, List, [], ◌∷◌, map, is_some, Result, Ok, Err, Option, Some, None, ◌≡◌, refl, sym, subst}
 use Rattle.trace_lines.specs.declared.fault.LineFault.{LineFault}
 use Rattle.trace_lines.specs.declared.fault.LineFault.TheVariants.{Passed, Bad}
 use Rattle.trace_text.specs.declared.trace.Trace.{Trace}
 use Rattle.trace_text.specs.TraceOf.{Fault, trace_of}
 use Rattle.xp_machine.specs.declared.status.Status.{Status}
 use Rattle.xp_machine.specs.declared.status.Status.TheVariants as status
-use Rattle.xp_machine.specs.Gates.{Gate, ArePaced, SetBy}
+use Rattle.xp_machine.specs.Gates.{Gate, ArePaced, IsPaced, SetBy}
+use Rattle.xp_preempt.specs.Gates.{is_in_step}
 use Rattle.xp_machine.specs.Texts.{fault_status}
 use Rattle.xp_machine.specs.Outcome.{Wrote, Outcome, IsDue, IsAnswer}
 
@@ -38,3 +39,19 @@ set_by asked every gates set is paced = subst (λ o. SetBy o gates set) (sym is)
 
 pub not_set : (asked : Option ℕ) (gates : List Gate) → asked ≡ None → SetBy asked gates gates
 not_set asked gates is = subst (λ o. SetBy o gates gates) (sym is) refl
+
+-- a gate that was told a pace
+abbrev told : ℕ → Gate → Gate
+told every g = record { calm = g.calm; paces = g.paces; asks = g.asks; says = λ n. if g.paces then is_in_step every n else g.says n }
+
+is_told : (every : ℕ) (g : Gate) → IsPaced every g (told every g)
+is_told every g = record { asks = refl; paces = refl; says = λ e n. rw e refl; unpaced = λ e n. rw e refl; calm = λ h. h.0 }
+
+are_told : (every : ℕ) (gates : List Gate) → ArePaced every gates (map (told every) gates)
+are_told every [] = tt
+are_told every (g ∷ gs) = (is_told every g, are_told every gs)
+
+-- where words ask for a run there are gates that are told its pace
+pub could_be_set : (asked : Option ℕ) (gates : List Gate) → is_some asked ≡ true → (set : List Gate) × SetBy asked gates set
+could_be_set None gates is = absurd cc
+could_be_set (Some every) gates is = (map (told every) gates, are_told every gates)
