@@ -1,0 +1,12 @@
+use Rattle.vcpu_turn.proofs.PairTurns.{silent_counts, silent_within, turn_silent}
+use Rattle.vcpu_turn.proofs.laws.only_exchanges_ask_within.Goals as goal
+
+pub returns-clause-nothing : goal.returns-clause-nothing
+returns-clause-nothing g c d op foreign pairs end v w answers next built turn off = turn_silent foreign pairs c d op end v w answers next built turn off
+
+pub returns-clause-counts : goal.returns-clause-counts
+returns-clause-counts g c d op foreign pairs end v w answers next built turn off = silent_counts c d op foreign pairs end v w answers next built turn off
+
+pub returns-clause-stops : goal.returns-clause-stops
+returns-clause-stops g c d op foreign pairs end v w before answers says next built turn off gives j some less is_yes =
+    silent_within c d op foreign pairs end v w answers next built turn off before says gives j some less is_yes
