@@ -1,9 +1,12 @@
--- A turn with a list of `mmu_update` whose elements exchange no entry: both old words name no frame behind what was settled first, each element
--- leaves them so, and none asks.
+-- A turn with a list of `mmu_update` whose elements take and give back no table: both old words name no frame behind what was settled first, each
+-- element leaves them so, and none asks.
 use Rattle.std.proofs.Common.{◌≡◌, ℕ, ◌+◌, ◌-◌, ◌<◌, ◌≤◌, ◌%◌, ◌/◌, ◌++◌, Bool, true, false, List, [], ◌∷◌, All, length, slice_get, Option, Some, None, Result, Ok, Err, refl, sym, ap, ◌∙◌, inl, inr, arith, subst}
 use Rattle.std.proofs.lemmas.List.Elements.{All-cons, All-from_get_or, All-head, All-nil, All-tail, All-get_or}
 use Rattle.std.proofs.lemmas.Option.{get_or_from_slice_get, slice_get_within}
 use Rattle.xp_words.specs.Entries.{is_slot}
+use Rattle.xp_words.specs.PageTypes.{is_table}
+use Rattle.xp_words.specs.declared.entry.Demand.{Demand}
+use Rattle.xp_words.specs.declared.kind.PageType.{PageType}
 use Rattle.xp_words.specs.declared.kind.PageType.TheVariants.{Writable}
 use Rattle.xp_words.specs.declared.ops.Op.{Op}
 use Rattle.xp_words.specs.declared.ops.Pair.{Pair}
@@ -18,21 +21,26 @@ use Rattle.board_lemmas.proofs.HandLists.{EachOf-map}
 use Rattle.xp_preempt.specs.Gates.{Gives, last_ask}
 use Rattle.step_maker.proofs.Coming.{came_post}
 use Rattle.partial_state.specs.Levels.{level_type}
+use Rattle.partial_state.proofs.LevelFacts.{level_type-table}
 use Rattle.table_courses.specs.Acquiring as acquiring
-use Rattle.table_courses.specs.Acquiring.{GotRef}
+use Rattle.table_courses.specs.Acquiring.{GaveRef, GotRef}
+use Rattle.level_release.specs.Course as releasing
+use Rattle.level_release.specs.Course.{WasReleased}
 use Rattle.writable_pages.specs.Pages as pages
 use Rattle.writable_pages.specs.Pages.{TookPage}
 use Rattle.foreign_map.specs.declared.owners.Owners.{Owners}
 use Rattle.foreign_map.proofs.Looking.{IsLook, is_word}
 use Rattle.foreign_map.proofs.Naming.{owners_look}
-use Rattle.entry_exchange.specs.Course.{Exchanged}
+use Rattle.entry_exchange.specs.Course as exchanging
+use Rattle.entry_exchange.specs.Course.{Exchanged, LeftLock, PutEntry, ReleasedDemand, TookDemand, new_demand, old_demand}
+use Rattle.entry_exchange.specs.declared.exchanging.EntryUpdate.{EntryUpdate}
 use Rattle.entry_locks.specs.declared.locking.Locked.TheVariants.{Table, Other}
 use Rattle.mmu_update.specs.Course as updating
 use Rattle.mmu_update.specs.Course.{TriedLock, Updated, Wrote, entry_update}
 use Rattle.mmu_update.specs.Elements.{element_of}
 use Rattle.mmu_update.specs.declared.element.Element.{Element}
 use Rattle.mmu_update.specs.declared.element.Element.TheVariants.{SetM2p, Write, Misaligned, Unknown}
-use Rattle.vcpu_turn.specs.Asking.{AsksNothingWithin, ExchangesEntry, ExchangesNothing, Tried, asks_within, did_in, elements_tried, tried, tried_going, tried_in, tried_of, tried_owned}
+use Rattle.vcpu_turn.specs.Asking.{AsksNothingWithin, ExchangesEntry, IsLast, MovesNoTable, MovesTable, Tried, asks_within, did_in, asks_table, elements_tried, tried, tried_going, tried_in, tried_of, tried_owned}
 use Rattle.vcpu_turn.specs.Cpus.{OfExt, OfPairs, OpList, Processing, list_of}
 use Rattle.vcpu_turn.specs.Lists as lists
 use Rattle.vcpu_turn.specs.Lists.{DidItems, WorksOn}
@@ -42,9 +50,9 @@ use Rattle.vcpu_turn.specs.Working as working
 use Rattle.vcpu_turn.specs.Working.{FindsOwners, FitsPair, PairFits, Settles, Works, WorksOwned}
 use Rattle.vcpu_turn.specs.declared.cpu.TurnEnd.{TurnEnd}
 use Rattle.vcpu_turn.proofs.Asking.{turn_asks, turn_within}
-use Rattle.vcpu_turn.proofs.Clearing.{Apart, Known, drops, elsewhere, gets, keeps_does, keeps_moves, known_left, maps}
+use Rattle.vcpu_turn.proofs.Clearing.{Apart, Known, drops, elsewhere, gets, keeps_does, keeps_moves, known_left, maps, puts}
 use Rattle.vcpu_turn.proofs.Silent.{IsClear, clear_on, settled_clear, settled_silent}
-use Rattle.vcpu_turn.proofs.Sparing.{clear_does, counts_type, one}
+use Rattle.vcpu_turn.proofs.Sparing.{clear_does, counts_type, one, two}
 use Rattle.vcpu_turn.proofs.TurnItems.{next_list, pairs_each, same_pairs}
 use Rattle.vcpu_turn.proofs.Trying.{hears_nothing, within_none}
 use Rattle.vcpu_turn.proofs.Turns.{begins_came}
@@ -62,33 +70,99 @@ stored_clear v u y a b w f owner i word found old got other took gave clear stor
     let tried = clear_does u y _ (λ vs saw. one _ refl vs saw.2) other.found now in
     clear_on b w (keeps_does b w _ (drops f Writable) gave.found) (stores (took_clear y a f owner (Ok tt) refl took tried))
 
--- an element that exchanges no entry asks nothing, and where it is done the old words name none again
+-- ---- an exchange that moves no table
+false_of : (b : Bool) → (b ≡ true → ⊥) → b ≡ false
+false_of true off = absurd (off refl)
+false_of false off = refl
+
+both : (b : Bool) → b ≡ true → b ≡ false → ⊥
+both b on off = cc
+
+locked_clear : (v u y : PortValue) (f owner level found : ℕ) → GotRef v u f owner (Ok f) → TriedLock u y f owner (Ok (Table level found)) → IsClear v → IsClear y
+locked_clear v u y f owner level found got locked clear =
+    clear_does u y _ (λ vs saw. two _ _ (one _ refl) (one _ refl) vs saw.2) locked.found (clear_on v u (keeps_does v u _ (gets v.post.machine f owner (Ok f)) got.found) clear)
+
+got_clear : (v w : PortValue) (f owner : ℕ) (answer : Result ℕ Stop) → answer ≡ Ok f → pages.GotPage v f owner w answer → IsClear v → IsClear w
+got_clear v _ f owner _ ok (pages.GotPage.unreferred w stop got) clear = absurd (cc)
+got_clear v _ f owner _ ok (pages.GotPage.refused u w stop got took) clear = absurd (cc)
+got_clear v _ f owner _ ok (pages.GotPage.had u w got took) clear = took_clear u w f owner (Ok tt) refl took (clear_on v u (keeps_does v u _ (gets v.post.machine f owner (Ok f)) got.found) clear)
+
+gave_clear : (v w : PortValue) (f : ℕ) → GaveRef v w f → IsClear v → IsClear w
+gave_clear v w f gave clear = clear_on v w (keeps_does v w _ (puts f) gave.found) clear
+
+took_silent : (owner level : ℕ) (v : PortValue) (d : Demand) (w : PortValue) (answers : List Bool) (answer : Result (Unit {0}) Stop) → asks_table d ≡ false → TookDemand owner level v d w answers answer → (answers ≡ []) × (answer ≡ Ok tt → IsClear v → IsClear w)
+took_silent owner level v _ _ _ _ off exchanging.TookDemand.nothing = (refl, λ ok clear. clear)
+took_silent owner level v _ _ _ _ off (exchanging.TookDemand.referred w g got) = (refl, λ ok clear. clear_on v w (keeps_does v w _ (gets v.post.machine g owner (Ok g)) got.found) clear)
+took_silent owner level v _ _ _ _ off (exchanging.TookDemand.unreferred w g stop got) = (refl, λ ok. absurd (cc))
+took_silent owner level v _ _ _ _ off (exchanging.TookDemand.paged w g one_level got) = (refl, λ ok clear. got_clear v w g owner (Ok g) refl got clear)
+took_silent owner level v _ _ _ _ off (exchanging.TookDemand.unpaged w g stop one_level got) = (refl, λ ok. absurd (cc))
+took_silent owner level v _ _ _ _ off (exchanging.TookDemand.acquired w g answers above acquired) = absurd (both _ (level_type-table (level - 1) (omega (arith, above))) off)
+took_silent owner level v _ _ _ _ off (exchanging.TookDemand.refused w g answers stop above acquired) = absurd (both _ (level_type-table (level - 1) (omega (arith, above))) off)
+
+was_silent : (v w : PortValue) (f : ℕ) (kind : PageType) (answers : List Bool) (answer : Result (Unit {0}) Stop) → is_table kind ≡ false → WasReleased v f kind w answers answer → (answers ≡ []) × (IsClear v → IsClear w)
+was_silent v _ f kind _ _ off (releasing.WasReleased.plain w ordinary gave) = (refl, λ clear. clear_on v w (keeps_does v w _ (drops f kind) gave.found) clear)
+was_silent v _ f kind _ _ off (releasing.WasReleased.shared u w table dropped gave) = absurd (both _ table off)
+was_silent v _ f kind _ _ off (releasing.WasReleased.last u x w word level answers answer table at high dropped looks emptied) = absurd (both _ table off)
+
+released_silent : (v : PortValue) (d : Demand) (w : PortValue) (more : List Bool) → asks_table d ≡ false → ReleasedDemand v d w more → (more ≡ []) × (IsClear v → IsClear w)
+released_silent v _ _ _ off exchanging.ReleasedDemand.nothing = (refl, λ clear. clear)
+released_silent v _ _ _ off exchanging.ReleasedDemand.bad = (refl, λ clear. clear)
+released_silent v _ _ _ off (exchanging.ReleasedDemand.referred w g gave) = (refl, gave_clear v w g gave)
+released_silent v _ _ _ off (exchanging.ReleasedDemand.released w g t answers answer was due) = was_silent v w g t answers answer off was
+
+put_clear : (v w : PortValue) (f i seen new : ℕ) (keep : Bool) (answer : Result ℕ Stop) → PutEntry v w f i seen new keep answer → IsClear v → IsClear w
+put_clear v w f i seen new _ _ (exchanging.PutEntry.stored old put) clear = clear_on v w (keeps_moves v w _ _ _ _ _ refl put) clear
+put_clear v w f i seen new _ _ (exchanging.PutEntry.exchanged put) clear = clear_on v w (keeps_moves v w _ _ _ _ _ refl put) clear
+put_clear v w f i seen new _ _ (exchanging.PutEntry.lost found other put) clear = clear_on v w (keeps_moves v w _ _ _ _ _ refl put) clear
+
+left_clear : {v : PortValue} {f level : ℕ} {w : PortValue} → (left : LeftLock v f level w) → (IsLast left → ⊥) → IsClear v → IsClear w
+left_clear {v} {f} (exchanging.LeftLock.shared u w unlocks gave) off clear = gave_clear u w f gave (clear_on v u (keeps_moves v u _ _ _ _ _ refl unlocks.unlocks.step) clear)
+left_clear (exchanging.LeftLock.last u y w found unlocks parks names) off clear = absurd (off tt)
+
+exchanged_silent : (v : PortValue) (x : EntryUpdate) (o : Owners) (w : PortValue) (answers : List Bool) (answer : Result (Unit {0}) Stop) → (e : Exchanged v x o w answers answer) → (MovesTable e → ⊥) → IsClear v →
+    (answers ≡ []) × (answer ≡ Ok tt → IsClear w)
+exchanged_silent v x o _ _ _ (exchanging.Exchanged.bad u w seen saw is left) off clear = (refl, λ ok. absurd (cc))
+exchanged_silent v x o _ _ _ (exchanging.Exchanged.same u y w seen old saw is put left) off clear =
+    (refl, λ ok. left_clear left off (put_clear u y _ _ _ _ _ _ put (clear_on v u (keeps_moves v u _ _ _ _ _ refl saw) clear)))
+exchanged_silent v x o _ _ _ (exchanging.Exchanged.unput u y w seen stop saw is put left) off clear = (refl, λ ok. absurd (cc))
+exchanged_silent v x o _ _ _ (exchanging.Exchanged.untaken u y w seen answers stop saw apart took left) off clear =
+    ((took_silent _ x.level u (new_demand x seen) y answers (Err stop) (false_of (asks_table (new_demand x seen)) off) took).0, λ ok. absurd (cc))
+exchanged_silent v x o _ _ _ (exchanging.Exchanged.lost u y z a w seen answers stop saw apart took put gave left) off clear =
+    ((took_silent _ x.level u (new_demand x seen) y answers (Ok tt) (false_of (asks_table (new_demand x seen)) off) took).0, λ ok. absurd (cc))
+exchanged_silent v x o _ _ _ (exchanging.Exchanged.done u y z a w seen old answers more saw apart took put left released) off clear =
+    let new = took_silent _ x.level u (new_demand x seen) y answers (Ok tt) (false_of (asks_table (new_demand x seen)) (λ on. off (inl on))) took in
+    let gone = released_silent a (old_demand x old) w more (false_of (asks_table (old_demand x old)) (λ on. off (inr (inl on)))) released in
+    (rw (new.0, gone.0) refl, λ ok. gone.1 (left_clear left (λ last. off (inr (inr last))) (put_clear y z _ _ _ _ _ _ put (new.1 refl (clear_on v u (keeps_moves v u _ _ _ _ _ refl saw) clear)))))
+
+-- a write that moves no table asks nothing, and where it is done the old words name none again
 wrote_silent : (v : PortValue) (o : Owners) (f i word : ℕ) (keep : Bool) (w : PortValue) (answers : List Bool) (answer : Result (Unit {0}) Stop) → IsClear v → Wrote v o f i word keep w answers answer →
-    ((u y : PortValue) (level found : ℕ) → GotRef v u f o.tables (Ok f) → TriedLock u y f o.tables (Ok (Table level found)) → is_slot (level_type level) i ≡ false → Exchanged y (entry_update f level i word keep) o w answers answer → ⊥) →
+    ((u y : PortValue) (level found : ℕ) → GotRef v u f o.tables (Ok f) → TriedLock u y f o.tables (Ok (Table level found)) → is_slot (level_type level) i ≡ false → (e : Exchanged y (entry_update f level i word keep) o w answers answer) →
+      MovesTable e → ⊥) →
     (answers ≡ []) × (answer ≡ Ok tt → IsClear w)
 wrote_silent v o f i word keep _ _ _ clear (updating.Wrote.unreferred w stop got) off = (refl, λ ok. absurd (cc))
 wrote_silent v o f i word keep _ _ _ clear (updating.Wrote.unlocked u y w stop got locked gave) off = (refl, λ ok. absurd (cc))
 wrote_silent v o f i word keep _ _ _ clear (updating.Wrote.slot u y w level found got locked is left) off = (refl, λ ok. absurd (cc))
-wrote_silent v o f i word keep _ _ _ clear (updating.Wrote.exchanged u y w level found answers answer got locked open exchanged) off = absurd (off u y level found got locked open exchanged)
+wrote_silent v o f i word keep _ _ _ clear (updating.Wrote.exchanged u y w level found answers answer got locked open exchanged) off =
+    exchanged_silent y (entry_update f level i word keep) o w answers answer exchanged (off u y level found got locked open exchanged) (locked_clear v u y f o.tables level found got locked clear)
 wrote_silent v o f i word keep _ _ _ clear (updating.Wrote.untaken u y w found stop got other took) off = (refl, λ ok. absurd (cc))
 wrote_silent v o f i word keep _ _ _ clear (updating.Wrote.stored u y a b w found old got other took stores gave) off =
     (refl, λ ok. stored_clear v u y a b w f o.tables i word found old got other took gave clear (λ now. clear_on a b (keeps_moves a b _ _ _ _ _ refl stores) now))
 
 module _ (pairs : List Pair) (o : Owners) (k : ℕ) where
   module _ (v z : PortValue) (early : List Bool) (settles : Settles v z early (Ok tt)) (p : Pair) (at : slice_get pairs k ≡ Some p) (clear : IsClear z) (w : PortValue) (answers : List Bool) (answer : Result (Unit {0}) Stop)
-      (off : ExchangesEntry pairs (tried k v w (answers ++ early) answer) → ⊥) where
+      (off : (e : ExchangesEntry pairs (tried k v w (answers ++ early) answer)) → MovesTable e.exchanged → ⊥) where
     updated_silent : (e : Element) → element_of p ≡ e → Updated z o e w answers answer → (answers ≡ []) × (answer ≡ Ok tt → IsClear w)
     updated_silent (SetM2p f gpfn) is u = (u.0, λ ok. clear_on z w (keeps_does z w _ (maps z.post.machine f o.frames gpfn answer) u.1) clear)
     updated_silent (Write f i word keep) is u =
         wrote_silent z o f i word keep w answers answer clear u
-        (λ x y level found got locked open exchanged. off (record {
+        (λ x y level found got locked open exchanged moves. off (record {
             owners = o; pair = p; at = at; frame = f; index = i; word = word; keep = keep; writes = is; settled = z; referred = x; held = y; level = level; found = found; early = early; answers = answers;
             settles = settles; got = got; locked = locked; open_slot = open; exchanged = exchanged; asked = refl;
-          }))
+          }) moves)
     updated_silent Misaligned is u = (u.1, λ ok. subst IsClear (sym u.0) clear)
     updated_silent Unknown is u = (u.1, λ ok. subst IsClear (sym u.0) clear)
 
-  pair_silent : (x : Option Pair) → slice_get pairs k ≡ x → (v w : PortValue) (asked : List Bool) (answer : Result (Unit {0}) Stop) → IsClear v → FitsPair o x v w asked answer → (ExchangesEntry pairs (tried k v w asked answer) → ⊥) →
+  pair_silent : (x : Option Pair) → slice_get pairs k ≡ x → (v w : PortValue) (asked : List Bool) (answer : Result (Unit {0}) Stop) → IsClear v → FitsPair o x v w asked answer → ((e : ExchangesEntry pairs (tried k v w asked answer)) → MovesTable e.exchanged → ⊥) →
       (asked ≡ []) × (answer ≡ Ok tt → IsClear w)
   pair_silent None at v w asked answer clear fit off = absurd fit
   pair_silent (Some p) at v _ _ _ clear (working.SettlesFirst.unsettled w answers stop s) off = absurd (let ok = (settled_silent v w answers (Err stop) clear s.course).1 in cc)
@@ -99,27 +173,27 @@ module _ (pairs : List Pair) (o : Owners) (k : ℕ) where
 
 -- ---- a list
 module _ (pairs : List Pair) (o : Owners) {count from : ℕ} {v : PortValue} (clear : IsClear v) where
-  silent_at : (k : ℕ) (u w : PortValue) (asked : List Bool) (answer : Result (Unit {0}) Stop) → IsClear u → PairFits o pairs k u w asked answer → (ExchangesEntry pairs (tried k u w asked answer) → ⊥) → (asked ≡ []) × (answer ≡ Ok tt → IsClear w)
+  silent_at : (k : ℕ) (u w : PortValue) (asked : List Bool) (answer : Result (Unit {0}) Stop) → IsClear u → PairFits o pairs k u w asked answer → ((e : ExchangesEntry pairs (tried k u w asked answer)) → MovesTable e.exchanged → ⊥) → (asked ≡ []) × (answer ≡ Ok tt → IsClear w)
   silent_at k u w asked answer now fit off = pair_silent pairs o k (slice_get pairs k) refl u w asked answer now fit off
 
-  abbrev NoExchange : List Tried → Type 0
-  NoExchange items = All (λ t. ExchangesEntry pairs t → ⊥) items
+  abbrev Off : Tried → Type 0
+  Off t = (e : ExchangesEntry pairs t) → MovesTable e.exchanged → ⊥
 
-  did_silent : {to : ℕ} {w : PortValue} {answers : List Bool} → (did : DidItems (PairFits o pairs) count from v to w answers) → NoExchange (did_in did) → AsksNothingWithin (did_in did) × IsClear w
+  did_silent : {to : ℕ} {w : PortValue} {answers : List Bool} → (did : DidItems (PairFits o pairs) count from v to w answers) → MovesNoTable pairs (did_in did) → AsksNothingWithin (did_in did) × IsClear w
   did_silent lists.DidItems.none off = (All-nil (λ (t : Tried). t.asked ≡ []), clear)
   did_silent (lists.DidItems.more k u w answers asked did fit less) off =
-      let before = did_silent did (All-tail (λ (t : Tried). ExchangesEntry pairs t → ⊥) (tried k u w asked (Ok tt)) (did_in did) off) in
-      let now = silent_at k u w asked (Ok tt) before.1 fit (All-head (λ (t : Tried). ExchangesEntry pairs t → ⊥) (tried k u w asked (Ok tt)) (did_in did) off) in
+      let before = did_silent did (All-tail Off (tried k u w asked (Ok tt)) (did_in did) off) in
+      let now = silent_at k u w asked (Ok tt) before.1 fit (All-head Off (tried k u w asked (Ok tt)) (did_in did) off) in
       (All-cons (λ (t : Tried). t.asked ≡ []) (tried k u w asked (Ok tt)) (did_in did) now.0 before.0, now.1 refl)
 
   last_silent : {k : ℕ} {u : PortValue} {answers : List Bool} → (did : DidItems (PairFits o pairs) count from v k u answers) → (w : PortValue) (asked : List Bool) (answer : Result (Unit {0}) Stop) → PairFits o pairs k u w asked answer →
-      NoExchange (tried k u w asked answer ∷ did_in did) → AsksNothingWithin (tried k u w asked answer ∷ did_in did)
+      MovesNoTable pairs (tried k u w asked answer ∷ did_in did) → AsksNothingWithin (tried k u w asked answer ∷ did_in did)
   last_silent {k} {u} did w asked answer fit off =
-      let before = did_silent did (All-tail (λ (t : Tried). ExchangesEntry pairs t → ⊥) (tried k u w asked answer) (did_in did) off) in
-      let now = silent_at k u w asked answer before.1 fit (All-head (λ (t : Tried). ExchangesEntry pairs t → ⊥) (tried k u w asked answer) (did_in did) off) in
+      let before = did_silent did (All-tail Off (tried k u w asked answer) (did_in did) off) in
+      let now = silent_at k u w asked answer before.1 fit (All-head Off (tried k u w asked answer) (did_in did) off) in
       All-cons (λ (t : Tried). t.asked ≡ []) (tried k u w asked answer) (did_in did) now.0 before.0
 
-  works_silent : {to : ℕ} {w : PortValue} {answers : List Bool} {answer : Result (Unit {0}) Stop} → (works : WorksOn (PairFits o pairs) count from v to w answers answer) → NoExchange (tried_in works) → AsksNothingWithin (tried_in works)
+  works_silent : {to : ℕ} {w : PortValue} {answers : List Bool} {answer : Result (Unit {0}) Stop} → (works : WorksOn (PairFits o pairs) count from v to w answers answer) → MovesNoTable pairs (tried_in works) → AsksNothingWithin (tried_in works)
   works_silent (lists.WorksOn.all_done at) off = All-nil (λ (t : Tried). t.asked ≡ [])
   works_silent (lists.WorksOn.last_done k u w answers asked did fit at) off = last_silent did w asked (Ok tt) fit off
   works_silent (lists.WorksOn.due k u w answers asked did fit less) off = last_silent did w asked (Ok tt) fit off
@@ -151,29 +225,29 @@ begun_runs v w b =
 
 module _ (foreign : ℕ) (pairs : List Pair) where
   owned_silent : {d named : ℕ} (list : List Pair) {from : ℕ} (v : PortValue) → list ≡ pairs → IsClear v → {to : ℕ} {w : PortValue} {answers : List Bool} {answer : Result (Unit {0}) Stop} → (works : WorksOwned d named list v from to w answers answer) →
-      All (λ t. ExchangesEntry list t → ⊥) (tried_owned works) → AsksNothingWithin (tried_owned works)
+      MovesNoTable list (tried_owned works) → AsksNothingWithin (tried_owned works)
   owned_silent list v same clear (working.WorksOwned.long to w answers answer above whole) off = All-nil (λ (t : Tried). t.asked ≡ [])
   owned_silent list v same clear (working.WorksOwned.none empty) off = All-nil (λ (t : Tried). t.asked ≡ [])
   owned_silent list v same clear (working.WorksOwned.unowned w x some few finds) off = All-nil (λ (t : Tried). t.asked ≡ [])
   owned_silent {d} {named} list v same clear (working.WorksOwned.owned to u w o answers answer some few finds on) off = works_silent list o (owners_clear v u d named o finds clear) on off
 
   operation_silent : (d : ℕ) (l : Option OpList) → l ≡ Some (OfPairs foreign pairs) → (v : PortValue) → IsClear v → (from to : ℕ) (w : PortValue) (answers : List Bool) (answer : Result (Unit {0}) Stop) → (works : Works d l v from to w answers answer) →
-      All (λ t. ExchangesEntry pairs t → ⊥) (tried_of d l v from to w answers answer works) → AsksNothingWithin (tried_of d l v from to w answers answer works)
+      MovesNoTable pairs (tried_of d l v from to w answers answer works) → AsksNothingWithin (tried_of d l v from to w answers answer works)
   operation_silent d None is v clear from to w answers answer works off = absurd (cc)
   operation_silent d (Some (OfPairs named list)) is v clear from to w answers answer works off =
       owned_silent list v (same_pairs foreign named list pairs is) clear works
-      (subst (λ (xs : List Pair). All (λ t. ExchangesEntry xs t → ⊥) (tried_owned works)) (sym (same_pairs foreign named list pairs is)) off)
+      (subst (λ (xs : List Pair). MovesNoTable xs (tried_owned works)) (sym (same_pairs foreign named list pairs is)) off)
   operation_silent d (Some (OfExt list)) is v clear from to w answers answer works off = absurd (cc)
 
   going_silent : (c : Processing) (o : Option Op) (op : Op) → o ≡ Some op → list_of op ≡ Some (OfPairs foreign pairs) → (v : PortValue) → Known 6 v → (c2 : Processing) (w : PortValue) (answers : List Bool) (end : TurnEnd) → (does : DoesTurn c o v c2 w answers end) →
-      All (λ t. ExchangesEntry pairs t → ⊥) (tried_going does) → AsksNothingWithin (tried_going does)
+      MovesNoTable pairs (tried_going does) → AsksNothingWithin (tried_going does)
   going_silent c None op is built v runs c2 w answers end does off = absurd (cc)
   going_silent c (Some other) op is built v runs _ _ _ _ (turning.DoesTurn.unsettled w answers p settles) off = All-nil (λ (t : Tried). t.asked ≡ [])
   going_silent c (Some other) op is built v runs _ _ _ _ (turning.DoesTurn.settled u w c2 early answers end settles on) off =
       operation_silent c.domain (list_of other) (next_list (OfPairs foreign pairs) other op is built) u (settled_clear v u early (Ok tt) refl runs settles.course) c.done on.to w answers on.answer on.works off
 
   pub turn_silent : (c d : Processing) (op : Op) (end : TurnEnd) (v w : PortValue) (answers : List Bool) → slice_get c.script (length c.log) ≡ Some op → list_of op ≡ Some (OfPairs foreign pairs) → (turn : IsTurn c d end v w answers) →
-      All (λ t. ExchangesEntry pairs t → ⊥) (elements_tried turn) → AsksNothingWithin (elements_tried turn)
+      MovesNoTable pairs (elements_tried turn) → AsksNothingWithin (elements_tried turn)
   turn_silent c d op end v w answers next built turn off =
       going_silent c (slice_get c.script (length c.log)) op next built turn.begun (begun_runs v turn.begun turn.begins) d turn.worked answers end turn.does off
 
@@ -186,15 +260,15 @@ module _ (pairs : List Pair) (sets : All (λ (p : Pair). p.ptr % 4 ≡ 1) pairs)
   one_sets k p is =
       subst (λ (x : Pair). x.ptr % 4 ≡ 1) (get_or_from_slice_get pairs k p p is) (All-get_or (λ (x : Pair). x.ptr % 4 ≡ 1) pairs k p (slice_get_within pairs k p is) sets)
 
-  pub sets_exchange_none : (t : Tried) → ExchangesEntry pairs t → ⊥
-  sets_exchange_none t e = two (sym (sets_m2p e.pair (one_sets t.number e.pair e.at)) ∙ e.writes)
+  pub sets_exchange_none : (t : Tried) (e : ExchangesEntry pairs t) → MovesTable e.exchanged → ⊥
+  sets_exchange_none t e moves = two (sym (sets_m2p e.pair (one_sets t.number e.pair e.at)) ∙ e.writes)
     where
       two : {f g i word : ℕ} {keep : Bool} {a : ℕ} → SetM2p f a ≡ Write g i word keep → ⊥
       two is = cc
 
 -- ---- so they ask between the elements alone, and stop at a yes
 module _ (c d : Processing) (op : Op) (foreign : ℕ) (pairs : List Pair) (end : TurnEnd) (v w : PortValue) (answers : List Bool) (next : slice_get c.script (length c.log) ≡ Some op) (built : list_of op ≡ Some (OfPairs foreign pairs))
-    (turn : IsTurn c d end v w answers) (off : ExchangesNothing pairs (elements_tried turn)) where
+    (turn : IsTurn c d end v w answers) (off : MovesNoTable pairs (elements_tried turn)) where
   asks_none : asks_within (elements_tried turn) ≡ 0
   asks_none = within_none (elements_tried turn) (turn_silent foreign pairs c d op end v w answers next built turn off)
 

@@ -149,8 +149,8 @@ pub one : (x : Visit) → Spared x → Spares (Only x)
 unfolding EachOf
 one x off vs is = subst (EachOf Spared) (sym is) (off, tt)
 
-both : (P Q : List Visit → Type 0) → Spares P → Spares Q → Spares (Then P Q)
-both P Q a b vs t = subst (EachOf Spared) (sym t.list) (each_append Spared t.before t.after (a t.before t.first) (b t.after t.next))
+pub two : (P Q : List Visit → Type 0) → Spares P → Spares Q → Spares (Then P Q)
+two P Q a b vs t = subst (EachOf Spared) (sym t.list) (each_append Spared t.before t.after (a t.before t.first) (b t.after t.next))
 
 maybe : (b : Bool) (P : List Visit → Type 0) → Spares P → Spares (Where b P)
 maybe true P a = a
@@ -168,12 +168,12 @@ flushes s _ _ (flushing.FlushedBy.once clock found to before) = (refl, (refl, (r
 
 looks : (stamp u : ℕ) (answer : Result (Option ℕ) Refusal) → (vs : List Visit) → LooksBy stamp u vs answer → EachOf Spared vs
 looks stamp u _ vs (waits.LooksBy.idle x runs saw) = one _ refl vs saw
-looks stamp u _ vs (waits.LooksBy.late y past saw) = both _ _ (one _ refl) (one _ refl) vs saw
-looks stamp u _ vs (waits.LooksBy.barred y d x most saw) = both _ _ (one _ refl) (both _ _ (one _ refl) (one _ refl)) vs saw
-looks stamp u _ vs (waits.LooksBy.behind y z most saw) = both _ _ (one _ refl) (both _ _ (one _ refl) (both _ _ weighs (one _ refl))) vs saw
+looks stamp u _ vs (waits.LooksBy.late y past saw) = two _ _ (one _ refl) (one _ refl) vs saw
+looks stamp u _ vs (waits.LooksBy.barred y d x most saw) = two _ _ (one _ refl) (two _ _ (one _ refl) (one _ refl)) vs saw
+looks stamp u _ vs (waits.LooksBy.behind y z most saw) = two _ _ (one _ refl) (two _ _ (one _ refl) (two _ _ weighs (one _ refl))) vs saw
 looks stamp u _ vs (waits.LooksBy.own_late y past saw) = one _ refl vs saw
-looks stamp u _ vs (waits.LooksBy.own_flushed y most saw) = both _ _ (one _ refl) (flushes u (Ok tt)) vs saw
-looks stamp u _ vs (waits.LooksBy.own_spent y r most saw) = both _ _ (one _ refl) (flushes u (Err r)) vs saw
+looks stamp u _ vs (waits.LooksBy.own_flushed y most saw) = two _ _ (one _ refl) (flushes u (Ok tt)) vs saw
+looks stamp u _ vs (waits.LooksBy.own_spent y r most saw) = two _ _ (one _ refl) (flushes u (Err r)) vs saw
 
 waits_spare : (stamp n : ℕ) (answer : Result (Option Slow) Refusal) → (vs : List Visit) → WaitsBy stamp vs n answer → EachOf Spared vs
 waits_spare stamp _ _ _ (waits.WaitsBy.none vs is) = nothing vs is
@@ -194,17 +194,17 @@ ends : (f : ℕ) (want : PageType) (marked own : Bool) → Spares (EndsBy f want
 ends f want marked own vs h = one _ refl vs h.1
 
 goes : (f : ℕ) (want : PageType) (marked : Bool) (stamp : ℕ) (own : Bool) → Spares (GoesBy f want marked stamp own Counted)
-goes f want marked stamp own vs h = both _ _ (waits_of marked stamp) (ends f want marked own) vs h
+goes f want marked stamp own vs h = two _ _ (waits_of marked stamp) (ends f want marked own) vs h
 
 work : (f : ℕ) (want : PageType) (marked : Bool) (stamp : ℕ) (own kept : Bool) → Spares (λ vs. Then (Where kept (PutBy f)) (λ gs. GoesBy f want marked stamp own Counted gs) vs)
-work f want marked stamp own kept vs h = both _ _ (maybe kept (PutBy f) (aparts (PutBy f) (puts f))) (goes f want marked stamp own) vs h
+work f want marked stamp own kept vs h = two _ _ (maybe kept (PutBy f) (aparts (PutBy f) (puts f))) (goes f want marked stamp own) vs h
 
 takes_by : (f : ℕ) (want : PageType) (x : ℕ) (s : Standing) → Spares (TakesBy f want x s Counted)
 takes_by f want x stands.Counted vs h = one _ refl vs h
-takes_by f want x stands.Dead vs h = both _ _ (one _ refl) (work f want _ _ _ _) vs h
-takes_by f want x stands.Partial vs h = both _ _ (one _ refl) (work f want _ _ _ _) vs h
-takes_by f want x stands.Busy vs h = both _ _ (one _ refl) (work f want _ _ _ _) vs h
-takes_by f want x stands.Other vs h = both _ _ (one _ refl) (work f want _ _ _ _) vs h
+takes_by f want x stands.Dead vs h = two _ _ (one _ refl) (work f want _ _ _ _) vs h
+takes_by f want x stands.Partial vs h = two _ _ (one _ refl) (work f want _ _ _ _) vs h
+takes_by f want x stands.Busy vs h = two _ _ (one _ refl) (work f want _ _ _ _) vs h
+takes_by f want x stands.Other vs h = two _ _ (one _ refl) (work f want _ _ _ _) vs h
 
 pub counts_type : (n : Machine) (f : ℕ) (want : PageType) → Spares (TypeBy n f want (Ok Counted))
-counts_type n f want vs h = both _ _ (one _ refl) (takes_by f want h.word (standing_of (kind_fields h.word) want)) vs h.steps
+counts_type n f want vs h = two _ _ (one _ refl) (takes_by f want h.word (standing_of (kind_fields h.word) want)) vs h.steps

@@ -1,7 +1,10 @@
 -- What a turn asks its gate, by its course: between the items of its list, and within each of them.
 use Rattle.std.specs.Prelude.{◌≡◌, ◌⊎◌, inl, inr, ℕ, ◌+◌, Bool, true, false, List, [], ◌∷◌, ◌++◌, All, length, slice_get, sum_by, Option, Some, None, Result, Ok, Err}
-use Rattle.xp_words.specs.declared.kind.PageType.{PageType}
 use Rattle.xp_words.specs.Entries.{is_slot}
+use Rattle.xp_words.specs.PageTypes.{is_table}
+use Rattle.xp_words.specs.declared.entry.Demand.{Demand}
+use Rattle.xp_words.specs.declared.entry.Demand.TheVariants as demands
+use Rattle.xp_words.specs.declared.kind.PageType.{PageType}
 use Rattle.xp_words.specs.declared.ops.ExtOp.{ExtOp}
 use Rattle.xp_words.specs.declared.ops.Op.{Op}
 use Rattle.xp_words.specs.declared.ops.Pair.{Pair}
@@ -14,7 +17,9 @@ use Rattle.partial_state.specs.Levels.{level_type}
 use Rattle.table_courses.specs.Acquiring.{GotRef}
 use Rattle.level_release.specs.Course.{WasReleased}
 use Rattle.foreign_map.specs.declared.owners.Owners.{Owners}
-use Rattle.entry_exchange.specs.Course.{Exchanged}
+use Rattle.entry_exchange.specs.Course as exchanging
+use Rattle.entry_exchange.specs.Course.{Exchanged, LeftLock, new_demand, old_demand}
+use Rattle.entry_exchange.specs.declared.exchanging.EntryUpdate.{EntryUpdate}
 use Rattle.entry_locks.specs.declared.locking.Locked.TheVariants.{Table}
 use Rattle.mmu_update.specs.Course.{TriedLock, entry_update}
 use Rattle.mmu_update.specs.Elements.{element_of}
@@ -128,9 +133,28 @@ pub record ExchangesEntry (pairs : List Pair) (t : Tried) : Type 0 where
   pub exchanged : Exchanged held (entry_update frame level index word keep) owners t.behind answers t.answer
   pub asked : t.asked ≡ answers ++ early
 
--- none of them did
-abbrev pub ExchangesNothing : List Pair → List Tried → Type 0
-ExchangesNothing pairs items = All (λ t. ExchangesEntry pairs t → ⊥) items
+-- Tables that an exchange takes or gives back: one whose type its new word asks, or asked in vain; and where it is done, one whose type its old word
+-- asked, or its own, where the last type count went off with the lock.
+abbrev pub asks_table : Demand → Bool
+asks_table (demands.Typed g t) = is_table t
+asks_table _ = false
+
+abbrev pub IsLast : {v : PortValue} {f level : ℕ} {w : PortValue} → LeftLock v f level w → Type 0
+IsLast (exchanging.LeftLock.shared u w unlocks gave) = ⊥
+IsLast (exchanging.LeftLock.last u y w found unlocks parks names) = Unit {0}
+
+abbrev pub MovesTable : {v : PortValue} {x : EntryUpdate} {o : Owners} {w : PortValue} {answers : List Bool} {answer : Result (Unit {0}) Stop} → Exchanged v x o w answers answer → Type 0
+MovesTable (exchanging.Exchanged.bad u w seen saw is left) = ⊥
+MovesTable (exchanging.Exchanged.same u y w seen old saw is put left) = IsLast left
+MovesTable (exchanging.Exchanged.unput u y w seen stop saw is put left) = ⊥
+MovesTable {v} {x} (exchanging.Exchanged.untaken u y w seen answers stop saw off took left) = asks_table (new_demand x seen) ≡ true
+MovesTable {v} {x} (exchanging.Exchanged.lost u y z a w seen answers stop saw off took put gave left) = asks_table (new_demand x seen) ≡ true
+MovesTable {v} {x} (exchanging.Exchanged.done u y z a w seen old answers more saw off took put left released) =
+    (asks_table (new_demand x seen) ≡ true) ⊎ ((asks_table (old_demand x old) ≡ true) ⊎ IsLast left)
+
+-- none of the elements went through such an exchange: they set machine-to-physical words, write into ordinary memory, or exchange entries that ask none
+abbrev pub MovesNoTable : List Pair → List Tried → Type 0
+MovesNoTable pairs items = All (λ t. (e : ExchangesEntry pairs t) → MovesTable e.exchanged → ⊥) items
 
 -- The exchange is done, and the release of what the old word asked is paused: the gate was asked behind no few entries of that, and said no but
 -- for the last time.

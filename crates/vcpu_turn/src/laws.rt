@@ -7,7 +7,7 @@ ghost use Rattle.xp_words.specs.declared.reply.Stop.{Stop};
 ghost use Rattle.xp_board.specs.Told.{PortValue};
 ghost use Rattle.xp_preempt.specs.Gates.{Gives, ends_yes, last_ask};
 ghost use Rattle.foreign_map.specs.declared.owners.Owners.{Owners};
-ghost use Rattle.vcpu_turn.specs.Asking.{AsksNothingWithin, ExchangesNothing, HearsNo, HearsNoWithin, PausesRelease, Tried, UnpinsFrame, asks_within, elements_tried, tried_in};
+ghost use Rattle.vcpu_turn.specs.Asking.{AsksNothingWithin, HearsNo, HearsNoWithin, MovesNoTable, PausesRelease, Tried, UnpinsFrame, asks_within, elements_tried, tried_in};
 ghost use Rattle.vcpu_turn.specs.Cpus.{OfExt, OfPairs, Processing, list_of};
 ghost use Rattle.vcpu_turn.specs.Lists.{AsksNothing, WorksOn, asks_between, is_due_by};
 ghost use Rattle.vcpu_turn.specs.Turning.{CountsAsks, GoesNoFurther, IsTurn, is_due};
@@ -67,15 +67,15 @@ pub fn a_turn_never_passes_a_yes()
     ensures { (c d : Processing) (op : Op) (end : TurnEnd) (v w : PortValue) (before : ℕ) (answers : List Bool) (says : ℕ → Bool) → slice_get c.script (length c.log) ≡ Some op → (turn : IsTurn c d end v w answers) → HearsNoWithin (elements_tried turn) → Gives says before answers → (j : ℕ) → 0 < j → before + j < last_ask → says (before + j) ≡ true → GoesNoFurther c d end (c.done + (j - asks_within (elements_tried turn))) }
 {}
 
-/// A turn with a list of `mmu_update` asks nothing within its elements where none of them exchanges an entry of a live table. Then a write into ordinary memory counts as
+/// A turn with a list of `mmu_update` asks nothing within its elements where none of them exchanges an entry and takes or gives back a table with that. Then a write counts as
 /// a machine-to-physical update does: the gate is asked between the elements, and no more, and the turn does not go on past the element behind which it says yes.
-pub fn only_exchanges_ask_within()
-    ensures nothing { (c d : Processing) (op : Op) (foreign : ℕ) (pairs : List Pair) (end : TurnEnd) (v w : PortValue) (answers : List Bool) → slice_get c.script (length c.log) ≡ Some op → list_of op ≡ Some (OfPairs foreign pairs) → (turn : IsTurn c d end v w answers) → ExchangesNothing pairs (elements_tried turn) → AsksNothingWithin (elements_tried turn) }
-    ensures counts { (c d : Processing) (op : Op) (foreign : ℕ) (pairs : List Pair) (end : TurnEnd) (v w : PortValue) (answers : List Bool) → slice_get c.script (length c.log) ≡ Some op → list_of op ≡ Some (OfPairs foreign pairs) → (turn : IsTurn c d end v w answers) → ExchangesNothing pairs (elements_tried turn) → CountsAsks c.done end answers 0 }
-    ensures stops { (c d : Processing) (op : Op) (foreign : ℕ) (pairs : List Pair) (end : TurnEnd) (v w : PortValue) (before : ℕ) (answers : List Bool) (says : ℕ → Bool) → slice_get c.script (length c.log) ≡ Some op → list_of op ≡ Some (OfPairs foreign pairs) → (turn : IsTurn c d end v w answers) → ExchangesNothing pairs (elements_tried turn) → Gives says before answers → (j : ℕ) → 0 < j → before + j < last_ask → says (before + j) ≡ true → GoesNoFurther c d end (c.done + j) }
+pub fn only_tables_ask_within()
+    ensures nothing { (c d : Processing) (op : Op) (foreign : ℕ) (pairs : List Pair) (end : TurnEnd) (v w : PortValue) (answers : List Bool) → slice_get c.script (length c.log) ≡ Some op → list_of op ≡ Some (OfPairs foreign pairs) → (turn : IsTurn c d end v w answers) → MovesNoTable pairs (elements_tried turn) → AsksNothingWithin (elements_tried turn) }
+    ensures counts { (c d : Processing) (op : Op) (foreign : ℕ) (pairs : List Pair) (end : TurnEnd) (v w : PortValue) (answers : List Bool) → slice_get c.script (length c.log) ≡ Some op → list_of op ≡ Some (OfPairs foreign pairs) → (turn : IsTurn c d end v w answers) → MovesNoTable pairs (elements_tried turn) → CountsAsks c.done end answers 0 }
+    ensures stops { (c d : Processing) (op : Op) (foreign : ℕ) (pairs : List Pair) (end : TurnEnd) (v w : PortValue) (before : ℕ) (answers : List Bool) (says : ℕ → Bool) → slice_get c.script (length c.log) ≡ Some op → list_of op ≡ Some (OfPairs foreign pairs) → (turn : IsTurn c d end v w answers) → MovesNoTable pairs (elements_tried turn) → Gives says before answers → (j : ℕ) → 0 < j → before + j < last_ask → says (before + j) ≡ true → GoesNoFurther c d end (c.done + j) }
 {}
 
-/// A list that sets machine-to-physical words alone exchanges none.
-pub fn map_updates_exchange_nothing()
-    ensures { (pairs : List Pair) (items : List Tried) → All (λ (p : Pair). p.ptr % 4 ≡ 1) pairs → ExchangesNothing pairs items }
+/// A list that sets machine-to-physical words alone exchanges no entry, and moves no table.
+pub fn map_updates_move_no_table()
+    ensures { (pairs : List Pair) (items : List Tried) → All (λ (p : Pair). p.ptr % 4 ≡ 1) pairs → MovesNoTable pairs items }
 {}

@@ -38,7 +38,7 @@ module _ (f x stamp : ℕ) (own : Bool) (stop : Stop) where
 stamp_low : (v u : PortValue) (f stamp : ℕ) (own : Bool) (stop : Stop) → TakesFound v u f Writable (Ok (Waiting own stamp stop)) → stamp < 2 ^ 36
 unfolding Does
 stamp_low v u f stamp own stop found =
-    let t = found.2.2 in
+    let t = found.2 in
     found_stamp t.word stamp (sym (stood_by f t.word stamp own stop (standing_of (kind_fields t.word) Writable) t.steps.after t.way t.steps.next))
 
 -- ---- by its calls
