@@ -1,6 +1,6 @@
 -- A turn with a list of `mmu_update` whose elements take and give back no table: both old words name no frame behind what was settled first, each
 -- element leaves them so, and none asks.
-use Rattle.std.proofs.Common.{◌≡◌, ℕ, ◌+◌, ◌-◌, ◌<◌, ◌≤◌, ◌%◌, ◌/◌, ◌++◌, Bool, true, false, List, [], ◌∷◌, All, length, slice_get, Option, Some, None, Result, Ok, Err, refl, sym, ap, ◌∙◌, inl, inr, arith, subst}
+use Rattle.std.proofs.Common.{◌≡◌, ℕ, ◌+◌, ◌-◌, ◌<◌, ◌≤◌, ◌%◌, ◌/◌, ◌++◌, ◌⊎◌, Bool, true, false, List, [], ◌∷◌, All, Any, length, slice_get, Option, Some, None, Result, Ok, Err, refl, sym, ap, ◌∙◌, inl, inr, arith, subst}
 use Rattle.std.proofs.lemmas.List.Elements.{All-cons, All-from_get_or, All-head, All-nil, All-tail, All-get_or}
 use Rattle.std.proofs.lemmas.Option.{get_or_from_slice_get, slice_get_within}
 use Rattle.xp_words.specs.Entries.{is_slot}
@@ -40,7 +40,7 @@ use Rattle.mmu_update.specs.Course.{TriedLock, Updated, Wrote, entry_update}
 use Rattle.mmu_update.specs.Elements.{element_of}
 use Rattle.mmu_update.specs.declared.element.Element.{Element}
 use Rattle.mmu_update.specs.declared.element.Element.TheVariants.{SetM2p, Write, Misaligned, Unknown}
-use Rattle.vcpu_turn.specs.Asking.{AsksNothingWithin, ExchangesEntry, IsLast, MovesNoTable, MovesTable, Tried, asks_within, did_in, asks_table, elements_tried, tried, tried_going, tried_in, tried_of, tried_owned}
+use Rattle.vcpu_turn.specs.Asking.{AsksNothingWithin, ExchangesEntry, IsLast, MovesATable, MovesNoTable, MovesTable, Tried, asks_within, did_in, asks_table, elements_tried, tried, tried_going, tried_in, tried_of, tried_owned}
 use Rattle.vcpu_turn.specs.Cpus.{OfExt, OfPairs, OpList, Processing, list_of}
 use Rattle.vcpu_turn.specs.Lists as lists
 use Rattle.vcpu_turn.specs.Lists.{DidItems, WorksOn}
@@ -54,7 +54,7 @@ use Rattle.vcpu_turn.proofs.Clearing.{Apart, Known, drops, elsewhere, gets, keep
 use Rattle.vcpu_turn.proofs.Silent.{IsClear, clear_on, settled_clear, settled_silent}
 use Rattle.vcpu_turn.proofs.Sparing.{clear_does, counts_type, one, two}
 use Rattle.vcpu_turn.proofs.TurnItems.{next_list, pairs_each, same_pairs}
-use Rattle.vcpu_turn.proofs.Trying.{hears_nothing, within_none}
+use Rattle.vcpu_turn.proofs.Trying.{any_later, any_now, hears_nothing, within_none}
 use Rattle.vcpu_turn.proofs.Turns.{begins_came}
 
 -- ---- a write
@@ -71,9 +71,9 @@ stored_clear v u y a b w f owner i word found old got other took gave clear stor
     clear_on b w (keeps_does b w _ (drops f Writable) gave.found) (stores (took_clear y a f owner (Ok tt) refl took tried))
 
 -- ---- an exchange that moves no table
-false_of : (b : Bool) → (b ≡ true → ⊥) → b ≡ false
-false_of true off = absurd (off refl)
-false_of false off = refl
+on_off : (b : Bool) → (b ≡ true) ⊎ (b ≡ false)
+on_off true = inl refl
+on_off false = inr refl
 
 both : (b : Bool) → b ≡ true → b ≡ false → ⊥
 both b on off = cc
@@ -115,89 +115,127 @@ put_clear v w f i seen new _ _ (exchanging.PutEntry.stored old put) clear = clea
 put_clear v w f i seen new _ _ (exchanging.PutEntry.exchanged put) clear = clear_on v w (keeps_moves v w _ _ _ _ _ refl put) clear
 put_clear v w f i seen new _ _ (exchanging.PutEntry.lost found other put) clear = clear_on v w (keeps_moves v w _ _ _ _ _ refl put) clear
 
-left_clear : {v : PortValue} {f level : ℕ} {w : PortValue} → (left : LeftLock v f level w) → (IsLast left → ⊥) → IsClear v → IsClear w
-left_clear {v} {f} (exchanging.LeftLock.shared u w unlocks gave) off clear = gave_clear u w f gave (clear_on v u (keeps_moves v u _ _ _ _ _ refl unlocks.unlocks.step) clear)
-left_clear (exchanging.LeftLock.last u y w found unlocks parks names) off clear = absurd (off tt)
+left_clear : {v : PortValue} {f level : ℕ} {w : PortValue} → (left : LeftLock v f level w) → (IsClear v → IsClear w) ⊎ IsLast left
+left_clear {v} {f} (exchanging.LeftLock.shared u w unlocks gave) = inl (λ clear. gave_clear u w f gave (clear_on v u (keeps_moves v u _ _ _ _ _ refl unlocks.unlocks.step) clear))
+left_clear (exchanging.LeftLock.last u y w found unlocks parks names) = inr tt
 
-exchanged_silent : (v : PortValue) (x : EntryUpdate) (o : Owners) (w : PortValue) (answers : List Bool) (answer : Result (Unit {0}) Stop) → (e : Exchanged v x o w answers answer) → (MovesTable e → ⊥) → IsClear v →
-    (answers ≡ []) × (answer ≡ Ok tt → IsClear w)
-exchanged_silent v x o _ _ _ (exchanging.Exchanged.bad u w seen saw is left) off clear = (refl, λ ok. absurd (cc))
-exchanged_silent v x o _ _ _ (exchanging.Exchanged.same u y w seen old saw is put left) off clear =
-    (refl, λ ok. left_clear left off (put_clear u y _ _ _ _ _ _ put (clear_on v u (keeps_moves v u _ _ _ _ _ refl saw) clear)))
-exchanged_silent v x o _ _ _ (exchanging.Exchanged.unput u y w seen stop saw is put left) off clear = (refl, λ ok. absurd (cc))
-exchanged_silent v x o _ _ _ (exchanging.Exchanged.untaken u y w seen answers stop saw apart took left) off clear =
-    ((took_silent _ x.level u (new_demand x seen) y answers (Err stop) (false_of (asks_table (new_demand x seen)) off) took).0, λ ok. absurd (cc))
-exchanged_silent v x o _ _ _ (exchanging.Exchanged.lost u y z a w seen answers stop saw apart took put gave left) off clear =
-    ((took_silent _ x.level u (new_demand x seen) y answers (Ok tt) (false_of (asks_table (new_demand x seen)) off) took).0, λ ok. absurd (cc))
-exchanged_silent v x o _ _ _ (exchanging.Exchanged.done u y z a w seen old answers more saw apart took put left released) off clear =
-    let new = took_silent _ x.level u (new_demand x seen) y answers (Ok tt) (false_of (asks_table (new_demand x seen)) (λ on. off (inl on))) took in
-    let gone = released_silent a (old_demand x old) w more (false_of (asks_table (old_demand x old)) (λ on. off (inr (inl on)))) released in
-    (rw (new.0, gone.0) refl, λ ok. gone.1 (left_clear left (λ last. off (inr (inr last))) (put_clear y z _ _ _ _ _ _ put (new.1 refl (clear_on v u (keeps_moves v u _ _ _ _ _ refl saw) clear)))))
+-- what is asked within, and how it leaves the old words
+abbrev Silent : PortValue → List Bool → Result (Unit {0}) Stop → Type 0
+Silent w answers answer = (answers ≡ []) × (answer ≡ Ok tt → IsClear w)
+
+exchanged_silent : (v : PortValue) (x : EntryUpdate) (o : Owners) (w : PortValue) (answers : List Bool) (answer : Result (Unit {0}) Stop) → (e : Exchanged v x o w answers answer) → IsClear v → Silent w answers answer ⊎ MovesTable e
+exchanged_silent v x o _ _ _ (exchanging.Exchanged.bad u w seen saw is left) clear = inl (refl, λ ok. absurd (cc))
+exchanged_silent v x o _ _ _ (exchanging.Exchanged.same u y w seen old saw is put left) clear = elim (left_clear left) [
+  | inl keeps ↦ inl (refl, λ ok. keeps (put_clear u y _ _ _ _ _ _ put (clear_on v u (keeps_moves v u _ _ _ _ _ refl saw) clear)))
+  | inr last ↦ inr last
+]
+exchanged_silent v x o _ _ _ (exchanging.Exchanged.unput u y w seen stop saw is put left) clear = inl (refl, λ ok. absurd (cc))
+exchanged_silent v x o _ _ _ (exchanging.Exchanged.untaken u y w seen answers stop saw apart took left) clear = elim (on_off (asks_table (new_demand x seen))) [
+  | inl on ↦ inr on
+  | inr off ↦ inl ((took_silent _ x.level u (new_demand x seen) y answers (Err stop) off took).0, λ ok. absurd (cc))
+]
+exchanged_silent v x o _ _ _ (exchanging.Exchanged.lost u y z a w seen answers stop saw apart took put gave left) clear = elim (on_off (asks_table (new_demand x seen))) [
+  | inl on ↦ inr on
+  | inr off ↦ inl ((took_silent _ x.level u (new_demand x seen) y answers (Ok tt) off took).0, λ ok. absurd (cc))
+]
+exchanged_silent v x o _ _ _ (exchanging.Exchanged.done u y z a w seen old answers more saw apart took put left released) clear = elim (on_off (asks_table (new_demand x seen))) [
+  | inl on ↦ inr (inl on)
+  | inr off ↦ elim (on_off (asks_table (old_demand x old))) [
+    | inl on ↦ inr (inr (inl on))
+    | inr none ↦ elim (left_clear left) [
+      | inl keeps ↦ inl (silent off none keeps)
+      | inr last ↦ inr (inr (inr last))
+    ]
+  ]
+]
+  where
+    silent : asks_table (new_demand x seen) ≡ false → asks_table (old_demand x old) ≡ false → (IsClear z → IsClear a) → Silent w (more ++ answers) (Ok tt)
+    silent off none keeps =
+        let new = took_silent _ x.level u (new_demand x seen) y answers (Ok tt) off took in
+        let gone = released_silent a (old_demand x old) w more none released in
+        (rw (new.0, gone.0) refl, λ ok. gone.1 (keeps (put_clear y z _ _ _ _ _ _ put (new.1 refl (clear_on v u (keeps_moves v u _ _ _ _ _ refl saw) clear)))))
 
 -- a write that moves no table asks nothing, and where it is done the old words name none again
-wrote_silent : (v : PortValue) (o : Owners) (f i word : ℕ) (keep : Bool) (w : PortValue) (answers : List Bool) (answer : Result (Unit {0}) Stop) → IsClear v → Wrote v o f i word keep w answers answer →
-    ((u y : PortValue) (level found : ℕ) → GotRef v u f o.tables (Ok f) → TriedLock u y f o.tables (Ok (Table level found)) → is_slot (level_type level) i ≡ false → (e : Exchanged y (entry_update f level i word keep) o w answers answer) →
-      MovesTable e → ⊥) →
-    (answers ≡ []) × (answer ≡ Ok tt → IsClear w)
-wrote_silent v o f i word keep _ _ _ clear (updating.Wrote.unreferred w stop got) off = (refl, λ ok. absurd (cc))
-wrote_silent v o f i word keep _ _ _ clear (updating.Wrote.unlocked u y w stop got locked gave) off = (refl, λ ok. absurd (cc))
-wrote_silent v o f i word keep _ _ _ clear (updating.Wrote.slot u y w level found got locked is left) off = (refl, λ ok. absurd (cc))
-wrote_silent v o f i word keep _ _ _ clear (updating.Wrote.exchanged u y w level found answers answer got locked open exchanged) off =
-    exchanged_silent y (entry_update f level i word keep) o w answers answer exchanged (off u y level found got locked open exchanged) (locked_clear v u y f o.tables level found got locked clear)
-wrote_silent v o f i word keep _ _ _ clear (updating.Wrote.untaken u y w found stop got other took) off = (refl, λ ok. absurd (cc))
-wrote_silent v o f i word keep _ _ _ clear (updating.Wrote.stored u y a b w found old got other took stores gave) off =
-    (refl, λ ok. stored_clear v u y a b w f o.tables i word found old got other took gave clear (λ now. clear_on a b (keeps_moves a b _ _ _ _ _ refl stores) now))
-
 module _ (pairs : List Pair) (o : Owners) (k : ℕ) where
-  module _ (v z : PortValue) (early : List Bool) (settles : Settles v z early (Ok tt)) (p : Pair) (at : slice_get pairs k ≡ Some p) (clear : IsClear z) (w : PortValue) (answers : List Bool) (answer : Result (Unit {0}) Stop)
-      (off : (e : ExchangesEntry pairs (tried k v w (answers ++ early) answer)) → MovesTable e.exchanged → ⊥) where
-    updated_silent : (e : Element) → element_of p ≡ e → Updated z o e w answers answer → (answers ≡ []) × (answer ≡ Ok tt → IsClear w)
-    updated_silent (SetM2p f gpfn) is u = (u.0, λ ok. clear_on z w (keeps_does z w _ (maps z.post.machine f o.frames gpfn answer) u.1) clear)
-    updated_silent (Write f i word keep) is u =
-        wrote_silent z o f i word keep w answers answer clear u
-        (λ x y level found got locked open exchanged moves. off (record {
-            owners = o; pair = p; at = at; frame = f; index = i; word = word; keep = keep; writes = is; settled = z; referred = x; held = y; level = level; found = found; early = early; answers = answers;
-            settles = settles; got = got; locked = locked; open_slot = open; exchanged = exchanged; asked = refl;
-          }) moves)
-    updated_silent Misaligned is u = (u.1, λ ok. subst IsClear (sym u.0) clear)
-    updated_silent Unknown is u = (u.1, λ ok. subst IsClear (sym u.0) clear)
+  module _ (v z : PortValue) (early : List Bool) (settles : Settles v z early (Ok tt)) (p : Pair) (at : slice_get pairs k ≡ Some p) (clear : IsClear z) where
+    abbrev SilentOr : PortValue → List Bool → Result (Unit {0}) Stop → Type 0
+    SilentOr w answers answer = Silent w answers answer ⊎ MovesATable pairs (tried k v w (answers ++ early) answer)
 
-  pair_silent : (x : Option Pair) → slice_get pairs k ≡ x → (v w : PortValue) (asked : List Bool) (answer : Result (Unit {0}) Stop) → IsClear v → FitsPair o x v w asked answer → ((e : ExchangesEntry pairs (tried k v w asked answer)) → MovesTable e.exchanged → ⊥) →
-      (asked ≡ []) × (answer ≡ Ok tt → IsClear w)
-  pair_silent None at v w asked answer clear fit off = absurd fit
-  pair_silent (Some p) at v _ _ _ clear (working.SettlesFirst.unsettled w answers stop s) off = absurd (let ok = (settled_silent v w answers (Err stop) clear s.course).1 in cc)
-  pair_silent (Some p) at v _ _ _ clear (working.SettlesFirst.performed z w early answers answer s u) off =
-      let none = settled_silent v z early (Ok tt) clear s.course in
-      let silent = updated_silent v z early s p at (settled_clear v z early (Ok tt) refl clear.runs s.course) w answers answer off (element_of p) refl u.course in
-      (rw (silent.0, none.0) refl, silent.1)
+    wrote_silent : (f i word : ℕ) (keep : Bool) → element_of p ≡ Write f i word keep → (w : PortValue) (answers : List Bool) (answer : Result (Unit {0}) Stop) → Wrote z o f i word keep w answers answer → SilentOr w answers answer
+    wrote_silent f i word keep writes _ _ _ (updating.Wrote.unreferred w stop got) = inl (refl, λ ok. absurd (cc))
+    wrote_silent f i word keep writes _ _ _ (updating.Wrote.unlocked u y w stop got locked gave) = inl (refl, λ ok. absurd (cc))
+    wrote_silent f i word keep writes _ _ _ (updating.Wrote.slot u y w level found got locked is left) = inl (refl, λ ok. absurd (cc))
+    wrote_silent f i word keep writes _ _ _ (updating.Wrote.exchanged u y w level found answers answer got locked open exchanged) =
+        elim (exchanged_silent y (entry_update f level i word keep) o w answers answer exchanged (locked_clear z u y f o.tables level found got locked clear)) [
+          | inl silent ↦ inl silent
+          | inr moves ↦ inr (exchange, moves)
+        ]
+      where
+        exchange : ExchangesEntry pairs (tried k v w (answers ++ early) answer)
+        exchange =
+            record {
+              owners = o; pair = p; at = at; frame = f; index = i; word = word; keep = keep; writes = writes; settled = z; referred = u; held = y; level = level; found = found; early = early; answers = answers;
+              settles = settles; got = got; locked = locked; open_slot = open; exchanged = exchanged; asked = refl;
+            }
+    wrote_silent f i word keep writes _ _ _ (updating.Wrote.untaken u y w found stop got other took) = inl (refl, λ ok. absurd (cc))
+    wrote_silent f i word keep writes _ _ _ (updating.Wrote.stored u y a b w found old got other took stores gave) =
+        inl (refl, λ ok. stored_clear z u y a b w f o.tables i word found old got other took gave clear (λ now. clear_on a b (keeps_moves a b _ _ _ _ _ refl stores) now))
+
+    updated_silent : (e : Element) → element_of p ≡ e → (w : PortValue) (answers : List Bool) (answer : Result (Unit {0}) Stop) → Updated z o e w answers answer → SilentOr w answers answer
+    updated_silent (SetM2p f gpfn) is w answers answer u = inl (u.0, λ ok. clear_on z w (keeps_does z w _ (maps z.post.machine f o.frames gpfn answer) u.1) clear)
+    updated_silent (Write f i word keep) is w answers answer u = wrote_silent f i word keep is w answers answer u
+    updated_silent Misaligned is w answers answer u = inl (u.1, λ ok. subst IsClear (sym u.0) clear)
+    updated_silent Unknown is w answers answer u = inl (u.1, λ ok. subst IsClear (sym u.0) clear)
+
+  pair_silent : (x : Option Pair) → slice_get pairs k ≡ x → (v w : PortValue) (asked : List Bool) (answer : Result (Unit {0}) Stop) → IsClear v → FitsPair o x v w asked answer → Silent w asked answer ⊎ MovesATable pairs (tried k v w asked answer)
+  pair_silent None at v w asked answer clear fit = absurd fit
+  pair_silent (Some p) at v _ _ _ clear (working.SettlesFirst.unsettled w answers stop s) = absurd (let ok = (settled_silent v w answers (Err stop) clear s.course).1 in cc)
+  pair_silent (Some p) at v _ _ _ clear (working.SettlesFirst.performed z w early answers answer s u) =
+      let none = (settled_silent v z early (Ok tt) clear s.course).0 in
+      elim (updated_silent v z early s p at (settled_clear v z early (Ok tt) refl clear.runs s.course) (element_of p) refl w answers answer u.course) [
+        | inl silent ↦ inl (quiet none silent.0, silent.1)
+        | inr moves ↦ inr moves
+      ]
+    where
+      quiet : early ≡ [] → answers ≡ [] → answers ++ early ≡ []
+      quiet a b = rw (a, b) refl
 
 -- ---- a list
 module _ (pairs : List Pair) (o : Owners) {count from : ℕ} {v : PortValue} (clear : IsClear v) where
-  silent_at : (k : ℕ) (u w : PortValue) (asked : List Bool) (answer : Result (Unit {0}) Stop) → IsClear u → PairFits o pairs k u w asked answer → ((e : ExchangesEntry pairs (tried k u w asked answer)) → MovesTable e.exchanged → ⊥) → (asked ≡ []) × (answer ≡ Ok tt → IsClear w)
-  silent_at k u w asked answer now fit off = pair_silent pairs o k (slice_get pairs k) refl u w asked answer now fit off
+  abbrev Asked : Tried → Type 0
+  Asked t = t.asked ≡ []
 
-  abbrev Off : Tried → Type 0
-  Off t = (e : ExchangesEntry pairs t) → MovesTable e.exchanged → ⊥
+  abbrev SilentAll : List Tried → Type 0
+  SilentAll items = AsksNothingWithin items ⊎ Any (λ t. MovesATable pairs t) items
 
-  did_silent : {to : ℕ} {w : PortValue} {answers : List Bool} → (did : DidItems (PairFits o pairs) count from v to w answers) → MovesNoTable pairs (did_in did) → AsksNothingWithin (did_in did) × IsClear w
-  did_silent lists.DidItems.none off = (All-nil (λ (t : Tried). t.asked ≡ []), clear)
-  did_silent (lists.DidItems.more k u w answers asked did fit less) off =
-      let before = did_silent did (All-tail Off (tried k u w asked (Ok tt)) (did_in did) off) in
-      let now = silent_at k u w asked (Ok tt) before.1 fit (All-head Off (tried k u w asked (Ok tt)) (did_in did) off) in
-      (All-cons (λ (t : Tried). t.asked ≡ []) (tried k u w asked (Ok tt)) (did_in did) now.0 before.0, now.1 refl)
+  silent_at : (k : ℕ) (u w : PortValue) (asked : List Bool) (answer : Result (Unit {0}) Stop) → IsClear u → PairFits o pairs k u w asked answer → Silent w asked answer ⊎ MovesATable pairs (tried k u w asked answer)
+  silent_at k u w asked answer now fit = pair_silent pairs o k (slice_get pairs k) refl u w asked answer now fit
+
+  did_silent : {to : ℕ} {w : PortValue} {answers : List Bool} → (did : DidItems (PairFits o pairs) count from v to w answers) → (AsksNothingWithin (did_in did) × IsClear w) ⊎ Any (λ t. MovesATable pairs t) (did_in did)
+  did_silent lists.DidItems.none = inl (All-nil Asked, clear)
+  did_silent (lists.DidItems.more k u w answers asked did fit less) = elim (did_silent did) [
+    | inl before ↦ elim (silent_at k u w asked (Ok tt) before.1 fit) [
+      | inl now ↦ inl (All-cons Asked (tried k u w asked (Ok tt)) (did_in did) now.0 before.0, now.1 refl)
+      | inr moves ↦ inr (any_now (λ t. MovesATable pairs t) (tried k u w asked (Ok tt)) (did_in did) moves)
+    ]
+    | inr moved ↦ inr (any_later (λ t. MovesATable pairs t) (tried k u w asked (Ok tt)) (did_in did) moved)
+  ]
 
   last_silent : {k : ℕ} {u : PortValue} {answers : List Bool} → (did : DidItems (PairFits o pairs) count from v k u answers) → (w : PortValue) (asked : List Bool) (answer : Result (Unit {0}) Stop) → PairFits o pairs k u w asked answer →
-      MovesNoTable pairs (tried k u w asked answer ∷ did_in did) → AsksNothingWithin (tried k u w asked answer ∷ did_in did)
-  last_silent {k} {u} did w asked answer fit off =
-      let before = did_silent did (All-tail Off (tried k u w asked answer) (did_in did) off) in
-      let now = silent_at k u w asked answer before.1 fit (All-head Off (tried k u w asked answer) (did_in did) off) in
-      All-cons (λ (t : Tried). t.asked ≡ []) (tried k u w asked answer) (did_in did) now.0 before.0
+      SilentAll (tried k u w asked answer ∷ did_in did)
+  last_silent {k} {u} did w asked answer fit = elim (did_silent did) [
+    | inl before ↦ elim (silent_at k u w asked answer before.1 fit) [
+      | inl now ↦ inl (All-cons Asked (tried k u w asked answer) (did_in did) now.0 before.0)
+      | inr moves ↦ inr (any_now (λ t. MovesATable pairs t) (tried k u w asked answer) (did_in did) moves)
+    ]
+    | inr moved ↦ inr (any_later (λ t. MovesATable pairs t) (tried k u w asked answer) (did_in did) moved)
+  ]
 
-  works_silent : {to : ℕ} {w : PortValue} {answers : List Bool} {answer : Result (Unit {0}) Stop} → (works : WorksOn (PairFits o pairs) count from v to w answers answer) → MovesNoTable pairs (tried_in works) → AsksNothingWithin (tried_in works)
-  works_silent (lists.WorksOn.all_done at) off = All-nil (λ (t : Tried). t.asked ≡ [])
-  works_silent (lists.WorksOn.last_done k u w answers asked did fit at) off = last_silent did w asked (Ok tt) fit off
-  works_silent (lists.WorksOn.due k u w answers asked did fit less) off = last_silent did w asked (Ok tt) fit off
-  works_silent (lists.WorksOn.stopped k u w answers asked e did fit less) off = last_silent did w asked (Err e) fit off
+  works_silent : {to : ℕ} {w : PortValue} {answers : List Bool} {answer : Result (Unit {0}) Stop} → (works : WorksOn (PairFits o pairs) count from v to w answers answer) → SilentAll (tried_in works)
+  works_silent (lists.WorksOn.all_done at) = inl (All-nil Asked)
+  works_silent (lists.WorksOn.last_done k u w answers asked did fit at) = last_silent did w asked (Ok tt) fit
+  works_silent (lists.WorksOn.due k u w answers asked did fit less) = last_silent did w asked (Ok tt) fit
+  works_silent (lists.WorksOn.stopped k u w answers asked e did fit less) = last_silent did w asked (Err e) fit
 
 -- ---- the owners
 word_elsewhere : (p : Place) → is_word p ≡ true → elsewhere p ≡ true
@@ -224,32 +262,33 @@ begun_runs v w b =
     known_left b.d w _ Load kinds.Look None 0 b.running 6 (ap (λ (q : Post). Vcpu q.vcpu 6) (sym post)) refl
 
 module _ (foreign : ℕ) (pairs : List Pair) where
-  owned_silent : {d named : ℕ} (list : List Pair) {from : ℕ} (v : PortValue) → list ≡ pairs → IsClear v → {to : ℕ} {w : PortValue} {answers : List Bool} {answer : Result (Unit {0}) Stop} → (works : WorksOwned d named list v from to w answers answer) →
-      MovesNoTable list (tried_owned works) → AsksNothingWithin (tried_owned works)
-  owned_silent list v same clear (working.WorksOwned.long to w answers answer above whole) off = All-nil (λ (t : Tried). t.asked ≡ [])
-  owned_silent list v same clear (working.WorksOwned.none empty) off = All-nil (λ (t : Tried). t.asked ≡ [])
-  owned_silent list v same clear (working.WorksOwned.unowned w x some few finds) off = All-nil (λ (t : Tried). t.asked ≡ [])
-  owned_silent {d} {named} list v same clear (working.WorksOwned.owned to u w o answers answer some few finds on) off = works_silent list o (owners_clear v u d named o finds clear) on off
+  abbrev SilentOf : List Tried → Type 0
+  SilentOf items = AsksNothingWithin items ⊎ Any (λ t. MovesATable pairs t) items
+
+  owned_silent : {d named : ℕ} (list : List Pair) {from : ℕ} (v : PortValue) → IsClear v → {to : ℕ} {w : PortValue} {answers : List Bool} {answer : Result (Unit {0}) Stop} → (works : WorksOwned d named list v from to w answers answer) →
+      AsksNothingWithin (tried_owned works) ⊎ Any (λ t. MovesATable list t) (tried_owned works)
+  owned_silent list v clear (working.WorksOwned.long to w answers answer above whole) = inl (All-nil (λ (t : Tried). t.asked ≡ []))
+  owned_silent list v clear (working.WorksOwned.none empty) = inl (All-nil (λ (t : Tried). t.asked ≡ []))
+  owned_silent list v clear (working.WorksOwned.unowned w x some few finds) = inl (All-nil (λ (t : Tried). t.asked ≡ []))
+  owned_silent {d} {named} list v clear (working.WorksOwned.owned to u w o answers answer some few finds on) = works_silent list o (owners_clear v u d named o finds clear) on
 
   operation_silent : (d : ℕ) (l : Option OpList) → l ≡ Some (OfPairs foreign pairs) → (v : PortValue) → IsClear v → (from to : ℕ) (w : PortValue) (answers : List Bool) (answer : Result (Unit {0}) Stop) → (works : Works d l v from to w answers answer) →
-      MovesNoTable pairs (tried_of d l v from to w answers answer works) → AsksNothingWithin (tried_of d l v from to w answers answer works)
-  operation_silent d None is v clear from to w answers answer works off = absurd (cc)
-  operation_silent d (Some (OfPairs named list)) is v clear from to w answers answer works off =
-      owned_silent list v (same_pairs foreign named list pairs is) clear works
-      (subst (λ (xs : List Pair). MovesNoTable xs (tried_owned works)) (sym (same_pairs foreign named list pairs is)) off)
-  operation_silent d (Some (OfExt list)) is v clear from to w answers answer works off = absurd (cc)
+      SilentOf (tried_of d l v from to w answers answer works)
+  operation_silent d None is v clear from to w answers answer works = absurd (cc)
+  operation_silent d (Some (OfPairs named list)) is v clear from to w answers answer works =
+      subst (λ (xs : List Pair). AsksNothingWithin (tried_owned works) ⊎ Any (λ t. MovesATable xs t) (tried_owned works)) (same_pairs foreign named list pairs is) (owned_silent list v clear works)
+  operation_silent d (Some (OfExt list)) is v clear from to w answers answer works = absurd (cc)
 
   going_silent : (c : Processing) (o : Option Op) (op : Op) → o ≡ Some op → list_of op ≡ Some (OfPairs foreign pairs) → (v : PortValue) → Known 6 v → (c2 : Processing) (w : PortValue) (answers : List Bool) (end : TurnEnd) → (does : DoesTurn c o v c2 w answers end) →
-      MovesNoTable pairs (tried_going does) → AsksNothingWithin (tried_going does)
-  going_silent c None op is built v runs c2 w answers end does off = absurd (cc)
-  going_silent c (Some other) op is built v runs _ _ _ _ (turning.DoesTurn.unsettled w answers p settles) off = All-nil (λ (t : Tried). t.asked ≡ [])
-  going_silent c (Some other) op is built v runs _ _ _ _ (turning.DoesTurn.settled u w c2 early answers end settles on) off =
-      operation_silent c.domain (list_of other) (next_list (OfPairs foreign pairs) other op is built) u (settled_clear v u early (Ok tt) refl runs settles.course) c.done on.to w answers on.answer on.works off
+      SilentOf (tried_going does)
+  going_silent c None op is built v runs c2 w answers end does = absurd (cc)
+  going_silent c (Some other) op is built v runs _ _ _ _ (turning.DoesTurn.unsettled w answers p settles) = inl (All-nil (λ (t : Tried). t.asked ≡ []))
+  going_silent c (Some other) op is built v runs _ _ _ _ (turning.DoesTurn.settled u w c2 early answers end settles on) =
+      operation_silent c.domain (list_of other) (next_list (OfPairs foreign pairs) other op is built) u (settled_clear v u early (Ok tt) refl runs settles.course) c.done on.to w answers on.answer on.works
 
   pub turn_silent : (c d : Processing) (op : Op) (end : TurnEnd) (v w : PortValue) (answers : List Bool) → slice_get c.script (length c.log) ≡ Some op → list_of op ≡ Some (OfPairs foreign pairs) → (turn : IsTurn c d end v w answers) →
-      MovesNoTable pairs (elements_tried turn) → AsksNothingWithin (elements_tried turn)
-  turn_silent c d op end v w answers next built turn off =
-      going_silent c (slice_get c.script (length c.log)) op next built turn.begun (begun_runs v turn.begun turn.begins) d turn.worked answers end turn.does off
+      SilentOf (elements_tried turn)
+  turn_silent c d op end v w answers next built turn = going_silent c (slice_get c.script (length c.log)) op next built turn.begun (begun_runs v turn.begun turn.begins) d turn.worked answers end turn.does
 
 -- ---- lists that set machine-to-physical words alone
 sets_m2p : (p : Pair) → p.ptr % 4 ≡ 1 → element_of p ≡ SetM2p (p.ptr / 4096) p.val
@@ -260,17 +299,26 @@ module _ (pairs : List Pair) (sets : All (λ (p : Pair). p.ptr % 4 ≡ 1) pairs)
   one_sets k p is =
       subst (λ (x : Pair). x.ptr % 4 ≡ 1) (get_or_from_slice_get pairs k p p is) (All-get_or (λ (x : Pair). x.ptr % 4 ≡ 1) pairs k p (slice_get_within pairs k p is) sets)
 
-  pub sets_exchange_none : (t : Tried) (e : ExchangesEntry pairs t) → MovesTable e.exchanged → ⊥
-  sets_exchange_none t e moves = two (sym (sets_m2p e.pair (one_sets t.number e.pair e.at)) ∙ e.writes)
+  pub sets_move_none : (t : Tried) → MovesATable pairs t → ⊥
+  sets_move_none t m = two_kinds (sym (sets_m2p m.0.pair (one_sets t.number m.0.pair m.0.at)) ∙ m.0.writes)
     where
-      two : {f g i word : ℕ} {keep : Bool} {a : ℕ} → SetM2p f a ≡ Write g i word keep → ⊥
-      two is = cc
+      two_kinds : {f g i word : ℕ} {keep : Bool} {a : ℕ} → SetM2p f a ≡ Write g i word keep → ⊥
+      two_kinds is = cc
 
 -- ---- so they ask between the elements alone, and stop at a yes
 module _ (c d : Processing) (op : Op) (foreign : ℕ) (pairs : List Pair) (end : TurnEnd) (v w : PortValue) (answers : List Bool) (next : slice_get c.script (length c.log) ≡ Some op) (built : list_of op ≡ Some (OfPairs foreign pairs))
     (turn : IsTurn c d end v w answers) (off : MovesNoTable pairs (elements_tried turn)) where
+  quiet : AsksNothingWithin (elements_tried turn)
+  quiet = elim (turn_silent foreign pairs c d op end v w answers next built turn) [
+    | inl silent ↦ silent
+    | inr moved ↦ absurd (no_such (elements_tried turn) off moved)
+  ]
+    where
+      no_such : (items : List Tried) → MovesNoTable pairs items → Any (λ t. MovesATable pairs t) items → ⊥
+      no_such items none a = none a.0 a.1 a.2 (subst (λ (t : Tried). MovesATable pairs t) (sym a.3) a.4)
+
   asks_none : asks_within (elements_tried turn) ≡ 0
-  asks_none = within_none (elements_tried turn) (turn_silent foreign pairs c d op end v w answers next built turn off)
+  asks_none = within_none (elements_tried turn) quiet
 
   pub silent_counts : CountsAsks c.done end answers 0
   silent_counts = subst (λ (n : ℕ). CountsAsks c.done end answers n) asks_none (turn_asks c d op end v w answers next turn)
@@ -280,4 +328,4 @@ module _ (c d : Processing) (op : Op) (foreign : ℕ) (pairs : List Pair) (end :
       let none = asks_none in
       let same : c.done + (j - asks_within (elements_tried turn)) ≡ c.done + j = omega (arith, none) in
       subst (λ (n : ℕ). GoesNoFurther c d end n) same (turn_within c d op end v w before answers says next turn
-      (hears_nothing (elements_tried turn) (turn_silent foreign pairs c d op end v w answers next built turn off)) gives j some less is_yes)
+      (hears_nothing (elements_tried turn) quiet) gives j some less is_yes)

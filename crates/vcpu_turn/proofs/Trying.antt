@@ -1,5 +1,5 @@
 -- The items that a list tried in a turn: how often the gate was asked between them and within them, and that it said no until the list was paused.
-use Rattle.std.proofs.Common.{◌≡◌, ℕ, ◌+◌, ◌-◌, ◌<◌, ◌≤◌, Bool, true, false, List, [], ◌∷◌, ◌++◌, All, length, Result, Ok, Err, refl, sym, ap, ◌∙◌, arith, subst, length-append}
+use Rattle.std.proofs.Common.{◌≡◌, ℕ, suc, ◌+◌, ◌-◌, ◌<◌, ◌≤◌, Bool, true, false, List, [], ◌∷◌, ◌++◌, All, Any, length, Result, Ok, Err, refl, sym, ap, ◌∙◌, arith, subst, length-append}
 use Rattle.std.proofs.lemmas.List.Elements.{All-cons, All-head, All-nil, All-tail, All-weaker}
 use Rattle.std.proofs.lemmas.List.Sums.{sum_by-cons}
 use Rattle.xp_words.specs.declared.reply.Stop.{Stop}
@@ -27,6 +27,14 @@ within_none (t ∷ items) quiet =
 -- where nothing is asked, nothing is said
 pub hears_nothing : (items : List Tried) → AsksNothingWithin items → HearsNoWithin items
 hears_nothing items quiet = All-weaker (λ (t : Tried). t.asked ≡ []) HearsNo (λ t is. noes_same t.asked [] (is_due_by t.answer) is (noes_none (is_due_by t.answer))) items quiet
+
+-- one of them
+module _ {X : Type 0} (P : X → Type 0) (x : X) (xs : List X) where
+  pub any_now : P x → Any P (x ∷ xs)
+  any_now p = (0, x, omega arith, refl, p)
+
+  pub any_later : Any P xs → Any P (x ∷ xs)
+  any_later a = let less = a.2 in (suc a.0, a.1, omega (arith, less), a.3, a.4)
 
 module _ {fits : Fitting} {count from : ℕ} {v : PortValue} where
   -- ---- what holds of each step holds of each item

@@ -152,9 +152,13 @@ MovesTable {v} {x} (exchanging.Exchanged.lost u y z a w seen answers stop saw of
 MovesTable {v} {x} (exchanging.Exchanged.done u y z a w seen old answers more saw off took put left released) =
     (asks_table (new_demand x seen) ≡ true) ⊎ ((asks_table (old_demand x old) ≡ true) ⊎ IsLast left)
 
--- none of the elements went through such an exchange: they set machine-to-physical words, write into ordinary memory, or exchange entries that ask none
+-- the element went through such an exchange
+abbrev pub MovesATable : List Pair → Tried → Type 0
+MovesATable pairs t = (e : ExchangesEntry pairs t) × MovesTable e.exchanged
+
+-- none did: each sets a machine-to-physical word, writes into ordinary memory, or exchanges an entry without a table
 abbrev pub MovesNoTable : List Pair → List Tried → Type 0
-MovesNoTable pairs items = All (λ t. (e : ExchangesEntry pairs t) → MovesTable e.exchanged → ⊥) items
+MovesNoTable pairs items = All (λ t. MovesATable pairs t → ⊥) items
 
 -- The exchange is done, and the release of what the old word asked is paused: the gate was asked behind no few entries of that, and said no but
 -- for the last time.

@@ -1,5 +1,5 @@
 //! What holds of all lists of items, and of all turns, as contracts of functions that do nothing.
-ghost use Rattle.std.specs.Prelude.{ℕ, ◌≡◌, ◌⊎◌, ◌+◌, ◌-◌, ◌<◌, ◌≤◌, ◌%◌, All, Bool, true, List, length, slice_get, Some, Result};
+ghost use Rattle.std.specs.Prelude.{ℕ, ◌≡◌, ◌⊎◌, ◌+◌, ◌-◌, ◌<◌, ◌≤◌, ◌%◌, All, Any, Bool, true, List, length, slice_get, Some, Result};
 ghost use Rattle.xp_words.specs.declared.ops.ExtOp.{ExtOp};
 ghost use Rattle.xp_words.specs.declared.ops.Op.{Op};
 ghost use Rattle.xp_words.specs.declared.ops.Pair.{Pair};
@@ -7,7 +7,7 @@ ghost use Rattle.xp_words.specs.declared.reply.Stop.{Stop};
 ghost use Rattle.xp_board.specs.Told.{PortValue};
 ghost use Rattle.xp_preempt.specs.Gates.{Gives, ends_yes, last_ask};
 ghost use Rattle.foreign_map.specs.declared.owners.Owners.{Owners};
-ghost use Rattle.vcpu_turn.specs.Asking.{AsksNothingWithin, HearsNo, HearsNoWithin, MovesNoTable, PausesRelease, Tried, UnpinsFrame, asks_within, elements_tried, tried_in};
+ghost use Rattle.vcpu_turn.specs.Asking.{AsksNothingWithin, HearsNo, HearsNoWithin, MovesATable, MovesNoTable, PausesRelease, Tried, UnpinsFrame, asks_within, elements_tried, tried_in};
 ghost use Rattle.vcpu_turn.specs.Cpus.{OfExt, OfPairs, Processing, list_of};
 ghost use Rattle.vcpu_turn.specs.Lists.{AsksNothing, WorksOn, asks_between, is_due_by};
 ghost use Rattle.vcpu_turn.specs.Turning.{CountsAsks, GoesNoFurther, IsTurn, is_due};
@@ -67,10 +67,10 @@ pub fn a_turn_never_passes_a_yes()
     ensures { (c d : Processing) (op : Op) (end : TurnEnd) (v w : PortValue) (before : ℕ) (answers : List Bool) (says : ℕ → Bool) → slice_get c.script (length c.log) ≡ Some op → (turn : IsTurn c d end v w answers) → HearsNoWithin (elements_tried turn) → Gives says before answers → (j : ℕ) → 0 < j → before + j < last_ask → says (before + j) ≡ true → GoesNoFurther c d end (c.done + (j - asks_within (elements_tried turn))) }
 {}
 
-/// A turn with a list of `mmu_update` asks nothing within its elements where none of them exchanges an entry and takes or gives back a table with that. Then a write counts as
+/// A turn with a list of `mmu_update` asks nothing within its elements, or one of them exchanged an entry and took or gave back a table with that. Where none did, a write counts as
 /// a machine-to-physical update does: the gate is asked between the elements, and no more, and the turn does not go on past the element behind which it says yes.
 pub fn only_tables_ask_within()
-    ensures nothing { (c d : Processing) (op : Op) (foreign : ℕ) (pairs : List Pair) (end : TurnEnd) (v w : PortValue) (answers : List Bool) → slice_get c.script (length c.log) ≡ Some op → list_of op ≡ Some (OfPairs foreign pairs) → (turn : IsTurn c d end v w answers) → MovesNoTable pairs (elements_tried turn) → AsksNothingWithin (elements_tried turn) }
+    ensures tables { (c d : Processing) (op : Op) (foreign : ℕ) (pairs : List Pair) (end : TurnEnd) (v w : PortValue) (answers : List Bool) → slice_get c.script (length c.log) ≡ Some op → list_of op ≡ Some (OfPairs foreign pairs) → (turn : IsTurn c d end v w answers) → AsksNothingWithin (elements_tried turn) ⊎ Any (λ (t : Tried). MovesATable pairs t) (elements_tried turn) }
     ensures counts { (c d : Processing) (op : Op) (foreign : ℕ) (pairs : List Pair) (end : TurnEnd) (v w : PortValue) (answers : List Bool) → slice_get c.script (length c.log) ≡ Some op → list_of op ≡ Some (OfPairs foreign pairs) → (turn : IsTurn c d end v w answers) → MovesNoTable pairs (elements_tried turn) → CountsAsks c.done end answers 0 }
     ensures stops { (c d : Processing) (op : Op) (foreign : ℕ) (pairs : List Pair) (end : TurnEnd) (v w : PortValue) (before : ℕ) (answers : List Bool) (says : ℕ → Bool) → slice_get c.script (length c.log) ≡ Some op → list_of op ≡ Some (OfPairs foreign pairs) → (turn : IsTurn c d end v w answers) → MovesNoTable pairs (elements_tried turn) → Gives says before answers → (j : ℕ) → 0 < j → before + j < last_ask → says (before + j) ≡ true → GoesNoFurther c d end (c.done + j) }
 {}

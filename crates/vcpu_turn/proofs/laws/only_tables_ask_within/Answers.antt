@@ -1,8 +1,8 @@
 use Rattle.vcpu_turn.proofs.PairTurns.{silent_counts, silent_within, turn_silent}
 use Rattle.vcpu_turn.proofs.laws.only_tables_ask_within.Goals as goal
 
-pub returns-clause-nothing : goal.returns-clause-nothing
-returns-clause-nothing g c d op foreign pairs end v w answers next built turn off = turn_silent foreign pairs c d op end v w answers next built turn off
+pub returns-clause-tables : goal.returns-clause-tables
+returns-clause-tables g c d op foreign pairs end v w answers next built turn = turn_silent foreign pairs c d op end v w answers next built turn
 
 pub returns-clause-counts : goal.returns-clause-counts
 returns-clause-counts g c d op foreign pairs end v w answers next built turn off = silent_counts c d op foreign pairs end v w answers next built turn off
