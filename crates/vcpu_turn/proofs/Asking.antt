@@ -48,34 +48,34 @@ refused_hears v to w answers answer r = noes_same answers [] (is_due_by answer) 
 
 owned_hears : {d foreign : ℕ} {list : List Pair} {v : PortValue} {from to : ℕ} {w : PortValue} {answers : List Bool} {answer : Result (Unit {0}) Stop} → (works : WorksOwned d foreign list v from to w answers answer) →
     HearsNoWithin (tried_owned works) → NoUntilDue answers (is_due_by answer)
-owned_hears {v = v} (working.WorksOwned.long to w answers answer above whole) no = refused_hears v to w answers answer whole
-owned_hears (working.WorksOwned.none empty) no = noes_none false
-owned_hears (working.WorksOwned.unowned w x some few finds) no = noes_none false
-owned_hears (working.WorksOwned.owned to u w o answers answer some few finds on) no = works_hears on no
+owned_hears {v = v} (working.WorksOwned.long to w answers answer above whole) hears = refused_hears v to w answers answer whole
+owned_hears (working.WorksOwned.none empty) hears = noes_none false
+owned_hears (working.WorksOwned.unowned w x some few finds) hears = noes_none false
+owned_hears (working.WorksOwned.owned to u w o answers answer some few finds on) hears = works_hears on hears
 
 operation_hears : (d : ℕ) (o : Option OpList) (v : PortValue) (from to : ℕ) (w : PortValue) (answers : List Bool) (answer : Result (Unit {0}) Stop) → (works : Works d o v from to w answers answer) →
     HearsNoWithin (tried_of d o v from to w answers answer works) → NoUntilDue answers (is_due_by answer)
-operation_hears d None v from to w answers answer works no = refused_hears v to w answers answer works
-operation_hears d (Some (OfPairs foreign list)) v from to w answers answer works no = owned_hears works no
-operation_hears d (Some (OfExt list)) v from to w answers answer (inl works) no = refused_hears v to w answers answer works.1
-operation_hears d (Some (OfExt list)) v from to w answers answer (inr works) no = works_hears works.1 no
+operation_hears d None v from to w answers answer works hears = refused_hears v to w answers answer works
+operation_hears d (Some (OfPairs foreign list)) v from to w answers answer works hears = owned_hears works hears
+operation_hears d (Some (OfExt list)) v from to w answers answer (inl works) hears = refused_hears v to w answers answer works.1
+operation_hears d (Some (OfExt list)) v from to w answers answer (inr works) hears = works_hears works.1 hears
 
 -- ---- a turn
 pub settles_hears : (v w : PortValue) (answers : List Bool) (answer : Result (Unit {0}) Stop) → Settles v w answers answer → NoUntilDue answers (is_due_by answer)
 settles_hears v w answers answer s = subst (λ (b : Bool). NoUntilDue answers b) (sym (due_released answer)) (settled_noes v w answers answer s.course)
 
 next_hears : (c : Processing) (o : Option Op) (c2 : Processing) (v w : PortValue) (answers : List Bool) (end : TurnEnd) → (does : DoesNext c o c2 v w answers end) → HearsNoWithin (tried_next c o c2 v w answers end does) → NoUntilDue answers (is_due end)
-next_hears c (Some op) c2 v w answers end on no =
-    subst (λ (b : Bool). NoUntilDue answers b) (sym (ap is_due on.end_is ∙ due_ended on.to on.answer)) (operation_hears c.domain (list_of op) v c.done on.to w answers on.answer on.works no)
-next_hears c None c2 v w answers end retires no = noes_same answers [] (is_due end) retires.no_ask (noes_none (is_due end))
+next_hears c (Some op) c2 v w answers end on hears =
+    subst (λ (b : Bool). NoUntilDue answers b) (sym (ap is_due on.end_is ∙ due_ended on.to on.answer)) (operation_hears c.domain (list_of op) v c.done on.to w answers on.answer on.works hears)
+next_hears c None c2 v w answers end retires hears = noes_same answers [] (is_due end) retires.no_ask (noes_none (is_due end))
 
 going_hears : (c : Processing) (o : Option Op) (v : PortValue) (c2 : Processing) (w : PortValue) (answers : List Bool) (end : TurnEnd) → (does : DoesTurn c o v c2 w answers end) → HearsNoWithin (tried_going does) → NoUntilDue answers (is_due end)
-going_hears c o v _ _ _ _ (turning.DoesTurn.unsettled w answers p settles) no = subst (λ (b : Bool). NoUntilDue answers b) (sym (due_paused p)) (settles_hears v w answers (Err (Paused p)) settles)
-going_hears c o v _ _ _ _ (turning.DoesTurn.settled u w c2 early answers end settles does) no =
-    noes_then early answers (is_due end) (settled_no v u early (Ok tt) refl settles.course) (next_hears c o c2 u w answers end does no)
+going_hears c o v _ _ _ _ (turning.DoesTurn.unsettled w answers p settles) hears = subst (λ (b : Bool). NoUntilDue answers b) (sym (due_paused p)) (settles_hears v w answers (Err (Paused p)) settles)
+going_hears c o v _ _ _ _ (turning.DoesTurn.settled u w c2 early answers end settles does) hears =
+    noes_then early answers (is_due end) (settled_no v u early (Ok tt) refl settles.course) (next_hears c o c2 u w answers end does hears)
 
 pub turn_hears : (c c2 : Processing) (end : TurnEnd) (v w : PortValue) (answers : List Bool) → (turn : IsTurn c c2 end v w answers) → HearsNoWithin (elements_tried turn) → NoUntilDue answers (is_due end)
-turn_hears c c2 end v w answers turn no = going_hears c (slice_get c.script (length c.log)) turn.begun c2 turn.worked answers end turn.does no
+turn_hears c c2 end v w answers turn hears = going_hears c (slice_get c.script (length c.log)) turn.begun c2 turn.worked answers end turn.does hears
 
 going_asks : (c : Processing) (o : Option Op) (op : Op) → o ≡ Some op → (v : PortValue) (c2 : Processing) (w : PortValue) (answers : List Bool) (end : TurnEnd) → (does : DoesTurn c o v c2 w answers end) →
     CountsAsks c.done end answers (asks_within (tried_going does))
@@ -109,7 +109,7 @@ past says before (a ∷ rest) due gives noes j some less is_yes = elim (cases_or
 
 pub turn_stops : (c c2 : Processing) (end : TurnEnd) (v w : PortValue) (before : ℕ) (answers : List Bool) (says : ℕ → Bool) → (turn : IsTurn c c2 end v w answers) → HearsNoWithin (elements_tried turn) → Gives says before answers →
     (j : ℕ) → 0 < j → before + j < last_ask → says (before + j) ≡ true → (length answers < j) ⊎ ((length answers ≡ j) × (is_due end ≡ true))
-turn_stops c c2 end v w before answers says turn no gives j some less is_yes = past says before answers (is_due end) gives (turn_hears c c2 end v w answers turn no) j some less is_yes
+turn_stops c c2 end v w before answers says turn hears gives j some less is_yes = past says before answers (is_due end) gives (turn_hears c c2 end v w answers turn hears) j some less is_yes
 
 -- so no more elements are done than up to there
 within_by : (from to within asks all j : ℕ) (answer : Result (Unit {0}) Stop) → asks ≡ asks_between from to answer + within → asks ≤ all → (all < j) ⊎ ((all ≡ j) × (is_due_by answer ≡ true)) → to ≤ from + (j - within)
@@ -121,11 +121,11 @@ within_by from to within asks all j (Err e) number few (inr last) = let at = las
 module _ (c : Processing) (before : ℕ) (says : ℕ → Bool) (j : ℕ) (some : 0 < j) (less : before + j < last_ask) (is_yes : says (before + j) ≡ true) where
   going_within : (o : Option Op) (op : Op) → o ≡ Some op → (v : PortValue) (c2 : Processing) (w : PortValue) (answers : List Bool) (end : TurnEnd) → (does : DoesTurn c o v c2 w answers end) → HearsNoWithin (tried_going does) → Gives says before answers →
       GoesNoFurther c c2 end (c.done + (j - asks_within (tried_going does)))
-  going_within None op is v c2 w answers end does no gives = absurd (cc)
-  going_within (Some other) op is v _ _ _ _ (turning.DoesTurn.unsettled w answers p settles) no gives = record { to = c.done; answer = Err (Paused p); end_is = refl; cpu = refl; within = omega arith }
-  going_within (Some other) op is v _ _ _ _ (turning.DoesTurn.settled u w c2 early answers end settles on) no gives =
+  going_within None op is v c2 w answers end does hears gives = absurd (cc)
+  going_within (Some other) op is v _ _ _ _ (turning.DoesTurn.unsettled w answers p settles) hears gives = record { to = c.done; answer = Err (Paused p); end_is = refl; cpu = refl; within = omega arith }
+  going_within (Some other) op is v _ _ _ _ (turning.DoesTurn.settled u w c2 early answers end settles on) hears gives =
       let all = length-append answers early in
-      let noes = going_hears c (Some other) v c2 w (answers ++ early) end (turning.DoesTurn.settled u w c2 early answers end settles on) no in
+      let noes = going_hears c (Some other) v c2 w (answers ++ early) end (turning.DoesTurn.settled u w c2 early answers end settles on) hears in
       record {
         to = on.to;
         answer = on.answer;
@@ -139,5 +139,5 @@ module _ (c : Processing) (before : ℕ) (says : ℕ → Bool) (j : ℕ) (some :
 
 pub turn_within : (c c2 : Processing) (op : Op) (end : TurnEnd) (v w : PortValue) (before : ℕ) (answers : List Bool) (says : ℕ → Bool) → slice_get c.script (length c.log) ≡ Some op → (turn : IsTurn c c2 end v w answers) →
     HearsNoWithin (elements_tried turn) → Gives says before answers → (j : ℕ) → 0 < j → before + j < last_ask → says (before + j) ≡ true → GoesNoFurther c c2 end (c.done + (j - asks_within (elements_tried turn)))
-turn_within c c2 op end v w before answers says next turn no gives j some less is_yes =
-    going_within c before says j some less is_yes (slice_get c.script (length c.log)) op next turn.begun c2 turn.worked answers end turn.does no gives
+turn_within c c2 op end v w before answers says next turn hears gives j some less is_yes =
+    going_within c before says j some less is_yes (slice_get c.script (length c.log)) op next turn.begun c2 turn.worked answers end turn.does hears gives

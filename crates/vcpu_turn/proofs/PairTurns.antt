@@ -165,7 +165,7 @@ module _ (pairs : List Pair) (o : Owners) (k : ℕ) where
     wrote_silent f i word keep writes _ _ _ (updating.Wrote.unreferred w stop got) = inl (refl, λ ok. absurd (cc))
     wrote_silent f i word keep writes _ _ _ (updating.Wrote.unlocked u y w stop got locked gave) = inl (refl, λ ok. absurd (cc))
     wrote_silent f i word keep writes _ _ _ (updating.Wrote.slot u y w level found got locked is left) = inl (refl, λ ok. absurd (cc))
-    wrote_silent f i word keep writes _ _ _ (updating.Wrote.exchanged u y w level found answers answer got locked open exchanged) =
+    wrote_silent f i word keep writes _ _ _ (updating.Wrote.exchanged u y w level found answers answer got locked free_slot exchanged) =
         elim (exchanged_silent y (entry_update f level i word keep) o w answers answer exchanged (locked_clear z u y f o.tables level found got locked clear)) [
           | inl silent ↦ inl silent
           | inr moves ↦ inr (exchange, moves)
@@ -175,7 +175,7 @@ module _ (pairs : List Pair) (o : Owners) (k : ℕ) where
         exchange =
             record {
               owners = o; pair = p; at = at; frame = f; index = i; word = word; keep = keep; writes = writes; settled = z; referred = u; held = y; level = level; found = found; early = early; answers = answers;
-              settles = settles; got = got; locked = locked; open_slot = open; exchanged = exchanged; asked = refl;
+              settles = settles; got = got; locked = locked; open_slot = free_slot; exchanged = exchanged; asked = refl;
             }
     wrote_silent f i word keep writes _ _ _ (updating.Wrote.untaken u y w found stop got other took) = inl (refl, λ ok. absurd (cc))
     wrote_silent f i word keep writes _ _ _ (updating.Wrote.stored u y a b w found old got other took stores gave) =
@@ -201,20 +201,21 @@ module _ (pairs : List Pair) (o : Owners) (k : ℕ) where
       quiet a b = rw (a, b) refl
 
 -- ---- a list
-module _ (pairs : List Pair) (o : Owners) {count from : ℕ} {v : PortValue} (clear : IsClear v) where
-  abbrev Asked : Tried → Type 0
-  Asked t = t.asked ≡ []
+abbrev Asked : Tried → Type 0
+Asked t = t.asked ≡ []
 
-  abbrev SilentAll : List Tried → Type 0
-  SilentAll items = AsksNothingWithin items ⊎ Any (λ t. MovesATable pairs t) items
+abbrev SilentAll : List Pair → List Tried → Type 0
+SilentAll pairs items = AsksNothingWithin items ⊎ Any (λ t. MovesATable pairs t) items
 
+module _ (pairs : List Pair) (o : Owners) where
   silent_at : (k : ℕ) (u w : PortValue) (asked : List Bool) (answer : Result (Unit {0}) Stop) → IsClear u → PairFits o pairs k u w asked answer → Silent w asked answer ⊎ MovesATable pairs (tried k u w asked answer)
   silent_at k u w asked answer now fit = pair_silent pairs o k (slice_get pairs k) refl u w asked answer now fit
 
+module _ (pairs : List Pair) (o : Owners) {count from : ℕ} {v : PortValue} (clear : IsClear v) where
   did_silent : {to : ℕ} {w : PortValue} {answers : List Bool} → (did : DidItems (PairFits o pairs) count from v to w answers) → (AsksNothingWithin (did_in did) × IsClear w) ⊎ Any (λ t. MovesATable pairs t) (did_in did)
   did_silent lists.DidItems.none = inl (All-nil Asked, clear)
   did_silent (lists.DidItems.more k u w answers asked did fit less) = elim (did_silent did) [
-    | inl before ↦ elim (silent_at k u w asked (Ok tt) before.1 fit) [
+    | inl before ↦ elim (silent_at pairs o k u w asked (Ok tt) before.1 fit) [
       | inl now ↦ inl (All-cons Asked (tried k u w asked (Ok tt)) (did_in did) now.0 before.0, now.1 refl)
       | inr moves ↦ inr (any_now (λ t. MovesATable pairs t) (tried k u w asked (Ok tt)) (did_in did) moves)
     ]
@@ -222,16 +223,16 @@ module _ (pairs : List Pair) (o : Owners) {count from : ℕ} {v : PortValue} (cl
   ]
 
   last_silent : {k : ℕ} {u : PortValue} {answers : List Bool} → (did : DidItems (PairFits o pairs) count from v k u answers) → (w : PortValue) (asked : List Bool) (answer : Result (Unit {0}) Stop) → PairFits o pairs k u w asked answer →
-      SilentAll (tried k u w asked answer ∷ did_in did)
+      SilentAll pairs (tried k u w asked answer ∷ did_in did)
   last_silent {k} {u} did w asked answer fit = elim (did_silent did) [
-    | inl before ↦ elim (silent_at k u w asked answer before.1 fit) [
+    | inl before ↦ elim (silent_at pairs o k u w asked answer before.1 fit) [
       | inl now ↦ inl (All-cons Asked (tried k u w asked answer) (did_in did) now.0 before.0)
       | inr moves ↦ inr (any_now (λ t. MovesATable pairs t) (tried k u w asked answer) (did_in did) moves)
     ]
     | inr moved ↦ inr (any_later (λ t. MovesATable pairs t) (tried k u w asked answer) (did_in did) moved)
   ]
 
-  works_silent : {to : ℕ} {w : PortValue} {answers : List Bool} {answer : Result (Unit {0}) Stop} → (works : WorksOn (PairFits o pairs) count from v to w answers answer) → SilentAll (tried_in works)
+  works_silent : {to : ℕ} {w : PortValue} {answers : List Bool} {answer : Result (Unit {0}) Stop} → (works : WorksOn (PairFits o pairs) count from v to w answers answer) → SilentAll pairs (tried_in works)
   works_silent (lists.WorksOn.all_done at) = inl (All-nil Asked)
   works_silent (lists.WorksOn.last_done k u w answers asked did fit at) = last_silent did w asked (Ok tt) fit
   works_silent (lists.WorksOn.due k u w answers asked did fit less) = last_silent did w asked (Ok tt) fit
@@ -262,32 +263,29 @@ begun_runs v w b =
     known_left b.d w _ Load kinds.Look None 0 b.running 6 (ap (λ (q : Post). Vcpu q.vcpu 6) (sym post)) refl
 
 module _ (foreign : ℕ) (pairs : List Pair) where
-  abbrev SilentOf : List Tried → Type 0
-  SilentOf items = AsksNothingWithin items ⊎ Any (λ t. MovesATable pairs t) items
-
   owned_silent : {d named : ℕ} (list : List Pair) {from : ℕ} (v : PortValue) → IsClear v → {to : ℕ} {w : PortValue} {answers : List Bool} {answer : Result (Unit {0}) Stop} → (works : WorksOwned d named list v from to w answers answer) →
-      AsksNothingWithin (tried_owned works) ⊎ Any (λ t. MovesATable list t) (tried_owned works)
+      SilentAll list (tried_owned works)
   owned_silent list v clear (working.WorksOwned.long to w answers answer above whole) = inl (All-nil (λ (t : Tried). t.asked ≡ []))
   owned_silent list v clear (working.WorksOwned.none empty) = inl (All-nil (λ (t : Tried). t.asked ≡ []))
   owned_silent list v clear (working.WorksOwned.unowned w x some few finds) = inl (All-nil (λ (t : Tried). t.asked ≡ []))
   owned_silent {d} {named} list v clear (working.WorksOwned.owned to u w o answers answer some few finds on) = works_silent list o (owners_clear v u d named o finds clear) on
 
   operation_silent : (d : ℕ) (l : Option OpList) → l ≡ Some (OfPairs foreign pairs) → (v : PortValue) → IsClear v → (from to : ℕ) (w : PortValue) (answers : List Bool) (answer : Result (Unit {0}) Stop) → (works : Works d l v from to w answers answer) →
-      SilentOf (tried_of d l v from to w answers answer works)
+      SilentAll pairs (tried_of d l v from to w answers answer works)
   operation_silent d None is v clear from to w answers answer works = absurd (cc)
   operation_silent d (Some (OfPairs named list)) is v clear from to w answers answer works =
-      subst (λ (xs : List Pair). AsksNothingWithin (tried_owned works) ⊎ Any (λ t. MovesATable xs t) (tried_owned works)) (same_pairs foreign named list pairs is) (owned_silent list v clear works)
+      subst (λ (xs : List Pair). SilentAll xs (tried_owned works)) (same_pairs foreign named list pairs is) (owned_silent list v clear works)
   operation_silent d (Some (OfExt list)) is v clear from to w answers answer works = absurd (cc)
 
   going_silent : (c : Processing) (o : Option Op) (op : Op) → o ≡ Some op → list_of op ≡ Some (OfPairs foreign pairs) → (v : PortValue) → Known 6 v → (c2 : Processing) (w : PortValue) (answers : List Bool) (end : TurnEnd) → (does : DoesTurn c o v c2 w answers end) →
-      SilentOf (tried_going does)
+      SilentAll pairs (tried_going does)
   going_silent c None op is built v runs c2 w answers end does = absurd (cc)
   going_silent c (Some other) op is built v runs _ _ _ _ (turning.DoesTurn.unsettled w answers p settles) = inl (All-nil (λ (t : Tried). t.asked ≡ []))
   going_silent c (Some other) op is built v runs _ _ _ _ (turning.DoesTurn.settled u w c2 early answers end settles on) =
       operation_silent c.domain (list_of other) (next_list (OfPairs foreign pairs) other op is built) u (settled_clear v u early (Ok tt) refl runs settles.course) c.done on.to w answers on.answer on.works
 
   pub turn_silent : (c d : Processing) (op : Op) (end : TurnEnd) (v w : PortValue) (answers : List Bool) → slice_get c.script (length c.log) ≡ Some op → list_of op ≡ Some (OfPairs foreign pairs) → (turn : IsTurn c d end v w answers) →
-      SilentOf (elements_tried turn)
+      SilentAll pairs (elements_tried turn)
   turn_silent c d op end v w answers next built turn = going_silent c (slice_get c.script (length c.log)) op next built turn.begun (begun_runs v turn.begun turn.begins) d turn.worked answers end turn.does
 
 -- ---- lists that set machine-to-physical words alone

@@ -1,5 +1,5 @@
 -- Steps that leave known zeros of the own words alone: waits for flushes among them; and so a write into ordinary memory.
-use Rattle.std.proofs.Common.{◌≡◌, ◌≢◌, ℕ, ◌==◌, ◌||◌, Bool, true, false, List, [], ◌∷◌, ◌++◌, Option, Some, None, Result, Ok, Err, refl, sym, ap, ◌∙◌, subst, arith, inl, inr}
+use Rattle.std.proofs.Common.{◌≡◌, ◌≢◌, ◌⊎◌, ℕ, ◌==◌, ◌||◌, Bool, true, false, List, [], ◌∷◌, ◌++◌, Option, Some, None, Result, Ok, Err, refl, sym, ap, ◌∙◌, subst, arith, inl, inr}
 use Rattle.std.proofs.lemmas.Bool.{cases_order, eq-eqb, eqb-true}
 use Rattle.xp_words.specs.KindWords.{kind_fields}
 use Rattle.xp_words.specs.Machine.{Machine}
@@ -26,8 +26,8 @@ use Rattle.flush_words.specs.Flushing as flushing
 use Rattle.flush_words.specs.Flushing.{FlushedBy}
 use Rattle.flush_waits.specs.Listing as waits
 use Rattle.flush_waits.specs.Listing.{LooksBy, Slow, WaitedFor, WaitsBy, WeighsBy}
-use Rattle.frame_types.specs.Found as found
-use Rattle.frame_types.specs.Found.{EndsBy, GoesBy, TakesBy, TypeBy, WaitsOf}
+use Rattle.frame_types.specs.Found.{EndsBy, GoesBy, TakesBy, TypeBy, WaitsOf, is_kept_by}
+use Rattle.frame_types.specs.Plain.{is_own, waits_by}
 use Rattle.frame_types.specs.declared.standing.Standing.{Standing}
 use Rattle.frame_types.specs.declared.standing.Standing.TheVariants as stands
 use Rattle.frame_types.specs.Standing.{standing_of}
@@ -199,12 +199,17 @@ goes f want marked stamp own vs h = two _ _ (waits_of marked stamp) (ends f want
 work : (f : ℕ) (want : PageType) (marked : Bool) (stamp : ℕ) (own kept : Bool) → Spares (λ vs. Then (Where kept (PutBy f)) (λ gs. GoesBy f want marked stamp own Counted gs) vs)
 work f want marked stamp own kept vs h = two _ _ (maybe kept (PutBy f) (aparts (PutBy f) (puts f))) (goes f want marked stamp own) vs h
 
+-- the frame comes into work, in that way
+worked : (f : ℕ) (want : PageType) (x : ℕ) (s : Standing) →
+    Spares (λ vs. Then (Where (is_kept_by (kind_fields x) s) (PutBy f)) (λ gs. GoesBy f want (waits_by (kind_fields x) want s) (kind_fields x).number (is_own (kind_fields x) s) Counted gs) vs)
+worked f want x s = work f want (waits_by (kind_fields x) want s) (kind_fields x).number (is_own (kind_fields x) s) (is_kept_by (kind_fields x) s)
+
 takes_by : (f : ℕ) (want : PageType) (x : ℕ) (s : Standing) → Spares (TakesBy f want x s Counted)
 takes_by f want x stands.Counted vs h = one _ refl vs h
-takes_by f want x stands.Dead vs h = two _ _ (one _ refl) (work f want _ _ _ _) vs h
-takes_by f want x stands.Partial vs h = two _ _ (one _ refl) (work f want _ _ _ _) vs h
-takes_by f want x stands.Busy vs h = two _ _ (one _ refl) (work f want _ _ _ _) vs h
-takes_by f want x stands.Other vs h = two _ _ (one _ refl) (work f want _ _ _ _) vs h
+takes_by f want x stands.Dead vs h = two _ _ (one _ refl) (worked f want x stands.Dead) vs h
+takes_by f want x stands.Partial vs h = two _ _ (one _ refl) (worked f want x stands.Partial) vs h
+takes_by f want x stands.Busy vs h = two _ _ (one _ refl) (worked f want x stands.Busy) vs h
+takes_by f want x stands.Other vs h = two _ _ (one _ refl) (worked f want x stands.Other) vs h
 
 pub counts_type : (n : Machine) (f : ℕ) (want : PageType) → Spares (TypeBy n f want (Ok Counted))
 counts_type n f want vs h = two _ _ (one _ refl) (takes_by f want h.word (standing_of (kind_fields h.word) want)) vs h.steps

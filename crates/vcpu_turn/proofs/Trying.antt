@@ -83,17 +83,17 @@ module _ {fits : Fitting} {count from : ℕ} {v : PortValue} where
   -- ---- the yes
   did_hears : {to : ℕ} {w : PortValue} {answers : List Bool} → (did : DidItems fits count from v to w answers) → HearsNoWithin (did_in did) → yeses answers ≡ 0
   unfolding yeses
-  did_hears none no = refl
-  did_hears (more k u w answers asked did fit less) no =
-      let early = did_hears did (All-tail HearsNo (tried k u w asked (Ok tt)) (did_in did) no) in
-      noes_no (asked ++ answers) (noes_then answers asked false early (All-head HearsNo (tried k u w asked (Ok tt)) (did_in did) no))
+  did_hears none hears = refl
+  did_hears (more k u w answers asked did fit less) hears =
+      let early = did_hears did (All-tail HearsNo (tried k u w asked (Ok tt)) (did_in did) hears) in
+      noes_no (asked ++ answers) (noes_then answers asked false early (All-head HearsNo (tried k u w asked (Ok tt)) (did_in did) hears))
 
   pub works_hears : {to : ℕ} {w : PortValue} {answers : List Bool} {answer : Result (Unit {0}) Stop} → (works : WorksOn fits count from v to w answers answer) → HearsNoWithin (tried_in works) → NoUntilDue answers (is_due_by answer)
-  works_hears (all_done at) no = noes_none false
-  works_hears (last_done k u w answers asked did fit at) no =
-      noes_then answers asked false (did_hears did (All-tail HearsNo (tried k u w asked (Ok tt)) (did_in did) no)) (All-head HearsNo (tried k u w asked (Ok tt)) (did_in did) no)
-  works_hears (due k u w answers asked did fit less) no =
-      let early = did_hears did (All-tail HearsNo (tried k u w asked (Ok tt)) (did_in did) no) in
-      noes_due (asked ++ answers) (noes_no (asked ++ answers) (noes_then answers asked false early (All-head HearsNo (tried k u w asked (Ok tt)) (did_in did) no)))
-  works_hears (stopped k u w answers asked e did fit less) no =
-      noes_then answers asked (is_due_by (Err e)) (did_hears did (All-tail HearsNo (tried k u w asked (Err e)) (did_in did) no)) (All-head HearsNo (tried k u w asked (Err e)) (did_in did) no)
+  works_hears (all_done at) hears = noes_none false
+  works_hears (last_done k u w answers asked did fit at) hears =
+      noes_then answers asked false (did_hears did (All-tail HearsNo (tried k u w asked (Ok tt)) (did_in did) hears)) (All-head HearsNo (tried k u w asked (Ok tt)) (did_in did) hears)
+  works_hears (due k u w answers asked did fit less) hears =
+      let early = did_hears did (All-tail HearsNo (tried k u w asked (Ok tt)) (did_in did) hears) in
+      noes_due (asked ++ answers) (noes_no (asked ++ answers) (noes_then answers asked false early (All-head HearsNo (tried k u w asked (Ok tt)) (did_in did) hears)))
+  works_hears (stopped k u w answers asked e did fit less) hears =
+      noes_then answers asked (is_due_by (Err e)) (did_hears did (All-tail HearsNo (tried k u w asked (Err e)) (did_in did) hears)) (All-head HearsNo (tried k u w asked (Err e)) (did_in did) hears)

@@ -1,5 +1,6 @@
 -- What a turn asks its gate, by its course: between the items of its list, and within each of them.
-use Rattle.std.specs.Prelude.{◌≡◌, ◌⊎◌, inl, inr, ℕ, ◌+◌, Bool, true, false, List, [], ◌∷◌, ◌++◌, All, length, slice_get, sum_by, Option, Some, None, Result, Ok, Err}
+use mathlib.Core.Logic.{inl, inr}
+use Rattle.std.specs.Prelude.{◌≡◌, ◌⊎◌, ℕ, ◌+◌, Bool, true, false, List, [], ◌∷◌, ◌++◌, All, length, slice_get, sum_by, Option, Some, None, Result, Ok, Err}
 use Rattle.xp_words.specs.Entries.{is_slot}
 use Rattle.xp_words.specs.PageTypes.{is_table}
 use Rattle.xp_words.specs.declared.entry.Demand.{Demand}
@@ -149,7 +150,7 @@ MovesTable (exchanging.Exchanged.same u y w seen old saw is put left) = IsLast l
 MovesTable (exchanging.Exchanged.unput u y w seen stop saw is put left) = ⊥
 MovesTable {v} {x} (exchanging.Exchanged.untaken u y w seen answers stop saw off took left) = asks_table (new_demand x seen) ≡ true
 MovesTable {v} {x} (exchanging.Exchanged.lost u y z a w seen answers stop saw off took put gave left) = asks_table (new_demand x seen) ≡ true
-MovesTable {v} {x} (exchanging.Exchanged.done u y z a w seen old answers more saw off took put left released) =
+MovesTable {v} {x} (exchanging.Exchanged.done u y z a w seen old answers more saw off took put left gone) =
     (asks_table (new_demand x seen) ≡ true) ⊎ ((asks_table (old_demand x old) ≡ true) ⊎ IsLast left)
 
 -- the element went through such an exchange

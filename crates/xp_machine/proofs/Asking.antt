@@ -43,17 +43,17 @@ gate_same o g k a b = cc
 
 pub own_turn_stops : (n : Machine) (v : ℕ) (c : Processing) (s t : Stage) (g : Gate) (op : Op) (j : ℕ) → (m : MakesStagedTurn n v c s t) → slice_get s.gates v ≡ Some (Some g) → slice_get c.script (length c.log) ≡ Some op →
     HearsNoWithin (elements_tried m.turn) → 0 < j → g.asks + j < last_ask → g.says (g.asks + j) ≡ true → StaysWithin v c s t (c.done + (j - asks_within (elements_tried m.turn)))
-own_turn_stops n v c s t g op j m has next no some less is_yes =
+own_turn_stops n v c s t g op j m has next hears some less is_yes =
     let same = gate_same (slice_get s.gates v) g m.gate has m.own in
     record {
       after = m.after;
       end = m.end;
       cpus = m.cpus;
-      within = turn_within c m.after op m.end m.from m.to m.gate.asks m.answers m.gate.says next m.turn no m.consulted.gives j some
+      within = turn_within c m.after op m.end m.from m.to m.gate.asks m.answers m.gate.says next m.turn hears m.consulted.gives j some
           (subst (λ (k : Gate). k.asks + j < last_ask) same less) (subst (λ (k : Gate). k.says (k.asks + j) ≡ true) same is_yes);
     }
 
 pub own_turn_hears : (n : Machine) (v : ℕ) (c : Processing) (s t : Stage) (m : MakesStagedTurn n v c s t) → HearsNoWithin (elements_tried m.turn) → Heard m.gate.says m.gate.asks m.asked.asks (is_due m.end)
-own_turn_hears n v c s t m no =
+own_turn_hears n v c s t m hears =
     subst (λ k. Heard m.gate.says m.gate.asks k (is_due m.end)) (sym m.consulted.asks)
-    (turn_heard c m.after m.end m.from m.to m.gate.asks m.answers m.gate.says m.turn no m.consulted.gives m.consulted.due_is)
+    (turn_heard c m.after m.end m.from m.to m.gate.asks m.answers m.gate.says m.turn hears m.consulted.gives m.consulted.due_is)

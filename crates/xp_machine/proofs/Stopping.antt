@@ -46,14 +46,14 @@ module _ (c d : Processing) (end : TurnEnd) (v w : PortValue) (answers : List Bo
       HearsNoWithin (elements_tried turn)
   unpaused_hears op foreign pairs next built off k t less =
       elim (pairs_each (λ (x : Tried). HearsNo x ⊎ PausesRelease pairs x) foreign pairs (λ o. pairs_hear pairs o) c d op end v w answers next built turn k t less) [
-        | inl no ↦ no
+        | inl hears ↦ hears
         | inr pause ↦ absurd (off k t less pause)
       ]
 
   -- of one of `mmuext_op`: without an unpin
   ext_hears : (op : Op) (list : List ExtOp) → slice_get c.script (length c.log) ≡ Some op → list_of op ≡ Some (OfExt list) → All (λ (e : ExtOp). e.command ≢ 4) list → HearsNoWithin (elements_tried turn)
   ext_hears op list next built off =
-      All-weaker (λ (t : Tried). HearsNo t ⊎ UnpinsFrame list t) HearsNo (λ t may. elim may [ | inl no ↦ no | inr unpin ↦ absurd (at (λ (e : ExtOp). e.command ≢ 4) list off t.number unpin.op unpin.at unpin.unpins) ]) (elements_tried turn)
+      All-weaker (λ (t : Tried). HearsNo t ⊎ UnpinsFrame list t) HearsNo (λ t may. elim may [ | inl hears ↦ hears | inr unpin ↦ absurd (at (λ (e : ExtOp). e.command ≢ 4) list off t.number unpin.op unpin.at unpin.unpins) ]) (elements_tried turn)
       (ext_each (λ (t : Tried). HearsNo t ⊎ UnpinsFrame list t) list c (elements_hear list c.domain) d op end v w answers next built turn)
 
   listed_hears : (op : Op) → slice_get c.script (length c.log) ≡ Some op → (l : Option OpList) → list_of op ≡ l → ReleasesNothing l → HearsNoWithin (elements_tried turn)
@@ -98,4 +98,4 @@ heard_at says before (a ∷ rest) due gives noes is =
 
 pub turn_heard : (c c2 : Processing) (end : TurnEnd) (v w : PortValue) (before : ℕ) (answers : List Bool) (says : ℕ → Bool) → (turn : IsTurn c c2 end v w answers) → HearsNoWithin (elements_tried turn) →
     Gives says before answers → (is_due end ≡ true → ends_yes answers ≡ true) → Heard says before (asks_on (length answers) before) (is_due end)
-turn_heard c c2 end v w before answers says turn no gives is = heard_at says before answers (is_due end) gives (turn_hears c c2 end v w answers turn no) is
+turn_heard c c2 end v w before answers says turn hears gives is = heard_at says before answers (is_due end) gives (turn_hears c c2 end v w answers turn hears) is
