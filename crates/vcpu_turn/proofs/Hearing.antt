@@ -7,8 +7,9 @@ use Rattle.xp_words.specs.declared.kind.PageType.{PageType}
 use Rattle.xp_words.specs.declared.ops.ExtOp.{ExtOp}
 use Rattle.xp_words.specs.declared.ops.Pair.{Pair}
 use Rattle.xp_words.specs.declared.reply.Pause.TheVariants.{Due}
+use Rattle.xp_words.specs.declared.reply.Refusal.TheVariants as refusals
 use Rattle.xp_words.specs.declared.reply.Stop.{Stop}
-use Rattle.xp_words.specs.declared.reply.Stop.TheVariants.{Paused}
+use Rattle.xp_words.specs.declared.reply.Stop.TheVariants.{Paused, Refused}
 use Rattle.xp_board.specs.Told.{PortValue}
 use Rattle.xp_preempt.specs.Gates.{ends_yes, yeses}
 use Rattle.xp_preempt.proofs.Consulting.{yeses_then}
@@ -136,7 +137,7 @@ module _ (pairs : List Pair) (o : Owners) (k : ℕ) (v z : PortValue) (early : L
       HearsNo (tried k v w (answers ++ early) answer) ⊎ PausesRelease pairs (tried k v w (answers ++ early) answer)
   wrote_hears f i word keep writes _ _ _ (updating.Wrote.unreferred w stop got) = inl (settled_then v z early [] (Err stop) settles (noes_none _))
   wrote_hears f i word keep writes _ _ _ (updating.Wrote.unlocked u y w stop got locked gave) = inl (settled_then v z early [] (Err stop) settles (noes_none _))
-  wrote_hears f i word keep writes _ _ _ (updating.Wrote.slot u y w level found got locked is left) = inl (settled_then v z early [] _ settles (noes_none _))
+  wrote_hears f i word keep writes _ _ _ (updating.Wrote.slot u y w level found got locked is left) = inl (settled_then v z early [] (Err (Refused (refusals.Slot i))) settles (noes_none false))
   wrote_hears f i word keep writes _ _ _ (updating.Wrote.exchanged u y w level found answers answer got locked off exchanged) = elim (exchanged_hears y (entry_update f level i word keep) o w answers answer exchanged) [
     | inl noes ↦ inl (settled_then v z early answers answer settles noes)
     | inr pause ↦ inr (paused_release w answers answer exchange pause)

@@ -134,8 +134,8 @@ pub record ExchangesEntry (pairs : List Pair) (t : Tried) : Type 0 where
   pub exchanged : Exchanged held (entry_update frame level index word keep) owners t.behind answers t.answer
   pub asked : t.asked ≡ answers ++ early
 
--- Tables that an exchange takes or gives back: one whose type its new word asks, or asked in vain; and where it is done, one whose type its old word
--- asked, or its own, where the last type count went off with the lock.
+-- Tables that an exchange takes or gives back: one whose type its new word asks, had or not; and where it is done, one whose type its old word asked,
+-- or its own, where the last type count went off with the lock.
 abbrev pub asks_table : Demand → Bool
 asks_table (demands.Typed g t) = is_table t
 asks_table _ = false
@@ -161,8 +161,7 @@ MovesATable pairs t = (e : ExchangesEntry pairs t) × MovesTable e.exchanged
 abbrev pub MovesNoTable : List Pair → List Tried → Type 0
 MovesNoTable pairs items = All (λ t. MovesATable pairs t → ⊥) items
 
--- The exchange is done, and the release of what the old word asked is paused: the gate was asked behind no few entries of that, and said no but
--- for the last time.
+-- The exchange is done, and the gate paused the release of what the old word asked: within the element it said yes at last, and no before.
 pub record PausesRelease (pairs : List Pair) (t : Tried) : Type 0 where
   pub exchange : ExchangesEntry pairs t
   pub done : t.answer ≡ Ok tt
