@@ -3,16 +3,15 @@ use Rattle.std.proofs.Common.{◌≡◌, ◌⊎◌, ℕ, ◌+◌, ◌-◌, ◌<�
 use Rattle.std.proofs.lemmas.Bool.{cases_order}
 use Rattle.xp_words.specs.declared.ops.Op.{Op}
 use Rattle.xp_words.specs.declared.ops.Pair.{Pair}
-use Rattle.xp_words.specs.declared.reply.Pause.{Pause}
 use Rattle.xp_words.specs.declared.reply.Refusal.{Refusal}
 use Rattle.xp_words.specs.declared.reply.Stop.{Stop}
 use Rattle.xp_words.specs.declared.reply.Stop.TheVariants.{Paused}
 use Rattle.xp_board.specs.Told.{PortValue}
-use Rattle.xp_preempt.specs.Gates.{Gives, last_ask, yeses}
+use Rattle.xp_preempt.specs.Gates.{Gives, last_ask}
 use Rattle.xp_preempt.proofs.Numbering.{says_last, says_no}
 use Rattle.level_release.proofs.Noes.{settled_no}
 use Rattle.vcpu_turn.specs.Asking.{HearsNoWithin, NoUntilDue, asks_within, elements_tried, tried_going, tried_next, tried_of, tried_owned}
-use Rattle.vcpu_turn.specs.Cpus.{OpList, OfExt, OfPairs, Processing, end_of, list_of}
+use Rattle.vcpu_turn.specs.Cpus.{OpList, OfExt, OfPairs, Processing, list_of}
 use Rattle.vcpu_turn.specs.Lists.{asks_between, is_due_by}
 use Rattle.vcpu_turn.specs.Turning as turning
 use Rattle.vcpu_turn.specs.Turning.{CountsAsks, DoesNext, DoesTurn, GoesNoFurther, IsTurn, is_due}

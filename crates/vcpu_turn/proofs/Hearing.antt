@@ -1,7 +1,6 @@
 -- What the gate says within an element: no, until the element is paused for it; but a release may be paused that goes with an element that is done.
-use Rattle.std.proofs.Common.{◌≡◌, ◌≢◌, ◌⊎◌, ℕ, ◌+◌, ◌-◌, ◌==◌, nat_lt, if◌then◌else◌, Bool, true, false, List, [], ◌∷◌, ◌++◌, slice_get, Option, Some, None, Result, Ok, Err, IfErr, refl, sym, ap, ◌∙◌, inl, inr, arith, subst, append_assoc}
+use Rattle.std.proofs.Common.{◌≡◌, ◌⊎◌, ℕ, ◌+◌, ◌-◌, ◌==◌, nat_lt, if◌then◌else◌, Bool, true, false, List, [], ◌∷◌, ◌++◌, slice_get, Option, Some, None, Result, Ok, Err, IfErr, refl, sym, ap, ◌∙◌, inl, inr, arith, subst, append_assoc}
 use Rattle.std.proofs.lemmas.Bool.{eqb-true}
-use Rattle.xp_words.specs.Entries.{is_slot}
 use Rattle.xp_words.specs.declared.entry.Demand.{Demand}
 use Rattle.xp_words.specs.declared.kind.PageType.{PageType}
 use Rattle.xp_words.specs.declared.ops.ExtOp.{ExtOp}
@@ -13,8 +12,6 @@ use Rattle.xp_words.specs.declared.reply.Stop.TheVariants.{Paused, Refused}
 use Rattle.xp_board.specs.Told.{PortValue}
 use Rattle.xp_preempt.specs.Gates.{ends_yes, yeses}
 use Rattle.xp_preempt.proofs.Consulting.{yeses_then}
-use Rattle.partial_state.specs.Levels.{level_type}
-use Rattle.table_courses.specs.Acquiring.{GotRef}
 use Rattle.level_release.specs.Asking.{is_due_answer}
 use Rattle.level_release.specs.Course.{WasReleased}
 use Rattle.level_release.proofs.Noes.{settled_no}
@@ -22,11 +19,9 @@ use Rattle.foreign_map.specs.declared.owners.Owners.{Owners}
 use Rattle.entry_exchange.specs.Course as exchanging
 use Rattle.entry_exchange.specs.Course.{Exchanged, ReleasedDemand, TookDemand}
 use Rattle.entry_exchange.specs.declared.exchanging.EntryUpdate.{EntryUpdate}
-use Rattle.entry_locks.specs.declared.locking.Locked.TheVariants.{Table}
 use Rattle.mmu_update.specs.Course as updating
 use Rattle.mmu_update.specs.Course.{TriedLock, Updated, Wrote, entry_update}
 use Rattle.mmu_update.specs.Elements.{element_of}
-use Rattle.mmu_update.specs.Fits.{Updates}
 use Rattle.mmu_update.specs.declared.element.Element as updates
 use Rattle.mmu_update.specs.declared.element.Element.TheVariants.{SetM2p, Write, Misaligned, Unknown}
 use Rattle.mmuext_ops.specs.Course as course
@@ -146,8 +141,27 @@ module _ (pairs : List Pair) (o : Owners) (k : ℕ) (v z : PortValue) (early : L
       exchange : ExchangesEntry pairs (tried k v w (answers ++ early) answer)
       exchange =
           record {
-            owners = o; pair = p; at = at; frame = f; index = i; word = word; keep = keep; writes = writes; settled = z; referred = u; held = y; level = level; found = found; early = early; answers = answers;
-            settles = settles; got = got; locked = locked; open_slot = off; exchanged = exchanged; asked = refl;
+            owners = o;
+            pair = p;
+            at = at;
+            frame = f;
+            index = i;
+            word = word;
+            keep = keep;
+            writes = writes;
+            settled = z;
+            referred = u;
+            held = y;
+            level = level;
+            found = found;
+            early = early;
+            answers = answers;
+            settles = settles;
+            got = got;
+            locked = locked;
+            open_slot = off;
+            exchanged = exchanged;
+            asked = refl;
           }
   wrote_hears f i word keep writes _ _ _ (updating.Wrote.untaken u y w found stop got other took) = inl (settled_then v z early [] (Err stop) settles (noes_none _))
   wrote_hears f i word keep writes _ _ _ (updating.Wrote.stored u y a b w found old got other took stores gave) = inl (settled_then v z early [] (Ok tt) settles (noes_none _))

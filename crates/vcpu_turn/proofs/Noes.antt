@@ -5,7 +5,7 @@ use Rattle.xp_words.specs.declared.kind.KindWord.{KindWord}
 use Rattle.xp_words.specs.declared.kind.PageType.{PageType}
 use Rattle.xp_words.specs.declared.reply.Stop.{Stop}
 use Rattle.xp_board.specs.Told.{PortValue}
-use Rattle.xp_preempt.specs.Gates.{ends_yes, yeses}
+use Rattle.xp_preempt.specs.Gates.{yeses}
 use Rattle.xp_preempt.proofs.Consulting.{yeses_then}
 use Rattle.partial_state.specs.declared.stack.TableWork.{TableWork}
 use Rattle.table_courses.specs.Acquiring as acquiring

@@ -1,9 +1,8 @@
 -- A turn with a list of `mmu_update` whose elements take and give back no table: both old words name no frame behind what was settled first, each
 -- element leaves them so, and none asks.
-use Rattle.std.proofs.Common.{◌≡◌, ℕ, ◌+◌, ◌-◌, ◌<◌, ◌≤◌, ◌%◌, ◌/◌, ◌++◌, ◌⊎◌, Bool, true, false, List, [], ◌∷◌, All, Any, length, slice_get, Option, Some, None, Result, Ok, Err, refl, sym, ap, ◌∙◌, inl, inr, arith, subst}
-use Rattle.std.proofs.lemmas.List.Elements.{All-cons, All-from_get_or, All-head, All-nil, All-tail, All-get_or}
+use Rattle.std.proofs.Common.{◌≡◌, ℕ, ◌+◌, ◌-◌, ◌<◌, ◌%◌, ◌/◌, ◌++◌, ◌⊎◌, Bool, true, false, List, [], ◌∷◌, All, Any, length, slice_get, Option, Some, None, Result, Ok, Err, refl, sym, ap, ◌∙◌, inl, inr, arith, subst}
+use Rattle.std.proofs.lemmas.List.Elements.{All-cons, All-nil, All-get_or}
 use Rattle.std.proofs.lemmas.Option.{get_or_from_slice_get, slice_get_within}
-use Rattle.xp_words.specs.Entries.{is_slot}
 use Rattle.xp_words.specs.PageTypes.{is_table}
 use Rattle.xp_words.specs.declared.entry.Demand.{Demand}
 use Rattle.xp_words.specs.declared.kind.PageType.{PageType}
@@ -13,7 +12,7 @@ use Rattle.xp_words.specs.declared.ops.Pair.{Pair}
 use Rattle.xp_words.specs.declared.place.Place.{Place}
 use Rattle.xp_words.specs.declared.place.Place.TheVariants.{Clock, Pages, Life, Vcpu, Refs, Kind, M2p, Cell, Map, Priv}
 use Rattle.xp_words.specs.declared.reply.Stop.{Stop}
-use Rattle.xp_board.specs.declared.step.Act.TheVariants.{Load, Store}
+use Rattle.xp_board.specs.declared.step.Act.TheVariants.{Load}
 use Rattle.xp_board.specs.declared.step.StepKind.TheVariants as kinds
 use Rattle.xp_board.specs.Acts.{left_by}
 use Rattle.xp_board.specs.Told.{Post, PortValue}
@@ -53,7 +52,7 @@ use Rattle.vcpu_turn.proofs.Asking.{turn_asks, turn_within}
 use Rattle.vcpu_turn.proofs.Clearing.{Apart, Known, drops, elsewhere, gets, keeps_does, keeps_moves, known_left, maps, puts}
 use Rattle.vcpu_turn.proofs.Silent.{IsClear, clear_on, settled_clear, settled_silent}
 use Rattle.vcpu_turn.proofs.Sparing.{clear_does, counts_type, one, two}
-use Rattle.vcpu_turn.proofs.TurnItems.{next_list, pairs_each, same_pairs}
+use Rattle.vcpu_turn.proofs.TurnItems.{next_list, same_pairs}
 use Rattle.vcpu_turn.proofs.Trying.{any_later, any_now, hears_nothing, within_none}
 use Rattle.vcpu_turn.proofs.Turns.{begins_came}
 
@@ -174,8 +173,27 @@ module _ (pairs : List Pair) (o : Owners) (k : ℕ) where
         exchange : ExchangesEntry pairs (tried k v w (answers ++ early) answer)
         exchange =
             record {
-              owners = o; pair = p; at = at; frame = f; index = i; word = word; keep = keep; writes = writes; settled = z; referred = u; held = y; level = level; found = found; early = early; answers = answers;
-              settles = settles; got = got; locked = locked; open_slot = free_slot; exchanged = exchanged; asked = refl;
+              owners = o;
+              pair = p;
+              at = at;
+              frame = f;
+              index = i;
+              word = word;
+              keep = keep;
+              writes = writes;
+              settled = z;
+              referred = u;
+              held = y;
+              level = level;
+              found = found;
+              early = early;
+              answers = answers;
+              settles = settles;
+              got = got;
+              locked = locked;
+              open_slot = free_slot;
+              exchanged = exchanged;
+              asked = refl;
             }
     wrote_silent f i word keep writes _ _ _ (updating.Wrote.untaken u y w found stop got other took) = inl (refl, λ ok. absurd (cc))
     wrote_silent f i word keep writes _ _ _ (updating.Wrote.stored u y a b w found old got other took stores gave) =

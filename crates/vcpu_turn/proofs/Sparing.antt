@@ -1,20 +1,16 @@
 -- Steps that leave known zeros of the own words alone: waits for flushes among them; and so a write into ordinary memory.
-use Rattle.std.proofs.Common.{◌≡◌, ◌≢◌, ◌⊎◌, ℕ, ◌==◌, ◌||◌, Bool, true, false, List, [], ◌∷◌, ◌++◌, Option, Some, None, Result, Ok, Err, refl, sym, ap, ◌∙◌, subst, arith, inl, inr}
+use Rattle.std.proofs.Common.{◌≡◌, ◌≢◌, ◌⊎◌, ℕ, ◌==◌, ◌||◌, Bool, true, false, List, [], ◌∷◌, Option, None, Result, Ok, Err, refl, sym, ap, ◌∙◌, subst, arith, inl, inr}
 use Rattle.std.proofs.lemmas.Bool.{cases_order, eq-eqb, eqb-true}
 use Rattle.xp_words.specs.KindWords.{kind_fields}
 use Rattle.xp_words.specs.Machine.{Machine}
-use Rattle.xp_words.specs.declared.kind.KindWord.{KindWord}
 use Rattle.xp_words.specs.declared.kind.PageType.{PageType}
-use Rattle.xp_words.specs.declared.kind.PageType.TheVariants.{Writable}
 use Rattle.xp_words.specs.declared.place.Place.{Place}
 use Rattle.xp_words.specs.declared.place.Place.TheVariants.{Clock, Pages, Life, Vcpu, Refs, Kind, M2p, Cell, Map, Priv}
 use Rattle.xp_words.specs.declared.reply.Refusal.{Refusal}
-use Rattle.xp_words.specs.declared.reply.Stop.{Stop}
 use Rattle.xp_board.specs.declared.step.Act.{Act}
 use Rattle.xp_board.specs.declared.step.Act.TheVariants.{Load, Cas, Store, Add, Max}
 use Rattle.xp_board.specs.declared.step.Mark.{Mark}
 use Rattle.xp_board.specs.declared.step.StepKind.{StepKind}
-use Rattle.xp_board.specs.declared.step.StepKind.TheVariants as kinds
 use Rattle.xp_board.specs.Acts.{left_by}
 use Rattle.xp_board.specs.Lists.{EachOf}
 use Rattle.xp_board.specs.Told.{PortValue}

@@ -1,5 +1,5 @@
 -- What holds of each step of a list holds of each element that a turn with that list tried.
-use Rattle.std.proofs.Common.{◌≡◌, ℕ, Bool, List, [], ◌∷◌, ◌++◌, All, length, slice_get, Option, Some, None, Result, Ok, Err, refl, sym, ap, ◌∙◌, inl, inr, subst}
+use Rattle.std.proofs.Common.{◌≡◌, ℕ, Bool, List, All, length, slice_get, Option, Some, None, Result, refl, sym, inl, inr, subst}
 use Rattle.std.proofs.lemmas.List.Elements.{All-nil}
 use Rattle.xp_words.specs.declared.ops.ExtOp.{ExtOp}
 use Rattle.xp_words.specs.declared.ops.Op.{Op}
@@ -7,7 +7,7 @@ use Rattle.xp_words.specs.declared.ops.Pair.{Pair}
 use Rattle.xp_words.specs.declared.reply.Stop.{Stop}
 use Rattle.xp_board.specs.Told.{PortValue}
 use Rattle.foreign_map.specs.declared.owners.Owners.{Owners}
-use Rattle.vcpu_turn.specs.Asking.{Tried, elements_tried, tried, tried_going, tried_next, tried_of, tried_owned}
+use Rattle.vcpu_turn.specs.Asking.{Tried, elements_tried, tried, tried_going, tried_of, tried_owned}
 use Rattle.vcpu_turn.specs.Cpus.{OpList, OfExt, OfPairs, Processing, list_of}
 use Rattle.vcpu_turn.specs.Turning as turning
 use Rattle.vcpu_turn.specs.Turning.{DoesTurn, IsTurn}

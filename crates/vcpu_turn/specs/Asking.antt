@@ -1,6 +1,6 @@
 -- What a turn asks its gate, by its course: between the items of its list, and within each of them.
 use mathlib.Core.Logic.{inl, inr}
-use Rattle.std.specs.Prelude.{◌≡◌, ◌⊎◌, ℕ, ◌+◌, Bool, true, false, List, [], ◌∷◌, ◌++◌, All, length, slice_get, sum_by, Option, Some, None, Result, Ok, Err}
+use Rattle.std.specs.Prelude.{◌≡◌, ◌⊎◌, ℕ, Bool, true, false, List, [], ◌∷◌, ◌++◌, All, length, slice_get, sum_by, Option, Some, None, Result, Ok, Err}
 use Rattle.xp_words.specs.Entries.{is_slot}
 use Rattle.xp_words.specs.PageTypes.{is_table}
 use Rattle.xp_words.specs.declared.entry.Demand.{Demand}

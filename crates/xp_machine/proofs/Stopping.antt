@@ -1,5 +1,5 @@
 -- Turns in which no element is done past a yes: the gate says no until the turn is paused for it. Operations that release nothing make such turns.
-use Rattle.std.proofs.Common.{◌≡◌, ◌≢◌, ◌⊎◌, ℕ, ◌+◌, ◌%◌, All, Bool, true, false, List, [], ◌∷◌, length, Option, Some, None, Result, refl, sym, ap, ◌∙◌, subst, inl, inr, arith}
+use Rattle.std.proofs.Common.{◌≡◌, ◌≢◌, ◌⊎◌, ℕ, ◌+◌, ◌%◌, All, Bool, true, false, List, [], ◌∷◌, length, Option, Some, None, refl, sym, ◌∙◌, subst, inl, inr, arith}
 use Rattle.std.specs.Prelude.{slice_get}
 use Rattle.std.proofs.lemmas.List.Elements.{All-get_or, All-weaker}
 use Rattle.std.proofs.lemmas.Option.{get_or_from_slice_get, slice_get_within}
@@ -53,7 +53,7 @@ module _ (c d : Processing) (end : TurnEnd) (v w : PortValue) (answers : List Bo
   -- of one of `mmuext_op`: without an unpin
   ext_hears : (op : Op) (list : List ExtOp) → slice_get c.script (length c.log) ≡ Some op → list_of op ≡ Some (OfExt list) → All (λ (e : ExtOp). e.command ≢ 4) list → HearsNoWithin (elements_tried turn)
   ext_hears op list next built off =
-      All-weaker (λ (t : Tried). HearsNo t ⊎ UnpinsFrame list t) HearsNo (λ t may. elim may [ | inl hears ↦ hears | inr unpin ↦ absurd (at (λ (e : ExtOp). e.command ≢ 4) list off t.number unpin.op unpin.at unpin.unpins) ]) (elements_tried turn)
+      All-weaker (λ (t : Tried). HearsNo t ⊎ UnpinsFrame list t) HearsNo (λ t may. elim may [ inl hears ↦ hears | inr unpin ↦ absurd (at (λ (e : ExtOp). e.command ≢ 4) list off t.number unpin.op unpin.at unpin.unpins) ]) (elements_tried turn)
       (ext_each (λ (t : Tried). HearsNo t ⊎ UnpinsFrame list t) list c (elements_hear list c.domain) d op end v w answers next built turn)
 
   listed_hears : (op : Op) → slice_get c.script (length c.log) ≡ Some op → (l : Option OpList) → list_of op ≡ l → ReleasesNothing l → HearsNoWithin (elements_tried turn)

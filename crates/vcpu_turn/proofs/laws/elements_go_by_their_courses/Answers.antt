@@ -1,4 +1,3 @@
-use Rattle.std.proofs.Common.{◌≡◌}
 use Rattle.foreign_map.specs.declared.owners.Owners.{Owners}
 use Rattle.vcpu_turn.specs.Asking.{Tried}
 use Rattle.vcpu_turn.specs.Working.{ExtFits, PairFits}
