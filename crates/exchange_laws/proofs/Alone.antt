@@ -1,5 +1,5 @@
 -- Where the vCPU is alone an exchange neither pauses nor finds the clock at its last value.
-use Rattle.std.proofs.Common.{◌≡◌, ◌<◌, ◌≤◌, ℕ, Bool, true, List, length, Option, Some, None, Result, Ok, Err, IfErr, refl}
+use Rattle.std.proofs.Common.{◌≡◌, ◌<◌, ◌≤◌, ℕ, Bool, true, List, length, Some, None, Result, Ok, Err, IfErr, refl}
 use Rattle.xp_words.specs.Machine.{IsMachine, Machine}
 use Rattle.xp_words.specs.declared.entry.Demand.{Demand}
 use Rattle.xp_words.specs.declared.reply.Refusal.TheVariants as refusals
@@ -7,7 +7,6 @@ use Rattle.xp_words.specs.declared.reply.Stop.{Stop}
 use Rattle.xp_words.specs.declared.reply.Stop.TheVariants.{Refused, Paused}
 use Rattle.xp_preempt.specs.Gates.{yeses}
 use Rattle.xp_board.specs.Told.{PortValue, is_telling, told_word}
-use Rattle.step_maker.specs.Moves.{Came}
 use Rattle.step_maker.proofs.Coming.{moves_came}
 use Rattle.answer_fits.specs.Answers.{Stops}
 use Rattle.answer_fits.specs.Asked.{of_frame}
@@ -18,7 +17,7 @@ use Rattle.table_law.specs.Lawful.{IsAtRest}
 use Rattle.table_law.specs.Plain.{plain_of}
 use Rattle.course_laws.specs.Courses.{ClockGoesOn, IsFinal, IsOrderly}
 use Rattle.course_laws.proofs.Awaiting.{AloneStays, NeitherLostNorBusy, NobodyWaitedFor, alone_orderly, alone_telling, decided}
-use Rattle.course_laws.proofs.Stopping.{StopsAs, StopsIn, acquired_stops, ahead_of, behind, ref_came, stops_here}
+use Rattle.course_laws.proofs.Stopping.{StopsAs, acquired_stops, ahead_of, behind, ref_came, stops_here}
 use Rattle.course_laws.proofs.Walking.{gave_came}
 use Rattle.foreign_map.specs.declared.owners.Owners.{Owners}
 use Rattle.writable_pages.specs.Pages as pages
@@ -84,7 +83,7 @@ module _ (stays : AloneStays) (neither : NeitherLostNorBusy) (nobody : NobodyWai
       (behind v u w stop (moves_came v u _ _ _ _ _ saw)
       (ahead_of u y w stop (demand_stops (owner_at x.level o.tables o.frames) x.level u (new_demand x seen) y answers (Err stop) a none) (lock_came y w x.table x.level lock)))
   exchange_ended _ _ _ (course.lost u y z a w seen answers stop saw differ taken puts gave lock) goes none stops = absurd (never_lost y z _ _ seen _ _ (Err stop) w puts stops)
-  exchange_ended _ _ _ (course.done u y z a w seen old answers more saw differ taken puts lock released) goes none stops = tt
+  exchange_ended _ _ _ (course.done u y z a w seen old answers more saw differ taken puts lock gone) goes none stops = tt
 
 -- ---- the law of exchanges on a board that tells all words
 abbrev pub LeavesAsPlain : Type 0

@@ -1,5 +1,5 @@
 -- What the old word asked is released as on the plain value, where the gate says no.
-use Rattle.std.proofs.Common.{◌≡◌, ℕ, ◌<◌, ◌≤◌, ◌++◌, ◌==◌, if◌then◌else◌, Bool, true, false, List, [], ◌∷◌, Result, Ok, Err, IfErr, IsTrue, refl, sym, ap, ◌∙◌, subst, arith}
+use Rattle.std.proofs.Common.{◌≡◌, ℕ, ◌<◌, ◌≤◌, ◌++◌, Bool, true, false, List, [], ◌∷◌, Result, Ok, Err, IfErr, IsTrue, refl, sym, ap, ◌∙◌, subst, arith}
 use Rattle.xp_words.specs.Machine.{IsMachine, Machine}
 use Rattle.xp_words.specs.declared.entry.Demand.{Demand}
 use Rattle.xp_words.specs.declared.entry.Demand.TheVariants.{Typed}
@@ -49,7 +49,7 @@ lowered_calm : (v : PortValue) (ts : List TableWork) (w : PortValue) (us : List 
 lowered_calm _ _ _ _ _ (release.given v w t ts few gave) is = absurd cc
 lowered_calm _ _ _ _ _ (release.opened v w t ts f recorded closing few gave) is = absurd cc
 lowered_calm _ _ _ _ _ (release.stopped v w t ts stop few gave) is =
-    let e : stop ≡ Paused Due = cc in rose_by v w (of_entries 0 0) refl (subst (λ s. IfErr (Err s) (λ k. Stops v w (of_entries 0 0) k)) e (gave.stops 0 0))
+    let e : stop ≡ Paused Due = cc in rose_by v w (of_entries 0 0) refl (subst (λ s. Stops v w (of_entries 0 0) s) e (gave.stops 0 0))
 lowered_calm _ _ _ _ _ (release.emptied v w t ts full dead) is = absurd cc
 
 ran_calm : (v : PortValue) (ts : List TableWork) (w : PortValue) (us : List TableWork) (answers : List Bool) (r : Result (Unit {0}) Stop) → RanDown v ts w us answers r → r ≡ Err (Paused Due) → yeses answers ≡ 0 → ⊥

@@ -1,9 +1,7 @@
 -- What the new word asks is taken, or refused, as by the plain value of the words, which are at rest.
-use Rattle.std.proofs.Common.{◌≡◌, ℕ, zero, ◌-◌, ◌<◌, ◌≤◌, not, nat_lt, nat_le, if◌then◌else◌, ◌==◌, Bool, true, false, List, [], Option, Some, None, Result, Ok, Err, refl, sym, ap, ◌∙◌, subst, arith}
+use Rattle.std.proofs.Common.{◌≡◌, ℕ, ◌<◌, ◌≤◌, not, nat_lt, nat_le, if◌then◌else◌, ◌==◌, Bool, true, false, [], Option, Some, None, Ok, Err, refl, sym, ap, ◌∙◌, subst, arith}
 use Rattle.std.proofs.Math.Path.{fun_ext}
 use Rattle.xp_words.specs.Machine.{IsMachine, Machine}
-use Rattle.xp_words.specs.declared.entry.Demand.{Demand}
-use Rattle.xp_words.specs.declared.entry.Demand.TheVariants as demands
 use Rattle.xp_words.specs.declared.place.Place.TheVariants.{Kind, Refs}
 use Rattle.xp_words.specs.declared.reply.Refusal.{Refusal}
 use Rattle.xp_words.specs.declared.reply.Refusal.TheVariants as refusals
@@ -14,16 +12,13 @@ use Rattle.step_maker.specs.Moves.{Came}
 use Rattle.step_maker.specs.Plain.{Leaves, Words}
 use Rattle.step_maker.proofs.Coming.{came_post, came_trans}
 use Rattle.step_maker.proofs.Telling.{came_telling}
-use Rattle.answer_fits.specs.Twins.{Alike}
 use Rattle.answer_fits.proofs.Alikes.{same_alike}
 use Rattle.answer_fits.proofs.Visiting.{does_came}
 use Rattle.frame_words.specs.Plain.{got, refer}
-use Rattle.frame_types.specs.Plain.{IsTakenBy, taken as types_taken, type_stop}
-use Rattle.frame_types.specs.Standing.{standing_of}
+use Rattle.frame_types.specs.Plain.{type_stop}
 use Rattle.frame_types.specs.declared.taking.Taken.TheVariants as types
-use Rattle.xp_words.specs.KindWords.{kind_fields}
 use Rattle.partial_state.specs.Levels.{level_type}
-use Rattle.table_law.specs.Alone.{Cause, CountFull, NoFrame, PlainOutcome, WrongOwner, alone, fine, go_on, meet, refused, take_at, take_reference, take_reference_of, then_by}
+use Rattle.table_law.specs.Alone.{Cause, CountFull, NoFrame, PlainOutcome, WrongOwner, alone, fine, go_on, refused, take_at, take_reference, take_reference_of}
 use Rattle.table_law.specs.Lawful.{IsAtRest}
 use Rattle.table_law.specs.Plain.{Describes, Plain, Share, plain_of, raised_share, reference_back, with_share}
 use Rattle.table_twins.specs.Answers.{IsSameAnswer}
@@ -34,15 +29,10 @@ use Rattle.table_twins.proofs.Typing.{refused_plain, taken_plain}
 use Rattle.table_courses.specs.Acquiring.{GaveRef, GotRef, TookType}
 use Rattle.course_laws.specs.Courses.{IsFinal, IsOrderly}
 use Rattle.course_laws.proofs.Calling.{IsDone}
-use Rattle.course_laws.proofs.Deciding.{one_call}
 use Rattle.course_laws.proofs.Frames.{count_at, frame_ready}
 use Rattle.course_laws.proofs.Lending.{fine_there, lent_there, was_room}
 use Rattle.course_laws.proofs.Stacking.{Refuses}
 use Rattle.course_laws.proofs.Starting.{described, rest_frames}
-use Rattle.writable_pages.specs.Pages as pages
-use Rattle.writable_pages.specs.Pages.{GotPage, TookPage}
-use Rattle.entry_exchange.specs.Course as course
-use Rattle.entry_exchange.specs.Course.{TookDemand}
 use Rattle.exchange_laws.specs.Plain.{ExchangesAsPlain, IsRefusedBy}
 use Rattle.exchange_laws.proofs.Given.{given_back}
 

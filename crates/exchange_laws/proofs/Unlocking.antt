@@ -1,5 +1,5 @@
 -- The lock of a table goes off on words as on the plain value.
-use Rattle.std.proofs.Common.{◌≡◌, ℕ, ◌+◌, ◌-◌, ◌<◌, ◌≤◌, ◌%◌, ◌^◌, ◌==◌, if◌then◌else◌, Bool, true, false, None, IsTrue, refl, sym, ap, ◌∙◌, subst, arith}
+use Rattle.std.proofs.Common.{◌≡◌, ℕ, ◌+◌, ◌-◌, ◌<◌, ◌≤◌, ◌%◌, ◌^◌, ◌==◌, if◌then◌else◌, Bool, true, false, None, refl, sym, ap, ◌∙◌, subst, arith}
 use Rattle.xp_words.specs.KindWords.{kind_fields, kind_write}
 use Rattle.xp_words.specs.Machine.{Machine}
 use Rattle.xp_words.specs.declared.kind.KindWord.{KindWord}
@@ -13,7 +13,7 @@ use Rattle.board_lemmas.proofs.KindForms.{fields_unlocked}
 use Rattle.step_maker.specs.Moves.{Came, Moves}
 use Rattle.step_maker.specs.Plain.{Words, change}
 use Rattle.step_maker.proofs.Coming.{came_post, came_trans, moves_came}
-use Rattle.step_maker.proofs.Telling.{came_telling, leaves, moves_telling, told_elsewhere, told_there}
+use Rattle.step_maker.proofs.Telling.{came_telling, leaves, told_elsewhere, told_there}
 use Rattle.kind_words.specs.Kinds.{partial_kind}
 use Rattle.kind_words.proofs.KindFacts.{kind_found}
 use Rattle.kind_words.proofs.KindWriting.{fields_write, partial_is}
