@@ -15,7 +15,7 @@ unfolding drop_first
 undo_entry f l a k xs p = refl
 
 -- one type count and reference of several
-counted : (l g : ℕ) (p : Plain) → is_counted_on (p.kinds g) ≡ true → let_go l g p ≡ count_back g (p.kinds g) p
+pub counted : (l g : ℕ) (p : Plain) → is_counted_on (p.kinds g) ≡ true → let_go l g p ≡ count_back g (p.kinds g) p
 unfolding let_go
 counted zero g p more = rw more refl
 counted (suc l) g p more = rw more refl
@@ -27,7 +27,7 @@ undo_counted f l a k g t xs p asks more =
     undo_entry f l a k xs p ∙ ap (λ d. undo (table_left f l a ∷ xs) k (drop_demand (let_go l) p d)) asks ∙ ap (λ q. undo (table_left f l a ∷ xs) k q) (counted l g p more)
 
 -- the last type count of a table: it is the innermost one now
-opened : (l g : ℕ) (p : Plain) → is_counted_on (p.kinds g) ≡ false →
+pub opened : (l g : ℕ) (p : Plain) → is_counted_on (p.kinds g) ≡ false →
     let_go (suc l) g p ≡ closed g (level_type (suc l)) (drop_first (let_go l) (level_type (suc l)) g (held_of (p.kinds g)) (with_kind g (emptying (p.kinds g)) p))
 unfolding let_go
 opened l g p last = rw last refl
