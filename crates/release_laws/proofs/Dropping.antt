@@ -1,9 +1,8 @@
 -- One frame whose type and reference are given back: on words, and on the plain value that describes them.
-use Rattle.std.proofs.Common.{◌≡◌, ◌≢◌, ◌⊎◌, ℕ, zero, suc, ◌+◌, ◌-◌, ◌%◌, ◌<◌, ◌≤◌, ◌^◌, ◌==◌, ◌&&◌, not, nat_lt, if◌then◌else◌, Bool, true, false, IsTrue, refl, sym, ap, ◌∙◌, subst, inl, inr, arith}
+use Rattle.std.proofs.Common.{◌≡◌, ◌⊎◌, ℕ, zero, suc, ◌-◌, ◌<◌, ◌^◌, ◌==◌, ◌&&◌, not, nat_lt, if◌then◌else◌, Bool, true, false, IsTrue, refl, sym, ap, ◌∙◌, subst, inl, inr, arith}
 use Rattle.std.proofs.lemmas.Bool.Decides.{nat_tests}
 use Rattle.xp_words.specs.KindWords.{is_kind, kind_fields}
 use Rattle.xp_words.specs.Machine.{Machine}
-use Rattle.xp_words.specs.PageTypes.{is_table}
 use Rattle.xp_words.specs.declared.kind.KindWord.{KindWord}
 use Rattle.xp_words.specs.declared.place.Place.TheVariants.{Kind, Refs}
 use Rattle.xp_board.specs.KindSteps.{resumed_kind}
@@ -17,7 +16,7 @@ use Rattle.partial_state.specs.Levels.{level_type}
 use Rattle.partial_state.proofs.LevelFacts.{level_type-typed}
 use Rattle.table_law.specs.Levels.{closed}
 use Rattle.table_law.specs.Plain.{Describes, Plain, sober, with_kind}
-use Rattle.table_law.specs.Release.{count_back, drop_first, emptying, held_of, is_counted_on, let_go}
+use Rattle.table_law.specs.Release.{drop_first, emptying, held_of, is_counted_on, let_go}
 use Rattle.table_law.proofs.Undoing.{counted, opened}
 use Rattle.table_twins.proofs.Kinding.{unlive}
 use Rattle.release_laws.proofs.Words.{closed_words, live_there, lowered_words, partial_parts, put_words, resumed_described}

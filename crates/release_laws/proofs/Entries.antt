@@ -1,5 +1,5 @@
 -- An entry that is released, by its steps and the words that they leave; and the plain release of what it asks.
-use Rattle.std.proofs.Common.{◌≡◌, ◌⊎◌, ℕ, zero, suc, ◌+◌, ◌-◌, ◌<◌, ◌≤◌, ◌^◌, ◌==◌, ◌&&◌, not, nat_lt, if◌then◌else◌, Bool, true, false, List, Option, Some, None, Result, Ok, Err, IsTrue, refl, sym, ap, ◌∙◌, subst, inl, inr, arith}
+use Rattle.std.proofs.Common.{◌≡◌, ◌⊎◌, ℕ, zero, suc, ◌<◌, ◌≤◌, ◌==◌, ◌&&◌, not, if◌then◌else◌, Bool, true, false, List, Some, None, Result, Ok, Err, IsTrue, refl, sym, ap, ◌∙◌, subst, inl, inr, arith}
 use Rattle.std.proofs.lemmas.Bool.Decides.{nat_tests}
 use Rattle.xp_words.specs.Entries.{demand_at}
 use Rattle.xp_words.specs.KindWords.{has_form, is_kind, kind_fields, kind_write}
@@ -11,19 +11,16 @@ use Rattle.xp_words.specs.declared.kind.KindWord.{KindWord}
 use Rattle.xp_words.specs.declared.kind.PageType.{PageType}
 use Rattle.xp_words.specs.declared.place.Place.{Place}
 use Rattle.xp_words.specs.declared.place.Place.TheVariants.{Cell, Clock, Kind, Refs}
-use Rattle.xp_words.specs.declared.reply.Pause.TheVariants.{Busy}
 use Rattle.xp_words.specs.declared.reply.Stop.{Stop}
-use Rattle.xp_words.specs.declared.reply.Stop.TheVariants.{Paused}
 use Rattle.xp_board.specs.KindSteps.{Form, Dead, InWork, Live, Partial, form_of, resumed_kind}
 use Rattle.xp_board.specs.Readings.{is_partial}
-use Rattle.xp_board.specs.RefSteps.{one_down}
 use Rattle.xp_board.specs.Told.{PortValue, is_telling, told_word}
-use Rattle.xp_board.specs.declared.step.Act.TheVariants.{Add, Cas, Load}
+use Rattle.xp_board.specs.declared.step.Act.TheVariants.{Cas, Load}
 use Rattle.xp_board.specs.declared.step.Mark.TheVariants.{Shed}
 use Rattle.step_maker.specs.Plain.{Words, Leaves}
 use Rattle.step_maker.specs.Moves.{Moves}
 use Rattle.step_maker.proofs.Telling.{load_tells, moves_telling, told_there}
-use Rattle.answer_fits.specs.Visits.{Visit, visit, Does, Nothing, Only, Then}
+use Rattle.answer_fits.specs.Visits.{Visit, Does, Only, Then}
 use Rattle.answer_fits.proofs.Visiting.{does_as}
 use Rattle.frame_words.specs.Freeing.{PutBy}
 use Rattle.frame_words.specs.Plain.{put}
@@ -32,18 +29,17 @@ use Rattle.kind_words.specs.Kinds.{dead_kind}
 use Rattle.partial_state.specs.Levels.{level_type}
 use Rattle.partial_state.proofs.LevelFacts.{level_type-table}
 use Rattle.table_words.specs.Entries.{ShedsAt, sheds_at}
-use Rattle.table_releases.specs.Found.{ComesBy, DiesShed, FormBy, LiveBy, LowersTable, PartialBy, ReleasedBy, ReleasesBy, ReleasesFound, TypedReleased, has_recorded}
+use Rattle.table_releases.specs.Found.{ComesBy, DiesShed, FormBy, LiveBy, LowersTable, PartialBy, ReleasesBy, ReleasesFound, TypedReleased, has_recorded}
 use Rattle.table_releases.specs.Plain.{FormPlainly, LivePlainly, LowersPlainly, PartialPlainly, ReleasesPlainly, TwinRelease}
 use Rattle.table_entries.specs.Found.{saw_cell}
 use Rattle.table_law.specs.Levels.{entry_of}
 use Rattle.table_law.proofs.Counting.{asks_at}
 use Rattle.table_releases.specs.declared.entries.Released.{Released}
 use Rattle.table_releases.specs.declared.entries.Released.TheVariants.{Given, Opened}
-use Rattle.table_releases.proofs.Twins.{look_words}
 use Rattle.table_law.specs.Plain.{Describes, Plain, with_kind}
 use Rattle.table_law.specs.Release.{drop_demand, emptying, held_of, is_counted_on, let_go}
 use Rattle.release_laws.proofs.Dropping.{again_given, again_held, again_in_work, again_last, live_all, live_closing, live_last, more_given, plain_given}
-use Rattle.release_laws.proofs.Parts.{does_none, does_only, does_parts, does_with}
+use Rattle.release_laws.proofs.Parts.{does_only, does_parts, does_with}
 use Rattle.kind_words.proofs.KindFacts.{kind_found}
 use Rattle.xp_board.specs.declared.step.StepKind.{StepKind}
 use Rattle.release_laws.proofs.Seen.{kind_inside, IsCounted, IsLowered, drops_seen, kinded_counted, looked_counted, looked_lowered, lowers_seen, put_seen, stores_counted}
@@ -157,11 +153,13 @@ module _ (z w : PortValue) (p : Plain) (f i l g : ℕ) (answer : Result Released
         let on = shed_telling z w (Refs g) f i g _ telling a in
         let x = does_with u w _ (shed_goes z w (Refs g) f i g _ telling a) in
         let s = lowers_seen u w g x.0 (λ ls. LowersTable g answer ((kind_fields x.0).number == 1) ls) on x.1 in
-        let same : x.0 ≡ word = sym s.1.1 ∙ shed_words z w (Refs g) f i g _ telling a (Kind g) in
-        (shed_lowered z w (Refs g) f i g _ telling a s.0, λ more.
-        shed_counted z w (Refs g) f i g _ telling a
-        (s.1.3 (λ still. put_seen s.1.0 w g still
-        (does_as s.1.0 w (λ ls. LowersTable g answer false ls) (PutBy g) (λ vs c. c.1) (subst (λ b. Does s.1.0 w (λ ls. LowersTable g answer b ls)) (ap (λ y. (kind_fields y).number == 1) same ∙ more) s.1.2)))))
+        let same : x.0 ≡ word = sym s.1.1 ∙ shed_words z w (Refs g) f i g _ telling a (Kind g) in (
+          shed_lowered z w (Refs g) f i g _ telling a s.0,
+          λ more.
+              shed_counted z w (Refs g) f i g _ telling a
+              (s.1.3 (λ still. put_seen s.1.0 w g still
+              (does_as s.1.0 w (λ ls. LowersTable g answer false ls) (PutBy g) (λ vs c. c.1) (subst (λ b. Does s.1.0 w (λ ls. LowersTable g answer b ls)) (ap (λ y. (kind_fields y).number == 1) same ∙ more) s.1.2)))),
+        )
 
     live_by : (b : Bool) → is_table (level_type l) ≡ b → Does z w (λ vs. Then (ShedsAt (Refs g) f i) (λ ls. LiveBy g (level_type l) answer b ls) vs) → LivePlainly w (told_word z) g (level_type l) answer b → Says
     live_by true table a plain = let s = seen_lowered a in lowers_by ((kind_fields word).number == 1) refl table s.0 s.1 plain

@@ -1,14 +1,13 @@
 -- What the steps leave that give a reference back, and those behind which a frame is dead, on a board that tells all words.
-use Rattle.std.proofs.Common.{◌≡◌, ◌≢◌, ℕ, ◌/◌, ◌%◌, ◌^◌, ◌<◌, ◌==◌, not, if◌then◌else◌, Bool, true, false, List, [], ◌∷◌, Option, Some, None, IsTrue, refl, sym, ap, ◌∙◌, subst, arith}
+use Rattle.std.proofs.Common.{◌≡◌, ℕ, ◌/◌, ◌%◌, ◌^◌, ◌<◌, ◌==◌, not, if◌then◌else◌, true, false, Option, Some, None, IsTrue, refl, sym, ap, ◌∙◌, subst}
 use Rattle.board_lemmas.proofs.Sums.{when_ne}
-use Rattle.xp_words.specs.KindWords.{kind_fields, kind_write}
+use Rattle.xp_words.specs.KindWords.{kind_write}
 use Rattle.xp_words.specs.Machine.{Machine}
 use Rattle.xp_words.specs.PageTypes.{is_none}
-use Rattle.xp_words.specs.RefWords.{ref_read, ref_write}
-use Rattle.xp_words.specs.declared.kind.KindWord.{KindWord}
+use Rattle.xp_words.specs.RefWords.{ref_write}
 use Rattle.xp_words.specs.declared.kind.PageType.{PageType}
 use Rattle.xp_words.specs.declared.place.Place.TheVariants.{Clock, Kind, Map, Pages, Refs}
-use Rattle.xp_words.specs.declared.refs.RefWord.TheVariants.{Free, Owned}
+use Rattle.xp_words.specs.declared.refs.RefWord.TheVariants.{Free}
 use Rattle.xp_board.specs.HintSteps.{map_bit}
 use Rattle.xp_board.specs.Readings.{owner_of, ref_count}
 use Rattle.xp_board.specs.RefSteps.{one_down, owner_number}
@@ -16,7 +15,7 @@ use Rattle.xp_board.specs.Told.{PortValue, is_telling, told_word}
 use Rattle.xp_board.specs.declared.step.Act.TheVariants.{Add, Load, Store}
 use Rattle.step_maker.specs.Plain.{Leaves, Words, change}
 use Rattle.step_maker.proofs.Telling.{leaves, leaves_then, load_tells, moves_telling, told_there}
-use Rattle.answer_fits.specs.Visits.{Visit, visit, Does, Nothing, Only, Then}
+use Rattle.answer_fits.specs.Visits.{visit, Does, Only, Then}
 use Rattle.frame_words.specs.Freeing.{FreesBy, LastOf, PutBy, freeing, lowers_refs}
 use Rattle.frame_words.specs.Plain.{lowered, put, set_free, stamp_now}
 use Rattle.frame_words.proofs.Twinning.{low_rest}

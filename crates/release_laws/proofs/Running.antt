@@ -1,5 +1,5 @@
 -- The course of a release: what is left to be given back stays the same plain value at each port.
-use Rattle.std.proofs.Common.{◌≡◌, ℕ, zero, suc, ◌+◌, ◌-◌, ◌<◌, ◌≤◌, Bool, true, false, List, [], ◌∷◌, Result, Ok, Err, IfOk, refl, sym, ap, ◌∙◌, subst, arith}
+use Rattle.std.proofs.Common.{◌≡◌, ℕ, suc, ◌+◌, ◌-◌, ◌<◌, ◌≤◌, Bool, true, false, List, [], ◌∷◌, Result, Ok, IfOk, refl, sym, ap, ◌∙◌, subst, arith}
 use Rattle.xp_words.specs.Machine.{Machine}
 use Rattle.xp_words.specs.declared.reply.Stop.{Stop}
 use Rattle.xp_words.specs.declared.entry.Demand.{Demand}
@@ -23,7 +23,7 @@ use Rattle.table_releases.specs.declared.entries.Released.TheVariants.{Given, Op
 use Rattle.level_release.specs.Course as course
 use Rattle.level_release.specs.Course.{GaveEntry, Lowered, MadeDead, RanDown, one_more_done, table_under}
 use Rattle.release_laws.proofs.Putting.{dead_words}
-use Rattle.release_laws.proofs.Entries.{Comes, OpensAs, entry_comes}
+use Rattle.release_laws.proofs.Entries.{Comes, entry_comes}
 
 -- ---- the tables that are being released, the innermost first
 -- the recorded entries of each, and then its frame

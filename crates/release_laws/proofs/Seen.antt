@@ -1,16 +1,15 @@
 -- What the steps of a release show of the words that they found: a type count that goes down is above 0, and so is a count of references.
-use Rattle.std.proofs.Common.{◌≡◌, ◌≢◌, ℕ, ◌+◌, ◌<◌, ◌≤◌, ◌^◌, ◌==◌, nat_lt, Bool, true, false, List, Option, None, Some, Ok, Result, IsTrue, refl, sym, ap, ◌∙◌, subst, inl, inr, arith}
+use Rattle.std.proofs.Common.{◌≡◌, ℕ, ◌<◌, ◌^◌, ◌==◌, Bool, true, false, List, Option, None, IsTrue, sym, ap, ◌∙◌, subst, inl, inr, arith}
 use Rattle.std.proofs.lemmas.Bool.Decides.{nat_tests}
-use Rattle.xp_words.specs.KindWords.{is_kind, kind_fields, kind_write}
+use Rattle.xp_words.specs.KindWords.{kind_fields, kind_write}
 use Rattle.xp_words.specs.declared.kind.KindWord.{KindWord}
 use Rattle.xp_words.specs.Machine.{Machine}
 use Rattle.xp_words.specs.Places.{is_place, sizes_of}
 use Rattle.xp_words.specs.declared.kind.PageType.{PageType}
 use Rattle.xp_words.specs.declared.place.Place.{Place}
-use Rattle.xp_words.specs.declared.place.Place.TheVariants.{Cell, Clock, Kind, Refs}
-use Rattle.xp_words.specs.declared.reply.Stop.{Stop}
+use Rattle.xp_words.specs.declared.place.Place.TheVariants.{Clock, Kind, Refs}
 use Rattle.xp_board.specs.Legal.{LegalAs}
-use Rattle.xp_board.specs.KindSteps.{AllowsKindAdd, MayDrop}
+use Rattle.xp_board.specs.KindSteps.{MayDrop}
 use Rattle.xp_board.specs.Hands.{refs_to}
 use Rattle.xp_board.specs.Readings.{ref_count}
 use Rattle.xp_board.specs.RefSteps.{MayLower, one_down}
@@ -25,11 +24,10 @@ use Rattle.board_lemmas.proofs.Counted.{in_hand_counted}
 use Rattle.step_maker.specs.Moves.{Moves}
 use Rattle.step_maker.proofs.Telling.{load_tells, moves_telling, told_elsewhere, told_there}
 use Rattle.answer_fits.specs.Visits.{Visit, visit, Does, Only, Then, Where}
-use Rattle.answer_fits.proofs.Visiting.{does_as}
 use Rattle.frame_words.specs.Freeing.{FreesBy, PutBy, lowers_refs}
 use Rattle.frame_types.specs.Found.{Dies, DropsBy, StoresKind}
 use Rattle.kind_words.specs.Kinds.{dead_kind}
-use Rattle.kind_words.proofs.KindFacts.{IsFoundLive, found_live, kind_found}
+use Rattle.kind_words.proofs.KindFacts.{IsFoundLive, found_live}
 use Rattle.release_laws.proofs.Parts.{does_none, does_only, does_parts, does_with}
 
 -- ---- one step

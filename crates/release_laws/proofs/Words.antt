@@ -1,13 +1,12 @@
 -- Words on which a release changes one frame, and the plain value that describes them.
-use Rattle.std.proofs.Common.{◌≡◌, ℕ, zero, suc, ◌+◌, ◌-◌, ◌%◌, ◌<◌, ◌≤◌, ◌^◌, ◌==◌, ◌&&◌, not, nat_lt, if◌then◌else◌, Bool, true, false, Option, Some, None, IsTrue, refl, sym, ap, ◌∙◌, subst, arith}
-use Rattle.std.proofs.lemmas.Bool.Decides.{nat_tests}
-use Rattle.xp_words.specs.KindWords.{is_kind, kind_fields, kind_write}
+use Rattle.std.proofs.Common.{◌≡◌, ℕ, ◌+◌, ◌-◌, ◌%◌, ◌<◌, ◌^◌, ◌&&◌, not, if◌then◌else◌, Bool, true, false, Option, Some, None, IsTrue, refl, sym, ap, ◌∙◌, subst, arith}
+use Rattle.xp_words.specs.KindWords.{is_kind, kind_fields}
 use Rattle.xp_words.specs.Machine.{Machine}
 use Rattle.xp_words.specs.PageTypes.{is_none}
 use Rattle.xp_words.specs.RefWords.{ref_read}
 use Rattle.xp_words.specs.declared.kind.KindWord.{KindWord}
 use Rattle.xp_words.specs.declared.kind.PageType.{PageType}
-use Rattle.xp_words.specs.declared.place.Place.TheVariants.{Cell, Kind, Refs}
+use Rattle.xp_words.specs.declared.place.Place.TheVariants.{Kind, Refs}
 use Rattle.xp_words.specs.declared.refs.RefWord.{RefWord}
 use Rattle.xp_words.specs.declared.refs.RefWord.TheVariants.{Free, Owned, Dying}
 use Rattle.xp_board.specs.Acts.{left_by}
@@ -15,9 +14,8 @@ use Rattle.xp_board.specs.KindSteps.{resumed_kind}
 use Rattle.xp_board.specs.Readings.{count_in, is_partial, ref_count}
 use Rattle.xp_board.specs.RefSteps.{one_down}
 use Rattle.xp_board.specs.Told.{PortValue, told_word}
-use Rattle.xp_board.specs.declared.step.Act.TheVariants.{Add}
 use Rattle.board_lemmas.proofs.KindForms.{fields_down}
-use Rattle.step_maker.specs.Plain.{Leaves, Words, change}
+use Rattle.step_maker.specs.Plain.{Leaves, Words}
 use Rattle.frame_words.specs.Plain.{put}
 use Rattle.kind_words.specs.Kinds.{dead_kind}
 use Rattle.kind_words.proofs.KindHands.{resumed_fields}
@@ -25,7 +23,7 @@ use Rattle.kind_words.proofs.KindWriting.{dead_is, fields_write}
 use Rattle.frame_types.specs.Plain.{set_kind}
 use Rattle.table_releases.specs.Plain.{lowered_type, resumed_words}
 use Rattle.table_law.specs.Levels.{closed}
-use Rattle.table_law.specs.Plain.{Describes, Plain, Share, reference_back, share_in, share_of, sober, with_kind}
+use Rattle.table_law.specs.Plain.{Describes, Plain, Share, reference_back, share_in, sober, with_kind}
 use Rattle.table_twins.proofs.Kinding.{kinded, unlive}
 use Rattle.table_twins.proofs.Sharing.{same_back}
 use Rattle.course_laws.proofs.Completing.{IsKinded, described_kind}
