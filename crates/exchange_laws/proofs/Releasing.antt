@@ -29,7 +29,8 @@ use Rattle.level_release.specs.Course as release
 use Rattle.level_release.specs.Course.{Emptied, Lowered, RanDown, WasReleased}
 use Rattle.entry_exchange.specs.Course as course
 use Rattle.entry_exchange.specs.Course.{ReleasedDemand}
-use Rattle.exchange_laws.proofs.Given.{FirstStep, first_step, given_back, kind_inside}
+use Rattle.release_laws.proofs.Seen.{drops_seen, kind_inside}
+use Rattle.exchange_laws.proofs.Given.{given_back}
 
 -- the law of releases
 abbrev pub ReleasesAsPlain : Type 0
@@ -69,32 +70,20 @@ release_calm v f t _ _ _ (release.shared u w on drops gave) is none = absurd cc
 release_calm v f t _ _ _ (release.last u x w word level answers answer on same high drops look empties) is none = emptied_calm x _ w answers answer empties is none
 
 -- ---- its frame is one of the machine
-first_inside : (v : PortValue) (f x : ℕ) → FirstStep v (visit (Kind f) (Add one_down) x) → f < v.post.machine.frames
-first_inside v f x a =
-    let place : a.moment.place ≡ Kind f = ap (λ (y : Visit). y.place) a.is in
-    kind_inside v.post.machine f (subst (λ q. IsTrue (is_place (sizes_of v.post.machine) q)) place a.by.moves.may.place)
-
-plain_inside : (v w : PortValue) (f : ℕ) (t : PageType) → GaveType v w f t → f < v.post.machine.frames
-unfolding Does
-plain_inside v w f t gave =
-    let by : DropsBy f t (visits gave.found.0) = gave.found.2 in
-    let steps = by.1 in
-    first_inside v f by.0 (first_step (visit (Kind f) (Add one_down) by.0) steps.after v w gave.found.0 gave.found.1 (steps.list ∙ ap (λ vs. steps.after ++ vs) steps.first))
-
 drops_inside : (v u : PortValue) (f : ℕ) (last : Bool) → DropsType v u f last → f < v.post.machine.frames
 drops_inside v u f last a = kind_inside v.post.machine f a.lowers.step.may.place
 
-released_inside : (v : PortValue) (f : ℕ) (t : PageType) (w : PortValue) (answers : List Bool) (r : Result (Unit {0}) Stop) → WasReleased v f t w answers r → f < v.post.machine.frames
-released_inside v f t _ _ _ (release.plain w off gave) = plain_inside v w f t gave
-released_inside v f t _ _ _ (release.shared u w on drops gave) = drops_inside v u f false drops
-released_inside v f t _ _ _ (release.last u x w word level answers answer on same high drops look empties) = drops_inside v u f true drops
+released_inside : (v : PortValue) (f : ℕ) (t : PageType) (w : PortValue) (answers : List Bool) (r : Result (Unit {0}) Stop) → is_telling v ≡ true → WasReleased v f t w answers r → f < v.post.machine.frames
+released_inside v f t _ _ _ telling (release.plain w off gave) = (drops_seen v w f t telling gave.found).0.inside
+released_inside v f t _ _ _ telling (release.shared u w on drops gave) = drops_inside v u f false drops
+released_inside v f t _ _ _ telling (release.last u x w word level answers answer on same high drops look empties) = drops_inside v u f true drops
 
 -- ---- by what it asked
 module _ (releases : ReleasesAsPlain) (n : Machine) (v : PortValue) (machine : IsMachine n) (same : v.post.machine ≡ n) (telling : is_telling v ≡ true) (l : ℕ) (high : l ≤ 4) (p : Plain) (d : Describes n (told_word v) p) where
   done_by : (w : PortValue) (g : ℕ) (answers : List Bool) → WasReleased v g (level_type l) w answers (Ok tt) → Describes n (told_word w) (let_go l g p)
   done_by w g answers was =
       subst (λ k. Describes k (told_word w) (let_go l g p)) same
-      (releases v w g l answers p (subst IsMachine (sym same) machine) telling (released_inside v g (level_type l) w answers (Ok tt) was) high (subst (λ k. Describes k (told_word v) p) (sym same) d) was)
+      (releases v w g l answers p (subst IsMachine (sym same) machine) telling (released_inside v g (level_type l) w answers (Ok tt) telling was) high (subst (λ k. Describes k (told_word v) p) (sym same) d) was)
 
   typed_by : (w : PortValue) (g : ℕ) (answers : List Bool) (r : Result (Unit {0}) Stop) → WasReleased v g (level_type l) w answers r → IfErr r (λ stop. stop ≡ Paused Due) → yeses answers ≡ 0 → Describes n (told_word w) (let_go l g p)
   typed_by w g answers (Ok done) was due none = done_by w g answers was

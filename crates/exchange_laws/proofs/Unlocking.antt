@@ -32,7 +32,8 @@ use Rattle.entry_locks.proofs.Unlocking.{unlock_words}
 use Rattle.entry_exchange.specs.Course as course
 use Rattle.entry_exchange.specs.Course.{LeftLock}
 use Rattle.exchange_laws.specs.Plain.{unlocked, unlocked_by}
-use Rattle.exchange_laws.proofs.Given.{given_back, kind_inside}
+use Rattle.release_laws.proofs.Seen.{kind_inside}
+use Rattle.exchange_laws.proofs.Given.{given_back}
 
 -- ---- its steps are steps of the port
 unlocks_came : (v u : PortValue) (f : ℕ) (last : Bool) → Unlocks v u f last → Came v u

@@ -1,6 +1,6 @@
 mod Parts
-mod Seen
-mod Words
+pub mod Seen
+pub mod Words
 mod Putting
 mod Dropping
 mod Entries
