@@ -1,0 +1,8 @@
+mod Parts
+mod Seen
+mod Words
+mod Putting
+mod Dropping
+mod Entries
+mod Running
+mod Released
