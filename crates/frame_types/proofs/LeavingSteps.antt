@@ -16,7 +16,7 @@ use Rattle.answer_fits.specs.Visits.{visit, Does, Only, Then, Where}
 use Rattle.answer_fits.proofs.Visiting.{does_as, does_nothing, does_one, does_then}
 use Rattle.frame_words.specs.Freeing.{PutBy, Puts}
 use Rattle.kind_words.specs.Kinds.{dead_kind, partial_kind}
-use Rattle.frame_types.specs.Found.{DeadBy, Dies, DropsBy, DropsPlain, GivenUpBy, SharedBy, StoresKind}
+use Rattle.frame_types.specs.Found.{DeadBy, Dies, DropsBy, DropsPlain, SharedBy, StoresKind}
 use Rattle.frame_types.specs.Plain.{is_refused}
 
 -- a kind word is left

@@ -25,7 +25,7 @@ use Rattle.frame_words.specs.Freeing.{gave}
 use Rattle.frame_words.specs.Refs.{MayPut}
 use Rattle.kind_words.specs.Kinds.{MayLeave, left, partial_kind}
 use Rattle.kind_words.proofs.KindHands.{apart_spares}
-use Rattle.frame_types.specs.Leaving.{GivesBack, GivesUp, IsMemoryWaiting, IsWaiting, ServesType, WaitsFrom, WaitsIn}
+use Rattle.frame_types.specs.Leaving.{GivesBack, IsWaiting, ServesType, WaitsFrom}
 use Rattle.frame_types.specs.Plain.{left_waiting}
 use Rattle.frame_types.specs.Taking.{IsTypeStop, LentBy, WaitsWith}
 use Rattle.frame_types.proofs.Entering.{lent_held}
