@@ -40,6 +40,7 @@ pub fn lock_entry<P: Port>(port: &mut P, frame: u32, owner: u16) -> Result<Locke
     requires lent { LentBy frame owner (P.value port.old).holdings }
     requires apart { work_on frame (P.value port.old).holdings.works ≡ None }
     requires unlocked { lock_on frame (P.value port.old).holdings.locks ≡ None }
+    requires lasting { ending_of frame (P.value port.old).holdings.ending ≡ None }
     requires looked { (P.value port.old).holdings.looking ≡ [] }
     ensures serves { Serves (P.value port.old) (P.value port.new) (of_lock frame owner) (misses (P.value port.old).post.machine result) }
     ensures stops { IfErr result (λ e. Stops (P.value port.old) (P.value port.new) (of_lock frame owner) e) }

@@ -91,6 +91,9 @@ module _ (b v : PortValue) (f d : ℕ) (rests : Rests b) (takes : Holds b v (too
   pub no_lock : lock_on f v.holdings.locks ≡ None
   no_lock = none_on (λ (y : Lock). y.frame) f v.holdings.locks (ap (λ (q : PortValue). q.holdings.locks) takes ∙ rests.empty.locks)
 
+  pub no_ending : ending_of f v.holdings.ending ≡ None
+  no_ending = none_on (λ (y : Ending). y.frame) f v.holdings.ending (ap (λ (q : PortValue). q.holdings.ending) takes ∙ rests.empty.ending)
+
   pub no_type : typed_to f v.holdings.typed ≡ 0
   no_type = none_to (λ (y : TypedReference). y.frame) f v.holdings.typed (ap (λ (q : PortValue). q.holdings.typed) takes ∙ rests.empty.typed)
 

@@ -1,5 +1,5 @@
 use Rattle.mmu_update.proofs.Gating.{ungated}
-use Rattle.mmu_update.proofs.Holding.{no_lock, no_work}
+use Rattle.mmu_update.proofs.Holding.{no_ending, no_lock, no_work}
 use Rattle.mmu_update.proofs.Referring.{lock_undue, may_put, ordinary, under_lock, unlocked}
 use Rattle.mmu_update.proofs.elements.write_referred.Goals as goal
 
@@ -8,6 +8,9 @@ lock_entry-requires-clause-apart g c = let r = c.requires.referred.1 in no_work 
 
 pub lock_entry-requires-clause-unlocked : goal.lock_entry-requires-clause-unlocked
 lock_entry-requires-clause-unlocked g c = let r = c.requires.referred.1 in no_lock c.requires.referred.0 (g.P.Port.value c.args.port.now) c.args.frame c.args.owners.tables r.begins.rests r.hand
+
+pub lock_entry-requires-clause-lasting : goal.lock_entry-requires-clause-lasting
+lock_entry-requires-clause-lasting g c = let r = c.requires.referred.1 in no_ending c.requires.referred.0 (g.P.Port.value c.args.port.now) c.args.frame c.args.owners.tables r.begins.rests r.hand
 
 pub put_ref-requires-clause-gives : goal.put_ref-requires-clause-gives
 put_ref-requires-clause-gives g c = may_put c.requires.referred.0 (g.P.Port.value c.args.port.now) (g.P.Port.value c.lock_entry.new.port) c.args.owners c.args.frame c.requires.referred.1 c.in-Err.ensures.hand
