@@ -1,21 +1,12 @@
-use Rattle.std.proofs.Common.{Result, refl, Ok, Err, sym, ap, ◌∙◌, subst, rules, ◌≡◌, ◌≢◌, ◌<◌, ◌≤◌, ℕ, Some, true, false, IfOk, IfErr, ◌+◌, ◌-◌, ◌*◌, length, ◌/◌, ◌%◌, Bool, nat_eq, nat_lt, List, [], ◌∷◌, ◌++◌, slice_index_or, slice_set, bit_and, bit_or, Fits, w8, w32, w64, Bor, MutBor}
-use Rattle.xp_words.specs.Entries.{is_slot}
+use Rattle.std.proofs.Common.{Result, refl, Ok, Err, sym, ap, ◌∙◌, subst, ◌≡◌, true, false, IfErr, []}
 use Rattle.xp_words.specs.declared.entry.Demand.TheVariants.{Bad}
 use Rattle.partial_state.specs.Levels.{level_type}
-use Rattle.step_maker.specs.Holds.{MayWork, Rests}
-use Rattle.step_maker.specs.Moves.{Came}
 use Rattle.answer_fits.specs.Answers.{Stops}
-use Rattle.entry_locks.specs.Entries.{MaySwapEntry}
-use Rattle.foreign_map.specs.Owning.{MayMap}
 use Rattle.level_release.specs.Asking.{is_due_answer}
 use Rattle.level_validate.specs.Acquiring.{IsAcquireStop}
-use Rattle.table_words.specs.OldWords.{known_old}
-use Rattle.table_words.specs.declared.old_words.OldWord.TheVariants.{First, Second}
 use Rattle.entry_exchange.specs.Asking.{ServesExchange, of_exchange}
-use Rattle.entry_exchange.specs.Course.{ExchangesBy, PutEntry, new_demand, old_demand}
-use Rattle.entry_exchange.specs.Holding.{HoldsTableLock, LeavesExchange, owner_at}
-use Rattle.entry_exchange.specs.Parts.{BehindLook, HoldsSeen, LeavesPut, WasInside}
-use Rattle.entry_exchange.specs.Serving.{ServesPut, StopsPut}
+use Rattle.entry_exchange.specs.Course.{new_demand, old_demand}
+use Rattle.entry_exchange.specs.Serving.{ServesPut}
 use Rattle.entry_exchange.specs.Words.{same_demand}
 use Rattle.std.proofs.lemmas.Result.{err_from_is_err_and}
 use Rattle.xp_words.specs.Entries.{demand_at}
