@@ -1,4 +1,5 @@
 pub mod Course
 pub mod Elements
 pub mod Fits
+pub mod Plain
 pub mod Writing

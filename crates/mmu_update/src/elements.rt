@@ -14,6 +14,7 @@ ghost use Rattle.table_words.specs.declared.old_words.OldWord.TheVariants.{First
 ghost use Rattle.mmu_update.specs.Course.{UpdatesBy};
 ghost use Rattle.mmu_update.specs.Elements.{IsUpdateStop, LeavesUpdate, ServesUpdate, element_of, update_request};
 ghost use Rattle.mmu_update.specs.Fits.{Updates};
+ghost use Rattle.mmu_update.specs.Plain.{TwinUpdate};
 ghost use Rattle.mmu_update.specs.Writing.{IsOrdinary, IsReferred, IsUnderLock, MayBegin, Ordinary, Referred, UnderLock, WritesBy};
 ghost use Rattle.mmu_update.specs.declared.element.Element.TheVariants.{Write};
 
@@ -53,6 +54,9 @@ pub fn update<P: Port>(
     ensures rests { Rests (P.value port.new) }
     // It makes these calls, and its gate gave these answers.
     ensures course { UpdatesBy (P.value port.old) (P.value port.new) owners (element_of pair) (says gate.old) (count_asks gate.old) (count_asks gate.new) (count_yes gate.old) (count_yes gate.new) result }
+    // On a board that tells all words it answers, and leaves them, as its plain meaning says; of a word of a frame that is said of an own
+    // frame which is no live table.
+    ensures plain { TwinUpdate (P.value port.old) (P.value port.new) owners (element_of pair) result }
     ensures says { (n : ℕ) → says gate.new n ≡ says gate.old n }
     ensures paces { paces gate.new ≡ paces gate.old }
     ensures calm { calm gate.old ≡ true → (is_due_answer result ≡ false) × (calm gate.new ≡ true) }

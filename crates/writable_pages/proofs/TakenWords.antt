@@ -5,6 +5,7 @@ use Rattle.xp_words.specs.declared.kind.PageType.TheVariants.{Writable}
 use Rattle.xp_words.specs.declared.reply.Stop.{Stop}
 use Rattle.xp_board.specs.Readings.{domain_of}
 use Rattle.xp_board.specs.Told.{Post, PortValue, is_telling}
+use Rattle.step_maker.specs.Moves.{Came}
 use Rattle.step_maker.proofs.Coming.{came_post}
 use Rattle.step_maker.proofs.Telling.{came_telling}
 use Rattle.answer_fits.specs.Visits.{Visit, Does}
@@ -37,7 +38,7 @@ module _ (f x stamp : ℕ) (own : Bool) (stop : Stop) where
 stamp_low : (v u : PortValue) (f stamp : ℕ) (own : Bool) (stop : Stop) → TakesFound v u f Writable (Ok (Waiting own stamp stop)) → stamp < 2 ^ 36
 unfolding Does
 stamp_low v u f stamp own stop found =
-    let t = found.2.2 in
+    let t = found.2 in
     found_stamp t.word stamp (sym (stood_by f t.word stamp own stop (standing_of (kind_fields t.word) Writable) t.steps.after t.way t.steps.next))
 
 -- ---- by its calls
@@ -50,3 +51,6 @@ page_twin v _ f owner _ mine (waiting u w own stamp stop took left) telling =
     let on = came_telling v u came ∙ telling in
     let home = mine ∙ ap (λ (p : Post). domain_of p.machine p.vcpu) (sym (came_post v u came)) in
     after_wait v u w f stamp own (stamp_low v u f stamp own stop took.found) stop took.waits.0 (took.plain telling) (left.plain home on) (λ gives. left.owned gives on)
+
+pub page_came : (v w : PortValue) (f owner : ℕ) → TookPage v f owner w (Ok tt) → Came v w
+page_came v _ f owner (counted w took) = does_came v w _ took.found

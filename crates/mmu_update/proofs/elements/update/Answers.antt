@@ -1,6 +1,9 @@
-use Rattle.std.proofs.Common.{sym, ◌∙◌}
+use Rattle.std.proofs.Common.{sym, ◌∙◌, subst}
 use Rattle.step_maker.proofs.Coming.{came_self}
 use Rattle.answer_fits.proofs.Piecing.{serves_came}
+use Rattle.mmu_update.specs.Plain.{TwinUpdate}
+use Rattle.mmu_update.specs.declared.element.Element.TheVariants.{Write}
+use Rattle.mmu_update.proofs.Plainly.{updated_plain}
 use Rattle.mmu_update.proofs.Updating.{map_course, map_hand, map_kinds, map_serves, map_undue, misaligned_course, misaligned_serves, misaligned_stops, same_hand, unknown_course, unknown_serves, unknown_stops}
 use Rattle.mmu_update.proofs.elements.update.Goals as goal
 
@@ -54,3 +57,18 @@ returns-in-Unknown-clause-hand g c = same_hand (g.P.Port.value c.args.port.now)
 
 pub returns-in-Unknown-clause-course : goal.returns-in-Unknown-clause-course
 returns-in-Unknown-clause-course g c = unknown_course (g.P.Port.value c.args.port.now) c.args.owners _ (sym c.element_of.ensures ∙ c.in-Unknown.is) _ _ _
+
+pub returns-in-SetM2p-clause-plain : goal.returns-in-SetM2p-clause-plain
+returns-in-SetM2p-clause-plain g c = updated_plain (g.P.Port.value c.args.port.now) (g.P.Port.value c.set_m2p.new.port) c.args.owners _ _ _ (returns-in-SetM2p-clause-course g c).course
+
+pub returns-in-Misaligned-clause-plain : goal.returns-in-Misaligned-clause-plain
+returns-in-Misaligned-clause-plain g c = updated_plain (g.P.Port.value c.args.port.now) (g.P.Port.value c.args.port.now) c.args.owners _ _ _ (returns-in-Misaligned-clause-course g c).course
+
+pub returns-in-Unknown-clause-plain : goal.returns-in-Unknown-clause-plain
+returns-in-Unknown-clause-plain g c = updated_plain (g.P.Port.value c.args.port.now) (g.P.Port.value c.args.port.now) c.args.owners _ _ _ (returns-in-Unknown-clause-course g c).course
+
+pub returns-in-Write-clause-plain : goal.returns-in-Write-clause-plain
+returns-in-Write-clause-plain g c =
+    let v = g.P.Port.value c.args.port.now in
+    let w = g.P.Port.value c.write_word.new.port in
+    subst (λ e. TwinUpdate v w c.args.owners e c.write_word.result) (sym (sym c.element_of.ensures ∙ c.in-Write.is)) (updated_plain v w c.args.owners (Write c.in-Write.frame c.in-Write.index c.in-Write.word c.in-Write.keep) _ _ c.write_word.ensures.writes.course.course)
