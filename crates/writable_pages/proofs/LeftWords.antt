@@ -1,6 +1,5 @@
 -- Ordinary memory that waits for a flush is left: by its steps, and in plain words.
-use Rattle.std.proofs.Common.{◌≡◌, ℕ, Bool, true, false, IsTrue, None, sym, subst}
-use Rattle.xp_words.specs.KindWords.{kind_write}
+use Rattle.std.proofs.Common.{◌≡◌, ℕ, Bool, true, false, sym, subst}
 use Rattle.xp_words.specs.declared.kind.PageType.TheVariants.{Writable}
 use Rattle.xp_words.specs.declared.place.Place.TheVariants.{Refs}
 use Rattle.xp_words.specs.declared.reply.Pause.{Pause}
@@ -43,4 +42,4 @@ module _ (v w : PortValue) (f owner stamp : ℕ) (own : Bool) (stop : Stop) wher
 
   pub kept_left : (x : Pause) → own ≡ true → stop ≡ Paused x → KeptFor v w f (partial_kind Writable true true 0 stamp) owner → LeftPage v w f owner stamp own stop
   kept_left x is paused kept =
-      subst (λ e. LeftPage v w f owner stamp own e) (sym paused) (subst (λ b. LeftPage v w f owner stamp b (Paused x)) (sym is) (record { steps = kept; plain = λ mine. kept_plain mine kept; owned = λ none. absurd none }))
+      subst (λ e. LeftPage v w f owner stamp own e) (sym paused) (subst (λ b. LeftPage v w f owner stamp b (Paused x)) (sym is) (record { steps = kept; plain = λ mine. kept_plain mine kept; owned = λ none. absurd (let is = none in cc) }))

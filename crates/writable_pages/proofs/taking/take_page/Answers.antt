@@ -78,3 +78,9 @@ returns-in-Ok-Waiting-clause-stops g c =
 
 pub returns-in-Err-clause-plain : goal.returns-in-Err-clause-plain
 returns-in-Err-clause-plain g c mine = page_twin (g.P.Port.value c.args.port.now) (g.P.Port.value c.put_ref.new.port) c.args.frame c.args.owner _ mine (returns-in-Err-clause-course g c)
+
+pub returns-in-Ok-Waiting-clause-plain : goal.returns-in-Ok-Waiting-clause-plain
+returns-in-Ok-Waiting-clause-plain g c mine = page_twin (g.P.Port.value c.args.port.now) (g.P.Port.value c.leave_page.new.port) c.args.frame c.args.owner _ mine (returns-in-Ok-Waiting-clause-course g c)
+
+pub returns-in-Ok-Counted-clause-plain : goal.returns-in-Ok-Counted-clause-plain
+returns-in-Ok-Counted-clause-plain g c mine = page_twin (g.P.Port.value c.args.port.now) (g.P.Port.value c.take_type.new.port) c.args.frame c.args.owner _ mine (returns-in-Ok-Counted-clause-course g c)
