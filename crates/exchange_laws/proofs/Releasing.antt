@@ -1,5 +1,5 @@
 -- What the old word asked is released as on the plain value, where the gate says no.
-use Rattle.std.proofs.Common.{◌≡◌, ℕ, ◌<◌, ◌≤◌, ◌++◌, Bool, true, false, List, [], ◌∷◌, Result, Ok, Err, IfErr, IsTrue, refl, sym, ap, ◌∙◌, subst, arith}
+use Rattle.std.proofs.Common.{◌≡◌, ℕ, ◌<◌, ◌≤◌, ◌++◌, Bool, true, false, List, [], ◌∷◌, Result, Ok, Err, IfErr, refl, sym, ap, subst, arith}
 use Rattle.xp_words.specs.Machine.{IsMachine, Machine}
 use Rattle.xp_words.specs.declared.entry.Demand.{Demand}
 use Rattle.xp_words.specs.declared.entry.Demand.TheVariants.{Typed}
@@ -7,22 +7,15 @@ use Rattle.xp_words.specs.declared.kind.PageType.{PageType}
 use Rattle.xp_words.specs.declared.reply.Pause.TheVariants.{Due}
 use Rattle.xp_words.specs.declared.reply.Stop.{Stop}
 use Rattle.xp_words.specs.declared.reply.Stop.TheVariants.{Paused}
-use Rattle.xp_words.specs.Places.{is_place, sizes_of}
-use Rattle.xp_words.specs.declared.place.Place.TheVariants.{Kind}
 use Rattle.xp_preempt.specs.Gates.{yeses}
-use Rattle.xp_board.specs.RefSteps.{one_down}
-use Rattle.xp_board.specs.declared.step.Act.TheVariants.{Add}
 use Rattle.xp_board.specs.Told.{PortValue, is_telling, told_word}
 use Rattle.partial_state.specs.Levels.{level_type}
 use Rattle.partial_state.specs.declared.stack.TableWork.{TableWork}
 use Rattle.answer_fits.specs.Answers.{Stops}
-use Rattle.answer_fits.specs.Visits.{Does, Visit, visit, visits}
-use Rattle.frame_types.specs.Found.{DropsBy}
 use Rattle.frame_types.specs.Lowering.{DropsType}
 use Rattle.table_entries.specs.Asking.{of_entries}
 use Rattle.table_law.specs.Plain.{Describes, Plain}
 use Rattle.table_law.specs.Release.{drop_demand, let_go}
-use Rattle.table_courses.specs.Acquiring.{GaveType}
 use Rattle.course_laws.proofs.Awaiting.{rose_by}
 use Rattle.course_laws.proofs.Stopping.{no_yes}
 use Rattle.level_release.specs.Course as release

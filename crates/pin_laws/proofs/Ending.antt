@@ -1,5 +1,5 @@
 -- How a pin ends behind its acquisition, on a board that tells all words.
-use Rattle.std.proofs.Common.{◌≡◌, ℕ, Bool, true, false, List, [], ◌∷◌, None, Result, Ok, IfErr, refl, sym, ap, ◌∙◌}
+use Rattle.std.proofs.Common.{◌≡◌, ℕ, true, false, None, Result, Ok, IfErr, refl, sym, ap, ◌∙◌}
 use Rattle.xp_words.specs.declared.place.Place.TheVariants.{Kind}
 use Rattle.xp_words.specs.declared.reply.Stop.{Stop}
 use Rattle.xp_board.specs.declared.step.StepKind.TheVariants as kinds
@@ -7,7 +7,6 @@ use Rattle.xp_board.specs.Told.{PortValue, is_telling, told_word}
 use Rattle.step_maker.specs.Moves.{Came}
 use Rattle.step_maker.proofs.Coming.{came_trans, moves_came}
 use Rattle.step_maker.proofs.Telling.{came_telling, load_tells, told_there}
-use Rattle.answer_fits.proofs.Visiting.{does_came}
 use Rattle.mmuext_ops.specs.Course.{PinEnds, SawKind, SetsPin, is_pinned, lost, pinned, raced, seen}
 use Rattle.course_laws.specs.Courses.{IsFinal}
 
