@@ -1,0 +1,4 @@
+pub mod Descending
+pub mod Passing
+pub mod RowSteps
+pub mod Turning

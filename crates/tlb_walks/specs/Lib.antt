@@ -1,0 +1,5 @@
+pub mod Addresses
+pub mod Asking
+pub mod Flying
+pub mod Translating
+pub mod Walks

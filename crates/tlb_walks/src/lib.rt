@@ -1,0 +1,9 @@
+//! Page walks of a guest, with accessed and dirty bits, and its reads and writes through cached translations.
+#![tactic(auto, using(crate::proofs::RowSteps::rows))]
+
+mod addresses;
+mod entries;
+mod levels;
+mod walks;
+
+pub use walks::Walked;
