@@ -1,4 +1,6 @@
 pub mod Descending
 pub mod Passing
+pub mod Paths
 pub mod RowSteps
 pub mod Turning
+pub mod Walking

@@ -45,7 +45,7 @@ fn set_bits<P: Port>(port: &mut P, flight: &Flight, index: u16, word: u64) -> Re
     touch_entry(port, flight.table, index, word, new)
 }
 
-fn unmapped(level: u8, entry: u64) -> Stop
+pub(crate) fn unmapped(level: u8, entry: u64) -> Stop
     ensures { result ≡ Refused (NotMapped level entry) }
 {
     Stop::Refused(Refusal::NotMapped { level, entry })

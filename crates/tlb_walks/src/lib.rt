@@ -6,4 +6,4 @@ mod entries;
 mod levels;
 mod walks;
 
-pub use walks::Walked;
+pub use walks::{Walked, walk};
