@@ -10,13 +10,15 @@ use Rattle.xp_board.specs.declared.holdings.Claimed.{Claimed}
 use Rattle.xp_board.specs.declared.holdings.Lock.{Lock}
 use Rattle.xp_board.specs.declared.holdings.Walk.{Walk}
 use Rattle.xp_board.specs.declared.holdings.Work.{Work}
-use Rattle.xp_board.specs.declared.step.Act.TheVariants.{Load, Cas}
+use Rattle.xp_board.specs.declared.step.Act.{Act}
+use Rattle.xp_board.specs.declared.step.Act.TheVariants.{Load, Cas, Store}
 use Rattle.xp_board.specs.declared.step.Item.{Item}
 use Rattle.xp_board.specs.declared.step.Mark.TheVariants as marks
 use Rattle.xp_board.specs.declared.step.StepKind.TheVariants as kinds
 use Rattle.xp_board.specs.Acts.{left_by}
 use Rattle.xp_board.specs.After.{learned_cell, learned_claim, learned_lock, learned_own, learned_work}
 use Rattle.xp_board.specs.FillSteps.{MayWalkOn, descended, level_of, loaded, started, touched, walked_by, walked_on}
+use Rattle.xp_board.specs.GuestSteps.{MayStore}
 use Rattle.xp_board.specs.Lists.{changed_by}
 use Rattle.xp_board.specs.Spelling.{IsSpelling}
 use Rattle.xp_board.specs.Told.{PortValue}
@@ -25,7 +27,7 @@ use Rattle.board_lemmas.proofs.Numbers.{cell_there, vcpu_there}
 use Rattle.board_lemmas.proofs.Sums.{when_eq, when_ne}
 use Rattle.own_cache.proofs.Projecting.{on_is, set_is}
 use Rattle.own_cache.specs.Translating.{Translating, flown, gone_on, landed, set_bits, translating, walk_begun}
-use Rattle.step_maker.specs.Holds.{still}
+use Rattle.step_maker.specs.Holds.{Same, still}
 use Rattle.step_maker.specs.Moves.{May, Moves, found_by}
 use Rattle.tlb_walks.specs.Flying.{Ready, Turned}
 use Rattle.tlb_walks.specs.Walks.{base_word}
@@ -57,6 +59,11 @@ pub may_touch : (v : PortValue) (f i e x : ℕ) → f < v.post.machine.frames �
 unfolding IsSpelling
 may_touch v f i e x frame index ready small touching =
     record { place = cell_there (sizes_of v.post.machine) f i frame index; marked = tt; running = λ needs. ready.running; spelling = small; act = touching }
+
+pub may_store : (v : PortValue) (f i x : ℕ) → f < v.post.machine.frames → i < 512 → Ready v → x < 2 ^ 64 → MayStore f v.holdings → May v (Cell f i) (Store x) kinds.Guest None
+unfolding IsSpelling
+may_store v f i x frame index ready small cached =
+    record { place = cell_there (sizes_of v.post.machine) f i frame index; marked = tt; running = λ needs. ready.running; spelling = small; act = cached }
 
 -- ---- only the walk and the translations change
 abbrev pub Keeps : Holdings → Holdings → Type 0
@@ -146,6 +153,10 @@ module _ (v : PortValue) (ready : Ready v) where
       subst (λ (t : Translating). Turned v w t) (ap (λ o. set_bits v.post.machine.frames false y (flown o) (translating v.holdings)) may.1.flying)
       (touch_turned w f i e y found false (when_ne found e off) m)
 
+  -- an access of the guest changes nothing in hand
+  pub guest_same : (w : PortValue) (f i x : ℕ) (a : Act) → Moves v w (Cell f i) a kinds.Guest None x → Same v w
+  guest_same w f i x a m = ap still m.to ∙ ap (set_down v) (told_nothing f i (left_by a x) v.holdings refl)
+
   own_left : (user : Bool) (x : ℕ) (k : Holdings) → learned_own (base_word user) x k ≡ k
   own_left true x k = refl
   own_left false x k = refl
@@ -164,4 +175,4 @@ module _ (v : PortValue) (ready : Ready v) where
       is_user true = refl
       is_user false = refl
 
-pub ruleset rows = (cell_there, vcpu_there, may_base, may_entry, may_touch, entry_turned, touch_hand, base_turned)
+pub ruleset rows = (cell_there, vcpu_there, may_base, may_entry, may_touch, entry_turned, touch_hand, base_turned, guest_same, may_store)

@@ -42,7 +42,7 @@ module _ (v w : PortValue) (t : Translating) (turn : Turned v w t) where
         warm = ap (λ (q : PortValue). q.holdings.cold) turn.hand ∙ r.warm;
       }
 
-  turned_landed : t.flight ≡ None → w.holdings.walk ≡ None
+  pub turned_landed : t.flight ≡ None → w.holdings.walk ≡ None
   turned_landed e = ap (λ (q : PortValue). q.holdings.walk) turn.hand ∙ none_flown turn.walk (turn.flight ∙ e)
 
   pub turned_rest : t.flight ≡ None → v.holdings.walk ≡ None → Holds v w (record v.holdings { cache = t.items })
@@ -72,3 +72,10 @@ turned_same v w a none = turned_rest v w (landed (translating v.holdings)) a ref
 
 pub ready_of : (v : PortValue) → Rests v → v.holdings.cold ≡ false → Ready v
 ready_of v r warm = record { running = r.may.running; machine = r.may.machine; empty = r.empty; warm = warm }
+
+-- nothing is in hand, and no walk in flight
+pub rests_of : (v : PortValue) → Ready v → v.holdings.walk ≡ None → Rests v
+rests_of v r none = record { may = record { running = r.running; no_walk = none; machine = r.machine }; empty = r.empty }
+
+pub same_turned : (v w : PortValue) → Same v w → Turned v w (translating v.holdings)
+same_turned v w e = record { walk = v.holdings.walk; hand = e; flight = refl }

@@ -84,6 +84,8 @@ pub fn walk<P: Port>(port: &mut P, user: bool, va: u64, write: bool) -> Result<u
     ensures stops { IfErr result (λ e. Stops (P.value port.old) (P.value port.new) (of_walk va) e) }
     ensures kinds { IfErr result IsWalkStop }
     ensures course { Walks (P.value port.old) (P.value port.new) user va write result }
+    ensures rests { Rests (P.value port.new) }
+    ensures warm { (P.value port.new).holdings.cold ≡ false }
 {
     match walk_to(port, user, va, write) {
         Ok(walked) => Ok(walked.entry),

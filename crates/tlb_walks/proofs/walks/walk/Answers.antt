@@ -1,6 +1,6 @@
 use Rattle.std.proofs.Common.{Ok, Err, refl}
 use Rattle.tlb_walks.specs.Asking.{of_walk}
-use Rattle.tlb_walks.proofs.Turning.{ready_of}
+use Rattle.tlb_walks.proofs.Turning.{ready_of, rests_of, turned_landed, turned_ready}
 use Rattle.tlb_walks.proofs.Walking.{stopped_same, walk_came, walk_does, walk_kind, walk_serves, walk_stops, walked_to}
 use Rattle.tlb_walks.proofs.walks.walk.Goals as goal
 
@@ -34,3 +34,19 @@ returns-in-Err-clause-course g c = (
   walk_does c.args.user c.args.va c.args.write _ _ (Err c.in-Err.stop) c.in-Err.ensures.moves,
   stopped_same _ _ c.args.user c.args.va c.args.write c.in-Err.stop c.requires.rests.may.no_walk c.in-Err.ensures.hand,
 )
+
+pub returns-in-Ok-clause-rests : goal.returns-in-Ok-clause-rests
+returns-in-Ok-clause-rests g c =
+    let turn = c.in-Ok.ensures.hand.1 in
+    rests_of _ (turned_ready _ _ _ turn (ready_of _ c.requires.rests c.requires.warm)) (turned_landed _ _ _ turn refl)
+
+pub returns-in-Ok-clause-warm : goal.returns-in-Ok-clause-warm
+returns-in-Ok-clause-warm g c = (turned_ready _ _ _ c.in-Ok.ensures.hand.1 (ready_of _ c.requires.rests c.requires.warm)).warm
+
+pub returns-in-Err-clause-rests : goal.returns-in-Err-clause-rests
+returns-in-Err-clause-rests g c =
+    let turn = c.in-Err.ensures.hand in
+    rests_of _ (turned_ready _ _ _ turn (ready_of _ c.requires.rests c.requires.warm)) (turned_landed _ _ _ turn refl)
+
+pub returns-in-Err-clause-warm : goal.returns-in-Err-clause-warm
+returns-in-Err-clause-warm g c = (turned_ready _ _ _ c.in-Err.ensures.hand (ready_of _ c.requires.rests c.requires.warm)).warm
