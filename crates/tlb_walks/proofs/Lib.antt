@@ -4,5 +4,6 @@ pub mod Passing
 pub mod Paths
 pub mod Reading
 pub mod RowSteps
+pub mod Storing
 pub mod Turning
 pub mod Walking

@@ -204,3 +204,39 @@ ends_kind n table i level b x new found _ a = absurd a
 pub path_kind : (w : PortValue) (va : ℕ) (write : Bool) (e : Stop) (v : PortValue) (level table : ℕ) (b : Option ℕ) → PathMoves w va write (Err e) v level table b → IsWalkStop e
 path_kind w va write e v level table b (ends _ _ _ _ x found m a) = ends_kind v.post.machine table (index_of va level) level (barrier_with b x) x _ found e a
 path_kind w va write e v level table b (goes _ u _ _ _ x more mapped m rest) = path_kind w va write e u (level - 1) (frame_of x) (barrier_with b x) rest
+
+-- ---- what it found of entries
+module _ (o : PortValue) where
+  -- that entry was found, and its bit 1 is 0
+  abbrev pub Barred : PortValue → ℕ → Type 0
+  Barred w e = (t : ℕ) × (i : ℕ) × FoundAt (Met o w) (Cell t i) e × (is_bit 1 e ≡ false)
+
+  barred_later : (v w : PortValue) (e : ℕ) → Came v w → Barred v e → Barred w e
+  barred_later v w e came (t, i, found, bit) = (t, i, found_before o v w (Cell t i) e came found, bit)
+
+  barred_by : (w : PortValue) (t i x e : ℕ) (c : Bool) → is_bit 1 x ≡ c → FoundAt (Met o w) (Cell t i) x → (if c then None else Some x) ≡ Some e → Barred w e
+  barred_by w t i x e true is found at = absurd cc
+  barred_by w t i x e false is found at = let same : x ≡ e = cc in (t, i, subst (λ y. FoundAt (Met o w) (Cell t i) y) same found, ap (is_bit 1) (sym same) ∙ is)
+
+  barred_with : (w : PortValue) (t i x e : ℕ) (b : Option ℕ) → FoundAt (Met o w) (Cell t i) x → ((y : ℕ) → b ≡ Some y → Barred w y) → barrier_with b x ≡ Some e → Barred w e
+  barred_with w t i x e (Some z) found before at = before e at
+  barred_with w t i x e None found before at = barred_by w t i x e (is_bit 1 x) refl found at
+
+  pub path_barrier : (w : PortValue) (va : ℕ) (write : Bool) (r : Walked) (v : PortValue) (level table : ℕ) (b : Option ℕ) (e : ℕ) → Came o v → ((y : ℕ) → b ≡ Some y → Barred v y) → r.barrier ≡ Some e →
+      PathMoves w va write (Ok r) v level table b → Barred w e
+  path_barrier w va write r v level table b e came before at (ends _ _ _ _ x found m (last, mapped, met, entry, barrier)) =
+      let i = index_of va level in
+      barred_with w table i x e b (entry_found table i x _ o v w found came m) (λ y is. barred_later v w y (entry_came table i x _ v w found m) (before y is)) (sym barrier ∙ at)
+  path_barrier w va write r v level table b e came before at (goes _ u _ _ _ x more mapped m rest) =
+      let i = index_of va level in
+      let next = entry_came table i x _ v u x m in
+      path_barrier w va write r u (level - 1) (frame_of x) (barrier_with b x) e (came_trans o v u came next)
+      (λ y is. barred_with u table i x y b (entry_found table i x _ o v u x came m) (λ z at. barred_later v u z next (before z at)) is) at rest
+
+  -- the last entry was found
+  pub path_last : (w : PortValue) (va : ℕ) (write : Bool) (r : Walked) (v : PortValue) (level table : ℕ) (b : Option ℕ) → Came o v → PathMoves w va write (Ok r) v level table b →
+      (t : ℕ) × (i : ℕ) × FoundAt (Met o w) (Cell t i) r.entry
+  path_last w va write r v level table b came (ends _ _ _ _ x found m (last, mapped, met, entry, barrier)) =
+      (table, index_of va level, subst (λ y. FoundAt (Met o w) (Cell table (index_of va level)) y) (sym entry) (entry_found table (index_of va level) x _ o v w found came m))
+  path_last w va write r v level table b came (goes _ u _ _ _ x more mapped m rest) =
+      path_last w va write r u (level - 1) (frame_of x) (barrier_with b x) (came_trans o v u came (entry_came table (index_of va level) x _ v u x m)) rest

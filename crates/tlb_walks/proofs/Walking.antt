@@ -26,6 +26,7 @@ use Rattle.step_maker.specs.Moves.{Came, Met, Moves}
 use Rattle.step_maker.proofs.Coming.{came_post, came_self, came_trans, moves_came}
 use Rattle.answer_fits.specs.Answers.{Deed, Serves, Stops, misses}
 use Rattle.answer_fits.specs.Asked.{Request, IsAsked, of, context}
+use Rattle.answer_fits.specs.Finding.{FoundAt}
 use Rattle.answer_fits.specs.Visits.{Does, Only}
 use Rattle.answer_fits.proofs.Changing.{moves_found}
 use Rattle.answer_fits.proofs.Piecing.{moves_serves, serves_nothing}
@@ -40,7 +41,7 @@ use Rattle.tlb_walks.specs.Walks as by
 use Rattle.tlb_walks.specs.Walks.{PathBy, WalkBy, base_visit, base_word}
 use Rattle.tlb_walks.specs.declared.walks.Walked.{Walked}
 use Rattle.tlb_walks.proofs.Descending.{no_page}
-use Rattle.tlb_walks.proofs.Paths.{path_came, path_does, path_kind, path_serves, path_stops}
+use Rattle.tlb_walks.proofs.Paths.{Barred, path_barrier, path_came, path_does, path_kind, path_last, path_serves, path_stops}
 use Rattle.tlb_walks.proofs.Turning.{turned_as, turned_is, turned_post, turned_rest, turned_same, turned_self, turned_then}
 
 -- ---- the base
@@ -138,6 +139,16 @@ module _ (user : Bool) (va : ℕ) (write : Bool) where
   walk_kind v w e (barred x why is stay) = let same : e ≡ Refused x = cc in subst IsWalkStop (sym same) (refusal_kind va x why)
   walk_kind v w e (baseless go is m) = let same : e ≡ Refused (NotMapped 5 0) = cc in subst IsWalkStop (sym same) tt
   walk_kind v w e (walks u base go some m path) = path_kind w va write e u 4 (base - 1) None path
+
+  pub walk_barrier : (v w : PortValue) (r : Walked) (e : ℕ) → r.barrier ≡ Some e → WalkMoves v w user va write (Ok r) → Barred v w e
+  walk_barrier v w r e at (barred x why is stay) = absurd cc
+  walk_barrier v w r e at (baseless go is m) = absurd cc
+  walk_barrier v w r e at (walks u base go some m path) = path_barrier v w va write r u 4 (base - 1) None e (moves_came v u _ _ _ _ _ m) (λ y is. absurd cc) at path
+
+  pub walk_last : (v w : PortValue) (r : Walked) → WalkMoves v w user va write (Ok r) → (t : ℕ) × (i : ℕ) × FoundAt (Met v w) (Cell t i) r.entry
+  walk_last v w r (barred x why is stay) = absurd cc
+  walk_last v w r (baseless go is m) = absurd cc
+  walk_last v w r (walks u base go some m path) = path_last v w va write r u 4 (base - 1) None (moves_came v u _ _ _ _ _ m) path
 
   -- the top table is asked by the context word that names it
   module _ (r : Request) (may_walk : r.walks ≡ true) (may_name : r.contexts ≡ true) where
