@@ -1,4 +1,5 @@
 pub mod Descending
+pub mod Flushes
 pub mod Guests
 pub mod Passing
 pub mod Paths

@@ -3,12 +3,7 @@ use Rattle.std.proofs.Common.{◌≡◌, ◌≢◌, ℕ, ◌-◌, ◌<◌, ◌�
 use Rattle.std.proofs.lemmas.Bool.Decides.{nat_tests}
 use Rattle.xp_words.specs.Entries.{is_bit, frame_of}
 use Rattle.xp_words.specs.Machine.{Machine}
-use Rattle.xp_words.specs.Places.{number, sizes_of}
 use Rattle.xp_words.specs.declared.place.Place.TheVariants.{Cell}
-use Rattle.xp_words.specs.declared.reply.Pause.TheVariants.{Lost}
-use Rattle.xp_words.specs.declared.reply.Refusal.TheVariants.{NotMapped}
-use Rattle.xp_words.specs.declared.reply.Stop.{Stop}
-use Rattle.xp_words.specs.declared.reply.Stop.TheVariants.{Refused, Paused}
 use Rattle.xp_board.specs.declared.holdings.Holdings.{Holdings}
 use Rattle.xp_board.specs.declared.holdings.Reached.{Reached}
 use Rattle.xp_board.specs.declared.holdings.Touching.{Touching}
@@ -23,8 +18,7 @@ use Rattle.answer_fits.specs.Licences.{is_unmapped}
 use Rattle.own_cache.specs.declared.flight.Flight.{Flight}
 use Rattle.own_cache.specs.Translating.{Translating, flight_of, flown, gone_on, item_in, landed, seen, set_bits, table_in, touched_in, translating, walk_below, with_entry}
 use Rattle.step_maker.specs.Moves.{Moves, found_by}
-use Rattle.tlb_walks.specs.Flying.{BitsLost, BitsSet, EntryMoves, PassedBy, Ready, Sees, TouchMoves, Turned, alone, both, lost, set, stands}
-use Rattle.tlb_walks.specs.Walks.{EndsAt}
+use Rattle.tlb_walks.specs.Flying.{BitsLost, BitsSet, EntryMoves, Ready, Sees, TouchMoves, Turned, alone, both, lost, set, stands}
 use Rattle.tlb_walks.proofs.Turning.{turned_as, turned_is, turned_post, turned_self, turned_then}
 
 -- ---- a flight is a walk

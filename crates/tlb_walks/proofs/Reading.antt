@@ -1,15 +1,14 @@
 -- A read of the guest: what its steps show.
-use Rattle.std.proofs.Common.{◌≡◌, ◌≢◌, ℕ, ◌%◌, ◌==◌, if◌then◌else◌, Bool, true, false, List, [], ◌∷◌, ◌++◌, Option, Some, None, Result, Ok, Err, IfErr, IsTrue, refl, sym, ap, ◌∙◌, subst, inl, inr}
-use Rattle.xp_words.specs.Entries.{frame_of, is_slot}
+use Rattle.std.proofs.Common.{◌≡◌, ℕ, ◌%◌, ◌==◌, if◌then◌else◌, Bool, true, false, [], Option, Some, None, Result, Ok, Err, IfErr, refl, sym, ap, ◌∙◌, subst, inl, inr}
+use Rattle.xp_words.specs.Entries.{is_slot}
 use Rattle.xp_words.specs.declared.kind.PageType.TheVariants.{L4}
-use Rattle.xp_words.specs.declared.place.Place.TheVariants.{Cell}
 use Rattle.xp_words.specs.declared.reply.Refusal.{Refusal}
 use Rattle.xp_words.specs.declared.reply.Refusal.TheVariants.{NonCanonical, Slot, BadRange}
 use Rattle.xp_words.specs.declared.reply.Stop.{Stop}
 use Rattle.xp_words.specs.declared.reply.Stop.TheVariants.{Refused}
 use Rattle.xp_board.specs.declared.step.Item.{Item}
 use Rattle.xp_board.specs.Told.{PortValue}
-use Rattle.step_maker.specs.Holds.{Holds, Rests, Same}
+use Rattle.step_maker.specs.Holds.{Same}
 use Rattle.step_maker.specs.Moves.{Came}
 use Rattle.step_maker.proofs.Coming.{came_self, came_trans, moves_came}
 use Rattle.answer_fits.specs.Answers.{Serves, Stops, misses}
@@ -21,12 +20,12 @@ use Rattle.tlb_walks.specs.Accesses as acc
 use Rattle.tlb_walks.specs.Accesses.{OneRead, Reads, server}
 use Rattle.tlb_walks.specs.Addresses.{access_refusal, index_of, is_canonical, slot_refusal, walk_refusal, word_of}
 use Rattle.tlb_walks.specs.Asking.{IsReadStop, IsWalkStop, of_read}
-use Rattle.tlb_walks.specs.Flying.{EndedIn, Ready, WalkMoves}
+use Rattle.tlb_walks.specs.Flying.{Ready}
 use Rattle.tlb_walks.specs.Guesting.{ReadMoves, barred, cached, stopped, walked}
 use Rattle.tlb_walks.specs.Translating.{WalkedTo}
 use Rattle.tlb_walks.specs.declared.walks.Walked.{Walked}
 use Rattle.tlb_walks.proofs.Guests.{landed_then, ready_then}
-use Rattle.tlb_walks.proofs.Turning.{rests_of, same_turned, turned_landed, turned_ready}
+use Rattle.tlb_walks.proofs.Turning.{same_turned, turned_landed, turned_ready}
 use Rattle.tlb_walks.proofs.Walking.{stopped_same, walk_came, walk_does, walk_kind, walk_serves, walk_stops, walked_to}
 
 -- ---- the address alone

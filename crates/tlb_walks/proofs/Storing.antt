@@ -1,22 +1,17 @@
 -- A write of the guest: what its steps show.
-use Rattle.std.proofs.Common.{◌≡◌, ◌≢◌, ℕ, ◌==◌, ◌&&◌, not, if◌then◌else◌, Bool, true, false, List, [], ◌∷◌, ◌++◌, Option, Some, None, Result, Ok, Err, IfErr, IsTrue, refl, sym, ap, ◌∙◌, subst, inl, inr}
-use Rattle.xp_words.specs.Entries.{frame_of}
-use Rattle.xp_words.specs.declared.place.Place.TheVariants.{Cell}
-use Rattle.xp_words.specs.declared.reply.Refusal.{Refusal}
+use Rattle.std.proofs.Common.{◌≡◌, ℕ, Bool, true, false, List, [], Some, None, Result, Ok, Err, IfErr, refl, sym, ap, ◌∙◌, subst, inl}
 use Rattle.xp_words.specs.declared.reply.Refusal.TheVariants.{BadRange, ReadOnly}
 use Rattle.xp_words.specs.declared.reply.Stop.{Stop}
 use Rattle.xp_words.specs.declared.reply.Stop.TheVariants.{Refused}
-use Rattle.xp_board.specs.declared.step.Act.TheVariants.{Store}
 use Rattle.xp_board.specs.declared.step.Item.{Item}
-use Rattle.xp_board.specs.declared.step.StepKind.TheVariants as kinds
 use Rattle.xp_board.specs.FillSteps.{cached_with}
 use Rattle.xp_board.specs.Lists.{first_of}
 use Rattle.xp_board.specs.Told.{PortValue, cached_item, is_item}
 use Rattle.board_lemmas.proofs.Sums.{when_eq}
 use Rattle.step_maker.specs.Holds.{Same}
-use Rattle.step_maker.specs.Moves.{Came, Met, Moves}
+use Rattle.step_maker.specs.Moves.{Came, Met}
 use Rattle.step_maker.proofs.Coming.{came_self, came_trans, moves_came}
-use Rattle.answer_fits.specs.Answers.{Serves, Stops, Writes, missed}
+use Rattle.answer_fits.specs.Answers.{Serves, Stops}
 use Rattle.answer_fits.specs.Asked.{IsAsked, Request, named, of, walked as walked_to_it}
 use Rattle.answer_fits.proofs.Changing.{found_before}
 use Rattle.answer_fits.proofs.Piecing.{moves_serves, serves_nothing, serves_step}
@@ -25,13 +20,13 @@ use Rattle.tlb_walks.specs.Accesses as acc
 use Rattle.tlb_walks.specs.Accesses.{OneWrite, ServesWrite, Stores, server}
 use Rattle.tlb_walks.specs.Addresses.{access_refusal, page_of, word_of}
 use Rattle.tlb_walks.specs.Asking.{IsReadStop, IsWalkStop, IsWriteStop, leads_to, of_write}
-use Rattle.tlb_walks.specs.Flying.{EndedIn, Ready, WalkMoves}
+use Rattle.tlb_walks.specs.Flying.{Ready, WalkMoves}
 use Rattle.tlb_walks.specs.Guesting.{StoreMoves, barred, cached, read_only, stopped, walked}
-use Rattle.tlb_walks.specs.Translating.{WalkedTo, item_by}
+use Rattle.tlb_walks.specs.Translating.{item_by}
 use Rattle.tlb_walks.specs.declared.walks.Walked.{Walked}
 use Rattle.tlb_walks.proofs.Guests.{landed_then, new_first, ready_then, server_cached}
 use Rattle.tlb_walks.proofs.Reading.{no_refusal, refused_kind, refused_stops, stayed_does, stayed_same, walked_then}
-use Rattle.tlb_walks.proofs.Turning.{rests_of, same_turned, turned_landed, turned_ready}
+use Rattle.tlb_walks.proofs.Turning.{same_turned, turned_landed, turned_ready}
 use Rattle.tlb_walks.proofs.Walking.{stopped_same, walk_barrier, walk_came, walk_does, walk_kind, walk_last, walk_serves, walk_stops, walked_to}
 
 -- the newest translation of the page is the one in front

@@ -1,14 +1,11 @@
 -- A port with a walk in flight: what it holds after one piece behind another.
-use Rattle.std.proofs.Common.{◌≡◌, ℕ, [], false, Option, Some, None, refl, sym, ap, ◌∙◌, subst}
-use Rattle.xp_board.specs.declared.holdings.Holdings.{Holdings}
+use Rattle.std.proofs.Common.{◌≡◌, false, Option, Some, None, refl, sym, ap, ◌∙◌, subst}
 use Rattle.xp_board.specs.declared.holdings.Walk.{Walk}
-use Rattle.xp_board.specs.declared.step.Item.{Item}
 use Rattle.xp_board.specs.Told.{Post, PortValue}
-use Rattle.xp_board.specs.Hands.{IsEmptyHand}
 use Rattle.xp_words.specs.Machine.{IsMachine}
 use Rattle.own_cache.specs.declared.flight.Flight.{Flight}
 use Rattle.own_cache.specs.Translating.{Translating, flown, landed, translating}
-use Rattle.step_maker.specs.Holds.{Holds, MayWork, Rests, Same, still}
+use Rattle.step_maker.specs.Holds.{Holds, Rests, Same}
 use Rattle.tlb_walks.specs.Flying.{Ready, Turned}
 use Rattle.tlb_walks.proofs.RowSteps.{set_down}
 

@@ -1,16 +1,15 @@
 -- A whole walk: from its base, and what its steps show.
-use Rattle.std.proofs.Common.{◌≡◌, ◌≢◌, ℕ, suc, zero, ◌+◌, ◌-◌, ◌<◌, ◌≤◌, ◌^◌, ◌==◌, not, nat_lt, if◌then◌else◌, is_some, Bool, true, false, List, [], ◌∷◌, ◌++◌, Option, Some, None, Result, Ok, Err, IfErr, IsTrue, refl, sym, ap, ◌∙◌, subst, inl, inr, arith, lit<, lit≤, append-nil}
+use Rattle.std.proofs.Common.{◌≡◌, ◌≢◌, ℕ, suc, zero, ◌+◌, ◌-◌, ◌<◌, ◌≤◌, ◌^◌, ◌==◌, if◌then◌else◌, Bool, true, false, [], ◌++◌, Some, None, Result, Ok, Err, IsTrue, refl, sym, ap, ◌∙◌, subst, inl, arith, lit<, lit≤, append-nil}
 use Rattle.std.proofs.lemmas.Bool.Decides.{nat_tests}
 use Rattle.xp_words.specs.Entries.{frame_of, is_slot}
 use Rattle.xp_words.specs.Machine.{Machine}
-use Rattle.xp_words.specs.Places.{is_place, sizes_of}
+use Rattle.xp_words.specs.Places.{sizes_of}
 use Rattle.xp_words.specs.declared.kind.PageType.TheVariants.{L4}
 use Rattle.xp_words.specs.declared.place.Place.TheVariants.{Vcpu, Cell}
-use Rattle.xp_words.specs.declared.reply.Pause.TheVariants.{Lost}
 use Rattle.xp_words.specs.declared.reply.Refusal.{Refusal}
-use Rattle.xp_words.specs.declared.reply.Refusal.TheVariants.{NotMapped, NonCanonical, Slot, BadRange}
+use Rattle.xp_words.specs.declared.reply.Refusal.TheVariants.{NotMapped, NonCanonical, Slot}
 use Rattle.xp_words.specs.declared.reply.Stop.{Stop}
-use Rattle.xp_words.specs.declared.reply.Stop.TheVariants.{Refused, Paused}
+use Rattle.xp_words.specs.declared.reply.Stop.TheVariants.{Refused}
 use Rattle.xp_board.specs.declared.holdings.Holdings.{Holdings}
 use Rattle.xp_board.specs.declared.step.Act.TheVariants.{Load}
 use Rattle.xp_board.specs.declared.step.Mark.TheVariants as marks
@@ -23,11 +22,11 @@ use Rattle.board_lemmas.proofs.Numbers.{vcpu_there}
 use Rattle.board_lemmas.proofs.Sums.{when_eq}
 use Rattle.step_maker.specs.Holds.{Same}
 use Rattle.step_maker.specs.Moves.{Came, Met, Moves}
-use Rattle.step_maker.proofs.Coming.{came_post, came_self, came_trans, moves_came}
-use Rattle.answer_fits.specs.Answers.{Deed, Serves, Stops, misses}
+use Rattle.step_maker.proofs.Coming.{came_self, came_trans, moves_came}
+use Rattle.answer_fits.specs.Answers.{Serves, Stops, misses}
 use Rattle.answer_fits.specs.Asked.{Request, IsAsked, of, context}
 use Rattle.answer_fits.specs.Finding.{FoundAt}
-use Rattle.answer_fits.specs.Visits.{Does, Only}
+use Rattle.answer_fits.specs.Visits.{Does}
 use Rattle.answer_fits.proofs.Changing.{moves_found}
 use Rattle.answer_fits.proofs.Piecing.{moves_serves, serves_nothing}
 use Rattle.answer_fits.proofs.Visiting.{does_as, does_nothing, does_one, does_then}
@@ -35,7 +34,7 @@ use Rattle.own_cache.specs.declared.flight.Flight.{Flight}
 use Rattle.own_cache.specs.Translating.{Translating, flown, landed, translating, walk_begun}
 use Rattle.tlb_walks.specs.Addresses.{index_of, is_canonical, slot_refusal, walk_refusal}
 use Rattle.tlb_walks.specs.Asking.{IsWalkStop}
-use Rattle.tlb_walks.specs.Flying.{EndedIn, IsAt, PathMoves, Turned, WalkMoves, barred, baseless, page_above, walks}
+use Rattle.tlb_walks.specs.Flying.{EndedIn, IsAt, Turned, WalkMoves, barred, baseless, walks}
 use Rattle.tlb_walks.specs.Translating.{WalkedTo, item_by}
 use Rattle.tlb_walks.specs.Walks as by
 use Rattle.tlb_walks.specs.Walks.{PathBy, WalkBy, base_visit, base_word}

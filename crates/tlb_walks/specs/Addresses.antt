@@ -1,5 +1,5 @@
 -- Guest-virtual addresses: which are canonical, which page and entries they choose, and which accesses the address alone refuses.
-use Rattle.std.specs.Prelude.{ℕ, ◌+◌, ◌*◌, ◌/◌, ◌%◌, ◌^◌, ◌==◌, ◌||◌, not, if◌then◌else◌, Bool, Option, Some, None}
+use Rattle.std.specs.Prelude.{ℕ, ◌+◌, ◌*◌, ◌/◌, ◌%◌, ◌^◌, ◌==◌, ◌||◌, if◌then◌else◌, Bool, Option, Some, None}
 use Rattle.xp_words.specs.Entries.{is_slot}
 use Rattle.xp_words.specs.declared.kind.PageType.TheVariants.{L4}
 use Rattle.xp_words.specs.declared.reply.Refusal.{Refusal}

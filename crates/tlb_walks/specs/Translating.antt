@@ -1,5 +1,5 @@
 -- What walks and accesses leave in hand: translations.
-use Rattle.std.specs.Prelude.{◌≡◌, ℕ, ◌<◌, ◌&&◌, ◌||◌, not, is_some, Bool, true, List, Option, Some, None, Result, Ok, Err, MatchResult, IfOk}
+use Rattle.std.specs.Prelude.{ℕ, ◌<◌, ◌&&◌, ◌||◌, not, is_some, Bool, Option, Result, Ok, Err}
 use Rattle.xp_words.specs.Entries.{is_bit, frame_of}
 use Rattle.xp_words.specs.declared.reply.Stop.{Stop}
 use Rattle.xp_board.specs.declared.step.Item.{Item}

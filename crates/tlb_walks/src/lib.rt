@@ -3,9 +3,11 @@
 
 mod accesses;
 mod addresses;
+mod drops;
 mod entries;
 mod levels;
 mod walks;
 
 pub use accesses::{guest_read, guest_write};
+pub use drops::{ack, flush_local, invlpg};
 pub use walks::{Walked, walk};

@@ -1,9 +1,6 @@
 use Rattle.std.proofs.Common.{false, sym, subst}
-use Rattle.xp_words.specs.declared.place.Place.TheVariants.{Cell}
 use Rattle.xp_board.specs.declared.step.Act.TheVariants.{Load}
-use Rattle.xp_board.specs.declared.step.StepKind.TheVariants as kinds
 use Rattle.xp_board.specs.GuestSteps.{MayRead}
-use Rattle.step_maker.specs.Moves.{Moves}
 use Rattle.tlb_walks.specs.Guesting.{stopped, walked}
 use Rattle.tlb_walks.proofs.Guests.{cell_at, may_read_new}
 use Rattle.tlb_walks.proofs.accesses.read_uncached.Goals as goal

@@ -1,5 +1,4 @@
 use Rattle.std.proofs.Common.{true, sym, subst}
-use Rattle.xp_words.specs.declared.place.Place.TheVariants.{Cell}
 use Rattle.xp_board.specs.declared.step.Act.TheVariants.{Store}
 use Rattle.xp_board.specs.GuestSteps.{MayStore}
 use Rattle.tlb_walks.specs.Guesting.{read_only, stopped, walked}

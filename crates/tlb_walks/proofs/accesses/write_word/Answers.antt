@@ -1,4 +1,4 @@
-use Rattle.std.proofs.Common.{◌≡◌, ◌∙◌, refl, sym}
+use Rattle.std.proofs.Common.{◌∙◌, refl, sym}
 use Rattle.xp_board.specs.declared.step.Act.TheVariants.{Store}
 use Rattle.tlb_walks.specs.Guesting.{barred, cached}
 use Rattle.tlb_walks.proofs.Guests.{cell_at, may_store_cached}

@@ -1,9 +1,7 @@
-use Rattle.std.proofs.Common.{rules, ◌≡◌, ◌<◌, ◌≢◌, ◌-◌, ℕ, Ok, Option, Result, refl, sym, ap, ◌∙◌, subst, arith}
+use Rattle.std.proofs.Common.{rules, ◌<◌, ◌-◌, ℕ, Ok, Option, sym, subst, arith}
 use Rattle.xp_words.specs.Entries.{frame_of}
-use Rattle.xp_words.specs.declared.reply.Stop.{Stop}
 use Rattle.own_cache.specs.declared.flight.Flight.{Flight}
 use Rattle.tlb_walks.specs.Flying.{EndedIn, IsAt, PathMoves}
-use Rattle.tlb_walks.specs.declared.walks.Walked.{Walked}
 use Rattle.tlb_walks.specs.Walks.{barrier_with}
 use Rattle.tlb_walks.proofs.Turning.{turned_ready}
 use Rattle.tlb_walks.proofs.Descending.{last_hand, last_path, mapped_inside, more_path, next_at, next_hand, page_few, stop_path}

@@ -1,11 +1,11 @@
-use Rattle.std.proofs.Common.{◌≡◌, ◌<◌, ◌≤◌, Err, refl, sym, ap, ◌∙◌, subst, true, false}
-use Rattle.xp_words.specs.Entries.{is_bit, frame_of}
+use Rattle.std.proofs.Common.{◌<◌, ◌≤◌, Err, refl, sym, ap, ◌∙◌, subst}
+use Rattle.xp_words.specs.Entries.{frame_of}
 use Rattle.xp_words.specs.Machine.{Machine}
 use Rattle.xp_words.specs.Places.{number, sizes_of}
 use Rattle.xp_words.specs.declared.place.Place.TheVariants.{Cell}
 use Rattle.xp_words.specs.declared.reply.Stop.{Stop}
 use Rattle.tlb_walks.specs.Flying.{PassedBy}
-use Rattle.tlb_walks.proofs.Passing.{entry_absent, entry_met, entry_missed, lost_to, mapped_in, may_load, past_to, sees, set_to, unmapped_absent, unmapped_past}
+use Rattle.tlb_walks.proofs.Passing.{entry_met, entry_missed, lost_to, mapped_in, may_load, past_to, sees, set_to, unmapped_past}
 use Rattle.tlb_walks.proofs.levels.pass.Given.{Over}
 use Rattle.tlb_walks.proofs.levels.pass.Goals as goal
 

@@ -1,4 +1,4 @@
-use Rattle.std.proofs.Common.{ℕ, Ok, refl, sym, ap, ◌∙◌, subst}
+use Rattle.std.proofs.Common.{ℕ, refl, sym, ◌∙◌, subst}
 use Rattle.tlb_walks.specs.Flying.{TouchMoves, stands}
 use Rattle.tlb_walks.proofs.Passing.{set_hand, set_may, set_moves, set_stands}
 use Rattle.tlb_walks.proofs.levels.set_bits.Goals as goal

@@ -1,9 +1,7 @@
-use Rattle.std.proofs.Common.{◌≡◌, ◌-◌, ◌<◌, ◌≤◌, ℕ, None, Err, Result, refl, sym, ap, ◌∙◌, subst, arith}
-use Rattle.xp_words.specs.declared.reply.Refusal.TheVariants.{NotMapped}
-use Rattle.xp_words.specs.declared.reply.Stop.{Stop}
+use Rattle.std.proofs.Common.{None, refl, sym, ◌∙◌, subst, arith}
 use Rattle.own_cache.specs.declared.flight.Flight.{Flight}
-use Rattle.tlb_walks.specs.Flying.{EndedIn, IsAt, PathMoves, WalkMoves, barred, baseless, walks}
-use Rattle.tlb_walks.proofs.Walking.{base_inside, none_begun, stayed, top_at, top_hand}
+use Rattle.tlb_walks.specs.Flying.{IsAt, PathMoves, barred, walks}
+use Rattle.tlb_walks.proofs.Walking.{base_inside, top_at}
 use Rattle.tlb_walks.proofs.walks.walk_to.Goals as goal
 
 pub returns-in-Some-clause-moves : goal.returns-in-Some-clause-moves
