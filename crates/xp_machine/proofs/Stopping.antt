@@ -12,7 +12,7 @@ use Rattle.xp_preempt.proofs.Hearing.{heard_ask, heard_none, heard_then}
 use Rattle.mmu_update.specs.Elements.{element_of}
 use Rattle.mmu_update.specs.declared.element.Element.{Element}
 use Rattle.mmu_update.specs.declared.element.Element.TheVariants as updates
-use Rattle.vcpu_turn.specs.Asking.{ExchangesEntry, HearsNo, HearsNoWithin, NoUntilDue, PausesRelease, Tried, UnpinsFrame, elements_tried}
+use Rattle.vcpu_turn.specs.Asking.{ExchangesEntry, HearsNo, HearsNoWithin, NoUntilDue, PausesRelease, Tried, PausesUnpin, elements_tried}
 use Rattle.vcpu_turn.specs.Cpus.{OpList, OfPairs, OfExt, Processing, list_of}
 use Rattle.vcpu_turn.specs.Turning.{IsTurn, is_due}
 use Rattle.vcpu_turn.specs.declared.cpu.TurnEnd.{TurnEnd}
@@ -53,8 +53,8 @@ module _ (c d : Processing) (end : TurnEnd) (v w : PortValue) (answers : List Bo
   -- of one of `mmuext_op`: without an unpin
   ext_hears : (op : Op) (list : List ExtOp) → slice_get c.script (length c.log) ≡ Some op → list_of op ≡ Some (OfExt list) → All (λ (e : ExtOp). e.command ≢ 4) list → HearsNoWithin (elements_tried turn)
   ext_hears op list next built off =
-      All-weaker (λ (t : Tried). HearsNo t ⊎ UnpinsFrame list t) HearsNo (λ t may. elim may [ inl hears ↦ hears | inr unpin ↦ absurd (at (λ (e : ExtOp). e.command ≢ 4) list off t.number unpin.op unpin.at unpin.unpins) ]) (elements_tried turn)
-      (ext_each (λ (t : Tried). HearsNo t ⊎ UnpinsFrame list t) list c (elements_hear list c.domain) d op end v w answers next built turn)
+      All-weaker (λ (t : Tried). HearsNo t ⊎ PausesUnpin list t) HearsNo (λ t may. elim may [ inl hears ↦ hears | inr unpin ↦ absurd (at (λ (e : ExtOp). e.command ≢ 4) list off t.number unpin.op unpin.at unpin.unpins) ]) (elements_tried turn)
+      (ext_each (λ (t : Tried). HearsNo t ⊎ PausesUnpin list t) list c (elements_hear list c.domain) d op end v w answers next built turn)
 
   listed_hears : (op : Op) → slice_get c.script (length c.log) ≡ Some op → (l : Option OpList) → list_of op ≡ l → ReleasesNothing l → HearsNoWithin (elements_tried turn)
   listed_hears op next None built off = unlisted_each HearsNo c d end v w answers (λ other is. same other is) turn
