@@ -1,6 +1,7 @@
 -- What the gate says within an element: no, until the element is paused for it; but a release may be paused that goes with an element that is done.
 use Rattle.std.proofs.Common.{◌≡◌, ◌⊎◌, ℕ, ◌+◌, ◌-◌, ◌==◌, nat_lt, if◌then◌else◌, Bool, true, false, List, [], ◌∷◌, ◌++◌, slice_get, Option, Some, None, Result, Ok, Err, IfErr, refl, sym, ap, ◌∙◌, inl, inr, arith, subst, append_assoc}
 use Rattle.std.proofs.lemmas.Bool.{eqb-true}
+use Rattle.xp_words.specs.KindWords.{kind_fields}
 use Rattle.xp_words.specs.declared.entry.Demand.{Demand}
 use Rattle.xp_words.specs.declared.kind.PageType.{PageType}
 use Rattle.xp_words.specs.declared.ops.ExtOp.{ExtOp}
@@ -29,7 +30,7 @@ use Rattle.mmuext_ops.specs.Course.{Performed, Pinned, Unpinned}
 use Rattle.mmuext_ops.specs.Elements.{ext_element}
 use Rattle.mmuext_ops.specs.declared.element.Element.{Element}
 use Rattle.mmuext_ops.specs.declared.element.Element.TheVariants as elements
-use Rattle.vcpu_turn.specs.Asking.{ExchangesEntry, HearsNo, NoUntilDue, PausesRelease, UnpinsFrame, tried}
+use Rattle.vcpu_turn.specs.Asking.{ExchangesEntry, HearsNo, NoUntilDue, PausesRelease, PausesUnpin, tried}
 use Rattle.vcpu_turn.specs.Lists.{is_due_by}
 use Rattle.vcpu_turn.specs.Working as working
 use Rattle.vcpu_turn.specs.Working.{ExtFits, FitsExt, FitsPair, PairFits, Performs, Settles, SettlesFirst}
@@ -191,12 +192,15 @@ pinned_noes v w d f level _ _ (course.Pinned.refused a b c x answers stop got sa
 pinned_noes v w d f level _ _ (course.Pinned.acquired a b c e x answers answer got saw gave off acquired ends) =
     noes_all answers _ (noes_no answers (acquired_noes c e f d level answers (Ok f) acquired))
 
-unpinned_noes : (v w : PortValue) (d f : ℕ) (answers : List Bool) (answer : Result (Unit {0}) Stop) → Unpinned v w d f answers answer → NoUntilDue answers (is_due_answer answer) ⊎ (answer ≡ Ok tt)
-unpinned_noes v w d f _ _ (course.Unpinned.unreferred stop got) = inl (noes_none _)
-unpinned_noes v w d f _ _ (course.Unpinned.unpinned_before a b x got saw off gave) = inl (noes_none _)
-unpinned_noes v w d f _ _ (course.Unpinned.raced a b c x found got saw is takes other off gave) = inl (noes_none _)
-unpinned_noes v w d f _ _ (course.Unpinned.lost a b c x found got saw is takes other still gave) = inl (noes_none _)
-unpinned_noes v w d f _ _ (course.Unpinned.released a b c e x answers answer got saw is takes gave was due) = inr refl
+unpinned_hears : (v w : PortValue) (d f : ℕ) (answers : List Bool) (answer : Result (Unit {0}) Stop) → Unpinned v w d f answers answer → NoUntilDue answers (is_due_answer answer) ⊎ ((answer ≡ Ok tt) × Pausing w answers)
+unpinned_hears v w d f _ _ (course.Unpinned.unreferred stop got) = inl (noes_none _)
+unpinned_hears v w d f _ _ (course.Unpinned.unpinned_before a b x got saw off gave) = inl (noes_none _)
+unpinned_hears v w d f _ _ (course.Unpinned.raced a b c x found got saw is takes other off gave) = inl (noes_none _)
+unpinned_hears v w d f _ _ (course.Unpinned.lost a b c x found got saw is takes other still gave) = inl (noes_none _)
+unpinned_hears v w d f _ _ (course.Unpinned.released a b c e x answers answer got saw is takes gave was due) = elim (was_released e w f (kind_fields x).kind answers answer was due) [
+  | inl none ↦ inl (noes_all answers false none)
+  | inr pausing ↦ inr (refl, pausing)
+]
 
 -- which command it is
 is_unpin : (op : ExtOp) (f : ℕ) → ext_element op ≡ elements.Unpin f → op.command ≡ 4
@@ -208,21 +212,42 @@ is_unpin op f is = by_test (nat_lt op.command 4) (op.command == 4) refl is
     by_test false false same e = absurd (cc)
 
 module _ (list : List ExtOp) (d k : ℕ) (v z : PortValue) (early : List Bool) (settles : Settles v z early (Ok tt)) (op : ExtOp) (at : slice_get list k ≡ Some op) where
+  paused_unpin : (f : ℕ) → ext_element op ≡ elements.Unpin f → (w : PortValue) (answers : List Bool) (answer : Result (Unit {0}) Stop) → answer ≡ Ok tt → Pausing w answers → PausesUnpin list (tried k v w (answers ++ early) answer)
+  paused_unpin f is w answers answer done pausing =
+      let none = settled_no v z early (Ok tt) refl settles.course in
+      let one = pausing.early in
+      let all = yeses_then early answers in
+      record {
+        op = op;
+        at = at;
+        unpins = is_unpin op f is;
+        done = done;
+        unpinned = pausing.unlocked;
+        frame = pausing.frame;
+        kind = pausing.kind;
+        first = early;
+        more = answers;
+        released = pausing.released;
+        asked = refl;
+        early = omega (arith, none, one, all);
+        last = ends_behind early answers pausing.last;
+      }
+
   performed_hears : (e : Element) → ext_element op ≡ e → (w : PortValue) (answers : List Bool) (answer : Result (Unit {0}) Stop) → Performed z w d e answers answer →
-      HearsNo (tried k v w (answers ++ early) answer) ⊎ UnpinsFrame list (tried k v w (answers ++ early) answer)
+      HearsNo (tried k v w (answers ++ early) answer) ⊎ PausesUnpin list (tried k v w (answers ++ early) answer)
   performed_hears (elements.Pin f level) is w answers answer p = inl (settled_then v z early answers answer settles (pinned_noes z w d f level answers answer p))
-  performed_hears (elements.Unpin f) is w answers answer p = elim (unpinned_noes z w d f answers answer p) [
+  performed_hears (elements.Unpin f) is w answers answer p = elim (unpinned_hears z w d f answers answer p) [
     | inl noes ↦ inl (settled_then v z early answers answer settles noes)
-    | inr done ↦ inr (record { op = op; at = at; unpins = is_unpin op f is; done = done })
+    | inr pause ↦ inr (paused_unpin f is w answers answer pause.0 pause.1)
   ]
   performed_hears elements.Unknown is w answers answer p = inl (settled_then v z early answers answer settles (noes_same answers [] _ p.1 (noes_none _)))
 
 ext_hears : (list : List ExtOp) (d k : ℕ) (x : Option ExtOp) → slice_get list k ≡ x → (v w : PortValue) (asked : List Bool) (answer : Result (Unit {0}) Stop) → FitsExt d x v w asked answer →
-    HearsNo (tried k v w asked answer) ⊎ UnpinsFrame list (tried k v w asked answer)
+    HearsNo (tried k v w asked answer) ⊎ PausesUnpin list (tried k v w asked answer)
 ext_hears list d k None at v w asked answer fit = absurd fit
 ext_hears list d k (Some op) at v _ _ _ (working.SettlesFirst.unsettled w answers stop s) = inl (settles_hears v w answers (Err stop) s)
 ext_hears list d k (Some op) at v _ _ _ (working.SettlesFirst.performed z w early answers answer s p) = performed_hears list d k v z early s op at (ext_element op) refl w answers answer p.course
 
 pub elements_hear : (list : List ExtOp) (d k : ℕ) (v w : PortValue) (asked : List Bool) (answer : Result (Unit {0}) Stop) → ExtFits d list k v w asked answer →
-    HearsNo (tried k v w asked answer) ⊎ UnpinsFrame list (tried k v w asked answer)
+    HearsNo (tried k v w asked answer) ⊎ PausesUnpin list (tried k v w asked answer)
 elements_hear list d k v w asked answer fit = ext_hears list d k (slice_get list k) refl v w asked answer fit

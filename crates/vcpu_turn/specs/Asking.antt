@@ -176,9 +176,18 @@ pub record PausesRelease (pairs : List Pair) (t : Tried) : Type 0 where
   pub last : ends_yes t.asked ≡ true
 
 -- ---- of a list of `mmuext_op`
--- an unpin is done, and its release may be paused
-pub record UnpinsFrame (list : List ExtOp) (t : Tried) : Type 0 where
+-- The element is an unpin that is done, and the gate paused the release of its frame: within the element it said yes at last, and no before.
+pub record PausesUnpin (list : List ExtOp) (t : Tried) : Type 0 where
   pub op : ExtOp
   pub at : slice_get list t.number ≡ Some op
   pub unpins : op.command ≡ 4
   pub done : t.answer ≡ Ok tt
+  pub unpinned : PortValue
+  pub frame : ℕ
+  pub kind : PageType
+  pub first : List Bool
+  pub more : List Bool
+  pub released : WasReleased unpinned frame kind t.behind more (Err (Paused Due))
+  pub asked : t.asked ≡ more ++ first
+  pub early : yeses t.asked ≡ 1
+  pub last : ends_yes t.asked ≡ true

@@ -7,7 +7,7 @@ ghost use Rattle.xp_words.specs.declared.reply.Stop.{Stop};
 ghost use Rattle.xp_board.specs.Told.{PortValue};
 ghost use Rattle.xp_preempt.specs.Gates.{Gives, ends_yes, last_ask};
 ghost use Rattle.foreign_map.specs.declared.owners.Owners.{Owners};
-ghost use Rattle.vcpu_turn.specs.Asking.{AsksNothingWithin, HearsNo, HearsNoWithin, MovesATable, MovesNoTable, PausesRelease, Tried, UnpinsFrame, asks_within, elements_tried, tried_in};
+ghost use Rattle.vcpu_turn.specs.Asking.{AsksNothingWithin, HearsNo, HearsNoWithin, MovesATable, MovesNoTable, PausesRelease, Tried, PausesUnpin, asks_within, elements_tried, tried_in};
 ghost use Rattle.vcpu_turn.specs.Cpus.{OfExt, OfPairs, Processing, list_of};
 ghost use Rattle.vcpu_turn.specs.Lists.{AsksNothing, WorksOn, asks_between, is_due_by};
 ghost use Rattle.vcpu_turn.specs.Turning.{CountsAsks, GoesNoFurther, IsTurn, is_due};
@@ -54,7 +54,7 @@ pub fn a_turn_counts_its_asks()
 /// the old word of an exchanged entry asked, or of an unpinned frame.
 pub fn a_yes_within_an_element_pauses()
     ensures pairs { (c d : Processing) (op : Op) (foreign : ℕ) (pairs : List Pair) (end : TurnEnd) (v w : PortValue) (answers : List Bool) → slice_get c.script (length c.log) ≡ Some op → list_of op ≡ Some (OfPairs foreign pairs) → (turn : IsTurn c d end v w answers) → All (λ (t : Tried). HearsNo t ⊎ PausesRelease pairs t) (elements_tried turn) }
-    ensures ext { (c d : Processing) (op : Op) (list : List ExtOp) (end : TurnEnd) (v w : PortValue) (answers : List Bool) → slice_get c.script (length c.log) ≡ Some op → list_of op ≡ Some (OfExt list) → (turn : IsTurn c d end v w answers) → All (λ (t : Tried). HearsNo t ⊎ UnpinsFrame list t) (elements_tried turn) }
+    ensures ext { (c d : Processing) (op : Op) (list : List ExtOp) (end : TurnEnd) (v w : PortValue) (answers : List Bool) → slice_get c.script (length c.log) ≡ Some op → list_of op ≡ Some (OfExt list) → (turn : IsTurn c d end v w answers) → All (λ (t : Tried). HearsNo t ⊎ PausesUnpin list t) (elements_tried turn) }
 {}
 
 /// Where no element is done past a yes, no ask of the turn follows one at which the gate says yes, and the turn is paused for that one.

@@ -1,7 +1,7 @@
 -- Turns in which no element is done past a yes: the gate says no until the turn is paused for it. Operations that release nothing make such turns.
 use Rattle.std.proofs.Common.{◌≡◌, ◌≢◌, ◌⊎◌, ℕ, ◌+◌, ◌%◌, All, Bool, true, false, List, [], ◌∷◌, length, Option, Some, None, refl, sym, ◌∙◌, subst, inl, inr, arith}
 use Rattle.std.specs.Prelude.{slice_get}
-use Rattle.std.proofs.lemmas.List.Elements.{All-get_or, All-weaker}
+use Rattle.std.proofs.lemmas.List.Elements.{All-get_or}
 use Rattle.std.proofs.lemmas.Option.{get_or_from_slice_get, slice_get_within}
 use Rattle.xp_words.specs.declared.ops.ExtOp.{ExtOp}
 use Rattle.xp_words.specs.declared.ops.Op.{Op}
@@ -12,7 +12,7 @@ use Rattle.xp_preempt.proofs.Hearing.{heard_ask, heard_none, heard_then}
 use Rattle.mmu_update.specs.Elements.{element_of}
 use Rattle.mmu_update.specs.declared.element.Element.{Element}
 use Rattle.mmu_update.specs.declared.element.Element.TheVariants as updates
-use Rattle.vcpu_turn.specs.Asking.{ExchangesEntry, HearsNo, HearsNoWithin, NoUntilDue, PausesRelease, Tried, UnpinsFrame, elements_tried}
+use Rattle.vcpu_turn.specs.Asking.{ExchangesEntry, HearsNo, HearsNoWithin, NoUntilDue, PausesRelease, Tried, PausesUnpin, elements_tried}
 use Rattle.vcpu_turn.specs.Cpus.{OpList, OfPairs, OfExt, Processing, list_of}
 use Rattle.vcpu_turn.specs.Turning.{IsTurn, is_due}
 use Rattle.vcpu_turn.specs.declared.cpu.TurnEnd.{TurnEnd}
@@ -50,11 +50,17 @@ module _ (c d : Processing) (end : TurnEnd) (v w : PortValue) (answers : List Bo
         | inr pause ↦ absurd (off k t less pause)
       ]
 
-  -- of one of `mmuext_op`: without an unpin
+  -- of one of `mmuext_op`: that pauses no release of an unpin
+  pub unpins_hear : (op : Op) (list : List ExtOp) → slice_get c.script (length c.log) ≡ Some op → list_of op ≡ Some (OfExt list) → All (λ (t : Tried). PausesUnpin list t → ⊥) (elements_tried turn) → HearsNoWithin (elements_tried turn)
+  unpins_hear op list next built off k t less =
+      elim (ext_each (λ (x : Tried). HearsNo x ⊎ PausesUnpin list x) list c (elements_hear list c.domain) d op end v w answers next built turn k t less) [
+        | inl hears ↦ hears
+        | inr pause ↦ absurd (off k t less pause)
+      ]
+
+  -- and so without an unpin
   ext_hears : (op : Op) (list : List ExtOp) → slice_get c.script (length c.log) ≡ Some op → list_of op ≡ Some (OfExt list) → All (λ (e : ExtOp). e.command ≢ 4) list → HearsNoWithin (elements_tried turn)
-  ext_hears op list next built off =
-      All-weaker (λ (t : Tried). HearsNo t ⊎ UnpinsFrame list t) HearsNo (λ t may. elim may [ inl hears ↦ hears | inr unpin ↦ absurd (at (λ (e : ExtOp). e.command ≢ 4) list off t.number unpin.op unpin.at unpin.unpins) ]) (elements_tried turn)
-      (ext_each (λ (t : Tried). HearsNo t ⊎ UnpinsFrame list t) list c (elements_hear list c.domain) d op end v w answers next built turn)
+  ext_hears op list next built off = unpins_hear op list next built (λ k t less pause. at (λ (e : ExtOp). e.command ≢ 4) list off _ pause.op pause.at pause.unpins)
 
   listed_hears : (op : Op) → slice_get c.script (length c.log) ≡ Some op → (l : Option OpList) → list_of op ≡ l → ReleasesNothing l → HearsNoWithin (elements_tried turn)
   listed_hears op next None built off = unlisted_each HearsNo c d end v w answers (λ other is. same other is) turn
